@@ -1,0 +1,72 @@
+-- The one pass over the lines.
+use Rattle.std.proofs.Common.{◌≡◌, ℕ, ◌+◌, ◌≤◌, ◌<◌, Bool, true, false, not, List, [], ◌∷◌, ◌++◌, length, map, Option, Some, None, refl, sym, ap, ◌∙◌, arith, append_assoc}
+use Rattle.std.proofs.lemmas.List.{append-nil, nil_from_length}
+use Rattle.std.specs.Prelude.{option_to_list}
+use Rattle.std.specs.List.{list_any}
+use Rattle.mv_deck.specs.declared.fault.DeckFault.{DeckFault}
+use Rattle.mv_deck.specs.declared.reading.Reading.{Reading}
+use Rattle.mv_deck.specs.Line.{lines_of}
+use Rattle.mv_deck.specs.Statement.{Statement, statement_of, statements_of}
+use Rattle.mv_deck.specs.Deck.{jobs_of, deck_of}
+use Rattle.mv_deck.specs.Fault.{kinds_of, faults_from, fault_at, first_fault, first_of_list, TellsFirst, when}
+use Rattle.mv_deck.specs.declared.reading.LineRefusal.{LineRefusal}
+use Rattle.mv_deck.specs.declared.reading.LineRefusal.TheVariants.{Kind, NoMemory}
+use Rattle.mv_deck.specs.Reading.{IsBehind, Tells, jobs_read, refusal_at}
+
+-- the reader stands before the rest of a text: what is left decides as the whole does
+pub record IsAt (bytes rest : List ℕ) (number : ℕ) (r : Reading) : Type 0 where
+  pub earlier : List Statement
+  pub behind : IsBehind earlier r
+  pub first : first_of_list (faults_from number earlier (lines_of rest)) ≡ first_fault bytes
+  pub jobs : jobs_of (earlier ++ statements_of (lines_of rest)) ≡ deck_of bytes
+  pub count : number + length rest ≤ length bytes + 1
+
+pub at_first : (bytes : List ℕ) (r : Reading) → IsBehind [] r → IsAt bytes bytes 1 r
+at_first bytes r b = record { earlier = []; behind = b; first = refl; jobs = refl; count = omega arith }
+
+pub earlier_more : (earlier : List Statement) (o : Option Statement) (later : List Statement) → earlier ++ Rattle.std.specs.List.cons_option o later ≡ (earlier ++ option_to_list o) ++ later
+earlier_more earlier None later = ap (λ (x : List Statement). x ++ later) (sym (append-nil earlier))
+earlier_more earlier (Some s) later = sym (append_assoc earlier (s ∷ []) later)
+
+pub one_line : (number : ℕ) (earlier : List Statement) (line : List ℕ) (lines : List (List ℕ)) → kinds_of earlier line ≡ [] → faults_from number earlier (line ∷ lines) ≡ faults_from (number + 1) (earlier ++ option_to_list (statement_of line)) lines
+unfolding faults_from
+one_line number earlier line lines none = rw none refl
+
+pub at_next : (bytes rest behind line : List ℕ) (number : ℕ) (r next : Reading) (at : IsAt bytes rest number r) → lines_of rest ≡ line ∷ lines_of behind → length behind < length rest → kinds_of at.earlier line ≡ [] → IsBehind (at.earlier ++ option_to_list (statement_of line)) next → IsAt bytes behind (number + 1) next
+at_next bytes rest behind line number r next at lines shorter none b = record {
+  earlier = at.earlier ++ option_to_list (statement_of line);
+  behind = b;
+  first = ap first_of_list (sym (one_line number at.earlier line (lines_of behind) none)) ∙ ap (λ (x : List (List ℕ)). first_of_list (faults_from number at.earlier x)) (sym lines) ∙ at.first;
+  jobs = ap jobs_of (sym (earlier_more at.earlier (statement_of line) (statements_of (lines_of behind)))) ∙ ap (λ (x : List (List ℕ)). jobs_of (at.earlier ++ statements_of x)) (sym lines) ∙ at.jobs;
+  count = omega (arith, at.count);
+}
+
+pub first_of_map : (number k : ℕ) (kinds : List ℕ) (more : List DeckFault) → first_of_list kinds ≡ Some k → first_of_list (map (fault_at number) kinds ++ more) ≡ Some (fault_at number k)
+first_of_map number k [] more e = absurd cc
+first_of_map number k (j ∷ kinds) more e = cc
+
+-- the first kind of a line is the first fault
+pub first_at : (bytes rest behind line : List ℕ) (number k : ℕ) (r : Reading) (at : IsAt bytes rest number r) → lines_of rest ≡ line ∷ lines_of behind → first_of_list (kinds_of at.earlier line) ≡ Some k → first_fault bytes ≡ Some (fault_at number k)
+unfolding faults_from
+first_at bytes rest behind line number k r at lines e =
+    sym at.first ∙ ap (λ (x : List (List ℕ)). first_of_list (faults_from number at.earlier x)) lines ∙ first_of_map number k (kinds_of at.earlier line) (faults_from (number + 1) (at.earlier ++ option_to_list (statement_of line)) (lines_of behind)) e
+
+pub tells_at : (bytes rest behind line : List ℕ) (number : ℕ) (r : Reading) (at : IsAt bytes rest number r) → lines_of rest ≡ line ∷ lines_of behind → (e : LineRefusal) → Tells e (kinds_of at.earlier line) → TellsFirst (refusal_at number e) (first_fault bytes)
+tells_at bytes rest behind line number r at lines (Kind k) told = first_at bytes rest behind line number k r at lines told
+tells_at bytes rest behind line number r at lines NoMemory told = tt
+
+-- behind the last line
+fault_at_end : (bytes rest : List ℕ) (number : ℕ) (r : Reading) (at : IsAt bytes rest number r) → rest ≡ [] → first_fault bytes ≡ first_of_list (map (fault_at number) (when (not r.ended) 12))
+unfolding faults_from
+fault_at_end bytes rest number r at none =
+    sym at.first ∙ ap (λ (x : List ℕ). first_of_list (faults_from number at.earlier (lines_of x))) none ∙ ap (λ (b : Bool). first_of_list (map (fault_at number) (when (not b) 12))) (sym at.behind.ended)
+
+pub no_null_at_end : (bytes rest : List ℕ) (number : ℕ) (r : Reading) (at : IsAt bytes rest number r) → length rest ≡ 0 → r.ended ≡ false → first_fault bytes ≡ Some (fault_at number 12)
+no_null_at_end bytes rest number r at none e = fault_at_end bytes rest number r at (nil_from_length rest none) ∙ rw e refl
+
+pub no_fault_at_end : (bytes rest : List ℕ) (number : ℕ) (r : Reading) (at : IsAt bytes rest number r) → length rest ≡ 0 → r.ended ≡ true → first_fault bytes ≡ None
+no_fault_at_end bytes rest number r at none e = fault_at_end bytes rest number r at (nil_from_length rest none) ∙ rw e refl
+
+pub deck_at_end : (bytes rest : List ℕ) (number : ℕ) (r : Reading) (at : IsAt bytes rest number r) → length rest ≡ 0 → jobs_read r ≡ deck_of bytes
+deck_at_end bytes rest number r at none =
+    at.behind.jobs ∙ ap jobs_of (sym (append-nil at.earlier)) ∙ ap (λ (x : List ℕ). jobs_of (at.earlier ++ statements_of (lines_of x))) (sym (nil_from_length rest none)) ∙ at.jobs

@@ -1,0 +1,20 @@
+//! The deck: the text that names the jobs of a run, read into values.
+//! A text is cut into lines, each line is a statement by its words, and each rule that a line can break has a number.
+//! `read_deck` goes over the bytes once and answers the jobs that the text states, or the first fault.
+#![tactic(auto)]
+
+mod deck;
+mod fault;
+mod form;
+mod laws;
+mod line;
+mod plain;
+mod reading;
+#[cfg(test)]
+mod tests;
+
+pub use deck::{Deck, Job, Name, Step, Text};
+pub use fault::{DeckFault, DeckRefusal};
+pub use laws::first_fault_is_lowest;
+pub use plain::plain_first_fault;
+pub use reading::read_deck;

@@ -1,0 +1,45 @@
+-- What each operation does to an event control block.
+use Rattle.std.specs.Prelude.{ℕ, ◌^◌, ◌<◌, ◌≤◌, ◌==◌, if◌then◌else◌}
+use Rattle.mv_ecb.specs.declared.operation.EcbOp.{EcbOp}
+use Rattle.mv_ecb.specs.declared.operation.EcbOp.TheVariants.{Arm, Extend, Settle, Clear, Post, Test}
+use Rattle.mv_ecb.specs.declared.operation.EcbReply.{EcbReply}
+use Rattle.mv_ecb.specs.declared.operation.EcbReply.TheVariants.{Armed, Linked, Open, Posted, Woke, Already, Word}
+use Rattle.mv_ecb.specs.declared.operation.EcbReply.TheVariants as reply
+use Rattle.mv_ecb.specs.Word.{EcbState, Zero, Waiting, Extended, Complete, word_of}
+
+-- a code has 30 bits, and so has the number of an exit, which is not 0
+abbrev pub IsEcbOp : EcbOp → Type 0
+IsEcbOp (Extend x) = (1 ≤ x) × (x < 2 ^ 30)
+IsEcbOp (Post d) = d < 2 ^ 30
+IsEcbOp _ = Unit {0}
+
+-- the table, a line a cell: the operation and the state give the new state and the reply
+abbrev pub ecb_step : EcbOp → EcbState → EcbState × EcbReply
+ecb_step Arm Zero = (Waiting, Armed)
+ecb_step Arm Waiting = (Waiting, reply.Waiting)
+ecb_step Arm (Extended y) = (Extended y, Linked y)
+ecb_step Arm (Complete c) = (Complete c, reply.Complete c)
+ecb_step (Extend x) Zero = (Extended x, Armed)
+ecb_step (Extend x) Waiting = (Waiting, reply.Waiting)
+ecb_step (Extend x) (Extended y) = (Extended y, Linked y)
+ecb_step (Extend x) (Complete c) = (Complete c, reply.Complete c)
+ecb_step Settle Zero = (Zero, Open)
+ecb_step Settle Waiting = (Zero, Open)
+ecb_step Settle (Extended y) = (Extended y, Linked y)
+ecb_step Settle (Complete c) = (Complete c, reply.Complete c)
+ecb_step Clear s = (Zero, Word (word_of s))
+ecb_step (Post d) Zero = (Complete d, Posted)
+ecb_step (Post d) Waiting = (Complete d, Woke 0)
+ecb_step (Post d) (Extended y) = (Complete d, Woke y)
+ecb_step (Post d) (Complete c) = (Complete c, Already c)
+ecb_step Test s = (s, Word (word_of s))
+
+-- what a block that keeps its word answers to Arm, Extend and Settle
+abbrev pub standing_reply : EcbReply → EcbState → EcbReply
+standing_reply neither (Extended y) = Linked y
+standing_reply neither (Complete c) = reply.Complete c
+standing_reply neither _ = neither
+
+-- Arm and Extend in one: exit 0 is none
+abbrev pub wait_step : ℕ → EcbState → EcbState × EcbReply
+wait_step x s = if x == 0 then ecb_step Arm s else ecb_step (Extend x) s

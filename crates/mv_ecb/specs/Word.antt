@@ -1,0 +1,35 @@
+-- The fullword of an event control block, and what it stands for.
+use Rattle.std.specs.Prelude.{ℕ, ◌+◌, ◌-◌, ◌^◌, ◌<◌, ◌≤◌, ◌≡◌, ◌⊎◌, nat_lt, ◌==◌, if◌then◌else◌}
+
+-- nothing has happened; a task waits; a task waits and an exit is to run; the event is complete with a code
+pub data EcbState : Type 0 where
+  Zero : EcbState
+  Waiting : EcbState
+  Extended : (exit : ℕ) → EcbState
+  Complete : (code : ℕ) → EcbState
+
+-- bit 0 of the fullword, its highest, and bit 1 below it
+abbrev pub wait_bit : ℕ
+wait_bit = 2 ^ 31
+
+abbrev pub completion_bit : ℕ
+completion_bit = 2 ^ 30
+
+-- the fullword of a state
+abbrev pub word_of : EcbState → ℕ
+word_of Zero = 0
+word_of Waiting = wait_bit
+word_of (Extended y) = wait_bit + y
+word_of (Complete c) = completion_bit + c
+
+-- the word is zero, or one of the two bits stands in it and not both
+abbrev pub IsEcbWord : ℕ → Type 0
+IsEcbWord w = (w ≡ 0) ⊎ ((completion_bit ≤ w) × (w < wait_bit + completion_bit))
+
+-- what such a word stands for
+abbrev pub state_of : ℕ → EcbState
+state_of w =
+    if w == 0 then Zero
+    else if nat_lt w wait_bit then Complete (w - completion_bit)
+    else if w == wait_bit then Waiting
+    else Extended (w - wait_bit)

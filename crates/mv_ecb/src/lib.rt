@@ -1,0 +1,15 @@
+//! Event control blocks, as one thread sees them: the fullword, the operations and what each does to it.
+//! An operation is a function from a word to a word and a reply, and that function is a table of cells.
+//! Who may make which operation, and in which order, is the business of the crates above.
+#![tactic(auto)]
+
+mod laws;
+mod operation;
+mod word;
+
+pub use laws::complete_keeps_its_code;
+pub use operation::{EcbOp, EcbReply};
+pub use word::{EcbWord, ecb_apply};
+
+#[cfg(test)]
+mod tests;

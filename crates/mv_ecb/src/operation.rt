@@ -1,0 +1,39 @@
+/// What is done with an event control block.
+#[derive(Clone, Copy, Debug, PartialEq, Eq)]
+pub enum EcbOp {
+    /// A wait on this block begins: the wait bit is set where nothing was posted.
+    Arm,
+    /// The same, with the number of the exit that a later post is to run: from 1 to 2^30 - 1.
+    Extend(u32),
+    /// A wait on this block ends: the wait bit that Arm set is taken back where nothing was posted.
+    Settle,
+    /// The word is zeroed for its next use.
+    Clear,
+    /// The event is complete, with this code: below 2^30. A block that is complete keeps its first code.
+    Post(u32),
+    /// The word is read.
+    Test,
+}
+
+/// What an operation answers.
+#[derive(Clone, Copy, Debug, PartialEq, Eq)]
+pub enum EcbReply {
+    /// The wait bit was set by this operation.
+    Armed,
+    /// The block waits with this exit.
+    Linked(u32),
+    /// The block is complete with this code.
+    Complete(u32),
+    /// The block waits already, with no exit.
+    Waiting,
+    /// Nothing was posted, and no exit stands.
+    Open,
+    /// The post met a block on which nobody waited.
+    Posted,
+    /// The post ended a wait: with this exit, or 0 for none.
+    Woke(u32),
+    /// The block was complete before the post, with this code.
+    Already(u32),
+    /// The word as it was before.
+    Word(u32),
+}

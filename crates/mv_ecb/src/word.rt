@@ -1,0 +1,127 @@
+ghost use Rattle.std.specs.Prelude.{◌≡◌, ◌<◌, ◌^◌, ◌↔◌, IsSome, IfSome};
+ghost use Rattle.mv_ecb.specs.Word.{IsEcbWord, Zero, word_of, state_of};
+ghost use Rattle.mv_ecb.specs.Table.{IsEcbOp, ecb_step, wait_step, standing_reply};
+
+use crate::operation::{EcbOp, EcbReply};
+use std::marker::Model;
+
+/// The fullword of an event control block: the wait bit, the completion bit, and 30 bits of value.
+/// Bit 0 of the book, the wait bit, is the highest one here.
+#[derive(Clone, Copy, Debug, PartialEq, Eq)]
+pub struct EcbWord {
+    bits: u32,
+}
+
+impl Model for EcbWord {
+    ghost use Rattle.mv_ecb.specs.Word.{EcbState, IsEcbWord, word_of, state_of};
+
+    ghost Value = { EcbState };
+
+    ghost view = { λ w. state_of w.bits };
+
+    ghost inverse = { λ s. record { bits = word_of s } };
+
+    ghost invariant = { λ w. IsEcbWord w.bits };
+}
+
+const WAIT_BIT: u32 = 0x8000_0000;
+
+const COMPLETION_BIT: u32 = 0x4000_0000;
+
+const VALUE_BITS: u32 = 0x3fff_ffff;
+
+impl EcbWord {
+    /// The word before the block is first waited on or posted.
+    pub fn zero() -> EcbWord
+        ensures { result ≡ Zero }
+    {
+        EcbWord { bits: 0 }
+    }
+
+    /// The block whose fullword this is. A fullword that has both bits, or a value with neither, is no block's.
+    pub fn of(word: u32) -> Option<EcbWord>
+        ensures valid { IsSome result ↔ IsEcbWord word }
+        ensures state { IfSome result (λ w. w ≡ state_of word) }
+        ensures word { IfSome result (λ w. word_of w ≡ word) }
+    {
+        match word >> 30 {
+            0 if word != 0 => None,
+            3 => None,
+            _ => Some(EcbWord { bits: word }),
+        }
+    }
+
+    /// The fullword.
+    pub fn word(self) -> u32
+        ensures { result ≡ word_of self }
+    {
+        self.bits
+    }
+}
+
+/// One operation on an event control block: the new word and the reply.
+pub fn ecb_apply(op: EcbOp, word: EcbWord) -> (EcbWord, EcbReply)
+    requires { IsEcbOp op }
+    ensures { result ≡ ecb_step op word }
+{
+    match op {
+        EcbOp::Arm => begin_wait(word, 0),
+        EcbOp::Extend(exit) => begin_wait(word, exit),
+        EcbOp::Settle => end_wait(word),
+        EcbOp::Clear => (EcbWord::zero(), EcbReply::Word(word.bits)),
+        EcbOp::Post(code) => post(word, code),
+        EcbOp::Test => (word, EcbReply::Word(word.bits)),
+    }
+}
+
+// Arm where the exit is 0, and else Extend.
+fn begin_wait(word: EcbWord, exit: u32) -> (EcbWord, EcbReply)
+    requires { exit < 2 ^ 30 }
+    ensures { result ≡ wait_step exit word }
+{
+    if word.bits == 0 {
+        let waiting = EcbWord {
+            bits: WAIT_BIT | exit,
+        };
+        return (waiting, EcbReply::Armed);
+    }
+    (word, standing(word, EcbReply::Waiting))
+}
+
+fn end_wait(word: EcbWord) -> (EcbWord, EcbReply)
+    ensures { result ≡ ecb_step EcbOp.Settle word }
+{
+    if word.bits == 0 || word.bits == WAIT_BIT {
+        return (EcbWord::zero(), EcbReply::Open);
+    }
+    (word, standing(word, EcbReply::Open))
+}
+
+fn post(word: EcbWord, code: u32) -> (EcbWord, EcbReply)
+    requires { code < 2 ^ 30 }
+    ensures { result ≡ ecb_step (EcbOp.Post code) word }
+{
+    let value = word.bits & VALUE_BITS;
+    if word.bits >> 30 == 1 {
+        return (word, EcbReply::Already(value));
+    }
+    let complete = EcbWord {
+        bits: COMPLETION_BIT | code,
+    };
+    if word.bits == 0 {
+        return (complete, EcbReply::Posted);
+    }
+    (complete, EcbReply::Woke(value))
+}
+
+// What a block answers that stays as it is: its code, its exit, or what a block with neither does.
+fn standing(word: EcbWord, neither: EcbReply) -> EcbReply
+    ensures { result ≡ standing_reply neither word }
+{
+    let value = word.bits & VALUE_BITS;
+    match word.bits >> 30 {
+        1 => EcbReply::Complete(value),
+        2 if value != 0 => EcbReply::Linked(value),
+        _ => neither,
+    }
+}

@@ -1,0 +1,16 @@
+-- The release code that an element keeps.
+use Rattle.std.specs.Prelude.{ℕ, ◌==◌, ◌||◌, Bool, true, false, IsTrue}
+use Rattle.mv_element.specs.declared.element.Phase.{Phase}
+use Rattle.mv_element.specs.declared.element.Phase.TheVariants.{Free, Reset, Prereleased, Paused, Released}
+
+-- whether a release was accepted and its pause has not had the code
+abbrev pub keeps_code : Phase → Bool
+keeps_code Free = false
+keeps_code Reset = false
+keeps_code Prereleased = true
+keeps_code Paused = false
+keeps_code Released = true
+
+-- a code may stand in this phase: it is 0 unless the phase keeps one
+abbrev pub IsKeptCode : Phase → ℕ → Type 0
+IsKeptCode phase code = IsTrue (keeps_code phase || code == 0)

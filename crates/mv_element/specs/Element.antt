@@ -1,0 +1,19 @@
+-- The states of a pause element, one for each phase.
+use Rattle.std.specs.Prelude.{ℕ, refl}
+use Rattle.mv_element.specs.declared.element.ElementState.{ElementState}
+use Rattle.mv_element.specs.declared.element.Phase.TheVariants.{Free, Reset, Prereleased, Paused, Released}
+
+abbrev pub free : ℕ → ElementState
+free g = record { generation = g; phase = Free; code = 0; kept = refl }
+
+abbrev pub reset : ℕ → ElementState
+reset g = record { generation = g; phase = Reset; code = 0; kept = refl }
+
+abbrev pub prereleased : ℕ → ℕ → ElementState
+prereleased g d = record { generation = g; phase = Prereleased; code = d; kept = refl }
+
+abbrev pub paused : ℕ → ElementState
+paused g = record { generation = g; phase = Paused; code = 0; kept = refl }
+
+abbrev pub released : ℕ → ℕ → ElementState
+released g d = record { generation = g; phase = Released; code = d; kept = refl }

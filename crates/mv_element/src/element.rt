@@ -1,0 +1,89 @@
+ghost use Rattle.std.specs.Prelude.{◌≡◌};
+ghost use Rattle.mv_element.specs.Code.{IsKeptCode};
+
+/// What names one pause: an element, and which of its pauses is meant.
+#[derive(Clone, Copy, Debug, PartialEq, Eq)]
+pub struct Token {
+    pub element: u32,
+    pub generation: u32,
+}
+
+/// Where an element stands.
+#[derive(Clone, Copy, Debug, PartialEq, Eq)]
+pub enum Phase {
+    /// Not allocated.
+    Free,
+    /// Allocated, and neither paused nor released.
+    Reset,
+    /// Released before its pause: the code is kept for it.
+    Prereleased,
+    /// A task pauses.
+    Paused,
+    /// The pause was released, and its task has not gone on yet.
+    Released,
+}
+
+/// An element's state. Its code is 0 unless the phase is Prereleased or Released: no other state can be made.
+#[derive(Clone, Copy, Debug, PartialEq, Eq)]
+pub struct ElementState {
+    /// How many of the element's pauses are over, given or closed.
+    pub generation: u32,
+    pub phase: Phase,
+    /// The release code that is kept for the pause: three bytes.
+    pub code: u32,
+    pub ghost kept: { IsKeptCode phase code },
+}
+
+impl ElementState {
+    ghost use Rattle.mv_element.specs.Element.{free, reset, prereleased, paused, released};
+
+    pub fn free(generation: u32) -> ElementState
+        ensures { result ≡ free generation }
+    {
+        ElementState {
+            generation,
+            phase: Phase::Free,
+            code: 0,
+        }
+    }
+
+    pub fn reset(generation: u32) -> ElementState
+        ensures { result ≡ reset generation }
+    {
+        ElementState {
+            generation,
+            phase: Phase::Reset,
+            code: 0,
+        }
+    }
+
+    pub fn prereleased(generation: u32, code: u32) -> ElementState
+        ensures { result ≡ prereleased generation code }
+    {
+        ElementState {
+            generation,
+            phase: Phase::Prereleased,
+            code,
+        }
+    }
+
+    pub fn paused(generation: u32) -> ElementState
+        ensures { result ≡ paused generation }
+    {
+        ElementState {
+            generation,
+            phase: Phase::Paused,
+            code: 0,
+        }
+    }
+
+    pub fn released(generation: u32, code: u32) -> ElementState
+        ensures { result ≡ released generation code }
+    {
+        ElementState {
+            generation,
+            phase: Phase::Released,
+            code,
+        }
+    }
+}

@@ -1,0 +1,106 @@
+ghost use Rattle.std.specs.Prelude.{◌≡◌, ◌<◌, ◌^◌};
+ghost use Rattle.mv_element.specs.Table.{IsElementOp, element_step, is_current as is_current_at, open_step, pause_step, resume_step, release_step, close_step, given_step};
+
+use crate::element::{ElementState, Phase};
+use crate::operation::{ElementOp, ElementReply};
+
+/// One operation on a pause element: the new state and the reply.
+pub fn element_apply(op: ElementOp, state: ElementState) -> (ElementState, ElementReply)
+    requires generation { state.generation < 2 ^ 18 }
+    requires code { IsElementOp op }
+    ensures { result ≡ element_step op state }
+{
+    match op {
+        ElementOp::Open => open(state),
+        ElementOp::Pause(generation) if is_current(state, generation) => pause(state),
+        ElementOp::Resume(generation) if is_current(state, generation) => resume(state),
+        ElementOp::Release(generation, code) if is_current(state, generation) => {
+            release(state, code)
+        }
+        ElementOp::Close(generation) if is_current(state, generation) => close(state),
+        ElementOp::Test => (state, ElementReply::State(state)),
+        _ => (state, ElementReply::Spent(state.generation)),
+    }
+}
+
+// Whether the pause of this generation may still come, or is on.
+fn is_current(state: ElementState, generation: u32) -> bool
+    ensures { result ≡ is_current_at state.phase state.generation generation }
+{
+    state.phase != Phase::Free && state.generation == generation
+}
+
+fn open(state: ElementState) -> (ElementState, ElementReply)
+    ensures { result ≡ open_step state.phase state }
+{
+    let generation = state.generation;
+    match state.phase {
+        Phase::Free => (
+            ElementState::reset(generation),
+            ElementReply::Opened(generation),
+        ),
+        _ => (state, ElementReply::InUse),
+    }
+}
+
+fn pause(state: ElementState) -> (ElementState, ElementReply)
+    requires { state.generation < 2 ^ 18 }
+    ensures { result ≡ pause_step state.phase state }
+{
+    match state.phase {
+        Phase::Reset => (ElementState::paused(state.generation), ElementReply::Parked),
+        Phase::Prereleased => give(state),
+        _ => (state, ElementReply::Busy),
+    }
+}
+
+fn resume(state: ElementState) -> (ElementState, ElementReply)
+    requires { state.generation < 2 ^ 18 }
+    ensures { result ≡ resume_step state.phase state }
+{
+    match state.phase {
+        Phase::Paused => (state, ElementReply::NotYet),
+        Phase::Released => give(state),
+        _ => (state, ElementReply::Busy),
+    }
+}
+
+fn release(state: ElementState, code: u32) -> (ElementState, ElementReply)
+    ensures { result ≡ release_step state.phase code state }
+{
+    let generation = state.generation;
+    match state.phase {
+        Phase::Reset => (
+            ElementState::prereleased(generation, code),
+            ElementReply::Early,
+        ),
+        Phase::Paused => (ElementState::released(generation, code), ElementReply::Woke),
+        _ => (state, ElementReply::Already),
+    }
+}
+
+fn close(state: ElementState) -> (ElementState, ElementReply)
+    requires { state.generation < 2 ^ 18 }
+    ensures { result ≡ close_step state.phase state }
+{
+    match state.phase {
+        Phase::Reset | Phase::Prereleased => (
+            ElementState::free(state.generation + 1),
+            ElementReply::Closed,
+        ),
+        _ => (state, ElementReply::Busy),
+    }
+}
+
+// The kept code is handed over, and the next generation begins.
+fn give(state: ElementState) -> (ElementState, ElementReply)
+    requires { state.generation < 2 ^ 18 }
+    ensures { result ≡ given_step state }
+{
+    let code = state.code;
+    let next = state.generation + 1;
+    (
+        ElementState::reset(next),
+        ElementReply::Given { code, next },
+    )
+}

@@ -1,0 +1,24 @@
+//! Byte streams that may fail: sources and sinks that count their faults, so that a contract can say
+//! that a failure was the stream's own. `read_limited` takes a whole input of bounded length, and
+//! `write_all` hands over a whole text. Streams in memory serve tests, and the standard ones wrap
+//! readers and writers of std.
+#![tactic(auto)]
+
+mod failed;
+mod memory;
+mod reading;
+mod sink;
+mod source;
+mod standard;
+mod writing;
+
+pub use failed::{Failed, NoMemory};
+pub use memory::{MemSink, MemSource};
+pub use reading::{ReadRefusal, read_limited};
+pub use sink::Sink;
+pub use source::Source;
+pub use standard::{StdSink, StdSource};
+pub use writing::{Partial, write_all};
+
+#[cfg(test)]
+mod tests;

@@ -1,0 +1,168 @@
+// Streams in memory, which fail at the calls that they are told.
+ghost use Rattle.std.specs.Prelude.{◌≡◌, ◌↔◌, ◌≤◌, length, min, Some, IfOk, IsErr, Contains};
+ghost use Rattle.mv_io.specs.Fault.{HasCause, HasWriteCause};
+ghost use Rattle.mv_io.specs.Source.{Reads};
+ghost use Rattle.mv_io.specs.Sink.{Writes};
+ghost use Rattle.mv_io.specs.MemSource.{fresh_source, given, after_read};
+ghost use Rattle.mv_io.specs.MemSink.{fresh_sink, room_left, Refuses, after_write};
+
+use crate::{Failed, NoMemory, Sink, Source};
+use std::alloc::Global;
+use std::marker::Model;
+
+/// A source of given bytes. The calls of `read` are numbered from 0, and those that it was told fail.
+#[derive(Drop)]
+pub struct MemSource {
+    bytes: Vec<u8>,
+    at: usize,
+    step: usize,
+    fail: Vec<u64>,
+    calls: u64,
+    faults: u64,
+}
+
+impl Model for MemSource {
+    ghost use Rattle.std.specs.Prelude.{◌≤◌, drop, length};
+    ghost use Rattle.mv_io.specs.MemSource.{SourceState};
+
+    ghost Value = { SourceState };
+
+    ghost view = { λ s. record {
+      left = drop s.at s.bytes.items;
+      step = s.step;
+      fail = s.fail.items;
+      calls = s.calls;
+      faults = s.faults;
+    } };
+
+    ghost invariant = { λ s. (1 ≤ s.step) × (s.at ≤ length s.bytes.items) };
+}
+
+impl MemSource {
+    /// A source that gives these bytes, at most `step` of them a call.
+    pub fn new(
+        alloc: Global,
+        bytes: &[u8],
+        step: usize,
+        fail: &[u64],
+    ) -> Result<MemSource, NoMemory>
+        requires { 1 ≤ step }
+        ensures { IfOk result (λ source. source ≡ fresh_source bytes.now step fail.now) }
+    {
+        Ok(MemSource {
+            bytes: Vec::from_slice(alloc, bytes)?,
+            at: 0,
+            step,
+            fail: Vec::from_slice(alloc, fail)?,
+            calls: 0,
+            faults: 0,
+        })
+    }
+}
+
+impl Source for MemSource {
+    ghost left = { λ s. Some s.left };
+
+    ghost faults = { λ s. s.faults };
+
+    fn read(&mut self, buf: &mut [u8]) -> Result<usize, Failed>
+        ensures bound { IfOk result (λ k. k ≤ length buf.new) }
+        ensures bytes { Reads (Some self.old.left) (Some self.new.left) result buf.new }
+        ensures faults { HasCause self.old.faults self.new.faults result }
+
+        ensures fails { IsErr result ↔ Contains self.old.fail self.old.calls }
+        ensures gives { IfOk result (λ k. k ≡ given self.old (length buf.old)) }
+        ensures after { self.new ≡ after_read self.old result }
+    {
+        let call = self.calls;
+        self.calls = call.saturating_add(1);
+        if self.fail.contains(&call) {
+            self.faults = self.faults.saturating_add(1);
+            return Err(Failed);
+        }
+        let left = &self.bytes[self.at..];
+        let count = self.step.min(buf.len()).min(left.len());
+        buf[..count].copy_from_slice(&left[..count]);
+        self.at += count;
+        Ok(count)
+    }
+}
+
+/// A sink with room for so many bytes. The calls of `write` are numbered from 0, and those that it
+/// was told fail, as does one that finds no room.
+#[derive(Drop)]
+pub struct MemSink {
+    bytes: Vec<u8>,
+    room: usize,
+    fail: Vec<u64>,
+    calls: u64,
+    faults: u64,
+}
+
+impl Model for MemSink {
+    ghost use Rattle.std.specs.Prelude.{◌≤◌, length, vec_capacity};
+    ghost use Rattle.mv_io.specs.MemSink.{SinkState};
+
+    ghost Value = { SinkState };
+
+    ghost view = { λ s. record {
+      taken = s.bytes.items;
+      room = s.room;
+      fail = s.fail.items;
+      calls = s.calls;
+      faults = s.faults;
+    } };
+
+    ghost invariant = { λ s. (length s.bytes.items ≤ s.room) × (s.room ≤ vec_capacity s.bytes) };
+}
+
+impl MemSink {
+    /// An empty sink. All its memory is taken here.
+    pub fn new(alloc: Global, room: usize, fail: &[u64]) -> Result<MemSink, NoMemory>
+        ensures { IfOk result (λ sink. sink ≡ fresh_sink room fail.now) }
+    {
+        Ok(MemSink {
+            bytes: Vec::with_capacity(alloc, room)?,
+            room,
+            fail: Vec::from_slice(alloc, fail)?,
+            calls: 0,
+            faults: 0,
+        })
+    }
+
+    /// What it has taken.
+    pub fn bytes(&self) -> &[u8]
+        ensures { result.now ≡ self.now.taken }
+    {
+        &self.bytes
+    }
+}
+
+impl Sink for MemSink {
+    ghost taken = { λ s. Some s.taken };
+
+    ghost faults = { λ s. s.faults };
+
+    fn write(&mut self, piece: &[u8]) -> Result<usize, Failed>
+        ensures bound { IfOk result (λ k. k ≤ length piece.now) }
+        ensures bytes { Writes (Some self.old.taken) (Some self.new.taken) result piece.now }
+        ensures faults { HasWriteCause self.old.faults self.new.faults result piece.now }
+
+        ensures fails { IsErr result ↔ Refuses self.old piece.now }
+        ensures takes { IfOk result (λ k. k ≡ min (length piece.now) (room_left self.old)) }
+        ensures after { self.new ≡ after_write self.old piece.now result }
+    {
+        let call = self.calls;
+        self.calls = call.saturating_add(1);
+        let count = piece.len().min(self.room - self.bytes.len());
+        if self.fail.contains(&call) || (count == 0 && !piece.is_empty()) {
+            self.faults = self.faults.saturating_add(1);
+            return Err(Failed);
+        }
+        // `new` took the room, so this cannot be refused.
+        let Ok(()) = self.bytes.extend_from_slice(&piece[..count]) else {
+            unreachable!()
+        };
+        Ok(count)
+    }
+}

@@ -1,0 +1,32 @@
+ghost use Rattle.std.specs.Prelude.{◌<◌, ◌≤◌, length, take, IfErr, OnErr, OnOk};
+ghost use Rattle.mv_io.specs.Fault.{Rose};
+ghost use Rattle.mv_io.specs.Sink.{Appends};
+
+use crate::Sink;
+
+/// A sink failed before it had all bytes.
+#[derive(Clone, Copy, Debug, PartialEq, Eq)]
+pub struct Partial {
+    /// How many bytes it took.
+    pub taken: usize,
+}
+
+/// Writes all bytes. The first failure ends it.
+pub fn write_all<K: Sink>(sink: &mut K, bytes: &[u8]) -> Result<(), Partial>
+    ensures whole { OnOk result (Appends (K.taken sink.old) (K.taken sink.new) bytes.now) }
+
+    ensures partial { IfErr result (λ partial. Appends (K.taken sink.old) (K.taken sink.new) (take partial.taken bytes.now)) }
+    ensures short { IfErr result (λ partial. partial.taken < length bytes.now) }
+    ensures failed { OnErr result (Rose (K.faults sink.old) (K.faults sink.new)) }
+
+    ensures count { K.faults sink.old ≤ K.faults sink.new }
+{
+    let mut taken = 0;
+    while taken < bytes.len() {
+        match sink.write(&bytes[taken..]) {
+            Ok(0) | Err(_) => return Err(Partial { taken }),
+            Ok(count) => taken += count,
+        }
+    }
+    Ok(())
+}

@@ -1,0 +1,235 @@
+// A latch set and its operations.
+
+ghost use Rattle.std.specs.Prelude.{◌≡◌, ◌<◌, ◌≤◌, ◌*◌, ◌+◌, ◌^◌, ◌↔◌, ◌++◌, [], map, IsTrue, IsSome, IfSome, OnSome, IfNone, IfOk, vec_len, vec_capacity, length};
+ghost use Rattle.std.specs.List.{flat_map};
+ghost use Rattle.mv_latch.specs.Request.{of_caller, of_requestor};
+ghost use Rattle.mv_latch.specs.Latch.{obtain_step, release_step, purged, granted_by_purge};
+ghost use Rattle.mv_latch.specs.Selection.{selects};
+ghost use Rattle.mv_latch.specs.LatchSet.{opened, at_latch, list_of, count_in, IsNewId, is_within_quotas, latch_admitted, latch_step, wakes as wakes_of};
+
+use crate::lists::{count_in_all, remove_from_all, wake_all_waiting};
+use crate::memory::NoMemory;
+use crate::operation::{LatchOp, LatchReply, Wake};
+use crate::queue::{confirm, obtain, release};
+use crate::request::{LatchForm, Request};
+use crate::selection::Selection;
+use std::alloc::Global;
+use std::marker::Model;
+
+/// The lists of requests of a set of latches. Contracts see them with the quotas of the callers.
+#[derive(Drop)]
+pub struct LatchSet {
+    lists: Vec<Vec<Request>>,
+    callers: u32,
+    quota: u32,
+    posted: u32,
+}
+
+impl Model for LatchSet {
+    ghost use Rattle.mv_latch.specs.LatchSet.{LatchLists};
+
+    ghost Value = { LatchLists };
+
+    ghost use Rattle.mv_latch.specs.Inside.{view_of, IsReady};
+
+    ghost view = { view_of };
+
+    ghost invariant = { IsReady };
+}
+
+impl LatchSet {
+    /// A set of latches, numbered from 0, that nobody asks for, with all room that its later calls use: each
+    /// list takes `callers * quota` requests. Callers are numbered from 0. Each has at most `quota` requests in
+    /// all lists together, and at most `posted` of them in the Posted form.
+    pub fn new(
+        alloc: Global,
+        latches: u32,
+        callers: u32,
+        quota: u32,
+        posted: u32,
+    ) -> Result<LatchSet, NoMemory>
+        requires { callers * quota < 2 ^ 32 }
+        ensures { IfOk result (λ s. s ≡ opened latches callers quota posted) }
+    {
+        let room = callers as usize * quota as usize;
+        let mut lists = Vec::with_capacity(alloc, latches as usize)?;
+        for _ in 0..latches {
+            lists.push(Vec::with_capacity(alloc, room)?)?;
+        }
+        Ok(LatchSet {
+            lists,
+            callers,
+            quota,
+            posted,
+        })
+    }
+
+    /// The requests of a latch, in the order of their arrival.
+    pub fn requests(&self, latch: u32) -> &[Request]
+        requires { latch < length self.now.lists }
+        ensures { result.now ≡ list_of self.now.lists latch }
+    {
+        &self.lists[latch as usize]
+    }
+
+    // An obtain within the quotas.
+    fn obtain(&mut self, latch: u32, request: Request) -> LatchReply
+        requires latch { latch < length self.old.lists }
+        requires caller { request.caller < self.old.callers }
+        requires quota { count_in (of_caller request.caller) self.old.lists < self.old.quota }
+        requires new_id { IsNewId request.id self.old.lists }
+        ensures lists { self.new ≡ record self.old { lists = (at_latch self.old.lists latch (obtain_step request (list_of self.old.lists latch))).0 } }
+        ensures reply { result ≡ (obtain_step request (list_of self.old.lists latch)).1 }
+    {
+        let list = &mut self.lists[latch as usize];
+        obtain(list, request)
+    }
+
+    // A release, with its wakes behind those that are there.
+    fn release(
+        &mut self,
+        latch: u32,
+        caller: u32,
+        id: u32,
+        conditional: bool,
+        wakes: &mut Vec<Wake>,
+    ) -> LatchReply
+        requires latch { latch < length self.old.lists }
+        requires room { vec_len wakes.old + self.old.callers * self.old.quota ≤ vec_capacity wakes.old }
+        ensures lists { self.new ≡ record self.old { lists = (at_latch self.old.lists latch (release_step caller id conditional (list_of self.old.lists latch))).0 } }
+        ensures reply { result ≡ (release_step caller id conditional (list_of self.old.lists latch)).1 }
+        ensures wakes { wakes.new.items ≡ wakes.old.items ++ wakes_of caller (LatchOp.Release latch id conditional) self.old.lists }
+        ensures capacity { vec_capacity wakes.new ≡ vec_capacity wakes.old }
+    {
+        let list = &mut self.lists[latch as usize];
+        release(list, caller, id, conditional, wakes)
+    }
+
+    // A purge, with its wakes behind those that are there.
+    fn purge(&mut self, requestor: u64, wakes: &mut Vec<Wake>) -> LatchReply
+        requires { vec_len wakes.old + self.old.callers * self.old.quota ≤ vec_capacity wakes.old }
+        ensures lists { self.new ≡ record self.old { lists = map (purged requestor) self.old.lists } }
+        ensures reply { result ≡ LatchReply.Purged (count_in (of_requestor requestor) self.old.lists) (length (flat_map (granted_by_purge requestor) self.old.lists)) }
+        ensures wakes { wakes.new.items ≡ wakes.old.items ++ wakes_of 0 (LatchOp.Purge requestor) self.old.lists }
+        ensures capacity { vec_capacity wakes.new ≡ vec_capacity wakes.old }
+    {
+        let removed = count_in_all(&self.lists, Selection::Of { requestor });
+        wake_all_waiting(&self.lists, requestor, wakes);
+        let granted = remove_from_all(&mut self.lists, requestor, wakes);
+        LatchReply::Purged {
+            removed: removed as u32,
+            granted,
+        }
+    }
+
+    // How many requests are selected.
+    fn count(&self, selection: Selection) -> usize
+        ensures { result ≡ count_in (selects selection) self.now.lists }
+    {
+        count_in_all(&self.lists, selection)
+    }
+
+    // Whether a caller may make one more request of this form.
+    fn is_within_quotas(&self, caller: u32, form: LatchForm) -> bool
+        ensures { result ≡ is_within_quotas caller form self.now }
+    {
+        if self.count(Selection::By { caller }) >= self.quota as usize {
+            return false;
+        }
+        match form {
+            LatchForm::Posted(_) => {
+                self.count(Selection::PostedBy { caller }) < self.posted as usize
+            }
+            _ => true,
+        }
+    }
+
+    // Whether an operation of a caller is admitted.
+    fn admits(&self, caller: u32, op: LatchOp) -> bool
+        ensures { result ≡ latch_admitted caller op self.now }
+    {
+        match op {
+            LatchOp::Obtain { latch, form, .. } => {
+                (latch as usize) < self.lists.len() && self.is_within_quotas(caller, form)
+            }
+            LatchOp::Confirm { latch, .. } | LatchOp::Release { latch, .. } => {
+                (latch as usize) < self.lists.len()
+            }
+            LatchOp::Purge { .. } => true,
+        }
+    }
+
+    // An admitted operation, with its wakes behind those that are there.
+    fn step(&mut self, caller: u32, id: u32, op: LatchOp, wakes: &mut Vec<Wake>) -> LatchReply
+        requires caller { caller < self.old.callers }
+        requires new_id { IsNewId id self.old.lists }
+        requires admitted { IsTrue (latch_admitted caller op self.old) }
+        requires room { vec_len wakes.old + self.old.callers * self.old.quota ≤ vec_capacity wakes.old }
+        ensures lists { self.new ≡ record self.old { lists = (latch_step caller id op self.old.lists).0 } }
+        ensures reply { result ≡ (latch_step caller id op self.old.lists).1 }
+        ensures wakes { wakes.new.items ≡ wakes.old.items ++ wakes_of caller op self.old.lists }
+        ensures capacity { vec_capacity wakes.new ≡ vec_capacity wakes.old }
+    {
+        match op {
+            LatchOp::Obtain {
+                latch,
+                requestor,
+                mode,
+                form,
+            } => self.obtain(
+                latch,
+                Request {
+                    id,
+                    caller,
+                    requestor,
+                    mode,
+                    form,
+                },
+            ),
+            LatchOp::Confirm { latch, id } => confirm(self.requests(latch), caller, id),
+            LatchOp::Release {
+                latch,
+                id,
+                conditional,
+            } => self.release(latch, caller, id, conditional, wakes),
+            LatchOp::Purge { requestor } => self.purge(requestor, wakes),
+        }
+    }
+
+    /// One operation of a caller, its reply, and in `wakes` who is to be told of what it did, after the latch
+    /// services ISGLOBT, ISGLREL and ISGLPRG. A new request has the number `id`. `None` where the operation is
+    /// not admitted: its latch does not exist, or an obtain's caller has used up its quota of requests, or of
+    /// requests in the Posted form.
+    pub fn apply(
+        &mut self,
+        caller: u32,
+        id: u32,
+        op: LatchOp,
+        wakes: &mut Vec<Wake>,
+    ) -> Option<LatchReply>
+        requires caller { caller < self.old.callers }
+        requires new_id { IsNewId id self.old.lists }
+        requires room { self.old.callers * self.old.quota ≤ vec_capacity wakes.old }
+
+        ensures admitted { IsSome result ↔ IsTrue (latch_admitted caller op self.old) }
+        ensures step { IfSome result (λ reply. (self.new.lists, reply) ≡ latch_step caller id op self.old.lists) }
+        ensures wakes { OnSome result (wakes.new.items ≡ wakes_of caller op self.old.lists) }
+
+        // An operation that is not admitted changes nothing.
+        ensures kept { IfNone result (self.new ≡ self.old) }
+        ensures wakes_kept { IfNone result (wakes.new.items ≡ wakes.old.items) }
+
+        // The quotas, and the room for wakes, stay.
+        ensures quotas { self.new ≡ record self.old { lists = self.new.lists } }
+        ensures capacity { vec_capacity wakes.new ≡ vec_capacity wakes.old }
+    {
+        if !self.admits(caller, op) {
+            return None;
+        }
+        wakes.clear();
+        Some(self.step(caller, id, op, wakes))
+    }
+}
+
+#[cfg(test)]
+mod tests;

@@ -1,0 +1,34 @@
+// What a task asks of a latch.
+
+/// How a requestor holds a latch.
+#[derive(Clone, Copy, Debug, PartialEq, Eq)]
+pub enum Mode {
+    /// Beside other shared holders.
+    Shared,
+    /// Alone.
+    Exclusive,
+}
+
+/// What becomes of a request that is not granted at once, as the obtain service ISGLOBT offers it.
+#[derive(Clone, Copy, Debug, PartialEq, Eq)]
+pub enum LatchForm {
+    /// It is dropped.
+    Conditional,
+    /// It is queued, and its task is woken at the grant.
+    Waiting,
+    /// It is queued, and the ECB of this number is posted at the grant.
+    Posted(u32),
+}
+
+/// One request in a latch's list.
+#[derive(Clone, Copy, Debug, PartialEq, Eq)]
+pub struct Request {
+    /// Its number, which no other request in the lists has.
+    pub id: u32,
+    /// The task that made it.
+    pub caller: u32,
+    /// The eight bytes that a purge names it by.
+    pub requestor: u64,
+    pub mode: Mode,
+    pub form: LatchForm,
+}

@@ -1,0 +1,11 @@
+-- What the words of the command line ask for.
+use Rattle.std.specs.Prelude.{ℕ, ◌&&◌, List, [], ◌∷◌, Option, Some, None, codes, if◌then◌else◌}
+use Rattle.std.specs.Str.{bytes_eq}
+use Rattle.mv_program.specs.declared.command.Command.{Command}
+use Rattle.mv_program.specs.declared.command.Command.TheVariants.{Spool}
+
+-- `spool 1`, exactly
+abbrev pub command_of : List (List ℕ) → Option Command
+command_of (word ∷ initiators ∷ []) =
+    if bytes_eq word (codes "spool") && bytes_eq initiators (codes "1") then Some (Spool 1) else None
+command_of _ = None

@@ -1,0 +1,5 @@
+pub mod Command
+pub mod Status
+pub mod Machine
+pub mod Journal
+pub mod Outcome

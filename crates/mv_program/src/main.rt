@@ -1,0 +1,62 @@
+//! The program: what its words, its input and its three outputs have to do with each other.
+//! `run_program` does all of it over any streams, and its contract says what a run wrote and why it ended as it did.
+//! `main` hands the standard streams to it.
+#![tactic(auto)]
+
+mod command;
+mod gate;
+mod journal;
+mod outcome;
+mod program;
+mod status;
+mod texts;
+
+pub use gate::{Gate, OpenGate, Point};
+pub use program::run_program;
+pub use status::Status;
+
+#[cfg(test)]
+mod tests;
+
+use mv_io::{StdSink, StdSource};
+use status::tell;
+use std::env;
+use std::io::{self, ErrorKind};
+use std::process::ExitCode;
+use std::rt::Env;
+
+// The words behind the program's name.
+fn words_of<R: Env + AllocGlobal>(rt: &R) -> io::Result<Vec<String>> {
+    let mut words = Vec::new(rt.alloc());
+    for word in env::args(rt)?.skip(1) {
+        words.push(word)?;
+    }
+    Ok(words)
+}
+
+fn main(rt: HostRuntime) -> ExitCode {
+    let mut deck = StdSource::new(rt.stdin());
+    let mut report = StdSink::new(rt.stdout());
+    let mut journal = StdSink::new(rt.stderr());
+    let mut notes = StdSink::new(rt.stderr());
+    let words = match words_of(&rt) {
+        Ok(words) => words,
+        Err(error) if error.kind() == ErrorKind::OutOfMemory => {
+            tell(&mut notes, Status::NoMemory);
+            return ExitCode::from(Status::NoMemory.exit());
+        }
+        // Arguments that are not text are no command.
+        Err(_) => Vec::new(rt.alloc()),
+    };
+    let status = run_program(
+        &rt,
+        rt.alloc(),
+        &words,
+        &mut deck,
+        &mut report,
+        &mut journal,
+        &mut notes,
+        &OpenGate,
+    );
+    ExitCode::from(status.exit())
+}

@@ -1,0 +1,181 @@
+use super::*;
+use mv_deck::DeckFault;
+use mv_io::{MemSink, MemSource, NoMemory, read_limited};
+use std::alloc::{AllocError, Global};
+use std::process::Abort;
+use std::test::Fail;
+
+const PAYROLL: &[u8] =
+    b"//PAYROLL JOB\n// PRINT PAY RUN 7\n// PRINT DONE\n//BACKUP JOB\n// PRINT COPYING\n// ABEND U0012\n//\n";
+
+const PAYROLL_REPORT: &[u8] =
+    b"JOB PAYROLL ENDED\n| PAY RUN 7\n| DONE\nJOB BACKUP ABENDED U0012\n| COPYING\nJOBS 2 ENDED 1 ABENDED 1 NOT RUN 0\nVOLUMES 0 0 0 0 0 0 0 0\n";
+
+const PAYROLL_JOURNAL: &[u8] =
+    b"JOURNAL 1\nCALLERS 1\nELEMENTS 1\nVOLUMES 8\nLATCHES 8\nQUOTA 8 0\nBUDGET 2\nECB 0\nECB 0\nEVENTS\n0 E0 0 POST 0 = POSTED\n0 E1 0 POST 16777228 = POSTED\nEND 2\n";
+
+const USAGE: &[u8] = b"USAGE: spool I, script, replay, load N I\n";
+
+// Streams over memory, with room for what these runs write.
+#[derive(Drop)]
+struct Streams {
+    deck: MemSource,
+    report: MemSink,
+    journal: MemSink,
+    notes: MemSink,
+}
+
+fn streams_over(alloc: Global, deck: &[u8]) -> Result<Streams, NoMemory> {
+    Ok(Streams {
+        deck: MemSource::new(alloc, deck, 1 << 20, &[])?,
+        report: MemSink::new(alloc, 4096, &[])?,
+        journal: MemSink::new(alloc, 4096, &[])?,
+        notes: MemSink::new(alloc, 4096, &[])?,
+    })
+}
+
+// Runs the command whose words stand in a text, parted by spaces.
+fn run<X: AllocGlobal>(rt: &X, text: &str, on: &mut Streams) -> Result<Status, AllocError> {
+    let mut words = Vec::new(rt.alloc());
+    for word in text.split_whitespace() {
+        words.push(String::from_str(rt.alloc(), word)?)?;
+    }
+    Ok(run_program(
+        rt,
+        rt.alloc(),
+        &words,
+        &mut on.deck,
+        &mut on.report,
+        &mut on.journal,
+        &mut on.notes,
+        &OpenGate,
+    ))
+}
+
+// What the report, the journal and the notes hold.
+fn assert_written(rt: &impl Abort, on: &Streams, report: &[u8], journal: &[u8], notes: &[u8]) {
+    assert_eq!(rt; on.report.bytes(), report);
+    assert_eq!(rt; on.journal.bytes(), journal);
+    assert_eq!(rt; on.notes.bytes(), notes);
+}
+
+#[test]
+fn two_jobs(rt: HostRuntime) -> Result<(), Fail> {
+    let mut on = streams_over(rt.alloc(), PAYROLL)?;
+    assert_eq!(rt; run(&rt, "spool 1", &mut on)?, Status::Done);
+    assert_written(&rt, &on, PAYROLL_REPORT, PAYROLL_JOURNAL, b"");
+    Ok(())
+}
+
+#[test]
+fn no_job(rt: HostRuntime) -> Result<(), Fail> {
+    let mut on = streams_over(rt.alloc(), b"//\n")?;
+    assert_eq!(rt; run(&rt, "spool 1", &mut on)?, Status::Done);
+    let report = b"JOBS 0 ENDED 0 ABENDED 0 NOT RUN 0\nVOLUMES 0 0 0 0 0 0 0 0\n";
+    let journal =
+        b"JOURNAL 1\nCALLERS 1\nELEMENTS 1\nVOLUMES 8\nLATCHES 8\nQUOTA 8 0\nBUDGET 0\nEVENTS\nEND 0\n";
+    assert_written(&rt, &on, report, journal, b"");
+    Ok(())
+}
+
+#[test]
+fn words_that_are_no_command(rt: HostRuntime) -> Result<(), Fail> {
+    let table = [
+        "",
+        "spool",
+        "spool 1 1",
+        "spool 2",
+        "spool 9",
+        "spool 01",
+        "SPOOL 1",
+        "replay",
+        "script",
+        "load 0 1",
+    ];
+    for words in table {
+        let mut on = streams_over(rt.alloc(), PAYROLL)?;
+        assert_eq!(rt; run(&rt, words, &mut on)?, Status::Words, "{words}");
+        assert_written(&rt, &on, b"", b"", USAGE);
+        let unread = read_limited(rt.alloc(), &mut on.deck, 1000)?;
+        assert_eq!(rt; unread.as_slice(), PAYROLL);
+    }
+    Ok(())
+}
+
+#[test]
+fn decks_with_a_fault(rt: HostRuntime) -> Result<(), Fail> {
+    let table = [
+        (
+            b"//A JOB\n// USE 0 S\n//\n".as_slice(),
+            2,
+            3,
+            b"DECK LINE 2 KIND 3\n".as_slice(),
+        ),
+        (b"".as_slice(), 1, 12, b"DECK LINE 1 KIND 12\n".as_slice()),
+    ];
+    for (deck, line, kind, notes) in table {
+        let mut on = streams_over(rt.alloc(), deck)?;
+        let fault = Status::Deck(DeckFault { line, kind });
+        assert_eq!(rt; run(&rt, "spool 1", &mut on)?, fault);
+        assert_written(&rt, &on, b"", b"", notes);
+    }
+    Ok(())
+}
+
+#[test]
+fn a_report_sink_that_fails(rt: HostRuntime) -> Result<(), Fail> {
+    let mut on = streams_over(rt.alloc(), PAYROLL)?;
+    on.report = MemSink::new(rt.alloc(), 4096, &[0])?;
+    assert_eq!(rt; run(&rt, "spool 1", &mut on)?, Status::ReportFailed);
+    assert_written(&rt, &on, b"", b"", b"REPORT FAILED\n");
+    Ok(())
+}
+
+#[test]
+fn a_journal_sink_that_is_full(rt: HostRuntime) -> Result<(), Fail> {
+    let mut on = streams_over(rt.alloc(), PAYROLL)?;
+    on.journal = MemSink::new(rt.alloc(), 10, &[])?;
+    assert_eq!(rt; run(&rt, "spool 1", &mut on)?, Status::JournalFailed);
+    assert_written(
+        &rt,
+        &on,
+        PAYROLL_REPORT,
+        b"JOURNAL 1\n",
+        b"JOURNAL FAILED\n",
+    );
+    Ok(())
+}
+
+#[test]
+fn a_source_that_fails(rt: HostRuntime) -> Result<(), Fail> {
+    let mut on = streams_over(rt.alloc(), PAYROLL)?;
+    on.deck = MemSource::new(rt.alloc(), PAYROLL, 1, &[3])?;
+    assert_eq!(rt; run(&rt, "spool 1", &mut on)?, Status::ReadFailed);
+    assert_written(&rt, &on, b"", b"", b"READ FAILED\n");
+    Ok(())
+}
+
+#[test]
+fn notes_without_room_change_no_status(rt: HostRuntime) -> Result<(), Fail> {
+    let mut on = streams_over(rt.alloc(), b"")?;
+    on.notes = MemSink::new(rt.alloc(), 0, &[])?;
+    let fault = Status::Deck(DeckFault { line: 1, kind: 12 });
+    assert_eq!(rt; run(&rt, "spool 1", &mut on)?, fault);
+    assert_written(&rt, &on, b"", b"", b"");
+    Ok(())
+}
+
+// A null statement and empty lines, 1,048,576 bytes in all, and then one more.
+#[test]
+fn a_deck_at_the_limit_and_one_byte_more(rt: HostRuntime) -> Result<(), Fail> {
+    let mut deck = vec![in rt.alloc(); b'\n'; 1_048_574]?;
+    deck.insert(0, b'/')?;
+    deck.insert(0, b'/')?;
+    let mut on = streams_over(rt.alloc(), &deck)?;
+    assert_eq!(rt; run(&rt, "spool 1", &mut on)?, Status::Done);
+    deck.push(b'\n')?;
+    let mut on = streams_over(rt.alloc(), &deck)?;
+    assert_eq!(rt; run(&rt, "spool 1", &mut on)?, Status::TooLong);
+    assert_written(&rt, &on, b"", b"", b"INPUT TOO LONG\n");
+    Ok(())
+}

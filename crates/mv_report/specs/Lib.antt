@@ -1,0 +1,3 @@
+pub mod EndCode
+pub mod Report
+pub mod Outcome
