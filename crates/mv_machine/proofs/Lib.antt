@@ -1,0 +1,16 @@
+pub mod Histories
+pub mod Objects
+pub mod OneObject
+pub mod ElementLaws
+pub mod ElementRuns
+pub mod Owners
+pub mod Validity
+pub mod Positions
+pub mod Tables
+pub mod Writes
+pub mod LatchIds
+pub mod Replays
+pub mod Budgets
+pub mod Rows
+pub mod Reaches
+pub mod Chains

@@ -1,0 +1,13 @@
+-- The laws are the lemmas.
+use Rattle.mv_machine.proofs.Budgets.{places_fit, no_high_generation}
+use Rattle.mv_machine.proofs.ElementRuns.{generation_fits}
+use Rattle.mv_machine.proofs.laws.generations_fit.Goals as goal
+
+pub returns-clause-fits : goal.returns-clause-fits
+returns-clause-fits c = generation_fits
+
+pub returns-clause-places : goal.returns-clause-places
+returns-clause-places c = places_fit
+
+pub returns-clause-generations : goal.returns-clause-generations
+returns-clause-generations c = no_high_generation

@@ -1,0 +1,66 @@
+-- Which configurations are refused, and with what.
+use Rattle.std.specs.Prelude.{◌≡◌, ℕ, ◌==◌, nat_le, nat_lt, Bool, not, ◌&&◌, ◌||◌, List, [], ◌∷◌, length, sum, find, Option, Some, None, option_map, if◌then◌else◌}
+use Rattle.std.specs.List.{list_all, list_any, position_from}
+use Rattle.mv_machine.specs.declared.config.CheckRefusal.{CheckRefusal}
+use Rattle.mv_machine.specs.declared.config.CheckRefusal.TheVariants.{Limit, BadOwner, BadExit, Budget}
+use Rattle.mv_machine.specs.declared.config.ConfigLimit.{ConfigLimit}
+use Rattle.mv_machine.specs.declared.config.ConfigLimit.TheVariants.{Callers, Elements, Volumes, Latches, Quota, Posted, Budgets, Ecbs, Exits, Targets}
+use Rattle.mv_machine.specs.Setup.{Setup, SetupExit}
+
+-- whether a number is one of these
+abbrev pub is_within : ℕ → ℕ → ℕ → Bool
+is_within low high n = nat_le low n && nat_le n high
+
+-- whether a limit is kept
+abbrev pub keeps : ConfigLimit → Setup → Bool
+keeps Callers c = is_within 1 16 c.callers
+keeps Elements c = is_within 1 16 c.elements_per_caller
+keeps Volumes c = is_within 1 8 c.volumes
+keeps Latches c = is_within 1 8 c.latches
+keeps Quota c = is_within 1 16 c.quota
+keeps Posted c = nat_le c.posted_quota c.quota
+keeps Budgets c = length c.budgets == c.callers
+keeps Ecbs c = nat_le (length c.owners) 131072
+keeps Exits c = nat_le (length c.exits) 32768
+keeps Targets c = list_all (λ x. is_within 1 8 (length x.targets)) c.exits
+
+-- the limits in the order in which they are asked
+abbrev pub limits : List ConfigLimit
+limits = Callers ∷ Elements ∷ Volumes ∷ Latches ∷ Quota ∷ Posted ∷ Budgets ∷ Ecbs ∷ Exits ∷ Targets ∷ []
+
+-- the first limit that is not kept
+abbrev pub first_limit : Setup → Option ConfigLimit
+first_limit c = find (λ l. not (keeps l c)) limits
+
+-- the first event control block whose owner is no caller
+abbrev pub first_bad_owner : Setup → Option ℕ
+first_bad_owner c = position_from (λ owner. nat_le c.callers owner) 0 c.owners
+
+-- whether an exit's source is no block, or one of its targets is no block or not above the source
+abbrev pub is_bad_exit : ℕ → SetupExit → Bool
+is_bad_exit ecbs x = nat_le ecbs x.source || list_any (λ target. nat_le ecbs target || nat_le target x.source) x.targets
+
+-- the first such exit, counted from 1
+abbrev pub first_bad_exit : Setup → Option ℕ
+first_bad_exit c = position_from (is_bad_exit (length c.owners)) 1 c.exits
+
+-- the sum of the budgets, where it is above what a run may have
+abbrev pub bad_budget : Setup → Option ℕ
+bad_budget c = if nat_lt 524287 (sum c.budgets) then Some (sum c.budgets) else None
+
+-- the first of two answers
+abbrev pub or_else : {A : Type 0} → Option A → Option A → Option A
+or_else (Some a) b = Some a
+or_else None b = b
+
+-- why a configuration is refused, if it is
+abbrev pub refusal_of : Setup → Option CheckRefusal
+refusal_of c =
+    or_else (option_map (λ l. Limit l) (first_limit c))
+    (or_else (option_map (λ e. BadOwner e) (first_bad_owner c))
+    (or_else (option_map (λ x. BadExit x) (first_bad_exit c))
+    (option_map (λ b. Budget b) (bad_budget c))))
+
+-- a configuration that nothing refuses
+abbrev pub IsValid : Setup → Type 0
+IsValid c = refusal_of c ≡ None

@@ -1,0 +1,56 @@
+-- Which lists of entries are legal, and what they lead to.
+use Rattle.std.specs.Prelude.{◌≡◌, ℕ, ◌+◌, ◌==◌, Bool, true, false, IsTrue, List, [], ◌∷◌, filter, Some}
+use Rattle.mv_machine.specs.declared.entry.Object.{Object}
+use Rattle.mv_machine.specs.declared.entry.Object.TheVariants.{Ecb, Element, Volume, Latches}
+use Rattle.mv_machine.specs.declared.entry.Entry.{Entry}
+use Rattle.mv_machine.specs.Setup.{Setup}
+use Rattle.mv_machine.specs.System.{System, opening, place_of, admitted, reply_to, moved}
+
+-- the entry is admitted, and its place and reply are those of the machine
+pub record IsNext (c : Setup) (s : System) (e : Entry) : Type 0 where
+  pub admits : IsTrue (admitted c s e.caller e.object e.op)
+  pub place : e.place ≡ place_of s e.object
+  pub reply : Some e.reply ≡ reply_to s e.caller e.object e.op
+
+-- the machine after an entry
+abbrev pub next : System → Entry → System
+next s e = moved s e.caller e.object e.op
+
+-- and after a list of them
+abbrev pub after_from : System → List Entry → System
+after_from s [] = s
+after_from s (e ∷ es) = after_from (next s e) es
+
+-- each entry in turn is the next one
+abbrev pub LegalFrom : Setup → System → List Entry → Type 0
+LegalFrom c s [] = Unit {0}
+LegalFrom c s (e ∷ es) = IsNext c s e × LegalFrom c (next s e) es
+
+-- a list is legal where that holds from the opening on
+abbrev pub Legal : Setup → List Entry → Type 0
+Legal c es = LegalFrom c (opening c) es
+
+-- the machine after a list
+abbrev pub after : Setup → List Entry → System
+after c es = after_from (opening c) es
+
+-- one caller's entries
+abbrev pub of : ℕ → List Entry → List Entry
+of k es = filter (λ e. e.caller == k) es
+
+-- whether two objects are one
+abbrev pub same_object : Object → Object → Bool
+same_object (Ecb a) (Ecb b) = a == b
+same_object (Element a) (Element b) = a == b
+same_object (Volume a) (Volume b) = a == b
+same_object Latches Latches = true
+same_object _ _ = false
+
+-- one object's entries
+abbrev pub «at» : Object → List Entry → List Entry
+«at» o es = filter (λ e. same_object e.object o) es
+
+-- the places of these entries count up by one
+abbrev pub CountsFrom : ℕ → List Entry → Type 0
+CountsFrom place [] = Unit {0}
+CountsFrom place (e ∷ es) = (e.place ≡ place) × CountsFrom (place + 1) es

@@ -1,0 +1,12 @@
+pub mod Setup
+pub mod Config
+pub mod Check
+pub mod System
+pub mod Legal
+pub mod Told
+pub mod Elements
+pub mod State
+pub mod Reach
+pub mod Chains
+pub mod Valid
+pub mod Replay

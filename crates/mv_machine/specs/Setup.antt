@@ -1,0 +1,40 @@
+-- What a configuration says.
+use Rattle.std.specs.Prelude.{ℕ, ◌==◌, ◌-◌, ◌*◌, ◌/◌, nat_lt, Bool, false, ◌&&◌, List, Option, Some, None, slice_get, slice_index}
+
+-- an exit: the event control block that it starts from, and those that it posts
+pub record SetupExit : Type 0 where
+  pub source : ℕ
+  pub targets : List ℕ
+
+-- how contracts see a configuration
+pub record Setup : Type 0 where
+  pub callers : ℕ
+  pub elements_per_caller : ℕ
+  pub volumes : ℕ
+  pub latches : ℕ
+  pub quota : ℕ
+  pub posted_quota : ℕ
+  pub budgets : List ℕ
+  pub owners : List ℕ
+  pub exits : List SetupExit
+
+-- the caller that waits on an event control block
+abbrev pub owner_of : Setup → ℕ → ℕ
+owner_of c ecb = slice_index c.owners ecb
+
+-- how many elements there are
+abbrev pub element_count : Setup → ℕ
+element_count c = c.callers * c.elements_per_caller
+
+-- whose an element is
+abbrev pub element_owner : Setup → ℕ → ℕ
+element_owner c element = element / c.elements_per_caller
+
+-- whether an exit is there and starts from this block
+abbrev pub starts_from : ℕ → Option SetupExit → Bool
+starts_from ecb None = false
+starts_from ecb (Some x) = x.source == ecb
+
+-- whether this block is the source of the exit of this number, counted from 1
+abbrev pub is_exit_of : Setup → ℕ → ℕ → Bool
+is_exit_of c exit ecb = nat_lt 0 exit && starts_from ecb (slice_get c.exits (exit - 1))

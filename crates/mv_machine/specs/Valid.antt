@@ -1,0 +1,12 @@
+-- A configuration that was checked, with its reaches.
+use Rattle.std.specs.Prelude.{◌≡◌, ℕ, List}
+use Rattle.mv_machine.specs.Chains.{AreReaches}
+use Rattle.mv_machine.specs.Check.{IsValid}
+use Rattle.mv_machine.specs.Reach.{release_cost}
+use Rattle.mv_machine.specs.Setup.{Setup}
+
+-- nothing refuses it, and these are its reaches and what a release may cost
+pub record IsChecked (c : Setup) (reaches : List ℕ) (cost : ℕ) : Type 0 where
+  pub valid : IsValid c
+  pub known : AreReaches c reaches
+  pub priced : cost ≡ release_cost c

@@ -1,0 +1,149 @@
+ghost use Rattle.std.specs.List.{list_all, list_any};
+ghost use Rattle.std.specs.Prelude.{◌≡◌, ◌≢◌, ◌≤◌, ◌||◌, nat_le, length, map, vec_len, OnOk, IfOk, IfErr, IsErrOf, Some, None};
+ghost use Rattle.mv_machine.specs.Config.{setup_of, exit_of};
+ghost use Rattle.mv_machine.specs.Check.{refusal_of, first_limit, first_bad_owner, first_bad_exit, bad_budget, is_bad_exit as is_bad_exit_at, is_within, IsValid};
+
+use crate::config::{CheckRefusal, Config, ConfigLimit, Exit};
+use crate::valid::ValidConfig;
+use std::alloc::Global;
+
+impl Config {
+    // The first limit that is not kept.
+    fn first_limit(&self) -> Option<ConfigLimit>
+        ensures { result ≡ first_limit (setup_of self.now) }
+    {
+        if self.callers < 1 || self.callers > 16 {
+            return Some(ConfigLimit::Callers);
+        }
+        if self.elements_per_caller < 1 || self.elements_per_caller > 16 {
+            return Some(ConfigLimit::Elements);
+        }
+        if self.volumes < 1 || self.volumes > 8 {
+            return Some(ConfigLimit::Volumes);
+        }
+        if self.latches < 1 || self.latches > 8 {
+            return Some(ConfigLimit::Latches);
+        }
+        if self.quota < 1 || self.quota > 16 {
+            return Some(ConfigLimit::Quota);
+        }
+        if self.posted_quota > self.quota {
+            return Some(ConfigLimit::Posted);
+        }
+        if self.budgets.len() != self.callers as usize {
+            return Some(ConfigLimit::Budgets);
+        }
+        if self.owners.len() > 131_072 {
+            return Some(ConfigLimit::Ecbs);
+        }
+        if self.exits.len() > 32_768 {
+            return Some(ConfigLimit::Exits);
+        }
+        if !has_few_targets(&self.exits) {
+            return Some(ConfigLimit::Targets);
+        }
+        None
+    }
+
+    // The first event control block whose owner is no caller.
+    fn first_bad_owner(&self) -> Option<u32>
+        requires { vec_len self.now.owners ≤ 131072 }
+        ensures { result ≡ first_bad_owner (setup_of self.now) }
+    {
+        let mut ecb: u32 = 0;
+        for owner in &self.owners {
+            if *owner >= self.callers {
+                return Some(ecb);
+            }
+            ecb += 1;
+        }
+        None
+    }
+
+    // The first exit that leads nowhere or not up, counted from 1.
+    fn first_bad_exit(&self) -> Option<u32>
+        requires { vec_len self.now.exits ≤ 32768 }
+        ensures { result ≡ first_bad_exit (setup_of self.now) }
+    {
+        let mut number = 1;
+        for exit in &self.exits {
+            if is_bad_exit(exit, self.owners.len()) {
+                return Some(number);
+            }
+            number += 1;
+        }
+        None
+    }
+
+    // The sum of the budgets, where it is too high.
+    fn bad_budget(&self) -> Option<u64>
+        requires { vec_len self.now.budgets ≤ 16 }
+        ensures { result ≡ bad_budget (setup_of self.now) }
+    {
+        let mut sum: u64 = 0;
+        for budget in &self.budgets {
+            sum += u64::from(*budget);
+        }
+        if sum > 524_287 {
+            return Some(sum);
+        }
+        None
+    }
+
+    // Why the configuration is refused, if it is.
+    fn refusal(&self) -> Option<CheckRefusal>
+        ensures { result ≡ refusal_of (setup_of self.now) }
+    {
+        if let Some(limit) = self.first_limit() {
+            return Some(CheckRefusal::Limit(limit));
+        }
+        if let Some(ecb) = self.first_bad_owner() {
+            return Some(CheckRefusal::BadOwner(ecb));
+        }
+        if let Some(exit) = self.first_bad_exit() {
+            return Some(CheckRefusal::BadExit(exit));
+        }
+        if let Some(sum) = self.bad_budget() {
+            return Some(CheckRefusal::Budget(sum));
+        }
+        None
+    }
+
+    /// Makes a checked configuration of this one, or drops it and answers the first refusal that holds. Want of
+    /// memory comes behind all of them.
+    pub fn check(self, alloc: Global) -> Result<ValidConfig, CheckRefusal>
+        ensures ok { IfOk result (λ v. v ≡ setup_of self) }
+        ensures valid { OnOk result (IsValid (setup_of self)) }
+        ensures refused { IfErr result (λ r. r ≢ CheckRefusal.NoMemory → refusal_of (setup_of self) ≡ Some r) }
+        ensures no_memory { IsErrOf result CheckRefusal.NoMemory → IsValid (setup_of self) }
+    {
+        match self.refusal() {
+            Some(refusal) => Err(refusal),
+            None => Ok(ValidConfig::of(alloc, self)?),
+        }
+    }
+}
+
+// Whether each exit has 1 to 8 targets.
+fn has_few_targets(exits: &[Exit]) -> bool
+    ensures { result ≡ list_all (λ x. is_within 1 8 (vec_len x.targets)) exits.now }
+{
+    exits
+        .iter()
+        .all(|exit| exit.targets.len() >= 1 && exit.targets.len() <= 8)
+}
+
+// Whether an exit's source is no block, or one of its targets is no block or not above the source.
+fn is_bad_exit(exit: &Exit, ecbs: usize) -> bool
+    ensures { result ≡ is_bad_exit_at ecbs (exit_of exit.now) }
+{
+    exit.source as usize >= ecbs || has_bad_target(&exit.targets, exit.source, ecbs)
+}
+
+fn has_bad_target(targets: &[u32], source: u32, ecbs: usize) -> bool
+    ensures { result ≡ list_any (λ target. nat_le ecbs target || nat_le target source) targets.now }
+{
+    targets
+        .iter()
+        .any(|target| *target as usize >= ecbs || *target <= source)
+}

@@ -1,0 +1,23 @@
+//! The machine of one thread: a configuration, the state of all its objects, and the one step that an operation of
+//! a caller makes. A list of entries is legal where each entry in turn is what the step answers; `replay` judges it.
+//! Every service above is held against these definitions.
+#![tactic(auto)]
+
+mod checking;
+mod config;
+mod entry;
+mod laws;
+mod reaching;
+mod replaying;
+mod state;
+mod valid;
+
+pub use config::{CheckRefusal, Config, ConfigLimit, Exit};
+pub use entry::{Entry, Object, Op, Reply, VolumeOp, VolumeReply};
+pub use laws::{generations_fit, places_count_entries};
+pub use replaying::{Illegal, ReplayRefusal, replay};
+pub use state::State;
+pub use valid::ValidConfig;
+
+#[cfg(test)]
+mod tests;

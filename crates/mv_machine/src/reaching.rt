@@ -1,0 +1,99 @@
+ghost use Rattle.std.specs.Prelude.{◌≡◌, ◌<◌, ◌≤◌, ◌^◌, ℕ, length, map, IfOk, slice_index};
+ghost use Rattle.std.specs.List.{AllByRecursion};
+ghost use Rattle.mv_machine.specs.Chains.{AreChains, AreReaches, HasFewGoodTargets};
+ghost use Rattle.mv_machine.specs.Check.{IsValid};
+ghost use Rattle.mv_machine.specs.Config.{exit_of, setup_of};
+ghost use Rattle.mv_machine.specs.Reach.{exits_of, greatest, release_cost, total as total_of};
+
+use crate::config::{Config, Exit};
+use std::alloc::{AllocError, Global};
+
+// The exits of each block, from the last to the first. Exits are counted from 1, and 0 is none.
+#[derive(Drop)]
+struct Chains {
+    // For each block.
+    last: Vec<u32>,
+    // For each exit the one before it with the same source.
+    before: Vec<u32>,
+}
+
+fn chains_of(alloc: Global, ecbs: usize, exits: &[Exit]) -> Result<Chains, AllocError>
+    requires good { AllByRecursion (HasFewGoodTargets ecbs) (map exit_of exits.now) }
+    requires few { length exits.now < 2 ^ 31 }
+    ensures { IfOk result (λ c. AreChains ecbs (map exit_of exits.now) (length exits.now) c.last.items c.before.items) }
+{
+    let mut last = Vec::new(alloc);
+    last.resize(ecbs, 0)?;
+    let mut before = Vec::new(alloc);
+    for (i, exit) in exits.iter().enumerate() {
+        let source = exit.source as usize;
+        before.push(last[source])?;
+        last[source] = i as u32 + 1;
+    }
+    Ok(Chains { last, before })
+}
+
+// The sum of the reaches of some blocks.
+fn total(targets: &[u32], reaches: &[u32]) -> u32
+    requires few { length targets.now ≤ 8 }
+    requires good { AllByRecursion (λ t. t < length reaches.now) targets.now }
+    requires cut { AllByRecursion (λ r. r ≤ 524288) reaches.now }
+    ensures value { result ≡ total_of (λ t. slice_index reaches.now t) targets.now }
+    ensures fits { result ≤ 4194304 }
+{
+    let mut sum = 0;
+    for target in targets {
+        sum += reaches[*target as usize];
+    }
+    sum
+}
+
+// The greatest sum that an exit of a block leads to.
+fn greatest_total(exits: &[Exit], chains: &Chains, ecb: usize, reaches: &[u32]) -> u32
+    requires good { AllByRecursion (HasFewGoodTargets (length reaches.now)) (map exit_of exits.now) }
+    requires chains { AreChains (length reaches.now) (map exit_of exits.now) (length exits.now) chains.now.last.items chains.now.before.items }
+    requires ecb { ecb < length reaches.now }
+    requires cut { AllByRecursion (λ r. r ≤ 524288) reaches.now }
+    ensures value { result ≡ greatest (map (λ x. total_of (λ t. slice_index reaches.now t) x.targets) (exits_of ecb (map exit_of exits.now))) }
+    ensures fits { result ≤ 4194304 }
+{
+    let mut best: u32 = 0;
+    let mut at = chains.last[ecb];
+    while at > 0 {
+        let exit = &exits[at as usize - 1];
+        best = best.max(total(&exit.targets, reaches));
+        at = chains.before[at as usize - 1];
+    }
+    best
+}
+
+/// The reach of each block, from the last to the first: exits lead up.
+pub(crate) fn reaches_of(alloc: Global, config: &Config) -> Result<Vec<u32>, AllocError>
+    requires { IsValid (setup_of config.now) }
+    ensures { IfOk result (λ v. AreReaches (setup_of config.now) v.items) }
+{
+    let ecbs = config.owners.len();
+    let chains = chains_of(alloc, ecbs, &config.exits)?;
+    let mut reaches = Vec::new(alloc);
+    reaches.resize(ecbs, 0)?;
+    let mut ecb = ecbs;
+    while ecb > 0 {
+        ecb -= 1;
+        let most = greatest_total(&config.exits, &chains, ecb, &reaches);
+        reaches[ecb] = (1 + most).min(524_288);
+    }
+    Ok(reaches)
+}
+
+/// What a release of a latch may cost.
+pub(crate) fn release_cost_of(config: &Config, reaches: &[u32]) -> u32
+    requires valid { IsValid (setup_of config.now) }
+    requires reaches { AreReaches (setup_of config.now) reaches.now }
+    ensures { result ≡ release_cost (setup_of config.now) }
+{
+    let mut most: u32 = 0;
+    for reach in reaches {
+        most = most.max(*reach);
+    }
+    (1 + config.callers * config.posted_quota * most).min(524_288)
+}

@@ -1,0 +1,98 @@
+ghost use Rattle.std.specs.Prelude.{◌≡◌, ◌≢◌, ◌<◌, ◌≤◌, ◌^◌, ◌↔◌, ℕ, IsTrue, MatchOption, OnOk, IfOk, IfErr, IfNone, OnOk, All, Some, None};
+ghost use Rattle.mv_machine.specs.declared.entry.Object.{Object as AnyObject};
+ghost use Rattle.mv_machine.specs.Elements.{IsOrderlyElement, element_events};
+ghost use Rattle.mv_machine.specs.Legal.{Legal, LegalFrom, after, after_from};
+ghost use Rattle.mv_machine.specs.Replay.{IsFirstIllegal, IsRefused};
+ghost use Rattle.mv_machine.specs.State.{system_of, wakes_of, IsOpenedWith};
+ghost use Rattle.mv_machine.specs.System.{place_of};
+ghost use Rattle.mv_machine.specs.Told.{last_wakes, last_wakes_from};
+
+use crate::entry::{Entry, Reply};
+use crate::state::State;
+use crate::valid::ValidConfig;
+use mv_io::NoMemory;
+use std::alloc::Global;
+
+/// The first entry that is not the machine's.
+#[derive(Clone, Copy, Debug, PartialEq, Eq)]
+pub struct Illegal {
+    /// Counted from 0.
+    pub index: usize,
+    /// The place and the reply of the entry.
+    pub kept: (u32, Reply),
+    /// Those that the machine gives, or nothing where it does not admit the operation.
+    pub machine: Option<(u32, Reply)>,
+}
+
+/// Why a list of entries was not replayed to its end.
+#[derive(Clone, Copy, Debug, PartialEq, Eq)]
+pub enum ReplayRefusal {
+    Illegal(Illegal),
+    NoMemory,
+}
+
+impl From<NoMemory> for ReplayRefusal {
+    ghost use Rattle.mv_machine.specs.declared.replaying.ReplayRefusal.TheVariants as refusal;
+
+    ghost from_gives = { λ _ r. r ≡ refusal.NoMemory };
+
+    fn from(_: NoMemory) -> ReplayRefusal {
+        ReplayRefusal::NoMemory
+    }
+}
+
+/// Goes through a list of entries from the opening on. Ok exactly where the list is legal, with the state after it,
+/// unless there is no memory for the opening state. The budgets are not asked.
+pub fn replay(
+    alloc: Global,
+    config: &ValidConfig,
+    entries: &[Entry],
+) -> Result<State, ReplayRefusal>
+    requires places { All (λ e. e.place ≤ 524286) entries.now }
+    ensures legal { OnOk result (Legal config.now entries.now) }
+    ensures after { IfOk result (λ s. system_of s ≡ after config.now entries.now) }
+    ensures wakes { IfOk result (λ s. wakes_of s ≡ last_wakes config.now entries.now) }
+    ensures opened { IfOk result (λ s. IsOpenedWith config.now s) }
+    ensures refused { IfErr result (λ r. IsRefused config.now entries.now r) }
+    ensures not_legal { IfErr result (λ r. r ≢ ReplayRefusal.NoMemory → ¬ Legal config.now entries.now) }
+    ensures orderly { OnOk result ((element : ℕ) → IsOrderlyElement (element_events element entries.now)) }
+{
+    let mut state = State::opening(alloc, config)?;
+    match first_illegal(&mut state, config, entries) {
+        Some(illegal) => Err(ReplayRefusal::Illegal(illegal)),
+        None => Ok(state),
+    }
+}
+
+// Steps through the entries as long as they are the machine's. What the state is after an illegal one is not said.
+fn first_illegal(state: &mut State, config: &ValidConfig, entries: &[Entry]) -> Option<Illegal>
+    requires opened { IsOpenedWith config.now state.old }
+    requires places { All (λ e. e.place ≤ 524286) entries.now }
+    requires at_most { (o : AnyObject) → place_of (system_of state.old) o < 2 ^ 19 }
+    ensures legal { MatchOption result (LegalFrom config.now (system_of state.old) entries.now) (λ i. IsFirstIllegal config.now (system_of state.old) entries.now i) }
+    ensures after { MatchOption result (system_of state.new ≡ after_from (system_of state.old) entries.now) (λ _. Unit {0}) }
+    ensures wakes { MatchOption result (wakes_of state.new ≡ last_wakes_from (system_of state.old) (wakes_of state.old) entries.now) (λ _. Unit {0}) }
+    ensures opened { MatchOption result (IsOpenedWith config.now state.new) (λ _. Unit {0}) }
+{
+    for (i, e) in entries.iter().enumerate() {
+        let machine = state.advance(config, e.caller, e.object, e.op);
+        if !is_answer(machine, e.place, e.reply) {
+            return Some(Illegal {
+                index: i,
+                kept: (e.place, e.reply),
+                machine,
+            });
+        }
+    }
+    None
+}
+
+// Whether the machine's answer is this one.
+fn is_answer(machine: Option<(u32, Reply)>, place: u32, reply: Reply) -> bool
+    ensures { IsTrue result ↔ (machine ≡ Some (place, reply)) }
+{
+    match machine {
+        Some((p, r)) => p == place && r.is_same(reply),
+        None => false,
+    }
+}

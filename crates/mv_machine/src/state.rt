@@ -1,0 +1,337 @@
+ghost use Rattle.std.specs.Prelude.{◌≡◌, ◌<◌, ◌≤◌, ◌+◌, ◌^◌, ◌-◌, ℕ, [], length, IfOk, IfSome, IsTrue, ◌↔◌};
+ghost use Rattle.mv_latch.specs.LatchSet.{list_of};
+ghost use Rattle.mv_machine.specs.System.{System, answer, after_step, place_of, volume_step, ecb_admitted, element_admitted, posts_own_ecb as posts_own_ecb_of, wakes_after, opening as opening_of};
+ghost use Rattle.mv_machine.specs.State.{system_of, wakes_of, IsOpenedWith, IsStep, Exists, HasLatch};
+
+use crate::entry::{Object, Op, Reply, VolumeOp, VolumeReply};
+use crate::valid::ValidConfig;
+use mv_ecb::{EcbOp, EcbWord, ecb_apply};
+use mv_element::{ElementOp, ElementState, element_apply};
+use mv_io::NoMemory;
+use mv_latch::{LatchForm, LatchOp, LatchSet, Request, Wake};
+use std::alloc::Global;
+
+// An event control block and its place.
+#[derive(Clone, Copy)]
+struct EcbCell {
+    place: u32,
+    word: EcbWord,
+}
+
+// A pause element and its place.
+#[derive(Clone, Copy)]
+struct ElementCell {
+    place: u32,
+    state: ElementState,
+}
+
+// A volume and its place.
+#[derive(Clone, Copy)]
+struct VolumeCell {
+    place: u32,
+    number: u32,
+}
+
+/// The place and the state of every object of a configuration.
+#[derive(Drop)]
+pub struct State {
+    ecbs: Vec<EcbCell>,
+    elements: Vec<ElementCell>,
+    volumes: Vec<VolumeCell>,
+    latches: LatchSet,
+    latch_place: u32,
+    // The wakes of the last event on the latch set.
+    wakes: Vec<Wake>,
+}
+
+impl State {
+    /// The state before the first event, with room for all that `step` will do.
+    pub fn opening(alloc: Global, config: &ValidConfig) -> Result<State, NoMemory>
+        ensures system { IfOk result (λ s. system_of s ≡ opening_of config.now) }
+        ensures wakes { IfOk result (λ s. wakes_of s ≡ []) }
+        ensures opened { IfOk result (λ s. IsOpenedWith config.now s) }
+    {
+        let given = config.config();
+        let mut ecbs = Vec::new(alloc);
+        let zero = EcbCell {
+            place: 0,
+            word: EcbWord::zero(),
+        };
+        ecbs.resize(given.owners.len(), zero)?;
+        let mut elements = Vec::new(alloc);
+        let free = ElementCell {
+            place: 0,
+            state: ElementState::free(0),
+        };
+        elements.resize(config.elements() as usize, free)?;
+        let mut volumes = Vec::new(alloc);
+        let empty = VolumeCell {
+            place: 0,
+            number: 0,
+        };
+        volumes.resize(given.volumes as usize, empty)?;
+        let latches = config.open_latches(alloc)?;
+        let wakes = Vec::with_capacity(alloc, given.callers as usize * given.quota as usize)?;
+        Ok(State {
+            ecbs,
+            elements,
+            volumes,
+            latches,
+            latch_place: 0,
+            wakes,
+        })
+    }
+
+    /// Whether there is this object.
+    pub fn has(&self, object: Object) -> bool
+        ensures { IsTrue result ↔ Exists self.now object }
+    {
+        match object {
+            Object::Ecb(ecb) => (ecb as usize) < self.ecbs.len(),
+            Object::Element(element) => (element as usize) < self.elements.len(),
+            Object::Volume(volume) => (volume as usize) < self.volumes.len(),
+            Object::Latches => true,
+        }
+    }
+
+    /// How many events an object has had.
+    pub fn place(&self, object: Object) -> u32
+        requires { Exists self.now object }
+        ensures { result ≡ place_of (system_of self.now) object }
+    {
+        match object {
+            Object::Ecb(ecb) => self.ecbs[ecb as usize].place,
+            Object::Element(element) => self.elements[element as usize].place,
+            Object::Volume(volume) => self.volumes[volume as usize].place,
+            Object::Latches => self.latch_place,
+        }
+    }
+
+    /// The word of an event control block.
+    pub fn ecb(&self, ecb: u32) -> EcbWord
+        requires { Exists self.now (Object.Ecb ecb) }
+        ensures { result ≡ ((system_of self.now).ecb ecb).state }
+    {
+        self.ecbs[ecb as usize].word
+    }
+
+    /// The state of a pause element.
+    pub fn element(&self, element: u32) -> ElementState
+        requires { Exists self.now (Object.Element element) }
+        ensures { result ≡ ((system_of self.now).element element).state }
+    {
+        self.elements[element as usize].state
+    }
+
+    /// The number in a volume.
+    pub fn volume(&self, volume: u32) -> u32
+        requires { Exists self.now (Object.Volume volume) }
+        ensures { result ≡ ((system_of self.now).volume volume).state }
+    {
+        self.volumes[volume as usize].number
+    }
+
+    /// The requests of a latch, in order of arrival.
+    pub fn requests(&self, latch: u32) -> &[Request]
+        requires { HasLatch self.now latch }
+        ensures { result.now ≡ list_of (system_of self.now).latches.state latch }
+    {
+        self.latches.requests(latch)
+    }
+
+    /// Who was to be woken after the last event that `step` made on the latch set, in order. Before one it is empty.
+    pub fn wakes(&self) -> &[Wake]
+        ensures { result.now ≡ wakes_of self.now }
+    {
+        &self.wakes
+    }
+
+    /// One operation of a caller on an object: the place that the object had, and the reply. The place rises by one,
+    /// and is the number of an obtain's request. There is no answer, and nothing changes, exactly where the operation
+    /// is not admitted.
+    pub fn step(
+        &mut self,
+        config: &ValidConfig,
+        caller: u32,
+        object: Object,
+        op: Op,
+    ) -> Option<(u32, Reply)>
+        requires opened { IsOpenedWith config.now self.old }
+        requires place { place_of (system_of self.old) object ≤ 524286 }
+        ensures answer { result ≡ answer config.now (system_of self.old) caller object op }
+        ensures after { system_of self.new ≡ after_step config.now (system_of self.old) caller object op }
+        ensures wakes { wakes_of self.new ≡ wakes_after config.now (system_of self.old) (wakes_of self.old) caller object op }
+        ensures opened { IsOpenedWith config.now self.new }
+    {
+        self.advance(config, caller, object, op)
+    }
+
+    // A step at any place that has 19 bits. The place behind the last of them has not, so this is for those who do
+    // not go on from there.
+    pub(crate) fn advance(
+        &mut self,
+        config: &ValidConfig,
+        caller: u32,
+        object: Object,
+        op: Op,
+    ) -> Option<(u32, Reply)>
+        requires opened { IsOpenedWith config.now self.old }
+        requires place { place_of (system_of self.old) object < 2 ^ 19 }
+        ensures { IsStep config.now self.old self.new caller object op result }
+    {
+        if !config.has_caller(caller) {
+            return None;
+        }
+        match (object, op) {
+            (Object::Ecb(ecb), Op::Ecb(op)) => self.advance_ecb(config, caller, ecb, op),
+            (Object::Element(element), Op::Element(op)) => self.advance_element(
+                config, caller, element, op,
+            ),
+            (Object::Volume(volume), Op::Volume(op)) => self.advance_volume(
+                config, caller, volume, op,
+            ),
+            (Object::Latches, Op::Latch(op)) => self.advance_latches(config, caller, op),
+            _ => None,
+        }
+    }
+
+    fn advance_ecb(
+        &mut self,
+        config: &ValidConfig,
+        caller: u32,
+        ecb: u32,
+        op: EcbOp,
+    ) -> Option<(u32, Reply)>
+        requires opened { IsOpenedWith config.now self.old }
+        requires caller { caller < config.now.callers }
+        requires place { place_of (system_of self.old) (Object.Ecb ecb) < 2 ^ 19 }
+        ensures { IsStep config.now self.old self.new caller (Object.Ecb ecb) (Op.Ecb op) result }
+    {
+        if !config.has_ecb(ecb) || !admits_ecb(config, caller, ecb, op) {
+            return None;
+        }
+        let old = self.ecbs[ecb as usize];
+        let (word, reply) = ecb_apply(op, old.word);
+        self.ecbs[ecb as usize] = EcbCell {
+            place: old.place + 1,
+            word,
+        };
+        Some((old.place, Reply::Ecb(reply)))
+    }
+
+    fn advance_element(
+        &mut self,
+        config: &ValidConfig,
+        caller: u32,
+        element: u32,
+        op: ElementOp,
+    ) -> Option<(u32, Reply)>
+        requires opened { IsOpenedWith config.now self.old }
+        requires caller { caller < config.now.callers }
+        requires place { place_of (system_of self.old) (Object.Element element) < 2 ^ 19 }
+        ensures { IsStep config.now self.old self.new caller (Object.Element element) (Op.Element op) result }
+    {
+        if !config.has_element(element) || !admits_element(config, caller, element, op) {
+            return None;
+        }
+        let old = self.elements[element as usize];
+        let (state, reply) = element_apply(op, old.state);
+        self.elements[element as usize] = ElementCell {
+            place: old.place + 1,
+            state,
+        };
+        Some((old.place, Reply::Element(reply)))
+    }
+
+    fn advance_volume(
+        &mut self,
+        config: &ValidConfig,
+        caller: u32,
+        volume: u32,
+        op: VolumeOp,
+    ) -> Option<(u32, Reply)>
+        requires opened { IsOpenedWith config.now self.old }
+        requires caller { caller < config.now.callers }
+        requires place { place_of (system_of self.old) (Object.Volume volume) < 2 ^ 19 }
+        ensures { IsStep config.now self.old self.new caller (Object.Volume volume) (Op.Volume op) result }
+    {
+        if !config.has_volume(volume) {
+            return None;
+        }
+        let old = self.volumes[volume as usize];
+        let (number, reply) = volume_apply(op, old.number);
+        self.volumes[volume as usize] = VolumeCell {
+            place: old.place + 1,
+            number,
+        };
+        Some((old.place, Reply::Volume(reply)))
+    }
+
+    fn advance_latches(
+        &mut self,
+        config: &ValidConfig,
+        caller: u32,
+        op: LatchOp,
+    ) -> Option<(u32, Reply)>
+        requires opened { IsOpenedWith config.now self.old }
+        requires caller { caller < config.now.callers }
+        requires place { place_of (system_of self.old) Object.Latches < 2 ^ 19 }
+        ensures { IsStep config.now self.old self.new caller Object.Latches (Op.Latch op) result }
+    {
+        if !posts_own_ecb(config, caller, op) {
+            return None;
+        }
+        let place = self.latch_place;
+        let reply = self.latches.apply(caller, place, op, &mut self.wakes)?;
+        self.latch_place = place + 1;
+        Some((place, Reply::Latch(reply)))
+    }
+}
+
+// Whether a caller may make this operation on an event control block that is there.
+fn admits_ecb(config: &ValidConfig, caller: u32, ecb: u32, op: EcbOp) -> bool
+    requires { ecb < length config.now.owners }
+    ensures { result ≡ ecb_admitted config.now caller ecb op }
+{
+    match op {
+        EcbOp::Test => true,
+        EcbOp::Post(code) => code < 1 << 30,
+        EcbOp::Extend(exit) => {
+            config.owns_ecb(caller, ecb) && exit < 1 << 30 && config.is_exit_of(exit, ecb)
+        }
+        _ => config.owns_ecb(caller, ecb),
+    }
+}
+
+// Whether a caller may make this operation on an element.
+fn admits_element(config: &ValidConfig, caller: u32, element: u32, op: ElementOp) -> bool
+    ensures { result ≡ element_admitted config.now caller element op }
+{
+    match op {
+        ElementOp::Test => true,
+        ElementOp::Release(_, code) => code < 1 << 24,
+        _ => config.owns_element(caller, element),
+    }
+}
+
+// Whether the block that an obtain of the Posted form names is the caller's.
+fn posts_own_ecb(config: &ValidConfig, caller: u32, op: LatchOp) -> bool
+    ensures { result ≡ posts_own_ecb_of config.now caller op }
+{
+    match op {
+        LatchOp::Obtain {
+            form: LatchForm::Posted(ecb),
+            ..
+        } => config.has_ecb(ecb) && config.owns_ecb(caller, ecb),
+        _ => true,
+    }
+}
+
+fn volume_apply(op: VolumeOp, number: u32) -> (u32, VolumeReply)
+    ensures { result ≡ volume_step op number }
+{
+    match op {
+        VolumeOp::Read => (number, VolumeReply::Value(number)),
+        VolumeOp::Write(next) => (next, VolumeReply::Stored),
+    }
+}

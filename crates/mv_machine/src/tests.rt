@@ -1,0 +1,388 @@
+ghost use Rattle.std.specs.Prelude.{◌≤◌, IsTrue, All};
+ghost use Rattle.mv_machine.specs.State.{IsOpenedWith};
+
+use super::*;
+use mv_ecb::{EcbOp, EcbReply};
+use mv_element::{ElementOp, ElementReply, ElementState};
+use mv_latch::{LatchForm, LatchOp, LatchReply, Mode};
+use std::alloc::{AllocError, Global};
+use std::process::Abort;
+use std::test::Fail;
+
+// Two callers, three blocks of callers 0, 0 and 1, and an exit from block 0 to block 1.
+fn two_callers(alloc: Global) -> Result<Config, AllocError> {
+    Ok(Config {
+        callers: 2,
+        elements_per_caller: 1,
+        volumes: 1,
+        latches: 1,
+        quota: 2,
+        posted_quota: 1,
+        budgets: vec![in alloc; 3, 3]?,
+        owners: vec![in alloc; 0, 0, 1]?,
+        exits: vec![in alloc; exit(alloc, 0, &[1])?]?,
+    })
+}
+
+fn exit(alloc: Global, source: u32, targets: &[u32]) -> Result<Exit, AllocError> {
+    Ok(Exit {
+        source,
+        targets: Vec::from_slice(alloc, targets)?,
+    })
+}
+
+fn step(
+    rt: &impl Abort,
+    state: &mut State,
+    config: &ValidConfig,
+    caller: u32,
+    object: Object,
+    op: Op,
+) -> Option<(u32, Reply)>
+    requires { IsOpenedWith config.now state.old }
+    ensures { IsOpenedWith config.now state.new }
+{
+    assert!(rt; state.has(object));
+    assert!(rt; state.place(object) <= 524_286);
+    state.step(config, caller, object, op)
+}
+
+#[test]
+fn a_block_is_armed_by_its_owner_alone(rt: HostRuntime) -> Result<(), Fail> {
+    let config = two_callers(rt.alloc())?.check(rt.alloc())?;
+    let mut state = State::opening(rt.alloc(), &config)?;
+    let block = Object::Ecb(0);
+    let arm = Op::Ecb(EcbOp::Arm);
+    assert_eq!(rt; step(&rt, &mut state, &config, 1, block, arm), None);
+    assert!(rt; state.has(block));
+    assert_eq!(rt; state.place(block), 0);
+    let posted = (0, Reply::Ecb(EcbReply::Posted));
+    let post = Op::Ecb(EcbOp::Post(5));
+    assert_eq!(rt;
+        step(&rt, &mut state, &config, 1, block, post),
+        Some(posted)
+    );
+    let late = (1, Reply::Ecb(EcbReply::Complete(5)));
+    assert_eq!(rt; step(&rt, &mut state, &config, 0, block, arm), Some(late));
+    Ok(())
+}
+
+fn are_low(entries: &[Entry]) -> bool
+    ensures { IsTrue result → All (λ e. e.place ≤ 524286) entries.now }
+{
+    entries.iter().all(|e| e.place <= 524_286)
+}
+
+fn entry(caller: u32, object: Object, place: u32, op: Op, reply: Reply) -> Entry {
+    Entry {
+        caller,
+        object,
+        place,
+        op,
+        reply,
+    }
+}
+
+fn on_block(caller: u32, place: u32, op: EcbOp, reply: EcbReply) -> Entry {
+    entry(
+        caller,
+        Object::Ecb(0),
+        place,
+        Op::Ecb(op),
+        Reply::Ecb(reply),
+    )
+}
+
+fn on_element(caller: u32, place: u32, op: ElementOp, reply: ElementReply) -> Entry {
+    entry(
+        caller,
+        Object::Element(1),
+        place,
+        Op::Element(op),
+        Reply::Element(reply),
+    )
+}
+
+fn on_volume(caller: u32, place: u32, op: VolumeOp, reply: VolumeReply) -> Entry {
+    entry(
+        caller,
+        Object::Volume(0),
+        place,
+        Op::Volume(op),
+        Reply::Volume(reply),
+    )
+}
+
+fn on_latches(caller: u32, place: u32, op: LatchOp, reply: LatchReply) -> Entry {
+    entry(
+        caller,
+        Object::Latches,
+        place,
+        Op::Latch(op),
+        Reply::Latch(reply),
+    )
+}
+
+fn obtain(form: LatchForm) -> LatchOp {
+    LatchOp::Obtain {
+        latch: 0,
+        requestor: 9,
+        mode: Mode::Exclusive,
+        form,
+    }
+}
+
+// A legal list with entries of each kind of object.
+fn journal(alloc: Global) -> Result<Vec<Entry>, AllocError> {
+    let release = LatchOp::Release {
+        latch: 0,
+        id: 0,
+        conditional: false,
+    };
+    let given = ElementReply::Given { code: 7, next: 1 };
+    Ok(vec![in alloc;
+        on_block(0, 0, EcbOp::Extend(1), EcbReply::Armed),
+        on_block(1, 1, EcbOp::Post(5), EcbReply::Woke(1)),
+        on_element(1, 0, ElementOp::Open, ElementReply::Opened(0)),
+        on_element(1, 1, ElementOp::Pause(0), ElementReply::Parked),
+        on_element(0, 2, ElementOp::Release(0, 7), ElementReply::Woke),
+        on_element(1, 3, ElementOp::Resume(0), given),
+        on_volume(1, 0, VolumeOp::Write(3), VolumeReply::Stored),
+        on_volume(1, 1, VolumeOp::Read, VolumeReply::Value(3)),
+        on_latches(0, 0, obtain(LatchForm::Waiting), LatchReply::Granted(0)),
+        on_latches(1, 1, obtain(LatchForm::Posted(2)), LatchReply::Queued(1)),
+        on_latches(0, 2, release, LatchReply::Released { granted: 1 }),
+    ]?)
+}
+
+// The first entry that replay refuses, if it does.
+fn first_illegal(alloc: Global, config: &ValidConfig, entries: &[Entry]) -> Option<Illegal> {
+    if !are_low(entries) {
+        return None;
+    }
+    match replay(alloc, config, entries) {
+        Err(ReplayRefusal::Illegal(illegal)) => Some(illegal),
+        _ => None,
+    }
+}
+
+#[test]
+fn a_legal_list_is_replayed(rt: HostRuntime) -> Result<(), Fail> {
+    let config = two_callers(rt.alloc())?.check(rt.alloc())?;
+    let entries = journal(rt.alloc())?;
+    assert!(rt; are_low(&entries));
+    let state = replay(rt.alloc(), &config, &entries)?;
+    assert!(rt; state.has(Object::Ecb(0)));
+    assert_eq!(rt; state.ecb(0).word(), 1_073_741_829);
+    assert!(rt; state.has(Object::Element(1)));
+    assert_eq!(rt; state.element(1), ElementState::reset(1));
+    assert_eq!(rt; state.wakes().len(), 1);
+    Ok(())
+}
+
+// Makes one entry false: its place, its reply or its caller. What replay is to say of it.
+fn falsify(entries: &mut [Entry], index: usize, kind: u32) -> Option<Illegal> {
+    if index >= entries.len() {
+        return None;
+    }
+    let right = entries[index];
+    let mut wrong = right;
+    let mut machine = Some((right.place, right.reply));
+    match kind {
+        0 => wrong.place = right.place.saturating_add(1),
+        1 => wrong.reply = Reply::Element(ElementReply::Spent(77)),
+        _ => {
+            wrong.caller = 2;
+            machine = None;
+        }
+    }
+    entries[index] = wrong;
+    Some(Illegal {
+        index,
+        kept: (wrong.place, wrong.reply),
+        machine,
+    })
+}
+
+#[test]
+fn one_false_entry_is_found(rt: HostRuntime) -> Result<(), Fail> {
+    let config = two_callers(rt.alloc())?.check(rt.alloc())?;
+    for index in 0..11 {
+        for kind in 0..3 {
+            let mut entries = journal(rt.alloc())?;
+            let illegal = falsify(&mut entries, index, kind);
+            assert!(rt; illegal.is_some());
+            assert_eq!(rt; first_illegal(rt.alloc(), &config, &entries), illegal);
+        }
+    }
+    Ok(())
+}
+
+fn reads(alloc: Global, count: u32) -> Result<Vec<Entry>, AllocError> {
+    let mut entries = Vec::new(alloc);
+    for place in 0..count {
+        entries.push(on_volume(0, place, VolumeOp::Read, VolumeReply::Value(0)))?;
+    }
+    Ok(entries)
+}
+
+// An object that has had all its events has a place that nothing written can have.
+#[test]
+fn a_full_object_takes_no_entry_more(rt: HostRuntime) -> Result<(), Fail> {
+    let config = two_callers(rt.alloc())?.check(rt.alloc())?;
+    let mut entries = reads(rt.alloc(), 524_287)?;
+    assert_eq!(rt; first_illegal(rt.alloc(), &config, &entries), None);
+    entries.push(on_volume(0, 524_286, VolumeOp::Read, VolumeReply::Value(0)))?;
+    let zero = Reply::Volume(VolumeReply::Value(0));
+    let illegal = Illegal {
+        index: 524_287,
+        kept: (524_286, zero),
+        machine: Some((524_287, zero)),
+    };
+    assert_eq!(rt; first_illegal(rt.alloc(), &config, &entries), Some(illegal));
+    Ok(())
+}
+
+fn refusal(alloc: Global, config: Config) -> Option<CheckRefusal> {
+    config.check(alloc).err()
+}
+
+fn with_numbers(alloc: Global, numbers: [u32; 6]) -> Result<Config, AllocError> {
+    let mut config = two_callers(alloc)?;
+    config.callers = numbers[0];
+    config.elements_per_caller = numbers[1];
+    config.volumes = numbers[2];
+    config.latches = numbers[3];
+    config.quota = numbers[4];
+    config.posted_quota = numbers[5];
+    Ok(config)
+}
+
+// Each limit of a number at its edges, and the first of two.
+#[test]
+fn numbers_have_limits(rt: HostRuntime) -> Result<(), Fail> {
+    use ConfigLimit::{Budgets, Callers, Elements, Latches, Posted, Quota, Volumes};
+    for (numbers, limit) in [
+        ([0, 1, 1, 1, 1, 0], Some(Callers)),
+        ([17, 1, 1, 1, 1, 0], Some(Callers)),
+        ([2, 0, 1, 1, 1, 0], Some(Elements)),
+        ([2, 17, 0, 1, 1, 0], Some(Elements)),
+        ([2, 16, 0, 1, 1, 0], Some(Volumes)),
+        ([2, 16, 9, 1, 1, 0], Some(Volumes)),
+        ([2, 16, 8, 0, 1, 0], Some(Latches)),
+        ([2, 16, 8, 9, 1, 0], Some(Latches)),
+        ([2, 16, 8, 8, 0, 0], Some(Quota)),
+        ([2, 16, 8, 8, 17, 0], Some(Quota)),
+        ([2, 16, 8, 8, 16, 17], Some(Posted)),
+        ([1, 1, 1, 1, 1, 1], Some(Budgets)),
+        ([2, 16, 8, 8, 16, 16], None),
+        ([2, 1, 1, 1, 1, 0], None),
+    ] {
+        let config = with_numbers(rt.alloc(), numbers)?;
+        let answer = refusal(rt.alloc(), config);
+        assert_eq!(rt; answer, limit.map(CheckRefusal::Limit), "{numbers:?}");
+    }
+    Ok(())
+}
+
+fn with_second_exit(alloc: Global, source: u32, target: u32) -> Result<Config, AllocError> {
+    let mut config = two_callers(alloc)?;
+    config.exits.push(exit(alloc, source, &[target])?)?;
+    Ok(config)
+}
+
+#[test]
+fn exits_lead_up(rt: HostRuntime) -> Result<(), Fail> {
+    for (source, target, bad) in [
+        (3, 3, Some(2)),
+        (1, 1, Some(2)),
+        (1, 0, Some(2)),
+        (1, 3, Some(2)),
+        (1, 2, None),
+    ] {
+        let config = with_second_exit(rt.alloc(), source, target)?;
+        let answer = refusal(rt.alloc(), config);
+        assert_eq!(rt;
+            answer,
+            bad.map(CheckRefusal::BadExit),
+            "from {source} to {target}"
+        );
+    }
+    Ok(())
+}
+
+#[test]
+fn owners_are_callers(rt: HostRuntime) -> Result<(), Fail> {
+    let mut config = two_callers(rt.alloc())?;
+    config.owners = vec![in rt.alloc(); 0, 2, 3]?;
+    assert_eq!(rt;
+        refusal(rt.alloc(), config),
+        Some(CheckRefusal::BadOwner(1))
+    );
+    Ok(())
+}
+
+#[test]
+fn budgets_have_a_limit(rt: HostRuntime) -> Result<(), Fail> {
+    let mut config = two_callers(rt.alloc())?;
+    config.budgets = vec![in rt.alloc(); 524_287, 1]?;
+    assert_eq!(rt;
+        refusal(rt.alloc(), config),
+        Some(CheckRefusal::Budget(524_288))
+    );
+    Ok(())
+}
+
+// A chain of two exits, and two exits of block 3, one of which names its target twice.
+fn with_chain(alloc: Global) -> Result<Config, AllocError> {
+    let mut config = two_callers(alloc)?;
+    config.owners = vec![in alloc; 0; 6]?;
+    config.exits.push(exit(alloc, 3, &[4, 4])?)?;
+    config.exits.push(exit(alloc, 1, &[2])?)?;
+    config.exits.push(exit(alloc, 3, &[5])?)?;
+    Ok(config)
+}
+
+#[test]
+fn reaches_follow_the_exits(rt: HostRuntime) -> Result<(), Fail> {
+    let config = with_chain(rt.alloc())?.check(rt.alloc())?;
+    for (ecb, reach) in [(0, 3), (1, 2), (2, 1), (3, 3), (4, 1), (5, 1)] {
+        assert!(rt; (ecb as usize) < config.config().owners.len());
+        assert_eq!(rt; config.reach(ecb), reach, "block {ecb}");
+    }
+    assert_eq!(rt; config.release_cost(), 7);
+    Ok(())
+}
+
+#[test]
+fn a_release_without_blocks_costs_one_event(rt: HostRuntime) -> Result<(), Fail> {
+    let mut config = two_callers(rt.alloc())?;
+    config.owners = Vec::new(rt.alloc());
+    config.exits = Vec::new(rt.alloc());
+    let config = config.check(rt.alloc())?;
+    assert_eq!(rt; config.release_cost(), 1);
+    Ok(())
+}
+
+// Each block posts the next one eight times: from 8^7 posts on the number is cut.
+fn with_many_posts(alloc: Global) -> Result<Config, AllocError> {
+    let mut config = two_callers(alloc)?;
+    config.owners = vec![in alloc; 0; 8]?;
+    config.exits = Vec::new(alloc);
+    for block in 0..7 {
+        let next = [block + 1; 8];
+        config.exits.push(exit(alloc, block, &next)?)?;
+    }
+    Ok(config)
+}
+
+#[test]
+fn a_reach_is_cut(rt: HostRuntime) -> Result<(), Fail> {
+    let config = with_many_posts(rt.alloc())?.check(rt.alloc())?;
+    for (ecb, reach) in [(0, 524_288), (1, 299_593), (6, 9), (7, 1)] {
+        assert!(rt; (ecb as usize) < config.config().owners.len());
+        assert_eq!(rt; config.reach(ecb), reach, "block {ecb}");
+    }
+    assert_eq!(rt; config.release_cost(), 524_288);
+    Ok(())
+}

@@ -1,0 +1,156 @@
+ghost use Rattle.std.specs.Prelude.{◌≡◌, ◌<◌, ◌≤◌, ◌==◌, nat_lt, length, IfOk};
+ghost use Rattle.mv_latch.specs.LatchSet.{opened};
+ghost use Rattle.mv_machine.specs.Reach.{reach, release_cost};
+ghost use Rattle.mv_machine.specs.Setup.{Setup, is_exit_of, owner_of, element_owner, element_count};
+
+use crate::config::Config;
+use crate::reaching::{reaches_of, release_cost_of};
+use mv_io::NoMemory;
+use mv_latch::LatchSet;
+use std::alloc::Global;
+use std::marker::Model;
+
+/// A configuration that was checked.
+#[derive(Drop)]
+pub struct ValidConfig {
+    config: Config,
+    // For each event control block.
+    reaches: Vec<u32>,
+    release_cost: u32,
+}
+
+impl Model for ValidConfig {
+    ghost use Rattle.mv_machine.specs.Setup.{Setup};
+    ghost use Rattle.mv_machine.specs.Config.{setup_of};
+    ghost use Rattle.mv_machine.specs.Valid.{IsChecked};
+
+    ghost Value = { Setup };
+
+    ghost view = { λ a. setup_of a.config };
+
+    ghost invariant = { λ a. IsChecked (setup_of a.config) a.reaches.items a.release_cost };
+}
+
+impl ValidConfig {
+    ghost use Rattle.mv_machine.specs.Config.{setup_of};
+    ghost use Rattle.mv_machine.specs.Check.{IsValid};
+
+    // The configuration was checked: its reaches are computed once.
+    pub(crate) fn of(alloc: Global, config: Config) -> Result<ValidConfig, NoMemory>
+        requires { IsValid (setup_of config) }
+        ensures { IfOk result (λ v. v ≡ setup_of config) }
+    {
+        let reaches = reaches_of(alloc, &config)?;
+        let release_cost = release_cost_of(&config, &reaches);
+        Ok(ValidConfig {
+            config,
+            reaches,
+            release_cost,
+        })
+    }
+
+    /// The configuration as it was given.
+    pub fn config(&self) -> &Config
+        ensures given { setup_of result.now ≡ self.now }
+        ensures valid { IsValid self.now }
+    {
+        &self.config
+    }
+
+    /// At most how many posts one post of an event control block leads to, itself among them: 1 to 524,288, where
+    /// 524,288 also stands for all above. It takes the one exit that leads to most.
+    pub fn reach(&self, ecb: u32) -> u32
+        requires { ecb < length self.now.owners }
+        ensures { result ≡ reach self.now ecb }
+    {
+        self.reaches[ecb as usize]
+    }
+
+    /// At most how many events one release of a latch makes, with the posts of the requests that it grants: 1 to
+    /// 524,288, where 524,288 also stands for all above.
+    pub fn release_cost(&self) -> u32
+        ensures { result ≡ release_cost self.now }
+    {
+        self.release_cost
+    }
+
+    // Whether there is this caller.
+    pub(crate) fn has_caller(&self, caller: u32) -> bool
+        ensures { result ≡ nat_lt caller self.now.callers }
+    {
+        caller < self.config.callers
+    }
+
+    // Whether there is this event control block.
+    pub(crate) fn has_ecb(&self, ecb: u32) -> bool
+        ensures { result ≡ nat_lt ecb (length self.now.owners) }
+    {
+        (ecb as usize) < self.config.owners.len()
+    }
+
+    // How many elements there are.
+    pub(crate) fn elements(&self) -> u32
+        ensures { result ≡ element_count self.now }
+    {
+        self.config.callers * self.config.elements_per_caller
+    }
+
+    // Whether there is this element.
+    pub(crate) fn has_element(&self, element: u32) -> bool
+        ensures { result ≡ nat_lt element (element_count self.now) }
+    {
+        element < self.elements()
+    }
+
+    // Whether there is this volume.
+    pub(crate) fn has_volume(&self, volume: u32) -> bool
+        ensures { result ≡ nat_lt volume self.now.volumes }
+    {
+        volume < self.config.volumes
+    }
+
+    // Whether an event control block is this caller's.
+    pub(crate) fn owns_ecb(&self, caller: u32, ecb: u32) -> bool
+        requires { ecb < length self.now.owners }
+        ensures { result ≡ (owner_of self.now ecb == caller) }
+    {
+        self.config.owners[ecb as usize] == caller
+    }
+
+    // Whether an element is this caller's.
+    pub(crate) fn owns_element(&self, caller: u32, element: u32) -> bool
+        ensures { result ≡ (element_owner self.now element == caller) }
+    {
+        element / self.config.elements_per_caller == caller
+    }
+
+    // Whether there is an exit of this number, and it starts from this block.
+    pub(crate) fn is_exit_of(&self, exit: u32, ecb: u32) -> bool
+        ensures { result ≡ is_exit_of self.now exit ecb }
+    {
+        if exit == 0 {
+            return false;
+        }
+        match self.config.exits.get(exit as usize - 1) {
+            Some(found) => found.source == ecb,
+            None => false,
+        }
+    }
+
+    // A latch set with this configuration's latches and quotas.
+    pub(crate) fn open_latches(&self, alloc: Global) -> Result<LatchSet, NoMemory>
+        ensures { IfOk result (λ s. s ≡ opened self.now.latches self.now.callers self.now.quota self.now.posted_quota) }
+    {
+        let given = &self.config;
+        match LatchSet::new(
+            alloc,
+            given.latches,
+            given.callers,
+            given.quota,
+            given.posted_quota,
+        ) {
+            Ok(latches) => Ok(latches),
+            Err(_) => Err(NoMemory),
+        }
+    }
+}
