@@ -1,27 +1,20 @@
--- The ends that a deck's text can state are end codes, and there are not too many of them.
-use Rattle.std.proofs.Common.{◌≡◌, ℕ, suc, ◌+◌, ◌-◌, ◌*◌, ◌^◌, ◌<◌, ◌≤◌, Bool, true, false, cond, eqb, ◌&&◌, List, [], ◌∷◌, ◌++◌, length, map, Option, Some, None, refl, sym, ap, ◌∙◌, arith, inl, inr, ◌⊎◌}
+-- The ends that a deck's text can state are end codes, and so codes of a POST.
+use Rattle.std.proofs.Common.{◌≡◌, ℕ, ◌^◌, ◌<◌, Bool, true, false, cond, eqb, List, [], ◌∷◌, Option, Some, None, refl, arith, inl, inr}
 use Rattle.std.specs.Prelude.{unwrap_or, option_map, IfSome, All}
-use Rattle.std.specs.List.{AllByRecursion, list_all, onto_first, cons_option}
-use Rattle.std.proofs.lemmas.Grind.{common_steps}
-use Rattle.std.proofs.lemmas.List.{length-map}
+use Rattle.std.specs.List.{AllByRecursion, list_all}
+use Rattle.std.proofs.lemmas.Bool.{and_parts}
 use Rattle.std.proofs.lemmas.List.Elements.{All-from_recursion}
-use Rattle.mv_deck.specs.declared.deck.Step.{Step}
-use Rattle.mv_deck.specs.declared.deck.Step.TheVariants.{Print, Abend}
-use Rattle.mv_deck.specs.Statement.{Statement, statement_of, statements_of, Null, JobOf, PrintOf, AbendOf, end_code_of, user_code_of, system_code_of, abended, is_hex, hex_value}
+use Rattle.mv_deck.specs.Statement.{Statement, statements_of, Null, JobOf, PrintOf, AbendOf, end_code_of, user_code_of, system_code_of, abended, is_hex, hex_value}
 use Rattle.mv_deck.specs.Line.{lines_of}
-use Rattle.mv_deck.specs.Deck.{JobData, steps_of, jobs_of, deck_of}
+use Rattle.mv_deck.specs.Deck.{steps_of, jobs_of, deck_of}
 use Rattle.mv_report.specs.EndCode.{IsEndCode}
-use Rattle.mv_report.specs.Outcome.{first_abend, end_of, ends}
+use Rattle.mv_report.specs.Outcome.{first_abend, ends}
 
 hex_small : (b : ℕ) → is_hex b ≡ true → hex_value b < 16
 hex_small b h = grind arith
 
 all_hex : (a b c : ℕ) → list_all is_hex (a ∷ b ∷ c ∷ []) ≡ true → (is_hex a ≡ true) × (is_hex b ≡ true) × (is_hex c ≡ true)
 all_hex a b c h = grind arith
-
-and_left : (a b : Bool) → (a && b) ≡ true → a ≡ true
-and_left true b h = refl
-and_left false b h = absurd cc
 
 chosen : (t : Bool) (n limit : ℕ) → (t ≡ true → n < limit) → IfSome (cond t (Some n) None) (λ k. k < limit)
 chosen true n limit h = h refl
@@ -37,7 +30,7 @@ user_fits (a ∷ b ∷ c ∷ d ∷ e ∷ more) = tt
 
 system_fits : (digits : List ℕ) → IfSome (system_code_of digits) (λ n. n < 4096)
 system_fits (a ∷ b ∷ c ∷ []) =
-    chosen _ _ 4096 (λ h. let w = all_hex a b c (and_left _ _ h) in omega (arith, hex_small a w.0, hex_small b w.1, hex_small c w.2))
+    chosen _ _ 4096 (λ h. let w = all_hex a b c ((and_parts _ _ h).0) in omega (arith, hex_small a w.0, hex_small b w.1, hex_small c w.2))
 system_fits [] = tt
 system_fits (a ∷ []) = tt
 system_fits (a ∷ b ∷ []) = tt
@@ -92,35 +85,3 @@ are_end_codes bytes = All-from_recursion IsEndCode (ends (deck_of bytes)) (ends_
 
 pub are_codes : (bytes : List ℕ) → All (λ n. n < 2 ^ 30) (ends (deck_of bytes))
 are_codes bytes = All-from_recursion (λ n. n < 2 ^ 30) (ends (deck_of bytes)) (below_all _ (ends_fit (statements_of (lines_of bytes))))
-
--- ---- a text has at most as many jobs as bytes
-
-few_onto : (b : ℕ) (lines : List (List ℕ)) → length (onto_first b lines) ≤ suc (length lines)
-few_onto b [] = omega arith
-few_onto b (line ∷ lines) = omega arith
-
-few_either : (t : Bool) (b : ℕ) (lines : List (List ℕ)) → length (cond t ([] ∷ lines) (onto_first b lines)) ≤ suc (length lines)
-few_either true b lines = omega arith
-few_either false b lines = few_onto b lines
-
-few_lines : (bytes : List ℕ) → length (lines_of bytes) ≤ length bytes
-few_lines [] = omega arith
-few_lines (b ∷ bs) = omega (arith, few_either (eqb b 10) b (lines_of bs), few_lines bs)
-
-few_optional : (o : Option Statement) (sts : List Statement) → length (cons_option o sts) ≤ suc (length sts)
-few_optional None sts = omega arith
-few_optional (Some s) sts = omega arith
-
-few_statements : (lines : List (List ℕ)) → length (statements_of lines) ≤ length lines
-few_statements [] = omega arith
-few_statements (line ∷ lines) = omega (arith, few_optional (statement_of line) (statements_of lines), few_statements lines)
-
-few_jobs : (sts : List Statement) → length (jobs_of sts) ≤ length sts
-few_jobs [] = omega arith
-few_jobs (Null ∷ sts) = omega (arith, few_jobs sts)
-few_jobs (JobOf name ∷ sts) = omega (arith, few_jobs sts)
-few_jobs (PrintOf text ∷ sts) = omega (arith, few_jobs sts)
-few_jobs (AbendOf code ∷ sts) = omega (arith, few_jobs sts)
-
-pub few_ends : (bytes : List ℕ) → length (ends (deck_of bytes)) ≤ length bytes
-few_ends bytes = omega (arith, length-map (deck_of bytes) end_of, few_jobs (statements_of (lines_of bytes)), few_statements (lines_of bytes), few_lines bytes)

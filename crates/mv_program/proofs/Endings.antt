@@ -1,23 +1,12 @@
--- A run whose source does not fail ends by the first fault of its input, or for want of memory.
-use Rattle.std.proofs.Common.{◌≡◌, ◌≢◌, ℕ, ◌<◌, ◌≤◌, List, length, Option, Some, None, refl, sym, ◌∙◌, arith, inl, inr, ◌⊎◌}
+-- A run of an input that is too long does not end by a fault of the input.
+use Rattle.std.proofs.Common.{◌≡◌, ℕ, ◌+◌, ◌<◌, ◌≤◌, List, length, drop, Option, Some, None, arith}
 use Rattle.std.specs.Prelude.{IfSome}
 use Rattle.mv_deck.specs.declared.fault.DeckFault.{DeckFault}
 use Rattle.mv_deck.specs.Fault.{first_fault}
-use Rattle.mv_program.specs.declared.status.Status.{Status}
-use Rattle.mv_program.specs.declared.status.Status.TheVariants.{Done, Words, Deck, TooLong, ReadFailed, ReportFailed, JournalFailed, NoMemory}
-use Rattle.mv_program.specs.Outcome.{deck_limit, InputOf, EndsAs}
+use Rattle.mv_program.specs.declared.status.Status.TheVariants.{Deck, TooLong}
+use Rattle.mv_program.specs.Outcome.{deck_limit, EndsAs}
 
-ends_faulty : (s : Status) (bytes : List ℕ) (left : Option (List ℕ)) (f : DeckFault) → s ≢ Words → s ≢ ReadFailed → InputOf s (Some bytes) left → length bytes ≤ deck_limit → first_fault bytes ≡ Some f → EndsAs s (Deck f)
-ends_faulty Done bytes left f w r i short e = absurd (cc (i.sound, e))
-ends_faulty Words bytes left f w r i short e = absurd (w refl)
-ends_faulty (Deck g) bytes left f w r i short e = inl (cc (i.first, e))
-ends_faulty TooLong bytes left f w r i short e = absurd (omega (arith, i.long))
-ends_faulty ReadFailed bytes left f w r i short e = absurd (r refl)
-ends_faulty ReportFailed bytes left f w r i short e = absurd (cc (i.sound, e))
-ends_faulty JournalFailed bytes left f w r i short e = absurd (cc (i.sound, e))
-ends_faulty NoMemory bytes left f w r i short e = inr refl
-
--- an input with a fault, told by its source
-pub faulty_ends : (s : Status) (old left : Option (List ℕ)) → s ≢ Words → s ≢ ReadFailed → InputOf s old left → IfSome old (λ bytes. length bytes ≤ deck_limit → (f : DeckFault) → first_fault bytes ≡ Some f → EndsAs s (Deck f))
-faulty_ends s None left w r i = tt
-faulty_ends s (Some bytes) left w r i = λ short f e. ends_faulty s bytes left f w r i short e
+pub long_has_no_fault : (old left : Option (List ℕ)) → IfSome old (λ bytes. (deck_limit < length bytes) × (left ≡ Some (drop (deck_limit + 1) bytes)))
+    → IfSome old (λ bytes. length bytes ≤ deck_limit → (fault : DeckFault) → first_fault bytes ≡ Some fault → EndsAs TooLong (Deck fault))
+long_has_no_fault None left h = tt
+long_has_no_fault (Some bytes) left h = λ short fault e. absurd (omega (arith, h.0))

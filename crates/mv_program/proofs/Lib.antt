@@ -1,3 +1,6 @@
-pub mod Posts
 pub mod EndCodes
+pub mod EightBytes
+pub mod Posts
+pub mod Legal
 pub mod Endings
+pub mod Runs

@@ -9,8 +9,12 @@ use Rattle.mv_io.specs.Sink.{Appends}
 use Rattle.mv_program.specs.declared.status.Status.{Status}
 use Rattle.mv_program.specs.declared.status.Status.TheVariants.{Done, Words, Deck, TooLong, ReadFailed, ReportFailed, JournalFailed, NoMemory}
 use Rattle.mv_program.specs.Status.{line_of}
+use Rattle.mv_machine.specs.declared.entry.Entry.{Entry}
+use Rattle.mv_machine.specs.Setup.{Setup}
+use Rattle.mv_machine.specs.Legal.{Legal}
+use Rattle.mv_entrytext.specs.Journal.{journal_text}
+use Rattle.mv_entrytext.specs.Fault.{journal_of}
 use Rattle.mv_program.specs.Machine.{plain_setup, posts}
-use Rattle.mv_program.specs.Journal.{journal_text}
 
 -- the most bytes of a deck
 abbrev pub deck_limit : ℕ
@@ -20,12 +24,24 @@ deck_limit = 1048576
 abbrev pub report_of : List ℕ → List ℕ
 report_of input = report (deck_of input)
 
--- the journal of its run
-abbrev pub journal_of_ends : List ℕ → List ℕ
-journal_of_ends codes = journal_text (plain_setup (length codes)) (posts codes)
+-- the configuration and the events of its run, and the journal that is their text
+abbrev pub setup_of_run : List ℕ → Setup
+setup_of_run input = plain_setup (length (ends (deck_of input)))
 
-abbrev pub journal_of : List ℕ → List ℕ
-journal_of input = journal_of_ends (ends (deck_of input))
+abbrev pub events_of_run : List ℕ → List Entry
+events_of_run input = posts (ends (deck_of input))
+
+abbrev pub journal_of_run : List ℕ → List ℕ
+journal_of_run input = journal_text (setup_of_run input) (events_of_run input)
+
+-- a text tells one legal history: this configuration and these events are read off it
+pub record TellsHistory (text : List ℕ) (setup : Setup) (events : List Entry) : Type 0 where
+  pub setup_read : (journal_of text).setup ≡ setup
+  pub events_read : (journal_of text).entries ≡ events
+  pub legal : Legal setup events
+
+abbrev pub IsRun : List ℕ → Type 0
+IsRun input = TellsHistory (journal_of_run input) (setup_of_run input) (events_of_run input)
 
 -- an input that is run: read to its end, and without fault
 pub record IsDeck (input : List ℕ) (left : Option (List ℕ)) : Type 0 where
@@ -68,8 +84,8 @@ ReportAfter _ input old new = new ≡ old
 
 -- what the sink of the journal holds
 abbrev pub JournalAfter : Status → Option (List ℕ) → Option (List ℕ) → Option (List ℕ) → Type 0
-JournalAfter Done input old new = IfSome input (λ bytes. Appends old new (journal_of bytes))
-JournalAfter JournalFailed input old new = IfSome input (λ bytes. AppendsFront old new (journal_of bytes))
+JournalAfter Done input old new = IfSome input (λ bytes. Appends old new (journal_of_run bytes) × IsRun bytes)
+JournalAfter JournalFailed input old new = IfSome input (λ bytes. AppendsFront old new (journal_of_run bytes) × IsRun bytes)
 JournalAfter _ input old new = new ≡ old
 
 -- the status's line stands on the notes, or a front of it where that sink failed

@@ -5,7 +5,7 @@
 
 mod command;
 mod gate;
-mod journal;
+mod history;
 mod outcome;
 mod program;
 mod status;

@@ -53,6 +53,9 @@ fn spool<D: Source, R: Sink, K: Sink>(
     ensures journal_failed { result ≡ Status.JournalFailed → Rose (K.faults journal.old) (K.faults journal.new) }
     ensures unwritten { IfUnwritten result ((report.new ≡ report.old) × (journal.new ≡ journal.old)) }
     ensures no_journal { result ≡ Status.ReportFailed → journal.new ≡ journal.old }
+    ensures fault { ¬ Rose (D.faults deck.old) (D.faults deck.new)
+        → IfSome (D.left deck.old) (λ bytes. length bytes ≤ deck_limit
+        → (fault : DeckFault) → first_fault bytes ≡ Some fault → EndsAs result (Status.Deck fault)) }
     ensures counts { (D.faults deck.old ≤ D.faults deck.new) × (R.faults report.old ≤ R.faults report.new)
         × (K.faults journal.old ≤ K.faults journal.new) }
 {

@@ -1,22 +1,31 @@
-use Rattle.std.proofs.Common.{◌≡◌, ℕ, ◌<◌, ◌^◌, List, length, sym, ap, subst, ◌∙◌, arith}
+use Rattle.std.proofs.Common.{◌<◌, ◌≤◌, ◌^◌, List, length, sym, subst}
 use Rattle.std.specs.Prelude.{All}
-use Rattle.mv_deck.specs.Deck.{deck_of}
+use Rattle.mv_deck.specs.Deck.{JobData}
 use Rattle.mv_report.specs.EndCode.{IsEndCode}
 use Rattle.mv_report.specs.Outcome.{ends}
-use Rattle.mv_program.proofs.EndCodes.{are_end_codes, are_codes, few_ends}
+use Rattle.mv_entrytext.specs.EntryText.{IsInRange, IsTyped}
+use Rattle.mv_program.specs.Machine.{posts}
+use Rattle.mv_program.proofs.EndCodes.{are_end_codes, are_codes}
+use Rattle.mv_program.proofs.Runs.{few_jobs, run_in_range, run_is_told}
 use Rattle.mv_program.proofs.texts.texts_of.Goals as goal
 
-pub write_report-requires-clause-end_codes : goal.write_report-requires-clause-end_codes
-write_report-requires-clause-end_codes c =
-    let e : c.deref.result.now ≡ ends (deck_of c.args.input.now) = c.deref.ensures.value ∙ c.in_ok-ends.ensures ∙ ap ends c.in_ok-deck.ensures.deck.1 in
-    subst (λ (es : List ℕ). All IsEndCode es) (sym e) (are_end_codes c.args.input.now)
+pub texts_of_deck-requires-clause-few : goal.texts_of_deck-requires-clause-few
+texts_of_deck-requires-clause-few c =
+    subst (λ (d : List JobData). length (ends d) ≤ 131072) (sym c.in_ok-deck.ensures.deck.1) (few_jobs c.args.input.now c.requires)
 
-pub write_journal-requires-clause-count : goal.write_journal-requires-clause-count
-write_journal-requires-clause-count c =
-    let e : c.deref-3.result.now ≡ ends (deck_of c.args.input.now) = c.deref-3.ensures.value ∙ c.in_ok-ends.ensures ∙ ap ends c.in_ok-deck.ensures.deck.1 in
-    omega (arith, ap length e, few_ends c.args.input.now)
+pub texts_of_deck-requires-clause-codes : goal.texts_of_deck-requires-clause-codes
+texts_of_deck-requires-clause-codes c =
+    subst (λ (d : List JobData). All (λ end. end < 2 ^ 30) (ends d)) (sym c.in_ok-deck.ensures.deck.1) (are_codes c.args.input.now)
 
-pub write_journal-requires-clause-ends : goal.write_journal-requires-clause-ends
-write_journal-requires-clause-ends c =
-    let e : c.deref-3.result.now ≡ ends (deck_of c.args.input.now) = c.deref-3.ensures.value ∙ c.in_ok-ends.ensures ∙ ap ends c.in_ok-deck.ensures.deck.1 in
-    subst (λ (es : List ℕ). All (λ n. n < 2 ^ 30) es) (sym e) (are_codes c.args.input.now)
+pub texts_of_deck-requires-clause-end_codes : goal.texts_of_deck-requires-clause-end_codes
+texts_of_deck-requires-clause-end_codes c =
+    subst (λ (d : List JobData). All IsEndCode (ends d)) (sym c.in_ok-deck.ensures.deck.1) (are_end_codes c.args.input.now)
+
+pub texts_of_deck-requires-clause-in_range : goal.texts_of_deck-requires-clause-in_range
+texts_of_deck-requires-clause-in_range c =
+    subst (λ (d : List JobData). All IsInRange (posts (ends d))) (sym c.in_ok-deck.ensures.deck.1) (run_in_range c.args.input.now)
+
+pub returns-in-Ok-clause-run : goal.returns-in-Ok-clause-run
+returns-in-Ok-clause-run c =
+    run_is_told c.args.input.now c.requires
+    (subst (λ (d : List JobData). All IsTyped (posts (ends d))) c.in_ok-deck.ensures.deck.1 c.in-Ok.ensures.typed)

@@ -1,0 +1,13 @@
+pub mod Numbers
+pub mod Parts
+pub mod OneLine
+pub mod ConfigNumbers
+pub mod Again
+pub mod EntryAgain
+pub mod LinesAgain
+pub mod LegalRanges
+pub mod Taken
+pub mod KindsTaken
+pub mod LinesTaken
+pub mod TextsTaken
+pub mod Rows

@@ -1,0 +1,326 @@
+-- The text of a journal is passed line by line.
+use Rattle.std.proofs.Common.{◌≡◌, ℕ, ◌+◌, ◌≤◌, ◌<◌, true, List, [], ◌∷◌, ◌++◌, length, Some, None, decimal, map, refl, sym, ap, subst, ◌∙◌, arith, append_assoc}
+use Rattle.std.specs.Prelude.{codes}
+use Rattle.std.specs.List.{flat_map, AllByRecursion}
+use Rattle.std.specs.Str.Parse.{AllDigits}
+use Rattle.std.proofs.lemmas.Bool.{eq-eqb, ne_eqb}
+use Rattle.std.proofs.lemmas.Str.Parse.{digit_from_value}
+use Rattle.std.proofs.lemmas.List.{append-nil}
+use Rattle.std.proofs.lemmas.List.Elements.{recursion_from_All}
+use Rattle.std.proofs.lemmas.List.Concat.{flat_map-cons}
+use Rattle.mv_machine.specs.declared.entry.Entry.{Entry}
+use Rattle.mv_machine.specs.Setup.{Setup, SetupExit}
+use Rattle.mv_machine.specs.Check.{IsValid}
+use Rattle.mv_entrytext.specs.Ranges.{highest_u32}
+use Rattle.mv_entrytext.specs.Words.{◌<+>◌}
+use Rattle.mv_entrytext.specs.Reading.{Reader, behind, made, parts_at, parted_by, any_u32}
+use Rattle.mv_entrytext.specs.EntryText.{HasText, entry_read, entry_text, object_text, op_text, reply_text}
+use Rattle.mv_entrytext.specs.Journal.{Line, Version, Callers, Elements, Volumes, Latches, Quota, Budget, Owner, ExitTo, Events, EntryOf, End, line_text, line, counts_text, lists_text, head_text, journal_text}
+use Rattle.mv_entrytext.specs.Lines.{Stage, AtVersion, AtCallers, AtElements, AtVolumes, AtLatches, AtQuota, AtBudgets, AtOwners, AtExits, AtEntries, AtEnd, numbers, exit_from, exit_read, next_line, line_read, Draft, blank, draft_with}
+use Rattle.mv_entrytext.specs.Fault.{kind_said, first_fault, draft_of, HasJournal, text_fault, journal_of}
+use Rattle.mv_entrytext.proofs.Numbers.{numeral_of, u32_again, parted_again}
+use Rattle.mv_entrytext.proofs.Parts.{Lacks-decimal, parts_first, parts_last, first_part}
+use Rattle.mv_entrytext.proofs.OneLine.{is_one_line}
+use Rattle.mv_entrytext.proofs.ConfigNumbers.{AreU32, IsExit, HasNumbers, has_numbers}
+use Rattle.mv_entrytext.proofs.EntryAgain.{entry_again}
+
+-- ---- each line is read again
+
+to_the_end : {A : Type 0} (reader : Reader A) (a : A) (text : List ℕ) → reader (text ++ []) ≡ Some (a, []) → reader text ≡ Some (a, [])
+to_the_end reader a text h = rw (append-nil text) at h
+
+u32_alone : (n : ℕ) → n ≤ highest_u32 → any_u32 true (decimal n) ≡ Some (n, [])
+u32_alone n le = to_the_end (any_u32 true) n (decimal n) (u32_again n [] le refl)
+
+version_read : line_read true AtVersion (line_text Version) ≡ Some Version
+unfolding next_line behind
+version_read = refl
+
+callers_read : (n : ℕ) → n ≤ highest_u32 → line_read true AtCallers (line_text (Callers n)) ≡ Some (Callers n)
+unfolding next_line behind
+callers_read n le = rw (u32_alone n le) refl
+
+elements_read : (n : ℕ) → n ≤ highest_u32 → line_read true AtElements (line_text (Elements n)) ≡ Some (Elements n)
+unfolding next_line behind
+elements_read n le = rw (u32_alone n le) refl
+
+volumes_read : (n : ℕ) → n ≤ highest_u32 → line_read true AtVolumes (line_text (Volumes n)) ≡ Some (Volumes n)
+unfolding next_line behind
+volumes_read n le = rw (u32_alone n le) refl
+
+latches_read : (n : ℕ) → n ≤ highest_u32 → line_read true AtLatches (line_text (Latches n)) ≡ Some (Latches n)
+unfolding next_line behind
+latches_read n le = rw (u32_alone n le) refl
+
+quota_read : (q p : ℕ) → q ≤ highest_u32 → p ≤ highest_u32 → line_read true AtQuota (line_text (Quota q p)) ≡ Some (Quota q p)
+unfolding next_line behind
+quota_read q p lq lp =
+    let both = to_the_end (parted_by (any_u32 true) (λ _. any_u32 true)) (q, p) (decimal q <+> decimal p)
+    (parted_again (any_u32 true) (λ _. any_u32 true) q p (decimal q) (decimal p) [] (u32_again q (32 ∷ (decimal p ++ [])) lq refl) (u32_again p [] lp refl)) in
+    rw both refl
+
+budget_read : (n : ℕ) → n ≤ highest_u32 → line_read true AtBudgets (line_text (Budget n)) ≡ Some (Budget n)
+unfolding next_line behind
+budget_read n le = rw (u32_alone n le) refl
+
+-- where an owner may stand, and where an exit may
+abbrev MayOwn : Stage → Type 0
+MayOwn AtBudgets = Unit {0}
+MayOwn AtOwners = Unit {0}
+MayOwn _ = ⊥
+
+abbrev MayExit : Stage → Type 0
+MayExit AtBudgets = Unit {0}
+MayExit AtOwners = Unit {0}
+MayExit AtExits = Unit {0}
+MayExit _ = ⊥
+
+owner_read : (s : Stage) (n : ℕ) → MayOwn s → n ≤ highest_u32 → line_read true s (line_text (Owner n)) ≡ Some (Owner n)
+unfolding next_line behind
+owner_read AtBudgets n m le = rw (u32_alone n le) refl
+owner_read AtOwners n m le = rw (u32_alone n le) refl
+owner_read s n m le = absurd m
+
+events_read : (s : Stage) → MayExit s → line_read true s (line_text Events) ≡ Some Events
+unfolding next_line behind
+events_read AtBudgets m = refl
+events_read AtOwners m = refl
+events_read AtExits m = refl
+events_read s m = absurd m
+
+end_read : (n : ℕ) → n ≤ highest_u32 → line_read true AtEntries (line_text (End n)) ≡ Some (End n)
+unfolding next_line behind
+end_read n le = rw (u32_alone n le) refl
+
+-- the fields of an exit
+abbrev targets_text : List ℕ → List ℕ
+targets_text ts = flat_map (λ t. codes " " ++ decimal t) ts
+
+fields_again : (n : ℕ) (ts : List ℕ) → parts_at 32 (decimal n ++ targets_text ts) ≡ decimal n ∷ map decimal ts
+fields_again n [] = ap (parts_at 32) (append-nil (decimal n)) ∙ parts_last 32 (decimal n) (Lacks-decimal 32 n (omega arith))
+fields_again n (t ∷ ts) =
+    ap (λ (x : List ℕ). parts_at 32 (decimal n ++ x)) (flat_map-cons (λ t. codes " " ++ decimal t) t ts)
+    ∙ parts_first 32 (decimal n) (decimal t ++ targets_text ts) (Lacks-decimal 32 n (omega arith))
+    ∙ ap (λ (x : List (List ℕ)). decimal n ∷ x) (fields_again t ts)
+
+numbers_again : (ns : List ℕ) → AreU32 ns → numbers true (map decimal ns) ≡ Some ns
+unfolding numbers
+numbers_again [] h = refl
+numbers_again (n ∷ ns) h = rw (u32_alone n h.0, numbers_again ns h.1) refl
+
+exit_again : (x : SetupExit) → IsExit x → exit_read true (decimal x.source ++ targets_text x.targets) ≡ Some (x, [])
+unfolding exit_read
+exit_again x h =
+    let all : AreU32 (x.source ∷ x.targets) = (h.source, h.targets) in
+    rw (fields_again x.source x.targets, numbers_again (x.source ∷ x.targets) all) (go x.targets h.some refl) where
+      go : (ts : List ℕ) → 1 ≤ length ts → x.targets ≡ ts → exit_from (x.source ∷ x.targets) ≡ Some (x, [])
+      go [] some e = absurd (omega arith)
+      go (t ∷ ts) some e = rw e refl
+
+exit_line_read : (s : Stage) (x : SetupExit) → MayExit s → IsExit x → line_read true s (line_text (ExitTo x)) ≡ Some (ExitTo x)
+unfolding next_line behind
+exit_line_read AtBudgets x m h = rw (exit_again x h) refl
+exit_line_read AtOwners x m h = rw (exit_again x h) refl
+exit_line_read AtExits x m h = rw (exit_again x h) refl
+exit_line_read s x m h = absurd m
+
+-- an entry begins with a digit, and so with no word
+first_digit : (ds : List ℕ) → 0 < length ds → AllDigits 10 ds → (c : ℕ) × (cs : List ℕ) × (ds ≡ c ∷ cs) × (c ≤ 57)
+first_digit [] some h = absurd (omega arith)
+first_digit (c ∷ cs) some h = (c, cs, refl, (digit_from_value c h.0).1)
+
+no_end : (reader other : Reader Line) (text : List ℕ) (c : ℕ) (cs : List ℕ) → text ≡ c ∷ cs → c ≤ 57 → behind (codes "END ") reader other text ≡ other text
+unfolding behind
+no_end reader other text c cs e le = rw (e, ne_eqb 69 c (λ q. omega arith)) refl
+
+entry_line_read : (e : Entry) → HasText e → line_read true AtEntries (line_text (EntryOf e)) ≡ Some (EntryOf e)
+unfolding next_line entry_text
+entry_line_read e h =
+    let more = 32 ∷ (object_text e.object <+> decimal e.place <+> op_text e.op <+> codes "=" <+> reply_text e.reply) in
+    let n = numeral_of e.caller (omega (arith, h.1.caller)) in
+    let d = first_digit (decimal e.caller) n.0.0 n.0.1 in
+    let other = no_end (made (λ n. End n) (any_u32 true)) (made (λ e. EntryOf e) (entry_read true)) (decimal e.caller ++ more) d.0 (d.1 ++ more) (ap (λ (x : List ℕ). x ++ more) d.2) d.3 in
+    rw (other, to_the_end (entry_read true) e (decimal e.caller ++ more) (entry_again e h)) refl
+
+-- ---- a line is passed
+
+-- a text is passed up to its rest: the faults and the values are those of the rest
+pub record Goes (d : Draft) (text : List ℕ) (next : Draft) (rest : List ℕ) : Type 0 where
+  pub fault : (number : ℕ) → (later : ℕ) × (first_fault number d (parts_at 10 text) ≡ first_fault later next (parts_at 10 rest))
+  pub draft : draft_of d (parts_at 10 text) ≡ draft_of next (parts_at 10 rest)
+
+goes_on : (a b c : Draft) (x y z : List ℕ) → Goes a x b y → Goes b y c z → Goes a x c z
+goes_on a b c x y z p q = record {
+  fault = λ number. let one = p.fault number in let two = q.fault one.0 in (two.0, one.1 ∙ two.1);
+  draft = p.draft ∙ q.draft;
+}
+
+stays : (d : Draft) (x : List ℕ) → Goes d x d x
+stays d x = record { fault = λ number. (number, refl); draft = refl }
+
+fault_passed : (number : ℕ) (d : Draft) (l : Line) (text more : List ℕ) (lines : List (List ℕ)) → line_read true d.stage text ≡ Some l → kind_said d (Some l) ≡ None
+    → first_fault number d (text ∷ more ∷ lines) ≡ first_fault (number + 1) (draft_with l d) (more ∷ lines)
+unfolding first_fault
+fault_passed number d l text more lines read said = rw (read, said) refl
+
+draft_passed : (d : Draft) (l : Line) (text more : List ℕ) (lines : List (List ℕ)) → line_read true d.stage text ≡ Some l → draft_of d (text ∷ more ∷ lines) ≡ draft_of (draft_with l d) (more ∷ lines)
+unfolding draft_of
+draft_passed d l text more lines read = rw read refl
+
+line_part : (l : Line) (rest : List ℕ) → parts_at 10 (line l ++ rest) ≡ line_text l ∷ parts_at 10 rest
+unfolding line
+line_part l rest = ap (parts_at 10) (append_assoc (line_text l) (10 ∷ []) rest) ∙ parts_first 10 (line_text l) rest (is_one_line l)
+
+one_line : (d : Draft) (l : Line) (rest : List ℕ) → line_read true d.stage (line_text l) ≡ Some l → kind_said d (Some l) ≡ None → Goes d (line l ++ rest) (draft_with l d) rest
+one_line d l rest read said =
+    let p = first_part 10 rest in
+    let shape : parts_at 10 (line l ++ rest) ≡ line_text l ∷ p.0 ∷ p.1 = line_part l rest ∙ ap (λ (x : List (List ℕ)). line_text l ∷ x) p.2 in
+    record {
+      fault = λ number. (number + 1, ap (first_fault number d) shape ∙ fault_passed number d l (line_text l) p.0 p.1 read said ∙ ap (first_fault (number + 1) (draft_with l d)) (sym p.2));
+      draft = ap (draft_of d) shape ∙ draft_passed d l (line_text l) p.0 p.1 read ∙ ap (draft_of (draft_with l d)) (sym p.2);
+    }
+
+-- ---- the lists of the head, and the entries
+
+abbrev draft : Stage → Setup → List Entry → Draft
+draft s c es = record { stage = s; setup = c; entries = es }
+
+text_is : (a b : Draft) (x y z : List ℕ) → x ≡ y → Goes a y b z → Goes a x b z
+text_is a b x y z e g = subst (λ (t : List ℕ). Goes a t b z) (sym e) g
+
+first_of : {A : Type 0} (f : A → List ℕ) (x : A) (xs : List A) (rest : List ℕ) → flat_map f (x ∷ xs) ++ rest ≡ f x ++ (flat_map f xs ++ rest)
+first_of f x xs rest = ap (λ (t : List ℕ). t ++ rest) (flat_map-cons f x xs) ∙ append_assoc (f x) (flat_map f xs) rest
+
+budgets_pass : (ns : List ℕ) (c : Setup) (all rest : List ℕ) → AreU32 ns → all ≡ c.budgets ++ ns → Goes (draft AtBudgets c []) (flat_map (λ n. line (Budget n)) ns ++ rest) (draft AtBudgets (record c { budgets = all }) []) rest
+budgets_pass [] c all rest h e = rw (e, append-nil c.budgets) (stays (draft AtBudgets c []) rest)
+budgets_pass (n ∷ ns) c all rest h e =
+    let f = λ (n : ℕ). line (Budget n) in
+    let next = record c { budgets = c.budgets ++ n ∷ [] } in
+    let one = one_line (draft AtBudgets c []) (Budget n) (flat_map f ns ++ rest) (budget_read n h.0) refl in
+    let later = budgets_pass ns next all rest h.1 (e ∙ sym (append_assoc c.budgets (n ∷ []) ns)) in
+    text_is (draft AtBudgets c []) (draft AtBudgets (record c { budgets = all }) []) _ _ rest (first_of f n ns rest) (goes_on (draft AtBudgets c []) (draft AtBudgets next []) (draft AtBudgets (record c { budgets = all }) []) _ _ _ one later)
+
+own_to_exit : (s : Stage) → MayOwn s → MayExit s
+own_to_exit AtBudgets m = tt
+own_to_exit AtOwners m = tt
+own_to_exit s m = absurd m
+
+-- behind the owners, and behind the exits, the line that comes next may be an exit
+owners_pass : (ns : List ℕ) (s : Stage) (c : Setup) (all rest : List ℕ) → MayOwn s → AreU32 ns → all ≡ c.owners ++ ns
+    → (t : Stage) × MayExit t × Goes (draft s c []) (flat_map (λ n. line (Owner n)) ns ++ rest) (draft t (record c { owners = all }) []) rest
+owners_pass [] s c all rest m h e = (s, own_to_exit s m, rw (e, append-nil c.owners) (stays (draft s c []) rest))
+owners_pass (n ∷ ns) s c all rest m h e =
+    let f = λ (n : ℕ). line (Owner n) in
+    let next = record c { owners = c.owners ++ n ∷ [] } in
+    let one = one_line (draft s c []) (Owner n) (flat_map f ns ++ rest) (owner_read s n m h.0) refl in
+    let later = owners_pass ns AtOwners next all rest tt h.1 (e ∙ sym (append_assoc c.owners (n ∷ []) ns)) in
+    let last = draft later.0 (record c { owners = all }) [] in
+    (later.0, later.1, text_is (draft s c []) last _ _ rest (first_of f n ns rest) (goes_on (draft s c []) (draft AtOwners next []) last _ _ _ one later.2))
+
+exits_pass : (xs : List SetupExit) (s : Stage) (c : Setup) (all : List SetupExit) (rest : List ℕ) → MayExit s → AllByRecursion IsExit xs → all ≡ c.exits ++ xs
+    → (t : Stage) × MayExit t × Goes (draft s c []) (flat_map (λ x. line (ExitTo x)) xs ++ rest) (draft t (record c { exits = all }) []) rest
+exits_pass [] s c all rest m h e = (s, m, rw (e, append-nil c.exits) (stays (draft s c []) rest))
+exits_pass (x ∷ xs) s c all rest m h e =
+    let f = λ (x : SetupExit). line (ExitTo x) in
+    let next = record c { exits = c.exits ++ x ∷ [] } in
+    let one = one_line (draft s c []) (ExitTo x) (flat_map f xs ++ rest) (exit_line_read s x m h.0) refl in
+    let later = exits_pass xs AtExits next all rest tt h.1 (e ∙ sym (append_assoc c.exits (x ∷ []) xs)) in
+    let last = draft later.0 (record c { exits = all }) [] in
+    (later.0, later.1, text_is (draft s c []) last _ _ rest (first_of f x xs rest) (goes_on (draft s c []) (draft AtExits next []) last _ _ _ one later.2))
+
+entries_pass : (es : List Entry) (c : Setup) (before all : List Entry) (rest : List ℕ) → AllByRecursion HasText es → all ≡ before ++ es
+    → Goes (draft AtEntries c before) (flat_map (λ e. line (EntryOf e)) es ++ rest) (draft AtEntries c all) rest
+entries_pass [] c before all rest h e = rw (e, append-nil before) (stays (draft AtEntries c before) rest)
+entries_pass (x ∷ es) c before all rest h e =
+    let f = λ (x : Entry). line (EntryOf x) in
+    let one = one_line (draft AtEntries c before) (EntryOf x) (flat_map f es ++ rest) (entry_line_read x h.0) refl in
+    let later = entries_pass es c (before ++ x ∷ []) all rest h.1 (e ∙ sym (append_assoc before (x ∷ []) es)) in
+    text_is (draft AtEntries c before) (draft AtEntries c all) _ _ rest (first_of f x es rest) (goes_on (draft AtEntries c before) (draft AtEntries c (before ++ x ∷ [])) (draft AtEntries c all) _ _ _ one later)
+
+-- ---- the whole
+
+-- the text, line by line
+regrouped : (c : Setup) (es : List Entry) → journal_text c es
+    ≡ line Version ++ (line (Callers c.callers) ++ (line (Elements c.elements_per_caller) ++ (line (Volumes c.volumes) ++ (line (Latches c.latches) ++ (line (Quota c.quota c.posted_quota)
+    ++ (flat_map (λ n. line (Budget n)) c.budgets ++ (flat_map (λ n. line (Owner n)) c.owners ++ (flat_map (λ x. line (ExitTo x)) c.exits ++ (line Events
+    ++ (flat_map (λ e. line (EntryOf e)) es ++ (line (End (length es)) ++ [])))))))))))
+unfolding journal_text head_text counts_text lists_text
+regrouped c es = simp (append_assoc, append-nil)
+
+events_said : (s : Stage) (c : Setup) (es : List Entry) → IsValid c → kind_said (draft s c es) (Some Events) ≡ None
+events_said s c es v = rw v refl
+
+end_said : (c : Setup) (es : List Entry) → kind_said (draft AtEntries c es) (Some (End (length es))) ≡ None
+end_said c es = rw (eq-eqb (length es) (length es) refl) refl
+
+-- what the lines of the counts have said
+abbrev counts : Setup → Setup
+counts c = record c { budgets = []; owners = []; exits = [] }
+
+counts_pass : (c : Setup) (rest : List ℕ) → HasNumbers c
+    → Goes blank (line Version ++ (line (Callers c.callers) ++ (line (Elements c.elements_per_caller) ++ (line (Volumes c.volumes) ++ (line (Latches c.latches) ++ (line (Quota c.quota c.posted_quota) ++ rest)))))) (draft AtBudgets (counts c) []) rest
+counts_pass c rest h =
+    let d1 = draft_with Version blank in
+    let d2 = draft_with (Callers c.callers) d1 in
+    let d3 = draft_with (Elements c.elements_per_caller) d2 in
+    let d4 = draft_with (Volumes c.volumes) d3 in
+    let d5 = draft_with (Latches c.latches) d4 in
+    let d6 = draft_with (Quota c.quota c.posted_quota) d5 in
+    let t5 = line (Quota c.quota c.posted_quota) ++ rest in
+    let t4 = line (Latches c.latches) ++ t5 in
+    let t3 = line (Volumes c.volumes) ++ t4 in
+    let t2 = line (Elements c.elements_per_caller) ++ t3 in
+    let t1 = line (Callers c.callers) ++ t2 in
+    goes_on blank d1 d6 (line Version ++ t1) t1 rest (one_line blank Version t1 version_read refl)
+    (goes_on d1 d2 d6 t1 t2 rest (one_line d1 (Callers c.callers) t2 (callers_read c.callers h.callers) refl)
+    (goes_on d2 d3 d6 t2 t3 rest (one_line d2 (Elements c.elements_per_caller) t3 (elements_read c.elements_per_caller h.elements) refl)
+    (goes_on d3 d4 d6 t3 t4 rest (one_line d3 (Volumes c.volumes) t4 (volumes_read c.volumes h.volumes) refl)
+    (goes_on d4 d5 d6 t4 t5 rest (one_line d4 (Latches c.latches) t5 (latches_read c.latches h.latches) refl)
+    (one_line d5 (Quota c.quota c.posted_quota) rest (quota_read c.quota c.posted_quota h.quota h.posted) refl)))))
+
+journal_passes : (c : Setup) (es : List Entry) → HasJournal c es → Goes blank (journal_text c es) (draft AtEnd c es) []
+journal_passes c es h =
+    let n = has_numbers c h.valid in
+    let each = recursion_from_All HasText es h.each in
+    let last = line (End (length es)) ++ [] in
+    let events = flat_map (λ e. line (EntryOf e)) es ++ last in
+    let begin = line Events ++ events in
+    let exits = flat_map (λ x. line (ExitTo x)) c.exits ++ begin in
+    let owners = flat_map (λ n. line (Owner n)) c.owners ++ exits in
+    let budgets = flat_map (λ n. line (Budget n)) c.budgets ++ owners in
+    let c1 = record (counts c) { budgets = c.budgets } in
+    let c2 = record c1 { owners = c.owners } in
+    let p1 = counts_pass c budgets n in
+    let p2 = budgets_pass c.budgets (counts c) c.budgets owners n.budgets refl in
+    let p3 = owners_pass c.owners AtBudgets c1 c.owners exits tt n.owners refl in
+    let p4 = exits_pass c.exits p3.0 c2 c.exits begin p3.1 n.exits refl in
+    let p5 = one_line (draft p4.0 c []) Events events (events_read p4.0 p4.1) (events_said p4.0 c [] h.valid) in
+    let p6 = entries_pass es c [] es last each refl in
+    let p7 = one_line (draft AtEntries c es) (End (length es)) [] (end_read (length es) h.count) (end_said c es) in
+    let a6 = goes_on (draft AtEntries c []) (draft AtEntries c es) (draft AtEnd c es) events last [] p6 p7 in
+    let a5 = goes_on (draft p4.0 c []) (draft AtEntries c []) (draft AtEnd c es) begin events [] p5 a6 in
+    let a4 = goes_on (draft p3.0 c2 []) (draft p4.0 c []) (draft AtEnd c es) exits begin [] p4.2 a5 in
+    let a3 = goes_on (draft AtBudgets c1 []) (draft p3.0 c2 []) (draft AtEnd c es) owners exits [] p3.2 a4 in
+    let a2 = goes_on (draft AtBudgets (counts c) []) (draft AtBudgets c1 []) (draft AtEnd c es) budgets owners [] p2 a3 in
+    text_is blank (draft AtEnd c es) (journal_text c es) _ [] (regrouped c es) (goes_on blank (draft AtBudgets (counts c) []) (draft AtEnd c es) _ budgets [] p1 a2)
+
+nothing_left : (number : ℕ) (c : Setup) (es : List Entry) → first_fault number (draft AtEnd c es) (parts_at 10 []) ≡ None
+unfolding first_fault parts_at
+nothing_left number c es = refl
+
+nothing_more : (c : Setup) (es : List Entry) → draft_of (draft AtEnd c es) (parts_at 10 []) ≡ draft AtEnd c es
+unfolding draft_of parts_at
+nothing_more c es = refl
+
+-- a journal that is written has no fault, and is read again
+pub no_fault : (c : Setup) (es : List Entry) → HasJournal c es → text_fault (journal_text c es) ≡ None
+no_fault c es h = let f = (journal_passes c es h).fault 1 in f.1 ∙ nothing_left f.0 c es
+
+pub read_again : (c : Setup) (es : List Entry) → HasJournal c es → journal_of (journal_text c es) ≡ draft AtEnd c es
+read_again c es h = (journal_passes c es h).draft ∙ nothing_more c es
+
+-- a text determines its configuration and entries
+pub one_journal : (c d : Setup) (es fs : List Entry) → HasJournal c es → HasJournal d fs → journal_text c es ≡ journal_text d fs → (c ≡ d) × (es ≡ fs)
+one_journal c d es fs p q e =
+    let same : draft AtEnd c es ≡ draft AtEnd d fs = sym (read_again c es p) ∙ ap journal_of e ∙ read_again d fs q in
+    (ap (λ (x : Draft). x.setup) same, ap (λ (x : Draft). x.entries) same)

@@ -1,0 +1,169 @@
+-- Each line that is read strictly is the text of what it says.
+use Rattle.std.proofs.Common.{◌≡◌, ℕ, ◌≤◌, Bool, true, false, cond, eqb, List, [], ◌∷◌, ◌++◌, Option, Some, None, decimal, refl, sym, ap, subst, ◌∙◌}
+use Rattle.std.specs.Prelude.{codes}
+use Rattle.std.specs.Option.{option_map}
+use Rattle.std.specs.List.{flat_map}
+use Rattle.std.proofs.lemmas.Bool.{eqb-true}
+use Rattle.std.proofs.lemmas.List.{append-nil}
+use Rattle.std.proofs.lemmas.List.Concat.{flat_map-cons}
+use Rattle.mv_machine.specs.Setup.{SetupExit}
+use Rattle.mv_entrytext.specs.Ranges.{highest_u32}
+use Rattle.mv_entrytext.specs.Reading.{whole, parted, onto_first, parts_at, any_u32}
+use Rattle.mv_entrytext.specs.EntryText.{HasText, entry_read, entry_text}
+use Rattle.mv_entrytext.specs.Journal.{Line, Version, Callers, Elements, Volumes, Latches, Quota, Budget, Owner, ExitTo, Events, EntryOf, End, line_text}
+use Rattle.mv_entrytext.specs.Lines.{Stage, AtVersion, AtCallers, AtElements, AtVolumes, AtLatches, AtQuota, AtBudgets, AtOwners, AtExits, AtEntries, AtEnd, numbers, exit_from, exit_read, next_line, line_read}
+use Rattle.mv_entrytext.proofs.Parts.{first_part}
+use Rattle.mv_entrytext.proofs.Taken.{Takes, bound, some_is, takes_nothing, takes_behind, behind_given, takes_made, behind_made, takes_whole, takes_u32}
+use Rattle.mv_entrytext.proofs.KindsTaken.{pair_text, takes_two, takes_entry}
+
+-- ---- the parts of a text, put together again
+
+abbrev pub joined : ℕ → List (List ℕ) → List ℕ
+joined byte [] = []
+joined byte (p ∷ []) = p
+joined byte (p ∷ q ∷ ps) = p ++ byte ∷ joined byte (q ∷ ps)
+
+joined-onto : (byte b : ℕ) (ps : List (List ℕ)) → joined byte (onto_first b ps) ≡ b ∷ joined byte ps
+joined-onto byte b [] = refl
+joined-onto byte b (p ∷ []) = refl
+joined-onto byte b (p ∷ q ∷ ps) = refl
+
+joined-empty : (byte : ℕ) (text : List ℕ) (p : List ℕ) (qs : List (List ℕ)) → parts_at byte text ≡ p ∷ qs → joined byte ([] ∷ parts_at byte text) ≡ byte ∷ joined byte (parts_at byte text)
+joined-empty byte text p qs e = rw e refl
+
+pub joined_again : (byte : ℕ) (text : List ℕ) → joined byte (parts_at byte text) ≡ text
+unfolding parts_at
+joined_again byte [] = refl
+joined_again byte (b ∷ text) = go (eqb b byte) refl (joined_again byte text) where
+  go : (t : Bool) → eqb b byte ≡ t → joined byte (parts_at byte text) ≡ text → joined byte (cond t ([] ∷ parts_at byte text) (onto_first b (parts_at byte text))) ≡ b ∷ text
+  go true e h =
+      let f = first_part byte text in
+      joined-empty byte text f.0 f.1 f.2 ∙ ap (λ (x : List ℕ). byte ∷ x) h ∙ ap (λ (c : ℕ). c ∷ text) (sym (eqb-true b byte e))
+  go false e h = joined-onto byte b (parts_at byte text) ∙ ap (λ (x : List ℕ). b ∷ x) h
+
+-- ---- the fields of an exit
+
+abbrev targets_text : List ℕ → List ℕ
+targets_text ts = flat_map (λ t. codes " " ++ decimal t) ts
+
+-- numbers, parted by single spaces
+abbrev spaced : List ℕ → List ℕ
+spaced [] = []
+spaced (n ∷ ns) = decimal n ++ targets_text ns
+
+spaced_more : (n m : ℕ) (ns : List ℕ) → decimal n ++ 32 ∷ spaced (m ∷ ns) ≡ spaced (n ∷ m ∷ ns)
+spaced_more n m ns = ap (λ (x : List ℕ). decimal n ++ x) (sym (flat_map-cons (λ t. codes " " ++ decimal t) m ns))
+
+mapped_cons : (n : ℕ) (o : Option (List ℕ)) (ns : List ℕ) → option_map (λ ms. n ∷ ms) o ≡ Some ns → (ms : List ℕ) × (o ≡ Some ms) × (n ∷ ms ≡ ns)
+mapped_cons n None ns e = absurd cc
+mapped_cons n (Some ms) ns e = (ms, refl, some_is (n ∷ ms) ns e)
+
+one_number : (field : List ℕ) (n : ℕ) → whole (any_u32 true) field ≡ Some n → field ≡ decimal n
+one_number field n e = (takes_whole decimal (λ n. n ≤ highest_u32) (any_u32 true) takes_u32 field n e).0
+
+some_number : (g : List ℕ) (fs : List (List ℕ)) (ms : List ℕ) → numbers true (g ∷ fs) ≡ Some ms → (m : ℕ) × (ks : List ℕ) × (ms ≡ m ∷ ks)
+unfolding numbers
+some_number g fs ms e =
+    let b = bound (λ n. option_map (λ ks. n ∷ ks) (numbers true fs)) (whole (any_u32 true) g) ms e in
+    let m = mapped_cons b.0 (numbers true fs) ms b.2 in
+    (b.0, m.0, sym m.2)
+
+one_more : (n : ℕ) (ms : List ℕ) (m : ℕ) (ks : List ℕ) → ms ≡ m ∷ ks → decimal n ++ 32 ∷ spaced ms ≡ spaced (n ∷ ms)
+one_more n ms m ks e = rw e (spaced_more n m ks)
+
+takes_numbers : (fields : List (List ℕ)) (ns : List ℕ) → numbers true fields ≡ Some ns → joined 32 fields ≡ spaced ns
+unfolding numbers
+takes_numbers [] ns e = ap spaced (some_is [] ns e)
+takes_numbers (f ∷ []) ns e =
+    let b = bound (λ n. option_map (λ ms. n ∷ ms) (Some [])) (whole (any_u32 true) f) ns e in
+    one_number f b.0 b.1 ∙ sym (append-nil (decimal b.0)) ∙ ap spaced (some_is (b.0 ∷ []) ns b.2)
+takes_numbers (f ∷ g ∷ fs) ns e =
+    let b = bound (λ n. option_map (λ ms. n ∷ ms) (numbers true (g ∷ fs))) (whole (any_u32 true) f) ns e in
+    let m = mapped_cons b.0 (numbers true (g ∷ fs)) ns b.2 in
+    let s = some_number g fs m.0 m.1 in
+    ap (λ (x : List ℕ). x ++ 32 ∷ joined 32 (g ∷ fs)) (one_number f b.0 b.1) ∙ ap (λ (x : List ℕ). decimal b.0 ++ 32 ∷ x) (takes_numbers (g ∷ fs) m.0 m.1) ∙ one_more b.0 m.0 s.0 s.1 s.2 ∙ ap spaced m.2
+
+abbrev exit_text : SetupExit → List ℕ
+exit_text x = decimal x.source ++ targets_text x.targets
+
+from_numbers : (ns : List ℕ) (x : SetupExit) (rest : List ℕ) → exit_from ns ≡ Some (x, rest) → spaced ns ≡ exit_text x ++ rest
+from_numbers [] x rest e = absurd cc
+from_numbers (s ∷ []) x rest e = absurd cc
+from_numbers (s ∷ t ∷ ts) x rest e =
+    let made : SetupExit = record { source = s; targets = t ∷ ts } in
+    let same : (made, []) ≡ (x, rest) = some_is (made, []) (x, rest) e in
+    subst (λ y. spaced (s ∷ t ∷ ts) ≡ exit_text y.0 ++ y.1) same (sym (append-nil (exit_text made)))
+
+takes_exit : Takes exit_text (λ x. Unit {0}) (exit_read true)
+unfolding exit_read
+takes_exit text rest x e =
+    let b = bound exit_from (numbers true (parts_at 32 text)) (x, rest) e in
+    (sym (joined_again 32 text) ∙ takes_numbers (parts_at 32 text) b.0 b.1 ∙ from_numbers b.0 x rest b.2, tt)
+
+-- ---- lines
+
+-- which lines may come next
+abbrev pub MayCome : Stage → Line → Type 0
+MayCome AtVersion Version = Unit {0}
+MayCome AtCallers (Callers n) = Unit {0}
+MayCome AtElements (Elements n) = Unit {0}
+MayCome AtVolumes (Volumes n) = Unit {0}
+MayCome AtLatches (Latches n) = Unit {0}
+MayCome AtQuota (Quota q p) = Unit {0}
+MayCome AtBudgets (Budget n) = Unit {0}
+MayCome AtBudgets (Owner n) = Unit {0}
+MayCome AtBudgets (ExitTo x) = Unit {0}
+MayCome AtBudgets Events = Unit {0}
+MayCome AtOwners (Owner n) = Unit {0}
+MayCome AtOwners (ExitTo x) = Unit {0}
+MayCome AtOwners Events = Unit {0}
+MayCome AtExits (ExitTo x) = Unit {0}
+MayCome AtExits Events = Unit {0}
+MayCome AtEntries (EntryOf e) = HasText e
+MayCome AtEntries (End n) = n ≤ highest_u32
+MayCome _ _ = ⊥
+
+pub takes_line : (s : Stage) → Takes line_text (λ l. MayCome s l) (next_line true s)
+unfolding next_line
+takes_line AtVersion =
+    takes_behind (codes "JOURNAL 1") line_text (λ l. MayCome AtVersion l) _ _ (behind_given (codes "JOURNAL 1") line_text (λ l. MayCome AtVersion l) Version refl tt)
+    (takes_nothing line_text (λ l. MayCome AtVersion l))
+takes_line AtCallers =
+    takes_behind (codes "CALLERS ") line_text (λ l. MayCome AtCallers l) _ _ (behind_made (codes "CALLERS ") line_text (λ l. MayCome AtCallers l) (λ n. Callers n) decimal (λ n. n ≤ highest_u32) (any_u32 true) (λ n. refl) (λ n h. tt) takes_u32)
+    (takes_nothing line_text (λ l. MayCome AtCallers l))
+takes_line AtElements =
+    takes_behind (codes "ELEMENTS ") line_text (λ l. MayCome AtElements l) _ _ (behind_made (codes "ELEMENTS ") line_text (λ l. MayCome AtElements l) (λ n. Elements n) decimal (λ n. n ≤ highest_u32) (any_u32 true) (λ n. refl) (λ n h. tt) takes_u32)
+    (takes_nothing line_text (λ l. MayCome AtElements l))
+takes_line AtVolumes =
+    takes_behind (codes "VOLUMES ") line_text (λ l. MayCome AtVolumes l) _ _ (behind_made (codes "VOLUMES ") line_text (λ l. MayCome AtVolumes l) (λ n. Volumes n) decimal (λ n. n ≤ highest_u32) (any_u32 true) (λ n. refl) (λ n h. tt) takes_u32)
+    (takes_nothing line_text (λ l. MayCome AtVolumes l))
+takes_line AtLatches =
+    takes_behind (codes "LATCHES ") line_text (λ l. MayCome AtLatches l) _ _ (behind_made (codes "LATCHES ") line_text (λ l. MayCome AtLatches l) (λ n. Latches n) decimal (λ n. n ≤ highest_u32) (any_u32 true) (λ n. refl) (λ n h. tt) takes_u32)
+    (takes_nothing line_text (λ l. MayCome AtLatches l))
+takes_line AtQuota =
+    takes_behind (codes "QUOTA ") line_text (λ l. MayCome AtQuota l) _ _ (behind_made (codes "QUOTA ") line_text (λ l. MayCome AtQuota l) (λ x. Quota x.0 x.1) pair_text (λ x. (x.0 ≤ highest_u32) × (x.1 ≤ highest_u32)) (parted (any_u32 true) (any_u32 true)) (λ x. refl) (λ x h. tt) takes_two)
+    (takes_nothing line_text (λ l. MayCome AtQuota l))
+takes_line AtBudgets =
+    takes_behind (codes "BUDGET ") line_text (λ l. MayCome AtBudgets l) _ _ (behind_made (codes "BUDGET ") line_text (λ l. MayCome AtBudgets l) (λ n. Budget n) decimal (λ n. n ≤ highest_u32) (any_u32 true) (λ n. refl) (λ n h. tt) takes_u32)
+    (takes_behind (codes "ECB ") line_text (λ l. MayCome AtBudgets l) _ _ (behind_made (codes "ECB ") line_text (λ l. MayCome AtBudgets l) (λ n. Owner n) decimal (λ n. n ≤ highest_u32) (any_u32 true) (λ n. refl) (λ n h. tt) takes_u32)
+    (takes_behind (codes "EXIT ") line_text (λ l. MayCome AtBudgets l) _ _ (behind_made (codes "EXIT ") line_text (λ l. MayCome AtBudgets l) (λ x. ExitTo x) exit_text (λ x. Unit {0}) (exit_read true) (λ x. refl) (λ x h. tt) takes_exit)
+    (takes_behind (codes "EVENTS") line_text (λ l. MayCome AtBudgets l) _ _ (behind_given (codes "EVENTS") line_text (λ l. MayCome AtBudgets l) Events refl tt)
+    (takes_nothing line_text (λ l. MayCome AtBudgets l)))))
+takes_line AtOwners =
+    takes_behind (codes "ECB ") line_text (λ l. MayCome AtOwners l) _ _ (behind_made (codes "ECB ") line_text (λ l. MayCome AtOwners l) (λ n. Owner n) decimal (λ n. n ≤ highest_u32) (any_u32 true) (λ n. refl) (λ n h. tt) takes_u32)
+    (takes_behind (codes "EXIT ") line_text (λ l. MayCome AtOwners l) _ _ (behind_made (codes "EXIT ") line_text (λ l. MayCome AtOwners l) (λ x. ExitTo x) exit_text (λ x. Unit {0}) (exit_read true) (λ x. refl) (λ x h. tt) takes_exit)
+    (takes_behind (codes "EVENTS") line_text (λ l. MayCome AtOwners l) _ _ (behind_given (codes "EVENTS") line_text (λ l. MayCome AtOwners l) Events refl tt)
+    (takes_nothing line_text (λ l. MayCome AtOwners l))))
+takes_line AtExits =
+    takes_behind (codes "EXIT ") line_text (λ l. MayCome AtExits l) _ _ (behind_made (codes "EXIT ") line_text (λ l. MayCome AtExits l) (λ x. ExitTo x) exit_text (λ x. Unit {0}) (exit_read true) (λ x. refl) (λ x h. tt) takes_exit)
+    (takes_behind (codes "EVENTS") line_text (λ l. MayCome AtExits l) _ _ (behind_given (codes "EVENTS") line_text (λ l. MayCome AtExits l) Events refl tt)
+    (takes_nothing line_text (λ l. MayCome AtExits l)))
+takes_line AtEntries =
+    takes_behind (codes "END ") line_text (λ l. MayCome AtEntries l) _ _ (behind_made (codes "END ") line_text (λ l. MayCome AtEntries l) (λ n. End n) decimal (λ n. n ≤ highest_u32) (any_u32 true) (λ n. refl) (λ n h. h) takes_u32)
+    (takes_made line_text (λ l. MayCome AtEntries l) (λ e. EntryOf e) entry_text (λ e. HasText e) (entry_read true) (λ e h. refl) (λ e h. h) takes_entry)
+takes_line AtEnd =
+    takes_nothing line_text (λ l. MayCome AtEnd l)
+
+-- a line that is read is its text
+pub line_taken : (s : Stage) (text : List ℕ) (l : Line) → line_read true s text ≡ Some l → (text ≡ line_text l) × MayCome s l
+line_taken s text l e = takes_whole line_text (λ x. MayCome s x) (next_line true s) (takes_line s) text l e

@@ -1,0 +1,71 @@
+-- The parts of a text, and which texts lack a byte.
+use Rattle.std.proofs.Common.{◌≡◌, ℕ, zero, suc, ◌+◌, ◌/◌, ◌%◌, ◌<◌, Bool, true, false, cond, eqb, not, List, [], ◌∷◌, ◌++◌, decimal, refl, sym, ◌∙◌, arith}
+use Rattle.std.specs.Fmt.{digits, digits_onto, digit_glyph}
+use Rattle.std.specs.List.{list_all}
+use Rattle.std.proofs.lemmas.Bool.{eq-eqb, ne_eqb, and_parts, lt-ltb}
+use Rattle.std.proofs.lemmas.List.Folds.{list_all-append}
+use Rattle.mv_entrytext.specs.Reading.{onto_first, parts_at}
+
+-- a text that lacks a byte
+abbrev pub lacks : ℕ → List ℕ → Bool
+lacks byte text = list_all (λ b. not (eqb b byte)) text
+
+abbrev pub Lacks : ℕ → List ℕ → Type 0
+Lacks byte text = lacks byte text ≡ true
+
+pub Lacks-append : (byte : ℕ) (a b : List ℕ) → Lacks byte a → Lacks byte b → Lacks byte (a ++ b)
+Lacks-append byte a b p q = list_all-append (λ x. not (eqb x byte)) a b ∙ rw (p, q) refl
+
+not_true : (b : Bool) → not b ≡ true → b ≡ false
+not_true true e = sym e
+not_true false e = refl
+
+other_first : (byte b : ℕ) (text : List ℕ) → Lacks byte (b ∷ text) → (eqb b byte ≡ false) × Lacks byte text
+other_first byte b text h = let both = and_parts (not (eqb b byte)) (lacks byte text) h in (not_true (eqb b byte) both.0, both.1)
+
+-- the first part ends before the byte
+pub parts_first : (byte : ℕ) (part rest : List ℕ) → Lacks byte part → parts_at byte (part ++ byte ∷ rest) ≡ part ∷ parts_at byte rest
+unfolding parts_at
+parts_first byte [] rest h = rw (eq-eqb byte byte refl) refl
+parts_first byte (b ∷ part) rest h =
+    let o = other_first byte b part h in
+    rw (o.0, parts_first byte part rest o.1) refl
+
+-- a text without the byte is one part
+pub parts_last : (byte : ℕ) (part : List ℕ) → Lacks byte part → parts_at byte part ≡ part ∷ []
+unfolding parts_at
+parts_last byte [] h = refl
+parts_last byte (b ∷ part) h = let o = other_first byte b part h in rw (o.0, parts_last byte part o.1) refl
+
+onto_some : (b : ℕ) (ps : List (List ℕ)) → (p : List ℕ) × (qs : List (List ℕ)) × (onto_first b ps ≡ p ∷ qs)
+onto_some b [] = (b ∷ [], [], refl)
+onto_some b (p ∷ ps) = (b ∷ p, ps, refl)
+
+-- there is a first part
+pub first_part : (byte : ℕ) (text : List ℕ) → (p : List ℕ) × (qs : List (List ℕ)) × (parts_at byte text ≡ p ∷ qs)
+unfolding parts_at
+first_part byte [] = ([], [], refl)
+first_part byte (b ∷ text) =
+    elim (eqb b byte) as (λ t. (p : List ℕ) × (qs : List (List ℕ)) × (cond t ([] ∷ parts_at byte text) (onto_first b (parts_at byte text)) ≡ p ∷ qs)) [
+      | true ↦ ([], parts_at byte text, refl)
+      | false ↦ onto_some b (parts_at byte text)
+    ]
+
+-- ---- numbers lack each byte below their digits
+
+glyph_is : (d : ℕ) → d < 10 → digit_glyph false d ≡ 48 + d
+glyph_is d lt = rw (lt-ltb d 10 lt) refl
+
+glyph_other : (byte d : ℕ) → byte < 48 → d < 10 → not (eqb (digit_glyph false d) byte) ≡ true
+glyph_other byte d low lt = rw (glyph_is d lt, ne_eqb (48 + d) byte (λ e. omega arith)) refl
+
+Lacks-onto : (byte k n : ℕ) (acc : List ℕ) → byte < 48 → Lacks byte acc → Lacks byte (digits_onto k 10 false n acc)
+Lacks-onto byte zero n acc low h = h
+Lacks-onto byte (suc k) n acc low h =
+    let more : Lacks byte (digit_glyph false (n % 10) ∷ acc) = rw (glyph_other byte (n % 10) low (omega arith), h) refl in
+    let rest = Lacks-onto byte k (n / 10) (digit_glyph false (n % 10) ∷ acc) low more in
+    elim (eqb (n / 10) 0) as (λ t. Lacks byte (cond t (digit_glyph false (n % 10) ∷ acc) (digits_onto k 10 false (n / 10) (digit_glyph false (n % 10) ∷ acc)))) [ true ↦ more | false ↦ rest ]
+
+pub Lacks-decimal : (byte n : ℕ) → byte < 48 → Lacks byte (decimal n)
+unfolding digits
+Lacks-decimal byte n low = Lacks-onto byte 64 n [] low refl

@@ -1,0 +1,227 @@
+-- A text without fault is the text of the journal that it is read as.
+use Rattle.std.proofs.Common.{◌≡◌, ℕ, ◌+◌, Bool, true, false, cond, eqb, not, ◌||◌, List, [], ◌∷◌, ◌++◌, length, Option, Some, None, refl, sym, ap, subst, ◌∙◌, arith, append_assoc}
+use Rattle.std.specs.Prelude.{codes, is_some}
+use Rattle.std.specs.List.{flat_map, AllByRecursion}
+use Rattle.std.proofs.lemmas.Bool.{eqb-true, false≢true, and_parts}
+use Rattle.std.proofs.lemmas.List.{append-nil, nil_from_length, flat_map_more}
+use Rattle.std.proofs.lemmas.List.Elements.{All-from_recursion}
+use Rattle.mv_machine.specs.declared.entry.Entry.{Entry}
+use Rattle.mv_machine.specs.declared.config.CheckRefusal.{CheckRefusal}
+use Rattle.mv_machine.specs.Check.{IsValid, refusal_of}
+use Rattle.mv_machine.specs.Setup.{Setup, SetupExit}
+use Rattle.mv_entrytext.specs.declared.fault.TextFault.{TextFault}
+use Rattle.mv_entrytext.specs.Reading.{parts_at}
+use Rattle.mv_entrytext.specs.EntryText.{HasText}
+use Rattle.mv_entrytext.specs.Journal.{Line, Version, Callers, Elements, Volumes, Latches, Quota, Budget, Owner, ExitTo, Events, EntryOf, End, line_text, line, counts_text, lists_text, head_text, journal_text}
+use Rattle.mv_entrytext.specs.Lines.{Stage, AtVersion, AtCallers, AtElements, AtVolumes, AtLatches, AtQuota, AtBudgets, AtOwners, AtExits, AtEntries, AtEnd, line_read, Draft, blank, draft_with}
+use Rattle.mv_entrytext.specs.Fault.{kind_said, kind_of, is_read, is_cut, is_ended, fault_at, fault_or, draft_after, first_fault, text_fault, draft_of, journal_of, HasJournal}
+use Rattle.mv_entrytext.proofs.Parts.{first_part}
+use Rattle.mv_entrytext.proofs.LinesTaken.{joined, joined_again, MayCome, line_taken}
+
+-- ---- the text of the lines so far
+
+abbrev budgets_text : List ℕ → List ℕ
+budgets_text ns = flat_map (λ n. line (Budget n)) ns
+
+abbrev owners_text : List ℕ → List ℕ
+owners_text ns = flat_map (λ n. line (Owner n)) ns
+
+abbrev exits_text : List SetupExit → List ℕ
+exits_text xs = flat_map (λ x. line (ExitTo x)) xs
+
+abbrev entries_text : List Entry → List ℕ
+entries_text es = flat_map (λ e. line (EntryOf e)) es
+
+abbrev up_to_budgets : Setup → List ℕ
+up_to_budgets c =
+    line Version ++ line (Callers c.callers) ++ line (Elements c.elements_per_caller) ++ line (Volumes c.volumes) ++ line (Latches c.latches) ++ line (Quota c.quota c.posted_quota) ++ budgets_text c.budgets
+
+abbrev up_to_exits : Setup → List ℕ
+up_to_exits c = up_to_budgets c ++ owners_text c.owners ++ exits_text c.exits
+
+abbrev up_to_entries : Setup → List Entry → List ℕ
+up_to_entries c es = up_to_exits c ++ line Events ++ entries_text es
+
+-- the lists of a configuration before the first of their lines
+pub record HasNoList (c : Setup) (es : List Entry) : Type 0 where
+  pub budgets : c.budgets ≡ []
+  pub owners : c.owners ≡ []
+  pub exits : c.exits ≡ []
+  pub entries : es ≡ []
+
+pub record AreEntries (front : List ℕ) (c : Setup) (es : List Entry) : Type 0 where
+  pub text : front ≡ up_to_entries c es
+  pub valid : IsValid c
+  pub each : AllByRecursion HasText es
+
+-- the front of the text is that of what was said
+abbrev pub SoFar : Stage → Setup → List Entry → List ℕ → Type 0
+SoFar AtVersion c es front = (front ≡ []) × HasNoList c es
+SoFar AtCallers c es front = (front ≡ line Version) × HasNoList c es
+SoFar AtElements c es front = (front ≡ line Version ++ line (Callers c.callers)) × HasNoList c es
+SoFar AtVolumes c es front = (front ≡ line Version ++ line (Callers c.callers) ++ line (Elements c.elements_per_caller)) × HasNoList c es
+SoFar AtLatches c es front = (front ≡ line Version ++ line (Callers c.callers) ++ line (Elements c.elements_per_caller) ++ line (Volumes c.volumes)) × HasNoList c es
+SoFar AtQuota c es front = (front ≡ line Version ++ line (Callers c.callers) ++ line (Elements c.elements_per_caller) ++ line (Volumes c.volumes) ++ line (Latches c.latches)) × HasNoList c es
+SoFar AtBudgets c es front = (front ≡ up_to_budgets c) × (c.owners ≡ []) × (c.exits ≡ []) × (es ≡ [])
+SoFar AtOwners c es front = (front ≡ up_to_budgets c ++ owners_text c.owners) × (c.exits ≡ []) × (es ≡ [])
+SoFar AtExits c es front = (front ≡ up_to_exits c) × (es ≡ [])
+SoFar AtEntries c es front = AreEntries front c es
+SoFar AtEnd c es front = (front ≡ up_to_entries c es ++ line (End (length es))) × HasJournal c es
+
+-- ---- one line more
+
+-- where no owner was named, the list of owners is empty, and so with exits
+no_owner : (c : Setup) (es : List Entry) (front : List ℕ) → SoFar AtBudgets c es front → SoFar AtOwners c es front
+no_owner c es front h = (h.0 ∙ sym (ap (λ (x : List ℕ). up_to_budgets c ++ owners_text x) h.1 ∙ append-nil (up_to_budgets c)), h.2, h.3)
+
+no_exit : (c : Setup) (es : List Entry) (front : List ℕ) → SoFar AtOwners c es front → SoFar AtExits c es front
+no_exit c es front h = (h.0 ∙ sym (ap (λ (x : List SetupExit). up_to_budgets c ++ owners_text c.owners ++ exits_text x) h.1 ∙ append-nil (up_to_budgets c ++ owners_text c.owners)), h.2)
+
+then_owner : (c : Setup) (es : List Entry) (front : List ℕ) (n : ℕ) → SoFar AtOwners c es front → SoFar AtOwners (record c { owners = c.owners ++ n ∷ [] }) es (front ++ line (Owner n))
+then_owner c es front n h = (ap (λ (x : List ℕ). x ++ line (Owner n)) h.0 ∙ flat_map_more (λ n. line (Owner n)) (up_to_budgets c) c.owners n, h.1, h.2)
+
+then_exit : (c : Setup) (es : List Entry) (front : List ℕ) (x : SetupExit) → SoFar AtExits c es front → SoFar AtExits (record c { exits = c.exits ++ x ∷ [] }) es (front ++ line (ExitTo x))
+then_exit c es front x h = (ap (λ (t : List ℕ). t ++ line (ExitTo x)) h.0 ∙ flat_map_more (λ x. line (ExitTo x)) (up_to_budgets c ++ owners_text c.owners) c.exits x, h.1)
+
+then_events : (c : Setup) (es : List Entry) (front : List ℕ) → SoFar AtExits c es front → IsValid c → SoFar AtEntries c es (front ++ line Events)
+then_events c es front h v =
+    let none : entries_text es ≡ [] = ap entries_text h.1 in
+    record {
+      text = ap (λ (t : List ℕ). t ++ line Events) h.0 ∙ sym (ap (λ (x : List ℕ). up_to_exits c ++ line Events ++ x) none ∙ append-nil (up_to_exits c ++ line Events));
+      valid = v;
+      each = subst (λ x. AllByRecursion HasText x) (sym h.1) tt;
+    }
+
+no_refusal : (o : Option CheckRefusal) → cond {A = Option ℕ} (is_some o) (Some 3) None ≡ None → o ≡ None
+no_refusal None e = refl
+no_refusal (Some r) e = absurd cc
+
+all_more : {A : Type 0} (P : A → Type 0) (xs : List A) (x : A) → AllByRecursion P xs → P x → AllByRecursion P (xs ++ x ∷ [])
+all_more P [] x h p = (p, tt)
+all_more P (y ∷ ys) x h p = (h.0, all_more P ys x h.1 p)
+
+right_count : (a b : ℕ) → cond {A = Option ℕ} (not (eqb a b)) (Some 4) None ≡ None → a ≡ b
+right_count a b e = go (eqb a b) refl e where
+  go : (t : Bool) → eqb a b ≡ t → cond {A = Option ℕ} (not t) (Some 4) None ≡ None → a ≡ b
+  go true q h = eqb-true a b q
+  go false q h = absurd cc
+
+plus : (front : List ℕ) (l : Line) (before : List ℕ) → front ≡ before → front ++ line l ≡ before ++ line l
+plus front l before e = ap (λ (x : List ℕ). x ++ line l) e
+
+one_line : (s : Stage) (c : Setup) (es : List Entry) (front : List ℕ) (l : Line) → SoFar s c es front → MayCome s l → kind_said (record { stage = s; setup = c; entries = es }) (Some l) ≡ None
+    → let next = draft_with l (record { stage = s; setup = c; entries = es }) in SoFar next.stage next.setup next.entries (front ++ line l)
+one_line AtVersion c es front Version h m k = (plus front Version [] h.0, h.1)
+one_line AtCallers c es front (Callers n) h m k = (plus front (Callers n) _ h.0, record { budgets = h.1.budgets; owners = h.1.owners; exits = h.1.exits; entries = h.1.entries })
+one_line AtElements c es front (Elements n) h m k = (plus front (Elements n) _ h.0, record { budgets = h.1.budgets; owners = h.1.owners; exits = h.1.exits; entries = h.1.entries })
+one_line AtVolumes c es front (Volumes n) h m k = (plus front (Volumes n) _ h.0, record { budgets = h.1.budgets; owners = h.1.owners; exits = h.1.exits; entries = h.1.entries })
+one_line AtLatches c es front (Latches n) h m k = (plus front (Latches n) _ h.0, record { budgets = h.1.budgets; owners = h.1.owners; exits = h.1.exits; entries = h.1.entries })
+one_line AtQuota c es front (Quota q p) h m k = (plus front (Quota q p) _ h.0 ∙ sym (ap (λ (x : List ℕ). line Version ++ line (Callers c.callers) ++ line (Elements c.elements_per_caller) ++ line (Volumes c.volumes) ++ line (Latches c.latches) ++ line (Quota q p) ++ budgets_text x) h.1.budgets ∙ append-nil _), h.1.owners, h.1.exits, h.1.entries)
+one_line AtBudgets c es front (Budget n) h m k = (plus front (Budget n) _ h.0 ∙ flat_map_more (λ n. line (Budget n)) _ c.budgets n, h.1, h.2, h.3)
+one_line AtBudgets c es front (Owner n) h m k = then_owner c es front n (no_owner c es front h)
+one_line AtBudgets c es front (ExitTo x) h m k = then_exit c es front x (no_exit c es front (no_owner c es front h))
+one_line AtBudgets c es front Events h m k = then_events c es front (no_exit c es front (no_owner c es front h)) (no_refusal (refusal_of c) k)
+one_line AtOwners c es front (Owner n) h m k = then_owner c es front n h
+one_line AtOwners c es front (ExitTo x) h m k = then_exit c es front x (no_exit c es front h)
+one_line AtOwners c es front Events h m k = then_events c es front (no_exit c es front h) (no_refusal (refusal_of c) k)
+one_line AtExits c es front (ExitTo x) h m k = then_exit c es front x h
+one_line AtExits c es front Events h m k = then_events c es front h (no_refusal (refusal_of c) k)
+one_line AtEntries c es front (EntryOf e) h m k = record { text = plus front (EntryOf e) _ h.text ∙ flat_map_more (λ e. line (EntryOf e)) (up_to_exits c ++ line Events) es e; valid = h.valid; each = all_more HasText es e h.each m }
+one_line AtEntries c es front (End n) h m k =
+    let count = right_count (length es) n k in
+    (plus front (End n) _ h.text ∙ ap (λ (x : ℕ). up_to_entries c es ++ line (End x)) (sym count), record { valid = h.valid; each = All-from_recursion HasText es h.each; count = omega arith })
+one_line s c es front l h m k = absurd m
+
+-- ---- all lines
+
+-- a line without fault is read strictly, and what it says is no fault
+pub record IsSaid (d : Draft) (text : List ℕ) : Type 0 where
+  pub said : Line
+  pub read : line_read true d.stage text ≡ Some said
+  pub fine : kind_said d (Some said) ≡ None
+
+abbrev kind_by : Bool → Bool → Option ℕ → Option ℕ
+kind_by strict loose said = cond (not (strict || loose)) (Some 1) (cond (not strict) (Some 2) said)
+
+kind_none : (strict loose : Bool) (said : Option ℕ) → kind_by strict loose said ≡ None → (strict ≡ true) × (said ≡ None)
+kind_none true loose said e = (refl, e)
+kind_none false true said e = absurd cc
+kind_none false false said e = absurd cc
+
+is_said : (d : Draft) (text : List ℕ) → kind_of d text ≡ None → IsSaid d text
+is_said d text e =
+    let k = kind_none (is_read true d text) (is_read false d text) (kind_said d (line_read true d.stage text)) e in
+    go (line_read true d.stage text) refl k.0 k.1 where
+      go : (o : Option Line) → line_read true d.stage text ≡ o → is_some o ≡ true → kind_said d o ≡ None → IsSaid d text
+      go None r s f = absurd (false≢true s)
+      go (Some l) r s f = record { said = l; read = r; fine = f }
+
+first_none : (number : ℕ) (kind : Option ℕ) (behind : Option TextFault) → fault_or number kind behind ≡ None → (kind ≡ None) × (behind ≡ None)
+first_none number None behind e = (refl, e)
+first_none number (Some k) behind e = absurd cc
+
+-- the last piece is nothing behind END
+pub record IsOver (d : Draft) (last : List ℕ) : Type 0 where
+  pub stage : d.stage ≡ AtEnd
+  pub nothing : last ≡ []
+
+end_only : (s : Stage) → is_ended s ≡ true → s ≡ AtEnd
+end_only AtEnd e = refl
+end_only s e = absurd (false≢true e)
+
+not_cut : (b : Bool) (f : TextFault) → cond b (Some f) None ≡ None → b ≡ false
+not_cut true f e = absurd cc
+not_cut false f e = refl
+
+not_not : (b : Bool) → not b ≡ false → b ≡ true
+not_not true e = refl
+not_not false e = absurd (false≢true (sym e))
+
+is_over : (number : ℕ) (d : Draft) (last : List ℕ) → cond (is_cut d last) (Some (fault_at number 5)) None ≡ None → IsOver d last
+is_over number d last e =
+    let both = and_parts (is_ended d.stage) (eqb (length last) 0) (not_not _ (not_cut (is_cut d last) (fault_at number 5) e)) in
+    record { stage = end_only d.stage both.0; nothing = nil_from_length last (eqb-true (length last) 0 both.1) }
+
+abbrev SoFarD : Draft → List ℕ → Type 0
+SoFarD d front = SoFar d.stage d.setup d.entries front
+
+pub record IsRead (d : Draft) (text : List ℕ) : Type 0 where
+  pub stage : d.stage ≡ AtEnd
+  pub so_far : SoFarD d text
+
+front_more : (front p rest : List ℕ) → front ++ (p ++ 10 ∷ rest) ≡ (front ++ (p ++ codes "\n")) ++ rest
+front_more front p rest = simp append_assoc
+
+line_is : (l : Line) → line_text l ++ codes "\n" ≡ line l
+unfolding line
+line_is l = refl
+
+lines_read : (text : List ℕ) (more : List (List ℕ)) (number : ℕ) (d : Draft) (front : List ℕ) → first_fault number d (text ∷ more) ≡ None → SoFarD d front → IsRead (draft_of d (text ∷ more)) (front ++ joined 10 (text ∷ more))
+unfolding first_fault draft_of
+lines_read last [] number d front e h =
+    let o = is_over number d last e in
+    record { stage = o.stage; so_far = subst (λ (x : List ℕ). SoFarD d (front ++ x)) (sym o.nothing) (subst (λ (x : List ℕ). SoFarD d x) (sym (append-nil front)) h) }
+lines_read text (next ∷ more) number d front e h =
+    let f = first_none number (kind_of d text) (first_fault (number + 1) (draft_after d (line_read true d.stage text)) (next ∷ more)) e in
+    let s = is_said d text f.0 in
+    let t = line_taken d.stage text s.said s.read in
+    let one = one_line d.stage d.setup d.entries front s.said h t.1 s.fine in
+    let rest : first_fault (number + 1) (draft_with s.said d) (next ∷ more) ≡ None = sym (ap (λ (o : Option Line). first_fault (number + 1) (draft_after d o) (next ∷ more)) s.read) ∙ f.1 in
+    let ih = lines_read next more (number + 1) (draft_with s.said d) (front ++ line s.said) rest one in
+    let text_is : front ++ joined 10 (text ∷ next ∷ more) ≡ (front ++ line s.said) ++ joined 10 (next ∷ more) =
+    front_more front text (joined 10 (next ∷ more)) ∙ ap (λ (x : List ℕ). (front ++ (x ++ codes "\n")) ++ joined 10 (next ∷ more)) t.0 ∙ ap (λ (x : List ℕ). (front ++ x) ++ joined 10 (next ∷ more)) (line_is s.said) in
+    subst (λ (o : Option Line). IsRead (draft_of (draft_after d o) (next ∷ more)) (front ++ joined 10 (text ∷ next ∷ more))) (sym s.read) (subst (λ (x : List ℕ). IsRead (draft_of (draft_with s.said d) (next ∷ more)) x) (sym text_is) ih)
+
+all_lines : (c : Setup) (es : List Entry) → up_to_entries c es ++ line (End (length es)) ≡ journal_text c es
+unfolding journal_text head_text counts_text lists_text
+all_lines c es = simp append_assoc
+
+-- a text without fault is the text of what it is read as
+pub is_read_whole : (bytes : List ℕ) → text_fault bytes ≡ None → let d = journal_of bytes in (bytes ≡ journal_text d.setup d.entries) × HasJournal d.setup d.entries
+is_read_whole bytes e =
+    let f = first_part 10 bytes in
+    let ih = lines_read f.0 f.1 1 blank [] (sym (ap (first_fault 1 blank) f.2) ∙ e) (refl, record { budgets = refl; owners = refl; exits = refl; entries = refl }) in
+    let all = subst (λ (x : List (List ℕ)). IsRead (draft_of blank x) (joined 10 x)) (sym f.2) ih in
+    let d = journal_of bytes in
+    let last = subst (λ (s : Stage). SoFar s d.setup d.entries (joined 10 (parts_at 10 bytes))) all.stage all.so_far in
+    (sym (joined_again 10 bytes) ∙ last.0 ∙ all_lines d.setup d.entries, last.1)

@@ -1,0 +1,79 @@
+-- Operations on event control blocks and their replies: their words, their ranges, and how they are read.
+use Rattle.std.specs.Prelude.{ℕ, ◌≤◌, Bool, List, codes, decimal}
+use Rattle.mv_ecb.specs.declared.operation.EcbOp.{EcbOp}
+use Rattle.mv_ecb.specs.declared.operation.EcbOp.TheVariants.{Arm, Extend, Settle, Clear, Post, Test}
+use Rattle.mv_ecb.specs.declared.operation.EcbReply.{EcbReply}
+use Rattle.mv_ecb.specs.declared.operation.EcbReply.TheVariants.{Armed, Linked, Complete, Waiting, Open, Posted, Woke, Already, Word}
+use Rattle.mv_entrytext.specs.Ranges.{highest_u32, highest_ecb_code}
+use Rattle.mv_entrytext.specs.Words.{◌<+>◌}
+use Rattle.mv_entrytext.specs.Reading.{Reader, given, nothing, behind, made, number, any_u32}
+
+-- ---- words
+
+abbrev pub ecb_op_text : EcbOp → List ℕ
+ecb_op_text Arm = codes "ARM"
+ecb_op_text (Extend exit) = codes "EXTEND" <+> decimal exit
+ecb_op_text Settle = codes "SETTLE"
+ecb_op_text Clear = codes "CLEAR"
+ecb_op_text (Post code) = codes "POST" <+> decimal code
+ecb_op_text Test = codes "TEST"
+
+abbrev pub ecb_reply_text : EcbReply → List ℕ
+ecb_reply_text Armed = codes "ARMED"
+ecb_reply_text (Linked exit) = codes "LINKED" <+> decimal exit
+ecb_reply_text (Complete code) = codes "COMPLETE" <+> decimal code
+ecb_reply_text Waiting = codes "WAITING"
+ecb_reply_text Open = codes "OPEN"
+ecb_reply_text Posted = codes "POSTED"
+ecb_reply_text (Woke exit) = codes "WOKE" <+> decimal exit
+ecb_reply_text (Already code) = codes "ALREADY" <+> decimal code
+ecb_reply_text (Word word) = codes "WORD" <+> decimal word
+
+-- ---- ranges: what a number's type does not say, and what it does
+
+abbrev pub IsEcbOpInRange : EcbOp → Type 0
+IsEcbOpInRange (Extend exit) = (1 ≤ exit) × (exit ≤ highest_ecb_code)
+IsEcbOpInRange (Post code) = code ≤ highest_ecb_code
+IsEcbOpInRange _ = Unit {0}
+
+abbrev pub IsEcbReplyInRange : EcbReply → Type 0
+IsEcbReplyInRange (Linked exit) = (1 ≤ exit) × (exit ≤ highest_ecb_code)
+IsEcbReplyInRange (Complete code) = code ≤ highest_ecb_code
+IsEcbReplyInRange (Woke exit) = exit ≤ highest_ecb_code
+IsEcbReplyInRange (Already code) = code ≤ highest_ecb_code
+IsEcbReplyInRange _ = Unit {0}
+
+abbrev pub IsEcbReplyTyped : EcbReply → Type 0
+IsEcbReplyTyped (Word word) = word ≤ highest_u32
+IsEcbReplyTyped _ = Unit {0}
+
+-- ---- reading
+
+abbrev pub exit_number : Bool → Reader ℕ
+exit_number strict = number strict 1 highest_ecb_code
+
+abbrev pub ecb_code : Bool → Reader ℕ
+ecb_code strict = number strict 0 highest_ecb_code
+
+unfoldable pub ecb_op : Bool → Reader EcbOp
+ecb_op strict =
+    behind (codes "ARM") (given Arm)
+    (behind (codes "EXTEND ") (made (λ exit. Extend exit) (exit_number strict))
+    (behind (codes "SETTLE") (given Settle)
+    (behind (codes "CLEAR") (given Clear)
+    (behind (codes "POST ") (made (λ code. Post code) (ecb_code strict))
+    (behind (codes "TEST") (given Test)
+    nothing)))))
+
+unfoldable pub ecb_reply : Bool → Reader EcbReply
+ecb_reply strict =
+    behind (codes "ARMED") (given Armed)
+    (behind (codes "LINKED ") (made (λ exit. Linked exit) (exit_number strict))
+    (behind (codes "COMPLETE ") (made (λ code. Complete code) (ecb_code strict))
+    (behind (codes "WAITING") (given Waiting)
+    (behind (codes "OPEN") (given Open)
+    (behind (codes "POSTED") (given Posted)
+    (behind (codes "WOKE ") (made (λ exit. Woke exit) (ecb_code strict))
+    (behind (codes "ALREADY ") (made (λ code. Already code) (ecb_code strict))
+    (behind (codes "WORD ") (made (λ word. Word word) (any_u32 strict))
+    nothing))))))))

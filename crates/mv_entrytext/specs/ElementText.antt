@@ -1,0 +1,132 @@
+-- Operations on pause elements and their replies: their words, their ranges, and how they are read.
+use Rattle.std.specs.Prelude.{ℕ, ◌≤◌, Bool, List, codes, decimal, if◌then◌else◌}
+use Rattle.mv_element.specs.Code.{keeps_code}
+use Rattle.mv_element.specs.Element.{free, reset, prereleased, paused, released}
+use Rattle.mv_element.specs.declared.element.ElementState.{ElementState}
+use Rattle.mv_element.specs.declared.element.Phase.{Phase}
+use Rattle.mv_element.specs.declared.element.Phase.TheVariants.{Free, Reset, Prereleased, Paused, Released}
+use Rattle.mv_element.specs.declared.operation.ElementOp.{ElementOp}
+use Rattle.mv_element.specs.declared.operation.ElementOp.TheVariants.{Open, Pause, Resume, Release, Close, Test}
+use Rattle.mv_element.specs.declared.operation.ElementReply.{ElementReply}
+use Rattle.mv_element.specs.declared.operation.ElementReply.TheVariants.{Opened, InUse, Parked, Given, Spent, Busy, NotYet, Early, Woke, Already, Closed, State}
+use Rattle.mv_entrytext.specs.Ranges.{highest_u32, highest_release_code, highest_generation}
+use Rattle.mv_entrytext.specs.Words.{◌<+>◌}
+use Rattle.mv_entrytext.specs.Reading.{Reader, given, nothing, behind, made, parted, parted_by, number, any_u32}
+
+-- ---- words
+
+abbrev pub phase_text : Phase → List ℕ
+phase_text Free = codes "FREE"
+phase_text Reset = codes "RESET"
+phase_text Prereleased = codes "PRERELEASED"
+phase_text Paused = codes "PAUSED"
+phase_text Released = codes "RELEASED"
+
+abbrev pub element_op_text : ElementOp → List ℕ
+element_op_text Open = codes "OPEN"
+element_op_text (Pause generation) = codes "PAUSE" <+> decimal generation
+element_op_text (Resume generation) = codes "RESUME" <+> decimal generation
+element_op_text (Release generation code) = codes "RELEASE" <+> decimal generation <+> decimal code
+element_op_text (Close generation) = codes "CLOSE" <+> decimal generation
+element_op_text Test = codes "TEST"
+
+abbrev pub element_reply_text : ElementReply → List ℕ
+element_reply_text (Opened generation) = codes "OPENED" <+> decimal generation
+element_reply_text InUse = codes "INUSE"
+element_reply_text Parked = codes "PARKED"
+element_reply_text (Given code next) = codes "GIVEN" <+> decimal code <+> decimal next
+element_reply_text (Spent generation) = codes "SPENT" <+> decimal generation
+element_reply_text Busy = codes "BUSY"
+element_reply_text NotYet = codes "NOTYET"
+element_reply_text Early = codes "EARLY"
+element_reply_text Woke = codes "WOKE"
+element_reply_text Already = codes "ALREADY"
+element_reply_text Closed = codes "CLOSED"
+element_reply_text (State s) = codes "STATE" <+> decimal s.generation <+> phase_text s.phase <+> decimal s.code
+
+-- ---- ranges: what a number's type does not say, and what it does
+
+abbrev pub IsElementOpInRange : ElementOp → Type 0
+IsElementOpInRange (Release generation code) = code ≤ highest_release_code
+IsElementOpInRange _ = Unit {0}
+
+abbrev pub IsElementOpTyped : ElementOp → Type 0
+IsElementOpTyped (Pause generation) = generation ≤ highest_u32
+IsElementOpTyped (Resume generation) = generation ≤ highest_u32
+IsElementOpTyped (Release generation code) = generation ≤ highest_u32
+IsElementOpTyped (Close generation) = generation ≤ highest_u32
+IsElementOpTyped _ = Unit {0}
+
+abbrev pub IsElementReplyInRange : ElementReply → Type 0
+IsElementReplyInRange (Opened generation) = generation ≤ highest_generation
+IsElementReplyInRange (Given code next) = (code ≤ highest_release_code) × (next ≤ highest_generation)
+IsElementReplyInRange (Spent generation) = generation ≤ highest_generation
+IsElementReplyInRange (State s) = (s.generation ≤ highest_generation) × (s.code ≤ highest_release_code)
+IsElementReplyInRange _ = Unit {0}
+
+-- ---- reading
+
+abbrev pub release_code : Bool → Reader ℕ
+release_code strict = number strict 0 highest_release_code
+
+abbrev pub reached_generation : Bool → Reader ℕ
+reached_generation strict = number strict 0 highest_generation
+
+unfoldable pub phase : Reader Phase
+phase =
+    behind (codes "FREE") (given Free)
+    (behind (codes "RESET") (given Reset)
+    (behind (codes "PRERELEASED") (given Prereleased)
+    (behind (codes "PAUSED") (given Paused)
+    (behind (codes "RELEASED") (given Released)
+    nothing))))
+
+-- the highest code of a phase: a state that keeps none has 0
+abbrev pub highest_kept : Phase → ℕ
+highest_kept phase = if keeps_code phase then highest_release_code else 0
+
+abbrev pub kept_code : Bool → Phase → Reader ℕ
+kept_code strict phase = number strict 0 (highest_kept phase)
+
+abbrev pub state_in : Phase → ℕ → ℕ → ElementState
+state_in Free generation code = free generation
+state_in Reset generation code = reset generation
+state_in Prereleased generation code = prereleased generation code
+state_in Paused generation code = paused generation
+state_in Released generation code = released generation code
+
+unfoldable pub element_state : Bool → Reader ElementState
+element_state strict =
+    made (λ x. state_in x.1.0 x.0 x.1.1) (parted (reached_generation strict) (parted_by phase (kept_code strict)))
+
+unfoldable pub element_op : Bool → Reader ElementOp
+element_op strict =
+    behind (codes "OPEN") (given Open)
+    (behind (codes "PAUSE ") (made (λ generation. Pause generation) (any_u32 strict))
+    (behind (codes "RESUME ") (made (λ generation. Resume generation) (any_u32 strict))
+    (behind (codes "RELEASE ") (made (λ x. Release x.0 x.1) (parted (any_u32 strict) (release_code strict)))
+    (behind (codes "CLOSE ") (made (λ generation. Close generation) (any_u32 strict))
+    (behind (codes "TEST") (given Test)
+    nothing)))))
+
+-- the replies that tell something
+unfoldable pub telling_reply : Bool → Reader ElementReply
+telling_reply strict =
+    behind (codes "OPENED ") (made (λ generation. Opened generation) (reached_generation strict))
+    (behind (codes "GIVEN ") (made (λ x. Given x.0 x.1) (parted (release_code strict) (reached_generation strict)))
+    (behind (codes "SPENT ") (made (λ generation. Spent generation) (reached_generation strict))
+    (behind (codes "STATE ") (made (λ s. State s) (element_state strict))
+    nothing)))
+
+-- those that are a word alone, or else one that tells something
+unfoldable pub element_reply : Bool → Reader ElementReply
+element_reply strict =
+    behind (codes "INUSE") (given InUse)
+    (behind (codes "PARKED") (given Parked)
+    (behind (codes "BUSY") (given Busy)
+    (behind (codes "NOTYET") (given NotYet)
+    (behind (codes "EARLY") (given Early)
+    (behind (codes "WOKE") (given Woke)
+    (behind (codes "ALREADY") (given Already)
+    (behind (codes "CLOSED") (given Closed)
+    (telling_reply strict))))))))

@@ -1,0 +1,116 @@
+-- Entries: their text, which of them have one, and how it is read.
+use Rattle.std.specs.Prelude.{ℕ, ◌≤◌, Bool, List, ◌++◌, codes, decimal}
+use Rattle.mv_machine.specs.declared.entry.Object.{Object}
+use Rattle.mv_machine.specs.declared.entry.Object.TheVariants.{Ecb, Element, Volume, Latches}
+use Rattle.mv_machine.specs.declared.entry.Op.{Op}
+use Rattle.mv_machine.specs.declared.entry.Op.TheVariants as op_on
+use Rattle.mv_machine.specs.declared.entry.Reply.{Reply}
+use Rattle.mv_machine.specs.declared.entry.Reply.TheVariants as reply_of
+use Rattle.mv_machine.specs.declared.entry.Entry.{Entry}
+use Rattle.mv_entrytext.specs.Ranges.{highest_u32, highest_place}
+use Rattle.mv_entrytext.specs.Words.{◌<+>◌}
+use Rattle.mv_entrytext.specs.Reading.{Reader, given, nothing, behind, made, parted, parted_by, number, any_u32}
+use Rattle.mv_entrytext.specs.EcbText.{ecb_op_text, ecb_reply_text, IsEcbOpInRange, IsEcbReplyInRange, IsEcbReplyTyped, ecb_op, ecb_reply}
+use Rattle.mv_entrytext.specs.ElementText.{element_op_text, element_reply_text, IsElementOpInRange, IsElementReplyInRange, IsElementOpTyped, element_op, element_reply}
+use Rattle.mv_entrytext.specs.VolumeText.{volume_op_text, volume_reply_text, IsVolumeOpTyped, IsVolumeReplyTyped, volume_op, volume_reply}
+use Rattle.mv_entrytext.specs.LatchText.{latch_op_text, latch_reply_text, IsLatchOpTyped, IsLatchReplyTyped, latch_op, latch_reply}
+
+-- ---- words
+
+abbrev pub object_text : Object → List ℕ
+object_text (Ecb n) = codes "E" ++ decimal n
+object_text (Element n) = codes "P" ++ decimal n
+object_text (Volume n) = codes "V" ++ decimal n
+object_text Latches = codes "L"
+
+abbrev pub op_text : Op → List ℕ
+op_text (op_on.Ecb op) = ecb_op_text op
+op_text (op_on.Element op) = element_op_text op
+op_text (op_on.Volume op) = volume_op_text op
+op_text (op_on.Latch op) = latch_op_text op
+
+abbrev pub reply_text : Reply → List ℕ
+reply_text (reply_of.Ecb reply) = ecb_reply_text reply
+reply_text (reply_of.Element reply) = element_reply_text reply
+reply_text (reply_of.Volume reply) = volume_reply_text reply
+reply_text (reply_of.Latch reply) = latch_reply_text reply
+
+unfoldable pub entry_text : Entry → List ℕ
+entry_text e =
+    decimal e.caller <+> object_text e.object <+> decimal e.place <+> op_text e.op <+> codes "=" <+> reply_text e.reply
+
+-- ---- which entries have a text
+
+-- the operation and the reply are of the object's kind, and their numbers in their ranges, so far as a number's type
+-- does not say it
+abbrev pub IsEventInRange : Object → Op → Reply → Type 0
+IsEventInRange (Ecb n) (op_on.Ecb op) (reply_of.Ecb reply) = IsEcbOpInRange op × IsEcbReplyInRange reply
+IsEventInRange (Element n) (op_on.Element op) (reply_of.Element reply) = IsElementOpInRange op × IsElementReplyInRange reply
+IsEventInRange (Volume n) (op_on.Volume op) (reply_of.Volume reply) = Unit {0}
+IsEventInRange Latches (op_on.Latch op) (reply_of.Latch reply) = Unit {0}
+IsEventInRange _ _ _ = ⊥
+
+pub record IsInRange (e : Entry) : Type 0 where
+  pub place : e.place ≤ highest_place
+  pub event : IsEventInRange e.object e.op e.reply
+
+-- each number is one of its type
+abbrev pub IsObjectTyped : Object → Type 0
+IsObjectTyped (Ecb n) = n ≤ highest_u32
+IsObjectTyped (Element n) = n ≤ highest_u32
+IsObjectTyped (Volume n) = n ≤ highest_u32
+IsObjectTyped Latches = Unit {0}
+
+abbrev pub IsOpTyped : Op → Type 0
+IsOpTyped (op_on.Ecb op) = Unit {0}
+IsOpTyped (op_on.Element op) = IsElementOpTyped op
+IsOpTyped (op_on.Volume op) = IsVolumeOpTyped op
+IsOpTyped (op_on.Latch op) = IsLatchOpTyped op
+
+abbrev pub IsReplyTyped : Reply → Type 0
+IsReplyTyped (reply_of.Ecb reply) = IsEcbReplyTyped reply
+IsReplyTyped (reply_of.Element reply) = Unit {0}
+IsReplyTyped (reply_of.Volume reply) = IsVolumeReplyTyped reply
+IsReplyTyped (reply_of.Latch reply) = IsLatchReplyTyped reply
+
+pub record IsTyped (e : Entry) : Type 0 where
+  pub caller : e.caller ≤ highest_u32
+  pub object : IsObjectTyped e.object
+  pub op : IsOpTyped e.op
+  pub reply : IsReplyTyped e.reply
+
+abbrev pub HasText : Entry → Type 0
+HasText e = IsInRange e × IsTyped e
+
+-- ---- reading
+
+unfoldable pub object_read : Bool → Reader Object
+object_read strict =
+    behind (codes "E") (made (λ n. Ecb n) (any_u32 strict))
+    (behind (codes "P") (made (λ n. Element n) (any_u32 strict))
+    (behind (codes "V") (made (λ n. Volume n) (any_u32 strict))
+    (behind (codes "L") (given Latches)
+    nothing)))
+
+-- a place, an operation, and behind the sign the reply
+abbrev pub event : {O R : Type 0} → Bool → Reader O → Reader R → Reader (ℕ × (O × R))
+event strict op reply = parted (number strict 0 highest_place) (parted op (behind (codes "= ") reply nothing))
+
+abbrev pub entry_of : ℕ → Object → ℕ → Op → Reply → Entry
+entry_of caller object place op reply =
+    record { caller = caller; object = object; place = place; op = op; reply = reply }
+
+-- what stands behind an object is of its kind
+abbrev pub entry_on : Bool → ℕ → Object → Reader Entry
+entry_on strict caller (Ecb n) =
+    made (λ x. entry_of caller (Ecb n) x.0 (op_on.Ecb x.1.0) (reply_of.Ecb x.1.1)) (event strict (ecb_op strict) (ecb_reply strict))
+entry_on strict caller (Element n) =
+    made (λ x. entry_of caller (Element n) x.0 (op_on.Element x.1.0) (reply_of.Element x.1.1)) (event strict (element_op strict) (element_reply strict))
+entry_on strict caller (Volume n) =
+    made (λ x. entry_of caller (Volume n) x.0 (op_on.Volume x.1.0) (reply_of.Volume x.1.1)) (event strict (volume_op strict) (volume_reply strict))
+entry_on strict caller Latches =
+    made (λ x. entry_of caller Latches x.0 (op_on.Latch x.1.0) (reply_of.Latch x.1.1)) (event strict (latch_op strict) (latch_reply strict))
+
+unfoldable pub entry_read : Bool → Reader Entry
+entry_read strict =
+    made (λ x. x.1) (parted_by (parted (any_u32 strict) (object_read strict)) (λ front. entry_on strict front.0 front.1))

@@ -1,0 +1,99 @@
+-- The faults of a text: one test for each kind of fault that a line can have, and which fault is the first.
+use Rattle.std.specs.Prelude.{ℕ, ◌+◌, ◌≤◌, ◌==◌, Bool, true, false, ◌&&◌, ◌||◌, not, List, [], ◌∷◌, length, All, Option, Some, None, is_some, if◌then◌else◌}
+use Rattle.mv_machine.specs.declared.entry.Entry.{Entry}
+use Rattle.mv_machine.specs.Check.{IsValid, refusal_of}
+use Rattle.mv_machine.specs.Setup.{Setup}
+use Rattle.mv_entrytext.specs.declared.fault.TextFault.{TextFault}
+use Rattle.mv_entrytext.specs.Ranges.{highest_u32}
+use Rattle.mv_entrytext.specs.Reading.{parts_at}
+use Rattle.mv_entrytext.specs.EntryText.{HasText}
+use Rattle.mv_entrytext.specs.Journal.{Line, Events, End}
+use Rattle.mv_entrytext.specs.Lines.{Draft, Stage, AtEnd, line_read, blank, draft_with}
+
+-- ---- faults of a line behind the lines so far
+
+-- whether a line is read as one that may stand there: strictly with each number spelled well and in its range, and
+-- otherwise whatever digits stand in the places of its numbers
+abbrev pub is_read : Bool → Draft → List ℕ → Bool
+is_read strict d line = is_some (line_read strict d.stage line)
+
+-- in neither way
+abbrev pub has_no_form : Draft → List ℕ → Bool
+has_no_form d line = not (is_read true d line || is_read false d line)
+
+-- a leading zero, or a number beyond its range
+abbrev pub has_bad_number : Draft → List ℕ → Bool
+has_bad_number d line = not (is_read true d line)
+
+-- the head ends, and its configuration is refused
+abbrev pub has_bad_config : Draft → Line → Bool
+has_bad_config d Events = is_some (refusal_of d.setup)
+has_bad_config d l = false
+
+-- the count at the end is not that of the entries
+abbrev pub has_wrong_count : Draft → Line → Bool
+has_wrong_count d (End n) = not (length d.entries == n)
+has_wrong_count d l = false
+
+-- the kind of what a line says
+abbrev pub kind_said : Draft → Option Line → Option ℕ
+kind_said d None = None
+kind_said d (Some l) = if has_bad_config d l then Some 3 else if has_wrong_count d l then Some 4 else None
+
+-- the first kind of a line that ends with LF
+abbrev pub kind_of : Draft → List ℕ → Option ℕ
+kind_of d line =
+    if has_no_form d line then Some 1
+    else if has_bad_number d line then Some 2
+    else kind_said d (line_read true d.stage line)
+
+-- what stands behind the last LF is cut off, unless it is nothing and the last line was END
+abbrev pub is_ended : Stage → Bool
+is_ended AtEnd = true
+is_ended _ = false
+
+abbrev pub is_cut : Draft → List ℕ → Bool
+is_cut d line = not (is_ended d.stage && length line == 0)
+
+-- ---- the first fault of a text
+
+abbrev pub fault_at : ℕ → ℕ → TextFault
+fault_at line kind = record { line = line; kind = kind }
+
+-- what the lines have said with this one
+abbrev pub draft_after : Draft → Option Line → Draft
+draft_after d None = d
+draft_after d (Some l) = draft_with l d
+
+-- a fault of this line, or else the first one behind it
+abbrev pub fault_or : ℕ → Option ℕ → Option TextFault → Option TextFault
+fault_or number (Some kind) behind = Some (fault_at number kind)
+fault_or number None behind = behind
+
+-- The first fault of lines that are numbered from here on, behind the lines so far. The last of them has no LF.
+unfoldable pub first_fault : ℕ → Draft → List (List ℕ) → Option TextFault
+first_fault number d [] = None
+first_fault number d (last ∷ []) = if is_cut d last then Some (fault_at number 5) else None
+first_fault number d (line ∷ more ∷ lines) =
+    fault_or number (kind_of d line) (first_fault (number + 1) (draft_after d (line_read true d.stage line)) (more ∷ lines))
+
+abbrev pub text_fault : List ℕ → Option TextFault
+text_fault bytes = first_fault 1 blank (parts_at 10 bytes)
+
+-- ---- what a text says
+
+unfoldable pub draft_of : Draft → List (List ℕ) → Draft
+draft_of d [] = d
+draft_of d (last ∷ []) = d
+draft_of d (line ∷ more ∷ lines) = draft_of (draft_after d (line_read true d.stage line)) (more ∷ lines)
+
+-- the configuration and the entries of a text without fault
+abbrev pub journal_of : List ℕ → Draft
+journal_of bytes = draft_of blank (parts_at 10 bytes)
+
+-- ---- which configurations and entries have a text
+
+pub record HasJournal (c : Setup) (entries : List Entry) : Type 0 where
+  pub valid : IsValid c
+  pub each : All HasText entries
+  pub count : length entries ≤ highest_u32

@@ -1,0 +1,119 @@
+-- Operations on the latch set and their replies: their words, their ranges, and how they are read.
+use Rattle.std.specs.Prelude.{ℕ, ◌≤◌, Bool, true, false, List, ◌++◌, codes, decimal}
+use Rattle.mv_latch.specs.declared.request.Mode.{Mode}
+use Rattle.mv_latch.specs.declared.request.Mode.TheVariants.{Shared, Exclusive}
+use Rattle.mv_latch.specs.declared.request.LatchForm.{LatchForm}
+use Rattle.mv_latch.specs.declared.request.LatchForm.TheVariants as form
+use Rattle.mv_latch.specs.declared.operation.LatchOp.{LatchOp}
+use Rattle.mv_latch.specs.declared.operation.LatchOp.TheVariants.{Obtain, Confirm, Release, Purge}
+use Rattle.mv_latch.specs.declared.operation.LatchReply.{LatchReply}
+use Rattle.mv_latch.specs.declared.operation.LatchReply.TheVariants.{Granted, Queued, NotNow, Waiting, Gone, Released, Purged}
+use Rattle.mv_entrytext.specs.Ranges.{highest_u32, highest_u64}
+use Rattle.mv_entrytext.specs.Words.{◌<+>◌}
+use Rattle.mv_entrytext.specs.Reading.{Reader, given, nothing, behind, made, parted, any_u32, any_u64}
+
+-- ---- words
+
+abbrev pub mode_text : Mode → List ℕ
+mode_text Shared = codes "S"
+mode_text Exclusive = codes "X"
+
+-- the Posted form names an event control block
+abbrev pub form_text : LatchForm → List ℕ
+form_text form.Conditional = codes "C"
+form_text form.Waiting = codes "W"
+form_text (form.Posted ecb) = codes "P" ++ decimal ecb
+
+-- conditional or unconditional
+abbrev pub condition_text : Bool → List ℕ
+condition_text true = codes "C"
+condition_text false = codes "U"
+
+abbrev pub latch_op_text : LatchOp → List ℕ
+latch_op_text (Obtain latch requestor mode form) =
+    codes "OBTAIN" <+> decimal latch <+> decimal requestor <+> mode_text mode <+> form_text form
+latch_op_text (Confirm latch id) = codes "CONFIRM" <+> decimal latch <+> decimal id
+latch_op_text (Release latch id conditional) = codes "RELEASE" <+> decimal latch <+> decimal id <+> condition_text conditional
+latch_op_text (Purge requestor) = codes "PURGE" <+> decimal requestor
+
+abbrev pub latch_reply_text : LatchReply → List ℕ
+latch_reply_text (Granted id) = codes "GRANTED" <+> decimal id
+latch_reply_text (Queued id) = codes "QUEUED" <+> decimal id
+latch_reply_text (NotNow id) = codes "NOTNOW" <+> decimal id
+latch_reply_text Waiting = codes "WAITING"
+latch_reply_text Gone = codes "GONE"
+latch_reply_text (Released granted) = codes "RELEASED" <+> decimal granted
+latch_reply_text (Purged removed granted) = codes "PURGED" <+> decimal removed <+> decimal granted
+
+-- ---- ranges: each number may be any of its type
+
+abbrev pub IsFormTyped : LatchForm → Type 0
+IsFormTyped (form.Posted ecb) = ecb ≤ highest_u32
+IsFormTyped _ = Unit {0}
+
+abbrev pub IsLatchOpTyped : LatchOp → Type 0
+IsLatchOpTyped (Obtain latch requestor mode form) = (latch ≤ highest_u32) × (requestor ≤ highest_u64) × IsFormTyped form
+IsLatchOpTyped (Confirm latch id) = (latch ≤ highest_u32) × (id ≤ highest_u32)
+IsLatchOpTyped (Release latch id conditional) = (latch ≤ highest_u32) × (id ≤ highest_u32)
+IsLatchOpTyped (Purge requestor) = requestor ≤ highest_u64
+
+abbrev pub IsLatchReplyTyped : LatchReply → Type 0
+IsLatchReplyTyped (Granted id) = id ≤ highest_u32
+IsLatchReplyTyped (Queued id) = id ≤ highest_u32
+IsLatchReplyTyped (NotNow id) = id ≤ highest_u32
+IsLatchReplyTyped (Released granted) = granted ≤ highest_u32
+IsLatchReplyTyped (Purged removed granted) = (removed ≤ highest_u32) × (granted ≤ highest_u32)
+IsLatchReplyTyped _ = Unit {0}
+
+-- ---- reading
+
+unfoldable pub mode_read : Reader Mode
+mode_read =
+    behind (codes "S") (given Shared)
+    (behind (codes "X") (given Exclusive)
+    nothing)
+
+unfoldable pub form_read : Bool → Reader LatchForm
+form_read strict =
+    behind (codes "C") (given form.Conditional)
+    (behind (codes "W") (given form.Waiting)
+    (behind (codes "P") (made (λ ecb. form.Posted ecb) (any_u32 strict))
+    nothing))
+
+unfoldable pub condition : Reader Bool
+condition =
+    behind (codes "C") (given true)
+    (behind (codes "U") (given false)
+    nothing)
+
+abbrev pub two_u32 : Bool → Reader (ℕ × ℕ)
+two_u32 strict = parted (any_u32 strict) (any_u32 strict)
+
+-- a requestor, a mode and a form
+unfoldable pub obtain_rest : Bool → Reader (ℕ × (Mode × LatchForm))
+obtain_rest strict = parted (any_u64 strict) (parted mode_read (form_read strict))
+
+unfoldable pub obtain : Bool → Reader LatchOp
+obtain strict = made (λ x. Obtain x.0 x.1.0 x.1.1.0 x.1.1.1) (parted (any_u32 strict) (obtain_rest strict))
+
+unfoldable pub release : Bool → Reader LatchOp
+release strict = made (λ x. Release x.0 x.1.0 x.1.1) (parted (any_u32 strict) (parted (any_u32 strict) condition))
+
+unfoldable pub latch_op : Bool → Reader LatchOp
+latch_op strict =
+    behind (codes "OBTAIN ") (obtain strict)
+    (behind (codes "CONFIRM ") (made (λ x. Confirm x.0 x.1) (two_u32 strict))
+    (behind (codes "RELEASE ") (release strict)
+    (behind (codes "PURGE ") (made (λ requestor. Purge requestor) (any_u64 strict))
+    nothing)))
+
+unfoldable pub latch_reply : Bool → Reader LatchReply
+latch_reply strict =
+    behind (codes "GRANTED ") (made (λ id. Granted id) (any_u32 strict))
+    (behind (codes "QUEUED ") (made (λ id. Queued id) (any_u32 strict))
+    (behind (codes "NOTNOW ") (made (λ id. NotNow id) (any_u32 strict))
+    (behind (codes "WAITING") (given Waiting)
+    (behind (codes "GONE") (given Gone)
+    (behind (codes "RELEASED ") (made (λ granted. Released granted) (any_u32 strict))
+    (behind (codes "PURGED ") (made (λ x. Purged x.0 x.1) (two_u32 strict))
+    nothing))))))

@@ -1,0 +1,126 @@
+-- How the lines of a journal are read, and what the lines so far have said.
+use Rattle.std.specs.Prelude.{ℕ, Bool, List, [], ◌∷◌, ◌++◌, codes, Option, Some, None, option_map, option_and_then}
+use Rattle.mv_machine.specs.declared.entry.Entry.{Entry}
+use Rattle.mv_machine.specs.Setup.{Setup, SetupExit}
+use Rattle.mv_entrytext.specs.EntryText.{entry_read}
+use Rattle.mv_entrytext.specs.Journal.{Line, Version, Callers, Elements, Volumes, Latches, Quota, Budget, Owner, ExitTo, Events, EntryOf, End}
+use Rattle.mv_entrytext.specs.Reading.{Reader, given, nothing, behind, made, parted, whole, parts_at, any_u32}
+
+-- which line comes next
+pub data Stage : Type 0 where
+  AtVersion : Stage
+  AtCallers : Stage
+  AtElements : Stage
+  AtVolumes : Stage
+  AtLatches : Stage
+  AtQuota : Stage
+  AtBudgets : Stage
+  AtOwners : Stage
+  AtExits : Stage
+  AtEntries : Stage
+  AtEnd : Stage
+
+-- the numbers of fields, each a number to its end
+unfoldable pub numbers : Bool → List (List ℕ) → Option (List ℕ)
+numbers strict [] = Some []
+numbers strict (field ∷ fields) =
+    option_and_then (λ n. option_map (λ ns. n ∷ ns) (numbers strict fields)) (whole (any_u32 strict) field)
+
+-- a source, and one or more targets
+abbrev pub exit_from : List ℕ → Option (SetupExit × List ℕ)
+exit_from (source ∷ target ∷ targets) = Some (record { source = source; targets = target ∷ targets }, [])
+exit_from _ = None
+
+-- the fields of an exit, parted by single spaces
+unfoldable pub exit_read : Bool → Reader SetupExit
+exit_read strict text = option_and_then exit_from (numbers strict (parts_at 32 text))
+
+-- the lines that may stand where an exit may
+abbrev pub at_exits : Bool → Reader Line
+at_exits strict =
+    behind (codes "EXIT ") (made (λ x. ExitTo x) (exit_read strict))
+    (behind (codes "EVENTS") (given Events)
+    nothing)
+
+-- the lines that may stand where an owner may
+abbrev pub at_owners : Bool → Reader Line
+at_owners strict = behind (codes "ECB ") (made (λ n. Owner n) (any_u32 strict)) (at_exits strict)
+
+-- the lines that may come next
+unfoldable pub next_line : Bool → Stage → Reader Line
+next_line strict AtVersion = behind (codes "JOURNAL 1") (given Version) nothing
+next_line strict AtCallers = behind (codes "CALLERS ") (made (λ n. Callers n) (any_u32 strict)) nothing
+next_line strict AtElements = behind (codes "ELEMENTS ") (made (λ n. Elements n) (any_u32 strict)) nothing
+next_line strict AtVolumes = behind (codes "VOLUMES ") (made (λ n. Volumes n) (any_u32 strict)) nothing
+next_line strict AtLatches = behind (codes "LATCHES ") (made (λ n. Latches n) (any_u32 strict)) nothing
+next_line strict AtQuota = behind (codes "QUOTA ") (made (λ x. Quota x.0 x.1) (parted (any_u32 strict) (any_u32 strict))) nothing
+next_line strict AtBudgets = behind (codes "BUDGET ") (made (λ n. Budget n) (any_u32 strict)) (at_owners strict)
+next_line strict AtOwners = at_owners strict
+next_line strict AtExits = at_exits strict
+next_line strict AtEntries =
+    behind (codes "END ") (made (λ n. End n) (any_u32 strict)) (made (λ e. EntryOf e) (entry_read strict))
+next_line strict AtEnd = nothing
+
+-- a line without its LF, read to its end
+abbrev pub line_read : Bool → Stage → List ℕ → Option Line
+line_read strict stage text = whole (next_line strict stage) text
+
+-- ---- what the lines so far have said
+
+pub record Draft : Type 0 where
+  pub stage : Stage
+  pub setup : Setup
+  pub entries : List Entry
+
+-- before the first line
+abbrev pub blank : Draft
+blank = record {
+  stage = AtVersion;
+  setup = record {
+    callers = 0;
+    elements_per_caller = 0;
+    volumes = 0;
+    latches = 0;
+    quota = 0;
+    posted_quota = 0;
+    budgets = [];
+    owners = [];
+    exits = [];
+  };
+  entries = [];
+}
+
+-- which line comes next behind this one
+abbrev pub stage_behind : Line → Stage
+stage_behind Version = AtCallers
+stage_behind (Callers n) = AtElements
+stage_behind (Elements n) = AtVolumes
+stage_behind (Volumes n) = AtLatches
+stage_behind (Latches n) = AtQuota
+stage_behind (Quota quota posted) = AtBudgets
+stage_behind (Budget n) = AtBudgets
+stage_behind (Owner caller) = AtOwners
+stage_behind (ExitTo x) = AtExits
+stage_behind Events = AtEntries
+stage_behind (EntryOf e) = AtEntries
+stage_behind (End n) = AtEnd
+
+-- what a line adds to the configuration
+abbrev pub setup_with : Line → Setup → Setup
+setup_with (Callers n) c = record c { callers = n }
+setup_with (Elements n) c = record c { elements_per_caller = n }
+setup_with (Volumes n) c = record c { volumes = n }
+setup_with (Latches n) c = record c { latches = n }
+setup_with (Quota quota posted) c = record c { quota = quota; posted_quota = posted }
+setup_with (Budget n) c = record c { budgets = c.budgets ++ n ∷ [] }
+setup_with (Owner caller) c = record c { owners = c.owners ++ caller ∷ [] }
+setup_with (ExitTo x) c = record c { exits = c.exits ++ x ∷ [] }
+setup_with _ c = c
+
+-- and to the entries
+abbrev pub entries_with : Line → List Entry → List Entry
+entries_with (EntryOf e) es = es ++ e ∷ []
+entries_with _ es = es
+
+abbrev pub draft_with : Line → Draft → Draft
+draft_with l d = record { stage = stage_behind l; setup = setup_with l d.setup; entries = entries_with l d.entries }

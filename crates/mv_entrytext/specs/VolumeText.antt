@@ -1,0 +1,38 @@
+-- Operations on volumes and their replies: their words, their ranges, and how they are read.
+use Rattle.std.specs.Prelude.{ℕ, ◌≤◌, Bool, List, codes, decimal}
+use Rattle.mv_machine.specs.declared.entry.VolumeOp.{VolumeOp}
+use Rattle.mv_machine.specs.declared.entry.VolumeOp.TheVariants.{Read, Write}
+use Rattle.mv_machine.specs.declared.entry.VolumeReply.{VolumeReply}
+use Rattle.mv_machine.specs.declared.entry.VolumeReply.TheVariants.{Value, Stored}
+use Rattle.mv_entrytext.specs.Ranges.{highest_u32}
+use Rattle.mv_entrytext.specs.Words.{◌<+>◌}
+use Rattle.mv_entrytext.specs.Reading.{Reader, given, nothing, behind, made, any_u32}
+
+abbrev pub volume_op_text : VolumeOp → List ℕ
+volume_op_text Read = codes "READ"
+volume_op_text (Write number) = codes "WRITE" <+> decimal number
+
+abbrev pub volume_reply_text : VolumeReply → List ℕ
+volume_reply_text (Value number) = codes "VALUE" <+> decimal number
+volume_reply_text Stored = codes "STORED"
+
+-- a volume's number may be any of its type
+abbrev pub IsVolumeOpTyped : VolumeOp → Type 0
+IsVolumeOpTyped Read = Unit {0}
+IsVolumeOpTyped (Write number) = number ≤ highest_u32
+
+abbrev pub IsVolumeReplyTyped : VolumeReply → Type 0
+IsVolumeReplyTyped (Value number) = number ≤ highest_u32
+IsVolumeReplyTyped Stored = Unit {0}
+
+unfoldable pub volume_op : Bool → Reader VolumeOp
+volume_op strict =
+    behind (codes "READ") (given Read)
+    (behind (codes "WRITE ") (made (λ number. Write number) (any_u32 strict))
+    nothing)
+
+unfoldable pub volume_reply : Bool → Reader VolumeReply
+volume_reply strict =
+    behind (codes "VALUE ") (made (λ number. Value number) (any_u32 strict))
+    (behind (codes "STORED") (given Stored)
+    nothing)

@@ -1,0 +1,177 @@
+//! The journal, written from its first line to its last.
+
+ghost use Rattle.std.specs.Prelude.{◌≡◌, ◌≤◌, ◌<◌, ◌^◌, ◌++◌, List, ℕ, length, All, map, OnOk, IfOk, codes, decimal};
+ghost use Rattle.std.specs.List.{flat_map};
+ghost use Rattle.mv_machine.specs.Config.{setup_of, exit_of};
+ghost use Rattle.mv_entrytext.specs.EntryText.{IsInRange, IsTyped};
+ghost use Rattle.mv_entrytext.specs.Journal.{Version, Callers, Elements, Volumes, Latches, Quota, Budget, Owner, ExitTo, Events, EntryOf, End, line, counts_text, lists_text, head_text, journal_text};
+
+use crate::entry::push_entry;
+use crate::number::{push_number, push_pair, push_wide, push_word};
+use mv_io::NoMemory;
+use mv_machine::{Config, Entry, Exit, ValidConfig};
+use std::alloc::Global;
+
+// A word and a number on a line.
+fn push_line(out: &mut Vec<u8>, word: &[u8], number: u32) -> Result<(), NoMemory>
+    ensures { OnOk result (out.new.items ≡ out.old.items ++ ((word.now ++ decimal number) ++ codes "\n")) }
+{
+    push_number(out, word, number)?;
+    push_word(out, b"\n")
+}
+
+#[tactic(auto, unfolding(crate::specs::Journal::line))]
+fn push_per_caller(out: &mut Vec<u8>, config: &Config) -> Result<(), NoMemory>
+    ensures { let c = setup_of config.now in OnOk result (out.new.items
+        ≡ out.old.items ++ (line Version ++ line (Callers c.callers) ++ line (Elements c.elements_per_caller))) }
+{
+    push_word(out, b"JOURNAL 1\n")?;
+    push_line(out, b"CALLERS ", config.callers)?;
+    push_line(out, b"ELEMENTS ", config.elements_per_caller)
+}
+
+#[tactic(auto, unfolding(crate::specs::Journal::line))]
+fn push_shared(out: &mut Vec<u8>, config: &Config) -> Result<(), NoMemory>
+    ensures { let c = setup_of config.now in OnOk result (out.new.items
+        ≡ out.old.items ++ (line (Volumes c.volumes) ++ line (Latches c.latches))) }
+{
+    push_line(out, b"VOLUMES ", config.volumes)?;
+    push_line(out, b"LATCHES ", config.latches)
+}
+
+#[tactic(auto, unfolding(crate::specs::Journal::line))]
+fn push_quota(out: &mut Vec<u8>, config: &Config) -> Result<(), NoMemory>
+    ensures { let c = setup_of config.now in OnOk result (out.new.items ≡ out.old.items ++ line (Quota c.quota c.posted_quota)) }
+{
+    push_pair(out, b"QUOTA ", config.quota, config.posted_quota)?;
+    push_word(out, b"\n")
+}
+
+#[tactic(auto, unfolding(crate::specs::Journal::counts_text))]
+fn push_counts(out: &mut Vec<u8>, config: &Config) -> Result<(), NoMemory>
+    ensures { OnOk result (out.new.items ≡ out.old.items ++ counts_text (setup_of config.now)) }
+{
+    push_per_caller(out, config)?;
+    push_shared(out, config)?;
+    push_quota(out, config)
+}
+
+#[tactic(auto, unfolding(crate::specs::Journal::line))]
+fn push_budget(out: &mut Vec<u8>, budget: u32) -> Result<(), NoMemory>
+    ensures { OnOk result (out.new.items ≡ out.old.items ++ line (Budget budget)) }
+{
+    push_line(out, b"BUDGET ", budget)
+}
+
+fn push_budgets(out: &mut Vec<u8>, budgets: &[u32]) -> Result<(), NoMemory>
+    ensures { OnOk result (out.new.items ≡ out.old.items ++ flat_map (λ n. line (Budget n)) budgets.now) }
+{
+    for budget in budgets {
+        push_budget(out, *budget)?;
+    }
+    Ok(())
+}
+
+#[tactic(auto, unfolding(crate::specs::Journal::line))]
+fn push_owner(out: &mut Vec<u8>, owner: u32) -> Result<(), NoMemory>
+    ensures { OnOk result (out.new.items ≡ out.old.items ++ line (Owner owner)) }
+{
+    push_line(out, b"ECB ", owner)
+}
+
+fn push_owners(out: &mut Vec<u8>, owners: &[u32]) -> Result<(), NoMemory>
+    ensures { OnOk result (out.new.items ≡ out.old.items ++ flat_map (λ n. line (Owner n)) owners.now) }
+{
+    for owner in owners {
+        push_owner(out, *owner)?;
+    }
+    Ok(())
+}
+
+fn push_targets(out: &mut Vec<u8>, targets: &[u32]) -> Result<(), NoMemory>
+    ensures { OnOk result (out.new.items ≡ out.old.items ++ flat_map (λ target. codes " " ++ decimal target) targets.now) }
+{
+    for target in targets {
+        push_number(out, b" ", *target)?;
+    }
+    Ok(())
+}
+
+#[tactic(auto, unfolding(crate::specs::Journal::line))]
+fn push_exit(out: &mut Vec<u8>, exit: &Exit) -> Result<(), NoMemory>
+    ensures { OnOk result (out.new.items ≡ out.old.items ++ line (ExitTo (exit_of exit.now))) }
+{
+    push_number(out, b"EXIT ", exit.source)?;
+    push_targets(out, &exit.targets)?;
+    push_word(out, b"\n")
+}
+
+fn push_exits(out: &mut Vec<u8>, exits: &[Exit]) -> Result<(), NoMemory>
+    ensures { OnOk result (out.new.items ≡ out.old.items ++ flat_map (λ x. line (ExitTo x)) (map exit_of exits.now)) }
+{
+    for exit in exits {
+        push_exit(out, exit)?;
+    }
+    Ok(())
+}
+
+#[tactic(auto, unfolding(crate::specs::Journal::lists_text))]
+fn push_lists(out: &mut Vec<u8>, config: &Config) -> Result<(), NoMemory>
+    ensures { OnOk result (out.new.items ≡ out.old.items ++ lists_text (setup_of config.now)) }
+{
+    push_budgets(out, &config.budgets)?;
+    push_owners(out, &config.owners)?;
+    push_exits(out, &config.exits)
+}
+
+#[tactic(auto, unfolding(crate::specs::Journal::head_text, crate::specs::Journal::line))]
+fn push_head(out: &mut Vec<u8>, config: &Config) -> Result<(), NoMemory>
+    ensures { OnOk result (out.new.items ≡ out.old.items ++ head_text (setup_of config.now)) }
+{
+    push_counts(out, config)?;
+    push_lists(out, config)?;
+    push_word(out, b"EVENTS\n")
+}
+
+#[tactic(auto, unfolding(crate::specs::Journal::line))]
+fn push_entry_line(out: &mut Vec<u8>, entry: &Entry) -> Result<(), NoMemory>
+    ensures text { OnOk result (out.new.items ≡ out.old.items ++ line (EntryOf entry.now)) }
+    ensures typed { OnOk result (IsTyped entry.now) }
+{
+    push_entry(out, entry)?;
+    push_word(out, b"\n")
+}
+
+fn push_entries(out: &mut Vec<u8>, entries: &[Entry]) -> Result<(), NoMemory>
+    ensures text { OnOk result (out.new.items ≡ out.old.items ++ flat_map (λ e. line (EntryOf e)) entries.now) }
+    ensures typed { OnOk result (All IsTyped entries.now) }
+{
+    for entry in entries {
+        push_entry_line(out, entry)?;
+    }
+    Ok(())
+}
+
+/// The journal of a run: its configuration and its entries, in version 1 of the text.
+///
+/// Each entry's operation and reply are of its object's kind, with numbers in the ranges of `docs/FORMATS.md`; what a
+/// number's type says already needs no condition, and is told. The only error is want of memory. The text is made in one
+/// buffer that grows by doubling, in time linear in its length.
+#[tactic(auto, unfolding(crate::specs::Journal::journal_text, crate::specs::Journal::line))]
+pub fn write_journal(
+    alloc: Global,
+    config: &ValidConfig,
+    entries: &[Entry],
+) -> Result<Vec<u8>, NoMemory>
+    requires in_range { All IsInRange entries.now }
+    ensures text { IfOk result (λ text. text.items ≡ journal_text config.now entries.now) }
+    // So these entries have a text that reads back.
+    ensures typed { OnOk result (All IsTyped entries.now) }
+{
+    let mut out = Vec::new(alloc);
+    push_head(&mut out, config.config())?;
+    push_entries(&mut out, entries)?;
+    push_wide(&mut out, b"END ", entries.len() as u64)?;
+    push_word(&mut out, b"\n")?;
+    Ok(out)
+}
