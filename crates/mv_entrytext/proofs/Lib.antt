@@ -10,4 +10,8 @@ pub mod Taken
 pub mod KindsTaken
 pub mod LinesTaken
 pub mod TextsTaken
+pub mod Digits
+pub mod Fields
+pub mod Passes
+pub mod Heads
 pub mod Rows

@@ -16,7 +16,7 @@ use Rattle.mv_entrytext.specs.Words.{◌<+>◌}
 use Rattle.mv_entrytext.specs.Reading.{Reader, behind, made, parts_at, parted_by, any_u32}
 use Rattle.mv_entrytext.specs.EntryText.{HasText, entry_read, entry_text, object_text, op_text, reply_text}
 use Rattle.mv_entrytext.specs.Journal.{Line, Version, Callers, Elements, Volumes, Latches, Quota, Budget, Owner, ExitTo, Events, EntryOf, End, line_text, line, counts_text, lists_text, head_text, journal_text}
-use Rattle.mv_entrytext.specs.Lines.{Stage, AtVersion, AtCallers, AtElements, AtVolumes, AtLatches, AtQuota, AtBudgets, AtOwners, AtExits, AtEntries, AtEnd, numbers, exit_from, exit_read, next_line, line_read, Draft, blank, draft_with}
+use Rattle.mv_entrytext.specs.Lines.{Stage, AtVersion, AtCallers, AtElements, AtVolumes, AtLatches, AtQuota, AtBudgets, AtOwners, AtExits, AtEntries, AtEnd, numbers, exit_from, exit_read, count_line, next_line, line_read, Draft, blank, draft_with}
 use Rattle.mv_entrytext.specs.Fault.{kind_said, first_fault, draft_of, HasJournal, text_fault, journal_of}
 use Rattle.mv_entrytext.proofs.Numbers.{numeral_of, u32_again, parted_again}
 use Rattle.mv_entrytext.proofs.Parts.{Lacks-decimal, parts_first, parts_last, first_part}
@@ -33,34 +33,34 @@ u32_alone : (n : ℕ) → n ≤ highest_u32 → any_u32 true (decimal n) ≡ Som
 u32_alone n le = to_the_end (any_u32 true) n (decimal n) (u32_again n [] le refl)
 
 version_read : line_read true AtVersion (line_text Version) ≡ Some Version
-unfolding next_line behind
+unfolding next_line count_line behind
 version_read = refl
 
 callers_read : (n : ℕ) → n ≤ highest_u32 → line_read true AtCallers (line_text (Callers n)) ≡ Some (Callers n)
-unfolding next_line behind
+unfolding next_line count_line behind
 callers_read n le = rw (u32_alone n le) refl
 
 elements_read : (n : ℕ) → n ≤ highest_u32 → line_read true AtElements (line_text (Elements n)) ≡ Some (Elements n)
-unfolding next_line behind
+unfolding next_line count_line behind
 elements_read n le = rw (u32_alone n le) refl
 
 volumes_read : (n : ℕ) → n ≤ highest_u32 → line_read true AtVolumes (line_text (Volumes n)) ≡ Some (Volumes n)
-unfolding next_line behind
+unfolding next_line count_line behind
 volumes_read n le = rw (u32_alone n le) refl
 
 latches_read : (n : ℕ) → n ≤ highest_u32 → line_read true AtLatches (line_text (Latches n)) ≡ Some (Latches n)
-unfolding next_line behind
+unfolding next_line count_line behind
 latches_read n le = rw (u32_alone n le) refl
 
 quota_read : (q p : ℕ) → q ≤ highest_u32 → p ≤ highest_u32 → line_read true AtQuota (line_text (Quota q p)) ≡ Some (Quota q p)
-unfolding next_line behind
+unfolding next_line count_line behind
 quota_read q p lq lp =
     let both = to_the_end (parted_by (any_u32 true) (λ _. any_u32 true)) (q, p) (decimal q <+> decimal p)
     (parted_again (any_u32 true) (λ _. any_u32 true) q p (decimal q) (decimal p) [] (u32_again q (32 ∷ (decimal p ++ [])) lq refl) (u32_again p [] lp refl)) in
     rw both refl
 
 budget_read : (n : ℕ) → n ≤ highest_u32 → line_read true AtBudgets (line_text (Budget n)) ≡ Some (Budget n)
-unfolding next_line behind
+unfolding next_line count_line behind
 budget_read n le = rw (u32_alone n le) refl
 
 -- where an owner may stand, and where an exit may
@@ -76,20 +76,20 @@ MayExit AtExits = Unit {0}
 MayExit _ = ⊥
 
 owner_read : (s : Stage) (n : ℕ) → MayOwn s → n ≤ highest_u32 → line_read true s (line_text (Owner n)) ≡ Some (Owner n)
-unfolding next_line behind
+unfolding next_line count_line behind
 owner_read AtBudgets n m le = rw (u32_alone n le) refl
 owner_read AtOwners n m le = rw (u32_alone n le) refl
 owner_read s n m le = absurd m
 
 events_read : (s : Stage) → MayExit s → line_read true s (line_text Events) ≡ Some Events
-unfolding next_line behind
+unfolding next_line count_line behind
 events_read AtBudgets m = refl
 events_read AtOwners m = refl
 events_read AtExits m = refl
 events_read s m = absurd m
 
 end_read : (n : ℕ) → n ≤ highest_u32 → line_read true AtEntries (line_text (End n)) ≡ Some (End n)
-unfolding next_line behind
+unfolding next_line count_line behind
 end_read n le = rw (u32_alone n le) refl
 
 -- the fields of an exit
@@ -118,7 +118,7 @@ exit_again x h =
       go (t ∷ ts) some e = rw e refl
 
 exit_line_read : (s : Stage) (x : SetupExit) → MayExit s → IsExit x → line_read true s (line_text (ExitTo x)) ≡ Some (ExitTo x)
-unfolding next_line behind
+unfolding next_line count_line behind
 exit_line_read AtBudgets x m h = rw (exit_again x h) refl
 exit_line_read AtOwners x m h = rw (exit_again x h) refl
 exit_line_read AtExits x m h = rw (exit_again x h) refl
@@ -134,7 +134,7 @@ unfolding behind
 no_end reader other text c cs e le = rw (e, ne_eqb 69 c (λ q. omega arith)) refl
 
 entry_line_read : (e : Entry) → HasText e → line_read true AtEntries (line_text (EntryOf e)) ≡ Some (EntryOf e)
-unfolding next_line entry_text
+unfolding next_line count_line entry_text
 entry_line_read e h =
     let more = 32 ∷ (object_text e.object <+> decimal e.place <+> op_text e.op <+> codes "=" <+> reply_text e.reply) in
     let n = numeral_of e.caller (omega (arith, h.1.caller)) in
@@ -158,12 +158,12 @@ goes_on a b c x y z p q = record {
 stays : (d : Draft) (x : List ℕ) → Goes d x d x
 stays d x = record { fault = λ number. (number, refl); draft = refl }
 
-fault_passed : (number : ℕ) (d : Draft) (l : Line) (text more : List ℕ) (lines : List (List ℕ)) → line_read true d.stage text ≡ Some l → kind_said d (Some l) ≡ None
+pub fault_passed : (number : ℕ) (d : Draft) (l : Line) (text more : List ℕ) (lines : List (List ℕ)) → line_read true d.stage text ≡ Some l → kind_said d (Some l) ≡ None
     → first_fault number d (text ∷ more ∷ lines) ≡ first_fault (number + 1) (draft_with l d) (more ∷ lines)
 unfolding first_fault
 fault_passed number d l text more lines read said = rw (read, said) refl
 
-draft_passed : (d : Draft) (l : Line) (text more : List ℕ) (lines : List (List ℕ)) → line_read true d.stage text ≡ Some l → draft_of d (text ∷ more ∷ lines) ≡ draft_of (draft_with l d) (more ∷ lines)
+pub draft_passed : (d : Draft) (l : Line) (text more : List ℕ) (lines : List (List ℕ)) → line_read true d.stage text ≡ Some l → draft_of d (text ∷ more ∷ lines) ≡ draft_of (draft_with l d) (more ∷ lines)
 unfolding draft_of
 draft_passed d l text more lines read = rw read refl
 

@@ -11,7 +11,7 @@ use Rattle.mv_entrytext.specs.Ranges.{highest_u32}
 use Rattle.mv_entrytext.specs.Reading.{whole, parted, onto_first, parts_at, any_u32}
 use Rattle.mv_entrytext.specs.EntryText.{HasText, entry_read, entry_text}
 use Rattle.mv_entrytext.specs.Journal.{Line, Version, Callers, Elements, Volumes, Latches, Quota, Budget, Owner, ExitTo, Events, EntryOf, End, line_text}
-use Rattle.mv_entrytext.specs.Lines.{Stage, AtVersion, AtCallers, AtElements, AtVolumes, AtLatches, AtQuota, AtBudgets, AtOwners, AtExits, AtEntries, AtEnd, numbers, exit_from, exit_read, next_line, line_read}
+use Rattle.mv_entrytext.specs.Lines.{Stage, AtVersion, AtCallers, AtElements, AtVolumes, AtLatches, AtQuota, AtBudgets, AtOwners, AtExits, AtEntries, AtEnd, numbers, exit_from, exit_read, count_line, next_line, line_read}
 use Rattle.mv_entrytext.proofs.Parts.{first_part}
 use Rattle.mv_entrytext.proofs.Taken.{Takes, bound, some_is, takes_nothing, takes_behind, behind_given, takes_made, behind_made, takes_whole, takes_u32}
 use Rattle.mv_entrytext.proofs.KindsTaken.{pair_text, takes_two, takes_entry}
@@ -124,7 +124,7 @@ MayCome AtEntries (End n) = n ≤ highest_u32
 MayCome _ _ = ⊥
 
 pub takes_line : (s : Stage) → Takes line_text (λ l. MayCome s l) (next_line true s)
-unfolding next_line
+unfolding next_line count_line
 takes_line AtVersion =
     takes_behind (codes "JOURNAL 1") line_text (λ l. MayCome AtVersion l) _ _ (behind_given (codes "JOURNAL 1") line_text (λ l. MayCome AtVersion l) Version refl tt)
     (takes_nothing line_text (λ l. MayCome AtVersion l))

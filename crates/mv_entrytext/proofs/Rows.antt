@@ -1,8 +1,26 @@
--- Worked rows.
-use Rattle.std.proofs.Common.{◌≡◌, [], Some, refl}
-use Rattle.mv_entrytext.specs.Fault.{text_fault, fault_at}
-use Rattle.mv_entrytext.specs.Reading.{parts_at}
+-- Worked rows: texts with their first faults, and a journal with none.
+use Rattle.std.proofs.Common.{◌≡◌, [], Some, None, refl}
+use Rattle.std.specs.Prelude.{codes}
+use Rattle.mv_entrytext.specs.Fault.{first_fault, text_fault, fault_at}
+use Rattle.mv_entrytext.specs.Lines.{next_line, count_line}
+use Rattle.mv_entrytext.specs.Reading.{behind, number, parts_at, parted_by}
 
 pub empty_text : text_fault [] ≡ Some (fault_at 1 5)
-unfolding Rattle.mv_entrytext.specs.Fault.first_fault parts_at
+unfolding first_fault parts_at
 empty_text = refl
+
+pub leading_zero : text_fault (codes "JOURNAL 1\nCALLERS 01\n") ≡ Some (fault_at 2 2)
+unfolding first_fault parts_at next_line count_line behind number
+leading_zero = refl
+
+pub bad_form_goes_first : text_fault (codes "JOURNAL 1\nCALLERS 01 \n") ≡ Some (fault_at 2 1)
+unfolding first_fault parts_at next_line count_line behind number
+bad_form_goes_first = refl
+
+pub no_budget : text_fault (codes "JOURNAL 1\nCALLERS 1\nELEMENTS 1\nVOLUMES 1\nLATCHES 1\nQUOTA 1 0\nEVENTS\n") ≡ Some (fault_at 7 3)
+unfolding first_fault parts_at next_line count_line behind number parted_by
+no_budget = refl
+
+pub no_entry : text_fault (codes "JOURNAL 1\nCALLERS 1\nELEMENTS 1\nVOLUMES 1\nLATCHES 1\nQUOTA 1 0\nBUDGET 0\nEVENTS\nEND 0\n") ≡ None
+unfolding first_fault parts_at next_line count_line behind number parted_by
+no_entry = refl

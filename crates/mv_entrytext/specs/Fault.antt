@@ -1,9 +1,11 @@
 -- The faults of a text: one test for each kind of fault that a line can have, and which fault is the first.
-use Rattle.std.specs.Prelude.{ℕ, ◌+◌, ◌≤◌, ◌==◌, Bool, true, false, ◌&&◌, ◌||◌, not, List, [], ◌∷◌, length, All, Option, Some, None, is_some, if◌then◌else◌}
+use Rattle.std.specs.Prelude.{◌≡◌, ℕ, ◌+◌, ◌≤◌, ◌==◌, Bool, true, false, ◌&&◌, ◌||◌, not, List, [], ◌∷◌, length, All, Option, Some, None, is_some, if◌then◌else◌}
 use Rattle.mv_machine.specs.declared.entry.Entry.{Entry}
 use Rattle.mv_machine.specs.Check.{IsValid, refusal_of}
 use Rattle.mv_machine.specs.Setup.{Setup}
 use Rattle.mv_entrytext.specs.declared.fault.TextFault.{TextFault}
+use Rattle.mv_entrytext.specs.declared.fault.TextRefusal.{TextRefusal}
+use Rattle.mv_entrytext.specs.declared.fault.TextRefusal.TheVariants.{Fault, NoMemory}
 use Rattle.mv_entrytext.specs.Ranges.{highest_u32}
 use Rattle.mv_entrytext.specs.Reading.{parts_at}
 use Rattle.mv_entrytext.specs.EntryText.{HasText}
@@ -79,6 +81,11 @@ first_fault number d (line ∷ more ∷ lines) =
 
 abbrev pub text_fault : List ℕ → Option TextFault
 text_fault bytes = first_fault 1 blank (parts_at 10 bytes)
+
+-- a fault is told only where it is the first
+abbrev pub TellsFirst : TextRefusal → Option TextFault → Type 0
+TellsFirst (Fault f) first = first ≡ Some f
+TellsFirst NoMemory first = Unit {0}
 
 -- ---- what a text says
 

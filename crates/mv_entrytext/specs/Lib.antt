@@ -9,3 +9,5 @@ pub mod EntryText
 pub mod Journal
 pub mod Lines
 pub mod Fault
+pub mod Said
+pub mod Draft

@@ -46,20 +46,24 @@ at_exits strict =
 abbrev pub at_owners : Bool → Reader Line
 at_owners strict = behind (codes "ECB ") (made (λ n. Owner n) (any_u32 strict)) (at_exits strict)
 
+-- the lines of the counts, each of which has its place
+unfoldable pub count_line : Bool → Stage → Reader Line
+count_line strict AtVersion = behind (codes "JOURNAL 1") (given Version) nothing
+count_line strict AtCallers = behind (codes "CALLERS ") (made (λ n. Callers n) (any_u32 strict)) nothing
+count_line strict AtElements = behind (codes "ELEMENTS ") (made (λ n. Elements n) (any_u32 strict)) nothing
+count_line strict AtVolumes = behind (codes "VOLUMES ") (made (λ n. Volumes n) (any_u32 strict)) nothing
+count_line strict AtLatches = behind (codes "LATCHES ") (made (λ n. Latches n) (any_u32 strict)) nothing
+count_line strict AtQuota = behind (codes "QUOTA ") (made (λ x. Quota x.0 x.1) (parted (any_u32 strict) (any_u32 strict))) nothing
+count_line strict _ = nothing
+
 -- the lines that may come next
 unfoldable pub next_line : Bool → Stage → Reader Line
-next_line strict AtVersion = behind (codes "JOURNAL 1") (given Version) nothing
-next_line strict AtCallers = behind (codes "CALLERS ") (made (λ n. Callers n) (any_u32 strict)) nothing
-next_line strict AtElements = behind (codes "ELEMENTS ") (made (λ n. Elements n) (any_u32 strict)) nothing
-next_line strict AtVolumes = behind (codes "VOLUMES ") (made (λ n. Volumes n) (any_u32 strict)) nothing
-next_line strict AtLatches = behind (codes "LATCHES ") (made (λ n. Latches n) (any_u32 strict)) nothing
-next_line strict AtQuota = behind (codes "QUOTA ") (made (λ x. Quota x.0 x.1) (parted (any_u32 strict) (any_u32 strict))) nothing
 next_line strict AtBudgets = behind (codes "BUDGET ") (made (λ n. Budget n) (any_u32 strict)) (at_owners strict)
 next_line strict AtOwners = at_owners strict
 next_line strict AtExits = at_exits strict
 next_line strict AtEntries =
     behind (codes "END ") (made (λ n. End n) (any_u32 strict)) (made (λ e. EntryOf e) (entry_read strict))
-next_line strict AtEnd = nothing
+next_line strict s = count_line strict s
 
 -- a line without its LF, read to its end
 abbrev pub line_read : Bool → Stage → List ℕ → Option Line

@@ -42,9 +42,13 @@ parted_by first second text =
 abbrev pub parted : {A B : Type 0} → Reader A → Reader B → Reader (A × B)
 parted first second = parted_by first (λ x. second)
 
+-- what was read, where nothing is left
+abbrev pub ended : {A : Type 0} → Option (A × List ℕ) → Option A
+ended read = option_and_then (λ x. if length x.1 == 0 then Some x.0 else None) read
+
 -- the value of a text that is read to its end
 abbrev pub whole : {A : Type 0} → Reader A → List ℕ → Option A
-whole reader text = option_and_then (λ x. if length x.1 == 0 then Some x.0 else None) (reader text)
+whole reader text = ended (reader text)
 
 -- the parts of a text, one more than this byte stands in it
 abbrev pub onto_first : ℕ → List (List ℕ) → List (List ℕ)

@@ -1,9 +1,10 @@
 //! Operations on event control blocks and their replies, as text.
 
 ghost use Rattle.std.specs.Prelude.{◌≡◌, ◌++◌, OnOk};
-ghost use Rattle.mv_entrytext.specs.EcbText.{ecb_op_text, ecb_reply_text, IsEcbReplyTyped};
+ghost use Rattle.mv_entrytext.specs.EcbText.{ecb_op_text, ecb_reply_text, IsEcbReplyTyped, ecb_op, ecb_reply};
+ghost use Rattle.mv_entrytext.specs.Reading.{seen};
 
-use crate::number::{push_number, push_word};
+use crate::number::{after, any_u32, number_u32, push_number, push_word};
 use mv_ecb::{EcbOp, EcbReply};
 use mv_io::NoMemory;
 
@@ -35,4 +36,73 @@ pub(crate) fn push_ecb_reply(out: &mut Vec<u8>, reply: EcbReply) -> Result<(), N
         EcbReply::Already(code) => push_number(out, b"ALREADY ", code),
         EcbReply::Word(word) => push_number(out, b"WORD ", word),
     }
+}
+
+/// The highest completion code, and the highest number of an exit: 30 bits.
+const HIGHEST_CODE: u32 = 1_073_741_823;
+
+#[tactic(auto, unfolding(crate::specs::EcbText::ecb_op, crate::specs::Reading::behind))]
+pub(crate) fn read_ecb_op(strict: bool, text: &[u8]) -> Option<(EcbOp, &[u8])>
+    ensures { seen result ≡ ecb_op strict text.now }
+{
+    if let Some(rest) = after(text, b"ARM") {
+        return Some((EcbOp::Arm, rest));
+    }
+    if let Some(rest) = after(text, b"EXTEND ") {
+        let (exit, rest) = number_u32(strict, 1, HIGHEST_CODE, rest)?;
+        return Some((EcbOp::Extend(exit), rest));
+    }
+    if let Some(rest) = after(text, b"SETTLE") {
+        return Some((EcbOp::Settle, rest));
+    }
+    if let Some(rest) = after(text, b"CLEAR") {
+        return Some((EcbOp::Clear, rest));
+    }
+    if let Some(rest) = after(text, b"POST ") {
+        let (code, rest) = number_u32(strict, 0, HIGHEST_CODE, rest)?;
+        return Some((EcbOp::Post(code), rest));
+    }
+    if let Some(rest) = after(text, b"TEST") {
+        return Some((EcbOp::Test, rest));
+    }
+    None
+}
+
+#[tactic(auto, unfolding(crate::specs::EcbText::ecb_reply, crate::specs::Reading::behind))]
+pub(crate) fn read_ecb_reply(strict: bool, text: &[u8]) -> Option<(EcbReply, &[u8])>
+    ensures { seen result ≡ ecb_reply strict text.now }
+{
+    if let Some(rest) = after(text, b"ARMED") {
+        return Some((EcbReply::Armed, rest));
+    }
+    if let Some(rest) = after(text, b"LINKED ") {
+        let (exit, rest) = number_u32(strict, 1, HIGHEST_CODE, rest)?;
+        return Some((EcbReply::Linked(exit), rest));
+    }
+    if let Some(rest) = after(text, b"COMPLETE ") {
+        let (code, rest) = number_u32(strict, 0, HIGHEST_CODE, rest)?;
+        return Some((EcbReply::Complete(code), rest));
+    }
+    if let Some(rest) = after(text, b"WAITING") {
+        return Some((EcbReply::Waiting, rest));
+    }
+    if let Some(rest) = after(text, b"OPEN") {
+        return Some((EcbReply::Open, rest));
+    }
+    if let Some(rest) = after(text, b"POSTED") {
+        return Some((EcbReply::Posted, rest));
+    }
+    if let Some(rest) = after(text, b"WOKE ") {
+        let (exit, rest) = number_u32(strict, 0, HIGHEST_CODE, rest)?;
+        return Some((EcbReply::Woke(exit), rest));
+    }
+    if let Some(rest) = after(text, b"ALREADY ") {
+        let (code, rest) = number_u32(strict, 0, HIGHEST_CODE, rest)?;
+        return Some((EcbReply::Already(code), rest));
+    }
+    if let Some(rest) = after(text, b"WORD ") {
+        let (word, rest) = any_u32(strict, rest)?;
+        return Some((EcbReply::Word(word), rest));
+    }
+    None
 }

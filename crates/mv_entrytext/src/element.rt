@@ -1,9 +1,10 @@
 //! Operations on pause elements and their replies, as text.
 
 ghost use Rattle.std.specs.Prelude.{◌≡◌, ◌++◌, OnOk};
-ghost use Rattle.mv_entrytext.specs.ElementText.{phase_text, element_op_text, element_reply_text, IsElementOpTyped};
+ghost use Rattle.mv_entrytext.specs.ElementText.{phase_text, element_op_text, element_reply_text, IsElementOpTyped, phase, highest_kept, state_in, element_state, element_op, telling_reply, element_reply};
+ghost use Rattle.mv_entrytext.specs.Reading.{seen};
 
-use crate::number::{push_number, push_pair, push_word};
+use crate::number::{after, any_u32, number_u32, push_number, push_pair, push_word, two_numbers};
 use mv_element::{ElementOp, ElementReply, ElementState, Phase};
 use mv_io::NoMemory;
 
@@ -59,4 +60,156 @@ pub(crate) fn push_element_reply(out: &mut Vec<u8>, reply: ElementReply) -> Resu
         ElementReply::Closed => push_word(out, b"CLOSED"),
         ElementReply::State(state) => push_state(out, state),
     }
+}
+
+/// The highest release code: three bytes.
+const HIGHEST_RELEASE_CODE: u32 = 16_777_215;
+
+/// The highest generation that an element can reach: two events at least go into each, and places have 19 bits.
+const HIGHEST_GENERATION: u32 = 262_143;
+
+#[tactic(auto, unfolding(crate::specs::ElementText::element_op, crate::specs::Reading::behind))]
+pub(crate) fn read_element_op(strict: bool, text: &[u8]) -> Option<(ElementOp, &[u8])>
+    ensures { seen result ≡ element_op strict text.now }
+{
+    if let Some(rest) = after(text, b"OPEN") {
+        return Some((ElementOp::Open, rest));
+    }
+    if let Some(rest) = after(text, b"PAUSE ") {
+        let (generation, rest) = any_u32(strict, rest)?;
+        return Some((ElementOp::Pause(generation), rest));
+    }
+    if let Some(rest) = after(text, b"RESUME ") {
+        let (generation, rest) = any_u32(strict, rest)?;
+        return Some((ElementOp::Resume(generation), rest));
+    }
+    if let Some(rest) = after(text, b"RELEASE ") {
+        let ((generation, code), rest) = two_numbers(
+            strict,
+            (u32::MAX, HIGHEST_RELEASE_CODE),
+            rest,
+        )?;
+        return Some((ElementOp::Release(generation, code), rest));
+    }
+    if let Some(rest) = after(text, b"CLOSE ") {
+        let (generation, rest) = any_u32(strict, rest)?;
+        return Some((ElementOp::Close(generation), rest));
+    }
+    if let Some(rest) = after(text, b"TEST") {
+        return Some((ElementOp::Test, rest));
+    }
+    None
+}
+
+#[tactic(auto, unfolding(crate::specs::ElementText::phase, crate::specs::Reading::behind))]
+fn read_phase(text: &[u8]) -> Option<(Phase, &[u8])>
+    ensures { seen result ≡ phase text.now }
+{
+    if let Some(rest) = after(text, b"FREE") {
+        return Some((Phase::Free, rest));
+    }
+    if let Some(rest) = after(text, b"RESET") {
+        return Some((Phase::Reset, rest));
+    }
+    if let Some(rest) = after(text, b"PRERELEASED") {
+        return Some((Phase::Prereleased, rest));
+    }
+    if let Some(rest) = after(text, b"PAUSED") {
+        return Some((Phase::Paused, rest));
+    }
+    if let Some(rest) = after(text, b"RELEASED") {
+        return Some((Phase::Released, rest));
+    }
+    None
+}
+
+// The highest code of a phase: a state that keeps none has 0.
+fn highest_kept(phase: Phase) -> u32
+    ensures { result ≡ highest_kept phase }
+{
+    match phase {
+        Phase::Prereleased | Phase::Released => HIGHEST_RELEASE_CODE,
+        _ => 0,
+    }
+}
+
+fn state_in(phase: Phase, generation: u32, code: u32) -> ElementState
+    ensures { result ≡ state_in phase generation code }
+{
+    match phase {
+        Phase::Free => ElementState::free(generation),
+        Phase::Reset => ElementState::reset(generation),
+        Phase::Prereleased => ElementState::prereleased(generation, code),
+        Phase::Paused => ElementState::paused(generation),
+        Phase::Released => ElementState::released(generation, code),
+    }
+}
+
+#[tactic(auto, unfolding(crate::specs::ElementText::element_state, crate::specs::Reading::parted_by))]
+fn read_state(strict: bool, text: &[u8]) -> Option<(ElementState, &[u8])>
+    ensures { seen result ≡ element_state strict text.now }
+{
+    let (generation, rest) = number_u32(strict, 0, HIGHEST_GENERATION, text)?;
+    let (phase, rest) = read_phase(after(rest, b" ")?)?;
+    let (code, rest) = number_u32(strict, 0, highest_kept(phase), after(rest, b" ")?)?;
+    Some((state_in(phase, generation, code), rest))
+}
+
+// A reply that tells something.
+#[tactic(auto, unfolding(crate::specs::ElementText::telling_reply, crate::specs::Reading::behind))]
+fn read_telling_reply(strict: bool, text: &[u8]) -> Option<(ElementReply, &[u8])>
+    ensures { seen result ≡ telling_reply strict text.now }
+{
+    if let Some(rest) = after(text, b"OPENED ") {
+        let (generation, rest) = number_u32(strict, 0, HIGHEST_GENERATION, rest)?;
+        return Some((ElementReply::Opened(generation), rest));
+    }
+    if let Some(rest) = after(text, b"GIVEN ") {
+        let ((code, next), rest) = two_numbers(
+            strict,
+            (HIGHEST_RELEASE_CODE, HIGHEST_GENERATION),
+            rest,
+        )?;
+        return Some((ElementReply::Given { code, next }, rest));
+    }
+    if let Some(rest) = after(text, b"SPENT ") {
+        let (generation, rest) = number_u32(strict, 0, HIGHEST_GENERATION, rest)?;
+        return Some((ElementReply::Spent(generation), rest));
+    }
+    if let Some(rest) = after(text, b"STATE ") {
+        let (state, rest) = read_state(strict, rest)?;
+        return Some((ElementReply::State(state), rest));
+    }
+    None
+}
+
+#[tactic(auto, unfolding(crate::specs::ElementText::element_reply, crate::specs::Reading::behind))]
+pub(crate) fn read_element_reply(strict: bool, text: &[u8]) -> Option<(ElementReply, &[u8])>
+    ensures { seen result ≡ element_reply strict text.now }
+{
+    if let Some(rest) = after(text, b"INUSE") {
+        return Some((ElementReply::InUse, rest));
+    }
+    if let Some(rest) = after(text, b"PARKED") {
+        return Some((ElementReply::Parked, rest));
+    }
+    if let Some(rest) = after(text, b"BUSY") {
+        return Some((ElementReply::Busy, rest));
+    }
+    if let Some(rest) = after(text, b"NOTYET") {
+        return Some((ElementReply::NotYet, rest));
+    }
+    if let Some(rest) = after(text, b"EARLY") {
+        return Some((ElementReply::Early, rest));
+    }
+    if let Some(rest) = after(text, b"WOKE") {
+        return Some((ElementReply::Woke, rest));
+    }
+    if let Some(rest) = after(text, b"ALREADY") {
+        return Some((ElementReply::Already, rest));
+    }
+    if let Some(rest) = after(text, b"CLOSED") {
+        return Some((ElementReply::Closed, rest));
+    }
+    read_telling_reply(strict, text)
 }

@@ -3,15 +3,23 @@
 ghost use Rattle.std.specs.Prelude.{◌≡◌, ◌≤◌, ◌++◌, OnOk, codes, decimal};
 ghost use Rattle.mv_entrytext.specs.Ranges.{highest_u32};
 ghost use Rattle.mv_entrytext.specs.Words.{◌<+>◌};
-ghost use Rattle.mv_entrytext.specs.EntryText.{object_text, op_text, reply_text, entry_text, IsObjectTyped, IsOpTyped, IsReplyTyped, IsTyped};
+ghost use Rattle.mv_entrytext.specs.EcbText.{ecb_op, ecb_reply};
+ghost use Rattle.mv_entrytext.specs.ElementText.{element_op, element_reply};
+ghost use Rattle.mv_entrytext.specs.VolumeText.{volume_op, volume_reply};
+ghost use Rattle.mv_entrytext.specs.LatchText.{latch_op, latch_reply};
+ghost use Rattle.mv_entrytext.specs.Reading.{seen};
+ghost use Rattle.mv_entrytext.specs.EntryText.{object_text, op_text, reply_text, entry_text, IsObjectTyped, IsOpTyped, IsReplyTyped, IsTyped, object_read, event, entry_on, entry_read};
 
-use crate::ecb::{push_ecb_op, push_ecb_reply};
-use crate::element::{push_element_op, push_element_reply};
-use crate::latch::{push_latch_op, push_latch_reply};
-use crate::number::{push_number, push_word};
-use crate::volume::{push_volume_op, push_volume_reply};
+use crate::ecb::{push_ecb_op, push_ecb_reply, read_ecb_op, read_ecb_reply};
+use crate::element::{push_element_op, push_element_reply, read_element_op, read_element_reply};
+use crate::latch::{push_latch_op, push_latch_reply, read_latch_op, read_latch_reply};
+use crate::number::{after, any_u32, number_u32, push_number, push_word};
+use crate::volume::{push_volume_op, push_volume_reply, read_volume_op, read_volume_reply};
+use mv_ecb::{EcbOp, EcbReply};
+use mv_element::{ElementOp, ElementReply};
 use mv_io::NoMemory;
-use mv_machine::{Entry, Object, Op, Reply};
+use mv_latch::{LatchOp, LatchReply};
+use mv_machine::{Entry, Object, Op, Reply, VolumeOp, VolumeReply};
 
 fn push_object(out: &mut Vec<u8>, object: Object) -> Result<(), NoMemory>
     ensures text { OnOk result (out.new.items ≡ out.old.items ++ object_text object) }
@@ -79,4 +87,122 @@ pub(crate) fn push_entry(out: &mut Vec<u8>, entry: &Entry) -> Result<(), NoMemor
     push_front(out, entry.caller, entry.object, entry.place)?;
     push_word(out, b" ")?;
     push_event(out, entry)
+}
+
+/// The highest place: the budgets of a run allow one event more.
+const HIGHEST_PLACE: u32 = 524_286;
+
+#[tactic(auto, unfolding(crate::specs::EntryText::object_read, crate::specs::Reading::behind))]
+fn read_object(strict: bool, text: &[u8]) -> Option<(Object, &[u8])>
+    ensures { seen result ≡ object_read strict text.now }
+{
+    if let Some(rest) = after(text, b"E") {
+        let (n, rest) = any_u32(strict, rest)?;
+        return Some((Object::Ecb(n), rest));
+    }
+    if let Some(rest) = after(text, b"P") {
+        let (n, rest) = any_u32(strict, rest)?;
+        return Some((Object::Element(n), rest));
+    }
+    if let Some(rest) = after(text, b"V") {
+        let (n, rest) = any_u32(strict, rest)?;
+        return Some((Object::Volume(n), rest));
+    }
+    if let Some(rest) = after(text, b"L") {
+        return Some((Object::Latches, rest));
+    }
+    None
+}
+
+// A place, an operation on an event control block, and its reply.
+#[tactic(auto, unfolding(crate::specs::Reading::parted_by, crate::specs::Reading::behind))]
+fn read_ecb_event(strict: bool, text: &[u8]) -> Option<((u32, (EcbOp, EcbReply)), &[u8])>
+    ensures { seen result ≡ event strict (ecb_op strict) (ecb_reply strict) text.now }
+{
+    let (place, rest) = number_u32(strict, 0, HIGHEST_PLACE, text)?;
+    let (op, rest) = read_ecb_op(strict, after(rest, b" ")?)?;
+    let rest = after(after(rest, b" ")?, b"= ")?;
+    let (reply, rest) = read_ecb_reply(strict, rest)?;
+    Some(((place, (op, reply)), rest))
+}
+
+// The same on a pause element.
+#[tactic(auto, unfolding(crate::specs::Reading::parted_by, crate::specs::Reading::behind))]
+fn read_element_event(
+    strict: bool,
+    text: &[u8],
+) -> Option<((u32, (ElementOp, ElementReply)), &[u8])>
+    ensures { seen result ≡ event strict (element_op strict) (element_reply strict) text.now }
+{
+    let (place, rest) = number_u32(strict, 0, HIGHEST_PLACE, text)?;
+    let (op, rest) = read_element_op(strict, after(rest, b" ")?)?;
+    let rest = after(after(rest, b" ")?, b"= ")?;
+    let (reply, rest) = read_element_reply(strict, rest)?;
+    Some(((place, (op, reply)), rest))
+}
+
+// The same on a volume.
+#[tactic(auto, unfolding(crate::specs::Reading::parted_by, crate::specs::Reading::behind))]
+fn read_volume_event(strict: bool, text: &[u8]) -> Option<((u32, (VolumeOp, VolumeReply)), &[u8])>
+    ensures { seen result ≡ event strict (volume_op strict) (volume_reply strict) text.now }
+{
+    let (place, rest) = number_u32(strict, 0, HIGHEST_PLACE, text)?;
+    let (op, rest) = read_volume_op(strict, after(rest, b" ")?)?;
+    let rest = after(after(rest, b" ")?, b"= ")?;
+    let (reply, rest) = read_volume_reply(strict, rest)?;
+    Some(((place, (op, reply)), rest))
+}
+
+// The same on the latch set.
+#[tactic(auto, unfolding(crate::specs::Reading::parted_by, crate::specs::Reading::behind))]
+fn read_latch_event(strict: bool, text: &[u8]) -> Option<((u32, (LatchOp, LatchReply)), &[u8])>
+    ensures { seen result ≡ event strict (latch_op strict) (latch_reply strict) text.now }
+{
+    let (place, rest) = number_u32(strict, 0, HIGHEST_PLACE, text)?;
+    let (op, rest) = read_latch_op(strict, after(rest, b" ")?)?;
+    let rest = after(after(rest, b" ")?, b"= ")?;
+    let (reply, rest) = read_latch_reply(strict, rest)?;
+    Some(((place, (op, reply)), rest))
+}
+
+// What stands behind an object is of its kind.
+fn read_entry_on(strict: bool, caller: u32, object: Object, text: &[u8]) -> Option<(Entry, &[u8])>
+    ensures { seen result ≡ entry_on strict caller object text.now }
+{
+    let (place, op, reply, rest) = match object {
+        Object::Ecb(_) => {
+            let ((place, (op, reply)), rest) = read_ecb_event(strict, text)?;
+            (place, Op::Ecb(op), Reply::Ecb(reply), rest)
+        }
+        Object::Element(_) => {
+            let ((place, (op, reply)), rest) = read_element_event(strict, text)?;
+            (place, Op::Element(op), Reply::Element(reply), rest)
+        }
+        Object::Volume(_) => {
+            let ((place, (op, reply)), rest) = read_volume_event(strict, text)?;
+            (place, Op::Volume(op), Reply::Volume(reply), rest)
+        }
+        Object::Latches => {
+            let ((place, (op, reply)), rest) = read_latch_event(strict, text)?;
+            (place, Op::Latch(op), Reply::Latch(reply), rest)
+        }
+    };
+    let entry = Entry {
+        caller,
+        object,
+        place,
+        op,
+        reply,
+    };
+    Some((entry, rest))
+}
+
+/// Reads an entry from the front of a text.
+#[tactic(auto, unfolding(crate::specs::EntryText::entry_read, crate::specs::Reading::parted_by))]
+pub(crate) fn read_entry(strict: bool, text: &[u8]) -> Option<(Entry, &[u8])>
+    ensures { seen result ≡ entry_read strict text.now }
+{
+    let (caller, rest) = any_u32(strict, text)?;
+    let (object, rest) = read_object(strict, after(rest, b" ")?)?;
+    read_entry_on(strict, caller, object, after(rest, b" ")?)
 }

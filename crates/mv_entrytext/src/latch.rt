@@ -1,9 +1,12 @@
 //! Operations on the latch set and their replies, as text.
 
 ghost use Rattle.std.specs.Prelude.{◌≡◌, ◌++◌, OnOk};
-ghost use Rattle.mv_entrytext.specs.LatchText.{mode_text, form_text, condition_text, latch_op_text, latch_reply_text, IsFormTyped, IsLatchOpTyped, IsLatchReplyTyped};
+ghost use Rattle.mv_entrytext.specs.LatchText.{mode_text, form_text, condition_text, latch_op_text, latch_reply_text, IsFormTyped, IsLatchOpTyped, IsLatchReplyTyped, mode_read, form_read, condition, obtain_rest, obtain, release, latch_op, latch_reply};
+ghost use Rattle.mv_entrytext.specs.Reading.{seen};
 
-use crate::number::{push_number, push_pair, push_wide, push_word};
+use crate::number::{
+    after, any_u32, any_u64, push_number, push_pair, push_wide, push_word, two_numbers,
+};
 use mv_io::NoMemory;
 use mv_latch::{LatchForm, LatchOp, LatchReply, Mode};
 
@@ -93,4 +96,142 @@ pub(crate) fn push_latch_reply(out: &mut Vec<u8>, reply: LatchReply) -> Result<(
         LatchReply::Released { granted } => push_number(out, b"RELEASED ", granted),
         LatchReply::Purged { removed, granted } => push_pair(out, b"PURGED ", removed, granted),
     }
+}
+
+#[tactic(auto, unfolding(crate::specs::LatchText::mode_read, crate::specs::Reading::behind))]
+fn read_mode(text: &[u8]) -> Option<(Mode, &[u8])>
+    ensures { seen result ≡ mode_read text.now }
+{
+    if let Some(rest) = after(text, b"S") {
+        return Some((Mode::Shared, rest));
+    }
+    if let Some(rest) = after(text, b"X") {
+        return Some((Mode::Exclusive, rest));
+    }
+    None
+}
+
+#[tactic(auto, unfolding(crate::specs::LatchText::form_read, crate::specs::Reading::behind))]
+fn read_form(strict: bool, text: &[u8]) -> Option<(LatchForm, &[u8])>
+    ensures { seen result ≡ form_read strict text.now }
+{
+    if let Some(rest) = after(text, b"C") {
+        return Some((LatchForm::Conditional, rest));
+    }
+    if let Some(rest) = after(text, b"W") {
+        return Some((LatchForm::Waiting, rest));
+    }
+    if let Some(rest) = after(text, b"P") {
+        let (ecb, rest) = any_u32(strict, rest)?;
+        return Some((LatchForm::Posted(ecb), rest));
+    }
+    None
+}
+
+#[tactic(auto, unfolding(crate::specs::LatchText::condition, crate::specs::Reading::behind))]
+fn read_condition(text: &[u8]) -> Option<(bool, &[u8])>
+    ensures { seen result ≡ condition text.now }
+{
+    if let Some(rest) = after(text, b"C") {
+        return Some((true, rest));
+    }
+    if let Some(rest) = after(text, b"U") {
+        return Some((false, rest));
+    }
+    None
+}
+
+// The requestor, the mode and the form of an obtain.
+#[tactic(auto, unfolding(crate::specs::LatchText::obtain_rest, crate::specs::Reading::parted_by))]
+fn read_obtain_rest(strict: bool, text: &[u8]) -> Option<((u64, (Mode, LatchForm)), &[u8])>
+    ensures { seen result ≡ obtain_rest strict text.now }
+{
+    let (requestor, rest) = any_u64(strict, text)?;
+    let (mode, rest) = read_mode(after(rest, b" ")?)?;
+    let (form, rest) = read_form(strict, after(rest, b" ")?)?;
+    Some(((requestor, (mode, form)), rest))
+}
+
+#[tactic(auto, unfolding(crate::specs::LatchText::obtain, crate::specs::Reading::parted_by))]
+fn read_obtain(strict: bool, text: &[u8]) -> Option<(LatchOp, &[u8])>
+    ensures { seen result ≡ obtain strict text.now }
+{
+    let (latch, rest) = any_u32(strict, text)?;
+    let ((requestor, (mode, form)), rest) = read_obtain_rest(strict, after(rest, b" ")?)?;
+    let op = LatchOp::Obtain {
+        latch,
+        requestor,
+        mode,
+        form,
+    };
+    Some((op, rest))
+}
+
+#[tactic(auto, unfolding(crate::specs::LatchText::release, crate::specs::Reading::parted_by))]
+fn read_release(strict: bool, text: &[u8]) -> Option<(LatchOp, &[u8])>
+    ensures { seen result ≡ release strict text.now }
+{
+    let (latch, rest) = any_u32(strict, text)?;
+    let (id, rest) = any_u32(strict, after(rest, b" ")?)?;
+    let (conditional, rest) = read_condition(after(rest, b" ")?)?;
+    let op = LatchOp::Release {
+        latch,
+        id,
+        conditional,
+    };
+    Some((op, rest))
+}
+
+#[tactic(auto, unfolding(crate::specs::LatchText::latch_op, crate::specs::Reading::behind))]
+pub(crate) fn read_latch_op(strict: bool, text: &[u8]) -> Option<(LatchOp, &[u8])>
+    ensures { seen result ≡ latch_op strict text.now }
+{
+    if let Some(rest) = after(text, b"OBTAIN ") {
+        return read_obtain(strict, rest);
+    }
+    if let Some(rest) = after(text, b"CONFIRM ") {
+        let ((latch, id), rest) = two_numbers(strict, (u32::MAX, u32::MAX), rest)?;
+        return Some((LatchOp::Confirm { latch, id }, rest));
+    }
+    if let Some(rest) = after(text, b"RELEASE ") {
+        return read_release(strict, rest);
+    }
+    if let Some(rest) = after(text, b"PURGE ") {
+        let (requestor, rest) = any_u64(strict, rest)?;
+        return Some((LatchOp::Purge { requestor }, rest));
+    }
+    None
+}
+
+#[tactic(auto, unfolding(crate::specs::LatchText::latch_reply, crate::specs::Reading::behind))]
+pub(crate) fn read_latch_reply(strict: bool, text: &[u8]) -> Option<(LatchReply, &[u8])>
+    ensures { seen result ≡ latch_reply strict text.now }
+{
+    if let Some(rest) = after(text, b"GRANTED ") {
+        let (id, rest) = any_u32(strict, rest)?;
+        return Some((LatchReply::Granted(id), rest));
+    }
+    if let Some(rest) = after(text, b"QUEUED ") {
+        let (id, rest) = any_u32(strict, rest)?;
+        return Some((LatchReply::Queued(id), rest));
+    }
+    if let Some(rest) = after(text, b"NOTNOW ") {
+        let (id, rest) = any_u32(strict, rest)?;
+        return Some((LatchReply::NotNow(id), rest));
+    }
+    if let Some(rest) = after(text, b"WAITING") {
+        return Some((LatchReply::Waiting, rest));
+    }
+    if let Some(rest) = after(text, b"GONE") {
+        return Some((LatchReply::Gone, rest));
+    }
+    if let Some(rest) = after(text, b"RELEASED ") {
+        let (granted, rest) = any_u32(strict, rest)?;
+        return Some((LatchReply::Released { granted }, rest));
+    }
+    if let Some(rest) = after(text, b"PURGED ") {
+        let ((removed, granted), rest) = two_numbers(strict, (u32::MAX, u32::MAX), rest)?;
+        return Some((LatchReply::Purged { removed, granted }, rest));
+    }
+    None
 }

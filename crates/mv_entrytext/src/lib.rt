@@ -1,21 +1,27 @@
-//! The text of a journal: the configuration of a run and its entries as lines. Each configuration and list of entries in
-//! range has one text, `write_journal` makes it, and no other text reads back. `specs/Journal.antt` says which bytes that
-//! is, `specs/Fault.antt` what is wrong with any others.
+//! The text of a journal: the configuration of a run and its entries as lines. A valid configuration and entries in range
+//! have one text: `write_journal` makes it, `read_journal` reads it back, and tells of any other text where its first
+//! fault is. `specs/Journal.antt` says which bytes are a journal's, `specs/Fault.antt` what is wrong with any others.
 #![tactic(auto)]
 
 mod ecb;
 mod element;
 mod entry;
 mod fault;
+mod head;
 mod latch;
 mod laws;
+mod line;
 mod number;
+mod reading;
 mod volume;
 mod writing;
 
 pub use fault::{TextFault, TextRefusal};
 pub use laws::{legal_lists_have_texts, text_determines_journal, texts_without_fault_are_journals};
+pub use reading::{Journal, read_journal};
 pub use writing::write_journal;
 
+#[cfg(test)]
+mod faulty_texts;
 #[cfg(test)]
 mod tests;

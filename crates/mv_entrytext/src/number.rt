@@ -1,7 +1,10 @@
 //! Numbers in a text.
 
-ghost use Rattle.std.specs.Prelude.{◌≡◌, ◌++◌, OnOk, decimal};
+ghost use Rattle.std.specs.Prelude.{◌≡◌, ◌≤◌, ◌<◌, ◌^◌, ◌++◌, ◌+◌, ◌*◌, ◌-◌, ℕ, List, All, OnOk, IfSome, SomeIff, MatchOption, Some, None, true, false, nat_eq, decimal, drop, length, if◌then◌else◌};
+ghost use Rattle.std.specs.List.{starts_with};
+ghost use Rattle.std.specs.Str.Parse.{digits_value};
 ghost use Rattle.mv_entrytext.specs.Words.{◌<+>◌};
+ghost use Rattle.mv_entrytext.specs.Reading.{seen, is_digit, digit_count, is_spelled_well, number as number_at, any_u32, any_u64, parted};
 
 use itoa::Buffer;
 use mv_io::NoMemory;
@@ -41,4 +44,118 @@ pub(crate) fn push_pair(
 {
     push_number(out, word, first)?;
     push_number(out, b" ", second)
+}
+
+/// What stands behind a word, where the text begins with it.
+pub(crate) fn after<'a>(text: &'a [u8], word: &[u8]) -> Option<&'a [u8]>
+    ensures { MatchOption result (starts_with nat_eq text.now word.now ≡ false)
+        (λ rest. (starts_with nat_eq text.now word.now ≡ true) × (rest.now ≡ drop (length word.now) text.now)) }
+{
+    text.strip_prefix(word)
+}
+
+/// A number of four bytes, within these bounds.
+pub(crate) fn number_u32(strict: bool, low: u32, high: u32, text: &[u8]) -> Option<(u32, &[u8])>
+    ensures { seen result ≡ number_at strict low high text.now }
+{
+    let (value, rest) = number(strict, u64::from(low), u64::from(high), text)?;
+    Some((value as u32, rest))
+}
+
+/// A number of four bytes.
+pub(crate) fn any_u32(strict: bool, text: &[u8]) -> Option<(u32, &[u8])>
+    ensures { seen result ≡ any_u32 strict text.now }
+{
+    number_u32(strict, 0, u32::MAX, text)
+}
+
+/// A number of eight bytes.
+pub(crate) fn any_u64(strict: bool, text: &[u8]) -> Option<(u64, &[u8])>
+    ensures { seen result ≡ any_u64 strict text.now }
+{
+    number(strict, 0, u64::MAX, text)
+}
+
+/// Two numbers of four bytes with one space between, each at most so high.
+#[tactic(auto, unfolding(crate::specs::Reading::parted_by))]
+pub(crate) fn two_numbers(
+    strict: bool,
+    highest: (u32, u32),
+    text: &[u8],
+) -> Option<((u32, u32), &[u8])>
+    ensures { seen result ≡ parted (number_at strict 0 highest.0) (number_at strict 0 highest.1) text.now }
+{
+    let (first, rest) = number_u32(strict, 0, highest.0, text)?;
+    let rest = after(rest, b" ")?;
+    let (second, rest) = number_u32(strict, 0, highest.1, rest)?;
+    Some(((first, second), rest))
+}
+
+/// A number within these bounds, with no leading zero. One that is spelled otherwise is refused by a strict reader, and
+/// taken for 0 by any other.
+#[tactic(auto, unfolding(crate::specs::Reading::number))]
+pub(crate) fn number(strict: bool, low: u64, high: u64, text: &[u8]) -> Option<(u64, &[u8])>
+    ensures read { seen result ≡ number_at strict low high text.now }
+    ensures bound { IfSome result (λ x. x.0 ≤ high) }
+{
+    let (digits, rest) = text.split_at(digit_count(text));
+    if digits.is_empty() {
+        return None;
+    }
+    match spelled_well(low, high, digits) {
+        Some(value) => Some((value, rest)),
+        None if strict => None,
+        None => Some((0, rest)),
+    }
+}
+
+// The number that digits spell, where they spell it well.
+fn spelled_well(low: u64, high: u64, digits: &[u8]) -> Option<u64>
+    requires some { 0 < length digits.now }
+    requires digits { All (λ b. is_digit b ≡ true) digits.now }
+    ensures { result ≡ (if is_spelled_well low high digits.now then Some (digits_value 10 digits.now) else None) }
+{
+    if digits[0] == b'0' && digits.len() > 1 {
+        return None;
+    }
+    let value = value(digits)?;
+    if value < low || value > high {
+        return None;
+    }
+    Some(value)
+}
+
+// The number that digits spell, where it fits eight bytes.
+fn value(digits: &[u8]) -> Option<u64>
+    requires { All (λ b. is_digit b ≡ true) digits.now }
+    ensures { SomeIff result (digits_value 10 digits.now < 2 ^ 64) (digits_value 10 digits.now) }
+{
+    let mut value: u64 = 0;
+    for digit in digits {
+        let Some(next) = with_digit(value, *digit) else {
+            return None;
+        };
+        value = next;
+    }
+    Some(value)
+}
+
+// A number with one more digit behind it, where it fits eight bytes.
+fn with_digit(value: u64, digit: u8) -> Option<u64>
+    requires { is_digit digit ≡ true }
+    ensures { SomeIff result (value * 10 + (digit - 48) < 2 ^ 64) (value * 10 + (digit - 48)) }
+{
+    value.checked_mul(10)?.checked_add(u64::from(digit - b'0'))
+}
+
+// How many digits a text begins with.
+fn digit_count(text: &[u8]) -> usize
+    ensures count { result ≡ digit_count text.now }
+    ensures within { result ≤ length text.now }
+{
+    let mut count = 0;
+    while count < text.len() && text[count].is_ascii_digit() {
+        count += 1;
+    }
+    count
 }

@@ -14,7 +14,7 @@ use mv_machine::{Config, Entry, Exit, Object, Op, Reply, ValidConfig, VolumeOp, 
 use std::alloc::{AllocError, Global};
 use std::test::Fail;
 
-const EMPTY_DECK: &[u8] =
+pub(crate) const EMPTY_DECK: &[u8] =
     b"JOURNAL 1\nCALLERS 4\nELEMENTS 1\nVOLUMES 8\nLATCHES 8\nQUOTA 8 0\nBUDGET 0\nBUDGET 4\nBUDGET 5\nBUDGET 0\nECB 1\nEVENTS\n1 E0 0 ARM = ARMED\n2 P2 0 OPEN = OPENED 0\n2 E0 1 POST 0 = WOKE 0\n1 E0 2 SETTLE = COMPLETE 0\n1 E0 3 CLEAR = WORD 1073741824\n2 P2 1 PAUSE 0 = PARKED\n1 P2 2 RELEASE 0 0 = WOKE\n2 P2 3 RESUME 0 = GIVEN 0 1\n2 P2 4 CLOSE 1 = CLOSED\nEND 9\n";
 
 // One caller with one element, one volume and one latch, a request quota of 1 and none posted.
@@ -346,5 +346,29 @@ fn volumes_and_latches_at_the_ends_of_their_ranges(rt: HostRuntime) -> Result<()
         text.as_slice().strip_prefix(SMALL_HEAD),
         Some(lines.as_slice())
     );
+    Ok(())
+}
+
+#[test]
+fn the_empty_decks_journal_is_read(rt: HostRuntime) -> Result<(), Fail> {
+    let journal = read_journal(rt.alloc(), EMPTY_DECK)
+        .ok()
+        .ok_or("a journal")?;
+    assert_eq!(rt; journal.first_line, 13);
+    assert_eq!(rt; journal.config.config().callers, 4);
+    assert_eq!(rt;
+        journal.config.config().budgets.as_slice(),
+        [0, 4, 5, 0].as_slice()
+    );
+    assert_eq!(rt; journal.config.config().owners.as_slice(), [1].as_slice());
+    assert_eq!(rt; journal.entries.len(), 9);
+    let given = on_element(
+        2,
+        2,
+        3,
+        ElementOp::Resume(0),
+        ElementReply::Given { code: 0, next: 1 },
+    );
+    assert_eq!(rt; journal.entries.get(7), Some(&given));
     Ok(())
 }

@@ -1,9 +1,10 @@
 //! Operations on volumes and their replies, as text.
 
 ghost use Rattle.std.specs.Prelude.{◌≡◌, ◌++◌, OnOk};
-ghost use Rattle.mv_entrytext.specs.VolumeText.{volume_op_text, volume_reply_text, IsVolumeOpTyped, IsVolumeReplyTyped};
+ghost use Rattle.mv_entrytext.specs.VolumeText.{volume_op_text, volume_reply_text, IsVolumeOpTyped, IsVolumeReplyTyped, volume_op, volume_reply};
+ghost use Rattle.mv_entrytext.specs.Reading.{seen};
 
-use crate::number::{push_number, push_word};
+use crate::number::{after, any_u32, push_number, push_word};
 use mv_io::NoMemory;
 use mv_machine::{VolumeOp, VolumeReply};
 
@@ -25,4 +26,32 @@ pub(crate) fn push_volume_reply(out: &mut Vec<u8>, reply: VolumeReply) -> Result
         VolumeReply::Value(number) => push_number(out, b"VALUE ", number),
         VolumeReply::Stored => push_word(out, b"STORED"),
     }
+}
+
+#[tactic(auto, unfolding(crate::specs::VolumeText::volume_op, crate::specs::Reading::behind))]
+pub(crate) fn read_volume_op(strict: bool, text: &[u8]) -> Option<(VolumeOp, &[u8])>
+    ensures { seen result ≡ volume_op strict text.now }
+{
+    if let Some(rest) = after(text, b"READ") {
+        return Some((VolumeOp::Read, rest));
+    }
+    if let Some(rest) = after(text, b"WRITE ") {
+        let (number, rest) = any_u32(strict, rest)?;
+        return Some((VolumeOp::Write(number), rest));
+    }
+    None
+}
+
+#[tactic(auto, unfolding(crate::specs::VolumeText::volume_reply, crate::specs::Reading::behind))]
+pub(crate) fn read_volume_reply(strict: bool, text: &[u8]) -> Option<(VolumeReply, &[u8])>
+    ensures { seen result ≡ volume_reply strict text.now }
+{
+    if let Some(rest) = after(text, b"VALUE ") {
+        let (number, rest) = any_u32(strict, rest)?;
+        return Some((VolumeReply::Value(number), rest));
+    }
+    if let Some(rest) = after(text, b"STORED") {
+        return Some((VolumeReply::Stored, rest));
+    }
+    None
 }

@@ -5,7 +5,6 @@ pub mod ElementLaws
 pub mod ElementRuns
 pub mod Owners
 pub mod Validity
-pub mod Positions
 pub mod Tables
 pub mod Writes
 pub mod LatchIds
@@ -14,3 +13,4 @@ pub mod Budgets
 pub mod Rows
 pub mod Reaches
 pub mod Chains
+pub mod Walks

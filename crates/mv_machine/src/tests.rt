@@ -386,3 +386,208 @@ fn a_reach_is_cut(rt: HostRuntime) -> Result<(), Fail> {
     assert_eq!(rt; config.release_cost(), 524_288);
     Ok(())
 }
+
+// What is answered behind these entries, found from them alone.
+fn answer_behind(
+    rt: &impl Abort,
+    alloc: Global,
+    config: &ValidConfig,
+    past: &[Entry],
+    (caller, object, op): (u32, Object, Op),
+) -> Option<(u32, Reply)> {
+    assert!(rt; are_low(past));
+    let Ok(_) = replay(alloc, config, past) else {
+        panic!(rt; "the list is not legal");
+    };
+    plain_answer(alloc, config, past, caller, object, op).expect(rt, "no memory")
+}
+
+// Steps through these entries, and at each asks the plain answer behind those before it.
+fn step_through(
+    rt: &impl Abort,
+    alloc: Global,
+    config: &ValidConfig,
+    entries: &[Entry],
+) -> Result<(), Fail> {
+    let mut state = State::opening(alloc, config)?;
+    let mut past = Vec::new(alloc);
+    for e in entries {
+        let answer = Some((e.place, e.reply));
+        let asked = (e.caller, e.object, e.op);
+        assert_eq!(rt;
+            answer_behind(rt, alloc, config, &past, asked),
+            answer,
+            "{e:?}"
+        );
+        let stepped = step(rt, &mut state, config, e.caller, e.object, e.op);
+        assert_eq!(rt; stepped, answer, "{e:?}");
+        past.push(*e)?;
+    }
+    Ok(())
+}
+
+// Each reply of a block.
+fn on_one_block(alloc: Global) -> Result<Vec<Entry>, AllocError> {
+    let word = 1_073_741_829;
+    Ok(vec![in alloc;
+        on_block(0, 0, EcbOp::Arm, EcbReply::Armed),
+        on_block(0, 1, EcbOp::Arm, EcbReply::Waiting),
+        on_block(0, 2, EcbOp::Settle, EcbReply::Open),
+        on_block(0, 3, EcbOp::Extend(1), EcbReply::Armed),
+        on_block(0, 4, EcbOp::Arm, EcbReply::Linked(1)),
+        on_block(1, 5, EcbOp::Post(5), EcbReply::Woke(1)),
+        on_block(1, 6, EcbOp::Post(6), EcbReply::Already(5)),
+        on_block(0, 7, EcbOp::Arm, EcbReply::Complete(5)),
+        on_block(1, 8, EcbOp::Test, EcbReply::Word(word)),
+        on_block(0, 9, EcbOp::Clear, EcbReply::Word(word)),
+        on_block(1, 10, EcbOp::Post(7), EcbReply::Posted),
+    ]?)
+}
+
+// Each reply of an element.
+fn on_one_element(alloc: Global) -> Result<Vec<Entry>, AllocError> {
+    let early = ElementReply::Given { code: 7, next: 1 };
+    let late = ElementReply::Given { code: 9, next: 2 };
+    let released = ElementReply::State(ElementState::released(1, 9));
+    Ok(vec![in alloc;
+        on_element(0, 0, ElementOp::Release(0, 7), ElementReply::Spent(0)),
+        on_element(1, 1, ElementOp::Open, ElementReply::Opened(0)),
+        on_element(1, 2, ElementOp::Open, ElementReply::InUse),
+        on_element(0, 3, ElementOp::Release(0, 7), ElementReply::Early),
+        on_element(0, 4, ElementOp::Release(0, 8), ElementReply::Already),
+        on_element(1, 5, ElementOp::Resume(0), ElementReply::Busy),
+        on_element(1, 6, ElementOp::Pause(0), early),
+        on_element(1, 7, ElementOp::Pause(1), ElementReply::Parked),
+        on_element(1, 8, ElementOp::Resume(1), ElementReply::NotYet),
+        on_element(0, 9, ElementOp::Release(1, 9), ElementReply::Woke),
+        on_element(0, 10, ElementOp::Test, released),
+        on_element(1, 11, ElementOp::Resume(1), late),
+        on_element(1, 12, ElementOp::Close(2), ElementReply::Closed),
+    ]?)
+}
+
+// Each reply of a volume and of the latch set, with their entries in turn.
+fn on_volume_and_latches(alloc: Global) -> Result<Vec<Entry>, AllocError> {
+    let confirm = |id| LatchOp::Confirm { latch: 0, id };
+    let release = LatchOp::Release {
+        latch: 0,
+        id: 0,
+        conditional: false,
+    };
+    let purge = LatchOp::Purge { requestor: 9 };
+    let purged = LatchReply::Purged {
+        removed: 2,
+        granted: 0,
+    };
+    Ok(vec![in alloc;
+        on_volume(0, 0, VolumeOp::Read, VolumeReply::Value(0)),
+        on_latches(0, 0, obtain(LatchForm::Waiting), LatchReply::Granted(0)),
+        on_volume(1, 1, VolumeOp::Write(3), VolumeReply::Stored),
+        on_latches(1, 1, obtain(LatchForm::Conditional), LatchReply::NotNow(0)),
+        on_latches(1, 2, obtain(LatchForm::Posted(2)), LatchReply::Queued(2)),
+        on_latches(1, 3, confirm(2), LatchReply::Waiting),
+        on_latches(1, 4, confirm(0), LatchReply::Gone),
+        on_volume(0, 2, VolumeOp::Read, VolumeReply::Value(3)),
+        on_latches(0, 5, release, LatchReply::Released { granted: 1 }),
+        on_latches(0, 6, obtain(LatchForm::Waiting), LatchReply::Queued(6)),
+        on_latches(1, 7, purge, purged),
+    ]?)
+}
+
+// What has no answer behind the journal: no such caller, not the owner, an operation of another kind, too wide a code,
+// no exit of this block, no such latch, a block of another caller, a second request in the Posted form.
+fn unanswered(alloc: Global) -> Result<Vec<(u32, Object, Op)>, AllocError> {
+    let block = Object::Ecb(0);
+    let no_latch = LatchOp::Confirm { latch: 1, id: 0 };
+    Ok(vec![in alloc;
+        (2, Object::Volume(0), Op::Volume(VolumeOp::Read)),
+        (1, block, Op::Ecb(EcbOp::Arm)),
+        (0, Object::Element(1), Op::Element(ElementOp::Open)),
+        (0, block, Op::Volume(VolumeOp::Read)),
+        (0, block, Op::Ecb(EcbOp::Post(1 << 30))),
+        (0, block, Op::Ecb(EcbOp::Extend(2))),
+        (
+            0,
+            Object::Element(1),
+            Op::Element(ElementOp::Release(1, 1 << 24))
+        ),
+        (0, Object::Latches, Op::Latch(no_latch)),
+        (0, Object::Latches, Op::Latch(obtain(LatchForm::Posted(2)))),
+        (1, Object::Latches, Op::Latch(obtain(LatchForm::Posted(2)))),
+    ]?)
+}
+
+#[test]
+fn step_is_the_plain_answer(rt: HostRuntime) -> Result<(), Fail> {
+    let alloc = rt.alloc();
+    let config = two_callers(alloc)?.check(alloc)?;
+    step_through(&rt, alloc, &config, &on_one_block(alloc)?)?;
+    step_through(&rt, alloc, &config, &on_one_element(alloc)?)?;
+    step_through(&rt, alloc, &config, &on_volume_and_latches(alloc)?)?;
+    let past = journal(alloc)?;
+    step_through(&rt, alloc, &config, &past)?;
+    for asked in unanswered(alloc)? {
+        assert_eq!(rt;
+            answer_behind(&rt, alloc, &config, &past, asked),
+            None,
+            "{asked:?}"
+        );
+        let (caller, object, op) = asked;
+        assert!(rt; are_low(&past));
+        let mut state = replay(alloc, &config, &past)?;
+        assert_eq!(rt;
+            step(&rt, &mut state, &config, caller, object, op),
+            None,
+            "{asked:?}"
+        );
+    }
+    Ok(())
+}
+
+// The limits of the lists at their edges, and one past them.
+#[test]
+fn blocks_have_a_limit(rt: HostRuntime) -> Result<(), Fail> {
+    for (count, limit) in [(131_072, None), (131_073, Some(ConfigLimit::Ecbs))] {
+        let mut config = two_callers(rt.alloc())?;
+        config.owners = vec![in rt.alloc(); 0; count]?;
+        let answer = refusal(rt.alloc(), config);
+        assert_eq!(rt; answer, limit.map(CheckRefusal::Limit), "{count} blocks");
+    }
+    Ok(())
+}
+
+fn with_exits(alloc: Global, count: u32) -> Result<Config, AllocError> {
+    let mut config = two_callers(alloc)?;
+    for _ in 1..count {
+        config.exits.push(exit(alloc, 1, &[2])?)?;
+    }
+    Ok(config)
+}
+
+#[test]
+fn exits_have_a_limit(rt: HostRuntime) -> Result<(), Fail> {
+    for (count, limit) in [(32_768, None), (32_769, Some(ConfigLimit::Exits))] {
+        let config = with_exits(rt.alloc(), count)?;
+        let answer = refusal(rt.alloc(), config);
+        assert_eq!(rt; answer, limit.map(CheckRefusal::Limit), "{count} exits");
+    }
+    Ok(())
+}
+
+fn with_targets(alloc: Global, count: usize) -> Result<Config, AllocError> {
+    let mut config = two_callers(alloc)?;
+    let targets = vec![in alloc; 2; count]?;
+    config.exits.push(Exit { source: 1, targets })?;
+    Ok(config)
+}
+
+#[test]
+fn targets_have_limits(rt: HostRuntime) -> Result<(), Fail> {
+    use ConfigLimit::Targets;
+    for (count, limit) in [(0, Some(Targets)), (1, None), (8, None), (9, Some(Targets))] {
+        let config = with_targets(rt.alloc(), count)?;
+        let answer = refusal(rt.alloc(), config);
+        assert_eq!(rt; answer, limit.map(CheckRefusal::Limit), "{count} targets");
+    }
+    Ok(())
+}

@@ -1,0 +1,75 @@
+-- Where the reader of journals is, and what it tells.
+use Rattle.std.specs.Prelude.{◌∷◌, ◌==◌, ◌≡◌, ℕ, ◌+◌, ◌≤◌, true, false, not, ◌||◌, List, [], length, Option, Some, None, is_some, if◌then◌else◌}
+use Rattle.mv_machine.specs.Check.{refusal_of}
+use Rattle.mv_machine.specs.Config.{setup_of}
+use Rattle.mv_machine.specs.Setup.{Setup}
+use Rattle.mv_machine.specs.declared.entry.Entry.{Entry}
+use Rattle.mv_entrytext.specs.declared.fault.TextRefusal.{TextRefusal}
+use Rattle.mv_entrytext.specs.declared.fault.TextRefusal.TheVariants.{Fault}
+use Rattle.mv_entrytext.specs.declared.fault.TextRefusal.TheVariants as refusal
+use Rattle.mv_entrytext.specs.declared.head.LineRefusal.{LineRefusal}
+use Rattle.mv_entrytext.specs.declared.head.LineRefusal.TheVariants.{Kind, NoMemory}
+use Rattle.mv_entrytext.specs.declared.head.HeadDraft.{HeadDraft}
+use Rattle.mv_entrytext.specs.Reading.{parts_at}
+use Rattle.mv_entrytext.specs.Lines.{Stage, AtVersion, AtCallers, AtElements, AtVolumes, AtLatches, AtQuota, AtBudgets, AtOwners, AtExits, AtEntries, AtEnd, Draft, line_read}
+use Rattle.mv_entrytext.specs.Fault.{fault_at, first_fault, text_fault, draft_of, journal_of}
+use Rattle.mv_entrytext.specs.Said.{stage_of}
+
+-- the kind that is told is the first
+abbrev pub Tells : LineRefusal → Option ℕ → Type 0
+Tells (Kind k) kind = kind ≡ Some k
+Tells NoMemory kind = Unit {0}
+
+-- the refusal of a text whose line of this number was not taken
+abbrev pub refusal_at : ℕ → LineRefusal → TextRefusal
+refusal_at line (Kind k) = Fault (fault_at line k)
+refusal_at line NoMemory = refusal.NoMemory
+
+-- the kind of a line by its form and its numbers alone
+abbrev pub kind_of_form : Stage → List ℕ → Option ℕ
+kind_of_form stage text =
+    if not (is_some (line_read true stage text) || is_some (line_read false stage text)) then Some 1
+    else if not (is_some (line_read true stage text)) then Some 2
+    else None
+
+-- the kind of the line that ends the head
+abbrev pub kind_of_config : Setup → Option ℕ
+kind_of_config c = if is_some (refusal_of c) then Some 3 else None
+
+abbrev pub draft_at : Stage → Setup → List Entry → Draft
+draft_at stage setup entries = record { stage = stage; setup = setup; entries = entries }
+
+-- what the lines of the head have said so far
+abbrev pub head_seen : HeadDraft → Draft
+head_seen d = draft_at (stage_of d.stage) (setup_of d.config) []
+
+-- the number of the first line at a stage, but for the lines of the lists
+abbrev pub first_line_at : Stage → ℕ
+first_line_at AtVersion = 1
+first_line_at AtCallers = 2
+first_line_at AtElements = 3
+first_line_at AtVolumes = 4
+first_line_at AtLatches = 5
+first_line_at AtQuota = 6
+first_line_at AtBudgets = 7
+first_line_at AtOwners = 7
+first_line_at AtExits = 7
+first_line_at AtEntries = 8
+first_line_at AtEnd = 9
+
+-- the number of the line behind those that have said this
+abbrev pub line_behind : Draft → ℕ
+line_behind d = first_line_at d.stage + length d.setup.budgets + length d.setup.owners + length d.setup.exits + length d.entries
+
+-- the reader stands before the rest of a text: what is left decides as the whole does
+pub record IsAt (bytes rest : List ℕ) (number : ℕ) (d : Draft) : Type 0 where
+  pub fault : first_fault number d (parts_at 10 rest) ≡ text_fault bytes
+  pub draft : draft_of d (parts_at 10 rest) ≡ journal_of bytes
+  pub count : number + length rest ≤ length bytes + 1
+  pub line : number ≡ line_behind d
+
+-- the kind of what stands behind END: a line is none that may stand there, and anything else is cut off
+abbrev pub kind_at_end : List (List ℕ) → Option ℕ
+kind_at_end [] = None
+kind_at_end (last ∷ []) = if length last == 0 then None else Some 5
+kind_at_end (line ∷ more) = Some 1

@@ -1,0 +1,58 @@
+-- How the reader's own types are seen.
+use Rattle.std.specs.Prelude.{ℕ, List, [], Option, Some, None, option_map, length}
+use Rattle.std.specs.Borrow.{Bor}
+use Rattle.mv_machine.specs.Config.{exit_of}
+use Rattle.mv_entrytext.specs.declared.line.Line.{Line}
+use Rattle.mv_entrytext.specs.declared.line.Line.TheVariants.{Version, Callers, Elements, Volumes, Latches, Quota, Budget, Owner, Exit, Events}
+use Rattle.mv_entrytext.specs.declared.line.EntryLine.{EntryLine}
+use Rattle.mv_entrytext.specs.declared.line.EntryLine.TheVariants.{Entry, End}
+use Rattle.mv_entrytext.specs.declared.line.Stage.{Stage}
+use Rattle.mv_entrytext.specs.declared.line.Stage.TheVariants as stage
+use Rattle.mv_entrytext.specs.Journal as journal
+use Rattle.mv_entrytext.specs.Lines as lines
+use Rattle.mv_entrytext.specs.Reading.{parts_at}
+
+-- what a line says
+abbrev pub said : Line → journal.Line
+said Version = journal.Version
+said (Callers n) = journal.Callers n
+said (Elements n) = journal.Elements n
+said (Volumes n) = journal.Volumes n
+said (Latches n) = journal.Latches n
+said (Quota quota posted) = journal.Quota quota posted
+said (Budget n) = journal.Budget n
+said (Owner n) = journal.Owner n
+said (Exit x) = journal.ExitTo (exit_of x)
+said Events = journal.Events
+
+abbrev pub entry_said : EntryLine → journal.Line
+entry_said (Entry e) = journal.EntryOf e
+entry_said (End n) = journal.End n
+
+abbrev pub stage_of : Stage → lines.Stage
+stage_of stage.Version = lines.AtVersion
+stage_of stage.Callers = lines.AtCallers
+stage_of stage.Elements = lines.AtElements
+stage_of stage.Volumes = lines.AtVolumes
+stage_of stage.Latches = lines.AtLatches
+stage_of stage.Quota = lines.AtQuota
+stage_of stage.Budgets = lines.AtBudgets
+stage_of stage.Owners = lines.AtOwners
+stage_of stage.Exits = lines.AtExits
+
+-- a line that was read, and what is left of the text
+abbrev pub line_seen : Option (Line × Bor (List ℕ)) → Option (journal.Line × List ℕ)
+line_seen read = option_map (λ x. (said x.0, x.1.now)) read
+
+abbrev pub entry_line_seen : Option (EntryLine × Bor (List ℕ)) → Option (journal.Line × List ℕ)
+entry_line_seen read = option_map (λ x. (entry_said x.0, x.1.now)) read
+
+-- the parts that are left, none behind the last
+abbrev pub parts_left : ℕ → Option (Bor (List ℕ)) → List (List ℕ)
+parts_left byte None = []
+parts_left byte (Some text) = parts_at byte text.now
+
+-- more than the bytes that are left, 0 behind the last part
+abbrev pub left_of : Option (Bor (List ℕ)) → ℕ
+left_of None = 0
+left_of (Some text) = Prim.Native.Nat.suc (length text.now)

@@ -1,0 +1,185 @@
+//! The head of a journal, read to its end.
+
+ghost use Rattle.std.specs.Prelude.{◌≡◌, ◌≢◌, ◌<◌, ◌≤◌, ◌+◌, ◌-◌, ◌^◌, ℕ, List, [], true, Some, length, OnOk, MatchResult};
+ghost use Rattle.mv_machine.specs.Check.{IsValid};
+ghost use Rattle.mv_machine.specs.Config.{setup_of};
+ghost use Rattle.mv_entrytext.specs.Journal.{Events};
+ghost use Rattle.mv_entrytext.specs.Lines.{AtEntries, blank, draft_with, line_read};
+ghost use Rattle.mv_entrytext.specs.Fault.{TellsFirst, text_fault};
+ghost use Rattle.mv_entrytext.specs.Said.{said, stage_of};
+ghost use Rattle.mv_entrytext.specs.Draft.{Tells, refusal_at, kind_of_form, kind_of_config, draft_at, head_seen, IsAt};
+
+use crate::fault::{TextFault, TextRefusal};
+use crate::line::{Line, Stage, read_line, split_first};
+use mv_io::NoMemory;
+use mv_machine::{CheckRefusal, Config, ValidConfig};
+use std::alloc::Global;
+
+/// Why a line was not taken.
+#[derive(Clone, Copy)]
+pub(crate) enum LineRefusal {
+    /// The first kind of its faults.
+    Kind(u32),
+    NoMemory,
+}
+
+impl LineRefusal {
+    /// The refusal of a text that has it at this line.
+    pub(crate) fn at(self, line: u32) -> TextRefusal
+        ensures { result ≡ refusal_at line self }
+    {
+        match self {
+            LineRefusal::Kind(kind) => TextRefusal::Fault(TextFault { line, kind }),
+            LineRefusal::NoMemory => TextRefusal::NoMemory,
+        }
+    }
+}
+
+// What the lines of the head have said so far, and which line comes next.
+#[derive(Drop)]
+struct HeadDraft {
+    stage: Stage,
+    config: Config,
+}
+
+impl HeadDraft {
+    fn new(alloc: Global) -> HeadDraft
+        ensures { head_seen result ≡ blank }
+    {
+        HeadDraft {
+            stage: Stage::Version,
+            config: Config {
+                callers: 0,
+                elements_per_caller: 0,
+                volumes: 0,
+                latches: 0,
+                quota: 0,
+                posted_quota: 0,
+                budgets: Vec::new(alloc),
+                owners: Vec::new(alloc),
+                exits: Vec::new(alloc),
+            },
+        }
+    }
+
+    // Takes a line before the last of the head, which leaves all as it was.
+    fn take(&mut self, line: Line) -> Result<(), NoMemory>
+        ensures { OnOk result (said line ≢ Events → head_seen self.new ≡ draft_with (said line) (head_seen self.old)) }
+    {
+        match line {
+            Line::Version => self.stage = Stage::Callers,
+            Line::Callers(n) => {
+                self.config.callers = n;
+                self.stage = Stage::Elements;
+            }
+            Line::Elements(n) => {
+                self.config.elements_per_caller = n;
+                self.stage = Stage::Volumes;
+            }
+            Line::Volumes(n) => {
+                self.config.volumes = n;
+                self.stage = Stage::Latches;
+            }
+            Line::Latches(n) => {
+                self.config.latches = n;
+                self.stage = Stage::Quota;
+            }
+            Line::Quota(quota, posted) => {
+                self.config.quota = quota;
+                self.config.posted_quota = posted;
+                self.stage = Stage::Budgets;
+            }
+            Line::Budget(n) => {
+                self.config.budgets.push(n)?;
+                self.stage = Stage::Budgets;
+            }
+            Line::Owner(caller) => {
+                self.config.owners.push(caller)?;
+                self.stage = Stage::Owners;
+            }
+            Line::Exit(exit) => {
+                self.config.exits.push(exit)?;
+                self.stage = Stage::Exits;
+            }
+            Line::Events => {}
+        }
+        Ok(())
+    }
+}
+
+// Reads a line as one that may come next, or says whether its form or a number in it is at fault.
+fn line_or_kind(alloc: Global, stage: Stage, text: &[u8]) -> Result<Line, LineRefusal>
+    ensures { MatchResult result
+        (λ l. line_read true (stage_of stage) text.now ≡ Some (said l))
+        (λ e. Tells e (kind_of_form (stage_of stage) text.now)) }
+{
+    let Ok(strict) = read_line(alloc, true, stage, text) else {
+        return Err(LineRefusal::NoMemory);
+    };
+    if let Some(line) = strict {
+        return Ok(line);
+    }
+    match read_line(alloc, false, stage, text) {
+        Ok(Some(_)) => Err(LineRefusal::Kind(2)),
+        Ok(None) => Err(LineRefusal::Kind(1)),
+        Err(_) => Err(LineRefusal::NoMemory),
+    }
+}
+
+// The configuration of a head that has ended.
+fn checked(alloc: Global, config: Config) -> Result<ValidConfig, LineRefusal>
+    ensures { MatchResult result
+        (λ v. (v ≡ setup_of config) × IsValid (setup_of config))
+        (λ e. Tells e (kind_of_config (setup_of config))) }
+{
+    match config.check(alloc) {
+        Ok(valid) => Ok(valid),
+        Err(CheckRefusal::NoMemory) => Err(LineRefusal::NoMemory),
+        Err(_) => Err(LineRefusal::Kind(3)),
+    }
+}
+
+/// A head that was read: its configuration, what stands behind it, and the number of the line there.
+#[derive(Drop)]
+pub(crate) struct Head<'a> {
+    pub(crate) config: ValidConfig,
+    pub(crate) rest: &'a [u8],
+    pub(crate) line: u32,
+}
+
+/// Reads the head of a journal, up to `EVENTS`.
+pub(crate) fn read_head(alloc: Global, bytes: &[u8]) -> Result<Head<'_>, TextRefusal>
+    requires { length bytes.now < 2 ^ 32 - 1 }
+    ensures { MatchResult result
+        (λ h. IsAt bytes.now h.rest.now h.line (draft_at AtEntries h.config []))
+        (λ e. TellsFirst e (text_fault bytes.now)) }
+{
+    let mut draft = HeadDraft::new(alloc);
+    let mut rest = bytes;
+    let mut number = 1;
+    'lines: loop {
+        let (text, behind) = split_first(rest, b'\n');
+        let Some(behind) = behind else {
+            return Err(LineRefusal::Kind(5).at(number));
+        };
+        let line = match line_or_kind(alloc, draft.stage, text) {
+            Ok(line) => line,
+            Err(refusal) => return Err(refusal.at(number)),
+        };
+        if let Line::Events = line {
+            return match checked(alloc, draft.config) {
+                Ok(config) => Ok(Head {
+                    config,
+                    rest: behind,
+                    line: number + 1,
+                }),
+                Err(refusal) => Err(refusal.at(number)),
+            };
+        }
+        let Ok(()) = draft.take(line) else {
+            return Err(TextRefusal::NoMemory);
+        };
+        rest = behind;
+        number += 1;
+    }
+}

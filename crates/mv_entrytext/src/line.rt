@@ -1,0 +1,247 @@
+//! The lines of a journal, read one by one.
+
+ghost use Rattle.std.specs.Prelude.{◌≡◌, ◌==◌, ◌≤◌, ◌∷◌, [], ℕ, List, IfOk, option_map, length};
+ghost use Rattle.std.specs.List.{position};
+ghost use Rattle.mv_machine.specs.Config.{exit_of};
+ghost use Rattle.mv_entrytext.specs.Reading.{whole, any_u32, parts_at};
+ghost use Rattle.mv_entrytext.specs.Lines.{AtBudgets, AtEntries, numbers, exit_from, exit_read, at_exits, at_owners, count_line, next_line, line_read};
+ghost use Rattle.mv_entrytext.specs.Said.{said, entry_said, stage_of, line_seen, entry_line_seen, parts_left, left_of};
+
+use crate::entry::read_entry;
+use crate::number::{after, any_u32, two_numbers};
+use mv_io::NoMemory;
+use mv_machine::{Entry, Exit};
+use std::alloc::Global;
+
+/// What a line of the head says.
+#[derive(Drop)]
+pub(crate) enum Line {
+    Version,
+    Callers(u32),
+    Elements(u32),
+    Volumes(u32),
+    Latches(u32),
+    Quota(u32, u32),
+    Budget(u32),
+    Owner(u32),
+    Exit(Exit),
+    Events,
+}
+
+/// What a line behind the head says.
+#[derive(Clone, Copy)]
+pub(crate) enum EntryLine {
+    Entry(Entry),
+    End(u32),
+}
+
+/// Which line of the head comes next; behind `Budgets` and `Owners` so may those of the later lists.
+#[derive(Clone, Copy)]
+pub(crate) enum Stage {
+    Version,
+    Callers,
+    Elements,
+    Volumes,
+    Latches,
+    Quota,
+    Budgets,
+    Owners,
+    Exits,
+}
+
+/// The first part of a text, up to this byte, and what stands behind it; nothing behind the last part.
+pub(crate) fn split_first(text: &[u8], byte: u8) -> (&[u8], Option<&[u8]>)
+    ensures parts { parts_at byte text.now ≡ result.0.now ∷ parts_left byte result.1 }
+    ensures shorter { left_of result.1 ≤ length text.now }
+{
+    match first_place(text, byte) {
+        Some(place) => (&text[..place], Some(&text[place + 1..])),
+        None => (text, None),
+    }
+}
+
+// Where a byte first stands in a text, if it does.
+fn first_place(text: &[u8], byte: u8) -> Option<usize>
+    ensures { result ≡ position (λ b. b == byte) text.now }
+{
+    text.iter().position(|b| *b == byte)
+}
+
+// A number that is all of a text.
+fn whole_number(strict: bool, text: &[u8]) -> Option<u32>
+    ensures { result ≡ whole (any_u32 strict) text.now }
+{
+    let (number, rest) = any_u32(strict, text)?;
+    rest.is_empty().then_some(number)
+}
+
+// The numbers of a text's fields, which are parted by single spaces; each is a number to its end.
+fn read_numbers(alloc: Global, strict: bool, text: &[u8]) -> Result<Option<Vec<u32>>, NoMemory>
+    ensures { IfOk result (λ o. option_map (λ v. v.items) o ≡ numbers strict (parts_at 32 text.now)) }
+{
+    let mut found = Vec::new(alloc);
+    let mut left = Some(text);
+    while let Some(fields) = left {
+        let (field, behind) = split_first(fields, b' ');
+        let Some(number) = whole_number(strict, field) else {
+            return Ok(None);
+        };
+        found.push(number)?;
+        left = behind;
+    }
+    Ok(Some(found))
+}
+
+// A source and one or more targets.
+fn exit_from(mut numbers: Vec<u32>) -> Option<Exit>
+    ensures { option_map (λ x. (exit_of x, [])) result ≡ exit_from numbers.items }
+{
+    if numbers.len() < 2 {
+        return None;
+    }
+    let source = numbers.remove(0);
+    Some(Exit {
+        source,
+        targets: numbers,
+    })
+}
+
+// What stands on an exit's line behind its word.
+#[tactic(auto, unfolding(crate::specs::Lines::exit_read))]
+fn read_exit(alloc: Global, strict: bool, text: &[u8]) -> Result<Option<Exit>, NoMemory>
+    ensures { IfOk result (λ o. option_map (λ x. (exit_of x, [])) o ≡ exit_read strict text.now) }
+{
+    match read_numbers(alloc, strict, text)? {
+        Some(numbers) => Ok(exit_from(numbers)),
+        None => Ok(None),
+    }
+}
+
+// The counts of the head, each in its place.
+#[tactic(auto, unfolding(crate::specs::Lines::count_line, crate::specs::Reading::behind))]
+fn read_count(strict: bool, stage: Stage, text: &[u8]) -> Option<(Line, &[u8])>
+    ensures { line_seen result ≡ count_line strict (stage_of stage) text.now }
+{
+    match stage {
+        Stage::Version => Some((Line::Version, after(text, b"JOURNAL 1")?)),
+        Stage::Callers => {
+            let (n, rest) = any_u32(strict, after(text, b"CALLERS ")?)?;
+            Some((Line::Callers(n), rest))
+        }
+        Stage::Elements => {
+            let (n, rest) = any_u32(strict, after(text, b"ELEMENTS ")?)?;
+            Some((Line::Elements(n), rest))
+        }
+        Stage::Volumes => {
+            let (n, rest) = any_u32(strict, after(text, b"VOLUMES ")?)?;
+            Some((Line::Volumes(n), rest))
+        }
+        Stage::Latches => {
+            let (n, rest) = any_u32(strict, after(text, b"LATCHES ")?)?;
+            Some((Line::Latches(n), rest))
+        }
+        Stage::Quota => {
+            let (both, rest) = two_numbers(strict, (u32::MAX, u32::MAX), after(text, b"QUOTA ")?)?;
+            Some((Line::Quota(both.0, both.1), rest))
+        }
+        _ => None,
+    }
+}
+
+// An entry, or the end.
+#[tactic(auto, unfolding(crate::specs::Lines::next_line, crate::specs::Reading::behind))]
+fn read_entry_or_end(strict: bool, text: &[u8]) -> Option<(EntryLine, &[u8])>
+    ensures { entry_line_seen result ≡ next_line strict AtEntries text.now }
+{
+    if let Some(rest) = after(text, b"END ") {
+        let (n, rest) = any_u32(strict, rest)?;
+        return Some((EntryLine::End(n), rest));
+    }
+    let (entry, rest) = read_entry(strict, text)?;
+    Some((EntryLine::Entry(entry), rest))
+}
+
+/// Reads a line behind the head without its LF, to its end.
+pub(crate) fn read_entry_line(strict: bool, text: &[u8]) -> Option<EntryLine>
+    ensures { option_map entry_said result ≡ line_read strict AtEntries text.now }
+{
+    match read_entry_or_end(strict, text)? {
+        (line, []) => Some(line),
+        _ => None,
+    }
+}
+
+type Read<'a> = Result<Option<(Line, &'a [u8])>, NoMemory>;
+
+// An exit, or the end of the head.
+#[tactic(auto, unfolding(crate::specs::Reading::behind))]
+fn read_at_exits(alloc: Global, strict: bool, text: &[u8]) -> Read<'_>
+    ensures { IfOk result (λ o. line_seen o ≡ at_exits strict text.now) }
+{
+    if let Some(rest) = after(text, b"EXIT ") {
+        return match read_exit(alloc, strict, rest)? {
+            Some(exit) => Ok(Some((Line::Exit(exit), &[]))),
+            None => Ok(None),
+        };
+    }
+    if let Some(rest) = after(text, b"EVENTS") {
+        return Ok(Some((Line::Events, rest)));
+    }
+    Ok(None)
+}
+
+// An owner, or what may stand behind the owners.
+#[tactic(auto, unfolding(crate::specs::Reading::behind))]
+fn read_at_owners(alloc: Global, strict: bool, text: &[u8]) -> Read<'_>
+    ensures { IfOk result (λ o. line_seen o ≡ at_owners strict text.now) }
+{
+    if let Some(rest) = after(text, b"ECB ") {
+        return match any_u32(strict, rest) {
+            Some((owner, rest)) => Ok(Some((Line::Owner(owner), rest))),
+            None => Ok(None),
+        };
+    }
+    read_at_exits(alloc, strict, text)
+}
+
+// A budget, or what may stand behind the budgets.
+#[tactic(auto, unfolding(crate::specs::Lines::next_line, crate::specs::Reading::behind))]
+fn read_at_budgets(alloc: Global, strict: bool, text: &[u8]) -> Read<'_>
+    ensures { IfOk result (λ o. line_seen o ≡ next_line strict AtBudgets text.now) }
+{
+    if let Some(rest) = after(text, b"BUDGET ") {
+        return match any_u32(strict, rest) {
+            Some((budget, rest)) => Ok(Some((Line::Budget(budget), rest))),
+            None => Ok(None),
+        };
+    }
+    read_at_owners(alloc, strict, text)
+}
+
+// The line that comes next.
+#[tactic(auto, unfolding(crate::specs::Lines::next_line))]
+fn read_next(alloc: Global, strict: bool, stage: Stage, text: &[u8]) -> Read<'_>
+    ensures { IfOk result (λ o. line_seen o ≡ next_line strict (stage_of stage) text.now) }
+{
+    match stage {
+        Stage::Budgets => read_at_budgets(alloc, strict, text),
+        Stage::Owners => read_at_owners(alloc, strict, text),
+        Stage::Exits => read_at_exits(alloc, strict, text),
+        _ => Ok(read_count(strict, stage, text)),
+    }
+}
+
+/// Reads a line of the head without its LF, to its end, as one that may stand there.
+pub(crate) fn read_line(
+    alloc: Global,
+    strict: bool,
+    stage: Stage,
+    text: &[u8],
+) -> Result<Option<Line>, NoMemory>
+    ensures { IfOk result (λ o. option_map said o ≡ line_read strict (stage_of stage) text.now) }
+{
+    match read_next(alloc, strict, stage, text)? {
+        Some((line, [])) => Ok(Some(line)),
+        _ => Ok(None),
+    }
+}

@@ -1,0 +1,108 @@
+//! The reader of journals: one pass over the bytes.
+
+ghost use Rattle.std.specs.Prelude.{◌≡◌, ◌<◌, ◌≤◌, ◌+◌, ◌-◌, ◌^◌, ◌∷◌, ℕ, List, [], true, Some, length, vec_len, IfOk, IfErr, MatchResult};
+ghost use Rattle.mv_entrytext.specs.Journal.{journal_text};
+ghost use Rattle.mv_entrytext.specs.Lines.{AtEntries, AtEnd, line_read};
+ghost use Rattle.mv_entrytext.specs.Fault.{HasJournal, TellsFirst, first_fault, text_fault};
+ghost use Rattle.mv_entrytext.specs.Reading.{parts_at};
+ghost use Rattle.mv_entrytext.specs.Said.{entry_said};
+ghost use Rattle.mv_entrytext.specs.Draft.{Tells, kind_of_form, kind_at_end};
+
+use crate::fault::TextRefusal;
+use crate::head::{LineRefusal, read_head};
+use crate::line::{EntryLine, read_entry_line, split_first};
+use mv_machine::{Entry, ValidConfig};
+use std::alloc::Global;
+
+/// A journal that was read.
+#[derive(Drop)]
+pub struct Journal {
+    pub config: ValidConfig,
+    pub entries: Vec<Entry>,
+    /// The number of the line behind `EVENTS`, counted from 1.
+    pub first_line: u32,
+}
+
+// Reads a line behind the head, or says whether its form or a number in it is at fault.
+fn entry_line_or_kind(text: &[u8]) -> Result<EntryLine, LineRefusal>
+    ensures { MatchResult result
+        (λ l. line_read true AtEntries text.now ≡ Some (entry_said l))
+        (λ e. Tells e (kind_of_form AtEntries text.now)) }
+{
+    match read_entry_line(true, text) {
+        Some(line) => Ok(line),
+        None => match read_entry_line(false, text) {
+            Some(_) => Err(LineRefusal::Kind(2)),
+            None => Err(LineRefusal::Kind(1)),
+        },
+    }
+}
+
+// Nothing may stand behind the last line.
+fn nothing_behind(rest: &[u8]) -> Result<(), LineRefusal>
+    ensures { MatchResult result
+        (λ _. rest.now ≡ [])
+        (λ e. Tells e (kind_at_end (parts_at 10 rest.now))) }
+{
+    match split_first(rest, b'\n') {
+        (_, Some(_)) => Err(LineRefusal::Kind(1)),
+        (last, None) if last.is_empty() => Ok(()),
+        _ => Err(LineRefusal::Kind(5)),
+    }
+}
+
+/// Reads a journal, of version 1 of the text.
+///
+/// One pass, in time linear in the length. No list of lines is kept: an entry takes 80 bytes, in a `Vec` that grows by
+/// doubling, and its line at least 18 of the text. Lines are counted from 1 in a `u32`, and so is the line behind the
+/// last: hence fewer than 2^32 - 1 bytes.
+///
+/// # Errors
+///
+/// `Fault` where the text has a fault: its first. `NoMemory` where there is no room for the head or the entries, which may
+/// show before a fault is reached.
+pub fn read_journal(alloc: Global, bytes: &[u8]) -> Result<Journal, TextRefusal>
+    requires short { length bytes.now < 2 ^ 32 - 1 }
+
+    // What is read is a journal, and the bytes are its text.
+    ensures journal { IfOk result (λ j. HasJournal j.config j.entries.items) }
+    ensures text { IfOk result (λ j. bytes.now ≡ journal_text j.config j.entries.items) }
+    ensures first_line { IfOk result (λ j.
+        j.first_line ≡ 8 + length j.config.budgets + length j.config.owners + length j.config.exits) }
+    // The fault that is told is the first.
+    ensures fault { IfErr result (λ e. TellsFirst e (text_fault bytes.now)) }
+{
+    let head = read_head(alloc, bytes)?;
+    let mut entries = Vec::new(alloc);
+    let mut rest = head.rest;
+    let mut number = head.line;
+    'lines: loop {
+        let (text, behind) = split_first(rest, b'\n');
+        let Some(behind) = behind else {
+            return Err(LineRefusal::Kind(5).at(number));
+        };
+        match entry_line_or_kind(text) {
+            Ok(EntryLine::Entry(entry)) => {
+                let Ok(()) = entries.push(entry) else {
+                    return Err(TextRefusal::NoMemory);
+                };
+            }
+            Ok(EntryLine::End(count)) => {
+                if count as usize != entries.len() {
+                    return Err(LineRefusal::Kind(4).at(number));
+                }
+                return match nothing_behind(behind) {
+                    Ok(()) => Ok(Journal {
+                        config: head.config,
+                        entries,
+                        first_line: head.line,
+                    }),
+                    Err(refusal) => Err(refusal.at(number + 1)),
+                };
+            }
+            Err(refusal) => return Err(refusal.at(number)),
+        }
+        rest = behind;
+        number += 1;
+    }
+}
