@@ -324,3 +324,6 @@ pub one_journal : (c d : Setup) (es fs : List Entry) → HasJournal c es → Has
 one_journal c d es fs p q e =
     let same : draft AtEnd c es ≡ draft AtEnd d fs = sym (read_again c es p) ∙ ap journal_of e ∙ read_again d fs q in
     (ap (λ (x : Draft). x.setup) same, ap (λ (x : Draft). x.entries) same)
+
+pub reads_back : (c : Setup) (es : List Entry) → HasJournal c es → ((journal_of (journal_text c es)).setup ≡ c) × ((journal_of (journal_text c es)).entries ≡ es)
+reads_back c es h = (ap (λ (x : Draft). x.setup) (read_again c es h), ap (λ (x : Draft). x.entries) (read_again c es h))

@@ -7,13 +7,15 @@ ghost use Rattle.mv_machine.specs.Legal.{Legal};
 ghost use Rattle.mv_machine.specs.Setup.{Setup};
 ghost use Rattle.mv_entrytext.specs.Ranges.{highest_place, highest_u32};
 ghost use Rattle.mv_entrytext.specs.EntryText.{IsInRange, IsTyped};
-ghost use Rattle.mv_entrytext.specs.Fault.{HasJournal, text_fault};
+ghost use Rattle.mv_entrytext.specs.Fault.{HasJournal, journal_of, text_fault};
 ghost use Rattle.mv_entrytext.specs.Journal.{journal_text};
 
-/// A text determines its configuration and its entries.
+/// A text determines its configuration and its entries: they are what is read off it.
 pub fn text_determines_journal()
-    ensures { (c d : Setup) (es fs : List Entry) → HasJournal c es → HasJournal d fs
+    ensures one { (c d : Setup) (es fs : List Entry) → HasJournal c es → HasJournal d fs
         → journal_text c es ≡ journal_text d fs → (c ≡ d) × (es ≡ fs) }
+    ensures read_back { (c : Setup) (es : List Entry) → HasJournal c es
+        → ((journal_of (journal_text c es)).setup ≡ c) × ((journal_of (journal_text c es)).entries ≡ es) }
 {}
 
 /// The entries of a legal list, whose places are such as the budgets of a run allow, are in the ranges of the text. So

@@ -3,7 +3,7 @@
 ghost use Rattle.std.specs.Prelude.{◌≡◌, ◌<◌, ◌≤◌, ◌*◌, ◌+◌, ◌^◌, ◌↔◌, ◌++◌, [], map, IsTrue, IsSome, IfSome, OnSome, IfNone, IfOk, vec_len, vec_capacity, length};
 ghost use Rattle.std.specs.List.{flat_map};
 ghost use Rattle.mv_latch.specs.Request.{of_caller, of_requestor};
-ghost use Rattle.mv_latch.specs.Latch.{obtain_step, release_step, purged, granted_by_purge};
+ghost use Rattle.mv_latch.specs.Latch.{obtain_step, confirm_reply, release_step, purged, granted_by_purge};
 ghost use Rattle.mv_latch.specs.Selection.{selects};
 ghost use Rattle.mv_latch.specs.LatchSet.{opened, at_latch, list_of, count_in, IsNewId, is_within_quotas, latch_admitted, latch_step, wakes as wakes_of};
 
@@ -70,6 +70,14 @@ impl LatchSet {
         ensures { result.now ≡ list_of self.now.lists latch }
     {
         &self.lists[latch as usize]
+    }
+
+    /// How a caller's request of this number stands, as the operation Confirm answers it. Nothing changes.
+    pub fn confirm(&self, caller: u32, latch: u32, id: u32) -> LatchReply
+        requires { latch < length self.now.lists }
+        ensures { result ≡ confirm_reply caller id (list_of self.now.lists latch) }
+    {
+        confirm(self.requests(latch), caller, id)
     }
 
     // An obtain within the quotas.
@@ -186,7 +194,7 @@ impl LatchSet {
                     form,
                 },
             ),
-            LatchOp::Confirm { latch, id } => confirm(self.requests(latch), caller, id),
+            LatchOp::Confirm { latch, id } => self.confirm(caller, latch, id),
             LatchOp::Release {
                 latch,
                 id,

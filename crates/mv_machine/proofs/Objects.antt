@@ -15,17 +15,10 @@ use Rattle.mv_machine.specs.declared.entry.Entry.{Entry}
 use Rattle.mv_machine.specs.Told.{told_at, told_from}
 use Rattle.mv_machine.specs.Setup.{Setup}
 use Rattle.mv_machine.specs.System.{System, moved, place_of, turned, volume_step}
-use Rattle.mv_machine.specs.Legal.{IsNext, next, after_from, LegalFrom, same_object, of, «at», CountsFrom}
+use Rattle.mv_machine.specs.Legal.{IsNext, next, after_from, LegalFrom, same_object, SameAt, of, «at», CountsFrom}
 use Rattle.mv_machine.proofs.Histories.{place-moved, with_at-same, with_at-other}
 
--- two systems in which an object has the same place and state
-abbrev pub SameAt : Object → System → System → Type 0
-SameAt (Ecb n) s t = s.ecb n ≡ t.ecb n
-SameAt (Element n) s t = s.element n ≡ t.element n
-SameAt (Volume n) s t = s.volume n ≡ t.volume n
-SameAt Latches s t = s.latches ≡ t.latches
-
-same_flip : (o : Object) (s t : System) → SameAt o s t → SameAt o t s
+pub same_flip : (o : Object) (s t : System) → SameAt o s t → SameAt o t s
 same_flip (Ecb n) s t h = sym h
 same_flip (Element n) s t h = sym h
 same_flip (Volume n) s t h = sym h
@@ -61,7 +54,7 @@ next_there c s t k Latches p (op_on.Latch op) r same h = (
 next_there c s t k o p op r same h = absurd (false≢true h.admits)
 
 -- and changes it alone
-elsewhere : (s : System) (k : ℕ) (o : Object) (op : Op) (q : Object) → same_object o q ≡ false → SameAt q (moved s k o op) s
+pub elsewhere : (s : System) (k : ℕ) (o : Object) (op : Op) (q : Object) → same_object o q ≡ false → SameAt q (moved s k o op) s
 elsewhere s k (Ecb n) (op_on.Ecb op) (Ecb m) d = with_at-other s.ecb n _ m (λ e. true≢false (sym (eq-eqb n m (sym e)) ∙ d))
 elsewhere s k (Element n) (op_on.Element op) (Element m) d = with_at-other s.element n _ m (λ e. true≢false (sym (eq-eqb n m (sym e)) ∙ d))
 elsewhere s k (Volume n) (op_on.Volume op) (Volume m) d = with_at-other s.volume n _ m (λ e. true≢false (sym (eq-eqb n m (sym e)) ∙ d))
@@ -75,7 +68,7 @@ same_is (Volume a) (Volume b) e = ap (λ z. Volume z) (eqb-true a b e)
 same_is Latches Latches e = refl
 same_is o q e = absurd (false≢true e)
 
-same_self : (o : Object) → same_object o o ≡ true
+pub same_self : (o : Object) → same_object o o ≡ true
 same_self (Ecb a) = eq-eqb a a refl
 same_self (Element a) = eq-eqb a a refl
 same_self (Volume a) = eq-eqb a a refl
@@ -161,7 +154,7 @@ told_by_part s me (e ∷ es) = go (same_object e.object Latches) refl (told_by_p
   go false h ih = rw (none_told s me e.caller e.object e.op h) (ih ∙ told-same (next s e) s me («at» Latches es) (elsewhere s e.caller e.object e.op Latches h))
 
 -- ---- where a list leads at an object, its part at that object leads
-same_trans : (o : Object) (s t v : System) → SameAt o s t → SameAt o t v → SameAt o s v
+pub same_trans : (o : Object) (s t v : System) → SameAt o s t → SameAt o t v → SameAt o s v
 same_trans (Ecb n) s t v a b = a ∙ b
 same_trans (Element n) s t v a b = a ∙ b
 same_trans (Volume n) s t v a b = a ∙ b

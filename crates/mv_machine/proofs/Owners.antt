@@ -1,26 +1,198 @@
 -- What another caller does keeps the owner's part.
-use Rattle.std.proofs.Common.{◌≡◌, ℕ, true, arith}
+use Rattle.std.proofs.Common.{◌≡◌, ◌==◌, ◌&&◌, ◌⊎◌, ℕ, Bool, true, false, List, [], ◌∷◌, ◌++◌, Some, cond, inl, inr, refl, sym, ap, ◌∙◌, arith}
+use Rattle.std.specs.List.{AllByRecursion}
+use Rattle.std.proofs.lemmas.Bool.{cases_eq, cases_Bool, false≢true, eq-eqb, and_parts}
 use Rattle.mv_ecb.specs.declared.operation.EcbOp.{EcbOp}
+use Rattle.mv_ecb.specs.Word.{EcbState, Complete}
+use Rattle.mv_ecb.specs.Table.{ecb_step}
 use Rattle.mv_element.specs.declared.operation.ElementOp.{ElementOp}
 use Rattle.mv_element.specs.declared.element.ElementState.{ElementState}
 use Rattle.mv_element.specs.declared.element.Phase.TheVariants.{Free, Released}
-use Rattle.mv_ecb.specs.Word.{EcbState, Complete}
-use Rattle.mv_ecb.specs.Table.{ecb_step}
 use Rattle.mv_element.specs.Table.{element_step}
+use Rattle.mv_machine.specs.declared.entry.Entry.{Entry}
+use Rattle.mv_machine.specs.declared.entry.Object.{Object}
+use Rattle.mv_machine.specs.declared.entry.Object.TheVariants.{Ecb, Element, Volume, Latches}
+use Rattle.mv_machine.specs.declared.entry.Op.{Op}
+use Rattle.mv_machine.specs.declared.entry.Op.TheVariants as op_on
+use Rattle.mv_machine.specs.declared.entry.Reply.{Reply}
+use Rattle.mv_machine.specs.Legal.{IsNext, next, Legal, after, same_object, of}
+use Rattle.mv_machine.specs.Owned.{owner_at, is_owners, is_clear, HasNo}
 use Rattle.mv_machine.specs.Setup.{Setup, owner_of, element_owner}
-use Rattle.mv_machine.specs.System.{ecb_admitted, element_admitted}
+use Rattle.mv_machine.specs.System.{System, Cell, moved, turned, ecb_admitted, element_admitted}
+use Rattle.mv_machine.proofs.EntryRuns.{entry_of, along, rest_is_legal, at_end}
+use Rattle.mv_machine.proofs.Histories.{with_at-same, with_at-other}
+use Rattle.mv_machine.proofs.Objects.{same_is}
 
--- a complete block stays complete with its code until its owner clears it
-pub others_keep_complete : (c : Setup) (k n code : ℕ) (op : EcbOp) (s : EcbState) → ecb_admitted c k n op ≡ true → (owner_of c n ≡ k → ⊥) → s ≡ Complete code → (ecb_step op s).0 ≡ Complete code
-others_keep_complete c k n code op s a other is = grind arith
+-- ---- an owner's operation is made by the owner
+ecb_made_by : (c : Setup) (k n : ℕ) (op : EcbOp) → ecb_admitted c k n op ≡ true → is_owners (op_on.Ecb op) ≡ true → owner_of c n ≡ k
+ecb_made_by c k n op a own = grind arith
 
--- an element's generation changes by its owner alone
-pub others_keep_generation : (c : Setup) (k n : ℕ) (op : ElementOp) (s : ElementState) → element_admitted c k n op ≡ true → (element_owner c n ≡ k → ⊥) → (element_step op s).0.generation ≡ s.generation
-others_keep_generation c k n op s a other = grind arith
+element_made_by : (c : Setup) (k n : ℕ) (op : ElementOp) → element_admitted c k n op ≡ true → is_owners (op_on.Element op) ≡ true
+    → element_owner c n ≡ k
+element_made_by c k n op a own = grind arith
 
--- a free element stays free, and a released one released
-pub others_keep_free : (c : Setup) (k n : ℕ) (op : ElementOp) (s : ElementState) → element_admitted c k n op ≡ true → (element_owner c n ≡ k → ⊥) → s.phase ≡ Free → (element_step op s).0.phase ≡ Free
-others_keep_free c k n op s a other is = grind arith
+pub made_by_owner : (c : Setup) (s : System) (k : ℕ) (o : Object) (p : ℕ) (op : Op) (r : Reply) → IsNext c s (entry_of k o p op r)
+    → is_owners op ≡ true → owner_at c o ≡ Some k
+made_by_owner c s k (Ecb n) p (op_on.Ecb op) r h own = ap (λ z. Some z) (ecb_made_by c k n op (and_parts _ _ h.admits).1 own)
+made_by_owner c s k (Element n) p (op_on.Element op) r h own = ap (λ z. Some z) (element_made_by c k n op (and_parts _ _ h.admits).1 own)
+made_by_owner c s k (Volume n) p (op_on.Volume op) r h own = absurd (false≢true own)
+made_by_owner c s k Latches p (op_on.Latch op) r h own = absurd (false≢true own)
+made_by_owner c s k o p op r h own = absurd (false≢true h.admits)
 
-pub others_keep_released : (c : Setup) (k n : ℕ) (op : ElementOp) (s : ElementState) → element_admitted c k n op ≡ true → (element_owner c n ≡ k → ⊥) → s.phase ≡ Released → (element_step op s).0 ≡ s
-others_keep_released c k n op s a other is = grind arith
+pub owner_makes : (c : Setup) (xs ys : List Entry) (e : Entry) → Legal c (xs ++ e ∷ ys) → is_owners e.op ≡ true
+    → owner_at c e.object ≡ Some e.caller
+owner_makes c xs ys e l own = made_by_owner c (after c xs) e.caller e.object e.place e.op e.reply (rest_is_legal c xs (e ∷ ys) l).0 own
+
+-- ---- where the owner's entries have no such operation, no entry has one
+-- what the owner's entries say of each entry
+abbrev pub OwnersHasNo : (Op → Bool) → Object → ℕ → Entry → Type 0
+OwnersHasNo test o owner e = (e.caller == owner) ≡ true → (same_object e.object o && test e.op) ≡ false
+
+owners_entries : (test : Op → Bool) (o : Object) (owner : ℕ) (es : List Entry) → HasNo test o (of owner es)
+    → AllByRecursion (OwnersHasNo test o owner) es
+owners_entries test o owner [] a = tt
+owners_entries test o owner (e ∷ es) a = go (e.caller == owner) refl a (owners_entries test o owner es) where
+  go : (b : Bool) → (e.caller == owner) ≡ b → HasNo test o (cond b (e ∷ of owner es) (of owner es))
+      → (HasNo test o (of owner es) → AllByRecursion (OwnersHasNo test o owner) es) → AllByRecursion (OwnersHasNo test o owner) (e ∷ es)
+  go true is w rest = ((λ _. w.0), rest w.1)
+  go false is w rest = ((λ own. absurd (false≢true (sym is ∙ own))), rest w)
+
+pub not_made : (c : Setup) (s : System) (test : Op → Bool) (o : Object) (owner : ℕ) (e : Entry)
+    → ((op : Op) → test op ≡ true → is_owners op ≡ true) → owner_at c o ≡ Some owner
+    → IsNext c s e → OwnersHasNo test o owner e → same_object e.object o ≡ true → test e.op ≡ false
+not_made c s test o owner e owned is h none same = elim (cases_Bool (test e.op)) [
+  | inl made ↦
+      let by : owner_at c e.object ≡ Some e.caller = made_by_owner c s e.caller e.object e.place e.op e.reply h (owned e.op made) in
+      let at : owner_at c e.object ≡ Some owner = ap (owner_at c) (same_is e.object o same) ∙ is in
+      let own : e.caller ≡ owner = cc in
+      let never : (same_object e.object o && test e.op) ≡ false = none (eq-eqb e.caller owner own) in
+      absurd (false≢true (sym never ∙ (rw (same, made) refl)))
+  | inr not_so ↦ not_so
+]
+
+-- ---- one entry passes an object by, or is an operation on it
+abbrev ecb_turn : EcbOp → Cell EcbState → Cell EcbState
+ecb_turn x cell = turned cell (ecb_step x cell.state).0
+
+abbrev EcbMoves : System → ℕ → ℕ → Object → Op → Type 0
+EcbMoves s n k o op = ((moved s k o op).ecb n ≡ s.ecb n)
+    ⊎ ((x : EcbOp) × (op ≡ op_on.Ecb x) × (same_object o (Ecb n) ≡ true)
+    × ((moved s k o op).ecb n ≡ ecb_turn x (s.ecb n)))
+
+ecb_moves : (c : Setup) (s : System) (n k : ℕ) (o : Object) (p : ℕ) (op : Op) (r : Reply) → IsNext c s (entry_of k o p op r)
+    → EcbMoves s n k o op
+ecb_moves c s n k (Ecb m) p (op_on.Ecb op) r h = elim (cases_eq n m) [
+  | inl same ↦ inr (op, refl, eq-eqb m n (sym same), with_at-same s.ecb m _ n same ∙ ap (λ z. ecb_turn op (s.ecb z)) (sym same))
+  | inr other ↦ inl (with_at-other s.ecb m _ n other)
+]
+ecb_moves c s n k (Element m) p (op_on.Element op) r h = inl refl
+ecb_moves c s n k (Volume m) p (op_on.Volume op) r h = inl refl
+ecb_moves c s n k Latches p (op_on.Latch op) r h = inl refl
+ecb_moves c s n k o p op r h = absurd (false≢true h.admits)
+
+abbrev element_turn : ElementOp → Cell ElementState → Cell ElementState
+element_turn x cell = turned cell (element_step x cell.state).0
+
+abbrev ElementMoves : System → ℕ → ℕ → Object → Op → Type 0
+ElementMoves s n k o op = ((moved s k o op).element n ≡ s.element n)
+    ⊎ ((x : ElementOp) × (op ≡ op_on.Element x) × (same_object o (Element n) ≡ true)
+    × ((moved s k o op).element n ≡ element_turn x (s.element n)))
+
+element_moves : (c : Setup) (s : System) (n k : ℕ) (o : Object) (p : ℕ) (op : Op) (r : Reply) → IsNext c s (entry_of k o p op r)
+    → ElementMoves s n k o op
+element_moves c s n k (Element m) p (op_on.Element op) r h = elim (cases_eq n m) [
+  | inl same ↦ inr (op, refl, eq-eqb m n (sym same), with_at-same s.element m _ n same ∙ ap (λ z. element_turn op (s.element z)) (sym same))
+  | inr other ↦ inl (with_at-other s.element m _ n other)
+]
+element_moves c s n k (Ecb m) p (op_on.Ecb op) r h = inl refl
+element_moves c s n k (Volume m) p (op_on.Volume op) r h = inl refl
+element_moves c s n k Latches p (op_on.Latch op) r h = inl refl
+element_moves c s n k o p op r h = absurd (false≢true h.admits)
+
+-- ---- from there to lists
+-- what an event control block keeps under each operation that does not meet the test, it keeps until its owner makes one
+pub ecb_kept : (c : Setup) (n : ℕ) (test : Op → Bool) (P : EcbState → Type 0) → ((op : Op) → test op ≡ true → is_owners op ≡ true)
+    → ((x : EcbOp) (z : EcbState) → test (op_on.Ecb x) ≡ false → P z → P (ecb_step x z).0)
+    → (xs ys : List Entry) → Legal c (xs ++ ys) → HasNo test (Ecb n) (of (owner_of c n) ys) → P ((after c xs).ecb n).state
+    → P ((after c (xs ++ ys)).ecb n).state
+ecb_kept c n test P owned keeps xs ys l none p =
+    at_end c (λ s. P (s.ecb n).state) xs ys
+    (along c (λ s. P (s.ecb n).state) (OwnersHasNo test (Ecb n) (owner_of c n)) step (after c xs) ys
+    (rest_is_legal c xs ys l) (owners_entries test (Ecb n) (owner_of c n) ys none) p) where
+      step : (s : System) (e : Entry) → IsNext c s e → OwnersHasNo test (Ecb n) (owner_of c n) e → P (s.ecb n).state
+          → P ((next s e).ecb n).state
+      step s e h never q = elim (ecb_moves c s n e.caller e.object e.place e.op e.reply h) [
+        | inl w ↦ rw w q
+        | inr w ↦
+            let other : test e.op ≡ false = not_made c s test (Ecb n) (owner_of c n) e owned refl h never w.2 in
+            rw (w.3) (keeps w.0 (s.ecb n).state (ap test (sym w.1) ∙ other) q)
+      ]
+
+pub element_kept : (c : Setup) (n : ℕ) (P : ElementState → Type 0)
+    → ((x : ElementOp) (z : ElementState) → is_owners (op_on.Element x) ≡ false → P z → P (element_step x z).0)
+    → (xs ys : List Entry) → Legal c (xs ++ ys) → HasNo is_owners (Element n) (of (element_owner c n) ys) → P ((after c xs).element n).state
+    → P ((after c (xs ++ ys)).element n).state
+element_kept c n P keeps xs ys l none p =
+    at_end c (λ s. P (s.element n).state) xs ys
+    (along c (λ s. P (s.element n).state) (OwnersHasNo is_owners (Element n) (element_owner c n)) step (after c xs) ys
+    (rest_is_legal c xs ys l) (owners_entries is_owners (Element n) (element_owner c n) ys none) p) where
+      step : (s : System) (e : Entry) → IsNext c s e → OwnersHasNo is_owners (Element n) (element_owner c n) e → P (s.element n).state
+          → P ((next s e).element n).state
+      step s e h never q = elim (element_moves c s n e.caller e.object e.place e.op e.reply h) [
+        | inl w ↦ rw w q
+        | inr w ↦
+            let other : is_owners e.op ≡ false = not_made c s is_owners (Element n) (element_owner c n) e (λ _ own. own) refl h never w.2 in
+            rw (w.3) (keeps w.0 (s.element n).state (ap is_owners (sym w.1) ∙ other) q)
+      ]
+
+-- ---- the tables, for operations that are not the owner's
+clear_is_owners : (op : Op) → is_clear op ≡ true → is_owners op ≡ true
+clear_is_owners (op_on.Ecb op) is = grind arith
+clear_is_owners op is = absurd (false≢true is)
+
+complete_next : (code : ℕ) (op : EcbOp) (z : EcbState) → is_clear (op_on.Ecb op) ≡ false → z ≡ Complete code
+    → (ecb_step op z).0 ≡ Complete code
+complete_next code op z other is = grind arith
+
+generation_next : (g : ℕ) (op : ElementOp) (z : ElementState) → is_owners (op_on.Element op) ≡ false → z.generation ≡ g
+    → (element_step op z).0.generation ≡ g
+generation_next g op z other is = grind arith
+
+free_next : (op : ElementOp) (z : ElementState) → is_owners (op_on.Element op) ≡ false → z.phase ≡ Free → (element_step op z).0.phase ≡ Free
+free_next op z other is = grind arith
+
+free_before : (op : ElementOp) (z : ElementState) → is_owners (op_on.Element op) ≡ false → (element_step op z).0.phase ≡ Free
+    → z.phase ≡ Free
+free_before op z other is = grind arith
+
+released_next : (op : ElementOp) (z : ElementState) → is_owners (op_on.Element op) ≡ false → z.phase ≡ Released → (element_step op z).0 ≡ z
+released_next op z other is = grind arith
+
+-- ---- what the owner finds again
+pub complete_kept : (c : Setup) (xs ys : List Entry) (n code : ℕ) → Legal c (xs ++ ys) → HasNo is_clear (Ecb n) (of (owner_of c n) ys)
+    → ((after c xs).ecb n).state ≡ Complete code → ((after c (xs ++ ys)).ecb n).state ≡ Complete code
+complete_kept c xs ys n code l none is = ecb_kept c n is_clear (λ z. z ≡ Complete code) clear_is_owners (complete_next code) xs ys l none is
+
+pub generation_kept : (c : Setup) (xs ys : List Entry) (n : ℕ) → Legal c (xs ++ ys)
+    → HasNo is_owners (Element n) (of (element_owner c n) ys)
+    → ((after c (xs ++ ys)).element n).state.generation ≡ ((after c xs).element n).state.generation
+generation_kept c xs ys n l none =
+    let g : ℕ = ((after c xs).element n).state.generation in
+    element_kept c n (λ z. z.generation ≡ g) (generation_next g) xs ys l none refl
+
+pub free_kept : (c : Setup) (xs ys : List Entry) (n : ℕ) → Legal c (xs ++ ys) → HasNo is_owners (Element n) (of (element_owner c n) ys)
+    → ((after c xs).element n).state.phase ≡ Free → ((after c (xs ++ ys)).element n).state.phase ≡ Free
+free_kept c xs ys n l none is = element_kept c n (λ z. z.phase ≡ Free) free_next xs ys l none is
+
+pub free_was : (c : Setup) (xs ys : List Entry) (n : ℕ) → Legal c (xs ++ ys) → HasNo is_owners (Element n) (of (element_owner c n) ys)
+    → ((after c (xs ++ ys)).element n).state.phase ≡ Free → ((after c xs).element n).state.phase ≡ Free
+free_was c xs ys n l none is =
+    element_kept c n (λ z. z.phase ≡ Free → ((after c xs).element n).state.phase ≡ Free)
+    (λ x z other was now. was (free_before x z other now)) xs ys l none (λ now. now) is
+
+pub released_kept : (c : Setup) (xs ys : List Entry) (n : ℕ) → Legal c (xs ++ ys) → HasNo is_owners (Element n) (of (element_owner c n) ys)
+    → ((after c xs).element n).state.phase ≡ Released → ((after c (xs ++ ys)).element n).state ≡ ((after c xs).element n).state
+released_kept c xs ys n l none is =
+    let z : ElementState = ((after c xs).element n).state in
+    element_kept c n (λ y. y ≡ z)
+    (λ x y other same. released_next x y other (ap (λ (w : ElementState). w.phase) same ∙ is) ∙ same) xs ys l none refl

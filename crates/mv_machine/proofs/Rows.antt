@@ -1,5 +1,11 @@
 -- Worked rows of the definitions, by computing them.
-use Rattle.std.proofs.Common.{◌≡◌, false, List, [], ◌∷◌, Some, None, refl}
+use Rattle.std.proofs.Common.{◌≡◌, false, List, [], ◌∷◌, ◌++◌, take, drop, Some, None, refl}
+use Rattle.mv_ecb.specs.Word.{Zero, Complete}
+use Rattle.mv_element.specs.Element.{prereleased}
+use Rattle.mv_machine.specs.declared.packing.WordState.TheVariants as word_state
+use Rattle.mv_machine.specs.Merge.{merged}
+use Rattle.mv_machine.specs.Packing.{pack, unpack}
+use Rattle.mv_machine.specs.Parts.{parts}
 use Rattle.mv_ecb.specs.declared.operation.EcbOp.TheVariants as ecb_op
 use Rattle.mv_ecb.specs.declared.operation.EcbReply.TheVariants as ecb_reply
 use Rattle.mv_element.specs.declared.operation.ElementOp.TheVariants as element_op
@@ -17,6 +23,8 @@ use Rattle.mv_machine.specs.declared.entry.VolumeOp.TheVariants.{Read, Write}
 use Rattle.mv_machine.specs.declared.entry.VolumeReply.TheVariants.{Value, Stored}
 use Rattle.mv_machine.specs.Check.{refusal_of}
 use Rattle.mv_machine.specs.Legal.{Legal}
+use Rattle.mv_machine.specs.Merge.{merged}
+use Rattle.mv_machine.specs.Parts.{parts}
 use Rattle.mv_machine.specs.Setup.{Setup}
 use Rattle.mv_machine.specs.System.{opening, answer, after_step}
 use Rattle.mv_machine.specs.Told.{told}
@@ -70,3 +78,25 @@ journal_is_legal =
 told_of : told two 0 journal ≡ [] ∷ (record { caller = 1; id = 1; ecb = None; code = 0 } ∷ []) ∷ []
 unfolding journal
 told_of = refl
+
+-- ---- words
+
+word_of_zero : pack 1 (word_state.Ecb Zero) ≡ 35184372088832
+word_of_zero = refl
+
+word_of_complete : pack 1 (word_state.Ecb (Complete 5)) ≡ 35185445830661
+word_of_complete = refl
+
+word_one_later : pack 2 (word_state.Ecb (Complete 5)) ≡ 70369817919493
+word_one_later = refl
+
+word_of_early : pack 2 (word_state.Element (prereleased 0 5)) ≡ 70368777732101
+word_of_early = refl
+
+read_early : unpack (Element 3) 70368777732101 ≡ Some (2, word_state.Element (prereleased 0 5))
+read_early = refl
+
+-- ---- a merge: caller 0's obtain comes before caller 1's pause, since both are ready and 0 is lower
+merge_of_two : merged (parts 2 journal) ≡ take 4 journal ++ take 1 (drop 5 journal) ++ take 1 (drop 4 journal) ++ drop 6 journal
+unfolding journal
+merge_of_two = refl

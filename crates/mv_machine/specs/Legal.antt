@@ -50,6 +50,13 @@ same_object _ _ = false
 abbrev pub «at» : Object → List Entry → List Entry
 «at» o es = filter (λ e. same_object e.object o) es
 
+-- two machines in which an object has the same place and state
+abbrev pub SameAt : Object → System → System → Type 0
+SameAt (Ecb n) s t = s.ecb n ≡ t.ecb n
+SameAt (Element n) s t = s.element n ≡ t.element n
+SameAt (Volume n) s t = s.volume n ≡ t.volume n
+SameAt Latches s t = s.latches ≡ t.latches
+
 -- the places of these entries count up by one
 abbrev pub CountsFrom : ℕ → List Entry → Type 0
 CountsFrom place [] = Unit {0}

@@ -10,3 +10,9 @@ pub mod Reach
 pub mod Chains
 pub mod Valid
 pub mod Replay
+pub mod Packing
+pub mod Parts
+pub mod Merge
+pub mod Room
+pub mod Kept
+pub mod Owned

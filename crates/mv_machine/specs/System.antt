@@ -73,6 +73,11 @@ element_admitted c k n (element_op.Release g d) = nat_lt d (2 ^ 24)
 element_admitted c k n element_op.Test = true
 element_admitted c k n _ = element_owner c n == k
 
+-- a volume's number has 32 bits
+abbrev pub volume_admitted : VolumeOp → Bool
+volume_admitted Read = true
+volume_admitted (Write m) = nat_lt m (2 ^ 32)
+
 -- the latch set as it stands, with the configuration's quotas
 abbrev pub latches_of : Setup → List (List Request) → LatchLists
 latches_of c lists = record { lists = lists; callers = c.callers; quota = c.quota; posted = c.posted_quota }
@@ -86,7 +91,7 @@ posts_own_ecb c k _ = true
 abbrev pub admitted : Setup → System → ℕ → Object → Op → Bool
 admitted c s k (Ecb n) (op_on.Ecb op) = nat_lt k c.callers && nat_lt n (length c.owners) && ecb_admitted c k n op
 admitted c s k (Element n) (op_on.Element op) = nat_lt k c.callers && nat_lt n (element_count c) && element_admitted c k n op
-admitted c s k (Volume n) (op_on.Volume op) = nat_lt k c.callers && nat_lt n c.volumes
+admitted c s k (Volume n) (op_on.Volume op) = nat_lt k c.callers && nat_lt n c.volumes && volume_admitted op
 admitted c s k Latches (op_on.Latch op) =
     nat_lt k c.callers && posts_own_ecb c k op && latch_admitted k op (latches_of c s.latches.state)
 admitted c s k _ _ = false

@@ -1,5 +1,5 @@
 ghost use Rattle.std.specs.List.{list_all, list_any};
-ghost use Rattle.std.specs.Prelude.{◌≡◌, ◌≢◌, ◌≤◌, ◌||◌, nat_le, length, map, vec_len, OnOk, IfOk, IfErr, IsErrOf, Some, None};
+ghost use Rattle.std.specs.Prelude.{◌≡◌, ◌≢◌, ◌≤◌, ◌||◌, nat_le, length, map, sum, vec_len, OnOk, IfOk, IfErr, IsErrOf, Some, None};
 ghost use Rattle.mv_machine.specs.Config.{setup_of, exit_of};
 ghost use Rattle.mv_machine.specs.Check.{refusal_of, first_limit, first_bad_owner, first_bad_exit, bad_budget, is_bad_exit as is_bad_exit_at, is_within, IsValid};
 
@@ -75,15 +75,24 @@ impl Config {
         None
     }
 
-    // The sum of the budgets, where it is too high.
-    fn bad_budget(&self) -> Option<u64>
+    // The sum of the budgets.
+    pub(crate) fn budget_sum(&self) -> u64
         requires { vec_len self.now.budgets ≤ 16 }
-        ensures { result ≡ bad_budget (setup_of self.now) }
+        ensures { result ≡ sum self.now.budgets.items }
     {
         let mut sum: u64 = 0;
         for budget in &self.budgets {
             sum += u64::from(*budget);
         }
+        sum
+    }
+
+    // The sum of the budgets, where it is too high.
+    fn bad_budget(&self) -> Option<u64>
+        requires { vec_len self.now.budgets ≤ 16 }
+        ensures { result ≡ bad_budget (setup_of self.now) }
+    {
+        let sum = self.budget_sum();
         if sum > 524_287 {
             return Some(sum);
         }

@@ -1,10 +1,26 @@
-ghost use Rattle.std.specs.Prelude.{◌≡◌, ◌≤◌, ◌++◌, ◌+◌, ℕ, List, length};
+ghost use Rattle.std.specs.Prelude.{◌≡◌, ◌↔◌, ◌⊎◌, ◌<◌, ◌≤◌, ◌++◌, ◌∷◌, ◌+◌, ◌^◌, ℕ, true, false, List, [], length, filter, Some, option_map, option_and_then, IfSome, IsSome};
+ghost use Rattle.mv_ecb.specs.Word.{Complete};
+ghost use Rattle.mv_element.specs.declared.element.Phase.TheVariants.{Free, Released};
+ghost use Rattle.mv_latch.specs.declared.request.Request.{Request};
+ghost use Rattle.mv_latch.specs.Latch.{IsIn};
+ghost use Rattle.mv_latch.specs.LatchSet.{count_in, list_of, IsNewId};
+ghost use Rattle.mv_latch.specs.Request.{has_id, of_caller, posted_of};
 ghost use Rattle.mv_machine.specs.declared.entry.Entry.{Entry};
 ghost use Rattle.mv_machine.specs.declared.entry.Object.{Object};
+ghost use Rattle.mv_machine.specs.declared.entry.Object.TheVariants.{Ecb, Element, Latches};
+ghost use Rattle.mv_machine.specs.declared.entry.Op.{Op};
+ghost use Rattle.mv_machine.specs.declared.packing.WordState.{WordState};
+ghost use Rattle.mv_machine.specs.Check.{IsValid};
 ghost use Rattle.mv_machine.specs.Elements.{FitsItsPlace};
-ghost use Rattle.mv_machine.specs.Legal.{Legal, after, «at», CountsFrom};
-ghost use Rattle.mv_machine.specs.Setup.{Setup};
-ghost use Rattle.mv_machine.specs.System.{place_of};
+ghost use Rattle.mv_machine.specs.Kept.{Standing, standing, allowed, is_posting, Has, RisesFrom};
+ghost use Rattle.mv_machine.specs.Legal.{Legal, SameAt, same_object, after, of, «at», CountsFrom};
+ghost use Rattle.mv_machine.specs.Merge.{merged, merge_from, start, total};
+ghost use Rattle.mv_machine.specs.Owned.{owner_at, is_owners, is_clear, HasNo, IsGranted, IsGone};
+ghost use Rattle.mv_machine.specs.Packing.{HasFields, HasOpFields, pack, unpack, state_at, word_at, state_after, reply_in};
+ghost use Rattle.mv_machine.specs.Parts.{parts, KeepsBudgets, Had};
+ghost use Rattle.mv_machine.specs.Setup.{Setup, owner_of, element_owner};
+ghost use Rattle.mv_machine.specs.System.{System, place_of, admitted, reply_to, moved};
+ghost use Rattle.mv_machine.specs.Told.{told};
 
 /// After every legal list twice an element's generation, and the extra of its phase, is at most its place. So within
 /// the events that the budgets of a run may allow, no place passes 524,287 and no generation 262,143.
@@ -18,4 +34,108 @@ pub fn generations_fit()
 pub fn places_count_entries()
     ensures places { (c : Setup) (es : List Entry) (o : Object) → Legal c es → CountsFrom 0 («at» o es) }
     ensures after { (c : Setup) (es : List Entry) (o : Object) → Legal c es → place_of (after c es) o ≡ length («at» o es) }
+{}
+
+/// All that a history says of an object goes by its entries on that object, and all that it says of a caller by that
+/// caller's entries beside them: two lists that agree in these are one history.
+pub fn histories_are_their_parts()
+    ensures legal { (c : Setup) (es : List Entry) → Legal c es ↔ ((o : Object) → Legal c («at» o es)) }
+    ensures after { (c : Setup) (es : List Entry) (o : Object) → Legal c es → SameAt o (after c es) (after c («at» o es)) }
+    ensures told { (c : Setup) (es : List Entry) (k : ℕ) → told c k es ≡ told c k («at» Latches es) }
+    ensures same_legal { (c : Setup) (es fs : List Entry) → ((o : Object) → «at» o es ≡ «at» o fs) → Legal c es → Legal c fs }
+    ensures same_after { (c : Setup) (es fs : List Entry) → ((o : Object) → «at» o es ≡ «at» o fs) → Legal c es → after c es ≡ after c fs }
+    ensures same_told { (c : Setup) (es fs : List Entry) (k : ℕ) → «at» Latches es ≡ «at» Latches fs → told c k es ≡ told c k fs }
+    ensures same_had { (c : Setup) (es fs : List Entry) (k n w : ℕ) (o : Object) → «at» o es ≡ «at» o fs → of k es ≡ of k fs → Had c es k n o w → Had c fs k n o w }
+{}
+
+/// A word that an object has now was had, and stays had with every further entry.
+pub fn words_stay_had()
+    ensures now { (c : Setup) (es : List Entry) (k : ℕ) (o : Object) → Legal c es → length es ≤ 524287 → IsSome (state_at (after c es) o)
+        → Had c es k (length (of k es)) o (word_at (after c es) o) }
+    ensures longer { (c : Setup) (es : List Entry) (e : Entry) (k n w : ℕ) (o : Object) → Legal c (es ++ e ∷ [])
+        → Had c es k n o w → Had c (es ++ e ∷ []) k n o w }
+{}
+
+/// The merge of the callers' parts of a legal list is legal, and is the same history: each caller's part, each object's
+/// part, what each caller was told, what was had, and where it leads. It never gets stuck: as many picks as the list has
+/// entries give an entry each.
+pub fn merging_keeps_a_history()
+    ensures legal { (c : Setup) (es : List Entry) → Legal c es → Legal c (merged (parts c.callers es)) }
+    ensures callers { (c : Setup) (es : List Entry) (k : ℕ) → Legal c es → of k (merged (parts c.callers es)) ≡ of k es }
+    ensures objects { (c : Setup) (es : List Entry) (o : Object) → Legal c es → «at» o (merged (parts c.callers es)) ≡ «at» o es }
+    ensures told { (c : Setup) (es : List Entry) (k : ℕ) → Legal c es → told c k (merged (parts c.callers es)) ≡ told c k es }
+    ensures had { (c : Setup) (es : List Entry) (k n w : ℕ) (o : Object) → Legal c es → Had c es k n o w → Had c (merged (parts c.callers es)) k n o w }
+    ensures after { (c : Setup) (es : List Entry) → Legal c es → after c (merged (parts c.callers es)) ≡ after c es }
+    ensures each_pick { (c : Setup) (es : List Entry) (n : ℕ) → Legal c es → n ≤ length es → length (merge_from n start (parts c.callers es)) ≡ n }
+    ensures total { (c : Setup) (es : List Entry) → Legal c es → total (parts c.callers es) ≡ length es }
+{}
+
+/// What a task waits for stays until the task itself goes on: no other caller takes it away. The premises look at the
+/// owner's own entries alone.
+pub fn others_keep_what_is_owned()
+    // An operation that is its object's owner's alone is made by no other caller.
+    ensures owners { (c : Setup) (xs ys : List Entry) (e : Entry) → Legal c (xs ++ e ∷ ys) → is_owners e.op ≡ true → owner_at c e.object ≡ Some e.caller }
+    // A complete block stays complete with its code until its owner clears it.
+    ensures complete { (c : Setup) (xs ys : List Entry) (n code : ℕ) → Legal c (xs ++ ys) → HasNo is_clear (Ecb n) (of (owner_of c n) ys)
+        → ((after c xs).ecb n).state ≡ Complete code → ((after c (xs ++ ys)).ecb n).state ≡ Complete code }
+    // An element's generation, and whether it is free, change by its owner's operations alone.
+    ensures generation { (c : Setup) (xs ys : List Entry) (n : ℕ) → Legal c (xs ++ ys) → HasNo is_owners (Element n) (of (element_owner c n) ys)
+        → ((after c (xs ++ ys)).element n).state.generation ≡ ((after c xs).element n).state.generation }
+    ensures free { (c : Setup) (xs ys : List Entry) (n : ℕ) → Legal c (xs ++ ys) → HasNo is_owners (Element n) (of (element_owner c n) ys)
+        → (((after c xs).element n).state.phase ≡ Free) ↔ (((after c (xs ++ ys)).element n).state.phase ≡ Free) }
+    // A released element keeps its code until its owner's operation.
+    ensures released { (c : Setup) (xs ys : List Entry) (n : ℕ) → Legal c (xs ++ ys) → HasNo is_owners (Element n) (of (element_owner c n) ys)
+        → ((after c xs).element n).state.phase ≡ Released → ((after c (xs ++ ys)).element n).state ≡ ((after c xs).element n).state }
+    // A granted request stays granted until it is gone.
+    ensures granted { (c : Setup) (xs ys : List Entry) (k latch id : ℕ) → Legal c (xs ++ ys)
+        → IsGranted k latch id (after c xs) → IsGranted k latch id (after c (xs ++ ys)) ⊎ IsGone k latch id (after c (xs ++ ys)) }
+    // One that is gone stays gone: later requests have higher numbers.
+    ensures gone { (c : Setup) (xs ys : List Entry) (k latch id : ℕ) → Legal c (xs ++ ys) → id < place_of (after c xs) Latches
+        → IsGone k latch id (after c xs) → IsGone k latch id (after c (xs ++ ys)) }
+{}
+
+/// Each request in the lists stands by its own caller's entries, and each has its own number, above those of all earlier
+/// ones. So a caller that keeps within its quotas by its own entries keeps within them in the lists.
+pub fn requests_stand_by_their_callers_entries()
+    ensures stands { (c : Setup) (es : List Entry) (latch : ℕ) (q : Request) → Legal c es
+        → IsIn q (list_of (after c es).latches.state latch) → Has (record { latch = latch; request = q }) (standing (of q.caller es)) }
+    ensures count { (c : Setup) (es : List Entry) (k : ℕ) → Legal c es
+        → count_in (of_caller k) (after c es).latches.state ≤ length (standing (of k es)) }
+    ensures posted_count { (c : Setup) (es : List Entry) (k : ℕ) → Legal c es
+        → count_in (posted_of k) (after c es).latches.state ≤ length (filter is_posting (standing (of k es))) }
+    ensures rise { (c : Setup) (es : List Entry) (latch : ℕ) → Legal c es → RisesFrom 0 (list_of (after c es).latches.state latch) }
+    ensures differ { (c : Setup) (es : List Entry) (id : ℕ) → Legal c es → count_in (has_id id) (after c es).latches.state ≤ 1 }
+    ensures earlier { (c : Setup) (es : List Entry) (latch : ℕ) (q : Request) → Legal c es
+        → IsIn q (list_of (after c es).latches.state latch) → q.id < (after c es).latches.place }
+    ensures new { (c : Setup) (es : List Entry) (id : ℕ) → Legal c es → (after c es).latches.place ≤ id → IsNewId id (after c es).latches.state }
+    ensures admits { (c : Setup) (es : List Entry) (k : ℕ) (o : Object) (op : Op) → Legal c es → allowed c k (of k es) o op ≡ true
+        → admitted c (after c es) k o op ≡ true }
+{}
+
+/// Within the events that the budgets of a run may allow, no place leaves its 19 bits and no generation its 18: the word
+/// of each object has 64 bits and stands for the object's place and state.
+pub fn reached_states_have_words()
+    ensures budgets { (c : Setup) (es : List Entry) → IsValid c → Legal c es → KeepsBudgets c es → length es ≤ 524287 }
+    ensures word { (c : Setup) (es : List Entry) (o : Object) → Legal c es → length es ≤ 524287 → word_at (after c es) o < 2 ^ 64 }
+    ensures unpacks { (c : Setup) (es : List Entry) (o : Object) → Legal c es → length es ≤ 524287
+        → unpack o (word_at (after c es) o) ≡ option_map (λ s. (place_of (after c es) o, s)) (state_at (after c es) o) }
+    ensures fields { (c : Setup) (es : List Entry) (o : Object) → Legal c es → length es ≤ 524287
+        → IfSome (state_at (after c es) o) (λ s. HasFields s) }
+{}
+
+/// An admitted operation on an object that has a word changes it, and is answered, as `state_step` says of its state
+/// alone; its place rises by one. The words of all other objects stay.
+pub fn words_go_by_the_machine()
+    ensures fields { (c : Setup) (m : System) (k : ℕ) (o : Object) (op : Op) → admitted c m k o op ≡ true → HasOpFields op }
+    ensures reply { (c : Setup) (m : System) (k : ℕ) (o : Object) (op : Op) → admitted c m k o op ≡ true → IsSome (state_at m o)
+        → reply_to m k o op ≡ option_and_then (reply_in op) (state_at m o) }
+    ensures state { (c : Setup) (m : System) (k : ℕ) (o : Object) (op : Op) → admitted c m k o op ≡ true
+        → state_at (moved m k o op) o ≡ option_and_then (state_after op) (state_at m o) }
+    ensures place { (c : Setup) (m : System) (k : ℕ) (o : Object) (op : Op) → admitted c m k o op ≡ true → place_of (moved m k o op) o ≡ place_of m o + 1 }
+    ensures others { (m : System) (k : ℕ) (o q : Object) (op : Op) → same_object o q ≡ false → SameAt q (moved m k o op) m }
+{}
+
+/// A word of 64 bits that stands for a place and a state is their packing, and no other word stands for them.
+pub fn words_are_packings()
+    ensures { (o : Object) (w place : ℕ) (s : WordState) → unpack o w ≡ Some (place, s) → pack place s ≡ w }
 {}

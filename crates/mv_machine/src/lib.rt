@@ -7,6 +7,8 @@ mod checking;
 mod config;
 mod entry;
 mod laws;
+mod merging;
+mod packing;
 mod plain;
 mod reaching;
 mod replaying;
@@ -15,7 +17,13 @@ mod valid;
 
 pub use config::{CheckRefusal, Config, ConfigLimit, Exit};
 pub use entry::{Entry, Object, Op, Reply, VolumeOp, VolumeReply};
-pub use laws::{generations_fit, places_count_entries};
+pub use laws::{
+    generations_fit, histories_are_their_parts, merging_keeps_a_history, others_keep_what_is_owned,
+    places_count_entries, reached_states_have_words, requests_stand_by_their_callers_entries,
+    words_are_packings, words_go_by_the_machine, words_stay_had,
+};
+pub use merging::{Log, MergeRoom, merge};
+pub use packing::{WordState, pack, state_apply, unpack};
 pub use plain::plain_answer;
 pub use replaying::{Illegal, ReplayRefusal, replay};
 pub use state::State;

@@ -327,7 +327,8 @@ fn posts_own_ecb(config: &ValidConfig, caller: u32, op: LatchOp) -> bool
     }
 }
 
-fn volume_apply(op: VolumeOp, number: u32) -> (u32, VolumeReply)
+// One operation on a volume: the number after it, and the reply.
+pub(crate) fn volume_apply(op: VolumeOp, number: u32) -> (u32, VolumeReply)
     ensures { result ≡ volume_step op number }
 {
     match op {

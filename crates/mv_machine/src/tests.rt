@@ -1,8 +1,10 @@
-ghost use Rattle.std.specs.Prelude.{◌≤◌, IsTrue, All};
+ghost use Rattle.std.specs.Prelude.{◌≡◌, ◌≤◌, length, IsTrue, IfOk, All};
+ghost use Rattle.mv_machine.specs.Legal.{of};
+ghost use Rattle.mv_machine.specs.Parts.{parts as parts_of, KeepsBudgets};
 ghost use Rattle.mv_machine.specs.State.{IsOpenedWith};
 
 use super::*;
-use mv_ecb::{EcbOp, EcbReply};
+use mv_ecb::{EcbOp, EcbReply, EcbWord};
 use mv_element::{ElementOp, ElementReply, ElementState};
 use mv_latch::{LatchForm, LatchOp, LatchReply, Mode};
 use std::alloc::{AllocError, Global};
@@ -589,5 +591,204 @@ fn targets_have_limits(rt: HostRuntime) -> Result<(), Fail> {
         let answer = refusal(rt.alloc(), config);
         assert_eq!(rt; answer, limit.map(CheckRefusal::Limit), "{count} targets");
     }
+    Ok(())
+}
+
+// Each caller's part of a list.
+fn parts(alloc: Global, callers: u32, entries: &[Entry]) -> Result<Vec<Log>, AllocError>
+    ensures { IfOk result (λ logs. logs.items ≡ parts_of callers entries.now) }
+{
+    let mut logs = Vec::new(alloc);
+    for caller in 0..callers {
+        let entries = part(alloc, caller, entries)?;
+        logs.push(Log { entries })?;
+    }
+    Ok(logs)
+}
+
+fn part(alloc: Global, caller: u32, entries: &[Entry]) -> Result<Vec<Entry>, AllocError>
+    ensures { IfOk result (λ part. part.items ≡ of caller entries.now) }
+{
+    entries
+        .iter()
+        .filter(|e| e.caller == caller)
+        .copied()
+        .collect(alloc)
+}
+
+// How many entries a caller has.
+fn count(entries: &[Entry], caller: u32) -> usize
+    ensures { result ≡ length (of caller entries.now) }
+{
+    entries.iter().filter(|e| e.caller == caller).count()
+}
+
+// Whether no caller has more entries than its budget.
+fn keeps_budgets(config: &ValidConfig, entries: &[Entry]) -> bool
+    ensures { IsTrue result → KeepsBudgets config.now entries.now }
+{
+    let given = config.config();
+    for caller in 0..given.callers {
+        if count(entries, caller) > given.budgets[caller as usize] as usize {
+            return false;
+        }
+    }
+    true
+}
+
+// The merge of the callers' parts of a legal list.
+fn merged_again(
+    rt: &impl Abort,
+    alloc: Global,
+    config: &ValidConfig,
+    entries: &[Entry],
+) -> Result<Vec<Entry>, Fail> {
+    assert!(rt; are_low(entries));
+    replay(alloc, config, entries)?;
+    assert!(rt; keeps_budgets(config, entries));
+    let logs = parts(alloc, config.config().callers, entries)?;
+    let room = MergeRoom::new(alloc, config)?;
+    Ok(merge(config, logs, room))
+}
+
+// Four callers, eight volumes, and the one block of caller 1.
+fn four_callers(alloc: Global, budgets: [u32; 4]) -> Result<Config, AllocError> {
+    Ok(Config {
+        callers: 4,
+        elements_per_caller: 1,
+        volumes: 8,
+        latches: 8,
+        quota: 8,
+        posted_quota: 0,
+        budgets: Vec::from_slice(alloc, &budgets)?,
+        owners: vec![in alloc; 1]?,
+        exits: Vec::new(alloc),
+    })
+}
+
+fn on_second_element(caller: u32, place: u32, op: ElementOp, reply: ElementReply) -> Entry {
+    entry(
+        caller,
+        Object::Element(2),
+        place,
+        Op::Element(op),
+        Reply::Element(reply),
+    )
+}
+
+// What a run on a deck without jobs makes: caller 1 waits for caller 2 on a block, caller 2 for caller 1 on an element.
+#[test]
+fn a_run_without_jobs_is_merged(rt: HostRuntime) -> Result<(), Fail> {
+    let alloc = rt.alloc();
+    let config = four_callers(alloc, [0, 4, 5, 0])?.check(alloc)?;
+    let given = ElementReply::Given { code: 0, next: 1 };
+    let run = [
+        on_block(1, 0, EcbOp::Arm, EcbReply::Armed),
+        on_second_element(2, 0, ElementOp::Open, ElementReply::Opened(0)),
+        on_block(2, 1, EcbOp::Post(0), EcbReply::Woke(0)),
+        on_block(1, 2, EcbOp::Settle, EcbReply::Complete(0)),
+        on_block(1, 3, EcbOp::Clear, EcbReply::Word(1_073_741_824)),
+        on_second_element(2, 1, ElementOp::Pause(0), ElementReply::Parked),
+        on_second_element(1, 2, ElementOp::Release(0, 0), ElementReply::Woke),
+        on_second_element(2, 3, ElementOp::Resume(0), given),
+        on_second_element(2, 4, ElementOp::Close(1), ElementReply::Closed),
+    ];
+    let merged = merged_again(&rt, alloc, &config, &run)?;
+    assert_eq!(rt; merged.as_slice(), run.as_slice());
+    Ok(())
+}
+
+#[test]
+fn events_on_one_object_have_one_order(rt: HostRuntime) -> Result<(), Fail> {
+    let alloc = rt.alloc();
+    let config = four_callers(alloc, [1, 1, 2, 0])?.check(alloc)?;
+    let run = [
+        on_volume(2, 0, VolumeOp::Write(7), VolumeReply::Stored),
+        on_volume(0, 1, VolumeOp::Read, VolumeReply::Value(7)),
+        on_volume(1, 2, VolumeOp::Write(8), VolumeReply::Stored),
+        on_volume(2, 3, VolumeOp::Read, VolumeReply::Value(8)),
+    ];
+    let merged = merged_again(&rt, alloc, &config, &run)?;
+    assert_eq!(rt; merged.as_slice(), run.as_slice());
+    Ok(())
+}
+
+// Another order of the same history: of all entries that may come next, the lowest caller's.
+#[test]
+fn the_lowest_caller_comes_first(rt: HostRuntime) -> Result<(), Fail> {
+    let alloc = rt.alloc();
+    let config = four_callers(alloc, [1, 2, 1, 0])?.check(alloc)?;
+    let write = entry(
+        2,
+        Object::Volume(1),
+        0,
+        Op::Volume(VolumeOp::Write(7)),
+        Reply::Volume(VolumeReply::Stored),
+    );
+    let first = on_volume(1, 0, VolumeOp::Write(8), VolumeReply::Stored);
+    let second = on_volume(0, 1, VolumeOp::Read, VolumeReply::Value(8));
+    let third = on_volume(1, 2, VolumeOp::Read, VolumeReply::Value(8));
+    let merged = merged_again(&rt, alloc, &config, &[write, first, second, third])?;
+    assert_eq!(rt; merged.as_slice(), [first, second, third, write].as_slice());
+    Ok(())
+}
+
+// The state of a block whose fullword this is.
+fn block_state(word: u32) -> Option<WordState> {
+    EcbWord::of(word).map(WordState::Ecb)
+}
+
+#[test]
+fn words_of_blocks(rt: HostRuntime) -> Result<(), Fail> {
+    let table = [
+        (1, 0, 35_184_372_088_832),
+        (1, 0x4000_0005, 35_185_445_830_661),
+        (2, 0x4000_0005, 70_369_817_919_493),
+        (0, 0x8000_0001, 2_147_483_649),
+        (524_287, 0x7fff_ffff, 18_446_708_891_484_946_431),
+    ];
+    for (place, fullword, word) in table {
+        let state = block_state(fullword).map(|state| (place, state));
+        assert_eq!(rt; unpack(Object::Ecb(0), word), state);
+    }
+    assert_eq!(rt; unpack(Object::Ecb(0), 1), None);
+    assert_eq!(rt; unpack(Object::Ecb(0), 0xc000_0000), None);
+    assert_eq!(rt; unpack(Object::Ecb(0), 4_294_967_296), None);
+    let zero = WordState::Ecb(EcbWord::zero());
+    assert_eq!(rt; pack(1, zero), 35_184_372_088_832);
+    Ok(())
+}
+
+#[test]
+fn words_of_elements(rt: HostRuntime) -> Result<(), Fail> {
+    let element = Object::Element(3);
+    let early = ElementState::prereleased(0, 5);
+    assert_eq!(rt; pack(2, WordState::Element(early)), 70_368_777_732_101);
+    let read = unpack(element, 70_368_777_732_101);
+    assert_eq!(rt; read, Some((2, WordState::Element(early))));
+    let highest = ElementState::released(262_143, 16_777_215);
+    assert_eq!(rt;
+        pack(524_287, WordState::Element(highest)),
+        18_446_744_073_659_219_967
+    );
+    let read = unpack(element, 18_446_744_073_659_219_967);
+    assert_eq!(rt; read, Some((524_287, WordState::Element(highest))));
+    // Five phases are there, and a free element keeps no code.
+    assert_eq!(rt; unpack(element, 83_886_080), None);
+    assert_eq!(rt; unpack(element, 1), None);
+    Ok(())
+}
+
+#[test]
+fn words_of_volumes(rt: HostRuntime) -> Result<(), Fail> {
+    let volume = Object::Volume(0);
+    assert_eq!(rt;
+        pack(1, WordState::Volume(4_294_967_295)),
+        35_188_667_056_127
+    );
+    let read = unpack(volume, 35_188_667_056_127);
+    assert_eq!(rt; read, Some((1, WordState::Volume(4_294_967_295))));
+    assert_eq!(rt; unpack(volume, 4_294_967_296), None);
+    assert_eq!(rt; unpack(Object::Latches, 0), None);
     Ok(())
 }

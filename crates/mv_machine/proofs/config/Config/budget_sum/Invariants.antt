@@ -1,6 +1,6 @@
 -- The sum of the budgets so far.
 use Rattle.std.proofs.Common.{◌≡◌, ◌≤◌, ◌*◌, ◌^◌, take, sum}
-use Rattle.mv_machine.proofs.config.Config.bad_budget.Given as goal
+use Rattle.mv_machine.proofs.config.Config.budget_sum.Given as goal
 
 abbrev pub invariant-loop-budget : goal.invariant-loop-budget
 invariant-loop-budget l = record {

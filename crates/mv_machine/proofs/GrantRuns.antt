@@ -1,0 +1,152 @@
+-- How a caller's request at a latch fares: one that is gone stays gone, and one that is granted stays granted or is gone.
+use Rattle.std.proofs.Common.{◌≡◌, ◌⊎◌, ℕ, ◌<◌, Bool, true, false, ◌||◌, List, [], ◌∷◌, ◌++◌, filter, cond, inl, inr, refl, sym, ap, ◌∙◌, subst, arith}
+use Rattle.std.specs.List.{list_any}
+use Rattle.std.proofs.lemmas.Bool.{cases_Bool, false≢true, eqb-true, and_parts, and_left, or_left, or_right, ne_eqb}
+use Rattle.std.proofs.lemmas.List.Folds.{list_any-append}
+use Rattle.mv_latch.specs.declared.request.Request.{Request}
+use Rattle.mv_latch.specs.Latch.{IsIn, granted, waiting}
+use Rattle.mv_latch.specs.Request.{is_own}
+use Rattle.mv_latch.proofs.Changes.{Changed, same, grew, shrank, stays_granted}
+use Rattle.mv_latch.proofs.Splits.{granted_split}
+use Rattle.mv_machine.specs.declared.entry.Entry.{Entry}
+use Rattle.mv_machine.specs.declared.entry.Object.TheVariants.{Latches}
+use Rattle.mv_machine.specs.Legal.{next, Legal, after}
+use Rattle.mv_machine.specs.Owned.{IsGranted, IsGone}
+use Rattle.mv_machine.specs.Setup.{Setup}
+use Rattle.mv_machine.specs.System.{System, opening, place_of}
+use Rattle.mv_machine.proofs.EntryRuns.{along_all, rest_is_legal, at_end}
+use Rattle.mv_machine.proofs.Histories.{LegalFrom-front}
+use Rattle.mv_machine.proofs.LatchRuns.{list_at, Steps, steps_on, InOrder, Ordered, ordered, ordered_next, below_in, same_number}
+
+-- ---- one that is gone stays gone
+none_left : (t p : Request → Bool) (qs : List Request) → list_any t qs ≡ false → list_any t (filter p qs) ≡ false
+none_left t p [] none = refl
+none_left t p (q ∷ qs) none = go (p q) (t q) refl none (none_left t p qs) where
+  go : (b y : Bool) → t q ≡ y → (y || list_any t qs) ≡ false → (list_any t qs ≡ false → list_any t (filter p qs) ≡ false)
+      → list_any t (cond b (q ∷ filter p qs) (filter p qs)) ≡ false
+  go b true e n rest = absurd (false≢true (sym n))
+  go true false e n rest = rw e (rest n)
+  go false false e n rest = rest n
+
+gone_next : (k id place : ℕ) (old new : List Request) → Changed place old new → id < place → list_any (is_own k id) old ≡ false
+    → list_any (is_own k id) new ≡ false
+gone_next k id place old new (same e) lt gone = rw e gone
+gone_next k id place old new (grew r is e) lt gone =
+    let other : is_own k id r ≡ false = and_left _ _ (ne_eqb r.id id (omega arith)) in
+    rw (e, list_any-append (is_own k id) old (r ∷ []), gone, other) refl
+gone_next k id place old new (shrank p e) lt gone = rw e (none_left (is_own k id) p old gone)
+
+abbrev pub WasGone : ℕ → ℕ → ℕ → System → Type 0
+WasGone k latch id s = (id < s.latches.place) × IsGone k latch id s
+
+was_gone_next : (k latch id : ℕ) (s t : System) → Steps s t latch → WasGone k latch id s → WasGone k latch id t
+was_gone_next k latch id s t (inl w) g = rw w g
+was_gone_next k latch id s t (inr w) g =
+    (omega (arith, w.0, g.0), gone_next k id s.latches.place (list_at s latch) (list_at t latch) w.1 g.0 g.1)
+
+pub gone_stays : (c : Setup) (xs ys : List Entry) (k latch id : ℕ) → Legal c (xs ++ ys) → id < place_of (after c xs) Latches
+    → IsGone k latch id (after c xs) → IsGone k latch id (after c (xs ++ ys))
+gone_stays c xs ys k latch id l lt gone =
+    at_end c (IsGone k latch id) xs ys
+    (along_all c (WasGone k latch id) (λ s e h g. was_gone_next k latch id s (next s e) (steps_on c s e latch h) g) (after c xs) ys
+    (rest_is_legal c xs ys l) (lt, gone)).1
+
+-- ---- one that is granted stays granted or is gone
+-- the request that a test finds
+abbrev Found : (Request → Bool) → List Request → Type 0
+Found t qs = (q : Request) × IsIn q qs × (t q ≡ true)
+
+found : (t : Request → Bool) (qs : List Request) → list_any t qs ≡ true → Found t qs
+found t [] e = absurd (false≢true e)
+found t (q ∷ qs) e = go (t q) refl e (found t qs) where
+  go : (b : Bool) → t q ≡ b → (b || list_any t qs) ≡ true → (list_any t qs ≡ true → Found t qs) → Found t (q ∷ qs)
+  go true is f rest = (q, inl refl, is)
+  go false is f rest = let w : Found t qs = rest f in (w.0, inr w.1, w.2)
+
+finds : (t : Request → Bool) (q : Request) (qs : List Request) → IsIn q qs → t q ≡ true → list_any t qs ≡ true
+finds t q [] i is = absurd i
+finds t q (x ∷ xs) (inl e) is = or_left (t x) (list_any t xs) (ap t e ∙ is)
+finds t q (x ∷ xs) (inr i) is = or_right (t x) (list_any t xs) (finds t q xs i is)
+
+in_front : (q : Request) (xs ys : List Request) → IsIn q xs → IsIn q (xs ++ ys)
+in_front q [] ys i = absurd i
+in_front q (x ∷ xs) ys (inl e) = inl e
+in_front q (x ∷ xs) ys (inr i) = inr (in_front q xs ys i)
+
+in_pushed : (q r : Request) (xs : List Request) → IsIn q (xs ++ r ∷ []) → IsIn q xs ⊎ (r ≡ q)
+in_pushed q r [] (inl e) = inr e
+in_pushed q r [] (inr i) = absurd i
+in_pushed q r (x ∷ xs) (inl e) = inl (inl e)
+in_pushed q r (x ∷ xs) (inr i) = elim (in_pushed q r xs i) [ inl j ↦ inl (inr j) | inr e ↦ inr e ]
+
+in_left : (p : Request → Bool) (q : Request) (xs : List Request) → IsIn q (filter p xs) → IsIn q xs
+in_left p q [] i = i
+in_left p q (x ∷ xs) i = go (p x) i (in_left p q xs) where
+  go : (b : Bool) → IsIn q (cond b (x ∷ filter p xs) (filter p xs)) → (IsIn q (filter p xs) → IsIn q xs) → IsIn q (x ∷ xs)
+  go true (inl e) rest = inl e
+  go true (inr j) rest = inr (rest j)
+  go false j rest = inr (rest j)
+
+-- whoever is in the new list was in the old one, or is the new request
+came_from : (place : ℕ) (old new : List Request) (q : Request) → Changed place old new → IsIn q new → IsIn q old ⊎ (q.id ≡ place)
+came_from place old new q (same e) i = inl (subst (IsIn q) e i)
+came_from place old new q (grew r is e) i =
+    elim (in_pushed q r old (subst (IsIn q) e i)) [ inl j ↦ inl j | inr f ↦ inr (ap (λ (y : Request). y.id) (sym f) ∙ is) ]
+came_from place old new q (shrank p e) i = inl (in_left p q old (subst (IsIn q) e i))
+
+own_number : (k id : ℕ) (q : Request) → is_own k id q ≡ true → q.id ≡ id
+own_number k id q own = eqb-true q.id id (and_parts _ _ own).0
+
+-- the granted one and the one that is found later are one request
+still_granted : (k id place : ℕ) (old new : List Request) → Changed place old new → InOrder place old → Found (is_own k id) (granted old)
+    → Found (is_own k id) new → list_any (is_own k id) (granted new) ≡ true
+still_granted k id place old new c o (q, i, own) (r, j, own_too) =
+    let was : IsIn q old = subst (IsIn q) (granted_split old) (in_front q (granted old) (waiting old) i) in
+    let numbers : q.id ≡ r.id = own_number k id q own ∙ sym (own_number k id r own_too) in
+    let too : IsIn r old = elim (came_from place old new r c j) [
+      | inl x ↦ x
+      | inr is ↦ absurd (omega (arith, below_in place q old o.below was))
+    ] in
+    let one : r ≡ q = sym (same_number 0 q r old o.rises was too numbers) in
+    finds (is_own k id) q (granted new) (stays_granted place old new q c i (subst (λ z. IsIn z new) one j)) own
+
+granted_next : (k id place : ℕ) (old new : List Request) → Changed place old new → InOrder place old
+    → list_any (is_own k id) (granted old) ≡ true → (list_any (is_own k id) (granted new) ≡ true) ⊎ (list_any (is_own k id) new ≡ false)
+granted_next k id place old new c o holds = elim (cases_Bool (list_any (is_own k id) new)) [
+  | inl stands ↦ inl (still_granted k id place old new c o (found (is_own k id) (granted old) holds) (found (is_own k id) new stands))
+  | inr gone ↦ inr gone
+]
+
+earlier_number : (k id place : ℕ) (qs : List Request) → InOrder place qs → list_any (is_own k id) (granted qs) ≡ true → id < place
+earlier_number k id place qs o holds =
+    let f : Found (is_own k id) (granted qs) = found (is_own k id) (granted qs) holds in
+    let in_list : IsIn f.0 qs = subst (IsIn f.0) (granted_split qs) (in_front f.0 (granted qs) (waiting qs) f.1) in
+    omega (arith, below_in place f.0 qs o.below in_list, own_number k id f.0 f.2)
+
+-- it holds the latch, or is gone for ever
+abbrev Fares : ℕ → ℕ → ℕ → System → Type 0
+Fares k latch id s = Ordered latch s × (IsGranted k latch id s ⊎ WasGone k latch id s)
+
+fares_next : (k latch id : ℕ) (s t : System) → Steps s t latch → Fares k latch id s → Fares k latch id t
+fares_next k latch id s t steps (o, inr gone) = (ordered_next s t latch steps o, inr (was_gone_next k latch id s t steps gone))
+fares_next k latch id s t (inl w) (o, inl holds) = (rw w o, inl (rw w holds))
+fares_next k latch id s t (inr w) (o, inl holds) = (
+  ordered_next s t latch (inr w) o,
+  elim (granted_next k id s.latches.place (list_at s latch) (list_at t latch) w.1 o holds) [
+    | inl stands ↦ inl stands
+    | inr gone ↦ inr (omega (arith, w.0, earlier_number k id s.latches.place (list_at s latch) o holds), gone)
+  ],
+)
+
+fares : (k latch id : ℕ) (s : System) → Fares k latch id s → IsGranted k latch id s ⊎ IsGone k latch id s
+fares k latch id s (o, inl holds) = inl holds
+fares k latch id s (o, inr gone) = inr gone.1
+
+-- whoever's event takes it away, the owner's own too: then it is gone
+pub granted_or_gone : (c : Setup) (xs ys : List Entry) (k latch id : ℕ) → Legal c (xs ++ ys)
+    → IsGranted k latch id (after c xs) → IsGranted k latch id (after c (xs ++ ys)) ⊎ IsGone k latch id (after c (xs ++ ys))
+granted_or_gone c xs ys k latch id l holds =
+    fares k latch id (after c (xs ++ ys))
+    (at_end c (Fares k latch id) xs ys
+    (along_all c (Fares k latch id) (λ s e h f. fares_next k latch id s (next s e) (steps_on c s e latch h) f) (after c xs) ys
+    (rest_is_legal c xs ys l) (ordered c xs latch (LegalFrom-front c (opening c) xs ys l), inl holds)))
