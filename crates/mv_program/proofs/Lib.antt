@@ -3,4 +3,5 @@ pub mod EightBytes
 pub mod Posts
 pub mod Legal
 pub mod Endings
+pub mod Replays
 pub mod Runs

@@ -14,7 +14,7 @@ use Rattle.mv_entrytext.specs.Fault.{HasJournal}
 use Rattle.mv_entrytext.proofs.LegalRanges.{legal_in_range, legal_journal}
 use Rattle.mv_entrytext.proofs.LinesAgain.{read_again}
 use Rattle.mv_program.specs.Machine.{posts_from, posts}
-use Rattle.mv_program.specs.Outcome.{deck_limit, setup_of_run, events_of_run, IsRun}
+use Rattle.mv_program.specs.Run.{deck_limit, setup_of_run, events_of_run, IsRun}
 use Rattle.mv_program.proofs.EndCodes.{are_codes}
 use Rattle.mv_program.proofs.EightBytes.{eight_bytes_a_job}
 use Rattle.mv_program.proofs.Legal.{posts_are_legal, plain_setup_is_valid}
@@ -48,8 +48,10 @@ has_journal bytes short typed =
 
 pub run_is_told : (bytes : List ℕ) → length bytes ≤ deck_limit → All IsTyped (events_of_run bytes) → IsRun bytes
 run_is_told bytes short typed =
-    let read = read_again (setup_of_run bytes) (events_of_run bytes) (has_journal bytes short typed) in
+    let written = has_journal bytes short typed in
+    let read = read_again (setup_of_run bytes) (events_of_run bytes) written in
     record {
+      written = written;
       setup_read = ap (λ (d : Draft). d.setup) read;
       events_read = ap (λ (d : Draft). d.entries) read;
       legal = legal_run bytes;

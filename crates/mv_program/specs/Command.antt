@@ -2,10 +2,11 @@
 use Rattle.std.specs.Prelude.{ℕ, ◌&&◌, List, [], ◌∷◌, Option, Some, None, codes, if◌then◌else◌}
 use Rattle.std.specs.Str.{bytes_eq}
 use Rattle.mv_program.specs.declared.command.Command.{Command}
-use Rattle.mv_program.specs.declared.command.Command.TheVariants.{Spool}
+use Rattle.mv_program.specs.declared.command.Command.TheVariants.{Spool, Replay}
 
--- `spool 1`, exactly
+-- `spool 1` or `replay`, exactly
 abbrev pub command_of : List (List ℕ) → Option Command
+command_of (word ∷ []) = if bytes_eq word (codes "replay") then Some Replay else None
 command_of (word ∷ initiators ∷ []) =
     if bytes_eq word (codes "spool") && bytes_eq initiators (codes "1") then Some (Spool 1) else None
 command_of _ = None

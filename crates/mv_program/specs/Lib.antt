@@ -1,4 +1,5 @@
 pub mod Command
 pub mod Status
 pub mod Machine
+pub mod Run
 pub mod Outcome

@@ -1,7 +1,11 @@
--- The exit status and the line of each way that a run can end.
-use Rattle.std.specs.Prelude.{ℕ, List, [], ◌++◌, codes, decimal}
+-- The exit status of each way that a run can end, and what is told of it.
+use Rattle.std.specs.Prelude.{ℕ, Option, Some, None}
+use Rattle.mv_ending.specs.declared.note.Note.{Note}
+use Rattle.mv_ending.specs.declared.note.Note.TheVariants as note
+use Rattle.mv_replay.specs.declared.status.ReplayStatus.{ReplayStatus}
+use Rattle.mv_replay.specs.declared.status.ReplayStatus.TheVariants as replay
 use Rattle.mv_program.specs.declared.status.Status.{Status}
-use Rattle.mv_program.specs.declared.status.Status.TheVariants.{Done, Words, Deck, TooLong, ReadFailed, ReportFailed, JournalFailed, NoMemory}
+use Rattle.mv_program.specs.declared.status.Status.TheVariants.{Done, Words, Deck, TooLong, ReadFailed, ReportFailed, JournalFailed, NoMemory, Illegal, Text}
 
 abbrev pub exit_of : Status → ℕ
 exit_of Done = 0
@@ -12,14 +16,29 @@ exit_of ReadFailed = 5
 exit_of ReportFailed = 6
 exit_of JournalFailed = 7
 exit_of NoMemory = 8
+exit_of (Illegal line) = 10
+exit_of (Text f) = 11
 
--- what is told on the notes, with LF
-abbrev pub line_of : Status → List ℕ
-line_of Done = []
-line_of Words = codes "USAGE: spool I, script, replay, load N I\n"
-line_of (Deck f) = codes "DECK LINE " ++ decimal f.line ++ codes " KIND " ++ decimal f.kind ++ codes "\n"
-line_of TooLong = codes "INPUT TOO LONG\n"
-line_of ReadFailed = codes "READ FAILED\n"
-line_of ReportFailed = codes "REPORT FAILED\n"
-line_of JournalFailed = codes "JOURNAL FAILED\n"
-line_of NoMemory = codes "NO MEMORY\n"
+-- what is told on the notes
+abbrev pub note_of : Status → Option Note
+note_of Done = None
+note_of Words = Some note.Usage
+note_of (Deck f) = Some (note.DeckFault f.line f.kind)
+note_of TooLong = Some note.InputTooLong
+note_of ReadFailed = Some note.ReadFailed
+note_of ReportFailed = Some note.ReportFailed
+note_of JournalFailed = Some note.JournalFailed
+note_of NoMemory = Some note.NoMemory
+note_of (Illegal line) = Some (note.Illegal line)
+note_of (Text f) = Some (note.JournalFault f.line f.kind)
+
+-- the way in which a replay ended, where the status is that of a replay
+abbrev pub replay_of : Status → Option ReplayStatus
+replay_of Done = Some replay.Done
+replay_of TooLong = Some replay.TooLong
+replay_of ReadFailed = Some replay.ReadFailed
+replay_of ReportFailed = Some replay.ReportFailed
+replay_of NoMemory = Some replay.NoMemory
+replay_of (Illegal line) = Some (replay.Illegal line)
+replay_of (Text f) = Some (replay.Text f)
+replay_of _ = None

@@ -9,6 +9,8 @@ ghost use Rattle.mv_program.specs.Command.{command_of as command_by_words};
 pub enum Command {
     /// Run the deck of the input with this many initiators.
     Spool(u32),
+    /// Judge the journal of the input.
+    Replay,
 }
 
 /// The command that the words are, where they are one.
@@ -16,6 +18,7 @@ pub(crate) fn command_of(words: &[String]) -> Option<Command>
     ensures { result ≡ command_by_words (map string_bytes words.now) }
 {
     match words {
+        [word] if word.as_str() == "replay" => Some(Command::Replay),
         [word, initiators] if word.as_str() == "spool" && initiators.as_str() == "1" => {
             Some(Command::Spool(1))
         }

@@ -6,20 +6,22 @@
 mod command;
 mod gate;
 mod history;
+mod laws;
 mod outcome;
 mod program;
 mod status;
 mod texts;
 
 pub use gate::{Gate, OpenGate, Point};
+pub use laws::runs_are_legal;
 pub use program::run_program;
 pub use status::Status;
 
 #[cfg(test)]
 mod tests;
 
+use mv_ending::{Note, tell};
 use mv_io::{StdSink, StdSource};
-use status::tell;
 use std::env;
 use std::io::{self, ErrorKind};
 use std::process::ExitCode;
@@ -35,14 +37,14 @@ fn words_of<R: Env + AllocGlobal>(rt: &R) -> io::Result<Vec<String>> {
 }
 
 fn main(rt: HostRuntime) -> ExitCode {
-    let mut deck = StdSource::new(rt.stdin());
+    let mut input = StdSource::new(rt.stdin());
     let mut report = StdSink::new(rt.stdout());
     let mut journal = StdSink::new(rt.stderr());
     let mut notes = StdSink::new(rt.stderr());
     let words = match words_of(&rt) {
         Ok(words) => words,
         Err(error) if error.kind() == ErrorKind::OutOfMemory => {
-            tell(&mut notes, Status::NoMemory);
+            tell(&mut notes, Some(Note::NoMemory));
             return ExitCode::from(Status::NoMemory.exit());
         }
         // Arguments that are not text are no command.
@@ -52,7 +54,7 @@ fn main(rt: HostRuntime) -> ExitCode {
         &rt,
         rt.alloc(),
         &words,
-        &mut deck,
+        &mut input,
         &mut report,
         &mut journal,
         &mut notes,

@@ -1,16 +1,12 @@
 //! How a run ended.
 
-ghost use Rattle.std.specs.Prelude.{◌≡◌, ◌+◌, ◌≤◌, ◌⊎◌, ◌++◌, length};
-ghost use Rattle.arrayvec.specs.ArrayVec.{array_vec_len};
-ghost use Rattle.mv_io.specs.Fault.{Rose};
-ghost use Rattle.mv_io.specs.Sink.{Appends};
-ghost use Rattle.mv_program.specs.Status.{exit_of, line_of};
-ghost use Rattle.mv_program.specs.Outcome.{AppendsFront, NotesAfter};
+ghost use Rattle.std.specs.Prelude.{◌≡◌, Some};
+ghost use Rattle.mv_program.specs.Status.{exit_of, note_of as note_by_status, replay_of};
 
-use arrayvec::ArrayVec;
-use itoa::Buffer;
 use mv_deck::DeckFault;
-use mv_io::{Sink, write_all};
+use mv_ending::Note;
+use mv_entrytext::TextFault;
+use mv_replay::ReplayStatus;
 
 /// How a run ended.
 #[derive(Clone, Copy, Debug, PartialEq, Eq)]
@@ -31,6 +27,10 @@ pub enum Status {
     JournalFailed,
     /// Memory ran out.
     NoMemory,
+    /// The journal is replayed up to this line, whose entry is the first that is not the machine's.
+    Illegal(u32),
+    /// The text of the journal has this fault, its first.
+    Text(TextFault),
 }
 
 impl Status {
@@ -47,58 +47,47 @@ impl Status {
             Status::ReportFailed => 6,
             Status::JournalFailed => 7,
             Status::NoMemory => 8,
+            Status::Illegal(_) => 10,
+            Status::Text(_) => 11,
         }
     }
 }
 
-/// The most bytes of a status's line: that of a fault has 16 bytes of words, two numbers and LF.
-const LONGEST_LINE: usize = 48;
-
-type Line = ArrayVec<u8, LONGEST_LINE>;
-
-fn push(line: &mut Line, text: &[u8])
-    requires { array_vec_len line.old + length text.now ≤ 48 }
-    ensures items { line.new.items ≡ line.old.items ++ text.now }
-    ensures len { array_vec_len line.new ≡ array_vec_len line.old + length text.now }
-{
-    let _fits = line.try_extend_from_slice(text);
-}
-
-fn fault_line(fault: DeckFault) -> Line
-    ensures { result.items ≡ line_of (Status.Deck fault) }
-{
-    let mut line = Line::new();
-    push(&mut line, b"DECK LINE ");
-    push(&mut line, Buffer::new().format(fault.line).as_bytes());
-    push(&mut line, b" KIND ");
-    push(&mut line, Buffer::new().format(fault.kind).as_bytes());
-    push(&mut line, b"\n");
-    line
-}
-
-// Writes a line. That it could not be written is not told anywhere else.
-fn write_line<N: Sink>(notes: &mut N, line: &[u8])
-    ensures written { Appends (N.taken notes.old) (N.taken notes.new) line.now
-        ⊎ (Rose (N.faults notes.old) (N.faults notes.new) × AppendsFront (N.taken notes.old) (N.taken notes.new) line.now) }
-    ensures count { N.faults notes.old ≤ N.faults notes.new }
-{
-    let _told = write_all(notes, line);
-}
-
-/// Writes the status's line. A failure of the notes changes nothing else.
-pub(crate) fn tell<N: Sink>(notes: &mut N, status: Status)
-    ensures written { NotesAfter status (N.faults notes.old) (N.faults notes.new) (N.taken notes.old) (N.taken notes.new) }
-    ensures quiet { status ≡ Status.Done → notes.new ≡ notes.old }
-    ensures count { N.faults notes.old ≤ N.faults notes.new }
+/// What is told of a status on the notes.
+pub(crate) fn note_of(status: Status) -> Option<Note>
+    ensures { result ≡ note_by_status status }
 {
     match status {
-        Status::Done => {}
-        Status::Words => write_line(notes, b"USAGE: spool I, script, replay, load N I\n"),
-        Status::Deck(fault) => write_line(notes, &fault_line(fault)),
-        Status::TooLong => write_line(notes, b"INPUT TOO LONG\n"),
-        Status::ReadFailed => write_line(notes, b"READ FAILED\n"),
-        Status::ReportFailed => write_line(notes, b"REPORT FAILED\n"),
-        Status::JournalFailed => write_line(notes, b"JOURNAL FAILED\n"),
-        Status::NoMemory => write_line(notes, b"NO MEMORY\n"),
+        Status::Done => None,
+        Status::Words => Some(Note::Usage),
+        Status::Deck(fault) => Some(Note::DeckFault {
+            line: fault.line,
+            kind: fault.kind,
+        }),
+        Status::TooLong => Some(Note::InputTooLong),
+        Status::ReadFailed => Some(Note::ReadFailed),
+        Status::ReportFailed => Some(Note::ReportFailed),
+        Status::JournalFailed => Some(Note::JournalFailed),
+        Status::NoMemory => Some(Note::NoMemory),
+        Status::Illegal(line) => Some(Note::Illegal { line }),
+        Status::Text(fault) => Some(Note::JournalFault {
+            line: fault.line,
+            kind: fault.kind,
+        }),
+    }
+}
+
+/// The status of a run that was a replay.
+pub(crate) fn status_of(replay: ReplayStatus) -> Status
+    ensures { replay_of result ≡ Some replay }
+{
+    match replay {
+        ReplayStatus::Done => Status::Done,
+        ReplayStatus::TooLong => Status::TooLong,
+        ReplayStatus::ReadFailed => Status::ReadFailed,
+        ReplayStatus::ReportFailed => Status::ReportFailed,
+        ReplayStatus::NoMemory => Status::NoMemory,
+        ReplayStatus::Illegal(line) => Status::Illegal(line),
+        ReplayStatus::Text(fault) => Status::Text(fault),
     }
 }

@@ -1,5 +1,6 @@
 use super::*;
 use mv_deck::DeckFault;
+use mv_entrytext::TextFault;
 use mv_io::{MemSink, MemSource, NoMemory, read_limited};
 use std::alloc::{AllocError, Global};
 use std::process::Abort;
@@ -11,23 +12,36 @@ const PAYROLL: &[u8] =
 const PAYROLL_REPORT: &[u8] =
     b"JOB PAYROLL ENDED\n| PAY RUN 7\n| DONE\nJOB BACKUP ABENDED U0012\n| COPYING\nJOBS 2 ENDED 1 ABENDED 1 NOT RUN 0\nVOLUMES 0 0 0 0 0 0 0 0\n";
 
-const PAYROLL_JOURNAL: &[u8] =
-    b"JOURNAL 1\nCALLERS 1\nELEMENTS 1\nVOLUMES 8\nLATCHES 8\nQUOTA 8 0\nBUDGET 2\nECB 0\nECB 0\nEVENTS\n0 E0 0 POST 0 = POSTED\n0 E1 0 POST 16777228 = POSTED\nEND 2\n";
+const PAYROLL_JOURNAL: &str = "\
+JOURNAL 1
+CALLERS 1
+ELEMENTS 1
+VOLUMES 8
+LATCHES 8
+QUOTA 8 0
+BUDGET 2
+ECB 0
+ECB 0
+EVENTS
+0 E0 0 POST 0 = POSTED
+0 E1 0 POST 16777228 = POSTED
+END 2
+";
 
 const USAGE: &[u8] = b"USAGE: spool I, script, replay, load N I\n";
 
 // Streams over memory, with room for what these runs write.
 #[derive(Drop)]
 struct Streams {
-    deck: MemSource,
+    input: MemSource,
     report: MemSink,
     journal: MemSink,
     notes: MemSink,
 }
 
-fn streams_over(alloc: Global, deck: &[u8]) -> Result<Streams, NoMemory> {
+fn streams_over(alloc: Global, input: &[u8]) -> Result<Streams, NoMemory> {
     Ok(Streams {
-        deck: MemSource::new(alloc, deck, 1 << 20, &[])?,
+        input: MemSource::new(alloc, input, 1 << 20, &[])?,
         report: MemSink::new(alloc, 4096, &[])?,
         journal: MemSink::new(alloc, 4096, &[])?,
         notes: MemSink::new(alloc, 4096, &[])?,
@@ -44,7 +58,7 @@ fn run<X: AllocGlobal>(rt: &X, text: &str, on: &mut Streams) -> Result<Status, A
         rt,
         rt.alloc(),
         &words,
-        &mut on.deck,
+        &mut on.input,
         &mut on.report,
         &mut on.journal,
         &mut on.notes,
@@ -63,7 +77,7 @@ fn assert_written(rt: &impl Abort, on: &Streams, report: &[u8], journal: &[u8], 
 fn two_jobs(rt: HostRuntime) -> Result<(), Fail> {
     let mut on = streams_over(rt.alloc(), PAYROLL)?;
     assert_eq!(rt; run(&rt, "spool 1", &mut on)?, Status::Done);
-    assert_written(&rt, &on, PAYROLL_REPORT, PAYROLL_JOURNAL, b"");
+    assert_written(&rt, &on, PAYROLL_REPORT, PAYROLL_JOURNAL.as_bytes(), b"");
     Ok(())
 }
 
@@ -88,7 +102,8 @@ fn words_that_are_no_command(rt: HostRuntime) -> Result<(), Fail> {
         "spool 9",
         "spool 01",
         "SPOOL 1",
-        "replay",
+        "replay x",
+        "REPLAY",
         "script",
         "load 0 1",
     ];
@@ -96,7 +111,7 @@ fn words_that_are_no_command(rt: HostRuntime) -> Result<(), Fail> {
         let mut on = streams_over(rt.alloc(), PAYROLL)?;
         assert_eq!(rt; run(&rt, words, &mut on)?, Status::Words, "{words}");
         assert_written(&rt, &on, b"", b"", USAGE);
-        let unread = read_limited(rt.alloc(), &mut on.deck, 1000)?;
+        let unread = read_limited(rt.alloc(), &mut on.input, 1000)?;
         assert_eq!(rt; unread.as_slice(), PAYROLL);
     }
     Ok(())
@@ -117,6 +132,45 @@ fn decks_with_a_fault(rt: HostRuntime) -> Result<(), Fail> {
         let mut on = streams_over(rt.alloc(), deck)?;
         let fault = Status::Deck(DeckFault { line, kind });
         assert_eq!(rt; run(&rt, "spool 1", &mut on)?, fault);
+        assert_written(&rt, &on, b"", b"", notes);
+    }
+    Ok(())
+}
+
+// What a run writes to its journal is fed back.
+#[test]
+fn the_journal_of_two_jobs_is_replayed(rt: HostRuntime) -> Result<(), Fail> {
+    let mut run_of_jobs = streams_over(rt.alloc(), PAYROLL)?;
+    assert_eq!(rt; run(&rt, "spool 1", &mut run_of_jobs)?, Status::Done);
+    let mut on = streams_over(rt.alloc(), run_of_jobs.journal.bytes())?;
+    assert_eq!(rt; run(&rt, "replay", &mut on)?, Status::Done);
+    assert_written(&rt, &on, b"LEGAL 2 EVENTS\n", b"", b"");
+    Ok(())
+}
+
+// The second event with another reply, and the count with a leading zero.
+#[test]
+fn journals_that_are_refused(rt: HostRuntime) -> Result<(), Fail> {
+    let alloc = rt.alloc();
+    let table = [
+        (
+            PAYROLL_JOURNAL.replace(alloc, "16777228 = POSTED", "16777228 = WOKE 0")?,
+            Status::Illegal(12),
+            10,
+            b"ILLEGAL AT LINE 12\n".as_slice(),
+        ),
+        (
+            PAYROLL_JOURNAL.replace(alloc, "END 2", "END 02")?,
+            Status::Text(TextFault { line: 13, kind: 2 }),
+            11,
+            b"JOURNAL LINE 13 KIND 2\n".as_slice(),
+        ),
+    ];
+    for (journal, status, exit, notes) in table {
+        let mut on = streams_over(alloc, journal.as_bytes())?;
+        let ended = run(&rt, "replay", &mut on)?;
+        assert_eq!(rt; ended, status);
+        assert_eq!(rt; ended.exit(), exit);
         assert_written(&rt, &on, b"", b"", notes);
     }
     Ok(())
@@ -149,7 +203,7 @@ fn a_journal_sink_that_is_full(rt: HostRuntime) -> Result<(), Fail> {
 #[test]
 fn a_source_that_fails(rt: HostRuntime) -> Result<(), Fail> {
     let mut on = streams_over(rt.alloc(), PAYROLL)?;
-    on.deck = MemSource::new(rt.alloc(), PAYROLL, 1, &[3])?;
+    on.input = MemSource::new(rt.alloc(), PAYROLL, 1, &[3])?;
     assert_eq!(rt; run(&rt, "spool 1", &mut on)?, Status::ReadFailed);
     assert_written(&rt, &on, b"", b"", b"READ FAILED\n");
     Ok(())

@@ -8,7 +8,7 @@ ghost use Rattle.mv_entrytext.specs.Journal.{journal_text};
 ghost use Rattle.mv_report.specs.EndCode.{IsEndCode};
 ghost use Rattle.mv_report.specs.Outcome.{ends, report};
 ghost use Rattle.mv_program.specs.Machine.{plain_setup, posts};
-ghost use Rattle.mv_program.specs.Outcome.{report_of, journal_of_run, IsRun, deck_limit};
+ghost use Rattle.mv_program.specs.Run.{report_of, journal_of_run, IsRun, deck_limit};
 
 use crate::history::{config_of, posts_of};
 use crate::outcome::{all_lines_of, ends_of};

@@ -1,0 +1,12 @@
+-- What was read of an input with at most so many bytes, where its source told it, and what is left of it.
+use Rattle.std.specs.Prelude.{◌≡◌, ℕ, ◌+◌, ◌<◌, ◌≤◌, List, [], length, drop, Option, Some}
+
+-- it was read to its end
+pub record IsWhole (limit : ℕ) (input : List ℕ) (left : Option (List ℕ)) : Type 0 where
+  pub whole : left ≡ Some []
+  pub short : length input ≤ limit
+
+-- it has more bytes than the limit, and one byte more was taken than that
+pub record IsTooLong (limit : ℕ) (input : List ℕ) (left : Option (List ℕ)) : Type 0 where
+  pub long : limit < length input
+  pub rest : left ≡ Some (drop (limit + 1) input)

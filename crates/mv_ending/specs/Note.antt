@@ -1,0 +1,29 @@
+-- The line of each note, and what the notes hold when it was told.
+use Rattle.std.specs.Prelude.{◌≡◌, ℕ, ◌⊎◌, List, ◌++◌, codes, decimal, Option, Some, None}
+use Rattle.mv_io.specs.Fault.{Rose}
+use Rattle.mv_io.specs.Sink.{Appends}
+use Rattle.mv_ending.specs.declared.note.Note.{Note}
+use Rattle.mv_ending.specs.declared.note.Note.TheVariants.{Usage, DeckFault, InputTooLong, ReadFailed, ReportFailed, JournalFailed, NoMemory, Illegal, JournalFault}
+use Rattle.mv_ending.specs.Written.{AppendsFront}
+
+-- which line of the input is at fault, and how, behind a word that says what the input is
+unfoldable pub fault_text : List ℕ → ℕ → ℕ → List ℕ
+fault_text word line kind = word ++ codes "LINE " ++ decimal line ++ codes " KIND " ++ decimal kind ++ codes "\n"
+
+-- what is told on the notes, with LF
+abbrev pub note_text : Note → List ℕ
+note_text Usage = codes "USAGE: spool I, script, replay, load N I\n"
+note_text (DeckFault line kind) = fault_text (codes "DECK ") line kind
+note_text InputTooLong = codes "INPUT TOO LONG\n"
+note_text ReadFailed = codes "READ FAILED\n"
+note_text ReportFailed = codes "REPORT FAILED\n"
+note_text JournalFailed = codes "JOURNAL FAILED\n"
+note_text NoMemory = codes "NO MEMORY\n"
+note_text (Illegal line) = codes "ILLEGAL AT LINE " ++ decimal line ++ codes "\n"
+note_text (JournalFault line kind) = fault_text (codes "JOURNAL ") line kind
+
+-- the note's line stands on the notes, or a front of it where that sink failed; without a note they are as they were
+abbrev pub NotesAfter : Option Note → ℕ → ℕ → Option (List ℕ) → Option (List ℕ) → Type 0
+NotesAfter None before now old new = new ≡ old
+NotesAfter (Some note) before now old new =
+    Appends old new (note_text note) ⊎ (Rose before now × AppendsFront old new (note_text note))

@@ -1,0 +1,13 @@
+//! How a command ends: the one line of at most 48 bytes that it may tell on its notes, and what its streams hold then.
+//! `tell` writes a note's line, and takes no memory, so that want of memory too can be told. The definitions say of any
+//! command what was read of its input, whole or beyond the limit, and that a front of a text was written.
+#![tactic(auto)]
+
+mod line;
+mod note;
+
+pub use line::{LONGEST_LINE, Line};
+pub use note::{Note, tell};
+
+#[cfg(test)]
+mod tests;

@@ -1,0 +1,107 @@
+-- A text asks for one ending at most, and a replay has that one where nothing fails.
+use Rattle.std.proofs.Common.{◌≡◌, ℕ, ◌+◌, ◌≤◌, List, ◌∷◌, ◌++◌, length, Option, Some, None, refl, sym, ap, subst, ◌∙◌, arith, inl, inr}
+use Rattle.std.specs.Prelude.{IfSome}
+use Rattle.mv_machine.specs.declared.entry.Entry.{Entry}
+use Rattle.mv_machine.specs.Legal.{IsNext, Legal, after}
+use Rattle.mv_machine.specs.Setup.{Setup}
+use Rattle.mv_machine.specs.System.{opening}
+use Rattle.mv_entrytext.specs.declared.fault.TextFault.{TextFault}
+use Rattle.mv_entrytext.specs.Fault.{text_fault}
+use Rattle.mv_entrytext.proofs.LinesAgain.{no_fault, one_journal}
+use Rattle.mv_replay.specs.declared.status.ReplayStatus.{ReplayStatus}
+use Rattle.mv_replay.specs.declared.status.ReplayStatus.TheVariants.{Done, TooLong, ReadFailed, ReportFailed, NoMemory, Illegal, Text}
+use Rattle.mv_replay.specs.Judgement.{journal_limit, first_line, IsLegalJournal, IsIllegalAt}
+use Rattle.mv_replay.specs.Outcome.{InputOf, EndsAs}
+use Rattle.mv_replay.proofs.Splits.{one_split, no_split}
+
+-- the ending that a text asks for
+abbrev pub AsksFor : List ℕ → ReplayStatus → Type 0
+AsksFor bytes Done = (count : ℕ) × IsLegalJournal bytes count
+AsksFor bytes (Illegal line) = IsIllegalAt bytes line
+AsksFor bytes (Text fault) = text_fault bytes ≡ Some fault
+AsksFor bytes _ = ⊥
+
+-- ---- it asks for one
+
+pub legal_is_sound : (bytes : List ℕ) (count : ℕ) → IsLegalJournal bytes count → text_fault bytes ≡ None
+legal_is_sound bytes count l = ap text_fault l.text ∙ no_fault l.setup l.entries l.journal
+
+pub illegal_is_sound : (bytes : List ℕ) (line : ℕ) → IsIllegalAt bytes line → text_fault bytes ≡ None
+illegal_is_sound bytes line i = ap text_fault i.text ∙ no_fault i.setup (i.before ++ i.entry ∷ i.later) i.journal
+
+not_faulty : (bytes : List ℕ) (f : TextFault) → text_fault bytes ≡ None → text_fault bytes ≡ Some f → ⊥
+not_faulty bytes f none some =
+    let both : None ≡ Some f = sym none ∙ some in
+    absurd cc
+
+pub not_both : (bytes : List ℕ) (count line : ℕ) → IsLegalJournal bytes count → IsIllegalAt bytes line → ⊥
+not_both bytes count line l i =
+    let listed = i.before ++ i.entry ∷ i.later in
+    let same = one_journal l.setup i.setup l.entries listed l.journal i.journal (sym l.text ∙ i.text) in
+    let legal : Legal i.setup l.entries = subst (λ (c : Setup). Legal c l.entries) same.0 l.legal in
+    let all : Legal i.setup listed = subst (λ (es : List Entry). Legal i.setup es) same.1 legal in
+    no_split i.setup (opening i.setup) i.before i.later i.entry all i.other
+
+pub one_count : (bytes : List ℕ) (m n : ℕ) → IsLegalJournal bytes m → IsLegalJournal bytes n → m ≡ n
+one_count bytes m n k l =
+    let same = one_journal k.setup l.setup k.entries l.entries k.journal l.journal (sym k.text ∙ l.text) in
+    k.number ∙ ap (λ (es : List Entry). length es) same.1 ∙ sym l.number
+
+pub one_line : (bytes : List ℕ) (m n : ℕ) → IsIllegalAt bytes m → IsIllegalAt bytes n → m ≡ n
+one_line bytes m n i j =
+    let one = i.before ++ i.entry ∷ i.later in
+    let other = j.before ++ j.entry ∷ j.later in
+    let same = one_journal i.setup j.setup one other i.journal j.journal (sym i.text ∙ j.text) in
+    let legal : Legal j.setup i.before = subst (λ (c : Setup). Legal c i.before) same.0 i.legal in
+    let differs : IsNext j.setup (after j.setup i.before) i.entry → ⊥ =
+    subst (λ (c : Setup). IsNext c (after c i.before) i.entry → ⊥) same.0 i.other in
+    let long : length i.before ≡ length j.before =
+    one_split j.setup (opening j.setup) i.before j.before i.later j.later i.entry j.entry same.1 legal j.legal differs j.other in
+    i.place ∙ ap (λ (c : Setup). first_line c + length i.before) same.0 ∙ ap (λ (k : ℕ). first_line j.setup + k) long ∙ sym j.place
+
+one_fault : (f g : TextFault) → Some f ≡ Some g → f ≡ g
+one_fault f g e = cc
+
+one_ending : (bytes : List ℕ) (s t : ReplayStatus) → AsksFor bytes s → AsksFor bytes t → s ≡ t
+one_ending bytes TooLong t a b = absurd a
+one_ending bytes ReadFailed t a b = absurd a
+one_ending bytes ReportFailed t a b = absurd a
+one_ending bytes NoMemory t a b = absurd a
+one_ending bytes Done Done a b = refl
+one_ending bytes Done (Illegal n) a b = absurd (not_both bytes a.0 n a.1 b)
+one_ending bytes Done (Text g) a b = absurd (not_faulty bytes g (legal_is_sound bytes a.0 a.1) b)
+one_ending bytes (Illegal m) Done a b = absurd (not_both bytes b.0 m b.1 a)
+one_ending bytes (Illegal m) (Illegal n) a b = ap (λ (k : ℕ). Illegal k) (one_line bytes m n a b)
+one_ending bytes (Illegal m) (Text g) a b = absurd (not_faulty bytes g (illegal_is_sound bytes m a) b)
+one_ending bytes (Text f) Done a b = absurd (not_faulty bytes f (legal_is_sound bytes b.0 b.1) a)
+one_ending bytes (Text f) (Illegal n) a b = absurd (not_faulty bytes f (illegal_is_sound bytes n b) a)
+one_ending bytes (Text f) (Text g) a b = ap (λ (h : TextFault). Text h) (one_fault f g (sym a ∙ b))
+one_ending bytes s t a b = absurd b
+
+-- ---- a replay has it, where the source did not fail, and the report did not where it was begun
+
+ends_as : (bytes : List ℕ) (new : Option (List ℕ)) (s t : ReplayStatus) → InputOf s (Some bytes) new
+    → length bytes ≤ journal_limit → (s ≡ ReadFailed → ⊥) → (s ≡ ReportFailed → t ≡ Done → ⊥) → AsksFor bytes t → EndsAs s t
+ends_as bytes new Done t i short read wrote a = inl (one_ending bytes Done t i.1 a)
+ends_as bytes new TooLong t i short read wrote a = absurd (omega (arith, i.long))
+ends_as bytes new ReadFailed t i short read wrote a = absurd (read refl)
+ends_as bytes new ReportFailed t i short read wrote a = absurd (wrote refl (sym (one_ending bytes Done t i.1 a)))
+ends_as bytes new NoMemory t i short read wrote a = inr refl
+ends_as bytes new (Illegal line) t i short read wrote a = inl (one_ending bytes (Illegal line) t i.1 a)
+ends_as bytes new (Text fault) t i short read wrote a = inl (one_ending bytes (Text fault) t i.1 a)
+
+pub text_ends : (s : ReplayStatus) (old new : Option (List ℕ)) → InputOf s old new → (s ≡ ReadFailed → ⊥)
+    → IfSome old (λ bytes. length bytes ≤ journal_limit → (fault : TextFault) → text_fault bytes ≡ Some fault → EndsAs s (Text fault))
+text_ends s None new input read = tt
+text_ends s (Some bytes) new input read = λ short fault e. ends_as bytes new s (Text fault) input short read (λ _ other. absurd cc) e
+
+pub illegal_ends : (s : ReplayStatus) (old new : Option (List ℕ)) → InputOf s old new → (s ≡ ReadFailed → ⊥)
+    → IfSome old (λ bytes. length bytes ≤ journal_limit → (line : ℕ) → IsIllegalAt bytes line → EndsAs s (Illegal line))
+illegal_ends s None new input read = tt
+illegal_ends s (Some bytes) new input read = λ short line i. ends_as bytes new s (Illegal line) input short read (λ _ other. absurd cc) i
+
+pub legal_ends : (s : ReplayStatus) (old new : Option (List ℕ)) → InputOf s old new → (s ≡ ReadFailed → ⊥) → (s ≡ ReportFailed → ⊥)
+    → IfSome old (λ bytes. length bytes ≤ journal_limit → (count : ℕ) → IsLegalJournal bytes count → EndsAs s Done)
+legal_ends s None new input read wrote = tt
+legal_ends s (Some bytes) new input read wrote =
+    λ short count l. ends_as bytes new s Done input short read (λ failed _. wrote failed) (count, l)
