@@ -1,0 +1,44 @@
+use Rattle.std.proofs.Common.{◌≡◌, [], ◌∷◌, sym, ap, ◌∙◌, subst, arith}
+use Rattle.atomic_table.specs.Table.{Me}
+use Rattle.mv_machine.specs.Setup.{Setup}
+use Rattle.mv_board.specs.declared.item.Item.{Item}
+use Rattle.mv_board.specs.declared.view.View.{View}
+use Rattle.mv_board.specs.Faces.{BoardFace, IsFresh, AreFresh}
+use Rattle.mv_board.specs.View.{cut_left}
+use Rattle.mv_board.proofs.Fresh.{fresh_snoc}
+use Rattle.mv_board.proofs.Keeps.{splits}
+use Rattle.mv_board.proofs.board.Board.seats.Goals as goal
+
+pub split_seat-seat-requires : goal.split_seat-seat-requires
+split_seat-seat-requires c =
+    let since = c.loop-number.invariant in
+    let made : c.loop-number.first.me.0.made ≡ c.loop-number.number = ap (λ (m : Me Item View). m.0.made) since.first in
+    let callers : c.config.result.now.callers ≡ c.self.inside.config.callers = ap (λ (s : Setup). s.callers) c.config.ensures.given in
+    let below = c.loop-number-test.true in
+    let from = c.loop-number.auto.number in (
+      since.table ∙ (c.requires.board ∙ sym (ap (λ (b : BoardFace). b.table) c.self.view_is)),
+      (let wide = c.self.invariant.words in omega arith),
+      rw c.self.invariant.key (splits c.self.inside.config _ _ (omega arith) (omega arith)
+          (ap (λ (m : Me Item View). m.0.about) since.first ∙ ap (λ (b : BoardFace). b.config ∷ []) (sym c.self.view_is))),
+    )
+
+pub loop-number-preserved : goal.loop-number-preserved
+loop-number-preserved c =
+    let since = c.loop-number.invariant in
+    let split = c.split_seat-seat.ensures in
+    let counted = since.counted in
+    let here : BoardFace = record { table = c.split_seat-seat.result.table_id; config = c.self.inside.config } in
+    let board : here ≡ c.args.self.now = (λ i. record {
+      table = (split.3 ∙ (since.table ∙ c.requires.board)) i;
+      config = (c.self.view_is i).config;
+    }) in
+    let fresh : IsFresh c.args.self.now c.loop-number.number c.in_ok-seated.field-0 =
+    subst (λ b. IsFresh b c.loop-number.number c.in_ok-seated.field-0) board c.in_ok-seated.ensures in record {
+      table = split.0 ∙ since.table;
+      first = split.2 ∙ ap (λ (m : Me Item View). (cut_left m.0, m.1)) since.first;
+      others = subst (AreFresh c.args.self.now 1) (sym c.push_reserved.ensures.items)
+          (fresh_snoc c.args.self.now 1 c.loop-number.number c.loop-number.callers.items c.in_ok-seated.field-0 since.others
+          (omega arith) fresh);
+      counted = (let more = c.push_reserved.ensures.len in let same = c.push_reserved.ensures.items in omega arith);
+      room = c.push_reserved.ensures.capacity ∙ since.room;
+    }

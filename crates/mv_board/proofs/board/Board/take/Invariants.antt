@@ -1,0 +1,8 @@
+use Rattle.std.proofs.Common.{◌≡◌}
+use Rattle.mv_board.proofs.board.Board.take.Given as goal
+
+abbrev pub invariant-loop : goal.invariant-loop
+invariant-loop g l = record {
+  table : l.seat.table_id ≡ l.initial.seat.table_id;
+  same : l.seat.me ≡ l.initial.seat.me;
+}

@@ -1,0 +1,22 @@
+-- How contracts see a board.
+use Rattle.std.specs.Prelude.{◌≡◌, ◌≤◌, [], vec_capacity}
+use Rattle.mv_machine.specs.Check.{IsValid}
+use Rattle.mv_machine.specs.Room.{IsRoomFor}
+use Rattle.mv_machine.specs.State.{system_of, IsOpenedWith}
+use Rattle.mv_machine.specs.System.{opening}
+use Rattle.mv_board.specs.declared.board.Board.TheInside.{Inside}
+use Rattle.mv_board.specs.Faces.{BoardFace}
+use Rattle.mv_board.specs.Words.{word_count}
+
+abbrev pub board_of : Inside → BoardFace
+board_of b = record { table = b.table.shared.table_id; config = b.config }
+
+-- its table is of its configuration, with a word for each object and a slot for the lists, and what `close` uses is there
+pub record IsOpen (b : Inside) : Type 0 where
+  pub key : b.table.shared.key ≡ b.config
+  pub valid : IsValid b.config
+  pub words : b.table.shared.table_id.words ≡ word_count b.config
+  pub slots : b.table.shared.table_id.slots ≡ 1
+  pub room : IsRoomFor b.config b.room
+  pub logs : (b.logs.items ≡ []) × (b.config.callers ≤ vec_capacity b.logs)
+  pub state : (system_of b.state ≡ opening b.config) × IsOpenedWith b.config b.state

@@ -1,0 +1,9 @@
+pub mod Words
+pub mod View
+pub mod Rule
+pub mod Parked
+pub mod Steps
+pub mod Turn
+pub mod Faces
+pub mod Caller
+pub mod Board

@@ -1,0 +1,58 @@
+-- Which word of the table is which object's, and what an operation makes of a word.
+use Rattle.std.specs.Prelude.{ℕ, ◌+◌, ◌*◌, ◌-◌, ◌<◌, ◌==◌, nat_le, nat_lt, Bool, true, ◌&&◌, length, Option, None, option_map, option_and_then, if◌then◌else◌}
+use Rattle.mv_machine.specs.declared.entry.Object.{Object}
+use Rattle.mv_machine.specs.declared.entry.Object.TheVariants.{Ecb, Element, Volume, Latches}
+use Rattle.mv_machine.specs.declared.entry.Op.{Op}
+use Rattle.mv_machine.specs.declared.entry.Op.TheVariants as op_on
+use Rattle.mv_machine.specs.declared.entry.Reply.{Reply}
+use Rattle.mv_machine.specs.declared.entry.VolumeOp.TheVariants.{Read}
+use Rattle.mv_machine.specs.declared.packing.WordState.{WordState}
+use Rattle.mv_machine.specs.declared.packing.WordState.TheVariants as state
+use Rattle.mv_ecb.specs.declared.operation.EcbOp.TheVariants as ecb_op
+use Rattle.mv_element.specs.declared.operation.ElementOp.TheVariants as element_op
+use Rattle.mv_machine.specs.Elements.{extra}
+use Rattle.mv_machine.specs.Packing.{pack, unpack, state_step}
+use Rattle.mv_machine.specs.Setup.{Setup, element_count}
+
+-- ---- the words: 8 volumes, 256 elements, the turn of the latch set, and the event control blocks
+
+abbrev pub turn_word : ℕ
+turn_word = 264
+
+abbrev pub word_number : Object → ℕ
+word_number (Volume n) = n
+word_number (Element n) = 8 + n
+word_number Latches = turn_word
+word_number (Ecb n) = 265 + n
+
+abbrev pub object_of : ℕ → Object
+object_of i = if nat_lt i 8 then Volume i else if nat_lt i 264 then Element (i - 8) else if i == 264 then Latches else Ecb (i - 265)
+
+abbrev pub word_count : Setup → ℕ
+word_count c = 265 + length c.owners
+
+-- the object is there, and has a word of its own
+abbrev pub HasWord : Setup → Object → Type 0
+HasWord c (Ecb n) = n < length c.owners
+HasWord c (Element n) = n < element_count c
+HasWord c (Volume n) = n < c.volumes
+HasWord c Latches = ⊥
+
+-- ---- an operation on a word
+
+-- an element of a high generation has had many events
+abbrev pub fits : ℕ → WordState → Bool
+fits place (state.Element s) = nat_le (2 * s.generation + extra s.phase) place
+fits place s = true
+
+-- the place, the word one event later, and the reply. Nothing where the word is none that the object can have before a
+-- further event
+abbrev pub changed : Object → Op → ℕ → Option (ℕ × ℕ × Reply)
+changed o op w =
+    option_and_then (λ x. if nat_lt x.0 524287 && fits x.0 x.1 then option_map (λ r. (x.0, pack (x.0 + 1) r.0, r.1)) (state_step op x.1) else None) (unpack o w)
+
+-- the operation that reads a word and changes its place alone
+abbrev pub test_of : Object → Op
+test_of (Ecb n) = op_on.Ecb ecb_op.Test
+test_of (Element n) = op_on.Element element_op.Test
+test_of o = op_on.Volume Read

@@ -1,0 +1,344 @@
+//! The board: how it is opened, and its calls on objects.
+
+ghost use Rattle.std.specs.Prelude.{◌≡◌, ◌<◌, ◌++◌, ◌∷◌, [], true, length, IfOk, MatchResult, Some};
+ghost use Rattle.mv_machine.specs.Kept.{allowed};
+ghost use Rattle.mv_machine.specs.Parts.{IsPossible};
+ghost use Rattle.mv_machine.specs.Owned.{owner_at};
+ghost use Rattle.mv_machine.specs.Room.{IsObjectOf};
+ghost use Rattle.mv_board.specs.Faces.{IsOf, IsFresh, AreFresh, Happened, Found, Exchanged, Missed, IsAsListed, MayWatch, PeekedAt, Peeks};
+ghost use Rattle.mv_board.specs.declared.watch.Watch.{Watch as AnyWatch};
+ghost use Rattle.mv_machine.specs.System.{opening};
+ghost use Rattle.mv_board.specs.Rule.{IsLists};
+ghost use Rattle.mv_board.specs.Steps.{MadeAfterLooks, watch_of};
+ghost use Rattle.mv_board.specs.Words.{HasWord, test_of as test_on};
+ghost use Rattle.mv_board.specs.View.{fresh_view, first_view, own};
+
+use crate::caller::{Caller, Moved};
+use crate::item::{Item, Lists};
+use crate::rule::{Addition, Exchange, History, Look, Peek, Seats};
+use crate::view::View;
+use crate::watch::Watch;
+use crate::words::{BEFORE_ECBS, PLACE, change, is_ready, test_of, word_number};
+use atomic_table::{Seat, Table};
+use crossbeam_utils::Backoff;
+use mv_io::NoMemory;
+use mv_latch::LatchSet;
+use mv_machine::{Entry, Log, MergeRoom, Object, Op, Reply, State, ValidConfig};
+use std::alloc::Global;
+use std::marker::Model;
+use std::sync::Wait;
+
+/// The shared objects of a configuration. It is shared by reference; each caller makes its calls with its own `Caller`.
+#[derive(Drop)]
+pub struct Board {
+    pub(crate) config: ValidConfig,
+    pub(crate) table: Table<Item, View, ValidConfig, History, Global>,
+    // What `close` uses: room for the merge and for the callers' logs, and the opening state.
+    pub(crate) room: MergeRoom,
+    pub(crate) logs: Vec<Log>,
+    pub(crate) state: State,
+}
+
+impl Model for Board {
+    ghost use Rattle.mv_board.specs.Board.{board_of, IsOpen};
+    ghost use Rattle.mv_board.specs.Faces.{BoardFace};
+
+    ghost Value = { BoardFace };
+
+    ghost view = { board_of };
+
+    ghost invariant = { IsOpen };
+}
+
+impl Board {
+    /// A board with all objects at place 0, and its callers in the order of their numbers. All memory that later calls use
+    /// is taken here.
+    pub fn open(alloc: Global, config: ValidConfig) -> Result<(Board, Vec<Caller>), NoMemory>
+        ensures config { IfOk result (λ r. r.0.config ≡ config) }
+        ensures callers { IfOk result (λ r. AreFresh r.0 0 r.1.items) }
+        ensures count { IfOk result (λ r. length r.1.items ≡ config.callers) }
+    {
+        let given = config.config();
+        let words = vec![in alloc; 0u64; BEFORE_ECBS + given.owners.len()]?;
+        let slots = vec![in alloc; Item::Held(lists_of(alloc, &config)?)]?;
+        let Ok((table, first)) = Table::new(alloc, &words, slots, &config) else {
+            return Err(NoMemory);
+        };
+        let room = MergeRoom::new(alloc, &config)?;
+        let logs = Vec::with_capacity(alloc, config.config().callers as usize)?;
+        let state = State::opening(alloc, &config)?;
+        let board = Board {
+            config,
+            table,
+            room,
+            logs,
+            state,
+        };
+        let callers = board.seats(alloc, first)?;
+        Ok((board, callers))
+    }
+
+    // All callers, of which the first has this seat.
+    fn seats(&self, alloc: Global, mut first: Seat<Item, View>) -> Result<Vec<Caller>, NoMemory>
+        requires board { first.table_id ≡ self.now.table }
+        requires first { first.me ≡ (first_view self.now.config, []) }
+        ensures callers { IfOk result (λ cs. AreFresh self.now 0 cs.items) }
+        ensures count { IfOk result (λ cs. length cs.items ≡ self.now.config.callers) }
+    {
+        let count = self.config.config().callers;
+        let mut callers = Vec::with_capacity(alloc, count as usize)?;
+        for number in 1..count {
+            let seat = self.table.shared.split_seat::<Seats>(&mut first);
+            callers.push_reserved(seated(alloc, &self.config, number, seat)?);
+        }
+        callers.insert(0, seated(alloc, &self.config, 0, first)?)?;
+        Ok(callers)
+    }
+
+    /// The configuration that it was opened with.
+    pub fn config(&self) -> &ValidConfig
+        ensures { result.now ≡ self.now.config }
+    {
+        &self.config
+    }
+
+    /// One load of an object's word. It is no event, and the word may be another one at once.
+    pub fn look(&self, caller: &mut Caller, object: Object) -> u64
+        requires board { IsOf self.now caller.old }
+        requires word { HasWord self.now.config object }
+        ensures found { Found caller.old object result caller.new }
+        ensures ready { caller.new.ready ≡ caller.old.ready }
+    {
+        self.table
+            .shared
+            .load::<Look>(&mut caller.seat, word_number(object))
+    }
+
+    /// Whether what a caller waits for is so: its own block is complete, its own element released, its own request granted or
+    /// gone. It is no event. Where it is so, it stays so whatever others do, until an event of the caller's own that takes it off
+    /// the list: one on that block or element, or one on the latch set that is no obtain.
+    pub fn peek<R: Wait>(&self, rt: &R, caller: &mut Caller, watch: Watch) -> bool
+        requires board { IsOf self.now caller.old }
+        requires own { MayWatch self.now.config caller.old watch }
+        ensures { Peeks caller.old watch result caller.new }
+    {
+        match watch {
+            Watch::Ecb(ecb) => self.peek_word(caller, Object::Ecb(ecb)),
+            Watch::Element(element) => self.peek_word(caller, Object::Element(element)),
+            Watch::Latch { latch, id } => self.peek_latch(rt, caller, latch, id),
+        }
+    }
+
+    // Whether the state of an own object is what a watch of it waits for.
+    fn peek_word(&self, caller: &mut Caller, object: Object) -> bool
+        requires board { IsOf self.now caller.old }
+        requires word { HasWord self.now.config object }
+        requires own { owner_at self.now.config object ≡ Some caller.old.number }
+        ensures { (w : AnyWatch) → watch_of object ≡ Some w → PeekedAt caller.old object w result caller.new }
+    {
+        let word = self
+            .table
+            .shared
+            .load::<Peek>(&mut caller.seat, word_number(object));
+        is_ready(object, word)
+    }
+
+    /// The event that reads an object and changes its place alone, by one addition: Test of an event control block or an
+    /// element, Read of a volume. It cannot fail, and waits for nobody.
+    pub fn test(&self, caller: &mut Caller, object: Object) -> Reply
+        requires board { IsOf self.now caller.old }
+        requires word { HasWord self.now.config object }
+        requires left { 0 < caller.old.left }
+        ensures event { Happened caller.old object (test_on object) result caller.new }
+        ensures possible { IsPossible self.now.config caller.new.number caller.new.log caller.new.told }
+    {
+        let op = test_of(object);
+        let word = self
+            .table
+            .shared
+            .fetch_add::<Addition>(&mut caller.seat, word_number(object), PLACE);
+        let Some((place, _, reply)) = change(object, op, word) else {
+            unreachable!()
+        };
+        let entry = Entry {
+            caller: caller.number,
+            object,
+            place,
+            op,
+            reply,
+        };
+        caller.left -= 1;
+        caller.log.push_reserved(entry);
+        reply
+    }
+
+    /// One exchange of an object's word: the event where the word is the one expected, and otherwise no event, but a look.
+    /// It waits for nobody.
+    ///
+    /// # Errors
+    ///
+    /// `Moved(w)` where the word found was w and not `expected`.
+    pub fn try_event(
+        &self,
+        caller: &mut Caller,
+        object: Object,
+        op: Op,
+        expected: u64,
+    ) -> Result<Reply, Moved>
+        requires board { IsOf self.now caller.old }
+        requires word { HasWord self.now.config object }
+        requires left { 0 < caller.old.left }
+        requires admitted { allowed self.now.config caller.old.number caller.old.log object op ≡ true }
+        ensures answer { MatchResult result
+            (λ reply. Exchanged caller.old object op expected reply caller.new)
+            (λ moved. Missed caller.old object expected moved caller.new) }
+        ensures possible { IfOk result (λ _. IsPossible self.now.config caller.new.number caller.new.log caller.new.told) }
+        ensures listed { IfOk result (λ reply. IsAsListed caller.old object op reply) }
+    {
+        let shared = &self.table.shared;
+        let word = word_number(object);
+        let Some((place, next, reply)) = change(object, op, expected) else {
+            return Err(Moved(shared.load::<Look>(&mut caller.seat, word)));
+        };
+        let found = shared.compare_exchange_with::<Exchange>(
+            &mut caller.seat,
+            word,
+            expected,
+            next,
+            &Item::Said(op),
+        );
+        if found != expected {
+            return Err(Moved(found));
+        }
+        let entry = Entry {
+            caller: caller.number,
+            object,
+            place,
+            op,
+            reply,
+        };
+        caller.left -= 1;
+        caller.log.push_reserved(entry);
+        Ok(reply)
+    }
+
+    /// One event on an object, and its reply. On an object with a word it tries again while others are quicker; on the latch
+    /// set it waits while another caller has the lists.
+    pub fn event<R: Wait>(&self, rt: &R, caller: &mut Caller, object: Object, op: Op) -> Reply
+        requires board { IsOf self.now caller.old }
+        requires exists { IsObjectOf self.now.config object }
+        requires left { 0 < caller.old.left }
+        requires admitted { allowed self.now.config caller.old.number caller.old.log object op ≡ true }
+        ensures event { Happened caller.old object op result caller.new }
+        ensures possible { IsPossible self.now.config caller.new.number caller.new.log caller.new.told }
+        ensures listed { IsAsListed caller.old object op result }
+    {
+        match (object, op) {
+            (Object::Latches, Op::Latch(op)) => Reply::Latch(self.latch_event(rt, caller, op)),
+            _ => self.word_event(rt, caller, object, op),
+        }
+    }
+
+    // One event on an object that has a word, and its reply.
+    fn word_event<R: Wait>(&self, rt: &R, caller: &mut Caller, object: Object, op: Op) -> Reply
+        requires board { IsOf self.now caller.old }
+        requires word { HasWord self.now.config object }
+        requires left { 0 < caller.old.left }
+        requires admitted { allowed self.now.config caller.old.number caller.old.log object op ≡ true }
+        ensures event { Happened caller.old object op result caller.new }
+        ensures possible { IsPossible self.now.config caller.new.number caller.new.log caller.new.told }
+        ensures listed { IsAsListed caller.old object op result }
+    {
+        let (place, reply) = self.exchange(rt, &mut caller.seat, object, op);
+        let entry = Entry {
+            caller: caller.number,
+            object,
+            place,
+            op,
+            reply,
+        };
+        caller.left -= 1;
+        caller.log.push_reserved(entry);
+        reply
+    }
+
+    // One event of a seat on an object's word: its place and its reply.
+    fn exchange<R: Wait>(
+        &self,
+        rt: &R,
+        seat: &mut Seat<Item, View>,
+        object: Object,
+        op: Op,
+    ) -> (u32, Reply)
+        requires board { seat.old.table_id ≡ self.now.table }
+        requires about { seat.old.me.0.about ≡ self.now.config ∷ [] }
+        requires word { HasWord self.now.config object }
+        requires alone { seat.old.me.0.parts ≡ own seat.old.me.0 ∷ [] }
+        requires left { 0 < (own seat.old.me.0).left }
+        requires admitted { allowed self.now.config (own seat.old.me.0).caller (own seat.old.me.0).log object op ≡ true }
+        ensures same { (seat.new.table_id ≡ seat.old.table_id) × (seat.new.me.1 ≡ seat.old.me.1) }
+        ensures event { MadeAfterLooks seat.old.me.0 object op result.0 result.1 seat.new.me.0 }
+    {
+        let shared = &self.table.shared;
+        let word = word_number(object);
+        let backoff = Backoff::new();
+        let mut seen = shared.load::<Look>(seat, word);
+        for _ in rt.forever() {
+            let Some((place, next, reply)) = change(object, op, seen) else {
+                unreachable!()
+            };
+            let found = shared.compare_exchange_with::<Exchange>(
+                seat,
+                word,
+                seen,
+                next,
+                &Item::Said(op),
+            );
+            if found == seen {
+                return (place, reply);
+            }
+            seen = found;
+            backoff.snooze();
+        }
+        unreachable!()
+    }
+}
+
+// The empty lists of a configuration's latch set.
+fn lists_of(alloc: Global, config: &ValidConfig) -> Result<Lists, NoMemory>
+    ensures { IfOk result (λ l. IsLists config.now (opening config.now).latches l) }
+{
+    let given = config.config();
+    let Ok(latches) = LatchSet::new(
+        alloc,
+        given.latches,
+        given.callers,
+        given.quota,
+        given.posted_quota,
+    ) else {
+        return Err(NoMemory);
+    };
+    Ok(Lists { place: 0, latches })
+}
+
+// A caller with this seat, and room for all its entries and wakes.
+fn seated(
+    alloc: Global,
+    config: &ValidConfig,
+    number: u32,
+    seat: Seat<Item, View>,
+) -> Result<Caller, NoMemory>
+    requires number { number < config.now.callers }
+    requires seat { seat.me ≡ (fresh_view config.now number seat.me.0.made, []) }
+    ensures { IfOk result (λ d. IsFresh record { table = seat.table_id; config = config.now } number d) }
+{
+    let given = config.config();
+    let left = given.budgets[number as usize];
+    Ok(Caller {
+        number,
+        left,
+        log: Vec::with_capacity(alloc, left as usize)?,
+        wakes: Vec::with_capacity(alloc, given.callers as usize * given.quota as usize)?,
+        seat,
+    })
+}

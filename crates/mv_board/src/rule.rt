@@ -1,0 +1,100 @@
+//! The rule of the table, and what each kind of step tells.
+
+use crate::item::Item;
+use crate::view::View;
+use atomic_table::{Join, Play, Split, TableRule};
+use mv_machine::ValidConfig;
+
+/// At every moment the merge of the logs is a legal history, and the board is what it leads to.
+pub struct History;
+
+impl TableRule<Item, View, ValidConfig> for History {
+    ghost use Rattle.mv_board.specs.Rule.{Ruled};
+    ghost use Rattle.mv_board.specs.View.{first_view};
+
+    ghost holds = { Ruled };
+
+    ghost first = { first_view };
+}
+
+/// A load of a word.
+pub(crate) struct Look;
+
+impl Play<Item, View> for Look {
+    ghost use Rattle.mv_board.specs.Steps.{Looked};
+
+    ghost then = { Looked };
+}
+
+/// An exchange of a word.
+pub(crate) struct Exchange;
+
+impl Play<Item, View> for Exchange {
+    ghost use Rattle.mv_board.specs.Steps.{Tried};
+
+    ghost then = { Tried };
+}
+
+/// An addition to a word.
+pub(crate) struct Addition;
+
+impl Play<Item, View> for Addition {
+    ghost use Rattle.mv_board.specs.Steps.{Tested};
+
+    ghost then = { Tested };
+}
+
+/// A seat is cut in two, or takes over another.
+pub(crate) struct Seats;
+
+impl Split<View> for Seats {
+    ghost use Rattle.mv_board.specs.View.{cut_left, cut_right};
+
+    ghost left = { cut_left };
+
+    ghost right = { cut_right };
+}
+
+impl Join<View> for Seats {
+    ghost use Rattle.mv_board.specs.View.{joined, spent_view};
+
+    ghost both = { joined };
+
+    ghost spent = { spent_view };
+}
+
+/// A load that lists what it finds ready.
+pub(crate) struct Peek;
+
+impl Play<Item, View> for Peek {
+    ghost use Rattle.mv_board.specs.Steps.{Peeked};
+
+    ghost then = { Peeked };
+}
+
+/// The turn of the latch set is taken.
+pub(crate) struct Take;
+
+impl Play<Item, View> for Take {
+    ghost use Rattle.mv_board.specs.Turn.{Took};
+
+    ghost then = { Took };
+}
+
+/// The turn is given back with an event.
+pub(crate) struct Give;
+
+impl Play<Item, View> for Give {
+    ghost use Rattle.mv_board.specs.Turn.{Gave};
+
+    ghost then = { Gave };
+}
+
+/// The turn is given back without one.
+pub(crate) struct Return;
+
+impl Play<Item, View> for Return {
+    ghost use Rattle.mv_board.specs.Turn.{Returned};
+
+    ghost then = { Returned };
+}

@@ -1,0 +1,123 @@
+//! The latch set: a turn lends its lists to one caller at a time.
+
+ghost use Rattle.std.specs.Prelude.{◌≡◌, ◌<◌, ◌++◌, ◌∷◌, [], true};
+ghost use Rattle.mv_machine.specs.Kept.{allowed};
+ghost use Rattle.mv_machine.specs.Parts.{IsPossible};
+ghost use Rattle.mv_board.specs.Faces.{IsOf, Happened, IsAsListed, MayWatch, PeekedIn};
+ghost use Rattle.mv_board.specs.Turn.{named_by, MeetsLists, is_settled as is_settled_reply};
+ghost use Rattle.mv_board.specs.View.{own, with_turn};
+ghost use Rattle.mv_board.specs.declared.item.Item.TheVariants.{Away};
+
+use crate::board::Board;
+use crate::caller::Caller;
+use crate::item::{Item, Lists};
+use crate::rule::{Give, Return, Take};
+use crate::view::View;
+use crate::watch::Watch;
+use crate::words::TURN;
+use atomic_table::Seat;
+use crossbeam_utils::Backoff;
+use mv_latch::{LatchOp, LatchReply};
+use mv_machine::{Entry, Object, Op, Reply};
+use std::sync::Wait;
+
+impl Board {
+    // Takes the turn, trying again while another holds it, and the lists out of their slot.
+    fn take<R: Wait>(&self, rt: &R, seat: &mut Seat<Item, View>) -> Lists
+        requires board { seat.old.table_id ≡ self.now.table }
+        requires empty { seat.old.me.1 ≡ [] }
+        requires alone { seat.old.me.0.parts ≡ own seat.old.me.0 ∷ [] }
+        ensures same { seat.new.table_id ≡ seat.old.table_id }
+        ensures took { seat.new.me ≡ (with_turn (named_by result ∷ []) seat.old.me.0, (0, Away) ∷ []) }
+        ensures meets { MeetsLists seat.old.me.0 result }
+    {
+        let shared = &self.table.shared;
+        let backoff = Backoff::new();
+        for _ in rt.forever() {
+            if shared.compare_exchange::<Take>(seat, TURN, 0, 1) == 0 {
+                let Item::Held(lists) = shared.exchange(seat, 0, Item::Away) else {
+                    unreachable!()
+                };
+                return lists;
+            }
+            backoff.snooze();
+        }
+        unreachable!()
+    }
+
+    // One event on the latch set, and its reply. It waits while another caller has the lists.
+    pub(crate) fn latch_event<R: Wait>(
+        &self,
+        rt: &R,
+        caller: &mut Caller,
+        op: LatchOp,
+    ) -> LatchReply
+        requires board { IsOf self.now caller.old }
+        requires left { 0 < caller.old.left }
+        requires admitted { allowed self.now.config caller.old.number caller.old.log Object.Latches (Op.Latch op) ≡ true }
+        ensures event { Happened caller.old Object.Latches (Op.Latch op) (Reply.Latch result) caller.new }
+        ensures possible { IsPossible self.now.config caller.new.number caller.new.log caller.new.told }
+        ensures listed { IsAsListed caller.old Object.Latches (Op.Latch op) (Reply.Latch result) }
+    {
+        let Lists { place, mut latches } = self.take(rt, &mut caller.seat);
+        let Some(reply) = latches.apply(caller.number, place, op, &mut caller.wakes) else {
+            unreachable!()
+        };
+        let lists = Lists {
+            place: place + 1,
+            latches,
+        };
+        let shared = &self.table.shared;
+        shared.exchange(&mut caller.seat, 0, Item::Held(lists));
+        shared.compare_exchange_with::<Give>(
+            &mut caller.seat,
+            TURN,
+            1,
+            0,
+            &Item::Said(Op::Latch(op)),
+        );
+        let entry = Entry {
+            caller: caller.number,
+            object: Object::Latches,
+            place,
+            op: Op::Latch(op),
+            reply: Reply::Latch(reply),
+        };
+        caller.left -= 1;
+        caller.log.push_reserved(entry);
+        reply
+    }
+
+    // Whether a request of the caller no longer waits. The turn is given back without an event.
+    pub(crate) fn peek_latch<R: Wait>(
+        &self,
+        rt: &R,
+        caller: &mut Caller,
+        latch: u32,
+        id: u32,
+    ) -> bool
+        requires board { IsOf self.now caller.old }
+        requires own { MayWatch self.now.config caller.old (Watch.Latch latch id) }
+        ensures { PeekedIn caller.old latch id result caller.new }
+    {
+        let lists = self.take(rt, &mut caller.seat);
+        let reply = lists.latches.confirm(caller.number, latch, id);
+        let shared = &self.table.shared;
+        shared.exchange(&mut caller.seat, 0, Item::Held(lists));
+        shared.compare_exchange_with::<Return>(
+            &mut caller.seat,
+            TURN,
+            1,
+            0,
+            &Item::Sought(Watch::Latch { latch, id }),
+        );
+        is_settled(reply)
+    }
+}
+
+// Whether a request that is answered so no longer waits.
+fn is_settled(reply: LatchReply) -> bool
+    ensures { result ≡ is_settled_reply reply }
+{
+    matches!(reply, LatchReply::Granted(_) | LatchReply::Gone)
+}

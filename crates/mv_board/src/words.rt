@@ -1,0 +1,95 @@
+//! The words of the table, and what an operation makes of one.
+
+ghost use Rattle.std.specs.Prelude.{◌≡◌, ℕ, Some};
+ghost use Rattle.mv_machine.specs.Elements.{extra as extra_of};
+ghost use Rattle.mv_machine.specs.Packing.{HasOpFields, unpack as unpack_of};
+ghost use Rattle.mv_machine.specs.declared.packing.WordState.{WordState as AnyState};
+ghost use Rattle.mv_board.specs.Steps.{is_ready as is_ready_state};
+ghost use Rattle.mv_board.specs.Words.{word_number as number_of, changed, fits as fits_place, test_of as test_on};
+
+use mv_ecb::EcbOp;
+use mv_element::{ElementOp, Phase};
+use mv_machine::{Object, Op, Reply, VolumeOp, WordState, pack, state_apply, unpack};
+
+/// The word of the latch set's turn.
+pub(crate) const TURN: usize = 264;
+
+/// How many words stand before those of the event control blocks.
+pub(crate) const BEFORE_ECBS: usize = 265;
+
+/// One place more, in a word.
+pub(crate) const PLACE: u64 = 1 << 45;
+
+/// The highest place of a run's last event.
+const HIGHEST_PLACE: u32 = 524_286;
+
+/// The number of an object's word.
+pub(crate) fn word_number(object: Object) -> usize
+    ensures { result ≡ number_of object }
+{
+    match object {
+        Object::Volume(volume) => volume as usize,
+        Object::Element(element) => 8 + element as usize,
+        Object::Latches => TURN,
+        Object::Ecb(ecb) => BEFORE_ECBS + ecb as usize,
+    }
+}
+
+/// The operation that leaves an object's state as it is.
+pub(crate) fn test_of(object: Object) -> Op
+    ensures { result ≡ test_on object }
+{
+    match object {
+        Object::Ecb(_) => Op::Ecb(EcbOp::Test),
+        Object::Element(_) => Op::Element(ElementOp::Test),
+        _ => Op::Volume(VolumeOp::Read),
+    }
+}
+
+// Twice the generation, and the events at least that the pause at hand has had, are at most the place.
+fn fits(place: u32, state: &WordState) -> bool
+    ensures { result ≡ fits_place place state.now }
+{
+    match state {
+        WordState::Element(state) => {
+            2 * u64::from(state.generation) + extra(state.phase) <= u64::from(place)
+        }
+        _ => true,
+    }
+}
+
+fn extra(phase: Phase) -> u64
+    ensures { result ≡ extra_of phase }
+{
+    match phase {
+        Phase::Free => 0,
+        Phase::Reset => 1,
+        Phase::Prereleased | Phase::Paused => 2,
+        Phase::Released => 3,
+    }
+}
+
+/// What an operation makes of a word: the place before, the word after, and the reply. There is nothing where the object
+/// can't have this word before a further event of the run.
+pub(crate) fn change(object: Object, op: Op, word: u64) -> Option<(u32, u64, Reply)>
+    requires { HasOpFields op }
+    ensures { result ≡ changed object op word }
+{
+    let (place, state) = unpack(object, word)?;
+    if place > HIGHEST_PLACE || !fits(place, &state) {
+        return None;
+    }
+    let (next, reply) = state_apply(op, state)?;
+    Some((place, pack(place + 1, next), reply))
+}
+
+/// Whether a word of an object is what a watch of it waits for: a block that is complete, an element that is released.
+pub(crate) fn is_ready(object: Object, word: u64) -> bool
+    ensures { (place : ℕ) (state : AnyState) → unpack_of object word ≡ Some (place, state) → result ≡ is_ready_state state }
+{
+    match object {
+        Object::Ecb(_) => word % PLACE >> 30 == 1,
+        Object::Element(_) => (word >> 24) % 8 == 4,
+        _ => false,
+    }
+}
