@@ -2,7 +2,7 @@
 use Rattle.std.proofs.Common.{◌≡◌, ℕ, true, Some, refl, sym, ap, ◌∙◌, arith}
 use Rattle.mv_ecb.specs.declared.operation.EcbOp.TheVariants.{Settle}
 use Rattle.mv_ecb.specs.Table.{ecb_step}
-use Rattle.mv_ecb.specs.Word.{EcbState}
+use Rattle.mv_ecb.specs.Word.{EcbState, is_complete}
 use Rattle.mv_element.specs.declared.element.ElementState.{ElementState}
 use Rattle.mv_element.specs.declared.operation.ElementOp.TheVariants.{Resume}
 use Rattle.mv_element.specs.Table.{element_step}
@@ -19,7 +19,7 @@ use Rattle.mv_machine.specs.Setup.{Setup}
 use Rattle.mv_board.specs.declared.view.View.{View}
 use Rattle.mv_board.specs.declared.watch.Watch.TheVariants as watch
 use Rattle.mv_board.specs.Faces.{CallerFace, IsAsListed, is_given, is_complete_reply}
-use Rattle.mv_board.specs.Rule.{is_complete, is_released}
+use Rattle.mv_board.specs.Rule.{is_released}
 use Rattle.mv_board.specs.Steps.{MadeAfterLooks, is_ready}
 use Rattle.mv_board.specs.View.{own}
 use Rattle.mv_board.specs.Words.{HasWord}

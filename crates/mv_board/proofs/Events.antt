@@ -3,7 +3,7 @@ use Rattle.std.proofs.Common.{◌≡◌, ◌≢◌, ◌⊎◌, ℕ, ◌+◌, ◌
 use Rattle.std.proofs.lemmas.Bool.{false≢true, true≢false, lt-ltb}
 use mathlib.Core.Logic.{dite}
 use native.Mathlib.Decide.{ℕ_discrete}
-use Rattle.mv_ecb.specs.Word.{EcbState, Complete}
+use Rattle.mv_ecb.specs.Word.{EcbState, Complete, is_complete}
 use Rattle.mv_element.specs.declared.element.Phase.{Phase}
 use Rattle.mv_element.specs.declared.element.Phase.TheVariants.{Released}
 use Rattle.mv_latch.specs.declared.operation.LatchOp.{LatchOp}
@@ -35,7 +35,7 @@ use Rattle.mv_machine.proofs.SameParts.{same_told}
 use Rattle.mv_machine.proofs.WordSteps.{reply_by_state, state_by_state, place_rises}
 use Rattle.mv_board.specs.declared.watch.Watch.{Watch}
 use Rattle.mv_board.specs.declared.watch.Watch.TheVariants as watch
-use Rattle.mv_board.specs.Rule.{is_complete, is_released, HasMade, IsReady}
+use Rattle.mv_board.specs.Rule.{is_released, HasMade, IsReady}
 use Rattle.mv_board.specs.Steps.{watch_of, is_ready}
 use Rattle.mv_board.specs.View.{takes_off}
 use Rattle.mv_board.specs.Words.{HasWord, fits, changed, test_of}
@@ -206,9 +206,8 @@ ready_next c h e k (watch.Element n) l stays r =
     let kept = released_kept c h (e ∷ []) n l (none_on is_owners (Element n) (element_owner c n) e apart) (released_is _ r.2) in
     (r.0, r.1, ap (λ z. is_released z.phase) kept ∙ r.2)
 ready_next c h e k (watch.Latch latch id) l stays r = (
-  r.0,
-  subst (λ z. HasMade latch id z) (sym (of-append k h (e ∷ []))) (made_longer latch id (of k h) (of k (e ∷ [])) r.1),
-  settled_next c h e k latch id l r.1 r.2,
+  subst (λ z. HasMade latch id z) (sym (of-append k h (e ∷ []))) (made_longer latch id (of k h) (of k (e ∷ [])) r.0),
+  settled_next c h e k latch id l r.0 r.1,
 )
 
 -- what is ready goes by where the history leads, and by the caller's part of it
@@ -216,7 +215,7 @@ pub ready_same : (c : Setup) (h g : List Entry) (k : ℕ) (w : Watch) → after 
 ready_same c h g k (watch.Ecb n) leads part r = (r.0, r.1, subst (λ (m : System). is_complete (m.ecb n).state ≡ true) (sym leads) r.2)
 ready_same c h g k (watch.Element n) leads part r = (r.0, r.1, subst (λ (m : System). is_released (m.element n).state.phase ≡ true) (sym leads) r.2)
 ready_same c h g k (watch.Latch latch id) leads part r =
-    (r.0, subst (λ z. HasMade latch id z) (sym part) r.1, subst (λ m. IsGranted k latch id m ⊎ IsGone k latch id m) (sym leads) r.2)
+    (subst (λ z. HasMade latch id z) (sym part) r.0, subst (λ m. IsGranted k latch id m ⊎ IsGone k latch id m) (sym leads) r.1)
 
 -- so the word of a listed watch's object shows it
 pub ready_state : (c : Setup) (h : List Entry) (k : ℕ) (o : Object) (w : Watch) (x : WordState) → state_at (after c h) o ≡ Some x → watch_of o ≡ Some w → IsReady c h k w

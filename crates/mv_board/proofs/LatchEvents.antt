@@ -1,6 +1,6 @@
 -- What an event on the latch set makes of a caller.
-use Rattle.std.proofs.Common.{◌≡◌, ◌≤◌, ◌<◌, ℕ, ◌+◌, ◌-◌, ◌*◌, true, List, [], ◌∷◌, ◌++◌, length, vec_capacity, refl, sym, ap, ◌∙◌, subst, arith}
-use Rattle.std.proofs.lemmas.List.{append-nil, length-append}
+use Rattle.std.proofs.Common.{◌≡◌, ◌<◌, ℕ, true, List, [], ◌∷◌, ◌++◌, refl, sym, ap, ◌∙◌, subst}
+use Rattle.std.proofs.lemmas.List.{append-nil}
 use Rattle.std.specs.List.{AllByRecursion}
 use Rattle.atomic_table.specs.Table.{Me, rest}
 use Rattle.mv_latch.specs.declared.operation.LatchOp.{LatchOp}
@@ -9,12 +9,11 @@ use Rattle.mv_latch.specs.declared.operation.LatchReply.{LatchReply}
 use Rattle.mv_latch.specs.declared.operation.Wake.{Wake}
 use Rattle.mv_latch.specs.declared.request.Request.{Request}
 use Rattle.mv_latch.specs.LatchSet.{LatchLists, latch_admitted, latch_step, wakes}
-use Rattle.mv_machine.specs.declared.entry.Entry.{Entry}
 use Rattle.mv_machine.specs.declared.entry.Object.TheVariants.{Latches}
 use Rattle.mv_machine.specs.declared.entry.Op.TheVariants as op_on
 use Rattle.mv_machine.specs.declared.entry.Reply.TheVariants as reply_of
 use Rattle.mv_machine.specs.Kept.{allowed}
-use Rattle.mv_machine.specs.Parts.{IsBelow, IsPossible}
+use Rattle.mv_machine.specs.Parts.{IsPossible}
 use Rattle.mv_machine.specs.Setup.{Setup}
 use Rattle.mv_machine.specs.System.{latches_of}
 use Rattle.mv_board.specs.declared.caller.Caller.TheInside.{Inside}
@@ -26,20 +25,11 @@ use Rattle.mv_board.specs.declared.view.Part.{Part}
 use Rattle.mv_board.specs.declared.view.View.{View}
 use Rattle.mv_board.specs.Caller.{face_of, IsSeated}
 use Rattle.mv_board.specs.Faces.{CallerFace, HappenedAt, IsAsListed, last_of}
-use Rattle.mv_board.specs.Steps.{PossibleFor}
+use Rattle.mv_board.specs.Steps.{PossibleFor, entry_of}
 use Rattle.mv_board.specs.Turn.{MeetsLists, latch_entry, named_by, is_settled}
 use Rattle.mv_board.specs.View.{own, first_of, with_own, part_logged, logged, with_turn}
-use Rattle.mv_board.proofs.Logging.{entry}
-
--- a caller with one entry more and the wakes of its event, and one event less left
-pub record IsLoggedWith (c d : Inside) (e : Entry) (ws : List Wake) : Type 0 where
-  pub same : d ≡ record c { left = c.left - 1; log = d.log; wakes = d.wakes; seat = d.seat }
-  pub log : d.log.items ≡ c.log.items ++ e ∷ []
-  pub capacity : vec_capacity d.log ≡ vec_capacity c.log
-  pub wakes : d.wakes.items ≡ ws
-  pub room : vec_capacity d.wakes ≡ vec_capacity c.wakes
-  pub table : d.seat.table_id ≡ c.seat.table_id
-  pub slots : d.seat.me.1 ≡ []
+use Rattle.mv_board.proofs.Logging.{HasAppended, Grew, entry, own_is}
+use Rattle.mv_board.proofs.Logging as logging
 
 -- ---- the lists that were taken
 
@@ -50,7 +40,7 @@ held_again taken back v t l is held = held ∙ ap (λ (m : Me Item View). (m.0, 
 
 -- they admit what the caller's own entries allow
 pub admits_here : (c : Inside) (f : CallerFace) (b : Setup) (op : LatchOp) (l : Lists) → IsSeated c → face_of c ≡ f → f.about ≡ b ∷ [] → MeetsLists c.seat.me.0 l
-    → allowed b f.number f.log Latches (op_on.Latch op) ≡ true → latch_admitted c.number op l.latches ≡ true
+    → allowed b f.number f.log Latches (op_on.Latch op) ≡ true → latch_admitted c.events.caller op l.latches ≡ true
 admits_here c f b op l h is about m may =
     let all = subst (λ (z : List Part × List Setup). AllByRecursion (λ s. (x : LatchOp)
     → allowed s (first_of z.0).caller (first_of z.0).log Latches (op_on.Latch x) ≡ true → latch_admitted (first_of z.0).caller x l.latches ≡ true) z.1)
@@ -79,85 +69,59 @@ last_pushed [] ws = refl
 last_pushed (x ∷ []) ws = refl
 last_pushed (x ∷ y ∷ xs) ws = last_pushed (y ∷ xs) ws
 
-module _ (c d : Inside) (op : LatchOp) (l : Lists) (r : LatchReply) (h : IsSeated c) (left : 0 < c.left) (meets : MeetsLists c.seat.me.0 l)
+-- ---- the event
+
+-- the view behind it
+grew : (v new : View) (k : ℕ) (op : LatchOp) (l : Lists) (r : LatchReply) → v.parts ≡ own v ∷ [] → (own v).caller ≡ k → MeetsLists v l
+    → new ≡ with_turn [] (logged (latch_entry v op (named_by l)) (wakes (own v).caller op l.latches.lists ∷ []) v) → PossibleFor new
+    → r ≡ (latch_step k l.place op l.latches.lists).1
+    → Grew v Latches (op_on.Latch op) l.place (reply_of.Latch r) (wakes k op l.latches.lists ∷ []) new
+grew v new k op l r alone mine meets view may answer =
+    let lists = l.latches.lists in
+    let said : (latch_step (own v).caller l.place op lists).1 ≡ r = ap (λ z. (latch_step z l.place op lists).1) mine ∙ sym answer in record {
+      above = meets.above;
+      more = [];
+      parts = ap (λ (u : View). u.parts) view
+          ∙ (ap (with_own (part_logged (latch_entry v op (named_by l)) (wakes (own v).caller op lists ∷ []))) alone
+          ∙ (λ i. part_logged (entry_of v Latches (op_on.Latch op) l.place (reply_of.Latch (said i))) (wakes (mine i) op lists ∷ [])
+          (record (own v) { sights = sym (append-nil (own v).sights) i }) ∷ []));
+      about = ap (λ (u : View). u.about) view;
+      turn = ap (λ (u : View). u.turn) view;
+      returned = ap (λ (u : View). u.returned) view;
+      ready = ap (λ (u : View). u.ready) view;
+      possible = may;
+    }
+
+module _ (c d : Inside) (op : LatchOp) (l : Lists) (r : LatchReply) (h : IsSeated c) (left : 0 < c.events.left) (meets : MeetsLists c.seat.me.0 l)
     (view : d.seat.me.0 ≡ with_turn [] (logged (latch_entry c.seat.me.0 op (named_by l)) (wakes (own c.seat.me.0).caller op l.latches.lists ∷ []) c.seat.me.0))
-    (may : PossibleFor d.seat.me.0) (answer : r ≡ (latch_step c.number l.place op l.latches.lists).1)
-    (log : IsLoggedWith c d (entry c Latches (op_on.Latch op) l.place (reply_of.Latch r)) (wakes c.number op l.latches.lists)) where
-  e : Entry
-  e = entry c Latches (op_on.Latch op) l.place (reply_of.Latch r)
+    (may : PossibleFor d.seat.me.0) (answer : r ≡ (latch_step c.events.caller l.place op l.latches.lists).1)
+    (appended : HasAppended c d (entry c Latches (op_on.Latch op) l.place (reply_of.Latch r)))
+    (showed : d.events.wakes.items ≡ wakes c.events.caller op l.latches.lists) where
+  shown : List Wake
+  shown = wakes c.events.caller op l.latches.lists
 
-  parts_after : d.seat.me.0.parts ≡ record {
-    caller = c.number;
-    left = c.left - 1;
-    log = c.log.items ++ e ∷ [];
-    told = (own c.seat.me.0).told ++ d.wakes.items ∷ [];
-    sights = (own c.seat.me.0).sights;
-  } ∷ []
-  unfolding e
-  parts_after =
-      ap (λ (u : View). u.parts) view
-      ∙ (ap (λ ps. with_own (part_logged record {
-        caller = (first_of ps).caller;
-        object = Latches;
-        place = l.place;
-        op = op_on.Latch op;
-        reply = reply_of.Latch (latch_step (first_of ps).caller l.place op l.latches.lists).1;
-      } (wakes (first_of ps).caller op l.latches.lists ∷ [])) ps) h.parts
-      ∙ (λ i. record {
-        caller = c.number;
-        left = c.left - 1;
-        log = c.log.items ++ entry c Latches (op_on.Latch op) l.place (reply_of.Latch (sym answer i)) ∷ [];
-        told = (own c.seat.me.0).told ++ sym log.wakes i ∷ [];
-        sights = (own c.seat.me.0).sights;
-      } ∷ []))
+  behind : Grew c.seat.me.0 Latches (op_on.Latch op) l.place (reply_of.Latch r) (shown ∷ []) d.seat.me.0
+  unfolding shown
+  behind = grew c.seat.me.0 d.seat.me.0 c.events.caller op l r (own_is c h) (ap (λ ps. (first_of ps).caller) h.parts) meets view may answer
 
-  number_kept : d.number ≡ c.number
-  number_kept = ap (λ (x : Inside). x.number) log.same
-
-  left_less : d.left ≡ c.left - 1
-  left_less = ap (λ (x : Inside). x.left) log.same
-
-  one_longer : length d.log.items ≡ length c.log.items + 1
-  one_longer = ap length log.log ∙ length-append c.log.items (entry c Latches (op_on.Latch op) l.place (reply_of.Latch r) ∷ [])
-
-  about_kept : d.seat.me.0.about ≡ c.seat.me.0.about
-  about_kept = ap (λ (u : View). u.about) view
+  met_nothing : (own c.seat.me.0).sights ++ behind.more ≡ (own c.seat.me.0).sights
+  unfolding behind grew
+  met_nothing = append-nil (own c.seat.me.0).sights
 
   pub happened : HappenedAt (face_of c) Latches l.place (op_on.Latch op) (reply_of.Latch r) (face_of d)
-  happened = record {
-    same = record { table = log.table; about = about_kept; number = number_kept };
-    above = subst (λ (ps : List Part). IsBelow Latches l.place (first_of ps).log) h.parts meets.above;
-    logged = log.log;
-    left = (let less = left_less in omega arith);
-    room = (let n = one_longer in let cap = log.capacity in let r = h.room in omega arith);
-    shown = ap (λ ps. (first_of ps).told) parts_after;
-    met = ([], ap (λ ps. (first_of ps).sights) parts_after ∙ sym (append-nil (own c.seat.me.0).sights));
-    returned = ap (λ (u : View). u.returned) view;
-    ready = ap (λ (u : View). u.ready) view;
-  }
+  unfolding shown
+  happened = logging.happened c d Latches (op_on.Latch op) l.place (reply_of.Latch r) (shown ∷ []) h left behind appended
+      (logging.told_after c d Latches (op_on.Latch op) l.place (reply_of.Latch r) (shown ∷ []) h left behind appended
+      ∙ ap (λ ws. (own c.seat.me.0).told ++ ws ∷ []) (sym showed))
+      (logging.met_after c d Latches (op_on.Latch op) l.place (reply_of.Latch r) (shown ∷ []) h left behind appended ∙ met_nothing)
 
   pub seated : IsSeated d
-  unfolding e
-  seated = record {
-    empty = log.slots;
-    parts = parts_after ∙ (λ i. record {
-      caller = sym number_kept i;
-      left = sym left_less i;
-      log = sym log.log i;
-      told = sym (ap (λ ps. (first_of ps).told) parts_after) i;
-      sights = sym (ap (λ ps. (first_of ps).sights) parts_after) i;
-    } ∷ []);
-    turn = ap (λ (u : View). u.turn) view;
-    room = (let n = one_longer in let cap = log.capacity in let r = h.room in let less = left_less in omega arith);
-    wakes = subst (λ (z : List Setup × ℕ). AllByRecursion (λ (s : Setup). s.callers * s.quota ≤ z.1) z.0) (λ i. (sym about_kept i, sym log.room i)) h.wakes;
-    shown = sym (ap last_of (ap (λ ps. (first_of ps).told) parts_after) ∙ last_pushed (own c.seat.me.0).told d.wakes.items);
-  }
+  unfolding shown
+  seated = logging.seated c d Latches (op_on.Latch op) l.place (reply_of.Latch r) (shown ∷ []) h left behind appended
+      (showed ∙ sym (last_pushed (own c.seat.me.0).told shown))
 
-  pub possible : (b : Setup) → c.seat.me.0.about ≡ b ∷ [] → IsPossible b d.number d.log.items (own d.seat.me.0).told
-  possible b about =
-      let mine : Part = own d.seat.me.0 in
-      let all = subst (AllByRecursion (λ (s : Setup). IsPossible s mine.caller mine.log mine.told)) (about_kept ∙ about) may in
-      subst (λ (ps : List Part). IsPossible b (first_of ps).caller (first_of ps).log mine.told) seated.parts all.0
+  pub possible : (b : Setup) → c.seat.me.0.about ≡ b ∷ [] → IsPossible b d.events.caller d.events.log.items (own d.seat.me.0).told
+  possible = logging.possible c d Latches (op_on.Latch op) l.place (reply_of.Latch r) (shown ∷ []) h left behind appended
 
   pub as_listed : IsAsListed (face_of c) Latches (op_on.Latch op) (reply_of.Latch r)
   as_listed = listed_in (face_of c) op c.seat.me.0 l r meets refl (answer ∙ ap (λ (ps : List Part). (latch_step (first_of ps).caller l.place op l.latches.lists).1) (sym h.parts))

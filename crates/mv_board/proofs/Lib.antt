@@ -15,6 +15,7 @@ pub mod Looks
 pub mod Logging
 pub mod Boards
 pub mod Fresh
+pub mod WordEvents
 pub mod LatchEvents
 pub mod Peeking
 pub mod Answering

@@ -1,30 +1,34 @@
 -- What a look and an event make of a caller.
 use Rattle.std.proofs.Common.{◌≡◌, ◌≤◌, ◌<◌, ℕ, ◌+◌, ◌-◌, ◌*◌, List, [], ◌∷◌, ◌++◌, length, vec_capacity, sym, ap, ◌∙◌, subst, arith}
-use Rattle.std.proofs.lemmas.List.{append-nil, length-append}
+use Rattle.std.proofs.lemmas.List.{length-append}
 use Rattle.std.specs.List.{AllByRecursion}
+use Rattle.mv_latch.specs.declared.operation.Wake.{Wake}
 use Rattle.mv_machine.specs.declared.entry.Entry.{Entry}
 use Rattle.mv_machine.specs.declared.entry.Object.{Object}
-use Rattle.mv_machine.specs.declared.entry.Object.TheVariants.{Ecb, Element, Volume, Latches}
 use Rattle.mv_machine.specs.declared.entry.Op.{Op}
 use Rattle.mv_machine.specs.declared.entry.Reply.{Reply}
 use Rattle.mv_machine.specs.Parts.{IsBelow, IsPossible}
 use Rattle.mv_machine.specs.Setup.{Setup}
 use Rattle.mv_board.specs.declared.caller.Caller.TheInside.{Inside}
 use Rattle.mv_board.specs.declared.view.Part.{Part}
+use Rattle.mv_board.specs.declared.view.Sight.{Sight}
 use Rattle.mv_board.specs.declared.view.View.{View}
 use Rattle.mv_board.specs.declared.watch.Watch.{Watch}
 use Rattle.mv_board.specs.Caller.{face_of, IsSeated}
-use Rattle.mv_board.specs.Faces.{CallerFace, HappenedAt, Found, Missed, Shows, last_of}
-use Rattle.mv_board.specs.Steps.{Meets, MadeAfterLooks, entry_of}
+use Rattle.mv_board.specs.Faces.{HappenedAt, Found, Missed, Shows, LooksAt, last_of}
+use Rattle.mv_board.specs.Steps.{Meets, PossibleFor, entry_of}
 use Rattle.mv_board.specs.View.{own, first_of, with_own, part_met, part_logged, met, off}
-use Rattle.mv_board.specs.Words.{HasWord}
 
 -- ---- the own part of a caller's view
+
+-- which met more
+abbrev pub seeing : List Sight → Part → Part
+seeing more p = record p { sights = p.sights ++ more }
 
 pub own_is : (c : Inside) → IsSeated c → c.seat.me.0.parts ≡ own c.seat.me.0 ∷ []
 own_is c h = h.parts ∙ ap (λ p. p ∷ []) (sym (ap first_of h.parts))
 
-pub own_left : (c : Inside) → IsSeated c → (own c.seat.me.0).left ≡ c.left
+pub own_left : (c : Inside) → IsSeated c → (own c.seat.me.0).left ≡ c.events.left
 own_left c h = ap (λ ps. (first_of ps).left) h.parts
 
 -- ---- a look
@@ -34,17 +38,17 @@ unfoldable pub found_with : (c d : Inside) (o : Object) (w : ℕ) (ready : List 
     → d.seat.table_id ≡ c.seat.table_id → Meets c.seat.me.0 o w → d.seat.me.0 ≡ record (met o w c.seat.me.0) { ready = ready }
     → Found (face_of c) o w (face_of d)
 found_with c d o w ready h kept table m view = record {
-  same = record { table = table; about = ap (λ (u : View). u.about) view; number = ap (λ (x : Inside). x.number) kept };
+  same = record { table = table; about = ap (λ (u : View). u.about) view; number = ap (λ (x : Inside). x.events.caller) kept };
   place = m.place;
   state = m.state;
   unpacks = m.unpacks;
   above = subst (λ (ps : List Part). IsBelow o m.place (first_of ps).log) h.parts m.above;
   met = ap (λ (u : View). (own u).sights) view ∙ ap (λ ps. (first_of (with_own (part_met o w) ps)).sights) h.parts;
-  log = ap (λ (x : Inside). x.log.items) kept;
-  left = ap (λ (x : Inside). x.left) kept;
-  room = ap (λ (x : Inside). vec_capacity x.log - length x.log.items) kept;
+  log = ap (λ (x : Inside). x.events.log.items) kept;
+  left = ap (λ (x : Inside). x.events.left) kept;
+  room = ap (λ (x : Inside). vec_capacity x.events.log - length x.events.log.items) kept;
   told = ap (λ (u : View). (own u).told) view ∙ ap (λ ps. (first_of (with_own (part_met o w) ps)).told) h.parts;
-  wakes = ap (λ (x : Inside). x.wakes.items) kept;
+  wakes = ap (λ (x : Inside). x.events.wakes.items) kept;
   returned = ap (λ (u : View). u.returned) view;
 }
 
@@ -62,88 +66,96 @@ missed c d o expected w h kept table m view other =
 
 -- ---- an event
 
--- a caller with one entry more, and one event less left
-pub record IsLogged (c d : Inside) (e : Entry) : Type 0 where
-  pub same : d ≡ record c { left = c.left - 1; log = d.log; seat = d.seat }
-  pub log : d.log.items ≡ c.log.items ++ e ∷ []
-  pub capacity : vec_capacity d.log ≡ vec_capacity c.log
-  pub table : d.seat.table_id ≡ c.seat.table_id
-  pub slots : d.seat.me.1 ≡ c.seat.me.1
-
+-- the entry of a caller's event
 abbrev pub entry : Inside → Object → Op → ℕ → Reply → Entry
-entry c o op place reply = record { caller = c.number; object = o; place = place; op = op; reply = reply }
+entry c o op place reply = record { caller = c.events.caller; object = o; place = place; op = op; reply = reply }
 
--- an event on a word shows nothing
-shows : (k : Setup) (o : Object) (c d : CallerFace) → HasWord k o → d.told ≡ c.told → d.wakes ≡ c.wakes → Shows o c d
-shows k (Ecb n) c d has told wakes = (told, wakes)
-shows k (Element n) c d has told wakes = (told, wakes)
-shows k (Volume n) c d has told wakes = (told, wakes)
-shows k Latches c d has told wakes = absurd has
+-- a caller with one event more, and one less that is left
+pub record HasAppended (c d : Inside) (e : Entry) : Type 0 where
+  pub caller : d.events.caller ≡ c.events.caller
+  pub left : d.events.left ≡ c.events.left - 1
+  pub log : d.events.log.items ≡ c.events.log.items ++ e ∷ []
+  pub capacity : vec_capacity d.events.log ≡ vec_capacity c.events.log
+  pub room : vec_capacity d.events.wakes ≡ vec_capacity c.events.wakes
+  pub table : d.seat.table_id ≡ c.seat.table_id
+  pub slots : d.seat.me.1 ≡ []
 
-module _ (c d : Inside) (o : Object) (op : Op) (place : ℕ) (reply : Reply)
-    (h : IsSeated c) (left : 0 < c.left) (made : MadeAfterLooks c.seat.me.0 o op place reply d.seat.me.0)
-    (log : IsLogged c d (entry c o op place reply)) where
-  -- the parts of the view after looks and the event
+-- A view behind an event of its own caller: what was shown after it, and what was met on the way.
+pub record Grew (v : View) (o : Object) (op : Op) (place : ℕ) (reply : Reply) (shown : List (List Wake)) (new : View) : Type 0 where
+  pub above : IsBelow o place (own v).log
+  pub more : List Sight
+  pub parts : new.parts ≡ part_logged (entry_of v o op place reply) shown (seeing more (own v)) ∷ []
+  pub about : new.about ≡ v.about
+  pub turn : new.turn ≡ []
+  pub returned : new.returned ≡ v.returned
+  pub ready : new.ready ≡ off o op v.ready
+  pub possible : PossibleFor new
+
+module _ (c d : Inside) (o : Object) (op : Op) (place : ℕ) (reply : Reply) (shown : List (List Wake)) (h : IsSeated c) (left : 0 < c.events.left)
+    (grew : Grew c.seat.me.0 o op place reply shown d.seat.me.0) (more : HasAppended c d (entry c o op place reply)) where
+  -- the parts of the view behind it
   parts_after : d.seat.me.0.parts ≡ record {
-    caller = c.number;
-    left = c.left - 1;
-    log = c.log.items ++ entry c o op place reply ∷ [];
-    told = (own c.seat.me.0).told ++ [];
-    sights = (own c.seat.me.0).sights ++ made.looks.more;
+    caller = c.events.caller;
+    left = c.events.left - 1;
+    log = c.events.log.items ++ entry c o op place reply ∷ [];
+    told = (own c.seat.me.0).told ++ shown;
+    sights = (own c.seat.me.0).sights ++ grew.more;
   } ∷ []
   parts_after =
-      ap (λ (u : View). u.parts) made.view
-      ∙ (ap (λ (u : View). with_own (part_logged (entry_of c.seat.me.0 o op place reply) []) u.parts) made.looks.view
-      ∙ ap (λ ps. with_own (part_logged record { caller = (first_of ps).caller; object = o; place = place; op = op; reply = reply } [])
-      (with_own (λ p. record p { sights = p.sights ++ made.looks.more }) ps)) h.parts)
+      grew.parts
+      ∙ ap (λ (p : Part). part_logged record { caller = p.caller; object = o; place = place; op = op; reply = reply } shown (seeing grew.more p) ∷ [])
+      (ap first_of h.parts)
 
-  number_kept : d.number ≡ c.number
-  number_kept = ap (λ (x : Inside). x.number) log.same
+  pub told_after : (own d.seat.me.0).told ≡ (own c.seat.me.0).told ++ shown
+  told_after = ap (λ ps. (first_of ps).told) parts_after
 
-  left_less : d.left ≡ c.left - 1
-  left_less = ap (λ (x : Inside). x.left) log.same
+  one_longer : length d.events.log.items ≡ length c.events.log.items + 1
+  one_longer = ap length more.log ∙ length-append c.events.log.items (entry c o op place reply ∷ [])
 
-  one_longer : length d.log.items ≡ length c.log.items + 1
-  one_longer = ap length log.log ∙ length-append c.log.items (entry c o op place reply ∷ [])
+  pub met_after : (own d.seat.me.0).sights ≡ (own c.seat.me.0).sights ++ grew.more
+  met_after = ap (λ ps. (first_of ps).sights) parts_after
 
-  about_kept : d.seat.me.0.about ≡ c.seat.me.0.about
-  about_kept = ap (λ (u : View). u.about) made.view ∙ ap (λ (u : View). u.about) made.looks.view
-
-  told_kept : (own d.seat.me.0).told ≡ (own c.seat.me.0).told
-  told_kept = ap (λ ps. (first_of ps).told) parts_after ∙ append-nil (own c.seat.me.0).told
-
-  pub happened : (k : Setup) → HasWord k o → HappenedAt (face_of c) o place op reply (face_of d)
-  happened k has = record {
-    same = record { table = log.table; about = about_kept; number = number_kept };
-    above = subst (λ (ps : List Part). IsBelow o place (first_of ps).log) h.parts made.above;
-    logged = log.log;
-    left = (let less = left_less in omega arith);
-    room = (let n = one_longer in let cap = log.capacity in let r = h.room in omega arith);
-    shown = shows k o (face_of c) (face_of d) has told_kept (ap (λ (x : Inside). x.wakes.items) log.same);
-    met = (made.looks.more, ap (λ ps. (first_of ps).sights) parts_after);
-    returned = ap (λ (u : View). u.returned) made.view ∙ ap (λ (u : View). u.returned) made.looks.view;
-    ready = ap (λ (u : View). u.ready) made.view ∙ ap (λ (u : View). off o op u.ready) made.looks.view;
+  pub happened : Shows o (face_of c) (face_of d) → LooksAt o (face_of c) (face_of d) → HappenedAt (face_of c) o place op reply (face_of d)
+  happened shows looks = record {
+    same = record { table = more.table; about = grew.about; number = more.caller };
+    above = subst (λ (ps : List Part). IsBelow o place (first_of ps).log) h.parts grew.above;
+    logged = more.log;
+    left = (let less = more.left in omega arith);
+    room = (let n = one_longer in let cap = more.capacity in let r = h.room in omega arith);
+    shown = shows;
+    met = looks;
+    returned = grew.returned;
+    ready = grew.ready;
   }
 
-  pub seated : IsSeated d
-  seated = record {
-    empty = log.slots ∙ h.empty;
-    parts = parts_after ∙ (λ i. record {
-      caller = sym number_kept i;
-      left = sym left_less i;
-      log = sym log.log i;
-      told = sym (ap (λ ps. (first_of ps).told) parts_after) i;
-      sights = sym (ap (λ ps. (first_of ps).sights) parts_after) i;
-    } ∷ []);
-    turn = ap (λ (u : View). u.turn) made.view ∙ (ap (λ (u : View). u.turn) made.looks.view ∙ h.turn);
-    room = (let n = one_longer in let cap = log.capacity in let r = h.room in let less = left_less in omega arith);
-    wakes = subst (λ (z : List Setup × ℕ). AllByRecursion (λ (s : Setup). s.callers * s.quota ≤ z.1) z.0)
-        (λ i. (sym about_kept i, vec_capacity (sym (ap (λ (x : Inside). x.wakes) log.same) i))) h.wakes;
-    shown = ap (λ (x : Inside). x.wakes.items) log.same ∙ (h.shown ∙ ap last_of (sym told_kept));
+  -- which say of the caller what its events say
+  parts_again : d.seat.me.0.parts ≡ record {
+    caller = d.events.caller;
+    left = d.events.left;
+    log = d.events.log.items;
+    told = (own d.seat.me.0).told;
+    sights = (own d.seat.me.0).sights;
+  } ∷ []
+  parts_again = parts_after ∙ (λ i. record {
+    caller = sym more.caller i;
+    left = sym more.left i;
+    log = sym more.log i;
+    told = sym told_after i;
+    sights = sym met_after i;
+  } ∷ [])
+
+  pub seated : d.events.wakes.items ≡ last_of ((own c.seat.me.0).told ++ shown) → IsSeated d
+  seated wakes = record {
+    empty = more.slots;
+    parts = parts_again;
+    turn = grew.turn;
+    room = (let n = one_longer in let cap = more.capacity in let r = h.room in let less = more.left in omega arith);
+    wakes = subst (λ (z : List Setup × ℕ). AllByRecursion (λ (s : Setup). s.callers * s.quota ≤ z.1) z.0) (λ i. (sym grew.about i, sym more.room i)) h.wakes;
+    shown = wakes ∙ ap last_of (sym told_after);
   }
 
-  pub possible : (b : Setup) → c.seat.me.0.about ≡ b ∷ [] → IsPossible b d.number d.log.items (own d.seat.me.0).told
+  pub possible : (b : Setup) → c.seat.me.0.about ≡ b ∷ [] → IsPossible b d.events.caller d.events.log.items (own d.seat.me.0).told
   possible b about =
       let mine : Part = own d.seat.me.0 in
-      let all = subst (AllByRecursion (λ (s : Setup). IsPossible s mine.caller mine.log mine.told)) (about_kept ∙ about) made.possible in
-      subst (λ (ps : List Part). IsPossible b (first_of ps).caller (first_of ps).log mine.told) seated.parts all.0
+      let all = subst (AllByRecursion (λ (s : Setup). IsPossible s mine.caller mine.log mine.told)) (grew.about ∙ about) grew.possible in
+      subst (λ (ps : List Part). IsPossible b (first_of ps).caller (first_of ps).log mine.told) parts_again all.0

@@ -49,7 +49,7 @@ peeked c d o x w is h kept table m watches view answer =
 -- ---- the lists of the latch set
 
 module _ (c d : Inside) (latch id : ℕ) (l : Lists) (is : Bool) (h : IsSeated c) (kept : d ≡ record c { seat = d.seat }) (table : d.seat.table_id ≡ c.seat.table_id)
-    (slots : d.seat.me.1 ≡ []) (answer : is ≡ is_settled (confirm_reply c.number id (list_of l.latches.lists latch)))
+    (slots : d.seat.me.1 ≡ []) (answer : is ≡ is_settled (confirm_reply c.events.caller id (list_of l.latches.lists latch)))
     (view : d.seat.me.0 ≡ with_turn [] (with_returned l.latches.lists (listed (is_settled (confirm_reply (own c.seat.me.0).caller id (list_of l.latches.lists latch)))
     (Some (watch.Latch latch id)) c.seat.me.0))) where
   after : d.seat.me.0 ≡ record c.seat.me.0 {
@@ -69,12 +69,12 @@ module _ (c d : Inside) (latch id : ℕ) (l : Lists) (is : Bool) (h : IsSeated c
     answer = answer;
     returned = ap (λ (u : View). u.returned) after;
     ready = ap (λ (u : View). u.ready) after;
-    same = record { table = table; about = ap (λ (u : View). u.about) after; number = ap (λ (x : Inside). x.number) kept };
-    log = ap (λ (x : Inside). x.log.items) kept;
-    left = ap (λ (x : Inside). x.left) kept;
-    room = ap (λ (x : Inside). vec_capacity x.log - length x.log.items) kept;
+    same = record { table = table; about = ap (λ (u : View). u.about) after; number = ap (λ (x : Inside). x.events.caller) kept };
+    log = ap (λ (x : Inside). x.events.log.items) kept;
+    left = ap (λ (x : Inside). x.events.left) kept;
+    room = ap (λ (x : Inside). vec_capacity x.events.log - length x.events.log.items) kept;
     told = ap (λ (u : View). (own u).told) after;
-    wakes = ap (λ (x : Inside). x.wakes.items) kept;
+    wakes = ap (λ (x : Inside). x.events.wakes.items) kept;
     met = ap (λ (u : View). (own u).sights) after;
   }
 
@@ -83,15 +83,15 @@ module _ (c d : Inside) (latch id : ℕ) (l : Lists) (is : Bool) (h : IsSeated c
       let still : IsSeated (record c { seat = d.seat }) = record {
         empty = slots;
         parts = ap (λ (u : View). u.parts) after ∙ (h.parts ∙ (λ i. record {
-          caller = c.number;
-          left = c.left;
-          log = c.log.items;
+          caller = c.events.caller;
+          left = c.events.left;
+          log = c.events.log.items;
           told = (own (sym after i)).told;
           sights = (own (sym after i)).sights;
         } ∷ []));
         turn = ap (λ (u : View). u.turn) after;
         room = h.room;
-        wakes = subst (AllByRecursion (λ (s : Setup). s.callers * s.quota ≤ vec_capacity c.wakes)) (sym (ap (λ (u : View). u.about) after)) h.wakes;
+        wakes = subst (AllByRecursion (λ (s : Setup). s.callers * s.quota ≤ vec_capacity c.events.wakes)) (sym (ap (λ (u : View). u.about) after)) h.wakes;
         shown = h.shown ∙ ap last_of (sym (ap (λ (u : View). (own u).told) after));
       } in
       subst IsSeated (sym kept) still

@@ -1,7 +1,8 @@
 -- A caller's own latch requests: their numbers are earlier than the place, one that no longer waits never waits again, and what
 -- the lists say of one.
-use Rattle.std.proofs.Common.{◌≡◌, ◌⊎◌, ℕ, ◌+◌, ◌<◌, ◌==◌, Bool, true, false, cond, List, [], ◌∷◌, ◌++◌, inl, inr, ⊎_elim, refl, sym, ◌∙◌, subst, arith}
+use Rattle.std.proofs.Common.{◌≡◌, ◌⊎◌, ℕ, ◌+◌, ◌<◌, ◌==◌, Bool, true, false, cond, List, [], ◌∷◌, ◌++◌, length, inl, inr, ⊎_elim, refl, sym, ◌∙◌, subst, arith}
 use Rattle.std.proofs.lemmas.Bool.{false≢true, true≢false, eqb-true}
+use Rattle.std.proofs.lemmas.List.{length-replicate}
 use Rattle.std.specs.List.{list_any}
 use mathlib.Core.Logic.{dite}
 use native.Mathlib.Decide.{ℕ_discrete}
@@ -23,11 +24,13 @@ use Rattle.mv_machine.specs.Legal.{IsNext, LegalFrom, Legal, after, after_from, 
 use Rattle.mv_machine.specs.Owned.{IsGranted, IsGone}
 use Rattle.mv_machine.specs.Setup.{Setup}
 use Rattle.mv_machine.specs.System.{System, opening, place_of, moved}
+use Rattle.mv_machine.proofs.Allowed.{lists_next}
 use Rattle.mv_machine.proofs.EntryRuns.{entry_of}
 use Rattle.mv_machine.proofs.GrantRuns.{gone_stays, granted_or_gone}
 use Rattle.mv_machine.proofs.Histories.{place-after, place-moved}
 use Rattle.mv_machine.proofs.Longer.{front_is_legal}
 use Rattle.mv_machine.proofs.Places.{of_mine, of_other}
+use Rattle.mv_machine.proofs.StandingRuns.{names_of}
 use Rattle.mv_board.specs.Rule.{makes, HasMade}
 use Rattle.mv_board.specs.Turn.{is_settled}
 
@@ -48,22 +51,22 @@ obtained r qs i e = go (grants qs r) (queues r.form) e
     go false false (inl e) = absurd (cc e)
     go false false (inr e) = absurd (cc e)
 
-same_request : (l latch i id : ℕ) → cond (l == latch) (i == id) false ≡ true → i ≡ id
-same_request l latch i id e = go (l == latch) e
+same_request : (l latch i id : ℕ) → cond (l == latch) (i == id) false ≡ true → (l ≡ latch) × (i ≡ id)
+same_request l latch i id e = go (l == latch) refl e
   where
-    go : (b : Bool) → cond b (i == id) false ≡ true → i ≡ id
-    go true e = eqb-true i id e
-    go false e = absurd (false≢true e)
+    go : (b : Bool) → (l == latch) ≡ b → cond b (i == id) false ≡ true → (l ≡ latch) × (i ≡ id)
+    go true is e = (eqb-true l latch is, eqb-true i id e)
+    go false is e = absurd (false≢true e)
 
 makes_on : (c : Setup) (s : System) (k : ℕ) (o : Object) (p : ℕ) (op : Op) (r : Reply) (latch id : ℕ) → IsNext c s (entry_of k o p op r)
     → makes latch id op r ≡ true
     → (o ≡ Latches) × (s.latches.place ≡ id)
 makes_on c s k Latches p (op_on.Latch (Obtain l requestor mode form)) (reply_of.Latch (Granted i)) latch id n m =
     let r : Request = record { id = s.latches.place; caller = k; requestor = requestor; mode = mode; form = form } in
-    (refl, obtained r (list_of s.latches.state l) i (inl (cc (n.reply))) ∙ same_request l latch i id m)
+    (refl, obtained r (list_of s.latches.state l) i (inl (cc (n.reply))) ∙ (same_request l latch i id m).1)
 makes_on c s k Latches p (op_on.Latch (Obtain l requestor mode form)) (reply_of.Latch (Queued i)) latch id n m =
     let r : Request = record { id = s.latches.place; caller = k; requestor = requestor; mode = mode; form = form } in
-    (refl, obtained r (list_of s.latches.state l) i (inr (cc (n.reply))) ∙ same_request l latch i id m)
+    (refl, obtained r (list_of s.latches.state l) i (inr (cc (n.reply))) ∙ (same_request l latch i id m).1)
 makes_on c s k o p (op_on.Latch (Obtain l requestor mode form)) (reply_of.Latch (Granted i)) latch id n m = absurd (false≢true n.admits)
 makes_on c s k o p (op_on.Latch (Obtain l requestor mode form)) (reply_of.Latch (Queued i)) latch id n m = absurd (false≢true n.admits)
 makes_on c s k o p op r latch id n m = absurd (false≢true m)
@@ -86,6 +89,35 @@ made_from c s (e ∷ es) k latch id l m = dite (ℕ_discrete e.caller k)
 
 pub made_earlier : (c : Setup) (h : List Entry) (k latch id : ℕ) → Legal c h → HasMade latch id (of k h) → id < place_of (after c h) Latches
 made_earlier c h k latch id l m = made_from c (opening c) h k latch id l m
+
+-- ---- its latch exists
+
+names_on : (c : Setup) (s : System) (k : ℕ) (o : Object) (p : ℕ) (op : Op) (r : Reply) (latch id : ℕ) → IsNext c s (entry_of k o p op r)
+    → makes latch id op r ≡ true → latch < length s.latches.state
+names_on c s k Latches p (op_on.Latch (Obtain l requestor mode form)) (reply_of.Latch (Granted i)) latch id n m =
+    subst (λ z. z < length s.latches.state) (same_request l latch i id m).0 (names_of c s k (Obtain l requestor mode form) n.admits)
+names_on c s k Latches p (op_on.Latch (Obtain l requestor mode form)) (reply_of.Latch (Queued i)) latch id n m =
+    subst (λ z. z < length s.latches.state) (same_request l latch i id m).0 (names_of c s k (Obtain l requestor mode form) n.admits)
+names_on c s k o p (op_on.Latch (Obtain l requestor mode form)) (reply_of.Latch (Granted i)) latch id n m = absurd (false≢true n.admits)
+names_on c s k o p (op_on.Latch (Obtain l requestor mode form)) (reply_of.Latch (Queued i)) latch id n m = absurd (false≢true n.admits)
+names_on c s k o p op r latch id n m = absurd (false≢true m)
+
+latch_from : (c : Setup) (s : System) (es : List Entry) (k latch id : ℕ) → length s.latches.state ≡ c.latches → LegalFrom c s es
+    → HasMade latch id (of k es) → latch < c.latches
+latch_from c s [] k latch id count l m = absurd m
+latch_from c s (e ∷ es) k latch id count l m =
+    let later : HasMade latch id (of k es) → latch < c.latches =
+    latch_from c (next s e) es k latch id (lists_next c s e.caller e.object e.place e.op e.reply l.0 count) l.1 in
+    dite (ℕ_discrete e.caller k)
+    (λ mine. ⊎_elim
+    (λ (here : makes latch id e.op e.reply ≡ true).
+    subst (λ n. latch < n) count (names_on c s e.caller e.object e.place e.op e.reply latch id l.0 here))
+    later
+    (subst (HasMade latch id) (of_mine k e es mine) m))
+    (λ other. later (subst (HasMade latch id) (of_other k e es other) m))
+
+pub latch_exists : (c : Setup) (h : List Entry) (k latch id : ℕ) → Legal c h → HasMade latch id (of k h) → latch < c.latches
+latch_exists c h k latch id l m = latch_from c (opening c) h k latch id (length-replicate c.latches []) l m
 
 -- ---- one that no longer waits
 

@@ -1,6 +1,7 @@
 -- A history that stands: the merge of the logs is another, and one view may be put for another.
-use Rattle.std.proofs.Common.{◌≡◌, ℕ, suc, ◌+◌, ◌<◌, ◌≤◌, ◌≢◌, ◌==◌, ⊎_elim, List, [], ◌∷◌, length, set, get_or, Some, option_map, sym, refl, ap, ◌∙◌, subst, arith}
-use Rattle.std.specs.List.{AllByRecursion}
+use Rattle.std.proofs.Common.{◌≡◌, ℕ, suc, ◌+◌, ◌<◌, ◌≤◌, ◌≢◌, ◌==◌, List, [], ◌∷◌, length, set, get_or, Some, option_map, sym, refl, ap, ◌∙◌, subst, arith}
+use Rattle.std.proofs.lemmas.List.Elements.{All-contains, All-from_recursion}
+use Rattle.std.specs.List.{AllByRecursion, Contains}
 use mathlib.Core.Logic.{dite}
 use mathlib.Core.Option.{Option as Maybe, some}
 use native.Mathlib.Decide.{dec_lt}
@@ -30,7 +31,7 @@ use Rattle.mv_board.specs.declared.watch.Watch.TheVariants as watch
 use Rattle.mv_board.specs.Parked.{parked}
 use Rattle.mv_board.specs.Rule.{holders_in, holders, tally, made, IsPart, Knows, Logs, IsNamed, Turns, IsReady, ReadyFor, AboutFor, Stands, Ruled}
 use Rattle.mv_board.specs.Steps.{Meets, PossibleFor}
-use Rattle.mv_board.specs.View.{first_of, IsListed}
+use Rattle.mv_board.specs.View.{first_of}
 use Rattle.mv_board.specs.Words.{HasWord, word_number, turn_word}
 use Rattle.mv_board.proofs.Events.{room, ready_same, ready_state}
 use Rattle.mv_board.proofs.Machine.{state_there, fitting, place_within}
@@ -163,13 +164,9 @@ module _ (c : Setup) where
     above o = subst (IsBelow o (place_of (after c h) o)) (sym mine.0.logged)
         (all_filter (λ e. e.object ≡ o → e.place < place_of (after c h) o) (λ e. e.caller == p.caller) h (below_after c h o r.legal))
 
-    listed : (ws : List Watch) (w : Watch) → AllByRecursion (IsReady c h p.caller) ws → IsListed w ws → IsReady c h p.caller w
-    listed [] w a there = absurd there
-    listed (x ∷ xs) w a there = ⊎_elim (λ (e : x ≡ w). subst (IsReady c h p.caller) e a.0) (λ (t : IsListed w xs). listed xs w a.1 t) there
-
     -- what is listed is ready
-    pub is_ready_here : (w : Watch) → IsListed w v.ready → IsReady c h p.caller w
-    is_ready_here w there = listed v.ready w mine_ready there
+    pub is_ready_here : (w : Watch) → Contains v.ready w → IsReady c h p.caller w
+    is_ready_here w there = All-contains (IsReady c h p.caller) v.ready w (All-from_recursion (IsReady c h p.caller) v.ready mine_ready) there
 
     pub meets : (o : Object) → HasWord c o → Meets v o (get_or s.words (word_number o) 0)
     meets o has = let x = state_there c (after c h) o has in record {
@@ -198,4 +195,4 @@ module _ (c : Setup) where
       let a : w.about ≡ c ∷ [] = mine_about s g r id w q more at is in
       let b : IsPart c g q = (mine s g r id w q more at is).0 in
       subst (λ (z : List Setup × Part). AllByRecursion (λ d. IsPossible d z.1.caller z.1.log z.1.told) z.0) (λ i. (sym a i, ap first_of (sym is) i))
-      (record { history = g; legal = r.legal; logged = sym b.logged; told = sym b.shown }, tt)
+      (record { history = g; legal = r.legal; budgets = keeps_budgets c s.views g r.logs; logged = sym b.logged; told = sym b.shown }, tt)

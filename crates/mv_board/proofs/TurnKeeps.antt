@@ -46,7 +46,7 @@ use Rattle.mv_board.specs.Words.{HasWord, word_number, turn_word, object_of}
 use Rattle.mv_board.proofs.Events.{state_ready}
 use Rattle.mv_board.proofs.Machine.{object_again, state_there, place_within}
 use Rattle.mv_board.proofs.Moves.{find}
-use Rattle.mv_board.proofs.Requests.{says_settled, settled_as_said}
+use Rattle.mv_board.proofs.Requests.{latch_exists, says_settled, settled_as_said}
 use Rattle.mv_board.proofs.Standing.{Table, remerge, mine, mine_ready, mine_about, has_room, stands_for, above, is_ready_here, meets, possible}
 use Rattle.mv_board.proofs.Turns.{turn_is, named_here, take, give, give_back}
 use Rattle.mv_board.proofs.Views.{all_append, put_there}
@@ -100,11 +100,15 @@ module _ (c : Setup) (slots id : ℕ) (me : Me Item View) (p : Part) (more : Lis
               → latch_admitted z.1.caller op l.latches ≡ true) z.0)
               (λ i. (sym about i, sym first i))
               ((λ op may. subst (λ z. latch_admitted p.caller op z ≡ true) (sym lists.1) (and_parts _ _ (admits op may)).1), tt);
+          made = λ latch n made.
+              let whole : HasMade latch n (of p.caller h) =
+              subst (HasMade latch n) (ap (λ (q : Part). q.log) first ∙ (mine c s h r id me.0 p more at is).0.logged) made in
+              subst (λ z. latch < z) (sym (ap length here ∙ lists_stay c h r.legal)) (latch_exists c h p.caller latch n r.legal whole);
           ready = λ latch n there.
               let known : IsReady c h p.caller (watch.Latch latch n) = is_ready_here c s h r id me.0 p more at is (watch.Latch latch n) there in
               subst (λ (z : Part × List (List Request)). is_settled (confirm_reply z.0.caller n (list_of z.1 latch)) ≡ true)
               (λ i. (sym first i, sym here i))
-              (says_settled p.caller n (list_of (after c h).latches.state latch) known.2);
+              (says_settled p.caller n (list_of (after c h).latches.state latch) known.1);
         }
 
   pub takes : Allows (Ruled c) slots id me turn_word (λ n. either (n == 0) 1 n) (Took (step slots turn_word 0 1 none) me)
@@ -170,10 +174,10 @@ module _ (c : Setup) (slots id : ℕ) (me : Me Item View) (p : Part) (more : Lis
 
   pub returns : (latch request : ℕ) (t : Named) (l : Lists) (cs : List (ℕ × Item)) → me.0.turn ≡ t ∷ [] → me.1 ≡ (0, Held l) ∷ cs
       → 0 < slots
-      → latch < c.latches → HasMade latch request p.log → l.place ≡ t.place → l.latches ≡ latches_of c t.lists
+      → HasMade latch request p.log → l.place ≡ t.place → l.latches ≡ latches_of c t.lists
       → Allows (Ruled c) slots id me turn_word (λ n. either (n == 1) 0 n)
-      (Returned (step slots turn_word 1 0 (some (Sought (watch.Latch latch request)))) me)
-  returns latch request t l cs turn held slot exists made place lists s r homes at _ =
+      (Returned (step slots turn_word 1 0 (some (Sought latch request))) me)
+  returns latch request t l cs turn held slot made place lists s r homes at _ =
       let h : List Entry = history_of c s.views in
       let x : ℕ = get_or s.words turn_word 0 in
       let hit : x ≡ 1 = turn_is c s h r id me.0 at t turn in
@@ -187,7 +191,6 @@ module _ (c : Setup) (slots id : ℕ) (me : Me Item View) (p : Part) (more : Lis
       let ready : AllByRecursion (IsReady c h p.caller) w.ready =
       listed_ready (IsReady c h p.caller) seen sought me.0
       (λ y here settled. let it : watch.Latch latch request ≡ y = cc here in subst (IsReady c h p.caller) it (
-        exists,
         made_it,
         settled_as_said p.caller request (list_of (after c h).latches.state latch)
             (subst (λ (z : Part × List (List Request)). is_settled (confirm_reply z.0.caller request (list_of z.1 latch)) ≡ true)

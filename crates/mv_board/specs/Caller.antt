@@ -11,12 +11,12 @@ abbrev pub face_of : Inside → CallerFace
 face_of c = record {
   table = c.seat.table_id;
   about = c.seat.me.0.about;
-  number = c.number;
-  left = c.left;
-  room = vec_capacity c.log - length c.log.items;
-  log = c.log.items;
+  number = c.events.caller;
+  left = c.events.left;
+  room = vec_capacity c.events.log - length c.events.log.items;
+  log = c.events.log.items;
   told = (own c.seat.me.0).told;
-  wakes = c.wakes.items;
+  wakes = c.events.wakes.items;
   met = (own c.seat.me.0).sights;
   returned = c.seat.me.0.returned;
   ready = c.seat.me.0.ready;
@@ -25,8 +25,8 @@ face_of c = record {
 -- the seat holds nothing, and knows the caller alone, with its log. There is room for all its events, and for all wakes
 pub record IsSeated (c : Inside) : Type 0 where
   pub empty : c.seat.me.1 ≡ []
-  pub parts : c.seat.me.0.parts ≡ record { caller = c.number; left = c.left; log = c.log.items; told = (own c.seat.me.0).told; sights = (own c.seat.me.0).sights } ∷ []
+  pub parts : c.seat.me.0.parts ≡ record { caller = c.events.caller; left = c.events.left; log = c.events.log.items; told = (own c.seat.me.0).told; sights = (own c.seat.me.0).sights } ∷ []
   pub turn : c.seat.me.0.turn ≡ []
-  pub room : length c.log.items + c.left ≤ vec_capacity c.log
-  pub wakes : AllByRecursion (λ (s : Setup). s.callers * s.quota ≤ vec_capacity c.wakes) c.seat.me.0.about
-  pub shown : c.wakes.items ≡ last_of (own c.seat.me.0).told
+  pub room : length c.events.log.items + c.events.left ≤ vec_capacity c.events.log
+  pub wakes : AllByRecursion (λ (s : Setup). s.callers * s.quota ≤ vec_capacity c.events.wakes) c.seat.me.0.about
+  pub shown : c.events.wakes.items ≡ last_of (own c.seat.me.0).told

@@ -1,6 +1,6 @@
 -- What contracts see of a board and of a caller, and what a call makes of a caller.
 use Rattle.std.specs.Prelude.{◌≡◌, ◌≢◌, ℕ, suc, ◌+◌, ◌<◌, Bool, true, false, List, [], ◌∷◌, ◌++◌, length, slice_index, Some, if◌then◌else◌}
-use Rattle.std.specs.List.{AllByRecursion}
+use Rattle.std.specs.List.{AllByRecursion, Contains}
 use Rattle.atomic_table.specs.Seated.{TableId}
 use Rattle.mv_ecb.specs.declared.operation.EcbOp.TheVariants as ecb_op
 use Rattle.mv_ecb.specs.declared.operation.EcbReply.TheVariants as ecb_reply
@@ -30,9 +30,9 @@ use Rattle.mv_board.specs.declared.watch.Watch.{Watch}
 use Rattle.mv_board.specs.declared.watch.Watch.TheVariants as watch
 use Rattle.mv_board.specs.Parked.{parked}
 use Rattle.mv_board.specs.Rule.{HasMade}
-use Rattle.mv_board.specs.Steps.{is_ready}
+use Rattle.mv_board.specs.Steps.{AreAt, is_ready}
 use Rattle.mv_board.specs.Turn.{is_settled}
-use Rattle.mv_board.specs.View.{off, IsListed}
+use Rattle.mv_board.specs.View.{off}
 
 pub record BoardFace : Type 0 where
   pub table : TableId
@@ -87,7 +87,12 @@ abbrev pub Shows : Object → CallerFace → CallerFace → Type 0
 Shows Latches c d = d.told ≡ c.told ++ d.wakes ∷ []
 Shows o c d = (d.told ≡ c.told) × (d.wakes ≡ c.wakes)
 
--- One event of the caller, at this place, which is above those that it had at the object. What it met before stays.
+-- what an event meets on its way: words of its own object alone, and on the latch set none. What was met before stays
+abbrev pub LooksAt : Object → CallerFace → CallerFace → Type 0
+LooksAt Latches c d = d.met ≡ c.met
+LooksAt o c d = (more : List Sight) × (d.met ≡ c.met ++ more) × AreAt o (length c.log) more
+
+-- One event of the caller, at this place, which is above those that it had at the object.
 pub record HappenedAt (c : CallerFace) (o : Object) (place : ℕ) (op : Op) (reply : Reply) (d : CallerFace) : Type 0 where
   pub same : IsSame c d
   pub above : IsBelow o place c.log
@@ -95,7 +100,7 @@ pub record HappenedAt (c : CallerFace) (o : Object) (place : ℕ) (op : Op) (rep
   pub left : d.left + 1 ≡ c.left
   pub room : d.room + 1 ≡ c.room
   pub shown : Shows o c d
-  pub met : (more : List Sight) × (d.met ≡ c.met ++ more)
+  pub met : LooksAt o c d
   pub returned : d.returned ≡ c.returned
   pub ready : d.ready ≡ off o op c.ready
 
@@ -117,13 +122,14 @@ pub record Found (c : CallerFace) (o : Object) (w : ℕ) (d : CallerFace) : Type
   pub wakes : d.wakes ≡ c.wakes
   pub returned : d.returned ≡ c.returned
 
--- an exchange that was made: the entry has the place that the expected word has, and the reply that its state gives
+-- an exchange that was made, by one step: the entry has the place that the expected word has, and the reply that its state gives
 pub record Exchanged (c : CallerFace) (o : Object) (op : Op) (expected : ℕ) (reply : Reply) (d : CallerFace) : Type 0 where
   pub place : ℕ
   pub state : WordState
   pub unpacks : unpack o expected ≡ Some (place, state)
   pub replies : reply_in op state ≡ Some reply
   pub happened : HappenedAt c o place op reply d
+  pub met : d.met ≡ c.met
 
 -- one that found another word
 pub record Missed (c : CallerFace) (o : Object) (expected : ℕ) (moved : Moved) (d : CallerFace) : Type 0 where
@@ -137,7 +143,7 @@ pub record Missed (c : CallerFace) (o : Object) (expected : ℕ) (moved : Moved)
 abbrev pub MayWatch : Setup → CallerFace → Watch → Type 0
 MayWatch c k (watch.Ecb n) = (n < length c.owners) × (owner_of c n ≡ k.number)
 MayWatch c k (watch.Element n) = (n < element_count c) × (element_owner c n ≡ k.number)
-MayWatch c k (watch.Latch latch id) = (latch < c.latches) × HasMade latch id k.log
+MayWatch c k (watch.Latch latch id) = HasMade latch id k.log
 
 -- what is ready is listed
 abbrev pub with_watch : Bool → Watch → List Watch → List Watch
@@ -186,9 +192,9 @@ is_settled_reply _ = false
 -- While its watch is listed a block is answered Complete to its Settle, an element Given to the Resume of the pause that parked,
 -- and a request Granted or Gone to its Confirm.
 abbrev pub IsAsListed : CallerFace → Object → Op → Reply → Type 0
-IsAsListed c (Ecb n) (op_on.Ecb ecb_op.Settle) r = IsListed (watch.Ecb n) c.ready → is_complete_reply r ≡ true
-IsAsListed c (Element n) (op_on.Element (element_op.Resume g)) r = IsListed (watch.Element n) c.ready → parked n c.log ≡ Some g → is_given r ≡ true
-IsAsListed c Latches (op_on.Latch (Confirm latch id)) r = IsListed (watch.Latch latch id) c.ready → is_settled_reply r ≡ true
+IsAsListed c (Ecb n) (op_on.Ecb ecb_op.Settle) r = Contains c.ready (watch.Ecb n) → is_complete_reply r ≡ true
+IsAsListed c (Element n) (op_on.Element (element_op.Resume g)) r = Contains c.ready (watch.Element n) → parked n c.log ≡ Some g → is_given r ≡ true
+IsAsListed c Latches (op_on.Latch (Confirm latch id)) r = Contains c.ready (watch.Latch latch id) → is_settled_reply r ≡ true
 IsAsListed c o op r = Unit {0}
 
 -- the last of some lists of wakes; none where there is none

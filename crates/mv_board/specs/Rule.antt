@@ -6,7 +6,7 @@ use Rattle.std.specs.List.{AllByRecursion}
 use mathlib.Core.Option.{Option, some}
 use lib.ListN.{get_elem?}
 use Rattle.atomic_table.specs.Table.{State}
-use Rattle.mv_ecb.specs.Word.{EcbState, Complete}
+use Rattle.mv_ecb.specs.Word.{is_complete}
 use Rattle.mv_element.specs.declared.element.Phase.{Phase}
 use Rattle.mv_element.specs.declared.element.Phase.TheVariants.{Released}
 use Rattle.mv_latch.specs.declared.operation.LatchOp.TheVariants.{Obtain}
@@ -117,10 +117,6 @@ pub record Turns (c : Setup) (x : Cell (List (List Request))) (word : ℕ) (home
 
 -- ---- watches
 
-abbrev pub is_complete : EcbState → Bool
-is_complete (Complete code) = true
-is_complete _ = false
-
 abbrev pub is_released : Phase → Bool
 is_released Released = true
 is_released _ = false
@@ -140,7 +136,7 @@ HasMade latch id (e ∷ es) = (makes latch id e.op e.reply ≡ true) ⊎ HasMade
 abbrev pub IsReady : Setup → List Entry → ℕ → Watch → Type 0
 IsReady c h k (watch.Ecb n) = (n < length c.owners) × (owner_of c n ≡ k) × (is_complete ((after c h).ecb n).state ≡ true)
 IsReady c h k (watch.Element n) = (n < element_count c) × (element_owner c n ≡ k) × (is_released ((after c h).element n).state.phase ≡ true)
-IsReady c h k (watch.Latch latch id) = (latch < c.latches) × HasMade latch id (of k h) × (IsGranted k latch id (after c h) ⊎ IsGone k latch id (after c h))
+IsReady c h k (watch.Latch latch id) = HasMade latch id (of k h) × (IsGranted k latch id (after c h) ⊎ IsGone k latch id (after c h))
 
 -- what is listed is the own caller's, and ready. A view without parts lists nothing
 abbrev pub ReadyFor : Setup → List Entry → List Part → List Watch → Type 0

@@ -1,9 +1,10 @@
 -- What each kind of step tells the seat that makes it.
 use Rattle.std.specs.Prelude.{◌≡◌, ◌≢◌, ℕ, ◌+◌, ◌<◌, ◌≤◌, ◌==◌, Bool, true, false, IsTrue, List, [], ◌∷◌, ◌++◌, length, Some, None}
 use Rattle.std.specs.Prelude as std
-use Rattle.std.specs.List.{AllByRecursion}
+use Rattle.std.specs.List.{AllByRecursion, Contains}
 use mathlib.Core.Option.{Option, none, some}
 use Rattle.atomic_table.specs.Table.{Me, Step}
+use Rattle.mv_ecb.specs.Word.{is_complete}
 use Rattle.mv_element.specs.declared.element.ElementState.{ElementState}
 use Rattle.mv_machine.specs.declared.entry.Entry.{Entry}
 use Rattle.mv_machine.specs.declared.entry.Object.{Object}
@@ -23,8 +24,8 @@ use Rattle.mv_board.specs.declared.view.View.{View}
 use Rattle.mv_board.specs.declared.watch.Watch.{Watch}
 use Rattle.mv_board.specs.declared.watch.Watch.TheVariants as watch
 use Rattle.mv_board.specs.Parked.{parked}
-use Rattle.mv_board.specs.Rule.{is_complete, is_released}
-use Rattle.mv_board.specs.View.{own, with_own, logged, met, listed, IsListed}
+use Rattle.mv_board.specs.Rule.{is_released}
+use Rattle.mv_board.specs.View.{own, with_own, logged, met, listed}
 use Rattle.mv_board.specs.Words.{object_of, changed, fits, test_of}
 
 -- ---- what was announced
@@ -66,8 +67,8 @@ pub record Meets (v : View) (o : Object) (w : ℕ) : Type 0 where
   pub fitting : fits place state ≡ true
   pub above : IsBelow o place (own v).log
   pub room : 0 < (own v).left → place < 524287
-  pub ready : (x : Watch) → watch_of o ≡ Some x → IsListed x v.ready → is_ready state ≡ true
-  pub pause : (n g : ℕ) (s : ElementState) → o ≡ Element n → state ≡ state_of.Element s → IsListed (watch.Element n) v.ready
+  pub ready : (x : Watch) → watch_of o ≡ Some x → Contains v.ready x → is_ready state ≡ true
+  pub pause : (n g : ℕ) (s : ElementState) → o ≡ Element n → state ≡ state_of.Element s → Contains v.ready (watch.Element n)
       → parked n (own v).log ≡ Some g → s.generation ≡ g
 
 -- a load
@@ -108,15 +109,20 @@ pub record Tested (st : Step Item) (m : Me Item View) (r : ℕ) (n : Me Item Vie
   pub meets : Meets m.0 (object_of st.word) r
   pub event : Made m.0 (object_of st.word) (test_of (object_of st.word)) r n.0
 
--- looks change nothing but what the seat met
-pub record LooksOn (v w : View) : Type 0 where
+-- these were met at the object, when the log was this long
+abbrev pub AreAt : Object → ℕ → List Sight → Type 0
+AreAt o n sights = AllByRecursion (λ s. (s.object ≡ o) × (s.after ≡ n)) sights
+
+-- looks at an object change nothing but what the seat met there
+pub record LooksOn (v : View) (o : Object) (w : View) : Type 0 where
   pub more : List Sight
+  pub there : AreAt o (length (own v).log) more
   pub view : w ≡ record v { parts = with_own (λ p. record p { sights = p.sights ++ more }) v.parts }
 
 -- looks, and then the event, on the word that was met last
 pub record MadeAfterLooks (v : View) (o : Object) (op : Op) (place : ℕ) (reply : Reply) (new : View) : Type 0 where
   pub between : View
-  pub looks : LooksOn v between
+  pub looks : LooksOn v o between
   pub word : ℕ
   pub meets : Meets v o word
   pub changes : (next : ℕ) × (changed o op word ≡ Some (place, next, reply))

@@ -1,6 +1,6 @@
 -- What each kind of step on the turn of the latch set tells the seat that makes it.
 use Rattle.std.specs.Prelude.{◌≡◌, ◌≢◌, ℕ, ◌<◌, ◌≤◌, Bool, true, false, [], ◌∷◌, length, Some}
-use Rattle.std.specs.List.{AllByRecursion}
+use Rattle.std.specs.List.{AllByRecursion, Contains}
 use mathlib.Core.Option.{some}
 use Rattle.atomic_table.specs.Table.{Me, Step, rest}
 use Rattle.mv_latch.specs.declared.operation.LatchOp.{LatchOp}
@@ -21,8 +21,9 @@ use Rattle.mv_board.specs.declared.item.Lists.{Lists}
 use Rattle.mv_board.specs.declared.view.Named.{Named}
 use Rattle.mv_board.specs.declared.view.View.{View}
 use Rattle.mv_board.specs.declared.watch.Watch.TheVariants as watch
+use Rattle.mv_board.specs.Rule.{HasMade}
 use Rattle.mv_board.specs.Steps.{op_of, PossibleFor}
-use Rattle.mv_board.specs.View.{own, logged, listed, with_turn, with_returned, IsListed}
+use Rattle.mv_board.specs.View.{own, logged, listed, with_turn, with_returned}
 
 -- the lists as the view that holds the turn names them
 abbrev pub named_by : Lists → Named
@@ -44,7 +45,8 @@ pub record MeetsLists (v : View) (l : Lists) : Type 0 where
   pub count : AllByRecursion (λ c. length l.latches.lists ≡ c.latches) v.about
   pub admits : AllByRecursion (λ c. (op : LatchOp) → allowed c (own v).caller (own v).log Latches (op_on.Latch op) ≡ true
       → latch_admitted (own v).caller op l.latches ≡ true) v.about
-  pub ready : (latch id : ℕ) → IsListed (watch.Latch latch id) v.ready
+  pub made : (latch id : ℕ) → HasMade latch id (own v).log → latch < length l.latches.lists
+  pub ready : (latch id : ℕ) → Contains v.ready (watch.Latch latch id)
       → is_settled (confirm_reply (own v).caller id (list_of l.latches.lists latch)) ≡ true
 
 -- the turn is taken where it was free, and the lists may be taken out of the slot
@@ -72,6 +74,6 @@ pub record Gave (st : Step Item) (m : Me Item View) (r : ℕ) (n : Me Item View)
 -- the turn is given back without one, behind a look at one request
 pub record Returned (st : Step Item) (m : Me Item View) (r : ℕ) (n : Me Item View) : Type 0 where
   pub slots : n.1 ≡ rest m.1
-  pub view : (latch id : ℕ) (t : Named) → st.said ≡ some (Sought (watch.Latch latch id)) → m.0.turn ≡ t ∷ []
+  pub view : (latch id : ℕ) (t : Named) → st.said ≡ some (Sought latch id) → m.0.turn ≡ t ∷ []
       → n.0 ≡ with_turn [] (with_returned t.lists
       (listed (is_settled (confirm_reply (own m.0).caller id (list_of t.lists latch))) (Some (watch.Latch latch id)) m.0))

@@ -1,5 +1,5 @@
 -- The views of the seats: how they begin, are cut, joined and grow.
-use Rattle.std.specs.Prelude.{◌≡◌, ℕ, ◌+◌, ◌-◌, ◌==◌, Bool, true, false, not, ◌⊎◌, List, [], ◌∷◌, ◌++◌, length, filter, slice_index, Option, Some}
+use Rattle.std.specs.Prelude.{ℕ, ◌+◌, ◌-◌, ◌==◌, Bool, true, false, not, List, [], ◌∷◌, ◌++◌, length, filter, slice_index, Option, Some}
 use Rattle.mv_latch.specs.declared.operation.Wake.{Wake}
 use Rattle.mv_latch.specs.declared.request.Request.{Request}
 use Rattle.mv_machine.specs.declared.entry.Entry.{Entry}
@@ -54,10 +54,6 @@ takes_off o op w = false
 
 abbrev pub off : Object → Op → List Watch → List Watch
 off o op ws = filter (λ w. not (takes_off o op w)) ws
-
-abbrev pub IsListed : Watch → List Watch → Type 0
-IsListed w [] = ⊥
-IsListed w (x ∷ xs) = (x ≡ w) ⊎ IsListed w xs
 
 -- ---- views
 

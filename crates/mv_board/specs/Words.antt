@@ -1,5 +1,5 @@
 -- Which word of the table is which object's, and what an operation makes of a word.
-use Rattle.std.specs.Prelude.{ℕ, ◌+◌, ◌*◌, ◌-◌, ◌<◌, ◌==◌, nat_le, nat_lt, Bool, true, ◌&&◌, length, Option, None, option_map, option_and_then, if◌then◌else◌}
+use Rattle.std.specs.Prelude.{ℕ, ◌+◌, ◌*◌, ◌-◌, ◌==◌, nat_le, nat_lt, Bool, true, ◌&&◌, length, Option, None, option_map, option_and_then, if◌then◌else◌}
 use Rattle.mv_machine.specs.declared.entry.Object.{Object}
 use Rattle.mv_machine.specs.declared.entry.Object.TheVariants.{Ecb, Element, Volume, Latches}
 use Rattle.mv_machine.specs.declared.entry.Op.{Op}
@@ -12,7 +12,7 @@ use Rattle.mv_ecb.specs.declared.operation.EcbOp.TheVariants as ecb_op
 use Rattle.mv_element.specs.declared.operation.ElementOp.TheVariants as element_op
 use Rattle.mv_machine.specs.Elements.{extra}
 use Rattle.mv_machine.specs.Packing.{pack, unpack, state_step}
-use Rattle.mv_machine.specs.Setup.{Setup, element_count}
+use Rattle.mv_machine.specs.Setup.{Setup, IsObjectOf}
 
 -- ---- the words: 8 volumes, 256 elements, the turn of the latch set, and the event control blocks
 
@@ -33,10 +33,8 @@ word_count c = 265 + length c.owners
 
 -- the object is there, and has a word of its own
 abbrev pub HasWord : Setup → Object → Type 0
-HasWord c (Ecb n) = n < length c.owners
-HasWord c (Element n) = n < element_count c
-HasWord c (Volume n) = n < c.volumes
 HasWord c Latches = ⊥
+HasWord c o = IsObjectOf c o
 
 -- ---- an operation on a word
 

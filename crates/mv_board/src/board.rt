@@ -4,7 +4,6 @@ ghost use Rattle.std.specs.Prelude.{◌≡◌, ◌<◌, ◌++◌, ◌∷◌, [],
 ghost use Rattle.mv_machine.specs.Kept.{allowed};
 ghost use Rattle.mv_machine.specs.Parts.{IsPossible};
 ghost use Rattle.mv_machine.specs.Owned.{owner_at};
-ghost use Rattle.mv_machine.specs.Room.{IsObjectOf};
 ghost use Rattle.mv_board.specs.Faces.{IsOf, IsFresh, AreFresh, Happened, Found, Exchanged, Missed, IsAsListed, MayWatch, PeekedAt, Peeks};
 ghost use Rattle.mv_board.specs.declared.watch.Watch.{Watch as AnyWatch};
 ghost use Rattle.mv_machine.specs.System.{opening};
@@ -13,7 +12,7 @@ ghost use Rattle.mv_board.specs.Steps.{MadeAfterLooks, watch_of};
 ghost use Rattle.mv_board.specs.Words.{HasWord, test_of as test_on};
 ghost use Rattle.mv_board.specs.View.{fresh_view, first_view, own};
 
-use crate::caller::{Caller, Moved};
+use crate::caller::{Caller, Events, Moved};
 use crate::item::{Item, Lists};
 use crate::rule::{Addition, Exchange, History, Look, Peek, Seats};
 use crate::view::View;
@@ -22,8 +21,7 @@ use crate::words::{BEFORE_ECBS, PLACE, change, is_ready, test_of, word_number};
 use atomic_table::{Seat, Table};
 use crossbeam_utils::Backoff;
 use mv_io::NoMemory;
-use mv_latch::LatchSet;
-use mv_machine::{Entry, Log, MergeRoom, Object, Op, Reply, State, ValidConfig};
+use mv_machine::{Log, MergeRoom, Object, Op, Reply, State, ValidConfig};
 use std::alloc::Global;
 use std::marker::Model;
 use std::sync::Wait;
@@ -53,6 +51,10 @@ impl Model for Board {
 impl Board {
     /// A board with all objects at place 0, and its callers in the order of their numbers. All memory that later calls use
     /// is taken here.
+    ///
+    /// # Errors
+    ///
+    /// `NoMemory` where there is not enough. The configuration is dropped then.
     pub fn open(alloc: Global, config: ValidConfig) -> Result<(Board, Vec<Caller>), NoMemory>
         ensures config { IfOk result (λ r. r.0.config ≡ config) }
         ensures callers { IfOk result (λ r. AreFresh r.0 0 r.1.items) }
@@ -102,7 +104,8 @@ impl Board {
         &self.config
     }
 
-    /// One load of an object's word. It is no event, and the word may be another one at once.
+    /// One load of an object's word: its place times 2^45, and its state in the 45 bits below, as `unpack` reads it. It is no
+    /// event, and the word may be another one at once. It waits for nobody. The latch set has no word.
     pub fn look(&self, caller: &mut Caller, object: Object) -> u64
         requires board { IsOf self.now caller.old }
         requires word { HasWord self.now.config object }
@@ -144,12 +147,14 @@ impl Board {
     }
 
     /// The event that reads an object and changes its place alone, by one addition: Test of an event control block or an
-    /// element, Read of a volume. It cannot fail, and waits for nobody.
+    /// element, Read of a volume. It cannot fail, and waits for nobody. It is not for the latch set, which has no word, and
+    /// the caller must have an event left.
     pub fn test(&self, caller: &mut Caller, object: Object) -> Reply
         requires board { IsOf self.now caller.old }
         requires word { HasWord self.now.config object }
         requires left { 0 < caller.old.left }
         ensures event { Happened caller.old object (test_on object) result caller.new }
+        ensures met { caller.new.met ≡ caller.old.met }
         ensures possible { IsPossible self.now.config caller.new.number caller.new.log caller.new.told }
     {
         let op = test_of(object);
@@ -160,20 +165,13 @@ impl Board {
         let Some((place, _, reply)) = change(object, op, word) else {
             unreachable!()
         };
-        let entry = Entry {
-            caller: caller.number,
-            object,
-            place,
-            op,
-            reply,
-        };
-        caller.left -= 1;
-        caller.log.push_reserved(entry);
+        caller.events.append(object, place, op, reply);
         reply
     }
 
     /// One exchange of an object's word: the event where the word is the one expected, and otherwise no event, but a look.
-    /// It waits for nobody.
+    /// It waits for nobody. The words are those that `look` answers. It is not for the latch set, which has no word, and the
+    /// caller must have an event left.
     ///
     /// # Errors
     ///
@@ -210,23 +208,16 @@ impl Board {
         if found != expected {
             return Err(Moved(found));
         }
-        let entry = Entry {
-            caller: caller.number,
-            object,
-            place,
-            op,
-            reply,
-        };
-        caller.left -= 1;
-        caller.log.push_reserved(entry);
+        caller.events.append(object, place, op, reply);
         Ok(reply)
     }
 
     /// One event on an object, and its reply. On an object with a word it tries again while others are quicker; on the latch
-    /// set it waits while another caller has the lists.
+    /// set it waits while another caller has the lists. The caller must have an event left.
+    ///
+    /// Whether the operation is admitted goes by the configuration and the caller's own log: others can't take the leave away.
     pub fn event<R: Wait>(&self, rt: &R, caller: &mut Caller, object: Object, op: Op) -> Reply
         requires board { IsOf self.now caller.old }
-        requires exists { IsObjectOf self.now.config object }
         requires left { 0 < caller.old.left }
         requires admitted { allowed self.now.config caller.old.number caller.old.log object op ≡ true }
         ensures event { Happened caller.old object op result caller.new }
@@ -250,15 +241,7 @@ impl Board {
         ensures listed { IsAsListed caller.old object op result }
     {
         let (place, reply) = self.exchange(rt, &mut caller.seat, object, op);
-        let entry = Entry {
-            caller: caller.number,
-            object,
-            place,
-            op,
-            reply,
-        };
-        caller.left -= 1;
-        caller.log.push_reserved(entry);
+        caller.events.append(object, place, op, reply);
         reply
     }
 
@@ -308,17 +291,10 @@ impl Board {
 fn lists_of(alloc: Global, config: &ValidConfig) -> Result<Lists, NoMemory>
     ensures { IfOk result (λ l. IsLists config.now (opening config.now).latches l) }
 {
-    let given = config.config();
-    let Ok(latches) = LatchSet::new(
-        alloc,
-        given.latches,
-        given.callers,
-        given.quota,
-        given.posted_quota,
-    ) else {
-        return Err(NoMemory);
-    };
-    Ok(Lists { place: 0, latches })
+    Ok(Lists {
+        place: 0,
+        latches: config.open_latches(alloc)?,
+    })
 }
 
 // A caller with this seat, and room for all its entries and wakes.
@@ -334,11 +310,11 @@ fn seated(
 {
     let given = config.config();
     let left = given.budgets[number as usize];
-    Ok(Caller {
-        number,
+    let events = Events {
+        caller: number,
         left,
         log: Vec::with_capacity(alloc, left as usize)?,
         wakes: Vec::with_capacity(alloc, given.callers as usize * given.quota as usize)?,
-        seat,
-    })
+    };
+    Ok(Caller { events, seat })
 }

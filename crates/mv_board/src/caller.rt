@@ -1,27 +1,53 @@
-//! A caller: its log, and its seat at the table.
+//! A caller: the events that it made, and its seat at the table.
 
-ghost use Rattle.std.specs.Prelude.{◌≡◌, ◌≤◌};
+ghost use Rattle.std.specs.Prelude.{◌≡◌, ◌<◌, ◌≤◌, ◌-◌, ◌++◌, ◌∷◌, [], vec_len, vec_capacity};
 ghost use Rattle.mv_board.specs.Faces.{last_of};
 
 use crate::item::Item;
 use crate::view::View;
 use atomic_table::Seat;
 use mv_latch::Wake;
-use mv_machine::Entry;
+use mv_machine::{Entry, Object, Op, Reply};
 use std::marker::Model;
 
-/// The word that an exchange found in place of the one expected.
+/// The word that an exchange found in place of the one expected: a place times 2^45, and a state in the 45 bits below.
 #[derive(Clone, Copy, Debug, PartialEq, Eq)]
 pub struct Moved(pub u64);
+
+/// The events of one caller: those that it made, and how many it may still make.
+#[derive(Drop)]
+pub(crate) struct Events {
+    pub caller: u32,
+    pub left: u32,
+    pub log: Vec<Entry>,
+    /// Those of the last event on the latch set.
+    pub wakes: Vec<Wake>,
+}
+
+impl Events {
+    /// One event more, and one less that is left.
+    pub(crate) fn append(&mut self, object: Object, place: u32, op: Op, reply: Reply)
+        requires left { 0 < self.old.left }
+        requires room { vec_len self.old.log < vec_capacity self.old.log }
+        ensures same { self.new ≡ record self.old { left = self.old.left - 1; log = self.new.log } }
+        ensures logged { self.new.log.items ≡ self.old.log.items ++ record { caller = self.old.caller; object = object; place = place; op = op; reply = reply } ∷ [] }
+        ensures capacity { vec_capacity self.new.log ≡ vec_capacity self.old.log }
+    {
+        self.left -= 1;
+        self.log.push_reserved(Entry {
+            caller: self.caller,
+            object,
+            place,
+            op,
+            reply,
+        });
+    }
+}
 
 /// One caller's seat at a board. No other caller's call changes anything of it.
 #[derive(Drop)]
 pub struct Caller {
-    pub(crate) number: u32,
-    pub(crate) left: u32,
-    pub(crate) log: Vec<Entry>,
-    // Those of the last event on the latch set.
-    pub(crate) wakes: Vec<Wake>,
+    pub(crate) events: Events,
     pub(crate) seat: Seat<Item, View>,
 }
 
@@ -41,7 +67,7 @@ impl Caller {
     pub fn number(&self) -> u32
         ensures { result ≡ self.now.number }
     {
-        self.number
+        self.events.caller
     }
 
     /// How many events it may still make. There is room for all of them.
@@ -49,14 +75,14 @@ impl Caller {
         ensures left { result ≡ self.now.left }
         ensures room { result ≤ self.now.room }
     {
-        self.left
+        self.events.left
     }
 
     /// Its entries so far, in order.
     pub fn log(&self) -> &[Entry]
         ensures { result.now ≡ self.now.log }
     {
-        &self.log
+        &self.events.log
     }
 
     /// The wakes of its last event on the latch set, in order. Before one there are none.
@@ -64,6 +90,6 @@ impl Caller {
         ensures wakes { result.now ≡ self.now.wakes }
         ensures last { result.now ≡ last_of self.now.told }
     {
-        &self.wakes
+        &self.events.wakes
     }
 }

@@ -1,12 +1,13 @@
 //! How a board ends: the callers' logs become the one history.
 
-ghost use Rattle.std.specs.Prelude.{◌≡◌, ◌≤◌, length, map};
+ghost use Rattle.std.specs.Prelude.{◌≡◌, ◌≤◌, [], length, map};
 ghost use Rattle.std.specs.List.{AllByRecursion};
 ghost use Rattle.mv_machine.specs.Legal.{Legal, after};
 ghost use Rattle.mv_machine.specs.Merge.{merged as merged_logs};
 ghost use Rattle.mv_machine.specs.Parts.{KeepsBudgets};
-ghost use Rattle.mv_machine.specs.State.{system_of, IsOpenedWith};
+ghost use Rattle.mv_machine.specs.State.{system_of, wakes_of, IsOpenedWith};
 ghost use Rattle.mv_machine.specs.System.{opening};
+ghost use Rattle.mv_machine.specs.Told.{last_wakes};
 ghost use Rattle.mv_board.specs.Faces.{AreInOrder, IsIn};
 
 use crate::board::Board;
@@ -37,9 +38,11 @@ impl Board {
         ensures config { result.config ≡ self.config }
         ensures legal { Legal self.config result.journal.items }
         ensures budgets { KeepsBudgets self.config result.journal.items }
+        ensures few { length result.journal.items ≤ 524287 }
         ensures merged { result.journal.items ≡ merged_logs (map (λ k. k.log) callers.items) }
         ensures callers { AllByRecursion (IsIn self.config result.journal.items) callers.items }
         ensures state { system_of result.state ≡ after self.config result.journal.items }
+        ensures wakes { wakes_of result.state ≡ last_wakes self.config result.journal.items }
         ensures opened { IsOpenedWith self.config result.state }
     {
         let Board {
@@ -52,16 +55,19 @@ impl Board {
         let Some(caller) = callers.pop() else {
             unreachable!()
         };
-        let Caller { log, mut seat, .. } = caller;
-        logs.push_reserved(Log { entries: log });
+        let Caller { events, mut seat } = caller;
+        logs.push_reserved(Log {
+            entries: events.log,
+        });
         while let Some(caller) = callers.pop() {
             let Caller {
-                log,
+                events,
                 seat: other,
-                ..
             } = caller;
             table.shared.join_seat::<Seats>(&mut seat, other);
-            logs.push_reserved(Log { entries: log });
+            logs.push_reserved(Log {
+                entries: events.log,
+            });
         }
         logs.reverse();
         let mut closed = table.close_with(seat);
@@ -81,9 +87,11 @@ impl Board {
 fn go_through(state: &mut State, config: &ValidConfig, entries: &[Entry])
     requires opened { IsOpenedWith config.now state.old }
     requires opening { system_of state.old ≡ opening config.now }
+    requires unshown { wakes_of state.old ≡ [] }
     requires legal { Legal config.now entries.now }
     requires few { length entries.now ≤ 524287 }
     ensures after { system_of state.new ≡ after config.now entries.now }
+    ensures wakes { wakes_of state.new ≡ last_wakes config.now entries.now }
     ensures opened { IsOpenedWith config.now state.new }
 {
     for entry in entries {

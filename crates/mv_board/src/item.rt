@@ -1,4 +1,3 @@
-use crate::watch::Watch;
 use mv_latch::LatchSet;
 use mv_machine::Op;
 
@@ -18,5 +17,5 @@ pub enum Item {
     /// The operation that a step makes.
     Said(Op),
     /// The request that the lists were looked at for.
-    Sought(Watch),
+    Sought { latch: u32, id: u32 },
 }

@@ -1,32 +1,56 @@
-ghost use Rattle.std.specs.Prelude.{◌≡◌, ◌+◌, ◌<◌, ◌≤◌, [], ◌∷◌, length, IfOk};
-ghost use Rattle.mv_board.specs.Faces.{IsOf, IsFresh};
+ghost use Rattle.std.specs.Prelude.{◌≡◌, ◌+◌, ◌<◌, ◌≤◌, ℕ, [], ◌∷◌, true, false, length, IfOk};
+ghost use Rattle.mv_latch.specs.Request.{is_posted};
+ghost use Rattle.mv_machine.specs.Kept.{allowed, standing, stands_after};
+ghost use Rattle.mv_machine.specs.Legal.{Legal};
+ghost use Rattle.mv_machine.specs.Setup.{element_count};
+ghost use Rattle.mv_machine.specs.System.{ecb_admitted, element_admitted};
+ghost use Rattle.mv_board.specs.Faces.{IsOf, IsFresh, AreFresh};
+ghost use Rattle.mv_board.specs.Rule.{makes, HasMade};
 
 use super::*;
 use mv_ecb::{EcbOp, EcbReply};
+use mv_element::{ElementOp, ElementReply};
 use mv_latch::{LatchForm, LatchOp, LatchReply, Mode, Wake};
-use mv_machine::{Config, Entry, Object, Op, Reply, ValidConfig};
+use mv_machine::{Config, Entry, Object, Op, Reply, ValidConfig, replay};
 use std::alloc::Global;
 use std::process::Abort;
 use std::sync::Wait;
 use std::test::Fail;
-use std::thread::join;
+use std::thread::{Threads, join};
 
-// Two callers and one event control block of caller 0.
-fn two_callers(alloc: Global, budget: u32) -> Result<ValidConfig, Fail>
-    ensures { IfOk result (λ c. c ≡ record { callers = 2; elements_per_caller = 1; volumes = 1; latches = 1; quota = 4; posted_quota = 0; budgets = budget ∷ budget ∷ []; owners = 0 ∷ []; exits = [] }) }
+// ---- boards of two and of three callers
+
+// Callers with these budgets, each with one element and four requests, and one event control block, of caller 0.
+fn setup(alloc: Global, budgets: Vec<u32>) -> Result<ValidConfig, Fail>
+    requires { length budgets.items ≤ 16 }
+    ensures { IfOk result (λ c. c ≡ record { callers = length budgets.items; elements_per_caller = 1; volumes = 1; latches = 1; quota = 4; posted_quota = 0; budgets = budgets.items; owners = 0 ∷ []; exits = [] }) }
 {
     let config = Config {
-        callers: 2,
+        callers: budgets.len() as u32,
         elements_per_caller: 1,
         volumes: 1,
         latches: 1,
         quota: 4,
         posted_quota: 0,
-        budgets: vec![in alloc; budget, budget]?,
+        budgets,
         owners: vec![in alloc; 0]?,
         exits: Vec::new(alloc),
     };
     Ok(config.check(alloc)?)
+}
+
+// The last of some new callers.
+fn last(board: &Board, callers: &mut Vec<Caller>) -> Caller
+    requires some { 0 < length callers.old.items }
+    requires fresh { AreFresh board.now 0 callers.old.items }
+    ensures caller { IsFresh board.now (length callers.new.items) result }
+    ensures others { AreFresh board.now 0 callers.new.items }
+    ensures count { length callers.new.items + 1 ≡ length callers.old.items }
+{
+    let Some(caller) = callers.pop() else {
+        unreachable!()
+    };
+    caller
 }
 
 // A new board, with its two callers.
@@ -37,31 +61,9 @@ fn open_two(alloc: Global, config: ValidConfig) -> Result<(Board, Caller, Caller
     ensures second { IfOk result (λ r. IsFresh r.0 1 r.2) }
 {
     let (board, mut callers) = Board::open(alloc, config)?;
-    let Some(second) = callers.pop() else {
-        unreachable!()
-    };
-    let Some(first) = callers.pop() else {
-        unreachable!()
-    };
+    let second = last(&board, &mut callers);
+    let first = last(&board, &mut callers);
     Ok((board, first, second))
-}
-
-#[test]
-fn a_post_and_what_its_owner_finds(rt: HostRuntime) -> Result<(), Fail> {
-    let (board, mut owner, mut poster) = open_two(rt.alloc(), two_callers(rt.alloc(), 3)?)?;
-    let block = Object::Ecb(0);
-    let posted = board.event(&rt, &mut poster, block, Op::Ecb(EcbOp::Post(5)));
-    assert_eq!(rt; posted, Reply::Ecb(EcbReply::Posted));
-    let armed = board.event(&rt, &mut owner, block, Op::Ecb(EcbOp::Arm));
-    assert_eq!(rt; armed, Reply::Ecb(EcbReply::Complete(5)));
-    let settle = Op::Ecb(EcbOp::Settle);
-    let moved = board.try_event(&mut owner, block, settle, 35_184_372_088_832);
-    assert_eq!(rt; moved, Err(Moved(70_369_817_919_493)));
-    let looked = board.look(&mut owner, block);
-    assert_eq!(rt; looked, 70_369_817_919_493);
-    let settled = board.try_event(&mut owner, block, settle, 70_369_817_919_493);
-    assert_eq!(rt; settled, Ok(Reply::Ecb(EcbReply::Complete(5))));
-    Ok(())
 }
 
 // The end of a board with two callers.
@@ -69,34 +71,130 @@ fn close_two(alloc: Global, board: Board, first: Caller, second: Caller) -> Resu
     requires two { board.config.callers ≡ 2 }
     requires first { IsOf board first × (first.number ≡ 0) }
     requires second { IsOf board second × (second.number ≡ 1) }
+    ensures legal { IfOk result (λ k. Legal k.config k.journal.items) }
+    ensures few { IfOk result (λ k. length k.journal.items ≤ 524287) }
 {
     Ok(board.close(vec![in alloc; first, second]?))
 }
 
+// A new board, with its three callers.
+fn open_three(alloc: Global, config: ValidConfig) -> Result<(Board, Caller, Caller, Caller), Fail>
+    requires { config.callers ≡ 3 }
+    ensures config { IfOk result (λ r. r.0.config ≡ config) }
+    ensures first { IfOk result (λ r. IsFresh r.0 0 r.1) }
+    ensures second { IfOk result (λ r. IsFresh r.0 1 r.2) }
+    ensures third { IfOk result (λ r. IsFresh r.0 2 r.3) }
+{
+    let (board, mut callers) = Board::open(alloc, config)?;
+    let third = last(&board, &mut callers);
+    let second = last(&board, &mut callers);
+    let first = last(&board, &mut callers);
+    Ok((board, first, second, third))
+}
+
+// The end of a board with three callers.
+fn close_three(
+    alloc: Global,
+    board: Board,
+    first: Caller,
+    second: Caller,
+    third: Caller,
+) -> Result<Closed, Fail>
+    requires three { board.config.callers ≡ 3 }
+    requires first { IsOf board first × (first.number ≡ 0) }
+    requires second { IsOf board second × (second.number ≡ 1) }
+    requires third { IsOf board third × (third.number ≡ 2) }
+    ensures legal { IfOk result (λ k. Legal k.config k.journal.items) }
+    ensures few { IfOk result (λ k. length k.journal.items ≤ 524287) }
+{
+    Ok(board.close(vec![in alloc; first, second, third]?))
+}
+
+// ---- events on the block and on the first element, and looks at them
+
+const BLOCK: Object = Object::Ecb(0);
+
+// An event on the block.
+fn on_block<R: Wait>(rt: &R, board: &Board, caller: &mut Caller, op: EcbOp) -> Reply
+    requires board { IsOf board.now caller.old }
+    requires number { caller.old.number < board.now.config.callers }
+    requires block { 0 < length board.now.config.owners }
+    requires left { 0 < caller.old.left }
+    requires admitted { ecb_admitted board.now.config caller.old.number 0 op ≡ true }
+    ensures board { IsOf board.now caller.new }
+    ensures number { caller.new.number ≡ caller.old.number }
+    ensures left { caller.new.left + 1 ≡ caller.old.left }
+{
+    board.event(rt, caller, BLOCK, Op::Ecb(op))
+}
+
+// One exchange of the block's word.
+fn try_on_block(
+    board: &Board,
+    caller: &mut Caller,
+    op: EcbOp,
+    expected: u64,
+) -> Result<Reply, Moved>
+    requires board { IsOf board.now caller.old }
+    requires number { caller.old.number < board.now.config.callers }
+    requires block { 0 < length board.now.config.owners }
+    requires left { 0 < caller.old.left }
+    requires admitted { ecb_admitted board.now.config caller.old.number 0 op ≡ true }
+    ensures board { IsOf board.now caller.new }
+    ensures number { caller.new.number ≡ caller.old.number }
+    ensures left { caller.old.left ≤ caller.new.left + 1 }
+{
+    board.try_event(caller, BLOCK, Op::Ecb(op), expected)
+}
+
+// One load of the block's word.
+fn look_at_block(board: &Board, caller: &mut Caller) -> u64
+    requires board { IsOf board.now caller.old }
+    requires block { 0 < length board.now.config.owners }
+    ensures board { IsOf board.now caller.new }
+    ensures number { caller.new.number ≡ caller.old.number }
+    ensures left { caller.new.left ≡ caller.old.left }
+{
+    board.look(caller, BLOCK)
+}
+
+// An event on the first element.
+fn on_element<R: Wait>(rt: &R, board: &Board, caller: &mut Caller, op: ElementOp) -> Reply
+    requires board { IsOf board.now caller.old }
+    requires number { caller.old.number < board.now.config.callers }
+    requires element { 0 < element_count board.now.config }
+    requires left { 0 < caller.old.left }
+    requires admitted { element_admitted board.now.config caller.old.number 0 op ≡ true }
+    ensures board { IsOf board.now caller.new }
+    ensures number { caller.new.number ≡ caller.old.number }
+    ensures left { caller.new.left + 1 ≡ caller.old.left }
+{
+    board.event(rt, caller, Object::Element(0), Op::Element(op))
+}
+
 #[test]
-fn a_post_is_seen_and_the_journal_tells_of_it(rt: HostRuntime) -> Result<(), Fail> {
-    let (board, mut owner, mut poster) = open_two(rt.alloc(), two_callers(rt.alloc(), 3)?)?;
-    let block = Object::Ecb(0);
-    let post = Op::Ecb(EcbOp::Post(5));
-    let posted = board.event(&rt, &mut poster, block, post);
-    let seen = board.peek(&rt, &mut owner, Watch::Ecb(0));
-    assert!(rt; seen);
-    let arm = Op::Ecb(EcbOp::Arm);
-    let armed = board.event(&rt, &mut owner, block, arm);
+fn a_post_its_looks_and_its_journal(rt: HostRuntime) -> Result<(), Fail> {
+    let budgets = vec![in rt.alloc(); 3, 3]?;
+    let (board, mut owner, mut poster) = open_two(rt.alloc(), setup(rt.alloc(), budgets)?)?;
+    let posted = on_block(&rt, &board, &mut poster, EcbOp::Post(5));
+    let armed = on_block(&rt, &board, &mut owner, EcbOp::Arm);
+    let moved = try_on_block(&board, &mut owner, EcbOp::Settle, 35_184_372_088_832);
+    assert_eq!(rt; moved, Err(Moved(70_369_817_919_493)));
+    assert!(rt; board.peek(&rt, &mut owner, Watch::Ecb(0)));
     let closed = close_two(rt.alloc(), board, owner, poster)?;
     let expected = [
         Entry {
             caller: 1,
-            object: block,
+            object: BLOCK,
             place: 0,
-            op: post,
+            op: Op::Ecb(EcbOp::Post(5)),
             reply: Reply::Ecb(EcbReply::Posted),
         },
         Entry {
             caller: 0,
-            object: block,
+            object: BLOCK,
             place: 1,
-            op: arm,
+            op: Op::Ecb(EcbOp::Arm),
             reply: Reply::Ecb(EcbReply::Complete(5)),
         },
     ];
@@ -105,52 +203,111 @@ fn a_post_is_seen_and_the_journal_tells_of_it(rt: HostRuntime) -> Result<(), Fai
     Ok(())
 }
 
-// A thousand tests of a block.
-fn test_often(rt: &impl Abort, board: &Board, mut caller: Caller) -> Caller
+#[test]
+fn an_exchange_finds_what_a_look_found(rt: HostRuntime) -> Result<(), Fail> {
+    let budgets = vec![in rt.alloc(); 0, 3]?;
+    let (board, _, mut poster) = open_two(rt.alloc(), setup(rt.alloc(), budgets)?)?;
+    let zero = look_at_block(&board, &mut poster);
+    assert_eq!(rt; zero, 0);
+    let posted = try_on_block(&board, &mut poster, EcbOp::Post(5), zero);
+    assert_eq!(rt; posted, Ok(Reply::Ecb(EcbReply::Posted)));
+    let moved = try_on_block(&board, &mut poster, EcbOp::Post(6), zero);
+    assert_eq!(rt; moved, Err(Moved(35_185_445_830_661)));
+    let complete = look_at_block(&board, &mut poster);
+    assert_eq!(rt; complete, 35_185_445_830_661);
+    let already = try_on_block(&board, &mut poster, EcbOp::Post(6), complete);
+    assert_eq!(rt; already, Ok(Reply::Ecb(EcbReply::Already(5))));
+    Ok(())
+}
+
+#[test]
+fn a_paused_element_is_seen_released(rt: HostRuntime) -> Result<(), Fail> {
+    let budgets = vec![in rt.alloc(); 3, 1]?;
+    let (board, mut owner, mut other) = open_two(rt.alloc(), setup(rt.alloc(), budgets)?)?;
+    let opened = on_element(&rt, &board, &mut owner, ElementOp::Open);
+    assert_eq!(rt; opened, Reply::Element(ElementReply::Opened(0)));
+    let parked = on_element(&rt, &board, &mut owner, ElementOp::Pause(0));
+    assert_eq!(rt; parked, Reply::Element(ElementReply::Parked));
+    let before = board.peek(&rt, &mut owner, Watch::Element(0));
+    let released = on_element(&rt, &board, &mut other, ElementOp::Release(0, 9));
+    assert_eq!(rt; released, Reply::Element(ElementReply::Woke));
+    let behind = board.peek(&rt, &mut owner, Watch::Element(0));
+    assert_eq!(rt; [before, behind], [false, true]);
+    let given = on_element(&rt, &board, &mut owner, ElementOp::Resume(0));
+    assert_eq!(rt;
+        given,
+        Reply::Element(ElementReply::Given { code: 9, next: 1 })
+    );
+    Ok(())
+}
+
+// ---- threads on one word
+
+// So many events of one kind on the block, on which nobody waits.
+fn repeat<R: Abort + Wait>(
+    rt: &R,
+    board: &Board,
+    mut caller: Caller,
+    op: EcbOp,
+    events: u32,
+) -> Caller
     requires board { IsOf board.now caller }
+    requires number { caller.number < board.now.config.callers }
     requires block { 0 < length board.now.config.owners }
-    requires left { 1000 ≤ caller.left }
+    requires left { events ≤ caller.left }
+    requires admitted { ecb_admitted board.now.config caller.number 0 op ≡ true }
     ensures board { IsOf board.now result }
     ensures number { result.number ≡ caller.number }
 {
-    for _ in 0..1000u32 {
-        let reply = board.test(&mut caller, Object::Ecb(0));
-        assert_eq!(rt; reply, Reply::Ecb(EcbReply::Word(0)));
+    for _ in 0..events {
+        let reply = on_block(rt, board, &mut caller, op);
+        assert!(rt; is_unwaited(reply));
     }
     caller
 }
 
-// So many events on a block, each by one load and one exchange.
-fn exchange_often<R: Abort + Wait>(rt: &R, board: &Board, mut caller: Caller, events: u32) -> Caller
+// So many tests of the block, on which nobody waits.
+fn test_often(rt: &impl Abort, board: &Board, mut caller: Caller, events: u32) -> Caller
     requires board { IsOf board.now caller }
     requires block { 0 < length board.now.config.owners }
-    requires number { caller.number < board.now.config.callers }
     requires left { events ≤ caller.left }
+    ensures board { IsOf board.now result }
+    ensures number { result.number ≡ caller.number }
 {
-    let block = Object::Ecb(0);
     for _ in 0..events {
-        let reply = board.event(rt, &mut caller, block, Op::Ecb(EcbOp::Test));
-        assert_eq!(rt; reply, Reply::Ecb(EcbReply::Word(0)));
+        let reply = board.test(&mut caller, BLOCK);
+        assert!(rt; is_unwaited(reply));
     }
     caller
+}
+
+// Whether a block on which nobody waits may answer so: each word read is 0 or has the completion bit.
+fn is_unwaited(reply: Reply) -> bool {
+    match reply {
+        Reply::Ecb(EcbReply::Word(word)) => word == 0 || word >> 30 == 1,
+        Reply::Ecb(EcbReply::Posted | EcbReply::Already(_)) => true,
+        _ => false,
+    }
 }
 
 // The two that bench/run times.
 #[test]
 fn events_of_one_thread(rt: HostRuntime) -> Result<(), Fail> {
-    let (board, first, _second) = open_two(rt.alloc(), two_callers(rt.alloc(), 250_000)?)?;
-    let first = exchange_often(&rt, &board, first, 250_000);
+    let budgets = vec![in rt.alloc(); 250_000, 0]?;
+    let (board, first, _) = open_two(rt.alloc(), setup(rt.alloc(), budgets)?)?;
+    let first = repeat(&rt, &board, first, EcbOp::Test, 250_000);
     assert_eq!(rt; first.log().len(), 250_000);
     Ok(())
 }
 
 #[test]
 fn events_of_two_threads_on_one_word(rt: HostRuntime) -> Result<(), Fail> {
-    let (board, first, second) = open_two(rt.alloc(), two_callers(rt.alloc(), 125_000)?)?;
+    let budgets = vec![in rt.alloc(); 125_000, 125_000]?;
+    let (board, first, second) = open_two(rt.alloc(), setup(rt.alloc(), budgets)?)?;
     let (first, second) = join(
         &rt,
-        || exchange_often(&rt, &board, first, 125_000),
-        || exchange_often(&rt, &board, second, 125_000),
+        || repeat(&rt, &board, first, EcbOp::Test, 125_000),
+        || repeat(&rt, &board, second, EcbOp::Test, 125_000),
     );
     assert_eq!(rt; [first.log().len(), second.log().len()], [125_000, 125_000]);
     Ok(())
@@ -158,108 +315,266 @@ fn events_of_two_threads_on_one_word(rt: HostRuntime) -> Result<(), Fail> {
 
 #[test]
 fn two_threads_test_one_block(rt: HostRuntime) -> Result<(), Fail> {
-    let (board, first, second) = open_two(rt.alloc(), two_callers(rt.alloc(), 1000)?)?;
+    let budgets = vec![in rt.alloc(); 1000, 1000]?;
+    let (board, first, second) = open_two(rt.alloc(), setup(rt.alloc(), budgets)?)?;
     let (first, second) = join(
         &rt,
-        || test_often(&rt, &board, first),
-        || test_often(&rt, &board, second),
+        || test_often(&rt, &board, first, 1000),
+        || test_often(&rt, &board, second, 1000),
     );
-    assert_eq!(rt; first.left(), 0);
-    assert_eq!(rt; second.log().len(), 1000);
     let closed = close_two(rt.alloc(), board, first, second)?;
     assert_eq!(rt; closed.journal.len(), 2000);
     for (place, entry) in closed.journal.iter().enumerate() {
         assert_eq!(rt; entry.place as usize, place);
+        assert_eq!(rt; entry.reply, Reply::Ecb(EcbReply::Word(0)));
     }
     let of_first = closed.journal.iter().filter(|entry| entry.caller == 0);
     assert_eq!(rt; of_first.count(), 1000);
     Ok(())
 }
 
+// Posts of the block, beside tests of it by another thread.
+fn post_beside_tests<R: Abort + Wait + Threads + Sync>(
+    rt: &R,
+    board: &Board,
+    poster: Caller,
+    tester: Caller,
+) -> (Caller, Caller)
+    requires poster { IsOf board.now poster × (poster.number < board.now.config.callers) × (10000 ≤ poster.left) }
+    requires tester { IsOf board.now tester × (10000 ≤ tester.left) }
+    requires block { 0 < length board.now.config.owners }
+    ensures poster { IsOf board.now result.0 × (result.0.number ≡ poster.number) }
+    ensures tester { IsOf board.now result.1 × (result.1.number ≡ tester.number) }
+{
+    join(
+        rt,
+        || repeat(rt, board, poster, EcbOp::Post(5), 10_000),
+        || test_often(rt, board, tester, 10_000),
+    )
+}
+
+// Whether a journal is judged legal, and leads the block to the same place and word.
+fn is_replayed<R: Abort>(rt: &R, alloc: Global, closed: &Closed) -> bool
+    requires legal { Legal closed.now.config closed.now.journal.items }
+    requires few { length closed.now.journal.items ≤ 524287 }
+{
+    let Ok(state) = replay(alloc, &closed.config, &closed.journal) else {
+        return false;
+    };
+    assert!(rt; state.has(BLOCK) && closed.state.has(BLOCK));
+    state.place(BLOCK) == closed.state.place(BLOCK) && state.ecb(0) == closed.state.ecb(0)
+}
+
+#[test]
+fn one_clears_one_posts_and_one_tests(rt: HostRuntime) -> Result<(), Fail> {
+    let budgets = vec![in rt.alloc(); 10_000, 10_000, 10_000]?;
+    let (board, owner, poster, tester) = open_three(rt.alloc(), setup(rt.alloc(), budgets)?)?;
+    let (owner, (poster, tester)) = join(
+        &rt,
+        || repeat(&rt, &board, owner, EcbOp::Clear, 10_000),
+        || post_beside_tests(&rt, &board, poster, tester),
+    );
+    let closed = close_three(rt.alloc(), board, owner, poster, tester)?;
+    assert_eq!(rt; closed.journal.len(), 30_000);
+    assert!(rt; is_replayed(&rt, rt.alloc(), &closed));
+    Ok(())
+}
+
+// ---- the latch
+
+// An event on the latch set.
+fn on_latches<R: Abort + Wait>(
+    rt: &R,
+    board: &Board,
+    caller: &mut Caller,
+    op: LatchOp,
+) -> LatchReply
+    requires board { IsOf board.now caller.old }
+    requires left { 0 < caller.old.left }
+    requires admitted { allowed board.now.config caller.old.number caller.old.log Object.Latches (Op.Latch op) ≡ true }
+    ensures board { IsOf board.now caller.new }
+    ensures number { caller.new.number ≡ caller.old.number }
+    ensures left { caller.new.left + 1 ≡ caller.old.left }
+    ensures stands { standing caller.new.log ≡ stands_after caller.old.number (standing caller.old.log) op result }
+    ensures made { (id : ℕ) → makes 0 id (Op.Latch op) (Reply.Latch result) ≡ true → HasMade 0 id caller.new.log }
+{
+    let Reply::Latch(reply) = board.event(rt, caller, Object::Latches, Op::Latch(op)) else {
+        panic!(rt; "a reply of another object")
+    };
+    reply
+}
+
 // A caller asks for the latch.
-fn obtain<R: Wait>(rt: &R, board: &Board, caller: &mut Caller, requestor: u64, mode: Mode) -> Reply
+fn obtain<R: Abort + Wait>(
+    rt: &R,
+    board: &Board,
+    caller: &mut Caller,
+    requestor: u64,
+    mode: Mode,
+    form: LatchForm,
+) -> LatchReply
     requires board { IsOf board.now caller.old }
     requires number { caller.old.number < board.now.config.callers }
     requires latch { 0 < board.now.config.latches }
     requires left { 0 < caller.old.left }
-    requires quota { length caller.old.log < board.now.config.quota }
+    requires form { is_posted form ≡ false }
+    requires quota { length (standing caller.old.log) < board.now.config.quota }
     ensures board { IsOf board.now caller.new }
     ensures number { caller.new.number ≡ caller.old.number }
     ensures left { caller.new.left + 1 ≡ caller.old.left }
-    ensures log { length caller.new.log ≡ length caller.old.log + 1 }
+    ensures few { length (standing caller.new.log) ≤ length (standing caller.old.log) + 1 }
+    ensures stands { standing caller.new.log ≡ stands_after caller.old.number (standing caller.old.log) (LatchOp.Obtain 0 requestor mode form) result }
+    ensures queued { (id : ℕ) → result ≡ LatchReply.Queued id → HasMade 0 id caller.new.log }
 {
     let op = LatchOp::Obtain {
         latch: 0,
         requestor,
         mode,
-        form: LatchForm::Waiting,
+        form,
     };
-    board.event(rt, caller, Object::Latches, Op::Latch(op))
+    on_latches(rt, board, caller, op)
 }
 
-// A caller gives up a request, or asks how it stands.
-fn of_request<R: Wait>(rt: &R, board: &Board, caller: &mut Caller, id: u32, gives_up: bool) -> Reply
+// A caller gives up a request.
+fn release<R: Abort + Wait>(rt: &R, board: &Board, caller: &mut Caller, id: u32) -> LatchReply
     requires board { IsOf board.now caller.old }
     requires number { caller.old.number < board.now.config.callers }
     requires latch { 0 < board.now.config.latches }
     requires left { 0 < caller.old.left }
+    ensures board { IsOf board.now caller.new }
+    ensures number { caller.new.number ≡ caller.old.number }
+    ensures left { caller.new.left + 1 ≡ caller.old.left }
+    ensures stands { standing caller.new.log ≡ stands_after caller.old.number (standing caller.old.log) (LatchOp.Release 0 id false) result }
 {
-    let latch = 0;
-    let op = if gives_up {
-        LatchOp::Release {
-            latch,
-            id,
-            conditional: false,
-        }
-    } else {
-        LatchOp::Confirm { latch, id }
+    let op = LatchOp::Release {
+        latch: 0,
+        id,
+        conditional: false,
     };
-    board.event(rt, caller, Object::Latches, Op::Latch(op))
+    on_latches(rt, board, caller, op)
 }
 
-// All requests of a requestor are taken out.
-fn purge<R: Wait>(rt: &R, board: &Board, caller: &mut Caller, requestor: u64) -> Reply
-    requires board { IsOf board.now caller.old }
-    requires number { caller.old.number < board.now.config.callers }
-    requires left { 0 < caller.old.left }
+// So many tries for the latch alone, each released at once where it was granted: how many were.
+fn contend<R: Abort + Wait>(
+    rt: &R,
+    board: &Board,
+    mut caller: Caller,
+    tries: u32,
+) -> (Caller, usize)
+    requires board { IsOf board.now caller }
+    requires number { caller.number < board.now.config.callers }
+    requires latch { 0 < board.now.config.latches }
+    requires quota { 0 < board.now.config.quota }
+    requires left { tries + tries ≤ caller.left }
+    requires none { standing caller.log ≡ [] }
+    ensures board { IsOf board.now result.0 }
+    ensures number { result.0.number ≡ caller.number }
+    ensures few { result.1 ≤ tries }
 {
-    let op = LatchOp::Purge { requestor };
-    board.event(rt, caller, Object::Latches, Op::Latch(op))
+    let mut granted = 0;
+    for _ in 0..tries {
+        match obtain(
+            rt,
+            board,
+            &mut caller,
+            9,
+            Mode::Exclusive,
+            LatchForm::Conditional,
+        ) {
+            LatchReply::Granted(id) => {
+                let LatchReply::Released { granted: 0 } = release(rt, board, &mut caller, id) else {
+                    panic!(rt; "a latch that was granted is not released")
+                };
+                granted += 1;
+            }
+            LatchReply::NotNow(_) => {}
+            reply => panic!(rt; "{reply:?}"),
+        }
+    }
+    (caller, granted)
+}
+
+#[test]
+fn two_threads_contend_for_one_latch(rt: HostRuntime) -> Result<(), Fail> {
+    let budgets = vec![in rt.alloc(); 2000, 2000]?;
+    let (board, first, second) = open_two(rt.alloc(), setup(rt.alloc(), budgets)?)?;
+    let ((first, one), (second, other)) = join(
+        &rt,
+        || contend(&rt, &board, first, 1000),
+        || contend(&rt, &board, second, 1000),
+    );
+    assert!(rt; one + other > 0);
+    assert_eq!(rt;
+        [first.log().len(), second.log().len()],
+        [1000 + one, 1000 + other]
+    );
+    let closed = close_two(rt.alloc(), board, first, second)?;
+    assert_eq!(rt; closed.journal.len(), 2000 + one + other);
+    assert!(rt; is_replayed(&rt, rt.alloc(), &closed));
+    Ok(())
 }
 
 #[test]
 fn a_queued_request_is_purged_before_its_confirm(rt: HostRuntime) -> Result<(), Fail> {
-    let (board, mut first, mut second) = open_two(rt.alloc(), two_callers(rt.alloc(), 4)?)?;
-    let holds = obtain(&rt, &board, &mut second, 7, Mode::Exclusive);
-    assert_eq!(rt; holds, Reply::Latch(LatchReply::Granted(0)));
-    let waits = obtain(&rt, &board, &mut first, 9, Mode::Exclusive);
-    assert_eq!(rt; waits, Reply::Latch(LatchReply::Queued(1)));
-    let purged = purge(&rt, &board, &mut second, 9);
+    let budgets = vec![in rt.alloc(); 2, 2]?;
+    let (board, mut first, mut second) = open_two(rt.alloc(), setup(rt.alloc(), budgets)?)?;
+    let holds = obtain(
+        &rt,
+        &board,
+        &mut second,
+        7,
+        Mode::Exclusive,
+        LatchForm::Waiting,
+    );
+    assert_eq!(rt; holds, LatchReply::Granted(0));
+    let LatchReply::Queued(id) = obtain(
+        &rt,
+        &board,
+        &mut first,
+        9,
+        Mode::Exclusive,
+        LatchForm::Waiting,
+    ) else {
+        panic!(rt; "a held latch is granted")
+    };
+    assert_eq!(rt; id, 1);
+    let watch = Watch::Latch { latch: 0, id };
+    let before = board.peek(&rt, &mut first, watch);
+    let purged = on_latches(&rt, &board, &mut second, LatchOp::Purge { requestor: 9 });
     let one = LatchReply::Purged {
         removed: 1,
         granted: 0,
     };
-    assert_eq!(rt; purged, Reply::Latch(one));
-    let gone = of_request(&rt, &board, &mut first, 1, false);
-    assert_eq!(rt; gone, Reply::Latch(LatchReply::Gone));
+    assert_eq!(rt; purged, one);
+    let behind = board.peek(&rt, &mut first, watch);
+    assert_eq!(rt; [before, behind], [false, true]);
+    let gone = on_latches(&rt, &board, &mut first, LatchOp::Confirm { latch: 0, id });
+    assert_eq!(rt; gone, LatchReply::Gone);
     Ok(())
 }
 
 #[test]
 fn a_release_wakes_three_in_order(rt: HostRuntime) -> Result<(), Fail> {
-    let (board, mut first, mut second) = open_two(rt.alloc(), two_callers(rt.alloc(), 4)?)?;
-    let holds = obtain(&rt, &board, &mut second, 7, Mode::Exclusive);
-    assert_eq!(rt; holds, Reply::Latch(LatchReply::Granted(0)));
+    let budgets = vec![in rt.alloc(); 3, 2]?;
+    let (board, mut first, mut second) = open_two(rt.alloc(), setup(rt.alloc(), budgets)?)?;
+    let holds = obtain(
+        &rt,
+        &board,
+        &mut second,
+        7,
+        Mode::Exclusive,
+        LatchForm::Waiting,
+    );
+    assert_eq!(rt; holds, LatchReply::Granted(0));
     let waits = [
-        obtain(&rt, &board, &mut first, 9, Mode::Shared),
-        obtain(&rt, &board, &mut first, 9, Mode::Shared),
-        obtain(&rt, &board, &mut first, 9, Mode::Shared),
+        obtain(&rt, &board, &mut first, 9, Mode::Shared, LatchForm::Waiting),
+        obtain(&rt, &board, &mut first, 9, Mode::Shared, LatchForm::Waiting),
+        obtain(&rt, &board, &mut first, 9, Mode::Shared, LatchForm::Waiting),
     ];
-    let queued = |id: u32| Reply::Latch(LatchReply::Queued(id));
+    let queued = |id: u32| LatchReply::Queued(id);
     assert_eq!(rt; waits, [queued(1), queued(2), queued(3)]);
-    let released = of_request(&rt, &board, &mut second, 0, true);
-    let three = LatchReply::Released { granted: 3 };
-    assert_eq!(rt; released, Reply::Latch(three));
+    let released = release(&rt, &board, &mut second, 0);
+    assert_eq!(rt; released, LatchReply::Released { granted: 3 });
     let wake = |id: u32| Wake {
         caller: 0,
         id,

@@ -7,18 +7,18 @@ ghost use Rattle.mv_board.specs.Faces.{IsOf, Happened, IsAsListed, MayWatch, Pee
 ghost use Rattle.mv_board.specs.Turn.{named_by, MeetsLists, is_settled as is_settled_reply};
 ghost use Rattle.mv_board.specs.View.{own, with_turn};
 ghost use Rattle.mv_board.specs.declared.item.Item.TheVariants.{Away};
+ghost use Rattle.mv_board.specs.declared.watch.Watch.TheVariants as watch;
 
 use crate::board::Board;
 use crate::caller::Caller;
 use crate::item::{Item, Lists};
 use crate::rule::{Give, Return, Take};
 use crate::view::View;
-use crate::watch::Watch;
 use crate::words::TURN;
 use atomic_table::Seat;
 use crossbeam_utils::Backoff;
 use mv_latch::{LatchOp, LatchReply};
-use mv_machine::{Entry, Object, Op, Reply};
+use mv_machine::{Object, Op, Reply};
 use std::sync::Wait;
 
 impl Board {
@@ -60,7 +60,8 @@ impl Board {
         ensures listed { IsAsListed caller.old Object.Latches (Op.Latch op) (Reply.Latch result) }
     {
         let Lists { place, mut latches } = self.take(rt, &mut caller.seat);
-        let Some(reply) = latches.apply(caller.number, place, op, &mut caller.wakes) else {
+        let Some(reply) = latches.apply(caller.events.caller, place, op, &mut caller.events.wakes)
+        else {
             unreachable!()
         };
         let lists = Lists {
@@ -76,15 +77,9 @@ impl Board {
             0,
             &Item::Said(Op::Latch(op)),
         );
-        let entry = Entry {
-            caller: caller.number,
-            object: Object::Latches,
-            place,
-            op: Op::Latch(op),
-            reply: Reply::Latch(reply),
-        };
-        caller.left -= 1;
-        caller.log.push_reserved(entry);
+        caller
+            .events
+            .append(Object::Latches, place, Op::Latch(op), Reply::Latch(reply));
         reply
     }
 
@@ -97,11 +92,11 @@ impl Board {
         id: u32,
     ) -> bool
         requires board { IsOf self.now caller.old }
-        requires own { MayWatch self.now.config caller.old (Watch.Latch latch id) }
+        requires own { MayWatch self.now.config caller.old (watch.Latch latch id) }
         ensures { PeekedIn caller.old latch id result caller.new }
     {
         let lists = self.take(rt, &mut caller.seat);
-        let reply = lists.latches.confirm(caller.number, latch, id);
+        let reply = lists.latches.confirm(caller.events.caller, latch, id);
         let shared = &self.table.shared;
         shared.exchange(&mut caller.seat, 0, Item::Held(lists));
         shared.compare_exchange_with::<Return>(
@@ -109,7 +104,7 @@ impl Board {
             TURN,
             1,
             0,
-            &Item::Sought(Watch::Latch { latch, id }),
+            &Item::Sought { latch, id },
         );
         is_settled(reply)
     }

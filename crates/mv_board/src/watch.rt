@@ -2,7 +2,10 @@
 /// that it made is granted or gone.
 #[derive(Clone, Copy, Debug, PartialEq, Eq)]
 pub enum Watch {
+    /// The block's number.
     Ecb(u32),
+    /// The element's number.
     Element(u32),
+    /// The latch, and the number that the obtain was answered with.
     Latch { latch: u32, id: u32 },
 }

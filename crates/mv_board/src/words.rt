@@ -4,7 +4,7 @@ ghost use Rattle.std.specs.Prelude.{◌≡◌, ℕ, Some};
 ghost use Rattle.mv_machine.specs.Elements.{extra as extra_of};
 ghost use Rattle.mv_machine.specs.Packing.{HasOpFields, unpack as unpack_of};
 ghost use Rattle.mv_machine.specs.declared.packing.WordState.{WordState as AnyState};
-ghost use Rattle.mv_board.specs.Steps.{is_ready as is_ready_state};
+ghost use Rattle.mv_board.specs.Steps.{is_ready as ready_in};
 ghost use Rattle.mv_board.specs.Words.{word_number as number_of, changed, fits as fits_place, test_of as test_on};
 
 use mv_ecb::EcbOp;
@@ -83,13 +83,23 @@ pub(crate) fn change(object: Object, op: Op, word: u64) -> Option<(u32, u64, Rep
     Some((place, pack(place + 1, next), reply))
 }
 
-/// Whether a word of an object is what a watch of it waits for: a block that is complete, an element that is released.
-pub(crate) fn is_ready(object: Object, word: u64) -> bool
-    ensures { (place : ℕ) (state : AnyState) → unpack_of object word ≡ Some (place, state) → result ≡ is_ready_state state }
+// Whether a state is what a watch of its object waits for: a block that is complete, an element that is released.
+fn is_ready_state(state: &WordState) -> bool
+    ensures { result ≡ ready_in state.now }
 {
-    match object {
-        Object::Ecb(_) => word % PLACE >> 30 == 1,
-        Object::Element(_) => (word >> 24) % 8 == 4,
-        _ => false,
+    match state {
+        WordState::Ecb(word) => word.is_complete(),
+        WordState::Element(state) => matches!(state.phase, Phase::Released),
+        WordState::Volume(_) => false,
+    }
+}
+
+/// Whether a word of an object is what a watch of it waits for.
+pub(crate) fn is_ready(object: Object, word: u64) -> bool
+    ensures { (place : ℕ) (state : AnyState) → unpack_of object word ≡ Some (place, state) → result ≡ ready_in state }
+{
+    match unpack(object, word) {
+        Some((_, state)) => is_ready_state(&state),
+        None => false,
     }
 }

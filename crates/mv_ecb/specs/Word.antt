@@ -1,5 +1,5 @@
 -- The fullword of an event control block, and what it stands for.
-use Rattle.std.specs.Prelude.{ℕ, ◌+◌, ◌-◌, ◌^◌, ◌<◌, ◌≤◌, ◌≡◌, ◌⊎◌, nat_lt, ◌==◌, if◌then◌else◌}
+use Rattle.std.specs.Prelude.{ℕ, Bool, true, false, ◌+◌, ◌-◌, ◌^◌, ◌<◌, ◌≤◌, ◌≡◌, ◌⊎◌, nat_lt, ◌==◌, if◌then◌else◌}
 
 -- nothing has happened; a task waits; a task waits and an exit is to run; the event is complete with a code
 pub data EcbState : Type 0 where
@@ -7,6 +7,11 @@ pub data EcbState : Type 0 where
   Waiting : EcbState
   Extended : (exit : ℕ) → EcbState
   Complete : (code : ℕ) → EcbState
+
+-- whether the event is complete
+abbrev pub is_complete : EcbState → Bool
+is_complete (Complete code) = true
+is_complete _ = false
 
 -- bit 0 of the fullword, its highest, and bit 1 below it
 abbrev pub wait_bit : ℕ

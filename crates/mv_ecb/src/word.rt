@@ -1,5 +1,5 @@
 ghost use Rattle.std.specs.Prelude.{◌≡◌, ◌<◌, ◌^◌, ◌↔◌, IsSome, IfSome};
-ghost use Rattle.mv_ecb.specs.Word.{IsEcbWord, Zero, word_of, state_of};
+ghost use Rattle.mv_ecb.specs.Word.{IsEcbWord, Zero, is_complete as is_complete_state, word_of, state_of};
 ghost use Rattle.mv_ecb.specs.Table.{IsEcbOp, ecb_step, wait_step, standing_reply};
 
 use crate::operation::{EcbOp, EcbReply};
@@ -49,6 +49,13 @@ impl EcbWord {
             3 => None,
             _ => Some(EcbWord { bits: word }),
         }
+    }
+
+    /// Whether the event is complete.
+    pub fn is_complete(self) -> bool
+        ensures { result ≡ is_complete_state self }
+    {
+        self.bits >> 30 == 1
     }
 
     /// The fullword.
@@ -102,7 +109,7 @@ fn post(word: EcbWord, code: u32) -> (EcbWord, EcbReply)
     ensures { result ≡ ecb_step (EcbOp.Post code) word }
 {
     let value = word.bits & VALUE_BITS;
-    if word.bits >> 30 == 1 {
+    if word.is_complete() {
         return (word, EcbReply::Already(value));
     }
     let complete = EcbWord {

@@ -1,14 +1,17 @@
 -- What one operation does to each list, and who stays granted.
 use Rattle.std.proofs.Common.{◌≡◌, ℕ, zero, suc, Bool, true, false, not, List, [], ◌∷◌, ◌++◌, length, map, filter, set, cond, ◌⊎◌, inl, inr, refl, sym, ap, ◌∙◌, arith}
+use Rattle.std.specs.List.{Contains}
 use Rattle.std.proofs.lemmas.Bool.{cases_eq, cases_lt, true≢false}
 use Rattle.std.proofs.lemmas.List.{get_or-set_same, get_or-set_other, set_past}
+use Rattle.std.proofs.lemmas.List.Elements.{All-contains, filter_passes}
 use Rattle.mv_latch.specs.declared.request.Request.{Request}
 use Rattle.mv_latch.specs.declared.operation.LatchOp.{LatchOp}
 use Rattle.mv_latch.specs.declared.operation.LatchOp.TheVariants.{Obtain, Confirm, Release, Purge}
 use Rattle.mv_latch.specs.declared.operation.LatchReply.{LatchReply}
 use Rattle.mv_latch.specs.Request.{shared_request, is_own, of_requestor}
-use Rattle.mv_latch.specs.Latch.{IsIn, shared_front, granted, obtain_step, release_step, without, purged}
+use Rattle.mv_latch.specs.Latch.{shared_front, granted, obtain_step, release_step, without, purged}
 use Rattle.mv_latch.specs.LatchSet.{list_of, latch_step}
+use Rattle.mv_latch.proofs.Members.{not_in_empty, first_or_rest, with_first}
 
 -- a list after one operation, which has this number for a new request
 pub data Changed (id : ℕ) (old new : List Request) : Type 0 where
@@ -55,61 +58,57 @@ latch_changes caller id (Release latch old conditional) lists j =
 latch_changes caller id (Purge requestor) lists j = shrank (λ q. not (of_requestor requestor q)) (list_of-purged requestor lists j)
 
 -- ---- a granted request stays granted while it is there
-in_filter : (p : Request → Bool) (q : Request) (qs : List Request) → IsIn q (filter p qs) → p q ≡ true
-in_filter p q [] i = absurd i
-in_filter p q (x ∷ xs) i = go (p x) refl (in_filter p q xs) i where
-  go : (b : Bool) → p x ≡ b → (IsIn q (filter p xs) → p q ≡ true) → IsIn q (cond b (x ∷ filter p xs) (filter p xs)) → p q ≡ true
-  go true e ih (inl s) = ap p (sym s) ∙ e
-  go true e ih (inr i) = ih i
-  go false e ih i = ih i
+-- who passed a filter meets its test
+in_filter : (p : Request → Bool) (q : Request) (qs : List Request) → Contains (filter p qs) q → p q ≡ true
+in_filter p q qs i = All-contains (λ x. p x ≡ true) (filter p qs) q (filter_passes p qs) i
 
-front_filter : (p : Request → Bool) (q : Request) (qs : List Request) → IsIn q (shared_front qs) → p q ≡ true → IsIn q (shared_front (filter p qs))
-front_filter p q [] i t = absurd i
+front_filter : (p : Request → Bool) (q : Request) (qs : List Request) → Contains (shared_front qs) q → p q ≡ true → Contains (shared_front (filter p qs)) q
+front_filter p q [] i t = absurd (not_in_empty q i)
 front_filter p q (x ∷ xs) i t = go (shared_request x) (p x) refl refl (λ i. front_filter p q xs i t) i where
-  go : (s b : Bool) → shared_request x ≡ s → p x ≡ b → (IsIn q (shared_front xs) → IsIn q (shared_front (filter p xs))) → IsIn q (cond s (x ∷ shared_front xs) []) → IsIn q (shared_front (cond b (x ∷ filter p xs) (filter p xs)))
-  go true true es eb ih (inl e) = rw es (inl e)
-  go true true es eb ih (inr i) = rw es (inr (ih i))
-  go true false es eb ih (inl e) = absurd (true≢false (sym t ∙ ap p (sym e) ∙ eb))
-  go true false es eb ih (inr i) = ih i
-  go false b es eb ih i = absurd i
+  go : (s b : Bool) → shared_request x ≡ s → p x ≡ b → (Contains (shared_front xs) q → Contains (shared_front (filter p xs)) q) → Contains (cond s (x ∷ shared_front xs) []) q → Contains (shared_front (cond b (x ∷ filter p xs) (filter p xs))) q
+  go true true es eb ih i = rw es (with_first x (shared_front xs) (shared_front (filter p xs)) q ih i)
+  go true false es eb ih i =
+      elim (first_or_rest x (shared_front xs) q i) [ inl e ↦ absurd (true≢false (sym t ∙ ap p (sym e) ∙ eb)) | inr j ↦ ih j ]
+  go false b es eb ih i = absurd (not_in_empty q i)
 
-front_granted : (q : Request) (qs : List Request) → IsIn q (shared_front qs) → IsIn q (granted qs)
-front_granted q [] i = absurd i
+front_granted : (q : Request) (qs : List Request) → Contains (shared_front qs) q → Contains (granted qs) q
+front_granted q [] i = absurd (not_in_empty q i)
 front_granted q (x ∷ xs) i = go (shared_request x) refl i where
-  go : (s : Bool) → shared_request x ≡ s → IsIn q (cond s (x ∷ shared_front xs) []) → IsIn q (granted (x ∷ xs))
+  go : (s : Bool) → shared_request x ≡ s → Contains (cond s (x ∷ shared_front xs) []) q → Contains (granted (x ∷ xs)) q
   go true e i = rw e i
-  go false e i = absurd i
+  go false e i = absurd (not_in_empty q i)
 
-granted_filter : (p : Request → Bool) (q : Request) (qs : List Request) → IsIn q (granted qs) → p q ≡ true → IsIn q (granted (filter p qs))
-granted_filter p q [] i t = absurd i
+granted_filter : (p : Request → Bool) (q : Request) (qs : List Request) → Contains (granted qs) q → p q ≡ true → Contains (granted (filter p qs)) q
+granted_filter p q [] i t = absurd (not_in_empty q i)
 granted_filter p q (x ∷ xs) i t = go (shared_request x) (p x) refl refl i where
-  go : (s b : Bool) → shared_request x ≡ s → p x ≡ b → IsIn q (cond s (cond s (x ∷ shared_front xs) []) (x ∷ [])) → IsIn q (granted (cond b (x ∷ filter p xs) (filter p xs)))
-  go true true es eb (inl e) = rw es (inl e)
-  go true true es eb (inr i) = rw es (inr (front_filter p q xs i t))
-  go true false es eb (inl e) = absurd (true≢false (sym t ∙ ap p (sym e) ∙ eb))
-  go true false es eb (inr i) = front_granted q (filter p xs) (front_filter p q xs i t)
+  go : (s b : Bool) → shared_request x ≡ s → p x ≡ b → Contains (cond s (cond s (x ∷ shared_front xs) []) (x ∷ [])) q → Contains (granted (cond b (x ∷ filter p xs) (filter p xs))) q
+  go true true es eb i = rw es (with_first x (shared_front xs) (shared_front (filter p xs)) q (λ j. front_filter p q xs j t) i)
+  go true false es eb i = elim (first_or_rest x (shared_front xs) q i) [
+    | inl e ↦ absurd (true≢false (sym t ∙ ap p (sym e) ∙ eb))
+    | inr j ↦ front_granted q (filter p xs) (front_filter p q xs j t)
+  ]
   go false true es eb i = rw es i
-  go false false es eb (inl e) = absurd (true≢false (sym t ∙ ap p (sym e) ∙ eb))
-  go false false es eb (inr i) = absurd i
+  go false false es eb i = elim (first_or_rest x [] q i) [
+    | inl e ↦ absurd (true≢false (sym t ∙ ap p (sym e) ∙ eb))
+    | inr j ↦ absurd (not_in_empty q j)
+  ]
 
-front_push : (q r : Request) (qs : List Request) → IsIn q (shared_front qs) → IsIn q (shared_front (qs ++ r ∷ []))
-front_push q r [] i = absurd i
+front_push : (q r : Request) (qs : List Request) → Contains (shared_front qs) q → Contains (shared_front (qs ++ r ∷ [])) q
+front_push q r [] i = absurd (not_in_empty q i)
 front_push q r (x ∷ xs) i = go (shared_request x) refl (front_push q r xs) i where
-  go : (s : Bool) → shared_request x ≡ s → (IsIn q (shared_front xs) → IsIn q (shared_front (xs ++ r ∷ []))) → IsIn q (cond s (x ∷ shared_front xs) []) → IsIn q (shared_front (x ∷ (xs ++ r ∷ [])))
-  go true e ih (inl s) = rw e (inl s)
-  go true e ih (inr i) = rw e (inr (ih i))
-  go false e ih i = absurd i
+  go : (s : Bool) → shared_request x ≡ s → (Contains (shared_front xs) q → Contains (shared_front (xs ++ r ∷ [])) q) → Contains (cond s (x ∷ shared_front xs) []) q → Contains (shared_front (x ∷ (xs ++ r ∷ []))) q
+  go true e ih i = rw e (with_first x (shared_front xs) (shared_front (xs ++ r ∷ [])) q ih i)
+  go false e ih i = absurd (not_in_empty q i)
 
-granted_push : (q r : Request) (qs : List Request) → IsIn q (granted qs) → IsIn q (granted (qs ++ r ∷ []))
-granted_push q r [] i = absurd i
+granted_push : (q r : Request) (qs : List Request) → Contains (granted qs) q → Contains (granted (qs ++ r ∷ [])) q
+granted_push q r [] i = absurd (not_in_empty q i)
 granted_push q r (x ∷ xs) i = go (shared_request x) refl i where
-  go : (s : Bool) → shared_request x ≡ s → IsIn q (cond s (cond s (x ∷ shared_front xs) []) (x ∷ [])) → IsIn q (granted (x ∷ (xs ++ r ∷ [])))
-  go true e (inl s) = rw e (inl s)
-  go true e (inr i) = rw e (inr (front_push q r xs i))
+  go : (s : Bool) → shared_request x ≡ s → Contains (cond s (cond s (x ∷ shared_front xs) []) (x ∷ [])) q → Contains (granted (x ∷ (xs ++ r ∷ []))) q
+  go true e i = rw e (with_first x (shared_front xs) (shared_front (xs ++ r ∷ [])) q (front_push q r xs) i)
   go false e i = rw e i
 
 -- a granted request stays granted until it is taken out
-pub stays_granted : (id : ℕ) (old new : List Request) (q : Request) → Changed id old new → IsIn q (granted old) → IsIn q new → IsIn q (granted new)
+pub stays_granted : (id : ℕ) (old new : List Request) (q : Request) → Changed id old new → Contains (granted old) q → Contains new q → Contains (granted new) q
 stays_granted id old new q (same e) g i = rw e g
 stays_granted id old new q (grew r is e) g i = rw e (granted_push q r old g)
 stays_granted id old new q (shrank p e) g i = rw e (granted_filter p q old g (in_filter p q old (rw e at i)))

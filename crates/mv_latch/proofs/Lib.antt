@@ -5,4 +5,5 @@ pub mod Quotas
 pub mod Ready
 pub mod Holders
 pub mod Numbers
+pub mod Members
 pub mod Changes

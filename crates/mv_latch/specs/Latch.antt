@@ -1,5 +1,5 @@
 -- One latch: a list of requests in the order of their arrival, and what each operation does to it.
-use Rattle.std.specs.Prelude.{◌≡◌, ◌⊎◌, ℕ, Bool, true, not, ◌&&◌, List, [], ◌∷◌, ◌++◌, length, filter, map, drop, ◌≤◌, if◌then◌else◌}
+use Rattle.std.specs.Prelude.{ℕ, Bool, true, not, ◌&&◌, List, [], ◌∷◌, ◌++◌, length, filter, map, drop, ◌≤◌, if◌then◌else◌}
 use Rattle.std.specs.List.{list_any, list_all}
 use Rattle.mv_latch.specs.declared.request.Request.{Request}
 use Rattle.mv_latch.specs.declared.operation.LatchReply.{LatchReply}
@@ -20,11 +20,6 @@ granted (q ∷ qs) = if shared_request q then shared_front (q ∷ qs) else q ∷
 -- the requests behind those that hold the latch
 abbrev pub waiting : List Request → List Request
 waiting qs = drop (length (granted qs)) qs
-
--- the request stands in the list
-abbrev pub IsIn : Request → List Request → Type 0
-IsIn r [] = ⊥
-IsIn r (q ∷ qs) = (q ≡ r) ⊎ IsIn r qs
 
 -- whether a new request at the list's end is granted at once
 abbrev pub grants : List Request → Request → Bool

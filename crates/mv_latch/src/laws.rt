@@ -1,12 +1,12 @@
 // What holds of the definitions. Each function here is called for its clause alone.
 
 ghost use Rattle.std.specs.Prelude.{◌≡◌, ◌≢◌, ℕ, ◌∷◌, [], ◌++◌, List, true, false, not, length};
-ghost use Rattle.std.specs.List.{list_any};
+ghost use Rattle.std.specs.List.{Contains, list_any};
 ghost use Rattle.mv_latch.specs.declared.request.Request.{Request};
 ghost use Rattle.mv_latch.specs.declared.operation.LatchOp.{LatchOp};
 ghost use Rattle.mv_latch.specs.declared.operation.LatchOp.TheVariants.{Purge};
 ghost use Rattle.mv_latch.specs.Request.{shared_request, of_requestor};
-ghost use Rattle.mv_latch.specs.Latch.{IsIn, granted, waiting, grants};
+ghost use Rattle.mv_latch.specs.Latch.{granted, waiting, grants};
 ghost use Rattle.mv_latch.specs.LatchSet.{list_of, count_in, latch_step, IsNewId};
 
 /// The granted requests of a list are its first ones, in the order of their arrival, and the waiting ones follow.
@@ -30,7 +30,7 @@ pub fn arrival_grants()
 pub fn granted_stay()
     ensures { (caller id latch : ℕ) (op : LatchOp) (before : List (List Request)) (request : Request) →
         let after = (latch_step caller id op before).0 in
-        IsIn request (granted (list_of before latch)) → IsIn request (list_of after latch) → IsIn request (granted (list_of after latch)) }
+        Contains (granted (list_of before latch)) request → Contains (list_of after latch) request → Contains (granted (list_of after latch)) request }
 {}
 
 /// An operation brings no number but its own into the lists. So a caller that counts its numbers up always has

@@ -15,7 +15,7 @@ use Rattle.mv_machine.specs.declared.entry.Object.TheVariants.{Ecb, Element, Vol
 use Rattle.mv_machine.specs.declared.entry.Op.{Op}
 use Rattle.mv_machine.specs.declared.entry.Op.TheVariants as op_on
 use Rattle.mv_machine.specs.declared.entry.Reply.{Reply}
-use Rattle.mv_machine.specs.Kept.{Standing, standing, is_posting, keeps_quotas, latch_allowed, allowed}
+use Rattle.mv_machine.specs.Kept.{StandingRequest, standing, is_posting, keeps_quotas, latch_allowed, allowed}
 use Rattle.mv_machine.specs.Legal.{IsNext, Legal, after, of}
 use Rattle.mv_machine.specs.Setup.{Setup}
 use Rattle.mv_machine.specs.System.{System, opening, admitted, latches_of, moved, posts_own_ecb}
@@ -27,7 +27,7 @@ use Rattle.mv_machine.proofs.StandingCounts.{count_stands, posted_count_stands}
 abbrev HasLists : Setup → System → Type 0
 HasLists c s = length s.latches.state ≡ c.latches
 
-lists_next : (c : Setup) (s : System) (k : ℕ) (o : Object) (p : ℕ) (op : Op) (r : Reply) → IsNext c s (entry_of k o p op r) → HasLists c s → HasLists c (moved s k o op)
+pub lists_next : (c : Setup) (s : System) (k : ℕ) (o : Object) (p : ℕ) (op : Op) (r : Reply) → IsNext c s (entry_of k o p op r) → HasLists c s → HasLists c (moved s k o op)
 lists_next c s k Latches p (op_on.Latch op) r h w = same_count k s.latches.place op s.latches.state ∙ w
 lists_next c s k (Ecb m) p (op_on.Ecb op) r h w = w
 lists_next c s k (Element m) p (op_on.Element op) r h w = w
@@ -39,12 +39,12 @@ lists_stay c es l =
     along_all c (HasLists c) (λ s e h w. lists_next c s e.caller e.object e.place e.op e.reply h w) (opening c) es l (length-replicate c.latches [])
 
 -- ---- the quotas
-within : (c : Setup) (k : ℕ) (form : LatchForm) (ts : List Standing) (lists : List (List Request))
+within : (c : Setup) (k : ℕ) (form : LatchForm) (ts : List StandingRequest) (lists : List (List Request))
     → count_in (of_caller k) lists ≤ length ts → count_in (posted_of k) lists ≤ length (filter is_posting ts)
     → keeps_quotas c ts form ≡ true → is_within_quotas k form (latches_of c lists) ≡ true
 within c k form ts lists all posted q = grind (arith, nat_tests)
 
-admits : (c : Setup) (k : ℕ) (op : LatchOp) (ts : List Standing) (lists : List (List Request)) → length lists ≡ c.latches
+admits : (c : Setup) (k : ℕ) (op : LatchOp) (ts : List StandingRequest) (lists : List (List Request)) → length lists ≡ c.latches
     → count_in (of_caller k) lists ≤ length ts → count_in (posted_of k) lists ≤ length (filter is_posting ts)
     → latch_allowed c ts op ≡ true → latch_admitted k op (latches_of c lists) ≡ true
 admits c k (Obtain latch requestor mode form) ts lists n all posted a =

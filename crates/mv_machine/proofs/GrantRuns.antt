@@ -1,12 +1,14 @@
 -- How a caller's request at a latch fares: one that is gone stays gone, and one that is granted stays granted or is gone.
 use Rattle.std.proofs.Common.{◌≡◌, ◌⊎◌, ℕ, ◌<◌, Bool, true, false, ◌||◌, List, [], ◌∷◌, ◌++◌, filter, cond, inl, inr, refl, sym, ap, ◌∙◌, subst, arith}
-use Rattle.std.specs.List.{list_any}
+use Rattle.std.specs.List.{Contains, list_any}
 use Rattle.std.proofs.lemmas.Bool.{cases_Bool, false≢true, eqb-true, and_parts, and_left, or_left, or_right, ne_eqb}
+use Rattle.std.proofs.lemmas.List.Elements.{All-contains, All-contains_itself, All-filter, Contains-append_left, Contains-push_cases}
 use Rattle.std.proofs.lemmas.List.Folds.{list_any-append}
 use Rattle.mv_latch.specs.declared.request.Request.{Request}
-use Rattle.mv_latch.specs.Latch.{IsIn, granted, waiting}
+use Rattle.mv_latch.specs.Latch.{granted, waiting}
 use Rattle.mv_latch.specs.Request.{is_own}
 use Rattle.mv_latch.proofs.Changes.{Changed, same, grew, shrank, stays_granted}
+use Rattle.mv_latch.proofs.Members.{not_in_empty, first_or_rest, first_is_in, rest_is_in}
 use Rattle.mv_latch.proofs.Splits.{granted_split}
 use Rattle.mv_machine.specs.declared.entry.Entry.{Entry}
 use Rattle.mv_machine.specs.declared.entry.Object.TheVariants.{Latches}
@@ -54,45 +56,33 @@ gone_stays c xs ys k latch id l lt gone =
 -- ---- one that is granted stays granted or is gone
 -- the request that a test finds
 abbrev Found : (Request → Bool) → List Request → Type 0
-Found t qs = (q : Request) × IsIn q qs × (t q ≡ true)
+Found t qs = (q : Request) × Contains qs q × (t q ≡ true)
 
 found : (t : Request → Bool) (qs : List Request) → list_any t qs ≡ true → Found t qs
 found t [] e = absurd (false≢true e)
 found t (q ∷ qs) e = go (t q) refl e (found t qs) where
   go : (b : Bool) → t q ≡ b → (b || list_any t qs) ≡ true → (list_any t qs ≡ true → Found t qs) → Found t (q ∷ qs)
-  go true is f rest = (q, inl refl, is)
-  go false is f rest = let w : Found t qs = rest f in (w.0, inr w.1, w.2)
+  go true is f rest = (q, first_is_in q qs q refl, is)
+  go false is f rest = let w : Found t qs = rest f in (w.0, rest_is_in q qs w.0 w.1, w.2)
 
-finds : (t : Request → Bool) (q : Request) (qs : List Request) → IsIn q qs → t q ≡ true → list_any t qs ≡ true
-finds t q [] i is = absurd i
-finds t q (x ∷ xs) (inl e) is = or_left (t x) (list_any t xs) (ap t e ∙ is)
-finds t q (x ∷ xs) (inr i) is = or_right (t x) (list_any t xs) (finds t q xs i is)
+-- where a list contains a request that meets a test, the test finds one
+finds : (t : Request → Bool) (q : Request) (qs : List Request) → Contains qs q → t q ≡ true → list_any t qs ≡ true
+finds t q [] i is = absurd (not_in_empty q i)
+finds t q (x ∷ xs) i is = elim (first_or_rest x xs q i) [
+  | inl e ↦ or_left (t x) (list_any t xs) (ap t e ∙ is)
+  | inr j ↦ or_right (t x) (list_any t xs) (finds t q xs j is)
+]
 
-in_front : (q : Request) (xs ys : List Request) → IsIn q xs → IsIn q (xs ++ ys)
-in_front q [] ys i = absurd i
-in_front q (x ∷ xs) ys (inl e) = inl e
-in_front q (x ∷ xs) ys (inr i) = inr (in_front q xs ys i)
-
-in_pushed : (q r : Request) (xs : List Request) → IsIn q (xs ++ r ∷ []) → IsIn q xs ⊎ (r ≡ q)
-in_pushed q r [] (inl e) = inr e
-in_pushed q r [] (inr i) = absurd i
-in_pushed q r (x ∷ xs) (inl e) = inl (inl e)
-in_pushed q r (x ∷ xs) (inr i) = elim (in_pushed q r xs i) [ inl j ↦ inl (inr j) | inr e ↦ inr e ]
-
-in_left : (p : Request → Bool) (q : Request) (xs : List Request) → IsIn q (filter p xs) → IsIn q xs
-in_left p q [] i = i
-in_left p q (x ∷ xs) i = go (p x) i (in_left p q xs) where
-  go : (b : Bool) → IsIn q (cond b (x ∷ filter p xs) (filter p xs)) → (IsIn q (filter p xs) → IsIn q xs) → IsIn q (x ∷ xs)
-  go true (inl e) rest = inl e
-  go true (inr j) rest = inr (rest j)
-  go false j rest = inr (rest j)
+-- who is left was there before
+in_left : (p : Request → Bool) (q : Request) (xs : List Request) → Contains (filter p xs) q → Contains xs q
+in_left p q xs i = All-contains (Contains xs) (filter p xs) q (All-filter p (Contains xs) xs (All-contains_itself xs)) i
 
 -- whoever is in the new list was in the old one, or is the new request
-came_from : (place : ℕ) (old new : List Request) (q : Request) → Changed place old new → IsIn q new → IsIn q old ⊎ (q.id ≡ place)
-came_from place old new q (same e) i = inl (subst (IsIn q) e i)
+came_from : (place : ℕ) (old new : List Request) (q : Request) → Changed place old new → Contains new q → Contains old q ⊎ (q.id ≡ place)
+came_from place old new q (same e) i = inl (rw e at i)
 came_from place old new q (grew r is e) i =
-    elim (in_pushed q r old (subst (IsIn q) e i)) [ inl j ↦ inl j | inr f ↦ inr (ap (λ (y : Request). y.id) (sym f) ∙ is) ]
-came_from place old new q (shrank p e) i = inl (in_left p q old (subst (IsIn q) e i))
+    elim (Contains-push_cases old r q (rw e at i)) [ inl j ↦ inl j | inr f ↦ inr (ap (λ (y : Request). y.id) (sym f) ∙ is) ]
+came_from place old new q (shrank p e) i = inl (in_left p q old (rw e at i))
 
 own_number : (k id : ℕ) (q : Request) → is_own k id q ≡ true → q.id ≡ id
 own_number k id q own = eqb-true q.id id (and_parts _ _ own).0
@@ -101,14 +91,14 @@ own_number k id q own = eqb-true q.id id (and_parts _ _ own).0
 still_granted : (k id place : ℕ) (old new : List Request) → Changed place old new → InOrder place old → Found (is_own k id) (granted old)
     → Found (is_own k id) new → list_any (is_own k id) (granted new) ≡ true
 still_granted k id place old new c o (q, i, own) (r, j, own_too) =
-    let was : IsIn q old = subst (IsIn q) (granted_split old) (in_front q (granted old) (waiting old) i) in
+    let was : Contains old q = subst (λ qs. Contains qs q) (granted_split old) (Contains-append_left (granted old) (waiting old) q i) in
     let numbers : q.id ≡ r.id = own_number k id q own ∙ sym (own_number k id r own_too) in
-    let too : IsIn r old = elim (came_from place old new r c j) [
+    let too : Contains old r = elim (came_from place old new r c j) [
       | inl x ↦ x
       | inr is ↦ absurd (omega (arith, below_in place q old o.below was))
     ] in
     let one : r ≡ q = sym (same_number 0 q r old o.rises was too numbers) in
-    finds (is_own k id) q (granted new) (stays_granted place old new q c i (subst (λ z. IsIn z new) one j)) own
+    finds (is_own k id) q (granted new) (stays_granted place old new q c i (subst (Contains new) one j)) own
 
 granted_next : (k id place : ℕ) (old new : List Request) → Changed place old new → InOrder place old
     → list_any (is_own k id) (granted old) ≡ true → (list_any (is_own k id) (granted new) ≡ true) ⊎ (list_any (is_own k id) new ≡ false)
@@ -120,7 +110,8 @@ granted_next k id place old new c o holds = elim (cases_Bool (list_any (is_own k
 earlier_number : (k id place : ℕ) (qs : List Request) → InOrder place qs → list_any (is_own k id) (granted qs) ≡ true → id < place
 earlier_number k id place qs o holds =
     let f : Found (is_own k id) (granted qs) = found (is_own k id) (granted qs) holds in
-    let in_list : IsIn f.0 qs = subst (IsIn f.0) (granted_split qs) (in_front f.0 (granted qs) (waiting qs) f.1) in
+    let in_list : Contains qs f.0 =
+    subst (λ rs. Contains rs f.0) (granted_split qs) (Contains-append_left (granted qs) (waiting qs) f.0 f.1) in
     omega (arith, below_in place f.0 qs o.below in_list, own_number k id f.0 f.2)
 
 -- it holds the latch, or is gone for ever

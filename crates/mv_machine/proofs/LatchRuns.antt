@@ -1,11 +1,12 @@
 -- What the lists of the latch set keep to along a legal list: their numbers rise, and are earlier than the place.
 use Rattle.std.proofs.Common.{◌≡◌, ◌⊎◌, ℕ, ◌+◌, ◌<◌, ◌≤◌, zero, suc, Bool, true, false, List, [], ◌∷◌, ◌++◌, filter, replicate, cond, inl, inr, refl, sym, ap, ◌∙◌, arith}
-use Rattle.std.specs.List.{AllByRecursion}
+use Rattle.std.specs.List.{AllByRecursion, Contains}
 use Rattle.std.proofs.lemmas.Bool.{false≢true}
+use Rattle.std.proofs.lemmas.List.Elements.{All-contains, All-from_recursion}
 use Rattle.mv_latch.specs.declared.request.Request.{Request}
-use Rattle.mv_latch.specs.Latch.{IsIn}
 use Rattle.mv_latch.specs.LatchSet.{list_of}
 use Rattle.mv_latch.proofs.Changes.{Changed, same, grew, shrank, latch_changes}
+use Rattle.mv_latch.proofs.Members.{not_in_empty, first_or_rest}
 use Rattle.mv_machine.specs.declared.entry.Entry.{Entry}
 use Rattle.mv_machine.specs.declared.entry.Object.{Object}
 use Rattle.mv_machine.specs.declared.entry.Object.TheVariants.{Ecb, Element, Volume, Latches}
@@ -82,20 +83,23 @@ below_pushed place [] r is b = (omega arith, tt)
 below_pushed place (q ∷ qs) r is b = (omega (arith, b.0), below_pushed place qs r is b.1)
 
 -- who is in a list has a number from where it rises
-rises_in : (low : ℕ) (q : Request) (qs : List Request) → RisesFrom low qs → IsIn q qs → low ≤ q.id
-rises_in low q [] r i = absurd i
-rises_in low q (x ∷ xs) r (inl e) = rw (sym e) (r.0)
-rises_in low q (x ∷ xs) r (inr i) = omega (arith, r.0, rises_in (x.id + 1) q xs r.1 i)
+rises_in : (low : ℕ) (q : Request) (qs : List Request) → RisesFrom low qs → Contains qs q → low ≤ q.id
+rises_in low q [] r i = absurd (not_in_empty q i)
+rises_in low q (x ∷ xs) r i = elim (first_or_rest x xs q i) [
+  | inl e ↦ rw (sym e) (r.0)
+  | inr j ↦ omega (arith, r.0, rises_in (x.id + 1) q xs r.1 j)
+]
 
 -- two requests of one number are one
-pub same_number : (low : ℕ) (q r : Request) (qs : List Request) → RisesFrom low qs → IsIn q qs → IsIn r qs → q.id ≡ r.id → q ≡ r
-same_number low q r [] rises i j is = absurd i
-same_number low q r (x ∷ xs) rises (inl e) (inl f) is = sym e ∙ f
-same_number low q r (x ∷ xs) rises (inl e) (inr j) is =
-    absurd (omega (arith, rises_in (x.id + 1) r xs rises.1 j, ap (λ (y : Request). y.id) e))
-same_number low q r (x ∷ xs) rises (inr i) (inl f) is =
-    absurd (omega (arith, rises_in (x.id + 1) q xs rises.1 i, ap (λ (y : Request). y.id) f))
-same_number low q r (x ∷ xs) rises (inr i) (inr j) is = same_number (x.id + 1) q r xs rises.1 i j is
+pub same_number : (low : ℕ) (q r : Request) (qs : List Request) → RisesFrom low qs → Contains qs q → Contains qs r → q.id ≡ r.id → q ≡ r
+same_number low q r [] rises i j is = absurd (not_in_empty q i)
+same_number low q r (x ∷ xs) rises i j is =
+    go (first_or_rest x xs q i) (first_or_rest x xs r j) (λ k l. same_number (x.id + 1) q r xs rises.1 k l is) where
+      go : (x ≡ q) ⊎ Contains xs q → (x ≡ r) ⊎ Contains xs r → (Contains xs q → Contains xs r → q ≡ r) → q ≡ r
+      go (inl e) (inl f) rest = sym e ∙ f
+      go (inl e) (inr l) rest = absurd (omega (arith, rises_in (x.id + 1) r xs rises.1 l, ap (λ (y : Request). y.id) e))
+      go (inr k) (inl f) rest = absurd (omega (arith, rises_in (x.id + 1) q xs rises.1 k, ap (λ (y : Request). y.id) f))
+      go (inr k) (inr l) rest = rest k l
 
 in_order_next : (place : ℕ) (old new : List Request) → Changed place old new → InOrder place old → InOrder (place + 1) new
 in_order_next place old new (same e) o = rw e (record { rises = o.rises; below = below_later place old o.below })
@@ -125,11 +129,10 @@ ordered c es latch l =
 pub numbers_rise : (c : Setup) (es : List Entry) (latch : ℕ) → Legal c es → RisesFrom 0 (list_at (after c es) latch)
 numbers_rise c es latch l = (ordered c es latch l).rises
 
-pub below_in : (place : ℕ) (q : Request) (qs : List Request) → EndsBelow place qs → IsIn q qs → q.id < place
-below_in place q [] b i = absurd i
-below_in place q (x ∷ xs) b (inl e) = rw (sym e) (b.0)
-below_in place q (x ∷ xs) b (inr i) = below_in place q xs b.1 i
+-- who is in a list whose numbers are below the place has one below it
+pub below_in : (place : ℕ) (q : Request) (qs : List Request) → EndsBelow place qs → Contains qs q → q.id < place
+below_in place q qs b i = All-contains (λ r. r.id < place) qs q (All-from_recursion (λ r. r.id < place) qs b) i
 
-pub numbers_are_earlier : (c : Setup) (es : List Entry) (latch : ℕ) (q : Request) → Legal c es → IsIn q (list_at (after c es) latch)
+pub numbers_are_earlier : (c : Setup) (es : List Entry) (latch : ℕ) (q : Request) → Legal c es → Contains (list_at (after c es) latch) q
     → q.id < (after c es).latches.place
 numbers_are_earlier c es latch q l i = below_in (after c es).latches.place q (list_at (after c es) latch) (ordered c es latch l).below i

@@ -2,6 +2,8 @@
 use Rattle.std.proofs.Common.{◌≡◌, ℕ, ◌+◌, ◌<◌, ◌≤◌, ◌==◌, Bool, true, false, cond, List, [], ◌∷◌, ◌++◌, length, drop, Some, IsSome, refl, sym, ap, ◌∙◌, arith, le_refl, length-append, append_assoc}
 use Rattle.std.proofs.lemmas.List.{take-append-le, drop-append-le, take_all, drop_all}
 use Rattle.std.proofs.lemmas.Bool.{false≢true}
+use Rattle.std.proofs.lemmas.List.Elements.{All-weaker, All-from_recursion}
+use Rattle.std.specs.List.{All, AllByRecursion}
 use Rattle.mv_machine.specs.declared.entry.Entry.{Entry}
 use Rattle.mv_machine.specs.declared.entry.Object.{Object}
 use Rattle.mv_machine.specs.declared.entry.Object.TheVariants.{Ecb, Element, Volume, Latches}
@@ -12,7 +14,7 @@ use Rattle.mv_machine.specs.Parts.{IsBelow, IsFrom, Had}
 use Rattle.mv_machine.specs.Setup.{Setup}
 use Rattle.mv_machine.specs.System.{System, opening, place_of}
 use Rattle.mv_machine.specs.Told.{told_at, told_from}
-use Rattle.mv_machine.proofs.Budgets.{place_is_count}
+use Rattle.mv_machine.proofs.Budgets.{place_is_count, places_fit}
 use Rattle.mv_machine.proofs.Histories.{after_from-append, LegalFrom-append, LegalFrom-front, LegalFrom-rest, place-after, place-moved}
 use Rattle.mv_machine.proofs.Objects.{of-append, at-append, same_self}
 use Rattle.mv_machine.proofs.SameParts.{after_by_part}
@@ -95,6 +97,18 @@ below_after_from c s o (e ∷ es) l = (
 
 pub below_after : (c : Setup) (es : List Entry) (o : Object) → Legal c es → IsBelow o (place_of (after c es) o) es
 below_after c es o l = below_after_from c (opening c) o es l
+
+-- each entry is below its object's next place
+each_below : (next : Object → ℕ) (es : List Entry) → ((o : Object) → IsBelow o (next o) es) → AllByRecursion (λ e. e.place < next e.object) es
+each_below next [] below = tt
+each_below next (e ∷ es) below = ((below e.object).0 refl, each_below next es (λ o. (below o).1))
+
+pub entries_fit : (c : Setup) (es : List Entry) → Legal c es → length es ≤ 524287 → All (λ e. e.place ≤ 524286) es
+entries_fit c es l le =
+    let next : Object → ℕ = place_of (after c es) in
+    All-weaker (λ (e : Entry). e.place < next e.object) (λ e. e.place ≤ 524286)
+    (λ e low. let high = places_fit c es e.object l le in omega (arith, low, high)) es
+    (All-from_recursion (λ (e : Entry). e.place < next e.object) es (each_below next es (λ o. below_after c es o l)))
 
 same_state_at : (o : Object) (s t : System) → SameAt o s t → state_at s o ≡ state_at t o
 same_state_at (Ecb n) s t same = rw same refl

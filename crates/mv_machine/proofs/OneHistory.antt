@@ -13,8 +13,7 @@ use Rattle.mv_machine.specs.declared.entry.Op.TheVariants as op_on
 use Rattle.mv_machine.specs.Legal.{Legal, LegalFrom, next, of}
 use Rattle.mv_machine.specs.Merge.{total, merged, AreOneHistory}
 use Rattle.mv_machine.specs.Parts.{parts_from, parts, KeepsBudgets}
-use Rattle.mv_machine.specs.Room.{IsObjectOf}
-use Rattle.mv_machine.specs.Setup.{Setup}
+use Rattle.mv_machine.specs.Setup.{Setup, IsObjectOf}
 use Rattle.mv_machine.specs.System.{System, opening, admitted}
 use Rattle.mv_machine.proofs.Merged.{merged_legal, merged_callers, total_parts}
 use Rattle.mv_machine.proofs.Places.{of_mine, of_other}

@@ -7,7 +7,7 @@ use Rattle.mv_ecb.specs.Word.{EcbState, Complete}
 use Rattle.mv_ecb.specs.Table.{ecb_step}
 use Rattle.mv_element.specs.declared.operation.ElementOp.{ElementOp}
 use Rattle.mv_element.specs.declared.element.ElementState.{ElementState}
-use Rattle.mv_element.specs.declared.element.Phase.TheVariants.{Free, Released}
+use Rattle.mv_element.specs.declared.element.Phase.TheVariants.{Free, Prereleased, Released}
 use Rattle.mv_element.specs.Table.{element_step}
 use Rattle.mv_machine.specs.declared.entry.Entry.{Entry}
 use Rattle.mv_machine.specs.declared.entry.Object.{Object}
@@ -168,6 +168,9 @@ free_before op z other is = grind arith
 released_next : (op : ElementOp) (z : ElementState) → is_owners (op_on.Element op) ≡ false → z.phase ≡ Released → (element_step op z).0 ≡ z
 released_next op z other is = grind arith
 
+prereleased_next : (op : ElementOp) (z : ElementState) → is_owners (op_on.Element op) ≡ false → z.phase ≡ Prereleased → (element_step op z).0 ≡ z
+prereleased_next op z other is = grind arith
+
 -- ---- what the owner finds again
 pub complete_kept : (c : Setup) (xs ys : List Entry) (n code : ℕ) → Legal c (xs ++ ys) → HasNo is_clear (Ecb n) (of (owner_of c n) ys)
     → ((after c xs).ecb n).state ≡ Complete code → ((after c (xs ++ ys)).ecb n).state ≡ Complete code
@@ -196,3 +199,10 @@ released_kept c xs ys n l none is =
     let z : ElementState = ((after c xs).element n).state in
     element_kept c n (λ y. y ≡ z)
     (λ x y other same. released_next x y other (ap (λ (w : ElementState). w.phase) same ∙ is) ∙ same) xs ys l none refl
+
+pub prereleased_kept : (c : Setup) (xs ys : List Entry) (n : ℕ) → Legal c (xs ++ ys) → HasNo is_owners (Element n) (of (element_owner c n) ys)
+    → ((after c xs).element n).state.phase ≡ Prereleased → ((after c (xs ++ ys)).element n).state ≡ ((after c xs).element n).state
+prereleased_kept c xs ys n l none is =
+    let z : ElementState = ((after c xs).element n).state in
+    element_kept c n (λ y. y ≡ z)
+    (λ x y other same. prereleased_next x y other (ap (λ (w : ElementState). w.phase) same ∙ is) ∙ same) xs ys l none refl

@@ -23,15 +23,13 @@ use Rattle.mv_machine.specs.declared.entry.VolumeOp.TheVariants.{Read, Write}
 use Rattle.mv_machine.specs.declared.entry.VolumeReply.TheVariants.{Value, Stored}
 use Rattle.mv_machine.specs.Check.{refusal_of}
 use Rattle.mv_machine.specs.Legal.{Legal}
-use Rattle.mv_machine.specs.Merge.{merged}
-use Rattle.mv_machine.specs.Parts.{parts}
 use Rattle.mv_machine.specs.Setup.{Setup}
 use Rattle.mv_machine.specs.System.{opening, answer, after_step}
 use Rattle.mv_machine.specs.Told.{told}
 
 -- two callers, one block of caller 0
 abbrev two : Setup
-two = record { callers = 2; elements_per_caller = 1; volumes = 1; latches = 1; quota = 1; posted_quota = 0; budgets = 3 ∷ 3 ∷ []; owners = 0 ∷ []; exits = [] }
+two = record { callers = 2; elements_per_caller = 1; volumes = 1; latches = 1; quota = 1; posted_quota = 0; budgets = 4 ∷ 4 ∷ []; owners = 0 ∷ []; exits = [] }
 
 -- nobody but its owner arms a block
 arm_by_another : answer two (opening two) 1 (Ecb 0) (op_on.Ecb ecb_op.Arm) ≡ None

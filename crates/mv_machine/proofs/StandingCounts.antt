@@ -7,7 +7,7 @@ use Rattle.mv_latch.specs.declared.request.Request.{Request}
 use Rattle.mv_latch.specs.LatchSet.{list_of, count_in}
 use Rattle.mv_latch.specs.Request.{is_posted, of_caller, posted_of}
 use Rattle.mv_machine.specs.declared.entry.Entry.{Entry}
-use Rattle.mv_machine.specs.Kept.{Standing, standing, is_posting}
+use Rattle.mv_machine.specs.Kept.{StandingRequest, standing, is_posting}
 use Rattle.mv_machine.specs.Legal.{Legal, after, of}
 use Rattle.mv_machine.specs.Setup.{Setup}
 use Rattle.mv_machine.proofs.LatchRuns.{list_at}
@@ -15,17 +15,18 @@ use Rattle.mv_machine.proofs.Standing.{stood, Within, within_kept, mine, mine_wi
 use Rattle.mv_machine.proofs.StandingRuns.{stand}
 
 -- what is kept of one latch, and of the latches from one on
-abbrev at_latch : ℕ → Standing → Bool
+abbrev at_latch : ℕ → StandingRequest → Bool
 at_latch latch t = t.latch == latch
 
-abbrev from_latch : ℕ → Standing → Bool
+abbrev from_latch : ℕ → StandingRequest → Bool
 from_latch latch t = nat_le latch t.latch
 
-within_fits : (latch : ℕ) (qs : List Request) (ts : List Standing) → Within latch qs ts → length qs ≤ length (filter (at_latch latch) ts)
+within_fits : (latch : ℕ) (qs : List Request) (ts : List StandingRequest) → Within latch qs ts
+    → length qs ≤ length (filter (at_latch latch) ts)
 within_fits latch [] ts w = omega arith
 within_fits latch (q ∷ qs) [] w = absurd w
 within_fits latch (q ∷ qs) (t ∷ ts) (inl w) =
-    let here : at_latch latch t ≡ true = eq-eqb t.latch latch (ap (λ (x : Standing). x.latch) w.0) in
+    let here : at_latch latch t ≡ true = eq-eqb t.latch latch (ap (λ (x : StandingRequest). x.latch) w.0) in
     rw here (omega (arith, within_fits latch qs ts w.1))
 within_fits latch (q ∷ qs) (t ∷ ts) (inr w) =
     let rest : length (q ∷ qs) ≤ length (filter (at_latch latch) ts) = within_fits latch (q ∷ qs) ts w in
@@ -35,7 +36,7 @@ within_fits latch (q ∷ qs) (t ∷ ts) (inr w) =
     ]
 
 -- those of one latch, and those of the latches behind it
-from_here : (latch : ℕ) (ts : List Standing)
+from_here : (latch : ℕ) (ts : List StandingRequest)
     → length (filter (at_latch latch) ts) + length (filter (from_latch (latch + 1)) ts) ≤ length (filter (from_latch latch) ts)
 from_here latch [] = omega arith
 from_here latch (t ∷ ts) = go (from_here latch ts) where
@@ -44,7 +45,7 @@ from_here latch (t ∷ ts) = go (from_here latch ts) where
       ≤ length (filter (from_latch latch) (t ∷ ts))
   go rest = grind (arith, nat_tests)
 
-lists_fit : (test : Request → Bool) (ts : List Standing) (latch : ℕ) (lists : List (List Request))
+lists_fit : (test : Request → Bool) (ts : List StandingRequest) (latch : ℕ) (lists : List (List Request))
     → ((n : ℕ) → Within (latch + n) (filter test (list_of lists n)) ts)
     → count_in test lists ≤ length (filter (from_latch latch) ts)
 lists_fit test ts latch [] w = omega arith
@@ -54,7 +55,7 @@ lists_fit test ts latch (qs ∷ rest) w =
     lists_fit test ts (latch + 1) rest (λ n. subst (λ l. Within l (filter test (list_of rest n)) ts) (omega arith) (w (suc n))) in
     omega (arith, within_fits latch (filter test qs) ts here, behind, from_here latch ts)
 
-pub all_fit : (test : Request → Bool) (ts : List Standing) (lists : List (List Request))
+pub all_fit : (test : Request → Bool) (ts : List StandingRequest) (lists : List (List Request))
     → ((latch : ℕ) → Within latch (filter test (list_of lists latch)) ts) → count_in test lists ≤ length ts
 all_fit test ts lists w =
     let some : count_in test lists ≤ length (filter (from_latch 0) ts) =
@@ -79,7 +80,7 @@ posted_are_mine k (q ∷ qs) = go (posts q) (of_caller k q) refl (posted_are_min
   go false true e rest = rest
   go false false e rest = rest
 
-pub posted_stand : (k latch : ℕ) (qs : List Request) (ts : List Standing) → Within latch (mine k qs) ts
+pub posted_stand : (k latch : ℕ) (qs : List Request) (ts : List StandingRequest) → Within latch (mine k qs) ts
     → Within latch (filter (posted_of k) qs) (filter is_posting ts)
 posted_stand k latch qs ts w =
     rw (posted_are_mine k qs)

@@ -22,17 +22,12 @@ use Rattle.mv_machine.specs.declared.packing.WordState.{WordState}
 use Rattle.mv_machine.specs.declared.packing.WordState.TheVariants as state
 use Rattle.mv_machine.specs.Elements.{only_if}
 use Rattle.mv_machine.specs.Legal.{Legal, LegalFrom, after, after_from, next}
-use Rattle.mv_machine.specs.Packing.{HasFields, pack, phase_number, state_bits, state_in, element_in, unpack, state_at, word_at}
+use Rattle.mv_machine.specs.Packing.{HasFields, IsBlock, IsStateOf, pack, phase_number, state_bits, state_in, element_in, unpack, state_at, word_at}
 use Rattle.mv_machine.specs.Setup.{Setup}
 use Rattle.mv_machine.specs.System.{System, opening, admitted, ecb_admitted, element_admitted, volume_admitted, volume_step, moved, place_of}
 use Rattle.mv_machine.proofs.Budgets.{places_fit, no_high_generation}
 
 -- ---- the numbers of the states that can be reached
-
-abbrev pub IsBlock : EcbState → Type 0
-IsBlock (Extended y) = (1 ≤ y) × (y < 2 ^ 30)
-IsBlock (Complete d) = d < 2 ^ 30
-IsBlock _ = Unit {0}
 
 block_next : (c : Setup) (k n : ℕ) (op : EcbOp) (s : EcbState) → ecb_admitted c k n op ≡ true → IsBlock s → IsBlock (ecb_step op s).0
 block_next c k n op s a b = grind arith
@@ -139,20 +134,28 @@ unpacked o place s lt h =
 block_word : (s : EcbState) → IsBlock s → word_of s < 2 ^ 32
 block_word s b = grind arith
 
+-- a packing stands for its place and state
+pub packed_unpacks : (o : Object) (place : ℕ) (s : WordState) → IsStateOf o s → unpack o (pack place s) ≡ Some (place, s)
+packed_unpacks (Ecb n) place (state.Ecb s) b =
+    let w : word_of s < 2 ^ 32 = block_word s b in
+    unpacked (Ecb n) place (state.Ecb s) (omega arith) (block_back n s b)
+packed_unpacks (Element n) place (state.Element s) b =
+    let g : s.generation < 2 ^ 18 = b.0 in
+    let d : s.code < 2 ^ 24 = b.1 in
+    let p : phase_number s.phase < 8 = phase_small s.phase in
+    unpacked (Element n) place (state.Element s) (omega arith) (element_back n s d)
+packed_unpacks (Volume n) place (state.Volume m) b =
+    let lt : m < 2 ^ 32 = b in
+    unpacked (Volume n) place (state.Volume m) (omega arith) (number_back n m lt)
+packed_unpacks o place s b = absurd b
+
 pub reached_unpack : (c : Setup) (es : List Entry) (o : Object) → Legal c es → length es ≤ 524287
     → unpack o (word_at (after c es) o) ≡ option_map (λ s. (place_of (after c es) o, s)) (state_at (after c es) o)
-reached_unpack c es (Ecb n) l le =
-    let b : IsBlock ((after c es).ecb n).state = (numbers_after c es l).blocks n in
-    let w : word_of ((after c es).ecb n).state < 2 ^ 32 = block_word ((after c es).ecb n).state b in
-    unpacked (Ecb n) _ (state.Ecb ((after c es).ecb n).state) (omega arith) (block_back n ((after c es).ecb n).state b)
+reached_unpack c es (Ecb n) l le = packed_unpacks (Ecb n) _ (state.Ecb ((after c es).ecb n).state) ((numbers_after c es l).blocks n)
 reached_unpack c es (Element n) l le =
-    let d : ((after c es).element n).state.code < 2 ^ 24 = (numbers_after c es l).codes n in
     let g : ((after c es).element n).state.generation ≤ 262143 = no_high_generation c es n l le in
-    let p : phase_number ((after c es).element n).state.phase < 8 = phase_small ((after c es).element n).state.phase in
-    unpacked (Element n) _ (state.Element ((after c es).element n).state) (omega arith) (element_back n ((after c es).element n).state d)
-reached_unpack c es (Volume n) l le =
-    let m : ((after c es).volume n).state < 2 ^ 32 = (numbers_after c es l).numbers n in
-    unpacked (Volume n) _ (state.Volume ((after c es).volume n).state) (omega arith) (number_back n ((after c es).volume n).state m)
+    packed_unpacks (Element n) _ (state.Element ((after c es).element n).state) (omega arith, (numbers_after c es l).codes n)
+reached_unpack c es (Volume n) l le = packed_unpacks (Volume n) _ (state.Volume ((after c es).volume n).state) ((numbers_after c es l).numbers n)
 reached_unpack c es Latches l le = refl
 
 pub reached_word : (c : Setup) (es : List Entry) (o : Object) → Legal c es → length es ≤ 524287 → word_at (after c es) o < 2 ^ 64

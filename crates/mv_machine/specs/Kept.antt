@@ -1,5 +1,5 @@
 -- Which latch requests of a caller stand, by its own entries alone.
-use Rattle.std.specs.Prelude.{◌≡◌, ◌⊎◌, ℕ, ◌+◌, ◌==◌, ◌≤◌, nat_lt, Bool, true, not, ◌&&◌, ◌||◌, List, [], ◌∷◌, ◌++◌, length, filter}
+use Rattle.std.specs.Prelude.{ℕ, ◌+◌, ◌==◌, ◌≤◌, nat_lt, Bool, true, not, ◌&&◌, ◌||◌, List, [], ◌∷◌, ◌++◌, length, filter}
 use Rattle.mv_latch.specs.declared.operation.LatchOp.{LatchOp}
 use Rattle.mv_latch.specs.declared.operation.LatchOp.TheVariants.{Obtain, Confirm, Release, Purge}
 use Rattle.mv_latch.specs.declared.operation.LatchReply.{LatchReply}
@@ -18,29 +18,29 @@ use Rattle.mv_machine.specs.Setup.{Setup}
 use Rattle.mv_machine.specs.System.{opening, admitted, posts_own_ecb}
 
 -- a request that stands, and its latch
-pub record Standing : Type 0 where
+pub record StandingRequest : Type 0 where
   pub latch : ℕ
   pub request : Request
 
 -- whether it is the one of this number at this latch
-abbrev pub is_named : ℕ → ℕ → Standing → Bool
+abbrev pub is_named : ℕ → ℕ → StandingRequest → Bool
 is_named latch id t = (t.latch == latch) && (t.request.id == id)
 
 -- whether it is this requestor's
-abbrev pub is_for : ℕ → Standing → Bool
+abbrev pub is_for : ℕ → StandingRequest → Bool
 is_for requestor t = t.request.requestor == requestor
 
 -- whether a block is posted at its grant
-abbrev pub is_posting : Standing → Bool
+abbrev pub is_posting : StandingRequest → Bool
 is_posting t = is_posted t.request.form
 
 -- the requests that do not meet a test
-abbrev pub less : (Standing → Bool) → List Standing → List Standing
+abbrev pub less : (StandingRequest → Bool) → List StandingRequest → List StandingRequest
 less test ts = filter (λ t. not (test t)) ts
 
 -- An obtain that is granted or queued makes one more stand. It stands until the caller's own release takes it out, its
 -- own confirm or release finds it gone, or its own purge takes out its requestor.
-abbrev pub stands_after : ℕ → List Standing → LatchOp → LatchReply → List Standing
+abbrev pub stands_after : ℕ → List StandingRequest → LatchOp → LatchReply → List StandingRequest
 stands_after k ts (Obtain latch requestor mode form) (Granted id) =
     ts ++ record { latch = latch; request = record { id = id; caller = k; requestor = requestor; mode = mode; form = form } } ∷ []
 stands_after k ts (Obtain latch requestor mode form) (Queued id) =
@@ -52,22 +52,17 @@ stands_after k ts (Purge requestor) (Purged removed granted) = less (is_for requ
 stands_after k ts _ _ = ts
 
 -- only events on the latch set say anything of requests
-abbrev pub stands_with : ℕ → List Standing → Object → Op → Reply → List Standing
+abbrev pub stands_with : ℕ → List StandingRequest → Object → Op → Reply → List StandingRequest
 stands_with k ts Latches (op_on.Latch op) (reply_of.Latch reply) = stands_after k ts op reply
 stands_with k ts _ _ _ = ts
 
-abbrev pub standing_from : List Standing → List Entry → List Standing
+abbrev pub standing_from : List StandingRequest → List Entry → List StandingRequest
 standing_from ts [] = ts
 standing_from ts (e ∷ es) = standing_from (stands_with e.caller ts e.object e.op e.reply) es
 
 -- those that stand behind the entries of one caller, in the order of their obtains
-abbrev pub standing : List Entry → List Standing
+abbrev pub standing : List Entry → List StandingRequest
 standing log = standing_from [] log
-
--- a request is among them
-abbrev pub Has : Standing → List Standing → Type 0
-Has t [] = ⊥
-Has t (x ∷ xs) = (x ≡ t) ⊎ Has t xs
 
 -- the numbers of the requests in a list rise, from this one on
 abbrev pub RisesFrom : ℕ → List Request → Type 0
@@ -77,12 +72,12 @@ RisesFrom low (q ∷ qs) = (low ≤ q.id) × RisesFrom (q.id + 1) qs
 -- ---- what a caller may do, by its own entries
 
 -- an obtain is within the quotas, asked of the requests that stand
-abbrev pub keeps_quotas : Setup → List Standing → LatchForm → Bool
+abbrev pub keeps_quotas : Setup → List StandingRequest → LatchForm → Bool
 keeps_quotas c ts form =
     nat_lt (length ts) c.quota && (not (is_posted form) || nat_lt (length (filter is_posting ts)) c.posted_quota)
 
 -- a latch operation is admitted where the requests that stand are these
-abbrev pub latch_allowed : Setup → List Standing → LatchOp → Bool
+abbrev pub latch_allowed : Setup → List StandingRequest → LatchOp → Bool
 latch_allowed c ts (Obtain latch requestor mode form) = nat_lt latch c.latches && keeps_quotas c ts form
 latch_allowed c ts (Confirm latch id) = nat_lt latch c.latches
 latch_allowed c ts (Release latch id conditional) = nat_lt latch c.latches

@@ -1,7 +1,7 @@
 -- The word of an object that tasks share: its place in the 19 bits above, its state in the 45 bits below.
-use Rattle.std.specs.Prelude.{ℕ, ◌+◌, ◌*◌, ◌/◌, ◌%◌, ◌^◌, ◌==◌, ◌<◌, nat_le, nat_lt, Bool, ◌&&◌, ◌||◌, Option, Some, None, option_map, if◌then◌else◌}
+use Rattle.std.specs.Prelude.{ℕ, ◌+◌, ◌*◌, ◌/◌, ◌%◌, ◌^◌, ◌==◌, ◌<◌, ◌≤◌, nat_le, nat_lt, Bool, ◌&&◌, ◌||◌, Option, Some, None, option_map, if◌then◌else◌}
 use Rattle.mv_ecb.specs.Table.{IsEcbOp, ecb_step}
-use Rattle.mv_ecb.specs.Word.{wait_bit, completion_bit, word_of, state_of}
+use Rattle.mv_ecb.specs.Word.{EcbState, Extended, Complete, wait_bit, completion_bit, word_of, state_of}
 use Rattle.mv_element.specs.declared.element.ElementState.{ElementState}
 use Rattle.mv_element.specs.declared.element.Phase.{Phase}
 use Rattle.mv_element.specs.declared.element.Phase.TheVariants.{Free, Reset, Prereleased, Paused, Released}
@@ -41,6 +41,19 @@ pack place s = place * 2 ^ 45 + state_bits s
 abbrev pub HasFields : WordState → Type 0
 HasFields (state.Element s) = (s.generation < 2 ^ 18) × (s.code < 2 ^ 24)
 HasFields _ = Unit {0}
+
+-- an exit is counted from 1, and it and a code have 30 bits
+abbrev pub IsBlock : EcbState → Type 0
+IsBlock (Extended y) = (1 ≤ y) × (y < 2 ^ 30)
+IsBlock (Complete d) = d < 2 ^ 30
+IsBlock _ = Unit {0}
+
+-- a state of an object of this kind, whose numbers have their bits
+abbrev pub IsStateOf : Object → WordState → Type 0
+IsStateOf (Ecb n) (state.Ecb s) = IsBlock s
+IsStateOf (Element n) (state.Element s) = HasFields (state.Element s)
+IsStateOf (Volume n) (state.Volume m) = m < 2 ^ 32
+IsStateOf _ _ = ⊥
 
 -- ---- unpacking
 

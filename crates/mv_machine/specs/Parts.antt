@@ -23,10 +23,11 @@ parts n es = parts_from 0 n es
 abbrev pub KeepsBudgets : Setup → List Entry → Type 0
 KeepsBudgets c es = (k : ℕ) → k < c.callers → length (of k es) ≤ slice_index c.budgets k
 
--- a caller's log and what it was told may be its part of a legal history
+-- a caller's log and what it was told may be its part of a legal history within the budgets
 pub record IsPossible (c : Setup) (k : ℕ) (log : List Entry) (shown : List (List Wake)) : Type 0 where
   pub history : List Entry
   pub legal : Legal c history
+  pub budgets : KeepsBudgets c history
   pub logged : of k history ≡ log
   pub told : told c k history ≡ shown
 

@@ -7,14 +7,7 @@ use Rattle.mv_machine.specs.declared.merging.MergeRoom.{MergeRoom}
 use Rattle.mv_machine.specs.declared.merging.NextPlaces.{NextPlaces}
 use Rattle.mv_machine.specs.declared.merging.Turn.{Turn}
 use Rattle.mv_machine.specs.Merge.{Places, start, pick}
-use Rattle.mv_machine.specs.Setup.{Setup, element_count}
-
--- whether a configuration has an object
-abbrev pub IsObjectOf : Setup → Object → Type 0
-IsObjectOf c (Ecb n) = n < length c.owners
-IsObjectOf c (Element n) = n < element_count c
-IsObjectOf c (Volume n) = n < c.volumes
-IsObjectOf c Latches = Unit {0}
+use Rattle.mv_machine.specs.Setup.{Setup, IsObjectOf}
 
 -- whether an object's next place is kept here
 abbrev pub Keeps : NextPlaces → Object → Type 0

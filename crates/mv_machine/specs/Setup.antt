@@ -1,5 +1,7 @@
 -- What a configuration says.
-use Rattle.std.specs.Prelude.{ℕ, ◌==◌, ◌-◌, ◌*◌, ◌/◌, nat_lt, Bool, false, ◌&&◌, List, Option, Some, None, slice_get, slice_index}
+use Rattle.std.specs.Prelude.{ℕ, ◌==◌, ◌-◌, ◌*◌, ◌/◌, ◌<◌, nat_lt, Bool, false, ◌&&◌, List, length, Option, Some, None, slice_get, slice_index}
+use Rattle.mv_machine.specs.declared.entry.Object.{Object}
+use Rattle.mv_machine.specs.declared.entry.Object.TheVariants.{Ecb, Element, Volume, Latches}
 
 -- an exit: the event control block that it starts from, and those that it posts
 pub record SetupExit : Type 0 where
@@ -29,6 +31,13 @@ element_count c = c.callers * c.elements_per_caller
 -- whose an element is
 abbrev pub element_owner : Setup → ℕ → ℕ
 element_owner c element = element / c.elements_per_caller
+
+-- whether a configuration has an object
+abbrev pub IsObjectOf : Setup → Object → Type 0
+IsObjectOf c (Ecb n) = n < length c.owners
+IsObjectOf c (Element n) = n < element_count c
+IsObjectOf c (Volume n) = n < c.volumes
+IsObjectOf c Latches = Unit {0}
 
 -- whether an exit is there and starts from this block
 abbrev pub starts_from : ℕ → Option SetupExit → Bool

@@ -1,8 +1,8 @@
 ghost use Rattle.std.specs.Prelude.{◌≡◌, ◌↔◌, ◌⊎◌, ◌<◌, ◌≤◌, ◌++◌, ◌∷◌, ◌+◌, ◌^◌, ℕ, true, false, List, [], length, filter, Some, option_map, option_and_then, IfSome, IsSome};
+ghost use Rattle.std.specs.List.{All, Contains};
 ghost use Rattle.mv_ecb.specs.Word.{Complete};
-ghost use Rattle.mv_element.specs.declared.element.Phase.TheVariants.{Free, Released};
+ghost use Rattle.mv_element.specs.declared.element.Phase.TheVariants.{Free, Prereleased, Released};
 ghost use Rattle.mv_latch.specs.declared.request.Request.{Request};
-ghost use Rattle.mv_latch.specs.Latch.{IsIn};
 ghost use Rattle.mv_latch.specs.LatchSet.{count_in, list_of, IsNewId};
 ghost use Rattle.mv_latch.specs.Request.{has_id, of_caller, posted_of};
 ghost use Rattle.mv_machine.specs.declared.entry.Entry.{Entry};
@@ -12,21 +12,23 @@ ghost use Rattle.mv_machine.specs.declared.entry.Op.{Op};
 ghost use Rattle.mv_machine.specs.declared.packing.WordState.{WordState};
 ghost use Rattle.mv_machine.specs.Check.{IsValid};
 ghost use Rattle.mv_machine.specs.Elements.{FitsItsPlace};
-ghost use Rattle.mv_machine.specs.Kept.{Standing, standing, allowed, is_posting, Has, RisesFrom};
+ghost use Rattle.mv_machine.specs.Kept.{StandingRequest, standing, allowed, is_posting, RisesFrom};
 ghost use Rattle.mv_machine.specs.Legal.{Legal, SameAt, same_object, after, of, «at», CountsFrom};
 ghost use Rattle.mv_machine.specs.Merge.{merged, merge_from, start, total};
 ghost use Rattle.mv_machine.specs.Owned.{owner_at, is_owners, is_clear, HasNo, IsGranted, IsGone};
-ghost use Rattle.mv_machine.specs.Packing.{HasFields, HasOpFields, pack, unpack, state_at, word_at, state_after, reply_in};
+ghost use Rattle.mv_machine.specs.Packing.{HasFields, IsStateOf, HasOpFields, pack, unpack, state_at, word_at, state_after, reply_in};
 ghost use Rattle.mv_machine.specs.Parts.{parts, KeepsBudgets, Had};
 ghost use Rattle.mv_machine.specs.Setup.{Setup, owner_of, element_owner};
 ghost use Rattle.mv_machine.specs.System.{System, place_of, admitted, reply_to, moved};
 ghost use Rattle.mv_machine.specs.Told.{told};
 
 /// After every legal list twice an element's generation, and the extra of its phase, is at most its place. So within
-/// the events that the budgets of a run may allow, no place passes 524,287 and no generation 262,143.
+/// the events that the budgets of a run may allow, no place passes 524,287, no entry has one above 524,286, and no
+/// generation passes 262,143.
 pub fn generations_fit()
     ensures fits { (c : Setup) (es : List Entry) (n : ℕ) → Legal c es → FitsItsPlace ((after c es).element n) }
     ensures places { (c : Setup) (es : List Entry) (o : Object) → Legal c es → length es ≤ 524287 → place_of (after c es) o ≤ 524287 }
+    ensures entries { (c : Setup) (es : List Entry) → Legal c es → length es ≤ 524287 → All (λ e. e.place ≤ 524286) es }
     ensures generations { (c : Setup) (es : List Entry) (n : ℕ) → Legal c es → length es ≤ 524287 → ((after c es).element n).state.generation ≤ 262143 }
 {}
 
@@ -70,8 +72,8 @@ pub fn merging_keeps_a_history()
     ensures total { (c : Setup) (es : List Entry) → Legal c es → total (parts c.callers es) ≡ length es }
 {}
 
-/// What a task waits for stays until the task itself goes on: no other caller takes it away. The premises look at the
-/// owner's own entries alone.
+/// What a task waits for stays until the task itself goes on; a granted request alone may go earlier, by anyone's purge of
+/// its requestor, and is then gone for good. The premises on blocks and elements look at the owner's own entries alone.
 pub fn others_keep_what_is_owned()
     // An operation that is its object's owner's alone is made by no other caller.
     ensures owners { (c : Setup) (xs ys : List Entry) (e : Entry) → Legal c (xs ++ e ∷ ys) → is_owners e.op ≡ true → owner_at c e.object ≡ Some e.caller }
@@ -86,6 +88,9 @@ pub fn others_keep_what_is_owned()
     // A released element keeps its code until its owner's operation.
     ensures released { (c : Setup) (xs ys : List Entry) (n : ℕ) → Legal c (xs ++ ys) → HasNo is_owners (Element n) (of (element_owner c n) ys)
         → ((after c xs).element n).state.phase ≡ Released → ((after c (xs ++ ys)).element n).state ≡ ((after c xs).element n).state }
+    // A release before its pause is kept for it.
+    ensures prereleased { (c : Setup) (xs ys : List Entry) (n : ℕ) → Legal c (xs ++ ys) → HasNo is_owners (Element n) (of (element_owner c n) ys)
+        → ((after c xs).element n).state.phase ≡ Prereleased → ((after c (xs ++ ys)).element n).state ≡ ((after c xs).element n).state }
     // A granted request stays granted until it is gone.
     ensures granted { (c : Setup) (xs ys : List Entry) (k latch id : ℕ) → Legal c (xs ++ ys)
         → IsGranted k latch id (after c xs) → IsGranted k latch id (after c (xs ++ ys)) ⊎ IsGone k latch id (after c (xs ++ ys)) }
@@ -98,7 +103,8 @@ pub fn others_keep_what_is_owned()
 /// ones. So a caller that keeps within its quotas by its own entries keeps within them in the lists.
 pub fn requests_stand_by_their_callers_entries()
     ensures stands { (c : Setup) (es : List Entry) (latch : ℕ) (q : Request) → Legal c es
-        → IsIn q (list_of (after c es).latches.state latch) → Has (record { latch = latch; request = q }) (standing (of q.caller es)) }
+        → Contains (list_of (after c es).latches.state latch) q
+        → Contains (standing (of q.caller es)) (record { latch = latch; request = q }) }
     ensures count { (c : Setup) (es : List Entry) (k : ℕ) → Legal c es
         → count_in (of_caller k) (after c es).latches.state ≤ length (standing (of k es)) }
     ensures posted_count { (c : Setup) (es : List Entry) (k : ℕ) → Legal c es
@@ -106,7 +112,7 @@ pub fn requests_stand_by_their_callers_entries()
     ensures rise { (c : Setup) (es : List Entry) (latch : ℕ) → Legal c es → RisesFrom 0 (list_of (after c es).latches.state latch) }
     ensures differ { (c : Setup) (es : List Entry) (id : ℕ) → Legal c es → count_in (has_id id) (after c es).latches.state ≤ 1 }
     ensures earlier { (c : Setup) (es : List Entry) (latch : ℕ) (q : Request) → Legal c es
-        → IsIn q (list_of (after c es).latches.state latch) → q.id < (after c es).latches.place }
+        → Contains (list_of (after c es).latches.state latch) q → q.id < (after c es).latches.place }
     ensures new { (c : Setup) (es : List Entry) (id : ℕ) → Legal c es → (after c es).latches.place ≤ id → IsNewId id (after c es).latches.state }
     ensures admits { (c : Setup) (es : List Entry) (k : ℕ) (o : Object) (op : Op) → Legal c es → allowed c k (of k es) o op ≡ true
         → admitted c (after c es) k o op ≡ true }
@@ -135,7 +141,9 @@ pub fn words_go_by_the_machine()
     ensures others { (m : System) (k : ℕ) (o q : Object) (op : Op) → same_object o q ≡ false → SameAt q (moved m k o op) m }
 {}
 
-/// A word of 64 bits that stands for a place and a state is their packing, and no other word stands for them.
+/// A word that stands for a place and a state is their packing, and no other word stands for them; and the packing of a
+/// state of the object's kind, whose numbers have their bits, stands for it.
 pub fn words_are_packings()
-    ensures { (o : Object) (w place : ℕ) (s : WordState) → unpack o w ≡ Some (place, s) → pack place s ≡ w }
+    ensures unpacks { (o : Object) (place : ℕ) (s : WordState) → IsStateOf o s → unpack o (pack place s) ≡ Some (place, s) }
+    ensures packs { (o : Object) (w place : ℕ) (s : WordState) → unpack o w ≡ Some (place, s) → pack place s ≡ w }
 {}

@@ -4,7 +4,8 @@ ghost use Rattle.mv_machine.specs.declared.entry.Object.{Object as AnyObject};
 ghost use Rattle.mv_machine.specs.Legal.{Legal};
 ghost use Rattle.mv_machine.specs.Merge.{start, risen, pick, merged as merged_logs, AreOneHistory};
 ghost use Rattle.mv_machine.specs.Parts.{parts};
-ghost use Rattle.mv_machine.specs.Room.{IsObjectOf, IsRoomFor, IsTurn, Keeps, next_in, lefts};
+ghost use Rattle.mv_machine.specs.Room.{IsRoomFor, IsTurn, Keeps, next_in, lefts};
+ghost use Rattle.mv_machine.specs.Setup.{IsObjectOf};
 
 use crate::entry::{Entry, Object};
 use crate::valid::ValidConfig;

@@ -137,8 +137,8 @@ impl ValidConfig {
         }
     }
 
-    // A latch set with this configuration's latches and quotas.
-    pub(crate) fn open_latches(&self, alloc: Global) -> Result<LatchSet, NoMemory>
+    /// A latch set with this configuration's latches and quotas, in which nothing is requested.
+    pub fn open_latches(&self, alloc: Global) -> Result<LatchSet, NoMemory>
         ensures { IfOk result (λ s. s ≡ opened self.now.latches self.now.callers self.now.quota self.now.posted_quota) }
     {
         let given = &self.config;

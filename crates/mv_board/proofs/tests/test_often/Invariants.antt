@@ -6,5 +6,5 @@ abbrev pub invariant-loop : goal.invariant-loop
 invariant-loop g l = record {
   board : IsOf l.board l.caller;
   number : l.caller.number ≡ l.initial.caller.number;
-  left : 1000 ≤ l.caller.left + l.counter;
+  left : l.events ≤ l.caller.left + l.counter;
 }

@@ -1,6 +1,6 @@
 -- The laws are the lemmas.
 use Rattle.mv_machine.proofs.GrantRuns.{granted_or_gone, gone_stays}
-use Rattle.mv_machine.proofs.Owners.{owner_makes, complete_kept, generation_kept, free_kept, free_was, released_kept}
+use Rattle.mv_machine.proofs.Owners.{owner_makes, complete_kept, generation_kept, free_kept, free_was, released_kept, prereleased_kept}
 use Rattle.mv_machine.proofs.laws.others_keep_what_is_owned.Goals as goal
 
 pub returns-clause-owners : goal.returns-clause-owners
@@ -17,6 +17,9 @@ returns-clause-free c d xs ys n l none = (free_kept d xs ys n l none, free_was d
 
 pub returns-clause-released : goal.returns-clause-released
 returns-clause-released c = released_kept
+
+pub returns-clause-prereleased : goal.returns-clause-prereleased
+returns-clause-prereleased c = prereleased_kept
 
 pub returns-clause-granted : goal.returns-clause-granted
 returns-clause-granted c = granted_or_gone

@@ -115,3 +115,14 @@ returns-clause-budgets c =
     c.loop-caller.invariant.gathered empty (c.self.invariant.key ∙ config) c.close_with-closed.ensures.values.2 in
     let journal : c.merge-journal.result.items ≡ merged (reverse c.loop-caller.logs.items) = c.merge-journal.ensures.merged ∙ ap merged c.reverse.ensures.items in
     subst (KeepsBudgets c.args.self.config) (sym journal) end.1.budgets
+
+pub returns-clause-few : goal.returns-clause-few
+returns-clause-few c =
+    let gone = c.in_default-pop.ensures.cases in
+    let empty : c.loop-caller.callers.items ≡ [] = nil_from_length c.loop-caller.callers.items (omega arith) in
+    let config = ap (λ (b : BoardFace). b.config) c.self.view_is in
+    let end = board_ends c.args.self c.args.callers.items c.loop-caller.callers.items c.loop-caller.logs.items _ _ _ _ _ c.requires.all c.requires.order
+    c.loop-caller.invariant.gathered empty (c.self.invariant.key ∙ config) c.close_with-closed.ensures.values.2 in
+    let journal : c.merge-journal.result.items ≡ merged (reverse c.loop-caller.logs.items) = c.merge-journal.ensures.merged ∙ ap merged c.reverse.ensures.items in
+    let few = budgets_fit c.args.self.config _ (subst IsValid config c.self.invariant.valid) end.1.legal end.1.budgets in
+    subst (λ (h : List Entry). length h ≤ 524287) (sym journal) few

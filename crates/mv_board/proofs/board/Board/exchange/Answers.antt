@@ -4,7 +4,7 @@ use Rattle.mv_machine.specs.Setup.{Setup}
 use Rattle.mv_board.specs.declared.view.Part.{Part}
 use Rattle.mv_board.specs.Faces.{BoardFace}
 use Rattle.mv_board.specs.Steps.{Meets, Made, LooksOn}
-use Rattle.mv_board.specs.View.{own}
+use Rattle.mv_board.specs.View.{own, met}
 use Rattle.mv_board.specs.Words.{HasWord}
 use Rattle.mv_board.proofs.Boards.{has_word, below, object_is}
 use Rattle.mv_board.proofs.Changing.{fields_allowed, meets_changed}
@@ -29,7 +29,8 @@ loop-init g c =
     let looked = c.load-seen.ensures.2 in record {
       table = refl;
       slots = refl;
-      looks = subst (LooksOn v) (sym looked.view) (look_more v v _ c.load-seen.result c.requires.alone (no_looks v c.requires.alone));
+      looks = subst (LooksOn v c.args.object) (sym (looked.view ∙ ap (λ o. met o c.load-seen.result v) here))
+          (look_more v v c.args.object c.load-seen.result c.requires.alone (no_looks v c.args.object c.requires.alone));
       meets = subst (λ o. Meets v o c.load-seen.result) here looked.meets;
     }
 
@@ -51,7 +52,7 @@ compare_exchange_with-found-requires g c =
     let since = c.loop.invariant in
     let config = ap (λ (b : BoardFace). b.config) c.self.view_is in
     let has : HasWord c.self.inside.config c.args.object = has_word c.self.inside _ _ c.self.view_is c.requires.word in
-    let same = own_kept v w c.requires.alone since.looks in
+    let same = own_kept v w c.args.object c.requires.alone since.looks in
     let may : allowed c.self.inside.config (own w).caller (own w).log c.args.object c.args.op ≡ true =
     subst (λ (p : Part). allowed c.self.inside.config p.caller p.log c.args.object c.args.op ≡ true) (sym same)
     (subst (λ (s : Setup). allowed s (own v).caller (own v).log c.args.object c.args.op ≡ true) (sym config) c.requires.admitted) in
@@ -59,7 +60,7 @@ compare_exchange_with-found-requires g c =
       since.table ∙ (c.load-seen.ensures.0 ∙ (c.requires.board ∙ sym (ap (λ (b : BoardFace). b.table) c.self.view_is))),
       below c.self.inside _ _ c.self.invariant has c.word_number-word.ensures,
       rw (c.word_number-word.ensures, c.self.invariant.key)
-          (happens c.self.inside.config _ _ _ _ [] (alone_still v w c.requires.alone since.looks) c.args.object c.args.op c.loop.seen
+          (happens c.self.inside.config _ _ _ _ [] (alone_still v w c.args.object c.requires.alone since.looks) c.args.object c.args.op c.loop.seen
           c.in-Some-change.place c.in-Some-change.next c.in-Some-change.reply has may left
           (sym c.change.ensures ∙ c.in-Some-change.is)),
     )
@@ -88,8 +89,8 @@ loop-preserved g c =
     let step = c.compare_exchange_with-found.ensures.2 in record {
       table = c.compare_exchange_with-found.ensures.0 ∙ since.table;
       slots = step.slots ∙ since.slots;
-      looks = subst (LooksOn v) (sym (step.miss c.if-found-seen.false))
-          (look_more v w _ c.compare_exchange_with-found.result c.requires.alone since.looks);
-      meets = subst (λ o. Meets v o c.compare_exchange_with-found.result) here
-          (meets_still v w _ c.compare_exchange_with-found.result c.requires.alone since.looks step.meets);
+      looks = subst (LooksOn v c.args.object) (sym (step.miss c.if-found-seen.false ∙ ap (λ o. met o c.compare_exchange_with-found.result w) here))
+          (look_more v w c.args.object c.compare_exchange_with-found.result c.requires.alone since.looks);
+      meets = meets_still v w c.args.object c.compare_exchange_with-found.result c.requires.alone since.looks
+          (subst (λ o. Meets w o c.compare_exchange_with-found.result) here step.meets);
     }

@@ -1,4 +1,4 @@
-use Rattle.std.proofs.Common.{◌≡◌, ◌<◌, ◌-◌, ◌+◌, true, [], ◌∷◌, List, refl, sym, ap, ◌∙◌, subst, arith}
+use Rattle.std.proofs.Common.{vec_capacity, ◌≡◌, ◌<◌, ◌+◌, true, [], ◌∷◌, List, refl, sym, ap, ◌∙◌, subst, arith}
 use Rattle.atomic_table.specs.Table.{Me, rest}
 use Rattle.mv_latch.specs.declared.operation.LatchReply.{LatchReply}
 use Rattle.mv_latch.specs.declared.request.Request.{Request}
@@ -8,6 +8,7 @@ use Rattle.mv_machine.specs.declared.entry.Op.TheVariants as op_on
 use Rattle.mv_machine.specs.declared.entry.Reply.TheVariants as reply_of
 use Rattle.mv_machine.specs.Kept.{allowed}
 use Rattle.mv_board.specs.declared.caller.Caller.TheInside.{Inside}
+use Rattle.mv_board.specs.declared.caller.Events.{Events}
 use Rattle.mv_board.specs.declared.item.Item.{Item}
 use Rattle.mv_board.specs.declared.item.Item.TheVariants.{Held}
 use Rattle.mv_board.specs.declared.item.Lists.{Lists}
@@ -17,11 +18,11 @@ use Rattle.mv_board.specs.Faces.{BoardFace, CallerFace, HappenedAt, IsAsListed}
 use Rattle.mv_board.specs.Turn.{latch_entry, named_by}
 use Rattle.mv_board.specs.View.{own, logged, with_turn}
 use Rattle.mv_board.proofs.Boards.{same_table}
-use Rattle.mv_board.proofs.Logging.{entry}
-use Rattle.mv_board.proofs.LatchEvents.{IsLoggedWith, admits_here, held_again, lists_after, happened, seated, possible, as_listed}
+use Rattle.mv_board.proofs.Logging.{HasAppended, entry}
+use Rattle.mv_board.proofs.LatchEvents.{admits_here, held_again, lists_after, happened, seated, possible, as_listed}
 use Rattle.mv_board.proofs.TurnKeeps.{gives}
 use Rattle.mv_board.proofs.board.Board.latch_event.Given.{Over}
-use Rattle.mv_board.proofs.board.Board.latch_event.Goals.{After-push_reserved}
+use Rattle.mv_board.proofs.board.Board.latch_event.Goals.{After-append}
 use Rattle.mv_board.proofs.board.Board.latch_event.Goals as goal
 
 pub unreachable-requires : goal.unreachable-requires
@@ -35,66 +36,69 @@ compare_exchange_with-requires g c =
     let t = named_by c.take-place.result in
     let l : Lists = record { place = c.take-place.result.place + 1; latches = c.apply.new.self } in
     let now = held_again c.take-place.new.seat.me c.exchange.new.seat.me c.caller.inside.seat.me.0 t l c.take-place.ensures.took c.exchange.ensures.3 in
-    let left : 0 < c.caller.inside.left = rw (ap (λ (d : CallerFace). d.left) c.caller.view_is) c.requires.left in
+    let left : 0 < c.caller.inside.events.left = rw (ap (λ (d : CallerFace). d.left) c.caller.view_is) c.requires.left in
     let config = ap (λ (b : BoardFace). b.config) c.self.view_is in
     let about = ap (λ (d : CallerFace). d.about) c.caller.view_is ∙ (c.requires.board.1 ∙ ap (λ s. s ∷ []) (sym config)) in
-    let may : allowed c.self.inside.config c.caller.inside.number c.caller.inside.log.items Latches (op_on.Latch c.args.op) ≡ true =
+    let may : allowed c.self.inside.config c.caller.inside.events.caller c.caller.inside.events.log.items Latches (op_on.Latch c.args.op) ≡ true =
     (λ i. allowed (config i) (c.caller.view_is i).number (c.caller.view_is i).log Latches (op_on.Latch c.args.op)) ∙ c.requires.admitted in (
       c.exchange.ensures.0 ∙ (c.take-place.ensures.same ∙ same_table c.self.inside c.caller.inside _ _ c.self.view_is c.caller.view_is c.requires.board),
       (let wide = c.self.invariant.words in omega arith),
       rw c.self.invariant.key (gives c.self.inside.config _ _ _ _ [] (ap (λ (m : Me Item View). m.0.parts) now ∙ c.caller.invariant.parts)
           c.args.op t l [] (ap (λ (m : Me Item View). m.0.turn) now) (ap (λ (m : Me Item View). m.1) now)
           (let slots = c.self.invariant.slots in omega arith) left may refl
-          (lists_after c.self.inside.config c.caller.inside.seat.me.0 c.take-place.result c.apply.new.self c.caller.inside.number c.args.op c.in-Some.reply
+          (lists_after c.self.inside.config c.caller.inside.seat.me.0 c.take-place.result c.apply.new.self c.caller.inside.events.caller c.args.op c.in-Some.reply
           c.take-place.ensures.meets about c.apply.ensures.quotas c.in-Some.ensures.step)),
     )
 
 -- the event, and the caller after it
-later : (g : Over) → After-push_reserved g → Inside
-later g c = record c.caller.inside { left = c.caller.inside.left - 1; log = c.push_reserved.new.self; wakes = c.apply.new.wakes; seat = c.compare_exchange_with.new.seat }
+later : (g : Over) → After-append g → Inside
+later g c = record c.caller.inside { events = c.append.new.self; seat = c.compare_exchange_with.new.seat }
 
-now : (g : Over) (c : After-push_reserved g) → c.exchange.new.seat.me ≡ (
+now : (g : Over) (c : After-append g) → c.exchange.new.seat.me ≡ (
   with_turn (named_by c.take-place.result ∷ []) c.caller.inside.seat.me.0,
   (0, Held record { place = c.take-place.result.place + 1; latches = c.apply.new.self }) ∷ [],
 )
 now g c = held_again c.take-place.new.seat.me c.exchange.new.seat.me c.caller.inside.seat.me.0 _ _ c.take-place.ensures.took c.exchange.ensures.3
 
-view : (g : Over) (c : After-push_reserved g) → c.compare_exchange_with.new.seat.me.0 ≡ with_turn [] (logged (latch_entry c.caller.inside.seat.me.0 c.args.op (named_by c.take-place.result))
+view : (g : Over) (c : After-append g) → c.compare_exchange_with.new.seat.me.0 ≡ with_turn [] (logged (latch_entry c.caller.inside.seat.me.0 c.args.op (named_by c.take-place.result))
     (wakes (own c.caller.inside.seat.me.0).caller c.args.op c.take-place.result.latches.lists ∷ []) c.caller.inside.seat.me.0)
 view g c =
     let t = named_by c.take-place.result in
     c.compare_exchange_with.ensures.2.view c.args.op t refl (ap (λ (m : Me Item View). m.0.turn) (now g c))
     ∙ ap (λ (m : Me Item View). with_turn [] (logged (latch_entry m.0 c.args.op t) (wakes (own m.0).caller c.args.op t.lists ∷ []) m.0)) (now g c)
 
-logged_with : (g : Over) (c : After-push_reserved g) → IsLoggedWith c.caller.inside (later g c)
+appended : (g : Over) (c : After-append g) → HasAppended c.caller.inside (later g c)
     (entry c.caller.inside Latches (op_on.Latch c.args.op) c.take-place.result.place (reply_of.Latch c.in-Some.reply))
-    (wakes c.caller.inside.number c.args.op c.take-place.result.latches.lists)
 unfolding later
-logged_with g c = record {
-  same = refl;
-  log = c.push_reserved.ensures.items;
-  capacity = c.push_reserved.ensures.capacity;
-  wakes = c.in-Some.ensures.wakes;
-  room = c.apply.ensures.capacity;
+appended g c = record {
+  caller = ap (λ (x : Events). x.caller) c.append.ensures.same;
+  left = ap (λ (x : Events). x.left) c.append.ensures.same;
+  log = c.append.ensures.logged;
+  capacity = c.append.ensures.capacity;
+  room = ap (λ (x : Events). vec_capacity x.wakes) c.append.ensures.same ∙ c.apply.ensures.capacity;
   table = c.compare_exchange_with.ensures.0 ∙ (c.exchange.ensures.0 ∙ c.take-place.ensures.same);
   slots = c.compare_exchange_with.ensures.2.slots ∙ ap (λ (m : Me Item View). rest m.1) (now g c);
 }
 
-left : (g : Over) (c : After-push_reserved g) → 0 < c.caller.inside.left
+showed : (g : Over) (c : After-append g) → (later g c).events.wakes.items ≡ wakes c.caller.inside.events.caller c.args.op c.take-place.result.latches.lists
+unfolding later
+showed g c = ap (λ (x : Events). x.wakes.items) c.append.ensures.same ∙ c.in-Some.ensures.wakes
+
+left : (g : Over) (c : After-append g) → 0 < c.caller.inside.events.left
 left g c = rw (ap (λ (d : CallerFace). d.left) c.caller.view_is) c.requires.left
 
-answer : (g : Over) (c : After-push_reserved g) → c.in-Some.reply ≡ (latch_step c.caller.inside.number c.take-place.result.place c.args.op c.take-place.result.latches.lists).1
+answer : (g : Over) (c : After-append g) → c.in-Some.reply ≡ (latch_step c.caller.inside.events.caller c.take-place.result.place c.args.op c.take-place.result.latches.lists).1
 answer g c = ap (λ (z : List (List Request) × LatchReply). z.1) c.in-Some.ensures.step
 
-after : (g : Over) (c : After-push_reserved g) → HappenedAt (face_of c.caller.inside) Latches c.take-place.result.place (op_on.Latch c.args.op) (reply_of.Latch c.in-Some.reply) (face_of (later g c))
+after : (g : Over) (c : After-append g) → HappenedAt (face_of c.caller.inside) Latches c.take-place.result.place (op_on.Latch c.args.op) (reply_of.Latch c.in-Some.reply) (face_of (later g c))
 unfolding later
 after g c =
-    happened c.caller.inside (later g c) _ _ _ c.caller.invariant (left g c) c.take-place.ensures.meets (view g c) c.compare_exchange_with.ensures.2.possible (answer g c) (logged_with g c)
+    happened c.caller.inside (later g c) _ _ _ c.caller.invariant (left g c) c.take-place.ensures.meets (view g c) c.compare_exchange_with.ensures.2.possible (answer g c) (appended g c) (showed g c)
 
 pub invariant_of-caller : goal.invariant_of-caller
 unfolding later
 invariant_of-caller g c =
-    seated c.caller.inside (later g c) _ _ _ c.caller.invariant (left g c) c.take-place.ensures.meets (view g c) c.compare_exchange_with.ensures.2.possible (answer g c) (logged_with g c)
+    seated c.caller.inside (later g c) _ _ _ c.caller.invariant (left g c) c.take-place.ensures.meets (view g c) c.compare_exchange_with.ensures.2.possible (answer g c) (appended g c) (showed g c)
 
 pub returns-clause-event : goal.returns-clause-event
 unfolding later
@@ -106,11 +110,11 @@ returns-clause-event g c = (
 pub returns-clause-possible : goal.returns-clause-possible
 unfolding later
 returns-clause-possible g c =
-    possible c.caller.inside (later g c) _ _ _ c.caller.invariant (left g c) c.take-place.ensures.meets (view g c) c.compare_exchange_with.ensures.2.possible (answer g c) (logged_with g c)
+    possible c.caller.inside (later g c) _ _ _ c.caller.invariant (left g c) c.take-place.ensures.meets (view g c) c.compare_exchange_with.ensures.2.possible (answer g c) (appended g c) (showed g c)
     c.args.self.now.config (ap (λ (d : CallerFace). d.about) c.caller.view_is ∙ c.requires.board.1)
 
 pub returns-clause-listed : goal.returns-clause-listed
 unfolding later
 returns-clause-listed g c =
     subst (λ (d : CallerFace). IsAsListed d Latches (op_on.Latch c.args.op) (reply_of.Latch c.in-Some.reply)) c.caller.view_is
-    (as_listed c.caller.inside (later g c) _ _ _ c.caller.invariant (left g c) c.take-place.ensures.meets (view g c) c.compare_exchange_with.ensures.2.possible (answer g c) (logged_with g c))
+    (as_listed c.caller.inside (later g c) _ _ _ c.caller.invariant (left g c) c.take-place.ensures.meets (view g c) c.compare_exchange_with.ensures.2.possible (answer g c) (appended g c) (showed g c))

@@ -1,4 +1,4 @@
-use Rattle.std.proofs.Common.{◌≡◌, Bool, true, false, Some, [], ◌∷◌, refl, sym, ap, ◌∙◌, subst, arith, length, List}
+use Rattle.std.proofs.Common.{◌≡◌, Bool, true, false, Some, [], ◌∷◌, refl, sym, ap, ◌∙◌, subst, arith, List}
 use Rattle.std.specs.List.{AllByRecursion}
 use Rattle.atomic_table.specs.Table.{Me, rest}
 use Rattle.mv_latch.specs.declared.request.Request.{Request}
@@ -9,13 +9,15 @@ use Rattle.mv_machine.specs.System.{latches_of}
 use Rattle.mv_board.specs.declared.caller.Caller.TheInside.{Inside}
 use Rattle.mv_board.specs.declared.item.Item.{Item}
 use Rattle.mv_board.specs.declared.item.Item.TheVariants.{Held}
+use Rattle.mv_board.specs.declared.view.Part.{Part}
 use Rattle.mv_board.specs.declared.view.View.{View}
 use Rattle.mv_board.specs.declared.watch.Watch.{Watch}
 use Rattle.mv_board.specs.declared.watch.Watch.TheVariants as watch
 use Rattle.mv_board.specs.Faces.{BoardFace, CallerFace, MayWatch}
 use Rattle.mv_board.specs.Caller.{face_of}
 use Rattle.mv_board.specs.Turn.{named_by, is_settled}
-use Rattle.mv_board.specs.View.{own, listed, with_turn, with_returned}
+use Rattle.mv_board.specs.Rule.{HasMade}
+use Rattle.mv_board.specs.View.{own, first_of, listed, with_turn, with_returned}
 use Rattle.mv_board.proofs.Boards.{same_table}
 use Rattle.mv_board.proofs.LatchEvents.{held_again}
 use Rattle.mv_board.proofs.Peeking.{peeked_in, seated_again}
@@ -26,9 +28,9 @@ use Rattle.mv_board.proofs.board.Board.peek_latch.Goals as goal
 
 pub confirm-reply-requires : goal.confirm-reply-requires
 confirm-reply-requires g c =
-    let about = ap (λ (d : CallerFace). d.about) c.caller.view_is ∙ c.requires.board.1 in
-    let count = subst (AllByRecursion (λ (s : Setup). length c.take-lists.result.latches.lists ≡ s.latches)) about c.take-lists.ensures.meets.count in
-    omega (arith, count.0, c.requires.own.0)
+    let log : (face_of c.caller.inside).log ≡ (own c.caller.inside.seat.me.0).log = ap (λ (ps : List Part). (first_of ps).log) (sym c.caller.invariant.parts) in
+    c.take-lists.ensures.meets.made c.args.latch c.args.id
+    (subst (HasMade c.args.latch c.args.id) (ap (λ (d : CallerFace). d.log) (sym c.caller.view_is) ∙ log) c.requires.own)
 
 pub compare_exchange_with-requires : goal.compare_exchange_with-requires
 compare_exchange_with-requires g c =
@@ -43,7 +45,7 @@ compare_exchange_with-requires g c =
       (let wide = c.self.invariant.words in omega arith),
       rw c.self.invariant.key (gives_back c.self.inside.config _ _ _ _ [] (ap (λ (m : Me Item View). m.0.parts) now ∙ c.caller.invariant.parts)
           c.args.latch c.args.id (named_by l) l [] (ap (λ (m : Me Item View). m.0.turn) now) (ap (λ (m : Me Item View). m.1) now)
-          (let slots = c.self.invariant.slots in omega arith) own.0 own.1 refl set.0),
+          (let slots = c.self.invariant.slots in omega arith) own refl set.0),
     )
 
 -- the caller after it
@@ -75,7 +77,7 @@ slots g c = c.compare_exchange_with.ensures.2.slots ∙ ap (λ (m : Me Item View
 table : (g : Over) (c : After-is_settled g) → c.compare_exchange_with.new.seat.table_id ≡ c.caller.inside.seat.table_id
 table g c = c.compare_exchange_with.ensures.0 ∙ (c.exchange.ensures.0 ∙ c.take-lists.ensures.same)
 
-answer : (g : Over) (c : After-is_settled g) → c.is_settled.result ≡ is_settled (confirm_reply c.caller.inside.number c.args.id (list_of c.take-lists.result.latches.lists c.args.latch))
+answer : (g : Over) (c : After-is_settled g) → c.is_settled.result ≡ is_settled (confirm_reply c.caller.inside.events.caller c.args.id (list_of c.take-lists.result.latches.lists c.args.latch))
 answer g c = c.is_settled.ensures ∙ ap is_settled c.confirm-reply.ensures
 
 pub invariant_of-caller : goal.invariant_of-caller

@@ -13,9 +13,9 @@ use Rattle.mv_board.proofs.board.Board.peek_word.Goals as goal
 pub load-word-requires : goal.load-word-requires
 load-word-requires c =
     let has : HasWord c.self.inside.config c.args.object = has_word c.self.inside _ _ c.self.view_is c.requires.word in
-    let owner : owner_at c.self.inside.config c.args.object ≡ Some c.caller.inside.number =
+    let owner : owner_at c.self.inside.config c.args.object ≡ Some c.caller.inside.events.caller =
     (λ i. owner_at (c.self.view_is i).config c.args.object) ∙ (c.requires.own ∙ ap (λ (d : CallerFace). Some d.number) (sym c.caller.view_is)) in
-    let there = watched c.self.inside.config c.args.object c.caller.inside.number owner in (
+    let there = watched c.self.inside.config c.args.object c.caller.inside.events.caller owner in (
       same_table c.self.inside c.caller.inside _ _ c.self.view_is c.caller.view_is c.requires.board,
       below c.self.inside _ _ c.self.invariant has c.word_number.ensures,
       rw (c.word_number.ensures, c.self.invariant.key) (peeks c.self.inside.config _ _ _ _ [] c.caller.invariant.parts c.args.object there.0 has there.1 owner),

@@ -1,4 +1,4 @@
-use Rattle.std.proofs.Common.{◌≡◌, ◌<◌, true, ◌-◌, List, [], refl, sym, ap, ◌∙◌, subst}
+use Rattle.std.proofs.Common.{◌≡◌, ◌<◌, true, List, [], refl, sym, ap, ◌∙◌, subst}
 use Rattle.mv_machine.specs.Kept.{allowed}
 use Rattle.mv_board.specs.declared.caller.Caller.TheInside.{Inside}
 use Rattle.mv_board.specs.Caller.{face_of}
@@ -10,9 +10,10 @@ use Rattle.mv_board.specs.View.{own, first_of, met}
 use Rattle.mv_board.specs.Words.{HasWord, changed}
 use Rattle.mv_board.proofs.Boards.{same_table, has_word, below, object_is}
 use Rattle.mv_board.proofs.Changing.{fields_allowed, meets_changed, read_parts}
-use Rattle.mv_board.proofs.Logging.{IsLogged, entry, own_is, own_left, missed, happened, seated, possible}
+use Rattle.mv_board.proofs.Logging.{entry, own_is, own_left, missed}
 use Rattle.mv_board.proofs.Keeps.{looks, happens}
 use Rattle.mv_board.proofs.Looks.{no_looks, after_looks}
+use Rattle.mv_board.proofs.WordEvents.{HasLogged, unlooked, happened, seated, possible}
 use Rattle.mv_board.proofs.board.Board.try_event.Goals as goal
 
 pub change-requires : goal.change-requires
@@ -48,8 +49,8 @@ returns-in_default-clause-answer c =
 pub compare_exchange_with-found-requires : goal.compare_exchange_with-found-requires
 compare_exchange_with-found-requires c =
     let has : HasWord c.self.inside.config c.args.object = has_word c.self.inside _ _ c.self.view_is c.requires.word in
-    let left : 0 < c.caller.inside.left = rw (ap (λ (d : CallerFace). d.left) c.caller.view_is) c.requires.left in
-    let may : allowed c.self.inside.config c.caller.inside.number c.caller.inside.log.items c.args.object c.args.op ≡ true =
+    let left : 0 < c.caller.inside.events.left = rw (ap (λ (d : CallerFace). d.left) c.caller.view_is) c.requires.left in
+    let may : allowed c.self.inside.config c.caller.inside.events.caller c.caller.inside.events.log.items c.args.object c.args.op ≡ true =
     (λ i. allowed (c.self.view_is i).config (c.caller.view_is i).number (c.caller.view_is i).log c.args.object c.args.op)
     ∙ c.requires.admitted in (
       same_table c.self.inside c.caller.inside _ _ c.self.view_is c.caller.view_is c.requires.board,
@@ -74,14 +75,10 @@ returns-then-found-expected-clause-answer c =
     )
 
 -- the event, and the caller after it
-later : goal.After-push_reserved → Inside
-later c = record c.caller.inside {
-  left = c.caller.inside.left - 1;
-  log = c.push_reserved.new.self;
-  seat = c.compare_exchange_with-found.new.seat;
-}
+later : goal.After-append → Inside
+later c = record c.caller.inside { events = c.append.new.self; seat = c.compare_exchange_with-found.new.seat }
 
-made : (c : goal.After-push_reserved)
+made : (c : goal.After-append)
     → MadeAfterLooks c.caller.inside.seat.me.0 c.args.object c.args.op c.in-Some.place c.in-Some.reply
     c.compare_exchange_with-found.new.seat.me.0
 made c =
@@ -92,22 +89,22 @@ made c =
     let here = object_is c.self.inside c.args.object c.word_number-word.result c.self.invariant has c.word_number-word.ensures in
     let alone = own_is c.caller.inside c.caller.invariant in
     let w = c.compare_exchange_with-found.result in
-    after_looks v v new c.args.object c.args.op w c.in-Some.place c.in-Some.next c.in-Some.reply alone (no_looks v alone)
+    after_looks v v new c.args.object c.args.op w c.in-Some.place c.in-Some.next c.in-Some.reply alone (no_looks v c.args.object alone)
     (subst (λ o. Meets v o w) here step.meets) (subst (λ o. Made v o c.args.op w new) here (step.hit c.if-found-expected.false))
     (ap (changed c.args.object c.args.op) c.if-found-expected.false ∙ (sym c.change.ensures ∙ c.in-Some.is))
 
-logged : (c : goal.After-push_reserved)
-    → IsLogged c.caller.inside (later c) (entry c.caller.inside c.args.object c.args.op c.in-Some.place c.in-Some.reply)
+logged : (c : goal.After-append)
+    → HasLogged c.caller.inside (later c) (entry c.caller.inside c.args.object c.args.op c.in-Some.place c.in-Some.reply)
 unfolding later
 logged c = record {
-  same = refl;
-  log = c.push_reserved.ensures.items;
-  capacity = c.push_reserved.ensures.capacity;
+  same = c.append.ensures.same;
+  log = c.append.ensures.logged;
+  capacity = c.append.ensures.capacity;
   table = c.compare_exchange_with-found.ensures.0;
   slots = c.compare_exchange_with-found.ensures.2.slots;
 }
 
-left : (c : goal.After-push_reserved) → 0 < c.caller.inside.left
+left : (c : goal.After-append) → 0 < c.caller.inside.events.left
 left c = rw (ap (λ (d : CallerFace). d.left) c.caller.view_is) c.requires.left
 
 pub invariant_of-caller-2 : goal.invariant_of-caller-2
@@ -115,7 +112,7 @@ unfolding later
 invariant_of-caller-2 c = seated c.caller.inside (later c) _ _ _ _ c.caller.invariant (left c) (made c) (logged c)
 
 pub returns-clause-answer : goal.returns-clause-answer
-unfolding later
+unfolding later made after_looks no_looks
 returns-clause-answer c =
     let parts = read_parts c.args.object c.args.op c.args.expected c.in-Some.place c.in-Some.next c.in-Some.reply
     (sym c.change.ensures ∙ c.in-Some.is) in record {
@@ -127,6 +124,8 @@ returns-clause-answer c =
           c.caller.view_is
           (happened c.caller.inside (later c) _ _ _ _ c.caller.invariant (left c) (made c)
           (logged c) c.args.self.now.config c.requires.word);
+      met = subst (λ (d : CallerFace). (face_of (later c)).met ≡ d.met) c.caller.view_is
+          (unlooked c.caller.inside (later c) _ _ _ _ c.caller.invariant (left c) (made c) (logged c) refl);
     }
 
 pub returns-clause-possible : goal.returns-clause-possible

@@ -1,27 +1,24 @@
-use Rattle.std.proofs.Common.{◌<◌, ◌-◌, List, refl, sym, ap, subst}
+use Rattle.std.proofs.Common.{◌<◌, List, refl, sym, ap, subst}
 use Rattle.mv_board.specs.declared.caller.Caller.TheInside.{Inside}
 use Rattle.mv_board.specs.declared.view.Part.{Part}
 use Rattle.mv_board.specs.Caller.{face_of}
 use Rattle.mv_board.specs.Faces.{CallerFace, HappenedAt, IsAsListed}
 use Rattle.mv_board.specs.View.{first_of}
 use Rattle.mv_board.proofs.Answering.{as_listed}
-use Rattle.mv_board.proofs.Logging.{IsLogged, entry, happened}
+use Rattle.mv_board.proofs.Logging.{entry}
+use Rattle.mv_board.proofs.WordEvents.{HasLogged, happened}
 use Rattle.mv_board.proofs.board.Board.word_event.Goals as goal
 
 pub returns-clause-event : goal.returns-clause-event
 returns-clause-event g c =
     let place = c.exchange-place.result.0 in
     let reply = c.exchange-place.result.1 in
-    let left : 0 < c.caller.inside.left = rw (ap (λ (d : CallerFace). d.left) c.caller.view_is) c.requires.left in
-    let later : Inside = record c.caller.inside {
-      left = c.caller.inside.left - 1;
-      log = c.push_reserved.new.self;
-      seat = c.exchange-place.new.seat;
-    } in
-    let logged : IsLogged c.caller.inside later (entry c.caller.inside c.args.object c.args.op place reply) = record {
-      same = refl;
-      log = c.push_reserved.ensures.items;
-      capacity = c.push_reserved.ensures.capacity;
+    let left : 0 < c.caller.inside.events.left = rw (ap (λ (d : CallerFace). d.left) c.caller.view_is) c.requires.left in
+    let later : Inside = record c.caller.inside { events = c.append.new.self; seat = c.exchange-place.new.seat } in
+    let logged : HasLogged c.caller.inside later (entry c.caller.inside c.args.object c.args.op place reply) = record {
+      same = c.append.ensures.same;
+      log = c.append.ensures.logged;
+      capacity = c.append.ensures.capacity;
       table = c.exchange-place.ensures.same.0;
       slots = c.exchange-place.ensures.same.1;
     } in (

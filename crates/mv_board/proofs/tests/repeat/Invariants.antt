@@ -1,6 +1,6 @@
 use Rattle.std.proofs.Common.{◌≡◌, ◌≤◌, ◌+◌}
 use Rattle.mv_board.specs.Faces.{IsOf}
-use Rattle.mv_board.proofs.tests.exchange_often.Given as goal
+use Rattle.mv_board.proofs.tests.repeat.Given as goal
 
 abbrev pub invariant-loop : goal.invariant-loop
 invariant-loop g l = record {
