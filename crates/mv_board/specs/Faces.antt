@@ -122,7 +122,8 @@ pub record Found (c : CallerFace) (o : Object) (w : ℕ) (d : CallerFace) : Type
   pub wakes : d.wakes ≡ c.wakes
   pub returned : d.returned ≡ c.returned
 
--- an exchange that was made, by one step: the entry has the place that the expected word has, and the reply that its state gives
+-- an exchange that was made, and met nothing before: the entry has the place that the expected word has, and the reply that its
+-- state gives
 pub record Exchanged (c : CallerFace) (o : Object) (op : Op) (expected : ℕ) (reply : Reply) (d : CallerFace) : Type 0 where
   pub place : ℕ
   pub state : WordState

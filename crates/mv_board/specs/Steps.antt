@@ -119,7 +119,7 @@ pub record LooksOn (v : View) (o : Object) (w : View) : Type 0 where
   pub there : AreAt o (length (own v).log) more
   pub view : w ≡ record v { parts = with_own (λ p. record p { sights = p.sights ++ more }) v.parts }
 
--- looks, and then the event, on the word that was met last
+-- looks, and then the event, on a word that the seat may meet
 pub record MadeAfterLooks (v : View) (o : Object) (op : Op) (place : ℕ) (reply : Reply) (new : View) : Type 0 where
   pub between : View
   pub looks : LooksOn v o between

@@ -1,6 +1,7 @@
 //! The board: how it is opened, and its calls on objects.
 
 ghost use Rattle.std.specs.Prelude.{◌≡◌, ◌<◌, ◌++◌, ◌∷◌, [], true, length, IfOk, MatchResult, Some};
+ghost use Rattle.std.specs.List.{Contains};
 ghost use Rattle.mv_machine.specs.Kept.{allowed};
 ghost use Rattle.mv_machine.specs.Parts.{IsPossible};
 ghost use Rattle.mv_machine.specs.Owned.{owner_at};
@@ -119,11 +120,13 @@ impl Board {
 
     /// Whether what a caller waits for is so: its own block is complete, its own element released, its own request granted or
     /// gone. It is no event. Where it is so, it stays so whatever others do, until an event of the caller's own that takes it off
-    /// the list: one on that block or element, or one on the latch set that is no obtain.
+    /// the list: one on that block or element, or one on the latch set that is no obtain. For a request it waits while another
+    /// caller has the lists.
     pub fn peek<R: Wait>(&self, rt: &R, caller: &mut Caller, watch: Watch) -> bool
         requires board { IsOf self.now caller.old }
         requires own { MayWatch self.now.config caller.old watch }
-        ensures { Peeks caller.old watch result caller.new }
+        ensures look { Peeks caller.old watch result caller.new }
+        ensures stays { Contains caller.old.ready watch → result ≡ true }
     {
         match watch {
             Watch::Ecb(ecb) => self.peek_word(caller, Object::Ecb(ecb)),
@@ -137,7 +140,8 @@ impl Board {
         requires board { IsOf self.now caller.old }
         requires word { HasWord self.now.config object }
         requires own { owner_at self.now.config object ≡ Some caller.old.number }
-        ensures { (w : AnyWatch) → watch_of object ≡ Some w → PeekedAt caller.old object w result caller.new }
+        ensures look { (w : AnyWatch) → watch_of object ≡ Some w → PeekedAt caller.old object w result caller.new }
+        ensures stays { (w : AnyWatch) → watch_of object ≡ Some w → Contains caller.old.ready w → result ≡ true }
     {
         let word = self
             .table

@@ -31,7 +31,7 @@ impl Board {
     ///
     /// The journal is the merge of the logs: again and again the lowest caller whose next entry has its object's next place gives
     /// it. Each caller's part of it is that caller's log, its told list is what the journal shows it, and each word that it met the
-    /// object had, between the caller's events before and behind it.
+    /// object had, between the caller's events on that object before and behind it.
     pub fn close(self, mut callers: Vec<Caller>) -> Closed
         requires order { AreInOrder self 0 callers.items }
         requires all { length callers.items ≡ self.config.callers }

@@ -1,6 +1,7 @@
 //! The latch set: a turn lends its lists to one caller at a time.
 
 ghost use Rattle.std.specs.Prelude.{◌≡◌, ◌<◌, ◌++◌, ◌∷◌, [], true};
+ghost use Rattle.std.specs.List.{Contains};
 ghost use Rattle.mv_machine.specs.Kept.{allowed};
 ghost use Rattle.mv_machine.specs.Parts.{IsPossible};
 ghost use Rattle.mv_board.specs.Faces.{IsOf, Happened, IsAsListed, MayWatch, PeekedIn};
@@ -93,7 +94,8 @@ impl Board {
     ) -> bool
         requires board { IsOf self.now caller.old }
         requires own { MayWatch self.now.config caller.old (watch.Latch latch id) }
-        ensures { PeekedIn caller.old latch id result caller.new }
+        ensures look { PeekedIn caller.old latch id result caller.new }
+        ensures stays { Contains caller.old.ready (watch.Latch latch id) → result ≡ true }
     {
         let lists = self.take(rt, &mut caller.seat);
         let reply = lists.latches.confirm(caller.events.caller, latch, id);

@@ -1,5 +1,5 @@
 use Rattle.std.proofs.Common.{◌≡◌, Bool, true, false, Some, [], ◌∷◌, refl, sym, ap, ◌∙◌, subst, arith, List}
-use Rattle.std.specs.List.{AllByRecursion}
+use Rattle.std.specs.List.{AllByRecursion, Contains}
 use Rattle.atomic_table.specs.Table.{Me, rest}
 use Rattle.mv_latch.specs.declared.request.Request.{Request}
 use Rattle.mv_latch.specs.Latch.{confirm_reply}
@@ -84,7 +84,14 @@ pub invariant_of-caller : goal.invariant_of-caller
 unfolding later
 invariant_of-caller g c = seated_again c.caller.inside (later g c) _ _ c.take-lists.result _ c.caller.invariant refl (table g c) (slots g c) (answer g c) (view g c)
 
-pub returns : goal.returns
+pub returns-clause-look : goal.returns-clause-look
 unfolding later
-returns g c =
+returns-clause-look g c =
     rw (← c.caller.view_is) (peeked_in c.caller.inside (later g c) _ _ c.take-lists.result _ c.caller.invariant refl (table g c) (slots g c) (answer g c) (view g c))
+
+pub returns-clause-stays : goal.returns-clause-stays
+returns-clause-stays g c = λ listed.
+    answer g c
+    ∙ (ap (λ (ps : List Part). is_settled (confirm_reply (first_of ps).caller c.args.id (list_of c.take-lists.result.latches.lists c.args.latch))) (sym c.caller.invariant.parts)
+    ∙ c.take-lists.ensures.meets.ready c.args.latch c.args.id
+    (subst (λ (d : CallerFace). Contains d.ready (watch.Latch c.args.latch c.args.id)) (sym c.caller.view_is) listed))
