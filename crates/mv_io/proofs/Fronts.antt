@@ -1,12 +1,28 @@
 -- One more read after others, and one more write: the fronts of the told bytes join.
 use Rattle.std.proofs.Common.{◌≡◌, ℕ, ◌+◌, ◌-◌, ◌<◌, ◌≤◌, List, ◌++◌, length, take, drop, None, Some, Ok, IfSome, refl, sym, ap, ◌∙◌, arith, append_assoc, drop-drop, length-drop, length-take-le, take-add, take-take, take_at, drop_at}
-use Rattle.std.proofs.lemmas.List.{take_rest}
+use Rattle.std.proofs.lemmas.List.{take_rest, take-append-le}
 use Rattle.std.proofs.lemmas.Slice.{take-put_mid}
 use borrow.Rule.Slice.PartMut.{put_mid}
 use Rattle.std.specs.declared.option.Option.{Option}
 use Rattle.mv_io.specs.declared.failed.Failed.{Failed}
-use Rattle.mv_io.specs.Source.{GivesFront, Reads}
+use Rattle.mv_io.specs.Source.{LosesFront, GivesFront, Reads}
 use Rattle.mv_io.specs.Sink.{Appends, Writes}
+
+-- ---- one read
+
+-- what a read gave
+pub Reads-gives : (old new : Option (List ℕ)) (buf : List ℕ) (k : ℕ) → Reads {E = Failed} old new (Ok k) buf
+    → IfSome old (λ xs. GivesFront xs new buf k)
+Reads-gives None new buf k read = tt
+Reads-gives (Some xs) new buf k read = read.0
+
+-- a read with room that gave nothing was at the end
+pub Reads-end : (old new : Option (List ℕ)) (buf : List ℕ) → Reads {E = Failed} old new (Ok 0) buf → 0 < length buf
+    → IfSome old (λ xs. 0 ≡ length xs)
+Reads-end None new buf read room = tt
+Reads-end (Some xs) new buf read room = sym (ap length ((read.1 room).0 refl))
+
+-- ---- a read behind others
 
 -- the first k bytes of a part that was written behind i others
 take-put_mid_part : (buf piece : List ℕ) (i n k : ℕ) → i ≤ length buf → length piece ≡ n → k ≤ n
@@ -18,14 +34,14 @@ take-put_mid_part buf piece i n k within long few =
     ∙ take-add i k (take i buf ++ piece)
     ∙ (λ x. take_at (take i buf) piece i front x ++ take k (drop_at (take i buf) piece i front x))
 
--- i bytes were given, and a read behind them gave k more
+-- i bytes were given, and k more behind them
 pub GivesFront-more : (old mid new : Option (List ℕ)) (buf piece : List ℕ) (i n k j : ℕ)
-    → IfSome old (λ xs. GivesFront xs mid buf i) → Reads {E = Failed} mid new (Ok k) piece
+    → IfSome old (λ xs. GivesFront xs mid buf i) → IfSome mid (λ ys. GivesFront ys new piece k)
     → i ≤ length buf → length piece ≡ n → k ≤ n → j ≡ i + k
     → IfSome old (λ xs. GivesFront xs new (put_mid i n buf piece) j)
-GivesFront-more None mid new buf piece i n k j given read within long few sum = tt
-GivesFront-more (Some xs) mid new buf piece i n k j given read within long few sum =
-    let front = (rw given.left at read).0 in
+GivesFront-more None mid new buf piece i n k j given more within long few sum = tt
+GivesFront-more (Some xs) mid new buf piece i n k j given more within long few sum =
+    let front = rw given.left at more in
     rw sum (record {
       within = omega (arith, given.within, front.within, length-drop i xs);
       left = front.left ∙ ap Some (drop-drop k i xs);
@@ -34,14 +50,41 @@ GivesFront-more (Some xs) mid new buf piece i n k j given read within long few s
           ∙ sym (take-add i k xs);
     })
 
--- i bytes were given, and a read with room behind them gave no more
-pub GivesFront-end : (old mid new : Option (List ℕ)) (buf piece : List ℕ) (i : ℕ)
-    → IfSome old (λ xs. GivesFront xs mid buf i) → Reads {E = Failed} mid new (Ok 0) piece → 0 < length piece
-    → IfSome old (λ xs. i ≡ length xs)
-GivesFront-end None mid new buf piece i given read room = tt
-GivesFront-end (Some xs) mid new buf piece i given read room =
-    let none = ((rw given.left at read).1 room).0 refl in
-    omega (arith, given.within, length-drop i xs, ap length none)
+-- i bytes were given, and k more were all that was left
+pub GivesFront-end : (old mid : Option (List ℕ)) (buf : List ℕ) (i k j : ℕ)
+    → IfSome old (λ xs. GivesFront xs mid buf i) → IfSome mid (λ ys. k ≡ length ys) → j ≡ i + k → IfSome old (λ xs. j ≡ length xs)
+GivesFront-end None mid buf i k j given rest sum = tt
+GivesFront-end (Some xs) mid buf i k j given rest sum =
+    let last = rw given.left at rest in
+    omega (arith, given.within, length-drop i xs)
+
+-- i bytes were given, and k more were lost
+pub LosesFront-more : (old mid new : Option (List ℕ)) (buf : List ℕ) (i n room : ℕ)
+    → IfSome old (λ xs. GivesFront xs mid buf i) → IfSome mid (λ ys. (k : ℕ) × (k < n) × LosesFront ys new k) → i + n ≤ room
+    → IfSome old (λ xs. (k : ℕ) × (k < room) × LosesFront xs new k)
+LosesFront-more None mid new buf i n room given lost within = tt
+LosesFront-more (Some xs) mid new buf i n room given lost within =
+    let more = rw given.left at lost in (
+      i + more.0,
+      omega (arith, more.1),
+      record {
+        within = omega (arith, given.within, more.2.within, length-drop i xs);
+        left = more.2.left ∙ ap Some (drop-drop more.0 i xs);
+      },
+    )
+
+-- the buffer is lengthened
+pub GivesFront-longer : (old mid : Option (List ℕ)) (buf longer rest : List ℕ) (i : ℕ)
+    → IfSome old (λ xs. GivesFront xs mid buf i) → i ≤ length buf → longer ≡ buf ++ rest
+    → IfSome old (λ xs. GivesFront xs mid longer i)
+GivesFront-longer None mid buf longer rest i given within e = tt
+GivesFront-longer (Some xs) mid buf longer rest i given within e = record {
+  within = given.within;
+  left = given.left;
+  bytes = ap (take i) e ∙ take-append-le i buf rest within ∙ given.bytes;
+}
+
+-- ---- a write behind others
 
 -- i bytes were taken, and a write of the rest took k more
 pub Appends-more : (old mid new : Option (List ℕ)) (bytes : List ℕ) (i k : ℕ)

@@ -1,3 +1,5 @@
+//! What a failure of a stream, and want of memory, answer.
+
 use std::alloc::{AllocError, AllocFailed};
 
 /// A stream failed. Its count of faults says that it was the stream.

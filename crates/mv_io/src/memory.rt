@@ -1,4 +1,6 @@
-// Streams in memory, which fail at the calls that they are told.
+//! Streams in memory, which fail at the calls that they are told. Their clauses cite specs/MemSource and specs/MemSink for
+//! what a call makes of them, beside those of the traits.
+
 ghost use Rattle.std.specs.Prelude.{◌≡◌, ◌↔◌, ◌≤◌, length, min, Some, IfOk, IsErr, Contains};
 ghost use Rattle.mv_io.specs.Fault.{HasCause, HasWriteCause};
 ghost use Rattle.mv_io.specs.Source.{Reads};

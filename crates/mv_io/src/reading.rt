@@ -1,4 +1,6 @@
-ghost use Rattle.std.specs.Prelude.{◌≡◌, ◌⊎◌, ◌+◌, ◌<◌, ◌≤◌, ℕ, [], length, drop, Some, IfSome, IfOk, IfErr, OnOk, OnErr, IsErrOf};
+//! The reading of a whole input. Its clauses cite specs/Source for what a source loses and gives, and specs/Fault for its cause.
+
+ghost use Rattle.std.specs.Prelude.{◌≡◌, ◌⊎◌, ◌+◌, ◌<◌, ◌≤◌, ℕ, [], length, drop, vec_len, vec_capacity, Some, IfSome, IfOk, IfErr, OnOk, OnErr, IsErrOf};
 ghost use Rattle.mv_io.specs.Fault.{Rose};
 ghost use Rattle.mv_io.specs.Source.{LosesFront, GivesFront};
 ghost use Rattle.mv_io.specs.declared.reading.ReadRefusal.TheVariants.{NoMemory as no_memory, Failed as failed};
@@ -33,8 +35,12 @@ impl From<Failed> for ReadRefusal {
     }
 }
 
+/// The most bytes by which the room is opened at once.
+const PIECE: usize = 64 * 1024;
+
 /// Reads a whole input of at most `limit` bytes. Room for `limit` and one byte is taken before the
-/// first read, and no more bytes than that are taken off the source.
+/// first read, and no memory after it. No more bytes than that are taken off the source, and where
+/// it fails at most `limit`. Only as much of the room is touched as bytes came, to the next piece.
 pub fn read_limited<S: Source>(
     alloc: Global,
     src: &mut S,
@@ -47,7 +53,7 @@ pub fn read_limited<S: Source>(
     // A fault is the source's own. What came before it is lost.
     ensures failed { IsErrOf result ReadRefusal.Failed → Rose (S.faults src.old) (S.faults src.new) }
     ensures failed_left { IsErrOf result ReadRefusal.Failed → IfSome (S.left src.old)
-        (λ xs. (k : ℕ) × (k ≤ limit + 1) × LosesFront xs (S.left src.new) k) }
+        (λ xs. (k : ℕ) × (k ≤ limit) × LosesFront xs (S.left src.new) k) }
 
     // An input is too long exactly where it is, unless something failed before that was seen.
     ensures too_long { IsErrOf result ReadRefusal.TooLong → IfSome (S.left src.old)
@@ -60,13 +66,39 @@ pub fn read_limited<S: Source>(
     ensures count { S.faults src.old ≤ S.faults src.new }
 {
     let room = limit.checked_add(1).ok_or(ReadRefusal::NoMemory)?;
-    let mut bytes = vec![in alloc; 0; room]?;
-    let filled = fill(src, &mut bytes)?;
+    let mut bytes = Vec::with_capacity(alloc, room)?;
+    let filled = fill_room(src, &mut bytes, room)?;
     if filled > limit {
         return Err(ReadRefusal::TooLong);
     }
     bytes.truncate(filled);
     Ok(bytes)
+}
+
+// Reads until so many bytes have come or the input has ended, and answers how many came. The empty
+// vector has room for them, and is lengthened inside it as they come.
+fn fill_room<S: Source>(src: &mut S, bytes: &mut Vec<u8>, room: usize) -> Result<usize, Failed>
+    requires empty { vec_len bytes.old ≡ 0 }
+    requires fits { room ≤ vec_capacity bytes.old }
+    ensures bound { IfOk result (λ n. (n ≤ vec_len bytes.new) × (n ≤ room)) }
+    ensures bytes { IfOk result (λ n. IfSome (S.left src.old) (λ xs. GivesFront xs (S.left src.new) bytes.new.items n)) }
+    ensures end { IfOk result (λ n. n < room → IfSome (S.left src.old) (λ xs. n ≡ length xs)) }
+    ensures lost { OnErr result (IfSome (S.left src.old)
+        (λ xs. (k : ℕ) × (k < room) × LosesFront xs (S.left src.new) k)) }
+    ensures cause { OnErr result (Rose (S.faults src.old) (S.faults src.new)) }
+    ensures count { S.faults src.old ≤ S.faults src.new }
+{
+    let mut filled = 0;
+    // The input has ended where a piece was not filled.
+    while filled == bytes.len() && filled < room {
+        // The room was taken before, so this cannot be refused.
+        let Ok(()) = bytes.resize(filled + PIECE.min(room - filled), 0) else {
+            unreachable!()
+        };
+        let count = fill(src, &mut bytes[filled..])?;
+        filled += count;
+    }
+    Ok(filled)
 }
 
 // Reads until the buffer is full or the input has ended, and answers how many bytes came.
@@ -75,7 +107,7 @@ fn fill<S: Source>(src: &mut S, buf: &mut [u8]) -> Result<usize, Failed>
     ensures bytes { IfOk result (λ n. IfSome (S.left src.old) (λ xs. GivesFront xs (S.left src.new) buf.new n)) }
     ensures end { IfOk result (λ n. n < length buf.new → IfSome (S.left src.old) (λ xs. n ≡ length xs)) }
     ensures lost { OnErr result (IfSome (S.left src.old)
-        (λ xs. (k : ℕ) × (k ≤ length buf.new) × LosesFront xs (S.left src.new) k)) }
+        (λ xs. (k : ℕ) × (k < length buf.new) × LosesFront xs (S.left src.new) k)) }
     ensures cause { OnErr result (Rose (S.faults src.old) (S.faults src.new)) }
     ensures count { S.faults src.old ≤ S.faults src.new }
 {

@@ -1,3 +1,5 @@
+//! The trait of sources, whose clauses cite specs/Source and specs/Fault.
+
 ghost use Rattle.std.specs.Prelude.{◌≤◌, ℕ, List, length, IfOk};
 ghost use Rattle.std.specs.declared.option.Option.{Option};
 ghost use Rattle.mv_io.specs.Fault.{HasCause};

@@ -1,8 +1,11 @@
-// Streams of std with a count of their faults. They tell as much of their bytes as std does: nothing
-// where the bytes are those of a file or of a standard stream.
-//
-// An interrupted call is an error like any other: nothing here handles signals, so the standard
-// streams are not interrupted.
+//! Streams of std with a count of their faults. They tell as much of their bytes as std does: nothing
+//! where the bytes are those of a file or of a standard stream. Their clauses cite specs/StdSource and
+//! specs/StdSink for the stream inside and its count, beside those of the traits.
+//!
+//! An interrupted call is an error like any other: nothing here handles signals, so the standard
+//! streams are not interrupted. No clause can name what the stream inside answered: that each of its
+//! errors is one failure is tested.
+
 ghost use Rattle.std.specs.Prelude.{◌≡◌, ◌<◌, ◌≤◌, ◌*◌, length, IfOk, OnOk, OnErr};
 ghost use Rattle.mv_io.specs.Fault.{one_more, HasCause, HasWriteCause};
 ghost use Rattle.mv_io.specs.Source.{Reads};

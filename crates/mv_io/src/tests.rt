@@ -22,6 +22,37 @@ fn an_input_within_the_limit_is_read_whole(rt: HostRuntime) -> Result<(), Fail> 
     Ok(())
 }
 
+// An input of three pieces of the room and a byte: read whole, one byte too long, and cut by a fault in its third piece.
+#[test]
+fn a_long_input_is_read_a_piece_at_a_time(rt: HostRuntime) -> Result<(), Fail> {
+    let alloc = rt.alloc();
+    let mut input = vec![in alloc; b'.'; 3 * 65_536 + 1]?;
+    for (at, mark) in [
+        (0, b'a'),
+        (65_535, b'b'),
+        (65_536, b'c'),
+        (131_072, b'd'),
+        (196_608, b'e'),
+    ] {
+        input[at] = mark;
+    }
+    for step in [7, 4_096, 65_536, 65_537, 200_000] {
+        let mut source = MemSource::new(alloc, &input, step, &[])?;
+        let bytes = read_limited(alloc, &mut source, input.len())?;
+        assert!(rt; bytes == input, "step {step}");
+
+        let mut source = MemSource::new(alloc, &input, step, &[])?;
+        let refusal = read_limited(alloc, &mut source, input.len() - 1).err();
+        assert_eq!(rt; refusal, Some(ReadRefusal::TooLong), "step {step}");
+    }
+    let mut source = MemSource::new(alloc, &input, 60_000, &[4])?;
+    let refusal = read_limited(alloc, &mut source, 1_000_000).err();
+    assert_eq!(rt; refusal, Some(ReadRefusal::Failed));
+    let left = read_limited(alloc, &mut source, 1_000_000)?;
+    assert_eq!(rt; left.as_slice(), &input[131_072..]);
+    Ok(())
+}
+
 #[test]
 fn one_byte_over_the_limit_is_too_long(rt: HostRuntime) -> Result<(), Fail> {
     let alloc = rt.alloc();
@@ -112,6 +143,28 @@ impl Write for Worn {
     }
 }
 
+#[test]
+fn streams_of_std_that_succeed(rt: HostRuntime) -> Result<(), Fail> {
+    let alloc = rt.alloc();
+    let mut source = StdSource::new(b"tasks".as_slice());
+    assert_eq!(rt;
+        read_limited(alloc, &mut source, 5)?.as_slice(),
+        b"tasks".as_slice()
+    );
+    assert_eq!(rt; read_limited(alloc, &mut source, 5)?.len(), 0);
+    assert_eq!(rt; source.faults(), 0);
+
+    let mut room = [b'.'; 8];
+    let mut sink = StdSink::new(room.as_mut_slice());
+    assert_eq!(rt; write_all(&mut sink, b"tasks"), Ok(()));
+    assert_eq!(rt; write_all(&mut sink, b""), Ok(()));
+    assert_eq!(rt; sink.faults(), 0);
+    drop(sink);
+    assert_eq!(rt; room.as_slice(), b"tasks...".as_slice());
+    Ok(())
+}
+
+// Each error of the reader or the writer is one fault, and what succeeds later adds none.
 #[test]
 fn a_failing_stream_of_std_counts_one_fault(rt: HostRuntime) -> Result<(), Fail> {
     let alloc = rt.alloc();

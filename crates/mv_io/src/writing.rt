@@ -1,3 +1,5 @@
+//! The writing of a whole text. Its clauses cite specs/Sink for what a sink takes, and specs/Fault for its cause.
+
 ghost use Rattle.std.specs.Prelude.{◌<◌, ◌≤◌, length, take, IfErr, OnErr, OnOk};
 ghost use Rattle.mv_io.specs.Fault.{Rose};
 ghost use Rattle.mv_io.specs.Sink.{Appends};
