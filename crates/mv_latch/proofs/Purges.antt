@@ -1,7 +1,7 @@
 -- A purge goes over the lists one by one.
-use Rattle.std.proofs.Common.{◌≡◌, ℕ, ◌+◌, ◌<◌, ◌≤◌, zero, suc, not, List, [], ◌∷◌, ◌++◌, length, map, take, drop, set, get_or, Vec, Global, vec_capacity, refl, sym, ap, ◌∙◌, arith, length-append, append_assoc}
+use Rattle.std.proofs.Common.{◌≡◌, ℕ, ◌+◌, ◌<◌, ◌≤◌, zero, suc, not, List, [], ◌∷◌, ◌++◌, length, map, take, drop, set, get_or, Vec, Global, vec_capacity, sym, ap, ◌∙◌, arith, length-append, append_assoc}
 use Rattle.std.specs.List.{flat_map, AllByRecursion}
-use Rattle.std.proofs.lemmas.List.{take_all, take_more_set, drop-set-lt, length-set, length-map, map-append, map_more, map-set, set-get_or, get_or-map, drop_more}
+use Rattle.std.proofs.lemmas.List.{take_more_set, drop-set-lt, length-set, length-map, map-append, map_more, map-set, set-get_or, get_or-map, drop_more}
 use Rattle.std.proofs.lemmas.Grind.{drop_more_same}
 use Rattle.mv_latch.specs.declared.request.Request.{Request}
 use Rattle.mv_latch.specs.declared.operation.Wake.{Wake}
@@ -18,9 +18,6 @@ pub record ArePurgedTo (requestor : ℕ) (old new : List (List Request)) (i : �
   pub rest : drop i new ≡ drop i old
   pub long : length new ≡ length old
 
-pub purged_none : (requestor : ℕ) (old : List (List Request)) → ArePurgedTo requestor old old 0
-purged_none requestor old = record { front = refl; rest = refl; long = refl }
-
 -- the next list is still as it was
 pub next_list : (requestor : ℕ) (old new : List (List Request)) (i : ℕ) → ArePurgedTo requestor old new i → i < length old → get_or new i [] ≡ get_or old i []
 next_list requestor old new i w lt =
@@ -34,10 +31,6 @@ purged_more requestor old new i w lt = record {
   rest = drop-set-lt (i + 1) new i _ (omega arith) ∙ drop_more_same new old i w.rest;
   long = length-set new i _ ∙ w.long;
 }
-
-pub purged_all : (requestor : ℕ) (old new : List (List Request)) (i : ℕ) → ArePurgedTo requestor old new i → length old ≤ i → new ≡ map (purged requestor) old
-purged_all requestor old new i w le =
-    sym (take_all i new (omega (arith, w.long))) ∙ w.front ∙ ap (map (purged requestor)) (take_all i old le)
 
 -- ---- one turn of the loop
 pub distinct_at : (lists : List (List Request)) (i : ℕ) → AllByRecursion HasDistinctIds lists → HasDistinctIds (get_or lists i [])

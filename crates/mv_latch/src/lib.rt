@@ -1,6 +1,6 @@
 //! Latch sets: lists of shared and exclusive requests, which are granted in the order of their arrival. A
 //! `LatchSet` takes one operation at a time, answers it, and lists who is to be told of a grant or of a
-//! purge. It takes all its memory when it is made; nothing here waits, posts or wakes anybody.
+//! purge. It takes the room for its lists when it is made; nothing here waits, posts or wakes anybody.
 #![tactic(auto)]
 
 mod latch_set;

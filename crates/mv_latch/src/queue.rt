@@ -157,16 +157,7 @@ fn take_out(list: &mut Vec<Request>, selection: Selection)
     ensures items { list.new.items ≡ left_without (selects selection) list.old.items }
     ensures capacity { vec_capacity list.new ≡ vec_capacity list.old }
 {
-    let mut kept = 0;
-    for i in 0..list.len() {
-        let request = list[i];
-        let taken = selection.selects(&request);
-        if !taken {
-            list[kept] = request;
-            kept += 1;
-        }
-    }
-    list.truncate(kept);
+    list.retain(|request| !selection.selects(request));
 }
 
 // Tells of each request, with this code.
