@@ -165,7 +165,8 @@ fn read_latch_event(strict: bool, text: &[u8]) -> Option<((u32, (LatchOp, LatchR
     Some(((place, (op, reply)), rest))
 }
 
-// What stands behind an object is of its kind.
+// What stands behind an object is of its kind. It is inlined since an entry is large, and would be moved once more.
+#[inline(always)]
 fn read_entry_on(strict: bool, caller: u32, object: Object, text: &[u8]) -> Option<(Entry, &[u8])>
     ensures { seen result ≡ entry_on strict caller object text.now }
 {

@@ -46,7 +46,9 @@ pub(crate) fn push_pair(
     push_number(out, b" ", second)
 }
 
-/// What stands behind a word, where the text begins with it.
+/// What stands behind a word, where the text begins with it. Each caller's word is a constant, and inlined the comparison is of
+/// so many bytes.
+#[inline(always)]
 pub(crate) fn after<'a>(text: &'a [u8], word: &[u8]) -> Option<&'a [u8]>
     ensures { MatchOption result (starts_with nat_eq text.now word.now ≡ false)
         (λ rest. (starts_with nat_eq text.now word.now ≡ true) × (rest.now ≡ drop (length word.now) text.now)) }
