@@ -17,6 +17,7 @@ is_complete _ = false
 abbrev pub wait_bit : ℕ
 wait_bit = 2 ^ 31
 
+-- the completion bit, as a number
 abbrev pub completion_bit : ℕ
 completion_bit = 2 ^ 30
 

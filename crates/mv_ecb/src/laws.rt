@@ -1,3 +1,5 @@
+//! What holds of the table of `specs/Table.antt`. Each function here is called for its clause alone.
+
 ghost use Rattle.std.specs.Prelude.{◌≡◌, ◌≢◌, ℕ};
 ghost use Rattle.mv_ecb.specs.declared.operation.EcbOp.{EcbOp};
 ghost use Rattle.mv_ecb.specs.Word.{Complete};

@@ -1,3 +1,5 @@
+//! What is done with an event control block, and what it answers.
+
 /// What is done with an event control block.
 #[derive(Clone, Copy, Debug, PartialEq, Eq)]
 pub enum EcbOp {

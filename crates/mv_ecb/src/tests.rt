@@ -1,3 +1,5 @@
+//! Each cell of the table once, and a worked row.
+
 ghost use Rattle.std.specs.Prelude.{IsTrue};
 ghost use Rattle.mv_ecb.specs.Table.{IsEcbOp};
 

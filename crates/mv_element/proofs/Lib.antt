@@ -1,1 +1,2 @@
+-- when two replies are the same (`is_same`)
 pub mod States

@@ -3,17 +3,22 @@ use Rattle.std.specs.Prelude.{ℕ, refl}
 use Rattle.mv_element.specs.declared.element.ElementState.{ElementState}
 use Rattle.mv_element.specs.declared.element.Phase.TheVariants.{Free, Reset, Prereleased, Paused, Released}
 
+-- not allocated
 abbrev pub free : ℕ → ElementState
 free g = record { generation = g; phase = Free; code = 0; kept = refl }
 
+-- allocated, and neither paused nor released
 abbrev pub reset : ℕ → ElementState
 reset g = record { generation = g; phase = Reset; code = 0; kept = refl }
 
+-- released before its pause, with this code
 abbrev pub prereleased : ℕ → ℕ → ElementState
 prereleased g d = record { generation = g; phase = Prereleased; code = d; kept = refl }
 
+-- a task pauses
 abbrev pub paused : ℕ → ElementState
 paused g = record { generation = g; phase = Paused; code = 0; kept = refl }
 
+-- the pause was released, with this code
 abbrev pub released : ℕ → ℕ → ElementState
 released g d = record { generation = g; phase = Released; code = d; kept = refl }

@@ -27,25 +27,30 @@ current g s cell = if is_current s.phase s.generation g then cell else (s, Spent
 abbrev pub given_step : ElementState → ElementState × ElementReply
 given_step s = (reset (s.generation + 1), Given s.code (s.generation + 1))
 
+-- Open: a free element is allocated
 abbrev pub open_step : Phase → ElementState → ElementState × ElementReply
 open_step Free s = (reset s.generation, Opened s.generation)
 open_step _ s = (s, InUse)
 
+-- Pause: the pause begins, or takes the code that is kept for it
 abbrev pub pause_step : Phase → ElementState → ElementState × ElementReply
 pause_step Reset s = (paused s.generation, Parked)
 pause_step Prereleased s = given_step s
 pause_step _ s = (s, Busy)
 
+-- Resume: a pause that was released is over
 abbrev pub resume_step : Phase → ElementState → ElementState × ElementReply
 resume_step Paused s = (s, NotYet)
 resume_step Released s = given_step s
 resume_step _ s = (s, Busy)
 
+-- Release: the code is kept for a pause to come, or ends one that is on
 abbrev pub release_step : Phase → ℕ → ElementState → ElementState × ElementReply
 release_step Reset d s = (prereleased s.generation d, Early)
 release_step Paused d s = (released s.generation d, Woke)
 release_step _ d s = (s, Already)
 
+-- Close: an element that nobody pauses with is free again
 abbrev pub close_step : Phase → ElementState → ElementState × ElementReply
 close_step Reset s = (free (s.generation + 1), Closed)
 close_step Prereleased s = (free (s.generation + 1), Closed)

@@ -1,3 +1,5 @@
+//! A pause element's state, and the token of one of its pauses: `specs/Element.antt` and `specs/Code.antt`.
+
 ghost use Rattle.std.specs.Prelude.{◌≡◌};
 ghost use Rattle.mv_element.specs.Code.{IsKeptCode};
 

@@ -1,3 +1,5 @@
+//! What holds of the table of `specs/Table.antt`. Each function here is called for its clause alone.
+
 ghost use Rattle.std.specs.Prelude.{◌≡◌, ◌≤◌, ◌+◌, true, false};
 ghost use Rattle.mv_element.specs.declared.operation.ElementOp.{ElementOp};
 ghost use Rattle.mv_element.specs.declared.element.ElementState.{ElementState};

@@ -1,3 +1,5 @@
+//! What is done with a pause element, and what it answers.
+
 ghost use Rattle.std.specs.Prelude.{◌≡◌, ◌↔◌, IsTrue};
 
 use crate::element::ElementState;

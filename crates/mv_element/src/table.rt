@@ -1,3 +1,5 @@
+//! The operations on a pause element: `specs/Table.antt`.
+
 ghost use Rattle.std.specs.Prelude.{◌≡◌, ◌<◌, ◌^◌};
 ghost use Rattle.mv_element.specs.Table.{IsElementOp, element_step, is_current as is_current_at, open_step, pause_step, resume_step, release_step, close_step, given_step};
 

@@ -20,7 +20,8 @@ pub data Changed (id : ℕ) (old new : List Request) : Type 0 where
   shrank : (p : Request → Bool) → new ≡ filter p old → Changed id old new
 
 -- a choice of two outcomes changes the list as both do
-either : (id : ℕ) (qs : List Request) (b : Bool) (x y : List Request × LatchReply) → Changed id qs x.0 → Changed id qs y.0 → Changed id qs (cond b x y).0
+either : (id : ℕ) (qs : List Request) (b : Bool) (x y : List Request × LatchReply) → Changed id qs x.0 → Changed id qs y.0
+    → Changed id qs (cond b x y).0
 either id qs true x y cx cy = cx
 either id qs false x y cx cy = cy
 
@@ -37,21 +38,26 @@ release_changes id caller old conditional qs =
     search either
 
 -- a list of the set after one list was replaced
-list_of-set : (lists : List (List Request)) (i j : ℕ) (qs : List Request) → ((j ≡ i) × (list_of (set lists i qs) j ≡ qs)) ⊎ (list_of (set lists i qs) j ≡ list_of lists j)
+list_of-set : (lists : List (List Request)) (i j : ℕ) (qs : List Request)
+    → ((j ≡ i) × (list_of (set lists i qs) j ≡ qs)) ⊎ (list_of (set lists i qs) j ≡ list_of lists j)
 list_of-set lists i j qs = grind (arith, get_or-set_same, get_or-set_other, set_past, cases_eq i j, cases_lt i (length lists))
 
-list_of-purged : (requestor : ℕ) (lists : List (List Request)) (j : ℕ) → list_of (map (purged requestor) lists) j ≡ purged requestor (list_of lists j)
+list_of-purged : (requestor : ℕ) (lists : List (List Request)) (j : ℕ)
+    → list_of (map (purged requestor) lists) j ≡ purged requestor (list_of lists j)
 list_of-purged requestor [] j = refl
 list_of-purged requestor (qs ∷ rest) zero = refl
 list_of-purged requestor (qs ∷ rest) (suc j) = list_of-purged requestor rest j
 
-replaced : (id : ℕ) (lists : List (List Request)) (i j : ℕ) (qs : List Request) → Changed id (list_of lists i) qs → Changed id (list_of lists j) (list_of (set lists i qs) j)
+replaced : (id : ℕ) (lists : List (List Request)) (i j : ℕ) (qs : List Request) → Changed id (list_of lists i) qs
+    → Changed id (list_of lists j) (list_of (set lists i qs) j)
 replaced id lists i j qs c =
     elim (list_of-set lists i j qs) [ inl w ↦ rw (w.1) (rw (w.0) c) | inr w ↦ same w ]
 
-pub latch_changes : (caller id : ℕ) (op : LatchOp) (lists : List (List Request)) (j : ℕ) → Changed id (list_of lists j) (list_of (latch_step caller id op lists).0 j)
+pub latch_changes : (caller id : ℕ) (op : LatchOp) (lists : List (List Request)) (j : ℕ)
+    → Changed id (list_of lists j) (list_of (latch_step caller id op lists).0 j)
 latch_changes caller id (Obtain latch requestor mode form) lists j =
-    replaced id lists latch j _ (obtain_changes id (record { id = id; caller = caller; requestor = requestor; mode = mode; form = form }) (list_of lists latch) refl)
+    replaced id lists latch j _ (obtain_changes id (record { id = id; caller = caller; requestor = requestor; mode = mode; form = form })
+    (list_of lists latch) refl)
 latch_changes caller id (Confirm latch old) lists j = same refl
 latch_changes caller id (Release latch old conditional) lists j =
     replaced id lists latch j _ (release_changes id caller old conditional (list_of lists latch))
@@ -62,10 +68,12 @@ latch_changes caller id (Purge requestor) lists j = shrank (λ q. not (of_reques
 in_filter : (p : Request → Bool) (q : Request) (qs : List Request) → Contains (filter p qs) q → p q ≡ true
 in_filter p q qs i = All-contains (λ x. p x ≡ true) (filter p qs) q (filter_passes p qs) i
 
-front_filter : (p : Request → Bool) (q : Request) (qs : List Request) → Contains (shared_front qs) q → p q ≡ true → Contains (shared_front (filter p qs)) q
+front_filter : (p : Request → Bool) (q : Request) (qs : List Request) → Contains (shared_front qs) q → p q ≡ true
+    → Contains (shared_front (filter p qs)) q
 front_filter p q [] i t = absurd (not_in_empty q i)
 front_filter p q (x ∷ xs) i t = go (shared_request x) (p x) refl refl (λ i. front_filter p q xs i t) i where
-  go : (s b : Bool) → shared_request x ≡ s → p x ≡ b → (Contains (shared_front xs) q → Contains (shared_front (filter p xs)) q) → Contains (cond s (x ∷ shared_front xs) []) q → Contains (shared_front (cond b (x ∷ filter p xs) (filter p xs))) q
+  go : (s b : Bool) → shared_request x ≡ s → p x ≡ b → (Contains (shared_front xs) q → Contains (shared_front (filter p xs)) q)
+      → Contains (cond s (x ∷ shared_front xs) []) q → Contains (shared_front (cond b (x ∷ filter p xs) (filter p xs))) q
   go true true es eb ih i = rw es (with_first x (shared_front xs) (shared_front (filter p xs)) q ih i)
   go true false es eb ih i =
       elim (first_or_rest x (shared_front xs) q i) [ inl e ↦ absurd (true≢false (sym t ∙ ap p (sym e) ∙ eb)) | inr j ↦ ih j ]
@@ -78,10 +86,12 @@ front_granted q (x ∷ xs) i = go (shared_request x) refl i where
   go true e i = rw e i
   go false e i = absurd (not_in_empty q i)
 
-granted_filter : (p : Request → Bool) (q : Request) (qs : List Request) → Contains (granted qs) q → p q ≡ true → Contains (granted (filter p qs)) q
+granted_filter : (p : Request → Bool) (q : Request) (qs : List Request) → Contains (granted qs) q → p q ≡ true
+    → Contains (granted (filter p qs)) q
 granted_filter p q [] i t = absurd (not_in_empty q i)
 granted_filter p q (x ∷ xs) i t = go (shared_request x) (p x) refl refl i where
-  go : (s b : Bool) → shared_request x ≡ s → p x ≡ b → Contains (cond s (cond s (x ∷ shared_front xs) []) (x ∷ [])) q → Contains (granted (cond b (x ∷ filter p xs) (filter p xs))) q
+  go : (s b : Bool) → shared_request x ≡ s → p x ≡ b → Contains (cond s (cond s (x ∷ shared_front xs) []) (x ∷ [])) q
+      → Contains (granted (cond b (x ∷ filter p xs) (filter p xs))) q
   go true true es eb i = rw es (with_first x (shared_front xs) (shared_front (filter p xs)) q (λ j. front_filter p q xs j t) i)
   go true false es eb i = elim (first_or_rest x (shared_front xs) q i) [
     | inl e ↦ absurd (true≢false (sym t ∙ ap p (sym e) ∙ eb))
@@ -96,19 +106,22 @@ granted_filter p q (x ∷ xs) i t = go (shared_request x) (p x) refl refl i wher
 front_push : (q r : Request) (qs : List Request) → Contains (shared_front qs) q → Contains (shared_front (qs ++ r ∷ [])) q
 front_push q r [] i = absurd (not_in_empty q i)
 front_push q r (x ∷ xs) i = go (shared_request x) refl (front_push q r xs) i where
-  go : (s : Bool) → shared_request x ≡ s → (Contains (shared_front xs) q → Contains (shared_front (xs ++ r ∷ [])) q) → Contains (cond s (x ∷ shared_front xs) []) q → Contains (shared_front (x ∷ (xs ++ r ∷ []))) q
+  go : (s : Bool) → shared_request x ≡ s → (Contains (shared_front xs) q → Contains (shared_front (xs ++ r ∷ [])) q)
+      → Contains (cond s (x ∷ shared_front xs) []) q → Contains (shared_front (x ∷ (xs ++ r ∷ []))) q
   go true e ih i = rw e (with_first x (shared_front xs) (shared_front (xs ++ r ∷ [])) q ih i)
   go false e ih i = absurd (not_in_empty q i)
 
 granted_push : (q r : Request) (qs : List Request) → Contains (granted qs) q → Contains (granted (qs ++ r ∷ [])) q
 granted_push q r [] i = absurd (not_in_empty q i)
 granted_push q r (x ∷ xs) i = go (shared_request x) refl i where
-  go : (s : Bool) → shared_request x ≡ s → Contains (cond s (cond s (x ∷ shared_front xs) []) (x ∷ [])) q → Contains (granted (x ∷ (xs ++ r ∷ []))) q
+  go : (s : Bool) → shared_request x ≡ s → Contains (cond s (cond s (x ∷ shared_front xs) []) (x ∷ [])) q
+      → Contains (granted (x ∷ (xs ++ r ∷ []))) q
   go true e i = rw e (with_first x (shared_front xs) (shared_front (xs ++ r ∷ [])) q (front_push q r xs) i)
   go false e i = rw e i
 
 -- a granted request stays granted until it is taken out
-pub stays_granted : (id : ℕ) (old new : List Request) (q : Request) → Changed id old new → Contains (granted old) q → Contains new q → Contains (granted new) q
+pub stays_granted : (id : ℕ) (old new : List Request) (q : Request) → Changed id old new → Contains (granted old) q → Contains new q
+    → Contains (granted new) q
 stays_granted id old new q (same e) g i = rw e g
 stays_granted id old new q (grew r is e) g i = rw e (granted_push q r old g)
 stays_granted id old new q (shrank p e) g i = rw e (granted_filter p q old g (in_filter p q old (rw e at i)))

@@ -29,10 +29,12 @@ old_itself : (front : List Request) → AreOld front front
 old_itself [] = tt
 old_itself (x ∷ xs) = (or_left (has_id x.id x) (list_any (has_id x.id) xs) (eq-eqb x.id x.id refl), old_more xs xs x (old_itself xs))
 
-drop_old : (p : Request → Bool) (front xs : List Request) → AreOld front xs → filter (λ q. not (list_any (has_id q.id) front)) (filter p xs) ≡ []
+drop_old : (p : Request → Bool) (front xs : List Request) → AreOld front xs
+    → filter (λ q. not (list_any (has_id q.id) front)) (filter p xs) ≡ []
 drop_old p front [] a = refl
 drop_old p front (q ∷ qs) a = go (p q) (drop_old p front qs a.1) where
-  go : (t : Bool) → filter (λ q. not (list_any (has_id q.id) front)) (filter p qs) ≡ [] → filter (λ q. not (list_any (has_id q.id) front)) (cond t (q ∷ filter p qs) (filter p qs)) ≡ []
+  go : (t : Bool) → filter (λ q. not (list_any (has_id q.id) front)) (filter p qs) ≡ []
+      → filter (λ q. not (list_any (has_id q.id) front)) (cond t (q ∷ filter p qs) (filter p qs)) ≡ []
   go true ih = rw (a.0) ih
   go false ih = ih
 
@@ -45,7 +47,8 @@ pub newly_granted-same : (qs : List Request) → newly_granted qs qs ≡ []
 newly_granted-same qs = drop_all_old (granted qs) (granted qs) (old_itself (granted qs))
 
 -- ---- what is granted of what is left
-front_append : (fs rest : List Request) → AllByRecursion (λ q. shared_request q ≡ true) fs → shared_front (fs ++ rest) ≡ fs ++ shared_front rest
+front_append : (fs rest : List Request) → AllByRecursion (λ q. shared_request q ≡ true) fs
+    → shared_front (fs ++ rest) ≡ fs ++ shared_front rest
 front_append [] rest a = refl
 front_append (f ∷ fs) rest a = rw (a.0, front_append fs rest a.1) refl
 
@@ -71,13 +74,16 @@ record Grown (p : Request → Bool) (qs : List Request) : Type 0 where
 grown : (p : Request → Bool) (qs : List Request) → HasDistinctIds qs → Grown p qs
 grown p [] d = record { extra = []; is = refl; new = tt }
 grown p (x ∷ xs) d = go (shared_request x) refl where
-  alone : (t : Bool) → shared_request x ≡ false → granted (cond t (x ∷ filter p xs) (filter p xs)) ≡ cond t (x ∷ []) [] ++ cond t [] (granted (filter p xs))
+  alone : (t : Bool) → shared_request x ≡ false
+      → granted (cond t (x ∷ filter p xs) (filter p xs)) ≡ cond t (x ∷ []) [] ++ cond t [] (granted (filter p xs))
   alone true e = rw e refl
   alone false e = refl
 
   behind : (t : Bool) → AreNew (x ∷ []) (cond t [] (granted (filter p xs)))
   behind true = tt
-  behind false = all_granted (λ q. list_any (has_id q.id) (x ∷ []) ≡ false) (filter p xs) (all_filter (λ q. list_any (has_id q.id) (x ∷ []) ≡ false) p xs (apart (x ∷ []) xs d))
+  behind false =
+      all_granted (λ q. list_any (has_id q.id) (x ∷ []) ≡ false) (filter p xs)
+      (all_filter (λ q. list_any (has_id q.id) (x ∷ []) ≡ false) p xs (apart (x ∷ []) xs d))
 
   go : (s : Bool) → shared_request x ≡ s → Grown p (x ∷ xs)
   go false e = record {
@@ -94,8 +100,14 @@ grown p (x ∷ xs) d = go (shared_request x) refl where
       let unlike : AreNew front rest = apart front rest (subst HasDistinctIds (sym (front_split qs)) d) in
       record {
         extra = Next (filter p front) (filter p rest);
-        is = ap granted parts ∙ granted_next (filter p front) (filter p rest) (all_filter (λ q. shared_request q ≡ true) p front (front_shared qs)) ∙ ap (λ z. filter p z ++ Next (filter p front) (filter p rest)) (sym holds);
-        new = subst (λ z. AreNew z (Next (filter p front) (filter p rest))) (sym holds) (all_next (λ q. list_any (has_id q.id) front ≡ false) (filter p front) (filter p rest) (all_filter (λ q. list_any (has_id q.id) front ≡ false) p rest unlike));
+        is =
+            ap granted parts ∙ granted_next (filter p front) (filter p rest)
+            (all_filter (λ q. shared_request q ≡ true) p front (front_shared qs))
+            ∙ ap (λ z. filter p z ++ Next (filter p front) (filter p rest)) (sym holds);
+        new =
+            subst (λ z. AreNew z (Next (filter p front) (filter p rest))) (sym holds)
+            (all_next (λ q. list_any (has_id q.id) front ≡ false) (filter p front) (filter p rest)
+            (all_filter (λ q. list_any (has_id q.id) front ≡ false) p rest unlike));
       }
 
 -- a list before and after what fails a test is taken out, and how many of the old holders are left
@@ -109,14 +121,16 @@ left_within p old new left w =
     let g : Grown p old = grown p old w.distinct in
     omega (arith, ap (λ z. length (granted z)) w.new_is, ap length g.is, length-append (filter p (granted old)) g.extra, w.left_is)
 
-pub newly_dropped : (p : Request → Bool) (old new : List Request) (left : ℕ) → IsPass p old new left → newly_granted old new ≡ drop left (granted new)
+pub newly_dropped : (p : Request → Bool) (old new : List Request) (left : ℕ) → IsPass p old new left
+    → newly_granted old new ≡ drop left (granted new)
 newly_dropped p old new left w =
     let g : Grown p old = grown p old w.distinct in
     let e : granted new ≡ filter p (granted old) ++ g.extra = ap granted w.new_is ∙ g.is in
     let new_are : newly_granted old new ≡ g.extra =
     ap (filter (λ q. not (list_any (has_id q.id) (granted old)))) e
     ∙ filter-append (λ q. not (list_any (has_id q.id) (granted old))) (filter p (granted old)) g.extra
-    ∙ ap (λ z. z ++ filter (λ q. not (list_any (has_id q.id) (granted old))) g.extra) (drop_old p (granted old) (granted old) (old_itself (granted old)))
+    ∙ ap (λ z. z ++ filter (λ q. not (list_any (has_id q.id) (granted old))) g.extra)
+    (drop_old p (granted old) (granted old) (old_itself (granted old)))
     ∙ keep_new (granted old) g.extra g.new in
     new_are ∙ sym (ap (drop left) e ∙ drop_at (filter p (granted old)) g.extra left (sym w.left_is))
 
@@ -125,5 +139,6 @@ pub newly_fit : (old new : List Request) → length (newly_granted old new) ≤ 
 newly_fit old new = omega (arith, length_filter (λ q. not (list_any (has_id q.id) (granted old))) (granted new), length_granted new)
 
 -- what is read behind the old holders are the newly granted
-pub newly_is : (p : Request → Bool) (old new view newly : List Request) (left : ℕ) → IsPass p old new left → view ≡ new → newly ≡ drop left (granted view) → newly ≡ newly_granted old new
+pub newly_is : (p : Request → Bool) (old new view newly : List Request) (left : ℕ) → IsPass p old new left → view ≡ new
+    → newly ≡ drop left (granted view) → newly ≡ newly_granted old new
 newly_is p old new view newly left w same read = read ∙ ap (λ z. drop left (granted z)) same ∙ sym (newly_dropped p old new left w)

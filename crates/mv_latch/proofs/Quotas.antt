@@ -25,12 +25,14 @@ pub count_new : (t : Request → Bool) (n : ℕ) → count_in t (replicate n [])
 count_new t zero = refl
 count_new t (suc n) = omega (arith, count_new t n)
 
-pub count_purged : (t : Request → Bool) (requestor : ℕ) (lists : List (List Request)) → count_in t (map (purged requestor) lists) ≤ count_in t lists
+pub count_purged : (t : Request → Bool) (requestor : ℕ) (lists : List (List Request))
+    → count_in t (map (purged requestor) lists) ≤ count_in t lists
 count_purged t requestor [] = omega arith
 count_purged t requestor (qs ∷ rest) = omega (arith, count_filter t (λ q. not (of_requestor requestor q)) qs, count_purged t requestor rest)
 
 -- ---- how many requests there are
-same_all : (p q : Request → Bool) → ((x : Request) → q x ≡ not (p x)) → (lists : List (List Request)) → count_in p lists + count_in q lists ≡ total lists
+same_all : (p q : Request → Bool) → ((x : Request) → q x ≡ not (p x)) → (lists : List (List Request))
+    → count_in p lists + count_in q lists ≡ total lists
 same_all p q other [] = refl
 same_all p q other (qs ∷ rest) = omega (arith, length-filter_both p q other qs, same_all p q other rest)
 
@@ -49,12 +51,21 @@ length_kept false q qs = omega arith
 below_one : (k n : ℕ) → one_if (nat_lt k (suc n)) ≡ one_if (nat_lt k n) + one_if (k == n)
 below_one k n = grind (arith, nat_tests)
 
-below_list : (n : ℕ) (qs : List Request) → length (filter (below (suc n)) qs) ≡ length (filter (below n) qs) + length (filter (of_caller n) qs)
+below_list : (n : ℕ) (qs : List Request)
+    → length (filter (below (suc n)) qs) ≡ length (filter (below n) qs) + length (filter (of_caller n) qs)
 below_list n [] = refl
 below_list n (q ∷ qs) =
-    omega (arith, below_list n qs, below_one q.caller n, length_kept (below (suc n) q) q (filter (below (suc n)) qs), length_kept (below n q) q (filter (below n) qs), length_kept (of_caller n q) q (filter (of_caller n) qs))
+    omega (
+      arith,
+      below_list n qs,
+      below_one q.caller n,
+      length_kept (below (suc n) q) q (filter (below (suc n)) qs),
+      length_kept (below n q) q (filter (below n) qs),
+      length_kept (of_caller n q) q (filter (of_caller n) qs),
+    )
 
-below_more : (n : ℕ) (lists : List (List Request)) → count_in (below (suc n)) lists ≡ count_in (below n) lists + count_in (of_caller n) lists
+below_more : (n : ℕ) (lists : List (List Request))
+    → count_in (below (suc n)) lists ≡ count_in (below n) lists + count_in (of_caller n) lists
 below_more n [] = refl
 below_more n (qs ∷ rest) = omega (arith, below_list n qs, below_more n rest)
 
@@ -66,11 +77,13 @@ below_none : (lists : List (List Request)) → count_in (below 0) lists ≡ 0
 below_none [] = refl
 below_none (qs ∷ rest) = omega (arith, none_below qs, below_none rest)
 
-below_fit : (lists : List (List Request)) (quota n : ℕ) → ((caller : ℕ) → count_in (of_caller caller) lists ≤ quota) → count_in (below n) lists ≤ n * quota
+below_fit : (lists : List (List Request)) (quota n : ℕ) → ((caller : ℕ) → count_in (of_caller caller) lists ≤ quota)
+    → count_in (below n) lists ≤ n * quota
 below_fit lists quota zero q = omega (arith, below_none lists)
 below_fit lists quota (suc n) q = omega (arith, below_more n lists, below_fit lists quota n q, q n)
 
-below_free : (lists : List (List Request)) (quota n k : ℕ) → ((caller : ℕ) → count_in (of_caller caller) lists ≤ quota) → k < n → count_in (of_caller k) lists < quota → count_in (below n) lists < n * quota
+below_free : (lists : List (List Request)) (quota n k : ℕ) → ((caller : ℕ) → count_in (of_caller caller) lists ≤ quota) → k < n
+    → count_in (of_caller k) lists < quota → count_in (below n) lists < n * quota
 below_free lists quota zero k q lt free = absurd (omega arith)
 below_free lists quota (suc n) k q lt free = elim (cases_eq k n) [
   | inl e ↦ omega (arith, below_more n lists, below_fit lists quota n q, subst (λ c. count_in (of_caller c) lists < quota) e free)
@@ -81,14 +94,16 @@ other : (n k : ℕ) → nat_le n k ≡ not (nat_lt k n)
 other n k = grind (arith, nat_tests)
 
 total_below : (s : LatchLists) → IsSound s → count_in (below s.callers) s.lists ≡ total s.lists
-total_below s w = omega (arith, same_all (below s.callers) (λ q. nat_le s.callers q.caller) (λ q. other s.callers q.caller) s.lists, w.known)
+total_below s w =
+    omega (arith, same_all (below s.callers) (λ q. nat_le s.callers q.caller) (λ q. other s.callers q.caller) s.lists, w.known)
 
 -- the quotas bound how many requests there are
 pub total_fit : (s : LatchLists) → IsSound s → total s.lists ≤ s.callers * s.quota
 total_fit s w = omega (arith, total_below s w, below_fit s.lists s.quota s.callers w.quotas)
 
 -- where a caller has not used up its quota, there is room for one more
-pub total_free : (s : LatchLists) (caller : ℕ) → IsSound s → caller < s.callers → count_in (of_caller caller) s.lists < s.quota → total s.lists < s.callers * s.quota
+pub total_free : (s : LatchLists) (caller : ℕ) → IsSound s → caller < s.callers → count_in (of_caller caller) s.lists < s.quota
+    → total s.lists < s.callers * s.quota
 total_free s caller w lt free = omega (arith, total_below s w, below_free s.lists s.quota s.callers caller w.quotas lt free)
 
 -- ---- what keeps a latch set sound
@@ -101,7 +116,8 @@ sound_new latches callers quota posted lt = record {
 }
 
 -- fewer requests of each kind
-pub sound_less : (s : LatchLists) (lists : List (List Request)) → ((t : Request → Bool) → count_in t lists ≤ count_in t s.lists) → IsSound s → IsSound (record s { lists = lists })
+pub sound_less : (s : LatchLists) (lists : List (List Request)) → ((t : Request → Bool) → count_in t lists ≤ count_in t s.lists) → IsSound s
+    → IsSound (record s { lists = lists })
 sound_less s lists less w = record {
   quotas = λ c. omega (arith, less (of_caller c), w.quotas c);
   known = omega (arith, less (λ q. nat_le s.callers q.caller), w.known);
@@ -119,16 +135,27 @@ at_most_one true = omega arith
 at_most_one false = omega arith
 
 -- one more request of a caller that has not used up its quota
-pub sound_more : (s : LatchLists) (i : ℕ) (r : Request) → i < length s.lists → IsSound s → r.caller < s.callers → count_in (of_caller r.caller) s.lists < s.quota → IsNewId r.id s.lists
+pub sound_more : (s : LatchLists) (i : ℕ) (r : Request) → i < length s.lists → IsSound s → r.caller < s.callers
+    → count_in (of_caller r.caller) s.lists < s.quota → IsNewId r.id s.lists
     → IsSound (record s { lists = set s.lists i (list_of s.lists i ++ r ∷ []) })
 sound_more s i r lt w known free new = record {
   quotas = λ c. elim (cases_eq r.caller c) [
-    | inl e ↦ omega (arith, count_push (of_caller c) s.lists i r lt, at_most_one (of_caller c r), subst (λ k. count_in (of_caller k) s.lists < s.quota) e free)
+    | inl e ↦ omega (
+      arith,
+      count_push (of_caller c) s.lists i r lt,
+      at_most_one (of_caller c r),
+      subst (λ k. count_in (of_caller k) s.lists < s.quota) e free,
+    )
     | inr ne ↦ omega (arith, count_push (of_caller c) s.lists i r lt, ap one_if (ne_eqb r.caller c ne), w.quotas c)
   ];
   known = omega (arith, count_push (λ q. nat_le s.callers q.caller) s.lists i r lt, ap one_if (lt-leb s.callers r.caller known), w.known);
   distinct = λ id. elim (cases_eq r.id id) [
-    | inl e ↦ omega (arith, count_push (has_id id) s.lists i r lt, at_most_one (has_id id r), subst (λ k. count_in (has_id k) s.lists ≡ 0) e new)
+    | inl e ↦ omega (
+      arith,
+      count_push (has_id id) s.lists i r lt,
+      at_most_one (has_id id r),
+      subst (λ k. count_in (has_id k) s.lists ≡ 0) e new,
+    )
     | inr ne ↦ omega (arith, count_push (has_id id) s.lists i r lt, ap one_if (ne_eqb r.id id ne), w.distinct id)
   ];
   fits = w.fits;
@@ -140,14 +167,16 @@ abbrev SoundWith : LatchLists → ℕ → List Request → Type 0
 SoundWith s i qs = IsSound (record s { lists = set s.lists i qs })
 
 -- a choice of two outcomes keeps it so, where both do
-either : (s : LatchLists) (i : ℕ) (b : Bool) (x y : List Request × LatchReply) → SoundWith s i x.0 → SoundWith s i y.0 → SoundWith s i (cond b x y).0
+either : (s : LatchLists) (i : ℕ) (b : Bool) (x y : List Request × LatchReply) → SoundWith s i x.0 → SoundWith s i y.0
+    → SoundWith s i (cond b x y).0
 either s i true x y sx sy = sx
 either s i false x y sx sy = sy
 
 sound_same : (s : LatchLists) (i : ℕ) → IsSound s → SoundWith s i (list_of s.lists i)
 sound_same s i w = sound_less s (set s.lists i (list_of s.lists i)) (λ t. rw (set-get_or s.lists i []) (omega arith)) w
 
-pub sound_obtain : (s : LatchLists) (i : ℕ) (r : Request) → i < length s.lists → IsSound s → r.caller < s.callers → count_in (of_caller r.caller) s.lists < s.quota → IsNewId r.id s.lists
+pub sound_obtain : (s : LatchLists) (i : ℕ) (r : Request) → i < length s.lists → IsSound s → r.caller < s.callers
+    → count_in (of_caller r.caller) s.lists < s.quota → IsNewId r.id s.lists
     → IsSound (record s { lists = (at_latch s.lists i (obtain_step r (list_of s.lists i))).0 })
 sound_obtain s i r lt w known free new =
     let more : SoundWith s i (list_of s.lists i ++ r ∷ []) = sound_more s i r lt w known free new in
@@ -157,7 +186,13 @@ sound_obtain s i r lt w known free new =
 pub sound_release : (s : LatchLists) (i caller id : ℕ) (conditional : Bool) → i < length s.lists → IsSound s
     → IsSound (record s { lists = (at_latch s.lists i (release_step caller id conditional (list_of s.lists i))).0 })
 sound_release s i caller id conditional lt w =
-    let less : SoundWith s i (without caller id (list_of s.lists i)) = sound_less s (set s.lists i (without caller id (list_of s.lists i))) (λ t. omega (arith, count_set t s.lists i (without caller id (list_of s.lists i)) lt, count_filter t (λ q. not (is_own caller id q)) (list_of s.lists i))) w in
+    let less : SoundWith s i (without caller id (list_of s.lists i)) =
+    sound_less s (set s.lists i (without caller id (list_of s.lists i)))
+    (λ t. omega (
+      arith,
+      count_set t s.lists i (without caller id (list_of s.lists i)) lt,
+      count_filter t (λ q. not (is_own caller id q)) (list_of s.lists i),
+    )) w in
     let same : SoundWith s i (list_of s.lists i) = sound_same s i w in
     search either
 
@@ -175,12 +210,25 @@ list_distinct lists i d = distinct_at lists i (all_distinct lists d)
 waiting_fit : (requestor : ℕ) (qs : List Request) → length (waiting_of requestor qs) + length (granted_by_purge requestor qs) ≤ length qs
 waiting_fit requestor qs =
     let t = of_requestor requestor in
-    omega (arith, ap (λ z. length (filter t z)) (granted_split qs), count_split t (granted qs) (waiting qs), newly_fit qs (purged requestor qs), length-filter_both t (λ q. not (t q)) (λ _. refl) qs)
+    omega (
+      arith,
+      ap (λ z. length (filter t z)) (granted_split qs),
+      count_split t (granted qs) (waiting qs),
+      newly_fit qs (purged requestor qs),
+      length-filter_both t (λ q. not (t q)) (λ _. refl) qs,
+    )
 
-pub purge_fit : (requestor : ℕ) (lists : List (List Request)) → length (flat_map (waiting_of requestor) lists) + length (flat_map (granted_by_purge requestor) lists) ≤ total lists
+pub purge_fit : (requestor : ℕ) (lists : List (List Request))
+    → length (flat_map (waiting_of requestor) lists) + length (flat_map (granted_by_purge requestor) lists) ≤ total lists
 purge_fit requestor [] = omega arith
 purge_fit requestor (qs ∷ rest) =
-    omega (arith, purge_fit requestor rest, waiting_fit requestor qs, length-append (waiting_of requestor qs) (flat_map (waiting_of requestor) rest), length-append (granted_by_purge requestor qs) (flat_map (granted_by_purge requestor) rest))
+    omega (
+      arith,
+      purge_fit requestor rest,
+      waiting_fit requestor qs,
+      length-append (waiting_of requestor qs) (flat_map (waiting_of requestor) rest),
+      length-append (granted_by_purge requestor qs) (flat_map (granted_by_purge requestor) rest),
+    )
 
 pub count_total : (t : Request → Bool) (lists : List (List Request)) → count_in t lists ≤ total lists
 count_total t [] = omega arith

@@ -11,7 +11,8 @@ use Rattle.mv_latch.specs.Latch.{shared_front, granted, waiting, HasDistinctIds}
 pub all_filter : (P : Request → Type 0) (p : Request → Bool) (qs : List Request) → AllByRecursion P qs → AllByRecursion P (filter p qs)
 all_filter P p [] a = tt
 all_filter P p (q ∷ qs) a =
-    elim (p q) as (λ t. AllByRecursion P (cond t (q ∷ filter p qs) (filter p qs))) [ true ↦ (a.0, all_filter P p qs a.1) | false ↦ all_filter P p qs a.1 ]
+    elim (p q) as (λ t. AllByRecursion P (cond t (q ∷ filter p qs) (filter p qs)))
+    [ true ↦ (a.0, all_filter P p qs a.1) | false ↦ all_filter P p qs a.1 ]
 
 pub all_front : (P : Request → Type 0) (qs : List Request) → AllByRecursion P qs → AllByRecursion P (shared_front qs)
 all_front P [] a = tt
@@ -21,12 +22,14 @@ all_front P (q ∷ qs) a =
 pub all_granted : (P : Request → Type 0) (qs : List Request) → AllByRecursion P qs → AllByRecursion P (granted qs)
 all_granted P [] a = tt
 all_granted P (q ∷ qs) a =
-    elim (shared_request q) as (λ t. AllByRecursion P (cond t (cond t (q ∷ shared_front qs) []) (q ∷ []))) [ true ↦ (a.0, all_front P qs a.1) | false ↦ (a.0, tt) ]
+    elim (shared_request q) as (λ t. AllByRecursion P (cond t (cond t (q ∷ shared_front qs) []) (q ∷ [])))
+    [ true ↦ (a.0, all_front P qs a.1) | false ↦ (a.0, tt) ]
 
 pub front_shared : (qs : List Request) → AllByRecursion (λ q. shared_request q ≡ true) (shared_front qs)
 front_shared [] = tt
 front_shared (q ∷ qs) = go (shared_request q) refl (front_shared qs) where
-  go : (t : Bool) → shared_request q ≡ t → AllByRecursion (λ q. shared_request q ≡ true) (shared_front qs) → AllByRecursion (λ q. shared_request q ≡ true) (cond t (q ∷ shared_front qs) [])
+  go : (t : Bool) → shared_request q ≡ t → AllByRecursion (λ q. shared_request q ≡ true) (shared_front qs)
+      → AllByRecursion (λ q. shared_request q ≡ true) (cond t (q ∷ shared_front qs) [])
   go true e ih = (e, ih)
   go false e ih = tt
 
@@ -34,7 +37,8 @@ front_shared (q ∷ qs) = go (shared_request q) refl (front_shared qs) where
 pub front_split : (qs : List Request) → shared_front qs ++ drop (length (shared_front qs)) qs ≡ qs
 front_split [] = refl
 front_split (q ∷ qs) = go (shared_request q) (front_split qs) where
-  go : (t : Bool) → shared_front qs ++ drop (length (shared_front qs)) qs ≡ qs → cond t (q ∷ shared_front qs) [] ++ drop (length (cond t (q ∷ shared_front qs) [])) (q ∷ qs) ≡ q ∷ qs
+  go : (t : Bool) → shared_front qs ++ drop (length (shared_front qs)) qs ≡ qs
+      → cond t (q ∷ shared_front qs) [] ++ drop (length (cond t (q ∷ shared_front qs) [])) (q ∷ qs) ≡ q ∷ qs
   go true ih = ap (λ z. q ∷ z) ih
   go false ih = refl
 
@@ -42,7 +46,9 @@ front_split (q ∷ qs) = go (shared_request q) (front_split qs) where
 pub granted_split : (qs : List Request) → granted qs ++ waiting qs ≡ qs
 granted_split [] = refl
 granted_split (q ∷ qs) = go (shared_request q) (front_split qs) where
-  go : (t : Bool) → shared_front qs ++ drop (length (shared_front qs)) qs ≡ qs → cond t (cond t (q ∷ shared_front qs) []) (q ∷ []) ++ drop (length (cond t (cond t (q ∷ shared_front qs) []) (q ∷ []))) (q ∷ qs) ≡ q ∷ qs
+  go : (t : Bool) → shared_front qs ++ drop (length (shared_front qs)) qs ≡ qs
+      → cond t (cond t (q ∷ shared_front qs) []) (q ∷ [])
+      ++ drop (length (cond t (cond t (q ∷ shared_front qs) []) (q ∷ []))) (q ∷ qs) ≡ q ∷ qs
   go true ih = ap (λ z. q ∷ z) ih
   go false ih = refl
 
@@ -51,12 +57,14 @@ pub count_split : (t : Request → Bool) (xs ys : List Request) → length (filt
 count_split t xs ys = ap length (filter-append t xs ys) ∙ length-append (filter t xs) (filter t ys)
 
 pub count_tail : (t : Request → Bool) (q : Request) (qs : List Request) → length (filter t qs) ≤ length (filter t (q ∷ qs))
-count_tail t q qs = elim (t q) as (λ b. length (filter t qs) ≤ length (cond b (q ∷ filter t qs) (filter t qs))) [ true ↦ omega arith | false ↦ omega arith ]
+count_tail t q qs =
+    elim (t q) as (λ b. length (filter t qs) ≤ length (cond b (q ∷ filter t qs) (filter t qs))) [ true ↦ omega arith | false ↦ omega arith ]
 
 pub count_filter : (t p : Request → Bool) (qs : List Request) → length (filter t (filter p qs)) ≤ length (filter t qs)
 count_filter t p [] = omega arith
 count_filter t p (q ∷ qs) = more (p q) (t q) (count_filter t p qs) where
-  more : (b s : Bool) → length (filter t (filter p qs)) ≤ length (filter t qs) → length (filter t (cond b (q ∷ filter p qs) (filter p qs))) ≤ length (filter t (q ∷ qs))
+  more : (b s : Bool) → length (filter t (filter p qs)) ≤ length (filter t qs)
+      → length (filter t (cond b (q ∷ filter p qs) (filter p qs))) ≤ length (filter t (q ∷ qs))
   more b s ih = grind (arith, ih)
 
 pub length_filter : (p : Request → Bool) (qs : List Request) → length (filter p qs) ≤ length qs
@@ -76,18 +84,27 @@ own_number q qs = rw (eq-eqb q.id q.id refl) (omega arith)
 none_any : (t : Request → Bool) (xs : List Request) → length (filter t xs) ≡ 0 → list_any t xs ≡ false
 none_any t [] e = refl
 none_any t (x ∷ xs) e = go (t x) e (none_any t xs) where
-  go : (b : Bool) → length (cond b (x ∷ filter t xs) (filter t xs)) ≡ 0 → (length (filter t xs) ≡ 0 → list_any t xs ≡ false) → (b || list_any t xs) ≡ false
+  go : (b : Bool) → length (cond b (x ∷ filter t xs) (filter t xs)) ≡ 0 → (length (filter t xs) ≡ 0 → list_any t xs ≡ false)
+      → (b || list_any t xs) ≡ false
   go true e ih = absurd (omega arith)
   go false e ih = ih e
 
 -- no request behind has the number of one in front
-pub apart : (front behind : List Request) → HasDistinctIds (front ++ behind) → AllByRecursion (λ q. list_any (has_id q.id) front ≡ false) behind
+pub apart : (front behind : List Request) → HasDistinctIds (front ++ behind)
+    → AllByRecursion (λ q. list_any (has_id q.id) front ≡ false) behind
 apart front [] d = tt
 apart front (q ∷ qs) d = (
   none_any (has_id q.id) front (omega (arith, d q.id, count_split (has_id q.id) front (q ∷ qs), own_number q qs)),
-  apart front qs (λ i. omega (arith, d i, count_split (has_id i) front (q ∷ qs), count_split (has_id i) front qs, count_tail (has_id i) q qs)),
+  apart front qs (λ i. omega (
+    arith,
+    d i,
+    count_split (has_id i) front (q ∷ qs),
+    count_split (has_id i) front qs,
+    count_tail (has_id i) q qs,
+  )),
 )
 
 -- where the next one passes, something is left to pass
-pub pending : (t : Request → Bool) (xs : List Request) (i : ℕ) (d : Request) → i < length xs → t (get_or xs i d) ≡ true → 1 ≤ length (filter t (drop i xs))
+pub pending : (t : Request → Bool) (xs : List Request) (i : ℕ) (d : Request) → i < length xs → t (get_or xs i d) ≡ true
+    → 1 ≤ length (filter t (drop i xs))
 pending t xs i d h e = rw (drop_more xs i d h, e) (omega arith)

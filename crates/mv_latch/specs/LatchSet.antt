@@ -70,7 +70,8 @@ at_latch lists latch r = (slice_set lists latch r.0, r.1)
 -- the lists after an operation of a caller, and the reply. A new request has this id
 abbrev pub latch_step : ℕ → ℕ → LatchOp → List (List Request) → List (List Request) × LatchReply
 latch_step caller id (Obtain latch requestor mode form) lists =
-    at_latch lists latch (obtain_step (record { id = id; caller = caller; requestor = requestor; mode = mode; form = form }) (list_of lists latch))
+    at_latch lists latch (obtain_step (record { id = id; caller = caller; requestor = requestor; mode = mode; form = form })
+    (list_of lists latch))
 latch_step caller id (Confirm latch old) lists = (lists, confirm_reply caller old (list_of lists latch))
 latch_step caller id (Release latch old conditional) lists =
     at_latch lists latch (release_step caller old conditional (list_of lists latch))

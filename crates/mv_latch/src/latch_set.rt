@@ -1,4 +1,5 @@
-// A latch set and its operations.
+//! A latch set and its operations. Clauses cite `specs/LatchSet.antt` and `specs/Latch.antt`; what is kept between calls is
+//! `specs/Inside.antt`.
 
 ghost use Rattle.std.specs.Prelude.{◌≡◌, ◌<◌, ◌≤◌, ◌*◌, ◌+◌, ◌^◌, ◌↔◌, ◌++◌, [], map, IsTrue, IsSome, IfSome, OnSome, IfNone, IfOk, vec_len, vec_capacity, length};
 ghost use Rattle.std.specs.List.{flat_map};

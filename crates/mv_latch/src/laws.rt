@@ -1,4 +1,5 @@
-// What holds of the definitions. Each function here is called for its clause alone.
+//! What holds of the definitions of `specs/Latch.antt` and `specs/LatchSet.antt`. Each function here is called for its clause
+//! alone.
 
 ghost use Rattle.std.specs.Prelude.{◌≡◌, ◌≢◌, ℕ, ◌∷◌, [], ◌++◌, List, true, false, not, length};
 ghost use Rattle.std.specs.List.{Contains, list_any};

@@ -1,4 +1,4 @@
-// The lists of a latch set.
+//! The lists of a latch set: `specs/LatchSet.antt`, and in memory `specs/Queues.antt`.
 
 ghost use Rattle.std.specs.Prelude.{◌≡◌, ◌+◌, ◌<◌, ◌≤◌, ◌^◌, ◌++◌, length, map, vec_len, vec_capacity};
 ghost use Rattle.std.specs.List.{flat_map, AllByRecursion};

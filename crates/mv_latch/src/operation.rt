@@ -1,4 +1,4 @@
-// What is done with a latch set, and what it answers.
+//! What is done with a latch set, what it answers, and who is told of it (`specs/Request.antt`).
 
 ghost use Rattle.std.specs.Prelude.{◌≡◌};
 

@@ -1,4 +1,4 @@
-// One latch's list of requests.
+//! One latch's list of requests: `specs/Latch.antt`.
 
 ghost use Rattle.std.specs.Prelude.{◌≡◌, ◌+◌, ◌<◌, ◌≤◌, ◌^◌, ◌++◌, not, length, map, filter, take, drop, vec_len, vec_capacity};
 ghost use Rattle.std.specs.List.{list_all, list_any};

@@ -1,4 +1,4 @@
-// What a task asks of a latch.
+//! What a task asks of a latch. `specs/Request.antt` has words for it.
 
 /// How a requestor holds a latch.
 #[derive(Clone, Copy, Debug, PartialEq, Eq)]

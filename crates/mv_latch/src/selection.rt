@@ -1,4 +1,4 @@
-// Which requests of a list are meant.
+//! Which requests of a list are meant: `specs/Selection.antt`.
 
 ghost use Rattle.std.specs.Prelude.{◌≡◌};
 

@@ -1,4 +1,4 @@
-// Worked rows, and each reply and refusal once.
+//! Worked rows, and each reply and refusal once.
 
 ghost use Rattle.std.specs.Prelude.{◌≡◌, ℕ, ◌*◌, ◌<◌, ◌≤◌, ◌^◌, vec_capacity};
 ghost use Rattle.mv_latch.specs.LatchSet.{IsNewId};

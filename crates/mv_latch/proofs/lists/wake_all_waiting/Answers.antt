@@ -12,4 +12,9 @@ wake_waiting-requires c =
     let told = rw (← drop-map) at c.loop-list.invariant.told in
     let e = items_at queues c.loop-list.list-index c.list-item.result (omega arith) in
     let here = c.deref.ensures.value ∙ ap (λ v. v.items) c.list-item.is ∙ e in
-    omega (arith, ap (λ z. length (waiting_of c.args.requestor z)) here, turn_fits 1 (waiting_of c.args.requestor) (items_of queues) _ _ c.loop-list.list-index lt told, c.requires)
+    omega (
+      arith,
+      ap (λ z. length (waiting_of c.args.requestor z)) here,
+      turn_fits 1 (waiting_of c.args.requestor) (items_of queues) _ _ c.loop-list.list-index lt told,
+      c.requires,
+    )

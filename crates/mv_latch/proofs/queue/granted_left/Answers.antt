@@ -6,5 +6,6 @@ use Rattle.mv_latch.proofs.queue.granted_left.Goals as goal
 
 pub returns : goal.returns
 returns c =
-    let parts = length-filter_both (selects c.args.selection) (λ q. not (selects c.args.selection q)) (λ _. refl) c.granted-held.result.now in
+    let parts =
+    length-filter_both (selects c.args.selection) (λ q. not (selects c.args.selection q)) (λ _. refl) c.granted-held.result.now in
     omega (arith, ap (λ z. length (left_without (selects c.args.selection) z)) c.granted-held.ensures)

@@ -26,7 +26,8 @@ wake_each-requires c =
       left_is = c.granted_left-kept.ensures ∙ ap (λ z. length (filter p (granted z))) c.deref.ensures.value;
       new_is = c.take_out.ensures.items;
     } in
-    let e : c.granted_behind-newly.result.now ≡ newly_granted c.args.list.now.items c.take_out.new.list.items = newly_is p _ _ _ _ _ w c.deref-2.ensures.value c.granted_behind-newly.ensures in
+    let e : c.granted_behind-newly.result.now ≡ newly_granted c.args.list.now.items c.take_out.new.list.items =
+    newly_is p _ _ _ _ _ w c.deref-2.ensures.value c.granted_behind-newly.ensures in
     omega (arith, c.requires.room, ap length e, ap (λ z. length (newly_granted c.args.list.now.items z)) c.take_out.ensures.items)
 
 pub overflow_cast-result : goal.overflow_cast-result
@@ -37,8 +38,16 @@ overflow_cast-result c =
       left_is = c.granted_left-kept.ensures ∙ ap (λ z. length (filter p (granted z))) c.deref.ensures.value;
       new_is = c.take_out.ensures.items;
     } in
-    let e : c.granted_behind-newly.result.now ≡ newly_granted c.args.list.now.items c.take_out.new.list.items = newly_is p _ _ _ _ _ w c.deref-2.ensures.value c.granted_behind-newly.ensures in
-    omega (arith, c.requires.fits, ap length e, newly_fit c.args.list.now.items c.take_out.new.list.items, ap length c.take_out.ensures.items, length_filter p c.args.list.now.items)
+    let e : c.granted_behind-newly.result.now ≡ newly_granted c.args.list.now.items c.take_out.new.list.items =
+    newly_is p _ _ _ _ _ w c.deref-2.ensures.value c.granted_behind-newly.ensures in
+    omega (
+      arith,
+      c.requires.fits,
+      ap length e,
+      newly_fit c.args.list.now.items c.take_out.new.list.items,
+      ap length c.take_out.ensures.items,
+      length_filter p c.args.list.now.items,
+    )
 
 pub returns-clause-count : goal.returns-clause-count
 returns-clause-count c =
@@ -58,5 +67,6 @@ returns-clause-wakes c =
       left_is = c.granted_left-kept.ensures ∙ ap (λ z. length (filter p (granted z))) c.deref.ensures.value;
       new_is = c.take_out.ensures.items;
     } in
-    let e : c.granted_behind-newly.result.now ≡ newly_granted c.args.list.now.items c.take_out.new.list.items = newly_is p _ _ _ _ _ w c.deref-2.ensures.value c.granted_behind-newly.ensures in
+    let e : c.granted_behind-newly.result.now ≡ newly_granted c.args.list.now.items c.take_out.new.list.items =
+    newly_is p _ _ _ _ _ w c.deref-2.ensures.value c.granted_behind-newly.ensures in
     c.wake_each.ensures.items ∙ ap (λ z. c.args.wakes.now.items ++ map (wake_of 0) z) e

@@ -17,7 +17,8 @@ one_state : (x y : ElementState) → true ≡ (eqb x.generation y.generation && 
 one_state x y e =
     let first : (eqb x.generation y.generation ≡ true) × ((sameb the_type x.phase y.phase && eqb x.code y.code) ≡ true) = both _ _ e in
     let rest : (sameb the_type x.phase y.phase ≡ true) × (eqb x.code y.code ≡ true) = both _ _ (sym first.1) in
-    same_state x y (eqb-true x.generation y.generation first.0) (same_true the_type tt x.phase y.phase rest.0) (eqb-true x.code y.code rest.1)
+    same_state x y (eqb-true x.generation y.generation first.0) (same_true the_type tt x.phase y.phase rest.0)
+    (eqb-true x.code y.code rest.1)
 
 from_eq : (c : goal.After-eq) (a b : ElementReply) → c.args.self ≡ a → c.args.other ≡ b → c.eq.result ≡ true → a ≡ b
 from_eq c (Opened x) (Opened y) ea eb t = ap (λ z. Opened z) (eqb-true x y (sym (rw (ea, eb, t) at c.eq.ensures)))
@@ -45,7 +46,8 @@ to_eq c (Spent x) ea eb = rw (ea, eb) at c.eq.ensures ∙ eq-eqb x x refl
 to_eq c (Given x m) ea eb = rw (ea, eb) at c.eq.ensures ∙ all_true _ _ (eq-eqb x x refl) (eq-eqb m m refl)
 to_eq c (State x) ea eb =
     rw (ea, eb) at c.eq.ensures
-    ∙ all_true _ _ (eq-eqb x.generation x.generation refl) (all_true _ _ (true_same the_type x.phase x.phase refl) (eq-eqb x.code x.code refl))
+    ∙ all_true _ _ (eq-eqb x.generation x.generation refl)
+    (all_true _ _ (true_same the_type x.phase x.phase refl) (eq-eqb x.code x.code refl))
 to_eq c a ea eb = rw (ea, eb) at c.eq.ensures
 
 pub returns : goal.returns

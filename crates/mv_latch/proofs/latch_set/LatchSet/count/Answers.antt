@@ -10,4 +10,10 @@ pub count_in_all-requires : goal.count_in_all-requires
 count_in_all-requires c =
     let t = selects c.args.selection in
     let w = c.self.invariant.sound in
-    omega (arith, count_total t (items_of c.self.inside.lists.items), total_fit (view_of c.self.inside) w, w.fits, ap (λ z. count_in t (items_of z)) c.deref.ensures.value)
+    omega (
+      arith,
+      count_total t (items_of c.self.inside.lists.items),
+      total_fit (view_of c.self.inside) w,
+      w.fits,
+      ap (λ z. count_in t (items_of z)) c.deref.ensures.value,
+    )

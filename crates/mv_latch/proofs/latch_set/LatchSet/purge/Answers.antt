@@ -15,16 +15,30 @@ pub count_in_all-removed-requires : goal.count_in_all-removed-requires
 count_in_all-removed-requires c =
     let t = of_requestor c.args.requestor in
     let w = c.self.invariant.sound in
-    omega (arith, count_total t (items_of c.self.inside.lists.items), total_fit (view_of c.self.inside) w, w.fits, ap (λ z. count_in t (items_of z)) c.deref.ensures.value)
+    omega (
+      arith,
+      count_total t (items_of c.self.inside.lists.items),
+      total_fit (view_of c.self.inside) w,
+      w.fits,
+      ap (λ z. count_in t (items_of z)) c.deref.ensures.value,
+    )
 
 pub wake_all_waiting-requires : goal.wake_all_waiting-requires
 wake_all_waiting-requires c =
     let w = c.self.invariant.sound in
-    omega (arith, purge_fit c.args.requestor (items_of c.self.inside.lists.items), total_fit (view_of c.self.inside) w, c.requires, ap (λ (z : LatchLists). z.callers * z.quota) c.self.view_is, ap (λ z. length (flat_map (waiting_of c.args.requestor) (items_of z))) c.deref-2.ensures.value)
+    omega (
+      arith,
+      purge_fit c.args.requestor (items_of c.self.inside.lists.items),
+      total_fit (view_of c.self.inside) w,
+      c.requires,
+      ap (λ (z : LatchLists). z.callers * z.quota) c.self.view_is,
+      ap (λ z. length (flat_map (waiting_of c.args.requestor) (items_of z))) c.deref-2.ensures.value,
+    )
 
 pub remove_from_all-granted-requires-clause-distinct : goal.remove_from_all-granted-requires-clause-distinct
 remove_from_all-granted-requires-clause-distinct c =
-    subst (λ z. AllByRecursion HasDistinctIds (items_of z)) (sym c.deref_mut.ensures.value) (all_distinct (items_of c.self.inside.lists.items) c.self.invariant.sound.distinct)
+    subst (λ z. AllByRecursion HasDistinctIds (items_of z)) (sym c.deref_mut.ensures.value)
+    (all_distinct (items_of c.self.inside.lists.items) c.self.invariant.sound.distinct)
 
 pub remove_from_all-granted-requires-clause-fits : goal.remove_from_all-granted-requires-clause-fits
 remove_from_all-granted-requires-clause-fits c =
@@ -35,17 +49,35 @@ pub remove_from_all-granted-requires-clause-room : goal.remove_from_all-granted-
 remove_from_all-granted-requires-clause-room c =
     let w = c.self.invariant.sound in
     let told = simp (length-append, length-map) at (ap length c.wake_all_waiting.ensures.items) in
-    omega (arith, purge_fit c.args.requestor (items_of c.self.inside.lists.items), total_fit (view_of c.self.inside) w, c.requires, c.wake_all_waiting.ensures.capacity, ap (λ (z : LatchLists). z.callers * z.quota) c.self.view_is, ap (λ z. length (flat_map (waiting_of c.args.requestor) (items_of z))) c.deref-2.ensures.value, ap (λ z. length (flat_map (granted_by_purge c.args.requestor) (items_of z))) c.deref_mut.ensures.value)
+    omega (
+      arith,
+      purge_fit c.args.requestor (items_of c.self.inside.lists.items),
+      total_fit (view_of c.self.inside) w,
+      c.requires,
+      c.wake_all_waiting.ensures.capacity,
+      ap (λ (z : LatchLists). z.callers * z.quota) c.self.view_is,
+      ap (λ z. length (flat_map (waiting_of c.args.requestor) (items_of z))) c.deref-2.ensures.value,
+      ap (λ z. length (flat_map (granted_by_purge c.args.requestor) (items_of z))) c.deref_mut.ensures.value,
+    )
 
 pub overflow_cast-result : goal.overflow_cast-result
 overflow_cast-result c =
     let t = of_requestor c.args.requestor in
     let w = c.self.invariant.sound in
-    omega (arith, c.count_in_all-removed.ensures, count_total t (items_of c.self.inside.lists.items), total_fit (view_of c.self.inside) w, w.fits, ap (λ z. count_in t (items_of z)) c.deref.ensures.value)
+    omega (
+      arith,
+      c.count_in_all-removed.ensures,
+      count_total t (items_of c.self.inside.lists.items),
+      total_fit (view_of c.self.inside) w,
+      w.fits,
+      ap (λ z. count_in t (items_of z)) c.deref.ensures.value,
+    )
 
 pub invariant_of-self : goal.invariant_of-self
 invariant_of-self c =
     let w = c.self.invariant.sound in
     let items = c.remove_from_all-granted.ensures.items ∙ ap (λ z. map (purged c.args.requestor) (items_of z)) c.deref_mut.ensures.value in
     let long = simp length-map at (ap length items) in
-    ready_all c.self.inside (view_of c.self.inside) c.remove_from_all-granted.new.lists _ c.self.invariant refl long items (c.remove_from_all-granted.ensures.capacities ∙ ap capacities c.deref_mut.ensures.value) (sound_purge (view_of c.self.inside) c.args.requestor w)
+    ready_all c.self.inside (view_of c.self.inside) c.remove_from_all-granted.new.lists _ c.self.invariant refl long items
+    (c.remove_from_all-granted.ensures.capacities ∙ ap capacities c.deref_mut.ensures.value)
+    (sound_purge (view_of c.self.inside) c.args.requestor w)
