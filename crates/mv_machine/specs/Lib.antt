@@ -16,3 +16,5 @@ pub mod Merge
 pub mod Room
 pub mod Kept
 pub mod Owned
+pub mod Orderly
+pub mod calls
