@@ -17,4 +17,11 @@ pub mod Room
 pub mod Kept
 pub mod Owned
 pub mod Orderly
+-- what calls are, and what a log says of the machine
 pub mod calls
+pub mod Behind
+pub mod Replies
+pub mod Known
+pub mod Leaving
+pub mod Waking
+pub mod Exits

@@ -3,6 +3,7 @@ ghost use Rattle.std.specs.List.{All, Contains};
 ghost use Rattle.mv_ecb.specs.Word.{Complete};
 ghost use Rattle.mv_element.specs.declared.element.Phase.TheVariants.{Free, Prereleased, Released};
 ghost use Rattle.mv_latch.specs.declared.request.Request.{Request};
+ghost use Rattle.mv_latch.specs.Latch.{granted};
 ghost use Rattle.mv_latch.specs.LatchSet.{count_in, list_of, IsNewId};
 ghost use Rattle.mv_latch.specs.Request.{has_id, of_caller, posted_of};
 ghost use Rattle.mv_machine.specs.declared.entry.Entry.{Entry};
@@ -13,6 +14,7 @@ ghost use Rattle.mv_machine.specs.declared.packing.WordState.{WordState};
 ghost use Rattle.mv_machine.specs.Check.{IsValid};
 ghost use Rattle.mv_machine.specs.Elements.{FitsItsPlace};
 ghost use Rattle.mv_machine.specs.Kept.{StandingRequest, standing, allowed, is_posting, RisesFrom};
+ghost use Rattle.mv_machine.specs.Leaving.{NoneTakesOut};
 ghost use Rattle.mv_machine.specs.Legal.{Legal, SameAt, same_object, after, of, «at», CountsFrom};
 ghost use Rattle.mv_machine.specs.Merge.{merged, merge_from, start, total};
 ghost use Rattle.mv_machine.specs.Owned.{owner_at, is_owners, is_clear, HasNo, IsGranted, IsGone};
@@ -91,7 +93,11 @@ pub fn others_keep_what_is_owned()
     // A release before its pause is kept for it.
     ensures prereleased { (c : Setup) (xs ys : List Entry) (n : ℕ) → Legal c (xs ++ ys) → HasNo is_owners (Element n) (of (element_owner c n) ys)
         → ((after c xs).element n).state.phase ≡ Prereleased → ((after c (xs ++ ys)).element n).state ≡ ((after c xs).element n).state }
-    // A granted request stays granted until it is gone.
+    // A granted request stays granted as long as no entry is its caller's release of it or a purge of its requestor.
+    ensures held { (c : Setup) (xs ys : List Entry) (t : StandingRequest) → Legal c (xs ++ ys) → NoneTakesOut t ys
+        → Contains (granted (list_of (after c xs).latches.state t.latch)) t.request
+        → Contains (granted (list_of (after c (xs ++ ys)).latches.state t.latch)) t.request }
+    // It goes at once and altogether: it is granted or gone, and never waits again.
     ensures granted { (c : Setup) (xs ys : List Entry) (k latch id : ℕ) → Legal c (xs ++ ys)
         → IsGranted k latch id (after c xs) → IsGranted k latch id (after c (xs ++ ys)) ⊎ IsGone k latch id (after c (xs ++ ys)) }
     // One that is gone stays gone: later requests have higher numbers.

@@ -3,9 +3,12 @@
 //! Every service above is held against these definitions.
 #![tactic(auto)]
 
+mod call_laws;
 mod checking;
 mod config;
 mod entry;
+mod keeping_laws;
+mod latch_laws;
 mod laws;
 mod merging;
 mod packing;
@@ -15,8 +18,13 @@ mod replaying;
 mod state;
 mod valid;
 
+pub use call_laws::{generations_in_replies, last_event_is_the_machines, posts_reach};
 pub use config::{CheckRefusal, Config, ConfigLimit, Exit};
 pub use entry::{Entry, Object, Op, Reply, VolumeOp, VolumeReply};
+pub use keeping_laws::{keeping_agrees, own_blocks_answer, own_elements_answer};
+pub use latch_laws::{
+    latches_answer, quotas_hold, requests_at_rest, requests_leave_by_purges, requests_stay, wakes_are_in_range,
+};
 pub use laws::{
     generations_fit, histories_are_their_parts, merging_keeps_a_history, others_keep_what_is_owned,
     places_count_entries, reached_states_have_words, requests_stand_by_their_callers_entries,

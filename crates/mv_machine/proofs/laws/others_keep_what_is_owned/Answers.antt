@@ -1,5 +1,6 @@
 -- The laws are the lemmas.
 use Rattle.mv_machine.proofs.GrantRuns.{granted_or_gone, gone_stays}
+use Rattle.mv_machine.proofs.Grants.{granted_stays}
 use Rattle.mv_machine.proofs.Owners.{owner_makes, complete_kept, generation_kept, free_kept, free_was, released_kept, prereleased_kept}
 use Rattle.mv_machine.proofs.laws.others_keep_what_is_owned.Goals as goal
 
@@ -26,3 +27,6 @@ returns-clause-granted c = granted_or_gone
 
 pub returns-clause-gone : goal.returns-clause-gone
 returns-clause-gone c = gone_stays
+
+pub returns-clause-held : goal.returns-clause-held
+returns-clause-held c = granted_stays

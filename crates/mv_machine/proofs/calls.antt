@@ -1,0 +1,11 @@
+-- Programs, calls, and histories whose callers make them.
+-- programs over what was heard, and calls one after the other
+pub mod Programs
+pub mod Making
+-- what a caller hears in a history, and histories in which each follows its program
+pub mod Hearing
+pub mod Interleaved
+-- the program that a call is where it is not refused
+pub mod Unrefused
+-- rows that are computed
+pub mod Computed
