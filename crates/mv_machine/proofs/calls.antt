@@ -7,5 +7,9 @@ pub mod Hearing
 pub mod Interleaved
 -- the program that a call is where it is not refused
 pub mod Unrefused
--- rows that are computed
+-- calls that are computed
 pub mod Computed
+pub mod WaitRows
+pub mod PauseRows
+pub mod LatchRows
+pub mod EndRows

@@ -1,0 +1,282 @@
+-- Waits, posts, exits and volumes: histories in which each call is done on its entries with its answer, by computing them.
+use Rattle.std.proofs.Common.{◌≡◌, List, [], ◌∷◌, take, drop, Some, None, Ok, Err, refl}
+use Rattle.mv_ecb.specs.declared.operation.EcbOp.TheVariants as ecb_op
+use Rattle.mv_ecb.specs.declared.operation.EcbReply.TheVariants as ecb_reply
+use Rattle.mv_machine.specs.declared.entry.Entry.{Entry}
+use Rattle.mv_machine.specs.declared.entry.Object.TheVariants.{Ecb}
+use Rattle.mv_machine.specs.declared.entry.Op.TheVariants as op_on
+use Rattle.mv_machine.specs.declared.entry.VolumeOp.TheVariants as volume_op
+use Rattle.mv_machine.specs.declared.entry.VolumeReply.TheVariants as volume_reply
+use Rattle.mv_machine.specs.Legal.{Legal, after}
+use Rattle.mv_machine.specs.Packing.{word_at}
+use Rattle.mv_machine.specs.Setup.{Setup}
+use Rattle.mv_machine.specs.calls.Keeping.{nothing_kept, kept_of}
+use Rattle.mv_machine.specs.calls.Posts as posts
+use Rattle.mv_machine.specs.calls.Posts.{Posting}
+use Rattle.mv_machine.specs.calls.Program.{Early, Wrong, IsDoneOn, asks, left, noted}
+use Rattle.mv_machine.specs.calls.Refusal as refusal
+use Rattle.mv_machine.specs.calls.Runs.{heard_in}
+use Rattle.mv_machine.specs.calls.Services.{program, Wait, Post, TryPost, Clear, Extend, TestEcb, ReadVolume, WriteVolume}
+use Rattle.mv_machine.proofs.calls.Computed.{Step, IsRow, made, legal_by, one_task, two_tasks, at_block, at_volume}
+
+-- Two blocks are posted before the wait that is for two of three, and the third is not waited for any more then.
+abbrev posted_before_log : List Entry
+posted_before_log =
+    at_block 0 0 0 (ecb_op.Post 7) ecb_reply.Posted
+    ∷ at_block 0 2 0 (ecb_op.Post 9) ecb_reply.Posted
+    ∷ at_block 0 0 1 ecb_op.Arm (ecb_reply.Complete 7)
+    ∷ at_block 0 1 0 ecb_op.Arm ecb_reply.Armed
+    ∷ at_block 0 2 1 ecb_op.Arm (ecb_reply.Complete 9)
+    ∷ at_block 0 0 2 ecb_op.Settle (ecb_reply.Complete 7)
+    ∷ at_block 0 1 1 ecb_op.Settle ecb_reply.Open
+    ∷ at_block 0 2 2 ecb_op.Settle (ecb_reply.Complete 9)
+    ∷ at_block 0 1 2 ecb_op.Test (ecb_reply.Word 0)
+    ∷ []
+
+abbrev posted_before_calls : List Step
+posted_before_calls =
+    record { service = Post 0 7; makes = 1; answer = posts.Posted }
+    ∷ record { service = Post 2 9; makes = 1; answer = posts.Posted }
+    ∷ record { service = Wait 2 (0 ∷ 1 ∷ 2 ∷ []); makes = 6; answer = Ok (Some 7 ∷ None ∷ Some 9 ∷ []) }
+    ∷ record { service = TestEcb 1; makes = 1; answer = 0 }
+    ∷ []
+
+posted_before : IsRow (one_task (0 ∷ 0 ∷ 0 ∷ []) []) 0 posted_before_log posted_before_calls
+posted_before = record {
+  legal = legal_by (one_task (0 ∷ 0 ∷ 0 ∷ []) []) posted_before_log refl;
+  made = (made refl refl, refl, (made refl refl, refl, (made refl refl, refl, (made refl refl, refl, refl))));
+}
+
+-- Waits that make no event: for none of none, for more than there are, and with a block twice.
+abbrev refused_waits_log : List Entry
+refused_waits_log =
+    []
+
+abbrev refused_waits_calls : List Step
+refused_waits_calls =
+    record { service = Wait 0 []; makes = 0; answer = Ok [] }
+    ∷ record { service = Wait 2 (0 ∷ []); makes = 0; answer = Err refusal.TooMany }
+    ∷ record { service = Wait 1 (0 ∷ 0 ∷ []); makes = 0; answer = Err (refusal.Doubled 1) }
+    ∷ []
+
+refused_waits : IsRow (one_task (0 ∷ []) []) 0 refused_waits_log refused_waits_calls
+refused_waits = record {
+  legal = legal_by (one_task (0 ∷ []) []) refused_waits_log refl;
+  made = (made refl refl, refl, (made refl refl, refl, (made refl refl, refl, refl)));
+}
+
+-- A post that starts an exit posts its two targets; the second was complete before. A wait for an extended block is refused.
+abbrev exits_posted_log : List Entry
+exits_posted_log =
+    at_block 0 2 0 (ecb_op.Post 3) ecb_reply.Posted
+    ∷ at_block 0 0 0 (ecb_op.Extend 1) ecb_reply.Armed
+    ∷ at_block 0 0 1 (ecb_op.Post 8) (ecb_reply.Woke 1)
+    ∷ at_block 0 1 0 (ecb_op.Post 8) ecb_reply.Posted
+    ∷ at_block 0 2 1 (ecb_op.Post 8) (ecb_reply.Already 3)
+    ∷ at_block 0 1 1 ecb_op.Test (ecb_reply.Word 1073741832)
+    ∷ at_block 0 2 2 ecb_op.Test (ecb_reply.Word 1073741827)
+    ∷ []
+
+abbrev exits_posted_calls : List Step
+exits_posted_calls =
+    record { service = Post 2 3; makes = 1; answer = posts.Posted }
+    ∷ record { service = Extend 0 1; makes = 1; answer = Ok tt }
+    ∷ record { service = Wait 1 (0 ∷ []); makes = 0; answer = Err (refusal.ExtendedAt 0) }
+    ∷ record { service = Post 0 8; makes = 3; answer = posts.Woke 1 }
+    ∷ record { service = TestEcb 1; makes = 1; answer = 1073741832 }
+    ∷ record { service = TestEcb 2; makes = 1; answer = 1073741827 }
+    ∷ []
+
+exits_posted : IsRow (one_task (0 ∷ 0 ∷ 0 ∷ []) (record { source = 0; targets = 1 ∷ 2 ∷ [] } ∷ [])) 0 exits_posted_log exits_posted_calls
+exits_posted = record {
+  legal = legal_by (one_task (0 ∷ 0 ∷ 0 ∷ []) (record { source = 0; targets = 1 ∷ 2 ∷ [] } ∷ [])) exits_posted_log refl;
+  made = (made refl refl, refl, (made refl refl, refl, (made refl refl, refl, (made refl refl, refl,
+      (made refl refl, refl, (made refl refl, refl, refl))))));
+}
+
+-- An exit whose target starts an exit of its own: that one is posted before the next target. Extends that are refused, and clears.
+abbrev exits_in_exits_log : List Entry
+exits_in_exits_log =
+    at_block 0 0 0 (ecb_op.Extend 1) ecb_reply.Armed
+    ∷ at_block 0 1 0 (ecb_op.Extend 2) ecb_reply.Armed
+    ∷ at_block 0 0 1 (ecb_op.Post 8) (ecb_reply.Woke 1)
+    ∷ at_block 0 1 1 (ecb_op.Post 8) (ecb_reply.Woke 2)
+    ∷ at_block 0 2 0 (ecb_op.Post 8) ecb_reply.Posted
+    ∷ at_block 0 2 1 (ecb_op.Post 8) (ecb_reply.Already 8)
+    ∷ at_block 0 0 2 ecb_op.Clear (ecb_reply.Word 1073741832)
+    ∷ at_block 0 0 3 (ecb_op.Extend 1) ecb_reply.Armed
+    ∷ at_block 0 0 4 ecb_op.Clear (ecb_reply.Word 2147483649)
+    ∷ at_block 0 1 2 ecb_op.Clear (ecb_reply.Word 1073741832)
+    ∷ at_block 0 1 3 (ecb_op.Post 5) ecb_reply.Posted
+    ∷ at_block 0 1 4 (ecb_op.Extend 2) (ecb_reply.Complete 5)
+    ∷ []
+
+abbrev exits_in_exits_calls : List Step
+exits_in_exits_calls =
+    record { service = Extend 0 1; makes = 1; answer = Ok tt }
+    ∷ record { service = Extend 0 1; makes = 0; answer = Err refusal.Extended }
+    ∷ record { service = Extend 1 1; makes = 0; answer = Err refusal.BadExit }
+    ∷ record { service = Extend 1 2; makes = 1; answer = Ok tt }
+    ∷ record { service = Post 0 8; makes = 4; answer = posts.Woke 1 }
+    ∷ record { service = Clear 0; makes = 1; answer = Ok 1073741832 }
+    ∷ record { service = Extend 0 1; makes = 1; answer = Ok tt }
+    ∷ record { service = Clear 0; makes = 1; answer = Ok 2147483649 }
+    ∷ record { service = Extend 2 7; makes = 0; answer = Err refusal.BadExit }
+    ∷ record { service = Clear 1; makes = 1; answer = Ok 1073741832 }
+    ∷ record { service = Post 1 5; makes = 1; answer = posts.Posted }
+    ∷ record { service = Extend 1 2; makes = 1; answer = Err (refusal.Complete 5) }
+    ∷ []
+
+exits_in_exits : IsRow (one_task (0 ∷ 0 ∷ 0 ∷ []) (record { source = 0; targets = 1 ∷ 2 ∷ [] } ∷ record { source = 1; targets = 2 ∷ [] } ∷ [])) 0 exits_in_exits_log exits_in_exits_calls
+exits_in_exits = record {
+  legal = legal_by (one_task (0 ∷ 0 ∷ 0 ∷ []) (record { source = 0; targets = 1 ∷ 2 ∷ [] } ∷ record { source = 1; targets = 2 ∷ [] } ∷ [])) exits_in_exits_log refl;
+  made = (made refl refl, refl, (made refl refl, refl, (made refl refl, refl, (made refl refl, refl,
+      (made refl refl, refl, (made refl refl, refl, (made refl refl, refl, (made refl refl, refl,
+      (made refl refl, refl, (made refl refl, refl, (made refl refl, refl, (made refl refl, refl, refl))))))))))));
+}
+
+-- A post by one exchange of the word that was expected.
+abbrev tried_post_log : List Entry
+tried_post_log =
+    at_block 0 0 0 (ecb_op.Post 5) ecb_reply.Posted
+    ∷ []
+
+abbrev tried_post_calls : List Step
+tried_post_calls =
+    record { service = TryPost 0 0 5; makes = 1; answer = posts.Posted }
+    ∷ []
+
+tried_post : IsRow (one_task (0 ∷ []) []) 0 tried_post_log tried_post_calls
+tried_post = record {
+  legal = legal_by (one_task (0 ∷ []) []) tried_post_log refl;
+  made = (made refl refl, refl, refl);
+}
+
+-- A volume keeps its number of 32 bits.
+abbrev volume_written_log : List Entry
+volume_written_log =
+    at_volume 0 0 0 (volume_op.Write 4294967295) volume_reply.Stored
+    ∷ at_volume 0 0 1 volume_op.Read (volume_reply.Value 4294967295)
+    ∷ []
+
+abbrev volume_written_calls : List Step
+volume_written_calls =
+    record { service = WriteVolume 0 4294967295; makes = 1; answer = tt }
+    ∷ record { service = ReadVolume 0; makes = 1; answer = 4294967295 }
+    ∷ []
+
+volume_written : IsRow (one_task [] []) 0 volume_written_log volume_written_calls
+volume_written = record {
+  legal = legal_by (one_task [] []) volume_written_log refl;
+  made = (made refl refl, refl, (made refl refl, refl, refl));
+}
+
+-- One task waits for its block, and another posts it.
+abbrev woken_log : List Entry
+woken_log =
+    at_block 0 0 0 ecb_op.Arm ecb_reply.Armed
+    ∷ at_block 1 0 1 (ecb_op.Post 3) (ecb_reply.Woke 0)
+    ∷ at_block 0 0 2 ecb_op.Settle (ecb_reply.Complete 3)
+    ∷ []
+
+abbrev woken_of_0_calls : List Step
+woken_of_0_calls =
+    record { service = Wait 1 (0 ∷ []); makes = 2; answer = Ok (Some 3 ∷ []) }
+    ∷ []
+
+woken_of_0 : IsRow (two_tasks (0 ∷ []) []) 0 woken_log woken_of_0_calls
+woken_of_0 = record {
+  legal = legal_by (two_tasks (0 ∷ []) []) woken_log refl;
+  made = (made refl refl, refl, refl);
+}
+
+abbrev woken_of_1_calls : List Step
+woken_of_1_calls =
+    record { service = Post 0 3; makes = 1; answer = posts.Woke 0 }
+    ∷ record { service = Clear 0; makes = 0; answer = Err refusal.NotOwner }
+    ∷ record { service = Wait 1 (0 ∷ []); makes = 0; answer = Err (refusal.NotOwnerAt 0) }
+    ∷ record { service = Extend 0 1; makes = 0; answer = Err refusal.NotOwner }
+    ∷ []
+
+woken_of_1 : IsRow (two_tasks (0 ∷ []) []) 1 woken_log woken_of_1_calls
+woken_of_1 = record {
+  legal = legal_by (two_tasks (0 ∷ []) []) woken_log refl;
+  made = (made refl refl, refl, (made refl refl, refl, (made refl refl, refl, (made refl refl, refl, refl))));
+}
+
+-- The same, where the post comes first.
+abbrev posted_first_log : List Entry
+posted_first_log =
+    at_block 1 0 0 (ecb_op.Post 3) ecb_reply.Posted
+    ∷ at_block 0 0 1 ecb_op.Arm (ecb_reply.Complete 3)
+    ∷ at_block 0 0 2 ecb_op.Settle (ecb_reply.Complete 3)
+    ∷ []
+
+abbrev posted_first_of_0_calls : List Step
+posted_first_of_0_calls =
+    record { service = Wait 1 (0 ∷ []); makes = 2; answer = Ok (Some 3 ∷ []) }
+    ∷ []
+
+posted_first_of_0 : IsRow (two_tasks (0 ∷ []) []) 0 posted_first_log posted_first_of_0_calls
+posted_first_of_0 = record {
+  legal = legal_by (two_tasks (0 ∷ []) []) posted_first_log refl;
+  made = (made refl refl, refl, refl);
+}
+
+abbrev posted_first_of_1_calls : List Step
+posted_first_of_1_calls =
+    record { service = Post 0 3; makes = 1; answer = posts.Posted }
+    ∷ []
+
+posted_first_of_1 : IsRow (two_tasks (0 ∷ []) []) 1 posted_first_log posted_first_of_1_calls
+posted_first_of_1 = record {
+  legal = legal_by (two_tasks (0 ∷ []) []) posted_first_log refl;
+  made = (made refl refl, refl, refl);
+}
+
+-- ---- what does not follow
+
+abbrev short_log : List Entry
+short_log =
+    at_block 0 0 0 ecb_op.Arm ecb_reply.Armed
+    ∷ at_block 0 1 0 ecb_op.Arm ecb_reply.Armed
+    ∷ at_block 1 0 1 (ecb_op.Post 3) (ecb_reply.Woke 0)
+    ∷ at_block 0 0 2 ecb_op.Settle (ecb_reply.Complete 3)
+    ∷ at_block 0 1 1 ecb_op.Settle ecb_reply.Open
+    ∷ []
+
+abbrev two_blocks : Setup
+two_blocks = two_tasks (0 ∷ 0 ∷ []) []
+
+-- a wait that settles with one fewer complete than it is for has ended too soon, though its history is legal
+ended_too_soon : Legal two_blocks short_log
+    × (left (program two_blocks (Wait 2 (0 ∷ 1 ∷ [])) (nothing_kept 0)) (heard_in two_blocks 0 short_log) ≡ Early)
+ended_too_soon = (legal_by two_blocks short_log refl, refl)
+
+abbrev one_exit : Setup
+one_exit = one_task (0 ∷ 0 ∷ []) (record { source = 0; targets = 1 ∷ [] } ∷ [])
+
+abbrev unposted_log : List Entry
+unposted_log =
+    at_block 0 0 0 (ecb_op.Extend 1) ecb_reply.Armed
+    ∷ at_block 0 0 1 (ecb_op.Post 8) (ecb_reply.Woke 1)
+    ∷ []
+
+-- a post that leaves out the posts of its exit is not done: it still says the target's
+exit_left_out : Legal one_exit unposted_log
+    × (asks (left (program one_exit (Post 0 8) (kept_of 0 (take 1 unposted_log))) (noted (drop 1 unposted_log) []))
+    ≡ Some (Ecb 1, op_on.Ecb (ecb_op.Post 8)))
+exit_left_out = (legal_by one_exit unposted_log refl, refl)
+
+-- so it has no answer
+no_answer : (answer : Posting)
+    → IsDoneOn (program one_exit (Post 0 8) (kept_of 0 (take 1 unposted_log))) (noted (drop 1 unposted_log) []) answer → ⊥
+no_answer answer d = absurd (cc d.done)
+
+-- a second try with the word from before meets this word, and has no event; one that was answered all the same would be Wrong
+moved_word : word_at (after (one_task (0 ∷ []) []) tried_post_log) (Ecb 0) ≡ 35185445830661
+moved_word = refl
+
+tried_again : left (program (one_task (0 ∷ []) []) (TryPost 0 0 6) (kept_of 0 tried_post_log))
+    (noted (at_block 0 0 1 (ecb_op.Post 6) (ecb_reply.Already 5) ∷ []) []) ≡ Wrong
+tried_again = refl
