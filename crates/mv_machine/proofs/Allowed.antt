@@ -27,7 +27,8 @@ use Rattle.mv_machine.proofs.StandingCounts.{count_stands, posted_count_stands}
 abbrev HasLists : Setup → System → Type 0
 HasLists c s = length s.latches.state ≡ c.latches
 
-pub lists_next : (c : Setup) (s : System) (k : ℕ) (o : Object) (p : ℕ) (op : Op) (r : Reply) → IsNext c s (entry_of k o p op r) → HasLists c s → HasLists c (moved s k o op)
+pub lists_next : (c : Setup) (s : System) (k : ℕ) (o : Object) (p : ℕ) (op : Op) (r : Reply) → IsNext c s (entry_of k o p op r)
+    → HasLists c s → HasLists c (moved s k o op)
 lists_next c s k Latches p (op_on.Latch op) r h w = same_count k s.latches.place op s.latches.state ∙ w
 lists_next c s k (Ecb m) p (op_on.Ecb op) r h w = w
 lists_next c s k (Element m) p (op_on.Element op) r h w = w
@@ -36,7 +37,8 @@ lists_next c s k o p op r h w = absurd (false≢true h.admits)
 
 pub lists_stay : (c : Setup) (es : List Entry) → Legal c es → length (after c es).latches.state ≡ c.latches
 lists_stay c es l =
-    along_all c (HasLists c) (λ s e h w. lists_next c s e.caller e.object e.place e.op e.reply h w) (opening c) es l (length-replicate c.latches [])
+    along_all c (HasLists c) (λ s e h w. lists_next c s e.caller e.object e.place e.op e.reply h w) (opening c) es l
+    (length-replicate c.latches [])
 
 -- ---- the quotas
 within : (c : Setup) (k : ℕ) (form : LatchForm) (ts : List StandingRequest) (lists : List (List Request))

@@ -1,5 +1,6 @@
 -- The last entry of a possible log was the machine's next one.
-use Rattle.std.proofs.Common.{◌≡◌, ℕ, ◌+◌, ◌==◌, Bool, true, false, List, [], ◌∷◌, ◌++◌, length, cond, refl, sym, ap, ◌∙◌, subst, arith, append-nil, append_assoc, length-append}
+use Rattle.std.proofs.Common.{◌≡◌, ℕ, ◌+◌, ◌==◌, Bool, true, false, List, [], ◌∷◌, ◌++◌, length, cond, refl, sym, ap, ◌∙◌, subst}
+use Rattle.std.proofs.Common.{arith, append-nil, append_assoc, length-append}
 use Rattle.std.proofs.lemmas.Bool.{eqb-true}
 use Rattle.mv_latch.specs.declared.operation.Wake.{Wake}
 use Rattle.mv_machine.specs.declared.entry.Entry.{Entry}
@@ -27,7 +28,8 @@ record Parted (k : ℕ) (h log : List Entry) (e : Entry) : Type 0 where
   no_more : of k later ≡ []
 
 module _ (k : ℕ) where
-  one_parted : (x : Entry) (h log : List Entry) (e : Entry) (b : Bool) → (x.caller == k) ≡ b → ((more : List Entry) → of k h ≡ more ++ e ∷ [] → Parted k h more e)
+  one_parted : (x : Entry) (h log : List Entry) (e : Entry) (b : Bool) → (x.caller == k) ≡ b
+      → ((more : List Entry) → of k h ≡ more ++ e ∷ [] → Parted k h more e)
       → cond b (x ∷ of k h) (of k h) ≡ log ++ e ∷ [] → Parted k (x ∷ h) log e
   one_parted x h log e false is rest q =
       let r = rest log q in record {
@@ -73,7 +75,8 @@ not_told m k j o op n = refl
 untold : (m : System) (k : ℕ) (es : List Entry) → of k es ≡ [] → told_from m k es ≡ []
 untold m k [] is = refl
 untold m k (x ∷ es) is = go (x.caller == k) refl is (λ r. untold (next m x) k es r) where
-  go : (b : Bool) → (x.caller == k) ≡ b → cond b (x ∷ of k es) (of k es) ≡ [] → (of k es ≡ [] → told_from (next m x) k es ≡ []) → told_from m k (x ∷ es) ≡ []
+  go : (b : Bool) → (x.caller == k) ≡ b → cond b (x ∷ of k es) (of k es) ≡ [] → (of k es ≡ [] → told_from (next m x) k es ≡ [])
+      → told_from m k (x ∷ es) ≡ []
   go true same q rest = absurd (cc q)
   go false other q rest = ap (λ ws. ws ++ told_from (next m x) k es) (not_told m k x.caller x.object x.op other) ∙ rest q
 
@@ -81,10 +84,12 @@ untold m k (x ∷ es) is = go (x.caller == k) refl is (λ r. untold (next m x) k
 pub front_keeps : (c : Setup) (xs ys : List Entry) → KeepsBudgets c (xs ++ ys) → KeepsBudgets c xs
 front_keeps c xs ys b = λ j lt.
     let whole = b j lt in
-    let parts : length (of j (xs ++ ys)) ≡ length (of j xs) + length (of j ys) = ap length (of-append j xs ys) ∙ length-append (of j xs) (of j ys) in
+    let parts : length (of j (xs ++ ys)) ≡ length (of j xs) + length (of j ys) = ap length (of-append j xs ys)
+    ∙ length-append (of j xs) (of j ys) in
     omega arith
 
-pub last_is_behind : (c : Setup) (k : ℕ) (log : List Entry) (e : Entry) (shown : List (List Wake)) → IsPossible c k (log ++ e ∷ []) shown → IsBehind c k log e shown
+pub last_is_behind : (c : Setup) (k : ℕ) (log : List Entry) (e : Entry) (shown : List (List Wake)) → IsPossible c k (log ++ e ∷ []) shown
+    → IsBehind c k log e shown
 last_is_behind c k log e shown p =
     let s = parted k p.history log e p.logged in
     let legal : Legal c (s.before ++ e ∷ s.later) = subst (Legal c) s.whole p.legal in
@@ -97,10 +102,18 @@ last_is_behind c k log e shown p =
       caller = eqb-true e.caller k s.caller;
       follows = (LegalFrom-rest c (opening c) s.before (e ∷ s.later) legal).0;
       told =
-          sym (ap (λ ws. told c k s.before ++ ws) (ap (λ ws. told_at (after c s.before) k e.caller e.object e.op ++ ws) (untold (next (after c s.before) e) k s.later s.no_more) ∙ append-nil _))
+          sym (ap (λ ws. told c k s.before ++ ws) (ap (λ ws. told_at (after c s.before) k e.caller e.object e.op ++ ws)
+          (untold (next (after c s.before) e) k s.later s.no_more) ∙ append-nil _))
           ∙ (sym (told_from-append (opening c) k s.before (e ∷ s.later)) ∙ (ap (told c k) (sym s.whole) ∙ p.told));
     }
 
 -- and the log before it is possible, with what was told before
-pub front_is_possible : (c : Setup) (k : ℕ) (log : List Entry) (e : Entry) (shown : List (List Wake)) → (b : IsBehind c k log e shown) → IsPossible c k log (told c k b.before)
-front_is_possible c k log e shown b = record { history = b.before; legal = b.legal; budgets = front_keeps c b.before (e ∷ []) b.budgets; logged = b.logged; told = refl }
+pub front_is_possible : (c : Setup) (k : ℕ) (log : List Entry) (e : Entry) (shown : List (List Wake)) → (b : IsBehind c k log e shown)
+    → IsPossible c k log (told c k b.before)
+front_is_possible c k log e shown b = record {
+  history = b.before;
+  legal = b.legal;
+  budgets = front_keeps c b.before (e ∷ []) b.budgets;
+  logged = b.logged;
+  told = refl;
+}

@@ -35,7 +35,8 @@ extended_by op reply extended = extended
 
 module _ (c : Setup) (n : ℕ) where
   -- an operation of the owner
-  by_owner : (k : ℕ) (op : EcbOp) (x : EcbState) (a e : Bool) → ecb_admitted c k n op ≡ true → BlockAgrees c n x a e → BlockAgrees c n (ecb_step op x).0 (armed_by op a) (extended_by op (ecb_step op x).1 e)
+  by_owner : (k : ℕ) (op : EcbOp) (x : EcbState) (a e : Bool) → ecb_admitted c k n op ≡ true → BlockAgrees c n x a e
+      → BlockAgrees c n (ecb_step op x).0 (armed_by op a) (extended_by op (ecb_step op x).1 e)
   by_owner k Arm Zero a e m h = (refl, h)
   by_owner k Arm Waiting a e m h = (refl, h.1)
   by_owner k Arm (Extended y) a e m h = h
@@ -56,7 +57,8 @@ module _ (c : Setup) (n : ℕ) where
   by_owner k Test x a e m h = h
 
   -- one of another caller
-  by_other : (j : ℕ) (op : EcbOp) (x : EcbState) (a e : Bool) → ecb_admitted c j n op ≡ true → (owner_of c n ≡ j → ⊥) → BlockAgrees c n x a e → BlockAgrees c n (ecb_step op x).0 a e
+  by_other : (j : ℕ) (op : EcbOp) (x : EcbState) (a e : Bool) → ecb_admitted c j n op ≡ true → (owner_of c n ≡ j → ⊥)
+      → BlockAgrees c n x a e → BlockAgrees c n (ecb_step op x).0 a e
   by_other j Arm x a e m apart h = absurd (apart (eqb-true (owner_of c n) j m))
   by_other j (Extend y) x a e m apart h = absurd (apart (eqb-true (owner_of c n) j (and_parts _ _ m).0))
   by_other j Settle x a e m apart h = absurd (apart (eqb-true (owner_of c n) j m))
@@ -72,7 +74,8 @@ either_same : {A : Type 0} (b : Bool) (a : A) → cond b a a ≡ a
 either_same true a = refl
 either_same false a = refl
 
-armed_at : (armed : ℕ → Bool) (m n : ℕ) (op : EcbOp) → armed_with armed (Ecb m) (op_on.Ecb op) n ≡ cond (n == m) (armed_by op (armed n)) (armed n)
+armed_at : (armed : ℕ → Bool) (m n : ℕ) (op : EcbOp) → armed_with armed (Ecb m) (op_on.Ecb op) n ≡ cond (n == m) (armed_by op (armed n))
+    (armed n)
 armed_at armed m n Arm = refl
 armed_at armed m n Settle = refl
 armed_at armed m n (Extend x) = sym (either_same (n == m) (armed n))
@@ -81,7 +84,8 @@ armed_at armed m n (Post d) = sym (either_same (n == m) (armed n))
 armed_at armed m n Test = sym (either_same (n == m) (armed n))
 
 extended_at : (held : ℕ → Bool) (m n : ℕ) (op : EcbOp) (x : EcbState)
-    → extended_with held (Ecb m) (op_on.Ecb op) (reply_of.Ecb (ecb_step op x).1) n ≡ cond (n == m) (extended_by op (ecb_step op x).1 (held n)) (held n)
+    → extended_with held (Ecb m) (op_on.Ecb op) (reply_of.Ecb (ecb_step op x).1) n ≡ cond (n == m)
+    (extended_by op (ecb_step op x).1 (held n)) (held n)
 extended_at held m n Arm x = sym (either_same (n == m) (held n))
 extended_at held m n Settle x = sym (either_same (n == m) (held n))
 extended_at held m n (Extend y) Zero = refl
@@ -92,9 +96,11 @@ extended_at held m n Clear x = refl
 extended_at held m n (Post d) x = sym (either_same (n == m) (held n))
 extended_at held m n Test x = sym (either_same (n == m) (held n))
 
-state_at_block : (s : System) (k m n : ℕ) (op : EcbOp) → ((moved s k (Ecb m) (op_on.Ecb op)).ecb n).state ≡ cond (n == m) (ecb_step op (s.ecb m).state).0 (s.ecb n).state
+state_at_block : (s : System) (k m n : ℕ) (op : EcbOp)
+    → ((moved s k (Ecb m) (op_on.Ecb op)).ecb n).state ≡ cond (n == m) (ecb_step op (s.ecb m).state).0 (s.ecb n).state
 state_at_block s k m n op = go (n == m) where
-  go : (b : Bool) → (cond b (turned (s.ecb m) (ecb_step op (s.ecb m).state).0) (s.ecb n)).state ≡ cond b (ecb_step op (s.ecb m).state).0 (s.ecb n).state
+  go : (b : Bool) → (cond b (turned (s.ecb m) (ecb_step op (s.ecb m).state).0) (s.ecb n)).state ≡ cond b (ecb_step op (s.ecb m).state).0
+      (s.ecb n).state
   go true = refl
   go false = refl
 
@@ -102,29 +108,39 @@ module _ (c : Setup) (n k : ℕ) (own : owner_of c n ≡ k) where
   abbrev Knows : System → OpenWaits → Kept → Type 0
   Knows s w kept = BlockAgrees c n (s.ecb n).state (w.armed n) (kept.extended n)
 
-  own_event : (s : System) (m : ℕ) (op : EcbOp) (w : OpenWaits) (kept : Kept) → ecb_admitted c k m op ≡ true → Knows s w kept → (b : Bool) → (n == m) ≡ b
-      → BlockAgrees c n (cond b (ecb_step op (s.ecb m).state).0 (s.ecb n).state) (cond b (armed_by op (w.armed n)) (w.armed n)) (cond b (extended_by op (ecb_step op (s.ecb m).state).1 (kept.extended n)) (kept.extended n))
+  own_event : (s : System) (m : ℕ) (op : EcbOp) (w : OpenWaits) (kept : Kept) → ecb_admitted c k m op ≡ true → Knows s w kept → (b : Bool)
+      → (n == m) ≡ b
+      → BlockAgrees c n (cond b (ecb_step op (s.ecb m).state).0 (s.ecb n).state) (cond b (armed_by op (w.armed n)) (w.armed n))
+      (cond b (extended_by op (ecb_step op (s.ecb m).state).1 (kept.extended n)) (kept.extended n))
   own_event s m op w kept a h true is =
       let same : m ≡ n = sym (eqb-true n m is) in
-      subst (λ j. BlockAgrees c n (ecb_step op (s.ecb j).state).0 (armed_by op (w.armed n)) (extended_by op (ecb_step op (s.ecb j).state).1 (kept.extended n))) (sym same)
+      subst (λ j. BlockAgrees c n (ecb_step op (s.ecb j).state).0 (armed_by op (w.armed n))
+      (extended_by op (ecb_step op (s.ecb j).state).1 (kept.extended n))) (sym same)
       (by_owner c n k op (s.ecb n).state (w.armed n) (kept.extended n) (subst (λ j. ecb_admitted c k j op ≡ true) same a) h)
   own_event s m op w kept a h false is = h
 
-  mine : (s : System) (o : Object) (p : ℕ) (op : Op) (r : Reply) (w : OpenWaits) (kept : Kept) → IsNext c s (entry_of k o p op r) → Knows s w kept
+  mine : (s : System) (o : Object) (p : ℕ) (op : Op) (r : Reply) (w : OpenWaits) (kept : Kept) → IsNext c s (entry_of k o p op r)
+      → Knows s w kept
       → Knows (moved s k o op) (waits_after w o op r) (kept_after kept o op r)
   mine s (Ecb m) p (op_on.Ecb op) r w kept next h =
       let is : r ≡ reply_of.Ecb (ecb_step op (s.ecb m).state).1 = (let q = next.reply in cc) in
       rw is
-      (subst (λ z. BlockAgrees c n z (armed_with w.armed (Ecb m) (op_on.Ecb op) n) (extended_with kept.extended (Ecb m) (op_on.Ecb op) (reply_of.Ecb (ecb_step op (s.ecb m).state).1) n)) (sym (state_at_block s k m n op))
-      (subst (λ z. BlockAgrees c n (cond (n == m) (ecb_step op (s.ecb m).state).0 (s.ecb n).state) z (extended_with kept.extended (Ecb m) (op_on.Ecb op) (reply_of.Ecb (ecb_step op (s.ecb m).state).1) n)) (sym (armed_at w.armed m n op))
-      (subst (λ z. BlockAgrees c n (cond (n == m) (ecb_step op (s.ecb m).state).0 (s.ecb n).state) (cond (n == m) (armed_by op (w.armed n)) (w.armed n)) z) (sym (extended_at kept.extended m n op (s.ecb m).state))
+      (subst (λ z. BlockAgrees c n z (armed_with w.armed (Ecb m) (op_on.Ecb op) n)
+      (extended_with kept.extended (Ecb m) (op_on.Ecb op) (reply_of.Ecb (ecb_step op (s.ecb m).state).1) n))
+      (sym (state_at_block s k m n op))
+      (subst (λ z. BlockAgrees c n (cond (n == m) (ecb_step op (s.ecb m).state).0 (s.ecb n).state) z
+      (extended_with kept.extended (Ecb m) (op_on.Ecb op) (reply_of.Ecb (ecb_step op (s.ecb m).state).1) n))
+      (sym (armed_at w.armed m n op))
+      (subst (λ z. BlockAgrees c n (cond (n == m) (ecb_step op (s.ecb m).state).0 (s.ecb n).state)
+      (cond (n == m) (armed_by op (w.armed n)) (w.armed n)) z) (sym (extended_at kept.extended m n op (s.ecb m).state))
       (own_event s m op w kept (and_parts _ _ next.admits).1 h (n == m) refl))))
   mine s (Element m) p (op_on.Element op) r w kept next h = h
   mine s (Volume m) p (op_on.Volume op) r w kept next h = h
   mine s Latches p (op_on.Latch op) r w kept next h = h
   mine s o p op r w kept next h = absurd (false≢true next.admits)
 
-  others_event : (s : System) (j m : ℕ) (op : EcbOp) (a e : Bool) → ecb_admitted c j m op ≡ true → (j ≡ k → ⊥) → BlockAgrees c n (s.ecb n).state a e → (b : Bool) → (n == m) ≡ b
+  others_event : (s : System) (j m : ℕ) (op : EcbOp) (a e : Bool) → ecb_admitted c j m op ≡ true → (j ≡ k → ⊥)
+      → BlockAgrees c n (s.ecb n).state a e → (b : Bool) → (n == m) ≡ b
       → BlockAgrees c n (cond b (ecb_step op (s.ecb m).state).0 (s.ecb n).state) a e
   others_event s j m op a e may apart h true is =
       let same : m ≡ n = sym (eqb-true n m is) in
@@ -132,7 +148,8 @@ module _ (c : Setup) (n k : ℕ) (own : owner_of c n ≡ k) where
       (by_other c n j op (s.ecb n).state a e (subst (λ i. ecb_admitted c j i op ≡ true) same may) (λ q. apart (sym q ∙ own)) h)
   others_event s j m op a e may apart h false is = h
 
-  others : (s : System) (j : ℕ) (o : Object) (p : ℕ) (op : Op) (r : Reply) (w : OpenWaits) (kept : Kept) → (j ≡ k → ⊥) → IsNext c s (entry_of j o p op r) → Knows s w kept → Knows (moved s j o op) w kept
+  others : (s : System) (j : ℕ) (o : Object) (p : ℕ) (op : Op) (r : Reply) (w : OpenWaits) (kept : Kept) → (j ≡ k → ⊥)
+      → IsNext c s (entry_of j o p op r) → Knows s w kept → Knows (moved s j o op) w kept
   others s j (Ecb m) p (op_on.Ecb op) r w kept apart next h =
       subst (λ z. BlockAgrees c n z (w.armed n) (kept.extended n)) (sym (state_at_block s j m n op))
       (others_event s j m op (w.armed n) (kept.extended n) (and_parts _ _ next.admits).1 apart h (n == m) refl)
@@ -141,9 +158,11 @@ module _ (c : Setup) (n k : ℕ) (own : owner_of c n ≡ k) where
   others s j Latches p (op_on.Latch op) r w kept apart next h = h
   others s j o p op r w kept apart next h = absurd (false≢true next.admits)
 
-  pub block_agrees : (es : List Entry) → Legal c es → BlockAgrees c n ((after c es).ecb n).state ((waits_from no_waits (of k es)).armed n) ((kept_of k (of k es)).extended n)
+  pub block_agrees : (es : List Entry) → Legal c es → BlockAgrees c n ((after c es).ecb n).state ((waits_from no_waits (of k es)).armed n)
+      ((kept_of k (of k es)).extended n)
   block_agrees es l = known c k Knows
-      (λ s e w kept same nx h. subst (λ j. Knows (moved s j e.object e.op) (waits_after w e.object e.op e.reply) (kept_after kept e.object e.op e.reply)) (sym same)
+      (λ s e w kept same nx h. subst (λ j. Knows (moved s j e.object e.op) (waits_after w e.object e.op e.reply)
+      (kept_after kept e.object e.op e.reply)) (sym same)
       (mine s e.object e.place e.op e.reply w kept (subst (λ j. IsNext c s (entry_of j e.object e.place e.op e.reply)) same nx) h))
       (λ s e w kept apart nx h. others s e.caller e.object e.place e.op e.reply w kept apart nx h)
       es l refl

@@ -26,7 +26,8 @@ place_is_count c es o l = omega (arith, place-after c (opening c) es o l, at_ope
 pub places_count : (c : Setup) (es : List Entry) (o : Object) → Legal c es → CountsFrom 0 («at» o es)
 places_count c es o l = subst (λ p. CountsFrom p («at» o es)) (at_opening c o) (at_counts c (opening c) o es l)
 
-pub no_high_generation : (c : Setup) (es : List Entry) (n : ℕ) → Legal c es → length es ≤ 524287 → ((after c es).element n).state.generation ≤ 262143
+pub no_high_generation : (c : Setup) (es : List Entry) (n : ℕ) → Legal c es → length es ≤ 524287
+    → ((after c es).element n).state.generation ≤ 262143
 no_high_generation c es n l le =
     let fits : FitsItsPlace ((after c es).element n) = generation_fits c es n l in
     let place : ((after c es).element n).place ≤ 524287 = places_fit c es (Element n) l le in

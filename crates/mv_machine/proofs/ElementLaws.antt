@@ -1,5 +1,6 @@
 -- What the events on one element keep to.
-use Rattle.std.proofs.Common.{◌≡◌, ℕ, ◌+◌, ◌<◌, ◌≤◌, IsTrue, List, [], ◌∷◌, ◌++◌, length, Option, Some, None, ◌⊎◌, inl, inr, refl, ◌∙◌, arith, append-nil}
+use Rattle.std.proofs.Common.{◌≡◌, ℕ, ◌+◌, ◌<◌, ◌≤◌, IsTrue, List, [], ◌∷◌, ◌++◌, length, Option, Some, None, ◌⊎◌, inl, inr, refl}
+use Rattle.std.proofs.Common.{◌∙◌, arith, append-nil}
 use Rattle.std.proofs.lemmas.Bool.{cases_order}
 use Rattle.std.proofs.lemmas.List.Elements.{filter_map-append}
 use Rattle.std.specs.List.{AllByRecursion}
@@ -39,7 +40,8 @@ pub record Passed (g : ℕ) (vs : List ElementEvent) : Type 0 where
   pub none_given : givens g vs ≡ []
   pub all_spent : AllByRecursion (IsSpentUpTo g) vs
 
-pub passed : (g : ℕ) (cell : Cell ElementState) (vs : List ElementEvent) → g < cell.state.generation → RunFrom element_table cell vs → Passed g vs
+pub passed : (g : ℕ) (cell : Cell ElementState) (vs : List ElementEvent) → g < cell.state.generation → RunFrom element_table cell vs
+    → Passed g vs
 passed g cell [] lt l = record { none_released = refl; none_given = refl; all_spent = tt }
 passed g cell (v ∷ vs) lt l =
     let up : cell.state.generation ≤ (element_step v.op cell.state).0.generation = rises v.op cell.state in
@@ -77,21 +79,27 @@ not_yet_given g s v e lt = grind arith
 begins_empty : (op : ElementOp) (s : ElementState) → s.generation < (element_step op s).0.generation → kept_in (element_step op s).0 ≡ []
 begins_empty op s lt = grind arith
 
-keeps_codes : (g : ℕ) (s : ElementState) (v : ElementEvent) → Answers s v → s.generation ≡ g → (element_step v.op s).0.generation ≡ g → kept_in s ++ releases g (v ∷ []) ≡ kept_in (element_step v.op s).0
+keeps_codes : (g : ℕ) (s : ElementState) (v : ElementEvent) → Answers s v → s.generation ≡ g → (element_step v.op s).0.generation ≡ g
+    → kept_in s ++ releases g (v ∷ []) ≡ kept_in (element_step v.op s).0
 keeps_codes g s v e is same = grind arith
 
-gives_none : (g : ℕ) (s : ElementState) (v : ElementEvent) → Answers s v → s.generation ≡ g → (element_step v.op s).0.generation ≡ g → givens g (v ∷ []) ≡ []
+gives_none : (g : ℕ) (s : ElementState) (v : ElementEvent) → Answers s v → s.generation ≡ g → (element_step v.op s).0.generation ≡ g
+    → givens g (v ∷ []) ≡ []
 gives_none g s v e is same = grind arith
 
-given_kept : (g code : ℕ) (s : ElementState) (v : ElementEvent) → Answers s v → given_code g v.reply ≡ Some code → (s.generation ≡ g) × (kept_in s ≡ code ∷ []) × (g < (element_step v.op s).0.generation)
+given_kept : (g code : ℕ) (s : ElementState) (v : ElementEvent) → Answers s v → given_code g v.reply ≡ Some code → (s.generation ≡ g)
+    × (kept_in s ≡ code ∷ []) × (g < (element_step v.op s).0.generation)
 given_kept g code s v e is = grind arith
 
-given_not_released : (g code : ℕ) (s : ElementState) (v : ElementEvent) → Answers s v → given_code g v.reply ≡ Some code → releases g (v ∷ []) ≡ []
+given_not_released : (g code : ℕ) (s : ElementState) (v : ElementEvent) → Answers s v → given_code g v.reply ≡ Some code
+    → releases g (v ∷ []) ≡ []
 given_not_released g code s v e is = grind arith
 
-hands_over : (g : ℕ) (s : ElementState) (v : ElementEvent) → Answers s v → (givens g (v ∷ []) ≡ []) ⊎ ((c : ℕ) × (givens g (v ∷ []) ≡ c ∷ []) × (kept_in s ++ releases g (v ∷ []) ≡ c ∷ []))
+hands_over : (g : ℕ) (s : ElementState) (v : ElementEvent) → Answers s v → (givens g (v ∷ []) ≡ [])
+    ⊎ ((c : ℕ) × (givens g (v ∷ []) ≡ c ∷ []) × (kept_in s ++ releases g (v ∷ []) ≡ c ∷ []))
 hands_over g s v e = go (given_code g v.reply) refl where
-  go : (o : Option ℕ) → given_code g v.reply ≡ o → (givens g (v ∷ []) ≡ []) ⊎ ((c : ℕ) × (givens g (v ∷ []) ≡ c ∷ []) × (kept_in s ++ releases g (v ∷ []) ≡ c ∷ []))
+  go : (o : Option ℕ) → given_code g v.reply ≡ o → (givens g (v ∷ []) ≡ [])
+      ⊎ ((c : ℕ) × (givens g (v ∷ []) ≡ c ∷ []) × (kept_in s ++ releases g (v ∷ []) ≡ c ∷ []))
   go None h = inl (rw h refl)
   go (Some c) h = inr (c, rw h refl, rw ((given_kept g c s v e h).1, given_not_released g c s v e h) refl)
 
@@ -110,11 +118,18 @@ module _ (g : ℕ) (rel giv : List ℕ) (s : ElementState) (v : ElementEvent) (e
       let up : s.generation ≤ s'.generation = rises v.op s in
       elim (cases_order s.generation g) [
         | inl same ↦ rw ((k.now same).0, (k.now same).1, keeps_codes g s v e same is, gives_none g s v e same is) (refl, refl)
-        | inr (inl before) ↦ rw (not_yet_accepted g s v e before, not_yet_given g s v e before, (k.future before).0, (k.future before).1, begins_empty v.op s (omega (arith, is, before))) (refl, refl)
+        | inr (inl before) ↦ rw (
+          not_yet_accepted g s v e before,
+          not_yet_given g s v e before,
+          (k.future before).0,
+          (k.future before).1,
+          begins_empty v.op s (omega (arith, is, before)),
+        ) (refl, refl)
         | inr (inr after) ↦ absurd (omega arith)
       ]
 
-  known-past : g < s'.generation → (giv ++ givens g (v ∷ []) ≡ []) ⊎ ((c : ℕ) × (giv ++ givens g (v ∷ []) ≡ c ∷ []) × (rel ++ releases g (v ∷ []) ≡ c ∷ []))
+  known-past : g < s'.generation → (giv ++ givens g (v ∷ []) ≡ [])
+      ⊎ ((c : ℕ) × (giv ++ givens g (v ∷ []) ≡ c ∷ []) × (rel ++ releases g (v ∷ []) ≡ c ∷ []))
   known-past lt =
       let one : s'.generation ≤ s.generation + 1 = rises_by_one v.op s in
       elim (cases_order s.generation g) [
@@ -123,7 +138,8 @@ module _ (g : ℕ) (rel giv : List ℕ) (s : ElementState) (v : ElementEvent) (e
         | inr (inr after) ↦ rw (no_accepted g s v e after, no_given g s v e after, append-nil, append-nil) (k.past after)
       ]
 
-pub known_more : (g : ℕ) (rel giv : List ℕ) (s : ElementState) (v : ElementEvent) → Answers s v → Known g rel giv s → Known g (rel ++ releases g (v ∷ [])) (giv ++ givens g (v ∷ [])) (element_step v.op s).0
+pub known_more : (g : ℕ) (rel giv : List ℕ) (s : ElementState) (v : ElementEvent) → Answers s v → Known g rel giv s
+    → Known g (rel ++ releases g (v ∷ [])) (giv ++ givens g (v ∷ [])) (element_step v.op s).0
 known_more g rel giv s v e k = record {
   future = known-future g rel giv s v e k;
   now = known-now g rel giv s v e k;
@@ -133,10 +149,12 @@ known_more g rel giv s v e k = record {
 abbrev pub start : Cell ElementState
 start = record { place = 0; state = free 0 }
 
-pub known : (g : ℕ) (vs : List ElementEvent) → RunFrom element_table start vs → Known g (releases g vs) (givens g vs) (cell_after element_table start vs).state
+pub known : (g : ℕ) (vs : List ElementEvent) → RunFrom element_table start vs
+    → Known g (releases g vs) (givens g vs) (cell_after element_table start vs).state
 known g vs l =
     along element_table (λ past s. Known g (releases g past) (givens g past) s)
-    (λ past cell v t k. rw (filter_map-append (accepted_code g) past (v ∷ []), filter_map-append (λ w. given_code g w.reply) past (v ∷ [])) (known_more g (releases g past) (givens g past) cell.state v t.reply k))
+    (λ past cell v t k. rw (filter_map-append (accepted_code g) past (v ∷ []), filter_map-append (λ w. given_code g w.reply) past (v ∷ []))
+    (known_more g (releases g past) (givens g past) cell.state v t.reply k))
     [] start (record { future = λ _. (refl, refl); now = λ _. (refl, refl); past = λ lt. inl refl }) vs l
 
 -- part 2
@@ -150,10 +168,12 @@ given_once g vs l =
       | inr (inr after) ↦ elim (k.past after) [ inl none ↦ rw none (omega arith) | inr w ↦ rw (w.1) (omega arith) ]
     ]
 
-ends_up : (g : ℕ) (s : ElementState) (v : ElementEvent) → Answers s v → IsTrue (ends_by g v.op v.reply) → g < (element_step v.op s).0.generation
+ends_up : (g : ℕ) (s : ElementState) (v : ElementEvent) → Answers s v → IsTrue (ends_by g v.op v.reply)
+    → g < (element_step v.op s).0.generation
 ends_up g s v e is = grind arith
 
-module _ (g : ℕ) (vs before later : List ElementEvent) (v : ElementEvent) (l : RunFrom element_table start vs) (split : vs ≡ before ++ v ∷ later) where
+module _ (g : ℕ) (vs before later : List ElementEvent) (v : ElementEvent) (l : RunFrom element_table start vs)
+    (split : vs ≡ before ++ v ∷ later) where
   abbrev there : Cell ElementState
   there = cell_after element_table start before
 
@@ -166,7 +186,8 @@ module _ (g : ℕ) (vs before later : List ElementEvent) (v : ElementEvent) (l :
   pub reached : (code : ℕ) → given_code g v.reply ≡ Some code → (releases g before ≡ code ∷ []) × (releases g later ≡ [])
   reached code is =
       let run : RunFrom element_table start before × RunFrom element_table there (v ∷ later) = run_at in
-      let w : (there.state.generation ≡ g) × (kept_in there.state ≡ code ∷ []) × (g < (element_step v.op there.state).0.generation) = given_kept g code there.state v run.1.0.reply is in
+      let w : (there.state.generation ≡ g) × (kept_in there.state ≡ code ∷ []) × (g < (element_step v.op there.state).0.generation) =
+      given_kept g code there.state v run.1.0.reply is in
       let k : Known g (releases g before) (givens g before) there.state = known g before run.0 in
       ((k.now w.0).0 ∙ w.1, (passed g (turn element_table there v) later w.2 run.1.1).none_released)
 

@@ -24,27 +24,34 @@ abbrev pub PassesBy : System → ℕ → Entry → Type 0
 PassesBy s n e = (as_element_event n e ≡ None) × ((next s e).element n ≡ s.element n)
 
 abbrev pub Turns : System → ℕ → Entry → Type 0
-Turns s n e = (v : ElementEvent) × (as_element_event n e ≡ Some v) × IsTurn element_table (s.element n) v × ((next s e).element n ≡ turn element_table (s.element n) v)
+Turns s n e = (v : ElementEvent) × (as_element_event n e ≡ Some v) × IsTurn element_table (s.element n) v
+    × ((next s e).element n ≡ turn element_table (s.element n) v)
 
 abbrev entry_of : ℕ → Object → ℕ → Op → Reply → Entry
 entry_of k o p op r = record { caller = k; object = o; place = p; op = op; reply = r }
 
-other_element : (s : System) (n k m p : ℕ) (op : ElementOp) (r : ElementReply) → (m ≡ n → ⊥) → PassesBy s n (entry_of k (Element m) p (op_on.Element op) (reply_of.Element r))
+other_element : (s : System) (n k m p : ℕ) (op : ElementOp) (r : ElementReply) → (m ≡ n → ⊥)
+    → PassesBy s n (entry_of k (Element m) p (op_on.Element op) (reply_of.Element r))
 other_element s n k m p op r other = grind arith
 
-this_element : (c : Setup) (s : System) (n k m p : ℕ) (op : ElementOp) (r : ElementReply) → m ≡ n → IsNext c s (entry_of k (Element m) p (op_on.Element op) (reply_of.Element r)) → Turns s n (entry_of k (Element m) p (op_on.Element op) (reply_of.Element r))
+this_element : (c : Setup) (s : System) (n k m p : ℕ) (op : ElementOp) (r : ElementReply) → m ≡ n
+    → IsNext c s (entry_of k (Element m) p (op_on.Element op) (reply_of.Element r))
+    → Turns s n (entry_of k (Element m) p (op_on.Element op) (reply_of.Element r))
 this_element c s n k m p op r same h =
     (record { caller = k; place = p; op = op; reply = r }, grind arith, record { place = grind arith; reply = grind arith }, grind arith)
 
-passes_or_turns : (c : Setup) (s : System) (n k : ℕ) (o : Object) (p : ℕ) (op : Op) (r : Reply) → IsNext c s (entry_of k o p op r) → PassesBy s n (entry_of k o p op r) ⊎ Turns s n (entry_of k o p op r)
-passes_or_turns c s n k (Element m) p (op_on.Element op) (reply_of.Element r) h = elim (cases_eq m n) [ inl same ↦ inr (this_element c s n k m p op r same h) | inr other ↦ inl (other_element s n k m p op r other) ]
+passes_or_turns : (c : Setup) (s : System) (n k : ℕ) (o : Object) (p : ℕ) (op : Op) (r : Reply) → IsNext c s (entry_of k o p op r)
+    → PassesBy s n (entry_of k o p op r) ⊎ Turns s n (entry_of k o p op r)
+passes_or_turns c s n k (Element m) p (op_on.Element op) (reply_of.Element r) h =
+    elim (cases_eq m n) [ inl same ↦ inr (this_element c s n k m p op r same h) | inr other ↦ inl (other_element s n k m p op r other) ]
 passes_or_turns c s n k (Element m) p (op_on.Element op) r h = absurd (cc h.reply)
 passes_or_turns c s n k (Ecb m) p (op_on.Ecb op) r h = inl (refl, refl)
 passes_or_turns c s n k (Volume m) p (op_on.Volume op) r h = inl (refl, refl)
 passes_or_turns c s n k Latches p (op_on.Latch op) r h = inl (refl, refl)
 passes_or_turns c s n k o p op r h = absurd (false≢true h.admits)
 
-pub element_run : (c : Setup) (s : System) (n : ℕ) (es : List Entry) → LegalFrom c s es → RunFrom element_table (s.element n) (element_events n es)
+pub element_run : (c : Setup) (s : System) (n : ℕ) (es : List Entry) → LegalFrom c s es
+    → RunFrom element_table (s.element n) (element_events n es)
 element_run c s n [] l = tt
 element_run c s n (e ∷ es) l =
     let rest : RunFrom element_table ((next s e).element n) (element_events n es) = element_run c (next s e) n es l.1 in
@@ -57,7 +64,8 @@ pub elements_are_orderly : (c : Setup) (es : List Entry) → Legal c es → (n :
 elements_are_orderly c es l n = element_is_orderly (element_events n es) (element_run c (opening c) n es l)
 
 -- what each turn of an element keeps, a legal list keeps
-pub element_along : (P : Cell ElementState → Type 0) → ((cell : Cell ElementState) (op : ElementOp) → P cell → P (turned cell (element_step op cell.state).0))
+pub element_along : (P : Cell ElementState → Type 0)
+    → ((cell : Cell ElementState) (op : ElementOp) → P cell → P (turned cell (element_step op cell.state).0))
     → (c : Setup) (n : ℕ) (s : System) (es : List Entry) → LegalFrom c s es → P (s.element n) → P ((after_from s es).element n)
 element_along P keeps c n s [] l p = p
 element_along P keeps c n s (e ∷ es) l p =

@@ -22,7 +22,8 @@ use Rattle.mv_machine.proofs.Longer.{legal_longer, after_longer}
 use Rattle.mv_machine.specs.Replies.{NamesUpTo}
 
 -- a reply names the generation before the event or the one after it
-names_either : (op : ElementOp) (x : ElementState) (most : ℕ) → x.generation ≤ most → (element_step op x).0.generation ≤ most → NamesUpTo most (reply_of.Element (element_step op x).1)
+names_either : (op : ElementOp) (x : ElementState) (most : ℕ) → x.generation ≤ most → (element_step op x).0.generation ≤ most
+    → NamesUpTo most (reply_of.Element (element_step op x).1)
 names_either element_op.Open x most before after = grind arith
 names_either (element_op.Pause g) x most before after = grind arith
 names_either (element_op.Resume g) x most before after = grind arith
@@ -31,11 +32,13 @@ names_either (element_op.Close g) x most before after = grind arith
 names_either element_op.Test x most before after = before
 
 named : (c : Setup) (s : System) (k : ℕ) (o : Object) (p : ℕ) (op : Op) (r : Reply) (most : ℕ) → IsNext c s (entry_of k o p op r)
-    → ((n : ℕ) → (s.element n).state.generation ≤ most) → ((n : ℕ) → ((moved s k o op).element n).state.generation ≤ most) → NamesUpTo most r
+    → ((n : ℕ) → (s.element n).state.generation ≤ most) → ((n : ℕ) → ((moved s k o op).element n).state.generation ≤ most)
+    → NamesUpTo most r
 named c s k (Element n) p (op_on.Element op) r most h before after =
     let is : r ≡ reply_of.Element (element_step op (s.element n).state).1 = (let q = h.reply in cc) in
     let now : (element_step op (s.element n).state).0.generation ≤ most =
-    subst (λ (z : ℕ). z ≤ most) (ap (λ (z : Rattle.mv_machine.specs.System.Cell ElementState). z.state.generation) (with_at-same s.element n (turned (s.element n) (element_step op (s.element n).state).0) n refl)) (after n) in
+    subst (λ (z : ℕ). z ≤ most) (ap (λ (z : Rattle.mv_machine.specs.System.Cell ElementState). z.state.generation)
+    (with_at-same s.element n (turned (s.element n) (element_step op (s.element n).state).0) n refl)) (after n) in
     subst (NamesUpTo most) (sym is) (names_either op (s.element n).state most (before n) now)
 named c s k (Ecb n) p (op_on.Ecb op) r most h before after =
     let is : r ≡ reply_of.Ecb (Rattle.mv_ecb.specs.Table.ecb_step op (s.ecb n).state).1 = (let q = h.reply in cc) in
@@ -44,18 +47,22 @@ named c s k (Volume n) p (op_on.Volume op) r most h before after =
     let is : r ≡ reply_of.Volume (Rattle.mv_machine.specs.System.volume_step op (s.volume n).state).1 = (let q = h.reply in cc) in
     subst (NamesUpTo most) (sym is) tt
 named c s k Latches p (op_on.Latch op) r most h before after =
-    let is : r ≡ reply_of.Latch (Rattle.mv_latch.specs.LatchSet.latch_step k s.latches.place op s.latches.state).1 = (let q = h.reply in cc) in
+    let is : r ≡ reply_of.Latch (Rattle.mv_latch.specs.LatchSet.latch_step k s.latches.place op s.latches.state).1 =
+    (let q = h.reply in cc) in
     subst (NamesUpTo most) (sym is) tt
 named c s k o p op r most h before after = absurd (false≢true h.admits)
 
-pub next_names : (c : Setup) (es : List Entry) (e : Entry) → Legal c es → IsNext c (after c es) e → length es < 524287 → NamesUpTo 262143 e.reply
+pub next_names : (c : Setup) (es : List Entry) (e : Entry) → Legal c es → IsNext c (after c es) e → length es < 524287
+    → NamesUpTo 262143 e.reply
 next_names c es e l h few =
     let longer : length (es ++ e ∷ []) ≡ length es + 1 = length-append es (e ∷ []) in
     named c (after c es) e.caller e.object e.place e.op e.reply 262143 h
     (λ n. no_high_generation c es n l (omega arith))
-    (λ n. subst (λ (s : System). (s.element n).state.generation ≤ 262143) (after_longer c es e) (no_high_generation c (es ++ e ∷ []) n (legal_longer c es e l h) (omega arith)))
+    (λ n. subst (λ (s : System). (s.element n).state.generation ≤ 262143) (after_longer c es e)
+    (no_high_generation c (es ++ e ∷ []) n (legal_longer c es e l h) (omega arith)))
 
-pub each_names : (c : Setup) (xs ys : List Entry) (e : Entry) → Legal c (xs ++ e ∷ ys) → length (xs ++ e ∷ ys) ≤ 524287 → NamesUpTo 262143 e.reply
+pub each_names : (c : Setup) (xs ys : List Entry) (e : Entry) → Legal c (xs ++ e ∷ ys) → length (xs ++ e ∷ ys) ≤ 524287
+    → NamesUpTo 262143 e.reply
 each_names c xs ys e l few =
     let size : length (xs ++ e ∷ ys) ≡ length xs + length (e ∷ ys) = length-append xs (e ∷ ys) in
     next_names c xs e (LegalFrom-front c (opening c) xs (e ∷ ys) l) (LegalFrom-rest c (opening c) xs (e ∷ ys) l).0 (omega arith)

@@ -1,5 +1,6 @@
 -- A request stays in its latch's list, and stays granted, until its caller's release or a purge of its requestor.
-use Rattle.std.proofs.Common.{◌≡◌, ℕ, ◌<◌, ◌==◌, Bool, true, false, not, ◌&&◌, List, [], ◌∷◌, ◌++◌, length, filter, set, cond, inl, inr, sym, ap, ◌∙◌, subst, arith}
+use Rattle.std.proofs.Common.{◌≡◌, ℕ, ◌<◌, ◌==◌, Bool, true, false, not, ◌&&◌, List, [], ◌∷◌, ◌++◌, length, filter, set, cond, inl}
+use Rattle.std.proofs.Common.{inr, sym, ap, ◌∙◌, subst, arith}
 use Rattle.std.specs.List.{Contains}
 use Rattle.std.proofs.lemmas.Bool.{cases_eq, false≢true}
 use Rattle.std.proofs.lemmas.List.Elements.{Contains-append_left}
@@ -49,66 +50,85 @@ in_obtained q r qs i =
     let more : Contains (qs ++ r ∷ []) q = Contains-append_left qs (r ∷ []) q i in
     search either
 
-in_released : (q : Request) (k id : ℕ) (conditional : Bool) (qs : List Request) → not (is_own k id q) ≡ true → Contains qs q → Contains (release_step k id conditional qs).0 q
+in_released : (q : Request) (k id : ℕ) (conditional : Bool) (qs : List Request) → not (is_own k id q) ≡ true → Contains qs q
+    → Contains (release_step k id conditional qs).0 q
 in_released q k id conditional qs other i =
     let fewer : Contains (without k id qs) q = left_in (λ x. not (is_own k id x)) q qs other i in
     search either
 
 -- ---- one operation
 -- a list of the set after one was replaced
-replaced : (q : Request) (lists : List (List Request)) (latch other : ℕ) (qs : List Request) → latch < length lists → (other ≡ latch → Contains qs q) → Contains (list_of lists other) q → Contains (list_of (set lists latch qs) other) q
+replaced : (q : Request) (lists : List (List Request)) (latch other : ℕ) (qs : List Request) → latch < length lists
+    → (other ≡ latch → Contains qs q) → Contains (list_of lists other) q → Contains (list_of (set lists latch qs) other) q
 replaced q lists latch other qs lt here i = elim (cases_eq other latch) [
   | inl same ↦ rw same (rw (get_or-set_same lists latch qs [] lt) (here same))
   | inr apart ↦ rw (get_or-set_other lists latch other qs [] apart) i
 ]
 
-not_own : (k id latch : ℕ) (t : StandingRequest) → latch ≡ t.latch → ((latch == t.latch) && ((id == t.request.id) && (k == t.request.caller))) ≡ false → not (is_own k id t.request) ≡ true
+not_own : (k id latch : ℕ) (t : StandingRequest) → latch ≡ t.latch
+    → ((latch == t.latch) && ((id == t.request.id) && (k == t.request.caller))) ≡ false → not (is_own k id t.request) ≡ true
 not_own k id latch t here none = grind arith
 
 not_purged : (requestor : ℕ) (q : Request) → (q.requestor == requestor) ≡ false → not (of_requestor requestor q) ≡ true
 not_purged requestor q none = ap (λ b. not b) none
 
-stays_step : (k place : ℕ) (op : LatchOp) (lists : List (List Request)) (t : StandingRequest) → NamesLatch op lists → takes_out t k Latches (op_on.Latch op) ≡ false
+stays_step : (k place : ℕ) (op : LatchOp) (lists : List (List Request)) (t : StandingRequest) → NamesLatch op lists
+    → takes_out t k Latches (op_on.Latch op) ≡ false
     → Contains (list_of lists t.latch) t.request → Contains (list_of (latch_step k place op lists).0 t.latch) t.request
 stays_step k place (Obtain latch requestor mode form) lists t lt none i =
     replaced t.request lists latch t.latch _ lt
-    (λ same. in_obtained t.request (record { id = place; caller = k; requestor = requestor; mode = mode; form = form }) (list_of lists latch) (subst (λ n. Contains (list_of lists n) t.request) same i)) i
+    (λ same. in_obtained t.request (record { id = place; caller = k; requestor = requestor; mode = mode; form = form })
+    (list_of lists latch) (subst (λ n. Contains (list_of lists n) t.request) same i)) i
 stays_step k place (Confirm latch id) lists t lt none i = i
 stays_step k place (Release latch id conditional) lists t lt none i =
     replaced t.request lists latch t.latch _ lt
-    (λ same. in_released t.request k id conditional (list_of lists latch) (not_own k id latch t (sym same) none) (subst (λ n. Contains (list_of lists n) t.request) same i)) i
+    (λ same. in_released t.request k id conditional (list_of lists latch) (not_own k id latch t (sym same) none)
+    (subst (λ n. Contains (list_of lists n) t.request) same i)) i
 stays_step k place (Purge requestor) lists t lt none i =
-    rw (get_or-map (purged requestor) lists t.latch []) (left_in (λ x. not (of_requestor requestor x)) t.request (list_of lists t.latch) (not_purged requestor t.request none) i)
+    rw (get_or-map (purged requestor) lists t.latch [])
+    (left_in (λ x. not (of_requestor requestor x)) t.request (list_of lists t.latch) (not_purged requestor t.request none) i)
 
-stays_moved : (c : Setup) (s : System) (k : ℕ) (o : Object) (p : ℕ) (op : Op) (r : Reply) (t : StandingRequest) → IsNext c s (entry_of k o p op r) → takes_out t k o op ≡ false
+stays_moved : (c : Setup) (s : System) (k : ℕ) (o : Object) (p : ℕ) (op : Op) (r : Reply) (t : StandingRequest)
+    → IsNext c s (entry_of k o p op r) → takes_out t k o op ≡ false
     → Contains (list_at s t.latch) t.request → Contains (list_at (moved s k o op) t.latch) t.request
-stays_moved c s k Latches p (op_on.Latch op) r t h none i = stays_step k s.latches.place op s.latches.state t (names_of c s k op h.admits) none i
+stays_moved c s k Latches p (op_on.Latch op) r t h none i = stays_step k s.latches.place op s.latches.state t
+    (names_of c s k op h.admits) none i
 stays_moved c s k (Ecb m) p (op_on.Ecb op) r t h none i = i
 stays_moved c s k (Element m) p (op_on.Element op) r t h none i = i
 stays_moved c s k (Volume m) p (op_on.Volume op) r t h none i = i
 stays_moved c s k o p op r t h none i = absurd (false≢true h.admits)
 
 -- it stays in its list
-pub stays_next : (c : Setup) (s : System) (e : Entry) (t : StandingRequest) → IsNext c s e → takes_out t e.caller e.object e.op ≡ false → Contains (list_at s t.latch) t.request → Contains (list_at (next s e) t.latch) t.request
+pub stays_next : (c : Setup) (s : System) (e : Entry) (t : StandingRequest) → IsNext c s e → takes_out t e.caller e.object e.op ≡ false
+    → Contains (list_at s t.latch) t.request → Contains (list_at (next s e) t.latch) t.request
 stays_next c s e t h none i = stays_moved c s e.caller e.object e.place e.op e.reply t h none i
 
-granted_moved : (c : Setup) (s : System) (k : ℕ) (o : Object) (p : ℕ) (op : Op) (r : Reply) (t : StandingRequest) → IsNext c s (entry_of k o p op r) → Contains (list_at (moved s k o op) t.latch) t.request
+granted_moved : (c : Setup) (s : System) (k : ℕ) (o : Object) (p : ℕ) (op : Op) (r : Reply) (t : StandingRequest)
+    → IsNext c s (entry_of k o p op r) → Contains (list_at (moved s k o op) t.latch) t.request
     → Contains (granted (list_at s t.latch)) t.request → Contains (granted (list_at (moved s k o op) t.latch)) t.request
 granted_moved c s k Latches p (op_on.Latch op) r t h i g =
-    stays_granted s.latches.place (list_at s t.latch) (list_of (latch_step k s.latches.place op s.latches.state).0 t.latch) t.request (latch_changes k s.latches.place op s.latches.state t.latch) g i
+    stays_granted s.latches.place (list_at s t.latch) (list_of (latch_step k s.latches.place op s.latches.state).0 t.latch) t.request
+    (latch_changes k s.latches.place op s.latches.state t.latch) g i
 granted_moved c s k (Ecb m) p (op_on.Ecb op) r t h i g = g
 granted_moved c s k (Element m) p (op_on.Element op) r t h i g = g
 granted_moved c s k (Volume m) p (op_on.Volume op) r t h i g = g
 granted_moved c s k o p op r t h i g = absurd (false≢true h.admits)
 
+pub granted_next : (c : Setup) (s : System) (e : Entry) (t : StandingRequest) → IsNext c s e
+    → Contains (list_at (next s e) t.latch) t.request
+    → Contains (granted (list_at s t.latch)) t.request → Contains (granted (list_at (next s e) t.latch)) t.request
+granted_next c s e t h i g = granted_moved c s e.caller e.object e.place e.op e.reply t h i g
+
 pub in_granted : (q : Request) (qs : List Request) → Contains (granted qs) q → Contains qs q
 in_granted q qs i = subst (λ rs. Contains rs q) (granted_split qs) (Contains-append_left (granted qs) (waiting qs) q i)
 
 -- ---- along a legal list
-pub requests_stay : (c : Setup) (xs ys : List Entry) (t : StandingRequest) → Legal c (xs ++ ys) → NoneTakesOut t ys → Contains (list_at (after c xs) t.latch) t.request → Contains (list_at (after c (xs ++ ys)) t.latch) t.request
+pub requests_stay : (c : Setup) (xs ys : List Entry) (t : StandingRequest) → Legal c (xs ++ ys) → NoneTakesOut t ys
+    → Contains (list_at (after c xs) t.latch) t.request → Contains (list_at (after c (xs ++ ys)) t.latch) t.request
 requests_stay c xs ys t l none i =
     at_end c (λ s. Contains (list_at s t.latch) t.request) xs ys
-    (along c (λ s. Contains (list_at s t.latch) t.request) (λ e. takes_out t e.caller e.object e.op ≡ false) (λ s e h n j. stays_next c s e t h n j) (after c xs) ys (rest_is_legal c xs ys l) none i)
+    (along c (λ s. Contains (list_at s t.latch) t.request) (λ e. takes_out t e.caller e.object e.op ≡ false)
+    (λ s e h n j. stays_next c s e t h n j) (after c xs) ys (rest_is_legal c xs ys l) none i)
 
 abbrev Holds : StandingRequest → System → Type 0
 Holds t s = Contains (list_at s t.latch) t.request × Contains (granted (list_at s t.latch)) t.request
@@ -118,5 +138,5 @@ pub granted_stays : (c : Setup) (xs ys : List Entry) (t : StandingRequest) → L
 granted_stays c xs ys t l none g =
     (at_end c (Holds t) xs ys
     (along c (Holds t) (λ e. takes_out t e.caller e.object e.op ≡ false)
-    (λ s e h n w. let j = stays_next c s e t h n w.0 in (j, granted_moved c s e.caller e.object e.place e.op e.reply t h j w.1))
+    (λ s e h n w. let j = stays_next c s e t h n w.0 in (j, granted_next c s e t h j w.1))
     (after c xs) ys (rest_is_legal c xs ys l) none (in_granted t.request (list_at (after c xs) t.latch) g, g))).1

@@ -1,5 +1,6 @@
 -- Lists of entries set one after the other, and an object's place.
-use Rattle.std.proofs.Common.{◌≡◌, ◌≤◌, true, false, ℕ, ◌+◌, List, [], ◌∷◌, ◌++◌, length, cond, inl, inr, refl, sym, arith, add-zero, append_assoc, append-nil}
+use Rattle.std.proofs.Common.{◌≡◌, ◌≤◌, ℕ, ◌+◌, List, [], ◌∷◌, ◌++◌, length, cond, inl, inr, refl, sym, arith, add-zero}
+use Rattle.std.proofs.Common.{append_assoc, append-nil}
 use Rattle.std.proofs.lemmas.List.Sums.{length-filter, count_by-le-length}
 use Rattle.std.proofs.lemmas.Bool.{eq-eqb, ne_eqb, cases_Bool, false≢true}
 use Rattle.mv_machine.specs.declared.entry.Object.{Object}
@@ -9,7 +10,7 @@ use Rattle.mv_machine.specs.declared.entry.Op.TheVariants as op_on
 use Rattle.mv_machine.specs.declared.entry.Reply.{Reply}
 use Rattle.mv_machine.specs.declared.entry.Entry.{Entry}
 use Rattle.mv_machine.specs.Setup.{Setup}
-use Rattle.mv_machine.specs.System.{System, admitted, after_step, place_of, moved, with_at}
+use Rattle.mv_machine.specs.System.{System, place_of, moved, with_at}
 use Rattle.mv_machine.specs.Legal.{IsNext, next, after_from, LegalFrom, same_object, «at»}
 
 pub after_from-append : (s : System) (xs ys : List Entry) → after_from s (xs ++ ys) ≡ after_from (after_from s xs) ys
@@ -24,7 +25,8 @@ pub LegalFrom-rest : (c : Setup) (s : System) (xs ys : List Entry) → LegalFrom
 LegalFrom-rest c s [] ys l = l
 LegalFrom-rest c s (x ∷ xs) ys l = LegalFrom-rest c (next s x) xs ys l.1
 
-pub LegalFrom-append : (c : Setup) (s : System) (xs ys : List Entry) → LegalFrom c s xs → LegalFrom c (after_from s xs) ys → LegalFrom c s (xs ++ ys)
+pub LegalFrom-append : (c : Setup) (s : System) (xs ys : List Entry) → LegalFrom c s xs → LegalFrom c (after_from s xs) ys
+    → LegalFrom c s (xs ++ ys)
 LegalFrom-append c s [] ys l m = m
 LegalFrom-append c s (x ∷ xs) ys l m = (l.0, LegalFrom-append c (next s x) xs ys l.1 m)
 
@@ -36,7 +38,9 @@ by_last {A} P base more xs = grow [] base xs where
   grow front p (x ∷ rest) = rw append_assoc at (grow (front ++ x ∷ []) (more front x p) rest)
 
 -- a place moves by one at its own object alone
-pub place-moved : (c : Setup) (s : System) (k : ℕ) (o : Object) (p : ℕ) (op : Op) (r : Reply) (q : Object) → IsNext c s (record { caller = k; object = o; place = p; op = op; reply = r }) → place_of (moved s k o op) q ≡ cond (same_object o q) (place_of s q + 1) (place_of s q)
+pub place-moved : (c : Setup) (s : System) (k : ℕ) (o : Object) (p : ℕ) (op : Op) (r : Reply) (q : Object)
+    → IsNext c s (record { caller = k; object = o; place = p; op = op; reply = r })
+    → place_of (moved s k o op) q ≡ cond (same_object o q) (place_of s q + 1) (place_of s q)
 place-moved c s k (Ecb n) p (op_on.Ecb op) r (Ecb m) h = grind arith
 place-moved c s k (Ecb n) p (op_on.Ecb op) r q h = refl
 place-moved c s k (Element n) p (op_on.Element op) r (Element m) h = grind arith
@@ -47,10 +51,12 @@ place-moved c s k Latches p (op_on.Latch op) r Latches h = refl
 place-moved c s k Latches p (op_on.Latch op) r q h = refl
 place-moved c s k o p op r q h = absurd (false≢true h.admits)
 
-pub place-after : (c : Setup) (s : System) (es : List Entry) (q : Object) → LegalFrom c s es → place_of (after_from s es) q ≡ place_of s q + length («at» q es)
+pub place-after : (c : Setup) (s : System) (es : List Entry) (q : Object) → LegalFrom c s es
+    → place_of (after_from s es) q ≡ place_of s q + length («at» q es)
 place-after c s [] q l = sym (add-zero (place_of s q))
 place-after c s (e ∷ es) q l =
-    let moves : place_of (next s e) q ≡ cond (same_object e.object q) (place_of s q + 1) (place_of s q) = place-moved c s e.caller e.object e.place e.op e.reply q l.0 in
+    let moves : place_of (next s e) q ≡ cond (same_object e.object q) (place_of s q + 1) (place_of s q) =
+    place-moved c s e.caller e.object e.place e.op e.reply q l.0 in
     let rest : place_of (after_from (next s e) es) q ≡ place_of (next s e) q + length («at» q es) = place-after c (next s e) es q l.1 in
     elim (cases_Bool (same_object e.object q)) [
       | inl y ↦ grind (arith, y, moves, rest)
@@ -64,19 +70,14 @@ with_at-same f n a k e = rw (eq-eqb k n e)
 pub with_at-other : {A : Type 0} (f : ℕ → A) (n : ℕ) (a : A) (k : ℕ) → (k ≡ n → ⊥) → with_at f n a k ≡ f k
 with_at-other f n a k e = rw (ne_eqb k n e)
 
--- a step raises a place by one at most
-pub place-moved-le : (s : System) (k : ℕ) (o : Object) (op : Op) (q : Object) → place_of (moved s k o op) q ≤ place_of s q + 1
-place-moved-le s k (Ecb n) (op_on.Ecb op) (Ecb m) = grind arith
-place-moved-le s k (Element n) (op_on.Element op) (Element m) = grind arith
-place-moved-le s k (Volume n) (op_on.Volume op) (Volume m) = grind arith
-place-moved-le s k Latches (op_on.Latch op) Latches = omega arith
-place-moved-le s k o op q = omega arith
-
-pub place-step : (c : Setup) (s : System) (k : ℕ) (o : Object) (op : Op) (q : Object) → place_of (after_step c s k o op) q ≤ place_of s q + 1
-place-step c s k o op q =
-    elim (admitted c s k o op) as (λ b. place_of (cond b (moved s k o op) s) q ≤ place_of s q + 1) [ true ↦ place-moved-le s k o op q | false ↦ omega arith ]
-
 -- a place is at most the number of all entries
-pub place_bounded : (c : Setup) (s : System) (es : List Entry) (o : Object) → LegalFrom c s es → place_of (after_from s es) o ≤ place_of s o + length es
+pub place_bounded : (c : Setup) (s : System) (es : List Entry) (o : Object) → LegalFrom c s es
+    → place_of (after_from s es) o ≤ place_of s o + length es
 place_bounded c s es o l =
-    omega (arith, place-after c s es o l, length-filter (λ e. same_object e.object o) es, count_by-le-length (λ e. same_object e.object o) es)
+    omega (
+      arith,
+      place-after c s es o l,
+      length-filter (λ e. same_object e.object o) es,
+      count_by-le-length
+          (λ e. same_object e.object o) es,
+    )

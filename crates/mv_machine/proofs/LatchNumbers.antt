@@ -1,5 +1,6 @@
 -- No two requests of the lists have one number.
-use Rattle.std.proofs.Common.{◌≡◌, ℕ, ◌+◌, ◌≤◌, Bool, true, false, not, List, [], ◌∷◌, ◌++◌, length, filter, set, cond, inl, inr, subst, arith}
+use Rattle.std.proofs.Common.{◌≡◌, ℕ, ◌+◌, ◌≤◌, Bool, true, false, not, List, [], ◌∷◌, ◌++◌, length, filter, set, cond, inl, inr}
+use Rattle.std.proofs.Common.{subst, arith}
 use Rattle.std.proofs.lemmas.Bool.{cases_eq, false≢true, ne_eqb}
 use Rattle.mv_latch.specs.declared.operation.LatchOp.{LatchOp}
 use Rattle.mv_latch.specs.declared.operation.LatchOp.TheVariants.{Obtain, Confirm, Release, Purge}
@@ -97,5 +98,6 @@ numbered c es l =
 pub numbers_differ : (c : Setup) (es : List Entry) (id : ℕ) → Legal c es → count_in (has_id id) (after c es).latches.state ≤ 1
 numbers_differ c es id l = (numbered c es l).differ id
 
-pub numbers_ahead_are_new : (c : Setup) (es : List Entry) (id : ℕ) → Legal c es → (after c es).latches.place ≤ id → IsNewId id (after c es).latches.state
+pub numbers_ahead_are_new : (c : Setup) (es : List Entry) (id : ℕ) → Legal c es → (after c es).latches.place ≤ id
+    → IsNewId id (after c es).latches.state
 numbers_ahead_are_new c es id l le = (numbered c es l).new id le

@@ -52,3 +52,4 @@ pub mod Uses
 pub mod Queues
 pub mod OwnBlocks
 pub mod LatchReplies
+pub mod Orderly

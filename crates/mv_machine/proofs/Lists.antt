@@ -1,6 +1,7 @@
 -- What holds of each element of a list, and of lists that are made of it.
-use Rattle.std.proofs.Common.{Bool, true, false, if◌then◌else◌, List, [], ◌∷◌, ◌++◌, filter}
-use Rattle.std.specs.List.{AllByRecursion}
+use Rattle.std.proofs.Common.{Bool, true, false, inl, inr, subst, if◌then◌else◌, List, [], ◌∷◌, ◌++◌, filter}
+use Rattle.std.specs.List.{AllByRecursion, Contains}
+use Rattle.mv_latch.proofs.Members.{not_in_empty, first_or_rest}
 
 pub all_append : {X : Type 0} (P : X → Type 0) (xs ys : List X) → AllByRecursion P xs → AllByRecursion P ys
     → AllByRecursion P (xs ++ ys)
@@ -20,3 +21,7 @@ all_filter P t (x ∷ xs) a = elim (t x) as (λ b. AllByRecursion P (if b then x
   | true ↦ (a.0, all_filter P t xs a.1)
   | false ↦ all_filter P t xs a.1
 ]
+
+pub all_at : {X : Type 0} (P : X → Type 0) (xs : List X) (x : X) → AllByRecursion P xs → Contains xs x → P x
+all_at P [] x a i = absurd (not_in_empty x i)
+all_at P (y ∷ ys) x a i = elim (first_or_rest y ys x i) [ inl e ↦ subst P e a.0 | inr j ↦ all_at P ys x a.1 j ]

@@ -1,5 +1,6 @@
 -- A history with one entry more, and what was had in it.
-use Rattle.std.proofs.Common.{◌≡◌, ℕ, ◌+◌, ◌<◌, ◌≤◌, ◌==◌, Bool, true, false, cond, List, [], ◌∷◌, ◌++◌, length, drop, Some, IsSome, refl, sym, ap, ◌∙◌, arith, le_refl, length-append, append_assoc}
+use Rattle.std.proofs.Common.{◌≡◌, ℕ, ◌+◌, ◌<◌, ◌≤◌, ◌==◌, Bool, true, false, cond, List, [], ◌∷◌, ◌++◌, length, drop, Some, IsSome}
+use Rattle.std.proofs.Common.{refl, sym, ap, ◌∙◌, arith, le_refl, length-append, append_assoc}
 use Rattle.std.proofs.lemmas.List.{take-append-le, drop-append-le, take_all, drop_all}
 use Rattle.std.proofs.lemmas.Bool.{false≢true}
 use Rattle.std.proofs.lemmas.List.Elements.{All-weaker, All-from_recursion}
@@ -34,7 +35,8 @@ last_is_next c es e l = (LegalFrom-rest c (opening c) es (e ∷ []) l).0
 pub front_is_legal : (c : Setup) (es : List Entry) (e : Entry) → Legal c (es ++ e ∷ []) → Legal c es
 front_is_legal c es e l = LegalFrom-front c (opening c) es (e ∷ []) l
 
-pub told_from-append : (s : System) (k : ℕ) (es fs : List Entry) → told_from s k (es ++ fs) ≡ told_from s k es ++ told_from (after_from s es) k fs
+pub told_from-append : (s : System) (k : ℕ) (es fs : List Entry)
+    → told_from s k (es ++ fs) ≡ told_from s k es ++ told_from (after_from s es) k fs
 told_from-append s k [] fs = refl
 told_from-append s k (e ∷ es) fs =
     ap (λ ws. told_at s k e.caller e.object e.op ++ ws) (told_from-append (next s e) k es fs)
@@ -49,13 +51,15 @@ from_longer o p (x ∷ xs) ys a b = (a.0, from_longer o p xs ys a.1 b)
 from_filter : (o : Object) (p : ℕ) (test : Entry → Bool) (e : Entry) → (e.object ≡ o → p ≤ e.place) → IsFrom o p (cond (test e) (e ∷ []) [])
 from_filter o p test e h = elim (test e) as (λ b. IsFrom o p (cond b (e ∷ []) [])) [ true ↦ (h, tt) | false ↦ tt ]
 
-pub had_longer : (c : Setup) (es : List Entry) (e : Entry) (k n w : ℕ) (o : Object) → Legal c (es ++ e ∷ []) → Had c es k n o w → Had c (es ++ e ∷ []) k n o w
+pub had_longer : (c : Setup) (es : List Entry) (e : Entry) (k n w : ℕ) (o : Object) → Legal c (es ++ e ∷ []) → Had c es k n o w
+    → Had c (es ++ e ∷ []) k n o w
 had_longer c es e k n w o l h =
     let at_more : «at» o (es ++ e ∷ []) ≡ «at» o es ++ «at» o (e ∷ []) = at-append o es (e ∷ []) in
     let of_more : of k (es ++ e ∷ []) ≡ of k es ++ of k (e ∷ []) = of-append k es (e ∷ []) in
     let later : e.object ≡ o → h.place ≤ e.place = (λ (same : e.object ≡ o).
     let next : IsNext c (after c es) e = last_is_next c es e l in
-    let count : place_of (after c es) e.object ≡ length («at» o es) = place_is_count c es e.object (front_is_legal c es e l) ∙ ap (λ q. length («at» q es)) same in
+    let count : place_of (after c es) e.object ≡ length («at» o es) = place_is_count c es e.object (front_is_legal c es e l)
+    ∙ ap (λ q. length («at» q es)) same in
     omega (arith, next.place, count, h.reached)) in
     record {
       place = h.place;
@@ -87,7 +91,8 @@ below_after_from : (c : Setup) (s : System) (o : Object) (es : List Entry) → L
 below_after_from c s o [] l = tt
 below_after_from c s o (e ∷ es) l = (
   (λ (same : e.object ≡ o).
-      let risen : place_of (next s e) o ≡ cond (same_object e.object o) (place_of s o + 1) (place_of s o) = place-moved c s e.caller e.object e.place e.op e.reply o l.0 in
+      let risen : place_of (next s e) o ≡ cond (same_object e.object o) (place_of s o + 1) (place_of s o) =
+      place-moved c s e.caller e.object e.place e.op e.reply o l.0 in
       let hit : same_object e.object o ≡ true = ap (λ q. same_object q o) same ∙ same_self o in
       let one : place_of (next s e) o ≡ place_of s o + 1 = risen ∙ ap (λ b. cond b (place_of s o + 1) (place_of s o)) hit in
       let here : e.place ≡ place_of s o = l.0.place ∙ ap (λ q. place_of s q) same in
@@ -99,7 +104,8 @@ pub below_after : (c : Setup) (es : List Entry) (o : Object) → Legal c es → 
 below_after c es o l = below_after_from c (opening c) o es l
 
 -- each entry is below its object's next place
-each_below : (next : Object → ℕ) (es : List Entry) → ((o : Object) → IsBelow o (next o) es) → AllByRecursion (λ e. e.place < next e.object) es
+each_below : (next : Object → ℕ) (es : List Entry) → ((o : Object) → IsBelow o (next o) es)
+    → AllByRecursion (λ e. e.place < next e.object) es
 each_below next [] below = tt
 each_below next (e ∷ es) below = ((below e.object).0 refl, each_below next es (λ o. (below o).1))
 
@@ -116,7 +122,8 @@ same_state_at (Element n) s t same = rw same refl
 same_state_at (Volume n) s t same = rw same refl
 same_state_at Latches s t same = refl
 
-had_state : (c : Setup) (es : List Entry) (k : ℕ) (o : Object) (x : WordState) → Legal c es → length es ≤ 524287 → state_at (after c es) o ≡ Some x
+had_state : (c : Setup) (es : List Entry) (k : ℕ) (o : Object) (x : WordState) → Legal c es → length es ≤ 524287
+    → state_at (after c es) o ≡ Some x
     → Had c es k (length (of k es)) o (word_at (after c es) o)
 had_state c es k o x l le is =
     let count : place_of (after c es) o ≡ length («at» o es) = place_is_count c es o l in
@@ -128,7 +135,8 @@ had_state c es k o x l le is =
       was = ap (λ xs. state_at (after c xs) o) (take_all (place_of (after c es) o) («at» o es) (omega arith))
           ∙ (sym (same_state_at o (after c es) (after c («at» o es)) (after_by_part c es o l)) ∙ is);
       made = le_refl (length (of k es));
-      behind = rw (take_all (length (of k es)) (of k es) (le_refl (length (of k es)))) (below_part o (place_of (after c es) o) k es (below_after c es o l));
+      behind = rw (take_all (length (of k es)) (of k es) (le_refl (length (of k es))))
+          (below_part o (place_of (after c es) o) k es (below_after c es o l));
       ahead = rw (drop_all (length (of k es)) (of k es) (le_refl (length (of k es)))) tt;
     }
 

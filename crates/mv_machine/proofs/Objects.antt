@@ -34,7 +34,8 @@ abbrev entry_of : ℕ → Object → ℕ → Op → Reply → Entry
 entry_of k o p op r = record { caller = k; object = o; place = p; op = op; reply = r }
 
 -- an entry looks at its own object alone
-next_there : (c : Setup) (s t : System) (k : ℕ) (o : Object) (p : ℕ) (op : Op) (r : Reply) → SameAt o s t → IsNext c s (entry_of k o p op r) → IsNext c t (entry_of k o p op r) × SameAt o (moved s k o op) (moved t k o op)
+next_there : (c : Setup) (s t : System) (k : ℕ) (o : Object) (p : ℕ) (op : Op) (r : Reply) → SameAt o s t → IsNext c s (entry_of k o p op r)
+    → IsNext c t (entry_of k o p op r) × SameAt o (moved s k o op) (moved t k o op)
 next_there c s t k (Ecb n) p (op_on.Ecb op) r same h = (
   record { admits = h.admits; place = rw (← same) h.place; reply = rw (← same) h.reply },
   with_at-same s.ecb n _ n refl ∙ ap (λ z. turned z (ecb_step op z.state).0) same ∙ sym (with_at-same t.ecb n _ n refl),
@@ -89,7 +90,8 @@ at_all_on o (e ∷ es) = go (same_object e.object o) refl (at_all_on o es) where
 moved_over : (c : Setup) (s t : System) (o : Object) (es : List Entry) → AllOn o es → SameAt o s t → LegalFrom c s es → LegalFrom c t es
 moved_over c s t o [] on same l = tt
 moved_over c s t o (e ∷ es) on same l =
-    let w : IsNext c t e × SameAt e.object (next s e) (next t e) = next_there c s t e.caller e.object e.place e.op e.reply (rw (on.0) same) l.0 in
+    let w : IsNext c t e × SameAt e.object (next s e) (next t e) = next_there c s t e.caller e.object e.place e.op e.reply
+    (rw (on.0) same) l.0 in
     (w.0, moved_over c (next s e) (next t e) o es on.1 (subst (λ q. SameAt q (next s e) (next t e)) on.0 w.1) l.1)
 
 -- each object's part of a legal list is legal
@@ -109,9 +111,11 @@ at_hit e o es h = rw h
 at_miss : (e : Entry) (o : Object) (es : List Entry) → same_object e.object o ≡ false → «at» o (e ∷ es) ≡ «at» o es
 at_miss e o es h = rw h
 
-rest_of_part : (c : Setup) (s : System) (e : Entry) (es : List Entry) → LegalParts c s (e ∷ es) → (o : Object) (b : Bool) → same_object e.object o ≡ b → LegalFrom c (next s e) («at» o es)
+rest_of_part : (c : Setup) (s : System) (e : Entry) (es : List Entry) → LegalParts c s (e ∷ es) → (o : Object) (b : Bool)
+    → same_object e.object o ≡ b → LegalFrom c (next s e) («at» o es)
 rest_of_part c s e es p o true h = (rw (at_hit e o es h) at (p o)).1
-rest_of_part c s e es p o false h = moved_over c s (next s e) o («at» o es) (at_all_on o es) (same_flip o (next s e) s (elsewhere s e.caller e.object e.op o h)) (rw (at_miss e o es h) at (p o))
+rest_of_part c s e es p o false h = moved_over c s (next s e) o («at» o es) (at_all_on o es)
+    (same_flip o (next s e) s (elsewhere s e.caller e.object e.op o h)) (rw (at_miss e o es h) at (p o))
 
 -- and a list is legal where each object's part is
 pub legal_from_parts : (c : Setup) (s : System) (es : List Entry) → LegalParts c s es → LegalFrom c s es
@@ -122,7 +126,8 @@ legal_from_parts c s (e ∷ es) p = (
 )
 
 -- so only the order at each object matters
-pub same_parts_legal : (c : Setup) (s : System) (es fs : List Entry) → ((o : Object) → «at» o es ≡ «at» o fs) → LegalFrom c s es → LegalFrom c s fs
+pub same_parts_legal : (c : Setup) (s : System) (es fs : List Entry) → ((o : Object) → «at» o es ≡ «at» o fs) → LegalFrom c s es
+    → LegalFrom c s fs
 same_parts_legal c s es fs same l = legal_from_parts c s fs (λ o. rw (same o) at (part_is_legal c s o es l))
 
 -- ---- what a caller was told goes by the latch set's own part
@@ -140,7 +145,11 @@ latches-same s t k o op same = same
 told-same : (s t : System) (me : ℕ) (es : List Entry) → s.latches ≡ t.latches → told_from s me es ≡ told_from t me es
 told-same s t me [] same = refl
 told-same s t me (e ∷ es) same =
-    rw (told_at-same s t me e.caller e.object e.op same, told-same (next s e) (next t e) me es (latches-same s t e.caller e.object e.op same)) refl
+    rw (
+      told_at-same s t me e.caller e.object e.op same,
+      told-same (next s e) (next t e) me es
+          (latches-same s t e.caller e.object e.op same),
+    ) refl
 
 none_told : (s : System) (me k : ℕ) (o : Object) (op : Op) → same_object o Latches ≡ false → told_at s me k o op ≡ []
 none_told s me k Latches op d = absurd (true≢false d)
@@ -149,9 +158,11 @@ none_told s me k o op d = refl
 pub told_by_part : (s : System) (me : ℕ) (es : List Entry) → told_from s me es ≡ told_from s me («at» Latches es)
 told_by_part s me [] = refl
 told_by_part s me (e ∷ es) = go (same_object e.object Latches) refl (told_by_part (next s e) me es) where
-  go : (b : Bool) → same_object e.object Latches ≡ b → told_from (next s e) me es ≡ told_from (next s e) me («at» Latches es) → told_from s me (e ∷ es) ≡ told_from s me (cond b (e ∷ «at» Latches es) («at» Latches es))
+  go : (b : Bool) → same_object e.object Latches ≡ b → told_from (next s e) me es ≡ told_from (next s e) me («at» Latches es)
+      → told_from s me (e ∷ es) ≡ told_from s me (cond b (e ∷ «at» Latches es) («at» Latches es))
   go true h ih = ap (λ ws. told_at s me e.caller e.object e.op ++ ws) ih
-  go false h ih = rw (none_told s me e.caller e.object e.op h) (ih ∙ told-same (next s e) s me («at» Latches es) (elsewhere s e.caller e.object e.op Latches h))
+  go false h ih = rw (none_told s me e.caller e.object e.op h)
+      (ih ∙ told-same (next s e) s me («at» Latches es) (elsewhere s e.caller e.object e.op Latches h))
 
 -- ---- where a list leads at an object, its part at that object leads
 pub same_trans : (o : Object) (s t v : System) → SameAt o s t → SameAt o t v → SameAt o s v
@@ -160,20 +171,25 @@ same_trans (Element n) s t v a b = a ∙ b
 same_trans (Volume n) s t v a b = a ∙ b
 same_trans Latches s t v a b = a ∙ b
 
-after_over : (c : Setup) (s t : System) (o : Object) (es : List Entry) → AllOn o es → SameAt o s t → LegalFrom c s es → SameAt o (after_from s es) (after_from t es)
+after_over : (c : Setup) (s t : System) (o : Object) (es : List Entry) → AllOn o es → SameAt o s t → LegalFrom c s es
+    → SameAt o (after_from s es) (after_from t es)
 after_over c s t o [] on same l = same
 after_over c s t o (e ∷ es) on same l =
-    let w : IsNext c t e × SameAt e.object (next s e) (next t e) = next_there c s t e.caller e.object e.place e.op e.reply (rw (on.0) same) l.0 in
+    let w : IsNext c t e × SameAt e.object (next s e) (next t e) = next_there c s t e.caller e.object e.place e.op e.reply
+    (rw (on.0) same) l.0 in
     after_over c (next s e) (next t e) o es on.1 (subst (λ q. SameAt q (next s e) (next t e)) on.0 w.1) l.1
 
-pub after_part : (c : Setup) (s : System) (o : Object) (es : List Entry) → LegalFrom c s es → SameAt o (after_from s es) (after_from s («at» o es))
+pub after_part : (c : Setup) (s : System) (o : Object) (es : List Entry) → LegalFrom c s es
+    → SameAt o (after_from s es) (after_from s («at» o es))
 after_part c s o [] l = same_refl o s
 after_part c s o (e ∷ es) l = go (same_object e.object o) refl (after_part c (next s e) o es l.1) where
-  go : (b : Bool) → same_object e.object o ≡ b → SameAt o (after_from (next s e) es) (after_from (next s e) («at» o es)) → SameAt o (after_from (next s e) es) (after_from s (cond b (e ∷ «at» o es) («at» o es)))
+  go : (b : Bool) → same_object e.object o ≡ b → SameAt o (after_from (next s e) es) (after_from (next s e) («at» o es))
+      → SameAt o (after_from (next s e) es) (after_from s (cond b (e ∷ «at» o es) («at» o es)))
   go true h ih = ih
   go false h ih =
       same_trans o (after_from (next s e) es) (after_from (next s e) («at» o es)) (after_from s («at» o es)) ih
-      (after_over c (next s e) s o («at» o es) (at_all_on o es) (elsewhere s e.caller e.object e.op o h) (part_is_legal c (next s e) o es l.1))
+      (after_over c (next s e) s o («at» o es) (at_all_on o es) (elsewhere s e.caller e.object e.op o h)
+      (part_is_legal c (next s e) o es l.1))
 
 -- ---- parts of appended lists, and the places in a part
 pub of-append : (k : ℕ) (xs ys : List Entry) → of k (xs ++ ys) ≡ of k xs ++ of k ys
@@ -185,10 +201,13 @@ at-append o xs ys = filter-append (λ e. same_object e.object o) xs ys
 pub at_counts : (c : Setup) (s : System) (o : Object) (es : List Entry) → LegalFrom c s es → CountsFrom (place_of s o) («at» o es)
 at_counts c s o [] l = tt
 at_counts c s o (e ∷ es) l = go (same_object e.object o) refl (at_counts c (next s e) o es l.1) where
-  go : (b : Bool) → same_object e.object o ≡ b → CountsFrom (place_of (next s e) o) («at» o es) → CountsFrom (place_of s o) (cond b (e ∷ «at» o es) («at» o es))
+  go : (b : Bool) → same_object e.object o ≡ b → CountsFrom (place_of (next s e) o) («at» o es)
+      → CountsFrom (place_of s o) (cond b (e ∷ «at» o es) («at» o es))
   go true h ih = (
     l.0.place ∙ ap (λ q. place_of s q) (same_is e.object o h),
-    subst (λ p. CountsFrom p («at» o es)) (place-moved c s e.caller e.object e.place e.op e.reply o l.0 ∙ ap (λ b. cond b (place_of s o + 1) (place_of s o)) h) ih,
+    subst (λ p. CountsFrom p («at» o es)) (place-moved c s e.caller e.object e.place e.op e.reply o l.0
+        ∙ ap (λ b. cond b (place_of s o + 1) (place_of s o)) h) ih,
   )
   go false h ih =
-      subst (λ p. CountsFrom p («at» o es)) (place-moved c s e.caller e.object e.place e.op e.reply o l.0 ∙ ap (λ b. cond b (place_of s o + 1) (place_of s o)) h) ih
+      subst (λ p. CountsFrom p («at» o es)) (place-moved c s e.caller e.object e.place e.op e.reply o l.0
+      ∙ ap (λ b. cond b (place_of s o + 1) (place_of s o)) h) ih

@@ -1,5 +1,6 @@
 -- Logs that are the callers' parts of one history within the budgets.
-use Rattle.std.proofs.Common.{◌≡◌, ℕ, zero, suc, ◌+◌, ◌-◌, ◌<◌, ◌≤◌, IsTrue, List, [], ◌∷◌, length, get_or, sum, sym, refl, ap, ◌∙◌, subst, arith, le_refl}
+use Rattle.std.proofs.Common.{◌≡◌, ℕ, zero, suc, ◌+◌, ◌-◌, ◌<◌, ◌≤◌, IsTrue, List, [], ◌∷◌, length, get_or, sum, sym, refl, ap, ◌∙◌}
+use Rattle.std.proofs.Common.{subst, arith, le_refl}
 use Rattle.std.proofs.lemmas.Bool.{false≢true}
 use Rattle.std.proofs.lemmas.List.Sums.{sum_by-cons}
 use Rattle.std.specs.List.{AllByRecursion}
@@ -60,7 +61,8 @@ object_there c s k Latches (op_on.Latch op) h = tt
 object_there c s k o op h = absurd (false≢true h)
 
 -- what holds of each object holds of each entry's
-pub on_objects : (c : Setup) (P : Object → Type 0) → ((o : Object) → IsObjectOf c o → P o) → (s : System) (es : List Entry) → LegalFrom c s es
+pub on_objects : (c : Setup) (P : Object → Type 0) → ((o : Object) → IsObjectOf c o → P o) → (s : System) (es : List Entry)
+    → LegalFrom c s es
     → AllByRecursion (λ e. P e.object) es
 on_objects c P all s [] l = tt
 on_objects c P all s (e ∷ es) l =

@@ -23,7 +23,8 @@ RunFrom table cell [] = Unit {0}
 RunFrom table cell (v ∷ vs) = IsTurn table cell v × RunFrom table (turn table cell v) vs
 
 module _ {O R S : Type 0} (table : Table O R S) where
-  pub cell_after-append : (cell : Cell S) (xs ys : List (Event O R)) → cell_after table cell (xs ++ ys) ≡ cell_after table (cell_after table cell xs) ys
+  pub cell_after-append : (cell : Cell S) (xs ys : List (Event O R))
+      → cell_after table cell (xs ++ ys) ≡ cell_after table (cell_after table cell xs) ys
   cell_after-append cell [] ys = refl
   cell_after-append cell (x ∷ xs) ys = cell_after-append (turn table cell x) xs ys
 
@@ -31,13 +32,15 @@ module _ {O R S : Type 0} (table : Table O R S) where
   RunFrom-front cell [] ys l = tt
   RunFrom-front cell (x ∷ xs) ys l = (l.0, RunFrom-front (turn table cell x) xs ys l.1)
 
-  pub RunFrom-rest : (cell : Cell S) (xs ys : List (Event O R)) → RunFrom table cell (xs ++ ys) → RunFrom table (cell_after table cell xs) ys
+  pub RunFrom-rest : (cell : Cell S) (xs ys : List (Event O R)) → RunFrom table cell (xs ++ ys)
+      → RunFrom table (cell_after table cell xs) ys
   RunFrom-rest cell [] ys l = l
   RunFrom-rest cell (x ∷ xs) ys l = RunFrom-rest (turn table cell x) xs ys l.1
 
   -- an invariant of a history and the state that it leads to
   pub along : (Inv : List (Event O R) → S → Type 0)
-      → ((past : List (Event O R)) (cell : Cell S) (v : Event O R) → IsTurn table cell v → Inv past cell.state → Inv (past ++ v ∷ []) (table v.caller v.place v.op cell.state).0)
+      → ((past : List (Event O R)) (cell : Cell S) (v : Event O R) → IsTurn table cell v → Inv past cell.state
+      → Inv (past ++ v ∷ []) (table v.caller v.place v.op cell.state).0)
       → (past : List (Event O R)) (cell : Cell S) → Inv past cell.state
       → (vs : List (Event O R)) → RunFrom table cell vs → Inv (past ++ vs) (cell_after table cell vs).state
   along Inv keeps past cell inv [] l = rw append-nil inv

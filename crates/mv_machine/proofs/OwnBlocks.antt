@@ -26,7 +26,8 @@ arm_says c n Waiting a e h idle plain = false≢true (sym idle ∙ h.0)
 arm_says c n (Extended y) a e h idle plain = false≢true (sym plain ∙ h.0)
 arm_says c n (Complete d) a e h idle plain = tt
 
-extend_says : (c : Setup) (n y : ℕ) (x : EcbState) (a e : Bool) → BlockAgrees c n x a e → a ≡ false → e ≡ false → IsArmReply (ecb_step (Extend y) x).1
+extend_says : (c : Setup) (n y : ℕ) (x : EcbState) (a e : Bool) → BlockAgrees c n x a e → a ≡ false → e ≡ false
+    → IsArmReply (ecb_step (Extend y) x).1
 extend_says c n y Zero a e h idle plain = tt
 extend_says c n y Waiting a e h idle plain = false≢true (sym idle ∙ h.0)
 extend_says c n y (Extended z) a e h idle plain = false≢true (sym plain ∙ h.0)
@@ -39,23 +40,32 @@ settle_says c n (Extended y) a e h plain = false≢true (sym plain ∙ h.0)
 settle_says c n (Complete d) a e h plain = tt
 
 -- the reply is so where it is so in each state that agrees with the caller's entries
-by_log : (c : Setup) (es : List Entry) (e : Entry) (n : ℕ) (op : EcbOp) (P : EcbReply → Type 0) → Legal c es → IsNext c (after c es) e → e.object ≡ Ecb n → e.op ≡ op_on.Ecb op → is_owners (op_on.Ecb op) ≡ true
-    → ((x : EcbState) → BlockAgrees c n x ((waits_from no_waits (of e.caller es)).armed n) ((kept_of e.caller (of e.caller es)).extended n) → P (ecb_step op x).1)
+by_log : (c : Setup) (es : List Entry) (e : Entry) (n : ℕ) (op : EcbOp) (P : EcbReply → Type 0) → Legal c es → IsNext c (after c es) e
+    → e.object ≡ Ecb n → e.op ≡ op_on.Ecb op → is_owners (op_on.Ecb op) ≡ true
+    → ((x : EcbState) → BlockAgrees c n x ((waits_from no_waits (of e.caller es)).armed n) ((kept_of e.caller (of e.caller es)).extended n)
+    → P (ecb_step op x).1)
     → OnEcb P e.reply
 by_log c es e n op P l h o is owners says =
-    let at : owner_at c e.object ≡ Some e.caller = made_by_owner c (after c es) e.caller e.object e.place e.op e.reply h (ap is_owners is ∙ owners) in
+    let at : owner_at c e.object ≡ Some e.caller = made_by_owner c (after c es) e.caller e.object e.place e.op e.reply h
+    (ap is_owners is ∙ owners) in
     let here : Some (owner_of c n) ≡ Some e.caller = sym (ap (owner_at c) o) ∙ at in
     let own : owner_of c n ≡ e.caller = cc in
     subst (OnEcb P) (sym (ecb_reply_is c (after c es) e n op h o is)) (says ((after c es).ecb n).state (block_agrees c n e.caller own es l))
 
-pub arm_reply : (c : Setup) (es : List Entry) (e : Entry) (n : ℕ) → Legal c es → IsNext c (after c es) e → e.object ≡ Ecb n → e.op ≡ op_on.Ecb Arm
-    → (waits_from no_waits (of e.caller es)).armed n ≡ false → (kept_of e.caller (of e.caller es)).extended n ≡ false → OnEcb IsArmReply e.reply
+pub arm_reply : (c : Setup) (es : List Entry) (e : Entry) (n : ℕ) → Legal c es → IsNext c (after c es) e → e.object ≡ Ecb n
+    → e.op ≡ op_on.Ecb Arm
+    → (waits_from no_waits (of e.caller es)).armed n ≡ false → (kept_of e.caller (of e.caller es)).extended n ≡ false
+    → OnEcb IsArmReply e.reply
 arm_reply c es e n l h o is idle plain = by_log c es e n Arm IsArmReply l h o is refl (λ x a. arm_says c n x _ _ a idle plain)
 
-pub extend_reply : (c : Setup) (es : List Entry) (e : Entry) (n exit : ℕ) → Legal c es → IsNext c (after c es) e → e.object ≡ Ecb n → e.op ≡ op_on.Ecb (Extend exit)
-    → (waits_from no_waits (of e.caller es)).armed n ≡ false → (kept_of e.caller (of e.caller es)).extended n ≡ false → OnEcb IsArmReply e.reply
-extend_reply c es e n exit l h o is idle plain = by_log c es e n (Extend exit) IsArmReply l h o is refl (λ x a. extend_says c n exit x _ _ a idle plain)
+pub extend_reply : (c : Setup) (es : List Entry) (e : Entry) (n exit : ℕ) → Legal c es → IsNext c (after c es) e → e.object ≡ Ecb n
+    → e.op ≡ op_on.Ecb (Extend exit)
+    → (waits_from no_waits (of e.caller es)).armed n ≡ false → (kept_of e.caller (of e.caller es)).extended n ≡ false
+    → OnEcb IsArmReply e.reply
+extend_reply c es e n exit l h o is idle plain = by_log c es e n (Extend exit) IsArmReply l h o is refl
+    (λ x a. extend_says c n exit x _ _ a idle plain)
 
-pub settle_reply : (c : Setup) (es : List Entry) (e : Entry) (n : ℕ) → Legal c es → IsNext c (after c es) e → e.object ≡ Ecb n → e.op ≡ op_on.Ecb Settle
+pub settle_reply : (c : Setup) (es : List Entry) (e : Entry) (n : ℕ) → Legal c es → IsNext c (after c es) e → e.object ≡ Ecb n
+    → e.op ≡ op_on.Ecb Settle
     → (kept_of e.caller (of e.caller es)).extended n ≡ false → OnEcb IsSettleReply e.reply
 settle_reply c es e n l h o is plain = by_log c es e n Settle IsSettleReply l h o is refl (λ x a. settle_says c n x _ _ a plain)

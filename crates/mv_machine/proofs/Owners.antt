@@ -1,5 +1,6 @@
 -- What another caller does keeps the owner's part.
-use Rattle.std.proofs.Common.{◌≡◌, ◌==◌, ◌&&◌, ◌⊎◌, ℕ, Bool, true, false, List, [], ◌∷◌, ◌++◌, Some, cond, inl, inr, refl, sym, ap, ◌∙◌, arith}
+use Rattle.std.proofs.Common.{◌≡◌, ◌==◌, ◌&&◌, ◌⊎◌, ℕ, Bool, true, false, List, [], ◌∷◌, ◌++◌, Some, cond, inl, inr, refl, sym, ap}
+use Rattle.std.proofs.Common.{◌∙◌, arith}
 use Rattle.std.specs.List.{AllByRecursion}
 use Rattle.std.proofs.lemmas.Bool.{cases_eq, cases_Bool, false≢true, eq-eqb, and_parts}
 use Rattle.mv_ecb.specs.declared.operation.EcbOp.{EcbOp}
@@ -168,7 +169,8 @@ free_before op z other is = grind arith
 released_next : (op : ElementOp) (z : ElementState) → is_owners (op_on.Element op) ≡ false → z.phase ≡ Released → (element_step op z).0 ≡ z
 released_next op z other is = grind arith
 
-prereleased_next : (op : ElementOp) (z : ElementState) → is_owners (op_on.Element op) ≡ false → z.phase ≡ Prereleased → (element_step op z).0 ≡ z
+prereleased_next : (op : ElementOp) (z : ElementState) → is_owners (op_on.Element op) ≡ false → z.phase ≡ Prereleased
+    → (element_step op z).0 ≡ z
 prereleased_next op z other is = grind arith
 
 -- ---- what the owner finds again
@@ -200,7 +202,8 @@ released_kept c xs ys n l none is =
     element_kept c n (λ y. y ≡ z)
     (λ x y other same. released_next x y other (ap (λ (w : ElementState). w.phase) same ∙ is) ∙ same) xs ys l none refl
 
-pub prereleased_kept : (c : Setup) (xs ys : List Entry) (n : ℕ) → Legal c (xs ++ ys) → HasNo is_owners (Element n) (of (element_owner c n) ys)
+pub prereleased_kept : (c : Setup) (xs ys : List Entry) (n : ℕ) → Legal c (xs ++ ys)
+    → HasNo is_owners (Element n) (of (element_owner c n) ys)
     → ((after c xs).element n).state.phase ≡ Prereleased → ((after c (xs ++ ys)).element n).state ≡ ((after c xs).element n).state
 prereleased_kept c xs ys n l none is =
     let z : ElementState = ((after c xs).element n).state in

@@ -10,14 +10,17 @@ use Rattle.mv_machine.specs.Packing.{pack, phase_number, state_bits, state_in, e
 fullword_back : (bits : ℕ) (s : WordState) → state_in (Ecb 0) bits ≡ Some s → state_bits s ≡ bits
 fullword_back bits s e = grind arith
 
-fields_back : (g p d : ℕ) (s : ElementState) → element_in g p d ≡ Some s → s.generation * 2 ^ 27 + phase_number s.phase * 2 ^ 24 + s.code ≡ g * 2 ^ 27 + p * 2 ^ 24 + d
+fields_back : (g p d : ℕ) (s : ElementState) → element_in g p d ≡ Some s
+    → s.generation * 2 ^ 27 + phase_number s.phase * 2 ^ 24 + s.code ≡ g * 2 ^ 27 + p * 2 ^ 24 + d
 fields_back g p d s e = grind arith
 
-element_bits_back : (bits : ℕ) (found : Option ElementState) (s : WordState) → element_in (bits / 2 ^ 27) (bits / 2 ^ 24 % 2 ^ 3) (bits % 2 ^ 24) ≡ found
+element_bits_back : (bits : ℕ) (found : Option ElementState) (s : WordState)
+    → element_in (bits / 2 ^ 27) (bits / 2 ^ 24 % 2 ^ 3) (bits % 2 ^ 24) ≡ found
     → option_map (λ t. state.Element t) found ≡ Some s → state_bits s ≡ bits
 element_bits_back bits None s is e = absurd (cc e)
 element_bits_back bits (Some t) s is e =
-    let h : t.generation * 2 ^ 27 + phase_number t.phase * 2 ^ 24 + t.code ≡ bits / 2 ^ 27 * 2 ^ 27 + bits / 2 ^ 24 % 2 ^ 3 * 2 ^ 24 + bits % 2 ^ 24 = fields_back _ _ _ t is in
+    let h : t.generation * 2 ^ 27 + phase_number t.phase * 2 ^ 24 + t.code ≡ bits / 2 ^ 27 * 2 ^ 27 + bits / 2 ^ 24 % 2 ^ 3 * 2 ^ 24 + bits
+    % 2 ^ 24 = fields_back _ _ _ t is in
     let same : state.Element t ≡ s = cc e in
     rw (← same) (omega arith)
 

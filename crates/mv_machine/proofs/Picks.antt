@@ -1,5 +1,6 @@
 -- The merge of the parts of a placed list has the same parts and the same entries at each object.
-use Rattle.std.proofs.Common.{◌≡◌, ℕ, zero, suc, ◌+◌, ◌<◌, ◌≤◌, ◌≢◌, List, [], ◌∷◌, length, Some, sym, refl, ap, ◌∙◌, subst, arith, eq-eqb, ne_eqb, le_refl}
+use Rattle.std.proofs.Common.{◌≡◌, ℕ, zero, suc, ◌+◌, ◌<◌, ◌≤◌, ◌≢◌, List, [], ◌∷◌, length, Some, sym, refl, ap, ◌∙◌, subst, arith}
+use Rattle.std.proofs.Common.{eq-eqb, ne_eqb, le_refl}
 use mathlib.Core.Logic.{dite}
 use native.Mathlib.Decide.{ℕ_discrete}
 use Rattle.mv_machine.specs.declared.entry.Entry.{Entry}
@@ -7,7 +8,8 @@ use Rattle.mv_machine.specs.declared.entry.Object.{Object}
 use Rattle.mv_machine.specs.Legal.{of, «at»}
 use Rattle.mv_machine.specs.Merge.{Places, risen, behind, pick, followed, merge_from}
 use Rattle.mv_machine.specs.Parts.{parts_from, parts}
-use Rattle.mv_machine.proofs.Places.{object_discrete, of_mine, of_other, at_mine, at_other, without, without_mine, without_other, of_without, of_without_other, Placed, MayBeFirst, may_be_first}
+use Rattle.mv_machine.proofs.Places.{object_discrete, of_mine, of_other, at_mine, at_other, without, without_mine, without_other}
+use Rattle.mv_machine.proofs.Places.{of_without, of_without_other, Placed, MayBeFirst, may_be_first}
 
 -- the callers behind k keep their parts where k loses an entry
 parts_skip : (n k from : ℕ) (es : List Entry) → k < from → parts_from from n (without k es) ≡ parts_from from n es

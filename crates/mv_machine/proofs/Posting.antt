@@ -1,5 +1,6 @@
 -- A post asks for no more events than its block's reach, and the posts of some wakes for no more than the reaches of their blocks.
-use Rattle.std.proofs.Common.{◌≡◌, ℕ, zero, suc, ◌+◌, ◌-◌, ◌<◌, ◌≤◌, ◌==◌, Bool, true, false, List, [], ◌∷◌, ◌++◌, length, map, cond, Option, Some, None, slice_get, ◌⊎◌, inl, inr, refl, sym, ap, ◌∙◌, subst, arith, length-append}
+use Rattle.std.proofs.Common.{◌≡◌, ℕ, zero, suc, ◌+◌, ◌-◌, ◌<◌, ◌≤◌, ◌==◌, Bool, true, false, List, [], ◌∷◌, ◌++◌, length, map, cond}
+use Rattle.std.proofs.Common.{Option, Some, None, slice_get, ◌⊎◌, inl, inr, refl, sym, ap, ◌∙◌, subst, arith, length-append}
 use Rattle.std.proofs.lemmas.Bool.{false≢true, and_parts}
 use Rattle.std.proofs.lemmas.Option.{some_pair_parts}
 use Rattle.mv_ecb.specs.declared.operation.EcbOp.{EcbOp}
@@ -24,14 +25,16 @@ use Rattle.mv_machine.proofs.Reaches.{all_lead_up, reach_is}
 use Rattle.mv_machine.specs.Exits.{NamesOwnExit, NameOwnExits}
 use Rattle.mv_machine.specs.calls.Keeping.{Kept}
 use Rattle.mv_machine.specs.Known.{BlockAgrees}
-use Rattle.mv_machine.specs.calls.Posts.{Posting, posting, targets_at, targets_of, posted_next, each_posted, post_within, post, wake_posted, wakes_posted}
+use Rattle.mv_machine.specs.calls.Posts.{Posting, posting, targets_at, targets_of, posted_next, each_posted, post_within, post}
+use Rattle.mv_machine.specs.calls.Posts.{wake_posted, wakes_posted}
 use Rattle.mv_machine.specs.calls.Posts as came
 use Rattle.mv_machine.specs.calls.Program.{Program, Do, Done, Early, Wrong, Heard, asks, Says, and_then, on_ecb}
 use Rattle.mv_machine.specs.Waking.{blocks_of}
 use Rattle.mv_machine.proofs.Blocks.{block_agrees}
 
 -- ---- a reply of the machine names an exit of its block
-shown : (c : Setup) (n : ℕ) (op : EcbOp) (x : EcbState) (a e : Bool) → BlockAgrees c n x a e → NamesOwnExit c (Ecb n) (reply_of.Ecb (ecb_step op x).1)
+shown : (c : Setup) (n : ℕ) (op : EcbOp) (x : EcbState) (a e : Bool) → BlockAgrees c n x a e
+    → NamesOwnExit c (Ecb n) (reply_of.Ecb (ecb_step op x).1)
 shown c n Arm Zero a e h = tt
 shown c n Arm Waiting a e h = tt
 shown c n Arm (Extended y) a e h = tt
@@ -52,7 +55,8 @@ shown c n (Post d) (Extended (suc y)) a e h = h.1
 shown c n (Post d) (Complete g) a e h = tt
 shown c n Test x a e h = tt
 
-own_exit : (c : Setup) (es : List Entry) (k : ℕ) (o : Object) (p : ℕ) (op : Op) (r : Reply) → Legal c es → IsNext c (after c es) (entry_of k o p op r) → NamesOwnExit c o r
+own_exit : (c : Setup) (es : List Entry) (k : ℕ) (o : Object) (p : ℕ) (op : Op) (r : Reply) → Legal c es
+    → IsNext c (after c es) (entry_of k o p op r) → NamesOwnExit c o r
 own_exit c es k (Ecb n) p (op_on.Ecb op) r l h =
     let is : r ≡ reply_of.Ecb (ecb_step op ((after c es).ecb n).state).1 = (let q = h.reply in cc) in
     subst (NamesOwnExit c (Ecb n)) (sym is) (shown c n op ((after c es).ecb n).state _ _ (block_agrees c n (owner_of c n) refl es l))
@@ -78,7 +82,15 @@ parts (Done a) f hs s = inr (record { front = []; rest = hs; answer = a; whole =
 parts (Do o op next) f [] s = inl tt
 parts (Do o op next) f (h ∷ hs) s = elim (parts (next h) f hs s.1) [
   | inl all ↦ inl (s.0, all)
-  | inr r ↦ inr (record { front = h ∷ r.front; rest = r.rest; answer = r.answer; whole = ap (λ zs. h ∷ zs) r.whole; says = (s.0, r.says); says_rest = r.says_rest })
+  | inr r ↦ inr (record {
+    front = h ∷ r.front;
+    rest = r.rest;
+    answer = r.answer;
+    whole = ap (λ zs. h ∷ zs) r.whole;
+    says =
+        (s.0, r.says);
+    says_rest = r.says_rest;
+  })
 ]
 parts Early f [] s = inl tt
 parts Early f (h ∷ hs) s = absurd (cc s.0)
@@ -97,13 +109,20 @@ rest_names : (c : Setup) (xs ys : List Heard) → NameOwnExits c (xs ++ ys) → 
 rest_names c [] ys n = n
 rest_names c (x ∷ xs) ys n = rest_names c xs ys n.1
 
-both_ask : {A B : Type 0} (c : Setup) (m n : ℕ) (p : Program A) (f : A → Program B) → AsksAtMost c m p → ((a : A) → AsksAtMost c n (f a)) → AsksAtMost c (m + n) (and_then p f)
+both_ask : {A B : Type 0} (c : Setup) (m n : ℕ) (p : Program A) (f : A → Program B) → AsksAtMost c m p → ((a : A) → AsksAtMost c n (f a))
+    → AsksAtMost c (m + n) (and_then p f)
 both_ask c m n p f first later hs names s = elim (parts p f hs s) [
   | inl all ↦ omega (arith, first hs names all)
   | inr r ↦
       let names_both : NameOwnExits c (r.front ++ r.rest) = subst (NameOwnExits c) r.whole names in
       let sum : length hs ≡ length r.front + length r.rest = ap (λ (zs : List Heard). length zs) r.whole ∙ length-append r.front r.rest in
-      omega (arith, sum, first r.front (front_names c r.front r.rest names_both) r.says, later r.answer r.rest (rest_names c r.front r.rest names_both) r.says_rest)
+      omega (
+        arith,
+        sum,
+        first r.front (front_names c r.front r.rest names_both) r.says,
+        later r.answer r.rest
+            (rest_names c r.front r.rest names_both) r.says_rest,
+      )
 ]
 
 done_asks : {A : Type 0} (c : Setup) (a : A) → AsksAtMost c 0 (Done a)
@@ -115,37 +134,45 @@ wrong_asks A c [] names s = omega arith
 wrong_asks A c (h ∷ hs) names s = absurd (cc s.0)
 
 -- ---- posts one after the other
-each_asks : (c : Setup) (cost : ℕ → ℕ) (one : ℕ → Program Posting) → ((e : ℕ) → cost e ≤ 524287 → AsksAtMost c (cost e) (one e)) → (es : List ℕ) (answer : Posting) → total cost es ≤ 524287
+each_asks : (c : Setup) (cost : ℕ → ℕ) (one : ℕ → Program Posting) → ((e : ℕ) → cost e ≤ 524287 → AsksAtMost c (cost e) (one e))
+    → (es : List ℕ) (answer : Posting) → total cost es ≤ 524287
     → AsksAtMost c (total cost es) (each_posted one es answer)
 each_asks c cost one each [] answer le = done_asks c answer
 each_asks c cost one each (e ∷ es) answer le =
-    both_ask c (cost e) (total cost es) (one e) (λ p. each_posted one es answer) (each e (omega arith)) (λ p. each_asks c cost one each es answer (omega arith))
+    both_ask c (cost e) (total cost es) (one e) (λ p. each_posted one es answer) (each e (omega arith))
+    (λ p. each_asks c cost one each es answer (omega arith))
 
 -- ---- a block's exits
-greatest_more : (F : SetupExit → ℕ) (e n : ℕ) (y : SetupExit) (xs : List SetupExit) (b : Bool) → n ≤ greatest (map F (exits_of e xs)) → n ≤ greatest (map F (cond b (y ∷ exits_of e xs) (exits_of e xs)))
+greatest_more : (F : SetupExit → ℕ) (e n : ℕ) (y : SetupExit) (xs : List SetupExit) (b : Bool) → n ≤ greatest (map F (exits_of e xs))
+    → n ≤ greatest (map F (cond b (y ∷ exits_of e xs) (exits_of e xs)))
 greatest_more F e n y xs true le = omega arith
 greatest_more F e n y xs false le = le
 
-greatest_here : (F : SetupExit → ℕ) (e : ℕ) (y : SetupExit) (xs : List SetupExit) (b : Bool) → b ≡ true → F y ≤ greatest (map F (cond b (y ∷ exits_of e xs) (exits_of e xs)))
+greatest_here : (F : SetupExit → ℕ) (e : ℕ) (y : SetupExit) (xs : List SetupExit) (b : Bool) → b ≡ true
+    → F y ≤ greatest (map F (cond b (y ∷ exits_of e xs) (exits_of e xs)))
 greatest_here F e y xs true is = omega arith
 greatest_here F e y xs false is = absurd (false≢true is)
 
-greatest_member : (F : SetupExit → ℕ) (e : ℕ) (xs : List SetupExit) (i : ℕ) (x : SetupExit) → slice_get xs i ≡ Some x → (x.source == e) ≡ true
+greatest_member : (F : SetupExit → ℕ) (e : ℕ) (xs : List SetupExit) (i : ℕ) (x : SetupExit) → slice_get xs i ≡ Some x
+    → (x.source == e) ≡ true
     → F x ≤ greatest (map F (exits_of e xs))
 greatest_member F e [] i x at is = absurd (cc at)
 greatest_member F e (y ∷ xs) zero x at is =
     let same : y ≡ x = cc at in
-    subst (λ z. F z ≤ greatest (map F (exits_of e (y ∷ xs)))) same (greatest_here F e y xs (y.source == e) (ap (λ (z : SetupExit). z.source == e) same ∙ is))
+    subst (λ z. F z ≤ greatest (map F (exits_of e (y ∷ xs)))) same
+    (greatest_here F e y xs (y.source == e) (ap (λ (z : SetupExit). z.source == e) same ∙ is))
 greatest_member F e (y ∷ xs) (suc i) x at is = greatest_more F e (F x) y xs (y.source == e) (greatest_member F e xs i x at is)
 
 starts : (e : ℕ) (o : Option SetupExit) → starts_from e o ≡ true → (x : SetupExit) × (o ≡ Some x) × ((x.source == e) ≡ true)
 starts e None s = absurd (false≢true s)
 starts e (Some x) s = (x, refl, s)
 
-exit_costs : (c : Setup) (cost : ℕ → ℕ) (e x : ℕ) → is_exit_of c (suc x) e ≡ true → total cost (targets_of c (suc x)) ≤ greatest (map (λ (y : SetupExit). total cost y.targets) (exits_of e c.exits))
+exit_costs : (c : Setup) (cost : ℕ → ℕ) (e x : ℕ) → is_exit_of c (suc x) e ≡ true
+    → total cost (targets_of c (suc x)) ≤ greatest (map (λ (y : SetupExit). total cost y.targets) (exits_of e c.exits))
 exit_costs c cost e x is =
     let minus : suc x - 1 ≡ x = omega arith in
-    let from : starts_from e (slice_get c.exits x) ≡ true = subst (λ i. starts_from e (slice_get c.exits i) ≡ true) minus (and_parts _ _ is).1 in
+    let from : starts_from e (slice_get c.exits x) ≡ true = subst (λ i. starts_from e (slice_get c.exits i) ≡ true) minus
+    (and_parts _ _ is).1 in
     let s = starts e (slice_get c.exits x) from in
     subst (λ o. total cost (targets_at o) ≤ greatest (map (λ (y : SetupExit). total cost y.targets) (exits_of e c.exits))) (sym s.1)
     (greatest_member (λ (y : SetupExit). total cost y.targets) e c.exits x s.0 s.1 s.2)
@@ -160,11 +187,19 @@ module _ (c : Setup) (code : ℕ) where
   none_follow : {A : Type 0} (most : ℕ) (p : Program A) → AsksAtMost c 0 p → AsksAtMost c most p
   none_follow most p h hs names s = omega (arith, h hs names s)
 
-  follows : (depth e : ℕ) (r : Reply) → ((t : ℕ) → reach_within depth c t ≤ 524287 → AsksAtMost c (reach_within depth c t) (post_within depth c code t)) → NamesOwnExit c (Ecb e) r
+  follows : (depth e : ℕ) (r : Reply) → ((t : ℕ) → reach_within depth c t ≤ 524287
+      → AsksAtMost c (reach_within depth c t) (post_within depth c code t)) → NamesOwnExit c (Ecb e) r
       → greatest (map (λ (y : SetupExit). total (reach_within depth c) y.targets) (exits_of e c.exits)) ≤ 524287 → Follows depth e r
   follows depth e (reply_of.Ecb (ecb_reply.Woke (suc x))) each own le hs names s =
-      let costs : total (reach_within depth c) (targets_of c (suc x)) ≤ greatest (map (λ (y : SetupExit). total (reach_within depth c) y.targets) (exits_of e c.exits)) = exit_costs c (reach_within depth c) e x own in
-      omega (arith, costs, each_asks c (reach_within depth c) (post_within depth c code) each (targets_of c (suc x)) (came.Woke (suc x)) (omega arith) hs names s)
+      let costs : total (reach_within depth c) (targets_of c (suc x)) ≤ greatest
+      (map (λ (y : SetupExit). total (reach_within depth c) y.targets) (exits_of e c.exits)) =
+      exit_costs c (reach_within depth c) e x own in
+      omega (
+        arith,
+        costs,
+        each_asks c (reach_within depth c) (post_within depth c code) each (targets_of c (suc x)) (came.Woke (suc x))
+            (omega arith) hs names s,
+      )
   follows depth e (reply_of.Ecb (ecb_reply.Woke zero)) each own le hs names s = none_follow _ _ (done_asks c (came.Woke zero)) hs names s
   follows depth e (reply_of.Ecb ecb_reply.Posted) each own le hs names s = none_follow _ _ (done_asks c came.Posted) hs names s
   follows depth e (reply_of.Ecb (ecb_reply.Already d)) each own le hs names s = none_follow _ _ (done_asks c (came.Already d)) hs names s
@@ -185,26 +220,31 @@ module _ (c : Setup) (code : ℕ) where
   within_asks (suc depth) e le (h ∷ hs) names s =
       let there : Ecb e ≡ h.entry.object = object_is e h.entry.object h.entry.op (op_on.Ecb (Post code)) s.0 in
       let rest : length hs ≤ greatest (map (λ (y : SetupExit). total (reach_within depth c) y.targets) (exits_of e c.exits)) =
-      follows depth e h.entry.reply (within_asks depth) (subst (λ o. NamesOwnExit c o h.entry.reply) (sym there) names.0) (omega arith) hs names.1 s.1 in
+      follows depth e h.entry.reply (within_asks depth) (subst (λ o. NamesOwnExit c o h.entry.reply) (sym there) names.0)
+      (omega arith) hs names.1 s.1 in
       omega (arith, rest, le)
 
   pub post_asks : (e : ℕ) (kept : Kept) → reach c e ≤ 524287 → AsksAtMost c (reach c e) (post c e code kept)
   post_asks e kept le = within_asks (length c.owners) e le
 
 -- ---- the posts of some wakes
-pub wakes_ask : {A : Type 0} (c : Setup) (ws : List Wake) (kept : Kept) (last : Program A) (most : ℕ) → AsksAtMost c most last → total (reach c) (blocks_of ws) ≤ 524287
+pub wakes_ask : {A : Type 0} (c : Setup) (ws : List Wake) (kept : Kept) (last : Program A) (most : ℕ) → AsksAtMost c most last
+    → total (reach c) (blocks_of ws) ≤ 524287
     → AsksAtMost c (total (reach c) (blocks_of ws) + most) (wakes_posted c ws kept last)
 wakes_ask c [] kept last most asks le = λ hs names s. omega (arith, asks hs names s)
 wakes_ask c (w ∷ ws) kept last most asks le = go w.ecb le (wakes_ask c ws kept last most asks) where
   go : (e : Option ℕ) → total (reach c) (blocks_of (record w { ecb = e } ∷ ws)) ≤ 524287
       → (total (reach c) (blocks_of ws) ≤ 524287 → AsksAtMost c (total (reach c) (blocks_of ws) + most) (wakes_posted c ws kept last))
-      → AsksAtMost c (total (reach c) (blocks_of (record w { ecb = e } ∷ ws)) + most) (wake_posted c e w.code kept (wakes_posted c ws kept last))
+      → AsksAtMost c (total (reach c) (blocks_of (record w { ecb = e } ∷ ws)) + most)
+      (wake_posted c e w.code kept (wakes_posted c ws kept last))
   go None low rest = rest low
   go (Some e) low rest =
-      λ hs names s. let all = both_ask c (reach c e) (total (reach c) (blocks_of ws) + most) (post c e w.code kept) (λ p. wakes_posted c ws kept last) (post_asks c w.code e kept (omega arith)) (λ p. rest (omega arith)) hs names s in
+      λ hs names s. let all = both_ask c (reach c e) (total (reach c) (blocks_of ws) + most) (post c e w.code kept)
+      (λ p. wakes_posted c ws kept last) (post_asks c w.code e kept (omega arith)) (λ p. rest (omega arith)) hs names s in
       omega (arith, all)
 
 -- the reaches of an exit's targets add up to less than that of its block
-pub targets_add_up : (c : Setup) (e x : ℕ) → IsValid c → e < length c.owners → is_exit_of c (suc x) e ≡ true → reach c e ≤ 524287 → total (reach c) (targets_of c (suc x)) + 1 ≤ reach c e
+pub targets_add_up : (c : Setup) (e x : ℕ) → IsValid c → e < length c.owners → is_exit_of c (suc x) e ≡ true → reach c e ≤ 524287
+    → total (reach c) (targets_of c (suc x)) + 1 ≤ reach c e
 targets_add_up c e x valid there own exact =
     omega (arith, exit_costs c (reach c) e x own, reach_is c (all_lead_up c valid) e there, exact)

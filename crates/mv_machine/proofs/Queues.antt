@@ -1,5 +1,6 @@
 -- A request of the Waiting form that stands and waits was queued and is not yet confirmed.
-use Rattle.std.proofs.Common.{◌≡◌, ◌⊎◌, ℕ, ◌<◌, ◌==◌, Bool, true, false, not, ◌&&◌, List, [], ◌∷◌, ◌++◌, length, set, cond, inl, inr, refl, sym, ap, ◌∙◌, subst, arith, append-nil}
+use Rattle.std.proofs.Common.{◌≡◌, ◌⊎◌, ℕ, ◌<◌, ◌==◌, Bool, true, false, not, ◌&&◌, List, [], ◌∷◌, ◌++◌, length, set, cond, inl, inr}
+use Rattle.std.proofs.Common.{refl, sym, ap, ◌∙◌, subst, arith, append-nil}
 use Rattle.std.specs.List.{AllByRecursion, Contains, list_any, list_all}
 use Rattle.std.proofs.lemmas.Bool.{cases_eq, cases_Bool, false≢true, true≢false, eqb-true, eq-eqb, ne_eqb, and_parts}
 use Rattle.std.proofs.lemmas.List.{get_or-set_same}
@@ -58,7 +59,8 @@ set_true f latch id m j is = elim (cases_eq m latch) [
 set_here : (f : Table) (latch id : ℕ) → with_at f latch (with_at (f latch) id true) latch id ≡ true
 set_here f latch id = rw (eq-eqb latch latch refl, eq-eqb id id refl) refl
 
-set_other : (f : Table) (latch id m j : ℕ) → ((latch == m) && (id == j)) ≡ false → f m j ≡ true → with_at f latch (with_at (f latch) id false) m j ≡ true
+set_other : (f : Table) (latch id m j : ℕ) → ((latch == m) && (id == j)) ≡ false → f m j ≡ true
+    → with_at f latch (with_at (f latch) id false) m j ≡ true
 set_other f latch id m j apart is = elim (cases_eq m latch) [
   | inl here ↦ elim (cases_eq j id) [
     | inl too ↦ absurd (true≢false (sym (rw (eq-eqb latch m (sym here), eq-eqb id j (sym too)) refl) ∙ apart))
@@ -68,16 +70,23 @@ set_other f latch id m j apart is = elim (cases_eq m latch) [
 ]
 
 -- ---- who is granted at once
-all_shared : (qs : List Request) (r : Request) → list_all shared_request qs ≡ true → shared_request r ≡ true → shared_front (qs ++ r ∷ []) ≡ qs ++ r ∷ []
+all_shared : (qs : List Request) (r : Request) → list_all shared_request qs ≡ true → shared_request r ≡ true
+    → shared_front (qs ++ r ∷ []) ≡ qs ++ r ∷ []
 all_shared [] r a is = ap (λ b. cond b (r ∷ []) []) is
-all_shared (q ∷ qs) r a is = let first : shared_request q ≡ true = (and_parts _ _ a).0 in rw first (ap (λ z. q ∷ z) (all_shared qs r (and_parts _ _ a).1 is))
+all_shared (q ∷ qs) r a is = let first : shared_request q ≡ true = (and_parts _ _ a).0 in
+    rw first (ap (λ z. q ∷ z) (all_shared qs r (and_parts _ _ a).1 is))
 
 granted_at_once : (qs : List Request) (r : Request) → grants qs r ≡ true → Contains (granted (qs ++ r ∷ [])) r
-granted_at_once [] r g = elim (shared_request r) as (λ b. Contains (cond b (cond b (r ∷ []) []) (r ∷ [])) r) [ true ↦ first_is_in r [] r refl | false ↦ first_is_in r [] r refl ]
+granted_at_once [] r g = elim (shared_request r) as (λ b. Contains (cond b (cond b (r ∷ []) []) (r ∷ [])) r) [
+  | true ↦
+      first_is_in r [] r refl
+  | false ↦ first_is_in r [] r refl
+]
 granted_at_once (q ∷ qs) r g =
     let all : list_all shared_request (q ∷ qs) ≡ true = (and_parts _ _ g).1 in
     let first : shared_request q ≡ true = (and_parts _ _ all).0 in
-    let whole : granted ((q ∷ qs) ++ r ∷ []) ≡ (q ∷ qs) ++ r ∷ [] = rw first (ap (λ z. q ∷ z) (all_shared qs r (and_parts _ _ all).1 (and_parts _ _ g).0)) in
+    let whole : granted ((q ∷ qs) ++ r ∷ []) ≡ (q ∷ qs) ++ r ∷ [] =
+    rw first (ap (λ z. q ∷ z) (all_shared qs r (and_parts _ _ all).1 (and_parts _ _ g).0)) in
     subst (λ rs. Contains rs r) (sym whole) (Contains-push (q ∷ qs) r)
 
 -- ---- one event of the latch set
@@ -89,7 +98,8 @@ came_from place old new q (grew r is e) lt i = elim (Contains-push_cases old r q
 ]
 came_from place old new q (shrank p e) lt i = was_in p q old (rw e at i)
 
-still : (A B : Type 0) (place : ℕ) (old new : List Request) (q : Request) → Changed place old new → q.id < place → (Contains old q → A ⊎ Contains (granted old) q) → (A → B) → Contains new q → B ⊎ Contains (granted new) q
+still : (A B : Type 0) (place : ℕ) (old new : List Request) (q : Request) → Changed place old new → q.id < place
+    → (Contains old q → A ⊎ Contains (granted old) q) → (A → B) → Contains new q → B ⊎ Contains (granted new) q
 still A B place old new q changed lt ih f i = elim (ih (came_from place old new q changed lt i)) [
   | inl a ↦ inl (f a)
   | inr g ↦ inr (stays_granted place old new q changed g i)
@@ -99,34 +109,44 @@ module _ (k place : ℕ) (lists : List (List Request)) (ts : List StandingReques
     (waits : t.request.form ≡ form_of.Waiting)
     (early : Contains ts t → t.request.id < place)
     (unique : (q : Request) → Contains ts t → Contains (list_of lists t.latch) q → is_own k t.request.id q ≡ true → q ≡ t.request)
-    (ih : Contains ts t → Contains (list_of lists t.latch) t.request → (queued t.latch t.request.id ≡ true) ⊎ Contains (granted (list_of lists t.latch)) t.request) where
+    (ih : Contains ts t → Contains (list_of lists t.latch) t.request → (queued t.latch t.request.id ≡ true)
+    ⊎ Contains (granted (list_of lists t.latch)) t.request) where
   abbrev Waits : Table → List (List Request) → Type 0
   Waits f ls = (f t.latch t.request.id ≡ true) ⊎ Contains (granted (list_of ls t.latch)) t.request
 
   -- the request stood before
-  old_one : (op : LatchOp) (f : Table) → (queued t.latch t.request.id ≡ true → f t.latch t.request.id ≡ true) → Contains ts t → Contains (list_of (latch_step k place op lists).0 t.latch) t.request → Waits f (latch_step k place op lists).0
+  old_one : (op : LatchOp) (f : Table) → (queued t.latch t.request.id ≡ true → f t.latch t.request.id ≡ true) → Contains ts t
+      → Contains (list_of (latch_step k place op lists).0 t.latch) t.request → Waits f (latch_step k place op lists).0
   old_one op f keeps i j =
-      still (queued t.latch t.request.id ≡ true) (f t.latch t.request.id ≡ true) place (list_of lists t.latch) (list_of (latch_step k place op lists).0 t.latch) t.request (latch_changes k place op lists t.latch) (early i) (ih i) keeps j
+      still (queued t.latch t.request.id ≡ true) (f t.latch t.request.id ≡ true) place (list_of lists t.latch)
+      (list_of (latch_step k place op lists).0 t.latch) t.request (latch_changes k place op lists t.latch) (early i) (ih i) keeps j
 
-  pushed_granted : (latch : ℕ) (r : Request) (f : Table) → latch < length lists → grants (list_of lists latch) r ≡ true → stood latch r ≡ t → Waits f (set lists latch (list_of lists latch ++ r ∷ []))
+  pushed_granted : (latch : ℕ) (r : Request) (f : Table) → latch < length lists → grants (list_of lists latch) r ≡ true → stood latch r ≡ t
+      → Waits f (set lists latch (list_of lists latch ++ r ∷ []))
   pushed_granted latch r f lt g new =
-      subst (λ (u : StandingRequest). (f u.latch u.request.id ≡ true) ⊎ Contains (granted (list_of (set lists latch (list_of lists latch ++ r ∷ [])) u.latch)) u.request) new
+      subst (λ (u : StandingRequest). (f u.latch u.request.id ≡ true)
+      ⊎ Contains (granted (list_of (set lists latch (list_of lists latch ++ r ∷ [])) u.latch)) u.request) new
       (inr (rw (get_or-set_same lists latch (list_of lists latch ++ r ∷ []) [] lt) (granted_at_once (list_of lists latch) r g)))
 
-  queued_flag : (latch requestor id : ℕ) (mode : Mode) (form : LatchForm) → (queued t.latch t.request.id ≡ true → queued_after queued (Obtain latch requestor mode form) (Queued id) t.latch t.request.id ≡ true)
+  queued_flag : (latch requestor id : ℕ) (mode : Mode) (form : LatchForm)
+      → (queued t.latch t.request.id ≡ true → queued_after queued (Obtain latch requestor mode form)
+      (Queued id) t.latch t.request.id ≡ true)
   queued_flag latch requestor id mode form_of.Waiting is = set_true queued latch id t.latch t.request.id is
   queued_flag latch requestor id mode form_of.Conditional is = is
   queued_flag latch requestor id mode (form_of.Posted e) is = is
 
-  new_flag : (latch requestor id : ℕ) (mode : Mode) (form : LatchForm) → form ≡ form_of.Waiting → queued_after queued (Obtain latch requestor mode form) (Queued id) latch id ≡ true
+  new_flag : (latch requestor id : ℕ) (mode : Mode) (form : LatchForm) → form ≡ form_of.Waiting
+      → queued_after queued (Obtain latch requestor mode form) (Queued id) latch id ≡ true
   new_flag latch requestor id mode form is = rw is (set_here queued latch id)
 
   obtained : (latch requestor : ℕ) (mode : Mode) (form : LatchForm) → latch < length lists
       → let r : Request = record { id = place; caller = k; requestor = requestor; mode = mode; form = form } in
       (b d : Bool) → grants (list_of lists latch) r ≡ b → queues form ≡ d
-      → let z : List Request × LatchReply = cond b (list_of lists latch ++ r ∷ [], Granted place) (cond d (list_of lists latch ++ r ∷ [], Queued place) (list_of lists latch, NotNow (blocker r (list_of lists latch)))) in
+      → let z : List Request × LatchReply = cond b (list_of lists latch ++ r ∷ [], Granted place)
+      (cond d (list_of lists latch ++ r ∷ [], Queued place) (list_of lists latch, NotNow (blocker r (list_of lists latch)))) in
       (Contains ts t → Waits (queued_after queued (Obtain latch requestor mode form) z.1) (set lists latch z.0))
-      → Contains (stands_after k ts (Obtain latch requestor mode form) z.1) t → Waits (queued_after queued (Obtain latch requestor mode form) z.1) (set lists latch z.0)
+      → Contains (stands_after k ts (Obtain latch requestor mode form) z.1) t
+      → Waits (queued_after queued (Obtain latch requestor mode form) z.1) (set lists latch z.0)
   obtained latch requestor mode form lt true d g q before i =
       let r : Request = record { id = place; caller = k; requestor = requestor; mode = mode; form = form } in
       elim (Contains-push_cases ts (stood latch r) t i) [
@@ -139,25 +159,32 @@ module _ (k place : ℕ) (lists : List (List Request)) (ts : List StandingReques
         | inl old ↦ before old
         | inr new ↦
             let formed : form ≡ form_of.Waiting = ap (λ (u : StandingRequest). u.request.form) new ∙ waits in
-            inl (subst (λ (u : StandingRequest). queued_after queued (Obtain latch requestor mode form) (Queued place) u.latch u.request.id ≡ true) new (new_flag latch requestor place mode form formed))
+            inl (subst (λ (u : StandingRequest). queued_after queued (Obtain latch requestor mode form)
+            (Queued place) u.latch u.request.id ≡ true) new (new_flag latch requestor place mode form formed))
       ]
   obtained latch requestor mode form lt false false g q before i = before i
 
-  confirm_flag : (latch id : ℕ) (y : LatchReply) → queued_after queued (Confirm latch id) y t.latch t.request.id ≡ with_at queued latch (with_at (queued latch) id false) t.latch t.request.id
+  confirm_flag : (latch id : ℕ) (y : LatchReply) → queued_after queued (Confirm latch id) y t.latch t.request.id ≡ with_at queued latch
+      (with_at (queued latch) id false) t.latch t.request.id
   confirm_flag latch id y = refl
 
   -- its own confirm
-  confirmed_own : (latch id : ℕ) → (latch ≡ t.latch) → (id ≡ t.request.id) → (f : Table) → (b d : Bool) → list_any (is_own k id) (granted (list_of lists latch)) ≡ b
+  confirmed_own : (latch id : ℕ) → (latch ≡ t.latch) → (id ≡ t.request.id) → (f : Table) → (b d : Bool)
+      → list_any (is_own k id) (granted (list_of lists latch)) ≡ b
       → let y : LatchReply = cond b (Granted id) (cond d Waiting Gone) in
-      is_early_confirm t Latches (op_on.Latch (Confirm latch id)) (reply_of.Latch y) ≡ false → Contains (stands_after k ts (Confirm latch id) y) t → Waits f lists
+      is_early_confirm t Latches (op_on.Latch (Confirm latch id)) (reply_of.Latch y) ≡ false
+      → Contains (stands_after k ts (Confirm latch id) y) t → Waits f lists
   confirmed_own latch id here too f true d any not_early i =
-      let holds : list_any (is_own k t.request.id) (granted (list_of lists t.latch)) ≡ true = subst (λ n. list_any (is_own k t.request.id) (granted (list_of lists n)) ≡ true) here (subst (λ n. list_any (is_own k n) (granted (list_of lists latch)) ≡ true) too any) in
+      let holds : list_any (is_own k t.request.id) (granted (list_of lists t.latch)) ≡ true =
+      subst (λ n. list_any (is_own k t.request.id) (granted (list_of lists n)) ≡ true) here
+      (subst (λ n. list_any (is_own k n) (granted (list_of lists latch)) ≡ true) too any) in
       let w = found (is_own k t.request.id) (granted (list_of lists t.latch)) holds in
       inr (subst (Contains (granted (list_of lists t.latch))) (unique w.0 i (in_granted w.0 (list_of lists t.latch) w.1) w.2) w.1)
   confirmed_own latch id here too f false true any not_early i =
       absurd (true≢false (sym (rw (eq-eqb latch t.latch here, eq-eqb id t.request.id too) refl) ∙ not_early))
   confirmed_own latch id here too f false false any not_early i =
-      absurd (true≢false (sym (rw (eq-eqb t.latch latch (sym here), eq-eqb t.request.id id (sym too)) refl) ∙ not_true (is_named latch id t) (passes (λ u. not (is_named latch id u)) t ts i)))
+      absurd (true≢false (sym (rw (eq-eqb t.latch latch (sym here), eq-eqb t.request.id id (sym too)) refl)
+      ∙ not_true (is_named latch id t) (passes (λ u. not (is_named latch id u)) t ts i)))
 
   confirm_within : (latch id : ℕ) (y : LatchReply) → Contains (stands_after k ts (Confirm latch id) y) t → Contains ts t
   confirm_within latch id Gone i = was_in (λ u. not (is_named latch id u)) t ts i
@@ -168,7 +195,8 @@ module _ (k place : ℕ) (lists : List (List Request)) (ts : List StandingReques
   confirm_within latch id (Released x) i = i
   confirm_within latch id (Purged x y) i = i
 
-  release_within : (latch id : ℕ) (conditional : Bool) (y : LatchReply) → Contains (stands_after k ts (Release latch id conditional) y) t → Contains ts t
+  release_within : (latch id : ℕ) (conditional : Bool) (y : LatchReply) → Contains (stands_after k ts (Release latch id conditional) y) t
+      → Contains ts t
   release_within latch id conditional Gone i = was_in (λ u. not (is_named latch id u)) t ts i
   release_within latch id conditional (Granted x) i = i
   release_within latch id conditional (Queued x) i = i
@@ -177,54 +205,75 @@ module _ (k place : ℕ) (lists : List (List Request)) (ts : List StandingReques
   release_within latch id conditional (Released x) i = was_in (λ u. not (is_named latch id u)) t ts i
   release_within latch id conditional (Purged x y) i = i
 
-  confirmed : (latch id : ℕ) → is_early_confirm t Latches (op_on.Latch (Confirm latch id)) (reply_of.Latch (confirm_reply k id (list_of lists latch))) ≡ false
-      → Contains (stands_after k ts (Confirm latch id) (confirm_reply k id (list_of lists latch))) t → Contains (list_of lists t.latch) t.request
+  confirmed : (latch id : ℕ) → is_early_confirm t Latches (op_on.Latch (Confirm latch id))
+      (reply_of.Latch (confirm_reply k id (list_of lists latch))) ≡ false
+      → Contains (stands_after k ts (Confirm latch id) (confirm_reply k id (list_of lists latch))) t
+      → Contains (list_of lists t.latch) t.request
       → Waits (queued_after queued (Confirm latch id) (confirm_reply k id (list_of lists latch))) lists
   confirmed latch id not_early i j = elim (cases_Bool ((latch == t.latch) && (id == t.request.id))) [
     | inl hit ↦
-        confirmed_own latch id (eqb-true latch t.latch (and_parts _ _ hit).0) (eqb-true id t.request.id (and_parts _ _ hit).1) (queued_after queued (Confirm latch id) (confirm_reply k id (list_of lists latch)))
+        confirmed_own latch id (eqb-true latch t.latch (and_parts _ _ hit).0) (eqb-true id t.request.id (and_parts _ _ hit).1)
+        (queued_after queued (Confirm latch id) (confirm_reply k id (list_of lists latch)))
         (list_any (is_own k id) (granted (list_of lists latch))) (list_any (is_own k id) (list_of lists latch)) refl not_early i
-    | inr apart ↦ old_one (Confirm latch id) (queued_after queued (Confirm latch id) (confirm_reply k id (list_of lists latch))) (λ is. set_other queued latch id t.latch t.request.id apart is) (confirm_within latch id (confirm_reply k id (list_of lists latch)) i) j
+    | inr apart ↦ old_one (Confirm latch id) (queued_after queued (Confirm latch id) (confirm_reply k id (list_of lists latch)))
+        (λ is. set_other queued latch id t.latch t.request.id apart is)
+        (confirm_within latch id (confirm_reply k id (list_of lists latch)) i) j
   ]
 
-  own_step : (op : LatchOp) → NamesLatch op lists → is_early_confirm t Latches (op_on.Latch op) (reply_of.Latch (latch_step k place op lists).1) ≡ false
-      → Contains (stands_after k ts op (latch_step k place op lists).1) t → Contains (list_of (latch_step k place op lists).0 t.latch) t.request
+  own_step : (op : LatchOp) → NamesLatch op lists → is_early_confirm t Latches (op_on.Latch op)
+      (reply_of.Latch (latch_step k place op lists).1) ≡ false
+      → Contains (stands_after k ts op (latch_step k place op lists).1) t
+      → Contains (list_of (latch_step k place op lists).0 t.latch) t.request
       → Waits (queued_after queued op (latch_step k place op lists).1) (latch_step k place op lists).0
   own_step (Obtain latch requestor mode form) lt not_early i j =
       let r : Request = record { id = place; caller = k; requestor = requestor; mode = mode; form = form } in
       obtained latch requestor mode form lt (grants (list_of lists latch) r) (queues form) refl refl
-      (λ old. old_one (Obtain latch requestor mode form) (queued_after queued (Obtain latch requestor mode form) (obtain_step r (list_of lists latch)).1) (obtain_keeps latch requestor mode form (obtain_step r (list_of lists latch)).1) old j) i where
-        obtain_keeps : (latch requestor : ℕ) (mode : Mode) (form : LatchForm) (y : LatchReply) → queued t.latch t.request.id ≡ true → queued_after queued (Obtain latch requestor mode form) y t.latch t.request.id ≡ true
+      (λ old. old_one (Obtain latch requestor mode form)
+      (queued_after queued (Obtain latch requestor mode form) (obtain_step r (list_of lists latch)).1)
+      (obtain_keeps latch requestor mode form (obtain_step r (list_of lists latch)).1) old j) i where
+        obtain_keeps : (latch requestor : ℕ) (mode : Mode) (form : LatchForm) (y : LatchReply) → queued t.latch t.request.id ≡ true
+            → queued_after queued (Obtain latch requestor mode form) y t.latch t.request.id ≡ true
         obtain_keeps latch requestor mode form_of.Waiting (Queued id) is = set_true queued latch id t.latch t.request.id is
         obtain_keeps latch requestor mode form y is = is
   own_step (Confirm latch id) lt not_early i j = confirmed latch id not_early i j
   own_step (Release latch id conditional) lt not_early i j =
-      old_one (Release latch id conditional) queued (λ is. is) (release_within latch id conditional (release_step k id conditional (list_of lists latch)).1 i) j
-  own_step (Purge requestor) lt not_early i j = old_one (Purge requestor) queued (λ is. is) (was_in (λ u. not (is_for requestor u)) t ts i) j
+      old_one (Release latch id conditional) queued (λ is. is)
+      (release_within latch id conditional (release_step k id conditional (list_of lists latch)).1 i) j
+  own_step (Purge requestor) lt not_early i j = old_one (Purge requestor) queued (λ is. is)
+      (was_in (λ u. not (is_for requestor u)) t ts i) j
 
 -- ---- one entry
 abbrev WaitsAt : StandingRequest → Table → System → Type 0
 WaitsAt t f s = (f t.latch t.request.id ≡ true) ⊎ Contains (granted (list_at s t.latch)) t.request
 
-own_moved : (c : Setup) (s : System) (k : ℕ) (o : Object) (p : ℕ) (op : Op) (y : Reply) (ts : List StandingRequest) (queued : Table) (t : StandingRequest) → IsNext c s (entry_of k o p op y) → t.request.form ≡ form_of.Waiting
-    → (Contains ts t → t.request.id < s.latches.place) → ((q : Request) → Contains ts t → Contains (list_at s t.latch) q → is_own k t.request.id q ≡ true → q ≡ t.request)
+own_moved : (c : Setup) (s : System) (k : ℕ) (o : Object) (p : ℕ) (op : Op) (y : Reply) (ts : List StandingRequest) (queued : Table)
+    (t : StandingRequest) → IsNext c s (entry_of k o p op y) → t.request.form ≡ form_of.Waiting
+    → (Contains ts t → t.request.id < s.latches.place)
+    → ((q : Request) → Contains ts t → Contains (list_at s t.latch) q → is_own k t.request.id q ≡ true → q ≡ t.request)
     → (Contains ts t → Contains (list_at s t.latch) t.request → WaitsAt t queued s)
-    → is_early_confirm t o op y ≡ false → Contains (stands_with k ts o op y) t → Contains (list_at (moved s k o op) t.latch) t.request → WaitsAt t (queued_with queued o op y) (moved s k o op)
+    → is_early_confirm t o op y ≡ false → Contains (stands_with k ts o op y) t → Contains (list_at (moved s k o op) t.latch) t.request
+    → WaitsAt t (queued_with queued o op y) (moved s k o op)
 own_moved c s k Latches p (op_on.Latch op) (reply_of.Latch y) ts queued t h waits early unique ih not_early i j =
     let is : (latch_step k s.latches.place op s.latches.state).1 ≡ y = cc h.reply in
-    subst (λ z. (queued_after queued op z t.latch t.request.id ≡ true) ⊎ Contains (granted (list_of (latch_step k s.latches.place op s.latches.state).0 t.latch)) t.request) is
+    subst (λ z. (queued_after queued op z t.latch t.request.id ≡ true)
+    ⊎ Contains (granted (list_of (latch_step k s.latches.place op s.latches.state).0 t.latch)) t.request) is
     (own_step k s.latches.place s.latches.state ts queued t waits early unique ih op (names_of c s k op h.admits)
-    (subst (λ z. is_early_confirm t Latches (op_on.Latch op) (reply_of.Latch z) ≡ false) (sym is) not_early) (subst (λ z. Contains (stands_after k ts op z) t) (sym is) i) j)
+    (subst (λ z. is_early_confirm t Latches (op_on.Latch op) (reply_of.Latch z) ≡ false) (sym is) not_early)
+    (subst (λ z. Contains (stands_after k ts op z) t) (sym is) i) j)
 own_moved c s k Latches p (op_on.Latch op) y ts queued t h waits early unique ih not_early i j = absurd (cc h.reply)
 own_moved c s k (Ecb m) p (op_on.Ecb op) y ts queued t h waits early unique ih not_early i j = ih i j
 own_moved c s k (Element m) p (op_on.Element op) y ts queued t h waits early unique ih not_early i j = ih i j
 own_moved c s k (Volume m) p (op_on.Volume op) y ts queued t h waits early unique ih not_early i j = ih i j
 own_moved c s k o p op y ts queued t h waits early unique ih not_early i j = absurd (false≢true h.admits)
 
-other_moved : (c : Setup) (s : System) (j : ℕ) (o : Object) (p : ℕ) (op : Op) (y : Reply) (queued : Table) (t : StandingRequest) → IsNext c s (entry_of j o p op y) → t.request.id < s.latches.place
-    → (Contains (list_at s t.latch) t.request → WaitsAt t queued s) → Contains (list_at (moved s j o op) t.latch) t.request → WaitsAt t queued (moved s j o op)
+other_moved : (c : Setup) (s : System) (j : ℕ) (o : Object) (p : ℕ) (op : Op) (y : Reply) (queued : Table) (t : StandingRequest)
+    → IsNext c s (entry_of j o p op y) → t.request.id < s.latches.place
+    → (Contains (list_at s t.latch) t.request → WaitsAt t queued s) → Contains (list_at (moved s j o op) t.latch) t.request
+    → WaitsAt t queued (moved s j o op)
 other_moved c s j Latches p (op_on.Latch op) y queued t h early ih i =
-    still (queued t.latch t.request.id ≡ true) (queued t.latch t.request.id ≡ true) s.latches.place (list_at s t.latch) (list_of (latch_step j s.latches.place op s.latches.state).0 t.latch) t.request (latch_changes j s.latches.place op s.latches.state t.latch) early ih (λ is. is) i
+    still (queued t.latch t.request.id ≡ true) (queued t.latch t.request.id ≡ true) s.latches.place (list_at s t.latch)
+    (list_of (latch_step j s.latches.place op s.latches.state).0 t.latch) t.request
+    (latch_changes j s.latches.place op s.latches.state t.latch) early ih (λ is. is) i
 other_moved c s j (Ecb m) p (op_on.Ecb op) y queued t h early ih i = ih i
 other_moved c s j (Element m) p (op_on.Element op) y queued t h early ih i = ih i
 other_moved c s j (Volume m) p (op_on.Volume op) y queued t h early ih i = ih i
@@ -239,7 +288,8 @@ of_own : (k : ℕ) (es : List Entry) (e : Entry) → e.caller ≡ k → of k (es
 of_own k es e own = of-append k es (e ∷ []) ∙ ap (λ b. of k es ++ cond b (e ∷ []) []) (eq-eqb e.caller k own)
 
 of_others : (k : ℕ) (es : List Entry) (e : Entry) → (e.caller ≡ k → ⊥) → of k (es ++ e ∷ []) ≡ of k es
-of_others k es e other = of-append k es (e ∷ []) ∙ (ap (λ b. of k es ++ cond b (e ∷ []) []) (ne_eqb e.caller k other) ∙ append-nil (of k es))
+of_others k es e other = of-append k es (e ∷ []) ∙ (ap (λ b. of k es ++ cond b (e ∷ []) []) (ne_eqb e.caller k other)
+    ∙ append-nil (of k es))
 
 all_front : (P : Entry → Type 0) (xs : List Entry) (e : Entry) → AllByRecursion P (xs ++ e ∷ []) → AllByRecursion P xs × P e
 all_front P [] e a = (tt, a.0)
@@ -248,18 +298,23 @@ all_front P (x ∷ xs) e a = let r = all_front P xs e a.1 in ((a.0, r.0), r.1)
 abbrev queued_of : ℕ → List Entry → Table
 queued_of k es = (waits_from no_waits (of k es)).queued
 
-pub waits_in_queue : (c : Setup) (k : ℕ) (t : StandingRequest) (es : List Entry) → t.request.form ≡ form_of.Waiting → Legal c es → Contains (standing (of k es)) t → HasNoEarlyConfirm t (of k es) → Contains (list_at (after c es) t.latch) t.request
+pub waits_in_queue : (c : Setup) (k : ℕ) (t : StandingRequest) (es : List Entry) → t.request.form ≡ form_of.Waiting → Legal c es
+    → Contains (standing (of k es)) t → HasNoEarlyConfirm t (of k es) → Contains (list_at (after c es) t.latch) t.request
     → ((waits_from no_waits (of k es)).queued t.latch t.request.id ≡ true) ⊎ Contains (granted (list_at (after c es) t.latch)) t.request
-waits_in_queue c k t es waits = by_last (λ xs. Legal c xs → Contains (standing (of k xs)) t → HasNoEarlyConfirm t (of k xs) → Contains (list_at (after c xs) t.latch) t.request → WaitsAt t (queued_of k xs) (after c xs)) (λ l i n j. absurd (not_in_empty t i))
+waits_in_queue c k t es waits = by_last (λ xs. Legal c xs → Contains (standing (of k xs)) t → HasNoEarlyConfirm t (of k xs)
+    → Contains (list_at (after c xs) t.latch) t.request → WaitsAt t (queued_of k xs) (after c xs)) (λ l i n j. absurd (not_in_empty t i))
     (λ xs e ih l i n j.
     let h : IsNext c (after c xs) e = last_is_next c xs e l in
     let front : Legal c xs = front_is_legal c xs e l in
-    let now : Contains (list_at (next (after c xs) e) t.latch) t.request = subst (λ (s : System). Contains (list_at s t.latch) t.request) (after_longer c xs e) j in
+    let now : Contains (list_at (next (after c xs) e) t.latch) t.request = subst (λ (s : System). Contains (list_at s t.latch) t.request)
+    (after_longer c xs e) j in
     subst (λ (s : System). WaitsAt t (queued_of k (xs ++ e ∷ [])) s) (sym (after_longer c xs e))
     (elim (cases_eq e.caller k) [
       | inl own ↦
-          let parts = all_front (λ x. is_early_confirm t x.object x.op x.reply ≡ false) (of k xs) e (subst (HasNoEarlyConfirm t) (of_own k xs e own) n) in
-          let log : waits_from no_waits (of k (xs ++ e ∷ [])) ≡ waits_after (waits_from no_waits (of k xs)) e.object e.op e.reply = ap (waits_from no_waits) (of_own k xs e own) ∙ waits_from-append no_waits (of k xs) (e ∷ []) in
+          let parts = all_front (λ x. is_early_confirm t x.object x.op x.reply ≡ false) (of k xs) e
+          (subst (HasNoEarlyConfirm t) (of_own k xs e own) n) in
+          let log : waits_from no_waits (of k (xs ++ e ∷ [])) ≡ waits_after (waits_from no_waits (of k xs)) e.object e.op e.reply =
+          ap (waits_from no_waits) (of_own k xs e own) ∙ waits_from-append no_waits (of k xs) (e ∷ []) in
           subst (λ (w : OpenWaits). WaitsAt t w.queued (next (after c xs) e)) (sym log)
           (own_moved c (after c xs) e.caller e.object e.place e.op e.reply (standing (of k xs)) (queued_of k xs) t h waits
           (λ old. (stands_below c k xs t front old).0)
@@ -274,7 +329,8 @@ waits_in_queue c k t es waits = by_last (λ xs. Legal c xs → Contains (standin
     ])) es
 
 -- at rest it is granted, or was purged
-pub granted_at_rest : (c : Setup) (k : ℕ) (t : StandingRequest) (es : List Entry) → t.request.form ≡ form_of.Waiting → Legal c es → Contains (standing (of k es)) t → HasNoEarlyConfirm t (of k es) → IsAtRest (of k es)
+pub granted_at_rest : (c : Setup) (k : ℕ) (t : StandingRequest) (es : List Entry) → t.request.form ≡ form_of.Waiting → Legal c es
+    → Contains (standing (of k es)) t → HasNoEarlyConfirm t (of k es) → IsAtRest (of k es)
     → IsGranted k t.latch t.request.id (after c es) ⊎ WasPurged k t es
 granted_at_rest c k t es waits l i n rest = elim (stands_or_purged c k t es l i) [
   | inl there ↦ elim (waits_in_queue c k t es waits l i n there) [
@@ -284,8 +340,10 @@ granted_at_rest c k t es waits l i n rest = elim (stands_or_purged c k t es l i)
   | inr w ↦ inr w
 ]
 
-pub confirm_at_rest : (c : Setup) (es : List Entry) (e : Entry) (t : StandingRequest) → t.request.form ≡ form_of.Waiting → Legal c es → IsNext c (after c es) e → e.object ≡ Latches → e.op ≡ op_on.Latch (Confirm t.latch t.request.id)
-    → Contains (standing (of e.caller es)) t → HasNoEarlyConfirm t (of e.caller es) → IsAtRest (of e.caller es) → (e.reply ≡ reply_of.Latch (Granted t.request.id)) ⊎ (e.reply ≡ reply_of.Latch Gone)
+pub confirm_at_rest : (c : Setup) (es : List Entry) (e : Entry) (t : StandingRequest) → t.request.form ≡ form_of.Waiting → Legal c es
+    → IsNext c (after c es) e → e.object ≡ Latches → e.op ≡ op_on.Latch (Confirm t.latch t.request.id)
+    → Contains (standing (of e.caller es)) t → HasNoEarlyConfirm t (of e.caller es) → IsAtRest (of e.caller es)
+    → (e.reply ≡ reply_of.Latch (Granted t.request.id)) ⊎ (e.reply ≡ reply_of.Latch Gone)
 confirm_at_rest c es e t waits l h o is i n rest = elim (granted_at_rest c e.caller t es waits l i n rest) [
   | inl holds ↦ inl (confirm_finds_granted c (after c es) e t.latch t.request.id h o is holds)
   | inr w ↦ inr ((confirm_gone c es e t l h o is i).1 w)

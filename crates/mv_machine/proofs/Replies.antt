@@ -48,39 +48,49 @@ pub ecb_reply_is : (c : Setup) (s : System) (e : Entry) (n : ℕ) (op : EcbOp) �
     → e.reply ≡ reply_of.Ecb (ecb_step op (s.ecb n).state).1
 ecb_reply_is c s e n op h o x = let r : Some e.reply ≡ Some (reply_of.Ecb (ecb_step op (s.ecb n).state).1) = h.reply ∙ rw (o, x) refl in cc
 
-pub element_reply_is : (c : Setup) (s : System) (e : Entry) (n : ℕ) (op : ElementOp) → IsNext c s e → e.object ≡ Element n → e.op ≡ op_on.Element op
+pub element_reply_is : (c : Setup) (s : System) (e : Entry) (n : ℕ) (op : ElementOp) → IsNext c s e → e.object ≡ Element n
+    → e.op ≡ op_on.Element op
     → e.reply ≡ reply_of.Element (element_step op (s.element n).state).1
-element_reply_is c s e n op h o x = let r : Some e.reply ≡ Some (reply_of.Element (element_step op (s.element n).state).1) = h.reply ∙ rw (o, x) refl in cc
+element_reply_is c s e n op h o x = let r : Some e.reply ≡ Some (reply_of.Element (element_step op (s.element n).state).1) = h.reply
+    ∙ rw (o, x) refl in cc
 
-pub volume_reply_is : (c : Setup) (s : System) (e : Entry) (n : ℕ) (op : VolumeOp) → IsNext c s e → e.object ≡ Volume n → e.op ≡ op_on.Volume op
+pub volume_reply_is : (c : Setup) (s : System) (e : Entry) (n : ℕ) (op : VolumeOp) → IsNext c s e → e.object ≡ Volume n
+    → e.op ≡ op_on.Volume op
     → e.reply ≡ reply_of.Volume (volume_step op (s.volume n).state).1
-volume_reply_is c s e n op h o x = let r : Some e.reply ≡ Some (reply_of.Volume (volume_step op (s.volume n).state).1) = h.reply ∙ rw (o, x) refl in cc
+volume_reply_is c s e n op h o x = let r : Some e.reply ≡ Some (reply_of.Volume (volume_step op (s.volume n).state).1) = h.reply
+    ∙ rw (o, x) refl in cc
 
 pub latch_reply_is : (c : Setup) (s : System) (e : Entry) (op : LatchOp) → IsNext c s e → e.object ≡ Latches → e.op ≡ op_on.Latch op
     → e.reply ≡ reply_of.Latch (latch_step e.caller s.latches.place op s.latches.state).1
-latch_reply_is c s e op h o x = let r : Some e.reply ≡ Some (reply_of.Latch (latch_step e.caller s.latches.place op s.latches.state).1) = h.reply ∙ rw (o, x) refl in cc
+latch_reply_is c s e op h o x = let r : Some e.reply ≡ Some (reply_of.Latch (latch_step e.caller s.latches.place op s.latches.state).1) =
+    h.reply ∙ rw (o, x) refl in cc
 
 -- an obtain's request has the place as its number
 obtained_number : (latch requestor : ℕ) (mode : Mode) (form : LatchForm) (r : Request) (qs : List Request)
     → HasPlaceAsNumber r.id (op_on.Latch (Obtain latch requestor mode form)) (reply_of.Latch (obtain_step r qs).1)
 obtained_number latch requestor mode form r qs = go (grants qs r) (queues r.form) where
-  go : (b d : Bool) → let z : List Request × LatchReply = cond b (qs ++ r ∷ [], Granted r.id) (cond d (qs ++ r ∷ [], Queued r.id) (qs, NotNow (blocker r qs))) in
+  go : (b d : Bool) → let z : List Request × LatchReply = cond b (qs ++ r ∷ [], Granted r.id)
+      (cond d (qs ++ r ∷ [], Queued r.id) (qs, NotNow (blocker r qs))) in
       HasPlaceAsNumber r.id (op_on.Latch (Obtain latch requestor mode form)) (reply_of.Latch z.1)
   go true d = refl
   go false true = refl
   go false false = tt
 
-numbered : (k place : ℕ) (op : LatchOp) (lists : List (List Request)) → HasPlaceAsNumber place (op_on.Latch op) (reply_of.Latch (latch_step k place op lists).1)
-numbered k place (Obtain latch requestor mode form) lists = obtained_number latch requestor mode form (record { id = place; caller = k; requestor = requestor; mode = mode; form = form }) (list_of lists latch)
+numbered : (k place : ℕ) (op : LatchOp) (lists : List (List Request))
+    → HasPlaceAsNumber place (op_on.Latch op) (reply_of.Latch (latch_step k place op lists).1)
+numbered k place (Obtain latch requestor mode form) lists = obtained_number latch requestor mode form
+    (record { id = place; caller = k; requestor = requestor; mode = mode; form = form }) (list_of lists latch)
 numbered k place (Confirm latch id) lists = tt
 numbered k place (Release latch id conditional) lists = tt
 numbered k place (Purge requestor) lists = tt
 
-has_number : (c : Setup) (s : System) (k : ℕ) (o : Object) (p : ℕ) (op : Op) (r : Reply) → IsNext c s (entry_of k o p op r) → HasPlaceAsNumber p op r
+has_number : (c : Setup) (s : System) (k : ℕ) (o : Object) (p : ℕ) (op : Op) (r : Reply) → IsNext c s (entry_of k o p op r)
+    → HasPlaceAsNumber p op r
 has_number c s k Latches p (op_on.Latch op) r h =
     let is : r ≡ reply_of.Latch (latch_step k s.latches.place op s.latches.state).1 = (let q = h.reply in cc) in
     let at : p ≡ s.latches.place = h.place in
-    subst (λ z. HasPlaceAsNumber z (op_on.Latch op) r) (sym at) (subst (λ z. HasPlaceAsNumber s.latches.place (op_on.Latch op) z) (sym is) (numbered k s.latches.place op s.latches.state))
+    subst (λ z. HasPlaceAsNumber z (op_on.Latch op) r) (sym at)
+    (subst (λ z. HasPlaceAsNumber s.latches.place (op_on.Latch op) z) (sym is) (numbered k s.latches.place op s.latches.state))
 has_number c s k (Ecb n) p (op_on.Ecb op) r h = tt
 has_number c s k (Element n) p (op_on.Element op) r h = tt
 has_number c s k (Volume n) p (op_on.Volume op) r h = tt

@@ -1,7 +1,8 @@
 -- The requests at the latches are their callers', and the quotas are kept.
-use Rattle.std.proofs.Common.{◌≡◌, ℕ, zero, suc, ◌+◌, ◌<◌, ◌≤◌, nat_lt, Bool, true, false, not, ◌||◌, List, [], ◌∷◌, ◌++◌, length, map, filter, set, replicate, cond, refl, sym, ap, ◌∙◌, subst, arith}
+use Rattle.std.proofs.Common.{◌≡◌, ℕ, zero, suc, ◌+◌, ◌<◌, ◌≤◌, nat_lt, Bool, true, false, not, ◌||◌, List, [], ◌∷◌, ◌++◌, length}
+use Rattle.std.proofs.Common.{map, filter, set, replicate, cond, refl, sym, ap, ◌∙◌, subst, arith}
 use Rattle.std.specs.List.{AllByRecursion}
-use Rattle.std.proofs.lemmas.Bool.{false≢true, and_parts, eqb-true}
+use Rattle.std.proofs.lemmas.Bool.{false≢true, and_parts, eqb-true, ltb-true}
 use Rattle.std.proofs.lemmas.Bool.Decides.{nat_tests}
 use Rattle.mv_latch.specs.declared.operation.LatchOp.{LatchOp}
 use Rattle.mv_latch.specs.declared.operation.LatchOp.TheVariants.{Obtain, Confirm, Release, Purge}
@@ -25,6 +26,7 @@ use Rattle.mv_machine.specs.Legal.{IsNext, Legal, after}
 use Rattle.mv_machine.specs.Setup.{Setup, owner_of}
 use Rattle.mv_machine.specs.System.{System, opening, moved, latches_of, posts_own_ecb}
 use Rattle.mv_machine.proofs.Chains.{all_set}
+use Rattle.mv_machine.proofs.Lists.{all_push}
 use Rattle.mv_machine.proofs.EntryRuns.{entry_of, along_all}
 use Rattle.mv_machine.proofs.StandingRuns.{NamesLatch, names_latch}
 use Rattle.mv_machine.specs.Waking.{IsFair, KeepsQuotas}
@@ -33,16 +35,14 @@ abbrev pub AllFair : Setup → List (List Request) → Type 0
 AllFair c lists = AllByRecursion (λ qs. AllByRecursion (IsFair c) qs) lists
 
 -- ---- requests of lists
-pub all_of_list : (P : Request → Type 0) (lists : List (List Request)) (latch : ℕ) → AllByRecursion (λ qs. AllByRecursion P qs) lists → AllByRecursion P (list_of lists latch)
+pub all_of_list : (P : Request → Type 0) (lists : List (List Request)) (latch : ℕ) → AllByRecursion (λ qs. AllByRecursion P qs) lists
+    → AllByRecursion P (list_of lists latch)
 all_of_list P [] latch a = tt
 all_of_list P (qs ∷ lists) zero a = a.0
 all_of_list P (qs ∷ lists) (suc latch) a = all_of_list P lists latch a.1
 
-all_push : (P : Request → Type 0) (qs : List Request) (r : Request) → AllByRecursion P qs → P r → AllByRecursion P (qs ++ r ∷ [])
-all_push P [] r a p = (p, tt)
-all_push P (q ∷ qs) r a p = (a.0, all_push P qs r a.1 p)
-
-all_purged : (P : Request → Type 0) (requestor : ℕ) (lists : List (List Request)) → AllByRecursion (λ qs. AllByRecursion P qs) lists → AllByRecursion (λ qs. AllByRecursion P qs) (map (purged requestor) lists)
+pub all_purged : (P : Request → Type 0) (requestor : ℕ) (lists : List (List Request)) → AllByRecursion (λ qs. AllByRecursion P qs) lists
+    → AllByRecursion (λ qs. AllByRecursion P qs) (map (purged requestor) lists)
 all_purged P requestor [] a = tt
 all_purged P requestor (qs ∷ lists) a = (all_filter P (λ q. not (of_requestor requestor q)) qs a.0, all_purged P requestor lists a.1)
 
@@ -50,7 +50,8 @@ all_new : (P : Request → Type 0) (n : ℕ) → AllByRecursion (λ qs. AllByRec
 all_new P zero = tt
 all_new P (suc n) = (tt, all_new P n)
 
-all_either : (P : Request → Type 0) (b : Bool) (x y : List Request × LatchReply) → AllByRecursion P x.0 → AllByRecursion P y.0 → AllByRecursion P (cond b x y).0
+all_either : (P : Request → Type 0) (b : Bool) (x y : List Request × LatchReply) → AllByRecursion P x.0 → AllByRecursion P y.0
+    → AllByRecursion P (cond b x y).0
 all_either P true x y a b = a
 all_either P false x y a b = b
 
@@ -59,13 +60,15 @@ all_obtained P r qs a p =
     let more : AllByRecursion P (qs ++ r ∷ []) = all_push P qs r a p in
     search all_either
 
-pub all_released : (P : Request → Type 0) (k id : ℕ) (conditional : Bool) (qs : List Request) → AllByRecursion P qs → AllByRecursion P (release_step k id conditional qs).0
+pub all_released : (P : Request → Type 0) (k id : ℕ) (conditional : Bool) (qs : List Request) → AllByRecursion P qs
+    → AllByRecursion P (release_step k id conditional qs).0
 all_released P k id conditional qs a =
     let fewer : AllByRecursion P (without k id qs) = all_filter P (λ q. not (is_own k id q)) qs a in
     search all_either
 
 -- ---- each is fair
-fair_request : (c : Setup) (k latch requestor id : ℕ) (mode : Mode) (form : LatchForm) → k < c.callers → posts_own_ecb c k (Obtain latch requestor mode form) ≡ true
+fair_request : (c : Setup) (k latch requestor id : ℕ) (mode : Mode) (form : LatchForm) → k < c.callers
+    → posts_own_ecb c k (Obtain latch requestor mode form) ≡ true
     → IsFair c (record { id = id; caller = k; requestor = requestor; mode = mode; form = form })
 fair_request c k latch requestor id mode (Posted e) lt own =
     let there : nat_lt e (length c.owners) ≡ true = (and_parts _ _ own).0 in
@@ -73,66 +76,86 @@ fair_request c k latch requestor id mode (Posted e) lt own =
 fair_request c k latch requestor id mode Conditional lt own = (lt, tt)
 fair_request c k latch requestor id mode Waiting lt own = (lt, tt)
 
-fair_step : (c : Setup) (k place : ℕ) (op : LatchOp) (lists : List (List Request)) → k < c.callers → posts_own_ecb c k op ≡ true → AllFair c lists → AllFair c (latch_step k place op lists).0
+fair_step : (c : Setup) (k place : ℕ) (op : LatchOp) (lists : List (List Request)) → k < c.callers → posts_own_ecb c k op ≡ true
+    → AllFair c lists → AllFair c (latch_step k place op lists).0
 fair_step c k place (Obtain latch requestor mode form) lists lt own a =
     all_set (λ qs. AllByRecursion (IsFair c) qs) lists latch _
-    (all_obtained (IsFair c) (record { id = place; caller = k; requestor = requestor; mode = mode; form = form }) (list_of lists latch) (all_of_list (IsFair c) lists latch a) (fair_request c k latch requestor place mode form lt own)) a
+    (all_obtained (IsFair c) (record { id = place; caller = k; requestor = requestor; mode = mode; form = form }) (list_of lists latch)
+    (all_of_list (IsFair c) lists latch a) (fair_request c k latch requestor place mode form lt own)) a
 fair_step c k place (Confirm latch id) lists lt own a = a
 fair_step c k place (Release latch id conditional) lists lt own a =
-    all_set (λ qs. AllByRecursion (IsFair c) qs) lists latch _ (all_released (IsFair c) k id conditional (list_of lists latch) (all_of_list (IsFair c) lists latch a)) a
+    all_set (λ qs. AllByRecursion (IsFair c) qs) lists latch _
+    (all_released (IsFair c) k id conditional (list_of lists latch) (all_of_list (IsFair c) lists latch a)) a
 fair_step c k place (Purge requestor) lists lt own a = all_purged (IsFair c) requestor lists a
 
 -- ---- the quotas
-either : (t : Request → Bool) (n : ℕ) (b : Bool) (x y : List Request × LatchReply) → length (filter t x.0) ≤ n → length (filter t y.0) ≤ n → length (filter t (cond b x y).0) ≤ n
+either : (t : Request → Bool) (n : ℕ) (b : Bool) (x y : List Request × LatchReply) → length (filter t x.0) ≤ n → length (filter t y.0) ≤ n
+    → length (filter t (cond b x y).0) ≤ n
 either t n true x y a b = a
 either t n false x y a b = b
 
-obtained : (t : Request → Bool) (r : Request) (qs : List Request) → length (filter t (obtain_step r qs).0) ≤ length (filter t qs) + length (filter t (r ∷ []))
+obtained : (t : Request → Bool) (r : Request) (qs : List Request) → length (filter t (obtain_step r qs).0) ≤ length (filter t qs) + length
+    (filter t (r ∷ []))
 obtained t r qs =
-    let more : length (filter t (qs ++ r ∷ [])) ≤ length (filter t qs) + length (filter t (r ∷ [])) = omega (arith, count_split t qs (r ∷ [])) in
+    let more : length (filter t (qs ++ r ∷ [])) ≤ length (filter t qs) + length (filter t (r ∷ [])) =
+    omega (arith, count_split t qs (r ∷ [])) in
     let same : length (filter t qs) ≤ length (filter t qs) + length (filter t (r ∷ [])) = omega arith in
     search either
 
-pub released : (t : Request → Bool) (k id : ℕ) (conditional : Bool) (qs : List Request) → length (filter t (release_step k id conditional qs).0) ≤ length (filter t qs)
+pub released : (t : Request → Bool) (k id : ℕ) (conditional : Bool) (qs : List Request)
+    → length (filter t (release_step k id conditional qs).0) ≤ length (filter t qs)
 released t k id conditional qs =
     let less : length (filter t (without k id qs)) ≤ length (filter t qs) = count_filter t (λ q. not (is_own k id q)) qs in
     let same : length (filter t qs) ≤ length (filter t qs) = omega arith in
     search either
 
 -- one more, where there is room for one that meets the test
-more_fits : (t : Request → Bool) (most latch : ℕ) (r : Request) (lists : List (List Request)) → latch < length lists → (t r ≡ true → count_in t lists < most) → count_in t lists ≤ most
+more_fits : (t : Request → Bool) (most latch : ℕ) (r : Request) (lists : List (List Request)) → latch < length lists
+    → (t r ≡ true → count_in t lists < most) → count_in t lists ≤ most
     → count_in t (set lists latch (obtain_step r (list_of lists latch)).0) ≤ most
 more_fits t most latch r lists lt free fit =
     let counts : count_in t (set lists latch (obtain_step r (list_of lists latch)).0) ≤ count_in t lists + length (filter t (r ∷ [])) =
     omega (arith, count_set t lists latch (obtain_step r (list_of lists latch)).0 lt, obtained t r (list_of lists latch)) in
     go (t r) refl counts where
-      go : (b : Bool) → t r ≡ b → count_in t (set lists latch (obtain_step r (list_of lists latch)).0) ≤ count_in t lists + length (cond b (r ∷ []) []) → count_in t (set lists latch (obtain_step r (list_of lists latch)).0) ≤ most
+      go : (b : Bool) → t r ≡ b → count_in t (set lists latch (obtain_step r (list_of lists latch)).0) ≤ count_in t lists + length
+          (cond b (r ∷ []) []) → count_in t (set lists latch (obtain_step r (list_of lists latch)).0) ≤ most
       go true is le = let f = free is in omega arith
       go false is le = omega arith
 
-fewer_fit : (t : Request → Bool) (most latch k id : ℕ) (conditional : Bool) (lists : List (List Request)) → latch < length lists → count_in t lists ≤ most
+fewer_fit : (t : Request → Bool) (most latch k id : ℕ) (conditional : Bool) (lists : List (List Request)) → latch < length lists
+    → count_in t lists ≤ most
     → count_in t (set lists latch (release_step k id conditional (list_of lists latch)).0) ≤ most
 fewer_fit t most latch k id conditional lists lt fit =
-    omega (arith, count_set t lists latch (release_step k id conditional (list_of lists latch)).0 lt, released t k id conditional (list_of lists latch))
+    omega (
+      arith,
+      count_set t lists latch (release_step k id conditional (list_of lists latch)).0 lt,
+      released t k id conditional
+          (list_of lists latch),
+    )
 
-room_for_one : (c : Setup) (k latch requestor : ℕ) (mode : Mode) (form : LatchForm) (lists : List (List Request)) → latch_admitted k (Obtain latch requestor mode form) (latches_of c lists) ≡ true → count_in (of_caller k) lists < c.quota
+room_for_one : (c : Setup) (k latch requestor : ℕ) (mode : Mode) (form : LatchForm) (lists : List (List Request))
+    → latch_admitted k (Obtain latch requestor mode form) (latches_of c lists) ≡ true → count_in (of_caller k) lists < c.quota
 room_for_one c k latch requestor mode form lists a =
-    let q : nat_lt (count_in (of_caller k) lists) c.quota ≡ true = (and_parts _ _ (and_parts _ _ a).1).0 in grind (arith, nat_tests)
+    ltb-true (count_in (of_caller k) lists) c.quota (and_parts _ _ (and_parts _ _ a).1).0
 
-room_for_posted : (c : Setup) (k latch requestor : ℕ) (mode : Mode) (form : LatchForm) (lists : List (List Request)) → latch_admitted k (Obtain latch requestor mode form) (latches_of c lists) ≡ true → is_posted form ≡ true
+room_for_posted : (c : Setup) (k latch requestor : ℕ) (mode : Mode) (form : LatchForm) (lists : List (List Request))
+    → latch_admitted k (Obtain latch requestor mode form) (latches_of c lists) ≡ true → is_posted form ≡ true
     → count_in (posted_of k) lists < c.posted_quota
 room_for_posted c k latch requestor mode form lists a is =
     let q : (not (is_posted form) || nat_lt (count_in (posted_of k) lists) c.posted_quota) ≡ true = (and_parts _ _ (and_parts _ _ a).1).1 in
-    let p : nat_lt (count_in (posted_of k) lists) c.posted_quota ≡ true = ap (λ b. not b || nat_lt (count_in (posted_of k) lists) c.posted_quota) (sym is) ∙ q in
-    grind (arith, nat_tests)
+    ltb-true (count_in (posted_of k) lists) c.posted_quota
+    (ap (λ b. not b || nat_lt (count_in (posted_of k) lists) c.posted_quota) (sym is) ∙ q)
 
-quotas_step : (c : Setup) (k place : ℕ) (op : LatchOp) (lists : List (List Request)) → latch_admitted k op (latches_of c lists) ≡ true → NamesLatch op lists → KeepsQuotas c lists → KeepsQuotas c (latch_step k place op lists).0
+quotas_step : (c : Setup) (k place : ℕ) (op : LatchOp) (lists : List (List Request)) → latch_admitted k op (latches_of c lists) ≡ true
+    → NamesLatch op lists → KeepsQuotas c lists → KeepsQuotas c (latch_step k place op lists).0
 quotas_step c k place (Obtain latch requestor mode form) lists a lt q =
     let r : Request = record { id = place; caller = k; requestor = requestor; mode = mode; form = form } in record {
       all = λ j. more_fits (of_caller j) c.quota latch r lists lt
-          (λ is. subst (λ i. count_in (of_caller i) lists < c.quota) (eqb-true k j is) (room_for_one c k latch requestor mode form lists a)) (q.all j);
+          (λ is. subst (λ i. count_in (of_caller i) lists < c.quota) (eqb-true k j is) (room_for_one c k latch requestor mode form lists a))
+          (q.all j);
       posted = λ j. more_fits (posted_of j) c.posted_quota latch r lists lt
-          (λ is. subst (λ i. count_in (posted_of i) lists < c.posted_quota) (eqb-true k j (and_parts _ _ is).0) (room_for_posted c k latch requestor mode form lists a (and_parts _ _ is).1)) (q.posted j);
+          (λ is. subst (λ i. count_in (posted_of i) lists < c.posted_quota) (eqb-true k j (and_parts _ _ is).0)
+          (room_for_posted c k latch requestor mode form lists a (and_parts _ _ is).1)) (q.posted j);
     }
 quotas_step c k place (Confirm latch id) lists a lt q = q
 quotas_step c k place (Release latch id conditional) lists a lt q = record {
@@ -145,26 +168,34 @@ quotas_step c k place (Purge requestor) lists a lt q = record {
 }
 
 -- ---- along a legal list
-pub record AreOrderly (c : Setup) (s : System) : Type 0 where
+
+-- what all lists keep to: each request is fair, and the quotas are kept
+pub record KeepsRequests (c : Setup) (s : System) : Type 0 where
   pub fair : AllFair c s.latches.state
   pub quotas : KeepsQuotas c s.latches.state
 
-orderly_next : (c : Setup) (s : System) (k : ℕ) (o : Object) (p : ℕ) (op : Op) (r : Reply) → IsNext c s (entry_of k o p op r) → AreOrderly c s → AreOrderly c (moved s k o op)
-orderly_next c s k Latches p (op_on.Latch op) r h w =
+requests_next : (c : Setup) (s : System) (k : ℕ) (o : Object) (p : ℕ) (op : Op) (r : Reply) → IsNext c s (entry_of k o p op r)
+    → KeepsRequests c s → KeepsRequests c (moved s k o op)
+requests_next c s k Latches p (op_on.Latch op) r h w =
     let front : nat_lt k c.callers ≡ true = (and_parts _ _ (and_parts _ _ h.admits).0).0 in
     let own : posts_own_ecb c k op ≡ true = (and_parts _ _ (and_parts _ _ h.admits).0).1 in
     let may : latch_admitted k op (latches_of c s.latches.state) ≡ true = (and_parts _ _ h.admits).1 in
     record {
-      fair = fair_step c k s.latches.place op s.latches.state (grind (arith, nat_tests)) own w.fair;
+      fair = fair_step c k s.latches.place op s.latches.state (ltb-true k c.callers front) own w.fair;
       quotas = quotas_step c k s.latches.place op s.latches.state may (names_latch c k op s.latches.state may) w.quotas;
     }
-orderly_next c s k (Ecb m) p (op_on.Ecb op) r h w = record { fair = w.fair; quotas = w.quotas }
-orderly_next c s k (Element m) p (op_on.Element op) r h w = record { fair = w.fair; quotas = w.quotas }
-orderly_next c s k (Volume m) p (op_on.Volume op) r h w = record { fair = w.fair; quotas = w.quotas }
-orderly_next c s k o p op r h w = absurd (false≢true h.admits)
+requests_next c s k (Ecb m) p (op_on.Ecb op) r h w = record { fair = w.fair; quotas = w.quotas }
+requests_next c s k (Element m) p (op_on.Element op) r h w = record { fair = w.fair; quotas = w.quotas }
+requests_next c s k (Volume m) p (op_on.Volume op) r h w = record { fair = w.fair; quotas = w.quotas }
+requests_next c s k o p op r h w = absurd (false≢true h.admits)
 
-pub orderly : (c : Setup) (es : List Entry) → Legal c es → AreOrderly c (after c es)
-orderly c es l = along_all c (AreOrderly c) (λ s e h w. orderly_next c s e.caller e.object e.place e.op e.reply h w) (opening c) es l (record {
-  fair = all_new (IsFair c) c.latches;
-  quotas = record { all = λ k. omega (arith, count_new (of_caller k) c.latches); posted = λ k. omega (arith, count_new (posted_of k) c.latches) };
-})
+pub requests_kept : (c : Setup) (es : List Entry) → Legal c es → KeepsRequests c (after c es)
+requests_kept c es l = along_all c (KeepsRequests c) (λ s e h w. requests_next c s e.caller e.object e.place e.op e.reply h w) (opening c) es l
+    (record {
+      fair = all_new (IsFair c) c.latches;
+      quotas = record {
+        all = λ k. omega (arith, count_new (of_caller k) c.latches);
+        posted =
+            λ k. omega (arith, count_new (posted_of k) c.latches);
+      };
+    })

@@ -29,7 +29,18 @@ use Rattle.mv_machine.specs.Told.{told}
 
 -- two callers, one block of caller 0
 abbrev two : Setup
-two = record { callers = 2; elements_per_caller = 1; volumes = 1; latches = 1; quota = 1; posted_quota = 0; budgets = 4 ∷ 4 ∷ []; owners = 0 ∷ []; exits = [] }
+two = record {
+  callers = 2;
+  elements_per_caller = 1;
+  volumes = 1;
+  latches = 1;
+  quota = 1;
+  posted_quota = 0;
+  budgets = 4 ∷ 4 ∷ [];
+  owners =
+      0 ∷ [];
+  exits = [];
+}
 
 -- nobody but its owner arms a block
 arm_by_another : answer two (opening two) 1 (Ecb 0) (op_on.Ecb ecb_op.Arm) ≡ None
@@ -39,7 +50,8 @@ post_first : answer two (opening two) 1 (Ecb 0) (op_on.Ecb (ecb_op.Post 5)) ≡ 
 post_first = refl
 
 -- and the owner then finds it complete
-arm_late : answer two (after_step two (opening two) 1 (Ecb 0) (op_on.Ecb (ecb_op.Post 5))) 0 (Ecb 0) (op_on.Ecb ecb_op.Arm) ≡ Some (1, reply_of.Ecb (ecb_reply.Complete 5))
+arm_late : answer two (after_step two (opening two) 1 (Ecb 0) (op_on.Ecb (ecb_op.Post 5))) 0 (Ecb 0) (op_on.Ecb ecb_op.Arm) ≡ Some
+    (1, reply_of.Ecb (ecb_reply.Complete 5))
 arm_late = refl
 
 valid : refusal_of two ≡ None
@@ -48,7 +60,11 @@ valid = refl
 bad_owner : refusal_of (record two { owners = 0 ∷ 2 ∷ 3 ∷ [] }) ≡ Some (BadOwner 1)
 bad_owner = refl
 
-bad_exit : refusal_of (record two { owners = 0 ∷ 0 ∷ []; exits = record { source = 0; targets = 1 ∷ [] } ∷ record { source = 1; targets = 1 ∷ [] } ∷ [] }) ≡ Some (BadExit 2)
+bad_exit : refusal_of (record two {
+  owners = 0 ∷ 0 ∷ [];
+  exits =
+      record { source = 0; targets = 1 ∷ [] } ∷ record { source = 1; targets = 1 ∷ [] } ∷ [];
+}) ≡ Some (BadExit 2)
 bad_exit = refl
 
 high_budget : refusal_of (record two { budgets = 524287 ∷ 1 ∷ [] }) ≡ Some (Budget 524288)
@@ -59,18 +75,63 @@ journal : List Entry
 journal =
     record { caller = 1; object = Volume 0; place = 0; op = op_on.Volume (Write 7); reply = reply_of.Volume Stored }
     ∷ record { caller = 0; object = Volume 0; place = 1; op = op_on.Volume Read; reply = reply_of.Volume (Value 7) }
-    ∷ record { caller = 1; object = Element 1; place = 0; op = op_on.Element element_op.Open; reply = reply_of.Element (element_reply.Opened 0) }
-    ∷ record { caller = 0; object = Element 1; place = 1; op = op_on.Element (element_op.Release 0 9); reply = reply_of.Element element_reply.Early }
-    ∷ record { caller = 1; object = Element 1; place = 2; op = op_on.Element (element_op.Pause 0); reply = reply_of.Element (element_reply.Given 9 1) }
-    ∷ record { caller = 0; object = Latches; place = 0; op = op_on.Latch (Obtain 0 4 Exclusive Waiting); reply = reply_of.Latch (Granted 0) }
+    ∷ record {
+      caller = 1;
+      object = Element 1;
+      place = 0;
+      op = op_on.Element element_op.Open;
+      reply =
+          reply_of.Element (element_reply.Opened 0);
+    }
+    ∷ record {
+      caller = 0;
+      object = Element 1;
+      place = 1;
+      op = op_on.Element (element_op.Release 0 9);
+      reply =
+          reply_of.Element element_reply.Early;
+    }
+    ∷ record {
+      caller = 1;
+      object = Element 1;
+      place = 2;
+      op = op_on.Element (element_op.Pause 0);
+      reply =
+          reply_of.Element (element_reply.Given 9 1);
+    }
+    ∷ record {
+      caller = 0;
+      object = Latches;
+      place = 0;
+      op = op_on.Latch (Obtain 0 4 Exclusive Waiting);
+      reply =
+          reply_of.Latch (Granted 0);
+    }
     ∷ record { caller = 1; object = Latches; place = 1; op = op_on.Latch (Obtain 0 5 Exclusive Waiting); reply = reply_of.Latch (Queued 1) }
     ∷ record { caller = 0; object = Latches; place = 2; op = op_on.Latch (Release 0 0 false); reply = reply_of.Latch (Released 1) }
     ∷ []
 
 journal_is_legal : Legal two journal
 unfolding journal
-journal_is_legal =
-    (record { admits = refl; place = refl; reply = refl }, (record { admits = refl; place = refl; reply = refl }, (record { admits = refl; place = refl; reply = refl }, (record { admits = refl; place = refl; reply = refl }, (record { admits = refl; place = refl; reply = refl }, (record { admits = refl; place = refl; reply = refl }, (record { admits = refl; place = refl; reply = refl }, (record { admits = refl; place = refl; reply = refl }, tt))))))))
+journal_is_legal = (
+  record { admits = refl; place = refl; reply = refl },
+  (
+    record { admits = refl; place = refl; reply = refl },
+    (
+      record { admits = refl; place = refl; reply = refl },
+      (
+        record { admits = refl; place = refl; reply = refl },
+        (
+          record { admits = refl; place = refl; reply = refl },
+          (
+            record { admits = refl; place = refl; reply = refl },
+            (record { admits = refl; place = refl; reply = refl }, (record { admits = refl; place = refl; reply = refl }, tt)),
+          ),
+        ),
+      ),
+    ),
+  ),
+)
 
 -- caller 0 had no wakes with its obtain, and one with its release
 told_of : told two 0 journal ≡ [] ∷ (record { caller = 1; id = 1; ecb = None; code = 0 } ∷ []) ∷ []

@@ -41,7 +41,8 @@ same_after c es fs same l = same_everywhere (after c es) (after c fs) (λ o.
 pub same_told : (c : Setup) (es fs : List Entry) (k : ℕ) → «at» Latches es ≡ «at» Latches fs → told c k es ≡ told c k fs
 same_told c es fs k same = told_by_part (opening c) k es ∙ (ap (λ xs. told c k xs) same ∙ sym (told_by_part (opening c) k fs))
 
-pub same_had : (c : Setup) (es fs : List Entry) (k n w : ℕ) (o : Object) → «at» o es ≡ «at» o fs → of k es ≡ of k fs → Had c es k n o w → Had c fs k n o w
+pub same_had : (c : Setup) (es fs : List Entry) (k n w : ℕ) (o : Object) → «at» o es ≡ «at» o fs → of k es ≡ of k fs → Had c es k n o w
+    → Had c fs k n o w
 same_had c es fs k n w o objects callers h = record {
   place = h.place;
   state = h.state;

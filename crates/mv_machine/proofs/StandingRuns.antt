@@ -1,5 +1,6 @@
 -- Along a legal list a caller's requests stand by its own entries.
-use Rattle.std.proofs.Common.{◌≡◌, ◌<◌, ℕ, nat_lt, Bool, true, false, not, ◌&&◌, List, [], ◌∷◌, ◌++◌, length, map, set, cond, inl, inr, refl, sym, subst, arith}
+use Rattle.std.proofs.Common.{◌≡◌, ◌<◌, ℕ, nat_lt, Bool, true, false, not, ◌&&◌, List, [], ◌∷◌, ◌++◌, length, map, set, cond, inl}
+use Rattle.std.proofs.Common.{inr, refl, sym, subst, arith}
 use Rattle.std.specs.List.{Contains, list_any}
 use Rattle.std.proofs.lemmas.Bool.{cases_eq, false≢true, eq-eqb, ne_eqb, and_parts}
 use Rattle.std.proofs.lemmas.Bool.Decides.{nat_tests}
@@ -28,7 +29,8 @@ use Rattle.mv_machine.specs.Setup.{Setup}
 use Rattle.mv_machine.specs.System.{System, opening, moved, latches_of, admitted}
 use Rattle.mv_machine.proofs.EntryRuns.{entry_of}
 use Rattle.mv_machine.proofs.LatchRuns.{list_at, empty_list}
-use Rattle.mv_machine.proofs.Standing.{stood, Within, within_kept_more, mine, is_mine, mine_within_left, within_released, within_elsewhere, within_purged, within_gone, within_obtained, mine_not_pushed, has_within}
+use Rattle.mv_machine.proofs.Standing.{stood, Within, within_kept_more, mine, is_mine, mine_within_left, within_released}
+use Rattle.mv_machine.proofs.Standing.{within_elsewhere, within_purged, within_gone, within_obtained, mine_not_pushed, has_within}
 
 -- a caller's requests of a list stand at a latch
 abbrev pub Stand : ℕ → ℕ → List Request → List StandingRequest → Type 0
@@ -101,7 +103,8 @@ released_elsewhere k other latch id conditional (Released n) qs ts apart w = wit
 released_elsewhere k other latch id conditional reply qs ts apart w = w
 
 -- ---- each list after an operation
-list_replaced : (lists : List (List Request)) (latch : ℕ) (qs : List Request) → latch < length lists → list_of (set lists latch qs) latch ≡ qs
+list_replaced : (lists : List (List Request)) (latch : ℕ) (qs : List Request) → latch < length lists
+    → list_of (set lists latch qs) latch ≡ qs
 list_replaced lists latch qs lt = get_or-set_same lists latch qs [] lt
 
 list_elsewhere : (lists : List (List Request)) (latch other : ℕ) (qs : List Request) → (other ≡ latch → ⊥)
@@ -132,7 +135,8 @@ everywhere : (P : ℕ → Type 0) (latch : ℕ) → P latch → ((other : ℕ) �
 everywhere P latch here there other = elim (cases_eq other latch) [ inl e ↦ subst P (sym e) here | inr apart ↦ there other apart ]
 
 replaced : (k latch : ℕ) (lists : List (List Request)) (qs : List Request) (ts : List StandingRequest) → latch < length lists
-    → Stand k latch qs ts → ((other : ℕ) → (other ≡ latch → ⊥) → Stand k other (list_of lists other) ts) → AllLatches k (set lists latch qs) ts
+    → Stand k latch qs ts → ((other : ℕ) → (other ≡ latch → ⊥) → Stand k other (list_of lists other) ts)
+    → AllLatches k (set lists latch qs) ts
 replaced k latch lists qs ts lt here there =
     everywhere (λ other. Stand k other (list_of (set lists latch qs) other) ts) latch (rw (list_replaced lists latch qs lt) here)
     (λ other apart. rw (list_elsewhere lists latch other qs apart) (there other apart))

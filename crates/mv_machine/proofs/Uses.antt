@@ -1,5 +1,6 @@
 -- The laws as a caller uses them: by what it knows of its own log.
-use Rattle.std.proofs.Common.{◌≡◌, ℕ, ◌+◌, ◌≤◌, ◌==◌, Bool, true, false, List, [], ◌∷◌, ◌++◌, length, cond, refl, sym, ap, ◌∙◌, subst, arith, length-append}
+use Rattle.std.proofs.Common.{◌≡◌, ℕ, ◌+◌, ◌≤◌, ◌==◌, Bool, true, false, List, [], ◌∷◌, ◌++◌, length, cond, refl, sym, ap, ◌∙◌, subst}
+use Rattle.std.proofs.Common.{arith, length-append}
 use Rattle.std.specs.List.{AllByRecursion, Contains}
 use Rattle.std.proofs.lemmas.Bool.{eq-eqb, eqb-true}
 use Rattle.std.proofs.lemmas.List.Elements.{All-from_recursion, All-contains}
@@ -35,32 +36,39 @@ use Rattle.mv_machine.specs.Waking.{IsFair, IsFairWake, AreFairWakes, blocks_of}
 use Rattle.mv_machine.proofs.Behind.{last_is_behind}
 use Rattle.mv_machine.proofs.Generations.{next_names}
 use Rattle.mv_machine.proofs.Posting.{exits_are_own, post_asks, wakes_ask}
-use Rattle.mv_machine.proofs.Requests.{all_of_list, orderly}
+use Rattle.mv_machine.proofs.Requests.{all_of_list, requests_kept}
 use Rattle.mv_machine.proofs.calls.Making.{kept_caller}
 use Rattle.mv_machine.proofs.Wakes.{wakes_are_fair, few_wakes_post, wakes_cost}
 
 -- ---- each entry of a legal list
-pub each_entry : (c : Setup) (P : Entry → Type 0) → ((xs : List Entry) (e : Entry) → Legal c xs → IsNext c (after c xs) e → P e) → (es : List Entry) → Legal c es → AllByRecursion P es
+pub each_entry : (c : Setup) (P : Entry → Type 0) → ((xs : List Entry) (e : Entry) → Legal c xs → IsNext c (after c xs) e → P e)
+    → (es : List Entry) → Legal c es → AllByRecursion P es
 each_entry c P holds es = by_last (λ xs. Legal c xs → AllByRecursion P xs) (λ l. tt)
     (λ xs e ih l. all_push P xs e (ih (front_is_legal c xs e l)) (holds xs e (front_is_legal c xs e l) (last_is_next c xs e l))) es
 
-own_exits : (c : Setup) (k : ℕ) (log : List Entry) (shown : List (List Wake)) → IsPossible c k log shown → AllByRecursion (λ e. NamesOwnExit c e.object e.reply) log
+own_exits : (c : Setup) (k : ℕ) (log : List Entry) (shown : List (List Wake)) → IsPossible c k log shown
+    → AllByRecursion (λ e. NamesOwnExit c e.object e.reply) log
 own_exits c k log shown p =
     subst (AllByRecursion (λ e. NamesOwnExit c e.object e.reply)) p.logged
-    (all_filter (λ e. NamesOwnExit c e.object e.reply) (λ e. e.caller == k) p.history (each_entry c (λ e. NamesOwnExit c e.object e.reply) (λ xs e l h. exits_are_own c xs e l h) p.history p.legal))
+    (all_filter (λ e. NamesOwnExit c e.object e.reply) (λ e. e.caller == k) p.history
+    (each_entry c (λ e. NamesOwnExit c e.object e.reply) (λ xs e l h. exits_are_own c xs e l h) p.history p.legal))
 
 heard_exits : (c : Setup) (hs : List Heard) → AllByRecursion (λ e. NamesOwnExit c e.object e.reply) (entries hs) → NameOwnExits c hs
 heard_exits c [] a = tt
 heard_exits c (h ∷ hs) a = (a.0, heard_exits c hs a.1)
 
-pub call_exits : (c : Setup) (k : ℕ) (log : List Entry) (hs : List Heard) (shown : List (List Wake)) → IsPossible c k (log ++ entries hs) shown → NameOwnExits c hs
-call_exits c k log hs shown p = heard_exits c hs (all_back (λ e. NamesOwnExit c e.object e.reply) log (entries hs) (own_exits c k (log ++ entries hs) shown p))
+pub call_exits : (c : Setup) (k : ℕ) (log : List Entry) (hs : List Heard) (shown : List (List Wake))
+    → IsPossible c k (log ++ entries hs) shown → NameOwnExits c hs
+call_exits c k log hs shown p = heard_exits c hs (all_back (λ e. NamesOwnExit c e.object e.reply) log (entries hs)
+    (own_exits c k (log ++ entries hs) shown p))
 
 -- ---- the last event of a possible log
-pub possible_names : (c : Setup) (k : ℕ) (log : List Entry) (e : Entry) (shown : List (List Wake)) → IsValid c → IsPossible c k (log ++ e ∷ []) shown → NamesUpTo 262143 e.reply
+pub possible_names : (c : Setup) (k : ℕ) (log : List Entry) (e : Entry) (shown : List (List Wake)) → IsValid c
+    → IsPossible c k (log ++ e ∷ []) shown → NamesUpTo 262143 e.reply
 possible_names c k log e shown valid p =
     let b = last_is_behind c k log e shown p in
-    let most : length (b.before ++ e ∷ []) ≤ 524287 = budgets_fit c (b.before ++ e ∷ []) valid (legal_longer c b.before e b.legal b.follows) b.budgets in
+    let most : length (b.before ++ e ∷ []) ≤ 524287 = budgets_fit c (b.before ++ e ∷ []) valid
+    (legal_longer c b.before e b.legal b.follows) b.budgets in
     let size : length (b.before ++ e ∷ []) ≡ length b.before + 1 = length-append b.before (e ∷ []) in
     next_names c b.before e b.legal b.follows (omega arith)
 
@@ -72,7 +80,8 @@ last_same (a ∷ []) [] x y e = absurd (cc e)
 last_same (a ∷ b ∷ xs) [] x y e = absurd (cc e)
 last_same (a ∷ xs) (b ∷ ys) x y e = let rest : xs ++ x ∷ [] ≡ ys ++ y ∷ [] = cc e in last_same xs ys x y rest
 
-told_of_latch : (s : System) (k j : ℕ) (o : Object) (op : Op) (x : LatchOp) → j ≡ k → o ≡ Latches → op ≡ op_on.Latch x → told_at s k j o op ≡ wakes k x s.latches.state ∷ []
+told_of_latch : (s : System) (k j : ℕ) (o : Object) (op : Op) (x : LatchOp) → j ≡ k → o ≡ Latches → op ≡ op_on.Latch x
+    → told_at s k j o op ≡ wakes k x s.latches.state ∷ []
 told_of_latch s k j o op x own is op_is =
     ap (λ (z : Object). told_at s k j z op) is ∙ (ap (λ (z : Op). told_at s k j Latches z) op_is
     ∙ (ap (λ b. cond b (wakes j x s.latches.state ∷ []) []) (eq-eqb j k own) ∙ ap (λ i. wakes i x s.latches.state ∷ []) own))
@@ -84,28 +93,40 @@ fair_wakes_of c es k op l = record {
   cost = λ exact. wakes_cost c es k op l exact;
 }
 
-pub wakes_of_next : (c : Setup) (es : List Entry) (k : ℕ) (op : LatchOp) → Legal c es → AreFairWakes c (wakes k op (after c es).latches.state)
+pub wakes_of_next : (c : Setup) (es : List Entry) (k : ℕ) (op : LatchOp) → Legal c es
+    → AreFairWakes c (wakes k op (after c es).latches.state)
 wakes_of_next c es k op l = fair_wakes_of c es k op l
 
-pub wakes_heard : (c : Setup) (k : ℕ) (log : List Entry) (e : Entry) (op : LatchOp) (shown : List (List Wake)) (ws : List Wake) → IsPossible c k (log ++ e ∷ []) (shown ++ ws ∷ []) → e.object ≡ Latches → e.op ≡ op_on.Latch op → AreFairWakes c ws
+pub wakes_heard : (c : Setup) (k : ℕ) (log : List Entry) (e : Entry) (op : LatchOp) (shown : List (List Wake)) (ws : List Wake)
+    → IsPossible c k (log ++ e ∷ []) (shown ++ ws ∷ []) → e.object ≡ Latches → e.op ≡ op_on.Latch op → AreFairWakes c ws
 wakes_heard c k log e op shown ws p o is =
     let b = last_is_behind c k log e (shown ++ ws ∷ []) p in
-    let one : told_at (after c b.before) k e.caller e.object e.op ≡ wakes k op (after c b.before).latches.state ∷ [] = told_of_latch (after c b.before) k e.caller e.object e.op op b.caller o is in
-    let all : told c k b.before ++ wakes k op (after c b.before).latches.state ∷ [] ≡ shown ++ ws ∷ [] = ap (λ z. told c k b.before ++ z) (sym one) ∙ b.told in
-    subst (AreFairWakes c) (last_same (told c k b.before) shown (wakes k op (after c b.before).latches.state) ws all) (fair_wakes_of c b.before k op b.legal)
+    let one : told_at (after c b.before) k e.caller e.object e.op ≡ wakes k op (after c b.before).latches.state ∷ [] =
+    told_of_latch (after c b.before) k e.caller e.object e.op op b.caller o is in
+    let all : told c k b.before ++ wakes k op (after c b.before).latches.state ∷ [] ≡ shown ++ ws ∷ [] =
+    ap (λ z. told c k b.before ++ z) (sym one) ∙ b.told in
+    subst (AreFairWakes c) (last_same (told c k b.before) shown (wakes k op (after c b.before).latches.state) ws all)
+    (fair_wakes_of c b.before k op b.legal)
 
 -- ---- requests
-pub listed_is_fair : (c : Setup) (es : List Entry) (latch : ℕ) (q : Request) → Legal c es → Contains (list_of (after c es).latches.state latch) q → IsFair c q
-listed_is_fair c es latch q l i = All-contains (IsFair c) (list_at (after c es) latch) q (All-from_recursion (IsFair c) (list_at (after c es) latch) (all_of_list (IsFair c) (after c es).latches.state latch (orderly c es l).fair)) i
+pub listed_is_fair : (c : Setup) (es : List Entry) (latch : ℕ) (q : Request) → Legal c es
+    → Contains (list_of (after c es).latches.state latch) q → IsFair c q
+listed_is_fair c es latch q l i = All-contains (IsFair c) (list_at (after c es) latch) q
+    (All-from_recursion (IsFair c) (list_at (after c es) latch)
+    (all_of_list (IsFair c) (after c es).latches.state latch (requests_kept c es l).fair)) i
 
 -- ---- what is kept of a caller's part
-requests_from : (k : ℕ) (kept : Kept) (es : List Entry) → kept.caller ≡ k → (kept_from kept (of k es)).requests ≡ standing_from kept.requests (of k es)
+requests_from : (k : ℕ) (kept : Kept) (es : List Entry) → kept.caller ≡ k
+    → (kept_from kept (of k es)).requests ≡ standing_from kept.requests (of k es)
 requests_from k kept [] own = refl
 requests_from k kept (e ∷ es) own = go (e.caller == k) refl (λ more is. requests_from k more es is) where
-  go : (b : Bool) → (e.caller == k) ≡ b → ((more : Kept) → more.caller ≡ k → (kept_from more (of k es)).requests ≡ standing_from more.requests (of k es)) → (kept_from kept (cond b (e ∷ of k es) (of k es))).requests ≡ standing_from kept.requests (cond b (e ∷ of k es) (of k es))
+  go : (b : Bool) → (e.caller == k) ≡ b → ((more : Kept) → more.caller ≡ k
+      → (kept_from more (of k es)).requests ≡ standing_from more.requests (of k es))
+      → (kept_from kept (cond b (e ∷ of k es) (of k es))).requests ≡ standing_from kept.requests (cond b (e ∷ of k es) (of k es))
   go true is rest =
       let same : e.caller ≡ kept.caller = eqb-true e.caller k is ∙ sym own in
-      rest (kept_after kept e.object e.op e.reply) own ∙ ap (λ j. standing_from (stands_with j kept.requests e.object e.op e.reply) (of k es)) (sym same)
+      rest (kept_after kept e.object e.op e.reply) own
+      ∙ ap (λ j. standing_from (stands_with j kept.requests e.object e.op e.reply) (of k es)) (sym same)
   go false is rest = rest kept own
 
 pub kept_requests : (k : ℕ) (es : List Entry) → (kept_of k (of k es)).requests ≡ standing (of k es)
@@ -115,20 +136,24 @@ pub caller_is : (k : ℕ) (log : List Entry) → (kept_of k log).caller ≡ k
 caller_is k log = kept_caller (nothing_kept k) log
 
 pub all_kept : (c : Setup) (es : List Entry) (k : ℕ) → Legal c es → count_in (of_caller k) (after c es).latches.state ≤ c.quota
-all_kept c es k l = (orderly c es l).quotas.all k
+all_kept c es k l = (requests_kept c es l).quotas.all k
 
 pub posted_kept : (c : Setup) (es : List Entry) (k : ℕ) → Legal c es → count_in (posted_of k) (after c es).latches.state ≤ c.posted_quota
-posted_kept c es k l = (orderly c es l).quotas.posted k
+posted_kept c es k l = (requests_kept c es l).quotas.posted k
 
-pub post_hears : (c : Setup) (code e : ℕ) (kept : Kept) (hs : List Heard) → reach c e ≤ 524287 → NameOwnExits c hs → Says (post c e code kept) hs → length hs ≤ reach c e
+pub post_hears : (c : Setup) (code e : ℕ) (kept : Kept) (hs : List Heard) → reach c e ≤ 524287 → NameOwnExits c hs
+    → Says (post c e code kept) hs → length hs ≤ reach c e
 post_hears c code e kept hs few names s = post_asks c code e kept few hs names s
 
-pub wakes_hear : {A : Type 0} (c : Setup) (ws : List Wake) (kept : Kept) (last : Program A) (most : ℕ) → ((hs : List Heard) → NameOwnExits c hs → Says last hs → length hs ≤ most)
-    → total (reach c) (blocks_of ws) ≤ 524287 → (hs : List Heard) → NameOwnExits c hs → Says (wakes_posted c ws kept last) hs → length hs ≤ total (reach c) (blocks_of ws) + most
+pub wakes_hear : {A : Type 0} (c : Setup) (ws : List Wake) (kept : Kept) (last : Program A) (most : ℕ)
+    → ((hs : List Heard) → NameOwnExits c hs → Says last hs → length hs ≤ most)
+    → total (reach c) (blocks_of ws) ≤ 524287 → (hs : List Heard) → NameOwnExits c hs → Says (wakes_posted c ws kept last) hs
+    → length hs ≤ total (reach c) (blocks_of ws) + most
 wakes_hear c ws kept last most asks few hs names s = wakes_ask c ws kept last most asks few hs names s
 
 -- a release, or a purge, with the posts of its wakes
-pub release_hears : {A : Type 0} (c : Setup) (ws : List Wake) (kept : Kept) (last : Program A) (most : ℕ) → AreFairWakes c ws → release_cost c ≤ 524287 → ((hs : List Heard) → NameOwnExits c hs → Says last hs → length hs ≤ most)
+pub release_hears : {A : Type 0} (c : Setup) (ws : List Wake) (kept : Kept) (last : Program A) (most : ℕ) → AreFairWakes c ws
+    → release_cost c ≤ 524287 → ((hs : List Heard) → NameOwnExits c hs → Says last hs → length hs ≤ most)
     → (hs : List Heard) → NameOwnExits c hs → Says (wakes_posted c ws kept last) hs → length hs + 1 ≤ release_cost c + most
 release_hears c ws kept last most fair exact asks hs names s =
     let cost : total (reach c) (blocks_of ws) + 1 ≤ release_cost c = fair.cost exact in

@@ -1,5 +1,6 @@
 -- The wakes of an event, and what the posts that they ask for cost.
-use Rattle.std.proofs.Common.{◌≡◌, ℕ, zero, suc, ◌+◌, ◌*◌, ◌<◌, ◌≤◌, ◌==◌, nat_lt, Bool, true, false, not, ◌&&◌, IfSome, Option, List, [], ◌∷◌, ◌++◌, length, map, filter, cond, Some, None, inl, inr, refl, sym, ap, ◌∙◌, subst, arith}
+use Rattle.std.proofs.Common.{◌≡◌, ℕ, zero, suc, ◌+◌, ◌*◌, ◌<◌, ◌≤◌, ◌==◌, nat_lt, Bool, true, false, not, ◌&&◌, IfSome, Option, List}
+use Rattle.std.proofs.Common.{[], ◌∷◌, ◌++◌, length, map, filter, cond, Some, None, inl, inr, refl, sym, ap, ◌∙◌, subst, arith}
 use Rattle.std.specs.List.{AllByRecursion, flat_map, list_any, range_with_len}
 use Rattle.std.proofs.lemmas.Bool.{cases_eq, lt-ltb, le-ltb}
 use Rattle.std.proofs.lemmas.Bool.Decides.{nat_tests}
@@ -19,13 +20,14 @@ use Rattle.mv_machine.specs.Legal.{Legal, after}
 use Rattle.mv_machine.specs.Reach.{greatest, total, reach, release_cost}
 use Rattle.mv_machine.specs.Setup.{Setup}
 use Rattle.mv_machine.specs.Waking.{IsBlockOf, IsFair, IsFairWake, blocks_of}
-use Rattle.mv_machine.proofs.Requests.{AllFair, all_of_list, all_released, released, orderly}
+use Rattle.mv_machine.proofs.Requests.{AllFair, all_of_list, all_released, released, requests_kept}
 
 -- ---- each wake is fair
 fair_wake : (c : Setup) (code : ℕ) (q : Request) → code ≤ 1 → IsFair c q → IsFairWake c (wake_of code q)
 fair_wake c code q low f = (f.0, low, f.1)
 
-fair_wakes : (c : Setup) (code : ℕ) (qs : List Request) → code ≤ 1 → AllByRecursion (IsFair c) qs → AllByRecursion (IsFairWake c) (map (wake_of code) qs)
+fair_wakes : (c : Setup) (code : ℕ) (qs : List Request) → code ≤ 1 → AllByRecursion (IsFair c) qs
+    → AllByRecursion (IsFairWake c) (map (wake_of code) qs)
 fair_wakes c code [] low a = tt
 fair_wakes c code (q ∷ qs) low a = (fair_wake c code q low a.0, fair_wakes c code qs low a.1)
 
@@ -37,7 +39,8 @@ all_right : {A : Type 0} (P : A → Type 0) (xs ys : List A) → AllByRecursion 
 all_right P [] ys a = a
 all_right P (x ∷ xs) ys a = all_right P xs ys a.1
 
-all_flat : {A B : Type 0} (P : A → Type 0) (Q : B → Type 0) (f : A → List B) → ((x : A) → P x → AllByRecursion Q (f x)) → (xs : List A) → AllByRecursion P xs → AllByRecursion Q (flat_map f xs)
+all_flat : {A B : Type 0} (P : A → Type 0) (Q : B → Type 0) (f : A → List B) → ((x : A) → P x → AllByRecursion Q (f x)) → (xs : List A)
+    → AllByRecursion P xs → AllByRecursion Q (flat_map f xs)
 all_flat P Q f each [] a = tt
 all_flat P Q f each (x ∷ xs) a = all_both Q (f x) (flat_map f xs) (each x a.0) (all_flat P Q f each xs a.1)
 
@@ -47,28 +50,36 @@ all_waiting P qs a = all_right P (granted qs) (waiting qs) (subst (AllByRecursio
 all_newly : (P : Request → Type 0) (old new : List Request) → AllByRecursion P new → AllByRecursion P (newly_granted old new)
 all_newly P old new a = all_filter P (λ q. not (list_any (has_id q.id) (granted old))) (granted new) (all_granted P new a)
 
-wakes_fair : (c : Setup) (k : ℕ) (op : LatchOp) (lists : List (List Request)) → AllFair c lists → AllByRecursion (IsFairWake c) (wakes k op lists)
+wakes_fair : (c : Setup) (k : ℕ) (op : LatchOp) (lists : List (List Request)) → AllFair c lists
+    → AllByRecursion (IsFairWake c) (wakes k op lists)
 wakes_fair c k (Obtain latch requestor mode form) lists a = tt
 wakes_fair c k (Confirm latch id) lists a = tt
 wakes_fair c k (Release latch id conditional) lists a =
-    fair_wakes c 0 _ (omega arith) (all_newly (IsFair c) (list_of lists latch) (release_step k id conditional (list_of lists latch)).0 (all_released (IsFair c) k id conditional (list_of lists latch) (all_of_list (IsFair c) lists latch a)))
+    fair_wakes c 0 _ (omega arith) (all_newly (IsFair c) (list_of lists latch) (release_step k id conditional (list_of lists latch)).0
+    (all_released (IsFair c) k id conditional (list_of lists latch) (all_of_list (IsFair c) lists latch a)))
 wakes_fair c k (Purge requestor) lists a =
-    all_both (IsFairWake c) (map (wake_of 1) (flat_map (waiting_of requestor) lists)) (map (wake_of 0) (flat_map (granted_by_purge requestor) lists))
+    all_both (IsFairWake c) (map (wake_of 1) (flat_map (waiting_of requestor) lists))
+    (map (wake_of 0) (flat_map (granted_by_purge requestor) lists))
     (fair_wakes c 1 (flat_map (waiting_of requestor) lists) (omega arith)
-    (all_flat (AllByRecursion (IsFair c)) (IsFair c) (waiting_of requestor) (λ qs b. all_filter (IsFair c) (of_requestor requestor) (waiting qs) (all_waiting (IsFair c) qs b)) lists a))
+    (all_flat (AllByRecursion (IsFair c)) (IsFair c) (waiting_of requestor)
+    (λ qs b. all_filter (IsFair c) (of_requestor requestor) (waiting qs) (all_waiting (IsFair c) qs b)) lists a))
     (fair_wakes c 0 (flat_map (granted_by_purge requestor) lists) (omega arith)
-    (all_flat (AllByRecursion (IsFair c)) (IsFair c) (granted_by_purge requestor) (λ qs b. all_newly (IsFair c) qs (purged requestor qs) (all_filter (IsFair c) (λ q. not (of_requestor requestor q)) qs b)) lists a))
+    (all_flat (AllByRecursion (IsFair c)) (IsFair c) (granted_by_purge requestor)
+    (λ qs b. all_newly (IsFair c) qs (purged requestor qs) (all_filter (IsFair c) (λ q. not (of_requestor requestor q)) qs b)) lists a))
 
-pub wakes_are_fair : (c : Setup) (es : List Entry) (k : ℕ) (op : LatchOp) → Legal c es → AllByRecursion (IsFairWake c) (wakes k op (after c es).latches.state)
-wakes_are_fair c es k op l = wakes_fair c k op (after c es).latches.state (orderly c es l).fair
+pub wakes_are_fair : (c : Setup) (es : List Entry) (k : ℕ) (op : LatchOp) → Legal c es
+    → AllByRecursion (IsFairWake c) (wakes k op (after c es).latches.state)
+wakes_are_fair c es k op l = wakes_fair c k op (after c es).latches.state (requests_kept c es l).fair
 
 -- ---- how many of them post
 abbrev posts : Request → Bool
 posts q = is_posted q.form
 
-one_posts : (code : ℕ) (q : Request) (ws : List Wake) → length (blocks_of (wake_of code q ∷ ws)) ≡ length (cond (posts q) (q ∷ []) []) + length (blocks_of ws)
+one_posts : (code : ℕ) (q : Request) (ws : List Wake)
+    → length (blocks_of (wake_of code q ∷ ws)) ≡ length (cond (posts q) (q ∷ []) []) + length (blocks_of ws)
 one_posts code q ws = go q.form where
-  go : (form : LatchForm) → length (blocks_of (record { caller = q.caller; id = q.id; ecb = posted_ecb form; code = code } ∷ ws)) ≡ length (cond (is_posted form) (q ∷ []) []) + length (blocks_of ws)
+  go : (form : LatchForm) → length (blocks_of (record { caller = q.caller; id = q.id; ecb = posted_ecb form; code = code } ∷ ws)) ≡ length
+      (cond (is_posted form) (q ∷ []) []) + length (blocks_of ws)
   go (Posted e) = omega arith
   go Conditional = omega arith
   go Waiting = omega arith
@@ -79,7 +90,12 @@ counted false q qs = omega arith
 
 blocks_count : (code : ℕ) (qs : List Request) → length (blocks_of (map (wake_of code) qs)) ≡ length (filter posts qs)
 blocks_count code [] = refl
-blocks_count code (q ∷ qs) = omega (arith, one_posts code q (map (wake_of code) qs), counted (posts q) q (filter posts qs), blocks_count code qs)
+blocks_count code (q ∷ qs) = omega (
+  arith,
+  one_posts code q (map (wake_of code) qs),
+  counted (posts q) q (filter posts qs),
+  blocks_count code qs,
+)
 
 blocks-append : (ws vs : List Wake) → length (blocks_of (ws ++ vs)) ≡ length (blocks_of ws) + length (blocks_of vs)
 blocks-append [] vs = omega arith
@@ -90,18 +106,21 @@ blocks-append (w ∷ ws) vs = go w.ecb (blocks-append ws vs) where
   go None h = h
 
 -- ---- no more than there are requests of that form
-count_front : (t : Request → Bool) (qs : List Request) → length (filter t (granted qs)) + length (filter t (waiting qs)) ≡ length (filter t qs)
+count_front : (t : Request → Bool) (qs : List Request) → length (filter t (granted qs)) + length (filter t (waiting qs)) ≡ length
+    (filter t qs)
 count_front t qs = sym (count_split t (granted qs) (waiting qs)) ∙ ap (λ rs. length (filter t rs)) (granted_split qs)
 
 count_newly : (t : Request → Bool) (old new : List Request) → length (filter t (newly_granted old new)) ≤ length (filter t new)
 count_newly t old new = omega (arith, count_filter t (λ q. not (list_any (has_id q.id) (granted old))) (granted new), count_front t new)
 
 -- those that pass a test, and those that do not
-count_both : (t p : Request → Bool) (qs : List Request) → length (filter t (filter p qs)) + length (filter t (filter (λ q. not (p q)) qs)) ≡ length (filter t qs)
+count_both : (t p : Request → Bool) (qs : List Request)
+    → length (filter t (filter p qs)) + length (filter t (filter (λ q. not (p q)) qs)) ≡ length (filter t qs)
 count_both t p [] = refl
 count_both t p (q ∷ qs) = go (p q) (count_both t p qs) where
   go : (b : Bool) → length (filter t (filter p qs)) + length (filter t (filter (λ q. not (p q)) qs)) ≡ length (filter t qs)
-      → length (filter t (cond b (q ∷ filter p qs) (filter p qs))) + length (filter t (cond (not b) (q ∷ filter (λ q. not (p q)) qs) (filter (λ q. not (p q)) qs))) ≡ length (filter t (q ∷ qs))
+      → length (filter t (cond b (q ∷ filter p qs) (filter p qs))) + length
+      (filter t (cond (not b) (q ∷ filter (λ q. not (p q)) qs) (filter (λ q. not (p q)) qs))) ≡ length (filter t (q ∷ qs))
   go true h = omega (arith, h, counted (t q) q (filter t qs), counted (t q) q (filter t (filter p qs)))
   go false h = omega (arith, h, counted (t q) q (filter t qs), counted (t q) q (filter t (filter (λ q. not (p q)) qs)))
 
@@ -109,15 +128,19 @@ count_purge : (t : Request → Bool) (requestor : ℕ) (qs : List Request)
     → length (filter t (waiting_of requestor qs)) + length (filter t (granted_by_purge requestor qs)) ≤ length (filter t qs)
 count_purge t requestor qs =
     let p : Request → Bool = of_requestor requestor in
-    let parts : length (filter t (filter p qs)) ≡ length (filter t (filter p (granted qs))) + length (filter t (filter p (waiting qs))) = part p in
+    let parts : length (filter t (filter p qs)) ≡ length (filter t (filter p (granted qs))) + length (filter t (filter p (waiting qs))) =
+    part p in
     omega (arith, parts, count_both t p qs, count_newly t qs (purged requestor qs)) where
-      part : (p : Request → Bool) → length (filter t (filter p qs)) ≡ length (filter t (filter p (granted qs))) + length (filter t (filter p (waiting qs)))
+      part : (p : Request → Bool) → length (filter t (filter p qs)) ≡ length (filter t (filter p (granted qs))) + length
+          (filter t (filter p (waiting qs)))
       part p = ap (λ rs. length (filter t (filter p rs))) (sym (granted_split qs)) ∙ split (granted qs) (waiting qs) where
-        split : (xs ys : List Request) → length (filter t (filter p (xs ++ ys))) ≡ length (filter t (filter p xs)) + length (filter t (filter p ys))
+        split : (xs ys : List Request) → length (filter t (filter p (xs ++ ys))) ≡ length (filter t (filter p xs)) + length
+            (filter t (filter p ys))
         split [] ys = omega arith
         split (x ∷ xs) ys = go (p x) (split xs ys) where
           go : (b : Bool) → length (filter t (filter p (xs ++ ys))) ≡ length (filter t (filter p xs)) + length (filter t (filter p ys))
-              → length (filter t (cond b (x ∷ filter p (xs ++ ys)) (filter p (xs ++ ys)))) ≡ length (filter t (cond b (x ∷ filter p xs) (filter p xs))) + length (filter t (filter p ys))
+              → length (filter t (cond b (x ∷ filter p (xs ++ ys)) (filter p (xs ++ ys)))) ≡ length
+              (filter t (cond b (x ∷ filter p xs) (filter p xs))) + length (filter t (filter p ys))
           go true h = omega (arith, h, counted (t x) x (filter t (filter p (xs ++ ys))), counted (t x) x (filter t (filter p xs)))
           go false h = h
 
@@ -126,10 +149,17 @@ flat_counts : (t : Request → Bool) (f : List Request → List Request) (qs : L
 flat_counts t f qs lists = count_split t (f qs) (flat_map f lists)
 
 count_purges : (t : Request → Bool) (requestor : ℕ) (lists : List (List Request))
-    → length (filter t (flat_map (waiting_of requestor) lists)) + length (filter t (flat_map (granted_by_purge requestor) lists)) ≤ count_in t lists
+    → length (filter t (flat_map (waiting_of requestor) lists)) + length
+    (filter t (flat_map (granted_by_purge requestor) lists)) ≤ count_in t lists
 count_purges t requestor [] = omega arith
 count_purges t requestor (qs ∷ lists) =
-    omega (arith, flat_counts t (waiting_of requestor) qs lists, flat_counts t (granted_by_purge requestor) qs lists, count_purge t requestor qs, count_purges t requestor lists)
+    omega (
+      arith,
+      flat_counts t (waiting_of requestor) qs lists,
+      flat_counts t (granted_by_purge requestor) qs lists,
+      count_purge t requestor qs,
+      count_purges t requestor lists,
+    )
 
 count_list : (t : Request → Bool) (lists : List (List Request)) (latch : ℕ) → length (filter t (list_of lists latch)) ≤ count_in t lists
 count_list t [] latch = omega arith
@@ -142,9 +172,22 @@ wakes_post k (Confirm latch id) lists = omega arith
 wakes_post k (Release latch id conditional) lists =
     let old : List Request = list_of lists latch in
     let new : List Request = (release_step k id conditional (list_of lists latch)).0 in
-    omega (arith, blocks_count 0 (newly_granted old new), count_newly posts old new, released posts k id conditional old, count_list posts lists latch)
+    omega (
+      arith,
+      blocks_count 0 (newly_granted old new),
+      count_newly posts old new,
+      released posts k id conditional old,
+      count_list posts lists latch,
+    )
 wakes_post k (Purge requestor) lists =
-    omega (arith, blocks-append (map (wake_of 1) (flat_map (waiting_of requestor) lists)) (map (wake_of 0) (flat_map (granted_by_purge requestor) lists)), blocks_count 1 (flat_map (waiting_of requestor) lists), blocks_count 0 (flat_map (granted_by_purge requestor) lists), count_purges posts requestor lists)
+    omega (
+      arith,
+      blocks-append (map (wake_of 1) (flat_map (waiting_of requestor) lists))
+          (map (wake_of 0) (flat_map (granted_by_purge requestor) lists)),
+      blocks_count 1 (flat_map (waiting_of requestor) lists),
+      blocks_count 0 (flat_map (granted_by_purge requestor) lists),
+      count_purges posts requestor lists,
+    )
 
 -- ---- and these the quotas bound
 abbrev first : ℕ → Request → Bool
@@ -161,12 +204,22 @@ first_one : (k n : ℕ) (b : Bool) → one_if (nat_lt k (suc n) && b) ≡ one_if
 first_one k n true = grind (arith, nat_tests)
 first_one k n false = grind (arith, nat_tests)
 
-first_list : (n : ℕ) (qs : List Request) → length (filter (first (suc n)) qs) ≡ length (filter (first n) qs) + length (filter (posted_of n) qs)
+first_list : (n : ℕ) (qs : List Request) → length (filter (first (suc n)) qs) ≡ length (filter (first n) qs) + length
+    (filter (posted_of n) qs)
 first_list n [] = refl
 first_list n (q ∷ qs) =
-    omega (arith, first_list n qs, first_one q.caller n (posts q), kept (first (suc n) q) q (filter (first (suc n)) qs), kept (first n q) q (filter (first n) qs), kept (posted_of n q) q (filter (posted_of n) qs))
+    omega (
+      arith,
+      first_list n qs,
+      first_one q.caller n (posts q),
+      kept (first (suc n) q) q (filter (first (suc n)) qs),
+      kept (first n q) q
+          (filter (first n) qs),
+      kept (posted_of n q) q (filter (posted_of n) qs),
+    )
 
-first_more : (n : ℕ) (lists : List (List Request)) → count_in (first (suc n)) lists ≡ count_in (first n) lists + count_in (posted_of n) lists
+first_more : (n : ℕ) (lists : List (List Request)) → count_in (first (suc n)) lists ≡ count_in (first n) lists + count_in
+    (posted_of n) lists
 first_more n [] = refl
 first_more n (qs ∷ lists) = omega (arith, first_list n qs, first_more n lists)
 
@@ -178,29 +231,45 @@ first_none : (lists : List (List Request)) → count_in (first 0) lists ≡ 0
 first_none [] = refl
 first_none (qs ∷ lists) = omega (arith, none_first qs, first_none lists)
 
-first_fit : (most n : ℕ) (lists : List (List Request)) → ((k : ℕ) → count_in (posted_of k) lists ≤ most) → count_in (first n) lists ≤ n * most
+first_fit : (most n : ℕ) (lists : List (List Request)) → ((k : ℕ) → count_in (posted_of k) lists ≤ most)
+    → count_in (first n) lists ≤ n * most
 first_fit most zero lists q = omega (arith, first_none lists)
 first_fit most (suc n) lists q = omega (arith, first_more n lists, first_fit most n lists q, q n)
 
-all_first_list : (c : Setup) (qs : List Request) → AllByRecursion (IsFair c) qs → length (filter posts qs) ≡ length (filter (first c.callers) qs)
+all_first_list : (c : Setup) (qs : List Request) → AllByRecursion (IsFair c) qs
+    → length (filter posts qs) ≡ length (filter (first c.callers) qs)
 all_first_list c [] a = refl
 all_first_list c (q ∷ qs) a =
-    omega (arith, all_first_list c qs a.1, kept (posts q) q (filter posts qs), kept (first c.callers q) q (filter (first c.callers) qs), ap (λ b. one_if (b && posts q)) (lt-ltb q.caller c.callers a.0.0))
+    omega (
+      arith,
+      all_first_list c qs a.1,
+      kept (posts q) q (filter posts qs),
+      kept (first c.callers q) q (filter (first c.callers) qs),
+      ap
+          (λ b. one_if (b && posts q)) (lt-ltb q.caller c.callers a.0.0),
+    )
 
 all_first : (c : Setup) (lists : List (List Request)) → AllFair c lists → count_in posts lists ≡ count_in (first c.callers) lists
 all_first c [] a = refl
 all_first c (qs ∷ lists) a = omega (arith, all_first_list c qs a.0, all_first c lists a.1)
 
-pub few_wakes_post : (c : Setup) (es : List Entry) (k : ℕ) (op : LatchOp) → Legal c es → length (blocks_of (wakes k op (after c es).latches.state)) ≤ c.callers * c.posted_quota
+pub few_wakes_post : (c : Setup) (es : List Entry) (k : ℕ) (op : LatchOp) → Legal c es
+    → length (blocks_of (wakes k op (after c es).latches.state)) ≤ c.callers * c.posted_quota
 few_wakes_post c es k op l =
-    let o = orderly c es l in
-    omega (arith, wakes_post k op (after c es).latches.state, all_first c (after c es).latches.state o.fair, first_fit c.posted_quota c.callers (after c es).latches.state o.quotas.posted)
+    let o = requests_kept c es l in
+    omega (
+      arith,
+      wakes_post k op (after c es).latches.state,
+      all_first c (after c es).latches.state o.fair,
+      first_fit c.posted_quota c.callers (after c es).latches.state o.quotas.posted,
+    )
 
 -- ---- what the posts of these blocks cost
 fair_blocks : (c : Setup) (ws : List Wake) → AllByRecursion (IsFairWake c) ws → AllByRecursion (λ e. e < length c.owners) (blocks_of ws)
 fair_blocks c [] a = tt
 fair_blocks c (w ∷ ws) a = go w.ecb a.0.2 (fair_blocks c ws a.1) where
-  go : (e : Option ℕ) → IfSome e (λ b. IsBlockOf c w.caller b) → AllByRecursion (λ e. e < length c.owners) (blocks_of ws) → AllByRecursion (λ e. e < length c.owners) (blocks_of (record w { ecb = e } ∷ ws))
+  go : (e : Option ℕ) → IfSome e (λ b. IsBlockOf c w.caller b) → AllByRecursion (λ e. e < length c.owners) (blocks_of ws)
+      → AllByRecursion (λ e. e < length c.owners) (blocks_of (record w { ecb = e } ∷ ws))
   go (Some b) is rest = (is.0, rest)
   go None is rest = rest
 
@@ -211,7 +280,8 @@ greatest_at f a (suc n) e low high = elim (cases_eq e a) [
   | inr apart ↦ omega (arith, greatest_at f (a + 1) n e (omega arith) (omega arith))
 ]
 
-total_fits : (f : ℕ → ℕ) (most n : ℕ) (es : List ℕ) → ((e : ℕ) → e < n → f e ≤ most) → AllByRecursion (λ e. e < n) es → total f es ≤ length es * most
+total_fits : (f : ℕ → ℕ) (most n : ℕ) (es : List ℕ) → ((e : ℕ) → e < n → f e ≤ most) → AllByRecursion (λ e. e < n) es
+    → total f es ≤ length es * most
 total_fits f most n [] each a = omega arith
 total_fits f most n (e ∷ es) each a = omega (arith, each e a.0, total_fits f most n es each a.1)
 
@@ -221,6 +291,8 @@ wakes_cost c es k op l exact =
     let most : ℕ = greatest (map (reach c) (range_with_len 0 (length c.owners))) in
     let ws : List Wake = wakes k op (after c es).latches.state in
     let sum : total (reach c) (blocks_of ws) ≤ length (blocks_of ws) * most =
-    total_fits (reach c) most (length c.owners) (blocks_of ws) (λ e lt. greatest_at (reach c) 0 (length c.owners) e (omega arith) (omega arith)) (fair_blocks c ws (wakes_are_fair c es k op l)) in
-    let fits : length (blocks_of ws) * most ≤ c.callers * c.posted_quota * most = mul-le (length (blocks_of ws)) most (c.callers * c.posted_quota) most (few_wakes_post c es k op l) (omega arith) in
+    total_fits (reach c) most (length c.owners) (blocks_of ws)
+    (λ e lt. greatest_at (reach c) 0 (length c.owners) e (omega arith) (omega arith)) (fair_blocks c ws (wakes_are_fair c es k op l)) in
+    let fits : length (blocks_of ws) * most ≤ c.callers * c.posted_quota * most = mul-le (length (blocks_of ws)) most
+    (c.callers * c.posted_quota) most (few_wakes_post c es k op l) (omega arith) in
     omega (arith, sum, fits, exact)

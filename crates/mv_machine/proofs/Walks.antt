@@ -1,5 +1,6 @@
 -- A legal list gone through entry by entry, with an eye on one object.
-use Rattle.std.proofs.Common.{◌≡◌, ℕ, ◌+◌, ◌<◌, ◌≤◌, ◌^◌, ◌↔◌, true, IsTrue, IsSome, IfSome, List, [], ◌∷◌, length, take, drop, get_or, Option, Some, None, refl, sym, ap, ◌∙◌, subst, arith}
+use Rattle.std.proofs.Common.{◌≡◌, ℕ, ◌+◌, ◌<◌, ◌≤◌, ◌^◌, ◌↔◌, true, IsTrue, IsSome, IfSome, List, [], ◌∷◌, length, take, drop}
+use Rattle.std.proofs.Common.{get_or, Option, Some, None, refl, sym, ap, ◌∙◌, subst, arith}
 use Rattle.std.proofs.lemmas.Bool.{false≢true}
 use Rattle.std.proofs.lemmas.List.{take_more, drop_more, take-append-drop, take_all}
 use Rattle.std.proofs.lemmas.List.Elements.{All-head, All-tail, All-take}
@@ -39,7 +40,8 @@ use Rattle.mv_machine.proofs.LatchIds.{new_from_next, none_in_new}
 abbrev pub AreLow : List Entry → Type 0
 AreLow es = All (λ e. e.place ≤ 524286) es
 
-low_from : (c : Setup) (s : System) (es : List Entry) → LegalFrom c s es → AreLow es → ((o : Object) → place_of s o < 2 ^ 19) → (o : Object) → place_of (after_from s es) o < 2 ^ 19
+low_from : (c : Setup) (s : System) (es : List Entry) → LegalFrom c s es → AreLow es → ((o : Object) → place_of s o < 2 ^ 19) → (o : Object)
+    → place_of (after_from s es) o < 2 ^ 19
 low_from c s [] l low places o = places o
 low_from c s (e ∷ es) l low places o =
     low_from c (next s e) es l.1 (All-tail (λ (x : Entry). x.place ≤ 524286) e es low)
@@ -49,7 +51,8 @@ places_low : (c : Setup) (es : List Entry) → Legal c es → AreLow es → (o :
 places_low c es l low o = low_from c (opening c) es l low (opening_places c) o
 
 -- so the entries on one object can be counted
-pub count_low : (c : Setup) (es : List Entry) → Legal c es → AreLow es → (o : Object) (count : ℕ) → count ≡ length («at» o es) → count < 2 ^ 32
+pub count_low : (c : Setup) (es : List Entry) → Legal c es → AreLow es → (o : Object) (count : ℕ) → count ≡ length («at» o es)
+    → count < 2 ^ 32
 count_low c es l low o count is = omega (arith, places_low c es l low o, place_is_count c es o l)
 
 -- and an element's generation is low
@@ -63,9 +66,11 @@ legal_take : (c : Setup) (s : System) (es : List Entry) (i : ℕ) → LegalFrom 
 legal_take c s es i l = LegalFrom-front c s (take i es) (drop i es) (rw (take-append-drop i es) l)
 
 -- the entry at i is the next one after those before it
-next_at : (c : Setup) (s : System) (es : List Entry) (i : ℕ) (d : Entry) → i < length es → LegalFrom c s es → IsNext c (after_from s (take i es)) (get_or es i d)
+next_at : (c : Setup) (s : System) (es : List Entry) (i : ℕ) (d : Entry) → i < length es → LegalFrom c s es
+    → IsNext c (after_from s (take i es)) (get_or es i d)
 next_at c s es i d lt l =
-    let rest : LegalFrom c (after_from s (take i es)) (drop i es) = LegalFrom-rest c s (take i es) (drop i es) (rw (take-append-drop i es) l) in
+    let rest : LegalFrom c (after_from s (take i es)) (drop i es) = LegalFrom-rest c s (take i es) (drop i es)
+    (rw (take-append-drop i es) l) in
     let split : LegalFrom c (after_from s (take i es)) (get_or es i d ∷ drop (i + 1) es) = rw (drop_more es i d lt) at rest in
     split.0
 
@@ -92,13 +97,15 @@ place_is_new c es id is = new_after (opening c) es (λ n le. none_in_new c.latch
 ecb_op_fits : (c : Setup) (s : System) (k n : ℕ) (op : EcbOp) → IsTrue (admitted c s k (Ecb n) (op_on.Ecb op)) → IsEcbOp op
 ecb_op_fits c s k n op h = grind arith
 
-element_op_fits : (c : Setup) (s : System) (k n : ℕ) (op : ElementOp) → IsTrue (admitted c s k (Element n) (op_on.Element op)) → IsElementOp op
+element_op_fits : (c : Setup) (s : System) (k n : ℕ) (op : ElementOp) → IsTrue (admitted c s k (Element n) (op_on.Element op))
+    → IsElementOp op
 element_op_fits c s k n op h = grind arith
 
 latch_caller : (c : Setup) (s : System) (k : ℕ) (op : LatchOp) → IsTrue (admitted c s k Latches (op_on.Latch op)) → k < c.callers
 latch_caller c s k op h = grind arith
 
-latch_fits : (c : Setup) (s : System) (k : ℕ) (op : LatchOp) → IsTrue (admitted c s k Latches (op_on.Latch op)) → latch_admitted k op (latches_of c s.latches.state) ≡ true
+latch_fits : (c : Setup) (s : System) (k : ℕ) (op : LatchOp) → IsTrue (admitted c s k Latches (op_on.Latch op))
+    → latch_admitted k op (latches_of c s.latches.state) ≡ true
 latch_fits c s k op h = grind arith
 
 -- ---- one turn of a loop over the entries
@@ -116,19 +123,22 @@ module _ (c : Setup) (es : List Entry) (l : Legal c es) (i : ℕ) (lt : i < leng
   moves o op on is = one_more ∙ ap (λ q. moved before e.caller q e.op) on ∙ ap (λ p. moved before e.caller o p) is
 
   admits : (o : Object) (op : Op) → e.object ≡ o → e.op ≡ op → IsTrue (admitted c before e.caller o op)
-  admits o op on is = subst (λ p. IsTrue (admitted c before e.caller o p)) is (subst (λ q. IsTrue (admitted c before e.caller q e.op)) on is_next.admits)
+  admits o op on is = subst (λ p. IsTrue (admitted c before e.caller o p)) is
+      (subst (λ q. IsTrue (admitted c before e.caller q e.op)) on is_next.admits)
 
   -- an event control block
   pub ecb_turn_fits : (n : ℕ) (op : EcbOp) → e.object ≡ Ecb n → e.op ≡ op_on.Ecb op → IsEcbOp op
   ecb_turn_fits n op on is = ecb_op_fits c before e.caller n op (admits (Ecb n) (op_on.Ecb op) on is)
 
-  pub ecb_turn : (n : ℕ) (op : EcbOp) → e.object ≡ Ecb n → e.op ≡ op_on.Ecb op → (word : EcbState) → word ≡ (before.ecb n).state → (ecb_step op word).0 ≡ ((after c (take (i + 1) es)).ecb n).state
+  pub ecb_turn : (n : ℕ) (op : EcbOp) → e.object ≡ Ecb n → e.op ≡ op_on.Ecb op → (word : EcbState) → word ≡ (before.ecb n).state
+      → (ecb_step op word).0 ≡ ((after c (take (i + 1) es)).ecb n).state
   ecb_turn n op on is word was =
       ap (λ w. (ecb_step op w).0) was
       ∙ sym (ap (λ z. z.state) (with_at-same before.ecb n (turned (before.ecb n) (ecb_step op (before.ecb n).state).0) n refl))
       ∙ sym (ap (λ (s : System). (s.ecb n).state) (moves (Ecb n) (op_on.Ecb op) on is))
 
-  pub ecb_stays : (n : ℕ) → ((s : System) → (next s e).ecb n ≡ s.ecb n) → (word : EcbState) → word ≡ (before.ecb n).state → word ≡ ((after c (take (i + 1) es)).ecb n).state
+  pub ecb_stays : (n : ℕ) → ((s : System) → (next s e).ecb n ≡ s.ecb n) → (word : EcbState) → word ≡ (before.ecb n).state
+      → word ≡ ((after c (take (i + 1) es)).ecb n).state
   ecb_stays n same word was = was ∙ sym (ap (λ z. z.state) (same before)) ∙ sym (ap (λ (s : System). (s.ecb n).state) one_more)
 
   -- an element
@@ -136,28 +146,35 @@ module _ (c : Setup) (es : List Entry) (l : Legal c es) (i : ℕ) (lt : i < leng
   element_turn_fits n op on is = element_op_fits c before e.caller n op (admits (Element n) (op_on.Element op) on is)
 
   pub element_turn_low : AreLow es → (n : ℕ) (state : ElementState) → state ≡ (before.element n).state → state.generation < 2 ^ 18
-  element_turn_low low n state was = rw was (generation_low c (take i es) (legal_take c (opening c) es i l) (All-take (λ (x : Entry). x.place ≤ 524286) i es low) n)
+  element_turn_low low n state was = rw was (generation_low c (take i es) (legal_take c (opening c) es i l)
+      (All-take (λ (x : Entry). x.place ≤ 524286) i es low) n)
 
-  pub element_turn : (n : ℕ) (op : ElementOp) → e.object ≡ Element n → e.op ≡ op_on.Element op → (state : ElementState) → state ≡ (before.element n).state → (element_step op state).0 ≡ ((after c (take (i + 1) es)).element n).state
+  pub element_turn : (n : ℕ) (op : ElementOp) → e.object ≡ Element n → e.op ≡ op_on.Element op → (state : ElementState)
+      → state ≡ (before.element n).state → (element_step op state).0 ≡ ((after c (take (i + 1) es)).element n).state
   element_turn n op on is state was =
       ap (λ w. (element_step op w).0) was
-      ∙ sym (ap (λ z. z.state) (with_at-same before.element n (turned (before.element n) (element_step op (before.element n).state).0) n refl))
+      ∙ sym (ap (λ z. z.state) (with_at-same before.element n
+      (turned (before.element n) (element_step op (before.element n).state).0) n refl))
       ∙ sym (ap (λ (s : System). (s.element n).state) (moves (Element n) (op_on.Element op) on is))
 
-  pub element_stays : (n : ℕ) → ((s : System) → (next s e).element n ≡ s.element n) → (state : ElementState) → state ≡ (before.element n).state → state ≡ ((after c (take (i + 1) es)).element n).state
+  pub element_stays : (n : ℕ) → ((s : System) → (next s e).element n ≡ s.element n) → (state : ElementState)
+      → state ≡ (before.element n).state → state ≡ ((after c (take (i + 1) es)).element n).state
   element_stays n same state was = was ∙ sym (ap (λ z. z.state) (same before)) ∙ sym (ap (λ (s : System). (s.element n).state) one_more)
 
   -- a volume
-  pub volume_turn : (n number : ℕ) → e.object ≡ Volume n → e.op ≡ op_on.Volume (Write number) → number ≡ ((after c (take (i + 1) es)).volume n).state
+  pub volume_turn : (n number : ℕ) → e.object ≡ Volume n → e.op ≡ op_on.Volume (Write number)
+      → number ≡ ((after c (take (i + 1) es)).volume n).state
   volume_turn n number on is =
       sym (ap (λ z. z.state) (with_at-same before.volume n (turned (before.volume n) number) n refl))
       ∙ sym (ap (λ (s : System). (s.volume n).state) (moves (Volume n) (op_on.Volume (Write number)) on is))
 
-  pub volume_stays : (n : ℕ) → ((s : System) → ((next s e).volume n).state ≡ (s.volume n).state) → (number : ℕ) → number ≡ (before.volume n).state → number ≡ ((after c (take (i + 1) es)).volume n).state
+  pub volume_stays : (n : ℕ) → ((s : System) → ((next s e).volume n).state ≡ (s.volume n).state) → (number : ℕ)
+      → number ≡ (before.volume n).state → number ≡ ((after c (take (i + 1) es)).volume n).state
   volume_stays n same number was = was ∙ sym (same before) ∙ sym (ap (λ (s : System). (s.volume n).state) one_more)
 
   -- the latch set
-  pub latch_turn_caller : (op : LatchOp) → e.object ≡ Latches → e.op ≡ op_on.Latch op → (old : LatchLists) → old ≡ latches_of c before.latches.state → e.caller < old.callers
+  pub latch_turn_caller : (op : LatchOp) → e.object ≡ Latches → e.op ≡ op_on.Latch op → (old : LatchLists)
+      → old ≡ latches_of c before.latches.state → e.caller < old.callers
   latch_turn_caller op on is old was = rw was (latch_caller c before e.caller op (admits Latches (op_on.Latch op) on is))
 
   latch_place : e.object ≡ Latches → e.place ≡ before.latches.place
@@ -166,24 +183,35 @@ module _ (c : Setup) (es : List Entry) (l : Legal c es) (i : ℕ) (lt : i < leng
   pub latch_turn_new : e.object ≡ Latches → (old : LatchLists) → old ≡ latches_of c before.latches.state → IsNewId e.place old.lists
   latch_turn_new on old was = rw was (place_is_new c (take i es) e.place (latch_place on))
 
-  lists_of : (op : LatchOp) (old new : LatchLists) (r : LatchReply) → old ≡ latches_of c before.latches.state → (new.lists, r) ≡ latch_step e.caller e.place op old.lists → new ≡ record old { lists = new.lists } → e.place ≡ before.latches.place → new ≡ latches_of c (latch_step e.caller before.latches.place op before.latches.state).0
+  lists_of : (op : LatchOp) (old new : LatchLists) (r : LatchReply) → old ≡ latches_of c before.latches.state
+      → (new.lists, r) ≡ latch_step e.caller e.place op old.lists → new ≡ record old { lists = new.lists } → e.place ≡ before.latches.place
+      → new ≡ latches_of c (latch_step e.caller before.latches.place op before.latches.state).0
   lists_of op old new r was step quotas at_place =
       quotas
       ∙ ap (λ m. let z : LatchLists = record old { lists = m } in z) (ap (λ (p : List (List Request) × LatchReply). p.0) step)
       ∙ ap (λ (z : LatchLists). let y : LatchLists = record z { lists = (latch_step e.caller e.place op z.lists).0 } in y) was
       ∙ ap (λ p. latches_of c (latch_step e.caller p op before.latches.state).0) at_place
 
-  stepped : (op : LatchOp) (old new : LatchLists) (r : Option LatchReply) → e.object ≡ Latches → e.op ≡ op_on.Latch op → old ≡ latches_of c before.latches.state → (IsSome r ↔ IsTrue (latch_admitted e.caller op old)) → IfSome r (λ reply. (new.lists, reply) ≡ latch_step e.caller e.place op old.lists) → new ≡ record old { lists = new.lists } → new ≡ latches_of c (latch_step e.caller before.latches.place op before.latches.state).0
+  stepped : (op : LatchOp) (old new : LatchLists) (r : Option LatchReply) → e.object ≡ Latches → e.op ≡ op_on.Latch op
+      → old ≡ latches_of c before.latches.state → (IsSome r ↔ IsTrue (latch_admitted e.caller op old))
+      → IfSome r (λ reply. (new.lists, reply) ≡ latch_step e.caller e.place op old.lists) → new ≡ record old { lists = new.lists }
+      → new ≡ latches_of c (latch_step e.caller before.latches.place op before.latches.state).0
   stepped op old new (Some r) on is was some step quotas = lists_of op old new r was step quotas (latch_place on)
-  stepped op old new None on is was some step quotas = absurd (false≢true (some.1 (rw was (latch_fits c before e.caller op (admits Latches (op_on.Latch op) on is)))))
+  stepped op old new None on is was some step quotas =
+      absurd (false≢true (some.1 (rw was (latch_fits c before e.caller op (admits Latches (op_on.Latch op) on is)))))
 
-  pub latch_turn : (op : LatchOp) (old new : LatchLists) (r : Option LatchReply) → e.object ≡ Latches → e.op ≡ op_on.Latch op → old ≡ latches_of c before.latches.state → (IsSome r ↔ IsTrue (latch_admitted e.caller op old)) → IfSome r (λ reply. (new.lists, reply) ≡ latch_step e.caller e.place op old.lists) → new ≡ record old { lists = new.lists } → new ≡ latches_of c (after c (take (i + 1) es)).latches.state
+  pub latch_turn : (op : LatchOp) (old new : LatchLists) (r : Option LatchReply) → e.object ≡ Latches → e.op ≡ op_on.Latch op
+      → old ≡ latches_of c before.latches.state → (IsSome r ↔ IsTrue (latch_admitted e.caller op old))
+      → IfSome r (λ reply. (new.lists, reply) ≡ latch_step e.caller e.place op old.lists) → new ≡ record old { lists = new.lists }
+      → new ≡ latches_of c (after c (take (i + 1) es)).latches.state
   latch_turn op old new r on is was some step quotas =
       stepped op old new r on is was some step quotas
       ∙ sym (ap (λ (s : System). latches_of c s.latches.state) (moves Latches (op_on.Latch op) on is))
 
-  pub latch_stays : ((s : System) → (next s e).latches ≡ s.latches) → (old : LatchLists) → old ≡ latches_of c before.latches.state → old ≡ latches_of c (after c (take (i + 1) es)).latches.state
-  latch_stays same old was = was ∙ sym (ap (λ z. latches_of c z.state) (same before)) ∙ sym (ap (λ (s : System). latches_of c s.latches.state) one_more)
+  pub latch_stays : ((s : System) → (next s e).latches ≡ s.latches) → (old : LatchLists) → old ≡ latches_of c before.latches.state
+      → old ≡ latches_of c (after c (take (i + 1) es)).latches.state
+  latch_stays same old was = was ∙ sym (ap (λ z. latches_of c z.state) (same before))
+      ∙ sym (ap (λ (s : System). latches_of c s.latches.state) one_more)
 
 -- ---- the answer behind the whole list
 module _ (c : Setup) (es : List Entry) (l : Legal c es) (i : ℕ) (all : length es ≤ i) where
@@ -193,31 +221,49 @@ module _ (c : Setup) (es : List Entry) (l : Legal c es) (i : ℕ) (all : length 
   counted : (o : Object) (place : ℕ) → place ≡ length («at» o es) → place ≡ place_of (after c es) o
   counted o place is = is ∙ sym (place_is_count c es o l)
 
-  pub ecb_answer : (k n : ℕ) (op : EcbOp) (word : EcbState) (z : EcbState × EcbReply) (place : ℕ) → word ≡ ((after c (take i es)).ecb n).state → z ≡ ecb_step op word → place ≡ length («at» (Ecb n) es) → admitted c (after c es) k (Ecb n) (op_on.Ecb op) ≡ true → Some (place, reply_of.Ecb z.1) ≡ answer c (after c es) k (Ecb n) (op_on.Ecb op)
+  pub ecb_answer : (k n : ℕ) (op : EcbOp) (word : EcbState) (z : EcbState × EcbReply) (place : ℕ)
+      → word ≡ ((after c (take i es)).ecb n).state → z ≡ ecb_step op word → place ≡ length («at» (Ecb n) es)
+      → admitted c (after c es) k (Ecb n) (op_on.Ecb op) ≡ true
+      → Some (place, reply_of.Ecb z.1) ≡ answer c (after c es) k (Ecb n) (op_on.Ecb op)
   ecb_answer k n op word z place was step is ok = rw (ok, step, was, whole, counted (Ecb n) place is) refl
 
-  pub element_end_low : AreLow es → (n : ℕ) (state : ElementState) → state ≡ ((after c (take i es)).element n).state → state.generation < 2 ^ 18
+  pub element_end_low : AreLow es → (n : ℕ) (state : ElementState) → state ≡ ((after c (take i es)).element n).state
+      → state.generation < 2 ^ 18
   element_end_low low n state was = rw (was, whole) (generation_low c es l low n)
 
-  pub element_answer : (k n : ℕ) (op : ElementOp) (state : ElementState) (z : ElementState × ElementReply) (place : ℕ) → state ≡ ((after c (take i es)).element n).state → z ≡ element_step op state → place ≡ length («at» (Element n) es) → admitted c (after c es) k (Element n) (op_on.Element op) ≡ true → Some (place, reply_of.Element z.1) ≡ answer c (after c es) k (Element n) (op_on.Element op)
+  pub element_answer : (k n : ℕ) (op : ElementOp) (state : ElementState) (z : ElementState × ElementReply) (place : ℕ)
+      → state ≡ ((after c (take i es)).element n).state → z ≡ element_step op state → place ≡ length («at» (Element n) es)
+      → admitted c (after c es) k (Element n) (op_on.Element op) ≡ true
+      → Some (place, reply_of.Element z.1) ≡ answer c (after c es) k (Element n) (op_on.Element op)
   element_answer k n op state z place was step is ok = rw (ok, step, was, whole, counted (Element n) place is) refl
 
-  pub volume_answer : (k n : ℕ) (op : VolumeOp) (number : ℕ) (reply : VolumeReply) (place : ℕ) → number ≡ ((after c (take i es)).volume n).state → reply ≡ (volume_step op number).1 → place ≡ length («at» (Volume n) es) → admitted c (after c es) k (Volume n) (op_on.Volume op) ≡ true → Some (place, reply_of.Volume reply) ≡ answer c (after c es) k (Volume n) (op_on.Volume op)
+  pub volume_answer : (k n : ℕ) (op : VolumeOp) (number : ℕ) (reply : VolumeReply) (place : ℕ)
+      → number ≡ ((after c (take i es)).volume n).state → reply ≡ (volume_step op number).1 → place ≡ length («at» (Volume n) es)
+      → admitted c (after c es) k (Volume n) (op_on.Volume op) ≡ true
+      → Some (place, reply_of.Volume reply) ≡ answer c (after c es) k (Volume n) (op_on.Volume op)
   volume_answer k n op number reply place was step is ok = rw (ok, step, was, whole, counted (Volume n) place is) refl
 
   -- the latch set as it is at the end
-  pub latches_end : (old : LatchLists) → old ≡ latches_of c (after c (take i es)).latches.state → old ≡ latches_of c (after c es).latches.state
+  pub latches_end : (old : LatchLists) → old ≡ latches_of c (after c (take i es)).latches.state
+      → old ≡ latches_of c (after c es).latches.state
   latches_end old was = was ∙ ap (λ (s : System). latches_of c s.latches.state) whole
 
-  pub latch_end_new : (old : LatchLists) (place : ℕ) → old ≡ latches_of c (after c (take i es)).latches.state → place ≡ length («at» Latches es) → IsNewId place old.lists
+  pub latch_end_new : (old : LatchLists) (place : ℕ) → old ≡ latches_of c (after c (take i es)).latches.state
+      → place ≡ length («at» Latches es) → IsNewId place old.lists
   latch_end_new old place was is = rw (latches_end old was) (place_is_new c es place (counted Latches place is))
 
-  pub latch_end_ok : (k : ℕ) (op : LatchOp) (old : LatchLists) → old ≡ latches_of c (after c (take i es)).latches.state → IsTrue (latch_admitted k op old) → k < c.callers → posts_own_ecb c k op ≡ true → admitted c (after c es) k Latches (op_on.Latch op) ≡ true
+  pub latch_end_ok : (k : ℕ) (op : LatchOp) (old : LatchLists) → old ≡ latches_of c (after c (take i es)).latches.state
+      → IsTrue (latch_admitted k op old) → k < c.callers → posts_own_ecb c k op ≡ true
+      → admitted c (after c es) k Latches (op_on.Latch op) ≡ true
   latch_end_ok k op old was fits known own =
-      let a : latch_admitted k op (latches_of c (after c es).latches.state) ≡ true = subst (λ z. IsTrue (latch_admitted k op z)) (latches_end old was) fits in
+      let a : latch_admitted k op (latches_of c (after c es).latches.state) ≡ true = subst (λ z. IsTrue (latch_admitted k op z))
+      (latches_end old was) fits in
       grind (arith, a)
 
-  pub latch_answer : (k : ℕ) (op : LatchOp) (old : LatchLists) (lists : List (List Request)) (reply : LatchReply) (place : ℕ) → old ≡ latches_of c (after c (take i es)).latches.state → (lists, reply) ≡ latch_step k place op old.lists → place ≡ length («at» Latches es) → admitted c (after c es) k Latches (op_on.Latch op) ≡ true → Some (place, reply_of.Latch reply) ≡ answer c (after c es) k Latches (op_on.Latch op)
+  pub latch_answer : (k : ℕ) (op : LatchOp) (old : LatchLists) (lists : List (List Request)) (reply : LatchReply) (place : ℕ)
+      → old ≡ latches_of c (after c (take i es)).latches.state → (lists, reply) ≡ latch_step k place op old.lists
+      → place ≡ length («at» Latches es) → admitted c (after c es) k Latches (op_on.Latch op) ≡ true
+      → Some (place, reply_of.Latch reply) ≡ answer c (after c es) k Latches (op_on.Latch op)
   latch_answer k op old lists reply place was step is ok =
       let r : reply ≡ (latch_step k place op old.lists).1 = ap (λ (p : List (List Request) × LatchReply). p.1) step in
       rw (ok, r, latches_end old was, counted Latches place is) refl

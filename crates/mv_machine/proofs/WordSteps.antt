@@ -28,23 +28,32 @@ fields_admitted c m k (Volume n) (op_on.Volume op) a = tt
 fields_admitted c m k Latches (op_on.Latch op) a = tt
 fields_admitted c m k o op a = absurd (false≢true a)
 
-pub reply_by_state : (c : Setup) (m : System) (k : ℕ) (o : Object) (op : Op) → admitted c m k o op ≡ true → IsSome (state_at m o) → reply_to m k o op ≡ option_and_then (reply_in op) (state_at m o)
+pub reply_by_state : (c : Setup) (m : System) (k : ℕ) (o : Object) (op : Op) → admitted c m k o op ≡ true → IsSome (state_at m o)
+    → reply_to m k o op ≡ option_and_then (reply_in op) (state_at m o)
 reply_by_state c m k (Ecb n) (op_on.Ecb op) a w = refl
 reply_by_state c m k (Element n) (op_on.Element op) a w = refl
 reply_by_state c m k (Volume n) (op_on.Volume op) a w = refl
 reply_by_state c m k Latches (op_on.Latch op) a w = absurd (false≢true w)
 reply_by_state c m k o op a w = absurd (false≢true a)
 
-pub state_by_state : (c : Setup) (m : System) (k : ℕ) (o : Object) (op : Op) → admitted c m k o op ≡ true → state_at (moved m k o op) o ≡ option_and_then (state_after op) (state_at m o)
-state_by_state c m k (Ecb n) (op_on.Ecb op) a = ap (λ z. Some (state.Ecb z.state)) (with_at-same m.ecb n (turned (m.ecb n) (ecb_step op (m.ecb n).state).0) n refl)
-state_by_state c m k (Element n) (op_on.Element op) a = ap (λ z. Some (state.Element z.state)) (with_at-same m.element n (turned (m.element n) (element_step op (m.element n).state).0) n refl)
-state_by_state c m k (Volume n) (op_on.Volume op) a = ap (λ z. Some (state.Volume z.state)) (with_at-same m.volume n (turned (m.volume n) (volume_step op (m.volume n).state).0) n refl)
+pub state_by_state : (c : Setup) (m : System) (k : ℕ) (o : Object) (op : Op) → admitted c m k o op ≡ true
+    → state_at (moved m k o op) o ≡ option_and_then (state_after op) (state_at m o)
+state_by_state c m k (Ecb n) (op_on.Ecb op) a = ap (λ z. Some (state.Ecb z.state))
+    (with_at-same m.ecb n (turned (m.ecb n) (ecb_step op (m.ecb n).state).0) n refl)
+state_by_state c m k (Element n) (op_on.Element op) a = ap (λ z. Some (state.Element z.state))
+    (with_at-same m.element n (turned (m.element n) (element_step op (m.element n).state).0) n refl)
+state_by_state c m k (Volume n) (op_on.Volume op) a = ap (λ z. Some (state.Volume z.state))
+    (with_at-same m.volume n (turned (m.volume n) (volume_step op (m.volume n).state).0) n refl)
 state_by_state c m k Latches (op_on.Latch op) a = refl
 state_by_state c m k o op a = absurd (false≢true a)
 
-pub place_rises : (c : Setup) (m : System) (k : ℕ) (o : Object) (op : Op) → admitted c m k o op ≡ true → place_of (moved m k o op) o ≡ place_of m o + 1
-place_rises c m k (Ecb n) (op_on.Ecb op) a = ap (λ z. z.place) (with_at-same m.ecb n (turned (m.ecb n) (ecb_step op (m.ecb n).state).0) n refl)
-place_rises c m k (Element n) (op_on.Element op) a = ap (λ z. z.place) (with_at-same m.element n (turned (m.element n) (element_step op (m.element n).state).0) n refl)
-place_rises c m k (Volume n) (op_on.Volume op) a = ap (λ z. z.place) (with_at-same m.volume n (turned (m.volume n) (volume_step op (m.volume n).state).0) n refl)
+pub place_rises : (c : Setup) (m : System) (k : ℕ) (o : Object) (op : Op) → admitted c m k o op ≡ true
+    → place_of (moved m k o op) o ≡ place_of m o + 1
+place_rises c m k (Ecb n) (op_on.Ecb op) a = ap (λ z. z.place)
+    (with_at-same m.ecb n (turned (m.ecb n) (ecb_step op (m.ecb n).state).0) n refl)
+place_rises c m k (Element n) (op_on.Element op) a =
+    ap (λ z. z.place) (with_at-same m.element n (turned (m.element n) (element_step op (m.element n).state).0) n refl)
+place_rises c m k (Volume n) (op_on.Volume op) a =
+    ap (λ z. z.place) (with_at-same m.volume n (turned (m.volume n) (volume_step op (m.volume n).state).0) n refl)
 place_rises c m k Latches (op_on.Latch op) a = refl
 place_rises c m k o op a = absurd (false≢true a)

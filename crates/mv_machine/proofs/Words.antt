@@ -1,5 +1,6 @@
 -- The words of the states that a legal list leads to, and what a word stands for.
-use Rattle.std.proofs.Common.{◌≡◌, ℕ, ◌/◌, ◌%◌, ◌^◌, ◌<◌, ◌≤◌, ◌==◌, true, List, [], ◌∷◌, length, Some, option_map, IfSome, inl, inr, refl, sym, ap, ◌∙◌, subst, arith}
+use Rattle.std.proofs.Common.{◌≡◌, ℕ, ◌/◌, ◌%◌, ◌^◌, ◌<◌, ◌≤◌, ◌==◌, true, List, [], ◌∷◌, length, Some, option_map, IfSome, inl, inr}
+use Rattle.std.proofs.Common.{refl, sym, ap, ◌∙◌, subst, arith}
 use Rattle.std.proofs.lemmas.Bool.{cases_eq, false≢true, eqb-true, eq-eqb}
 use Rattle.mv_ecb.specs.Table.{ecb_step}
 use Rattle.mv_ecb.specs.Word.{EcbState, Zero, Waiting, Extended, Complete, word_of}
@@ -22,9 +23,11 @@ use Rattle.mv_machine.specs.declared.packing.WordState.{WordState}
 use Rattle.mv_machine.specs.declared.packing.WordState.TheVariants as state
 use Rattle.mv_machine.specs.Elements.{only_if}
 use Rattle.mv_machine.specs.Legal.{Legal, LegalFrom, after, after_from, next}
-use Rattle.mv_machine.specs.Packing.{HasFields, IsBlock, IsStateOf, pack, phase_number, state_bits, state_in, element_in, unpack, state_at, word_at}
+use Rattle.mv_machine.specs.Packing.{HasFields, IsBlock, IsStateOf, pack, phase_number, state_bits, state_in, element_in, unpack}
+use Rattle.mv_machine.specs.Packing.{state_at, word_at}
 use Rattle.mv_machine.specs.Setup.{Setup}
-use Rattle.mv_machine.specs.System.{System, opening, admitted, ecb_admitted, element_admitted, volume_admitted, volume_step, moved, place_of}
+use Rattle.mv_machine.specs.System.{System, opening, admitted, ecb_admitted, element_admitted, volume_admitted, volume_step, moved}
+use Rattle.mv_machine.specs.System.{place_of}
 use Rattle.mv_machine.proofs.Budgets.{places_fit, no_high_generation}
 
 -- ---- the numbers of the states that can be reached
@@ -32,7 +35,8 @@ use Rattle.mv_machine.proofs.Budgets.{places_fit, no_high_generation}
 block_next : (c : Setup) (k n : ℕ) (op : EcbOp) (s : EcbState) → ecb_admitted c k n op ≡ true → IsBlock s → IsBlock (ecb_step op s).0
 block_next c k n op s a b = grind arith
 
-code_next : (c : Setup) (k n : ℕ) (op : ElementOp) (s : ElementState) → element_admitted c k n op ≡ true → s.code < 2 ^ 24 → (element_step op s).0.code < 2 ^ 24
+code_next : (c : Setup) (k n : ℕ) (op : ElementOp) (s : ElementState) → element_admitted c k n op ≡ true → s.code < 2 ^ 24
+    → (element_step op s).0.code < 2 ^ 24
 code_next c k n op s a b = grind arith
 
 number_next : (op : VolumeOp) (n : ℕ) → volume_admitted op ≡ true → n < 2 ^ 32 → (volume_step op n).0 < 2 ^ 32
@@ -44,10 +48,12 @@ pub record HasNumbers (s : System) : Type 0 where
   pub codes : (n : ℕ) → (s.element n).state.code < 2 ^ 24
   pub numbers : (n : ℕ) → (s.volume n).state < 2 ^ 32
 
-numbers_next : (c : Setup) (s : System) (k : ℕ) (o : Object) (op : Op) → admitted c s k o op ≡ true → HasNumbers s → HasNumbers (moved s k o op)
+numbers_next : (c : Setup) (s : System) (k : ℕ) (o : Object) (op : Op) → admitted c s k o op ≡ true → HasNumbers s
+    → HasNumbers (moved s k o op)
 numbers_next c s k (Ecb n) (op_on.Ecb op) a h = record {
   blocks = λ m. elim (cases_eq m n) [
-    | inl same ↦ (let b : IsBlock (ecb_step op (s.ecb n).state).0 = block_next c k n op (s.ecb n).state (grind arith) (h.blocks n) in grind arith)
+    | inl same ↦ (let b : IsBlock (ecb_step op (s.ecb n).state).0 = block_next c k n op (s.ecb n).state (grind arith) (h.blocks n) in
+        grind arith)
     | inr other ↦ (let b : IsBlock (s.ecb m).state = h.blocks m in grind arith)
   ];
   codes = h.codes;
@@ -56,7 +62,8 @@ numbers_next c s k (Ecb n) (op_on.Ecb op) a h = record {
 numbers_next c s k (Element n) (op_on.Element op) a h = record {
   blocks = h.blocks;
   codes = λ m. elim (cases_eq m n) [
-    | inl same ↦ (let b : (element_step op (s.element n).state).0.code < 2 ^ 24 = code_next c k n op (s.element n).state (grind arith) (h.codes n) in grind arith)
+    | inl same ↦ (let b : (element_step op (s.element n).state).0.code < 2 ^ 24 = code_next c k n op (s.element n).state (grind arith)
+        (h.codes n) in grind arith)
     | inr other ↦ (let b : (s.element m).state.code < 2 ^ 24 = h.codes m in grind arith)
   ];
   numbers = h.numbers;
@@ -65,7 +72,8 @@ numbers_next c s k (Volume n) (op_on.Volume op) a h = record {
   blocks = h.blocks;
   codes = h.codes;
   numbers = λ m. elim (cases_eq m n) [
-    | inl same ↦ (let b : (volume_step op (s.volume n).state).0 < 2 ^ 32 = number_next op (s.volume n).state (grind arith) (h.numbers n) in grind arith)
+    | inl same ↦ (let b : (volume_step op (s.volume n).state).0 < 2 ^ 32 = number_next op (s.volume n).state (grind arith) (h.numbers n) in
+        grind arith)
     | inr other ↦ (let b : (s.volume m).state < 2 ^ 32 = h.numbers m in grind arith)
   ];
 }
@@ -124,7 +132,8 @@ number_back n m lt = grind arith
 
 -- ---- so a packed word unpacks
 
-unpacked : (o : Object) (place : ℕ) (s : WordState) → state_bits s < 2 ^ 45 → state_in o (state_bits s) ≡ Some s → unpack o (pack place s) ≡ Some (place, s)
+unpacked : (o : Object) (place : ℕ) (s : WordState) → state_bits s < 2 ^ 45 → state_in o (state_bits s) ≡ Some s
+    → unpack o (pack place s) ≡ Some (place, s)
 unpacked o place s lt h =
     let b : pack place s % 2 ^ 45 ≡ state_bits s = omega arith in
     let p : pack place s / 2 ^ 45 ≡ place = omega arith in
@@ -155,7 +164,8 @@ reached_unpack c es (Ecb n) l le = packed_unpacks (Ecb n) _ (state.Ecb ((after c
 reached_unpack c es (Element n) l le =
     let g : ((after c es).element n).state.generation ≤ 262143 = no_high_generation c es n l le in
     packed_unpacks (Element n) _ (state.Element ((after c es).element n).state) (omega arith, (numbers_after c es l).codes n)
-reached_unpack c es (Volume n) l le = packed_unpacks (Volume n) _ (state.Volume ((after c es).volume n).state) ((numbers_after c es l).numbers n)
+reached_unpack c es (Volume n) l le = packed_unpacks (Volume n) _ (state.Volume ((after c es).volume n).state)
+    ((numbers_after c es l).numbers n)
 reached_unpack c es Latches l le = refl
 
 pub reached_word : (c : Setup) (es : List Entry) (o : Object) → Legal c es → length es ≤ 524287 → word_at (after c es) o < 2 ^ 64
@@ -172,7 +182,8 @@ reached_word c es (Volume n) l le =
     let p : ((after c es).volume n).place ≤ 524287 = places_fit c es (Volume n) l le in omega arith
 reached_word c es Latches l le = omega arith
 
-pub reached_fields : (c : Setup) (es : List Entry) (o : Object) → Legal c es → length es ≤ 524287 → IfSome (state_at (after c es) o) (λ s. HasFields s)
+pub reached_fields : (c : Setup) (es : List Entry) (o : Object) → Legal c es → length es ≤ 524287
+    → IfSome (state_at (after c es) o) (λ s. HasFields s)
 reached_fields c es (Ecb n) l le = tt
 reached_fields c es (Element n) l le =
     let d : ((after c es).element n).state.code < 2 ^ 24 = (numbers_after c es l).codes n in

@@ -1,5 +1,6 @@
 -- One cell of one table is written: that is the machine's step.
-use Rattle.std.proofs.Common.{Vec, Global, vec_capacity, ◌≡◌, ℕ, ◌+◌, ◌<◌, ◌==◌, true, false, length, get_or, None, Some, refl, cond, ap, ◌∙◌}
+use Rattle.std.proofs.Common.{Vec, Global, vec_capacity, ◌≡◌, ℕ, ◌+◌, ◌<◌, ◌==◌, true, false, length, get_or, None, Some, refl, cond}
+use Rattle.std.proofs.Common.{ap, ◌∙◌}
 use Rattle.std.specs.Vec.{with_item}
 use Rattle.std.proofs.lemmas.List.{get_or_read, length-set}
 use Rattle.mv_ecb.specs.declared.operation.EcbOp.{EcbOp}
@@ -27,13 +28,15 @@ use Rattle.mv_machine.specs.declared.state.VolumeCell.{VolumeCell}
 use Rattle.mv_machine.specs.declared.state.State.{State}
 use Rattle.mv_machine.specs.Setup.{Setup}
 use Rattle.mv_machine.specs.System.{System, latches_of, admitted, answer, moved, after_step, wakes_after, with_at, turned, volume_step}
-use Rattle.mv_machine.specs.State.{IsOpenedWith, IsStep, system_of, wakes_of, ecb_cell, no_ecb, element_cell, no_element, volume_cell, no_volume}
+use Rattle.mv_machine.specs.State.{IsOpenedWith, IsStep, system_of, wakes_of, ecb_cell, no_ecb, element_cell, no_element, volume_cell}
+use Rattle.mv_machine.specs.State.{no_volume}
 use Rattle.mv_machine.specs.Elements.{FitsItsPlace}
 use Rattle.mv_machine.proofs.ElementRuns.{fits_next}
 use Rattle.mv_machine.proofs.LatchIds.{same_count, new_from_next}
 use Rattle.mv_machine.proofs.Tables.{table-set}
 
-at_fits : (s : System) (n : ℕ) (op : ElementOp) (m : ℕ) → FitsItsPlace (s.element m) → FitsItsPlace (s.element n) → FitsItsPlace (with_at s.element n (turned (s.element n) (element_step op (s.element n).state).0) m)
+at_fits : (s : System) (n : ℕ) (op : ElementOp) (m : ℕ) → FitsItsPlace (s.element m) → FitsItsPlace (s.element n)
+    → FitsItsPlace (with_at s.element n (turned (s.element n) (element_step op (s.element n).state).0) m)
 at_fits s n op m f g =
     elim (m == n) as (λ b. FitsItsPlace (cond b (turned (s.element n) (element_step op (s.element n).state).0) (s.element m))) [
       | true ↦ fits_next (s.element n) op g
@@ -41,22 +44,30 @@ at_fits s n op m f g =
     ]
 
 -- generations fit after any step
-pub moved_fits : (s : System) (k : ℕ) (o : Object) (op : Op) → ((m : ℕ) → FitsItsPlace (s.element m)) → (m : ℕ) → FitsItsPlace ((moved s k o op).element m)
+pub moved_fits : (s : System) (k : ℕ) (o : Object) (op : Op) → ((m : ℕ) → FitsItsPlace (s.element m)) → (m : ℕ)
+    → FitsItsPlace ((moved s k o op).element m)
 moved_fits s k (Element n) (op_on.Element op) f m = at_fits s n op m (f m) (f n)
 moved_fits s k (Ecb n) (op_on.Ecb op) f m = f m
 moved_fits s k (Volume n) (op_on.Volume op) f m = f m
 moved_fits s k Latches (op_on.Latch op) f m = f m
 moved_fits s k o op f m = f m
 
-pub after_step_fits : (c : Setup) (s : System) (k : ℕ) (o : Object) (op : Op) → ((m : ℕ) → FitsItsPlace (s.element m)) → (m : ℕ) → FitsItsPlace ((after_step c s k o op).element m)
+pub after_step_fits : (c : Setup) (s : System) (k : ℕ) (o : Object) (op : Op) → ((m : ℕ) → FitsItsPlace (s.element m)) → (m : ℕ)
+    → FitsItsPlace ((after_step c s k o op).element m)
 after_step_fits c s k o op f m =
-    elim (admitted c s k o op) as (λ b. FitsItsPlace ((cond b (moved s k o op) s).element m)) [ true ↦ moved_fits s k o op f m | false ↦ f m ]
+    elim (admitted c s k o op) as (λ b. FitsItsPlace ((cond b (moved s k o op) s).element m)) [
+      | true ↦ moved_fits s k o op f m
+      | false ↦
+          f m
+    ]
 
 pub same_fits : (t u : System) → t ≡ u → ((m : ℕ) → FitsItsPlace (u.element m)) → (m : ℕ) → FitsItsPlace (t.element m)
 same_fits t u e f = rw e f
 
 -- an operation on an event control block: its cell is written
-module _ (c : Setup) (s : State) (k n : ℕ) (op : EcbOp) (x : EcbCell) (z : EcbState × EcbReply) (lt : n < length s.ecbs.items) (read : x ≡ get_or s.ecbs.items n x) (step : z ≡ ecb_step op x.word) (ok : admitted c (system_of s) k (Ecb n) (op_on.Ecb op) ≡ true) where
+module _ (c : Setup) (s : State) (k n : ℕ) (op : EcbOp) (x : EcbCell) (z : EcbState × EcbReply) (lt : n < length s.ecbs.items)
+    (read : x ≡ get_or s.ecbs.items n x) (step : z ≡ ecb_step op x.word)
+    (ok : admitted c (system_of s) k (Ecb n) (op_on.Ecb op) ≡ true) where
   abbrev ecb_after : State
   ecb_after = record s { ecbs = with_item s.ecbs n (record { place = x.place + 1; word = z.0 }) }
 
@@ -74,11 +85,23 @@ module _ (c : Setup) (s : State) (k n : ℕ) (op : EcbOp) (x : EcbCell) (z : Ecb
     answered = ecb_answered;
     after = ecb_written;
     wakes = refl;
-    opened = record { ecbs = rw length-set o.ecbs; elements = o.elements; volumes = o.volumes; lists = o.lists; latches = o.latches; room = o.room; new_ids = o.new_ids; generations = o.generations };
+    opened = record {
+      ecbs = rw length-set o.ecbs;
+      elements = o.elements;
+      volumes = o.volumes;
+      lists = o.lists;
+      latches = o.latches;
+      room =
+          o.room;
+      new_ids = o.new_ids;
+      generations = o.generations;
+    };
   }
 
 -- an operation on an element
-module _ (c : Setup) (s : State) (k n : ℕ) (op : ElementOp) (x : ElementCell) (z : ElementState × ElementReply) (lt : n < length s.elements.items) (read : x ≡ get_or s.elements.items n x) (step : z ≡ element_step op x.state) (ok : admitted c (system_of s) k (Element n) (op_on.Element op) ≡ true) where
+module _ (c : Setup) (s : State) (k n : ℕ) (op : ElementOp) (x : ElementCell) (z : ElementState × ElementReply)
+    (lt : n < length s.elements.items) (read : x ≡ get_or s.elements.items n x) (step : z ≡ element_step op x.state)
+    (ok : admitted c (system_of s) k (Element n) (op_on.Element op) ≡ true) where
   abbrev element_after : State
   element_after = record s { elements = with_item s.elements n (record { place = x.place + 1; state = z.0 }) }
 
@@ -86,7 +109,8 @@ module _ (c : Setup) (s : State) (k n : ℕ) (op : ElementOp) (x : ElementCell) 
   element_read = get_or_read s.elements.items n x lt read no_element
 
   element_written : system_of element_after ≡ after_step c (system_of s) k (Element n) (op_on.Element op)
-  element_written = rw (ok, step, element_read) (ap (λ f. record (system_of s) { element = f }) (table-set element_cell no_element s.elements.items n _ lt))
+  element_written = rw (ok, step, element_read) (ap (λ f. record (system_of s) { element = f })
+      (table-set element_cell no_element s.elements.items n _ lt))
 
   element_answered : Some (x.place, reply_of.Element z.1) ≡ answer c (system_of s) k (Element n) (op_on.Element op)
   element_answered = rw (ok, step, element_read) refl
@@ -96,11 +120,24 @@ module _ (c : Setup) (s : State) (k n : ℕ) (op : ElementOp) (x : ElementCell) 
     answered = element_answered;
     after = element_written;
     wakes = refl;
-    opened = record { ecbs = o.ecbs; elements = rw length-set o.elements; volumes = o.volumes; lists = o.lists; latches = o.latches; room = o.room; new_ids = o.new_ids; generations = same_fits _ _ element_written (after_step_fits c (system_of s) k (Element n) (op_on.Element op) o.generations) };
+    opened = record {
+      ecbs = o.ecbs;
+      elements = rw length-set o.elements;
+      volumes = o.volumes;
+      lists = o.lists;
+      latches = o.latches;
+      room =
+          o.room;
+      new_ids = o.new_ids;
+      generations =
+          same_fits _ _ element_written (after_step_fits c (system_of s) k (Element n) (op_on.Element op) o.generations);
+    };
   }
 
 -- an operation on a volume
-module _ (c : Setup) (s : State) (k n : ℕ) (op : VolumeOp) (x : VolumeCell) (z : ℕ × VolumeReply) (lt : n < length s.volumes.items) (read : x ≡ get_or s.volumes.items n x) (step : z ≡ volume_step op x.number) (ok : admitted c (system_of s) k (Volume n) (op_on.Volume op) ≡ true) where
+module _ (c : Setup) (s : State) (k n : ℕ) (op : VolumeOp) (x : VolumeCell) (z : ℕ × VolumeReply) (lt : n < length s.volumes.items)
+    (read : x ≡ get_or s.volumes.items n x) (step : z ≡ volume_step op x.number)
+    (ok : admitted c (system_of s) k (Volume n) (op_on.Volume op) ≡ true) where
   abbrev volume_after : State
   volume_after = record s { volumes = with_item s.volumes n (record { place = x.place + 1; number = z.0 }) }
 
@@ -108,7 +145,8 @@ module _ (c : Setup) (s : State) (k n : ℕ) (op : VolumeOp) (x : VolumeCell) (z
   volume_read = get_or_read s.volumes.items n x lt read no_volume
 
   volume_written : system_of volume_after ≡ after_step c (system_of s) k (Volume n) (op_on.Volume op)
-  volume_written = rw (ok, step, volume_read) (ap (λ f. record (system_of s) { volume = f }) (table-set volume_cell no_volume s.volumes.items n _ lt))
+  volume_written = rw (ok, step, volume_read) (ap (λ f. record (system_of s) { volume = f })
+      (table-set volume_cell no_volume s.volumes.items n _ lt))
 
   volume_answered : Some (x.place, reply_of.Volume z.1) ≡ answer c (system_of s) k (Volume n) (op_on.Volume op)
   volume_answered = rw (ok, step, volume_read) refl
@@ -118,7 +156,17 @@ module _ (c : Setup) (s : State) (k n : ℕ) (op : VolumeOp) (x : VolumeCell) (z
     answered = volume_answered;
     after = volume_written;
     wakes = refl;
-    opened = record { ecbs = o.ecbs; elements = o.elements; volumes = rw length-set o.volumes; lists = o.lists; latches = o.latches; room = o.room; new_ids = o.new_ids; generations = o.generations };
+    opened = record {
+      ecbs = o.ecbs;
+      elements = o.elements;
+      volumes = rw length-set o.volumes;
+      lists = o.lists;
+      latches = o.latches;
+      room =
+          o.room;
+      new_ids = o.new_ids;
+      generations = o.generations;
+    };
   }
 
 -- an operation on the latch set
@@ -127,9 +175,12 @@ module _ (c : Setup) (s : State) (k : ℕ) (op : LatchOp) (o : IsOpenedWith c s)
   pub same_latches : latch_admitted k op s.latches ≡ latch_admitted k op (latches_of c s.latches.lists)
   same_latches = ap (λ l. latch_admitted k op l) o.latches
 
-  pub latches_made : (new : LatchLists) (w : Vec Wake Global) (r : LatchReply) → new ≡ record s.latches { lists = (latch_step k s.latch_place op s.latches.lists).0 } → r ≡ (latch_step k s.latch_place op s.latches.lists).1 → w.items ≡ wakes k op s.latches.lists → vec_capacity w ≡ vec_capacity s.wakes
+  pub latches_made : (new : LatchLists) (w : Vec Wake Global) (r : LatchReply)
+      → new ≡ record s.latches { lists = (latch_step k s.latch_place op s.latches.lists).0 }
+      → r ≡ (latch_step k s.latch_place op s.latches.lists).1 → w.items ≡ wakes k op s.latches.lists → vec_capacity w ≡ vec_capacity s.wakes
       → admitted c (system_of s) k Latches (op_on.Latch op) ≡ true
-      → IsStep c s (record s { latches = new; latch_place = s.latch_place + 1; wakes = w }) k Latches (op_on.Latch op) (Some (s.latch_place, reply_of.Latch r))
+      → IsStep c s (record s { latches = new; latch_place = s.latch_place + 1; wakes = w }) k Latches (op_on.Latch op)
+      (Some (s.latch_place, reply_of.Latch r))
   latches_made new w r lists reply woken capacity ok = record {
     answered = rw (ok, reply) refl;
     after = rw (ok, lists) refl;
@@ -146,27 +197,18 @@ module _ (c : Setup) (s : State) (k : ℕ) (op : LatchOp) (o : IsOpenedWith c s)
     };
   }
 
-same_wakes : (c : Setup) (s : State) (k : ℕ) (o : Object) (op : Op) → admitted c (system_of s) k o op ≡ false → wakes_of s ≡ wakes_after c (system_of s) (wakes_of s) k o op
+same_wakes : (c : Setup) (s : State) (k : ℕ) (o : Object) (op : Op) → admitted c (system_of s) k o op ≡ false
+    → wakes_of s ≡ wakes_after c (system_of s) (wakes_of s) k o op
 same_wakes c s k Latches (op_on.Latch op) not_so = rw not_so refl
 same_wakes c s k o op not_so = refl
 
 -- an operation that is not admitted changes nothing
-pub refused : (c : Setup) (s : State) (k : ℕ) (o : Object) (op : Op) → IsOpenedWith c s → admitted c (system_of s) k o op ≡ false → IsStep c s s k o op None
-refused c s k o op opened not_so = record { answered = rw not_so refl; after = rw not_so refl; wakes = same_wakes c s k o op not_so; opened = opened }
-
--- an operation of another kind than the object's is not admitted
-pub ecb_alone : (c : Setup) (s : System) (k n : ℕ) (op : Op) → ((x : EcbOp) → op ≡ op_on.Ecb x → ⊥) → admitted c s k (Ecb n) op ≡ false
-ecb_alone c s k n (op_on.Ecb x) other = absurd (other x refl)
-ecb_alone c s k n op other = refl
-
-pub element_alone : (c : Setup) (s : System) (k n : ℕ) (op : Op) → ((x : ElementOp) → op ≡ op_on.Element x → ⊥) → admitted c s k (Element n) op ≡ false
-element_alone c s k n (op_on.Element x) other = absurd (other x refl)
-element_alone c s k n op other = refl
-
-pub volume_alone : (c : Setup) (s : System) (k n : ℕ) (op : Op) → ((x : VolumeOp) → op ≡ op_on.Volume x → ⊥) → admitted c s k (Volume n) op ≡ false
-volume_alone c s k n (op_on.Volume x) other = absurd (other x refl)
-volume_alone c s k n op other = refl
-
-pub latches_alone : (c : Setup) (s : System) (k : ℕ) (op : Op) → ((x : LatchOp) → op ≡ op_on.Latch x → ⊥) → admitted c s k Latches op ≡ false
-latches_alone c s k (op_on.Latch x) other = absurd (other x refl)
-latches_alone c s k op other = refl
+pub refused : (c : Setup) (s : State) (k : ℕ) (o : Object) (op : Op) → IsOpenedWith c s → admitted c (system_of s) k o op ≡ false
+    → IsStep c s s k o op None
+refused c s k o op opened not_so = record {
+  answered = rw not_so refl;
+  after = rw not_so refl;
+  wakes =
+      same_wakes c s k o op not_so;
+  opened = opened;
+}

@@ -1,10 +1,12 @@
 -- Which configurations are refused, and with what.
-use Rattle.std.specs.Prelude.{◌≡◌, ℕ, ◌==◌, nat_le, nat_lt, Bool, not, ◌&&◌, ◌||◌, List, [], ◌∷◌, length, sum, find, Option, Some, None, option_map, if◌then◌else◌}
+use Rattle.std.specs.Prelude.{◌≡◌, ℕ, ◌==◌, nat_le, nat_lt, Bool, not, ◌&&◌, ◌||◌, List, [], ◌∷◌, length, sum, find, Option, Some}
+use Rattle.std.specs.Prelude.{None, option_map, if◌then◌else◌}
 use Rattle.std.specs.List.{list_all, list_any, position_from}
 use Rattle.mv_machine.specs.declared.config.CheckRefusal.{CheckRefusal}
 use Rattle.mv_machine.specs.declared.config.CheckRefusal.TheVariants.{Limit, BadOwner, BadExit, Budget}
 use Rattle.mv_machine.specs.declared.config.ConfigLimit.{ConfigLimit}
-use Rattle.mv_machine.specs.declared.config.ConfigLimit.TheVariants.{Callers, Elements, Volumes, Latches, Quota, Posted, Budgets, Ecbs, Exits, Targets}
+use Rattle.mv_machine.specs.declared.config.ConfigLimit.TheVariants.{Callers, Elements, Volumes, Latches, Quota, Posted, Budgets}
+use Rattle.mv_machine.specs.declared.config.ConfigLimit.TheVariants.{Ecbs, Exits, Targets}
 use Rattle.mv_machine.specs.Setup.{Setup, SetupExit}
 
 -- whether a number is one of these

@@ -1,5 +1,6 @@
 -- What every legal list of entries keeps to at each pause element.
-use Rattle.std.specs.Prelude.{◌≡◌, ℕ, ◌+◌, ◌*◌, ◌≤◌, ◌==◌, Bool, true, false, IsTrue, IfSome, List, [], ◌∷◌, ◌++◌, length, Option, Some, None, if◌then◌else◌}
+use Rattle.std.specs.Prelude.{◌≡◌, ℕ, ◌+◌, ◌*◌, ◌≤◌, ◌==◌, Bool, true, false, IsTrue, IfSome, List, [], ◌∷◌, ◌++◌, length, Option}
+use Rattle.std.specs.Prelude.{Some, None, if◌then◌else◌}
 use Rattle.std.specs.List.{filter_map, AllByRecursion}
 use Rattle.mv_element.specs.declared.operation.ElementOp.{ElementOp}
 use Rattle.mv_element.specs.declared.operation.ElementOp.TheVariants.{Pause, Resume, Release, Close}
@@ -105,11 +106,13 @@ IsSpentUpTo g v = IfSome (carried v.op) (λ h. h ≤ g → IsTrue (is_spent v.re
 -- each gift of a code has its one release, no pause is given twice, and what is over is answered Spent for ever
 pub record IsOrderlyElement (vs : List ElementEvent) : Type 0 where
   -- what a pause was given was released once, before it, with that code
-  pub reached : (g code : ℕ) (before later : List ElementEvent) (v : ElementEvent) → vs ≡ before ++ v ∷ later → given_code g v.reply ≡ Some code → (releases g before ≡ code ∷ []) × (releases g later ≡ [])
+  pub reached : (g code : ℕ) (before later : List ElementEvent) (v : ElementEvent) → vs ≡ before ++ v ∷ later
+      → given_code g v.reply ≡ Some code → (releases g before ≡ code ∷ []) × (releases g later ≡ [])
   -- no generation is given twice
   pub once : (g : ℕ) → length (givens g vs) ≤ 1
   -- what carries a generation that has ended is answered Spent
-  pub spent : (g : ℕ) (before later : List ElementEvent) (v : ElementEvent) → vs ≡ before ++ v ∷ later → IsTrue (ends_by g v.op v.reply) → AllByRecursion (IsSpentUpTo g) later
+  pub spent : (g : ℕ) (before later : List ElementEvent) (v : ElementEvent) → vs ≡ before ++ v ∷ later → IsTrue (ends_by g v.op v.reply)
+      → AllByRecursion (IsSpentUpTo g) later
 
 -- how many events at least the pause at hand has had
 abbrev pub extra : Phase → ℕ

@@ -56,6 +56,7 @@ abbrev pub stands_with : ℕ → List StandingRequest → Object → Op → Repl
 stands_with k ts Latches (op_on.Latch op) (reply_of.Latch reply) = stands_after k ts op reply
 stands_with k ts _ _ _ = ts
 
+-- and after a list of them
 abbrev pub standing_from : List StandingRequest → List Entry → List StandingRequest
 standing_from ts [] = ts
 standing_from ts (e ∷ es) = standing_from (stands_with e.caller ts e.object e.op e.reply) es

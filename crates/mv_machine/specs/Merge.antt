@@ -48,6 +48,7 @@ abbrev pub total : List (List Entry) → ℕ
 total [] = 0
 total (log ∷ logs) = length log + total logs
 
+-- as many picks as the logs have entries
 abbrev pub merged : List (List Entry) → List Entry
 merged logs = merge_from (total logs) start logs
 

@@ -1,5 +1,6 @@
 -- The word of an object that tasks share: its place in the 19 bits above, its state in the 45 bits below.
-use Rattle.std.specs.Prelude.{ℕ, ◌+◌, ◌*◌, ◌/◌, ◌%◌, ◌^◌, ◌==◌, ◌<◌, ◌≤◌, nat_le, nat_lt, Bool, ◌&&◌, ◌||◌, Option, Some, None, option_map, if◌then◌else◌}
+use Rattle.std.specs.Prelude.{ℕ, ◌+◌, ◌*◌, ◌/◌, ◌%◌, ◌^◌, ◌==◌, ◌<◌, ◌≤◌, nat_le, nat_lt, Bool, ◌&&◌, ◌||◌, Option, Some, None}
+use Rattle.std.specs.Prelude.{option_map, if◌then◌else◌}
 use Rattle.mv_ecb.specs.Table.{IsEcbOp, ecb_step}
 use Rattle.mv_ecb.specs.Word.{EcbState, Extended, Complete, wait_bit, completion_bit, word_of, state_of}
 use Rattle.mv_element.specs.declared.element.ElementState.{ElementState}
@@ -20,6 +21,7 @@ use Rattle.mv_machine.specs.System.{System, volume_step}
 
 -- ---- packing
 
+-- each phase by a number
 abbrev pub phase_number : Phase → ℕ
 phase_number Free = 0
 phase_number Reset = 1
@@ -33,6 +35,7 @@ state_bits (state.Ecb s) = word_of s
 state_bits (state.Element s) = s.generation * 2 ^ 27 + phase_number s.phase * 2 ^ 24 + s.code
 state_bits (state.Volume n) = n
 
+-- a place above a state
 abbrev pub pack : ℕ → WordState → ℕ
 pack place s = place * 2 ^ 45 + state_bits s
 
@@ -113,8 +116,10 @@ state_step (op_on.Element op) (state.Element s) = Some (state.Element (element_s
 state_step (op_on.Volume op) (state.Volume n) = Some (state.Volume (volume_step op n).0, reply_of.Volume (volume_step op n).1)
 state_step _ _ = None
 
+-- the state alone
 abbrev pub state_after : Op → WordState → Option WordState
 state_after op s = option_map (λ r. r.0) (state_step op s)
 
+-- and the reply alone
 abbrev pub reply_in : Op → WordState → Option Reply
 reply_in op s = option_map (λ r. r.1) (state_step op s)

@@ -1,5 +1,6 @@
 -- What a configuration says.
-use Rattle.std.specs.Prelude.{ℕ, ◌==◌, ◌-◌, ◌*◌, ◌/◌, ◌<◌, nat_lt, Bool, false, ◌&&◌, List, length, Option, Some, None, slice_get, slice_index}
+use Rattle.std.specs.Prelude.{ℕ, ◌==◌, ◌-◌, ◌*◌, ◌/◌, ◌<◌, nat_lt, Bool, false, ◌&&◌, List, length, Option, Some, None, slice_get}
+use Rattle.std.specs.Prelude.{slice_index}
 use Rattle.mv_machine.specs.declared.entry.Object.{Object}
 use Rattle.mv_machine.specs.declared.entry.Object.TheVariants.{Ecb, Element, Volume, Latches}
 

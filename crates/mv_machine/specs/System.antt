@@ -1,5 +1,6 @@
 -- The machine: each object has a place, which is the number of its events, and a state.
-use Rattle.std.specs.Prelude.{ℕ, ◌+◌, ◌==◌, ◌^◌, nat_lt, Bool, true, false, ◌&&◌, List, [], length, Option, Some, None, option_map, if◌then◌else◌, replicate}
+use Rattle.std.specs.Prelude.{ℕ, ◌+◌, ◌==◌, ◌^◌, nat_lt, Bool, true, false, ◌&&◌, List, [], length, Option, Some, None, option_map}
+use Rattle.std.specs.Prelude.{if◌then◌else◌, replicate}
 use Rattle.mv_ecb.specs.declared.operation.EcbOp.{EcbOp}
 use Rattle.mv_ecb.specs.declared.operation.EcbOp.TheVariants as ecb_op
 use Rattle.mv_ecb.specs.Table.{ecb_step}

@@ -10,7 +10,8 @@ ghost use Rattle.mv_machine.specs.declared.entry.Object.TheVariants.{Ecb, Elemen
 ghost use Rattle.mv_machine.specs.declared.entry.Op.TheVariants as op_on;
 ghost use Rattle.mv_machine.specs.Behind.{IsEvent};
 ghost use Rattle.mv_machine.specs.Kept.{standing};
-ghost use Rattle.mv_machine.specs.Known.{BlockAgrees, ElementAgrees, IsExtendedOrComplete, IsPlain, IsPauseReply, IsResumeReply, IsNotBusy, IsArmReply, IsSettleReply, IsUnpaused};
+ghost use Rattle.mv_machine.specs.Known.{BlockAgrees, ElementAgrees, IsExtendedOrComplete, IsPlain, IsPauseReply, IsResumeReply};
+ghost use Rattle.mv_machine.specs.Known.{IsNotBusy, IsArmReply, IsSettleReply, IsUnpaused};
 ghost use Rattle.mv_machine.specs.Legal.{Legal, after, of};
 ghost use Rattle.mv_machine.specs.Replies.{OnElement, OnEcb};
 ghost use Rattle.mv_machine.specs.Setup.{Setup, owner_of, element_owner};
@@ -37,7 +38,7 @@ pub fn keeping_agrees()
     // owner's pause parked and was given no code since.
     ensures element { (c : Setup) (n k : ℕ) → element_owner c n ≡ k → (es : List Entry) → Legal c es
         → ElementAgrees ((after c es).element n).state ((kept_of k (of k es)).in_use n) ((open_waits (of k es)).parked n)
-            ((kept_of k (of k es)).generation n) }
+        ((kept_of k (of k es)).generation n) }
     // So one in use whose owner is at rest has not been paused with.
     ensures element_at_rest { (c : Setup) (es : List Entry) (n : ℕ) → Legal c es → IsAtRest (of (element_owner c n) es)
         → (kept_of (element_owner c n) (of (element_owner c n) es)).in_use n ≡ true → IsUnpaused ((after c es).element n).state.phase }

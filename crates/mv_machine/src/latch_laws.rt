@@ -87,7 +87,7 @@ pub fn requests_at_rest()
         → Contains (standing (of k es)) t → HasNoEarlyConfirm t (of k es)
         → Contains (list_of (after c es).latches.state t.latch) t.request
         → ((open_waits (of k es)).queued t.latch t.request.id ≡ true)
-            ⊎ Contains (granted (list_of (after c es).latches.state t.latch)) t.request }
+        ⊎ Contains (granted (list_of (after c es).latches.state t.latch)) t.request }
     ensures at_rest { (c : Setup) (k : ℕ) (t : StandingRequest) (es : List Entry) → t.request.form ≡ Waiting → Legal c es
         → Contains (standing (of k es)) t → HasNoEarlyConfirm t (of k es) → IsAtRest (of k es)
         → IsGranted k t.latch t.request.id (after c es) ⊎ WasPurged k t es }

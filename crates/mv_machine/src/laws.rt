@@ -1,4 +1,5 @@
-ghost use Rattle.std.specs.Prelude.{◌≡◌, ◌↔◌, ◌⊎◌, ◌<◌, ◌≤◌, ◌++◌, ◌∷◌, ◌+◌, ◌^◌, ℕ, true, false, List, [], length, filter, Some, option_map, option_and_then, IfSome, IsSome};
+ghost use Rattle.std.specs.Prelude.{◌≡◌, ◌↔◌, ◌⊎◌, ◌<◌, ◌≤◌, ◌++◌, ◌∷◌, ◌+◌, ◌^◌, ℕ, true, false, List, [], length, filter, Some};
+ghost use Rattle.std.specs.Prelude.{option_map, option_and_then, IfSome, IsSome};
 ghost use Rattle.std.specs.List.{All, Contains};
 ghost use Rattle.mv_ecb.specs.Word.{Complete};
 ghost use Rattle.mv_element.specs.declared.element.Phase.TheVariants.{Free, Prereleased, Released};
@@ -17,6 +18,7 @@ ghost use Rattle.mv_machine.specs.Kept.{StandingRequest, standing, allowed, is_p
 ghost use Rattle.mv_machine.specs.Leaving.{NoneTakesOut};
 ghost use Rattle.mv_machine.specs.Legal.{Legal, SameAt, same_object, after, of, «at», CountsFrom};
 ghost use Rattle.mv_machine.specs.Merge.{merged, merge_from, start, total};
+ghost use Rattle.mv_machine.specs.Orderly.{IsOrderly};
 ghost use Rattle.mv_machine.specs.Owned.{owner_at, is_owners, is_clear, HasNo, IsGranted, IsGone};
 ghost use Rattle.mv_machine.specs.Packing.{HasFields, IsStateOf, HasOpFields, pack, unpack, state_at, word_at, state_after, reply_in};
 ghost use Rattle.mv_machine.specs.Parts.{parts, KeepsBudgets, Had};
@@ -31,7 +33,8 @@ pub fn generations_fit()
     ensures fits { (c : Setup) (es : List Entry) (n : ℕ) → Legal c es → FitsItsPlace ((after c es).element n) }
     ensures places { (c : Setup) (es : List Entry) (o : Object) → Legal c es → length es ≤ 524287 → place_of (after c es) o ≤ 524287 }
     ensures entries { (c : Setup) (es : List Entry) → Legal c es → length es ≤ 524287 → All (λ e. e.place ≤ 524286) es }
-    ensures generations { (c : Setup) (es : List Entry) (n : ℕ) → Legal c es → length es ≤ 524287 → ((after c es).element n).state.generation ≤ 262143 }
+    ensures generations { (c : Setup) (es : List Entry) (n : ℕ) → Legal c es → length es ≤ 524287
+        → ((after c es).element n).state.generation ≤ 262143 }
 {}
 
 /// The entries on one object have the places 0, 1, 2 and so on, and its place after the list is their number.
@@ -49,7 +52,16 @@ pub fn histories_are_their_parts()
     ensures same_legal { (c : Setup) (es fs : List Entry) → ((o : Object) → «at» o es ≡ «at» o fs) → Legal c es → Legal c fs }
     ensures same_after { (c : Setup) (es fs : List Entry) → ((o : Object) → «at» o es ≡ «at» o fs) → Legal c es → after c es ≡ after c fs }
     ensures same_told { (c : Setup) (es fs : List Entry) (k : ℕ) → «at» Latches es ≡ «at» Latches fs → told c k es ≡ told c k fs }
-    ensures same_had { (c : Setup) (es fs : List Entry) (k n w : ℕ) (o : Object) → «at» o es ≡ «at» o fs → of k es ≡ of k fs → Had c es k n o w → Had c fs k n o w }
+    ensures same_had { (c : Setup) (es fs : List Entry) (k n w : ℕ) (o : Object) → «at» o es ≡ «at» o fs → of k es ≡ of k fs
+        → Had c es k n o w → Had c fs k n o w }
+{}
+
+/// Every legal history is orderly: what a pause was given was released once, before it, with that code; no pause is given
+/// twice; what is over is answered Spent for ever; the granted requests of a latch are the first of its list, whose numbers
+/// rise, an exclusive one is alone, and a granted one stays granted until it is taken out; and a purged requestor has no
+/// request in any list until one of its own is granted or queued.
+pub fn histories_are_orderly()
+    ensures orderly { (c : Setup) (es : List Entry) → Legal c es → IsOrderly c es }
 {}
 
 /// A word that an object has now was had, and stays had with every further entry.
@@ -68,9 +80,11 @@ pub fn merging_keeps_a_history()
     ensures callers { (c : Setup) (es : List Entry) (k : ℕ) → Legal c es → of k (merged (parts c.callers es)) ≡ of k es }
     ensures objects { (c : Setup) (es : List Entry) (o : Object) → Legal c es → «at» o (merged (parts c.callers es)) ≡ «at» o es }
     ensures told { (c : Setup) (es : List Entry) (k : ℕ) → Legal c es → told c k (merged (parts c.callers es)) ≡ told c k es }
-    ensures had { (c : Setup) (es : List Entry) (k n w : ℕ) (o : Object) → Legal c es → Had c es k n o w → Had c (merged (parts c.callers es)) k n o w }
+    ensures had { (c : Setup) (es : List Entry) (k n w : ℕ) (o : Object) → Legal c es → Had c es k n o w
+        → Had c (merged (parts c.callers es)) k n o w }
     ensures after { (c : Setup) (es : List Entry) → Legal c es → after c (merged (parts c.callers es)) ≡ after c es }
-    ensures each_pick { (c : Setup) (es : List Entry) (n : ℕ) → Legal c es → n ≤ length es → length (merge_from n start (parts c.callers es)) ≡ n }
+    ensures each_pick { (c : Setup) (es : List Entry) (n : ℕ) → Legal c es → n ≤ length es
+        → length (merge_from n start (parts c.callers es)) ≡ n }
     ensures total { (c : Setup) (es : List Entry) → Legal c es → total (parts c.callers es) ≡ length es }
 {}
 
@@ -78,20 +92,24 @@ pub fn merging_keeps_a_history()
 /// its requestor, and is then gone for good. The premises on blocks and elements look at the owner's own entries alone.
 pub fn others_keep_what_is_owned()
     // An operation that is its object's owner's alone is made by no other caller.
-    ensures owners { (c : Setup) (xs ys : List Entry) (e : Entry) → Legal c (xs ++ e ∷ ys) → is_owners e.op ≡ true → owner_at c e.object ≡ Some e.caller }
+    ensures owners { (c : Setup) (xs ys : List Entry) (e : Entry) → Legal c (xs ++ e ∷ ys) → is_owners e.op ≡ true
+        → owner_at c e.object ≡ Some e.caller }
     // A complete block stays complete with its code until its owner clears it.
     ensures complete { (c : Setup) (xs ys : List Entry) (n code : ℕ) → Legal c (xs ++ ys) → HasNo is_clear (Ecb n) (of (owner_of c n) ys)
         → ((after c xs).ecb n).state ≡ Complete code → ((after c (xs ++ ys)).ecb n).state ≡ Complete code }
     // An element's generation, and whether it is free, change by its owner's operations alone.
-    ensures generation { (c : Setup) (xs ys : List Entry) (n : ℕ) → Legal c (xs ++ ys) → HasNo is_owners (Element n) (of (element_owner c n) ys)
+    ensures generation { (c : Setup) (xs ys : List Entry) (n : ℕ) → Legal c (xs ++ ys)
+        → HasNo is_owners (Element n) (of (element_owner c n) ys)
         → ((after c (xs ++ ys)).element n).state.generation ≡ ((after c xs).element n).state.generation }
     ensures free { (c : Setup) (xs ys : List Entry) (n : ℕ) → Legal c (xs ++ ys) → HasNo is_owners (Element n) (of (element_owner c n) ys)
         → (((after c xs).element n).state.phase ≡ Free) ↔ (((after c (xs ++ ys)).element n).state.phase ≡ Free) }
     // A released element keeps its code until its owner's operation.
-    ensures released { (c : Setup) (xs ys : List Entry) (n : ℕ) → Legal c (xs ++ ys) → HasNo is_owners (Element n) (of (element_owner c n) ys)
+    ensures released { (c : Setup) (xs ys : List Entry) (n : ℕ) → Legal c (xs ++ ys)
+        → HasNo is_owners (Element n) (of (element_owner c n) ys)
         → ((after c xs).element n).state.phase ≡ Released → ((after c (xs ++ ys)).element n).state ≡ ((after c xs).element n).state }
     // A release before its pause is kept for it.
-    ensures prereleased { (c : Setup) (xs ys : List Entry) (n : ℕ) → Legal c (xs ++ ys) → HasNo is_owners (Element n) (of (element_owner c n) ys)
+    ensures prereleased { (c : Setup) (xs ys : List Entry) (n : ℕ) → Legal c (xs ++ ys)
+        → HasNo is_owners (Element n) (of (element_owner c n) ys)
         → ((after c xs).element n).state.phase ≡ Prereleased → ((after c (xs ++ ys)).element n).state ≡ ((after c xs).element n).state }
     // A granted request stays granted as long as no entry is its caller's release of it or a purge of its requestor.
     ensures held { (c : Setup) (xs ys : List Entry) (t : StandingRequest) → Legal c (xs ++ ys) → NoneTakesOut t ys
@@ -119,7 +137,8 @@ pub fn requests_stand_by_their_callers_entries()
     ensures differ { (c : Setup) (es : List Entry) (id : ℕ) → Legal c es → count_in (has_id id) (after c es).latches.state ≤ 1 }
     ensures earlier { (c : Setup) (es : List Entry) (latch : ℕ) (q : Request) → Legal c es
         → Contains (list_of (after c es).latches.state latch) q → q.id < (after c es).latches.place }
-    ensures new { (c : Setup) (es : List Entry) (id : ℕ) → Legal c es → (after c es).latches.place ≤ id → IsNewId id (after c es).latches.state }
+    ensures new { (c : Setup) (es : List Entry) (id : ℕ) → Legal c es → (after c es).latches.place ≤ id
+        → IsNewId id (after c es).latches.state }
     ensures admits { (c : Setup) (es : List Entry) (k : ℕ) (o : Object) (op : Op) → Legal c es → allowed c k (of k es) o op ≡ true
         → admitted c (after c es) k o op ≡ true }
 {}
@@ -143,7 +162,8 @@ pub fn words_go_by_the_machine()
         → reply_to m k o op ≡ option_and_then (reply_in op) (state_at m o) }
     ensures state { (c : Setup) (m : System) (k : ℕ) (o : Object) (op : Op) → admitted c m k o op ≡ true
         → state_at (moved m k o op) o ≡ option_and_then (state_after op) (state_at m o) }
-    ensures place { (c : Setup) (m : System) (k : ℕ) (o : Object) (op : Op) → admitted c m k o op ≡ true → place_of (moved m k o op) o ≡ place_of m o + 1 }
+    ensures place { (c : Setup) (m : System) (k : ℕ) (o : Object) (op : Op) → admitted c m k o op ≡ true
+        → place_of (moved m k o op) o ≡ place_of m o + 1 }
     ensures others { (m : System) (k : ℕ) (o q : Object) (op : Op) → same_object o q ≡ false → SameAt q (moved m k o op) m }
 {}
 

@@ -12,7 +12,6 @@ mod latch_laws;
 mod laws;
 mod merging;
 mod packing;
-mod plain;
 mod reaching;
 mod replaying;
 mod state;
@@ -23,19 +22,22 @@ pub use config::{CheckRefusal, Config, ConfigLimit, Exit};
 pub use entry::{Entry, Object, Op, Reply, VolumeOp, VolumeReply};
 pub use keeping_laws::{keeping_agrees, own_blocks_answer, own_elements_answer};
 pub use latch_laws::{
-    latches_answer, quotas_hold, requests_at_rest, requests_leave_by_purges, requests_stay, wakes_are_in_range,
+    latches_answer, quotas_hold, requests_at_rest, requests_leave_by_purges, requests_stay,
+    wakes_are_in_range,
 };
 pub use laws::{
-    generations_fit, histories_are_their_parts, merging_keeps_a_history, others_keep_what_is_owned,
-    places_count_entries, reached_states_have_words, requests_stand_by_their_callers_entries,
-    words_are_packings, words_go_by_the_machine, words_stay_had,
+    generations_fit, histories_are_orderly, histories_are_their_parts, merging_keeps_a_history,
+    others_keep_what_is_owned, places_count_entries, reached_states_have_words,
+    requests_stand_by_their_callers_entries, words_are_packings, words_go_by_the_machine,
+    words_stay_had,
 };
 pub use merging::{Log, MergeRoom, merge};
 pub use packing::{WordState, pack, state_apply, unpack};
-pub use plain::plain_answer;
 pub use replaying::{Illegal, ReplayRefusal, replay};
 pub use state::State;
 pub use valid::ValidConfig;
 
+#[cfg(test)]
+mod plain;
 #[cfg(test)]
 mod tests;

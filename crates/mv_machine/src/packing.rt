@@ -1,5 +1,7 @@
 ghost use Rattle.std.specs.Prelude.{◌≡◌, ◌<◌, ◌^◌, IfSome};
-ghost use Rattle.mv_machine.specs.Packing.{HasFields, HasOpFields, state_step, pack as pack_of, state_bits, phase_number as number_of, unpack as unpack_of, state_in as state_by_bits, element_in as element_by_fields};
+ghost use Rattle.mv_machine.specs.Packing.{HasFields, HasOpFields, state_step, pack as pack_of, state_bits};
+ghost use Rattle.mv_machine.specs.Packing.{phase_number as number_of, unpack as unpack_of, state_in as state_by_bits};
+ghost use Rattle.mv_machine.specs.Packing.{element_in as element_by_fields};
 
 use crate::entry::{Object, Op, Reply};
 use crate::state::volume_apply;

@@ -1,3 +1,5 @@
+//! The machine's answer behind a list of entries, found from the list alone: what the definitions of specs/System.antt and
+//! specs/Legal.antt compute, for the tests to compare `State::step` with.
 ghost use Rattle.std.specs.Prelude.{◌≡◌, ◌<◌, ◌≤◌, ◌^◌, length, All, IfOk, IfErr, IfSome, IfNone};
 ghost use Rattle.mv_machine.specs.Legal.{Legal, after, next, same_object, «at»};
 ghost use Rattle.mv_machine.specs.System.{System, answer, volume_step, ecb_admitted, element_admitted, posts_own_ecb};
@@ -10,11 +12,10 @@ use mv_io::NoMemory;
 use mv_latch::{LatchForm, LatchOp};
 use std::alloc::Global;
 
-/// What the machine answers to an operation behind a legal list of entries, found from the list alone: the place is
-/// the number of the object's entries, and its state is gone through from the opening on. Nothing is kept between
-/// calls, so each takes time by the length of the list: it is there for `State::step` to be compared with. A latch
-/// set alone takes memory.
-pub fn plain_answer(
+// What the machine answers to an operation behind a legal list of entries: the place is the number of the object's
+// entries, and its state is gone through from the opening on. Nothing is kept between calls, so each takes time by the
+// length of the list. A latch set alone takes memory.
+pub(crate) fn plain_answer(
     alloc: Global,
     config: &ValidConfig,
     past: &[Entry],

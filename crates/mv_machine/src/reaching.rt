@@ -51,10 +51,12 @@ fn total(targets: &[u32], reaches: &[u32]) -> u32
 // The greatest sum that an exit of a block leads to.
 fn greatest_total(exits: &[Exit], chains: &Chains, ecb: usize, reaches: &[u32]) -> u32
     requires good { AllByRecursion (HasFewGoodTargets (length reaches.now)) (map exit_of exits.now) }
-    requires chains { AreChains (length reaches.now) (map exit_of exits.now) (length exits.now) chains.now.last.items chains.now.before.items }
+    requires chains { AreChains (length reaches.now) (map exit_of exits.now)
+        (length exits.now) chains.now.last.items chains.now.before.items }
     requires ecb { ecb < length reaches.now }
     requires cut { AllByRecursion (λ r. r ≤ 524288) reaches.now }
-    ensures value { result ≡ greatest (map (λ x. total_of (λ t. slice_index reaches.now t) x.targets) (exits_of ecb (map exit_of exits.now))) }
+    ensures value { result ≡ greatest (map (λ x. total_of (λ t. slice_index reaches.now t) x.targets)
+        (exits_of ecb (map exit_of exits.now))) }
     ensures fits { result ≤ 4194304 }
 {
     let mut best: u32 = 0;

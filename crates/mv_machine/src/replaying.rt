@@ -69,9 +69,11 @@ fn first_illegal(state: &mut State, config: &ValidConfig, entries: &[Entry]) -> 
     requires opened { IsOpenedWith config.now state.old }
     requires places { All (λ e. e.place ≤ 524286) entries.now }
     requires at_most { (o : AnyObject) → place_of (system_of state.old) o < 2 ^ 19 }
-    ensures legal { MatchOption result (LegalFrom config.now (system_of state.old) entries.now) (λ i. IsFirstIllegal config.now (system_of state.old) entries.now i) }
+    ensures legal { MatchOption result (LegalFrom config.now (system_of state.old) entries.now)
+        (λ i. IsFirstIllegal config.now (system_of state.old) entries.now i) }
     ensures after { MatchOption result (system_of state.new ≡ after_from (system_of state.old) entries.now) (λ _. Unit {0}) }
-    ensures wakes { MatchOption result (wakes_of state.new ≡ last_wakes_from (system_of state.old) (wakes_of state.old) entries.now) (λ _. Unit {0}) }
+    ensures wakes { MatchOption result (wakes_of state.new ≡ last_wakes_from (system_of state.old) (wakes_of state.old) entries.now)
+        (λ _. Unit {0}) }
     ensures opened { MatchOption result (IsOpenedWith config.now state.new) (λ _. Unit {0}) }
 {
     for (i, e) in entries.iter().enumerate() {

@@ -1,6 +1,7 @@
 ghost use Rattle.std.specs.Prelude.{◌≡◌, ◌<◌, ◌≤◌, ◌+◌, ◌^◌, ◌-◌, ℕ, [], length, IfOk, IfSome, IsTrue, ◌↔◌};
 ghost use Rattle.mv_latch.specs.LatchSet.{list_of};
-ghost use Rattle.mv_machine.specs.System.{System, answer, after_step, place_of, volume_step, ecb_admitted, element_admitted, posts_own_ecb as posts_own_ecb_of, wakes_after, opening as opening_of};
+ghost use Rattle.mv_machine.specs.System.{System, answer, after_step, place_of, volume_step, ecb_admitted, element_admitted};
+ghost use Rattle.mv_machine.specs.System.{posts_own_ecb as posts_own_ecb_of, wakes_after, opening as opening_of};
 ghost use Rattle.mv_machine.specs.State.{system_of, wakes_of, IsOpenedWith, IsStep, Exists, HasLatch};
 
 use crate::entry::{Object, Op, Reply, VolumeOp, VolumeReply};

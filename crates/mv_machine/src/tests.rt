@@ -4,6 +4,7 @@ ghost use Rattle.mv_machine.specs.Parts.{parts as parts_of, KeepsBudgets};
 ghost use Rattle.mv_machine.specs.State.{IsOpenedWith};
 
 use super::*;
+use crate::plain::plain_answer;
 use mv_ecb::{EcbOp, EcbReply, EcbWord};
 use mv_element::{ElementOp, ElementReply, ElementState};
 use mv_latch::{LatchForm, LatchOp, LatchReply, Mode};
@@ -324,13 +325,39 @@ fn owners_are_callers(rt: HostRuntime) -> Result<(), Fail> {
     Ok(())
 }
 
+// One caller and two blocks of its own.
+fn one_caller(alloc: Global) -> Result<Config, AllocError> {
+    Ok(Config {
+        callers: 1,
+        elements_per_caller: 1,
+        volumes: 1,
+        latches: 1,
+        quota: 1,
+        posted_quota: 0,
+        budgets: vec![in alloc; 1]?,
+        owners: vec![in alloc; 0, 0]?,
+        exits: Vec::new(alloc),
+    })
+}
+
+// An exit that posts its own source, budgets that are one event too many, and a block of a caller that is not there.
 #[test]
-fn budgets_have_a_limit(rt: HostRuntime) -> Result<(), Fail> {
-    let mut config = two_callers(rt.alloc())?;
+fn refused_configurations(rt: HostRuntime) -> Result<(), Fail> {
+    let mut config = one_caller(rt.alloc())?;
+    config.exits.push(exit(rt.alloc(), 1, &[1])?)?;
+    assert_eq!(rt; refusal(rt.alloc(), config), Some(CheckRefusal::BadExit(1)));
+    let mut config = one_caller(rt.alloc())?;
+    config.callers = 2;
     config.budgets = vec![in rt.alloc(); 524_287, 1]?;
     assert_eq!(rt;
         refusal(rt.alloc(), config),
         Some(CheckRefusal::Budget(524_288))
+    );
+    let mut config = one_caller(rt.alloc())?;
+    config.owners = vec![in rt.alloc(); 0, 1]?;
+    assert_eq!(rt;
+        refusal(rt.alloc(), config),
+        Some(CheckRefusal::BadOwner(1))
     );
     Ok(())
 }

@@ -1,4 +1,4 @@
-ghost use Rattle.std.specs.Prelude.{◌≡◌, ◌<◌, ◌≤◌, ◌==◌, nat_lt, length, IfOk};
+ghost use Rattle.std.specs.Prelude.{◌≡◌, ◌<◌, ◌≤◌, ◌==◌, nat_lt, length, IfOk, IsTrue};
 ghost use Rattle.mv_latch.specs.LatchSet.{opened};
 ghost use Rattle.mv_machine.specs.Reach.{reach, release_cost};
 ghost use Rattle.mv_machine.specs.Setup.{Setup, is_exit_of, owner_of, element_owner, element_count};
@@ -109,24 +109,25 @@ impl ValidConfig {
         volume < self.config.volumes
     }
 
-    // Whether an event control block is this caller's.
-    pub(crate) fn owns_ecb(&self, caller: u32, ecb: u32) -> bool
-        requires { ecb < length self.now.owners }
-        ensures { result ≡ (owner_of self.now ecb == caller) }
+    /// Whether an event control block is this caller's.
+    pub fn owns_ecb(&self, caller: u32, ecb: u32) -> bool
+        requires exists { ecb < length self.now.owners }
+        ensures owned { result ≡ (owner_of self.now ecb == caller) }
     {
         self.config.owners[ecb as usize] == caller
     }
 
-    // Whether an element is this caller's.
-    pub(crate) fn owns_element(&self, caller: u32, element: u32) -> bool
-        ensures { result ≡ (element_owner self.now element == caller) }
+    /// Whether an element is this caller's.
+    pub fn owns_element(&self, caller: u32, element: u32) -> bool
+        ensures owned { result ≡ (element_owner self.now element == caller) }
     {
         element / self.config.elements_per_caller == caller
     }
 
-    // Whether there is an exit of this number, and it starts from this block.
-    pub(crate) fn is_exit_of(&self, exit: u32, ecb: u32) -> bool
-        ensures { result ≡ is_exit_of self.now exit ecb }
+    /// Whether there is an exit of this number, counted from 1, and it starts from this block.
+    pub fn is_exit_of(&self, exit: u32, ecb: u32) -> bool
+        ensures starts { result ≡ is_exit_of self.now exit ecb }
+        ensures few { IsTrue result → exit ≤ 32768 }
     {
         if exit == 0 {
             return false;

@@ -39,8 +39,23 @@ task_ended_calls =
 task_ended : IsRow (one_task [] []) 0 task_ended_log task_ended_calls
 task_ended = record {
   legal = legal_by (one_task [] []) task_ended_log refl;
-  made = (made refl refl, refl, (made refl refl, refl, (made refl refl, refl, (made refl refl, refl,
-      (made refl refl, refl, refl)))));
+  made = (
+    made refl refl,
+    refl,
+    (
+      made refl refl,
+      refl,
+      (
+        made refl refl,
+        refl,
+        (
+          made refl refl,
+          refl,
+          (made refl refl, refl, refl),
+        ),
+      ),
+    ),
+  );
 }
 
 -- A task with two elements ends, and its mother's block is posted last.

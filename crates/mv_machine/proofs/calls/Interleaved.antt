@@ -42,7 +42,8 @@ programs_after_is s t (e ∷ es) k =
           ∙ with_at-same t e.caller (heard (t e.caller) (hearing s e)) e.caller refl ∙ ap (λ j. heard (t j) (hearing s e)) own)
           ∙ ap (λ hs. left (t k) hs) (sym (heard_own s k e es own))
       | inr other ↦ programs_after_is (next s e) (with_at t e.caller (heard (t e.caller) (hearing s e))) es k
-          ∙ ap (λ p. left p (heard_from (next s e) k es)) (with_at-other t e.caller (heard (t e.caller) (hearing s e)) k (λ e. other (sym e)))
+          ∙ ap (λ p. left p (heard_from (next s e) k es))
+          (with_at-other t e.caller (heard (t e.caller) (hearing s e)) k (λ e. other (sym e)))
           ∙ ap (λ hs. left (t k) hs) (sym (heard_other s k e es other))
     ]
 

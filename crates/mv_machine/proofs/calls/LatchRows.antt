@@ -119,8 +119,23 @@ posted_grant_calls =
 posted_grant : IsRow (one_task (0 ∷ []) []) 0 posted_grant_log posted_grant_calls
 posted_grant = record {
   legal = legal_by (one_task (0 ∷ []) []) posted_grant_log refl;
-  made = (made refl refl, refl, (made refl refl, refl, (made refl refl, refl, (made refl refl, refl,
-      (made refl refl, refl, (made refl refl, refl, (made refl refl, refl, refl)))))));
+  made = (
+    made refl refl,
+    refl,
+    (
+      made refl refl,
+      refl,
+      (
+        made refl refl,
+        refl,
+        (
+          made refl refl,
+          refl,
+          (made refl refl, refl, (made refl refl, refl, (made refl refl, refl, refl))),
+        ),
+      ),
+    ),
+  );
 }
 
 -- A purge posts the block of a request that waited with 1. A conditional release leaves a request that waits.
@@ -148,8 +163,23 @@ posted_purge_calls =
 posted_purge : IsRow (one_task (0 ∷ []) []) 0 posted_purge_log posted_purge_calls
 posted_purge = record {
   legal = legal_by (one_task (0 ∷ []) []) posted_purge_log refl;
-  made = (made refl refl, refl, (made refl refl, refl, (made refl refl, refl, (made refl refl, refl,
-      (made refl refl, refl, (made refl refl, refl, refl))))));
+  made = (
+    made refl refl,
+    refl,
+    (
+      made refl refl,
+      refl,
+      (
+        made refl refl,
+        refl,
+        (
+          made refl refl,
+          refl,
+          (made refl refl, refl, (made refl refl, refl, refl)),
+        ),
+      ),
+    ),
+  );
 }
 
 -- Eight requests stand, and no ninth.
@@ -181,9 +211,39 @@ quota_reached_calls =
 quota_reached : IsRow (one_task [] []) 0 quota_reached_log quota_reached_calls
 quota_reached = record {
   legal = legal_by (one_task [] []) quota_reached_log refl;
-  made = (made refl refl, refl, (made refl refl, refl, (made refl refl, refl, (made refl refl, refl,
-      (made refl refl, refl, (made refl refl, refl, (made refl refl, refl, (made refl refl, refl,
-      (made refl refl, refl, refl)))))))));
+  made = (
+    made refl refl,
+    refl,
+    (
+      made refl refl,
+      refl,
+      (
+        made refl refl,
+        refl,
+        (
+          made refl refl,
+          refl,
+          (
+            made refl refl,
+            refl,
+            (
+              made refl refl,
+              refl,
+              (
+                made refl refl,
+                refl,
+                (
+                  made refl refl,
+                  refl,
+                  (made refl refl, refl, refl),
+                ),
+              ),
+            ),
+          ),
+        ),
+      ),
+    ),
+  );
 }
 
 -- Four requests of the Posted form stand, and no fifth.
@@ -209,8 +269,23 @@ posted_quota_reached_calls =
 posted_quota_reached : IsRow (one_task (0 ∷ []) []) 0 posted_quota_reached_log posted_quota_reached_calls
 posted_quota_reached = record {
   legal = legal_by (one_task (0 ∷ []) []) posted_quota_reached_log refl;
-  made = (made refl refl, refl, (made refl refl, refl, (made refl refl, refl, (made refl refl, refl,
-      (made refl refl, refl, (made refl refl, refl, refl))))));
+  made = (
+    made refl refl,
+    refl,
+    (
+      made refl refl,
+      refl,
+      (
+        made refl refl,
+        refl,
+        (
+          made refl refl,
+          refl,
+          (made refl refl, refl, (made refl refl, refl, refl)),
+        ),
+      ),
+    ),
+  );
 }
 
 -- A task announces itself by its post, and the other purges its request while it waits.

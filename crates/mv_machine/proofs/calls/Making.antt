@@ -10,7 +10,8 @@ use Rattle.mv_machine.specs.declared.entry.Op.{Op}
 use Rattle.mv_machine.specs.declared.entry.Op.TheVariants as op_on
 use Rattle.mv_machine.specs.calls.Keeping.{Kept, kept_after, kept_from, kept_of, nothing_kept}
 use Rattle.mv_machine.specs.calls.Made.{told_with, told_by, HasItsWakes, HaveTheirWakes, IsLongerBy, IsMade}
-use Rattle.mv_machine.specs.calls.Program.{Call, Heard, IsDoneOn, entries, noted, wakes_now, wakes_then, and_then, followed, accepted, unrefused}
+use Rattle.mv_machine.specs.calls.Program.{Call, Heard, IsDoneOn, entries, noted, wakes_now, wakes_then, and_then, followed, accepted}
+use Rattle.mv_machine.specs.calls.Program.{unrefused}
 use Rattle.mv_machine.specs.calls.Refusal.{Refusal}
 use Rattle.mv_machine.specs.calls.Rest.{OpenWaits, waits_after, waits_from}
 use Rattle.mv_machine.proofs.calls.Programs.{followed_done, and_then_done}

@@ -40,8 +40,23 @@ lost_code_calls =
 lost_code : IsRow (one_task [] []) 0 lost_code_log lost_code_calls
 lost_code = record {
   legal = legal_by (one_task [] []) lost_code_log refl;
-  made = (made refl refl, refl, (made refl refl, refl, (made refl refl, refl, (made refl refl, refl,
-      (made refl refl, refl, (made refl refl, refl, (made refl refl, refl, (made refl refl, refl, refl))))))));
+  made = (
+    made refl refl,
+    refl,
+    (
+      made refl refl,
+      refl,
+      (
+        made refl refl,
+        refl,
+        (
+          made refl refl,
+          refl,
+          (made refl refl, refl, (made refl refl, refl, (made refl refl, refl, (made refl refl, refl, refl)))),
+        ),
+      ),
+    ),
+  );
 }
 
 -- A token is released once.
@@ -88,8 +103,23 @@ four_elements_calls =
 four_elements : IsRow (one_task [] []) 0 four_elements_log four_elements_calls
 four_elements = record {
   legal = legal_by (one_task [] []) four_elements_log refl;
-  made = (made refl refl, refl, (made refl refl, refl, (made refl refl, refl, (made refl refl, refl,
-      (made refl refl, refl, refl)))));
+  made = (
+    made refl refl,
+    refl,
+    (
+      made refl refl,
+      refl,
+      (
+        made refl refl,
+        refl,
+        (
+          made refl refl,
+          refl,
+          (made refl refl, refl, refl),
+        ),
+      ),
+    ),
+  );
 }
 
 -- A transfer to a token that is over pauses nobody; one to the current element is given its code at once.
@@ -111,14 +141,34 @@ transfers_calls =
     ∷ record { service = Deallocate (token_of 1 0); makes = 1; answer = Ok tt }
     ∷ record { service = Transfer (Some (token_of 0 0)) (token_of 1 0) 5; makes = 1; answer = Err (refusal.TargetSpent 1) }
     ∷ record { service = TestElement 0; makes = 1; answer = reset 0 }
-    ∷ record { service = Transfer (Some (token_of 0 0)) (token_of 0 0) 6; makes = 2; answer = Ok (Some (record { code = 6; next = token_of 0 1 })) }
+    ∷ record {
+      service = Transfer (Some (token_of 0 0)) (token_of 0 0) 6;
+      makes = 2;
+      answer =
+          Ok (Some (record { code = 6; next = token_of 0 1 }));
+    }
     ∷ []
 
 transfers : IsRow (one_task [] []) 0 transfers_log transfers_calls
 transfers = record {
   legal = legal_by (one_task [] []) transfers_log refl;
-  made = (made refl refl, refl, (made refl refl, refl, (made refl refl, refl, (made refl refl, refl,
-      (made refl refl, refl, (made refl refl, refl, refl))))));
+  made = (
+    made refl refl,
+    refl,
+    (
+      made refl refl,
+      refl,
+      (
+        made refl refl,
+        refl,
+        (
+          made refl refl,
+          refl,
+          (made refl refl, refl, (made refl refl, refl, refl)),
+        ),
+      ),
+    ),
+  );
 }
 
 -- A transfer with a token that is not in use makes no event.
@@ -251,7 +301,12 @@ transferred_of_0 = record {
 abbrev transferred_of_1_calls : List Step
 transferred_of_1_calls =
     record { service = Allocate; makes = 1; answer = Ok (token_of 4 0) }
-    ∷ record { service = Transfer (Some (token_of 4 0)) (token_of 0 0) 7; makes = 3; answer = Ok (Some (record { code = 8; next = token_of 4 1 })) }
+    ∷ record {
+      service = Transfer (Some (token_of 4 0)) (token_of 0 0) 7;
+      makes = 3;
+      answer =
+          Ok (Some (record { code = 8; next = token_of 4 1 }));
+    }
     ∷ []
 
 transferred_of_1 : IsRow (two_tasks [] []) 1 transferred_log transferred_of_1_calls

@@ -4,7 +4,8 @@ use Rattle.std.proofs.lemmas.Option.{some_pair_parts}
 use Rattle.mv_machine.specs.declared.entry.Object.{Object}
 use Rattle.mv_machine.specs.declared.entry.Op.{Op}
 use Rattle.mv_machine.specs.calls.Keeping.{Kept, kept_after, kept_from}
-use Rattle.mv_machine.specs.calls.Program.{Program, Do, Done, Early, Wrong, Heard, Call, asks, heard, left, Says, IsDoneOn, entries, and_then}
+use Rattle.mv_machine.specs.calls.Program.{Program, Do, Done, Early, Wrong, Heard, Call, asks, heard, left, Says, IsDoneOn, entries}
+use Rattle.mv_machine.specs.calls.Program.{and_then}
 use Rattle.mv_machine.specs.calls.Program.{going_on, followed, accepted, unrefused}
 use Rattle.mv_machine.specs.calls.Refusal.{Refusal}
 

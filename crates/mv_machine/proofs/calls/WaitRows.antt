@@ -90,8 +90,23 @@ exits_posted_calls =
 exits_posted : IsRow (one_task (0 ∷ 0 ∷ 0 ∷ []) (record { source = 0; targets = 1 ∷ 2 ∷ [] } ∷ [])) 0 exits_posted_log exits_posted_calls
 exits_posted = record {
   legal = legal_by (one_task (0 ∷ 0 ∷ 0 ∷ []) (record { source = 0; targets = 1 ∷ 2 ∷ [] } ∷ [])) exits_posted_log refl;
-  made = (made refl refl, refl, (made refl refl, refl, (made refl refl, refl, (made refl refl, refl,
-      (made refl refl, refl, (made refl refl, refl, refl))))));
+  made = (
+    made refl refl,
+    refl,
+    (
+      made refl refl,
+      refl,
+      (
+        made refl refl,
+        refl,
+        (
+          made refl refl,
+          refl,
+          (made refl refl, refl, (made refl refl, refl, refl)),
+        ),
+      ),
+    ),
+  );
 }
 
 -- An exit whose target starts an exit of its own: that one is posted before the next target. Extends that are refused, and clears.
@@ -127,12 +142,47 @@ exits_in_exits_calls =
     ∷ record { service = Extend 1 2; makes = 1; answer = Err (refusal.Complete 5) }
     ∷ []
 
-exits_in_exits : IsRow (one_task (0 ∷ 0 ∷ 0 ∷ []) (record { source = 0; targets = 1 ∷ 2 ∷ [] } ∷ record { source = 1; targets = 2 ∷ [] } ∷ [])) 0 exits_in_exits_log exits_in_exits_calls
+exits_in_exits : IsRow (one_task (0 ∷ 0 ∷ 0 ∷ []) (record { source = 0; targets = 1 ∷ 2 ∷ [] } ∷ record {
+  source = 1;
+  targets =
+      2 ∷ [];
+} ∷ [])) 0 exits_in_exits_log exits_in_exits_calls
 exits_in_exits = record {
-  legal = legal_by (one_task (0 ∷ 0 ∷ 0 ∷ []) (record { source = 0; targets = 1 ∷ 2 ∷ [] } ∷ record { source = 1; targets = 2 ∷ [] } ∷ [])) exits_in_exits_log refl;
-  made = (made refl refl, refl, (made refl refl, refl, (made refl refl, refl, (made refl refl, refl,
-      (made refl refl, refl, (made refl refl, refl, (made refl refl, refl, (made refl refl, refl,
-      (made refl refl, refl, (made refl refl, refl, (made refl refl, refl, (made refl refl, refl, refl))))))))))));
+  legal = legal_by (one_task (0 ∷ 0 ∷ 0 ∷ []) (record { source = 0; targets = 1 ∷ 2 ∷ [] } ∷ record { source = 1; targets = 2 ∷ [] } ∷ []))
+      exits_in_exits_log refl;
+  made = (
+    made refl refl,
+    refl,
+    (
+      made refl refl,
+      refl,
+      (
+        made refl refl,
+        refl,
+        (
+          made refl refl,
+          refl,
+          (
+            made refl refl,
+            refl,
+            (
+              made refl refl,
+              refl,
+              (
+                made refl refl,
+                refl,
+                (
+                  made refl refl,
+                  refl,
+                  (made refl refl, refl, (made refl refl, refl, (made refl refl, refl, (made refl refl, refl, refl)))),
+                ),
+              ),
+            ),
+          ),
+        ),
+      ),
+    ),
+  );
 }
 
 -- A post by one exchange of the word that was expected.

@@ -38,6 +38,7 @@ pub record Counts : Type 0 where
 
 -- ---- obtain
 
+-- no such latch; a block that is not the caller's; as many requests as may stand
 abbrev pub obtain_refusal : Setup → ℕ → ℕ → Mode → LatchForm → Kept → Option Refusal
 obtain_refusal c latch requestor mode form kept =
     or_else (refused_if (not (nat_lt latch c.latches)) refusal.BadLatch)
@@ -51,6 +52,7 @@ confirmed id latch_reply.Waiting = Early
 confirmed id latch_reply.Gone = Done (Err refusal.Purged)
 confirmed id reply = Wrong
 
+-- what the reply to an obtain of this form leads to
 abbrev pub obtained : ℕ → LatchForm → LatchReply → Program (Result Obtained Refusal)
 obtained latch form (latch_reply.Granted id) = Done (Ok (GrantedAs id))
 obtained latch form_of.Conditional (latch_reply.NotNow id) = Done (Err (refusal.NotNow id))
@@ -67,6 +69,7 @@ obtain c latch requestor mode form kept =
 
 -- ---- check
 
+-- what the reply to a confirm says of a request
 abbrev pub checked : LatchReply → Program Standing
 checked (latch_reply.Granted id) = Done Holds
 checked latch_reply.Waiting = Done Waits
@@ -79,6 +82,7 @@ check_latch latch id kept = Do Latches (op_on.Latch (latch_op.Confirm latch id))
 
 -- ---- release
 
+-- what the reply to a release leads to
 abbrev pub let_go : Setup → Bool → List Wake → Kept → LatchReply → Program (Result ℕ Refusal)
 let_go c conditional wakes kept (latch_reply.Released granted) = wakes_posted c wakes kept (Done (Ok granted))
 let_go c conditional wakes kept latch_reply.Gone = Done (Err refusal.Gone)
@@ -93,6 +97,7 @@ release_latch c latch id conditional kept =
 
 -- ---- purge
 
+-- what the reply to a purge leads to
 abbrev pub purged : Setup → List Wake → Kept → LatchReply → Program Counts
 purged c wakes kept (latch_reply.Purged removed granted) =
     wakes_posted c wakes kept (Done (record { removed = removed; granted = granted }))

@@ -29,6 +29,7 @@ pub data Reached : Type 0 where
   CameEarly : Reached
   WokeIt : Reached
 
+-- the token of an element's pause of this generation
 abbrev pub token_of : ℕ → ℕ → Token
 token_of element generation = record { element = element; generation = generation }
 
@@ -42,10 +43,12 @@ lowest_free c kept = find (λ n. not (kept.in_use n)) (own_elements c kept.calle
 
 -- ---- allocate
 
+-- what the reply to an opening says
 abbrev pub opened : ℕ → ElementReply → Program (Result Token Refusal)
 opened n (element_reply.Opened g) = Done (Ok (token_of n g))
 opened n reply = Wrong
 
+-- the element that was found is opened
 abbrev pub open_lowest : Option ℕ → Program (Result Token Refusal)
 open_lowest None = Done (Err refusal.NoElement)
 open_lowest (Some n) = Do (Element n) (op_on.Element element_op.Open) (λ h. on_element h.entry.reply (opened n))
@@ -60,6 +63,7 @@ allocate c kept = open_lowest (lowest_free c kept)
 abbrev pub is_others_token : Setup → Kept → Token → Bool
 is_others_token c kept t = not (element_owner c t.element == kept.caller)
 
+-- the code that a pause of element n was given, and the token of its next pause
 abbrev pub gift_of : ℕ → ℕ → ℕ → Gift
 gift_of n code next = record { code = code; next = token_of n next }
 
@@ -69,6 +73,7 @@ resumed n (element_reply.Given code next) = Done (Ok (gift_of n code next))
 resumed n element_reply.NotYet = Early
 resumed n reply = Wrong
 
+-- what the reply to a pause of generation g leads to
 abbrev pub paused : ℕ → ℕ → ElementReply → Program (Result Gift Refusal)
 paused n g (element_reply.Given code next) = Done (Ok (gift_of n code next))
 paused n g element_reply.Parked = Do (Element n) (op_on.Element (element_op.Resume g)) (λ h. on_element h.entry.reply (resumed n))
@@ -84,6 +89,7 @@ pause c t kept =
 
 -- ---- release
 
+-- what the reply to a release says
 abbrev pub released : ElementReply → Program (Result Reached Refusal)
 released element_reply.Early = Done (Ok CameEarly)
 released element_reply.Woke = Done (Ok WokeIt)
@@ -104,6 +110,7 @@ same_release element_reply.Already element_reply.Already = true
 same_release (element_reply.Spent g) (element_reply.Spent h) = g == h
 same_release x y = false
 
+-- the same of replies of any kind
 abbrev pub same_release_reply : Reply → Reply → Bool
 same_release_reply (reply_of.Element x) (reply_of.Element y) = same_release x y
 same_release_reply x y = false
@@ -132,10 +139,12 @@ abbrev pub gave : Result Gift Refusal → Program (Result (Option Gift) Refusal)
 gave (Ok gift) = Done (Ok (Some gift))
 gave (Err why) = Wrong
 
+-- the pause of a transfer, where there is a current token
 abbrev pub pause_current : Setup → Option Token → Kept → Program (Result (Option Gift) Refusal)
 pause_current c None kept = Done (Ok None)
 pause_current c (Some t) kept = and_then (pause c t kept) gave
 
+-- what the reply to the target's release leads to
 abbrev pub transferred : Setup → Option Token → Kept → ElementReply → Program (Result (Option Gift) Refusal)
 transferred c current kept element_reply.Early = pause_current c current kept
 transferred c current kept element_reply.Woke = pause_current c current kept
@@ -152,6 +161,7 @@ transfer c current target code kept =
 
 -- ---- deallocate and test
 
+-- what the reply to a close says
 abbrev pub closed : ElementReply → Program (Result (Unit {0}) Refusal)
 closed element_reply.Closed = Done (Ok tt)
 closed (element_reply.Spent g) = Done (Err (refusal.Spent g))
@@ -163,6 +173,7 @@ deallocate c t kept =
     unless_refused (refused_if (is_others_token c kept t) refusal.NotOwner)
     (Do (Element t.element) (op_on.Element (element_op.Close t.generation)) (λ h. on_element h.entry.reply closed))
 
+-- what the reply to a test says
 abbrev pub the_state : ElementReply → Program ElementState
 the_state (element_reply.State s) = Done s
 the_state reply = Wrong

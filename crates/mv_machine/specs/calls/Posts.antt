@@ -30,6 +30,7 @@ posting f (ecb_reply.Woke x) = f (Woke x)
 posting f (ecb_reply.Already c) = f (Already c)
 posting f reply = Wrong
 
+-- the targets of an exit, if there is one
 abbrev pub targets_at : Option SetupExit → List ℕ
 targets_at None = []
 targets_at (Some x) = x.targets
@@ -78,6 +79,7 @@ same_posting (ecb_reply.Woke x) (ecb_reply.Woke y) = x == y
 same_posting (ecb_reply.Already c) (ecb_reply.Already d) = c == d
 same_posting x y = false
 
+-- the same of replies of any kind
 abbrev pub same_post_reply : Reply → Reply → Bool
 same_post_reply (reply_of.Ecb x) (reply_of.Ecb y) = same_posting x y
 same_post_reply x y = false

@@ -81,18 +81,22 @@ entries hs = map (λ h. h.entry) hs
 
 -- ---- replies by the kind of object. A reply of another kind is foreseen nowhere
 
+-- a block's reply
 abbrev pub on_ecb : {A : Type 0} → Reply → (EcbReply → Program A) → Program A
 on_ecb (reply_of.Ecb r) f = f r
 on_ecb r f = Wrong
 
+-- an element's
 abbrev pub on_element : {A : Type 0} → Reply → (ElementReply → Program A) → Program A
 on_element (reply_of.Element r) f = f r
 on_element r f = Wrong
 
+-- a volume's
 abbrev pub on_volume : {A : Type 0} → Reply → (VolumeReply → Program A) → Program A
 on_volume (reply_of.Volume r) f = f r
 on_volume r f = Wrong
 
+-- the latch set's
 abbrev pub on_latch : {A : Type 0} → Reply → (LatchReply → Program A) → Program A
 on_latch (reply_of.Latch r) f = f r
 on_latch r f = Wrong

@@ -108,6 +108,7 @@ abbrev pub mother_events : Setup → Option ℕ → ℕ
 mother_events c None = 0
 mother_events c (Some block) = reach c block
 
+-- the table: a wait arms and settles, a post reaches, a release or a purge costs with the posts of its wakes
 abbrev pub most_events : Setup → Kept → Service → ℕ
 most_events c kept (Wait count blocks) = 2 * length blocks
 most_events c kept (Post block code) = reach c block

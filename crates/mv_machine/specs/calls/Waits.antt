@@ -29,8 +29,8 @@ refused_at why test p (e ∷ es) = if test e then Some (why p) else refused_at w
 -- the refusal of the first position whose block stands earlier, where these stand before it
 abbrev pub doubled_at : List ℕ → ℕ → List ℕ → Option Refusal
 doubled_at before p [] = None
-doubled_at before p (e ∷ es) = if list_any (λ b. b == e) before then Some (refusal.Doubled p) else doubled_at (before ++ e ∷ [])
-    (p + 1) es
+doubled_at before p (e ∷ es) =
+    if list_any (λ b. b == e) before then Some (refusal.Doubled p) else doubled_at (before ++ e ∷ []) (p + 1) es
 
 -- all of these are different
 abbrev pub AreDistinct : List ℕ → Type 0
@@ -43,6 +43,7 @@ is_others_block c kept e = not (owner_of c e == kept.caller)
 
 -- ---- wait
 
+-- for more blocks than there are; a block that stands twice; another caller's; one that is extended
 abbrev pub wait_refusal : Setup → ℕ → List ℕ → Kept → Option Refusal
 wait_refusal c count es kept =
     or_else (refused_if (nat_lt (length es) count) refusal.TooMany)
@@ -100,12 +101,14 @@ clear c e kept =
     unless_refused (refused_if (is_others_block c kept e) refusal.NotOwner)
     (Do (Ecb e) (op_on.Ecb ecb_op.Clear) (λ h. on_ecb h.entry.reply (the_word (λ w. Done (Ok w)))))
 
+-- another caller's block; an exit that does not start from it; a block that is extended
 abbrev pub extend_refusal : Setup → ℕ → ℕ → Kept → Option Refusal
 extend_refusal c e exit kept =
     or_else (refused_if (is_others_block c kept e) refusal.NotOwner)
     (or_else (refused_if (not (is_exit_of c exit e)) refusal.BadExit)
     (refused_if (kept.extended e) refusal.Extended))
 
+-- what the reply to an extend says
 abbrev pub extended : EcbReply → Program (Result (Unit {0}) Refusal)
 extended ecb_reply.Armed = Done (Ok tt)
 extended (ecb_reply.Complete code) = Done (Err (refusal.Complete code))
@@ -122,6 +125,7 @@ test_ecb e kept = Do (Ecb e) (op_on.Ecb ecb_op.Test) (λ h. on_ecb h.entry.reply
 
 -- ---- volumes
 
+-- what the reply to a read says
 abbrev pub the_value : VolumeReply → Program ℕ
 the_value (volume_reply.Value n) = Done n
 the_value reply = Wrong
@@ -130,6 +134,7 @@ the_value reply = Wrong
 abbrev pub read_volume : ℕ → Call ℕ
 read_volume v kept = Do (Volume v) (op_on.Volume volume_op.Read) (λ h. on_volume h.entry.reply the_value)
 
+-- what the reply to a write says
 abbrev pub stored : VolumeReply → Program (Unit {0})
 stored volume_reply.Stored = Done tt
 stored reply = Wrong

@@ -1,5 +1,6 @@
 -- The laws are the lemmas.
-use Rattle.mv_machine.proofs.OwnReplies.{open_reply, pause_reply, resume_reply, close_reply, pause_is_not_busy, close_is_not_busy, resume_is_not_busy}
+use Rattle.mv_machine.proofs.OwnReplies.{open_reply, pause_reply, resume_reply, close_reply, pause_is_not_busy, close_is_not_busy}
+use Rattle.mv_machine.proofs.OwnReplies.{resume_is_not_busy}
 use Rattle.mv_machine.proofs.keeping_laws.own_elements_answer.Goals as goal
 
 pub returns-clause-opening : goal.returns-clause-opening

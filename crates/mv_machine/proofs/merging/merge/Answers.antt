@@ -1,5 +1,6 @@
 -- One turn after another.
-use Rattle.std.proofs.Common.{◌≡◌, ◌+◌, ◌<◌, ◌≤◌, ◌++◌, None, [], ◌∷◌, length, replicate, set, sym, subst, ap, ◌∙◌, arith, length-append, length-set}
+use Rattle.std.proofs.Common.{◌≡◌, ◌+◌, ◌<◌, ◌≤◌, ◌++◌, None, [], ◌∷◌, length, replicate, set, sym, subst, ap, ◌∙◌, arith}
+use Rattle.std.proofs.Common.{length-append, length-set}
 use Rattle.std.proofs.lemmas.List.{append-nil, length-replicate}
 use Rattle.mv_machine.specs.Legal.{Legal}
 use Rattle.mv_machine.specs.Merge.{merge_from, merged, pick, risen, total}

@@ -9,7 +9,8 @@ use Rattle.mv_machine.proofs.merging.merge.Given as goal
 abbrev pub invariant-loop-turn : goal.invariant-loop-turn
 invariant-loop-turn l = record {
   whole : l.journal.items
-      ++ merge_from (total (lefts l.merged.items l.logs.items)) (next_in l.places) (lefts l.merged.items l.logs.items) ≡ merged l.logs.items;
+      ++ merge_from (total (lefts l.merged.items l.logs.items)) (next_in l.places)
+      (lefts l.merged.items l.logs.items) ≡ merged l.logs.items;
   left : length l.journal.items + total (lefts l.merged.items l.logs.items) ≤ sum l.config.budgets;
   room : sum l.config.budgets ≤ vec_capacity l.journal;
   logs : length l.merged.items ≡ length l.logs.items;

@@ -46,7 +46,8 @@ returns-then-next-entry c =
       kept = all_at (λ x. Keeps c.args.places.now x.object) (get_or logs k []) (get_or merged k 0) e (rw log at here)
           (all_at (λ l. AllByRecursion (λ x. Keeps c.args.places.now x.object) l) logs k (get_or logs k [])
           (slice_get-get_or logs k [] inside) c.requires.objects);
-      picks = picks_here (next_in c.args.places.now) merged logs k e c.requires.merged inside (rw log at here) place c.loop-caller.invariant;
+      picks = picks_here (next_in c.args.places.now) merged logs k e c.requires.merged inside
+          (rw log at here) place c.loop-caller.invariant;
     }
 
 pub returns : goal.returns

@@ -17,11 +17,18 @@ loop-at-preserved c =
     let pos : 0 < k = omega arith in
     let lt : k - 1 < length exits = omega (arith, c.loop-at.invariant.below) in
     let at_k : slice_get (map exit_of exits) (k - 1) ≡ Some (exit_of e) = found exits (k - 1) e lt c.index-exits-at.is in
-    let read : c.index-at-in-loop-at.result.now ≡ get_or c.args.chains.now.before.items (k - 1) 0 = get_or_read c.args.chains.now.before.items (k - 1) c.index-at-in-loop-at.result.now (omega (arith, c.requires.chains.links)) c.index-at-in-loop-at.ensures 0 in
-    let last : IsLast c.args.ecb (map exit_of exits) (k - 1) (get_or c.args.chains.now.before.items (k - 1) 0) = c.requires.chains.before_it (k - 1) c.args.ecb lt (c.loop-at.invariant.starts pos) in
-    let back : greatest (map F (exits_of c.args.ecb (take k (map exit_of exits)))) ≡ max (greatest (map F (exits_of c.args.ecb (take (get_or c.args.chains.now.before.items (k - 1) 0) (map exit_of exits))))) (F (exit_of e)) =
-    one_back F (map exit_of exits) c.args.ecb k (get_or c.args.chains.now.before.items (k - 1) 0) (exit_of e) pos (rw length-map (c.loop-at.invariant.below)) at_k (c.loop-at.invariant.starts pos) last in
-    let here : c.total.result ≡ F (exit_of e) = c.total.ensures.value ∙ ap (λ ts. total (λ t. slice_index c.args.reaches.now t) ts) c.deref.ensures.value in
+    let read : c.index-at-in-loop-at.result.now ≡ get_or c.args.chains.now.before.items (k - 1) 0 =
+    get_or_read c.args.chains.now.before.items (k - 1) c.index-at-in-loop-at.result.now
+    (omega (arith, c.requires.chains.links)) c.index-at-in-loop-at.ensures 0 in
+    let last : IsLast c.args.ecb (map exit_of exits) (k - 1) (get_or c.args.chains.now.before.items (k - 1) 0) =
+    c.requires.chains.before_it (k - 1) c.args.ecb lt (c.loop-at.invariant.starts pos) in
+    let back : greatest (map F (exits_of c.args.ecb (take k (map exit_of exits)))) ≡ max
+    (greatest (map F (exits_of c.args.ecb (take (get_or c.args.chains.now.before.items (k - 1) 0) (map exit_of exits)))))
+    (F (exit_of e)) =
+    one_back F (map exit_of exits) c.args.ecb k (get_or c.args.chains.now.before.items (k - 1) 0) (exit_of e) pos
+    (rw length-map (c.loop-at.invariant.below)) at_k (c.loop-at.invariant.starts pos) last in
+    let here : c.total.result ≡ F (exit_of e) = c.total.ensures.value
+    ∙ ap (λ ts. total (λ t. slice_index c.args.reaches.now t) ts) c.deref.ensures.value in
     let more : c.max-best.result ≡ max c.loop-at.best c.total.result = c.max-best.ensures in
     let whole = c.loop-at.invariant.left in
     rw read record {

@@ -7,7 +7,9 @@ use Rattle.mv_machine.proofs.reaching.greatest_total.Given as goal
 
 abbrev pub invariant-loop-at : goal.invariant-loop-at
 invariant-loop-at l = record {
-  left : max l.best (greatest (map (λ (x : SetupExit). total (λ t. slice_index l.reaches t) x.targets) (exits_of l.ecb (take l.at (map exit_of l.exits))))) ≡ greatest (map (λ (x : SetupExit). total (λ t. slice_index l.reaches t) x.targets) (exits_of l.ecb (map exit_of l.exits)));
+  left : max l.best (greatest (map (λ (x : SetupExit). total (λ t. slice_index l.reaches t) x.targets)
+      (exits_of l.ecb (take l.at (map exit_of l.exits))))) ≡ greatest
+      (map (λ (x : SetupExit). total (λ t. slice_index l.reaches t) x.targets) (exits_of l.ecb (map exit_of l.exits)));
   below : l.at ≤ length l.exits;
   starts : 0 < l.at → starts_from l.ecb (slice_get (map exit_of l.exits) (l.at - 1)) ≡ true;
   fits : l.best ≤ 4194304;

@@ -19,7 +19,9 @@ chains_of-requires-clause-good c =
 pub loop-ecb-init : goal.loop-ecb-init
 loop-ecb-init c =
     let n : c.len-ecbs.result ≡ length c.args.config.now.owners.items = omega arith in
-    let zeros : c.resize.new.self.items ≡ replicate c.len-ecbs.result 0 = filled c.new-reaches.result.items c.resize.new.self.items c.len-ecbs.result (vec_len c.new-reaches.result) 0 c.in_ok-resize.ensures.items c.new-reaches.ensures.items c.new-reaches.ensures.len in
+    let zeros : c.resize.new.self.items ≡ replicate c.len-ecbs.result 0 =
+    filled c.new-reaches.result.items c.resize.new.self.items c.len-ecbs.result
+    (vec_len c.new-reaches.result) 0 c.in_ok-resize.ensures.items c.new-reaches.ensures.items c.new-reaches.ensures.len in
     record {
       within = omega arith;
       blocks = ap length zeros ∙ length-replicate c.len-ecbs.result 0 ∙ n;
@@ -29,7 +31,8 @@ loop-ecb-init c =
 
 pub greatest_total-most-requires-clause-good : goal.greatest_total-most-requires-clause-good
 greatest_total-most-requires-clause-good c =
-    rw (c.deref-in-loop-ecb-2.ensures.value, c.deref-in-loop-ecb.ensures.value, c.loop-ecb.invariant.blocks) (all_good (setup_of c.args.config.now) c.requires)
+    rw (c.deref-in-loop-ecb-2.ensures.value, c.deref-in-loop-ecb.ensures.value, c.loop-ecb.invariant.blocks)
+    (all_good (setup_of c.args.config.now) c.requires)
 
 pub loop-ecb-preserved : goal.loop-ecb-preserved
 loop-ecb-preserved c =
@@ -52,7 +55,8 @@ loop-ecb-preserved c =
       blocks = length-set reaches ecb c.min.result ∙ known.blocks;
       cut = all_set (λ r. r ≤ 524288) reaches ecb c.min.result (omega (arith, c.min.ensures)) known.cut;
       known = λ e le below. elim (cases_eq e ecb) [
-        | inl same ↦ get_or-set_at reaches ecb e c.min.result 0 same (omega (arith, known.blocks)) ∙ new ∙ ap (reach (setup_of config)) (sym same)
+        | inl same ↦ get_or-set_at reaches ecb e c.min.result 0 same (omega (arith, known.blocks)) ∙ new
+            ∙ ap (reach (setup_of config)) (sym same)
         | inr other ↦ get_or-set_other reaches ecb e c.min.result 0 other ∙ known.known e (omega arith) below
       ];
     }

@@ -20,13 +20,18 @@ loop-i-preserved c =
     let stepped = c.advance-machine.ensures in
     let known = c.loop-i.invariant in
     let same : m ≡ Some (e.place, e.reply) = c.is_answer.ensures.0 c.if-not-is_answer.false in
-    let low : e.place ≤ 524286 = rw read (All-get_or (λ (x : Entry). x.place ≤ 524286) entries c.loop-i.i no_entry (omega arith) c.requires.places) in
+    let low : e.place ≤ 524286 = rw read (All-get_or (λ (x : Entry). x.place ≤ 524286) entries c.loop-i.i no_entry
+    (omega arith) c.requires.places) in
     record {
       legal = turn_legal config first before entries c.loop-i.i (omega arith) known.legal known.state m e read stepped.answered same;
-      state = stepped.after ∙ turn_after config first before entries c.loop-i.i (omega arith) known.legal known.state m e read stepped.answered same;
-      wakes = stepped.wakes ∙ turn_wakes config first before entries c.loop-i.i (omega arith) known.legal known.state m e read stepped.answered (wakes_of c.args.state.now) (wakes_of c.loop-i.state) known.wakes same;
+      state = stepped.after ∙ turn_after config first before entries c.loop-i.i
+          (omega arith) known.legal known.state m e read stepped.answered same;
+      wakes = stepped.wakes ∙ turn_wakes config first before entries c.loop-i.i
+          (omega arith) known.legal known.state m e read stepped.answered (wakes_of c.args.state.now)
+          (wakes_of c.loop-i.state) known.wakes same;
       opened = stepped.opened;
-      places = λ o. rw (stepped.after) (turn_places config first before entries c.loop-i.i (omega arith) known.legal known.state m e read stepped.answered low known.places same o);
+      places = λ o. rw (stepped.after) (turn_places config first before entries c.loop-i.i
+          (omega arith) known.legal known.state m e read stepped.answered low known.places same o);
     }
 
 pub returns-then-not-is_answer-clause-legal : goal.returns-then-not-is_answer-clause-legal
@@ -34,5 +39,6 @@ returns-then-not-is_answer-clause-legal c =
     let entries = c.args.entries.now in
     let e = c.index-entries-i.result in
     let read : e ≡ get_or entries c.loop-i.i no_entry = get_or_read entries c.loop-i.i e (omega arith) c.index-entries-i.is no_entry in
-    turn_illegal c.args.config.now (system_of c.args.state.now) (system_of c.loop-i.state) entries c.loop-i.i (omega arith) c.loop-i.invariant.legal c.loop-i.invariant.state c.advance-machine.result e read c.advance-machine.ensures.answered
+    turn_illegal c.args.config.now (system_of c.args.state.now) (system_of c.loop-i.state) entries c.loop-i.i
+    (omega arith) c.loop-i.invariant.legal c.loop-i.invariant.state c.advance-machine.result e read c.advance-machine.ensures.answered
     (λ same. false≢true (sym c.if-not-is_answer.true ∙ c.is_answer.ensures.1 same))

@@ -8,7 +8,9 @@ pub first_illegal-requires-clause-at_most : goal.first_illegal-requires-clause-a
 first_illegal-requires-clause-at_most c = λ o. rw c.in_ok-state.ensures.system (opening_places c.args.config.now o)
 
 pub returns-in-Some-clause-not_legal : goal.returns-in-Some-clause-not_legal
-returns-in-Some-clause-not_legal c = λ _ l. not_legal c.args.config.now (opening c.args.config.now) c.args.entries.now c.in-Some.illegal (rw c.in_ok-state.ensures.system at c.in-Some.ensures.legal) l
+returns-in-Some-clause-not_legal c = λ _ l. not_legal c.args.config.now (opening c.args.config.now) c.args.entries.now c.in-Some.illegal
+    (rw c.in_ok-state.ensures.system at c.in-Some.ensures.legal) l
 
 pub returns-in-None-clause-orderly : goal.returns-in-None-clause-orderly
-returns-in-None-clause-orderly c = elements_are_orderly c.args.config.now c.args.entries.now (rw c.in_ok-state.ensures.system at c.in-None.ensures.legal)
+returns-in-None-clause-orderly c = elements_are_orderly c.args.config.now c.args.entries.now
+    (rw c.in_ok-state.ensures.system at c.in-None.ensures.legal)

@@ -8,5 +8,6 @@ use Rattle.mv_machine.proofs.config.Config.first_bad_exit.Given as goal
 abbrev pub invariant-loop-exit : goal.invariant-loop-exit
 invariant-loop-exit l = record {
   number : l.number ≡ l.exit-index + 1;
-  rest : first_bad_exit (setup_of l.self) ≡ position_from (is_bad_exit (length l.self.owners.items)) l.number (map exit_of (drop l.exit-index l.self.exits.items));
+  rest : first_bad_exit (setup_of l.self) ≡ position_from (is_bad_exit (length l.self.owners.items)) l.number
+      (map exit_of (drop l.exit-index l.self.exits.items));
 }

@@ -8,5 +8,6 @@ use Rattle.mv_machine.proofs.config.Config.first_bad_owner.Given as goal
 abbrev pub invariant-loop-owner : goal.invariant-loop-owner
 invariant-loop-owner l = record {
   ecb : l.ecb ≡ l.owner-index;
-  rest : first_bad_owner (setup_of l.self) ≡ position_from (λ owner. nat_le l.self.callers owner) l.ecb (drop l.owner-index l.self.owners.items);
+  rest : first_bad_owner (setup_of l.self) ≡ position_from (λ owner. nat_le l.self.callers owner) l.ecb
+      (drop l.owner-index l.self.owners.items);
 }

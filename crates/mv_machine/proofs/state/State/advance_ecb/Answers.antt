@@ -5,4 +5,5 @@ use Rattle.mv_machine.proofs.Writes.{ecb_made}
 use Rattle.mv_machine.proofs.state.State.advance_ecb.Goals as goal
 
 pub returns : goal.returns
-returns c = ecb_made c.args.config.now c.args.self.now c.args.caller c.args.ecb c.args.op c.index-old.result.now c.ecb_apply-word.result (grind (arith, common_steps)) c.index-old.ensures c.ecb_apply-word.ensures (grind (arith, common_steps)) c.requires.opened
+returns c = ecb_made c.args.config.now c.args.self.now c.args.caller c.args.ecb c.args.op c.index-old.result.now c.ecb_apply-word.result
+    (grind (arith, common_steps)) c.index-old.ensures c.ecb_apply-word.ensures (grind (arith, common_steps)) c.requires.opened

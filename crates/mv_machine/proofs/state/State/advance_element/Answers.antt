@@ -5,4 +5,6 @@ use Rattle.mv_machine.proofs.Writes.{element_made}
 use Rattle.mv_machine.proofs.state.State.advance_element.Goals as goal
 
 pub returns : goal.returns
-returns c = element_made c.args.config.now c.args.self.now c.args.caller c.args.element c.args.op c.index-old.result.now c.element_apply-reply.result (grind (arith, common_steps)) c.index-old.ensures c.element_apply-reply.ensures (grind (arith, common_steps)) c.requires.opened
+returns c = element_made c.args.config.now c.args.self.now c.args.caller c.args.element c.args.op c.index-old.result.now
+    c.element_apply-reply.result (grind (arith, common_steps)) c.index-old.ensures c.element_apply-reply.ensures
+    (grind (arith, common_steps)) c.requires.opened

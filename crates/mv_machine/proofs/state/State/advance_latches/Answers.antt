@@ -12,8 +12,13 @@ pub returns : goal.returns
 returns c =
     let config = c.args.config.now in
     let s = c.args.self.now in
-    let allowed : latch_admitted c.args.caller c.args.op (latches_of config s.latches.lists) ≡ true = sym (same_latches config s c.args.caller c.args.op c.requires.opened) ∙ grind (arith, common_steps) in
-    let lists : c.apply.new.self.lists ≡ (latch_step c.args.caller s.latch_place c.args.op s.latches.lists).0 = ap (λ (p : List (List Request) × LatchReply). p.0) c.in_ok-reply.ensures.step in
-    let reply : c.in_ok-reply.reply ≡ (latch_step c.args.caller s.latch_place c.args.op s.latches.lists).1 = ap (λ (p : List (List Request) × LatchReply). p.1) c.in_ok-reply.ensures.step in
-    let set : c.apply.new.self ≡ record s.latches { lists = (latch_step c.args.caller s.latch_place c.args.op s.latches.lists).0 } = c.in_ok-reply.ensures.quotas ∙ ap (λ l. let r : LatchLists = record s.latches { lists = l } in r) lists in
-    latches_made config s c.args.caller c.args.op c.requires.opened c.apply.new.self c.apply.new.wakes c.in_ok-reply.reply set reply c.in_ok-reply.ensures.wakes c.in_ok-reply.ensures.capacity (grind (arith, common_steps, allowed))
+    let allowed : latch_admitted c.args.caller c.args.op (latches_of config s.latches.lists) ≡ true =
+    sym (same_latches config s c.args.caller c.args.op c.requires.opened) ∙ grind (arith, common_steps) in
+    let lists : c.apply.new.self.lists ≡ (latch_step c.args.caller s.latch_place c.args.op s.latches.lists).0 =
+    ap (λ (p : List (List Request) × LatchReply). p.0) c.in_ok-reply.ensures.step in
+    let reply : c.in_ok-reply.reply ≡ (latch_step c.args.caller s.latch_place c.args.op s.latches.lists).1 =
+    ap (λ (p : List (List Request) × LatchReply). p.1) c.in_ok-reply.ensures.step in
+    let set : c.apply.new.self ≡ record s.latches { lists = (latch_step c.args.caller s.latch_place c.args.op s.latches.lists).0 } =
+    c.in_ok-reply.ensures.quotas ∙ ap (λ l. let r : LatchLists = record s.latches { lists = l } in r) lists in
+    latches_made config s c.args.caller c.args.op c.requires.opened c.apply.new.self c.apply.new.wakes c.in_ok-reply.reply set reply
+    c.in_ok-reply.ensures.wakes c.in_ok-reply.ensures.capacity (grind (arith, common_steps, allowed))

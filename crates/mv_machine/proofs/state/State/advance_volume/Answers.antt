@@ -5,4 +5,6 @@ use Rattle.mv_machine.proofs.Writes.{volume_made}
 use Rattle.mv_machine.proofs.state.State.advance_volume.Goals as goal
 
 pub returns : goal.returns
-returns c = volume_made c.args.config.now c.args.self.now c.args.caller c.args.volume c.args.op c.index-old.result.now c.volume_apply-number.result (grind (arith, common_steps)) c.index-old.ensures c.volume_apply-number.ensures (grind (arith, common_steps)) c.requires.opened
+returns c = volume_made c.args.config.now c.args.self.now c.args.caller c.args.volume c.args.op c.index-old.result.now
+    c.volume_apply-number.result (grind (arith, common_steps)) c.index-old.ensures c.volume_apply-number.ensures
+    (grind (arith, common_steps)) c.requires.opened

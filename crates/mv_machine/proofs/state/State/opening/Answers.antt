@@ -12,20 +12,32 @@ use Rattle.mv_machine.proofs.Tables.{filled, opens}
 use Rattle.mv_machine.proofs.state.State.opening.Goals as goal
 
 new_ecbs : (c : goal.In_ok-wakes) → c.resize.new.self.items ≡ replicate c.len.result no_ecb
-new_ecbs c = rw c.zero.ensures at (filled c.new-ecbs.result.items c.resize.new.self.items c.len.result (vec_len c.new-ecbs.result) _ c.in_ok-resize.ensures.items c.new-ecbs.ensures.items c.new-ecbs.ensures.len)
+new_ecbs c = rw c.zero.ensures at (filled c.new-ecbs.result.items c.resize.new.self.items c.len.result
+    (vec_len c.new-ecbs.result) _ c.in_ok-resize.ensures.items c.new-ecbs.ensures.items c.new-ecbs.ensures.len)
 
 new_elements : (c : goal.In_ok-wakes) → c.resize-2.new.self.items ≡ replicate c.elements.result no_element
-new_elements c = rw c.free.ensures at (filled c.new-elements.result.items c.resize-2.new.self.items c.elements.result (vec_len c.new-elements.result) _ c.in_ok-resize-2.ensures.items c.new-elements.ensures.items c.new-elements.ensures.len)
+new_elements c = rw c.free.ensures at (filled c.new-elements.result.items c.resize-2.new.self.items c.elements.result
+    (vec_len c.new-elements.result) _ c.in_ok-resize-2.ensures.items c.new-elements.ensures.items c.new-elements.ensures.len)
 
 new_volumes : (c : goal.In_ok-wakes) → c.resize-3.new.self.items ≡ replicate c.config-given.result.now.volumes no_volume
-new_volumes c = filled c.new-volumes.result.items c.resize-3.new.self.items c.config-given.result.now.volumes (vec_len c.new-volumes.result) no_volume c.in_ok-resize-3.ensures.items c.new-volumes.ensures.items c.new-volumes.ensures.len
+new_volumes c = filled c.new-volumes.result.items c.resize-3.new.self.items c.config-given.result.now.volumes
+    (vec_len c.new-volumes.result) no_volume c.in_ok-resize-3.ensures.items c.new-volumes.ensures.items c.new-volumes.ensures.len
 
 abbrev the_state : goal.In_ok-wakes → State
-the_state c = record { ecbs = c.resize.new.self; elements = c.resize-2.new.self; volumes = c.resize-3.new.self; latches = c.in_ok-latches.latches; latch_place = 0; wakes = c.in_ok-wakes.wakes }
+the_state c = record {
+  ecbs = c.resize.new.self;
+  elements = c.resize-2.new.self;
+  volumes = c.resize-3.new.self;
+  latches =
+      c.in_ok-latches.latches;
+  latch_place = 0;
+  wakes = c.in_ok-wakes.wakes;
+}
 
 pub returns-clause-system : goal.returns-clause-system
 returns-clause-system c =
-    opens c.args.config.now (the_state c) c.len.result c.elements.result c.config-given.result.now.volumes (new_ecbs c) (new_elements c) (new_volumes c) refl (grind (arith, common_steps))
+    opens c.args.config.now (the_state c) c.len.result c.elements.result c.config-given.result.now.volumes (new_ecbs c) (new_elements c)
+    (new_volumes c) refl (grind (arith, common_steps))
 
 pub returns-clause-opened : goal.returns-clause-opened
 returns-clause-opened c =
