@@ -72,6 +72,7 @@ not_told : (m : System) (k j : ℕ) (o : Object) (op : Op) → (j == k) ≡ fals
 not_told m k j Latches (op_on.Latch op) n = rw n refl
 not_told m k j o op n = refl
 
+-- a list without entries of the caller tells it nothing
 untold : (m : System) (k : ℕ) (es : List Entry) → of k es ≡ [] → told_from m k es ≡ []
 untold m k [] is = refl
 untold m k (x ∷ es) is = go (x.caller == k) refl is (λ r. untold (next m x) k es r) where
@@ -88,6 +89,7 @@ front_keeps c xs ys b = λ j lt.
     ∙ length-append (of j xs) (of j ys) in
     omega arith
 
+-- so the last entry of a possible log has a legal history behind it
 pub last_is_behind : (c : Setup) (k : ℕ) (log : List Entry) (e : Entry) (shown : List (List Wake)) → IsPossible c k (log ++ e ∷ []) shown
     → IsBehind c k log e shown
 last_is_behind c k log e shown p =

@@ -23,11 +23,13 @@ use Rattle.mv_machine.specs.Known.{BlockAgrees}
 use Rattle.mv_machine.specs.calls.Rest.{OpenWaits, waits_after, waits_from, no_waits, armed_with}
 use Rattle.mv_machine.proofs.Folds.{known}
 
+-- whether a block is armed after an operation on it
 abbrev armed_by : EcbOp → Bool → Bool
 armed_by Arm armed = true
 armed_by Settle armed = false
 armed_by op armed = armed
 
+-- whether it is held extended after one
 abbrev extended_by : EcbOp → EcbReply → Bool → Bool
 extended_by (Extend x) ecb_reply.Armed extended = true
 extended_by Clear reply extended = false
@@ -74,6 +76,7 @@ either_same : {A : Type 0} (b : Bool) (a : A) → cond b a a ≡ a
 either_same true a = refl
 either_same false a = refl
 
+-- the mark of block n after an operation on block m
 armed_at : (armed : ℕ → Bool) (m n : ℕ) (op : EcbOp) → armed_with armed (Ecb m) (op_on.Ecb op) n ≡ cond (n == m) (armed_by op (armed n))
     (armed n)
 armed_at armed m n Arm = refl
@@ -83,6 +86,7 @@ armed_at armed m n Clear = sym (either_same (n == m) (armed n))
 armed_at armed m n (Post d) = sym (either_same (n == m) (armed n))
 armed_at armed m n Test = sym (either_same (n == m) (armed n))
 
+-- and the other mark
 extended_at : (held : ℕ → Bool) (m n : ℕ) (op : EcbOp) (x : EcbState)
     → extended_with held (Ecb m) (op_on.Ecb op) (reply_of.Ecb (ecb_step op x).1) n ≡ cond (n == m)
     (extended_by op (ecb_step op x).1 (held n)) (held n)
@@ -96,6 +100,7 @@ extended_at held m n Clear x = refl
 extended_at held m n (Post d) x = sym (either_same (n == m) (held n))
 extended_at held m n Test x = sym (either_same (n == m) (held n))
 
+-- the state of block n after an event on block m
 state_at_block : (s : System) (k m n : ℕ) (op : EcbOp)
     → ((moved s k (Ecb m) (op_on.Ecb op)).ecb n).state ≡ cond (n == m) (ecb_step op (s.ecb m).state).0 (s.ecb n).state
 state_at_block s k m n op = go (n == m) where
@@ -105,6 +110,7 @@ state_at_block s k m n op = go (n == m) where
   go false = refl
 
 module _ (c : Setup) (n k : ℕ) (own : owner_of c n ≡ k) where
+  -- block n agrees with what its owner keeps
   abbrev Knows : System → OpenWaits → Kept → Type 0
   Knows s w kept = BlockAgrees c n (s.ecb n).state (w.armed n) (kept.extended n)
 

@@ -23,11 +23,13 @@ use Rattle.mv_machine.specs.Known.{ElementAgrees}
 use Rattle.mv_machine.specs.calls.Rest.{OpenWaits, waits_after, waits_from, no_waits, parked_with}
 use Rattle.mv_machine.proofs.Folds.{known}
 
+-- whether an element is in use after a reply on it
 abbrev used_by : ElementReply → Bool → Bool
 used_by (element_reply.Opened g) used = true
 used_by element_reply.Closed used = false
 used_by reply used = used
 
+-- whether it is paused with after one
 abbrev parked_by : ElementReply → Bool → Bool
 parked_by element_reply.Parked parked = true
 parked_by (element_reply.Given code next) parked = false
@@ -55,6 +57,7 @@ either_same : {A : Type 0} (b : Bool) (a : A) → cond b a a ≡ a
 either_same true a = refl
 either_same false a = refl
 
+-- the mark of element n after a reply on element m
 in_use_at : (used : ℕ → Bool) (m n : ℕ) (r : ElementReply) → in_use_with used (Element m) (reply_of.Element r) n ≡ cond (n == m)
     (used_by r (used n)) (used n)
 in_use_at used m n (element_reply.Opened g) = refl
@@ -70,6 +73,7 @@ in_use_at used m n element_reply.Woke = sym (either_same (n == m) (used n))
 in_use_at used m n element_reply.Already = sym (either_same (n == m) (used n))
 in_use_at used m n (element_reply.State s) = sym (either_same (n == m) (used n))
 
+-- and the other mark
 parked_at : (parked : ℕ → Bool) (m n : ℕ) (r : ElementReply) → parked_with parked (Element m) (reply_of.Element r) n ≡ cond (n == m)
     (parked_by r (parked n)) (parked n)
 parked_at parked m n (element_reply.Opened g) = sym (either_same (n == m) (parked n))
@@ -85,6 +89,7 @@ parked_at parked m n element_reply.Woke = sym (either_same (n == m) (parked n))
 parked_at parked m n element_reply.Already = sym (either_same (n == m) (parked n))
 parked_at parked m n (element_reply.State s) = sym (either_same (n == m) (parked n))
 
+-- the state of element n after an event on element m
 state_at_element : (s : System) (k m n : ℕ) (op : ElementOp) → ((moved s k (Element m) (op_on.Element op)).element n).state ≡ cond (n == m)
     (element_step op (s.element m).state).0 (s.element n).state
 state_at_element s k m n op = go (n == m) where
@@ -94,6 +99,7 @@ state_at_element s k m n op = go (n == m) where
   go false = refl
 
 module _ (c : Setup) (n k : ℕ) (own : element_owner c n ≡ k) where
+  -- element n agrees with what its owner keeps
   abbrev Knows : System → OpenWaits → Kept → Type 0
   Knows s w kept = ElementAgrees (s.element n).state (kept.in_use n) (w.parked n) (kept.generation n)
 

@@ -31,6 +31,7 @@ names_either (element_op.Release g d) x most before after = grind arith
 names_either (element_op.Close g) x most before after = grind arith
 names_either element_op.Test x most before after = before
 
+-- a reply names a generation that an element has before or after it
 named : (c : Setup) (s : System) (k : ℕ) (o : Object) (p : ℕ) (op : Op) (r : Reply) (most : ℕ) → IsNext c s (entry_of k o p op r)
     → ((n : ℕ) → (s.element n).state.generation ≤ most) → ((n : ℕ) → ((moved s k o op).element n).state.generation ≤ most)
     → NamesUpTo most r
@@ -52,6 +53,7 @@ named c s k Latches p (op_on.Latch op) r most h before after =
     subst (NamesUpTo most) (sym is) tt
 named c s k o p op r most h before after = absurd (false≢true h.admits)
 
+-- so within the budgets none is too high
 pub next_names : (c : Setup) (es : List Entry) (e : Entry) → Legal c es → IsNext c (after c es) e → length es < 524287
     → NamesUpTo 262143 e.reply
 next_names c es e l h few =
@@ -61,6 +63,7 @@ next_names c es e l h few =
     (λ n. subst (λ (s : System). (s.element n).state.generation ≤ 262143) (after_longer c es e)
     (no_high_generation c (es ++ e ∷ []) n (legal_longer c es e l h) (omega arith)))
 
+-- in no entry of a legal list
 pub each_names : (c : Setup) (xs ys : List Entry) (e : Entry) → Legal c (xs ++ e ∷ ys) → length (xs ++ e ∷ ys) ≤ 524287
     → NamesUpTo 262143 e.reply
 each_names c xs ys e l few =

@@ -42,6 +42,7 @@ one_request c k t es q l i j own =
     (stands c es t.latch q l j) in
     ap (λ (u : StandingRequest). u.request) (same_standing 0 (stood t.latch q) t (standing (of k es)) (risen c k es l).rises too i number)
 
+-- a standing request is found by its caller and number
 pub its_own : (c : Setup) (k : ℕ) (t : StandingRequest) (es : List Entry) → Legal c es → Contains (standing (of k es)) t
     → is_own k t.request.id t.request ≡ true
 its_own c k t es l i = rw (eq-eqb t.request.id t.request.id refl, eq-eqb t.request.caller k (stands_below c k es t l i).1) refl
@@ -53,9 +54,11 @@ purge_moves s j o op requestor latch is op_is =
     ap (λ (x : Object). list_at (moved s j x op) latch) is
     ∙ (ap (λ (x : Op). list_at (moved s j Latches x) latch) op_is ∙ get_or-map (purged requestor) s.latches.state latch [])
 
+-- what a purge leaves is not the requestor's
 not_requestor : (requestor : ℕ) (q : Request) → not (of_requestor requestor q) ≡ true → q.requestor ≡ requestor → ⊥
 not_requestor requestor q passed is = false≢true (ap (λ b. not b) (sym (eq-eqb q.requestor requestor is)) ∙ passed)
 
+-- so a purge leaves no request of this number
 none_found : (c : Setup) (k : ℕ) (t : StandingRequest) (es : List Entry) → Legal c es → Contains (standing (of k es)) t
     → list_any (is_own k t.request.id) (purged t.request.requestor (list_at (after c es) t.latch)) ≡ true → ⊥
 none_found c k t es l i any =
@@ -64,10 +67,12 @@ none_found c k t es l i any =
     let same : f.0 ≡ t.request = one_request c k t es f.0 l i (was_in test f.0 (list_at (after c es) t.latch) f.1) f.2 in
     not_requestor t.request.requestor f.0 (passes test f.0 (list_at (after c es) t.latch) f.1) (ap (λ (q : Request). q.requestor) same)
 
+-- a test that does not hold
 is_false : (b : Bool) → (b ≡ true → ⊥) → b ≡ false
 is_false true f = absurd (f refl)
 is_false false f = refl
 
+-- a request that was purged is gone
 pub purged_is_gone : (c : Setup) (k : ℕ) (t : StandingRequest) (es : List Entry) → Legal c es → WasPurged k t es
     → IsGone k t.latch t.request.id (after c es)
 purged_is_gone c k t es l w =
@@ -89,6 +94,7 @@ purged_is_gone c k t es l w =
     subst (λ (xs : List Entry). IsGone k t.latch t.request.id (after c xs)) (sym whole)
     (gone_stays c (w.before ++ w.purge ∷ []) w.later k t.latch t.request.id legal early gone)
 
+-- one that is gone, and stands by its caller's entries, was purged
 pub gone_was_purged : (c : Setup) (k : ℕ) (t : StandingRequest) (es : List Entry) → Legal c es → Contains (standing (of k es)) t
     → IsGone k t.latch t.request.id (after c es) → WasPurged k t es
 gone_was_purged c k t es l i gone = elim (stands_or_purged c k t es l i) [
@@ -97,6 +103,7 @@ gone_was_purged c k t es l i gone = elim (stands_or_purged c k t es l i) [
   | inr w ↦ w
 ]
 
+-- so it is gone exactly then
 pub gone_exactly : (c : Setup) (k : ℕ) (t : StandingRequest) (es : List Entry) → Legal c es → Contains (standing (of k es)) t
     → (IsGone k t.latch t.request.id (after c es) ↔ WasPurged k t es)
 gone_exactly c k t es l i = (gone_was_purged c k t es l i, purged_is_gone c k t es l)
@@ -106,6 +113,7 @@ none_granted : (k id : ℕ) (qs : List Request) → list_any (is_own k id) qs �
 none_granted k id qs none = is_false (list_any (is_own k id) (granted qs)) (λ any. let f = found (is_own k id) (granted qs) any in
     false≢true (sym none ∙ finds (is_own k id) f.0 qs (in_granted f.0 qs f.1) f.2))
 
+-- a confirm finds a request gone exactly where it is in no list
 confirm_is : (k id : ℕ) (qs : List Request) → (confirm_reply k id qs ≡ Gone) ↔ (list_any (is_own k id) qs ≡ false)
 confirm_is k id qs = (
   forth (list_any (is_own k id) (granted qs)) (list_any (is_own k id) qs),
@@ -117,6 +125,7 @@ confirm_is k id qs = (
   forth false true e = absurd (cc e)
   forth false false e = refl
 
+-- so does a release
 release_is : (k id : ℕ) (conditional : Bool) (qs : List Request)
     → ((release_step k id conditional qs).1 ≡ Gone) ↔ (list_any (is_own k id) qs ≡ false)
 release_is k id conditional qs = (
@@ -131,6 +140,7 @@ release_is k id conditional qs = (
   forth true false rs n e = absurd (cc e)
   forth false d rs n e = refl
 
+-- a confirm of a standing request is answered Gone exactly where it was purged
 pub confirm_gone : (c : Setup) (es : List Entry) (e : Entry) (t : StandingRequest) → Legal c es → IsNext c (after c es) e
     → e.object ≡ Latches → e.op ≡ op_on.Latch (Confirm t.latch t.request.id) → Contains (standing (of e.caller es)) t
     → ((e.reply ≡ reply_of.Latch Gone) ↔ WasPurged e.caller t es)
@@ -143,6 +153,7 @@ confirm_gone c es e t l h o is i =
       (λ w. r ∙ ap (λ y. reply_of.Latch y) (ways.1 (purged_is_gone c e.caller t es l w))),
     )
 
+-- so is a release
 pub release_gone : (c : Setup) (es : List Entry) (e : Entry) (t : StandingRequest) (conditional : Bool) → Legal c es
     → IsNext c (after c es) e → e.object ≡ Latches → e.op ≡ op_on.Latch (Release t.latch t.request.id conditional)
     → Contains (standing (of e.caller es)) t
@@ -163,14 +174,17 @@ confirm_finds_granted c s e latch id h o is holds =
     latch_reply_is c s e (Confirm latch id) h o is
     ∙ ap (λ b. reply_of.Latch (cond b (Granted id) (cond (list_any (is_own e.caller id) (list_at s latch)) Waiting Gone))) holds
 
+-- a confirm of a request that is gone
 pub confirm_finds_gone : (c : Setup) (s : System) (e : Entry) (latch id : ℕ) → IsNext c s e → e.object ≡ Latches
     → e.op ≡ op_on.Latch (Confirm latch id) → IsGone e.caller latch id s → e.reply ≡ reply_of.Latch Gone
 confirm_finds_gone c s e latch id h o is gone =
     latch_reply_is c s e (Confirm latch id) h o is ∙ ap (λ y. reply_of.Latch y) ((confirm_is e.caller id (list_at s latch)).1 gone)
 
+-- what is found among the granted is found in the list
 any_of_granted : (k id : ℕ) (qs : List Request) → list_any (is_own k id) (granted qs) ≡ true → list_any (is_own k id) qs ≡ true
 any_of_granted k id qs any = let f = found (is_own k id) (granted qs) any in finds (is_own k id) f.0 qs (in_granted f.0 qs f.1) f.2
 
+-- a granted request is released
 released_reply : (k id : ℕ) (conditional : Bool) (qs : List Request) → list_any (is_own k id) (granted qs) ≡ true → (n : ℕ)
     × ((release_step k id conditional qs).1 ≡ Released n)
 released_reply k id conditional qs any = (
@@ -188,6 +202,7 @@ released_reply k id conditional qs any = (
   go false d v p q = absurd (false≢true p)
   go true false v p q = absurd (false≢true q)
 
+-- so a release of it is answered
 pub release_finds_granted : (c : Setup) (s : System) (e : Entry) (latch id : ℕ) (conditional : Bool) → IsNext c s e → e.object ≡ Latches
     → e.op ≡ op_on.Latch (Release latch id conditional) → IsGranted e.caller latch id s
     → (n : ℕ) × (e.reply ≡ reply_of.Latch (Released n))

@@ -41,15 +41,18 @@ left_in p q (x ∷ xs) is i = elim (first_or_rest x xs q i) [
       elim (p x) as (λ b. Contains (cond b (x ∷ filter p xs) (filter p xs)) q) [ true ↦ rest_is_in x (filter p xs) q rest | false ↦ rest ]
 ]
 
+-- what is in both results is in either
 either : (q : Request) (b : Bool) (x y : List Request × LatchReply) → Contains x.0 q → Contains y.0 q → Contains (cond b x y).0 q
 either q true x y i j = i
 either q false x y i j = j
 
+-- an obtain leaves what was in the list
 in_obtained : (q r : Request) (qs : List Request) → Contains qs q → Contains (obtain_step r qs).0 q
 in_obtained q r qs i =
     let more : Contains (qs ++ r ∷ []) q = Contains-append_left qs (r ∷ []) q i in
     search either
 
+-- a release leaves all but its own request
 in_released : (q : Request) (k id : ℕ) (conditional : Bool) (qs : List Request) → not (is_own k id q) ≡ true → Contains qs q
     → Contains (release_step k id conditional qs).0 q
 in_released q k id conditional qs other i =
@@ -65,13 +68,16 @@ replaced q lists latch other qs lt here i = elim (cases_eq other latch) [
   | inr apart ↦ rw (get_or-set_other lists latch other qs [] apart) i
 ]
 
+-- a release that does not take a request out is not of it
 not_own : (k id latch : ℕ) (t : StandingRequest) → latch ≡ t.latch
     → ((latch == t.latch) && ((id == t.request.id) && (k == t.request.caller))) ≡ false → not (is_own k id t.request) ≡ true
 not_own k id latch t here none = grind arith
 
+-- nor is a purge that does not
 not_purged : (requestor : ℕ) (q : Request) → (q.requestor == requestor) ≡ false → not (of_requestor requestor q) ≡ true
 not_purged requestor q none = ap (λ b. not b) none
 
+-- an operation that does not take a request out leaves it in its list
 stays_step : (k place : ℕ) (op : LatchOp) (lists : List (List Request)) (t : StandingRequest) → NamesLatch op lists
     → takes_out t k Latches (op_on.Latch op) ≡ false
     → Contains (list_of lists t.latch) t.request → Contains (list_of (latch_step k place op lists).0 t.latch) t.request
@@ -88,6 +94,7 @@ stays_step k place (Purge requestor) lists t lt none i =
     rw (get_or-map (purged requestor) lists t.latch [])
     (left_in (λ x. not (of_requestor requestor x)) t.request (list_of lists t.latch) (not_purged requestor t.request none) i)
 
+-- so does an entry
 stays_moved : (c : Setup) (s : System) (k : ℕ) (o : Object) (p : ℕ) (op : Op) (r : Reply) (t : StandingRequest)
     → IsNext c s (entry_of k o p op r) → takes_out t k o op ≡ false
     → Contains (list_at s t.latch) t.request → Contains (list_at (moved s k o op) t.latch) t.request
@@ -103,6 +110,7 @@ pub stays_next : (c : Setup) (s : System) (e : Entry) (t : StandingRequest) → 
     → Contains (list_at s t.latch) t.request → Contains (list_at (next s e) t.latch) t.request
 stays_next c s e t h none i = stays_moved c s e.caller e.object e.place e.op e.reply t h none i
 
+-- a granted request that an entry leaves in its list stays granted
 granted_moved : (c : Setup) (s : System) (k : ℕ) (o : Object) (p : ℕ) (op : Op) (r : Reply) (t : StandingRequest)
     → IsNext c s (entry_of k o p op r) → Contains (list_at (moved s k o op) t.latch) t.request
     → Contains (granted (list_at s t.latch)) t.request → Contains (granted (list_at (moved s k o op) t.latch)) t.request
@@ -114,11 +122,13 @@ granted_moved c s k (Element m) p (op_on.Element op) r t h i g = g
 granted_moved c s k (Volume m) p (op_on.Volume op) r t h i g = g
 granted_moved c s k o p op r t h i g = absurd (false≢true h.admits)
 
+-- the same of the machine's next entry
 pub granted_next : (c : Setup) (s : System) (e : Entry) (t : StandingRequest) → IsNext c s e
     → Contains (list_at (next s e) t.latch) t.request
     → Contains (granted (list_at s t.latch)) t.request → Contains (granted (list_at (next s e) t.latch)) t.request
 granted_next c s e t h i g = granted_moved c s e.caller e.object e.place e.op e.reply t h i g
 
+-- a granted request is in its list
 pub in_granted : (q : Request) (qs : List Request) → Contains (granted qs) q → Contains qs q
 in_granted q qs i = subst (λ rs. Contains rs q) (granted_split qs) (Contains-append_left (granted qs) (waiting qs) q i)
 
@@ -130,9 +140,11 @@ requests_stay c xs ys t l none i =
     (along c (λ s. Contains (list_at s t.latch) t.request) (λ e. takes_out t e.caller e.object e.op ≡ false)
     (λ s e h n j. stays_next c s e t h n j) (after c xs) ys (rest_is_legal c xs ys l) none i)
 
+-- the request is in its list, and granted
 abbrev Holds : StandingRequest → System → Type 0
 Holds t s = Contains (list_at s t.latch) t.request × Contains (granted (list_at s t.latch)) t.request
 
+-- a granted request that no entry takes out stays granted
 pub granted_stays : (c : Setup) (xs ys : List Entry) (t : StandingRequest) → Legal c (xs ++ ys) → NoneTakesOut t ys
     → Contains (granted (list_at (after c xs) t.latch)) t.request → Contains (granted (list_at (after c (xs ++ ys)) t.latch)) t.request
 granted_stays c xs ys t l none g =

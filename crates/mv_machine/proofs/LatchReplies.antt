@@ -22,6 +22,7 @@ use Rattle.mv_machine.specs.System.{System}
 use Rattle.mv_machine.specs.Replies.{IsLatchReply, OnLatch, CountsWakes}
 use Rattle.mv_machine.proofs.Replies.{latch_reply_is}
 
+-- an obtain's reply
 obtain_says : (latch requestor : ℕ) (mode : Mode) (form : LatchForm) (r : Request) (qs : List Request) → r.form ≡ form
     → IsLatchReply r.id (Obtain latch requestor mode form) (obtain_step r qs).1
 obtain_says latch requestor mode form r qs same = go (grants qs r) (queues r.form) refl where
@@ -33,6 +34,7 @@ obtain_says latch requestor mode form r qs same = go (grants qs r) (queues r.for
   go false true e = (refl, ap queues (sym same) ∙ e)
   go false false e = ap queues (sym same) ∙ e
 
+-- a confirm's
 confirm_says : (place latch k id : ℕ) (qs : List Request) → IsLatchReply place (Confirm latch id) (confirm_reply k id qs)
 confirm_says place latch k id qs = go (list_any (is_own k id) (granted qs)) (list_any (is_own k id) qs) where
   go : (b d : Bool) → IsLatchReply place (Confirm latch id) (cond b (Granted id) (cond d Waiting Gone))
@@ -40,6 +42,7 @@ confirm_says place latch k id qs = go (list_any (is_own k id) (granted qs)) (lis
   go false true = tt
   go false false = tt
 
+-- a release's
 release_says : (place latch k id : ℕ) (conditional : Bool) (qs : List Request)
     → IsLatchReply place (Release latch id conditional) (release_step k id conditional qs).1
 release_says place latch k id conditional qs = go (list_any (is_own k id) qs) conditional (list_any (is_own k id) (granted qs)) refl where
@@ -52,6 +55,7 @@ release_says place latch k id conditional qs = go (list_any (is_own k id) qs) co
   go true true false e = sym e
   go true false d e = tt
 
+-- and so each operation's
 step_says : (k place : ℕ) (op : LatchOp) (lists : List (List Request)) → IsLatchReply place op (latch_step k place op lists).1
 step_says k place (Obtain latch requestor mode form) lists = obtain_says latch requestor mode form
     (record { id = place; caller = k; requestor = requestor; mode = mode; form = form }) (list_of lists latch) refl
@@ -59,6 +63,7 @@ step_says k place (Confirm latch id) lists = confirm_says place latch k id (list
 step_says k place (Release latch id conditional) lists = release_says place latch k id conditional (list_of lists latch)
 step_says k place (Purge requestor) lists = tt
 
+-- as an entry has it
 pub latch_says : (c : Setup) (s : System) (e : Entry) (op : LatchOp) → IsNext c s e → e.object ≡ Latches → e.op ≡ op_on.Latch op
     → OnLatch (IsLatchReply s.latches.place op) e.reply
 latch_says c s e op h o is = subst (OnLatch (IsLatchReply s.latches.place op)) (sym (latch_reply_is c s e op h o is))
@@ -75,19 +80,23 @@ all_found whole (q ∷ qs) f = (
       (λ x any. f x (or_right (has_id x.id q) (list_any (has_id x.id) qs) any)),
 )
 
+-- a filter that leaves what is not found leaves nothing where all is found
 none_left : (whole front : List Request) → AllByRecursion (λ q. list_any (has_id q.id) whole ≡ true) front
     → filter (λ q. not (list_any (has_id q.id) whole)) front ≡ []
 none_left whole [] a = refl
 none_left whole (q ∷ qs) a = ap (λ b. cond (not b) (q ∷ filter (λ x. not (list_any (has_id x.id) whole)) qs)
     (filter (λ x. not (list_any (has_id x.id) whole)) qs)) a.0 ∙ none_left whole qs a.1
 
+-- a list that does not change has nothing newly granted
 nothing_new : (qs : List Request) → granted_wakes qs qs ≡ []
 nothing_new qs = ap (map (wake_of 0)) (none_left (granted qs) (granted qs) (all_found (granted qs) (granted qs) (λ q any. any)))
 
+-- a wake for each request
 as_many : (qs : List Request) → length (map (wake_of 0) qs) ≡ length qs
 as_many [] = refl
 as_many (q ∷ qs) = let rest : length (map (wake_of 0) qs) ≡ length qs = as_many qs in omega arith
 
+-- a release has as many wakes as it says
 release_counts : (k id : ℕ) (conditional : Bool) (qs : List Request) → CountsWakes (granted_wakes qs (release_step k id conditional qs).0)
     (release_step k id conditional qs).1
 release_counts k id conditional qs = go (list_any (is_own k id) qs) (conditional && not (list_any (is_own k id) (granted qs))) where
@@ -99,6 +108,7 @@ release_counts k id conditional qs = go (list_any (is_own k id) qs) (conditional
   go true true = nothing_new qs
   go true false = as_many (newly_granted qs (without k id qs))
 
+-- as an entry has it
 pub release_wakes : (c : Setup) (s : System) (e : Entry) (latch id : ℕ) (conditional : Bool) → IsNext c s e → e.object ≡ Latches
     → e.op ≡ op_on.Latch (Release latch id conditional)
     → OnLatch (CountsWakes (wakes e.caller (Release latch id conditional) s.latches.state)) e.reply

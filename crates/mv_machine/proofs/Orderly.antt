@@ -40,6 +40,7 @@ use Rattle.mv_machine.proofs.Requests.{all_of_list, all_released, all_purged}
 
 -- ---- the granted requests of a list
 
+-- an exclusive granted request is the only one
 stands_alone : (qs : List Request) (q : Request) → Contains (granted qs) q → shared_request q ≡ false → granted qs ≡ q ∷ []
 stands_alone [] q i exclusive = absurd (not_in_empty q i)
 stands_alone (x ∷ xs) q i exclusive = go (shared_request x) refl i where
@@ -66,6 +67,7 @@ IsNotOf r q = of_requestor r q ≡ false
 abbrev NoneOf : ℕ → List (List Request) → Type 0
 NoneOf r lists = AllByRecursion (λ qs. AllByRecursion (IsNotOf r) qs) lists
 
+-- a purge leaves no request of its requestor in a list
 left_of : (r : ℕ) (qs : List Request) → AllByRecursion (IsNotOf r) (purged r qs)
 left_of r [] = tt
 left_of r (q ∷ qs) = go (of_requestor r q) refl (left_of r qs) where
@@ -74,14 +76,17 @@ left_of r (q ∷ qs) = go (of_requestor r q) refl (left_of r qs) where
   go true is rest = rest
   go false is rest = (is, rest)
 
+-- nor in all lists
 left_of_all : (r : ℕ) (lists : List (List Request)) → NoneOf r (map (purged r) lists)
 left_of_all r [] = tt
 left_of_all r (qs ∷ lists) = (left_of r qs, left_of_all r lists)
 
+-- so none is counted in a list
 none_counted : (r : ℕ) (qs : List Request) → AllByRecursion (IsNotOf r) qs → length (filter (of_requestor r) qs) ≡ 0
 none_counted r [] a = refl
 none_counted r (q ∷ qs) a = ap (λ b. length (cond b (q ∷ filter (of_requestor r) qs) (filter (of_requestor r) qs))) a.0 ∙ none_counted r qs a.1
 
+-- nor in all
 none_in : (r : ℕ) (lists : List (List Request)) → NoneOf r lists → count_in (of_requestor r) lists ≡ 0
 none_in r [] a = refl
 none_in r (qs ∷ lists) a = let here = none_counted r qs a.0 in let there = none_in r lists a.1 in omega (arith, here, there)
@@ -101,6 +106,7 @@ none_obtained r latch requestor mode form x qs own by a = go (grants qs x) (queu
   go false true none = other none
   go false false none = a
 
+-- an operation that makes none stand leaves none
 none_step : (r k place : ℕ) (op : LatchOp) (lists : List (List Request))
     → obtained_by r (op_on.Latch op) (reply_of.Latch (latch_step k place op lists).1) ≡ false
     → NoneOf r lists → NoneOf r (latch_step k place op lists).0
@@ -114,6 +120,7 @@ none_step r k place (Release latch id conditional) lists none a =
     (all_released (IsNotOf r) k id conditional (list_of lists latch) (all_of_list (IsNotOf r) lists latch a)) a
 none_step r k place (Purge requestor) lists none a = all_purged (IsNotOf r) requestor lists a
 
+-- so does an entry
 none_moved : (c : Setup) (r : ℕ) (s : System) (k : ℕ) (o : Object) (p : ℕ) (op : Op) (reply : Reply)
     → IsNext c s (entry_of k o p op reply) → obtained_by r op reply ≡ false → NoneOf r s.latches.state
     → NoneOf r (moved s k o op).latches.state
@@ -141,6 +148,7 @@ purge_moved c r s k o p op reply h by = absurd (false≢true h.admits)
 
 -- ---- along a legal list
 
+-- a purged requestor has none until one of its own stands
 holds_nothing : (c : Setup) (es : List Entry) → Legal c es → (r : ℕ) (xs ys zs : List Entry) (e : Entry) → es ≡ xs ++ e ∷ (ys ++ zs)
     → IsTrue (purged_by r e.op) → AllByRecursion (λ y. obtained_by r y.op y.reply ≡ false) ys
     → count_in (of_requestor r) (after c (xs ++ e ∷ ys)).latches.state ≡ 0
@@ -153,6 +161,7 @@ holds_nothing c es l r xs ys zs e whole by none =
     (λ s y h n a. none_moved c r s y.caller y.object y.place y.op y.reply h n a) (next (after c xs) e) ys later none
     (purge_moved c r (after c xs) e.caller e.object e.place e.op e.reply rest.0 by)))
 
+-- a granted request that stays in its list stays granted
 stays_so : (c : Setup) (es : List Entry) → Legal c es → (xs ys : List Entry) (e : Entry) (latch : ℕ) (q : Request) → es ≡ xs ++ e ∷ ys
     → Contains (granted (queue c xs latch)) q → Contains (queue c (xs ++ e ∷ []) latch) q
     → Contains (granted (queue c (xs ++ e ∷ []) latch)) q
@@ -162,6 +171,7 @@ stays_so c es l xs ys e latch q whole g i =
     (granted_next c (after c xs) e (record { latch = latch; request = q }) h
     (subst (λ s. Contains (list_of s.latches.state latch) q) (after_longer c xs e) i) g)
 
+-- the part of latches
 pub latches_are_orderly : (c : Setup) (es : List Entry) → Legal c es → AreOrderlyLatches c es
 latches_are_orderly c es l = record {
   in_order = λ xs ys latch whole. (
@@ -173,5 +183,6 @@ latches_are_orderly c es l = record {
   purged = λ r xs ys zs e whole by none. holds_nothing c es l r xs ys zs e whole by none;
 }
 
+-- and the whole
 pub history_is_orderly : (c : Setup) (es : List Entry) → Legal c es → IsOrderly c es
 history_is_orderly c es l = record { elements = elements_are_orderly c es l; latches = latches_are_orderly c es l }

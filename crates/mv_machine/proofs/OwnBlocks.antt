@@ -20,12 +20,14 @@ use Rattle.mv_machine.specs.calls.Rest.{no_waits, waits_from}
 use Rattle.mv_machine.proofs.Blocks.{block_agrees}
 use Rattle.mv_machine.proofs.Replies.{ecb_reply_is}
 
+-- an arm of a block that is neither armed nor extended
 arm_says : (c : Setup) (n : ℕ) (x : EcbState) (a e : Bool) → BlockAgrees c n x a e → a ≡ false → e ≡ false → IsArmReply (ecb_step Arm x).1
 arm_says c n Zero a e h idle plain = tt
 arm_says c n Waiting a e h idle plain = false≢true (sym idle ∙ h.0)
 arm_says c n (Extended y) a e h idle plain = false≢true (sym plain ∙ h.0)
 arm_says c n (Complete d) a e h idle plain = tt
 
+-- an extend of such a block
 extend_says : (c : Setup) (n y : ℕ) (x : EcbState) (a e : Bool) → BlockAgrees c n x a e → a ≡ false → e ≡ false
     → IsArmReply (ecb_step (Extend y) x).1
 extend_says c n y Zero a e h idle plain = tt
@@ -33,6 +35,7 @@ extend_says c n y Waiting a e h idle plain = false≢true (sym idle ∙ h.0)
 extend_says c n y (Extended z) a e h idle plain = false≢true (sym plain ∙ h.0)
 extend_says c n y (Complete d) a e h idle plain = tt
 
+-- a settle of one that is not extended
 settle_says : (c : Setup) (n : ℕ) (x : EcbState) (a e : Bool) → BlockAgrees c n x a e → e ≡ false → IsSettleReply (ecb_step Settle x).1
 settle_says c n Zero a e h plain = tt
 settle_says c n Waiting a e h plain = tt
@@ -52,12 +55,14 @@ by_log c es e n op P l h o is owners says =
     let own : owner_of c n ≡ e.caller = cc in
     subst (OnEcb P) (sym (ecb_reply_is c (after c es) e n op h o is)) (says ((after c es).ecb n).state (block_agrees c n e.caller own es l))
 
+-- so of an entry: an arm
 pub arm_reply : (c : Setup) (es : List Entry) (e : Entry) (n : ℕ) → Legal c es → IsNext c (after c es) e → e.object ≡ Ecb n
     → e.op ≡ op_on.Ecb Arm
     → (waits_from no_waits (of e.caller es)).armed n ≡ false → (kept_of e.caller (of e.caller es)).extended n ≡ false
     → OnEcb IsArmReply e.reply
 arm_reply c es e n l h o is idle plain = by_log c es e n Arm IsArmReply l h o is refl (λ x a. arm_says c n x _ _ a idle plain)
 
+-- an extend
 pub extend_reply : (c : Setup) (es : List Entry) (e : Entry) (n exit : ℕ) → Legal c es → IsNext c (after c es) e → e.object ≡ Ecb n
     → e.op ≡ op_on.Ecb (Extend exit)
     → (waits_from no_waits (of e.caller es)).armed n ≡ false → (kept_of e.caller (of e.caller es)).extended n ≡ false
@@ -65,6 +70,7 @@ pub extend_reply : (c : Setup) (es : List Entry) (e : Entry) (n exit : ℕ) → 
 extend_reply c es e n exit l h o is idle plain = by_log c es e n (Extend exit) IsArmReply l h o is refl
     (λ x a. extend_says c n exit x _ _ a idle plain)
 
+-- a settle
 pub settle_reply : (c : Setup) (es : List Entry) (e : Entry) (n : ℕ) → Legal c es → IsNext c (after c es) e → e.object ≡ Ecb n
     → e.op ≡ op_on.Ecb Settle
     → (kept_of e.caller (of e.caller es)).extended n ≡ false → OnEcb IsSettleReply e.reply

@@ -35,6 +35,7 @@ by_log c es e n op P l h o is owners says =
     subst (OnElement P) (sym (element_reply_is c (after c es) e n op h o is))
     (says ((after c es).element n).state (element_agrees c n e.caller own es l))
 
+-- a pause
 pub pause_reply : (c : Setup) (es : List Entry) (e : Entry) (n g : ℕ) → Legal c es → IsNext c (after c es) e → e.object ≡ Element n
     → e.op ≡ op_on.Element (element_op.Pause g)
     → (kept_of e.caller (of e.caller es)).in_use n ≡ true → (kept_of e.caller (of e.caller es)).generation n ≡ g
@@ -43,6 +44,7 @@ pub pause_reply : (c : Setup) (es : List Entry) (e : Entry) (n g : ℕ) → Lega
 pause_reply c es e n g l h o is used now idle = by_log c es e n (element_op.Pause g) (IsPauseReply g) l h o is refl
     (λ x a. pause_says x _ _ g (subst (ElementAgrees x _ _) now a) used idle)
 
+-- a resume
 pub resume_reply : (c : Setup) (es : List Entry) (e : Entry) (n g : ℕ) → Legal c es → IsNext c (after c es) e → e.object ≡ Element n
     → e.op ≡ op_on.Element (element_op.Resume g)
     → (kept_of e.caller (of e.caller es)).generation n ≡ g → (waits_from no_waits (of e.caller es)).parked n ≡ true
@@ -50,6 +52,7 @@ pub resume_reply : (c : Setup) (es : List Entry) (e : Entry) (n g : ℕ) → Leg
 resume_reply c es e n g l h o is now parked = by_log c es e n (element_op.Resume g) (IsResumeReply g) l h o is refl
     (λ x a. resume_says x _ _ g (subst (ElementAgrees x _ _) now a) parked)
 
+-- a close
 pub close_reply : (c : Setup) (es : List Entry) (e : Entry) (n g : ℕ) → Legal c es → IsNext c (after c es) e → e.object ≡ Element n
     → e.op ≡ op_on.Element (element_op.Close g)
     → (kept_of e.caller (of e.caller es)).in_use n ≡ true → (kept_of e.caller (of e.caller es)).generation n ≡ g
@@ -58,6 +61,7 @@ pub close_reply : (c : Setup) (es : List Entry) (e : Entry) (n g : ℕ) → Lega
 close_reply c es e n g l h o is used now idle = by_log c es e n (element_op.Close g) (λ r. r ≡ element_reply.Closed) l h o is refl
     (λ x a. close_says x _ _ g (subst (ElementAgrees x _ _) now a) used idle)
 
+-- an opening
 pub open_reply : (c : Setup) (es : List Entry) (e : Entry) (n : ℕ) → Legal c es → IsNext c (after c es) e → e.object ≡ Element n
     → e.op ≡ op_on.Element element_op.Open
     → (kept_of e.caller (of e.caller es)).in_use n ≡ false
@@ -72,12 +76,14 @@ pub pause_is_not_busy : (c : Setup) (es : List Entry) (e : Entry) (n g : ℕ) �
 pause_is_not_busy c es e n g l h o is idle = by_log c es e n (element_op.Pause g) IsNotBusy l h o is refl
     (λ x a. pause_idle x _ _ _ g a idle)
 
+-- a close
 pub close_is_not_busy : (c : Setup) (es : List Entry) (e : Entry) (n g : ℕ) → Legal c es → IsNext c (after c es) e → e.object ≡ Element n
     → e.op ≡ op_on.Element (element_op.Close g)
     → (waits_from no_waits (of e.caller es)).parked n ≡ false → OnElement IsNotBusy e.reply
 close_is_not_busy c es e n g l h o is idle = by_log c es e n (element_op.Close g) IsNotBusy l h o is refl
     (λ x a. close_idle x _ _ _ g a idle)
 
+-- a resume behind a pause that parked
 pub resume_is_not_busy : (c : Setup) (es : List Entry) (e : Entry) (n g : ℕ) → Legal c es → IsNext c (after c es) e → e.object ≡ Element n
     → e.op ≡ op_on.Element (element_op.Resume g)
     → (waits_from no_waits (of e.caller es)).parked n ≡ true → OnElement IsNotBusy e.reply

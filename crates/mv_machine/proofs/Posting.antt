@@ -20,6 +20,7 @@ use Rattle.mv_machine.specs.Legal.{IsNext, Legal, after}
 use Rattle.mv_machine.specs.Check.{IsValid}
 use Rattle.mv_machine.specs.Reach.{exits_of, greatest, total, reach, reach_within}
 use Rattle.mv_machine.specs.Setup.{Setup, SetupExit, owner_of, is_exit_of, starts_from}
+use Rattle.mv_machine.proofs.Lists.{all_front, all_back}
 use Rattle.mv_machine.proofs.EntryRuns.{entry_of}
 use Rattle.mv_machine.proofs.Reaches.{all_lead_up, reach_is}
 use Rattle.mv_machine.specs.Exits.{NamesOwnExit, NameOwnExits}
@@ -55,6 +56,7 @@ shown c n (Post d) (Extended (suc y)) a e h = h.1
 shown c n (Post d) (Complete g) a e h = tt
 shown c n Test x a e h = tt
 
+-- an extended block starts an exit of its own
 own_exit : (c : Setup) (es : List Entry) (k : ℕ) (o : Object) (p : ℕ) (op : Op) (r : Reply) → Legal c es
     → IsNext c (after c es) (entry_of k o p op r) → NamesOwnExit c o r
 own_exit c es k (Ecb n) p (op_on.Ecb op) r l h =
@@ -65,6 +67,7 @@ own_exit c es k (Volume n) p (op_on.Volume op) r l h = tt
 own_exit c es k Latches p (op_on.Latch op) r l h = tt
 own_exit c es k o p op r l h = absurd (false≢true h.admits)
 
+-- so its reply names one
 pub exits_are_own : (c : Setup) (es : List Entry) (e : Entry) → Legal c es → IsNext c (after c es) e → NamesOwnExit c e.object e.reply
 exits_are_own c es e l h = own_exit c es e.caller e.object e.place e.op e.reply l h
 
@@ -101,14 +104,15 @@ parts Wrong f (h ∷ hs) s = absurd (cc s.0)
 abbrev pub AsksAtMost : {A : Type 0} → Setup → ℕ → Program A → Type 0
 AsksAtMost c most p = (hs : List Heard) → NameOwnExits c hs → Says p hs → length hs ≤ most
 
+-- replies that name own exits, in front
 front_names : (c : Setup) (xs ys : List Heard) → NameOwnExits c (xs ++ ys) → NameOwnExits c xs
-front_names c [] ys n = tt
-front_names c (x ∷ xs) ys n = (n.0, front_names c xs ys n.1)
+front_names c xs ys n = all_front (λ h. NamesOwnExit c h.entry.object h.entry.reply) xs ys n
 
+-- and behind
 rest_names : (c : Setup) (xs ys : List Heard) → NameOwnExits c (xs ++ ys) → NameOwnExits c ys
-rest_names c [] ys n = n
-rest_names c (x ∷ xs) ys n = rest_names c xs ys n.1
+rest_names c xs ys n = all_back (λ h. NamesOwnExit c h.entry.object h.entry.reply) xs ys n
 
+-- a program and what follows it ask together
 both_ask : {A B : Type 0} (c : Setup) (m n : ℕ) (p : Program A) (f : A → Program B) → AsksAtMost c m p → ((a : A) → AsksAtMost c n (f a))
     → AsksAtMost c (m + n) (and_then p f)
 both_ask c m n p f first later hs names s = elim (parts p f hs s) [
@@ -125,10 +129,12 @@ both_ask c m n p f first later hs names s = elim (parts p f hs s) [
       )
 ]
 
+-- a program that is done asks nothing more
 done_asks : {A : Type 0} (c : Setup) (a : A) → AsksAtMost c 0 (Done a)
 done_asks c a [] names s = omega arith
 done_asks c a (h ∷ hs) names s = absurd (cc s.0)
 
+-- nor does one that met a reply that nothing foresees
 wrong_asks : (A : Type 0) (c : Setup) → AsksAtMost {A = A} c 0 Wrong
 wrong_asks A c [] names s = omega arith
 wrong_asks A c (h ∷ hs) names s = absurd (cc s.0)
@@ -148,11 +154,13 @@ greatest_more : (F : SetupExit → ℕ) (e n : ℕ) (y : SetupExit) (xs : List S
 greatest_more F e n y xs true le = omega arith
 greatest_more F e n y xs false le = le
 
+-- the first of some exits costs no more than the greatest
 greatest_here : (F : SetupExit → ℕ) (e : ℕ) (y : SetupExit) (xs : List SetupExit) (b : Bool) → b ≡ true
     → F y ≤ greatest (map F (cond b (y ∷ exits_of e xs) (exits_of e xs)))
 greatest_here F e y xs true is = omega arith
 greatest_here F e y xs false is = absurd (false≢true is)
 
+-- nor does any of them
 greatest_member : (F : SetupExit → ℕ) (e : ℕ) (xs : List SetupExit) (i : ℕ) (x : SetupExit) → slice_get xs i ≡ Some x
     → (x.source == e) ≡ true
     → F x ≤ greatest (map F (exits_of e xs))
@@ -163,10 +171,12 @@ greatest_member F e (y ∷ xs) zero x at is =
     (greatest_here F e y xs (y.source == e) (ap (λ (z : SetupExit). z.source == e) same ∙ is))
 greatest_member F e (y ∷ xs) (suc i) x at is = greatest_more F e (F x) y xs (y.source == e) (greatest_member F e xs i x at is)
 
+-- an exit that starts from a block is one of the block's
 starts : (e : ℕ) (o : Option SetupExit) → starts_from e o ≡ true → (x : SetupExit) × (o ≡ Some x) × ((x.source == e) ≡ true)
 starts e None s = absurd (false≢true s)
 starts e (Some x) s = (x, refl, s)
 
+-- so its targets cost no more than the greatest of the block's exits
 exit_costs : (c : Setup) (cost : ℕ → ℕ) (e x : ℕ) → is_exit_of c (suc x) e ≡ true
     → total cost (targets_of c (suc x)) ≤ greatest (map (λ (y : SetupExit). total cost y.targets) (exits_of e c.exits))
 exit_costs c cost e x is =
@@ -208,6 +218,7 @@ module _ (c : Setup) (code : ℕ) where
   follows depth e (reply_of.Volume r) each own le hs names s = none_follow _ _ (wrong_asks Posting c) hs names s
   follows depth e (reply_of.Latch r) each own le hs names s = none_follow _ _ (wrong_asks Posting c) hs names s
 
+  -- a post and what it is followed by
   abbrev asking : ℕ → Op → Program Posting
   asking e x = Do (Ecb e) x (λ h. Wrong)
 

@@ -29,6 +29,7 @@ use Rattle.mv_machine.specs.Kept.{StandingRequest, is_named, is_for, less, stand
 use Rattle.mv_machine.specs.Legal.{IsNext, next, Legal, after, of}
 use Rattle.mv_machine.specs.Setup.{Setup}
 use Rattle.mv_machine.specs.System.{System, moved}
+use Rattle.mv_machine.proofs.Lists.{all_push, all_filter}
 use Rattle.mv_machine.proofs.EntryRuns.{entry_of}
 use Rattle.mv_machine.proofs.Histories.{by_last}
 use Rattle.mv_machine.proofs.LatchRuns.{list_at}
@@ -45,9 +46,11 @@ use Rattle.mv_machine.proofs.Replies.{request_has_place}
 pub passes : {A : Type 0} (p : A → Bool) (y : A) (xs : List A) → Contains (filter p xs) y → p y ≡ true
 passes p y xs i = All-contains (λ x. p x ≡ true) (filter p xs) y (filter_passes p xs) i
 
+-- what a filter left was in the list
 pub was_in : {A : Type 0} (p : A → Bool) (y : A) (xs : List A) → Contains (filter p xs) y → Contains xs y
 was_in p y xs i = All-contains (Contains xs) (filter p xs) y (All-filter p (Contains xs) xs (All-contains_itself xs)) i
 
+-- a negation that holds
 pub not_true : (b : Bool) → not b ≡ true → b ≡ false
 not_true true e = sym e
 not_true false e = refl
@@ -56,6 +59,7 @@ not_true false e = refl
 abbrev pub Found : (Request → Bool) → List Request → Type 0
 Found t qs = (q : Request) × Contains qs q × (t q ≡ true)
 
+-- where a test holds of any, there is one of which it holds
 pub found : (t : Request → Bool) (qs : List Request) → list_any t qs ≡ true → Found t qs
 found t [] e = absurd (false≢true e)
 found t (q ∷ qs) e = go (t q) refl e (found t qs) where
@@ -63,6 +67,7 @@ found t (q ∷ qs) e = go (t q) refl e (found t qs) where
   go true is f rest = (q, first_is_in q qs q refl, is)
   go false is f rest = let w = rest f in (w.0, rest_is_in q qs w.0 w.1, w.2)
 
+-- and where it holds of one, it holds of any
 pub finds : (t : Request → Bool) (q : Request) (qs : List Request) → Contains qs q → t q ≡ true → list_any t qs ≡ true
 finds t q [] i is = absurd (not_in_empty q i)
 finds t q (x ∷ xs) i is = elim (first_or_rest x xs q i) [
@@ -76,11 +81,13 @@ standing_from-append : (ts : List StandingRequest) (xs ys : List Entry)
 standing_from-append ts [] ys = refl
 standing_from-append ts (x ∷ xs) ys = standing_from-append (stands_with x.caller ts x.object x.op x.reply) xs ys
 
+-- what stands behind one more entry of the caller's own
 pub standing_own : (k : ℕ) (es : List Entry) (e : Entry) → e.caller ≡ k
     → standing (of k (es ++ e ∷ [])) ≡ stands_with e.caller (standing (of k es)) e.object e.op e.reply
 standing_own k es e own = ap standing (of-append k es (e ∷ []) ∙ ap (λ b. of k es ++ cond b (e ∷ []) []) (eq-eqb e.caller k own))
     ∙ standing_from-append [] (of k es) (e ∷ [])
 
+-- another caller's entry changes nothing that stands
 pub standing_other : (k : ℕ) (es : List Entry) (e : Entry) → (e.caller ≡ k → ⊥) → standing (of k (es ++ e ∷ [])) ≡ standing (of k es)
 standing_other k es e other = ap standing (of-append k es (e ∷ [])
     ∙ (ap (λ b. of k es ++ cond b (e ∷ []) []) (ne_eqb e.caller k other) ∙ append-nil (of k es)))
@@ -90,15 +97,18 @@ abbrev pub Rises : ℕ → List StandingRequest → Type 0
 Rises low [] = Unit {0}
 Rises low (t ∷ ts) = (low ≤ t.request.id) × Rises (t.request.id + 1) ts
 
+-- standing requests whose numbers rise and are below a place, all of one caller
 pub record AreRisen (k place : ℕ) (ts : List StandingRequest) : Type 0 where
   pub rises : Rises 0 ts
   pub below : AllByRecursion (λ t. t.request.id < place) ts
   pub mine : AllByRecursion (λ t. t.request.caller ≡ k) ts
 
+-- numbers that rise from one on rise from a lower one on
 lower : (low high : ℕ) (ts : List StandingRequest) → low ≤ high → Rises high ts → Rises low ts
 lower low high [] le r = tt
 lower low high (t ∷ ts) le r = (omega (arith, r.0), r.1)
 
+-- what a filter leaves rises too
 rises_left : (p : StandingRequest → Bool) (low : ℕ) (ts : List StandingRequest) → Rises low ts → Rises low (filter p ts)
 rises_left p low [] r = tt
 rises_left p low (t ∷ ts) r = elim (p t) as (λ b. Rises low (cond b (t ∷ filter p ts) (filter p ts))) [
@@ -106,48 +116,40 @@ rises_left p low (t ∷ ts) r = elim (p t) as (λ b. Rises low (cond b (t ∷ fi
   | false ↦ lower low (t.request.id + 1) (filter p ts) (omega (arith, r.0)) (rises_left p (t.request.id + 1) ts r.1)
 ]
 
+-- and so it does with a new highest number
 rises_pushed : (low place : ℕ) (ts : List StandingRequest) (u : StandingRequest) → low ≤ place → u.request.id ≡ place → Rises low ts
     → AllByRecursion (λ t. t.request.id < place) ts → Rises low (ts ++ u ∷ [])
 rises_pushed low place [] u le is r b = (omega arith, tt)
 rises_pushed low place (t ∷ ts) u le is r b = (r.0, rises_pushed (t.request.id + 1) place ts u (omega (arith, b.0)) is r.1 b.1)
 
-all_left : (P : StandingRequest → Type 0) (p : StandingRequest → Bool) (ts : List StandingRequest) → AllByRecursion P ts
-    → AllByRecursion P (filter p ts)
-all_left P p [] a = tt
-all_left P p (t ∷ ts) a = elim (p t) as (λ b. AllByRecursion P (cond b (t ∷ filter p ts) (filter p ts))) [
-  | true ↦
-      (a.0, all_left P p ts a.1)
-  | false ↦ all_left P p ts a.1
-]
-
-all_pushed : (P : StandingRequest → Type 0) (ts : List StandingRequest) (u : StandingRequest) → AllByRecursion P ts → P u
-    → AllByRecursion P (ts ++ u ∷ [])
-all_pushed P [] u a p = (p, tt)
-all_pushed P (t ∷ ts) u a p = (a.0, all_pushed P ts u a.1 p)
-
+-- what is below one place is below a later one
 later : (m n : ℕ) (ts : List StandingRequest) → m ≤ n → AllByRecursion (λ t. t.request.id < m) ts
     → AllByRecursion (λ t. t.request.id < n) ts
 later m n [] le a = tt
 later m n (t ∷ ts) le a = (omega (arith, a.0), later m n ts le a.1)
 
+-- all of that at a later place
 risen_later : (k m n : ℕ) (ts : List StandingRequest) → m ≤ n → AreRisen k m ts → AreRisen k n ts
 risen_later k m n ts le r = record { rises = r.rises; below = later m n ts le r.below; mine = r.mine }
 
+-- with some taken out
 risen_less : (k m n : ℕ) (p : StandingRequest → Bool) (ts : List StandingRequest) → m ≤ n → AreRisen k m ts → AreRisen k n (filter p ts)
 risen_less k m n p ts le r = record {
   rises = rises_left p 0 ts r.rises;
-  below = all_left (λ t. t.request.id < n) p ts (later m n ts le r.below);
-  mine = all_left (λ t. t.request.caller ≡ k) p ts r.mine;
+  below = all_filter (λ t. t.request.id < n) p ts (later m n ts le r.below);
+  mine = all_filter (λ t. t.request.caller ≡ k) p ts r.mine;
 }
 
+-- with one more, which has the place as its number
 risen_more : (k place : ℕ) (u : StandingRequest) (ts : List StandingRequest) → u.request.id ≡ place → u.request.caller ≡ k
     → AreRisen k place ts → AreRisen k (place + 1) (ts ++ u ∷ [])
 risen_more k place u ts is own r = record {
   rises = rises_pushed 0 place ts u (omega arith) is r.rises r.below;
-  below = all_pushed (λ t. t.request.id < place + 1) ts u (later place (place + 1) ts (omega arith) r.below) (omega arith);
-  mine = all_pushed (λ t. t.request.caller ≡ k) ts u r.mine own;
+  below = all_push (λ t. t.request.id < place + 1) ts u (later place (place + 1) ts (omega arith) r.below) (omega arith);
+  mine = all_push (λ t. t.request.caller ≡ k) ts u r.mine own;
 }
 
+-- and so after each operation on the latch set
 risen_after : (k place : ℕ) (op : LatchOp) (y : LatchReply) (ts : List StandingRequest)
     → HasPlaceAsNumber place (op_on.Latch op) (reply_of.Latch y) → AreRisen k place ts → AreRisen k (place + 1) (stands_after k ts op y)
 risen_after k place (Obtain latch requestor mode form) (Granted id) ts is r =
@@ -166,6 +168,7 @@ risen_after k place op y ts is r = risen_later k place (place + 1) ts (omega ari
 abbrev latch_place : System → ℕ
 latch_place s = s.latches.place
 
+-- so after each entry of the caller's own
 risen_own : (c : Setup) (s : System) (k : ℕ) (o : Object) (p : ℕ) (op : Op) (y : Reply) (ts : List StandingRequest)
     → IsNext c s (entry_of k o p op y) → AreRisen k s.latches.place ts → AreRisen k (moved s k o op).latches.place (stands_with k ts o op y)
 risen_own c s k Latches p (op_on.Latch op) (reply_of.Latch y) ts h r =
@@ -178,6 +181,7 @@ risen_own c s k (Element m) p (op_on.Element op) y ts h r = r
 risen_own c s k (Volume m) p (op_on.Volume op) y ts h r = r
 risen_own c s k o p op y ts h r = absurd (false≢true h.admits)
 
+-- no entry lowers the place of the latch set
 pub place_up : (s : System) (k : ℕ) (o : Object) (op : Op) → s.latches.place ≤ (moved s k o op).latches.place
 place_up s k Latches (op_on.Latch op) = omega arith
 place_up s k (Ecb m) (op_on.Ecb op) = omega arith
@@ -185,6 +189,7 @@ place_up s k (Element m) (op_on.Element op) = omega arith
 place_up s k (Volume m) (op_on.Volume op) = omega arith
 place_up s k o op = omega arith
 
+-- the requests that stand by a caller's part of a legal list
 pub risen : (c : Setup) (k : ℕ) (es : List Entry) → Legal c es → AreRisen k (after c es).latches.place (standing (of k es))
 risen c k es = by_last (λ xs. Legal c xs → AreRisen k (after c xs).latches.place (standing (of k xs)))
     (λ l. record { rises = tt; below = tt; mine = tt })
@@ -212,6 +217,7 @@ rises_in low t (x ∷ xs) r i = elim (first_or_rest x xs t i) [
   | inr j ↦ omega (arith, r.0, rises_in (x.request.id + 1) t xs r.1 j)
 ]
 
+-- two of them with one number are one
 pub same_standing : (low : ℕ) (t u : StandingRequest) (ts : List StandingRequest) → Rises low ts → Contains ts t → Contains ts u
     → t.request.id ≡ u.request.id → t ≡ u
 same_standing low t u [] r i j is = absurd (not_in_empty t i)
@@ -223,6 +229,7 @@ same_standing low t u (x ∷ xs) r i j is =
       go (inr a) (inl f) rest = absurd (omega (arith, rises_in (x.request.id + 1) t xs r.1 a, ap (λ (y : StandingRequest). y.request.id) f))
       go (inr a) (inr b) rest = rest a b
 
+-- one of them is its caller's, and has a number below the place
 pub stands_below : (c : Setup) (k : ℕ) (es : List Entry) (t : StandingRequest) → Legal c es → Contains (standing (of k es)) t
     → (t.request.id < (after c es).latches.place) × (t.request.caller ≡ k)
 stands_below c k es t l i =
@@ -236,6 +243,7 @@ stands_below c k es t l i =
 -- ---- the caller's own entry
 module _ (W : Type 0) (k place : ℕ) (lists : List (List Request)) (ts : List StandingRequest) (t : StandingRequest) (ih : Contains ts t
     → Contains (list_of lists t.latch) t.request ⊎ W) where
+  -- it is in its list
   abbrev There : List (List Request) → Type 0
   There ls = Contains (list_of ls t.latch) t.request ⊎ W
 
@@ -321,6 +329,7 @@ module _ (W : Type 0) (k place : ℕ) (lists : List (List Request)) (ts : List S
       (conditional && not (list_any (is_own k id) (granted (list_of lists latch)))) i
   own_step (Purge requestor) lt i = purge_leaves requestor i
 
+-- an entry of the caller's own
 own_moved : (W : Type 0) (c : Setup) (s : System) (k : ℕ) (o : Object) (p : ℕ) (op : Op) (y : Reply) (ts : List StandingRequest)
     (t : StandingRequest) → IsNext c s (entry_of k o p op y)
     → (Contains ts t → Contains (list_at s t.latch) t.request ⊎ W) → Contains (stands_with k ts o op y) t
@@ -351,6 +360,7 @@ is_purge t j (Ecb n) op is other = absurd (false≢true is)
 is_purge t j (Element n) op is other = absurd (false≢true is)
 is_purge t j (Volume n) op is other = absurd (false≢true is)
 
+-- what was purged was purged in a longer list too
 purged_longer : (k : ℕ) (t : StandingRequest) (es : List Entry) (e : Entry) → WasPurged k t es → WasPurged k t (es ++ e ∷ [])
 purged_longer k t es e w = record {
   before = w.before;

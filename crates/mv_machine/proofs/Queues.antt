@@ -1,7 +1,7 @@
 -- A request of the Waiting form that stands and waits was queued and is not yet confirmed.
 use Rattle.std.proofs.Common.{◌≡◌, ◌⊎◌, ℕ, ◌<◌, ◌==◌, Bool, true, false, not, ◌&&◌, List, [], ◌∷◌, ◌++◌, length, set, cond, inl, inr}
 use Rattle.std.proofs.Common.{refl, sym, ap, ◌∙◌, subst, arith, append-nil}
-use Rattle.std.specs.List.{AllByRecursion, Contains, list_any, list_all}
+use Rattle.std.specs.List.{Contains, list_any, list_all}
 use Rattle.std.proofs.lemmas.Bool.{cases_eq, cases_Bool, false≢true, true≢false, eqb-true, eq-eqb, ne_eqb, and_parts}
 use Rattle.std.proofs.lemmas.List.{get_or-set_same}
 use Rattle.std.proofs.lemmas.List.Elements.{Contains-push, Contains-push_cases}
@@ -30,6 +30,8 @@ use Rattle.mv_machine.specs.Legal.{IsNext, next, Legal, after, of}
 use Rattle.mv_machine.specs.Owned.{IsGranted}
 use Rattle.mv_machine.specs.Setup.{Setup}
 use Rattle.mv_machine.specs.System.{System, moved, with_at}
+use Rattle.mv_machine.proofs.calls.Making.{waits_from-append}
+use Rattle.mv_machine.proofs.Lists.{all_front, all_back}
 use Rattle.mv_machine.proofs.EntryRuns.{entry_of}
 use Rattle.mv_machine.proofs.Histories.{by_last}
 use Rattle.mv_machine.proofs.LatchRuns.{list_at}
@@ -47,6 +49,7 @@ use Rattle.mv_machine.proofs.Purged.{found, finds, passes, was_in, not_true, sta
 abbrev Table : Type 0
 Table = ℕ → ℕ → Bool
 
+-- a mark more leaves the others
 set_true : (f : Table) (latch id m j : ℕ) → f m j ≡ true → with_at f latch (with_at (f latch) id true) m j ≡ true
 set_true f latch id m j is = elim (cases_eq m latch) [
   | inl here ↦ elim (cases_eq j id) [
@@ -56,9 +59,11 @@ set_true f latch id m j is = elim (cases_eq m latch) [
   | inr apart ↦ rw (ne_eqb m latch apart) is
 ]
 
+-- the mark that is set
 set_here : (f : Table) (latch id : ℕ) → with_at f latch (with_at (f latch) id true) latch id ≡ true
 set_here f latch id = rw (eq-eqb latch latch refl, eq-eqb id id refl) refl
 
+-- another mark is cleared
 set_other : (f : Table) (latch id m j : ℕ) → ((latch == m) && (id == j)) ≡ false → f m j ≡ true
     → with_at f latch (with_at (f latch) id false) m j ≡ true
 set_other f latch id m j apart is = elim (cases_eq m latch) [
@@ -76,6 +81,7 @@ all_shared [] r a is = ap (λ b. cond b (r ∷ []) []) is
 all_shared (q ∷ qs) r a is = let first : shared_request q ≡ true = (and_parts _ _ a).0 in
     rw first (ap (λ z. q ∷ z) (all_shared qs r (and_parts _ _ a).1 is))
 
+-- a request that is granted as it comes is among the granted ones
 granted_at_once : (qs : List Request) (r : Request) → grants qs r ≡ true → Contains (granted (qs ++ r ∷ [])) r
 granted_at_once [] r g = elim (shared_request r) as (λ b. Contains (cond b (cond b (r ∷ []) []) (r ∷ [])) r) [
   | true ↦
@@ -98,6 +104,7 @@ came_from place old new q (grew r is e) lt i = elim (Contains-push_cases old r q
 ]
 came_from place old new q (shrank p e) lt i = was_in p q old (rw e at i)
 
+-- a request that waits or is granted still does after a change of its list
 still : (A B : Type 0) (place : ℕ) (old new : List Request) (q : Request) → Changed place old new → q.id < place
     → (Contains old q → A ⊎ Contains (granted old) q) → (A → B) → Contains new q → B ⊎ Contains (granted new) q
 still A B place old new q changed lt ih f i = elim (ih (came_from place old new q changed lt i)) [
@@ -111,6 +118,7 @@ module _ (k place : ℕ) (lists : List (List Request)) (ts : List StandingReques
     (unique : (q : Request) → Contains ts t → Contains (list_of lists t.latch) q → is_own k t.request.id q ≡ true → q ≡ t.request)
     (ih : Contains ts t → Contains (list_of lists t.latch) t.request → (queued t.latch t.request.id ≡ true)
     ⊎ Contains (granted (list_of lists t.latch)) t.request) where
+  -- the request waits by its mark, or is granted
   abbrev Waits : Table → List (List Request) → Type 0
   Waits f ls = (f t.latch t.request.id ≡ true) ⊎ Contains (granted (list_of ls t.latch)) t.request
 
@@ -246,6 +254,7 @@ module _ (k place : ℕ) (lists : List (List Request)) (ts : List StandingReques
 abbrev WaitsAt : StandingRequest → Table → System → Type 0
 WaitsAt t f s = (f t.latch t.request.id ≡ true) ⊎ Contains (granted (list_at s t.latch)) t.request
 
+-- an entry of the caller's own
 own_moved : (c : Setup) (s : System) (k : ℕ) (o : Object) (p : ℕ) (op : Op) (y : Reply) (ts : List StandingRequest) (queued : Table)
     (t : StandingRequest) → IsNext c s (entry_of k o p op y) → t.request.form ≡ form_of.Waiting
     → (Contains ts t → t.request.id < s.latches.place)
@@ -266,6 +275,7 @@ own_moved c s k (Element m) p (op_on.Element op) y ts queued t h waits early uni
 own_moved c s k (Volume m) p (op_on.Volume op) y ts queued t h waits early unique ih not_early i j = ih i j
 own_moved c s k o p op y ts queued t h waits early unique ih not_early i j = absurd (false≢true h.admits)
 
+-- another caller's entry
 other_moved : (c : Setup) (s : System) (j : ℕ) (o : Object) (p : ℕ) (op : Op) (y : Reply) (queued : Table) (t : StandingRequest)
     → IsNext c s (entry_of j o p op y) → t.request.id < s.latches.place
     → (Contains (list_at s t.latch) t.request → WaitsAt t queued s) → Contains (list_at (moved s j o op) t.latch) t.request
@@ -280,24 +290,20 @@ other_moved c s j (Volume m) p (op_on.Volume op) y queued t h early ih i = ih i
 other_moved c s j o p op y queued t h early ih i = absurd (false≢true h.admits)
 
 -- ---- along a legal list
-waits_from-append : (w : OpenWaits) (xs ys : List Entry) → waits_from w (xs ++ ys) ≡ waits_from (waits_from w xs) ys
-waits_from-append w [] ys = refl
-waits_from-append w (x ∷ xs) ys = waits_from-append (waits_after w x.object x.op x.reply) xs ys
-
+-- one more entry of the caller's own is the last of its part
 of_own : (k : ℕ) (es : List Entry) (e : Entry) → e.caller ≡ k → of k (es ++ e ∷ []) ≡ of k es ++ e ∷ []
 of_own k es e own = of-append k es (e ∷ []) ∙ ap (λ b. of k es ++ cond b (e ∷ []) []) (eq-eqb e.caller k own)
 
+-- one more of another caller is none of it
 of_others : (k : ℕ) (es : List Entry) (e : Entry) → (e.caller ≡ k → ⊥) → of k (es ++ e ∷ []) ≡ of k es
 of_others k es e other = of-append k es (e ∷ []) ∙ (ap (λ b. of k es ++ cond b (e ∷ []) []) (ne_eqb e.caller k other)
     ∙ append-nil (of k es))
 
-all_front : (P : Entry → Type 0) (xs : List Entry) (e : Entry) → AllByRecursion P (xs ++ e ∷ []) → AllByRecursion P xs × P e
-all_front P [] e a = (tt, a.0)
-all_front P (x ∷ xs) e a = let r = all_front P xs e a.1 in ((a.0, r.0), r.1)
-
+-- the marks of a caller's part
 abbrev queued_of : ℕ → List Entry → Table
 queued_of k es = (waits_from no_waits (of k es)).queued
 
+-- a standing request that is in its list and was not confirmed too soon waits by its mark, or is granted
 pub waits_in_queue : (c : Setup) (k : ℕ) (t : StandingRequest) (es : List Entry) → t.request.form ≡ form_of.Waiting → Legal c es
     → Contains (standing (of k es)) t → HasNoEarlyConfirm t (of k es) → Contains (list_at (after c es) t.latch) t.request
     → ((waits_from no_waits (of k es)).queued t.latch t.request.id ≡ true) ⊎ Contains (granted (list_at (after c es) t.latch)) t.request
@@ -311,16 +317,18 @@ waits_in_queue c k t es waits = by_last (λ xs. Legal c xs → Contains (standin
     subst (λ (s : System). WaitsAt t (queued_of k (xs ++ e ∷ [])) s) (sym (after_longer c xs e))
     (elim (cases_eq e.caller k) [
       | inl own ↦
-          let parts = all_front (λ x. is_early_confirm t x.object x.op x.reply ≡ false) (of k xs) e
-          (subst (HasNoEarlyConfirm t) (of_own k xs e own) n) in
+          let both : HasNoEarlyConfirm t (of k xs ++ e ∷ []) = subst (HasNoEarlyConfirm t) (of_own k xs e own) n in
+          let confirmed_late : HasNoEarlyConfirm t (of k xs) =
+          all_front (λ x. is_early_confirm t x.object x.op x.reply ≡ false) (of k xs) (e ∷ []) both in
+          let later = all_back (λ x. is_early_confirm t x.object x.op x.reply ≡ false) (of k xs) (e ∷ []) both in
           let log : waits_from no_waits (of k (xs ++ e ∷ [])) ≡ waits_after (waits_from no_waits (of k xs)) e.object e.op e.reply =
           ap (waits_from no_waits) (of_own k xs e own) ∙ waits_from-append no_waits (of k xs) (e ∷ []) in
           subst (λ (w : OpenWaits). WaitsAt t w.queued (next (after c xs) e)) (sym log)
           (own_moved c (after c xs) e.caller e.object e.place e.op e.reply (standing (of k xs)) (queued_of k xs) t h waits
           (λ old. (stands_below c k xs t front old).0)
           (λ q old there mine. one_request c k t xs q front old there (subst (λ m. is_own m t.request.id q ≡ true) own mine))
-          (λ old there. ih front old parts.0 there)
-          parts.1 (subst (λ ts. Contains ts t) (standing_own k xs e own) i) now)
+          (λ old there. ih front old confirmed_late there)
+          later.0 (subst (λ ts. Contains ts t) (standing_own k xs e own) i) now)
       | inr other ↦
           let old : Contains (standing (of k xs)) t = subst (λ ts. Contains ts t) (standing_other k xs e other) i in
           subst (λ log. WaitsAt t (waits_from no_waits log).queued (next (after c xs) e)) (sym (of_others k xs e other))
@@ -340,6 +348,7 @@ granted_at_rest c k t es waits l i n rest = elim (stands_or_purged c k t es l i)
   | inr w ↦ inr w
 ]
 
+-- at rest a confirm of it does not come too soon
 pub confirm_at_rest : (c : Setup) (es : List Entry) (e : Entry) (t : StandingRequest) → t.request.form ≡ form_of.Waiting → Legal c es
     → IsNext c (after c es) e → e.object ≡ Latches → e.op ≡ op_on.Latch (Confirm t.latch t.request.id)
     → Contains (standing (of e.caller es)) t → HasNoEarlyConfirm t (of e.caller es) → IsAtRest (of e.caller es)

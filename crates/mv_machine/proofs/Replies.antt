@@ -29,6 +29,7 @@ use Rattle.mv_machine.specs.System.{System, volume_step}
 use Rattle.mv_machine.proofs.EntryRuns.{entry_of}
 use Rattle.mv_machine.specs.Replies.{IsOfKind, HasPlaceAsNumber}
 
+-- the reply is of the operation's kind, by its parts
 of_kind : (c : Setup) (s : System) (k : ℕ) (o : Object) (p : ℕ) (op : Op) (r : Reply) → IsNext c s (entry_of k o p op r) → IsOfKind op r
 of_kind c s k (Ecb n) p (op_on.Ecb op) (reply_of.Ecb r) h = tt
 of_kind c s k (Element n) p (op_on.Element op) (reply_of.Element r) h = tt
@@ -40,6 +41,7 @@ of_kind c s k (Volume n) p (op_on.Volume op) r h = absurd (cc h.reply)
 of_kind c s k Latches p (op_on.Latch op) r h = absurd (cc h.reply)
 of_kind c s k o p op r h = absurd (false≢true h.admits)
 
+-- and of the entry
 pub reply_is_of_kind : (c : Setup) (s : System) (e : Entry) → IsNext c s e → IsOfKind e.op e.reply
 reply_is_of_kind c s e h = of_kind c s e.caller e.object e.place e.op e.reply h
 
@@ -48,18 +50,21 @@ pub ecb_reply_is : (c : Setup) (s : System) (e : Entry) (n : ℕ) (op : EcbOp) �
     → e.reply ≡ reply_of.Ecb (ecb_step op (s.ecb n).state).1
 ecb_reply_is c s e n op h o x = let r : Some e.reply ≡ Some (reply_of.Ecb (ecb_step op (s.ecb n).state).1) = h.reply ∙ rw (o, x) refl in cc
 
+-- of an element
 pub element_reply_is : (c : Setup) (s : System) (e : Entry) (n : ℕ) (op : ElementOp) → IsNext c s e → e.object ≡ Element n
     → e.op ≡ op_on.Element op
     → e.reply ≡ reply_of.Element (element_step op (s.element n).state).1
 element_reply_is c s e n op h o x = let r : Some e.reply ≡ Some (reply_of.Element (element_step op (s.element n).state).1) = h.reply
     ∙ rw (o, x) refl in cc
 
+-- of a volume
 pub volume_reply_is : (c : Setup) (s : System) (e : Entry) (n : ℕ) (op : VolumeOp) → IsNext c s e → e.object ≡ Volume n
     → e.op ≡ op_on.Volume op
     → e.reply ≡ reply_of.Volume (volume_step op (s.volume n).state).1
 volume_reply_is c s e n op h o x = let r : Some e.reply ≡ Some (reply_of.Volume (volume_step op (s.volume n).state).1) = h.reply
     ∙ rw (o, x) refl in cc
 
+-- of the latch set
 pub latch_reply_is : (c : Setup) (s : System) (e : Entry) (op : LatchOp) → IsNext c s e → e.object ≡ Latches → e.op ≡ op_on.Latch op
     → e.reply ≡ reply_of.Latch (latch_step e.caller s.latches.place op s.latches.state).1
 latch_reply_is c s e op h o x = let r : Some e.reply ≡ Some (reply_of.Latch (latch_step e.caller s.latches.place op s.latches.state).1) =
@@ -76,6 +81,7 @@ obtained_number latch requestor mode form r qs = go (grants qs r) (queues r.form
   go false true = refl
   go false false = tt
 
+-- and each operation on the latch set has none else
 numbered : (k place : ℕ) (op : LatchOp) (lists : List (List Request))
     → HasPlaceAsNumber place (op_on.Latch op) (reply_of.Latch (latch_step k place op lists).1)
 numbered k place (Obtain latch requestor mode form) lists = obtained_number latch requestor mode form
@@ -84,6 +90,7 @@ numbered k place (Confirm latch id) lists = tt
 numbered k place (Release latch id conditional) lists = tt
 numbered k place (Purge requestor) lists = tt
 
+-- so has an entry, by its parts
 has_number : (c : Setup) (s : System) (k : ℕ) (o : Object) (p : ℕ) (op : Op) (r : Reply) → IsNext c s (entry_of k o p op r)
     → HasPlaceAsNumber p op r
 has_number c s k Latches p (op_on.Latch op) r h =
@@ -96,5 +103,6 @@ has_number c s k (Element n) p (op_on.Element op) r h = tt
 has_number c s k (Volume n) p (op_on.Volume op) r h = tt
 has_number c s k o p op r h = absurd (false≢true h.admits)
 
+-- and as a whole
 pub request_has_place : (c : Setup) (s : System) (e : Entry) → IsNext c s e → HasPlaceAsNumber e.place e.op e.reply
 request_has_place c s e h = has_number c s e.caller e.object e.place e.op e.reply h

@@ -31,6 +31,7 @@ use Rattle.mv_machine.proofs.EntryRuns.{entry_of, along_all}
 use Rattle.mv_machine.proofs.StandingRuns.{NamesLatch, names_latch}
 use Rattle.mv_machine.specs.Waking.{IsFair, KeepsQuotas}
 
+-- each request of all lists is fair
 abbrev pub AllFair : Setup → List (List Request) → Type 0
 AllFair c lists = AllByRecursion (λ qs. AllByRecursion (IsFair c) qs) lists
 
@@ -41,25 +42,30 @@ all_of_list P [] latch a = tt
 all_of_list P (qs ∷ lists) zero a = a.0
 all_of_list P (qs ∷ lists) (suc latch) a = all_of_list P lists latch a.1
 
+-- what holds of all requests of all lists still does after a purge
 pub all_purged : (P : Request → Type 0) (requestor : ℕ) (lists : List (List Request)) → AllByRecursion (λ qs. AllByRecursion P qs) lists
     → AllByRecursion (λ qs. AllByRecursion P qs) (map (purged requestor) lists)
 all_purged P requestor [] a = tt
 all_purged P requestor (qs ∷ lists) a = (all_filter P (λ q. not (of_requestor requestor q)) qs a.0, all_purged P requestor lists a.1)
 
+-- and of empty lists
 all_new : (P : Request → Type 0) (n : ℕ) → AllByRecursion (λ qs. AllByRecursion P qs) (replicate n [])
 all_new P zero = tt
 all_new P (suc n) = (tt, all_new P n)
 
+-- and of either of two results
 all_either : (P : Request → Type 0) (b : Bool) (x y : List Request × LatchReply) → AllByRecursion P x.0 → AllByRecursion P y.0
     → AllByRecursion P (cond b x y).0
 all_either P true x y a b = a
 all_either P false x y a b = b
 
+-- and after an obtain, where it holds of the new request
 all_obtained : (P : Request → Type 0) (r : Request) (qs : List Request) → AllByRecursion P qs → P r → AllByRecursion P (obtain_step r qs).0
 all_obtained P r qs a p =
     let more : AllByRecursion P (qs ++ r ∷ []) = all_push P qs r a p in
     search all_either
 
+-- and after a release
 pub all_released : (P : Request → Type 0) (k id : ℕ) (conditional : Bool) (qs : List Request) → AllByRecursion P qs
     → AllByRecursion P (release_step k id conditional qs).0
 all_released P k id conditional qs a =
@@ -76,6 +82,7 @@ fair_request c k latch requestor id mode (Posted e) lt own =
 fair_request c k latch requestor id mode Conditional lt own = (lt, tt)
 fair_request c k latch requestor id mode Waiting lt own = (lt, tt)
 
+-- each operation that is admitted leaves all requests fair
 fair_step : (c : Setup) (k place : ℕ) (op : LatchOp) (lists : List (List Request)) → k < c.callers → posts_own_ecb c k op ≡ true
     → AllFair c lists → AllFair c (latch_step k place op lists).0
 fair_step c k place (Obtain latch requestor mode form) lists lt own a =
@@ -94,6 +101,7 @@ either : (t : Request → Bool) (n : ℕ) (b : Bool) (x y : List Request × Latc
 either t n true x y a b = a
 either t n false x y a b = b
 
+-- an obtain adds one request at most
 obtained : (t : Request → Bool) (r : Request) (qs : List Request) → length (filter t (obtain_step r qs).0) ≤ length (filter t qs) + length
     (filter t (r ∷ []))
 obtained t r qs =
@@ -102,6 +110,7 @@ obtained t r qs =
     let same : length (filter t qs) ≤ length (filter t qs) + length (filter t (r ∷ [])) = omega arith in
     search either
 
+-- a release adds none
 pub released : (t : Request → Bool) (k id : ℕ) (conditional : Bool) (qs : List Request)
     → length (filter t (release_step k id conditional qs).0) ≤ length (filter t qs)
 released t k id conditional qs =
@@ -122,6 +131,7 @@ more_fits t most latch r lists lt free fit =
       go true is le = let f = free is in omega arith
       go false is le = omega arith
 
+-- so a release keeps a bound
 fewer_fit : (t : Request → Bool) (most latch k id : ℕ) (conditional : Bool) (lists : List (List Request)) → latch < length lists
     → count_in t lists ≤ most
     → count_in t (set lists latch (release_step k id conditional (list_of lists latch)).0) ≤ most
@@ -133,11 +143,13 @@ fewer_fit t most latch k id conditional lists lt fit =
           (list_of lists latch),
     )
 
+-- an obtain that is admitted has room in the quota
 room_for_one : (c : Setup) (k latch requestor : ℕ) (mode : Mode) (form : LatchForm) (lists : List (List Request))
     → latch_admitted k (Obtain latch requestor mode form) (latches_of c lists) ≡ true → count_in (of_caller k) lists < c.quota
 room_for_one c k latch requestor mode form lists a =
     ltb-true (count_in (of_caller k) lists) c.quota (and_parts _ _ (and_parts _ _ a).1).0
 
+-- and one of the Posted form in that quota
 room_for_posted : (c : Setup) (k latch requestor : ℕ) (mode : Mode) (form : LatchForm) (lists : List (List Request))
     → latch_admitted k (Obtain latch requestor mode form) (latches_of c lists) ≡ true → is_posted form ≡ true
     → count_in (posted_of k) lists < c.posted_quota
@@ -146,6 +158,7 @@ room_for_posted c k latch requestor mode form lists a is =
     ltb-true (count_in (posted_of k) lists) c.posted_quota
     (ap (λ b. not b || nat_lt (count_in (posted_of k) lists) c.posted_quota) (sym is) ∙ q)
 
+-- each operation that is admitted keeps the quotas
 quotas_step : (c : Setup) (k place : ℕ) (op : LatchOp) (lists : List (List Request)) → latch_admitted k op (latches_of c lists) ≡ true
     → NamesLatch op lists → KeepsQuotas c lists → KeepsQuotas c (latch_step k place op lists).0
 quotas_step c k place (Obtain latch requestor mode form) lists a lt q =
@@ -174,6 +187,7 @@ pub record KeepsRequests (c : Setup) (s : System) : Type 0 where
   pub fair : AllFair c s.latches.state
   pub quotas : KeepsQuotas c s.latches.state
 
+-- each next entry keeps both
 requests_next : (c : Setup) (s : System) (k : ℕ) (o : Object) (p : ℕ) (op : Op) (r : Reply) → IsNext c s (entry_of k o p op r)
     → KeepsRequests c s → KeepsRequests c (moved s k o op)
 requests_next c s k Latches p (op_on.Latch op) r h w =
@@ -189,6 +203,7 @@ requests_next c s k (Element m) p (op_on.Element op) r h w = record { fair = w.f
 requests_next c s k (Volume m) p (op_on.Volume op) r h w = record { fair = w.fair; quotas = w.quotas }
 requests_next c s k o p op r h w = absurd (false≢true h.admits)
 
+-- so does each legal list
 pub requests_kept : (c : Setup) (es : List Entry) → Legal c es → KeepsRequests c (after c es)
 requests_kept c es l = along_all c (KeepsRequests c) (λ s e h w. requests_next c s e.caller e.object e.place e.op e.reply h w) (opening c) es l
     (record {

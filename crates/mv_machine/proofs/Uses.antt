@@ -46,6 +46,7 @@ pub each_entry : (c : Setup) (P : Entry → Type 0) → ((xs : List Entry) (e : 
 each_entry c P holds es = by_last (λ xs. Legal c xs → AllByRecursion P xs) (λ l. tt)
     (λ xs e ih l. all_push P xs e (ih (front_is_legal c xs e l)) (holds xs e (front_is_legal c xs e l) (last_is_next c xs e l))) es
 
+-- each entry of a possible log names an exit of its own
 own_exits : (c : Setup) (k : ℕ) (log : List Entry) (shown : List (List Wake)) → IsPossible c k log shown
     → AllByRecursion (λ e. NamesOwnExit c e.object e.reply) log
 own_exits c k log shown p =
@@ -53,10 +54,12 @@ own_exits c k log shown p =
     (all_filter (λ e. NamesOwnExit c e.object e.reply) (λ e. e.caller == k) p.history
     (each_entry c (λ e. NamesOwnExit c e.object e.reply) (λ xs e l h. exits_are_own c xs e l h) p.history p.legal))
 
+-- so does what was heard of it
 heard_exits : (c : Setup) (hs : List Heard) → AllByRecursion (λ e. NamesOwnExit c e.object e.reply) (entries hs) → NameOwnExits c hs
 heard_exits c [] a = tt
 heard_exits c (h ∷ hs) a = (a.0, heard_exits c hs a.1)
 
+-- what a call heard in a possible log names own exits
 pub call_exits : (c : Setup) (k : ℕ) (log : List Entry) (hs : List Heard) (shown : List (List Wake))
     → IsPossible c k (log ++ entries hs) shown → NameOwnExits c hs
 call_exits c k log hs shown p = heard_exits c hs (all_back (λ e. NamesOwnExit c e.object e.reply) log (entries hs)
@@ -72,6 +75,7 @@ possible_names c k log e shown valid p =
     let size : length (b.before ++ e ∷ []) ≡ length b.before + 1 = length-append b.before (e ∷ []) in
     next_names c b.before e b.legal b.follows (omega arith)
 
+-- two lists that are one have one last element
 last_same : {A : Type 0} (xs ys : List A) (x y : A) → xs ++ x ∷ [] ≡ ys ++ y ∷ [] → x ≡ y
 last_same [] [] x y e = cc e
 last_same [] (a ∷ []) x y e = absurd (cc e)
@@ -80,12 +84,14 @@ last_same (a ∷ []) [] x y e = absurd (cc e)
 last_same (a ∷ b ∷ xs) [] x y e = absurd (cc e)
 last_same (a ∷ xs) (b ∷ ys) x y e = let rest : xs ++ x ∷ [] ≡ ys ++ y ∷ [] = cc e in last_same xs ys x y rest
 
+-- what is told of an event of the caller's own on the latch set
 told_of_latch : (s : System) (k j : ℕ) (o : Object) (op : Op) (x : LatchOp) → j ≡ k → o ≡ Latches → op ≡ op_on.Latch x
     → told_at s k j o op ≡ wakes k x s.latches.state ∷ []
 told_of_latch s k j o op x own is op_is =
     ap (λ (z : Object). told_at s k j z op) is ∙ (ap (λ (z : Op). told_at s k j Latches z) op_is
     ∙ (ap (λ b. cond b (wakes j x s.latches.state ∷ []) []) (eq-eqb j k own) ∙ ap (λ i. wakes i x s.latches.state ∷ []) own))
 
+-- the wakes of an event after a legal list
 fair_wakes_of : (c : Setup) (es : List Entry) (k : ℕ) (op : LatchOp) → Legal c es → AreFairWakes c (wakes k op (after c es).latches.state)
 fair_wakes_of c es k op l = record {
   each = All-from_recursion (IsFairWake c) (wakes k op (after c es).latches.state) (wakes_are_fair c es k op l);
@@ -93,10 +99,12 @@ fair_wakes_of c es k op l = record {
   cost = λ exact. wakes_cost c es k op l exact;
 }
 
+-- the same, as the law says it
 pub wakes_of_next : (c : Setup) (es : List Entry) (k : ℕ) (op : LatchOp) → Legal c es
     → AreFairWakes c (wakes k op (after c es).latches.state)
 wakes_of_next c es k op l = fair_wakes_of c es k op l
 
+-- the last wakes that a caller was told
 pub wakes_heard : (c : Setup) (k : ℕ) (log : List Entry) (e : Entry) (op : LatchOp) (shown : List (List Wake)) (ws : List Wake)
     → IsPossible c k (log ++ e ∷ []) (shown ++ ws ∷ []) → e.object ≡ Latches → e.op ≡ op_on.Latch op → AreFairWakes c ws
 wakes_heard c k log e op shown ws p o is =
@@ -129,22 +137,28 @@ requests_from k kept (e ∷ es) own = go (e.caller == k) refl (λ more is. reque
       ∙ ap (λ j. standing_from (stands_with j kept.requests e.object e.op e.reply) (of k es)) (sym same)
   go false is rest = rest kept own
 
+-- the requests that a caller keeps are those that stand
 pub kept_requests : (k : ℕ) (es : List Entry) → (kept_of k (of k es)).requests ≡ standing (of k es)
 kept_requests k es = requests_from k (nothing_kept k) es refl
 
+-- what a caller keeps says which caller it is
 pub caller_is : (k : ℕ) (log : List Entry) → (kept_of k log).caller ≡ k
 caller_is k log = kept_caller (nothing_kept k) log
 
+-- each caller's requests keep its quota
 pub all_kept : (c : Setup) (es : List Entry) (k : ℕ) → Legal c es → count_in (of_caller k) (after c es).latches.state ≤ c.quota
 all_kept c es k l = (requests_kept c es l).quotas.all k
 
+-- and those of the Posted form theirs
 pub posted_kept : (c : Setup) (es : List Entry) (k : ℕ) → Legal c es → count_in (posted_of k) (after c es).latches.state ≤ c.posted_quota
 posted_kept c es k l = (requests_kept c es l).quotas.posted k
 
+-- a post hears of at most its reach of events
 pub post_hears : (c : Setup) (code e : ℕ) (kept : Kept) (hs : List Heard) → reach c e ≤ 524287 → NameOwnExits c hs
     → Says (post c e code kept) hs → length hs ≤ reach c e
 post_hears c code e kept hs few names s = post_asks c code e kept few hs names s
 
+-- the posts of some wakes hear of at most the sum of their reaches, and what comes behind them of what that asks
 pub wakes_hear : {A : Type 0} (c : Setup) (ws : List Wake) (kept : Kept) (last : Program A) (most : ℕ)
     → ((hs : List Heard) → NameOwnExits c hs → Says last hs → length hs ≤ most)
     → total (reach c) (blocks_of ws) ≤ 524287 → (hs : List Heard) → NameOwnExits c hs → Says (wakes_posted c ws kept last) hs

@@ -20,36 +20,34 @@ use Rattle.mv_machine.specs.Legal.{Legal, after}
 use Rattle.mv_machine.specs.Reach.{greatest, total, reach, release_cost}
 use Rattle.mv_machine.specs.Setup.{Setup}
 use Rattle.mv_machine.specs.Waking.{IsBlockOf, IsFair, IsFairWake, blocks_of}
+use Rattle.mv_machine.proofs.Lists.{all_append, all_back}
 use Rattle.mv_machine.proofs.Requests.{AllFair, all_of_list, all_released, released, requests_kept}
 
 -- ---- each wake is fair
 fair_wake : (c : Setup) (code : ℕ) (q : Request) → code ≤ 1 → IsFair c q → IsFairWake c (wake_of code q)
 fair_wake c code q low f = (f.0, low, f.1)
 
+-- the wakes of fair requests are fair
 fair_wakes : (c : Setup) (code : ℕ) (qs : List Request) → code ≤ 1 → AllByRecursion (IsFair c) qs
     → AllByRecursion (IsFairWake c) (map (wake_of code) qs)
 fair_wakes c code [] low a = tt
 fair_wakes c code (q ∷ qs) low a = (fair_wake c code q low a.0, fair_wakes c code qs low a.1)
 
-all_both : {A : Type 0} (P : A → Type 0) (xs ys : List A) → AllByRecursion P xs → AllByRecursion P ys → AllByRecursion P (xs ++ ys)
-all_both P [] ys a b = b
-all_both P (x ∷ xs) ys a b = (a.0, all_both P xs ys a.1 b)
-
-all_right : {A : Type 0} (P : A → Type 0) (xs ys : List A) → AllByRecursion P (xs ++ ys) → AllByRecursion P ys
-all_right P [] ys a = a
-all_right P (x ∷ xs) ys a = all_right P xs ys a.1
-
+-- what holds of each part holds of all of them together
 all_flat : {A B : Type 0} (P : A → Type 0) (Q : B → Type 0) (f : A → List B) → ((x : A) → P x → AllByRecursion Q (f x)) → (xs : List A)
     → AllByRecursion P xs → AllByRecursion Q (flat_map f xs)
 all_flat P Q f each [] a = tt
-all_flat P Q f each (x ∷ xs) a = all_both Q (f x) (flat_map f xs) (each x a.0) (all_flat P Q f each xs a.1)
+all_flat P Q f each (x ∷ xs) a = all_append Q (f x) (flat_map f xs) (each x a.0) (all_flat P Q f each xs a.1)
 
+-- what holds of all requests of a list holds of those that wait
 all_waiting : (P : Request → Type 0) (qs : List Request) → AllByRecursion P qs → AllByRecursion P (waiting qs)
-all_waiting P qs a = all_right P (granted qs) (waiting qs) (subst (AllByRecursion P) (sym (granted_split qs)) a)
+all_waiting P qs a = all_back P (granted qs) (waiting qs) (subst (AllByRecursion P) (sym (granted_split qs)) a)
 
+-- and of those that are newly granted
 all_newly : (P : Request → Type 0) (old new : List Request) → AllByRecursion P new → AllByRecursion P (newly_granted old new)
 all_newly P old new a = all_filter P (λ q. not (list_any (has_id q.id) (granted old))) (granted new) (all_granted P new a)
 
+-- the wakes of an operation on lists of fair requests are fair
 wakes_fair : (c : Setup) (k : ℕ) (op : LatchOp) (lists : List (List Request)) → AllFair c lists
     → AllByRecursion (IsFairWake c) (wakes k op lists)
 wakes_fair c k (Obtain latch requestor mode form) lists a = tt
@@ -58,7 +56,7 @@ wakes_fair c k (Release latch id conditional) lists a =
     fair_wakes c 0 _ (omega arith) (all_newly (IsFair c) (list_of lists latch) (release_step k id conditional (list_of lists latch)).0
     (all_released (IsFair c) k id conditional (list_of lists latch) (all_of_list (IsFair c) lists latch a)))
 wakes_fair c k (Purge requestor) lists a =
-    all_both (IsFairWake c) (map (wake_of 1) (flat_map (waiting_of requestor) lists))
+    all_append (IsFairWake c) (map (wake_of 1) (flat_map (waiting_of requestor) lists))
     (map (wake_of 0) (flat_map (granted_by_purge requestor) lists))
     (fair_wakes c 1 (flat_map (waiting_of requestor) lists) (omega arith)
     (all_flat (AllByRecursion (IsFair c)) (IsFair c) (waiting_of requestor)
@@ -67,6 +65,7 @@ wakes_fair c k (Purge requestor) lists a =
     (all_flat (AllByRecursion (IsFair c)) (IsFair c) (granted_by_purge requestor)
     (λ qs b. all_newly (IsFair c) qs (purged requestor qs) (all_filter (IsFair c) (λ q. not (of_requestor requestor q)) qs b)) lists a))
 
+-- so they are after a legal list
 pub wakes_are_fair : (c : Setup) (es : List Entry) (k : ℕ) (op : LatchOp) → Legal c es
     → AllByRecursion (IsFairWake c) (wakes k op (after c es).latches.state)
 wakes_are_fair c es k op l = wakes_fair c k op (after c es).latches.state (requests_kept c es l).fair
@@ -75,6 +74,7 @@ wakes_are_fair c es k op l = wakes_fair c k op (after c es).latches.state (reque
 abbrev posts : Request → Bool
 posts q = is_posted q.form
 
+-- a first wake posts where its request does
 one_posts : (code : ℕ) (q : Request) (ws : List Wake)
     → length (blocks_of (wake_of code q ∷ ws)) ≡ length (cond (posts q) (q ∷ []) []) + length (blocks_of ws)
 one_posts code q ws = go q.form where
@@ -84,10 +84,12 @@ one_posts code q ws = go q.form where
   go Conditional = omega arith
   go Waiting = omega arith
 
+-- a list with a first element, if it has one, is so much longer
 counted : (b : Bool) (q : Request) (qs : List Request) → length (cond b (q ∷ qs) qs) ≡ length (cond b (q ∷ []) []) + length qs
 counted true q qs = omega arith
 counted false q qs = omega arith
 
+-- as many wakes post as requests do
 blocks_count : (code : ℕ) (qs : List Request) → length (blocks_of (map (wake_of code) qs)) ≡ length (filter posts qs)
 blocks_count code [] = refl
 blocks_count code (q ∷ qs) = omega (
@@ -97,6 +99,7 @@ blocks_count code (q ∷ qs) = omega (
   blocks_count code qs,
 )
 
+-- the blocks of two lists of wakes
 blocks-append : (ws vs : List Wake) → length (blocks_of (ws ++ vs)) ≡ length (blocks_of ws) + length (blocks_of vs)
 blocks-append [] vs = omega arith
 blocks-append (w ∷ ws) vs = go w.ecb (blocks-append ws vs) where
@@ -110,6 +113,7 @@ count_front : (t : Request → Bool) (qs : List Request) → length (filter t (g
     (filter t qs)
 count_front t qs = sym (count_split t (granted qs) (waiting qs)) ∙ ap (λ rs. length (filter t rs)) (granted_split qs)
 
+-- of the newly granted no more meet a test than of all
 count_newly : (t : Request → Bool) (old new : List Request) → length (filter t (newly_granted old new)) ≤ length (filter t new)
 count_newly t old new = omega (arith, count_filter t (λ q. not (list_any (has_id q.id) (granted old))) (granted new), count_front t new)
 
@@ -124,6 +128,7 @@ count_both t p (q ∷ qs) = go (p q) (count_both t p qs) where
   go true h = omega (arith, h, counted (t q) q (filter t qs), counted (t q) q (filter t (filter p qs)))
   go false h = omega (arith, h, counted (t q) q (filter t qs), counted (t q) q (filter t (filter (λ q. not (p q)) qs)))
 
+-- those that a purge takes out as they wait and those that it grants are different requests of the list
 count_purge : (t : Request → Bool) (requestor : ℕ) (qs : List Request)
     → length (filter t (waiting_of requestor qs)) + length (filter t (granted_by_purge requestor qs)) ≤ length (filter t qs)
 count_purge t requestor qs =
@@ -144,10 +149,12 @@ count_purge t requestor qs =
           go true h = omega (arith, h, counted (t x) x (filter t (filter p (xs ++ ys))), counted (t x) x (filter t (filter p xs)))
           go false h = h
 
+-- a count over parts, the first part apart
 flat_counts : (t : Request → Bool) (f : List Request → List Request) (qs : List Request) (lists : List (List Request))
     → length (filter t (flat_map f (qs ∷ lists))) ≡ length (filter t (f qs)) + length (filter t (flat_map f lists))
 flat_counts t f qs lists = count_split t (f qs) (flat_map f lists)
 
+-- the same over all lists
 count_purges : (t : Request → Bool) (requestor : ℕ) (lists : List (List Request))
     → length (filter t (flat_map (waiting_of requestor) lists)) + length
     (filter t (flat_map (granted_by_purge requestor) lists)) ≤ count_in t lists
@@ -161,11 +168,13 @@ count_purges t requestor (qs ∷ lists) =
       count_purges t requestor lists,
     )
 
+-- one list counts no more than all
 count_list : (t : Request → Bool) (lists : List (List Request)) (latch : ℕ) → length (filter t (list_of lists latch)) ≤ count_in t lists
 count_list t [] latch = omega arith
 count_list t (qs ∷ lists) zero = omega arith
 count_list t (qs ∷ lists) (suc latch) = omega (arith, count_list t lists latch)
 
+-- no more wakes post than requests of the lists do
 wakes_post : (k : ℕ) (op : LatchOp) (lists : List (List Request)) → length (blocks_of (wakes k op lists)) ≤ count_in posts lists
 wakes_post k (Obtain latch requestor mode form) lists = omega arith
 wakes_post k (Confirm latch id) lists = omega arith
@@ -193,17 +202,21 @@ wakes_post k (Purge requestor) lists =
 abbrev first : ℕ → Request → Bool
 first n q = nat_lt q.caller n && posts q
 
+-- 1 where a test holds
 abbrev one_if : Bool → ℕ
 one_if b = cond b 1 0
 
+-- a list whose first element is kept where a test holds
 kept : (b : Bool) (q : Request) (qs : List Request) → length (cond b (q ∷ qs) qs) ≡ one_if b + length qs
 kept true q qs = omega arith
 kept false q qs = omega arith
 
+-- below n + 1 is below n or n itself
 first_one : (k n : ℕ) (b : Bool) → one_if (nat_lt k (suc n) && b) ≡ one_if (nat_lt k n && b) + one_if ((k == n) && b)
 first_one k n true = grind (arith, nat_tests)
 first_one k n false = grind (arith, nat_tests)
 
+-- so a list's requests that post, by the callers below n + 1
 first_list : (n : ℕ) (qs : List Request) → length (filter (first (suc n)) qs) ≡ length (filter (first n) qs) + length
     (filter (posted_of n) qs)
 first_list n [] = refl
@@ -218,24 +231,29 @@ first_list n (q ∷ qs) =
       kept (posted_of n q) q (filter (posted_of n) qs),
     )
 
+-- and those of all lists
 first_more : (n : ℕ) (lists : List (List Request)) → count_in (first (suc n)) lists ≡ count_in (first n) lists + count_in
     (posted_of n) lists
 first_more n [] = refl
 first_more n (qs ∷ lists) = omega (arith, first_list n qs, first_more n lists)
 
+-- no caller is below 0, so a list has none of these
 none_first : (qs : List Request) → length (filter (first 0) qs) ≡ 0
 none_first [] = refl
 none_first (q ∷ qs) = rw (le-ltb q.caller 0 (omega arith)) (none_first qs)
 
+-- nor have all lists
 first_none : (lists : List (List Request)) → count_in (first 0) lists ≡ 0
 first_none [] = refl
 first_none (qs ∷ lists) = omega (arith, none_first qs, first_none lists)
 
+-- with a quota for each, n callers have n quotas
 first_fit : (most n : ℕ) (lists : List (List Request)) → ((k : ℕ) → count_in (posted_of k) lists ≤ most)
     → count_in (first n) lists ≤ n * most
 first_fit most zero lists q = omega (arith, first_none lists)
 first_fit most (suc n) lists q = omega (arith, first_more n lists, first_fit most n lists q, q n)
 
+-- a fair list's requests are of the configuration's callers
 all_first_list : (c : Setup) (qs : List Request) → AllByRecursion (IsFair c) qs
     → length (filter posts qs) ≡ length (filter (first c.callers) qs)
 all_first_list c [] a = refl
@@ -249,10 +267,12 @@ all_first_list c (q ∷ qs) a =
           (λ b. one_if (b && posts q)) (lt-ltb q.caller c.callers a.0.0),
     )
 
+-- so are those of all lists
 all_first : (c : Setup) (lists : List (List Request)) → AllFair c lists → count_in posts lists ≡ count_in (first c.callers) lists
 all_first c [] a = refl
 all_first c (qs ∷ lists) a = omega (arith, all_first_list c qs a.0, all_first c lists a.1)
 
+-- no more wakes post than the quotas allow
 pub few_wakes_post : (c : Setup) (es : List Entry) (k : ℕ) (op : LatchOp) → Legal c es
     → length (blocks_of (wakes k op (after c es).latches.state)) ≤ c.callers * c.posted_quota
 few_wakes_post c es k op l =
@@ -273,6 +293,7 @@ fair_blocks c (w ∷ ws) a = go w.ecb a.0.2 (fair_blocks c ws a.1) where
   go (Some b) is rest = (is.0, rest)
   go None is rest = rest
 
+-- a number of a range is at most the greatest
 greatest_at : (f : ℕ → ℕ) (a n e : ℕ) → a ≤ e → e < a + n → f e ≤ greatest (map f (range_with_len a n))
 greatest_at f a zero e low high = absurd (omega arith)
 greatest_at f a (suc n) e low high = elim (cases_eq e a) [
@@ -280,11 +301,13 @@ greatest_at f a (suc n) e low high = elim (cases_eq e a) [
   | inr apart ↦ omega (arith, greatest_at f (a + 1) n e (omega arith) (omega arith))
 ]
 
+-- a sum of numbers that each are at most so much
 total_fits : (f : ℕ → ℕ) (most n : ℕ) (es : List ℕ) → ((e : ℕ) → e < n → f e ≤ most) → AllByRecursion (λ e. e < n) es
     → total f es ≤ length es * most
 total_fits f most n [] each a = omega arith
 total_fits f most n (e ∷ es) each a = omega (arith, each e a.0, total_fits f most n es each a.1)
 
+-- the posts of all wakes, and one event more, fit what a release may cost
 pub wakes_cost : (c : Setup) (es : List Entry) (k : ℕ) (op : LatchOp) → Legal c es → release_cost c ≤ 524287
     → total (reach c) (blocks_of (wakes k op (after c es).latches.state)) + 1 ≤ release_cost c
 wakes_cost c es k op l exact =

@@ -1,3 +1,5 @@
+//! The check of a configuration: its limits, owners, exits and budgets in their order, by specs/Check.antt.
+
 ghost use Rattle.std.specs.List.{list_all, list_any};
 ghost use Rattle.std.specs.Prelude.{◌≡◌, ◌≢◌, ◌≤◌, ◌||◌, nat_le, length, map, sum, vec_len, OnOk, IfOk, IfErr, IsErrOf, Some, None};
 ghost use Rattle.mv_machine.specs.Config.{setup_of, exit_of};

@@ -1,3 +1,6 @@
+//! A configuration as it is given, and why it may be refused. Contracts see it as the setup of specs/Setup.antt, by
+//! specs/Config.antt.
+
 use mv_io::NoMemory;
 
 /// An exit: a post that ends an extended wait on its source also posts its targets, in this order.

@@ -1,3 +1,5 @@
+//! What an entry of a history says: who made which operation on which object, at which place, and what was answered.
+
 ghost use Rattle.std.specs.Prelude.{◌≡◌, ◌↔◌, IsTrue};
 
 use mv_ecb::{EcbOp, EcbReply};

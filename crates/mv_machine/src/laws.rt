@@ -1,3 +1,6 @@
+//! Laws of whole histories: generations, places, parts, words, owners and requests, by specs/Elements.antt, Parts.antt,
+//! Merge.antt, Packing.antt, Owned.antt, Kept.antt and Orderly.antt. Each function is there for its clauses alone.
+
 ghost use Rattle.std.specs.Prelude.{◌≡◌, ◌↔◌, ◌⊎◌, ◌<◌, ◌≤◌, ◌++◌, ◌∷◌, ◌+◌, ◌^◌, ℕ, true, false, List, [], length, filter, Some};
 ghost use Rattle.std.specs.Prelude.{option_map, option_and_then, IfSome, IsSome};
 ghost use Rattle.std.specs.List.{All, Contains};

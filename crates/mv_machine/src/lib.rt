@@ -1,6 +1,7 @@
 //! The machine of one thread: a configuration, the state of all its objects, and the one step that an operation of
-//! a caller makes. A list of entries is legal where each entry in turn is what the step answers; `replay` judges it.
-//! Every service above is held against these definitions.
+//! a caller makes; a list of entries is legal where each entry in turn is what the step answers, and `replay` judges it.
+//! Every service above is held against these definitions, which also say what each call of the services does, event by event.
+//! The laws say what holds of every legal history, and what a task knows of the machine by its own log.
 #![tactic(auto)]
 
 mod call_laws;

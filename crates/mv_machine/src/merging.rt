@@ -1,3 +1,5 @@
+//! The merge of the callers' logs into the one history that they are parts of, by specs/Merge.antt and specs/Room.antt.
+
 ghost use Rattle.std.specs.Prelude.{◌≡◌, ◌≤◌, length, IfOk, MatchOption, None};
 ghost use Rattle.std.specs.List.{AllByRecursion};
 ghost use Rattle.mv_machine.specs.declared.entry.Object.{Object as AnyObject};
@@ -140,7 +142,7 @@ fn ready(logs: &[Log], merged: &[usize], places: &NextPlaces) -> Option<Turn>
 }
 
 /// Puts the callers' entries into one order: again and again the lowest caller whose next entry has its object's next
-/// place gives that entry. It takes no memory, and always returns.
+/// place gives that entry. It answers no want of memory, and always returns.
 pub fn merge(config: &ValidConfig, logs: Vec<Log>, room: MergeRoom) -> Vec<Entry>
     requires history { AreOneHistory config.now logs.items }
     requires room { IsRoomFor config.now room }

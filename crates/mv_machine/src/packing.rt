@@ -1,3 +1,5 @@
+//! The word of a shared object: its place and its state in 64 bits, by specs/Packing.antt.
+
 ghost use Rattle.std.specs.Prelude.{◌≡◌, ◌<◌, ◌^◌, IfSome};
 ghost use Rattle.mv_machine.specs.Packing.{HasFields, HasOpFields, state_step, pack as pack_of, state_bits};
 ghost use Rattle.mv_machine.specs.Packing.{phase_number as number_of, unpack as unpack_of, state_in as state_by_bits};

@@ -1,3 +1,6 @@
+//! The judgement of a list of entries: is it legal, and which entry is the first that is not, by specs/Legal.antt and
+//! specs/Replay.antt.
+
 ghost use Rattle.std.specs.Prelude.{◌≡◌, ◌≢◌, ◌<◌, ◌≤◌, ◌^◌, ◌↔◌, ℕ, IsTrue, MatchOption, OnOk, IfOk, IfErr, All, Some, None};
 ghost use Rattle.mv_machine.specs.declared.entry.Object.{Object as AnyObject};
 ghost use Rattle.mv_machine.specs.Elements.{IsOrderlyElement, element_events};

@@ -1,3 +1,5 @@
+//! The state of the whole machine, and its one step, by specs/System.antt and specs/State.antt.
+
 ghost use Rattle.std.specs.Prelude.{◌≡◌, ◌<◌, ◌≤◌, ◌+◌, ◌^◌, ◌-◌, ℕ, [], length, IfOk, IfSome, IsTrue, ◌↔◌};
 ghost use Rattle.mv_latch.specs.LatchSet.{list_of};
 ghost use Rattle.mv_machine.specs.System.{System, answer, after_step, place_of, volume_step, ecb_admitted, element_admitted};

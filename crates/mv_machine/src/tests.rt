@@ -1,3 +1,6 @@
+//! Worked rows of the machine: steps beside the plain program, replays of falsified lists, refused configurations, merges and
+//! words. Expected values are worked out by hand.
+
 ghost use Rattle.std.specs.Prelude.{◌≡◌, ◌≤◌, length, IsTrue, IfOk, All};
 ghost use Rattle.mv_machine.specs.Legal.{of};
 ghost use Rattle.mv_machine.specs.Parts.{parts as parts_of, KeepsBudgets};

@@ -1,3 +1,6 @@
+//! A configuration that was checked, with what is computed from it once, by specs/Valid.antt, specs/Reach.antt and
+//! specs/Setup.antt.
+
 ghost use Rattle.std.specs.Prelude.{◌≡◌, ◌<◌, ◌≤◌, ◌==◌, nat_lt, length, IfOk, IsTrue};
 ghost use Rattle.mv_latch.specs.LatchSet.{opened};
 ghost use Rattle.mv_machine.specs.Reach.{reach, release_cost};

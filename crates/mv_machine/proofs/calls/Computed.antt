@@ -45,21 +45,27 @@ answers c s (e ∷ es) =
 abbrev pub claims : List Entry → List Answered
 claims es = map (λ e. record { admits = true; place = e.place; reply = Some e.reply }) es
 
+-- what a first element is
 first_of_list : {A : Type 0} (x y : A) (xs ys : List A) → x ∷ xs ≡ y ∷ ys → x ≡ y
 first_of_list x y xs ys e = cc e
 
+-- and the rest
 rest_of_list : {A : Type 0} (x y : A) (xs ys : List A) → x ∷ xs ≡ y ∷ ys → xs ≡ ys
 rest_of_list x y xs ys e = cc e
 
+-- the parts of two answers that are one
 admits_same : (x y : Answered) → x ≡ y → x.admits ≡ y.admits
 admits_same x y e = cc e
 
+-- the place
 place_same : (x y : Answered) → x ≡ y → x.place ≡ y.place
 place_same x y e = cc e
 
+-- the reply
 reply_same : (x y : Answered) → x ≡ y → x.reply ≡ y.reply
 reply_same x y e = cc e
 
+-- a list is legal from a machine on where the answers are the claims
 legal_from : (c : Setup) (s : System) (es : List Entry) → answers c s es ≡ claims es → LegalFrom c s es
 legal_from c s [] e = tt
 legal_from c s (x ∷ es) e = (
@@ -71,6 +77,7 @@ legal_from c s (x ∷ es) e = (
   legal_from c (next s x) es (rest_of_list _ _ _ _ e),
 )
 
+-- and from the opening on
 pub legal_by : (c : Setup) (es : List Entry) → answers c (opening c) es ≡ claims es → Legal c es
 legal_by c es e = legal_from c (opening c) es e
 
@@ -79,10 +86,12 @@ abbrev pub said : {A : Type 0} → Program A → List Heard → List (Option (Ob
 said p [] = []
 said p (h ∷ hs) = asks p ∷ said (heard p h) hs
 
+-- a program says a list where what it says is the list
 says_by : {A : Type 0} (p : Program A) (hs : List Heard) → said p hs ≡ map (λ h. Some (h.entry.object, h.entry.op)) hs → Says p hs
 says_by p [] e = tt
 says_by p (h ∷ hs) e = (first_of_list _ _ _ _ e, says_by (heard p h) hs (rest_of_list _ _ _ _ e))
 
+-- and is done on it where nothing but its answer is left
 pub made : {A : Type 0} {p : Program A} {hs : List Heard} {a : A} → said p hs ≡ map (λ h. Some (h.entry.object, h.entry.op)) hs
     → left p hs ≡ Done a → IsDoneOn p hs a
 made {p = p} {hs = hs} s d = record { says = says_by p hs s; done = d }
@@ -123,12 +132,15 @@ tasks n owners exits = record {
   exits = exits;
 }
 
+-- of one task
 abbrev pub one_task : List ℕ → List SetupExit → Setup
 one_task owners exits = tasks 1 owners exits
 
+-- of two
 abbrev pub two_tasks : List ℕ → List SetupExit → Setup
 two_tasks owners exits = tasks 2 owners exits
 
+-- of three
 abbrev pub three_tasks : List ℕ → List SetupExit → Setup
 three_tasks owners exits = tasks 3 owners exits
 
@@ -136,11 +148,14 @@ three_tasks owners exits = tasks 3 owners exits
 abbrev pub at_block : ℕ → ℕ → ℕ → EcbOp → EcbReply → Entry
 at_block k n place op reply = entry_of k (Ecb n) place (op_on.Ecb op) (reply_of.Ecb reply)
 
+-- on an element
 abbrev pub at_element : ℕ → ℕ → ℕ → ElementOp → ElementReply → Entry
 at_element k n place op reply = entry_of k (Element n) place (op_on.Element op) (reply_of.Element reply)
 
+-- on a volume
 abbrev pub at_volume : ℕ → ℕ → ℕ → VolumeOp → VolumeReply → Entry
 at_volume k n place op reply = entry_of k (Volume n) place (op_on.Volume op) (reply_of.Volume reply)
 
+-- on the latch set
 abbrev pub at_latches : ℕ → ℕ → LatchOp → LatchReply → Entry
 at_latches k place op reply = entry_of k Latches place (op_on.Latch op) (reply_of.Latch reply)

@@ -39,6 +39,7 @@ own_now s me k Latches (op_on.Ecb op) told own = refl
 own_now s me k Latches (op_on.Element op) told own = refl
 own_now s me k Latches (op_on.Volume op) told own = refl
 
+-- and the rest is told later
 own_then : (s : System) (me k : ℕ) (o : Object) (op : Op) (told : List (List Wake)) → k ≡ me
     → wakes_then o op (told_at s me k o op ++ told) ≡ told
 own_then s me k Latches (op_on.Latch op) told own = rw (eq-eqb k me own) refl
@@ -49,6 +50,7 @@ own_then s me k Latches (op_on.Ecb op) told own = refl
 own_then s me k Latches (op_on.Element op) told own = refl
 own_then s me k Latches (op_on.Volume op) told own = refl
 
+-- another caller's event tells nothing
 other_told : (s : System) (me k : ℕ) (o : Object) (op : Op) → (k ≡ me → ⊥) → told_at s me k o op ≡ []
 other_told s me k Latches (op_on.Latch op) other = rw (ne_eqb k me other) refl
 other_told s me k (Ecb n) op other = refl
@@ -58,16 +60,20 @@ other_told s me k Latches (op_on.Ecb op) other = refl
 other_told s me k Latches (op_on.Element op) other = refl
 other_told s me k Latches (op_on.Volume op) other = refl
 
+-- a caller's part with an entry of its own in front
 pub of_own : (k : ℕ) (e : Entry) (es : List Entry) → e.caller ≡ k → of k (e ∷ es) ≡ e ∷ of k es
 of_own k e es own = rw (eq-eqb e.caller k own) refl
 
+-- and with one of another
 pub of_other : (k : ℕ) (e : Entry) (es : List Entry) → (e.caller ≡ k → ⊥) → of k (e ∷ es) ≡ of k es
 of_other k e es other = rw (ne_eqb e.caller k other) refl
 
+-- what it hears with an entry of its own in front
 pub heard_own : (s : System) (k : ℕ) (e : Entry) (es : List Entry) → e.caller ≡ k
     → heard_from s k (e ∷ es) ≡ hearing s e ∷ heard_from (next s e) k es
 heard_own s k e es own = rw (eq-eqb e.caller k own) refl
 
+-- and with one of another
 pub heard_other : (s : System) (k : ℕ) (e : Entry) (es : List Entry) → (e.caller ≡ k → ⊥)
     → heard_from s k (e ∷ es) ≡ heard_from (next s e) k es
 heard_other s k e es other = rw (ne_eqb e.caller k other) refl
@@ -89,6 +95,7 @@ noted_is s k (e ∷ es) =
           ∙ sym (heard_other s k e es other)
     ]
 
+-- what it hears of two lists
 pub heard_from-append : (s : System) (k : ℕ) (xs ys : List Entry)
     → heard_from s k (xs ++ ys) ≡ heard_from s k xs ++ heard_from (after_from s xs) k ys
 heard_from-append s k [] ys = refl

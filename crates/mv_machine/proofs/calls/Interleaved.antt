@@ -74,6 +74,7 @@ interleave {A} c s t n (e ∷ es) legal callers says =
           (sym (with_at-other t e.caller (heard (t e.caller) (hearing s e)) k (λ e. other (sym e))))
           (says_of (t k) (heard_from s k (e ∷ es)) (heard_from (next s e) k es) (heard_other s k e es other) (says k lt))
 
+-- what a caller says in a history, by what it hears
 says_heard : {A : Type 0} (c : Setup) (programs : ℕ → Program A) (es : List Entry) (k : ℕ) → Says (programs k) (heard_in c k es)
     → Says (programs k) (heard_from (opening c) k es)
 says_heard c programs es k says = subst (λ hs. Says (programs k) hs) (noted_is (opening c) k es) says
@@ -90,17 +91,20 @@ pub left_in_is : {A : Type 0} (c : Setup) (programs : ℕ → Program A) (es : L
 left_in_is c programs es k = ap (λ hs. left (programs k) hs) (noted_is (opening c) k es)
     ∙ sym (programs_after_is (opening c) programs es k)
 
+-- such a history is legal
 pub FollowFrom-legal : {A : Type 0} (c : Setup) (s : System) (t : ℕ → Program A) (es : List Entry) → FollowFrom c s t es
     → LegalFrom c s es
 FollowFrom-legal c s t [] f = tt
 FollowFrom-legal c s t (e ∷ es) f = (f.0, FollowFrom-legal c (next s e) (with_at t e.caller (heard (t e.caller) (hearing s e))) es f.2)
 
+-- so is a front of it
 pub FollowFrom-front : {A : Type 0} (c : Setup) (s : System) (t : ℕ → Program A) (xs ys : List Entry) → FollowFrom c s t (xs ++ ys)
     → FollowFrom c s t xs
 FollowFrom-front c s t [] ys f = tt
 FollowFrom-front c s t (x ∷ xs) ys f =
     (f.0, f.1, FollowFrom-front c (next s x) (with_at t x.caller (heard (t x.caller) (hearing s x))) xs ys f.2)
 
+-- and what is behind the front goes on from there
 pub FollowFrom-rest : {A : Type 0} (c : Setup) (s : System) (t : ℕ → Program A) (xs ys : List Entry) → FollowFrom c s t (xs ++ ys)
     → FollowFrom c (after_from s xs) (programs_after s t xs) ys
 FollowFrom-rest c s t [] ys f = f
@@ -108,6 +112,7 @@ FollowFrom-rest c s t (x ∷ xs) ys f = FollowFrom-rest c (next s x) (with_at t 
 
 -- ---- the caller of each entry of a legal list is one of the configuration's
 
+-- who makes an operation that is admitted is a caller
 admitted_caller : (c : Setup) (s : System) (k : ℕ) (o : Object) (op : Op) → admitted c s k o op ≡ true → k < c.callers
 admitted_caller c s k (Ecb n) (op_on.Ecb op) a = grind arith
 admitted_caller c s k (Element n) (op_on.Element op) a = grind arith
@@ -115,12 +120,14 @@ admitted_caller c s k (Volume n) (op_on.Volume op) a = grind arith
 admitted_caller c s k Latches (op_on.Latch op) a = grind arith
 admitted_caller c s k o op a = absurd (false≢true a)
 
+-- so is each entry's
 pub callers_exist : (c : Setup) (s : System) (es : List Entry) → LegalFrom c s es → AllByRecursion (λ e. e.caller < c.callers) es
 callers_exist c s [] legal = tt
 callers_exist c s (e ∷ es) legal = (admitted_caller c s e.caller e.object e.op legal.0.admits, callers_exist c (next s e) es legal.1)
 
 -- ---- a legal list is a run where each caller's program is done on what the caller hears
 
+-- where each caller's program is done on what it hears, all have finished
 pub finish : {A : Type 0} (c : Setup) (programs : ℕ → Program A) (es : List Entry) → Legal c es
     → ((k : ℕ) → k < c.callers → (a : A) × IsDoneOn (programs k) (heard_in c k es) a) → FinishPrograms c programs es
 finish c programs es legal each = record {
@@ -140,6 +147,7 @@ not_early : {A : Type 0} (p : Program A) (xs ys : List Heard) → Says p (xs ++ 
     → ⊥
 not_early p xs ys says waits early = waits (left-append p xs ys ∙ ap (λ q. left q ys) early ∙ left_early ys)
 
+-- a front of a history that follows follows
 pub follow_front : {A : Type 0} (c : Setup) (programs : ℕ → Program A) (xs ys : List Entry) → FollowPrograms c programs (xs ++ ys)
     → FollowPrograms c programs xs
 follow_front c programs xs ys f = record {

@@ -16,6 +16,7 @@ use Rattle.mv_machine.specs.calls.Refusal.{Refusal}
 use Rattle.mv_machine.specs.calls.Rest.{OpenWaits, waits_after, waits_from}
 use Rattle.mv_machine.proofs.calls.Programs.{followed_done, and_then_done}
 
+-- what is kept of two lists
 pub kept_from-append : (kept : Kept) (xs ys : List Entry) → kept_from kept (xs ++ ys) ≡ kept_from (kept_from kept xs) ys
 kept_from-append kept [] ys = refl
 kept_from-append kept (x ∷ xs) ys = kept_from-append (kept_after kept x.object x.op x.reply) xs ys
@@ -25,24 +26,29 @@ pub kept_caller : (kept : Kept) (es : List Entry) → (kept_from kept es).caller
 kept_caller kept [] = refl
 kept_caller kept (e ∷ es) = kept_caller (kept_after kept e.object e.op e.reply) es
 
+-- the waits that are open behind two lists
 pub waits_from-append : (w : OpenWaits) (xs ys : List Entry) → waits_from w (xs ++ ys) ≡ waits_from (waits_from w xs) ys
 waits_from-append w [] ys = refl
 waits_from-append w (x ∷ xs) ys = waits_from-append (waits_after w x.object x.op x.reply) xs ys
 
+-- the entries of two lists of events
 pub entries-append : (xs ys : List Heard) → entries (xs ++ ys) ≡ entries xs ++ entries ys
 entries-append [] ys = refl
 entries-append (x ∷ xs) ys = ap (λ es. x.entry ∷ es) (entries-append xs ys)
 
+-- what is told with two lists
 pub told_by-append : (xs ys : List Heard) → told_by (xs ++ ys) ≡ told_by xs ++ told_by ys
 told_by-append [] ys = refl
 told_by-append (x ∷ xs) ys =
     ap (λ t. told_with x.entry.object x.entry.op x.wakes ++ t) (told_by-append xs ys)
     ∙ sym (append_assoc (told_with x.entry.object x.entry.op x.wakes) (told_by xs) (told_by ys))
 
+-- two lists of events whose wakes are their own
 pub wakes-append : (xs ys : List Heard) → HaveTheirWakes xs → HaveTheirWakes ys → HaveTheirWakes (xs ++ ys)
 wakes-append [] ys w v = v
 wakes-append (x ∷ xs) ys w v = (w.0, wakes-append xs ys w.1 v)
 
+-- the next of what is told are an event's own wakes
 now_is : (o : Object) (op : Op) (ws : List Wake) (told : List (List Wake)) → HasItsWakes o op ws
     → wakes_now o op (told_with o op ws ++ told) ≡ ws
 now_is Latches (op_on.Latch op) ws told w = refl
@@ -53,6 +59,7 @@ now_is Latches (op_on.Ecb op) ws told w = sym w
 now_is Latches (op_on.Element op) ws told w = sym w
 now_is Latches (op_on.Volume op) ws told w = sym w
 
+-- and the rest is what is told later
 then_is : (o : Object) (op : Op) (ws : List Wake) (told : List (List Wake)) → wakes_then o op (told_with o op ws ++ told) ≡ told
 then_is Latches (op_on.Latch op) ws told = refl
 then_is (Ecb n) op ws told = refl
@@ -82,6 +89,7 @@ longer_then xs ys l m n t u v x y = record {
       ∙ ap (λ ws. t ++ ws) (sym (told_by-append xs ys));
 }
 
+-- and has as many events as both
 few_then : (xs ys : List Heard) (i j : ℕ) → length xs ≤ i → length ys ≤ j → length (xs ++ ys) ≤ i + j
 few_then xs ys i j x y = let both : length (xs ++ ys) ≡ length xs + length ys = length-append xs ys in omega arith
 
@@ -100,6 +108,7 @@ made_followed i j call f k l m n t u v a b x y = record {
   rest = y.rest;
 }
 
+-- the same where the first is not refused
 pub made_accepted : {A B : Type 0} (i j : ℕ) (call : Call (Result A Refusal)) (f : A → Call B) (k : ℕ) (l m n : List Entry)
     (t u v : List (List Wake)) (a : A) (b : B)
     → IsMade i call k l m t u (Ok a) → IsMade j (f a) k m n u v b → IsMade (i + j) (accepted call f) k l n t v b

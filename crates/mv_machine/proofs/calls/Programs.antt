@@ -9,18 +9,22 @@ use Rattle.mv_machine.specs.calls.Program.{and_then}
 use Rattle.mv_machine.specs.calls.Program.{going_on, followed, accepted, unrefused}
 use Rattle.mv_machine.specs.calls.Refusal.{Refusal}
 
+-- what is left after two lists
 pub left-append : {A : Type 0} (p : Program A) (xs ys : List Heard) → left p (xs ++ ys) ≡ left (left p xs) ys
 left-append p [] ys = refl
 left-append p (x ∷ xs) ys = left-append (heard p x) xs ys
 
+-- a program says two lists, the second behind the first
 pub Says-append : {A : Type 0} (p : Program A) (xs ys : List Heard) → Says p xs → Says (left p xs) ys → Says p (xs ++ ys)
 Says-append p [] ys s t = t
 Says-append p (x ∷ xs) ys s t = (s.0, Says-append (heard p x) xs ys s.1 t)
 
+-- so it says the first
 pub Says-front : {A : Type 0} (p : Program A) (xs ys : List Heard) → Says p (xs ++ ys) → Says p xs
 Says-front p [] ys s = tt
 Says-front p (x ∷ xs) ys s = (s.0, Says-front (heard p x) xs ys s.1)
 
+-- and what is left of it says the second
 pub Says-rest : {A : Type 0} (p : Program A) (xs ys : List Heard) → Says p (xs ++ ys) → Says (left p xs) ys
 Says-rest p [] ys s = s
 Says-rest p (x ∷ xs) ys s = Says-rest (heard p x) xs ys s.1
@@ -41,6 +45,7 @@ one_on kept o op next f h e =
     ap (λ o'. going_on (kept_after kept o' op h.entry.reply) (next h) f) q.0
     ∙ ap (λ op'. going_on (kept_after kept h.entry.object op' h.entry.reply) (next h) f) q.1
 
+-- what is left of both after the events of both
 pub going_on_left : {A B : Type 0} (kept : Kept) (p : Program A) (f : A → Call B) (xs ys : List Heard) (a : A) → Says p xs
     → left p xs ≡ Done a
     → left (going_on kept p f) (xs ++ ys) ≡ left (f a (kept_from kept (entries xs))) ys
@@ -56,6 +61,7 @@ going_on_left kept Wrong f (x ∷ xs) ys a s d = absurd (cc s.0)
 pub same_says : {A : Type 0} (p q : Program A) (hs : List Heard) → p ≡ q → Says q hs → Says p hs
 same_says p q hs e s = rw e s
 
+-- both say the events of both
 pub going_on_says : {A B : Type 0} (kept : Kept) (p : Program A) (f : A → Call B) (xs ys : List Heard) (a : A) → Says p xs
     → left p xs ≡ Done a
     → Says (f a (kept_from kept (entries xs))) ys → Says (going_on kept p f) (xs ++ ys)
@@ -78,12 +84,14 @@ followed_done call f kept xs ys a b d e = record {
   done = going_on_left kept (call kept) f xs ys a d.says d.done ∙ e.done;
 }
 
+-- the same where the first is not refused
 pub accepted_done : {A B : Type 0} (call : Call (Result A Refusal)) (f : A → Call B) (kept : Kept) (xs ys : List Heard) (a : A) (b : B)
     → IsDoneOn (call kept) xs (Ok a) → IsDoneOn (f a (kept_from kept (entries xs))) ys b → IsDoneOn (accepted call f kept) (xs ++ ys) b
 accepted_done call f kept xs ys a b d e = followed_done call (unrefused f) kept xs ys (Ok a) b d e
 
 -- ---- the same of two programs of one call
 
+-- what is left
 pub and_then_left : {A B : Type 0} (p : Program A) (f : A → Program B) (xs ys : List Heard) (a : A) → Says p xs → left p xs ≡ Done a
     → left (and_then p f) (xs ++ ys) ≡ left (f a) ys
 and_then_left p f [] ys a s d = ap (λ q. left (and_then q f) ys) d
@@ -92,6 +100,7 @@ and_then_left (Done b) f (x ∷ xs) ys a s d = absurd (cc s.0)
 and_then_left Early f (x ∷ xs) ys a s d = absurd (cc s.0)
 and_then_left Wrong f (x ∷ xs) ys a s d = absurd (cc s.0)
 
+-- what both say
 pub and_then_says : {A B : Type 0} (p : Program A) (f : A → Program B) (xs ys : List Heard) (a : A) → Says p xs → left p xs ≡ Done a
     → Says (f a) ys → Says (and_then p f) (xs ++ ys)
 and_then_says p f [] ys a s d t = same_says (and_then p f) (f a) ys (ap (λ q. and_then q f) d) t
@@ -100,6 +109,7 @@ and_then_says (Done b) f (x ∷ xs) ys a s d t = absurd (cc s.0)
 and_then_says Early f (x ∷ xs) ys a s d t = absurd (cc s.0)
 and_then_says Wrong f (x ∷ xs) ys a s d t = absurd (cc s.0)
 
+-- both are done
 pub and_then_done : {A B : Type 0} (p : Program A) (f : A → Program B) (xs ys : List Heard) (a : A) (b : B) → IsDoneOn p xs a
     → IsDoneOn (f a) ys b → IsDoneOn (and_then p f) (xs ++ ys) b
 and_then_done p f xs ys a b d e = record {

@@ -43,11 +43,13 @@ pub record IsFree (c : Setup) (kept : Kept) (e : ℕ) : Type 0 where
 pub own_block : (c : Setup) (kept : Kept) (e : ℕ) → owner_of c e ≡ kept.caller → is_others_block c kept e ≡ false
 own_block c kept e own = rw (eq-eqb (owner_of c e) kept.caller own) refl
 
+-- own blocks, of a list
 own_blocks : (c : Setup) (kept : Kept) (es : List ℕ) → AllByRecursion (IsFree c kept) es
     → AllByRecursion (λ e. is_others_block c kept e ≡ false) es
 own_blocks c kept [] free = tt
 own_blocks c kept (e ∷ es) free = (own_block c kept e free.0.own, own_blocks c kept es free.1)
 
+-- blocks that are not extended, of a list
 plain_blocks : (c : Setup) (kept : Kept) (es : List ℕ) → AllByRecursion (IsFree c kept) es
     → AllByRecursion (λ e. kept.extended e ≡ false) es
 plain_blocks c kept [] free = tt
@@ -62,15 +64,18 @@ not_among e (b ∷ before) all = rw (ne_eqb b e all.0) (not_among e before all.1
 abbrev Differ : List ℕ → List ℕ → Type 0
 Differ before es = AllByRecursion (λ e. AllByRecursion (λ b. b ≡ e → ⊥) before) es
 
+-- what differs from all before differs from one more
 widen : (before : List ℕ) (e : ℕ) (es : List ℕ) → Differ before es → AllByRecursion (λ m. m ≡ e → ⊥) es → Differ (before ++ e ∷ []) es
 widen before e [] d n = tt
 widen before e (x ∷ es) d n = (all_push (λ b. b ≡ x → ⊥) before e d.0 (λ q. n.0 (sym q)), widen before e es d.1 n.1)
 
+-- so none is doubled
 none_doubled : (before : List ℕ) (p : ℕ) (es : List ℕ) → AreDistinct es → Differ before es → doubled_at before p es ≡ None
 none_doubled before p [] a d = refl
 none_doubled before p (e ∷ es) a d =
     rw (not_among e before d.0) (none_doubled (before ++ e ∷ []) (p + 1) es a.1 (widen before e es d.1 a.0))
 
+-- there is nothing to differ from at first
 differ_from_none : (es : List ℕ) → Differ [] es
 differ_from_none [] = tt
 differ_from_none (e ∷ es) = (tt, differ_from_none es)
@@ -122,6 +127,7 @@ pub pause_is : (c : Setup) (t : Token) (kept : Kept) → element_owner c t.eleme
     (λ h. on_element h.entry.reply (paused t.element t.generation))
 pause_is c t kept own = rw (eq-eqb (element_owner c t.element) kept.caller own) refl
 
+-- and a deallocation
 pub deallocate_is : (c : Setup) (t : Token) (kept : Kept) → element_owner c t.element ≡ kept.caller
     → deallocate c t kept ≡ Do (Element t.element) (op_on.Element (element_op.Close t.generation))
     (λ h. on_element h.entry.reply closed)
