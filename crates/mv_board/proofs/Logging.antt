@@ -152,6 +152,8 @@ module _ (c d : Inside) (o : Object) (op : Op) (place : ℕ) (reply : Reply) (sh
     room = (let n = one_longer in let cap = more.capacity in let r = h.room in let less = more.left in omega arith);
     wakes = subst (λ (z : List Setup × ℕ). AllByRecursion (λ (s : Setup). s.callers * s.quota ≤ z.1) z.0) (λ i. (sym grew.about i, sym more.room i)) h.wakes;
     shown = wakes ∙ ap last_of (sym told_after);
+    exists = subst (λ (z : List Setup × ℕ). AllByRecursion (λ (s : Setup). z.1 < s.callers) z.0) (λ i. (sym grew.about i, sym more.caller i)) h.exists;
+    few = (let less = more.left in let f = h.few in omega arith);
   }
 
   pub possible : (b : Setup) → c.seat.me.0.about ≡ b ∷ [] → IsPossible b d.events.caller d.events.log.items (own d.seat.me.0).told

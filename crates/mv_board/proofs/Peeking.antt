@@ -1,5 +1,5 @@
 -- What a look for what is ready makes of a caller.
-use Rattle.std.proofs.Common.{◌≡◌, ◌≤◌, ℕ, ◌*◌, ◌-◌, Bool, true, false, Some, List, [], ◌∷◌, ◌++◌, length, vec_capacity, refl, sym, ap, ◌∙◌, subst}
+use Rattle.std.proofs.Common.{◌<◌, ◌≡◌, ◌≤◌, ℕ, ◌*◌, ◌-◌, Bool, true, false, Some, List, [], ◌∷◌, ◌++◌, length, vec_capacity, refl, sym, ap, ◌∙◌, subst}
 use Rattle.std.specs.List.{AllByRecursion}
 use Rattle.mv_latch.specs.Latch.{confirm_reply}
 use Rattle.mv_latch.specs.LatchSet.{list_of}
@@ -93,5 +93,7 @@ module _ (c d : Inside) (latch id : ℕ) (l : Lists) (is : Bool) (h : IsSeated c
         room = h.room;
         wakes = subst (AllByRecursion (λ (s : Setup). s.callers * s.quota ≤ vec_capacity c.events.wakes)) (sym (ap (λ (u : View). u.about) after)) h.wakes;
         shown = h.shown ∙ ap last_of (sym (ap (λ (u : View). (own u).told) after));
+        exists = subst (AllByRecursion (λ (s : Setup). c.events.caller < s.callers)) (sym (ap (λ (u : View). u.about) after)) h.exists;
+        few = h.few;
       } in
       subst IsSeated (sym kept) still

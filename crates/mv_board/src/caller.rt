@@ -1,6 +1,8 @@
 //! A caller: the events that it made, and its seat at the table.
 
 ghost use Rattle.std.specs.Prelude.{◌≡◌, ◌<◌, ◌≤◌, ◌-◌, ◌++◌, ◌∷◌, [], vec_len, vec_capacity};
+ghost use Rattle.std.specs.List.{AllByRecursion};
+ghost use Rattle.mv_machine.specs.Setup.{Setup};
 ghost use Rattle.mv_board.specs.Faces.{last_of};
 
 use crate::item::Item;
@@ -63,17 +65,19 @@ impl Model for Caller {
 }
 
 impl Caller {
-    /// Its number.
+    /// Its number. There is such a caller.
     pub fn number(&self) -> u32
-        ensures { result ≡ self.now.number }
+        ensures number { result ≡ self.now.number }
+        ensures exists { AllByRecursion (λ (s : Setup). result < s.callers) self.now.about }
     {
         self.events.caller
     }
 
-    /// How many events it may still make. There is room for all of them.
+    /// How many events it may still make. There is room for all of them, and all callers have together no more than 524,287.
     pub fn left(&self) -> u32
         ensures left { result ≡ self.now.left }
         ensures room { result ≤ self.now.room }
+        ensures few { result ≤ 524287 }
     {
         self.events.left
     }
