@@ -10,6 +10,7 @@ pub mod Turns
 pub mod TurnKeeps
 pub mod Joining
 pub mod Ends
+pub mod Closings
 pub mod Changing
 pub mod Looks
 pub mod Logging

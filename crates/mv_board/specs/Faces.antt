@@ -25,6 +25,7 @@ use Rattle.mv_machine.specs.Parts.{IsBelow, Had}
 use Rattle.mv_machine.specs.Setup.{Setup, owner_of, element_owner, element_count}
 use Rattle.mv_machine.specs.Told.{told}
 use Rattle.mv_board.specs.declared.caller.Moved.{Moved}
+use Rattle.mv_board.specs.declared.view.Part.{Part}
 use Rattle.mv_board.specs.declared.view.Sight.{Sight}
 use Rattle.mv_board.specs.declared.watch.Watch.{Watch}
 use Rattle.mv_board.specs.declared.watch.Watch.TheVariants as watch
@@ -211,8 +212,28 @@ abbrev pub AreInOrder : BoardFace → ℕ → List CallerFace → Type 0
 AreInOrder b k [] = Unit {0}
 AreInOrder b k (c ∷ cs) = IsOf b c × (c.number ≡ k) × AreInOrder b (suc k) cs
 
--- what a caller was told and what it met are so in the history
-pub record IsIn (c : Setup) (history : List Entry) (k : CallerFace) : Type 0 where
-  pub logged : of k.number history ≡ k.log
-  pub told : told c k.number history ≡ k.told
-  pub met : AllByRecursion (λ m. Had c history k.number m.after m.object m.word) k.met
+-- what a board that ends keeps of a caller that came back
+abbrev pub part_of : CallerFace → Part
+part_of k = record { caller = k.number; left = k.left; log = k.log; told = k.told; sights = k.met }
+
+abbrev pub log_of : Part → List Entry
+log_of p = p.log
+
+-- a board that ends, and what it keeps of the callers that came back so far, in order
+pub record ClosingFace : Type 0 where
+  pub board : BoardFace
+  pub back : List Part
+
+-- they have the numbers from k on
+abbrev pub AreNumbered : ℕ → List Part → Type 0
+AreNumbered k [] = Unit {0}
+AreNumbered k (p ∷ ps) = (p.caller ≡ k) × AreNumbered (suc k) ps
+
+-- what a caller did, was told and met is so in the history
+pub record IsPartIn (c : Setup) (history : List Entry) (p : Part) : Type 0 where
+  pub logged : of p.caller history ≡ p.log
+  pub told : told c p.caller history ≡ p.told
+  pub met : AllByRecursion (λ m. Had c history p.caller m.after m.object m.word) p.sights
+
+abbrev pub IsIn : Setup → List Entry → CallerFace → Type 0
+IsIn c history k = IsPartIn c history (part_of k)

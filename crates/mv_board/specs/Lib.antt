@@ -7,3 +7,4 @@ pub mod Turn
 pub mod Faces
 pub mod Caller
 pub mod Board
+pub mod Closing

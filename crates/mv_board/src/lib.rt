@@ -15,7 +15,7 @@ mod words;
 
 pub use board::Board;
 pub use caller::{Caller, Moved};
-pub use closing::Closed;
+pub use closing::{Closed, Closing};
 pub use watch::Watch;
 
 #[cfg(test)]

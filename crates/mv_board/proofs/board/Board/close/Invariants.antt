@@ -1,14 +1,12 @@
-use Rattle.std.proofs.Common.{◌≡◌, ◌+◌, ◌≤◌, [], length, vec_len, vec_capacity}
-use Rattle.mv_board.proofs.Ends.{Gathered}
+use Rattle.std.proofs.Common.{◌≡◌, ◌++◌, length, map}
+use Rattle.std.specs.Vec.Iter.{into_iter_items, into_iter_len}
+use Rattle.mv_board.specs.Faces.{part_of}
 use Rattle.mv_board.proofs.board.Board.close.Given as goal
 
 abbrev pub invariant-loop-caller : goal.invariant-loop-caller
 invariant-loop-caller l = record {
-  table : l.seat.table_id ≡ l.initial.seat.table_id;
-  slots : l.seat.me.1 ≡ [];
-  gathered : Gathered l.fn.callers.items l.callers.items l.seat.me.0.parts l.logs.items;
-  room : length l.logs.items + length l.callers.items ≤ vec_capacity l.logs;
+  yielded : l.yielded ++ into_iter_items l.caller-iterator ≡ l.fn.callers.items;
+  count : into_iter_len l.caller-iterator ≡ length (into_iter_items l.caller-iterator);
+  board : l.closing.board ≡ l.fn.self;
+  back : l.closing.back ≡ map part_of l.yielded;
 }
-
-abbrev pub decreases-loop-caller : goal.decreases-loop-caller
-decreases-loop-caller l = vec_len l.callers
