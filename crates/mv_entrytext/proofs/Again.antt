@@ -37,10 +37,12 @@ use Rattle.mv_entrytext.proofs.Numbers.{Ends, number_again, u32_again, u64_again
 
 -- ---- event control blocks
 
-code_again : (n : ℕ) (rest : List ℕ) → n ≤ highest_ecb_code → Ends rest → number true 0 highest_ecb_code (decimal n ++ rest) ≡ Some (n, rest)
+code_again : (n : ℕ) (rest : List ℕ) → n ≤ highest_ecb_code → Ends rest
+    → number true 0 highest_ecb_code (decimal n ++ rest) ≡ Some (n, rest)
 code_again n rest le e = number_again 0 highest_ecb_code n rest (omega arith) le (omega arith) e
 
-exit_again : (n : ℕ) (rest : List ℕ) → 1 ≤ n → n ≤ highest_ecb_code → Ends rest → number true 1 highest_ecb_code (decimal n ++ rest) ≡ Some (n, rest)
+exit_again : (n : ℕ) (rest : List ℕ) → 1 ≤ n → n ≤ highest_ecb_code → Ends rest
+    → number true 1 highest_ecb_code (decimal n ++ rest) ≡ Some (n, rest)
 exit_again n rest lo le e = number_again 1 highest_ecb_code n rest lo le (omega arith) e
 
 pub ecb_op_again : (op : EcbOp) (rest : List ℕ) → IsEcbOpInRange op → Ends rest → ecb_op true (ecb_op_text op ++ rest) ≡ Some (op, rest)
@@ -52,7 +54,8 @@ ecb_op_again ecb_op_of.Clear rest h e = refl
 ecb_op_again (ecb_op_of.Post code) rest h e = rw (code_again code rest h e) refl
 ecb_op_again ecb_op_of.Test rest h e = refl
 
-pub ecb_reply_again : (r : EcbReply) (rest : List ℕ) → IsEcbReplyInRange r → IsEcbReplyTyped r → Ends rest → ecb_reply true (ecb_reply_text r ++ rest) ≡ Some (r, rest)
+pub ecb_reply_again : (r : EcbReply) (rest : List ℕ) → IsEcbReplyInRange r → IsEcbReplyTyped r → Ends rest
+    → ecb_reply true (ecb_reply_text r ++ rest) ≡ Some (r, rest)
 unfolding ecb_reply behind
 ecb_reply_again ecb_reply_of.Armed rest h t e = refl
 ecb_reply_again (ecb_reply_of.Linked exit) rest h t e = rw (exit_again exit rest h.0 h.1 e) refl
@@ -69,7 +72,8 @@ ecb_reply_again (ecb_reply_of.Word word) rest h t e = rw (u32_again word rest t 
 release_again : (n : ℕ) (rest : List ℕ) → n ≤ highest_release_code → Ends rest → release_code true (decimal n ++ rest) ≡ Some (n, rest)
 release_again n rest le e = number_again 0 highest_release_code n rest (omega arith) le (omega arith) e
 
-generation_again : (n : ℕ) (rest : List ℕ) → n ≤ highest_generation → Ends rest → reached_generation true (decimal n ++ rest) ≡ Some (n, rest)
+generation_again : (n : ℕ) (rest : List ℕ) → n ≤ highest_generation → Ends rest
+    → reached_generation true (decimal n ++ rest) ≡ Some (n, rest)
 generation_again n rest le e = number_again 0 highest_generation n rest (omega arith) le (omega arith) e
 
 phase_again : (p : Phase) (rest : List ℕ) → phase (phase_text p ++ rest) ≡ Some (p, rest)
@@ -80,13 +84,15 @@ phase_again Prereleased rest = refl
 phase_again Paused rest = refl
 phase_again Released rest = refl
 
-pub element_op_again : (op : ElementOp) (rest : List ℕ) → IsElementOpInRange op → IsElementOpTyped op → Ends rest → element_op true (element_op_text op ++ rest) ≡ Some (op, rest)
+pub element_op_again : (op : ElementOp) (rest : List ℕ) → IsElementOpInRange op → IsElementOpTyped op → Ends rest
+    → element_op true (element_op_text op ++ rest) ≡ Some (op, rest)
 unfolding element_op behind
 element_op_again element_op_of.Open rest h t e = refl
 element_op_again (element_op_of.Pause g) rest h t e = rw (u32_again g rest t e) refl
 element_op_again (element_op_of.Resume g) rest h t e = rw (u32_again g rest t e) refl
 element_op_again (element_op_of.Release g d) rest h t e =
-    rw (parted_again (any_u32 true) (λ _. release_code true) g d (decimal g) (decimal d) rest (u32_again g (32 ∷ (decimal d ++ rest)) t refl) (release_again d rest h e)) refl
+    rw (parted_again (any_u32 true) (λ _. release_code true) g d (decimal g) (decimal d) rest
+    (u32_again g (32 ∷ (decimal d ++ rest)) t refl) (release_again d rest h e)) refl
 element_op_again (element_op_of.Close g) rest h t e = rw (u32_again g rest t e) refl
 element_op_again element_op_of.Test rest h t e = refl
 
@@ -118,22 +124,29 @@ state_back s Released e = same_state (state_in Released s.generation s.code) s r
 abbrev pub state_text : ElementState → List ℕ
 state_text s = decimal s.generation <+> phase_text s.phase <+> decimal s.code
 
-state_again : (s : ElementState) (rest : List ℕ) → s.generation ≤ highest_generation → s.code ≤ highest_release_code → Ends rest → element_state true (state_text s ++ rest) ≡ Some (s, rest)
+state_again : (s : ElementState) (rest : List ℕ) → s.generation ≤ highest_generation → s.code ≤ highest_release_code → Ends rest
+    → element_state true (state_text s ++ rest) ≡ Some (s, rest)
 unfolding element_state
 state_again s rest g c e =
     let code = number_again 0 (highest_kept s.phase) s.code rest (omega arith) (kept_fits s s.phase refl c) (highest_kept-le s.phase) e in
-    let tail = parted_again phase (kept_code true) s.phase s.code (phase_text s.phase) (decimal s.code) rest (phase_again s.phase (32 ∷ (decimal s.code ++ rest))) code in
-    let all = parted_again (reached_generation true) (λ _. parted_by phase (kept_code true)) s.generation (s.phase, s.code) (decimal s.generation) (phase_text s.phase <+> decimal s.code) rest
+    let tail =
+    parted_again phase (kept_code true) s.phase s.code (phase_text s.phase) (decimal s.code) rest
+    (phase_again s.phase (32 ∷ (decimal s.code ++ rest))) code in
+    let all =
+    parted_again (reached_generation true) (λ _. parted_by phase (kept_code true)) s.generation (s.phase, s.code) (decimal s.generation)
+    (phase_text s.phase <+> decimal s.code) rest
     (generation_again s.generation (32 ∷ ((phase_text s.phase <+> decimal s.code) ++ rest)) g refl) tail in
     rw all (ap (λ (x : ElementState). Some (x, rest)) (state_back s s.phase refl))
 
-pub element_reply_again : (r : ElementReply) (rest : List ℕ) → IsElementReplyInRange r → Ends rest → element_reply true (element_reply_text r ++ rest) ≡ Some (r, rest)
+pub element_reply_again : (r : ElementReply) (rest : List ℕ) → IsElementReplyInRange r → Ends rest
+    → element_reply true (element_reply_text r ++ rest) ≡ Some (r, rest)
 unfolding element_reply telling_reply behind
 element_reply_again (element_reply_of.Opened g) rest h e = rw (generation_again g rest h e) refl
 element_reply_again element_reply_of.InUse rest h e = refl
 element_reply_again element_reply_of.Parked rest h e = refl
 element_reply_again (element_reply_of.Given code next) rest h e =
-    rw (parted_again (release_code true) (λ _. reached_generation true) code next (decimal code) (decimal next) rest (release_again code (32 ∷ (decimal next ++ rest)) h.0 refl) (generation_again next rest h.1 e)) refl
+    rw (parted_again (release_code true) (λ _. reached_generation true) code next (decimal code) (decimal next) rest
+    (release_again code (32 ∷ (decimal next ++ rest)) h.0 refl) (generation_again next rest h.1 e)) refl
 element_reply_again (element_reply_of.Spent g) rest h e = rw (generation_again g rest h e) refl
 element_reply_again element_reply_of.Busy rest h e = refl
 element_reply_again element_reply_of.NotYet rest h e = refl
@@ -145,12 +158,14 @@ element_reply_again (element_reply_of.State s) rest h e = rw (state_again s rest
 
 -- ---- volumes
 
-pub volume_op_again : (op : VolumeOp) (rest : List ℕ) → IsVolumeOpTyped op → Ends rest → volume_op true (volume_op_text op ++ rest) ≡ Some (op, rest)
+pub volume_op_again : (op : VolumeOp) (rest : List ℕ) → IsVolumeOpTyped op → Ends rest
+    → volume_op true (volume_op_text op ++ rest) ≡ Some (op, rest)
 unfolding volume_op behind
 volume_op_again Read rest t e = refl
 volume_op_again (Write n) rest t e = rw (u32_again n rest t e) refl
 
-pub volume_reply_again : (r : VolumeReply) (rest : List ℕ) → IsVolumeReplyTyped r → Ends rest → volume_reply true (volume_reply_text r ++ rest) ≡ Some (r, rest)
+pub volume_reply_again : (r : VolumeReply) (rest : List ℕ) → IsVolumeReplyTyped r → Ends rest
+    → volume_reply true (volume_reply_text r ++ rest) ≡ Some (r, rest)
 unfolding volume_reply behind
 volume_reply_again (Value n) rest t e = rw (u32_again n rest t e) refl
 volume_reply_again Stored rest t e = refl
@@ -173,11 +188,14 @@ unfolding condition behind
 condition_again true rest = refl
 condition_again false rest = refl
 
-two_again : (a b : ℕ) (rest : List ℕ) → a ≤ highest_u32 → b ≤ highest_u32 → Ends rest → two_u32 true ((decimal a <+> decimal b) ++ rest) ≡ Some ((a, b), rest)
+two_again : (a b : ℕ) (rest : List ℕ) → a ≤ highest_u32 → b ≤ highest_u32 → Ends rest
+    → two_u32 true ((decimal a <+> decimal b) ++ rest) ≡ Some ((a, b), rest)
 two_again a b rest la lb e =
-    parted_again (any_u32 true) (λ _. any_u32 true) a b (decimal a) (decimal b) rest (u32_again a (32 ∷ (decimal b ++ rest)) la refl) (u32_again b rest lb e)
+    parted_again (any_u32 true) (λ _. any_u32 true) a b (decimal a) (decimal b) rest (u32_again a (32 ∷ (decimal b ++ rest)) la refl)
+    (u32_again b rest lb e)
 
-pub latch_reply_again : (r : LatchReply) (rest : List ℕ) → IsLatchReplyTyped r → Ends rest → latch_reply true (latch_reply_text r ++ rest) ≡ Some (r, rest)
+pub latch_reply_again : (r : LatchReply) (rest : List ℕ) → IsLatchReplyTyped r → Ends rest
+    → latch_reply true (latch_reply_text r ++ rest) ≡ Some (r, rest)
 unfolding latch_reply behind
 latch_reply_again (latch_reply_of.Granted id) rest t e = rw (u32_again id rest t e) refl
 latch_reply_again (latch_reply_of.Queued id) rest t e = rw (u32_again id rest t e) refl
@@ -189,21 +207,32 @@ latch_reply_again (latch_reply_of.Purged m n) rest t e = rw (two_again m n rest 
 
 -- the requestor, the mode and the form of an obtain
 obtain_tail : (requestor : ℕ) (mode : Mode) (f : LatchForm) (rest : List ℕ) → requestor ≤ highest_u64 → IsFormTyped f → Ends rest
-    → parted (any_u64 true) (parted mode_read (form_read true)) ((decimal requestor <+> mode_text mode <+> form_text f) ++ rest) ≡ Some ((requestor, (mode, f)), rest)
+    → parted (any_u64 true) (parted mode_read (form_read true)) ((decimal requestor <+> mode_text mode <+> form_text f) ++ rest)
+    ≡ Some ((requestor, (mode, f)), rest)
 obtain_tail requestor mode f rest le t e =
-    let last = parted_again mode_read (λ _. form_read true) mode f (mode_text mode) (form_text f) rest (mode_again mode (32 ∷ (form_text f ++ rest))) (form_again f rest t e) in
-    parted_again (any_u64 true) (λ _. parted mode_read (form_read true)) requestor (mode, f) (decimal requestor) (mode_text mode <+> form_text f) rest (u64_again requestor (32 ∷ ((mode_text mode <+> form_text f) ++ rest)) le refl) last
+    let last =
+    parted_again mode_read (λ _. form_read true) mode f (mode_text mode) (form_text f) rest
+    (mode_again mode (32 ∷ (form_text f ++ rest))) (form_again f rest t e) in
+    parted_again (any_u64 true) (λ _. parted mode_read (form_read true)) requestor (mode, f) (decimal requestor)
+    (mode_text mode <+> form_text f) rest (u64_again requestor (32 ∷ ((mode_text mode <+> form_text f) ++ rest)) le refl) last
 
-release_tail : (id : ℕ) (b : Bool) (rest : List ℕ) → id ≤ highest_u32 → parted (any_u32 true) condition ((decimal id <+> condition_text b) ++ rest) ≡ Some ((id, b), rest)
-release_tail id b rest le = parted_again (any_u32 true) (λ _. condition) id b (decimal id) (condition_text b) rest (u32_again id (32 ∷ (condition_text b ++ rest)) le refl) (condition_again b rest)
+release_tail : (id : ℕ) (b : Bool) (rest : List ℕ) → id ≤ highest_u32
+    → parted (any_u32 true) condition ((decimal id <+> condition_text b) ++ rest) ≡ Some ((id, b), rest)
+release_tail id b rest le =
+    parted_again (any_u32 true) (λ _. condition) id b (decimal id) (condition_text b) rest
+    (u32_again id (32 ∷ (condition_text b ++ rest)) le refl) (condition_again b rest)
 
-pub latch_op_again : (op : LatchOp) (rest : List ℕ) → IsLatchOpTyped op → Ends rest → latch_op true (latch_op_text op ++ rest) ≡ Some (op, rest)
+pub latch_op_again : (op : LatchOp) (rest : List ℕ) → IsLatchOpTyped op → Ends rest
+    → latch_op true (latch_op_text op ++ rest) ≡ Some (op, rest)
 unfolding latch_op obtain release obtain_rest behind
 latch_op_again (latch_op_of.Obtain latch requestor mode f) rest t e =
-    rw (parted_again (any_u32 true) (λ _. parted (any_u64 true) (parted mode_read (form_read true))) latch (requestor, (mode, f)) (decimal latch) (decimal requestor <+> mode_text mode <+> form_text f) rest
-    (u32_again latch (32 ∷ ((decimal requestor <+> mode_text mode <+> form_text f) ++ rest)) t.0 refl) (obtain_tail requestor mode f rest t.1 t.2 e)) refl
+    rw (parted_again (any_u32 true) (λ _. parted (any_u64 true) (parted mode_read (form_read true))) latch (requestor, (mode, f))
+    (decimal latch) (decimal requestor <+> mode_text mode <+> form_text f) rest
+    (u32_again latch (32 ∷ ((decimal requestor <+> mode_text mode <+> form_text f) ++ rest)) t.0 refl)
+    (obtain_tail requestor mode f rest t.1 t.2 e)) refl
 latch_op_again (latch_op_of.Confirm latch id) rest t e = rw (two_again latch id rest t.0 t.1 e) refl
 latch_op_again (latch_op_of.Release latch id b) rest t e =
-    rw (parted_again (any_u32 true) (λ _. parted (any_u32 true) condition) latch (id, b) (decimal latch) (decimal id <+> condition_text b) rest
+    rw (parted_again (any_u32 true) (λ _. parted (any_u32 true) condition) latch (id, b) (decimal latch) (decimal id <+> condition_text b)
+    rest
     (u32_again latch (32 ∷ ((decimal id <+> condition_text b) ++ rest)) t.0 refl) (release_tail id b rest t.1)) refl
 latch_op_again (latch_op_of.Purge requestor) rest t e = rw (u64_again requestor rest t e) refl

@@ -52,7 +52,8 @@ passes c v =
 all_pass : {A : Type 0} (t : A → Bool) (i : ℕ) (xs : List A) → position_from t i xs ≡ None → AllByRecursion (λ x. t x ≡ false) xs
 all_pass t i [] e = tt
 all_pass t i (x ∷ xs) e = go (t x) refl e (λ h. all_pass t (i + 1) xs h) where
-  go : (b : Bool) → t x ≡ b → cond b (Some i) (position_from t (i + 1) xs) ≡ None → (position_from t (i + 1) xs ≡ None → AllByRecursion (λ x. t x ≡ false) xs) → AllByRecursion (λ x. t x ≡ false) (x ∷ xs)
+  go : (b : Bool) → t x ≡ b → cond b (Some i) (position_from t (i + 1) xs) ≡ None
+      → (position_from t (i + 1) xs ≡ None → AllByRecursion (λ x. t x ≡ false) xs) → AllByRecursion (λ x. t x ≡ false) (x ∷ xs)
   go true tx h more = absurd cc
   go false tx h more = (tx, more h)
 
@@ -72,25 +73,35 @@ not_false : (b : Bool) → not b ≡ false → b ≡ true
 not_false true e = refl
 not_false false e = absurd (false≢true (sym e))
 
-targets_fit : (ecbs source : ℕ) (ts : List ℕ) → ecbs ≤ highest_u32 → list_any (λ target. leb ecbs target || leb target source) ts ≡ false → AreU32 ts
+targets_fit : (ecbs source : ℕ) (ts : List ℕ) → ecbs ≤ highest_u32 → list_any (λ target. leb ecbs target || leb target source) ts ≡ false
+    → AreU32 ts
 targets_fit ecbs source [] le h = tt
 targets_fit ecbs source (t ∷ ts) le h =
     let o = or_false (leb ecbs t || leb t source) (list_any (λ target. leb ecbs target || leb target source) ts) h in
     let p = or_false (leb ecbs t) (leb t source) o.0 in
     (omega (arith, leb-false ecbs t p.0), targets_fit ecbs source ts le o.1)
 
-exits_fit : (ecbs : ℕ) (xs : List SetupExit) → ecbs ≤ highest_u32 → AllByRecursion (λ x. is_bad_exit ecbs x ≡ false) xs → list_all (λ x. is_within 1 8 (length x.targets)) xs ≡ true → AllByRecursion IsExit xs
+exits_fit : (ecbs : ℕ) (xs : List SetupExit) → ecbs ≤ highest_u32 → AllByRecursion (λ x. is_bad_exit ecbs x ≡ false) xs
+    → list_all (λ x. is_within 1 8 (length x.targets)) xs ≡ true → AllByRecursion IsExit xs
 exits_fit ecbs [] le h w = tt
 exits_fit ecbs (x ∷ xs) le h w =
     let o = or_false (leb ecbs x.source) (list_any (λ target. leb ecbs target || leb target x.source) x.targets) h.0 in
     let b = and_parts (is_within 1 8 (length x.targets)) (list_all (λ x. is_within 1 8 (length x.targets)) xs) w in
-    let n = and_parts (leb 1 (length x.targets)) (leb (length x.targets) 8) b.0 in
-    (record { source = omega (arith, leb-false ecbs x.source o.0); targets = targets_fit ecbs x.source x.targets le o.1; some = leb-true 1 (length x.targets) n.0 }, exits_fit ecbs xs le h.1 b.1)
+    let n = and_parts (leb 1 (length x.targets)) (leb (length x.targets) 8) b.0 in (
+      record {
+        source = omega (arith, leb-false ecbs x.source o.0);
+        targets = targets_fit ecbs x.source x.targets le o.1;
+        some = leb-true 1 (length x.targets) n.0;
+      },
+      exits_fit ecbs xs le h.1 b.1,
+    )
 
 few_targets : (c : Setup) → first_limit c ≡ None → list_all (λ x. is_within 1 8 (length x.targets)) c.exits ≡ true
 few_targets c f = grind arith
 
-pub counts_fit : (c : Setup) → first_limit c ≡ None → (c.callers ≤ 16) × (c.elements_per_caller ≤ 16) × (c.volumes ≤ 8) × (c.latches ≤ 8) × (c.quota ≤ 16) × (c.posted_quota ≤ 16) × (length c.owners ≤ 131072)
+pub counts_fit : (c : Setup) → first_limit c ≡ None
+    → (c.callers ≤ 16) × (c.elements_per_caller ≤ 16) × (c.volumes ≤ 8) × (c.latches ≤ 8) × (c.quota ≤ 16) × (c.posted_quota ≤ 16) ×
+    (length c.owners ≤ 131072)
 counts_fit c f = (grind arith, grind arith, grind arith, grind arith, grind arith, grind arith, grind arith)
 
 sum_fits : (c : Setup) → bad_budget c ≡ None → sum c.budgets ≤ 524287
@@ -109,5 +120,7 @@ has_numbers c v =
       posted = omega (arith, f.5);
       budgets = budgets_fit c.budgets (omega (arith, sum_fits c p.budget));
       owners = owners_fit c.callers c.owners (omega (arith, f.0)) (all_pass (λ owner. leb c.callers owner) 0 c.owners p.owner);
-      exits = exits_fit (length c.owners) c.exits (omega (arith, f.6)) (all_pass (is_bad_exit (length c.owners)) 1 c.exits p.exit) (few_targets c p.limit);
+      exits =
+          exits_fit (length c.owners) c.exits (omega (arith, f.6)) (all_pass (is_bad_exit (length c.owners)) 1 c.exits p.exit)
+          (few_targets c p.limit);
     }

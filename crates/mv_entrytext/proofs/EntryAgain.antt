@@ -27,35 +27,49 @@ object_again (Volume n) rest t e = rw (u32_again n rest t e) refl
 object_again Latches rest t e = refl
 
 -- a place, an operation and a reply, where the two are read again
-event_again : {O R : Type 0} (op_reader : Reader O) (reply_reader : Reader R) (place : ℕ) (op : O) (r : R) (op_is reply_is : List ℕ) → place ≤ highest_place
+event_again : {O R : Type 0} (op_reader : Reader O) (reply_reader : Reader R) (place : ℕ) (op : O) (r : R) (op_is reply_is : List ℕ)
+    → place ≤ highest_place
     → ((rest : List ℕ) → Ends rest → op_reader (op_is ++ rest) ≡ Some (op, rest)) → reply_reader (reply_is ++ []) ≡ Some (r, [])
     → event true op_reader reply_reader ((decimal place <+> op_is <+> codes "=" <+> reply_is) ++ []) ≡ Some ((place, (op, r)), [])
 unfolding behind
 event_again op_reader reply_reader place op r op_is reply_is le one two =
     let sign : behind (codes "= ") reply_reader nothing ((codes "=" <+> reply_is) ++ []) ≡ Some (r, []) = two in
-    let tail = parted_again op_reader (λ _. behind (codes "= ") reply_reader nothing) op r op_is (codes "=" <+> reply_is) [] (one (32 ∷ ((codes "=" <+> reply_is) ++ [])) refl) sign in
-    parted_again (number true 0 highest_place) (λ _. parted op_reader (behind (codes "= ") reply_reader nothing)) place (op, r) (decimal place) (op_is <+> codes "=" <+> reply_is) []
+    let tail =
+    parted_again op_reader (λ _. behind (codes "= ") reply_reader nothing) op r op_is (codes "=" <+> reply_is) []
+    (one (32 ∷ ((codes "=" <+> reply_is) ++ [])) refl) sign in
+    parted_again (number true 0 highest_place) (λ _. parted op_reader (behind (codes "= ") reply_reader nothing)) place (op, r)
+    (decimal place) (op_is <+> codes "=" <+> reply_is) []
     (number_again 0 highest_place place (32 ∷ ((op_is <+> codes "=" <+> reply_is) ++ [])) (omega arith) le (omega arith) refl) tail
 
-entry_on_again : (caller : ℕ) (o : Object) (place : ℕ) (op : Op) (r : Reply) → place ≤ highest_place → IsEventInRange o op r → IsOpTyped op → IsReplyTyped r
+entry_on_again : (caller : ℕ) (o : Object) (place : ℕ) (op : Op) (r : Reply) → place ≤ highest_place → IsEventInRange o op r → IsOpTyped op
+    → IsReplyTyped r
     → entry_on true caller o ((decimal place <+> op_text op <+> codes "=" <+> reply_text r) ++ []) ≡ Some (entry_of caller o place op r, [])
 entry_on_again caller (Ecb n) place (op_on.Ecb op) (reply_of.Ecb r) le h to tr =
-    rw (event_again (ecb_op true) (ecb_reply true) place op r (ecb_op_text op) (ecb_reply_text r) le (λ rest e. ecb_op_again op rest h.0 e) (ecb_reply_again r [] h.1 tr refl)) refl
+    rw (event_again (ecb_op true) (ecb_reply true) place op r (ecb_op_text op) (ecb_reply_text r) le (λ rest e. ecb_op_again op rest h.0 e)
+    (ecb_reply_again r [] h.1 tr refl)) refl
 entry_on_again caller (Element n) place (op_on.Element op) (reply_of.Element r) le h to tr =
-    rw (event_again (element_op true) (element_reply true) place op r (element_op_text op) (element_reply_text r) le (λ rest e. element_op_again op rest h.0 to e) (element_reply_again r [] h.1 refl)) refl
+    rw (event_again (element_op true) (element_reply true) place op r (element_op_text op) (element_reply_text r) le
+    (λ rest e. element_op_again op rest h.0 to e) (element_reply_again r [] h.1 refl)) refl
 entry_on_again caller (Volume n) place (op_on.Volume op) (reply_of.Volume r) le h to tr =
-    rw (event_again (volume_op true) (volume_reply true) place op r (volume_op_text op) (volume_reply_text r) le (λ rest e. volume_op_again op rest to e) (volume_reply_again r [] tr refl)) refl
+    rw (event_again (volume_op true) (volume_reply true) place op r (volume_op_text op) (volume_reply_text r) le
+    (λ rest e. volume_op_again op rest to e) (volume_reply_again r [] tr refl)) refl
 entry_on_again caller Latches place (op_on.Latch op) (reply_of.Latch r) le h to tr =
-    rw (event_again (latch_op true) (latch_reply true) place op r (latch_op_text op) (latch_reply_text r) le (λ rest e. latch_op_again op rest to e) (latch_reply_again r [] tr refl)) refl
+    rw (event_again (latch_op true) (latch_reply true) place op r (latch_op_text op) (latch_reply_text r) le
+    (λ rest e. latch_op_again op rest to e) (latch_reply_again r [] tr refl)) refl
 entry_on_again caller o place op r le h to tr = absurd h
 
 pub entry_again : (e : Entry) → HasText e → entry_read true (entry_text e ++ []) ≡ Some (e, [])
 unfolding entry_read entry_text
 entry_again e h =
     let more = decimal e.place <+> op_text e.op <+> codes "=" <+> reply_text e.reply in
-    let front = parted_again (any_u32 true) (λ _. object_read true) e.caller e.object (decimal e.caller) (object_text e.object) (32 ∷ (more ++ []))
-    (u32_again e.caller (32 ∷ (object_text e.object ++ 32 ∷ (more ++ []))) h.1.caller refl) (object_again e.object (32 ∷ (more ++ [])) h.1.object refl) in
-    let regrouped : decimal e.caller <+> object_text e.object <+> more ≡ (decimal e.caller <+> object_text e.object) <+> more = sym (append_assoc (decimal e.caller) (32 ∷ object_text e.object) (32 ∷ more)) in
-    let all = parted_again (parted (any_u32 true) (object_read true)) (λ x. entry_on true x.0 x.1) (e.caller, e.object) e (decimal e.caller <+> object_text e.object) more [] front
+    let front =
+    parted_again (any_u32 true) (λ _. object_read true) e.caller e.object (decimal e.caller) (object_text e.object) (32 ∷ (more ++ []))
+    (u32_again e.caller (32 ∷ (object_text e.object ++ 32 ∷ (more ++ []))) h.1.caller refl)
+    (object_again e.object (32 ∷ (more ++ [])) h.1.object refl) in
+    let regrouped : decimal e.caller <+> object_text e.object <+> more ≡ (decimal e.caller <+> object_text e.object) <+> more =
+    sym (append_assoc (decimal e.caller) (32 ∷ object_text e.object) (32 ∷ more)) in
+    let all =
+    parted_again (parted (any_u32 true) (object_read true)) (λ x. entry_on true x.0 x.1) (e.caller, e.object) e
+    (decimal e.caller <+> object_text e.object) more [] front
     (entry_on_again e.caller e.object e.place e.op e.reply h.0.place h.0.event h.1.op h.1.reply) in
     ap (λ (t : List ℕ). entry_read true (t ++ [])) regrouped ∙ rw all refl

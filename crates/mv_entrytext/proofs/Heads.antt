@@ -59,11 +59,14 @@ valid_said d v = rw v refl
 
 -- ---- the part that was split off
 
-pub shape_some : (rest text : List ℕ) (o : Option (Bor (List ℕ))) (behind : Bor (List ℕ)) → parts_at 10 rest ≡ text ∷ parts_left 10 o → o ≡ Some behind → parts_at 10 rest ≡ text ∷ parts_at 10 behind.now
+pub shape_some : (rest text : List ℕ) (o : Option (Bor (List ℕ))) (behind : Bor (List ℕ)) → parts_at 10 rest ≡ text ∷ parts_left 10 o
+    → o ≡ Some behind → parts_at 10 rest ≡ text ∷ parts_at 10 behind.now
 shape_some rest text o behind parts e = parts ∙ ap (λ (x : Option (Bor (List ℕ))). text ∷ parts_left 10 x) e
 
-pub shape_none : (rest text : List ℕ) (o : Option (Bor (List ℕ))) → parts_at 10 rest ≡ text ∷ parts_left 10 o → o ≡ None → parts_at 10 rest ≡ text ∷ parts_left 10 None
+pub shape_none : (rest text : List ℕ) (o : Option (Bor (List ℕ))) → parts_at 10 rest ≡ text ∷ parts_left 10 o → o ≡ None
+    → parts_at 10 rest ≡ text ∷ parts_left 10 None
 shape_none rest text o parts e = parts ∙ ap (λ (x : Option (Bor (List ℕ))). text ∷ parts_left 10 x) e
 
-pub shorter_some : (n : ℕ) (o : Option (Bor (List ℕ))) (behind : Bor (List ℕ)) → left_of o ≤ n → o ≡ Some behind → suc (length behind.now) ≤ n
+pub shorter_some : (n : ℕ) (o : Option (Bor (List ℕ))) (behind : Bor (List ℕ)) → left_of o ≤ n → o ≡ Some behind
+    → suc (length behind.now) ≤ n
 shorter_some n o behind le e = subst (λ (x : Option (Bor (List ℕ))). left_of x ≤ n) e le

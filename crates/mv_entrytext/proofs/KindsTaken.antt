@@ -43,26 +43,48 @@ takes_exit = takes_number 1 highest_ecb_code (omega arith)
 takes_ecb_op : Takes ecb_op_text (λ op. IsEcbOpInRange op) (ecb_op true)
 unfolding ecb_op
 takes_ecb_op =
-    takes_behind (codes "ARM") ecb_op_text (λ op. IsEcbOpInRange op) _ _ (behind_given (codes "ARM") ecb_op_text (λ op. IsEcbOpInRange op) ecb_op_of.Arm refl tt)
-    (takes_behind (codes "EXTEND ") ecb_op_text (λ op. IsEcbOpInRange op) _ _ (behind_made (codes "EXTEND ") ecb_op_text (λ op. IsEcbOpInRange op) (λ x. ecb_op_of.Extend x) decimal (λ x. (1 ≤ x) × (x ≤ highest_ecb_code)) (number true 1 highest_ecb_code) (λ x. refl) (λ x h. h) takes_exit)
-    (takes_behind (codes "SETTLE") ecb_op_text (λ op. IsEcbOpInRange op) _ _ (behind_given (codes "SETTLE") ecb_op_text (λ op. IsEcbOpInRange op) ecb_op_of.Settle refl tt)
-    (takes_behind (codes "CLEAR") ecb_op_text (λ op. IsEcbOpInRange op) _ _ (behind_given (codes "CLEAR") ecb_op_text (λ op. IsEcbOpInRange op) ecb_op_of.Clear refl tt)
-    (takes_behind (codes "POST ") ecb_op_text (λ op. IsEcbOpInRange op) _ _ (behind_made (codes "POST ") ecb_op_text (λ op. IsEcbOpInRange op) (λ x. ecb_op_of.Post x) decimal (λ x. x ≤ highest_ecb_code) (number true 0 highest_ecb_code) (λ x. refl) (λ x h. h) takes_code)
-    (takes_behind (codes "TEST") ecb_op_text (λ op. IsEcbOpInRange op) _ _ (behind_given (codes "TEST") ecb_op_text (λ op. IsEcbOpInRange op) ecb_op_of.Test refl tt)
+    takes_behind (codes "ARM") ecb_op_text (λ op. IsEcbOpInRange op) _ _
+    (behind_given (codes "ARM") ecb_op_text (λ op. IsEcbOpInRange op) ecb_op_of.Arm refl tt)
+    (takes_behind (codes "EXTEND ") ecb_op_text (λ op. IsEcbOpInRange op) _ _
+    (behind_made (codes "EXTEND ") ecb_op_text (λ op. IsEcbOpInRange op) (λ x. ecb_op_of.Extend x) decimal
+    (λ x. (1 ≤ x) × (x ≤ highest_ecb_code)) (number true 1 highest_ecb_code) (λ x. refl) (λ x h. h) takes_exit)
+    (takes_behind (codes "SETTLE") ecb_op_text (λ op. IsEcbOpInRange op) _ _
+    (behind_given (codes "SETTLE") ecb_op_text (λ op. IsEcbOpInRange op) ecb_op_of.Settle refl tt)
+    (takes_behind (codes "CLEAR") ecb_op_text (λ op. IsEcbOpInRange op) _ _
+    (behind_given (codes "CLEAR") ecb_op_text (λ op. IsEcbOpInRange op) ecb_op_of.Clear refl tt)
+    (takes_behind (codes "POST ") ecb_op_text (λ op. IsEcbOpInRange op) _ _
+    (behind_made (codes "POST ") ecb_op_text (λ op. IsEcbOpInRange op) (λ x. ecb_op_of.Post x) decimal (λ x. x ≤ highest_ecb_code)
+    (number true 0 highest_ecb_code) (λ x. refl) (λ x h. h) takes_code)
+    (takes_behind (codes "TEST") ecb_op_text (λ op. IsEcbOpInRange op) _ _
+    (behind_given (codes "TEST") ecb_op_text (λ op. IsEcbOpInRange op) ecb_op_of.Test refl tt)
     (takes_nothing ecb_op_text (λ op. IsEcbOpInRange op)))))))
 
 takes_ecb_reply : Takes ecb_reply_text (λ r. IsEcbReplyInRange r × IsEcbReplyTyped r) (ecb_reply true)
 unfolding ecb_reply
 takes_ecb_reply =
-    takes_behind (codes "ARMED") ecb_reply_text (λ r. IsEcbReplyInRange r × IsEcbReplyTyped r) _ _ (behind_given (codes "ARMED") ecb_reply_text (λ r. IsEcbReplyInRange r × IsEcbReplyTyped r) ecb_reply_of.Armed refl (tt, tt))
-    (takes_behind (codes "LINKED ") ecb_reply_text (λ r. IsEcbReplyInRange r × IsEcbReplyTyped r) _ _ (behind_made (codes "LINKED ") ecb_reply_text (λ r. IsEcbReplyInRange r × IsEcbReplyTyped r) (λ x. ecb_reply_of.Linked x) decimal (λ x. (1 ≤ x) × (x ≤ highest_ecb_code)) (number true 1 highest_ecb_code) (λ x. refl) (λ x h. (h, tt)) takes_exit)
-    (takes_behind (codes "COMPLETE ") ecb_reply_text (λ r. IsEcbReplyInRange r × IsEcbReplyTyped r) _ _ (behind_made (codes "COMPLETE ") ecb_reply_text (λ r. IsEcbReplyInRange r × IsEcbReplyTyped r) (λ x. ecb_reply_of.Complete x) decimal (λ x. x ≤ highest_ecb_code) (number true 0 highest_ecb_code) (λ x. refl) (λ x h. (h, tt)) takes_code)
-    (takes_behind (codes "WAITING") ecb_reply_text (λ r. IsEcbReplyInRange r × IsEcbReplyTyped r) _ _ (behind_given (codes "WAITING") ecb_reply_text (λ r. IsEcbReplyInRange r × IsEcbReplyTyped r) ecb_reply_of.Waiting refl (tt, tt))
-    (takes_behind (codes "OPEN") ecb_reply_text (λ r. IsEcbReplyInRange r × IsEcbReplyTyped r) _ _ (behind_given (codes "OPEN") ecb_reply_text (λ r. IsEcbReplyInRange r × IsEcbReplyTyped r) ecb_reply_of.Open refl (tt, tt))
-    (takes_behind (codes "POSTED") ecb_reply_text (λ r. IsEcbReplyInRange r × IsEcbReplyTyped r) _ _ (behind_given (codes "POSTED") ecb_reply_text (λ r. IsEcbReplyInRange r × IsEcbReplyTyped r) ecb_reply_of.Posted refl (tt, tt))
-    (takes_behind (codes "WOKE ") ecb_reply_text (λ r. IsEcbReplyInRange r × IsEcbReplyTyped r) _ _ (behind_made (codes "WOKE ") ecb_reply_text (λ r. IsEcbReplyInRange r × IsEcbReplyTyped r) (λ x. ecb_reply_of.Woke x) decimal (λ x. x ≤ highest_ecb_code) (number true 0 highest_ecb_code) (λ x. refl) (λ x h. (h, tt)) takes_code)
-    (takes_behind (codes "ALREADY ") ecb_reply_text (λ r. IsEcbReplyInRange r × IsEcbReplyTyped r) _ _ (behind_made (codes "ALREADY ") ecb_reply_text (λ r. IsEcbReplyInRange r × IsEcbReplyTyped r) (λ x. ecb_reply_of.Already x) decimal (λ x. x ≤ highest_ecb_code) (number true 0 highest_ecb_code) (λ x. refl) (λ x h. (h, tt)) takes_code)
-    (takes_behind (codes "WORD ") ecb_reply_text (λ r. IsEcbReplyInRange r × IsEcbReplyTyped r) _ _ (behind_made (codes "WORD ") ecb_reply_text (λ r. IsEcbReplyInRange r × IsEcbReplyTyped r) (λ x. ecb_reply_of.Word x) decimal (λ x. x ≤ highest_u32) (any_u32 true) (λ x. refl) (λ x h. (tt, h)) takes_u32)
+    takes_behind (codes "ARMED") ecb_reply_text (λ r. IsEcbReplyInRange r × IsEcbReplyTyped r) _ _
+    (behind_given (codes "ARMED") ecb_reply_text (λ r. IsEcbReplyInRange r × IsEcbReplyTyped r) ecb_reply_of.Armed refl (tt, tt))
+    (takes_behind (codes "LINKED ") ecb_reply_text (λ r. IsEcbReplyInRange r × IsEcbReplyTyped r) _ _
+    (behind_made (codes "LINKED ") ecb_reply_text (λ r. IsEcbReplyInRange r × IsEcbReplyTyped r) (λ x. ecb_reply_of.Linked x) decimal
+    (λ x. (1 ≤ x) × (x ≤ highest_ecb_code)) (number true 1 highest_ecb_code) (λ x. refl) (λ x h. (h, tt)) takes_exit)
+    (takes_behind (codes "COMPLETE ") ecb_reply_text (λ r. IsEcbReplyInRange r × IsEcbReplyTyped r) _ _
+    (behind_made (codes "COMPLETE ") ecb_reply_text (λ r. IsEcbReplyInRange r × IsEcbReplyTyped r) (λ x. ecb_reply_of.Complete x)
+    decimal (λ x. x ≤ highest_ecb_code) (number true 0 highest_ecb_code) (λ x. refl) (λ x h. (h, tt)) takes_code)
+    (takes_behind (codes "WAITING") ecb_reply_text (λ r. IsEcbReplyInRange r × IsEcbReplyTyped r) _ _
+    (behind_given (codes "WAITING") ecb_reply_text (λ r. IsEcbReplyInRange r × IsEcbReplyTyped r) ecb_reply_of.Waiting refl (tt, tt))
+    (takes_behind (codes "OPEN") ecb_reply_text (λ r. IsEcbReplyInRange r × IsEcbReplyTyped r) _ _
+    (behind_given (codes "OPEN") ecb_reply_text (λ r. IsEcbReplyInRange r × IsEcbReplyTyped r) ecb_reply_of.Open refl (tt, tt))
+    (takes_behind (codes "POSTED") ecb_reply_text (λ r. IsEcbReplyInRange r × IsEcbReplyTyped r) _ _
+    (behind_given (codes "POSTED") ecb_reply_text (λ r. IsEcbReplyInRange r × IsEcbReplyTyped r) ecb_reply_of.Posted refl (tt, tt))
+    (takes_behind (codes "WOKE ") ecb_reply_text (λ r. IsEcbReplyInRange r × IsEcbReplyTyped r) _ _
+    (behind_made (codes "WOKE ") ecb_reply_text (λ r. IsEcbReplyInRange r × IsEcbReplyTyped r) (λ x. ecb_reply_of.Woke x) decimal
+    (λ x. x ≤ highest_ecb_code) (number true 0 highest_ecb_code) (λ x. refl) (λ x h. (h, tt)) takes_code)
+    (takes_behind (codes "ALREADY ") ecb_reply_text (λ r. IsEcbReplyInRange r × IsEcbReplyTyped r) _ _
+    (behind_made (codes "ALREADY ") ecb_reply_text (λ r. IsEcbReplyInRange r × IsEcbReplyTyped r) (λ x. ecb_reply_of.Already x) decimal
+    (λ x. x ≤ highest_ecb_code) (number true 0 highest_ecb_code) (λ x. refl) (λ x h. (h, tt)) takes_code)
+    (takes_behind (codes "WORD ") ecb_reply_text (λ r. IsEcbReplyInRange r × IsEcbReplyTyped r) _ _
+    (behind_made (codes "WORD ") ecb_reply_text (λ r. IsEcbReplyInRange r × IsEcbReplyTyped r) (λ x. ecb_reply_of.Word x) decimal
+    (λ x. x ≤ highest_u32) (any_u32 true) (λ x. refl) (λ x h. (tt, h)) takes_u32)
     (takes_nothing ecb_reply_text (λ r. IsEcbReplyInRange r × IsEcbReplyTyped r))))))))))
 
 -- ---- pause elements
@@ -78,9 +100,11 @@ unfolding phase
 takes_phase =
     takes_behind (codes "FREE") phase_text (λ p. Unit {0}) _ _ (behind_given (codes "FREE") phase_text (λ p. Unit {0}) Free refl tt)
     (takes_behind (codes "RESET") phase_text (λ p. Unit {0}) _ _ (behind_given (codes "RESET") phase_text (λ p. Unit {0}) Reset refl tt)
-    (takes_behind (codes "PRERELEASED") phase_text (λ p. Unit {0}) _ _ (behind_given (codes "PRERELEASED") phase_text (λ p. Unit {0}) Prereleased refl tt)
+    (takes_behind (codes "PRERELEASED") phase_text (λ p. Unit {0}) _ _
+    (behind_given (codes "PRERELEASED") phase_text (λ p. Unit {0}) Prereleased refl tt)
     (takes_behind (codes "PAUSED") phase_text (λ p. Unit {0}) _ _ (behind_given (codes "PAUSED") phase_text (λ p. Unit {0}) Paused refl tt)
-    (takes_behind (codes "RELEASED") phase_text (λ p. Unit {0}) _ _ (behind_given (codes "RELEASED") phase_text (λ p. Unit {0}) Released refl tt)
+    (takes_behind (codes "RELEASED") phase_text (λ p. Unit {0}) _ _
+    (behind_given (codes "RELEASED") phase_text (λ p. Unit {0}) Released refl tt)
     (takes_nothing phase_text (λ p. Unit {0}))))))
 
 takes_kept : (p : Phase) → Takes decimal (λ n. n ≤ highest_kept p) (kept_code true p)
@@ -112,10 +136,13 @@ state_fine g Released d lg ld = (lg, ld)
 takes_state : Takes state_text (λ s. IsStateFine s) (element_state true)
 unfolding element_state
 takes_state =
-    takes_made state_text (λ s. IsStateFine s) (λ x. state_in x.1.0 x.0 x.1.1) parts_text (λ x. AreParts x) (parted (reached_generation true) (parted_by phase (kept_code true)))
+    takes_made state_text (λ s. IsStateFine s) (λ x. state_in x.1.0 x.0 x.1.1) parts_text (λ x. AreParts x)
+    (parted (reached_generation true) (parted_by phase (kept_code true)))
     (λ x h. parts_are x.0 x.1.0 x.1.1 h.1.1) (λ x h. state_fine x.0 x.1.0 x.1.1 h.0 h.1.1)
-    (takes_parted (reached_generation true) (λ _. parted_by phase (kept_code true)) decimal (λ q. phase_text q.0 <+> decimal q.1) (λ n. n ≤ highest_generation) (λ _ q. Unit {0} × (q.1 ≤ highest_kept q.0)) takes_generation
-    (λ _ _. takes_parted phase (kept_code true) phase_text decimal (λ p. Unit {0}) (λ p d. d ≤ highest_kept p) takes_phase (λ p _. takes_kept p)))
+    (takes_parted (reached_generation true) (λ _. parted_by phase (kept_code true)) decimal (λ q. phase_text q.0 <+> decimal q.1)
+    (λ n. n ≤ highest_generation) (λ _ q. Unit {0} × (q.1 ≤ highest_kept q.0)) takes_generation
+    (λ _ _. takes_parted phase (kept_code true) phase_text decimal (λ p. Unit {0}) (λ p d. d ≤ highest_kept p) takes_phase
+    (λ p _. takes_kept p)))
 
 abbrev pub pair_text : ℕ × ℕ → List ℕ
 pair_text p = decimal p.0 <+> decimal p.1
@@ -123,34 +150,65 @@ pair_text p = decimal p.0 <+> decimal p.1
 takes_element_op : Takes element_op_text (λ op. IsElementOpInRange op × IsElementOpTyped op) (element_op true)
 unfolding element_op
 takes_element_op =
-    takes_behind (codes "OPEN") element_op_text (λ op. IsElementOpInRange op × IsElementOpTyped op) _ _ (behind_given (codes "OPEN") element_op_text (λ op. IsElementOpInRange op × IsElementOpTyped op) element_op_of.Open refl (tt, tt))
-    (takes_behind (codes "PAUSE ") element_op_text (λ op. IsElementOpInRange op × IsElementOpTyped op) _ _ (behind_made (codes "PAUSE ") element_op_text (λ op. IsElementOpInRange op × IsElementOpTyped op) (λ x. element_op_of.Pause x) decimal (λ x. x ≤ highest_u32) (any_u32 true) (λ x. refl) (λ x h. (tt, h)) takes_u32)
-    (takes_behind (codes "RESUME ") element_op_text (λ op. IsElementOpInRange op × IsElementOpTyped op) _ _ (behind_made (codes "RESUME ") element_op_text (λ op. IsElementOpInRange op × IsElementOpTyped op) (λ x. element_op_of.Resume x) decimal (λ x. x ≤ highest_u32) (any_u32 true) (λ x. refl) (λ x h. (tt, h)) takes_u32)
-    (takes_behind (codes "RELEASE ") element_op_text (λ op. IsElementOpInRange op × IsElementOpTyped op) _ _ (behind_made (codes "RELEASE ") element_op_text (λ op. IsElementOpInRange op × IsElementOpTyped op) (λ x. element_op_of.Release x.0 x.1) pair_text (λ x. (x.0 ≤ highest_u32) × (x.1 ≤ highest_release_code)) (parted (any_u32 true) (release_code true)) (λ x. refl) (λ x h. (h.1, h.0)) (takes_parted (any_u32 true) (λ _. release_code true) decimal decimal (λ n. n ≤ highest_u32) (λ _ n. n ≤ highest_release_code) takes_u32 (λ _ _. takes_release)))
-    (takes_behind (codes "CLOSE ") element_op_text (λ op. IsElementOpInRange op × IsElementOpTyped op) _ _ (behind_made (codes "CLOSE ") element_op_text (λ op. IsElementOpInRange op × IsElementOpTyped op) (λ x. element_op_of.Close x) decimal (λ x. x ≤ highest_u32) (any_u32 true) (λ x. refl) (λ x h. (tt, h)) takes_u32)
-    (takes_behind (codes "TEST") element_op_text (λ op. IsElementOpInRange op × IsElementOpTyped op) _ _ (behind_given (codes "TEST") element_op_text (λ op. IsElementOpInRange op × IsElementOpTyped op) element_op_of.Test refl (tt, tt))
+    takes_behind (codes "OPEN") element_op_text (λ op. IsElementOpInRange op × IsElementOpTyped op) _ _
+    (behind_given (codes "OPEN") element_op_text (λ op. IsElementOpInRange op × IsElementOpTyped op) element_op_of.Open refl (tt, tt))
+    (takes_behind (codes "PAUSE ") element_op_text (λ op. IsElementOpInRange op × IsElementOpTyped op) _ _
+    (behind_made (codes "PAUSE ") element_op_text (λ op. IsElementOpInRange op × IsElementOpTyped op) (λ x. element_op_of.Pause x)
+    decimal (λ x. x ≤ highest_u32) (any_u32 true) (λ x. refl) (λ x h. (tt, h)) takes_u32)
+    (takes_behind (codes "RESUME ") element_op_text (λ op. IsElementOpInRange op × IsElementOpTyped op) _ _
+    (behind_made (codes "RESUME ") element_op_text (λ op. IsElementOpInRange op × IsElementOpTyped op) (λ x. element_op_of.Resume x)
+    decimal (λ x. x ≤ highest_u32) (any_u32 true) (λ x. refl) (λ x h. (tt, h)) takes_u32)
+    (takes_behind (codes "RELEASE ") element_op_text (λ op. IsElementOpInRange op × IsElementOpTyped op) _ _
+    (behind_made (codes "RELEASE ") element_op_text (λ op. IsElementOpInRange op × IsElementOpTyped op)
+    (λ x. element_op_of.Release x.0 x.1) pair_text (λ x. (x.0 ≤ highest_u32) × (x.1 ≤ highest_release_code))
+    (parted (any_u32 true) (release_code true)) (λ x. refl) (λ x h. (h.1, h.0))
+    (takes_parted (any_u32 true) (λ _. release_code true) decimal decimal (λ n. n ≤ highest_u32) (λ _ n. n ≤ highest_release_code)
+    takes_u32 (λ _ _. takes_release)))
+    (takes_behind (codes "CLOSE ") element_op_text (λ op. IsElementOpInRange op × IsElementOpTyped op) _ _
+    (behind_made (codes "CLOSE ") element_op_text (λ op. IsElementOpInRange op × IsElementOpTyped op) (λ x. element_op_of.Close x)
+    decimal (λ x. x ≤ highest_u32) (any_u32 true) (λ x. refl) (λ x h. (tt, h)) takes_u32)
+    (takes_behind (codes "TEST") element_op_text (λ op. IsElementOpInRange op × IsElementOpTyped op) _ _
+    (behind_given (codes "TEST") element_op_text (λ op. IsElementOpInRange op × IsElementOpTyped op) element_op_of.Test refl (tt, tt))
     (takes_nothing element_op_text (λ op. IsElementOpInRange op × IsElementOpTyped op)))))))
 
 takes_telling : Takes element_reply_text (λ r. IsElementReplyInRange r) (telling_reply true)
 unfolding telling_reply
 takes_telling =
-    takes_behind (codes "OPENED ") element_reply_text (λ r. IsElementReplyInRange r) _ _ (behind_made (codes "OPENED ") element_reply_text (λ r. IsElementReplyInRange r) (λ x. element_reply_of.Opened x) decimal (λ x. x ≤ highest_generation) (reached_generation true) (λ x. refl) (λ x h. h) takes_generation)
-    (takes_behind (codes "GIVEN ") element_reply_text (λ r. IsElementReplyInRange r) _ _ (behind_made (codes "GIVEN ") element_reply_text (λ r. IsElementReplyInRange r) (λ x. element_reply_of.Given x.0 x.1) pair_text (λ x. (x.0 ≤ highest_release_code) × (x.1 ≤ highest_generation)) (parted (release_code true) (reached_generation true)) (λ x. refl) (λ x h. h) (takes_parted (release_code true) (λ _. reached_generation true) decimal decimal (λ n. n ≤ highest_release_code) (λ _ n. n ≤ highest_generation) takes_release (λ _ _. takes_generation)))
-    (takes_behind (codes "SPENT ") element_reply_text (λ r. IsElementReplyInRange r) _ _ (behind_made (codes "SPENT ") element_reply_text (λ r. IsElementReplyInRange r) (λ x. element_reply_of.Spent x) decimal (λ x. x ≤ highest_generation) (reached_generation true) (λ x. refl) (λ x h. h) takes_generation)
-    (takes_behind (codes "STATE ") element_reply_text (λ r. IsElementReplyInRange r) _ _ (behind_made (codes "STATE ") element_reply_text (λ r. IsElementReplyInRange r) (λ s. element_reply_of.State s) state_text (λ s. IsStateFine s) (element_state true) (λ s. refl) (λ s h. h) takes_state)
+    takes_behind (codes "OPENED ") element_reply_text (λ r. IsElementReplyInRange r) _ _
+    (behind_made (codes "OPENED ") element_reply_text (λ r. IsElementReplyInRange r) (λ x. element_reply_of.Opened x) decimal
+    (λ x. x ≤ highest_generation) (reached_generation true) (λ x. refl) (λ x h. h) takes_generation)
+    (takes_behind (codes "GIVEN ") element_reply_text (λ r. IsElementReplyInRange r) _ _
+    (behind_made (codes "GIVEN ") element_reply_text (λ r. IsElementReplyInRange r) (λ x. element_reply_of.Given x.0 x.1) pair_text
+    (λ x. (x.0 ≤ highest_release_code) × (x.1 ≤ highest_generation)) (parted (release_code true) (reached_generation true)) (λ x. refl)
+    (λ x h. h) (takes_parted (release_code true) (λ _. reached_generation true) decimal decimal (λ n. n ≤ highest_release_code)
+    (λ _ n. n ≤ highest_generation) takes_release (λ _ _. takes_generation)))
+    (takes_behind (codes "SPENT ") element_reply_text (λ r. IsElementReplyInRange r) _ _
+    (behind_made (codes "SPENT ") element_reply_text (λ r. IsElementReplyInRange r) (λ x. element_reply_of.Spent x) decimal
+    (λ x. x ≤ highest_generation) (reached_generation true) (λ x. refl) (λ x h. h) takes_generation)
+    (takes_behind (codes "STATE ") element_reply_text (λ r. IsElementReplyInRange r) _ _
+    (behind_made (codes "STATE ") element_reply_text (λ r. IsElementReplyInRange r) (λ s. element_reply_of.State s) state_text
+    (λ s. IsStateFine s) (element_state true) (λ s. refl) (λ s h. h) takes_state)
     (takes_nothing element_reply_text (λ r. IsElementReplyInRange r)))))
 
 takes_element_reply : Takes element_reply_text (λ r. IsElementReplyInRange r) (element_reply true)
 unfolding element_reply
 takes_element_reply =
-    takes_behind (codes "INUSE") element_reply_text (λ r. IsElementReplyInRange r) _ _ (behind_given (codes "INUSE") element_reply_text (λ r. IsElementReplyInRange r) element_reply_of.InUse refl tt)
-    (takes_behind (codes "PARKED") element_reply_text (λ r. IsElementReplyInRange r) _ _ (behind_given (codes "PARKED") element_reply_text (λ r. IsElementReplyInRange r) element_reply_of.Parked refl tt)
-    (takes_behind (codes "BUSY") element_reply_text (λ r. IsElementReplyInRange r) _ _ (behind_given (codes "BUSY") element_reply_text (λ r. IsElementReplyInRange r) element_reply_of.Busy refl tt)
-    (takes_behind (codes "NOTYET") element_reply_text (λ r. IsElementReplyInRange r) _ _ (behind_given (codes "NOTYET") element_reply_text (λ r. IsElementReplyInRange r) element_reply_of.NotYet refl tt)
-    (takes_behind (codes "EARLY") element_reply_text (λ r. IsElementReplyInRange r) _ _ (behind_given (codes "EARLY") element_reply_text (λ r. IsElementReplyInRange r) element_reply_of.Early refl tt)
-    (takes_behind (codes "WOKE") element_reply_text (λ r. IsElementReplyInRange r) _ _ (behind_given (codes "WOKE") element_reply_text (λ r. IsElementReplyInRange r) element_reply_of.Woke refl tt)
-    (takes_behind (codes "ALREADY") element_reply_text (λ r. IsElementReplyInRange r) _ _ (behind_given (codes "ALREADY") element_reply_text (λ r. IsElementReplyInRange r) element_reply_of.Already refl tt)
-    (takes_behind (codes "CLOSED") element_reply_text (λ r. IsElementReplyInRange r) _ _ (behind_given (codes "CLOSED") element_reply_text (λ r. IsElementReplyInRange r) element_reply_of.Closed refl tt)
+    takes_behind (codes "INUSE") element_reply_text (λ r. IsElementReplyInRange r) _ _
+    (behind_given (codes "INUSE") element_reply_text (λ r. IsElementReplyInRange r) element_reply_of.InUse refl tt)
+    (takes_behind (codes "PARKED") element_reply_text (λ r. IsElementReplyInRange r) _ _
+    (behind_given (codes "PARKED") element_reply_text (λ r. IsElementReplyInRange r) element_reply_of.Parked refl tt)
+    (takes_behind (codes "BUSY") element_reply_text (λ r. IsElementReplyInRange r) _ _
+    (behind_given (codes "BUSY") element_reply_text (λ r. IsElementReplyInRange r) element_reply_of.Busy refl tt)
+    (takes_behind (codes "NOTYET") element_reply_text (λ r. IsElementReplyInRange r) _ _
+    (behind_given (codes "NOTYET") element_reply_text (λ r. IsElementReplyInRange r) element_reply_of.NotYet refl tt)
+    (takes_behind (codes "EARLY") element_reply_text (λ r. IsElementReplyInRange r) _ _
+    (behind_given (codes "EARLY") element_reply_text (λ r. IsElementReplyInRange r) element_reply_of.Early refl tt)
+    (takes_behind (codes "WOKE") element_reply_text (λ r. IsElementReplyInRange r) _ _
+    (behind_given (codes "WOKE") element_reply_text (λ r. IsElementReplyInRange r) element_reply_of.Woke refl tt)
+    (takes_behind (codes "ALREADY") element_reply_text (λ r. IsElementReplyInRange r) _ _
+    (behind_given (codes "ALREADY") element_reply_text (λ r. IsElementReplyInRange r) element_reply_of.Already refl tt)
+    (takes_behind (codes "CLOSED") element_reply_text (λ r. IsElementReplyInRange r) _ _
+    (behind_given (codes "CLOSED") element_reply_text (λ r. IsElementReplyInRange r) element_reply_of.Closed refl tt)
     (takes_telling))))))))
 
 -- ---- volumes
@@ -158,15 +216,21 @@ takes_element_reply =
 takes_volume_op : Takes volume_op_text (λ op. IsVolumeOpTyped op) (volume_op true)
 unfolding volume_op
 takes_volume_op =
-    takes_behind (codes "READ") volume_op_text (λ op. IsVolumeOpTyped op) _ _ (behind_given (codes "READ") volume_op_text (λ op. IsVolumeOpTyped op) Read refl tt)
-    (takes_behind (codes "WRITE ") volume_op_text (λ op. IsVolumeOpTyped op) _ _ (behind_made (codes "WRITE ") volume_op_text (λ op. IsVolumeOpTyped op) (λ x. Write x) decimal (λ x. x ≤ highest_u32) (any_u32 true) (λ x. refl) (λ x h. h) takes_u32)
+    takes_behind (codes "READ") volume_op_text (λ op. IsVolumeOpTyped op) _ _
+    (behind_given (codes "READ") volume_op_text (λ op. IsVolumeOpTyped op) Read refl tt)
+    (takes_behind (codes "WRITE ") volume_op_text (λ op. IsVolumeOpTyped op) _ _
+    (behind_made (codes "WRITE ") volume_op_text (λ op. IsVolumeOpTyped op) (λ x. Write x) decimal (λ x. x ≤ highest_u32) (any_u32 true)
+    (λ x. refl) (λ x h. h) takes_u32)
     (takes_nothing volume_op_text (λ op. IsVolumeOpTyped op)))
 
 takes_volume_reply : Takes volume_reply_text (λ r. IsVolumeReplyTyped r) (volume_reply true)
 unfolding volume_reply
 takes_volume_reply =
-    takes_behind (codes "VALUE ") volume_reply_text (λ r. IsVolumeReplyTyped r) _ _ (behind_made (codes "VALUE ") volume_reply_text (λ r. IsVolumeReplyTyped r) (λ x. Value x) decimal (λ x. x ≤ highest_u32) (any_u32 true) (λ x. refl) (λ x h. h) takes_u32)
-    (takes_behind (codes "STORED") volume_reply_text (λ r. IsVolumeReplyTyped r) _ _ (behind_given (codes "STORED") volume_reply_text (λ r. IsVolumeReplyTyped r) Stored refl tt)
+    takes_behind (codes "VALUE ") volume_reply_text (λ r. IsVolumeReplyTyped r) _ _
+    (behind_made (codes "VALUE ") volume_reply_text (λ r. IsVolumeReplyTyped r) (λ x. Value x) decimal (λ x. x ≤ highest_u32)
+    (any_u32 true) (λ x. refl) (λ x h. h) takes_u32)
+    (takes_behind (codes "STORED") volume_reply_text (λ r. IsVolumeReplyTyped r) _ _
+    (behind_given (codes "STORED") volume_reply_text (λ r. IsVolumeReplyTyped r) Stored refl tt)
     (takes_nothing volume_reply_text (λ r. IsVolumeReplyTyped r)))
 
 -- ---- the latch set
@@ -181,9 +245,13 @@ takes_mode =
 takes_form : Takes form_text (λ f. IsFormTyped f) (form_read true)
 unfolding form_read
 takes_form =
-    takes_behind (codes "C") form_text (λ f. IsFormTyped f) _ _ (behind_given (codes "C") form_text (λ f. IsFormTyped f) form.Conditional refl tt)
-    (takes_behind (codes "W") form_text (λ f. IsFormTyped f) _ _ (behind_given (codes "W") form_text (λ f. IsFormTyped f) form.Waiting refl tt)
-    (takes_behind (codes "P") form_text (λ f. IsFormTyped f) _ _ (behind_made (codes "P") form_text (λ f. IsFormTyped f) (λ x. form.Posted x) decimal (λ x. x ≤ highest_u32) (any_u32 true) (λ x. refl) (λ x h. h) takes_u32)
+    takes_behind (codes "C") form_text (λ f. IsFormTyped f) _ _
+    (behind_given (codes "C") form_text (λ f. IsFormTyped f) form.Conditional refl tt)
+    (takes_behind (codes "W") form_text (λ f. IsFormTyped f) _ _
+    (behind_given (codes "W") form_text (λ f. IsFormTyped f) form.Waiting refl tt)
+    (takes_behind (codes "P") form_text (λ f. IsFormTyped f) _ _
+    (behind_made (codes "P") form_text (λ f. IsFormTyped f) (λ x. form.Posted x) decimal (λ x. x ≤ highest_u32) (any_u32 true)
+    (λ x. refl) (λ x h. h) takes_u32)
     (takes_nothing form_text (λ f. IsFormTyped f))))
 
 takes_condition : Takes condition_text (λ b. Unit {0}) (condition)
@@ -194,33 +262,63 @@ takes_condition =
     (takes_nothing condition_text (λ b. Unit {0})))
 
 pub takes_two : Takes pair_text (λ x. (x.0 ≤ highest_u32) × (x.1 ≤ highest_u32)) (two_u32 true)
-takes_two = takes_parted (any_u32 true) (λ _. any_u32 true) decimal decimal (λ n. n ≤ highest_u32) (λ _ n. n ≤ highest_u32) takes_u32 (λ _ _. takes_u32)
+takes_two =
+    takes_parted (any_u32 true) (λ _. any_u32 true) decimal decimal (λ n. n ≤ highest_u32) (λ _ n. n ≤ highest_u32) takes_u32
+    (λ _ _. takes_u32)
 
 takes_latch_op : Takes latch_op_text (λ op. IsLatchOpTyped op) (latch_op true)
 unfolding latch_op obtain release obtain_rest
 takes_latch_op =
-    takes_behind (codes "OBTAIN ") latch_op_text (λ op. IsLatchOpTyped op) _ _ (behind_made (codes "OBTAIN ") latch_op_text (λ op. IsLatchOpTyped op) (λ x. latch_op_of.Obtain x.0 x.1.0 x.1.1.0 x.1.1.1) (λ x. decimal x.0 <+> decimal x.1.0 <+> mode_text x.1.1.0 <+> form_text x.1.1.1) (λ x. (x.0 ≤ highest_u32) × ((x.1.0 ≤ highest_u64) × (Unit {0} × IsFormTyped x.1.1.1)))
+    takes_behind (codes "OBTAIN ") latch_op_text (λ op. IsLatchOpTyped op) _ _
+    (behind_made (codes "OBTAIN ") latch_op_text (λ op. IsLatchOpTyped op) (λ x. latch_op_of.Obtain x.0 x.1.0 x.1.1.0 x.1.1.1)
+    (λ x. decimal x.0 <+> decimal x.1.0 <+> mode_text x.1.1.0 <+> form_text x.1.1.1)
+    (λ x. (x.0 ≤ highest_u32) × ((x.1.0 ≤ highest_u64) × (Unit {0} × IsFormTyped x.1.1.1)))
     (parted (any_u32 true) (parted (any_u64 true) (parted mode_read (form_read true)))) (λ x. refl) (λ x h. (h.0, h.1.0, h.1.1.1))
-    (takes_parted (any_u32 true) (λ _. parted (any_u64 true) (parted mode_read (form_read true))) decimal (λ y. decimal y.0 <+> mode_text y.1.0 <+> form_text y.1.1) (λ n. n ≤ highest_u32) (λ _ y. (y.0 ≤ highest_u64) × (Unit {0} × IsFormTyped y.1.1)) takes_u32
-    (λ _ _. takes_parted (any_u64 true) (λ _. parted mode_read (form_read true)) decimal (λ z. mode_text z.0 <+> form_text z.1) (λ n. n ≤ highest_u64) (λ _ z. Unit {0} × IsFormTyped z.1) takes_u64
-    (λ _ _. takes_parted mode_read (λ _. form_read true) mode_text form_text (λ m. Unit {0}) (λ _ f. IsFormTyped f) takes_mode (λ _ _. takes_form)))))
-    (takes_behind (codes "CONFIRM ") latch_op_text (λ op. IsLatchOpTyped op) _ _ (behind_made (codes "CONFIRM ") latch_op_text (λ op. IsLatchOpTyped op) (λ x. latch_op_of.Confirm x.0 x.1) pair_text (λ x. (x.0 ≤ highest_u32) × (x.1 ≤ highest_u32)) (two_u32 true) (λ x. refl) (λ x h. h) takes_two)
-    (takes_behind (codes "RELEASE ") latch_op_text (λ op. IsLatchOpTyped op) _ _ (behind_made (codes "RELEASE ") latch_op_text (λ op. IsLatchOpTyped op) (λ x. latch_op_of.Release x.0 x.1.0 x.1.1) (λ x. decimal x.0 <+> decimal x.1.0 <+> condition_text x.1.1) (λ x. (x.0 ≤ highest_u32) × ((x.1.0 ≤ highest_u32) × Unit {0})) (parted (any_u32 true) (parted (any_u32 true) condition)) (λ x. refl) (λ x h. (h.0, h.1.0))
-    (takes_parted (any_u32 true) (λ _. parted (any_u32 true) condition) decimal (λ y. decimal y.0 <+> condition_text y.1) (λ n. n ≤ highest_u32) (λ _ y. (y.0 ≤ highest_u32) × Unit {0}) takes_u32
-    (λ _ _. takes_parted (any_u32 true) (λ _. condition) decimal condition_text (λ n. n ≤ highest_u32) (λ _ b. Unit {0}) takes_u32 (λ _ _. takes_condition))))
-    (takes_behind (codes "PURGE ") latch_op_text (λ op. IsLatchOpTyped op) _ _ (behind_made (codes "PURGE ") latch_op_text (λ op. IsLatchOpTyped op) (λ x. latch_op_of.Purge x) decimal (λ x. x ≤ highest_u64) (any_u64 true) (λ x. refl) (λ x h. h) takes_u64)
+    (takes_parted (any_u32 true) (λ _. parted (any_u64 true) (parted mode_read (form_read true))) decimal
+    (λ y. decimal y.0 <+> mode_text y.1.0 <+> form_text y.1.1) (λ n. n ≤ highest_u32)
+    (λ _ y. (y.0 ≤ highest_u64) × (Unit {0} × IsFormTyped y.1.1)) takes_u32
+    (λ _ _. takes_parted (any_u64 true) (λ _. parted mode_read (form_read true)) decimal (λ z. mode_text z.0 <+> form_text z.1)
+    (λ n. n ≤ highest_u64) (λ _ z. Unit {0} × IsFormTyped z.1) takes_u64
+    (λ _ _. takes_parted mode_read (λ _. form_read true) mode_text form_text (λ m. Unit {0}) (λ _ f. IsFormTyped f) takes_mode
+    (λ _ _. takes_form)))))
+    (takes_behind (codes "CONFIRM ") latch_op_text (λ op. IsLatchOpTyped op) _ _
+    (behind_made (codes "CONFIRM ") latch_op_text (λ op. IsLatchOpTyped op) (λ x. latch_op_of.Confirm x.0 x.1) pair_text
+    (λ x. (x.0 ≤ highest_u32) × (x.1 ≤ highest_u32)) (two_u32 true) (λ x. refl) (λ x h. h) takes_two)
+    (takes_behind (codes "RELEASE ") latch_op_text (λ op. IsLatchOpTyped op) _ _
+    (behind_made (codes "RELEASE ") latch_op_text (λ op. IsLatchOpTyped op) (λ x. latch_op_of.Release x.0 x.1.0 x.1.1)
+    (λ x. decimal x.0 <+> decimal x.1.0 <+> condition_text x.1.1) (λ x. (x.0 ≤ highest_u32) × ((x.1.0 ≤ highest_u32) × Unit {0}))
+    (parted (any_u32 true) (parted (any_u32 true) condition)) (λ x. refl) (λ x h. (h.0, h.1.0))
+    (takes_parted (any_u32 true) (λ _. parted (any_u32 true) condition) decimal (λ y. decimal y.0 <+> condition_text y.1)
+    (λ n. n ≤ highest_u32) (λ _ y. (y.0 ≤ highest_u32) × Unit {0}) takes_u32
+    (λ _ _. takes_parted (any_u32 true) (λ _. condition) decimal condition_text (λ n. n ≤ highest_u32) (λ _ b. Unit {0}) takes_u32
+    (λ _ _. takes_condition))))
+    (takes_behind (codes "PURGE ") latch_op_text (λ op. IsLatchOpTyped op) _ _
+    (behind_made (codes "PURGE ") latch_op_text (λ op. IsLatchOpTyped op) (λ x. latch_op_of.Purge x) decimal (λ x. x ≤ highest_u64)
+    (any_u64 true) (λ x. refl) (λ x h. h) takes_u64)
     (takes_nothing latch_op_text (λ op. IsLatchOpTyped op)))))
 
 takes_latch_reply : Takes latch_reply_text (λ r. IsLatchReplyTyped r) (latch_reply true)
 unfolding latch_reply
 takes_latch_reply =
-    takes_behind (codes "GRANTED ") latch_reply_text (λ r. IsLatchReplyTyped r) _ _ (behind_made (codes "GRANTED ") latch_reply_text (λ r. IsLatchReplyTyped r) (λ x. latch_reply_of.Granted x) decimal (λ x. x ≤ highest_u32) (any_u32 true) (λ x. refl) (λ x h. h) takes_u32)
-    (takes_behind (codes "QUEUED ") latch_reply_text (λ r. IsLatchReplyTyped r) _ _ (behind_made (codes "QUEUED ") latch_reply_text (λ r. IsLatchReplyTyped r) (λ x. latch_reply_of.Queued x) decimal (λ x. x ≤ highest_u32) (any_u32 true) (λ x. refl) (λ x h. h) takes_u32)
-    (takes_behind (codes "NOTNOW ") latch_reply_text (λ r. IsLatchReplyTyped r) _ _ (behind_made (codes "NOTNOW ") latch_reply_text (λ r. IsLatchReplyTyped r) (λ x. latch_reply_of.NotNow x) decimal (λ x. x ≤ highest_u32) (any_u32 true) (λ x. refl) (λ x h. h) takes_u32)
-    (takes_behind (codes "WAITING") latch_reply_text (λ r. IsLatchReplyTyped r) _ _ (behind_given (codes "WAITING") latch_reply_text (λ r. IsLatchReplyTyped r) latch_reply_of.Waiting refl tt)
-    (takes_behind (codes "GONE") latch_reply_text (λ r. IsLatchReplyTyped r) _ _ (behind_given (codes "GONE") latch_reply_text (λ r. IsLatchReplyTyped r) latch_reply_of.Gone refl tt)
-    (takes_behind (codes "RELEASED ") latch_reply_text (λ r. IsLatchReplyTyped r) _ _ (behind_made (codes "RELEASED ") latch_reply_text (λ r. IsLatchReplyTyped r) (λ x. latch_reply_of.Released x) decimal (λ x. x ≤ highest_u32) (any_u32 true) (λ x. refl) (λ x h. h) takes_u32)
-    (takes_behind (codes "PURGED ") latch_reply_text (λ r. IsLatchReplyTyped r) _ _ (behind_made (codes "PURGED ") latch_reply_text (λ r. IsLatchReplyTyped r) (λ x. latch_reply_of.Purged x.0 x.1) pair_text (λ x. (x.0 ≤ highest_u32) × (x.1 ≤ highest_u32)) (two_u32 true) (λ x. refl) (λ x h. h) takes_two)
+    takes_behind (codes "GRANTED ") latch_reply_text (λ r. IsLatchReplyTyped r) _ _
+    (behind_made (codes "GRANTED ") latch_reply_text (λ r. IsLatchReplyTyped r) (λ x. latch_reply_of.Granted x) decimal
+    (λ x. x ≤ highest_u32) (any_u32 true) (λ x. refl) (λ x h. h) takes_u32)
+    (takes_behind (codes "QUEUED ") latch_reply_text (λ r. IsLatchReplyTyped r) _ _
+    (behind_made (codes "QUEUED ") latch_reply_text (λ r. IsLatchReplyTyped r) (λ x. latch_reply_of.Queued x) decimal
+    (λ x. x ≤ highest_u32) (any_u32 true) (λ x. refl) (λ x h. h) takes_u32)
+    (takes_behind (codes "NOTNOW ") latch_reply_text (λ r. IsLatchReplyTyped r) _ _
+    (behind_made (codes "NOTNOW ") latch_reply_text (λ r. IsLatchReplyTyped r) (λ x. latch_reply_of.NotNow x) decimal
+    (λ x. x ≤ highest_u32) (any_u32 true) (λ x. refl) (λ x h. h) takes_u32)
+    (takes_behind (codes "WAITING") latch_reply_text (λ r. IsLatchReplyTyped r) _ _
+    (behind_given (codes "WAITING") latch_reply_text (λ r. IsLatchReplyTyped r) latch_reply_of.Waiting refl tt)
+    (takes_behind (codes "GONE") latch_reply_text (λ r. IsLatchReplyTyped r) _ _
+    (behind_given (codes "GONE") latch_reply_text (λ r. IsLatchReplyTyped r) latch_reply_of.Gone refl tt)
+    (takes_behind (codes "RELEASED ") latch_reply_text (λ r. IsLatchReplyTyped r) _ _
+    (behind_made (codes "RELEASED ") latch_reply_text (λ r. IsLatchReplyTyped r) (λ x. latch_reply_of.Released x) decimal
+    (λ x. x ≤ highest_u32) (any_u32 true) (λ x. refl) (λ x h. h) takes_u32)
+    (takes_behind (codes "PURGED ") latch_reply_text (λ r. IsLatchReplyTyped r) _ _
+    (behind_made (codes "PURGED ") latch_reply_text (λ r. IsLatchReplyTyped r) (λ x. latch_reply_of.Purged x.0 x.1) pair_text
+    (λ x. (x.0 ≤ highest_u32) × (x.1 ≤ highest_u32)) (two_u32 true) (λ x. refl) (λ x h. h) takes_two)
     (takes_nothing latch_reply_text (λ r. IsLatchReplyTyped r))))))))
 
 -- ---- entries
@@ -228,10 +326,17 @@ takes_latch_reply =
 takes_object : Takes object_text (λ o. IsObjectTyped o) (object_read true)
 unfolding object_read
 takes_object =
-    takes_behind (codes "E") object_text (λ o. IsObjectTyped o) _ _ (behind_made (codes "E") object_text (λ o. IsObjectTyped o) (λ x. Ecb x) decimal (λ x. x ≤ highest_u32) (any_u32 true) (λ x. refl) (λ x h. h) takes_u32)
-    (takes_behind (codes "P") object_text (λ o. IsObjectTyped o) _ _ (behind_made (codes "P") object_text (λ o. IsObjectTyped o) (λ x. Element x) decimal (λ x. x ≤ highest_u32) (any_u32 true) (λ x. refl) (λ x h. h) takes_u32)
-    (takes_behind (codes "V") object_text (λ o. IsObjectTyped o) _ _ (behind_made (codes "V") object_text (λ o. IsObjectTyped o) (λ x. Volume x) decimal (λ x. x ≤ highest_u32) (any_u32 true) (λ x. refl) (λ x h. h) takes_u32)
-    (takes_behind (codes "L") object_text (λ o. IsObjectTyped o) _ _ (behind_given (codes "L") object_text (λ o. IsObjectTyped o) Latches refl tt)
+    takes_behind (codes "E") object_text (λ o. IsObjectTyped o) _ _
+    (behind_made (codes "E") object_text (λ o. IsObjectTyped o) (λ x. Ecb x) decimal (λ x. x ≤ highest_u32) (any_u32 true) (λ x. refl)
+    (λ x h. h) takes_u32)
+    (takes_behind (codes "P") object_text (λ o. IsObjectTyped o) _ _
+    (behind_made (codes "P") object_text (λ o. IsObjectTyped o) (λ x. Element x) decimal (λ x. x ≤ highest_u32) (any_u32 true)
+    (λ x. refl) (λ x h. h) takes_u32)
+    (takes_behind (codes "V") object_text (λ o. IsObjectTyped o) _ _
+    (behind_made (codes "V") object_text (λ o. IsObjectTyped o) (λ x. Volume x) decimal (λ x. x ≤ highest_u32) (any_u32 true)
+    (λ x. refl) (λ x h. h) takes_u32)
+    (takes_behind (codes "L") object_text (λ o. IsObjectTyped o) _ _
+    (behind_given (codes "L") object_text (λ o. IsObjectTyped o) Latches refl tt)
     (takes_nothing object_text (λ o. IsObjectTyped o)))))
 
 -- what stands behind an entry's object
@@ -246,31 +351,56 @@ pub record IsTail (caller : ℕ) (o : Object) (e : Entry) : Type 0 where
   pub op : IsOpTyped e.op
   pub reply : IsReplyTyped e.reply
 
-takes_event : {O R : Type 0} (op_reader : Reader O) (reply_reader : Reader R) (show : O → List ℕ) (tell : R → List ℕ) (Fine : O → Type 0) (Good : R → Type 0) → Takes show Fine op_reader → Takes tell Good reply_reader
-    → Takes (λ x. decimal x.0 <+> show x.1.0 <+> codes "=" <+> tell x.1.1) (λ x. (x.0 ≤ highest_place) × (Fine x.1.0 × Good x.1.1)) (event true op_reader reply_reader)
+takes_event : {O R : Type 0} (op_reader : Reader O) (reply_reader : Reader R) (show : O → List ℕ) (tell : R → List ℕ) (Fine : O → Type 0)
+    (Good : R → Type 0) → Takes show Fine op_reader → Takes tell Good reply_reader
+    → Takes (λ x. decimal x.0 <+> show x.1.0 <+> codes "=" <+> tell x.1.1) (λ x. (x.0 ≤ highest_place) × (Fine x.1.0 × Good x.1.1))
+    (event true op_reader reply_reader)
 takes_event op_reader reply_reader show tell Fine Good one two =
-    let sign = takes_behind (codes "= ") (λ r. codes "=" <+> tell r) Good reply_reader nothing (λ text rest a e. let t = two text rest a e in (ap (λ (x : List ℕ). 61 ∷ 32 ∷ x) t.0, t.1)) (takes_nothing (λ r. codes "=" <+> tell r) Good) in
-    takes_parted (number true 0 highest_place) (λ _. parted op_reader (behind (codes "= ") reply_reader nothing)) decimal (λ x. show x.0 <+> codes "=" <+> tell x.1) (λ n. n ≤ highest_place) (λ _ x. Fine x.0 × Good x.1)
+    let sign =
+    takes_behind (codes "= ") (λ r. codes "=" <+> tell r) Good reply_reader nothing
+    (λ text rest a e. let t = two text rest a e in (ap (λ (x : List ℕ). 61 ∷ 32 ∷ x) t.0, t.1))
+    (takes_nothing (λ r. codes "=" <+> tell r) Good) in
+    takes_parted (number true 0 highest_place) (λ _. parted op_reader (behind (codes "= ") reply_reader nothing)) decimal
+    (λ x. show x.0 <+> codes "=" <+> tell x.1) (λ n. n ≤ highest_place) (λ _ x. Fine x.0 × Good x.1)
     (λ text rest n e. let t = takes_number 0 highest_place (omega arith) text rest n e in (t.0, t.1.1))
-    (λ _ _. takes_parted op_reader (λ _. behind (codes "= ") reply_reader nothing) show (λ r. codes "=" <+> tell r) Fine (λ _ r. Good r) one (λ _ _. sign))
+    (λ _ _. takes_parted op_reader (λ _. behind (codes "= ") reply_reader nothing) show (λ r. codes "=" <+> tell r) Fine (λ _ r. Good r) one
+    (λ _ _. sign))
 
 takes_entry_on : (caller : ℕ) (o : Object) → Takes tail_text (λ e. IsTail caller o e) (entry_on true caller o)
 takes_entry_on caller (Ecb n) =
-    takes_made tail_text (λ e. IsTail caller (Ecb n) e) (λ x. entry_of caller (Ecb n) x.0 (op_on.Ecb x.1.0) (reply_of.Ecb x.1.1)) (λ x. decimal x.0 <+> ecb_op_text x.1.0 <+> codes "=" <+> ecb_reply_text x.1.1) (λ x. (x.0 ≤ highest_place) × (IsEcbOpInRange x.1.0 × (IsEcbReplyInRange x.1.1 × IsEcbReplyTyped x.1.1)))
-    (event true (ecb_op true) (ecb_reply true)) (λ x h. refl) (λ x h. record { caller_is = refl; object_is = refl; place = h.0; event = (h.1.0, h.1.1.0); op = tt; reply = h.1.1.1 })
-    (takes_event (ecb_op true) (ecb_reply true) ecb_op_text ecb_reply_text (λ op. IsEcbOpInRange op) (λ r. IsEcbReplyInRange r × IsEcbReplyTyped r) takes_ecb_op takes_ecb_reply)
+    takes_made tail_text (λ e. IsTail caller (Ecb n) e) (λ x. entry_of caller (Ecb n) x.0 (op_on.Ecb x.1.0) (reply_of.Ecb x.1.1))
+    (λ x. decimal x.0 <+> ecb_op_text x.1.0 <+> codes "=" <+> ecb_reply_text x.1.1)
+    (λ x. (x.0 ≤ highest_place) × (IsEcbOpInRange x.1.0 × (IsEcbReplyInRange x.1.1 × IsEcbReplyTyped x.1.1)))
+    (event true (ecb_op true) (ecb_reply true)) (λ x h. refl)
+    (λ x h. record { caller_is = refl; object_is = refl; place = h.0; event = (h.1.0, h.1.1.0); op = tt; reply = h.1.1.1 })
+    (takes_event (ecb_op true) (ecb_reply true) ecb_op_text ecb_reply_text (λ op. IsEcbOpInRange op)
+    (λ r. IsEcbReplyInRange r × IsEcbReplyTyped r) takes_ecb_op takes_ecb_reply)
 takes_entry_on caller (Element n) =
-    takes_made tail_text (λ e. IsTail caller (Element n) e) (λ x. entry_of caller (Element n) x.0 (op_on.Element x.1.0) (reply_of.Element x.1.1)) (λ x. decimal x.0 <+> element_op_text x.1.0 <+> codes "=" <+> element_reply_text x.1.1) (λ x. (x.0 ≤ highest_place) × ((IsElementOpInRange x.1.0 × IsElementOpTyped x.1.0) × IsElementReplyInRange x.1.1))
-    (event true (element_op true) (element_reply true)) (λ x h. refl) (λ x h. record { caller_is = refl; object_is = refl; place = h.0; event = (h.1.0.0, h.1.1); op = h.1.0.1; reply = tt })
-    (takes_event (element_op true) (element_reply true) element_op_text element_reply_text (λ op. IsElementOpInRange op × IsElementOpTyped op) (λ r. IsElementReplyInRange r) takes_element_op takes_element_reply)
+    takes_made tail_text (λ e. IsTail caller (Element n) e)
+    (λ x. entry_of caller (Element n) x.0 (op_on.Element x.1.0) (reply_of.Element x.1.1))
+    (λ x. decimal x.0 <+> element_op_text x.1.0 <+> codes "=" <+> element_reply_text x.1.1)
+    (λ x. (x.0 ≤ highest_place) × ((IsElementOpInRange x.1.0 × IsElementOpTyped x.1.0) × IsElementReplyInRange x.1.1))
+    (event true (element_op true) (element_reply true)) (λ x h. refl)
+    (λ x h. record { caller_is = refl; object_is = refl; place = h.0; event = (h.1.0.0, h.1.1); op = h.1.0.1; reply = tt })
+    (takes_event (element_op true) (element_reply true) element_op_text element_reply_text
+    (λ op. IsElementOpInRange op × IsElementOpTyped op) (λ r. IsElementReplyInRange r) takes_element_op takes_element_reply)
 takes_entry_on caller (Volume n) =
-    takes_made tail_text (λ e. IsTail caller (Volume n) e) (λ x. entry_of caller (Volume n) x.0 (op_on.Volume x.1.0) (reply_of.Volume x.1.1)) (λ x. decimal x.0 <+> volume_op_text x.1.0 <+> codes "=" <+> volume_reply_text x.1.1) (λ x. (x.0 ≤ highest_place) × (IsVolumeOpTyped x.1.0 × IsVolumeReplyTyped x.1.1))
-    (event true (volume_op true) (volume_reply true)) (λ x h. refl) (λ x h. record { caller_is = refl; object_is = refl; place = h.0; event = tt; op = h.1.0; reply = h.1.1 })
-    (takes_event (volume_op true) (volume_reply true) volume_op_text volume_reply_text (λ op. IsVolumeOpTyped op) (λ r. IsVolumeReplyTyped r) takes_volume_op takes_volume_reply)
+    takes_made tail_text (λ e. IsTail caller (Volume n) e)
+    (λ x. entry_of caller (Volume n) x.0 (op_on.Volume x.1.0) (reply_of.Volume x.1.1))
+    (λ x. decimal x.0 <+> volume_op_text x.1.0 <+> codes "=" <+> volume_reply_text x.1.1)
+    (λ x. (x.0 ≤ highest_place) × (IsVolumeOpTyped x.1.0 × IsVolumeReplyTyped x.1.1))
+    (event true (volume_op true) (volume_reply true)) (λ x h. refl)
+    (λ x h. record { caller_is = refl; object_is = refl; place = h.0; event = tt; op = h.1.0; reply = h.1.1 })
+    (takes_event (volume_op true) (volume_reply true) volume_op_text volume_reply_text (λ op. IsVolumeOpTyped op)
+    (λ r. IsVolumeReplyTyped r) takes_volume_op takes_volume_reply)
 takes_entry_on caller Latches =
-    takes_made tail_text (λ e. IsTail caller Latches e) (λ x. entry_of caller Latches x.0 (op_on.Latch x.1.0) (reply_of.Latch x.1.1)) (λ x. decimal x.0 <+> latch_op_text x.1.0 <+> codes "=" <+> latch_reply_text x.1.1) (λ x. (x.0 ≤ highest_place) × (IsLatchOpTyped x.1.0 × IsLatchReplyTyped x.1.1))
-    (event true (latch_op true) (latch_reply true)) (λ x h. refl) (λ x h. record { caller_is = refl; object_is = refl; place = h.0; event = tt; op = h.1.0; reply = h.1.1 })
-    (takes_event (latch_op true) (latch_reply true) latch_op_text latch_reply_text (λ op. IsLatchOpTyped op) (λ r. IsLatchReplyTyped r) takes_latch_op takes_latch_reply)
+    takes_made tail_text (λ e. IsTail caller Latches e) (λ x. entry_of caller Latches x.0 (op_on.Latch x.1.0) (reply_of.Latch x.1.1))
+    (λ x. decimal x.0 <+> latch_op_text x.1.0 <+> codes "=" <+> latch_reply_text x.1.1)
+    (λ x. (x.0 ≤ highest_place) × (IsLatchOpTyped x.1.0 × IsLatchReplyTyped x.1.1))
+    (event true (latch_op true) (latch_reply true)) (λ x h. refl)
+    (λ x h. record { caller_is = refl; object_is = refl; place = h.0; event = tt; op = h.1.0; reply = h.1.1 })
+    (takes_event (latch_op true) (latch_reply true) latch_op_text latch_reply_text (λ op. IsLatchOpTyped op) (λ r. IsLatchReplyTyped r)
+    takes_latch_op takes_latch_reply)
 
 -- the caller and the object, and what stands behind them
 abbrev FrontAnd : Type 0
@@ -285,17 +415,28 @@ AreFine x = ((x.0.0 ≤ highest_u32) × IsObjectTyped x.0.1) × IsTail x.0.0 x.0
 is_entry : (k : ℕ) (o : Object) (e : Entry) → IsTail k o e → (decimal k <+> object_text o) <+> tail_text e ≡ entry_text e
 unfolding entry_text
 is_entry k o e t =
-    ap (λ (n : ℕ). (decimal n <+> object_text o) <+> tail_text e) (sym t.caller_is) ∙ ap (λ (p : Object). (decimal e.caller <+> object_text p) <+> tail_text e) (sym t.object_is)
+    ap (λ (n : ℕ). (decimal n <+> object_text o) <+> tail_text e) (sym t.caller_is)
+    ∙ ap (λ (p : Object). (decimal e.caller <+> object_text p) <+> tail_text e) (sym t.object_is)
     ∙ append_assoc (decimal e.caller) (32 ∷ object_text e.object) (32 ∷ tail_text e)
 
 has_text : (k : ℕ) (o : Object) (e : Entry) → k ≤ highest_u32 → IsObjectTyped o → IsTail k o e → HasText e
-has_text k o e le t h =
-    (record { place = h.place; event = h.event }, record { caller = omega (arith, h.caller_is); object = subst (λ p. IsObjectTyped p) (sym h.object_is) t; op = h.op; reply = h.reply })
+has_text k o e le t h = (
+  record { place = h.place; event = h.event },
+  record {
+    caller = omega (arith, h.caller_is);
+    object = subst (λ p. IsObjectTyped p) (sym h.object_is) t;
+    op = h.op;
+    reply = h.reply;
+  },
+)
 
 pub takes_entry : Takes entry_text (λ e. HasText e) (entry_read true)
 unfolding entry_read
 takes_entry =
-    takes_made entry_text (λ e. HasText e) (λ x. x.1) front_and_tail (λ x. AreFine x) (parted_by (parted (any_u32 true) (object_read true)) (λ front. entry_on true front.0 front.1))
+    takes_made entry_text (λ e. HasText e) (λ x. x.1) front_and_tail (λ x. AreFine x)
+    (parted_by (parted (any_u32 true) (object_read true)) (λ front. entry_on true front.0 front.1))
     (λ x h. is_entry x.0.0 x.0.1 x.1 h.1) (λ x h. has_text x.0.0 x.0.1 x.1 h.0.0 h.0.1 h.1)
-    (takes_parted (parted (any_u32 true) (object_read true)) (λ front. entry_on true front.0 front.1) (λ p. decimal p.0 <+> object_text p.1) tail_text (λ p. (p.0 ≤ highest_u32) × IsObjectTyped p.1) (λ p e. IsTail p.0 p.1 e)
-    (takes_parted (any_u32 true) (λ _. object_read true) decimal object_text (λ n. n ≤ highest_u32) (λ _ o. IsObjectTyped o) takes_u32 (λ _ _. takes_object)) (λ p _. takes_entry_on p.0 p.1))
+    (takes_parted (parted (any_u32 true) (object_read true)) (λ front. entry_on true front.0 front.1) (λ p. decimal p.0 <+> object_text p.1)
+    tail_text (λ p. (p.0 ≤ highest_u32) × IsObjectTyped p.1) (λ p e. IsTail p.0 p.1 e)
+    (takes_parted (any_u32 true) (λ _. object_read true) decimal object_text (λ n. n ≤ highest_u32) (λ _ o. IsObjectTyped o) takes_u32
+    (λ _ _. takes_object)) (λ p _. takes_entry_on p.0 p.1))

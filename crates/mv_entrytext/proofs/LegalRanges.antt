@@ -49,7 +49,8 @@ ecb_op_fits c k n ecb_op_of.Clear h = tt
 ecb_op_fits c k n (ecb_op_of.Post d) h = omega (arith, ltb-true d (2 ^ 30) h)
 ecb_op_fits c k n ecb_op_of.Test h = tt
 
-ecb_fits : (op : EcbOp) (s : EcbState) → IsEcbOpInRange op → IsEcbBound s → IsEcbBound (ecb_step op s).0 × IsEcbReplyInRange (ecb_step op s).1
+ecb_fits : (op : EcbOp) (s : EcbState) → IsEcbOpInRange op → IsEcbBound s
+    → IsEcbBound (ecb_step op s).0 × IsEcbReplyInRange (ecb_step op s).1
 ecb_fits op s o b = (grind arith, grind arith)
 
 -- ---- pause elements
@@ -62,10 +63,12 @@ element_op_fits c k n (element_op_of.Release g d) h = omega (arith, ltb-true d (
 element_op_fits c k n (element_op_of.Close g) h = tt
 element_op_fits c k n element_op_of.Test h = tt
 
-code_fits : (op : ElementOp) (s : ElementState) → IsElementOpInRange op → s.code ≤ highest_release_code → (element_step op s).0.code ≤ highest_release_code
+code_fits : (op : ElementOp) (s : ElementState) → IsElementOpInRange op → s.code ≤ highest_release_code
+    → (element_step op s).0.code ≤ highest_release_code
 code_fits op s o b = grind arith
 
-element_fits : (op : ElementOp) (s : ElementState) (place : ℕ) → IsElementOpInRange op → s.code ≤ highest_release_code → FitsItsPlace (record { place = place; state = s }) → place ≤ highest_place → IsElementReplyInRange (element_step op s).1
+element_fits : (op : ElementOp) (s : ElementState) (place : ℕ) → IsElementOpInRange op → s.code ≤ highest_release_code
+    → FitsItsPlace (record { place = place; state = s }) → place ≤ highest_place → IsElementReplyInRange (element_step op s).1
 element_fits op s place o b f le = grind arith
 
 -- ---- along a legal list
@@ -74,21 +77,28 @@ pub record Bounds (s : System) : Type 0 where
   pub ecb : (n : ℕ) → IsEcbBound (s.ecb n).state
   pub element : (n : ℕ) → (s.element n).state.code ≤ highest_release_code
 
-ecb_row : (c : Setup) (s : System) (k n p : ℕ) (op : EcbOp) (r : EcbReply) → IsNext c s (entry_of k (Ecb n) p (op_on.Ecb op) (reply_of.Ecb r)) → Bounds s → IsEcbOpInRange op × IsEcbReplyInRange r
+ecb_row : (c : Setup) (s : System) (k n p : ℕ) (op : EcbOp) (r : EcbReply)
+    → IsNext c s (entry_of k (Ecb n) p (op_on.Ecb op) (reply_of.Ecb r)) → Bounds s → IsEcbOpInRange op × IsEcbReplyInRange r
 ecb_row c s k n p op r h b =
     let fits = ecb_op_fits c k n op (and_parts (ltb k c.callers && ltb n (length c.owners)) (ecb_admitted c k n op) h.admits).1 in
     let is : r ≡ (ecb_step op (s.ecb n).state).1 = cc h.reply in
     (fits, subst (λ (x : EcbReply). IsEcbReplyInRange x) (sym is) (ecb_fits op (s.ecb n).state fits (b.ecb n)).1)
 
-element_row : (c : Setup) (s : System) (k n p : ℕ) (op : ElementOp) (r : ElementReply) → IsNext c s (entry_of k (Element n) p (op_on.Element op) (reply_of.Element r)) → Bounds s → FitsItsPlace (s.element n) → p ≤ highest_place
+element_row : (c : Setup) (s : System) (k n p : ℕ) (op : ElementOp) (r : ElementReply)
+    → IsNext c s (entry_of k (Element n) p (op_on.Element op) (reply_of.Element r)) → Bounds s → FitsItsPlace (s.element n)
+    → p ≤ highest_place
     → IsElementOpInRange op × IsElementReplyInRange r
 element_row c s k n p op r h b f le =
     let fits = element_op_fits c k n op (and_parts (ltb k c.callers && ltb n (element_count c)) (element_admitted c k n op) h.admits).1 in
     let is : r ≡ (element_step op (s.element n).state).1 = cc h.reply in
-    let here : p ≡ (s.element n).place = h.place in
-    (fits, subst (λ (x : ElementReply). IsElementReplyInRange x) (sym is) (element_fits op (s.element n).state (s.element n).place fits (b.element n) f (omega arith)))
+    let here : p ≡ (s.element n).place = h.place in (
+      fits,
+      subst (λ (x : ElementReply). IsElementReplyInRange x) (sym is)
+          (element_fits op (s.element n).state (s.element n).place fits (b.element n) f (omega arith)),
+    )
 
-event_fits : (c : Setup) (s : System) (k : ℕ) (o : Object) (p : ℕ) (op : Op) (r : Reply) → IsNext c s (entry_of k o p op r) → Bounds s → ((n : ℕ) → FitsItsPlace (s.element n)) → p ≤ highest_place → IsEventInRange o op r
+event_fits : (c : Setup) (s : System) (k : ℕ) (o : Object) (p : ℕ) (op : Op) (r : Reply) → IsNext c s (entry_of k o p op r) → Bounds s
+    → ((n : ℕ) → FitsItsPlace (s.element n)) → p ≤ highest_place → IsEventInRange o op r
 event_fits c s k (Ecb n) p (op_on.Ecb op) (reply_of.Ecb r) h b f le = ecb_row c s k n p op r h b
 event_fits c s k (Element n) p (op_on.Element op) (reply_of.Element r) h b f le = element_row c s k n p op r h b (f n) le
 event_fits c s k (Volume n) p (op_on.Volume op) (reply_of.Volume r) h b f le = tt
@@ -102,18 +112,24 @@ event_fits c s k o p op r h b f le = absurd (false≢true h.admits)
 at_each : {A : Type 0} (P : A → Type 0) (f : ℕ → A) (n : ℕ) (a : A) → P a → ((m : ℕ) → P (f m)) → (m : ℕ) → P (with_at f n a m)
 at_each P f n a here there m = elim (eqb m n) as (λ b. P (cond b a (f m))) [ true ↦ here | false ↦ there m ]
 
-bounds_next : (c : Setup) (s : System) (k : ℕ) (o : Object) (p : ℕ) (op : Op) (r : Reply) → IsNext c s (entry_of k o p op r) → Bounds s → Bounds (next s (entry_of k o p op r))
+bounds_next : (c : Setup) (s : System) (k : ℕ) (o : Object) (p : ℕ) (op : Op) (r : Reply) → IsNext c s (entry_of k o p op r) → Bounds s
+    → Bounds (next s (entry_of k o p op r))
 bounds_next c s k (Ecb n) p (op_on.Ecb op) r h b =
     let fits = ecb_op_fits c k n op (and_parts (ltb k c.callers && ltb n (length c.owners)) (ecb_admitted c k n op) h.admits).1 in
     record {
-      ecb = at_each (λ (x : Cell EcbState). IsEcbBound x.state) s.ecb n (turned (s.ecb n) (ecb_step op (s.ecb n).state).0) (ecb_fits op (s.ecb n).state fits (b.ecb n)).0 b.ecb;
+      ecb =
+          at_each (λ (x : Cell EcbState). IsEcbBound x.state) s.ecb n (turned (s.ecb n) (ecb_step op (s.ecb n).state).0)
+          (ecb_fits op (s.ecb n).state fits (b.ecb n)).0 b.ecb;
       element = b.element;
     }
 bounds_next c s k (Element n) p (op_on.Element op) r h b =
     let fits = element_op_fits c k n op (and_parts (ltb k c.callers && ltb n (element_count c)) (element_admitted c k n op) h.admits).1 in
     record {
       ecb = b.ecb;
-      element = at_each (λ (x : Cell ElementState). x.state.code ≤ highest_release_code) s.element n (turned (s.element n) (element_step op (s.element n).state).0) (code_fits op (s.element n).state fits (b.element n)) b.element;
+      element =
+          at_each (λ (x : Cell ElementState). x.state.code ≤ highest_release_code) s.element n
+          (turned (s.element n) (element_step op (s.element n).state).0) (code_fits op (s.element n).state fits (b.element n))
+          b.element;
     }
 bounds_next c s k (Volume n) p (op_on.Volume op) r h b = record { ecb = b.ecb; element = b.element }
 bounds_next c s k Latches p (op_on.Latch op) r h b = record { ecb = b.ecb; element = b.element }
@@ -126,7 +142,8 @@ KeepFitting c s = (es : List Entry) (n : ℕ) → LegalFrom c s es → FitsItsPl
 abbrev pub HaveLowPlaces : List Entry → Type 0
 HaveLowPlaces es = AllByRecursion (λ e. e.place ≤ highest_place) es
 
-fits_from : (c : Setup) (s : System) (es : List Entry) → LegalFrom c s es → HaveLowPlaces es → Bounds s → KeepFitting c s → AllByRecursion IsInRange es
+fits_from : (c : Setup) (s : System) (es : List Entry) → LegalFrom c s es → HaveLowPlaces es → Bounds s → KeepFitting c s
+    → AllByRecursion IsInRange es
 fits_from c s [] l p b k = tt
 fits_from c s (e ∷ es) l p b k = (
   record { place = p.0; event = event_fits c s e.caller e.object e.place e.op e.reply l.0 b (λ n. k [] n tt) p.0 },
@@ -138,7 +155,9 @@ legal_fits c es l p k = fits_from c (opening c) es l p (record { ecb = λ n. tt;
 
 pub legal_in_range : (c : Setup) (es : List Entry) → Legal c es → All (λ e. e.place ≤ highest_place) es → All IsInRange es
 legal_in_range c es l p =
-    All-from_recursion IsInRange es (legal_fits c es l (recursion_from_All (λ e. e.place ≤ highest_place) es p) (λ fs n m. generation_fits c fs n m))
+    All-from_recursion IsInRange es
+    (legal_fits c es l (recursion_from_All (λ e. e.place ≤ highest_place) es p) (λ fs n m. generation_fits c fs n m))
 
-pub legal_journal : (c : Setup) (es : List Entry) → IsValid c → Legal c es → All (λ e. e.place ≤ highest_place) es → All IsTyped es → length es ≤ highest_u32 → HasJournal c es
+pub legal_journal : (c : Setup) (es : List Entry) → IsValid c → Legal c es → All (λ e. e.place ≤ highest_place) es → All IsTyped es
+    → length es ≤ highest_u32 → HasJournal c es
 legal_journal c es v l p t n = record { valid = v; each = λ k d lt. (legal_in_range c es l p k d lt, t k d lt); count = n }

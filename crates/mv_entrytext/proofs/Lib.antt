@@ -1,17 +1,23 @@
+-- numbers, digits, fields and the parts of a text
 pub mod Numbers
+pub mod Digits
+pub mod Fields
 pub mod Parts
+-- what is written is read again: the law `text_determines_journal`
 pub mod OneLine
 pub mod ConfigNumbers
 pub mod Again
 pub mod EntryAgain
 pub mod LinesAgain
-pub mod LegalRanges
+-- what is read strictly is written so: the law `texts_without_fault_are_journals`
 pub mod Taken
 pub mod KindsTaken
 pub mod LinesTaken
 pub mod TextsTaken
-pub mod Digits
-pub mod Fields
-pub mod Passes
+-- legal lists are in range: the law `legal_lists_have_texts`
+pub mod LegalRanges
+-- the one pass of `read_head` and `read_journal`
 pub mod Heads
+pub mod Passes
+-- worked rows
 pub mod Rows

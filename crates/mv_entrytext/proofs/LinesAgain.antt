@@ -56,7 +56,8 @@ quota_read : (q p : ℕ) → q ≤ highest_u32 → p ≤ highest_u32 → line_re
 unfolding next_line count_line behind
 quota_read q p lq lp =
     let both = to_the_end (parted_by (any_u32 true) (λ _. any_u32 true)) (q, p) (decimal q <+> decimal p)
-    (parted_again (any_u32 true) (λ _. any_u32 true) q p (decimal q) (decimal p) [] (u32_again q (32 ∷ (decimal p ++ [])) lq refl) (u32_again p [] lp refl)) in
+    (parted_again (any_u32 true) (λ _. any_u32 true) q p (decimal q) (decimal p) [] (u32_again q (32 ∷ (decimal p ++ [])) lq refl)
+    (u32_again p [] lp refl)) in
     rw both refl
 
 budget_read : (n : ℕ) → n ≤ highest_u32 → line_read true AtBudgets (line_text (Budget n)) ≡ Some (Budget n)
@@ -129,7 +130,8 @@ first_digit : (ds : List ℕ) → 0 < length ds → AllDigits 10 ds → (c : ℕ
 first_digit [] some h = absurd (omega arith)
 first_digit (c ∷ cs) some h = (c, cs, refl, (digit_from_value c h.0).1)
 
-no_end : (reader other : Reader Line) (text : List ℕ) (c : ℕ) (cs : List ℕ) → text ≡ c ∷ cs → c ≤ 57 → behind (codes "END ") reader other text ≡ other text
+no_end : (reader other : Reader Line) (text : List ℕ) (c : ℕ) (cs : List ℕ) → text ≡ c ∷ cs → c ≤ 57
+    → behind (codes "END ") reader other text ≡ other text
 unfolding behind
 no_end reader other text c cs e le = rw (e, ne_eqb 69 c (λ q. omega arith)) refl
 
@@ -139,7 +141,9 @@ entry_line_read e h =
     let more = 32 ∷ (object_text e.object <+> decimal e.place <+> op_text e.op <+> codes "=" <+> reply_text e.reply) in
     let n = numeral_of e.caller (omega (arith, h.1.caller)) in
     let d = first_digit (decimal e.caller) n.0.0 n.0.1 in
-    let other = no_end (made (λ n. End n) (any_u32 true)) (made (λ e. EntryOf e) (entry_read true)) (decimal e.caller ++ more) d.0 (d.1 ++ more) (ap (λ (x : List ℕ). x ++ more) d.2) d.3 in
+    let other =
+    no_end (made (λ n. End n) (any_u32 true)) (made (λ e. EntryOf e) (entry_read true)) (decimal e.caller ++ more) d.0 (d.1 ++ more)
+    (ap (λ (x : List ℕ). x ++ more) d.2) d.3 in
     rw (other, to_the_end (entry_read true) e (decimal e.caller ++ more) (entry_again e h)) refl
 
 -- ---- a line is passed
@@ -158,12 +162,14 @@ goes_on a b c x y z p q = record {
 stays : (d : Draft) (x : List ℕ) → Goes d x d x
 stays d x = record { fault = λ number. (number, refl); draft = refl }
 
-pub fault_passed : (number : ℕ) (d : Draft) (l : Line) (text more : List ℕ) (lines : List (List ℕ)) → line_read true d.stage text ≡ Some l → kind_said d (Some l) ≡ None
+pub fault_passed : (number : ℕ) (d : Draft) (l : Line) (text more : List ℕ) (lines : List (List ℕ)) → line_read true d.stage text ≡ Some l
+    → kind_said d (Some l) ≡ None
     → first_fault number d (text ∷ more ∷ lines) ≡ first_fault (number + 1) (draft_with l d) (more ∷ lines)
 unfolding first_fault
 fault_passed number d l text more lines read said = rw (read, said) refl
 
-pub draft_passed : (d : Draft) (l : Line) (text more : List ℕ) (lines : List (List ℕ)) → line_read true d.stage text ≡ Some l → draft_of d (text ∷ more ∷ lines) ≡ draft_of (draft_with l d) (more ∷ lines)
+pub draft_passed : (d : Draft) (l : Line) (text more : List ℕ) (lines : List (List ℕ)) → line_read true d.stage text ≡ Some l
+    → draft_of d (text ∷ more ∷ lines) ≡ draft_of (draft_with l d) (more ∷ lines)
 unfolding draft_of
 draft_passed d l text more lines read = rw read refl
 
@@ -171,12 +177,19 @@ line_part : (l : Line) (rest : List ℕ) → parts_at 10 (line l ++ rest) ≡ li
 unfolding line
 line_part l rest = ap (parts_at 10) (append_assoc (line_text l) (10 ∷ []) rest) ∙ parts_first 10 (line_text l) rest (is_one_line l)
 
-one_line : (d : Draft) (l : Line) (rest : List ℕ) → line_read true d.stage (line_text l) ≡ Some l → kind_said d (Some l) ≡ None → Goes d (line l ++ rest) (draft_with l d) rest
+one_line : (d : Draft) (l : Line) (rest : List ℕ) → line_read true d.stage (line_text l) ≡ Some l → kind_said d (Some l) ≡ None
+    → Goes d (line l ++ rest) (draft_with l d) rest
 one_line d l rest read said =
     let p = first_part 10 rest in
-    let shape : parts_at 10 (line l ++ rest) ≡ line_text l ∷ p.0 ∷ p.1 = line_part l rest ∙ ap (λ (x : List (List ℕ)). line_text l ∷ x) p.2 in
+    let shape : parts_at 10 (line l ++ rest) ≡ line_text l ∷ p.0 ∷ p.1 =
+    line_part l rest ∙ ap (λ (x : List (List ℕ)). line_text l ∷ x) p.2 in
     record {
-      fault = λ number. (number + 1, ap (first_fault number d) shape ∙ fault_passed number d l (line_text l) p.0 p.1 read said ∙ ap (first_fault (number + 1) (draft_with l d)) (sym p.2));
+      fault =
+          λ number. (
+            number + 1,
+            ap (first_fault number d) shape ∙ fault_passed number d l (line_text l) p.0 p.1 read said
+                ∙ ap (first_fault (number + 1) (draft_with l d)) (sym p.2),
+          );
       draft = ap (draft_of d) shape ∙ draft_passed d l (line_text l) p.0 p.1 read ∙ ap (draft_of (draft_with l d)) (sym p.2);
     }
 
@@ -188,17 +201,20 @@ draft s c es = record { stage = s; setup = c; entries = es }
 text_is : (a b : Draft) (x y z : List ℕ) → x ≡ y → Goes a y b z → Goes a x b z
 text_is a b x y z e g = subst (λ (t : List ℕ). Goes a t b z) (sym e) g
 
-first_of : {A : Type 0} (f : A → List ℕ) (x : A) (xs : List A) (rest : List ℕ) → flat_map f (x ∷ xs) ++ rest ≡ f x ++ (flat_map f xs ++ rest)
+first_of : {A : Type 0} (f : A → List ℕ) (x : A) (xs : List A) (rest : List ℕ)
+    → flat_map f (x ∷ xs) ++ rest ≡ f x ++ (flat_map f xs ++ rest)
 first_of f x xs rest = ap (λ (t : List ℕ). t ++ rest) (flat_map-cons f x xs) ∙ append_assoc (f x) (flat_map f xs) rest
 
-budgets_pass : (ns : List ℕ) (c : Setup) (all rest : List ℕ) → AreU32 ns → all ≡ c.budgets ++ ns → Goes (draft AtBudgets c []) (flat_map (λ n. line (Budget n)) ns ++ rest) (draft AtBudgets (record c { budgets = all }) []) rest
+budgets_pass : (ns : List ℕ) (c : Setup) (all rest : List ℕ) → AreU32 ns → all ≡ c.budgets ++ ns
+    → Goes (draft AtBudgets c []) (flat_map (λ n. line (Budget n)) ns ++ rest) (draft AtBudgets (record c { budgets = all }) []) rest
 budgets_pass [] c all rest h e = rw (e, append-nil c.budgets) (stays (draft AtBudgets c []) rest)
 budgets_pass (n ∷ ns) c all rest h e =
     let f = λ (n : ℕ). line (Budget n) in
     let next = record c { budgets = c.budgets ++ n ∷ [] } in
     let one = one_line (draft AtBudgets c []) (Budget n) (flat_map f ns ++ rest) (budget_read n h.0) refl in
     let later = budgets_pass ns next all rest h.1 (e ∙ sym (append_assoc c.budgets (n ∷ []) ns)) in
-    text_is (draft AtBudgets c []) (draft AtBudgets (record c { budgets = all }) []) _ _ rest (first_of f n ns rest) (goes_on (draft AtBudgets c []) (draft AtBudgets next []) (draft AtBudgets (record c { budgets = all }) []) _ _ _ one later)
+    text_is (draft AtBudgets c []) (draft AtBudgets (record c { budgets = all }) []) _ _ rest (first_of f n ns rest)
+    (goes_on (draft AtBudgets c []) (draft AtBudgets next []) (draft AtBudgets (record c { budgets = all }) []) _ _ _ one later)
 
 own_to_exit : (s : Stage) → MayOwn s → MayExit s
 own_to_exit AtBudgets m = tt
@@ -207,26 +223,37 @@ own_to_exit s m = absurd m
 
 -- behind the owners, and behind the exits, the line that comes next may be an exit
 owners_pass : (ns : List ℕ) (s : Stage) (c : Setup) (all rest : List ℕ) → MayOwn s → AreU32 ns → all ≡ c.owners ++ ns
-    → (t : Stage) × MayExit t × Goes (draft s c []) (flat_map (λ n. line (Owner n)) ns ++ rest) (draft t (record c { owners = all }) []) rest
+    → (t : Stage) × MayExit t × Goes (draft s c []) (flat_map (λ n. line (Owner n)) ns ++ rest) (draft t (record c { owners = all }) [])
+    rest
 owners_pass [] s c all rest m h e = (s, own_to_exit s m, rw (e, append-nil c.owners) (stays (draft s c []) rest))
 owners_pass (n ∷ ns) s c all rest m h e =
     let f = λ (n : ℕ). line (Owner n) in
     let next = record c { owners = c.owners ++ n ∷ [] } in
     let one = one_line (draft s c []) (Owner n) (flat_map f ns ++ rest) (owner_read s n m h.0) refl in
     let later = owners_pass ns AtOwners next all rest tt h.1 (e ∙ sym (append_assoc c.owners (n ∷ []) ns)) in
-    let last = draft later.0 (record c { owners = all }) [] in
-    (later.0, later.1, text_is (draft s c []) last _ _ rest (first_of f n ns rest) (goes_on (draft s c []) (draft AtOwners next []) last _ _ _ one later.2))
+    let last = draft later.0 (record c { owners = all }) [] in (
+      later.0,
+      later.1,
+      text_is (draft s c []) last _ _ rest (first_of f n ns rest)
+          (goes_on (draft s c []) (draft AtOwners next []) last _ _ _ one later.2),
+    )
 
-exits_pass : (xs : List SetupExit) (s : Stage) (c : Setup) (all : List SetupExit) (rest : List ℕ) → MayExit s → AllByRecursion IsExit xs → all ≡ c.exits ++ xs
-    → (t : Stage) × MayExit t × Goes (draft s c []) (flat_map (λ x. line (ExitTo x)) xs ++ rest) (draft t (record c { exits = all }) []) rest
+exits_pass : (xs : List SetupExit) (s : Stage) (c : Setup) (all : List SetupExit) (rest : List ℕ) → MayExit s → AllByRecursion IsExit xs
+    → all ≡ c.exits ++ xs
+    → (t : Stage) × MayExit t × Goes (draft s c []) (flat_map (λ x. line (ExitTo x)) xs ++ rest) (draft t (record c { exits = all }) [])
+    rest
 exits_pass [] s c all rest m h e = (s, m, rw (e, append-nil c.exits) (stays (draft s c []) rest))
 exits_pass (x ∷ xs) s c all rest m h e =
     let f = λ (x : SetupExit). line (ExitTo x) in
     let next = record c { exits = c.exits ++ x ∷ [] } in
     let one = one_line (draft s c []) (ExitTo x) (flat_map f xs ++ rest) (exit_line_read s x m h.0) refl in
     let later = exits_pass xs AtExits next all rest tt h.1 (e ∙ sym (append_assoc c.exits (x ∷ []) xs)) in
-    let last = draft later.0 (record c { exits = all }) [] in
-    (later.0, later.1, text_is (draft s c []) last _ _ rest (first_of f x xs rest) (goes_on (draft s c []) (draft AtExits next []) last _ _ _ one later.2))
+    let last = draft later.0 (record c { exits = all }) [] in (
+      later.0,
+      later.1,
+      text_is (draft s c []) last _ _ rest (first_of f x xs rest)
+          (goes_on (draft s c []) (draft AtExits next []) last _ _ _ one later.2),
+    )
 
 entries_pass : (es : List Entry) (c : Setup) (before all : List Entry) (rest : List ℕ) → AllByRecursion HasText es → all ≡ before ++ es
     → Goes (draft AtEntries c before) (flat_map (λ e. line (EntryOf e)) es ++ rest) (draft AtEntries c all) rest
@@ -235,14 +262,18 @@ entries_pass (x ∷ es) c before all rest h e =
     let f = λ (x : Entry). line (EntryOf x) in
     let one = one_line (draft AtEntries c before) (EntryOf x) (flat_map f es ++ rest) (entry_line_read x h.0) refl in
     let later = entries_pass es c (before ++ x ∷ []) all rest h.1 (e ∙ sym (append_assoc before (x ∷ []) es)) in
-    text_is (draft AtEntries c before) (draft AtEntries c all) _ _ rest (first_of f x es rest) (goes_on (draft AtEntries c before) (draft AtEntries c (before ++ x ∷ [])) (draft AtEntries c all) _ _ _ one later)
+    text_is (draft AtEntries c before) (draft AtEntries c all) _ _ rest (first_of f x es rest)
+    (goes_on (draft AtEntries c before) (draft AtEntries c (before ++ x ∷ [])) (draft AtEntries c all) _ _ _ one later)
 
 -- ---- the whole
 
 -- the text, line by line
 regrouped : (c : Setup) (es : List Entry) → journal_text c es
-    ≡ line Version ++ (line (Callers c.callers) ++ (line (Elements c.elements_per_caller) ++ (line (Volumes c.volumes) ++ (line (Latches c.latches) ++ (line (Quota c.quota c.posted_quota)
-    ++ (flat_map (λ n. line (Budget n)) c.budgets ++ (flat_map (λ n. line (Owner n)) c.owners ++ (flat_map (λ x. line (ExitTo x)) c.exits ++ (line Events
+    ≡ line Version ++ (line (Callers c.callers)
+    ++ (line (Elements c.elements_per_caller)
+    ++ (line (Volumes c.volumes) ++ (line (Latches c.latches) ++ (line (Quota c.quota c.posted_quota)
+    ++ (flat_map (λ n. line (Budget n)) c.budgets
+    ++ (flat_map (λ n. line (Owner n)) c.owners ++ (flat_map (λ x. line (ExitTo x)) c.exits ++ (line Events
     ++ (flat_map (λ e. line (EntryOf e)) es ++ (line (End (length es)) ++ [])))))))))))
 unfolding journal_text head_text counts_text lists_text
 regrouped c es = simp (append_assoc, append-nil)
@@ -258,7 +289,10 @@ abbrev counts : Setup → Setup
 counts c = record c { budgets = []; owners = []; exits = [] }
 
 counts_pass : (c : Setup) (rest : List ℕ) → HasNumbers c
-    → Goes blank (line Version ++ (line (Callers c.callers) ++ (line (Elements c.elements_per_caller) ++ (line (Volumes c.volumes) ++ (line (Latches c.latches) ++ (line (Quota c.quota c.posted_quota) ++ rest)))))) (draft AtBudgets (counts c) []) rest
+    → Goes blank (line Version ++ (line (Callers c.callers)
+    ++ (line (Elements c.elements_per_caller)
+    ++ (line (Volumes c.volumes) ++
+    (line (Latches c.latches) ++ (line (Quota c.quota c.posted_quota) ++ rest)))))) (draft AtBudgets (counts c) []) rest
 counts_pass c rest h =
     let d1 = draft_with Version blank in
     let d2 = draft_with (Callers c.callers) d1 in
@@ -302,7 +336,8 @@ journal_passes c es h =
     let a4 = goes_on (draft p3.0 c2 []) (draft p4.0 c []) (draft AtEnd c es) exits begin [] p4.2 a5 in
     let a3 = goes_on (draft AtBudgets c1 []) (draft p3.0 c2 []) (draft AtEnd c es) owners exits [] p3.2 a4 in
     let a2 = goes_on (draft AtBudgets (counts c) []) (draft AtBudgets c1 []) (draft AtEnd c es) budgets owners [] p2 a3 in
-    text_is blank (draft AtEnd c es) (journal_text c es) _ [] (regrouped c es) (goes_on blank (draft AtBudgets (counts c) []) (draft AtEnd c es) _ budgets [] p1 a2)
+    text_is blank (draft AtEnd c es) (journal_text c es) _ [] (regrouped c es)
+    (goes_on blank (draft AtBudgets (counts c) []) (draft AtEnd c es) _ budgets [] p1 a2)
 
 nothing_left : (number : ℕ) (c : Setup) (es : List Entry) → first_fault number (draft AtEnd c es) (parts_at 10 []) ≡ None
 unfolding first_fault parts_at
@@ -320,10 +355,12 @@ pub read_again : (c : Setup) (es : List Entry) → HasJournal c es → journal_o
 read_again c es h = (journal_passes c es h).draft ∙ nothing_more c es
 
 -- a text determines its configuration and entries
-pub one_journal : (c d : Setup) (es fs : List Entry) → HasJournal c es → HasJournal d fs → journal_text c es ≡ journal_text d fs → (c ≡ d) × (es ≡ fs)
+pub one_journal : (c d : Setup) (es fs : List Entry) → HasJournal c es → HasJournal d fs → journal_text c es ≡ journal_text d fs
+    → (c ≡ d) × (es ≡ fs)
 one_journal c d es fs p q e =
     let same : draft AtEnd c es ≡ draft AtEnd d fs = sym (read_again c es p) ∙ ap journal_of e ∙ read_again d fs q in
     (ap (λ (x : Draft). x.setup) same, ap (λ (x : Draft). x.entries) same)
 
-pub reads_back : (c : Setup) (es : List Entry) → HasJournal c es → ((journal_of (journal_text c es)).setup ≡ c) × ((journal_of (journal_text c es)).entries ≡ es)
+pub reads_back : (c : Setup) (es : List Entry) → HasJournal c es
+    → ((journal_of (journal_text c es)).setup ≡ c) × ((journal_of (journal_text c es)).entries ≡ es)
 reads_back c es h = (ap (λ (x : Draft). x.setup) (read_again c es h), ap (λ (x : Draft). x.entries) (read_again c es h))

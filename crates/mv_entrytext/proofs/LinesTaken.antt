@@ -28,14 +28,16 @@ joined-onto byte b [] = refl
 joined-onto byte b (p ∷ []) = refl
 joined-onto byte b (p ∷ q ∷ ps) = refl
 
-joined-empty : (byte : ℕ) (text : List ℕ) (p : List ℕ) (qs : List (List ℕ)) → parts_at byte text ≡ p ∷ qs → joined byte ([] ∷ parts_at byte text) ≡ byte ∷ joined byte (parts_at byte text)
+joined-empty : (byte : ℕ) (text : List ℕ) (p : List ℕ) (qs : List (List ℕ)) → parts_at byte text ≡ p ∷ qs
+    → joined byte ([] ∷ parts_at byte text) ≡ byte ∷ joined byte (parts_at byte text)
 joined-empty byte text p qs e = rw e refl
 
 pub joined_again : (byte : ℕ) (text : List ℕ) → joined byte (parts_at byte text) ≡ text
 unfolding parts_at
 joined_again byte [] = refl
 joined_again byte (b ∷ text) = go (eqb b byte) refl (joined_again byte text) where
-  go : (t : Bool) → eqb b byte ≡ t → joined byte (parts_at byte text) ≡ text → joined byte (cond t ([] ∷ parts_at byte text) (onto_first b (parts_at byte text))) ≡ b ∷ text
+  go : (t : Bool) → eqb b byte ≡ t → joined byte (parts_at byte text) ≡ text
+      → joined byte (cond t ([] ∷ parts_at byte text) (onto_first b (parts_at byte text))) ≡ b ∷ text
   go true e h =
       let f = first_part byte text in
       joined-empty byte text f.0 f.1 f.2 ∙ ap (λ (x : List ℕ). byte ∷ x) h ∙ ap (λ (c : ℕ). c ∷ text) (sym (eqb-true b byte e))
@@ -54,7 +56,8 @@ spaced (n ∷ ns) = decimal n ++ targets_text ns
 spaced_more : (n m : ℕ) (ns : List ℕ) → decimal n ++ 32 ∷ spaced (m ∷ ns) ≡ spaced (n ∷ m ∷ ns)
 spaced_more n m ns = ap (λ (x : List ℕ). decimal n ++ x) (sym (flat_map-cons (λ t. codes " " ++ decimal t) m ns))
 
-mapped_cons : (n : ℕ) (o : Option (List ℕ)) (ns : List ℕ) → option_map (λ ms. n ∷ ms) o ≡ Some ns → (ms : List ℕ) × (o ≡ Some ms) × (n ∷ ms ≡ ns)
+mapped_cons : (n : ℕ) (o : Option (List ℕ)) (ns : List ℕ) → option_map (λ ms. n ∷ ms) o ≡ Some ns
+    → (ms : List ℕ) × (o ≡ Some ms) × (n ∷ ms ≡ ns)
 mapped_cons n None ns e = absurd cc
 mapped_cons n (Some ms) ns e = (ms, refl, some_is (n ∷ ms) ns e)
 
@@ -81,7 +84,8 @@ takes_numbers (f ∷ g ∷ fs) ns e =
     let b = bound (λ n. option_map (λ ms. n ∷ ms) (numbers true (g ∷ fs))) (whole (any_u32 true) f) ns e in
     let m = mapped_cons b.0 (numbers true (g ∷ fs)) ns b.2 in
     let s = some_number g fs m.0 m.1 in
-    ap (λ (x : List ℕ). x ++ 32 ∷ joined 32 (g ∷ fs)) (one_number f b.0 b.1) ∙ ap (λ (x : List ℕ). decimal b.0 ++ 32 ∷ x) (takes_numbers (g ∷ fs) m.0 m.1) ∙ one_more b.0 m.0 s.0 s.1 s.2 ∙ ap spaced m.2
+    ap (λ (x : List ℕ). x ++ 32 ∷ joined 32 (g ∷ fs)) (one_number f b.0 b.1)
+    ∙ ap (λ (x : List ℕ). decimal b.0 ++ 32 ∷ x) (takes_numbers (g ∷ fs) m.0 m.1) ∙ one_more b.0 m.0 s.0 s.1 s.2 ∙ ap spaced m.2
 
 abbrev exit_text : SetupExit → List ℕ
 exit_text x = decimal x.source ++ targets_text x.targets
@@ -126,41 +130,70 @@ MayCome _ _ = ⊥
 pub takes_line : (s : Stage) → Takes line_text (λ l. MayCome s l) (next_line true s)
 unfolding next_line count_line
 takes_line AtVersion =
-    takes_behind (codes "JOURNAL 1") line_text (λ l. MayCome AtVersion l) _ _ (behind_given (codes "JOURNAL 1") line_text (λ l. MayCome AtVersion l) Version refl tt)
+    takes_behind (codes "JOURNAL 1") line_text (λ l. MayCome AtVersion l) _ _
+    (behind_given (codes "JOURNAL 1") line_text (λ l. MayCome AtVersion l) Version refl tt)
     (takes_nothing line_text (λ l. MayCome AtVersion l))
 takes_line AtCallers =
-    takes_behind (codes "CALLERS ") line_text (λ l. MayCome AtCallers l) _ _ (behind_made (codes "CALLERS ") line_text (λ l. MayCome AtCallers l) (λ n. Callers n) decimal (λ n. n ≤ highest_u32) (any_u32 true) (λ n. refl) (λ n h. tt) takes_u32)
+    takes_behind (codes "CALLERS ") line_text (λ l. MayCome AtCallers l) _ _
+    (behind_made (codes "CALLERS ") line_text (λ l. MayCome AtCallers l) (λ n. Callers n) decimal (λ n. n ≤ highest_u32) (any_u32 true)
+    (λ n. refl) (λ n h. tt) takes_u32)
     (takes_nothing line_text (λ l. MayCome AtCallers l))
 takes_line AtElements =
-    takes_behind (codes "ELEMENTS ") line_text (λ l. MayCome AtElements l) _ _ (behind_made (codes "ELEMENTS ") line_text (λ l. MayCome AtElements l) (λ n. Elements n) decimal (λ n. n ≤ highest_u32) (any_u32 true) (λ n. refl) (λ n h. tt) takes_u32)
+    takes_behind (codes "ELEMENTS ") line_text (λ l. MayCome AtElements l) _ _
+    (behind_made (codes "ELEMENTS ") line_text (λ l. MayCome AtElements l) (λ n. Elements n) decimal (λ n. n ≤ highest_u32)
+    (any_u32 true) (λ n. refl) (λ n h. tt) takes_u32)
     (takes_nothing line_text (λ l. MayCome AtElements l))
 takes_line AtVolumes =
-    takes_behind (codes "VOLUMES ") line_text (λ l. MayCome AtVolumes l) _ _ (behind_made (codes "VOLUMES ") line_text (λ l. MayCome AtVolumes l) (λ n. Volumes n) decimal (λ n. n ≤ highest_u32) (any_u32 true) (λ n. refl) (λ n h. tt) takes_u32)
+    takes_behind (codes "VOLUMES ") line_text (λ l. MayCome AtVolumes l) _ _
+    (behind_made (codes "VOLUMES ") line_text (λ l. MayCome AtVolumes l) (λ n. Volumes n) decimal (λ n. n ≤ highest_u32) (any_u32 true)
+    (λ n. refl) (λ n h. tt) takes_u32)
     (takes_nothing line_text (λ l. MayCome AtVolumes l))
 takes_line AtLatches =
-    takes_behind (codes "LATCHES ") line_text (λ l. MayCome AtLatches l) _ _ (behind_made (codes "LATCHES ") line_text (λ l. MayCome AtLatches l) (λ n. Latches n) decimal (λ n. n ≤ highest_u32) (any_u32 true) (λ n. refl) (λ n h. tt) takes_u32)
+    takes_behind (codes "LATCHES ") line_text (λ l. MayCome AtLatches l) _ _
+    (behind_made (codes "LATCHES ") line_text (λ l. MayCome AtLatches l) (λ n. Latches n) decimal (λ n. n ≤ highest_u32) (any_u32 true)
+    (λ n. refl) (λ n h. tt) takes_u32)
     (takes_nothing line_text (λ l. MayCome AtLatches l))
 takes_line AtQuota =
-    takes_behind (codes "QUOTA ") line_text (λ l. MayCome AtQuota l) _ _ (behind_made (codes "QUOTA ") line_text (λ l. MayCome AtQuota l) (λ x. Quota x.0 x.1) pair_text (λ x. (x.0 ≤ highest_u32) × (x.1 ≤ highest_u32)) (parted (any_u32 true) (any_u32 true)) (λ x. refl) (λ x h. tt) takes_two)
+    takes_behind (codes "QUOTA ") line_text (λ l. MayCome AtQuota l) _ _
+    (behind_made (codes "QUOTA ") line_text (λ l. MayCome AtQuota l) (λ x. Quota x.0 x.1) pair_text
+    (λ x. (x.0 ≤ highest_u32) × (x.1 ≤ highest_u32)) (parted (any_u32 true) (any_u32 true)) (λ x. refl) (λ x h. tt) takes_two)
     (takes_nothing line_text (λ l. MayCome AtQuota l))
 takes_line AtBudgets =
-    takes_behind (codes "BUDGET ") line_text (λ l. MayCome AtBudgets l) _ _ (behind_made (codes "BUDGET ") line_text (λ l. MayCome AtBudgets l) (λ n. Budget n) decimal (λ n. n ≤ highest_u32) (any_u32 true) (λ n. refl) (λ n h. tt) takes_u32)
-    (takes_behind (codes "ECB ") line_text (λ l. MayCome AtBudgets l) _ _ (behind_made (codes "ECB ") line_text (λ l. MayCome AtBudgets l) (λ n. Owner n) decimal (λ n. n ≤ highest_u32) (any_u32 true) (λ n. refl) (λ n h. tt) takes_u32)
-    (takes_behind (codes "EXIT ") line_text (λ l. MayCome AtBudgets l) _ _ (behind_made (codes "EXIT ") line_text (λ l. MayCome AtBudgets l) (λ x. ExitTo x) exit_text (λ x. Unit {0}) (exit_read true) (λ x. refl) (λ x h. tt) takes_exit)
-    (takes_behind (codes "EVENTS") line_text (λ l. MayCome AtBudgets l) _ _ (behind_given (codes "EVENTS") line_text (λ l. MayCome AtBudgets l) Events refl tt)
+    takes_behind (codes "BUDGET ") line_text (λ l. MayCome AtBudgets l) _ _
+    (behind_made (codes "BUDGET ") line_text (λ l. MayCome AtBudgets l) (λ n. Budget n) decimal (λ n. n ≤ highest_u32) (any_u32 true)
+    (λ n. refl) (λ n h. tt) takes_u32)
+    (takes_behind (codes "ECB ") line_text (λ l. MayCome AtBudgets l) _ _
+    (behind_made (codes "ECB ") line_text (λ l. MayCome AtBudgets l) (λ n. Owner n) decimal (λ n. n ≤ highest_u32) (any_u32 true)
+    (λ n. refl) (λ n h. tt) takes_u32)
+    (takes_behind (codes "EXIT ") line_text (λ l. MayCome AtBudgets l) _ _
+    (behind_made (codes "EXIT ") line_text (λ l. MayCome AtBudgets l) (λ x. ExitTo x) exit_text (λ x. Unit {0}) (exit_read true)
+    (λ x. refl) (λ x h. tt) takes_exit)
+    (takes_behind (codes "EVENTS") line_text (λ l. MayCome AtBudgets l) _ _
+    (behind_given (codes "EVENTS") line_text (λ l. MayCome AtBudgets l) Events refl tt)
     (takes_nothing line_text (λ l. MayCome AtBudgets l)))))
 takes_line AtOwners =
-    takes_behind (codes "ECB ") line_text (λ l. MayCome AtOwners l) _ _ (behind_made (codes "ECB ") line_text (λ l. MayCome AtOwners l) (λ n. Owner n) decimal (λ n. n ≤ highest_u32) (any_u32 true) (λ n. refl) (λ n h. tt) takes_u32)
-    (takes_behind (codes "EXIT ") line_text (λ l. MayCome AtOwners l) _ _ (behind_made (codes "EXIT ") line_text (λ l. MayCome AtOwners l) (λ x. ExitTo x) exit_text (λ x. Unit {0}) (exit_read true) (λ x. refl) (λ x h. tt) takes_exit)
-    (takes_behind (codes "EVENTS") line_text (λ l. MayCome AtOwners l) _ _ (behind_given (codes "EVENTS") line_text (λ l. MayCome AtOwners l) Events refl tt)
+    takes_behind (codes "ECB ") line_text (λ l. MayCome AtOwners l) _ _
+    (behind_made (codes "ECB ") line_text (λ l. MayCome AtOwners l) (λ n. Owner n) decimal (λ n. n ≤ highest_u32) (any_u32 true)
+    (λ n. refl) (λ n h. tt) takes_u32)
+    (takes_behind (codes "EXIT ") line_text (λ l. MayCome AtOwners l) _ _
+    (behind_made (codes "EXIT ") line_text (λ l. MayCome AtOwners l) (λ x. ExitTo x) exit_text (λ x. Unit {0}) (exit_read true)
+    (λ x. refl) (λ x h. tt) takes_exit)
+    (takes_behind (codes "EVENTS") line_text (λ l. MayCome AtOwners l) _ _
+    (behind_given (codes "EVENTS") line_text (λ l. MayCome AtOwners l) Events refl tt)
     (takes_nothing line_text (λ l. MayCome AtOwners l))))
 takes_line AtExits =
-    takes_behind (codes "EXIT ") line_text (λ l. MayCome AtExits l) _ _ (behind_made (codes "EXIT ") line_text (λ l. MayCome AtExits l) (λ x. ExitTo x) exit_text (λ x. Unit {0}) (exit_read true) (λ x. refl) (λ x h. tt) takes_exit)
-    (takes_behind (codes "EVENTS") line_text (λ l. MayCome AtExits l) _ _ (behind_given (codes "EVENTS") line_text (λ l. MayCome AtExits l) Events refl tt)
+    takes_behind (codes "EXIT ") line_text (λ l. MayCome AtExits l) _ _
+    (behind_made (codes "EXIT ") line_text (λ l. MayCome AtExits l) (λ x. ExitTo x) exit_text (λ x. Unit {0}) (exit_read true)
+    (λ x. refl) (λ x h. tt) takes_exit)
+    (takes_behind (codes "EVENTS") line_text (λ l. MayCome AtExits l) _ _
+    (behind_given (codes "EVENTS") line_text (λ l. MayCome AtExits l) Events refl tt)
     (takes_nothing line_text (λ l. MayCome AtExits l)))
 takes_line AtEntries =
-    takes_behind (codes "END ") line_text (λ l. MayCome AtEntries l) _ _ (behind_made (codes "END ") line_text (λ l. MayCome AtEntries l) (λ n. End n) decimal (λ n. n ≤ highest_u32) (any_u32 true) (λ n. refl) (λ n h. h) takes_u32)
-    (takes_made line_text (λ l. MayCome AtEntries l) (λ e. EntryOf e) entry_text (λ e. HasText e) (entry_read true) (λ e h. refl) (λ e h. h) takes_entry)
+    takes_behind (codes "END ") line_text (λ l. MayCome AtEntries l) _ _
+    (behind_made (codes "END ") line_text (λ l. MayCome AtEntries l) (λ n. End n) decimal (λ n. n ≤ highest_u32) (any_u32 true)
+    (λ n. refl) (λ n h. h) takes_u32)
+    (takes_made line_text (λ l. MayCome AtEntries l) (λ e. EntryOf e) entry_text (λ e. HasText e) (entry_read true) (λ e h. refl) (λ e h. h)
+    takes_entry)
 takes_line AtEnd =
     takes_nothing line_text (λ l. MayCome AtEnd l)
 

@@ -32,7 +32,8 @@ count_of_decimal n le = digits_are_counted (decimal n) (numeral_of n le).0.1
 
 count_again : (n : ℕ) (rest : List ℕ) → n ≤ highest_u64 → Ends rest → digit_count (decimal n ++ rest) ≡ length (decimal n)
 count_again n rest le e =
-    rw (prefix_len-append is_digit (decimal n) rest, count_of_decimal n le, eq-eqb (length (decimal n)) (length (decimal n)) refl, e) (omega arith)
+    rw (prefix_len-append is_digit (decimal n) rest, count_of_decimal n le, eq-eqb (length (decimal n)) (length (decimal n)) refl, e)
+    (omega arith)
 
 no_leading_zero : (n : ℕ) → n ≤ highest_u64 → (not (eqb (get_or (decimal n) 0 0) 48) || eqb (length (decimal n)) 1) ≡ true
 no_leading_zero n le = elim (cases_eq n 0) [
@@ -44,12 +45,20 @@ well_spelled : (low high n : ℕ) → low ≤ n → n ≤ high → n ≤ highest
 well_spelled low high n lo hi le = rw (no_leading_zero n le, (numeral_of n le).1, le-leb low n lo, le-leb n high hi) refl
 
 -- what is written is read again, where no digit follows
-pub number_again : (low high n : ℕ) (rest : List ℕ) → low ≤ n → n ≤ high → high ≤ highest_u64 → Ends rest → number true low high (decimal n ++ rest) ≡ Some (n, rest)
+pub number_again : (low high n : ℕ) (rest : List ℕ) → low ≤ n → n ≤ high → high ≤ highest_u64 → Ends rest
+    → number true low high (decimal n ++ rest) ≡ Some (n, rest)
 unfolding number
 number_again low high n rest lo hi wide e =
     let le : n ≤ highest_u64 = omega arith in
     let some : eqb (length (decimal n)) 0 ≡ false = ne_eqb (length (decimal n)) 0 (λ q. omega (arith, (numeral_of n le).0.0)) in
-    rw (count_again n rest le e, take_at (decimal n) rest (length (decimal n)) refl, drop_at (decimal n) rest (length (decimal n)) refl, some, well_spelled low high n lo hi le, (numeral_of n le).1) refl
+    rw (
+      count_again n rest le e,
+      take_at (decimal n) rest (length (decimal n)) refl,
+      drop_at (decimal n) rest (length (decimal n)) refl,
+      some,
+      well_spelled low high n lo hi le,
+      (numeral_of n le).1,
+    ) refl
 
 -- a number of four bytes, and one of eight
 pub u32_again : (n : ℕ) (rest : List ℕ) → n ≤ highest_u32 → Ends rest → any_u32 true (decimal n ++ rest) ≡ Some (n, rest)
@@ -59,7 +68,8 @@ pub u64_again : (n : ℕ) (rest : List ℕ) → n ≤ highest_u64 → Ends rest 
 u64_again n rest le e = number_again 0 highest_u64 n rest (omega arith) le (omega arith) e
 
 -- two fields that are written are read again, where each is
-pub parted_again : {A B : Type 0} (first : Reader A) (second : A → Reader B) (a : A) (b : B) (sa sb rest : List ℕ) → first (sa ++ 32 ∷ (sb ++ rest)) ≡ Some (a, 32 ∷ (sb ++ rest)) → second a (sb ++ rest) ≡ Some (b, rest)
+pub parted_again : {A B : Type 0} (first : Reader A) (second : A → Reader B) (a : A) (b : B) (sa sb rest : List ℕ)
+    → first (sa ++ 32 ∷ (sb ++ rest)) ≡ Some (a, 32 ∷ (sb ++ rest)) → second a (sb ++ rest) ≡ Some (b, rest)
     → parted_by first second ((sa <+> sb) ++ rest) ≡ Some ((a, b), rest)
 unfolding parted_by
 parted_again first second a b sa sb rest one two = rw (append_assoc sa (32 ∷ sb) rest, one, two) refl

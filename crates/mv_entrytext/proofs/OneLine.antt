@@ -101,7 +101,8 @@ element_reply_line element_reply_of.Woke = refl
 element_reply_line element_reply_of.Already = refl
 element_reply_line element_reply_of.Closed = refl
 element_reply_line (element_reply_of.State s) =
-    beside (decimal s.generation) (phase_text s.phase <+> decimal s.code) (num s.generation) (beside (phase_text s.phase) (decimal s.code) (phase_line s.phase) (num s.code))
+    beside (decimal s.generation) (phase_text s.phase <+> decimal s.code) (num s.generation)
+    (beside (phase_text s.phase) (decimal s.code) (phase_line s.phase) (num s.code))
 
 volume_op_line : (op : VolumeOp) → IsOneLine (volume_op_text op)
 volume_op_line Read = refl
@@ -127,10 +128,12 @@ condition_line false = refl
 latch_op_line : (op : LatchOp) → IsOneLine (latch_op_text op)
 latch_op_line (latch_op_of.Obtain latch requestor mode f) =
     beside (decimal latch) (decimal requestor <+> mode_text mode <+> form_text f) (num latch)
-    (beside (decimal requestor) (mode_text mode <+> form_text f) (num requestor) (beside (mode_text mode) (form_text f) (mode_line mode) (form_line f)))
+    (beside (decimal requestor) (mode_text mode <+> form_text f) (num requestor)
+    (beside (mode_text mode) (form_text f) (mode_line mode) (form_line f)))
 latch_op_line (latch_op_of.Confirm latch id) = two latch id
 latch_op_line (latch_op_of.Release latch id b) =
-    beside (decimal latch) (decimal id <+> condition_text b) (num latch) (beside (decimal id) (condition_text b) (num id) (condition_line b))
+    beside (decimal latch) (decimal id <+> condition_text b) (num latch)
+    (beside (decimal id) (condition_text b) (num id) (condition_line b))
 latch_op_line (latch_op_of.Purge requestor) = num requestor
 
 latch_reply_line : (r : LatchReply) → IsOneLine (latch_reply_text r)
@@ -163,7 +166,8 @@ reply_line (reply_of.Latch r) = latch_reply_line r
 entry_line : (e : Entry) → IsOneLine (entry_text e)
 unfolding entry_text
 entry_line e =
-    beside (decimal e.caller) (object_text e.object <+> decimal e.place <+> op_text e.op <+> codes "=" <+> reply_text e.reply) (num e.caller)
+    beside (decimal e.caller) (object_text e.object <+> decimal e.place <+> op_text e.op <+> codes "=" <+> reply_text e.reply)
+    (num e.caller)
     (beside (object_text e.object) (decimal e.place <+> op_text e.op <+> codes "=" <+> reply_text e.reply) (object_line e.object)
     (beside (decimal e.place) (op_text e.op <+> codes "=" <+> reply_text e.reply) (num e.place)
     (beside (op_text e.op) (codes "=" <+> reply_text e.reply) (op_line e.op) (reply_line e.reply))))
@@ -171,7 +175,8 @@ entry_line e =
 targets_line : (ts : List ℕ) → IsOneLine (flat_map (λ t. codes " " ++ decimal t) ts)
 targets_line [] = refl
 targets_line (t ∷ ts) =
-    subst (λ (text : List ℕ). IsOneLine text) (sym (flat_map-cons (λ t. codes " " ++ decimal t) t ts)) (Lacks-append 10 (decimal t) (flat_map (λ t. codes " " ++ decimal t) ts) (num t) (targets_line ts))
+    subst (λ (text : List ℕ). IsOneLine text) (sym (flat_map-cons (λ t. codes " " ++ decimal t) t ts))
+    (Lacks-append 10 (decimal t) (flat_map (λ t. codes " " ++ decimal t) ts) (num t) (targets_line ts))
 
 pub is_one_line : (l : Line) → IsOneLine (line_text l)
 is_one_line journal.Version = refl
@@ -182,7 +187,8 @@ is_one_line (journal.Latches n) = num n
 is_one_line (journal.Quota q p) = two q p
 is_one_line (journal.Budget n) = num n
 is_one_line (journal.Owner n) = num n
-is_one_line (journal.ExitTo x) = Lacks-append 10 (decimal x.source) (flat_map (λ t. codes " " ++ decimal t) x.targets) (num x.source) (targets_line x.targets)
+is_one_line (journal.ExitTo x) =
+    Lacks-append 10 (decimal x.source) (flat_map (λ t. codes " " ++ decimal t) x.targets) (num x.source) (targets_line x.targets)
 is_one_line journal.Events = refl
 is_one_line (journal.EntryOf e) = entry_line e
 is_one_line (journal.End n) = num n

@@ -47,7 +47,8 @@ pub first_part : (byte : ℕ) (text : List ℕ) → (p : List ℕ) × (qs : List
 unfolding parts_at
 first_part byte [] = ([], [], refl)
 first_part byte (b ∷ text) =
-    elim (eqb b byte) as (λ t. (p : List ℕ) × (qs : List (List ℕ)) × (cond t ([] ∷ parts_at byte text) (onto_first b (parts_at byte text)) ≡ p ∷ qs)) [
+    elim (eqb b byte) as (λ t. (p : List ℕ) × (qs : List (List ℕ)) ×
+    (cond t ([] ∷ parts_at byte text) (onto_first b (parts_at byte text)) ≡ p ∷ qs)) [
       | true ↦ ([], parts_at byte text, refl)
       | false ↦ onto_some b (parts_at byte text)
     ]
@@ -65,7 +66,11 @@ Lacks-onto byte zero n acc low h = h
 Lacks-onto byte (suc k) n acc low h =
     let more : Lacks byte (digit_glyph false (n % 10) ∷ acc) = rw (glyph_other byte (n % 10) low (omega arith), h) refl in
     let rest = Lacks-onto byte k (n / 10) (digit_glyph false (n % 10) ∷ acc) low more in
-    elim (eqb (n / 10) 0) as (λ t. Lacks byte (cond t (digit_glyph false (n % 10) ∷ acc) (digits_onto k 10 false (n / 10) (digit_glyph false (n % 10) ∷ acc)))) [ true ↦ more | false ↦ rest ]
+    elim (eqb (n / 10) 0) as (λ t. Lacks byte
+    (cond t (digit_glyph false (n % 10) ∷ acc) (digits_onto k 10 false (n / 10) (digit_glyph false (n % 10) ∷ acc)))) [
+      | true ↦ more
+      | false ↦ rest
+    ]
 
 pub Lacks-decimal : (byte n : ℕ) → byte < 48 → Lacks byte (decimal n)
 unfolding digits
@@ -76,12 +81,16 @@ Lacks-decimal byte n low = Lacks-onto byte 64 n [] low refl
 abbrev pub place_in : ℕ → List ℕ → ℕ
 place_in byte text = position_or_len (λ b. eqb b byte) text
 
-pub parts_cut : (byte : ℕ) (text : List ℕ) → place_in byte text < length text → parts_at byte text ≡ take (place_in byte text) text ∷ parts_at byte (drop (place_in byte text + 1) text)
+pub parts_cut : (byte : ℕ) (text : List ℕ) → place_in byte text < length text
+    → parts_at byte text ≡ take (place_in byte text) text ∷ parts_at byte (drop (place_in byte text + 1) text)
 unfolding parts_at
 parts_cut byte [] lt = absurd (omega arith)
 parts_cut byte (b ∷ bs) lt = go (eqb b byte) lt (λ h. parts_cut byte bs h) where
-  go : (t : Bool) → cond (not t) (1 + place_in byte bs) 0 < length (b ∷ bs) → (place_in byte bs < length bs → parts_at byte bs ≡ take (place_in byte bs) bs ∷ parts_at byte (drop (place_in byte bs + 1) bs))
-      → cond t ([] ∷ parts_at byte bs) (onto_first b (parts_at byte bs)) ≡ take (cond (not t) (1 + place_in byte bs) 0) (b ∷ bs) ∷ parts_at byte (drop (cond (not t) (1 + place_in byte bs) 0 + 1) (b ∷ bs))
+  go : (t : Bool) → cond (not t) (1 + place_in byte bs) 0 < length (b ∷ bs)
+      → (place_in byte bs < length bs → parts_at byte bs ≡ take (place_in byte bs) bs ∷ parts_at byte (drop (place_in byte bs + 1) bs))
+      → cond t ([] ∷ parts_at byte bs) (onto_first b (parts_at byte bs))
+      ≡ take (cond (not t) (1 + place_in byte bs) 0) (b ∷ bs) ∷ parts_at byte
+      (drop (cond (not t) (1 + place_in byte bs) 0 + 1) (b ∷ bs))
   go true h ih = refl
   go false h ih =
       let one : 1 + place_in byte bs ≡ suc (place_in byte bs) = omega arith in
@@ -92,7 +101,8 @@ pub parts_whole : (byte : ℕ) (text : List ℕ) → length text ≤ place_in by
 unfolding parts_at
 parts_whole byte [] le = refl
 parts_whole byte (b ∷ bs) le = go (eqb b byte) le (λ h. parts_whole byte bs h) where
-  go : (t : Bool) → length (b ∷ bs) ≤ cond (not t) (1 + place_in byte bs) 0 → (length bs ≤ place_in byte bs → parts_at byte bs ≡ bs ∷ []) → cond t ([] ∷ parts_at byte bs) (onto_first b (parts_at byte bs)) ≡ (b ∷ bs) ∷ []
+  go : (t : Bool) → length (b ∷ bs) ≤ cond (not t) (1 + place_in byte bs) 0 → (length bs ≤ place_in byte bs → parts_at byte bs ≡ bs ∷ [])
+      → cond t ([] ∷ parts_at byte bs) (onto_first b (parts_at byte bs)) ≡ (b ∷ bs) ∷ []
   go true h ih = absurd (omega arith)
   go false h ih = rw (ih (omega arith)) refl
 
@@ -108,19 +118,23 @@ not_found : (b : Bool) (n : ℕ) → where_found b n ≡ None → b ≡ false
 not_found true n e = absurd cc
 not_found false n e = refl
 
-pub place_found : (byte : ℕ) (text : List ℕ) (k : ℕ) → position (λ b. eqb b byte) text ≡ Some k → (k ≡ place_in byte text) × (k < length text)
+pub place_found : (byte : ℕ) (text : List ℕ) (k : ℕ) → position (λ b. eqb b byte) text ≡ Some k
+    → (k ≡ place_in byte text) × (k < length text)
 place_found byte text k e =
     let f = found_at (ltb (place_in byte text) (length text)) (place_in byte text) k e in
     (f.1, omega (arith, f.1, ltb-true (place_in byte text) (length text) f.0))
 
 pub place_missed : (byte : ℕ) (text : List ℕ) → position (λ b. eqb b byte) text ≡ None → length text ≤ place_in byte text
-place_missed byte text e = ltb-false (place_in byte text) (length text) (not_found (ltb (place_in byte text) (length text)) (place_in byte text) e)
+place_missed byte text e =
+    ltb-false (place_in byte text) (length text) (not_found (ltb (place_in byte text) (length text)) (place_in byte text) e)
 
 -- the first part ends before the place that was found
-pub parts_found : (byte : ℕ) (text : List ℕ) (k : ℕ) → position (λ b. eqb b byte) text ≡ Some k → parts_at byte text ≡ take k text ∷ parts_at byte (take (length text - (k + 1)) (drop (k + 1) text))
+pub parts_found : (byte : ℕ) (text : List ℕ) (k : ℕ) → position (λ b. eqb b byte) text ≡ Some k
+    → parts_at byte text ≡ take k text ∷ parts_at byte (take (length text - (k + 1)) (drop (k + 1) text))
 parts_found byte text k e =
     let f = place_found byte text k e in
-    let all : take (length text - (k + 1)) (drop (k + 1) text) ≡ drop (k + 1) text = take_all (length text - (k + 1)) (drop (k + 1) text) (omega (arith, length-drop (k + 1) text)) in
+    let all : take (length text - (k + 1)) (drop (k + 1) text) ≡ drop (k + 1) text =
+    take_all (length text - (k + 1)) (drop (k + 1) text) (omega (arith, length-drop (k + 1) text)) in
     rw all (rw f.0 (parts_cut byte text (omega (arith, f.0, f.1))))
 
 pub parts_missed : (byte : ℕ) (text : List ℕ) → position (λ b. eqb b byte) text ≡ None → parts_at byte text ≡ text ∷ []

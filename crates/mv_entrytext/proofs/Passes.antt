@@ -24,7 +24,8 @@ at_first bytes = record { fault = refl; draft = refl; count = omega arith; line 
 -- ---- a line is passed
 
 -- the lines of the lists, and the entries, are counted
-one_line_more : (s : Stage) (c : Setup) (es : List Entry) (l : Line) → MayCome s l → line_behind (draft_with l (draft_at s c es)) ≡ line_behind (draft_at s c es) + 1
+one_line_more : (s : Stage) (c : Setup) (es : List Entry) (l : Line) → MayCome s l
+    → line_behind (draft_with l (draft_at s c es)) ≡ line_behind (draft_at s c es) + 1
 one_line_more AtVersion c es Version m = omega arith
 one_line_more AtCallers c es (Callers n) m = omega arith
 one_line_more AtElements c es (Elements n) m = omega arith
@@ -44,13 +45,17 @@ one_line_more AtEntries c es (EntryOf e) m = omega (arith, length-append es (e �
 one_line_more AtEntries c es (End n) m = omega arith
 one_line_more s c es l m = absurd m
 
-pub at_next : (bytes rest behind text : List ℕ) (number : ℕ) (d : Draft) (l : Line) → IsAt bytes rest number d → parts_at 10 rest ≡ text ∷ parts_at 10 behind → suc (length behind) ≤ length rest → line_read true d.stage text ≡ Some l → kind_said d (Some l) ≡ None
+pub at_next : (bytes rest behind text : List ℕ) (number : ℕ) (d : Draft) (l : Line) → IsAt bytes rest number d
+    → parts_at 10 rest ≡ text ∷ parts_at 10 behind → suc (length behind) ≤ length rest → line_read true d.stage text ≡ Some l
+    → kind_said d (Some l) ≡ None
     → IsAt bytes behind (number + 1) (draft_with l d)
 at_next bytes rest behind text number d l at shape shorter read said =
     let p = first_part 10 behind in
     let two : parts_at 10 rest ≡ text ∷ p.0 ∷ p.1 = shape ∙ ap (λ (x : List (List ℕ)). text ∷ x) p.2 in
     record {
-      fault = ap (first_fault (number + 1) (draft_with l d)) p.2 ∙ sym (fault_passed number d l text p.0 p.1 read said) ∙ ap (first_fault number d) (sym two) ∙ at.fault;
+      fault =
+          ap (first_fault (number + 1) (draft_with l d)) p.2 ∙ sym (fault_passed number d l text p.0 p.1 read said)
+          ∙ ap (first_fault number d) (sym two) ∙ at.fault;
       draft = ap (draft_of (draft_with l d)) p.2 ∙ sym (draft_passed d l text p.0 p.1 read) ∙ ap (draft_of d) (sym two) ∙ at.draft;
       count = omega (arith, at.count);
       line = let m = one_line_more d.stage d.setup d.entries l (line_taken d.stage text l read).1 in omega (arith, at.line, m);
@@ -58,11 +63,14 @@ at_next bytes rest behind text number d l at shape shorter read said =
 
 -- ---- a fault
 
-fault_here : (number k : ℕ) (d : Draft) (text more : List ℕ) (lines : List (List ℕ)) → kind_of d text ≡ Some k → first_fault number d (text ∷ more ∷ lines) ≡ Some (fault_at number k)
+fault_here : (number k : ℕ) (d : Draft) (text more : List ℕ) (lines : List (List ℕ)) → kind_of d text ≡ Some k
+    → first_fault number d (text ∷ more ∷ lines) ≡ Some (fault_at number k)
 unfolding first_fault
 fault_here number k d text more lines e = rw e refl
 
-pub at_kind : (bytes rest behind text : List ℕ) (number : ℕ) (d : Draft) → IsAt bytes rest number d → parts_at 10 rest ≡ text ∷ parts_at 10 behind → (e : LineRefusal) → Tells e (kind_of d text) → TellsFirst (refusal_at number e) (text_fault bytes)
+pub at_kind : (bytes rest behind text : List ℕ) (number : ℕ) (d : Draft) → IsAt bytes rest number d
+    → parts_at 10 rest ≡ text ∷ parts_at 10 behind → (e : LineRefusal) → Tells e (kind_of d text)
+    → TellsFirst (refusal_at number e) (text_fault bytes)
 at_kind bytes rest behind text number d at shape (Kind k) told =
     let p = first_part 10 behind in
     let two : parts_at 10 rest ≡ text ∷ p.0 ∷ p.1 = shape ∙ ap (λ (x : List (List ℕ)). text ∷ x) p.2 in
@@ -71,29 +79,38 @@ at_kind bytes rest behind text number d at shape NoMemory told = tt
 
 -- the form alone is at fault
 form_tells : (d : Draft) (text : List ℕ) (e : LineRefusal) → Tells e (kind_of_form d.stage text) → Tells e (kind_of d text)
-form_tells d text (Kind k) told = go (is_some (line_read true d.stage text)) (is_some (line_read false d.stage text)) (kind_said d (line_read true d.stage text)) told where
-  go : (a b : Bool) (said : Option ℕ) → cond {A = Option ℕ} (not (a || b)) (Some 1) (cond (not a) (Some 2) None) ≡ Some k → cond {A = Option ℕ} (not (a || b)) (Some 1) (cond (not a) (Some 2) said) ≡ Some k
-  go true b said t = absurd cc
-  go false true said t = t
-  go false false said t = t
+form_tells d text (Kind k) told =
+    go (is_some (line_read true d.stage text)) (is_some (line_read false d.stage text)) (kind_said d (line_read true d.stage text)) told
+  where
+    go : (a b : Bool) (said : Option ℕ) → cond {A = Option ℕ} (not (a || b)) (Some 1) (cond (not a) (Some 2) None) ≡ Some k
+        → cond {A = Option ℕ} (not (a || b)) (Some 1) (cond (not a) (Some 2) said) ≡ Some k
+    go true b said t = absurd cc
+    go false true said t = t
+    go false false said t = t
 form_tells d text NoMemory told = tt
 
-pub at_form : (bytes rest behind text : List ℕ) (number : ℕ) (d : Draft) → IsAt bytes rest number d → parts_at 10 rest ≡ text ∷ parts_at 10 behind → (e : LineRefusal) → Tells e (kind_of_form d.stage text) → TellsFirst (refusal_at number e) (text_fault bytes)
+pub at_form : (bytes rest behind text : List ℕ) (number : ℕ) (d : Draft) → IsAt bytes rest number d
+    → parts_at 10 rest ≡ text ∷ parts_at 10 behind → (e : LineRefusal) → Tells e (kind_of_form d.stage text)
+    → TellsFirst (refusal_at number e) (text_fault bytes)
 at_form bytes rest behind text number d at shape e told = at_kind bytes rest behind text number d at shape e (form_tells d text e told)
 
 -- what a line says is at fault
 said_tells : (d : Draft) (text : List ℕ) (l : Line) → line_read true d.stage text ≡ Some l → kind_of d text ≡ kind_said d (Some l)
 said_tells d text l read = rw read refl
 
-pub at_said : (bytes rest behind text : List ℕ) (number : ℕ) (d : Draft) (l : Line) → IsAt bytes rest number d → parts_at 10 rest ≡ text ∷ parts_at 10 behind → line_read true d.stage text ≡ Some l → (e : LineRefusal) → Tells e (kind_said d (Some l)) → TellsFirst (refusal_at number e) (text_fault bytes)
-at_said bytes rest behind text number d l at shape read e told = at_kind bytes rest behind text number d at shape e (subst (λ (k : Option ℕ). Tells e k) (sym (said_tells d text l read)) told)
+pub at_said : (bytes rest behind text : List ℕ) (number : ℕ) (d : Draft) (l : Line) → IsAt bytes rest number d
+    → parts_at 10 rest ≡ text ∷ parts_at 10 behind → line_read true d.stage text ≡ Some l → (e : LineRefusal)
+    → Tells e (kind_said d (Some l)) → TellsFirst (refusal_at number e) (text_fault bytes)
+at_said bytes rest behind text number d l at shape read e told =
+    at_kind bytes rest behind text number d at shape e (subst (λ (k : Option ℕ). Tells e k) (sym (said_tells d text l read)) told)
 
 -- the text ends in this line
 cut_here : (number : ℕ) (d : Draft) (last : List ℕ) → is_cut d last ≡ true → first_fault number d (last ∷ []) ≡ Some (fault_at number 5)
 unfolding first_fault
 cut_here number d last e = rw e refl
 
-pub at_cut : (bytes rest last : List ℕ) (number : ℕ) (d : Draft) → IsAt bytes rest number d → parts_at 10 rest ≡ last ∷ [] → is_cut d last ≡ true → text_fault bytes ≡ Some (fault_at number 5)
+pub at_cut : (bytes rest last : List ℕ) (number : ℕ) (d : Draft) → IsAt bytes rest number d → parts_at 10 rest ≡ last ∷ []
+    → is_cut d last ≡ true → text_fault bytes ≡ Some (fault_at number 5)
 at_cut bytes rest last number d at shape e = sym at.fault ∙ ap (first_fault number d) shape ∙ cut_here number d last e
 
 -- ---- behind END
@@ -116,20 +133,25 @@ nothing_comes strict text = refl
 no_form_at_end : (c : Setup) (es : List Entry) (text : List ℕ) → kind_of (draft_at AtEnd c es) text ≡ Some 1
 no_form_at_end c es text = rw (nothing_comes true text, nothing_comes false text) refl
 
-end_kinds : (number : ℕ) (c : Setup) (es : List Entry) (p : List ℕ) (qs : List (List ℕ)) (e : LineRefusal) → Tells e (kind_at_end (p ∷ qs)) → TellsFirst (refusal_at number e) (first_fault number (draft_at AtEnd c es) (p ∷ qs))
+end_kinds : (number : ℕ) (c : Setup) (es : List Entry) (p : List ℕ) (qs : List (List ℕ)) (e : LineRefusal) → Tells e (kind_at_end (p ∷ qs))
+    → TellsFirst (refusal_at number e) (first_fault number (draft_at AtEnd c es) (p ∷ qs))
 unfolding first_fault
 end_kinds number c es p [] (Kind k) told = go (eqb (length p) 0) told where
-  go : (t : Bool) → cond {A = Option ℕ} t None (Some 5) ≡ Some k → cond (not (true && t)) (Some (fault_at number 5)) None ≡ Some (fault_at number k)
+  go : (t : Bool) → cond {A = Option ℕ} t None (Some 5) ≡ Some k
+      → cond (not (true && t)) (Some (fault_at number 5)) None ≡ Some (fault_at number k)
   go true told = absurd cc
   go false told = let same : 5 ≡ k = cc in ap (λ (j : ℕ). Some (fault_at number j)) same
-end_kinds number c es p (q ∷ qs) (Kind k) told = let same : 1 ≡ k = cc in rw (no_form_at_end c es p) (ap (λ (j : ℕ). Some (fault_at number j)) same)
+end_kinds number c es p (q ∷ qs) (Kind k) told =
+    let same : 1 ≡ k = cc in rw (no_form_at_end c es p) (ap (λ (j : ℕ). Some (fault_at number j)) same)
 end_kinds number c es p qs NoMemory told = tt
 
-pub at_end_fault : (bytes rest : List ℕ) (number : ℕ) (c : Setup) (es : List Entry) → IsAt bytes rest number (draft_at AtEnd c es) → (e : LineRefusal) → Tells e (kind_at_end (parts_at 10 rest)) → TellsFirst (refusal_at number e) (text_fault bytes)
+pub at_end_fault : (bytes rest : List ℕ) (number : ℕ) (c : Setup) (es : List Entry) → IsAt bytes rest number (draft_at AtEnd c es)
+    → (e : LineRefusal) → Tells e (kind_at_end (parts_at 10 rest)) → TellsFirst (refusal_at number e) (text_fault bytes)
 at_end_fault bytes rest number c es at e told =
     let p = first_part 10 rest in
     let there = end_kinds number c es p.0 p.1 e (subst (λ (x : List (List ℕ)). Tells e (kind_at_end x)) p.2 told) in
-    subst (λ (o : Option TextFault). TellsFirst (refusal_at number e) o) (ap (first_fault number (draft_at AtEnd c es)) (sym p.2) ∙ at.fault) there
+    subst (λ (o : Option TextFault). TellsFirst (refusal_at number e) o)
+    (ap (first_fault number (draft_at AtEnd c es)) (sym p.2) ∙ at.fault) there
 
 over_fault : (number : ℕ) (c : Setup) (es : List Entry) → first_fault number (draft_at AtEnd c es) (parts_at 10 []) ≡ None
 unfolding first_fault parts_at
@@ -144,10 +166,13 @@ pub record IsWhole (bytes : List ℕ) (c : Setup) (es : List Entry) : Type 0 whe
   pub text : bytes ≡ journal_text c es
   pub journal : HasJournal c es
 
-pub at_over : (bytes rest : List ℕ) (number : ℕ) (c : Setup) (es : List Entry) → IsAt bytes rest number (draft_at AtEnd c es) → rest ≡ [] → IsWhole bytes c es
+pub at_over : (bytes rest : List ℕ) (number : ℕ) (c : Setup) (es : List Entry) → IsAt bytes rest number (draft_at AtEnd c es) → rest ≡ []
+    → IsWhole bytes c es
 at_over bytes rest number c es at nil =
-    let none : text_fault bytes ≡ None = sym at.fault ∙ ap (λ (x : List ℕ). first_fault number (draft_at AtEnd c es) (parts_at 10 x)) nil ∙ over_fault number c es in
-    let is : journal_of bytes ≡ draft_at AtEnd c es = sym at.draft ∙ ap (λ (x : List ℕ). draft_of (draft_at AtEnd c es) (parts_at 10 x)) nil ∙ over_draft c es in
+    let none : text_fault bytes ≡ None =
+    sym at.fault ∙ ap (λ (x : List ℕ). first_fault number (draft_at AtEnd c es) (parts_at 10 x)) nil ∙ over_fault number c es in
+    let is : journal_of bytes ≡ draft_at AtEnd c es =
+    sym at.draft ∙ ap (λ (x : List ℕ). draft_of (draft_at AtEnd c es) (parts_at 10 x)) nil ∙ over_draft c es in
     let r = is_read_whole bytes none in
     subst (λ (d : Draft). IsWhole bytes d.setup d.entries) is (record { text = r.0; journal = r.1 })
 

@@ -22,7 +22,8 @@ Takes {A} show Fine reader = (text rest : List ℕ) (a : A) → reader text ≡ 
 
 -- a word and what is read behind it are the text of the value
 abbrev pub TakesBehind : {A : Type 0} → List ℕ → (A → List ℕ) → (A → Type 0) → Reader A → Type 0
-TakesBehind {A} word show Fine reader = (text rest : List ℕ) (a : A) → reader text ≡ Some (a, rest) → (word ++ text ≡ show a ++ rest) × Fine a
+TakesBehind {A} word show Fine reader =
+    (text rest : List ℕ) (a : A) → reader text ≡ Some (a, rest) → (word ++ text ≡ show a ++ rest) × Fine a
 
 -- ---- readers put together
 
@@ -36,32 +37,38 @@ takes_nothing show Fine text rest a e = absurd cc
 word_first : (text word : List ℕ) → starts_with eqb text word ≡ true → text ≡ word ++ drop (length word) text
 word_first text word e = (starts_is Decides-eqb text word (starts_with eqb text word) refl).0 e
 
-pub takes_behind : {A : Type 0} (word : List ℕ) (show : A → List ℕ) (Fine : A → Type 0) (reader other : Reader A) → TakesBehind word show Fine reader → Takes show Fine other → Takes show Fine (behind word reader other)
+pub takes_behind : {A : Type 0} (word : List ℕ) (show : A → List ℕ) (Fine : A → Type 0) (reader other : Reader A)
+    → TakesBehind word show Fine reader → Takes show Fine other → Takes show Fine (behind word reader other)
 unfolding behind
 takes_behind word show Fine reader other here there text rest a e = go (starts_with eqb text word) refl e where
-  go : (b : Bool) → starts_with eqb text word ≡ b → cond b (reader (drop (length word) text)) (other text) ≡ Some (a, rest) → (text ≡ show a ++ rest) × Fine a
+  go : (b : Bool) → starts_with eqb text word ≡ b → cond b (reader (drop (length word) text)) (other text) ≡ Some (a, rest)
+      → (text ≡ show a ++ rest) × Fine a
   go true s h = let t = here (drop (length word) text) rest a h in (word_first text word s ∙ t.0, t.1)
   go false s h = there text rest a h
 
-pub behind_given : {A : Type 0} (word : List ℕ) (show : A → List ℕ) (Fine : A → Type 0) (a : A) → word ≡ show a → Fine a → TakesBehind word show Fine (given a)
+pub behind_given : {A : Type 0} (word : List ℕ) (show : A → List ℕ) (Fine : A → Type 0) (a : A) → word ≡ show a → Fine a
+    → TakesBehind word show Fine (given a)
 behind_given word show Fine a is fine text rest b e =
     let same : (a, text) ≡ (b, rest) = some_is (a, text) (b, rest) e in
     subst (λ x. (word ++ text ≡ show x.0 ++ x.1) × Fine x.0) same (ap (λ (w : List ℕ). w ++ text) is, fine)
 
-mapped : {A B : Type 0} (f : A → B) (o : Option (A × List ℕ)) (b : B) (rest : List ℕ) → option_map {U = B × List ℕ} (λ x. (f x.0, x.1)) o ≡ Some (b, rest) → (a : A) × (o ≡ Some (a, rest)) × (f a ≡ b)
+mapped : {A B : Type 0} (f : A → B) (o : Option (A × List ℕ)) (b : B) (rest : List ℕ)
+    → option_map {U = B × List ℕ} (λ x. (f x.0, x.1)) o ≡ Some (b, rest) → (a : A) × (o ≡ Some (a, rest)) × (f a ≡ b)
 mapped f None b rest e = absurd cc
 mapped f (Some x) b rest e =
     let same : (f x.0, x.1) ≡ (b, rest) = some_is (f x.0, x.1) (b, rest) e in
     (x.0, ap (λ (r : List ℕ). Some (x.0, r)) (ap (λ y. y.1) same), ap (λ y. y.0) same)
 
-pub takes_made : {A B : Type 0} (show : B → List ℕ) (Fine : B → Type 0) (f : A → B) (part : A → List ℕ) (Good : A → Type 0) (reader : Reader A) → ((a : A) → Good a → part a ≡ show (f a)) → ((a : A) → Good a → Fine (f a)) → Takes part Good reader
+pub takes_made : {A B : Type 0} (show : B → List ℕ) (Fine : B → Type 0) (f : A → B) (part : A → List ℕ) (Good : A → Type 0)
+    (reader : Reader A) → ((a : A) → Good a → part a ≡ show (f a)) → ((a : A) → Good a → Fine (f a)) → Takes part Good reader
     → Takes show Fine (made f reader)
 takes_made show Fine f part Good reader is fine takes text rest b e =
     let m = mapped f (reader text) b rest e in
     let t = takes text rest m.0 m.1 in
     subst (λ x. (text ≡ show x ++ rest) × Fine x) m.2 (t.0 ∙ ap (λ (x : List ℕ). x ++ rest) (is m.0 t.1), fine m.0 t.1)
 
-pub behind_made : {A B : Type 0} (word : List ℕ) (show : B → List ℕ) (Fine : B → Type 0) (f : A → B) (part : A → List ℕ) (Good : A → Type 0) (reader : Reader A) → ((a : A) → word ++ part a ≡ show (f a)) → ((a : A) → Good a → Fine (f a)) → Takes part Good reader
+pub behind_made : {A B : Type 0} (word : List ℕ) (show : B → List ℕ) (Fine : B → Type 0) (f : A → B) (part : A → List ℕ) (Good : A → Type 0)
+    (reader : Reader A) → ((a : A) → word ++ part a ≡ show (f a)) → ((a : A) → Good a → Fine (f a)) → Takes part Good reader
     → TakesBehind word show Fine (made f reader)
 behind_made word show Fine f part Good reader is fine takes text rest b e =
     let m = mapped f (reader text) b rest e in
@@ -69,7 +76,8 @@ behind_made word show Fine f part Good reader is fine takes text rest b e =
     subst (λ x. (word ++ text ≡ show x ++ rest) × Fine x) m.2
     (ap (λ (x : List ℕ). word ++ x) t.0 ∙ sym (append_assoc word (part m.0) rest) ∙ ap (λ (x : List ℕ). x ++ rest) (is m.0), fine m.0 t.1)
 
-pub bound : {A B : Type 0} (f : A → Option B) (o : Option A) (b : B) → option_and_then f o ≡ Some b → (a : A) × (o ≡ Some a) × (f a ≡ Some b)
+pub bound : {A B : Type 0} (f : A → Option B) (o : Option A) (b : B) → option_and_then f o ≡ Some b
+    → (a : A) × (o ≡ Some a) × (f a ≡ Some b)
 bound f None b e = absurd cc
 bound f (Some a) b e = (a, refl, e)
 
@@ -79,11 +87,15 @@ space_first text rest e = go (starts_with eqb text (32 ∷ [])) refl e where
   go true s h = word_first text (32 ∷ []) s ∙ ap (λ (x : List ℕ). 32 ∷ x) (some_is (drop 1 text) rest h)
   go false s h = absurd cc
 
-pub takes_parted : {A B : Type 0} (first : Reader A) (second : A → Reader B) (show : A → List ℕ) (tell : B → List ℕ) (Fine : A → Type 0) (Good : A → B → Type 0)
-    → Takes show Fine first → ((a : A) → Fine a → Takes tell (Good a) (second a)) → Takes (λ p. show p.0 <+> tell p.1) (λ p. Fine p.0 × Good p.0 p.1) (parted_by first second)
+pub takes_parted : {A B : Type 0} (first : Reader A) (second : A → Reader B) (show : A → List ℕ) (tell : B → List ℕ) (Fine : A → Type 0)
+    (Good : A → B → Type 0)
+    → Takes show Fine first → ((a : A) → Fine a → Takes tell (Good a) (second a))
+    → Takes (λ p. show p.0 <+> tell p.1) (λ p. Fine p.0 × Good p.0 p.1) (parted_by first second)
 unfolding parted_by
 takes_parted {A = A} {B = B} first second show tell Fine Good one two text rest p e =
-    let a = bound (λ x. option_and_then (λ r. option_map {U = (A × B) × List ℕ} (λ y. ((x.0, y.0), y.1)) (second x.0 r)) (after (codes " ") x.1)) (first text) (p, rest) e in
+    let a =
+    bound (λ x. option_and_then (λ r. option_map {U = (A × B) × List ℕ} (λ y. ((x.0, y.0), y.1)) (second x.0 r))
+    (after (codes " ") x.1)) (first text) (p, rest) e in
     let x = a.0 in
     let b = bound (λ r. option_map {U = (A × B) × List ℕ} (λ y. ((x.0, y.0), y.1)) (second x.0 r)) (after (codes " ") x.1) (p, rest) a.2 in
     let m = mapped (λ y. (x.0, y)) (second x.0 b.0) p rest b.2 in
@@ -93,15 +105,18 @@ takes_parted {A = A} {B = B} first second show tell Fine Good one two text rest 
     subst (λ q. (text ≡ (show q.0 <+> tell q.1) ++ rest) × (Fine q.0 × Good q.0 q.1)) m.2
     (t.0 ∙ ap (λ (y : List ℕ). show x.0 ++ y) gap ∙ sym (append_assoc (show x.0) (32 ∷ tell m.0) rest), (t.1, u.1))
 
-pub takes_whole : {A : Type 0} (show : A → List ℕ) (Fine : A → Type 0) (reader : Reader A) → Takes show Fine reader → (text : List ℕ) (a : A) → whole reader text ≡ Some a → (text ≡ show a) × Fine a
+pub takes_whole : {A : Type 0} (show : A → List ℕ) (Fine : A → Type 0) (reader : Reader A) → Takes show Fine reader
+    → (text : List ℕ) (a : A) → whole reader text ≡ Some a → (text ≡ show a) × Fine a
 takes_whole {A = A} show Fine reader takes text a e =
     let b = bound (λ x. cond (eqb (length x.1) 0) (Some x.0) None) (reader text) a e in
     go b.0 (eqb (length b.0.1) 0) refl b.1 b.2 where
-      go : (x : A × List ℕ) (t : Bool) → eqb (length x.1) 0 ≡ t → reader text ≡ Some x → cond t (Some x.0) None ≡ Some a → (text ≡ show a) × Fine a
+      go : (x : A × List ℕ) (t : Bool) → eqb (length x.1) 0 ≡ t → reader text ≡ Some x → cond t (Some x.0) None ≡ Some a
+          → (text ≡ show a) × Fine a
       go x true s r h =
           let nil : x.1 ≡ [] = nil_from_length x.1 (eqb-true (length x.1) 0 s) in
           let t = takes text x.1 x.0 r in
-          subst (λ y. (text ≡ show y) × Fine y) (some_is x.0 a h) (t.0 ∙ ap (λ (r : List ℕ). show x.0 ++ r) nil ∙ append-nil (show x.0), t.1)
+          subst (λ y. (text ≡ show y) × Fine y) (some_is x.0 a h)
+          (t.0 ∙ ap (λ (r : List ℕ). show x.0 ++ r) nil ∙ append-nil (show x.0), t.1)
       go x false s r h = absurd cc
 
 -- ---- numbers
@@ -125,10 +140,15 @@ own = record { to = λ ds h. h; from = λ ds h. h; same = λ ds h. refl }
 spelled : (low high : ℕ) (ds : List ℕ) → AllDigits 10 ds → 0 < length ds → high ≤ highest_u64 → is_spelled_well low high ds ≡ true
     → (decimal (digits_value 10 ds) ≡ ds) × (low ≤ digits_value 10 ds) × (digits_value 10 ds ≤ high)
 spelled low high ds h some wide e =
-    let a = and_parts ((not (eqb (get_or ds 0 0) 48) || eqb (length ds) 1) && leb low (digits_value 10 ds)) (leb (digits_value 10 ds) high) e in
+    let a =
+    and_parts ((not (eqb (get_or ds 0 0) 48) || eqb (length ds) 1) && leb low (digits_value 10 ds)) (leb (digits_value 10 ds) high) e in
     let b = and_parts (not (eqb (get_or ds 0 0) 48) || eqb (length ds) 1) (leb low (digits_value 10 ds)) a.0 in
-    let le : digits_value 10 ds ≤ high = leb-true (digits_value 10 ds) high a.1 in
-    (decimal-digits_value own ds h some (λ z. alone (eqb (get_or ds 0 0) 48) (eqb (length ds) 1) (eq-eqb (get_or ds 0 0) 48 z) b.0 refl) (omega arith), leb-true low (digits_value 10 ds) b.1, le)
+    let le : digits_value 10 ds ≤ high = leb-true (digits_value 10 ds) high a.1 in (
+      decimal-digits_value own ds h some (λ z. alone (eqb (get_or ds 0 0) 48) (eqb (length ds) 1) (eq-eqb (get_or ds 0 0) 48 z) b.0 refl)
+          (omega arith),
+      leb-true low (digits_value 10 ds) b.1,
+      le,
+    )
   where
     alone : (p q : Bool) → p ≡ true → (not p || q) ≡ true → eqb (length ds) 1 ≡ q → length ds ≡ 1
     alone true true z o is = eqb-true (length ds) 1 is
@@ -138,20 +158,24 @@ spelled low high ds h some wide e =
 abbrev chosen : Bool → Option (ℕ × List ℕ) → Option (ℕ × List ℕ)
 chosen b o = cond b o None
 
-chosen_is : (b : Bool) (n : ℕ) (rest : List ℕ) (m : ℕ) (left : List ℕ) → chosen b (Some (n, rest)) ≡ Some (m, left) → (b ≡ true) × (n ≡ m) × (rest ≡ left)
+chosen_is : (b : Bool) (n : ℕ) (rest : List ℕ) (m : ℕ) (left : List ℕ) → chosen b (Some (n, rest)) ≡ Some (m, left)
+    → (b ≡ true) × (n ≡ m) × (rest ≡ left)
 chosen_is true n rest m left e =
     let same : (n, rest) ≡ (m, left) = some_is (n, rest) (m, left) e in
     (refl, ap (λ x. x.0) same, ap (λ x. x.1) same)
 chosen_is false n rest m left e = absurd cc
 
-front_is : (text ds : List ℕ) (n : ℕ) → ds ≡ take (digit_count text) text → decimal n ≡ ds → text ≡ decimal n ++ drop (digit_count text) text
-front_is text ds n is d = sym (take-append-drop (digit_count text) text) ∙ ap (λ (x : List ℕ). x ++ drop (digit_count text) text) (sym is ∙ sym d)
+front_is : (text ds : List ℕ) (n : ℕ) → ds ≡ take (digit_count text) text → decimal n ≡ ds
+    → text ≡ decimal n ++ drop (digit_count text) text
+front_is text ds n is d =
+    sym (take-append-drop (digit_count text) text) ∙ ap (λ (x : List ℕ). x ++ drop (digit_count text) text) (sym is ∙ sym d)
 
 pub takes_number : (low high : ℕ) → high ≤ highest_u64 → Takes decimal (λ n. (low ≤ n) × (n ≤ high)) (number true low high)
 unfolding number
 takes_number low high wide text rest n e = go (eqb (digit_count text) 0) refl e where
   go : (b : Bool) → eqb (digit_count text) 0 ≡ b
-      → cond b None (chosen (is_spelled_well low high (take (digit_count text) text)) (let x : ℕ × List ℕ = (digits_value 10 (take (digit_count text) text), drop (digit_count text) text) in Some x)) ≡ Some (n, rest)
+      → cond b None (chosen (is_spelled_well low high (take (digit_count text) text))
+      (let x : ℕ × List ℕ = (digits_value 10 (take (digit_count text) text), drop (digit_count text) text) in Some x)) ≡ Some (n, rest)
       → (text ≡ decimal n ++ rest) × ((low ≤ n) × (n ≤ high))
   go true z h = absurd cc
   go false z h =

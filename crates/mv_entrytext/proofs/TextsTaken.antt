@@ -34,7 +34,8 @@ entries_text es = flat_map (λ e. line (EntryOf e)) es
 
 abbrev up_to_budgets : Setup → List ℕ
 up_to_budgets c =
-    line Version ++ line (Callers c.callers) ++ line (Elements c.elements_per_caller) ++ line (Volumes c.volumes) ++ line (Latches c.latches) ++ line (Quota c.quota c.posted_quota) ++ budgets_text c.budgets
+    line Version ++ line (Callers c.callers) ++ line (Elements c.elements_per_caller) ++ line (Volumes c.volumes)
+    ++ line (Latches c.latches) ++ line (Quota c.quota c.posted_quota) ++ budgets_text c.budgets
 
 abbrev up_to_exits : Setup → List ℕ
 up_to_exits c = up_to_budgets c ++ owners_text c.owners ++ exits_text c.exits
@@ -60,8 +61,11 @@ SoFar AtVersion c es front = (front ≡ []) × HasNoList c es
 SoFar AtCallers c es front = (front ≡ line Version) × HasNoList c es
 SoFar AtElements c es front = (front ≡ line Version ++ line (Callers c.callers)) × HasNoList c es
 SoFar AtVolumes c es front = (front ≡ line Version ++ line (Callers c.callers) ++ line (Elements c.elements_per_caller)) × HasNoList c es
-SoFar AtLatches c es front = (front ≡ line Version ++ line (Callers c.callers) ++ line (Elements c.elements_per_caller) ++ line (Volumes c.volumes)) × HasNoList c es
-SoFar AtQuota c es front = (front ≡ line Version ++ line (Callers c.callers) ++ line (Elements c.elements_per_caller) ++ line (Volumes c.volumes) ++ line (Latches c.latches)) × HasNoList c es
+SoFar AtLatches c es front =
+    (front ≡ line Version ++ line (Callers c.callers) ++ line (Elements c.elements_per_caller) ++ line (Volumes c.volumes)) × HasNoList c es
+SoFar AtQuota c es front =
+    (front ≡ line Version ++ line (Callers c.callers) ++ line (Elements c.elements_per_caller) ++ line (Volumes c.volumes)
+    ++ line (Latches c.latches)) × HasNoList c es
 SoFar AtBudgets c es front = (front ≡ up_to_budgets c) × (c.owners ≡ []) × (c.exits ≡ []) × (es ≡ [])
 SoFar AtOwners c es front = (front ≡ up_to_budgets c ++ owners_text c.owners) × (c.exits ≡ []) × (es ≡ [])
 SoFar AtExits c es front = (front ≡ up_to_exits c) × (es ≡ [])
@@ -75,19 +79,33 @@ no_owner : (c : Setup) (es : List Entry) (front : List ℕ) → SoFar AtBudgets 
 no_owner c es front h = (h.0 ∙ sym (ap (λ (x : List ℕ). up_to_budgets c ++ owners_text x) h.1 ∙ append-nil (up_to_budgets c)), h.2, h.3)
 
 no_exit : (c : Setup) (es : List Entry) (front : List ℕ) → SoFar AtOwners c es front → SoFar AtExits c es front
-no_exit c es front h = (h.0 ∙ sym (ap (λ (x : List SetupExit). up_to_budgets c ++ owners_text c.owners ++ exits_text x) h.1 ∙ append-nil (up_to_budgets c ++ owners_text c.owners)), h.2)
+no_exit c es front h = (
+  h.0 ∙ sym (ap (λ (x : List SetupExit). up_to_budgets c ++ owners_text c.owners ++ exits_text x) h.1
+      ∙ append-nil (up_to_budgets c ++ owners_text c.owners)),
+  h.2,
+)
 
-then_owner : (c : Setup) (es : List Entry) (front : List ℕ) (n : ℕ) → SoFar AtOwners c es front → SoFar AtOwners (record c { owners = c.owners ++ n ∷ [] }) es (front ++ line (Owner n))
-then_owner c es front n h = (ap (λ (x : List ℕ). x ++ line (Owner n)) h.0 ∙ flat_map_more (λ n. line (Owner n)) (up_to_budgets c) c.owners n, h.1, h.2)
+then_owner : (c : Setup) (es : List Entry) (front : List ℕ) (n : ℕ) → SoFar AtOwners c es front
+    → SoFar AtOwners (record c { owners = c.owners ++ n ∷ [] }) es (front ++ line (Owner n))
+then_owner c es front n h =
+    (ap (λ (x : List ℕ). x ++ line (Owner n)) h.0 ∙ flat_map_more (λ n. line (Owner n)) (up_to_budgets c) c.owners n, h.1, h.2)
 
-then_exit : (c : Setup) (es : List Entry) (front : List ℕ) (x : SetupExit) → SoFar AtExits c es front → SoFar AtExits (record c { exits = c.exits ++ x ∷ [] }) es (front ++ line (ExitTo x))
-then_exit c es front x h = (ap (λ (t : List ℕ). t ++ line (ExitTo x)) h.0 ∙ flat_map_more (λ x. line (ExitTo x)) (up_to_budgets c ++ owners_text c.owners) c.exits x, h.1)
+then_exit : (c : Setup) (es : List Entry) (front : List ℕ) (x : SetupExit) → SoFar AtExits c es front
+    → SoFar AtExits (record c { exits = c.exits ++ x ∷ [] }) es (front ++ line (ExitTo x))
+then_exit c es front x h = (
+  ap (λ (t : List ℕ). t ++ line (ExitTo x)) h.0
+      ∙ flat_map_more (λ x. line (ExitTo x)) (up_to_budgets c ++ owners_text c.owners) c.exits x,
+  h.1,
+)
 
-then_events : (c : Setup) (es : List Entry) (front : List ℕ) → SoFar AtExits c es front → IsValid c → SoFar AtEntries c es (front ++ line Events)
+then_events : (c : Setup) (es : List Entry) (front : List ℕ) → SoFar AtExits c es front → IsValid c
+    → SoFar AtEntries c es (front ++ line Events)
 then_events c es front h v =
     let none : entries_text es ≡ [] = ap entries_text h.1 in
     record {
-      text = ap (λ (t : List ℕ). t ++ line Events) h.0 ∙ sym (ap (λ (x : List ℕ). up_to_exits c ++ line Events ++ x) none ∙ append-nil (up_to_exits c ++ line Events));
+      text =
+          ap (λ (t : List ℕ). t ++ line Events) h.0
+          ∙ sym (ap (λ (x : List ℕ). up_to_exits c ++ line Events ++ x) none ∙ append-nil (up_to_exits c ++ line Events));
       valid = v;
       each = subst (λ x. AllByRecursion HasText x) (sym h.1) tt;
     }
@@ -109,27 +127,49 @@ right_count a b e = go (eqb a b) refl e where
 plus : (front : List ℕ) (l : Line) (before : List ℕ) → front ≡ before → front ++ line l ≡ before ++ line l
 plus front l before e = ap (λ (x : List ℕ). x ++ line l) e
 
-one_line : (s : Stage) (c : Setup) (es : List Entry) (front : List ℕ) (l : Line) → SoFar s c es front → MayCome s l → kind_said (record { stage = s; setup = c; entries = es }) (Some l) ≡ None
+one_line : (s : Stage) (c : Setup) (es : List Entry) (front : List ℕ) (l : Line) → SoFar s c es front → MayCome s l
+    → kind_said (record { stage = s; setup = c; entries = es }) (Some l) ≡ None
     → let next = draft_with l (record { stage = s; setup = c; entries = es }) in SoFar next.stage next.setup next.entries (front ++ line l)
 one_line AtVersion c es front Version h m k = (plus front Version [] h.0, h.1)
-one_line AtCallers c es front (Callers n) h m k = (plus front (Callers n) _ h.0, record { budgets = h.1.budgets; owners = h.1.owners; exits = h.1.exits; entries = h.1.entries })
-one_line AtElements c es front (Elements n) h m k = (plus front (Elements n) _ h.0, record { budgets = h.1.budgets; owners = h.1.owners; exits = h.1.exits; entries = h.1.entries })
-one_line AtVolumes c es front (Volumes n) h m k = (plus front (Volumes n) _ h.0, record { budgets = h.1.budgets; owners = h.1.owners; exits = h.1.exits; entries = h.1.entries })
-one_line AtLatches c es front (Latches n) h m k = (plus front (Latches n) _ h.0, record { budgets = h.1.budgets; owners = h.1.owners; exits = h.1.exits; entries = h.1.entries })
-one_line AtQuota c es front (Quota q p) h m k = (plus front (Quota q p) _ h.0 ∙ sym (ap (λ (x : List ℕ). line Version ++ line (Callers c.callers) ++ line (Elements c.elements_per_caller) ++ line (Volumes c.volumes) ++ line (Latches c.latches) ++ line (Quota q p) ++ budgets_text x) h.1.budgets ∙ append-nil _), h.1.owners, h.1.exits, h.1.entries)
-one_line AtBudgets c es front (Budget n) h m k = (plus front (Budget n) _ h.0 ∙ flat_map_more (λ n. line (Budget n)) _ c.budgets n, h.1, h.2, h.3)
+one_line AtCallers c es front (Callers n) h m k =
+    (plus front (Callers n) _ h.0, record { budgets = h.1.budgets; owners = h.1.owners; exits = h.1.exits; entries = h.1.entries })
+one_line AtElements c es front (Elements n) h m k =
+    (plus front (Elements n) _ h.0, record { budgets = h.1.budgets; owners = h.1.owners; exits = h.1.exits; entries = h.1.entries })
+one_line AtVolumes c es front (Volumes n) h m k =
+    (plus front (Volumes n) _ h.0, record { budgets = h.1.budgets; owners = h.1.owners; exits = h.1.exits; entries = h.1.entries })
+one_line AtLatches c es front (Latches n) h m k =
+    (plus front (Latches n) _ h.0, record { budgets = h.1.budgets; owners = h.1.owners; exits = h.1.exits; entries = h.1.entries })
+one_line AtQuota c es front (Quota q p) h m k = (
+  plus front (Quota q p) _ h.0 ∙ sym
+      (ap (λ (x : List ℕ). line Version ++ line (Callers c.callers) ++ line (Elements c.elements_per_caller) ++ line (Volumes c.volumes)
+      ++ line (Latches c.latches) ++ line (Quota q p) ++ budgets_text x) h.1.budgets ∙ append-nil _),
+  h.1.owners,
+  h.1.exits,
+  h.1.entries,
+)
+one_line AtBudgets c es front (Budget n) h m k =
+    (plus front (Budget n) _ h.0 ∙ flat_map_more (λ n. line (Budget n)) _ c.budgets n, h.1, h.2, h.3)
 one_line AtBudgets c es front (Owner n) h m k = then_owner c es front n (no_owner c es front h)
 one_line AtBudgets c es front (ExitTo x) h m k = then_exit c es front x (no_exit c es front (no_owner c es front h))
-one_line AtBudgets c es front Events h m k = then_events c es front (no_exit c es front (no_owner c es front h)) (no_refusal (refusal_of c) k)
+one_line AtBudgets c es front Events h m k =
+    then_events c es front (no_exit c es front (no_owner c es front h)) (no_refusal (refusal_of c) k)
 one_line AtOwners c es front (Owner n) h m k = then_owner c es front n h
 one_line AtOwners c es front (ExitTo x) h m k = then_exit c es front x (no_exit c es front h)
 one_line AtOwners c es front Events h m k = then_events c es front (no_exit c es front h) (no_refusal (refusal_of c) k)
 one_line AtExits c es front (ExitTo x) h m k = then_exit c es front x h
 one_line AtExits c es front Events h m k = then_events c es front h (no_refusal (refusal_of c) k)
-one_line AtEntries c es front (EntryOf e) h m k = record { text = plus front (EntryOf e) _ h.text ∙ flat_map_more (λ e. line (EntryOf e)) (up_to_exits c ++ line Events) es e; valid = h.valid; each = all_more HasText es e h.each m }
+one_line AtEntries c es front (EntryOf e) h m k =
+    record {
+      text = plus front (EntryOf e) _ h.text
+          ∙ flat_map_more (λ e. line (EntryOf e)) (up_to_exits c ++ line Events) es e;
+      valid = h.valid;
+      each = all_more HasText es e h.each m;
+    }
 one_line AtEntries c es front (End n) h m k =
-    let count = right_count (length es) n k in
-    (plus front (End n) _ h.text ∙ ap (λ (x : ℕ). up_to_entries c es ++ line (End x)) (sym count), record { valid = h.valid; each = All-from_recursion HasText es h.each; count = omega arith })
+    let count = right_count (length es) n k in (
+      plus front (End n) _ h.text ∙ ap (λ (x : ℕ). up_to_entries c es ++ line (End x)) (sym count),
+      record { valid = h.valid; each = All-from_recursion HasText es h.each; count = omega arith },
+    )
 one_line s c es front l h m k = absurd m
 
 -- ---- all lines
@@ -156,7 +196,8 @@ is_said d text e =
       go None r s f = absurd (false≢true s)
       go (Some l) r s f = record { said = l; read = r; fine = f }
 
-first_none : (number : ℕ) (kind : Option ℕ) (behind : Option TextFault) → fault_or number kind behind ≡ None → (kind ≡ None) × (behind ≡ None)
+first_none : (number : ℕ) (kind : Option ℕ) (behind : Option TextFault) → fault_or number kind behind ≡ None
+    → (kind ≡ None) × (behind ≡ None)
 first_none number None behind e = (refl, e)
 first_none number (Some k) behind e = absurd cc
 
@@ -196,31 +237,42 @@ line_is : (l : Line) → line_text l ++ codes "\n" ≡ line l
 unfolding line
 line_is l = refl
 
-lines_read : (text : List ℕ) (more : List (List ℕ)) (number : ℕ) (d : Draft) (front : List ℕ) → first_fault number d (text ∷ more) ≡ None → SoFarD d front → IsRead (draft_of d (text ∷ more)) (front ++ joined 10 (text ∷ more))
+lines_read : (text : List ℕ) (more : List (List ℕ)) (number : ℕ) (d : Draft) (front : List ℕ) → first_fault number d (text ∷ more) ≡ None
+    → SoFarD d front → IsRead (draft_of d (text ∷ more)) (front ++ joined 10 (text ∷ more))
 unfolding first_fault draft_of
 lines_read last [] number d front e h =
     let o = is_over number d last e in
-    record { stage = o.stage; so_far = subst (λ (x : List ℕ). SoFarD d (front ++ x)) (sym o.nothing) (subst (λ (x : List ℕ). SoFarD d x) (sym (append-nil front)) h) }
+    record {
+      stage = o.stage;
+      so_far = subst (λ (x : List ℕ). SoFarD d (front ++ x)) (sym o.nothing)
+          (subst (λ (x : List ℕ). SoFarD d x) (sym (append-nil front)) h);
+    }
 lines_read text (next ∷ more) number d front e h =
     let f = first_none number (kind_of d text) (first_fault (number + 1) (draft_after d (line_read true d.stage text)) (next ∷ more)) e in
     let s = is_said d text f.0 in
     let t = line_taken d.stage text s.said s.read in
     let one = one_line d.stage d.setup d.entries front s.said h t.1 s.fine in
-    let rest : first_fault (number + 1) (draft_with s.said d) (next ∷ more) ≡ None = sym (ap (λ (o : Option Line). first_fault (number + 1) (draft_after d o) (next ∷ more)) s.read) ∙ f.1 in
+    let rest : first_fault (number + 1) (draft_with s.said d) (next ∷ more) ≡ None =
+    sym (ap (λ (o : Option Line). first_fault (number + 1) (draft_after d o) (next ∷ more)) s.read) ∙ f.1 in
     let ih = lines_read next more (number + 1) (draft_with s.said d) (front ++ line s.said) rest one in
     let text_is : front ++ joined 10 (text ∷ next ∷ more) ≡ (front ++ line s.said) ++ joined 10 (next ∷ more) =
-    front_more front text (joined 10 (next ∷ more)) ∙ ap (λ (x : List ℕ). (front ++ (x ++ codes "\n")) ++ joined 10 (next ∷ more)) t.0 ∙ ap (λ (x : List ℕ). (front ++ x) ++ joined 10 (next ∷ more)) (line_is s.said) in
-    subst (λ (o : Option Line). IsRead (draft_of (draft_after d o) (next ∷ more)) (front ++ joined 10 (text ∷ next ∷ more))) (sym s.read) (subst (λ (x : List ℕ). IsRead (draft_of (draft_with s.said d) (next ∷ more)) x) (sym text_is) ih)
+    front_more front text (joined 10 (next ∷ more)) ∙ ap (λ (x : List ℕ). (front ++ (x ++ codes "\n")) ++ joined 10 (next ∷ more)) t.0
+    ∙ ap (λ (x : List ℕ). (front ++ x) ++ joined 10 (next ∷ more)) (line_is s.said) in
+    subst (λ (o : Option Line). IsRead (draft_of (draft_after d o) (next ∷ more)) (front ++ joined 10 (text ∷ next ∷ more))) (sym s.read)
+    (subst (λ (x : List ℕ). IsRead (draft_of (draft_with s.said d) (next ∷ more)) x) (sym text_is) ih)
 
 all_lines : (c : Setup) (es : List Entry) → up_to_entries c es ++ line (End (length es)) ≡ journal_text c es
 unfolding journal_text head_text counts_text lists_text
 all_lines c es = simp append_assoc
 
 -- a text without fault is the text of what it is read as
-pub is_read_whole : (bytes : List ℕ) → text_fault bytes ≡ None → let d = journal_of bytes in (bytes ≡ journal_text d.setup d.entries) × HasJournal d.setup d.entries
+pub is_read_whole : (bytes : List ℕ) → text_fault bytes ≡ None → let d =
+    journal_of bytes in (bytes ≡ journal_text d.setup d.entries) × HasJournal d.setup d.entries
 is_read_whole bytes e =
     let f = first_part 10 bytes in
-    let ih = lines_read f.0 f.1 1 blank [] (sym (ap (first_fault 1 blank) f.2) ∙ e) (refl, record { budgets = refl; owners = refl; exits = refl; entries = refl }) in
+    let ih =
+    lines_read f.0 f.1 1 blank [] (sym (ap (first_fault 1 blank) f.2) ∙ e)
+    (refl, record { budgets = refl; owners = refl; exits = refl; entries = refl }) in
     let all = subst (λ (x : List (List ℕ)). IsRead (draft_of blank x) (joined 10 x)) (sym f.2) ih in
     let d = journal_of bytes in
     let last = subst (λ (s : Stage). SoFar s d.setup d.entries (joined 10 (parts_at 10 bytes))) all.stage all.so_far in

@@ -36,6 +36,7 @@ kind_of_form stage text =
 abbrev pub kind_of_config : Setup → Option ℕ
 kind_of_config c = if is_some (refusal_of c) then Some 3 else None
 
+-- what has been said where this line comes next
 abbrev pub draft_at : Stage → Setup → List Entry → Draft
 draft_at stage setup entries = record { stage = stage; setup = setup; entries = entries }
 

@@ -10,6 +10,7 @@ use Rattle.mv_entrytext.specs.Reading.{Reader, given, nothing, behind, made, num
 
 -- ---- words
 
+-- the words of an operation
 abbrev pub ecb_op_text : EcbOp → List ℕ
 ecb_op_text Arm = codes "ARM"
 ecb_op_text (Extend exit) = codes "EXTEND" <+> decimal exit
@@ -18,6 +19,7 @@ ecb_op_text Clear = codes "CLEAR"
 ecb_op_text (Post code) = codes "POST" <+> decimal code
 ecb_op_text Test = codes "TEST"
 
+-- the words of a reply
 abbrev pub ecb_reply_text : EcbReply → List ℕ
 ecb_reply_text Armed = codes "ARMED"
 ecb_reply_text (Linked exit) = codes "LINKED" <+> decimal exit
@@ -31,11 +33,13 @@ ecb_reply_text (Word word) = codes "WORD" <+> decimal word
 
 -- ---- ranges: what a number's type does not say, and what it does
 
+-- the numbers of an operation are in their ranges
 abbrev pub IsEcbOpInRange : EcbOp → Type 0
 IsEcbOpInRange (Extend exit) = (1 ≤ exit) × (exit ≤ highest_ecb_code)
 IsEcbOpInRange (Post code) = code ≤ highest_ecb_code
 IsEcbOpInRange _ = Unit {0}
 
+-- the numbers of a reply are in their ranges
 abbrev pub IsEcbReplyInRange : EcbReply → Type 0
 IsEcbReplyInRange (Linked exit) = (1 ≤ exit) × (exit ≤ highest_ecb_code)
 IsEcbReplyInRange (Complete code) = code ≤ highest_ecb_code
@@ -43,18 +47,22 @@ IsEcbReplyInRange (Woke exit) = exit ≤ highest_ecb_code
 IsEcbReplyInRange (Already code) = code ≤ highest_ecb_code
 IsEcbReplyInRange _ = Unit {0}
 
+-- the number of a reply is one of its type
 abbrev pub IsEcbReplyTyped : EcbReply → Type 0
 IsEcbReplyTyped (Word word) = word ≤ highest_u32
 IsEcbReplyTyped _ = Unit {0}
 
 -- ---- reading
 
+-- the number of an exit
 abbrev pub exit_number : Bool → Reader ℕ
 exit_number strict = number strict 1 highest_ecb_code
 
+-- a completion code, or the number of an exit or 0
 abbrev pub ecb_code : Bool → Reader ℕ
 ecb_code strict = number strict 0 highest_ecb_code
 
+-- an operation, read
 unfoldable pub ecb_op : Bool → Reader EcbOp
 ecb_op strict =
     behind (codes "ARM") (given Arm)
@@ -65,6 +73,7 @@ ecb_op strict =
     (behind (codes "TEST") (given Test)
     nothing)))))
 
+-- a reply, read
 unfoldable pub ecb_reply : Bool → Reader EcbReply
 ecb_reply strict =
     behind (codes "ARMED") (given Armed)

@@ -15,6 +15,7 @@ use Rattle.mv_entrytext.specs.Reading.{Reader, given, nothing, behind, made, par
 
 -- ---- words
 
+-- the word of a phase
 abbrev pub phase_text : Phase → List ℕ
 phase_text Free = codes "FREE"
 phase_text Reset = codes "RESET"
@@ -22,6 +23,7 @@ phase_text Prereleased = codes "PRERELEASED"
 phase_text Paused = codes "PAUSED"
 phase_text Released = codes "RELEASED"
 
+-- the words of an operation
 abbrev pub element_op_text : ElementOp → List ℕ
 element_op_text Open = codes "OPEN"
 element_op_text (Pause generation) = codes "PAUSE" <+> decimal generation
@@ -30,6 +32,7 @@ element_op_text (Release generation code) = codes "RELEASE" <+> decimal generati
 element_op_text (Close generation) = codes "CLOSE" <+> decimal generation
 element_op_text Test = codes "TEST"
 
+-- the words of a reply
 abbrev pub element_reply_text : ElementReply → List ℕ
 element_reply_text (Opened generation) = codes "OPENED" <+> decimal generation
 element_reply_text InUse = codes "INUSE"
@@ -46,10 +49,12 @@ element_reply_text (State s) = codes "STATE" <+> decimal s.generation <+> phase_
 
 -- ---- ranges: what a number's type does not say, and what it does
 
+-- the numbers of an operation are in their ranges
 abbrev pub IsElementOpInRange : ElementOp → Type 0
 IsElementOpInRange (Release generation code) = code ≤ highest_release_code
 IsElementOpInRange _ = Unit {0}
 
+-- the numbers of an operation are ones of their types
 abbrev pub IsElementOpTyped : ElementOp → Type 0
 IsElementOpTyped (Pause generation) = generation ≤ highest_u32
 IsElementOpTyped (Resume generation) = generation ≤ highest_u32
@@ -57,6 +62,7 @@ IsElementOpTyped (Release generation code) = generation ≤ highest_u32
 IsElementOpTyped (Close generation) = generation ≤ highest_u32
 IsElementOpTyped _ = Unit {0}
 
+-- the numbers of a reply are in their ranges
 abbrev pub IsElementReplyInRange : ElementReply → Type 0
 IsElementReplyInRange (Opened generation) = generation ≤ highest_generation
 IsElementReplyInRange (Given code next) = (code ≤ highest_release_code) × (next ≤ highest_generation)
@@ -66,12 +72,15 @@ IsElementReplyInRange _ = Unit {0}
 
 -- ---- reading
 
+-- a release code
 abbrev pub release_code : Bool → Reader ℕ
 release_code strict = number strict 0 highest_release_code
 
+-- a generation that an element can reach
 abbrev pub reached_generation : Bool → Reader ℕ
 reached_generation strict = number strict 0 highest_generation
 
+-- the word of a phase, read
 unfoldable pub phase : Reader Phase
 phase =
     behind (codes "FREE") (given Free)
@@ -85,9 +94,11 @@ phase =
 abbrev pub highest_kept : Phase → ℕ
 highest_kept phase = if keeps_code phase then highest_release_code else 0
 
+-- the code that a state of this phase may keep
 abbrev pub kept_code : Bool → Phase → Reader ℕ
 kept_code strict phase = number strict 0 (highest_kept phase)
 
+-- the state of this phase
 abbrev pub state_in : Phase → ℕ → ℕ → ElementState
 state_in Free generation code = free generation
 state_in Reset generation code = reset generation
@@ -95,10 +106,12 @@ state_in Prereleased generation code = prereleased generation code
 state_in Paused generation code = paused generation
 state_in Released generation code = released generation code
 
+-- a generation, a phase and a code
 unfoldable pub element_state : Bool → Reader ElementState
 element_state strict =
     made (λ x. state_in x.1.0 x.0 x.1.1) (parted (reached_generation strict) (parted_by phase (kept_code strict)))
 
+-- an operation, read
 unfoldable pub element_op : Bool → Reader ElementOp
 element_op strict =
     behind (codes "OPEN") (given Open)

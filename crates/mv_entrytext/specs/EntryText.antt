@@ -17,24 +17,28 @@ use Rattle.mv_entrytext.specs.LatchText.{latch_op_text, latch_reply_text, IsLatc
 
 -- ---- words
 
+-- the word of an object: its kind and its number
 abbrev pub object_text : Object → List ℕ
 object_text (Ecb n) = codes "E" ++ decimal n
 object_text (Element n) = codes "P" ++ decimal n
 object_text (Volume n) = codes "V" ++ decimal n
 object_text Latches = codes "L"
 
+-- the words of an operation
 abbrev pub op_text : Op → List ℕ
 op_text (op_on.Ecb op) = ecb_op_text op
 op_text (op_on.Element op) = element_op_text op
 op_text (op_on.Volume op) = volume_op_text op
 op_text (op_on.Latch op) = latch_op_text op
 
+-- the words of a reply
 abbrev pub reply_text : Reply → List ℕ
 reply_text (reply_of.Ecb reply) = ecb_reply_text reply
 reply_text (reply_of.Element reply) = element_reply_text reply
 reply_text (reply_of.Volume reply) = volume_reply_text reply
 reply_text (reply_of.Latch reply) = latch_reply_text reply
 
+-- the line of an entry without its LF
 unfoldable pub entry_text : Entry → List ℕ
 entry_text e =
     decimal e.caller <+> object_text e.object <+> decimal e.place <+> op_text e.op <+> codes "=" <+> reply_text e.reply
@@ -50,6 +54,7 @@ IsEventInRange (Volume n) (op_on.Volume op) (reply_of.Volume reply) = Unit {0}
 IsEventInRange Latches (op_on.Latch op) (reply_of.Latch reply) = Unit {0}
 IsEventInRange _ _ _ = ⊥
 
+-- the place and the numbers of an entry are in their ranges
 pub record IsInRange (e : Entry) : Type 0 where
   pub place : e.place ≤ highest_place
   pub event : IsEventInRange e.object e.op e.reply
@@ -61,29 +66,34 @@ IsObjectTyped (Element n) = n ≤ highest_u32
 IsObjectTyped (Volume n) = n ≤ highest_u32
 IsObjectTyped Latches = Unit {0}
 
+-- the numbers of an operation are ones of their types
 abbrev pub IsOpTyped : Op → Type 0
 IsOpTyped (op_on.Ecb op) = Unit {0}
 IsOpTyped (op_on.Element op) = IsElementOpTyped op
 IsOpTyped (op_on.Volume op) = IsVolumeOpTyped op
 IsOpTyped (op_on.Latch op) = IsLatchOpTyped op
 
+-- the numbers of a reply are ones of their types
 abbrev pub IsReplyTyped : Reply → Type 0
 IsReplyTyped (reply_of.Ecb reply) = IsEcbReplyTyped reply
 IsReplyTyped (reply_of.Element reply) = Unit {0}
 IsReplyTyped (reply_of.Volume reply) = IsVolumeReplyTyped reply
 IsReplyTyped (reply_of.Latch reply) = IsLatchReplyTyped reply
 
+-- each number of an entry is one of its type
 pub record IsTyped (e : Entry) : Type 0 where
   pub caller : e.caller ≤ highest_u32
   pub object : IsObjectTyped e.object
   pub op : IsOpTyped e.op
   pub reply : IsReplyTyped e.reply
 
+-- an entry has a text
 abbrev pub HasText : Entry → Type 0
 HasText e = IsInRange e × IsTyped e
 
 -- ---- reading
 
+-- an object, read
 unfoldable pub object_read : Bool → Reader Object
 object_read strict =
     behind (codes "E") (made (λ n. Ecb n) (any_u32 strict))
@@ -96,6 +106,7 @@ object_read strict =
 abbrev pub event : {O R : Type 0} → Bool → Reader O → Reader R → Reader (ℕ × (O × R))
 event strict op reply = parted (number strict 0 highest_place) (parted op (behind (codes "= ") reply nothing))
 
+-- the entry of these parts
 abbrev pub entry_of : ℕ → Object → ℕ → Op → Reply → Entry
 entry_of caller object place op reply =
     record { caller = caller; object = object; place = place; op = op; reply = reply }
@@ -105,12 +116,15 @@ abbrev pub entry_on : Bool → ℕ → Object → Reader Entry
 entry_on strict caller (Ecb n) =
     made (λ x. entry_of caller (Ecb n) x.0 (op_on.Ecb x.1.0) (reply_of.Ecb x.1.1)) (event strict (ecb_op strict) (ecb_reply strict))
 entry_on strict caller (Element n) =
-    made (λ x. entry_of caller (Element n) x.0 (op_on.Element x.1.0) (reply_of.Element x.1.1)) (event strict (element_op strict) (element_reply strict))
+    made (λ x. entry_of caller (Element n) x.0 (op_on.Element x.1.0) (reply_of.Element x.1.1))
+    (event strict (element_op strict) (element_reply strict))
 entry_on strict caller (Volume n) =
-    made (λ x. entry_of caller (Volume n) x.0 (op_on.Volume x.1.0) (reply_of.Volume x.1.1)) (event strict (volume_op strict) (volume_reply strict))
+    made (λ x. entry_of caller (Volume n) x.0 (op_on.Volume x.1.0) (reply_of.Volume x.1.1))
+    (event strict (volume_op strict) (volume_reply strict))
 entry_on strict caller Latches =
     made (λ x. entry_of caller Latches x.0 (op_on.Latch x.1.0) (reply_of.Latch x.1.1)) (event strict (latch_op strict) (latch_reply strict))
 
+-- an entry, read
 unfoldable pub entry_read : Bool → Reader Entry
 entry_read strict =
     made (λ x. x.1) (parted_by (parted (any_u32 strict) (object_read strict)) (λ front. entry_on strict front.0 front.1))

@@ -54,11 +54,13 @@ abbrev pub is_ended : Stage → Bool
 is_ended AtEnd = true
 is_ended _ = false
 
+-- the text ends in this line, or before its end line
 abbrev pub is_cut : Draft → List ℕ → Bool
 is_cut d line = not (is_ended d.stage && length line == 0)
 
 -- ---- the first fault of a text
 
+-- a fault of this line, of this kind
 abbrev pub fault_at : ℕ → ℕ → TextFault
 fault_at line kind = record { line = line; kind = kind }
 
@@ -79,6 +81,7 @@ first_fault number d (last ∷ []) = if is_cut d last then Some (fault_at number
 first_fault number d (line ∷ more ∷ lines) =
     fault_or number (kind_of d line) (first_fault (number + 1) (draft_after d (line_read true d.stage line)) (more ∷ lines))
 
+-- the first fault of a text, if it has one
 abbrev pub text_fault : List ℕ → Option TextFault
 text_fault bytes = first_fault 1 blank (parts_at 10 bytes)
 
@@ -89,6 +92,7 @@ TellsFirst NoMemory first = Unit {0}
 
 -- ---- what a text says
 
+-- what the lines of a text have said
 unfoldable pub draft_of : Draft → List (List ℕ) → Draft
 draft_of d [] = d
 draft_of d (last ∷ []) = d
@@ -100,6 +104,7 @@ journal_of bytes = draft_of blank (parts_at 10 bytes)
 
 -- ---- which configurations and entries have a text
 
+-- a configuration and entries that have a text
 pub record HasJournal (c : Setup) (entries : List Entry) : Type 0 where
   pub valid : IsValid c
   pub each : All HasText entries

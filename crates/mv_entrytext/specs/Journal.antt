@@ -36,6 +36,7 @@ line_text Events = codes "EVENTS"
 line_text (EntryOf e) = entry_text e
 line_text (End n) = codes "END" <+> decimal n
 
+-- a line with its LF
 unfoldable pub line : Line → List ℕ
 line l = line_text l ++ codes "\n"
 
@@ -52,8 +53,10 @@ lists_text c =
     ++ flat_map (λ n. line (Owner n)) c.owners
     ++ flat_map (λ x. line (ExitTo x)) c.exits
 
+-- the head: what there is, and the line that the events follow
 unfoldable pub head_text : Setup → List ℕ
 head_text c = counts_text c ++ lists_text c ++ line Events
 
+-- the head, a line for each entry, and the end
 unfoldable pub journal_text : Setup → List Entry → List ℕ
 journal_text c entries = head_text c ++ flat_map (λ e. line (EntryOf e)) entries ++ line (End (length entries))

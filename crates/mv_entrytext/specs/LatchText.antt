@@ -14,6 +14,7 @@ use Rattle.mv_entrytext.specs.Reading.{Reader, given, nothing, behind, made, par
 
 -- ---- words
 
+-- the word of a mode
 abbrev pub mode_text : Mode → List ℕ
 mode_text Shared = codes "S"
 mode_text Exclusive = codes "X"
@@ -29,6 +30,7 @@ abbrev pub condition_text : Bool → List ℕ
 condition_text true = codes "C"
 condition_text false = codes "U"
 
+-- the words of an operation
 abbrev pub latch_op_text : LatchOp → List ℕ
 latch_op_text (Obtain latch requestor mode form) =
     codes "OBTAIN" <+> decimal latch <+> decimal requestor <+> mode_text mode <+> form_text form
@@ -36,6 +38,7 @@ latch_op_text (Confirm latch id) = codes "CONFIRM" <+> decimal latch <+> decimal
 latch_op_text (Release latch id conditional) = codes "RELEASE" <+> decimal latch <+> decimal id <+> condition_text conditional
 latch_op_text (Purge requestor) = codes "PURGE" <+> decimal requestor
 
+-- the words of a reply
 abbrev pub latch_reply_text : LatchReply → List ℕ
 latch_reply_text (Granted id) = codes "GRANTED" <+> decimal id
 latch_reply_text (Queued id) = codes "QUEUED" <+> decimal id
@@ -47,16 +50,19 @@ latch_reply_text (Purged removed granted) = codes "PURGED" <+> decimal removed <
 
 -- ---- ranges: each number may be any of its type
 
+-- the number of a form is one of its type
 abbrev pub IsFormTyped : LatchForm → Type 0
 IsFormTyped (form.Posted ecb) = ecb ≤ highest_u32
 IsFormTyped _ = Unit {0}
 
+-- the numbers of an operation are ones of their types
 abbrev pub IsLatchOpTyped : LatchOp → Type 0
 IsLatchOpTyped (Obtain latch requestor mode form) = (latch ≤ highest_u32) × (requestor ≤ highest_u64) × IsFormTyped form
 IsLatchOpTyped (Confirm latch id) = (latch ≤ highest_u32) × (id ≤ highest_u32)
 IsLatchOpTyped (Release latch id conditional) = (latch ≤ highest_u32) × (id ≤ highest_u32)
 IsLatchOpTyped (Purge requestor) = requestor ≤ highest_u64
 
+-- the numbers of a reply are ones of their types
 abbrev pub IsLatchReplyTyped : LatchReply → Type 0
 IsLatchReplyTyped (Granted id) = id ≤ highest_u32
 IsLatchReplyTyped (Queued id) = id ≤ highest_u32
@@ -67,12 +73,14 @@ IsLatchReplyTyped _ = Unit {0}
 
 -- ---- reading
 
+-- a mode, read
 unfoldable pub mode_read : Reader Mode
 mode_read =
     behind (codes "S") (given Shared)
     (behind (codes "X") (given Exclusive)
     nothing)
 
+-- a form, read
 unfoldable pub form_read : Bool → Reader LatchForm
 form_read strict =
     behind (codes "C") (given form.Conditional)
@@ -80,12 +88,14 @@ form_read strict =
     (behind (codes "P") (made (λ ecb. form.Posted ecb) (any_u32 strict))
     nothing))
 
+-- whether a release is conditional, read
 unfoldable pub condition : Reader Bool
 condition =
     behind (codes "C") (given true)
     (behind (codes "U") (given false)
     nothing)
 
+-- two numbers of four bytes
 abbrev pub two_u32 : Bool → Reader (ℕ × ℕ)
 two_u32 strict = parted (any_u32 strict) (any_u32 strict)
 
@@ -93,12 +103,15 @@ two_u32 strict = parted (any_u32 strict) (any_u32 strict)
 unfoldable pub obtain_rest : Bool → Reader (ℕ × (Mode × LatchForm))
 obtain_rest strict = parted (any_u64 strict) (parted mode_read (form_read strict))
 
+-- what stands behind the word of an obtain
 unfoldable pub obtain : Bool → Reader LatchOp
 obtain strict = made (λ x. Obtain x.0 x.1.0 x.1.1.0 x.1.1.1) (parted (any_u32 strict) (obtain_rest strict))
 
+-- what stands behind the word of a release
 unfoldable pub release : Bool → Reader LatchOp
 release strict = made (λ x. Release x.0 x.1.0 x.1.1) (parted (any_u32 strict) (parted (any_u32 strict) condition))
 
+-- an operation, read
 unfoldable pub latch_op : Bool → Reader LatchOp
 latch_op strict =
     behind (codes "OBTAIN ") (obtain strict)
@@ -107,6 +120,7 @@ latch_op strict =
     (behind (codes "PURGE ") (made (λ requestor. Purge requestor) (any_u64 strict))
     nothing)))
 
+-- a reply, read
 unfoldable pub latch_reply : Bool → Reader LatchReply
 latch_reply strict =
     behind (codes "GRANTED ") (made (λ id. Granted id) (any_u32 strict))

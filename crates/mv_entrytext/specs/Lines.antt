@@ -71,6 +71,7 @@ line_read strict stage text = whole (next_line strict stage) text
 
 -- ---- what the lines so far have said
 
+-- which line comes next, the configuration so far, and the entries so far
 pub record Draft : Type 0 where
   pub stage : Stage
   pub setup : Setup
@@ -126,5 +127,6 @@ abbrev pub entries_with : Line → List Entry → List Entry
 entries_with (EntryOf e) es = es ++ e ∷ []
 entries_with _ es = es
 
+-- what the lines have said with one line more
 abbrev pub draft_with : Line → Draft → Draft
 draft_with l d = record { stage = stage_behind l; setup = setup_with l d.setup; entries = entries_with l d.entries }

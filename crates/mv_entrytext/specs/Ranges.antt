@@ -5,6 +5,7 @@ use Rattle.std.specs.Prelude.{ℕ}
 abbrev pub highest_u32 : ℕ
 highest_u32 = 4_294_967_295
 
+-- the highest number of eight bytes
 abbrev pub highest_u64 : ℕ
 highest_u64 = 18_446_744_073_709_551_615
 

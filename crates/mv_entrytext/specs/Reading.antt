@@ -39,6 +39,7 @@ parted_by first second text =
     option_and_then (λ x.
     option_and_then (λ rest. option_map (λ y. ((x.0, y.0), y.1)) (second x.0 rest)) (after (codes " ") x.1)) (first text)
 
+-- two values with one space between, each read by itself
 abbrev pub parted : {A B : Type 0} → Reader A → Reader B → Reader (A × B)
 parted first second = parted_by first (λ x. second)
 
@@ -55,12 +56,14 @@ abbrev pub onto_first : ℕ → List (List ℕ) → List (List ℕ)
 onto_first b [] = (b ∷ []) ∷ []
 onto_first b (part ∷ parts) = (b ∷ part) ∷ parts
 
+-- the parts of a text between the bytes of this value, one part more than there are such bytes
 unfoldable pub parts_at : ℕ → List ℕ → List (List ℕ)
 parts_at byte [] = [] ∷ []
 parts_at byte (b ∷ text) = if b == byte then [] ∷ parts_at byte text else onto_first b (parts_at byte text)
 
 -- ---- numbers
 
+-- a decimal digit
 abbrev pub is_digit : ℕ → Bool
 is_digit b = nat_le 48 b && nat_le b 57
 
@@ -88,5 +91,6 @@ number strict low high text =
 abbrev pub any_u32 : Bool → Reader ℕ
 any_u32 strict = number strict 0 highest_u32
 
+-- a number of eight bytes
 abbrev pub any_u64 : Bool → Reader ℕ
 any_u64 strict = number strict 0 highest_u64

@@ -25,10 +25,12 @@ said (Owner n) = journal.Owner n
 said (Exit x) = journal.ExitTo (exit_of x)
 said Events = journal.Events
 
+-- what a line behind the head says
 abbrev pub entry_said : EntryLine → journal.Line
 entry_said (Entry e) = journal.EntryOf e
 entry_said (End n) = journal.End n
 
+-- which line of the head comes next
 abbrev pub stage_of : Stage → lines.Stage
 stage_of stage.Version = lines.AtVersion
 stage_of stage.Callers = lines.AtCallers
@@ -44,6 +46,7 @@ stage_of stage.Exits = lines.AtExits
 abbrev pub line_seen : Option (Line × Bor (List ℕ)) → Option (journal.Line × List ℕ)
 line_seen read = option_map (λ x. (said x.0, x.1.now)) read
 
+-- what was read of a line behind the head, and what is left
 abbrev pub entry_line_seen : Option (EntryLine × Bor (List ℕ)) → Option (journal.Line × List ℕ)
 entry_line_seen read = option_map (λ x. (entry_said x.0, x.1.now)) read
 

@@ -8,10 +8,12 @@ use Rattle.mv_entrytext.specs.Ranges.{highest_u32}
 use Rattle.mv_entrytext.specs.Words.{◌<+>◌}
 use Rattle.mv_entrytext.specs.Reading.{Reader, given, nothing, behind, made, any_u32}
 
+-- the words of an operation
 abbrev pub volume_op_text : VolumeOp → List ℕ
 volume_op_text Read = codes "READ"
 volume_op_text (Write number) = codes "WRITE" <+> decimal number
 
+-- the words of a reply
 abbrev pub volume_reply_text : VolumeReply → List ℕ
 volume_reply_text (Value number) = codes "VALUE" <+> decimal number
 volume_reply_text Stored = codes "STORED"
@@ -21,16 +23,19 @@ abbrev pub IsVolumeOpTyped : VolumeOp → Type 0
 IsVolumeOpTyped Read = Unit {0}
 IsVolumeOpTyped (Write number) = number ≤ highest_u32
 
+-- the number of a reply is one of its type
 abbrev pub IsVolumeReplyTyped : VolumeReply → Type 0
 IsVolumeReplyTyped (Value number) = number ≤ highest_u32
 IsVolumeReplyTyped Stored = Unit {0}
 
+-- an operation, read
 unfoldable pub volume_op : Bool → Reader VolumeOp
 volume_op strict =
     behind (codes "READ") (given Read)
     (behind (codes "WRITE ") (made (λ number. Write number) (any_u32 strict))
     nothing)
 
+-- a reply, read
 unfoldable pub volume_reply : Bool → Reader VolumeReply
 volume_reply strict =
     behind (codes "VALUE ") (made (λ number. Value number) (any_u32 strict))

@@ -1,4 +1,4 @@
-//! Operations on event control blocks and their replies, as text.
+//! Operations on event control blocks and their replies, as text: `specs/EcbText.antt`.
 
 ghost use Rattle.std.specs.Prelude.{◌≡◌, ◌++◌, OnOk};
 ghost use Rattle.mv_entrytext.specs.EcbText.{ecb_op_text, ecb_reply_text, IsEcbReplyTyped, ecb_op, ecb_reply};

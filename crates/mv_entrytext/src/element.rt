@@ -1,4 +1,4 @@
-//! Operations on pause elements and their replies, as text.
+//! Operations on pause elements and their replies, as text: `specs/ElementText.antt`.
 
 ghost use Rattle.std.specs.Prelude.{◌≡◌, ◌++◌, OnOk};
 ghost use Rattle.mv_entrytext.specs.ElementText.{phase_text, element_op_text, element_reply_text, IsElementOpTyped, phase, highest_kept, state_in, element_state, element_op, telling_reply, element_reply};

@@ -1,4 +1,4 @@
-//! Entries as text.
+//! Entries as text: `specs/EntryText.antt`.
 
 ghost use Rattle.std.specs.Prelude.{◌≡◌, ◌≤◌, ◌++◌, OnOk, codes, decimal};
 ghost use Rattle.mv_entrytext.specs.Ranges.{highest_u32};

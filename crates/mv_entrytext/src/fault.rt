@@ -1,4 +1,4 @@
-//! What is wrong with a text that is no journal.
+//! What is wrong with a text that is no journal. `specs/Fault.antt` says which fault is a text's first.
 
 /// A fault of a text: the number of its line, from 1, and its kind. Kind 1 is a line of no form that may stand there, 2 a
 /// number with a leading zero or beyond its range, 3 a configuration that is refused, at `EVENTS`, 4 a count that is not

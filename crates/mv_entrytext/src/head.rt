@@ -1,4 +1,4 @@
-//! The head of a journal, read to its end.
+//! The head of a journal, read to its end: `specs/Lines.antt`, `specs/Draft.antt` and `specs/Fault.antt`.
 
 ghost use Rattle.std.specs.Prelude.{◌≡◌, ◌≢◌, ◌<◌, ◌≤◌, ◌+◌, ◌-◌, ◌^◌, ℕ, List, [], true, Some, length, OnOk, MatchResult};
 ghost use Rattle.mv_machine.specs.Check.{IsValid};

@@ -1,4 +1,4 @@
-//! The lines of a journal, read one by one.
+//! The lines of a journal, read one by one: `specs/Lines.antt`; what they say is `specs/Said.antt`.
 
 ghost use Rattle.std.specs.Prelude.{◌≡◌, ◌==◌, ◌≤◌, ◌∷◌, [], ℕ, List, IfOk, option_map, length};
 ghost use Rattle.std.specs.List.{position};

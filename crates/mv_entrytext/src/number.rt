@@ -1,4 +1,4 @@
-//! Numbers in a text.
+//! Numbers in a text: `specs/Reading.antt`.
 
 ghost use Rattle.std.specs.Prelude.{◌≡◌, ◌≤◌, ◌<◌, ◌^◌, ◌++◌, ◌+◌, ◌*◌, ◌-◌, ℕ, List, All, OnOk, IfSome, SomeIff, MatchOption, Some, None, true, false, nat_eq, decimal, drop, length, if◌then◌else◌};
 ghost use Rattle.std.specs.List.{starts_with};

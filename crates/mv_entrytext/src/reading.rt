@@ -1,4 +1,4 @@
-//! The reader of journals: one pass over the bytes.
+//! The reader of journals, one pass over the bytes: `specs/Journal.antt`, `specs/Fault.antt` and `specs/Draft.antt`.
 
 ghost use Rattle.std.specs.Prelude.{◌≡◌, ◌<◌, ◌≤◌, ◌+◌, ◌-◌, ◌^◌, ◌∷◌, ℕ, List, [], true, Some, length, vec_len, IfOk, IfErr, MatchResult};
 ghost use Rattle.mv_entrytext.specs.Journal.{journal_text};

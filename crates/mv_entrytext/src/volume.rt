@@ -1,4 +1,4 @@
-//! Operations on volumes and their replies, as text.
+//! Operations on volumes and their replies, as text: `specs/VolumeText.antt`.
 
 ghost use Rattle.std.specs.Prelude.{◌≡◌, ◌++◌, OnOk};
 ghost use Rattle.mv_entrytext.specs.VolumeText.{volume_op_text, volume_reply_text, IsVolumeOpTyped, IsVolumeReplyTyped, volume_op, volume_reply};

@@ -1,4 +1,4 @@
-//! The journal, written from its first line to its last.
+//! The journal, written from its first line to its last: `specs/Journal.antt`.
 
 ghost use Rattle.std.specs.Prelude.{◌≡◌, ◌≤◌, ◌<◌, ◌^◌, ◌++◌, List, ℕ, length, All, map, OnOk, IfOk, codes, decimal};
 ghost use Rattle.std.specs.List.{flat_map};

@@ -21,6 +21,7 @@ loop-digit-preserved c =
 
 pub returns : goal.returns
 returns c =
-    let whole : take c.loop-digit.digit-index c.args.digits.now ≡ c.args.digits.now = take_all c.loop-digit.digit-index c.args.digits.now c.loop-digit-test.false in
+    let whole : take c.loop-digit.digit-index c.args.digits.now ≡ c.args.digits.now =
+    take_all c.loop-digit.digit-index c.args.digits.now c.loop-digit-test.false in
     let is : c.loop-digit.value ≡ digits_value 10 c.args.digits.now = c.loop-digit.invariant.0 ∙ ap (digits_value 10) whole in
     (omega arith, is)

@@ -6,4 +6,6 @@ use Rattle.mv_entrytext.specs.Journal.{EntryOf, line}
 use Rattle.mv_entrytext.proofs.writing.push_entries.Given as goal
 
 abbrev pub invariant-loop-entry : goal.invariant-loop-entry
-invariant-loop-entry l = (l.out.items ≡ l.initial.out.items ++ flat_map (λ e. line (EntryOf e)) (take l.entry-index l.entries)) × All IsTyped (take l.entry-index l.entries)
+invariant-loop-entry l =
+    (l.out.items ≡ l.initial.out.items ++ flat_map (λ e. line (EntryOf e)) (take l.entry-index l.entries)) × All IsTyped
+    (take l.entry-index l.entries)
