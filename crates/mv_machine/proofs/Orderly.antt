@@ -84,7 +84,8 @@ left_of_all r (qs ∷ lists) = (left_of r qs, left_of_all r lists)
 -- so none is counted in a list
 none_counted : (r : ℕ) (qs : List Request) → AllByRecursion (IsNotOf r) qs → length (filter (of_requestor r) qs) ≡ 0
 none_counted r [] a = refl
-none_counted r (q ∷ qs) a = ap (λ b. length (cond b (q ∷ filter (of_requestor r) qs) (filter (of_requestor r) qs))) a.0 ∙ none_counted r qs a.1
+none_counted r (q ∷ qs) a = ap (λ b. length (cond b (q ∷ filter (of_requestor r) qs) (filter (of_requestor r) qs))) a.0
+    ∙ none_counted r qs a.1
 
 -- nor in all
 none_in : (r : ℕ) (lists : List (List Request)) → NoneOf r lists → count_in (of_requestor r) lists ≡ 0
@@ -100,7 +101,8 @@ none_obtained r latch requestor mode form x qs own by a = go (grants qs x) (queu
   other none = all_push (IsNotOf r) qs x a (ap (λ n. n == r) own ∙ none)
 
   go : (b d : Bool)
-      → let z : List Request × LatchReply = cond b (qs ++ x ∷ [], Granted x.id) (cond d (qs ++ x ∷ [], Queued x.id) (qs, NotNow (blocker x qs))) in
+      → let z : List Request × LatchReply = cond b (qs ++ x ∷ [], Granted x.id)
+      (cond d (qs ++ x ∷ [], Queued x.id) (qs, NotNow (blocker x qs))) in
       obtained_by r (op_on.Latch (Obtain latch requestor mode form)) (reply_of.Latch z.1) ≡ false → AllByRecursion (IsNotOf r) z.0
   go true d none = other none
   go false true none = other none

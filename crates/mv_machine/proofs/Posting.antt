@@ -1,6 +1,7 @@
 -- A post asks for no more events than its block's reach, and the posts of some wakes for no more than the reaches of their blocks.
 use Rattle.std.proofs.Common.{◌≡◌, ℕ, zero, suc, ◌+◌, ◌-◌, ◌<◌, ◌≤◌, ◌==◌, Bool, true, false, List, [], ◌∷◌, ◌++◌, length, map, cond}
 use Rattle.std.proofs.Common.{Option, Some, None, slice_get, ◌⊎◌, inl, inr, refl, sym, ap, ◌∙◌, subst, arith, length-append}
+use Rattle.std.specs.List.{AllByRecursion}
 use Rattle.std.proofs.lemmas.Bool.{false≢true, and_parts}
 use Rattle.std.proofs.lemmas.Option.{some_pair_parts}
 use Rattle.mv_ecb.specs.declared.operation.EcbOp.{EcbOp}
@@ -23,7 +24,7 @@ use Rattle.mv_machine.specs.Setup.{Setup, SetupExit, owner_of, is_exit_of, start
 use Rattle.mv_machine.proofs.Lists.{all_front, all_back}
 use Rattle.mv_machine.proofs.EntryRuns.{entry_of}
 use Rattle.mv_machine.proofs.Reaches.{all_lead_up, reach_is}
-use Rattle.mv_machine.specs.Exits.{NamesOwnExit, NameOwnExits}
+use Rattle.mv_machine.specs.Exits.{NamesOwnExit}
 use Rattle.mv_machine.specs.calls.Keeping.{Kept}
 use Rattle.mv_machine.specs.Known.{BlockAgrees}
 use Rattle.mv_machine.specs.calls.Posts.{Posting, posting, targets_at, targets_of, posted_next, each_posted, post_within, post}
@@ -100,52 +101,52 @@ parts Early f (h ∷ hs) s = absurd (cc s.0)
 parts Wrong f [] s = inl tt
 parts Wrong f (h ∷ hs) s = absurd (cc s.0)
 
--- it asks for at most so many events, where the replies name own exits
+-- a program asks for at most so many events, where each that it hears of is so
+abbrev pub Asks : {A : Type 0} → (Heard → Type 0) → ℕ → Program A → Type 0
+Asks P most p = (hs : List Heard) → AllByRecursion P hs → Says p hs → length hs ≤ most
+
+-- what was heard names an exit of its own, if it names one
+abbrev pub HasOwnExit : Setup → Heard → Type 0
+HasOwnExit c h = NamesOwnExit c h.entry.object h.entry.reply
+
+-- it asks for at most so many, where the replies name own exits
 abbrev pub AsksAtMost : {A : Type 0} → Setup → ℕ → Program A → Type 0
-AsksAtMost c most p = (hs : List Heard) → NameOwnExits c hs → Says p hs → length hs ≤ most
-
--- replies that name own exits, in front
-front_names : (c : Setup) (xs ys : List Heard) → NameOwnExits c (xs ++ ys) → NameOwnExits c xs
-front_names c xs ys n = all_front (λ h. NamesOwnExit c h.entry.object h.entry.reply) xs ys n
-
--- and behind
-rest_names : (c : Setup) (xs ys : List Heard) → NameOwnExits c (xs ++ ys) → NameOwnExits c ys
-rest_names c xs ys n = all_back (λ h. NamesOwnExit c h.entry.object h.entry.reply) xs ys n
+AsksAtMost c most p = Asks (HasOwnExit c) most p
 
 -- a program and what follows it ask together
-both_ask : {A B : Type 0} (c : Setup) (m n : ℕ) (p : Program A) (f : A → Program B) → AsksAtMost c m p → ((a : A) → AsksAtMost c n (f a))
-    → AsksAtMost c (m + n) (and_then p f)
-both_ask c m n p f first later hs names s = elim (parts p f hs s) [
-  | inl all ↦ omega (arith, first hs names all)
+pub both_ask : {A B : Type 0} (P : Heard → Type 0) (m n : ℕ) (p : Program A) (f : A → Program B) → Asks P m p
+    → ((a : A) → Asks P n (f a)) → Asks P (m + n) (and_then p f)
+both_ask P m n p f first later hs each s = elim (parts p f hs s) [
+  | inl all ↦ omega (arith, first hs each all)
   | inr r ↦
-      let names_both : NameOwnExits c (r.front ++ r.rest) = subst (NameOwnExits c) r.whole names in
+      let both : AllByRecursion P (r.front ++ r.rest) = subst (AllByRecursion P) r.whole each in
       let sum : length hs ≡ length r.front + length r.rest = ap (λ (zs : List Heard). length zs) r.whole ∙ length-append r.front r.rest in
       omega (
         arith,
         sum,
-        first r.front (front_names c r.front r.rest names_both) r.says,
+        first r.front (all_front P r.front r.rest both) r.says,
         later r.answer r.rest
-            (rest_names c r.front r.rest names_both) r.says_rest,
+            (all_back P r.front r.rest both) r.says_rest,
       )
 ]
 
 -- a program that is done asks nothing more
-done_asks : {A : Type 0} (c : Setup) (a : A) → AsksAtMost c 0 (Done a)
-done_asks c a [] names s = omega arith
-done_asks c a (h ∷ hs) names s = absurd (cc s.0)
+pub done_asks : {A : Type 0} (P : Heard → Type 0) (most : ℕ) (a : A) → Asks P most (Done a)
+done_asks P most a [] each s = omega arith
+done_asks P most a (h ∷ hs) each s = absurd (cc s.0)
 
 -- nor does one that met a reply that nothing foresees
-wrong_asks : (A : Type 0) (c : Setup) → AsksAtMost {A = A} c 0 Wrong
-wrong_asks A c [] names s = omega arith
-wrong_asks A c (h ∷ hs) names s = absurd (cc s.0)
+pub wrong_asks : (A : Type 0) (P : Heard → Type 0) (most : ℕ) → Asks {A = A} P most Wrong
+wrong_asks A P most [] each s = omega arith
+wrong_asks A P most (h ∷ hs) each s = absurd (cc s.0)
 
 -- ---- posts one after the other
 each_asks : (c : Setup) (cost : ℕ → ℕ) (one : ℕ → Program Posting) → ((e : ℕ) → cost e ≤ 524287 → AsksAtMost c (cost e) (one e))
     → (es : List ℕ) (answer : Posting) → total cost es ≤ 524287
     → AsksAtMost c (total cost es) (each_posted one es answer)
-each_asks c cost one each [] answer le = done_asks c answer
+each_asks c cost one each [] answer le = done_asks (HasOwnExit c) 0 answer
 each_asks c cost one each (e ∷ es) answer le =
-    both_ask c (cost e) (total cost es) (one e) (λ p. each_posted one es answer) (each e (omega arith))
+    both_ask (HasOwnExit c) (cost e) (total cost es) (one e) (λ p. each_posted one es answer) (each e (omega arith))
     (λ p. each_asks c cost one each es answer (omega arith))
 
 -- ---- a block's exits
@@ -194,9 +195,6 @@ module _ (c : Setup) (code : ℕ) where
   Follows depth e r = AsksAtMost c (greatest (map (λ (y : SetupExit). total (reach_within depth c) y.targets) (exits_of e c.exits)))
       (on_ecb r (posting (λ p. each_posted (post_within depth c code) (posted_next c p) p)))
 
-  none_follow : {A : Type 0} (most : ℕ) (p : Program A) → AsksAtMost c 0 p → AsksAtMost c most p
-  none_follow most p h hs names s = omega (arith, h hs names s)
-
   follows : (depth e : ℕ) (r : Reply) → ((t : ℕ) → reach_within depth c t ≤ 524287
       → AsksAtMost c (reach_within depth c t) (post_within depth c code t)) → NamesOwnExit c (Ecb e) r
       → greatest (map (λ (y : SetupExit). total (reach_within depth c) y.targets) (exits_of e c.exits)) ≤ 524287 → Follows depth e r
@@ -210,13 +208,13 @@ module _ (c : Setup) (code : ℕ) where
         each_asks c (reach_within depth c) (post_within depth c code) each (targets_of c (suc x)) (came.Woke (suc x))
             (omega arith) hs names s,
       )
-  follows depth e (reply_of.Ecb (ecb_reply.Woke zero)) each own le hs names s = none_follow _ _ (done_asks c (came.Woke zero)) hs names s
-  follows depth e (reply_of.Ecb ecb_reply.Posted) each own le hs names s = none_follow _ _ (done_asks c came.Posted) hs names s
-  follows depth e (reply_of.Ecb (ecb_reply.Already d)) each own le hs names s = none_follow _ _ (done_asks c (came.Already d)) hs names s
-  follows depth e (reply_of.Ecb r) each own le hs names s = none_follow _ _ (wrong_asks Posting c) hs names s
-  follows depth e (reply_of.Element r) each own le hs names s = none_follow _ _ (wrong_asks Posting c) hs names s
-  follows depth e (reply_of.Volume r) each own le hs names s = none_follow _ _ (wrong_asks Posting c) hs names s
-  follows depth e (reply_of.Latch r) each own le hs names s = none_follow _ _ (wrong_asks Posting c) hs names s
+  follows depth e (reply_of.Ecb (ecb_reply.Woke zero)) each own le hs names s = done_asks (HasOwnExit c) _ (came.Woke zero) hs names s
+  follows depth e (reply_of.Ecb ecb_reply.Posted) each own le hs names s = done_asks (HasOwnExit c) _ came.Posted hs names s
+  follows depth e (reply_of.Ecb (ecb_reply.Already d)) each own le hs names s = done_asks (HasOwnExit c) _ (came.Already d) hs names s
+  follows depth e (reply_of.Ecb r) each own le hs names s = wrong_asks Posting (HasOwnExit c) _ hs names s
+  follows depth e (reply_of.Element r) each own le hs names s = wrong_asks Posting (HasOwnExit c) _ hs names s
+  follows depth e (reply_of.Volume r) each own le hs names s = wrong_asks Posting (HasOwnExit c) _ hs names s
+  follows depth e (reply_of.Latch r) each own le hs names s = wrong_asks Posting (HasOwnExit c) _ hs names s
 
   -- a post and what it is followed by
   abbrev asking : ℕ → Op → Program Posting
@@ -226,7 +224,7 @@ module _ (c : Setup) (code : ℕ) where
   object_is e o op x q = (some_pair_parts (Ecb e) o x op q).0
 
   within_asks : (depth e : ℕ) → reach_within depth c e ≤ 524287 → AsksAtMost c (reach_within depth c e) (post_within depth c code e)
-  within_asks zero e le hs names s = wrong_asks Posting c hs names s
+  within_asks zero e le hs names s = wrong_asks Posting (HasOwnExit c) _ hs names s
   within_asks (suc depth) e le [] names s = omega arith
   within_asks (suc depth) e le (h ∷ hs) names s =
       let there : Ecb e ≡ h.entry.object = object_is e h.entry.object h.entry.op (op_on.Ecb (Post code)) s.0 in
@@ -250,7 +248,7 @@ wakes_ask c (w ∷ ws) kept last most asks le = go w.ecb le (wakes_ask c ws kept
       (wake_posted c e w.code kept (wakes_posted c ws kept last))
   go None low rest = rest low
   go (Some e) low rest =
-      λ hs names s. let all = both_ask c (reach c e) (total (reach c) (blocks_of ws) + most) (post c e w.code kept)
+      λ hs names s. let all = both_ask (HasOwnExit c) (reach c e) (total (reach c) (blocks_of ws) + most) (post c e w.code kept)
       (λ p. wakes_posted c ws kept last) (post_asks c w.code e kept (omega arith)) (λ p. rest (omega arith)) hs names s in
       omega (arith, all)
 

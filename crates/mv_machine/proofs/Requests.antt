@@ -205,7 +205,8 @@ requests_next c s k o p op r h w = absurd (false≢true h.admits)
 
 -- so does each legal list
 pub requests_kept : (c : Setup) (es : List Entry) → Legal c es → KeepsRequests c (after c es)
-requests_kept c es l = along_all c (KeepsRequests c) (λ s e h w. requests_next c s e.caller e.object e.place e.op e.reply h w) (opening c) es l
+requests_kept c es l = along_all c (KeepsRequests c) (λ s e h w. requests_next c s e.caller e.object e.place e.op e.reply h w)
+    (opening c) es l
     (record {
       fair = all_new (IsFair c) c.latches;
       quotas = record {

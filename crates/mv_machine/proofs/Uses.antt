@@ -76,7 +76,7 @@ possible_names c k log e shown valid p =
     next_names c b.before e b.legal b.follows (omega arith)
 
 -- two lists that are one have one last element
-last_same : {A : Type 0} (xs ys : List A) (x y : A) → xs ++ x ∷ [] ≡ ys ++ y ∷ [] → x ≡ y
+pub last_same : {A : Type 0} (xs ys : List A) (x y : A) → xs ++ x ∷ [] ≡ ys ++ y ∷ [] → x ≡ y
 last_same [] [] x y e = cc e
 last_same [] (a ∷ []) x y e = absurd (cc e)
 last_same [] (a ∷ b ∷ ys) x y e = absurd (cc e)

@@ -7,6 +7,8 @@ pub mod Hearing
 pub mod Interleaved
 -- the program that a call is where it is not refused
 pub mod Unrefused
+-- how many events a call may need
+pub mod Needs
 -- calls that are computed
 pub mod Computed
 pub mod WaitRows

@@ -1,4 +1,4 @@
--- Exits that replies name.
+-- Exits that replies name, and wakes, in what a task hears.
 use Rattle.std.specs.Prelude.{◌≡◌, suc, true, List}
 use Rattle.std.specs.List.{AllByRecursion}
 use Rattle.mv_ecb.specs.declared.operation.EcbReply.TheVariants.{Woke}
@@ -7,6 +7,7 @@ use Rattle.mv_machine.specs.declared.entry.Object.TheVariants.{Ecb}
 use Rattle.mv_machine.specs.declared.entry.Reply.{Reply}
 use Rattle.mv_machine.specs.declared.entry.Reply.TheVariants as reply_of
 use Rattle.mv_machine.specs.Setup.{Setup, is_exit_of}
+use Rattle.mv_machine.specs.Waking.{AreFairWakes}
 use Rattle.mv_machine.specs.calls.Program.{Heard}
 
 -- the exit that a block's reply names, if it names one, is the block's
@@ -17,3 +18,7 @@ NamesOwnExit c _ _ = Unit {0}
 -- and so in all that was heard
 abbrev pub NameOwnExits : Setup → List Heard → Type 0
 NameOwnExits c hs = AllByRecursion (λ h. NamesOwnExit c h.entry.object h.entry.reply) hs
+
+-- and the wakes of each event are fair
+abbrev pub HaveFairWakes : Setup → List Heard → Type 0
+HaveFairWakes c hs = AllByRecursion (λ h. AreFairWakes c h.wakes) hs

@@ -15,7 +15,7 @@ ghost use Rattle.mv_machine.specs.declared.entry.Reply.TheVariants as reply_of;
 ghost use Rattle.mv_machine.specs.declared.entry.VolumeOp.{VolumeOp};
 ghost use Rattle.mv_machine.specs.Behind.{IsBehind};
 ghost use Rattle.mv_machine.specs.Check.{IsValid};
-ghost use Rattle.mv_machine.specs.Exits.{NamesOwnExit, NameOwnExits};
+ghost use Rattle.mv_machine.specs.Exits.{NamesOwnExit, NameOwnExits, HaveFairWakes};
 ghost use Rattle.mv_machine.specs.Legal.{IsNext, Legal, after};
 ghost use Rattle.mv_machine.specs.Parts.{IsPossible};
 ghost use Rattle.mv_machine.specs.Reach.{reach, total};
@@ -24,8 +24,10 @@ ghost use Rattle.mv_machine.specs.Setup.{Setup, is_exit_of};
 ghost use Rattle.mv_machine.specs.System.{System, volume_step};
 ghost use Rattle.mv_machine.specs.Told.{told};
 ghost use Rattle.mv_machine.specs.calls.Keeping.{Kept};
+ghost use Rattle.mv_machine.specs.calls.Made.{told_by, HaveTheirWakes};
 ghost use Rattle.mv_machine.specs.calls.Posts.{post, targets_of};
 ghost use Rattle.mv_machine.specs.calls.Program.{Heard, Says, entries};
+ghost use Rattle.mv_machine.specs.calls.Services.{Service, program, most_events};
 
 /// The last entry of a possible log was the machine's next one, after a legal history of which the log before it is the
 /// caller's part. So its reply is of its operation's kind, and is what the table gives of the object's state; and an
@@ -66,4 +68,14 @@ pub fn posts_reach()
         → Says (post c e code kept) hs → length hs ≤ reach c e }
     ensures targets { (c : Setup) (e x : ℕ) → IsValid c → e < length c.owners → is_exit_of c (suc x) e ≡ true → reach c e ≤ 524287
         → total (reach c) (targets_of c (suc x)) + 1 ≤ reach c e }
+{}
+
+/// Each call makes at most as many events as its row of the table says that it may need, where that is below 524,288: on events
+/// whose replies name own exits and whose wakes are fair; and so in a log that is possible, with what was told.
+pub fn calls_keep_to_their_events()
+    ensures few { (c : Setup) (kept : Kept) (s : Service) (hs : List Heard) → most_events c kept s ≤ 524287 → NameOwnExits c hs
+        → HaveFairWakes c hs → Says (program c s kept) hs → length hs ≤ most_events c kept s }
+    ensures possible { (c : Setup) (k : ℕ) (kept : Kept) (s : Service) (log : List Entry) (shown : List (List Wake)) (hs : List Heard)
+        → IsPossible c k (log ++ entries hs) (shown ++ told_by hs) → HaveTheirWakes hs → most_events c kept s ≤ 524287
+        → Says (program c s kept) hs → length hs ≤ most_events c kept s }
 {}

@@ -18,7 +18,9 @@ mod replaying;
 mod state;
 mod valid;
 
-pub use call_laws::{generations_in_replies, last_event_is_the_machines, posts_reach};
+pub use call_laws::{
+    calls_keep_to_their_events, generations_in_replies, last_event_is_the_machines, posts_reach,
+};
 pub use config::{CheckRefusal, Config, ConfigLimit, Exit};
 pub use entry::{Entry, Object, Op, Reply, VolumeOp, VolumeReply};
 pub use keeping_laws::{keeping_agrees, own_blocks_answer, own_elements_answer};
