@@ -92,7 +92,7 @@ says_by p [] e = tt
 says_by p (h ∷ hs) e = (first_of_list _ _ _ _ e, says_by (heard p h) hs (rest_of_list _ _ _ _ e))
 
 -- and is done on it where nothing but its answer is left
-pub made : {A : Type 0} {p : Program A} {hs : List Heard} {a : A} → said p hs ≡ map (λ h. Some (h.entry.object, h.entry.op)) hs
+made : {A : Type 0} {p : Program A} {hs : List Heard} {a : A} → said p hs ≡ map (λ h. Some (h.entry.object, h.entry.op)) hs
     → left p hs ≡ Done a → IsDoneOn p hs a
 made {p = p} {hs = hs} s d = record { says = says_by p hs s; done = d }
 
@@ -103,6 +103,10 @@ pub record Step : Type 0 where
   pub service : Service
   pub makes : ℕ
   pub answer : Answer service
+
+-- the same, written as it is read
+abbrev pub does : (s : Service) → ℕ → Answer s → Step
+does s n a = record { service = s; makes = n; answer = a }
 
 -- Calls of a task, one after the other: each is done on its entries with its answer, begun with what is kept by then, and makes
 -- no more events than it may need. No entry is left.
@@ -117,6 +121,12 @@ AreMade c kept hs (s ∷ steps) =
 pub record IsRow (c : Setup) (k : ℕ) (es : List Entry) (steps : List Step) : Type 0 where
   pub legal : Legal c es
   pub made : AreMade c (nothing_kept k) (heard_in c k es) steps
+
+-- one call more of a row: it says its events, nothing but its answer is left, and it makes no more events than it may need
+pub and_so : {A C : Type 0} {p : Program A} {hs : List Heard} {a : A} {b : Bool}
+    → said p hs ≡ map (λ h. Some (h.entry.object, h.entry.op)) hs → left p hs ≡ Done a → b ≡ true → C
+    → IsDoneOn p hs a × (b ≡ true) × C
+and_so says answered few rest = (made says answered, few, rest)
 
 -- a configuration of so many tasks, with four elements each and ample budgets, and these owners of blocks and exits
 abbrev tasks : ℕ → List ℕ → List SetupExit → Setup

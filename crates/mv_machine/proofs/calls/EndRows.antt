@@ -14,7 +14,7 @@ use Rattle.mv_machine.specs.calls.LatchCalls.{GrantedAs, PendingAs}
 use Rattle.mv_machine.specs.calls.Pauses.{token_of}
 use Rattle.mv_machine.specs.calls.Refusal as refusal
 use Rattle.mv_machine.specs.calls.Services.{Allocate, Deallocate, TestElement, Obtain, EndOfJob, EndOfTask}
-use Rattle.mv_machine.proofs.calls.Computed.{Step, IsRow, made, legal_by, one_task, at_block, at_element, at_latches}
+use Rattle.mv_machine.proofs.calls.Computed.{Step, does, IsRow, and_so, legal_by, one_task, at_block, at_element, at_latches}
 
 -- A task without a mother ends: its element is closed, and its requestor purged.
 abbrev task_ended_log : List Entry
@@ -29,33 +29,18 @@ task_ended_log =
 
 abbrev task_ended_calls : List Step
 task_ended_calls =
-    record { service = Allocate; makes = 1; answer = Ok (token_of 0 0) }
-    ∷ record { service = Obtain 0 5 Exclusive Conditional; makes = 1; answer = Ok (GrantedAs 0) }
-    ∷ record { service = EndOfTask 5 None 0; makes = 2; answer = record { removed = 1; granted = 0 } }
-    ∷ record { service = TestElement 0; makes = 1; answer = free 1 }
-    ∷ record { service = Deallocate (token_of 0 0); makes = 1; answer = Err (refusal.Spent 1) }
+    does Allocate 1 (Ok (token_of 0 0))
+    ∷ does (Obtain 0 5 Exclusive Conditional) 1 (Ok (GrantedAs 0))
+    ∷ does (EndOfTask 5 None 0) 2 (record { removed = 1; granted = 0 })
+    ∷ does (TestElement 0) 1 (free 1)
+    ∷ does (Deallocate (token_of 0 0)) 1 (Err (refusal.Spent 1))
     ∷ []
 
 task_ended : IsRow (one_task [] []) 0 task_ended_log task_ended_calls
 task_ended = record {
   legal = legal_by (one_task [] []) task_ended_log refl;
-  made = (
-    made refl refl,
-    refl,
-    (
-      made refl refl,
-      refl,
-      (
-        made refl refl,
-        refl,
-        (
-          made refl refl,
-          refl,
-          (made refl refl, refl, refl),
-        ),
-      ),
-    ),
-  );
+  made = and_so refl refl refl (and_so refl refl refl (and_so refl refl refl (and_so refl refl refl (
+      and_so refl refl refl refl))));
 }
 
 -- A task with two elements ends, and its mother's block is posted last.
@@ -72,16 +57,16 @@ mother_posted_log =
 
 abbrev mother_posted_calls : List Step
 mother_posted_calls =
-    record { service = Allocate; makes = 1; answer = Ok (token_of 0 0) }
-    ∷ record { service = Obtain 0 5 Exclusive Conditional; makes = 1; answer = Ok (GrantedAs 0) }
-    ∷ record { service = Allocate; makes = 1; answer = Ok (token_of 1 0) }
-    ∷ record { service = EndOfTask 5 (Some 0) 7; makes = 4; answer = record { removed = 1; granted = 0 } }
+    does Allocate 1 (Ok (token_of 0 0))
+    ∷ does (Obtain 0 5 Exclusive Conditional) 1 (Ok (GrantedAs 0))
+    ∷ does Allocate 1 (Ok (token_of 1 0))
+    ∷ does (EndOfTask 5 (Some 0) 7) 4 (record { removed = 1; granted = 0 })
     ∷ []
 
 mother_posted : IsRow (one_task (0 ∷ []) []) 0 mother_posted_log mother_posted_calls
 mother_posted = record {
   legal = legal_by (one_task (0 ∷ []) []) mother_posted_log refl;
-  made = (made refl refl, refl, (made refl refl, refl, (made refl refl, refl, (made refl refl, refl, refl))));
+  made = and_so refl refl refl (and_so refl refl refl (and_so refl refl refl (and_so refl refl refl refl)));
 }
 
 -- A job ends: its requestor is purged, the block of a request that this grants is posted with 0, and then its own with its code.
@@ -96,13 +81,13 @@ job_ended_log =
 
 abbrev job_ended_calls : List Step
 job_ended_calls =
-    record { service = Obtain 0 3 Exclusive Conditional; makes = 1; answer = Ok (GrantedAs 0) }
-    ∷ record { service = Obtain 0 4 Exclusive (Posted 0); makes = 1; answer = Ok (PendingAs 1) }
-    ∷ record { service = EndOfJob 3 1 5; makes = 3; answer = record { removed = 1; granted = 1 } }
+    does (Obtain 0 3 Exclusive Conditional) 1 (Ok (GrantedAs 0))
+    ∷ does (Obtain 0 4 Exclusive (Posted 0)) 1 (Ok (PendingAs 1))
+    ∷ does (EndOfJob 3 1 5) 3 (record { removed = 1; granted = 1 })
     ∷ []
 
 job_ended : IsRow (one_task (0 ∷ 0 ∷ []) []) 0 job_ended_log job_ended_calls
 job_ended = record {
   legal = legal_by (one_task (0 ∷ 0 ∷ []) []) job_ended_log refl;
-  made = (made refl refl, refl, (made refl refl, refl, (made refl refl, refl, refl)));
+  made = and_so refl refl refl (and_so refl refl refl (and_so refl refl refl refl));
 }

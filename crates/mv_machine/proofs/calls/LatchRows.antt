@@ -23,7 +23,8 @@ use Rattle.mv_machine.specs.calls.Refusal as refusal
 use Rattle.mv_machine.specs.calls.Runs.{heard_in}
 use Rattle.mv_machine.specs.calls.Services.{Post, TestEcb, Obtain, CheckLatch, ReleaseLatch, Purge}
 use Rattle.mv_machine.specs.calls.Waits.{read_volume}
-use Rattle.mv_machine.proofs.calls.Computed.{Step, IsRow, made, legal_by, one_task, two_tasks, three_tasks, at_block, at_volume, at_latches}
+use Rattle.mv_machine.proofs.calls.Computed.{Step, does, IsRow, and_so, legal_by, one_task, two_tasks, three_tasks, at_block}
+use Rattle.mv_machine.proofs.calls.Computed.{at_volume, at_latches}
 
 -- A conditional request does not wait, and names the one that stands in its way.
 abbrev blocked_log : List Entry
@@ -35,16 +36,16 @@ blocked_log =
 
 abbrev blocked_calls : List Step
 blocked_calls =
-    record { service = Obtain 0 1 Shared Conditional; makes = 1; answer = Ok (GrantedAs 0) }
-    ∷ record { service = Obtain 0 2 Exclusive Conditional; makes = 1; answer = Err (refusal.NotNow 0) }
-    ∷ record { service = ReleaseLatch 0 0 false; makes = 1; answer = Ok 0 }
-    ∷ record { service = Obtain 8 1 Shared Conditional; makes = 0; answer = Err refusal.BadLatch }
+    does (Obtain 0 1 Shared Conditional) 1 (Ok (GrantedAs 0))
+    ∷ does (Obtain 0 2 Exclusive Conditional) 1 (Err (refusal.NotNow 0))
+    ∷ does (ReleaseLatch 0 0 false) 1 (Ok 0)
+    ∷ does (Obtain 8 1 Shared Conditional) 0 (Err refusal.BadLatch)
     ∷ []
 
 blocked : IsRow (one_task [] []) 0 blocked_log blocked_calls
 blocked = record {
   legal = legal_by (one_task [] []) blocked_log refl;
-  made = (made refl refl, refl, (made refl refl, refl, (made refl refl, refl, (made refl refl, refl, refl))));
+  made = and_so refl refl refl (and_so refl refl refl (and_so refl refl refl (and_so refl refl refl refl)));
 }
 
 -- A purge takes out a request that waits: its obtain answers Purged, and the next in line is granted.
@@ -60,36 +61,36 @@ purged_waiting_log =
 
 abbrev purged_waiting_of_0_calls : List Step
 purged_waiting_of_0_calls =
-    record { service = Obtain 0 9 Exclusive Conditional; makes = 1; answer = Ok (GrantedAs 0) }
-    ∷ record { service = Purge 9; makes = 1; answer = record { removed = 2; granted = 1 } }
+    does (Obtain 0 9 Exclusive Conditional) 1 (Ok (GrantedAs 0))
+    ∷ does (Purge 9) 1 (record { removed = 2; granted = 1 })
     ∷ []
 
 purged_waiting_of_0 : IsRow (three_tasks [] []) 0 purged_waiting_log purged_waiting_of_0_calls
 purged_waiting_of_0 = record {
   legal = legal_by (three_tasks [] []) purged_waiting_log refl;
-  made = (made refl refl, refl, (made refl refl, refl, refl));
+  made = and_so refl refl refl (and_so refl refl refl refl);
 }
 
 abbrev purged_waiting_of_1_calls : List Step
 purged_waiting_of_1_calls =
-    record { service = Obtain 0 9 Shared Waiting; makes = 2; answer = Err refusal.Purged }
+    does (Obtain 0 9 Shared Waiting) 2 (Err refusal.Purged)
     ∷ []
 
 purged_waiting_of_1 : IsRow (three_tasks [] []) 1 purged_waiting_log purged_waiting_of_1_calls
 purged_waiting_of_1 = record {
   legal = legal_by (three_tasks [] []) purged_waiting_log refl;
-  made = (made refl refl, refl, refl);
+  made = and_so refl refl refl refl;
 }
 
 abbrev purged_waiting_of_2_calls : List Step
 purged_waiting_of_2_calls =
-    record { service = Obtain 0 5 Exclusive Waiting; makes = 2; answer = Ok (GrantedAs 2) }
+    does (Obtain 0 5 Exclusive Waiting) 2 (Ok (GrantedAs 2))
     ∷ []
 
 purged_waiting_of_2 : IsRow (three_tasks [] []) 2 purged_waiting_log purged_waiting_of_2_calls
 purged_waiting_of_2 = record {
   legal = legal_by (three_tasks [] []) purged_waiting_log refl;
-  made = (made refl refl, refl, refl);
+  made = and_so refl refl refl refl;
 }
 
 -- A request of the Posted form is pending, and its block is posted as it is granted.
@@ -107,35 +108,20 @@ posted_grant_log =
 
 abbrev posted_grant_calls : List Step
 posted_grant_calls =
-    record { service = Obtain 0 1 Exclusive Conditional; makes = 1; answer = Ok (GrantedAs 0) }
-    ∷ record { service = Obtain 0 2 Exclusive (Posted 0); makes = 1; answer = Ok (PendingAs 1) }
-    ∷ record { service = TestEcb 0; makes = 1; answer = 0 }
-    ∷ record { service = ReleaseLatch 0 0 true; makes = 2; answer = Ok 1 }
-    ∷ record { service = TestEcb 0; makes = 1; answer = 1073741824 }
-    ∷ record { service = CheckLatch 0 1; makes = 1; answer = Holds }
-    ∷ record { service = ReleaseLatch 0 0 true; makes = 1; answer = Err refusal.Gone }
+    does (Obtain 0 1 Exclusive Conditional) 1 (Ok (GrantedAs 0))
+    ∷ does (Obtain 0 2 Exclusive (Posted 0)) 1 (Ok (PendingAs 1))
+    ∷ does (TestEcb 0) 1 0
+    ∷ does (ReleaseLatch 0 0 true) 2 (Ok 1)
+    ∷ does (TestEcb 0) 1 1073741824
+    ∷ does (CheckLatch 0 1) 1 Holds
+    ∷ does (ReleaseLatch 0 0 true) 1 (Err refusal.Gone)
     ∷ []
 
 posted_grant : IsRow (one_task (0 ∷ []) []) 0 posted_grant_log posted_grant_calls
 posted_grant = record {
   legal = legal_by (one_task (0 ∷ []) []) posted_grant_log refl;
-  made = (
-    made refl refl,
-    refl,
-    (
-      made refl refl,
-      refl,
-      (
-        made refl refl,
-        refl,
-        (
-          made refl refl,
-          refl,
-          (made refl refl, refl, (made refl refl, refl, (made refl refl, refl, refl))),
-        ),
-      ),
-    ),
-  );
+  made = and_so refl refl refl (and_so refl refl refl (and_so refl refl refl (and_so refl refl refl (
+      and_so refl refl refl (and_so refl refl refl (and_so refl refl refl refl))))));
 }
 
 -- A purge posts the block of a request that waited with 1. A conditional release leaves a request that waits.
@@ -152,34 +138,19 @@ posted_purge_log =
 
 abbrev posted_purge_calls : List Step
 posted_purge_calls =
-    record { service = Obtain 0 1 Exclusive Conditional; makes = 1; answer = Ok (GrantedAs 0) }
-    ∷ record { service = Obtain 0 2 Exclusive (Posted 0); makes = 1; answer = Ok (PendingAs 1) }
-    ∷ record { service = CheckLatch 0 1; makes = 1; answer = Waits }
-    ∷ record { service = ReleaseLatch 0 1 true; makes = 1; answer = Err refusal.StillWaiting }
-    ∷ record { service = Purge 2; makes = 2; answer = record { removed = 1; granted = 0 } }
-    ∷ record { service = CheckLatch 0 1; makes = 1; answer = IsOut }
+    does (Obtain 0 1 Exclusive Conditional) 1 (Ok (GrantedAs 0))
+    ∷ does (Obtain 0 2 Exclusive (Posted 0)) 1 (Ok (PendingAs 1))
+    ∷ does (CheckLatch 0 1) 1 Waits
+    ∷ does (ReleaseLatch 0 1 true) 1 (Err refusal.StillWaiting)
+    ∷ does (Purge 2) 2 (record { removed = 1; granted = 0 })
+    ∷ does (CheckLatch 0 1) 1 IsOut
     ∷ []
 
 posted_purge : IsRow (one_task (0 ∷ []) []) 0 posted_purge_log posted_purge_calls
 posted_purge = record {
   legal = legal_by (one_task (0 ∷ []) []) posted_purge_log refl;
-  made = (
-    made refl refl,
-    refl,
-    (
-      made refl refl,
-      refl,
-      (
-        made refl refl,
-        refl,
-        (
-          made refl refl,
-          refl,
-          (made refl refl, refl, (made refl refl, refl, refl)),
-        ),
-      ),
-    ),
-  );
+  made = and_so refl refl refl (and_so refl refl refl (and_so refl refl refl (and_so refl refl refl (
+      and_so refl refl refl (and_so refl refl refl refl)))));
 }
 
 -- Eight requests stand, and no ninth.
@@ -197,53 +168,23 @@ quota_reached_log =
 
 abbrev quota_reached_calls : List Step
 quota_reached_calls =
-    record { service = Obtain 0 1 Shared Conditional; makes = 1; answer = Ok (GrantedAs 0) }
-    ∷ record { service = Obtain 0 1 Shared Conditional; makes = 1; answer = Ok (GrantedAs 1) }
-    ∷ record { service = Obtain 0 1 Shared Conditional; makes = 1; answer = Ok (GrantedAs 2) }
-    ∷ record { service = Obtain 0 1 Shared Conditional; makes = 1; answer = Ok (GrantedAs 3) }
-    ∷ record { service = Obtain 0 1 Shared Conditional; makes = 1; answer = Ok (GrantedAs 4) }
-    ∷ record { service = Obtain 0 1 Shared Conditional; makes = 1; answer = Ok (GrantedAs 5) }
-    ∷ record { service = Obtain 0 1 Shared Conditional; makes = 1; answer = Ok (GrantedAs 6) }
-    ∷ record { service = Obtain 0 1 Shared Conditional; makes = 1; answer = Ok (GrantedAs 7) }
-    ∷ record { service = Obtain 0 1 Shared Conditional; makes = 0; answer = Err refusal.Quota }
+    does (Obtain 0 1 Shared Conditional) 1 (Ok (GrantedAs 0))
+    ∷ does (Obtain 0 1 Shared Conditional) 1 (Ok (GrantedAs 1))
+    ∷ does (Obtain 0 1 Shared Conditional) 1 (Ok (GrantedAs 2))
+    ∷ does (Obtain 0 1 Shared Conditional) 1 (Ok (GrantedAs 3))
+    ∷ does (Obtain 0 1 Shared Conditional) 1 (Ok (GrantedAs 4))
+    ∷ does (Obtain 0 1 Shared Conditional) 1 (Ok (GrantedAs 5))
+    ∷ does (Obtain 0 1 Shared Conditional) 1 (Ok (GrantedAs 6))
+    ∷ does (Obtain 0 1 Shared Conditional) 1 (Ok (GrantedAs 7))
+    ∷ does (Obtain 0 1 Shared Conditional) 0 (Err refusal.Quota)
     ∷ []
 
 quota_reached : IsRow (one_task [] []) 0 quota_reached_log quota_reached_calls
 quota_reached = record {
   legal = legal_by (one_task [] []) quota_reached_log refl;
-  made = (
-    made refl refl,
-    refl,
-    (
-      made refl refl,
-      refl,
-      (
-        made refl refl,
-        refl,
-        (
-          made refl refl,
-          refl,
-          (
-            made refl refl,
-            refl,
-            (
-              made refl refl,
-              refl,
-              (
-                made refl refl,
-                refl,
-                (
-                  made refl refl,
-                  refl,
-                  (made refl refl, refl, refl),
-                ),
-              ),
-            ),
-          ),
-        ),
-      ),
-    ),
-  );
+  made = and_so refl refl refl (and_so refl refl refl (and_so refl refl refl (and_so refl refl refl (
+      and_so refl refl refl (and_so refl refl refl (and_so refl refl refl (and_so refl refl refl (
+      and_so refl refl refl refl))))))));
 }
 
 -- Four requests of the Posted form stand, and no fifth.
@@ -258,34 +199,19 @@ posted_quota_reached_log =
 
 abbrev posted_quota_reached_calls : List Step
 posted_quota_reached_calls =
-    record { service = Obtain 0 1 Exclusive Conditional; makes = 1; answer = Ok (GrantedAs 0) }
-    ∷ record { service = Obtain 0 2 Exclusive (Posted 0); makes = 1; answer = Ok (PendingAs 1) }
-    ∷ record { service = Obtain 0 2 Exclusive (Posted 0); makes = 1; answer = Ok (PendingAs 2) }
-    ∷ record { service = Obtain 0 2 Exclusive (Posted 0); makes = 1; answer = Ok (PendingAs 3) }
-    ∷ record { service = Obtain 0 2 Exclusive (Posted 0); makes = 1; answer = Ok (PendingAs 4) }
-    ∷ record { service = Obtain 0 2 Exclusive (Posted 0); makes = 0; answer = Err refusal.Quota }
+    does (Obtain 0 1 Exclusive Conditional) 1 (Ok (GrantedAs 0))
+    ∷ does (Obtain 0 2 Exclusive (Posted 0)) 1 (Ok (PendingAs 1))
+    ∷ does (Obtain 0 2 Exclusive (Posted 0)) 1 (Ok (PendingAs 2))
+    ∷ does (Obtain 0 2 Exclusive (Posted 0)) 1 (Ok (PendingAs 3))
+    ∷ does (Obtain 0 2 Exclusive (Posted 0)) 1 (Ok (PendingAs 4))
+    ∷ does (Obtain 0 2 Exclusive (Posted 0)) 0 (Err refusal.Quota)
     ∷ []
 
 posted_quota_reached : IsRow (one_task (0 ∷ []) []) 0 posted_quota_reached_log posted_quota_reached_calls
 posted_quota_reached = record {
   legal = legal_by (one_task (0 ∷ []) []) posted_quota_reached_log refl;
-  made = (
-    made refl refl,
-    refl,
-    (
-      made refl refl,
-      refl,
-      (
-        made refl refl,
-        refl,
-        (
-          made refl refl,
-          refl,
-          (made refl refl, refl, (made refl refl, refl, refl)),
-        ),
-      ),
-    ),
-  );
+  made = and_so refl refl refl (and_so refl refl refl (and_so refl refl refl (and_so refl refl refl (
+      and_so refl refl refl (and_so refl refl refl refl)))));
 }
 
 -- A task announces itself by its post, and the other purges its request while it waits.
@@ -302,29 +228,29 @@ purged_by_another_log =
 
 abbrev purged_by_another_of_0_calls : List Step
 purged_by_another_of_0_calls =
-    record { service = Obtain 0 1 Exclusive Conditional; makes = 1; answer = Ok (GrantedAs 0) }
-    ∷ record { service = Purge 9; makes = 1; answer = record { removed = 0; granted = 0 } }
-    ∷ record { service = Purge 9; makes = 1; answer = record { removed = 1; granted = 0 } }
-    ∷ record { service = ReleaseLatch 0 0 false; makes = 1; answer = Ok 0 }
+    does (Obtain 0 1 Exclusive Conditional) 1 (Ok (GrantedAs 0))
+    ∷ does (Purge 9) 1 (record { removed = 0; granted = 0 })
+    ∷ does (Purge 9) 1 (record { removed = 1; granted = 0 })
+    ∷ does (ReleaseLatch 0 0 false) 1 (Ok 0)
     ∷ []
 
 purged_by_another_of_0 : IsRow (two_tasks (0 ∷ []) []) 0 purged_by_another_log purged_by_another_of_0_calls
 purged_by_another_of_0 = record {
   legal = legal_by (two_tasks (0 ∷ []) []) purged_by_another_log refl;
-  made = (made refl refl, refl, (made refl refl, refl, (made refl refl, refl, (made refl refl, refl, refl))));
+  made = and_so refl refl refl (and_so refl refl refl (and_so refl refl refl (and_so refl refl refl refl)));
 }
 
 abbrev purged_by_another_of_1_calls : List Step
 purged_by_another_of_1_calls =
-    record { service = Post 0 1; makes = 1; answer = posts.Posted }
-    ∷ record { service = Obtain 0 9 Exclusive Waiting; makes = 2; answer = Err refusal.Purged }
-    ∷ record { service = Obtain 0 9 Exclusive (Posted 0); makes = 0; answer = Err refusal.NotOwner }
+    does (Post 0 1) 1 posts.Posted
+    ∷ does (Obtain 0 9 Exclusive Waiting) 2 (Err refusal.Purged)
+    ∷ does (Obtain 0 9 Exclusive (Posted 0)) 0 (Err refusal.NotOwner)
     ∷ []
 
 purged_by_another_of_1 : IsRow (two_tasks (0 ∷ []) []) 1 purged_by_another_log purged_by_another_of_1_calls
 purged_by_another_of_1 = record {
   legal = legal_by (two_tasks (0 ∷ []) []) purged_by_another_log refl;
-  made = (made refl refl, refl, (made refl refl, refl, (made refl refl, refl, refl)));
+  made = and_so refl refl refl (and_so refl refl refl (and_so refl refl refl refl));
 }
 
 -- ---- what does not follow

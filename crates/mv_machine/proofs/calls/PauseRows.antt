@@ -10,7 +10,7 @@ use Rattle.mv_machine.specs.calls.Pauses.{CameEarly, WokeIt, token_of}
 use Rattle.mv_machine.specs.calls.Program.{Early, left, noted}
 use Rattle.mv_machine.specs.calls.Refusal as refusal
 use Rattle.mv_machine.specs.calls.Services.{program, Allocate, Pause, Release, TryRelease, Transfer, Deallocate, TestElement}
-use Rattle.mv_machine.proofs.calls.Computed.{Step, IsRow, made, legal_by, one_task, two_tasks, at_element}
+use Rattle.mv_machine.proofs.calls.Computed.{Step, does, IsRow, and_so, legal_by, one_task, two_tasks, at_element}
 
 -- A code of three bytes reaches its pause; the token is spent then. The code of an element that is closed reaches nobody.
 abbrev lost_code_log : List Entry
@@ -27,36 +27,21 @@ lost_code_log =
 
 abbrev lost_code_calls : List Step
 lost_code_calls =
-    record { service = Allocate; makes = 1; answer = Ok (token_of 0 0) }
-    ∷ record { service = Release (token_of 0 0) 16777215; makes = 1; answer = Ok CameEarly }
-    ∷ record { service = Pause (token_of 0 0); makes = 1; answer = Ok (record { code = 16777215; next = token_of 0 1 }) }
-    ∷ record { service = Pause (token_of 0 0); makes = 1; answer = Err (refusal.Spent 1) }
-    ∷ record { service = Allocate; makes = 1; answer = Ok (token_of 1 0) }
-    ∷ record { service = Release (token_of 1 0) 4; makes = 1; answer = Ok CameEarly }
-    ∷ record { service = Deallocate (token_of 1 0); makes = 1; answer = Ok tt }
-    ∷ record { service = Release (token_of 1 0) 4; makes = 1; answer = Err (refusal.Spent 1) }
+    does Allocate 1 (Ok (token_of 0 0))
+    ∷ does (Release (token_of 0 0) 16777215) 1 (Ok CameEarly)
+    ∷ does (Pause (token_of 0 0)) 1 (Ok (record { code = 16777215; next = token_of 0 1 }))
+    ∷ does (Pause (token_of 0 0)) 1 (Err (refusal.Spent 1))
+    ∷ does Allocate 1 (Ok (token_of 1 0))
+    ∷ does (Release (token_of 1 0) 4) 1 (Ok CameEarly)
+    ∷ does (Deallocate (token_of 1 0)) 1 (Ok tt)
+    ∷ does (Release (token_of 1 0) 4) 1 (Err (refusal.Spent 1))
     ∷ []
 
 lost_code : IsRow (one_task [] []) 0 lost_code_log lost_code_calls
 lost_code = record {
   legal = legal_by (one_task [] []) lost_code_log refl;
-  made = (
-    made refl refl,
-    refl,
-    (
-      made refl refl,
-      refl,
-      (
-        made refl refl,
-        refl,
-        (
-          made refl refl,
-          refl,
-          (made refl refl, refl, (made refl refl, refl, (made refl refl, refl, (made refl refl, refl, refl)))),
-        ),
-      ),
-    ),
-  );
+  made = and_so refl refl refl (and_so refl refl refl (and_so refl refl refl (and_so refl refl refl (
+      and_so refl refl refl (and_so refl refl refl (and_so refl refl refl (and_so refl refl refl refl)))))));
 }
 
 -- A token is released once.
@@ -70,16 +55,16 @@ released_twice_log =
 
 abbrev released_twice_calls : List Step
 released_twice_calls =
-    record { service = Allocate; makes = 1; answer = Ok (token_of 0 0) }
-    ∷ record { service = Release (token_of 0 0) 5; makes = 1; answer = Ok CameEarly }
-    ∷ record { service = Release (token_of 0 0) 6; makes = 1; answer = Err refusal.Already }
-    ∷ record { service = Pause (token_of 0 0); makes = 1; answer = Ok (record { code = 5; next = token_of 0 1 }) }
+    does Allocate 1 (Ok (token_of 0 0))
+    ∷ does (Release (token_of 0 0) 5) 1 (Ok CameEarly)
+    ∷ does (Release (token_of 0 0) 6) 1 (Err refusal.Already)
+    ∷ does (Pause (token_of 0 0)) 1 (Ok (record { code = 5; next = token_of 0 1 }))
     ∷ []
 
 released_twice : IsRow (one_task [] []) 0 released_twice_log released_twice_calls
 released_twice = record {
   legal = legal_by (one_task [] []) released_twice_log refl;
-  made = (made refl refl, refl, (made refl refl, refl, (made refl refl, refl, (made refl refl, refl, refl))));
+  made = and_so refl refl refl (and_so refl refl refl (and_so refl refl refl (and_so refl refl refl refl)));
 }
 
 -- A task has four elements.
@@ -93,33 +78,18 @@ four_elements_log =
 
 abbrev four_elements_calls : List Step
 four_elements_calls =
-    record { service = Allocate; makes = 1; answer = Ok (token_of 0 0) }
-    ∷ record { service = Allocate; makes = 1; answer = Ok (token_of 1 0) }
-    ∷ record { service = Allocate; makes = 1; answer = Ok (token_of 2 0) }
-    ∷ record { service = Allocate; makes = 1; answer = Ok (token_of 3 0) }
-    ∷ record { service = Allocate; makes = 0; answer = Err refusal.NoElement }
+    does Allocate 1 (Ok (token_of 0 0))
+    ∷ does Allocate 1 (Ok (token_of 1 0))
+    ∷ does Allocate 1 (Ok (token_of 2 0))
+    ∷ does Allocate 1 (Ok (token_of 3 0))
+    ∷ does Allocate 0 (Err refusal.NoElement)
     ∷ []
 
 four_elements : IsRow (one_task [] []) 0 four_elements_log four_elements_calls
 four_elements = record {
   legal = legal_by (one_task [] []) four_elements_log refl;
-  made = (
-    made refl refl,
-    refl,
-    (
-      made refl refl,
-      refl,
-      (
-        made refl refl,
-        refl,
-        (
-          made refl refl,
-          refl,
-          (made refl refl, refl, refl),
-        ),
-      ),
-    ),
-  );
+  made = and_so refl refl refl (and_so refl refl refl (and_so refl refl refl (and_so refl refl refl (
+      and_so refl refl refl refl))));
 }
 
 -- A transfer to a token that is over pauses nobody; one to the current element is given its code at once.
@@ -136,39 +106,19 @@ transfers_log =
 
 abbrev transfers_calls : List Step
 transfers_calls =
-    record { service = Allocate; makes = 1; answer = Ok (token_of 0 0) }
-    ∷ record { service = Allocate; makes = 1; answer = Ok (token_of 1 0) }
-    ∷ record { service = Deallocate (token_of 1 0); makes = 1; answer = Ok tt }
-    ∷ record { service = Transfer (Some (token_of 0 0)) (token_of 1 0) 5; makes = 1; answer = Err (refusal.TargetSpent 1) }
-    ∷ record { service = TestElement 0; makes = 1; answer = reset 0 }
-    ∷ record {
-      service = Transfer (Some (token_of 0 0)) (token_of 0 0) 6;
-      makes = 2;
-      answer =
-          Ok (Some (record { code = 6; next = token_of 0 1 }));
-    }
+    does Allocate 1 (Ok (token_of 0 0))
+    ∷ does Allocate 1 (Ok (token_of 1 0))
+    ∷ does (Deallocate (token_of 1 0)) 1 (Ok tt)
+    ∷ does (Transfer (Some (token_of 0 0)) (token_of 1 0) 5) 1 (Err (refusal.TargetSpent 1))
+    ∷ does (TestElement 0) 1 (reset 0)
+    ∷ does (Transfer (Some (token_of 0 0)) (token_of 0 0) 6) 2 (Ok (Some (record { code = 6; next = token_of 0 1 })))
     ∷ []
 
 transfers : IsRow (one_task [] []) 0 transfers_log transfers_calls
 transfers = record {
   legal = legal_by (one_task [] []) transfers_log refl;
-  made = (
-    made refl refl,
-    refl,
-    (
-      made refl refl,
-      refl,
-      (
-        made refl refl,
-        refl,
-        (
-          made refl refl,
-          refl,
-          (made refl refl, refl, (made refl refl, refl, refl)),
-        ),
-      ),
-    ),
-  );
+  made = and_so refl refl refl (and_so refl refl refl (and_so refl refl refl (and_so refl refl refl (
+      and_so refl refl refl (and_so refl refl refl refl)))));
 }
 
 -- A transfer with a token that is not in use makes no event.
@@ -180,15 +130,15 @@ transfer_refused_log =
 
 abbrev transfer_refused_calls : List Step
 transfer_refused_calls =
-    record { service = Allocate; makes = 1; answer = Ok (token_of 0 0) }
-    ∷ record { service = Deallocate (token_of 0 0); makes = 1; answer = Ok tt }
-    ∷ record { service = Transfer (Some (token_of 0 0)) (token_of 1 0) 1; makes = 0; answer = Err (refusal.Spent 1) }
+    does Allocate 1 (Ok (token_of 0 0))
+    ∷ does (Deallocate (token_of 0 0)) 1 (Ok tt)
+    ∷ does (Transfer (Some (token_of 0 0)) (token_of 1 0) 1) 0 (Err (refusal.Spent 1))
     ∷ []
 
 transfer_refused : IsRow (one_task [] []) 0 transfer_refused_log transfer_refused_calls
 transfer_refused = record {
   legal = legal_by (one_task [] []) transfer_refused_log refl;
-  made = (made refl refl, refl, (made refl refl, refl, (made refl refl, refl, refl)));
+  made = and_so refl refl refl (and_so refl refl refl (and_so refl refl refl refl));
 }
 
 -- Releases by one exchange of the word that was expected: the second finds the code of the first.
@@ -202,16 +152,16 @@ tried_release_log =
 
 abbrev tried_release_calls : List Step
 tried_release_calls =
-    record { service = Allocate; makes = 1; answer = Ok (token_of 0 0) }
-    ∷ record { service = TryRelease (token_of 0 0) 35184388866048 5; makes = 1; answer = Ok CameEarly }
-    ∷ record { service = TryRelease (token_of 0 0) 70368777732101 6; makes = 1; answer = Err refusal.Already }
-    ∷ record { service = Pause (token_of 0 0); makes = 1; answer = Ok (record { code = 5; next = token_of 0 1 }) }
+    does Allocate 1 (Ok (token_of 0 0))
+    ∷ does (TryRelease (token_of 0 0) 35184388866048 5) 1 (Ok CameEarly)
+    ∷ does (TryRelease (token_of 0 0) 70368777732101 6) 1 (Err refusal.Already)
+    ∷ does (Pause (token_of 0 0)) 1 (Ok (record { code = 5; next = token_of 0 1 }))
     ∷ []
 
 tried_release : IsRow (one_task [] []) 0 tried_release_log tried_release_calls
 tried_release = record {
   legal = legal_by (one_task [] []) tried_release_log refl;
-  made = (made refl refl, refl, (made refl refl, refl, (made refl refl, refl, (made refl refl, refl, refl))));
+  made = and_so refl refl refl (and_so refl refl refl (and_so refl refl refl (and_so refl refl refl refl)));
 }
 
 -- Transfers without a current token release, and nothing more.
@@ -225,16 +175,16 @@ plain_transfers_log =
 
 abbrev plain_transfers_calls : List Step
 plain_transfers_calls =
-    record { service = Allocate; makes = 1; answer = Ok (token_of 0 0) }
-    ∷ record { service = Transfer None (token_of 0 0) 3; makes = 1; answer = Ok None }
-    ∷ record { service = Transfer None (token_of 0 0) 4; makes = 1; answer = Err refusal.TargetAlready }
-    ∷ record { service = Pause (token_of 0 0); makes = 1; answer = Ok (record { code = 3; next = token_of 0 1 }) }
+    does Allocate 1 (Ok (token_of 0 0))
+    ∷ does (Transfer None (token_of 0 0) 3) 1 (Ok None)
+    ∷ does (Transfer None (token_of 0 0) 4) 1 (Err refusal.TargetAlready)
+    ∷ does (Pause (token_of 0 0)) 1 (Ok (record { code = 3; next = token_of 0 1 }))
     ∷ []
 
 plain_transfers : IsRow (one_task [] []) 0 plain_transfers_log plain_transfers_calls
 plain_transfers = record {
   legal = legal_by (one_task [] []) plain_transfers_log refl;
-  made = (made refl refl, refl, (made refl refl, refl, (made refl refl, refl, (made refl refl, refl, refl))));
+  made = and_so refl refl refl (and_so refl refl refl (and_so refl refl refl (and_so refl refl refl refl)));
 }
 
 -- One task pauses, and another releases it. Nobody but its owner pauses with an element, transfers from it or closes it.
@@ -248,28 +198,28 @@ paused_log =
 
 abbrev paused_of_0_calls : List Step
 paused_of_0_calls =
-    record { service = Allocate; makes = 1; answer = Ok (token_of 0 0) }
-    ∷ record { service = Pause (token_of 0 0); makes = 2; answer = Ok (record { code = 9; next = token_of 0 1 }) }
+    does Allocate 1 (Ok (token_of 0 0))
+    ∷ does (Pause (token_of 0 0)) 2 (Ok (record { code = 9; next = token_of 0 1 }))
     ∷ []
 
 paused_of_0 : IsRow (two_tasks [] []) 0 paused_log paused_of_0_calls
 paused_of_0 = record {
   legal = legal_by (two_tasks [] []) paused_log refl;
-  made = (made refl refl, refl, (made refl refl, refl, refl));
+  made = and_so refl refl refl (and_so refl refl refl refl);
 }
 
 abbrev paused_of_1_calls : List Step
 paused_of_1_calls =
-    record { service = Release (token_of 0 0) 9; makes = 1; answer = Ok WokeIt }
-    ∷ record { service = Pause (token_of 0 0); makes = 0; answer = Err refusal.NotOwner }
-    ∷ record { service = Transfer (Some (token_of 0 0)) (token_of 0 0) 1; makes = 0; answer = Err refusal.NotOwner }
-    ∷ record { service = Deallocate (token_of 0 0); makes = 0; answer = Err refusal.NotOwner }
+    does (Release (token_of 0 0) 9) 1 (Ok WokeIt)
+    ∷ does (Pause (token_of 0 0)) 0 (Err refusal.NotOwner)
+    ∷ does (Transfer (Some (token_of 0 0)) (token_of 0 0) 1) 0 (Err refusal.NotOwner)
+    ∷ does (Deallocate (token_of 0 0)) 0 (Err refusal.NotOwner)
     ∷ []
 
 paused_of_1 : IsRow (two_tasks [] []) 1 paused_log paused_of_1_calls
 paused_of_1 = record {
   legal = legal_by (two_tasks [] []) paused_log refl;
-  made = (made refl refl, refl, (made refl refl, refl, (made refl refl, refl, (made refl refl, refl, refl))));
+  made = and_so refl refl refl (and_so refl refl refl (and_so refl refl refl (and_so refl refl refl refl)));
 }
 
 -- A transfer releases another task, which was parked, and parks its own.
@@ -287,32 +237,27 @@ transferred_log =
 
 abbrev transferred_of_0_calls : List Step
 transferred_of_0_calls =
-    record { service = Allocate; makes = 1; answer = Ok (token_of 0 0) }
-    ∷ record { service = Pause (token_of 0 0); makes = 2; answer = Ok (record { code = 7; next = token_of 0 1 }) }
-    ∷ record { service = Release (token_of 4 0) 8; makes = 1; answer = Ok WokeIt }
+    does Allocate 1 (Ok (token_of 0 0))
+    ∷ does (Pause (token_of 0 0)) 2 (Ok (record { code = 7; next = token_of 0 1 }))
+    ∷ does (Release (token_of 4 0) 8) 1 (Ok WokeIt)
     ∷ []
 
 transferred_of_0 : IsRow (two_tasks [] []) 0 transferred_log transferred_of_0_calls
 transferred_of_0 = record {
   legal = legal_by (two_tasks [] []) transferred_log refl;
-  made = (made refl refl, refl, (made refl refl, refl, (made refl refl, refl, refl)));
+  made = and_so refl refl refl (and_so refl refl refl (and_so refl refl refl refl));
 }
 
 abbrev transferred_of_1_calls : List Step
 transferred_of_1_calls =
-    record { service = Allocate; makes = 1; answer = Ok (token_of 4 0) }
-    ∷ record {
-      service = Transfer (Some (token_of 4 0)) (token_of 0 0) 7;
-      makes = 3;
-      answer =
-          Ok (Some (record { code = 8; next = token_of 4 1 }));
-    }
+    does Allocate 1 (Ok (token_of 4 0))
+    ∷ does (Transfer (Some (token_of 4 0)) (token_of 0 0) 7) 3 (Ok (Some (record { code = 8; next = token_of 4 1 })))
     ∷ []
 
 transferred_of_1 : IsRow (two_tasks [] []) 1 transferred_log transferred_of_1_calls
 transferred_of_1 = record {
   legal = legal_by (two_tasks [] []) transferred_log refl;
-  made = (made refl refl, refl, (made refl refl, refl, refl));
+  made = and_so refl refl refl (and_so refl refl refl refl);
 }
 
 -- ---- what does not follow

@@ -17,7 +17,7 @@ use Rattle.mv_machine.specs.calls.Program.{Early, Wrong, IsDoneOn, asks, left, n
 use Rattle.mv_machine.specs.calls.Refusal as refusal
 use Rattle.mv_machine.specs.calls.Runs.{heard_in}
 use Rattle.mv_machine.specs.calls.Services.{program, Wait, Post, TryPost, Clear, Extend, TestEcb, ReadVolume, WriteVolume}
-use Rattle.mv_machine.proofs.calls.Computed.{Step, IsRow, made, legal_by, one_task, two_tasks, at_block, at_volume}
+use Rattle.mv_machine.proofs.calls.Computed.{Step, does, IsRow, and_so, legal_by, one_task, two_tasks, at_block, at_volume}
 
 -- Two blocks are posted before the wait that is for two of three, and the third is not waited for any more then.
 abbrev posted_before_log : List Entry
@@ -35,16 +35,16 @@ posted_before_log =
 
 abbrev posted_before_calls : List Step
 posted_before_calls =
-    record { service = Post 0 7; makes = 1; answer = posts.Posted }
-    ∷ record { service = Post 2 9; makes = 1; answer = posts.Posted }
-    ∷ record { service = Wait 2 (0 ∷ 1 ∷ 2 ∷ []); makes = 6; answer = Ok (Some 7 ∷ None ∷ Some 9 ∷ []) }
-    ∷ record { service = TestEcb 1; makes = 1; answer = 0 }
+    does (Post 0 7) 1 posts.Posted
+    ∷ does (Post 2 9) 1 posts.Posted
+    ∷ does (Wait 2 (0 ∷ 1 ∷ 2 ∷ [])) 6 (Ok (Some 7 ∷ None ∷ Some 9 ∷ []))
+    ∷ does (TestEcb 1) 1 0
     ∷ []
 
 posted_before : IsRow (one_task (0 ∷ 0 ∷ 0 ∷ []) []) 0 posted_before_log posted_before_calls
 posted_before = record {
   legal = legal_by (one_task (0 ∷ 0 ∷ 0 ∷ []) []) posted_before_log refl;
-  made = (made refl refl, refl, (made refl refl, refl, (made refl refl, refl, (made refl refl, refl, refl))));
+  made = and_so refl refl refl (and_so refl refl refl (and_so refl refl refl (and_so refl refl refl refl)));
 }
 
 -- Waits that make no event: for none of none, for more than there are, and with a block twice.
@@ -54,15 +54,15 @@ refused_waits_log =
 
 abbrev refused_waits_calls : List Step
 refused_waits_calls =
-    record { service = Wait 0 []; makes = 0; answer = Ok [] }
-    ∷ record { service = Wait 2 (0 ∷ []); makes = 0; answer = Err refusal.TooMany }
-    ∷ record { service = Wait 1 (0 ∷ 0 ∷ []); makes = 0; answer = Err (refusal.Doubled 1) }
+    does (Wait 0 []) 0 (Ok [])
+    ∷ does (Wait 2 (0 ∷ [])) 0 (Err refusal.TooMany)
+    ∷ does (Wait 1 (0 ∷ 0 ∷ [])) 0 (Err (refusal.Doubled 1))
     ∷ []
 
 refused_waits : IsRow (one_task (0 ∷ []) []) 0 refused_waits_log refused_waits_calls
 refused_waits = record {
   legal = legal_by (one_task (0 ∷ []) []) refused_waits_log refl;
-  made = (made refl refl, refl, (made refl refl, refl, (made refl refl, refl, refl)));
+  made = and_so refl refl refl (and_so refl refl refl (and_so refl refl refl refl));
 }
 
 -- A post that starts an exit posts its two targets; the second was complete before. A wait for an extended block is refused.
@@ -79,34 +79,19 @@ exits_posted_log =
 
 abbrev exits_posted_calls : List Step
 exits_posted_calls =
-    record { service = Post 2 3; makes = 1; answer = posts.Posted }
-    ∷ record { service = Extend 0 1; makes = 1; answer = Ok tt }
-    ∷ record { service = Wait 1 (0 ∷ []); makes = 0; answer = Err (refusal.ExtendedAt 0) }
-    ∷ record { service = Post 0 8; makes = 3; answer = posts.Woke 1 }
-    ∷ record { service = TestEcb 1; makes = 1; answer = 1073741832 }
-    ∷ record { service = TestEcb 2; makes = 1; answer = 1073741827 }
+    does (Post 2 3) 1 posts.Posted
+    ∷ does (Extend 0 1) 1 (Ok tt)
+    ∷ does (Wait 1 (0 ∷ [])) 0 (Err (refusal.ExtendedAt 0))
+    ∷ does (Post 0 8) 3 (posts.Woke 1)
+    ∷ does (TestEcb 1) 1 1073741832
+    ∷ does (TestEcb 2) 1 1073741827
     ∷ []
 
 exits_posted : IsRow (one_task (0 ∷ 0 ∷ 0 ∷ []) (record { source = 0; targets = 1 ∷ 2 ∷ [] } ∷ [])) 0 exits_posted_log exits_posted_calls
 exits_posted = record {
   legal = legal_by (one_task (0 ∷ 0 ∷ 0 ∷ []) (record { source = 0; targets = 1 ∷ 2 ∷ [] } ∷ [])) exits_posted_log refl;
-  made = (
-    made refl refl,
-    refl,
-    (
-      made refl refl,
-      refl,
-      (
-        made refl refl,
-        refl,
-        (
-          made refl refl,
-          refl,
-          (made refl refl, refl, (made refl refl, refl, refl)),
-        ),
-      ),
-    ),
-  );
+  made = and_so refl refl refl (and_so refl refl refl (and_so refl refl refl (and_so refl refl refl (
+      and_so refl refl refl (and_so refl refl refl refl)))));
 }
 
 -- An exit whose target starts an exit of its own: that one is posted before the next target. Extends that are refused, and clears.
@@ -128,18 +113,18 @@ exits_in_exits_log =
 
 abbrev exits_in_exits_calls : List Step
 exits_in_exits_calls =
-    record { service = Extend 0 1; makes = 1; answer = Ok tt }
-    ∷ record { service = Extend 0 1; makes = 0; answer = Err refusal.Extended }
-    ∷ record { service = Extend 1 1; makes = 0; answer = Err refusal.BadExit }
-    ∷ record { service = Extend 1 2; makes = 1; answer = Ok tt }
-    ∷ record { service = Post 0 8; makes = 4; answer = posts.Woke 1 }
-    ∷ record { service = Clear 0; makes = 1; answer = Ok 1073741832 }
-    ∷ record { service = Extend 0 1; makes = 1; answer = Ok tt }
-    ∷ record { service = Clear 0; makes = 1; answer = Ok 2147483649 }
-    ∷ record { service = Extend 2 7; makes = 0; answer = Err refusal.BadExit }
-    ∷ record { service = Clear 1; makes = 1; answer = Ok 1073741832 }
-    ∷ record { service = Post 1 5; makes = 1; answer = posts.Posted }
-    ∷ record { service = Extend 1 2; makes = 1; answer = Err (refusal.Complete 5) }
+    does (Extend 0 1) 1 (Ok tt)
+    ∷ does (Extend 0 1) 0 (Err refusal.Extended)
+    ∷ does (Extend 1 1) 0 (Err refusal.BadExit)
+    ∷ does (Extend 1 2) 1 (Ok tt)
+    ∷ does (Post 0 8) 4 (posts.Woke 1)
+    ∷ does (Clear 0) 1 (Ok 1073741832)
+    ∷ does (Extend 0 1) 1 (Ok tt)
+    ∷ does (Clear 0) 1 (Ok 2147483649)
+    ∷ does (Extend 2 7) 0 (Err refusal.BadExit)
+    ∷ does (Clear 1) 1 (Ok 1073741832)
+    ∷ does (Post 1 5) 1 posts.Posted
+    ∷ does (Extend 1 2) 1 (Err (refusal.Complete 5))
     ∷ []
 
 exits_in_exits : IsRow (one_task (0 ∷ 0 ∷ 0 ∷ []) (record { source = 0; targets = 1 ∷ 2 ∷ [] } ∷ record {
@@ -150,39 +135,9 @@ exits_in_exits : IsRow (one_task (0 ∷ 0 ∷ 0 ∷ []) (record { source = 0; ta
 exits_in_exits = record {
   legal = legal_by (one_task (0 ∷ 0 ∷ 0 ∷ []) (record { source = 0; targets = 1 ∷ 2 ∷ [] } ∷ record { source = 1; targets = 2 ∷ [] } ∷ []))
       exits_in_exits_log refl;
-  made = (
-    made refl refl,
-    refl,
-    (
-      made refl refl,
-      refl,
-      (
-        made refl refl,
-        refl,
-        (
-          made refl refl,
-          refl,
-          (
-            made refl refl,
-            refl,
-            (
-              made refl refl,
-              refl,
-              (
-                made refl refl,
-                refl,
-                (
-                  made refl refl,
-                  refl,
-                  (made refl refl, refl, (made refl refl, refl, (made refl refl, refl, (made refl refl, refl, refl)))),
-                ),
-              ),
-            ),
-          ),
-        ),
-      ),
-    ),
-  );
+  made = and_so refl refl refl (and_so refl refl refl (and_so refl refl refl (and_so refl refl refl (
+      and_so refl refl refl (and_so refl refl refl (and_so refl refl refl (and_so refl refl refl (
+      and_so refl refl refl (and_so refl refl refl (and_so refl refl refl (and_so refl refl refl refl)))))))))));
 }
 
 -- A post by one exchange of the word that was expected.
@@ -193,13 +148,13 @@ tried_post_log =
 
 abbrev tried_post_calls : List Step
 tried_post_calls =
-    record { service = TryPost 0 0 5; makes = 1; answer = posts.Posted }
+    does (TryPost 0 0 5) 1 posts.Posted
     ∷ []
 
 tried_post : IsRow (one_task (0 ∷ []) []) 0 tried_post_log tried_post_calls
 tried_post = record {
   legal = legal_by (one_task (0 ∷ []) []) tried_post_log refl;
-  made = (made refl refl, refl, refl);
+  made = and_so refl refl refl refl;
 }
 
 -- A volume keeps its number of 32 bits.
@@ -211,14 +166,14 @@ volume_written_log =
 
 abbrev volume_written_calls : List Step
 volume_written_calls =
-    record { service = WriteVolume 0 4294967295; makes = 1; answer = tt }
-    ∷ record { service = ReadVolume 0; makes = 1; answer = 4294967295 }
+    does (WriteVolume 0 4294967295) 1 tt
+    ∷ does (ReadVolume 0) 1 4294967295
     ∷ []
 
 volume_written : IsRow (one_task [] []) 0 volume_written_log volume_written_calls
 volume_written = record {
   legal = legal_by (one_task [] []) volume_written_log refl;
-  made = (made refl refl, refl, (made refl refl, refl, refl));
+  made = and_so refl refl refl (and_so refl refl refl refl);
 }
 
 -- One task waits for its block, and another posts it.
@@ -231,27 +186,27 @@ woken_log =
 
 abbrev woken_of_0_calls : List Step
 woken_of_0_calls =
-    record { service = Wait 1 (0 ∷ []); makes = 2; answer = Ok (Some 3 ∷ []) }
+    does (Wait 1 (0 ∷ [])) 2 (Ok (Some 3 ∷ []))
     ∷ []
 
 woken_of_0 : IsRow (two_tasks (0 ∷ []) []) 0 woken_log woken_of_0_calls
 woken_of_0 = record {
   legal = legal_by (two_tasks (0 ∷ []) []) woken_log refl;
-  made = (made refl refl, refl, refl);
+  made = and_so refl refl refl refl;
 }
 
 abbrev woken_of_1_calls : List Step
 woken_of_1_calls =
-    record { service = Post 0 3; makes = 1; answer = posts.Woke 0 }
-    ∷ record { service = Clear 0; makes = 0; answer = Err refusal.NotOwner }
-    ∷ record { service = Wait 1 (0 ∷ []); makes = 0; answer = Err (refusal.NotOwnerAt 0) }
-    ∷ record { service = Extend 0 1; makes = 0; answer = Err refusal.NotOwner }
+    does (Post 0 3) 1 (posts.Woke 0)
+    ∷ does (Clear 0) 0 (Err refusal.NotOwner)
+    ∷ does (Wait 1 (0 ∷ [])) 0 (Err (refusal.NotOwnerAt 0))
+    ∷ does (Extend 0 1) 0 (Err refusal.NotOwner)
     ∷ []
 
 woken_of_1 : IsRow (two_tasks (0 ∷ []) []) 1 woken_log woken_of_1_calls
 woken_of_1 = record {
   legal = legal_by (two_tasks (0 ∷ []) []) woken_log refl;
-  made = (made refl refl, refl, (made refl refl, refl, (made refl refl, refl, (made refl refl, refl, refl))));
+  made = and_so refl refl refl (and_so refl refl refl (and_so refl refl refl (and_so refl refl refl refl)));
 }
 
 -- The same, where the post comes first.
@@ -264,24 +219,24 @@ posted_first_log =
 
 abbrev posted_first_of_0_calls : List Step
 posted_first_of_0_calls =
-    record { service = Wait 1 (0 ∷ []); makes = 2; answer = Ok (Some 3 ∷ []) }
+    does (Wait 1 (0 ∷ [])) 2 (Ok (Some 3 ∷ []))
     ∷ []
 
 posted_first_of_0 : IsRow (two_tasks (0 ∷ []) []) 0 posted_first_log posted_first_of_0_calls
 posted_first_of_0 = record {
   legal = legal_by (two_tasks (0 ∷ []) []) posted_first_log refl;
-  made = (made refl refl, refl, refl);
+  made = and_so refl refl refl refl;
 }
 
 abbrev posted_first_of_1_calls : List Step
 posted_first_of_1_calls =
-    record { service = Post 0 3; makes = 1; answer = posts.Posted }
+    does (Post 0 3) 1 posts.Posted
     ∷ []
 
 posted_first_of_1 : IsRow (two_tasks (0 ∷ []) []) 1 posted_first_log posted_first_of_1_calls
 posted_first_of_1 = record {
   legal = legal_by (two_tasks (0 ∷ []) []) posted_first_log refl;
-  made = (made refl refl, refl, refl);
+  made = and_so refl refl refl refl;
 }
 
 -- ---- what does not follow
