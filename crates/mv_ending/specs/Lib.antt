@@ -1,3 +1,4 @@
 pub mod Input
 pub mod Written
+pub mod Ending
 pub mod Note

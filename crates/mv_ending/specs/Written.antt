@@ -1,6 +1,35 @@
--- What a text that was not written whole leaves in its sink, where the sink tells its bytes.
+-- How much of a run's texts was written: its report, and after that its journal.
 use Rattle.std.specs.Prelude.{◌≡◌, ℕ, ◌<◌, List, ◌++◌, length, take, Option, Some, IfSome}
+use Rattle.mv_io.specs.Sink.{Appends}
 
 -- the told bytes grow by a front of these, and not by all
 abbrev pub AppendsFront : Option (List ℕ) → Option (List ℕ) → List ℕ → Type 0
 AppendsFront old new text = IfSome old (λ xs. (n : ℕ) × (n < length text) × (new ≡ Some (xs ++ take n text)))
+
+-- how far the writing came
+pub data Extent : Type 0 where
+  Nothing : Extent
+  PartOfReport : Extent
+  PartOfJournal : Extent
+  Everything : Extent
+
+-- a fact that holds where nothing was begun
+abbrev pub IfUnwritten : Extent → Type 0 → Type 0
+IfUnwritten Nothing P = P
+IfUnwritten PartOfReport P = Unit {0}
+IfUnwritten PartOfJournal P = Unit {0}
+IfUnwritten Everything P = Unit {0}
+
+-- what the sinks of both texts hold then, where they tell it
+abbrev pub Wrote : Extent → (report0 report1 journal0 journal1 : Option (List ℕ)) → (report journal : List ℕ) → Type 0
+Wrote Nothing report0 report1 journal0 journal1 report journal = (report1 ≡ report0) × (journal1 ≡ journal0)
+Wrote PartOfReport report0 report1 journal0 journal1 report journal = AppendsFront report0 report1 report × (journal1 ≡ journal0)
+Wrote PartOfJournal report0 report1 journal0 journal1 report journal = Appends report0 report1 report × AppendsFront journal0 journal1 journal
+Wrote Everything report0 report1 journal0 journal1 report journal = Appends report0 report1 report × Appends journal0 journal1 journal
+
+-- so much was written of two texts that are told of the input, where its source told that
+abbrev pub WroteOf : (List ℕ → List ℕ → List ℕ → Type 0) → Extent → (input report0 report1 journal0 journal1 : Option (List ℕ)) → Type 0
+WroteOf Tells Nothing input report0 report1 journal0 journal1 = (report1 ≡ report0) × (journal1 ≡ journal0)
+WroteOf Tells extent input report0 report1 journal0 journal1 =
+    IfSome input (λ bytes. (report : List ℕ) × (journal : List ℕ) × Tells bytes report journal
+    × Wrote extent report0 report1 journal0 journal1 report journal)

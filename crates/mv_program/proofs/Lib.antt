@@ -1,7 +1,9 @@
+-- The run of a deck, and its journal.
 pub mod EndCodes
 pub mod EightBytes
 pub mod Posts
 pub mod Legal
-pub mod Endings
-pub mod Replays
 pub mod Runs
+-- How a run ends, and what it tells.
+pub mod Owed
+pub mod Told

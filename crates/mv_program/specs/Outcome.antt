@@ -1,12 +1,10 @@
--- What the streams hold after each way that a run can end, by the command that the words are, where they are one. What is
--- told of an input is told where its source told it.
-use Rattle.std.specs.Prelude.{◌≡◌, ℕ, ◌⊎◌, List, Option, Some, None, IfSome, IsSomeAnd}
-use Rattle.mv_io.specs.Sink.{Appends}
-use Rattle.mv_deck.specs.declared.fault.DeckFault.{DeckFault}
+-- What a command asks and tells of its input, and what the streams hold after each way that a run can end. What is told of an
+-- input is told where its source told it.
+use Rattle.std.specs.Prelude.{◌≡◌, ℕ, ◌<◌, ◌≤◌, Bool, true, false, List, [], length, Option, Some, None, IfSome, IsSomeAnd}
 use Rattle.mv_deck.specs.Fault.{first_fault}
-use Rattle.mv_ending.specs.Input.{IsWhole, IsTooLong}
-use Rattle.mv_ending.specs.Written.{AppendsFront}
-use Rattle.mv_replay.specs.Judgement.{journal_limit}
+use Rattle.mv_ending.specs.Input.{IsWhole, IsTooLong, IsCut, IsAllOrNothing}
+use Rattle.mv_ending.specs.Written.{Extent, Nothing, PartOfReport, PartOfJournal, Everything, Wrote, WroteOf}
+use Rattle.mv_replay.specs.Judgement.{IsLegalJournal}
 use Rattle.mv_replay.specs.Outcome as replay
 use Rattle.mv_program.specs.declared.command.Command.{Command}
 use Rattle.mv_program.specs.declared.command.Command.TheVariants.{Spool, Replay}
@@ -15,78 +13,92 @@ use Rattle.mv_program.specs.declared.status.Status.TheVariants.{Done, Words, Dec
 use Rattle.mv_program.specs.Run.{deck_limit, report_of, journal_of_run, IsRun}
 use Rattle.mv_program.specs.Status.{replay_of}
 
--- the most bytes of a command's input
-abbrev pub limit_of : Command → ℕ
-limit_of (Spool n) = deck_limit
-limit_of Replay = journal_limit
+-- ---- the ending that an input asks of a command, where no stream fails and memory is there
+
+-- what a deck for so many initiators is found to be
+abbrev pub IsFound : ℕ → List ℕ → Status → Type 0
+IsFound n input Done = first_fault input ≡ None
+IsFound n input (Deck fault) = first_fault input ≡ Some fault
+IsFound n input _ = ⊥
+
+abbrev pub DeckAsks : ℕ → List ℕ → Status → Type 0
+DeckAsks n input TooLong = deck_limit < length input
+DeckAsks n input status = (length input ≤ deck_limit) × IsFound n input status
+
+abbrev pub Asks : Command → List ℕ → Status → Type 0
+Asks (Spool n) input status = DeckAsks n input status
+Asks Replay input status = IsSomeAnd (replay_of status) (λ s. replay.Asks input s)
+
+-- ---- the texts that a command tells of an input, where all goes well: its report and its journal
+
+-- a deck's report, and the journal of its run, which is a legal history
+pub record TellsRun (n : ℕ) (input report journal : List ℕ) : Type 0 where
+  pub reported : report ≡ report_of input
+  pub kept : journal ≡ journal_of_run input
+  pub run : IsRun input
+
+-- how many events of a journal are legal, and no journal
+pub record TellsLegal (input report journal : List ℕ) : Type 0 where
+  pub count : ℕ
+  pub legal : IsLegalJournal input count
+  pub reported : report ≡ replay.legal_text count
+  pub none : journal ≡ []
+
+abbrev pub Tells : Command → (input report journal : List ℕ) → Type 0
+Tells (Spool n) input report journal = TellsRun n input report journal
+Tells Replay input report journal = TellsLegal input report journal
+
+-- whether it has a journal at all
+abbrev pub has_journal : Command → Bool
+has_journal (Spool n) = true
+has_journal Replay = false
 
 -- ---- the input, and what is left of it
 
--- a deck that is run: read to its end, and without fault
-pub record IsDeck (input : List ℕ) (left : Option (List ℕ)) : Type 0 where
+-- a deck was read to its end, and is found to be that
+pub record IsDeck (n : ℕ) (input : List ℕ) (left : Option (List ℕ)) (found : Status) : Type 0 where
   pub read : IsWhole deck_limit input left
-  pub sound : first_fault input ≡ None
+  pub is : IsFound n input found
 
--- a deck that is not run: read to its end, and with this fault, its first
-pub record HasFault (input : List ℕ) (left : Option (List ℕ)) (fault : DeckFault) : Type 0 where
-  pub read : IsWhole deck_limit input left
-  pub first : first_fault input ≡ Some fault
-
-abbrev pub DeckOf : Status → Option (List ℕ) → Option (List ℕ) → Type 0
-DeckOf Done old new = IfSome old (λ bytes. IsDeck bytes new)
-DeckOf ReportFailed old new = IfSome old (λ bytes. IsDeck bytes new)
-DeckOf JournalFailed old new = IfSome old (λ bytes. IsDeck bytes new)
-DeckOf (Deck f) old new = IfSome old (λ bytes. HasFault bytes new f)
-DeckOf TooLong old new = IfSome old (λ bytes. IsTooLong deck_limit bytes new)
-DeckOf ReadFailed old new = Unit {0}
-DeckOf NoMemory old new = Unit {0}
-DeckOf _ old new = ⊥
+abbrev pub DeckOf : ℕ → Status → Option (List ℕ) → Option (List ℕ) → Type 0
+DeckOf n Done old new = IfSome old (λ bytes. IsDeck n bytes new Done)
+DeckOf n ReportFailed old new = IfSome old (λ bytes. IsDeck n bytes new Done)
+DeckOf n JournalFailed old new = IfSome old (λ bytes. IsDeck n bytes new Done)
+DeckOf n (Deck fault) old new = IfSome old (λ bytes. IsDeck n bytes new (Deck fault))
+DeckOf n TooLong old new = IfSome old (λ bytes. IsTooLong deck_limit bytes new)
+DeckOf n ReadFailed old new = IfSome old (λ bytes. IsCut deck_limit bytes new)
+DeckOf n NoMemory old new = IsAllOrNothing deck_limit old new
+DeckOf n _ old new = ⊥
 
 abbrev pub InputOf : Option Command → Status → Option (List ℕ) → Option (List ℕ) → Type 0
-InputOf (Some (Spool n)) status old new = DeckOf status old new
+InputOf (Some (Spool n)) status old new = DeckOf n status old new
 InputOf (Some Replay) status old new = IsSomeAnd (replay_of status) (λ s. replay.InputOf s old new)
 InputOf None status old new = new ≡ old
 
--- ---- the report
+-- ---- the two texts
 
-abbrev pub DeckReportAfter : Status → Option (List ℕ) → Option (List ℕ) → Option (List ℕ) → Type 0
-DeckReportAfter Done input old new = IfSome input (λ bytes. Appends old new (report_of bytes))
-DeckReportAfter JournalFailed input old new = IfSome input (λ bytes. Appends old new (report_of bytes))
-DeckReportAfter ReportFailed input old new = IfSome input (λ bytes. AppendsFront old new (report_of bytes))
-DeckReportAfter _ input old new = new ≡ old
+-- how much of them was written
+abbrev pub extent_of : Status → Extent
+extent_of Done = Everything
+extent_of ReportFailed = PartOfReport
+extent_of JournalFailed = PartOfJournal
+extent_of Words = Nothing
+extent_of (Deck fault) = Nothing
+extent_of TooLong = Nothing
+extent_of ReadFailed = Nothing
+extent_of NoMemory = Nothing
+extent_of (Illegal line) = Nothing
+extent_of (Text fault) = Nothing
 
-abbrev pub ReportAfter : Option Command → Status → Option (List ℕ) → Option (List ℕ) → Option (List ℕ) → Type 0
-ReportAfter (Some (Spool n)) status input old new = DeckReportAfter status input old new
-ReportAfter (Some Replay) status input old new = IsSomeAnd (replay_of status) (λ s. replay.ReportAfter s input old new)
-ReportAfter None status input old new = new ≡ old
+-- what the sinks hold: so much of texts that the command tells of the input
+abbrev pub Told : Option Command → Status → (input report0 report1 journal0 journal1 : Option (List ℕ)) → Type 0
+Told (Some command) status input report0 report1 journal0 journal1 =
+    WroteOf (Tells command) (extent_of status) input report0 report1 journal0 journal1
+Told None status input report0 report1 journal0 journal1 = (report1 ≡ report0) × (journal1 ≡ journal0)
 
--- ---- the journal
-
-abbrev pub DeckJournalAfter : Status → Option (List ℕ) → Option (List ℕ) → Option (List ℕ) → Type 0
-DeckJournalAfter Done input old new = IfSome input (λ bytes. Appends old new (journal_of_run bytes) × IsRun bytes)
-DeckJournalAfter JournalFailed input old new = IfSome input (λ bytes. AppendsFront old new (journal_of_run bytes) × IsRun bytes)
-DeckJournalAfter _ input old new = new ≡ old
-
-abbrev pub JournalAfter : Option Command → Status → Option (List ℕ) → Option (List ℕ) → Option (List ℕ) → Type 0
-JournalAfter (Some (Spool n)) status input old new = DeckJournalAfter status input old new
-JournalAfter _ status input old new = new ≡ old
-
--- what the writing of both texts leaves in the sinks, the report first
-abbrev pub Writes : Status → Option (List ℕ) → Option (List ℕ) → Option (List ℕ) → Option (List ℕ) → List ℕ → List ℕ → Type 0
-Writes Done report0 report1 journal0 journal1 report journal = Appends report0 report1 report × Appends journal0 journal1 journal
-Writes ReportFailed report0 report1 journal0 journal1 report journal = AppendsFront report0 report1 report × (journal1 ≡ journal0)
-Writes JournalFailed report0 report1 journal0 journal1 report journal = Appends report0 report1 report × AppendsFront journal0 journal1 journal
+-- the writing of both texts, the report first, ends in one of three ways
+abbrev pub Writes : Status → (report0 report1 journal0 journal1 : Option (List ℕ)) → (report journal : List ℕ) → Type 0
+Writes Done report0 report1 journal0 journal1 report journal = Wrote Everything report0 report1 journal0 journal1 report journal
+Writes ReportFailed report0 report1 journal0 journal1 report journal = Wrote PartOfReport report0 report1 journal0 journal1 report journal
+Writes JournalFailed report0 report1 journal0 journal1 report journal = Wrote PartOfJournal report0 report1 journal0 journal1 report journal
 Writes _ report0 report1 journal0 journal1 report journal = ⊥
-
--- ---- how a run has to end
-
--- a run that can end in one way, or for want of memory
-abbrev pub EndsAs : Status → Status → Type 0
-EndsAs result wanted = (result ≡ wanted) ⊎ (result ≡ NoMemory)
-
--- a fact that holds where neither text was begun
-abbrev pub IfUnwritten : Status → Type 0 → Type 0
-IfUnwritten Done P = Unit {0}
-IfUnwritten ReportFailed P = Unit {0}
-IfUnwritten JournalFailed P = Unit {0}
-IfUnwritten _ P = P

@@ -45,16 +45,17 @@ fn texts_of_deck(alloc: Global, deck: &Deck) -> Result<Texts, NoMemory>
     Ok(Texts { report, journal })
 }
 
-/// The texts of the run of a deck.
-pub(crate) fn texts_of(alloc: Global, input: &[u8]) -> Result<Texts, DeckRefusal>
-    requires { length input.now ≤ deck_limit }
+/// The texts of the run of a deck with so many initiators.
+pub(crate) fn texts_of(alloc: Global, input: &[u8], initiators: u32) -> Result<Texts, DeckRefusal>
+    requires short { length input.now ≤ deck_limit }
+    requires initiators { (1 ≤ initiators) × (initiators ≤ 8) }
     ensures sound { IfOk result (λ _. first_fault input.now ≡ None) }
     ensures report { IfOk result (λ texts. texts.report.items ≡ report_of input.now) }
     ensures journal { IfOk result (λ texts. texts.journal.items ≡ journal_of_run input.now) }
     ensures run { OnOk result (IsRun input.now) }
     ensures fault { IfErr result (λ refusal. TellsFirst refusal (first_fault input.now)) }
 {
-    let deck = read_deck(alloc, input, 1)?;
+    let deck = read_deck(alloc, input, initiators)?;
     match texts_of_deck(alloc, &deck) {
         Ok(texts) => Ok(texts),
         Err(NoMemory) => Err(DeckRefusal::NoMemory),

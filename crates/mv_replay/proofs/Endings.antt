@@ -11,17 +11,11 @@ use Rattle.mv_entrytext.proofs.LinesAgain.{no_fault, one_journal}
 use Rattle.mv_replay.specs.declared.status.ReplayStatus.{ReplayStatus}
 use Rattle.mv_replay.specs.declared.status.ReplayStatus.TheVariants.{Done, TooLong, ReadFailed, ReportFailed, NoMemory, Illegal, Text}
 use Rattle.mv_replay.specs.Judgement.{journal_limit, first_line, IsLegalJournal, IsIllegalAt}
-use Rattle.mv_replay.specs.Outcome.{InputOf, EndsAs}
+use Rattle.mv_ending.specs.Ending.{EndsAs}
+use Rattle.mv_replay.specs.Outcome.{IsFound, Asks, InputOf}
 use Rattle.mv_replay.proofs.Splits.{one_split, no_split}
 
--- the ending that a text asks for
-abbrev pub AsksFor : List ℕ → ReplayStatus → Type 0
-AsksFor bytes Done = (count : ℕ) × IsLegalJournal bytes count
-AsksFor bytes (Illegal line) = IsIllegalAt bytes line
-AsksFor bytes (Text fault) = text_fault bytes ≡ Some fault
-AsksFor bytes _ = ⊥
-
--- ---- it asks for one
+-- ---- what a text is found to be
 
 pub legal_is_sound : (bytes : List ℕ) (count : ℕ) → IsLegalJournal bytes count → text_fault bytes ≡ None
 legal_is_sound bytes count l = ap text_fault l.text ∙ no_fault l.setup l.entries l.journal
@@ -62,46 +56,45 @@ one_line bytes m n i j =
 one_fault : (f g : TextFault) → Some f ≡ Some g → f ≡ g
 one_fault f g e = cc
 
-one_ending : (bytes : List ℕ) (s t : ReplayStatus) → AsksFor bytes s → AsksFor bytes t → s ≡ t
-one_ending bytes TooLong t a b = absurd a
-one_ending bytes ReadFailed t a b = absurd a
-one_ending bytes ReportFailed t a b = absurd a
-one_ending bytes NoMemory t a b = absurd a
-one_ending bytes Done Done a b = refl
-one_ending bytes Done (Illegal n) a b = absurd (not_both bytes a.0 n a.1 b)
-one_ending bytes Done (Text g) a b = absurd (not_faulty bytes g (legal_is_sound bytes a.0 a.1) b)
-one_ending bytes (Illegal m) Done a b = absurd (not_both bytes b.0 m b.1 a)
-one_ending bytes (Illegal m) (Illegal n) a b = ap (λ (k : ℕ). Illegal k) (one_line bytes m n a b)
-one_ending bytes (Illegal m) (Text g) a b = absurd (not_faulty bytes g (illegal_is_sound bytes m a) b)
-one_ending bytes (Text f) Done a b = absurd (not_faulty bytes f (legal_is_sound bytes b.0 b.1) a)
-one_ending bytes (Text f) (Illegal n) a b = absurd (not_faulty bytes f (illegal_is_sound bytes n b) a)
-one_ending bytes (Text f) (Text g) a b = ap (λ (h : TextFault). Text h) (one_fault f g (sym a ∙ b))
-one_ending bytes s t a b = absurd b
+pub one_finding : (bytes : List ℕ) (s t : ReplayStatus) → IsFound bytes s → IsFound bytes t → s ≡ t
+one_finding bytes TooLong t a b = absurd a
+one_finding bytes ReadFailed t a b = absurd a
+one_finding bytes ReportFailed t a b = absurd a
+one_finding bytes NoMemory t a b = absurd a
+one_finding bytes Done Done a b = refl
+one_finding bytes Done (Illegal n) a b = absurd (not_both bytes a.0 n a.1 b)
+one_finding bytes Done (Text g) a b = absurd (not_faulty bytes g (legal_is_sound bytes a.0 a.1) b)
+one_finding bytes (Illegal m) Done a b = absurd (not_both bytes b.0 m b.1 a)
+one_finding bytes (Illegal m) (Illegal n) a b = ap (λ (k : ℕ). Illegal k) (one_line bytes m n a b)
+one_finding bytes (Illegal m) (Text g) a b = absurd (not_faulty bytes g (illegal_is_sound bytes m a) b)
+one_finding bytes (Text f) Done a b = absurd (not_faulty bytes f (legal_is_sound bytes b.0 b.1) a)
+one_finding bytes (Text f) (Illegal n) a b = absurd (not_faulty bytes f (illegal_is_sound bytes n b) a)
+one_finding bytes (Text f) (Text g) a b = ap (λ (h : TextFault). Text h) (one_fault f g (sym a ∙ b))
+one_finding bytes s t a b = absurd b
+
+-- ---- the ending that an input asks for
+
+pub one_ending : (bytes : List ℕ) (s t : ReplayStatus) → Asks bytes s → Asks bytes t → s ≡ t
+one_ending bytes TooLong TooLong a b = refl
+one_ending bytes TooLong t a b = absurd (omega (arith, b.0))
+one_ending bytes s TooLong a b = absurd (omega (arith, a.0))
+one_ending bytes s t a b = one_finding bytes s t a.1 b.1
 
 -- ---- a replay has it, where the source did not fail, and the report did not where it was begun
 
 ends_as : (bytes : List ℕ) (new : Option (List ℕ)) (s t : ReplayStatus) → InputOf s (Some bytes) new
-    → length bytes ≤ journal_limit → (s ≡ ReadFailed → ⊥) → (s ≡ ReportFailed → t ≡ Done → ⊥) → AsksFor bytes t → EndsAs s t
-ends_as bytes new Done t i short read wrote a = inl (one_ending bytes Done t i.1 a)
-ends_as bytes new TooLong t i short read wrote a = absurd (omega (arith, i.long))
-ends_as bytes new ReadFailed t i short read wrote a = absurd (read refl)
-ends_as bytes new ReportFailed t i short read wrote a = absurd (wrote refl (sym (one_ending bytes Done t i.1 a)))
-ends_as bytes new NoMemory t i short read wrote a = inr refl
-ends_as bytes new (Illegal line) t i short read wrote a = inl (one_ending bytes (Illegal line) t i.1 a)
-ends_as bytes new (Text fault) t i short read wrote a = inl (one_ending bytes (Text fault) t i.1 a)
+    → (s ≡ ReadFailed → ⊥) → (s ≡ ReportFailed → t ≡ Done → ⊥) → Asks bytes t → EndsAs NoMemory s t
+ends_as bytes new Done t i read wrote a = inl (one_ending bytes Done t (i.0.short, i.1) a)
+ends_as bytes new TooLong t i read wrote a = inl (one_ending bytes TooLong t i.long a)
+ends_as bytes new ReadFailed t i read wrote a = absurd (read refl)
+ends_as bytes new ReportFailed t i read wrote a = absurd (wrote refl (sym (one_ending bytes Done t (i.0.short, i.1) a)))
+ends_as bytes new NoMemory t i read wrote a = inr refl
+ends_as bytes new (Illegal line) t i read wrote a = inl (one_ending bytes (Illegal line) t (i.0.short, i.1) a)
+ends_as bytes new (Text fault) t i read wrote a = inl (one_ending bytes (Text fault) t (i.0.short, i.1) a)
 
-pub text_ends : (s : ReplayStatus) (old new : Option (List ℕ)) → InputOf s old new → (s ≡ ReadFailed → ⊥)
-    → IfSome old (λ bytes. length bytes ≤ journal_limit → (fault : TextFault) → text_fault bytes ≡ Some fault → EndsAs s (Text fault))
-text_ends s None new input read = tt
-text_ends s (Some bytes) new input read = λ short fault e. ends_as bytes new s (Text fault) input short read (λ _ other. absurd cc) e
-
-pub illegal_ends : (s : ReplayStatus) (old new : Option (List ℕ)) → InputOf s old new → (s ≡ ReadFailed → ⊥)
-    → IfSome old (λ bytes. length bytes ≤ journal_limit → (line : ℕ) → IsIllegalAt bytes line → EndsAs s (Illegal line))
-illegal_ends s None new input read = tt
-illegal_ends s (Some bytes) new input read = λ short line i. ends_as bytes new s (Illegal line) input short read (λ _ other. absurd cc) i
-
-pub legal_ends : (s : ReplayStatus) (old new : Option (List ℕ)) → InputOf s old new → (s ≡ ReadFailed → ⊥) → (s ≡ ReportFailed → ⊥)
-    → IfSome old (λ bytes. length bytes ≤ journal_limit → (count : ℕ) → IsLegalJournal bytes count → EndsAs s Done)
-legal_ends s None new input read wrote = tt
-legal_ends s (Some bytes) new input read wrote =
-    λ short count l. ends_as bytes new s Done input short read (λ failed _. wrote failed) (count, l)
+pub owed : (s : ReplayStatus) (old new : Option (List ℕ)) (D R : Type 0) → InputOf s old new
+    → (s ≡ ReadFailed → D) → (s ≡ ReportFailed → R)
+    → (D → ⊥) → IfSome old (λ bytes. (t : ReplayStatus) → Asks bytes t → (t ≡ Done → R → ⊥) → EndsAs NoMemory s t)
+owed s None new D R input read report sound = tt
+owed s (Some bytes) new D R input read report sound =
+    λ t a wrote. ends_as bytes new s t input (λ e. sound (read e)) (λ failed done. wrote done (report failed)) a

@@ -1,15 +1,15 @@
-//! What holds of the texts of journals, whoever judges them.
+//! What holds of the texts of journals, whoever judges them. Its clauses cite specs/Judgement and specs/Outcome.
 
-ghost use Rattle.std.specs.Prelude.{◌≡◌, ℕ, List, None};
-ghost use Rattle.mv_entrytext.specs.Fault.{text_fault};
-ghost use Rattle.mv_replay.specs.Judgement.{IsLegalJournal, IsIllegalAt};
+ghost use Rattle.std.specs.Prelude.{◌≡◌, ℕ, List};
+ghost use Rattle.mv_replay.specs.Judgement.{IsLegalJournal};
+ghost use Rattle.mv_replay.specs.Outcome.{IsFound, Asks};
+ghost use Rattle.mv_replay.specs.declared.status.ReplayStatus.{ReplayStatus};
 
 /// No text asks for two endings: a text with a fault is neither a legal journal nor one with an illegal entry, none is
-/// both of these, and the number of entries and the line of the first illegal one are the text's own.
+/// both of these, and the number of entries, the line of the first illegal one and the fault are the text's own. So no
+/// input does, whatever its length.
 pub fn texts_ask_for_one_ending()
     ensures count { (bytes : List ℕ) (m n : ℕ) → IsLegalJournal bytes m → IsLegalJournal bytes n → m ≡ n }
-    ensures line { (bytes : List ℕ) (m n : ℕ) → IsIllegalAt bytes m → IsIllegalAt bytes n → m ≡ n }
-    ensures apart { (bytes : List ℕ) (count line : ℕ) → IsLegalJournal bytes count → ¬ IsIllegalAt bytes line }
-    ensures legal_is_sound { (bytes : List ℕ) (count : ℕ) → IsLegalJournal bytes count → text_fault bytes ≡ None }
-    ensures illegal_is_sound { (bytes : List ℕ) (line : ℕ) → IsIllegalAt bytes line → text_fault bytes ≡ None }
+    ensures found { (bytes : List ℕ) (s t : ReplayStatus) → IsFound bytes s → IsFound bytes t → s ≡ t }
+    ensures asked { (bytes : List ℕ) (s t : ReplayStatus) → Asks bytes s → Asks bytes t → s ≡ t }
 {}

@@ -1,9 +1,5 @@
-//! How a replay ended.
+//! How a replay ended. The definitions of specs/Outcome go by cases of it.
 
-ghost use Rattle.std.specs.Prelude.{◌≡◌};
-ghost use Rattle.mv_replay.specs.Status.{note_of as note_by_status};
-
-use mv_ending::Note;
 use mv_entrytext::TextFault;
 
 /// How a replay ended. Lines of the journal are counted from 1.
@@ -23,22 +19,4 @@ pub enum ReplayStatus {
     Illegal(u32),
     /// The text has this fault, its first.
     Text(TextFault),
-}
-
-/// What is told of a status on the notes.
-pub(crate) fn note_of(status: ReplayStatus) -> Option<Note>
-    ensures { result ≡ note_by_status status }
-{
-    match status {
-        ReplayStatus::Done => None,
-        ReplayStatus::TooLong => Some(Note::InputTooLong),
-        ReplayStatus::ReadFailed => Some(Note::ReadFailed),
-        ReplayStatus::ReportFailed => Some(Note::ReportFailed),
-        ReplayStatus::NoMemory => Some(Note::NoMemory),
-        ReplayStatus::Illegal(line) => Some(Note::Illegal { line }),
-        ReplayStatus::Text(fault) => Some(Note::JournalFault {
-            line: fault.line,
-            kind: fault.kind,
-        }),
-    }
 }

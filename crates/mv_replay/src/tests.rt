@@ -2,7 +2,6 @@ use super::*;
 use mv_entrytext::TextFault;
 use mv_io::{MemSink, MemSource, NoMemory};
 use std::alloc::Global;
-use std::process::Abort;
 use std::test::Fail;
 
 const TWO_JOBS: &str = "\
@@ -52,24 +51,17 @@ END 9
 struct Streams {
     input: MemSource,
     report: MemSink,
-    notes: MemSink,
 }
 
 fn streams_over(alloc: Global, journal: &str) -> Result<Streams, NoMemory> {
     Ok(Streams {
         input: MemSource::new(alloc, journal.as_bytes(), 100, &[])?,
         report: MemSink::new(alloc, 100, &[])?,
-        notes: MemSink::new(alloc, 100, &[])?,
     })
 }
 
 fn run(alloc: Global, on: &mut Streams) -> ReplayStatus {
-    replay_command(alloc, &mut on.input, &mut on.report, &mut on.notes)
-}
-
-fn assert_written(rt: &impl Abort, on: &Streams, report: &[u8], notes: &[u8]) {
-    assert_eq!(rt; on.report.bytes(), report);
-    assert_eq!(rt; on.notes.bytes(), notes);
+    replay_command(alloc, &mut on.input, &mut on.report)
 }
 
 #[test]
@@ -81,7 +73,7 @@ fn legal_journals(rt: HostRuntime) -> Result<(), Fail> {
     for (journal, report) in table {
         let mut on = streams_over(rt.alloc(), journal)?;
         assert_eq!(rt; run(rt.alloc(), &mut on), ReplayStatus::Done);
-        assert_written(&rt, &on, report, b"");
+        assert_eq!(rt; on.report.bytes(), report);
     }
     Ok(())
 }
@@ -93,18 +85,13 @@ fn an_entry_that_is_not_the_machines(rt: HostRuntime) -> Result<(), Fail> {
         (
             TWO_JOBS.replace(alloc, "16777228 = POSTED", "16777228 = WOKE 0")?,
             12,
-            b"ILLEGAL AT LINE 12\n".as_slice(),
         ),
-        (
-            NINE_EVENTS.replace(alloc, "GIVEN 0 1", "GIVEN 5 1")?,
-            20,
-            b"ILLEGAL AT LINE 20\n".as_slice(),
-        ),
+        (NINE_EVENTS.replace(alloc, "GIVEN 0 1", "GIVEN 5 1")?, 20),
     ];
-    for (journal, line, notes) in table {
+    for (journal, line) in table {
         let mut on = streams_over(alloc, &journal)?;
         assert_eq!(rt; run(alloc, &mut on), ReplayStatus::Illegal(line));
-        assert_written(&rt, &on, b"", notes);
+        assert_eq!(rt; on.report.bytes(), b"".as_slice());
     }
     Ok(())
 }
@@ -117,7 +104,6 @@ fn texts_with_a_fault(rt: HostRuntime) -> Result<(), Fail> {
         (
             TWO_JOBS.replace(alloc, "END 2", "END 02")?,
             TextFault { line: 13, kind: 2 },
-            b"JOURNAL LINE 13 KIND 2\n".as_slice(),
         ),
         (
             String::from_str(
@@ -125,13 +111,12 @@ fn texts_with_a_fault(rt: HostRuntime) -> Result<(), Fail> {
                 NINE_EVENTS.split("RESUME").next().ok_or("no such line")?,
             )?,
             TextFault { line: 20, kind: 5 },
-            b"JOURNAL LINE 20 KIND 5\n".as_slice(),
         ),
     ];
-    for (journal, fault, notes) in table {
+    for (journal, fault) in table {
         let mut on = streams_over(alloc, &journal)?;
         assert_eq!(rt; run(alloc, &mut on), ReplayStatus::Text(fault));
-        assert_written(&rt, &on, b"", notes);
+        assert_eq!(rt; on.report.bytes(), b"".as_slice());
     }
     Ok(())
 }
@@ -141,7 +126,7 @@ fn a_source_that_fails(rt: HostRuntime) -> Result<(), Fail> {
     let mut on = streams_over(rt.alloc(), TWO_JOBS)?;
     on.input = MemSource::new(rt.alloc(), TWO_JOBS.as_bytes(), 1, &[3])?;
     assert_eq!(rt; run(rt.alloc(), &mut on), ReplayStatus::ReadFailed);
-    assert_written(&rt, &on, b"", b"READ FAILED\n");
+    assert_eq!(rt; on.report.bytes(), b"".as_slice());
     Ok(())
 }
 
@@ -157,18 +142,8 @@ fn a_report_that_is_not_written(rt: HostRuntime) -> Result<(), Fail> {
         let mut on = streams_over(alloc, TWO_JOBS)?;
         on.report = sink;
         assert_eq!(rt; run(alloc, &mut on), ReplayStatus::ReportFailed);
-        assert_written(&rt, &on, front, b"REPORT FAILED\n");
+        assert_eq!(rt; on.report.bytes(), front);
     }
-    Ok(())
-}
-
-#[test]
-fn notes_without_room_change_no_status(rt: HostRuntime) -> Result<(), Fail> {
-    let mut on = streams_over(rt.alloc(), "")?;
-    on.notes = MemSink::new(rt.alloc(), 0, &[])?;
-    let fault = TextFault { line: 1, kind: 5 };
-    assert_eq!(rt; run(rt.alloc(), &mut on), ReplayStatus::Text(fault));
-    assert_written(&rt, &on, b"", b"");
     Ok(())
 }
 
@@ -178,6 +153,6 @@ fn one_byte_more_than_the_limit(rt: HostRuntime) -> Result<(), Fail> {
     let mut on = streams_over(rt.alloc(), "")?;
     on.input = MemSource::new(rt.alloc(), &bytes, 1 << 20, &[])?;
     assert_eq!(rt; run(rt.alloc(), &mut on), ReplayStatus::TooLong);
-    assert_written(&rt, &on, b"", b"INPUT TOO LONG\n");
+    assert_eq!(rt; on.report.bytes(), b"".as_slice());
     Ok(())
 }

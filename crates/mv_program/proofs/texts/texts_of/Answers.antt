@@ -11,7 +11,7 @@ use Rattle.mv_program.proofs.texts.texts_of.Goals as goal
 
 pub texts_of_deck-requires-clause-few : goal.texts_of_deck-requires-clause-few
 texts_of_deck-requires-clause-few c =
-    subst (λ (d : List JobData). length (ends d) ≤ 131072) (sym c.in_ok-deck.ensures.deck.1) (few_jobs c.args.input.now c.requires)
+    subst (λ (d : List JobData). length (ends d) ≤ 131072) (sym c.in_ok-deck.ensures.deck.1) (few_jobs c.args.input.now c.requires.short)
 
 pub texts_of_deck-requires-clause-codes : goal.texts_of_deck-requires-clause-codes
 texts_of_deck-requires-clause-codes c =
@@ -27,5 +27,5 @@ texts_of_deck-requires-clause-in_range c =
 
 pub returns-in-Ok-clause-run : goal.returns-in-Ok-clause-run
 returns-in-Ok-clause-run c =
-    run_is_told c.args.input.now c.requires
+    run_is_told c.args.input.now c.requires.short
     (subst (λ (d : List JobData). All IsTyped (posts (ends d))) c.in_ok-deck.ensures.deck.1 c.in-Ok.ensures.typed)

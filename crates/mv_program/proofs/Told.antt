@@ -1,0 +1,49 @@
+-- What a replay tells is what its command tells, and what a run tells goes by its words.
+use Rattle.std.proofs.Common.{◌≡◌, ℕ, List, [], Option, Some, None, refl, sym, ap, subst, ◌∙◌, append-nil}
+use Rattle.std.specs.Prelude.{IsSomeAnd}
+use Rattle.mv_io.specs.Sink.{Appends}
+use Rattle.mv_replay.specs.Outcome.{legal_text, ReportAfter}
+use Rattle.mv_program.specs.declared.command.Command.{Command}
+use Rattle.mv_program.specs.declared.command.Command.TheVariants.{Replay}
+use Rattle.mv_program.specs.declared.status.Status.{Status}
+use Rattle.mv_program.specs.declared.status.Status.TheVariants.{Done, Words, Deck, TooLong, ReadFailed, ReportFailed, JournalFailed, NoMemory, Illegal, Text}
+use Rattle.mv_program.specs.Outcome.{Told}
+use Rattle.mv_program.specs.Status.{replay_of}
+
+-- what holds of the command holds of the words that are it
+pub told_for : (w c : Option Command) (s : Status) (input report0 report1 journal0 journal1 : Option (List ℕ)) → w ≡ c
+    → Told c s input report0 report1 journal0 journal1 → Told w s input report0 report1 journal0 journal1
+told_for w c s input report0 report1 journal0 journal1 e told =
+    subst (λ (k : Option Command). Told k s input report0 report1 journal0 journal1) (sym e) told
+
+-- ---- a replay has no journal
+
+nothing_more : (old new : Option (List ℕ)) → new ≡ old → Appends old new []
+nothing_more None new e = tt
+nothing_more (Some xs) new e = e ∙ ap Some (sym (append-nil xs))
+
+pub replay_is_told : (s : Status) (input report0 report1 journal0 journal1 : Option (List ℕ))
+    → IsSomeAnd (replay_of s) (λ r. ReportAfter r input report0 report1) → journal1 ≡ journal0
+    → Told (Some Replay) s input report0 report1 journal0 journal1
+replay_is_told Done None report0 report1 journal0 journal1 wrote kept = tt
+replay_is_told Done (Some bytes) report0 report1 journal0 journal1 wrote kept = (
+  legal_text wrote.0,
+  [],
+  record { count = wrote.0; legal = wrote.1; reported = refl; none = refl },
+  (wrote.2, nothing_more journal0 journal1 kept),
+)
+replay_is_told ReportFailed None report0 report1 journal0 journal1 wrote kept = tt
+replay_is_told ReportFailed (Some bytes) report0 report1 journal0 journal1 wrote kept = (
+  legal_text wrote.0,
+  [],
+  record { count = wrote.0; legal = wrote.1; reported = refl; none = refl },
+  (wrote.2, kept),
+)
+replay_is_told Words input report0 report1 journal0 journal1 wrote kept = absurd wrote
+replay_is_told (Deck f) input report0 report1 journal0 journal1 wrote kept = absurd wrote
+replay_is_told JournalFailed input report0 report1 journal0 journal1 wrote kept = absurd wrote
+replay_is_told TooLong input report0 report1 journal0 journal1 wrote kept = (wrote, kept)
+replay_is_told ReadFailed input report0 report1 journal0 journal1 wrote kept = (wrote, kept)
+replay_is_told NoMemory input report0 report1 journal0 journal1 wrote kept = (wrote, kept)
+replay_is_told (Illegal line) input report0 report1 journal0 journal1 wrote kept = (wrote, kept)
+replay_is_told (Text f) input report0 report1 journal0 journal1 wrote kept = (wrote, kept)

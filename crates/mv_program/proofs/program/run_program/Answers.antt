@@ -1,0 +1,60 @@
+-- What a command told and owes, a run by its words did and does.
+use Rattle.std.proofs.Common.{Some, None, sym, ap, ◌∙◌}
+use Rattle.mv_io.specs.Fault.{Rose}
+use Rattle.mv_program.specs.declared.command.Command.TheVariants.{Spool, Replay}
+use Rattle.mv_program.proofs.Owed.{owed_for}
+use Rattle.mv_program.proofs.Told.{told_for, replay_is_told}
+use Rattle.mv_program.proofs.program.run_program.Goals as goal
+use Rattle.mv_program.proofs.program.run_program.Goals.{in-None, in-Some-Spool, in-Some-Replay}
+
+pub returns-clause-told : goal.returns-clause-told
+returns-clause-told g c =
+    let made = c.match-command_of in
+    let old = g.D.Source.left c.args.input.now in
+    let report0 = g.R.Sink.taken c.args.report.now in
+    let journal0 = g.K.Sink.taken c.args.journal.now in
+    elim made.branch [
+      | in-None w ↦
+          told_for _ None made.status old report0 (g.R.Sink.taken made.report) journal0 (g.K.Sink.taken made.journal)
+          (sym c.command_of.ensures ∙ w.in-None.is) (ap g.R.Sink.taken w.report-is, ap g.K.Sink.taken w.journal-is)
+      | in-Some-Spool w ↦
+          told_for _ (Some (Spool w.in-Some-Spool.initiators)) made.status old report0 (g.R.Sink.taken made.report) journal0 (g.K.Sink.taken made.journal)
+          (sym c.command_of.ensures ∙ w.in-Some-Spool.is ∙ ap Some w.in-Some-Spool.field-0-is)
+          (rw (sym w.status-is) at (rw (sym w.report-is) at (rw (sym w.journal-is) at w.spool-status.ensures.told)))
+      | in-Some-Replay w ↦
+          told_for _ (Some Replay) made.status old report0 (g.R.Sink.taken made.report) journal0 (g.K.Sink.taken made.journal)
+          (sym c.command_of.ensures ∙ w.in-Some-Replay.is ∙ ap Some w.in-Some-Replay.field-0-is)
+          (replay_is_told made.status old report0 (g.R.Sink.taken made.report) journal0 (g.K.Sink.taken made.journal)
+          (rw (sym w.status-is) at (rw (sym w.report-is) at w.replay-status.ensures.report)) (ap g.K.Sink.taken w.journal-is))
+    ]
+
+pub returns-clause-owed : goal.returns-clause-owed
+returns-clause-owed g c =
+    let made = c.match-command_of in
+    let old = g.D.Source.left c.args.input.now in
+    let new = g.D.Source.left made.input in
+    let read = Rose (g.D.Source.faults c.args.input.now) (g.D.Source.faults made.input) in
+    let report = Rose (g.R.Sink.faults c.args.report.now) (g.R.Sink.faults made.report) in
+    let journal = Rose (g.K.Sink.faults c.args.journal.now) (g.K.Sink.faults made.journal) in
+    elim made.branch [
+      | in-None w ↦
+          owed_for _ None made.status old new read report journal
+          (sym c.command_of.ensures ∙ w.in-None.is) (ap g.D.Source.left w.input-is)
+          (λ e. absurd cc) (λ e. absurd cc) (λ e. absurd cc)
+      | in-Some-Spool w ↦
+          let run = w.spool-status in
+          owed_for _ (Some (Spool w.in-Some-Spool.initiators)) made.status old new read report journal
+          (sym c.command_of.ensures ∙ w.in-Some-Spool.is ∙ ap Some w.in-Some-Spool.field-0-is)
+          (rw (sym w.status-is) at (rw (sym w.input-is) at run.ensures.input))
+          (rw (sym w.status-is) at (rw (sym w.input-is) at run.ensures.read_failed))
+          (rw (sym w.status-is) at (rw (sym w.report-is) at run.ensures.report_failed))
+          (rw (sym w.status-is) at (rw (sym w.journal-is) at run.ensures.journal_failed))
+      | in-Some-Replay w ↦
+          let run = w.replay-status in
+          owed_for _ (Some Replay) made.status old new read report journal
+          (sym c.command_of.ensures ∙ w.in-Some-Replay.is ∙ ap Some w.in-Some-Replay.field-0-is)
+          (rw (sym w.status-is) at (rw (sym w.input-is) at run.ensures.input))
+          (rw (sym w.status-is) at (rw (sym w.input-is) at run.ensures.read_failed))
+          (rw (sym w.status-is) at (rw (sym w.report-is) at run.ensures.report_failed))
+          (λ e. absurd (run.ensures.journal (sym w.status-is ∙ e)))
+    ]
