@@ -1,17 +1,26 @@
 -- The reader behind one more statement.
-use Rattle.std.proofs.Common.{◌≡◌, ℕ, Bool, true, false, ◌||◌, List, [], ◌∷◌, ◌++◌, map, Option, Some, None, refl, sym, ap, ◌∙◌, arith, rules}
-use Rattle.std.specs.Prelude.{IsSome, is_some}
+use Rattle.std.proofs.Common.{◌≡◌, ℕ, ◌+◌, ◌*◌, ◌≤◌, ◌<◌, Bool, true, false, not, ◌&&◌, ◌||◌, List, [], ◌∷◌, ◌++◌, length, map, Option, Some, None, refl, sym, ap, subst, ◌∙◌, arith, rules, length-append, bytes_eq, if◌then◌else◌}
+use Rattle.std.specs.Prelude.{IsSome, is_some, is_none, unwrap_or, nat_lt}
 use Rattle.std.specs.List.{list_any}
+use Rattle.std.proofs.lemmas.List.{length-map}
+use Rattle.std.proofs.lemmas.List.Folds.{list_any-append}
+use Rattle.std.proofs.lemmas.List.Sums.{fold_push}
+use Rattle.mv_deck.specs.declared.deck.After.{After}
 use Rattle.mv_deck.specs.declared.deck.Step.{Step}
+use Rattle.mv_deck.specs.declared.form.Part.{Part}
+use Rattle.mv_deck.specs.declared.names.Names.{Names}
+use Rattle.mv_deck.specs.declared.form.Version.{Version}
 use Rattle.mv_deck.specs.declared.reading.Reading.{Reading}
-use Rattle.mv_deck.specs.Statement.{Statement, Null, JobOf, PrintOf, AbendOf}
-use Rattle.mv_deck.specs.Deck.{JobData, job_data}
-use Rattle.mv_deck.specs.Fault.{is_null, is_job, ends_abended, is_misplaced, follows_abend, has_bad_name, has_bad_code, kinds_of_statement}
-use Rattle.mv_deck.specs.Reading.{fresh_job, jobs_read, IsBehind}
-use Rattle.mv_deck.proofs.Statements.{any-push, abended_by_job, abended_by_null, jobs_by_job, jobs_by_null, IsStep, last_job_grows}
-
-pub no_kinds : (earlier : List Statement) (s : Statement) → has_bad_name s ≡ false → has_bad_code s ≡ false → is_misplaced earlier s ≡ false → follows_abend earlier s ≡ false → kinds_of_statement earlier (Some s) ≡ []
-no_kinds earlier s a b m f = rw (a, b, f, m) refl
+use Rattle.mv_deck.specs.Statement.{Statement, Null, DeckOf, JobOf, AfterPart}
+use Rattle.mv_deck.specs.Deck.{JobData, job_data, jobs_of, jobs_behind, place_of, after_of, most_of, fresh_job, step_of, with_step, last_steps}
+use Rattle.mv_deck.specs.Fault.{is_null, is_job}
+use Rattle.mv_deck.specs.Held.{held, latches, is_end}
+use Rattle.mv_deck.specs.Form.{part_data}
+use Rattle.mv_deck.specs.Names.{place_in, after_in}
+use Rattle.mv_deck.specs.Reading.{jobs_read, open_job, Keeps, IsBehind, IsGoodJob}
+use Rattle.mv_deck.specs.Weight.{weight, heaviest, step_events}
+use Rattle.mv_deck.proofs.Jobs.{stepped, last_steps-push, with_step-push, place-push, place-step, ended-push, weight-push, weight-step}
+use Rattle.mv_deck.proofs.Steps.{is_step, is_outside}
 
 or_false : (b : Bool) → (b || false) ≡ b
 or_false true = refl
@@ -21,53 +30,211 @@ or_true : (b : Bool) → (b || true) ≡ true
 or_true true = refl
 or_true false = refl
 
-pub behind_null : (sts : List Statement) (r : Reading) → IsBehind sts r → IsBehind (sts ++ Null ∷ []) (record r { ended = true })
-behind_null sts r b = record {
-  jobs = b.jobs ∙ sym (jobs_by_null sts);
-  begun = b.begun ∙ sym (any-push is_job sts Null ∙ or_false (list_any is_job sts));
-  abended = b.abended ∙ sym (abended_by_null sts);
-  ended = sym (any-push is_null sts Null ∙ or_true (list_any is_null sts));
+-- the tests behind one more statement
+any-push : (p : Statement → Bool) (sts : List Statement) (s : Statement) → list_any p (sts ++ s ∷ []) ≡ (list_any p sts || (p s || false))
+any-push p sts s = list_any-append p sts (s ∷ [])
+
+pub same_any : (p : Statement → Bool) (sts : List Statement) (s : Statement) → p s ≡ false → list_any p (sts ++ s ∷ []) ≡ list_any p sts
+same_any p sts s e = any-push p sts s ∙ rw e (or_false (list_any p sts))
+
+some_any : (p : Statement → Bool) (sts : List Statement) (s : Statement) → p s ≡ true → list_any p (sts ++ s ∷ []) ≡ true
+some_any p sts s e = any-push p sts s ∙ rw e (or_true (list_any p sts))
+
+some_stated : (sts : List Statement) (s : Statement) → nat_lt 0 (length (sts ++ s ∷ [])) ≡ true
+some_stated [] s = refl
+some_stated (t ∷ sts) s = grind arith
+
+stated_before : (p : Statement → Bool) (sts : List Statement) → list_any p sts ≡ true → nat_lt 0 (length sts) ≡ true
+stated_before p [] e = absurd cc
+stated_before p (t ∷ sts) e = grind arith
+
+pub jobs-push : (sts : List Statement) (s : Statement) → jobs_of (sts ++ s ∷ []) ≡ jobs_behind (jobs_of sts) s
+jobs-push sts s = fold_push jobs_behind [] sts s
+
+-- ---- the null statement and DECK
+
+pub behind_null : (n : ℕ) (v : Version) (sts : List Statement) (r : Reading) → IsBehind n v sts r → IsBehind n v (sts ++ Null ∷ []) (record r { stated = true; ended = true })
+behind_null n v sts r b = record {
+  initiators_are = b.initiators_are;
+  version = b.version;
+  jobs = b.jobs ∙ sym (jobs-push sts Null);
+  kept = subst (λ (x : List JobData). Keeps n x (record r { stated = true; ended = true })) (sym (jobs-push sts Null)) (record { named = b.kept.named; latched = b.kept.latched; closed = b.kept.closed; room = b.kept.room });
+  begun = b.begun ∙ sym (same_any is_job sts Null refl);
+  stated = sym (some_stated sts Null);
+  ended = sym (some_any is_null sts Null refl);
 }
+
+pub behind_deck : (n : ℕ) (v : Version) (sts : List Statement) (r : Reading) (word : List ℕ) → IsBehind n v sts r → IsBehind n v (sts ++ DeckOf word ∷ []) (record r { stated = true })
+behind_deck n v sts r word b = record {
+  initiators_are = b.initiators_are;
+  version = b.version;
+  jobs = b.jobs ∙ sym (jobs-push sts (DeckOf word));
+  kept = subst (λ (x : List JobData). Keeps n x (record r { stated = true })) (sym (jobs-push sts (DeckOf word))) (record { named = b.kept.named; latched = b.kept.latched; closed = b.kept.closed; room = b.kept.room });
+  begun = b.begun ∙ sym (same_any is_job sts (DeckOf word) refl);
+  stated = sym (some_stated sts (DeckOf word));
+  ended = b.ended ∙ sym (same_any is_null sts (DeckOf word) refl);
+}
+
+-- ---- a JOB
 
 is_begun : (o : Option (List ℕ)) → IsSome o → is_some o ≡ true
 is_begun None h = search rules
 is_begun (Some name) h = refl
 
-pub behind_job : (sts : List Statement) (r next : Reading) (name : List ℕ) → IsBehind sts r → jobs_read next ≡ jobs_read r ++ fresh_job name [] ∷ [] → IsSome next.name → next.abended ≡ false → next.ended ≡ r.ended → IsBehind (sts ++ JobOf name ∷ []) next
-behind_job sts r next name b jobs begun abended ended = record {
-  jobs = jobs ∙ ap (λ (x : List JobData). x ++ fresh_job name [] ∷ []) b.jobs ∙ sym (jobs_by_job sts name);
-  begun = is_begun next.name begun ∙ sym (any-push is_job sts (JobOf name) ∙ or_true (list_any is_job sts));
-  abended = abended ∙ sym (abended_by_job sts name);
-  ended = ended ∙ b.ended ∙ sym (any-push is_null sts (JobOf name) ∙ or_false (list_any is_null sts));
+-- what a reader keeps that has just begun a job
+pub record IsBegun (n : ℕ) (jobs : List JobData) (name : List ℕ) (after : List AfterPart) (r next : Reading) : Type 0 where
+  pub jobs_are : jobs_read next ≡ jobs ++ fresh_job jobs name after ∷ []
+  pub names : (q : List ℕ) → place_in next.names q ≡ (if bytes_eq name q then Some (length jobs) else place_in r.names q)
+  pub begun : IsSome next.name
+  pub held_none : next.held.modes ≡ map (held []) latches
+  pub closed : next.closed ≡ false
+  pub stated : next.stated ≡ true
+  pub ended : next.ended ≡ r.ended
+  pub room : next.room + (8 + 9 * n + 2 * length after) ≡ r.room
+  pub initiators_are : next.initiators ≡ r.initiators
+  pub version : next.version ≡ r.version
+
+-- a job makes the deck heavier by its own weight
+pub job_weight : (n : ℕ) (jobs : List JobData) (name : List ℕ) (after : List AfterPart) → weight (jobs ++ fresh_job jobs name after ∷ []) n ≡ weight jobs n + (8 + 9 * n + 2 * length after)
+job_weight n jobs name after =
+    let count : length (map (after_of jobs) after) ≡ length after = length-map after (after_of jobs) in
+    let added : weight jobs n + (8 + 9 * n + 2 * length (map (after_of jobs) after) + n * 0) ≡ weight jobs n + (8 + 9 * n + 2 * length after) = ap (λ (x : ℕ). weight jobs n + x) (omega (arith, count)) in
+    weight-push jobs (fresh_job jobs name after) n ∙ added
+
+-- what is added to the weight is taken from the room
+room_left : (left added room weight heavier all : ℕ) → left + added ≡ room → heavier ≡ weight + added → room + weight ≡ all → left + heavier ≡ all
+room_left left added room weight heavier all a b c = omega arith
+
+kept_by_job : (n : ℕ) (jobs : List JobData) (name : List ℕ) (after : List AfterPart) (r next : Reading) → Keeps n jobs r → place_of jobs name ≡ None → IsBegun n jobs name after r next → Keeps n (jobs ++ fresh_job jobs name after ∷ []) next
+kept_by_job n jobs name after r next k new g =
+    let j : JobData = fresh_job jobs name after in
+    let steps = last_steps-push jobs j in
+    let heavier = job_weight n jobs name after in
+    record {
+      named = λ q. g.names q ∙ ap (λ (x : Option ℕ). if bytes_eq name q then Some (length jobs) else x) (k.named q) ∙ sym (place-push jobs j new q);
+      latched = g.held_none ∙ ap (λ (x : List Step). map (held x) latches) (sym steps);
+      closed = g.closed ∙ ap (list_any is_end) (sym steps);
+      room = room_left next.room (8 + 9 * n + 2 * length after) r.room (weight jobs n) (weight (jobs ++ j ∷ []) n) heaviest g.room heavier k.room;
+    }
+
+pub behind_job : (n : ℕ) (v : Version) (sts : List Statement) (r next : Reading) (name : List ℕ) (after : List AfterPart) → IsBehind n v sts r → place_of (jobs_of sts) name ≡ None → IsBegun n (jobs_of sts) name after r next → IsBehind n v (sts ++ JobOf name after ∷ []) next
+behind_job n v sts r next name after b new g = record {
+  initiators_are = g.initiators_are ∙ b.initiators_are;
+  version = g.version ∙ b.version;
+  jobs = g.jobs_are ∙ sym (jobs-push sts (JobOf name after));
+  kept = subst (λ (x : List JobData). Keeps n x next) (sym (jobs-push sts (JobOf name after))) (kept_by_job n (jobs_of sts) name after r next b.kept new g);
+  begun = is_begun next.name g.begun ∙ sym (some_any is_job sts (JobOf name after) refl);
+  stated = g.stated ∙ sym (some_stated sts (JobOf name after));
+  ended = g.ended ∙ b.ended ∙ sym (same_any is_null sts (JobOf name after) refl);
 }
 
--- a step stands behind a JOB, and before the null statement
-placed : (sts : List Statement) (s : Statement) → is_misplaced sts s ≡ false → is_job s ≡ false → is_null s ≡ false → (list_any is_job sts ≡ true) × (list_any is_null sts ≡ false)
-placed sts s m j n = grind arith
+-- ---- a step
 
-step_is : (s : Statement) (step : Step) → IsStep s step → (is_job s ≡ false) × (is_null s ≡ false)
-step_is Null step is = absurd is
-step_is (JobOf name) step is = absurd is
-step_is (PrintOf text) step is = (refl, refl)
-step_is (AbendOf code) step is = (refl, refl)
+-- what a reader keeps that has just taken a step
+pub record IsStepped (n : ℕ) (step : Step) (r next : Reading) : Type 0 where
+  pub steps : next.steps.items ≡ r.steps.items ++ step ∷ []
+  pub name : next.name ≡ r.name
+  pub after : next.after ≡ r.after
+  pub finished : next.finished ≡ r.finished
+  pub names : next.names ≡ r.names
+  pub latched : (done : List Step) → r.held.modes ≡ map (held done) latches → next.held.modes ≡ map (held (done ++ step ∷ [])) latches
+  pub closed : next.closed ≡ is_end step
+  pub stated : next.stated ≡ r.stated
+  pub ended : next.ended ≡ r.ended
+  pub room : next.room + n * step_events step ≡ r.room
+  pub initiators_are : next.initiators ≡ r.initiators
+  pub version : next.version ≡ r.version
+
+kept_by_step : (n : ℕ) (jobs : List JobData) (j : JobData) (step : Step) (r next : Reading) → Keeps n (jobs ++ j ∷ []) r → r.closed ≡ false → IsStepped n step r next → Keeps n (jobs ++ stepped j step ∷ []) next
+kept_by_step n jobs j step r next k going g =
+    let old = last_steps-push jobs j in
+    let new = last_steps-push jobs (stepped j step) in
+    let heavier = weight-step jobs j step n in
+    record {
+      named = λ q. ap (λ x. place_in x q) g.names ∙ k.named q ∙ sym (place-step jobs j step q);
+      latched = g.latched j.steps (k.latched ∙ ap (λ (x : List Step). map (held x) latches) old) ∙ ap (λ (x : List Step). map (held x) latches) (sym new);
+      closed = g.closed ∙ sym (ended-push j.steps step (ap (list_any is_end) (sym old) ∙ sym k.closed ∙ going)) ∙ ap (list_any is_end) (sym new);
+      room = room_left next.room (n * step_events step) r.room (weight (jobs ++ j ∷ []) n) (weight (jobs ++ stepped j step ∷ []) n) heaviest g.room heavier k.room;
+    }
+
+-- the last job of a reader that has begun one
+abbrev open_of : List ℕ → Reading → JobData
+open_of name r = record { name = name; after = r.after.items; steps = r.steps.items }
+
+jobs_of_named : (r : Reading) (name : List ℕ) → r.name ≡ Some name → jobs_read r ≡ map job_data r.finished.items ++ open_of name r ∷ []
+jobs_of_named r name e = rw e refl
 
 named : (o : Option (List ℕ)) → is_some o ≡ true → (name : List ℕ) × (o ≡ Some name)
 named None e = absurd cc
 named (Some name) e = (name, refl)
 
-jobs_read-named : (r : Reading) (name : List ℕ) → r.name ≡ Some name → jobs_read r ≡ map job_data r.finished.items ++ fresh_job name r.steps.items ∷ []
-jobs_read-named r name e = rw e refl
-
-pub behind_step : (sts : List Statement) (s : Statement) (step : Step) (r next : Reading) → IsBehind sts r → IsStep s step → is_misplaced sts s ≡ false → next.steps.items ≡ r.steps.items ++ step ∷ [] → next.name ≡ r.name → next.finished ≡ r.finished → next.ended ≡ r.ended → next.abended ≡ ends_abended (sts ++ s ∷ []) → IsBehind (sts ++ s ∷ []) next
-behind_step sts s step r next b is m steps name finished ended abended =
-    let kind = step_is s step is in
-    let p = placed sts s m kind.0 kind.1 in
-    let n = named r.name (b.begun ∙ p.0) in
+pub behind_step : (n : ℕ) (v : Version) (sts : List Statement) (s : Statement) (step : Step) (r next : Reading) → IsBehind n v sts r → step_of s ≡ Some step → is_some r.name ≡ true → r.closed ≡ false → IsStepped n step r next → IsBehind n v (sts ++ s ∷ []) next
+behind_step n v sts s step r next b is begun going g =
+    let is_a = is_step s step is in
+    let name = named r.name begun in
+    let js : List JobData = map job_data r.finished.items in
+    let j : JobData = open_of name.0 r in
+    let before : jobs_of sts ≡ js ++ j ∷ [] = sym b.jobs ∙ jobs_of_named r name.0 name.1 in
+    let behind : jobs_of (sts ++ s ∷ []) ≡ js ++ stepped j step ∷ [] =
+    jobs-push sts s ∙ is_a.behind (jobs_of sts) ∙ ap (λ (x : List JobData). with_step x step) before ∙ with_step-push js j step in
+    let read : jobs_read next ≡ js ++ stepped j step ∷ [] = jobs_of_named next name.0 (g.name ∙ name.1) ∙ rw (g.finished, g.after, g.steps) refl in
     record {
-      jobs =
-          jobs_read-named next n.0 (name ∙ n.1)
-          ∙ rw (finished, steps) (last_job_grows sts s step (map job_data r.finished.items) n.0 r.steps.items is p.0 p.1 (sym (jobs_read-named r n.0 n.1) ∙ b.jobs));
-      begun = ap is_some name ∙ b.begun ∙ sym (any-push is_job sts s ∙ ap (λ (x : Bool). list_any is_job sts || x) kind.0 ∙ or_false (list_any is_job sts));
-      abended = abended;
-      ended = ended ∙ b.ended ∙ sym (any-push is_null sts s ∙ ap (λ (x : Bool). list_any is_null sts || x) kind.1 ∙ or_false (list_any is_null sts));
+      initiators_are = g.initiators_are ∙ b.initiators_are;
+      version = g.version ∙ b.version;
+      jobs = read ∙ sym behind;
+      kept = subst (λ (x : List JobData). Keeps n x next) (sym behind) (kept_by_step n js j step r next (subst (λ (x : List JobData). Keeps n x r) before b.kept) going g);
+      begun = ap is_some g.name ∙ b.begun ∙ sym (same_any is_job sts s is_a.no_job);
+      stated = g.stated ∙ b.stated ∙ stated_before is_job sts (sym b.begun ∙ begun) ∙ sym (some_stated sts s);
+      ended = g.ended ∙ b.ended ∙ sym (same_any is_null sts s is_a.no_null);
     }
+
+-- ---- what is asked of a step
+
+pub some_name : (o : Option (List ℕ)) → is_none o ≡ false → is_some o ≡ true
+some_name None e = absurd cc
+some_name (Some name) e = refl
+
+pub inside : (sts : List Statement) → list_any is_null sts ≡ false → list_any is_job sts ≡ true → is_outside sts ≡ false
+inside sts e f = rw (e, f) refl
+
+-- a step makes the deck heavier by its events for each initiator
+pub step_weight : (n : ℕ) (v : Version) (sts : List Statement) (r : Reading) (step : Step) → IsBehind n v sts r → is_some r.name ≡ true → weight (with_step (jobs_of sts) step) n ≡ weight (jobs_of sts) n + n * step_events step
+step_weight n v sts r step b begun =
+    let name = named r.name begun in
+    let js : List JobData = map job_data r.finished.items in
+    let j : JobData = open_of name.0 r in
+    let before : jobs_of sts ≡ js ++ j ∷ [] = sym b.jobs ∙ jobs_of_named r name.0 name.1 in
+    ap (λ (x : List JobData). weight (with_step x step) n) before
+    ∙ ap (λ (x : List JobData). weight x n) (with_step-push js j step)
+    ∙ weight-step js j step n
+    ∙ ap (λ (x : List JobData). weight x n + n * step_events step) (sym before)
+
+-- ---- what is asked of a job
+
+-- the jobs that parts name, by the names that were given places
+abbrev after_at : Option ℕ → Part → After
+after_at place p = record { job = unwrap_or place 0; most = most_of (part_data p).most }
+
+pub after_same : (names : Names) (jobs : List JobData) → ((q : List ℕ) → place_in names q ≡ place_of jobs q) → (parts : List Part) → map (λ (p : Part). after_in names (part_data p)) parts ≡ map (after_of jobs) (map part_data parts)
+after_same names jobs same [] = refl
+after_same names jobs same (p ∷ parts) =
+    let first : after_in names (part_data p) ≡ after_of jobs (part_data p) = ap (λ (o : Option ℕ). after_at o p) (same p.name.now) in
+    ap (λ x. x ∷ map (λ (q : Part). after_in names (part_data q)) parts) first
+    ∙ ap (λ x. after_of jobs (part_data p) ∷ x) (after_same names jobs same parts)
+
+-- the name of a good job is new
+pub new_name : (sts : List Statement) (name : List ℕ) (after : List AfterPart) → IsGoodJob sts (jobs_of sts) (JobOf name after) → place_of (jobs_of sts) name ≡ None
+new_name sts name after g = go (place_of (jobs_of sts) name) g.new where
+  go : (o : Option ℕ) → is_some o ≡ false → o ≡ None
+  go None e = refl
+  go (Some k) e = absurd cc
+
+-- more jobs than the heaviest deck weighs are too heavy
+pub heavy_jobs : (n : ℕ) (jobs : List JobData) (r : Reading) → jobs_read r ≡ jobs → heaviest < length r.finished.items → heaviest < weight jobs n
+heavy_jobs n jobs r e lt =
+    let count : length jobs ≡ length (map job_data r.finished.items) + length (open_job r.name r.after.items r.steps.items) = ap length (sym e) ∙ length-append (map job_data r.finished.items) _ in
+    let same : length (map job_data r.finished.items) ≡ length r.finished.items = length-map r.finished.items job_data in
+    omega (arith, count, same)
+
+pub beyond : (room w : ℕ) → room + w ≡ heaviest → ¬ (heaviest < w)
+beyond room w e lt = omega arith

@@ -1,7 +1,19 @@
+-- lines, fields and parts, and the forms of lines
 pub mod Lines
-pub mod Statements
+pub mod Forms
+-- held latches
+pub mod Latches
+-- one more statement behind those that were read
+pub mod Mapped
+pub mod Jobs
+pub mod Steps
+pub mod Told
+pub mod Checked
 pub mod Behind
+-- the pass, and the first fault
 pub mod Passes
-pub mod Earlier
 pub mod Lowest
+-- the law that decks are sound
+pub mod Sounds
+-- rows worked by hand
 pub mod Rows

@@ -1,9 +1,10 @@
 -- A line and a field end where LF and a space first stand.
-use Rattle.std.proofs.Common.{◌≡◌, ℕ, suc, ◌+◌, ◌<◌, Bool, true, false, cond, eqb, not, List, [], ◌∷◌, length, take, drop, None, refl, sym, ap, ◌∙◌, arith}
-use Rattle.std.specs.List.{position, position_or_len, prefix_len, onto_first}
+use Rattle.std.proofs.Common.{◌≡◌, ℕ, suc, ◌+◌, ◌<◌, Bool, true, false, cond, eqb, not, List, [], ◌∷◌, length, take, drop, Some, None, refl, sym, ap, ◌∙◌, arith}
+use Rattle.std.specs.List.{position, position_or_len, prefix_len, onto_first, slice_split}
+use Rattle.std.proofs.lemmas.List.Splits.{slice_split-cons_no, slice_split_first}
 use Rattle.std.proofs.lemmas.Grind.{common_steps}
 use Rattle.std.proofs.lemmas.List.Sums.{prefix_len-le-length}
-use Rattle.mv_deck.specs.Line.{lines_of, without_first_spaces, fields_of, is_space, ends_field, starts_fields}
+use Rattle.mv_deck.specs.Line.{lines_of, without_first_spaces, fields_of, is_space, ends_field, starts_fields, is_comma, parts_of}
 
 -- ---- the first place of a byte
 
@@ -89,3 +90,25 @@ field_at (b ∷ bs) e = go (is_space b) refl where
 
 pub first_field : (text : List ℕ) → let rest = without_first_spaces text in fields_of text ≡ starts_fields (take (field_end rest) rest) (fields_of (drop (field_end rest) rest))
 first_field text = fields_from_first text ∙ field_at (without_first_spaces text) (no_more_spaces text)
+
+-- ---- the parts of a list
+
+one_part : (list : List ℕ) → length list ≡ position_or_len is_comma list → parts_of list ≡ list ∷ []
+one_part [] h = refl
+one_part (b ∷ bs) h = go (is_comma b) refl (λ k. one_part bs k) where
+  go : (t : Bool) → is_comma b ≡ t → (length bs ≡ position_or_len is_comma bs → parts_of bs ≡ bs ∷ []) → parts_of (b ∷ bs) ≡ (b ∷ bs) ∷ []
+  go true e ih = absurd (grind (arith, common_steps))
+  go false e ih =
+      let k : length bs ≡ position_or_len is_comma bs = grind (arith, common_steps) in
+      slice_split-cons_no is_comma b bs e ∙ ap (onto_first b) (ih k)
+
+-- a list without a comma is its one part
+pub no_comma : (list : List ℕ) → position is_comma list ≡ None → parts_of list ≡ list ∷ []
+no_comma list e = one_part list (no_place is_comma list e)
+
+-- the first part ends at the first comma
+pub at_comma : (list : List ℕ) (place : ℕ) → position is_comma list ≡ Some place → parts_of list ≡ take place list ∷ parts_of (drop (place + 1) list)
+at_comma list place e =
+    let lt : position_or_len is_comma list < length list = grind (arith, common_steps) in
+    let same : position_or_len is_comma list ≡ place = grind (arith, common_steps) in
+    slice_split_first is_comma list 0 lt ∙ ap (λ (n : ℕ). take n list ∷ parts_of (drop (n + 1) list)) same

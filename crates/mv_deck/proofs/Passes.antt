@@ -2,42 +2,48 @@
 use Rattle.std.proofs.Common.{◌≡◌, ℕ, ◌+◌, ◌≤◌, ◌<◌, Bool, true, false, not, List, [], ◌∷◌, ◌++◌, length, map, Option, Some, None, refl, sym, ap, ◌∙◌, arith, append_assoc}
 use Rattle.std.proofs.lemmas.List.{append-nil, nil_from_length}
 use Rattle.std.specs.Prelude.{option_to_list}
-use Rattle.std.specs.List.{list_any}
+use Rattle.std.specs.List.{list_any, cons_option}
 use Rattle.mv_deck.specs.declared.fault.DeckFault.{DeckFault}
+use Rattle.mv_deck.specs.declared.fault.Kind.TheVariants.{NoNull}
+use Rattle.mv_deck.specs.declared.fault.LineRefusal.{LineRefusal}
+use Rattle.mv_deck.specs.declared.fault.LineRefusal.TheVariants.{Has, NoMemory}
+use Rattle.mv_deck.specs.declared.form.Version.{Version}
 use Rattle.mv_deck.specs.declared.reading.Reading.{Reading}
 use Rattle.mv_deck.specs.Line.{lines_of}
-use Rattle.mv_deck.specs.Statement.{Statement, statement_of, statements_of}
+use Rattle.mv_deck.specs.Statement.{Statement, statement_of, statements_of, version_of}
 use Rattle.mv_deck.specs.Deck.{jobs_of, deck_of}
-use Rattle.mv_deck.specs.Fault.{kinds_of, faults_from, fault_at, first_fault, first_of_list, TellsFirst, when}
-use Rattle.mv_deck.specs.declared.reading.LineRefusal.{LineRefusal}
-use Rattle.mv_deck.specs.declared.reading.LineRefusal.TheVariants.{Kind, NoMemory}
+use Rattle.mv_deck.specs.Fault.{kinds_of, faults_from, fault_at, first_fault, first_of_list, kind_number, TellsFirst, when}
 use Rattle.mv_deck.specs.Reading.{IsBehind, Tells, jobs_read, refusal_at}
 
+-- the version of a text
+abbrev pub version_in : List ℕ → Version
+version_in bytes = version_of (lines_of bytes)
+
 -- the reader stands before the rest of a text: what is left decides as the whole does
-pub record IsAt (bytes rest : List ℕ) (number : ℕ) (r : Reading) : Type 0 where
+pub record IsAt (n : ℕ) (bytes rest : List ℕ) (number : ℕ) (r : Reading) : Type 0 where
   pub earlier : List Statement
-  pub behind : IsBehind earlier r
-  pub first : first_of_list (faults_from number earlier (lines_of rest)) ≡ first_fault bytes
-  pub jobs : jobs_of (earlier ++ statements_of (lines_of rest)) ≡ deck_of bytes
+  pub behind : IsBehind n (version_in bytes) earlier r
+  pub first : first_of_list (faults_from n (version_in bytes) number earlier (lines_of rest)) ≡ first_fault bytes n
+  pub jobs : jobs_of (earlier ++ statements_of (version_in bytes) (lines_of rest)) ≡ deck_of bytes
   pub count : number + length rest ≤ length bytes + 1
 
-pub at_first : (bytes : List ℕ) (r : Reading) → IsBehind [] r → IsAt bytes bytes 1 r
-at_first bytes r b = record { earlier = []; behind = b; first = refl; jobs = refl; count = omega arith }
+pub at_first : (n : ℕ) (bytes : List ℕ) (r : Reading) → IsBehind n (version_in bytes) [] r → IsAt n bytes bytes 1 r
+at_first n bytes r b = record { earlier = []; behind = b; first = refl; jobs = refl; count = omega arith }
 
-pub earlier_more : (earlier : List Statement) (o : Option Statement) (later : List Statement) → earlier ++ Rattle.std.specs.List.cons_option o later ≡ (earlier ++ option_to_list o) ++ later
+pub earlier_more : (earlier : List Statement) (o : Option Statement) (later : List Statement) → earlier ++ cons_option o later ≡ (earlier ++ option_to_list o) ++ later
 earlier_more earlier None later = ap (λ (x : List Statement). x ++ later) (sym (append-nil earlier))
 earlier_more earlier (Some s) later = sym (append_assoc earlier (s ∷ []) later)
 
-pub one_line : (number : ℕ) (earlier : List Statement) (line : List ℕ) (lines : List (List ℕ)) → kinds_of earlier line ≡ [] → faults_from number earlier (line ∷ lines) ≡ faults_from (number + 1) (earlier ++ option_to_list (statement_of line)) lines
+pub one_line : (n : ℕ) (v : Version) (number : ℕ) (earlier : List Statement) (line : List ℕ) (lines : List (List ℕ)) → kinds_of n v earlier line ≡ [] → faults_from n v number earlier (line ∷ lines) ≡ faults_from n v (number + 1) (earlier ++ option_to_list (statement_of v line)) lines
 unfolding faults_from
-one_line number earlier line lines none = rw none refl
+one_line n v number earlier line lines none = rw none refl
 
-pub at_next : (bytes rest behind line : List ℕ) (number : ℕ) (r next : Reading) (at : IsAt bytes rest number r) → lines_of rest ≡ line ∷ lines_of behind → length behind < length rest → kinds_of at.earlier line ≡ [] → IsBehind (at.earlier ++ option_to_list (statement_of line)) next → IsAt bytes behind (number + 1) next
-at_next bytes rest behind line number r next at lines shorter none b = record {
-  earlier = at.earlier ++ option_to_list (statement_of line);
+pub at_next : (n : ℕ) (bytes rest behind line : List ℕ) (number : ℕ) (r next : Reading) (at : IsAt n bytes rest number r) → lines_of rest ≡ line ∷ lines_of behind → length behind < length rest → kinds_of n (version_in bytes) at.earlier line ≡ [] → IsBehind n (version_in bytes) (at.earlier ++ option_to_list (statement_of (version_in bytes) line)) next → IsAt n bytes behind (number + 1) next
+at_next n bytes rest behind line number r next at lines shorter none b = record {
+  earlier = at.earlier ++ option_to_list (statement_of (version_in bytes) line);
   behind = b;
-  first = ap first_of_list (sym (one_line number at.earlier line (lines_of behind) none)) ∙ ap (λ (x : List (List ℕ)). first_of_list (faults_from number at.earlier x)) (sym lines) ∙ at.first;
-  jobs = ap jobs_of (sym (earlier_more at.earlier (statement_of line) (statements_of (lines_of behind)))) ∙ ap (λ (x : List (List ℕ)). jobs_of (at.earlier ++ statements_of x)) (sym lines) ∙ at.jobs;
+  first = ap first_of_list (sym (one_line n (version_in bytes) number at.earlier line (lines_of behind) none)) ∙ ap (λ (x : List (List ℕ)). first_of_list (faults_from n (version_in bytes) number at.earlier x)) (sym lines) ∙ at.first;
+  jobs = ap jobs_of (sym (earlier_more at.earlier (statement_of (version_in bytes) line) (statements_of (version_in bytes) (lines_of behind)))) ∙ ap (λ (x : List (List ℕ)). jobs_of (at.earlier ++ statements_of (version_in bytes) x)) (sym lines) ∙ at.jobs;
   count = omega (arith, at.count);
 }
 
@@ -46,27 +52,27 @@ first_of_map number k [] more e = absurd cc
 first_of_map number k (j ∷ kinds) more e = cc
 
 -- the first kind of a line is the first fault
-pub first_at : (bytes rest behind line : List ℕ) (number k : ℕ) (r : Reading) (at : IsAt bytes rest number r) → lines_of rest ≡ line ∷ lines_of behind → first_of_list (kinds_of at.earlier line) ≡ Some k → first_fault bytes ≡ Some (fault_at number k)
+pub first_at : (n : ℕ) (bytes rest behind line : List ℕ) (number k : ℕ) (r : Reading) (at : IsAt n bytes rest number r) → lines_of rest ≡ line ∷ lines_of behind → first_of_list (kinds_of n (version_in bytes) at.earlier line) ≡ Some k → first_fault bytes n ≡ Some (fault_at number k)
 unfolding faults_from
-first_at bytes rest behind line number k r at lines e =
-    sym at.first ∙ ap (λ (x : List (List ℕ)). first_of_list (faults_from number at.earlier x)) lines ∙ first_of_map number k (kinds_of at.earlier line) (faults_from (number + 1) (at.earlier ++ option_to_list (statement_of line)) (lines_of behind)) e
+first_at n bytes rest behind line number k r at lines e =
+    sym at.first ∙ ap (λ (x : List (List ℕ)). first_of_list (faults_from n (version_in bytes) number at.earlier x)) lines ∙ first_of_map number k (kinds_of n (version_in bytes) at.earlier line) (faults_from n (version_in bytes) (number + 1) (at.earlier ++ option_to_list (statement_of (version_in bytes) line)) (lines_of behind)) e
 
-pub tells_at : (bytes rest behind line : List ℕ) (number : ℕ) (r : Reading) (at : IsAt bytes rest number r) → lines_of rest ≡ line ∷ lines_of behind → (e : LineRefusal) → Tells e (kinds_of at.earlier line) → TellsFirst (refusal_at number e) (first_fault bytes)
-tells_at bytes rest behind line number r at lines (Kind k) told = first_at bytes rest behind line number k r at lines told
-tells_at bytes rest behind line number r at lines NoMemory told = tt
+pub tells_at : (n : ℕ) (bytes rest behind line : List ℕ) (number : ℕ) (r : Reading) (at : IsAt n bytes rest number r) → lines_of rest ≡ line ∷ lines_of behind → (e : LineRefusal) → Tells e (kinds_of n (version_in bytes) at.earlier line) → TellsFirst (refusal_at number e) (first_fault bytes n)
+tells_at n bytes rest behind line number r at lines (Has kind) told = first_at n bytes rest behind line number (kind_number kind) r at lines told
+tells_at n bytes rest behind line number r at lines NoMemory told = tt
 
 -- behind the last line
-fault_at_end : (bytes rest : List ℕ) (number : ℕ) (r : Reading) (at : IsAt bytes rest number r) → rest ≡ [] → first_fault bytes ≡ first_of_list (map (fault_at number) (when (not r.ended) 12))
+fault_at_end : (n : ℕ) (bytes rest : List ℕ) (number : ℕ) (r : Reading) (at : IsAt n bytes rest number r) → rest ≡ [] → first_fault bytes n ≡ first_of_list (map (fault_at number) (when (not r.ended) NoNull))
 unfolding faults_from
-fault_at_end bytes rest number r at none =
-    sym at.first ∙ ap (λ (x : List ℕ). first_of_list (faults_from number at.earlier (lines_of x))) none ∙ ap (λ (b : Bool). first_of_list (map (fault_at number) (when (not b) 12))) (sym at.behind.ended)
+fault_at_end n bytes rest number r at none =
+    sym at.first ∙ ap (λ (x : List ℕ). first_of_list (faults_from n (version_in bytes) number at.earlier (lines_of x))) none ∙ ap (λ (b : Bool). first_of_list (map (fault_at number) (when (not b) NoNull))) (sym at.behind.ended)
 
-pub no_null_at_end : (bytes rest : List ℕ) (number : ℕ) (r : Reading) (at : IsAt bytes rest number r) → length rest ≡ 0 → r.ended ≡ false → first_fault bytes ≡ Some (fault_at number 12)
-no_null_at_end bytes rest number r at none e = fault_at_end bytes rest number r at (nil_from_length rest none) ∙ rw e refl
+pub no_null_at_end : (n : ℕ) (bytes rest : List ℕ) (number : ℕ) (r : Reading) (at : IsAt n bytes rest number r) → length rest ≡ 0 → r.ended ≡ false → first_fault bytes n ≡ Some (fault_at number 12)
+no_null_at_end n bytes rest number r at none e = fault_at_end n bytes rest number r at (nil_from_length rest none) ∙ rw e refl
 
-pub no_fault_at_end : (bytes rest : List ℕ) (number : ℕ) (r : Reading) (at : IsAt bytes rest number r) → length rest ≡ 0 → r.ended ≡ true → first_fault bytes ≡ None
-no_fault_at_end bytes rest number r at none e = fault_at_end bytes rest number r at (nil_from_length rest none) ∙ rw e refl
+pub no_fault_at_end : (n : ℕ) (bytes rest : List ℕ) (number : ℕ) (r : Reading) (at : IsAt n bytes rest number r) → length rest ≡ 0 → r.ended ≡ true → first_fault bytes n ≡ None
+no_fault_at_end n bytes rest number r at none e = fault_at_end n bytes rest number r at (nil_from_length rest none) ∙ rw e refl
 
-pub deck_at_end : (bytes rest : List ℕ) (number : ℕ) (r : Reading) (at : IsAt bytes rest number r) → length rest ≡ 0 → jobs_read r ≡ deck_of bytes
-deck_at_end bytes rest number r at none =
-    at.behind.jobs ∙ ap jobs_of (sym (append-nil at.earlier)) ∙ ap (λ (x : List ℕ). jobs_of (at.earlier ++ statements_of (lines_of x))) (sym (nil_from_length rest none)) ∙ at.jobs
+pub deck_at_end : (n : ℕ) (bytes rest : List ℕ) (number : ℕ) (r : Reading) (at : IsAt n bytes rest number r) → length rest ≡ 0 → jobs_read r ≡ deck_of bytes
+deck_at_end n bytes rest number r at none =
+    at.behind.jobs ∙ ap jobs_of (sym (append-nil at.earlier)) ∙ ap (λ (x : List ℕ). jobs_of (at.earlier ++ statements_of (version_in bytes) (lines_of x))) (sym (nil_from_length rest none)) ∙ at.jobs

@@ -1,11 +1,15 @@
 -- Rows worked by hand: what the definitions come to.
-use Rattle.std.proofs.Common.{◌≡◌, ℕ, List, [], ◌∷◌, ◌++◌, Some, None, refl}
+use Rattle.std.proofs.Common.{◌≡◌, ℕ, true, false, List, [], ◌∷◌, ◌++◌, Some, None, refl}
 use Rattle.std.specs.Prelude.{codes}
-use Rattle.mv_deck.specs.declared.deck.Step.TheVariants.{Print, Abend}
+use Rattle.mv_latch.specs.declared.request.Mode.TheVariants.{Shared, Exclusive}
+use Rattle.mv_deck.specs.declared.deck.Step.TheVariants.{Print, Use, Free, Count, Scan, Abend, Return}
+use Rattle.mv_deck.specs.declared.form.Version.TheVariants.{One, Two}
 use Rattle.mv_deck.specs.Line.{lines_of, without_cr, fields_of}
-use Rattle.mv_deck.specs.Statement.{Null, JobOf, PrintOf, AbendOf, form_of, statement_of, end_code_of}
+use Rattle.mv_deck.specs.Operand.{latch_of, amount_of, code_of, end_code_of}
+use Rattle.mv_deck.specs.Statement.{Null, DeckOf, JobOf, PrintOf, UseOf, CountOf, AbendOf, ReturnOf, form_of, statement_of, version_of}
 use Rattle.mv_deck.specs.Deck.{JobData, deck_of}
 use Rattle.mv_deck.specs.Fault.{first_fault, fault_at, faults_from}
+use Rattle.mv_deck.specs.Weight.{weight}
 
 abbrev lf : List ℕ
 lf = 10 ∷ []
@@ -29,28 +33,90 @@ one_cr = refl
 three_fields : fields_of (codes "  ABEND  U0012 X ") ≡ codes "ABEND" ∷ codes "U0012" ∷ codes "X" ∷ []
 three_fields = refl
 
-the_null_statement : form_of (codes "//") ≡ Some Null
+the_null_statement : form_of One (codes "//") ≡ Some Null
 the_null_statement = refl
 
-a_job : form_of (codes "//JOB JOB") ≡ Some (JobOf (codes "JOB"))
+a_job : form_of One (codes "//JOB JOB") ≡ Some (JobOf (codes "JOB") [])
 a_job = refl
 
-spaces_of_a_text : form_of (codes "//  PRINT  A B") ≡ Some (PrintOf (codes " A B"))
+a_list_with_an_empty_part : form_of One (codes "//B JOB AFTER=A,") ≡ Some (JobOf (codes "B") (record { name = codes "A"; most = None } ∷ record { name = []; most = None } ∷ []))
+a_list_with_an_empty_part = refl
+
+a_part_of_version_1 : form_of One (codes "//B JOB AFTER=A:4") ≡ Some (JobOf (codes "B") (record { name = codes "A:4"; most = None } ∷ []))
+a_part_of_version_1 = refl
+
+a_part_of_version_2 : form_of Two (codes "//B JOB AFTER=A:4:2") ≡ Some (JobOf (codes "B") (record { name = codes "A"; most = Some (codes "4:2") } ∷ []))
+a_part_of_version_2 = refl
+
+no_list : form_of Two (codes "//B JOB AFTER") ≡ None
+no_list = refl
+
+four_fields : form_of Two (codes "//B JOB AFTER= A") ≡ None
+four_fields = refl
+
+spaces_of_a_text : form_of One (codes "//  PRINT  A B") ≡ Some (PrintOf (codes " A B"))
 spaces_of_a_text = refl
 
-an_empty_text : statement_of (codes "// PRINT  ") ≡ Some (PrintOf [])
+an_empty_text : statement_of One (codes "// PRINT  ") ≡ Some (PrintOf [])
 an_empty_text = refl
 
-an_abend : form_of (codes "// ABEND U12") ≡ Some (AbendOf (codes "U12"))
+a_use_of_no_latch : form_of One (codes "// USE 8 S") ≡ Some (UseOf (codes "8") Shared)
+a_use_of_no_latch = refl
+
+no_mode : form_of One (codes "// USE 0 Y") ≡ None
+no_mode = refl
+
+a_count : form_of One (codes "// COUNT 1 9999") ≡ Some (CountOf (codes "1") (codes "9999"))
+a_count = refl
+
+an_abend : form_of One (codes "// ABEND U12") ≡ Some (AbendOf (codes "U12"))
 an_abend = refl
 
-no_comment_yet : form_of (codes "//* JOB") ≡ None
-no_comment_yet = refl
+no_return_in_version_1 : form_of One (codes "// RETURN 1") ≡ None
+no_return_in_version_1 = refl
 
-no_operation : form_of (codes "// PRINTX") ≡ None
+a_return_in_version_2 : form_of Two (codes "// RETURN 1") ≡ Some (ReturnOf (codes "1"))
+a_return_in_version_2 = refl
+
+a_comment_states_nothing : statement_of One (codes "//* JOB") ≡ None
+a_comment_states_nothing = refl
+
+no_operation : form_of One (codes "// PRINTX") ≡ None
 no_operation = refl
 
--- ---- codes
+-- ---- versions
+
+version_2_behind_comments : version_of (lines_of (codes "//* NOTE" ++ lf ++ lf ++ codes "//  DECK  2" ++ lf)) ≡ Two
+version_2_behind_comments = refl
+
+version_1_by_another_statement : version_of (lines_of (codes "//A JOB" ++ lf ++ codes "// DECK 2")) ≡ One
+version_1_by_another_statement = refl
+
+-- ---- numbers and codes
+
+the_highest_latch : latch_of (codes "7") ≡ Some 7
+the_highest_latch = refl
+
+no_latch_8 : latch_of (codes "8") ≡ None
+no_latch_8 = refl
+
+no_latch_00 : latch_of (codes "00") ≡ None
+no_latch_00 = refl
+
+no_amount_0 : amount_of (codes "0") ≡ None
+no_amount_0 = refl
+
+the_highest_amount : amount_of (codes "9999") ≡ Some 9999
+the_highest_amount = refl
+
+no_amount_of_five_digits : amount_of (codes "10000") ≡ None
+no_amount_of_five_digits = refl
+
+the_highest_code : code_of (codes "4095") ≡ Some 4095
+the_highest_code = refl
+
+no_code_4096 : code_of (codes "4096") ≡ None
+no_code_4096 = refl
 
 protection : end_code_of (codes "S0C4") ≡ Some 17580032
 protection = refl
@@ -67,28 +133,87 @@ no_system_0 = refl
 no_user_4096 : end_code_of (codes "U4096") ≡ None
 no_user_4096 = refl
 
--- ---- a deck, and the first fault of a text
+-- ---- a deck of version 2, and its weight for one initiator
 
 abbrev small : List ℕ
-small = codes "//A JOB" ++ lf ++ codes "// PRINT HI" ++ lf ++ codes "// ABEND U0012" ++ lf ++ codes "//B JOB" ++ lf ++ codes "//"
+small =
+    codes "// DECK 2" ++ lf ++ codes "//LOAD JOB" ++ lf ++ codes "// PRINT ROWS 9" ++ lf ++ codes "// RETURN 4" ++ lf ++ codes "//REPORT JOB AFTER=LOAD:4" ++ lf ++ codes "// PRINT OK" ++ lf
+    ++ codes "//CLEAN JOB AFTER=LOAD,REPORT:8" ++ lf ++ codes "// PRINT CLEANED" ++ lf ++ codes "//"
 
 abbrev small_jobs : List JobData
 small_jobs =
-    record { name = codes "A"; after = []; steps = Print (codes "HI") ∷ Abend 16777228 ∷ [] }
-    ∷ record { name = codes "B"; after = []; steps = [] }
+    record { name = codes "LOAD"; after = []; steps = Print (codes "ROWS 9") ∷ Return 4 ∷ [] }
+    ∷ record { name = codes "REPORT"; after = record { job = 0; most = 4 } ∷ []; steps = Print (codes "OK") ∷ [] }
+    ∷ record { name = codes "CLEAN"; after = record { job = 0; most = 0 } ∷ record { job = 1; most = 8 } ∷ []; steps = Print (codes "CLEANED") ∷ [] }
     ∷ []
 
 small_deck : deck_of small ≡ small_jobs
 small_deck = refl
 
-small_has_no_fault : first_fault small ≡ None
+small_weight : weight small_jobs 1 ≡ 66
+small_weight = refl
+
+small_has_no_fault : first_fault small 1 ≡ None
 unfolding faults_from
 small_has_no_fault = refl
 
-second_line : first_fault (codes "//A JOB" ++ lf ++ codes "// USE 0 S" ++ lf ++ codes "//") ≡ Some (fault_at 2 3)
-unfolding faults_from
-second_line = refl
+-- ---- a deck with latches and volumes, and its weight for two initiators
 
-nothing : first_fault [] ≡ Some (fault_at 1 12)
+abbrev counting : List ℕ
+counting =
+    codes "//A JOB" ++ lf ++ codes "// USE 1 X" ++ lf ++ codes "// COUNT 1 9999" ++ lf ++ codes "// SCAN 1" ++ lf ++ codes "// FREE 1" ++ lf ++ codes "//B JOB" ++ lf
+    ++ codes "// USE 1 S" ++ lf ++ codes "// SCAN 1" ++ lf ++ codes "//"
+
+abbrev counting_jobs : List JobData
+counting_jobs =
+    record { name = codes "A"; after = []; steps = Use 1 Exclusive ∷ Count 1 9999 ∷ Scan 1 ∷ Free 1 ∷ [] }
+    ∷ record { name = codes "B"; after = []; steps = Use 1 Shared ∷ Scan 1 ∷ [] }
+    ∷ []
+
+counting_deck : deck_of counting ≡ counting_jobs
+counting_deck = refl
+
+counting_weight : weight counting_jobs 2 ≡ 92
+counting_weight = refl
+
+counting_has_no_fault : first_fault counting 2 ≡ None
+unfolding faults_from
+counting_has_no_fault = refl
+
+-- ---- first faults
+
+a_lower_latch : first_fault (codes "//A JOB" ++ lf ++ codes "// USE 3 X" ++ lf ++ codes "// USE 1 S" ++ lf ++ codes "//") 1 ≡ Some (fault_at 3 9)
+unfolding faults_from
+a_lower_latch = refl
+
+a_job_after_itself : first_fault (codes "//A JOB AFTER=A") 1 ≡ Some (fault_at 1 6)
+unfolding faults_from
+a_job_after_itself = refl
+
+a_use_before_any_job : first_fault (codes "// USE 1 S") 1 ≡ Some (fault_at 1 11)
+unfolding faults_from
+a_use_before_any_job = refl
+
+a_count_under_a_shared_latch : first_fault (codes "//A JOB" ++ lf ++ codes "// USE 0 S" ++ lf ++ codes "// COUNT 0 1" ++ lf ++ codes "//") 1 ≡ Some (fault_at 3 10)
+unfolding faults_from
+a_count_under_a_shared_latch = refl
+
+a_return_code_too_high : first_fault (codes "// DECK 2" ++ lf ++ codes "//A JOB" ++ lf ++ codes "// RETURN 4096") 1 ≡ Some (fault_at 3 8)
+unfolding faults_from
+a_return_code_too_high = refl
+
+a_return_in_a_deck_of_version_1 : first_fault (codes "//A JOB" ++ lf ++ codes "// RETURN 1" ++ lf ++ codes "//") 1 ≡ Some (fault_at 2 3)
+unfolding faults_from
+a_return_in_a_deck_of_version_1 = refl
+
+a_late_deck : first_fault (codes "//A JOB" ++ lf ++ codes "// DECK 2" ++ lf ++ codes "//") 1 ≡ Some (fault_at 2 15)
+unfolding faults_from
+a_late_deck = refl
+
+an_ended_job : first_fault (codes "// DECK 2" ++ lf ++ codes "//A JOB" ++ lf ++ codes "// RETURN 0" ++ lf ++ codes "// DECK 2") 1 ≡ Some (fault_at 4 13)
+unfolding faults_from
+an_ended_job = refl
+
+nothing : first_fault [] 1 ≡ Some (fault_at 1 12)
 unfolding faults_from
 nothing = refl

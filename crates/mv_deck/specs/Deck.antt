@@ -1,16 +1,20 @@
 -- What a deck is, and the deck that a text without fault states.
-use Rattle.std.specs.Prelude.{ℕ, List, [], ◌∷◌, map, unwrap_or}
+use Rattle.std.specs.Prelude.{ℕ, ◌==◌, List, [], ◌∷◌, ◌++◌, map, fold, Option, Some, None, option_map, option_and_then, unwrap_or}
+use Rattle.std.specs.List.{position_from}
+use Rattle.std.specs.Str.{bytes_eq}
 use Rattle.mv_deck.specs.declared.deck.Step.{Step}
-use Rattle.mv_deck.specs.declared.deck.Step.TheVariants.{Print, Abend}
+use Rattle.mv_deck.specs.declared.deck.Step.TheVariants.{Print, Use, Free, Count, Scan, Abend, Return}
+use Rattle.mv_deck.specs.declared.deck.After.{After}
 use Rattle.mv_deck.specs.declared.deck.Job.{Job}
 use Rattle.mv_deck.specs.declared.deck.Deck.{Deck}
 use Rattle.mv_deck.specs.Line.{lines_of}
-use Rattle.mv_deck.specs.Statement.{Statement, Null, JobOf, PrintOf, AbendOf, statements_of, end_code_of}
+use Rattle.mv_deck.specs.Operand.{latch_of, amount_of, code_of, end_code_of}
+use Rattle.mv_deck.specs.Statement.{Statement, Null, DeckOf, JobOf, PrintOf, UseOf, FreeOf, CountOf, ScanOf, AbendOf, ReturnOf, AfterPart, statements_of, version_of}
 
 -- a job without where it lies in memory
 pub record JobData : Type 0 where
   pub name : List ℕ
-  pub after : List ℕ
+  pub after : List After
   pub steps : List Step
 
 abbrev pub job_data : Job → JobData
@@ -19,22 +23,72 @@ job_data j = record { name = j.name; after = j.after.items; steps = j.steps.item
 abbrev pub deck_data : Deck → List JobData
 deck_data d = map job_data d.jobs.items
 
--- the steps that stand before the next JOB or null statement
-abbrev pub steps_of : List Statement → List Step
-steps_of [] = []
-steps_of (PrintOf text ∷ rest) = Print text ∷ steps_of rest
-steps_of (AbendOf code ∷ rest) = Abend (unwrap_or (end_code_of code) 0) ∷ steps_of rest
-steps_of (JobOf name ∷ rest) = []
-steps_of (Null ∷ rest) = []
+-- ---- what a statement adds to the jobs before it
 
--- each JOB statement begins a job
+-- the place of the job of this name, from 0
+abbrev pub place_of : List JobData → List ℕ → Option ℕ
+place_of jobs name = position_from (λ (j : JobData). bytes_eq j.name name) 0 jobs
+
+-- the highest end code that a part accepts: 0 where it has none
+abbrev pub most_of : Option (List ℕ) → ℕ
+most_of None = 0
+most_of (Some code) = unwrap_or (code_of code) 0
+
+-- the job that a part names, behind these jobs
+abbrev pub after_of : List JobData → AfterPart → After
+after_of jobs part = record { job = unwrap_or (place_of jobs part.name) 0; most = most_of part.most }
+
+-- the step that a statement is, where its numbers and codes are good
+abbrev pub step_of : Statement → Option Step
+step_of Null = None
+step_of (DeckOf version) = None
+step_of (JobOf name after) = None
+step_of (PrintOf text) = Some (Print text)
+step_of (UseOf latch mode) = option_map (λ l. Use l mode) (latch_of latch)
+step_of (FreeOf latch) = option_map Free (latch_of latch)
+step_of (CountOf volume amount) = option_and_then (λ v. option_map (Count v) (amount_of amount)) (latch_of volume)
+step_of (ScanOf volume) = option_map Scan (latch_of volume)
+step_of (AbendOf code) = option_map Abend (end_code_of code)
+step_of (ReturnOf code) = option_map Return (code_of code)
+
+-- the last job with one more step
+abbrev pub with_step : List JobData → Step → List JobData
+with_step [] step = []
+with_step (j ∷ []) step = record j { steps = j.steps ++ step ∷ [] } ∷ []
+with_step (j ∷ k ∷ jobs) step = j ∷ with_step (k ∷ jobs) step
+
+-- the same, where there is a step
+abbrev pub with_steps : List JobData → Option Step → List JobData
+with_steps jobs None = jobs
+with_steps jobs (Some step) = with_step jobs step
+
+-- a job as its JOB statement begins it
+abbrev pub fresh_job : List JobData → List ℕ → List AfterPart → JobData
+fresh_job jobs name after = record { name = name; after = map (after_of jobs) after; steps = [] }
+
+-- the jobs behind one more statement
+abbrev pub jobs_behind : List JobData → Statement → List JobData
+jobs_behind jobs Null = jobs
+jobs_behind jobs (DeckOf version) = jobs
+jobs_behind jobs (JobOf name after) = jobs ++ fresh_job jobs name after ∷ []
+jobs_behind jobs (PrintOf text) = with_steps jobs (step_of (PrintOf text))
+jobs_behind jobs (UseOf latch mode) = with_steps jobs (step_of (UseOf latch mode))
+jobs_behind jobs (FreeOf latch) = with_steps jobs (step_of (FreeOf latch))
+jobs_behind jobs (CountOf volume amount) = with_steps jobs (step_of (CountOf volume amount))
+jobs_behind jobs (ScanOf volume) = with_steps jobs (step_of (ScanOf volume))
+jobs_behind jobs (AbendOf code) = with_steps jobs (step_of (AbendOf code))
+jobs_behind jobs (ReturnOf code) = with_steps jobs (step_of (ReturnOf code))
+
+-- the jobs of statements, in order
 abbrev pub jobs_of : List Statement → List JobData
-jobs_of [] = []
-jobs_of (JobOf name ∷ rest) = record { name = name; after = []; steps = steps_of rest } ∷ jobs_of rest
-jobs_of (PrintOf text ∷ rest) = jobs_of rest
-jobs_of (AbendOf code ∷ rest) = jobs_of rest
-jobs_of (Null ∷ rest) = jobs_of rest
+jobs_of statements = fold jobs_behind [] statements
 
 -- the deck of a text without fault
 abbrev pub deck_of : List ℕ → List JobData
-deck_of bytes = jobs_of (statements_of (lines_of bytes))
+deck_of bytes = jobs_of (statements_of (version_of (lines_of bytes)) (lines_of bytes))
+
+-- the steps of the last job
+abbrev pub last_steps : List JobData → List Step
+last_steps [] = []
+last_steps (j ∷ []) = j.steps
+last_steps (j ∷ k ∷ jobs) = last_steps (k ∷ jobs)

@@ -1,11 +1,38 @@
 -- What a form states.
+use Rattle.std.specs.Prelude.{ℕ, List, [], map, Option, Some, None, option_map}
+use Rattle.std.specs.Borrow.{Bor}
 use Rattle.mv_deck.specs.declared.form.Form.{Form}
-use Rattle.mv_deck.specs.declared.form.Form.TheVariants.{Null, Job, Print, Abend}
-use Rattle.mv_deck.specs.Statement.{Statement, JobOf, PrintOf, AbendOf}
-use Rattle.mv_deck.specs.Statement as statement
+use Rattle.mv_deck.specs.declared.form.Form.TheVariants as form
+use Rattle.mv_deck.specs.declared.form.Part.{Part}
+use Rattle.mv_deck.specs.declared.form.Version.{Version}
+use Rattle.mv_deck.specs.Line.{parts_of}
+use Rattle.mv_deck.specs.Statement.{Statement, Null, DeckOf, JobOf, PrintOf, UseOf, FreeOf, CountOf, ScanOf, AbendOf, ReturnOf, AfterPart, part_of}
 
-abbrev pub stated : Form → Statement
-stated Null = statement.Null
-stated (Job name) = JobOf name.now
-stated (Print text) = PrintOf text.now
-stated (Abend code) = AbendOf code.now
+-- the bytes behind a reference
+abbrev pub bytes_behind : Bor (List ℕ) → List ℕ
+bytes_behind text = text.now
+
+-- a part without where it lies in memory
+abbrev pub part_data : Part → AfterPart
+part_data p = record { name = p.name.now; most = option_map bytes_behind p.most }
+
+-- the parts of a list, where there is one
+abbrev pub parts_behind : Option (Bor (List ℕ)) → List (List ℕ)
+parts_behind None = []
+parts_behind (Some list) = parts_of list.now
+
+-- the same, as parts of an AFTER list
+abbrev pub listed : Version → Option (Bor (List ℕ)) → List AfterPart
+listed v list = map (part_of v) (parts_behind list)
+
+abbrev pub stated : Version → Form → Statement
+stated v form.Null = Null
+stated v (form.Deck version) = DeckOf version.now
+stated v (form.Job name after) = JobOf name.now (listed v after)
+stated v (form.Print text) = PrintOf text.now
+stated v (form.Use latch mode) = UseOf latch.now mode
+stated v (form.Free latch) = FreeOf latch.now
+stated v (form.Count volume amount) = CountOf volume.now amount.now
+stated v (form.Scan volume) = ScanOf volume.now
+stated v (form.Abend code) = AbendOf code.now
+stated v (form.Return code) = ReturnOf code.now

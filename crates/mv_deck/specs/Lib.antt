@@ -1,8 +1,12 @@
 pub mod Line
+pub mod Operand
 pub mod Statement
 pub mod Form
 pub mod Deck
+pub mod Held
+pub mod Weight
 pub mod Fault
 pub mod Faults
+pub mod Sound
+pub mod Names
 pub mod Reading
-pub mod Plain

@@ -1,40 +1,61 @@
 -- Where the reader of decks is: behind these statements.
-use Rattle.std.specs.Prelude.{◌≡◌, ℕ, List, [], ◌∷◌, ◌++◌, map, Option, Some, None, is_some}
+use Rattle.std.specs.Prelude.{◌≡◌, ℕ, ◌+◌, false, nat_lt, List, [], ◌∷◌, ◌++◌, length, map, Option, Some, None, is_some}
 use Rattle.std.specs.List.{list_any}
+use Rattle.mv_deck.specs.declared.deck.After.{After}
 use Rattle.mv_deck.specs.declared.deck.Step.{Step}
-use Rattle.mv_deck.specs.declared.reading.LineRefusal.{LineRefusal}
-use Rattle.mv_deck.specs.declared.reading.LineRefusal.TheVariants.{Kind, NoMemory}
-use Rattle.mv_deck.specs.declared.reading.Reading.{Reading}
 use Rattle.mv_deck.specs.declared.fault.DeckRefusal.{DeckRefusal}
 use Rattle.mv_deck.specs.declared.fault.DeckRefusal.TheVariants.{Fault}
 use Rattle.mv_deck.specs.declared.fault.DeckRefusal.TheVariants as refusal
-use Rattle.mv_deck.specs.Statement.{Statement}
-use Rattle.mv_deck.specs.Deck.{JobData, job_data, jobs_of}
-use Rattle.mv_deck.specs.Fault.{is_null, is_job, ends_abended, first_of_list, fault_at}
-
-abbrev pub fresh_job : List ℕ → List Step → JobData
-fresh_job name steps = record { name = name; after = []; steps = steps }
+use Rattle.mv_deck.specs.declared.fault.LineRefusal.{LineRefusal}
+use Rattle.mv_deck.specs.declared.fault.LineRefusal.TheVariants.{Has, NoMemory}
+use Rattle.mv_deck.specs.declared.form.Version.{Version}
+use Rattle.mv_deck.specs.declared.reading.Reading.{Reading}
+use Rattle.mv_deck.specs.Statement.{Statement, AfterPart}
+use Rattle.mv_deck.specs.Deck.{JobData, job_data, jobs_of, place_of, last_steps}
+use Rattle.mv_deck.specs.Fault.{is_null, is_job, first_of_list, fault_at, kind_number, has_bad_name, has_bad_number, is_misplaced, repeats_name, awaits_no_job, is_crowded}
+use Rattle.mv_deck.specs.Held.{held, latches, is_end}
+use Rattle.mv_deck.specs.Names.{place_in}
+use Rattle.mv_deck.specs.Weight.{weight, heaviest}
 
 -- the job that takes steps, where one has begun
-abbrev pub open_job : Option (List ℕ) → List Step → List JobData
-open_job None steps = []
-open_job (Some name) steps = fresh_job name steps ∷ []
+abbrev pub open_job : Option (List ℕ) → List After → List Step → List JobData
+open_job None after steps = []
+open_job (Some name) after steps = record { name = name; after = after; steps = steps } ∷ []
 
 abbrev pub jobs_read : Reading → List JobData
-jobs_read r = map job_data r.finished.items ++ open_job r.name r.steps.items
+jobs_read r = map job_data r.finished.items ++ open_job r.name r.after.items r.steps.items
 
-pub record IsBehind (statements : List Statement) (r : Reading) : Type 0 where
+-- what the reader keeps of these jobs beside themselves
+pub record Keeps (initiators : ℕ) (jobs : List JobData) (r : Reading) : Type 0 where
+  pub named : (name : List ℕ) → place_in r.names name ≡ place_of jobs name
+  pub latched : r.held.modes ≡ map (held (last_steps jobs)) latches
+  pub closed : r.closed ≡ list_any is_end (last_steps jobs)
+  pub room : r.room + weight jobs initiators ≡ heaviest
+
+pub record IsBehind (initiators : ℕ) (v : Version) (statements : List Statement) (r : Reading) : Type 0 where
+  pub initiators_are : r.initiators ≡ initiators
+  pub version : r.version ≡ v
   pub jobs : jobs_read r ≡ jobs_of statements
+  pub kept : Keeps initiators (jobs_of statements) r
   pub begun : is_some r.name ≡ list_any is_job statements
-  pub abended : r.abended ≡ ends_abended statements
+  pub stated : r.stated ≡ nat_lt 0 (length statements)
   pub ended : r.ended ≡ list_any is_null statements
 
 -- the kind that is told is the lowest
 abbrev pub Tells : LineRefusal → List ℕ → Type 0
-Tells (Kind k) kinds = first_of_list kinds ≡ Some k
+Tells (Has kind) kinds = first_of_list kinds ≡ Some (kind_number kind)
 Tells NoMemory kinds = Unit {0}
 
 -- the refusal of a deck whose line of this number was not taken
 abbrev pub refusal_at : ℕ → LineRefusal → DeckRefusal
-refusal_at line (Kind k) = Fault (fault_at line k)
+refusal_at line (Has kind) = Fault (fault_at line (kind_number kind))
 refusal_at line NoMemory = refusal.NoMemory
+
+-- what a statement has no fault of, but for those of the job that it stands in and for the weight
+pub record IsGoodJob (earlier : List Statement) (jobs : List JobData) (s : Statement) : Type 0 where
+  pub name : has_bad_name s ≡ false
+  pub place : is_misplaced earlier s ≡ false
+  pub new : repeats_name jobs s ≡ false
+  pub known : awaits_no_job jobs s ≡ false
+  pub few : is_crowded s ≡ false
+  pub codes : has_bad_number s ≡ false

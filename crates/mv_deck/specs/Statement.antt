@@ -1,107 +1,107 @@
--- The forms of a deck's lines, by their words, and what may stand in the places of names and codes.
-use Rattle.std.specs.Prelude.{ℕ, ◌+◌, ◌-◌, ◌*◌, ◌^◌, Bool, false, ◌==◌, ◌&&◌, ◌||◌, not, nat_eq, nat_le, nat_lt, List, [], ◌∷◌, length, drop, Option, Some, None, option_map, codes, if◌then◌else◌}
-use Rattle.std.specs.List.{starts_with, list_all, filter_map}
+-- The forms of a deck's lines, by their words.
+use Rattle.std.specs.Prelude.{ℕ, ◌==◌, ◌&&◌, nat_eq, List, [], ◌∷◌, drop, map, Option, Some, None, option_map, codes, if◌then◌else◌}
+use Rattle.std.specs.List.{starts_with, filter_map}
 use Rattle.std.specs.Str.{bytes_eq}
-use Rattle.mv_deck.specs.Line.{without_cr, without_first_spaces, without_last_spaces, fields_of}
+use Rattle.mv_latch.specs.declared.request.Mode.{Mode}
+use Rattle.mv_deck.specs.declared.form.Version.{Version}
+use Rattle.mv_deck.specs.declared.form.Version.TheVariants.{One, Two}
+use Rattle.mv_deck.specs.Line.{without_first_spaces, fields_of, one_of, two_of, shown, is_comment, is_passed, parts_of, before_colon, behind_colon}
+use Rattle.mv_deck.specs.Operand.{mode_of}
 
--- What a line states. A name, a text and a code are the bytes that stand in their places.
+-- a part of an AFTER list: what stands in the place of a name, and in that of an accepted code where there is one
+pub record AfterPart : Type 0 where
+  pub name : List ℕ
+  pub most : Option (List ℕ)
+
+-- What a line states. A name, a number, a text and a code are the bytes that stand in their places.
 pub data Statement : Type 0 where
   Null : Statement
-  JobOf : (name : List ℕ) → Statement
+  DeckOf : (version : List ℕ) → Statement
+  JobOf : (name : List ℕ) (after : List AfterPart) → Statement
   PrintOf : (text : List ℕ) → Statement
+  UseOf : (latch : List ℕ) (mode : Mode) → Statement
+  FreeOf : (latch : List ℕ) → Statement
+  CountOf : (volume amount : List ℕ) → Statement
+  ScanOf : (volume : List ℕ) → Statement
   AbendOf : (code : List ℕ) → Statement
+  ReturnOf : (code : List ℕ) → Statement
 
--- `NAME JOB`, at once behind the slashes; what begins with an asterisk there is no name
-abbrev pub job_of : List (List ℕ) → Option Statement
-job_of (name ∷ operation ∷ []) =
-    if bytes_eq operation (codes "JOB") && not (starts_with nat_eq name (codes "*")) then Some (JobOf name) else None
-job_of _ = None
+-- ---- JOB
 
--- `ABEND code`
-abbrev pub abend_of : List (List ℕ) → Option Statement
-abend_of (code ∷ []) = Some (AbendOf code)
-abend_of _ = None
+-- a part of an AFTER list: in version 2 a colon parts the name from the accepted code
+abbrev pub part_of : Version → List ℕ → AfterPart
+part_of One part = record { name = part; most = None }
+part_of Two part = record { name = before_colon part; most = behind_colon part }
 
--- An operation without a name. The text of PRINT is all that follows the operation and one space.
-abbrev pub operation_of : List ℕ → List (List ℕ) → Option Statement
-operation_of rest (operation ∷ operands) =
+-- the job of this name with this third field, `AFTER=` and a list
+abbrev pub job_after : Version → List ℕ → List ℕ → Option Statement
+job_after v name third =
+    if starts_with nat_eq third (codes "AFTER=") then Some (JobOf name (map (part_of v) (parts_of (drop 6 third)))) else None
+
+-- `NAME JOB` or `NAME JOB AFTER=list`, at once behind the slashes
+abbrev pub job_of : Version → List (List ℕ) → Option Statement
+job_of v [] = None
+job_of v (name ∷ []) = None
+job_of v (name ∷ operation ∷ []) = if bytes_eq operation (codes "JOB") then Some (JobOf name []) else None
+job_of v (name ∷ operation ∷ third ∷ []) = if bytes_eq operation (codes "JOB") then job_after v name third else None
+job_of v (name ∷ operation ∷ third ∷ fourth ∷ more) = None
+
+-- ---- operations without a name
+
+-- a USE of this latch in a mode, by two operands
+abbrev pub use_of : Option (List ℕ × List ℕ) → Option Statement
+use_of None = None
+use_of (Some operands) = option_map (λ mode. UseOf operands.0 mode) (mode_of operands.1)
+
+-- RETURN is a form of version 2 alone
+abbrev pub return_of : Version → Option (List ℕ) → Option Statement
+return_of One operand = None
+return_of Two operand = option_map ReturnOf operand
+
+-- An operation and its operands. The text of PRINT is all that follows the operation and one space.
+abbrev pub operated : Version → List ℕ → List ℕ → List (List ℕ) → Option Statement
+operated v rest operation operands =
     if bytes_eq operation (codes "PRINT") then Some (PrintOf (drop 6 (without_first_spaces rest)))
-    else if bytes_eq operation (codes "ABEND") then abend_of operands
+    else if bytes_eq operation (codes "USE") then use_of (two_of operands)
+    else if bytes_eq operation (codes "FREE") then option_map FreeOf (one_of operands)
+    else if bytes_eq operation (codes "COUNT") then option_map (λ (o : List ℕ × List ℕ). CountOf o.0 o.1) (two_of operands)
+    else if bytes_eq operation (codes "SCAN") then option_map ScanOf (one_of operands)
+    else if bytes_eq operation (codes "ABEND") then option_map AbendOf (one_of operands)
+    else if bytes_eq operation (codes "RETURN") then return_of v (one_of operands)
+    else if bytes_eq operation (codes "DECK") then option_map DeckOf (one_of operands)
     else None
-operation_of rest [] = None
+
+abbrev pub operation_of : Version → List ℕ → List (List ℕ) → Option Statement
+operation_of v rest [] = None
+operation_of v rest (operation ∷ operands) = operated v rest operation operands
+
+-- ---- lines
 
 -- what follows the two slashes
-abbrev pub behind_slashes : List ℕ → Option Statement
-behind_slashes [] = Some Null
-behind_slashes (b ∷ bs) = if b == 32 then operation_of (b ∷ bs) (fields_of (b ∷ bs)) else job_of (fields_of (b ∷ bs))
+abbrev pub behind_slashes : Version → List ℕ → Option Statement
+behind_slashes v [] = Some Null
+behind_slashes v (b ∷ bs) = if b == 32 then operation_of v (b ∷ bs) (fields_of (b ∷ bs)) else job_of v (fields_of (b ∷ bs))
 
--- what counts of a line: not one CR at its end, and then no spaces at its end
-abbrev pub shown : List ℕ → List ℕ
-shown line = without_last_spaces (without_cr line)
+-- the statement of a text that is no comment, where its words fit one of the forms of its version
+abbrev pub form_of : Version → List ℕ → Option Statement
+form_of v text = if starts_with nat_eq text (codes "//") then behind_slashes v (drop 2 text) else None
 
-abbrev pub is_empty : List ℕ → Bool
-is_empty text = length text == 0
-
--- the statement of a line, where its words fit one of the forms
-abbrev pub form_of : List ℕ → Option Statement
-form_of text = if starts_with nat_eq text (codes "//") then behind_slashes (drop 2 text) else None
-
-abbrev pub statement_of : List ℕ → Option Statement
-statement_of line = form_of (shown line)
+abbrev pub statement_of : Version → List ℕ → Option Statement
+statement_of v line = if is_comment (shown line) then None else form_of v (shown line)
 
 -- the statements of lines, in order
-abbrev pub statements_of : List (List ℕ) → List Statement
-statements_of lines = filter_map statement_of lines
+abbrev pub statements_of : Version → List (List ℕ) → List Statement
+statements_of v lines = filter_map (statement_of v) lines
 
--- ---- names and codes
+-- ---- the version of a deck
 
-abbrev pub is_within : ℕ → ℕ → ℕ → Bool
-is_within low high b = nat_le low b && nat_le b high
+-- the version that a first statement declares
+abbrev pub declared_by : Option Statement → Version
+declared_by (Some (DeckOf version)) = if bytes_eq version (codes "2") then Two else One
+declared_by _ = One
 
-abbrev pub is_digit : ℕ → Bool
-is_digit b = is_within 48 57 b
-
--- `A` to `Z`, `@`, `#`, `$`
-abbrev pub is_name_start : ℕ → Bool
-is_name_start b = is_within 64 90 b || is_within 35 36 b
-
-abbrev pub is_name_byte : ℕ → Bool
-is_name_byte b = is_name_start b || is_digit b
-
--- one to eight bytes of a name, the first no digit
-abbrev pub is_name : List ℕ → Bool
-is_name [] = false
-is_name (b ∷ bs) = is_name_start b && list_all is_name_byte bs && nat_lt (length bs) 8
-
--- the value of a digit, 0 to 9 and A to F
-abbrev pub is_hex : ℕ → Bool
-is_hex b = is_digit b || is_within 65 70 b
-
-abbrev pub hex_value : ℕ → ℕ
-hex_value b = if is_digit b then b - 48 else b - 55
-
--- the end code of a job that ends with this system and this user code
-abbrev pub abended : ℕ → ℕ → ℕ
-abended system user = 2 ^ 24 + 4096 * system + user
-
--- four digits, up to 4095
-abbrev pub user_code_of : List ℕ → Option ℕ
-user_code_of (a ∷ b ∷ c ∷ d ∷ []) =
-    let n = 1000 * (a - 48) + 100 * (b - 48) + 10 * (c - 48) + (d - 48) in
-    if list_all is_digit (a ∷ b ∷ c ∷ d ∷ []) && nat_le n 4095 then Some n else None
-user_code_of _ = None
-
--- three hexadecimal digits, not all 0
-abbrev pub system_code_of : List ℕ → Option ℕ
-system_code_of (a ∷ b ∷ c ∷ []) =
-    let n = 256 * hex_value a + 16 * hex_value b + hex_value c in
-    if list_all is_hex (a ∷ b ∷ c ∷ []) && nat_lt 0 n then Some n else None
-system_code_of _ = None
-
--- the end code that a code stands for: `Udddd` or `Shhh`
-abbrev pub end_code_of : List ℕ → Option ℕ
-end_code_of [] = None
-end_code_of (letter ∷ digits) =
-    if letter == 85 then option_map (λ user. abended 0 user) (user_code_of digits)
-    else if letter == 83 then option_map (λ system. abended system 0) (system_code_of digits)
-    else None
+-- The version of a deck with these lines: its first line that is neither ignored nor a comment declares version 2 or
+-- none. DECK is a form of both versions, so it is looked for in version 1.
+abbrev pub version_of : List (List ℕ) → Version
+version_of [] = One
+version_of (line ∷ lines) = if is_passed line then version_of lines else declared_by (statement_of One line)

@@ -1,5 +1,6 @@
 //! What a deck states.
 
+use mv_latch::Mode;
 use std::marker::Model;
 
 /// The text of a PRINT: 0 to 71 bytes of printable ASCII, 32 to 126.
@@ -30,23 +31,42 @@ impl Model for Name {
     ghost view = { λ n. n.bytes.items };
 }
 
-/// One step of a job.
+/// One step of a job. Latches and volumes are numbered from 0 to 7.
 #[derive(Debug, Drop)]
 pub enum Step {
     /// Writes a line of output.
     Print(Text),
+    /// Obtains this latch.
+    Use(u32, Mode),
+    /// Releases this latch.
+    Free(u32),
+    /// Adds to this volume an amount, 1 to 9999.
+    Count(u32, u32),
+    /// Reads this volume twice.
+    Scan(u32),
     /// Ends the job with this end code, `2^24 + 4096 * system + user`, of which system (1 to 4095) or user (0 to 4095) alone
     /// is given and the other is 0.
     Abend(u32),
+    /// Ends the job with this return code, 0 to 4095.
+    Return(u32),
 }
 
-/// A job. Two jobs of a deck may have one name.
+/// A job that another one waits for, and the highest end code of it that the other one accepts.
+#[derive(Clone, Copy, Debug, PartialEq, Eq)]
+pub struct After {
+    /// Its place in the deck, from 0.
+    pub job: u32,
+    /// 0 to 4095; 0 where the text gives none.
+    pub most: u32,
+}
+
+/// A job. No other job of its deck has its name.
 #[derive(Debug, Drop)]
 pub struct Job {
     pub name: Name,
-    /// The jobs that it waits for, by their places in the deck, from 0. No statement names any yet, so there are none.
-    pub after: Vec<u32>,
-    /// In the order of the text. An ABEND is the last.
+    /// The earlier jobs that it waits for, at most eight, in the order of the text.
+    pub after: Vec<After>,
+    /// In the order of the text. An ABEND or a RETURN is the last.
     pub steps: Vec<Step>,
 }
 

@@ -1,60 +1,131 @@
-//! The form of a line, by its words, and what stands in the places of names and codes.
+//! The form of a line, by its words (`specs/Form.antt`, `specs/Statement.antt`).
 
-ghost use Rattle.std.specs.Prelude.{◌≡◌, ◌-◌, IsTrue, Some, None, drop, option_map, if◌then◌else◌};
-ghost use Rattle.mv_deck.specs.Statement.{is_name_start as starts_name, is_name_byte as stands_in_name, is_name as names_job, is_digit as shows_digit, is_hex as shows_hex, hex_value as value_of_hex, user_code_of, system_code_of, end_code_of, form_of as form_by_words, job_of as named, operation_of as unnamed};
-ghost use Rattle.std.specs.List.{list_all};
-ghost use Rattle.mv_deck.specs.Form.{stated};
-ghost use Rattle.mv_deck.specs.Line.{fields_of, without_first_spaces as from_first_field};
+ghost use Rattle.std.specs.Prelude.{◌≡◌, ◌<◌, ◌^◌, List, ℕ, length, drop, map, option_map, IfOk};
+ghost use Rattle.std.specs.Borrow.{Bor};
+ghost use Rattle.mv_deck.specs.Form.{stated, part_data, listed};
+ghost use Rattle.mv_deck.specs.Line.{fields_of, lines_of, one_of, two_of, without_first_spaces as from_first_field};
+ghost use Rattle.mv_deck.specs.Statement.{Statement, form_of as form_by_words, job_of as named, operation_of as unnamed, use_of as used, return_of as returns_by, part_of as cut, declared_by, version_of as version_by_lines};
 
-use crate::line::{one_field, split_field, two_fields, without_first_spaces};
+use crate::line::{
+    is_comment, one_field, split_colon, split_field, split_line, split_part, two_fields,
+    without_cr, without_first_spaces, without_last_spaces,
+};
+use crate::operand::mode;
+use mv_latch::Mode;
+use std::alloc::{AllocError, Global};
 
-/// A line's statement, with the bytes that stand in the places of a name, a text or a code.
+/// Which forms the lines of a deck may have.
+#[derive(Clone, Copy)]
+pub(crate) enum Version {
+    One,
+    Two,
+}
+
+/// A line's statement, with the bytes that stand in the places of a name, a number, a text or a code.
 #[derive(Clone, Copy)]
 pub(crate) enum Form<'a> {
     Null,
-    Job(&'a [u8]),
+    Deck(&'a [u8]),
+    /// A name, and the list behind `AFTER=`.
+    Job(&'a [u8], Option<&'a [u8]>),
     Print(&'a [u8]),
+    Use(&'a [u8], Mode),
+    Free(&'a [u8]),
+    Count(&'a [u8], &'a [u8]),
+    Scan(&'a [u8]),
     Abend(&'a [u8]),
+    Return(&'a [u8]),
 }
 
-// What a job ends with that ends by a code of 0.
-const ABENDED: u32 = 1 << 24;
+/// A part of an AFTER list: a name, and an accepted code where there is one.
+#[derive(Clone, Copy, Drop)]
+pub(crate) struct Part<'a> {
+    pub(crate) name: &'a [u8],
+    pub(crate) most: Option<&'a [u8]>,
+}
 
-/// The form of a text without spaces at its end, where its words fit one.
-pub(crate) fn form_of(text: &[u8]) -> Option<Form<'_>>
-    ensures { option_map stated result ≡ form_by_words text.now }
+/// The form of a text without spaces at its end, where its words fit one of its version.
+pub(crate) fn form_of(version: Version, text: &[u8]) -> Option<Form<'_>>
+    ensures { option_map (stated version) result ≡ form_by_words version text.now }
 {
     match text {
         [b'/', b'/'] => Some(Form::Null),
-        [b'/', b'/', b' ', ..] => operation_of(&text[2..]),
+        [b'/', b'/', b' ', ..] => operation_of(version, &text[2..]),
         [b'/', b'/', rest @ ..] => job_of(rest),
         _ => None,
     }
 }
 
-// `NAME JOB`
+// `NAME JOB` or `NAME JOB AFTER=list`
 fn job_of(rest: &[u8]) -> Option<Form<'_>>
-    ensures { option_map stated result ≡ named (fields_of rest.now) }
+    ensures { (v : Version) → option_map (stated v) result ≡ named v (fields_of rest.now) }
 {
-    let (name, operation) = two_fields(rest)?;
-    if operation == b"JOB".as_slice() && !name.starts_with(b"*") {
-        return Some(Form::Job(name));
+    let (name, behind) = split_field(rest);
+    let (operation, behind) = split_field(behind);
+    if name.is_empty() || operation != b"JOB".as_slice() {
+        return None;
     }
-    None
+    let (third, behind) = split_field(behind);
+    if third.is_empty() {
+        return Some(Form::Job(name, None));
+    }
+    let (fourth, _) = split_field(behind);
+    if !fourth.is_empty() {
+        return None;
+    }
+    let list = third.strip_prefix(b"AFTER=")?;
+    Some(Form::Job(name, Some(list)))
 }
 
-// `PRINT text` or `ABEND code`, behind one or more spaces
-fn operation_of(rest: &[u8]) -> Option<Form<'_>>
-    ensures { option_map stated result ≡ unnamed rest.now (fields_of rest.now) }
+// An operation and its operands, behind one or more spaces.
+fn operation_of(version: Version, rest: &[u8]) -> Option<Form<'_>>
+    ensures { option_map (stated version) result ≡ unnamed version rest.now (fields_of rest.now) }
 {
     let (operation, operands) = split_field(rest);
     if operation == b"PRINT".as_slice() {
         return Some(Form::Print(printed(rest)));
     }
+    if operation == b"USE".as_slice() {
+        return use_of(operands);
+    }
+    if operation == b"FREE".as_slice() {
+        return Some(Form::Free(one_field(operands)?));
+    }
+    if operation == b"COUNT".as_slice() {
+        let (volume, amount) = two_fields(operands)?;
+        return Some(Form::Count(volume, amount));
+    }
+    if operation == b"SCAN".as_slice() {
+        return Some(Form::Scan(one_field(operands)?));
+    }
     if operation == b"ABEND".as_slice() {
         return Some(Form::Abend(one_field(operands)?));
     }
+    if operation == b"RETURN".as_slice() {
+        return return_of(version, operands);
+    }
+    if operation == b"DECK".as_slice() {
+        return Some(Form::Deck(one_field(operands)?));
+    }
     None
+}
+
+// A return code; RETURN is a form of version 2 alone.
+fn return_of(version: Version, operands: &[u8]) -> Option<Form<'_>>
+    ensures { (v : Version) → option_map (stated v) result ≡ returns_by version (one_of (fields_of operands.now)) }
+{
+    match version {
+        Version::One => None,
+        Version::Two => Some(Form::Return(one_field(operands)?)),
+    }
+}
+
+// A latch and a mode.
+fn use_of(operands: &[u8]) -> Option<Form<'_>>
+    ensures { (v : Version) → option_map (stated v) result ≡ used (two_of (fields_of operands.now)) }
+{
+    let (latch, word) = two_fields(operands)?;
+    Some(Form::Use(latch, mode(word)?))
 }
 
 // What follows PRINT and one space.
@@ -65,80 +136,62 @@ fn printed(rest: &[u8]) -> &[u8]
     statement.get(6..).unwrap_or(&[])
 }
 
-fn is_name_start(byte: u8) -> bool
-    ensures { result ≡ starts_name byte }
+/// The version of a deck, by the first of its lines that is neither ignored nor a comment.
+pub(crate) fn version_of(bytes: &[u8]) -> Version
+    ensures { result ≡ version_by_lines (lines_of bytes.now) }
 {
-    matches!(byte, b'@'..=b'Z' | b'#'..=b'$')
+    let mut rest = bytes;
+    while !rest.is_empty() {
+        let (line, behind) = split_line(rest);
+        let text = without_last_spaces(without_cr(line));
+        if !text.is_empty() && !is_comment(text) {
+            return declared(form_of(Version::One, text));
+        }
+        rest = behind;
+    }
+    Version::One
 }
 
-fn is_name_byte(byte: u8) -> bool
-    ensures { result ≡ stands_in_name byte }
+// The version that a first statement declares.
+fn declared(form: Option<Form>) -> Version
+    ensures { (v : Version) → result ≡ declared_by (option_map (stated v) form.entry) }
 {
-    is_name_start(byte) || byte.is_ascii_digit()
-}
-
-fn are_name_bytes(bytes: &[u8]) -> bool
-    ensures { result ≡ list_all stands_in_name bytes.now }
-{
-    bytes.iter().all(|b| is_name_byte(*b))
-}
-
-/// Whether a field is the name of a job: one to eight of `A` to `Z`, `0` to `9`, `@`, `#`, `$`, the first no digit.
-pub(crate) fn is_name(field: &[u8]) -> bool
-    ensures { result ≡ names_job field.now }
-{
-    match field {
-        [] => false,
-        [first, rest @ ..] => is_name_start(*first) && are_name_bytes(rest) && rest.len() < 8,
+    match form {
+        Some(Form::Deck(b"2")) => Version::Two,
+        _ => Version::One,
     }
 }
 
-// The number that four digits show, up to 4095.
-fn user_code(digits: &[u8]) -> Option<u32>
-    ensures { result ≡ user_code_of digits.now }
+/// The parts of an AFTER list, where there is one.
+pub(crate) fn parts_of<'a>(
+    alloc: Global,
+    version: Version,
+    list: Option<&'a [u8]>,
+) -> Result<Vec<Part<'a>>, AllocError>
+    ensures { IfOk result (λ parts. map part_data parts.items ≡ listed version list.entry) }
 {
-    let [a, b, c, d] = digits else { return None };
-    if !(a.is_ascii_digit() && b.is_ascii_digit() && c.is_ascii_digit() && d.is_ascii_digit()) {
-        return None;
+    let mut parts = Vec::new(alloc);
+    let mut rest = list;
+    while let Some(text) = rest {
+        let (part, behind) = split_part(text);
+        parts.push(part_of(version, part))?;
+        rest = behind;
     }
-    let number = 1000 * digit(*a) + 100 * digit(*b) + 10 * digit(*c) + digit(*d);
-    (number <= 4095).then_some(number)
+    Ok(parts)
 }
 
-fn digit(byte: u8) -> u32
-    requires { IsTrue (shows_digit byte) }
-    ensures { result ≡ byte - 48 }
+// A name, and in version 2 the accepted code behind a colon.
+fn part_of(version: Version, part: &[u8]) -> Part<'_>
+    ensures { part_data result ≡ cut version part.now }
 {
-    (byte - b'0') as u32
-}
-
-// The value of a hexadecimal digit in capitals.
-fn hex_digit(byte: u8) -> Option<u32>
-    ensures { result ≡ (if shows_hex byte then Some (value_of_hex byte) else None) }
-{
-    match byte {
-        b'0'..=b'9' => Some((byte - b'0') as u32),
-        b'A'..=b'F' => Some((byte - b'A') as u32 + 10),
-        _ => None,
-    }
-}
-
-// The number that three hexadecimal digits show, above 0.
-fn system_code(digits: &[u8]) -> Option<u32>
-    ensures { result ≡ system_code_of digits.now }
-{
-    let [a, b, c] = digits else { return None };
-    let number = 256 * hex_digit(*a)? + 16 * hex_digit(*b)? + hex_digit(*c)?;
-    (number > 0).then_some(number)
-}
-
-/// The end code of a job that ends by this code: `U` and a user code, or `S` and a system code.
-pub(crate) fn end_code(code: &[u8]) -> Option<u32>
-    ensures { result ≡ end_code_of code.now }
-{
-    match code {
-        [b'U', digits @ ..] => Some(ABENDED + user_code(digits)?),
-        [b'S', digits @ ..] => Some(ABENDED + 4096 * system_code(digits)?),
-        _ => None,
+    match version {
+        Version::One => Part {
+            name: part,
+            most: None,
+        },
+        Version::Two => {
+            let (name, most) = split_colon(part);
+            Part { name, most }
+        }
     }
 }

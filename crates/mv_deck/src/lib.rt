@@ -6,15 +6,17 @@
 mod deck;
 mod fault;
 mod form;
+mod held;
 mod laws;
 mod line;
-mod plain;
+mod names;
+mod operand;
+mod parts;
 mod reading;
 #[cfg(test)]
 mod tests;
 
-pub use deck::{Deck, Job, Name, Step, Text};
+pub use deck::{After, Deck, Job, Name, Step, Text};
 pub use fault::{DeckFault, DeckRefusal};
-pub use laws::first_fault_is_lowest;
-pub use plain::plain_first_fault;
+pub use laws::{decks_are_sound, first_fault_is_lowest};
 pub use reading::read_deck;

@@ -1,10 +1,11 @@
 //! Lines and fields of a text.
 
-ghost use Rattle.std.specs.Prelude.{◌≡◌, ◌==◌, ◌∷◌, ◌<◌, ◌≤◌, ℕ, List, length, not, option_map};
+ghost use Rattle.std.specs.Prelude.{◌≡◌, ◌==◌, [], ◌∷◌, ◌<◌, ◌≤◌, ℕ, List, length, not, option_map, MatchOption};
 ghost use Rattle.std.specs.Borrow.{Bor};
 ghost use Rattle.std.specs.List.{list_any, position, position_or_len};
-ghost use Rattle.mv_deck.specs.Statement.{is_within};
-ghost use Rattle.mv_deck.specs.Line.{lines_of, without_cr as text_without_cr, without_first_spaces as from_first_field, without_last_spaces as to_last_field, fields_of, starts_fields, one_of, two_of};
+ghost use Rattle.mv_deck.specs.Operand.{is_within};
+ghost use Rattle.mv_deck.specs.Form.{parts_behind};
+ghost use Rattle.mv_deck.specs.Line.{lines_of, without_cr as text_without_cr, without_first_spaces as from_first_field, without_last_spaces as to_last_field, fields_of, starts_fields, one_of, two_of, is_comment as comments, parts_of, before_colon, behind_colon};
 
 /// The longest line, in bytes without the CR that is dropped at its end: a card of the reader.
 pub(crate) const LONGEST_LINE: usize = 80;
@@ -91,6 +92,35 @@ pub(crate) fn two_fields(text: &[u8]) -> Option<(&[u8], &[u8])>
         return None;
     }
     Some((first, second))
+}
+
+/// Whether a text is a comment.
+pub(crate) fn is_comment(text: &[u8]) -> bool
+    ensures { result ≡ comments text.now }
+{
+    text.starts_with(b"//*")
+}
+
+/// The first part of a list, and the list of the other parts, if there are any.
+pub(crate) fn split_part(list: &[u8]) -> (&[u8], Option<&[u8]>)
+    ensures parts { parts_of list.now ≡ result.0.now ∷ parts_behind result.1 }
+    ensures shorter { MatchOption result.1 (Unit {0}) (λ rest. length rest.now < length list.now) }
+{
+    match first_place(list, b',') {
+        Some(place) => (&list[..place], Some(&list[place + 1..])),
+        None => (list, None),
+    }
+}
+
+/// A part of a list at its first colon: what stands before it, and what stands behind it.
+pub(crate) fn split_colon(part: &[u8]) -> (&[u8], Option<&[u8]>)
+    ensures front { result.0.now ≡ before_colon part.now }
+    ensures back { option_map (λ (t : Bor (List ℕ)). t.now) result.1 ≡ behind_colon part.now }
+{
+    match first_place(part, b':') {
+        Some(place) => (&part[..place], Some(&part[place + 1..])),
+        None => (part, None),
+    }
 }
 
 // Where a byte first stands in a text, if it does.

@@ -1,23 +1,38 @@
-//! The reader of decks: one pass over the bytes.
+//! The reader of decks: one pass over the bytes (`specs/Reading.antt`).
 
-ghost use Rattle.std.specs.Prelude.{◌≡◌, ◌<◌, ◌≤◌, ◌-◌, ◌^◌, ◌++◌, ◌||◌, List, [], ◌∷◌, ℕ, Bool, true, false, Some, None, length, option_to_list, is_some, MatchResult, IfOk, IfErr, OnOk, IsSome};
-ghost use Rattle.std.specs.List.{list_any};
-ghost use Rattle.mv_deck.specs.Statement.{Statement, statement_of};
-ghost use Rattle.mv_deck.specs.Deck.{deck_data, deck_of};
-ghost use Rattle.mv_deck.specs.Fault.{first_fault, TellsFirst, kinds_of, kinds_of_statement, is_misplaced, follows_abend, is_job, is_null, when};
-ghost use Rattle.mv_deck.specs.Form.{stated};
-ghost use Rattle.mv_deck.specs.declared.reading.LineRefusal.TheVariants.{NoMemory};
-ghost use Rattle.mv_deck.specs.Reading.{IsBehind, Tells, jobs_read, fresh_job, refusal_at};
+ghost use Rattle.std.specs.Prelude.{◌≡◌, ◌<◌, ◌≤◌, ◌-◌, ◌+◌, ◌^◌, ◌++◌, List, [], ◌∷◌, ℕ, true, false, map, Some, length, option_to_list, MatchResult, IfOk, IfErr, OnOk, IsSome, if◌then◌else◌};
+ghost use Rattle.std.specs.Str.{bytes_eq};
+ghost use Rattle.mv_deck.specs.Deck.{JobData, job_data, deck_data, deck_of, jobs_of, place_of, fresh_job, step_of};
+ghost use Rattle.mv_deck.specs.Fault.{first_fault, TellsFirst, kinds_of, kinds_of_statement};
+ghost use Rattle.mv_deck.specs.Form.{stated, part_data, listed};
+ghost use Rattle.mv_deck.specs.Held.{HasLatch, held, latches, is_end as ends_by};
+ghost use Rattle.mv_deck.specs.Names.{place_in};
+ghost use Rattle.mv_deck.specs.Reading.{IsBehind, IsGoodJob, Tells, jobs_read, refusal_at};
+ghost use Rattle.mv_deck.specs.Statement.{Statement, Null, DeckOf, JobOf, statement_of};
+ghost use Rattle.mv_deck.specs.Weight.{step_events as events_of_step};
 
-use crate::form::{Form, end_code, form_of, is_name};
-use crate::line::{LONGEST_LINE, has_foreign_byte, split_line, without_cr, without_last_spaces};
-use crate::{Deck, DeckFault, DeckRefusal, Job, Name, Step, Text};
-use std::alloc::{AllocError, AllocFailed, Global};
+use crate::fault::{Kind, LineRefusal};
+use crate::form::{Form, Part, Version, form_of, parts_of, version_of};
+use crate::held::Held;
+use crate::line::{
+    LONGEST_LINE, has_foreign_byte, is_comment, split_line, without_cr, without_last_spaces,
+};
+use crate::names::Names;
+use crate::operand::{amount, code, end_code, is_name, latch};
+use crate::parts::{has_bad_code, has_bad_name, has_double};
+use crate::{After, Deck, DeckFault, DeckRefusal, Job, Name, Step, Text};
+use std::alloc::{AllocError, Global};
 
-/// Reads a deck for a spool of so many initiators, 1 to 8; no statement of this stage asks how many.
+// The weight that a deck may have.
+const HEAVIEST: u64 = 524_287;
+// The jobs that an AFTER list may name.
+const MOST_AFTER: usize = 8;
+
+/// Reads a deck for a spool of so many initiators, 1 to 8.
 ///
-/// Lines, fields and faults are those of `docs/FORMATS.md`; names, the slashes and the null statement are those of z/OS MVS
-/// JCL Reference. Lines are counted from 1 in a `u32`, and so is the line behind the last: hence fewer than 2^32 - 1 bytes.
+/// Lines, fields and faults are those of `docs/FORMATS.md`; names, the slashes, comments and the null statement are those of
+/// z/OS MVS JCL Reference. Lines are counted from 1 in a `u32`, and so is the line behind the last: hence fewer than 2^32 - 1
+/// bytes. The time is linear in the bytes.
 ///
 /// # Errors
 ///
@@ -28,177 +43,323 @@ pub fn read_deck(alloc: Global, bytes: &[u8], initiators: u32) -> Result<Deck, D
     requires initiators { (1 ≤ initiators) × (initiators ≤ 8) }
 
     // What is read is the deck of a text without fault.
-    ensures deck { IfOk result (λ d. (first_fault bytes.now ≡ None) × (deck_data d ≡ deck_of bytes.now)) }
+    ensures deck { IfOk result (λ d. (first_fault bytes.now initiators ≡ None) × (deck_data d ≡ deck_of bytes.now)) }
     // The fault that is told is the first.
-    ensures fault { IfErr result (λ e. TellsFirst e (first_fault bytes.now)) }
+    ensures fault { IfErr result (λ e. TellsFirst e (first_fault bytes.now initiators)) }
 {
-    let mut reading = Reading::new(alloc);
+    let mut reading = Reading::new(alloc, initiators, version_of(bytes));
     let mut rest = bytes;
     let mut number = 1;
     while !rest.is_empty() {
         let (line, behind) = split_line(rest);
         if let Err(refusal) = reading.take_line(line) {
-            return Err(refusal.at(number));
+            return Err(refused(refusal, number));
         }
         rest = behind;
         number += 1;
     }
     if !reading.ended {
-        return Err(LineRefusal::Kind(12).at(number));
+        return Err(refused(LineRefusal::Has(Kind::NoNull), number));
     }
     Ok(reading.deck()?)
 }
 
+// The refusal of a deck that has it at this line.
+fn refused(refusal: LineRefusal, line: u32) -> DeckRefusal
+    ensures { result ≡ refusal_at line refusal }
+{
+    match refusal {
+        LineRefusal::Has(kind) => DeckRefusal::Fault(DeckFault {
+            line,
+            kind: kind.number(),
+        }),
+        LineRefusal::NoMemory => DeckRefusal::NoMemory,
+    }
+}
+
 // What the lines so far have stated.
 #[derive(Drop)]
-struct Reading {
+struct Reading<'a> {
     alloc: Global,
+    initiators: u32,
+    version: Version,
     // The jobs before the last one.
     finished: Vec<Job>,
-    // The name of the last job, which takes steps, once there is one.
+    // The last job, which takes steps, once there is one.
     name: Option<Name>,
+    after: Vec<After>,
     steps: Vec<Step>,
-    // Whether the last job has ended by an ABEND.
-    abended: bool,
+    // The places of all jobs.
+    names: Names<'a>,
+    // The latches that the last job holds.
+    held: Held,
+    // Whether the last job has ended by an ABEND or a RETURN.
+    closed: bool,
+    // What the deck may still weigh.
+    room: u64,
+    // Whether a statement was read.
+    stated: bool,
     // Whether the null statement was read.
     ended: bool,
 }
 
-impl Reading {
-    fn new(alloc: Global) -> Self
-        ensures { IsBehind [] result }
+impl<'a> Reading<'a> {
+    fn new(alloc: Global, initiators: u32, version: Version) -> Self
+        requires { initiators ≤ 8 }
+        ensures { IsBehind initiators version [] result }
     {
         Reading {
             alloc,
+            initiators,
+            version,
             finished: Vec::new(alloc),
             name: None,
+            after: Vec::new(alloc),
             steps: Vec::new(alloc),
-            abended: false,
+            names: Names::new(alloc),
+            held: Held::none(),
+            closed: false,
+            room: HEAVIEST - 9 * initiators as u64,
+            stated: false,
             ended: false,
         }
     }
 
     // Takes a line.
-    fn take_line(&mut self, line: &[u8]) -> Result<(), LineRefusal>
-        ensures { (earlier : List Statement) → IsBehind earlier self.old
+    fn take_line(&mut self, line: &'a [u8]) -> Result<(), LineRefusal>
+        ensures { (n : ℕ) (v : Version) (earlier : List Statement) → IsBehind n v earlier self.old
             → MatchResult result
-            (λ _. (kinds_of earlier line.now ≡ []) × IsBehind (earlier ++ option_to_list (statement_of line.now)) self.new)
-            (λ e. Tells e (kinds_of earlier line.now)) }
+            (λ _. (kinds_of n v earlier line.now ≡ []) × IsBehind n v (earlier ++ option_to_list (statement_of v line.now)) self.new)
+            (λ e. Tells e (kinds_of n v earlier line.now)) }
     {
         let content = without_cr(line);
         if has_foreign_byte(content) {
-            return Err(LineRefusal::Kind(1));
+            return Err(LineRefusal::Has(Kind::ForeignByte));
         }
         if content.len() > LONGEST_LINE {
-            return Err(LineRefusal::Kind(2));
+            return Err(LineRefusal::Has(Kind::TooLong));
         }
         let text = without_last_spaces(content);
-        if text.is_empty() {
+        if text.is_empty() || is_comment(text) {
             return Ok(());
         }
-        match form_of(text) {
-            None => Err(LineRefusal::Kind(3)),
+        match form_of(self.version, text) {
+            None => Err(LineRefusal::Has(Kind::NoForm)),
             Some(form) => self.take(form),
         }
     }
 
     // Takes a statement.
-    fn take(&mut self, form: Form) -> Result<(), LineRefusal>
-        ensures { (earlier : List Statement) → IsBehind earlier self.old
+    fn take(&mut self, form: Form<'a>) -> Result<(), LineRefusal>
+        ensures { (n : ℕ) (v : Version) (earlier : List Statement) → IsBehind n v earlier self.old
             → MatchResult result
-            (λ _. (kinds_of_statement earlier (Some (stated form.entry)) ≡ []) × IsBehind (earlier ++ stated form.entry ∷ []) self.new)
-            (λ e. Tells e (kinds_of_statement earlier (Some (stated form.entry)))) }
+            (λ _. (kinds_of_statement n earlier (Some (stated v form.entry)) ≡ []) × IsBehind n v (earlier ++ stated v form.entry ∷ []) self.new)
+            (λ e. Tells e (kinds_of_statement n earlier (Some (stated v form.entry)))) }
     {
         match form {
-            Form::Null => {
-                self.place(true)?;
-                self.ended = true;
-            }
-            Form::Job(name) => {
-                if !is_name(name) {
-                    return Err(LineRefusal::Kind(4));
-                }
-                self.place(true)?;
-                self.begin(name)?;
-            }
+            Form::Null => self.take_null(),
+            Form::Deck(word) => self.take_deck(word),
+            Form::Job(name, list) => self.take_job(name, list),
             Form::Print(text) => {
-                self.place(false)?;
-                self.add(Step::Print(Text {
-                    bytes: Vec::from_slice(self.alloc, text)?,
-                }))?;
+                let bytes = Vec::from_slice(self.alloc, text)?;
+                self.take_step(Step::Print(Text { bytes }))
             }
-            Form::Abend(code) => {
-                let Some(end) = end_code(code) else {
-                    return Err(LineRefusal::Kind(8));
-                };
-                self.place(false)?;
-                self.add(Step::Abend(end))?;
-                self.abended = true;
-            }
+            Form::Use(text, mode) => match latch(text) {
+                Some(latch) => self.take_step(Step::Use(latch, mode)),
+                None => Err(LineRefusal::Has(Kind::BadNumber)),
+            },
+            Form::Free(text) => match latch(text) {
+                Some(latch) => self.take_step(Step::Free(latch)),
+                None => Err(LineRefusal::Has(Kind::BadNumber)),
+            },
+            Form::Count(text, number) => match (latch(text), amount(number)) {
+                (Some(volume), Some(amount)) => self.take_step(Step::Count(volume, amount)),
+                _ => Err(LineRefusal::Has(Kind::BadNumber)),
+            },
+            Form::Scan(text) => match latch(text) {
+                Some(volume) => self.take_step(Step::Scan(volume)),
+                None => Err(LineRefusal::Has(Kind::BadNumber)),
+            },
+            Form::Abend(text) => match end_code(text) {
+                Some(end) => self.take_step(Step::Abend(end)),
+                None => Err(LineRefusal::Has(Kind::BadNumber)),
+            },
+            Form::Return(text) => match code(text) {
+                Some(code) => self.take_step(Step::Return(code)),
+                None => Err(LineRefusal::Has(Kind::BadNumber)),
+            },
         }
+    }
+
+    // Takes the null statement.
+    fn take_null(&mut self) -> Result<(), LineRefusal>
+        ensures { (n : ℕ) (v : Version) (earlier : List Statement) → IsBehind n v earlier self.old
+            → MatchResult result
+            (λ _. (kinds_of_statement n earlier (Some Null) ≡ []) × IsBehind n v (earlier ++ Null ∷ []) self.new)
+            (λ e. Tells e (kinds_of_statement n earlier (Some Null))) }
+    {
+        if self.ended {
+            return Err(LineRefusal::Has(Kind::Misplaced));
+        }
+        self.stated = true;
+        self.ended = true;
         Ok(())
     }
 
-    // Whether a statement may stand here; `opens` says that it is a JOB or the null statement.
-    fn place(&self, opens: bool) -> Result<(), LineRefusal>
-        ensures { (earlier : List Statement) (s : Statement) → IsBehind earlier self.now → (is_job s || is_null s) ≡ opens
+    // Takes a DECK with this word.
+    fn take_deck(&mut self, word: &[u8]) -> Result<(), LineRefusal>
+        ensures { (n : ℕ) (v : Version) (earlier : List Statement) → IsBehind n v earlier self.old
             → MatchResult result
-            (λ _. (is_misplaced earlier s ≡ false) × (follows_abend earlier s ≡ false))
-            (λ e. Tells e (when (is_misplaced earlier s) 11 ++ when (follows_abend earlier s) 13)) }
+            (λ _. (kinds_of_statement n earlier (Some (DeckOf word.now)) ≡ []) × IsBehind n v (earlier ++ DeckOf word.now ∷ []) self.new)
+            (λ e. Tells e (kinds_of_statement n earlier (Some (DeckOf word.now)))) }
     {
-        if self.ended || (self.name.is_none() && !opens) {
-            return Err(LineRefusal::Kind(11));
+        if word != b"2".as_slice() {
+            return Err(LineRefusal::Has(Kind::BadNumber));
         }
-        if self.abended && !opens {
-            return Err(LineRefusal::Kind(13));
+        if self.ended {
+            return Err(LineRefusal::Has(Kind::Misplaced));
+        }
+        if self.closed {
+            return Err(LineRefusal::Has(Kind::BehindEnd));
+        }
+        if self.stated {
+            return Err(LineRefusal::Has(Kind::LateDeck));
+        }
+        self.stated = true;
+        Ok(())
+    }
+
+    // Takes a JOB of this name, after the jobs of this list.
+    fn take_job(&mut self, name: &'a [u8], list: Option<&'a [u8]>) -> Result<(), LineRefusal>
+        ensures { (n : ℕ) (v : Version) (earlier : List Statement) → IsBehind n v earlier self.old
+            → MatchResult result
+            (λ _. (kinds_of_statement n earlier (Some (JobOf name.now (listed v list.entry))) ≡ [])
+            × IsBehind n v (earlier ++ JobOf name.now (listed v list.entry) ∷ []) self.new)
+            (λ e. Tells e (kinds_of_statement n earlier (Some (JobOf name.now (listed v list.entry))))) }
+    {
+        let parts = parts_of(self.alloc, self.version, list)?;
+        if let Err(refusal) = self.check_job(name, &parts) {
+            return Err(refusal);
+        }
+        let weight = 8 + 9 * self.initiators as u64 + 2 * parts.len() as u64;
+        if weight > self.room || self.finished.len() as u64 > HEAVIEST {
+            return Err(LineRefusal::Has(Kind::TooHeavy));
+        }
+        self.begin(name, &parts)?;
+        self.room -= weight;
+        Ok(())
+    }
+
+    // Tells the lowest kind of fault of a JOB, but for its weight.
+    fn check_job(&self, name: &'a [u8], parts: &[Part<'a>]) -> Result<(), LineRefusal>
+        ensures few { OnOk result (length parts.now ≤ 8) }
+        ensures kinds { (n : ℕ) (v : Version) (earlier : List Statement) → IsBehind n v earlier self.now
+            → MatchResult result
+            (λ _. IsGoodJob earlier (jobs_of earlier) (JobOf name.now (map part_data parts.now)))
+            (λ e. Tells e (kinds_of_statement n earlier (Some (JobOf name.now (map part_data parts.now))))) }
+    {
+        if !is_name(name) || has_bad_name(parts) {
+            return Err(LineRefusal::Has(Kind::BadName));
+        }
+        if self.ended {
+            let kind = if has_bad_code(parts) {
+                Kind::BadNumber
+            } else {
+                Kind::Misplaced
+            };
+            return Err(LineRefusal::Has(kind));
+        }
+        if self.names.place(name).is_some() {
+            return Err(LineRefusal::Has(Kind::RepeatedName));
+        }
+        if self.names.lacks_one(parts) {
+            return Err(LineRefusal::Has(Kind::UnknownAfter));
+        }
+        if parts.len() > MOST_AFTER || has_double(parts) {
+            return Err(LineRefusal::Has(Kind::CrowdedAfter));
+        }
+        if has_bad_code(parts) {
+            return Err(LineRefusal::Has(Kind::BadNumber));
         }
         Ok(())
     }
 
     // Begins a job.
-    fn begin(&mut self, name: &[u8]) -> Result<(), AllocError>
-        ensures jobs { OnOk result (jobs_read self.new ≡ jobs_read self.old ++ fresh_job name.now [] ∷ []) }
+    fn begin(&mut self, name: &'a [u8], parts: &[Part<'a>]) -> Result<(), AllocError>
+        requires { length self.now.finished.items ≤ 524287 }
+        ensures jobs { (jobs : List JobData) → ((q : List ℕ) → place_in self.old.names q ≡ place_of jobs q) → jobs_read self.old ≡ jobs
+            → OnOk result (jobs_read self.new ≡ jobs ++ fresh_job jobs name.now (map part_data parts.now) ∷ []) }
+        ensures names { (jobs : List JobData) → jobs_read self.old ≡ jobs
+            → OnOk result ((q : List ℕ) → place_in self.new.names q ≡ (if bytes_eq name.now q then Some (length jobs) else place_in self.old.names q)) }
         ensures begun { OnOk result (IsSome self.new.name) }
-        ensures rest { OnOk result ((self.new.abended ≡ false) × (self.new.ended ≡ self.old.ended)) }
+        ensures held { OnOk result (self.new.held.modes ≡ map (held []) latches) }
+        ensures flags { OnOk result ((self.new.closed ≡ false) × (self.new.stated ≡ true) × (self.new.ended ≡ self.old.ended)) }
+        ensures rest { OnOk result ((self.new.room ≡ self.old.room) × (self.new.initiators ≡ self.old.initiators) × (self.new.version ≡ self.old.version)) }
     {
+        let after = self.names.after(self.alloc, parts)?;
         self.finish()?;
+        let place = self.finished.len();
+        self.names.give(name, place as u32)?;
         self.name = Some(Name {
             bytes: Vec::from_slice(self.alloc, name)?,
         });
-        self.abended = false;
+        self.after = after;
+        self.held = Held::none();
+        self.closed = false;
+        self.stated = true;
         Ok(())
     }
 
-    // Adds a step to the last job.
-    fn add(&mut self, step: Step) -> Result<(), AllocError>
-        ensures added { OnOk result (self.new.steps.items ≡ self.old.steps.items ++ step ∷ []) }
-        ensures rest { OnOk result ((self.new.name ≡ self.old.name) × (self.new.finished ≡ self.old.finished)
-            × (self.new.abended ≡ self.old.abended) × (self.new.ended ≡ self.old.ended)) }
+    // Takes a step of the last job.
+    fn take_step(&mut self, step: Step) -> Result<(), LineRefusal>
+        requires { HasLatch step }
+        ensures { (n : ℕ) (v : Version) (earlier : List Statement) (s : Statement) → IsBehind n v earlier self.old → step_of s ≡ Some step
+            → MatchResult result
+            (λ _. (kinds_of_statement n earlier (Some s) ≡ []) × IsBehind n v (earlier ++ s ∷ []) self.new)
+            (λ e. Tells e (kinds_of_statement n earlier (Some s))) }
     {
+        if self.ended || self.name.is_none() {
+            return Err(LineRefusal::Has(Kind::Misplaced));
+        }
+        if self.closed {
+            return Err(LineRefusal::Has(Kind::BehindEnd));
+        }
+        if self.held.is_out_of_order(&step) {
+            return Err(LineRefusal::Has(Kind::LatchOrder));
+        }
+        if self.held.lacks_latch(&step) {
+            return Err(LineRefusal::Has(Kind::LatchNotHeld));
+        }
+        let weight = self.initiators as u64 * step_events(&step);
+        if weight > self.room {
+            return Err(LineRefusal::Has(Kind::TooHeavy));
+        }
+        self.room -= weight;
+        self.held.follow(&step);
+        self.closed = is_end(&step);
         self.steps.push(step)?;
         Ok(())
     }
 
     // Puts the last job to those before it.
     fn finish(&mut self) -> Result<(), AllocError>
-        ensures jobs { OnOk result (jobs_read self.new ≡ jobs_read self.old) }
-        ensures closed { OnOk result ((self.new.name ≡ None) × (self.new.steps.items ≡ [])) }
-        ensures rest { OnOk result ((self.new.abended ≡ self.old.abended) × (self.new.ended ≡ self.old.ended)) }
+        ensures jobs { OnOk result (map job_data self.new.finished.items ≡ jobs_read self.old) }
+        ensures steps { OnOk result (self.new.steps.items ≡ []) }
+        ensures flags { OnOk result ((self.new.closed ≡ self.old.closed) × (self.new.stated ≡ self.old.stated) × (self.new.ended ≡ self.old.ended)) }
+        ensures rest { OnOk result ((self.new.room ≡ self.old.room) × (self.new.initiators ≡ self.old.initiators) × (self.new.version ≡ self.old.version) × (self.new.names ≡ self.old.names)) }
+        ensures bound { OnOk result (length self.new.finished.items ≤ length self.old.finished.items + 1) }
     {
         let steps = std::mem::replace(&mut self.steps, Vec::new(self.alloc));
+        let after = std::mem::replace(&mut self.after, Vec::new(self.alloc));
         if let Some(name) = self.name.take() {
-            self.finished.push(Job {
-                name,
-                after: Vec::new(self.alloc),
-                steps,
-            })?;
+            self.finished.push(Job { name, after, steps })?;
         }
         Ok(())
     }
 
     // The deck of all lines.
     fn deck(mut self) -> Result<Deck, AllocError>
-        ensures { IfOk result (λ d. deck_data d ≡ jobs_read self) }
+        ensures { IfOk result (λ d. deck_data d ≡ jobs_read self.entry) }
     {
         self.finish()?;
         Ok(Deck {
@@ -207,38 +368,25 @@ impl Reading {
     }
 }
 
-// Why a line was not taken.
-#[derive(Clone, Copy)]
-enum LineRefusal {
-    // The lowest kind of its faults.
-    Kind(u32),
-    NoMemory,
-}
-
-impl LineRefusal {
-    // The refusal of a deck that has it at this line.
-    fn at(self, line: u32) -> DeckRefusal
-        ensures { result ≡ refusal_at line self }
-    {
-        match self {
-            LineRefusal::Kind(kind) => DeckRefusal::Fault(DeckFault { line, kind }),
-            LineRefusal::NoMemory => DeckRefusal::NoMemory,
-        }
+// The events of a step at most.
+fn step_events(step: &Step) -> u64
+    ensures events { result ≡ events_of_step step.now }
+    ensures few { result ≤ 2 }
+{
+    match step {
+        Step::Use(_, _) | Step::Count(_, _) | Step::Scan(_) => 2,
+        Step::Free(_) => 1,
+        Step::Print(_) | Step::Abend(_) | Step::Return(_) => 0,
     }
 }
 
-impl From<AllocError> for LineRefusal {
-    ghost from_gives = { λ _ e. e ≡ NoMemory };
-
-    fn from(_: AllocError) -> Self {
-        LineRefusal::NoMemory
-    }
-}
-
-impl<T: Drop> From<AllocFailed<T>> for LineRefusal {
-    ghost from_gives = { λ _ e. e ≡ NoMemory };
-
-    fn from(_: AllocFailed<T>) -> Self {
-        LineRefusal::NoMemory
+// Whether a job ends by this step.
+fn is_end(step: &Step) -> bool
+    ensures { result ≡ ends_by step.now }
+{
+    match step {
+        Step::Abend(_) | Step::Return(_) => true,
+        Step::Print(_) | Step::Use(_, _) | Step::Free(_) | Step::Count(_, _) | Step::Scan(_) =>
+            false,
     }
 }

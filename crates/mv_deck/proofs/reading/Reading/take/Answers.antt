@@ -1,37 +1,52 @@
-use Rattle.std.proofs.Common.{◌≡◌, Some, refl, sym, ap, ◌∙◌, rules}
-use Rattle.std.specs.Prelude.{is_none, unwrap_or}
-use Rattle.mv_deck.specs.declared.deck.Step.TheVariants.{Print, Abend}
-use Rattle.mv_deck.specs.Statement.{Null, JobOf, PrintOf, AbendOf, end_code_of}
-use Rattle.mv_deck.proofs.Statements.{abended_by_print, abended_by_abend}
-use Rattle.mv_deck.proofs.Behind.{no_kinds, behind_null, behind_job, behind_step}
+use Rattle.std.proofs.Common.{◌≡◌, Some, List, ℕ, Option, option_map, sym, ap, ◌∙◌}
+use Rattle.std.specs.Option.{option_and_then}
+use Rattle.mv_deck.specs.declared.deck.Step.TheVariants.{Print, Use, Free, Count, Scan, Abend, Return}
+use Rattle.mv_deck.specs.Operand.{amount_of}
+use Rattle.mv_deck.specs.Statement.{PrintOf, UseOf, FreeOf, CountOf, ScanOf, AbendOf, ReturnOf}
 use Rattle.mv_deck.proofs.reading.Reading.take.Goals as goal
 
-pub returns-in_ok-place-in-Null : goal.returns-in_ok-place-in-Null
-returns-in_ok-place-in-Null c = λ earlier b.
-    let p = c.in_ok-place-in-Null.ensures earlier Null b refl in
-    rw c.in-Null.is (no_kinds earlier Null refl refl p.0 p.1, behind_null earlier c.args.self.now b)
+pub returns-in-Null : goal.returns-in-Null
+returns-in-Null c = λ n v earlier b. rw c.in-Null.is (c.take_null.ensures n v earlier b)
 
-pub returns-in_ok-begin-in-Job : goal.returns-in_ok-begin-in-Job
-returns-in_ok-begin-in-Job c = λ earlier b.
-    let name = c.in-Job.name.now in
-    let p = c.in_ok-place-in-Job.ensures earlier (JobOf name) b refl in
-    let e = c.in_ok-begin-in-Job.ensures in
-    rw c.in-Job.is
-    (no_kinds earlier (JobOf name) (search rules) refl p.0 p.1, behind_job earlier c.args.self.now c.begin.new.self name b e.jobs e.begun e.rest.0 e.rest.1)
+pub returns-in-Deck : goal.returns-in-Deck
+returns-in-Deck c = λ n v earlier b. rw c.in-Deck.is (c.take_deck.ensures n v earlier b)
 
-pub returns-in_ok-add-in-Print : goal.returns-in_ok-add-in-Print
-returns-in_ok-add-in-Print c = λ earlier b.
-    let text = c.in-Print.text.now in
-    let p = c.in_ok-place-in-Print.ensures earlier (PrintOf text) b refl in
-    let e = c.in_ok-add-in-Print.ensures in
+pub returns-in-Job : goal.returns-in-Job
+returns-in-Job c = λ n v earlier b. rw c.in-Job.is (c.take_job.ensures n v earlier b)
+
+pub returns-in_ok-bytes-in-Print : goal.returns-in_ok-bytes-in-Print
+returns-in_ok-bytes-in-Print c = λ n v earlier b.
     rw c.in-Print.is
-    (no_kinds earlier (PrintOf text) refl refl p.0 p.1, behind_step earlier (PrintOf text) (Print text) c.args.self.now c.add.new.self b refl p.0 (cc (e.added, c.in_ok-from_slice-in-Print.ensures.items)) e.rest.0 e.rest.1 e.rest.3 (e.rest.2 ∙ b.abended ∙ sym (abended_by_print earlier text)))
+    (c.take_step.ensures n v earlier (PrintOf c.in-Print.text.now) b (ap (λ (x : List ℕ). Some (Print x)) (sym c.in_ok-bytes-in-Print.ensures.items)))
 
-pub returns-in_ok-add-in-Abend : goal.returns-in_ok-add-in-Abend
-returns-in_ok-add-in-Abend c = λ earlier b.
-    let code = c.in-Abend.code.now in
-    let p = c.in_ok-place-in-Abend.ensures earlier (AbendOf code) b refl in
-    let e = c.in_ok-add-in-Abend.ensures in
-    let some : end_code_of code ≡ Some c.in-Some.end = cc (c.end_code.ensures, c.in-Some.is) in
+pub returns-in-Some : goal.returns-in-Some
+returns-in-Some c = λ n v earlier b.
+    rw c.in-Use.is
+    (c.take_step-in-Some.ensures n v earlier (UseOf c.in-Use.text.now c.in-Use.mode) b (ap (option_map (λ l. Use l c.in-Use.mode)) (sym c.latch.ensures.number ∙ c.in-Some.is)))
+
+pub returns-in-Some-latch : goal.returns-in-Some-latch
+returns-in-Some-latch c = λ n v earlier b.
+    rw c.in-Free.is
+    (c.take_step-in-Some-latch.ensures n v earlier (FreeOf c.in-Free.text.now) b (ap (option_map Free) (sym c.latch-in-Free.ensures.number ∙ c.in-Some-latch.is)))
+
+pub returns-in-Some-Some : goal.returns-in-Some-Some
+returns-in-Some-Some c = λ n v earlier b.
+    rw c.in-Count.is
+    (c.take_step-in-Some-Some.ensures n v earlier (CountOf c.in-Count.text.now c.in-Count.number.now) b
+    (ap (option_and_then (λ l. option_map (Count l) (amount_of c.in-Count.number.now))) (sym c.latch-in-Count.ensures.number ∙ c.in-Some-Some.is-0)
+    ∙ ap (option_map (Count c.in-Some-Some.volume)) (sym c.amount.ensures ∙ c.in-Some-Some.is-1)))
+
+pub returns-in-Some-latch-2 : goal.returns-in-Some-latch-2
+returns-in-Some-latch-2 c = λ n v earlier b.
+    rw c.in-Scan.is
+    (c.take_step-in-Some-latch-2.ensures n v earlier (ScanOf c.in-Scan.text.now) b (ap (option_map Scan) (sym c.latch-in-Scan.ensures.number ∙ c.in-Some-latch-2.is)))
+
+pub returns-in-Some-end_code : goal.returns-in-Some-end_code
+returns-in-Some-end_code c = λ n v earlier b.
     rw c.in-Abend.is
-    (no_kinds earlier (AbendOf code) refl (ap is_none some) p.0 p.1, behind_step earlier (AbendOf code) (Abend (unwrap_or (end_code_of code) 0)) c.args.self.now _ b refl p.0 (rw some e.added) e.rest.0 e.rest.1 e.rest.3 (sym (abended_by_abend earlier code)))
+    (c.take_step-in-Some-end_code.ensures n v earlier (AbendOf c.in-Abend.text.now) b (ap (option_map Abend) (sym c.end_code.ensures ∙ c.in-Some-end_code.is)))
+
+pub returns-in-Some-code : goal.returns-in-Some-code
+returns-in-Some-code c = λ n v earlier b.
+    rw c.in-Return.is
+    (c.take_step-in-Some-code.ensures n v earlier (ReturnOf c.in-Return.text.now) b (ap (option_map Return) (sym c.code.ensures ∙ c.in-Some-code.is)))

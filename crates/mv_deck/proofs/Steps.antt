@@ -1,0 +1,62 @@
+-- Statements that are steps of a job.
+use Rattle.std.proofs.Common.{◌≡◌, ℕ, Bool, true, false, not, ◌&&◌, ◌||◌, List, [], ◌++◌, Option, Some, None, refl, sym, ap, ◌∙◌}
+use Rattle.std.specs.Prelude.{nat_lt}
+use Rattle.std.specs.List.{list_any}
+use Rattle.mv_deck.specs.declared.deck.Step.{Step}
+use Rattle.mv_deck.specs.declared.deck.Step.TheVariants.{Print}
+use Rattle.mv_deck.specs.declared.fault.Kind.TheVariants.{LatchOrder, LatchNotHeld, Misplaced, BehindEnd, TooHeavy}
+use Rattle.mv_deck.specs.Statement.{Statement, Null, DeckOf, JobOf, PrintOf, UseOf, FreeOf, CountOf, ScanOf, AbendOf, ReturnOf}
+use Rattle.mv_deck.specs.Deck.{JobData, step_of, with_step, jobs_behind, last_steps}
+use Rattle.mv_deck.specs.Held.{is_out_of_order, lacks_latch, is_end}
+use Rattle.mv_deck.specs.Weight.{weight, heaviest}
+use Rattle.mv_deck.specs.Fault.{is_null, is_job, is_deck, has_bad_number, kinds_behind, when, first_of_list}
+
+-- the kinds of fault of a step behind these jobs
+abbrev pub kinds_of_step : ℕ → Bool → List JobData → Step → List ℕ
+kinds_of_step n misplaced jobs step =
+    let ended = list_any is_end (last_steps jobs) && true in
+    let asked = not misplaced && not ended in
+    when (is_out_of_order (last_steps jobs) step && asked) LatchOrder
+    ++ (when (lacks_latch (last_steps jobs) step && asked) LatchNotHeld
+    ++ (when misplaced Misplaced
+    ++ (when (ended && not misplaced) BehindEnd
+    ++ (when (nat_lt heaviest (weight (with_step jobs step) n) && asked) TooHeavy ++ []))))
+
+-- where a step may not stand
+abbrev pub is_outside : List Statement → Bool
+is_outside earlier = list_any is_null earlier || (not (list_any is_job earlier) && true)
+
+-- what a statement that is a step is not, and what it does
+pub record IsStep (s : Statement) (step : Step) : Type 0 where
+  pub no_job : is_job s ≡ false
+  pub no_null : is_null s ≡ false
+  pub no_deck : is_deck s ≡ false
+  pub behind : (jobs : List JobData) → jobs_behind jobs s ≡ with_step jobs step
+  pub kinds : (n : ℕ) (earlier : List Statement) (jobs : List JobData) → kinds_behind n earlier jobs s ≡ kinds_of_step n (is_outside earlier) jobs step
+
+pub is_step : (s : Statement) (step : Step) → step_of s ≡ Some step → IsStep s step
+is_step Null step e = absurd cc
+is_step (DeckOf version) step e = absurd cc
+is_step (JobOf name after) step e = absurd cc
+is_step (PrintOf text) step e =
+    let same : Print text ≡ step = cc in
+    record { no_job = refl; no_null = refl; no_deck = refl; behind = λ jobs. ap (with_step jobs) same; kinds = λ n earlier jobs. ap (kinds_of_step n (is_outside earlier) jobs) same }
+is_step (UseOf latch mode) step e = record { no_job = refl; no_null = refl; no_deck = refl; behind = λ jobs. rw e refl; kinds = λ n earlier jobs. rw e refl }
+is_step (FreeOf latch) step e = record { no_job = refl; no_null = refl; no_deck = refl; behind = λ jobs. rw e refl; kinds = λ n earlier jobs. rw e refl }
+is_step (CountOf volume amount) step e = record { no_job = refl; no_null = refl; no_deck = refl; behind = λ jobs. rw e refl; kinds = λ n earlier jobs. rw e refl }
+is_step (ScanOf volume) step e = record { no_job = refl; no_null = refl; no_deck = refl; behind = λ jobs. rw e refl; kinds = λ n earlier jobs. rw e refl }
+is_step (AbendOf code) step e = record { no_job = refl; no_null = refl; no_deck = refl; behind = λ jobs. rw e refl; kinds = λ n earlier jobs. rw e refl }
+is_step (ReturnOf code) step e = record { no_job = refl; no_null = refl; no_deck = refl; behind = λ jobs. rw e refl; kinds = λ n earlier jobs. rw e refl }
+
+-- a statement without a name has no lower fault than a bad number
+pub bad_number : (n : ℕ) (earlier : List Statement) (jobs : List JobData) (s : Statement) → is_job s ≡ false → has_bad_number s ≡ true → first_of_list (kinds_behind n earlier jobs s) ≡ Some 8
+bad_number n earlier jobs Null j e = absurd cc
+bad_number n earlier jobs (DeckOf version) j e = rw e refl
+bad_number n earlier jobs (JobOf name after) j e = absurd cc
+bad_number n earlier jobs (PrintOf text) j e = absurd cc
+bad_number n earlier jobs (UseOf latch mode) j e = rw e refl
+bad_number n earlier jobs (FreeOf latch) j e = rw e refl
+bad_number n earlier jobs (CountOf volume amount) j e = rw e refl
+bad_number n earlier jobs (ScanOf volume) j e = rw e refl
+bad_number n earlier jobs (AbendOf code) j e = rw e refl
+bad_number n earlier jobs (ReturnOf code) j e = rw e refl

@@ -1,0 +1,75 @@
+-- The latches that a job holds behind some of its steps, and where a step may stand by them.
+use Rattle.std.specs.Prelude.{ℕ, ◌≤◌, ◌==◌, Bool, true, false, not, List, [], ◌∷◌, drop, map, fold, Option, Some, None, is_none, is_some, if◌then◌else◌}
+use Rattle.std.specs.List.{list_any}
+use Rattle.mv_latch.specs.declared.request.Mode.{Mode}
+use Rattle.mv_latch.specs.declared.request.Mode.TheVariants.{Shared, Exclusive}
+use Rattle.mv_deck.specs.Operand.{highest_latch}
+use Rattle.mv_deck.specs.declared.deck.Step.{Step}
+use Rattle.mv_deck.specs.declared.deck.Step.TheVariants.{Print, Use, Free, Count, Scan, Abend, Return}
+
+-- the latch that a step names is one of the eight
+abbrev pub HasLatch : Step → Type 0
+HasLatch (Print text) = Unit {0}
+HasLatch (Use latch mode) = latch ≤ highest_latch
+HasLatch (Free latch) = latch ≤ highest_latch
+HasLatch (Count volume amount) = volume ≤ highest_latch
+HasLatch (Scan volume) = volume ≤ highest_latch
+HasLatch (Abend code) = Unit {0}
+HasLatch (Return code) = Unit {0}
+
+-- how a latch is held behind one more step, if it is
+abbrev pub held_behind : ℕ → Option Mode → Step → Option Mode
+held_behind latch mode (Print text) = mode
+held_behind latch mode (Use used by) = if used == latch then Some by else mode
+held_behind latch mode (Free freed) = if freed == latch then None else mode
+held_behind latch mode (Count volume amount) = mode
+held_behind latch mode (Scan volume) = mode
+held_behind latch mode (Abend code) = mode
+held_behind latch mode (Return code) = mode
+
+-- How a job holds a latch behind these steps: by its last USE, unless a FREE stands behind that.
+abbrev pub held : List Step → ℕ → Option Mode
+held steps latch = fold (held_behind latch) None steps
+
+abbrev pub latches : List ℕ
+latches = 0 ∷ 1 ∷ 2 ∷ 3 ∷ 4 ∷ 5 ∷ 6 ∷ 7 ∷ []
+
+-- whether a job holds this latch or one above it
+abbrev pub holds_from : List Step → ℕ → Bool
+holds_from steps latch = list_any (λ l. is_some (held steps l)) (drop latch latches)
+
+abbrev pub is_exclusive : Option Mode → Bool
+is_exclusive None = false
+is_exclusive (Some Shared) = false
+is_exclusive (Some Exclusive) = true
+
+-- a USE of a latch that is not above every latch that the job holds
+abbrev pub is_out_of_order : List Step → Step → Bool
+is_out_of_order done (Print text) = false
+is_out_of_order done (Use latch mode) = holds_from done latch
+is_out_of_order done (Free latch) = false
+is_out_of_order done (Count volume amount) = false
+is_out_of_order done (Scan volume) = false
+is_out_of_order done (Abend code) = false
+is_out_of_order done (Return code) = false
+
+-- a FREE of a latch that is not held, a COUNT of a volume whose latch is not held exclusive, or a SCAN of one whose latch is
+-- not held
+abbrev pub lacks_latch : List Step → Step → Bool
+lacks_latch done (Print text) = false
+lacks_latch done (Use latch mode) = false
+lacks_latch done (Free latch) = is_none (held done latch)
+lacks_latch done (Count volume amount) = not (is_exclusive (held done volume))
+lacks_latch done (Scan volume) = is_none (held done volume)
+lacks_latch done (Abend code) = false
+lacks_latch done (Return code) = false
+
+-- whether a job ends by this step
+abbrev pub is_end : Step → Bool
+is_end (Print text) = false
+is_end (Use latch mode) = false
+is_end (Free latch) = false
+is_end (Count volume amount) = false
+is_end (Scan volume) = false
+is_end (Abend code) = true
+is_end (Return code) = true

@@ -1,0 +1,111 @@
+-- What may stand in the places of names, numbers and codes.
+use Rattle.std.specs.Prelude.{ℕ, ◌+◌, ◌-◌, ◌*◌, ◌^◌, Bool, false, ◌==◌, ◌&&◌, ◌||◌, nat_le, nat_lt, List, [], ◌∷◌, length, Option, Some, None, option_map, codes, if◌then◌else◌}
+use Rattle.std.specs.List.{list_all}
+use Rattle.std.specs.Str.{bytes_eq}
+use Rattle.mv_latch.specs.declared.request.Mode.{Mode}
+use Rattle.mv_latch.specs.declared.request.Mode.TheVariants.{Shared, Exclusive}
+
+-- ---- limits
+
+abbrev pub highest_latch : ℕ
+highest_latch = 7
+
+abbrev pub highest_amount : ℕ
+highest_amount = 9999
+
+abbrev pub highest_code : ℕ
+highest_code = 4095
+
+abbrev pub most_after : ℕ
+most_after = 8
+
+-- ---- names
+
+abbrev pub is_within : ℕ → ℕ → ℕ → Bool
+is_within low high b = nat_le low b && nat_le b high
+
+abbrev pub is_digit : ℕ → Bool
+is_digit b = is_within 48 57 b
+
+-- `A` to `Z`, `@`, `#`, `$`
+abbrev pub is_name_start : ℕ → Bool
+is_name_start b = is_within 64 90 b || is_within 35 36 b
+
+abbrev pub is_name_byte : ℕ → Bool
+is_name_byte b = is_name_start b || is_digit b
+
+-- one to eight bytes of a name, the first no digit
+abbrev pub is_name : List ℕ → Bool
+is_name [] = false
+is_name (b ∷ bs) = is_name_start b && list_all is_name_byte bs && nat_lt (length bs) 8
+
+-- ---- numbers
+
+-- the number that these digits show behind some that show so much
+abbrev pub value_behind : ℕ → List ℕ → ℕ
+value_behind shown [] = shown
+value_behind shown (d ∷ digits) = value_behind (10 * shown + (d - 48)) digits
+
+-- One to four digits, the first not 0 where there are more. No number of a deck has five.
+abbrev pub is_number : List ℕ → Bool
+is_number [] = false
+is_number (d ∷ []) = is_digit d
+is_number (d ∷ e ∷ digits) = is_within 49 57 d && list_all is_digit (e ∷ digits) && nat_lt (length digits) 3
+
+abbrev pub number_of : List ℕ → Option ℕ
+number_of text = if is_number text then Some (value_behind 0 text) else None
+
+-- a number where it is within these
+abbrev pub within : ℕ → ℕ → Option ℕ → Option ℕ
+within low high None = None
+within low high (Some n) = if is_within low high n then Some n else None
+
+-- the number of a latch or a volume
+abbrev pub latch_of : List ℕ → Option ℕ
+latch_of text = within 0 highest_latch (number_of text)
+
+abbrev pub amount_of : List ℕ → Option ℕ
+amount_of text = within 1 highest_amount (number_of text)
+
+-- a return code, or an accepted one
+abbrev pub code_of : List ℕ → Option ℕ
+code_of text = within 0 highest_code (number_of text)
+
+-- `S` or `X`
+abbrev pub mode_of : List ℕ → Option Mode
+mode_of text = if bytes_eq text (codes "S") then Some Shared else if bytes_eq text (codes "X") then Some Exclusive else None
+
+-- ---- codes of an ABEND
+
+-- the value of a digit, 0 to 9 and A to F
+abbrev pub is_hex : ℕ → Bool
+is_hex b = is_digit b || is_within 65 70 b
+
+abbrev pub hex_value : ℕ → ℕ
+hex_value b = if is_digit b then b - 48 else b - 55
+
+-- the end code of a job that ends with this system and this user code
+abbrev pub abended : ℕ → ℕ → ℕ
+abended system user = 2 ^ 24 + 4096 * system + user
+
+-- four digits, up to 4095
+abbrev pub user_code_of : List ℕ → Option ℕ
+user_code_of (a ∷ b ∷ c ∷ d ∷ []) =
+    let n = 1000 * (a - 48) + 100 * (b - 48) + 10 * (c - 48) + (d - 48) in
+    if list_all is_digit (a ∷ b ∷ c ∷ d ∷ []) && nat_le n highest_code then Some n else None
+user_code_of _ = None
+
+-- three hexadecimal digits, not all 0
+abbrev pub system_code_of : List ℕ → Option ℕ
+system_code_of (a ∷ b ∷ c ∷ []) =
+    let n = 256 * hex_value a + 16 * hex_value b + hex_value c in
+    if list_all is_hex (a ∷ b ∷ c ∷ []) && nat_lt 0 n then Some n else None
+system_code_of _ = None
+
+-- the end code that a code stands for: `Udddd` or `Shhh`
+abbrev pub end_code_of : List ℕ → Option ℕ
+end_code_of [] = None
+end_code_of (letter ∷ digits) =
+    if letter == 85 then option_map (λ user. abended 0 user) (user_code_of digits)
+    else if letter == 83 then option_map (λ system. abended system 0) (system_code_of digits)
+    else None

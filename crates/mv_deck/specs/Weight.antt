@@ -1,0 +1,32 @@
+-- The weight of a deck: how many events its run has at most.
+use Rattle.std.specs.Prelude.{ℕ, ◌+◌, ◌*◌, List, length, sum_by}
+use Rattle.mv_deck.specs.declared.deck.Step.{Step}
+use Rattle.mv_deck.specs.declared.deck.Step.TheVariants.{Print, Use, Free, Count, Scan, Abend, Return}
+use Rattle.mv_deck.specs.Deck.{JobData}
+
+-- a deck of more than this weight is not run
+abbrev pub heaviest : ℕ
+heaviest = 524287
+
+-- the events of a step at most
+abbrev pub step_events : Step → ℕ
+step_events (Print text) = 0
+step_events (Use latch mode) = 2
+step_events (Free latch) = 1
+step_events (Count volume amount) = 2
+step_events (Scan volume) = 2
+step_events (Abend code) = 0
+step_events (Return code) = 0
+
+-- the events of all steps
+abbrev pub all_events : List JobData → ℕ
+all_events jobs = sum_by (λ j. sum_by step_events j.steps) jobs
+
+-- the AFTER parts of all jobs
+abbrev pub after_parts : List JobData → ℕ
+after_parts jobs = sum_by (λ j. length j.after) jobs
+
+-- the weight of a deck for so many initiators
+abbrev pub weight : List JobData → ℕ → ℕ
+weight jobs initiators =
+    8 * length jobs + 9 * initiators + 9 * length jobs * initiators + 2 * after_parts jobs + initiators * all_events jobs

@@ -1,0 +1,150 @@
+//! What may stand in the places of names, numbers and codes (`specs/Operand.antt`).
+
+ghost use Rattle.std.specs.Prelude.{◌≡◌, ◌-◌, ◌≤◌, IfSome, Some, None, if◌then◌else◌};
+ghost use Rattle.std.specs.List.{list_all};
+ghost use Rattle.mv_deck.specs.Operand.{highest_latch, is_name_start as starts_name, is_name_byte as stands_in_name, is_name as names_job, is_digit as shows_digit, is_hex as shows_hex, hex_value as value_of_hex, number_of, within as is_number_within, latch_of, amount_of, code_of, mode_of, user_code_of, system_code_of, end_code_of};
+
+use mv_latch::Mode;
+
+// The highest number of a latch, and of the volume that it guards.
+const HIGHEST_LATCH: u32 = 7;
+
+const HIGHEST_AMOUNT: u32 = 9999;
+// The highest return code, and the highest user code of an ABEND.
+const HIGHEST_CODE: u32 = 4095;
+// What a job ends with that ends by a code of 0.
+const ABENDED: u32 = 1 << 24;
+
+fn is_name_start(byte: u8) -> bool
+    ensures { result ≡ starts_name byte }
+{
+    matches!(byte, b'@'..=b'Z' | b'#'..=b'$')
+}
+
+fn is_name_byte(byte: u8) -> bool
+    ensures { result ≡ stands_in_name byte }
+{
+    is_name_start(byte) || byte.is_ascii_digit()
+}
+
+fn are_name_bytes(bytes: &[u8]) -> bool
+    ensures { result ≡ list_all stands_in_name bytes.now }
+{
+    bytes.iter().all(|b| is_name_byte(*b))
+}
+
+/// Whether a field is the name of a job: one to eight of `A` to `Z`, `0` to `9`, `@`, `#`, `$`, the first no digit.
+pub(crate) fn is_name(field: &[u8]) -> bool
+    ensures { result ≡ names_job field.now }
+{
+    match field {
+        [] => false,
+        [first, rest @ ..] => is_name_start(*first) && are_name_bytes(rest) && rest.len() < 8,
+    }
+}
+
+// The number that one to four digits show, without a zero in front.
+fn number(text: &[u8]) -> Option<u32>
+    ensures { result ≡ number_of text.now }
+{
+    match text {
+        [a] => digit(*a),
+        [b'0', ..] => None,
+        [a, b] => Some(10 * digit(*a)? + digit(*b)?),
+        [a, b, c] => Some(100 * digit(*a)? + 10 * digit(*b)? + digit(*c)?),
+        [a, b, c, d] => Some(1000 * digit(*a)? + 100 * digit(*b)? + 10 * digit(*c)? + digit(*d)?),
+        _ => None,
+    }
+}
+
+fn digit(byte: u8) -> Option<u32>
+    ensures { result ≡ (if shows_digit byte then Some (byte - 48) else None) }
+{
+    match byte {
+        b'0'..=b'9' => Some((byte - b'0') as u32),
+        _ => None,
+    }
+}
+
+fn number_within(low: u32, high: u32, text: &[u8]) -> Option<u32>
+    ensures number { result ≡ is_number_within low high (number_of text.now) }
+    ensures bound { IfSome result (λ n. n ≤ high) }
+{
+    let number = number(text)?;
+    (low <= number && number <= high).then_some(number)
+}
+
+/// The number of a latch or a volume, 0 to 7.
+pub(crate) fn latch(text: &[u8]) -> Option<u32>
+    ensures number { result ≡ latch_of text.now }
+    ensures bound { IfSome result (λ n. n ≤ highest_latch) }
+{
+    number_within(0, HIGHEST_LATCH, text)
+}
+
+/// An amount, 1 to 9999.
+pub(crate) fn amount(text: &[u8]) -> Option<u32>
+    ensures { result ≡ amount_of text.now }
+{
+    number_within(1, HIGHEST_AMOUNT, text)
+}
+
+/// A return code, or an accepted one, 0 to 4095.
+pub(crate) fn code(text: &[u8]) -> Option<u32>
+    ensures { result ≡ code_of text.now }
+{
+    number_within(0, HIGHEST_CODE, text)
+}
+
+/// The mode that `S` or `X` stands for.
+pub(crate) fn mode(text: &[u8]) -> Option<Mode>
+    ensures { result ≡ mode_of text.now }
+{
+    if text == b"S".as_slice() {
+        return Some(Mode::Shared);
+    }
+    if text == b"X".as_slice() {
+        return Some(Mode::Exclusive);
+    }
+    None
+}
+
+// The number that four digits show, up to 4095.
+fn user_code(digits: &[u8]) -> Option<u32>
+    ensures { result ≡ user_code_of digits.now }
+{
+    let [a, b, c, d] = digits else { return None };
+    let number = 1000 * digit(*a)? + 100 * digit(*b)? + 10 * digit(*c)? + digit(*d)?;
+    (number <= HIGHEST_CODE).then_some(number)
+}
+
+// The value of a hexadecimal digit in capitals.
+fn hex_digit(byte: u8) -> Option<u32>
+    ensures { result ≡ (if shows_hex byte then Some (value_of_hex byte) else None) }
+{
+    match byte {
+        b'0'..=b'9' => Some((byte - b'0') as u32),
+        b'A'..=b'F' => Some((byte - b'A') as u32 + 10),
+        _ => None,
+    }
+}
+
+// The number that three hexadecimal digits show, above 0.
+fn system_code(digits: &[u8]) -> Option<u32>
+    ensures { result ≡ system_code_of digits.now }
+{
+    let [a, b, c] = digits else { return None };
+    let number = 256 * hex_digit(*a)? + 16 * hex_digit(*b)? + hex_digit(*c)?;
+    (number > 0).then_some(number)
+}
+
+/// The end code of a job that ends by this code: `U` and a user code, or `S` and a system code.
+pub(crate) fn end_code(code: &[u8]) -> Option<u32>
+    ensures { result ≡ end_code_of code.now }
+{
+    match code {
+        [b'U', digits @ ..] => Some(ABENDED + user_code(digits)?),
+        [b'S', digits @ ..] => Some(ABENDED + 4096 * system_code(digits)?),
+        _ => None,
+    }
+}
