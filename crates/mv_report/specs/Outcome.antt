@@ -1,56 +1,111 @@
--- What a deck means: how each job ends, the lines that it writes, and what it leaves in the volumes.
-use Rattle.std.specs.Prelude.{ℕ, List, [], ◌∷◌, ◌++◌, map, replicate, flat_map, codes}
+-- What a deck means: how each job ends, which steps it does, the lines that these write, and what they leave in the volumes.
+-- The ends are read off the list of jobs in order; nothing here runs beside anything else.
+use Rattle.std.specs.Prelude.{ℕ, min, Bool, ◌==◌, nat_lt, if◌then◌else◌}
+use Rattle.std.specs.Prelude.{List, [], ◌∷◌, ◌++◌, map, flat_map, sum_by, slice_index, codes, decimal}
+use Rattle.std.specs.List.{list_any}
+use Rattle.mv_deck.specs.declared.deck.After.{After}
 use Rattle.mv_deck.specs.declared.deck.Step.{Step}
-use Rattle.mv_deck.specs.declared.deck.Step.TheVariants.{Print, Abend}
+use Rattle.mv_deck.specs.declared.deck.Step.TheVariants.{Print, Count, Scan, Abend, Return}
 use Rattle.mv_deck.specs.Deck.{JobData}
+use Rattle.mv_report.specs.EndCode.{not_run, is_not_run}
 use Rattle.mv_report.specs.Report.{report_text}
 
--- ---- steps
+-- ---- how jobs end
 
--- the number of the first ABEND, 0 without one
-abbrev pub first_abend : List Step → ℕ
-first_abend [] = 0
-first_abend (Print text ∷ steps) = first_abend steps
-first_abend (Abend code ∷ steps) = code
+-- the code of the first ABEND or the number of the first RETURN, whichever stands first; 0 without one
+abbrev pub own_end : List Step → ℕ
+own_end [] = 0
+own_end (Abend code ∷ steps) = code
+own_end (Return code ∷ steps) = code
+own_end (step ∷ steps) = own_end steps
 
--- the steps in front of the first ABEND, all without one
-abbrev pub before_abend : List Step → List Step
-before_abend [] = []
-before_abend (Print text ∷ steps) = Print text ∷ before_abend steps
-before_abend (Abend code ∷ steps) = []
+-- the steps in front of the first ABEND or RETURN, all without one
+abbrev pub before_end : List Step → List Step
+before_end [] = []
+before_end (Abend code ∷ steps) = []
+before_end (Return code ∷ steps) = []
+before_end (step ∷ steps) = step ∷ before_end steps
+
+-- Whether a part of an AFTER names a job whose end is above the code that the part accepts. These are the ends of the jobs in
+-- front of its own; a part that names none of them refuses nothing.
+abbrev pub is_unaccepted : List ℕ → After → Bool
+is_unaccepted ends part = nat_lt part.most (slice_index ends part.job)
+
+abbrev pub some_unaccepted : List ℕ → List After → Bool
+some_unaccepted ends parts = list_any (is_unaccepted ends) parts
+
+-- the end of a job, behind jobs with these ends
+abbrev pub end_behind : List ℕ → JobData → ℕ
+end_behind ends job = if some_unaccepted ends job.after then not_run else own_end job.steps
+
+-- these ends, and behind them those of the jobs that follow
+abbrev pub ends_from : List ℕ → List JobData → List ℕ
+ends_from ends [] = ends
+ends_from ends (job ∷ jobs) = ends_from (ends ++ end_behind ends job ∷ []) jobs
+
+-- the end of each job
+abbrev pub ends : List JobData → List ℕ
+ends deck = ends_from [] deck
+
+-- ---- which steps are done
+
+-- the steps that a job with this end does
+abbrev pub steps_with : ℕ → List Step → List Step
+steps_with end steps = if is_not_run end then [] else before_end steps
+
+-- the steps that each of these jobs does, where these are their ends
+abbrev pub all_steps_with : List ℕ → List JobData → List (List Step)
+all_steps_with (end ∷ ends) (job ∷ jobs) = steps_with end job.steps ∷ all_steps_with ends jobs
+all_steps_with _ _ = []
+
+-- the steps that each job does
+abbrev pub steps_done : List JobData → List (List Step)
+steps_done deck = all_steps_with (ends deck) deck
+
+-- ---- what these write
 
 -- the lines that a step writes
 abbrev pub lines_of_step : Step → List (List ℕ)
 lines_of_step (Print text) = (codes "| " ++ text) ∷ []
-lines_of_step (Abend code) = []
+lines_of_step (Scan volume) = (codes "| SCAN " ++ decimal volume ++ codes " STEADY") ∷ []
+lines_of_step _ = []
 
--- ---- jobs
-
--- how a job ends, as its end code
-abbrev pub end_of : JobData → ℕ
-end_of job = first_abend job.steps
-
--- the steps that a job does
-abbrev pub steps_done : JobData → List Step
-steps_done job = before_abend job.steps
-
--- the lines that a job writes
-abbrev pub lines_of_job : JobData → List (List ℕ)
-lines_of_job job = flat_map lines_of_step (steps_done job)
-
--- ---- decks
-
--- the end of each job
-abbrev pub ends : List JobData → List ℕ
-ends deck = map end_of deck
+-- the lines that some steps write, in order
+abbrev pub lines_of_steps : List Step → List (List ℕ)
+lines_of_steps steps = flat_map lines_of_step steps
 
 -- the lines of each job
 abbrev pub lines : List JobData → List (List (List ℕ))
-lines deck = map lines_of_job deck
+lines deck = map lines_of_steps (steps_done deck)
 
--- eight volumes hold 0 at first, and no step changes one
+-- ---- what these leave in the volumes, each of which holds 0 at first
+
+-- what a step adds to a volume
+abbrev pub added : ℕ → Step → ℕ
+added volume (Count v amount) = if v == volume then amount else 0
+added volume _ = 0
+
+-- the sum of the amounts that some steps add to a volume
+abbrev pub added_by : ℕ → List Step → ℕ
+added_by volume steps = sum_by (added volume) steps
+
+-- the sum of the amounts of all COUNT steps of a volume that are done
+abbrev pub total : List JobData → ℕ → ℕ
+total deck volume = sum_by (added_by volume) (steps_done deck)
+
+-- that of each of the eight volumes
 abbrev pub totals : List JobData → List ℕ
-totals deck = replicate 8 0
+totals deck = map (total deck) (0 ∷ 1 ∷ 2 ∷ 3 ∷ 4 ∷ 5 ∷ 6 ∷ 7 ∷ [])
+
+-- the highest number that 32 bits hold
+abbrev pub highest_held : ℕ
+highest_held = 4294967295
+
+-- what a volume holds of a total
+abbrev pub held_of : ℕ → ℕ
+held_of total = min total highest_held
+
+-- ---- the report
 
 -- the report on a deck is the text of what it means
 abbrev pub report : List JobData → List ℕ

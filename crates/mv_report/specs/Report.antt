@@ -1,5 +1,6 @@
 -- The report, byte for byte: each job's line and the lines that it wrote, then the counts of jobs and the volumes.
-use Rattle.std.specs.Prelude.{ℕ, ◌/◌, ◌%◌, ◌==◌, if◌then◌else◌, List, [], ◌∷◌, ◌++◌, length, slice_index, count_by, flat_map, codes, decimal}
+use Rattle.std.specs.Prelude.{ℕ, ◌/◌, ◌%◌, ◌==◌, if◌then◌else◌, List, [], ◌∷◌, ◌++◌, length, slice_index}
+use Rattle.std.specs.Prelude.{count_by, flat_map, codes, decimal}
 use Rattle.mv_deck.specs.Deck.{JobData}
 use Rattle.mv_report.specs.EndCode.{is_ended, is_not_run, is_abended, system_code, user_code}
 
@@ -30,7 +31,8 @@ abend_text end =
 -- what a job's line says of its end
 abbrev pub outcome_text : ℕ → List ℕ
 outcome_text end =
-    if is_ended end then codes "ENDED"
+    if end == 0 then codes "ENDED"
+    else if is_ended end then codes "ENDED RC " ++ decimal end
     else if is_not_run end then codes "NOT RUN"
     else codes "ABENDED " ++ abend_text end
 

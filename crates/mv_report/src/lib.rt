@@ -1,14 +1,19 @@
 //! The report on a deck that was run: what each job came to, the lines that it wrote, how many jobs ended each way,
 //! and what stands in the volumes. `specs/Report.antt` says which bytes that is for any ends, lines and volumes, and
-//! `specs/Outcome.antt` which ends, lines and volumes a deck has. `write_report` makes exactly those bytes.
+//! `write_report` makes exactly those bytes; `specs/Outcome.antt` says which ends, lines and volumes a deck has, and
+//! `outcome_of` makes those.
 #![tactic(auto)]
 
+mod end_code;
+mod laws;
 mod lines;
 mod outcome;
-mod writing;
+mod report;
 
+pub use laws::ends_go_by_accepted_codes;
 pub use lines::Lines;
-pub use writing::write_report;
+pub use outcome::{Outcome, outcome_of};
+pub use report::write_report;
 
 #[cfg(test)]
 mod tests;

@@ -1,96 +1,169 @@
-//! A job's outcome, as its line tells it.
+//! What the jobs of a deck do, one after another: how each ends, the lines that it writes, and what all of them leave in
+//! the volumes. The words are those of `specs/Outcome.antt`.
 
-ghost use Rattle.std.specs.Prelude.{◌≡◌, ◌^◌, ◌<◌, ◌≤◌, ◌++◌, count_by, OnOk};
-ghost use Rattle.mv_report.specs.EndCode.{IsEndCode, is_ended, is_not_run, is_abended};
-ghost use Rattle.mv_report.specs.Report.{digit, abend_text, outcome_text};
+ghost use Rattle.std.specs.Prelude.{◌≡◌, ℕ, ◌+◌, ◌<◌, ◌++◌, codes, decimal, map, slice_index, IfOk};
+ghost use Rattle.mv_deck.specs.Deck.{job_data, deck_data};
+ghost use Rattle.mv_report.specs.Outcome.{is_unaccepted, some_unaccepted, own_end, end_behind, ends, steps_with, lines_of_steps, lines, added_by, totals, held_of};
 
+use crate::end_code::NOT_RUN;
+use crate::lines::Lines;
+use itoa::Buffer;
+use mv_deck::{After, Deck, Job, Step, Text};
 use mv_io::NoMemory;
+use std::alloc::Global;
 
-/// The end code of a job that ended.
-const ENDED: u32 = 0;
+/// How many volumes there are.
+const VOLUMES: usize = 8;
 
-/// The lowest end code of a job that abended, with user and system code 0.
-const LOWEST_ABEND: u32 = 1 << 24;
-
-/// How many user codes there are, and so the weight of the system code in an end code.
-const USER_CODES: u32 = 4096;
-
-/// The end code of a job that was not run.
-const NOT_RUN: u32 = 1 << 25;
-
-const DIGITS: &[u8; 16] = b"0123456789ABCDEF";
-
-fn digit(value: u32) -> u8
-    requires { value < 16 }
-    ensures { result ≡ digit value }
-{
-    DIGITS[value as usize]
+/// What a deck comes to.
+#[derive(Debug, Drop)]
+pub struct Outcome {
+    /// The end code of each job.
+    pub ends: Vec<u32>,
+    /// The lines of each job.
+    pub lines: Vec<Lines>,
+    /// What each volume holds at the end.
+    pub volumes: [u32; VOLUMES],
 }
 
-fn push_abend(out: &mut Vec<u8>, end: u32) -> Result<(), NoMemory>
-    requires lowest { 2 ^ 24 ≤ end }
-    requires highest { end < 2 ^ 25 }
-    ensures { OnOk result (out.new.items ≡ out.old.items ++ abend_text end) }
+/// What a deck comes to, job after job. A volume whose total is above `u32::MAX` holds `u32::MAX`; no deck that can be run has
+/// such a total. The only error is want of memory, and the time is linear in the deck and in what its jobs write.
+pub fn outcome_of(alloc: Global, deck: &Deck) -> Result<Outcome, NoMemory>
+    ensures ends { IfOk result (λ outcome. outcome.ends.items ≡ ends (deck_data deck.now)) }
+    ensures lines { IfOk result (λ outcome. outcome.lines.items ≡ lines (deck_data deck.now)) }
+    ensures volumes { IfOk result (λ outcome. outcome.volumes ≡ map held_of (totals (deck_data deck.now))) }
 {
-    let system = (end - LOWEST_ABEND) / USER_CODES;
-    let user = (end - LOWEST_ABEND) % USER_CODES;
-    if system == 0 {
-        out.extend_from_slice(&[
-            b'U',
-            digit(user / 1000),
-            digit(user / 100 % 10),
-            digit(user / 10 % 10),
-            digit(user % 10),
-        ])?;
-    } else {
-        out.extend_from_slice(&[
-            b'S',
-            digit(system / 256),
-            digit(system / 16 % 16),
-            digit(system % 16),
-        ])?;
+    let ends = ends_of(alloc, deck)?;
+    let mut lines = Vec::with_capacity(alloc, deck.jobs.len())?;
+    let mut volumes = [0; VOLUMES];
+    for (i, job) in deck.jobs.iter().enumerate() {
+        let steps = steps_with(ends[i], &job.steps);
+        lines.push(lines_of(alloc, steps)?)?;
+        add_counts(&mut volumes, steps);
     }
-    Ok(())
+    Ok(Outcome {
+        ends,
+        lines,
+        volumes,
+    })
 }
 
-/// Appends how a job came to its end.
-pub(crate) fn push_outcome(out: &mut Vec<u8>, end: u32) -> Result<(), NoMemory>
-    requires { IsEndCode end }
-    ensures { OnOk result (out.new.items ≡ out.old.items ++ outcome_text end) }
+// Whether the job that a part of an AFTER names ended above what the part accepts.
+fn is_unaccepted(ends: &[u32], part: &After) -> bool
+    ensures { result ≡ is_unaccepted ends.now part.now }
 {
-    match end {
-        ENDED => out.extend_from_slice(b"ENDED")?,
-        NOT_RUN => out.extend_from_slice(b"NOT RUN")?,
-        _ => {
-            out.extend_from_slice(b"ABENDED ")?;
-            push_abend(out, end)?;
+    match ends.get(part.job as usize) {
+        Some(end) => *end > part.most,
+        None => false,
+    }
+}
+
+// Whether one of these parts refuses a job.
+fn some_unaccepted(ends: &[u32], parts: &[After]) -> bool
+    ensures { result ≡ some_unaccepted ends.now parts.now }
+{
+    parts.iter().any(|part| is_unaccepted(ends, part))
+}
+
+// How a job that is run comes to its end.
+fn own_end(steps: &[Step]) -> u32
+    ensures { result ≡ own_end steps.now }
+{
+    for step in steps {
+        if let Step::Abend(end) | Step::Return(end) = step {
+            return *end;
         }
     }
-    Ok(())
+    0
 }
 
-pub(crate) fn is_not_run(end: u32) -> bool
-    ensures { result ≡ is_not_run end }
+// The end of a job, behind jobs with these ends.
+fn end_behind(ends: &[u32], job: &Job) -> u32
+    ensures { result ≡ end_behind ends.now (job_data job.now) }
 {
-    end == NOT_RUN
+    if some_unaccepted(ends, &job.after) {
+        NOT_RUN
+    } else {
+        own_end(&job.steps)
+    }
 }
 
-pub(crate) fn count_ended(ends: &[u32]) -> usize
-    ensures { result ≡ count_by is_ended ends.now }
+// The end of each job.
+fn ends_of(alloc: Global, deck: &Deck) -> Result<Vec<u32>, NoMemory>
+    ensures { IfOk result (λ codes. codes.items ≡ ends (deck_data deck.now)) }
 {
-    ends.iter().filter(|end| **end == ENDED).count()
+    let mut codes = Vec::with_capacity(alloc, deck.jobs.len())?;
+    for job in &deck.jobs {
+        codes.push(end_behind(&codes, job))?;
+    }
+    Ok(codes)
 }
 
-pub(crate) fn count_not_run(ends: &[u32]) -> usize
-    ensures { result ≡ count_by is_not_run ends.now }
+// The steps that a job with this end does.
+fn steps_with(end: u32, steps: &[Step]) -> &[Step]
+    ensures { result.now ≡ steps_with end steps.now }
 {
-    ends.iter().filter(|end| **end == NOT_RUN).count()
+    if end == NOT_RUN {
+        return &steps[..0];
+    }
+    for (count, step) in steps.iter().enumerate() {
+        if let Step::Abend(_) | Step::Return(_) = step {
+            return &steps[..count];
+        }
+    }
+    steps
 }
 
-pub(crate) fn count_abended(ends: &[u32]) -> usize
-    ensures { result ≡ count_by is_abended ends.now }
+// The line that a PRINT writes.
+fn printed(alloc: Global, text: &Text) -> Result<Text, NoMemory>
+    ensures { IfOk result (λ line. line ≡ codes "| " ++ text.now) }
 {
-    ends.iter()
-        .filter(|end| **end != ENDED && **end != NOT_RUN)
-        .count()
+    let mut bytes = Vec::with_capacity(alloc, 2 + text.bytes.len())?;
+    bytes.extend_from_slice(b"| ")?;
+    bytes.extend_from_slice(&text.bytes)?;
+    Ok(Text { bytes })
+}
+
+// The line that a SCAN writes.
+fn scanned(alloc: Global, volume: u32) -> Result<Text, NoMemory>
+    ensures { IfOk result (λ line. line ≡ codes "| SCAN " ++ decimal volume ++ codes " STEADY") }
+{
+    let mut bytes = Vec::from_slice(alloc, b"| SCAN ")?;
+    bytes.extend_from_slice(Buffer::new().format(volume).as_bytes())?;
+    bytes.extend_from_slice(b" STEADY")?;
+    Ok(Text { bytes })
+}
+
+// The lines that some steps write.
+fn lines_of(alloc: Global, steps: &[Step]) -> Result<Lines, NoMemory>
+    ensures { IfOk result (λ lines. lines ≡ lines_of_steps steps.now) }
+{
+    let mut texts = Vec::new(alloc);
+    for step in steps {
+        match step {
+            Step::Print(text) => texts.push(printed(alloc, text)?)?,
+            Step::Scan(volume) => texts.push(scanned(alloc, *volume)?)?,
+            Step::Use(_, _)
+            | Step::Free(_)
+            | Step::Count(_, _)
+            | Step::Abend(_)
+            | Step::Return(_) => {}
+        }
+    }
+    Ok(Lines { texts })
+}
+
+// Adds to each volume what some steps add to it.
+fn add_counts(volumes: &mut [u32; VOLUMES], steps: &[Step])
+    ensures { (volume : ℕ) → volume < 8
+        → slice_index volumes.new volume ≡ held_of (slice_index volumes.old volume + added_by volume steps.now) }
+{
+    for step in steps {
+        if let Step::Count(volume, amount) = step {
+            let volume = *volume as usize;
+            if volume < VOLUMES {
+                volumes[volume] = volumes[volume].saturating_add(*amount);
+            }
+        }
+    }
 }

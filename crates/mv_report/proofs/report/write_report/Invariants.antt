@@ -1,7 +1,7 @@
 use Rattle.std.proofs.Common.{◌≡◌, map, take}
 use Rattle.mv_deck.specs.Deck.{job_data}
 use Rattle.mv_report.specs.Report.{jobs_text}
-use Rattle.mv_report.proofs.writing.write_report.Given as goal
+use Rattle.mv_report.proofs.report.write_report.Given as goal
 
 abbrev pub invariant-loop-i : goal.invariant-loop-i
 invariant-loop-i l =

@@ -1,5 +1,5 @@
 use Rattle.std.proofs.Common.{◌≡◌, ◌++◌, take, flat_map, codes, decimal}
-use Rattle.mv_report.proofs.writing.push_volumes.Given as goal
+use Rattle.mv_report.proofs.report.push_volumes.Given as goal
 
 abbrev pub invariant-loop-volume : goal.invariant-loop-volume
 invariant-loop-volume l =

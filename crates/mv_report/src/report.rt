@@ -1,0 +1,169 @@
+//! The report, written from its first line to its last. `specs/Report.antt` says which bytes that is.
+
+ghost use Rattle.std.specs.Prelude.{◌≡◌, ◌^◌, ◌<◌, ◌≤◌, ◌++◌, length, All, count_by, decimal, OnOk, IfOk, vec_len};
+ghost use Rattle.mv_deck.specs.Deck.{deck_data};
+ghost use Rattle.mv_report.specs.EndCode.{IsEndCode, is_ended, is_abended, is_not_run};
+ghost use Rattle.mv_report.specs.Report.{digit, abend_text, outcome_text, lines_text, job_text, jobs_text, counts_text, volumes_text, report_text};
+
+use crate::end_code::{
+    HIGHEST_RETURN, LOWEST_ABEND, NOT_RUN, USER_CODES, is_abended, is_ended, is_not_run,
+};
+use crate::lines::Lines;
+use itoa::Buffer;
+use mv_deck::{Deck, Name};
+use mv_io::NoMemory;
+use std::alloc::Global;
+
+const DIGITS: &[u8; 16] = b"0123456789ABCDEF";
+
+fn digit(value: u32) -> u8
+    requires { value < 16 }
+    ensures { result ≡ digit value }
+{
+    DIGITS[value as usize]
+}
+
+fn push_number(out: &mut Vec<u8>, label: &[u8], number: usize) -> Result<(), NoMemory>
+    ensures { OnOk result (out.new.items ≡ out.old.items ++ (label.now ++ decimal number)) }
+{
+    out.extend_from_slice(label)?;
+    out.extend_from_slice(Buffer::new().format(number).as_bytes())?;
+    Ok(())
+}
+
+fn push_abend(out: &mut Vec<u8>, end: u32) -> Result<(), NoMemory>
+    requires lowest { 2 ^ 24 ≤ end }
+    requires highest { end < 2 ^ 25 }
+    ensures { OnOk result (out.new.items ≡ out.old.items ++ abend_text end) }
+{
+    let system = (end - LOWEST_ABEND) / USER_CODES;
+    let user = (end - LOWEST_ABEND) % USER_CODES;
+    if system == 0 {
+        out.extend_from_slice(&[
+            b'U',
+            digit(user / 1000),
+            digit(user / 100 % 10),
+            digit(user / 10 % 10),
+            digit(user % 10),
+        ])?;
+    } else {
+        out.extend_from_slice(&[
+            b'S',
+            digit(system / 256),
+            digit(system / 16 % 16),
+            digit(system % 16),
+        ])?;
+    }
+    Ok(())
+}
+
+// Appends how a job came to its end.
+fn push_outcome(out: &mut Vec<u8>, end: u32) -> Result<(), NoMemory>
+    requires { IsEndCode end }
+    ensures { OnOk result (out.new.items ≡ out.old.items ++ outcome_text end) }
+{
+    match end {
+        0 => out.extend_from_slice(b"ENDED")?,
+        1..=HIGHEST_RETURN => push_number(out, b"ENDED RC ", end as usize)?,
+        NOT_RUN => out.extend_from_slice(b"NOT RUN")?,
+        _ => {
+            out.extend_from_slice(b"ABENDED ")?;
+            push_abend(out, end)?;
+        }
+    }
+    Ok(())
+}
+
+fn push_lines(out: &mut Vec<u8>, end: u32, lines: &Lines) -> Result<(), NoMemory>
+    ensures { OnOk result (out.new.items ≡ out.old.items ++ lines_text end lines.now) }
+{
+    if is_not_run(end) {
+        return Ok(());
+    }
+    for text in &lines.texts {
+        out.extend_from_slice(&text.bytes)?;
+        out.push(b'\n')?;
+    }
+    Ok(())
+}
+
+fn push_job(out: &mut Vec<u8>, name: &Name, end: u32, lines: &Lines) -> Result<(), NoMemory>
+    requires { IsEndCode end }
+    ensures { OnOk result (out.new.items ≡ out.old.items ++ job_text name.now end lines.now) }
+{
+    out.extend_from_slice(b"JOB ")?;
+    out.extend_from_slice(&name.bytes)?;
+    out.push(b' ')?;
+    push_outcome(out, end)?;
+    out.push(b'\n')?;
+    push_lines(out, end, lines)
+}
+
+fn count_ended(ends: &[u32]) -> usize
+    ensures { result ≡ count_by is_ended ends.now }
+{
+    ends.iter().filter(|end| is_ended(**end)).count()
+}
+
+fn count_abended(ends: &[u32]) -> usize
+    ensures { result ≡ count_by is_abended ends.now }
+{
+    ends.iter().filter(|end| is_abended(**end)).count()
+}
+
+fn count_not_run(ends: &[u32]) -> usize
+    ensures { result ≡ count_by is_not_run ends.now }
+{
+    ends.iter().filter(|end| is_not_run(**end)).count()
+}
+
+fn push_counts(out: &mut Vec<u8>, jobs: usize, ends: &[u32]) -> Result<(), NoMemory>
+    ensures { OnOk result (out.new.items ≡ out.old.items ++ counts_text jobs ends.now) }
+{
+    push_number(out, b"JOBS ", jobs)?;
+    push_number(out, b" ENDED ", count_ended(ends))?;
+    push_number(out, b" ABENDED ", count_abended(ends))?;
+    push_number(out, b" NOT RUN ", count_not_run(ends))?;
+    out.push(b'\n')?;
+    Ok(())
+}
+
+fn push_volumes(out: &mut Vec<u8>, volumes: &[u32]) -> Result<(), NoMemory>
+    ensures { OnOk result (out.new.items ≡ out.old.items ++ volumes_text volumes.now) }
+{
+    out.extend_from_slice(b"VOLUMES")?;
+    for volume in volumes {
+        push_number(out, b" ", *volume as usize)?;
+    }
+    out.push(b'\n')?;
+    Ok(())
+}
+
+/// The report on a deck whose jobs came to these ends and wrote these lines, and which left this in the eight volumes.
+///
+/// An end is an end code: 0 to 4095 of a job that ended, its return code; `2^24 + 4096 * system + user` of one that
+/// abended; `2^25` of one that was not run, whose lines do not show. Completion codes stand as z/OS prints them (z/OS MVS
+/// System Codes): a system code in three hexadecimal digits, a user code in four decimal ones. The only error is want of
+/// memory, and the time is linear in what is written.
+pub fn write_report(
+    alloc: Global,
+    deck: &Deck,
+    ends: &[u32],
+    lines: &[Lines],
+    volumes: &[u32],
+) -> Result<Vec<u8>, NoMemory>
+    requires one_end_per_job { length ends.now ≡ vec_len deck.now.jobs }
+    requires one_lines_per_job { length lines.now ≡ vec_len deck.now.jobs }
+    requires eight_volumes { length volumes.now ≡ 8 }
+    requires end_codes { All IsEndCode ends.now }
+    ensures text { IfOk result (λ text.
+        text.items ≡ report_text (deck_data deck.now) ends.now lines.now volumes.now) }
+{
+    let mut out = Vec::new(alloc);
+    for (i, job) in deck.jobs.iter().enumerate() {
+        push_job(&mut out, &job.name, ends[i], &lines[i])?;
+    }
+    push_counts(&mut out, deck.jobs.len(), ends)?;
+    push_volumes(&mut out, volumes)?;
+    Ok(out)
+}
