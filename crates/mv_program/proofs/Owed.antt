@@ -44,7 +44,8 @@ one_ending n bytes s TooLong a b = absurd (omega (arith, a.0))
 one_ending n bytes s t a b = one_finding n bytes s t a.1 b.1
 
 deck_ends : (n : ℕ) (bytes : List ℕ) (new : Option (List ℕ)) (s t : Status) → DeckOf n s (Some bytes) new
-    → (s ≡ ReadFailed → ⊥) → (t ≡ Done → s ≡ ReportFailed → ⊥) → (t ≡ Done → s ≡ JournalFailed → ⊥) → DeckAsks n bytes t → EndsAs NoMemory s t
+    → (s ≡ ReadFailed → ⊥) → (t ≡ Done → s ≡ ReportFailed → ⊥) → (t ≡ Done → s ≡ JournalFailed → ⊥)
+    → DeckAsks n bytes t → EndsAs NoMemory s t
 deck_ends n bytes new Done t i read report journal a = inl (one_ending n bytes Done t (i.read.short, i.is) a)
 deck_ends n bytes new Words t i read report journal a = absurd i
 deck_ends n bytes new (Deck f) t i read report journal a = inl (one_ending n bytes (Deck f) t (i.read.short, i.is) a)

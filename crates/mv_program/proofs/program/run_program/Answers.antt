@@ -13,18 +13,20 @@ returns-clause-told g c =
     let old = g.D.Source.left c.args.input.now in
     let report0 = g.R.Sink.taken c.args.report.now in
     let journal0 = g.K.Sink.taken c.args.journal.now in
+    let report1 = g.R.Sink.taken made.report in
+    let journal1 = g.K.Sink.taken made.journal in
     elim made.branch [
       | in-None w ↦
-          told_for _ None made.status old report0 (g.R.Sink.taken made.report) journal0 (g.K.Sink.taken made.journal)
+          told_for _ None made.status old report0 report1 journal0 journal1
           (sym c.command_of.ensures ∙ w.in-None.is) (ap g.R.Sink.taken w.report-is, ap g.K.Sink.taken w.journal-is)
       | in-Some-Spool w ↦
-          told_for _ (Some (Spool w.in-Some-Spool.initiators)) made.status old report0 (g.R.Sink.taken made.report) journal0 (g.K.Sink.taken made.journal)
+          told_for _ (Some (Spool w.in-Some-Spool.initiators)) made.status old report0 report1 journal0 journal1
           (sym c.command_of.ensures ∙ w.in-Some-Spool.is ∙ ap Some w.in-Some-Spool.field-0-is)
           (rw (sym w.status-is) at (rw (sym w.report-is) at (rw (sym w.journal-is) at w.spool-status.ensures.told)))
       | in-Some-Replay w ↦
-          told_for _ (Some Replay) made.status old report0 (g.R.Sink.taken made.report) journal0 (g.K.Sink.taken made.journal)
+          told_for _ (Some Replay) made.status old report0 report1 journal0 journal1
           (sym c.command_of.ensures ∙ w.in-Some-Replay.is ∙ ap Some w.in-Some-Replay.field-0-is)
-          (replay_is_told made.status old report0 (g.R.Sink.taken made.report) journal0 (g.K.Sink.taken made.journal)
+          (replay_is_told made.status old report0 report1 journal0 journal1
           (rw (sym w.status-is) at (rw (sym w.report-is) at w.replay-status.ensures.report)) (ap g.K.Sink.taken w.journal-is))
     ]
 
