@@ -14,9 +14,10 @@ loop-filled-preserved g c =
     let after = put_mid filled (length longer - filled) longer c.fill.new.buf in
     let written = with_items_is c.resize.new.self after (search (rules, places)) in
     let more : (filled + c.min.result) - vec_len c.loop-filled.bytes ≡ c.min.result = omega arith in
+    let all = take_all (filled + c.min.result) c.loop-filled.bytes.items (omega (arith, c.loop-filled.bytes.ok.0)) in
     let kept : longer ≡ c.loop-filled.bytes.items ++ replicate c.min.result 0 =
     c.deref_mut.ensures.value ∙ c.in-Ok.ensures.items
-    ∙ (λ i. take_all (filled + c.min.result) c.loop-filled.bytes.items (omega (arith, c.loop-filled.bytes.ok.0)) i ++ replicate (more i) 0) in
+    ∙ (λ i. all i ++ replicate (more i) 0) in
     let given : IfSome (g.S.Source.left c.args.src.now) (λ xs. GivesFront xs (g.S.Source.left c.loop-filled.src) longer filled) =
     GivesFront-longer _ _ _ _ _ _ c.loop-filled.invariant.given (omega arith) kept in
     record {
