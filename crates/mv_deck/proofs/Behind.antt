@@ -1,6 +1,6 @@
 -- The reader behind one more statement.
-use Rattle.std.proofs.Common.{◌≡◌, ℕ, ◌+◌, ◌*◌, ◌≤◌, ◌<◌, Bool, true, false, not, ◌&&◌, ◌||◌, List, [], ◌∷◌, ◌++◌, length, map, Option, Some, None, refl, sym, ap, subst, ◌∙◌, arith, rules, length-append, bytes_eq, if◌then◌else◌}
-use Rattle.std.specs.Prelude.{IsSome, is_some, is_none, unwrap_or, nat_lt}
+use Rattle.std.proofs.Common.{◌≡◌, ℕ, ◌+◌, ◌*◌, ◌<◌, Bool, true, false, ◌||◌, List, [], ◌∷◌, ◌++◌, length, map, Option, Some, None, refl, sym, ap, subst, ◌∙◌, arith, rules, length-append, bytes_eq, if◌then◌else◌}
+use Rattle.std.specs.Prelude.{IsSome, is_some, unwrap_or, nat_lt}
 use Rattle.std.specs.List.{list_any}
 use Rattle.std.proofs.lemmas.List.{length-map}
 use Rattle.std.proofs.lemmas.List.Folds.{list_any-append}
@@ -12,7 +12,7 @@ use Rattle.mv_deck.specs.declared.names.Names.{Names}
 use Rattle.mv_deck.specs.declared.form.Version.{Version}
 use Rattle.mv_deck.specs.declared.reading.Reading.{Reading}
 use Rattle.mv_deck.specs.Statement.{Statement, Null, DeckOf, JobOf, AfterPart}
-use Rattle.mv_deck.specs.Deck.{JobData, job_data, jobs_of, jobs_behind, place_of, after_of, most_of, fresh_job, step_of, with_step, last_steps}
+use Rattle.mv_deck.specs.Deck.{JobData, job_data, jobs_of, jobs_behind, place_of, after_of, most_of, fresh_job, step_of, with_step}
 use Rattle.mv_deck.specs.Fault.{is_null, is_job}
 use Rattle.mv_deck.specs.Held.{held, latches, is_end}
 use Rattle.mv_deck.specs.Form.{part_data}
@@ -34,26 +34,33 @@ or_true false = refl
 any-push : (p : Statement → Bool) (sts : List Statement) (s : Statement) → list_any p (sts ++ s ∷ []) ≡ (list_any p sts || (p s || false))
 any-push p sts s = list_any-append p sts (s ∷ [])
 
+-- a statement that does not pass the test changes nothing
 pub same_any : (p : Statement → Bool) (sts : List Statement) (s : Statement) → p s ≡ false → list_any p (sts ++ s ∷ []) ≡ list_any p sts
 same_any p sts s e = any-push p sts s ∙ rw e (or_false (list_any p sts))
 
+-- a statement that passes the test makes it true
 some_any : (p : Statement → Bool) (sts : List Statement) (s : Statement) → p s ≡ true → list_any p (sts ++ s ∷ []) ≡ true
 some_any p sts s e = any-push p sts s ∙ rw e (or_true (list_any p sts))
 
+-- behind one more statement there is one
 some_stated : (sts : List Statement) (s : Statement) → nat_lt 0 (length (sts ++ s ∷ [])) ≡ true
 some_stated [] s = refl
 some_stated (t ∷ sts) s = grind arith
 
+-- where a statement passes a test there is one
 stated_before : (p : Statement → Bool) (sts : List Statement) → list_any p sts ≡ true → nat_lt 0 (length sts) ≡ true
 stated_before p [] e = absurd cc
 stated_before p (t ∷ sts) e = grind arith
 
+-- the jobs behind one more statement
 pub jobs-push : (sts : List Statement) (s : Statement) → jobs_of (sts ++ s ∷ []) ≡ jobs_behind (jobs_of sts) s
 jobs-push sts s = fold_push jobs_behind [] sts s
 
 -- ---- the null statement and DECK
 
-pub behind_null : (n : ℕ) (v : Version) (sts : List Statement) (r : Reading) → IsBehind n v sts r → IsBehind n v (sts ++ Null ∷ []) (record r { stated = true; ended = true })
+-- the reader behind the null statement
+pub behind_null : (n : ℕ) (v : Version) (sts : List Statement) (r : Reading) → IsBehind n v sts r
+    → IsBehind n v (sts ++ Null ∷ []) (record r { stated = true; ended = true })
 behind_null n v sts r b = record {
   initiators_are = b.initiators_are;
   version = b.version;
@@ -64,7 +71,9 @@ behind_null n v sts r b = record {
   ended = sym (some_any is_null sts Null refl);
 }
 
-pub behind_deck : (n : ℕ) (v : Version) (sts : List Statement) (r : Reading) (word : List ℕ) → IsBehind n v sts r → IsBehind n v (sts ++ DeckOf word ∷ []) (record r { stated = true })
+-- the reader behind a DECK
+pub behind_deck : (n : ℕ) (v : Version) (sts : List Statement) (r : Reading) (word : List ℕ) → IsBehind n v sts r
+    → IsBehind n v (sts ++ DeckOf word ∷ []) (record r { stated = true })
 behind_deck n v sts r word b = record {
   initiators_are = b.initiators_are;
   version = b.version;
@@ -77,6 +86,7 @@ behind_deck n v sts r word b = record {
 
 -- ---- a JOB
 
+-- a reader with a name has begun a job
 is_begun : (o : Option (List ℕ)) → IsSome o → is_some o ≡ true
 is_begun None h = search rules
 is_begun (Some name) h = refl
@@ -95,17 +105,21 @@ pub record IsBegun (n : ℕ) (jobs : List JobData) (name : List ℕ) (after : Li
   pub version : next.version ≡ r.version
 
 -- a job makes the deck heavier by its own weight
-pub job_weight : (n : ℕ) (jobs : List JobData) (name : List ℕ) (after : List AfterPart) → weight (jobs ++ fresh_job jobs name after ∷ []) n ≡ weight jobs n + (8 + 9 * n + 2 * length after)
+pub job_weight : (n : ℕ) (jobs : List JobData) (name : List ℕ) (after : List AfterPart)
+    → weight (jobs ++ fresh_job jobs name after ∷ []) n ≡ weight jobs n + (8 + 9 * n + 2 * length after)
 job_weight n jobs name after =
     let count : length (map (after_of jobs) after) ≡ length after = length-map after (after_of jobs) in
     let added : weight jobs n + (8 + 9 * n + 2 * length (map (after_of jobs) after) + n * 0) ≡ weight jobs n + (8 + 9 * n + 2 * length after) = ap (λ (x : ℕ). weight jobs n + x) (omega (arith, count)) in
     weight-push jobs (fresh_job jobs name after) n ∙ added
 
 -- what is added to the weight is taken from the room
-room_left : (left added room weight heavier all : ℕ) → left + added ≡ room → heavier ≡ weight + added → room + weight ≡ all → left + heavier ≡ all
+room_left : (left added room weight heavier all : ℕ) → left + added ≡ room → heavier ≡ weight + added → room + weight ≡ all
+    → left + heavier ≡ all
 room_left left added room weight heavier all a b c = omega arith
 
-kept_by_job : (n : ℕ) (jobs : List JobData) (name : List ℕ) (after : List AfterPart) (r next : Reading) → Keeps n jobs r → place_of jobs name ≡ None → IsBegun n jobs name after r next → Keeps n (jobs ++ fresh_job jobs name after ∷ []) next
+-- what is kept beside the jobs, behind a JOB
+kept_by_job : (n : ℕ) (jobs : List JobData) (name : List ℕ) (after : List AfterPart) (r next : Reading) → Keeps n jobs r
+    → place_of jobs name ≡ None → IsBegun n jobs name after r next → Keeps n (jobs ++ fresh_job jobs name after ∷ []) next
 kept_by_job n jobs name after r next k new g =
     let j : JobData = fresh_job jobs name after in
     let steps = last_steps-push jobs j in
@@ -117,7 +131,10 @@ kept_by_job n jobs name after r next k new g =
       room = room_left next.room (8 + 9 * n + 2 * length after) r.room (weight jobs n) (weight (jobs ++ j ∷ []) n) heaviest g.room heavier k.room;
     }
 
-pub behind_job : (n : ℕ) (v : Version) (sts : List Statement) (r next : Reading) (name : List ℕ) (after : List AfterPart) → IsBehind n v sts r → place_of (jobs_of sts) name ≡ None → IsBegun n (jobs_of sts) name after r next → IsBehind n v (sts ++ JobOf name after ∷ []) next
+-- the reader behind a JOB
+pub behind_job : (n : ℕ) (v : Version) (sts : List Statement) (r next : Reading) (name : List ℕ) (after : List AfterPart)
+    → IsBehind n v sts r → place_of (jobs_of sts) name ≡ None → IsBegun n (jobs_of sts) name after r next
+    → IsBehind n v (sts ++ JobOf name after ∷ []) next
 behind_job n v sts r next name after b new g = record {
   initiators_are = g.initiators_are ∙ b.initiators_are;
   version = g.version ∙ b.version;
@@ -145,7 +162,9 @@ pub record IsStepped (n : ℕ) (step : Step) (r next : Reading) : Type 0 where
   pub initiators_are : next.initiators ≡ r.initiators
   pub version : next.version ≡ r.version
 
-kept_by_step : (n : ℕ) (jobs : List JobData) (j : JobData) (step : Step) (r next : Reading) → Keeps n (jobs ++ j ∷ []) r → r.closed ≡ false → IsStepped n step r next → Keeps n (jobs ++ stepped j step ∷ []) next
+-- what is kept beside the jobs, behind a step
+kept_by_step : (n : ℕ) (jobs : List JobData) (j : JobData) (step : Step) (r next : Reading) → Keeps n (jobs ++ j ∷ []) r
+    → r.closed ≡ false → IsStepped n step r next → Keeps n (jobs ++ stepped j step ∷ []) next
 kept_by_step n jobs j step r next k going g =
     let old = last_steps-push jobs j in
     let new = last_steps-push jobs (stepped j step) in
@@ -161,14 +180,18 @@ kept_by_step n jobs j step r next k going g =
 abbrev open_of : List ℕ → Reading → JobData
 open_of name r = record { name = name; after = r.after.items; steps = r.steps.items }
 
+-- the jobs of a reader that has begun one
 jobs_of_named : (r : Reading) (name : List ℕ) → r.name ≡ Some name → jobs_read r ≡ map job_data r.finished.items ++ open_of name r ∷ []
 jobs_of_named r name e = rw e refl
 
+-- the name of the last job
 named : (o : Option (List ℕ)) → is_some o ≡ true → (name : List ℕ) × (o ≡ Some name)
 named None e = absurd cc
 named (Some name) e = (name, refl)
 
-pub behind_step : (n : ℕ) (v : Version) (sts : List Statement) (s : Statement) (step : Step) (r next : Reading) → IsBehind n v sts r → step_of s ≡ Some step → is_some r.name ≡ true → r.closed ≡ false → IsStepped n step r next → IsBehind n v (sts ++ s ∷ []) next
+-- the reader behind a step
+pub behind_step : (n : ℕ) (v : Version) (sts : List Statement) (s : Statement) (step : Step) (r next : Reading) → IsBehind n v sts r
+    → step_of s ≡ Some step → is_some r.name ≡ true → r.closed ≡ false → IsStepped n step r next → IsBehind n v (sts ++ s ∷ []) next
 behind_step n v sts s step r next b is begun going g =
     let is_a = is_step s step is in
     let name = named r.name begun in
@@ -190,15 +213,13 @@ behind_step n v sts s step r next b is begun going g =
 
 -- ---- what is asked of a step
 
-pub some_name : (o : Option (List ℕ)) → is_none o ≡ false → is_some o ≡ true
-some_name None e = absurd cc
-some_name (Some name) e = refl
-
+-- a step stands behind a JOB and before the null statement
 pub inside : (sts : List Statement) → list_any is_null sts ≡ false → list_any is_job sts ≡ true → is_outside sts ≡ false
 inside sts e f = rw (e, f) refl
 
 -- a step makes the deck heavier by its events for each initiator
-pub step_weight : (n : ℕ) (v : Version) (sts : List Statement) (r : Reading) (step : Step) → IsBehind n v sts r → is_some r.name ≡ true → weight (with_step (jobs_of sts) step) n ≡ weight (jobs_of sts) n + n * step_events step
+pub step_weight : (n : ℕ) (v : Version) (sts : List Statement) (r : Reading) (step : Step) → IsBehind n v sts r
+    → is_some r.name ≡ true → weight (with_step (jobs_of sts) step) n ≡ weight (jobs_of sts) n + n * step_events step
 step_weight n v sts r step b begun =
     let name = named r.name begun in
     let js : List JobData = map job_data r.finished.items in
@@ -215,7 +236,8 @@ step_weight n v sts r step b begun =
 abbrev after_at : Option ℕ → Part → After
 after_at place p = record { job = unwrap_or place 0; most = most_of (part_data p).most }
 
-pub after_same : (names : Names) (jobs : List JobData) → ((q : List ℕ) → place_in names q ≡ place_of jobs q) → (parts : List Part) → map (λ (p : Part). after_in names (part_data p)) parts ≡ map (after_of jobs) (map part_data parts)
+pub after_same : (names : Names) (jobs : List JobData) → ((q : List ℕ) → place_in names q ≡ place_of jobs q) → (parts : List Part)
+    → map (λ (p : Part). after_in names (part_data p)) parts ≡ map (after_of jobs) (map part_data parts)
 after_same names jobs same [] = refl
 after_same names jobs same (p ∷ parts) =
     let first : after_in names (part_data p) ≡ after_of jobs (part_data p) = ap (λ (o : Option ℕ). after_at o p) (same p.name.now) in
@@ -223,18 +245,21 @@ after_same names jobs same (p ∷ parts) =
     ∙ ap (λ x. after_of jobs (part_data p) ∷ x) (after_same names jobs same parts)
 
 -- the name of a good job is new
-pub new_name : (sts : List Statement) (name : List ℕ) (after : List AfterPart) → IsGoodJob sts (jobs_of sts) (JobOf name after) → place_of (jobs_of sts) name ≡ None
+pub new_name : (sts : List Statement) (name : List ℕ) (after : List AfterPart) → IsGoodJob sts (jobs_of sts) (JobOf name after)
+    → place_of (jobs_of sts) name ≡ None
 new_name sts name after g = go (place_of (jobs_of sts) name) g.new where
   go : (o : Option ℕ) → is_some o ≡ false → o ≡ None
   go None e = refl
   go (Some k) e = absurd cc
 
 -- more jobs than the heaviest deck weighs are too heavy
-pub heavy_jobs : (n : ℕ) (jobs : List JobData) (r : Reading) → jobs_read r ≡ jobs → heaviest < length r.finished.items → heaviest < weight jobs n
+pub heavy_jobs : (n : ℕ) (jobs : List JobData) (r : Reading) → jobs_read r ≡ jobs → heaviest < length r.finished.items
+    → heaviest < weight jobs n
 heavy_jobs n jobs r e lt =
     let count : length jobs ≡ length (map job_data r.finished.items) + length (open_job r.name r.after.items r.steps.items) = ap length (sym e) ∙ length-append (map job_data r.finished.items) _ in
     let same : length (map job_data r.finished.items) ≡ length r.finished.items = length-map r.finished.items job_data in
     omega (arith, count, same)
 
+-- no deck is heavier than what is left of the heaviest
 pub beyond : (room w : ℕ) → room + w ≡ heaviest → ¬ (heaviest < w)
 beyond room w e lt = omega arith

@@ -1,5 +1,5 @@
 -- What the reader asks of a JOB and of a line, in the words of its faults.
-use Rattle.std.proofs.Common.{◌≡◌, ℕ, ◌<◌, ◌≤◌, Bool, true, false, not, ◌||◌, List, [], ◌∷◌, ◌++◌, length, map, Option, Some, None, Result, is_none, option_map, MatchResult, refl, sym, ap, subst, ◌∙◌, arith, bytes_eq}
+use Rattle.std.proofs.Common.{◌≡◌, ℕ, ◌<◌, ◌≤◌, Bool, true, false, not, ◌||◌, List, [], ◌∷◌, ◌++◌, length, map, Option, Some, Result, is_none, option_map, MatchResult, refl, sym, ap, subst, ◌∙◌, arith}
 use Rattle.std.specs.Prelude.{option_to_list, nat_lt}
 use Rattle.std.specs.List.{list_any}
 use Rattle.std.proofs.lemmas.List.{length-map}
@@ -18,6 +18,7 @@ use Rattle.mv_deck.specs.Names.{place_in}
 use Rattle.mv_deck.specs.Reading.{IsBehind, Tells}
 use Rattle.mv_deck.proofs.Mapped.{any-map}
 
+-- tests that agree on each element agree on a list
 any_same : {A : Type 0} (p q : A → Bool) → ((x : A) → p x ≡ q x) → (xs : List A) → list_any p xs ≡ list_any q xs
 any_same p q e [] = refl
 any_same p q e (x ∷ xs) = ap (λ (b : Bool). b || list_any p xs) (e x) ∙ ap (λ (b : Bool). q x || b) (any_same p q e xs)
@@ -31,35 +32,46 @@ or_false true = refl
 or_false false = refl
 
 module _ (name : List ℕ) (parts : List Part) where
+  -- a JOB with this name and these parts
   abbrev pub job : Statement
   job = JobOf name (map part_data parts)
 
+  -- its names, as they are read
   names_are : has_bad_name job ≡ (not (is_name name) || list_any (λ (p : Part). not (is_name p.name.now)) parts)
   names_are = ap (λ (b : Bool). not (is_name name) || b) (any-map (λ (p : AfterPart). not (is_name p.name)) part_data parts)
 
+  -- a bad name of its own
   pub named_badly : is_name name ≡ false → has_bad_name job ≡ true
   named_badly e = rw e refl
 
+  -- a bad name in its list
   pub awaits_badly : list_any (λ (p : Part). not (is_name p.name.now)) parts ≡ true → has_bad_name job ≡ true
   awaits_badly e = names_are ∙ rw e (or_true (not (is_name name)))
 
+  -- good names alone
   pub named_well : is_name name ≡ true → list_any (λ (p : Part). not (is_name p.name.now)) parts ≡ false → has_bad_name job ≡ false
   named_well e f = names_are ∙ rw (e, f) refl
 
+  -- its accepted codes, as they are read
   pub codes_are : has_bad_number job ≡ list_any (λ (p : Part). accepts_no_code (option_map bytes_behind p.most)) parts
   codes_are = any-map (λ (p : AfterPart). accepts_no_code p.most) part_data parts
 
-  pub unknown_are : (jobs : List JobData) (names : Names) → ((q : List ℕ) → place_in names q ≡ place_of jobs q) → awaits_no_job jobs job ≡ list_any (λ (p : Part). is_none (place_in names p.name.now)) parts
+  -- the names of no earlier job, by the places that names were given
+  pub unknown_are : (jobs : List JobData) (names : Names) → ((q : List ℕ) → place_in names q ≡ place_of jobs q)
+      → awaits_no_job jobs job ≡ list_any (λ (p : Part). is_none (place_in names p.name.now)) parts
   unknown_are jobs names same =
       any-map (λ (p : AfterPart). is_none (place_of jobs p.name)) part_data parts
       ∙ any_same (λ (p : Part). is_none (place_of jobs p.name.now)) (λ (p : Part). is_none (place_in names p.name.now)) (λ p. ap is_none (sym (same p.name.now))) parts
 
+  -- more than eight names
   pub too_many : 8 < length parts → is_crowded job ≡ true
   too_many lt = let more : nat_lt 8 (length (map part_data parts)) ≡ true = rw (length-map parts part_data) (grind arith) in rw more (or_true (has_double (map part_data parts)))
 
+  -- a name twice
   pub doubled : has_double (map part_data parts) ≡ true → is_crowded job ≡ true
   doubled e = rw e refl
 
+  -- at most eight names, none twice
   pub few : length parts ≤ 8 → has_double (map part_data parts) ≡ false → is_crowded job ≡ false
   few le e = let no_more : nat_lt 8 (length (map part_data parts)) ≡ false = rw (length-map parts part_data) (grind arith) in rw (e, no_more) refl
 
@@ -69,12 +81,17 @@ pub record IsStated (n : ℕ) (v : Version) (earlier : List Statement) (line : L
   pub kinds : kinds_of n v earlier line ≡ kinds_of_statement n earlier (Some s)
   pub statement : statement_of v line ≡ Some s
 
-pub is_stated : (n : ℕ) (v : Version) (earlier : List Statement) (line : List ℕ) (s : Statement) → has_foreign_byte line ≡ false → is_too_long line ≡ false → is_empty (shown line) ≡ false → is_comment (shown line) ≡ false → form_of v (shown line) ≡ Some s → IsStated n v earlier line s
+-- a line that passes what is asked of it by itself has the kinds of its statement
+pub is_stated : (n : ℕ) (v : Version) (earlier : List Statement) (line : List ℕ) (s : Statement) → has_foreign_byte line ≡ false
+    → is_too_long line ≡ false → is_empty (shown line) ≡ false → is_comment (shown line) ≡ false → form_of v (shown line) ≡ Some s
+    → IsStated n v earlier line s
 is_stated n v earlier line s a b c d e =
     let same : statement_of v line ≡ Some s = rw d e in record { kinds = rw (a, b, c, d, e) refl; statement = same }
 
 -- the same, by what was cut of the line
-pub is_shown : (n : ℕ) (v : Version) (earlier : List Statement) (line content text : List ℕ) (s : Statement) → content ≡ without_cr line → text ≡ without_last_spaces content → list_any (λ b. not (is_within 32 126 b)) content ≡ false → length content ≤ 80
+pub is_shown : (n : ℕ) (v : Version) (earlier : List Statement) (line content text : List ℕ) (s : Statement)
+    → content ≡ without_cr line → text ≡ without_last_spaces content → list_any (λ b. not (is_within 32 126 b)) content ≡ false
+    → length content ≤ 80
     → is_empty text ≡ false → is_comment text ≡ false → form_of v text ≡ Some s → IsStated n v earlier line s
 is_shown n v earlier line content text s same cut a b c d e =
     let all : text ≡ shown line = cut ∙ ap without_last_spaces same in
@@ -90,7 +107,9 @@ is_shown n v earlier line content text s same cut a b c d e =
 abbrev pub Taken : {A : Type 0} → ℕ → Version → List Statement → List ℕ → List Statement → Reading → Result A LineRefusal → Type 0
 Taken n v earlier kinds statements next result = MatchResult result (λ _. (kinds ≡ []) × IsBehind n v (earlier ++ statements) next) (λ e. Tells e kinds)
 
-pub taken : {A : Type 0} (n : ℕ) (v : Version) (earlier : List Statement) (line : List ℕ) (s : Statement) (next : Reading) (result : Result A LineRefusal) → IsStated n v earlier line s
+-- what becomes of a statement becomes of its line
+pub taken : {A : Type 0} (n : ℕ) (v : Version) (earlier : List Statement) (line : List ℕ) (s : Statement) (next : Reading) (result : Result A LineRefusal)
+    → IsStated n v earlier line s
     → Taken n v earlier (kinds_of_statement n earlier (Some s)) (s ∷ []) next result → Taken n v earlier (kinds_of n v earlier line) (option_to_list (statement_of v line)) next result
 taken n v earlier line s next result is h =
     subst (λ (k : List ℕ). Taken n v earlier k (option_to_list (statement_of v line)) next result) (sym is.kinds)

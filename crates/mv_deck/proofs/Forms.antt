@@ -5,12 +5,15 @@ use Rattle.mv_deck.specs.declared.form.Version.{Version}
 use Rattle.mv_deck.specs.Line.{fields_of, starts_fields}
 use Rattle.mv_deck.specs.Statement.{operation_of, operated}
 
-starts : (v : Version) (rest operation : List ℕ) (operands : List (List ℕ)) → operation_of v rest (starts_fields operation operands) ≡ operated v rest operation operands
+-- the first field is the operation
+starts : (v : Version) (rest operation : List ℕ) (operands : List (List ℕ))
+    → operation_of v rest (starts_fields operation operands) ≡ operated v rest operation operands
 starts v rest [] operands = refl
 starts v rest (b ∷ bs) operands = refl
 
 -- an operation is chosen by the first field, which is empty where there is none
-pub chosen : (v : Version) (rest operation : List ℕ) (operands : List (List ℕ)) → fields_of rest ≡ starts_fields operation operands → operation_of v rest (fields_of rest) ≡ operated v rest operation operands
+pub chosen : (v : Version) (rest operation : List ℕ) (operands : List (List ℕ)) → fields_of rest ≡ starts_fields operation operands
+    → operation_of v rest (fields_of rest) ≡ operated v rest operation operands
 chosen v rest operation operands e = ap (operation_of v rest) e ∙ starts v rest operation operands
 
 -- how much of a list is not yet cut into parts
@@ -19,5 +22,6 @@ left_in None = 0
 left_in (Some list) = length list.now + 1
 
 -- a field was compared with a word
-pub compared : (field seen word : List ℕ) (result answer : Bool) → seen ≡ word → result ≡ bytes_eq field seen → result ≡ answer → bytes_eq field word ≡ answer
+pub compared : (field seen word : List ℕ) (result answer : Bool) → seen ≡ word → result ≡ bytes_eq field seen → result ≡ answer
+    → bytes_eq field word ≡ answer
 compared field seen word result answer same told is = ap (bytes_eq field) (sym same) ∙ sym told ∙ is

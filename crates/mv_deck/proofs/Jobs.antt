@@ -1,5 +1,5 @@
 -- One more job, and one more step of the last job.
-use Rattle.std.proofs.Common.{◌≡◌, ℕ, suc, ◌+◌, ◌*◌, Bool, true, false, cond, ◌||◌, List, [], ◌∷◌, ◌++◌, length, map, Option, Some, None, refl, sym, ap, ◌∙◌, arith, sum_by, bytes_eq, if◌then◌else◌, length-append}
+use Rattle.std.proofs.Common.{◌≡◌, ℕ, ◌+◌, ◌*◌, Bool, true, false, cond, ◌||◌, List, [], ◌∷◌, ◌++◌, length, Option, Some, None, refl, sym, ap, ◌∙◌, arith, sum_by, bytes_eq, if◌then◌else◌, length-append}
 use Rattle.std.specs.List.{list_any, position_from}
 use Rattle.std.proofs.lemmas.List.Folds.{list_any-append}
 use Rattle.std.proofs.lemmas.List.Sums.{sum_by_push}
@@ -14,11 +14,13 @@ use Rattle.mv_deck.specs.Weight.{step_events, all_events, after_parts, weight}
 abbrev pub stepped : JobData → Step → JobData
 stepped j step = record j { steps = j.steps ++ step ∷ [] }
 
+-- the steps of a job at the end
 pub last_steps-push : (jobs : List JobData) (j : JobData) → last_steps (jobs ++ j ∷ []) ≡ j.steps
 last_steps-push [] j = refl
 last_steps-push (k ∷ []) j = refl
 last_steps-push (k ∷ l ∷ jobs) j = last_steps-push (l ∷ jobs) j
 
+-- a step of a job at the end
 pub with_step-push : (jobs : List JobData) (j : JobData) (step : Step) → with_step (jobs ++ j ∷ []) step ≡ jobs ++ stepped j step ∷ []
 with_step-push [] j step = refl
 with_step-push (k ∷ []) j step = refl
@@ -26,9 +28,11 @@ with_step-push (k ∷ l ∷ jobs) j step = ap (λ (x : List JobData). k ∷ x) (
 
 -- ---- places of names
 
+-- whether a job has a name
 abbrev named : List ℕ → JobData → Bool
 named name j = bytes_eq j.name name
 
+-- places that are counted from any number
 place_more : (k : ℕ) (jobs : List JobData) (j : JobData) (name : List ℕ) → (bytes_eq j.name name ≡ true → position_from (named name) k jobs ≡ None)
     → position_from (named name) k (jobs ++ j ∷ []) ≡ (if bytes_eq j.name name then Some (k + length jobs) else position_from (named name) k jobs)
 place_more k [] j name new = go (bytes_eq j.name name) where
@@ -55,19 +59,24 @@ place_more k (i ∷ jobs) j name new = go (named name i) refl (place_more (k + 1
       ∙ ap (λ (x : Option ℕ). if bytes_eq j.name name then Some (k + length (i ∷ jobs)) else x) (sym same)
 
 -- the places behind a job with a new name
-pub place-push : (jobs : List JobData) (j : JobData) → place_of jobs j.name ≡ None → (name : List ℕ) → place_of (jobs ++ j ∷ []) name ≡ (if bytes_eq j.name name then Some (length jobs) else place_of jobs name)
+pub place-push : (jobs : List JobData) (j : JobData) → place_of jobs j.name ≡ None → (name : List ℕ)
+    → place_of (jobs ++ j ∷ []) name ≡ (if bytes_eq j.name name then Some (length jobs) else place_of jobs name)
 place-push jobs j new name = place_more 0 jobs j name (λ e. ap (place_of jobs) (sym ((bytes_eq-Decides j.name name).0 e)) ∙ new) ∙ ap (λ (x : ℕ). if bytes_eq j.name name then Some x else place_of jobs name) (omega arith)
 
-stepped_place : (k : ℕ) (jobs : List JobData) (j : JobData) (step : Step) (name : List ℕ) → position_from (named name) k (jobs ++ stepped j step ∷ []) ≡ position_from (named name) k (jobs ++ j ∷ [])
+-- the same for a job with one more step
+stepped_place : (k : ℕ) (jobs : List JobData) (j : JobData) (step : Step) (name : List ℕ)
+    → position_from (named name) k (jobs ++ stepped j step ∷ []) ≡ position_from (named name) k (jobs ++ j ∷ [])
 stepped_place k [] j step name = refl
 stepped_place k (i ∷ jobs) j step name = ap (cond (named name i) (Some k)) (stepped_place (k + 1) jobs j step name)
 
 -- a step changes no place
-pub place-step : (jobs : List JobData) (j : JobData) (step : Step) (name : List ℕ) → place_of (jobs ++ stepped j step ∷ []) name ≡ place_of (jobs ++ j ∷ []) name
+pub place-step : (jobs : List JobData) (j : JobData) (step : Step) (name : List ℕ)
+    → place_of (jobs ++ stepped j step ∷ []) name ≡ place_of (jobs ++ j ∷ []) name
 place-step jobs j step name = stepped_place 0 jobs j step name
 
 -- ---- the end of the last job
 
+-- whether the steps have an end, behind one more
 pub ended-push : (steps : List Step) (step : Step) → list_any is_end steps ≡ false → list_any is_end (steps ++ step ∷ []) ≡ is_end step
 ended-push steps step e = list_any-append is_end steps (step ∷ []) ∙ rw e (or_false (is_end step)) where
   or_false : (b : Bool) → (b || false) ≡ b
@@ -76,11 +85,9 @@ ended-push steps step e = list_any-append is_end steps (step ∷ []) ∙ rw e (o
 
 -- ---- weights
 
-sum_of_job : (length_of parts events n k p e : ℕ) → length_of ≡ n + 1 → parts ≡ p + k → events ≡ e → 8 * length_of ≡ 8 * n + 8
-sum_of_job length_of parts events n k p e a b c = omega arith
-
 -- a job adds its own weight
-pub weight-push : (jobs : List JobData) (j : JobData) (n : ℕ) → weight (jobs ++ j ∷ []) n ≡ weight jobs n + (8 + 9 * n + 2 * length j.after + n * sum_by step_events j.steps)
+pub weight-push : (jobs : List JobData) (j : JobData) (n : ℕ)
+    → weight (jobs ++ j ∷ []) n ≡ weight jobs n + (8 + 9 * n + 2 * length j.after + n * sum_by step_events j.steps)
 weight-push jobs j n =
     let count : length (jobs ++ j ∷ []) ≡ length jobs + 1 = length-append jobs (j ∷ []) in
     let parts : after_parts (jobs ++ j ∷ []) ≡ after_parts jobs + length j.after = sum_by_push (λ (i : JobData). length i.after) jobs j in
@@ -91,7 +98,8 @@ weight-push jobs j n =
     rw (count, parts, events, per_job, per_event) (omega arith)
 
 -- a step adds its events for each initiator
-pub weight-step : (jobs : List JobData) (j : JobData) (step : Step) (n : ℕ) → weight (jobs ++ stepped j step ∷ []) n ≡ weight (jobs ++ j ∷ []) n + n * step_events step
+pub weight-step : (jobs : List JobData) (j : JobData) (step : Step) (n : ℕ)
+    → weight (jobs ++ stepped j step ∷ []) n ≡ weight (jobs ++ j ∷ []) n + n * step_events step
 weight-step jobs j step n =
     let events : sum_by step_events (j.steps ++ step ∷ []) ≡ sum_by step_events j.steps + step_events step = sum_by_push step_events j.steps step in
     let all : n * sum_by step_events (j.steps ++ step ∷ []) ≡ n * sum_by step_events j.steps + n * step_events step = ap (λ (x : ℕ). n * x) events ∙ mul-add n (sum_by step_events j.steps) (step_events step) in

@@ -1,6 +1,6 @@
 -- A line and a field end where LF and a space first stand.
 use Rattle.std.proofs.Common.{◌≡◌, ℕ, suc, ◌+◌, ◌<◌, Bool, true, false, cond, eqb, not, List, [], ◌∷◌, length, take, drop, Some, None, refl, sym, ap, ◌∙◌, arith}
-use Rattle.std.specs.List.{position, position_or_len, prefix_len, onto_first, slice_split}
+use Rattle.std.specs.List.{position, position_or_len, prefix_len, onto_first}
 use Rattle.std.proofs.lemmas.List.Splits.{slice_split-cons_no, slice_split_first}
 use Rattle.std.proofs.lemmas.Grind.{common_steps}
 use Rattle.std.proofs.lemmas.List.Sums.{prefix_len-le-length}
@@ -49,14 +49,16 @@ fields_passed b bs e = rw e refl
 fields_from_first : (text : List ℕ) → fields_of text ≡ fields_of (without_first_spaces text)
 fields_from_first [] = refl
 fields_from_first (b ∷ bs) = go (is_space b) refl (fields_from_first bs) where
-  go : (t : Bool) → is_space b ≡ t → fields_of bs ≡ fields_of (without_first_spaces bs) → fields_of (b ∷ bs) ≡ fields_of (without_first_spaces (b ∷ bs))
+  go : (t : Bool) → is_space b ≡ t → fields_of bs ≡ fields_of (without_first_spaces bs)
+      → fields_of (b ∷ bs) ≡ fields_of (without_first_spaces (b ∷ bs))
   go true e ih = fields_passed b bs e ∙ ih ∙ ap fields_of (sym (spaces_passed b bs e))
   go false e ih = ap fields_of (sym (no_spaces b bs e))
 
 no_more_spaces : (text : List ℕ) → prefix_len is_space (without_first_spaces text) ≡ 0
 no_more_spaces [] = refl
 no_more_spaces (b ∷ bs) = go (is_space b) refl (no_more_spaces bs) where
-  go : (t : Bool) → is_space b ≡ t → prefix_len is_space (without_first_spaces bs) ≡ 0 → prefix_len is_space (without_first_spaces (b ∷ bs)) ≡ 0
+  go : (t : Bool) → is_space b ≡ t → prefix_len is_space (without_first_spaces bs) ≡ 0
+      → prefix_len is_space (without_first_spaces (b ∷ bs)) ≡ 0
   go true e ih = ap (prefix_len is_space) (spaces_passed b bs e) ∙ ih
   go false e ih = ap (prefix_len is_space) (no_spaces b bs e) ∙ rw e refl
 
@@ -74,14 +76,17 @@ field_stops b bs e f = rw (e, f) refl
 field_goes_on : (b : ℕ) (bs : List ℕ) → is_space b ≡ false → ends_field bs ≡ false → fields_of (b ∷ bs) ≡ onto_first b (fields_of bs)
 field_goes_on b bs e f = rw (e, f) refl
 
-field_begins : (b : ℕ) (bs : List ℕ) → is_space b ≡ false → fields_of (b ∷ bs) ≡ (b ∷ take (field_end bs) bs) ∷ fields_of (drop (field_end bs) bs)
+field_begins : (b : ℕ) (bs : List ℕ) → is_space b ≡ false
+    → fields_of (b ∷ bs) ≡ (b ∷ take (field_end bs) bs) ∷ fields_of (drop (field_end bs) bs)
 field_begins b [] e = rw e refl
 field_begins b (c ∷ bs) e = go (is_space c) refl (λ f. field_begins c bs f) where
-  go : (t : Bool) → is_space c ≡ t → (is_space c ≡ false → fields_of (c ∷ bs) ≡ (c ∷ take (field_end bs) bs) ∷ fields_of (drop (field_end bs) bs)) → fields_of (b ∷ c ∷ bs) ≡ (b ∷ take (field_end (c ∷ bs)) (c ∷ bs)) ∷ fields_of (drop (field_end (c ∷ bs)) (c ∷ bs))
+  go : (t : Bool) → is_space c ≡ t → (is_space c ≡ false → fields_of (c ∷ bs) ≡ (c ∷ take (field_end bs) bs) ∷ fields_of (drop (field_end bs) bs))
+      → fields_of (b ∷ c ∷ bs) ≡ (b ∷ take (field_end (c ∷ bs)) (c ∷ bs)) ∷ fields_of (drop (field_end (c ∷ bs)) (c ∷ bs))
   go true f ih = field_stops b (c ∷ bs) e f ∙ ap (λ (n : ℕ). (b ∷ take n (c ∷ bs)) ∷ fields_of (drop n (c ∷ bs))) (sym (field_end_here c bs f))
   go false f ih = field_goes_on b (c ∷ bs) e f ∙ ap (onto_first b) (ih f) ∙ ap (λ (n : ℕ). (b ∷ take n (c ∷ bs)) ∷ fields_of (drop n (c ∷ bs))) (sym (field_end_more c bs f))
 
-field_at : (text : List ℕ) → prefix_len is_space text ≡ 0 → fields_of text ≡ starts_fields (take (field_end text) text) (fields_of (drop (field_end text) text))
+field_at : (text : List ℕ) → prefix_len is_space text ≡ 0
+    → fields_of text ≡ starts_fields (take (field_end text) text) (fields_of (drop (field_end text) text))
 field_at [] e = refl
 field_at (b ∷ bs) e = go (is_space b) refl where
   go : (t : Bool) → is_space b ≡ t → fields_of (b ∷ bs) ≡ starts_fields (take (field_end (b ∷ bs)) (b ∷ bs)) (fields_of (drop (field_end (b ∷ bs)) (b ∷ bs)))
@@ -93,6 +98,7 @@ first_field text = fields_from_first text ∙ field_at (without_first_spaces tex
 
 -- ---- the parts of a list
 
+-- a list in which no comma is found
 one_part : (list : List ℕ) → length list ≡ position_or_len is_comma list → parts_of list ≡ list ∷ []
 one_part [] h = refl
 one_part (b ∷ bs) h = go (is_comma b) refl (λ k. one_part bs k) where
@@ -107,7 +113,8 @@ pub no_comma : (list : List ℕ) → position is_comma list ≡ None → parts_o
 no_comma list e = one_part list (no_place is_comma list e)
 
 -- the first part ends at the first comma
-pub at_comma : (list : List ℕ) (place : ℕ) → position is_comma list ≡ Some place → parts_of list ≡ take place list ∷ parts_of (drop (place + 1) list)
+pub at_comma : (list : List ℕ) (place : ℕ) → position is_comma list ≡ Some place
+    → parts_of list ≡ take place list ∷ parts_of (drop (place + 1) list)
 at_comma list place e =
     let lt : position_or_len is_comma list < length list = grind (arith, common_steps) in
     let same : position_or_len is_comma list ≡ place = grind (arith, common_steps) in

@@ -24,14 +24,18 @@ rises_lower : (low high : ℕ) (kinds : List ℕ) → low ≤ high → Rises hig
 rises_lower low high [] le r = tt
 rises_lower low high (k ∷ kinds) le r = (omega (arith, r.0), r.1)
 
-rises_when : (holds : Bool) (kind : Kind) (low : ℕ) (kinds : List ℕ) → low ≤ kind_number kind → Rises (kind_number kind) kinds → Rises low (when holds kind ++ kinds)
+-- one more kind in front
+rises_when : (holds : Bool) (kind : Kind) (low : ℕ) (kinds : List ℕ) → low ≤ kind_number kind → Rises (kind_number kind) kinds
+    → Rises low (when holds kind ++ kinds)
 rises_when true kind low kinds le r = (le, r)
 rises_when false kind low kinds le r = rises_lower low (kind_number kind) kinds le r
 
+-- the last kind
 rises_last : (holds : Bool) (kind : Kind) (low : ℕ) → low ≤ kind_number kind → Rises low (when holds kind)
 rises_last true kind low le = (le, tt)
 rises_last false kind low le = tt
 
+-- the kinds of a statement behind others rise
 behind_rises : (n : ℕ) (earlier : List Statement) (jobs : List JobData) (s : Statement) → Rises 3 (kinds_behind n earlier jobs s)
 behind_rises n earlier jobs s =
     let placed : Bool = not (is_misplaced earlier s) in
@@ -48,10 +52,12 @@ behind_rises n earlier jobs s =
     (rises_when (is_too_heavy n jobs s && asked) TooHeavy 13 _ (omega arith)
     (rises_last (is_late_deck earlier s && asked) LateDeck 14 (omega arith)))))))))))
 
+-- the same, where a line has a statement
 statement_rises : (n : ℕ) (earlier : List Statement) (o : Option Statement) → Rises 3 (kinds_of_statement n earlier o)
 statement_rises n earlier None = tt
 statement_rises n earlier (Some s) = behind_rises n earlier (jobs_of earlier) s
 
+-- the kinds of a line rise
 line_rises : (n : ℕ) (v : Version) (earlier : List Statement) (line : List ℕ) → Rises 1 (kinds_of n v earlier line)
 line_rises n v earlier line =
     rises_when (has_foreign_byte line) ForeignByte 1 _ (omega arith)
@@ -74,14 +80,16 @@ least low (k ∷ kinds) r j c = go c.0 c.1 c.2 (λ d. least k kinds r.1 j d) whe
 abbrev pub Lowest : Option DeckFault → (DeckFault → Type 0) → Type 0
 Lowest o P = MatchOption o ((f : DeckFault) → ¬ P f) (λ f. P f × ((g : DeckFault) → P g → IsNoLater f g))
 
-lowest_same : (o : Option DeckFault) (P Q : DeckFault → Type 0) → ((f : DeckFault) → P f → Q f) → ((f : DeckFault) → Q f → P f) → Lowest o P → Lowest o Q
+lowest_same : (o : Option DeckFault) (P Q : DeckFault → Type 0) → ((f : DeckFault) → P f → Q f) → ((f : DeckFault) → Q f → P f)
+    → Lowest o P → Lowest o Q
 lowest_same None P Q to from h = λ f q. h f (from f q)
 lowest_same (Some f) P Q to from h = (to f h.0, λ g q. h.1 g (from g q))
 
 -- ---- lines of a version, for so many initiators
 
 module _ (n : ℕ) (v : Version) where
-  lowest_first : (earlier : List Statement) (line : List ℕ) (k : ℕ) (kinds : List ℕ) → kinds_of n v earlier line ≡ k ∷ kinds → (j : ℕ) → Contains (kinds_of n v earlier line) j → k ≤ j
+  lowest_first : (earlier : List Statement) (line : List ℕ) (k : ℕ) (kinds : List ℕ) → kinds_of n v earlier line ≡ k ∷ kinds
+      → (j : ℕ) → Contains (kinds_of n v earlier line) j → k ≤ j
   lowest_first earlier line k kinds e j c =
       let r = rw e at (line_rises n v earlier line) in
       least k (k ∷ kinds) (omega arith, r.1) j (rw e at c)
@@ -93,19 +101,23 @@ module _ (n : ℕ) (v : Version) where
     line_has : (before behind : List (List ℕ)) (line : List ℕ) → lines ≡ before ++ line ∷ behind → f.line ≡ length before + number → Contains (kinds_of n v (earlier ++ statements_of v before) line) f.kind → FaultIn number earlier lines f
     end_has : list_any is_null (earlier ++ statements_of v lines) ≡ false → f.line ≡ length lines + number → f.kind ≡ kind_number NoNull → FaultIn number earlier lines f
 
-  no_earlier_line : (number : ℕ) (earlier : List Statement) (lines : List (List ℕ)) (f : DeckFault) → FaultIn number earlier lines f → number ≤ f.line
+  no_earlier_line : (number : ℕ) (earlier : List Statement) (lines : List (List ℕ)) (f : DeckFault) → FaultIn number earlier lines f
+      → number ≤ f.line
   no_earlier_line number earlier lines f (line_has before behind line e at_number c) = omega (arith, at_number)
   no_earlier_line number earlier lines f (end_has e at_number k) = omega (arith, at_number)
 
   -- behind one more line
-  later : (number : ℕ) (earlier : List Statement) (line : List ℕ) (lines : List (List ℕ)) (f : DeckFault) → FaultIn (number + 1) (earlier ++ option_to_list (statement_of v line)) lines f → FaultIn number earlier (line ∷ lines) f
+  later : (number : ℕ) (earlier : List Statement) (line : List ℕ) (lines : List (List ℕ)) (f : DeckFault)
+      → FaultIn (number + 1) (earlier ++ option_to_list (statement_of v line)) lines f → FaultIn number earlier (line ∷ lines) f
   later number earlier line lines f (line_has before behind at e at_number c) =
       line_has (line ∷ before) behind at (ap (λ (x : List (List ℕ)). line ∷ x) e) (omega (arith, at_number)) (subst (λ (x : List Statement). Contains (kinds_of n v x at) f.kind) (sym (earlier_more earlier (statement_of v line) (statements_of v before))) c)
   later number earlier line lines f (end_has e at_number k) =
       end_has (ap (list_any is_null) (earlier_more earlier (statement_of v line) (statements_of v lines)) ∙ e) (omega (arith, at_number)) k
 
   -- a fault of the first line, or of those behind it
-  here_or_later : (number : ℕ) (earlier : List Statement) (line : List ℕ) (lines : List (List ℕ)) (f : DeckFault) → FaultIn number earlier (line ∷ lines) f → ((f.line ≡ number) × Contains (kinds_of n v earlier line) f.kind) ⊎ FaultIn (number + 1) (earlier ++ option_to_list (statement_of v line)) lines f
+  here_or_later : (number : ℕ) (earlier : List Statement) (line : List ℕ) (lines : List (List ℕ)) (f : DeckFault)
+      → FaultIn number earlier (line ∷ lines) f
+      → ((f.line ≡ number) × Contains (kinds_of n v earlier line) f.kind) ⊎ FaultIn (number + 1) (earlier ++ option_to_list (statement_of v line)) lines f
   here_or_later number earlier line lines f (line_has [] behind at e at_number c) =
       let same : at ≡ line = cc in
       let number_of : f.line ≡ number = omega (arith, at_number) in
@@ -120,11 +132,14 @@ module _ (n : ℕ) (v : Version) where
   here_or_later number earlier line lines f (end_has e at_number k) =
       inr (end_has (ap (list_any is_null) (sym (earlier_more earlier (statement_of v line) (statements_of v lines))) ∙ e) (omega (arith, at_number)) k)
 
-  not_here : (number : ℕ) (earlier : List Statement) (line : List ℕ) (lines : List (List ℕ)) → kinds_of n v earlier line ≡ [] → (f : DeckFault) → ((f.line ≡ number) × Contains (kinds_of n v earlier line) f.kind) ⊎ FaultIn (number + 1) (earlier ++ option_to_list (statement_of v line)) lines f → FaultIn (number + 1) (earlier ++ option_to_list (statement_of v line)) lines f
+  not_here : (number : ℕ) (earlier : List Statement) (line : List ℕ) (lines : List (List ℕ)) → kinds_of n v earlier line ≡ []
+      → (f : DeckFault) → ((f.line ≡ number) × Contains (kinds_of n v earlier line) f.kind) ⊎ FaultIn (number + 1) (earlier ++ option_to_list (statement_of v line)) lines f
+      → FaultIn (number + 1) (earlier ++ option_to_list (statement_of v line)) lines f
   not_here number earlier line lines e f (inl h) = absurd (no_element f.kind (subst (λ (x : List ℕ). Contains x f.kind) e h.1))
   not_here number earlier line lines e f (inr h) = h
 
-  lowest_at_end : (number : ℕ) (earlier : List Statement) (b : Bool) → list_any is_null earlier ≡ b → Lowest (first_of_list (map (fault_at number) (when (not b) NoNull))) (FaultIn number earlier [])
+  lowest_at_end : (number : ℕ) (earlier : List Statement) (b : Bool) → list_any is_null earlier ≡ b
+      → Lowest (first_of_list (map (fault_at number) (when (not b) NoNull))) (FaultIn number earlier [])
   lowest_at_end number earlier true e = λ f h. none f h where
     none : (f : DeckFault) → ¬ FaultIn number earlier [] f
     none f (line_has [] behind at n l c) = absurd cc
@@ -136,7 +151,8 @@ module _ (n : ℕ) (v : Version) where
     all g (line_has (x ∷ before) behind at n l c) = absurd cc
     all g (end_has m l k) = inr (omega (arith, l), omega (arith, k))
 
-  lowest_in_line : (number : ℕ) (earlier : List Statement) (line : List ℕ) (lines : List (List ℕ)) (k : ℕ) (kinds : List ℕ) → kinds_of n v earlier line ≡ k ∷ kinds → Lowest (Some (fault_at number k)) (FaultIn number earlier (line ∷ lines))
+  lowest_in_line : (number : ℕ) (earlier : List Statement) (line : List ℕ) (lines : List (List ℕ)) (k : ℕ) (kinds : List ℕ)
+      → kinds_of n v earlier line ≡ k ∷ kinds → Lowest (Some (fault_at number k)) (FaultIn number earlier (line ∷ lines))
   lowest_in_line number earlier line lines k kinds e = (has, λ g h. all g (here_or_later number earlier line lines g h)) where
     has : FaultIn number earlier (line ∷ lines) (fault_at number k)
     has = line_has [] lines line refl (omega arith) (subst (λ (x : List Statement). Contains (kinds_of n v x line) k) (sym (append-nil earlier)) (subst (λ (x : List ℕ). Contains x k) (sym e) (0, omega arith, refl)))
@@ -145,7 +161,8 @@ module _ (n : ℕ) (v : Version) where
     all g (inl h) = inr (sym h.0, lowest_first earlier line k kinds e g.kind h.1)
     all g (inr h) = inl (omega (arith, no_earlier_line (number + 1) (earlier ++ option_to_list (statement_of v line)) lines g h))
 
-  lowest_from : (number : ℕ) (earlier : List Statement) (lines : List (List ℕ)) → Lowest (first_of_list (faults_from n v number earlier lines)) (FaultIn number earlier lines)
+  lowest_from : (number : ℕ) (earlier : List Statement) (lines : List (List ℕ))
+      → Lowest (first_of_list (faults_from n v number earlier lines)) (FaultIn number earlier lines)
   unfolding faults_from
   lowest_from number earlier [] = lowest_at_end number earlier (list_any is_null earlier) refl
   lowest_from number earlier (line ∷ lines) = go (kinds_of n v earlier line) refl (lowest_from (number + 1) (earlier ++ option_to_list (statement_of v line)) lines) where

@@ -2,7 +2,7 @@
 use Rattle.std.proofs.Common.{◌≡◌, ℕ, ◌+◌, ◌≤◌, ◌<◌, Bool, true, false, not, List, [], ◌∷◌, ◌++◌, length, map, Option, Some, None, refl, sym, ap, ◌∙◌, arith, append_assoc}
 use Rattle.std.proofs.lemmas.List.{append-nil, nil_from_length}
 use Rattle.std.specs.Prelude.{option_to_list}
-use Rattle.std.specs.List.{list_any, cons_option}
+use Rattle.std.specs.List.{cons_option}
 use Rattle.mv_deck.specs.declared.fault.DeckFault.{DeckFault}
 use Rattle.mv_deck.specs.declared.fault.Kind.TheVariants.{NoNull}
 use Rattle.mv_deck.specs.declared.fault.LineRefusal.{LineRefusal}
@@ -30,15 +30,20 @@ pub record IsAt (n : ℕ) (bytes rest : List ℕ) (number : ℕ) (r : Reading) :
 pub at_first : (n : ℕ) (bytes : List ℕ) (r : Reading) → IsBehind n (version_in bytes) [] r → IsAt n bytes bytes 1 r
 at_first n bytes r b = record { earlier = []; behind = b; first = refl; jobs = refl; count = omega arith }
 
-pub earlier_more : (earlier : List Statement) (o : Option Statement) (later : List Statement) → earlier ++ cons_option o later ≡ (earlier ++ option_to_list o) ++ later
+pub earlier_more : (earlier : List Statement) (o : Option Statement) (later : List Statement)
+    → earlier ++ cons_option o later ≡ (earlier ++ option_to_list o) ++ later
 earlier_more earlier None later = ap (λ (x : List Statement). x ++ later) (sym (append-nil earlier))
 earlier_more earlier (Some s) later = sym (append_assoc earlier (s ∷ []) later)
 
-pub one_line : (n : ℕ) (v : Version) (number : ℕ) (earlier : List Statement) (line : List ℕ) (lines : List (List ℕ)) → kinds_of n v earlier line ≡ [] → faults_from n v number earlier (line ∷ lines) ≡ faults_from n v (number + 1) (earlier ++ option_to_list (statement_of v line)) lines
+pub one_line : (n : ℕ) (v : Version) (number : ℕ) (earlier : List Statement) (line : List ℕ) (lines : List (List ℕ))
+    → kinds_of n v earlier line ≡ [] → faults_from n v number earlier (line ∷ lines) ≡ faults_from n v (number + 1) (earlier ++ option_to_list (statement_of v line)) lines
 unfolding faults_from
 one_line n v number earlier line lines none = rw none refl
 
-pub at_next : (n : ℕ) (bytes rest behind line : List ℕ) (number : ℕ) (r next : Reading) (at : IsAt n bytes rest number r) → lines_of rest ≡ line ∷ lines_of behind → length behind < length rest → kinds_of n (version_in bytes) at.earlier line ≡ [] → IsBehind n (version_in bytes) (at.earlier ++ option_to_list (statement_of (version_in bytes) line)) next → IsAt n bytes behind (number + 1) next
+pub at_next : (n : ℕ) (bytes rest behind line : List ℕ) (number : ℕ) (r next : Reading) (at : IsAt n bytes rest number r)
+    → lines_of rest ≡ line ∷ lines_of behind → length behind < length rest → kinds_of n (version_in bytes) at.earlier line ≡ []
+    → IsBehind n (version_in bytes) (at.earlier ++ option_to_list (statement_of (version_in bytes) line)) next
+    → IsAt n bytes behind (number + 1) next
 at_next n bytes rest behind line number r next at lines shorter none b = record {
   earlier = at.earlier ++ option_to_list (statement_of (version_in bytes) line);
   behind = b;
@@ -47,32 +52,41 @@ at_next n bytes rest behind line number r next at lines shorter none b = record 
   count = omega (arith, at.count);
 }
 
-pub first_of_map : (number k : ℕ) (kinds : List ℕ) (more : List DeckFault) → first_of_list kinds ≡ Some k → first_of_list (map (fault_at number) kinds ++ more) ≡ Some (fault_at number k)
+pub first_of_map : (number k : ℕ) (kinds : List ℕ) (more : List DeckFault) → first_of_list kinds ≡ Some k
+    → first_of_list (map (fault_at number) kinds ++ more) ≡ Some (fault_at number k)
 first_of_map number k [] more e = absurd cc
 first_of_map number k (j ∷ kinds) more e = cc
 
 -- the first kind of a line is the first fault
-pub first_at : (n : ℕ) (bytes rest behind line : List ℕ) (number k : ℕ) (r : Reading) (at : IsAt n bytes rest number r) → lines_of rest ≡ line ∷ lines_of behind → first_of_list (kinds_of n (version_in bytes) at.earlier line) ≡ Some k → first_fault bytes n ≡ Some (fault_at number k)
+pub first_at : (n : ℕ) (bytes rest behind line : List ℕ) (number k : ℕ) (r : Reading) (at : IsAt n bytes rest number r)
+    → lines_of rest ≡ line ∷ lines_of behind → first_of_list (kinds_of n (version_in bytes) at.earlier line) ≡ Some k
+    → first_fault bytes n ≡ Some (fault_at number k)
 unfolding faults_from
 first_at n bytes rest behind line number k r at lines e =
     sym at.first ∙ ap (λ (x : List (List ℕ)). first_of_list (faults_from n (version_in bytes) number at.earlier x)) lines ∙ first_of_map number k (kinds_of n (version_in bytes) at.earlier line) (faults_from n (version_in bytes) (number + 1) (at.earlier ++ option_to_list (statement_of (version_in bytes) line)) (lines_of behind)) e
 
-pub tells_at : (n : ℕ) (bytes rest behind line : List ℕ) (number : ℕ) (r : Reading) (at : IsAt n bytes rest number r) → lines_of rest ≡ line ∷ lines_of behind → (e : LineRefusal) → Tells e (kinds_of n (version_in bytes) at.earlier line) → TellsFirst (refusal_at number e) (first_fault bytes n)
+pub tells_at : (n : ℕ) (bytes rest behind line : List ℕ) (number : ℕ) (r : Reading) (at : IsAt n bytes rest number r)
+    → lines_of rest ≡ line ∷ lines_of behind → (e : LineRefusal) → Tells e (kinds_of n (version_in bytes) at.earlier line)
+    → TellsFirst (refusal_at number e) (first_fault bytes n)
 tells_at n bytes rest behind line number r at lines (Has kind) told = first_at n bytes rest behind line number (kind_number kind) r at lines told
 tells_at n bytes rest behind line number r at lines NoMemory told = tt
 
 -- behind the last line
-fault_at_end : (n : ℕ) (bytes rest : List ℕ) (number : ℕ) (r : Reading) (at : IsAt n bytes rest number r) → rest ≡ [] → first_fault bytes n ≡ first_of_list (map (fault_at number) (when (not r.ended) NoNull))
+fault_at_end : (n : ℕ) (bytes rest : List ℕ) (number : ℕ) (r : Reading) (at : IsAt n bytes rest number r) → rest ≡ []
+    → first_fault bytes n ≡ first_of_list (map (fault_at number) (when (not r.ended) NoNull))
 unfolding faults_from
 fault_at_end n bytes rest number r at none =
     sym at.first ∙ ap (λ (x : List ℕ). first_of_list (faults_from n (version_in bytes) number at.earlier (lines_of x))) none ∙ ap (λ (b : Bool). first_of_list (map (fault_at number) (when (not b) NoNull))) (sym at.behind.ended)
 
-pub no_null_at_end : (n : ℕ) (bytes rest : List ℕ) (number : ℕ) (r : Reading) (at : IsAt n bytes rest number r) → length rest ≡ 0 → r.ended ≡ false → first_fault bytes n ≡ Some (fault_at number 12)
+pub no_null_at_end : (n : ℕ) (bytes rest : List ℕ) (number : ℕ) (r : Reading) (at : IsAt n bytes rest number r) → length rest ≡ 0
+    → r.ended ≡ false → first_fault bytes n ≡ Some (fault_at number 12)
 no_null_at_end n bytes rest number r at none e = fault_at_end n bytes rest number r at (nil_from_length rest none) ∙ rw e refl
 
-pub no_fault_at_end : (n : ℕ) (bytes rest : List ℕ) (number : ℕ) (r : Reading) (at : IsAt n bytes rest number r) → length rest ≡ 0 → r.ended ≡ true → first_fault bytes n ≡ None
+pub no_fault_at_end : (n : ℕ) (bytes rest : List ℕ) (number : ℕ) (r : Reading) (at : IsAt n bytes rest number r) → length rest ≡ 0
+    → r.ended ≡ true → first_fault bytes n ≡ None
 no_fault_at_end n bytes rest number r at none e = fault_at_end n bytes rest number r at (nil_from_length rest none) ∙ rw e refl
 
-pub deck_at_end : (n : ℕ) (bytes rest : List ℕ) (number : ℕ) (r : Reading) (at : IsAt n bytes rest number r) → length rest ≡ 0 → jobs_read r ≡ deck_of bytes
+pub deck_at_end : (n : ℕ) (bytes rest : List ℕ) (number : ℕ) (r : Reading) (at : IsAt n bytes rest number r) → length rest ≡ 0
+    → jobs_read r ≡ deck_of bytes
 deck_at_end n bytes rest number r at none =
     at.behind.jobs ∙ ap jobs_of (sym (append-nil at.earlier)) ∙ ap (λ (x : List ℕ). jobs_of (at.earlier ++ statements_of (version_in bytes) (lines_of x))) (sym (nil_from_length rest none)) ∙ at.jobs

@@ -1,12 +1,12 @@
 -- Rows worked by hand: what the definitions come to.
-use Rattle.std.proofs.Common.{◌≡◌, ℕ, true, false, List, [], ◌∷◌, ◌++◌, Some, None, refl}
+use Rattle.std.proofs.Common.{◌≡◌, ℕ, List, [], ◌∷◌, ◌++◌, Some, None, refl}
 use Rattle.std.specs.Prelude.{codes}
 use Rattle.mv_latch.specs.declared.request.Mode.TheVariants.{Shared, Exclusive}
-use Rattle.mv_deck.specs.declared.deck.Step.TheVariants.{Print, Use, Free, Count, Scan, Abend, Return}
+use Rattle.mv_deck.specs.declared.deck.Step.TheVariants.{Print, Use, Free, Count, Scan, Return}
 use Rattle.mv_deck.specs.declared.form.Version.TheVariants.{One, Two}
 use Rattle.mv_deck.specs.Line.{lines_of, without_cr, fields_of}
 use Rattle.mv_deck.specs.Operand.{latch_of, amount_of, code_of, end_code_of}
-use Rattle.mv_deck.specs.Statement.{Null, DeckOf, JobOf, PrintOf, UseOf, CountOf, AbendOf, ReturnOf, form_of, statement_of, version_of}
+use Rattle.mv_deck.specs.Statement.{Null, JobOf, PrintOf, UseOf, CountOf, AbendOf, ReturnOf, form_of, statement_of, version_of}
 use Rattle.mv_deck.specs.Deck.{JobData, deck_of}
 use Rattle.mv_deck.specs.Fault.{first_fault, fault_at, faults_from}
 use Rattle.mv_deck.specs.Weight.{weight}

@@ -1,5 +1,5 @@
 -- A text without fault states a sound deck.
-use Rattle.std.proofs.Common.{◌≡◌, ℕ, zero, suc, ◌+◌, ◌*◌, ◌<◌, ◌≤◌, ◌^◌, Bool, true, false, not, ◌&&◌, ◌||◌, ◌==◌, List, [], ◌∷◌, ◌++◌, length, map, Option, Some, None, is_none, is_some, option_map, refl, sym, ap, subst, ◌∙◌, arith, append_assoc, bytes_eq, if◌then◌else◌}
+use Rattle.std.proofs.Common.{◌≡◌, ℕ, ◌+◌, ◌<◌, ◌≤◌, ◌^◌, Bool, true, false, not, ◌&&◌, ◌||◌, ◌==◌, List, [], ◌∷◌, ◌++◌, length, map, Option, Some, None, is_none, is_some, option_map, refl, sym, ap, subst, ◌∙◌, arith, append_assoc, bytes_eq, if◌then◌else◌}
 use Rattle.std.proofs.lemmas.List.{append-nil, length-map}
 use Rattle.std.proofs.lemmas.Slice.Eq.{bytes_eq-Decides}
 use Rattle.std.specs.Prelude.{nat_lt, unwrap_or, option_to_list}
@@ -28,34 +28,43 @@ use Rattle.mv_deck.proofs.Passes.{version_in, one_line, earlier_more}
 
 -- ---- one more step, and one more job
 
-steps_push : (done steps : List Step) (step : Step) → AreSoundSteps done steps → IsSoundStep (done ++ steps) step → AreSoundSteps done (steps ++ step ∷ [])
+-- one more step behind sound ones
+steps_push : (done steps : List Step) (step : Step) → AreSoundSteps done steps → IsSoundStep (done ++ steps) step
+    → AreSoundSteps done (steps ++ step ∷ [])
 steps_push done [] step are is = (subst (λ (x : List Step). IsSoundStep x step) (append-nil done) is, tt)
 steps_push done (s ∷ steps) step are is =
     (are.0, steps_push (done ++ s ∷ []) steps step are.1 (subst (λ (x : List Step). IsSoundStep x step) (sym (append_assoc done (s ∷ []) steps)) is))
 
-jobs_push : (before jobs : List JobData) (j : JobData) → AreSoundJobs before jobs → IsSoundJob (before ++ jobs) j → AreSoundJobs before (jobs ++ j ∷ [])
+-- one more job behind sound ones
+jobs_push : (before jobs : List JobData) (j : JobData) → AreSoundJobs before jobs → IsSoundJob (before ++ jobs) j
+    → AreSoundJobs before (jobs ++ j ∷ [])
 jobs_push before [] j are is = (subst (λ (x : List JobData). IsSoundJob x j) (append-nil before) is, tt)
 jobs_push before (i ∷ jobs) j are is =
     (are.0, jobs_push (before ++ i ∷ []) jobs j are.1 (subst (λ (x : List JobData). IsSoundJob x j) (sym (append_assoc before (i ∷ []) jobs)) is))
 
-jobs_split : (before jobs : List JobData) (j : JobData) → AreSoundJobs before (jobs ++ j ∷ []) → AreSoundJobs before jobs × IsSoundJob (before ++ jobs) j
+-- the last of sound jobs
+jobs_split : (before jobs : List JobData) (j : JobData) → AreSoundJobs before (jobs ++ j ∷ [])
+    → AreSoundJobs before jobs × IsSoundJob (before ++ jobs) j
 jobs_split before [] j are = (tt, subst (λ (x : List JobData). IsSoundJob x j) (sym (append-nil before)) are.0)
 jobs_split before (i ∷ jobs) j are =
     let rest = jobs_split (before ++ i ∷ []) jobs j are.1 in
     ((are.0, rest.0), subst (λ (x : List JobData). IsSoundJob x j) (append_assoc before (i ∷ []) jobs) rest.1)
 
 -- the last job with one more step
-pub step_push : (jobs : List JobData) (j : JobData) (step : Step) → AreSoundJobs [] (jobs ++ j ∷ []) → IsSoundStep j.steps step → AreSoundJobs [] (jobs ++ stepped j step ∷ [])
+pub step_push : (jobs : List JobData) (j : JobData) (step : Step) → AreSoundJobs [] (jobs ++ j ∷ []) → IsSoundStep j.steps step
+    → AreSoundJobs [] (jobs ++ stepped j step ∷ [])
 step_push jobs j step are is =
     let parts = jobs_split [] jobs j are in
     let old = parts.1 in
     jobs_push [] jobs (stepped j step) parts.0 (record { named = old.named; new = old.new; few = old.few; distinct = old.distinct; earlier = old.earlier; steps = steps_push [] j.steps step old.steps is })
 
+-- the same from the first job on
 pub job_push : (jobs : List JobData) (j : JobData) → AreSoundJobs [] jobs → IsSoundJob jobs j → AreSoundJobs [] (jobs ++ j ∷ [])
 job_push jobs j are is = jobs_push [] jobs j are is
 
 -- ---- numbers and codes
 
+-- a number within bounds
 within_bound : (low high : ℕ) (o : Option ℕ) (n : ℕ) → within low high o ≡ Some n → (low ≤ n) × (n ≤ high)
 within_bound low high None n e = absurd cc
 within_bound low high (Some m) n e = go (is_within low high m) refl e where
@@ -63,6 +72,7 @@ within_bound low high (Some m) n e = go (is_within low high m) refl e where
   go true w f = let same : m ≡ n = cc in grind arith
   go false w f = absurd cc
 
+-- a user code has twelve bits
 user_bound : (digits : List ℕ) (n : ℕ) → user_code_of digits ≡ Some n → n ≤ 4095
 user_bound [] n e = absurd cc
 user_bound (a ∷ []) n e = absurd cc
@@ -71,9 +81,11 @@ user_bound (a ∷ b ∷ c ∷ []) n e = absurd cc
 user_bound (a ∷ b ∷ c ∷ d ∷ []) n e = grind arith
 user_bound (a ∷ b ∷ c ∷ d ∷ f ∷ digits) n e = absurd cc
 
+-- a hexadecimal digit has four bits
 hex_bound : (b : ℕ) → is_hex b ≡ true → hex_value b ≤ 15
 hex_bound b e = grind arith
 
+-- a system code has twelve bits
 system_bound : (digits : List ℕ) (n : ℕ) → system_code_of digits ≡ Some n → n ≤ 4095
 system_bound [] n e = absurd cc
 system_bound (a ∷ []) n e = absurd cc
@@ -88,15 +100,19 @@ system_bound (a ∷ b ∷ c ∷ d ∷ digits) n e = absurd cc
 
 -- ---- places of names
 
-place_bound : (name : List ℕ) (k : ℕ) (jobs : List JobData) (i : ℕ) → position_from (λ (j : JobData). bytes_eq j.name name) k jobs ≡ Some i → (k ≤ i) × (i < k + length jobs)
+-- a place is one of those of the jobs
+place_bound : (name : List ℕ) (k : ℕ) (jobs : List JobData) (i : ℕ)
+    → position_from (λ (j : JobData). bytes_eq j.name name) k jobs ≡ Some i → (k ≤ i) × (i < k + length jobs)
 place_bound name k [] i e = absurd cc
 place_bound name k (j ∷ jobs) i e = go (bytes_eq j.name name) refl (λ f. place_bound name (k + 1) jobs i f) where
-  go : (b : Bool) → bytes_eq j.name name ≡ b → (position_from (λ (j : JobData). bytes_eq j.name name) (k + 1) jobs ≡ Some i → (k + 1 ≤ i) × (i < k + 1 + length jobs)) → (k ≤ i) × (i < k + length (j ∷ jobs))
+  go : (b : Bool) → bytes_eq j.name name ≡ b → (position_from (λ (j : JobData). bytes_eq j.name name) (k + 1) jobs ≡ Some i → (k + 1 ≤ i) × (i < k + 1 + length jobs))
+      → (k ≤ i) × (i < k + length (j ∷ jobs))
   go true t ih = let same : k ≡ i = cc (e, t) in (omega arith, omega arith)
   go false t ih = let more : position_from (λ (j : JobData). bytes_eq j.name name) (k + 1) jobs ≡ Some i = cc (e, t) in let b = ih more in (omega (arith, b.0), omega (arith, b.1))
 
 -- two names with one place are one
-one_name : (a b : List ℕ) (k : ℕ) (jobs : List JobData) (i : ℕ) → position_from (λ (j : JobData). bytes_eq j.name a) k jobs ≡ Some i → position_from (λ (j : JobData). bytes_eq j.name b) k jobs ≡ Some i → a ≡ b
+one_name : (a b : List ℕ) (k : ℕ) (jobs : List JobData) (i : ℕ) → position_from (λ (j : JobData). bytes_eq j.name a) k jobs ≡ Some i
+    → position_from (λ (j : JobData). bytes_eq j.name b) k jobs ≡ Some i → a ≡ b
 one_name a b k [] i e f = absurd cc
 one_name a b k (j ∷ jobs) i e f = go (bytes_eq j.name a) (bytes_eq j.name b) refl refl (λ x y. one_name a b (k + 1) jobs i x y) where
   go : (p q : Bool) → bytes_eq j.name a ≡ p → bytes_eq j.name b ≡ q
@@ -108,14 +124,12 @@ one_name a b k (j ∷ jobs) i e f = go (bytes_eq j.name a) (bytes_eq j.name b) r
 
 -- ---- what a faultless statement is
 
+-- a test that tells no kind does not hold
 when_none : (holds : Bool) (kind : Kind) (rest : List ℕ) → when holds kind ++ rest ≡ [] → (holds ≡ false) × (rest ≡ [])
 when_none true kind rest e = absurd cc
 when_none false kind rest e = (refl, e)
 
-last_none : (holds : Bool) (kind : Kind) → when holds kind ≡ [] → holds ≡ false
-last_none true kind e = absurd cc
-last_none false kind e = refl
-
+-- where one part of a test holds, the other does not
 alone : (a b : Bool) → (a && b) ≡ false → b ≡ true → a ≡ false
 alone true true e f = absurd cc
 alone true false e f = absurd cc
@@ -134,7 +148,9 @@ pub record IsFaultless (n : ℕ) (earlier : List Statement) (jobs : List JobData
   pub going : is_behind_end jobs s ≡ false
   pub light : is_too_heavy n jobs s ≡ false
 
-is_faultless : (n : ℕ) (earlier : List Statement) (jobs : List JobData) (s : Statement) → kinds_behind n earlier jobs s ≡ [] → IsFaultless n earlier jobs s
+-- no kinds, no faults
+is_faultless : (n : ℕ) (earlier : List Statement) (jobs : List JobData) (s : Statement) → kinds_behind n earlier jobs s ≡ []
+    → IsFaultless n earlier jobs s
 is_faultless n earlier jobs s none =
     let a = when_none (has_bad_name s) BadName _ none in
     let b = when_none (repeats_name jobs s && not (is_misplaced earlier s)) RepeatedName _ a.1 in
@@ -164,20 +180,24 @@ is_faultless n earlier jobs s none =
 
 -- ---- a faultless JOB
 
+-- neither part holds
 first_false : (a b : Bool) → (a || b) ≡ false → (a ≡ false) × (b ≡ false)
 first_false true b e = absurd cc
 first_false false b e = (refl, e)
 
+-- what is not false
 not_false : (b : Bool) → not b ≡ false → b ≡ true
 not_false true e = refl
 not_false false e = absurd cc
 
+-- no place at all
 no_place : (o : Option ℕ) → is_some o ≡ false → o ≡ None
 no_place None e = refl
 no_place (Some n) e = absurd cc
 
 -- the jobs that two parts with different names await are different
-apart : (jobs : List JobData) (p q : AfterPart) → is_none (place_of jobs p.name) ≡ false → is_none (place_of jobs q.name) ≡ false → bytes_eq q.name p.name ≡ false → ¬ ((after_of jobs q).job ≡ (after_of jobs p).job)
+apart : (jobs : List JobData) (p q : AfterPart) → is_none (place_of jobs p.name) ≡ false → is_none (place_of jobs q.name) ≡ false
+    → bytes_eq q.name p.name ≡ false → ¬ ((after_of jobs q).job ≡ (after_of jobs p).job)
 apart jobs p q x y d same = go (place_of jobs q.name) (place_of jobs p.name) refl refl where
   go : (o u : Option ℕ) → place_of jobs q.name ≡ o → place_of jobs p.name ≡ u → ⊥
   go None u e f = absurd (cc (y, e))
@@ -189,7 +209,10 @@ apart jobs p q x y d same = go (place_of jobs q.name) (place_of jobs p.name) ref
       let names : q.name ≡ p.name = one_name q.name p.name 0 jobs i e (f ∙ ap (λ (m : ℕ). Some m) one) in
       absurd (cc ((bytes_eq-Decides q.name p.name).1 names, d))
 
-others_apart : (jobs : List JobData) (p : AfterPart) (parts : List AfterPart) → is_none (place_of jobs p.name) ≡ false → list_any (λ (q : AfterPart). is_none (place_of jobs q.name)) parts ≡ false → list_any (λ (q : AfterPart). bytes_eq q.name p.name) parts ≡ false
+-- a part awaits another job than those behind it
+others_apart : (jobs : List JobData) (p : AfterPart) (parts : List AfterPart) → is_none (place_of jobs p.name) ≡ false
+    → list_any (λ (q : AfterPart). is_none (place_of jobs q.name)) parts ≡ false
+    → list_any (λ (q : AfterPart). bytes_eq q.name p.name) parts ≡ false
     → AllByRecursion (λ (other : After). ¬ (other.job ≡ (after_of jobs p).job)) (map (after_of jobs) parts)
 others_apart jobs p [] x known d = tt
 others_apart jobs p (q ∷ parts) x known d =
@@ -197,13 +220,17 @@ others_apart jobs p (q ∷ parts) x known d =
     let e = first_false (bytes_eq q.name p.name) _ d in
     (apart jobs p q x k.0 e.0, others_apart jobs p parts x k.1 e.1)
 
-all_apart : (jobs : List JobData) (parts : List AfterPart) → list_any (λ (q : AfterPart). is_none (place_of jobs q.name)) parts ≡ false → has_double parts ≡ false → AreDistinct (map (after_of jobs) parts)
+-- no job is awaited twice
+all_apart : (jobs : List JobData) (parts : List AfterPart)
+    → list_any (λ (q : AfterPart). is_none (place_of jobs q.name)) parts ≡ false → has_double parts ≡ false
+    → AreDistinct (map (after_of jobs) parts)
 all_apart jobs [] known d = tt
 all_apart jobs (p ∷ parts) known d =
     let k = first_false (is_none (place_of jobs p.name)) _ known in
     let e = first_false (list_any (λ (q : AfterPart). bytes_eq q.name p.name) parts) _ d in
     (others_apart jobs p parts k.0 k.1 e.0, all_apart jobs parts k.1 e.1)
 
+-- accepted codes have their bound
 most_bound : (o : Option (List ℕ)) → accepts_no_code o ≡ false → most_of o ≤ 4095
 most_bound None e = omega arith
 most_bound (Some code) e = go (code_of code) refl where
@@ -213,7 +240,9 @@ most_bound (Some code) e = go (code_of code) refl where
       let at : unwrap_or (code_of code) 0 ≡ m = ap (λ (o : Option ℕ). unwrap_or o 0) f in
       omega (arith, at, (within_bound 0 4095 (number_of code) m f).1)
 
-earlier_bound : (jobs : List JobData) (name : List ℕ) → is_none (place_of jobs name) ≡ false → unwrap_or (place_of jobs name) 0 < length jobs
+-- an awaited job is an earlier one
+earlier_bound : (jobs : List JobData) (name : List ℕ) → is_none (place_of jobs name) ≡ false
+    → unwrap_or (place_of jobs name) 0 < length jobs
 earlier_bound jobs name e = go (place_of jobs name) refl where
   go : (u : Option ℕ) → place_of jobs name ≡ u → unwrap_or (place_of jobs name) 0 < length jobs
   go None f = absurd (cc (e, f))
@@ -221,7 +250,10 @@ earlier_bound jobs name e = go (place_of jobs name) refl where
       let at : unwrap_or (place_of jobs name) 0 ≡ i = ap (λ (o : Option ℕ). unwrap_or o 0) f in
       omega (arith, at, (place_bound name 0 jobs i f).1)
 
-all_earlier : (jobs : List JobData) (parts : List AfterPart) → list_any (λ (q : AfterPart). is_none (place_of jobs q.name)) parts ≡ false → list_any (λ (q : AfterPart). accepts_no_code q.most) parts ≡ false
+-- so are all
+all_earlier : (jobs : List JobData) (parts : List AfterPart)
+    → list_any (λ (q : AfterPart). is_none (place_of jobs q.name)) parts ≡ false
+    → list_any (λ (q : AfterPart). accepts_no_code q.most) parts ≡ false
     → AllByRecursion (IsSoundAfter (length jobs)) (map (after_of jobs) parts)
 all_earlier jobs [] known good = tt
 all_earlier jobs (p ∷ parts) known good =
@@ -229,10 +261,13 @@ all_earlier jobs (p ∷ parts) known good =
     let g = first_false (accepts_no_code p.most) _ good in
     ((earlier_bound jobs p.name k.0, most_bound p.most g.0), all_earlier jobs parts k.1 g.1)
 
+-- at most eight are awaited
 few_parts : (jobs : List JobData) (parts : List AfterPart) → nat_lt 8 (length parts) ≡ false → length (map (after_of jobs) parts) ≤ 8
 few_parts jobs parts e = let same : length (map (after_of jobs) parts) ≡ length parts = length-map parts (after_of jobs) in grind arith
 
-sound_job : (n : ℕ) (earlier : List Statement) (jobs : List JobData) (name : List ℕ) (after : List AfterPart) → IsFaultless n earlier jobs (JobOf name after) → IsSoundJob jobs (fresh_job jobs name after)
+-- a faultless JOB begins a sound job
+sound_job : (n : ℕ) (earlier : List Statement) (jobs : List JobData) (name : List ℕ) (after : List AfterPart)
+    → IsFaultless n earlier jobs (JobOf name after) → IsSoundJob jobs (fresh_job jobs name after)
 sound_job n earlier jobs name after f =
     let crowd = first_false (has_double after) _ f.few in
     record {
@@ -246,42 +281,57 @@ sound_job n earlier jobs name after f =
 
 -- ---- a faultless step
 
-numbers_used : (o : Option ℕ) (mode : Mode) (step : Step) → ((l : ℕ) → o ≡ Some l → l ≤ 7) → option_map (λ l. Use l mode) o ≡ Some step → HasGoodNumbers step
+-- the numbers of a USE
+numbers_used : (o : Option ℕ) (mode : Mode) (step : Step) → ((l : ℕ) → o ≡ Some l → l ≤ 7)
+    → option_map (λ l. Use l mode) o ≡ Some step → HasGoodNumbers step
 numbers_used None mode step b e = absurd cc
 numbers_used (Some l) mode step b e = subst HasGoodNumbers (let same : Use l mode ≡ step = cc in same) (b l refl)
 
+-- the number of a FREE
 numbers_freed : (o : Option ℕ) (step : Step) → ((l : ℕ) → o ≡ Some l → l ≤ 7) → option_map Free o ≡ Some step → HasGoodNumbers step
 numbers_freed None step b e = absurd cc
 numbers_freed (Some l) step b e = subst HasGoodNumbers (let same : Free l ≡ step = cc in same) (b l refl)
 
+-- the number of a SCAN
 numbers_read : (o : Option ℕ) (step : Step) → ((l : ℕ) → o ≡ Some l → l ≤ 7) → option_map Scan o ≡ Some step → HasGoodNumbers step
 numbers_read None step b e = absurd cc
 numbers_read (Some l) step b e = subst HasGoodNumbers (let same : Scan l ≡ step = cc in same) (b l refl)
 
-numbers_added : (o u : Option ℕ) (step : Step) → ((l : ℕ) → o ≡ Some l → l ≤ 7) → ((m : ℕ) → u ≡ Some m → (1 ≤ m) × (m ≤ 9999)) → option_and_then (λ v. option_map (Count v) u) o ≡ Some step → HasGoodNumbers step
+-- the numbers of a COUNT
+numbers_added : (o u : Option ℕ) (step : Step) → ((l : ℕ) → o ≡ Some l → l ≤ 7) → ((m : ℕ) → u ≡ Some m → (1 ≤ m) × (m ≤ 9999))
+    → option_and_then (λ v. option_map (Count v) u) o ≡ Some step → HasGoodNumbers step
 numbers_added None u step b d e = absurd cc
 numbers_added (Some l) None step b d e = absurd cc
 numbers_added (Some l) (Some m) step b d e = subst HasGoodNumbers (let same : Count l m ≡ step = cc in same) (b l refl, (d m refl).0, (d m refl).1)
 
+-- the code of a RETURN
 numbers_returned : (o : Option ℕ) (step : Step) → ((l : ℕ) → o ≡ Some l → l ≤ 4095) → option_map Return o ≡ Some step → HasGoodNumbers step
 numbers_returned None step b e = absurd cc
 numbers_returned (Some l) step b e = subst HasGoodNumbers (let same : Return l ≡ step = cc in same) (b l refl)
 
-numbers_ended : (o : Option ℕ) (step : Step) → ((l : ℕ) → o ≡ Some l → (2 ^ 24 ≤ l) × (l < 2 ^ 25)) → option_map Abend o ≡ Some step → HasGoodNumbers step
+-- the code of an ABEND
+numbers_ended : (o : Option ℕ) (step : Step) → ((l : ℕ) → o ≡ Some l → (2 ^ 24 ≤ l) × (l < 2 ^ 25)) → option_map Abend o ≡ Some step
+    → HasGoodNumbers step
 numbers_ended None step b e = absurd cc
 numbers_ended (Some l) step b e = subst HasGoodNumbers (let same : Abend l ≡ step = cc in same) (b l refl)
 
+-- a latch is one of the eight
 latch_bound : (text : List ℕ) (l : ℕ) → latch_of text ≡ Some l → l ≤ 7
 latch_bound text l e = (within_bound 0 7 (number_of text) l e).1
 
-user_end : (o : Option ℕ) (l : ℕ) → ((u : ℕ) → o ≡ Some u → u ≤ 4095) → option_map (λ user. abended 0 user) o ≡ Some l → (2 ^ 24 ≤ l) × (l < 2 ^ 25)
+-- the end code of a user code
+user_end : (o : Option ℕ) (l : ℕ) → ((u : ℕ) → o ≡ Some u → u ≤ 4095) → option_map (λ user. abended 0 user) o ≡ Some l
+    → (2 ^ 24 ≤ l) × (l < 2 ^ 25)
 user_end None l b e = absurd cc
 user_end (Some u) l b e = let same : abended 0 u ≡ l = cc in let le = b u refl in (omega (arith, same), omega (arith, same, le))
 
-system_end : (o : Option ℕ) (l : ℕ) → ((u : ℕ) → o ≡ Some u → u ≤ 4095) → option_map (λ system. abended system 0) o ≡ Some l → (2 ^ 24 ≤ l) × (l < 2 ^ 25)
+-- the end code of a system code
+system_end : (o : Option ℕ) (l : ℕ) → ((u : ℕ) → o ≡ Some u → u ≤ 4095) → option_map (λ system. abended system 0) o ≡ Some l
+    → (2 ^ 24 ≤ l) × (l < 2 ^ 25)
 system_end None l b e = absurd cc
 system_end (Some u) l b e = let same : abended u 0 ≡ l = cc in let le = b u refl in (omega (arith, same), omega (arith, same, le))
 
+-- an end code has its bits
 end_bound : (code : List ℕ) (l : ℕ) → end_code_of code ≡ Some l → (2 ^ 24 ≤ l) × (l < 2 ^ 25)
 end_bound [] l e = absurd cc
 end_bound (letter ∷ digits) l e = go (letter == 85) (letter == 83) refl refl where
@@ -290,6 +340,7 @@ end_bound (letter ∷ digits) l e = go (letter == 85) (letter == 83) refl refl w
   go false true x y = system_end (system_code_of digits) l (system_bound digits) (cc (e, x, y))
   go false false x y = absurd (cc (e, x, y))
 
+-- a step has good numbers
 good_numbers : (s : Statement) (step : Step) → step_of s ≡ Some step → HasGoodNumbers step
 good_numbers Null step e = absurd cc
 good_numbers (DeckOf version) step e = absurd cc
@@ -302,7 +353,9 @@ good_numbers (ScanOf volume) step e = numbers_read (latch_of volume) step (latch
 good_numbers (AbendOf code) step e = numbers_ended (end_code_of code) step (end_bound code) e
 good_numbers (ReturnOf code) step e = numbers_returned (code_of code) step (λ l f. (within_bound 0 4095 (number_of code) l f).1) e
 
-sound_step : (n : ℕ) (earlier : List Statement) (jobs : List JobData) (s : Statement) (step : Step) → step_of s ≡ Some step → IsFaultless n earlier jobs s → IsSoundStep (last_steps jobs) step
+-- a faultless step may stand where it does
+sound_step : (n : ℕ) (earlier : List Statement) (jobs : List JobData) (s : Statement) (step : Step) → step_of s ≡ Some step
+    → IsFaultless n earlier jobs s → IsSoundStep (last_steps jobs) step
 sound_step n earlier jobs s step e f =
     let is_a = is_step s step e in
     let ended : (list_any is_end (last_steps jobs) && not (is_job s || is_null s)) ≡ false = f.going in
@@ -327,15 +380,18 @@ last_job [] e = absurd cc
 last_job (j ∷ []) e = ([], j, refl)
 last_job (j ∷ k ∷ jobs) e = let rest = last_job (k ∷ jobs) (grind arith) in (j ∷ rest.0, rest.1, ap (λ (x : List JobData). j ∷ x) rest.2)
 
+-- what is not too heavy
 not_heavy : (w : ℕ) → nat_lt heaviest w ≡ false → w ≤ heaviest
 not_heavy w e = grind arith
 
+-- a list with a job at its end
 some_jobs : (jobs : List JobData) (j : JobData) → nat_lt 0 (length (jobs ++ j ∷ [])) ≡ true
 some_jobs [] j = refl
 some_jobs (k ∷ jobs) j = grind arith
 
 -- a statement that leaves the jobs as they were
-fine_same : (n : ℕ) (sts : List Statement) (s : Statement) → IsFine n sts → jobs_behind (jobs_of sts) s ≡ jobs_of sts → is_job s ≡ false → IsFaultless n sts (jobs_of sts) s → IsFine n (sts ++ s ∷ [])
+fine_same : (n : ℕ) (sts : List Statement) (s : Statement) → IsFine n sts → jobs_behind (jobs_of sts) s ≡ jobs_of sts
+    → is_job s ≡ false → IsFaultless n sts (jobs_of sts) s → IsFine n (sts ++ s ∷ [])
 fine_same n sts s fine same no_job f =
     let jobs : jobs_of (sts ++ s ∷ []) ≡ jobs_of sts = jobs-push sts s ∙ same in
     record {
@@ -344,7 +400,9 @@ fine_same n sts s fine same no_job f =
       begun = λ any. ap (λ (x : List JobData). nat_lt 0 (length x)) jobs ∙ fine.begun (sym (same_any is_job sts s no_job) ∙ any);
     }
 
-fine_job : (n : ℕ) (sts : List Statement) (name : List ℕ) (after : List AfterPart) → IsFine n sts → IsFaultless n sts (jobs_of sts) (JobOf name after) → IsFine n (sts ++ JobOf name after ∷ [])
+-- a JOB
+fine_job : (n : ℕ) (sts : List Statement) (name : List ℕ) (after : List AfterPart) → IsFine n sts
+    → IsFaultless n sts (jobs_of sts) (JobOf name after) → IsFine n (sts ++ JobOf name after ∷ [])
 fine_job n sts name after fine f =
     let jobs = jobs-push sts (JobOf name after) in
     record {
@@ -353,7 +411,9 @@ fine_job n sts name after fine f =
       begun = λ any. ap (λ (x : List JobData). nat_lt 0 (length x)) jobs ∙ some_jobs (jobs_of sts) (fresh_job (jobs_of sts) name after);
     }
 
-fine_step : (n : ℕ) (sts : List Statement) (s : Statement) (step : Step) → step_of s ≡ Some step → IsFine n sts → IsFaultless n sts (jobs_of sts) s → IsFine n (sts ++ s ∷ [])
+-- a step
+fine_step : (n : ℕ) (sts : List Statement) (s : Statement) (step : Step) → step_of s ≡ Some step → IsFine n sts
+    → IsFaultless n sts (jobs_of sts) s → IsFine n (sts ++ s ∷ [])
 fine_step n sts s step e fine f =
     let is_a = is_step s step e in
     let outside : (list_any is_null sts || (not (list_any is_job sts) && not (is_job s || is_null s || is_deck s))) ≡ false = f.placed in
@@ -374,12 +434,14 @@ fine_step n sts s step e fine f =
     has_job false false p q r x y z e = absurd (cc (ap (λ (t : Bool). not (t || q || r)) x, ap (λ (t : Bool). not (t || r)) y, ap not z, e))
 
 -- a statement with numbers that are good is a step, where it is one of the others
-fine_other : (n : ℕ) (sts : List Statement) (s : Statement) → is_none (step_of s) ≡ false → IsFine n sts → IsFaultless n sts (jobs_of sts) s → IsFine n (sts ++ s ∷ [])
+fine_other : (n : ℕ) (sts : List Statement) (s : Statement) → is_none (step_of s) ≡ false → IsFine n sts
+    → IsFaultless n sts (jobs_of sts) s → IsFine n (sts ++ s ∷ [])
 fine_other n sts s e fine f = go (step_of s) refl e where
   go : (o : Option Step) → step_of s ≡ o → is_none o ≡ false → IsFine n (sts ++ s ∷ [])
   go None x y = absurd cc
   go (Some step) x y = fine_step n sts s step x fine f
 
+-- each statement, by its form
 fine_push : (n : ℕ) (sts : List Statement) (s : Statement) → IsFine n sts → IsFaultless n sts (jobs_of sts) s → IsFine n (sts ++ s ∷ [])
 fine_push n sts Null fine f = fine_same n sts Null fine refl refl f
 fine_push n sts (DeckOf version) fine f = fine_same n sts (DeckOf version) fine refl refl f
@@ -394,29 +456,38 @@ fine_push n sts (ReturnOf code) fine f = fine_other n sts (ReturnOf code) f.numb
 
 -- ---- a text without fault
 
-fine_line : (n : ℕ) (sts : List Statement) (o : Option Statement) → IsFine n sts → kinds_of_statement n sts o ≡ [] → IsFine n (sts ++ option_to_list o)
+-- a line with a statement or none
+fine_line : (n : ℕ) (sts : List Statement) (o : Option Statement) → IsFine n sts → kinds_of_statement n sts o ≡ []
+    → IsFine n (sts ++ option_to_list o)
 fine_line n sts None fine e = subst (IsFine n) (sym (append-nil sts)) fine
 fine_line n sts (Some s) fine e = fine_push n sts s fine (is_faultless n sts (jobs_of sts) s e)
 
+-- a line without a first fault has no kinds
 no_kinds : (number : ℕ) (kinds : List ℕ) (rest : List DeckFault) → first_of_list (map (fault_at number) kinds ++ rest) ≡ None → kinds ≡ []
 no_kinds number [] rest e = refl
 no_kinds number (k ∷ kinds) rest e = absurd cc
 
-stated_kinds : (n : ℕ) (v : Version) (sts : List Statement) (line : List ℕ) → kinds_of n v sts line ≡ [] → kinds_of_statement n sts (statement_of v line) ≡ []
+-- nor has its statement
+stated_kinds : (n : ℕ) (v : Version) (sts : List Statement) (line : List ℕ) → kinds_of n v sts line ≡ []
+    → kinds_of_statement n sts (statement_of v line) ≡ []
 stated_kinds n v sts line e =
     let a = when_none (has_foreign_byte line) ForeignByte _ e in
     let b = when_none (is_too_long line) TooLong _ a.1 in
     (when_none (has_no_form v line) NoForm _ b.1).1
 
+-- where a statement passes a test there is one
 some_before : (p : Statement → Bool) (sts : List Statement) → list_any p sts ≡ true → nat_lt 0 (length sts) ≡ true
 some_before p [] e = absurd cc
 some_before p (t ∷ sts) e = grind arith
 
+-- behind the last line the null statement stands
 null_stands : (number : ℕ) (b : Bool) → first_of_list (map (fault_at number) (when (not b) NoNull)) ≡ None → b ≡ true
 null_stands number true e = refl
 null_stands number false e = absurd cc
 
-sound_from : (n : ℕ) (v : Version) (number : ℕ) (sts : List Statement) (lines : List (List ℕ)) → IsFine n sts → first_of_list (faults_from n v number sts lines) ≡ None → IsSound (jobs_of (sts ++ statements_of v lines)) n
+-- from a line on
+sound_from : (n : ℕ) (v : Version) (number : ℕ) (sts : List Statement) (lines : List (List ℕ)) → IsFine n sts
+    → first_of_list (faults_from n v number sts lines) ≡ None → IsSound (jobs_of (sts ++ statements_of v lines)) n
 unfolding faults_from
 sound_from n v number sts [] fine e =
     subst (λ (x : List Statement). IsSound (jobs_of x) n) (sym (append-nil sts))
@@ -427,5 +498,6 @@ sound_from n v number sts (line ∷ lines) fine e =
     subst (λ (x : List Statement). IsSound (jobs_of x) n) (sym (earlier_more sts (statement_of v line) (statements_of v lines)))
     (sound_from n v (number + 1) (sts ++ option_to_list (statement_of v line)) lines next (ap first_of_list (sym (one_line n v number sts line lines none)) ∙ e))
 
+-- the law
 pub sound : (bytes : List ℕ) (n : ℕ) → first_fault bytes n ≡ None → IsSound (deck_of bytes) n
 sound bytes n e = sound_from n (version_in bytes) 1 [] (lines_of bytes) (record { jobs = tt; light = λ some. absurd cc; begun = λ any. absurd cc }) e

@@ -1,5 +1,5 @@
 -- Statements that are steps of a job.
-use Rattle.std.proofs.Common.{◌≡◌, ℕ, Bool, true, false, not, ◌&&◌, ◌||◌, List, [], ◌++◌, Option, Some, None, refl, sym, ap, ◌∙◌}
+use Rattle.std.proofs.Common.{◌≡◌, ℕ, Bool, true, false, not, ◌&&◌, ◌||◌, List, [], ◌++◌, Some, refl, ap}
 use Rattle.std.specs.Prelude.{nat_lt}
 use Rattle.std.specs.List.{list_any}
 use Rattle.mv_deck.specs.declared.deck.Step.{Step}
@@ -32,8 +32,10 @@ pub record IsStep (s : Statement) (step : Step) : Type 0 where
   pub no_null : is_null s ≡ false
   pub no_deck : is_deck s ≡ false
   pub behind : (jobs : List JobData) → jobs_behind jobs s ≡ with_step jobs step
-  pub kinds : (n : ℕ) (earlier : List Statement) (jobs : List JobData) → kinds_behind n earlier jobs s ≡ kinds_of_step n (is_outside earlier) jobs step
+  pub kinds : (n : ℕ) (earlier : List Statement) (jobs : List JobData)
+      → kinds_behind n earlier jobs s ≡ kinds_of_step n (is_outside earlier) jobs step
 
+-- each form that is a step
 pub is_step : (s : Statement) (step : Step) → step_of s ≡ Some step → IsStep s step
 is_step Null step e = absurd cc
 is_step (DeckOf version) step e = absurd cc
@@ -49,7 +51,8 @@ is_step (AbendOf code) step e = record { no_job = refl; no_null = refl; no_deck 
 is_step (ReturnOf code) step e = record { no_job = refl; no_null = refl; no_deck = refl; behind = λ jobs. rw e refl; kinds = λ n earlier jobs. rw e refl }
 
 -- a statement without a name has no lower fault than a bad number
-pub bad_number : (n : ℕ) (earlier : List Statement) (jobs : List JobData) (s : Statement) → is_job s ≡ false → has_bad_number s ≡ true → first_of_list (kinds_behind n earlier jobs s) ≡ Some 8
+pub bad_number : (n : ℕ) (earlier : List Statement) (jobs : List JobData) (s : Statement) → is_job s ≡ false
+    → has_bad_number s ≡ true → first_of_list (kinds_behind n earlier jobs s) ≡ Some 8
 bad_number n earlier jobs Null j e = absurd cc
 bad_number n earlier jobs (DeckOf version) j e = rw e refl
 bad_number n earlier jobs (JobOf name after) j e = absurd cc

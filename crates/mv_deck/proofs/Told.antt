@@ -1,17 +1,18 @@
 -- The kinds of fault of a statement, by the answers to what is asked of it.
-use Rattle.std.proofs.Common.{◌≡◌, ℕ, ◌+◌, ◌≤◌, ◌<◌, Bool, true, false, not, ◌&&◌, ◌||◌, List, [], ◌++◌, length, Option, Some, refl, sym, ap, ◌∙◌, arith}
+use Rattle.std.proofs.Common.{◌≡◌, ℕ, ◌+◌, ◌<◌, Bool, true, false, not, ◌&&◌, ◌||◌, List, [], ◌++◌, length, Some, refl, ap, ◌∙◌, arith}
 use Rattle.std.specs.Prelude.{nat_lt}
 use Rattle.std.specs.List.{list_any}
 use Rattle.mv_deck.specs.declared.deck.Step.{Step}
-use Rattle.mv_deck.specs.declared.fault.Kind.TheVariants.{BadName, RepeatedName, UnknownAfter, CrowdedAfter, BadNumber, LatchOrder, LatchNotHeld, Misplaced, BehindEnd, TooHeavy, LateDeck}
+use Rattle.mv_deck.specs.declared.fault.Kind.TheVariants.{Misplaced, BehindEnd, TooHeavy, LateDeck}
 use Rattle.mv_deck.specs.Statement.{Statement, Null, DeckOf, JobOf, AfterPart}
-use Rattle.mv_deck.specs.Deck.{JobData, jobs_behind, last_steps, with_step}
+use Rattle.mv_deck.specs.Deck.{JobData, last_steps, with_step}
 use Rattle.mv_deck.specs.Held.{is_end, is_out_of_order, lacks_latch}
 use Rattle.mv_deck.specs.Weight.{weight, heaviest}
 use Rattle.mv_deck.specs.Fault.{is_null, is_job, has_bad_name, has_bad_number, repeats_name, awaits_no_job, is_crowded, is_misplaced, is_too_heavy, kinds_behind, when, first_of_list}
 use Rattle.mv_deck.specs.Reading.{IsGoodJob}
 use Rattle.mv_deck.proofs.Steps.{kinds_of_step}
 
+-- what is asked of nothing
 pub and_false : (b : Bool) → (b && false) ≡ false
 and_false true = refl
 and_false false = refl
@@ -20,19 +21,25 @@ and_false false = refl
 pub light : (room w : ℕ) → room + w ≡ heaviest → nat_lt heaviest w ≡ false
 light room w e = grind arith
 
+-- what is more than the room is too heavy
 pub heavy : (room w added : ℕ) → room + w ≡ heaviest → room < added → nat_lt heaviest (w + added) ≡ true
 heavy room w added e lt = grind arith
 
 -- ---- the null statement
 
-pub null_misplaced : (n : ℕ) (earlier : List Statement) (jobs : List JobData) → list_any is_null earlier ≡ true → first_of_list (kinds_behind n earlier jobs Null) ≡ Some 11
+-- a second null statement
+pub null_misplaced : (n : ℕ) (earlier : List Statement) (jobs : List JobData) → list_any is_null earlier ≡ true
+    → first_of_list (kinds_behind n earlier jobs Null) ≡ Some 11
 null_misplaced n earlier jobs e = rw e refl
 
-pub null_fine : (n : ℕ) (earlier : List Statement) (jobs : List JobData) → list_any is_null earlier ≡ false → nat_lt heaviest (weight jobs n) ≡ false → kinds_behind n earlier jobs Null ≡ []
+-- the first one
+pub null_fine : (n : ℕ) (earlier : List Statement) (jobs : List JobData) → list_any is_null earlier ≡ false
+    → nat_lt heaviest (weight jobs n) ≡ false → kinds_behind n earlier jobs Null ≡ []
 null_fine n earlier jobs e l = rw (e, l, and_false (not (list_any is_job earlier)), and_false (list_any is_end (last_steps jobs))) refl
 
 -- ---- DECK, by: whether it is misplaced and whether its job has ended, whether the deck is too heavy, whether it is late
 
+-- all kinds of a DECK with a good word
 abbrev deck_all : Bool → Bool → Bool → Bool → List ℕ
 deck_all misplaced ended weighs late =
     when misplaced Misplaced
@@ -40,77 +47,115 @@ deck_all misplaced ended weighs late =
     ++ (when (weighs && (not misplaced && not (ended && true))) TooHeavy ++ when (late && (not misplaced && not (ended && true))) LateDeck))
 
 module _ (n : ℕ) (earlier : List Statement) (jobs : List JobData) (word : List ℕ) (good : has_bad_number (DeckOf word) ≡ false) where
+  -- they are its kinds
   deck_asked : kinds_behind n earlier jobs (DeckOf word) ≡ deck_all (list_any is_null earlier || (not (list_any is_job earlier) && false)) (list_any is_end (last_steps jobs)) (nat_lt heaviest (weight jobs n)) (nat_lt 0 (length earlier))
   deck_asked = rw good refl
 
+  -- behind the null statement
   pub deck_misplaced : list_any is_null earlier ≡ true → first_of_list (kinds_behind n earlier jobs (DeckOf word)) ≡ Some 11
   deck_misplaced e = ap first_of_list deck_asked ∙ rw e refl
 
-  pub deck_behind_end : list_any is_null earlier ≡ false → list_any is_end (last_steps jobs) ≡ true → first_of_list (kinds_behind n earlier jobs (DeckOf word)) ≡ Some 13
+  -- behind the end of a job
+  pub deck_behind_end : list_any is_null earlier ≡ false → list_any is_end (last_steps jobs) ≡ true
+      → first_of_list (kinds_behind n earlier jobs (DeckOf word)) ≡ Some 13
   deck_behind_end e f = ap first_of_list deck_asked ∙ rw (e, and_false (not (list_any is_job earlier)), f) refl
 
-  pub deck_late : list_any is_null earlier ≡ false → list_any is_end (last_steps jobs) ≡ false → nat_lt heaviest (weight jobs n) ≡ false → nat_lt 0 (length earlier) ≡ true → first_of_list (kinds_behind n earlier jobs (DeckOf word)) ≡ Some 15
+  -- behind another statement
+  pub deck_late : list_any is_null earlier ≡ false → list_any is_end (last_steps jobs) ≡ false
+      → nat_lt heaviest (weight jobs n) ≡ false → nat_lt 0 (length earlier) ≡ true
+      → first_of_list (kinds_behind n earlier jobs (DeckOf word)) ≡ Some 15
   deck_late e f l s = ap first_of_list deck_asked ∙ rw (e, and_false (not (list_any is_job earlier)), f, l, s) refl
 
-  pub deck_fine : list_any is_null earlier ≡ false → list_any is_end (last_steps jobs) ≡ false → nat_lt heaviest (weight jobs n) ≡ false → nat_lt 0 (length earlier) ≡ false → kinds_behind n earlier jobs (DeckOf word) ≡ []
+  -- the first statement
+  pub deck_fine : list_any is_null earlier ≡ false → list_any is_end (last_steps jobs) ≡ false
+      → nat_lt heaviest (weight jobs n) ≡ false → nat_lt 0 (length earlier) ≡ false → kinds_behind n earlier jobs (DeckOf word) ≡ []
   deck_fine e f l s = deck_asked ∙ rw (e, and_false (not (list_any is_job earlier)), f, l, s) refl
 
 -- ---- a JOB
 
 module _ (n : ℕ) (earlier : List Statement) (jobs : List JobData) (name : List ℕ) (after : List AfterPart) where
+  -- a JOB with this name and list
   abbrev s : Statement
   s = JobOf name after
 
+  -- kind 4
   pub job_bad_name : has_bad_name s ≡ true → first_of_list (kinds_behind n earlier jobs s) ≡ Some 4
   job_bad_name e = rw e refl
 
-  pub job_misplaced : has_bad_name s ≡ false → has_bad_number s ≡ false → list_any is_null earlier ≡ true → first_of_list (kinds_behind n earlier jobs s) ≡ Some 11
+  -- kind 11
+  pub job_misplaced : has_bad_name s ≡ false → has_bad_number s ≡ false → list_any is_null earlier ≡ true
+      → first_of_list (kinds_behind n earlier jobs s) ≡ Some 11
   job_misplaced a e m = rw (a, e, m, and_false (repeats_name jobs s), and_false (awaits_no_job jobs s), and_false (is_crowded s)) refl
 
-  pub job_misnumbered : has_bad_name s ≡ false → has_bad_number s ≡ true → list_any is_null earlier ≡ true → first_of_list (kinds_behind n earlier jobs s) ≡ Some 8
+  -- kind 8 behind the null statement
+  pub job_misnumbered : has_bad_name s ≡ false → has_bad_number s ≡ true → list_any is_null earlier ≡ true
+      → first_of_list (kinds_behind n earlier jobs s) ≡ Some 8
   job_misnumbered a e m = rw (a, e, m, and_false (repeats_name jobs s), and_false (awaits_no_job jobs s), and_false (is_crowded s)) refl
 
+  -- before the null statement a JOB is not misplaced
   pub job_placed : list_any is_null earlier ≡ false → is_misplaced earlier s ≡ false
   job_placed m = rw m (and_false (not (list_any is_job earlier)))
 
-  pub job_repeats : has_bad_name s ≡ false → is_misplaced earlier s ≡ false → repeats_name jobs s ≡ true → first_of_list (kinds_behind n earlier jobs s) ≡ Some 5
+  -- kind 5
+  pub job_repeats : has_bad_name s ≡ false → is_misplaced earlier s ≡ false → repeats_name jobs s ≡ true
+      → first_of_list (kinds_behind n earlier jobs s) ≡ Some 5
   job_repeats a m b = rw (a, m, b) refl
 
-  pub job_unknown : has_bad_name s ≡ false → is_misplaced earlier s ≡ false → repeats_name jobs s ≡ false → awaits_no_job jobs s ≡ true → first_of_list (kinds_behind n earlier jobs s) ≡ Some 6
+  -- kind 6
+  pub job_unknown : has_bad_name s ≡ false → is_misplaced earlier s ≡ false → repeats_name jobs s ≡ false
+      → awaits_no_job jobs s ≡ true → first_of_list (kinds_behind n earlier jobs s) ≡ Some 6
   job_unknown a m b c = rw (a, m, b, c) refl
 
-  pub job_crowded : has_bad_name s ≡ false → is_misplaced earlier s ≡ false → repeats_name jobs s ≡ false → awaits_no_job jobs s ≡ false → is_crowded s ≡ true → first_of_list (kinds_behind n earlier jobs s) ≡ Some 7
+  -- kind 7
+  pub job_crowded : has_bad_name s ≡ false → is_misplaced earlier s ≡ false → repeats_name jobs s ≡ false
+      → awaits_no_job jobs s ≡ false → is_crowded s ≡ true → first_of_list (kinds_behind n earlier jobs s) ≡ Some 7
   job_crowded a m b c d = rw (a, m, b, c, d) refl
 
-  pub job_numbered : has_bad_name s ≡ false → is_misplaced earlier s ≡ false → repeats_name jobs s ≡ false → awaits_no_job jobs s ≡ false → is_crowded s ≡ false → has_bad_number s ≡ true → first_of_list (kinds_behind n earlier jobs s) ≡ Some 8
+  -- kind 8
+  pub job_numbered : has_bad_name s ≡ false → is_misplaced earlier s ≡ false → repeats_name jobs s ≡ false
+      → awaits_no_job jobs s ≡ false → is_crowded s ≡ false → has_bad_number s ≡ true
+      → first_of_list (kinds_behind n earlier jobs s) ≡ Some 8
   job_numbered a m b c d e = rw (a, m, b, c, d, e) refl
 
+  -- kind 14
   pub job_heavy : IsGoodJob earlier jobs s → is_too_heavy n jobs s ≡ true → first_of_list (kinds_behind n earlier jobs s) ≡ Some 14
   job_heavy g h = rw (g.name, g.place, g.new, g.known, g.few, g.codes, and_false (list_any is_end (last_steps jobs)), h) refl
 
+  -- no kind
   pub job_fine : IsGoodJob earlier jobs s → is_too_heavy n jobs s ≡ false → kinds_behind n earlier jobs s ≡ []
   job_fine g h = rw (g.name, g.place, g.new, g.known, g.few, g.codes, and_false (list_any is_end (last_steps jobs)), h) refl
 
 -- ---- a step
 
 module _ (n : ℕ) (jobs : List JobData) (step : Step) where
+  -- kind 11
   pub step_outside : (misplaced : Bool) → misplaced ≡ true → first_of_list (kinds_of_step n misplaced jobs step) ≡ Some 11
   step_outside misplaced m = rw (m, and_false (is_out_of_order (last_steps jobs) step), and_false (lacks_latch (last_steps jobs) step)) refl
 
-  pub step_behind_end : (misplaced : Bool) → misplaced ≡ false → list_any is_end (last_steps jobs) ≡ true → first_of_list (kinds_of_step n misplaced jobs step) ≡ Some 13
+  -- kind 13
+  pub step_behind_end : (misplaced : Bool) → misplaced ≡ false → list_any is_end (last_steps jobs) ≡ true
+      → first_of_list (kinds_of_step n misplaced jobs step) ≡ Some 13
   step_behind_end misplaced m e = rw (m, e, and_false (is_out_of_order (last_steps jobs) step), and_false (lacks_latch (last_steps jobs) step)) refl
 
-  pub step_out_of_order : (misplaced : Bool) → misplaced ≡ false → list_any is_end (last_steps jobs) ≡ false → is_out_of_order (last_steps jobs) step ≡ true → first_of_list (kinds_of_step n misplaced jobs step) ≡ Some 9
+  -- kind 9
+  pub step_out_of_order : (misplaced : Bool) → misplaced ≡ false → list_any is_end (last_steps jobs) ≡ false
+      → is_out_of_order (last_steps jobs) step ≡ true → first_of_list (kinds_of_step n misplaced jobs step) ≡ Some 9
   step_out_of_order misplaced m e o = rw (m, e, o) refl
 
-  pub step_not_held : (misplaced : Bool) → misplaced ≡ false → list_any is_end (last_steps jobs) ≡ false → is_out_of_order (last_steps jobs) step ≡ false → lacks_latch (last_steps jobs) step ≡ true
+  -- kind 10
+  pub step_not_held : (misplaced : Bool) → misplaced ≡ false → list_any is_end (last_steps jobs) ≡ false
+      → is_out_of_order (last_steps jobs) step ≡ false → lacks_latch (last_steps jobs) step ≡ true
       → first_of_list (kinds_of_step n misplaced jobs step) ≡ Some 10
   step_not_held misplaced m e o l = rw (m, e, o, l) refl
 
-  pub step_heavy : (misplaced : Bool) → misplaced ≡ false → list_any is_end (last_steps jobs) ≡ false → is_out_of_order (last_steps jobs) step ≡ false → lacks_latch (last_steps jobs) step ≡ false
+  -- kind 14
+  pub step_heavy : (misplaced : Bool) → misplaced ≡ false → list_any is_end (last_steps jobs) ≡ false
+      → is_out_of_order (last_steps jobs) step ≡ false → lacks_latch (last_steps jobs) step ≡ false
       → nat_lt heaviest (weight (with_step jobs step) n) ≡ true → first_of_list (kinds_of_step n misplaced jobs step) ≡ Some 14
   step_heavy misplaced m e o l h = rw (m, e, o, l, h) refl
 
-  pub step_fine : (misplaced : Bool) → misplaced ≡ false → list_any is_end (last_steps jobs) ≡ false → is_out_of_order (last_steps jobs) step ≡ false → lacks_latch (last_steps jobs) step ≡ false
+  -- no kind
+  pub step_fine : (misplaced : Bool) → misplaced ≡ false → list_any is_end (last_steps jobs) ≡ false
+      → is_out_of_order (last_steps jobs) step ≡ false → lacks_latch (last_steps jobs) step ≡ false
       → nat_lt heaviest (weight (with_step jobs step) n) ≡ false → kinds_of_step n misplaced jobs step ≡ []
   step_fine misplaced m e o l h = rw (m, e, o, l, h) refl

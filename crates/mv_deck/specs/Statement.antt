@@ -1,5 +1,5 @@
 -- The forms of a deck's lines, by their words.
-use Rattle.std.specs.Prelude.{ℕ, ◌==◌, ◌&&◌, nat_eq, List, [], ◌∷◌, drop, map, Option, Some, None, option_map, codes, if◌then◌else◌}
+use Rattle.std.specs.Prelude.{ℕ, ◌==◌, nat_eq, List, [], ◌∷◌, drop, map, Option, Some, None, option_map, codes, if◌then◌else◌}
 use Rattle.std.specs.List.{starts_with, filter_map}
 use Rattle.std.specs.Str.{bytes_eq}
 use Rattle.mv_latch.specs.declared.request.Mode.{Mode}

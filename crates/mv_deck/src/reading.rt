@@ -242,6 +242,7 @@ impl<'a> Reading<'a> {
             return Err(refusal);
         }
         let weight = 8 + 9 * self.initiators as u64 + 2 * parts.len() as u64;
+        // As many jobs as the deck may weigh are too heavy in any case, so each place fits a `u32`.
         if weight > self.room || self.finished.len() as u64 > HEAVIEST {
             return Err(LineRefusal::Has(Kind::TooHeavy));
         }

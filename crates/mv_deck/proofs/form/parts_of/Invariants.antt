@@ -1,4 +1,4 @@
-use Rattle.std.proofs.Common.{◌≡◌, ◌+◌, ◌++◌, length, map}
+use Rattle.std.proofs.Common.{◌≡◌, ◌++◌, map}
 use Rattle.mv_deck.specs.Form.{part_data, listed}
 use Rattle.mv_deck.proofs.Forms.{left_in}
 use Rattle.mv_deck.proofs.form.parts_of.Given as goal

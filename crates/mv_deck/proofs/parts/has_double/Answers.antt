@@ -1,6 +1,6 @@
 use Rattle.std.proofs.Common.{arith}
 use Rattle.std.proofs.lemmas.Grind.{common_steps}
-use Rattle.mv_deck.proofs.Mapped.{double_from, double_none}
+use Rattle.mv_deck.proofs.Mapped.{double_from}
 use Rattle.mv_deck.proofs.parts.has_double.Goals as goal
 
 pub returns-then-repeats_first : goal.returns-then-repeats_first

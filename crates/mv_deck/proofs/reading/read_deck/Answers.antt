@@ -1,4 +1,4 @@
-use Rattle.std.proofs.Common.{◌≡◌, length, arith, rules, sym, ap, ◌∙◌}
+use Rattle.std.proofs.Common.{◌≡◌, length, arith, rules, ◌∙◌}
 use Rattle.std.proofs.lemmas.Grind.{common_steps}
 use Rattle.mv_deck.proofs.Passes.{at_next, tells_at, no_null_at_end, no_fault_at_end, deck_at_end}
 use Rattle.mv_deck.proofs.reading.read_deck.Goals as goal

@@ -1,4 +1,4 @@
-use Rattle.std.proofs.Common.{ℕ, List, Bool, Option, drop, ap, ◌∙◌, is_some, rules}
+use Rattle.std.proofs.Common.{List, Option, drop, ap, ◌∙◌, is_some, rules}
 use Rattle.std.specs.List.{list_any}
 use Rattle.mv_latch.specs.declared.request.Mode.{Mode}
 use Rattle.mv_deck.specs.Held.{held}

@@ -1,5 +1,5 @@
-use Rattle.std.proofs.Common.{◌≡◌, List, map, refl, ◌∙◌}
-use Rattle.mv_deck.specs.Deck.{JobData, job_data, after_of}
+use Rattle.std.proofs.Common.{◌≡◌, map, refl, ◌∙◌}
+use Rattle.mv_deck.specs.Deck.{job_data, after_of}
 use Rattle.mv_deck.specs.Form.{part_data}
 use Rattle.mv_deck.proofs.Behind.{after_same}
 use Rattle.mv_deck.proofs.reading.Reading.begin.Goals as goal

@@ -1,8 +1,7 @@
-use Rattle.std.proofs.Common.{◌≡◌, ◌≤◌, ◌<◌, Bool, true, false, is_some, is_none, length, map, Some, refl, sym, ap, ◌∙◌, arith}
-use Rattle.std.specs.List.{list_any}
+use Rattle.std.proofs.Common.{◌≡◌, false, is_some, map, sym, ap, ◌∙◌, arith}
 use Rattle.mv_deck.specs.Statement.{JobOf}
-use Rattle.mv_deck.specs.Deck.{jobs_of, place_of}
-use Rattle.mv_deck.specs.Fault.{is_null, has_bad_name, has_bad_number, is_misplaced, repeats_name, awaits_no_job, is_crowded}
+use Rattle.mv_deck.specs.Deck.{jobs_of}
+use Rattle.mv_deck.specs.Fault.{has_bad_name, is_misplaced, repeats_name, awaits_no_job, is_crowded}
 use Rattle.mv_deck.specs.Form.{part_data}
 use Rattle.mv_deck.proofs.Checked.{named_badly, awaits_badly, named_well, codes_are, unknown_are, too_many, doubled, few}
 use Rattle.mv_deck.proofs.Told.{job_bad_name, job_misplaced, job_misnumbered, job_placed, job_repeats, job_unknown, job_crowded, job_numbered}

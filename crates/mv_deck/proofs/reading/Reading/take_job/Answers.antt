@@ -1,11 +1,11 @@
-use Rattle.std.proofs.Common.{◌≡◌, ◌+◌, ◌*◌, ◌-◌, ◌<◌, ◌≤◌, ℕ, true, false, List, ◌∷◌, ◌++◌, [], map, length, Some, Result, refl, sym, ap, subst, ◌∙◌, arith}
+use Rattle.std.proofs.Common.{◌≡◌, ◌+◌, ◌*◌, ◌-◌, ◌<◌, true, false, List, ◌∷◌, ◌++◌, [], map, length, Some, sym, ap, subst, ◌∙◌, arith}
 use Rattle.std.specs.Prelude.{nat_lt}
 use Rattle.std.proofs.lemmas.List.{length-map}
-use Rattle.mv_deck.specs.Deck.{JobData, jobs_of, jobs_behind, fresh_job}
+use Rattle.mv_deck.specs.Deck.{jobs_of, fresh_job}
 use Rattle.mv_deck.specs.Fault.{kinds_of_statement, kinds_behind, first_of_list}
 use Rattle.mv_deck.specs.Form.{part_data, listed}
-use Rattle.mv_deck.specs.Reading.{Tells, IsBehind, jobs_read, IsGoodJob}
-use Rattle.mv_deck.specs.Statement.{Statement, JobOf, AfterPart}
+use Rattle.mv_deck.specs.Reading.{Tells, jobs_read}
+use Rattle.mv_deck.specs.Statement.{JobOf, AfterPart}
 use Rattle.mv_deck.specs.Weight.{weight, heaviest}
 use Rattle.mv_deck.proofs.Behind.{behind_job, job_weight, new_name, heavy_jobs, beyond}
 use Rattle.mv_deck.proofs.Told.{job_heavy, job_fine, light, heavy}
