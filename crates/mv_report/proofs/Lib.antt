@@ -8,6 +8,7 @@ pub mod Totals
 pub mod Ends
 -- what a deck's own outcome is asked for, and what its report tells
 pub mod EndCodes
+pub mod SoundDecks
 pub mod Counts
 pub mod ReadBack
 -- worked rows

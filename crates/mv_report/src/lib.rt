@@ -10,7 +10,7 @@ mod lines;
 mod outcome;
 mod report;
 
-pub use laws::ends_go_by_accepted_codes;
+pub use laws::{ends_go_by_accepted_codes, sound_decks_have_reports};
 pub use lines::Lines;
 pub use outcome::{Outcome, outcome_of};
 pub use report::write_report;
