@@ -1,0 +1,46 @@
+-- Proofs of the five laws of src/laws.rt, in the order in which to read them. The words:
+--
+-- point    where a task stands in its program (points/Points): the event that it says there and, by the reply, the next point
+-- move     an entry of a history, with the step of its caller from point to point (walks/Walks)
+-- walk     a history, entry by entry, with the points of all tasks
+-- moment   the machine, the points and the entries so far, behind a front of a walk where no task is lost, with all that is
+--          known then (places/Moments)
+-- lost     a task whose wait ended too soon, or that met a reply that nothing foresees (Astray); it makes no further move
+-- row      how one initiator, its idle block, its element and the scheduler fit together (standing/Row)
+-- place    where a job is: coming, handed to an initiator's element, run by an initiator, or over (places/Places)
+-- account  the codes that name a job, released and given so far; place and account of each job are the ledger (places/Ledger)
+-- code     what the scheduler releases: 0 closes an initiator, another names a job; its mark says that the job is not to be run
+-- end      the code that a job ends with, posted to its own block, and by that block's exit to the scheduler's and the writer's
+-- done     a job's done block is its own: posted first, extended before the job is released, so that its exit posts the other two
+-- hand     the latches that a running job holds; grip: what is said of an initiator's requests by its point (latches/Hands)
+-- due      what a running job has still to add to a volume (volumes/Dues)
+-- sound    so as it may be, by the task's own steps alone; foreseen: not Astray, by what the others do
+
+-- lists and tables
+pub mod lists
+-- what decks and the configuration say
+pub mod deck
+-- each task by itself
+pub mod points
+-- all tasks together, entry by entry
+pub mod walks
+-- what stands in blocks and elements
+pub mod standing
+-- where each job is
+pub mod places
+-- codes and ends
+pub mod ends
+-- latches
+pub mod latches
+-- volumes
+pub mod volumes
+-- requestors; no reply leads astray at latches and volumes
+pub mod serving
+-- events and budgets
+pub mod budgets
+-- the laws
+pub mod results
+-- what the code makes
+pub mod code
+-- runs that are computed
+pub mod examples

@@ -1,0 +1,261 @@
+-- How many events an initiator may still make, by its point: the events of each job that it was not named before, and those of
+-- the turn in which it is; and that each event takes one of them. Used by Within.
+use Rattle.std.proofs.Common.{◌≡◌, ℕ, zero, suc, ◌+◌, ◌*◌, ◌<◌, ◌≤◌, ◌==◌, nat_le, nat_lt, ◌&&◌, ◌||◌, ◌^◌, Bool, true, false}
+use Rattle.std.proofs.Common.{if◌then◌else◌}
+use Rattle.std.proofs.Common.{List, [], ◌∷◌, ◌++◌, length, Option, Some, None, refl, ap, subst, arith, ◌-◌}
+use Rattle.std.specs.List.{list_any}
+use Rattle.std.proofs.lemmas.Bool.{eq-eqb, ne_eqb, and_parts, leb-true}
+use Rattle.mv_ecb.specs.declared.operation.EcbReply.TheVariants as ecb_reply
+use Rattle.mv_element.specs.declared.operation.ElementReply.TheVariants as element_reply
+use Rattle.mv_latch.specs.declared.operation.LatchReply.TheVariants as latch_reply
+use Rattle.mv_machine.specs.declared.entry.Reply.{Reply}
+use Rattle.mv_machine.specs.declared.entry.Reply.TheVariants as reply_of
+use Rattle.mv_machine.specs.declared.entry.VolumeReply.TheVariants as volume_reply
+use Rattle.mv_deck.specs.declared.deck.Step.{Step}
+use Rattle.mv_deck.specs.declared.deck.Step.TheVariants.{Print, Use, Free, Count, Scan, Abend, Return}
+use Rattle.mv_deck.specs.Deck.{JobData}
+use Rattle.mv_plan.specs.Jobs.{job_at}
+use Rattle.mv_plan.proofs.deck.Events.{steps_events, all_events}
+use Rattle.mv_plan.specs.SpoolTasks.{Named, job_named, not_to_run}
+use Rattle.mv_plan.proofs.points.Points.{Point, At, Astray, Running, Hand, empty_hand, hand_with, hand_without, InitiatorAt, Opening}
+use Rattle.mv_plan.proofs.points.Points.{Offering, Pausing, Resuming, Obtaining, Confirming, Freeing, Reading, Writing, Scanning}
+use Rattle.mv_plan.proofs.points.Points.{Rescanning, Purging, EndingJob, EndingForScheduler, EndingForWriter, Closing, initiator_goes}
+use Rattle.mv_plan.proofs.points.Points.{turns_from, turns_after, freeing_at, steps_at, running, job_start, named_at, given_at}
+use Rattle.mv_plan.proofs.points.Points.{counting_at}
+use Rattle.mv_plan.proofs.points.PostsAndWaits.{on_posted_keeps}
+use Rattle.mv_plan.proofs.volumes.Sums.{sum_to, sum_front, sum_change}
+
+-- ---- jobs that were not named before
+
+-- the events of the turn of a job
+abbrev turn_events : List JobData → ℕ → ℕ
+turn_events deck j = 7 + steps_events (job_at deck j).steps
+
+-- whether a job was named before
+abbrev is_among : ℕ → List ℕ → Bool
+is_among j before = list_any (λ b. b == j) before
+
+-- the events of a job that was not
+abbrev turn_to_come : List JobData → List ℕ → ℕ → ℕ
+turn_to_come deck before j = if is_among j before then 0 else turn_events deck j
+
+-- the turns of the jobs that were not named before
+abbrev pub turns_to_come : List JobData → List ℕ → ℕ
+turns_to_come deck before = sum_to (length deck) (turn_to_come deck before)
+
+-- naming a job takes its turn from those to come
+pub turn_taken : (deck : List JobData) (before : List ℕ) (j : ℕ) → j < length deck → is_among j before ≡ false
+    → turns_to_come deck (before ++ j ∷ []) + turn_events deck j ≡ turns_to_come deck before
+turn_taken deck before j lt new =
+    let change : turns_to_come deck (before ++ j ∷ []) + turn_to_come deck before j ≡ turns_to_come deck before
+    + turn_to_come deck (before ++ j ∷ []) j =
+    sum_change (length deck) j (turn_to_come deck before) (turn_to_come deck (before ++ j ∷ [])) lt others in
+    let was : turn_to_come deck before j ≡ turn_events deck j = ap (λ b. if b then 0 else turn_events deck j) new in
+    let is : turn_to_come deck (before ++ j ∷ []) j ≡ 0 = ap (λ b. if b then 0 else turn_events deck j) (own before) in
+    omega arith where
+      own : (before : List ℕ) → is_among j (before ++ j ∷ []) ≡ true
+      own [] = rw (eq-eqb j j refl) refl
+      own (b ∷ before) = rw (own before) (either (b == j)) where
+        either : (c : Bool) → (c || true) ≡ true
+        either true = refl
+        either false = refl
+
+      same : (before : List ℕ) (m : ℕ) → (j ≡ m → ⊥) → is_among m (before ++ j ∷ []) ≡ is_among m before
+      same [] m d = rw (ne_eqb j m d) refl
+      same (b ∷ before) m d = rw (same before m d) refl
+
+      others : (m : ℕ) → (j ≡ m → ⊥) → turn_to_come deck (before ++ j ∷ []) m ≡ turn_to_come deck before m
+      others m d = ap (λ b. if b then 0 else turn_events deck m) (same before m d)
+
+-- the turns of all jobs
+pub all_turns : (deck : List JobData) → turns_to_come deck [] ≡ 7 * length deck + all_events deck
+all_turns [] = refl
+all_turns (job ∷ jobs) =
+    let front : turns_to_come (job ∷ jobs) [] ≡ (7 + steps_events job.steps) + turns_to_come jobs [] =
+    sum_front (length jobs) (turn_to_come (job ∷ jobs) []) in
+    let rest : turns_to_come jobs [] ≡ 7 * length jobs + all_events jobs = all_turns jobs in omega arith
+
+-- a code names one of the jobs
+pub named_below : (n code : ℕ) (named : Named) → job_named n code ≡ Some named → named.job < n
+named_below n code named e = go (nat_le 1 code && nat_le code n) (nat_le (1 + not_to_run) code && nat_le code (n + not_to_run))
+    refl refl e where
+      go : (a b : Bool) → (nat_le 1 code && nat_le code n) ≡ a → (nat_le (1 + not_to_run) code && nat_le code (n + not_to_run)) ≡ b
+          → (if a then Some (record { job = code - 1; skipped = false })
+          else if b then Some (record { job = code - (1 + not_to_run); skipped = true }) else None) ≡ Some named → named.job < n
+      go true b p q e =
+          let f : record { job = code - 1; skipped = false } ≡ named = cc e in
+          let parts : (nat_le 1 code ≡ true) × (nat_le code n ≡ true) = and_parts (nat_le 1 code) (nat_le code n) p in
+          let low : 1 ≤ code = leb-true 1 code parts.0 in
+          let high : code ≤ n = leb-true code n parts.1 in
+          subst (λ x. x.job < n) f (omega arith)
+      go false true p q e =
+          let f : record { job = code - (1 + not_to_run); skipped = true } ≡ named = cc e in
+          let parts : (nat_le (1 + not_to_run) code ≡ true) × (nat_le code (n + not_to_run) ≡ true) =
+          and_parts (nat_le (1 + not_to_run) code) (nat_le code (n + not_to_run)) q in
+          let low : 1 + not_to_run ≤ code = leb-true (1 + not_to_run) code parts.0 in
+          let high : code ≤ n + not_to_run = leb-true code (n + not_to_run) parts.1 in
+          subst (λ x. x.job < n) f (omega arith)
+      go false false p q e = absurd (cc e)
+
+-- ---- what an initiator may still do
+
+module _ (deck : List JobData) where
+  -- behind the job that it runs
+  abbrev behind_job : Running → ℕ
+  behind_job run = 4 + turns_to_come deck (run.before ++ run.job ∷ [])
+
+  -- what an initiator may still do
+  abbrev pub initiator_rest : Point InitiatorAt → ℕ
+  initiator_rest (At Opening) = 5 + turns_to_come deck []
+  initiator_rest (At (Offering more before g)) = 4 + turns_to_come deck before
+  initiator_rest (At (Pausing more before g)) = 3 + turns_to_come deck before
+  initiator_rest (At (Resuming more before g)) = 2 + turns_to_come deck before
+  initiator_rest (At (Obtaining run hand latch mode steps)) = 6 + (steps_events steps + behind_job run)
+  initiator_rest (At (Confirming run hand latch mode id steps)) = 5 + (steps_events steps + behind_job run)
+  initiator_rest (At (Freeing run hand latch id steps)) = 5 + (steps_events steps + behind_job run)
+  initiator_rest (At (Reading run hand volume amount steps)) = 6 + (steps_events steps + behind_job run)
+  initiator_rest (At (Writing run hand volume amount number steps)) = 5 + (steps_events steps + behind_job run)
+  initiator_rest (At (Scanning run hand volume steps)) = 6 + (steps_events steps + behind_job run)
+  initiator_rest (At (Rescanning run hand volume number steps)) = 5 + (steps_events steps + behind_job run)
+  initiator_rest (At (Purging run hand code)) = 4 + behind_job run
+  initiator_rest (At (EndingJob run code counts)) = 3 + behind_job run
+  initiator_rest (At (EndingForScheduler run code counts)) = 2 + behind_job run
+  initiator_rest (At (EndingForWriter run code counts)) = 1 + behind_job run
+  initiator_rest (At (Closing g)) = 1
+  initiator_rest p = 0
+
+  -- where a turn begins
+  turns_rest : (more : ℕ) (before : List ℕ) (g : ℕ) → initiator_rest (turns_from more before g) ≤ 4 + turns_to_come deck before
+  turns_rest zero before g = omega arith
+  turns_rest (suc more) before g = omega arith
+
+  -- where a latch is to be freed
+  freeing_rest : (run : Running) (hand : Hand) (latch : ℕ) (slot : Option ℕ) (steps : List Step)
+      → initiator_rest (freeing_at run hand latch slot steps) ≤ 5 + (steps_events steps + behind_job run)
+  freeing_rest run hand latch None steps = omega arith
+  freeing_rest run hand latch (Some id) steps = omega arith
+
+  -- where a job's steps are to be done
+  steps_rest : (run : Running) (hand : Hand) (steps : List Step)
+      → initiator_rest (steps_at run hand steps) ≤ 4 + (steps_events steps + behind_job run)
+  steps_rest run hand [] = omega arith
+  steps_rest run hand (Print text ∷ steps) =
+      let le : initiator_rest (steps_at run hand steps) ≤ 4 + (steps_events steps + behind_job run) = steps_rest run hand steps in
+      omega arith
+  steps_rest run hand (Use latch mode ∷ steps) = omega arith
+  steps_rest run hand (Free latch ∷ steps) =
+      let le : initiator_rest (freeing_at run hand latch (hand.requests latch) steps) ≤ 5 + (steps_events steps + behind_job run) =
+      freeing_rest run hand latch (hand.requests latch) steps in omega arith
+  steps_rest run hand (Count volume amount ∷ steps) = omega arith
+  steps_rest run hand (Scan volume ∷ steps) = omega arith
+  steps_rest run hand (Abend code ∷ steps) = omega arith
+  steps_rest run hand (Return code ∷ steps) = omega arith
+
+  -- where a job begins
+  start_rest : (skipped : Bool) (run : Running) (job : JobData)
+      → initiator_rest (job_start skipped run job) ≤ 4 + (steps_events job.steps + behind_job run)
+  start_rest true run job = omega arith
+  start_rest false run job = steps_rest run empty_hand job.steps
+
+  -- where a code names a job
+  named_rest : (slot : Option Named) (before : List ℕ) (more g : ℕ) → ((named : Named) → slot ≡ Some named → named.job < length deck)
+      → initiator_rest (named_at deck slot before more g) ≤ 1 + turns_to_come deck before
+  named_rest None before more g below = omega arith
+  named_rest (Some named) before zero g below = omega arith
+  named_rest (Some named) before (suc more) g below = go (is_among named.job before) refl where
+    go : (b : Bool) → is_among named.job before ≡ b
+        → initiator_rest (if b then Astray else job_start named.skipped (running named before (suc more) g) (job_at deck named.job))
+        ≤ 1 + turns_to_come deck before
+    go true e = omega arith
+    go false e =
+        let le : initiator_rest (job_start named.skipped (running named before (suc more) g) (job_at deck named.job))
+        ≤ 4 + (steps_events (job_at deck named.job).steps + behind_job (running named before (suc more) g)) =
+        start_rest named.skipped (running named before (suc more) g) (job_at deck named.job) in
+        let taken : turns_to_come deck (before ++ named.job ∷ []) + turn_events deck named.job ≡ turns_to_come deck before =
+        turn_taken deck before named.job (below named refl) e in omega arith
+
+  -- where a code was given
+  given_rest : (more : ℕ) (before : List ℕ) (code g : ℕ)
+      → initiator_rest (given_at deck more before code g) ≤ 1 + turns_to_come deck before
+  given_rest more before code g = elim (code == 0) as
+      (λ b. initiator_rest (if b then At (Closing g) else named_at deck (job_named (length deck) code) before more g)
+      ≤ 1 + turns_to_come deck before) [
+        | true ↦ omega arith
+        | false ↦ named_rest (job_named (length deck) code) before more g (λ named e. named_below (length deck) code named e)
+      ]
+
+  -- where a number was read
+  counting_rest : (run : Running) (hand : Hand) (volume amount : ℕ) (steps : List Step) (number : ℕ)
+      → initiator_rest (counting_at run hand volume amount steps number) ≤ 5 + (steps_events steps + behind_job run)
+  counting_rest run hand volume amount steps number = elim (nat_lt (number + amount) (2 ^ 32)) as
+      (λ b. initiator_rest (if b then At (Writing run hand volume amount number steps) else Astray)
+      ≤ 5 + (steps_events steps + behind_job run)) [
+        | true ↦ omega arith
+        | false ↦ omega arith
+      ]
+
+  -- one less than enough
+  paying : {a b : ℕ} (d : ℕ) → a ≤ b → suc b ≤ d → suc a ≤ d
+  paying d le enough = omega arith
+
+  -- behind a job
+  after_rest : (run : Running) → initiator_rest (turns_after run) ≤ behind_job run
+  after_rest run = turns_rest run.more (run.before ++ run.job ∷ []) run.generation
+
+  -- each event takes one
+  pub initiator_pays : (x : InitiatorAt) (r : Reply) → suc (initiator_rest (initiator_goes deck x r)) ≤ initiator_rest (At x)
+  initiator_pays Opening (reply_of.Element (element_reply.Opened g)) = paying _ (turns_rest (length deck + 1) [] g) (omega arith)
+  initiator_pays Opening r = omega arith
+  initiator_pays (Offering more before g) r =
+      on_posted_keeps (λ p. suc (initiator_rest p) ≤ 4 + turns_to_come deck before) (At (Pausing more before g)) r
+      (omega arith) (omega arith)
+  initiator_pays (Pausing more before g) (reply_of.Element (element_reply.Given code now)) =
+      let le : initiator_rest (given_at deck more before code now) ≤ 1 + turns_to_come deck before = given_rest more before code now in
+      omega arith
+  initiator_pays (Pausing more before g) (reply_of.Element element_reply.Parked) = omega arith
+  initiator_pays (Pausing more before g) r = omega arith
+  initiator_pays (Resuming more before g) (reply_of.Element (element_reply.Given code now)) =
+      paying _ (given_rest more before code now) (omega arith)
+  initiator_pays (Resuming more before g) (reply_of.Element element_reply.NotYet) = omega arith
+  initiator_pays (Resuming more before g) r = omega arith
+  initiator_pays (Obtaining run hand latch mode steps) (reply_of.Latch (latch_reply.Granted id)) =
+      let le : initiator_rest (steps_at run (hand_with hand latch mode id) steps) ≤ 4 + (steps_events steps + behind_job run) =
+      steps_rest run (hand_with hand latch mode id) steps in omega arith
+  initiator_pays (Obtaining run hand latch mode steps) (reply_of.Latch (latch_reply.Queued id)) = omega arith
+  initiator_pays (Obtaining run hand latch mode steps) r = omega arith
+  initiator_pays (Confirming run hand latch mode id steps) (reply_of.Latch (latch_reply.Granted same)) =
+      paying _ (steps_rest run (hand_with hand latch mode id) steps) (omega arith)
+  initiator_pays (Confirming run hand latch mode id steps) (reply_of.Latch latch_reply.Waiting) = omega arith
+  initiator_pays (Confirming run hand latch mode id steps) r = omega arith
+  initiator_pays (Freeing run hand latch id steps) (reply_of.Latch (latch_reply.Released granted)) =
+      paying _ (steps_rest run (hand_without hand latch) steps) (omega arith)
+  initiator_pays (Freeing run hand latch id steps) r = omega arith
+  initiator_pays (Reading run hand volume amount steps) (reply_of.Volume (volume_reply.Value number)) =
+      paying _ (counting_rest run hand volume amount steps number) (omega arith)
+  initiator_pays (Reading run hand volume amount steps) r = omega arith
+  initiator_pays (Writing run hand volume amount number steps) (reply_of.Volume volume_reply.Stored) =
+      paying _ (steps_rest run hand steps) (omega arith)
+  initiator_pays (Writing run hand volume amount number steps) r = omega arith
+  initiator_pays (Scanning run hand volume steps) (reply_of.Volume (volume_reply.Value number)) = omega arith
+  initiator_pays (Scanning run hand volume steps) r = omega arith
+  initiator_pays (Rescanning run hand volume number steps) (reply_of.Volume (volume_reply.Value again)) =
+      paying _ (steps_rest run hand steps) (omega arith)
+  initiator_pays (Rescanning run hand volume number steps) r = omega arith
+  initiator_pays (Purging run hand code) (reply_of.Latch (latch_reply.Purged removed granted)) = omega arith
+  initiator_pays (Purging run hand code) r = omega arith
+  initiator_pays (EndingJob run code counts) (reply_of.Ecb (ecb_reply.Woke (suc x))) = omega arith
+  initiator_pays (EndingJob run code counts) (reply_of.Ecb (ecb_reply.Woke zero)) =
+      let le : initiator_rest (turns_after run) ≤ behind_job run = after_rest run in omega arith
+  initiator_pays (EndingJob run code counts) (reply_of.Ecb ecb_reply.Posted) =
+      let le : initiator_rest (turns_after run) ≤ behind_job run = after_rest run in omega arith
+  initiator_pays (EndingJob run code counts) (reply_of.Ecb (ecb_reply.Already old)) =
+      let le : initiator_rest (turns_after run) ≤ behind_job run = after_rest run in omega arith
+  initiator_pays (EndingJob run code counts) r = omega arith
+  initiator_pays (EndingForScheduler run code counts) r =
+      on_posted_keeps (λ p. suc (initiator_rest p) ≤ 2 + behind_job run) (At (EndingForWriter run code counts)) r
+      (omega arith) (omega arith)
+  initiator_pays (EndingForWriter run code counts) r =
+      on_posted_keeps (λ p. suc (initiator_rest p) ≤ 1 + behind_job run) (turns_after run) r
+      (paying _ (after_rest run) (omega arith)) (omega arith)
+  initiator_pays (Closing g) (reply_of.Element element_reply.Closed) = omega arith
+  initiator_pays (Closing g) r = omega arith

@@ -1,0 +1,214 @@
+-- How many events the reader, the scheduler and the writer may still make, by their points; and that each event takes one of
+-- them. Used by Within.
+use Rattle.std.proofs.Common.{◌≡◌, ℕ, zero, suc, ◌+◌, ◌*◌, ◌≤◌, nat_le, true, false, cond, List, [], ◌∷◌, ◌++◌, length, Option, refl}
+use Rattle.std.proofs.Common.{arith}
+use Rattle.std.proofs.lemmas.List.{length-map}
+use Rattle.std.proofs.lemmas.List.FromFn.{length-map-range_with_len}
+use Rattle.mv_ecb.specs.declared.operation.EcbReply.TheVariants as ecb_reply
+use Rattle.mv_element.specs.declared.operation.ElementReply.TheVariants as element_reply
+use Rattle.mv_machine.specs.declared.entry.Reply.{Reply}
+use Rattle.mv_machine.specs.declared.entry.Reply.TheVariants as reply_of
+use Rattle.mv_deck.specs.declared.deck.After.{After}
+use Rattle.mv_deck.specs.declared.deck.Step.{Step}
+use Rattle.mv_deck.specs.Deck.{JobData}
+use Rattle.mv_machine.specs.calls.Waits.{complete_count}
+use Rattle.mv_plan.proofs.deck.Events.{after_parts}
+use Rattle.mv_plan.specs.SpoolTasks.{ends_of}
+use Rattle.mv_plan.specs.SpoolSetup.{end_for_scheduler, idle}
+use Rattle.mv_plan.proofs.points.Points.{Point, At, TooSoon, ReaderAt, Entering, entering_from, reader_goes, Arming, Settling, Stage}
+use Rattle.mv_plan.proofs.points.Points.{Dispatching, Dismissing, Awaited, ForEntry, ForEnds, ForIdle, ToDismiss, SchedulerAt, Waits}
+use Rattle.mv_plan.proofs.points.Points.{Extends, Clears, Releases, awaited_blocks, awaited_count, arming_first, ends_at}
+use Rattle.mv_plan.proofs.points.Points.{dismissing_from, stage_at, found_at, settling_from, arming_from, scheduler_goes, WriterAt}
+use Rattle.mv_plan.proofs.points.Points.{Keeping, writing_from, end_found, lowest_at, writer_goes}
+use Rattle.mv_plan.proofs.points.PostsAndWaits.{on_posted_keeps, on_armed_keeps, on_settled_keeps, lowest_keeps}
+
+-- ---- the reader: one event for each job
+
+-- what the reader may still do
+abbrev pub reader_rest : Point ReaderAt → ℕ
+reader_rest (At (Entering j more)) = suc more
+reader_rest p = 0
+
+-- where it begins
+pub entering_rest : (j more : ℕ) → reader_rest (entering_from j more) ≤ more
+entering_rest j zero = omega arith
+entering_rest j (suc more) = omega arith
+
+-- each event takes one
+pub reader_pays : (x : ReaderAt) (r : Reply) → suc (reader_rest (reader_goes x r)) ≤ reader_rest (At x)
+reader_pays (Entering j more) r =
+    on_posted_keeps (λ p. suc (reader_rest p) ≤ suc more) (entering_from (j + 1) more) r
+    (let le : reader_rest (entering_from (j + 1) more) ≤ more = entering_rest (j + 1) more in omega arith) (omega arith)
+
+-- ---- the writer: two events for each job
+
+-- what the writer may still do
+abbrev pub writer_rest : Point WriterAt → ℕ
+writer_rest (At (Keeping j more ends (Arming e todo))) = suc (length todo) + suc (2 * more)
+writer_rest (At (Keeping j more ends (Settling e todo found))) = suc (length todo) + 2 * more
+writer_rest p = 0
+
+module _ (n : ℕ) where
+  -- where it begins with a job
+  pub writing_rest : (j more : ℕ) (ends : List ℕ) → writer_rest (writing_from n j more ends) ≤ 2 * more
+  writing_rest j zero ends = omega arith
+  writing_rest j (suc more) ends = omega arith
+
+  -- where it has found an end, or ended too soon
+  end_rest : (j more : ℕ) (ends : List ℕ) (found : List (Option ℕ)) → writer_rest (end_found n j more ends found) ≤ 2 * more
+  end_rest j more ends found = elim (nat_le 1 (complete_count found)) as
+      (λ b. writer_rest (cond b (lowest_at (λ p end. writing_from n (j + 1) more (ends ++ end ∷ [])) 0 found) TooSoon) ≤ 2 * more) [
+        | true ↦ lowest_keeps (λ p. writer_rest p ≤ 2 * more) (λ p end. writing_from n (j + 1) more (ends ++ end ∷ [])) 0 found
+            (λ i end. writing_rest (j + 1) more (ends ++ end ∷ [])) (omega arith)
+        | false ↦ omega arith
+      ]
+
+  -- each event takes one
+  pub writer_pays : (x : WriterAt) (r : Reply) → suc (writer_rest (writer_goes n x r)) ≤ writer_rest (At x)
+  writer_pays (Keeping j more ends (Arming e [])) r =
+      on_armed_keeps (λ p. suc (writer_rest p) ≤ 1 + suc (2 * more)) _ r (omega arith) (omega arith)
+  writer_pays (Keeping j more ends (Arming e (f ∷ todo))) r =
+      on_armed_keeps (λ p. suc (writer_rest p) ≤ suc (length (f ∷ todo)) + suc (2 * more)) _ r (omega arith) (omega arith)
+  writer_pays (Keeping j more ends (Settling e [] found)) r =
+      on_settled_keeps (λ p. suc (writer_rest p) ≤ 1 + 2 * more) (λ slot. end_found n j more ends (found ++ slot ∷ [])) r
+      (λ slot. let le : writer_rest (end_found n j more ends (found ++ slot ∷ [])) ≤ 2 * more =
+      end_rest j more ends (found ++ slot ∷ []) in omega arith) (omega arith)
+  writer_pays (Keeping j more ends (Settling e (f ∷ todo) found)) r =
+      on_settled_keeps (λ p. suc (writer_rest p) ≤ suc (length (f ∷ todo)) + 2 * more)
+      (λ slot. At (Keeping j more ends (Settling f todo (found ++ slot ∷ [])))) r (λ slot. omega arith) (omega arith)
+
+-- ---- the scheduler
+
+module _ (n initiators : ℕ) where
+  -- what the jobs that are still to be handed out take
+  abbrev pub jobs_rest : List JobData → ℕ
+  jobs_rest [] = 0
+  jobs_rest (job ∷ jobs) = 5 + 2 * initiators + 2 * length job.after + jobs_rest jobs
+
+  -- what a stage takes
+  abbrev pub stage_rest : Stage → ℕ
+  stage_rest (Dispatching j jobs) = jobs_rest jobs + 4 * initiators
+  stage_rest (Dismissing i more) = 4 * more
+
+  -- how many blocks are waited for, and what comes behind the wait
+  abbrev block_count : Awaited → ℕ
+  block_count (ForEntry j job jobs) = 1
+  block_count (ForEnds j job jobs) = length job.after
+  block_count (ForIdle j job jobs skipped) = initiators
+  block_count (ToDismiss i more) = 1
+
+  -- what comes behind a wait
+  abbrev behind_wait : Awaited → ℕ
+  behind_wait (ForEntry j job jobs) = 2 * length job.after + (3 + 2 * initiators + (jobs_rest jobs + 4 * initiators))
+  behind_wait (ForEnds j job jobs) = 3 + 2 * initiators + (jobs_rest jobs + 4 * initiators)
+  behind_wait (ForIdle j job jobs skipped) = 2 + (jobs_rest jobs + 4 * initiators)
+  behind_wait (ToDismiss i more) = 2 + 4 * more
+
+  -- what the scheduler may still do
+  abbrev pub scheduler_rest : Point SchedulerAt → ℕ
+  scheduler_rest (At (Waits a (Arming e todo))) = suc (length todo) + (block_count a + behind_wait a)
+  scheduler_rest (At (Waits a (Settling e todo found))) = suc (length todo) + behind_wait a
+  scheduler_rest (At (Extends j job jobs skipped)) = 3 + 2 * initiators + (jobs_rest jobs + 4 * initiators)
+  scheduler_rest (At (Clears i g code after)) = 2 + stage_rest after
+  scheduler_rest (At (Releases i g code after)) = 1 + stage_rest after
+  scheduler_rest p = 0
+
+  -- so many blocks are waited for
+  blocks : (a : Awaited) → length (awaited_blocks n initiators a) ≡ block_count a
+  blocks (ForEntry j job jobs) = refl
+  blocks (ForEnds j job jobs) = length-map job.after (λ part. end_for_scheduler n part.job)
+  blocks (ForIdle j job jobs skipped) = length-map-range_with_len (idle n) 0 initiators
+  blocks (ToDismiss i more) = refl
+
+  -- where it begins to dismiss
+  dismissing_rest : (i more : ℕ) → scheduler_rest (dismissing_from n i more) ≤ 4 * more
+  dismissing_rest i zero = omega arith
+  dismissing_rest i (suc more) = omega arith
+
+  -- where it begins a stage
+  pub stage_starts : (after : Stage) → scheduler_rest (stage_at n initiators after) ≤ stage_rest after
+  stage_starts (Dispatching j []) =
+      let le : scheduler_rest (dismissing_from n 0 initiators) ≤ 4 * initiators = dismissing_rest 0 initiators in omega arith
+  stage_starts (Dispatching j (job ∷ jobs)) = omega arith
+  stage_starts (Dismissing i more) = dismissing_rest i more
+
+  -- where a job was entered
+  ends_rest : (j : ℕ) (name : List ℕ) (after : List After) (steps : List Step) (jobs : List JobData)
+      → scheduler_rest (ends_at n j (record { name = name; after = after; steps = steps }) jobs)
+      ≤ 2 * length after + (3 + 2 * initiators + (jobs_rest jobs + 4 * initiators))
+  ends_rest j name [] steps jobs = omega arith
+  ends_rest j name (part ∷ parts) steps jobs =
+      let e : length (ends_of n parts) ≡ length parts = length-map parts (λ part. end_for_scheduler n part.job) in omega arith
+
+  -- where a wait has found enough
+  found_rest : (a : Awaited) (found : List (Option ℕ)) → scheduler_rest (found_at n a found) ≤ behind_wait a
+  found_rest (ForEntry j job jobs) found =
+      lowest_keeps (λ p. scheduler_rest p ≤ behind_wait (ForEntry j job jobs)) (λ p code. ends_at n j job jobs) 0 found
+      (λ p code. ends_rest j job.name job.after job.steps jobs) (omega arith)
+  found_rest (ForEnds j job jobs) found = omega arith
+  found_rest (ForIdle j job jobs skipped) found =
+      lowest_keeps (λ p. scheduler_rest p ≤ behind_wait (ForIdle j job jobs skipped)) _ 0 found (λ i g. omega arith) (omega arith)
+  found_rest (ToDismiss i more) found =
+      lowest_keeps (λ p. scheduler_rest p ≤ behind_wait (ToDismiss i more)) _ 0 found (λ p g. omega arith) (omega arith)
+
+  -- where blocks are still to be settled
+  settling_rest : (a : Awaited) (es : List ℕ) (found : List (Option ℕ))
+      → scheduler_rest (settling_from n a es found) ≤ length es + behind_wait a
+  settling_rest a [] found = elim (nat_le (awaited_count a) (complete_count found)) as
+      (λ b. scheduler_rest (cond b (found_at n a found) TooSoon) ≤ 0 + behind_wait a) [
+        | true ↦ let le : scheduler_rest (found_at n a found) ≤ behind_wait a = found_rest a found in omega arith
+        | false ↦ omega arith
+      ]
+  settling_rest a (e ∷ es) found = omega arith
+
+  -- where blocks are still to be armed
+  arming_rest : (a : Awaited) (es : List ℕ)
+      → scheduler_rest (arming_from n initiators a es) ≤ length es + (block_count a + behind_wait a)
+  arming_rest a [] =
+      let le : scheduler_rest (settling_from n a (awaited_blocks n initiators a) [])
+      ≤ length (awaited_blocks n initiators a) + behind_wait a =
+      settling_rest a (awaited_blocks n initiators a) [] in
+      let e : length (awaited_blocks n initiators a) ≡ block_count a = blocks a in omega arith
+  arming_rest a (e ∷ es) = omega arith
+
+  -- where a wait begins
+  first_rest : (a : Awaited) (es : List ℕ) → scheduler_rest (arming_first a es) ≤ length es + (block_count a + behind_wait a)
+  first_rest a [] = omega arith
+  first_rest a (e ∷ es) = omega arith
+
+  -- each event takes one
+  pub scheduler_pays : (x : SchedulerAt) (r : Reply) → suc (scheduler_rest (scheduler_goes n initiators x r)) ≤ scheduler_rest (At x)
+  scheduler_pays (Waits a (Arming e todo)) r =
+      on_armed_keeps (λ p. suc (scheduler_rest p) ≤ suc (length todo) + (block_count a + behind_wait a))
+      (arming_from n initiators a todo) r
+      (let le : scheduler_rest (arming_from n initiators a todo) ≤ length todo + (block_count a + behind_wait a) =
+      arming_rest a todo in omega arith) (omega arith)
+  scheduler_pays (Waits a (Settling e todo found)) r =
+      on_settled_keeps (λ p. suc (scheduler_rest p) ≤ suc (length todo) + behind_wait a)
+      (λ slot. settling_from n a todo (found ++ slot ∷ [])) r
+      (λ slot. let le : scheduler_rest (settling_from n a todo (found ++ slot ∷ [])) ≤ length todo + behind_wait a =
+      settling_rest a todo (found ++ slot ∷ []) in omega arith) (omega arith)
+  scheduler_pays (Extends j job jobs skipped) (reply_of.Ecb ecb_reply.Armed) =
+      let le : scheduler_rest (arming_first (ForIdle j job jobs skipped) (awaited_blocks n initiators (ForIdle j job jobs skipped)))
+      ≤ length (awaited_blocks n initiators (ForIdle j job jobs skipped))
+      + (initiators + behind_wait (ForIdle j job jobs skipped)) =
+      first_rest (ForIdle j job jobs skipped) (awaited_blocks n initiators (ForIdle j job jobs skipped)) in
+      let e : length (awaited_blocks n initiators (ForIdle j job jobs skipped)) ≡ initiators = blocks (ForIdle j job jobs skipped) in
+      omega arith
+  scheduler_pays (Extends j job jobs skipped) r = omega arith
+  scheduler_pays (Clears i g code after) (reply_of.Ecb (ecb_reply.Word w)) = omega arith
+  scheduler_pays (Clears i g code after) r = omega arith
+  scheduler_pays (Releases i g code after) (reply_of.Element element_reply.Early) =
+      let le : scheduler_rest (stage_at n initiators after) ≤ stage_rest after = stage_starts after in omega arith
+  scheduler_pays (Releases i g code after) (reply_of.Element element_reply.Woke) =
+      let le : scheduler_rest (stage_at n initiators after) ≤ stage_rest after = stage_starts after in omega arith
+  scheduler_pays (Releases i g code after) r = omega arith
+
+  -- all jobs together
+  pub jobs_rest_is : (jobs : List JobData)
+      → jobs_rest jobs ≡ 5 * length jobs + 2 * length jobs * initiators + 2 * after_parts jobs
+  jobs_rest_is [] = omega arith
+  jobs_rest_is (job ∷ jobs) = more (length jobs) (length job.after) (after_parts jobs) (jobs_rest jobs) (jobs_rest_is jobs) where
+    more : (m k a rest : ℕ) → rest ≡ 5 * m + 2 * m * initiators + 2 * a
+        → 5 + 2 * initiators + 2 * k + rest ≡ 5 * suc m + 2 * suc m * initiators + 2 * (k + a)
+    more m k a rest e = grind arith

@@ -1,0 +1,291 @@
+-- A deck that is sound is so in the form in which running jobs meet it: what is held behind the steps done is held in a list.
+use Rattle.std.proofs.Common.{◌≡◌, ℕ, zero, suc, ◌+◌, ◌-◌, ◌<◌, ◌≤◌, ◌==◌, Bool, true, false, not, ◌||◌, IsTrue, List, [], ◌∷◌}
+use Rattle.std.proofs.Common.{◌++◌, length, map, filter, drop, get_or, Option, Some, None, is_some, is_none, if◌then◌else◌}
+use Rattle.std.proofs.Common.{refl, sym, ap}
+use Rattle.std.proofs.Common.{◌∙◌, subst, arith, inl, inr}
+use Rattle.std.specs.List.{AllByRecursion, list_any}
+use Rattle.std.proofs.lemmas.Bool.{eq-eqb, ne_eqb, eqb-true, false≢true, cases_lt}
+use Rattle.std.proofs.lemmas.List.{get_or-drop, length-append}
+use Rattle.std.proofs.lemmas.List.FromFn.{get_or-range_with_len}
+use Rattle.std.proofs.lemmas.List.Sums.{fold-append}
+use Rattle.mv_latch.specs.declared.request.Mode.{Mode}
+use Rattle.mv_latch.specs.declared.request.Mode.TheVariants.{Shared, Exclusive}
+use Rattle.mv_machine.specs.calls.Waits.{AreDistinct}
+use Rattle.mv_deck.specs.declared.deck.After.{After}
+use Rattle.mv_deck.specs.declared.deck.Step.{Step}
+use Rattle.mv_deck.specs.declared.deck.Step.TheVariants.{Print, Use, Free, Count, Scan, Abend, Return}
+use Rattle.mv_deck.specs.Deck.{JobData}
+use Rattle.mv_deck.specs.Held.{held, held_behind, holds_from, latches, is_exclusive, is_end}
+use Rattle.mv_deck.specs.Sound as deck
+use Rattle.mv_plan.proofs.deck.Sound.{Held, is_held, is_held_alone, AreSoundSteps, IsSoundJob, AreSoundJobs, IsSound}
+
+-- how a list says that a latch is held
+abbrev mode_in : List Held → ℕ → Option Mode
+mode_in [] l = None
+mode_in (h ∷ hs) l = if h.latch == l then Some h.mode else mode_in hs l
+
+-- what is held behind these steps is in the list
+record Lists (hs : List Held) (done : List Step) : Type 0 where
+  known : (l : ℕ) → held done l ≡ mode_in hs l
+  low : AllByRecursion (λ h. h.latch ≤ 7) hs
+
+-- behind one more step
+held_next : (done : List Step) (step : Step) (l : ℕ) → held (done ++ step ∷ []) l ≡ held_behind l (held done l) step
+held_next done step l = fold-append (held_behind l) None done (step ∷ [])
+
+-- a step that takes no latch and gives none back
+same_lists : (hs : List Held) (done : List Step) (step : Step) → ((l : ℕ) (m : Option Mode) → held_behind l m step ≡ m)
+    → Lists hs done → Lists hs (done ++ step ∷ [])
+same_lists hs done step same x = record {
+  known = λ l. held_next done step l ∙ same l (held done l) ∙ x.known l;
+  low = x.low;
+}
+
+-- ---- USE
+
+-- a test that none passes
+none_in : (p : ℕ → Bool) (xs : List ℕ) (i : ℕ) → list_any p xs ≡ false → i < length xs → p (get_or xs i 0) ≡ false
+none_in p [] i e lt = absurd (omega arith)
+none_in p (x ∷ xs) i e lt = go (p x) refl (λ i f lt. none_in p xs i f lt) i lt where
+  go : (b : Bool) → p x ≡ b → ((i : ℕ) → list_any p xs ≡ false → i < length xs → p (get_or xs i 0) ≡ false)
+      → (i : ℕ) → i < length (x ∷ xs) → p (get_or (x ∷ xs) i 0) ≡ false
+  go true q more i lt = absurd (false≢true (sym e ∙ ap (λ c. c || list_any p xs) q))
+  go false q more zero lt = q
+  go false q more (suc i) lt = more i (sym (ap (λ c. c || list_any p xs) q) ∙ e) (omega arith)
+
+-- each latch stands at its own place
+low_latch : (l : ℕ) → l ≤ 7 → get_or latches l 0 ≡ l
+low_latch l le = get_or-range_with_len 0 8 l 0 (omega arith) ∙ (let e : 0 + l ≡ l = omega arith in e)
+
+-- how many are left behind a place
+length_left : (xs : List ℕ) (n m : ℕ) → m < length xs → n ≤ m → m - n < length (drop n xs)
+length_left xs zero m lt le = omega arith
+length_left [] (suc n) m lt le = absurd (omega arith)
+length_left (x ∷ xs) (suc n) zero lt le = absurd (omega arith)
+length_left (x ∷ xs) (suc n) (suc m) lt le = subst (λ k. k < length (drop n xs)) (let e : m - n ≡ suc m - suc n = omega arith in e)
+    (length_left xs n m (omega arith) (omega arith))
+
+-- a latch that is held is below one that is used in order
+below_used : (done : List Step) (latch l : ℕ) (mode : Mode) → holds_from done latch ≡ false → held done l ≡ Some mode → l ≤ 7 → l < latch
+below_used done latch l mode order is le = elim (cases_lt l latch) [
+  | inl low ↦ low
+  | inr high ↦
+      let at : get_or (drop latch latches) (l - latch) 0 ≡ l = get_or-drop latch latches (l - latch) 0
+      ∙ ap (λ i. get_or latches i 0) (let e : latch + (l - latch) ≡ l = omega arith in e) ∙ low_latch l le in
+      let none : is_some (held done (get_or (drop latch latches) (l - latch) 0)) ≡ false =
+      none_in (λ l. is_some (held done l)) (drop latch latches) (l - latch) order
+      (length_left latches latch l (omega arith) high) in
+      absurd (false≢true (sym none ∙ ap (λ l. is_some (held done l)) at ∙ ap is_some is))
+]
+
+-- a latch of the list is held
+first_mode : (hs : List Held) (h : Held) → (m : Mode) × (mode_in (h ∷ hs) h.latch ≡ Some m)
+first_mode hs h = (h.mode, ap (λ b. if b then Some h.mode else mode_in hs h.latch) (eq-eqb h.latch h.latch refl))
+
+-- one more in front of a list
+some_mode : (hs : List Held) (h : Held) (l : ℕ) → ((m : Mode) × (mode_in hs l ≡ Some m)) → (m : Mode) × (mode_in (h ∷ hs) l ≡ Some m)
+some_mode hs h l w = go (h.latch == l) refl where
+  go : (b : Bool) → (h.latch == l) ≡ b → (m : Mode) × (mode_in (h ∷ hs) l ≡ Some m)
+  go true e = (h.mode, ap (λ b. if b then Some h.mode else mode_in hs l) e)
+  go false e = (w.0, ap (λ b. if b then Some h.mode else mode_in hs l) e ∙ w.1)
+
+-- the latches of a list are below one that is used in order
+all_below : (done : List Step) (latch : ℕ) → holds_from done latch ≡ false → (hs : List Held)
+    → AllByRecursion (λ h. h.latch ≤ 7) hs
+    → ((l : ℕ) → ((m : Mode) × (mode_in hs l ≡ Some m)) → (m : Mode) × (held done l ≡ Some m))
+    → AllByRecursion (λ h. h.latch < latch) hs
+all_below done latch order [] low is = tt
+all_below done latch order (h ∷ hs) low is =
+    let first : (m : Mode) × (held done h.latch ≡ Some m) = is h.latch (first_mode hs h) in (
+      below_used done latch h.latch first.0 order first.1 low.0,
+      all_below done latch order hs low.1 (λ l w. is l (some_mode hs h l w)),
+    )
+
+-- behind a USE
+none_below : (hs : List Held) (latch : ℕ) → AllByRecursion (λ h. h.latch < latch) hs → mode_in hs latch ≡ None
+none_below [] latch below = refl
+none_below (h ∷ hs) latch below =
+    ap (λ b. if b then Some h.mode else mode_in hs latch)
+    (ne_eqb h.latch latch (λ e. let lt : h.latch < latch = below.0 in absurd (omega arith))) ∙ none_below hs latch below.1
+
+-- a latch that is pushed is held, and the others as they were
+pushed : (hs : List Held) (latch : ℕ) (mode : Mode) (l : ℕ) → mode_in hs latch ≡ None
+    → (if latch == l then Some mode else mode_in hs l) ≡ mode_in (hs ++ record { latch = latch; mode = mode } ∷ []) l
+pushed [] latch mode l none = refl
+pushed (h ∷ hs) latch mode l none = go (h.latch == latch) (h.latch == l) refl refl (λ e. pushed hs latch mode l e) none where
+  go : (a b : Bool) → (h.latch == latch) ≡ a → (h.latch == l) ≡ b
+      → (mode_in hs latch ≡ None → (if latch == l then Some mode else mode_in hs l)
+      ≡ mode_in (hs ++ record { latch = latch; mode = mode } ∷ []) l)
+      → (if a then Some h.mode else mode_in hs latch) ≡ None
+      → (if latch == l then Some mode else if b then Some h.mode else mode_in hs l)
+      ≡ (if b then Some h.mode else mode_in (hs ++ record { latch = latch; mode = mode } ∷ []) l)
+  go true b p q more e = absurd (cc e)
+  go false true p q more e = ap (λ b. if b then Some mode else Some h.mode)
+      (ne_eqb latch l (λ r. absurd (false≢true (sym p ∙ eq-eqb h.latch latch (eqb-true h.latch l q ∙ sym r)))))
+  go false false p q more e = more e
+
+-- all are low with one more
+all_pushed : (hs : List Held) (latch : ℕ) (mode : Mode) → latch ≤ 7 → AllByRecursion (λ h. h.latch ≤ 7) hs
+    → AllByRecursion (λ h. h.latch ≤ 7) (hs ++ record { latch = latch; mode = mode } ∷ [])
+all_pushed [] latch mode le low = (le, tt)
+all_pushed (h ∷ hs) latch mode le low = (low.0, all_pushed hs latch mode le low.1)
+
+-- the list behind a USE
+used_lists : (hs : List Held) (done : List Step) (latch : ℕ) (mode : Mode) → latch ≤ 7
+    → AllByRecursion (λ h. h.latch < latch) hs → Lists hs done
+    → Lists (hs ++ record { latch = latch; mode = mode } ∷ []) (done ++ Use latch mode ∷ [])
+used_lists hs done latch mode le below x = record {
+  known = λ l. held_next done (Use latch mode) l ∙ ap (λ m. if latch == l then Some mode else m) (x.known l)
+      ∙ pushed hs latch mode l (none_below hs latch below);
+  low = all_pushed hs latch mode le x.low;
+}
+
+-- ---- FREE
+
+-- a latch that is freed is in the list no more, and the others are
+freed : (hs : List Held) (latch l : ℕ)
+    → (if latch == l then None else mode_in hs l) ≡ mode_in (filter (λ h. not (is_held latch h)) hs) l
+freed [] latch l = either (latch == l) None where
+  either : (b : Bool) (m : Option Mode) → (if b then m else m) ≡ m
+  either true m = refl
+  either false m = refl
+freed (h ∷ hs) latch l = go (h.latch == latch) (h.latch == l) refl refl (freed hs latch l) where
+  go : (a b : Bool) → (h.latch == latch) ≡ a → (h.latch == l) ≡ b
+      → (if latch == l then None else mode_in hs l) ≡ mode_in (filter (λ h. not (is_held latch h)) hs) l
+      → (if latch == l then None else if h.latch == l then Some h.mode else mode_in hs l)
+      ≡ mode_in (filter (λ h. not (is_held latch h)) (h ∷ hs)) l
+  go true true p q more = rw (p, q, eq-eqb latch l (sym (eqb-true h.latch latch p) ∙ eqb-true h.latch l q))
+      (sym (ap (λ b. if b then None else mode_in hs l) (eq-eqb latch l (sym (eqb-true h.latch latch p) ∙ eqb-true h.latch l q)))
+      ∙ more)
+  go true false p q more = rw (p, q) more
+  go false true p q more = rw (p, q, ne_eqb latch l (λ e. false≢true (sym p ∙ eq-eqb h.latch latch (eqb-true h.latch l q ∙ sym e)))) refl
+  go false false p q more = rw (p, q) more
+
+-- all that are left are low
+all_left : (hs : List Held) (p : Held → Bool) → AllByRecursion (λ h. h.latch ≤ 7) hs → AllByRecursion (λ h. h.latch ≤ 7) (filter p hs)
+all_left [] p low = tt
+all_left (h ∷ hs) p low = elim (p h) as (λ b. AllByRecursion (λ h. h.latch ≤ 7) (if b then h ∷ filter p hs else filter p hs)) [
+  | true ↦ (low.0, all_left hs p low.1)
+  | false ↦ all_left hs p low.1
+]
+
+-- the list behind a FREE
+freed_lists : (hs : List Held) (done : List Step) (latch : ℕ) → Lists hs done
+    → Lists (filter (λ h. not (is_held latch h)) hs) (done ++ Free latch ∷ [])
+freed_lists hs done latch x = record {
+  known = λ l. held_next done (Free latch) l ∙ ap (λ m. if latch == l then None else m) (x.known l) ∙ freed hs latch l;
+  low = all_left hs (λ h. not (is_held latch h)) x.low;
+}
+
+-- ---- latches that are to be held
+
+-- a latch that is held is in the list
+in_list : (hs : List Held) (l : ℕ) → is_none (mode_in hs l) ≡ false → IsTrue (list_any (is_held l) hs)
+in_list [] l e = absurd (false≢true (sym e))
+in_list (h ∷ hs) l e = go (h.latch == l) refl (λ e. in_list hs l e) e where
+  go : (b : Bool) → (h.latch == l) ≡ b → (is_none (mode_in hs l) ≡ false → IsTrue (list_any (is_held l) hs))
+      → is_none (if b then Some h.mode else mode_in hs l) ≡ false
+      → IsTrue (list_any (is_held l) (h ∷ hs))
+  go true p more e = rw p refl
+  go false p more e = rw p (more e)
+
+-- and is so exclusively
+alone_in_list : (hs : List Held) (l : ℕ) → not (is_exclusive (mode_in hs l)) ≡ false → IsTrue (list_any (is_held_alone l) hs)
+alone_in_list [] l e = absurd (false≢true (sym e))
+alone_in_list (h ∷ hs) l e = go (h.latch == l) h.mode refl refl (λ e. alone_in_list hs l e) e where
+  go : (b : Bool) (m : Mode) → (h.latch == l) ≡ b → h.mode ≡ m
+      → (not (is_exclusive (mode_in hs l)) ≡ false → IsTrue (list_any (is_held_alone l) hs))
+      → not (is_exclusive (if b then Some h.mode else mode_in hs l)) ≡ false
+      → IsTrue (list_any (is_held_alone l) (h ∷ hs))
+  go true Exclusive p q more e = rw (p, q) refl
+  go true Shared p q more e = absurd (false≢true (sym e ∙ ap (λ m. not (is_exclusive (Some m))) q))
+  go false m p q more e = rw p (more e)
+
+-- ---- steps
+
+-- nothing stands behind the end of a job
+ended : (done : List Step) (step : Step) (steps : List Step) → is_end step ≡ true
+    → deck.AreSoundSteps (done ++ step ∷ []) steps → steps ≡ []
+ended done step [] e s = refl
+ended done step (next ∷ steps) e s = absurd (false≢true (sym s.0.before_end ∙ any_end done)) where
+  any_end : (done : List Step) → list_any is_end (done ++ step ∷ []) ≡ true
+  any_end [] = ap (λ b. b || false) e
+  any_end (d ∷ done) = ap (λ b. is_end d || b) (any_end done) ∙ either (is_end d) where
+    either : (b : Bool) → (b || true) ≡ true
+    either true = refl
+    either false = refl
+
+-- the steps
+planned_steps : (hs : List Held) (done steps : List Step) → Lists hs done → deck.AreSoundSteps done steps → AreSoundSteps hs steps
+planned_steps hs done [] x s = tt
+planned_steps hs done (Print text ∷ steps) x s =
+    planned_steps hs (done ++ Print text ∷ []) steps (same_lists hs done (Print text) (λ l m. refl) x) s.1
+planned_steps hs done (Use latch mode ∷ steps) x s = (
+  s.0.numbers,
+  below,
+  planned_steps (hs ++ record { latch = latch; mode = mode } ∷ []) (done ++ Use latch mode ∷ []) steps
+      (used_lists hs done latch mode s.0.numbers below x) s.1,
+) where
+  below : AllByRecursion (λ h. h.latch < latch) hs
+  below = all_below done latch s.0.in_order hs x.low (λ l w. (w.0, x.known l ∙ w.1))
+planned_steps hs done (Free latch ∷ steps) x s = (
+  s.0.numbers,
+  in_list hs latch (ap is_none (sym (x.known latch)) ∙ s.0.latched),
+  planned_steps (filter (λ h. not (is_held latch h)) hs) (done ++ Free latch ∷ []) steps (freed_lists hs done latch x) s.1,
+)
+planned_steps hs done (Count volume amount ∷ steps) x s = (
+  s.0.numbers.0,
+  s.0.numbers.1,
+  s.0.numbers.2,
+  alone_in_list hs volume (ap (λ m. not (is_exclusive m)) (sym (x.known volume)) ∙ s.0.latched),
+  planned_steps hs (done ++ Count volume amount ∷ []) steps (same_lists hs done (Count volume amount) (λ l m. refl) x) s.1,
+)
+planned_steps hs done (Scan volume ∷ steps) x s = (
+  s.0.numbers,
+  in_list hs volume (ap is_none (sym (x.known volume)) ∙ s.0.latched),
+  planned_steps hs (done ++ Scan volume ∷ []) steps (same_lists hs done (Scan volume) (λ l m. refl) x) s.1,
+)
+planned_steps hs done (Abend code ∷ steps) x s = (s.0.numbers.0, s.0.numbers.1, ended done (Abend code) steps refl s.1)
+planned_steps hs done (Return code ∷ steps) x s = (s.0.numbers, ended done (Return code) steps refl s.1)
+
+-- ---- jobs
+
+-- each other job differs
+all_others : (job : ℕ) (parts : List After) → AllByRecursion (λ (other : After). ¬ (other.job ≡ job)) parts
+    → AllByRecursion (λ m. m ≡ job → ⊥) (map (λ (part : After). part.job) parts)
+all_others job [] d = tt
+all_others job (part ∷ parts) d = (λ e. absurd (d.0 e), all_others job parts d.1)
+
+-- no job is awaited twice
+distinct_jobs : (parts : List After) → deck.AreDistinct parts → AreDistinct (map (λ (part : After). part.job) parts)
+distinct_jobs [] d = tt
+distinct_jobs (part ∷ parts) d = (all_others part.job parts d.0, distinct_jobs parts d.1)
+
+-- the awaited jobs are earlier
+all_earlier : (j : ℕ) (parts : List After) → AllByRecursion (deck.IsSoundAfter j) parts → AllByRecursion (λ part. part.job < j) parts
+all_earlier j [] a = tt
+all_earlier j (part ∷ parts) a = (a.0.0, all_earlier j parts a.1)
+
+-- and what is accepted is a return code
+all_accepted : (j : ℕ) (parts : List After) → AllByRecursion (deck.IsSoundAfter j) parts → AllByRecursion (λ part. part.most ≤ 4095) parts
+all_accepted j [] a = tt
+all_accepted j (part ∷ parts) a = (a.0.1, all_accepted j parts a.1)
+
+-- the jobs
+planned_jobs : (before jobs : List JobData) (j : ℕ) → length before ≡ j → deck.AreSoundJobs before jobs → AreSoundJobs j jobs
+planned_jobs before [] j e s = tt
+planned_jobs before (job ∷ jobs) j e s = (
+  subst (λ k. IsSoundJob k job) e (record {
+    few = s.0.few;
+    distinct = distinct_jobs job.after s.0.distinct;
+    earlier = all_earlier (length before) job.after s.0.earlier;
+    accepts = all_accepted (length before) job.after s.0.earlier;
+    steps = planned_steps [] [] job.steps (record { known = λ l. refl; low = tt }) s.0.steps;
+  }),
+  planned_jobs (before ++ job ∷ []) jobs (j + 1)
+      (length-append before (job ∷ []) ∙ ap (λ n. n + 1) e) s.1,
+)
+
+-- the deck
+pub planned : (jobs : List JobData) (initiators : ℕ) → deck.IsSound jobs initiators → IsSound jobs initiators
+planned jobs initiators sound = record { jobs = planned_jobs [] jobs 0 refl sound.jobs_stand; light = sound.light }

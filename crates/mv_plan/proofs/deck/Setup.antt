@@ -1,0 +1,189 @@
+-- The configuration's facts in one record, Facts: who owns which block and element, which exits start where, and the quotas.
+-- All layers take these facts and do not look into the configuration again.
+use Rattle.std.proofs.Common.{◌≡◌, ℕ, zero, suc, ◌+◌, ◌-◌, ◌*◌, ◌/◌, ◌<◌, ◌≤◌, ◌==◌, nat_lt, ◌&&◌, true, List, [], ◌∷◌, ◌++◌, length, map}
+use Rattle.std.proofs.Common.{replicate, get_or, Some, refl, sym, ap, ◌∙◌, subst, append_assoc, arith}
+use Rattle.std.specs.Prelude.{slice_get}
+use Rattle.std.specs.List.{range_with_len}
+use Rattle.std.proofs.lemmas.Bool.{eq-eqb, eqb-true, lt-ltb, ltb-true, false≢true, and_parts}
+use Rattle.std.proofs.lemmas.List.{get_or-append-add, get_or_append_left, get_or-replicate, length-append, length-replicate}
+use Rattle.mv_machine.specs.Setup.{Setup, SetupExit, owner_of, is_exit_of, starts_from, element_owner}
+use Rattle.mv_deck.specs.Deck.{JobData}
+use Rattle.mv_machine.specs.calls.Posts.{targets_of, targets_at}
+use Rattle.mv_plan.specs.SpoolSetup.{spool_setup, end_owners, block_owners, end_exit, entered, done, end_for_scheduler, end_for_writer}
+use Rattle.mv_plan.specs.SpoolSetup.{idle, scheduler, writer}
+
+-- a configuration of the spool for n jobs
+pub record Facts (c : Setup) (n initiators : ℕ) : Type 0 where
+  pub size : length c.owners ≡ 4 * n + initiators
+  pub some : 1 ≤ initiators
+  pub entered_owner : (j : ℕ) → j < n → owner_of c (entered j) ≡ 1
+  pub done_owner : (j : ℕ) → j < n → owner_of c (done n j) ≡ 1
+  pub scheduler_owner : (j : ℕ) → j < n → owner_of c (end_for_scheduler n j) ≡ 1
+  pub writer_owner : (j : ℕ) → j < n → owner_of c (end_for_writer n j) ≡ writer initiators
+  pub idle_owner : (i : ℕ) → i < initiators → owner_of c (idle n i) ≡ 1
+  pub exit : (j : ℕ) → j < n → is_exit_of c (j + 1) (done n j) ≡ true
+  pub sources : (x m : ℕ) → is_exit_of c x m ≡ true → (j : ℕ) × (j < n) × (x ≡ j + 1) × (m ≡ done n j)
+  pub targets : (j : ℕ) → j < n → targets_of c (j + 1) ≡ end_for_scheduler n j ∷ end_for_writer n j ∷ []
+  pub element : (m : ℕ) → element_owner c m ≡ m
+  pub each : c.elements_per_caller ≡ 1
+  pub latches : c.latches ≡ 8
+  pub quota : c.quota ≡ 8
+  pub posted : c.posted_quota ≡ 0
+  pub callers : c.callers ≡ initiators + 3
+
+pub length_ends : (w n : ℕ) → length (end_owners w n) ≡ 2 * n
+length_ends w zero = refl
+length_ends w (suc n) = let ih : length (end_owners w n) ≡ 2 * n = length_ends w n in omega arith
+
+scheduler_end : (w n j : ℕ) (rest : List ℕ) → j < n → get_or (end_owners w n ++ rest) (2 * j) 0 ≡ 1
+scheduler_end w zero j rest lt = elim lt [ ]
+scheduler_end w (suc n) zero rest lt = refl
+scheduler_end w (suc n) (suc j) rest lt = ap (λ k. get_or (end_owners w (suc n) ++ rest) k 0) twice
+    ∙ scheduler_end w n j rest (omega arith) where
+      twice : 2 * suc j ≡ suc (suc (2 * j))
+      twice = omega arith
+
+writer_end : (w n j : ℕ) (rest : List ℕ) → j < n → get_or (end_owners w n ++ rest) (2 * j + 1) 0 ≡ w
+writer_end w zero j rest lt = elim lt [ ]
+writer_end w (suc n) zero rest lt = refl
+writer_end w (suc n) (suc j) rest lt = ap (λ k. get_or (end_owners w (suc n) ++ rest) k 0) twice
+    ∙ writer_end w n j rest (omega arith) where
+      twice : 2 * suc j + 1 ≡ suc (suc (2 * j + 1))
+      twice = omega arith
+
+-- behind a list of this length
+behind : (xs ys : List ℕ) (m k i : ℕ) → length xs ≡ m → i ≡ m + k → get_or (xs ++ ys) i 0 ≡ get_or ys k 0
+behind xs ys m k i e f = ap (λ l. get_or (xs ++ ys) l 0) (f ∙ ap (λ l. l + k) (sym e)) ∙ get_or-append-add xs ys k 0
+
+abbrev ends_on : ℕ → ℕ → List ℕ
+ends_on n initiators = end_owners (writer initiators) n ++ replicate initiators scheduler
+
+-- the owners, part by part
+by_parts : (n initiators : ℕ) → block_owners n initiators ≡ replicate n scheduler ++ (replicate n scheduler ++ ends_on n initiators)
+by_parts n initiators =
+    append_assoc (replicate n scheduler ++ replicate n scheduler) (end_owners (writer initiators) n) (replicate initiators scheduler)
+    ∙ append_assoc (replicate n scheduler) (replicate n scheduler) (ends_on n initiators)
+
+owned_by : (n initiators i k : ℕ) → get_or (replicate n scheduler ++ (replicate n scheduler ++ ends_on n initiators)) i 0 ≡ k
+    → get_or (block_owners n initiators) i 0 ≡ k
+owned_by n initiators i k e = ap (λ os. get_or os i 0) (by_parts n initiators) ∙ e
+
+ones : (n j : ℕ) (rest : List ℕ) → j < n → get_or (replicate n scheduler ++ rest) j 0 ≡ 1
+ones n j rest lt = get_or_append_left (replicate n scheduler) rest 0 j (subst (λ l. j < l) (sym (length-replicate n scheduler)) lt)
+    ∙ get_or-replicate n j scheduler 0 lt
+
+module _ (n initiators : ℕ) where
+  first_part : (j : ℕ) → j < n → get_or (block_owners n initiators) j 0 ≡ 1
+  first_part j lt = owned_by n initiators j 1 (ones n j (replicate n scheduler ++ ends_on n initiators) lt)
+
+  second_part : (j : ℕ) → j < n → get_or (block_owners n initiators) (n + j) 0 ≡ 1
+  second_part j lt = owned_by n initiators (n + j) 1
+      (behind (replicate n scheduler) (replicate n scheduler ++ ends_on n initiators) n j (n + j) (length-replicate n scheduler) refl
+      ∙ ones n j (ends_on n initiators) lt)
+
+  third_part : (i k o : ℕ) → i ≡ 2 * n + k → get_or (ends_on n initiators) k 0 ≡ o → get_or (block_owners n initiators) i 0 ≡ o
+  third_part i k o e f = owned_by n initiators i o
+      (behind (replicate n scheduler) (replicate n scheduler ++ ends_on n initiators) n (n + k) i (length-replicate n scheduler)
+      (omega arith)
+      ∙ behind (replicate n scheduler) (ends_on n initiators) n k (n + k) (length-replicate n scheduler) refl ∙ f)
+
+  scheduler_part : (j : ℕ) → j < n → get_or (block_owners n initiators) (end_for_scheduler n j) 0 ≡ 1
+  scheduler_part j lt = third_part (end_for_scheduler n j) (2 * j) 1 refl
+      (scheduler_end (writer initiators) n j (replicate initiators scheduler) lt)
+
+  writer_part : (j : ℕ) → j < n → get_or (block_owners n initiators) (end_for_writer n j) 0 ≡ writer initiators
+  writer_part j lt = third_part (end_for_writer n j) (2 * j + 1) (writer initiators) (omega arith)
+      (writer_end (writer initiators) n j (replicate initiators scheduler) lt)
+
+  idle_part : (i : ℕ) → i < initiators → get_or (block_owners n initiators) (idle n i) 0 ≡ 1
+  idle_part i lt = third_part (idle n i) (2 * n + i) 1 (omega arith)
+      (behind (end_owners (writer initiators) n) (replicate initiators scheduler) (2 * n) i (2 * n + i)
+      (length_ends (writer initiators) n) refl
+      ∙ get_or-replicate initiators i scheduler 0 lt)
+
+  whole : length (block_owners n initiators) ≡ 4 * n + initiators
+  whole =
+      let a : length (replicate n scheduler) ≡ n = length-replicate n scheduler in
+      let b : length (end_owners (writer initiators) n) ≡ 2 * n = length_ends (writer initiators) n in
+      let d : length (replicate initiators scheduler) ≡ initiators = length-replicate initiators scheduler in
+      let e : length (replicate n scheduler ++ (replicate n scheduler ++ ends_on n initiators)) ≡ length
+      (replicate n scheduler) + length (replicate n scheduler ++ ends_on n initiators) =
+      length-append (replicate n scheduler) (replicate n scheduler ++ ends_on n initiators) in
+      let f : length (replicate n scheduler ++ ends_on n initiators) ≡ length (replicate n scheduler) + length (ends_on n initiators) =
+      length-append (replicate n scheduler) (ends_on n initiators) in
+      let g : length (ends_on n initiators) ≡ length (end_owners (writer initiators) n) + length (replicate initiators scheduler) =
+      length-append (end_owners (writer initiators) n) (replicate initiators scheduler) in
+      ap (λ os. length os) (by_parts n initiators)
+      ∙ sum (length (replicate n scheduler)) (length (end_owners (writer initiators) n)) (length (replicate initiators scheduler))
+      (length (replicate n scheduler ++ (replicate n scheduler ++ ends_on n initiators)))
+      (length (replicate n scheduler ++ ends_on n initiators)) (length (ends_on n initiators)) a b d e f g where
+        sum : (a b d e f g : ℕ) → a ≡ n → b ≡ 2 * n → d ≡ initiators → e ≡ a + f → f ≡ a + g → g ≡ b + d → e ≡ 4 * n + initiators
+        sum a b d e f g p q r s t u = omega arith
+
+-- the exit at a position
+exit_at : (n from count j : ℕ) → j < count → slice_get (map (end_exit n) (range_with_len from count)) j ≡ Some (end_exit n (from + j))
+exit_at n from zero j lt = elim lt [ ]
+exit_at n from (suc count) zero lt = ap (λ k. Some (end_exit n k)) (omega arith)
+exit_at n from (suc count) (suc j) lt = exit_at n (from + 1) count j (omega arith) ∙ ap (λ k. Some (end_exit n k)) (omega arith)
+
+same_number : (n : ℕ) → (n == n) ≡ true
+same_number n = eq-eqb n n refl
+
+exit_there : (n j : ℕ) (xs : List SetupExit) → slice_get xs j ≡ Some (end_exit n j)
+    → (nat_lt 0 (j + 1) && starts_from (done n j) (slice_get xs (j + 1 - 1))) ≡ true
+exit_there n j xs e = ap (λ k. nat_lt 0 (j + 1) && starts_from (done n j) (slice_get xs k)) (less_one j)
+    ∙ ap (λ x. nat_lt 0 (j + 1) && starts_from (done n j) x) e
+    ∙ rw (same_number (done n j), lt-ltb 0 (j + 1) (omega arith)) refl where
+      less_one : (j : ℕ) → j + 1 - 1 ≡ j
+      less_one j = omega arith
+
+exit_targets : (c : Setup) (n j : ℕ) → slice_get c.exits j ≡ Some (end_exit n j)
+    → targets_of c (suc j) ≡ end_for_scheduler n j ∷ end_for_writer n j ∷ []
+exit_targets c n j e = ap (λ x. targets_at x) e
+
+exit_from_zero : (n count j : ℕ) → j < count → slice_get (map (end_exit n) (range_with_len 0 count)) j ≡ Some (end_exit n j)
+exit_from_zero n count j lt = exit_at n 0 count j lt ∙ ap (λ k. Some (end_exit n k)) (omega arith)
+
+next_number : (j : ℕ) → j + 1 ≡ suc j
+next_number j = omega arith
+
+-- an exit that is there is one of these
+source_at : (n m from count j : ℕ) → starts_from m (slice_get (map (end_exit n) (range_with_len from count)) j) ≡ true
+    → (j < count) × (m ≡ done n (from + j))
+source_at n m from zero j e = absurd (false≢true e)
+source_at n m from (suc count) zero e = (omega arith, let q : done n from ≡ m = eqb-true (done n from) m e in omega arith)
+source_at n m from (suc count) (suc j) e = let r : (j < count) × (m ≡ done n (from + 1 + j)) = source_at n m (from + 1) count j e in
+    (let lt : j < count = r.0 in omega arith, let q : m ≡ done n (from + 1 + j) = r.1 in omega arith)
+
+exit_source : (n m x : ℕ) → (nat_lt 0 x && starts_from m (slice_get (map (end_exit n) (range_with_len 0 n)) (x - 1))) ≡ true
+    → (j : ℕ) × (j < n) × (x ≡ j + 1) × (m ≡ done n j)
+exit_source n m x e =
+    let p : (nat_lt 0 x ≡ true) × (starts_from m (slice_get (map (end_exit n) (range_with_len 0 n)) (x - 1)) ≡ true) =
+    and_parts (nat_lt 0 x) (starts_from m (slice_get (map (end_exit n) (range_with_len 0 n)) (x - 1))) e in
+    let lt : 0 < x = ltb-true 0 x p.0 in
+    let r : (x - 1 < n) × (m ≡ done n (0 + (x - 1))) = source_at n m 0 n (x - 1) p.1 in
+    (x - 1, r.0, omega arith, let q : m ≡ done n (0 + (x - 1)) = r.1 in omega arith)
+
+by_one : (m : ℕ) → m / 1 ≡ m
+by_one m = omega arith
+
+pub facts : (deck : List JobData) (initiators : ℕ) → 1 ≤ initiators → Facts (spool_setup deck initiators) (length deck) initiators
+facts deck initiators some = record {
+  size = whole (length deck) initiators;
+  some = some;
+  entered_owner = first_part (length deck) initiators;
+  done_owner = second_part (length deck) initiators;
+  scheduler_owner = scheduler_part (length deck) initiators;
+  writer_owner = writer_part (length deck) initiators;
+  idle_owner = idle_part (length deck) initiators;
+  exit = λ j lt. exit_there (length deck) j (spool_setup deck initiators).exits (exit_from_zero (length deck) (length deck) j lt);
+  sources = λ x m e. exit_source (length deck) m x e;
+  targets = λ j lt. ap (λ x. targets_of (spool_setup deck initiators) x) (next_number j)
+      ∙ exit_targets (spool_setup deck initiators) (length deck) j (exit_from_zero (length deck) (length deck) j lt);
+  element = by_one;
+  each = refl;
+  latches = refl;
+  quota = refl;
+  posted = refl;
+  callers = refl;
+}

@@ -1,0 +1,734 @@
+-- Which blocks were posted, in which order: a job's own block is extended from before its job is released until it is posted,
+-- and nothing is posted twice. Uses places only before the event.
+use Rattle.std.proofs.Common.{◌≡◌, ℕ, zero, suc, ◌+◌, ◌<◌, ◌≤◌, Bool, List, [], ◌∷◌, length, Some, ◌⊎◌, inl, inr, refl, sym, ap, ◌∙◌}
+use Rattle.std.proofs.Common.{subst, arith}
+use Rattle.std.proofs.lemmas.Bool.{cases_eq}
+use Rattle.mv_ecb.specs.declared.operation.EcbOp.{EcbOp}
+use Rattle.mv_ecb.specs.declared.operation.EcbOp.TheVariants as ecb_op
+use Rattle.mv_ecb.specs.declared.operation.EcbReply.TheVariants as ecb_reply
+use Rattle.mv_ecb.specs.Table.{ecb_step}
+use Rattle.mv_ecb.specs.Word.{EcbState, Zero, Waiting, Extended, Complete}
+use Rattle.mv_element.specs.declared.operation.ElementOp.TheVariants as element_op
+use Rattle.mv_element.specs.declared.operation.ElementReply.TheVariants as element_reply
+use Rattle.mv_machine.specs.declared.entry.Entry.{Entry}
+use Rattle.mv_machine.specs.declared.entry.Object.{Object}
+use Rattle.mv_machine.specs.declared.entry.Object.TheVariants.{Ecb, Element}
+use Rattle.mv_machine.specs.declared.entry.Op.{Op}
+use Rattle.mv_machine.specs.declared.entry.Op.TheVariants as op_on
+use Rattle.mv_machine.specs.declared.entry.Reply.{Reply}
+use Rattle.mv_machine.specs.declared.entry.Reply.TheVariants as reply_of
+use Rattle.mv_machine.specs.Legal.{IsNext}
+use Rattle.mv_machine.specs.Setup.{Setup}
+use Rattle.mv_machine.specs.System.{System, moved, opening, with_at}
+use Rattle.mv_deck.specs.Deck.{JobData}
+use Rattle.mv_plan.specs.SpoolSetup.{entered, done, end_for_scheduler, end_for_writer, idle, initiator}
+use Rattle.mv_plan.specs.SpoolTasks.{code_of, not_to_run}
+use Rattle.mv_plan.proofs.points.Points.{Point, At, Finished, TooSoon, Astray, ReaderAt, Entering, reader_asks, reader_goes}
+use Rattle.mv_plan.proofs.points.Points.{entering_from, Arming, Settling, Stage, Dispatching, Dismissing, ForEntry, ForEnds, ForIdle}
+use Rattle.mv_plan.proofs.points.Points.{ToDismiss, SchedulerAt, Waits, Extends, Clears, Releases, awaited_blocks, scheduler_asks}
+use Rattle.mv_plan.proofs.points.Points.{scheduler_goes, stage_at, dismissing_from, WriterAt, Keeping, writer_asks, Running, InitiatorAt}
+use Rattle.mv_plan.proofs.points.Points.{Pausing, Resuming, EndingJob, EndingForScheduler, EndingForWriter, initiator_asks}
+use Rattle.mv_plan.proofs.points.Points.{initiator_goes}
+use Rattle.mv_plan.proofs.points.PostsAndWaits.{on_posted_keeps}
+use Rattle.mv_plan.proofs.walks.Walks.{Points, start_points}
+use Rattle.mv_plan.proofs.points.ReaderAndWriter.{IsReaderAt, IsWriterAt}
+use Rattle.mv_plan.proofs.points.SchedulerSound.{rest_below, rest_count, IsStage, IsHanded, IsSchedulerAt, stage_extended, awaited_extended}
+use Rattle.mv_plan.proofs.points.InitiatorSound.{IsInitiatorAt, named_is}
+use Rattle.mv_plan.proofs.places.Places.{Places, Coming, Run}
+use Rattle.mv_plan.proofs.ends.Blocks.{HasEnd, done_has, scheduler_has, writer_has, entered_none, idle_none, paused_code, resumed_code}
+use Rattle.mv_plan.proofs.walks.Stands.{Standing}
+use Rattle.mv_plan.proofs.ends.Complete.{IsComplete, NotComplete, block_moved, complete_moved, not_moved, is_moved, held_moved}
+use Rattle.mv_plan.proofs.points.Stages.{ByStage, Begins, stage_map, stage_goes}
+use Rattle.mv_plan.proofs.ends.Awaited.{IsIn, in_seam, awaited_plain, initiator_ecb}
+use Rattle.mv_plan.proofs.points.SchedulerNext.{AllNext, goes_next, next_grows}
+use Rattle.mv_plan.proofs.deck.Codes.{code_parts, never_zero}
+use Rattle.mv_plan.proofs.ends.WhoPosts.{offers, ends_job, ends_scheduler, ends_writer, post_by, initiator_no_release, run_below}
+use Rattle.mv_plan.proofs.ends.WhoPosts.{posts_run, posts_no_entered, NotEnding, plain_posts, ended_stage, scheduler_stage, writer_stage}
+use Rattle.mv_plan.proofs.walks.Moves.{KeepsUnder, by_moves, entry_of, block, element, block_reply, element_reply, turned_there}
+use Rattle.mv_plan.proofs.walks.Moves.{turned_elsewhere}
+use Rattle.mv_machine.proofs.Histories.{with_at-same, with_at-other}
+use Rattle.mv_plan.proofs.points.Views.{code_held, run_of, next_job, next_in}
+
+-- how many of the done blocks the scheduler has extended at a point
+abbrev pub extended_at : ℕ → SchedulerAt → ℕ
+extended_at n (Waits a w) = awaited_extended n a
+extended_at n (Extends j job jobs skipped) = j
+extended_at n (Clears i g code after) = stage_extended n after
+extended_at n (Releases i g code after) = stage_extended n after
+
+-- below m they are extended, or complete, and from m on they are zero
+abbrev pub IsSplit : ℕ → System → ℕ → Type 0
+IsSplit n s m = (j : ℕ) → j < n → (j < m → (block s (done n j) ≡ Extended (j + 1)) ⊎ IsComplete s (done n j))
+    × (m ≤ j → block s (done n j) ≡ Zero)
+
+abbrev pub DoneBlocks : ℕ → System → Point SchedulerAt → Type 0
+DoneBlocks n s (At x) = IsSplit n s (extended_at n x)
+DoneBlocks n s (Finished answer) = IsSplit n s n
+DoneBlocks n s p = Unit {0}
+
+-- the job that is entered next
+abbrev pub entered_from : ℕ → Point ReaderAt → ℕ
+entered_from n (At (Entering j more)) = j
+entered_from n p = n
+
+-- a job whose end is not posted; is posted, but not to the scheduler; not to the writer
+abbrev pub NotDone : ℕ → System → ℕ → Type 0
+NotDone n s j = NotComplete s (done n j)
+
+abbrev pub NotToScheduler : ℕ → System → ℕ → Type 0
+NotToScheduler n s j = NotComplete s (end_for_scheduler n j) × IsComplete s (done n j)
+
+abbrev pub NotToWriter : ℕ → System → ℕ → Type 0
+NotToWriter n s j = NotComplete s (end_for_writer n j) × IsComplete s (end_for_scheduler n j)
+
+pub record Posted (deck : List JobData) (initiators : ℕ) (s : System) (t : Points) : Type 0 where
+  -- a job's entered block is not complete before the reader posts it
+  pub entering : (j : ℕ) → j < length deck → entered_from (length deck) t.reader ≤ j → NotComplete s (entered j)
+  -- a job's done block is not complete while its job is to come, is handed out, or is run and not at its end
+  pub coming : (j : ℕ) → j < length deck → next_job (length deck) t.scheduler ≤ j → NotDone (length deck) s j
+  pub handed : (i j : ℕ) (skipped : Bool) → i < initiators → j < length deck
+      → code_held (element s (initiator i)) ≡ Some (code_of j skipped) → NotDone (length deck) s j
+  pub stages : (i : ℕ) → i < initiators
+      → ByStage (NotDone (length deck) s) (NotToScheduler (length deck) s) (NotToWriter (length deck) s) (t.initiators i)
+  -- the ends are posted in this order
+  pub order : (j : ℕ) → j < length deck → (IsComplete s (end_for_scheduler (length deck) j) → IsComplete s (done (length deck) j))
+      × (IsComplete s (end_for_writer (length deck) j) → IsComplete s (end_for_scheduler (length deck) j))
+  pub blocks : DoneBlocks (length deck) s t.scheduler
+
+abbrev pub HasPlaces : List JobData → ℕ → System → Points → List Entry → Type 0
+HasPlaces deck initiators s t past = Standing deck initiators t × Places deck initiators s t
+
+abbrev pub HasPosted : List JobData → ℕ → System → Points → List Entry → Type 0
+HasPosted deck initiators s t past = Posted deck initiators s t
+
+-- ---- what each caller's events leave
+
+pub scheduler_no_post : (n : ℕ) (x : SchedulerAt) (d : ℕ) → (scheduler_asks n x).1 ≡ op_on.Ecb (ecb_op.Post d) → ⊥
+scheduler_no_post n (Waits a (Arming e todo)) d q = cc q
+scheduler_no_post n (Waits a (Settling e todo found)) d q = cc q
+scheduler_no_post n (Extends k job jobs skipped) d q = cc q
+scheduler_no_post n (Clears i g code after) d q = cc q
+scheduler_no_post n (Releases i g code after) d q = cc q
+
+-- the scheduler clears idle blocks alone
+pub scheduler_clears : (n : ℕ) (x : SchedulerAt) (b : ℕ) → (scheduler_asks n x).0 ≡ Ecb b
+    → (scheduler_asks n x).1 ≡ op_on.Ecb ecb_op.Clear → (i : ℕ) × (b ≡ idle n i)
+scheduler_clears n (Waits a (Arming e todo)) b o q = absurd (cc q)
+scheduler_clears n (Waits a (Settling e todo found)) b o q = absurd (cc q)
+scheduler_clears n (Extends k job jobs skipped) b o q = absurd (cc q)
+scheduler_clears n (Clears i g code after) b o q = (i, sym (cc o))
+scheduler_clears n (Releases i g code after) b o q = absurd (cc q)
+
+pub writer_no_post : (x : WriterAt) (d : ℕ) → (writer_asks x).1 ≡ op_on.Ecb (ecb_op.Post d) → ⊥
+writer_no_post (Keeping k more kept (Arming e todo)) d q = cc q
+writer_no_post (Keeping k more kept (Settling e todo found)) d q = cc q
+
+pub writer_no_clear : (x : WriterAt) → (writer_asks x).1 ≡ op_on.Ecb ecb_op.Clear → ⊥
+writer_no_clear (Keeping k more kept (Arming e todo)) q = cc q
+writer_no_clear (Keeping k more kept (Settling e todo found)) q = cc q
+
+pub no_clear : {d : ℕ} → ecb_op.Clear ≡ ecb_op.Post d → ⊥
+no_clear e = cc e
+
+posted_step : (d : ℕ) (v : EcbState) → (code : ℕ) × ((ecb_step (ecb_op.Post d) v).0 ≡ Complete code)
+posted_step d Zero = (d, refl)
+posted_step d Waiting = (d, refl)
+posted_step d (Extended y) = (d, refl)
+posted_step d (Complete c) = (c, refl)
+
+pub posted_complete : (s : System) (k b d : ℕ) → IsComplete (moved s k (Ecb b) (op_on.Ecb (ecb_op.Post d))) b
+posted_complete s k b d = let c : (code : ℕ) × ((ecb_step (ecb_op.Post d) (block s b)).0 ≡ Complete code) = posted_step d (block s b) in
+    (c.0, turned_there s.ecb b (ecb_step (ecb_op.Post d) (block s b)).0 b refl ∙ c.1)
+
+posted_is : (s : System) (k : ℕ) (o : Object) (op : Op) (b d : ℕ) → o ≡ Ecb b → op ≡ op_on.Ecb (ecb_op.Post d)
+    → IsComplete (moved s k o op) b
+posted_is s k o op b d e f = subst (λ z. IsComplete (moved s k z op) b) (sym e)
+    (subst (λ z. IsComplete (moved s k (Ecb b) z) b) (sym f) (posted_complete s k b d))
+
+-- a job that is given was in the initiator's element
+begins_plain : (deck : List JobData) (Q R S : ℕ → Type 0) (c : Setup) (s : System) (i : ℕ) (x : InitiatorAt) (p : ℕ) (r : Reply)
+    → NotEnding x → IsNext c s (entry_of (initiator i) p (initiator_asks (length deck) i x) r)
+    → ((j : ℕ) (skipped : Bool) → j < length deck → code_held (element s (initiator i)) ≡ Some (code_of j skipped) → Q j)
+    → Begins Q R S deck x r
+begins_plain deck Q R S c s i (Pausing more before g) p (reply_of.Element (element_reply.Given code now)) plain n held = λ named e.
+    let is : (named.job < length deck) × (code ≡ code_of named.job named.skipped) = named_is (length deck) code named e in
+    held named.job named.skipped is.0
+    (paused_code g (element s (initiator i)) code now
+    (cc (sym (element_reply c s (initiator i) (initiator i) (element_op.Pause g) p
+    (reply_of.Element (element_reply.Given code now)) n))) ∙ ap (λ z. Some z) is.1)
+begins_plain deck Q R S c s i (Resuming more before g) p (reply_of.Element (element_reply.Given code now)) plain n held = λ named e.
+    let is : (named.job < length deck) × (code ≡ code_of named.job named.skipped) = named_is (length deck) code named e in
+    held named.job named.skipped is.0
+    (resumed_code g (element s (initiator i)) code now
+    (cc (sym (element_reply c s (initiator i) (initiator i) (element_op.Resume g) p
+    (reply_of.Element (element_reply.Given code now)) n))) ∙ ap (λ z. Some z) is.1)
+begins_plain deck Q R S c s i (EndingJob run code counts) p r plain n held = absurd plain
+begins_plain deck Q R S c s i (EndingForScheduler run code counts) p r plain n held = absurd plain
+begins_plain deck Q R S c s i x p r plain n held = tt
+
+-- the job that is handed out next is not above those whose a job's done block is extended
+pub next_extended : (n : ℕ) (y : SchedulerAt) → next_job n (At y) ≤ extended_at n y
+next_extended n (Waits (ForEntry j job jobs) w) = omega arith
+next_extended n (Waits (ForEnds j job jobs) w) = omega arith
+next_extended n (Waits (ForIdle j job jobs skipped) w) = omega arith
+next_extended n (Waits (ToDismiss i more) w) = omega arith
+next_extended n (Extends j job jobs skipped) = omega arith
+next_extended n (Clears i g code (Dispatching j jobs)) = omega arith
+next_extended n (Clears i g code (Dismissing m more)) = omega arith
+next_extended n (Releases i g code (Dispatching j jobs)) = omega arith
+next_extended n (Releases i g code (Dismissing m more)) = omega arith
+
+done_map : (n : ℕ) (s s' : System) (p : Point SchedulerAt) → ((m : ℕ) → next_job n p ≤ m → IsSplit n s m → IsSplit n s' m)
+    → DoneBlocks n s p → DoneBlocks n s' p
+done_map n s s' (At y) f h = f (extended_at n y) (next_extended n y) h
+done_map n s s' (Finished answer) f h = f n (omega arith) h
+done_map n s s' TooSoon f h = tt
+done_map n s s' Astray f h = tt
+
+module _ (deck : List JobData) (initiators : ℕ) where
+  -- ---- an initiator's event
+
+  module _ (c : Setup) (s : System) (t : Points) (past : List Entry) (i : ℕ) (x : InitiatorAt) (p : ℕ) (r : Reply) (lt : i < initiators)
+      (at : t.initiators i ≡ At x)
+      (next : IsNext c s (entry_of (initiator i) p (initiator_asks (length deck) i x) r)) (q : HasPlaces deck initiators s t past)
+      (h : Posted deck initiators s t) where
+    abbrev i_after : System
+    i_after = moved s (initiator i) (initiator_asks (length deck) i x).0 (initiator_asks (length deck) i x).1
+
+    stands : IsInitiatorAt deck (At x)
+    stands = subst (IsInitiatorAt deck) at (q.0.each i lt)
+
+    -- it posts the end of the job that it runs alone
+    own_end_posted : (j b code : ℕ) → j < length deck → HasEnd (length deck) j b → (initiator_asks (length deck) i x).0 ≡ Ecb b
+        → (initiator_asks (length deck) i x).1 ≡ op_on.Ecb (ecb_op.Post code) → q.1.place j ≡ Run i
+    own_end_posted j b code below has o op =
+        let w : (run : Running) × (run_of (At x) ≡ Some run) × (run.job ≡ j) =
+        posts_run deck i x j b stands below has (post_by (length deck) i x b (ecb_op.Post code) o op) in
+        ap q.1.place (sym w.2) ∙ q.1.running i w.0 lt (ap (λ z. run_of z) at ∙ w.1)
+
+    others_end : (j b : ℕ) → j < length deck → HasEnd (length deck) j b → (q.1.place j ≡ Run i → ⊥) → NotComplete s b
+        → NotComplete i_after b
+    others_end j b below has other free =
+        not_moved s (initiator i) (initiator_asks (length deck) i x).0 (initiator_asks (length deck) i x).1 b free
+        (λ code o op. other (own_end_posted j b code below has o op))
+
+    still : (b : ℕ) → IsComplete s b → IsComplete i_after b
+    still b w = is_moved s (initiator i) (initiator_asks (length deck) i x).0 (initiator_asks (length deck) i x).1 b w
+        (λ o op. no_clear (initiator_ecb deck initiators i x ecb_op.Clear op).1)
+
+    -- the others' jobs
+    others_stage : (m : ℕ) → m < initiators → (m ≡ i → ⊥)
+        → ByStage (NotDone (length deck) i_after) (NotToScheduler (length deck) i_after) (NotToWriter (length deck) i_after)
+        (t.initiators m)
+    others_stage m below other = stage_map (NotDone (length deck) s) (NotToScheduler (length deck) s) (NotToWriter (length deck) s)
+        (NotDone (length deck) i_after) (NotToScheduler (length deck) i_after) (NotToWriter (length deck) i_after) (t.initiators m)
+        (λ run e. let job : run.job < length deck = run_below deck (t.initiators m) run (q.0.each m below) e in
+        let apart : q.1.place run.job ≡ Run i → ⊥ = λ z. other (let y : Run m ≡ Run i = sym (q.1.running m run below e) ∙ z in cc y) in (
+          λ f. others_end run.job _ job (done_has refl) apart f,
+          λ f. (others_end run.job _ job (scheduler_has refl) apart f.0, still _ f.1),
+          λ f. (others_end run.job _ job (writer_has refl) apart f.0, still _ f.1),
+        ))
+        (h.stages m below)
+
+    -- ---- its own
+
+    plain_end : (j b : ℕ) → NotEnding x → j < length deck → HasEnd (length deck) j b → NotComplete s b → NotComplete i_after b
+    plain_end j b plain below has free =
+        not_moved s (initiator i) (initiator_asks (length deck) i x).0 (initiator_asks (length deck) i x).1 b free
+        (λ code o op. plain_posts (length deck) i x j b plain below has (post_by (length deck) i x b (ecb_op.Post code) o op))
+
+    own_plain : NotEnding x → ByStage (NotDone (length deck) i_after) (NotToScheduler (length deck) i_after)
+        (NotToWriter (length deck) i_after) (initiator_goes deck x r)
+    own_plain plain = stage_goes (NotDone (length deck) i_after) (NotToScheduler (length deck) i_after)
+        (NotToWriter (length deck) i_after) deck x r
+        (stage_map (NotDone (length deck) s) (NotToScheduler (length deck) s) (NotToWriter (length deck) s)
+        (NotDone (length deck) i_after) (NotToScheduler (length deck) i_after) (NotToWriter (length deck) i_after) (At x)
+        (λ run e. let job : run.job < length deck = run_below deck (At x) run stands e in (
+          λ f. plain_end run.job _ plain job (done_has refl) f,
+          λ f. (plain_end run.job _ plain job (scheduler_has refl) f.0, still _ f.1),
+          λ f. (plain_end run.job _ plain job (writer_has refl) f.0, still _ f.1),
+        ))
+        (subst (ByStage (NotDone (length deck) s) (NotToScheduler (length deck) s) (NotToWriter (length deck) s)) at (h.stages i lt)))
+        (begins_plain deck (NotDone (length deck) i_after) (NotToScheduler (length deck) i_after)
+        (NotToWriter (length deck) i_after) c s i x p r plain next
+        (λ j skipped below held. plain_end j _ plain below (done_has refl) (h.handed i j skipped lt below held)))
+
+    own_stage : (y : InitiatorAt) → x ≡ y
+        → ByStage (NotDone (length deck) i_after) (NotToScheduler (length deck) i_after) (NotToWriter (length deck) i_after)
+        (initiator_goes deck y r)
+    own_stage (EndingJob run code counts) is =
+        let job : run.job < length deck = run_below deck (At x) run stands (ap (λ z. run_of (At z)) is) in
+        let o : (initiator_asks (length deck) i x).0 ≡ Ecb (done (length deck) run.job) =
+        ap (λ z. (initiator_asks (length deck) i z).0) is in
+        let op : (initiator_asks (length deck) i x).1 ≡ op_on.Ecb (ecb_op.Post code) =
+        ap (λ z. (initiator_asks (length deck) i z).1) is in
+        let free : NotDone (length deck) s run.job =
+        subst (ByStage (NotDone (length deck) s) (NotToScheduler (length deck) s) (NotToWriter (length deck) s))
+        (at ∙ ap (λ z. At z) is) (h.stages i lt) in
+        ended_stage (NotDone (length deck) i_after) (NotToScheduler (length deck) i_after)
+        (NotToWriter (length deck) i_after) deck run code counts r (
+          not_moved s (initiator i) (initiator_asks (length deck) i x).0 (initiator_asks (length deck) i x).1
+              (end_for_scheduler (length deck) run.job)
+              (λ d e. let w : IsComplete s (done (length deck) run.job) = (h.order run.job job).0 (d, e) in free w.0 w.1)
+              (λ d oe ope. let z : end_for_scheduler (length deck) run.job ≡ done (length deck) run.job = cc (sym oe ∙ o) in absurd
+              (omega arith)),
+          posted_is s (initiator i) (initiator_asks (length deck) i x).0 (initiator_asks (length deck) i x).1
+              (done (length deck) run.job) code o op,
+        )
+    own_stage (EndingForScheduler run code counts) is =
+        let job : run.job < length deck = run_below deck (At x) run stands (ap (λ z. run_of (At z)) is) in
+        let o : (initiator_asks (length deck) i x).0 ≡ Ecb (end_for_scheduler (length deck) run.job) =
+        ap (λ z. (initiator_asks (length deck) i z).0) is in
+        let op : (initiator_asks (length deck) i x).1 ≡ op_on.Ecb (ecb_op.Post code) =
+        ap (λ z. (initiator_asks (length deck) i z).1) is in
+        let free : NotToScheduler (length deck) s run.job =
+        subst (ByStage (NotDone (length deck) s) (NotToScheduler (length deck) s) (NotToWriter (length deck) s))
+        (at ∙ ap (λ z. At z) is) (h.stages i lt) in
+        scheduler_stage (NotDone (length deck) i_after) (NotToScheduler (length deck) i_after)
+        (NotToWriter (length deck) i_after) deck run code counts r (
+          not_moved s (initiator i) (initiator_asks (length deck) i x).0 (initiator_asks (length deck) i x).1
+              (end_for_writer (length deck) run.job)
+              (λ d e. let w : IsComplete s (end_for_scheduler (length deck) run.job) = (h.order run.job job).1 (d, e) in free.0 w.0 w.1)
+              (λ d oe ope. let z : end_for_writer (length deck) run.job ≡ end_for_scheduler (length deck) run.job = cc
+              (sym oe ∙ o) in absurd (omega arith)),
+          posted_is s (initiator i) (initiator_asks (length deck) i x).0 (initiator_asks (length deck) i x).1
+              (end_for_scheduler (length deck) run.job) code o op,
+        )
+    own_stage (EndingForWriter run code counts) is =
+        writer_stage (NotDone (length deck) i_after) (NotToScheduler (length deck) i_after)
+        (NotToWriter (length deck) i_after) deck run code counts r
+    own_stage y is = subst (λ z. ByStage (NotDone (length deck) i_after) (NotToScheduler (length deck) i_after)
+        (NotToWriter (length deck) i_after) (initiator_goes deck z r)) is (own_plain (subst NotEnding (sym is) tt))
+
+    -- the order of its posts
+    for_scheduler : (j code : ℕ) → j < length deck → (initiator_asks (length deck) i x).0 ≡ Ecb (end_for_scheduler (length deck) j)
+        → (initiator_asks (length deck) i x).1 ≡ op_on.Ecb (ecb_op.Post code) → IsComplete s (done (length deck) j)
+    for_scheduler j code below o op = elim (post_by (length deck) i x (end_for_scheduler (length deck) j) (ecb_op.Post code) o op) [
+      | offers more before g is e ↦ absurd (omega arith)
+      | ends_job run d counts is e ↦ let job : run.job < length deck = run_below deck (At x) run stands (ap (λ z. run_of (At z)) is) in
+          absurd (omega arith)
+      | ends_scheduler run d counts is e ↦
+          let free : NotToScheduler (length deck) s run.job =
+          subst (ByStage (NotDone (length deck) s) (NotToScheduler (length deck) s) (NotToWriter (length deck) s))
+          (at ∙ ap (λ z. At z) is) (h.stages i lt) in
+          let same : run.job ≡ j = omega arith in subst (λ z. IsComplete s (done (length deck) z)) same free.1
+      | ends_writer run d counts is e ↦ absurd (omega arith)
+    ]
+
+    for_writer : (j code : ℕ) → j < length deck → (initiator_asks (length deck) i x).0 ≡ Ecb (end_for_writer (length deck) j)
+        → (initiator_asks (length deck) i x).1 ≡ op_on.Ecb (ecb_op.Post code) → IsComplete s (end_for_scheduler (length deck) j)
+    for_writer j code below o op = elim (post_by (length deck) i x (end_for_writer (length deck) j) (ecb_op.Post code) o op) [
+      | offers more before g is e ↦ absurd (omega arith)
+      | ends_job run d counts is e ↦ let job : run.job < length deck = run_below deck (At x) run stands (ap (λ z. run_of (At z)) is) in
+          absurd (omega arith)
+      | ends_scheduler run d counts is e ↦ absurd (omega arith)
+      | ends_writer run d counts is e ↦
+          let free : NotToWriter (length deck) s run.job =
+          subst (ByStage (NotDone (length deck) s) (NotToScheduler (length deck) s) (NotToWriter (length deck) s))
+          (at ∙ ap (λ z. At z) is) (h.stages i lt) in
+          let same : run.job ≡ j = omega arith in subst (λ z. IsComplete s (end_for_scheduler (length deck) z)) same free.1
+    ]
+
+    order_after : (j : ℕ) → j < length deck
+        → (IsComplete i_after (end_for_scheduler (length deck) j) → IsComplete i_after (done (length deck) j))
+        × (IsComplete i_after (end_for_writer (length deck) j) → IsComplete i_after (end_for_scheduler (length deck) j))
+    order_after j below = (
+      λ w. elim (complete_moved s (initiator i) (initiator_asks (length deck) i x).0 (initiator_asks (length deck) i x).1
+          (end_for_scheduler (length deck) j) w.0 w.1) [
+            | inl before ↦ still _ ((h.order j below).0 (w.0, before))
+            | inr posted ↦ still _ (for_scheduler j w.0 below posted.0 posted.1)
+          ],
+      λ w. elim (complete_moved s (initiator i) (initiator_asks (length deck) i x).0 (initiator_asks (length deck) i x).1
+          (end_for_writer (length deck) j) w.0 w.1) [
+            | inl before ↦ still _ ((h.order j below).1 (w.0, before))
+            | inr posted ↦ still _ (for_writer j w.0 below posted.0 posted.1)
+          ],
+    )
+
+    -- the done blocks
+    abbrev Moved : ℕ → Type 0
+    Moved j = (block i_after (done (length deck) j) ≡ block s (done (length deck) j))
+        ⊎ ((e : EcbOp) × ((initiator_asks (length deck) i x).0 ≡ Ecb (done (length deck) j))
+        × ((initiator_asks (length deck) i x).1 ≡ op_on.Ecb e)
+        × (block i_after (done (length deck) j) ≡ (ecb_step e (block s (done (length deck) j))).0))
+
+    split_after : (m : ℕ) → next_job (length deck) t.scheduler ≤ m → IsSplit (length deck) s m → IsSplit (length deck) i_after m
+    split_after m from sp j below = (
+      λ less. extended_after (block_moved s (initiator i) (initiator_asks (length deck) i x).0 (initiator_asks (length deck) i x).1
+          (done (length deck) j)) ((sp j below).0 less),
+      λ le. zero_after (block_moved s (initiator i) (initiator_asks (length deck) i x).0 (initiator_asks (length deck) i x).1
+          (done (length deck) j)) le,
+    ) where
+      extended_after : Moved j → (block s (done (length deck) j) ≡ Extended (j + 1)) ⊎ IsComplete s (done (length deck) j)
+          → (block i_after (done (length deck) j) ≡ Extended (j + 1)) ⊎ IsComplete i_after (done (length deck) j)
+      extended_after (inl same) (inl e) = inl (same ∙ e)
+      extended_after (inl same) (inr w) = inr (w.0, same ∙ w.1)
+      extended_after (inr w) was = let post : (d : ℕ) × (w.0 ≡ ecb_op.Post d) = initiator_ecb deck initiators i x w.0 w.2 in
+          inr (posted_is s (initiator i) (initiator_asks (length deck) i x).0 (initiator_asks (length deck) i x).1
+          (done (length deck) j) post.0 w.1 (w.2 ∙ ap (λ z. op_on.Ecb z) post.1))
+
+      zero_after : Moved j → m ≤ j → block i_after (done (length deck) j) ≡ Zero
+      zero_after (inl same) le = same ∙ (sp j below).1 le
+      zero_after (inr w) le = let post : (d : ℕ) × (w.0 ≡ ecb_op.Post d) = initiator_ecb deck initiators i x w.0 w.2 in
+          let run : q.1.place j ≡ Run i =
+          own_end_posted j (done (length deck) j) post.0 below (done_has refl) w.1 (w.2 ∙ ap (λ z. op_on.Ecb z) post.1) in
+          let come : q.1.place j ≡ Coming = q.1.coming j (omega arith) in absurd (cc (run, come))
+
+    pub initiator_posted : Posted deck initiators i_after (record t { initiators = with_at t.initiators i (initiator_goes deck x r) })
+    initiator_posted = record {
+      entering = λ j below from. not_moved s (initiator i) (initiator_asks (length deck) i x).0 (initiator_asks (length deck) i x).1
+          (entered j) (h.entering j below from)
+          (λ code o op. posts_no_entered (length deck) i x j below (post_by (length deck) i x (entered j) (ecb_op.Post code) o op));
+      coming = λ j below from. others_end j _ below (done_has refl) (λ z. cc (q.1.coming j from, z)) (h.coming j below from);
+      handed = λ m j skipped lm below e. elim
+          (held_moved s (initiator i) (initiator_asks (length deck) i x).0 (initiator_asks (length deck) i x).1 (initiator m)
+          (code_of j skipped) e) [
+            | inl before ↦ others_end j _ below (done_has refl) (λ z. cc (q.1.handed m j skipped lm below before, z))
+                (h.handed m j skipped lm below before)
+            | inr w ↦ absurd (initiator_no_release (length deck) i x w.0 (code_of j skipped) w.2)
+          ];
+      stages = λ m lm. elim (cases_eq m i) [
+        | inl same ↦ subst (λ z. ByStage (NotDone (length deck) i_after) (NotToScheduler (length deck) i_after)
+            (NotToWriter (length deck) i_after) z) (sym (with_at-same t.initiators i (initiator_goes deck x r) m same))
+            (own_stage x refl)
+        | inr other ↦ subst (λ z. ByStage (NotDone (length deck) i_after) (NotToScheduler (length deck) i_after)
+            (NotToWriter (length deck) i_after) z) (sym (with_at-other t.initiators i (initiator_goes deck x r) m other))
+            (others_stage m lm other)
+      ];
+      order = order_after;
+      blocks = done_map (length deck) s i_after t.scheduler split_after h.blocks;
+    }
+
+  -- ---- an event that posts and clears no block with a job's end, and touches no done block
+
+  module _ (s : System) (t : Points) (k : ℕ) (o : Object) (op : Op) (h : Posted deck initiators s t)
+      (no_post : (j b code : ℕ) → j < length deck → HasEnd (length deck) j b → o ≡ Ecb b → op ≡ op_on.Ecb (ecb_op.Post code) → ⊥)
+      (no_clear : (j b : ℕ) → j < length deck → HasEnd (length deck) j b → o ≡ Ecb b → op ≡ op_on.Ecb ecb_op.Clear → ⊥) where
+    quiet_free : (j b : ℕ) → j < length deck → HasEnd (length deck) j b → NotComplete s b → NotComplete (moved s k o op) b
+    quiet_free j b below has free = not_moved s k o op b free (λ code e f. no_post j b code below has e f)
+
+    quiet_still : (j b : ℕ) → j < length deck → HasEnd (length deck) j b → IsComplete s b → IsComplete (moved s k o op) b
+    quiet_still j b below has w = is_moved s k o op b w (no_clear j b below has)
+
+    quiet_stage : (p : Point InitiatorAt) → IsInitiatorAt deck p
+        → ByStage (NotDone (length deck) s) (NotToScheduler (length deck) s) (NotToWriter (length deck) s) p
+        → ByStage (NotDone (length deck) (moved s k o op)) (NotToScheduler (length deck) (moved s k o op))
+        (NotToWriter (length deck) (moved s k o op)) p
+    quiet_stage p at = stage_map (NotDone (length deck) s) (NotToScheduler (length deck) s) (NotToWriter (length deck) s)
+        (NotDone (length deck) (moved s k o op)) (NotToScheduler (length deck) (moved s k o op))
+        (NotToWriter (length deck) (moved s k o op)) p
+        (λ run e. let job : run.job < length deck = run_below deck p run at e in (
+          λ f. quiet_free run.job _ job (done_has refl) f,
+          λ f. (quiet_free run.job _ job (scheduler_has refl) f.0, quiet_still run.job _ job (done_has refl) f.1),
+          λ f. (quiet_free run.job _ job (writer_has refl) f.0, quiet_still run.job _ job (scheduler_has refl) f.1),
+        ))
+
+    quiet_was : (j b : ℕ) → j < length deck → HasEnd (length deck) j b → IsComplete (moved s k o op) b → IsComplete s b
+    quiet_was j b below has w = elim (complete_moved s k o op b w.0 w.1) [
+      | inl before ↦ (w.0, before)
+      | inr posted ↦ absurd (no_post j b w.0 below has posted.0 posted.1)
+    ]
+
+    quiet_order : (j : ℕ) → j < length deck
+        → (IsComplete (moved s k o op) (end_for_scheduler (length deck) j) → IsComplete (moved s k o op) (done (length deck) j))
+        × (IsComplete (moved s k o op) (end_for_writer (length deck) j)
+        → IsComplete (moved s k o op) (end_for_scheduler (length deck) j))
+    quiet_order j below = (
+      λ w. quiet_still j _ below (done_has refl) ((h.order j below).0 (quiet_was j _ below (scheduler_has refl) w)),
+      λ w. quiet_still j _ below (scheduler_has refl) ((h.order j below).1 (quiet_was j _ below (writer_has refl) w)),
+    )
+
+    quiet_split : ((j : ℕ) → j < length deck → o ≡ Ecb (done (length deck) j) → ⊥) → (m : ℕ) → IsSplit (length deck) s m
+        → IsSplit (length deck) (moved s k o op) m
+    quiet_split untouched m sp j below =
+        let same : block (moved s k o op) (done (length deck) j) ≡ block s (done (length deck) j) =
+        same_block (block_moved s k o op (done (length deck) j)) in (
+          λ less. elim ((sp j below).0 less) [ inl e ↦ inl (same ∙ e) | inr w ↦ inr (w.0, same ∙ w.1) ],
+          λ le. same
+              ∙ (sp j below).1 le,
+        ) where
+          same_block : (block (moved s k o op) (done (length deck) j) ≡ block s (done (length deck) j))
+              ⊎ ((e : EcbOp) × (o ≡ Ecb (done (length deck) j)) × (op ≡ op_on.Ecb e)
+              × (block (moved s k o op) (done (length deck) j) ≡ (ecb_step e (block s (done (length deck) j))).0))
+              → block (moved s k o op) (done (length deck) j) ≡ block s (done (length deck) j)
+          same_block (inl e) = e
+          same_block (inr w) = absurd (untouched j below w.1)
+
+  -- ---- the reader
+
+  pub reader_is : (x : ReaderAt) (b : ℕ) → (reader_asks x).0 ≡ Ecb b → IsReaderAt (length deck) (At x)
+      → (b < length deck) × (entered_from (length deck) (At x) ≡ b)
+  reader_is (Entering k more) b o at = let e : entered k ≡ b = cc o in (omega arith, omega arith)
+
+  reader_untouched : (x : ReaderAt) (j : ℕ) → IsReaderAt (length deck) (At x) → (reader_asks x).0 ≡ Ecb (done (length deck) j) → ⊥
+  reader_untouched x j at o = let w : (done (length deck) j < length deck)
+      × (entered_from (length deck) (At x) ≡ done (length deck) j) = reader_is x (done (length deck) j) o at in
+      let less : done (length deck) j < length deck = w.0 in omega arith
+
+  pub reader_ends : (x : ReaderAt) (j b : ℕ) → IsReaderAt (length deck) (At x) → HasEnd (length deck) j b → (reader_asks x).0 ≡ Ecb b
+      → ⊥
+  reader_ends x j b at has o = let w : (b < length deck) × (entered_from (length deck) (At x) ≡ b) = reader_is x b o at in
+      entered_none (length deck) j b w.0 has
+
+  -- the next job is entered, or none is left
+  reader_counts : (x : ReaderAt) (r : Reply) → IsReaderAt (length deck) (At x)
+      → entered_from (length deck) (At x) + 1 ≤ entered_from (length deck) (reader_goes x r)
+  reader_counts (Entering k more) r at =
+      on_posted_keeps (λ z. k + 1 ≤ entered_from (length deck) z) (entering_from (k + 1) more) r (next_entered more (omega arith))
+      (omega arith) where
+        next_entered : (m : ℕ) → k + 1 + m ≡ length deck → k + 1 ≤ entered_from (length deck) (entering_from (k + 1) m)
+        next_entered zero e = omega arith
+        next_entered (suc m) e = omega arith
+
+  reader_posted : (c : Setup) (s : System) (t : Points) (past : List Entry) (x : ReaderAt) (p : ℕ) (r : Reply) → t.reader ≡ At x
+      → HasPlaces deck initiators s t past → Posted deck initiators s t
+      → Posted deck initiators (moved s 0 (reader_asks x).0 (reader_asks x).1) (record t { reader = reader_goes x r })
+  reader_posted c s t past x p r at q h = let stands : IsReaderAt (length deck) (At x) =
+      subst (IsReaderAt (length deck)) at q.0.reader in record {
+        entering = λ j below from. let step : entered_from (length deck) (At x) + 1 ≤ entered_from (length deck) (reader_goes x r) =
+            reader_counts x r stands in
+            not_moved s 0 (reader_asks x).0 (reader_asks x).1 (entered j)
+            (h.entering j below (subst (λ z. entered_from (length deck) z ≤ j) (sym at) (omega arith)))
+            (λ code o op. let w : (entered j < length deck) × (entered_from (length deck) (At x) ≡ entered j) = reader_is x
+            (entered j) o stands in let same : entered_from (length deck) (At x) ≡ entered j = w.1 in omega arith);
+        coming = λ j below from. quiet_free s t 0 (reader_asks x).0 (reader_asks x).1 h
+            (λ j b code below has o op. reader_ends x j b stands has o) (λ j b below has o op. reader_ends x j b stands has o) j _ below
+            (done_has refl) (h.coming j below from);
+        handed = λ m j skipped lm below e. elim (held_moved s 0 (reader_asks x).0 (reader_asks x).1 (initiator m) (code_of j skipped) e) [
+          | inl before ↦ quiet_free s t 0 (reader_asks x).0 (reader_asks x).1 h (λ j b code below has o op. reader_ends x j b stands has o)
+              (λ j b below has o op. reader_ends x j b stands has o) j _ below (done_has refl) (h.handed m j skipped lm below before)
+          | inr w ↦ absurd (reader_element x w.1)
+        ];
+        stages = λ m lm. quiet_stage s t 0 (reader_asks x).0 (reader_asks x).1 h (λ j b code below has o op. reader_ends x j b stands has o)
+            (λ j b below has o op. reader_ends x j b stands has o) (t.initiators m) (q.0.each m lm) (h.stages m lm);
+        order = quiet_order s t 0 (reader_asks x).0 (reader_asks x).1 h (λ j b code below has o op. reader_ends x j b stands has o)
+            (λ j b below has o op. reader_ends x j b stands has o);
+        blocks = done_map (length deck) s (moved s 0 (reader_asks x).0 (reader_asks x).1) t.scheduler
+            (λ m le sp. quiet_split s t 0 (reader_asks x).0 (reader_asks x).1 h (λ j b code below has o op. reader_ends x j b stands has o)
+            (λ j b below has o op. reader_ends x j b stands has o) (λ j below o. reader_untouched x j stands o) m sp) h.blocks;
+      } where
+        reader_element : (x : ReaderAt) {m : ℕ} → (reader_asks x).0 ≡ Element m → ⊥
+        reader_element (Entering k more) e = cc e
+
+  -- ---- the writer
+
+  pub writer_is : (x : WriterAt) (b : ℕ) → (writer_asks x).0 ≡ Ecb b → IsWriterAt (length deck) (At x)
+      → (j : ℕ) × (b ≡ end_for_writer (length deck) j)
+  writer_is (Keeping j more kept (Arming e todo)) b o at = (j, sym (cc o) ∙ at.1)
+  writer_is (Keeping j more kept (Settling e todo found)) b o at = (j, sym (cc o) ∙ at.1)
+
+  writer_element : (x : WriterAt) (m : ℕ) → (writer_asks x).0 ≡ Element m → ⊥
+  writer_element (Keeping j more kept (Arming e todo)) m o = cc o
+  writer_element (Keeping j more kept (Settling e todo found)) m o = cc o
+
+  writer_posted : (s : System) (t : Points) (past : List Entry) (x : WriterAt) (k : ℕ) (v : Point WriterAt) → t.writer ≡ At x
+      → HasPlaces deck initiators s t past → Posted deck initiators s t
+      → Posted deck initiators (moved s k (writer_asks x).0 (writer_asks x).1) (record t { writer = v })
+  writer_posted s t past x k v at q h = let stands : IsWriterAt (length deck) (At x) = subst (IsWriterAt (length deck)) at q.0.writer in
+      record {
+        entering = λ j below from. not_moved s k (writer_asks x).0 (writer_asks x).1 (entered j) (h.entering j below from)
+            (λ code o op. writer_no_post x code op);
+        coming = λ j below from. quiet_free s t k (writer_asks x).0 (writer_asks x).1 h
+            (λ j b code below has o op. writer_no_post x code op) (λ j b below has o op. writer_no_clear x op) j _ below (done_has refl)
+            (h.coming j below from);
+        handed = λ m j skipped lm below e. elim (held_moved s k (writer_asks x).0 (writer_asks x).1 (initiator m) (code_of j skipped) e) [
+          | inl before ↦ quiet_free s t k (writer_asks x).0 (writer_asks x).1 h (λ j b code below has o op. writer_no_post x code op)
+              (λ j b below has o op. writer_no_clear x op) j _ below (done_has refl) (h.handed m j skipped lm below before)
+          | inr w ↦ absurd (writer_element x (initiator m) w.1)
+        ];
+        stages = λ m lm. quiet_stage s t k (writer_asks x).0 (writer_asks x).1 h (λ j b code below has o op. writer_no_post x code op)
+            (λ j b below has o op. writer_no_clear x op) (t.initiators m) (q.0.each m lm) (h.stages m lm);
+        order = quiet_order s t k (writer_asks x).0 (writer_asks x).1 h (λ j b code below has o op. writer_no_post x code op)
+            (λ j b below has o op. writer_no_clear x op);
+        blocks = done_map (length deck) s (moved s k (writer_asks x).0 (writer_asks x).1) t.scheduler
+            (λ m le sp. quiet_split s t k (writer_asks x).0 (writer_asks x).1 h (λ j b code below has o op. writer_no_post x code op)
+            (λ j b below has o op. writer_no_clear x op)
+            (λ j below o. let w : (i : ℕ) × (done (length deck) j ≡ end_for_writer (length deck) i) = writer_is x
+            (done (length deck) j) o stands in let e : done (length deck) j ≡ end_for_writer (length deck) w.0 = w.1 in
+            omega arith) m sp) h.blocks;
+      }
+
+  -- ---- the scheduler
+
+  -- it touches a done block only to extend it
+  scheduler_untouched : (x : SchedulerAt) (j : ℕ) → IsSchedulerAt deck initiators (At x) → j < length deck
+      → (scheduler_asks (length deck) x).0 ≡ Ecb (done (length deck) j)
+      → (job : JobData) × (jobs : List JobData) × (skipped : Bool) × (x ≡ Extends j job jobs skipped)
+  scheduler_untouched (Waits a (Arming e todo)) j s below o =
+      absurd (awaited_plain deck initiators a (done (length deck) j) j s.0 below
+      (subst (λ z. IsIn z (awaited_blocks (length deck) initiators a)) (cc o) (subst (IsIn e) s.1.1 (in_seam e s.1.0 todo))) refl)
+  scheduler_untouched (Waits a (Settling e todo found)) j s below o =
+      absurd (awaited_plain deck initiators a (done (length deck) j) j s.0 below
+      (subst (λ z. IsIn z (awaited_blocks (length deck) initiators a)) (cc o) (subst (IsIn e) s.1.1 (in_seam e s.1.0 todo))) refl)
+  scheduler_untouched (Extends k job jobs skipped) j s below o = let e : done (length deck) k ≡ done (length deck) j = cc o in
+      let same : k ≡ j = omega arith in (job, jobs, skipped, ap (λ z. Extends z job jobs skipped) same)
+  scheduler_untouched (Clears i g code after) j s below o = let e : idle (length deck) i ≡ done (length deck) j = cc o in
+      absurd (omega arith)
+  scheduler_untouched (Releases i g code after) j s below o = absurd (cc o)
+
+  -- the job that is released is the next
+  stage_released : (i code j : ℕ) (skipped : Bool) (after : Stage) → length deck ≤ not_to_run → IsStage deck initiators after
+      → IsHanded i code after → j < length deck → code ≡ code_of j skipped → next_in (length deck) after ≤ j
+  stage_released i code j skipped (Dispatching m jobs) few s w below e =
+      let rest : m + length jobs ≡ length deck = rest_count deck m jobs s in let up : m ≡ w.0 + 1 = w.2 in
+      let same : (w.0 ≡ j) × (w.1 ≡ skipped) = code_parts (length deck) w.0 j w.1 skipped few (omega arith) below (sym w.3 ∙ e) in
+      let k : w.0 ≡ j = same.0 in omega arith
+  stage_released i code j skipped (Dismissing m more) few s w below e = absurd (never_zero j skipped (sym e ∙ w.1))
+
+  released_next : (x : SchedulerAt) (g j : ℕ) (skipped : Bool) → length deck ≤ not_to_run → IsSchedulerAt deck initiators (At x)
+      → j < length deck → (scheduler_asks (length deck) x).1 ≡ op_on.Element (element_op.Release g (code_of j skipped))
+      → next_job (length deck) (At x) ≤ j
+  released_next (Waits a (Arming e todo)) g j skipped few s below op = absurd (cc op)
+  released_next (Waits a (Settling e todo found)) g j skipped few s below op = absurd (cc op)
+  released_next (Extends k job jobs b) g j skipped few s below op = absurd (cc op)
+  released_next (Clears i h code after) g j skipped few s below op = absurd (cc op)
+  released_next (Releases i h code after) g j skipped few s below op = stage_released i code j skipped after few s.1 s.2 below (cc op)
+
+  dismissing_done : (v : System) (i more : ℕ) → IsSplit (length deck) v (length deck)
+      → DoneBlocks (length deck) v (dismissing_from (length deck) i more)
+  dismissing_done v i zero sp = sp
+  dismissing_done v i (suc more) sp = sp
+
+  stage_done : (v : System) (after : Stage) → IsStage deck initiators after
+      → IsSplit (length deck) v (stage_extended (length deck) after)
+      → DoneBlocks (length deck) v (stage_at (length deck) initiators after)
+  stage_done v (Dispatching j []) s sp =
+      dismissing_done v 0 initiators (subst (λ m. IsSplit (length deck) v m)
+      (let e : j + 0 ≡ length deck = rest_count deck j [] s in omega arith) sp)
+  stage_done v (Dispatching j (job ∷ jobs)) s sp = sp
+  stage_done v (Dismissing i more) s sp = dismissing_done v i more sp
+
+  -- where no done block was touched, the next point has extended as many
+  nexts_done : (v : System) (x : SchedulerAt) → IsSchedulerAt deck initiators (At x)
+      → ((j : ℕ) (job : JobData) (jobs : List JobData) (skipped : Bool) → x ≡ Extends j job jobs skipped → ⊥)
+      → IsSplit (length deck) v (extended_at (length deck) x)
+      → AllNext (length deck) initiators (λ p. DoneBlocks (length deck) v p) x
+  nexts_done v (Waits (ForEntry j job jobs) w) s ne sp = (λ z. sp, λ z. sp, λ b. sp)
+  nexts_done v (Waits (ForEnds j job jobs) w) s ne sp = (λ z. sp, λ b. sp)
+  nexts_done v (Waits (ForIdle j job jobs skipped) w) s ne sp = (λ z. sp, λ i g. sp)
+  nexts_done v (Waits (ToDismiss i more) w) s ne sp = (λ z. sp, λ g. sp)
+  nexts_done v (Extends j job jobs skipped) s ne sp = absurd (ne j job jobs skipped refl)
+  nexts_done v (Clears i g code after) s ne sp = sp
+  nexts_done v (Releases i g code after) s ne sp = stage_done v after s.1 sp
+
+  abbrev extended_now : System → ℕ → ℕ → System
+  extended_now s k j = moved s k (Ecb (done (length deck) j)) (op_on.Ecb (ecb_op.Extend (j + 1)))
+
+  -- a job's done block is extended
+  extends_split : (s : System) (k j : ℕ) → IsSplit (length deck) s j → j < length deck
+      → IsSplit (length deck) (moved s k (Ecb (done (length deck) j)) (op_on.Ecb (ecb_op.Extend (j + 1)))) (j + 1)
+  extends_split s k j sp here m below = elim (cases_eq m j) [
+    | inl same ↦ (
+      λ less. inl (ap (λ z. block (extended_now s k j) (done (length deck) z)) same
+          ∙ turned_there s.ecb (done (length deck) j) _ (done (length deck) j) refl
+          ∙ ap (λ v. (ecb_step (ecb_op.Extend (j + 1)) v).0) ((sp j here).1 (omega arith)) ∙ ap (λ z. Extended (z + 1)) (sym same)),
+      λ le. absurd (omega arith),
+    )
+    | inr other ↦
+        let elsewhere : block (extended_now s k j) (done (length deck) m) ≡ block s (done (length deck) m) =
+        turned_elsewhere s.ecb (done (length deck) j) _ (done (length deck) m) (λ z. other (omega arith)) in (
+          λ less. elim ((sp m below).0 (omega arith)) [ inl e ↦ inl (elsewhere ∙ e) | inr w ↦ inr (w.0, elsewhere ∙ w.1) ],
+          λ le. elsewhere ∙ (sp m below).1 (omega arith),
+        )
+  ]
+
+  module _ (few : length deck ≤ not_to_run) (s : System) (t : Points) (past : List Entry) (x : SchedulerAt) (r : Reply)
+      (at : t.scheduler ≡ At x) (q : HasPlaces deck initiators s t past) (h : Posted deck initiators s t) where
+    s_stands : IsSchedulerAt deck initiators (At x)
+    s_stands = subst (IsSchedulerAt deck initiators) at q.0.scheduler
+
+    abbrev s_after : System
+    s_after = moved s 1 (scheduler_asks (length deck) x).0 (scheduler_asks (length deck) x).1
+
+    s_no_post : (j b code : ℕ) → j < length deck → HasEnd (length deck) j b → (scheduler_asks (length deck) x).0 ≡ Ecb b
+        → (scheduler_asks (length deck) x).1 ≡ op_on.Ecb (ecb_op.Post code) → ⊥
+    s_no_post j b code below has o op = scheduler_no_post (length deck) x code op
+
+    s_no_clear : (j b : ℕ) → j < length deck → HasEnd (length deck) j b → (scheduler_asks (length deck) x).0 ≡ Ecb b
+        → (scheduler_asks (length deck) x).1 ≡ op_on.Ecb ecb_op.Clear → ⊥
+    s_no_clear j b below has o op = let w : (i : ℕ) × (b ≡ idle (length deck) i) = scheduler_clears (length deck) x b o op in
+        idle_none (length deck) j w.0 below (subst (HasEnd (length deck) j) w.1 has)
+
+    free_still : (j : ℕ) → j < length deck → NotDone (length deck) s j → NotDone (length deck) s_after j
+    free_still j below f = quiet_free s t 1 (scheduler_asks (length deck) x).0
+        (scheduler_asks (length deck) x).1 h s_no_post s_no_clear j _ below (done_has refl) f
+
+    plain_after : (y : SchedulerAt) → x ≡ y
+        → ((j : ℕ) (job : JobData) (jobs : List JobData) (skipped : Bool) → y ≡ Extends j job jobs skipped → ⊥)
+        → IsSplit (length deck) s (extended_at (length deck) y)
+        → DoneBlocks (length deck) s_after (scheduler_goes (length deck) initiators x r)
+    plain_after y is ne sp = goes_next (length deck) initiators (λ p. DoneBlocks (length deck) s_after p) x r tt tt
+        (nexts_done s_after x s_stands (λ j job jobs skipped e. ne j job jobs skipped (sym is ∙ e))
+        (quiet_split s t 1 (scheduler_asks (length deck) x).0 (scheduler_asks (length deck) x).1 h s_no_post s_no_clear
+        (λ j below o. let w : (job : JobData) × (jobs : List JobData) × (skipped : Bool)
+        × (x ≡ Extends j job jobs skipped) = scheduler_untouched x j s_stands below o in ne j w.0 w.1 w.2 (sym is ∙ w.3))
+        (extended_at (length deck) x) (subst (λ z. IsSplit (length deck) s (extended_at (length deck) z)) (sym is) sp)))
+
+    blocks_after : (y : SchedulerAt) → x ≡ y → IsSplit (length deck) s (extended_at (length deck) y)
+        → DoneBlocks (length deck) s_after (scheduler_goes (length deck) initiators x r)
+    blocks_after (Extends j job jobs skipped) is sp =
+        let here : j < length deck = rest_below deck j job jobs (subst (λ z. IsSchedulerAt deck initiators (At z)) is s_stands) in
+        subst (λ z. DoneBlocks (length deck) (moved s 1 (scheduler_asks (length deck) z).0 (scheduler_asks (length deck) z).1)
+        (scheduler_goes (length deck) initiators z r)) (sym is)
+        (goes_next (length deck) initiators (λ p. DoneBlocks (length deck) (extended_now s 1 j) p) (Extends j job jobs skipped) r tt tt
+        (λ v. extends_split s 1 j sp here))
+    blocks_after (Waits a w) is sp = plain_after (Waits a w) is (λ j job jobs skipped e. cc e) sp
+    blocks_after (Clears i g code after) is sp = plain_after (Clears i g code after) is (λ j job jobs skipped e. cc e) sp
+    blocks_after (Releases i g code after) is sp = plain_after (Releases i g code after) is (λ j job jobs skipped e. cc e) sp
+
+    scheduler_posted : Posted deck initiators s_after (record t { scheduler = scheduler_goes (length deck) initiators x r })
+    scheduler_posted = record {
+      entering = λ j below from. not_moved s 1 (scheduler_asks (length deck) x).0 (scheduler_asks (length deck) x).1 (entered j)
+          (h.entering j below from) (λ code o op. scheduler_no_post (length deck) x code op);
+      coming = λ j below from. let grows : next_job (length deck) (At x) ≤ next_job (length deck)
+          (scheduler_goes (length deck) initiators x r) = next_grows deck initiators x r s_stands in
+          free_still j below (h.coming j below (subst (λ z. next_job (length deck) z ≤ j) (sym at) (omega arith)));
+      handed = λ m j skipped lm below e. elim
+          (held_moved s 1 (scheduler_asks (length deck) x).0 (scheduler_asks (length deck) x).1 (initiator m) (code_of j skipped) e) [
+            | inl before ↦ free_still j below (h.handed m j skipped lm below before)
+            | inr w ↦ free_still j below (h.coming j below
+                (subst (λ z. next_job (length deck) z ≤ j) (sym at) (released_next x w.0 j skipped few s_stands below w.2)))
+          ];
+      stages = λ m lm. quiet_stage s t 1 (scheduler_asks (length deck) x).0 (scheduler_asks (length deck) x).1 h s_no_post s_no_clear
+          (t.initiators m) (q.0.each m lm) (h.stages m lm);
+      order = quiet_order s t 1 (scheduler_asks (length deck) x).0 (scheduler_asks (length deck) x).1 h s_no_post s_no_clear;
+      blocks = blocks_after x refl (subst (λ z. DoneBlocks (length deck) s z) at h.blocks);
+    }
+
+  pub posted_keeps : (c : Setup) → length deck ≤ not_to_run
+      → KeepsUnder (HasPlaces deck initiators) (HasPosted deck initiators) c deck initiators
+  posted_keeps c few = by_moves (HasPlaces deck initiators) (HasPosted deck initiators) c deck initiators
+      (λ s t past x p r at n q h. reader_posted c s t past x p r at q h)
+      (λ s t past x p r at n q h. scheduler_posted few s t past x r at q h)
+      (λ s t past i x p r lt at n q h. initiator_posted c s t past i x p r lt at n q h)
+      (λ s t past x p r at n q h. writer_posted s t past x _ _ at q h)
+
+  stage_first : (c : Setup) (jobs : List JobData) → IsSplit (length deck) (opening c) 0 → length jobs ≡ length deck
+      → DoneBlocks (length deck) (opening c) (stage_at (length deck) initiators (Dispatching 0 jobs))
+  stage_first c [] sp e = dismissing_done (opening c) 0 initiators (subst (λ m. IsSplit (length deck) (opening c) m) e sp)
+  stage_first c (job ∷ jobs) sp e = sp
+
+  pub posted_first : (c : Setup) → Posted deck initiators (opening c) (start_points deck initiators)
+  posted_first c = record {
+    entering = λ j below from code e. cc e;
+    coming = λ j below from code e. cc e;
+    handed = λ i j skipped lt below e code f. cc f;
+    stages = λ i lt. tt;
+    order = λ j below. (
+      λ w. absurd (let e : ◌≡◌ {A = EcbState} Zero (Complete w.0) = w.1 in cc e),
+      λ w. absurd (let e : ◌≡◌ {A = EcbState} Zero (Complete w.0) = w.1 in cc e),
+    );
+    blocks = stage_first c deck (λ j below. (λ less. absurd (omega arith), λ le. refl)) refl;
+  }
+
+  -- ---- the Extend of a done block is answered Armed
+
+  pub extend_is_armed : (c : Setup) (s : System) (t : Points) (j : ℕ) (job : JobData) (jobs : List JobData) (skipped : Bool) (k p : ℕ)
+      (r : Reply) → t.scheduler ≡ At (Extends j job jobs skipped) → Standing deck initiators t → Posted deck initiators s t
+      → IsNext c s (entry_of k p (scheduler_asks (length deck) (Extends j job jobs skipped)) r) → r ≡ reply_of.Ecb ecb_reply.Armed
+  extend_is_armed c s t j job jobs skipped k p r at stands h next =
+      let st : IsSchedulerAt deck initiators (At (Extends j job jobs skipped)) =
+      subst (IsSchedulerAt deck initiators) at stands.scheduler in
+      let split : IsSplit (length deck) s j = subst (λ z. DoneBlocks (length deck) s z) at h.blocks in
+      block_reply c s k (done (length deck) j) (ecb_op.Extend (j + 1)) p r next
+      ∙ ap (λ v. reply_of.Ecb (ecb_step (ecb_op.Extend (j + 1)) v).1) ((split j (rest_below deck j job jobs st)).1 (omega arith))

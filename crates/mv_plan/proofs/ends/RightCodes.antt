@@ -1,0 +1,368 @@
+-- The codes that pass between the tasks are the deck's: a block with a job's end holds that end, an element holds 0 or a job's
+-- code with the deck's mark, and the writer keeps the deck's ends. No induction over jobs: all blocks at once.
+use Rattle.std.proofs.Common.{◌≡◌, ℕ, zero, suc, ◌+◌, ◌<◌, List, [], ◌∷◌, ◌++◌, length, get_or, Option, Some, None, ◌⊎◌, inl, inr, refl}
+use Rattle.std.proofs.Common.{sym, ap, ◌∙◌, subst, append-nil, append_assoc, arith}
+use Rattle.std.proofs.lemmas.Bool.{cases_eq}
+use Rattle.std.proofs.lemmas.List.{length-append}
+use Rattle.std.proofs.Math.Seq.{get_or-append_seam}
+use Rattle.mv_ecb.specs.declared.operation.EcbOp.TheVariants as ecb_op
+use Rattle.mv_ecb.specs.declared.operation.EcbReply.TheVariants as ecb_reply
+use Rattle.mv_ecb.specs.Table.{ecb_step}
+use Rattle.mv_ecb.specs.Word.{Complete}
+use Rattle.mv_element.specs.declared.operation.ElementOp.TheVariants as element_op
+use Rattle.mv_element.specs.declared.operation.ElementReply.TheVariants as element_reply
+use Rattle.mv_element.specs.Table.{element_step}
+use Rattle.mv_machine.specs.declared.entry.Entry.{Entry}
+use Rattle.mv_machine.specs.declared.entry.Object.{Object}
+use Rattle.mv_machine.specs.declared.entry.Object.TheVariants.{Ecb, Element, Volume, Latches}
+use Rattle.mv_machine.specs.declared.entry.Op.{Op}
+use Rattle.mv_machine.specs.declared.entry.Op.TheVariants as op_on
+use Rattle.mv_machine.specs.declared.entry.Reply.{Reply}
+use Rattle.mv_machine.specs.declared.entry.Reply.TheVariants as reply_of
+use Rattle.mv_machine.specs.Legal.{IsNext}
+use Rattle.mv_machine.specs.Setup.{Setup}
+use Rattle.mv_machine.specs.System.{System, moved, opening}
+use Rattle.mv_deck.specs.Deck.{JobData}
+use Rattle.mv_plan.specs.Jobs.{end_of}
+use Rattle.mv_plan.proofs.deck.Sound.{IsSound}
+use Rattle.mv_report.specs.Outcome.{ends}
+use Rattle.mv_plan.specs.SpoolSetup.{end_for_writer, initiator}
+use Rattle.mv_plan.specs.SpoolTasks.{Named, job_named, code_of}
+use Rattle.mv_plan.proofs.points.Points.{Point, At, Finished, ReaderAt, Entering, reader_asks, Arming, Settling, Dispatching, Dismissing}
+use Rattle.mv_plan.proofs.points.Points.{SchedulerAt, Waits, Extends, Clears, Releases, scheduler_asks, WriterAt, Keeping, writing_from}
+use Rattle.mv_plan.proofs.points.Points.{end_found, writer_asks, writer_goes, Running, InitiatorAt, Opening, Offering, Pausing, Resuming}
+use Rattle.mv_plan.proofs.points.Points.{Obtaining, Confirming, Freeing, Reading, Writing, Scanning, Rescanning, Purging, EndingJob}
+use Rattle.mv_plan.proofs.points.Points.{EndingForScheduler, EndingForWriter, Closing, initiator_asks, initiator_goes, stage_at}
+use Rattle.mv_plan.proofs.points.PostsAndWaits.{on_armed_keeps}
+use Rattle.mv_plan.proofs.walks.Walks.{Points, start_points}
+use Rattle.mv_plan.proofs.points.ReaderAndWriter.{IsReaderAt, IsWriterAt}
+use Rattle.mv_plan.proofs.points.SchedulerSound.{IsSchedulerAt}
+use Rattle.mv_plan.proofs.points.InitiatorSound.{IsInitiatorAt, IsEnding, named_is}
+use Rattle.mv_plan.proofs.deck.Ends.{is_skipped, end_by_mark, length-ends_from, few_jobs}
+use Rattle.mv_plan.proofs.ends.Blocks.{complete_by, held_by, paused_code, resumed_code, settled_code, HasEnd, entered_none, idle_none}
+use Rattle.mv_plan.proofs.ends.Blocks.{scheduler_has, writer_has, done_one, scheduler_one, writer_one}
+use Rattle.mv_plan.proofs.ends.SchedulerMarks.{IsMarked, IsCodeFor, FindsEnds, scheduler_marks, dismissing_marked}
+use Rattle.mv_plan.proofs.points.RunningJob.{OfRun, Starts, runs_goes}
+use Rattle.mv_plan.proofs.walks.Stands.{HasStanding}
+use Rattle.mv_plan.proofs.deck.Codes.{code_parts, never_zero}
+use Rattle.mv_plan.proofs.walks.Moves.{KeepsUnder, by_moves, entry_of, block, element, block_reply, element_reply, turned_there}
+use Rattle.mv_plan.proofs.walks.Moves.{turned_elsewhere}
+use Rattle.mv_plan.proofs.lists.Tables.{all_with}
+use Rattle.mv_plan.proofs.points.Views.{code_held}
+
+-- ---- the codes of jobs
+
+-- a code that the scheduler releases: 0, or the job's with its mark
+abbrev pub IsCode : List JobData → ℕ → Type 0
+IsCode deck code = (code ≡ 0) ⊎ ((j : ℕ) × (j < length deck) × (code ≡ code_of j (is_skipped deck j)))
+
+-- ---- blocks and elements
+
+-- a block that is complete and has a job's end has that job's
+abbrev pub HoldEnds : List JobData → System → Type 0
+HoldEnds deck s = (j b code : ℕ) → j < length deck → HasEnd (length deck) j b → block s b ≡ Complete code → code ≡ end_of deck j
+
+abbrev pub PostsEnds : List JobData → Object → Op → Type 0
+PostsEnds deck o op = (m d : ℕ) → o ≡ Ecb m → op ≡ op_on.Ecb (ecb_op.Post d) → (j : ℕ) → j < length deck → HasEnd (length deck) j m
+    → d ≡ end_of deck j
+
+ends_moved : (deck : List JobData) (s : System) (k : ℕ) (o : Object) (op : Op) → PostsEnds deck o op → HoldEnds deck s
+    → HoldEnds deck (moved s k o op)
+ends_moved deck s k (Ecb m) (op_on.Ecb op) right h = λ j b code lt has e. elim (cases_eq b m) [
+  | inl same ↦ elim (complete_by op (block s m) code (sym (turned_there s.ecb m (ecb_step op (block s m)).0 b same) ∙ e)) [
+    | inl before ↦ h j m code lt (subst (HasEnd (length deck) j) same has) before
+    | inr posted ↦ right m code refl (ap (λ z. op_on.Ecb z) posted) j lt (subst (HasEnd (length deck) j) same has)
+  ]
+  | inr other ↦ h j b code lt has (sym (turned_elsewhere s.ecb m (ecb_step op (block s m)).0 b other) ∙ e)
+]
+ends_moved deck s k (Element m) (op_on.Element op) right h = h
+ends_moved deck s k (Volume m) (op_on.Volume op) right h = h
+ends_moved deck s k Latches (op_on.Latch op) right h = h
+ends_moved deck s k o op right h = h
+
+abbrev pub HoldCodes : List JobData → System → Type 0
+HoldCodes deck s = (m code : ℕ) → code_held (element s m) ≡ Some code → IsCode deck code
+
+abbrev pub ReleasesCodes : List JobData → Object → Op → Type 0
+ReleasesCodes deck o op = (m g d : ℕ) → o ≡ Element m → op ≡ op_on.Element (element_op.Release g d) → IsCode deck d
+
+codes_moved : (deck : List JobData) (s : System) (k : ℕ) (o : Object) (op : Op) → ReleasesCodes deck o op → HoldCodes deck s
+    → HoldCodes deck (moved s k o op)
+codes_moved deck s k (Element m) (op_on.Element op) right h = λ b code e. elim (cases_eq b m) [
+  | inl same ↦ elim (held_by op (element s m) code
+      (ap (λ x. code_held x) (sym (turned_there s.element m (element_step op (element s m)).0 b same)) ∙ e)) [
+        | inl before ↦ h m code before
+        | inr released ↦ right m released.0 code refl (ap (λ z. op_on.Element z) released.1)
+      ]
+  | inr other ↦ h b code (ap (λ x. code_held x) (sym (turned_elsewhere s.element m (element_step op (element s m)).0 b other)) ∙ e)
+]
+codes_moved deck s k (Ecb m) (op_on.Ecb op) right h = h
+codes_moved deck s k (Volume m) (op_on.Volume op) right h = h
+codes_moved deck s k Latches (op_on.Latch op) right h = h
+codes_moved deck s k o op right h = h
+
+-- ---- the writer
+
+-- what the writer has kept are the deck's ends so far, and all of them in the end
+abbrev pub KeepsEnds : List JobData → Point WriterAt → Type 0
+KeepsEnds deck (At (Keeping j more kept w)) = (rest : List ℕ) × (kept ++ rest ≡ ends deck) × (length kept ≡ j)
+KeepsEnds deck (Finished kept) = kept ≡ ends deck
+KeepsEnds deck p = Unit {0}
+
+ends_count : (deck : List JobData) → length (ends deck) ≡ length deck
+ends_count deck = let e : length (ends deck) ≡ 0 + length deck = length-ends_from [] deck in omega arith
+
+none_left : (kept rest all : List ℕ) → kept ++ rest ≡ all → length kept ≡ length all → kept ≡ all
+none_left kept [] all e l = sym (append-nil kept) ∙ e
+none_left kept (r ∷ rest) all e l = let a : length (kept ++ r ∷ rest) ≡ length kept + length (r ∷ rest) =
+    length-append kept (r ∷ rest) in let b : length (kept ++ r ∷ rest) ≡ length all = ap (λ x. length x) e in absurd (omega arith)
+
+writing_keeps : (deck : List JobData) (j more : ℕ) (kept rest : List ℕ) → kept ++ rest ≡ ends deck → length kept ≡ j
+    → j + more ≡ length deck → KeepsEnds deck (writing_from (length deck) j more kept)
+writing_keeps deck j zero kept rest e l n =
+    none_left kept rest (ends deck) e (let a : length (ends deck) ≡ length deck = ends_count deck in omega arith)
+writing_keeps deck j (suc more) kept rest e l n = (rest, e, l)
+
+-- one more end is kept
+one_kept : (deck : List JobData) (j more : ℕ) (kept rest : List ℕ) (code : ℕ) → kept ++ rest ≡ ends deck → length kept ≡ j
+    → j + suc more ≡ length deck → code ≡ end_of deck j
+    → KeepsEnds deck (writing_from (length deck) (j + 1) more (kept ++ code ∷ []))
+one_kept deck j more kept [] code e l n c =
+    let a : length (ends deck) ≡ length deck = ends_count deck in let b : length (kept ++ []) ≡ length (ends deck) =
+    ap (λ x. length x) e in let d : length (kept ++ []) ≡ length kept = ap (λ x. length x) (append-nil kept) in absurd (omega arith)
+one_kept deck j more kept (r ∷ rest) code e l n c =
+    writing_keeps deck (j + 1) more (kept ++ code ∷ []) rest
+    (append_assoc kept (code ∷ []) rest
+    ∙ ap (λ z. kept ++ z ∷ rest) (c ∙ ap (λ es. get_or es j 0) (sym e) ∙ ap (λ k. get_or (kept ++ r ∷ rest) k 0) (sym l)
+    ∙ get_or-append_seam kept r rest 0) ∙ e)
+    (length-append kept (code ∷ []) ∙ ap (λ k. k + 1) l) (omega arith)
+
+abbrev pub WriterFindsEnd : List JobData → WriterAt → Reply → Type 0
+WriterFindsEnd deck (Keeping j more kept (Settling e todo found)) (reply_of.Ecb (ecb_reply.Complete code)) = code ≡ end_of deck j
+WriterFindsEnd deck x r = Unit {0}
+
+-- the rest of a wait for one block
+settled_keeps : (deck : List JobData) (j more : ℕ) (kept rest : List ℕ) (code : ℕ) (found : List (Option ℕ)) → kept ++ rest ≡ ends deck
+    → length kept ≡ j → j + suc more ≡ length deck → found ≡ [] → code ≡ end_of deck j
+    → KeepsEnds deck (end_found (length deck) j more kept (found ++ Some code ∷ []))
+settled_keeps deck j more kept rest code [] e l n none c = one_kept deck j more kept rest code e l n c
+settled_keeps deck j more kept rest code (f ∷ found) e l n none c = absurd (cc none)
+
+open_keeps : (deck : List JobData) (j more : ℕ) (kept : List ℕ) (found : List (Option ℕ)) → found ≡ []
+    → KeepsEnds deck (end_found (length deck) j more kept (found ++ None ∷ []))
+open_keeps deck j more kept [] none = tt
+open_keeps deck j more kept (f ∷ found) none = absurd (cc none)
+
+pub writer_kept : (deck : List JobData) (x : WriterAt) (r : Reply) → IsWriterAt (length deck) (At x) → KeepsEnds deck (At x)
+    → WriterFindsEnd deck x r → KeepsEnds deck (writer_goes (length deck) x r)
+writer_kept deck (Keeping j more kept (Arming e [])) r at k finds =
+    on_armed_keeps (KeepsEnds deck) (At (Keeping j more kept (Settling (end_for_writer (length deck) j) [] []))) r k tt
+writer_kept deck (Keeping j more kept (Arming e (f ∷ todo))) r at k finds = absurd (cc at.2)
+writer_kept deck (Keeping j more kept (Settling e [] found)) (reply_of.Ecb (ecb_reply.Complete code)) at k finds =
+    settled_keeps deck j more kept k.0 code found k.1 k.2 at.0 at.3 finds
+writer_kept deck (Keeping j more kept (Settling e [] found)) (reply_of.Ecb ecb_reply.Open) at k finds =
+    open_keeps deck j more kept found at.3
+writer_kept deck (Keeping j more kept (Settling e [] found)) r at k finds = tt
+writer_kept deck (Keeping j more kept (Settling e (f ∷ todo) found)) r at k finds = absurd (cc at.2)
+
+-- ---- the invariant
+
+abbrev pub IsMarkedRun : List JobData → Running → Type 0
+IsMarkedRun deck run = run.skipped ≡ is_skipped deck run.job
+
+pub record Codes (deck : List JobData) (initiators : ℕ) (s : System) (t : Points) : Type 0 where
+  pub blocks : HoldEnds deck s
+  pub elements : HoldCodes deck s
+  -- the scheduler's mark of the job at hand, and the ends that it has found for it, are the deck's
+  pub scheduler : IsMarked deck t.scheduler
+  -- and so is the mark of each job that is run
+  pub runs : (i : ℕ) → i < initiators → OfRun (IsMarkedRun deck) (t.initiators i)
+  pub writer : KeepsEnds deck t.writer
+
+abbrev pub HasCodes : List JobData → ℕ → System → Points → List Entry → Type 0
+HasCodes deck initiators s t past = Codes deck initiators s t
+
+-- ---- what each caller's events post and release
+
+reader_posts : (deck : List JobData) (x : ReaderAt) → IsReaderAt (length deck) (At x) → PostsEnds deck (reader_asks x).0 (reader_asks x).1
+reader_posts deck (Entering k more) at m d a b j lt has =
+    absurd (entered_none (length deck) j k (omega arith) (subst (HasEnd (length deck) j) (cc a) has))
+
+scheduler_posts : (deck : List JobData) (x : SchedulerAt)
+    → PostsEnds deck (scheduler_asks (length deck) x).0 (scheduler_asks (length deck) x).1
+scheduler_posts deck (Waits a (Arming e todo)) m d p q j lt has = absurd (cc q)
+scheduler_posts deck (Waits a (Settling e todo found)) m d p q j lt has = absurd (cc q)
+scheduler_posts deck (Extends k job jobs skipped) m d p q j lt has = absurd (cc q)
+scheduler_posts deck (Clears i g code after) m d p q j lt has = absurd (cc q)
+scheduler_posts deck (Releases i g code after) m d p q j lt has = absurd (cc q)
+
+writer_posts : (deck : List JobData) (x : WriterAt) → PostsEnds deck (writer_asks x).0 (writer_asks x).1
+writer_posts deck (Keeping k more kept (Arming e todo)) m d p q j lt has = absurd (cc q)
+writer_posts deck (Keeping k more kept (Settling e todo found)) m d p q j lt has = absurd (cc q)
+
+-- the code with which an initiator ends its job is the job's end
+pub ending_is : (deck : List JobData) (initiators : ℕ) (run : Running) (code : ℕ) → IsSound deck initiators → IsEnding deck run code
+    → IsMarkedRun deck run → code ≡ end_of deck run.job
+ending_is deck initiators run code sound at f = at.end ∙ end_by_mark deck run.job run.skipped sound.jobs at.turn.job f
+
+module _ (deck : List JobData) (initiators : ℕ) (sound : IsSound deck initiators) where
+  initiator_posts : (i : ℕ) (x : InitiatorAt) → IsInitiatorAt deck (At x) → OfRun (IsMarkedRun deck) (At x)
+      → PostsEnds deck (initiator_asks (length deck) i x).0 (initiator_asks (length deck) i x).1
+  initiator_posts i Opening at f m d p q j lt has = absurd (cc p)
+  initiator_posts i (Offering more before g) at f m d p q j lt has =
+      absurd (idle_none (length deck) j i lt (subst (HasEnd (length deck) j) (cc p) has))
+  initiator_posts i (Pausing more before g) at f m d p q j lt has = absurd (cc p)
+  initiator_posts i (Resuming more before g) at f m d p q j lt has = absurd (cc p)
+  initiator_posts i (Obtaining run hand latch mode steps) at f m d p q j lt has = absurd (cc p)
+  initiator_posts i (Confirming run hand latch mode id steps) at f m d p q j lt has = absurd (cc p)
+  initiator_posts i (Freeing run hand latch id steps) at f m d p q j lt has = absurd (cc p)
+  initiator_posts i (Reading run hand volume amount steps) at f m d p q j lt has = absurd (cc p)
+  initiator_posts i (Writing run hand volume amount number steps) at f m d p q j lt has = absurd (cc p)
+  initiator_posts i (Scanning run hand volume steps) at f m d p q j lt has = absurd (cc p)
+  initiator_posts i (Rescanning run hand volume number steps) at f m d p q j lt has = absurd (cc p)
+  initiator_posts i (Purging run hand code) at f m d p q j lt has = absurd (cc p)
+  initiator_posts i (EndingJob run code counts) at f m d p q j lt has =
+      sym (cc q) ∙ ending_is deck initiators run code sound at (f run refl)
+      ∙ ap (λ k. end_of deck k) (sym (done_one (length deck) j run.job lt at.turn.job
+      (subst (HasEnd (length deck) j) (sym (cc p)) has)))
+  initiator_posts i (EndingForScheduler run code counts) at f m d p q j lt has =
+      sym (cc q) ∙ ending_is deck initiators run code sound at (f run refl)
+      ∙ ap (λ k. end_of deck k) (sym (scheduler_one (length deck) j run.job lt at.turn.job
+      (subst (HasEnd (length deck) j) (sym (cc p)) has)))
+  initiator_posts i (EndingForWriter run code counts) at f m d p q j lt has =
+      sym (cc q) ∙ ending_is deck initiators run code sound at (f run refl)
+      ∙ ap (λ k. end_of deck k) (sym (writer_one (length deck) j run.job lt at.turn.job
+      (subst (HasEnd (length deck) j) (sym (cc p)) has)))
+  initiator_posts i (Closing g) at f m d p q j lt has = absurd (cc p)
+
+  pub initiator_releases : (i : ℕ) (x : InitiatorAt)
+      → ReleasesCodes deck (initiator_asks (length deck) i x).0 (initiator_asks (length deck) i x).1
+  initiator_releases i Opening m g d p q = absurd (cc q)
+  initiator_releases i (Offering more before h) m g d p q = absurd (cc q)
+  initiator_releases i (Pausing more before h) m g d p q = absurd (cc q)
+  initiator_releases i (Resuming more before h) m g d p q = absurd (cc q)
+  initiator_releases i (Obtaining run hand latch mode steps) m g d p q = absurd (cc q)
+  initiator_releases i (Confirming run hand latch mode id steps) m g d p q = absurd (cc q)
+  initiator_releases i (Freeing run hand latch id steps) m g d p q = absurd (cc q)
+  initiator_releases i (Reading run hand volume amount steps) m g d p q = absurd (cc q)
+  initiator_releases i (Writing run hand volume amount number steps) m g d p q = absurd (cc q)
+  initiator_releases i (Scanning run hand volume steps) m g d p q = absurd (cc q)
+  initiator_releases i (Rescanning run hand volume number steps) m g d p q = absurd (cc q)
+  initiator_releases i (Purging run hand code) m g d p q = absurd (cc q)
+  initiator_releases i (EndingJob run code counts) m g d p q = absurd (cc q)
+  initiator_releases i (EndingForScheduler run code counts) m g d p q = absurd (cc q)
+  initiator_releases i (EndingForWriter run code counts) m g d p q = absurd (cc q)
+  initiator_releases i (Closing h) m g d p q = absurd (cc q)
+
+  code_for : (code : ℕ) (after : _) → IsCodeFor deck code after → IsCode deck code
+  code_for code (Dispatching j jobs) f = inr (f.0, f.1, f.3)
+  code_for code (Dismissing i more) f = inl f
+
+  pub scheduler_releases : (x : SchedulerAt) → IsMarked deck (At x)
+      → ReleasesCodes deck (scheduler_asks (length deck) x).0 (scheduler_asks (length deck) x).1
+  scheduler_releases (Waits a (Arming e todo)) f m g d p q = absurd (cc p)
+  scheduler_releases (Waits a (Settling e todo found)) f m g d p q = absurd (cc p)
+  scheduler_releases (Extends k job jobs skipped) f m g d p q = absurd (cc p)
+  scheduler_releases (Clears i h code after) f m g d p q = absurd (cc p)
+  scheduler_releases (Releases i h code after) f m g d p q = subst (IsCode deck) (cc q) (code_for code after f)
+
+  -- the job that a code names, and its mark
+  pub given_mark : (code : ℕ) (named : Named) → IsCode deck code → job_named (length deck) code ≡ Some named
+      → named.skipped ≡ is_skipped deck named.job
+  given_mark code named (inl z) e = absurd (never_zero named.job named.skipped (sym (named_is (length deck) code named e).1 ∙ z))
+  given_mark code named (inr w) e =
+      let is : (named.job < length deck) × (code ≡ code_of named.job named.skipped) = named_is (length deck) code named e in
+      let same : (named.job ≡ w.0) × (named.skipped ≡ is_skipped deck w.0) =
+      code_parts (length deck) named.job w.0 named.skipped (is_skipped deck w.0) (few_jobs deck initiators sound) is.0 w.1
+      (sym is.1 ∙ w.2) in
+      same.1 ∙ ap (λ k. is_skipped deck k) (sym same.0)
+
+  starts_marked : (c : Setup) (s : System) (i : ℕ) (x : InitiatorAt) (p : ℕ) (r : Reply)
+      → IsNext c s (entry_of (initiator i) p (initiator_asks (length deck) i x) r) → HoldCodes deck s
+      → Starts (IsMarkedRun deck) deck x r
+  starts_marked c s i (Pausing more before g) p (reply_of.Element (element_reply.Given code now)) n h = λ named left e new more_is.
+      given_mark code named (h (initiator i) code
+      (paused_code g (element s (initiator i)) code now
+      (cc (sym (element_reply c s (initiator i) (initiator i) (element_op.Pause g) p
+      (reply_of.Element (element_reply.Given code now)) n))))) e
+  starts_marked c s i (Resuming more before g) p (reply_of.Element (element_reply.Given code now)) n h = λ named left e new more_is.
+      given_mark code named (h (initiator i) code
+      (resumed_code g (element s (initiator i)) code now
+      (cc (sym (element_reply c s (initiator i) (initiator i) (element_op.Resume g) p
+      (reply_of.Element (element_reply.Given code now)) n))))) e
+  starts_marked c s i x p r n h = tt
+
+  finds_ends : (c : Setup) (s : System) (x : SchedulerAt) (k p : ℕ) (r : Reply)
+      → IsNext c s (entry_of k p (scheduler_asks (length deck) x) r) → HoldEnds deck s → FindsEnds deck initiators x r
+  finds_ends c s (Waits a (Settling e todo found)) k p (reply_of.Ecb (ecb_reply.Complete code)) n h = λ j lt at.
+      h j e code lt (scheduler_has at)
+      (settled_code (block s e) code (cc (sym (block_reply c s k e ecb_op.Settle p (reply_of.Ecb (ecb_reply.Complete code)) n))))
+  finds_ends c s x k p r n h = tt
+
+  finds_end : (c : Setup) (s : System) (x : WriterAt) (k p : ℕ) (r : Reply) → IsNext c s (entry_of k p (writer_asks x) r)
+      → IsWriterAt (length deck) (At x) → HoldEnds deck s → WriterFindsEnd deck x r
+  finds_end c s (Keeping j more kept (Settling e todo found)) k p (reply_of.Ecb (ecb_reply.Complete code)) n at h =
+      h j e code (let t : j + suc more ≡ length deck = at.0 in omega arith) (writer_has at.1)
+      (settled_code (block s e) code (cc (sym (block_reply c s k e ecb_op.Settle p (reply_of.Ecb (ecb_reply.Complete code)) n))))
+  finds_end c s x k p r n at h = tt
+
+  pub reader_releases : (x : ReaderAt) → ReleasesCodes deck (reader_asks x).0 (reader_asks x).1
+  reader_releases (Entering k more) m g d p q = absurd (cc p)
+
+  pub writer_releases : (x : WriterAt) → ReleasesCodes deck (writer_asks x).0 (writer_asks x).1
+  writer_releases (Keeping k more kept (Arming e todo)) m g d p q = absurd (cc p)
+  writer_releases (Keeping k more kept (Settling e todo found)) m g d p q = absurd (cc p)
+
+  pub codes_keep : (c : Setup) → KeepsUnder (HasStanding deck initiators) (HasCodes deck initiators) c deck initiators
+  codes_keep c = by_moves (HasStanding deck initiators) (HasCodes deck initiators) c deck initiators
+      (λ s t past x p r at n q h. record {
+        blocks = ends_moved deck s _ (reader_asks x).0 (reader_asks x).1
+            (reader_posts deck x (subst (IsReaderAt (length deck)) at q.reader)) h.blocks;
+        elements = codes_moved deck s _ (reader_asks x).0 (reader_asks x).1 (reader_releases x) h.elements;
+        scheduler = h.scheduler;
+        runs = h.runs;
+        writer = h.writer;
+      })
+      (λ s t past x p r at n q h. record {
+        blocks = ends_moved deck s _ (scheduler_asks (length deck) x).0 (scheduler_asks (length deck) x).1
+            (scheduler_posts deck x) h.blocks;
+        elements = codes_moved deck s _ (scheduler_asks (length deck) x).0 (scheduler_asks (length deck) x).1
+            (scheduler_releases x (subst (IsMarked deck) at h.scheduler)) h.elements;
+        scheduler = scheduler_marks deck initiators x r sound.jobs (subst (IsSchedulerAt deck initiators) at q.scheduler)
+            (subst (IsMarked deck) at h.scheduler) (finds_ends c s x _ p r n h.blocks);
+        runs = h.runs;
+        writer = h.writer;
+      })
+      (λ s t past i x p r lt at n q h. record {
+        blocks = ends_moved deck s _ (initiator_asks (length deck) i x).0 (initiator_asks (length deck) i x).1
+            (initiator_posts i x (subst (IsInitiatorAt deck) at (q.each i lt))
+            (subst (OfRun (IsMarkedRun deck)) at (h.runs i lt))) h.blocks;
+        elements = codes_moved deck s _ (initiator_asks (length deck) i x).0 (initiator_asks (length deck) i x).1
+            (initiator_releases i x) h.elements;
+        scheduler = h.scheduler;
+        runs = λ k below. all_with (λ j pt. OfRun (IsMarkedRun deck) pt) t.initiators i (initiator_goes deck x r) k
+            (runs_goes (IsMarkedRun deck) deck x r (subst (OfRun (IsMarkedRun deck)) at (h.runs i lt))
+            (starts_marked c s i x p r n h.elements)) (h.runs k below);
+        writer = h.writer;
+      })
+      (λ s t past x p r at n q h. record {
+        blocks = ends_moved deck s _ (writer_asks x).0 (writer_asks x).1 (writer_posts deck x) h.blocks;
+        elements = codes_moved deck s _ (writer_asks x).0 (writer_asks x).1 (writer_releases x) h.elements;
+        scheduler = h.scheduler;
+        runs = h.runs;
+        writer = writer_kept deck x r (subst (IsWriterAt (length deck)) at q.writer) (subst (KeepsEnds deck) at h.writer)
+            (finds_end c s x _ p r n (subst (IsWriterAt (length deck)) at q.writer) h.blocks);
+      })
+
+  stage_first : (jobs : List JobData) → IsMarked deck (stage_at (length deck) initiators (Dispatching 0 jobs))
+  stage_first [] = dismissing_marked deck initiators 0 initiators
+  stage_first (job ∷ jobs) = tt
+
+  pub codes_first : (c : Setup) → Codes deck initiators (opening c) (start_points deck initiators)
+  codes_first c = record {
+    blocks = λ j b code lt has e. absurd (cc e);
+    elements = λ m code e. absurd (cc e);
+    scheduler = stage_first deck;
+    runs = λ i lt run e. absurd (cc e);
+    writer = writing_keeps deck 0 (length deck) [] (ends deck) refl refl (omega arith);
+  }

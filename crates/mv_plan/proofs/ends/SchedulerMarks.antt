@@ -1,0 +1,208 @@
+-- The scheduler marks each job as the deck says, where the ends that it reads are the deck's.
+use Rattle.std.proofs.Common.{◌≡◌, ℕ, zero, suc, ◌+◌, ◌<◌, ◌≤◌, nat_le, nat_lt, Bool, true, false, ◌||◌, cond, List, [], ◌∷◌, ◌++◌}
+use Rattle.std.proofs.Common.{length, get_or, Option, Some, None, refl, sym, ap, ◌∙◌, arith}
+use Rattle.std.specs.List.{AllByRecursion}
+use Rattle.std.proofs.lemmas.Bool.{leb-true}
+use Rattle.std.proofs.Math.Seq.{get_or-append_seam}
+use Rattle.mv_ecb.specs.declared.operation.EcbReply.TheVariants as ecb_reply
+use Rattle.mv_element.specs.declared.operation.ElementReply.TheVariants as element_reply
+use Rattle.mv_machine.specs.declared.entry.Reply.{Reply}
+use Rattle.mv_machine.specs.declared.entry.Reply.TheVariants as reply_of
+use Rattle.mv_deck.specs.Deck.{JobData}
+use Rattle.mv_deck.specs.declared.deck.After.{After}
+use Rattle.mv_deck.specs.declared.deck.Step.{Step}
+use Rattle.mv_report.specs.Outcome.{some_unaccepted}
+use Rattle.mv_plan.specs.Jobs.{no_job, job_at, end_of}
+use Rattle.mv_plan.proofs.deck.Sound.{AreSoundJobs}
+use Rattle.mv_report.specs.Outcome.{ends}
+use Rattle.mv_plan.specs.SpoolSetup.{end_for_scheduler}
+use Rattle.mv_plan.specs.SpoolTasks.{code_of, some_end_above, ends_of}
+use Rattle.mv_machine.specs.calls.Waits.{complete_count}
+use Rattle.mv_plan.proofs.points.Points.{Point, At, TooSoon, WaitAt, Arming, Settling, Stage, Dispatching, Dismissing, Awaited}
+use Rattle.mv_plan.proofs.points.Points.{ForEntry, ForEnds, ForIdle, ToDismiss, SchedulerAt, Waits, Extends, Clears, Releases}
+use Rattle.mv_plan.proofs.points.Points.{awaited_blocks, awaited_count, scheduler_goes, arming_first, arming_from, settling_from}
+use Rattle.mv_plan.proofs.points.Points.{found_at, ends_at, dismissing_from, stage_at}
+use Rattle.mv_plan.proofs.points.PostsAndWaits.{on_armed_keeps, lowest_keeps}
+use Rattle.mv_plan.proofs.points.SchedulerSound.{IsRest, rest_below, rest_sound, IsAwaited, IsWaitAt, IsSchedulerAt}
+use Rattle.mv_plan.proofs.deck.Ends.{is_skipped}
+
+-- what was found at the blocks of these parts are the ends of their jobs
+abbrev pub AreFound : List JobData → List After → List (Option ℕ) → Type 0
+AreFound deck parts [] = Unit {0}
+AreFound deck (part ∷ parts) (Some code ∷ found) = (code ≡ end_of deck part.job) × AreFound deck parts found
+AreFound deck (part ∷ parts) (None ∷ found) = AreFound deck parts found
+AreFound deck [] (slot ∷ found) = ⊥
+
+-- the code that was chosen for the job in front of a stage; 0 where an initiator is dismissed
+abbrev pub IsCodeFor : List JobData → ℕ → Stage → Type 0
+IsCodeFor deck code (Dispatching j jobs) = (k : ℕ) × (k < length deck) × (j ≡ k + 1) × (code ≡ code_of k (is_skipped deck k))
+IsCodeFor deck code (Dismissing i more) = code ≡ 0
+
+abbrev pub MarkedWait : List JobData → Awaited → List (Option ℕ) → Type 0
+MarkedWait deck (ForEntry j job jobs) found = Unit {0}
+MarkedWait deck (ForEnds j job jobs) found = AreFound deck job.after found
+MarkedWait deck (ForIdle j job jobs skipped) found = skipped ≡ is_skipped deck j
+MarkedWait deck (ToDismiss i more) found = Unit {0}
+
+abbrev pub found_in : WaitAt → List (Option ℕ)
+found_in (Arming e todo) = []
+found_in (Settling e todo found) = found
+
+abbrev pub IsMarked : List JobData → Point SchedulerAt → Type 0
+IsMarked deck (At (Waits a w)) = MarkedWait deck a (found_in w)
+IsMarked deck (At (Extends j job jobs skipped)) = skipped ≡ is_skipped deck j
+IsMarked deck (At (Clears i g code after)) = IsCodeFor deck code after
+IsMarked deck (At (Releases i g code after)) = IsCodeFor deck code after
+IsMarked deck p = Unit {0}
+
+-- ---- what was found
+
+none_more : (deck : List JobData) (parts : List After) (found : List (Option ℕ)) → AreFound deck parts found
+    → complete_count found ≤ length parts
+none_more deck parts [] f = omega arith
+none_more deck (part ∷ parts) (Some code ∷ found) f = let le : complete_count found ≤ length parts = none_more deck parts found f.1 in
+    omega arith
+none_more deck (part ∷ parts) (None ∷ found) f = let le : complete_count found ≤ length parts = none_more deck parts found f in
+    omega arith
+none_more deck [] (slot ∷ found) f = absurd f
+
+-- where all ends were found, one is above what is accepted exactly where the deck says so
+pub found_mark : (deck : List JobData) (parts : List After) (found : List (Option ℕ)) → AreFound deck parts found
+    → length parts ≤ complete_count found → some_end_above parts found ≡ some_unaccepted (ends deck) parts
+found_mark deck [] [] f le = refl
+found_mark deck (part ∷ parts) [] f le = absurd (omega arith)
+found_mark deck (part ∷ parts) (Some code ∷ found) f le =
+    ap (λ c. nat_lt part.most c || some_end_above parts found) f.0
+    ∙ ap (λ b. nat_lt part.most (end_of deck part.job) || b) (found_mark deck parts found f.1 (omega arith))
+found_mark deck (part ∷ parts) (None ∷ found) f le = let few : complete_count found ≤ length parts = none_more deck parts found f in
+    absurd (omega arith)
+found_mark deck [] (slot ∷ found) f le = absurd f
+
+abbrev pub IsRight : Option ℕ → ℕ → Type 0
+IsRight (Some code) end = code ≡ end
+IsRight None end = Unit {0}
+
+found_one : (deck : List JobData) (part : After) (parts : List After) (slot : Option ℕ) → IsRight slot (end_of deck part.job)
+    → AreFound deck (part ∷ parts) (slot ∷ [])
+found_one deck part parts (Some code) r = (r, tt)
+found_one deck part parts None r = tt
+
+-- one more was settled
+pub found_push : (deck : List JobData) (n : ℕ) (parts : List After) (past : List ℕ) (e : ℕ) (todo : List ℕ) (found : List (Option ℕ))
+    (slot : Option ℕ)
+    → past ++ e ∷ todo ≡ ends_of n parts → length past ≡ length found → AllByRecursion (λ part. part.job < n) parts
+    → AreFound deck parts found
+    → ((k : ℕ) → k < n → e ≡ end_for_scheduler n k → IsRight slot (end_of deck k)) → AreFound deck parts (found ++ slot ∷ [])
+found_push deck n [] [] e todo found slot at count below f right = absurd (cc at)
+found_push deck n [] (p ∷ past) e todo found slot at count below f right = absurd (cc at)
+found_push deck n (part ∷ parts) [] e todo [] slot at count below f right =
+    found_one deck part parts slot (right part.job below.0 (cc at))
+found_push deck n (part ∷ parts) [] e todo (s ∷ found) slot at count below f right = absurd (omega arith)
+found_push deck n (part ∷ parts) (p ∷ past) e todo [] slot at count below f right = absurd (omega arith)
+found_push deck n (part ∷ parts) (p ∷ past) e todo (Some code ∷ found) slot at count below f right =
+    (f.0, found_push deck n parts past e todo found slot (cc at) (omega arith) below.1 f.1 right)
+found_push deck n (part ∷ parts) (p ∷ past) e todo (None ∷ found) slot at count below f right =
+    found_push deck n parts past e todo found slot (cc at) (omega arith) below.1 f right
+
+-- ---- the deck's rest
+
+pub rest_job : (deck : List JobData) (j : ℕ) (job : JobData) (jobs : List JobData) → IsRest deck j (job ∷ jobs) → job_at deck j ≡ job
+rest_job deck j job jobs r = ap (λ d. get_or d j no_job) (sym r.whole) ∙ ap (λ k. get_or (r.front ++ job ∷ jobs) k no_job) (sym r.count)
+    ∙ get_or-append_seam r.front job jobs no_job
+
+rest_skipped : (deck : List JobData) (j : ℕ) (job : JobData) (jobs : List JobData) → IsRest deck j (job ∷ jobs)
+    → some_unaccepted (ends deck) job.after ≡ is_skipped deck j
+rest_skipped deck j job jobs r = ap (λ o. some_unaccepted (ends deck) o.after) (sym (rest_job deck j job jobs r))
+
+below_more : (j n : ℕ) (parts : List After) → j ≤ n → AllByRecursion (λ part. part.job < j) parts
+    → AllByRecursion (λ part. part.job < n) parts
+below_more j n [] le a = tt
+below_more j n (part ∷ parts) le a = (let lt : part.job < j = a.0 in omega arith, below_more j n parts le a.1)
+
+pub rest_parts : (deck : List JobData) (j : ℕ) (job : JobData) (jobs : List JobData) → AreSoundJobs 0 deck → IsRest deck j (job ∷ jobs)
+    → AllByRecursion (λ part. part.job < length deck) job.after
+rest_parts deck j job jobs sound r =
+    below_more j (length deck) job.after (let lt : j < length deck = rest_below deck j job jobs r in omega arith)
+    (rest_sound deck j job jobs sound r).earlier
+
+-- ---- each next point
+
+module _ (deck : List JobData) (initiators : ℕ) where
+  ends_marked : (j : ℕ) (name : List ℕ) (after : List After) (steps : List Step) (jobs : List JobData)
+      → IsRest deck j (record { name = name; after = after; steps = steps } ∷ jobs)
+      → IsMarked deck (ends_at (length deck) j (record { name = name; after = after; steps = steps }) jobs)
+  ends_marked j name [] steps jobs r = rest_skipped deck j (record { name = name; after = []; steps = steps }) jobs r
+  ends_marked j name (part ∷ parts) steps jobs r = tt
+
+  pub dismissing_marked : (i more : ℕ) → IsMarked deck (dismissing_from (length deck) i more)
+  dismissing_marked i zero = tt
+  dismissing_marked i (suc more) = tt
+
+  stage_marked : (after : Stage) → IsMarked deck (stage_at (length deck) initiators after)
+  stage_marked (Dispatching j []) = dismissing_marked 0 initiators
+  stage_marked (Dispatching j (job ∷ jobs)) = tt
+  stage_marked (Dismissing i more) = dismissing_marked i more
+
+  found_marked : (a : Awaited) (found : List (Option ℕ)) → IsAwaited deck initiators a → MarkedWait deck a found
+      → awaited_count a ≤ complete_count found → IsMarked deck (found_at (length deck) a found)
+  found_marked (ForEntry j job jobs) found r f le =
+      lowest_keeps (IsMarked deck) (λ p code. ends_at (length deck) j job jobs) 0 found
+      (λ i code. ends_marked j job.name job.after job.steps jobs r) tt
+  found_marked (ForEnds j job jobs) found r f le = found_mark deck job.after found f le ∙ rest_skipped deck j job jobs r
+  found_marked (ForIdle j job jobs skipped) found r f le =
+      lowest_keeps (IsMarked deck) (λ i g. At (Clears i g (code_of j skipped) (Dispatching (j + 1) jobs))) 0 found
+      (λ i code. (j, rest_below deck j job jobs r, refl, ap (λ b. code_of j b) f)) tt
+  found_marked (ToDismiss i more) found r f le =
+      lowest_keeps (IsMarked deck) (λ p g. At (Clears i g 0 (Dismissing (i + 1) more))) 0 found (λ p code. refl) tt
+
+  settling_marked : (a : Awaited) (es : List ℕ) (found : List (Option ℕ)) → IsAwaited deck initiators a → MarkedWait deck a found
+      → IsMarked deck (settling_from (length deck) a es found)
+  settling_marked a [] found s f = go (nat_le (awaited_count a) (complete_count found)) refl where
+    go : (b : Bool) → nat_le (awaited_count a) (complete_count found) ≡ b
+        → IsMarked deck (cond b (found_at (length deck) a found) TooSoon)
+    go true q = found_marked a found s f (leb-true (awaited_count a) (complete_count found) q)
+    go false q = tt
+  settling_marked a (e ∷ es) found s f = f
+
+  arming_marked : (a : Awaited) (es : List ℕ) → IsAwaited deck initiators a → MarkedWait deck a []
+      → IsMarked deck (arming_from (length deck) initiators a es)
+  arming_marked a [] s f = settling_marked a (awaited_blocks (length deck) initiators a) [] s f
+  arming_marked a (e ∷ es) s f = f
+
+  first_marked : (a : Awaited) (es : List ℕ) → MarkedWait deck a [] → IsMarked deck (arming_first a es)
+  first_marked a [] f = tt
+  first_marked a (e ∷ es) f = f
+
+  one_settled : (a : Awaited) (e : ℕ) (todo : List ℕ) (found : List (Option ℕ)) (slot : Option ℕ) → AreSoundJobs 0 deck
+      → IsAwaited deck initiators a → IsWaitAt (awaited_blocks (length deck) initiators a) (Settling e todo found)
+      → MarkedWait deck a found → ((k : ℕ) → k < length deck → e ≡ end_for_scheduler (length deck) k → IsRight slot (end_of deck k))
+      → MarkedWait deck a (found ++ slot ∷ [])
+  one_settled (ForEntry j job jobs) e todo found slot sound s w f right = tt
+  one_settled (ForEnds j job jobs) e todo found slot sound s w f right =
+      found_push deck (length deck) job.after w.0 e todo found slot w.1 w.2 (rest_parts deck j job jobs sound s) f right
+  one_settled (ForIdle j job jobs skipped) e todo found slot sound s w f right = f
+  one_settled (ToDismiss i more) e todo found slot sound s w f right = tt
+
+  -- what a settle of a block with a job's end finds
+  abbrev pub FindsEnds : SchedulerAt → Reply → Type 0
+  FindsEnds (Waits a (Settling e todo found)) (reply_of.Ecb (ecb_reply.Complete code)) =
+      (k : ℕ) → k < length deck → e ≡ end_for_scheduler (length deck) k → code ≡ end_of deck k
+  FindsEnds x r = Unit {0}
+
+  pub scheduler_marks : (x : SchedulerAt) (r : Reply) → AreSoundJobs 0 deck → IsSchedulerAt deck initiators (At x)
+      → IsMarked deck (At x) → FindsEnds x r → IsMarked deck (scheduler_goes (length deck) initiators x r)
+  scheduler_marks (Waits a (Arming e todo)) r sound s f finds =
+      on_armed_keeps (IsMarked deck) (arming_from (length deck) initiators a todo) r (arming_marked a todo s.0 f) tt
+  scheduler_marks (Waits a (Settling e todo found)) (reply_of.Ecb (ecb_reply.Complete code)) sound s f finds =
+      settling_marked a todo (found ++ Some code ∷ []) s.0 (one_settled a e todo found (Some code) sound s.0 s.1 f finds)
+  scheduler_marks (Waits a (Settling e todo found)) (reply_of.Ecb ecb_reply.Open) sound s f finds =
+      settling_marked a todo (found ++ None ∷ []) s.0 (one_settled a e todo found None sound s.0 s.1 f (λ k lt at. tt))
+  scheduler_marks (Waits a (Settling e todo found)) r sound s f finds = tt
+  scheduler_marks (Extends j job jobs skipped) (reply_of.Ecb ecb_reply.Armed) sound s f finds =
+      first_marked (ForIdle j job jobs skipped) (awaited_blocks (length deck) initiators (ForIdle j job jobs skipped)) f
+  scheduler_marks (Extends j job jobs skipped) r sound s f finds = tt
+  scheduler_marks (Clears i g code after) (reply_of.Ecb (ecb_reply.Word w)) sound s f finds = f
+  scheduler_marks (Clears i g code after) r sound s f finds = tt
+  scheduler_marks (Releases i g code after) (reply_of.Element element_reply.Early) sound s f finds = stage_marked after
+  scheduler_marks (Releases i g code after) (reply_of.Element element_reply.Woke) sound s f finds = stage_marked after
+  scheduler_marks (Releases i g code after) r sound s f finds = tt

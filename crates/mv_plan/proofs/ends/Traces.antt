@@ -1,0 +1,226 @@
+-- What the entries so far say of the blocks with the jobs' ends: the codes that were posted are those that the blocks hold.
+use Rattle.std.proofs.Common.{◌≡◌, ℕ, ◌+◌, ◌<◌, if◌then◌else◌, List, [], ◌∷◌, ◌++◌, length, map, Some, None, ◌⊎◌, inl, inr, refl, sym, ap}
+use Rattle.std.proofs.Common.{◌∙◌, subst, append-nil, arith}
+use Rattle.std.specs.List.{AllByRecursion}
+use Rattle.std.proofs.lemmas.Bool.{cases_eq, eq-eqb, ne_eqb}
+use Rattle.std.proofs.lemmas.List.Elements.{filter_map-append}
+use Rattle.mv_ecb.specs.declared.operation.EcbOp.{EcbOp}
+use Rattle.mv_ecb.specs.declared.operation.EcbOp.TheVariants as ecb_op
+use Rattle.mv_ecb.specs.declared.operation.EcbReply.TheVariants as ecb_reply
+use Rattle.mv_ecb.specs.Table.{ecb_step}
+use Rattle.mv_ecb.specs.Word.{EcbState, Zero, Waiting, Extended, Complete}
+use Rattle.mv_machine.specs.declared.entry.Entry.{Entry}
+use Rattle.mv_machine.specs.declared.entry.Object.{Object}
+use Rattle.mv_machine.specs.declared.entry.Object.TheVariants.{Ecb, Element, Volume, Latches}
+use Rattle.mv_machine.specs.declared.entry.Op.{Op}
+use Rattle.mv_machine.specs.declared.entry.Op.TheVariants as op_on
+use Rattle.mv_machine.specs.declared.entry.Reply.{Reply}
+use Rattle.mv_machine.specs.declared.entry.Reply.TheVariants as reply_of
+use Rattle.mv_machine.specs.Legal.{IsNext}
+use Rattle.mv_machine.specs.Setup.{Setup}
+use Rattle.mv_machine.specs.System.{System, moved, opening}
+use Rattle.mv_plan.specs.PostingEnds.{post_in, posts, post_codes, FindsEnd, HasRightMark, PostsFirst}
+use Rattle.mv_deck.specs.Deck.{JobData}
+use Rattle.mv_plan.specs.Jobs.{end_of}
+use Rattle.mv_plan.proofs.deck.Sound.{IsSound}
+use Rattle.mv_plan.specs.SpoolSetup.{done, end_for_scheduler, end_for_writer}
+use Rattle.mv_plan.specs.SpoolTasks.{code_of}
+use Rattle.mv_plan.proofs.ends.Blocks.{HasEnd, scheduler_has, writer_has}
+use Rattle.mv_plan.proofs.deck.Ends.{is_skipped, skipped_ends, few_jobs}
+use Rattle.mv_plan.proofs.ends.RightCodes.{HoldEnds, ReleasesCodes}
+use Rattle.mv_plan.proofs.deck.Codes.{code_parts, never_zero}
+use Rattle.mv_plan.proofs.ends.Complete.{NotComplete, block_moved}
+use Rattle.mv_plan.proofs.walks.Moves.{entry_of, block, block_reply, turned_there}
+use Rattle.mv_machine.proofs.Lists.{all_push}
+
+-- the codes that a block is complete with
+abbrev pub code_list : EcbState → List ℕ
+code_list (Complete code) = code ∷ []
+code_list v = []
+
+pub record Traces (deck : List JobData) (s : System) (past : List Entry) : Type 0 where
+  -- each block with a job's end was posted exactly where it is complete, and with that code
+  pub codes : (j b : ℕ) → j < length deck → HasEnd (length deck) j b → post_codes b past ≡ code_list (block s b)
+  -- the post of a done block started its exit
+  pub woke : (j : ℕ) → j < length deck
+      → AllByRecursion (λ p. p.1 ≡ reply_of.Ecb (ecb_reply.Woke (j + 1))) (posts (done (length deck) j) past)
+  pub found : AllByRecursion (FindsEnd deck) past
+  pub marked : AllByRecursion (HasRightMark deck) past
+  pub first : AllByRecursion PostsFirst past
+
+-- ---- one entry more
+
+-- an event posts this block, or it does not
+abbrev PostCase : ℕ → Object → Op → Reply → Type 0
+PostCase b o op r = ((d : ℕ) × (o ≡ Ecb b) × (op ≡ op_on.Ecb (ecb_op.Post d)) × (post_in b o op r ≡ Some (d, r)))
+    ⊎ ((post_in b o op r ≡ None) × ((d : ℕ) → o ≡ Ecb b → op ≡ op_on.Ecb (ecb_op.Post d) → ⊥))
+
+post_case : (b : ℕ) (o : Object) (op : Op) (r : Reply) → PostCase b o op r
+post_case b (Ecb m) (op_on.Ecb (ecb_op.Post d)) r = elim (cases_eq m b) [
+  | inl same ↦ inl (d, ap (λ z. Ecb z) same, refl, ap (λ z. if z then Some (d, r) else None) (eq-eqb m b same))
+  | inr other ↦ inr (ap (λ z. if z then Some (d, r) else None) (ne_eqb m b other), λ e o op. other (cc o))
+]
+post_case b (Ecb m) (op_on.Ecb ecb_op.Arm) r = inr (refl, λ d o op. cc op)
+post_case b (Ecb m) (op_on.Ecb (ecb_op.Extend x)) r = inr (refl, λ d o op. cc op)
+post_case b (Ecb m) (op_on.Ecb ecb_op.Settle) r = inr (refl, λ d o op. cc op)
+post_case b (Ecb m) (op_on.Ecb ecb_op.Clear) r = inr (refl, λ d o op. cc op)
+post_case b (Ecb m) (op_on.Ecb ecb_op.Test) r = inr (refl, λ d o op. cc op)
+post_case b (Ecb m) (op_on.Element op) r = inr (refl, λ d o e. cc e)
+post_case b (Ecb m) (op_on.Volume op) r = inr (refl, λ d o e. cc e)
+post_case b (Ecb m) (op_on.Latch op) r = inr (refl, λ d o e. cc e)
+post_case b (Element m) op r = inr (refl, λ d o e. cc o)
+post_case b (Volume m) op r = inr (refl, λ d o e. cc o)
+post_case b Latches op r = inr (refl, λ d o e. cc o)
+
+posts_none : (b k p : ℕ) (o : Object) (op : Op) (r : Reply) (past : List Entry) → post_in b o op r ≡ None
+    → posts b (past ++ entry_of k p (o, op) r ∷ []) ≡ posts b past
+posts_none b k p o op r past e = filter_map-append (λ e. post_in b e.object e.op e.reply) past (entry_of k p (o, op) r ∷ [])
+    ∙ rw e (append-nil (posts b past))
+
+posts_some : (b k p : ℕ) (o : Object) (op : Op) (r : Reply) (past : List Entry) (d : ℕ) → post_in b o op r ≡ Some (d, r)
+    → posts b (past ++ entry_of k p (o, op) r ∷ []) ≡ posts b past ++ (d, r) ∷ []
+posts_some b k p o op r past d e = filter_map-append (λ e. post_in b e.object e.op e.reply) past (entry_of k p (o, op) r ∷ [])
+    ∙ rw e refl
+
+map_push : (ps : List (ℕ × Reply)) (p : ℕ × Reply) → map (λ p. p.0) (ps ++ p ∷ []) ≡ map (λ p. p.0) ps ++ p.0 ∷ []
+map_push [] p = refl
+map_push (q ∷ ps) p = ap (λ z. q.0 ∷ z) (map_push ps p)
+
+-- ---- tables
+
+no_code : (v : EcbState) → ((code : ℕ) → v ≡ Complete code → ⊥) → code_list v ≡ []
+no_code Zero f = refl
+no_code Waiting f = refl
+no_code (Extended y) f = refl
+no_code (Complete c) f = absurd (f c refl)
+
+posted_code : (d : ℕ) (v : EcbState) → ((code : ℕ) → v ≡ Complete code → ⊥) → code_list (ecb_step (ecb_op.Post d) v).0 ≡ d ∷ []
+posted_code d Zero f = refl
+posted_code d Waiting f = refl
+posted_code d (Extended y) f = refl
+posted_code d (Complete c) f = absurd (f c refl)
+
+kept_code : (op : EcbOp) (v : EcbState) → ((d : ℕ) → op ≡ ecb_op.Post d → ⊥) → (op ≡ ecb_op.Clear → ⊥)
+    → code_list (ecb_step op v).0 ≡ code_list v
+kept_code ecb_op.Arm Zero f g = refl
+kept_code ecb_op.Arm Waiting f g = refl
+kept_code ecb_op.Arm (Extended y) f g = refl
+kept_code ecb_op.Arm (Complete c) f g = refl
+kept_code (ecb_op.Extend x) Zero f g = refl
+kept_code (ecb_op.Extend x) Waiting f g = refl
+kept_code (ecb_op.Extend x) (Extended y) f g = refl
+kept_code (ecb_op.Extend x) (Complete c) f g = refl
+kept_code ecb_op.Settle Zero f g = refl
+kept_code ecb_op.Settle Waiting f g = refl
+kept_code ecb_op.Settle (Extended y) f g = refl
+kept_code ecb_op.Settle (Complete c) f g = refl
+kept_code ecb_op.Clear v f g = absurd (g refl)
+kept_code (ecb_op.Post d) v f g = absurd (f d refl)
+kept_code ecb_op.Test v f g = refl
+
+-- an answer Complete is of a complete block, and so is an answer Already
+complete_reply : (op : EcbOp) (v : EcbState) (code : ℕ) → (ecb_step op v).1 ≡ ecb_reply.Complete code → v ≡ Complete code
+complete_reply op v code e = grind arith
+
+already_reply : (d : ℕ) (v : EcbState) (code : ℕ) → (ecb_step (ecb_op.Post d) v).1 ≡ ecb_reply.Already code → v ≡ Complete code
+already_reply d v code e = grind arith
+
+-- the reply at a block
+replied : (c : Setup) (s : System) (k b p : ℕ) (o : Object) (op : Op) (r : Reply) (e : EcbOp) → IsNext c s (entry_of k p (o, op) r)
+    → o ≡ Ecb b → op ≡ op_on.Ecb e → r ≡ reply_of.Ecb (ecb_step e (block s b)).1
+replied c s k b p o op r e n f g =
+    block_reply c s k b e p r (subst (λ z. IsNext c s (entry_of k p (z, op_on.Ecb e) r)) f
+    (subst (λ z. IsNext c s (entry_of k p (o, z) r)) g n))
+
+-- and the block after it
+moved_there : (s : System) (k b : ℕ) (o : Object) (op : Op) (e : EcbOp) → o ≡ Ecb b → op ≡ op_on.Ecb e
+    → block (moved s k o op) b ≡ (ecb_step e (block s b)).0
+moved_there s k b o op e f g = subst (λ z. block (moved s k z op) b ≡ (ecb_step e (block s b)).0) (sym f)
+    (subst (λ z. block (moved s k (Ecb b) z) b ≡ (ecb_step e (block s b)).0) (sym g)
+    (turned_there s.ecb b (ecb_step e (block s b)).0 b refl))
+
+-- an event on a block is of a block's kind
+ecb_kind : (c : Setup) (s : System) (k b p : ℕ) (o : Object) (op : Op) (r : Reply) → IsNext c s (entry_of k p (o, op) r) → o ≡ Ecb b
+    → (e : EcbOp) × (op ≡ op_on.Ecb e)
+ecb_kind c s k b p o (op_on.Ecb e) r n f = (e, refl)
+ecb_kind c s k b p o (op_on.Element e) r n f = absurd (none (subst (λ z. IsNext c s (entry_of k p (z, op_on.Element e) r)) f n)) where
+  none : IsNext c s (entry_of k p (Ecb b, op_on.Element e) r) → ⊥
+  none m = cc m.reply
+ecb_kind c s k b p o (op_on.Volume e) r n f = absurd (none (subst (λ z. IsNext c s (entry_of k p (z, op_on.Volume e) r)) f n)) where
+  none : IsNext c s (entry_of k p (Ecb b, op_on.Volume e) r) → ⊥
+  none m = cc m.reply
+ecb_kind c s k b p o (op_on.Latch e) r n f = absurd (none (subst (λ z. IsNext c s (entry_of k p (z, op_on.Latch e) r)) f n)) where
+  none : IsNext c s (entry_of k p (Ecb b, op_on.Latch e) r) → ⊥
+  none m = cc m.reply
+
+-- ---- the step, for any event
+
+module _ (deck : List JobData) (initiators : ℕ) (sound : IsSound deck initiators) (c : Setup) (s : System) (k p : ℕ) (o : Object) (op : Op)
+    (r : Reply) (past : List Entry)
+    (next : IsNext c s (entry_of k p (o, op) r)) (h : Traces deck s past) (ends : HoldEnds deck s) (releases : ReleasesCodes deck o op)
+    (free : (b d : ℕ) → o ≡ Ecb b → op ≡ op_on.Ecb (ecb_op.Post d) → NotComplete s b)
+    (extended : (j d : ℕ) → j < length deck → o ≡ Ecb (done (length deck) j) → op ≡ op_on.Ecb (ecb_op.Post d)
+    → block s (done (length deck) j) ≡ Extended (j + 1))
+    (no_clear : (j b : ℕ) → j < length deck → HasEnd (length deck) j b → o ≡ Ecb b → op ≡ op_on.Ecb ecb_op.Clear → ⊥) where
+  abbrev e : Entry
+  e = entry_of k p (o, op) r
+
+  codes_next : (j b : ℕ) → j < length deck → HasEnd (length deck) j b → PostCase b o op r
+      → post_codes b (past ++ e ∷ []) ≡ code_list (block (moved s k o op) b)
+  codes_next j b lt has (inl w) = ap (λ ps. map (λ p. p.0) ps) (posts_some b k p o op r past w.0 w.3) ∙ map_push (posts b past) (w.0, r)
+      ∙ ap (λ z. z ++ w.0 ∷ []) (h.codes j b lt has ∙ no_code (block s b) (free b w.0 w.1 w.2))
+      ∙ sym (ap (λ v. code_list v) (moved_there s k b o op (ecb_op.Post w.0) w.1 w.2)
+      ∙ posted_code w.0 (block s b) (free b w.0 w.1 w.2))
+  codes_next j b lt has (inr w) = ap (λ ps. map (λ p. p.0) ps) (posts_none b k p o op r past w.0) ∙ h.codes j b lt has
+      ∙ sym (after (block_moved s k o op b)) where
+        after : (block (moved s k o op) b ≡ block s b)
+            ⊎ ((x : EcbOp) × (o ≡ Ecb b) × (op ≡ op_on.Ecb x) × (block (moved s k o op) b ≡ (ecb_step x (block s b)).0))
+            → code_list (block (moved s k o op) b) ≡ code_list (block s b)
+        after (inl same) = ap (λ v. code_list v) same
+        after (inr m) = ap (λ v. code_list v) m.3
+            ∙ kept_code m.0 (block s b) (λ d q. w.1 d m.1 (m.2 ∙ ap (λ z. op_on.Ecb z) q))
+            (λ q. no_clear j b lt has m.1 (m.2 ∙ ap (λ z. op_on.Ecb z) q))
+
+  woke_next : (j : ℕ) → j < length deck → PostCase (done (length deck) j) o op r
+      → AllByRecursion (λ p. p.1 ≡ reply_of.Ecb (ecb_reply.Woke (j + 1))) (posts (done (length deck) j) (past ++ e ∷ []))
+  woke_next j lt (inl w) = subst (λ ps. AllByRecursion (λ p. p.1 ≡ reply_of.Ecb (ecb_reply.Woke (j + 1))) ps)
+      (sym (posts_some (done (length deck) j) k p o op r past w.0 w.3))
+      (all_push (λ p. p.1 ≡ reply_of.Ecb (ecb_reply.Woke (j + 1))) (posts (done (length deck) j) past) (w.0, r) (h.woke j lt)
+      (replied c s k (done (length deck) j) p o op r (ecb_op.Post w.0) next w.1 w.2
+      ∙ ap (λ v. reply_of.Ecb (ecb_step (ecb_op.Post w.0) v).1) (extended j w.0 lt w.1 w.2)))
+  woke_next j lt (inr w) = subst (λ ps. AllByRecursion (λ p. p.1 ≡ reply_of.Ecb (ecb_reply.Woke (j + 1))) ps)
+      (sym (posts_none (done (length deck) j) k p o op r past w.0)) (h.woke j lt)
+
+  finds_at : (b j code : ℕ) → j < length deck → HasEnd (length deck) j b → o ≡ Ecb b → r ≡ reply_of.Ecb (ecb_reply.Complete code)
+      → code ≡ end_of deck j
+  finds_at b j code lt has f e = let w : (x : EcbOp) × (op ≡ op_on.Ecb x) = ecb_kind c s k b p o op r next f in
+      ends j b code lt has (complete_reply w.0 (block s b) code (cc (sym (replied c s k b p o op r w.0 next f w.1) ∙ e)))
+
+  finds_next : FindsEnd deck e
+  finds_next j code lt (inl f) q = finds_at (end_for_scheduler (length deck) j) j code lt (scheduler_has refl) f q
+  finds_next j code lt (inr f) q = finds_at (end_for_writer (length deck) j) j code lt (writer_has refl) f q
+
+  mark_next : HasRightMark deck e
+  mark_next m g j skipped lt f q = elim (releases m g (code_of j skipped) f q) [
+    | inl none ↦ absurd (never_zero j skipped none)
+    | inr w ↦
+        let same : (j ≡ w.0) × (skipped ≡ is_skipped deck w.0) =
+        code_parts (length deck) j w.0 skipped (is_skipped deck w.0) (few_jobs deck initiators sound) lt w.1 w.2 in
+        same.1 ∙ ap (λ z. is_skipped deck z) (sym same.0) ∙ skipped_ends deck j sound.jobs lt
+  ]
+
+  first_next : PostsFirst e
+  first_next b d code f g q = free b d f g code
+      (already_reply d (block s b) code (cc (sym (replied c s k b p o op r (ecb_op.Post d) next f g) ∙ q)))
+
+  pub traces_next : Traces deck (moved s k o op) (past ++ e ∷ [])
+  traces_next = record {
+    codes = λ j b lt has. codes_next j b lt has (post_case b o op r);
+    woke = λ j lt. woke_next j lt (post_case (done (length deck) j) o op r);
+    found = all_push (FindsEnd deck) past e h.found finds_next;
+    marked = all_push (HasRightMark deck) past e h.marked mark_next;
+    first = all_push PostsFirst past e h.first first_next;
+  }
+
+pub traces_first : (deck : List JobData) (c : Setup) → Traces deck (opening c) []
+traces_first deck c = record { codes = λ j b lt has. refl; woke = λ j lt. tt; found = tt; marked = tt; first = tt }

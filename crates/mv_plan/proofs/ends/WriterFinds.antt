@@ -1,0 +1,121 @@
+-- The writer has found the end of each job before the one that it waits for; so at its end all are posted.
+use Rattle.std.proofs.Common.{◌≡◌, ℕ, zero, suc, ◌+◌, ◌<◌, List, [], ◌∷◌, ◌++◌, length, Option, Some, None, inl, inr, sym, subst, arith}
+use Rattle.std.proofs.lemmas.Bool.{cases_lt}
+use Rattle.mv_ecb.specs.declared.operation.EcbOp.TheVariants as ecb_op
+use Rattle.mv_ecb.specs.declared.operation.EcbReply.TheVariants as ecb_reply
+use Rattle.mv_machine.specs.declared.entry.Entry.{Entry}
+use Rattle.mv_machine.specs.declared.entry.Reply.{Reply}
+use Rattle.mv_machine.specs.declared.entry.Reply.TheVariants as reply_of
+use Rattle.mv_machine.specs.Legal.{IsNext}
+use Rattle.mv_machine.specs.Setup.{Setup}
+use Rattle.mv_machine.specs.System.{System, moved, opening}
+use Rattle.mv_deck.specs.Deck.{JobData}
+use Rattle.mv_plan.specs.SpoolSetup.{end_for_writer, idle, reader, scheduler, initiator, writer}
+use Rattle.mv_plan.proofs.points.Points.{Point, At, Finished, TooSoon, Astray, Arming, Settling, WriterAt, Keeping, writing_from}
+use Rattle.mv_plan.proofs.points.Points.{end_found, writer_asks, writer_goes, reader_asks, scheduler_asks, initiator_asks}
+use Rattle.mv_plan.proofs.points.PostsAndWaits.{on_armed_keeps}
+use Rattle.mv_plan.proofs.walks.Walks.{Points, start_points}
+use Rattle.mv_plan.proofs.points.ReaderAndWriter.{IsWriterAt}
+use Rattle.mv_plan.proofs.ends.Blocks.{settled_code}
+use Rattle.mv_plan.proofs.walks.Stands.{HasStanding}
+use Rattle.mv_plan.proofs.ends.Complete.{IsComplete, is_moved}
+use Rattle.mv_plan.proofs.ends.Awaited.{reader_ecb, initiator_ecb}
+use Rattle.mv_plan.proofs.ends.Posted.{scheduler_clears, writer_no_clear, no_clear}
+use Rattle.mv_plan.proofs.walks.Moves.{KeepsUnder, by_moves, entry_of, block, block_reply}
+
+-- the ends of all jobs below are posted to the writer
+abbrev pub HasFound : ℕ → System → Point WriterAt → Type 0
+HasFound n s (At (Keeping j more kept w)) = (k : ℕ) → k < j → IsComplete s (end_for_writer n k)
+HasFound n s (Finished kept) = (k : ℕ) → k < n → IsComplete s (end_for_writer n k)
+HasFound n s p = Unit {0}
+
+abbrev pub WriterHas : List JobData → System → Points → List Entry → Type 0
+WriterHas deck s t past = HasFound (length deck) s t.writer
+
+writing_found : (n j more : ℕ) (s : System) (kept : List ℕ) → j + more ≡ n → ((k : ℕ) → k < j → IsComplete s (end_for_writer n k))
+    → HasFound n s (writing_from n j more kept)
+writing_found n j zero s kept e h = λ k lt. h k (omega arith)
+writing_found n j (suc more) s kept e h = h
+
+one_more : (n j : ℕ) (s : System) → IsComplete s (end_for_writer n j) → ((k : ℕ) → k < j → IsComplete s (end_for_writer n k)) → (k : ℕ)
+    → k < j + 1 → IsComplete s (end_for_writer n k)
+one_more n j s last h k lt = elim
+    (cases_lt k j) [
+      | inl less ↦ h k less
+      | inr le ↦ subst (λ z. IsComplete s (end_for_writer n z))
+          (let e : j ≡ k = omega arith in e) last
+    ]
+
+settled_found : (n j more : ℕ) (s : System) (kept : List ℕ) (code : ℕ) (found : List (Option ℕ)) → found ≡ [] → j + suc more ≡ n
+    → IsComplete s (end_for_writer n j) → ((k : ℕ) → k < j → IsComplete s (end_for_writer n k))
+    → HasFound n s (end_found n j more kept (found ++ Some code ∷ []))
+settled_found n j more s kept code [] none e last h =
+    writing_found n (j + 1) more s (kept ++ code ∷ []) (omega arith) (one_more n j s last h)
+settled_found n j more s kept code (f ∷ found) none e last h = absurd (cc none)
+
+open_found : (n j more : ℕ) (s : System) (kept : List ℕ) (found : List (Option ℕ)) → found ≡ []
+    → HasFound n s (end_found n j more kept (found ++ None ∷ []))
+open_found n j more s kept [] none = tt
+open_found n j more s kept (f ∷ found) none = absurd (cc none)
+
+idle_elsewhere : (n i k : ℕ) → k < n → end_for_writer n k ≡ idle n i → ⊥
+idle_elsewhere n i k lt e = omega arith
+
+module _ (deck : List JobData) (initiators : ℕ) where
+  abbrev FindsIt : System → WriterAt → Reply → Type 0
+  FindsIt s (Keeping j more kept (Settling e todo found)) (reply_of.Ecb (ecb_reply.Complete code)) = IsComplete s e
+  FindsIt s x r = Unit {0}
+
+  finds_it : (c : Setup) (s : System) (x : WriterAt) (k p : ℕ) (r : Reply) → IsNext c s (entry_of k p (writer_asks x) r) → FindsIt s x r
+  finds_it c s (Keeping j more kept (Settling e todo found)) k p (reply_of.Ecb (ecb_reply.Complete code)) n =
+      (code, settled_code (block s e) code (cc (sym (block_reply c s k e ecb_op.Settle p (reply_of.Ecb (ecb_reply.Complete code)) n))))
+  finds_it c s x k p r n = tt
+
+  own_found : (s s' : System) (x : WriterAt) (r : Reply) → IsWriterAt (length deck) (At x)
+      → ((b : ℕ) → IsComplete s b → IsComplete s' b) → FindsIt s x r → HasFound (length deck) s (At x)
+      → HasFound (length deck) s' (writer_goes (length deck) x r)
+  own_found s s' (Keeping j more kept (Arming e [])) r at f it h =
+      on_armed_keeps (HasFound (length deck) s') (At (Keeping j more kept (Settling (end_for_writer (length deck) j) [] []))) r
+      (λ k lt. f _ (h k lt)) tt
+  own_found s s' (Keeping j more kept (Arming e (b ∷ todo))) r at f it h = absurd (cc at.2)
+  own_found s s' (Keeping j more kept (Settling e [] found)) (reply_of.Ecb (ecb_reply.Complete code)) at f it h =
+      settled_found (length deck) j more s' kept code found at.3 at.0 (f _ (subst (IsComplete s) at.1 it)) (λ k lt. f _ (h k lt))
+  own_found s s' (Keeping j more kept (Settling e [] found)) (reply_of.Ecb ecb_reply.Open) at f it h =
+      open_found (length deck) j more s' kept found at.3
+  own_found s s' (Keeping j more kept (Settling e [] found)) r at f it h = tt
+  own_found s s' (Keeping j more kept (Settling e (b ∷ todo) found)) r at f it h = absurd (cc at.2)
+
+  below_kept : (s s' : System) (t : Points) → IsWriterAt (length deck) t.writer
+      → ((k : ℕ) → k < length deck → IsComplete s (end_for_writer (length deck) k) → IsComplete s' (end_for_writer (length deck) k))
+      → HasFound (length deck) s t.writer → HasFound (length deck) s' t.writer
+  below_kept s s' t at f h = go t.writer at h where
+    go : (p : Point WriterAt) → IsWriterAt (length deck) p → HasFound (length deck) s p → HasFound (length deck) s' p
+    go (At (Keeping j more kept (Arming e todo))) a g = λ k lt. f k (let q : j + suc more ≡ length deck = a.0 in omega arith) (g k lt)
+    go (At (Keeping j more kept (Settling e todo found))) a g =
+        λ k lt. f k (let q : j + suc more ≡ length deck = a.0 in omega arith) (g k lt)
+    go (Finished kept) a g = λ k lt. f k lt (g k lt)
+    go TooSoon a g = tt
+    go Astray a g = tt
+
+  pub writer_has_keeps : (c : Setup) → KeepsUnder (HasStanding deck initiators) (WriterHas deck) c deck initiators
+  writer_has_keeps c = by_moves (HasStanding deck initiators) (WriterHas deck) c deck initiators
+      (λ s t past x p r at n q h. below_kept s (moved s reader (reader_asks x).0 (reader_asks x).1) t q.writer
+      (λ k lt w. is_moved s reader (reader_asks x).0 (reader_asks x).1 (end_for_writer (length deck) k) w
+      (λ o op. no_clear (reader_ecb deck initiators x ecb_op.Clear op).1)) h)
+      (λ s t past x p r at n q h. below_kept s
+      (moved s scheduler (scheduler_asks (length deck) x).0 (scheduler_asks (length deck) x).1) t q.writer
+      (λ k lt w. is_moved s scheduler (scheduler_asks (length deck) x).0 (scheduler_asks (length deck) x).1
+      (end_for_writer (length deck) k) w
+      (λ o op. let i : (i : ℕ) × (end_for_writer (length deck) k ≡ idle (length deck) i) = scheduler_clears (length deck) x
+      (end_for_writer (length deck) k) o op in idle_elsewhere (length deck) i.0 k lt i.1)) h)
+      (λ s t past i x p r lt at n q h. below_kept s
+      (moved s (initiator i) (initiator_asks (length deck) i x).0 (initiator_asks (length deck) i x).1) t q.writer
+      (λ k less w. is_moved s (initiator i) (initiator_asks (length deck) i x).0 (initiator_asks (length deck) i x).1
+      (end_for_writer (length deck) k) w (λ o op. no_clear (initiator_ecb deck initiators i x ecb_op.Clear op).1)) h)
+      (λ s t past x p r at n q h. own_found s (moved s (writer initiators) (writer_asks x).0 (writer_asks x).1) x r
+      (subst (IsWriterAt (length deck)) at q.writer)
+      (λ b w. is_moved s (writer initiators) (writer_asks x).0 (writer_asks x).1 b w (λ o op. writer_no_clear x op))
+      (finds_it c s x _ p r n) (subst (HasFound (length deck) s) at h))
+
+  pub writer_has_first : (c : Setup) → WriterHas deck (opening c) (start_points deck initiators) []
+  writer_has_first c = writing_found (length deck) 0 (length deck) (opening c) [] (omega arith) (λ k lt. absurd (omega arith))

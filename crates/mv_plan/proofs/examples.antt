@@ -1,0 +1,6 @@
+-- Runs that are computed.
+pub mod OneInitiator
+pub mod TwoInitiators
+pub mod Returns
+pub mod Ends
+pub mod Refused

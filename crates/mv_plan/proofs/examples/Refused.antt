@@ -1,0 +1,156 @@
+-- Legal histories that are no runs: another end posted, the closing release left out, a volume read before its latch was granted,
+-- and a job released twice. Each is legal by computing it, and what its program says at the wrong entry is another event.
+use Rattle.std.specs.Prelude.{codes}
+use Rattle.std.proofs.Common.{◌≡◌, ℕ, ◌++◌, List, [], ◌∷◌, take, Some, None, refl, ap, arith}
+use Rattle.std.proofs.lemmas.Option.{some_pair_parts}
+use Rattle.mv_ecb.specs.declared.operation.EcbOp.TheVariants as ecb_op
+use Rattle.mv_ecb.specs.declared.operation.EcbReply.TheVariants as ecb_reply
+use Rattle.mv_element.specs.declared.operation.ElementOp.TheVariants as element_op
+use Rattle.mv_element.specs.declared.operation.ElementReply.TheVariants as element_reply
+use Rattle.mv_latch.specs.declared.operation.LatchOp.TheVariants as latch_op
+use Rattle.mv_latch.specs.declared.operation.LatchReply.TheVariants as latch_reply
+use Rattle.mv_latch.specs.declared.request.LatchForm.TheVariants.{Waiting}
+use Rattle.mv_latch.specs.declared.request.Mode.TheVariants.{Exclusive}
+use Rattle.mv_machine.specs.declared.entry.Entry.{Entry}
+use Rattle.mv_machine.specs.declared.entry.Object.{Object}
+use Rattle.mv_machine.specs.declared.entry.Object.TheVariants.{Ecb, Element, Volume, Latches}
+use Rattle.mv_machine.specs.declared.entry.Op.{Op}
+use Rattle.mv_machine.specs.declared.entry.Op.TheVariants as op_on
+use Rattle.mv_machine.specs.declared.entry.Reply.TheVariants as reply_of
+use Rattle.mv_machine.specs.declared.entry.VolumeOp.TheVariants as volume_op
+use Rattle.mv_machine.specs.declared.entry.VolumeReply.TheVariants as volume_reply
+use Rattle.mv_machine.specs.Legal.{Legal}
+use Rattle.mv_machine.specs.calls.Program.{asks}
+use Rattle.mv_machine.proofs.EntryRuns.{entry_of}
+use Rattle.mv_machine.proofs.calls.Computed.{legal_by}
+use Rattle.mv_deck.specs.declared.deck.Step.TheVariants.{Use, Count, Free}
+use Rattle.mv_deck.specs.Deck.{JobData}
+use Rattle.mv_plan.specs.SpoolRun.{Follows, IsRun}
+use Rattle.mv_plan.specs.SpoolSetup.{spool_setup}
+use Rattle.mv_plan.proofs.examples.OneInitiator.{empty_deck, empty_journal, add_deck, add_journal}
+
+-- what a program says is the event that was made
+abbrev Says : Object × Op → Object × Op → Type 0
+Says says made = Some says ≡ Some made
+
+-- two posts of one block
+same_post : (o : Object) (a b : ℕ) → Says (o, op_on.Ecb (ecb_op.Post a)) (o, op_on.Ecb (ecb_op.Post b)) → a ≡ b
+same_post o a b e =
+    let q : op_on.Ecb (ecb_op.Post a) ≡ op_on.Ecb (ecb_op.Post b) = (some_pair_parts o o _ _ e).1 in cc q
+
+-- two releases of one pause
+same_release : (o : Object) (g a b : ℕ) → Says (o, op_on.Element (element_op.Release g a)) (o, op_on.Element (element_op.Release g b))
+    → a ≡ b
+same_release o g a b e =
+    let q : op_on.Element (element_op.Release g a) ≡ op_on.Element (element_op.Release g b) = (some_pair_parts o o _ _ e).1 in cc q
+
+-- two objects
+confirm_is_no_read : (latch id v : ℕ) → Says (Latches, op_on.Latch (latch_op.Confirm latch id)) (Volume v, op_on.Volume volume_op.Read) → ⊥
+confirm_is_no_read latch id v e = let q : Latches ≡ Volume v = (some_pair_parts Latches (Volume v) _ _ e).0 in absurd (cc q)
+
+-- ---- the job ends with S0C4, and 5 is posted
+
+-- the history
+other_end : List Entry
+other_end = take 22 add_journal ++ entry_of 2 (Ecb 2) 1 (op_on.Ecb (ecb_op.Post 5)) (reply_of.Ecb (ecb_reply.Woke 1)) ∷ []
+
+-- it is legal
+other_end_is_legal : Legal (spool_setup add_deck 1) other_end
+unfolding other_end add_deck add_journal
+other_end_is_legal = legal_by (spool_setup add_deck 1) other_end refl
+
+-- and does not follow
+other_end_is_refused : Follows add_deck 1 other_end → ⊥
+unfolding other_end add_deck add_journal
+other_end_is_refused f =
+    let same : 17580032 ≡ 5 = same_post (Ecb 2) 17580032 5 (f.says 2 (omega arith)).1.1.1.1.1.1.1.1.0 in absurd (omega (arith, same))
+
+-- ---- the initiator is not closed
+
+-- the history
+unclosed : List Entry
+unclosed = take 6 empty_journal
+
+-- it is legal
+unclosed_is_legal : Legal (spool_setup empty_deck 1) unclosed
+unfolding unclosed empty_deck empty_journal
+unclosed_is_legal = legal_by (spool_setup empty_deck 1) unclosed refl
+
+-- and is no run
+unclosed_is_refused : IsRun empty_deck 1 unclosed → ⊥
+unfolding unclosed empty_deck empty_journal
+unclosed_is_refused run =
+    let e : Some (Element 2, op_on.Element (element_op.Release 0 0)) ≡ None = ap (λ p. asks p) (run.done 1 (omega arith)).1 in
+    absurd (cc e)
+
+-- ---- two jobs that count, with two initiators
+
+-- the deck
+pair_deck : List JobData
+pair_deck =
+    record { name = codes "A"; after = []; steps = Use 0 Exclusive ∷ Count 0 5 ∷ Free 0 ∷ [] }
+    ∷ record { name = codes "B"; after = []; steps = Use 0 Exclusive ∷ Count 0 7 ∷ Free 0 ∷ [] }
+    ∷ []
+
+-- up to the release of the second initiator, with this code
+released_with : ℕ → List Entry
+released_with code =
+    entry_of 0 (Ecb 0) 0 (op_on.Ecb (ecb_op.Post 0)) (reply_of.Ecb ecb_reply.Posted)
+    ∷ entry_of 0 (Ecb 1) 0 (op_on.Ecb (ecb_op.Post 0)) (reply_of.Ecb ecb_reply.Posted)
+    ∷ entry_of 2 (Element 2) 0 (op_on.Element element_op.Open) (reply_of.Element (element_reply.Opened 0))
+    ∷ entry_of 3 (Element 3) 0 (op_on.Element element_op.Open) (reply_of.Element (element_reply.Opened 0))
+    ∷ entry_of 2 (Ecb 8) 0 (op_on.Ecb (ecb_op.Post 0)) (reply_of.Ecb ecb_reply.Posted)
+    ∷ entry_of 3 (Ecb 9) 0 (op_on.Ecb (ecb_op.Post 0)) (reply_of.Ecb ecb_reply.Posted)
+    ∷ entry_of 1 (Ecb 0) 1 (op_on.Ecb ecb_op.Arm) (reply_of.Ecb (ecb_reply.Complete 0))
+    ∷ entry_of 1 (Ecb 0) 2 (op_on.Ecb ecb_op.Settle) (reply_of.Ecb (ecb_reply.Complete 0))
+    ∷ entry_of 1 (Ecb 2) 0 (op_on.Ecb (ecb_op.Extend 1)) (reply_of.Ecb ecb_reply.Armed)
+    ∷ entry_of 1 (Ecb 8) 1 (op_on.Ecb ecb_op.Arm) (reply_of.Ecb (ecb_reply.Complete 0))
+    ∷ entry_of 1 (Ecb 9) 1 (op_on.Ecb ecb_op.Arm) (reply_of.Ecb (ecb_reply.Complete 0))
+    ∷ entry_of 1 (Ecb 8) 2 (op_on.Ecb ecb_op.Settle) (reply_of.Ecb (ecb_reply.Complete 0))
+    ∷ entry_of 1 (Ecb 9) 2 (op_on.Ecb ecb_op.Settle) (reply_of.Ecb (ecb_reply.Complete 0))
+    ∷ entry_of 1 (Ecb 8) 3 (op_on.Ecb ecb_op.Clear) (reply_of.Ecb (ecb_reply.Word 1073741824))
+    ∷ entry_of 1 (Element 2) 1 (op_on.Element (element_op.Release 0 1)) (reply_of.Element element_reply.Early)
+    ∷ entry_of 1 (Ecb 1) 1 (op_on.Ecb ecb_op.Arm) (reply_of.Ecb (ecb_reply.Complete 0))
+    ∷ entry_of 1 (Ecb 1) 2 (op_on.Ecb ecb_op.Settle) (reply_of.Ecb (ecb_reply.Complete 0))
+    ∷ entry_of 1 (Ecb 3) 0 (op_on.Ecb (ecb_op.Extend 2)) (reply_of.Ecb ecb_reply.Armed)
+    ∷ entry_of 1 (Ecb 8) 4 (op_on.Ecb ecb_op.Arm) (reply_of.Ecb ecb_reply.Armed)
+    ∷ entry_of 1 (Ecb 9) 3 (op_on.Ecb ecb_op.Arm) (reply_of.Ecb (ecb_reply.Complete 0))
+    ∷ entry_of 1 (Ecb 8) 5 (op_on.Ecb ecb_op.Settle) (reply_of.Ecb ecb_reply.Open)
+    ∷ entry_of 1 (Ecb 9) 4 (op_on.Ecb ecb_op.Settle) (reply_of.Ecb (ecb_reply.Complete 0))
+    ∷ entry_of 1 (Ecb 9) 5 (op_on.Ecb ecb_op.Clear) (reply_of.Ecb (ecb_reply.Word 1073741824))
+    ∷ entry_of 1 (Element 3) 1 (op_on.Element (element_op.Release 0 code)) (reply_of.Element element_reply.Early)
+    ∷ []
+
+-- the first job is released again
+twice_is_legal : Legal (spool_setup pair_deck 2) (released_with 1)
+unfolding pair_deck released_with
+twice_is_legal = legal_by (spool_setup pair_deck 2) (released_with 1) refl
+
+-- it does not follow
+twice_is_refused : Follows pair_deck 2 (released_with 1) → ⊥
+unfolding pair_deck released_with
+twice_is_refused f =
+    let same : 2 ≡ 1 = same_release (Element 3) 0 2 1 (f.says 1 (omega arith)).1.1.1.1.1.1.1.1.1.1.1.1.1.1.1.1.1.0 in
+    absurd (omega (arith, same))
+
+-- the second job's request is queued, and it reads without a grant
+unconfirmed : List Entry
+unconfirmed =
+    released_with 2
+    ++ entry_of 2 (Element 2) 2 (op_on.Element (element_op.Pause 0)) (reply_of.Element (element_reply.Given 1 1))
+    ∷ entry_of 3 (Element 3) 2 (op_on.Element (element_op.Pause 0)) (reply_of.Element (element_reply.Given 2 1))
+    ∷ entry_of 2 Latches 0 (op_on.Latch (latch_op.Obtain 0 1 Exclusive Waiting)) (reply_of.Latch (latch_reply.Granted 0))
+    ∷ entry_of 3 Latches 1 (op_on.Latch (latch_op.Obtain 0 2 Exclusive Waiting)) (reply_of.Latch (latch_reply.Queued 1))
+    ∷ entry_of 3 (Volume 0) 0 (op_on.Volume volume_op.Read) (reply_of.Volume (volume_reply.Value 0))
+    ∷ []
+
+-- it is legal
+unconfirmed_is_legal : Legal (spool_setup pair_deck 2) unconfirmed
+unfolding pair_deck released_with unconfirmed
+unconfirmed_is_legal = legal_by (spool_setup pair_deck 2) unconfirmed refl
+
+-- and does not follow
+unconfirmed_is_refused : Follows pair_deck 2 unconfirmed → ⊥
+unfolding pair_deck released_with unconfirmed
+unconfirmed_is_refused f =
+    confirm_is_no_read 0 1 0 (f.says 3 (omega arith)).1.1.1.1.0

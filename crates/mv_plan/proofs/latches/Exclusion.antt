@@ -1,0 +1,151 @@
+-- Who touches a volume holds its latch, and who counts on it holds it alone; so no two initiators stand so at one volume.
+use Rattle.std.proofs.Common.{◌≡◌, ℕ, ◌<◌, ◌==◌, Bool, true, false, not, ◌&&◌, ◌||◌, List, [], ◌∷◌, length, Option, Some, None, inl, inr}
+use Rattle.std.proofs.Common.{refl, sym, ap, ◌∙◌, subst, arith}
+use Rattle.std.specs.List.{Contains, list_any}
+use Rattle.std.proofs.lemmas.Bool.{eqb-true, false≢true}
+use Rattle.mv_latch.specs.declared.request.Request.{Request}
+use Rattle.mv_latch.specs.Latch.{granted}
+use Rattle.mv_latch.specs.LatchSet.{list_of}
+use Rattle.mv_latch.specs.Request.{is_shared, shared_request}
+use Rattle.mv_latch.proofs.Holders.{alone}
+use Rattle.mv_latch.proofs.Members.{not_in_empty, first_or_rest}
+use Rattle.mv_machine.specs.System.{System}
+use Rattle.mv_deck.specs.Deck.{JobData}
+use Rattle.mv_plan.proofs.deck.Sound.{is_held, is_held_alone}
+use Rattle.mv_plan.specs.SpoolSetup.{initiator}
+use Rattle.mv_plan.proofs.latches.Asked.{finds, found, request_of}
+use Rattle.mv_plan.proofs.latches.HandMoves.{has_latch, works, Apart}
+use Rattle.mv_plan.proofs.latches.Hands.{grip, OwnsBy, Hands, Holds}
+use Rattle.mv_plan.proofs.points.InitiatorSound.{held_of, IsInitiatorAt}
+use Rattle.mv_plan.proofs.places.Places.{Places, Run}
+use Rattle.mv_plan.proofs.points.Points.{Point, At, Grant, Running, InitiatorAt, Obtaining, Confirming, Freeing, Reading, Writing}
+use Rattle.mv_plan.proofs.points.Points.{Scanning, Rescanning, Purging}
+use Rattle.mv_plan.proofs.walks.Walks.{Points}
+use Rattle.mv_machine.proofs.Lists.{all_at}
+use Rattle.mv_plan.proofs.points.Views.{run_of}
+
+-- the volume of a COUNT or SCAN
+abbrev pub touched : Point InitiatorAt → Option ℕ
+touched (At (Reading run hand volume amount steps)) = Some volume
+touched (At (Writing run hand volume amount number steps)) = Some volume
+touched (At (Scanning run hand volume steps)) = Some volume
+touched (At (Rescanning run hand volume number steps)) = Some volume
+touched p = None
+
+-- that of a COUNT
+abbrev pub counted_on : Point InitiatorAt → Option ℕ
+counted_on (At (Reading run hand volume amount steps)) = Some volume
+counted_on (At (Writing run hand volume amount number steps)) = Some volume
+counted_on p = None
+
+has_alone : (latch : ℕ) (gs : List Grant)
+    → list_any (is_held_alone latch) (held_of gs) ≡ list_any (λ g. (g.latch == latch) && not (is_shared g.mode)) gs
+has_alone latch [] = refl
+has_alone latch (g ∷ gs) = ap (λ b. ((g.latch == latch) && not (is_shared g.mode)) || b) (has_alone latch gs)
+
+-- a request of caller k that holds the latch, and one that is exclusive
+abbrev pub HoldsLatch : List (List Request) → ℕ → ℕ → Type 0
+HoldsLatch lists k latch = (q : Request) × Contains (granted (list_of lists latch)) q × (q.caller ≡ k)
+
+abbrev pub HoldsAlone : List (List Request) → ℕ → ℕ → Type 0
+HoldsAlone lists k latch = (q : Request) × Contains (granted (list_of lists latch)) q × (q.caller ≡ k) × (shared_request q ≡ false)
+
+held_latch : (lists : List (List Request)) (k job latch : ℕ) (gs : List Grant) → Holds lists k job gs
+    → list_any (is_held latch) (held_of gs) ≡ true → HoldsLatch lists k latch
+held_latch lists k job latch gs h e =
+    let it : (g : Grant) × Contains gs g × ((g.latch == latch) ≡ true) =
+    found (λ g. g.latch == latch) gs (sym (has_latch latch gs) ∙ e) in (
+      request_of k job it.0,
+      subst (λ l. Contains (granted (list_of lists l)) (request_of k job it.0)) (eqb-true (it.0).latch latch it.2)
+          (all_at (λ g. Contains (granted (list_of lists g.latch)) (request_of k job g)) gs it.0 h it.1),
+      refl,
+    )
+
+alone_parts : (a b : Bool) → (a && not b) ≡ true → (a ≡ true) × (b ≡ false)
+alone_parts true false e = (refl, refl)
+alone_parts true true e = absurd (false≢true e)
+alone_parts false b e = absurd (false≢true e)
+
+held_alone : (lists : List (List Request)) (k job latch : ℕ) (gs : List Grant) → Holds lists k job gs
+    → list_any (is_held_alone latch) (held_of gs) ≡ true → HoldsAlone lists k latch
+held_alone lists k job latch gs h e =
+    let it : (g : Grant) × Contains gs g × (((g.latch == latch) && not (is_shared g.mode)) ≡ true) =
+    found (λ g. (g.latch == latch) && not (is_shared g.mode)) gs (sym (has_alone latch gs) ∙ e) in
+    let parts : (((it.0).latch == latch) ≡ true) × (is_shared (it.0).mode ≡ false) =
+    alone_parts ((it.0).latch == latch) (is_shared (it.0).mode) it.2 in (
+      request_of k job it.0,
+      subst (λ l. Contains (granted (list_of lists l)) (request_of k job it.0)) (eqb-true (it.0).latch latch parts.0)
+          (all_at (λ g. Contains (granted (list_of lists g.latch)) (request_of k job g)) gs it.0 h it.1),
+      refl,
+      parts.1,
+    )
+
+-- an exclusive request that is there
+some_none : {A : Type 0} (v : A) → None ≡ Some v → ⊥
+some_none v e = absurd (cc e)
+
+pub touch_holds : (deck : List JobData) (lists : List (List Request)) (k v : ℕ) (p : Point InitiatorAt) → touched p ≡ Some v
+    → IsInitiatorAt deck p → OwnsBy lists k (grip p) → HoldsLatch lists k v
+touch_holds deck lists k v (At (Reading run hand volume amount steps)) e a w =
+    let it : HoldsAlone lists k volume = held_alone lists k run.job volume hand.holding w.holds a.sound.3 in
+    subst (HoldsLatch lists k) (let q : volume ≡ v = cc e in q) (it.0, it.1, it.2)
+touch_holds deck lists k v (At (Writing run hand volume amount number steps)) e a w =
+    let it : HoldsAlone lists k volume = held_alone lists k run.job volume hand.holding w.holds a.sound.3 in
+    subst (HoldsLatch lists k) (let q : volume ≡ v = cc e in q) (it.0, it.1, it.2)
+touch_holds deck lists k v (At (Scanning run hand volume steps)) e a w =
+    subst (HoldsLatch lists k) (let q : volume ≡ v = cc e in q) (held_latch lists k run.job volume hand.holding w.holds a.sound.1)
+touch_holds deck lists k v (At (Rescanning run hand volume number steps)) e a w =
+    subst (HoldsLatch lists k) (let q : volume ≡ v = cc e in q) (held_latch lists k run.job volume hand.holding w.holds a.sound.1)
+touch_holds deck lists k v p e a w = absurd (some_none v e)
+
+pub count_holds : (deck : List JobData) (lists : List (List Request)) (k v : ℕ) (p : Point InitiatorAt) → counted_on p ≡ Some v
+    → IsInitiatorAt deck p → OwnsBy lists k (grip p) → HoldsAlone lists k v
+count_holds deck lists k v (At (Reading run hand volume amount steps)) e a w =
+    subst (HoldsAlone lists k) (let q : volume ≡ v = cc e in q) (held_alone lists k run.job volume hand.holding w.holds a.sound.3)
+count_holds deck lists k v (At (Writing run hand volume amount number steps)) e a w =
+    subst (HoldsAlone lists k) (let q : volume ≡ v = cc e in q) (held_alone lists k run.job volume hand.holding w.holds a.sound.3)
+count_holds deck lists k v p e a w = absurd (some_none v e)
+
+one_only : {X : Type 0} (xs : List X) (a b : X) → length xs ≡ 1 → Contains xs a → Contains xs b → a ≡ b
+one_only [] a b e i j = absurd (not_in_empty a i)
+one_only (x ∷ []) a b e i j = elim (first_or_rest x [] a i) [
+  | inl p ↦ elim (first_or_rest x [] b j) [ inl q ↦ sym p ∙ q | inr l ↦ absurd (not_in_empty b l) ]
+  | inr l ↦ absurd (not_in_empty a l)
+]
+one_only (x ∷ y ∷ xs) a b e i j = absurd (omega arith)
+
+-- Where one initiator is at a COUNT of a volume, no other is at a COUNT or SCAN of it.
+pub excludes : (deck : List JobData) (initiators : ℕ) (lists : List (List Request)) (points : ℕ → Point InitiatorAt) (i m v : ℕ)
+    → i < initiators → m < initiators
+    → Hands initiators lists points → ((j : ℕ) → j < initiators → IsInitiatorAt deck (points j)) → counted_on (points i) ≡ Some v
+    → touched (points m) ≡ Some v → i ≡ m
+excludes deck initiators lists points i m v lt less w stand one two =
+    let a : HoldsAlone lists (initiator i) v = count_holds deck lists (initiator i) v (points i) one (stand i lt) (w.owns i lt) in
+    let b : HoldsLatch lists (initiator m) v = touch_holds deck lists (initiator m) v (points m) two (stand m less) (w.owns m less) in
+    let single : length (granted (list_of lists v)) ≡ 1 =
+    alone (list_of lists v) (finds (λ q. not (shared_request q)) (granted (list_of lists v)) a.0 a.1 (ap not a.3)) in
+    let same : a.0 ≡ b.0 = one_only (granted (list_of lists v)) a.0 b.0 single a.1 b.1 in
+    let callers : initiator i ≡ initiator m = sym a.2 ∙ ap (λ q. q.caller) same ∙ b.2 in
+    omega arith
+
+-- ---- jobs in one place each are run by one initiator each
+
+works_run : (p : Point InitiatorAt) (job : ℕ) → works p ≡ Some job → (run : Running) × (run_of p ≡ Some run) × (run.job ≡ job)
+works_run (At (Obtaining run hand latch mode steps)) job e = (run, refl, cc e)
+works_run (At (Confirming run hand latch mode id steps)) job e = (run, refl, cc e)
+works_run (At (Freeing run hand latch id steps)) job e = (run, refl, cc e)
+works_run (At (Reading run hand volume amount steps)) job e = (run, refl, cc e)
+works_run (At (Writing run hand volume amount number steps)) job e = (run, refl, cc e)
+works_run (At (Scanning run hand volume steps)) job e = (run, refl, cc e)
+works_run (At (Rescanning run hand volume number steps)) job e = (run, refl, cc e)
+works_run (At (Purging run hand code)) job e = (run, refl, cc e)
+works_run p job e = absurd (some_none job e)
+
+pub places_apart : (deck : List JobData) (initiators : ℕ) (s : System) (t : Points) → Places deck initiators s t
+    → Apart initiators t.initiators
+places_apart deck initiators s t w i m job lt less a b =
+    let x : (run : Running) × (run_of (t.initiators i) ≡ Some run) × (run.job ≡ job) = works_run (t.initiators i) job a in
+    let y : (run : Running) × (run_of (t.initiators m) ≡ Some run) × (run.job ≡ job) = works_run (t.initiators m) job b in
+    let p : w.place job ≡ Run i = subst (λ j. w.place j ≡ Run i) x.2 (w.running i x.0 lt x.1) in
+    let q : w.place job ≡ Run m = subst (λ j. w.place j ≡ Run m) y.2 (w.running m y.0 less y.1) in
+    let both : Run i ≡ Run m = sym p ∙ q in cc both

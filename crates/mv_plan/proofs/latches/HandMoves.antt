@@ -1,0 +1,290 @@
+-- Each move keeps the hands, where no two initiators run one job.
+use Rattle.std.proofs.Common.{◌≡◌, ℕ, zero, suc, ◌+◌, ◌<◌, ◌==◌, Bool, true, false, ◌||◌, if◌then◌else◌, List, [], ◌∷◌, length, replicate}
+use Rattle.std.proofs.Common.{Option, Some, None, ◌⊎◌, inl, inr, refl, sym, ap, ◌∙◌, subst, arith}
+use Rattle.std.specs.List.{AllByRecursion, list_any}
+use Rattle.std.proofs.lemmas.Bool.{cases_eq, false≢true}
+use Rattle.mv_ecb.specs.declared.operation.EcbReply.TheVariants as ecb_reply
+use Rattle.mv_element.specs.declared.operation.ElementReply.TheVariants as element_reply
+use Rattle.mv_latch.specs.declared.operation.LatchOp.{LatchOp}
+use Rattle.mv_latch.specs.declared.operation.LatchOp.TheVariants as latch_op
+use Rattle.mv_latch.specs.declared.operation.LatchReply.{LatchReply}
+use Rattle.mv_latch.specs.declared.operation.LatchReply.TheVariants as latch_reply
+use Rattle.mv_latch.specs.declared.request.LatchForm.TheVariants as form_of
+use Rattle.mv_latch.specs.declared.request.Request.{Request}
+use Rattle.mv_latch.specs.Latch.{grants}
+use Rattle.mv_latch.specs.LatchSet.{list_of, latch_step}
+use Rattle.mv_latch.specs.Request.{is_own}
+use Rattle.mv_machine.specs.declared.entry.Entry.{Entry}
+use Rattle.mv_machine.specs.declared.entry.Object.{Object}
+use Rattle.mv_machine.specs.declared.entry.Object.TheVariants.{Ecb, Element, Volume, Latches}
+use Rattle.mv_machine.specs.declared.entry.Op.{Op}
+use Rattle.mv_machine.specs.declared.entry.Op.TheVariants as op_on
+use Rattle.mv_machine.specs.declared.entry.Reply.{Reply}
+use Rattle.mv_machine.specs.declared.entry.Reply.TheVariants as reply_of
+use Rattle.mv_machine.specs.declared.entry.VolumeReply.TheVariants as volume_reply
+use Rattle.mv_machine.specs.Legal.{IsNext, next}
+use Rattle.mv_machine.specs.Setup.{Setup}
+use Rattle.mv_machine.specs.System.{System, moved, with_at}
+use Rattle.mv_machine.proofs.EntryRuns.{entry_of}
+use Rattle.mv_machine.proofs.Standing.{mine}
+use Rattle.mv_machine.proofs.StandingRuns.{names_of}
+use Rattle.mv_deck.specs.Deck.{JobData}
+use Rattle.mv_plan.proofs.deck.Sound.{is_held}
+use Rattle.mv_plan.specs.SpoolSetup.{initiator}
+use Rattle.mv_plan.proofs.latches.Hands.{Grip, Lost, Idle, Works, grip, OwnsBy, IsKnown, Hands, SparesJob, other_owns, obtain_owns}
+use Rattle.mv_plan.proofs.latches.Hands.{obtain_holds, confirm_owns, free_stands, free_owns, purge_owns, turns_own, steps_own, given_owns}
+use Rattle.mv_plan.proofs.latches.Hands.{counting_owns}
+use Rattle.mv_plan.proofs.points.InitiatorSound.{held_of, IsInitiatorAt}
+use Rattle.mv_plan.proofs.latches.Lists.{new_request, obtained_reply, confirm_granted, all_asked, AllAsked}
+use Rattle.mv_plan.proofs.points.PostsAndWaits.{on_posted_keeps}
+use Rattle.mv_plan.proofs.points.Points.{Point, At, Grant, InitiatorAt, Opening, Offering, Pausing, Resuming, Obtaining, Confirming}
+use Rattle.mv_plan.proofs.points.Points.{Freeing, Reading, Writing, Scanning, Rescanning, Purging, EndingJob, EndingForScheduler}
+use Rattle.mv_plan.proofs.points.Points.{EndingForWriter, Closing, initiator_asks, initiator_goes, turns_after, reader_asks}
+use Rattle.mv_plan.proofs.points.Points.{scheduler_asks, writer_asks}
+use Rattle.mv_plan.proofs.walks.Walks.{Points, Move, reads, schedules, initiates, writes}
+use Rattle.mv_plan.proofs.lists.Tables.{with_at-same, with_at-other}
+use Rattle.mv_plan.proofs.points.Asks.{IsSignal, reader_signals, scheduler_signals, writer_signals}
+
+-- ---- replies of the latch set
+
+pub latch_reply_is : (c : Setup) (s : System) (k p : ℕ) (op : LatchOp) (y : LatchReply)
+    → IsNext c s (entry_of k Latches p (op_on.Latch op) (reply_of.Latch y)) → y ≡ (latch_step k s.latches.place op s.latches.state).1
+latch_reply_is c s k p op y h = cc h.reply
+
+granted_reply : (b : Bool) (place id : ℕ) → latch_reply.Granted id ≡ (if b then latch_reply.Granted place else latch_reply.Queued place)
+    → (b ≡ true) × (place ≡ id)
+granted_reply true place id e = (refl, cc e)
+granted_reply false place id e = absurd (cc e)
+
+queued_reply : (b : Bool) (place id : ℕ) → latch_reply.Queued id ≡ (if b then latch_reply.Granted place else latch_reply.Queued place)
+    → place ≡ id
+queued_reply true place id e = absurd (cc e)
+queued_reply false place id e = cc e
+
+pub has_latch : (latch : ℕ) (gs : List Grant) → list_any (is_held latch) (held_of gs) ≡ list_any (λ g. g.latch == latch) gs
+has_latch latch [] = refl
+has_latch latch (g ∷ gs) = ap (λ b. (g.latch == latch) || b) (has_latch latch gs)
+
+-- ---- the initiator that moves
+
+module _ (c : Setup) (s : System) (deck : List JobData) (i : ℕ) where
+  abbrev after_asks : InitiatorAt → List (List Request)
+  after_asks x = (moved s (initiator i) (initiator_asks (length deck) i x).0 (initiator_asks (length deck) i x).1).latches.state
+
+  pub own_next : (x : InitiatorAt) (p : ℕ) (r : Reply)
+      → IsNext c s (entry_of (initiator i) (initiator_asks (length deck) i x).0 p (initiator_asks (length deck) i x).1 r)
+      → IsInitiatorAt deck (At x) → OwnsBy s.latches.state (initiator i) (grip (At x))
+      → OwnsBy (after_asks x) (initiator i) (grip (initiator_goes deck x r))
+  own_next Opening p (reply_of.Element (element_reply.Opened g)) h a w =
+      turns_own s.latches.state (initiator i) (length deck + 1) [] g w
+  own_next Opening p r h a w = tt
+  own_next (Offering more before g) p r h a w =
+      on_posted_keeps (λ z. OwnsBy s.latches.state (initiator i) (grip z)) (At (Pausing more before g)) r w tt
+  own_next (Pausing more before g) p (reply_of.Element (element_reply.Given code now)) h a w =
+      given_owns s.latches.state (initiator i) deck more before code now w
+  own_next (Pausing more before g) p (reply_of.Element element_reply.Parked) h a w = w
+  own_next (Pausing more before g) p r h a w = tt
+  own_next (Resuming more before g) p (reply_of.Element (element_reply.Given code now)) h a w =
+      given_owns s.latches.state (initiator i) deck more before code now w
+  own_next (Resuming more before g) p (reply_of.Element element_reply.NotYet) h a w = tt
+  own_next (Resuming more before g) p r h a w = tt
+  own_next (Obtaining run hand latch mode steps) p (reply_of.Latch (latch_reply.Granted id)) h a w =
+      let lt : latch < length s.latches.state =
+      names_of c s (initiator i) (latch_op.Obtain latch (run.job + 1) mode form_of.Waiting) h.admits in
+      let e : (grants (list_of s.latches.state latch) (new_request (initiator i) s.latches.place (run.job + 1) mode) ≡ true)
+      × (s.latches.place ≡ id) =
+      granted_reply _ s.latches.place id
+      (latch_reply_is c s (initiator i) p (latch_op.Obtain latch (run.job + 1) mode form_of.Waiting) (latch_reply.Granted id) h
+      ∙ obtained_reply (initiator i) s.latches.place latch (run.job + 1) mode s.latches.state) in
+      subst (λ n. OwnsBy (after_asks (Obtaining run hand latch mode steps)) (initiator i)
+      (grip (initiator_goes deck (Obtaining run hand latch mode steps) (reply_of.Latch (latch_reply.Granted n))))) e.1
+      (steps_own (after_asks (Obtaining run hand latch mode steps)) (initiator i) run _ steps
+      (obtain_holds (initiator i) s.latches.place run.job latch mode s.latches.state hand.holding lt e.0 w))
+  own_next (Obtaining run hand latch mode steps) p (reply_of.Latch (latch_reply.Queued id)) h a w =
+      let lt : latch < length s.latches.state =
+      names_of c s (initiator i) (latch_op.Obtain latch (run.job + 1) mode form_of.Waiting) h.admits in
+      let e : s.latches.place ≡ id =
+      queued_reply _ s.latches.place id
+      (latch_reply_is c s (initiator i) p (latch_op.Obtain latch (run.job + 1) mode form_of.Waiting) (latch_reply.Queued id) h
+      ∙ obtained_reply (initiator i) s.latches.place latch (run.job + 1) mode s.latches.state) in
+      subst (λ n. OwnsBy (after_asks (Obtaining run hand latch mode steps)) (initiator i)
+      (grip (initiator_goes deck (Obtaining run hand latch mode steps) (reply_of.Latch (latch_reply.Queued n))))) e
+      (obtain_owns (initiator i) s.latches.place run.job latch mode s.latches.state hand.holding lt w)
+  own_next (Obtaining run hand latch mode steps) p r h a w = tt
+  own_next (Confirming run hand latch mode id steps) p (reply_of.Latch (latch_reply.Granted same)) h a w =
+      steps_own s.latches.state (initiator i) run _ steps
+      (confirm_owns s.latches.state (initiator i) run.job hand.holding (record { latch = latch; mode = mode; id = id }) a.sound.1
+      (confirm_granted (initiator i) id same (list_of s.latches.state latch)
+      (sym (latch_reply_is c s (initiator i) p (latch_op.Confirm latch id) (latch_reply.Granted same) h))) w)
+  own_next (Confirming run hand latch mode id steps) p (reply_of.Latch latch_reply.Waiting) h a w = tt
+  own_next (Confirming run hand latch mode id steps) p r h a w = tt
+  own_next (Freeing run hand latch id steps) p (reply_of.Latch (latch_reply.Released count)) h a w =
+      let lt : latch < length s.latches.state = names_of c s (initiator i) (latch_op.Release latch id false) h.admits in
+      let there : list_any (is_own (initiator i) id) (list_of s.latches.state latch) ≡ true =
+      free_stands s.latches.state (initiator i) run.job latch id hand.requests hand.holding w a.0.holds.last a.1
+      (sym (has_latch latch hand.holding) ∙ a.0.sound.1) in
+      steps_own (after_asks (Freeing run hand latch id steps)) (initiator i) run _ steps
+      (free_owns (initiator i) s.latches.place run.job latch id s.latches.state hand.holding hand.requests lt there a.0.holds.last a.1 w)
+  own_next (Freeing run hand latch id steps) p r h a w = tt
+  own_next (Reading run hand volume amount steps) p (reply_of.Volume (volume_reply.Value number)) h a w =
+      counting_owns s.latches.state (initiator i) run hand volume amount steps number w
+  own_next (Reading run hand volume amount steps) p r h a w = tt
+  own_next (Writing run hand volume amount number steps) p (reply_of.Volume volume_reply.Stored) h a w =
+      steps_own s.latches.state (initiator i) run hand steps w
+  own_next (Writing run hand volume amount number steps) p r h a w = tt
+  own_next (Scanning run hand volume steps) p (reply_of.Volume (volume_reply.Value number)) h a w = w
+  own_next (Scanning run hand volume steps) p r h a w = tt
+  own_next (Rescanning run hand volume number steps) p (reply_of.Volume (volume_reply.Value again)) h a w =
+      steps_own s.latches.state (initiator i) run hand steps w
+  own_next (Rescanning run hand volume number steps) p r h a w = tt
+  own_next (Purging run hand code) p (reply_of.Latch (latch_reply.Purged removed count)) h a w =
+      purge_owns (initiator i) s.latches.place run.job s.latches.state hand.holding w
+  own_next (Purging run hand code) p r h a w = tt
+  own_next (EndingJob run code counts) p (reply_of.Ecb (ecb_reply.Woke (suc x))) h a w = w
+  own_next (EndingJob run code counts) p (reply_of.Ecb (ecb_reply.Woke zero)) h a w =
+      turns_own s.latches.state (initiator i) run.more _ run.generation w
+  own_next (EndingJob run code counts) p (reply_of.Ecb ecb_reply.Posted) h a w =
+      turns_own s.latches.state (initiator i) run.more _ run.generation w
+  own_next (EndingJob run code counts) p (reply_of.Ecb (ecb_reply.Already old)) h a w =
+      turns_own s.latches.state (initiator i) run.more _ run.generation w
+  own_next (EndingJob run code counts) p r h a w = tt
+  own_next (EndingForScheduler run code counts) p r h a w =
+      on_posted_keeps (λ z. OwnsBy s.latches.state (initiator i) (grip z)) (At (EndingForWriter run code counts)) r w tt
+  own_next (EndingForWriter run code counts) p r h a w =
+      on_posted_keeps (λ z. OwnsBy s.latches.state (initiator i) (grip z)) (turns_after run) r
+      (turns_own s.latches.state (initiator i) run.more _ run.generation w) tt
+  own_next (Closing g) p (reply_of.Element element_reply.Closed) h a w = w
+  own_next (Closing g) p r h a w = tt
+
+-- ---- the others
+
+-- it is no purge of the job at hand
+abbrev pub SparesOn : Object → Op → Grip → Type 0
+SparesOn Latches (op_on.Latch op) st = SparesJob op st
+SparesOn o op st = Unit {0}
+
+pub other_next : (c : Setup) (s : System) (k j : ℕ) (o : Object) (p : ℕ) (op : Op) (r : Reply) (st : Grip) → (k ≡ j → ⊥)
+    → IsNext c s (entry_of j o p op r) → SparesOn o op st
+    → OwnsBy s.latches.state k st → OwnsBy (moved s j o op).latches.state k st
+other_next c s k j Latches p (op_on.Latch op) r st n h sp w =
+    other_owns k j s.latches.place op s.latches.state st n (names_of c s j op h.admits) sp w
+other_next c s k j (Ecb m) p (op_on.Ecb op) r st n h sp w = w
+other_next c s k j (Element m) p (op_on.Element op) r st n h sp w = w
+other_next c s k j (Volume m) p (op_on.Volume op) r st n h sp w = w
+other_next c s k j o p op r st n h sp w = absurd (false≢true h.admits)
+
+known_next : (c : Setup) (s : System) (initiators k : ℕ) (o : Object) (p : ℕ) (op : Op) (r : Reply) → IsNext c s (entry_of k o p op r)
+    → ((i : ℕ) × (i < initiators) × (k ≡ initiator i))
+    → AllAsked (IsKnown initiators) s.latches.state → AllAsked (IsKnown initiators) (moved s k o op).latches.state
+known_next c s initiators k Latches p (op_on.Latch op) r h own w =
+    all_asked (IsKnown initiators) k s.latches.place op s.latches.state (names_of c s k op h.admits)
+    (λ q e. (own.0, own.1, e ∙ own.2)) w
+known_next c s initiators k (Ecb m) p (op_on.Ecb op) r h own w = w
+known_next c s initiators k (Element m) p (op_on.Element op) r h own w = w
+known_next c s initiators k (Volume m) p (op_on.Volume op) r h own w = w
+known_next c s initiators k o p op r h own w = absurd (false≢true h.admits)
+
+-- an event elsewhere leaves the latch set as it is
+pub latches_same : (s : System) (k : ℕ) (o : Object) (op : Op) → IsSignal o → (moved s k o op).latches ≡ s.latches
+latches_same s k (Ecb n) (op_on.Ecb op) free = refl
+latches_same s k (Element n) (op_on.Element op) free = refl
+latches_same s k (Volume n) (op_on.Volume op) free = refl
+latches_same s k Latches op free = absurd free
+latches_same s k o op free = refl
+
+-- ---- where no two initiators run one job
+
+abbrev pub job_of : Grip → Option ℕ
+job_of (Works job held more) = Some job
+job_of st = None
+
+-- the job whose requests may stand
+abbrev pub works : Point InitiatorAt → Option ℕ
+works p = job_of (grip p)
+
+abbrev pub Apart : ℕ → (ℕ → Point InitiatorAt) → Type 0
+Apart initiators points = (i m job : ℕ) → i < initiators → m < initiators → works (points i) ≡ Some job → works (points m) ≡ Some job
+    → i ≡ m
+
+spares_job : (job : ℕ) (st : Grip) → (job_of st ≡ Some job → ⊥) → SparesJob (latch_op.Purge (job + 1)) st
+spares_job job Lost n = tt
+spares_job job Idle n = tt
+spares_job job (Works other held more) n = λ q. n (ap (λ j. Some j) (same q)) where
+  same : job + 1 ≡ other + 1 → other ≡ job
+  same e = omega arith
+
+pub spares : (n i : ℕ) (x : InitiatorAt) (st : Grip) → ((job : ℕ) → works (At x) ≡ Some job → job_of st ≡ Some job → ⊥)
+    → SparesOn (initiator_asks n i x).0 (initiator_asks n i x).1 st
+spares n i (Purging run hand code) st apart = spares_job run.job st (apart run.job refl)
+spares n i x st apart = tt
+
+-- ---- one move
+
+-- what is so of the caller, the object and the operation that are said is so of the entry's
+pub at_entry : (P : ℕ → Object → Op → Type 0) (e : Entry) (k : ℕ) (o : Object) (op : Op) → e.caller ≡ k → e.object ≡ o → e.op ≡ op
+    → P k o op → P e.caller e.object e.op
+at_entry P e k o op a b d p = subst (λ x. P x e.object e.op) (sym a) (subst (λ y. P k y e.op) (sym b) (subst (λ z. P k o z) (sym d) p))
+
+-- and the other way round
+pub of_entry : (P : ℕ → Object → Op → Type 0) (e : Entry) (k : ℕ) (o : Object) (op : Op) → e.caller ≡ k → e.object ≡ o → e.op ≡ op
+    → P e.caller e.object e.op → P k o op
+of_entry P e k o op a b d p = subst (λ z. P k o z) d (subst (λ y. P k y e.op) b (subst (λ x. P x e.object e.op) a p))
+
+module _ (c : Setup) (deck : List JobData) (initiators : ℕ) where
+  hands_same : (s : System) (e : Entry) (points : ℕ → Point InitiatorAt) (o : Object) → e.object ≡ o → IsSignal o
+      → Hands initiators s.latches.state points → Hands initiators (next s e).latches.state points
+  hands_same s e points o same free w =
+      subst (λ l. Hands initiators l.state points) (sym (latches_same s e.caller e.object e.op (subst IsSignal (sym same) free))) w
+
+  pub hands_next : (s : System) (t u : Points) (e : Entry) → IsNext c s e → Move deck initiators t e u
+      → ((i : ℕ) → i < initiators → IsInitiatorAt deck (t.initiators i)) → Apart initiators t.initiators
+      → Hands initiators s.latches.state t.initiators → Hands initiators (next s e).latches.state u.initiators
+  hands_next s t u e h (reads x k at o op moved) stand apart w =
+      subst (λ v. Hands initiators (next s e).latches.state v.initiators) (sym moved)
+      (hands_same s e t.initiators (reader_asks x).0 o (reader_signals x) w)
+  hands_next s t u e h (schedules x k at o op moved) stand apart w =
+      subst (λ v. Hands initiators (next s e).latches.state v.initiators) (sym moved)
+      (hands_same s e t.initiators (scheduler_asks (length deck) x).0 o (scheduler_signals (length deck) x) w)
+  hands_next s t u e h (writes x k at o op moved) stand apart w =
+      subst (λ v. Hands initiators (next s e).latches.state v.initiators) (sym moved)
+      (hands_same s e t.initiators (writer_asks x).0 o (writer_signals x) w)
+  hands_next s t u e h (initiates i x lt k at o op moved_to) stand apart w =
+      subst (λ v. Hands initiators (next s e).latches.state v.initiators) (sym moved_to) (record {
+        owns = λ m less. each m less (cases_eq i m);
+        known = known_next c s initiators e.caller e.object e.place e.op e.reply h (i, lt, k) w.known;
+      }) where
+        there : OwnsBy (next s e).latches.state (initiator i) (grip (initiator_goes deck x e.reply))
+        there = at_entry (λ j o op. IsNext c s (entry_of j o e.place op e.reply)
+            → OwnsBy (moved s j o op).latches.state (initiator i) (grip (initiator_goes deck x e.reply)))
+            e (initiator i) (initiator_asks (length deck) i x).0 (initiator_asks (length deck) i x).1 k o op
+            (λ h. own_next c s deck i x e.place e.reply h (subst (IsInitiatorAt deck) at (stand i lt))
+            (subst (λ p. OwnsBy s.latches.state (initiator i) (grip p)) at (w.owns i lt))) h
+
+        elsewhere : (m : ℕ) → m < initiators → (i ≡ m → ⊥) → OwnsBy (next s e).latches.state (initiator m) (grip (t.initiators m))
+        elsewhere m less other = other_next c s (initiator m) e.caller e.object e.place e.op e.reply (grip (t.initiators m))
+            (λ q. other (omega arith)) h
+            (at_entry (λ j o op. SparesOn o op (grip (t.initiators m))) e (initiator i) (initiator_asks (length deck) i x).0
+            (initiator_asks (length deck) i x).1 k o op
+            (spares (length deck) i x (grip (t.initiators m)) (λ job a b. other (apart i m job lt less (ap works at ∙ a) b))))
+            (w.owns m less)
+
+        each : (m : ℕ) → m < initiators → (i ≡ m) ⊎ (i ≡ m → ⊥)
+            → OwnsBy (next s e).latches.state (initiator m) (grip (with_at t.initiators i (initiator_goes deck x e.reply) m))
+        each m less (inl same) = subst (λ m. OwnsBy (next s e).latches.state (initiator m)
+            (grip (with_at t.initiators i (initiator_goes deck x e.reply) m))) same
+            (subst (λ p. OwnsBy (next s e).latches.state (initiator i) (grip p))
+            (sym (with_at-same t.initiators i (initiator_goes deck x e.reply))) there)
+        each m less (inr other) = subst (λ p. OwnsBy (next s e).latches.state (initiator m) (grip p))
+            (sym (with_at-other t.initiators i m (initiator_goes deck x e.reply) other)) (elsewhere m less other)
+
+-- at the start
+no_list : (latches latch : ℕ) → list_of (replicate latches []) latch ≡ []
+no_list zero latch = refl
+no_list (suc latches) zero = refl
+no_list (suc latches) (suc latch) = no_list latches latch
+
+pub hands_start : (latches initiators : ℕ) → Hands initiators (replicate latches []) (λ i. At Opening)
+hands_start latches initiators = record {
+  owns = λ i lt. λ latch. subst (λ qs. mine (initiator i) qs ≡ []) (sym (no_list latches latch)) refl;
+  known = λ latch. subst (AllByRecursion (IsKnown initiators)) (sym (no_list latches latch)) tt;
+}

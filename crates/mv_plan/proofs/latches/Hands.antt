@@ -1,0 +1,342 @@
+-- The hands: at each latch an initiator's requests are exactly those of the job that it runs, and a latch that the job holds is
+-- granted to it. On lists and points alone; no machine stands here.
+use Rattle.std.proofs.Common.{◌≡◌, ℕ, zero, suc, ◌+◌, ◌<◌, ◌==◌, nat_lt, ◌^◌, Bool, true, false, not, ◌&&◌, if◌then◌else◌, List, [], ◌∷◌}
+use Rattle.std.proofs.Common.{◌++◌, length, filter, Option, Some, None, inl, inr, refl, sym, ap, ◌∙◌, subst, append-nil}
+use Rattle.std.specs.List.{AllByRecursion, Contains, list_any}
+use Rattle.std.proofs.lemmas.Bool.{eq-eqb, ne_eqb, eqb-true, cases_eq, false≢true}
+use Rattle.mv_latch.specs.declared.operation.LatchOp.{LatchOp}
+use Rattle.mv_latch.specs.declared.operation.LatchOp.TheVariants as latch_op
+use Rattle.mv_latch.specs.declared.request.LatchForm.TheVariants as form_of
+use Rattle.mv_latch.specs.declared.request.Mode.{Mode}
+use Rattle.mv_latch.specs.declared.request.Request.{Request}
+use Rattle.mv_latch.specs.Latch.{granted, grants}
+use Rattle.mv_latch.specs.LatchSet.{list_of, latch_step}
+use Rattle.mv_latch.specs.Request.{is_own, of_caller, of_requestor}
+use Rattle.mv_latch.proofs.Changes.{Changed, stays_granted, latch_changes}
+use Rattle.mv_latch.proofs.Members.{not_in_empty, first_or_rest}
+use Rattle.mv_machine.proofs.Standing.{mine, is_mine}
+use Rattle.mv_machine.proofs.StandingRuns.{NamesLatch}
+use Rattle.mv_deck.specs.Deck.{JobData}
+use Rattle.mv_deck.specs.declared.deck.Step.{Step}
+use Rattle.mv_deck.specs.declared.deck.Step.TheVariants.{Print, Use, Free, Count, Scan, Abend, Return}
+use Rattle.mv_plan.specs.Jobs.{job_at}
+use Rattle.mv_plan.specs.SpoolSetup.{initiator}
+use Rattle.mv_plan.specs.SpoolTasks.{Named, job_named}
+use Rattle.mv_plan.proofs.latches.Asked.{filter_none, in_filter, finds, found, request_of, asked, asked_push, asked_here, asked_there}
+use Rattle.mv_plan.proofs.latches.Asked.{asked_below, asked_freed, asked_kept, asked_named, asked_of, asked_all}
+use Rattle.mv_plan.proofs.points.InitiatorSound.{held_of}
+use Rattle.mv_plan.proofs.latches.Lists.{obtained_list, obtained_elsewhere, granted_new, released_list, released_elsewhere, purged_list}
+use Rattle.mv_plan.proofs.latches.Lists.{granted_in, mine_pushed, mine_without, mine_purged, Spares, mine_kept, AllAsked}
+use Rattle.mv_plan.proofs.points.Points.{Point, At, Finished, Astray, Grant, Running, Hand, empty_hand, without_latch, InitiatorAt}
+use Rattle.mv_plan.proofs.points.Points.{Obtaining, Confirming, Freeing, Reading, Writing, Scanning, Rescanning, Purging, Closing}
+use Rattle.mv_plan.proofs.points.Points.{turns_from, freeing_at, steps_at, running, job_start, named_at, given_at, counting_at}
+use Rattle.mv_plan.proofs.lists.Lists.{all_map, all_join}
+use Rattle.mv_machine.proofs.Lists.{all_front, all_back, all_append, all_filter, all_at}
+
+-- What an initiator's point says of its requests: nothing, where its program has ended too soon or gone astray; that there are
+-- none; or that its job holds these latches and asks for these as well.
+pub data Grip : Type 0 where
+  Lost : Grip
+  Idle : Grip
+  Works : (job : ℕ) (held more : List Grant) → Grip
+
+abbrev pub grip : Point InitiatorAt → Grip
+grip (At (Obtaining run hand latch mode steps)) = Works run.job hand.holding []
+grip (At (Confirming run hand latch mode id steps)) = Works run.job hand.holding (record { latch = latch; mode = mode; id = id } ∷ [])
+grip (At (Freeing run hand latch id steps)) = Works run.job hand.holding []
+grip (At (Reading run hand volume amount steps)) = Works run.job hand.holding []
+grip (At (Writing run hand volume amount number steps)) = Works run.job hand.holding []
+grip (At (Scanning run hand volume steps)) = Works run.job hand.holding []
+grip (At (Rescanning run hand volume number steps)) = Works run.job hand.holding []
+grip (At (Purging run hand code)) = Works run.job hand.holding []
+grip (At x) = Idle
+grip (Finished answer) = Idle
+grip p = Lost
+
+-- caller k's requests at each latch are those that the job asks for
+abbrev pub Listed : List (List Request) → ℕ → ℕ → List Grant → Type 0
+Listed lists k job gs = (latch : ℕ) → mine k (list_of lists latch) ≡ asked k job latch gs
+
+-- these latches are granted to it
+abbrev pub Holds : List (List Request) → ℕ → ℕ → List Grant → Type 0
+Holds lists k job held = AllByRecursion (λ g. Contains (granted (list_of lists g.latch)) (request_of k job g)) held
+
+pub record Owns (lists : List (List Request)) (k job : ℕ) (held more : List Grant) : Type 0 where
+  pub listed : Listed lists k job (held ++ more)
+  pub holds : Holds lists k job held
+
+-- no request of the caller is in any list
+abbrev pub HasNone : List (List Request) → ℕ → Type 0
+HasNone lists k = (latch : ℕ) → mine k (list_of lists latch) ≡ []
+
+abbrev pub OwnsBy : List (List Request) → ℕ → Grip → Type 0
+OwnsBy lists k Lost = Unit {0}
+OwnsBy lists k Idle = HasNone lists k
+OwnsBy lists k (Works job held more) = Owns lists k job held more
+
+-- a request of an initiator
+abbrev pub IsKnown : ℕ → Request → Type 0
+IsKnown initiators q = (i : ℕ) × (i < initiators) × (q.caller ≡ initiator i)
+
+-- The requests of each initiator in the lists are exactly those that its point says, those of the latches that its job holds
+-- are granted, and there are no others.
+pub record Hands (initiators : ℕ) (lists : List (List Request)) (points : ℕ → Point InitiatorAt) : Type 0 where
+  pub owns : (i : ℕ) → i < initiators → OwnsBy lists (initiator i) (grip (points i))
+  pub known : AllAsked (IsKnown initiators) lists
+
+-- ---- what is granted stays granted
+
+pub holds_still : (lists new : List (List Request)) (place k job : ℕ) (held more : List Grant)
+    → ((latch : ℕ) → Changed place (list_of lists latch) (list_of new latch)) → Listed new k job (held ++ more) → Holds lists k job held
+    → Holds new k job held
+holds_still lists new place k job held more changed listed holds =
+    all_join (λ g asks had. stays_granted place (list_of lists g.latch) (list_of new g.latch) (request_of k job g) (changed g.latch) had
+    (in_filter (of_caller k) (list_of new g.latch) (request_of k job g)
+    (subst (λ z. Contains z (request_of k job g)) (sym (listed g.latch)) asks)))
+    held (all_front (λ g. Contains (asked k job g.latch (held ++ more)) (request_of k job g)) held more
+    (asked_all k job (held ++ more))) holds
+
+pub owns_plain : (lists : List (List Request)) (k job : ℕ) (held : List Grant) → Listed lists k job held → Holds lists k job held
+    → Owns lists k job held []
+owns_plain lists k job held listed holds = record { listed = subst (Listed lists k job) (sym (append-nil held)) listed; holds = holds }
+
+pub listed_plain : (lists : List (List Request)) (k job : ℕ) (held : List Grant) → Owns lists k job held [] → Listed lists k job held
+listed_plain lists k job held w = subst (Listed lists k job) (append-nil held) w.listed
+
+-- ---- another initiator's event
+
+-- it is no purge of this job
+abbrev pub SparesJob : LatchOp → Grip → Type 0
+SparesJob (latch_op.Purge requestor) (Works job held more) = requestor ≡ job + 1 → ⊥
+SparesJob op st = Unit {0}
+
+spares_idle : (k : ℕ) (lists : List (List Request)) (op : LatchOp) → HasNone lists k → Spares k lists op
+spares_idle k lists (latch_op.Purge requestor) w =
+    λ latch. subst (AllByRecursion (λ q. not (of_requestor requestor q) ≡ true)) (sym (w latch)) tt
+spares_idle k lists op w = tt
+
+spares_works : (k job : ℕ) (held more : List Grant) (lists : List (List Request)) (op : LatchOp) → SparesJob op (Works job held more)
+    → Owns lists k job held more → Spares k lists op
+spares_works k job held more lists (latch_op.Purge requestor) n w = λ latch.
+    subst (AllByRecursion (λ q. not (of_requestor requestor q) ≡ true)) (sym (w.listed latch))
+    (all_map (λ q e. ap not (ne_eqb q.requestor requestor (λ same. n (sym same ∙ e.1)))) (asked k job latch (held ++ more))
+    (asked_of k job latch (held ++ more)))
+spares_works k job held more lists op n w = tt
+
+pub other_owns : (k j place : ℕ) (op : LatchOp) (lists : List (List Request)) (st : Grip) → (k ≡ j → ⊥) → NamesLatch op lists
+    → SparesJob op st → OwnsBy lists k st
+    → OwnsBy (latch_step j place op lists).0 k st
+other_owns k j place op lists Lost n lt sp w = tt
+other_owns k j place op lists Idle n lt sp w = λ latch. mine_kept k j place op lists n lt (spares_idle k lists op w) latch ∙ w latch
+other_owns k j place op lists (Works job held more) n lt sp w =
+    record {
+      listed = now;
+      holds = holds_still lists (latch_step j place op lists).0 place k job held more
+          (latch_changes j place op lists) now w.holds;
+    } where
+      now : Listed (latch_step j place op lists).0 k job (held ++ more)
+      now = λ latch. mine_kept k j place op lists n lt (spares_works k job held more lists op sp w) latch ∙ w.listed latch
+
+-- ---- the initiator's own events
+
+everywhere : (P : ℕ → Type 0) (latch : ℕ) → P latch → ((other : ℕ) → (other ≡ latch → ⊥) → P other) → (other : ℕ) → P other
+everywhere P latch here there other = elim (cases_eq other latch) [ inl e ↦ subst P (sym e) here | inr apart ↦ there other apart ]
+
+module _ (k place job latch : ℕ) (mode : Mode) (lists : List (List Request)) (held : List Grant) where
+  -- the request that is made
+  abbrev new_grant : Grant
+  new_grant = record { latch = latch; mode = mode; id = place }
+
+  abbrev after_obtain : List (List Request)
+  after_obtain = (latch_step k place (latch_op.Obtain latch (job + 1) mode form_of.Waiting) lists).0
+
+  pub obtain_listed : latch < length lists → Listed lists k job held → Listed after_obtain k job (held ++ new_grant ∷ [])
+  obtain_listed lt w = everywhere (λ x. mine k (list_of after_obtain x) ≡ asked k job x (held ++ new_grant ∷ [])) latch
+      (ap (mine k) (obtained_list k place latch (job + 1) mode lists lt)
+      ∙ mine_pushed k (request_of k job new_grant) (list_of lists latch) refl
+      ∙ ap (λ z. z ++ request_of k job new_grant ∷ []) (w latch)
+      ∙ ap (λ z. asked k job latch held ++ z) (sym (asked_here k job new_grant)) ∙ sym (asked_push k job latch held (new_grant ∷ [])))
+      (λ other n. ap (mine k) (obtained_elsewhere k place latch (job + 1) other mode lists n) ∙ w other
+      ∙ sym (append-nil (asked k job other held))
+      ∙ ap (λ z. asked k job other held ++ z) (sym (asked_there k job other new_grant (λ q. n (sym q))))
+      ∙ sym (asked_push k job other held (new_grant ∷ [])))
+
+  -- it waits
+  pub obtain_owns : latch < length lists → Owns lists k job held [] → Owns after_obtain k job held (new_grant ∷ [])
+  obtain_owns lt w = record {
+    listed = obtain_listed lt (listed_plain lists k job held w);
+    holds = holds_still lists after_obtain place k job held (new_grant ∷ [])
+        (latch_changes k place (latch_op.Obtain latch (job + 1) mode form_of.Waiting) lists)
+        (obtain_listed lt (listed_plain lists k job held w)) w.holds;
+  }
+
+  -- or is granted at once
+  pub obtain_holds : latch < length lists → grants (list_of lists latch) (request_of k job new_grant) ≡ true → Owns lists k job held []
+      → Owns after_obtain k job (held ++ new_grant ∷ []) []
+  obtain_holds lt e w =
+      let more : Owns after_obtain k job held (new_grant ∷ []) = obtain_owns lt w in
+      owns_plain after_obtain k job (held ++ new_grant ∷ []) more.listed
+      (all_append (λ g. Contains (granted (list_of after_obtain g.latch)) (request_of k job g)) held (new_grant ∷ []) more.holds (
+        subst (λ z. Contains (granted z) (request_of k job new_grant)) (sym (obtained_list k place latch (job + 1) mode lists lt))
+            (granted_new (request_of k job new_grant) (list_of lists latch) e),
+        tt,
+      ))
+
+-- a request that is confirmed is granted
+own_caller : (k id : ℕ) (q : Request) → is_own k id q ≡ true → q.caller ≡ k
+own_caller k id q e = go (q.id == id) (q.caller == k) refl e where
+  go : (b d : Bool) → (q.caller == k) ≡ d → (b && d) ≡ true → q.caller ≡ k
+  go true true f g = eqb-true q.caller k f
+  go true false f g = absurd (false≢true g)
+  go false d f g = absurd (false≢true g)
+
+-- the one request of the caller at a latch above all that it holds
+asked_last : (k job : ℕ) (held : List Grant) (g : Grant) → AllByRecursion (λ h. h.latch < g.latch) (held_of held)
+    → asked k job g.latch (held ++ g ∷ []) ≡ request_of k job g ∷ []
+asked_last k job held g b = asked_push k job g.latch held (g ∷ [])
+    ∙ ap (λ z. z ++ asked k job g.latch (g ∷ [])) (asked_below k job g.latch held b) ∙ asked_here k job g
+
+pub confirm_owns : (lists : List (List Request)) (k job : ℕ) (held : List Grant) (g : Grant)
+    → AllByRecursion (λ h. h.latch < g.latch) (held_of held)
+    → list_any (is_own k g.id) (granted (list_of lists g.latch)) ≡ true → Owns lists k job held (g ∷ [])
+    → Owns lists k job (held ++ g ∷ []) []
+confirm_owns lists k job held g below e w =
+    owns_plain lists k job (held ++ g ∷ []) w.listed
+    (all_append (λ h. Contains (granted (list_of lists h.latch)) (request_of k job h)) held (g ∷ []) w.holds (there, tt)) where
+      it : (q : Request) × Contains (granted (list_of lists g.latch)) q × (is_own k g.id q ≡ true)
+      it = found (is_own k g.id) (granted (list_of lists g.latch)) e
+
+      one : Contains (request_of k job g ∷ []) it.0
+      one = subst (λ z. Contains z it.0) (w.listed g.latch ∙ asked_last k job held g below)
+          (is_mine k it.0 (list_of lists g.latch) (eq-eqb (it.0).caller k (own_caller k g.id it.0 it.2))
+          (granted_in (list_of lists g.latch) it.0 it.1))
+
+      same : request_of k job g ≡ it.0
+      same = elim (first_or_rest (request_of k job g) [] it.0 one) [ inl q ↦ q | inr j ↦ absurd (not_in_empty it.0 j) ]
+
+      there : Contains (granted (list_of lists g.latch)) (request_of k job g)
+      there = subst (Contains (granted (list_of lists g.latch))) (sym same) it.1
+
+-- it is there
+pub confirm_stands : (lists : List (List Request)) (k job : ℕ) (held : List Grant) (g : Grant) → Owns lists k job held (g ∷ [])
+    → list_any (is_own k g.id) (list_of lists g.latch) ≡ true
+confirm_stands lists k job held g w =
+    finds (is_own k g.id) (list_of lists g.latch) (request_of k job g)
+    (in_filter (of_caller k) (list_of lists g.latch) (request_of k job g)
+    (subst (λ z. Contains z (request_of k job g)) (sym (w.listed g.latch))
+    ((all_back (λ h. Contains (asked k job h.latch (held ++ g ∷ [])) (request_of k job h)) held (g ∷ [])
+    (asked_all k job (held ++ g ∷ []))).0)))
+    (rw (eq-eqb g.id g.id refl, eq-eqb k k refl) refl)
+
+-- a latch that is held is there with the number that the job last had there
+pub free_stands : (lists : List (List Request)) (k job latch id : ℕ) (requests : ℕ → Option ℕ) (held : List Grant)
+    → Owns lists k job held [] → AllByRecursion (λ g. requests g.latch ≡ Some g.id) held → requests latch ≡ Some id
+    → list_any (λ g. g.latch == latch) held ≡ true
+    → list_any (is_own k id) (list_of lists latch) ≡ true
+free_stands lists k job latch id requests held w last e has =
+    finds (is_own k id) (list_of lists latch) (request_of k job it.0)
+    (in_filter (of_caller k) (list_of lists latch) (request_of k job it.0) there)
+    (rw (eq-eqb (it.0).id id number, eq-eqb k k refl) refl) where
+      it : (g : Grant) × Contains held g × ((g.latch == latch) ≡ true)
+      it = found (λ g. g.latch == latch) held has
+
+      at : (it.0).latch ≡ latch
+      at = eqb-true (it.0).latch latch it.2
+
+      number : (it.0).id ≡ id
+      number = some_same (sym (all_at (λ g. requests g.latch ≡ Some g.id) held it.0 last it.1) ∙ ap requests at ∙ e) where
+        some_same : Some (it.0).id ≡ Some id → (it.0).id ≡ id
+        some_same q = cc q
+
+      there : Contains (mine k (list_of lists latch)) (request_of k job it.0)
+      there = subst (λ z. Contains z (request_of k job it.0)) (sym (listed_plain lists k job held w latch))
+          (subst (λ l. Contains (asked k job l held) (request_of k job it.0)) at
+          (all_at (λ g. Contains (asked k job g.latch held) (request_of k job g)) held it.0 (asked_all k job held) it.1))
+
+module _ (k place job latch id : ℕ) (lists : List (List Request)) (held : List Grant) where
+  abbrev after_free : List (List Request)
+  after_free = (latch_step k place (latch_op.Release latch id false) lists).0
+
+  pub free_owns : (requests : ℕ → Option ℕ) → latch < length lists → list_any (is_own k id) (list_of lists latch) ≡ true
+      → AllByRecursion (λ g. requests g.latch ≡ Some g.id) held → requests latch ≡ Some id → Owns lists k job held []
+      → Owns after_free k job (without_latch latch held) []
+  free_owns requests lt there last e w = owns_plain after_free k job (without_latch latch held) now
+      (holds_still lists after_free place k job (without_latch latch held) []
+      (latch_changes k place (latch_op.Release latch id false) lists)
+      (subst (Listed after_free k job) (sym (append-nil (without_latch latch held))) now)
+      (all_filter (λ g. Contains (granted (list_of lists g.latch)) (request_of k job g))
+      (λ g. not (g.latch == latch)) held w.holds)) where
+        was : Listed lists k job held
+        was = listed_plain lists k job held w
+
+        now : Listed after_free k job (without_latch latch held)
+        now = everywhere (λ x. mine k (list_of after_free x) ≡ asked k job x (without_latch latch held)) latch
+            (ap (mine k) (released_list k place latch id lists lt there) ∙ mine_without k id (list_of lists latch)
+            ∙ ap (λ z. filter (λ q. not (is_own k id q)) z) (was latch)
+            ∙ filter_none (λ q. not (is_own k id q)) (asked k job latch held) (asked_named k job latch id requests held last e)
+            ∙ sym (asked_freed k job latch held))
+            (λ other n. ap (mine k) (released_elsewhere k place latch id other lists n) ∙ was other
+            ∙ sym (asked_kept k job latch other held n))
+
+-- a purge takes out all of the job's
+pub purge_owns : (k place job : ℕ) (lists : List (List Request)) (held : List Grant) → Owns lists k job held []
+    → HasNone (latch_step k place (latch_op.Purge (job + 1)) lists).0 k
+purge_owns k place job lists held w = λ latch.
+    ap (mine k) (purged_list (job + 1) lists latch) ∙ mine_purged k (job + 1) (list_of lists latch)
+    ∙ ap (λ z. filter (λ q. not (of_requestor (job + 1) q)) z) (listed_plain lists k job held w latch)
+    ∙ filter_none (λ q. not (of_requestor (job + 1) q)) (asked k job latch held)
+    (all_map (λ q e. ap not (eq-eqb q.requestor (job + 1) e.1)) (asked k job latch held) (asked_of k job latch held))
+
+-- ---- the initiator's next point
+
+module _ (lists : List (List Request)) (k : ℕ) where
+  abbrev OwnsAt : Point InitiatorAt → Type 0
+  OwnsAt p = OwnsBy lists k (grip p)
+
+  pub turns_own : (m : ℕ) (before : List ℕ) (g : ℕ) → HasNone lists k → OwnsAt (turns_from m before g)
+  turns_own zero before g w = tt
+  turns_own (suc m) before g w = w
+
+  pub steps_own : (run : Running) (hand : Hand) (steps : List Step) → Owns lists k run.job hand.holding []
+      → OwnsAt (steps_at run hand steps)
+  steps_own run hand [] w = w
+  steps_own run hand (Print text ∷ steps) w = steps_own run hand steps w
+  steps_own run hand (Use latch mode ∷ steps) w = w
+  steps_own run hand (Free latch ∷ steps) w = go (hand.requests latch) where
+    go : (slot : Option ℕ) → OwnsAt (freeing_at run hand latch slot steps)
+    go None = tt
+    go (Some id) = w
+  steps_own run hand (Count volume amount ∷ steps) w = w
+  steps_own run hand (Scan volume ∷ steps) w = w
+  steps_own run hand (Abend code ∷ steps) w = w
+  steps_own run hand (Return code ∷ steps) w = w
+
+  -- a job starts with no latch
+  pub start_owns : (run : Running) (job : JobData) (skipped : Bool) → HasNone lists k → OwnsAt (job_start skipped run job)
+  start_owns run job true w = record { listed = w; holds = tt }
+  start_owns run job false w = steps_own run empty_hand job.steps (record { listed = w; holds = tt })
+
+  pub named_owns : (deck : List JobData) (slot : Option Named) (before : List ℕ) (more g : ℕ) → HasNone lists k
+      → OwnsAt (named_at deck slot before more g)
+  named_owns deck None before more g w = tt
+  named_owns deck (Some named) before zero g w = tt
+  named_owns deck (Some named) before (suc more) g w =
+      elim (list_any (λ j. j == named.job) before) as
+      (λ b. OwnsAt (if b then Astray else job_start named.skipped (running named before (suc more) g) (job_at deck named.job))) [
+        | true ↦ tt
+        | false ↦ start_owns (running named before (suc more) g) (job_at deck named.job) named.skipped w
+      ]
+
+  pub given_owns : (deck : List JobData) (more : ℕ) (before : List ℕ) (code g : ℕ) → HasNone lists k
+      → OwnsAt (given_at deck more before code g)
+  given_owns deck more before code g w =
+      elim (code == 0) as (λ b. OwnsAt (if b then At (Closing g) else named_at deck (job_named (length deck) code) before more g)) [
+        | true ↦ w
+        | false ↦ named_owns deck (job_named (length deck) code) before more g w
+      ]
+
+  pub counting_owns : (run : Running) (hand : Hand) (volume amount : ℕ) (steps : List Step) (number : ℕ)
+      → Owns lists k run.job hand.holding [] → OwnsAt (counting_at run hand volume amount steps number)
+  counting_owns run hand volume amount steps number w =
+      elim (nat_lt (number + amount) (2 ^ 32)) as
+      (λ b. OwnsAt (if b then At (Writing run hand volume amount number steps) else Astray)) [ true ↦ w | false ↦ tt ]

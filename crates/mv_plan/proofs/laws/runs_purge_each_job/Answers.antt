@@ -1,0 +1,7 @@
+-- The law is the lemma.
+use Rattle.mv_plan.proofs.deck.Planned.{planned}
+use Rattle.mv_plan.proofs.results.Exclusive.{are_purged_once}
+use Rattle.mv_plan.proofs.laws.runs_purge_each_job.Goals as goal
+
+pub returns : goal.returns
+returns c = λ deck initiators es some sound run. are_purged_once deck initiators some (planned deck initiators sound) es run

@@ -1,0 +1,6 @@
+-- The law is the lemma.
+use Rattle.mv_plan.proofs.deck.Valid.{spool_setup_is_valid}
+use Rattle.mv_plan.proofs.laws.spool_setups_are_valid.Goals as goal
+
+pub returns : goal.returns
+returns c = λ deck initiators some few sound. spool_setup_is_valid deck initiators some few sound.light

@@ -1,0 +1,3 @@
+-- Lists, and tables of cells.
+pub mod Lists
+pub mod Tables

@@ -1,0 +1,239 @@
+-- What an initiator's event does to what it runs and has run, and to the code in its element. Used by the ledger.
+use Rattle.std.proofs.Common.{◌≡◌, ℕ, zero, suc, ◌+◌, ◌<◌, ◌==◌, Bool, true, false, if◌then◌else◌, List, [], ◌∷◌, ◌++◌, length, Option}
+use Rattle.std.proofs.Common.{Some, None, inl, inr, refl, sym, ap, ◌∙◌, subst}
+use Rattle.std.specs.List.{list_any}
+use Rattle.std.proofs.lemmas.Bool.{eq-eqb, eqb-true}
+use Rattle.mv_ecb.specs.declared.operation.EcbOp.TheVariants as ecb_op
+use Rattle.mv_ecb.specs.Table.{ecb_step}
+use Rattle.mv_element.specs.declared.operation.ElementOp.TheVariants as element_op
+use Rattle.mv_element.specs.declared.element.ElementState.{ElementState}
+use Rattle.mv_element.specs.Table.{element_step}
+use Rattle.mv_machine.specs.declared.entry.Object.{Object}
+use Rattle.mv_machine.specs.declared.entry.Object.TheVariants.{Ecb, Element, Volume, Latches}
+use Rattle.mv_machine.specs.declared.entry.Op.{Op}
+use Rattle.mv_machine.specs.declared.entry.Op.TheVariants as op_on
+use Rattle.mv_machine.specs.declared.entry.Reply.{Reply}
+use Rattle.mv_machine.specs.declared.entry.Reply.TheVariants as reply_of
+use Rattle.mv_latch.specs.LatchSet.{latch_step}
+use Rattle.mv_machine.specs.System.{System, moved, reply_to, with_at, turned, volume_step}
+use Rattle.mv_plan.specs.HandingOut.{gift_code}
+use Rattle.mv_deck.specs.Deck.{JobData}
+use Rattle.mv_plan.specs.Jobs.{job_at}
+use Rattle.mv_plan.specs.SpoolSetup.{initiator, idle}
+use Rattle.mv_plan.specs.SpoolTasks.{Named, job_named, code_of}
+use Rattle.mv_plan.proofs.standing.Row.{Starts, Works, Offers, Parks, offered, taken, handed, Row, RowAt, element_of}
+use Rattle.mv_plan.proofs.points.InitiatorSound.{IsInitiatorAt, named_is}
+use Rattle.mv_plan.proofs.points.PostsAndWaits.{on_posted_keeps}
+use Rattle.mv_plan.proofs.points.Points.{Point, At, Finished, TooSoon, Astray, SchedulerAt, Running, InitiatorAt, Opening, Offering}
+use Rattle.mv_plan.proofs.points.Points.{Pausing, Resuming, Obtaining, Confirming, Freeing, Reading, Writing, Scanning, Rescanning}
+use Rattle.mv_plan.proofs.points.Points.{Purging, EndingJob, EndingForScheduler, EndingForWriter, Closing, initiator_asks, initiator_goes}
+use Rattle.mv_plan.proofs.points.Points.{turns_from, turns_after, given_at, named_at, job_start, running, on_posted, on_opened, on_paused}
+use Rattle.mv_plan.proofs.points.Points.{on_resumed, on_closed}
+use Rattle.mv_plan.proofs.points.RunningJob.{RunsOn, start_run, GoesOn, same, done, lost, run_goes, run_asks, run_sound}
+use Rattle.mv_plan.proofs.walks.NoneLost.{SameTalk, same_talk}
+use Rattle.mv_plan.proofs.lists.Tables.{with_at-same}
+use Rattle.mv_plan.proofs.points.Views.{code_held, run_of, named_before, IsNotLost}
+use Rattle.mv_plan.proofs.points.Asks.{Elsewhere}
+
+-- From one point to another, with the code in the element before and after it.
+pub data Deed (n : ℕ) (p q : Point InitiatorAt) (h h' : Option ℕ) (r : Reply) : Type 0 where
+  went_on : run_of q ≡ run_of p → named_before q ≡ named_before p → h' ≡ h → gift_code r ≡ None → Deed n p q h h' r
+  -- it was given the code of a job
+  started : (run : Running) → run.job < n → h ≡ Some (code_of run.job run.skipped) → h' ≡ None → run_of p ≡ None → run_of q ≡ Some run
+      → named_before q ≡ named_before p
+      → gift_code r ≡ Some (code_of run.job run.skipped) → Deed n p q h h' r
+  -- it was given code 0
+  left : h ≡ Some 0 → h' ≡ None → run_of p ≡ None → run_of q ≡ None → named_before q ≡ [] → gift_code r ≡ Some 0 → Deed n p q h h' r
+  -- it is done with a job
+  stopped : (run : Running) → run_of p ≡ Some run → run_of q ≡ None → named_before p ≡ run.before
+      → named_before q ≡ run.before ++ run.job ∷ [] → h' ≡ h → gift_code r ≡ None → Deed n p q h h' r
+
+pub before_run : (p : Point InitiatorAt) (run : Running) → run_of p ≡ Some run → named_before p ≡ run.before
+before_run (At Opening) run e = absurd (cc e)
+before_run (At (Offering more before g)) run e = absurd (cc e)
+before_run (At (Pausing more before g)) run e = absurd (cc e)
+before_run (At (Resuming more before g)) run e = absurd (cc e)
+before_run (At (Obtaining run' hand latch mode steps)) run e = ap (λ z. z.before) (let q : run' ≡ run = cc e in q)
+before_run (At (Confirming run' hand latch mode id steps)) run e = ap (λ z. z.before) (let q : run' ≡ run = cc e in q)
+before_run (At (Freeing run' hand latch id steps)) run e = ap (λ z. z.before) (let q : run' ≡ run = cc e in q)
+before_run (At (Reading run' hand volume amount steps)) run e = ap (λ z. z.before) (let q : run' ≡ run = cc e in q)
+before_run (At (Writing run' hand volume amount number steps)) run e = ap (λ z. z.before) (let q : run' ≡ run = cc e in q)
+before_run (At (Scanning run' hand volume steps)) run e = ap (λ z. z.before) (let q : run' ≡ run = cc e in q)
+before_run (At (Rescanning run' hand volume number steps)) run e = ap (λ z. z.before) (let q : run' ≡ run = cc e in q)
+before_run (At (Purging run' hand code)) run e = ap (λ z. z.before) (let q : run' ≡ run = cc e in q)
+before_run (At (EndingJob run' code counts)) run e = ap (λ z. z.before) (let q : run' ≡ run = cc e in q)
+before_run (At (EndingForScheduler run' code counts)) run e = ap (λ z. z.before) (let q : run' ≡ run = cc e in q)
+before_run (At (EndingForWriter run' code counts)) run e = ap (λ z. z.before) (let q : run' ≡ run = cc e in q)
+before_run (At (Closing g)) run e = absurd (cc e)
+before_run (Finished answer) run e = absurd (cc e)
+before_run TooSoon run e = absurd (cc e)
+before_run Astray run e = absurd (cc e)
+
+-- no element answers elsewhere
+pub elsewhere_gave : (n : ℕ) (s : System) (k : ℕ) (o : Object) (op : Op) (r : Reply) → Elsewhere n o → Some r ≡ reply_to s k o op
+    → gift_code r ≡ None
+elsewhere_gave n s k (Ecb b) (op_on.Ecb op) r low e = let q : r ≡ reply_of.Ecb (ecb_step op (s.ecb b).state).1 = cc e in
+    ap (λ z. gift_code z) q
+elsewhere_gave n s k (Element m) op r low e = absurd low
+elsewhere_gave n s k (Volume v) (op_on.Volume op) r low e = let q : r ≡ reply_of.Volume (volume_step op (s.volume v).state).1 = cc e in
+    ap (λ z. gift_code z) q
+elsewhere_gave n s k Latches (op_on.Latch op) r low e = let q : r ≡ reply_of.Latch (latch_step k s.latches.place op s.latches.state).1 =
+    cc e in ap (λ z. gift_code z) q
+elsewhere_gave n s k o op r low e = absurd (cc e)
+
+turns_found : (m : ℕ) (before : List ℕ) (g : ℕ) → IsNotLost (turns_from m before g)
+    → (run_of (turns_from m before g) ≡ None) × (named_before (turns_from m before g) ≡ before)
+turns_found zero before g f = absurd f
+turns_found (suc m) before g f = (refl, refl)
+
+-- the point after a gift, where it is not lost
+pub data Given (deck : List JobData) (before : List ℕ) (code : ℕ) (q : Point InitiatorAt) : Type 0 where
+  closes : (g : ℕ) → code ≡ 0 → q ≡ At (Closing g) → Given deck before code q
+  runs : (run : Running) → run.job < length deck → code ≡ code_of run.job run.skipped → run_of q ≡ Some run → run.before ≡ before
+      → Given deck before code q
+
+start_given : (deck : List JobData) (before : List ℕ) (code more g : ℕ) (named : Named) → named.job < length deck
+    → code ≡ code_of named.job named.skipped → (q : Point InitiatorAt) → RunsOn (running named before more g) q → IsNotLost q
+    → Given deck before code q
+start_given deck before code more g named lt e q (inl w) f = runs (running named before more g) lt e w refl
+start_given deck before code more g named lt e q (inr w) f = absurd (w f)
+
+named_given : (deck : List JobData) (code more : ℕ) (before : List ℕ) (g : ℕ) (slot : Option Named) → job_named (length deck) code ≡ slot
+    → IsNotLost (named_at deck slot before more g) → Given deck before code (named_at deck slot before more g)
+named_given deck code more before g None e f = absurd f
+named_given deck code zero before g (Some named) e f = absurd f
+named_given deck code (suc more) before g (Some named) e f = go (list_any (λ j. j == named.job) before) f where
+  is : (named.job < length deck) × (code ≡ code_of named.job named.skipped)
+  is = named_is (length deck) code named e
+
+  go : (b : Bool) → IsNotLost (if b then Astray else job_start named.skipped (running named before (suc more) g)
+      (job_at deck named.job))
+      → Given deck before code (if b then Astray else job_start named.skipped (running named before (suc more) g)
+      (job_at deck named.job))
+  go true f = absurd f
+  go false f = start_given deck before code (suc more) g named is.0 is.1 _
+      (start_run named.skipped (running named before (suc more) g) (job_at deck named.job)) f
+
+pub given_is : (deck : List JobData) (more : ℕ) (before : List ℕ) (code g : ℕ) → IsNotLost (given_at deck more before code g)
+    → Given deck before code (given_at deck more before code g)
+given_is deck more before code g f = go (code == 0) refl f where
+  go : (b : Bool) → (code == 0) ≡ b
+      → IsNotLost (if b then At (Closing g) else named_at deck (job_named (length deck) code) before more g)
+      → Given deck before code (if b then At (Closing g) else named_at deck (job_named (length deck) code) before more g)
+  go true e f = closes g (eqb-true code 0 e) refl
+  go false e f = named_given deck code more before g (job_named (length deck) code) refl f
+
+-- a gift's deed
+gift_did : (deck : List JobData) (p q : Point InitiatorAt) (before : List ℕ) (code : ℕ) (h h' : Option ℕ) (r : Reply)
+    → Given deck before code q → run_of p ≡ None → named_before p ≡ before → h ≡ Some code → h' ≡ None → gift_code r ≡ Some code
+    → Deed (length deck) p q h h' r
+gift_did deck p q before code h h' r (closes g z at) none had was now given =
+    left (was ∙ ap (λ y. Some y) z) now none (ap (λ y. run_of y) at) (ap (λ y. named_before y) at) (given ∙ ap (λ y. Some y) z)
+gift_did deck p q before code h h' r (runs run lt is at of) none had was now given =
+    started run lt (was ∙ ap (λ y. Some y) is) now none at (before_run q run at ∙ of ∙ sym had) (given ∙ ap (λ y. Some y) is)
+
+same_number : (g : ℕ) → (g == g) ≡ true
+same_number g = eq-eqb g g refl
+
+module _ (deck : List JobData) (o h : Option ℕ) where
+  opened_did : (y : ElementState) (r : Reply) → r ≡ reply_of.Element (element_step element_op.Open y).1 → Row Starts o h y
+      → IsNotLost (on_opened r (length deck))
+      → Deed (length deck) (At Opening) (on_opened r (length deck)) (code_held y) (code_held (element_step element_op.Open y).0) r
+  opened_did y r e w = rw (e, w.2)
+      (λ f. let t : (run_of (turns_from (length deck + 1) [] 0) ≡ None)
+      × (named_before (turns_from (length deck + 1) [] 0) ≡ []) = turns_found (length deck + 1) [] 0 f in went_on t.0 t.1 refl refl)
+
+  paused_did : (more : ℕ) (before : List ℕ) (g : ℕ) (y : ElementState) (r : Reply)
+      → r ≡ reply_of.Element (element_step (element_op.Pause g) y).1 → Row (Offers g) o h y → IsNotLost (on_paused deck more before g r)
+      → Deed (length deck) (At (Pausing more before g)) (on_paused deck more before g r) (code_held y)
+      (code_held (element_step (element_op.Pause g) y).0) r
+  paused_did more before g y r e (offered a b q) = rw (e, q, same_number g) (λ f. went_on refl refl refl refl)
+  paused_did more before g y r e (taken a b q) = rw (e, q, same_number g) (λ f. went_on refl refl refl refl)
+  paused_did more before g y r e (handed code a b q) =
+      rw (e, q, same_number g) (λ f. gift_did deck _ _ before code _ _ _
+      (given_is deck more before code (g + 1) f) refl refl refl refl refl)
+
+  resumed_did : (more : ℕ) (before : List ℕ) (g : ℕ) (y : ElementState) (r : Reply)
+      → r ≡ reply_of.Element (element_step (element_op.Resume g) y).1 → Row (Parks g) o h y → IsNotLost (on_resumed deck more before r)
+      → Deed (length deck) (At (Resuming more before g)) (on_resumed deck more before r) (code_held y)
+      (code_held (element_step (element_op.Resume g) y).0) r
+  resumed_did more before g y r e (offered a b q) = rw (e, q, same_number g) (λ f. absurd f)
+  resumed_did more before g y r e (taken a b q) = rw (e, q, same_number g) (λ f. absurd f)
+  resumed_did more before g y r e (handed code a b q) =
+      rw (e, q, same_number g) (λ f. gift_did deck _ _ before code _ _ _
+      (given_is deck more before code (g + 1) f) refl refl refl refl refl)
+
+  closed_did : (g : ℕ) (y : ElementState) (r : Reply) → r ≡ reply_of.Element (element_step (element_op.Close g) y).1
+      → Row (Works g) o h y → IsNotLost (on_closed r)
+      → Deed (length deck) (At (Closing g)) (on_closed r) (code_held y) (code_held (element_step (element_op.Close g) y).0) r
+  closed_did g y r e w = rw (e, w.2, same_number g) (λ f. went_on refl refl refl refl)
+
+run_did : (n : ℕ) (p q : Point InitiatorAt) (h h' : Option ℕ) (r : Reply) (run : Running) → run_of p ≡ Some run → GoesOn run q
+    → IsNotLost q → h' ≡ h → gift_code r ≡ None → Deed n p q h h' r
+run_did n p q h h' r run e (same w) f k g = went_on (w ∙ sym e) (before_run q run w ∙ sym (before_run p run e)) k g
+run_did n p q h h' r run e (done w) f k g =
+    let t : (run_of (turns_after run) ≡ None) × (named_before (turns_after run) ≡ run.before ++ run.job ∷ []) =
+    turns_found run.more (run.before ++ run.job ∷ []) run.generation (subst (λ z. IsNotLost z) w f) in
+    stopped run e (ap (λ z. run_of z) w ∙ t.0) (before_run p run e) (ap (λ z. named_before z) w ∙ t.1) k g
+run_did n p q h h' r run e (lost w) f k g = absurd (w f)
+
+did_at : (n : ℕ) (p q : Point InitiatorAt) (h h' h'' : Option ℕ) (r : Reply) → h'' ≡ h' → Deed n p q h h' r → Deed n p q h h'' r
+did_at n p q h h' h'' r e d = rw e d
+
+module _ (deck : List JobData) (s : System) (q : Point SchedulerAt) (i : ℕ) where
+  abbrev n : ℕ
+  n = length deck
+
+  abbrev then_s : InitiatorAt → System
+  then_s x = moved s (initiator i) (initiator_asks n i x).0 (initiator_asks n i x).1
+
+  abbrev DidAt : InitiatorAt → Reply → Type 0
+  DidAt x r = Deed n (At x) (initiator_goes deck x r) (code_held (element_of s i)) (code_held (element_of (then_s x) i)) r
+
+  on_element : (p q : Point InitiatorAt) (r : Reply) (y : ElementState) → Deed n p q (code_held (element_of s i)) (code_held y) r
+      → Deed n p q (code_held (element_of s i))
+      (code_held (with_at s.element (initiator i) (turned (s.element (initiator i)) y) (initiator i)).state) r
+  on_element p q r y d = did_at n p q _ _ _ r
+      (ap (λ z. code_held z.state) (with_at-same s.element (initiator i) (turned (s.element (initiator i)) y))) d
+
+  runs_did : (x : InitiatorAt) (r : Reply) (run : Running) → run_of (At x) ≡ Some run → IsInitiatorAt deck (At x)
+      → Some r ≡ reply_to s (initiator i) (initiator_asks n i x).0 (initiator_asks n i x).1 → IsNotLost (initiator_goes deck x r)
+      → DidAt x r
+  runs_did x r run e sound a f =
+      let low : Elsewhere n (initiator_asks n i x).0 = run_asks n i x run e (run_sound deck x run e sound).job in
+      let still : SameTalk n s (then_s x) = same_talk n s (initiator i) (initiator_asks n i x).0 (initiator_asks n i x).1 low in
+      run_did n (At x) (initiator_goes deck x r) _ _ r run e (run_goes deck x r run e) f
+      (ap (λ z. code_held z.state) (still.elements (initiator i)))
+      (elsewhere_gave n s (initiator i) (initiator_asks n i x).0 (initiator_asks n i x).1 r low a)
+
+  pub initiator_did : (x : InitiatorAt) (r : Reply) → IsInitiatorAt deck (At x)
+      → Some r ≡ reply_to s (initiator i) (initiator_asks n i x).0 (initiator_asks n i x).1 → RowAt n s q i (At x)
+      → IsNotLost (initiator_goes deck x r) → DidAt x r
+  initiator_did Opening r sound a w f = on_element _ _ r _ (opened_did deck _ _ (element_of s i) r (cc a) w f)
+  initiator_did (Offering more before g) r sound a w f =
+      let to : on_posted (At (Pausing more before g)) r ≡ At (Pausing more before g) =
+      on_posted_keeps (λ z. IsNotLost z → z ≡ At (Pausing more before g)) (At (Pausing more before g)) r (λ g. refl)
+      (λ g. absurd g) f in
+      let is : r ≡ reply_of.Ecb (ecb_step (ecb_op.Post g) (s.ecb (idle n i)).state).1 = cc a in
+      went_on (ap (λ z. run_of z) to) (ap (λ z. named_before z) to) refl (ap (λ z. gift_code z) is)
+  initiator_did (Pausing more before g) r sound a w f =
+      on_element _ _ r _ (paused_did deck _ _ more before g (element_of s i) r (cc a) w f)
+  initiator_did (Resuming more before g) r sound a w f =
+      on_element _ _ r _ (resumed_did deck _ _ more before g (element_of s i) r (cc a) w f)
+  initiator_did (Obtaining run hand latch mode steps) r sound a w f =
+      runs_did (Obtaining run hand latch mode steps) r run refl sound a f
+  initiator_did (Confirming run hand latch mode id steps) r sound a w f =
+      runs_did (Confirming run hand latch mode id steps) r run refl sound a f
+  initiator_did (Freeing run hand latch id steps) r sound a w f = runs_did (Freeing run hand latch id steps) r run refl sound a f
+  initiator_did (Reading run hand volume amount steps) r sound a w f =
+      runs_did (Reading run hand volume amount steps) r run refl sound a f
+  initiator_did (Writing run hand volume amount number steps) r sound a w f =
+      runs_did (Writing run hand volume amount number steps) r run refl sound a f
+  initiator_did (Scanning run hand volume steps) r sound a w f = runs_did (Scanning run hand volume steps) r run refl sound a f
+  initiator_did (Rescanning run hand volume number steps) r sound a w f =
+      runs_did (Rescanning run hand volume number steps) r run refl sound a f
+  initiator_did (Purging run hand code) r sound a w f = runs_did (Purging run hand code) r run refl sound a f
+  initiator_did (EndingJob run code counts) r sound a w f = runs_did (EndingJob run code counts) r run refl sound a f
+  initiator_did (EndingForScheduler run code counts) r sound a w f = runs_did (EndingForScheduler run code counts) r run refl sound a f
+  initiator_did (EndingForWriter run code counts) r sound a w f = runs_did (EndingForWriter run code counts) r run refl sound a f
+  initiator_did (Closing g) r sound a w f = on_element _ _ r _ (closed_did deck _ _ g (element_of s i) r (cc a) w f)

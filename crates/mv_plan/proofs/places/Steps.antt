@@ -1,0 +1,271 @@
+-- How the places of jobs go on, by tables alone: the codes in elements, what initiators run and have run, and the job that is
+-- next. No machine stands here. Used by the ledger.
+use Rattle.std.proofs.Common.{◌≡◌, ℕ, ◌+◌, ◌<◌, ◌≤◌, Bool, List, [], ◌∷◌, ◌++◌, Option, Some, None, ◌⊎◌, inl, inr, refl, sym, ap, ◌∙◌}
+use Rattle.std.proofs.Common.{subst, arith}
+use Rattle.std.specs.List.{AllByRecursion}
+use Rattle.std.proofs.lemmas.Option.{same_Some}
+use Rattle.std.proofs.lemmas.Bool.{cases_eq, cases_lt}
+use Rattle.mv_machine.specs.System.{with_at}
+use Rattle.mv_plan.specs.SpoolTasks.{code_of, not_to_run}
+use Rattle.mv_plan.proofs.deck.Codes.{code_parts, never_zero}
+use Rattle.mv_plan.proofs.places.Places.{Place, Coming, Handed, Run, Over}
+use Rattle.mv_plan.proofs.points.Points.{Running}
+use Rattle.mv_machine.proofs.Lists.{all_push}
+use Rattle.mv_plan.proofs.lists.Tables.{with_at-same, with_at-other}
+
+-- the fields of Places, by tables
+pub record Placed (n initiators next : ℕ) (held : ℕ → Option ℕ) (run_at : ℕ → Option Running) (befores : ℕ → List ℕ)
+    (place : ℕ → Place) : Type 0 where
+  pub coming : (j : ℕ) → next ≤ j → place j ≡ Coming
+  pub comes : (j : ℕ) → place j ≡ Coming → next ≤ j
+  pub handed : (i j : ℕ) (skipped : Bool) → i < initiators → j < n → held i ≡ Some (code_of j skipped) → place j ≡ Handed i
+  pub hands : (i j : ℕ) → place j ≡ Handed i → (i < initiators) × (skipped : Bool) × (held i ≡ Some (code_of j skipped))
+  pub running : (i : ℕ) (run : Running) → i < initiators → run_at i ≡ Some run → place run.job ≡ Run i
+  pub runs : (i j : ℕ) → place j ≡ Run i → (i < initiators) × (run : Running) × (run_at i ≡ Some run) × (run.job ≡ j)
+  pub over : (i : ℕ) → i < initiators → AllByRecursion (λ j. place j ≡ Over) (befores i)
+
+coming_handed : (i : ℕ) (p : Place) → p ≡ Coming → p ≡ Handed i → ⊥
+coming_handed i p a b = cc (a, b)
+
+handed_one : (i m : ℕ) (p : Place) → p ≡ Handed i → p ≡ Handed m → i ≡ m
+handed_one i m p a b = cc (a, b)
+
+run_one : (i m : ℕ) (p : Place) → p ≡ Run i → p ≡ Run m → i ≡ m
+run_one i m p a b = cc (a, b)
+
+none_some : {A : Type 0} (o : Option A) (a : A) → o ≡ None → o ≡ Some a → ⊥
+none_some o a x y = cc (x, y)
+
+all_more : (P Q : ℕ → Type 0) → ((j : ℕ) → P j → Q j) → (js : List ℕ) → AllByRecursion P js → AllByRecursion Q js
+all_more P Q f [] w = tt
+all_more P Q f (j ∷ js) w = (f j w.0, all_more P Q f js w.1)
+
+module _ (n initiators : ℕ) (few : n ≤ not_to_run) where
+  -- nothing changes
+  pub placed_same : (next next' : ℕ) (held held' : ℕ → Option ℕ) (run_at run_at' : ℕ → Option Running) (befores befores' : ℕ → List ℕ)
+      (place : ℕ → Place)
+      → next' ≡ next → ((i : ℕ) → i < initiators → held' i ≡ held i) → ((i : ℕ) → i < initiators → run_at' i ≡ run_at i)
+      → ((i : ℕ) → i < initiators → befores' i ≡ befores i)
+      → Placed n initiators next held run_at befores place → Placed n initiators next' held' run_at' befores' place
+  placed_same next next' held held' run_at run_at' befores befores' place a b d e w = record {
+    coming = λ j le. w.coming j (omega arith);
+    comes = λ j z. let le : next ≤ j = w.comes j z in omega arith;
+    handed = λ i j skipped lt less q. w.handed i j skipped lt less (sym (b i lt) ∙ q);
+    hands = λ i j z. let h : (i < initiators) × (skipped : Bool) × (held i ≡ Some (code_of j skipped)) = w.hands i j z in
+        (h.0, h.1, b i h.0 ∙ h.2);
+    running = λ i run lt q. w.running i run lt (sym (d i lt) ∙ q);
+    runs = λ i j z. let h : (i < initiators) × (run : Running) × (run_at i ≡ Some run) × (run.job ≡ j) = w.runs i j z in
+        (h.0, h.1, d i h.0 ∙ h.2, h.3);
+    over = λ i lt. subst (λ js. AllByRecursion (λ j. place j ≡ Over) js) (sym (e i lt)) (w.over i lt);
+  }
+
+  -- one place changes
+  module _ (place : ℕ → Place) (k : ℕ) (q : Place) where
+    abbrev put : ℕ → Place
+    put = with_at place k q
+
+    pub put_here : (j : ℕ) → k ≡ j → put j ≡ q
+    put_here j e = subst (λ z. put z ≡ q) e (with_at-same place k q)
+
+    pub put_else : (j : ℕ) → (k ≡ j → ⊥) → put j ≡ place j
+    put_else j d = with_at-other place k j q d
+
+    -- what another place is
+    put_kept : (j : ℕ) (p r : Place) → place k ≡ p → (p ≡ r → ⊥) → place j ≡ r → put j ≡ r
+    put_kept j p r at d e = put_else j (λ z. d (sym at ∙ ap (λ m. place m) z ∙ e)) ∙ e
+
+    -- what another place was
+    put_was : (j : ℕ) (r : Place) → (q ≡ r → ⊥) → put j ≡ r → (k ≡ j → ⊥) × (place j ≡ r)
+    put_was j r d e = elim (cases_eq k j) [
+      | inl same ↦ absurd (d (sym (put_here j same) ∙ e))
+      | inr other ↦ (other, sym (put_else j other) ∙ e)
+    ]
+
+  module _ (next : ℕ) (held : ℕ → Option ℕ) (run_at : ℕ → Option Running) (befores : ℕ → List ℕ) (place : ℕ → Place)
+      (w : Placed n initiators next held run_at befores place) (i : ℕ) (lt : i < initiators) where
+    -- the scheduler releases the code of the next job to initiator i, whose element has none
+    pub placed_released : (next' : ℕ) (held' : ℕ → Option ℕ) (skipped : Bool) → next' ≡ next + 1 → next < n → held i ≡ None
+        → held' i ≡ Some (code_of next skipped) → ((m : ℕ) → (i ≡ m → ⊥) → held' m ≡ held m)
+        → Placed n initiators next' held' run_at befores (with_at place next (Handed i))
+    placed_released next' held' skipped a below none now others = record {
+      coming = λ j le. put_else place next (Handed i) j (λ z. absurd (omega arith)) ∙ w.coming j (omega arith);
+      comes = λ j z. let h : (next ≡ j → ⊥) × (place j ≡ Coming) = put_was place next (Handed i) j Coming (λ z. cc z) z in
+          let le : next ≤ j = w.comes j h.1 in after next' j le h.0 a;
+      handed = λ m j b less under e. to_held m j b less under e (cases_eq i m);
+      hands = λ m j z. to_hands m j z (cases_eq next j);
+      running = λ m run less e. put_kept place next (Handed i) run.job Coming (Run m) here (λ z. cc z) (w.running m run less e);
+      runs = λ m j z. w.runs m j (put_was place next (Handed i) j (Run m) (λ z. cc z) z).1;
+      over = λ m less. all_more _ _ (λ j z. put_kept place next (Handed i) j Coming Over here (λ z. cc z) z) (befores m)
+          (w.over m less);
+    } where
+      here : place next ≡ Coming
+      here = w.coming next (omega arith)
+
+      after : (next' j : ℕ) → next ≤ j → (next ≡ j → ⊥) → next' ≡ next + 1 → next' ≤ j
+      after next' j le d a = elim (cases_lt next j) [ inl lt ↦ omega arith | inr ge ↦ absurd (d (omega arith)) ]
+
+      to_held : (m j : ℕ) (b : Bool) → m < initiators → j < n → held' m ≡ Some (code_of j b) → (i ≡ m) ⊎ (i ≡ m → ⊥)
+          → with_at place next (Handed i) j ≡ Handed m
+      to_held m j b less under e (inl same) =
+          put_here place next (Handed i) j
+          (code_parts n next j skipped b few below under (same_Some _ _ (sym now ∙ ap (λ z. held' z) same ∙ e))).0
+          ∙ ap (λ z. Handed z) same
+      to_held m j b less under e (inr other) =
+          put_kept place next (Handed i) j Coming (Handed m) here (λ z. cc z) (w.handed m j b less under (sym (others m other) ∙ e))
+
+      to_hands : (m j : ℕ) → with_at place next (Handed i) j ≡ Handed m → (next ≡ j) ⊎ (next ≡ j → ⊥)
+          → (m < initiators) × (b : Bool) × (held' m ≡ Some (code_of j b))
+      to_hands m j z (inl same) =
+          let one : i ≡ m = handed_one i m (with_at place next (Handed i) j) (put_here place next (Handed i) j same) z in
+          (subst (λ y. y < initiators) one lt, skipped, ap (λ y. held' y) (sym one) ∙ now ∙ ap (λ y. Some (code_of y skipped)) same)
+      to_hands m j z (inr other) =
+          let h : (m < initiators) × (b : Bool) × (held m ≡ Some (code_of j b)) =
+          w.hands m j (sym (put_else place next (Handed i) j other) ∙ z) in
+          (h.0, h.1, others m (λ y. none_some _ _ none (ap (λ x. held x) y ∙ h.2)) ∙ h.2)
+
+    -- the scheduler releases code 0
+    pub placed_dismissed : (held' : ℕ → Option ℕ) → held i ≡ None → held' i ≡ Some 0 → ((m : ℕ) → (i ≡ m → ⊥) → held' m ≡ held m)
+        → Placed n initiators next held' run_at befores place
+    placed_dismissed held' none now others = record {
+      coming = w.coming;
+      comes = w.comes;
+      handed = λ m j b less under e. to_held m j b less under e (cases_eq i m);
+      hands = λ m j z. let h : (m < initiators) × (b : Bool) × (held m ≡ Some (code_of j b)) = w.hands m j z in
+          (h.0, h.1, others m (λ y. none_some _ _ none (ap (λ x. held x) y ∙ h.2)) ∙ h.2);
+      running = w.running;
+      runs = w.runs;
+      over = w.over;
+    } where
+      to_held : (m j : ℕ) (b : Bool) → m < initiators → j < n → held' m ≡ Some (code_of j b) → (i ≡ m) ⊎ (i ≡ m → ⊥)
+          → place j ≡ Handed m
+      to_held m j b less under e (inl same) = absurd (never_zero j b (same_Some _ _ (sym (sym now ∙ ap (λ z. held' z) same ∙ e))))
+      to_held m j b less under e (inr other) = w.handed m j b less under (sym (others m other) ∙ e)
+
+    -- initiator i is given code 0
+    pub placed_left : (held' : ℕ → Option ℕ) (befores' : ℕ → List ℕ) → held i ≡ Some 0 → held' i ≡ None
+        → ((m : ℕ) → (i ≡ m → ⊥) → held' m ≡ held m)
+        → befores' i ≡ [] → ((m : ℕ) → (i ≡ m → ⊥) → befores' m ≡ befores m) → Placed n initiators next held' run_at befores' place
+    placed_left held' befores' was now others empty same = record {
+      coming = w.coming;
+      comes = w.comes;
+      handed = λ m j b less under e. to_held m j b less under e (cases_eq i m);
+      hands = λ m j z. let h : (m < initiators) × (b : Bool) × (held m ≡ Some (code_of j b)) = w.hands m j z in
+          (h.0, h.1, others m (λ y. never_zero j h.1 (same_Some _ _ (sym h.2 ∙ ap (λ x. held x) (sym y) ∙ was))) ∙ h.2);
+      running = w.running;
+      runs = w.runs;
+      over = λ m less. to_over m less (cases_eq i m);
+    } where
+      to_held : (m j : ℕ) (b : Bool) → m < initiators → j < n → held' m ≡ Some (code_of j b) → (i ≡ m) ⊎ (i ≡ m → ⊥)
+          → place j ≡ Handed m
+      to_held m j b less under e (inl same) = absurd (none_some _ _ now (ap (λ z. held' z) same ∙ e))
+      to_held m j b less under e (inr other) = w.handed m j b less under (sym (others m other) ∙ e)
+
+      to_over : (m : ℕ) → m < initiators → (i ≡ m) ⊎ (i ≡ m → ⊥) → AllByRecursion (λ j. place j ≡ Over) (befores' m)
+      to_over m less (inl same') = subst (λ js. AllByRecursion (λ j. place j ≡ Over) js)
+          (sym (ap (λ z. befores' z) (sym same') ∙ empty)) tt
+      to_over m less (inr other) = subst (λ js. AllByRecursion (λ j. place j ≡ Over) js) (sym (same m other)) (w.over m less)
+
+    -- initiator i is given the code of a job and starts with it
+    pub placed_started : (held' : ℕ → Option ℕ) (run_at' : ℕ → Option Running) (befores' : ℕ → List ℕ) (run : Running) → run.job < n
+        → next ≤ n → held i ≡ Some (code_of run.job run.skipped) → held' i ≡ None → ((m : ℕ) → (i ≡ m → ⊥) → held' m ≡ held m)
+        → run_at i ≡ None → run_at' i ≡ Some run → ((m : ℕ) → (i ≡ m → ⊥) → run_at' m ≡ run_at m) → ((m : ℕ) → befores' m ≡ befores m)
+        → Placed n initiators next held' run_at' befores' (with_at place run.job (Run i))
+    placed_started held' run_at' befores' run below bound was now others none runs_it same_runs same = record {
+      coming = λ j le. put_kept place run.job (Run i) j (Handed i) Coming here (λ z. cc z) (w.coming j le);
+      comes = λ j z. w.comes j (put_was place run.job (Run i) j Coming (λ z. cc z) z).1;
+      handed = λ m j b less under e. to_held m j b less under e (cases_eq i m);
+      hands = λ m j z. to_hands m j (put_was place run.job (Run i) j (Handed m) (λ z. cc z) z);
+      running = λ m other less e. to_running m other less e (cases_eq i m);
+      runs = λ m j z. to_runs m j z (cases_eq run.job j);
+      over = λ m less. subst (λ js. AllByRecursion (λ j. with_at place run.job (Run i) j ≡ Over) js) (sym (same m))
+          (all_more _ _ (λ j z. put_kept place run.job (Run i) j (Handed i) Over here (λ z. cc z) z) (befores m) (w.over m less));
+    } where
+      here : place run.job ≡ Handed i
+      here = w.handed i run.job run.skipped lt below was
+
+      to_held : (m j : ℕ) (b : Bool) → m < initiators → j < n → held' m ≡ Some (code_of j b) → (i ≡ m) ⊎ (i ≡ m → ⊥)
+          → with_at place run.job (Run i) j ≡ Handed m
+      to_held m j b less under e (inl same) = absurd (none_some _ _ now (ap (λ z. held' z) same ∙ e))
+      to_held m j b less under e (inr other) =
+          put_kept place run.job (Run i) j (Handed i) (Handed m) here (λ z. other (handed_one i m (Handed i) refl z))
+          (w.handed m j b less under (sym (others m other) ∙ e))
+
+      to_hands : (m j : ℕ) → (run.job ≡ j → ⊥) × (place j ≡ Handed m) → (m < initiators) × (b : Bool) × (held' m ≡ Some (code_of j b))
+      to_hands m j z =
+          let h : (m < initiators) × (b : Bool) × (held m ≡ Some (code_of j b)) = w.hands m j z.1 in
+          let below_next : j < n = elim (cases_lt j n) [
+            | inl less ↦ less
+            | inr ge ↦ absurd
+                (coming_handed m (place j) (w.coming j (omega arith)) z.1)
+          ] in (
+            h.0,
+            h.1,
+            others m (λ y. z.0 (code_parts n run.job j run.skipped h.1 few below below_next
+                (same_Some _ _ (sym was ∙ ap (λ x. held x) y ∙ h.2))).0) ∙ h.2,
+          )
+
+      to_running : (m : ℕ) (other : Running) → m < initiators → run_at' m ≡ Some other → (i ≡ m) ⊎ (i ≡ m → ⊥)
+          → with_at place run.job (Run i) other.job ≡ Run m
+      to_running m other less e (inl one) =
+          put_here place run.job (Run i) other.job (ap (λ z. z.job) (same_Some run other (sym runs_it ∙ ap (λ z. run_at' z) one ∙ e)))
+          ∙ ap (λ z. Run z) one
+      to_running m other less e (inr two) =
+          put_kept place run.job (Run i) other.job (Handed i) (Run m) here (λ z. cc z)
+          (w.running m other less (sym (same_runs m two) ∙ e))
+
+      to_runs : (m j : ℕ) → with_at place run.job (Run i) j ≡ Run m → (run.job ≡ j) ⊎ (run.job ≡ j → ⊥)
+          → (m < initiators) × (run : Running) × (run_at' m ≡ Some run) × (run.job ≡ j)
+      to_runs m j z (inl one) =
+          let e : i ≡ m = run_one i m (with_at place run.job (Run i) j) (put_here place run.job (Run i) j one) z in
+          (subst (λ y. y < initiators) e lt, run, ap (λ y. run_at' y) (sym e) ∙ runs_it, one)
+      to_runs m j z (inr two) =
+          let h : (m < initiators) × (run : Running) × (run_at m ≡ Some run) × (run.job ≡ j) =
+          w.runs m j (sym (put_else place run.job (Run i) j two) ∙ z) in
+          (h.0, h.1, same_runs m (λ y. none_some _ _ none (ap (λ x. run_at x) y ∙ h.2)) ∙ h.2, h.3)
+
+    -- initiator i is done with its job
+    pub placed_stopped : (run_at' : ℕ → Option Running) (befores' : ℕ → List ℕ) (run : Running)
+        → run_at i ≡ Some run → run_at' i ≡ None → ((m : ℕ) → (i ≡ m → ⊥) → run_at' m ≡ run_at m)
+        → befores i ≡ run.before → befores' i ≡ run.before ++ run.job ∷ [] → ((m : ℕ) → (i ≡ m → ⊥) → befores' m ≡ befores m)
+        → Placed n initiators next held run_at' befores' (with_at place run.job Over)
+    placed_stopped run_at' befores' run was now same_runs had has same = record {
+      coming = λ j le. put_kept place run.job Over j (Run i) Coming here (λ z. cc z) (w.coming j le);
+      comes = λ j z. w.comes j (put_was place run.job Over j Coming (λ z. cc z) z).1;
+      handed = λ m j b less under e. put_kept place run.job Over j (Run i) (Handed m) here (λ z. cc z) (w.handed m j b less under e);
+      hands = λ m j z. w.hands m j (put_was place run.job Over j (Handed m) (λ z. cc z) z).1;
+      running = λ m other less e. to_running m other less e (cases_eq i m);
+      runs = λ m j z. to_runs m j (put_was place run.job Over j (Run m) (λ z. cc z) z);
+      over = λ m less. to_over m less (cases_eq i m);
+    } where
+      here : place run.job ≡ Run i
+      here = w.running i run lt was
+
+      old_over : (m : ℕ) → m < initiators → AllByRecursion (λ j. with_at place run.job Over j ≡ Over) (befores m)
+      old_over m less = all_more _ _ (λ j z. put_kept place run.job Over j (Run i) Over here (λ z. cc z) z) (befores m) (w.over m less)
+
+      to_running : (m : ℕ) (other : Running) → m < initiators → run_at' m ≡ Some other → (i ≡ m) ⊎ (i ≡ m → ⊥)
+          → with_at place run.job Over other.job ≡ Run m
+      to_running m other less e (inl one) = absurd (none_some _ _ now (ap (λ z. run_at' z) one ∙ e))
+      to_running m other less e (inr two) =
+          put_kept place run.job Over other.job (Run i) (Run m) here (λ z. two (run_one i m (Run i) refl z))
+          (w.running m other less (sym (same_runs m two) ∙ e))
+
+      to_runs : (m j : ℕ) → (run.job ≡ j → ⊥) × (place j ≡ Run m) → (m < initiators) × (run : Running) × (run_at' m ≡ Some run)
+          × (run.job ≡ j)
+      to_runs m j z =
+          let h : (m < initiators) × (other : Running) × (run_at m ≡ Some other) × (other.job ≡ j) = w.runs m j z.1 in (
+            h.0,
+            h.1,
+            same_runs m (λ y. z.0 (ap (λ x. x.job) (same_Some run h.1 (sym was ∙ ap (λ x. run_at x) y ∙ h.2)) ∙ h.3))
+                ∙ h.2,
+            h.3,
+          )
+
+      to_over : (m : ℕ) → m < initiators → (i ≡ m) ⊎ (i ≡ m → ⊥)
+          → AllByRecursion (λ j. with_at place run.job Over j ≡ Over) (befores' m)
+      to_over m less (inl one) = subst (λ js. AllByRecursion (λ j. with_at place run.job Over j ≡ Over) js)
+          (sym has ∙ ap (λ z. befores' z) one)
+          (all_push _ run.before run.job (subst (λ js. AllByRecursion (λ j. with_at place run.job Over j ≡ Over) js) had
+          (old_over i lt)) (put_here place run.job Over run.job refl))
+      to_over m less (inr two) = subst (λ js. AllByRecursion (λ j. with_at place run.job Over j ≡ Over) js) (sym (same m two))
+          (old_over m less)

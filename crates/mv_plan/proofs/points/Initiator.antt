@@ -1,0 +1,371 @@
+-- An initiator's program goes from point to point. Used by Following.
+use Rattle.std.proofs.Common.{◌≡◌, ℕ, zero, suc, ◌+◌, ◌-◌, ◌*◌, ◌^◌, ◌<◌, ◌≤◌, ◌==◌, nat_lt, Bool, true, false, not, ◌&&◌, if◌then◌else◌}
+use Rattle.std.proofs.Common.{List, [], ◌∷◌, ◌++◌, length, find, Option, Some, None, Ok, refl, sym, ap, ◌∙◌, arith}
+use Rattle.std.specs.List.{AllByRecursion, list_any, range_with_len}
+use Rattle.std.proofs.lemmas.Bool.{eq-eqb, lt-ltb}
+use Rattle.mv_ecb.specs.declared.operation.EcbReply.TheVariants as ecb_reply
+use Rattle.mv_element.specs.declared.operation.ElementOp.TheVariants as element_op
+use Rattle.mv_element.specs.declared.operation.ElementReply.TheVariants as element_reply
+use Rattle.mv_latch.specs.declared.operation.LatchOp.TheVariants as latch_op
+use Rattle.mv_latch.specs.declared.operation.LatchReply.TheVariants as latch_reply
+use Rattle.mv_latch.specs.declared.operation.Wake.{Wake}
+use Rattle.mv_latch.specs.declared.request.LatchForm.TheVariants as form_of
+use Rattle.mv_latch.specs.declared.request.Mode.{Mode}
+use Rattle.mv_machine.specs.declared.entry.Object.TheVariants.{Element, Latches}
+use Rattle.mv_machine.specs.declared.entry.Op.TheVariants as op_on
+use Rattle.mv_machine.specs.declared.entry.Reply.{Reply}
+use Rattle.mv_machine.specs.declared.entry.Reply.TheVariants as reply_of
+use Rattle.mv_machine.specs.declared.entry.VolumeReply.TheVariants as volume_reply
+use Rattle.mv_machine.specs.Check.{or_else}
+use Rattle.mv_machine.specs.Setup.{Setup, element_owner}
+use Rattle.mv_deck.specs.Deck.{JobData}
+use Rattle.mv_deck.specs.declared.deck.Step.{Step}
+use Rattle.mv_deck.specs.declared.deck.Step.TheVariants.{Print, Use, Free, Count, Scan, Abend, Return}
+use Rattle.mv_plan.specs.Jobs.{job_at}
+use Rattle.mv_plan.proofs.deck.Sound.{AreSoundJobs}
+use Rattle.mv_machine.specs.calls.Keeping.{Kept, nothing_kept}
+use Rattle.mv_machine.specs.calls.LatchCalls.{obtain_refusal, obtained}
+use Rattle.mv_machine.specs.calls.Pauses.{Gift, gift_of, token_of, allocate, lowest_free, own_elements, open_lowest, opened, pause, paused}
+use Rattle.mv_machine.specs.calls.Pauses.{resumed, closed, deallocate}
+use Rattle.mv_machine.specs.calls.Pauses as pauses
+use Rattle.mv_machine.specs.calls.Posts.{Woke, each_posted, posted_next, post_within, wakes_posted, wake_posted}
+use Rattle.mv_machine.specs.calls.Program.{Program, Do, Done, Heard, asks, heard, and_then, going_on, unrefused, accepted, followed}
+use Rattle.mv_machine.specs.calls.Program.{finished}
+use Rattle.mv_machine.specs.calls.Program.{wrong, unless_refused, on_element, on_latch}
+use Rattle.mv_machine.specs.calls.Refusal.{Refusal}
+use Rattle.mv_machine.specs.calls.Refusal as refusal
+use Rattle.mv_plan.specs.SpoolSetup.{done, end_for_scheduler, end_for_writer, idle, initiator}
+use Rattle.mv_plan.specs.SpoolTasks.{Named, job_named, named_by, run_job, job_done, granted_as, freed, turns}
+use Rattle.mv_machine.specs.calls.Waits.{refused_if, write_volume}
+use Rattle.mv_plan.proofs.points.Points.{At, Astray, Grant, Running, Hand, empty_hand, hand_with, hand_without, InitiatorAt, Opening}
+use Rattle.mv_plan.proofs.points.Points.{Offering, Pausing, Resuming, Obtaining, Confirming, Freeing, Reading, Writing, Scanning}
+use Rattle.mv_plan.proofs.points.Points.{Rescanning, Purging, EndingJob, EndingForScheduler, EndingForWriter, Closing, initiator_asks}
+use Rattle.mv_plan.proofs.points.Points.{initiator_goes, turns_from, turns_after, freeing_at, steps_at, running, job_start, named_at}
+use Rattle.mv_plan.proofs.points.Points.{given_at}
+use Rattle.mv_plan.proofs.points.Programs.{program_at, posting_next, turns_rest, given_rest, ending, stepping, steps_rest, obtained_rest}
+use Rattle.mv_plan.proofs.points.Programs.{initiator_program}
+use Rattle.mv_plan.proofs.points.PostsAndWaits.{post_is_now, IsPlainPost, posted_goes}
+use Rattle.mv_plan.proofs.points.ReaderAndWriter.{keeps}
+use Rattle.mv_plan.proofs.points.InitiatorSound.{IsTurn, IsStepping, InitiatorKept, InitiatorStands, standing_of, rises_few, named_is}
+use Rattle.mv_plan.proofs.points.InitiatorSound.{left_next, job_sound, obtained_stand, pushed_kept, freed_stand, freed_kept}
+use Rattle.mv_plan.proofs.deck.Setup.{Facts}
+
+pub initiator_says : (c : Setup) (deck : List JobData) (i : ℕ) (kept : Kept) (x : InitiatorAt)
+    → asks (initiator_program c deck i kept x) ≡ Some (initiator_asks (length deck) i x)
+initiator_says c deck i kept Opening = refl
+initiator_says c deck i kept (Offering more before g) = refl
+initiator_says c deck i kept (Pausing more before g) = refl
+initiator_says c deck i kept (Resuming more before g) = refl
+initiator_says c deck i kept (Obtaining run hand latch mode steps) = refl
+initiator_says c deck i kept (Confirming run hand latch mode id steps) = refl
+initiator_says c deck i kept (Freeing run hand latch id steps) = refl
+initiator_says c deck i kept (Reading run hand volume amount steps) = refl
+initiator_says c deck i kept (Writing run hand volume amount number steps) = refl
+initiator_says c deck i kept (Scanning run hand volume steps) = refl
+initiator_says c deck i kept (Rescanning run hand volume number steps) = refl
+initiator_says c deck i kept (Purging run hand code) = refl
+initiator_says c deck i kept (EndingJob run code counts) = refl
+initiator_says c deck i kept (EndingForScheduler run code counts) = refl
+initiator_says c deck i kept (EndingForWriter run code counts) = refl
+initiator_says c deck i kept (Closing g) = refl
+
+-- ---- what a reply must be for the points to be the program's: the machine gives no other
+-- none of these wakes posts a block
+abbrev pub PostNothing : List Wake → Type 0
+PostNothing ws = AllByRecursion (λ w. w.ecb ≡ None) ws
+
+pub nothing_posted : {A : Type 0} (c : Setup) (ws : List Wake) (kept : Kept) (last : Program A) → PostNothing ws
+    → wakes_posted c ws kept last ≡ last
+nothing_posted c [] kept last p = refl
+nothing_posted c (w ∷ ws) kept last p = ap (λ e. wake_posted c e w.code kept (wakes_posted c ws kept last)) p.0
+    ∙ nothing_posted c ws kept last p.1
+
+-- an exit starts from a done block alone, with number j + 1
+abbrev pub WokeAs : ℕ → Reply → Type 0
+WokeAs j (reply_of.Ecb (ecb_reply.Woke (suc x))) = suc x ≡ j + 1
+WokeAs j r = Unit {0}
+
+abbrev pub IsPlainReply : InitiatorAt → Reply → List Wake → Type 0
+IsPlainReply (Offering more before g) r ws = IsPlainPost r
+IsPlainReply (EndingForScheduler run code counts) r ws = IsPlainPost r
+IsPlainReply (EndingForWriter run code counts) r ws = IsPlainPost r
+IsPlainReply (EndingJob run code counts) r ws = WokeAs run.job r
+IsPlainReply (Freeing run hand latch id steps) r ws = PostNothing ws
+IsPlainReply (Purging run hand code) r ws = PostNothing ws
+IsPlainReply x r ws = Unit {0}
+
+module _ (c : Setup) (deck : List JobData) (initiators i : ℕ) (facts : Facts c (length deck) initiators) (sound : AreSoundJobs 0 deck) where
+  some_blocks : 1 ≤ length c.owners
+  some_blocks = let e : length c.owners ≡ 4 * length deck + initiators = facts.size in let s : 1 ≤ initiators = facts.some in
+      omega arith
+
+  own_element : (kept : Kept) (g : ℕ) → kept.caller ≡ initiator i → pauses.is_others_token c kept (token_of (initiator i) g) ≡ false
+  own_element kept g k = ap (λ b. not b) (eq-eqb (element_owner c (initiator i)) kept.caller (facts.element (initiator i) ∙ sym k))
+
+  turns_enter : (more : ℕ) (before : List ℕ) (g : ℕ) (kept : Kept)
+      → turns_rest c deck i more before g kept ≡ program_at (initiator_program c deck i kept) (turns_from more before g)
+  turns_enter zero before g kept = refl
+  turns_enter (suc more) before g kept =
+      ap (λ p. going_on kept p (λ posted. accepted (pause c (token_of (initiator i) g)) (given_rest c deck i more before)))
+      (post_is_now c (idle (length deck) i) g kept some_blocks)
+
+  turns_after_enter : (run : Running) (kept : Kept)
+      → turns_rest c deck i run.more (run.before ++ run.job ∷ []) run.generation kept ≡ program_at (initiator_program c deck i kept)
+      (turns_after run)
+  turns_after_enter run kept = turns_enter run.more (run.before ++ run.job ∷ []) run.generation kept
+
+  -- an exit's posts are one deeper than its source's
+  deeper : (run : Running) → run.job < length deck → length c.owners - 1 ≡ suc (length c.owners - 2)
+  deeper run lt = let e : length c.owners ≡ 4 * length deck + initiators = facts.size in omega arith
+
+  pause_enters : (more : ℕ) (before : List ℕ) (g : ℕ) (kept : Kept) → kept.caller ≡ initiator i
+      → accepted (pause c (token_of (initiator i) g)) (given_rest c deck i more before) kept ≡ initiator_program c deck i kept
+      (Pausing more before g)
+  pause_enters more before g kept k =
+      ap (λ b. going_on kept (unless_refused (refused_if b refusal.NotOwner)
+      (Do (Element (initiator i)) (op_on.Element (element_op.Pause g)) (λ h. on_element h.entry.reply (paused (initiator i) g))))
+      (unrefused (given_rest c deck i more before))) (own_element kept g k)
+
+  close_enters : (g : ℕ) (kept : Kept) → kept.caller ≡ initiator i
+      → accepted (deallocate c (token_of (initiator i) g)) (λ closed. finished []) kept ≡ initiator_program c deck i kept (Closing g)
+  close_enters g kept k =
+      ap (λ b. going_on kept (unless_refused (refused_if b refusal.NotOwner)
+      (Do (Element (initiator i)) (op_on.Element (element_op.Close g)) (λ h. on_element h.entry.reply closed)))
+      (unrefused (λ closed. finished []))) (own_element kept g k)
+
+  obtain_is_free : (kept : Kept) (run : Running) (hand : Hand) (latch : ℕ) (mode : Mode) (steps : List Step)
+      → IsStepping deck run hand (Use latch mode ∷ steps) → InitiatorKept i (standing_of (initiator i) run.job hand.holding) kept
+      → obtain_refusal c latch (run.job + 1) mode form_of.Waiting kept ≡ None
+  obtain_is_free kept run hand latch mode steps s k =
+      let le : latch ≤ 7 = s.sound.0 in
+      let few : 0 + length hand.holding ≤ latch = rises_few 0 latch hand.holding s.holds.rises (omega arith) s.sound.1 in
+      let count : length kept.requests ≡ length hand.holding =
+      ap (λ ts. length ts) k.stand ∙ length_standing (initiator i) run.job hand.holding in
+      let a : nat_lt latch c.latches ≡ true = lt-ltb latch c.latches (let e : c.latches ≡ 8 = facts.latches in omega arith) in
+      let b : nat_lt (length kept.requests) c.quota ≡ true =
+      lt-ltb (length kept.requests) c.quota (let e : c.quota ≡ 8 = facts.quota in omega arith) in
+      ap (λ b. or_else (refused_if (not b) refusal.BadLatch)
+      (refused_if (not (nat_lt (length kept.requests) c.quota && true)) refusal.Quota)) a
+      ∙ ap (λ b. refused_if (not (b && true)) refusal.Quota) b where
+        length_standing : (k job : ℕ) (gs : List Grant) → length (standing_of k job gs) ≡ length gs
+        length_standing k job [] = refl
+        length_standing k job (g ∷ gs) = ap (λ m. suc m) (length_standing k job gs)
+
+  -- a job's steps
+  steps_enter : (run : Running) (hand : Hand) (steps : List Step) (kept : Kept) → IsStepping deck run hand steps
+      → InitiatorKept i (standing_of (initiator i) run.job hand.holding) kept
+      → stepping c deck i run kept (steps_rest c run hand steps kept) ≡ program_at (initiator_program c deck i kept)
+      (steps_at run hand steps)
+  steps_enter run hand [] kept s k = refl
+  steps_enter run hand (Print text ∷ steps) kept s k =
+      steps_enter run hand steps kept
+      (record { turn = s.turn; holds = s.holds; left = left_next deck run (Print text) steps tt s.left; sound = s.sound }) k
+  steps_enter run hand (Use latch mode ∷ steps) kept s k =
+      ap (λ r. stepping c deck i run kept
+      (going_on kept (unless_refused r
+      (Do Latches (op_on.Latch (latch_op.Obtain latch (run.job + 1) mode form_of.Waiting))
+      (λ h. on_latch h.entry.reply (obtained latch form_of.Waiting))))
+      (unrefused (granted_as (obtained_rest c run hand latch steps))))) (obtain_is_free kept run hand latch mode steps s k)
+  steps_enter run hand (Free latch ∷ steps) kept s k = go (hand.requests latch) where
+    go : (slot : Option ℕ) → stepping c deck i run kept (freed c latch slot (steps_rest c run hand steps) kept) ≡ program_at
+        (initiator_program c deck i kept) (freeing_at run hand latch slot steps)
+    go None = refl
+    go (Some id) = refl
+  steps_enter run hand (Count volume amount ∷ steps) kept s k = refl
+  steps_enter run hand (Scan volume ∷ steps) kept s k = refl
+  steps_enter run hand (Abend code ∷ steps) kept s k = refl
+  steps_enter run hand (Return code ∷ steps) kept s k = refl
+
+  start_enters : (named : Named) (skipped : Bool) (before : List ℕ) (more g : ℕ) (kept : Kept) → named.skipped ≡ skipped
+      → named.job < length deck → list_any (λ j. j == named.job) before ≡ false
+      → IsTurn (length deck) more before → InitiatorKept i [] kept
+      → stepping c deck i (running named before more g) kept (job_done c (named.job + 1) (job_at deck named.job) skipped kept)
+      ≡ program_at (initiator_program c deck i kept) (job_start skipped (running named before more g) (job_at deck named.job))
+  start_enters named true before more g kept e lt new turn k = refl
+  start_enters named false before more g kept e lt new turn k =
+      steps_enter (running named before more g) empty_hand (job_at deck named.job).steps kept (record {
+        turn = record { turn = turn; job = lt; new = new };
+        holds = record { rises = tt; last = tt };
+        left = record { past = []; whole = refl; going = tt; runs = e };
+        sound = job_sound named.job 0 deck sound lt;
+      }) k
+
+  named_enters : (code more : ℕ) (before : List ℕ) (g : ℕ) (slot : Option Named) (kept : Kept) → job_named (length deck) code ≡ slot
+      → IsTurn (length deck) more before → InitiatorKept i [] kept
+      → named_by slot before more (λ named. followed (run_job c deck named)
+      (λ counts. turns c deck i more (before ++ named.job ∷ []) (token_of (initiator i) g))) kept
+      ≡ program_at (initiator_program c deck i kept) (named_at deck slot before more g)
+  named_enters code more before g None kept e turn k = refl
+  named_enters code zero before g (Some named) kept e turn k = refl
+  named_enters code (suc more) before g (Some named) kept e turn k = go (list_any (λ j. j == named.job) before) refl where
+    go : (b : Bool) → list_any (λ j. j == named.job) before ≡ b
+        → (if b then wrong else followed (run_job c deck named)
+        (λ counts. turns c deck i (suc more) (before ++ named.job ∷ []) (token_of (initiator i) g))) kept
+        ≡ program_at (initiator_program c deck i kept)
+        (if b then Astray else job_start named.skipped (running named before (suc more) g) (job_at deck named.job))
+    go true t = refl
+    go false t = start_enters named named.skipped before (suc more) g kept refl (named_is (length deck) code named e).0 t turn k
+
+  given_enters : (more : ℕ) (before : List ℕ) (code g : ℕ) (kept : Kept) → IsTurn (length deck) more before → InitiatorKept i [] kept
+      → given_rest c deck i more before (gift_of (initiator i) code g) kept ≡ program_at (initiator_program c deck i kept)
+      (given_at deck more before code g)
+  given_enters more before code g kept turn k =
+      elim (code == 0) as (λ b. (if b then accepted (deallocate c (token_of (initiator i) g)) (λ closed. finished [])
+      else named_by (job_named (length deck) code) before more
+      (λ named. followed (run_job c deck named)
+      (λ counts. turns c deck i more (before ++ named.job ∷ []) (token_of (initiator i) g)))) kept
+      ≡ program_at (initiator_program c deck i kept)
+      (if b then At (Closing g) else named_at deck (job_named (length deck) code) before more g)) [
+        | true ↦ close_enters g kept k.caller
+        | false ↦ named_enters code more before g (job_named (length deck) code) kept refl turn k
+      ]
+
+  -- the whole program starts with the opening
+  pub opening_enters : accepted (allocate c) (turns c deck i (length deck + 1) [])
+      (nothing_kept (initiator i)) ≡ initiator_program c deck i (nothing_kept (initiator i)) Opening
+  opening_enters = ap (λ n. going_on (nothing_kept (initiator i)) (open_lowest n)
+      (unrefused (turns c deck i (length deck + 1) []))) lowest where
+        lowest : lowest_free c (nothing_kept (initiator i)) ≡ Some (initiator i)
+        lowest = ap (λ k. find (λ n. true) (range_with_len (initiator i * k) k)) facts.each ∙ ap (λ n. Some n) (omega arith)
+
+  pub initiator_hears : (kept : Kept) (x : InitiatorAt) (h : Heard) → InitiatorStands deck i kept (At x)
+      → IsPlainReply x h.entry.reply h.wakes
+      → heard (initiator_program c deck i kept x) h ≡ program_at
+      (initiator_program c deck i (keeps kept (initiator_asks (length deck) i x) h.entry.reply))
+      (initiator_goes deck x h.entry.reply)
+  initiator_hears kept x h s f = goes x h.entry.reply s f where
+    ws : List Wake
+    ws = h.wakes
+
+    told : Reply → Heard
+    told r = record { entry = record h.entry { reply = r }; wakes = h.wakes }
+
+    goes : (x : InitiatorAt) (r : Reply) → InitiatorStands deck i kept (At x) → IsPlainReply x r h.wakes
+        → heard (initiator_program c deck i kept x) (told r) ≡ program_at
+        (initiator_program c deck i (keeps kept (initiator_asks (length deck) i x) r)) (initiator_goes deck x r)
+    goes Opening (reply_of.Element (element_reply.Opened g)) s f =
+        turns_enter (length deck + 1) [] g
+        (keeps kept (initiator_asks (length deck) i Opening) (reply_of.Element (element_reply.Opened g)))
+    goes Opening r s f = refl
+    goes (Offering more before g) r s f =
+        posted_goes c _ (λ p. going_on (keeps kept (initiator_asks (length deck) i (Offering more before g)) r) p
+        (λ posted. accepted (pause c (token_of (initiator i) g)) (given_rest c deck i more before)))
+        (initiator_program c deck i (keeps kept (initiator_asks (length deck) i (Offering more before g)) r))
+        (At (Pausing more before g)) r
+        (λ p. pause_enters more before g (keeps kept (initiator_asks (length deck) i (Offering more before g)) r) s.1.caller) refl f
+    goes (Pausing more before g) (reply_of.Element (element_reply.Given code now)) s f =
+        given_enters more before code now
+        (keeps kept (initiator_asks (length deck) i (Pausing more before g)) (reply_of.Element (element_reply.Given code now))) s.0
+        (record { caller = s.1.caller; stand = s.1.stand })
+    goes (Pausing more before g) (reply_of.Element element_reply.Parked) s f = refl
+    goes (Pausing more before g) r s f = refl
+    goes (Resuming more before g) (reply_of.Element (element_reply.Given code now)) s f =
+        given_enters more before code now
+        (keeps kept (initiator_asks (length deck) i (Resuming more before g)) (reply_of.Element (element_reply.Given code now))) s.0
+        (record { caller = s.1.caller; stand = s.1.stand })
+    goes (Resuming more before g) (reply_of.Element element_reply.NotYet) s f = refl
+    goes (Resuming more before g) r s f = refl
+    goes (Obtaining run hand latch mode steps) (reply_of.Latch (latch_reply.Granted id)) s f =
+        steps_enter run (hand_with hand latch mode id) steps
+        (keeps kept (initiator_asks (length deck) i (Obtaining run hand latch mode steps))
+        (reply_of.Latch (latch_reply.Granted id)))
+        (obtained_stand deck run hand latch mode id steps s.0) (pushed_kept i kept run hand latch mode id s.1 refl refl)
+    goes (Obtaining run hand latch mode steps) (reply_of.Latch (latch_reply.Queued id)) s f = refl
+    goes (Obtaining run hand latch mode steps) r s f = refl
+    goes (Confirming run hand latch mode id steps) (reply_of.Latch (latch_reply.Granted same)) s f =
+        steps_enter run (hand_with hand latch mode id) steps
+        (keeps kept (initiator_asks (length deck) i (Confirming run hand latch mode id steps))
+        (reply_of.Latch (latch_reply.Granted same)))
+        (obtained_stand deck run hand latch mode id steps s.0) (record { caller = s.1.caller; stand = s.1.stand })
+    goes (Confirming run hand latch mode id steps) (reply_of.Latch latch_reply.Waiting) s f = refl
+    goes (Confirming run hand latch mode id steps) r s f = refl
+    goes (Freeing run hand latch id steps) (reply_of.Latch (latch_reply.Released granted)) s f =
+        ap (λ p. stepping c deck i run (keeps kept (initiator_asks (length deck) i (Freeing run hand latch id steps))
+        (reply_of.Latch (latch_reply.Released granted)))
+        (going_on (keeps kept (initiator_asks (length deck) i (Freeing run hand latch id steps))
+        (reply_of.Latch (latch_reply.Released granted))) p (unrefused (λ granted. steps_rest c run hand steps))))
+        (nothing_posted c h.wakes kept (Done (Ok granted)) f)
+        ∙ steps_enter run (hand_without hand latch) steps
+        (keeps kept (initiator_asks (length deck) i (Freeing run hand latch id steps))
+        (reply_of.Latch (latch_reply.Released granted)))
+        (freed_stand deck run hand latch steps s.0.0) (freed_kept i kept run hand latch id s.0.0.holds s.0.1 s.1 refl refl)
+    goes (Freeing run hand latch id steps) r s f = refl
+    goes (Reading run hand volume amount steps) (reply_of.Volume (volume_reply.Value number)) s f =
+        elim (nat_lt (number + amount) (2 ^ 32)) as
+        (λ b. stepping c deck i run (keeps kept (initiator_asks (length deck) i (Reading run hand volume amount steps))
+        (reply_of.Volume (volume_reply.Value number)))
+        ((if b then followed (write_volume volume (number + amount)) (λ stored. steps_rest c run hand steps) else wrong)
+        (keeps kept (initiator_asks (length deck) i (Reading run hand volume amount steps))
+        (reply_of.Volume (volume_reply.Value number))))
+        ≡ program_at (initiator_program c deck i
+        (keeps kept (initiator_asks (length deck) i (Reading run hand volume amount steps))
+        (reply_of.Volume (volume_reply.Value number)))) (if b then At (Writing run hand volume amount number steps) else Astray)) [
+          | true ↦ refl
+          | false ↦ refl
+        ]
+    goes (Reading run hand volume amount steps) r s f = refl
+    goes (Writing run hand volume amount number steps) (reply_of.Volume volume_reply.Stored) s f =
+        steps_enter run hand steps (keeps kept (initiator_asks (length deck) i (Writing run hand volume amount number steps))
+        (reply_of.Volume volume_reply.Stored))
+        (record {
+          turn = s.0.turn;
+          holds = s.0.holds;
+          left = left_next deck run (Count volume amount) steps tt s.0.left;
+          sound = s.0.sound.4;
+        }) (record { caller = s.1.caller; stand = s.1.stand })
+    goes (Writing run hand volume amount number steps) r s f = refl
+    goes (Scanning run hand volume steps) (reply_of.Volume (volume_reply.Value number)) s f = refl
+    goes (Scanning run hand volume steps) r s f = refl
+    goes (Rescanning run hand volume number steps) (reply_of.Volume (volume_reply.Value again)) s f =
+        steps_enter run hand steps (keeps kept (initiator_asks (length deck) i (Rescanning run hand volume number steps))
+        (reply_of.Volume (volume_reply.Value again)))
+        (record { turn = s.0.turn; holds = s.0.holds; left = left_next deck run (Scan volume) steps tt s.0.left; sound = s.0.sound.2 })
+        (record { caller = s.1.caller; stand = s.1.stand })
+    goes (Rescanning run hand volume number steps) r s f = refl
+    goes (Purging run hand code) (reply_of.Latch (latch_reply.Purged removed granted)) s f =
+        ap (λ p. ending c deck i run (keeps kept (initiator_asks (length deck) i (Purging run hand code))
+        (reply_of.Latch (latch_reply.Purged removed granted)))
+        (and_then p (λ counts. wake_posted c (Some (done (length deck) run.job)) code kept (Done counts))))
+        (nothing_posted c h.wakes kept (Done (record { removed = removed; granted = granted })) f)
+        ∙ ap (λ p. ending c deck i run (keeps kept (initiator_asks (length deck) i (Purging run hand code))
+        (reply_of.Latch (latch_reply.Purged removed granted)))
+        (and_then p (λ p. Done (record { removed = removed; granted = granted }))))
+        (post_is_now c (done (length deck) run.job) code kept some_blocks)
+    goes (Purging run hand code) r s f = refl
+    goes (EndingJob run code counts) (reply_of.Ecb (ecb_reply.Woke (suc x))) s f =
+        ap (λ m. ending c deck i run (keeps kept (initiator_asks (length deck) i (EndingJob run code counts))
+        (reply_of.Ecb (ecb_reply.Woke (suc x))))
+        (and_then (each_posted (post_within (length c.owners - 1) c code) (posted_next c (Woke m)) (Woke m)) (λ p. Done counts))) f
+        ∙ ap (λ es. ending c deck i run
+        (keeps kept (initiator_asks (length deck) i (EndingJob run code counts)) (reply_of.Ecb (ecb_reply.Woke (suc x))))
+        (and_then (each_posted (post_within (length c.owners - 1) c code) es (Woke (run.job + 1))) (λ p. Done counts)))
+        (facts.targets run.job s.0.turn.job)
+        ∙ ap (λ d. ending c deck i run (keeps kept (initiator_asks (length deck) i (EndingJob run code counts))
+        (reply_of.Ecb (ecb_reply.Woke (suc x))))
+        (and_then (each_posted (post_within d c code)
+        (end_for_scheduler (length deck) run.job ∷ end_for_writer (length deck) run.job ∷ []) (Woke (run.job + 1)))
+        (λ p. Done counts))) (deeper run s.0.turn.job)
+    goes (EndingJob run code counts) (reply_of.Ecb (ecb_reply.Woke zero)) s f =
+        turns_after_enter run (keeps kept (initiator_asks (length deck) i (EndingJob run code counts))
+        (reply_of.Ecb (ecb_reply.Woke zero)))
+    goes (EndingJob run code counts) (reply_of.Ecb ecb_reply.Posted) s f =
+        turns_after_enter run (keeps kept (initiator_asks (length deck) i (EndingJob run code counts)) (reply_of.Ecb ecb_reply.Posted))
+    goes (EndingJob run code counts) (reply_of.Ecb (ecb_reply.Already old)) s f =
+        turns_after_enter run (keeps kept (initiator_asks (length deck) i (EndingJob run code counts))
+        (reply_of.Ecb (ecb_reply.Already old)))
+    goes (EndingJob run code counts) r s f = refl
+    goes (EndingForScheduler run code counts) r s f =
+        posted_goes c _ (λ p. ending c deck i run (keeps kept (initiator_asks (length deck) i (EndingForScheduler run code counts)) r)
+        (and_then (and_then p (λ p. each_posted (posting_next c code) (end_for_writer (length deck) run.job ∷ []) (Woke (run.job + 1))))
+        (λ p. Done counts)))
+        (initiator_program c deck i (keeps kept (initiator_asks (length deck) i (EndingForScheduler run code counts)) r))
+        (At (EndingForWriter run code counts)) r
+        (λ p. refl) refl f
+    goes (EndingForWriter run code counts) r s f =
+        posted_goes c _ (λ p. ending c deck i run (keeps kept (initiator_asks (length deck) i (EndingForWriter run code counts)) r)
+        (and_then (and_then p (λ p. each_posted (posting_next c code) [] (Woke (run.job + 1)))) (λ p. Done counts)))
+        (initiator_program c deck i (keeps kept (initiator_asks (length deck) i (EndingForWriter run code counts)) r))
+        (turns_after run) r
+        (λ p. turns_after_enter run (keeps kept (initiator_asks (length deck) i (EndingForWriter run code counts)) r)) refl f
+    goes (Closing g) (reply_of.Element element_reply.Closed) s f = refl
+    goes (Closing g) r s f = refl

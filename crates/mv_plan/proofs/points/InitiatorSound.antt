@@ -1,0 +1,610 @@
+-- Where an initiator may stand: its turns, the steps that are left of its job, the latches in its hand, the code that it ends
+-- with; and what it keeps there. Kept by each of its steps, whatever the reply.
+use Rattle.std.proofs.Common.{◌≡◌, ℕ, zero, suc, ◌+◌, ◌-◌, ◌^◌, ◌<◌, ◌≤◌, ◌==◌, nat_le, nat_lt, Bool, true, false, not, ◌&&◌}
+use Rattle.std.proofs.Common.{if◌then◌else◌, List, [], ◌∷◌, ◌++◌, length, map, filter, Option, Some, None, refl, sym, ap, ◌∙◌, subst}
+use Rattle.std.proofs.Common.{append_assoc, arith}
+use Rattle.std.specs.List.{AllByRecursion, list_any}
+use Rattle.std.proofs.lemmas.Bool.{eq-eqb, ne_eqb, eqb-true, leb-true, false≢true, and_parts}
+use Rattle.std.proofs.lemmas.List.{length-append}
+use Rattle.mv_ecb.specs.declared.operation.EcbReply.TheVariants as ecb_reply
+use Rattle.mv_element.specs.declared.operation.ElementReply.TheVariants as element_reply
+use Rattle.mv_latch.specs.declared.operation.LatchReply.TheVariants as latch_reply
+use Rattle.mv_latch.specs.declared.request.LatchForm.TheVariants as form_of
+use Rattle.mv_latch.specs.declared.request.Mode.{Mode}
+use Rattle.mv_machine.specs.declared.entry.Reply.{Reply}
+use Rattle.mv_machine.specs.declared.entry.Reply.TheVariants as reply_of
+use Rattle.mv_machine.specs.declared.entry.VolumeReply.TheVariants as volume_reply
+use Rattle.mv_machine.specs.Kept.{StandingRequest, is_named, is_for, less}
+use Rattle.mv_machine.specs.System.{with_at}
+use Rattle.mv_deck.specs.Deck.{JobData}
+use Rattle.mv_deck.specs.declared.deck.Step.{Step}
+use Rattle.mv_deck.specs.declared.deck.Step.TheVariants.{Print, Use, Free, Count, Scan, Abend, Return}
+use Rattle.mv_plan.specs.Jobs.{job_at}
+use Rattle.mv_plan.proofs.deck.Sound.{Held, is_held, AreSoundSteps, AreSoundJobs}
+use Rattle.mv_report.specs.EndCode.{not_run}
+use Rattle.mv_report.specs.Outcome.{own_end}
+use Rattle.mv_machine.specs.calls.Waits.{AreDistinct}
+use Rattle.mv_machine.specs.calls.Keeping.{Kept, nothing_kept}
+use Rattle.mv_plan.specs.SpoolSetup.{initiator}
+use Rattle.mv_plan.specs.SpoolTasks.{Named, job_named, code_of, not_to_run}
+use Rattle.mv_plan.proofs.points.Points.{Point, At, Astray, Grant, Running, Hand, empty_hand, hand_with, without_latch, hand_without}
+use Rattle.mv_plan.proofs.points.Points.{InitiatorAt, Opening, Offering, Pausing, Resuming, Obtaining, Confirming, Freeing, Reading}
+use Rattle.mv_plan.proofs.points.Points.{Writing, Scanning, Rescanning, Purging, EndingJob, EndingForScheduler, EndingForWriter, Closing}
+use Rattle.mv_plan.proofs.points.Points.{initiator_asks, initiator_goes, turns_from, turns_after, freeing_at, steps_at, running}
+use Rattle.mv_plan.proofs.points.Points.{job_start, named_at, given_at, counting_at}
+use Rattle.mv_plan.proofs.points.PostsAndWaits.{on_posted_keeps}
+use Rattle.mv_plan.proofs.points.ReaderAndWriter.{keeps}
+use Rattle.mv_machine.proofs.Lists.{all_push}
+
+-- ---- turns
+
+-- the jobs that were named before are different jobs of the n, and with the turns that are left there are n
+pub record IsTurn (n more : ℕ) (before : List ℕ) : Type 0 where
+  pub count : length before + more ≡ n
+  pub below : AllByRecursion (λ j. j < n) before
+  pub distinct : AreDistinct before
+
+-- so are the jobs that were named before the running one, and it
+pub record IsRunning (n : ℕ) (run : Running) : Type 0 where
+  pub turn : IsTurn n run.more run.before
+  pub job : run.job < n
+  pub new : list_any (λ j. j == run.job) run.before ≡ false
+
+-- the code that a job is to end with, once an initiator has it
+abbrev pub IsEnd : List JobData → Running → ℕ → Type 0
+IsEnd deck run code = code ≡ (if run.skipped then not_run else own_end (job_at deck run.job).steps)
+
+-- ---- steps
+
+abbrev pub GoesOn : Step → Type 0
+GoesOn (Abend code) = ⊥
+GoesOn (Return code) = ⊥
+GoesOn step = Unit {0}
+
+-- these are the running job's steps behind others, none of which ended the job
+pub record AreLeft (deck : List JobData) (run : Running) (steps : List Step) : Type 0 where
+  pub past : List Step
+  pub whole : past ++ steps ≡ (job_at deck run.job).steps
+  pub going : AllByRecursion GoesOn past
+  pub runs : run.skipped ≡ false
+
+-- the latches that it holds, as the deck's soundness sees them
+abbrev pub held_of : List Grant → List Held
+held_of gs = map (λ g. record { latch = g.latch; mode = g.mode }) gs
+
+-- latches rise
+abbrev pub Rises : ℕ → List Grant → Type 0
+Rises low [] = Unit {0}
+Rises low (g ∷ gs) = (low ≤ g.latch) × Rises (g.latch + 1) gs
+
+-- the latches that are held rise, and the request that it last had at each is the one that holds it
+pub record IsHand (hand : Hand) : Type 0 where
+  pub rises : Rises 0 hand.holding
+  pub last : AllByRecursion (λ g. hand.requests g.latch ≡ Some g.id) hand.holding
+
+pub record IsStepping (deck : List JobData) (run : Running) (hand : Hand) (steps : List Step) : Type 0 where
+  pub turn : IsRunning (length deck) run
+  pub holds : IsHand hand
+  pub left : AreLeft deck run steps
+  pub sound : AreSoundSteps (held_of hand.holding) steps
+
+pub record IsEnding (deck : List JobData) (run : Running) (code : ℕ) : Type 0 where
+  pub turn : IsRunning (length deck) run
+  pub end : IsEnd deck run code
+
+abbrev pub IsInitiatorAt : List JobData → Point InitiatorAt → Type 0
+IsInitiatorAt deck (At Opening) = Unit {0}
+IsInitiatorAt deck (At (Offering more before g)) = IsTurn (length deck) more before
+IsInitiatorAt deck (At (Pausing more before g)) = IsTurn (length deck) more before
+IsInitiatorAt deck (At (Resuming more before g)) = IsTurn (length deck) more before
+IsInitiatorAt deck (At (Obtaining run hand latch mode steps)) = IsStepping deck run hand (Use latch mode ∷ steps)
+IsInitiatorAt deck (At (Confirming run hand latch mode id steps)) = IsStepping deck run hand (Use latch mode ∷ steps)
+IsInitiatorAt deck (At (Freeing run hand latch id steps)) =
+    IsStepping deck run hand (Free latch ∷ steps) × (hand.requests latch ≡ Some id)
+IsInitiatorAt deck (At (Reading run hand volume amount steps)) = IsStepping deck run hand (Count volume amount ∷ steps)
+IsInitiatorAt deck (At (Writing run hand volume amount number steps)) = IsStepping deck run hand (Count volume amount ∷ steps)
+IsInitiatorAt deck (At (Scanning run hand volume steps)) = IsStepping deck run hand (Scan volume ∷ steps)
+IsInitiatorAt deck (At (Rescanning run hand volume number steps)) = IsStepping deck run hand (Scan volume ∷ steps)
+IsInitiatorAt deck (At (Purging run hand code)) = IsEnding deck run code
+IsInitiatorAt deck (At (EndingJob run code counts)) = IsEnding deck run code
+IsInitiatorAt deck (At (EndingForScheduler run code counts)) = IsEnding deck run code
+IsInitiatorAt deck (At (EndingForWriter run code counts)) = IsEnding deck run code
+IsInitiatorAt deck p = Unit {0}
+
+-- ---- what it keeps
+
+-- the requests of the running job that stand
+abbrev pub standing_of : ℕ → ℕ → List Grant → List StandingRequest
+standing_of k job gs = map (λ g.
+    record {
+      latch = g.latch;
+      request =
+          record { id = g.id; caller = k; requestor = job + 1; mode = g.mode; form = form_of.Waiting };
+    }) gs
+
+pub record InitiatorKept (i : ℕ) (requests : List StandingRequest) (kept : Kept) : Type 0 where
+  pub caller : kept.caller ≡ initiator i
+  pub stand : kept.requests ≡ requests
+
+abbrev pub InitiatorKeptAt : ℕ → Kept → Point InitiatorAt → Type 0
+InitiatorKeptAt i kept (At Opening) = kept ≡ nothing_kept (initiator i)
+InitiatorKeptAt i kept (At (Offering more before g)) = InitiatorKept i [] kept
+InitiatorKeptAt i kept (At (Pausing more before g)) = InitiatorKept i [] kept
+InitiatorKeptAt i kept (At (Resuming more before g)) = InitiatorKept i [] kept
+InitiatorKeptAt i kept (At (Obtaining run hand latch mode steps)) =
+    InitiatorKept i (standing_of (initiator i) run.job hand.holding) kept
+InitiatorKeptAt i kept (At (Confirming run hand latch mode id steps)) =
+    InitiatorKept i (standing_of (initiator i) run.job (hand_with hand latch mode id).holding) kept
+InitiatorKeptAt i kept (At (Freeing run hand latch id steps)) = InitiatorKept i (standing_of (initiator i) run.job hand.holding) kept
+InitiatorKeptAt i kept (At (Reading run hand volume amount steps)) =
+    InitiatorKept i (standing_of (initiator i) run.job hand.holding) kept
+InitiatorKeptAt i kept (At (Writing run hand volume amount number steps)) =
+    InitiatorKept i (standing_of (initiator i) run.job hand.holding) kept
+InitiatorKeptAt i kept (At (Scanning run hand volume steps)) = InitiatorKept i (standing_of (initiator i) run.job hand.holding) kept
+InitiatorKeptAt i kept (At (Rescanning run hand volume number steps)) =
+    InitiatorKept i (standing_of (initiator i) run.job hand.holding) kept
+InitiatorKeptAt i kept (At (Purging run hand code)) = InitiatorKept i (standing_of (initiator i) run.job hand.holding) kept
+InitiatorKeptAt i kept (At (EndingJob run code counts)) = InitiatorKept i [] kept
+InitiatorKeptAt i kept (At (EndingForScheduler run code counts)) = InitiatorKept i [] kept
+InitiatorKeptAt i kept (At (EndingForWriter run code counts)) = InitiatorKept i [] kept
+InitiatorKeptAt i kept (At (Closing g)) = InitiatorKept i [] kept
+InitiatorKeptAt i kept p = Unit {0}
+
+abbrev pub InitiatorStands : List JobData → ℕ → Kept → Point InitiatorAt → Type 0
+InitiatorStands deck i kept p = IsInitiatorAt deck p × InitiatorKeptAt i kept p
+
+-- ---- codes and their jobs
+
+pub named_is : (n code : ℕ) (named : Named) → job_named n code ≡ Some named → (named.job < n) × (code ≡ code_of named.job named.skipped)
+named_is n code named e = first (nat_le 1 code && nat_le code n) refl e where
+  second : (b : Bool) → (nat_le (1 + not_to_run) code && nat_le code (n + not_to_run)) ≡ b
+      → (if b then Some (record { job = code - (1 + not_to_run); skipped = true }) else None) ≡ Some named
+      → (named.job < n) × (code ≡ code_of named.job named.skipped)
+  second true t e =
+      let q : ◌≡◌ {A = Named} (record { job = code - (1 + not_to_run); skipped = true }) named = cc e in
+      let lows : (nat_le (1 + not_to_run) code ≡ true) × (nat_le code (n + not_to_run) ≡ true) =
+      and_parts (nat_le (1 + not_to_run) code) (nat_le code (n + not_to_run)) t in
+      let a : 1 + not_to_run ≤ code = leb-true (1 + not_to_run) code lows.0 in let b : code ≤ n + not_to_run =
+      leb-true code (n + not_to_run) lows.1 in
+      subst (λ d. (d.job < n) × (code ≡ code_of d.job d.skipped)) q (omega arith, omega arith)
+  second false t e = absurd (cc e)
+
+  first : (b : Bool) → (nat_le 1 code && nat_le code n) ≡ b
+      → (if b then Some (record { job = code - 1; skipped = false }) else if nat_le (1 + not_to_run) code && nat_le code
+      (n + not_to_run) then Some (record { job = code - (1 + not_to_run); skipped = true }) else None) ≡ Some named
+      → (named.job < n) × (code ≡ code_of named.job named.skipped)
+  first true t e =
+      let q : ◌≡◌ {A = Named} (record { job = code - 1; skipped = false }) named = cc e in
+      let lows : (nat_le 1 code ≡ true) × (nat_le code n ≡ true) = and_parts (nat_le 1 code) (nat_le code n) t in
+      let a : 1 ≤ code = leb-true 1 code lows.0 in let b : code ≤ n = leb-true code n lows.1 in
+      subst (λ d. (d.job < n) × (code ≡ code_of d.job d.skipped)) q (omega arith, omega arith)
+  first false t e = second (nat_le (1 + not_to_run) code && nat_le code (n + not_to_run)) refl e
+
+-- ---- ends
+
+pub own_end_left : (past steps : List Step) → AllByRecursion GoesOn past → own_end (past ++ steps) ≡ own_end steps
+own_end_left [] steps g = refl
+own_end_left (Print text ∷ past) steps g = own_end_left past steps g.1
+own_end_left (Use latch mode ∷ past) steps g = own_end_left past steps g.1
+own_end_left (Free latch ∷ past) steps g = own_end_left past steps g.1
+own_end_left (Count volume amount ∷ past) steps g = own_end_left past steps g.1
+own_end_left (Scan volume ∷ past) steps g = own_end_left past steps g.1
+own_end_left (Abend code ∷ past) steps g = absurd g.0
+own_end_left (Return code ∷ past) steps g = absurd g.0
+
+-- one step was done
+pub left_next : (deck : List JobData) (run : Running) (step : Step) (steps : List Step) → GoesOn step → AreLeft deck run (step ∷ steps)
+    → AreLeft deck run steps
+left_next deck run step steps s l =
+    record {
+      past = l.past ++ step ∷ [];
+      whole = append_assoc l.past (step ∷ []) steps
+          ∙ l.whole;
+      going = all_push GoesOn l.past step l.going s;
+      runs = l.runs;
+    }
+
+-- the code of the job's end, at the step that ends it
+pub left_end : (deck : List JobData) (run : Running) (steps : List Step) → AreLeft deck run steps → IsEnd deck run (own_end steps)
+left_end deck run steps l = sym
+    (ap (λ b. if b then not_run else own_end (job_at deck run.job).steps) l.runs ∙ ap (λ ss. own_end ss) (sym l.whole)
+    ∙ own_end_left l.past steps l.going)
+
+-- ---- hands
+
+rises_less : (low high : ℕ) (gs : List Grant) → low ≤ high → Rises high gs → Rises low gs
+rises_less low high [] le r = tt
+rises_less low high (g ∷ gs) le r = (omega arith, r.1)
+
+rises_push : (low latch : ℕ) (mode : Mode) (id : ℕ) (gs : List Grant) → Rises low gs → low ≤ latch
+    → AllByRecursion (λ h. h.latch < latch) (held_of gs) → Rises low (gs ++ record { latch = latch; mode = mode; id = id } ∷ [])
+rises_push low latch mode id [] r le b = (le, tt)
+rises_push low latch mode id (g ∷ gs) r le b =
+    (r.0, rises_push (g.latch + 1) latch mode id gs r.1 (let lt : g.latch < latch = b.0 in omega arith) b.1)
+
+rises_without : (low latch : ℕ) (gs : List Grant) → Rises low gs → Rises low (without_latch latch gs)
+rises_without low latch [] r = tt
+rises_without low latch (g ∷ gs) r =
+    elim (g.latch == latch) as (λ b. Rises low (if not b then g ∷ without_latch latch gs else without_latch latch gs)) [
+      | true ↦ rises_less low (g.latch + 1) (without_latch latch gs) (let le : low ≤ g.latch = r.0 in omega arith)
+          (rises_without (g.latch + 1) latch gs r.1)
+      | false ↦ (r.0, rises_without (g.latch + 1) latch gs r.1)
+    ]
+
+-- those that are held below a latch are not more than it
+pub rises_few : (low latch : ℕ) (gs : List Grant) → Rises low gs → low ≤ latch → AllByRecursion (λ h. h.latch < latch) (held_of gs)
+    → low + length gs ≤ latch
+rises_few low latch [] r le b = omega arith
+rises_few low latch (g ∷ gs) r le b =
+    let lt : g.latch < latch = b.0 in let at : low ≤ g.latch = r.0 in
+    let few : (g.latch + 1) + length gs ≤ latch = rises_few (g.latch + 1) latch gs r.1 (omega arith) b.1 in omega arith
+
+last_push : (requests : ℕ → Option ℕ) (latch : ℕ) (mode : Mode) (id : ℕ) (gs : List Grant)
+    → AllByRecursion (λ g. requests g.latch ≡ Some g.id) gs → AllByRecursion (λ h. h.latch < latch) (held_of gs)
+    → AllByRecursion (λ g. with_at requests latch (Some id) g.latch ≡ Some g.id)
+    (gs ++ record { latch = latch; mode = mode; id = id } ∷ [])
+last_push requests latch mode id [] l b = (ap (λ t. if t then Some id else requests latch) (eq-eqb latch latch refl), tt)
+last_push requests latch mode id (g ∷ gs) l b = (
+  ap (λ t. if t then Some id else requests g.latch) (ne_eqb g.latch latch (λ q. let lt : g.latch < latch = b.0 in absurd (omega arith)))
+      ∙ l.0,
+  last_push requests latch mode id gs l.1 b.1,
+)
+
+last_without : (requests : ℕ → Option ℕ) (latch : ℕ) (gs : List Grant) → AllByRecursion (λ g. requests g.latch ≡ Some g.id) gs
+    → AllByRecursion (λ g. requests g.latch ≡ Some g.id) (without_latch latch gs)
+last_without requests latch [] l = tt
+last_without requests latch (g ∷ gs) l =
+    elim (g.latch == latch) as (λ b. AllByRecursion (λ g. requests g.latch ≡ Some g.id)
+    (if not b then g ∷ without_latch latch gs else without_latch latch gs)) [
+      | true ↦ last_without requests latch gs l.1
+      | false ↦ (l.0, last_without requests latch gs l.1)
+    ]
+
+pub hand_push : (hand : Hand) (latch : ℕ) (mode : Mode) (id : ℕ) → IsHand hand
+    → AllByRecursion (λ h. h.latch < latch) (held_of hand.holding) → IsHand (hand_with hand latch mode id)
+hand_push hand latch mode id h b =
+    record {
+      rises = rises_push 0 latch mode id hand.holding h.rises (omega arith) b;
+      last = last_push hand.requests latch mode id hand.holding h.last b;
+    }
+
+pub hand_less : (hand : Hand) (latch : ℕ) → IsHand hand → IsHand (hand_without hand latch)
+hand_less hand latch h = record {
+  rises = rises_without 0 latch hand.holding h.rises;
+  last = last_without hand.requests latch hand.holding h.last;
+}
+
+pub held_push : (gs : List Grant) (latch : ℕ) (mode : Mode) (id : ℕ)
+    → held_of (gs ++ record { latch = latch; mode = mode; id = id } ∷ []) ≡ held_of gs ++ record { latch = latch; mode = mode } ∷ []
+held_push [] latch mode id = refl
+held_push (g ∷ gs) latch mode id = ap (λ hs. record { latch = g.latch; mode = g.mode } ∷ hs) (held_push gs latch mode id)
+
+pub held_without : (gs : List Grant) (latch : ℕ) → held_of (without_latch latch gs) ≡ filter (λ h. not (is_held latch h)) (held_of gs)
+held_without [] latch = refl
+held_without (g ∷ gs) latch =
+    elim (g.latch == latch) as (λ b. held_of (if not b then g ∷ without_latch latch gs else without_latch latch gs) ≡
+    (if not b then record { latch = g.latch; mode = g.mode } ∷ filter (λ h. not (is_held latch h)) (held_of gs) else filter
+    (λ h. not (is_held latch h)) (held_of gs))) [
+      | true ↦ held_without gs latch
+      | false ↦ ap (λ hs. record { latch = g.latch; mode = g.mode } ∷ hs) (held_without gs latch)
+    ]
+
+pub standing_push : (k job latch : ℕ) (mode : Mode) (id : ℕ) (gs : List Grant)
+    → standing_of k job (gs ++ record { latch = latch; mode = mode; id = id } ∷ []) ≡ standing_of k job gs ++
+    record {
+      latch = latch;
+      request =
+          record { id = id; caller = k; requestor = job + 1; mode = mode; form = form_of.Waiting };
+    } ∷ []
+standing_push k job latch mode id [] = refl
+standing_push k job latch mode id (g ∷ gs) =
+    ap (λ ts. record {
+      latch = g.latch;
+      request = record { id = g.id; caller = k; requestor = job + 1; mode = g.mode; form = form_of.Waiting };
+    } ∷ ts)
+    (standing_push k job latch mode id gs)
+
+pub standing_without : (k job latch id : ℕ) (requests : ℕ → Option ℕ) (gs : List Grant)
+    → AllByRecursion (λ g. requests g.latch ≡ Some g.id) gs → requests latch ≡ Some id
+    → less (is_named latch id) (standing_of k job gs) ≡ standing_of k job (without_latch latch gs)
+standing_without k job latch id requests [] l e = refl
+standing_without k job latch id requests (g ∷ gs) l e =
+    go (g.latch == latch) refl (standing_without k job latch id requests gs l.1 e) where
+      here : StandingRequest
+      here = record {
+        latch = g.latch;
+        request = record { id = g.id; caller = k; requestor = job + 1; mode = g.mode; form = form_of.Waiting };
+      }
+
+      go : (b : Bool) → (g.latch == latch) ≡ b
+          → less (is_named latch id) (standing_of k job gs) ≡ standing_of k job (without_latch latch gs)
+          → (if not ((g.latch == latch) && (g.id == id)) then here ∷ less (is_named latch id) (standing_of k job gs) else less
+          (is_named latch id) (standing_of k job gs))
+          ≡ standing_of k job (if not (g.latch == latch) then g ∷ without_latch latch gs else without_latch latch gs)
+      go true t rest =
+          let same : requests latch ≡ Some g.id = subst (λ m. requests m ≡ Some g.id) (eqb-true g.latch latch t) l.0 in
+          let ids : g.id ≡ id = cc (same, e) in
+          rw (t, eq-eqb g.id id ids) rest
+      go false t rest = rw t (ap (λ ts. here ∷ ts) rest)
+
+pub standing_purged : (k job : ℕ) (gs : List Grant) → less (is_for (job + 1)) (standing_of k job gs) ≡ []
+standing_purged k job [] = refl
+standing_purged k job (g ∷ gs) =
+    ap (λ b. if not b then record {
+      latch = g.latch;
+      request = record { id = g.id; caller = k; requestor = job + 1; mode = g.mode; form = form_of.Waiting };
+    } ∷ less (is_for (job + 1))
+    (standing_of k job gs) else less (is_for (job + 1)) (standing_of k job gs)) (eq-eqb (job + 1) (job + 1) refl)
+    ∙ standing_purged k job gs
+
+-- a latch that is held has a request that it last had there
+pub held_request : (requests : ℕ → Option ℕ) (latch : ℕ) (gs : List Grant) → AllByRecursion (λ g. requests g.latch ≡ Some g.id) gs
+    → list_any (is_held latch) (held_of gs) ≡ true → (id : ℕ) × (requests latch ≡ Some id)
+held_request requests latch [] l h = absurd (false≢true h)
+held_request requests latch (g ∷ gs) l h = go (g.latch == latch) refl (λ t. held_request requests latch gs l.1 t) where
+  go : (b : Bool) → (g.latch == latch) ≡ b → (list_any (is_held latch) (held_of gs) ≡ true → (id : ℕ) × (requests latch ≡ Some id))
+      → (id : ℕ) × (requests latch ≡ Some id)
+  go true e rest = (g.id, subst (λ k. requests k ≡ Some g.id) (eqb-true g.latch latch e) l.0)
+  go false e rest = rest (rw e at h)
+
+-- ---- each point's next stands
+
+pub job_sound : (j k : ℕ) (jobs : List JobData) → AreSoundJobs k jobs → j < length jobs → AreSoundSteps [] (job_at jobs j).steps
+job_sound j k [] s lt = absurd (omega arith)
+job_sound zero k (job ∷ jobs) s lt = s.0.steps
+job_sound (suc j) k (job ∷ jobs) s lt = job_sound j (k + 1) jobs s.1 (omega arith)
+
+before_below : (n : ℕ) (before : List ℕ) (job : ℕ) → AllByRecursion (λ j. j < n) before → job < n
+    → AllByRecursion (λ j. j < n) (before ++ job ∷ [])
+before_below n [] job b lt = (lt, tt)
+before_below n (k ∷ before) job b lt = (b.0, before_below n before job b.1 lt)
+
+differs_push : (ks : List ℕ) (m job : ℕ) → AllByRecursion (λ j. j ≡ m → ⊥) ks → (job ≡ m → ⊥)
+    → AllByRecursion (λ j. j ≡ m → ⊥) (ks ++ job ∷ [])
+differs_push [] m job d n = (n, tt)
+differs_push (k ∷ ks) m job d n = (d.0, differs_push ks m job d.1 n)
+
+distinct_push : (ks : List ℕ) (job : ℕ) → AreDistinct ks → list_any (λ j. j == job) ks ≡ false → AreDistinct (ks ++ job ∷ [])
+distinct_push [] job d n = (tt, tt)
+distinct_push (k ∷ ks) job d n = go (k == job) refl (λ t. distinct_push ks job d.1 t) where
+  go : (b : Bool) → (k == job) ≡ b → (list_any (λ j. j == job) ks ≡ false → AreDistinct (ks ++ job ∷ []))
+      → AreDistinct (k ∷ (ks ++ job ∷ []))
+  go true e rest = absurd (false≢true (sym (rw e at n)))
+  go false e rest = (differs_push ks k job d.0 (λ q. absurd (false≢true (sym e ∙ eq-eqb k job (sym q)))), rest (rw e at n))
+
+pub turn_next : (n more : ℕ) (run : Running) → run.more ≡ suc more → IsRunning n run → IsTurn n more (run.before ++ run.job ∷ [])
+turn_next n more run e r = record {
+  count = let l : length (run.before ++ run.job ∷ []) ≡ length run.before + 1 = length-append run.before (run.job ∷ []) in
+      let t : length run.before + run.more ≡ n = r.turn.count in omega arith;
+  below = before_below n run.before run.job r.turn.below r.job;
+  distinct = distinct_push run.before run.job r.turn.distinct r.new;
+}
+
+module _ (deck : List JobData) (i : ℕ) (sound : AreSoundJobs 0 deck) (kept : Kept) where
+  turns_stand : (run : Running) → IsRunning (length deck) run → InitiatorKept i [] kept → InitiatorStands deck i kept (turns_after run)
+  turns_stand run r k = go run.more refl where
+    go : (m : ℕ) → run.more ≡ m → InitiatorStands deck i kept (turns_from m (run.before ++ run.job ∷ []) run.generation)
+    go zero e = (tt, tt)
+    go (suc m) e = (turn_next (length deck) m run e r, k)
+
+  freeing_stands : (run : Running) (hand : Hand) (latch : ℕ) (steps : List Step) (slot : Option ℕ) → hand.requests latch ≡ slot
+      → IsStepping deck run hand (Free latch ∷ steps)
+      → InitiatorKept i (standing_of (initiator i) run.job hand.holding) kept
+      → InitiatorStands deck i kept (freeing_at run hand latch slot steps)
+  freeing_stands run hand latch steps None e s k = (tt, tt)
+  freeing_stands run hand latch steps (Some id) e s k = ((s, e), k)
+
+  pub steps_stand : (run : Running) (hand : Hand) (steps : List Step) → IsStepping deck run hand steps
+      → InitiatorKept i (standing_of (initiator i) run.job hand.holding) kept
+      → InitiatorStands deck i kept (steps_at run hand steps)
+  steps_stand run hand [] s k = (record { turn = s.turn; end = left_end deck run [] s.left }, k)
+  steps_stand run hand (Print text ∷ steps) s k =
+      steps_stand run hand steps (record {
+        turn = s.turn;
+        holds = s.holds;
+        left = left_next deck run (Print text) steps tt s.left;
+        sound = s.sound;
+      }) k
+  steps_stand run hand (Use latch mode ∷ steps) s k = (s, k)
+  steps_stand run hand (Free latch ∷ steps) s k = freeing_stands run hand latch steps (hand.requests latch) refl s k
+  steps_stand run hand (Count volume amount ∷ steps) s k = (s, k)
+  steps_stand run hand (Scan volume ∷ steps) s k = (s, k)
+  steps_stand run hand (Abend code ∷ steps) s k = (record { turn = s.turn; end = left_end deck run (Abend code ∷ steps) s.left }, k)
+  steps_stand run hand (Return code ∷ steps) s k = (record { turn = s.turn; end = left_end deck run (Return code ∷ steps) s.left }, k)
+
+  start_stands : (named : Named) (skipped : Bool) (before : List ℕ) (more g : ℕ) → named.skipped ≡ skipped → named.job < length deck
+      → list_any (λ j. j == named.job) before ≡ false → IsTurn (length deck) more before
+      → InitiatorKept i [] kept → InitiatorStands deck i kept (job_start skipped (running named before more g) (job_at deck named.job))
+  start_stands named true before more g e lt new turn k = (
+    record {
+      turn = record { turn = turn; job = lt; new = new };
+      end = sym (ap (λ b. if b then not_run else own_end (job_at deck named.job).steps) e);
+    },
+    k,
+  )
+  start_stands named false before more g e lt new turn k =
+      steps_stand (running named before more g) empty_hand (job_at deck named.job).steps (record {
+        turn = record { turn = turn; job = lt; new = new };
+        holds = record { rises = tt; last = tt };
+        left = record { past = []; whole = refl; going = tt; runs = e };
+        sound = job_sound named.job 0 deck sound lt;
+      }) k
+
+  named_stands : (code more : ℕ) (before : List ℕ) (g : ℕ) (slot : Option Named) → job_named (length deck) code ≡ slot
+      → IsTurn (length deck) more before → InitiatorKept i [] kept
+      → InitiatorStands deck i kept (named_at deck slot before more g)
+  named_stands code more before g None e turn k = (tt, tt)
+  named_stands code zero before g (Some named) e turn k = (tt, tt)
+  named_stands code (suc more) before g (Some named) e turn k = go (list_any (λ j. j == named.job) before) refl where
+    go : (b : Bool) → list_any (λ j. j == named.job) before ≡ b
+        → InitiatorStands deck i kept (if b then Astray else job_start named.skipped (running named before (suc more) g)
+        (job_at deck named.job))
+    go true t = (tt, tt)
+    go false t = start_stands named named.skipped before (suc more) g refl (named_is (length deck) code named e).0 t turn k
+
+  given_stands : (more : ℕ) (before : List ℕ) (code g : ℕ) → IsTurn (length deck) more before → InitiatorKept i [] kept
+      → InitiatorStands deck i kept (given_at deck more before code g)
+  given_stands more before code g turn k =
+      elim (code == 0) as (λ b. InitiatorStands deck i kept
+      (if b then At (Closing g) else named_at deck (job_named (length deck) code) before more g)) [
+        | true ↦ (tt, k)
+        | false ↦ named_stands code more before g (job_named (length deck) code) refl turn k
+      ]
+
+  counting_stands : (run : Running) (hand : Hand) (volume amount : ℕ) (steps : List Step) (number : ℕ)
+      → IsStepping deck run hand (Count volume amount ∷ steps)
+      → InitiatorKept i (standing_of (initiator i) run.job hand.holding) kept
+      → InitiatorStands deck i kept (counting_at run hand volume amount steps number)
+  counting_stands run hand volume amount steps number s k =
+      elim (nat_lt (number + amount) (2 ^ 32)) as
+      (λ b. InitiatorStands deck i kept (if b then At (Writing run hand volume amount number steps) else Astray)) [
+        | true ↦ (s, k)
+        | false ↦ (tt, tt)
+      ]
+
+-- what is kept of the requests changes by latch events alone
+pub obtained_stand : (deck : List JobData) (run : Running) (hand : Hand) (latch : ℕ) (mode : Mode) (id : ℕ) (steps : List Step)
+    → IsStepping deck run hand (Use latch mode ∷ steps) → IsStepping deck run (hand_with hand latch mode id) steps
+obtained_stand deck run hand latch mode id steps s = record {
+  turn = s.turn;
+  holds = hand_push hand latch mode id s.holds s.sound.1;
+  left = left_next deck run (Use latch mode) steps tt s.left;
+  sound = subst (λ hs. AreSoundSteps hs steps) (sym (held_push hand.holding latch mode id)) s.sound.2;
+}
+
+pub pushed_kept : (i : ℕ) (kept : Kept) (run : Running) (hand : Hand) (latch : ℕ) (mode : Mode) (id : ℕ)
+    → InitiatorKept i (standing_of (initiator i) run.job hand.holding) kept → {o : Kept} → o.caller ≡ kept.caller
+    → o.requests ≡ kept.requests ++
+    record {
+      latch = latch;
+      request =
+          record { id = id; caller = kept.caller; requestor = run.job + 1; mode = mode; form = form_of.Waiting };
+    } ∷ []
+    → InitiatorKept i (standing_of (initiator i) run.job (hand_with hand latch mode id).holding) o
+pushed_kept i kept run hand latch mode id k same more = record {
+  caller = same ∙ k.caller;
+  stand = more
+      ∙ ap (λ ts. ts ++ record {
+        latch = latch;
+        request = record {
+          id = id;
+          caller = kept.caller;
+          requestor = run.job + 1;
+          mode = mode;
+          form = form_of.Waiting;
+        };
+      } ∷ []) k.stand
+      ∙ ap (λ c. standing_of (initiator i) run.job hand.holding ++
+      record {
+        latch = latch;
+        request =
+            record { id = id; caller = c; requestor = run.job + 1; mode = mode; form = form_of.Waiting };
+      } ∷ []) k.caller
+      ∙ sym (standing_push (initiator i) run.job latch mode id hand.holding);
+}
+
+pub freed_stand : (deck : List JobData) (run : Running) (hand : Hand) (latch : ℕ) (steps : List Step)
+    → IsStepping deck run hand (Free latch ∷ steps) → IsStepping deck run (hand_without hand latch) steps
+freed_stand deck run hand latch steps s = record {
+  turn = s.turn;
+  holds = hand_less hand latch s.holds;
+  left = left_next deck run (Free latch) steps tt s.left;
+  sound = subst (λ hs. AreSoundSteps hs steps) (sym (held_without hand.holding latch)) s.sound.2;
+}
+
+pub freed_kept : (i : ℕ) (kept : Kept) (run : Running) (hand : Hand) (latch id : ℕ) → IsHand hand → hand.requests latch ≡ Some id
+    → InitiatorKept i (standing_of (initiator i) run.job hand.holding) kept
+    → {o : Kept} → o.caller ≡ kept.caller → o.requests ≡ less (is_named latch id) kept.requests
+    → InitiatorKept i (standing_of (initiator i) run.job (hand_without hand latch).holding) o
+freed_kept i kept run hand latch id h e k same fewer = record {
+  caller = same ∙ k.caller;
+  stand = fewer ∙ ap (λ ts. less (is_named latch id) ts) k.stand
+      ∙ standing_without (initiator i) run.job latch id hand.requests hand.holding h.last e;
+}
+
+pub initiator_stands : (deck : List JobData) (i : ℕ) (kept : Kept) (x : InitiatorAt) (r : Reply) → AreSoundJobs 0 deck
+    → InitiatorStands deck i kept (At x)
+    → InitiatorStands deck i (keeps kept (initiator_asks (length deck) i x) r) (initiator_goes deck x r)
+initiator_stands deck i kept Opening (reply_of.Element (element_reply.Opened g)) sound s = go (length deck + 1) (omega arith) where
+  go : (m : ℕ) → m ≡ suc (length deck)
+      → InitiatorStands deck i (keeps kept (initiator_asks (length deck) i Opening) (reply_of.Element (element_reply.Opened g)))
+      (turns_from m [] g)
+  go zero e = (tt, tt)
+  go (suc m) e = (
+    record { count = omega arith; below = tt; distinct = tt },
+    record { caller = ap (λ k. k.caller) s.1; stand = ap (λ k. k.requests) s.1 },
+  )
+initiator_stands deck i kept Opening r sound s = (tt, tt)
+initiator_stands deck i kept (Offering more before g) r sound s =
+    on_posted_keeps (InitiatorStands deck i (keeps kept (initiator_asks (length deck) i (Offering more before g)) r))
+    (At (Pausing more before g)) r (s.0, record { caller = s.1.caller; stand = s.1.stand }) (tt, tt)
+initiator_stands deck i kept (Pausing more before g) (reply_of.Element (element_reply.Given code now)) sound s =
+    given_stands deck i sound _ more before code now s.0 (record { caller = s.1.caller; stand = s.1.stand })
+initiator_stands deck i kept (Pausing more before g) (reply_of.Element element_reply.Parked) sound s =
+    (s.0, record { caller = s.1.caller; stand = s.1.stand })
+initiator_stands deck i kept (Pausing more before g) r sound s = (tt, tt)
+initiator_stands deck i kept (Resuming more before g) (reply_of.Element (element_reply.Given code now)) sound s =
+    given_stands deck i sound _ more before code now s.0 (record { caller = s.1.caller; stand = s.1.stand })
+initiator_stands deck i kept (Resuming more before g) (reply_of.Element element_reply.NotYet) sound s = (tt, tt)
+initiator_stands deck i kept (Resuming more before g) r sound s = (tt, tt)
+initiator_stands deck i kept (Obtaining run hand latch mode steps) (reply_of.Latch (latch_reply.Granted id)) sound s =
+    steps_stand deck i sound _ run (hand_with hand latch mode id) steps (obtained_stand deck run hand latch mode id steps s.0)
+    (pushed_kept i kept run hand latch mode id s.1 refl refl)
+initiator_stands deck i kept (Obtaining run hand latch mode steps) (reply_of.Latch (latch_reply.Queued id)) sound s =
+    (s.0, pushed_kept i kept run hand latch mode id s.1 refl refl)
+initiator_stands deck i kept (Obtaining run hand latch mode steps) r sound s = (tt, tt)
+initiator_stands deck i kept (Confirming run hand latch mode id steps) (reply_of.Latch (latch_reply.Granted same)) sound s =
+    steps_stand deck i sound _ run (hand_with hand latch mode id) steps (obtained_stand deck run hand latch mode id steps s.0)
+    (record { caller = s.1.caller; stand = s.1.stand })
+initiator_stands deck i kept (Confirming run hand latch mode id steps) (reply_of.Latch latch_reply.Waiting) sound s = (tt, tt)
+initiator_stands deck i kept (Confirming run hand latch mode id steps) r sound s = (tt, tt)
+initiator_stands deck i kept (Freeing run hand latch id steps) (reply_of.Latch (latch_reply.Released granted)) sound s =
+    steps_stand deck i sound _ run (hand_without hand latch) steps (freed_stand deck run hand latch steps s.0.0)
+    (freed_kept i kept run hand latch id s.0.0.holds s.0.1 s.1 refl refl)
+initiator_stands deck i kept (Freeing run hand latch id steps) r sound s = (tt, tt)
+initiator_stands deck i kept (Reading run hand volume amount steps) (reply_of.Volume (volume_reply.Value number)) sound s =
+    counting_stands deck i sound _ run hand volume amount steps number s.0 (record { caller = s.1.caller; stand = s.1.stand })
+initiator_stands deck i kept (Reading run hand volume amount steps) r sound s = (tt, tt)
+initiator_stands deck i kept (Writing run hand volume amount number steps) (reply_of.Volume volume_reply.Stored) sound s =
+    steps_stand deck i sound _ run hand steps
+    (record {
+      turn = s.0.turn;
+      holds = s.0.holds;
+      left = left_next deck run (Count volume amount) steps tt s.0.left;
+      sound = s.0.sound.4;
+    }) (record { caller = s.1.caller; stand = s.1.stand })
+initiator_stands deck i kept (Writing run hand volume amount number steps) r sound s = (tt, tt)
+initiator_stands deck i kept (Scanning run hand volume steps) (reply_of.Volume (volume_reply.Value number)) sound s =
+    (s.0, record { caller = s.1.caller; stand = s.1.stand })
+initiator_stands deck i kept (Scanning run hand volume steps) r sound s = (tt, tt)
+initiator_stands deck i kept (Rescanning run hand volume number steps) (reply_of.Volume (volume_reply.Value again)) sound s =
+    steps_stand deck i sound _ run hand steps
+    (record { turn = s.0.turn; holds = s.0.holds; left = left_next deck run (Scan volume) steps tt s.0.left; sound = s.0.sound.2 })
+    (record { caller = s.1.caller; stand = s.1.stand })
+initiator_stands deck i kept (Rescanning run hand volume number steps) r sound s = (tt, tt)
+initiator_stands deck i kept (Purging run hand code) (reply_of.Latch (latch_reply.Purged removed granted)) sound s = (
+  s.0,
+  record {
+    caller = s.1.caller;
+    stand = ap (λ ts. less (is_for (run.job + 1)) ts) s.1.stand
+        ∙ standing_purged (initiator i) run.job hand.holding;
+  },
+)
+initiator_stands deck i kept (Purging run hand code) r sound s = (tt, tt)
+initiator_stands deck i kept (EndingJob run code counts) (reply_of.Ecb (ecb_reply.Woke (suc x))) sound s =
+    (s.0, record { caller = s.1.caller; stand = s.1.stand })
+initiator_stands deck i kept (EndingJob run code counts) (reply_of.Ecb (ecb_reply.Woke zero)) sound s =
+    turns_stand deck i sound _ run s.0.turn (record { caller = s.1.caller; stand = s.1.stand })
+initiator_stands deck i kept (EndingJob run code counts) (reply_of.Ecb ecb_reply.Posted) sound s =
+    turns_stand deck i sound _ run s.0.turn (record { caller = s.1.caller; stand = s.1.stand })
+initiator_stands deck i kept (EndingJob run code counts) (reply_of.Ecb (ecb_reply.Already old)) sound s =
+    turns_stand deck i sound _ run s.0.turn (record { caller = s.1.caller; stand = s.1.stand })
+initiator_stands deck i kept (EndingJob run code counts) r sound s = (tt, tt)
+initiator_stands deck i kept (EndingForScheduler run code counts) r sound s =
+    on_posted_keeps (InitiatorStands deck i (keeps kept (initiator_asks (length deck) i (EndingForScheduler run code counts)) r))
+    (At (EndingForWriter run code counts)) r (s.0, record { caller = s.1.caller; stand = s.1.stand }) (tt, tt)
+initiator_stands deck i kept (EndingForWriter run code counts) r sound s =
+    on_posted_keeps (InitiatorStands deck i (keeps kept (initiator_asks (length deck) i (EndingForWriter run code counts)) r))
+    (turns_after run) r (turns_stand deck i sound _ run s.0.turn (record { caller = s.1.caller; stand = s.1.stand })) (tt, tt)
+initiator_stands deck i kept (Closing g) (reply_of.Element element_reply.Closed) sound s = (tt, tt)
+initiator_stands deck i kept (Closing g) r sound s = (tt, tt)

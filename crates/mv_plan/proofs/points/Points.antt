@@ -1,0 +1,409 @@
+-- Where a task of the spool stands: the point of its program, the event that it says there, and the point that follows by the
+-- reply. Points of the four tasks are four data; both functions compute, so all later cases are cases of points and replies.
+use Rattle.std.proofs.Common.{ℕ, zero, suc, ◌+◌, ◌==◌, nat_le, nat_lt, Bool, true, false, not, List, [], ◌∷◌, ◌++◌, length, map, filter}
+use Rattle.std.proofs.Common.{Option, Some, None, if◌then◌else◌, ◌^◌}
+use Rattle.std.specs.List.{list_any, range_with_len}
+use Rattle.mv_ecb.specs.declared.operation.EcbOp.TheVariants as ecb_op
+use Rattle.mv_ecb.specs.declared.operation.EcbReply.TheVariants as ecb_reply
+use Rattle.mv_element.specs.declared.operation.ElementOp.TheVariants as element_op
+use Rattle.mv_element.specs.declared.operation.ElementReply.TheVariants as element_reply
+use Rattle.mv_latch.specs.declared.operation.LatchOp.TheVariants as latch_op
+use Rattle.mv_latch.specs.declared.operation.LatchReply.TheVariants as latch_reply
+use Rattle.mv_latch.specs.declared.request.LatchForm.TheVariants as form_of
+use Rattle.mv_latch.specs.declared.request.Mode.{Mode}
+use Rattle.mv_machine.specs.declared.entry.Object.{Object}
+use Rattle.mv_machine.specs.declared.entry.Object.TheVariants.{Ecb, Element, Volume, Latches}
+use Rattle.mv_machine.specs.declared.entry.Op.{Op}
+use Rattle.mv_machine.specs.declared.entry.Op.TheVariants as op_on
+use Rattle.mv_machine.specs.declared.entry.Reply.{Reply}
+use Rattle.mv_machine.specs.declared.entry.Reply.TheVariants as reply_of
+use Rattle.mv_machine.specs.declared.entry.VolumeOp.TheVariants as volume_op
+use Rattle.mv_machine.specs.declared.entry.VolumeReply.TheVariants as volume_reply
+use Rattle.mv_machine.specs.System.{with_at}
+use Rattle.mv_deck.specs.Deck.{JobData}
+use Rattle.mv_deck.specs.declared.deck.Step.{Step}
+use Rattle.mv_deck.specs.declared.deck.Step.TheVariants.{Print, Use, Free, Count, Scan, Abend, Return}
+use Rattle.mv_plan.specs.Jobs.{job_at}
+use Rattle.mv_report.specs.EndCode.{not_run}
+use Rattle.mv_machine.specs.calls.LatchCalls.{Counts}
+use Rattle.mv_plan.specs.SpoolSetup.{entered, done, end_for_scheduler, end_for_writer, idle, initiator}
+use Rattle.mv_plan.specs.SpoolTasks.{Named, job_named, code_of, some_end_above, ends_of}
+use Rattle.mv_machine.specs.calls.Waits.{complete_count}
+
+-- a task is at a point of its program, or that has ended: with its answer, too soon, or by a reply that nothing foresees
+pub data Point (X : Type 0) : Type 0 where
+  At : (x : X) → Point X
+  Finished : (answer : List ℕ) → Point X
+  TooSoon : Point X
+  Astray : Point X
+
+-- ---- points by a reply
+
+-- after a post that starts no exit
+abbrev pub on_posted : {X : Type 0} → Point X → Reply → Point X
+on_posted p (reply_of.Ecb ecb_reply.Posted) = p
+on_posted p (reply_of.Ecb (ecb_reply.Woke x)) = p
+on_posted p (reply_of.Ecb (ecb_reply.Already code)) = p
+on_posted p r = Astray
+
+abbrev pub on_armed : {X : Type 0} → Point X → Reply → Point X
+on_armed p (reply_of.Ecb ecb_reply.Armed) = p
+on_armed p (reply_of.Ecb (ecb_reply.Complete code)) = p
+on_armed p r = Astray
+
+abbrev pub on_settled : {X : Type 0} → (Option ℕ → Point X) → Reply → Point X
+on_settled f (reply_of.Ecb (ecb_reply.Complete code)) = f (Some code)
+on_settled f (reply_of.Ecb ecb_reply.Open) = f None
+on_settled f r = Astray
+
+-- ---- the reader: job j is entered, and as many later ones are still to be entered
+pub data ReaderAt : Type 0 where
+  Entering : (j more : ℕ) → ReaderAt
+
+abbrev pub entering_from : ℕ → ℕ → Point ReaderAt
+entering_from j zero = Finished []
+entering_from j (suc more) = At (Entering j more)
+
+abbrev pub reader_asks : ReaderAt → Object × Op
+reader_asks (Entering j more) = (Ecb (entered j), op_on.Ecb (ecb_op.Post 0))
+
+abbrev pub reader_goes : ReaderAt → Reply → Point ReaderAt
+reader_goes (Entering j more) r = on_posted (entering_from (j + 1) more) r
+
+-- ---- a wait: a block is armed or settled, and then these; with what was found at those before
+pub data WaitAt : Type 0 where
+  Arming : (e : ℕ) (todo : List ℕ) → WaitAt
+  Settling : (e : ℕ) (todo : List ℕ) (found : List (Option ℕ)) → WaitAt
+
+abbrev pub wait_asks : WaitAt → Object × Op
+wait_asks (Arming e todo) = (Ecb e, op_on.Ecb ecb_op.Arm)
+wait_asks (Settling e todo found) = (Ecb e, op_on.Ecb ecb_op.Settle)
+
+abbrev pub lowest_at : {X : Type 0} → (ℕ → ℕ → Point X) → ℕ → List (Option ℕ) → Point X
+lowest_at f p [] = Astray
+lowest_at f p (Some code ∷ slots) = f p code
+lowest_at f p (None ∷ slots) = lowest_at f (p + 1) slots
+
+-- where enough were found
+abbrev pub if_enough : {X : Type 0} → ℕ → List (Option ℕ) → Point X → Point X
+if_enough count found p = if nat_le count (complete_count found) then p else TooSoon
+
+-- ---- the scheduler
+
+-- what is still to be done after an initiator was handed a code: these jobs, the first of them with number j; or initiator i
+-- and so many later ones are to be dismissed
+pub data Stage : Type 0 where
+  Dispatching : (j : ℕ) (jobs : List JobData) → Stage
+  Dismissing : (i more : ℕ) → Stage
+
+-- what it waits for: the entry of job j, the ends that the job waits for, an initiator for it, and an initiator that is to be
+-- dismissed; with the jobs or initiators after it
+pub data Awaited : Type 0 where
+  ForEntry : (j : ℕ) (job : JobData) (jobs : List JobData) → Awaited
+  ForEnds : (j : ℕ) (job : JobData) (jobs : List JobData) → Awaited
+  ForIdle : (j : ℕ) (job : JobData) (jobs : List JobData) (skipped : Bool) → Awaited
+  ToDismiss : (i more : ℕ) → Awaited
+
+pub data SchedulerAt : Type 0 where
+  Waits : (a : Awaited) (w : WaitAt) → SchedulerAt
+  Extends : (j : ℕ) (job : JobData) (jobs : List JobData) (skipped : Bool) → SchedulerAt
+  -- initiator i gave generation g, and gets this code
+  Clears : (i g code : ℕ) (after : Stage) → SchedulerAt
+  Releases : (i g code : ℕ) (after : Stage) → SchedulerAt
+
+-- n is the number of jobs
+abbrev pub awaited_blocks : ℕ → ℕ → Awaited → List ℕ
+awaited_blocks n initiators (ForEntry j job jobs) = entered j ∷ []
+awaited_blocks n initiators (ForEnds j job jobs) = ends_of n job.after
+awaited_blocks n initiators (ForIdle j job jobs skipped) = map (idle n) (range_with_len 0 initiators)
+awaited_blocks n initiators (ToDismiss i more) = idle n i ∷ []
+
+abbrev pub awaited_count : Awaited → ℕ
+awaited_count (ForEntry j job jobs) = 1
+awaited_count (ForEnds j job jobs) = length job.after
+awaited_count (ForIdle j job jobs skipped) = 1
+awaited_count (ToDismiss i more) = 1
+
+abbrev pub scheduler_asks : ℕ → SchedulerAt → Object × Op
+scheduler_asks n (Waits a w) = wait_asks w
+scheduler_asks n (Extends j job jobs skipped) = (Ecb (done n j), op_on.Ecb (ecb_op.Extend (j + 1)))
+scheduler_asks n (Clears i g code after) = (Ecb (idle n i), op_on.Ecb ecb_op.Clear)
+scheduler_asks n (Releases i g code after) = (Element (initiator i), op_on.Element (element_op.Release g code))
+
+-- the first point of a wait for these blocks
+abbrev pub arming_first : Awaited → List ℕ → Point SchedulerAt
+arming_first a [] = Astray
+arming_first a (e ∷ es) = At (Waits a (Arming e es))
+
+abbrev pub ends_at : ℕ → ℕ → JobData → List JobData → Point SchedulerAt
+ends_at n j job jobs = elim job.after [
+  | [] ↦ At (Extends j job jobs false)
+  | part ∷ parts ↦ At (Waits (ForEnds j job jobs) (Arming (end_for_scheduler n part.job) (ends_of n parts)))
+]
+
+abbrev pub dismissing_from : ℕ → ℕ → ℕ → Point SchedulerAt
+dismissing_from n i zero = Finished []
+dismissing_from n i (suc more) = At (Waits (ToDismiss i more) (Arming (idle n i) []))
+
+abbrev pub stage_at : ℕ → ℕ → Stage → Point SchedulerAt
+stage_at n initiators (Dispatching j []) = dismissing_from n 0 initiators
+stage_at n initiators (Dispatching j (job ∷ jobs)) = At (Waits (ForEntry j job jobs) (Arming (entered j) []))
+stage_at n initiators (Dismissing i more) = dismissing_from n i more
+
+-- after a wait that found these, where they are enough
+abbrev pub found_at : ℕ → Awaited → List (Option ℕ) → Point SchedulerAt
+found_at n (ForEntry j job jobs) found = lowest_at (λ p code. ends_at n j job jobs) 0 found
+found_at n (ForEnds j job jobs) found = At (Extends j job jobs (some_end_above job.after found))
+found_at n (ForIdle j job jobs skipped) found =
+    lowest_at (λ i g. At (Clears i g (code_of j skipped) (Dispatching (j + 1) jobs))) 0 found
+found_at n (ToDismiss i more) found = lowest_at (λ p g. At (Clears i g 0 (Dismissing (i + 1) more))) 0 found
+
+abbrev pub settling_from : ℕ → Awaited → List ℕ → List (Option ℕ) → Point SchedulerAt
+settling_from n a [] found = if_enough (awaited_count a) found (found_at n a found)
+settling_from n a (e ∷ es) found = At (Waits a (Settling e es found))
+
+abbrev pub arming_from : ℕ → ℕ → Awaited → List ℕ → Point SchedulerAt
+arming_from n initiators a [] = settling_from n a (awaited_blocks n initiators a) []
+arming_from n initiators a (e ∷ es) = At (Waits a (Arming e es))
+
+-- the jobs' extends, clears and releases by their replies
+abbrev pub on_extended : Point SchedulerAt → Reply → Point SchedulerAt
+on_extended p (reply_of.Ecb ecb_reply.Armed) = p
+on_extended p r = Astray
+
+abbrev pub on_cleared : Point SchedulerAt → Reply → Point SchedulerAt
+on_cleared p (reply_of.Ecb (ecb_reply.Word w)) = p
+on_cleared p r = Astray
+
+abbrev pub on_released : Point SchedulerAt → Reply → Point SchedulerAt
+on_released p (reply_of.Element element_reply.Early) = p
+on_released p (reply_of.Element element_reply.Woke) = p
+on_released p r = Astray
+
+abbrev pub scheduler_goes : ℕ → ℕ → SchedulerAt → Reply → Point SchedulerAt
+scheduler_goes n initiators (Waits a (Arming e todo)) r = on_armed (arming_from n initiators a todo) r
+scheduler_goes n initiators (Waits a (Settling e todo found)) r = on_settled (λ slot. settling_from n a todo (found ++ slot ∷ [])) r
+scheduler_goes n initiators (Extends j job jobs skipped) r =
+    on_extended (arming_first (ForIdle j job jobs skipped) (awaited_blocks n initiators (ForIdle j job jobs skipped))) r
+scheduler_goes n initiators (Clears i g code after) r = on_cleared (At (Releases i g code after)) r
+scheduler_goes n initiators (Releases i g code after) r = on_released (stage_at n initiators after) r
+
+-- ---- the writer: it waits for the end of job j, and as many later ones are still to come; it has kept these ends
+pub data WriterAt : Type 0 where
+  Keeping : (j more : ℕ) (ends : List ℕ) (w : WaitAt) → WriterAt
+
+abbrev pub writing_from : ℕ → ℕ → ℕ → List ℕ → Point WriterAt
+writing_from n j zero ends = Finished ends
+writing_from n j (suc more) ends = At (Keeping j more ends (Arming (end_for_writer n j) []))
+
+abbrev pub writer_asks : WriterAt → Object × Op
+writer_asks (Keeping j more ends w) = wait_asks w
+
+-- the rest of a wait for one block
+abbrev pub end_found : ℕ → ℕ → ℕ → List ℕ → List (Option ℕ) → Point WriterAt
+end_found n j more ends found = if_enough 1 found (lowest_at (λ p end. writing_from n (j + 1) more (ends ++ end ∷ [])) 0 found)
+
+abbrev pub writer_settling : ℕ → ℕ → ℕ → List ℕ → List ℕ → List (Option ℕ) → Point WriterAt
+writer_settling n j more ends [] found = end_found n j more ends found
+writer_settling n j more ends (e ∷ es) found = At (Keeping j more ends (Settling e es found))
+
+abbrev pub writer_arming : ℕ → ℕ → ℕ → List ℕ → List ℕ → Point WriterAt
+writer_arming n j more ends [] = At (Keeping j more ends (Settling (end_for_writer n j) [] []))
+writer_arming n j more ends (e ∷ es) = At (Keeping j more ends (Arming e es))
+
+abbrev pub writer_goes : ℕ → WriterAt → Reply → Point WriterAt
+writer_goes n (Keeping j more ends (Arming e todo)) r = on_armed (writer_arming n j more ends todo) r
+writer_goes n (Keeping j more ends (Settling e todo found)) r =
+    on_settled (λ slot. writer_settling n j more ends todo (found ++ slot ∷ [])) r
+
+-- ---- an initiator
+
+-- a latch that the running job holds, how, and its request's number
+pub record Grant : Type 0 where
+  pub latch : ℕ
+  pub mode : Mode
+  pub id : ℕ
+
+-- the running job, whether it is not to be run, the jobs that were named before it, how many turns are left, and the generation
+-- that the element has
+pub record Running : Type 0 where
+  pub job : ℕ
+  pub skipped : Bool
+  pub before : List ℕ
+  pub more : ℕ
+  pub generation : ℕ
+
+-- the requests that the job last had at the latches, and the latches that it holds
+pub record Hand : Type 0 where
+  pub requests : ℕ → Option ℕ
+  pub holding : List Grant
+
+abbrev pub empty_hand : Hand
+empty_hand = record { requests = λ latch. None; holding = [] }
+
+abbrev pub hand_with : Hand → ℕ → Mode → ℕ → Hand
+hand_with hand latch mode id = record {
+  requests = with_at hand.requests latch (Some id);
+  holding = hand.holding ++ record { latch = latch; mode = mode; id = id } ∷ [];
+}
+
+abbrev pub without_latch : ℕ → List Grant → List Grant
+without_latch latch hs = filter (λ g. not (g.latch == latch)) hs
+
+abbrev pub hand_without : Hand → ℕ → Hand
+hand_without hand latch = record { requests = hand.requests; holding = without_latch latch hand.holding }
+
+pub data InitiatorAt : Type 0 where
+  Opening : InitiatorAt
+  -- a turn: so many turns are left after it, these jobs were named before, and the element has generation g
+  Offering : (more : ℕ) (before : List ℕ) (g : ℕ) → InitiatorAt
+  Pausing : (more : ℕ) (before : List ℕ) (g : ℕ) → InitiatorAt
+  Resuming : (more : ℕ) (before : List ℕ) (g : ℕ) → InitiatorAt
+  -- the steps of a job, with those that follow
+  Obtaining : (run : Running) (hand : Hand) (latch : ℕ) (mode : Mode) (steps : List Step) → InitiatorAt
+  Confirming : (run : Running) (hand : Hand) (latch : ℕ) (mode : Mode) (id : ℕ) (steps : List Step) → InitiatorAt
+  Freeing : (run : Running) (hand : Hand) (latch id : ℕ) (steps : List Step) → InitiatorAt
+  Reading : (run : Running) (hand : Hand) (volume amount : ℕ) (steps : List Step) → InitiatorAt
+  Writing : (run : Running) (hand : Hand) (volume amount number : ℕ) (steps : List Step) → InitiatorAt
+  Scanning : (run : Running) (hand : Hand) (volume : ℕ) (steps : List Step) → InitiatorAt
+  Rescanning : (run : Running) (hand : Hand) (volume number : ℕ) (steps : List Step) → InitiatorAt
+  -- the job's end with its code: the purge, the post of a done block, and the posts of its exit
+  Purging : (run : Running) (hand : Hand) (code : ℕ) → InitiatorAt
+  EndingJob : (run : Running) (code : ℕ) (counts : Counts) → InitiatorAt
+  EndingForScheduler : (run : Running) (code : ℕ) (counts : Counts) → InitiatorAt
+  EndingForWriter : (run : Running) (code : ℕ) (counts : Counts) → InitiatorAt
+  Closing : (g : ℕ) → InitiatorAt
+
+-- initiator i, where there are n jobs
+abbrev pub initiator_asks : ℕ → ℕ → InitiatorAt → Object × Op
+initiator_asks n i Opening = (Element (initiator i), op_on.Element element_op.Open)
+initiator_asks n i (Offering more before g) = (Ecb (idle n i), op_on.Ecb (ecb_op.Post g))
+initiator_asks n i (Pausing more before g) = (Element (initiator i), op_on.Element (element_op.Pause g))
+initiator_asks n i (Resuming more before g) = (Element (initiator i), op_on.Element (element_op.Resume g))
+initiator_asks n i (Obtaining run hand latch mode steps) =
+    (Latches, op_on.Latch (latch_op.Obtain latch (run.job + 1) mode form_of.Waiting))
+initiator_asks n i (Confirming run hand latch mode id steps) = (Latches, op_on.Latch (latch_op.Confirm latch id))
+initiator_asks n i (Freeing run hand latch id steps) = (Latches, op_on.Latch (latch_op.Release latch id false))
+initiator_asks n i (Reading run hand volume amount steps) = (Volume volume, op_on.Volume volume_op.Read)
+initiator_asks n i (Writing run hand volume amount number steps) = (Volume volume, op_on.Volume (volume_op.Write (number + amount)))
+initiator_asks n i (Scanning run hand volume steps) = (Volume volume, op_on.Volume volume_op.Read)
+initiator_asks n i (Rescanning run hand volume number steps) = (Volume volume, op_on.Volume volume_op.Read)
+initiator_asks n i (Purging run hand code) = (Latches, op_on.Latch (latch_op.Purge (run.job + 1)))
+initiator_asks n i (EndingJob run code counts) = (Ecb (done n run.job), op_on.Ecb (ecb_op.Post code))
+initiator_asks n i (EndingForScheduler run code counts) = (Ecb (end_for_scheduler n run.job), op_on.Ecb (ecb_op.Post code))
+initiator_asks n i (EndingForWriter run code counts) = (Ecb (end_for_writer n run.job), op_on.Ecb (ecb_op.Post code))
+initiator_asks n i (Closing g) = (Element (initiator i), op_on.Element (element_op.Close g))
+
+-- so many turns are left
+abbrev pub turns_from : ℕ → List ℕ → ℕ → Point InitiatorAt
+turns_from zero before g = Astray
+turns_from (suc more) before g = At (Offering more before g)
+
+abbrev pub turns_after : Running → Point InitiatorAt
+turns_after run = turns_from run.more (run.before ++ run.job ∷ []) run.generation
+
+abbrev pub freeing_at : Running → Hand → ℕ → Option ℕ → List Step → Point InitiatorAt
+freeing_at run hand latch None steps = Astray
+freeing_at run hand latch (Some id) steps = At (Freeing run hand latch id steps)
+
+-- a job's steps
+abbrev pub steps_at : Running → Hand → List Step → Point InitiatorAt
+steps_at run hand [] = At (Purging run hand 0)
+steps_at run hand (Print text ∷ steps) = steps_at run hand steps
+steps_at run hand (Use latch mode ∷ steps) = At (Obtaining run hand latch mode steps)
+steps_at run hand (Free latch ∷ steps) = freeing_at run hand latch (hand.requests latch) steps
+steps_at run hand (Count volume amount ∷ steps) = At (Reading run hand volume amount steps)
+steps_at run hand (Scan volume ∷ steps) = At (Scanning run hand volume steps)
+steps_at run hand (Abend code ∷ steps) = At (Purging run hand code)
+steps_at run hand (Return code ∷ steps) = At (Purging run hand code)
+
+abbrev pub running : Named → List ℕ → ℕ → ℕ → Running
+running named before more g = record { job = named.job; skipped = named.skipped; before = before; more = more; generation = g }
+
+abbrev pub job_start : Bool → Running → JobData → Point InitiatorAt
+job_start true run job = At (Purging run empty_hand not_run)
+job_start false run job = steps_at run empty_hand job.steps
+
+abbrev pub named_at : List JobData → Option Named → List ℕ → ℕ → ℕ → Point InitiatorAt
+named_at deck None before more g = Astray
+named_at deck (Some named) before zero g = Astray
+named_at deck (Some named) before (suc more) g =
+    if list_any (λ j. j == named.job) before then Astray else job_start named.skipped (running named before (suc more) g)
+    (job_at deck named.job)
+
+-- a code was given, and the next generation
+abbrev pub given_at : List JobData → ℕ → List ℕ → ℕ → ℕ → Point InitiatorAt
+given_at deck more before code g = if code == 0 then At (Closing g) else named_at deck (job_named (length deck) code) before more g
+
+abbrev pub on_opened : Reply → ℕ → Point InitiatorAt
+on_opened (reply_of.Element (element_reply.Opened g)) n = turns_from (n + 1) [] g
+on_opened r n = Astray
+
+abbrev pub on_paused : List JobData → ℕ → List ℕ → ℕ → Reply → Point InitiatorAt
+on_paused deck more before g (reply_of.Element (element_reply.Given code now)) = given_at deck more before code now
+on_paused deck more before g (reply_of.Element element_reply.Parked) = At (Resuming more before g)
+on_paused deck more before g r = Astray
+
+abbrev pub on_resumed : List JobData → ℕ → List ℕ → Reply → Point InitiatorAt
+on_resumed deck more before (reply_of.Element (element_reply.Given code now)) = given_at deck more before code now
+on_resumed deck more before (reply_of.Element element_reply.NotYet) = TooSoon
+on_resumed deck more before r = Astray
+
+abbrev pub on_obtained : Running → Hand → ℕ → Mode → List Step → Reply → Point InitiatorAt
+on_obtained run hand latch mode steps (reply_of.Latch (latch_reply.Granted id)) = steps_at run (hand_with hand latch mode id) steps
+on_obtained run hand latch mode steps (reply_of.Latch (latch_reply.Queued id)) = At (Confirming run hand latch mode id steps)
+on_obtained run hand latch mode steps r = Astray
+
+abbrev pub on_confirmed : Running → Hand → ℕ → Mode → ℕ → List Step → Reply → Point InitiatorAt
+on_confirmed run hand latch mode id steps (reply_of.Latch (latch_reply.Granted same)) =
+    steps_at run (hand_with hand latch mode id) steps
+on_confirmed run hand latch mode id steps (reply_of.Latch latch_reply.Waiting) = TooSoon
+on_confirmed run hand latch mode id steps r = Astray
+
+abbrev pub on_freed : Running → Hand → ℕ → List Step → Reply → Point InitiatorAt
+on_freed run hand latch steps (reply_of.Latch (latch_reply.Released granted)) = steps_at run (hand_without hand latch) steps
+on_freed run hand latch steps r = Astray
+
+abbrev pub on_value : (ℕ → Point InitiatorAt) → Reply → Point InitiatorAt
+on_value f (reply_of.Volume (volume_reply.Value number)) = f number
+on_value f r = Astray
+
+abbrev pub counting_at : Running → Hand → ℕ → ℕ → List Step → ℕ → Point InitiatorAt
+counting_at run hand volume amount steps number =
+    if nat_lt (number + amount) (2 ^ 32) then At (Writing run hand volume amount number steps) else Astray
+
+abbrev pub on_stored : Point InitiatorAt → Reply → Point InitiatorAt
+on_stored p (reply_of.Volume volume_reply.Stored) = p
+on_stored p r = Astray
+
+abbrev pub on_purged : Running → ℕ → Reply → Point InitiatorAt
+on_purged run code (reply_of.Latch (latch_reply.Purged removed granted)) =
+    At (EndingJob run code (record { removed = removed; granted = granted }))
+on_purged run code r = Astray
+
+-- the post of a done block that starts its exit is followed by those of the exit
+abbrev pub on_ended : Running → ℕ → Counts → Reply → Point InitiatorAt
+on_ended run code counts (reply_of.Ecb (ecb_reply.Woke (suc x))) = At (EndingForScheduler run code counts)
+on_ended run code counts r = on_posted (turns_after run) r
+
+abbrev pub on_closed : Reply → Point InitiatorAt
+on_closed (reply_of.Element element_reply.Closed) = Finished []
+on_closed r = Astray
+
+abbrev pub initiator_goes : List JobData → InitiatorAt → Reply → Point InitiatorAt
+initiator_goes deck Opening r = on_opened r (length deck)
+initiator_goes deck (Offering more before g) r = on_posted (At (Pausing more before g)) r
+initiator_goes deck (Pausing more before g) r = on_paused deck more before g r
+initiator_goes deck (Resuming more before g) r = on_resumed deck more before r
+initiator_goes deck (Obtaining run hand latch mode steps) r = on_obtained run hand latch mode steps r
+initiator_goes deck (Confirming run hand latch mode id steps) r = on_confirmed run hand latch mode id steps r
+initiator_goes deck (Freeing run hand latch id steps) r = on_freed run hand latch steps r
+initiator_goes deck (Reading run hand volume amount steps) r = on_value (counting_at run hand volume amount steps) r
+initiator_goes deck (Writing run hand volume amount number steps) r = on_stored (steps_at run hand steps) r
+initiator_goes deck (Scanning run hand volume steps) r = on_value (λ number. At (Rescanning run hand volume number steps)) r
+initiator_goes deck (Rescanning run hand volume number steps) r = on_value (λ again. steps_at run hand steps) r
+initiator_goes deck (Purging run hand code) r = on_purged run code r
+initiator_goes deck (EndingJob run code counts) r = on_ended run code counts r
+initiator_goes deck (EndingForScheduler run code counts) r = on_posted (At (EndingForWriter run code counts)) r
+initiator_goes deck (EndingForWriter run code counts) r = on_posted (turns_after run) r
+initiator_goes deck (Closing g) r = on_closed r

@@ -1,0 +1,196 @@
+-- The rest of a task's program at each of its points, for what the task keeps by then: how points and the programs of
+-- specs/SpoolTasks hang together.
+use Rattle.std.proofs.Common.{ℕ, suc, ◌+◌, ◌-◌, List, [], ◌∷◌, ◌++◌, length, map, false, Option, Some, Result, Ok, ◌==◌, if◌then◌else◌}
+use Rattle.std.specs.List.{range_with_len}
+use Rattle.mv_ecb.specs.declared.operation.EcbOp.TheVariants as ecb_op
+use Rattle.mv_element.specs.declared.operation.ElementOp.TheVariants as element_op
+use Rattle.mv_latch.specs.declared.operation.LatchOp.TheVariants as latch_op
+use Rattle.mv_latch.specs.declared.request.LatchForm.TheVariants as form_of
+use Rattle.mv_machine.specs.declared.entry.Object.TheVariants.{Ecb, Element, Volume, Latches}
+use Rattle.mv_machine.specs.declared.entry.Op.TheVariants as op_on
+use Rattle.mv_machine.specs.declared.entry.VolumeOp.TheVariants as volume_op
+use Rattle.mv_machine.specs.Setup.{Setup}
+use Rattle.mv_machine.specs.System.{with_at}
+use Rattle.mv_machine.specs.calls.Endings.{end_of_job}
+use Rattle.mv_deck.specs.Deck.{JobData}
+use Rattle.mv_deck.specs.declared.deck.Step.{Step}
+use Rattle.mv_machine.specs.calls.Keeping.{Kept}
+use Rattle.mv_machine.specs.calls.LatchCalls.{Counts, obtained, confirmed, let_go, purged}
+use Rattle.mv_machine.specs.calls.Pauses.{Gift, token_of, opened, paused, resumed, closed}
+use Rattle.mv_machine.specs.calls.Posts.{Posting, Woke, post, post_within, each_posted, wake_posted}
+use Rattle.mv_machine.specs.calls.Program.{Program, Do, Done, Early, Wrong, Call, and_then, going_on, unrefused, for_each, finished, on_ecb}
+use Rattle.mv_machine.specs.calls.Program.{on_element, on_volume, on_latch}
+use Rattle.mv_machine.specs.calls.Refusal.{Refusal}
+use Rattle.mv_plan.specs.SpoolSetup.{entered, done, end_for_scheduler, end_for_writer, idle, initiator}
+use Rattle.mv_plan.specs.SpoolTasks.{lowest, some_end_above, ends_awaited, hand_over, code_of, dispatch_all, dismiss, granted_as, counted}
+use Rattle.mv_plan.specs.SpoolTasks.{run_steps, named_by, run_job, turns, job_named, ends_kept, first_of}
+use Rattle.mv_machine.specs.calls.Waits.{arm_all, settle_all, enough, the_word, extended, the_value, stored, extend, read_volume}
+use Rattle.mv_machine.specs.calls.Pauses.{release, deallocate, pause}
+use Rattle.mv_machine.specs.calls.Program.{followed, accepted}
+use Rattle.mv_plan.proofs.points.Points.{Point, At, Finished, TooSoon, Astray, ReaderAt, Entering, WaitAt, Arming, Settling, Stage}
+use Rattle.mv_plan.proofs.points.Points.{Dispatching, Dismissing, Awaited, ForEntry, ForEnds, ForIdle, ToDismiss, SchedulerAt, Waits}
+use Rattle.mv_plan.proofs.points.Points.{Extends, Clears, Releases, awaited_blocks, awaited_count, WriterAt, Keeping, Running, Hand}
+use Rattle.mv_plan.proofs.points.Points.{InitiatorAt, Opening, Offering, Pausing, Resuming, Obtaining, Confirming, Freeing, Reading}
+use Rattle.mv_plan.proofs.points.Points.{Writing, Scanning, Rescanning, Purging, EndingJob, EndingForScheduler, EndingForWriter, Closing}
+
+-- a point's program, and those of programs that have ended
+abbrev pub program_at : {X : Type 0} → (X → Program (List ℕ)) → Point X → Program (List ℕ)
+program_at f (At x) = f x
+program_at f (Finished answer) = Done answer
+program_at f TooSoon = Early
+program_at f Astray = Wrong
+
+-- a post, and one that an exit asks for
+abbrev pub posting_now : Setup → ℕ → ℕ → Program Posting
+posting_now c e code = post_within (suc (length c.owners - 1)) c code e
+
+abbrev pub posting_next : Setup → ℕ → ℕ → Program Posting
+posting_next c code e = post_within (suc (length c.owners - 2)) c code e
+
+-- ---- the reader, for any number of jobs
+
+abbrev pub reading_rest : Setup → ℕ → ℕ → Call (List ℕ)
+reading_rest c j more = for_each (range_with_len j more) (λ j. post c (entered j) 0) (finished [])
+
+abbrev pub reader_program : Setup → Kept → ReaderAt → Program (List ℕ)
+reader_program c kept (Entering j more) = going_on kept (posting_now c (entered j) 0) (λ posted. reading_rest c (j + 1) more)
+
+-- ---- a wait
+
+abbrev pub wait_program : ℕ → List ℕ → WaitAt → Program (Result (List (Option ℕ)) Refusal)
+wait_program count es (Arming e todo) = arm_all (e ∷ todo) (settle_all es [] (enough count))
+wait_program count es (Settling e todo found) = settle_all (e ∷ todo) found (enough count)
+
+-- ---- the scheduler, where there are n jobs
+
+abbrev pub dismissals : Setup → ℕ → ℕ → ℕ → Call (List ℕ)
+dismissals c n i more = for_each (range_with_len i more) (dismiss c n) (finished [])
+
+-- what follows an initiator's code
+abbrev pub stage_call : Setup → ℕ → ℕ → Stage → Call (List ℕ)
+stage_call c n initiators (Dispatching j jobs) = dispatch_all c n initiators j jobs (dismissals c n 0 initiators)
+stage_call c n initiators (Dismissing i more) = dismissals c n i more
+
+-- a call within the dispatch of a job or the dismissal of an initiator, and what follows that
+abbrev pub staged : Setup → ℕ → ℕ → Stage → Kept → Program (Unit {0}) → Program (List ℕ)
+staged c n initiators after kept p = going_on kept p (λ handed. stage_call c n initiators after)
+
+-- what follows the job's or the initiator's wait within it
+abbrev pub awaited_then : Setup → ℕ → ℕ → Awaited → List (Option ℕ) → Call (Unit {0})
+awaited_then c n initiators (ForEntry j job jobs) = lowest (λ position zero_code.
+    ends_awaited c n job.after (λ skipped.
+    accepted (extend c (done n j) (j + 1)) (λ linked.
+    first_of c (map (idle n) (range_with_len 0 initiators)) (hand_over c n (code_of j skipped))))) 0
+awaited_then c n initiators (ForEnds j job jobs) = (λ slots.
+    accepted (extend c (done n j) (j + 1)) (λ linked.
+    first_of c (map (idle n) (range_with_len 0 initiators)) (hand_over c n (code_of j (some_end_above job.after slots)))))
+awaited_then c n initiators (ForIdle j job jobs skipped) = lowest (hand_over c n (code_of j skipped)) 0
+awaited_then c n initiators (ToDismiss i more) = lowest (λ position generation. hand_over c n 0 i generation) 0
+
+abbrev pub awaited_stage : Awaited → Stage
+awaited_stage (ForEntry j job jobs) = Dispatching (j + 1) jobs
+awaited_stage (ForEnds j job jobs) = Dispatching (j + 1) jobs
+awaited_stage (ForIdle j job jobs skipped) = Dispatching (j + 1) jobs
+awaited_stage (ToDismiss i more) = Dismissing (i + 1) more
+
+abbrev pub scheduler_program : Setup → ℕ → ℕ → Kept → SchedulerAt → Program (List ℕ)
+scheduler_program c n initiators kept (Waits a w) = staged c n initiators (awaited_stage a) kept
+    (going_on kept (wait_program (awaited_count a) (awaited_blocks n initiators a) w) (unrefused (awaited_then c n initiators a)))
+scheduler_program c n initiators kept (Extends j job jobs skipped) = staged c n initiators (Dispatching (j + 1) jobs) kept
+    (going_on kept (Do (Ecb (done n j)) (op_on.Ecb (ecb_op.Extend (j + 1))) (λ h. on_ecb h.entry.reply extended)) (unrefused (λ linked.
+    first_of c (map (idle n) (range_with_len 0 initiators)) (hand_over c n (code_of j skipped)))))
+scheduler_program c n initiators kept (Clears i g code after) = staged c n initiators after kept
+    (going_on kept (Do (Ecb (idle n i)) (op_on.Ecb ecb_op.Clear) (λ h. on_ecb h.entry.reply (the_word (λ w. Done (Ok w)))))
+    (unrefused (λ word.
+    accepted (release (token_of (initiator i) g) code) (λ reached. finished tt))))
+scheduler_program c n initiators kept (Releases i g code after) = staged c n initiators after kept
+    (accepted (release (token_of (initiator i) g) code) (λ reached. finished tt) kept)
+
+-- ---- the writer
+
+abbrev pub writing_rest : Setup → ℕ → ℕ → ℕ → List ℕ → Call (List ℕ)
+writing_rest c n j more ends = ends_kept c n ends (range_with_len j more)
+
+abbrev pub writer_program : Setup → ℕ → Kept → WriterAt → Program (List ℕ)
+writer_program c n kept (Keeping j more ends w) =
+    going_on kept (wait_program 1 (end_for_writer n j ∷ []) w)
+    (unrefused (lowest (λ position end. writing_rest c n (j + 1) more (ends ++ end ∷ [])) 0))
+
+-- ---- initiator i
+
+abbrev pub turns_rest : Setup → List JobData → ℕ → ℕ → List ℕ → ℕ → Call (List ℕ)
+turns_rest c deck i more before g = turns c deck i more before (token_of (initiator i) g)
+
+-- what follows a pause that was given a code
+abbrev pub given_rest : Setup → List JobData → ℕ → ℕ → List ℕ → Gift → Call (List ℕ)
+given_rest c deck i more before gift = if gift.code == 0 then accepted (deallocate c gift.next) (λ closed. finished [])
+    else named_by (job_named (length deck) gift.code) before more (λ named.
+    followed (run_job c deck named) (λ counts. turns c deck i more (before ++ named.job ∷ []) gift.next))
+
+-- the rest of a job's end, and then the turns that are left
+abbrev pub ending : Setup → List JobData → ℕ → Running → Kept → Program Counts → Program (List ℕ)
+ending c deck i run kept p = going_on kept p (λ counts. turns_rest c deck i run.more (run.before ++ run.job ∷ []) run.generation)
+
+-- the rest of a job's steps, and then its end
+abbrev pub stepping : Setup → List JobData → ℕ → Running → Kept → Program ℕ → Program (List ℕ)
+stepping c deck i run kept p = ending c deck i run kept
+    (going_on kept p (λ code. end_of_job c (run.job + 1) (done (length deck) run.job) code))
+
+abbrev pub steps_rest : Setup → Running → Hand → List Step → Call ℕ
+steps_rest c run hand steps = run_steps c (run.job + 1) hand.requests steps
+
+-- what follows an obtain
+abbrev pub obtained_rest : Setup → Running → Hand → ℕ → List Step → ℕ → Call ℕ
+obtained_rest c run hand latch steps id = run_steps c (run.job + 1) (with_at hand.requests latch (Some id)) steps
+
+abbrev pub initiator_program : Setup → List JobData → ℕ → Kept → InitiatorAt → Program (List ℕ)
+initiator_program c deck i kept Opening =
+    going_on kept (Do (Element (initiator i)) (op_on.Element element_op.Open) (λ h. on_element h.entry.reply (opened (initiator i))))
+    (unrefused (turns c deck i (length deck + 1) []))
+initiator_program c deck i kept (Offering more before g) =
+    going_on kept (posting_now c (idle (length deck) i) g)
+    (λ posted. accepted (pause c (token_of (initiator i) g)) (given_rest c deck i more before))
+initiator_program c deck i kept (Pausing more before g) =
+    going_on kept (Do (Element (initiator i)) (op_on.Element (element_op.Pause g))
+    (λ h. on_element h.entry.reply (paused (initiator i) g))) (unrefused (given_rest c deck i more before))
+initiator_program c deck i kept (Resuming more before g) =
+    going_on kept (Do (Element (initiator i)) (op_on.Element (element_op.Resume g))
+    (λ h. on_element h.entry.reply (resumed (initiator i)))) (unrefused (given_rest c deck i more before))
+initiator_program c deck i kept (Obtaining run hand latch mode steps) = stepping c deck i run kept (going_on kept
+    (Do Latches (op_on.Latch (latch_op.Obtain latch (run.job + 1) mode form_of.Waiting))
+    (λ h. on_latch h.entry.reply (obtained latch form_of.Waiting)))
+    (unrefused (granted_as (obtained_rest c run hand latch steps))))
+initiator_program c deck i kept (Confirming run hand latch mode id steps) = stepping c deck i run kept (going_on kept
+    (Do Latches (op_on.Latch (latch_op.Confirm latch id)) (λ h. on_latch h.entry.reply (confirmed id)))
+    (unrefused (granted_as (obtained_rest c run hand latch steps))))
+initiator_program c deck i kept (Freeing run hand latch id steps) = stepping c deck i run kept (going_on kept
+    (Do Latches (op_on.Latch (latch_op.Release latch id false)) (λ h. on_latch h.entry.reply (let_go c false h.wakes kept)))
+    (unrefused (λ granted. steps_rest c run hand steps)))
+initiator_program c deck i kept (Reading run hand volume amount steps) = stepping c deck i run kept (going_on kept
+    (Do (Volume volume) (op_on.Volume volume_op.Read) (λ h. on_volume h.entry.reply the_value))
+    (counted volume amount (steps_rest c run hand steps)))
+initiator_program c deck i kept (Writing run hand volume amount number steps) = stepping c deck i run kept (going_on kept
+    (Do (Volume volume) (op_on.Volume (volume_op.Write (number + amount))) (λ h. on_volume h.entry.reply stored))
+    (λ stored. steps_rest c run hand steps))
+initiator_program c deck i kept (Scanning run hand volume steps) = stepping c deck i run kept (going_on kept
+    (Do (Volume volume) (op_on.Volume volume_op.Read) (λ h. on_volume h.entry.reply the_value))
+    (λ once. followed (read_volume volume) (λ again. steps_rest c run hand steps)))
+initiator_program c deck i kept (Rescanning run hand volume number steps) = stepping c deck i run kept (going_on kept
+    (Do (Volume volume) (op_on.Volume volume_op.Read) (λ h. on_volume h.entry.reply the_value))
+    (λ again. steps_rest c run hand steps))
+initiator_program c deck i kept (Purging run hand code) = ending c deck i run kept (and_then
+    (Do Latches (op_on.Latch (latch_op.Purge (run.job + 1))) (λ h. on_latch h.entry.reply (purged c h.wakes kept)))
+    (λ counts. wake_posted c (Some (done (length deck) run.job)) code kept (Done counts)))
+initiator_program c deck i kept (EndingJob run code counts) =
+    ending c deck i run kept (and_then (posting_now c (done (length deck) run.job) code) (λ p. Done counts))
+initiator_program c deck i kept (EndingForScheduler run code counts) = ending c deck i run kept (and_then (and_then
+    (posting_next c code (end_for_scheduler (length deck) run.job))
+    (λ p. each_posted (posting_next c code) (end_for_writer (length deck) run.job ∷ []) (Woke (run.job + 1))))
+    (λ p. Done counts))
+initiator_program c deck i kept (EndingForWriter run code counts) = ending c deck i run kept (and_then (and_then
+    (posting_next c code (end_for_writer (length deck) run.job))
+    (λ p. each_posted (posting_next c code) [] (Woke (run.job + 1))))
+    (λ p. Done counts))
+initiator_program c deck i kept (Closing g) = going_on kept
+    (Do (Element (initiator i)) (op_on.Element (element_op.Close g)) (λ h. on_element h.entry.reply closed))
+    (unrefused (λ closed. finished []))

@@ -1,0 +1,316 @@
+-- The scheduler's program goes from point to point: at each it says the point's event, and a reply leads it on as it leads the
+-- point. Used by Following.
+use Rattle.std.proofs.Common.{◌≡◌, ℕ, zero, suc, ◌+◌, ◌<◌, ◌≤◌, Bool, false, List, [], ◌∷◌, ◌++◌, length, map, Option, Some, None, Ok}
+use Rattle.std.proofs.Common.{inl, inr, refl, sym, ap, ◌∙◌, subst, arith}
+use Rattle.std.specs.List.{AllByRecursion, range_with_len}
+use Rattle.std.proofs.lemmas.List.{length-append}
+use Rattle.std.proofs.lemmas.List.FromFn.{length-map-range_with_len}
+use Rattle.mv_ecb.specs.declared.operation.EcbOp.TheVariants as ecb_op
+use Rattle.mv_ecb.specs.declared.operation.EcbReply.TheVariants as ecb_reply
+use Rattle.mv_element.specs.declared.operation.ElementReply.TheVariants as element_reply
+use Rattle.mv_machine.specs.declared.entry.Object.TheVariants.{Ecb}
+use Rattle.mv_machine.specs.declared.entry.Op.TheVariants as op_on
+use Rattle.mv_machine.specs.declared.entry.Reply.{Reply}
+use Rattle.mv_machine.specs.declared.entry.Reply.TheVariants as reply_of
+use Rattle.mv_machine.specs.Setup.{Setup}
+use Rattle.mv_deck.specs.Deck.{JobData}
+use Rattle.mv_deck.specs.declared.deck.After.{After}
+use Rattle.mv_deck.specs.declared.deck.Step.{Step}
+use Rattle.mv_plan.proofs.deck.Sound.{IsSoundJob, AreSoundJobs}
+use Rattle.mv_machine.specs.calls.Keeping.{Kept}
+use Rattle.mv_machine.specs.calls.Pauses.{token_of, release, released}
+use Rattle.mv_machine.specs.calls.Program.{Do, Done, Heard, asks, heard, going_on, unrefused, accepted, finished, unless_refused, on_ecb}
+use Rattle.mv_machine.specs.calls.Program.{on_element}
+use Rattle.mv_machine.specs.calls.Refusal.{Refusal}
+use Rattle.mv_machine.specs.calls.Refusal as refusal
+use Rattle.mv_plan.specs.SpoolSetup.{entered, done, end_for_scheduler, idle, initiator}
+use Rattle.mv_plan.specs.SpoolTasks.{code_of, ends_of, some_end_above, ends_awaited, first_of, hand_over}
+use Rattle.mv_machine.specs.calls.Waits.{AreDistinct, wait, wait_refusal, extend, extended, the_word, refused_if, arm_all, settle_all}
+use Rattle.mv_machine.specs.calls.Waits.{enough}
+use Rattle.mv_plan.proofs.points.Points.{At, Arming, Settling, Stage, Dispatching, Dismissing, Awaited, ForEntry, ForEnds, ForIdle}
+use Rattle.mv_plan.proofs.points.Points.{ToDismiss, SchedulerAt, Waits, Extends, Clears, Releases, awaited_blocks, awaited_count}
+use Rattle.mv_plan.proofs.points.Points.{scheduler_asks, scheduler_goes, arming_first, arming_from, settling_from, found_at, ends_at}
+use Rattle.mv_plan.proofs.points.Points.{dismissing_from, stage_at}
+use Rattle.mv_plan.proofs.points.Programs.{program_at, dismissals, stage_call, staged, awaited_then, awaited_stage, scheduler_program}
+use Rattle.mv_plan.proofs.points.PostsAndWaits.{armed_goes, settled_goes, lowest_goes, enough_goes}
+use Rattle.mv_plan.proofs.points.ReaderAndWriter.{keeps}
+use Rattle.mv_machine.proofs.calls.Unrefused.{IsFree, own_block, wait_unrefused, extend_unrefused}
+use Rattle.mv_plan.proofs.points.SchedulerSound.{IsRest, rest_count, rest_below, rest_sound, IsAwaited, IsStage, stage_extended}
+use Rattle.mv_plan.proofs.points.SchedulerSound.{awaited_extended, SchedulerKept, others_plain, SchedulerStands, extended_kept}
+use Rattle.mv_plan.proofs.deck.Setup.{Facts}
+
+pub scheduler_says : (c : Setup) (n initiators : ℕ) (kept : Kept) (x : SchedulerAt)
+    → asks (scheduler_program c n initiators kept x) ≡ Some (scheduler_asks n x)
+scheduler_says c n initiators kept (Waits a (Arming e todo)) = refl
+scheduler_says c n initiators kept (Waits a (Settling e todo found)) = refl
+scheduler_says c n initiators kept (Extends j job jobs skipped) = refl
+scheduler_says c n initiators kept (Clears i g code after) = refl
+scheduler_says c n initiators kept (Releases i g code after) = refl
+
+-- the blocks with ends of different jobs are different
+ends_differ : (n : ℕ) (part : After) (parts : List After) → AllByRecursion (λ m. m ≡ part.job → ⊥) (map (λ p. p.job) parts)
+    → AllByRecursion (λ e. e ≡ end_for_scheduler n part.job → ⊥) (ends_of n parts)
+ends_differ n part [] d = tt
+ends_differ n part (p ∷ parts) d = ((λ q. d.0 (omega arith)), ends_differ n part parts d.1)
+
+pub ends_distinct : (n : ℕ) (parts : List After) → AreDistinct (map (λ p. p.job) parts) → AreDistinct (ends_of n parts)
+ends_distinct n [] d = tt
+ends_distinct n (part ∷ parts) d = (ends_differ n part parts d.0, ends_distinct n parts d.1)
+
+idles_differ : (n i from count : ℕ) → i < from → AllByRecursion (λ e. e ≡ idle n i → ⊥) (map (idle n) (range_with_len from count))
+idles_differ n i from zero lt = tt
+idles_differ n i from (suc count) lt = ((λ q. absurd (omega arith)), idles_differ n i (from + 1) count (omega arith))
+
+pub idles_distinct : (n from count : ℕ) → AreDistinct (map (idle n) (range_with_len from count))
+idles_distinct n from zero = tt
+idles_distinct n from (suc count) = (idles_differ n from (from + 1) count (omega arith), idles_distinct n (from + 1) count)
+
+module _ (c : Setup) (deck : List JobData) (initiators : ℕ) (facts : Facts c (length deck) initiators) (sound : AreSoundJobs 0 deck) where
+  ends_free : (count j : ℕ) (kept : Kept) (parts : List After) → SchedulerKept (length deck) count kept → count ≤ length deck
+      → j ≤ length deck → AllByRecursion (λ p. p.job < j) parts → AllByRecursion (IsFree c kept) (ends_of (length deck) parts)
+  ends_free count j kept [] k le lt below = tt
+  ends_free count j kept (part ∷ parts) k le lt below = (
+    record {
+      own = facts.scheduler_owner part.job (omega arith) ∙ sym k.caller;
+      plain = others_plain (length deck) count kept (end_for_scheduler (length deck) part.job) k (inr (omega arith));
+    },
+    ends_free count j kept parts k le lt below.1,
+  )
+
+  idle_free : (count i : ℕ) (kept : Kept) → SchedulerKept (length deck) count kept → count ≤ length deck → i < initiators
+      → IsFree c kept (idle (length deck) i)
+  idle_free count i kept k le lt =
+      record {
+        own = facts.idle_owner i lt
+            ∙ sym k.caller;
+        plain = others_plain (length deck) count kept (idle (length deck) i) k (inr (omega arith));
+      }
+
+  idles_free : (count from more : ℕ) (kept : Kept) → SchedulerKept (length deck) count kept → count ≤ length deck
+      → from + more ≤ initiators → AllByRecursion (IsFree c kept) (map (idle (length deck)) (range_with_len from more))
+  idles_free count from zero kept k le lt = tt
+  idles_free count from (suc more) kept k le lt =
+      (idle_free count from kept k le (omega arith), idles_free count (from + 1) more kept k le (omega arith))
+
+  -- a wait that is not refused begins at its first block
+  wait_enters : (a : Awaited) (kept : Kept) (bs : List ℕ) → wait_refusal c (awaited_count a) bs kept ≡ None
+      → bs ≡ awaited_blocks (length deck) initiators a → 1 ≤ length bs
+      → staged c (length deck) initiators (awaited_stage a) kept
+      (accepted (wait c (awaited_count a) bs) (awaited_then c (length deck) initiators a) kept)
+      ≡ program_at (scheduler_program c (length deck) initiators kept) (arming_first a bs)
+  wait_enters a kept [] free same some = absurd (omega arith)
+  wait_enters a kept (e ∷ es) free same some =
+      ap (λ r. staged c (length deck) initiators (awaited_stage a) kept
+      (going_on kept (unless_refused r (arm_all (e ∷ es) (settle_all (e ∷ es) [] (enough (awaited_count a)))))
+      (unrefused (awaited_then c (length deck) initiators a)))) free
+      ∙ ap (λ bs. staged c (length deck) initiators (awaited_stage a) kept
+      (going_on kept (arm_all (e ∷ es) (settle_all bs [] (enough (awaited_count a))))
+      (unrefused (awaited_then c (length deck) initiators a)))) same
+
+  extend_enters : (j : ℕ) (job : JobData) (jobs : List JobData) (skipped : Bool) (kept : Kept) → IsRest deck j (job ∷ jobs)
+      → SchedulerKept (length deck) j kept
+      → staged c (length deck) initiators (Dispatching (j + 1) jobs) kept
+      (accepted (extend c (done (length deck) j) (j + 1))
+      (λ linked. first_of c (map (idle (length deck)) (range_with_len 0 initiators))
+      (hand_over c (length deck) (code_of j skipped))) kept)
+      ≡ program_at (scheduler_program c (length deck) initiators kept) (At (Extends j job jobs skipped))
+  extend_enters j job jobs skipped kept r k =
+      ap (λ r. staged c (length deck) initiators (Dispatching (j + 1) jobs) kept
+      (going_on kept (unless_refused r
+      (Do (Ecb (done (length deck) j)) (op_on.Ecb (ecb_op.Extend (j + 1))) (λ h. on_ecb h.entry.reply extended)))
+      (unrefused (λ linked. first_of c (map (idle (length deck)) (range_with_len 0 initiators))
+      (hand_over c (length deck) (code_of j skipped))))))
+      (extend_unrefused c (done (length deck) j) (j + 1) kept
+      (record {
+        own = facts.done_owner j (rest_below deck j job jobs r)
+            ∙ sym k.caller;
+        plain = others_plain (length deck) j kept (done (length deck) j) k (inr (omega arith));
+      })
+      (facts.exit j (rest_below deck j job jobs r)))
+
+  clear_enters : (i g code count : ℕ) (after : Stage) (kept : Kept) → i < initiators → SchedulerKept (length deck) count kept
+      → staged c (length deck) initiators after kept (hand_over c (length deck) code i g kept) ≡ program_at
+      (scheduler_program c (length deck) initiators kept) (At (Clears i g code after))
+  clear_enters i g code count after kept lt k =
+      ap (λ b. staged c (length deck) initiators after kept
+      (going_on kept (unless_refused (refused_if b refusal.NotOwner)
+      (Do (Ecb (idle (length deck) i)) (op_on.Ecb ecb_op.Clear) (λ h. on_ecb h.entry.reply (the_word (λ w. Done (Ok w))))))
+      (unrefused (λ word. accepted (release (token_of (initiator i) g) code) (λ reached. finished tt)))))
+      (own_block c kept (idle (length deck) i) (facts.idle_owner i lt ∙ sym k.caller))
+
+  ends_enter : (j : ℕ) (name : List ℕ) (after : List After) (steps : List Step) (jobs : List JobData) (kept : Kept)
+      → IsRest deck j (record { name = name; after = after; steps = steps } ∷ jobs) → SchedulerKept (length deck) j kept
+      → staged c (length deck) initiators (Dispatching (j + 1) jobs) kept (ends_awaited c (length deck) after (λ skipped.
+      accepted (extend c (done (length deck) j) (j + 1))
+      (λ linked. first_of c (map (idle (length deck)) (range_with_len 0 initiators))
+      (hand_over c (length deck) (code_of j skipped)))) kept)
+      ≡ program_at (scheduler_program c (length deck) initiators kept)
+      (ends_at (length deck) j (record { name = name; after = after; steps = steps }) jobs)
+  ends_enter j name [] steps jobs kept r k = extend_enters j (record { name = name; after = []; steps = steps }) jobs false kept r k
+  ends_enter j name (part ∷ parts) steps jobs kept r k =
+      let s : IsSoundJob j (record { name = name; after = part ∷ parts; steps = steps }) =
+      rest_sound deck j (record { name = name; after = part ∷ parts; steps = steps }) jobs sound r in
+      let lt : j < length deck = rest_below deck j (record { name = name; after = part ∷ parts; steps = steps }) jobs r in
+      wait_enters (ForEnds j (record { name = name; after = part ∷ parts; steps = steps }) jobs) kept (ends_of (length deck) (part ∷ parts))
+      (wait_unrefused c (length (part ∷ parts)) (ends_of (length deck) (part ∷ parts)) kept (same_length (part ∷ parts))
+      (ends_distinct (length deck) (part ∷ parts) s.distinct)
+      (ends_free j j kept (part ∷ parts) k (omega arith) (omega arith) s.earlier)) refl (omega arith) where
+        same_length : (parts : List After) → length parts ≤ length (ends_of (length deck) parts)
+        same_length [] = omega arith
+        same_length (p ∷ parts) = let l : length parts ≤ length (ends_of (length deck) parts) = same_length parts in omega arith
+
+  idle_enters : (j : ℕ) (job : JobData) (jobs : List JobData) (skipped : Bool) (kept : Kept) → IsRest deck j (job ∷ jobs)
+      → SchedulerKept (length deck) (j + 1) kept
+      → staged c (length deck) initiators (Dispatching (j + 1) jobs) kept
+      (first_of c (map (idle (length deck)) (range_with_len 0 initiators)) (hand_over c (length deck) (code_of j skipped)) kept)
+      ≡ program_at (scheduler_program c (length deck) initiators kept)
+      (arming_first (ForIdle j job jobs skipped) (map (idle (length deck)) (range_with_len 0 initiators)))
+  idle_enters j job jobs skipped kept r k =
+      let l : length (map (idle (length deck)) (range_with_len 0 initiators)) ≡ initiators =
+      length-map-range_with_len (idle (length deck)) 0 initiators in
+      let lt : j < length deck = rest_below deck j job jobs r in
+      let some : 1 ≤ initiators = facts.some in
+      wait_enters (ForIdle j job jobs skipped) kept (map (idle (length deck)) (range_with_len 0 initiators))
+      (wait_unrefused c 1 (map (idle (length deck)) (range_with_len 0 initiators)) kept (omega arith)
+      (idles_distinct (length deck) 0 initiators) (idles_free (j + 1) 0 initiators kept k (omega arith) (omega arith))) refl
+      (omega arith)
+
+  dismissing_enters : (i more : ℕ) (kept : Kept) → i + more ≡ initiators → SchedulerKept (length deck) (length deck) kept
+      → dismissals c (length deck) i more kept ≡ program_at (scheduler_program c (length deck) initiators kept)
+      (dismissing_from (length deck) i more)
+  dismissing_enters i zero kept e k = refl
+  dismissing_enters i (suc more) kept e k =
+      wait_enters (ToDismiss i more) kept (idle (length deck) i ∷ [])
+      (wait_unrefused c 1 (idle (length deck) i ∷ []) kept (omega arith) (tt, tt)
+      (idle_free (length deck) i kept k (omega arith) (omega arith), tt)) refl (omega arith)
+
+  pub stage_enters : (after : Stage) (kept : Kept) → IsStage deck initiators after
+      → SchedulerKept (length deck) (stage_extended (length deck) after) kept
+      → stage_call c (length deck) initiators after kept ≡ program_at (scheduler_program c (length deck) initiators kept)
+      (stage_at (length deck) initiators after)
+  stage_enters (Dispatching j []) kept r k =
+      dismissing_enters 0 initiators kept (omega arith)
+      (subst (λ m. SchedulerKept (length deck) m kept) (let e : j + 0 ≡ length deck = rest_count deck j [] r in omega arith) k)
+  stage_enters (Dispatching j (job ∷ jobs)) kept r k =
+      let lt : j < length deck = rest_below deck j job jobs r in
+      wait_enters (ForEntry j job jobs) kept (entered j ∷ [])
+      (wait_unrefused c 1 (entered j ∷ []) kept (omega arith) (tt, tt) (
+        record { own = facts.entered_owner j lt ∙ sym k.caller; plain = others_plain (length deck) j kept (entered j) k (inl lt) },
+        tt,
+      )) refl (omega arith)
+  stage_enters (Dismissing i more) kept e k = dismissing_enters i more kept e k
+
+  -- what was found is enough
+  found_enters : (a : Awaited) (kept : Kept) (found : List (Option ℕ)) → IsAwaited deck initiators a
+      → SchedulerKept (length deck) (awaited_extended (length deck) a) kept
+      → length found ≤ length (awaited_blocks (length deck) initiators a)
+      → staged c (length deck) initiators (awaited_stage a) kept (awaited_then c (length deck) initiators a found kept) ≡ program_at
+      (scheduler_program c (length deck) initiators kept) (found_at (length deck) a found)
+  found_enters (ForEntry j job jobs) kept found r k le =
+      lowest_goes (staged c (length deck) initiators (Dispatching (j + 1) jobs) kept)
+      (scheduler_program c (length deck) initiators kept) _ (λ p code. ends_at (length deck) j job jobs) kept 0 (length found) found
+      (omega arith)
+      (λ i code lt. ends_enter j job.name job.after job.steps jobs kept r k) refl
+  found_enters (ForEnds j job jobs) kept found r k le = extend_enters j job jobs (some_end_above job.after found) kept r k
+  found_enters (ForIdle j job jobs skipped) kept found r k le =
+      lowest_goes (staged c (length deck) initiators (Dispatching (j + 1) jobs) kept)
+      (scheduler_program c (length deck) initiators kept) (hand_over c (length deck) (code_of j skipped))
+      (λ i g. At (Clears i g (code_of j skipped) (Dispatching (j + 1) jobs))) kept 0 initiators found
+      (let l : length (awaited_blocks (length deck) initiators (ForIdle j job jobs skipped)) ≡ initiators = length-map-range_with_len
+      (idle (length deck)) 0 initiators in omega arith)
+      (λ i g lt. clear_enters i g (code_of j skipped) (j + 1) (Dispatching (j + 1) jobs) kept lt k) refl
+  found_enters (ToDismiss i more) kept found e k le =
+      lowest_goes (staged c (length deck) initiators (Dismissing (i + 1) more) kept) (scheduler_program c (length deck) initiators kept)
+      (λ position generation. hand_over c (length deck) 0 i generation) (λ p g. At (Clears i g 0 (Dismissing (i + 1) more))) kept 0
+      (length found) found (omega arith)
+      (λ p g lt. clear_enters i g 0 (length deck) (Dismissing (i + 1) more) kept (omega arith) k) refl
+
+  settle_enters : (a : Awaited) (kept : Kept) (es : List ℕ) (found : List (Option ℕ)) → IsAwaited deck initiators a
+      → SchedulerKept (length deck) (awaited_extended (length deck) a) kept
+      → length found + length es ≤ length (awaited_blocks (length deck) initiators a)
+      → staged c (length deck) initiators (awaited_stage a) kept
+      (going_on kept (settle_all es found (enough (awaited_count a))) (unrefused (awaited_then c (length deck) initiators a)))
+      ≡ program_at (scheduler_program c (length deck) initiators kept) (settling_from (length deck) a es found)
+  settle_enters a kept [] found s k le =
+      enough_goes (λ p. staged c (length deck) initiators (awaited_stage a) kept
+      (going_on kept p (unrefused (awaited_then c (length deck) initiators a)))) (scheduler_program c (length deck) initiators kept)
+      (awaited_count a) found (found_at (length deck) a found)
+      (found_enters a kept found s k (omega arith)) refl
+  settle_enters a kept (e ∷ es) found s k le = refl
+
+  arm_enters : (a : Awaited) (kept : Kept) (es : List ℕ) → IsAwaited deck initiators a
+      → SchedulerKept (length deck) (awaited_extended (length deck) a) kept
+      → staged c (length deck) initiators (awaited_stage a) kept
+      (going_on kept (arm_all es (settle_all (awaited_blocks (length deck) initiators a) [] (enough (awaited_count a))))
+      (unrefused (awaited_then c (length deck) initiators a)))
+      ≡ program_at (scheduler_program c (length deck) initiators kept) (arming_from (length deck) initiators a es)
+  arm_enters a kept [] s k = settle_enters a kept (awaited_blocks (length deck) initiators a) [] s k (omega arith)
+  arm_enters a kept (e ∷ es) s k = refl
+
+  pub scheduler_hears : (kept : Kept) (x : SchedulerAt) (h : Heard) → SchedulerStands deck initiators kept (At x)
+      → heard (scheduler_program c (length deck) initiators kept x) h
+      ≡ program_at (scheduler_program c (length deck) initiators (keeps kept (scheduler_asks (length deck) x) h.entry.reply))
+      (scheduler_goes (length deck) initiators x h.entry.reply)
+  scheduler_hears kept (Waits a (Arming e todo)) h s =
+      armed_goes (λ p. staged c (length deck) initiators (awaited_stage a) now
+      (going_on now p (unrefused (awaited_then c (length deck) initiators a)))) (scheduler_program c (length deck) initiators now)
+      (arm_all todo (settle_all (awaited_blocks (length deck) initiators a) [] (enough (awaited_count a))))
+      (arming_from (length deck) initiators a todo) h.entry.reply
+      (arm_enters a now todo s.0.0 (record { caller = s.1.caller; within = s.1.within })) refl where
+        now : Kept
+        now = keeps kept (scheduler_asks (length deck) (Waits a (Arming e todo))) h.entry.reply
+  scheduler_hears kept (Waits a (Settling e todo found)) h s =
+      settled_goes (λ p. staged c (length deck) initiators (awaited_stage a) now
+      (going_on now p (unrefused (awaited_then c (length deck) initiators a)))) (scheduler_program c (length deck) initiators now)
+      (λ slot. settle_all todo (found ++ slot ∷ []) (enough (awaited_count a)))
+      (λ slot. settling_from (length deck) a todo (found ++ slot ∷ [])) h.entry.reply
+      (λ slot. settle_enters a now todo (found ++ slot ∷ []) s.0.0 (record { caller = s.1.caller; within = s.1.within })
+      (room slot)) refl where
+        now : Kept
+        now = keeps kept (scheduler_asks (length deck) (Waits a (Settling e todo found))) h.entry.reply
+
+        room : (slot : Option ℕ) → length (found ++ slot ∷ []) + length todo ≤ length (awaited_blocks (length deck) initiators a)
+        room slot =
+            let p : length (s.0.1.0 ++ e ∷ todo) ≡ length s.0.1.0 + length (e ∷ todo) = length-append s.0.1.0 (e ∷ todo) in
+            let q : length (s.0.1.0 ++ e ∷ todo) ≡ length (awaited_blocks (length deck) initiators a) = ap (λ l. length l) s.0.1.1 in
+            let r : length (found ++ slot ∷ []) ≡ length found + 1 = length-append found (slot ∷ []) in
+            let t : length s.0.1.0 ≡ length found = s.0.1.2 in
+            omega arith
+  scheduler_hears kept (Extends j job jobs skipped) h s = extended_goes h.entry.reply where
+    extended_goes : (r : Reply) → staged c (length deck) initiators (Dispatching (j + 1) jobs)
+        (keeps kept (scheduler_asks (length deck) (Extends j job jobs skipped)) r)
+        (going_on (keeps kept (scheduler_asks (length deck) (Extends j job jobs skipped)) r) (on_ecb r extended) (unrefused (λ linked.
+        first_of c (map (idle (length deck)) (range_with_len 0 initiators)) (hand_over c (length deck) (code_of j skipped)))))
+        ≡ program_at (scheduler_program c (length deck) initiators
+        (keeps kept (scheduler_asks (length deck) (Extends j job jobs skipped)) r))
+        (scheduler_goes (length deck) initiators (Extends j job jobs skipped) r)
+    extended_goes (reply_of.Ecb ecb_reply.Armed) =
+        idle_enters j job jobs skipped (keeps kept (scheduler_asks (length deck) (Extends j job jobs skipped))
+        (reply_of.Ecb ecb_reply.Armed)) s.0
+        (extended_kept deck initiators kept j job jobs skipped s.1)
+    extended_goes r = refl
+  scheduler_hears kept (Clears i g code after) h s = cleared_goes h.entry.reply where
+    cleared_goes : (r : Reply) → staged c (length deck) initiators after
+        (keeps kept (scheduler_asks (length deck) (Clears i g code after)) r)
+        (going_on (keeps kept (scheduler_asks (length deck) (Clears i g code after)) r) (on_ecb r (the_word (λ w. Done (Ok w))))
+        (unrefused (λ word. accepted (release (token_of (initiator i) g) code) (λ reached. finished tt))))
+        ≡ program_at (scheduler_program c (length deck) initiators
+        (keeps kept (scheduler_asks (length deck) (Clears i g code after)) r))
+        (scheduler_goes (length deck) initiators (Clears i g code after) r)
+    cleared_goes (reply_of.Ecb (ecb_reply.Word w)) = refl
+    cleared_goes r = refl
+  scheduler_hears kept (Releases i g code after) h s = released_goes h.entry.reply where
+    released_goes : (r : Reply) → staged c (length deck) initiators after
+        (keeps kept (scheduler_asks (length deck) (Releases i g code after)) r)
+        (going_on (keeps kept (scheduler_asks (length deck) (Releases i g code after)) r) (on_element r released)
+        (unrefused (λ reached. finished tt)))
+        ≡ program_at (scheduler_program c (length deck) initiators
+        (keeps kept (scheduler_asks (length deck) (Releases i g code after)) r))
+        (scheduler_goes (length deck) initiators (Releases i g code after) r)
+    released_goes (reply_of.Element element_reply.Early) =
+        stage_enters after (keeps kept (scheduler_asks (length deck) (Releases i g code after))
+        (reply_of.Element element_reply.Early)) s.0.1 (record { caller = s.1.caller; within = s.1.within })
+    released_goes (reply_of.Element element_reply.Woke) =
+        stage_enters after (keeps kept (scheduler_asks (length deck) (Releases i g code after))
+        (reply_of.Element element_reply.Woke)) s.0.1 (record { caller = s.1.caller; within = s.1.within })
+    released_goes r = refl

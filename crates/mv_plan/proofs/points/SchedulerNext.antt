@@ -1,0 +1,234 @@
+-- Which points of the scheduler may follow one, as one lemma for any fact of points; and what follows: its errand stays but for
+-- a release, and the job that is next does not fall. Used by the ledger, the closings and the posts.
+use Rattle.std.proofs.Common.{◌≡◌, ℕ, zero, suc, ◌+◌, ◌<◌, ◌≤◌, nat_le, Bool, true, false, cond, List, [], ◌∷◌, ◌++◌, length, Option}
+use Rattle.std.proofs.Common.{refl, arith, ◌⊎◌, inl, inr, ap, ◌∙◌, ◌-◌}
+use Rattle.mv_ecb.specs.declared.operation.EcbReply.TheVariants as ecb_reply
+use Rattle.mv_element.specs.declared.operation.ElementReply.TheVariants as element_reply
+use Rattle.mv_machine.specs.declared.entry.Reply.{Reply}
+use Rattle.mv_machine.specs.declared.entry.Reply.TheVariants as reply_of
+use Rattle.mv_deck.specs.Deck.{JobData}
+use Rattle.mv_deck.specs.declared.deck.After.{After}
+use Rattle.mv_deck.specs.declared.deck.Step.{Step}
+use Rattle.mv_plan.specs.SpoolTasks.{code_of, some_end_above}
+use Rattle.mv_machine.specs.calls.Waits.{complete_count}
+use Rattle.mv_plan.proofs.points.Points.{Point, At, TooSoon, Astray, WaitAt, Arming, Settling, Stage, Dispatching, Dismissing, Awaited}
+use Rattle.mv_plan.proofs.points.Points.{ForEntry, ForEnds, ForIdle, ToDismiss, SchedulerAt, Waits, Extends, Clears, Releases}
+use Rattle.mv_plan.proofs.points.Points.{awaited_blocks, awaited_count, scheduler_goes, arming_first, arming_from, settling_from}
+use Rattle.mv_plan.proofs.points.Points.{found_at, ends_at, dismissing_from, stage_at, Finished, on_released}
+use Rattle.mv_plan.proofs.points.PostsAndWaits.{on_armed_keeps, on_settled_keeps, lowest_keeps}
+use Rattle.mv_plan.proofs.points.SchedulerSound.{rest_below, rest_count, IsAwaited, IsStage, IsSchedulerAt}
+use Rattle.mv_plan.proofs.points.Views.{next_job, next_in, next_awaited, Errand, Dispatches, Dismisses, Rests, errand, next_of, IsNotLost}
+
+module _ (n initiators : ℕ) (P : Point SchedulerAt → Type 0) where
+  -- all that may follow is so
+  abbrev pub AllNext : SchedulerAt → Type 0
+  AllNext (Waits (ForEntry j job jobs) w) =
+      ((v : WaitAt) → P (At (Waits (ForEntry j job jobs) v))) × ((v : WaitAt) → P (At (Waits (ForEnds j job jobs) v)))
+      × ((b : Bool) → P (At (Extends j job jobs b)))
+  AllNext (Waits (ForEnds j job jobs) w) =
+      ((v : WaitAt) → P (At (Waits (ForEnds j job jobs) v))) × ((b : Bool) → P (At (Extends j job jobs b)))
+  AllNext (Waits (ForIdle j job jobs skipped) w) =
+      ((v : WaitAt) → P (At (Waits (ForIdle j job jobs skipped) v)))
+      × ((i g : ℕ) → P (At (Clears i g (code_of j skipped) (Dispatching (j + 1) jobs))))
+  AllNext (Waits (ToDismiss i more) w) =
+      ((v : WaitAt) → P (At (Waits (ToDismiss i more) v))) × ((g : ℕ) → P (At (Clears i g 0 (Dismissing (i + 1) more))))
+  AllNext (Extends j job jobs skipped) = (v : WaitAt) → P (At (Waits (ForIdle j job jobs skipped) v))
+  AllNext (Clears i g code after) = P (At (Releases i g code after))
+  AllNext (Releases i g code after) = P (stage_at n initiators after)
+
+  ends_next : (j : ℕ) (name : List ℕ) (after : List After) (steps : List Step) (jobs : List JobData)
+      → ((v : WaitAt) → P (At (Waits (ForEnds j (record { name = name; after = after; steps = steps }) jobs) v)))
+      → ((b : Bool) → P (At (Extends j (record { name = name; after = after; steps = steps }) jobs b)))
+      → P (ends_at n j (record { name = name; after = after; steps = steps }) jobs)
+  ends_next j name [] steps jobs w e = e false
+  ends_next j name (part ∷ parts) steps jobs w e = w _
+
+  found_next : (a : Awaited) (v : WaitAt) (found : List (Option ℕ)) → P Astray → AllNext (Waits a v) → P (found_at n a found)
+  found_next (ForEntry j job jobs) v found lost all =
+      lowest_keeps P (λ p code. ends_at n j job jobs) 0 found (λ p code. ends_next j job.name job.after job.steps jobs all.1 all.2) lost
+  found_next (ForEnds j job jobs) v found lost all = all.1 (some_end_above job.after found)
+  found_next (ForIdle j job jobs skipped) v found lost all =
+      lowest_keeps P (λ i g. At (Clears i g (code_of j skipped) (Dispatching (j + 1) jobs))) 0 found all.1 lost
+  found_next (ToDismiss i more) v found lost all =
+      lowest_keeps P (λ p g. At (Clears i g 0 (Dismissing (i + 1) more))) 0 found (λ p g. all.1 g) lost
+
+  wait_next : (a : Awaited) (v w : WaitAt) → AllNext (Waits a v) → P (At (Waits a w))
+  wait_next (ForEntry j job jobs) v w all = all.0 w
+  wait_next (ForEnds j job jobs) v w all = all.0 w
+  wait_next (ForIdle j job jobs skipped) v w all = all.0 w
+  wait_next (ToDismiss i more) v w all = all.0 w
+
+  settling_next : (a : Awaited) (v : WaitAt) (es : List ℕ) (found : List (Option ℕ)) → P Astray → P TooSoon → AllNext (Waits a v)
+      → P (settling_from n a es found)
+  settling_next a v [] found lost early all =
+      elim (nat_le (awaited_count a) (complete_count found)) as (λ b. P (cond b (found_at n a found) TooSoon)) [
+        | true ↦ found_next a v found lost all
+        | false ↦ early
+      ]
+  settling_next a v (e ∷ es) found lost early all = wait_next a v _ all
+
+  arming_next : (a : Awaited) (v : WaitAt) (es : List ℕ) → P Astray → P TooSoon → AllNext (Waits a v)
+      → P (arming_from n initiators a es)
+  arming_next a v [] lost early all = settling_next a v (awaited_blocks n initiators a) [] lost early all
+  arming_next a v (e ∷ es) lost early all = wait_next a v _ all
+
+  first_next : (a : Awaited) (es : List ℕ) → P Astray → ((v : WaitAt) → P (At (Waits a v))) → P (arming_first a es)
+  first_next a [] lost all = lost
+  first_next a (e ∷ es) lost all = all _
+
+  pub goes_next : (x : SchedulerAt) (r : Reply) → P Astray → P TooSoon → AllNext x → P (scheduler_goes n initiators x r)
+  goes_next (Waits a (Arming e todo)) r lost early all =
+      on_armed_keeps P (arming_from n initiators a todo) r (arming_next a (Arming e todo) todo lost early all) lost
+  goes_next (Waits a (Settling e todo found)) r lost early all =
+      on_settled_keeps P (λ slot. settling_from n a todo (found ++ slot ∷ [])) r
+      (λ slot. settling_next a (Settling e todo found) todo (found ++ slot ∷ []) lost early all) lost
+  goes_next (Extends j job jobs skipped) (reply_of.Ecb ecb_reply.Armed) lost early all =
+      first_next (ForIdle j job jobs skipped) (awaited_blocks n initiators (ForIdle j job jobs skipped)) lost all
+  goes_next (Extends j job jobs skipped) r lost early all = lost
+  goes_next (Clears i g code after) (reply_of.Ecb (ecb_reply.Word w)) lost early all = all
+  goes_next (Clears i g code after) r lost early all = lost
+  goes_next (Releases i g code after) (reply_of.Element element_reply.Early) lost early all = all
+  goes_next (Releases i g code after) (reply_of.Element element_reply.Woke) lost early all = all
+  goes_next (Releases i g code after) r lost early all = lost
+
+-- ---- the errand stays but for a release
+
+-- whether a point is no release
+abbrev pub NoRelease : SchedulerAt → Type 0
+NoRelease (Releases i g code after) = ⊥
+NoRelease x = Unit {0}
+
+less_one : (k : ℕ) → k + 1 - 1 ≡ k
+less_one k = omega arith
+
+-- the errand behind a release
+abbrev pub after_dismissals : ℕ → ℕ → Errand
+after_dismissals m zero = Rests
+after_dismissals m (suc more) = Dismisses m
+
+abbrev pub after_release : ℕ → Stage → Errand
+after_release initiators (Dispatching j []) = after_dismissals 0 initiators
+after_release initiators (Dispatching j (job ∷ jobs)) = Dispatches j
+after_release initiators (Dismissing m more) = after_dismissals m more
+
+module _ (n initiators : ℕ) where
+  -- the errand there is this one, where the task is not lost
+  abbrev Same : Errand → Point SchedulerAt → Type 0
+  Same k p = IsNotLost p → errand p ≡ k
+
+  all_same : (x : SchedulerAt) → NoRelease x → AllNext n initiators (Same (errand (At x))) x
+  all_same (Waits (ForEntry j job jobs) w) d = (λ v f. refl, λ v f. refl, λ b f. refl)
+  all_same (Waits (ForEnds j job jobs) w) d = (λ v f. refl, λ b f. refl)
+  all_same (Waits (ForIdle j job jobs skipped) w) d = (λ v f. refl, λ i g f. ap (λ z. Dispatches z) (less_one j))
+  all_same (Waits (ToDismiss i more) w) d = (λ v f. refl, λ g f. ap (λ z. Dismisses z) (less_one i))
+  all_same (Extends j job jobs skipped) d = λ v f. refl
+  all_same (Clears i g code after) d = λ f. refl
+  all_same (Releases i g code after) d = absurd d
+
+  pub same_errand : (x : SchedulerAt) (r : Reply) → NoRelease x → IsNotLost (scheduler_goes n initiators x r)
+      → errand (scheduler_goes n initiators x r) ≡ errand (At x)
+  same_errand x r d f = goes_next n initiators (Same (errand (At x))) x r (λ f. absurd f) (λ f. absurd f) (all_same x d) f
+
+  dismissing_errand : (m more : ℕ) → errand (dismissing_from n m more) ≡ after_dismissals m more
+  dismissing_errand m zero = refl
+  dismissing_errand m (suc more) = refl
+
+  stage_errand : (after : Stage) → errand (stage_at n initiators after) ≡ after_release initiators after
+  stage_errand (Dispatching j []) = dismissing_errand 0 initiators
+  stage_errand (Dispatching j (job ∷ jobs)) = refl
+  stage_errand (Dismissing m more) = dismissing_errand m more
+
+  pub released_errand : (after : Stage) (r : Reply) → IsNotLost (on_released (stage_at n initiators after) r)
+      → errand (on_released (stage_at n initiators after) r) ≡ after_release initiators after
+  released_errand after (reply_of.Element element_reply.Early) f = stage_errand after
+  released_errand after (reply_of.Element element_reply.Woke) f = stage_errand after
+  released_errand after r f = absurd f
+
+-- a release that is answered otherwise loses the scheduler
+pub release_accepted : (p : Point SchedulerAt) (r : Reply) → IsNotLost (on_released p r)
+    → (r ≡ reply_of.Element element_reply.Early) ⊎ (r ≡ reply_of.Element element_reply.Woke)
+release_accepted p (reply_of.Element element_reply.Early) f = inl refl
+release_accepted p (reply_of.Element element_reply.Woke) f = inr refl
+release_accepted p r f = absurd f
+
+-- ---- the job that is handed out next
+
+module _ (n initiators : ℕ) where
+  pub same_next : (x : SchedulerAt) (r : Reply) → NoRelease x → IsNotLost (scheduler_goes n initiators x r)
+      → next_job n (scheduler_goes n initiators x r) ≡ next_job n (At x)
+  same_next x r d f = ap (next_of n) (same_errand n initiators x r d f)
+
+  dismissals_next : (m more : ℕ) → next_of n (after_dismissals m more) ≡ n
+  dismissals_next m zero = refl
+  dismissals_next m (suc more) = refl
+
+  -- behind a release
+  pub dismissed_next : (m more : ℕ) (r : Reply) → IsNotLost (on_released (stage_at n initiators (Dismissing m more)) r)
+      → next_job n (on_released (stage_at n initiators (Dismissing m more)) r) ≡ n
+  dismissed_next m more r f = ap (next_of n) (released_errand n initiators (Dismissing m more) r f) ∙ dismissals_next m more
+
+  pub dispatched_next : (j : ℕ) (jobs : List JobData) (r : Reply) → j + length jobs ≡ n
+      → IsNotLost (on_released (stage_at n initiators (Dispatching j jobs)) r)
+      → next_job n (on_released (stage_at n initiators (Dispatching j jobs)) r) ≡ j
+  dispatched_next j jobs r e f = ap (next_of n) (released_errand n initiators (Dispatching j jobs) r f) ∙ go jobs e where
+    go : (jobs : List JobData) → j + length jobs ≡ n → next_of n (after_release initiators (Dispatching j jobs)) ≡ j
+    go [] e = dismissals_next 0 initiators ∙ (let q : n ≡ j = omega arith in q)
+    go (job ∷ jobs) e = refl
+
+-- it does not fall
+dismissing_end : (n i more : ℕ) → next_job n (dismissing_from n i more) ≡ n
+dismissing_end n i zero = refl
+dismissing_end n i (suc more) = refl
+
+stage_grows : (deck : List JobData) (initiators : ℕ) (after : Stage) → IsStage deck initiators after
+    → next_in (length deck) after ≤ next_job (length deck) (stage_at (length deck) initiators after)
+stage_grows deck initiators (Dispatching j []) s = let e : j + 0 ≡ length deck = rest_count deck j [] s in
+    let d : next_job (length deck) (dismissing_from (length deck) 0 initiators) ≡ length deck =
+    dismissing_end (length deck) 0 initiators in omega arith
+stage_grows deck initiators (Dispatching j (job ∷ jobs)) s = omega arith
+stage_grows deck initiators (Dismissing i more) s =
+    let d : next_job (length deck) (dismissing_from (length deck) i more) ≡ length deck = dismissing_end (length deck) i more in
+    omega arith
+
+awaited_below : (deck : List JobData) (initiators : ℕ) (a : Awaited) → IsAwaited deck initiators a
+    → next_awaited (length deck) a ≤ length deck
+awaited_below deck initiators (ForEntry j job jobs) s = let lt : j < length deck = rest_below deck j job jobs s in omega arith
+awaited_below deck initiators (ForEnds j job jobs) s = let lt : j < length deck = rest_below deck j job jobs s in omega arith
+awaited_below deck initiators (ForIdle j job jobs skipped) s = let lt : j < length deck = rest_below deck j job jobs s in omega arith
+awaited_below deck initiators (ToDismiss i more) s = omega arith
+
+stage_below : (deck : List JobData) (initiators : ℕ) (after : Stage) → IsStage deck initiators after
+    → next_in (length deck) after ≤ length deck
+stage_below deck initiators (Dispatching j jobs) s = let e : j + length jobs ≡ length deck = rest_count deck j jobs s in omega arith
+stage_below deck initiators (Dismissing i more) s = omega arith
+
+pub next_below : (deck : List JobData) (initiators : ℕ) (x : SchedulerAt) → IsSchedulerAt deck initiators (At x)
+    → next_job (length deck) (At x) ≤ length deck
+next_below deck initiators (Waits a w) s = awaited_below deck initiators a s.0
+next_below deck initiators (Extends j job jobs skipped) s = let lt : j < length deck = rest_below deck j job jobs s in omega arith
+next_below deck initiators (Clears i g code after) s = stage_below deck initiators after s.1
+next_below deck initiators (Releases i g code after) s = stage_below deck initiators after s.1
+
+nexts_grow : (deck : List JobData) (initiators : ℕ) (x : SchedulerAt) → IsSchedulerAt deck initiators (At x)
+    → AllNext (length deck) initiators (λ p. next_job (length deck) (At x) ≤ next_job (length deck) p) x
+nexts_grow deck initiators (Waits (ForEntry j job jobs) w) s = (λ v. omega arith, λ v. omega arith, λ b. omega arith)
+nexts_grow deck initiators (Waits (ForEnds j job jobs) w) s = (λ v. omega arith, λ b. omega arith)
+nexts_grow deck initiators (Waits (ForIdle j job jobs skipped) w) s = (λ v. omega arith, λ i g. omega arith)
+nexts_grow deck initiators (Waits (ToDismiss i more) w) s = (λ v. omega arith, λ g. omega arith)
+nexts_grow deck initiators (Extends j job jobs skipped) s = λ v. omega arith
+nexts_grow deck initiators (Clears i g code after) s = omega arith
+nexts_grow deck initiators (Releases i g code after) s = stage_grows deck initiators after s.1
+
+pub next_grows : (deck : List JobData) (initiators : ℕ) (x : SchedulerAt) (r : Reply) → IsSchedulerAt deck initiators (At x)
+    → next_job (length deck) (At x) ≤ next_job (length deck) (scheduler_goes (length deck) initiators x r)
+next_grows deck initiators x r s =
+    goes_next (length deck) initiators (λ p. next_job (length deck) (At x) ≤ next_job (length deck) p) x r
+    (next_below deck initiators x s) (next_below deck initiators x s) (nexts_grow deck initiators x s)
+
+-- and is never above the number of jobs
+pub next_bound : (deck : List JobData) (initiators : ℕ) (p : Point SchedulerAt) → IsSchedulerAt deck initiators p
+    → next_job (length deck) p ≤ length deck
+next_bound deck initiators (At x) s = next_below deck initiators x s
+next_bound deck initiators (Finished answer) s = omega arith
+next_bound deck initiators TooSoon s = omega arith
+next_bound deck initiators Astray s = omega arith

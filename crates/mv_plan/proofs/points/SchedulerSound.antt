@@ -1,0 +1,241 @@
+-- Where the scheduler may stand: which jobs are left, which code it hands over; and what it keeps there. Kept by each of its
+-- steps, whatever the reply.
+use Rattle.std.proofs.Common.{◌≡◌, ℕ, zero, suc, ◌+◌, ◌<◌, ◌≤◌, ◌==◌, nat_le, Bool, true, false, cond, if◌then◌else◌, List, [], ◌∷◌, ◌++◌}
+use Rattle.std.proofs.Common.{length, Option, Some, None, ◌⊎◌, inl, inr, refl, sym, ap, ◌∙◌, subst, append-nil, append_assoc, zero-add}
+use Rattle.std.proofs.Common.{arith}
+use Rattle.std.proofs.lemmas.Bool.{ne_eqb, cases_eq, false_from_ne_true, false≢true}
+use Rattle.std.proofs.lemmas.List.{length-append}
+use Rattle.std.proofs.lemmas.List.FromFn.{length-map-range_with_len}
+use Rattle.mv_ecb.specs.declared.operation.EcbReply.TheVariants as ecb_reply
+use Rattle.mv_element.specs.declared.operation.ElementReply.TheVariants as element_reply
+use Rattle.mv_machine.specs.declared.entry.Reply.{Reply}
+use Rattle.mv_machine.specs.declared.entry.Reply.TheVariants as reply_of
+use Rattle.mv_machine.specs.System.{with_at}
+use Rattle.mv_deck.specs.Deck.{JobData}
+use Rattle.mv_deck.specs.declared.deck.After.{After}
+use Rattle.mv_deck.specs.declared.deck.Step.{Step}
+use Rattle.mv_plan.proofs.deck.Sound.{IsSoundJob, AreSoundJobs}
+use Rattle.mv_machine.specs.calls.Keeping.{Kept}
+use Rattle.mv_plan.specs.SpoolSetup.{done, idle}
+use Rattle.mv_plan.specs.SpoolTasks.{code_of}
+use Rattle.mv_machine.specs.calls.Waits.{complete_count}
+use Rattle.mv_plan.proofs.points.Points.{Point, At, TooSoon, WaitAt, Arming, Settling, Stage, Dispatching, Dismissing, Awaited, ForEntry}
+use Rattle.mv_plan.proofs.points.Points.{ForEnds, ForIdle, ToDismiss, SchedulerAt, Waits, Extends, Clears, Releases, awaited_blocks}
+use Rattle.mv_plan.proofs.points.Points.{awaited_count, scheduler_asks, scheduler_goes, arming_first, arming_from, settling_from}
+use Rattle.mv_plan.proofs.points.Points.{found_at, ends_at, dismissing_from, stage_at, lowest_at}
+use Rattle.mv_plan.proofs.points.PostsAndWaits.{on_armed_keeps, on_settled_keeps}
+use Rattle.mv_plan.proofs.points.ReaderAndWriter.{keeps}
+
+-- the deck's jobs from number j on
+pub record IsRest (deck : List JobData) (j : ℕ) (jobs : List JobData) : Type 0 where
+  pub front : List JobData
+  pub whole : front ++ jobs ≡ deck
+  pub count : length front ≡ j
+
+pub rest_all : (deck : List JobData) → IsRest deck 0 deck
+rest_all deck = record { front = []; whole = refl; count = refl }
+
+pub rest_next : (deck : List JobData) (j : ℕ) (job : JobData) (jobs : List JobData) → IsRest deck j (job ∷ jobs) → IsRest deck (j + 1) jobs
+rest_next deck j job jobs r = record {
+  front = r.front ++ job ∷ [];
+  whole = append_assoc r.front (job ∷ []) jobs ∙ r.whole;
+  count = length-append r.front (job ∷ []) ∙ ap (λ k. k + 1) r.count;
+}
+
+pub rest_count : (deck : List JobData) (j : ℕ) (jobs : List JobData) → IsRest deck j jobs → j + length jobs ≡ length deck
+rest_count deck j jobs r = ap (λ k. k + length jobs) (sym r.count) ∙ sym (length-append r.front jobs) ∙ ap (λ l. length l) r.whole
+
+pub rest_below : (deck : List JobData) (j : ℕ) (job : JobData) (jobs : List JobData) → IsRest deck j (job ∷ jobs) → j < length deck
+rest_below deck j job jobs r = let e : j + length (job ∷ jobs) ≡ length deck = rest_count deck j (job ∷ jobs) r in omega arith
+
+sound_from : (j : ℕ) (front jobs : List JobData) → AreSoundJobs j (front ++ jobs) → AreSoundJobs (j + length front) jobs
+sound_from j [] jobs s = subst (λ k. AreSoundJobs k jobs) (omega arith) s
+sound_from j (f ∷ front) jobs s = subst (λ k. AreSoundJobs k jobs) (one_more j (length front)) (sound_from (j + 1) front jobs s.1) where
+  one_more : (j k : ℕ) → j + 1 + k ≡ j + suc k
+  one_more j k = omega arith
+
+pub rest_sound : (deck : List JobData) (j : ℕ) (job : JobData) (jobs : List JobData) → AreSoundJobs 0 deck → IsRest deck j (job ∷ jobs)
+    → IsSoundJob j job
+rest_sound deck j job jobs s r =
+    subst (λ k. IsSoundJob k job) (zero-add (length r.front) ∙ r.count)
+    (sound_from 0 r.front (job ∷ jobs) (subst (λ d. AreSoundJobs 0 d) (sym r.whole) s)).0
+
+-- how far a wait for these blocks is
+abbrev pub IsWaitAt : List ℕ → WaitAt → Type 0
+IsWaitAt blocks (Arming e todo) = (past : List ℕ) × (past ++ e ∷ todo ≡ blocks)
+IsWaitAt blocks (Settling e todo found) = (past : List ℕ) × (past ++ e ∷ todo ≡ blocks) × (length past ≡ length found)
+
+abbrev pub IsAwaited : List JobData → ℕ → Awaited → Type 0
+IsAwaited deck initiators (ForEntry j job jobs) = IsRest deck j (job ∷ jobs)
+IsAwaited deck initiators (ForEnds j job jobs) = IsRest deck j (job ∷ jobs)
+IsAwaited deck initiators (ForIdle j job jobs skipped) = IsRest deck j (job ∷ jobs)
+IsAwaited deck initiators (ToDismiss i more) = i + suc more ≡ initiators
+
+abbrev pub IsStage : List JobData → ℕ → Stage → Type 0
+IsStage deck initiators (Dispatching j jobs) = IsRest deck j jobs
+IsStage deck initiators (Dismissing i more) = i + more ≡ initiators
+
+-- initiator i gets this code before the stage: that of the job in front of it, or 0 where it is dismissed
+abbrev pub IsHanded : ℕ → ℕ → Stage → Type 0
+IsHanded i code (Dispatching j jobs) = (k : ℕ) × (skipped : Bool) × (j ≡ k + 1) × (code ≡ code_of k skipped)
+IsHanded i code (Dismissing m more) = (m ≡ i + 1) × (code ≡ 0)
+
+abbrev pub IsSchedulerAt : List JobData → ℕ → Point SchedulerAt → Type 0
+IsSchedulerAt deck initiators (At (Waits a w)) = IsAwaited deck initiators a × IsWaitAt (awaited_blocks (length deck) initiators a) w
+IsSchedulerAt deck initiators (At (Extends j job jobs skipped)) = IsRest deck j (job ∷ jobs)
+IsSchedulerAt deck initiators (At (Clears i g code after)) = (i < initiators) × IsStage deck initiators after × IsHanded i code after
+IsSchedulerAt deck initiators (At (Releases i g code after)) = (i < initiators) × IsStage deck initiators after × IsHanded i code after
+IsSchedulerAt deck initiators p = Unit {0}
+
+-- how many of the done blocks were extended by then, where there are n jobs
+abbrev pub stage_extended : ℕ → Stage → ℕ
+stage_extended n (Dispatching j jobs) = j
+stage_extended n (Dismissing i more) = n
+
+abbrev pub awaited_extended : ℕ → Awaited → ℕ
+awaited_extended n (ForEntry j job jobs) = j
+awaited_extended n (ForEnds j job jobs) = j
+awaited_extended n (ForIdle j job jobs skipped) = j + 1
+awaited_extended n (ToDismiss i more) = n
+
+-- the scheduler keeps that no others are extended
+pub record SchedulerKept (n count : ℕ) (kept : Kept) : Type 0 where
+  pub caller : kept.caller ≡ 1
+  pub within : (e : ℕ) → kept.extended e ≡ true → (n ≤ e) × (e < n + count)
+
+pub others_plain : (n count : ℕ) (kept : Kept) (e : ℕ) → SchedulerKept n count kept → (e < n) ⊎ (n + count ≤ e)
+    → kept.extended e ≡ false
+others_plain n count kept e k out = false_from_ne_true (kept.extended e) (λ held. outside out (k.within e held)) where
+  outside : (e < n) ⊎ (n + count ≤ e) → (n ≤ e) × (e < n + count) → ⊥
+  outside (inl lt) w = omega arith
+  outside (inr le) w = omega arith
+
+abbrev pub SchedulerKeptAt : ℕ → Kept → Point SchedulerAt → Type 0
+SchedulerKeptAt n kept (At (Waits a w)) = SchedulerKept n (awaited_extended n a) kept
+SchedulerKeptAt n kept (At (Extends j job jobs skipped)) = SchedulerKept n j kept
+SchedulerKeptAt n kept (At (Clears i g code after)) = SchedulerKept n (stage_extended n after) kept
+SchedulerKeptAt n kept (At (Releases i g code after)) = SchedulerKept n (stage_extended n after) kept
+SchedulerKeptAt n kept p = Unit {0}
+
+-- both
+abbrev pub SchedulerStands : List JobData → ℕ → Kept → Point SchedulerAt → Type 0
+SchedulerStands deck initiators kept p = IsSchedulerAt deck initiators p × SchedulerKeptAt (length deck) kept p
+
+-- ---- each point's next stands
+
+module _ (deck : List JobData) (initiators : ℕ) (kept : Kept) where
+  lowest_stands : (f : ℕ → ℕ → Point SchedulerAt) (p bound : ℕ) (found : List (Option ℕ)) → p + length found ≤ bound
+      → ((i code : ℕ) → i < bound → SchedulerStands deck initiators kept (f i code))
+      → SchedulerStands deck initiators kept (lowest_at f p found)
+  lowest_stands f p bound [] le each = (tt, tt)
+  lowest_stands f p bound (Some code ∷ found) le each = each p code (omega arith)
+  lowest_stands f p bound (None ∷ found) le each = lowest_stands f (p + 1) bound found (omega arith) each
+
+  ends_stands : (j : ℕ) (name : List ℕ) (after : List After) (steps : List Step) (jobs : List JobData)
+      → IsRest deck j (record { name = name; after = after; steps = steps } ∷ jobs) → SchedulerKept (length deck) j kept
+      → SchedulerStands deck initiators kept (ends_at (length deck) j (record { name = name; after = after; steps = steps }) jobs)
+  ends_stands j name [] steps jobs r k = (r, k)
+  ends_stands j name (part ∷ parts) steps jobs r k = ((r, ([], refl)), k)
+
+  dismissing_stands : (i more : ℕ) → i + more ≡ initiators → SchedulerKept (length deck) (length deck) kept
+      → SchedulerStands deck initiators kept (dismissing_from (length deck) i more)
+  dismissing_stands i zero e k = (tt, tt)
+  dismissing_stands i (suc more) e k = ((e, ([], refl)), k)
+
+  pub stage_stands : (after : Stage) → IsStage deck initiators after
+      → SchedulerKept (length deck) (stage_extended (length deck) after) kept
+      → SchedulerStands deck initiators kept (stage_at (length deck) initiators after)
+  stage_stands (Dispatching j []) r k =
+      dismissing_stands 0 initiators (omega arith)
+      (subst (λ m. SchedulerKept (length deck) m kept) (let e : j + 0 ≡ length deck = rest_count deck j [] r in omega arith) k)
+  stage_stands (Dispatching j (job ∷ jobs)) r k = ((r, ([], refl)), k)
+  stage_stands (Dismissing i more) e k = dismissing_stands i more e k
+
+  found_stands : (a : Awaited) (found : List (Option ℕ)) → IsAwaited deck initiators a
+      → SchedulerKept (length deck) (awaited_extended (length deck) a) kept
+      → length found ≤ length (awaited_blocks (length deck) initiators a)
+      → SchedulerStands deck initiators kept (found_at (length deck) a found)
+  found_stands (ForEntry j job jobs) found r k le =
+      lowest_stands _ 0 (length found) found (omega arith) (λ i code lt. ends_stands j job.name job.after job.steps jobs r k)
+  found_stands (ForEnds j job jobs) found r k le = (r, k)
+  found_stands (ForIdle j job jobs skipped) found r k le = lowest_stands _ 0 initiators found
+      (let l : length (awaited_blocks (length deck) initiators (ForIdle j job jobs skipped)) ≡ initiators = length-map-range_with_len
+      (idle (length deck)) 0 initiators in omega arith)
+      (λ i g lt. ((lt, rest_next deck j job jobs r, (j, skipped, refl, refl)), k))
+  found_stands (ToDismiss i more) found e k le =
+      lowest_stands _ 0 (length found) found (omega arith) (λ p g lt. ((omega arith, omega arith, (refl, refl)), k))
+
+  settling_stands : (a : Awaited) (past es : List ℕ) (found : List (Option ℕ)) → IsAwaited deck initiators a
+      → SchedulerKept (length deck) (awaited_extended (length deck) a) kept
+      → past ++ es ≡ awaited_blocks (length deck) initiators a → length past ≡ length found
+      → SchedulerStands deck initiators kept (settling_from (length deck) a es found)
+  settling_stands a past [] found s k e l =
+      elim (nat_le (awaited_count a) (complete_count found)) as
+      (λ b. SchedulerStands deck initiators kept (cond b (found_at (length deck) a found) TooSoon)) [
+        | true ↦ found_stands a found s k
+            (subst (λ m. m ≤ length (awaited_blocks (length deck) initiators a)) (ap (λ l. length l) (sym e ∙ append-nil past) ∙ l)
+            (omega arith))
+        | false ↦ (tt, tt)
+      ]
+  settling_stands a past (b ∷ es) found s k e l = ((s, (past, e, l)), k)
+
+  arming_stands : (a : Awaited) (past es : List ℕ) → IsAwaited deck initiators a
+      → SchedulerKept (length deck) (awaited_extended (length deck) a) kept
+      → past ++ es ≡ awaited_blocks (length deck) initiators a
+      → SchedulerStands deck initiators kept (arming_from (length deck) initiators a es)
+  arming_stands a past [] s k e = settling_stands a [] (awaited_blocks (length deck) initiators a) [] s k refl refl
+  arming_stands a past (b ∷ es) s k e = ((s, (past, e)), k)
+
+  first_stands : (a : Awaited) (es : List ℕ) → IsAwaited deck initiators a
+      → SchedulerKept (length deck) (awaited_extended (length deck) a) kept
+      → es ≡ awaited_blocks (length deck) initiators a → SchedulerStands deck initiators kept (arming_first a es)
+  first_stands a [] s k e = (tt, tt)
+  first_stands a (b ∷ es) s k e = ((s, ([], e)), k)
+
+one_pushed : {X : Type 0} (xs ys : List X) (x : X) → (xs ++ x ∷ []) ++ ys ≡ xs ++ x ∷ ys
+one_pushed xs ys x = append_assoc xs (x ∷ []) ys
+
+-- after an extend that is answered Armed
+pub extended_kept : (deck : List JobData) (initiators : ℕ) (kept : Kept) (j : ℕ) (job : JobData) (jobs : List JobData) (skipped : Bool)
+    → SchedulerKept (length deck) j kept → SchedulerKept (length deck) (j + 1)
+    (keeps kept (scheduler_asks (length deck) (Extends j job jobs skipped)) (reply_of.Ecb ecb_reply.Armed))
+extended_kept deck initiators kept j job jobs skipped s =
+    record { caller = s.caller; within = λ e held. extended_more e held (cases_eq e (done (length deck) j)) } where
+      extended_more : (e : ℕ) → with_at kept.extended (done (length deck) j) true e ≡ true
+          → (e ≡ done (length deck) j) ⊎ (e ≡ done (length deck) j → ⊥) → (length deck ≤ e) × (e < length deck + (j + 1))
+      extended_more e held (inl same) = (omega arith, omega arith)
+      extended_more e held (inr other) = let w : (length deck ≤ e) × (e < length deck + j) =
+          s.within e (sym (ap (λ b. if b then true else kept.extended e) (ne_eqb e (done (length deck) j) other)) ∙ held) in
+          (w.0, omega arith)
+
+pub scheduler_stands : (deck : List JobData) (initiators : ℕ) (kept : Kept) (x : SchedulerAt) (r : Reply)
+    → SchedulerStands deck initiators kept (At x)
+    → SchedulerStands deck initiators (keeps kept (scheduler_asks (length deck) x) r) (scheduler_goes (length deck) initiators x r)
+scheduler_stands deck initiators kept (Waits a (Arming e todo)) r s =
+    on_armed_keeps (SchedulerStands deck initiators (keeps kept (scheduler_asks (length deck) (Waits a (Arming e todo))) r))
+    (arming_from (length deck) initiators a todo) r
+    (arming_stands deck initiators _ a (s.0.1.0 ++ e ∷ []) todo s.0.0 (record { caller = s.1.caller; within = s.1.within })
+    (one_pushed s.0.1.0 todo e ∙ s.0.1.1)) (tt, tt)
+scheduler_stands deck initiators kept (Waits a (Settling e todo found)) r s =
+    on_settled_keeps (SchedulerStands deck initiators (keeps kept (scheduler_asks (length deck) (Waits a (Settling e todo found))) r))
+    (λ slot. settling_from (length deck) a todo (found ++ slot ∷ [])) r
+    (λ slot. settling_stands deck initiators _ a (s.0.1.0 ++ e ∷ []) todo (found ++ slot ∷ []) s.0.0
+    (record { caller = s.1.caller; within = s.1.within }) (one_pushed s.0.1.0 todo e ∙ s.0.1.1)
+    (length-append s.0.1.0 (e ∷ []) ∙ ap (λ k. k + 1) s.0.1.2 ∙ sym (length-append found (slot ∷ [])))) (tt, tt)
+scheduler_stands deck initiators kept (Extends j job jobs skipped) (reply_of.Ecb ecb_reply.Armed) s =
+    first_stands deck initiators _ (ForIdle j job jobs skipped)
+    (awaited_blocks (length deck) initiators (ForIdle j job jobs skipped)) s.0
+    (extended_kept deck initiators kept j job jobs skipped s.1) refl
+scheduler_stands deck initiators kept (Extends j job jobs skipped) r s = (tt, tt)
+scheduler_stands deck initiators kept (Clears i g code after) (reply_of.Ecb (ecb_reply.Word w)) s =
+    (s.0, record { caller = s.1.caller; within = λ e held. s.1.within e (before e held (e == idle (length deck) i) refl) }) where
+      before : (e : ℕ) → with_at kept.extended (idle (length deck) i) false e ≡ true → (b : Bool) → (e == idle (length deck) i) ≡ b
+          → kept.extended e ≡ true
+      before e held true q = absurd (false≢true (sym (ap (λ b. if b then false else kept.extended e) q) ∙ held))
+      before e held false q = sym (ap (λ b. if b then false else kept.extended e) q) ∙ held
+scheduler_stands deck initiators kept (Clears i g code after) r s = (tt, tt)
+scheduler_stands deck initiators kept (Releases i g code after) (reply_of.Element element_reply.Early) s =
+    stage_stands deck initiators _ after s.0.1 (record { caller = s.1.caller; within = s.1.within })
+scheduler_stands deck initiators kept (Releases i g code after) (reply_of.Element element_reply.Woke) s =
+    stage_stands deck initiators _ after s.0.1 (record { caller = s.1.caller; within = s.1.within })
+scheduler_stands deck initiators kept (Releases i g code after) r s = (tt, tt)

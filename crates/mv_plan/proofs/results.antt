@@ -1,0 +1,13 @@
+-- The laws.
+pub mod Closings
+pub mod Exact
+pub mod Dispatched
+pub mod EndsPosted
+pub mod HandedOut
+pub mod CountsAlone
+pub mod Exclusive
+pub mod FewTurns
+pub mod Foreseen
+pub mod SafeWalks
+pub mod NoneWrong
+pub mod Told

@@ -1,0 +1,219 @@
+-- Each release is of a job or closes an initiator and is accepted, and each initiator is closed once.
+use Rattle.std.proofs.Common.{◌≡◌, ℕ, zero, suc, ◌+◌, ◌-◌, ◌<◌, ◌≤◌, ◌==◌, Bool, true, false, if◌then◌else◌, List, [], ◌∷◌, ◌++◌, length}
+use Rattle.std.proofs.Common.{None, ◌⊎◌, inl, inr, refl, sym, ap, ◌∙◌, subst, arith}
+use Rattle.std.specs.List.{AllByRecursion}
+use Rattle.std.proofs.lemmas.Bool.{cases_eq, cases_lt, eq-eqb, ne_eqb}
+use Rattle.mv_element.specs.declared.operation.ElementOp.TheVariants as element_op
+use Rattle.mv_element.specs.declared.operation.ElementReply.TheVariants as element_reply
+use Rattle.mv_machine.specs.declared.entry.Entry.{Entry}
+use Rattle.mv_machine.specs.declared.entry.Object.{Object}
+use Rattle.mv_machine.specs.declared.entry.Object.TheVariants.{Element}
+use Rattle.mv_machine.specs.declared.entry.Op.{Op}
+use Rattle.mv_machine.specs.declared.entry.Op.TheVariants as op_on
+use Rattle.mv_machine.specs.declared.entry.Reply.{Reply}
+use Rattle.mv_machine.specs.declared.entry.Reply.TheVariants as reply_of
+use Rattle.mv_machine.specs.Legal.{IsNext}
+use Rattle.mv_machine.specs.Setup.{Setup}
+use Rattle.mv_machine.specs.System.{System}
+use Rattle.mv_plan.specs.HandingOut.{release_code, is_closing, closings, IsRightRelease}
+use Rattle.mv_deck.specs.Deck.{JobData}
+use Rattle.mv_plan.specs.SpoolSetup.{scheduler, initiator}
+use Rattle.mv_plan.specs.SpoolTasks.{code_of}
+use Rattle.mv_machine.specs.calls.Keeping.{Kept}
+use Rattle.mv_plan.proofs.points.SchedulerNext.{same_errand, after_dismissals, after_release, released_errand, release_accepted}
+use Rattle.mv_plan.proofs.deck.Codes.{never_zero}
+use Rattle.mv_plan.proofs.points.Points.{Point, At, Stage, Dispatching, Dismissing, SchedulerAt, Waits, Extends, Clears, Releases}
+use Rattle.mv_plan.proofs.points.Points.{scheduler_asks, scheduler_goes, stage_at, dismissing_from}
+use Rattle.mv_plan.proofs.points.SchedulerSound.{IsSchedulerAt, rest_count}
+use Rattle.mv_plan.proofs.walks.Stands.{Stand}
+use Rattle.mv_plan.proofs.walks.NoneLost.{NoneLost}
+use Rattle.mv_plan.proofs.walks.Walks.{Points, Move}
+use Rattle.mv_machine.proofs.Lists.{all_push}
+use Rattle.mv_plan.proofs.points.Asks.{reader_plain, writer_plain, no_release, wait_no_release}
+use Rattle.mv_plan.proofs.walks.Moves.{entry_of, Each, of_move}
+use Rattle.mv_plan.proofs.points.Views.{Errand, Dispatches, Dismisses, Rests, errand, IsNotLost}
+
+-- how many initiators were dismissed by then
+abbrev pub dismissed_by : ℕ → Errand → ℕ
+dismissed_by initiators (Dispatches j) = 0
+dismissed_by initiators (Dismisses i) = i
+dismissed_by initiators Rests = initiators
+
+-- the releases so far, where so many initiators were dismissed
+pub record Closes (n initiators : ℕ) (past : List Entry) (dismissed : ℕ) : Type 0 where
+  pub releases : AllByRecursion (λ e. IsRightRelease n initiators e.object e.op e.reply) past
+  pub closed : (i : ℕ) → i < dismissed → length (closings (initiator i) past) ≡ 1
+  pub unclosed : (i : ℕ) → dismissed ≤ i → length (closings (initiator i) past) ≡ 0
+
+plain_right : (n initiators : ℕ) (o : Object) (op : Op) (r : Reply) → release_code op ≡ None → IsRightRelease n initiators o op r
+plain_right n initiators (Element m) (op_on.Element (element_op.Release g code)) r e = absurd (cc e)
+plain_right n initiators o op r e = tt
+
+plain_open : (m : ℕ) (o : Object) (op : Op) → release_code op ≡ None → is_closing m o op ≡ false
+plain_open m (Element k) (op_on.Element (element_op.Release g code)) e = absurd (cc e)
+plain_open m o op e = refl
+
+closings_same : (m : ℕ) (past : List Entry) (e : Entry) → is_closing m e.object e.op ≡ false
+    → length (closings m (past ++ e ∷ [])) ≡ length (closings m past)
+closings_same m [] e q = rw q refl
+closings_same m (x ∷ past) e q =
+    elim (is_closing m x.object x.op) as
+    (λ b. length (if b then x ∷ closings m (past ++ e ∷ []) else closings m (past ++ e ∷ [])) ≡ length
+    (if b then x ∷ closings m past else closings m past)) [
+      | true ↦ ap (λ k. suc k) (closings_same m past e q)
+      | false ↦ closings_same m past e q
+    ]
+
+closings_more : (m : ℕ) (past : List Entry) (e : Entry) → is_closing m e.object e.op ≡ true
+    → length (closings m (past ++ e ∷ [])) ≡ suc (length (closings m past))
+closings_more m [] e q = rw q refl
+closings_more m (x ∷ past) e q =
+    elim (is_closing m x.object x.op) as
+    (λ b. length (if b then x ∷ closings m (past ++ e ∷ []) else closings m (past ++ e ∷ [])) ≡ suc
+    (length (if b then x ∷ closings m past else closings m past))) [
+      | true ↦ ap (λ k. suc k) (closings_more m past e q)
+      | false ↦ closings_more m past e q
+    ]
+
+closing_here : (i : ℕ) → (if initiator i == initiator i then 0 == 0 else false) ≡ true
+closing_here i = ap (λ b. if b then true else false) (eq-eqb (initiator i) (initiator i) refl)
+
+closing_else : (i m code : ℕ) → (i ≡ m → ⊥) → (if initiator i == initiator m then code == 0 else false) ≡ false
+closing_else i m code d = ap (λ b. if b then code == 0 else false) (ne_eqb (initiator i) (initiator m) (λ z. d (omega arith)))
+
+closing_job : (i m code : ℕ) → (code ≡ 0 → ⊥) → (if initiator i == initiator m then code == 0 else false) ≡ false
+closing_job i m code d = elim (initiator i == initiator m) as
+    (λ b. (if b then code == 0 else false) ≡ false) [ true ↦ ne_eqb code 0 d | false ↦ refl ]
+
+module _ (n initiators : ℕ) (past : List Entry) (d : ℕ) (w : Closes n initiators past d) (e : Entry) where
+  closes_quiet : (d' : ℕ) → d' ≡ d → release_code e.op ≡ None → Closes n initiators (past ++ e ∷ []) d'
+  closes_quiet d' q none = record {
+    releases = all_push _ past e w.releases (plain_right n initiators e.object e.op e.reply none);
+    closed = λ i lt. closings_same (initiator i) past e (plain_open (initiator i) e.object e.op none) ∙ w.closed i (omega arith);
+    unclosed = λ i le. closings_same (initiator i) past e (plain_open (initiator i) e.object e.op none) ∙ w.unclosed i (omega arith);
+  }
+
+  -- a job's release
+  closes_job : (d' i : ℕ) → d' ≡ d → IsRightRelease n initiators e.object e.op e.reply
+      → ((m : ℕ) → is_closing (initiator m) e.object e.op ≡ false) → Closes n initiators (past ++ e ∷ []) d'
+  closes_job d' i q right none = record {
+    releases = all_push _ past e w.releases right;
+    closed = λ m lt. closings_same (initiator m) past e (none m) ∙ w.closed m (omega arith);
+    unclosed = λ m le. closings_same (initiator m) past e (none m) ∙ w.unclosed m (omega arith);
+  }
+
+  -- the release that closes the next initiator
+  closes_one : (d' : ℕ) → d' ≡ d + 1 → IsRightRelease n initiators e.object e.op e.reply → is_closing (initiator d) e.object e.op ≡ true
+      → ((m : ℕ) → (d ≡ m → ⊥) → is_closing (initiator m) e.object e.op ≡ false) → Closes n initiators (past ++ e ∷ []) d'
+  closes_one d' q right one none = record {
+    releases = all_push _ past e w.releases right;
+    closed = λ m lt. close m (cases_eq d m) (omega arith);
+    unclosed = λ m le. closings_same (initiator m) past e (none m (λ z. absurd (omega arith))) ∙ w.unclosed m (omega arith);
+  } where
+    close : (m : ℕ) → (d ≡ m) ⊎ (d ≡ m → ⊥) → m ≤ d → length (closings (initiator m) (past ++ e ∷ [])) ≡ 1
+    close m (inl same) le = subst (λ z. length (closings (initiator z) (past ++ e ∷ [])) ≡ 1) same
+        (closings_more (initiator d) past e one ∙ ap (λ k. suc k) (w.unclosed d (omega arith)))
+    close m (inr other) le = closings_same (initiator m) past e (none m other)
+        ∙ w.closed m (elim (cases_lt m d) [ inl lt ↦ lt | inr ge ↦ absurd (other (omega arith)) ])
+
+dismissed_after : (initiators m more : ℕ) → m + more ≡ initiators → dismissed_by initiators (after_dismissals m more) ≡ m
+dismissed_after initiators m zero e = omega arith
+dismissed_after initiators m (suc more) e = refl
+
+module _ (c : Setup) (deck : List JobData) (initiators : ℕ) (kept : ℕ → Kept) (past : List Entry) where
+  abbrev n : ℕ
+  n = length deck
+
+  abbrev ClosesAt : Point SchedulerAt → List Entry → Type 0
+  ClosesAt q es = Closes n initiators es (dismissed_by initiators (errand q))
+
+  abbrev Closing : System → Points → Entry → Points → Type 0
+  Closing s t e u = Stand deck initiators kept t → NoneLost initiators u → ClosesAt t.scheduler past
+      → ClosesAt u.scheduler (past ++ e ∷ [])
+
+  module _ (i g code p : ℕ) (r : Reply) where
+    abbrev out : Entry
+    out = record {
+      caller = scheduler;
+      object = Element (initiator i);
+      place = p;
+      op = op_on.Element (element_op.Release g code);
+      reply = r;
+    }
+
+    right : i < initiators → ((code ≡ 0) ⊎ ((j : ℕ) × (skipped : Bool) × (j < n) × (code ≡ code_of j skipped)))
+        → (q : Point SchedulerAt) → (r ≡ reply_of.Element element_reply.Early) ⊎ (r ≡ reply_of.Element element_reply.Woke)
+        → IsRightRelease n initiators out.object out.op out.reply
+    right lt named q ok = ((i, lt, refl), named, ok)
+
+    releasing : (after : Stage) (q : Point SchedulerAt) → q ≡ At (Releases i g code after)
+        → IsSchedulerAt deck initiators (At (Releases i g code after))
+        → IsNotLost (scheduler_goes n initiators (Releases i g code after) r)
+        → ClosesAt q past → ClosesAt (scheduler_goes n initiators (Releases i g code after) r) (past ++ out ∷ [])
+    releasing (Dispatching j jobs) q at sound f w =
+        let below : sound.2.0 < n = (let whole : j + length jobs ≡ n = rest_count deck j jobs sound.1 in let a : j
+        ≡ sound.2.0 + 1 = sound.2.2 in omega arith) in
+        closes_job n initiators past _ w out _ i
+        (ap (λ z. dismissed_by initiators z) (released_errand n initiators (Dispatching j jobs) r f)
+        ∙ dispatched j jobs (rest_count deck j jobs sound.1) ∙ sym (ap (λ z. dismissed_by initiators (errand z)) at))
+        (right sound.0 (inr (sound.2.0, sound.2.1, below, sound.2.3)) q
+        (release_accepted (stage_at n initiators (Dispatching j jobs)) r f))
+        (λ m. closing_job i m code (λ z. never_zero sound.2.0 sound.2.1 (sym sound.2.3 ∙ z))) where
+          dispatched : (j : ℕ) (jobs : List JobData) → j + length jobs ≡ n
+              → dismissed_by initiators (after_release initiators (Dispatching j jobs)) ≡ 0
+          dispatched j [] e = dismissed_after initiators 0 initiators (omega arith)
+          dispatched j (job ∷ jobs) e = refl
+    releasing (Dismissing m more) q at sound f w =
+        let is : dismissed_by initiators (errand q) ≡ m - 1 = ap (λ z. dismissed_by initiators (errand z)) at in
+        let one : dismissed_by initiators (errand q) ≡ i = (let a : m ≡ i + 1 = sound.2.0 in omega arith) in
+        let then_is : dismissed_by initiators (errand (scheduler_goes n initiators (Releases i g code (Dismissing m more)) r)) ≡ m =
+        ap (λ z. dismissed_by initiators z) (released_errand n initiators (Dismissing m more) r f)
+        ∙ dismissed_after initiators m more sound.1 in
+        closes_one n initiators past _ w out _ (up _ _ m one then_is sound.2.0)
+        (right sound.0 (inl sound.2.1) q (release_accepted (stage_at n initiators (Dismissing m more)) r f))
+        (subst (λ z. is_closing (initiator z) out.object out.op ≡ true) (sym one)
+        (subst (λ z. (if initiator i == initiator i then z == 0 else false) ≡ true) (sym sound.2.1) (closing_here i)))
+        (λ k d. closing_else i k code (λ z. d (one ∙ z))) where
+          up : (x y m : ℕ) → x ≡ i → y ≡ m → m ≡ i + 1 → y ≡ x + 1
+          up x y m a b d = omega arith
+
+  scheduled : (x : SchedulerAt) (p : ℕ) (r : Reply) (q : Point SchedulerAt) → q ≡ At x → IsSchedulerAt deck initiators (At x)
+      → IsNotLost (scheduler_goes n initiators x r)
+      → ClosesAt q past → ClosesAt (scheduler_goes n initiators x r) (past ++ entry_of scheduler p (scheduler_asks n x) r ∷ [])
+  scheduled (Waits a v) p r q at sound f w =
+      closes_quiet n initiators past _ w _ _
+      (ap (λ z. dismissed_by initiators z) (same_errand n initiators (Waits a v) r tt f ∙ sym (ap (λ z. errand z) at)))
+      (wait_no_release v)
+  scheduled (Extends j job jobs skipped) p r q at sound f w =
+      closes_quiet n initiators past _ w _ _
+      (ap (λ z. dismissed_by initiators z)
+      (same_errand n initiators (Extends j job jobs skipped) r tt f ∙ sym (ap (λ z. errand z) at))) refl
+  scheduled (Clears i g code after) p r q at sound f w =
+      closes_quiet n initiators past _ w _ _
+      (ap (λ z. dismissed_by initiators z) (same_errand n initiators (Clears i g code after) r tt f ∙ sym (ap (λ z. errand z) at))) refl
+  scheduled (Releases i g code after) p r q at sound f w = releasing i g code p r after q at sound f w
+
+  each_closing : Each c deck initiators Closing
+  each_closing = record {
+    of_reader = λ s t x p r at nx st f w. closes_quiet n initiators past _ w _ _ refl (reader_plain x);
+    of_scheduler = λ s t x p r at nx st f w. scheduled x p r t.scheduler at
+        (subst (λ z. IsSchedulerAt deck initiators z) at st.at_scheduler.0) f.at_scheduler w;
+    of_initiator = λ s t i x p r lt at nx st f w. closes_quiet n initiators past _ w _ _ refl (no_release n i x);
+    of_writer = λ s t x p r at nx st f w. closes_quiet n initiators past _ w _ _ refl (writer_plain x);
+  }
+
+  pub closes_next : (s : System) (t u : Points) (e : Entry) → IsNext c s e → Move deck initiators t e u → Stand deck initiators kept t
+      → NoneLost initiators u → ClosesAt t.scheduler past → ClosesAt u.scheduler (past ++ e ∷ [])
+  closes_next s t u e nx m st f w = of_move c deck initiators Closing each_closing s t u e nx m st f w
+
+-- before the first entry
+pub closes_start : (deck : List JobData) (initiators : ℕ)
+    → Closes (length deck) initiators [] (dismissed_by initiators (errand (stage_at (length deck) initiators (Dispatching 0 deck))))
+closes_start deck initiators = record { releases = tt; closed = λ i lt. absurd (none deck i lt); unclosed = λ i le. refl } where
+  dismissals : (n more : ℕ) → dismissed_by more (errand (dismissing_from n 0 more)) ≡ 0
+  dismissals n zero = refl
+  dismissals n (suc more) = refl
+
+  none : (deck : List JobData) (i : ℕ) → i < dismissed_by initiators (errand (stage_at (length deck) initiators (Dispatching 0 deck))) → ⊥
+  none [] i lt = let z : dismissed_by initiators (errand (dismissing_from 0 0 initiators)) ≡ 0 = dismissals 0 initiators in omega arith
+  none (job ∷ jobs) i lt = omega arith

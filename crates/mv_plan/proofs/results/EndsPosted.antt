@@ -1,0 +1,170 @@
+-- Behind a run each job's end was posted once to each of its three blocks: specs/PostingEnds. The marks that were released are
+-- the deck's, no post came second, and the writer has kept the deck's ends.
+use Rattle.std.proofs.Common.{◌≡◌, ℕ, ◌+◌, ◌<◌, ◌≤◌, List, [], ◌∷◌, ◌++◌, length, map, Some, None, refl, ap, ◌∙◌, subst}
+use Rattle.std.specs.List.{AllByRecursion}
+use Rattle.mv_ecb.specs.declared.operation.EcbReply.TheVariants as ecb_reply
+use Rattle.mv_ecb.specs.Word.{EcbState, Complete}
+use Rattle.mv_machine.specs.declared.entry.Entry.{Entry}
+use Rattle.mv_machine.specs.declared.entry.Reply.{Reply}
+use Rattle.mv_machine.specs.declared.entry.Reply.TheVariants as reply_of
+use Rattle.mv_machine.specs.Legal.{IsNext, next, after}
+use Rattle.mv_machine.specs.Setup.{Setup}
+use Rattle.mv_machine.specs.System.{System, opening}
+use Rattle.mv_plan.specs.PostingEnds.{posts, post_codes, EndsArePosted, HasRightMark, PostsFirst}
+use Rattle.mv_deck.specs.Deck.{JobData}
+use Rattle.mv_plan.specs.Jobs.{end_of}
+use Rattle.mv_plan.proofs.deck.Sound.{IsSound}
+use Rattle.mv_report.specs.Outcome.{ends}
+use Rattle.mv_machine.specs.calls.Program.{Done}
+use Rattle.mv_machine.specs.calls.Runs.{left_in}
+use Rattle.mv_plan.specs.SpoolRun.{IsRun}
+use Rattle.mv_plan.specs.SpoolSetup.{spool_setup, done, end_for_scheduler, end_for_writer, idle, writer}
+use Rattle.mv_plan.specs.SpoolTasks.{task_program}
+use Rattle.mv_plan.proofs.ends.Blocks.{HasEnd, done_has, scheduler_has, writer_has}
+use Rattle.mv_plan.proofs.deck.Ends.{few_jobs}
+use Rattle.mv_plan.proofs.ends.RightCodes.{Codes, KeepsEnds, codes_keep, codes_first}
+use Rattle.mv_plan.proofs.ends.EndMoments.{EndMoment, IsFreeToOffer, traces_keep}
+use Rattle.mv_plan.proofs.standing.Row.{RowAt, code_in}
+use Rattle.mv_plan.proofs.ends.Complete.{IsComplete}
+use Rattle.mv_plan.proofs.deck.Setup.{Facts, facts}
+use Rattle.mv_plan.proofs.points.Programs.{program_at, writer_program}
+use Rattle.mv_plan.proofs.points.Points.{Point, At, Finished, SchedulerAt, InitiatorAt, Offering}
+use Rattle.mv_plan.proofs.ends.Posted.{Posted, posted_keeps, posted_first}
+use Rattle.mv_plan.proofs.ends.Traces.{Traces, code_list, traces_first}
+use Rattle.mv_plan.proofs.walks.Histories.{Stood, stood, AreFinished, run_finished}
+use Rattle.mv_plan.proofs.places.Moments.{Moment, walk_moments}
+use Rattle.mv_plan.proofs.walks.NoneLost.{NoneLost, none_lost_at_end}
+use Rattle.mv_plan.proofs.walks.Walks.{Points, start_points, Move}
+use Rattle.mv_plan.proofs.walks.Stands.{Standing, standing}
+use Rattle.mv_plan.proofs.ends.WriterFinds.{WriterHas, HasFound, writer_has_keeps, writer_has_first}
+
+-- what is kept about ends and blocks from moment to moment
+pub record Ends (c : Setup) (deck : List JobData) (initiators : ℕ) (s : System) (t : Points) (past : List Entry) : Type 0 where
+  pub codes : Codes deck initiators s t
+  pub posted : Posted deck initiators s t
+  pub found : WriterHas deck s t past
+  pub traces : Traces deck s past
+
+pub ends_first : (c : Setup) (deck : List JobData) (initiators : ℕ) → IsSound deck initiators
+    → Ends c deck initiators (opening c) (start_points deck initiators) []
+ends_first c deck initiators sound = record {
+  codes = codes_first deck initiators sound c;
+  posted = posted_first deck initiators c;
+  found = writer_has_first deck initiators c;
+  traces = traces_first deck c;
+}
+
+-- an initiator that offers itself finds its block free
+row_offers : (n : ℕ) (s : System) (q : Point SchedulerAt) (i : ℕ) (p : Point InitiatorAt) → RowAt n s q i p → IsFreeToOffer n s i p
+row_offers n s q i (At (Offering more before g)) w = λ code e. let none : code_in (s.ecb (idle n i)).state ≡ None = w.0 in
+    let some : code_in (s.ecb (idle n i)).state ≡ Some code = ap (λ v. code_in v) e in cc (none, some)
+row_offers n s q i p w = tt
+
+pub end_moment : (c : Setup) (deck : List JobData) (initiators : ℕ) (s : System) (t : Points) (past : List Entry)
+    → Moment c deck initiators s t past → Ends c deck initiators s t past → EndMoment deck initiators s t
+end_moment c deck initiators s t past now h = record {
+  stands = standing deck initiators now.kept t now.stand;
+  places = now.ledger.places;
+  codes = h.codes;
+  posted = h.posted;
+  offering = λ i lt. row_offers (length deck) s t.scheduler i (t.initiators i) (now.rows.rows i lt);
+  going = now.none_lost.at_scheduler;
+}
+
+module _ (c : Setup) (deck : List JobData) (initiators : ℕ) (facts : Facts c (length deck) initiators)
+    (sound : IsSound deck initiators) where
+  pub ends_next : (s : System) (t u : Points) (past : List Entry) (e : Entry) → Moment c deck initiators s t past → IsNext c s e
+      → Move deck initiators t e u
+      → Ends c deck initiators s t past → Ends c deck initiators (next s e) u (past ++ e ∷ [])
+  ends_next s t u past e now n m h =
+      let stands : Standing deck initiators t = standing deck initiators now.kept t now.stand in
+      record {
+        codes = codes_keep deck initiators sound c s t u past e n m stands h.codes;
+        posted = posted_keeps deck initiators c (few_jobs deck initiators sound) s t u past e n m (stands, now.ledger.places) h.posted;
+        found = writer_has_keeps deck initiators c s t u past e n m stands h.found;
+        traces = traces_keep deck initiators sound c s t u past e n m (end_moment c deck initiators s t past now h) h.traces;
+      }
+
+-- ---- the end
+
+pairs_one : (ps : List (ℕ × Reply)) (a : ℕ) (r : Reply) → map (λ p. p.0) ps ≡ a ∷ [] → AllByRecursion (λ p. p.1 ≡ r) ps
+    → ps ≡ (a, r) ∷ []
+pairs_one [] a r e all = absurd (cc e)
+pairs_one (p ∷ []) a r e all = let q : p.0 ≡ a = cc e in ap (λ z. (z, p.1) ∷ []) q ∙ ap (λ z. (a, z) ∷ []) all.0
+pairs_one (p ∷ q ∷ ps) a r e all = absurd (cc e)
+
+complete_list : (v : EcbState) (code : ℕ) → v ≡ Complete code → code_list v ≡ code ∷ []
+complete_list v code e = ap (λ z. code_list z) e
+
+module _ (deck : List JobData) (initiators : ℕ) (some : 1 ≤ initiators) (sound : IsSound deck initiators) (es : List Entry) where
+  abbrev c : Setup
+  c = spool_setup deck initiators
+
+  -- of each following history in which no task is lost
+  pub ends_found : (st : Stood deck initiators some sound es) → NoneLost initiators st.points
+      → Ends c deck initiators (after c es) st.points es
+  ends_found st f = (walk_moments c deck initiators (facts deck initiators some) sound.jobs (few_jobs deck initiators sound)
+      (λ s t past place. Ends c deck initiators s t past)
+      (λ s t u past e now on n m h. ends_next c deck initiators (facts deck initiators some) sound s t u past e now n m h)
+      (ends_first c deck initiators sound) es st.points st.walk f).1
+
+  -- and so of each run
+  ends_at : IsRun deck initiators es → (st : Stood deck initiators some sound es) → AreFinished initiators st.points
+      → Ends c deck initiators (after c es) st.points es
+  ends_at run st f = ends_found st (none_lost_at_end initiators st.points f)
+
+  -- each block with a job's end is complete, with that end
+  block_ends : (s : System) (t : Points) → Ends c deck initiators s t es → AreFinished initiators t → (j : ℕ) → j < length deck
+      → (post_codes (done (length deck) j) es ≡ end_of deck j ∷ [])
+      × (post_codes (end_for_scheduler (length deck) j) es ≡ end_of deck j ∷ [])
+      × (post_codes (end_for_writer (length deck) j) es ≡ end_of deck j ∷ [])
+  block_ends s t h f j lt =
+      let all : HasFound (length deck) s (Finished f.at_writer.0) = subst (λ p. HasFound (length deck) s p) f.at_writer.1 h.found in
+      let w : IsComplete s (end_for_writer (length deck) j) = all j lt in
+      let v : IsComplete s (end_for_scheduler (length deck) j) = (h.posted.order j lt).1 w in
+      let d : IsComplete s (done (length deck) j) = (h.posted.order j lt).0 v in (
+        of (done (length deck) j) (done_has refl) d,
+        of (end_for_scheduler (length deck) j) (scheduler_has refl) v,
+        of (end_for_writer (length deck) j) (writer_has refl) w,
+      ) where
+        of : (b : ℕ) → HasEnd (length deck) j b → IsComplete s b → post_codes b es ≡ end_of deck j ∷ []
+        of b has w = h.traces.codes j b lt has ∙ complete_list (s.ecb b).state w.0 w.1
+            ∙ ap (λ z. z ∷ []) (h.codes.blocks j b w.0 lt has w.1)
+
+  -- the law of ends
+  pub ends_are_posted : IsRun deck initiators es → EndsArePosted deck es
+  ends_are_posted run =
+      let st : Stood deck initiators some sound es = stood deck initiators some sound es run.follow in
+      let f : AreFinished initiators st.points = run_finished deck initiators some sound es run st in
+      let h : Ends c deck initiators (after c es) st.points es = ends_at run st f in
+      record {
+        done = λ j lt. pairs_one (posts (done (length deck) j) es) (end_of deck j) (reply_of.Ecb (ecb_reply.Woke (j + 1)))
+            (block_ends (after c es) st.points h f j lt).0 (h.traces.woke j lt);
+        scheduler = λ j lt. (block_ends (after c es) st.points h f j lt).1;
+        writer = λ j lt. (block_ends (after c es) st.points h f j lt).2;
+        found = h.traces.found;
+      }
+
+  -- the marks that were released are the deck's
+  pub marks_are_right : IsRun deck initiators es → AllByRecursion (HasRightMark deck) es
+  marks_are_right run =
+      let st : Stood deck initiators some sound es = stood deck initiators some sound es run.follow in
+      (ends_at run st (run_finished deck initiators some sound es run st)).traces.marked
+
+  -- no post of a run is answered Already
+  pub posts_are_first : IsRun deck initiators es → AllByRecursion PostsFirst es
+  posts_are_first run =
+      let st : Stood deck initiators some sound es = stood deck initiators some sound es run.follow in
+      (ends_at run st (run_finished deck initiators some sound es run st)).traces.first
+
+  -- the ends that the writer keeps are the deck's
+  pub writer_keeps : IsRun deck initiators es
+      → left_in (spool_setup deck initiators) (task_program deck initiators) (writer initiators) es ≡ Done (ends deck)
+  writer_keeps run =
+      let st : Stood deck initiators some sound es = stood deck initiators some sound es run.follow in
+      let f : AreFinished initiators st.points = run_finished deck initiators some sound es run st in
+      let h : Ends c deck initiators (after c es) st.points es = ends_at run st f in
+      let same : f.at_writer.0 ≡ ends deck = subst (λ p. KeepsEnds deck p) f.at_writer.1 h.codes.writer in
+      st.tasks.at_writer ∙ ap (λ p. program_at
+      (writer_program (spool_setup deck initiators) (length deck) (st.kept (writer initiators))) p) f.at_writer.1
+      ∙ ap (λ a. Done a) same

@@ -1,0 +1,417 @@
+-- No reply leads the reader, the scheduler or the writer astray, nor an initiator in its turns.
+use Rattle.std.proofs.Common.{◌≡◌, ℕ, zero, suc, ◌+◌, ◌<◌, ◌≤◌, ◌==◌, nat_le, Bool, true, false, IsTrue, cond, if◌then◌else◌, List, []}
+use Rattle.std.proofs.Common.{◌∷◌, ◌++◌, length, Option, Some, None, ◌⊎◌, inl, inr, refl, sym, ap, ◌∙◌, subst, arith}
+use Rattle.std.specs.List.{AllByRecursion}
+use Rattle.std.proofs.lemmas.Bool.{eq-eqb, leb-true}
+use Rattle.mv_ecb.specs.declared.operation.EcbOp.TheVariants as ecb_op
+use Rattle.mv_ecb.specs.declared.operation.EcbReply.TheVariants as ecb_reply
+use Rattle.mv_ecb.specs.Table.{ecb_step}
+use Rattle.mv_ecb.specs.Word.{EcbState, Zero, Waiting, Extended, Complete, word_of}
+use Rattle.mv_element.specs.declared.operation.ElementOp.TheVariants as element_op
+use Rattle.mv_element.specs.declared.operation.ElementReply.{ElementReply}
+use Rattle.mv_element.specs.declared.operation.ElementReply.TheVariants as element_reply
+use Rattle.mv_element.specs.declared.element.ElementState.{ElementState}
+use Rattle.mv_element.specs.Table.{element_step}
+use Rattle.mv_latch.specs.declared.operation.LatchOp.TheVariants as latch_op
+use Rattle.mv_latch.specs.LatchSet.{latch_step}
+use Rattle.mv_machine.specs.declared.entry.Reply.{Reply}
+use Rattle.mv_machine.specs.declared.entry.Reply.TheVariants as reply_of
+use Rattle.mv_machine.specs.Setup.{Setup, owner_of}
+use Rattle.mv_machine.specs.System.{System, admitted, reply_to}
+use Rattle.mv_deck.specs.Deck.{JobData}
+use Rattle.mv_deck.specs.declared.deck.After.{After}
+use Rattle.mv_deck.specs.declared.deck.Step.{Step}
+use Rattle.mv_deck.specs.declared.deck.Step.TheVariants.{Print, Use, Free, Count, Scan, Abend, Return}
+use Rattle.mv_plan.specs.Jobs.{job_at}
+use Rattle.mv_plan.proofs.deck.Sound.{AreSoundSteps, AreSoundJobs}
+use Rattle.mv_machine.specs.calls.LatchCalls.{Counts}
+use Rattle.mv_plan.specs.SpoolSetup.{reader, scheduler, initiator, writer, entered, done, end_for_scheduler, end_for_writer, idle}
+use Rattle.mv_plan.specs.SpoolTasks.{job_named, code_of, not_to_run}
+use Rattle.mv_machine.specs.calls.Waits.{complete_count}
+use Rattle.mv_plan.proofs.standing.Arms.{In, in_middle, in_all, IsNoDone, awaited_no_done, SchedulerArms, WriterArms, arm_owner}
+use Rattle.mv_plan.proofs.points.ReaderAndWriter.{IsWriterAt}
+use Rattle.mv_plan.proofs.results.FewTurns.{fewer, none_found, not_found, code_named}
+use Rattle.mv_plan.proofs.walks.Fits.{Fits}
+use Rattle.mv_plan.proofs.standing.Row.{Starts, Works, Offers, Parks, stance, offered, taken, handed, Row, RowAt, hold_for, offer_of}
+use Rattle.mv_plan.proofs.standing.Row.{element_of, row_at}
+use Rattle.mv_plan.proofs.points.InitiatorSound.{IsInitiatorAt, IsTurn, IsRunning, held_of, held_request, job_sound}
+use Rattle.mv_plan.proofs.places.Places.{Place, Handed, Over}
+use Rattle.mv_plan.proofs.places.LedgerMoves.{has_stance}
+use Rattle.mv_plan.proofs.places.Ledger.{element_code}
+use Rattle.mv_plan.proofs.deck.Setup.{Facts}
+use Rattle.mv_plan.proofs.points.Points.{Point, At, Finished, TooSoon, Astray, Stage, Dispatching, Dismissing, Awaited, ForEntry, ForEnds}
+use Rattle.mv_plan.proofs.points.Points.{ForIdle, ToDismiss, Arming, Settling, ReaderAt, Entering, entering_from, reader_asks}
+use Rattle.mv_plan.proofs.points.Points.{reader_goes, SchedulerAt, Waits, Extends, Clears, Releases, awaited_blocks, awaited_count}
+use Rattle.mv_plan.proofs.points.Points.{scheduler_asks, scheduler_goes, arming_first, arming_from, settling_from, found_at, ends_at}
+use Rattle.mv_plan.proofs.points.Points.{dismissing_from, stage_at, lowest_at, on_posted, on_armed, on_settled, on_released, WriterAt}
+use Rattle.mv_plan.proofs.points.Points.{Keeping, writer_asks, writer_goes, writing_from, writer_arming, end_found, Hand, empty_hand}
+use Rattle.mv_plan.proofs.points.Points.{Running, running, InitiatorAt, Opening, Offering, Pausing, Resuming, Obtaining, Confirming}
+use Rattle.mv_plan.proofs.points.Points.{Freeing, Reading, Writing, Scanning, Rescanning, Purging, EndingJob, EndingForScheduler}
+use Rattle.mv_plan.proofs.points.Points.{EndingForWriter, Closing, initiator_asks, initiator_goes, turns_from, turns_after, freeing_at}
+use Rattle.mv_plan.proofs.points.Points.{steps_at, job_start, named_at, given_at, on_opened, on_paused, on_resumed, on_closed, on_ended}
+use Rattle.mv_plan.proofs.points.SchedulerSound.{IsSchedulerAt}
+use Rattle.mv_plan.proofs.standing.Rows.{Accepts, row_accepts}
+use Rattle.mv_plan.proofs.ends.RightCodes.{IsCode}
+use Rattle.mv_plan.proofs.deck.Ends.{is_skipped}
+use Rattle.mv_plan.proofs.points.Views.{code_held, named_before, IsNotLost}
+
+-- a task is not astray
+abbrev pub IsForeseen : {X : Type 0} → Point X → Type 0
+IsForeseen Astray = ⊥
+IsForeseen p = Unit {0}
+
+-- ---- replies of blocks
+
+post_foreseen : {X : Type 0} (p : Point X) (code : ℕ) (v : EcbState) (r : Reply) → r ≡ reply_of.Ecb (ecb_step (ecb_op.Post code) v).1
+    → IsForeseen p → IsForeseen (on_posted p r)
+post_foreseen p code Zero r e w = rw e w
+post_foreseen p code Waiting r e w = rw e w
+post_foreseen p code (Extended y) r e w = rw e w
+post_foreseen p code (Complete old) r e w = rw e w
+
+arm_foreseen : {X : Type 0} (p : Point X) (v : EcbState) (r : Reply) → r ≡ reply_of.Ecb (ecb_step ecb_op.Arm v).1 → (v ≡ Waiting → ⊥)
+    → ((y : ℕ) → v ≡ Extended y → ⊥) → IsForeseen p → IsForeseen (on_armed p r)
+arm_foreseen p Zero r e a b w = rw e w
+arm_foreseen p Waiting r e a b w = absurd (a refl)
+arm_foreseen p (Extended y) r e a b w = absurd (b y refl)
+arm_foreseen p (Complete old) r e a b w = rw e w
+
+settle_foreseen : {X : Type 0} (f : Option ℕ → Point X) (v : EcbState) (r : Reply) → r ≡ reply_of.Ecb (ecb_step ecb_op.Settle v).1
+    → ((y : ℕ) → v ≡ Extended y → ⊥) → ((slot : Option ℕ) → IsForeseen (f slot)) → IsForeseen (on_settled f r)
+settle_foreseen f Zero r e b w = rw e (w None)
+settle_foreseen f Waiting r e b w = rw e (w None)
+settle_foreseen f (Extended y) r e b w = absurd (b y refl)
+settle_foreseen f (Complete old) r e b w = rw e (w (Some old))
+
+-- where one is complete, the lowest is found
+lowest_foreseen : {X : Type 0} (f : ℕ → ℕ → Point X) → ((p code : ℕ) → IsForeseen (f p code)) → (k : ℕ) (found : List (Option ℕ))
+    → 1 ≤ complete_count found → IsForeseen (lowest_at f k found)
+lowest_foreseen f w k [] le = absurd (omega arith)
+lowest_foreseen f w k (Some code ∷ found) le = w k code
+lowest_foreseen f w k (None ∷ found) le = lowest_foreseen f w (k + 1) found le
+
+-- ---- the reader
+pub reader_foreseen : (s : System) (x : ReaderAt) (r : Reply) → Some r ≡ reply_to s reader (reader_asks x).0 (reader_asks x).1
+    → IsForeseen (reader_goes x r)
+reader_foreseen s (Entering j more) r e =
+    post_foreseen (entering_from (j + 1) more) 0 (s.ecb (entered j)).state r (cc e) (from (j + 1) more) where
+      from : (j more : ℕ) → IsForeseen (entering_from j more)
+      from j zero = tt
+      from j (suc more) = tt
+
+-- ---- the scheduler
+
+module _ (n initiators : ℕ) where
+  ends_foreseen : (j : ℕ) (name : List ℕ) (after : List After) (steps : List Step) (jobs : List JobData)
+      → IsForeseen (ends_at n j (record { name = name; after = after; steps = steps }) jobs)
+  ends_foreseen j name [] steps jobs = tt
+  ends_foreseen j name (part ∷ parts) steps jobs = tt
+
+  found_foreseen : (a : Awaited) (found : List (Option ℕ)) → awaited_count a ≤ complete_count found → IsForeseen (found_at n a found)
+  found_foreseen (ForEntry j job jobs) found le =
+      lowest_foreseen (λ p code. ends_at n j job jobs) (λ p code. ends_foreseen j job.name job.after job.steps jobs) 0 found le
+  found_foreseen (ForEnds j job jobs) found le = tt
+  found_foreseen (ForIdle j job jobs skipped) found le =
+      lowest_foreseen (λ i g. At (Clears i g (code_of j skipped) (Dispatching (j + 1) jobs))) (λ p code. tt) 0 found le
+  found_foreseen (ToDismiss i more) found le =
+      lowest_foreseen (λ p g. At (Clears i g 0 (Dismissing (i + 1) more))) (λ p code. tt) 0 found le
+
+  settling_foreseen : (a : Awaited) (es : List ℕ) (found : List (Option ℕ)) → IsForeseen (settling_from n a es found)
+  settling_foreseen a [] found = go (nat_le (awaited_count a) (complete_count found)) refl where
+    go : (b : Bool) → nat_le (awaited_count a) (complete_count found) ≡ b → IsForeseen (cond b (found_at n a found) TooSoon)
+    go true e = found_foreseen a found (leb-true (awaited_count a) (complete_count found) e)
+    go false e = tt
+  settling_foreseen a (e ∷ es) found = tt
+
+  arming_foreseen : (a : Awaited) (es : List ℕ) → IsForeseen (arming_from n initiators a es)
+  arming_foreseen a [] = settling_foreseen a (awaited_blocks n initiators a) []
+  arming_foreseen a (e ∷ es) = tt
+
+  dismissing_foreseen : (m more : ℕ) → IsForeseen (dismissing_from n m more)
+  dismissing_foreseen m zero = tt
+  dismissing_foreseen m (suc more) = tt
+
+  stage_foreseen : (after : Stage) → IsForeseen (stage_at n initiators after)
+  stage_foreseen (Dispatching j []) = dismissing_foreseen 0 initiators
+  stage_foreseen (Dispatching j (job ∷ jobs)) = tt
+  stage_foreseen (Dismissing m more) = dismissing_foreseen m more
+
+first_foreseen : (n initiators j : ℕ) (job : JobData) (jobs : List JobData) (skipped : Bool) → 1 ≤ initiators
+    → IsForeseen (arming_first (ForIdle j job jobs skipped) (awaited_blocks n initiators (ForIdle j job jobs skipped)))
+first_foreseen n zero j job jobs skipped some = absurd (omega arith)
+first_foreseen n (suc initiators) j job jobs skipped some = tt
+
+-- an extend that is answered Armed
+pub extend_foreseen : (n initiators j : ℕ) (job : JobData) (jobs : List JobData) (skipped : Bool) → 1 ≤ initiators
+    → IsForeseen (scheduler_goes n initiators (Extends j job jobs skipped) (reply_of.Ecb ecb_reply.Armed))
+extend_foreseen n initiators j job jobs skipped some = first_foreseen n initiators j job jobs skipped some
+
+accepted_foreseen : (p : Point SchedulerAt) (r : ElementReply) → Accepts r → IsForeseen p
+    → IsForeseen (on_released p (reply_of.Element r))
+accepted_foreseen p element_reply.Early a w = w
+accepted_foreseen p element_reply.Woke a w = w
+accepted_foreseen p r a w = absurd a
+
+-- whether a point is no extend
+abbrev pub NoExtend : SchedulerAt → Type 0
+NoExtend (Extends j job jobs skipped) = ⊥
+NoExtend x = Unit {0}
+
+-- a block that is no done block is not extended
+plain_block : (c : Setup) (n initiators : ℕ) (s : System) (e : ℕ) → Facts c n initiators → Fits c s → IsNoDone n e → (y : ℕ)
+    → (s.ecb e).state ≡ Extended y → ⊥
+plain_block c n initiators s e facts fits (inl low) y q = let z : (j : ℕ) × (j < n) × (y ≡ j + 1) × (e ≡ done n j) =
+    facts.sources y e (fits.exits e y q) in let lt : z.0 < n = z.1 in let is : e ≡ n + z.0 = z.3 in omega arith
+plain_block c n initiators s e facts fits (inr high) y q = let z : (j : ℕ) × (j < n) × (y ≡ j + 1) × (e ≡ done n j) =
+    facts.sources y e (fits.exits e y q) in let lt : z.0 < n = z.1 in let is : e ≡ n + z.0 = z.3 in omega arith
+
+module _ (c : Setup) (deck : List JobData) (initiators : ℕ) (facts : Facts c (length deck) initiators) (s : System) (fits : Fits c s) where
+  abbrev n : ℕ
+  n = length deck
+
+  other_owner : (owner_k owner_m o : ℕ) → o ≡ owner_k → o ≡ owner_m → (owner_k ≡ owner_m → ⊥) → ⊥
+  other_owner k m o a b d = d (sym a ∙ b)
+
+  pub scheduler_foreseen : (t_scheduler : Point SchedulerAt) (t_writer : Point WriterAt) (initiator_at : ℕ → Point InitiatorAt)
+      (x : SchedulerAt) (r : Reply) → t_scheduler ≡ At x → NoExtend x
+      → ((b : ℕ) → (s.ecb b).state ≡ Waiting → ((owner_of c b ≡ scheduler) × SchedulerArms n initiators t_scheduler b)
+      ⊎ ((owner_of c b ≡ writer initiators) × WriterArms n t_writer b))
+      → ((i : ℕ) → i < initiators → RowAt n s t_scheduler i (initiator_at i)) → ((i : ℕ) → i < initiators → IsNotLost (initiator_at i))
+      → IsSchedulerAt deck initiators (At x) → IsTrue (admitted c s scheduler (scheduler_asks n x).0 (scheduler_asks n x).1)
+      → Some r ≡ reply_to s scheduler (scheduler_asks n x).0 (scheduler_asks n x).1
+      → IsForeseen (scheduler_goes n initiators x r)
+  scheduler_foreseen q w p (Waits a (Arming e todo)) r at d armed rows found sound adm ans =
+      arm_foreseen (arming_from n initiators a todo) (s.ecb e).state r (cc ans) (λ z. no_wait (armed e z))
+      (plain_block c n initiators s e facts fits
+      (in_all (IsNoDone n) (awaited_blocks n initiators a) e (awaited_no_done deck initiators a sound.0)
+      (subst (λ l. In l e) sound.1.1 (in_middle sound.1.0 e todo))))
+      (arming_foreseen n initiators a todo) where
+        no_wait : ((owner_of c e ≡ scheduler) × SchedulerArms n initiators q e)
+            ⊎ ((owner_of c e ≡ writer initiators) × WriterArms n w e) → ⊥
+        no_wait (inl u) = (subst (λ z. SchedulerArms n initiators z e) at u.1).1 (inl refl)
+        no_wait (inr u) = other_owner scheduler (writer initiators) (owner_of c e) (arm_owner c s scheduler e ecb_op.Arm refl adm) u.0
+            (λ z. absurd (omega arith))
+  scheduler_foreseen q w p (Waits a (Settling e todo found)) r at d armed rows fnd sound adm ans =
+      settle_foreseen (λ slot. settling_from n a todo (found ++ slot ∷ [])) (s.ecb e).state r (cc ans)
+      (plain_block c n initiators s e facts fits
+      (in_all (IsNoDone n) (awaited_blocks n initiators a) e (awaited_no_done deck initiators a sound.0)
+      (subst (λ l. In l e) sound.1.1 (in_middle sound.1.0 e todo))))
+      (λ slot. settling_foreseen n initiators a todo (found ++ slot ∷ []))
+  scheduler_foreseen q w p (Extends j job jobs skipped) r at d armed rows found sound adm ans = absurd d
+  scheduler_foreseen q w p (Clears i g code after) r at d armed rows found sound adm ans =
+      subst (λ z. IsForeseen (scheduler_goes n initiators (Clears i g code after) z))
+      (sym (let e : r ≡ reply_of.Ecb (ecb_reply.Word (word_of (s.ecb (idle n i)).state)) = cc ans in e)) tt
+  scheduler_foreseen q w p (Releases i g code after) r at d armed rows found sound adm ans =
+      let row : Row (stance (p i)) (offer_of n s i) (Some g) (element_of s i) =
+      row_at _ _ _ _ _ _ _ _ refl refl (sym (ap (λ z. hold_for i z) at ∙ ap (λ b. if b then Some g else None) (eq-eqb i i refl))) refl
+      (rows i sound.0) in
+      subst (λ z. IsForeseen (scheduler_goes n initiators (Releases i g code after) z))
+      (sym (let e : r ≡ reply_of.Element (element_step (element_op.Release g code) (element_of s i)).1 = cc ans in e))
+      (accepted_foreseen (stage_at n initiators after) (element_step (element_op.Release g code) (element_of s i)).1
+      (row_accepts (stance (p i)) g code (offer_of n s i) (element_of s i) (has_stance (p i) (found i sound.0)) row)
+      (stage_foreseen n initiators after))
+
+  -- ---- the writer
+  writing_foreseen : (j more : ℕ) (ends : List ℕ) → IsForeseen (writing_from n j more ends)
+  writing_foreseen j zero ends = tt
+  writing_foreseen j (suc more) ends = tt
+
+  end_foreseen : (j more : ℕ) (ends : List ℕ) (found : List (Option ℕ)) → IsForeseen (end_found n j more ends found)
+  end_foreseen j more ends found = go (nat_le 1 (complete_count found)) refl where
+    go : (b : Bool) → nat_le 1 (complete_count found) ≡ b
+        → IsForeseen (cond b (lowest_at (λ p end. writing_from n (j + 1) more (ends ++ end ∷ [])) 0 found) TooSoon)
+    go true e = lowest_foreseen (λ p end. writing_from n (j + 1) more (ends ++ end ∷ []))
+        (λ p end. writing_foreseen (j + 1) more (ends ++ end ∷ [])) 0 found (leb-true 1 (complete_count found) e)
+    go false e = tt
+
+  writer_block : (j e : ℕ) → e ≡ end_for_writer n j → (y : ℕ) → (s.ecb e).state ≡ Extended y → ⊥
+  writer_block j e is = plain_block c n initiators s e facts fits (inr (omega arith))
+
+  pub writer_foreseen : (t_scheduler : Point SchedulerAt) (t_writer : Point WriterAt) (x : WriterAt) (r : Reply) → t_writer ≡ At x
+      → ((b : ℕ) → (s.ecb b).state ≡ Waiting → ((owner_of c b ≡ scheduler) × SchedulerArms n initiators t_scheduler b)
+      ⊎ ((owner_of c b ≡ writer initiators) × WriterArms n t_writer b))
+      → IsWriterAt n (At x) → IsTrue (admitted c s (writer initiators) (writer_asks x).0 (writer_asks x).1)
+      → Some r ≡ reply_to s (writer initiators) (writer_asks x).0 (writer_asks x).1 → IsForeseen (writer_goes n x r)
+  writer_foreseen q w (Keeping j more ends (Arming e [])) r at armed sound adm ans =
+      arm_foreseen (writer_arming n j more ends []) (s.ecb e).state r (cc ans) (λ z. no_wait (armed e z))
+      (writer_block j e sound.1) tt where
+        no_wait : ((owner_of c e ≡ scheduler) × SchedulerArms n initiators q e)
+            ⊎ ((owner_of c e ≡ writer initiators) × WriterArms n w e) → ⊥
+        no_wait (inl u) = other_owner (writer initiators) scheduler (owner_of c e)
+            (arm_owner c s (writer initiators) e ecb_op.Arm refl adm) u.0 (λ z. absurd (omega arith))
+        no_wait (inr u) = (subst (λ z. WriterArms n z e) at u.1).1 (inl refl)
+  writer_foreseen q w (Keeping j more ends (Arming e (d ∷ todo))) r at armed sound adm ans = absurd (cc sound.2)
+  writer_foreseen q w (Keeping j more ends (Settling e [] found)) r at armed sound adm ans =
+      settle_foreseen (λ slot. end_found n j more ends (found ++ slot ∷ [])) (s.ecb e).state r (cc ans) (writer_block j e sound.1)
+      (λ slot. end_foreseen j more ends (found ++ slot ∷ []))
+  writer_foreseen q w (Keeping j more ends (Settling e (d ∷ todo) found)) r at armed sound adm ans = absurd (cc sound.2)
+
+-- ---- an initiator
+
+-- sound steps begin with one that the initiator can make
+pub steps_found : (run : Running) (hand : Hand) (steps : List Step)
+    → AllByRecursion (λ g. hand.requests g.latch ≡ Some g.id) hand.holding → AreSoundSteps (held_of hand.holding) steps
+    → IsNotLost (steps_at run hand steps)
+steps_found run hand [] l s = tt
+steps_found run hand (Print text ∷ steps) l s = steps_found run hand steps l s
+steps_found run hand (Use latch mode ∷ steps) l s = tt
+steps_found run hand (Free latch ∷ steps) l s =
+    let h : (id : ℕ) × (hand.requests latch ≡ Some id) = held_request hand.requests latch hand.holding l s.1 in
+    subst (λ z. IsNotLost (freeing_at run hand latch z steps)) (sym h.1) tt
+steps_found run hand (Count volume amount ∷ steps) l s = tt
+steps_found run hand (Scan volume ∷ steps) l s = tt
+steps_found run hand (Abend code ∷ steps) l s = tt
+steps_found run hand (Return code ∷ steps) l s = tt
+
+pub foreseen_of : {X : Type 0} (p : Point X) → IsNotLost p → IsForeseen p
+foreseen_of (At x) f = tt
+foreseen_of (Finished answer) f = tt
+foreseen_of TooSoon f = tt
+foreseen_of Astray f = f
+
+start_found : (deck : List JobData) (skipped : Bool) (run : Running) (j : ℕ) → AreSoundJobs 0 deck → j < length deck
+    → IsForeseen (job_start skipped run (job_at deck j))
+start_found deck true run j sound lt = tt
+start_found deck false run j sound lt =
+    foreseen_of _ (steps_found run empty_hand (job_at deck j).steps tt (job_sound j 0 deck sound lt))
+
+turns_foreseen : (m : ℕ) (before : List ℕ) (g : ℕ) → 1 ≤ m → IsForeseen (turns_from m before g)
+turns_foreseen zero before g le = absurd (omega arith)
+turns_foreseen (suc m) before g le = tt
+
+-- a running job leaves a turn for what follows
+pub turn_left : (n : ℕ) (run : Running) → IsRunning n run → 1 ≤ run.more
+turn_left n run r =
+    let lt : length run.before < n =
+    fewer n run.before run.job r.turn.below r.turn.distinct r.job (not_found run.before run.job r.new) in
+    let whole : length run.before + run.more ≡ n = r.turn.count in omega arith
+
+after_foreseen : (n : ℕ) (run : Running) → IsRunning n run → IsForeseen (turns_after run)
+after_foreseen n run r = turns_foreseen run.more (run.before ++ run.job ∷ []) run.generation (turn_left n run r)
+
+ended_foreseen : (run : Running) (code : ℕ) (counts : Counts) (v : EcbState) (r : Reply)
+    → r ≡ reply_of.Ecb (ecb_step (ecb_op.Post code) v).1 → IsForeseen (turns_after run) → IsForeseen (on_ended run code counts r)
+ended_foreseen run code counts Zero r e w = rw e w
+ended_foreseen run code counts Waiting r e w = rw e w
+ended_foreseen run code counts (Extended zero) r e w = rw e w
+ended_foreseen run code counts (Extended (suc y)) r e w = rw e tt
+ended_foreseen run code counts (Complete old) r e w = rw e w
+
+-- where a given code is right, and names no job that was named before
+module _ (deck : List JobData) (sound : AreSoundJobs 0 deck) (small : length deck ≤ not_to_run) (before : List ℕ) (more : ℕ)
+    (turn : IsTurn (length deck) more before) where
+  left_for : (j : ℕ) → j < length deck → AllByRecursion (λ k. k ≡ j → ⊥) before → 1 ≤ more
+  left_for j lt new =
+      let less : length before < length deck = fewer (length deck) before j turn.below turn.distinct lt new in
+      let whole : length before + more ≡ length deck = turn.count in omega arith
+
+  named_foreseen : (m : ℕ) (j : ℕ) (skipped : Bool) (g : ℕ) → 1 ≤ m → j < length deck → AllByRecursion (λ k. k ≡ j → ⊥) before
+      → IsForeseen (named_at deck (Some (record { job = j; skipped = skipped })) before m g)
+  named_foreseen zero j skipped g le lt new = absurd (omega arith)
+  named_foreseen (suc m) j skipped g le lt new =
+      subst (λ b. IsForeseen (if b then Astray else job_start skipped (running (record { job = j; skipped = skipped }) before (suc m) g)
+      (job_at deck j))) (sym (none_found before j new))
+      (start_found deck skipped (running (record { job = j; skipped = skipped }) before (suc m) g) j sound lt)
+
+  pub given_foreseen : (code g : ℕ) → IsCode deck code
+      → ((j : ℕ) (skipped : Bool) → j < length deck → code ≡ code_of j skipped → AllByRecursion (λ k. k ≡ j → ⊥) before)
+      → IsForeseen (given_at deck more before code g)
+  given_foreseen code g (inl e) new =
+      subst (λ b. IsForeseen (if b then At (Closing g) else named_at deck (job_named (length deck) code) before more g))
+      (sym (eq-eqb code 0 e)) tt
+  given_foreseen code g (inr (j, lt, e)) new =
+      elim (code == 0) as (λ b. IsForeseen (if b then At (Closing g) else named_at deck (job_named (length deck) code) before more g)) [
+        | true ↦ tt
+        | false ↦ subst (λ slot. IsForeseen (named_at deck slot before more g))
+            (sym (ap (λ z. job_named (length deck) z) e ∙ code_named (length deck) j (is_skipped deck j) small lt))
+            (named_foreseen more j (is_skipped deck j) g (left_for j lt (new j (is_skipped deck j) lt e)) lt
+            (new j (is_skipped deck j) lt e))
+      ]
+
+same_number : (g : ℕ) → (g == g) ≡ true
+same_number g = eq-eqb g g refl
+
+module _ (deck : List JobData) (o h : Option ℕ) where
+  opened_foreseen : (y : ElementState) (r : Reply) → r ≡ reply_of.Element (element_step element_op.Open y).1 → Row Starts o h y
+      → IsForeseen (on_opened r (length deck))
+  opened_foreseen y r e w = rw (e, w.2) (turns_foreseen (length deck + 1) [] 0 (omega arith))
+
+  paused_foreseen : (more : ℕ) (before : List ℕ) (g : ℕ) (y : ElementState) (r : Reply)
+      → r ≡ reply_of.Element (element_step (element_op.Pause g) y).1 → Row (Offers g) o h y
+      → ((code : ℕ) → code_held y ≡ Some code → IsForeseen (given_at deck more before code (g + 1)))
+      → IsForeseen (on_paused deck more before g r)
+  paused_foreseen more before g y r e (offered a b q) given = rw (e, q, same_number g) tt
+  paused_foreseen more before g y r e (taken a b q) given = rw (e, q, same_number g) tt
+  paused_foreseen more before g y r e (handed code a b q) given = let f : IsForeseen (given_at deck more before code (g + 1)) =
+      given code (ap (λ z. code_held z) q) in rw (e, q, same_number g) f
+
+  resumed_foreseen : (more : ℕ) (before : List ℕ) (g : ℕ) (y : ElementState) (r : Reply)
+      → r ≡ reply_of.Element (element_step (element_op.Resume g) y).1 → Row (Parks g) o h y
+      → ((code : ℕ) → code_held y ≡ Some code → IsForeseen (given_at deck more before code (g + 1)))
+      → IsForeseen (on_resumed deck more before r)
+  resumed_foreseen more before g y r e (offered a b q) given = rw (e, q, same_number g) tt
+  resumed_foreseen more before g y r e (taken a b q) given = rw (e, q, same_number g) tt
+  resumed_foreseen more before g y r e (handed code a b q) given = let f : IsForeseen (given_at deck more before code (g + 1)) =
+      given code (ap (λ z. code_held z) q) in rw (e, q, same_number g) f
+
+  closed_foreseen : (g : ℕ) (y : ElementState) (r : Reply) → r ≡ reply_of.Element (element_step (element_op.Close g) y).1
+      → Row (Works g) o h y → IsForeseen (on_closed r)
+  closed_foreseen g y r e w = rw (e, w.2, same_number g) tt
+
+-- the points of an initiator's turns: those before, between and behind jobs, and the end of a job
+abbrev pub IsOfTurns : InitiatorAt → Type 0
+IsOfTurns (Obtaining run hand latch mode steps) = ⊥
+IsOfTurns (Confirming run hand latch mode id steps) = ⊥
+IsOfTurns (Freeing run hand latch id steps) = ⊥
+IsOfTurns (Reading run hand volume amount steps) = ⊥
+IsOfTurns (Writing run hand volume amount number steps) = ⊥
+IsOfTurns (Scanning run hand volume steps) = ⊥
+IsOfTurns (Rescanning run hand volume number steps) = ⊥
+IsOfTurns x = Unit {0}
+
+over_new : (place : ℕ → Place) (i j : ℕ) (before : List ℕ) → place j ≡ Handed i → AllByRecursion (λ k. place k ≡ Over) before
+    → AllByRecursion (λ k. k ≡ j → ⊥) before
+over_new place i j [] at w = tt
+over_new place i j (k ∷ before) at w = ((λ q. cc (at, sym (ap (λ z. place z) q) ∙ w.0)), over_new place i j before at w.1)
+
+module _ (deck : List JobData) (initiators : ℕ) (sound : AreSoundJobs 0 deck) (small : length deck ≤ not_to_run) (s : System)
+    (q : Point SchedulerAt) (i : ℕ) (lt : i < initiators)
+    (held : (i code : ℕ) → i < initiators → element_code s i ≡ Some code → IsCode deck code) (place : ℕ → Place)
+    (handed_there : (j : ℕ) (skipped : Bool) → j < length deck → element_code s i ≡ Some (code_of j skipped) → place j ≡ Handed i) where
+  abbrev size : ℕ
+  size = length deck
+
+  gift_foreseen : (more : ℕ) (before : List ℕ) (g : ℕ) → IsTurn size more before → AllByRecursion (λ k. place k ≡ Over) before
+      → (code : ℕ) → element_code s i ≡ Some code → IsForeseen (given_at deck more before code (g + 1))
+  gift_foreseen more before g turn over code e =
+      given_foreseen deck sound small before more turn code (g + 1) (held i code lt e)
+      (λ j skipped less is. over_new place i j before (handed_there j skipped less (e ∙ ap (λ z. Some z) is)) over)
+
+  pub initiator_foreseen : (x : InitiatorAt) (r : Reply) → IsOfTurns x → IsInitiatorAt deck (At x)
+      → AllByRecursion (λ k. place k ≡ Over) (named_before (At x)) → RowAt size s q i (At x)
+      → Some r ≡ reply_to s (initiator i) (initiator_asks size i x).0 (initiator_asks size i x).1 → IsForeseen (initiator_goes deck x r)
+  initiator_foreseen Opening r d st over w a = opened_foreseen deck _ _ (element_of s i) r (cc a) w
+  initiator_foreseen (Offering more before g) r d st over w a =
+      post_foreseen (At (Pausing more before g)) g (s.ecb (idle size i)).state r (cc a) tt
+  initiator_foreseen (Pausing more before g) r d st over w a =
+      paused_foreseen deck _ _ more before g (element_of s i) r (cc a) w (gift_foreseen more before g st over)
+  initiator_foreseen (Resuming more before g) r d st over w a =
+      resumed_foreseen deck _ _ more before g (element_of s i) r (cc a) w (gift_foreseen more before g st over)
+  initiator_foreseen (Obtaining run hand latch mode steps) r d st over w a = absurd d
+  initiator_foreseen (Confirming run hand latch mode id steps) r d st over w a = absurd d
+  initiator_foreseen (Freeing run hand latch id steps) r d st over w a = absurd d
+  initiator_foreseen (Reading run hand volume amount steps) r d st over w a = absurd d
+  initiator_foreseen (Writing run hand volume amount number steps) r d st over w a = absurd d
+  initiator_foreseen (Scanning run hand volume steps) r d st over w a = absurd d
+  initiator_foreseen (Rescanning run hand volume number steps) r d st over w a = absurd d
+  initiator_foreseen (Purging run hand code) r d st over w a =
+      subst (λ z. IsForeseen (initiator_goes deck (Purging run hand code) z))
+      (sym (let e : r ≡ reply_of.Latch
+      (latch_step (initiator i) s.latches.place (latch_op.Purge (run.job + 1)) s.latches.state).1 = cc a in e)) tt
+  initiator_foreseen (EndingJob run code counts) r d st over w a =
+      ended_foreseen run code counts (s.ecb (done size run.job)).state r (cc a) (after_foreseen size run st.turn)
+  initiator_foreseen (EndingForScheduler run code counts) r d st over w a =
+      post_foreseen (At (EndingForWriter run code counts)) code (s.ecb (end_for_scheduler size run.job)).state r (cc a) tt
+  initiator_foreseen (EndingForWriter run code counts) r d st over w a =
+      post_foreseen (turns_after run) code (s.ecb (end_for_writer size run.job)).state r (cc a) (after_foreseen size run st.turn)
+  initiator_foreseen (Closing g) r d st over w a = closed_foreseen deck _ _ g (element_of s i) r (cc a) w

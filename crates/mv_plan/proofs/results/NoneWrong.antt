@@ -1,0 +1,137 @@
+-- No task of the spool goes wrong: what stands of blocks, of elements and turns, and of latches and volumes, put together by
+-- SafeWalks.
+use Rattle.std.proofs.Common.{◌≡◌, ℕ, ◌+◌, ◌<◌, ◌≤◌, List, length, refl, sym, ap, ◌∙◌, arith}
+use Rattle.std.specs.List.{AllByRecursion}
+use Rattle.mv_machine.specs.declared.entry.Entry.{Entry}
+use Rattle.mv_machine.specs.Legal.{IsNext, after}
+use Rattle.mv_machine.specs.Setup.{Setup}
+use Rattle.mv_machine.specs.System.{System}
+use Rattle.mv_plan.specs.PostingEnds.{HasRightMark, PostsFirst}
+use Rattle.mv_deck.specs.Deck.{JobData}
+use Rattle.mv_plan.proofs.deck.Sound.{IsSound}
+use Rattle.mv_machine.specs.calls.Program.{Wrong}
+use Rattle.mv_machine.specs.calls.Runs.{left_in}
+use Rattle.mv_plan.specs.SpoolRun.{Follows}
+use Rattle.mv_plan.specs.SpoolSetup.{spool_setup, scheduler, initiator}
+use Rattle.mv_plan.specs.SpoolTasks.{task_program}
+use Rattle.mv_plan.proofs.ends.Posted.{extend_is_armed}
+use Rattle.mv_plan.proofs.deck.Ends.{few_jobs}
+use Rattle.mv_plan.proofs.results.EndsPosted.{Ends, ends_first, ends_next}
+use Rattle.mv_plan.proofs.results.Foreseen.{IsForeseen, IsOfTurns}
+use Rattle.mv_plan.proofs.serving.LatchCases.{IsServed}
+use Rattle.mv_plan.proofs.walks.Moves.{entry_next}
+use Rattle.mv_plan.proofs.deck.Setup.{facts}
+use Rattle.mv_plan.proofs.points.Points.{Point, At, Finished, TooSoon, Astray, SchedulerAt, Extends, scheduler_asks, InitiatorAt, Opening}
+use Rattle.mv_plan.proofs.points.Points.{Offering, Pausing, Resuming, Obtaining, Confirming, Freeing, Reading, Writing, Scanning}
+use Rattle.mv_plan.proofs.points.Points.{Rescanning, Purging, EndingJob, EndingForScheduler, EndingForWriter, Closing, initiator_asks}
+use Rattle.mv_plan.proofs.points.Points.{initiator_goes}
+use Rattle.mv_plan.proofs.results.SafeWalks.{Safe, OthersForeseen, walk_safe, not_wrong, none_lost_at_start}
+use Rattle.mv_plan.proofs.serving.Served.{Served, served_start}
+use Rattle.mv_plan.proofs.serving.ServedMoments.{served_onward, served_foreseen}
+use Rattle.mv_plan.proofs.walks.Histories.{Stood, stood, in_time}
+use Rattle.mv_plan.proofs.walks.Walks.{Points, Move, reads, schedules, initiates, writes}
+use Rattle.mv_plan.proofs.walks.Stands.{standing}
+
+served_of : (x : InitiatorAt) → (IsOfTurns x → ⊥) → IsServed x
+served_of Opening n = n tt
+served_of (Offering more before g) n = n tt
+served_of (Pausing more before g) n = n tt
+served_of (Resuming more before g) n = n tt
+served_of (Obtaining run hand latch mode steps) n = tt
+served_of (Confirming run hand latch mode id steps) n = tt
+served_of (Freeing run hand latch id steps) n = tt
+served_of (Reading run hand volume amount steps) n = tt
+served_of (Writing run hand volume amount number steps) n = tt
+served_of (Scanning run hand volume steps) n = tt
+served_of (Rescanning run hand volume number steps) n = tt
+served_of (Purging run hand code) n = tt
+served_of (EndingJob run code counts) n = n tt
+served_of (EndingForScheduler run code counts) n = n tt
+served_of (EndingForWriter run code counts) n = n tt
+served_of (Closing g) n = n tt
+
+foreseen_point : (p : Point InitiatorAt) → (p ≡ Astray → ⊥) → IsForeseen p
+foreseen_point (At x) n = tt
+foreseen_point (Finished answer) n = tt
+foreseen_point TooSoon n = tt
+foreseen_point Astray n = n refl
+
+module _ (deck : List JobData) (initiators : ℕ) where
+  -- the entry of a caller is what its point says
+  initiator_asked : (t u : Points) (e : Entry) (i : ℕ) (x : InitiatorAt) → Move deck initiators t e u → i < initiators
+      → e.caller ≡ initiator i → t.initiators i ≡ At x
+      → (e.object ≡ (initiator_asks (length deck) i x).0) × (e.op ≡ (initiator_asks (length deck) i x).1)
+  initiator_asked t u e i x (reads y k at o op to) lt c given = absurd (omega arith)
+  initiator_asked t u e i x (schedules y k at o op to) lt c given = absurd (omega arith)
+  initiator_asked t u e i x (writes y k at o op to) lt c given = absurd (omega arith)
+  initiator_asked t u e i x (initiates m y less k at o op to) lt c given =
+      let same : m ≡ i = omega arith in
+      let points : ◌≡◌ {A = Point InitiatorAt} (At y) (At x) = sym at ∙ ap (λ z. t.initiators z) same ∙ given in
+      let is : y ≡ x = cc points in (
+        o ∙ ap (λ z. (initiator_asks (length deck) z y).0) same ∙ ap (λ z. (initiator_asks (length deck) i z).0) is,
+        op
+            ∙ ap (λ z. (initiator_asks (length deck) z y).1) same ∙ ap (λ z. (initiator_asks (length deck) i z).1) is,
+      )
+
+  scheduler_asked : (t u : Points) (e : Entry) (x : SchedulerAt) → Move deck initiators t e u → e.caller ≡ scheduler
+      → t.scheduler ≡ At x
+      → (e.object ≡ (scheduler_asks (length deck) x).0) × (e.op ≡ (scheduler_asks (length deck) x).1)
+  scheduler_asked t u e x (reads y k at o op to) c given = absurd (omega arith)
+  scheduler_asked t u e x (initiates m y less k at o op to) c given = absurd (omega arith)
+  scheduler_asked t u e x (writes y k at o op to) c given = absurd (omega arith)
+  scheduler_asked t u e x (schedules y k at o op to) c given =
+      let points : ◌≡◌ {A = Point SchedulerAt} (At y) (At x) = sym at ∙ given in
+      let is : y ≡ x = cc points in
+      (o ∙ ap (λ z. (scheduler_asks (length deck) z).0) is, op ∙ ap (λ z. (scheduler_asks (length deck) z).1) is)
+
+  module _ (some : 1 ≤ initiators) (sound : IsSound deck initiators) where
+    abbrev c : Setup
+    c = spool_setup deck initiators
+
+    abbrev BothHold : System → Points → List Entry → Type 0
+    BothHold s t past = Ends c deck initiators s t past × Served deck initiators s t past
+
+    others : (s : System) (t u : Points) (past : List Entry) (e : Entry) → Safe c deck initiators s t past → IsNext c s e
+        → Move deck initiators t e u → BothHold s t past → OthersForeseen deck initiators s t e
+    others s t u past e safe n m h = record {
+      codes = λ i code lt held. h.0.codes.elements (initiator i) code held;
+      extends = λ j job jobs skipped k at.
+          let w : (e.object ≡ (scheduler_asks (length deck) (Extends j job jobs skipped)).0)
+          × (e.op ≡ (scheduler_asks (length deck) (Extends j job jobs skipped)).1) =
+          scheduler_asked t u e (Extends j job jobs skipped) m k at in
+          extend_is_armed deck initiators c s t j job jobs skipped scheduler e.place e.reply at
+          (standing deck initiators safe.now.kept t safe.now.stand) h.0.posted
+          (entry_next c s e scheduler (scheduler_asks (length deck) (Extends j job jobs skipped)) n k w.0 w.1);
+      steps = λ i x lt k at other.
+          let w : (e.object ≡ (initiator_asks (length deck) i x).0) × (e.op ≡ (initiator_asks (length deck) i x).1) =
+          initiator_asked t u e i x m lt k at in
+          foreseen_point (initiator_goes deck x e.reply)
+          (served_foreseen c deck initiators s t past e i x some sound safe.now h.1 n (served_of x other) lt k at w.0 w.1);
+    }
+
+    -- no task of a following history is lost; and at its end the laws of ends and of latches hold
+    pub following_is_safe : (es : List Entry) → Follows deck initiators es → (st : Stood deck initiators some sound es)
+        → (end : Safe c deck initiators (after c es) st.points es) × BothHold (after c es) st.points es
+    following_is_safe es f st = walk_safe c deck initiators (facts deck initiators some) sound.jobs (few_jobs deck initiators sound)
+        (λ s t past place. BothHold s t past)
+        (λ s t u past e safe n m h. others s t u past e safe n m h)
+        (λ s t u past e safe on n m h. (
+          ends_next c deck initiators (facts deck initiators some) sound s t u past e safe.now n m h.0,
+          served_onward c deck initiators s t u past e (few_jobs deck initiators sound) safe.now n m h.1,
+        ))
+        (ends_first c deck initiators sound, served_start c deck initiators) es st.points st.walk (none_lost_at_start deck initiators)
+        (in_time deck initiators some sound es f st)
+
+    -- where a history follows, no task's program is Wrong on its part of it
+    pub none_wrong : (es : List Entry) → Follows deck initiators es → (k : ℕ) → k < initiators + 3
+        → left_in c (task_program deck initiators) k es ≡ Wrong → ⊥
+    none_wrong es f k lt w =
+        let st : Stood deck initiators some sound es = stood deck initiators some sound es f in
+        not_wrong deck initiators some sound es st (following_is_safe es f st).0.now.none_lost k lt w
+
+    -- so the marks are right, and no post is answered Already, in every following history
+    pub following_marks : (es : List Entry) → Follows deck initiators es → AllByRecursion (HasRightMark deck) es
+    following_marks es f = (following_is_safe es f (stood deck initiators some sound es f)).1.0.traces.marked
+
+    pub following_posts : (es : List Entry) → Follows deck initiators es → AllByRecursion PostsFirst es
+    following_posts es f = (following_is_safe es f (stood deck initiators some sound es f)).1.0.traces.first

@@ -1,0 +1,330 @@
+-- A walk on which no wait ended too soon loses no task, where an invariant shows that the other replies lead nobody astray; and
+-- a task that is not lost is not wrong.
+use Rattle.std.proofs.Common.{◌≡◌, ℕ, zero, suc, ◌+◌, ◌-◌, ◌<◌, ◌≤◌, List, [], ◌∷◌, ◌++◌, length, ◌⊎◌, inl, inr, refl, sym, ap, ◌∙◌}
+use Rattle.std.proofs.Common.{subst, arith, Some}
+use Rattle.std.specs.List.{AllByRecursion}
+use Rattle.std.proofs.lemmas.Bool.{cases_eq, cases_lt}
+use Rattle.mv_ecb.specs.declared.operation.EcbReply.TheVariants as ecb_reply
+use Rattle.mv_machine.specs.declared.entry.Entry.{Entry}
+use Rattle.mv_machine.specs.declared.entry.Reply.TheVariants as reply_of
+use Rattle.mv_machine.specs.Legal.{IsNext, next, after_from}
+use Rattle.mv_machine.specs.Setup.{Setup}
+use Rattle.mv_machine.specs.System.{System, opening, with_at}
+use Rattle.mv_machine.specs.declared.entry.Reply.{Reply}
+use Rattle.mv_deck.specs.Deck.{JobData}
+use Rattle.mv_plan.proofs.deck.Sound.{AreSoundJobs, IsSound}
+use Rattle.mv_machine.specs.calls.Program.{Wrong}
+use Rattle.mv_machine.specs.calls.Runs.{left_in}
+use Rattle.mv_plan.specs.SpoolSetup.{spool_setup, reader, scheduler, initiator, writer}
+use Rattle.mv_plan.specs.SpoolTasks.{not_to_run, task_program}
+use Rattle.mv_plan.proofs.standing.Arms.{Armed, armed_next, armed_start}
+use Rattle.mv_plan.proofs.points.ReaderAndWriter.{IsWriterAt, reader_says, writer_says}
+use Rattle.mv_plan.proofs.results.Foreseen.{IsForeseen, NoExtend, IsOfTurns, reader_foreseen, writer_foreseen, scheduler_foreseen}
+use Rattle.mv_plan.proofs.results.Foreseen.{extend_foreseen, initiator_foreseen, foreseen_of}
+use Rattle.mv_plan.proofs.points.Initiator.{initiator_says}
+use Rattle.mv_plan.proofs.standing.Row.{RowAt}
+use Rattle.mv_plan.proofs.points.InitiatorSound.{IsInitiatorAt}
+use Rattle.mv_plan.proofs.places.Places.{Place, Coming, Over}
+use Rattle.mv_plan.proofs.deck.Setup.{Facts}
+use Rattle.mv_plan.proofs.points.Programs.{reader_program, scheduler_program, writer_program, initiator_program}
+use Rattle.mv_plan.proofs.points.Points.{Point, At, Finished, TooSoon, Astray, Dispatching, stage_at, dismissing_from, entering_from}
+use Rattle.mv_plan.proofs.points.Points.{writing_from, reader_asks, SchedulerAt, Waits, Extends, Clears, Releases}
+use Rattle.mv_plan.proofs.points.Points.{scheduler_asks, scheduler_goes, writer_asks, InitiatorAt, Opening, Offering}
+use Rattle.mv_plan.proofs.points.Points.{Pausing, Resuming, Obtaining, Confirming, Freeing, Reading, Writing, Scanning, Rescanning}
+use Rattle.mv_plan.proofs.points.Points.{Purging, EndingJob, EndingForScheduler, EndingForWriter, Closing, initiator_asks, initiator_goes}
+use Rattle.mv_plan.proofs.points.Scheduler.{scheduler_says}
+use Rattle.mv_plan.proofs.points.SchedulerSound.{IsSchedulerAt}
+use Rattle.mv_plan.proofs.walks.Histories.{Stood, AreInTime, in_time, wrong_point}
+use Rattle.mv_plan.proofs.places.Moments.{Moment, Onward, onward, start_moment, ledger_start}
+use Rattle.mv_plan.proofs.walks.NoneLost.{NoneLost}
+use Rattle.mv_plan.proofs.walks.Walks.{Points, start_points, Move, WalkTo, walk_keeps, AllTasks}
+use Rattle.mv_plan.proofs.walks.Walks.{all_before}
+use Rattle.std.proofs.Common.{Bool}
+use Rattle.mv_plan.proofs.walks.Moves.{entry_of, Each, of_move}
+use Rattle.mv_plan.proofs.lists.Tables.{with_at-same, with_at-other}
+use Rattle.mv_plan.proofs.ends.RightCodes.{IsCode}
+use Rattle.mv_plan.proofs.places.Ledger.{element_code}
+use Rattle.mv_plan.proofs.points.Views.{named_before, IsNotLost}
+
+-- a wait that ended too soon stays so
+at_in_time : {X : Type 0} (x : X) (p : Point X) → p ≡ At x → p ≡ TooSoon → ⊥
+at_in_time x p at z = cc (at, z)
+
+in_time_before : (deck : List JobData) (initiators : ℕ) (t u : Points) (e : Entry) → Move deck initiators t e u → AreInTime initiators u
+    → AreInTime initiators t
+in_time_before deck initiators t u e m f =
+    all_before (λ X p. p ≡ TooSoon → ⊥) (λ X x p at. at_in_time x p at) deck initiators t u e m f
+
+-- no task is astray
+abbrev pub AllForeseen : ℕ → Points → Type 0
+AllForeseen initiators t = AllTasks initiators (λ X p. IsForeseen p) t
+
+not_lost : {X : Type 0} (p : Point X) → IsForeseen p → (p ≡ TooSoon → ⊥) → IsNotLost p
+not_lost (At x) w d = tt
+not_lost (Finished answer) w d = tt
+not_lost TooSoon w d = d refl
+not_lost Astray w d = w
+
+pub none_lost_of : (initiators : ℕ) (t : Points) → AllForeseen initiators t → AreInTime initiators t → NoneLost initiators t
+none_lost_of initiators t w d = record {
+  at_reader = not_lost t.reader w.at_reader d.at_reader;
+  at_scheduler = not_lost t.scheduler w.at_scheduler d.at_scheduler;
+  at_initiator = λ i lt. not_lost (t.initiators i) (w.at_initiator i lt) (d.at_initiator i lt);
+  at_writer = not_lost t.writer w.at_writer d.at_writer;
+}
+
+of_turns_or : (x : InitiatorAt) → (IsOfTurns x) ⊎ (IsOfTurns x → ⊥)
+of_turns_or Opening = inl tt
+of_turns_or (Offering more before g) = inl tt
+of_turns_or (Pausing more before g) = inl tt
+of_turns_or (Resuming more before g) = inl tt
+of_turns_or (Obtaining run hand latch mode steps) = inr (λ z. z)
+of_turns_or (Confirming run hand latch mode id steps) = inr (λ z. z)
+of_turns_or (Freeing run hand latch id steps) = inr (λ z. z)
+of_turns_or (Reading run hand volume amount steps) = inr (λ z. z)
+of_turns_or (Writing run hand volume amount number steps) = inr (λ z. z)
+of_turns_or (Scanning run hand volume steps) = inr (λ z. z)
+of_turns_or (Rescanning run hand volume number steps) = inr (λ z. z)
+of_turns_or (Purging run hand code) = inl tt
+of_turns_or (EndingJob run code counts) = inl tt
+of_turns_or (EndingForScheduler run code counts) = inl tt
+of_turns_or (EndingForWriter run code counts) = inl tt
+of_turns_or (Closing g) = inl tt
+
+extends_or : (x : SchedulerAt) → (NoExtend x)
+    ⊎ ((j : ℕ) × (job : JobData) × (jobs : List JobData) × (skipped : Bool) × (x ≡ Extends j job jobs skipped))
+extends_or (Waits a w) = inl tt
+extends_or (Extends j job jobs skipped) = inr (j, job, jobs, skipped, refl)
+extends_or (Clears i g code after) = inl tt
+extends_or (Releases i g code after) = inl tt
+
+-- What the other laws show of an entry: a code in an element is 0 or a job's, the extend of a done block is answered Armed, and no
+-- reply to a job's step leads astray.
+pub record OthersForeseen (deck : List JobData) (initiators : ℕ) (s : System) (t : Points) (e : Entry) : Type 0 where
+  pub codes : (i code : ℕ) → i < initiators → element_code s i ≡ Some code → IsCode deck code
+  pub extends : (j : ℕ) (job : JobData) (jobs : List JobData) (skipped : Bool) → e.caller ≡ scheduler
+      → t.scheduler ≡ At (Extends j job jobs skipped) → e.reply ≡ reply_of.Ecb ecb_reply.Armed
+  pub steps : (i : ℕ) (x : InitiatorAt) → i < initiators → e.caller ≡ initiator i → t.initiators i ≡ At x → (IsOfTurns x → ⊥)
+      → IsForeseen (initiator_goes deck x e.reply)
+
+-- a moment, with which blocks are armed
+pub record Safe (c : Setup) (deck : List JobData) (initiators : ℕ) (s : System) (t : Points) (past : List Entry) : Type 0 where
+  pub now : Moment c deck initiators s t past
+  pub arms : Armed c (length deck) initiators s t
+
+module _ (c : Setup) (deck : List JobData) (initiators : ℕ) (facts : Facts c (length deck) initiators) (sound : AreSoundJobs 0 deck)
+    (small : length deck ≤ not_to_run) where
+  abbrev n : ℕ
+  n = length deck
+
+  abbrev Seen : List Entry → System → Points → Entry → Points → Type 0
+  Seen past s t e u = Safe c deck initiators s t past → OthersForeseen deck initiators s t e → AllForeseen initiators u
+
+  module _ (past : List Entry) where
+    scheduled : (s : System) (t : Points) (x : SchedulerAt) (p : ℕ) (r : Reply) → t.scheduler ≡ At x
+        → IsNext c s (entry_of scheduler p (scheduler_asks n x) r) → Safe c deck initiators s t past
+        → OthersForeseen deck initiators s t (entry_of scheduler p (scheduler_asks n x) r)
+        → IsForeseen (scheduler_goes n initiators x r)
+    scheduled s t x p r at nx w others = elim (extends_or x) [
+      | inl d ↦ scheduler_foreseen c deck initiators facts s w.now.fits t.scheduler t.writer t.initiators x r at d
+          w.arms.armed w.now.rows.rows w.now.none_lost.at_initiator
+          (subst (λ z. IsSchedulerAt deck initiators z) at w.now.stand.at_scheduler.0) nx.admits nx.reply
+      | inr z ↦ extend z.0 z.1 z.2 z.3 z.4
+    ] where
+      extend : (j : ℕ) (job : JobData) (jobs : List JobData) (skipped : Bool) → x ≡ Extends j job jobs skipped
+          → IsForeseen (scheduler_goes n initiators x r)
+      extend j job jobs skipped is =
+          let armed : r ≡ reply_of.Ecb ecb_reply.Armed = others.extends j job jobs skipped refl (at ∙ ap (λ z. At z) is) in
+          subst (λ z. IsForeseen (scheduler_goes n initiators z r)) (sym is)
+          (subst (λ z. IsForeseen (scheduler_goes n initiators (Extends j job jobs skipped) z)) (sym armed)
+          (extend_foreseen n initiators j job jobs skipped facts.some))
+
+    initiated : (s : System) (t : Points) (i : ℕ) (x : InitiatorAt) (p : ℕ) (r : Reply) → i < initiators → t.initiators i ≡ At x
+        → IsNext c s (entry_of (initiator i) p (initiator_asks n i x) r) → Safe c deck initiators s t past
+        → OthersForeseen deck initiators s t (entry_of (initiator i) p (initiator_asks n i x) r) → IsForeseen (initiator_goes deck x r)
+    initiated s t i x p r lt at nx w others = elim (of_turns_or x) [
+      | inl d ↦ initiator_foreseen deck initiators sound small s t.scheduler i lt others.codes w.now.ledger.places.place
+          (λ j skipped less e. w.now.ledger.places.handed i j skipped lt less e) x r d
+          (subst (λ z. IsInitiatorAt deck z) at (w.now.stand.at_initiator i lt).0)
+          (subst (λ z. Over_all w z) at (w.now.ledger.places.over i lt))
+          (subst (λ z. RowAt n s t.scheduler i z) at (w.now.rows.rows i lt)) nx.reply
+      | inr d ↦ others.steps i x lt refl at d
+    ] where
+      Over_all : Safe c deck initiators s t past → Point InitiatorAt → Type 0
+      Over_all w q = AllByRecursion (λ k. w.now.ledger.places.place k ≡ Over) (named_before q)
+
+    each_seen : Each c deck initiators (Seen past)
+    each_seen = record {
+      of_reader = λ s t x p r at nx w others.
+          record {
+            at_reader = reader_foreseen s x r nx.reply;
+            at_scheduler = foreseen_of t.scheduler w.now.none_lost.at_scheduler;
+            at_initiator = λ m less. foreseen_of (t.initiators m) (w.now.none_lost.at_initiator m less);
+            at_writer =
+                foreseen_of t.writer w.now.none_lost.at_writer;
+          };
+      of_scheduler = λ s t x p r at nx w others.
+          record {
+            at_reader = foreseen_of t.reader w.now.none_lost.at_reader;
+            at_scheduler = scheduled s t x p r at nx w others;
+            at_initiator = λ m less. foreseen_of (t.initiators m) (w.now.none_lost.at_initiator m less);
+            at_writer =
+                foreseen_of t.writer w.now.none_lost.at_writer;
+          };
+      of_initiator = λ s t i x p r lt at nx w others.
+          record {
+            at_reader = foreseen_of t.reader w.now.none_lost.at_reader;
+            at_scheduler = foreseen_of t.scheduler w.now.none_lost.at_scheduler;
+            at_initiator =
+                λ m less. each t i x r (initiated s t i x p r lt at nx w others) w.now.none_lost m less (cases_eq i m);
+            at_writer =
+                foreseen_of t.writer w.now.none_lost.at_writer;
+          };
+      of_writer = λ s t x p r at nx w others. record {
+        at_reader = foreseen_of t.reader w.now.none_lost.at_reader;
+        at_scheduler = foreseen_of t.scheduler w.now.none_lost.at_scheduler;
+        at_initiator = λ m less. foreseen_of (t.initiators m) (w.now.none_lost.at_initiator m less);
+        at_writer = writer_foreseen c deck initiators facts s w.now.fits t.scheduler t.writer x r at w.arms.armed
+            (subst (λ z. IsWriterAt n z) at w.now.stand.at_writer) nx.admits nx.reply;
+      };
+    } where
+      each : (t : Points) (i : ℕ) (x : InitiatorAt) (r : Reply) → IsForeseen (initiator_goes deck x r) → NoneLost initiators t → (m : ℕ)
+          → m < initiators → (i ≡ m) ⊎ (i ≡ m → ⊥) → IsForeseen (with_at t.initiators i (initiator_goes deck x r) m)
+      each t i x r w f m less (inl same) =
+          subst (λ k. IsForeseen (with_at t.initiators i (initiator_goes deck x r) k)) same
+          (subst (λ z. IsForeseen z) (sym (with_at-same t.initiators i (initiator_goes deck x r))) w)
+      each t i x r w f m less (inr other) =
+          subst (λ z. IsForeseen z) (sym (with_at-other t.initiators i m (initiator_goes deck x r) other))
+          (foreseen_of (t.initiators m) (f.at_initiator m less))
+
+  -- no task is astray behind a safe moment
+  pub seen_next : (s : System) (t u : Points) (past : List Entry) (e : Entry) → IsNext c s e → Move deck initiators t e u
+      → Safe c deck initiators s t past → OthersForeseen deck initiators s t e → AllForeseen initiators u
+  seen_next s t u past e nx m w others = of_move c deck initiators (Seen past) (each_seen past) s t u e nx m w others
+
+  -- the next safe moment
+  pub record SafeOnward (s : System) (t : Points) (past : List Entry) (e : Entry) (u : Points)
+      (safe : Safe c deck initiators s t past) : Type 0 where
+    pub on : Onward c deck initiators facts sound small s t past e u safe.now
+    pub arms : Armed c n initiators (next s e) u
+
+  pub safe_onward : (s : System) (t : Points) (past : List Entry) (e : Entry) (u : Points) (safe : Safe c deck initiators s t past)
+      → IsNext c s e → Move deck initiators t e u → NoneLost initiators u → SafeOnward s t past e u safe
+  safe_onward s t past e u safe nx m f = record {
+    on = onward c deck initiators facts sound small s t past e u safe.now nx m f;
+    arms = armed_next c deck initiators facts sound safe.now.kept s t u e nx m safe.now.stand f safe.arms;
+  }
+
+  -- What holds at the start and is kept, where it shows of each entry what the other laws are about, holds in the end, where no
+  -- wait ended too soon; and no task is lost.
+  pub walk_safe : (P : System → Points → List Entry → (ℕ → Place) → Type 0)
+      → ((s : System) (t u : Points) (past : List Entry) (e : Entry) (safe : Safe c deck initiators s t past) → IsNext c s e
+      → Move deck initiators t e u → P s t past safe.now.ledger.places.place → OthersForeseen deck initiators s t e)
+      → ((s : System) (t u : Points) (past : List Entry) (e : Entry) (safe : Safe c deck initiators s t past)
+      (on : SafeOnward s t past e u safe) → IsNext c s e → Move deck initiators t e u
+      → P s t past safe.now.ledger.places.place → P (next s e) u (past ++ e ∷ []) on.on.then_now.ledger.places.place)
+      → P (opening c) (start_points deck initiators) [] (λ j. Coming)
+      → (es : List Entry) (u : Points) → WalkTo c deck initiators (opening c) (start_points deck initiators) es u
+      → NoneLost initiators (start_points deck initiators) → AreInTime initiators u
+      → (end : Safe c deck initiators (after_from (opening c) es) u es) × P (after_from (opening c) es) u es end.now.ledger.places.place
+  unfolding start_moment ledger_start
+  walk_safe P shows keeps start es u walk begins in_time =
+      walk_keeps (λ s t past. AreInTime initiators t
+      → (safe : Safe c deck initiators s t past) × P s t past safe.now.ledger.places.place) c deck initiators
+      (λ s t v past e nx m p f.
+      let w : (safe : Safe c deck initiators s t past) × P s t past safe.now.ledger.places.place =
+      p (in_time_before deck initiators t v e m f) in
+      let found : NoneLost initiators v =
+      none_lost_of initiators v (seen_next s t v past e nx m w.0 (shows s t v past e w.0 nx m w.1)) f in
+      let on : SafeOnward s t past e v w.0 = safe_onward s t past e v w.0 nx m found in
+      (record { now = on.on.then_now; arms = on.arms }, keeps s t v past e w.0 on nx m w.1))
+      (opening c) (start_points deck initiators) u [] es walk
+      (λ f. (
+        record {
+          now = start_moment c deck initiators facts sound small begins;
+          arms = armed_start c n initiators (start_points deck initiators);
+        },
+        start,
+      )) in_time
+
+-- ---- no program is wrong where no task is lost
+
+lost_wrong : {X : Type 0} (p : Point X) → p ≡ Astray → IsNotLost p → ⊥
+lost_wrong p e f = subst (λ z. IsNotLost z) e f
+
+module _ (deck : List JobData) (initiators : ℕ) (some : 1 ≤ initiators) (sound : IsSound deck initiators) (es : List Entry)
+    (st : Stood deck initiators some sound es) (found : NoneLost initiators st.points) where
+  abbrev c : Setup
+  c = spool_setup deck initiators
+
+  abbrev IsNotWrong : ℕ → Type 0
+  IsNotWrong k = left_in c (task_program deck initiators) k es ≡ Wrong → ⊥
+
+  of_initiator : (i : ℕ) → i < initiators → IsNotWrong (initiator i)
+  of_initiator i lt e = lost_wrong (st.points.initiators i)
+      (wrong_point (initiator_program c deck i (st.kept (initiator i))) (initiator_asks (length deck) i)
+      (initiator_says c deck i (st.kept (initiator i))) (st.points.initiators i) (sym (st.tasks.at_initiator i lt) ∙ e))
+      (found.at_initiator i lt)
+
+  pub not_wrong : (k : ℕ) → k < initiators + 3 → IsNotWrong k
+  not_wrong k lt = elim (cases_eq k reader) [
+    | inl zeroth ↦ subst (λ z. IsNotWrong z) (sym zeroth) (λ e. lost_wrong st.points.reader
+        (wrong_point (reader_program c (st.kept reader)) reader_asks (reader_says c (st.kept reader)) st.points.reader
+        (sym st.tasks.at_reader ∙ e)) found.at_reader)
+    | inr more ↦ elim (cases_eq k scheduler) [
+      | inl first ↦ subst (λ z. IsNotWrong z) (sym first) (λ e. lost_wrong st.points.scheduler
+          (wrong_point (scheduler_program c (length deck) initiators (st.kept scheduler)) (scheduler_asks (length deck))
+          (scheduler_says c (length deck) initiators (st.kept scheduler)) st.points.scheduler
+          (sym st.tasks.at_scheduler ∙ e)) found.at_scheduler)
+      | inr still ↦ elim (cases_eq k (writer initiators)) [
+        | inl last ↦ subst (λ z. IsNotWrong z) (sym last) (λ e. lost_wrong st.points.writer
+            (wrong_point (writer_program c (length deck) (st.kept (writer initiators))) writer_asks
+            (writer_says c (length deck) (st.kept (writer initiators))) st.points.writer
+            (sym st.tasks.at_writer ∙ e)) found.at_writer)
+        | inr own ↦ subst (λ z. IsNotWrong z) (back k more still) (of_initiator (k - 2) (below k more still own lt))
+      ]
+    ]
+  ] where
+    back : (k : ℕ) → (k ≡ 0 → ⊥) → (k ≡ 1 → ⊥) → initiator (k - 2) ≡ k
+    back k a b = elim (cases_lt k 2) [
+      | inl lt ↦ elim
+          (cases_eq k 0) [ inl z ↦ absurd (a z) | inr d ↦ absurd (b (omega arith)) ]
+      | inr ge ↦ omega arith
+    ]
+
+    below : (k : ℕ) → (k ≡ 0 → ⊥) → (k ≡ 1 → ⊥) → (k ≡ initiators + 2 → ⊥) → k < initiators + 3 → k - 2 < initiators
+    below k a b d lt = elim (cases_lt k (initiators + 2)) [
+      | inl less ↦ elim
+          (cases_lt k 2) [
+            | inl low ↦ elim (cases_eq k 0) [ inl z ↦ absurd (a z) | inr e ↦ absurd (b (omega arith)) ]
+            | inr ge ↦
+                omega arith
+          ]
+      | inr ge ↦ absurd (d (omega arith))
+    ]
+
+-- ---- at the start
+
+start_reader : (j more : ℕ) → IsNotLost (entering_from j more)
+start_reader j zero = tt
+start_reader j (suc more) = tt
+
+start_dismissing : (n m more : ℕ) → IsNotLost (dismissing_from n m more)
+start_dismissing n m zero = tt
+start_dismissing n m (suc more) = tt
+
+start_scheduler : (n initiators : ℕ) (deck : List JobData) → IsNotLost (stage_at n initiators (Dispatching 0 deck))
+start_scheduler n initiators [] = start_dismissing n 0 initiators
+start_scheduler n initiators (job ∷ jobs) = tt
+
+start_writer : (n more : ℕ) → IsNotLost (writing_from n 0 more [])
+start_writer n zero = tt
+start_writer n (suc more) = tt
+
+pub none_lost_at_start : (deck : List JobData) (initiators : ℕ) → NoneLost initiators (start_points deck initiators)
+none_lost_at_start deck initiators = record {
+  at_reader = start_reader 0 (length deck);
+  at_scheduler = start_scheduler (length deck) initiators deck;
+  at_initiator = λ i lt. tt;
+  at_writer = start_writer (length deck) (length deck);
+}

@@ -1,0 +1,63 @@
+-- At each moment at which no task is lost that record holds, and no reply at a latch or a volume leads an initiator astray.
+use Rattle.std.proofs.Common.{◌≡◌, ℕ, ◌<◌, ◌≤◌, List, [], ◌∷◌, ◌++◌, length, Option, ap, arith}
+use Rattle.mv_machine.specs.declared.entry.Entry.{Entry}
+use Rattle.mv_machine.specs.Legal.{IsNext, next, after_from}
+use Rattle.mv_machine.specs.Setup.{Setup}
+use Rattle.mv_machine.specs.System.{System, opening}
+use Rattle.mv_plan.specs.HandingOut.{released_codes, given_codes}
+use Rattle.mv_deck.specs.Deck.{JobData}
+use Rattle.mv_plan.proofs.deck.Sound.{IsSound, AreSoundJobs}
+use Rattle.mv_plan.specs.SpoolSetup.{initiator}
+use Rattle.mv_plan.specs.SpoolTasks.{not_to_run}
+use Rattle.mv_plan.proofs.latches.Exclusion.{places_apart}
+use Rattle.mv_plan.proofs.places.Places.{Place, Coming, Handed, Run, Over}
+use Rattle.mv_plan.proofs.serving.LatchCases.{IsServed}
+use Rattle.mv_plan.proofs.places.Ledger.{Ledger, Account, element_code}
+use Rattle.mv_plan.proofs.deck.Setup.{Facts}
+use Rattle.mv_plan.proofs.points.Points.{At, Astray, InitiatorAt, initiator_asks, initiator_goes}
+use Rattle.mv_plan.proofs.serving.Requestors.{NamedOnce}
+use Rattle.mv_plan.proofs.serving.Served.{Served, served_start, served_next, served_well}
+use Rattle.mv_plan.proofs.places.Moments.{Moment, walk_moments}
+use Rattle.mv_plan.proofs.walks.NoneLost.{NoneLost}
+use Rattle.mv_plan.proofs.walks.Walks.{Points, start_points, Move, WalkTo}
+use Rattle.mv_plan.proofs.walks.Stands.{AreSound}
+
+-- by its place, a job was named once or not at all
+account_once : (held : ℕ → Option ℕ) (j : ℕ) (rel giv : List ℕ) (p : Place) → Account held j rel giv p → length giv ≤ 1
+account_once held j rel giv Coming w = let l : length giv ≡ 0 = ap length w.1 in omega arith
+account_once held j rel giv (Handed i) w = let l : length giv ≡ 0 = ap length w.3 in omega arith
+account_once held j rel giv (Run i) w = let l : length giv ≡ 1 = ap length w.2 in omega arith
+account_once held j rel giv Over w = let l : length giv ≡ 1 = ap length w.2 in omega arith
+
+pub ledger_once : (deck : List JobData) (initiators : ℕ) (s : System) (t : Points) (past : List Entry) → Ledger deck initiators s t past
+    → NamedOnce deck past
+ledger_once deck initiators s t past w j lt =
+    account_once (element_code s) j (released_codes j past) (given_codes j past) (w.places.place j) (w.accounts j lt)
+
+module _ (c : Setup) (deck : List JobData) (initiators : ℕ) where
+  moment_sound : (s : System) (t : Points) (past : List Entry) → Moment c deck initiators s t past → AreSound deck initiators t
+  moment_sound s t past now i lt = (now.stand.at_initiator i lt).0
+
+  pub served_onward : (s : System) (t u : Points) (past : List Entry) (e : Entry) → length deck ≤ not_to_run
+      → Moment c deck initiators s t past → IsNext c s e → Move deck initiators t e u
+      → Served deck initiators s t past → Served deck initiators (next s e) u (past ++ e ∷ [])
+  served_onward s t u past e few now h m w =
+      served_next c deck initiators s t u past e few h m (moment_sound s t past now)
+      (places_apart deck initiators s t now.ledger.places) w
+
+  -- an initiator foresees each reply at latches and volumes
+  pub served_foreseen : (s : System) (t : Points) (past : List Entry) (e : Entry) (i : ℕ) (x : InitiatorAt) → 1 ≤ initiators
+      → IsSound deck initiators → Moment c deck initiators s t past
+      → Served deck initiators s t past → IsNext c s e → IsServed x → i < initiators → e.caller ≡ initiator i → t.initiators i ≡ At x
+      → e.object ≡ (initiator_asks (length deck) i x).0 → e.op ≡ (initiator_asks (length deck) i x).1
+      → initiator_goes deck x e.reply ≡ Astray → ⊥
+  served_foreseen s t past e i x some sound now w h on lt k at o op =
+      served_well c deck initiators s t past e i x some sound (moment_sound s t past now) now.none_lost
+      (ledger_once deck initiators s t past now.ledger) w h on lt k at o op
+
+  pub served_end : Facts c (length deck) initiators → AreSoundJobs 0 deck → length deck ≤ not_to_run → (es : List Entry) (u : Points)
+      → WalkTo c deck initiators (opening c) (start_points deck initiators) es u → NoneLost initiators u
+      → Served deck initiators (after_from (opening c) es) u es
+  served_end facts sound few es u walk found =
+      (walk_moments c deck initiators facts sound few (λ s t past place. Served deck initiators s t past)
+      (λ s t v past e now on h m w. served_onward s t v past e few now h m w) (served_start c deck initiators) es u walk found).1

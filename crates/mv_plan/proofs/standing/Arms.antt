@@ -1,0 +1,304 @@
+-- A block is waiting only while its owner has it armed in the wait that it is in; so an arm finds it plain or complete. Used
+-- where no reply is to lead astray.
+use Rattle.std.proofs.Common.{◌≡◌, ℕ, zero, suc, ◌+◌, ◌*◌, ◌<◌, ◌≤◌, ◌==◌, nat_lt, ◌&&◌, IsTrue, List, [], ◌∷◌, ◌++◌, length, map, Option}
+use Rattle.std.proofs.Common.{Some, None, ◌⊎◌, inl, inr, refl, sym, ap, ◌∙◌, subst, arith}
+use Rattle.std.specs.List.{AllByRecursion, range_with_len}
+use Rattle.std.proofs.lemmas.Bool.{cases_eq, eqb-true, and_parts}
+use Rattle.mv_ecb.specs.declared.operation.EcbOp.{EcbOp}
+use Rattle.mv_ecb.specs.declared.operation.EcbOp.TheVariants as ecb_op
+use Rattle.mv_ecb.specs.declared.operation.EcbReply.TheVariants as ecb_reply
+use Rattle.mv_ecb.specs.Table.{ecb_step}
+use Rattle.mv_ecb.specs.Word.{EcbState, Waiting}
+use Rattle.mv_machine.specs.declared.entry.Entry.{Entry}
+use Rattle.mv_machine.specs.declared.entry.Object.{Object}
+use Rattle.mv_machine.specs.declared.entry.Object.TheVariants.{Ecb, Element, Volume, Latches}
+use Rattle.mv_machine.specs.declared.entry.Op.{Op}
+use Rattle.mv_machine.specs.declared.entry.Op.TheVariants as op_on
+use Rattle.mv_machine.specs.declared.entry.Reply.{Reply}
+use Rattle.mv_machine.specs.declared.entry.Reply.TheVariants as reply_of
+use Rattle.mv_machine.specs.Legal.{IsNext, next}
+use Rattle.mv_machine.specs.Setup.{Setup, owner_of}
+use Rattle.mv_machine.specs.System.{System, opening, admitted, ecb_admitted, moved, with_at, turned}
+use Rattle.mv_deck.specs.Deck.{JobData}
+use Rattle.mv_deck.specs.declared.deck.After.{After}
+use Rattle.mv_plan.proofs.deck.Sound.{AreSoundJobs}
+use Rattle.mv_machine.specs.calls.Waits.{AreDistinct}
+use Rattle.mv_machine.specs.calls.Keeping.{Kept}
+use Rattle.mv_plan.specs.SpoolSetup.{reader, scheduler, initiator, writer, done, end_for_writer, idle}
+use Rattle.mv_plan.specs.SpoolTasks.{ends_of}
+use Rattle.mv_plan.proofs.points.ReaderAndWriter.{IsWriterAt}
+use Rattle.mv_plan.proofs.points.PostsAndWaits.{on_armed_keeps}
+use Rattle.mv_plan.proofs.deck.Setup.{Facts}
+use Rattle.mv_plan.proofs.points.Points.{Point, At, Awaited, ForEntry, ForEnds, ForIdle, ToDismiss, WaitAt, Arming, Settling, ReaderAt}
+use Rattle.mv_plan.proofs.points.Points.{Entering, reader_asks, SchedulerAt, Waits, Extends, Clears, Releases, awaited_blocks}
+use Rattle.mv_plan.proofs.points.Points.{scheduler_asks, scheduler_goes, arming_from, settling_from, on_armed, WriterAt, Keeping}
+use Rattle.mv_plan.proofs.points.Points.{writer_asks, writer_goes, writer_arming, initiator_asks}
+use Rattle.mv_plan.proofs.points.SchedulerSound.{IsAwaited, IsSchedulerAt, rest_below, rest_sound}
+use Rattle.mv_plan.proofs.walks.Stands.{Stand}
+use Rattle.mv_plan.proofs.walks.NoneLost.{NoneLost}
+use Rattle.mv_plan.proofs.walks.Walks.{Points, Move}
+use Rattle.mv_plan.proofs.points.Scheduler.{ends_distinct, idles_distinct}
+use Rattle.mv_plan.proofs.walks.Moves.{Each, of_move}
+use Rattle.mv_plan.proofs.lists.Tables.{with_at-same, with_at-other}
+use Rattle.mv_plan.proofs.points.Asks.{NoArm, no_arm}
+use Rattle.mv_plan.proofs.points.Views.{IsNotLost}
+
+-- ---- blocks in lists
+
+abbrev pub In : List ℕ → ℕ → Type 0
+In [] b = ⊥
+In (x ∷ xs) b = (x ≡ b) ⊎ In xs b
+
+pub in_middle : (past : List ℕ) (e : ℕ) (todo : List ℕ) → In (past ++ e ∷ todo) e
+in_middle [] e todo = inl refl
+in_middle (x ∷ past) e todo = inr (in_middle past e todo)
+
+distinct_rest : (past rest : List ℕ) → AreDistinct (past ++ rest) → AreDistinct rest
+distinct_rest [] rest d = d
+distinct_rest (x ∷ past) rest d = distinct_rest past rest d.1
+
+not_in : (e : ℕ) (todo : List ℕ) → AllByRecursion (λ m. m ≡ e → ⊥) todo → In todo e → ⊥
+not_in e [] d i = i
+not_in e (x ∷ todo) d (inl same) = d.0 same
+not_in e (x ∷ todo) d (inr i) = not_in e todo d.1 i
+
+pub in_all : (P : ℕ → Type 0) (bs : List ℕ) (b : ℕ) → AllByRecursion P bs → In bs b → P b
+in_all P [] b w i = absurd i
+in_all P (x ∷ bs) b w (inl same) = subst (λ z. P z) same w.0
+in_all P (x ∷ bs) b w (inr i) = in_all P bs b w.1 i
+
+-- ---- the blocks of a wait are different, and none is a done block
+
+pub awaited_distinct : (deck : List JobData) (initiators : ℕ) (a : Awaited) → AreSoundJobs 0 deck → IsAwaited deck initiators a
+    → AreDistinct (awaited_blocks (length deck) initiators a)
+awaited_distinct deck initiators (ForEntry j job jobs) sound s = (tt, tt)
+awaited_distinct deck initiators (ForEnds j job jobs) sound s =
+    ends_distinct (length deck) job.after (rest_sound deck j job jobs sound s).distinct
+awaited_distinct deck initiators (ForIdle j job jobs skipped) sound s = idles_distinct (length deck) 0 initiators
+awaited_distinct deck initiators (ToDismiss i more) sound s = (tt, tt)
+
+-- a block that is no done block
+abbrev pub IsNoDone : ℕ → ℕ → Type 0
+IsNoDone n b = (b < n) ⊎ (2 * n ≤ b)
+
+ends_no_done : (n : ℕ) (parts : List After) → AllByRecursion (IsNoDone n) (ends_of n parts)
+ends_no_done n [] = tt
+ends_no_done n (part ∷ parts) = (inr (omega arith), ends_no_done n parts)
+
+idles_no_done : (n from count : ℕ) → AllByRecursion (IsNoDone n) (map (idle n) (range_with_len from count))
+idles_no_done n from zero = tt
+idles_no_done n from (suc count) = (inr (omega arith), idles_no_done n (from + 1) count)
+
+pub awaited_no_done : (deck : List JobData) (initiators : ℕ) (a : Awaited) → IsAwaited deck initiators a
+    → AllByRecursion (IsNoDone (length deck)) (awaited_blocks (length deck) initiators a)
+awaited_no_done deck initiators (ForEntry j job jobs) s = (inl (rest_below deck j job jobs s), tt)
+awaited_no_done deck initiators (ForEnds j job jobs) s = ends_no_done (length deck) job.after
+awaited_no_done deck initiators (ForIdle j job jobs skipped) s = idles_no_done (length deck) 0 initiators
+awaited_no_done deck initiators (ToDismiss i more) s = (inr (omega arith), tt)
+
+-- ---- what a wait has armed and not settled yet
+
+abbrev pub Unsettled : List ℕ → WaitAt → ℕ → Type 0
+Unsettled blocks (Arming e todo) b = In blocks b × (In (e ∷ todo) b → ⊥)
+Unsettled blocks (Settling e todo found) b = In (e ∷ todo) b
+
+abbrev pub SchedulerArms : ℕ → ℕ → Point SchedulerAt → ℕ → Type 0
+SchedulerArms n initiators (At (Waits a w)) b = Unsettled (awaited_blocks n initiators a) w b
+SchedulerArms n initiators p b = ⊥
+
+abbrev pub WriterArms : ℕ → Point WriterAt → ℕ → Type 0
+WriterArms n (At (Keeping j more ends w)) b = Unsettled (end_for_writer n j ∷ []) w b
+WriterArms n p b = ⊥
+
+-- a block that is waiting was armed by its owner, the scheduler or the writer, and is still to be settled
+pub record Armed (c : Setup) (n initiators : ℕ) (s : System) (t : Points) : Type 0 where
+  pub armed : (b : ℕ) → (s.ecb b).state ≡ Waiting
+      → ((owner_of c b ≡ scheduler) × SchedulerArms n initiators t.scheduler b)
+      ⊎ ((owner_of c b ≡ writer initiators) × WriterArms n t.writer b)
+
+-- ---- tables
+
+waiting_was : (op : EcbOp) (v : EcbState) → NoArm (op_on.Ecb op) → (ecb_step op v).0 ≡ Waiting → v ≡ Waiting
+waiting_was ecb_op.Arm v w e = absurd w
+waiting_was (ecb_op.Extend x) v w e = grind arith
+waiting_was ecb_op.Settle v w e = grind arith
+waiting_was ecb_op.Clear v w e = grind arith
+waiting_was (ecb_op.Post x) v w e = grind arith
+waiting_was ecb_op.Test v w e = e
+
+-- only an arm makes a block wait
+pub still_waiting : (s : System) (k : ℕ) (o : Object) (op : Op) (b : ℕ) → NoArm op → ((moved s k o op).ecb b).state ≡ Waiting
+    → (s.ecb b).state ≡ Waiting
+still_waiting s k (Ecb m) (op_on.Ecb op) b w e =
+    elim (cases_eq m b) [
+      | inl same ↦ ap (λ z. (s.ecb z).state) (sym same)
+          ∙ waiting_was op (s.ecb m).state w
+          (sym (ap (λ z. z.state) (with_at-same s.ecb m (turned (s.ecb m) (ecb_step op (s.ecb m).state).0)))
+          ∙ ap (λ z. (with_at s.ecb m (turned (s.ecb m) (ecb_step op (s.ecb m).state).0) z).state) same ∙ e)
+      | inr other ↦ sym (ap (λ z. z.state) (with_at-other s.ecb m b (turned (s.ecb m) (ecb_step op (s.ecb m).state).0) other)) ∙ e
+    ]
+still_waiting s k (Element m) (op_on.Element op) b w e = e
+still_waiting s k (Volume m) (op_on.Volume op) b w e = e
+still_waiting s k Latches (op_on.Latch op) b w e = e
+still_waiting s k o op b w e = e
+
+-- at another block
+else_waiting : (s : System) (e b : ℕ) (y : EcbState) → (e ≡ b → ⊥) → (with_at s.ecb e (turned (s.ecb e) y) b).state ≡ Waiting
+    → (s.ecb b).state ≡ Waiting
+else_waiting s e b y d w = sym (ap (λ z. z.state) (with_at-other s.ecb e b (turned (s.ecb e) y) d)) ∙ w
+
+settled_not : (v : EcbState) → (ecb_step ecb_op.Settle v).0 ≡ Waiting → ⊥
+settled_not v e = grind arith
+
+-- a settled block does not wait
+settled_other : (s : System) (e b : ℕ)
+    → (with_at s.ecb e (turned (s.ecb e) (ecb_step ecb_op.Settle (s.ecb e).state).0) b).state ≡ Waiting → e ≡ b → ⊥
+settled_other s e b w same = settled_not (s.ecb e).state
+    (sym (ap (λ z. z.state) (with_at-same s.ecb e (turned (s.ecb e) (ecb_step ecb_op.Settle (s.ecb e).state).0)))
+    ∙ ap (λ z. (with_at s.ecb e (turned (s.ecb e) (ecb_step ecb_op.Settle (s.ecb e).state).0) z).state) same ∙ w)
+
+-- ---- the points that follow have armed what they are to settle
+
+settling_arms : (n initiators : ℕ) (a : Awaited) (es : List ℕ) (found : List (Option ℕ)) (b : ℕ) → In es b
+    → SchedulerArms n initiators (settling_from n a es found) b
+settling_arms n initiators a [] found b i = absurd i
+settling_arms n initiators a (e ∷ es) found b i = i
+
+arming_arms : (n initiators : ℕ) (a : Awaited) (todo : List ℕ) (b : ℕ) → In (awaited_blocks n initiators a) b → (In todo b → ⊥)
+    → SchedulerArms n initiators (arming_from n initiators a todo) b
+arming_arms n initiators a [] b i d = settling_arms n initiators a (awaited_blocks n initiators a) [] b i
+arming_arms n initiators a (e ∷ es) b i d = (i, d)
+
+found_armed : {X : Type 0} (p : Point X) (r : Reply) → IsNotLost (on_armed p r) → on_armed p r ≡ p
+found_armed p r f = on_armed_keeps (λ z. IsNotLost z → z ≡ p) p r (λ g. refl) (λ g. absurd g) f
+
+-- an arm is made by the owner
+pub arm_owner : (c : Setup) (s : System) (k e : ℕ) (op : EcbOp) → (ecb_admitted c k e op ≡ (owner_of c e == k))
+    → IsTrue (admitted c s k (Ecb e) (op_on.Ecb op)) → owner_of c e ≡ k
+arm_owner c s k e op q adm = eqb-true (owner_of c e) k
+    (sym q ∙ (and_parts (nat_lt k c.callers && nat_lt e (length c.owners)) (ecb_admitted c k e op) adm).1)
+
+module _ (c : Setup) (deck : List JobData) (initiators : ℕ) (facts : Facts c (length deck) initiators) (sound : AreSoundJobs 0 deck)
+    (kept : ℕ → Kept) where
+  abbrev n : ℕ
+  n = length deck
+
+  -- a block and who waits for it, at these points of the scheduler and the writer
+  abbrev Arms : Point SchedulerAt → Point WriterAt → ℕ → Type 0
+  Arms q w b = ((owner_of c b ≡ scheduler) × SchedulerArms n initiators q b) ⊎ ((owner_of c b ≡ writer initiators) × WriterArms n w b)
+
+  abbrev ArmedThen : System → Point SchedulerAt → Point WriterAt → Type 0
+  ArmedThen s q w = (b : ℕ) → (s.ecb b).state ≡ Waiting → Arms q w b
+
+  other_side : (q q' : Point SchedulerAt) (w : Point WriterAt) (b : ℕ)
+      → (SchedulerArms n initiators q b → SchedulerArms n initiators q' b) → Arms q w b → Arms q' w b
+  other_side q q' w b f (inl x) = inl (x.0, f x.1)
+  other_side q q' w b f (inr x) = inr x
+
+  other_hand : (q : Point SchedulerAt) (w w' : Point WriterAt) (b : ℕ) → (WriterArms n w b → WriterArms n w' b) → Arms q w b
+      → Arms q w' b
+  other_hand q w w' b f (inl x) = inl x
+  other_hand q w w' b f (inr x) = inr (x.0, f x.1)
+
+  -- the scheduler
+  scheduled : (s : System) (x : SchedulerAt) (r : Reply) (w : Point WriterAt) → IsSchedulerAt deck initiators (At x)
+      → IsTrue (admitted c s scheduler (scheduler_asks n x).0 (scheduler_asks n x).1) → IsNotLost (scheduler_goes n initiators x r)
+      → ArmedThen s (At x) w → ArmedThen (moved s scheduler (scheduler_asks n x).0 (scheduler_asks n x).1)
+      (scheduler_goes n initiators x r) w
+  scheduled s (Waits a (Arming e todo)) r w st adm f armed b q =
+      subst (λ z. Arms z w b) (sym (found_armed (arming_from n initiators a todo) r f)) (go (cases_eq e b)) where
+        blocks : List ℕ
+        blocks = awaited_blocks n initiators a
+
+        rest : AreDistinct (e ∷ todo)
+        rest = distinct_rest st.1.0 (e ∷ todo) (subst (λ l. AreDistinct l) (sym st.1.1) (awaited_distinct deck initiators a sound st.0))
+
+        go : (e ≡ b) ⊎ (e ≡ b → ⊥) → Arms (arming_from n initiators a todo) w b
+        go (inl same) = inl (
+          ap (λ z. owner_of c z) (sym same) ∙ arm_owner c s scheduler e ecb_op.Arm refl adm,
+          arming_arms n initiators a todo b
+              (subst (λ l. In l b) st.1.1 (subst (λ z. In (st.1.0 ++ e ∷ todo) z) same (in_middle st.1.0 e todo)))
+              (λ i. not_in e todo rest.0 (subst (λ z. In todo z) (sym same) i)),
+        )
+        go (inr other) = other_side (At (Waits a (Arming e todo))) (arming_from n initiators a todo) w b
+            (λ u. arming_arms n initiators a todo b u.0 (λ i. u.1 (inr i)))
+            (armed b (else_waiting s e b _ other q))
+  scheduled s (Waits a (Settling e todo found)) r w st adm f armed b q =
+      let other : e ≡ b → ⊥ = settled_other s e b q in
+      other_side (At (Waits a (Settling e todo found))) (scheduler_goes n initiators (Waits a (Settling e todo found)) r) w b
+      (λ u. settle r f (left other u)) (armed b (else_waiting s e b _ other q)) where
+        left : (e ≡ b → ⊥) → In (e ∷ todo) b → In todo b
+        left d (inl same) = absurd (d same)
+        left d (inr i) = i
+
+        settle : (r : Reply) → IsNotLost (scheduler_goes n initiators (Waits a (Settling e todo found)) r) → In todo b
+            → SchedulerArms n initiators (scheduler_goes n initiators (Waits a (Settling e todo found)) r) b
+        settle (reply_of.Ecb (ecb_reply.Complete code)) f i = settling_arms n initiators a todo (found ++ Some code ∷ []) b i
+        settle (reply_of.Ecb ecb_reply.Open) f i = settling_arms n initiators a todo (found ++ None ∷ []) b i
+        settle r f i = absurd f
+  scheduled s (Extends j job jobs skipped) r w st adm f armed b q =
+      other_side (At (Extends j job jobs skipped)) (scheduler_goes n initiators (Extends j job jobs skipped) r) w b (λ u. absurd u)
+      (armed b (still_waiting s scheduler (Ecb (done n j)) (op_on.Ecb (ecb_op.Extend (j + 1))) b tt q))
+  scheduled s (Clears i g code after) r w st adm f armed b q =
+      other_side (At (Clears i g code after)) (scheduler_goes n initiators (Clears i g code after) r) w b (λ u. absurd u)
+      (armed b (still_waiting s scheduler (Ecb (idle n i)) (op_on.Ecb ecb_op.Clear) b tt q))
+  scheduled s (Releases i g code after) r w st adm f armed b q =
+      other_side (At (Releases i g code after)) (scheduler_goes n initiators (Releases i g code after) r) w b (λ u. absurd u)
+      (armed b q)
+
+  -- the writer
+  written : (s : System) (x : WriterAt) (r : Reply) (y : Point SchedulerAt) → IsWriterAt n (At x)
+      → IsTrue (admitted c s (writer initiators) (writer_asks x).0 (writer_asks x).1) → IsNotLost (writer_goes n x r)
+      → ArmedThen s y (At x) → ArmedThen (moved s (writer initiators) (writer_asks x).0 (writer_asks x).1) y (writer_goes n x r)
+  written s (Keeping j more ends (Arming e [])) r y st adm f armed b q =
+      subst (λ z. Arms y z b) (sym (found_armed (writer_arming n j more ends []) r f)) (go (cases_eq e b)) where
+        go : (e ≡ b) ⊎ (e ≡ b → ⊥) → Arms y (writer_arming n j more ends []) b
+        go (inl same) = inr (
+          ap (λ z. owner_of c z) (sym same) ∙ arm_owner c s (writer initiators) e ecb_op.Arm refl adm,
+          inl (sym st.1 ∙ same),
+        )
+        go (inr other) = other_hand y (At (Keeping j more ends (Arming e []))) (writer_arming n j more ends []) b (λ u. u.0)
+            (armed b (else_waiting s e b _ other q))
+  written s (Keeping j more ends (Arming e (d ∷ todo))) r y st adm f armed b q = absurd (cc st.2)
+  written s (Keeping j more ends (Settling e [] found)) r y st adm f armed b q =
+      let other : e ≡ b → ⊥ = settled_other s e b q in
+      other_hand y (At (Keeping j more ends (Settling e [] found))) (writer_goes n (Keeping j more ends (Settling e [] found)) r) b
+      (λ u. gone other u) (armed b (else_waiting s e b _ other q)) where
+        gone : (e ≡ b → ⊥) → In (e ∷ []) b → WriterArms n (writer_goes n (Keeping j more ends (Settling e [] found)) r) b
+        gone d (inl same) = absurd (d same)
+        gone d (inr i) = absurd i
+  written s (Keeping j more ends (Settling e (d ∷ todo) found)) r y st adm f armed b q = absurd (cc st.2)
+
+  abbrev ArmedBy : System → Points → Entry → Points → Type 0
+  ArmedBy s t e u = Stand deck initiators kept t → NoneLost initiators u → Armed c n initiators s t → Armed c n initiators (next s e) u
+
+  each_armed : Each c deck initiators ArmedBy
+  each_armed = record {
+    of_reader = λ s t x p r at nx st f w.
+        record { armed = λ b q. w.armed b (still_waiting s reader (reader_asks x).0 (reader_asks x).1 b (reader_plain x) q) };
+    of_scheduler = λ s t x p r at nx st f w.
+        record {
+          armed = scheduled s x r t.writer
+              (subst (λ z. IsSchedulerAt deck initiators z) at st.at_scheduler.0) nx.admits f.at_scheduler
+              (subst (λ z. ArmedThen s z t.writer) at w.armed);
+        };
+    of_initiator = λ s t i x p r lt at nx st f w.
+        record {
+          armed = λ b q. w.armed b
+              (still_waiting s (initiator i) (initiator_asks n i x).0 (initiator_asks n i x).1 b (no_arm n i x) q);
+        };
+    of_writer = λ s t x p r at nx st f w.
+        record {
+          armed = written s x r t.scheduler (subst (λ z. IsWriterAt n z) at st.at_writer) nx.admits f.at_writer
+              (subst (λ z. ArmedThen s t.scheduler z) at w.armed);
+        };
+  } where
+    reader_plain : (x : ReaderAt) → NoArm (reader_asks x).1
+    reader_plain (Entering j more) = tt
+
+  pub armed_next : (s : System) (t u : Points) (e : Entry) → IsNext c s e → Move deck initiators t e u → Stand deck initiators kept t
+      → NoneLost initiators u → Armed c n initiators s t → Armed c n initiators (next s e) u
+  armed_next s t u e nx m st f w = of_move c deck initiators ArmedBy each_armed s t u e nx m st f w
+
+pub armed_start : (c : Setup) (n initiators : ℕ) (t : Points) → Armed c n initiators (opening c) t
+armed_start c n initiators t = record { armed = λ b q. absurd (cc q) }

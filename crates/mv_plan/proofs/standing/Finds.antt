@@ -1,0 +1,225 @@
+-- What the scheduler has found at blocks stands in them until it clears them; so the block of an initiator that it chose still
+-- has the generation that was found. Used by the rows.
+use Rattle.std.proofs.Common.{◌≡◌, ℕ, zero, suc, ◌+◌, nat_le, true, false, cond, List, [], ◌∷◌, ◌++◌, length, map, Option, Some, None}
+use Rattle.std.proofs.Common.{inl, inr, refl, sym, ap, ◌∙◌, subst, arith}
+use Rattle.std.specs.List.{range_with_len}
+use Rattle.std.proofs.lemmas.Bool.{cases_eq}
+use Rattle.mv_ecb.specs.declared.operation.EcbOp.{EcbOp}
+use Rattle.mv_ecb.specs.declared.operation.EcbOp.TheVariants as ecb_op
+use Rattle.mv_ecb.specs.declared.operation.EcbReply.TheVariants as ecb_reply
+use Rattle.mv_ecb.specs.Table.{ecb_step}
+use Rattle.mv_ecb.specs.Word.{EcbState, Complete}
+use Rattle.mv_element.specs.declared.operation.ElementReply.TheVariants as element_reply
+use Rattle.mv_machine.specs.declared.entry.Object.{Object}
+use Rattle.mv_machine.specs.declared.entry.Object.TheVariants.{Ecb, Element, Volume, Latches}
+use Rattle.mv_machine.specs.declared.entry.Op.{Op}
+use Rattle.mv_machine.specs.declared.entry.Op.TheVariants as op_on
+use Rattle.mv_machine.specs.declared.entry.Reply.{Reply}
+use Rattle.mv_machine.specs.declared.entry.Reply.TheVariants as reply_of
+use Rattle.mv_machine.specs.System.{System, Cell, moved, reply_to, with_at, turned}
+use Rattle.mv_deck.specs.Deck.{JobData}
+use Rattle.mv_deck.specs.declared.deck.After.{After}
+use Rattle.mv_deck.specs.declared.deck.Step.{Step}
+use Rattle.mv_plan.specs.SpoolSetup.{scheduler, idle}
+use Rattle.mv_plan.specs.SpoolTasks.{code_of}
+use Rattle.mv_machine.specs.calls.Waits.{complete_count}
+use Rattle.mv_plan.proofs.points.PostsAndWaits.{on_armed_keeps}
+use Rattle.mv_plan.proofs.points.Points.{Point, At, Finished, TooSoon, Astray, Stage, Dispatching, Dismissing, Awaited, ForEntry, ForEnds}
+use Rattle.mv_plan.proofs.points.Points.{ForIdle, ToDismiss, WaitAt, Arming, Settling, SchedulerAt, Waits, Extends, Clears, Releases}
+use Rattle.mv_plan.proofs.points.Points.{awaited_blocks, awaited_count, scheduler_asks, scheduler_goes, on_settled, arming_first}
+use Rattle.mv_plan.proofs.points.Points.{arming_from, settling_from, found_at, ends_at, dismissing_from, stage_at, lowest_at}
+use Rattle.mv_plan.proofs.points.SchedulerSound.{IsWaitAt}
+use Rattle.mv_plan.proofs.lists.Tables.{with_at-same, with_at-other}
+use Rattle.mv_plan.proofs.points.Asks.{NoClear}
+
+abbrev pub Blocks : Type 0
+Blocks = ℕ → Cell EcbState
+
+-- a code that was found at a block stands in it
+abbrev pub SlotIs : EcbState → Option ℕ → Type 0
+SlotIs v None = Unit {0}
+SlotIs v (Some code) = v ≡ Complete code
+
+-- what was found at the first of these blocks, in their order
+abbrev pub Slots : Blocks → List ℕ → List (Option ℕ) → Type 0
+Slots f bs [] = Unit {0}
+Slots f [] (slot ∷ found) = ⊥
+Slots f (b ∷ bs) (slot ∷ found) = SlotIs (f b).state slot × Slots f bs found
+
+-- what the scheduler has found in its wait, and the generation of the initiator that it is to hand a code, stand in their blocks
+abbrev pub Finds : ℕ → ℕ → Blocks → Point SchedulerAt → Type 0
+Finds n initiators f (At (Waits a (Settling e todo found))) = Slots f (awaited_blocks n initiators a) found
+Finds n initiators f (At (Clears i g code after)) = (f (idle n i)).state ≡ Complete g
+Finds n initiators f p = Unit {0}
+
+-- ---- complete blocks stay
+
+complete_kept : (op : EcbOp) (v : EcbState) (code : ℕ) → (op ≡ ecb_op.Clear → ⊥) → v ≡ Complete code → (ecb_step op v).0 ≡ Complete code
+complete_kept ecb_op.Arm v code d e = rw e refl
+complete_kept (ecb_op.Extend x) v code d e = rw e refl
+complete_kept ecb_op.Settle v code d e = rw e refl
+complete_kept ecb_op.Clear v code d e = absurd (d refl)
+complete_kept (ecb_op.Post x) v code d e = rw e refl
+complete_kept ecb_op.Test v code d e = e
+
+-- blocks that are complete in the first are so in the second, with the same codes
+abbrev pub Stay : Blocks → Blocks → Type 0
+Stay f g = (b code : ℕ) → (f b).state ≡ Complete code → (g b).state ≡ Complete code
+
+not_clear : (op : EcbOp) → NoClear (op_on.Ecb op) → op ≡ ecb_op.Clear → ⊥
+not_clear ecb_op.Arm w e = cc e
+not_clear (ecb_op.Extend x) w e = cc e
+not_clear ecb_op.Settle w e = cc e
+not_clear ecb_op.Clear w e = w
+not_clear (ecb_op.Post x) w e = cc e
+not_clear ecb_op.Test w e = cc e
+
+pub stay_moved : (s : System) (k : ℕ) (o : Object) (op : Op) → NoClear op → Stay s.ecb (moved s k o op).ecb
+stay_moved s k (Ecb m) (op_on.Ecb op) w b code e =
+    elim (cases_eq m b) [
+      | inl same ↦ subst (λ z. (with_at s.ecb m (turned (s.ecb m) (ecb_step op (s.ecb m).state).0) z).state ≡ Complete code) same
+          (ap (λ z. z.state) (with_at-same s.ecb m (turned (s.ecb m) (ecb_step op (s.ecb m).state).0))
+          ∙ complete_kept op (s.ecb m).state code (not_clear op w) (ap (λ z. (s.ecb z).state) same ∙ e))
+      | inr other ↦ ap (λ z. z.state) (with_at-other s.ecb m b (turned (s.ecb m) (ecb_step op (s.ecb m).state).0) other) ∙ e
+    ]
+stay_moved s k (Element m) (op_on.Element op) w b code e = e
+stay_moved s k (Volume m) (op_on.Volume op) w b code e = e
+stay_moved s k Latches (op_on.Latch op) w b code e = e
+stay_moved s k o op w b code e = e
+
+slot_kept : (f g : Blocks) (b : ℕ) (slot : Option ℕ) → Stay f g → SlotIs (f b).state slot → SlotIs (g b).state slot
+slot_kept f g b None stay w = tt
+slot_kept f g b (Some code) stay w = stay b code w
+
+pub slots_kept : (f g : Blocks) (bs : List ℕ) (found : List (Option ℕ)) → Stay f g → Slots f bs found → Slots g bs found
+slots_kept f g bs [] stay w = tt
+slots_kept f g [] (slot ∷ found) stay w = w
+slots_kept f g (b ∷ bs) (slot ∷ found) stay w = (slot_kept f g b slot stay w.0, slots_kept f g bs found stay w.1)
+
+pub finds_kept : (n initiators : ℕ) (f g : Blocks) (p : Point SchedulerAt) → Stay f g → Finds n initiators f p → Finds n initiators g p
+finds_kept n initiators f g (At (Waits a (Arming e todo))) stay w = tt
+finds_kept n initiators f g (At (Waits a (Settling e todo found))) stay w = slots_kept f g (awaited_blocks n initiators a) found stay w
+finds_kept n initiators f g (At (Extends j job jobs skipped)) stay w = tt
+finds_kept n initiators f g (At (Clears i gen code after)) stay w = stay (idle n i) gen w
+finds_kept n initiators f g (At (Releases i gen code after)) stay w = tt
+finds_kept n initiators f g (Finished answer) stay w = tt
+finds_kept n initiators f g TooSoon stay w = tt
+finds_kept n initiators f g Astray stay w = tt
+
+-- ---- one block more was settled
+
+slots_push : (f : Blocks) (past todo : List ℕ) (e : ℕ) (found : List (Option ℕ)) (slot : Option ℕ) → length past ≡ length found
+    → Slots f (past ++ e ∷ todo) found → SlotIs (f e).state slot → Slots f (past ++ e ∷ todo) (found ++ slot ∷ [])
+slots_push f [] todo e [] slot l w x = (x, tt)
+slots_push f [] todo e (y ∷ found) slot l w x = absurd (cc l)
+slots_push f (b ∷ past) todo e [] slot l w x = absurd (cc l)
+slots_push f (b ∷ past) todo e (y ∷ found) slot l w x = (w.0, slots_push f past todo e found slot (omega arith) w.1 x)
+
+-- ---- the points that follow a wait
+
+module _ (n initiators : ℕ) (f : Blocks) where
+  abbrev Here : Point SchedulerAt → Type 0
+  Here p = Finds n initiators f p
+
+  lowest_plain : (p : Point SchedulerAt) (k : ℕ) (found : List (Option ℕ)) → Here p → Here (lowest_at (λ i code. p) k found)
+  lowest_plain p k [] w = tt
+  lowest_plain p k (Some code ∷ found) w = w
+  lowest_plain p k (None ∷ found) w = lowest_plain p (k + 1) found w
+
+  lowest_idle : (code : ℕ) (after : Stage) (k m : ℕ) (found : List (Option ℕ)) → Slots f (map (idle n) (range_with_len k m)) found
+      → Here (lowest_at (λ i g. At (Clears i g code after)) k found)
+  lowest_idle code after k m [] w = tt
+  lowest_idle code after k zero (slot ∷ found) w = absurd w
+  lowest_idle code after k (suc m) (Some g ∷ found) w = w.0
+  lowest_idle code after k (suc m) (None ∷ found) w = lowest_idle code after (k + 1) m found w.1
+
+  lowest_one : (code : ℕ) (after : Stage) (i k : ℕ) (found : List (Option ℕ)) → Slots f (idle n i ∷ []) found
+      → Here (lowest_at (λ p g. At (Clears i g code after)) k found)
+  lowest_one code after i k [] w = tt
+  lowest_one code after i k (Some g ∷ found) w = w.0
+  lowest_one code after i k (None ∷ []) w = tt
+  lowest_one code after i k (None ∷ (slot ∷ found)) w = absurd w.1
+
+  ends_here : (j : ℕ) (name : List ℕ) (after : List After) (steps : List Step) (jobs : List JobData)
+      → Here (ends_at n j (record { name = name; after = after; steps = steps }) jobs)
+  ends_here j name [] steps jobs = tt
+  ends_here j name (part ∷ parts) steps jobs = tt
+
+  found_here : (a : Awaited) (found : List (Option ℕ)) → Slots f (awaited_blocks n initiators a) found → Here (found_at n a found)
+  found_here (ForEntry j job jobs) found w = lowest_plain (ends_at n j job jobs) 0 found (ends_here j job.name job.after job.steps jobs)
+  found_here (ForEnds j job jobs) found w = tt
+  found_here (ForIdle j job jobs skipped) found w = lowest_idle (code_of j skipped) (Dispatching (j + 1) jobs) 0 initiators found w
+  found_here (ToDismiss i more) found w = lowest_one 0 (Dismissing (i + 1) more) i 0 found w
+
+  settling_here : (a : Awaited) (es : List ℕ) (found : List (Option ℕ)) → Slots f (awaited_blocks n initiators a) found
+      → Here (settling_from n a es found)
+  settling_here a [] found w = elim (nat_le (awaited_count a) (complete_count found)) as
+      (λ b. Here (cond b (found_at n a found) TooSoon)) [
+        | true ↦ found_here a found w
+        | false ↦ tt
+      ]
+  settling_here a (e ∷ es) found w = w
+
+  arming_here : (a : Awaited) (es : List ℕ) → Here (arming_from n initiators a es)
+  arming_here a [] = settling_here a (awaited_blocks n initiators a) [] tt
+  arming_here a (e ∷ es) = tt
+
+  first_here : (a : Awaited) (es : List ℕ) → Here (arming_first a es)
+  first_here a [] = tt
+  first_here a (e ∷ es) = tt
+
+  dismissing_here : (i more : ℕ) → Here (dismissing_from n i more)
+  dismissing_here i zero = tt
+  dismissing_here i (suc more) = tt
+
+  pub stage_here : (after : Stage) → Here (stage_at n initiators after)
+  stage_here (Dispatching j []) = dismissing_here 0 initiators
+  stage_here (Dispatching j (job ∷ jobs)) = tt
+  stage_here (Dismissing i more) = dismissing_here i more
+
+settled_is : (v : EcbState) (code : ℕ) → (ecb_step ecb_op.Settle v).1 ≡ ecb_reply.Complete code
+    → (ecb_step ecb_op.Settle v).0 ≡ Complete code
+settled_is v code e = grind arith
+
+-- ---- the scheduler's own event
+module _ (n initiators : ℕ) (s : System) where
+  abbrev then_s : SchedulerAt → System
+  then_s x = moved s scheduler (scheduler_asks n x).0 (scheduler_asks n x).1
+
+  settled_slot : (e : ℕ) (r : Reply) (f : Option ℕ → Point SchedulerAt) (P : Point SchedulerAt → Type 0)
+      → r ≡ reply_of.Ecb (ecb_step ecb_op.Settle (s.ecb e).state).1
+      → ((slot : Option ℕ) → SlotIs (with_at s.ecb e (turned (s.ecb e) (ecb_step ecb_op.Settle (s.ecb e).state).0) e).state slot
+      → P (f slot)) → P Astray → P (on_settled f r)
+  settled_slot e (reply_of.Ecb (ecb_reply.Complete code)) f P q each a =
+      each (Some code) (ap (λ z. z.state) (with_at-same s.ecb e _) ∙ settled_is (s.ecb e).state code (sym (cc q)))
+  settled_slot e (reply_of.Ecb ecb_reply.Open) f P q each a = each None tt
+  settled_slot e r f P q each a = a
+
+  pub finds_next : (x : SchedulerAt) (r : Reply)
+      → ((a : Awaited) (w : WaitAt) → x ≡ Waits a w → IsWaitAt (awaited_blocks n initiators a) w)
+      → Some r ≡ reply_to s scheduler (scheduler_asks n x).0 (scheduler_asks n x).1
+      → Finds n initiators s.ecb (At x) → Finds n initiators (then_s x).ecb (scheduler_goes n initiators x r)
+  finds_next (Waits a (Arming e todo)) r sound q w =
+      on_armed_keeps (λ p. Finds n initiators (then_s (Waits a (Arming e todo))).ecb p) (arming_from n initiators a todo) r
+      (arming_here n initiators (then_s (Waits a (Arming e todo))).ecb a todo) tt
+  finds_next (Waits a (Settling e todo found)) r sound q w =
+      let l : IsWaitAt (awaited_blocks n initiators a) (Settling e todo found) = sound a (Settling e todo found) refl in
+      settled_slot e r (λ slot. settling_from n a todo (found ++ slot ∷ []))
+      (λ p. Finds n initiators (then_s (Waits a (Settling e todo found))).ecb p) (cc q)
+      (λ slot is. settling_here n initiators (then_s (Waits a (Settling e todo found))).ecb a todo (found ++ slot ∷ [])
+      (subst (λ bs. Slots (then_s (Waits a (Settling e todo found))).ecb bs (found ++ slot ∷ [])) l.1
+      (slots_push (then_s (Waits a (Settling e todo found))).ecb l.0 todo e found slot l.2
+      (subst (λ bs. Slots (then_s (Waits a (Settling e todo found))).ecb bs found) (sym l.1)
+      (slots_kept s.ecb (then_s (Waits a (Settling e todo found))).ecb (awaited_blocks n initiators a) found
+      (stay_moved s scheduler (Ecb e) (op_on.Ecb ecb_op.Settle) tt) w)) is))) tt
+  finds_next (Extends j job jobs skipped) (reply_of.Ecb ecb_reply.Armed) sound q w =
+      first_here n initiators (then_s (Extends j job jobs skipped)).ecb (ForIdle j job jobs skipped)
+      (awaited_blocks n initiators (ForIdle j job jobs skipped))
+  finds_next (Extends j job jobs skipped) r sound q w = tt
+  finds_next (Clears i g code after) (reply_of.Ecb (ecb_reply.Word z)) sound q w = tt
+  finds_next (Clears i g code after) r sound q w = tt
+  finds_next (Releases i g code after) (reply_of.Element element_reply.Early) sound q w =
+      stage_here n initiators (then_s (Releases i g code after)).ecb after
+  finds_next (Releases i g code after) (reply_of.Element element_reply.Woke) sound q w =
+      stage_here n initiators (then_s (Releases i g code after)).ecb after
+  finds_next (Releases i g code after) r sound q w = tt

@@ -1,0 +1,283 @@
+-- How an initiator, its block, its element and what the scheduler has of it fit together. An idle block's code is the
+-- generation with which its initiator goes on to pause; the scheduler releases only what it has cleared; and the element's
+-- generation is the point's. Used by all that looks at elements.
+use Rattle.std.proofs.Common.{◌≡◌, ℕ, zero, suc, ◌+◌, ◌==◌, true, false, if◌then◌else◌, List, [], ◌∷◌, ◌++◌, length, Option, Some, None}
+use Rattle.std.proofs.Common.{inl, inr, refl, sym, ap, ◌∙◌, arith}
+use Rattle.std.specs.List.{list_any}
+use Rattle.std.proofs.lemmas.Bool.{eq-eqb}
+use Rattle.mv_ecb.specs.declared.operation.EcbOp.TheVariants as ecb_op
+use Rattle.mv_ecb.specs.Table.{ecb_step}
+use Rattle.mv_ecb.specs.Word.{EcbState, Complete}
+use Rattle.mv_element.specs.declared.operation.ElementOp.TheVariants as element_op
+use Rattle.mv_element.specs.declared.element.ElementState.{ElementState}
+use Rattle.mv_element.specs.declared.element.Phase.TheVariants as phase
+use Rattle.mv_element.specs.Element.{free, reset, prereleased, paused, released}
+use Rattle.mv_element.specs.Table.{element_step}
+use Rattle.mv_machine.specs.declared.entry.Reply.{Reply}
+use Rattle.mv_machine.specs.declared.entry.Reply.TheVariants as reply_of
+use Rattle.mv_machine.specs.System.{System, moved, reply_to, with_at, turned}
+use Rattle.mv_deck.specs.Deck.{JobData}
+use Rattle.mv_plan.specs.Jobs.{job_at}
+use Rattle.mv_plan.specs.SpoolSetup.{initiator, idle}
+use Rattle.mv_plan.specs.SpoolTasks.{Named, job_named}
+use Rattle.mv_plan.proofs.points.InitiatorSound.{IsInitiatorAt}
+use Rattle.mv_plan.proofs.points.PostsAndWaits.{on_posted_keeps}
+use Rattle.mv_plan.proofs.points.Points.{Point, At, Finished, TooSoon, Astray, SchedulerAt, Releases, Running, InitiatorAt, Opening}
+use Rattle.mv_plan.proofs.points.Points.{Offering, Pausing, Resuming, Obtaining, Confirming, Freeing, Reading, Writing, Scanning}
+use Rattle.mv_plan.proofs.points.Points.{Rescanning, Purging, EndingJob, EndingForScheduler, EndingForWriter, Closing, initiator_asks}
+use Rattle.mv_plan.proofs.points.Points.{initiator_goes, turns_from, given_at, named_at, job_start, running, on_opened, on_paused}
+use Rattle.mv_plan.proofs.points.Points.{on_resumed, on_closed}
+use Rattle.mv_plan.proofs.points.RunningJob.{RunsOn, start_run, GoesOn, same, done, lost, run_goes, run_asks, run_sound}
+use Rattle.mv_plan.proofs.walks.NoneLost.{SameTalk, same_talk}
+use Rattle.mv_plan.proofs.lists.Tables.{with_at-same, with_at-other}
+use Rattle.mv_plan.proofs.points.Views.{run_of, IsNotLost}
+
+-- where an initiator stands, as far as its block and its element go
+pub data Stance : Type 0 where
+  Starts : Stance
+  Works : (g : ℕ) → Stance
+  -- it has posted its block, or goes on from there: it is to pause, or pauses
+  Offers : (g : ℕ) → Stance
+  Parks : (g : ℕ) → Stance
+  Ends : Stance
+  Loses : Stance
+
+abbrev pub stance_in : Option Running → Stance
+stance_in None = Loses
+stance_in (Some run) = Works run.generation
+
+abbrev pub stance : Point InitiatorAt → Stance
+stance (At Opening) = Starts
+stance (At (Offering more before g)) = Works g
+stance (At (Pausing more before g)) = Offers g
+stance (At (Resuming more before g)) = Parks g
+stance (At (Closing g)) = Works g
+stance (Finished answer) = Ends
+stance p = stance_in (run_of p)
+
+-- the code of a block that is complete
+abbrev pub code_in : EcbState → Option ℕ
+code_in (Complete code) = Some code
+code_in v = None
+
+-- An initiator that is to pause with generation g: its block still says so; or the scheduler has cleared that and holds the
+-- generation; or a code is in its element.
+pub data Offer (g : ℕ) (bare : ElementState) (full : ℕ → ElementState) (offer hold : Option ℕ) (x : ElementState) : Type 0 where
+  offered : offer ≡ Some g → hold ≡ None → x ≡ bare → Offer g bare full offer hold x
+  taken : offer ≡ None → hold ≡ Some g → x ≡ bare → Offer g bare full offer hold x
+  handed : (code : ℕ) → offer ≡ None → hold ≡ None → x ≡ full code → Offer g bare full offer hold x
+
+-- by its block's code, the generation that the scheduler holds of it, and its element
+abbrev pub Row : Stance → Option ℕ → Option ℕ → ElementState → Type 0
+Row Starts offer hold x = (offer ≡ None) × (hold ≡ None) × (x ≡ free 0)
+Row (Works g) offer hold x = (offer ≡ None) × (hold ≡ None) × (x ≡ reset g)
+Row (Offers g) offer hold x = Offer g (reset g) (λ code. prereleased g code) offer hold x
+Row (Parks g) offer hold x = Offer g (paused g) (λ code. released g code) offer hold x
+Row Ends offer hold x = (offer ≡ None) × (hold ≡ None) × (x.phase ≡ phase.Free)
+Row Loses offer hold x = Unit {0}
+
+-- the generation that the scheduler holds of initiator i: it has cleared its block and is to release it
+abbrev pub hold_for : ℕ → Point SchedulerAt → Option ℕ
+hold_for i (At (Releases m g code after)) = if m == i then Some g else None
+hold_for i p = None
+
+abbrev pub offer_of : ℕ → System → ℕ → Option ℕ
+offer_of n s i = code_in (s.ecb (idle n i)).state
+
+abbrev pub element_of : System → ℕ → ElementState
+element_of s i = (s.element (initiator i)).state
+
+abbrev pub RowAt : ℕ → System → Point SchedulerAt → ℕ → Point InitiatorAt → Type 0
+RowAt n s q i p = Row (stance p) (offer_of n s i) (hold_for i q) (element_of s i)
+
+-- ---- an initiator's own event
+
+stance_run : (p : Point InitiatorAt) (run : Running) → run_of p ≡ Some run → stance p ≡ Works run.generation
+stance_run (At Opening) run e = absurd (cc e)
+stance_run (At (Offering more before g)) run e = absurd (cc e)
+stance_run (At (Pausing more before g)) run e = absurd (cc e)
+stance_run (At (Resuming more before g)) run e = absurd (cc e)
+stance_run (At (Obtaining run' hand latch mode steps)) run e = ap (λ z. stance_in z) e
+stance_run (At (Confirming run' hand latch mode id steps)) run e = ap (λ z. stance_in z) e
+stance_run (At (Freeing run' hand latch id steps)) run e = ap (λ z. stance_in z) e
+stance_run (At (Reading run' hand volume amount steps)) run e = ap (λ z. stance_in z) e
+stance_run (At (Writing run' hand volume amount number steps)) run e = ap (λ z. stance_in z) e
+stance_run (At (Scanning run' hand volume steps)) run e = ap (λ z. stance_in z) e
+stance_run (At (Rescanning run' hand volume number steps)) run e = ap (λ z. stance_in z) e
+stance_run (At (Purging run' hand code)) run e = ap (λ z. stance_in z) e
+stance_run (At (EndingJob run' code counts)) run e = ap (λ z. stance_in z) e
+stance_run (At (EndingForScheduler run' code counts)) run e = ap (λ z. stance_in z) e
+stance_run (At (EndingForWriter run' code counts)) run e = ap (λ z. stance_in z) e
+stance_run (At (Closing g)) run e = absurd (cc e)
+stance_run (Finished answer) run e = absurd (cc e)
+stance_run TooSoon run e = absurd (cc e)
+stance_run Astray run e = absurd (cc e)
+
+stance_lost : (p : Point InitiatorAt) → (IsNotLost p → ⊥) → stance p ≡ Loses
+stance_lost (At x) f = absurd (f tt)
+stance_lost (Finished answer) f = absurd (f tt)
+stance_lost TooSoon f = refl
+stance_lost Astray f = refl
+
+pub row_at : (st st' : Stance) (o o' h h' : Option ℕ) (x x' : ElementState) → st' ≡ st → o' ≡ o → h' ≡ h → x' ≡ x → Row st o h x
+    → Row st' o' h' x'
+row_at st st' o o' h h' x x' a b d e r = rw (a, b, d, e) r
+
+row_lost : (st : Stance) (o h : Option ℕ) (x : ElementState) → st ≡ Loses → Row st o h x
+row_lost st o h x e = rw e tt
+
+module _ (o h : Option ℕ) where
+  turns_row : (m : ℕ) (before : List ℕ) (g : ℕ) (x : ElementState) → Row (Works g) o h x → Row (stance (turns_from m before g)) o h x
+  turns_row zero before g x r = tt
+  turns_row (suc m) before g x r = r
+
+  run_row : (p : Point InitiatorAt) (run : Running) (x : ElementState) → RunsOn run p → Row (Works run.generation) o h x
+      → Row (stance p) o h x
+  run_row p run x (inl e) r = row_at _ _ o o h h x x (stance_run p run e) refl refl refl r
+  run_row p run x (inr e) r = row_lost (stance p) o h x (stance_lost p e)
+
+  goes_row : (p : Point InitiatorAt) (run : Running) (x : ElementState) → GoesOn run p → Row (Works run.generation) o h x
+      → Row (stance p) o h x
+  goes_row p run x (same e) r = run_row p run x (inl e) r
+  goes_row p run x (lost e) r = run_row p run x (inr e) r
+  goes_row p run x (done e) r = row_at _ _ o o h h x x (ap (λ z. stance z) e) refl refl refl
+      (turns_row run.more (run.before ++ run.job ∷ []) run.generation x r)
+
+  named_row : (deck : List JobData) (slot : Option Named) (more : ℕ) (before : List ℕ) (g : ℕ) (x : ElementState) → Row (Works g) o h x
+      → Row (stance (named_at deck slot before more g)) o h x
+  named_row deck None more before g x r = tt
+  named_row deck (Some named) zero before g x r = tt
+  named_row deck (Some named) (suc more) before g x r =
+      elim (list_any (λ j. j == named.job) before) as
+      (λ b. Row (stance (if b then Astray else job_start named.skipped (running named before (suc more) g)
+      (job_at deck named.job))) o h x) [
+        | true ↦ tt
+        | false ↦ run_row _ (running named before (suc more) g) x
+            (start_run named.skipped (running named before (suc more) g) (job_at deck named.job)) r
+      ]
+
+  given_row : (deck : List JobData) (more : ℕ) (before : List ℕ) (code g : ℕ) (x : ElementState) → Row (Works g) o h x
+      → Row (stance (given_at deck more before code g)) o h x
+  given_row deck more before code g x r =
+      elim (code == 0) as (λ b. Row (stance
+      (if b then At (Closing g) else named_at deck (job_named (length deck) code) before more g)) o h x) [
+        | true ↦ r
+        | false ↦ named_row deck (job_named (length deck) code) more before g x r
+      ]
+
+  -- the element's events, by its state
+  opened_row : (n : ℕ) (y : ElementState) (r : Reply) → r ≡ reply_of.Element (element_step element_op.Open y).1 → Row Starts o h y
+      → Row (stance (on_opened r n)) o h (element_step element_op.Open y).0
+  opened_row n y r e w = rw (e, w.2) (turns_row (n + 1) [] 0 (reset 0) (w.0, w.1, refl))
+
+  same_number : (g : ℕ) → (g == g) ≡ true
+  same_number g = eq-eqb g g refl
+
+  paused_row : (deck : List JobData) (more : ℕ) (before : List ℕ) (g : ℕ) (y : ElementState) (r : Reply)
+      → r ≡ reply_of.Element (element_step (element_op.Pause g) y).1 → Row (Offers g) o h y
+      → Row (stance (on_paused deck more before g r)) o h (element_step (element_op.Pause g) y).0
+  paused_row deck more before g y r e (offered a b q) = rw (e, q, same_number g) (offered a b refl)
+  paused_row deck more before g y r e (taken a b q) = rw (e, q, same_number g) (taken a b refl)
+  paused_row deck more before g y r e (handed code a b q) =
+      rw (e, q, same_number g) (given_row deck more before code (g + 1) (reset (g + 1)) (a, b, refl))
+
+  resumed_row : (deck : List JobData) (more : ℕ) (before : List ℕ) (g : ℕ) (y : ElementState) (r : Reply)
+      → r ≡ reply_of.Element (element_step (element_op.Resume g) y).1 → Row (Parks g) o h y
+      → Row (stance (on_resumed deck more before r)) o h (element_step (element_op.Resume g) y).0
+  resumed_row deck more before g y r e (offered a b q) = rw (e, q, same_number g) tt
+  resumed_row deck more before g y r e (taken a b q) = rw (e, q, same_number g) tt
+  resumed_row deck more before g y r e (handed code a b q) =
+      rw (e, q, same_number g) (given_row deck more before code (g + 1) (reset (g + 1)) (a, b, refl))
+
+  closed_row : (g : ℕ) (y : ElementState) (r : Reply) → r ≡ reply_of.Element (element_step (element_op.Close g) y).1
+      → Row (Works g) o h y
+      → Row (stance (on_closed r)) o h (element_step (element_op.Close g) y).0
+  closed_row g y r e w = rw (e, w.2, same_number g) (w.0, w.1, refl)
+
+post_code : (g : ℕ) (v : EcbState) → code_in v ≡ None → code_in (ecb_step (ecb_op.Post g) v).0 ≡ Some g
+post_code g v e = grind arith
+
+module _ (deck : List JobData) (s : System) (q : Point SchedulerAt) (i : ℕ) where
+  abbrev n : ℕ
+  n = length deck
+
+  abbrev then_s : InitiatorAt → System
+  then_s x = moved s (initiator i) (initiator_asks n i x).0 (initiator_asks n i x).1
+
+  abbrev Answered : InitiatorAt → Reply → Type 0
+  Answered x r = Some r ≡ reply_to s (initiator i) (initiator_asks n i x).0 (initiator_asks n i x).1
+
+  -- its own event keeps its row
+  on_element : (p : Point InitiatorAt) (o : Option ℕ) (h : Option ℕ) (y : ElementState) → Row (stance p) o h y
+      → Row (stance p) o h (with_at s.element (initiator i) (turned (s.element (initiator i)) y) (initiator i)).state
+  on_element p o h y w = row_at _ _ o o h h y _ refl refl refl
+      (ap (λ z. z.state) (with_at-same s.element (initiator i) (turned (s.element (initiator i)) y))) w
+
+  runs_row : (x : InitiatorAt) (r : Reply) (run : Running) → run_of (At x) ≡ Some run → IsInitiatorAt deck (At x) → RowAt n s q i (At x)
+      → RowAt n (then_s x) q i (initiator_goes deck x r)
+  runs_row x r run e sound w =
+      let same : SameTalk n s (then_s x) =
+      same_talk n s (initiator i) (initiator_asks n i x).0 (initiator_asks n i x).1
+      (run_asks n i x run e (run_sound deck x run e sound).job) in
+      row_at _ _ (offer_of n s i) _ (hold_for i q) _ (element_of s i) _ refl (ap (λ z. code_in z.state) (same.idles i)) refl
+      (ap (λ z. z.state) (same.elements (initiator i)))
+      (goes_row _ _ (initiator_goes deck x r) run (element_of s i) (run_goes deck x r run e)
+      (row_at _ _ _ _ _ _ _ _ (sym (stance_run (At x) run e)) refl refl refl w))
+
+  pub own_row : (x : InitiatorAt) (r : Reply) → IsInitiatorAt deck (At x) → Answered x r → RowAt n s q i (At x)
+      → RowAt n (then_s x) q i (initiator_goes deck x r)
+  own_row Opening r sound a w = on_element (initiator_goes deck Opening r) _ _ _ (opened_row _ _ n (element_of s i) r (cc a) w)
+  own_row (Offering more before g) r sound a w =
+      on_posted_keeps (λ p. RowAt n (then_s (Offering more before g)) q i p) (At (Pausing more before g)) r
+      (offered (ap (λ z. code_in z.state) (with_at-same s.ecb (idle n i) _) ∙ post_code g (s.ecb (idle n i)).state w.0) w.1 w.2) tt
+  own_row (Pausing more before g) r sound a w =
+      on_element (initiator_goes deck (Pausing more before g) r) _ _ _ (paused_row _ _ deck more before g (element_of s i) r (cc a) w)
+  own_row (Resuming more before g) r sound a w =
+      on_element (initiator_goes deck (Resuming more before g) r) _ _ _ (resumed_row _ _ deck more before g (element_of s i) r (cc a) w)
+  own_row (Obtaining run hand latch mode steps) r sound a w = runs_row (Obtaining run hand latch mode steps) r run refl sound w
+  own_row (Confirming run hand latch mode id steps) r sound a w = runs_row (Confirming run hand latch mode id steps) r run refl sound w
+  own_row (Freeing run hand latch id steps) r sound a w = runs_row (Freeing run hand latch id steps) r run refl sound w
+  own_row (Reading run hand volume amount steps) r sound a w = runs_row (Reading run hand volume amount steps) r run refl sound w
+  own_row (Writing run hand volume amount number steps) r sound a w =
+      runs_row (Writing run hand volume amount number steps) r run refl sound w
+  own_row (Scanning run hand volume steps) r sound a w = runs_row (Scanning run hand volume steps) r run refl sound w
+  own_row (Rescanning run hand volume number steps) r sound a w = runs_row (Rescanning run hand volume number steps) r run refl sound w
+  own_row (Purging run hand code) r sound a w = runs_row (Purging run hand code) r run refl sound w
+  own_row (EndingJob run code counts) r sound a w = runs_row (EndingJob run code counts) r run refl sound w
+  own_row (EndingForScheduler run code counts) r sound a w = runs_row (EndingForScheduler run code counts) r run refl sound w
+  own_row (EndingForWriter run code counts) r sound a w = runs_row (EndingForWriter run code counts) r run refl sound w
+  own_row (Closing g) r sound a w = on_element (initiator_goes deck (Closing g) r) _ _ _ (closed_row _ _ g (element_of s i) r (cc a) w)
+
+  -- and the others' blocks and elements
+  pub record Apart (z : System) : Type 0 where
+    pub elements : (m : ℕ) → (m ≡ initiator i → ⊥) → z.element m ≡ s.element m
+    pub idles : (m : ℕ) → (m ≡ i → ⊥) → z.ecb (idle n m) ≡ s.ecb (idle n m)
+
+  apart_same : (z : System) → SameTalk n s z → Apart z
+  apart_same z t = record { elements = λ m d. t.elements m; idles = λ m d. t.idles m }
+
+  apart_run : (x : InitiatorAt) (run : Running) → run_of (At x) ≡ Some run → IsInitiatorAt deck (At x) → Apart (then_s x)
+  apart_run x run e sound = apart_same (then_s x)
+      (same_talk n s (initiator i) (initiator_asks n i x).0 (initiator_asks n i x).1
+      (run_asks n i x run e (run_sound deck x run e sound).job))
+
+  pub apart : (x : InitiatorAt) → IsInitiatorAt deck (At x) → Apart (then_s x)
+  apart Opening sound = record { elements = λ m d. with_at-other s.element (initiator i) m _ (λ z. d (sym z)); idles = λ m d. refl }
+  apart (Offering more before g) sound =
+      record { elements = λ m d. refl; idles = λ m d. with_at-other s.ecb (idle n i) (idle n m) _ (λ z. d (omega arith)) }
+  apart (Pausing more before g) sound =
+      record { elements = λ m d. with_at-other s.element (initiator i) m _ (λ z. d (sym z)); idles = λ m d. refl }
+  apart (Resuming more before g) sound =
+      record { elements = λ m d. with_at-other s.element (initiator i) m _ (λ z. d (sym z)); idles = λ m d. refl }
+  apart (Obtaining run hand latch mode steps) sound = apart_run (Obtaining run hand latch mode steps) run refl sound
+  apart (Confirming run hand latch mode id steps) sound = apart_run (Confirming run hand latch mode id steps) run refl sound
+  apart (Freeing run hand latch id steps) sound = apart_run (Freeing run hand latch id steps) run refl sound
+  apart (Reading run hand volume amount steps) sound = apart_run (Reading run hand volume amount steps) run refl sound
+  apart (Writing run hand volume amount number steps) sound = apart_run (Writing run hand volume amount number steps) run refl sound
+  apart (Scanning run hand volume steps) sound = apart_run (Scanning run hand volume steps) run refl sound
+  apart (Rescanning run hand volume number steps) sound = apart_run (Rescanning run hand volume number steps) run refl sound
+  apart (Purging run hand code) sound = apart_run (Purging run hand code) run refl sound
+  apart (EndingJob run code counts) sound = apart_run (EndingJob run code counts) run refl sound
+  apart (EndingForScheduler run code counts) sound = apart_run (EndingForScheduler run code counts) run refl sound
+  apart (EndingForWriter run code counts) sound = apart_run (EndingForWriter run code counts) run refl sound
+  apart (Closing g) sound = record { elements = λ m d. with_at-other s.element (initiator i) m _ (λ z. d (sym z)); idles = λ m d. refl }

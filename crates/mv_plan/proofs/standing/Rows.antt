@@ -1,0 +1,359 @@
+-- All initiators' rows, with what the scheduler has found, are kept by each move.
+use Rattle.std.proofs.Common.{◌≡◌, ℕ, zero, suc, ◌+◌, ◌*◌, ◌<◌, ◌==◌, true, if◌then◌else◌, List, [], ◌∷◌}
+use Rattle.std.proofs.Common.{length, Option, Some, None, ◌⊎◌, inl, inr, refl, sym, ap, ◌∙◌, subst, arith}
+use Rattle.std.proofs.lemmas.Bool.{cases_eq, eq-eqb, ne_eqb}
+use Rattle.mv_ecb.specs.declared.operation.EcbOp.TheVariants as ecb_op
+use Rattle.mv_ecb.specs.declared.operation.EcbReply.TheVariants as ecb_reply
+use Rattle.mv_ecb.specs.Table.{ecb_step}
+use Rattle.mv_ecb.specs.Word.{EcbState, Zero, Complete, word_of}
+use Rattle.mv_element.specs.declared.operation.ElementOp.TheVariants as element_op
+use Rattle.mv_element.specs.declared.operation.ElementReply.{ElementReply}
+use Rattle.mv_element.specs.declared.operation.ElementReply.TheVariants as element_reply
+use Rattle.mv_element.specs.declared.element.ElementState.{ElementState}
+use Rattle.mv_element.specs.Element.{free, reset, prereleased, paused, released}
+use Rattle.mv_element.specs.Table.{element_step}
+use Rattle.mv_machine.specs.declared.entry.Entry.{Entry}
+use Rattle.mv_machine.specs.declared.entry.Object.TheVariants.{Ecb}
+use Rattle.mv_machine.specs.declared.entry.Op.TheVariants as op_on
+use Rattle.mv_machine.specs.declared.entry.Reply.{Reply}
+use Rattle.mv_machine.specs.declared.entry.Reply.TheVariants as reply_of
+use Rattle.mv_machine.specs.Legal.{IsNext, next}
+use Rattle.mv_machine.specs.Setup.{Setup}
+use Rattle.mv_machine.specs.System.{System, opening, moved, reply_to, with_at, turned}
+use Rattle.mv_deck.specs.Deck.{JobData}
+use Rattle.mv_machine.specs.calls.Keeping.{Kept}
+use Rattle.mv_plan.specs.SpoolSetup.{reader, scheduler, initiator, writer, idle, done, end_for_writer}
+use Rattle.mv_plan.proofs.points.ReaderAndWriter.{IsReaderAt, IsWriterAt}
+use Rattle.mv_plan.proofs.standing.Row.{Stance, Starts, Works, Offers, Parks, Ends, Loses, stance, code_in, offered, taken, handed, Row}
+use Rattle.mv_plan.proofs.standing.Row.{RowAt, hold_for, offer_of, element_of, row_at, own_row, Apart, apart}
+use Rattle.mv_plan.proofs.points.InitiatorSound.{IsInitiatorAt}
+use Rattle.mv_plan.proofs.points.Points.{Point, At, Stage, Dispatching, Dismissing, Awaited, ForEntry, ForEnds, ForIdle}
+use Rattle.mv_plan.proofs.points.Points.{ToDismiss, WaitAt, Arming, Settling, wait_asks, ReaderAt, Entering, reader_asks, reader_goes}
+use Rattle.mv_plan.proofs.points.Points.{SchedulerAt, Waits, Extends, Clears, Releases, awaited_blocks, scheduler_asks}
+use Rattle.mv_plan.proofs.points.Points.{scheduler_goes}
+use Rattle.mv_plan.proofs.points.Points.{dismissing_from, stage_at, WriterAt, Keeping, writer_asks, writer_goes}
+use Rattle.mv_plan.proofs.points.Points.{InitiatorAt, initiator_asks, initiator_goes}
+use Rattle.mv_plan.proofs.standing.Finds.{Blocks, Finds, stay_moved, finds_kept, finds_next, stage_here}
+use Rattle.mv_plan.proofs.points.SchedulerSound.{IsSchedulerAt, IsWaitAt, rest_below}
+use Rattle.mv_plan.proofs.walks.Stands.{Stand}
+use Rattle.mv_plan.proofs.walks.NoneLost.{SameTalk, same_talk}
+use Rattle.mv_plan.proofs.walks.Walks.{Points, start_points, Move}
+use Rattle.mv_plan.proofs.walks.Moves.{entry_of, Each, of_move}
+use Rattle.mv_plan.proofs.lists.Tables.{with_at-same, with_at-other}
+use Rattle.mv_plan.proofs.points.Asks.{no_clear, writer_no_clear, NoClear, Elsewhere}
+use Rattle.mv_plan.proofs.points.SchedulerNext.{AllNext, goes_next}
+
+-- ---- what the scheduler does to a row
+
+-- it clears the block of an initiator that it chose
+row_cleared : (st : Stance) (g : ℕ) (x : ElementState) → Row st (Some g) None x → Row st None (Some g) x
+row_cleared Starts g x w = absurd (cc (w.0))
+row_cleared (Works m) g x w = absurd (cc (w.0))
+row_cleared (Offers m) g x (offered a b q) = let e : m ≡ g = cc a in taken refl (ap (λ z. Some z) (sym e)) q
+row_cleared (Offers m) g x (taken a b q) = absurd (cc a)
+row_cleared (Offers m) g x (handed code a b q) = absurd (cc a)
+row_cleared (Parks m) g x (offered a b q) = let e : m ≡ g = cc a in taken refl (ap (λ z. Some z) (sym e)) q
+row_cleared (Parks m) g x (taken a b q) = absurd (cc a)
+row_cleared (Parks m) g x (handed code a b q) = absurd (cc a)
+row_cleared Ends g x w = absurd (cc (w.0))
+row_cleared Loses g x w = tt
+
+same_number : (g : ℕ) → (g == g) ≡ true
+same_number g = eq-eqb g g refl
+
+-- a release is accepted
+abbrev pub Accepts : ElementReply → Type 0
+Accepts element_reply.Early = Unit {0}
+Accepts element_reply.Woke = Unit {0}
+Accepts r = ⊥
+
+bare_early : (g m code : ℕ) (x : ElementState) → g ≡ m → x ≡ reset m
+    → ((element_step (element_op.Release g code) x).0 ≡ prereleased m code)
+    × ((element_step (element_op.Release g code) x).1 ≡ element_reply.Early)
+bare_early g m code x e q = rw (q, e, same_number m) (refl, refl)
+
+bare_woke : (g m code : ℕ) (x : ElementState) → g ≡ m → x ≡ paused m
+    → ((element_step (element_op.Release g code) x).0 ≡ released m code)
+    × ((element_step (element_op.Release g code) x).1 ≡ element_reply.Woke)
+bare_woke g m code x e q = rw (q, e, same_number m) (refl, refl)
+
+accepts_early : (r : ElementReply) → r ≡ element_reply.Early → Accepts r
+accepts_early r e = rw e tt
+
+accepts_woke : (r : ElementReply) → r ≡ element_reply.Woke → Accepts r
+accepts_woke r e = rw e tt
+
+-- the release of what it holds: its code is in the element
+pub row_released : (st : Stance) (g code : ℕ) (o : Option ℕ) (x : ElementState) → Row st o (Some g) x
+    → Row st o None (element_step (element_op.Release g code) x).0
+row_released Starts g code o x w = absurd (cc (w.1))
+row_released (Works m) g code o x w = absurd (cc (w.1))
+row_released (Offers m) g code o x (offered a b q) = absurd (cc b)
+row_released (Offers m) g code o x (taken a b q) = let e : g ≡ m = cc b in handed code a refl (bare_early g m code x e q).0
+row_released (Offers m) g code o x (handed c a b q) = absurd (cc b)
+row_released (Parks m) g code o x (offered a b q) = absurd (cc b)
+row_released (Parks m) g code o x (taken a b q) = let e : g ≡ m = cc b in handed code a refl (bare_woke g m code x e q).0
+row_released (Parks m) g code o x (handed c a b q) = absurd (cc b)
+row_released Ends g code o x w = absurd (cc (w.1))
+row_released Loses g code o x w = tt
+
+pub row_accepts : (st : Stance) (g code : ℕ) (o : Option ℕ) (x : ElementState) → (st ≡ Loses → ⊥) → Row st o (Some g) x
+    → Accepts (element_step (element_op.Release g code) x).1
+row_accepts Starts g code o x d w = absurd (cc (w.1))
+row_accepts (Works m) g code o x d w = absurd (cc (w.1))
+row_accepts (Offers m) g code o x d (offered a b q) = absurd (cc b)
+row_accepts (Offers m) g code o x d (taken a b q) = let e : g ≡ m = cc b in accepts_early _ (bare_early g m code x e q).1
+row_accepts (Offers m) g code o x d (handed c a b q) = absurd (cc b)
+row_accepts (Parks m) g code o x d (offered a b q) = absurd (cc b)
+row_accepts (Parks m) g code o x d (taken a b q) = let e : g ≡ m = cc b in accepts_woke _ (bare_woke g m code x e q).1
+row_accepts (Parks m) g code o x d (handed c a b q) = absurd (cc b)
+row_accepts Ends g code o x d w = absurd (cc (w.1))
+row_accepts Loses g code o x d w = absurd (d refl)
+
+-- ---- points at which it holds nothing
+
+abbrev pub NoHold : Point SchedulerAt → Type 0
+NoHold p = (i : ℕ) → hold_for i p ≡ None
+
+-- a generation is held from a clear on until the release
+abbrev NoClears : SchedulerAt → Type 0
+NoClears (Clears i g code after) = ⊥
+NoClears x = Unit {0}
+
+module _ (n initiators : ℕ) where
+  dismissing_no_hold : (m more : ℕ) → NoHold (dismissing_from n m more)
+  dismissing_no_hold m zero = λ i. refl
+  dismissing_no_hold m (suc more) = λ i. refl
+
+  stage_no_hold : (after : Stage) → NoHold (stage_at n initiators after)
+  stage_no_hold (Dispatching j []) = dismissing_no_hold 0 initiators
+  stage_no_hold (Dispatching j (job ∷ jobs)) = λ i. refl
+  stage_no_hold (Dismissing m more) = dismissing_no_hold m more
+
+  nexts_no_hold : (x : SchedulerAt) → NoClears x → AllNext n initiators NoHold x
+  nexts_no_hold (Waits (ForEntry j job jobs) w) d = (λ v i. refl, λ v i. refl, λ b i. refl)
+  nexts_no_hold (Waits (ForEnds j job jobs) w) d = (λ v i. refl, λ b i. refl)
+  nexts_no_hold (Waits (ForIdle j job jobs skipped) w) d = (λ v i. refl, λ m g i. refl)
+  nexts_no_hold (Waits (ToDismiss m more) w) d = (λ v i. refl, λ g i. refl)
+  nexts_no_hold (Extends j job jobs skipped) d = λ v i. refl
+  nexts_no_hold (Clears m g code after) d = absurd d
+  nexts_no_hold (Releases m g code after) d = stage_no_hold after
+
+  -- nothing is held behind any other step
+  goes_no_hold : (x : SchedulerAt) (r : Reply) → NoClears x → NoHold (scheduler_goes n initiators x r)
+  goes_no_hold x r d = goes_next n initiators NoHold x r (λ i. refl) (λ i. refl) (nexts_no_hold x d)
+
+-- ---- a wait keeps the codes of blocks
+
+arm_code : (v : EcbState) → code_in (ecb_step ecb_op.Arm v).0 ≡ code_in v
+arm_code v = grind arith
+
+settle_code : (v : EcbState) → code_in (ecb_step ecb_op.Settle v).0 ≡ code_in v
+settle_code v = grind arith
+
+code_kept : (f : Blocks) (e b : ℕ) (y : EcbState) → code_in y ≡ code_in (f e).state
+    → code_in (with_at f e (turned (f e) y) b).state ≡ code_in (f b).state
+code_kept f e b y q =
+    elim (cases_eq e b) [
+      | inl same ↦ subst (λ z. code_in (with_at f e (turned (f e) y) z).state ≡ code_in (f z).state) same
+          (ap (λ z. code_in z.state) (with_at-same f e (turned (f e) y)) ∙ q)
+      | inr other ↦ ap (λ z. code_in z.state) (with_at-other f e b (turned (f e) y) other)
+    ]
+
+pub wait_codes : (s : System) (k b : ℕ) (w : WaitAt)
+    → code_in ((moved s k (wait_asks w).0 (wait_asks w).1).ecb b).state ≡ code_in (s.ecb b).state
+wait_codes s k b (Arming e todo) = code_kept s.ecb e b _ (arm_code (s.ecb e).state)
+wait_codes s k b (Settling e todo found) = code_kept s.ecb e b _ (settle_code (s.ecb e).state)
+
+wait_elements : (s : System) (k m : ℕ) (w : WaitAt) → (moved s k (wait_asks w).0 (wait_asks w).1).element m ≡ s.element m
+wait_elements s k m (Arming e todo) = refl
+wait_elements s k m (Settling e todo found) = refl
+
+done_low : (n j : ℕ) → j < n → done n j < 4 * n
+done_low n j lt = omega arith
+
+-- ---- one row by the scheduler's event
+
+module _ (deck : List JobData) (initiators : ℕ) (s : System) (m : ℕ) (st : Stance) where
+  abbrev n : ℕ
+  n = length deck
+
+  abbrev then_s : SchedulerAt → System
+  then_s x = moved s scheduler (scheduler_asks n x).0 (scheduler_asks n x).1
+
+  abbrev Now : SchedulerAt → Type 0
+  Now x = Row st (offer_of n s m) (hold_for m (At x)) (element_of s m)
+
+  abbrev Then : SchedulerAt → Point SchedulerAt → Type 0
+  Then x q = Row st (offer_of n (then_s x) m) (hold_for m q) (element_of (then_s x) m)
+
+  cleared_row : (i g code : ℕ) (after : Stage) → (s.ecb (idle n i)).state ≡ Complete g → (i ≡ m) ⊎ (i ≡ m → ⊥)
+      → Now (Clears i g code after) → Then (Clears i g code after) (At (Releases i g code after))
+  cleared_row i g code after e (inl same) w =
+      row_at _ _ None _ (Some g) _ _ _ refl
+      (ap (λ z. code_in (with_at s.ecb (idle n i) (turned (s.ecb (idle n i)) Zero) (idle n z)).state) (sym same)
+      ∙ ap (λ z. code_in z.state) (with_at-same s.ecb (idle n i) (turned (s.ecb (idle n i)) Zero)))
+      (ap (λ b. if b then Some g else None) (eq-eqb i m same)) refl
+      (row_cleared st g (element_of s m)
+      (row_at _ _ _ _ _ _ _ _ refl (sym (ap (λ z. offer_of n s z) (sym same) ∙ ap (λ z. code_in z) e)) refl refl w))
+  cleared_row i g code after e (inr other) w =
+      row_at _ _ _ _ None _ _ _ refl
+      (ap (λ z. code_in z.state) (with_at-other s.ecb (idle n i) (idle n m) (turned (s.ecb (idle n i)) Zero)
+      (λ z. other (omega arith))))
+      (ap (λ b. if b then Some g else None) (ne_eqb i m other)) refl w
+
+  released_row : (i g code : ℕ) (after : Stage) (q : Point SchedulerAt) → NoHold q → (i ≡ m) ⊎ (i ≡ m → ⊥)
+      → Now (Releases i g code after) → Then (Releases i g code after) q
+  released_row i g code after q none (inl same) w =
+      row_at _ _ _ _ None _ _ _ refl refl (none m)
+      (ap (λ z. (with_at s.element (initiator i)
+      (turned (s.element (initiator i)) (element_step (element_op.Release g code) (s.element (initiator i)).state).0)
+      (initiator z)).state) (sym same)
+      ∙ ap (λ z. z.state) (with_at-same s.element (initiator i) _)
+      ∙ ap (λ z. (element_step (element_op.Release g code) (element_of s z)).0) same)
+      (row_released st g code (offer_of n s m) (element_of s m)
+      (row_at _ _ _ _ _ _ _ _ refl refl (sym (ap (λ b. if b then Some g else None) (eq-eqb i m same))) refl w))
+  released_row i g code after q none (inr other) w =
+      row_at _ _ _ _ None _ _ _ refl refl (none m)
+      (ap (λ z. z.state) (with_at-other s.element (initiator i) (initiator m) _ (λ z. other (omega arith))))
+      (row_at _ _ _ _ _ _ _ _ refl refl (sym (ap (λ b. if b then Some g else None) (ne_eqb i m other))) refl w)
+
+  pub scheduled_row : (x : SchedulerAt) (r : Reply) → IsSchedulerAt deck initiators (At x)
+      → Some r ≡ reply_to s scheduler (scheduler_asks n x).0 (scheduler_asks n x).1 → Finds n initiators s.ecb (At x)
+      → Now x → Then x (scheduler_goes n initiators x r)
+  scheduled_row (Waits a v) r sound e f w =
+      row_at _ _ _ _ None _ _ _ refl (wait_codes s scheduler (idle n m) v) (goes_no_hold n initiators (Waits a v) r tt m)
+      (ap (λ z. z.state) (wait_elements s scheduler (initiator m) v)) w
+  scheduled_row (Extends j job jobs skipped) r sound e f w =
+      let same : SameTalk n s (then_s (Extends j job jobs skipped)) =
+      same_talk n s scheduler (Ecb (done n j)) (op_on.Ecb (ecb_op.Extend (j + 1)))
+      (done_low n j (rest_below deck j job jobs sound)) in
+      row_at _ _ _ _ None _ _ _ refl (ap (λ z. code_in z.state) (same.idles m))
+      (goes_no_hold n initiators (Extends j job jobs skipped) r tt m)
+      (ap (λ z. z.state) (same.elements (initiator m))) w
+  scheduled_row (Clears i g code after) r sound e f w =
+      let q : r ≡ reply_of.Ecb (ecb_reply.Word (word_of (s.ecb (idle n i)).state)) = cc e in
+      subst (λ z. Then (Clears i g code after) (scheduler_goes n initiators (Clears i g code after) z)) (sym q)
+      (cleared_row i g code after f (cases_eq i m) w)
+  scheduled_row (Releases i g code after) r sound e f w =
+      released_row i g code after _ (goes_no_hold n initiators (Releases i g code after) r tt) (cases_eq i m) w
+
+-- ---- all together
+
+-- Each initiator's row; elements that are no initiator's are free; and what the scheduler has found stands in its blocks.
+pub record Rows (deck : List JobData) (initiators : ℕ) (s : System) (t : Points) : Type 0 where
+  pub rows : (i : ℕ) → i < initiators → RowAt (length deck) s t.scheduler i (t.initiators i)
+  pub others : (m : ℕ) → ((i : ℕ) → i < initiators → m ≡ initiator i → ⊥) → (s.element m).state ≡ free 0
+  pub finds : Finds (length deck) initiators s.ecb t.scheduler
+
+row_moved : (n : ℕ) (s z : System) (q : Point SchedulerAt) (i : ℕ) (p : Point InitiatorAt) → z.ecb (idle n i) ≡ s.ecb (idle n i)
+    → z.element (initiator i) ≡ s.element (initiator i) → RowAt n s q i p → RowAt n z q i p
+row_moved n s z q i p a b w = row_at _ _ _ _ (hold_for i q) _ _ _ refl (ap (λ y. code_in y.state) a) refl (ap (λ y. y.state) b) w
+
+pub reader_low : (n : ℕ) (x : ReaderAt) → IsReaderAt n (At x) → Elsewhere n (reader_asks x).0
+reader_low n (Entering j more) at = omega arith
+
+pub writer_low : (n : ℕ) (x : WriterAt) → IsWriterAt n (At x) → Elsewhere n (writer_asks x).0
+writer_low n (Keeping j more ends (Arming e todo)) at = let a : j + suc more ≡ n = at.0 in let b : e ≡ end_for_writer n j = at.1 in
+    omega arith
+writer_low n (Keeping j more ends (Settling e todo found)) at = let a : j + suc more ≡ n = at.0 in let b : e ≡ end_for_writer n j =
+    at.1 in omega arith
+
+wait_sound : (deck : List JobData) (initiators : ℕ) (x : SchedulerAt) → IsSchedulerAt deck initiators (At x) → (a : Awaited) (w : WaitAt)
+    → x ≡ Waits a w → IsWaitAt (awaited_blocks (length deck) initiators a) w
+wait_sound deck initiators x sound a w e = (subst (λ y. IsSchedulerAt deck initiators (At y)) e sound).1
+
+scheduled_others : (n initiators : ℕ) (deck : List JobData) (s : System) (x : SchedulerAt) (m : ℕ) → n ≡ length deck
+    → IsSchedulerAt deck initiators (At x) → ((i : ℕ) → i < initiators → m ≡ initiator i → ⊥)
+    → (moved s scheduler (scheduler_asks n x).0 (scheduler_asks n x).1).element m ≡ s.element m
+scheduled_others n initiators deck s (Waits a w) m e sound d = wait_elements s scheduler m w
+scheduled_others n initiators deck s (Extends j job jobs skipped) m e sound d = refl
+scheduled_others n initiators deck s (Clears i g code after) m e sound d = refl
+scheduled_others n initiators deck s (Releases i g code after) m e sound d =
+    with_at-other s.element (initiator i) m _ (λ z. d i sound.0 (sym z))
+
+module _ (c : Setup) (deck : List JobData) (initiators : ℕ) (kept : ℕ → Kept) where
+  abbrev Kept_by : System → Points → Entry → Points → Type 0
+  Kept_by s t e u = Stand deck initiators kept t → Rows deck initiators s t → Rows deck initiators (next s e) u
+
+  -- a task that touches no element and no initiator's block
+  quiet : (s : System) (t u : Points) (e : Entry) → u.scheduler ≡ t.scheduler → u.initiators ≡ t.initiators
+      → Elsewhere (length deck) e.object → NoClear e.op → Rows deck initiators s t → Rows deck initiators (next s e) u
+  quiet s t u e a b low clear w =
+      let same : SameTalk (length deck) s (next s e) = same_talk (length deck) s e.caller e.object e.op low in
+      record {
+        rows = λ i lt. subst (λ p. RowAt (length deck) (next s e) u.scheduler i (p i)) (sym b)
+            (subst (λ q. RowAt (length deck) (next s e) q i (t.initiators i)) (sym a)
+            (row_moved (length deck) s (next s e) t.scheduler i (t.initiators i) (same.idles i) (same.elements (initiator i))
+            (w.rows i lt)));
+        others = λ m d. ap (λ y. y.state) (same.elements m) ∙ w.others m d;
+        finds = subst (λ q. Finds (length deck) initiators (next s e).ecb q) (sym a)
+            (finds_kept (length deck) initiators s.ecb (next s e).ecb t.scheduler (stay_moved s e.caller e.object e.op clear) w.finds);
+      }
+
+  each_kept : Each c deck initiators Kept_by
+  each_kept = record {
+    of_reader = λ s t x p r at n st w. quiet s t (record t { reader = reader_goes x r }) (entry_of reader p (reader_asks x) r) refl refl
+        (reader_low (length deck) x (subst (λ q. IsReaderAt (length deck) q) at st.at_reader)) (reader_clear x) w;
+    of_scheduler = λ s t x p r at n st w. scheduled s t x p r at n
+        (subst (λ q. IsSchedulerAt deck initiators q) at st.at_scheduler.0) w;
+    of_initiator = λ s t i x p r lt at n st w. initiated s t i x p r lt at n
+        (subst (λ q. IsInitiatorAt deck q) at (st.at_initiator i lt).0) w;
+    of_writer = λ s t x p r at n st w. quiet s t (record t { writer = writer_goes (length deck) x r })
+        (entry_of (writer initiators) p (writer_asks x) r) refl refl
+        (writer_low (length deck) x (subst (λ q. IsWriterAt (length deck) q) at st.at_writer)) (writer_no_clear x) w;
+  } where
+    reader_clear : (x : ReaderAt) → NoClear (reader_asks x).1
+    reader_clear (Entering j more) = tt
+
+    scheduled : (s : System) (t : Points) (x : SchedulerAt) (p : ℕ) (r : Reply) → t.scheduler ≡ At x
+        → IsNext c s (entry_of scheduler p (scheduler_asks (length deck) x) r) → IsSchedulerAt deck initiators (At x)
+        → Rows deck initiators s t → Rows deck initiators (next s (entry_of scheduler p (scheduler_asks (length deck) x) r))
+        (record t { scheduler = scheduler_goes (length deck) initiators x r })
+    scheduled s t x p r at n sound w = record {
+      rows = λ i lt. scheduled_row deck initiators s i (stance (t.initiators i)) x r sound n.reply
+          (subst (λ q. Finds (length deck) initiators s.ecb q) at w.finds)
+          (subst (λ q. RowAt (length deck) s q i (t.initiators i)) at (w.rows i lt));
+      others = λ m d. ap (λ y. y.state) (scheduled_others (length deck) initiators deck s x m refl sound d) ∙ w.others m d;
+      finds = finds_next (length deck) initiators s x r (wait_sound deck initiators x sound) n.reply
+          (subst (λ q. Finds (length deck) initiators s.ecb q) at w.finds);
+    }
+
+    initiated : (s : System) (t : Points) (i : ℕ) (x : InitiatorAt) (p : ℕ) (r : Reply) → i < initiators → t.initiators i ≡ At x
+        → IsNext c s (entry_of (initiator i) p (initiator_asks (length deck) i x) r) → IsInitiatorAt deck (At x)
+        → Rows deck initiators s t → Rows deck initiators (next s (entry_of (initiator i) p (initiator_asks (length deck) i x) r))
+        (record t { initiators = with_at t.initiators i (initiator_goes deck x r) })
+    initiated s t i x p r lt at n sound w = record {
+      rows = λ m less. each m less (cases_eq i m);
+      others = λ m d. ap (λ y. y.state) (far.elements m (λ z. d i lt z)) ∙ w.others m d;
+      finds = finds_kept (length deck) initiators s.ecb then_s.ecb t.scheduler
+          (stay_moved s (initiator i) (initiator_asks (length deck) i x).0 (initiator_asks (length deck) i x).1
+          (no_clear (length deck) i x)) w.finds;
+    } where
+      then_s : System
+      then_s = moved s (initiator i) (initiator_asks (length deck) i x).0 (initiator_asks (length deck) i x).1
+
+      far : Apart deck s t.scheduler i then_s
+      far = apart deck s t.scheduler i x sound
+
+      each : (m : ℕ) → m < initiators → (i ≡ m) ⊎ (i ≡ m → ⊥)
+          → RowAt (length deck) then_s t.scheduler m (with_at t.initiators i (initiator_goes deck x r) m)
+      each m less (inl same) = subst (λ m. RowAt (length deck) then_s t.scheduler m
+          (with_at t.initiators i (initiator_goes deck x r) m)) same
+          (subst (λ q. RowAt (length deck) then_s t.scheduler i q) (sym (with_at-same t.initiators i (initiator_goes deck x r)))
+          (own_row deck s t.scheduler i x r sound n.reply (subst (λ q. RowAt (length deck) s t.scheduler i q) at (w.rows i lt))))
+      each m less (inr other) = subst (λ q. RowAt (length deck) then_s t.scheduler m q)
+          (sym (with_at-other t.initiators i m (initiator_goes deck x r) other))
+          (row_moved (length deck) s then_s t.scheduler m (t.initiators m) (far.idles m (λ z. other (sym z)))
+          (far.elements (initiator m) (λ z. other (omega arith))) (w.rows m less))
+
+  pub rows_next : (s : System) (t u : Points) (e : Entry) → Stand deck initiators kept t → IsNext c s e → Move deck initiators t e u
+      → Rows deck initiators s t → Rows deck initiators (next s e) u
+  rows_next s t u e st n m w = of_move c deck initiators Kept_by each_kept s t u e n m st w
+
+pub rows_start : (c : Setup) (deck : List JobData) (initiators : ℕ) → Rows deck initiators (opening c) (start_points deck initiators)
+rows_start c deck initiators = record {
+  rows = λ i lt. (refl, stage_no_hold (length deck) initiators (Dispatching 0 deck) i, refl);
+  others = λ m d. refl;
+  finds = stage_here (length deck) initiators (opening c).ecb (Dispatching 0 deck);
+}

@@ -1,0 +1,15 @@
+-- What steps add to a volume, step by step: the sum of the report as a recursion, whose cases are those of a running job.
+use Rattle.std.proofs.Common.{◌≡◌, ℕ, ◌+◌, List, [], ◌∷◌, refl, ap, ◌∙◌}
+use Rattle.std.proofs.lemmas.List.Sums.{sum_by-cons}
+use Rattle.mv_deck.specs.declared.deck.Step.{Step}
+use Rattle.mv_report.specs.Outcome as outcome
+use Rattle.mv_report.specs.Outcome.{added}
+
+-- what these steps add
+abbrev pub added_by : ℕ → List Step → ℕ
+added_by v [] = 0
+added_by v (step ∷ steps) = added v step + added_by v steps
+
+pub added_by_is : (v : ℕ) (steps : List Step) → outcome.added_by v steps ≡ added_by v steps
+added_by_is v [] = refl
+added_by_is v (step ∷ steps) = sum_by-cons (added v) step steps ∙ ap (λ n. added v step + n) (added_by_is v steps)

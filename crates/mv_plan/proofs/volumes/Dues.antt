@@ -1,0 +1,214 @@
+-- What the jobs that are run have still to add to a volume, and how an initiator's event pays it.
+use Rattle.std.proofs.Common.{◌≡◌, ℕ, zero, suc, ◌+◌, ◌==◌, ◌^◌, nat_lt, Bool, true, false, if◌then◌else◌, List, [], ◌∷◌, length, Option}
+use Rattle.std.proofs.Common.{Some, None, inl, inr, refl, sym, ap, ◌∙◌, subst, arith}
+use Rattle.std.specs.List.{list_any}
+use Rattle.std.proofs.lemmas.Bool.{cases_eq, eq-eqb, ne_eqb, eqb-true}
+use Rattle.mv_ecb.specs.declared.operation.EcbReply.TheVariants as ecb_reply
+use Rattle.mv_element.specs.declared.operation.ElementReply.TheVariants as element_reply
+use Rattle.mv_latch.specs.declared.operation.LatchReply.TheVariants as latch_reply
+use Rattle.mv_machine.specs.declared.entry.Reply.{Reply}
+use Rattle.mv_machine.specs.declared.entry.Reply.TheVariants as reply_of
+use Rattle.mv_machine.specs.declared.entry.VolumeReply.TheVariants as volume_reply
+use Rattle.mv_machine.specs.Setup.{Setup}
+use Rattle.mv_machine.specs.System.{System, with_at, turned}
+use Rattle.mv_plan.specs.HandingOut.{gift_code}
+use Rattle.mv_deck.specs.Deck.{JobData}
+use Rattle.mv_deck.specs.declared.deck.Step.{Step}
+use Rattle.mv_deck.specs.declared.deck.Step.TheVariants.{Print, Use, Free, Count, Scan, Abend, Return}
+use Rattle.mv_plan.proofs.volumes.Added.{added_by}
+use Rattle.mv_plan.specs.Jobs.{job_at}
+use Rattle.mv_report.specs.Outcome.{before_end, added}
+use Rattle.mv_plan.specs.SpoolTasks.{Named, job_named}
+use Rattle.mv_plan.proofs.volumes.GivenCodes.{with_code, adds_if, adds_named, adds, adds_all, adds_high}
+use Rattle.mv_plan.proofs.points.Points.{Point, At, Astray, Running, Hand, empty_hand, InitiatorAt, Opening, Offering, Pausing, Resuming}
+use Rattle.mv_plan.proofs.points.Points.{Obtaining, Confirming, Freeing, Reading, Writing, Scanning, Rescanning, Purging, EndingJob}
+use Rattle.mv_plan.proofs.points.Points.{EndingForScheduler, EndingForWriter, Closing, initiator_goes, turns_from, freeing_at, steps_at}
+use Rattle.mv_plan.proofs.points.Points.{running, job_start, named_at, given_at, initiator_asks}
+use Rattle.mv_plan.proofs.volumes.Values.{ValueAt, read_keeps, write_same, write_other, volumes_asked}
+use Rattle.mv_plan.proofs.points.Views.{IsNotLost}
+use Rattle.mv_machine.specs.Legal.{IsNext}
+use Rattle.mv_machine.proofs.EntryRuns.{entry_of}
+use Rattle.mv_plan.specs.SpoolSetup.{initiator}
+
+-- ---- what is still to be added
+
+-- by the job that is run
+abbrev pub due : ℕ → Point InitiatorAt → ℕ
+due v (At (Obtaining run hand latch mode steps)) = added_by v (before_end steps)
+due v (At (Confirming run hand latch mode id steps)) = added_by v (before_end steps)
+due v (At (Freeing run hand latch id steps)) = added_by v (before_end steps)
+due v (At (Reading run hand volume amount steps)) = added v (Count volume amount) + added_by v (before_end steps)
+due v (At (Writing run hand volume amount number steps)) = added v (Count volume amount) + added_by v (before_end steps)
+due v (At (Scanning run hand volume steps)) = added_by v (before_end steps)
+due v (At (Rescanning run hand volume number steps)) = added_by v (before_end steps)
+due v p = 0
+
+-- what the job that a given code names adds
+abbrev pub gift_adds : List JobData → ℕ → Reply → ℕ
+gift_adds deck v r = adds_all deck v (with_code (gift_code r) [])
+
+zero_plus : (n : ℕ) → n ≡ 0 + n
+zero_plus n = omega arith
+
+module _ (v : ℕ) where
+  due_turns : (m : ℕ) (before : List ℕ) (g : ℕ) → due v (turns_from m before g) ≡ 0
+  due_turns zero before g = refl
+  due_turns (suc m) before g = refl
+
+  due_steps : (run : Running) (hand : Hand) (steps : List Step) → IsNotLost (steps_at run hand steps)
+      → due v (steps_at run hand steps) ≡ added_by v (before_end steps)
+  due_steps run hand [] n = refl
+  due_steps run hand (Print text ∷ steps) n = due_steps run hand steps n ∙ zero_plus (added_by v (before_end steps))
+  due_steps run hand (Use latch mode ∷ steps) n = zero_plus (added_by v (before_end steps))
+  due_steps run hand (Free latch ∷ steps) n = go (hand.requests latch) n where
+    go : (slot : Option ℕ) → IsNotLost (freeing_at run hand latch slot steps)
+        → due v (freeing_at run hand latch slot steps) ≡ 0 + added_by v (before_end steps)
+    go None n = absurd n
+    go (Some id) n = zero_plus (added_by v (before_end steps))
+  due_steps run hand (Count volume amount ∷ steps) n = refl
+  due_steps run hand (Scan volume ∷ steps) n = zero_plus (added_by v (before_end steps))
+  due_steps run hand (Abend code ∷ steps) n = refl
+  due_steps run hand (Return code ∷ steps) n = refl
+
+  due_start : (deck : List JobData) (run : Running) (job : ℕ) (skipped : Bool) → IsNotLost (job_start skipped run (job_at deck job))
+      → due v (job_start skipped run (job_at deck job)) ≡ adds_if deck v job skipped
+  due_start deck run job true n = refl
+  due_start deck run job false n = due_steps run empty_hand (job_at deck job).steps n
+
+  due_named : (deck : List JobData) (slot : Option Named) (before : List ℕ) (more g : ℕ) → IsNotLost (named_at deck slot before more g)
+      → due v (named_at deck slot before more g) ≡ adds_named deck v slot
+  due_named deck None before more g n = refl
+  due_named deck (Some named) before zero g n = absurd n
+  due_named deck (Some named) before (suc more) g n = go (list_any (λ j. j == named.job) before) n where
+    go : (b : Bool) → IsNotLost (if b then Astray else job_start named.skipped (running named before (suc more) g)
+        (job_at deck named.job))
+        → due v (if b then Astray else job_start named.skipped (running named before (suc more) g) (job_at deck named.job))
+        ≡ adds_if deck v named.job named.skipped
+    go true n = absurd n
+    go false n = due_start deck (running named before (suc more) g) named.job named.skipped n
+
+  due_given : (deck : List JobData) (more : ℕ) (before : List ℕ) (code g : ℕ) → IsNotLost (given_at deck more before code g)
+      → due v (given_at deck more before code g) ≡ adds deck v code
+  due_given deck more before code g = go (code == 0) refl where
+    go : (b : Bool) → (code == 0) ≡ b
+        → IsNotLost (if b then At (Closing g) else named_at deck (job_named (length deck) code) before more g)
+        → due v (if b then At (Closing g) else named_at deck (job_named (length deck) code) before more g) ≡ adds deck v code
+    go true e n = sym (ap (adds deck v) (eqb-true code 0 e) ∙ adds_high deck v 0 refl)
+    go false e n = due_named deck (job_named (length deck) code) before more g n
+
+-- ---- the initiator that moves
+
+-- the machine's next entry is what initiator i says at this point, and is answered so
+abbrev pub NextAt : Setup → System → List JobData → ℕ → InitiatorAt → ℕ → Reply → Type 0
+NextAt c s deck i x p r = IsNext c s
+    (entry_of (initiator i) (initiator_asks (length deck) i x).0 p (initiator_asks (length deck) i x).1 r)
+
+module _ (c : Setup) (s : System) (deck : List JobData) (i v : ℕ) where
+  abbrev DueNext : InitiatorAt → Reply → Type 0
+  DueNext x r = (volumes_asked c s deck i x v).state + due v (initiator_goes deck x r) ≡ (s.volume v).state + due v
+      (At x) + gift_adds deck v r
+
+  plain_due : (N d : ℕ) → N + d ≡ N + d + 0
+  plain_due N d = omega arith
+
+  gift_due : (N d a : ℕ) → d ≡ a → N + d ≡ N + 0 + (a + 0)
+  gift_due N d a e = omega arith
+
+  to_zero : (N d : ℕ) → d ≡ 0 → N + d ≡ N + 0 + 0
+  to_zero N d e = omega arith
+
+  same_due : (N d a : ℕ) → d ≡ a → N + d ≡ N + a + 0
+  same_due N d a e = omega arith
+
+  read_due : (M N d a : ℕ) → M ≡ N → d ≡ a → M + d ≡ N + a + 0
+  read_due M N d a e f = omega arith
+
+  write_due : (volume amount number d a : ℕ) → (s.volume volume).state ≡ number → d ≡ a
+      → (with_at s.volume volume (turned (s.volume volume) (number + amount)) v).state + d ≡ (s.volume v).state +
+      (added v (Count volume amount) + a) + 0
+  write_due volume amount number d a e f = elim (cases_eq volume v) [
+    | inl q ↦
+        let now : (with_at s.volume volume (turned (s.volume volume) (number + amount)) v).state ≡ number + amount =
+        subst (λ w. (with_at s.volume volume (turned (s.volume volume) (number + amount)) w).state ≡ number + amount) q
+        (write_same s.volume volume (number + amount)) in
+        let was : (s.volume v).state ≡ number = subst (λ w. (s.volume w).state ≡ number) q e in
+        let more : added v (Count volume amount) ≡ amount = ap (λ b. if b then amount else 0) (eq-eqb volume v q) in
+        omega arith
+    | inr n ↦
+        let now : (with_at s.volume volume (turned (s.volume volume) (number + amount)) v).state ≡ (s.volume v).state =
+        write_other s.volume volume v (number + amount) n in
+        let more : added v (Count volume amount) ≡ 0 = ap (λ b. if b then amount else 0) (ne_eqb volume v n) in
+        omega arith
+  ]
+
+  pub own_due : (x : InitiatorAt) (p : ℕ) (r : Reply) → NextAt c s deck i x p r → ValueAt s.volume (At x)
+      → IsNotLost (initiator_goes deck x r) → DueNext x r
+  own_due Opening p (reply_of.Element (element_reply.Opened g)) h a n =
+      to_zero (s.volume v).state _ (due_turns v (length deck + 1) [] g)
+  own_due Opening p r h a n = absurd n
+  own_due (Offering more before g) p (reply_of.Ecb ecb_reply.Posted) h a n = plain_due (s.volume v).state 0
+  own_due (Offering more before g) p (reply_of.Ecb (ecb_reply.Woke x)) h a n = plain_due (s.volume v).state 0
+  own_due (Offering more before g) p (reply_of.Ecb (ecb_reply.Already code)) h a n = plain_due (s.volume v).state 0
+  own_due (Offering more before g) p r h a n = absurd n
+  own_due (Pausing more before g) p (reply_of.Element (element_reply.Given code now)) h a n =
+      gift_due (s.volume v).state _ (adds deck v code) (due_given v deck more before code now n)
+  own_due (Pausing more before g) p (reply_of.Element element_reply.Parked) h a n = plain_due (s.volume v).state 0
+  own_due (Pausing more before g) p r h a n = absurd n
+  own_due (Resuming more before g) p (reply_of.Element (element_reply.Given code now)) h a n =
+      gift_due (s.volume v).state _ (adds deck v code) (due_given v deck more before code now n)
+  own_due (Resuming more before g) p (reply_of.Element element_reply.NotYet) h a n = absurd n
+  own_due (Resuming more before g) p r h a n = absurd n
+  own_due (Obtaining run hand latch mode steps) p (reply_of.Latch (latch_reply.Granted id)) h a n =
+      same_due (s.volume v).state _ (added_by v (before_end steps)) (due_steps v run _ steps n)
+  own_due (Obtaining run hand latch mode steps) p (reply_of.Latch (latch_reply.Queued id)) h a n =
+      plain_due (s.volume v).state (added_by v (before_end steps))
+  own_due (Obtaining run hand latch mode steps) p r h a n = absurd n
+  own_due (Confirming run hand latch mode id steps) p (reply_of.Latch (latch_reply.Granted same)) h a n =
+      same_due (s.volume v).state _ (added_by v (before_end steps)) (due_steps v run _ steps n)
+  own_due (Confirming run hand latch mode id steps) p (reply_of.Latch latch_reply.Waiting) h a n = absurd n
+  own_due (Confirming run hand latch mode id steps) p r h a n = absurd n
+  own_due (Freeing run hand latch id steps) p (reply_of.Latch (latch_reply.Released count)) h a n =
+      same_due (s.volume v).state _ (added_by v (before_end steps)) (due_steps v run _ steps n)
+  own_due (Freeing run hand latch id steps) p r h a n = absurd n
+  own_due (Reading run hand volume amount steps) p (reply_of.Volume (volume_reply.Value number)) h a n =
+      go (nat_lt (number + amount) (2 ^ 32)) n where
+        go : (b : Bool) → IsNotLost (if b then At (Writing run hand volume amount number steps) else Astray)
+            → (with_at s.volume volume (turned (s.volume volume) (s.volume volume).state) v).state + due v
+            (if b then At (Writing run hand volume amount number steps) else Astray) ≡ (s.volume v).state +
+            (added v (Count volume amount) + added_by v (before_end steps)) + 0
+        go true n = read_due _ (s.volume v).state _ (added v (Count volume amount) + added_by v (before_end steps))
+            (read_keeps s.volume volume v) refl
+        go false n = absurd n
+  own_due (Reading run hand volume amount steps) p r h a n = absurd n
+  own_due (Writing run hand volume amount number steps) p (reply_of.Volume volume_reply.Stored) h a n =
+      write_due volume amount number _ (added_by v (before_end steps)) a (due_steps v run hand steps n)
+  own_due (Writing run hand volume amount number steps) p r h a n = absurd n
+  own_due (Scanning run hand volume steps) p (reply_of.Volume (volume_reply.Value number)) h a n =
+      read_due _ (s.volume v).state _ (added_by v (before_end steps)) (read_keeps s.volume volume v) refl
+  own_due (Scanning run hand volume steps) p r h a n = absurd n
+  own_due (Rescanning run hand volume number steps) p (reply_of.Volume (volume_reply.Value again)) h a n =
+      read_due _ (s.volume v).state _ (added_by v (before_end steps)) (read_keeps s.volume volume v) (due_steps v run hand steps n)
+  own_due (Rescanning run hand volume number steps) p r h a n = absurd n
+  own_due (Purging run hand code) p (reply_of.Latch (latch_reply.Purged removed count)) h a n = plain_due (s.volume v).state 0
+  own_due (Purging run hand code) p r h a n = absurd n
+  own_due (EndingJob run code counts) p (reply_of.Ecb (ecb_reply.Woke (suc x))) h a n = plain_due (s.volume v).state 0
+  own_due (EndingJob run code counts) p (reply_of.Ecb (ecb_reply.Woke zero)) h a n =
+      to_zero (s.volume v).state _ (due_turns v run.more _ run.generation)
+  own_due (EndingJob run code counts) p (reply_of.Ecb ecb_reply.Posted) h a n =
+      to_zero (s.volume v).state _ (due_turns v run.more _ run.generation)
+  own_due (EndingJob run code counts) p (reply_of.Ecb (ecb_reply.Already old)) h a n =
+      to_zero (s.volume v).state _ (due_turns v run.more _ run.generation)
+  own_due (EndingJob run code counts) p r h a n = absurd n
+  own_due (EndingForScheduler run code counts) p (reply_of.Ecb ecb_reply.Posted) h a n = plain_due (s.volume v).state 0
+  own_due (EndingForScheduler run code counts) p (reply_of.Ecb (ecb_reply.Woke x)) h a n = plain_due (s.volume v).state 0
+  own_due (EndingForScheduler run code counts) p (reply_of.Ecb (ecb_reply.Already old)) h a n = plain_due (s.volume v).state 0
+  own_due (EndingForScheduler run code counts) p r h a n = absurd n
+  own_due (EndingForWriter run code counts) p (reply_of.Ecb ecb_reply.Posted) h a n =
+      to_zero (s.volume v).state _ (due_turns v run.more _ run.generation)
+  own_due (EndingForWriter run code counts) p (reply_of.Ecb (ecb_reply.Woke x)) h a n =
+      to_zero (s.volume v).state _ (due_turns v run.more _ run.generation)
+  own_due (EndingForWriter run code counts) p (reply_of.Ecb (ecb_reply.Already old)) h a n =
+      to_zero (s.volume v).state _ (due_turns v run.more _ run.generation)
+  own_due (EndingForWriter run code counts) p r h a n = absurd n
+  own_due (Closing g) p (reply_of.Element element_reply.Closed) h a n = plain_due (s.volume v).state 0
+  own_due (Closing g) p r h a n = absurd n

@@ -1,0 +1,121 @@
+-- The codes that pauses are given in a history, and what the jobs that they name add to a volume.
+use Rattle.std.proofs.Common.{◌≡◌, ℕ, suc, ◌+◌, ◌-◌, ◌<◌, ◌≤◌, ◌==◌, nat_le, Bool, true, false, ◌&&◌, if◌then◌else◌, List, [], ◌∷◌, ◌++◌}
+use Rattle.std.proofs.Common.{length, Option, Some, None, refl, sym, ap, ◌∙◌, arith}
+use Rattle.std.proofs.lemmas.Bool.{eq-eqb, ne_eqb, leb-true, le-leb, false≢true, and_parts}
+use Rattle.mv_machine.specs.declared.entry.Entry.{Entry}
+use Rattle.mv_plan.specs.HandingOut.{gift_code}
+use Rattle.mv_deck.specs.Deck.{JobData}
+use Rattle.mv_plan.proofs.volumes.Added.{added_by}
+use Rattle.mv_plan.specs.Jobs.{job_at}
+use Rattle.mv_report.specs.Outcome.{before_end}
+use Rattle.mv_plan.specs.SpoolTasks.{Named, job_named, not_to_run}
+use Rattle.mv_plan.proofs.volumes.Sums.{sum_to, sum_ext, sum_zero, sum_change, times}
+
+-- ---- codes
+
+abbrev pub with_code : Option ℕ → List ℕ → List ℕ
+with_code None cs = cs
+with_code (Some code) cs = code ∷ cs
+
+-- the codes that were given, in order
+abbrev pub codes_of : List Entry → List ℕ
+codes_of [] = []
+codes_of (e ∷ es) = with_code (gift_code e.reply) (codes_of es)
+
+pub codes-push : (xs : List Entry) (e : Entry) → codes_of (xs ++ e ∷ []) ≡ codes_of xs ++ with_code (gift_code e.reply) []
+codes-push [] e = refl
+codes-push (x ∷ xs) e = ap (with_code (gift_code x.reply)) (codes-push xs e) ∙ go (gift_code x.reply) where
+  go : (slot : Option ℕ) → with_code slot (codes_of xs ++ with_code (gift_code e.reply) []) ≡ with_code slot (codes_of xs) ++ with_code
+      (gift_code e.reply) []
+  go None = refl
+  go (Some code) = refl
+
+-- how often a number is in a list
+abbrev pub count_of : ℕ → List ℕ → ℕ
+count_of n [] = 0
+count_of n (m ∷ ms) = if m == n then suc (count_of n ms) else count_of n ms
+
+-- ---- what is added
+
+abbrev pub full : List JobData → ℕ → ℕ → ℕ
+full deck v j = added_by v (before_end (job_at deck j).steps)
+
+abbrev pub adds_if : List JobData → ℕ → ℕ → Bool → ℕ
+adds_if deck v j true = 0
+adds_if deck v j false = full deck v j
+
+abbrev pub adds_named : List JobData → ℕ → Option Named → ℕ
+adds_named deck v None = 0
+adds_named deck v (Some named) = adds_if deck v named.job named.skipped
+
+-- what the job that a code names adds, if it is to be run
+abbrev pub adds : List JobData → ℕ → ℕ → ℕ
+adds deck v code = adds_named deck v (job_named (length deck) code)
+
+abbrev pub adds_all : List JobData → ℕ → List ℕ → ℕ
+adds_all deck v [] = 0
+adds_all deck v (code ∷ codes) = adds deck v code + adds_all deck v codes
+
+pub adds-append : (deck : List JobData) (v : ℕ) (xs ys : List ℕ) → adds_all deck v (xs ++ ys) ≡ adds_all deck v xs + adds_all deck v ys
+adds-append deck v [] ys = omega arith
+adds-append deck v (x ∷ xs) ys = let a : adds_all deck v (xs ++ ys) ≡ adds_all deck v xs + adds_all deck v ys =
+    adds-append deck v xs ys in omega arith
+
+-- a code that names no job to be run adds nothing
+adds_low : (deck : List JobData) (v code : ℕ) → 1 ≤ code → code ≤ length deck → adds deck v code ≡ full deck v (code - 1)
+adds_low deck v code a b = ap (λ t. adds_named deck v
+    (if t then Some (record { job = code - 1; skipped = false }) else if nat_le (1 + not_to_run) code && nat_le code
+    (length deck + not_to_run) then Some (record { job = code - (1 + not_to_run); skipped = true }) else None))
+    (ap (λ t. t && nat_le code (length deck)) (le-leb 1 code a) ∙ le-leb code (length deck) b)
+
+pub adds_high : (deck : List JobData) (v code : ℕ) → ((nat_le 1 code && nat_le code (length deck)) ≡ false) → adds deck v code ≡ 0
+adds_high deck v code e =
+    ap (λ t. adds_named deck v (if t then Some (record { job = code - 1; skipped = false }) else if nat_le
+    (1 + not_to_run) code && nat_le code (length deck + not_to_run) then Some
+    (record { job = code - (1 + not_to_run); skipped = true }) else None)) e
+    ∙ go (nat_le (1 + not_to_run) code && nat_le code (length deck + not_to_run)) where
+      go : (b : Bool) → adds_named deck v (if b then Some (record { job = code - (1 + not_to_run); skipped = true }) else None) ≡ 0
+      go true = refl
+      go false = refl
+
+-- What the codes given add is, summed over the jobs, what each adds as often as it was named to be run.
+pub adds_by_jobs : (deck : List JobData) (v : ℕ) (codes : List ℕ)
+    → adds_all deck v codes ≡ sum_to (length deck) (λ j. times (count_of (j + 1) codes) (full deck v j))
+adds_by_jobs deck v [] = sym (sum_zero (length deck) (λ j. 0) (λ j lt. refl))
+adds_by_jobs deck v (code ∷ codes) = go (nat_le 1 code && nat_le code (length deck)) refl (adds_by_jobs deck v codes) where
+  f : ℕ → ℕ
+  f j = times (count_of (j + 1) codes) (full deck v j)
+
+  g : ℕ → ℕ
+  g j = times (count_of (j + 1) (code ∷ codes)) (full deck v j)
+
+  other : (j : ℕ) → (code ≡ j + 1 → ⊥) → g j ≡ f j
+  other j n = ap (λ b. times (if b then suc (count_of (j + 1) codes) else count_of (j + 1) codes) (full deck v j))
+      (ne_eqb code (j + 1) n)
+
+  here : (j : ℕ) → code ≡ j + 1 → j < length deck → sum_to (length deck) g ≡ full deck v j + sum_to (length deck) f
+  here j e lt =
+      let a : sum_to (length deck) g + f j ≡ sum_to (length deck) f + g j =
+      sum_change (length deck) j f g lt (λ m d. other m (λ q. d (let z : j + 1 ≡ m + 1 = sym e ∙ q in omega arith))) in
+      let b : g j ≡ full deck v j + f j =
+      ap (λ b. times (if b then suc (count_of (j + 1) codes) else count_of (j + 1) codes) (full deck v j))
+      (eq-eqb code (j + 1) e) in
+      omega arith
+
+  go : (b : Bool) → (nat_le 1 code && nat_le code (length deck)) ≡ b → adds_all deck v codes ≡ sum_to (length deck) f
+      → adds deck v code + adds_all deck v codes ≡ sum_to (length deck) g
+  go true e rest =
+      let parts : (nat_le 1 code ≡ true) × (nat_le code (length deck) ≡ true) =
+      and_parts (nat_le 1 code) (nat_le code (length deck)) e in
+      let low : 1 ≤ code = leb-true 1 code parts.0 in
+      let high : code ≤ length deck = leb-true code (length deck) parts.1 in
+      let is : sum_to (length deck) g ≡ full deck v (code - 1) + sum_to (length deck) f = here (code - 1) (omega arith) (omega arith) in
+      let added_now : adds deck v code ≡ full deck v (code - 1) = adds_low deck v code low high in
+      omega arith
+  go false e rest =
+      let none : (j : ℕ) → j < length deck → code ≡ j + 1 → ⊥ =
+      λ j lt q. false≢true (sym e ∙ ap (λ t. t && nat_le code (length deck)) (le-leb 1 code (omega arith))
+      ∙ le-leb code (length deck) (omega arith)) in
+      let same : sum_to (length deck) g ≡ sum_to (length deck) f = sum_ext (length deck) g f (λ j lt. other j (none j lt)) in
+      let nothing : adds deck v code ≡ 0 = adds_high deck v code e in
+      omega arith

@@ -1,0 +1,120 @@
+-- The sum of what the named jobs add is the deck's total, where each job was named once and as its end says.
+use Rattle.std.proofs.Common.{◌≡◌, ℕ, suc, ◌+◌, ◌<◌, ◌≤◌, ◌==◌, ◌||◌, Bool, true, false, if◌then◌else◌, List, [], ◌∷◌, length}
+use Rattle.std.proofs.Common.{slice_index, sum_by, Option, Some, None, refl, sym, ap, ◌∙◌, arith}
+use Rattle.std.proofs.lemmas.Bool.{eq-eqb, ne_eqb, eqb-true, or_left, or_right, false≢true}
+use Rattle.mv_machine.specs.declared.entry.Entry.{Entry}
+use Rattle.mv_plan.specs.HandingOut.{gift_code, naming, given_codes}
+use Rattle.mv_deck.specs.Deck.{JobData}
+use Rattle.std.proofs.lemmas.List.Sums.{sum_by-cons}
+use Rattle.mv_deck.specs.declared.deck.Step.{Step}
+use Rattle.mv_plan.proofs.volumes.Added.{added_by, added_by_is}
+use Rattle.mv_plan.specs.Jobs.{job_at, end_of}
+use Rattle.mv_report.specs.EndCode.{not_run}
+use Rattle.mv_report.specs.Outcome as outcome
+use Rattle.mv_report.specs.Outcome.{before_end, ends, steps_with, all_steps_with, total}
+use Rattle.mv_plan.specs.SpoolTasks.{code_of}
+use Rattle.mv_plan.proofs.deck.Ends.{length-ends_from}
+use Rattle.mv_plan.proofs.volumes.GivenCodes.{with_code, codes_of, count_of, full, adds_all, adds_by_jobs}
+use Rattle.mv_plan.proofs.volumes.Sums.{sum_to, sum_ext, sum_front, times}
+
+-- ---- all codes, and those that name one job
+
+with_named : (j : ℕ) (b : Bool) (slot : Option ℕ) (cs ds : List ℕ) → count_of (code_of j b) cs ≡ count_of (code_of j b) ds
+    → count_of (code_of j b) (with_code slot cs) ≡ count_of (code_of j b) (with_code (naming j slot) ds)
+with_named j b None cs ds e = e
+with_named j b (Some code) cs ds e = go ((code == code_of j false) || (code == code_of j true)) (code == code_of j b) refl refl where
+  go : (t d : Bool) → ((code == code_of j false) || (code == code_of j true)) ≡ t → (code == code_of j b) ≡ d
+      → (if code == code_of j b then suc (count_of (code_of j b) cs) else count_of (code_of j b) cs) ≡ count_of (code_of j b)
+      (with_code (if t then Some code else None) ds)
+  go true true p q = rw q (ap suc e)
+  go true false p q = rw q e
+  go false true p q = absurd (false≢true (sym p ∙ which b q)) where
+    which : (b : Bool) → (code == code_of j b) ≡ true → ((code == code_of j false) || (code == code_of j true)) ≡ true
+    which false q = or_left (code == code_of j false) (code == code_of j true) q
+    which true q = or_right (code == code_of j false) (code == code_of j true) q
+  go false false p q = rw q e
+
+given-step : (j : ℕ) (e : Entry) (es : List Entry)
+    → given_codes j (e ∷ es) ≡ with_code (naming j (gift_code e.reply)) (given_codes j es)
+given-step j e es = go (naming j (gift_code e.reply)) refl where
+  go : (slot : Option ℕ) → naming j (gift_code e.reply) ≡ slot → given_codes j (e ∷ es) ≡ with_code slot (given_codes j es)
+  go None q = rw q refl
+  go (Some code) q = rw q refl
+
+pub count_named : (j : ℕ) (b : Bool) (es : List Entry)
+    → count_of (code_of j b) (codes_of es) ≡ count_of (code_of j b) (given_codes j es)
+count_named j b [] = refl
+count_named j b (e ∷ es) =
+    with_named j b (gift_code e.reply) (codes_of es) (given_codes j es) (count_named j b es)
+    ∙ sym (ap (count_of (code_of j b)) (given-step j e es))
+
+-- two numbers that differ are not more often in a list than it is long
+count_two : (a b : ℕ) (cs : List ℕ) → (a ≡ b → ⊥) → count_of a cs + count_of b cs ≤ length cs
+count_two a b [] n = omega arith
+count_two a b (c ∷ cs) n = go (c == a) (c == b) refl refl (count_two a b cs n) where
+  go : (p q : Bool) → (c == a) ≡ p → (c == b) ≡ q → count_of a cs + count_of b cs ≤ length cs
+      → (if p then suc (count_of a cs) else count_of a cs) + (if q then suc (count_of b cs) else count_of b cs) ≤ suc (length cs)
+  go true true e f le = absurd (n (sym (eqb-true c a e) ∙ eqb-true c b f))
+  go true false e f le = omega arith
+  go false true e f le = omega arith
+  go false false e f le = omega arith
+
+pub codes_differ : (j : ℕ) → code_of j false ≡ code_of j true → ⊥
+codes_differ j e = absurd (omega arith)
+
+-- how often a job was named
+pub named_few : (j : ℕ) (es : List Entry)
+    → count_of (code_of j false) (codes_of es) + count_of (code_of j true) (codes_of es) ≤ length (given_codes j es)
+named_few j es =
+    let a : count_of (code_of j false) (codes_of es) ≡ count_of (code_of j false) (given_codes j es) = count_named j false es in
+    let b : count_of (code_of j true) (codes_of es) ≡ count_of (code_of j true) (given_codes j es) = count_named j true es in
+    let d : count_of (code_of j false) (given_codes j es) + count_of (code_of j true) (given_codes j es) ≤ length (given_codes j es) =
+    count_two (code_of j false) (code_of j true) (given_codes j es) (codes_differ j) in
+    omega arith
+
+count_self : (n : ℕ) → count_of n (n ∷ []) ≡ 1
+count_self n = rw (eq-eqb n n refl) refl
+
+count_other : (n m : ℕ) → (m ≡ n → ⊥) → count_of n (m ∷ []) ≡ 0
+count_other n m d = rw (ne_eqb m n d) refl
+
+-- ---- the total
+
+-- the steps that a job of this deck does
+abbrev done_by : List JobData → ℕ → List Step
+done_by deck j = steps_with (end_of deck j) (job_at deck j).steps
+
+total_from : (v : ℕ) (es : List ℕ) (jobs : List JobData) → length es ≡ length jobs
+    → sum_to (length jobs) (λ j. added_by v (steps_with (slice_index es j) (job_at jobs j).steps))
+    ≡ sum_by (outcome.added_by v) (all_steps_with es jobs)
+total_from v [] [] e = refl
+total_from v [] (job ∷ jobs) e = absurd (omega arith)
+total_from v (x ∷ es) [] e = absurd (omega arith)
+total_from v (x ∷ es) (job ∷ jobs) e =
+    sum_front (length jobs) (λ j. added_by v (steps_with (slice_index (x ∷ es) j) (job_at (job ∷ jobs) j).steps))
+    ∙ ap (λ z. added_by v (steps_with x job.steps) + z)
+    (total_from v es jobs (let f : suc (length es) ≡ suc (length jobs) = e in omega arith))
+    ∙ ap (λ z. z + sum_by (outcome.added_by v) (all_steps_with es jobs)) (sym (added_by_is v (steps_with x job.steps)))
+    ∙ sym (sum_by-cons (outcome.added_by v) (steps_with x job.steps) (all_steps_with es jobs))
+
+-- each job was given once, to be run unless its end says that it is not
+abbrev pub GivenByEnds : List JobData → List Entry → Type 0
+GivenByEnds deck es = (j : ℕ) → j < length deck → given_codes j es ≡ code_of j (end_of deck j == not_run) ∷ []
+
+pub adds_total : (deck : List JobData) (v : ℕ) (es : List Entry) → GivenByEnds deck es → adds_all deck v (codes_of es) ≡ total deck v
+adds_total deck v es given =
+    adds_by_jobs deck v (codes_of es)
+    ∙ sum_ext (length deck) (λ j. times (count_of (code_of j false) (codes_of es)) (full deck v j))
+    (λ j. added_by v (done_by deck j))
+    (λ j lt. ap (λ k. times k (full deck v j)) (count_named j false es ∙ ap (count_of (code_of j false)) (given j lt))
+    ∙ once j (end_of deck j == not_run))
+    ∙ total_from v (ends deck) deck (length-ends_from [] deck ∙ zero_more (length deck)) where
+      zero_more : (n : ℕ) → 0 + n ≡ n
+      zero_more n = omega arith
+
+      once : (j : ℕ) (b : Bool) → times (count_of (code_of j false) (code_of j b ∷ [])) (full deck v j) ≡ added_by v
+          (if b then [] else before_end (job_at deck j).steps)
+      once j true = ap (λ k. times k (full deck v j)) (count_other (code_of j false) (code_of j true) (λ e. codes_differ j (sym e)))
+      once j false = ap (λ k. times k (full deck v j)) (count_self (code_of j false)) ∙ plus_zero (full deck v j) where
+        plus_zero : (n : ℕ) → n + 0 ≡ n
+        plus_zero n = omega arith

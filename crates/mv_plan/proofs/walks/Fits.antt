@@ -1,0 +1,201 @@
+-- What holds of the machine after every legal list: a block is extended with an exit of its own; and where no request of the
+-- Posted form is allowed none stands, so that no wake posts a block.
+use Rattle.std.proofs.Common.{◌≡◌, ℕ, zero, suc, nat_lt, Bool, true, false, not, ◌||◌, cond, if◌then◌else◌, List, [], ◌∷◌, ◌++◌, length}
+use Rattle.std.proofs.Common.{map, replicate, None, ◌⊎◌, inl, inr, refl, sym, ap, ◌∙◌, subst, arith}
+use Rattle.std.specs.List.{AllByRecursion, flat_map}
+use Rattle.std.proofs.lemmas.Bool.{cases_eq, eq-eqb, ne_eqb, le-ltb, false≢true, and_parts}
+use Rattle.mv_ecb.specs.declared.operation.EcbOp.{EcbOp}
+use Rattle.mv_ecb.specs.declared.operation.EcbOp.TheVariants as ecb_op
+use Rattle.mv_ecb.specs.declared.operation.EcbReply.TheVariants as ecb_reply
+use Rattle.mv_ecb.specs.Table.{ecb_step}
+use Rattle.mv_ecb.specs.Word.{EcbState, Zero, Waiting, Extended, Complete}
+use Rattle.mv_latch.specs.declared.operation.LatchOp.{LatchOp}
+use Rattle.mv_latch.specs.declared.operation.LatchOp.TheVariants as latch_op
+use Rattle.mv_latch.specs.declared.operation.LatchReply.{LatchReply}
+use Rattle.mv_latch.specs.declared.operation.LatchReply.TheVariants as latch_reply
+use Rattle.mv_latch.specs.declared.request.LatchForm.{LatchForm}
+use Rattle.mv_latch.specs.declared.request.LatchForm.TheVariants as form_of
+use Rattle.mv_latch.specs.declared.request.Request.{Request}
+use Rattle.mv_latch.specs.Latch.{granted, shared_front, waiting, waiting_of, newly_granted, granted_by_purge, obtain_step, release_step}
+use Rattle.mv_latch.specs.Latch.{without, purged, blocker}
+use Rattle.mv_latch.specs.LatchSet.{list_of, latch_step, latch_admitted, wakes}
+use Rattle.mv_latch.specs.Request.{posted_ecb, is_posted, shared_request, wake_of}
+use Rattle.mv_machine.specs.declared.entry.Entry.{Entry}
+use Rattle.mv_machine.specs.declared.entry.Object.{Object}
+use Rattle.mv_machine.specs.declared.entry.Object.TheVariants.{Ecb, Element, Volume, Latches}
+use Rattle.mv_machine.specs.declared.entry.Op.{Op}
+use Rattle.mv_machine.specs.declared.entry.Op.TheVariants as op_on
+use Rattle.mv_machine.specs.Legal.{IsNext, next}
+use Rattle.mv_machine.specs.Setup.{Setup, is_exit_of}
+use Rattle.mv_machine.specs.System.{System, opening, admitted, ecb_admitted, latches_of, moved, with_at, turned}
+use Rattle.mv_machine.proofs.calls.Hearing.{wakes_at}
+use Rattle.mv_plan.proofs.points.Initiator.{PostNothing}
+use Rattle.mv_machine.proofs.Lists.{all_append, all_filter}
+use Rattle.mv_plan.proofs.lists.Lists.{all_drop, all_set, all_get}
+
+-- ---- requests that post nothing
+
+abbrev pub IsUnposted : Request → Type 0
+IsUnposted q = posted_ecb q.form ≡ None
+
+abbrev pub AreUnposted : List Request → Type 0
+AreUnposted qs = AllByRecursion IsUnposted qs
+
+front_unposted : (qs : List Request) → AreUnposted qs → AreUnposted (shared_front qs)
+front_unposted [] a = tt
+front_unposted (q ∷ qs) a = elim (shared_request q) as (λ b. AreUnposted (if b then q ∷ shared_front qs else [])) [
+  | true ↦ (a.0, front_unposted qs a.1)
+  | false ↦ tt
+]
+
+granted_unposted : (qs : List Request) → AreUnposted qs → AreUnposted (granted qs)
+granted_unposted [] a = tt
+granted_unposted (q ∷ qs) a = elim (shared_request q) as (λ b. AreUnposted (if b then shared_front (q ∷ qs) else q ∷ [])) [
+  | true ↦ front_unposted (q ∷ qs) a
+  | false ↦ (a.0, tt)
+]
+
+abbrev pub AllUnposted : List (List Request) → Type 0
+AllUnposted lists = AllByRecursion AreUnposted lists
+
+wakes_of_unposted : (code : ℕ) (qs : List Request) → AreUnposted qs → PostNothing (map (wake_of code) qs)
+wakes_of_unposted code [] a = tt
+wakes_of_unposted code (q ∷ qs) a = (a.0, wakes_of_unposted code qs a.1)
+
+all_flat : (f : List Request → List Request) (lists : List (List Request)) → ((qs : List Request) → AreUnposted qs → AreUnposted (f qs))
+    → AllUnposted lists → AreUnposted (flat_map f lists)
+all_flat f [] g a = tt
+all_flat f (qs ∷ lists) g a = all_append IsUnposted (f qs) (flat_map f lists) (g qs a.0) (all_flat f lists g a.1)
+
+list_unposted : (lists : List (List Request)) (latch : ℕ) → AllUnposted lists → AreUnposted (list_of lists latch)
+list_unposted lists latch a = all_get AreUnposted lists latch [] a tt
+
+purged_unposted : (requestor : ℕ) (lists : List (List Request)) → AllUnposted lists → AllUnposted (map (purged requestor) lists)
+purged_unposted requestor [] a = tt
+purged_unposted requestor (qs ∷ lists) a = (all_filter IsUnposted _ qs a.0, purged_unposted requestor lists a.1)
+
+released_unposted : (caller id : ℕ) (conditional : Bool) (qs : List Request) → AreUnposted qs
+    → AreUnposted (release_step caller id conditional qs).0
+released_unposted caller id conditional qs a = both _ _ where
+  both : (b d : Bool) → AreUnposted
+      (cond {A = List Request × LatchReply} b (qs, latch_reply.Gone)
+      (cond {A = List Request × LatchReply} d (qs, latch_reply.Waiting)
+      (without caller id qs, latch_reply.Released (length (newly_granted qs (without caller id qs)))))).0
+  both true d = a
+  both false true = a
+  both false false = all_filter IsUnposted _ qs a
+
+obtained_unposted : (r : Request) (qs : List Request) → IsUnposted r → AreUnposted qs → AreUnposted (obtain_step r qs).0
+obtained_unposted r qs p a = both _ _ where
+  both : (b d : Bool) → AreUnposted
+      (cond {A = List Request × LatchReply} b (qs ++ r ∷ [], latch_reply.Granted r.id)
+      (cond {A = List Request × LatchReply} d (qs ++ r ∷ [], latch_reply.Queued r.id) (qs, latch_reply.NotNow (blocker r qs)))).0
+  both true d = all_append IsUnposted qs (r ∷ []) a (p, tt)
+  both false true = all_append IsUnposted qs (r ∷ []) a (p, tt)
+  both false false = a
+
+none_below : (n : ℕ) → nat_lt n 0 ≡ false
+none_below n = le-ltb n 0 (omega arith)
+
+form_unposted : (form : LatchForm) (count posted : ℕ) → posted ≡ 0 → (not (is_posted form) || nat_lt count posted) ≡ true
+    → posted_ecb form ≡ None
+form_unposted form_of.Conditional count posted e t = refl
+form_unposted form_of.Waiting count posted e t = refl
+form_unposted (form_of.Posted ecb) count posted e t = absurd (false≢true (sym (ap (λ p. nat_lt count p) e ∙ none_below count) ∙ t))
+
+step_unposted : (c : Setup) (k place : ℕ) (op : LatchOp) (lists : List (List Request)) → c.posted_quota ≡ 0
+    → latch_admitted k op (latches_of c lists) ≡ true → AllUnposted lists → AllUnposted (latch_step k place op lists).0
+step_unposted c k place (latch_op.Obtain latch requestor mode form) lists e adm a =
+    all_set AreUnposted lists latch _ a
+    (obtained_unposted (record { id = place; caller = k; requestor = requestor; mode = mode; form = form }) (list_of lists latch)
+    (form_unposted form _ c.posted_quota e (and_parts _ _ (and_parts _ _ adm).1).1) (list_unposted lists latch a))
+step_unposted c k place (latch_op.Confirm latch id) lists e adm a = a
+step_unposted c k place (latch_op.Release latch id conditional) lists e adm a =
+    all_set AreUnposted lists latch _ a (released_unposted k id conditional (list_of lists latch) (list_unposted lists latch a))
+step_unposted c k place (latch_op.Purge requestor) lists e adm a = purged_unposted requestor lists a
+
+wakes_unposted : (k : ℕ) (op : LatchOp) (lists : List (List Request)) → AllUnposted lists → PostNothing (wakes k op lists)
+wakes_unposted k (latch_op.Obtain latch requestor mode form) lists a = tt
+wakes_unposted k (latch_op.Confirm latch id) lists a = tt
+wakes_unposted k (latch_op.Release latch id conditional) lists a =
+    wakes_of_unposted 0 _ (all_filter IsUnposted _ (granted (release_step k id conditional (list_of lists latch)).0)
+    (granted_unposted _ (released_unposted k id conditional (list_of lists latch) (list_unposted lists latch a))))
+wakes_unposted k (latch_op.Purge requestor) lists a =
+    all_append (λ w. w.ecb ≡ None) (map (wake_of 1) (flat_map (waiting_of requestor) lists))
+    (map (wake_of 0) (flat_map (granted_by_purge requestor) lists))
+    (wakes_of_unposted 1 _ (all_flat (waiting_of requestor) lists
+    (λ qs b. all_filter IsUnposted _ (waiting qs) (all_drop IsUnposted (length (granted qs)) qs b)) a))
+    (wakes_of_unposted 0 _ (all_flat (granted_by_purge requestor) lists
+    (λ qs b. all_filter IsUnposted _ (granted (purged requestor qs)) (granted_unposted _ (all_filter IsUnposted _ qs b))) a))
+
+-- ---- exits
+
+exit_step : (c : Setup) (k n : ℕ) (op : EcbOp) (v : EcbState) (x : ℕ) → ecb_admitted c k n op ≡ true
+    → ((y : ℕ) → v ≡ Extended y → is_exit_of c y n ≡ true)
+    → (ecb_step op v).0 ≡ Extended x → is_exit_of c x n ≡ true
+exit_step c k n ecb_op.Arm Zero x adm held e = absurd (cc e)
+exit_step c k n ecb_op.Arm Waiting x adm held e = absurd (cc e)
+exit_step c k n ecb_op.Arm (Extended y) x adm held e = held x e
+exit_step c k n ecb_op.Arm (Complete d) x adm held e = absurd (cc e)
+exit_step c k n (ecb_op.Extend z) Zero x adm held e =
+    subst (λ m. is_exit_of c m n ≡ true) (let q : z ≡ x = cc e in q) (and_parts _ _ (and_parts _ _ adm).1).1
+exit_step c k n (ecb_op.Extend z) Waiting x adm held e = absurd (cc e)
+exit_step c k n (ecb_op.Extend z) (Extended y) x adm held e = held x e
+exit_step c k n (ecb_op.Extend z) (Complete d) x adm held e = absurd (cc e)
+exit_step c k n ecb_op.Settle Zero x adm held e = absurd (cc e)
+exit_step c k n ecb_op.Settle Waiting x adm held e = absurd (cc e)
+exit_step c k n ecb_op.Settle (Extended y) x adm held e = held x e
+exit_step c k n ecb_op.Settle (Complete d) x adm held e = absurd (cc e)
+exit_step c k n ecb_op.Clear v x adm held e = absurd (cc e)
+exit_step c k n (ecb_op.Post d) Zero x adm held e = absurd (cc e)
+exit_step c k n (ecb_op.Post d) Waiting x adm held e = absurd (cc e)
+exit_step c k n (ecb_op.Post d) (Extended y) x adm held e = absurd (cc e)
+exit_step c k n (ecb_op.Post d) (Complete b) x adm held e = absurd (cc e)
+exit_step c k n ecb_op.Test v x adm held e = held x e
+
+-- ---- both, of the machine
+
+pub record Fits (c : Setup) (s : System) : Type 0 where
+  pub exits : (n x : ℕ) → (s.ecb n).state ≡ Extended x → is_exit_of c x n ≡ true
+  pub plain : AllUnposted s.latches.state
+
+none_yet : (n : ℕ) → AllUnposted (replicate n [])
+none_yet zero = tt
+none_yet (suc n) = (tt, none_yet n)
+
+pub fits_opening : (c : Setup) → Fits c (opening c)
+fits_opening c = record { exits = λ n x e. absurd (cc e); plain = none_yet c.latches }
+
+fits_moved : (c : Setup) (s : System) (k : ℕ) (o : Object) (op : Op) → c.posted_quota ≡ 0 → admitted c s k o op ≡ true → Fits c s
+    → Fits c (moved s k o op)
+fits_moved c s k (Ecb m) (op_on.Ecb op) z adm f = record { exits = λ n x e. go n x e (cases_eq n m); plain = f.plain } where
+  go : (n x : ℕ) → (with_at s.ecb m (turned (s.ecb m) (ecb_step op (s.ecb m).state).0) n).state ≡ Extended x → (n ≡ m) ⊎ (n ≡ m → ⊥)
+      → is_exit_of c x n ≡ true
+  go n x e (inl same) = subst (λ j. is_exit_of c x j ≡ true) (sym same)
+      (exit_step c k m op (s.ecb m).state x (and_parts _ _ adm).1 (λ y q. f.exits m y q)
+      (sym (ap (λ b. (if b then turned (s.ecb m) (ecb_step op (s.ecb m).state).0 else s.ecb n).state) (eq-eqb n m same)) ∙ e))
+  go n x e (inr other) = f.exits n x
+      (sym (ap (λ b. (if b then turned (s.ecb m) (ecb_step op (s.ecb m).state).0 else s.ecb n).state) (ne_eqb n m other)) ∙ e)
+fits_moved c s k (Element m) (op_on.Element op) z adm f = record { exits = f.exits; plain = f.plain }
+fits_moved c s k (Volume m) (op_on.Volume op) z adm f = record { exits = f.exits; plain = f.plain }
+fits_moved c s k Latches (op_on.Latch op) z adm f =
+    record { exits = f.exits; plain = step_unposted c k s.latches.place op s.latches.state z (and_parts _ _ adm).1 f.plain }
+fits_moved c s k o op z adm f = absurd (false≢true adm)
+
+pub fits_next : (c : Setup) (s : System) (e : Entry) → c.posted_quota ≡ 0 → IsNext c s e → Fits c s → Fits c (next s e)
+fits_next c s e z n f = fits_moved c s e.caller e.object e.op z n.admits f
+
+-- no wake posts a block
+pub fits_wakes : (c : Setup) (s : System) (k : ℕ) (o : Object) (op : Op) → Fits c s → PostNothing (wakes_at s k o op)
+fits_wakes c s k Latches (op_on.Latch op) f = wakes_unposted k op s.latches.state f.plain
+fits_wakes c s k o op f = tt
+
+-- a post that finds an exit finds one of its block
+pub fits_woke : (c : Setup) (s : System) (n code x : ℕ) → Fits c s
+    → (ecb_step (ecb_op.Post code) (s.ecb n).state).1 ≡ ecb_reply.Woke (suc x) → is_exit_of c (suc x) n ≡ true
+fits_woke c s n code x f e = go (s.ecb n).state refl e where
+  go : (v : EcbState) → (s.ecb n).state ≡ v → (ecb_step (ecb_op.Post code) v).1 ≡ ecb_reply.Woke (suc x) → is_exit_of c (suc x) n ≡ true
+  go Zero q e = absurd (cc e)
+  go Waiting q e = absurd (cc e)
+  go (Extended y) q e = f.exits n (suc x) (q ∙ ap (λ m. Extended m) (let r : y ≡ suc x = cc e in r))
+  go (Complete d) q e = absurd (cc e)

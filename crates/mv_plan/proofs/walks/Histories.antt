@@ -1,0 +1,184 @@
+-- Each history that follows is a walk from the start, with sound points; where it is a run, all tasks have finished. The
+-- results begin here.
+use Rattle.std.proofs.Common.{◌≡◌, ℕ, ◌+◌, ◌*◌, ◌-◌, ◌<◌, ◌≤◌, ◌==◌, Bool, true, false, if◌then◌else◌, List, [], length, Some, refl, sym}
+use Rattle.std.proofs.Common.{ap, ◌∙◌, arith}
+use Rattle.std.proofs.lemmas.Bool.{eq-eqb, ne_eqb}
+use Rattle.mv_machine.specs.declared.entry.Entry.{Entry}
+use Rattle.mv_machine.specs.declared.entry.Object.{Object}
+use Rattle.mv_machine.specs.declared.entry.Op.{Op}
+use Rattle.mv_machine.specs.System.{opening}
+use Rattle.mv_deck.specs.Deck.{JobData}
+use Rattle.mv_plan.proofs.deck.Sound.{IsSound}
+use Rattle.mv_machine.specs.calls.Keeping.{Kept, nothing_kept}
+use Rattle.mv_machine.specs.calls.Program.{Program, Done, Wrong, asks}
+use Rattle.mv_machine.specs.calls.Runs.{left_in}
+use Rattle.mv_plan.specs.SpoolRun.{Follows, IsRun}
+use Rattle.mv_plan.specs.SpoolSetup.{spool_setup, reader, scheduler, initiator, writer}
+use Rattle.mv_plan.specs.SpoolTasks.{task_program, reading, scheduling, writing, initiating}
+use Rattle.mv_plan.proofs.points.Points.{Point, At, Finished, TooSoon, Astray, Dispatching, reader_asks, scheduler_asks, writer_asks}
+use Rattle.mv_plan.proofs.points.Points.{initiator_asks}
+use Rattle.mv_plan.proofs.points.Programs.{program_at, reader_program, scheduler_program, writer_program, initiator_program}
+use Rattle.mv_plan.proofs.points.ReaderAndWriter.{reader_enters, reader_says, writer_enters, writer_says}
+use Rattle.mv_plan.proofs.walks.Fits.{fits_opening}
+use Rattle.mv_plan.proofs.points.Initiator.{initiator_says, opening_enters}
+use Rattle.mv_machine.proofs.calls.Interleaved.{follow_from, left_in_is, programs_after}
+use Rattle.mv_plan.proofs.points.Scheduler.{scheduler_says, stage_enters}
+use Rattle.mv_plan.proofs.points.SchedulerSound.{rest_all}
+use Rattle.mv_plan.proofs.deck.Setup.{facts}
+use Rattle.mv_plan.proofs.walks.Following.{TasksAt, Walked, walk_from}
+use Rattle.mv_plan.proofs.walks.Stands.{Stand, stand_start}
+use Rattle.mv_plan.proofs.walks.Walks.{Points, start_points, WalkTo, AllTasks}
+
+third : {A : Type 0} (a b d : Bool) (w x y z : A) → a ≡ false → b ≡ false → d ≡ true
+    → (if a then w else if b then x else if d then y else z) ≡ y
+third a b d w x y z p q r = rw (p, q, r) refl
+
+fourth : {A : Type 0} (a b d : Bool) (w x y z : A) → a ≡ false → b ≡ false → d ≡ false
+    → (if a then w else if b then x else if d then y else z) ≡ z
+fourth a b d w x y z p q r = rw (p, q, r) refl
+
+module _ (deck : List JobData) (initiators : ℕ) (some : 1 ≤ initiators) (sound : IsSound deck initiators) where
+  tasks_start : TasksAt (spool_setup deck initiators) deck initiators nothing_kept (start_points deck initiators)
+      (task_program deck initiators)
+  tasks_start = record {
+    at_reader = reader_enters (spool_setup deck initiators) 0 (length deck) (nothing_kept reader) blocks;
+    at_scheduler = stage_enters (spool_setup deck initiators) deck initiators (facts deck initiators some) sound.jobs
+        (Dispatching 0 deck) (nothing_kept scheduler) (rest_all deck) (record { caller = refl; within = λ e held. absurd (cc held) });
+    at_initiator = λ i lt. task_of i lt
+        ∙ opening_enters (spool_setup deck initiators) deck initiators i (facts deck initiators some) sound.jobs;
+    at_writer = writer_task ∙ writer_enters (spool_setup deck initiators) (length deck) initiators 0 (length deck) []
+        (nothing_kept (writer initiators)) (facts deck initiators some) (stand_start deck initiators).writer_kept (omega arith);
+  } where
+    blocks : 1 ≤ length (spool_setup deck initiators).owners
+    blocks = let e : length (spool_setup deck initiators).owners ≡ 4 * length deck + initiators = (facts deck initiators some).size in
+        omega arith
+
+    task_of : (i : ℕ) → i < initiators
+        → task_program deck initiators (initiator i) ≡ initiating (spool_setup deck initiators) deck i (nothing_kept (initiator i))
+    task_of i lt = ap (λ call. call (nothing_kept (initiator i)))
+        (fourth (initiator i == reader) (initiator i == scheduler) (initiator i == writer initiators)
+        (reading (spool_setup deck initiators) (length deck)) (scheduling (spool_setup deck initiators) initiators deck)
+        (writing (spool_setup deck initiators) (length deck)) (initiating (spool_setup deck initiators) deck (initiator i - 2))
+        (ne_eqb (initiator i) reader (λ q. absurd (omega arith))) (ne_eqb (initiator i) scheduler (λ q. absurd (omega arith)))
+        (ne_eqb (initiator i) (writer initiators) (λ q. absurd (omega arith))))
+        ∙ ap (λ m. initiating (spool_setup deck initiators) deck m (nothing_kept (initiator i))) (two_less i) where
+          two_less : (i : ℕ) → i + 2 - 2 ≡ i
+          two_less i = omega arith
+
+    writer_task : task_program deck initiators (writer initiators) ≡ writing (spool_setup deck initiators) (length deck)
+        (nothing_kept (writer initiators))
+    writer_task = ap (λ call. call (nothing_kept (writer initiators)))
+        (third (writer initiators == reader) (writer initiators == scheduler) (writer initiators == writer initiators)
+        (reading (spool_setup deck initiators) (length deck)) (scheduling (spool_setup deck initiators) initiators deck)
+        (writing (spool_setup deck initiators) (length deck))
+        (initiating (spool_setup deck initiators) deck (writer initiators - 2))
+        (ne_eqb (writer initiators) reader (λ q. absurd (omega arith)))
+        (ne_eqb (writer initiators) scheduler (λ q. absurd (omega arith))) (eq-eqb (writer initiators) (writer initiators) refl))
+
+  -- the points at which the tasks stand behind a history
+  pub record Stood (es : List Entry) : Type 0 where
+    pub points : Points
+    pub walk : WalkTo (spool_setup deck initiators) deck initiators (opening (spool_setup deck initiators))
+        (start_points deck initiators) es points
+    pub kept : ℕ → Kept
+    pub stand : Stand deck initiators kept points
+    pub tasks : TasksAt (spool_setup deck initiators) deck initiators kept points
+        (λ k. left_in (spool_setup deck initiators) (task_program deck initiators) k es)
+
+  pub stood : (es : List Entry) → Follows deck initiators es → Stood es
+  stood es f =
+      let w : Walked (spool_setup deck initiators) deck initiators (facts deck initiators some) sound.jobs
+      (opening (spool_setup deck initiators)) (start_points deck initiators) es
+      (programs_after (opening (spool_setup deck initiators)) (task_program deck initiators) es) =
+      walk_from (spool_setup deck initiators) deck initiators (facts deck initiators some) sound.jobs
+      (opening (spool_setup deck initiators)) nothing_kept (start_points deck initiators) (task_program deck initiators) es
+      f.callers (fits_opening (spool_setup deck initiators)) (stand_start deck initiators) tasks_start
+      (follow_from (spool_setup deck initiators) (task_program deck initiators) es f) in
+      record {
+        points = w.points;
+        walk = w.walk;
+        kept = w.kept;
+        stand = w.stand;
+        tasks = record {
+          at_reader = left_in_is (spool_setup deck initiators) (task_program deck initiators) es reader ∙ w.tasks.at_reader;
+          at_scheduler = left_in_is (spool_setup deck initiators) (task_program deck initiators) es scheduler ∙ w.tasks.at_scheduler;
+          at_initiator = λ i lt. left_in_is (spool_setup deck initiators) (task_program deck initiators) es (initiator i)
+              ∙ w.tasks.at_initiator i lt;
+          at_writer = left_in_is (spool_setup deck initiators) (task_program deck initiators) es (writer initiators)
+              ∙ w.tasks.at_writer;
+        };
+      }
+
+-- ---- what is left of a task says where it stands
+
+pub done_point : {X : Type 0} (f : X → Program (List ℕ)) (ask : X → Object × Op) (says : (x : X) → asks (f x) ≡ Some (ask x))
+    (p : Point X) (a : List ℕ) → program_at f p ≡ Done a → p ≡ Finished a
+done_point f ask says (At x) a e = absurd (cc (sym (says x) ∙ ap (λ q. asks q) e))
+done_point f ask says (Finished b) a e = let q : b ≡ a = cc e in ap (λ c. Finished c) q
+done_point f ask says TooSoon a e = absurd (cc e)
+done_point f ask says Astray a e = absurd (cc e)
+
+-- a task that is not astray is not at a reply that nothing foresees
+pub wrong_point : {X : Type 0} (f : X → Program (List ℕ)) (ask : X → Object × Op) (says : (x : X) → asks (f x) ≡ Some (ask x))
+    (p : Point X) → program_at f p ≡ Wrong → p ≡ Astray
+wrong_point f ask says (At x) e = absurd (cc (sym (says x) ∙ ap (λ q. asks q) e))
+wrong_point f ask says (Finished b) e = absurd (cc e)
+wrong_point f ask says TooSoon e = absurd (cc e)
+wrong_point f ask says Astray e = refl
+
+-- all tasks stand at their ends
+abbrev pub AreFinished : ℕ → Points → Type 0
+AreFinished initiators t = AllTasks initiators (λ X p. (a : List ℕ) × (p ≡ Finished a)) t
+
+-- no task's wait ended too soon
+abbrev pub AreInTime : ℕ → Points → Type 0
+AreInTime initiators t = AllTasks initiators (λ X p. p ≡ TooSoon → ⊥) t
+
+module _ (deck : List JobData) (initiators : ℕ) (some : 1 ≤ initiators) (sound : IsSound deck initiators) (es : List Entry) where
+  pub run_finished : (run : IsRun deck initiators es) → (st : Stood deck initiators some sound es) → AreFinished initiators st.points
+  run_finished run st = record {
+    at_reader = let d : (a : List ℕ) × (left_in (spool_setup deck initiators) (task_program deck initiators) reader es ≡ Done a) =
+        run.done reader (omega arith) in (
+          d.0,
+          done_point (reader_program (spool_setup deck initiators) (st.kept reader)) reader_asks
+              (reader_says (spool_setup deck initiators) (st.kept reader)) st.points.reader d.0 (sym st.tasks.at_reader ∙ d.1),
+        );
+    at_scheduler = let d : (a : List ℕ) × (left_in (spool_setup deck initiators) (task_program deck initiators) scheduler es ≡ Done a) =
+        run.done scheduler (omega arith) in (
+          d.0,
+          done_point (scheduler_program (spool_setup deck initiators) (length deck) initiators (st.kept scheduler))
+              (scheduler_asks (length deck)) (scheduler_says (spool_setup deck initiators) (length deck) initiators
+              (st.kept scheduler)) st.points.scheduler d.0 (sym st.tasks.at_scheduler ∙ d.1),
+        );
+    at_initiator = λ i lt. let d : (a : List ℕ)
+        × (left_in (spool_setup deck initiators) (task_program deck initiators) (initiator i) es ≡ Done a) =
+        run.done (initiator i) (omega arith) in (
+          d.0,
+          done_point (initiator_program (spool_setup deck initiators) deck i (st.kept (initiator i)))
+              (initiator_asks (length deck) i) (initiator_says (spool_setup deck initiators) deck i (st.kept (initiator i)))
+              (st.points.initiators i) d.0 (sym (st.tasks.at_initiator i lt) ∙ d.1),
+        );
+    at_writer = let d : (a : List ℕ)
+        × (left_in (spool_setup deck initiators) (task_program deck initiators) (writer initiators) es ≡ Done a) =
+        run.done (writer initiators) (omega arith) in (
+          d.0,
+          done_point (writer_program (spool_setup deck initiators) (length deck) (st.kept (writer initiators))) writer_asks
+              (writer_says (spool_setup deck initiators) (length deck) (st.kept (writer initiators))) st.points.writer d.0
+              (sym st.tasks.at_writer ∙ d.1),
+        );
+  }
+
+  pub in_time : (f : Follows deck initiators es) → (st : Stood deck initiators some sound es) → AreInTime initiators st.points
+  in_time f st = record {
+    at_reader = λ q. f.waits reader (omega arith)
+        (st.tasks.at_reader ∙ ap (λ p. program_at (reader_program (spool_setup deck initiators) (st.kept reader)) p) q);
+    at_scheduler = λ q. f.waits scheduler (omega arith)
+        (st.tasks.at_scheduler ∙ ap (λ p. program_at
+        (scheduler_program (spool_setup deck initiators) (length deck) initiators (st.kept scheduler)) p) q);
+    at_initiator = λ i lt q. f.waits (initiator i) (omega arith)
+        (st.tasks.at_initiator i lt ∙ ap
+        (λ p. program_at (initiator_program (spool_setup deck initiators) deck i (st.kept (initiator i))) p) q);
+    at_writer = λ q. f.waits (writer initiators) (omega arith)
+        (st.tasks.at_writer ∙ ap (λ p. program_at
+        (writer_program (spool_setup deck initiators) (length deck) (st.kept (writer initiators))) p) q);
+  }

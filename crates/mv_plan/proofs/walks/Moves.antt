@@ -1,0 +1,151 @@
+-- Moves with their entry written out, so that object, operation and reply compute by cases of the point: of_move for any
+-- relation, by_moves for invariants; and the cells of blocks and elements after a move. Each invariant below is proved by one
+-- of the two.
+use Rattle.std.proofs.Common.{refl, ◌≡◌, ℕ, ◌<◌, if◌then◌else◌, List, [], ◌∷◌, ◌++◌, length, sym, ap, subst}
+use Rattle.std.proofs.lemmas.Bool.{eq-eqb, ne_eqb}
+use Rattle.mv_ecb.specs.declared.operation.EcbOp.{EcbOp}
+use Rattle.mv_ecb.specs.Table.{ecb_step}
+use Rattle.mv_ecb.specs.Word.{EcbState}
+use Rattle.mv_element.specs.declared.element.ElementState.{ElementState}
+use Rattle.mv_element.specs.declared.operation.ElementOp.{ElementOp}
+use Rattle.mv_element.specs.Table.{element_step}
+use Rattle.mv_machine.specs.declared.entry.Entry.{Entry}
+use Rattle.mv_machine.specs.declared.entry.Object.{Object}
+use Rattle.mv_machine.specs.declared.entry.Object.TheVariants.{Ecb, Element}
+use Rattle.mv_machine.specs.declared.entry.Op.{Op}
+use Rattle.mv_machine.specs.declared.entry.Op.TheVariants as op_on
+use Rattle.mv_machine.specs.declared.entry.Reply.{Reply}
+use Rattle.mv_machine.specs.declared.entry.Reply.TheVariants as reply_of
+use Rattle.mv_machine.specs.Legal.{IsNext, next}
+use Rattle.mv_machine.specs.Setup.{Setup}
+use Rattle.mv_machine.specs.System.{System, Cell, moved, with_at, turned}
+use Rattle.mv_deck.specs.Deck.{JobData}
+use Rattle.mv_plan.specs.SpoolSetup.{reader, scheduler, initiator, writer}
+use Rattle.mv_plan.proofs.points.Points.{At, ReaderAt, reader_asks, reader_goes, SchedulerAt, scheduler_asks, scheduler_goes, WriterAt}
+use Rattle.mv_plan.proofs.points.Points.{writer_asks, writer_goes, InitiatorAt, initiator_asks, initiator_goes}
+use Rattle.mv_plan.proofs.walks.Walks.{Points, Move, reads, schedules, initiates, writes}
+
+-- ---- a move with its entry written out
+
+abbrev pub entry_of : ℕ → ℕ → Object × Op → Reply → Entry
+entry_of k p ask r = record { caller = k; object = ask.0; place = p; op = ask.1; reply = r }
+
+renamed : (R : Entry → Type 0) (e : Entry) (k : ℕ) (ask : Object × Op) → e.caller ≡ k → e.object ≡ ask.0 → e.op ≡ ask.1
+    → R (entry_of k e.place ask e.reply) → R e
+renamed R e k ask a b d x =
+    subst (λ z. R (record { caller = z; object = e.object; place = e.place; op = e.op; reply = e.reply })) (sym a)
+    (subst (λ z. R (record { caller = k; object = z; place = e.place; op = e.op; reply = e.reply })) (sym b)
+    (subst (λ z. R (record { caller = k; object = ask.0; place = e.place; op = z; reply = e.reply })) (sym d) x))
+
+-- what holds of each task's entry, written out, holds of each move
+pub record Each (c : Setup) (deck : List JobData) (initiators : ℕ) (Q : System → Points → Entry → Points → Type 0) : Type 0 where
+  pub of_reader : (s : System) (t : Points) (x : ReaderAt) (p : ℕ) (r : Reply) → t.reader ≡ At x
+      → IsNext c s (entry_of reader p (reader_asks x) r)
+      → Q s t (entry_of reader p (reader_asks x) r) (record t { reader = reader_goes x r })
+  pub of_scheduler : (s : System) (t : Points) (x : SchedulerAt) (p : ℕ) (r : Reply) → t.scheduler ≡ At x
+      → IsNext c s (entry_of scheduler p (scheduler_asks (length deck) x) r)
+      → Q s t (entry_of scheduler p (scheduler_asks (length deck) x) r)
+      (record t { scheduler = scheduler_goes (length deck) initiators x r })
+  pub of_initiator : (s : System) (t : Points) (i : ℕ) (x : InitiatorAt) (p : ℕ) (r : Reply) → i < initiators → t.initiators i ≡ At x
+      → IsNext c s (entry_of (initiator i) p (initiator_asks (length deck) i x) r)
+      → Q s t (entry_of (initiator i) p (initiator_asks (length deck) i x) r)
+      (record t { initiators = with_at t.initiators i (initiator_goes deck x r) })
+  pub of_writer : (s : System) (t : Points) (x : WriterAt) (p : ℕ) (r : Reply) → t.writer ≡ At x
+      → IsNext c s (entry_of (writer initiators) p (writer_asks x) r)
+      → Q s t (entry_of (writer initiators) p (writer_asks x) r) (record t { writer = writer_goes (length deck) x r })
+
+pub of_move : (c : Setup) (deck : List JobData) (initiators : ℕ) (Q : System → Points → Entry → Points → Type 0) → Each c deck initiators Q
+    → (s : System) (t u : Points) (e : Entry) → IsNext c s e → Move deck initiators t e u → Q s t e u
+of_move c deck initiators Q w s t u e n (reads x k at o op moved) =
+    subst (λ v. Q s t e v) (sym moved)
+    (renamed (λ e. IsNext c s e → Q s t e (record t { reader = reader_goes x e.reply })) e reader (reader_asks x) k o op
+    (w.of_reader s t x e.place e.reply at) n)
+of_move c deck initiators Q w s t u e n (schedules x k at o op moved) =
+    subst (λ v. Q s t e v) (sym moved)
+    (renamed (λ e. IsNext c s e → Q s t e (record t { scheduler = scheduler_goes (length deck) initiators x e.reply })) e scheduler
+    (scheduler_asks (length deck) x) k o op (w.of_scheduler s t x e.place e.reply at) n)
+of_move c deck initiators Q w s t u e n (initiates i x lt k at o op moved) =
+    subst (λ v. Q s t e v) (sym moved)
+    (renamed (λ e. IsNext c s e → Q s t e (record t { initiators = with_at t.initiators i (initiator_goes deck x e.reply) })) e
+    (initiator i) (initiator_asks (length deck) i x) k o op (w.of_initiator s t i x e.place e.reply lt at) n)
+of_move c deck initiators Q w s t u e n (writes x k at o op moved) =
+    subst (λ v. Q s t e v) (sym moved)
+    (renamed (λ e. IsNext c s e → Q s t e (record t { writer = writer_goes (length deck) x e.reply })) e (writer initiators)
+    (writer_asks x) k o op (w.of_writer s t x e.place e.reply at) n)
+
+pub entry_is : (e : Entry) (k : ℕ) (ask : Object × Op) → e.caller ≡ k → e.object ≡ ask.0 → e.op ≡ ask.1
+    → entry_of k e.place ask e.reply ≡ e
+entry_is e k ask a b d = renamed (λ z. entry_of k z.place ask z.reply ≡ z) e k ask a b d refl
+
+pub entry_next : (c : Setup) (s : System) (e : Entry) (k : ℕ) (ask : Object × Op) → IsNext c s e
+    → e.caller ≡ k → e.object ≡ ask.0 → e.op ≡ ask.1 → IsNext c s (entry_of k e.place ask e.reply)
+entry_next c s e k ask n a b d = subst (λ z. IsNext c s z) (sym (entry_is e k ask a b d)) n
+
+-- ---- invariants
+
+-- What is to be shown of each caller's moves, so that all moves keep P where Q holds before them
+module _ (Q P : System → Points → List Entry → Type 0) (c : Setup) (deck : List JobData) (initiators : ℕ) where
+  abbrev pub Reads : Type 0
+  Reads = (s : System) (t : Points) (past : List Entry) (x : ReaderAt) (p : ℕ) (r : Reply) → t.reader ≡ At x
+      → IsNext c s (entry_of reader p (reader_asks x) r) → Q s t past → P s t past
+      → P (moved s reader (reader_asks x).0 (reader_asks x).1) (record t { reader = reader_goes x r })
+      (past ++ entry_of reader p (reader_asks x) r ∷ [])
+
+  abbrev pub Schedules : Type 0
+  Schedules = (s : System) (t : Points) (past : List Entry) (x : SchedulerAt) (p : ℕ) (r : Reply) → t.scheduler ≡ At x
+      → IsNext c s (entry_of scheduler p (scheduler_asks (length deck) x) r) → Q s t past → P s t past
+      → P (moved s scheduler (scheduler_asks (length deck) x).0 (scheduler_asks (length deck) x).1)
+      (record t { scheduler = scheduler_goes (length deck) initiators x r })
+      (past ++ entry_of scheduler p (scheduler_asks (length deck) x) r ∷ [])
+
+  abbrev pub Initiates : Type 0
+  Initiates = (s : System) (t : Points) (past : List Entry) (i : ℕ) (x : InitiatorAt) (p : ℕ) (r : Reply) → i < initiators
+      → t.initiators i ≡ At x
+      → IsNext c s (entry_of (initiator i) p (initiator_asks (length deck) i x) r) → Q s t past → P s t past
+      → P (moved s (initiator i) (initiator_asks (length deck) i x).0 (initiator_asks (length deck) i x).1)
+      (record t { initiators = with_at t.initiators i (initiator_goes deck x r) })
+      (past ++ entry_of (initiator i) p (initiator_asks (length deck) i x) r ∷ [])
+
+  abbrev pub Writes : Type 0
+  Writes = (s : System) (t : Points) (past : List Entry) (x : WriterAt) (p : ℕ) (r : Reply) → t.writer ≡ At x
+      → IsNext c s (entry_of (writer initiators) p (writer_asks x) r) → Q s t past → P s t past
+      → P (moved s (writer initiators) (writer_asks x).0 (writer_asks x).1) (record t { writer = writer_goes (length deck) x r })
+      (past ++ entry_of (writer initiators) p (writer_asks x) r ∷ [])
+
+  abbrev pub KeepsUnder : Type 0
+  KeepsUnder = (s : System) (t u : Points) (past : List Entry) (e : Entry) → IsNext c s e → Move deck initiators t e u → Q s t past
+      → P s t past → P (next s e) u (past ++ e ∷ [])
+
+  -- an invariant is kept by all moves where it is kept by each task's
+  pub by_moves : Reads → Schedules → Initiates → Writes → KeepsUnder
+  by_moves rd sc ini wr s t u past e n m q h =
+      of_move c deck initiators (λ s t e u. (past : List Entry) → Q s t past → P s t past → P (next s e) u (past ++ e ∷ [])) (record {
+        of_reader = λ s t x p r at n past q h. rd s t past x p r at n q h;
+        of_scheduler = λ s t x p r at n past q h. sc s t past x p r at n q h;
+        of_initiator = λ s t i x p r lt at n past q h. ini s t past i x p r lt at n q h;
+        of_writer = λ s t x p r at n past q h. wr s t past x p r at n q h;
+      }) s t u e n m past q h
+
+-- ---- the machine's blocks and elements
+
+abbrev pub block : System → ℕ → EcbState
+block s b = (s.ecb b).state
+
+abbrev pub element : System → ℕ → ElementState
+element s m = (s.element m).state
+
+pub block_reply : (c : Setup) (s : System) (k m : ℕ) (op : EcbOp) (p : ℕ) (r : Reply)
+    → IsNext c s (entry_of k p (Ecb m, op_on.Ecb op) r) → r ≡ reply_of.Ecb (ecb_step op (block s m)).1
+block_reply c s k m op p r n = cc n.reply
+
+pub element_reply : (c : Setup) (s : System) (k m : ℕ) (op : ElementOp) (p : ℕ) (r : Reply)
+    → IsNext c s (entry_of k p (Element m, op_on.Element op) r) → r ≡ reply_of.Element (element_step op (element s m)).1
+element_reply c s k m op p r n = cc n.reply
+
+-- a table of cells in which one was turned
+module _ {A : Type 0} (f : ℕ → Cell A) (m : ℕ) (a : A) where
+  pub turned_there : (b : ℕ) → b ≡ m → (with_at f m (turned (f m) a) b).state ≡ a
+  turned_there b e = ap (λ z. (if z then turned (f m) a else f b).state) (eq-eqb b m e)
+
+  pub turned_elsewhere : (b : ℕ) → (b ≡ m → ⊥) → (with_at f m (turned (f m) a) b).state ≡ (f b).state
+  turned_elsewhere b d = ap (λ z. (if z then turned (f m) a else f b).state) (ne_eqb b m d)

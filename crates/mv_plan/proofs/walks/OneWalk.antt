@@ -1,0 +1,83 @@
+-- From one state and one list of entries there is one walk; so what is known of a walk's end is known along it. Used by the
+-- result on counts.
+use Rattle.std.proofs.Common.{◌≡◌, ℕ, ◌<◌, List, [], ◌∷◌, ◌++◌, length, ap, ◌∙◌, sym, subst, arith}
+use Rattle.mv_machine.specs.declared.entry.Entry.{Entry}
+use Rattle.mv_machine.specs.Legal.{next, after_from}
+use Rattle.mv_machine.specs.Setup.{Setup}
+use Rattle.mv_machine.specs.System.{System, with_at}
+use Rattle.mv_deck.specs.Deck.{JobData}
+use Rattle.mv_plan.specs.SpoolSetup.{reader, scheduler, initiator, writer}
+use Rattle.mv_plan.proofs.points.Points.{Point, At, reader_goes, scheduler_goes, writer_goes, initiator_goes}
+use Rattle.mv_plan.proofs.walks.Walks.{Points, Move, reads, schedules, initiates, writes, WalkTo, walk-parts}
+
+one_point : {X : Type 0} (p : Point X) (x y : X) → p ≡ At x → p ≡ At y → x ≡ y
+one_point p x y e f = let q : At x ≡ At y = sym e ∙ f in cc q
+
+reader_scheduler : (k : ℕ) → k ≡ reader → k ≡ scheduler → ⊥
+reader_scheduler k e f = absurd (omega arith)
+
+reader_initiator : (k i : ℕ) → k ≡ reader → k ≡ initiator i → ⊥
+reader_initiator k i e f = absurd (omega arith)
+
+reader_writer : (k n : ℕ) → k ≡ reader → k ≡ writer n → ⊥
+reader_writer k n e f = absurd (omega arith)
+
+scheduler_initiator : (k i : ℕ) → k ≡ scheduler → k ≡ initiator i → ⊥
+scheduler_initiator k i e f = absurd (omega arith)
+
+scheduler_writer : (k n : ℕ) → k ≡ scheduler → k ≡ writer n → ⊥
+scheduler_writer k n e f = absurd (omega arith)
+
+initiator_writer : (k i n : ℕ) → i < n → k ≡ initiator i → k ≡ writer n → ⊥
+initiator_writer k i n lt e f = absurd (omega arith)
+
+one_initiator : (k i m : ℕ) → k ≡ initiator i → k ≡ initiator m → i ≡ m
+one_initiator k i m e f = omega arith
+
+pub move_same : (deck : List JobData) (initiators : ℕ) (t u v : Points) (e : Entry) → Move deck initiators t e u
+    → Move deck initiators t e v → u ≡ v
+move_same deck initiators t u v e (reads x k at o op m) (reads y k' at' o' op' m') =
+    m ∙ ap (λ z. record t { reader = reader_goes z e.reply }) (one_point t.reader x y at at') ∙ sym m'
+move_same deck initiators t u v e (schedules x k at o op m) (schedules y k' at' o' op' m') =
+    m ∙ ap (λ z. record t { scheduler = scheduler_goes (length deck) initiators z e.reply }) (one_point t.scheduler x y at at') ∙ sym m'
+move_same deck initiators t u v e (writes x k at o op m) (writes y k' at' o' op' m') =
+    m ∙ ap (λ z. record t { writer = writer_goes (length deck) z e.reply }) (one_point t.writer x y at at') ∙ sym m'
+move_same deck initiators t u v e (initiates i x lt k at o op m) (initiates j y lt' k' at' o' op' m') =
+    let same : i ≡ j = one_initiator e.caller i j k k' in
+    m ∙ ap (λ l. record t { initiators = with_at t.initiators l (initiator_goes deck x e.reply) }) same
+    ∙ ap (λ z. record t { initiators = with_at t.initiators j (initiator_goes deck z e.reply) })
+    (one_point (t.initiators j) x y (subst (λ l. t.initiators l ≡ At x) same at) at') ∙ sym m'
+move_same deck initiators t u v e (reads x k at o op m) (schedules y k' at' o' op' m') = absurd (reader_scheduler e.caller k k')
+move_same deck initiators t u v e (reads x k at o op m) (initiates j y lt' k' at' o' op' m') = absurd (reader_initiator e.caller j k k')
+move_same deck initiators t u v e (reads x k at o op m) (writes y k' at' o' op' m') = absurd (reader_writer e.caller initiators k k')
+move_same deck initiators t u v e (schedules x k at o op m) (reads y k' at' o' op' m') = absurd (reader_scheduler e.caller k' k)
+move_same deck initiators t u v e (schedules x k at o op m) (initiates j y lt' k' at' o' op' m') =
+    absurd (scheduler_initiator e.caller j k k')
+move_same deck initiators t u v e (schedules x k at o op m) (writes y k' at' o' op' m') =
+    absurd (scheduler_writer e.caller initiators k k')
+move_same deck initiators t u v e (initiates i x lt k at o op m) (reads y k' at' o' op' m') = absurd (reader_initiator e.caller i k' k)
+move_same deck initiators t u v e (initiates i x lt k at o op m) (schedules y k' at' o' op' m') =
+    absurd (scheduler_initiator e.caller i k' k)
+move_same deck initiators t u v e (initiates i x lt k at o op m) (writes y k' at' o' op' m') =
+    absurd (initiator_writer e.caller i initiators lt k k')
+move_same deck initiators t u v e (writes x k at o op m) (reads y k' at' o' op' m') = absurd (reader_writer e.caller initiators k' k)
+move_same deck initiators t u v e (writes x k at o op m) (schedules y k' at' o' op' m') =
+    absurd (scheduler_writer e.caller initiators k' k)
+move_same deck initiators t u v e (writes x k at o op m) (initiates j y lt' k' at' o' op' m') =
+    absurd (initiator_writer e.caller j initiators lt' k' k)
+
+pub walk_same : (c : Setup) (deck : List JobData) (initiators : ℕ) (s : System) (t u v : Points) (es : List Entry)
+    → WalkTo c deck initiators s t es u → WalkTo c deck initiators s t es v → u ≡ v
+walk_same c deck initiators s t u v [] w z = sym w ∙ z
+walk_same c deck initiators s t u v (e ∷ es) w z =
+    walk_same c deck initiators (next s e) w.0 u v es w.3
+    (subst (λ p. WalkTo c deck initiators (next s e) p es v) (move_same deck initiators t z.0 w.0 e z.2 w.2) z.3)
+
+-- wherever a front of a walk's entries leads, the rest of the walk leads on from there
+pub walk_rest : (c : Setup) (deck : List JobData) (initiators : ℕ) (s : System) (t v u : Points) (xs ys : List Entry)
+    → WalkTo c deck initiators s t (xs ++ ys) u → WalkTo c deck initiators s t xs v
+    → WalkTo c deck initiators (after_from s xs) v ys u
+walk_rest c deck initiators s t v u xs ys w z =
+    let p : (m : Points) × WalkTo c deck initiators s t xs m × WalkTo c deck initiators (after_from s xs) m ys u =
+    walk-parts c deck initiators s t u xs ys w in
+    subst (λ m. WalkTo c deck initiators (after_from s xs) m ys u) (walk_same c deck initiators s t p.0 v xs p.1 z) p.2

@@ -1,0 +1,135 @@
+-- All points are sound, with what their tasks keep, at each moment of a walk. The first invariant; all others stand on it.
+use Rattle.std.proofs.Common.{◌≡◌, ℕ, ◌<◌, List, [], length, ◌⊎◌, inl, inr, refl, sym, ap, ◌∙◌, subst, arith}
+use Rattle.std.proofs.lemmas.Bool.{cases_eq}
+use Rattle.mv_machine.specs.declared.entry.Entry.{Entry}
+use Rattle.mv_machine.specs.declared.entry.Object.{Object}
+use Rattle.mv_machine.specs.declared.entry.Op.{Op}
+use Rattle.mv_machine.specs.Setup.{Setup}
+use Rattle.mv_machine.specs.System.{System, with_at}
+use Rattle.mv_deck.specs.Deck.{JobData}
+use Rattle.mv_plan.proofs.deck.Sound.{AreSoundJobs}
+use Rattle.mv_machine.specs.calls.Keeping.{Kept, kept_after, nothing_kept}
+use Rattle.mv_plan.specs.SpoolSetup.{reader, scheduler, initiator, writer}
+use Rattle.mv_plan.proofs.points.Points.{scheduler_asks, scheduler_goes, writer_asks, initiator_asks, initiator_goes, Dispatching}
+use Rattle.mv_plan.proofs.points.ReaderAndWriter.{keeps, IsReaderAt, reader_starts, reader_stands, WriterKept, IsWriterAt, writer_starts}
+use Rattle.mv_plan.proofs.points.ReaderAndWriter.{writer_kept_next, writer_stands}
+use Rattle.mv_plan.proofs.points.InitiatorSound.{InitiatorStands, initiator_stands, IsInitiatorAt}
+use Rattle.mv_plan.proofs.points.SchedulerSound.{SchedulerStands, scheduler_stands, stage_stands, rest_all, IsSchedulerAt}
+use Rattle.mv_plan.proofs.deck.Setup.{Facts}
+use Rattle.mv_plan.proofs.walks.Walks.{Points, start_points, Move, reads, schedules, initiates, writes}
+use Rattle.mv_plan.proofs.lists.Tables.{with_at-same, with_at-other}
+
+-- all points are sound, where the callers keep this
+pub record Stand (deck : List JobData) (initiators : ℕ) (kept : ℕ → Kept) (t : Points) : Type 0 where
+  pub at_reader : IsReaderAt (length deck) t.reader
+  pub at_scheduler : SchedulerStands deck initiators (kept scheduler) t.scheduler
+  pub at_initiator : (i : ℕ) → i < initiators → InitiatorStands deck i (kept (initiator i)) (t.initiators i)
+  pub at_writer : IsWriterAt (length deck) t.writer
+  pub writer_kept : WriterKept initiators (kept (writer initiators))
+
+-- each initiator's point is sound
+abbrev pub AreSound : List JobData → ℕ → Points → Type 0
+AreSound deck initiators t = (i : ℕ) → i < initiators → IsInitiatorAt deck (t.initiators i)
+
+-- all points are sound, whatever their tasks keep
+pub record Standing (deck : List JobData) (initiators : ℕ) (t : Points) : Type 0 where
+  pub reader : IsReaderAt (length deck) t.reader
+  pub scheduler : IsSchedulerAt deck initiators t.scheduler
+  pub each : AreSound deck initiators t
+  pub writer : IsWriterAt (length deck) t.writer
+
+pub standing : (deck : List JobData) (initiators : ℕ) (kept : ℕ → Kept) (t : Points) → Stand deck initiators kept t
+    → Standing deck initiators t
+standing deck initiators kept t s =
+    record { reader = s.at_reader; scheduler = s.at_scheduler.0; each = λ i lt. (s.at_initiator i lt).0; writer = s.at_writer }
+
+abbrev pub HasStanding : List JobData → ℕ → System → Points → List Entry → Type 0
+HasStanding deck initiators s t past = Standing deck initiators t
+
+-- what callers keep after an entry
+abbrev pub kept_next : (ℕ → Kept) → Entry → ℕ → Kept
+kept_next kept e = with_at kept e.caller (kept_after (kept e.caller) e.object e.op e.reply)
+
+pub stand_start : (deck : List JobData) (initiators : ℕ) → Stand deck initiators nothing_kept (start_points deck initiators)
+stand_start deck initiators = record {
+  at_reader = reader_starts (length deck) 0 (length deck) (omega arith);
+  at_scheduler = stage_stands deck initiators (nothing_kept scheduler) (Dispatching 0 deck) (rest_all deck)
+      (record { caller = refl; within = λ e held. absurd (cc held) });
+  at_initiator = λ i lt. (tt, refl);
+  at_writer = writer_starts (length deck) 0 (length deck) [] (omega arith);
+  writer_kept = record { caller = refl; plain = λ e. refl };
+}
+
+-- what is kept by another caller
+pub kept_other : (kept : ℕ → Kept) (e : Entry) (k j : ℕ) → e.caller ≡ k → (k ≡ j → ⊥) → kept_next kept e j ≡ kept j
+kept_other kept e k j same n = with_at-other kept e.caller j (kept_after (kept e.caller) e.object e.op e.reply) (λ q. n (sym same ∙ q))
+
+-- and by its own
+pub kept_own : (kept : ℕ → Kept) (e : Entry) (k : ℕ) (ask : Object × Op) → e.caller ≡ k → e.object ≡ ask.0 → e.op ≡ ask.1
+    → kept_next kept e k ≡ keeps (kept k) ask e.reply
+kept_own kept e k ask same o op =
+    ap (λ j. kept_next kept e j) (sym same) ∙ with_at-same kept e.caller (kept_after (kept e.caller) e.object e.op e.reply)
+    ∙ ap (λ j. kept_after (kept j) e.object e.op e.reply) same ∙ ap (λ x. kept_after (kept k) x e.op e.reply) o
+    ∙ ap (λ x. kept_after (kept k) ask.0 x e.reply) op
+
+module _ (c : Setup) (deck : List JobData) (initiators : ℕ) (facts : Facts c (length deck) initiators) (sound : AreSoundJobs 0 deck) where
+  pub stand_next : (kept : ℕ → Kept) (t u : Points) (e : Entry) → Move deck initiators t e u → Stand deck initiators kept t
+      → Stand deck initiators (kept_next kept e) u
+  stand_next kept t u e (reads x k at o op moved) s = subst (λ v. Stand deck initiators (kept_next kept e) v) (sym moved) (record {
+    at_reader = reader_stands (length deck) x e.reply (subst (λ p. IsReaderAt (length deck) p) at s.at_reader);
+    at_scheduler = subst (λ z. SchedulerStands deck initiators z t.scheduler)
+        (sym (kept_other kept e reader scheduler k (λ q. absurd (omega arith)))) s.at_scheduler;
+    at_initiator = λ i lt. subst (λ z. InitiatorStands deck i z (t.initiators i))
+        (sym (kept_other kept e reader (initiator i) k (λ q. absurd (omega arith)))) (s.at_initiator i lt);
+    at_writer = s.at_writer;
+    writer_kept = subst (λ z. WriterKept initiators z)
+        (sym (kept_other kept e reader (writer initiators) k (λ q. absurd (omega arith)))) s.writer_kept;
+  })
+  stand_next kept t u e (schedules x k at o op moved) s = subst (λ v. Stand deck initiators (kept_next kept e) v) (sym moved) (record {
+    at_reader = s.at_reader;
+    at_scheduler = subst (λ z. SchedulerStands deck initiators z (scheduler_goes (length deck) initiators x e.reply))
+        (sym (kept_own kept e scheduler (scheduler_asks (length deck) x) k o op))
+        (scheduler_stands deck initiators (kept scheduler) x e.reply
+        (subst (λ p. SchedulerStands deck initiators (kept scheduler) p) at s.at_scheduler));
+    at_initiator = λ i lt. subst (λ z. InitiatorStands deck i z (t.initiators i))
+        (sym (kept_other kept e scheduler (initiator i) k (λ q. absurd (omega arith)))) (s.at_initiator i lt);
+    at_writer = s.at_writer;
+    writer_kept = subst (λ z. WriterKept initiators z)
+        (sym (kept_other kept e scheduler (writer initiators) k (λ q. absurd (omega arith)))) s.writer_kept;
+  })
+  stand_next kept t u e (initiates i x lt k at o op moved) s =
+      subst (λ v. Stand deck initiators (kept_next kept e) v) (sym moved) (record {
+        at_reader = s.at_reader;
+        at_scheduler = subst (λ z. SchedulerStands deck initiators z t.scheduler)
+            (sym (kept_other kept e (initiator i) scheduler k (λ q. absurd (omega arith)))) s.at_scheduler;
+        at_initiator = λ m less. each m less (cases_eq i m);
+        at_writer = s.at_writer;
+        writer_kept = subst (λ z. WriterKept initiators z)
+            (sym (kept_other kept e (initiator i) (writer initiators) k (λ q. absurd (omega arith)))) s.writer_kept;
+      }) where
+        there : InitiatorStands deck i (kept_next kept e (initiator i)) (initiator_goes deck x e.reply)
+        there = subst (λ z. InitiatorStands deck i z (initiator_goes deck x e.reply))
+            (sym (kept_own kept e (initiator i) (initiator_asks (length deck) i x) k o op))
+            (initiator_stands deck i (kept (initiator i)) x e.reply sound
+            (subst (λ p. InitiatorStands deck i (kept (initiator i)) p) at (s.at_initiator i lt)))
+
+        each : (m : ℕ) → m < initiators → (i ≡ m) ⊎ (i ≡ m → ⊥)
+            → InitiatorStands deck m (kept_next kept e (initiator m)) (with_at t.initiators i (initiator_goes deck x e.reply) m)
+        each m less (inl same) = subst (λ m. InitiatorStands deck m (kept_next kept e (initiator m))
+            (with_at t.initiators i (initiator_goes deck x e.reply) m)) same
+            (subst (λ p. InitiatorStands deck i (kept_next kept e (initiator i)) p)
+            (sym (with_at-same t.initiators i (initiator_goes deck x e.reply))) there)
+        each m less (inr other) = subst (λ p. InitiatorStands deck m (kept_next kept e (initiator m)) p)
+            (sym (with_at-other t.initiators i m (initiator_goes deck x e.reply) other))
+            (subst (λ z. InitiatorStands deck m z (t.initiators m))
+            (sym (kept_other kept e (initiator i) (initiator m) k (λ q. other (omega arith)))) (s.at_initiator m less))
+  stand_next kept t u e (writes x k at o op moved) s = subst (λ v. Stand deck initiators (kept_next kept e) v) (sym moved) (record {
+    at_reader = s.at_reader;
+    at_scheduler = subst (λ z. SchedulerStands deck initiators z t.scheduler)
+        (sym (kept_other kept e (writer initiators) scheduler k (λ q. absurd (omega arith)))) s.at_scheduler;
+    at_initiator = λ i lt. subst (λ z. InitiatorStands deck i z (t.initiators i))
+        (sym (kept_other kept e (writer initiators) (initiator i) k (λ q. absurd (omega arith)))) (s.at_initiator i lt);
+    at_writer = writer_stands c (length deck) initiators facts x e.reply (subst (λ p. IsWriterAt (length deck) p) at s.at_writer);
+    writer_kept = subst (λ z. WriterKept initiators z) (sym (kept_own kept e (writer initiators) (writer_asks x) k o op))
+        (writer_kept_next initiators (kept (writer initiators)) x e.reply s.writer_kept);
+  })

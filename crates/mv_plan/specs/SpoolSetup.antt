@@ -1,0 +1,78 @@
+-- The configuration of the spool: a reader, a scheduler, initiators and a writer, who share four blocks for each job and one
+-- for each initiator.
+use Rattle.std.specs.Prelude.{ℕ, zero, suc, ◌+◌, ◌*◌, List, [], ◌∷◌, ◌++◌, length, map, replicate}
+use Rattle.std.specs.List.{range_with_len}
+use Rattle.mv_machine.specs.Setup.{Setup, SetupExit}
+use Rattle.mv_deck.specs.Deck.{JobData}
+use Rattle.mv_deck.specs.Weight.{after_parts, all_events}
+
+-- the blocks, where there are n jobs: a job was entered
+abbrev pub entered : ℕ → ℕ
+entered j = j
+
+-- a job is done
+abbrev pub done : ℕ → ℕ → ℕ
+done n j = n + j
+
+-- a job's end, for the scheduler and for the writer
+abbrev pub end_for_scheduler : ℕ → ℕ → ℕ
+end_for_scheduler n j = 2 * n + 2 * j
+
+-- the job's end, for the writer
+abbrev pub end_for_writer : ℕ → ℕ → ℕ
+end_for_writer n j = 2 * n + 2 * j + 1
+
+-- an initiator is idle
+abbrev pub idle : ℕ → ℕ → ℕ
+idle n i = 4 * n + i
+
+-- the callers
+abbrev pub reader : ℕ
+reader = 0
+
+-- the second is the scheduler
+abbrev pub scheduler : ℕ
+scheduler = 1
+
+-- the initiators follow
+abbrev pub initiator : ℕ → ℕ
+initiator i = i + 2
+
+-- and the last is the writer
+abbrev pub writer : ℕ → ℕ
+writer initiators = initiators + 2
+
+-- each job's two ends, for the scheduler and for the writer
+abbrev pub end_owners : ℕ → ℕ → List ℕ
+end_owners w zero = []
+end_owners w (suc n) = scheduler ∷ w ∷ end_owners w n
+
+-- the owner of each block
+abbrev pub block_owners : ℕ → ℕ → List ℕ
+block_owners n initiators =
+    replicate n scheduler ++ replicate n scheduler ++ end_owners (writer initiators) n ++ replicate initiators scheduler
+
+-- when a job is done, its two ends are posted
+abbrev pub end_exit : ℕ → ℕ → SetupExit
+end_exit n j = record { source = done n j; targets = end_for_scheduler n j ∷ end_for_writer n j ∷ [] }
+
+-- how many events the reader, the scheduler, each initiator and the writer may make
+abbrev pub task_budgets : List JobData → ℕ → List ℕ
+task_budgets deck initiators =
+    length deck
+    ∷ (5 * length deck + 2 * length deck * initiators + 2 * after_parts deck + 4 * initiators)
+    ∷ (replicate initiators (5 + 7 * length deck + all_events deck) ++ (2 * length deck) ∷ [])
+
+-- the configuration of a deck for so many initiators
+abbrev pub spool_setup : List JobData → ℕ → Setup
+spool_setup deck initiators = record {
+  callers = initiators + 3;
+  elements_per_caller = 1;
+  volumes = 8;
+  latches = 8;
+  quota = 8;
+  posted_quota = 0;
+  budgets = task_budgets deck initiators;
+  owners = block_owners (length deck) initiators;
+  exits = map (end_exit (length deck)) (range_with_len 0 (length deck));
+}

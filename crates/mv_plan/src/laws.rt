@@ -1,0 +1,67 @@
+//! What every history of the spool keeps to, and every run of it.
+ghost use Rattle.std.specs.Prelude.{◌≡◌, ◌<◌, ◌≤◌, ◌+◌, ℕ, List};
+ghost use Rattle.mv_machine.specs.declared.entry.Entry.{Entry};
+ghost use Rattle.mv_machine.specs.Check.{IsValid};
+ghost use Rattle.mv_report.specs.Outcome.{ends};
+ghost use Rattle.mv_plan.specs.PostingEnds.{EndsArePosted};
+ghost use Rattle.mv_plan.specs.CountingAlone.{AreExclusive};
+ghost use Rattle.mv_plan.specs.Purging.{ArePurged};
+ghost use Rattle.mv_plan.specs.HandingOut.{AreHandedOut};
+ghost use Rattle.mv_deck.specs.Deck.{JobData};
+ghost use Rattle.mv_deck.specs.Sound.{IsSound};
+ghost use Rattle.mv_machine.specs.calls.Program.{Done, Wrong};
+ghost use Rattle.mv_machine.specs.calls.Runs.{left_in};
+ghost use Rattle.mv_plan.specs.SpoolRun.{Follows, IsRun};
+ghost use Rattle.mv_plan.specs.SpoolSetup.{spool_setup, writer};
+ghost use Rattle.mv_plan.specs.SpoolTasks.{task_program};
+ghost use Rattle.mv_plan.specs.StayingWithin.{IsWithinBudgets};
+
+/// No rule of configurations refuses that of a deck which one to eight initiators can run.
+pub fn spool_setups_are_valid()
+    ensures { (deck : List JobData) (initiators : ℕ)
+        → 1 ≤ initiators → initiators ≤ 8 → IsSound deck initiators → IsValid (spool_setup deck initiators) }
+{}
+
+/// No task meets a reply that its program does not foresee.
+pub fn no_task_goes_wrong()
+    ensures { (deck : List JobData) (initiators : ℕ) (es : List Entry) (k : ℕ)
+        → 1 ≤ initiators → IsSound deck initiators → Follows deck initiators es → k < initiators + 3
+        → left_in (spool_setup deck initiators) (task_program deck initiators) k es ≡ Wrong → ⊥ }
+{}
+
+/// No task makes more events than its budget, and where it is to make another, one is left for it.
+pub fn tasks_stay_within_budgets()
+    ensures { (deck : List JobData) (initiators : ℕ) (es : List Entry)
+        → 1 ≤ initiators → IsSound deck initiators → Follows deck initiators es → IsWithinBudgets deck initiators es }
+{}
+
+/// Each run hands out each job once, to the initiator that is given its code, and in the end closes each initiator.
+pub fn runs_hand_out_each_job()
+    ensures { (deck : List JobData) (initiators : ℕ) (es : List Entry)
+        → 1 ≤ initiators → IsSound deck initiators → IsRun deck initiators es → AreHandedOut deck initiators es }
+{}
+
+/// Each run posts each job's end once, to the scheduler and to the writer.
+pub fn runs_post_each_end()
+    ensures { (deck : List JobData) (initiators : ℕ) (es : List Entry)
+        → 1 ≤ initiators → IsSound deck initiators → IsRun deck initiators es → EndsArePosted deck es }
+{}
+
+/// In each run the writer keeps the ends that the deck means.
+pub fn runs_keep_the_ends()
+    ensures { (deck : List JobData) (initiators : ℕ) (es : List Entry)
+        → 1 ≤ initiators → IsSound deck initiators → IsRun deck initiators es
+        → left_in (spool_setup deck initiators) (task_program deck initiators) (writer initiators) es ≡ Done (ends deck) }
+{}
+
+/// In each run a job counts and scans a volume alone, and the volumes end with the deck's totals.
+pub fn runs_count_alone()
+    ensures { (deck : List JobData) (initiators : ℕ) (es : List Entry)
+        → 1 ≤ initiators → IsSound deck initiators → IsRun deck initiators es → AreExclusive deck initiators es }
+{}
+
+/// Each run purges each job's requests once, and leaves no request.
+pub fn runs_purge_each_job()
+    ensures { (deck : List JobData) (initiators : ℕ) (es : List Entry)
+        → 1 ≤ initiators → IsSound deck initiators → IsRun deck initiators es → ArePurged deck initiators es }
+{}

@@ -1,0 +1,17 @@
+//! The spool's tasks, which are calls of the services set one after the other; and the laws of every history of the spool and
+//! of every run.
+#![tactic(auto)]
+
+mod closing;
+mod laws;
+mod spool_setup;
+
+pub use closing::{SpoolRun, ends_of, spool_run, volumes_of};
+pub use laws::{
+    no_task_goes_wrong, runs_count_alone, runs_hand_out_each_job, runs_keep_the_ends,
+    runs_post_each_end, runs_purge_each_job, spool_setups_are_valid, tasks_stay_within_budgets,
+};
+pub use spool_setup::spool_config;
+
+#[cfg(test)]
+mod tests;

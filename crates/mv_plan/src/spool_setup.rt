@@ -1,0 +1,154 @@
+//! The configuration of a run of a deck: the blocks, callers, exits and budgets of `specs/SpoolSetup.antt`.
+
+ghost use Rattle.std.specs.Prelude.{◌≡◌, ◌<◌, ◌≤◌, ◌+◌, ◌*◌, ◌^◌, ◌++◌, map, sum_by, length, replicate, IfOk};
+ghost use Rattle.std.specs.List.{range_with_len};
+ghost use Rattle.mv_machine.specs.Config.{exit_of};
+ghost use Rattle.mv_deck.specs.Deck.{job_data, deck_data};
+ghost use Rattle.mv_deck.specs.Sound.{IsSound};
+ghost use Rattle.mv_deck.specs.Weight.{step_events as events_of_step, all_events as events_of_jobs, after_parts as parts_of_jobs, weight};
+ghost use Rattle.mv_plan.specs.SpoolSetup.{spool_setup, task_budgets, block_owners, end_exit};
+
+use mv_deck::{Deck, Job, Step};
+use mv_io::NoMemory;
+use mv_machine::{CheckRefusal, Config, Exit, ValidConfig};
+use std::alloc::Global;
+
+// The scheduler's number. The reader's is 0, and the initiators' follow.
+const SCHEDULER: u32 = 1;
+
+// How many callers there are beside the initiators: the reader, the scheduler and the writer.
+const OTHER_TASKS: u32 = 3;
+
+// How many volumes there are, how many latches, and how many latches a job may hold at once.
+const VOLUMES: u32 = 8;
+
+// At most how many events a step makes.
+fn step_events(step: &Step) -> u32
+    ensures { result ≡ events_of_step step.now }
+{
+    match step {
+        Step::Use(_, _) | Step::Count(_, _) | Step::Scan(_) => 2,
+        Step::Free(_) => 1,
+        Step::Print(_) | Step::Abend(_) | Step::Return(_) => 0,
+    }
+}
+
+// At most how many events the steps of a job make.
+#[tactic(auto, using(crate::proofs::code::Left::steps_left))]
+fn steps_events(steps: &[Step]) -> u32
+    requires fits { sum_by events_of_step steps.now < 2 ^ 32 }
+    ensures { result ≡ sum_by events_of_step steps.now }
+{
+    let mut events = 0;
+    for step in steps {
+        events += step_events(step);
+    }
+    events
+}
+
+// At most how many events the steps of all jobs make.
+#[tactic(auto, using(crate::proofs::code::Left::events_left))]
+fn all_events(jobs: &[Job]) -> u32
+    requires fits { events_of_jobs (map job_data jobs.now) < 2 ^ 32 }
+    ensures { result ≡ events_of_jobs (map job_data jobs.now) }
+{
+    let mut events = 0;
+    for job in jobs {
+        events += steps_events(&job.steps);
+    }
+    events
+}
+
+// How many parts the AFTER lists of all jobs have.
+#[tactic(auto, using(crate::proofs::code::Left::parts_left))]
+fn after_parts(jobs: &[Job]) -> u32
+    requires fits { parts_of_jobs (map job_data jobs.now) < 2 ^ 32 }
+    ensures { result ≡ parts_of_jobs (map job_data jobs.now) }
+{
+    let mut parts = 0;
+    for job in jobs {
+        parts += job.after.len() as u32;
+    }
+    parts
+}
+
+// The budgets of the reader, the scheduler, each initiator and the writer.
+fn budgets_of(alloc: Global, deck: &Deck, initiators: u32) -> Result<Vec<u32>, NoMemory>
+    requires light { weight (deck_data deck.now) initiators ≤ 524287 }
+    requires some { 1 ≤ initiators }
+    ensures { IfOk result (λ budgets. budgets.items ≡ task_budgets (deck_data deck.now) initiators) }
+{
+    let jobs = deck.jobs.len() as u32;
+    let events = all_events(&deck.jobs);
+    let parts = after_parts(&deck.jobs);
+    let mut budgets = Vec::with_capacity(alloc, (initiators + OTHER_TASKS) as usize)?;
+    budgets.push(jobs)?;
+    budgets.push(5 * jobs + 2 * jobs * initiators + 2 * parts + 4 * initiators)?;
+    budgets.resize(initiators as usize + 2, 5 + 7 * jobs + events)?;
+    budgets.push(2 * jobs)?;
+    Ok(budgets)
+}
+
+// The owner of each block.
+fn owners_of(alloc: Global, jobs: u32, initiators: u32) -> Result<Vec<u32>, NoMemory>
+    requires few { jobs < 2 ^ 28 }
+    requires initiators { initiators ≤ 8 }
+    ensures { IfOk result (λ owners. owners.items ≡ block_owners jobs initiators) }
+{
+    let count = jobs as usize;
+    let writer = initiators + 2;
+    let mut owners = Vec::with_capacity(alloc, 4 * count + initiators as usize)?;
+    owners.resize(2 * count, SCHEDULER)?;
+    for _ in 0..jobs {
+        owners.push(SCHEDULER)?;
+        owners.push(writer)?;
+    }
+    owners.resize(4 * count + initiators as usize, SCHEDULER)?;
+    Ok(owners)
+}
+
+// The exit of each job's done block.
+fn exits_of(alloc: Global, jobs: u32) -> Result<Vec<Exit>, NoMemory>
+    requires few { jobs < 2 ^ 28 }
+    ensures { IfOk result (λ exits. map exit_of exits.items ≡ map (end_exit jobs) (range_with_len 0 jobs)) }
+{
+    let mut exits = Vec::with_capacity(alloc, jobs as usize)?;
+    for job in 0..jobs {
+        let first = 2 * jobs + 2 * job;
+        exits.push(Exit {
+            source: jobs + job,
+            targets: Vec::from_slice(alloc, &[first, first + 1])?,
+        })?;
+    }
+    Ok(exits)
+}
+
+/// The configuration of a run of this deck by so many initiators. Nothing but want of memory refuses that of a deck which they
+/// can run.
+pub fn spool_config(alloc: Global, deck: &Deck, initiators: u32) -> Result<ValidConfig, NoMemory>
+    requires some { 1 ≤ initiators }
+    requires few { initiators ≤ 8 }
+    requires sound { IsSound (deck_data deck.now) initiators }
+    ensures setup { IfOk result (λ config. config ≡ spool_setup (deck_data deck.now) initiators) }
+{
+    let jobs = deck.jobs.len() as u32;
+    let config = Config {
+        callers: initiators + OTHER_TASKS,
+        elements_per_caller: 1,
+        volumes: VOLUMES,
+        latches: VOLUMES,
+        quota: VOLUMES,
+        posted_quota: 0,
+        budgets: budgets_of(alloc, deck, initiators)?,
+        owners: owners_of(alloc, jobs, initiators)?,
+        exits: exits_of(alloc, jobs)?,
+    };
+    match config.check(alloc) {
+        Ok(config) => Ok(config),
+        Err(refusal) => match refusal {
+            CheckRefusal::NoMemory => Err(NoMemory),
+            // No rule of configurations refuses it.
+            _ => unreachable!(),
+        },
+    }
+}
