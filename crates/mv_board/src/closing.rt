@@ -33,7 +33,7 @@ pub struct Closed {
 }
 
 impl Board {
-    /// Ends the board: takes its callers back, and merges their logs. It takes no memory, and never refuses.
+    /// Ends the board: takes its callers back, and merges their logs. It needs no memory, and never refuses.
     ///
     /// The journal is the merge of the logs: again and again the lowest caller whose next entry has its object's next place gives
     /// it. Each caller's part of it is that caller's log, its told list is what the journal shows it, and each word that it met the
@@ -105,7 +105,7 @@ impl Model for Closing {
 }
 
 impl Closing {
-    /// Takes the next caller back. It takes no memory.
+    /// Takes the next caller back. It needs no memory.
     pub fn take_back(&mut self, caller: Caller)
         requires board { IsOf self.old.board caller }
         requires next { caller.number ≡ length self.old.back }
@@ -129,7 +129,7 @@ impl Closing {
         });
     }
 
-    /// Merges the logs of all callers: what `Board::close` says. It takes no memory, and never refuses.
+    /// Merges the logs of all callers: what `Board::close` says. It needs no memory, and never refuses.
     pub fn done(self) -> Closed
         requires all { length self.back ≡ self.board.config.callers }
         ensures config { result.config ≡ self.board.config }

@@ -1,4 +1,4 @@
-//! A line that is made without memory.
+//! A line that is made in room of its own, with no allocator.
 
 ghost use Rattle.std.specs.Prelude.{◌≡◌, ◌+◌, ◌≤◌, ◌++◌, [], length, decimal};
 

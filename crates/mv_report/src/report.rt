@@ -142,9 +142,9 @@ fn push_volumes(out: &mut Vec<u8>, volumes: &[u32]) -> Result<(), NoMemory>
 /// The report on a deck whose jobs came to these ends and wrote these lines, and which left this in the eight volumes.
 ///
 /// An end is an end code: 0 to 4095 of a job that ended, its return code; `2^24 + 4096 * system + user` of one that
-/// abended; `2^25` of one that was not run, whose lines do not show. Completion codes stand as z/OS prints them (z/OS MVS
-/// System Codes): a system code in three hexadecimal digits, a user code in four decimal ones. The only error is want of
-/// memory, and the time is linear in what is written.
+/// abended; `2^25` of one that was not run, whose lines do not show. Of an abend a system code stands in three
+/// hexadecimal digits, a user code in four decimal ones. The only error is want of memory, and the time is linear in what
+/// is written.
 pub fn write_report(
     alloc: Global,
     deck: &Deck,
