@@ -1,6 +1,4 @@
 -- The run of a deck, and its journal.
-pub mod EndCodes
-pub mod EightBytes
 pub mod Posts
 pub mod Legal
 pub mod Runs

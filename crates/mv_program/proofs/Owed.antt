@@ -17,22 +17,22 @@ use Rattle.mv_program.specs.Status.{replay_of}
 
 -- ---- decks
 
-apart : (bytes : List ℕ) (f : DeckFault) → first_fault bytes ≡ None → first_fault bytes ≡ Some f → ⊥
-apart bytes f none some =
+apart : (n : ℕ) (bytes : List ℕ) (f : DeckFault) → first_fault bytes n ≡ None → first_fault bytes n ≡ Some f → ⊥
+apart n bytes f none some =
     let both : None ≡ Some f = sym none ∙ some in
     absurd cc
 
-one : (bytes : List ℕ) (f g : DeckFault) → first_fault bytes ≡ Some f → first_fault bytes ≡ Some g → Deck f ≡ Deck g
-one bytes f g a b =
+one : (n : ℕ) (bytes : List ℕ) (f g : DeckFault) → first_fault bytes n ≡ Some f → first_fault bytes n ≡ Some g → Deck f ≡ Deck g
+one n bytes f g a b =
     let both : Some f ≡ Some g = sym a ∙ b in
     let same : f ≡ g = cc in
     ap Deck same
 
 one_finding : (n : ℕ) (bytes : List ℕ) (s t : Status) → IsFound n bytes s → IsFound n bytes t → s ≡ t
 one_finding n bytes Done Done a b = refl
-one_finding n bytes Done (Deck g) a b = absurd (apart bytes g a b)
-one_finding n bytes (Deck f) Done a b = absurd (apart bytes f b a)
-one_finding n bytes (Deck f) (Deck g) a b = one bytes f g a b
+one_finding n bytes Done (Deck g) a b = absurd (apart n bytes g a b)
+one_finding n bytes (Deck f) Done a b = absurd (apart n bytes f b a)
+one_finding n bytes (Deck f) (Deck g) a b = one n bytes f g a b
 one_finding n bytes Done t a b = absurd b
 one_finding n bytes (Deck f) t a b = absurd b
 one_finding n bytes s t a b = absurd a

@@ -17,8 +17,8 @@ use Rattle.mv_program.specs.Status.{replay_of}
 
 -- what a deck for so many initiators is found to be
 abbrev pub IsFound : ℕ → List ℕ → Status → Type 0
-IsFound n input Done = first_fault input ≡ None
-IsFound n input (Deck fault) = first_fault input ≡ Some fault
+IsFound n input Done = first_fault input n ≡ None
+IsFound n input (Deck fault) = first_fault input n ≡ Some fault
 IsFound n input _ = ⊥
 
 abbrev pub DeckAsks : ℕ → List ℕ → Status → Type 0

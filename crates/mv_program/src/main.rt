@@ -7,7 +7,6 @@ mod command;
 mod gate;
 mod history;
 mod laws;
-mod outcome;
 mod program;
 mod status;
 mod texts;

@@ -92,6 +92,27 @@ fn no_job(rt: HostRuntime) -> Result<(), Fail> {
     Ok(())
 }
 
+// The reports on decks whose jobs wait for one another, end with return codes, and count.
+#[test]
+fn decks_of_both_versions(rt: HostRuntime) -> Result<(), Fail> {
+    let table = [
+        (
+            b"// DECK 2\n//LOAD JOB\n// PRINT ROWS 9\n// RETURN 4\n//REPORT JOB AFTER=LOAD:4\n// PRINT OK\n//CLEAN JOB AFTER=LOAD,REPORT:8\n// PRINT CLEANED\n//\n".as_slice(),
+            b"JOB LOAD ENDED RC 4\n| ROWS 9\nJOB REPORT ENDED\n| OK\nJOB CLEAN NOT RUN\nJOBS 3 ENDED 2 ABENDED 0 NOT RUN 1\nVOLUMES 0 0 0 0 0 0 0 0\n".as_slice(),
+        ),
+        (
+            b"//ADD JOB\n// USE 0 X\n// COUNT 0 5\n// ABEND S0C4\n//NEXT JOB\n// USE 0 X\n// COUNT 0 7\n// FREE 0\n//\n".as_slice(),
+            b"JOB ADD ABENDED S0C4\nJOB NEXT ENDED\nJOBS 2 ENDED 1 ABENDED 1 NOT RUN 0\nVOLUMES 12 0 0 0 0 0 0 0\n".as_slice(),
+        ),
+    ];
+    for (deck, report) in table {
+        let mut on = streams_over(rt.alloc(), deck)?;
+        assert_eq!(rt; run(&rt, "spool 1", &mut on)?, Status::Done);
+        assert_eq!(rt; on.report.bytes(), report);
+    }
+    Ok(())
+}
+
 #[test]
 fn words_that_are_no_command(rt: HostRuntime) -> Result<(), Fail> {
     let table = [
@@ -121,10 +142,10 @@ fn words_that_are_no_command(rt: HostRuntime) -> Result<(), Fail> {
 fn decks_with_a_fault(rt: HostRuntime) -> Result<(), Fail> {
     let table = [
         (
-            b"//A JOB\n// USE 0 S\n//\n".as_slice(),
-            2,
+            b"//A JOB\n// USE 3 X\n// USE 1 S\n//\n".as_slice(),
             3,
-            b"DECK LINE 2 KIND 3\n".as_slice(),
+            9,
+            b"DECK LINE 3 KIND 9\n".as_slice(),
         ),
         (b"".as_slice(), 1, 12, b"DECK LINE 1 KIND 12\n".as_slice()),
     ];
