@@ -1,6 +1,7 @@
 use super::*;
 use mv_latch::Mode;
 use std::alloc::{AllocError, Global};
+use std::process::Abort;
 use std::test::Fail;
 
 // A fault, by its line and its kind.
@@ -9,8 +10,21 @@ fn told(line: u32, kind: u32) -> Option<DeckFault> {
 }
 
 // Each row: a text, and its first fault by the rules, or none where it is accepted.
+fn are_told(rt: &impl Abort, alloc: Global, rows: &[(&[u8], Option<DeckFault>)]) {
+    for (text, fault) in rows {
+        assert!(rt; text.len() < 1000);
+        let read = match read_deck(alloc, text, 1) {
+            Ok(_) => None,
+            Err(DeckRefusal::Fault(fault)) => Some(fault),
+            Err(DeckRefusal::NoMemory) => told(0, 0),
+        };
+        assert_eq!(rt; read, *fault);
+    }
+}
+
+// Hard lines: how a text is cut, comments, and which of two faults is told.
 #[test]
-fn hard_lines(rt: HostRuntime) {
+fn lines_and_comments(rt: HostRuntime) {
     let rows = [
         // no line; ignored lines alone
         (b"".as_slice(), told(1, 12)),
@@ -121,6 +135,23 @@ fn hard_lines(rt: HostRuntime) {
         ),
         (b" //*\n//".as_slice(), told(1, 3)),
         (b"/*\n//".as_slice(), told(1, 3)),
+        // two faults: the lower line, then the lower kind
+        (b"//9A JOB\n//B JOB X\n//".as_slice(), told(1, 4)),
+        (b"\n  \n//A JOB X\n//\t".as_slice(), told(3, 3)),
+        (b"//A JOB\n//\x1f".as_slice(), told(2, 1)),
+        (
+            b"\x1fXXXXXXXXXXXXXXXXXXXXXXXXXXXXXXXXXXXXXXXXXXXXXXXXXXXXXXXXXXXXXXXXXXXXXXXXXXXXXXXXX\n//".as_slice(),
+            told(1, 1),
+        ),
+        (b"// PRINT X\n// PRINT Y".as_slice(), told(1, 11)),
+    ];
+    are_told(&rt, rt.alloc(), &rows);
+}
+
+// Hard lines: JOB and AFTER.
+#[test]
+fn jobs_and_their_lists(rt: HostRuntime) {
+    let rows = [
         // AFTER: forms
         (b"//A JOB\n//B JOB AFTER\n//".as_slice(), told(2, 3)),
         (b"//A JOB\n//B JOB AFTER= A\n//".as_slice(), told(2, 3)),
@@ -196,6 +227,80 @@ fn hard_lines(rt: HostRuntime) {
         (b"//A JOB\n//\n//B JOB AFTER=C".as_slice(), told(3, 11)),
         (b"//A JOB\n//\n//B JOB AFTER=A,A".as_slice(), told(3, 11)),
         (b"//A JOB\n//\n//B JOB AFTER=c".as_slice(), told(3, 4)),
+        // names
+        (b"//ABCDEFGH JOB\n//".as_slice(), None),
+        (b"//ABCDEFGHI JOB\n//".as_slice(), told(1, 4)),
+        (b"//9A JOB\n//".as_slice(), told(1, 4)),
+        (b"//@#$ JOB\n//".as_slice(), None),
+        (b"//A9@#$Z09 JOB\n//".as_slice(), None),
+        (b"//a JOB\n//".as_slice(), told(1, 4)),
+        (b"/// JOB\n//".as_slice(), told(1, 4)),
+        (b"//A-B JOB\n//".as_slice(), told(1, 4)),
+        (b"//JOB JOB\n//".as_slice(), None),
+        (b"//A  JOB\n//".as_slice(), None),
+        (b"//A JOB\n//A JOB\n//".as_slice(), told(2, 5)),
+    ];
+    are_told(&rt, rt.alloc(), &rows);
+}
+
+// Hard lines: PRINT and ABEND.
+#[test]
+fn texts_and_codes(rt: HostRuntime) {
+    let rows = [
+        // texts
+        (b"//A JOB\n// PRINT\n//".as_slice(), None),
+        (b"//A JOB\n// PRINT \n//".as_slice(), None),
+        (b"//A JOB\n//   PRINT   X\n//".as_slice(), None),
+        // codes
+        (b"//A JOB\n// ABEND U0000\n//".as_slice(), None),
+        (b"//A JOB\n// ABEND U4095\n//".as_slice(), None),
+        (b"//A JOB\n// ABEND U4096\n//".as_slice(), told(2, 8)),
+        (b"//A JOB\n// ABEND U9999\n//".as_slice(), told(2, 8)),
+        (b"//A JOB\n// ABEND U12\n//".as_slice(), told(2, 8)),
+        (b"//A JOB\n// ABEND U00012\n//".as_slice(), told(2, 8)),
+        (b"//A JOB\n// ABEND U001A\n//".as_slice(), told(2, 8)),
+        (b"//A JOB\n// ABEND 0012\n//".as_slice(), told(2, 8)),
+        (b"//A JOB\n// ABEND u0012\n//".as_slice(), told(2, 8)),
+        (b"//A JOB\n// ABEND U\n//".as_slice(), told(2, 8)),
+        (b"//A JOB\n// ABEND S000\n//".as_slice(), told(2, 8)),
+        (b"//A JOB\n// ABEND S001\n//".as_slice(), None),
+        (b"//A JOB\n// ABEND SFFF\n//".as_slice(), None),
+        (b"//A JOB\n// ABEND S0c4\n//".as_slice(), told(2, 8)),
+        (b"//A JOB\n// ABEND S0G4\n//".as_slice(), told(2, 8)),
+        (b"//A JOB\n// ABEND S0C\n//".as_slice(), told(2, 8)),
+        (b"//A JOB\n// ABEND S00C4\n//".as_slice(), told(2, 8)),
+        // statements out of place
+        (b"// PRINT X\n//".as_slice(), told(1, 11)),
+        (b"// ABEND U0012\n//".as_slice(), told(1, 11)),
+        (b"// ABEND U12\n//".as_slice(), told(1, 8)),
+        (
+            b"//A JOB\n// ABEND U0012\n// PRINT X\n//".as_slice(),
+            told(3, 13),
+        ),
+        (
+            b"//A JOB\n// ABEND U0012\n// ABEND U0012\n//".as_slice(),
+            told(3, 13),
+        ),
+        (
+            b"//A JOB\n// ABEND U0012\n// ABEND U12\n//".as_slice(),
+            told(3, 8),
+        ),
+        (
+            b"//A JOB\n// ABEND U0012\n\n// PRINT X\n//".as_slice(),
+            told(4, 13),
+        ),
+        (
+            b"//A JOB\n// ABEND U0012\n//B JOB\n// PRINT X\n//".as_slice(),
+            None,
+        ),
+    ];
+    are_told(&rt, rt.alloc(), &rows);
+}
+
+// Hard lines: USE, FREE, COUNT and SCAN.
+#[test]
+fn latches_and_amounts(rt: HostRuntime) {
+    let rows = [
         // USE, FREE, COUNT and SCAN: forms
         (b"//A JOB\n// USE 0 Y\n//".as_slice(), told(2, 3)),
         (b"//A JOB\n// USE 0 s\n//".as_slice(), told(2, 3)),
@@ -329,6 +434,14 @@ fn hard_lines(rt: HostRuntime) {
             b"//A JOB\n// USE 3 S\n// ABEND U0001\n// USE 1 S\n//".as_slice(),
             told(4, 13),
         ),
+    ];
+    are_told(&rt, rt.alloc(), &rows);
+}
+
+// Hard lines: DECK, RETURN and accepted codes.
+#[test]
+fn version_2(rt: HostRuntime) {
+    let rows = [
         // version 2: DECK
         (b"// DECK 2\n//".as_slice(), None),
         (b"//  DECK  2 \r\n//A JOB\n//".as_slice(), None),
@@ -457,83 +570,8 @@ fn hard_lines(rt: HostRuntime) {
             b"// DECK 2\n//A JOB\n//\n//B JOB AFTER=A:9999".as_slice(),
             told(4, 8),
         ),
-        // names
-        (b"//ABCDEFGH JOB\n//".as_slice(), None),
-        (b"//ABCDEFGHI JOB\n//".as_slice(), told(1, 4)),
-        (b"//9A JOB\n//".as_slice(), told(1, 4)),
-        (b"//@#$ JOB\n//".as_slice(), None),
-        (b"//A9@#$Z09 JOB\n//".as_slice(), None),
-        (b"//a JOB\n//".as_slice(), told(1, 4)),
-        (b"/// JOB\n//".as_slice(), told(1, 4)),
-        (b"//A-B JOB\n//".as_slice(), told(1, 4)),
-        (b"//JOB JOB\n//".as_slice(), None),
-        (b"//A  JOB\n//".as_slice(), None),
-        (b"//A JOB\n//A JOB\n//".as_slice(), told(2, 5)),
-        // texts
-        (b"//A JOB\n// PRINT\n//".as_slice(), None),
-        (b"//A JOB\n// PRINT \n//".as_slice(), None),
-        (b"//A JOB\n//   PRINT   X\n//".as_slice(), None),
-        // codes
-        (b"//A JOB\n// ABEND U0000\n//".as_slice(), None),
-        (b"//A JOB\n// ABEND U4095\n//".as_slice(), None),
-        (b"//A JOB\n// ABEND U4096\n//".as_slice(), told(2, 8)),
-        (b"//A JOB\n// ABEND U9999\n//".as_slice(), told(2, 8)),
-        (b"//A JOB\n// ABEND U12\n//".as_slice(), told(2, 8)),
-        (b"//A JOB\n// ABEND U00012\n//".as_slice(), told(2, 8)),
-        (b"//A JOB\n// ABEND U001A\n//".as_slice(), told(2, 8)),
-        (b"//A JOB\n// ABEND 0012\n//".as_slice(), told(2, 8)),
-        (b"//A JOB\n// ABEND u0012\n//".as_slice(), told(2, 8)),
-        (b"//A JOB\n// ABEND U\n//".as_slice(), told(2, 8)),
-        (b"//A JOB\n// ABEND S000\n//".as_slice(), told(2, 8)),
-        (b"//A JOB\n// ABEND S001\n//".as_slice(), None),
-        (b"//A JOB\n// ABEND SFFF\n//".as_slice(), None),
-        (b"//A JOB\n// ABEND S0c4\n//".as_slice(), told(2, 8)),
-        (b"//A JOB\n// ABEND S0G4\n//".as_slice(), told(2, 8)),
-        (b"//A JOB\n// ABEND S0C\n//".as_slice(), told(2, 8)),
-        (b"//A JOB\n// ABEND S00C4\n//".as_slice(), told(2, 8)),
-        // statements out of place
-        (b"// PRINT X\n//".as_slice(), told(1, 11)),
-        (b"// ABEND U0012\n//".as_slice(), told(1, 11)),
-        (b"// ABEND U12\n//".as_slice(), told(1, 8)),
-        (
-            b"//A JOB\n// ABEND U0012\n// PRINT X\n//".as_slice(),
-            told(3, 13),
-        ),
-        (
-            b"//A JOB\n// ABEND U0012\n// ABEND U0012\n//".as_slice(),
-            told(3, 13),
-        ),
-        (
-            b"//A JOB\n// ABEND U0012\n// ABEND U12\n//".as_slice(),
-            told(3, 8),
-        ),
-        (
-            b"//A JOB\n// ABEND U0012\n\n// PRINT X\n//".as_slice(),
-            told(4, 13),
-        ),
-        (
-            b"//A JOB\n// ABEND U0012\n//B JOB\n// PRINT X\n//".as_slice(),
-            None,
-        ),
-        // two faults: the lower line, then the lower kind
-        (b"//9A JOB\n//B JOB X\n//".as_slice(), told(1, 4)),
-        (b"\n  \n//A JOB X\n//\t".as_slice(), told(3, 3)),
-        (b"//A JOB\n//\x1f".as_slice(), told(2, 1)),
-        (
-            b"\x1fXXXXXXXXXXXXXXXXXXXXXXXXXXXXXXXXXXXXXXXXXXXXXXXXXXXXXXXXXXXXXXXXXXXXXXXXXXXXXXXXX\n//".as_slice(),
-            told(1, 1),
-        ),
-        (b"// PRINT X\n// PRINT Y".as_slice(), told(1, 11)),
     ];
-    for (text, fault) in rows {
-        assert!(rt; text.len() < 1000);
-        let read = match read_deck(rt.alloc(), text, 1) {
-            Ok(_) => None,
-            Err(DeckRefusal::Fault(fault)) => Some(fault),
-            Err(DeckRefusal::NoMemory) => told(0, 0),
-        };
-        assert_eq!(rt; read, fault);
-    }
+    are_told(&rt, rt.alloc(), &rows);
 }
 
 #[test]
@@ -637,8 +675,8 @@ fn many_jobs(alloc: Global, jobs: u32, last: &[u8]) -> Result<Vec<u8>, AllocErro
     let mut text = Vec::new(alloc);
     for job in 0..jobs {
         text.extend_from_slice(b"//J")?;
-        for place in [10_000, 1000, 100, 10, 1] {
-            text.push(b'0' + (job / place % 10) as u8)?;
+        for front in [job / 10_000, job / 1000, job / 100, job / 10, job] {
+            text.push(b'0' + (front % 10) as u8)?;
         }
         text.extend_from_slice(b" JOB\n")?;
     }
@@ -654,12 +692,14 @@ fn the_heaviest_deck(rt: HostRuntime) -> Result<(), Fail> {
         30_839,
         b"// USE 0 X\n// FREE 0\n// USE 0 X\n// FREE 0\n// USE 0 X\n// FREE 0\n// USE 0 X\n// FREE 0\n// USE 0 X\n// FREE 0\n//\n",
     )?;
+    assert!(rt; light.len() < 1_048_576);
     assert_eq!(rt; read_deck(rt.alloc(), &light, 1)?.jobs.len(), 30_839);
     let heavy = many_jobs(
         rt.alloc(),
         30_839,
         b"// USE 0 X\n// FREE 0\n// USE 0 X\n// FREE 0\n// USE 0 X\n// FREE 0\n// USE 0 X\n// FREE 0\n// USE 0 X\n// COUNT 0 1\n//\n",
     )?;
+    assert!(rt; heavy.len() < 1_048_576);
     match read_deck(rt.alloc(), &heavy, 1) {
         Err(DeckRefusal::Fault(fault)) => assert_eq!(rt; Some(fault), told(30_849, 14)),
         _ => assert!(rt; false),
