@@ -1,13 +1,13 @@
--- What a replay tells is what its command tells, and what a run tells goes by its words.
+-- What the writing of both texts leaves, and what a replay leaves, is what their commands tell; and a run goes by its words.
 use Rattle.std.proofs.Common.{◌≡◌, ℕ, List, [], Option, Some, None, refl, sym, ap, subst, ◌∙◌, append-nil}
-use Rattle.std.specs.Prelude.{IsSomeAnd}
+use Rattle.std.specs.Prelude.{IfSome, IsSomeAnd}
 use Rattle.mv_io.specs.Sink.{Appends}
 use Rattle.mv_replay.specs.Outcome.{legal_text, ReportAfter}
 use Rattle.mv_program.specs.declared.command.Command.{Command}
-use Rattle.mv_program.specs.declared.command.Command.TheVariants.{Replay}
+use Rattle.mv_program.specs.declared.command.Command.TheVariants.{Spool, Replay}
 use Rattle.mv_program.specs.declared.status.Status.{Status}
 use Rattle.mv_program.specs.declared.status.Status.TheVariants.{Done, Words, Deck, TooLong, ReadFailed, ReportFailed, JournalFailed, NoMemory, Illegal, Text}
-use Rattle.mv_program.specs.Outcome.{Told}
+use Rattle.mv_program.specs.Outcome.{TellsRun, Told, Writes}
 use Rattle.mv_program.specs.Status.{replay_of}
 
 -- what holds of the command holds of the words that are it
@@ -15,6 +15,34 @@ pub told_for : (w c : Option Command) (s : Status) (input report0 report1 journa
     → Told c s input report0 report1 journal0 journal1 → Told w s input report0 report1 journal0 journal1
 told_for w c s input report0 report1 journal0 journal1 e told =
     subst (λ (k : Option Command). Told k s input report0 report1 journal0 journal1) (sym e) told
+
+-- ---- decks
+
+-- the texts are those of the input that was read
+told_of_input : (n : ℕ) (input left : Option (List ℕ)) (items report journal : List ℕ)
+    → IfSome input (λ xs. (items ≡ xs) × (left ≡ Some [])) → TellsRun n items report journal
+    → IfSome input (λ xs. TellsRun n xs report journal)
+told_of_input n None left items report journal read tells = tt
+told_of_input n (Some xs) left items report journal read tells =
+    subst (λ (bytes : List ℕ). TellsRun n bytes report journal) read.0 tells
+
+deck_is_told : (n : ℕ) (s : Status) (input report0 report1 journal0 journal1 : Option (List ℕ)) (report journal : List ℕ)
+    → IfSome input (λ bytes. TellsRun n bytes report journal) → Writes s report0 report1 journal0 journal1 report journal
+    → Told (Some (Spool n)) s input report0 report1 journal0 journal1
+deck_is_told n Done None report0 report1 journal0 journal1 report journal tells wrote = tt
+deck_is_told n Done (Some bytes) report0 report1 journal0 journal1 report journal tells wrote = (report, journal, tells, wrote)
+deck_is_told n ReportFailed None report0 report1 journal0 journal1 report journal tells wrote = tt
+deck_is_told n ReportFailed (Some bytes) report0 report1 journal0 journal1 report journal tells wrote = (report, journal, tells, wrote)
+deck_is_told n JournalFailed None report0 report1 journal0 journal1 report journal tells wrote = tt
+deck_is_told n JournalFailed (Some bytes) report0 report1 journal0 journal1 report journal tells wrote = (report, journal, tells, wrote)
+deck_is_told n s input report0 report1 journal0 journal1 report journal tells wrote = absurd wrote
+
+pub run_is_told : (n : ℕ) (s : Status) (input left report0 report1 journal0 journal1 : Option (List ℕ)) (items report journal : List ℕ)
+    → IfSome input (λ xs. (items ≡ xs) × (left ≡ Some [])) → TellsRun n items report journal
+    → Writes s report0 report1 journal0 journal1 report journal → Told (Some (Spool n)) s input report0 report1 journal0 journal1
+run_is_told n s input left report0 report1 journal0 journal1 items report journal read tells wrote =
+    deck_is_told n s input report0 report1 journal0 journal1 report journal
+    (told_of_input n input left items report journal read tells) wrote
 
 -- ---- a replay has no journal
 
