@@ -1,0 +1,135 @@
+-- Exits: which a block can have, where they lead, and what they cost.
+use Rattle.std.proofs.Common.{◌≡◌, ℕ, zero, suc, ◌+◌, ◌-◌, ◌^◌, ◌<◌, ◌≤◌, ◌==◌, ◌&&◌, nat_lt, min, max, Bool, true, false, List, [], ◌∷◌}
+use Rattle.std.proofs.Common.{◌++◌, length, map, cond, Option, Some, None, slice_get, refl, sym, ap, ◌∙◌, subst, arith}
+use Rattle.std.proofs.lemmas.Bool.{false≢true, eqb-true, and_parts}
+use Rattle.std.specs.List.{AllByRecursion}
+use Rattle.mv_ecb.specs.declared.operation.EcbOp.{EcbOp}
+use Rattle.mv_ecb.specs.declared.operation.EcbOp.TheVariants.{Arm, Extend, Settle, Clear, Post, Test}
+use Rattle.mv_ecb.specs.declared.operation.EcbReply.TheVariants as ecb_reply
+use Rattle.mv_ecb.specs.Table.{ecb_step}
+use Rattle.mv_ecb.specs.Word.{EcbState, Zero, Waiting, Extended, Complete}
+use Rattle.mv_machine.specs.declared.entry.Entry.{Entry}
+use Rattle.mv_machine.specs.declared.entry.Object.{Object}
+use Rattle.mv_machine.specs.declared.entry.Object.TheVariants.{Ecb, Element, Volume, Latches}
+use Rattle.mv_machine.specs.declared.entry.Op.{Op}
+use Rattle.mv_machine.specs.declared.entry.Op.TheVariants as op_on
+use Rattle.mv_machine.specs.declared.entry.Reply.{Reply}
+use Rattle.mv_machine.specs.declared.entry.Reply.TheVariants as reply_of
+use Rattle.mv_machine.specs.Check.{IsValid}
+use Rattle.mv_machine.specs.Legal.{IsNext, Legal, next, after}
+use Rattle.mv_machine.specs.Parts.{IsPossible}
+use Rattle.mv_machine.specs.Reach.{cut, exits_of, greatest, total, reach, reach_within}
+use Rattle.mv_machine.specs.Setup.{Setup, SetupExit, owner_of, is_exit_of, starts_from}
+use Rattle.mv_machine.specs.System.{System, opening, moved, admitted, ecb_admitted}
+use Rattle.mv_machine.proofs.Chains.{all_at}
+use Rattle.mv_machine.proofs.EntryRuns.{along_all}
+use Rattle.mv_machine.proofs.Posting.{exits_are_own}
+use Rattle.mv_machine.proofs.Reaches.{all_lead_up, next_reach, LeadsUp}
+use Rattle.mv_board.specs.Faces.{CallerFace, Happened}
+use Rattle.mv_machine.specs.calls.Posts.{Posting, posted_next, targets_of, targets_at}
+use Rattle.mv_machine.specs.calls.Posts as came
+use Rattle.mv_wait.specs.Posted.{Leads, exit_of, reply_to_post}
+use Rattle.mv_wait.proofs.Answering.{made_behind}
+use Rattle.mv_wait.proofs.Runs.{entry_of}
+
+-- a post that is answered with an exit is answered with one that starts from the block
+pub exit_known : (c : Setup) (t u : CallerFace) (e d x : ℕ)
+    → Happened t (Ecb e) (op_on.Ecb (Post d)) (reply_of.Ecb (ecb_reply.Woke (suc x))) u → IsPossible c u.number u.log u.told
+    → is_exit_of c (suc x) e ≡ true
+exit_known c t u e d x h p =
+    let b = made_behind c t u (Ecb e) h.0 (op_on.Ecb (Post d)) (reply_of.Ecb (ecb_reply.Woke (suc x))) h.1 p in
+    exits_are_own c b.before (entry_of t (Ecb e) h.0 (op_on.Ecb (Post d)) (reply_of.Ecb (ecb_reply.Woke (suc x)))) b.legal b.follows
+
+-- ---- where it leads, and what that costs
+
+greatest_more : (F : SetupExit → ℕ) (e n : ℕ) (y : SetupExit) (xs : List SetupExit) (b : Bool) → n ≤ greatest (map F (exits_of e xs))
+    → n ≤ greatest (map F (cond b (y ∷ exits_of e xs) (exits_of e xs)))
+greatest_more F e n y xs true le = omega arith
+greatest_more F e n y xs false le = le
+
+greatest_here : (F : SetupExit → ℕ) (e : ℕ) (y : SetupExit) (xs : List SetupExit) (b : Bool) → b ≡ true
+    → F y ≤ greatest (map F (cond b (y ∷ exits_of e xs) (exits_of e xs)))
+greatest_here F e y xs true is = omega arith
+greatest_here F e y xs false is = absurd (false≢true is)
+
+greatest_member : (F : SetupExit → ℕ) (e : ℕ) (xs : List SetupExit) (i : ℕ) (x : SetupExit) → slice_get xs i ≡ Some x
+    → (x.source == e) ≡ true
+    → F x ≤ greatest (map F (exits_of e xs))
+greatest_member F e [] i x at is = absurd (cc at)
+greatest_member F e (y ∷ xs) zero x at is =
+    let same : y ≡ x = cc at in
+    subst (λ z. F z ≤ greatest (map F (exits_of e (y ∷ xs)))) same (greatest_here F e y xs (y.source == e) (ap (λ (z : SetupExit). z.source == e) same ∙ is))
+greatest_member F e (y ∷ xs) (suc i) x at is = greatest_more F e (F x) y xs (y.source == e) (greatest_member F e xs i x at is)
+
+starts : (e : ℕ) (o : Option SetupExit) → starts_from e o ≡ true → (x : SetupExit) × (o ≡ Some x) × ((x.source == e) ≡ true)
+starts e None s = absurd (false≢true s)
+starts e (Some x) s = (x, refl, s)
+
+pub one_at_least : (c : Setup) (e : ℕ) → IsValid c → e < length c.owners → 1 ≤ reach c e
+one_at_least c e v lt =
+    let n = next_reach c v (reach c) e lt (λ t up there. refl) in omega arith
+
+pub exit_leads : (c : Setup) (x e : ℕ) → IsValid c → e < length c.owners → is_exit_of c (suc x) e ≡ true → Leads c e (targets_of c (suc x))
+exit_leads c x e v there is =
+    let minus : suc x - 1 ≡ x = omega arith in
+    let from : starts_from e (slice_get c.exits x) ≡ true = subst (λ i. starts_from e (slice_get c.exits i) ≡ true) minus ((and_parts (nat_lt 0 (suc x)) (starts_from e (slice_get c.exits (suc x - 1))) is).1) in
+    let s = starts e (slice_get c.exits x) from in
+    let source : s.0.source ≡ e = eqb-true s.0.source e s.2 in
+    let up : LeadsUp (length c.owners) s.0 = all_at (LeadsUp (length c.owners)) c.exits x s.0 s.1 (all_lead_up c v) in
+    let most = greatest_member (λ (y : SetupExit). total (reach c) y.targets) e c.exits x s.0 s.1 s.2 in
+    let n = next_reach c v (reach c) e there (λ t higher below. refl) in
+    subst (λ o. Leads c e (targets_at o)) (sym s.1) (record {
+      up = subst (λ k. AllByRecursion (λ t. (k < t) × (t < length c.owners)) s.0.targets) source up;
+      cost = λ exact. omega arith;
+    })
+
+pub no_exit_leads : (c : Setup) (e : ℕ) → IsValid c → e < length c.owners → Leads c e []
+no_exit_leads c e v there = record { up = tt; cost = λ exact. one_at_least c e v there }
+
+pub next_is : (c : Setup) (p : Posting) → posted_next c p ≡ targets_of c (exit_of p)
+next_is c came.Posted = refl
+next_is c (came.Woke exit) = refl
+next_is c (came.Already d) = refl
+
+-- what a post leads to
+pub came_leads : (c : Setup) (t u : CallerFace) (e d : ℕ) (p : Posting) → IsValid c → e < length c.owners
+    → Happened t (Ecb e) (op_on.Ecb (Post d)) (reply_of.Ecb (reply_to_post p)) u → IsPossible c u.number u.log u.told
+    → Leads c e (posted_next c p)
+came_leads c t u e d came.Posted v there h q = no_exit_leads c e v there
+came_leads c t u e d (came.Already k) v there h q = no_exit_leads c e v there
+came_leads c t u e d (came.Woke zero) v there h q = no_exit_leads c e v there
+came_leads c t u e d (came.Woke (suc x)) v there h q = exit_leads c x e v there (exit_known c t u e d x h q)
+
+pub total-append : (f : ℕ → ℕ) (xs ys : List ℕ) → total f (xs ++ ys) ≡ total f xs + total f ys
+total-append f [] ys = omega arith
+total-append f (x ∷ xs) ys = let r = total-append f xs ys in omega arith
+
+-- there are no more blocks than posts that they lead to
+pub few_blocks : (c : Setup) (es : List ℕ) → IsValid c → AllByRecursion (λ e. e < length c.owners) es → length es ≤ total (reach c) es
+few_blocks c [] v all = omega arith
+few_blocks c (e ∷ es) v all = let r = few_blocks c es v all.1 in let one = one_at_least c e v all.0 in omega arith
+
+pub below_all : (c : Setup) (e : ℕ) (ts : List ℕ) → AllByRecursion (λ t. (e < t) × (t < length c.owners)) ts
+    → AllByRecursion (λ t. t < length c.owners) ts
+below_all c e [] all = tt
+below_all c e (t ∷ ts) all = (all.0.1, below_all c e ts all.1)
+
+pub targets_is : (c : Setup) (exit : ℕ) → (exit ≡ 0 → ⊥) → targets_of c exit ≡ targets_at (slice_get c.exits (exit - 1))
+targets_is c zero some = absurd (some refl)
+targets_is c (suc x) some = let minus : suc x - 1 ≡ x = omega arith in ap (λ i. targets_at (slice_get c.exits i)) (sym minus)
+
+within_some : (k : ℕ) (c : Setup) (e : ℕ) → 0 < k → 1 ≤ reach_within k c e
+within_some zero c e lt = absurd (omega arith)
+within_some (suc k) c e lt = omega arith
+
+pub reach_some : (c : Setup) (e : ℕ) → e < length c.owners → 1 ≤ reach c e
+reach_some c e lt = within_some (length c.owners) c e (omega arith)
+
+-- what is pending and what an exit posts has room, where there is room for all events that are left
+pub room_for : (c : Setup) (e left room : ℕ) (ts pending : List ℕ) → IsValid c → Leads c e ts
+    → AllByRecursion (λ t. t < length c.owners) pending
+    → reach c e + total (reach c) pending ≤ left → left ≤ 524287 → left ≤ room → length pending + length ts ≤ room
+room_for c e left room ts pending v leads there cost few fits =
+    let a = leads.cost (omega arith) in
+    let b = few_blocks c ts v (below_all c e ts leads.up) in
+    let d = few_blocks c pending v there in omega arith

@@ -1,0 +1,25 @@
+-- events that a task made, and how far a program ran by them
+pub mod Runs
+pub mod OneEvent
+pub mod Compose
+-- what a reply says, by the history behind it
+pub mod Answering
+pub mod Admits
+pub mod Low
+-- what a task keeps, in its tables
+pub mod Keeping
+pub mod Slots
+pub mod Entries
+pub mod Recording
+pub mod Fresh
+-- looks for what a task waits for, and the callers of a new board
+pub mod Peeks
+-- waits
+pub mod Waits
+pub mod Parts
+pub mod Unrefusing
+-- posts with their exits
+pub mod Exits
+pub mod Posts
+-- calls of one event
+pub mod Singles

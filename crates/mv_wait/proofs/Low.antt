@@ -1,0 +1,27 @@
+-- The generations that replies name are low.
+use Rattle.std.proofs.Common.{◌≡◌, ℕ, List, ap, ◌∙◌, subst}
+use Rattle.std.specs.List.{AllByRecursion}
+use Rattle.mv_machine.specs.Check.{IsValid}
+use Rattle.mv_machine.specs.Parts.{IsPossible}
+use Rattle.mv_machine.specs.Setup.{Setup}
+use Rattle.mv_machine.specs.declared.entry.Entry.{Entry}
+use Rattle.mv_machine.specs.declared.entry.Object.{Object}
+use Rattle.mv_machine.specs.declared.entry.Op.{Op}
+use Rattle.mv_machine.specs.declared.entry.Reply.{Reply}
+use Rattle.mv_board.specs.Faces.{BoardFace, CallerFace, IsOf, Happened}
+use Rattle.mv_machine.specs.Replies.{NamesUpTo}
+use Rattle.mv_machine.proofs.Uses.{possible_names}
+use Rattle.mv_wait.specs.declared.record.Record.TheInside.{Inside}
+use Rattle.mv_wait.specs.Record.{Fits, IsRecorded}
+use Rattle.mv_wait.proofs.Runs.{entry_of}
+
+-- a task's configuration is valid
+pub valid_of : (r : Inside) (t : CallerFace) (b : BoardFace) → r.caller ≡ t → IsRecorded r → IsOf b t → IsValid b.config
+valid_of r t b view inv of =
+    let about = ap (λ (d : CallerFace). d.about) view ∙ of.1 in
+    let fits = (subst (AllByRecursion (Fits r.caller r.keep)) about inv.fits).0 in fits.valid
+
+pub names_low : (c : Setup) (t u : CallerFace) (o : Object) (op : Op) (reply : Reply) → Happened t o op reply u
+    → IsPossible c u.number u.log u.told → IsValid c → NamesUpTo 262143 reply
+names_low c t u o op reply h p v = possible_names c t.number t.log (entry_of t o h.0 op reply) u.told v
+    (subst (λ (z : ℕ × List Entry). IsPossible c z.0 z.1 u.told) (λ i. (h.1.same.number i, h.1.logged i)) p)

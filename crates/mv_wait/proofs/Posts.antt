@@ -1,0 +1,260 @@
+-- A post, target by target: what is left of its program is a stack of lists that are still to be posted.
+use Rattle.std.proofs.Common.{◌≡◌, ℕ, zero, suc, ◌+◌, ◌-◌, ◌<◌, ◌≤◌, append-nil, List, [], ◌∷◌, ◌++◌, length, Option, Some, refl, sym, ap}
+use Rattle.std.proofs.Common.{◌∙◌, subst, arith}
+use Rattle.std.specs.List.{AllByRecursion}
+use Rattle.mv_ecb.specs.declared.operation.EcbOp.TheVariants.{Post}
+use Rattle.mv_machine.specs.declared.entry.Object.{Object}
+use Rattle.mv_machine.specs.declared.entry.Object.TheVariants.{Ecb}
+use Rattle.mv_machine.specs.declared.entry.Op.{Op}
+use Rattle.mv_machine.specs.declared.entry.Op.TheVariants as op_on
+use Rattle.mv_machine.specs.declared.entry.Reply.TheVariants as reply_of
+use Rattle.mv_machine.specs.Setup.{Setup}
+use Rattle.mv_board.specs.Faces.{CallerFace, Happened}
+use Rattle.mv_machine.specs.declared.entry.Entry.{Entry}
+use Rattle.mv_machine.specs.declared.entry.Reply.{Reply}
+use Rattle.mv_machine.specs.Reach.{reach, total}
+use Rattle.mv_machine.specs.calls.Rest.{IsAtRest, no_waits}
+use Rattle.mv_machine.proofs.calls.Making.{waits_from-append}
+use Rattle.mv_wait.specs.Answers.{post_answer}
+use Rattle.mv_wait.specs.declared.posting.PostAnswer.{PostAnswer}
+use Rattle.mv_wait.specs.Posted.{Leads}
+use Rattle.mv_wait.proofs.Exits.{total-append}
+use Rattle.mv_machine.specs.calls.Posts.{Posting, posting, post, post_within, each_posted, posted_next}
+use Rattle.mv_machine.specs.calls.Posts as came
+use Rattle.mv_machine.specs.calls.Program.{Program, Do, Done, Heard, asks, heard, and_then, on_ecb}
+use Rattle.mv_wait.specs.Posted.{reply_to_post}
+use Rattle.mv_wait.specs.Run.{Runs, IsServed}
+use Rattle.mv_wait.proofs.Runs.{runs_word, runs_then, runs_within}
+
+-- blocks of one exit that are still to be posted, how deep exits are followed there, and the answer of the post that has the exit
+pub record Frame : Type 0 where
+  pub depth : ℕ
+  pub blocks : List ℕ
+  pub answer : Posting
+
+-- all that is still to be posted, the next one first
+abbrev pub flat : List Frame → List ℕ
+flat [] = []
+flat (f ∷ fs) = f.blocks ++ flat fs
+
+module _ (c : Setup) (code : ℕ) where
+  -- a program and what is to be posted after it
+  abbrev pub behind : Program Posting → List Frame → Program Posting
+  behind p [] = p
+  behind p (f ∷ fs) = behind (and_then p (λ a. each_posted (post_within f.depth c code) f.blocks f.answer)) fs
+
+  asks_behind : (o : Object) (op : Op) (next : Heard → Program Posting) (fs : List Frame) → asks (behind (Do o op next) fs) ≡ Some (o, op)
+  asks_behind o op next [] = refl
+  asks_behind o op next (f ∷ fs) = asks_behind o op (λ h. and_then (next h) (λ a. each_posted (post_within f.depth c code) f.blocks f.answer)) fs
+
+  heard_behind : (o : Object) (op : Op) (next : Heard → Program Posting) (h : Heard) (fs : List Frame)
+      → heard (behind (Do o op next) fs) h ≡ behind (next h) fs
+  heard_behind o op next h [] = refl
+  heard_behind o op next h (f ∷ fs) = heard_behind o op (λ x. and_then (next x) (λ a. each_posted (post_within f.depth c code) f.blocks f.answer)) h fs
+
+  -- exits of these blocks are followed deep enough
+  abbrev pub AreDeep : ℕ → List ℕ → Type 0
+  AreDeep depth es = AllByRecursion (λ e. (length c.owners ≤ e + depth) × (e < length c.owners)) es
+
+  abbrev pub AllDeep : List Frame → Type 0
+  AllDeep fs = AllByRecursion (λ f. AreDeep f.depth f.blocks) fs
+
+  -- the last of them has the answer of the whole post
+  abbrev pub EndsIn : Posting → List Frame → Type 0
+  EndsIn a [] = ⊥
+  EndsIn a (f ∷ []) = f.answer ≡ a
+  EndsIn a (f ∷ g ∷ fs) = EndsIn a (g ∷ fs)
+
+  -- nothing more is to be posted
+  ends_one : (a x : Posting) (f : Frame) (es : List ℕ) → f.answer ≡ a → es ≡ []
+      → and_then (Done x) (λ p. each_posted (post_within f.depth c code) es f.answer) ≡ Done a
+  ends_one a x f [] e none = ap (λ p. Done p) e
+  ends_one a x f (n ∷ es) e none = absurd (cc none)
+
+  first_empty : (es more : List ℕ) → es ++ more ≡ [] → (es ≡ []) × (more ≡ [])
+  first_empty [] more e = (refl, e)
+  first_empty (n ∷ es) more e = absurd (cc e)
+
+  pub ends : (a x : Posting) (fs : List Frame) → EndsIn a fs → flat fs ≡ [] → behind (Done x) fs ≡ Done a
+  ends a x [] e none = absurd e
+  ends a x (f ∷ []) e none = ends_one a x f f.blocks e (first_empty f.blocks [] none).0
+  ends a x (f ∷ g ∷ fs) e none =
+      let parts = first_empty f.blocks (flat (g ∷ fs)) none in
+      subst (λ (es : List ℕ). behind (and_then (Done x) (λ p. each_posted (post_within f.depth c code) es f.answer)) (g ∷ fs) ≡ Done a) (sym parts.0)
+      (ends a f.answer (g ∷ fs) e parts.1)
+
+  -- the next block's post, and what is to be posted after it
+  pub record Next (a : Posting) (e : ℕ) (rest : List ℕ) (fs : List Frame) : Type 0 where
+    pub depth : ℕ
+    pub deep : (length c.owners ≤ e + suc depth) × (e < length c.owners)
+    pub frames : List Frame
+    pub flat_is : flat frames ≡ rest
+    pub all_deep : AllDeep frames
+    pub ends_in : EndsIn a frames
+    pub same : (x : Posting) → behind (Done x) fs ≡ behind (post_within (suc depth) c code e) frames
+
+  next_in : (a : Posting) (depth e : ℕ) (es rest : List ℕ) (answer : Posting) (fs : List Frame)
+      → EndsIn a (record { depth = depth; blocks = e ∷ es; answer = answer } ∷ fs)
+      → AllDeep (record { depth = depth; blocks = e ∷ es; answer = answer } ∷ fs) → es ++ flat fs ≡ rest
+      → Next a e rest (record { depth = depth; blocks = e ∷ es; answer = answer } ∷ fs)
+  next_in a zero e es rest answer fs ending deep is = let d = deep.0.0 in absurd (omega arith)
+  next_in a (suc depth) e es rest answer fs ending deep is = record {
+    depth = depth;
+    deep = deep.0.0;
+    frames = record { depth = suc depth; blocks = es; answer = answer } ∷ fs;
+    flat_is = is;
+    all_deep = (deep.0.1, deep.1);
+    ends_in = same_end fs ending;
+    same = λ x. refl;
+  } where
+    same_end : (gs : List Frame) → EndsIn a (record { depth = suc depth; blocks = e ∷ es; answer = answer } ∷ gs) → EndsIn a (record { depth = suc depth; blocks = es; answer = answer } ∷ gs)
+    same_end [] x = x
+    same_end (g ∷ gs) x = x
+
+  in_frame : (a : Posting) (e : ℕ) (rest : List ℕ) (f : Frame) (fs : List Frame) (es : List ℕ) → f.blocks ≡ es → EndsIn a (f ∷ fs)
+      → AllDeep (f ∷ fs) → es ++ flat fs ≡ e ∷ rest
+      → (EndsIn a fs → AllDeep fs → flat fs ≡ e ∷ rest → Next a e rest fs) → Next a e rest (f ∷ fs)
+  in_frame a e rest f [] [] is ending deep flat_is later = absurd (cc flat_is)
+  in_frame a e rest f (g ∷ fs) [] is ending deep flat_is later =
+      let n = later ending deep.1 flat_is in record {
+        depth = n.depth;
+        deep = n.deep;
+        frames = n.frames;
+        flat_is = n.flat_is;
+        all_deep = n.all_deep;
+        ends_in = n.ends_in;
+        same = λ x. subst (λ (es : List ℕ). behind (and_then (Done x) (λ p. each_posted (post_within f.depth c code) es f.answer)) (g ∷ fs) ≡ behind (post_within (suc n.depth) c code e) n.frames) (sym is) (n.same f.answer);
+      }
+  in_frame a e rest f fs (m ∷ es) is ending deep flat_is later =
+      let same : m ≡ e = cc flat_is in
+      let tail : es ++ flat fs ≡ rest = cc flat_is in
+      let frame : f ≡ record { depth = f.depth; blocks = e ∷ es; answer = f.answer } = (λ i. record { depth = f.depth; blocks = (is ∙ ap (λ n. n ∷ es) same) i; answer = f.answer }) in
+      subst (λ (g : Frame). Next a e rest (g ∷ fs)) (sym frame)
+      (next_in a f.depth e es rest f.answer fs (subst (λ (g : Frame). EndsIn a (g ∷ fs)) frame ending) (subst (λ (g : Frame). AllDeep (g ∷ fs)) frame deep) tail)
+
+  pub next_of : (a : Posting) (e : ℕ) (rest : List ℕ) (fs : List Frame) → EndsIn a fs → AllDeep fs → flat fs ≡ e ∷ rest → Next a e rest fs
+  next_of a e rest [] ending deep is = absurd ending
+  next_of a e rest (f ∷ fs) ending deep is = in_frame a e rest f fs f.blocks refl ending deep is (λ x y z. next_of a e rest fs x y z)
+
+  -- ---- one post
+
+  posted_on : (depth : ℕ) (p : Posting) → on_ecb (reply_of.Ecb (reply_to_post p)) (posting (λ q. each_posted (post_within depth c code) (posted_next c q) q)) ≡ each_posted (post_within depth c code) (posted_next c p) p
+  posted_on depth came.Posted = refl
+  posted_on depth (came.Woke exit) = refl
+  posted_on depth (came.Already d) = refl
+
+  -- the block is posted, and what its exit posts comes before what was to be posted after it
+  pub post_step : (t u : CallerFace) (e depth : ℕ) (p x : Posting) (fs : List Frame)
+      → Happened t (Ecb e) (op_on.Ecb (Post code)) (reply_of.Ecb (reply_to_post p)) u
+      → Runs 1 (behind (post_within (suc depth) c code e) fs) (behind (Done x) (record { depth = depth; blocks = posted_next c p; answer = p } ∷ fs)) t u
+  post_step t u e depth p x fs h =
+      let next : Heard → Program Posting = λ y. on_ecb y.entry.reply (posting (λ q. each_posted (post_within depth c code) (posted_next c q) q)) in
+      runs_word (behind (post_within (suc depth) c code e) fs) (behind (Done x) (record { depth = depth; blocks = posted_next c p; answer = p } ∷ fs))
+      t (Ecb e) (op_on.Ecb (Post code)) (reply_of.Ecb (reply_to_post p)) u tt h
+      (asks_behind (Ecb e) (op_on.Ecb (Post code)) next fs)
+      (λ y is. heard_behind (Ecb e) (op_on.Ecb (Post code)) next y fs
+      ∙ ap (λ q. behind q fs) (ap (λ r. on_ecb r (posting (λ q. each_posted (post_within depth c code) (posted_next c q) q))) is ∙ posted_on depth p))
+
+  -- the first post, with nothing after it
+  pub first_step : (t u : CallerFace) (e depth : ℕ) (p x : Posting)
+      → Happened t (Ecb e) (op_on.Ecb (Post code)) (reply_of.Ecb (reply_to_post p)) u
+      → Runs 1 (post_within (suc depth) c code e) (behind (Done x) (record { depth = depth; blocks = posted_next c p; answer = p } ∷ [])) t u
+  first_step t u e depth p x h = post_step t u e depth p x [] h
+
+  -- targets above a block are followed one less deep
+  pub deep_targets : (e depth : ℕ) (ts : List ℕ) → length c.owners ≤ e + suc depth
+      → AllByRecursion (λ t. (e < t) × (t < length c.owners)) ts → AreDeep depth ts
+  deep_targets e depth [] le up = tt
+  deep_targets e depth (t ∷ ts) le up = let a = up.0.0 in ((omega arith, up.0.1), deep_targets e depth ts le up.1)
+
+  ends_more : (a : Posting) (f : Frame) (fs : List Frame) → EndsIn a fs → EndsIn a (f ∷ fs)
+  ends_more a f [] e = absurd e
+  ends_more a f (g ∷ fs) e = e
+
+  deep_below : (depth : ℕ) (es : List ℕ) (more : List ℕ) → AreDeep depth es → AllByRecursion (λ e. e < length c.owners) more
+      → AllByRecursion (λ e. e < length c.owners) (es ++ more)
+  deep_below depth [] more all rest = rest
+  deep_below depth (e ∷ es) more all rest = (all.0.1, deep_below depth es more all.1 rest)
+
+  pub all_below : (fs : List Frame) → AllDeep fs → AllByRecursion (λ e. e < length c.owners) (flat fs)
+  all_below [] all = tt
+  all_below (f ∷ fs) all = deep_below f.depth f.blocks (flat fs) all.0 (all_below fs all.1)
+
+  -- A post that is underway: what is pending is what is left of its program, and costs no more than is left.
+  pub record Underway (e : ℕ) (t : CallerFace) (a : Posting) (u : CallerFace) (work : List ℕ) : Type 0 where
+    pub frames : List Frame
+    pub ending : EndsIn a frames
+    pub deep : AllDeep frames
+    pub flat_is : flat frames ≡ work
+    pub made : ℕ
+    pub runs : Runs made (post_within (length c.owners) c code e) (behind (Done a) frames) t u
+    pub few : made + total (reach c) work ≤ reach c e
+    pub left : total (reach c) work ≤ u.left
+    pub rest : IsAtRest u.log
+
+  rest_one : (log : List Entry) (k e place : ℕ) (reply : Reply) → IsAtRest log → IsAtRest (log ++ record { caller = k; object = Ecb e; place = place; op = op_on.Ecb (Post code); reply = reply } ∷ [])
+  rest_one log k e place reply r =
+      let same = waits_from-append no_waits log (record { caller = k; object = Ecb e; place = place; op = op_on.Ecb (Post code); reply = reply } ∷ []) in record {
+        armed = λ n. ap (λ w. w.armed n) same ∙ r.armed n;
+        parked = λ n. ap (λ w. w.parked n) same ∙ r.parked n;
+        queued = λ latch id. ap (λ w. w.queued latch id) same ∙ r.queued latch id;
+      }
+
+  rest_after : (t u : CallerFace) (e : ℕ) (reply : Reply) → Happened t (Ecb e) (op_on.Ecb (Post code)) reply u → IsAtRest t.log
+      → IsAtRest u.log
+  rest_after t u e reply h r = subst IsAtRest (sym h.1.logged) (rest_one t.log t.number e h.0 reply r)
+
+  -- the first post
+  pub begun : (t u : CallerFace) (e : ℕ) (p : Posting) → e < length c.owners
+      → Happened t (Ecb e) (op_on.Ecb (Post code)) (reply_of.Ecb (reply_to_post p)) u
+      → Leads c e (posted_next c p) → reach c e ≤ t.left → t.left ≤ 524287 → IsAtRest t.log → Underway e t p u (posted_next c p)
+  begun t u e p there h leads left few rest =
+      let depth = length c.owners - 1 in
+      let is : suc depth ≡ length c.owners = omega arith in
+      let cost = leads.cost (omega arith) in
+      let less = h.1.left in record {
+        frames = record { depth = depth; blocks = posted_next c p; answer = p } ∷ [];
+        ending = refl;
+        deep = (deep_targets e depth (posted_next c p) (omega arith) leads.up, tt);
+        flat_is = append-nil (posted_next c p);
+        made = 1;
+        runs = subst (λ n. Runs 1 (post_within n c code e) (behind (Done p) (record { depth = depth; blocks = posted_next c p; answer = p } ∷ [])) t u) is (first_step t u e depth p p h);
+        few = omega arith;
+        left = omega arith;
+        rest = rest_after t u e (reply_of.Ecb (reply_to_post p)) h rest;
+      }
+
+  -- one more post
+  pub going : (e : ℕ) (t : CallerFace) (a : Posting) (u : CallerFace) (next : ℕ) (work : List ℕ) (v : CallerFace) (p : Posting)
+      → Underway e t a u (next ∷ work)
+      → Happened u (Ecb next) (op_on.Ecb (Post code)) (reply_of.Ecb (reply_to_post p)) v → Leads c next (posted_next c p) → u.left ≤ 524287
+      → Underway e t a v (posted_next c p ++ work)
+  going e t a u next work v p w h leads few =
+      let n = next_of a next work w.frames w.ending w.deep w.flat_is in
+      let left = w.left in
+      let cost = leads.cost (omega arith) in
+      let sum = total-append (reach c) (posted_next c p) work in
+      let less = h.1.left in
+      let so_far = w.few in record {
+        frames = record { depth = n.depth; blocks = posted_next c p; answer = p } ∷ n.frames;
+        ending = ends_more a (record { depth = n.depth; blocks = posted_next c p; answer = p }) n.frames n.ends_in;
+        deep = (deep_targets next n.depth (posted_next c p) n.deep.0 leads.up, n.all_deep);
+        flat_is = ap (λ es. posted_next c p ++ es) n.flat_is;
+        made = w.made + 1;
+        runs = runs_then w.made 1 (post_within (length c.owners) c code e) (behind (Done a) w.frames) (behind (Done a) (record { depth = n.depth; blocks = posted_next c p; answer = p } ∷ n.frames)) t u v w.runs
+            (subst (λ q. Runs 1 q (behind (Done a) (record { depth = n.depth; blocks = posted_next c p; answer = p } ∷ n.frames)) u v) (sym (n.same a)) (post_step u v next n.depth p a n.frames h));
+        few = omega arith;
+        left = omega arith;
+        rest = rest_after u v next (reply_of.Ecb (reply_to_post p)) h w.rest;
+      }
+
+  -- and the last
+  pub ended : (e : ℕ) (t : CallerFace) (a : Posting) (u : CallerFace) (result : PostAnswer) → post_answer a ≡ result → Underway e t a u []
+      → IsServed (reach c e) (post c e code) (λ p. post_answer p ≡ result) t u
+  ended e t a u result is w = record {
+    answer = a;
+    is = is;
+    made = runs_within w.made (reach c e) (post_within (length c.owners) c code e) (Done a) t u (let few = w.few in omega arith)
+        (subst (λ q. Runs w.made (post_within (length c.owners) c code e) q t u) (ends a a w.frames w.ending w.flat_is) w.runs);
+    rest = w.rest;
+  }

@@ -1,0 +1,188 @@
+-- What a task keeps follows its events.
+use Rattle.std.proofs.Common.{◌≡◌, ℕ, zero, suc, ◌+◌, ◌*◌, ◌^◌, ◌<◌, ◌≤◌, ◌==◌, ◌&&◌, Bool, true, false, List, [], ◌∷◌, ◌++◌, length}
+use Rattle.std.proofs.Common.{cond, Some, refl, sym, ap, ◌∙◌, subst, arith, length-append}
+use Rattle.std.proofs.lemmas.Bool.{false≢true, eqb-true}
+use Rattle.std.specs.List.{AllByRecursion}
+use Rattle.slab.specs.Slab.{slab_len}
+use Rattle.mv_element.specs.declared.element.ElementState.{ElementState}
+use Rattle.mv_element.specs.declared.element.Phase.{Phase}
+use Rattle.mv_element.specs.declared.element.Phase.TheVariants.{Free, Reset, Prereleased, Paused, Released}
+use Rattle.mv_element.specs.declared.operation.ElementOp.TheVariants as element_op
+use Rattle.mv_element.specs.declared.operation.ElementReply.{ElementReply}
+use Rattle.mv_element.specs.declared.operation.ElementReply.TheVariants as element_reply
+use Rattle.mv_element.specs.Table.{element_step, is_current, close_step}
+use Rattle.mv_machine.specs.declared.entry.Object.{Object}
+use Rattle.mv_machine.specs.declared.entry.Object.TheVariants.{Ecb, Element, Volume, Latches}
+use Rattle.mv_machine.specs.declared.entry.Op.{Op}
+use Rattle.mv_machine.specs.declared.entry.Op.TheVariants as op_on
+use Rattle.mv_machine.specs.declared.entry.Reply.{Reply}
+use Rattle.mv_machine.specs.declared.entry.Reply.TheVariants as reply_of
+use Rattle.mv_machine.specs.Check.{IsValid}
+use Rattle.mv_machine.specs.Legal.{after}
+use Rattle.mv_machine.specs.Parts.{IsPossible}
+use Rattle.mv_machine.specs.Setup.{Setup}
+use Rattle.mv_machine.specs.System.{System, admitted, reply_to, volume_step}
+use Rattle.mv_ecb.specs.Table.{ecb_step}
+use Rattle.mv_latch.specs.LatchSet.{latch_step}
+use Rattle.mv_machine.proofs.Budgets.{no_high_generation}
+use Rattle.mv_machine.proofs.Longer.{legal_longer}
+use Rattle.mv_machine.proofs.OneHistory.{budgets_fit}
+use Rattle.mv_board.specs.Faces.{CallerFace, HappenedAt, Happened}
+use Rattle.mv_board.specs.Words.{HasWord, test_of}
+use Rattle.mv_machine.specs.calls.Keeping.{Kept, kept_of, kept_after, nothing_kept}
+use Rattle.mv_machine.proofs.calls.Making.{kept_caller}
+use Rattle.mv_wait.specs.declared.keep.Keep.{Keep}
+use Rattle.mv_wait.specs.Keep.{Keeps, IsOfKind, ClosesBelow}
+use Rattle.mv_wait.specs.Record.{Fits}
+use Rattle.mv_wait.proofs.Answering.{made_behind}
+use Rattle.mv_wait.proofs.Runs.{entry_of}
+use Rattle.mv_wait.proofs.Waits.{kept_one}
+
+of_kind : (c : Setup) (s : System) (k : ℕ) (o : Object) (op : Op) (reply : Reply) → admitted c s k o op ≡ true
+    → Some reply ≡ reply_to s k o op → IsOfKind o op reply
+of_kind c s k (Ecb n) (op_on.Ecb op) reply a r = let e : reply ≡ reply_of.Ecb (ecb_step op (s.ecb n).state).1 = cc r in subst (IsOfKind (Ecb n) (op_on.Ecb op)) (sym e) tt
+of_kind c s k (Element n) (op_on.Element op) reply a r = let e : reply ≡ reply_of.Element (element_step op (s.element n).state).1 = cc r in subst (IsOfKind (Element n) (op_on.Element op)) (sym e) tt
+of_kind c s k (Volume n) (op_on.Volume op) reply a r = let e : reply ≡ reply_of.Volume (volume_step op (s.volume n).state).1 = cc r in subst (IsOfKind (Volume n) (op_on.Volume op)) (sym e) tt
+of_kind c s k Latches (op_on.Latch op) reply a r = let e : reply ≡ reply_of.Latch (latch_step k s.latches.place op s.latches.state).1 = cc r in subst (IsOfKind Latches (op_on.Latch op)) (sym e) tt
+of_kind c s k (Ecb n) (op_on.Element op) reply a r = absurd (false≢true a)
+of_kind c s k (Ecb n) (op_on.Volume op) reply a r = absurd (false≢true a)
+of_kind c s k (Ecb n) (op_on.Latch op) reply a r = absurd (false≢true a)
+of_kind c s k (Element n) (op_on.Ecb op) reply a r = absurd (false≢true a)
+of_kind c s k (Element n) (op_on.Volume op) reply a r = absurd (false≢true a)
+of_kind c s k (Element n) (op_on.Latch op) reply a r = absurd (false≢true a)
+of_kind c s k (Volume n) (op_on.Ecb op) reply a r = absurd (false≢true a)
+of_kind c s k (Volume n) (op_on.Element op) reply a r = absurd (false≢true a)
+of_kind c s k (Volume n) (op_on.Latch op) reply a r = absurd (false≢true a)
+of_kind c s k Latches (op_on.Ecb op) reply a r = absurd (false≢true a)
+of_kind c s k Latches (op_on.Element op) reply a r = absurd (false≢true a)
+of_kind c s k Latches (op_on.Volume op) reply a r = absurd (false≢true a)
+
+-- an event is answered by a reply of its object's kind
+pub reply_kind : (c : Setup) (t u : CallerFace) (o : Object) (op : Op) (reply : Reply) → Happened t o op reply u
+    → IsPossible c u.number u.log u.told → IsOfKind o op reply
+reply_kind c t u o op reply h p =
+    let b = made_behind c t u o h.0 op reply h.1 p in of_kind c (after c b.before) t.number o op reply b.follows.admits b.follows.reply
+
+-- ---- a close carries the element's generation
+
+current_is : (p : Phase) (now g : ℕ) → is_current p now g ≡ true → g ≡ now
+current_is Free now g e = absurd (false≢true e)
+current_is Reset now g e = eqb-true g now e
+current_is Prereleased now g e = eqb-true g now e
+current_is Paused now g e = eqb-true g now e
+current_is Released now g e = eqb-true g now e
+
+closed_at : (g : ℕ) (s : ElementState) → (element_step (element_op.Close g) s).1 ≡ element_reply.Closed → g ≡ s.generation
+closed_at g s e = go (is_current s.phase s.generation g) refl e where
+  go : (b : Bool) → is_current s.phase s.generation g ≡ b
+      → (cond b (close_step s.phase s) (s, element_reply.Spent s.generation)).1 ≡ element_reply.Closed → g ≡ s.generation
+  go true is q = current_is s.phase s.generation g is
+  go false is q = absurd (cc q)
+
+closes_element : (c : Setup) (t u : CallerFace) (n g : ℕ) (reply : Reply)
+    → Happened t (Element n) (op_on.Element (element_op.Close g)) reply u → IsPossible c u.number u.log u.told → IsValid c
+    → reply ≡ reply_of.Element element_reply.Closed → g + 1 < 2 ^ 32
+closes_element c t u n g reply h p v is =
+    let b = made_behind c t u (Element n) h.0 (op_on.Element (element_op.Close g)) reply h.1 p in
+    let r = b.follows.reply in
+    let few = budgets_fit c (b.before ++ entry_of t (Element n) h.0 (op_on.Element (element_op.Close g)) reply ∷ []) v (legal_longer c b.before _ b.legal b.follows) b.budgets in
+    let size = length-append b.before (entry_of t (Element n) h.0 (op_on.Element (element_op.Close g)) reply ∷ []) in
+    let low = no_high_generation c b.before n b.legal (omega arith) in
+    let answer : reply_of.Element (element_step (element_op.Close g) ((after c b.before).element n).state).1 ≡ reply_of.Element element_reply.Closed = cc in
+    let same = closed_at g ((after c b.before).element n).state (cc answer) in omega arith
+
+below_close : (op : Op) (reply : Reply) → ((g : ℕ) → op ≡ op_on.Element (element_op.Close g) → reply ≡ reply_of.Element element_reply.Closed → g + 1 < 2 ^ 32) → ClosesBelow op reply
+below_close (op_on.Ecb x) reply f = tt
+below_close (op_on.Volume x) reply f = tt
+below_close (op_on.Latch x) reply f = tt
+below_close (op_on.Element element_op.Open) reply f = tt
+below_close (op_on.Element (element_op.Pause g)) reply f = tt
+below_close (op_on.Element (element_op.Resume g)) reply f = tt
+below_close (op_on.Element (element_op.Release g d)) reply f = tt
+below_close (op_on.Element element_op.Test) reply f = tt
+below_close (op_on.Element (element_op.Close g)) (reply_of.Ecb x) f = tt
+below_close (op_on.Element (element_op.Close g)) (reply_of.Volume x) f = tt
+below_close (op_on.Element (element_op.Close g)) (reply_of.Latch x) f = tt
+below_close (op_on.Element (element_op.Close g)) (reply_of.Element element_reply.Closed) f = f g refl refl
+below_close (op_on.Element (element_op.Close g)) (reply_of.Element (element_reply.Opened n)) f = tt
+below_close (op_on.Element (element_op.Close g)) (reply_of.Element element_reply.InUse) f = tt
+below_close (op_on.Element (element_op.Close g)) (reply_of.Element element_reply.Parked) f = tt
+below_close (op_on.Element (element_op.Close g)) (reply_of.Element (element_reply.Given code next)) f = tt
+below_close (op_on.Element (element_op.Close g)) (reply_of.Element (element_reply.Spent n)) f = tt
+below_close (op_on.Element (element_op.Close g)) (reply_of.Element element_reply.Busy) f = tt
+below_close (op_on.Element (element_op.Close g)) (reply_of.Element element_reply.NotYet) f = tt
+below_close (op_on.Element (element_op.Close g)) (reply_of.Element element_reply.Early) f = tt
+below_close (op_on.Element (element_op.Close g)) (reply_of.Element element_reply.Woke) f = tt
+below_close (op_on.Element (element_op.Close g)) (reply_of.Element element_reply.Already) f = tt
+below_close (op_on.Element (element_op.Close g)) (reply_of.Element (element_reply.State x)) f = tt
+
+to_element : (c : Setup) (t u : CallerFace) (o : Object) (g : ℕ) (reply : Reply)
+    → Happened t o (op_on.Element (element_op.Close g)) reply u → IsPossible c u.number u.log u.told → IsValid c
+    → reply ≡ reply_of.Element element_reply.Closed → g + 1 < 2 ^ 32
+to_element c t u (Element n) g reply h p v is = closes_element c t u n g reply h p v is
+to_element c t u (Ecb n) g reply h p v is = absurd (reply_kind c t u (Ecb n) (op_on.Element (element_op.Close g)) reply h p)
+to_element c t u (Volume n) g reply h p v is = absurd (reply_kind c t u (Volume n) (op_on.Element (element_op.Close g)) reply h p)
+to_element c t u Latches g reply h p v is = absurd (reply_kind c t u Latches (op_on.Element (element_op.Close g)) reply h p)
+
+pub closes_below : (c : Setup) (t u : CallerFace) (o : Object) (op : Op) (reply : Reply) → Happened t o op reply u
+    → IsPossible c u.number u.log u.told → IsValid c → ClosesBelow op reply
+closes_below c t u o op reply h p v =
+    below_close op reply (λ g is closed. to_element c t u o g reply (subst (λ x. Happened t o x reply u) is h) p v closed)
+
+-- ---- the tables stay
+
+pub fits_on : (t u : CallerFace) (o : Object) (op : Op) (reply : Reply) (k new : Keep) (s : Setup) → Happened t o op reply u
+    → new.first ≡ k.first
+    → length new.extended.items ≡ length k.extended.items → length new.elements.items ≡ length k.elements.items → Fits t k s → Fits u new s
+fits_on t u o op reply k new s h first blocks elements f =
+    let n = h.1.same.number in record {
+      valid = f.valid;
+      caller = subst (λ m. m < s.callers) (sym n) f.caller;
+      blocks = blocks ∙ f.blocks;
+      elements = elements ∙ f.elements;
+      first = first ∙ (f.first ∙ ap (λ m. m * s.elements_per_caller) (sym n));
+    }
+
+pub keeps_on : (t u : CallerFace) (o : Object) (op : Op) (reply : Reply) (new : Keep) → Happened t o op reply u
+    → Keeps (kept_after (kept_of t.number t.log) o op reply) new → Keeps (kept_of u.number u.log) new
+keeps_on t u o op reply new h k =
+    subst (λ (z : Kept). Keeps z new)
+    (sym ((λ i. kept_of (h.1.same.number i) (h.1.logged i)) ∙ kept_one t.number t.log (entry_of t o h.0 op reply))) k
+
+pub all_fit : (t u : CallerFace) (o : Object) (op : Op) (reply : Reply) (k new : Keep) (ss : List Setup) → Happened t o op reply u
+    → new.first ≡ k.first
+    → length new.extended.items ≡ length k.extended.items → length new.elements.items ≡ length k.elements.items
+    → AllByRecursion (Fits t k) ss → AllByRecursion (Fits u new) ss
+all_fit t u o op reply k new [] h a b e all = tt
+all_fit t u o op reply k new (s ∷ ss) h a b e all = (fits_on t u o op reply k new s h a b e all.0, all_fit t u o op reply k new ss h a b e all.1)
+
+-- ---- a read keeps all that is kept
+
+read_reply : (c : Setup) (t u : CallerFace) (n : ℕ) (reply : Reply) → Happened t (Element n) (op_on.Element element_op.Test) reply u
+    → IsPossible c u.number u.log u.told
+    → (s : ElementState) × (reply ≡ reply_of.Element (element_reply.State s))
+read_reply c t u n reply h p =
+    let b = made_behind c t u (Element n) h.0 (op_on.Element element_op.Test) reply h.1 p in
+    let r = b.follows.reply in (((after c b.before).element n).state, cc r)
+
+-- the generation of an element that is read
+same_generation : (f : ℕ → ℕ) (n m : ℕ) → cond (m == n) (f n) (f m) ≡ f m
+same_generation f n m = go (m == n) refl where
+  go : (b : Bool) → (m == n) ≡ b → cond b (f n) (f m) ≡ f m
+  go true is = ap f (sym (eqb-true m n is))
+  go false is = refl
+
+pub test_keeps : (c : Setup) (t u : CallerFace) (o : Object) (reply : Reply) (k : Keep) → HasWord c o → Happened t o (test_of o) reply u
+    → IsPossible c u.number u.log u.told
+    → Keeps (kept_of t.number t.log) k → Keeps (kept_after (kept_of t.number t.log) o (test_of o) reply) k
+test_keeps c t u (Ecb n) reply k w h p all = all
+test_keeps c t u (Volume n) reply k w h p all = all
+test_keeps c t u Latches reply k w h p all = absurd w
+test_keeps c t u (Element n) reply k w h p all =
+    let r = read_reply c t u n reply h p in
+    let kept = kept_of t.number t.log in
+    subst (λ z. Keeps (kept_after kept (Element n) (op_on.Element element_op.Test) z) k) (sym r.1) (record {
+      extended = all.extended;
+      elements = λ i e at. let x = all.elements i e at in (x.0, x.1 ∙ sym (same_generation kept.generation n (k.first + i)));
+      requests = all.requests;
+    })

@@ -1,0 +1,171 @@
+-- Calls of one event that may be refused, and one that goes by a word.
+use Rattle.std.proofs.Common.{◌≡◌, ℕ, ◌+◌, ◌<◌, ◌^◌, ◌==◌, ◌&&◌, nat_lt, Bool, true, false, not, List, [], ◌∷◌, ◌++◌, length, Option}
+use Rattle.std.proofs.Common.{Some, None, Result, Ok, Err, ◌⊎◌, inl, inr, cond, option_map, option_and_then, refl, sym, ap, ◌∙◌, subst}
+use Rattle.std.proofs.Common.{arith}
+use Rattle.std.proofs.lemmas.Bool.{false≢true, eqb-true, eq-eqb, lt-ltb}
+use Rattle.std.proofs.lemmas.List.{append-nil}
+use Rattle.mv_ecb.specs.declared.operation.EcbOp.TheVariants.{Clear, Extend, Post}
+use Rattle.mv_ecb.specs.declared.operation.EcbReply.TheVariants as ecb_reply
+use Rattle.mv_ecb.specs.Table.{ecb_step}
+use Rattle.mv_ecb.specs.Word.{EcbState, Zero, Waiting, Extended, Complete}
+use Rattle.mv_machine.specs.Check.{or_else}
+use Rattle.mv_machine.specs.declared.entry.Entry.{Entry}
+use Rattle.mv_machine.specs.declared.entry.Object.{Object}
+use Rattle.mv_machine.specs.declared.entry.Object.TheVariants.{Ecb}
+use Rattle.mv_machine.specs.declared.entry.Op.{Op}
+use Rattle.mv_machine.specs.declared.entry.Op.TheVariants as op_on
+use Rattle.mv_machine.specs.declared.entry.Reply.{Reply}
+use Rattle.mv_machine.specs.declared.entry.Reply.TheVariants as reply_of
+use Rattle.mv_machine.specs.Kept.{allowed}
+use Rattle.mv_machine.specs.Parts.{IsPossible}
+use Rattle.mv_machine.specs.Setup.{Setup, owner_of, is_exit_of}
+use Rattle.mv_board.specs.Faces.{CallerFace, HappenedAt, Happened, Exchanged}
+use Rattle.mv_machine.specs.calls.Keeping.{Kept, kept_of, nothing_kept}
+use Rattle.mv_machine.proofs.calls.Making.{kept_caller}
+use Rattle.mv_machine.specs.calls.Posts.{Posting, posting, try_post, expected_of, is_expected, same_post_reply, same_posting}
+use Rattle.mv_machine.specs.calls.Posts as came
+use Rattle.mv_machine.specs.calls.Program.{Program, Do, Done, Wrong, Call, Heard, asks, heard, on_ecb, unless_refused}
+use Rattle.mv_machine.specs.calls.Refusal.{Refusal}
+use Rattle.mv_machine.specs.calls.Refusal as refusal
+use Rattle.mv_machine.specs.calls.Rest.{OpenWaits, IsAtRest, no_waits, waits_from, waits_after}
+use Rattle.mv_machine.specs.calls.Waits.{refused_if, is_others_block, clear, the_word, extend, extend_refusal, extended}
+use Rattle.mv_wait.specs.Answers.{post_answer}
+use Rattle.mv_wait.specs.Posted.{reply_to_post}
+use Rattle.mv_wait.specs.Run.{Runs, IsServed}
+use Rattle.mv_wait.specs.Says.{SaysExtended}
+use Rattle.mv_wait.specs.Single.{extend_reply}
+use Rattle.mv_wait.proofs.Answering.{Answers, block_answers}
+use Rattle.mv_machine.specs.Known.{BlockAgrees}
+use Rattle.mv_wait.proofs.OneEvent.{one_served, still_at_rest}
+use Rattle.mv_wait.proofs.Runs.{IsWord, heard_of, went_word, runs_none, runs_within}
+
+-- a call that is refused makes no event
+pub refused_served : {A : Type 0} (n : ℕ) (call : Call (Result A Refusal)) (Is : Result A Refusal → Type 0) (why : Refusal) (t : CallerFace)
+    → call (kept_of t.number t.log) ≡ Done (Err why) → IsAtRest t.log → Is (Err why) → IsServed n call Is t t
+refused_served n call Is why t e rest is = record {
+  answer = Err why;
+  is = is;
+  made = runs_within 0 n (call (kept_of t.number t.log)) (Done (Err why)) t t (omega arith)
+      (subst (λ q. Runs 0 (call (kept_of t.number t.log)) q t t) e (runs_none (call (kept_of t.number t.log)) t));
+  rest = rest;
+}
+
+-- one that is not makes its event
+pub event_served : {A : Type 0} (call : Call A) (Is : A → Type 0) (t u : CallerFace) (o : Object) (op : Op) (next : Heard → Program A) (reply : Reply) (a : A) → IsWord o
+    → Happened t o op reply u → call (kept_of t.number t.log) ≡ Do o op next → ((h : Heard) → h.entry.reply ≡ reply → next h ≡ Done a)
+    → ((w : OpenWaits) → waits_after w o op reply ≡ w) → IsAtRest t.log → Is a → IsServed 1 call Is t u
+event_served call Is t u o op next reply a w h e goes stay rest is =
+    one_served call Is t u o op reply a w h (ap asks e) (λ x r. ap (λ p. heard p x) e ∙ goes x r) stay rest is
+
+-- ---- whose a block is
+
+pub own_is : (c : Setup) (e k : ℕ) (log : List Entry) → is_others_block c (kept_of k log) e ≡ false → owner_of c e ≡ k
+own_is c e k log is = eqb-true (owner_of c e) k (go (owner_of c e == k) refl) where
+  other : is_others_block c (kept_of k log) e ≡ not (owner_of c e == k)
+  other = ap (λ j. not (owner_of c e == j)) (kept_caller (nothing_kept k) log)
+
+  go : (b : Bool) → (owner_of c e == k) ≡ b → (owner_of c e == k) ≡ true
+  go true q = q
+  go false q = absurd (false≢true (sym is ∙ (other ∙ ap not q)))
+
+-- ---- extend
+
+not_owner : (c : Setup) (e exit : ℕ) (kept : Kept) → is_others_block c kept e ≡ true → extend_refusal c e exit kept ≡ Some refusal.NotOwner
+not_owner c e exit kept p = ap (λ b. or_else (refused_if b refusal.NotOwner) (or_else (refused_if (not (is_exit_of c exit e)) refusal.BadExit) (refused_if (kept.extended e) refusal.Extended))) p
+
+pub extend_refusal_is : (c : Setup) (e exit : ℕ) (kept : Kept) (a b d : Bool) → is_others_block c kept e ≡ a → is_exit_of c exit e ≡ b
+    → kept.extended e ≡ d
+    → extend_refusal c e exit kept ≡ or_else (refused_if a refusal.NotOwner) (or_else (refused_if (not b) refusal.BadExit) (refused_if d refusal.Extended))
+extend_refusal_is c e exit kept a b d p q r = (λ i. or_else (refused_if (p i) refusal.NotOwner) (or_else (refused_if (not (q i)) refusal.BadExit) (refused_if (r i) refusal.Extended)))
+
+-- what an extend that is not refused was asked
+pub record MayExtend (c : Setup) (e exit : ℕ) (kept : Kept) : Type 0 where
+  pub own : is_others_block c kept e ≡ false
+  pub starts : is_exit_of c exit e ≡ true
+  pub plain : kept.extended e ≡ false
+
+pub may_extend : (c : Setup) (e exit : ℕ) (kept : Kept) → extend_refusal c e exit kept ≡ None → MayExtend c e exit kept
+may_extend c e exit kept none = go (is_others_block c kept e) (is_exit_of c exit e) (kept.extended e) refl refl refl where
+  go : (a b d : Bool) → is_others_block c kept e ≡ a → is_exit_of c exit e ≡ b → kept.extended e ≡ d → MayExtend c e exit kept
+  go true b d p q r = absurd (cc (sym (extend_refusal_is c e exit kept true b d p q r) ∙ none))
+  go false false d p q r = absurd (cc (sym (extend_refusal_is c e exit kept false false d p q r) ∙ none))
+  go false true true p q r = absurd (cc (sym (extend_refusal_is c e exit kept false true true p q r) ∙ none))
+  go false true false p q r = record { own = p; starts = q; plain = r }
+
+extends_state : (c : Setup) (n x : ℕ) (s : EcbState) (a e : Bool) → BlockAgrees c n s a e → a ≡ false → e ≡ false
+    → SaysExtended (reply_of.Ecb (ecb_step (Extend x) s).1)
+extends_state c n x Zero a e h idle plain = tt
+extends_state c n x Waiting a e h idle plain = absurd (false≢true (sym idle ∙ h.0))
+extends_state c n x (Extended y) a e h idle plain = absurd (false≢true (sym plain ∙ h.0))
+extends_state c n x (Complete d) a e h idle plain = tt
+
+pub says_extended : (c : Setup) (t u : CallerFace) (e x : ℕ) (reply : Reply) → Happened t (Ecb e) (op_on.Ecb (Extend x)) reply u
+    → IsPossible c u.number u.log u.told
+    → owner_of c e ≡ t.number → IsAtRest t.log → (kept_of t.number t.log).extended e ≡ false → SaysExtended reply
+says_extended c t u e x reply h p own rest plain =
+    let a = block_answers c t u e (Extend x) reply h p in
+    subst SaysExtended (sym a.reply_is) (extends_state c e x a.state _ _ (a.agrees own) (rest.armed e) plain)
+
+pub allowed_extend : (c : Setup) (k e exit : ℕ) (log : List Entry) → k < c.callers → e < length c.owners → owner_of c e ≡ k
+    → exit < 2 ^ 30 → is_exit_of c exit e ≡ true
+    → allowed c k log (Ecb e) (op_on.Ecb (Extend exit)) ≡ true
+allowed_extend c k e exit log lt there own few starts = rw (lt-ltb k c.callers lt, lt-ltb e (length c.owners) there, eq-eqb (owner_of c e) k own, lt-ltb exit (2 ^ 30) few, starts) refl
+
+-- ---- a post by an exchange
+
+same_twice : (p : Posting) → same_post_reply (reply_of.Ecb (reply_to_post p)) (reply_of.Ecb (reply_to_post p)) ≡ true
+same_twice came.Posted = refl
+same_twice (came.Woke x) = eq-eqb x x refl
+same_twice (came.Already c) = eq-eqb c c refl
+
+answered : (p : Posting) → on_ecb (reply_of.Ecb (reply_to_post p)) (posting (λ q. Done q)) ≡ Done p
+answered came.Posted = refl
+answered (came.Woke x) = refl
+answered (came.Already c) = refl
+
+pub try_post_served : (c : Setup) (e expected code : ℕ) (p : Posting) (t u : CallerFace)
+    → Exchanged t (Ecb e) (op_on.Ecb (Post code)) expected (reply_of.Ecb (reply_to_post p)) u → IsAtRest t.log
+    → IsServed 1 (try_post e expected code) (λ q. post_answer q ≡ post_answer p) t u
+try_post_served c e expected code p t u x rest =
+    let reply : Reply = reply_of.Ecb (reply_to_post p) in
+    let o : Object = Ecb e in
+    let op : Op = op_on.Ecb (Post code) in
+    let h = heard_of t o x.place op reply in
+    let known : expected_of o op expected ≡ Some (x.place, reply) =
+    ap (λ z. option_and_then (λ v. option_map (λ r. (v.0, r)) (Rattle.mv_machine.specs.Packing.reply_in op v.1)) z) x.unpacks ∙ ap (λ z. option_map (λ r. (x.place, r)) z) x.replies in
+    let same : is_expected same_post_reply (expected_of o op expected) x.place reply ≡ true =
+    ap (λ z. is_expected same_post_reply z x.place reply) known ∙ (λ i. (eq-eqb x.place x.place refl i) && (same_twice p i)) in record {
+      answer = p;
+      is = refl;
+      made = record {
+        events = h ∷ [];
+        went = went_word t o x.place op reply u tt x.happened;
+        few = omega arith;
+        says = (refl, tt);
+        rest = ap (λ b. cond b (on_ecb reply (posting (λ q. Done q))) Wrong) same ∙ answered p;
+      };
+      rest = still_at_rest t u o op reply (x.place, x.happened) (λ w. refl) rest;
+    }
+
+-- ---- the calls that may be refused, with their refusal and without
+
+pub clear_stops : (c : Setup) (e : ℕ) (kept : Kept) → is_others_block c kept e ≡ true → clear c e kept ≡ Done (Err refusal.NotOwner)
+clear_stops c e kept is = rw is refl
+
+abbrev pub clear_next : Heard → Program (Result ℕ Refusal)
+clear_next h = on_ecb h.entry.reply (the_word (λ w. Done (Ok w)))
+
+pub clear_goes : (c : Setup) (e : ℕ) (kept : Kept) → is_others_block c kept e ≡ false
+    → clear c e kept ≡ Do (Ecb e) (op_on.Ecb Clear) clear_next
+clear_goes c e kept is = rw is refl
+
+abbrev pub extend_next : Heard → Program (Result (Unit {0}) Refusal)
+extend_next h = on_ecb h.entry.reply extended
+
+pub extend_stops : (c : Setup) (e exit : ℕ) (kept : Kept) (why : Refusal) → extend_refusal c e exit kept ≡ Some why
+    → extend c e exit kept ≡ Done (Err why)
+extend_stops c e exit kept why is = ap (λ r. unless_refused r (Do (Ecb e) (op_on.Ecb (Extend exit)) extend_next)) is
+
+pub extend_goes : (c : Setup) (e exit : ℕ) (kept : Kept) → extend_refusal c e exit kept ≡ None
+    → extend c e exit kept ≡ Do (Ecb e) (op_on.Ecb (Extend exit)) extend_next
+extend_goes c e exit kept is = ap (λ r. unless_refused r (Do (Ecb e) (op_on.Ecb (Extend exit)) extend_next)) is

@@ -1,0 +1,15 @@
+use Rattle.std.proofs.Common.{◌≡◌, take, drop}
+use Rattle.mv_machine.specs.calls.Program.{Program}
+use Rattle.mv_machine.specs.calls.Waits.{arm_all}
+use Rattle.mv_wait.specs.Run.{Runs}
+use Rattle.mv_wait.specs.Waiting.{IsArmedFor, ArePlain, Waited}
+use Rattle.mv_wait.proofs.Waits.{AreIdle}
+use Rattle.mv_wait.proofs.station.Station.arm_all.Given as goal
+
+abbrev pub invariant-loop-ecb : goal.invariant-loop-ecb
+invariant-loop-ecb g l = record {
+  runs : (p : Program Waited) → Runs l.ecb-index (arm_all l.ecbs p) (arm_all (drop l.ecb-index l.ecbs) p) l.fn.me l.me;
+  waits : IsArmedFor (take l.ecb-index l.ecbs) l.me.log;
+  plain : ArePlain l.me l.ecbs;
+  idle : AreIdle l.me.log (drop l.ecb-index l.ecbs);
+}

@@ -1,0 +1,76 @@
+use Rattle.std.proofs.Common.{◌≡◌, ℕ, zero, suc, ◌+◌, ◌<◌, ◌≤◌, length, List, reverse, vec_capacity, ◌++◌, ◌∷◌, [], refl, sym, ap, ◌∙◌}
+use Rattle.std.proofs.Common.{subst, arith}
+use Rattle.std.specs.List.{AllByRecursion}
+use Rattle.std.proofs.lemmas.List.{length-reverse}
+use Rattle.mv_machine.specs.Check.{IsValid}
+use Rattle.mv_machine.specs.Reach.{reach, total}
+use Rattle.mv_machine.specs.Setup.{Setup}
+use Rattle.mv_ecb.specs.declared.operation.EcbOp.TheVariants.{Post}
+use Rattle.mv_machine.specs.declared.entry.Object.TheVariants.{Ecb}
+use Rattle.mv_machine.specs.declared.entry.Op.TheVariants as op_on
+use Rattle.mv_machine.specs.declared.entry.Reply.{Reply}
+use Rattle.mv_machine.specs.declared.entry.Reply.TheVariants as reply_of
+use Rattle.mv_machine.specs.Parts.{IsPossible}
+use Rattle.mv_board.specs.Faces.{BoardFace, Happened}
+use Rattle.mv_machine.specs.calls.Posts.{targets_of, posted_next}
+use Rattle.mv_wait.specs.Posted.{PostedOne, exit_of, reply_to_post, posting_of}
+use Rattle.mv_wait.proofs.Admits.{may_post}
+use Rattle.mv_wait.proofs.Answering.{says_posted}
+use Rattle.mv_wait.proofs.Exits.{came_leads, next_is, reach_some, room_for}
+use Rattle.mv_wait.proofs.station.Station.post_one.Goals as goal
+
+pub event-reply-requires-clause-left : goal.event-reply-requires-clause-left
+event-reply-requires-clause-left g c =
+    let left = c.requires.left in
+    let one = reach_some c.args.self.now.config c.args.ecb c.requires.block in omega arith
+
+pub event-reply-requires-clause-admitted : goal.event-reply-requires-clause-admitted
+event-reply-requires-clause-admitted g c lt =
+    may_post c.self.inside.board.config c.args.me.now.number c.args.ecb c.args.code c.args.me.now.log lt
+    (subst (λ (b : BoardFace). c.args.ecb < length b.config.owners) (sym c.self.view_is) c.requires.block) c.requires.code
+
+pub posted-came-requires : goal.posted-came-requires
+posted-came-requires g c = says_posted c.self.inside.board.config c.args.me.now c.event-reply.new.self c.args.ecb c.args.code c.event-reply.result c.event-reply.ensures.event c.event-reply.ensures.possible
+
+pub note-requires : goal.note-requires
+note-requires g c =
+    let d = c.self.inside.board.config in
+    let same : d ≡ c.args.self.now.config = ap (λ (b : BoardFace). b.config) c.self.view_is in
+    let valid : IsValid d = subst IsValid c.config.ensures c.targets.ensures.valid in
+    let t = c.args.me.now in
+    let u = c.event-reply.new.self in
+    let p = posting_of c.posted-came.result in
+    let h : Happened t (Ecb c.args.ecb) (op_on.Ecb (Post c.args.code)) (reply_of.Ecb (reply_to_post p)) u =
+    subst (λ (r : Reply). Happened t (Ecb c.args.ecb) (op_on.Ecb (Post c.args.code)) r u) c.posted-came.ensures c.event-reply.ensures.event in
+    let there : c.args.ecb < length d.owners = subst (λ (s : Setup). c.args.ecb < length s.owners) (sym same) c.requires.block in
+    let leads = came_leads d t u c.args.ecb c.args.code p valid there h c.event-reply.ensures.possible in
+    let blocks = subst (λ (s : Setup). AllByRecursion (λ e. e < length s.owners) (reverse c.args.pending.now.items)) (sym same) c.requires.blocks in
+    let cost = subst (λ (s : Setup). reach s c.args.ecb + total (reach s) (reverse c.args.pending.now.items) ≤ t.left) (sym same) c.requires.left in
+    let room = room_for d c.args.ecb t.left (vec_capacity c.args.pending.now) (posted_next d p) (reverse c.args.pending.now.items) valid leads blocks cost c.event-reply.ensures.few c.requires.room in
+    let size = length-reverse c.args.pending.now.items in
+    let targets : c.targets.result.now ≡ posted_next d p =
+    c.targets.ensures.targets ∙ ((λ i. targets_of (c.config.ensures i) (c.exit.ensures i)) ∙ sym (next_is d p)) in
+    let count = ap length targets in omega arith
+
+pub returns-clause-posted : goal.returns-clause-posted
+returns-clause-posted g c =
+    let d = c.self.inside.board.config in
+    let same : d ≡ c.args.self.now.config = ap (λ (b : BoardFace). b.config) c.self.view_is in
+    let valid : IsValid d = subst IsValid c.config.ensures c.targets.ensures.valid in
+    let t = c.args.me.now in
+    let u = c.event-reply.new.self in
+    let p = posting_of c.posted-came.result in
+    let h : Happened t (Ecb c.args.ecb) (op_on.Ecb (Post c.args.code)) (reply_of.Ecb (reply_to_post p)) u =
+    subst (λ (r : Reply). Happened t (Ecb c.args.ecb) (op_on.Ecb (Post c.args.code)) r u) c.posted-came.ensures c.event-reply.ensures.event in
+    let there : c.args.ecb < length d.owners = subst (λ (s : Setup). c.args.ecb < length s.owners) (sym same) c.requires.block in
+    let leads = came_leads d t u c.args.ecb c.args.code p valid there h c.event-reply.ensures.possible in
+    let targets : c.targets.result.now ≡ posted_next d p =
+    c.targets.ensures.targets ∙ ((λ i. targets_of (c.config.ensures i) (c.exit.ensures i)) ∙ sym (next_is d p)) in
+    subst (λ (s : Setup). PostedOne s c.args.code c.args.ecb t c.args.pending.now.items c.answer-answer.result u c.note.new.pending.items) same (record {
+      posted = p;
+      answer = sym c.answer-answer.ensures;
+      event = h;
+      leads = leads;
+      few = c.event-reply.ensures.few;
+      pending = c.note.ensures.noted ∙ ap (λ ts. c.args.pending.now.items ++ reverse ts) targets;
+    })

@@ -1,0 +1,47 @@
+-- One post of a call, and what is pending then.
+use Rattle.std.specs.Prelude.{◌≡◌, ℕ, ◌<◌, ◌≤◌, ◌+◌, List, ◌++◌, length, reverse}
+use Rattle.std.specs.List.{AllByRecursion}
+use Rattle.mv_machine.specs.Reach.{reach, total}
+use Rattle.mv_ecb.specs.declared.operation.EcbOp.TheVariants.{Post}
+use Rattle.mv_ecb.specs.declared.operation.EcbReply.{EcbReply}
+use Rattle.mv_ecb.specs.declared.operation.EcbReply.TheVariants as ecb_reply
+use Rattle.mv_machine.specs.declared.entry.Object.TheVariants.{Ecb}
+use Rattle.mv_machine.specs.declared.entry.Op.TheVariants as op_on
+use Rattle.mv_machine.specs.declared.entry.Reply.TheVariants as reply_of
+use Rattle.mv_machine.specs.Setup.{Setup}
+use Rattle.mv_board.specs.Faces.{CallerFace, Happened}
+use Rattle.mv_machine.specs.calls.Posts.{Posting, posted_next}
+use Rattle.mv_machine.specs.calls.Posts as posting
+use Rattle.mv_wait.specs.declared.posting.PostAnswer.{PostAnswer}
+use Rattle.mv_wait.specs.declared.replies.Came.{Came}
+use Rattle.mv_wait.specs.declared.replies.Came.TheVariants as came
+use Rattle.mv_wait.specs.Answers.{post_answer}
+
+abbrev pub reply_to_post : Posting → EcbReply
+reply_to_post posting.Posted = ecb_reply.Posted
+reply_to_post (posting.Woke exit) = ecb_reply.Woke exit
+reply_to_post (posting.Already code) = ecb_reply.Already code
+
+abbrev pub posting_of : Came → Posting
+posting_of came.Posted = posting.Posted
+posting_of (came.Woke exit) = posting.Woke exit
+posting_of (came.Already code) = posting.Already code
+
+-- the exit that is to run, or 0
+abbrev pub exit_of : Posting → ℕ
+exit_of (posting.Woke exit) = exit
+exit_of came = 0
+
+-- the targets lie above the block, and posting them all costs less than the block's reach, where that is told exactly
+pub record Leads (c : Setup) (e : ℕ) (ts : List ℕ) : Type 0 where
+  pub up : AllByRecursion (λ t. (e < t) × (t < length c.owners)) ts
+  pub cost : reach c e ≤ 524287 → total (reach c) ts + 1 ≤ reach c e
+
+-- the block was posted, and the targets of its exit are pending, the first one last
+pub record PostedOne (c : Setup) (code e : ℕ) (t : CallerFace) (before : List ℕ) (result : PostAnswer) (u : CallerFace) (since : List ℕ) : Type 0 where
+  pub posted : Posting
+  pub answer : post_answer posted ≡ result
+  pub event : Happened t (Ecb e) (op_on.Ecb (Post code)) (reply_of.Ecb (reply_to_post posted)) u
+  pub few : t.left ≤ 524287
+  pub leads : Leads c e (posted_next c posted)
+  pub pending : since ≡ before ++ reverse (posted_next c posted)

@@ -1,0 +1,7 @@
+-- How contracts see a station: as its board.
+use Rattle.std.specs.Prelude.{◌≡◌, vec_len}
+use Rattle.mv_wait.specs.declared.station.Station.TheInside.{Inside}
+
+-- there is one to wake each task with
+pub record IsStation (s : Inside) : Type 0 where
+  pub wakers : vec_len s.unparkers ≡ s.board.config.callers

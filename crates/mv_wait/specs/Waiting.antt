@@ -1,0 +1,60 @@
+-- The parts of a wait.
+use Rattle.std.specs.Prelude.{◌≡◌, ℕ, ◌<◌, ◌≤◌, ◌==◌, Bool, false, List, ◌++◌, length, Option, Result}
+use Rattle.std.specs.List.{AllByRecursion, list_any}
+use Rattle.mv_ecb.specs.declared.operation.EcbOp.TheVariants.{Settle}
+use Rattle.mv_ecb.specs.declared.operation.EcbReply.{EcbReply}
+use Rattle.mv_ecb.specs.declared.operation.EcbReply.TheVariants as ecb_reply
+use Rattle.mv_machine.specs.declared.entry.Entry.{Entry}
+use Rattle.mv_machine.specs.declared.entry.Object.TheVariants.{Ecb}
+use Rattle.mv_machine.specs.declared.entry.Op.TheVariants as op_on
+use Rattle.mv_machine.specs.declared.entry.Reply.TheVariants as reply_of
+use Rattle.mv_machine.specs.Setup.{Setup, owner_of}
+use Rattle.mv_board.specs.Faces.{CallerFace, Happened}
+use Rattle.mv_machine.specs.calls.Keeping.{kept_of}
+use Rattle.mv_machine.specs.calls.Program.{Program}
+use Rattle.mv_machine.specs.calls.Refusal.{Refusal}
+use Rattle.mv_machine.specs.calls.Rest.{no_waits, waits_from}
+use Rattle.mv_machine.specs.calls.Waits.{arm_all, settle_all, complete_count}
+use Rattle.mv_wait.specs.declared.waiting.WaitSlot.{WaitSlot}
+use Rattle.mv_wait.specs.declared.waiting.WaitSlot.TheVariants as slot
+use Rattle.mv_wait.specs.Run.{Runs}
+
+-- the blocks exist, and are the caller's own
+abbrev pub AreOwn : Setup → ℕ → List ℕ → Type 0
+AreOwn c k es = AllByRecursion (λ e. (e < length c.owners) × (owner_of c e ≡ k)) es
+
+-- none of them is extended, by the log
+abbrev pub ArePlain : CallerFace → List ℕ → Type 0
+ArePlain t es = AllByRecursion (λ e. (kept_of t.number t.log).extended e ≡ false) es
+
+-- these blocks are armed, and no other wait is open
+pub record IsArmedFor (es : List ℕ) (log : List Entry) : Type 0 where
+  pub armed : (n : ℕ) → (waits_from no_waits log).armed n ≡ list_any (λ e. n == e) es
+  pub parked : (n : ℕ) → (waits_from no_waits log).parked n ≡ false
+  pub queued : (latch id : ℕ) → (waits_from no_waits log).queued latch id ≡ false
+
+-- what a wait answers, in the programs
+abbrev pub Waited : Type 0
+Waited = Result (List (Option ℕ)) Refusal
+
+-- each block was armed, whatever program follows
+abbrev pub ArmsAll : List ℕ → CallerFace → CallerFace → Type 0
+ArmsAll es t u = (p : Program Waited) → Runs (length es) (arm_all es p) p t u
+
+-- each block was settled with these slots, whatever program follows
+abbrev pub SettlesAll : List ℕ → List (Option ℕ) → CallerFace → CallerFace → Type 0
+SettlesAll es slots t u = (found : List (Option ℕ)) (f : List (Option ℕ) → Program Waited) → Runs (length es) (settle_all es found f) (f (found ++ slots)) t u
+
+pub record SettlesEnough (count : ℕ) (es : List ℕ) (slots : List (Option ℕ)) (t u : CallerFace) : Type 0 where
+  pub settles : SettlesAll es slots t u
+  pub enough : count ≤ complete_count slots
+
+abbrev pub settle_reply : WaitSlot → EcbReply
+settle_reply (slot.Complete code) = ecb_reply.Complete code
+settle_reply slot.Open = ecb_reply.Open
+
+abbrev pub IsSettled : ℕ → CallerFace → WaitSlot → CallerFace → Type 0
+IsSettled e t found u = Happened t (Ecb e) (op_on.Ecb Settle) (reply_of.Ecb (settle_reply found)) u
+
+abbrev pub IsComplete : WaitSlot → Type 0
+IsComplete found = (code : ℕ) × (found ≡ slot.Complete code)

@@ -1,0 +1,254 @@
+//! What a task keeps of its own entries, in tables. Clauses cite `specs/Keep.antt` and the machine's `calls/Keeping.antt`.
+
+ghost use Rattle.std.specs.Prelude.{◌≡◌, ◌+◌, ◌<◌, ◌≤◌, ◌++◌, ◌∷◌, [], ℕ, Bool, not, List, length, count_by, is_some, ◌^◌, ◌==◌};
+ghost use Rattle.std.specs.List.{list_any};
+ghost use Rattle.slab.specs.Slab.{HasRoomFor, slab_len, entries};
+ghost use Rattle.mv_element.specs.declared.operation.ElementReply.TheVariants.{Closed};
+ghost use Rattle.mv_machine.specs.calls.Keeping.{Kept, kept_after, generation_after};
+ghost use Rattle.mv_machine.specs.Kept.{StandingRequest, is_posting, less, is_named, is_for};
+ghost use Rattle.mv_machine.specs.declared.entry.Op.TheVariants as op_on;
+ghost use Rattle.mv_machine.specs.declared.entry.Reply.TheVariants as reply_of;
+ghost use Rattle.mv_wait.specs.Keep.{Keeps, Reaches, meets, IsOfKind, ClosesBelow, AreHeld, request_of, element_after};
+
+use mv_ecb::{EcbOp, EcbReply};
+use mv_element::{ElementOp, ElementReply};
+use mv_latch::{LatchForm, LatchOp, LatchReply, Mode, Request};
+use mv_machine::{Object, Op, Reply};
+use slab::Slab;
+
+/// One of a task's own elements.
+#[derive(Clone, Copy, Debug, PartialEq, Eq)]
+pub(crate) struct OwnElement {
+    pub in_use: bool,
+    pub generation: u32,
+}
+
+/// A latch request that stands, and its latch.
+#[derive(Clone, Copy, Debug, PartialEq, Eq)]
+pub(crate) struct Standing {
+    pub latch: u32,
+    pub request: Request,
+}
+
+/// What a task keeps: which blocks it holds extended, its elements from the first on, and its requests that stand.
+#[derive(Drop)]
+pub(crate) struct Keep {
+    pub caller: u32,
+    pub first: u32,
+    pub extended: Vec<bool>,
+    pub elements: Vec<OwnElement>,
+    pub requests: Slab<Standing>,
+}
+
+impl Keep {
+    /// One more event of the task.
+    pub(crate) fn follow(&mut self, object: Object, op: Op, reply: Reply)
+        requires block { Reaches object self.old }
+        requires room { HasRoomFor self.old.requests 1 }
+        requires kinds { IsOfKind object op reply }
+        requires closes { ClosesBelow op reply }
+        ensures kept { (kept : Kept) → kept.caller ≡ self.old.caller → Keeps kept self.old → Keeps (kept_after kept object op reply) self.new }
+        ensures same { (self.new.caller ≡ self.old.caller) × (self.new.first ≡ self.old.first) }
+        ensures sizes { (length self.new.extended.items ≡ length self.old.extended.items) × (length self.new.elements.items ≡ length self.old.elements.items) }
+        ensures room { slab_len self.new.requests ≤ slab_len self.old.requests + 1 }
+        ensures capacity { self.new.requests.capacity ≡ self.old.requests.capacity }
+    {
+        match (object, op, reply) {
+            (Object::Ecb(n), Op::Ecb(op), Reply::Ecb(reply)) => self.follow_block(n, op, reply),
+            (Object::Element(n), Op::Element(op), Reply::Element(reply)) => self.follow_element(
+                n, op, reply,
+            ),
+            (Object::Latches, Op::Latch(op), Reply::Latch(reply)) => self.follow_latches(op, reply),
+            _ => {}
+        }
+    }
+}
+
+impl Keep {
+    ghost use Rattle.mv_machine.specs.Kept.{stands_after};
+    ghost use Rattle.mv_machine.specs.calls.Keeping.{extended_with, in_use_with, generation_with};
+    ghost use Rattle.mv_machine.specs.declared.entry.Object.TheVariants as object;
+    ghost use Rattle.mv_wait.specs.Keep.{AreExtended, AreElements};
+
+    // A block is extended from an extend that is answered Armed until it is cleared.
+    fn follow_block(&mut self, n: u32, op: EcbOp, reply: EcbReply)
+        requires block { n < length self.old.extended.items }
+        ensures kept { (held : ℕ → Bool) → AreExtended held self.old → AreExtended (extended_with held (object.Ecb n) (op_on.Ecb op) (reply_of.Ecb reply)) self.new }
+        ensures same { self.new ≡ record self.old { extended = self.new.extended } }
+        ensures size { length self.new.extended.items ≡ length self.old.extended.items }
+    {
+        match (op, reply) {
+            (EcbOp::Extend(_), EcbReply::Armed) => self.extended[n as usize] = true,
+            (EcbOp::Clear, _) => self.extended[n as usize] = false,
+            _ => {}
+        }
+    }
+
+    // An element is in use from its opening until it is closed, and its generation goes by what the replies say.
+    fn follow_element(&mut self, n: u32, op: ElementOp, reply: ElementReply)
+        requires closes { ClosesBelow (op_on.Element op) (reply_of.Element reply) }
+        ensures kept { (used : ℕ → Bool) (generation : ℕ → ℕ) → AreElements used generation self.old
+            → AreElements (in_use_with used (object.Element n) (reply_of.Element reply)) (generation_with generation (object.Element n) (op_on.Element op) (reply_of.Element reply)) self.new }
+        ensures same { self.new ≡ record self.old { elements = self.new.elements } }
+        ensures size { length self.new.elements.items ≡ length self.old.elements.items }
+    {
+        if n < self.first {
+            return;
+        }
+        let i = (n - self.first) as usize;
+        if i >= self.elements.len() {
+            return;
+        }
+        let old = self.elements[i];
+        self.elements[i] = after(old, op, reply);
+    }
+
+    // A request stands from its obtain until it is gone, released or purged.
+    fn follow_latches(&mut self, op: LatchOp, reply: LatchReply)
+        requires room { HasRoomFor self.old.requests 1 }
+        ensures kept { (ts : List StandingRequest) → AreHeld ts self.old.requests.slots → AreHeld (stands_after self.old.caller ts op reply) self.new.requests.slots }
+        ensures same { self.new ≡ record self.old { requests = self.new.requests } }
+        ensures room { slab_len self.new.requests ≤ slab_len self.old.requests + 1 }
+        ensures capacity { self.new.requests.capacity ≡ self.old.requests.capacity }
+    {
+        match (op, reply) {
+            (
+                LatchOp::Obtain {
+                    latch,
+                    requestor,
+                    mode,
+                    form,
+                },
+                LatchReply::Granted(id),
+            ) => self.stand(latch, id, requestor, mode, form),
+            (
+                LatchOp::Obtain {
+                    latch,
+                    requestor,
+                    mode,
+                    form,
+                },
+                LatchReply::Queued(id),
+            ) => self.stand(latch, id, requestor, mode, form),
+            (LatchOp::Confirm { latch, id }, LatchReply::Gone)
+            | (
+                LatchOp::Release { latch, id, .. },
+                LatchReply::Gone | LatchReply::Released { .. },
+            ) => {
+                retain_others(&mut self.requests, latch, id);
+            }
+            (LatchOp::Purge { requestor }, LatchReply::Purged { .. }) => {
+                retain_requestors(&mut self.requests, requestor);
+            }
+            _ => {}
+        }
+    }
+}
+
+impl Keep {
+    // One request more stands. There is room for it.
+    fn stand(&mut self, latch: u32, id: u32, requestor: u64, mode: Mode, form: LatchForm)
+        requires room { HasRoomFor self.old.requests 1 }
+        ensures kept { (ts : List StandingRequest) → AreHeld ts self.old.requests.slots
+            → AreHeld (ts ++ record { latch = latch; request = record { id = id; caller = self.old.caller; requestor = requestor; mode = mode; form = form } } ∷ []) self.new.requests.slots }
+        ensures same { self.new ≡ record self.old { requests = self.new.requests } }
+        ensures room { slab_len self.new.requests ≡ slab_len self.old.requests + 1 }
+        ensures capacity { self.new.requests.capacity ≡ self.old.requests.capacity }
+    {
+        let request = Request {
+            id,
+            caller: self.caller,
+            requestor,
+            mode,
+            form,
+        };
+        self.requests.insert_reserved(Standing { latch, request });
+    }
+}
+
+// An element after an event on it.
+fn after(element: OwnElement, op: ElementOp, reply: ElementReply) -> OwnElement
+    requires { ClosesBelow (op_on.Element op) (reply_of.Element reply) }
+    ensures { result ≡ element_after element op reply }
+{
+    match reply {
+        ElementReply::Opened(generation) => OwnElement {
+            in_use: true,
+            generation,
+        },
+        ElementReply::Closed => OwnElement {
+            in_use: false,
+            generation: closed(element.generation, op),
+        },
+        ElementReply::Given { next, .. } => OwnElement {
+            in_use: element.in_use,
+            generation: next,
+        },
+        _ => element,
+    }
+}
+
+// The generation after a close.
+fn closed(kept: u32, op: ElementOp) -> u32
+    requires { ClosesBelow (op_on.Element op) (reply_of.Element Closed) }
+    ensures { result ≡ generation_after kept op Closed }
+{
+    match op {
+        ElementOp::Close(generation) => generation + 1,
+        _ => kept,
+    }
+}
+
+// Takes out the request of this number at this latch.
+fn retain_others(requests: &mut Slab<Standing>, latch: u32, id: u32)
+    ensures kept { (ts : List StandingRequest) → AreHeld ts requests.old.slots → AreHeld (less (is_named latch id) ts) requests.new.slots }
+    ensures len { slab_len requests.new ≤ slab_len requests.old }
+    ensures capacity { requests.new.capacity ≡ requests.old.capacity }
+{
+    requests.retain(
+        |_key: usize, s: &mut Standing| -> bool
+            ensures keep { result ≡ not (is_named latch id (request_of s.old)) }
+            ensures same { s.new ≡ s.old }
+        { s.latch != latch || s.request.id != id },
+    );
+}
+
+// Takes out the requests of a requestor.
+fn retain_requestors(requests: &mut Slab<Standing>, requestor: u64)
+    ensures kept { (ts : List StandingRequest) → AreHeld ts requests.old.slots → AreHeld (less (is_for requestor) ts) requests.new.slots }
+    ensures len { slab_len requests.new ≤ slab_len requests.old }
+    ensures capacity { requests.new.capacity ≡ requests.old.capacity }
+{
+    requests.retain(
+        |_key: usize, s: &mut Standing| -> bool
+            ensures keep { result ≡ not (is_for requestor (request_of s.old)) }
+            ensures same { s.new ≡ s.old }
+        { s.request.requestor != requestor },
+    );
+}
+
+/// How many requests are to post a block at their grant.
+pub(crate) fn posting_count(requests: &Slab<Standing>) -> u32
+    requires { slab_len requests.now ≤ 524287 }
+    ensures { result ≡ count_by (meets is_posting) requests.now.slots }
+{
+    let mut count = 0;
+    for (_key, stood) in requests.iter() {
+        if let LatchForm::Posted(_) = stood.request.form {
+            count += 1;
+        }
+    }
+    count
+}
+
+/// The key of a request of this number, if there is one.
+pub(crate) fn key_of(requests: &Slab<Standing>, id: u32) -> Option<usize>
+    ensures { is_some result ≡ list_any (λ e. (request_of e.1).request.id == id) (entries requests.now) }
+{
+    for (key, stood) in requests.iter() {
+        if stood.request.id == id {
+            return Some(key);
+        }
+    }
+    None
+}

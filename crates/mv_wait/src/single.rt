@@ -1,0 +1,224 @@
+//! The calls of one event. Clauses cite the machine's `calls/Waits.antt` and `calls/Posts.antt`, and `specs/Run.antt`,
+//! `specs/Answers.antt` and `specs/Single.antt`.
+
+ghost use Rattle.std.specs.Prelude.{◌≡◌, ◌<◌, ◌≤◌, ◌^◌, ◌==◌, length, option_map, MatchResult, None, true, false};
+ghost use Rattle.mv_machine.specs.Setup.{is_exit_of, owner_of};
+ghost use Rattle.mv_machine.specs.declared.entry.Object.TheVariants as object;
+ghost use Rattle.mv_board.specs.Faces.{IsOf, Missed};
+ghost use Rattle.mv_machine.specs.calls.Keeping.{kept_of};
+ghost use Rattle.mv_machine.specs.calls.Posts.{try_post};
+ghost use Rattle.mv_machine.specs.calls.Rest.{IsAtRest};
+ghost use Rattle.mv_machine.specs.calls.Waits.{clear, extend, extend_refusal, is_others_block, test_ecb, read_volume, write_volume};
+ghost use Rattle.mv_wait.specs.Answers.{clear_answer, extend_answer, extend_refused, post_answer};
+ghost use Rattle.mv_wait.specs.Run.{IsServed};
+ghost use Rattle.mv_wait.specs.Single.{IsExtendCause, HasNoWaitBit};
+
+use crate::posting::PostAnswer;
+use crate::record::Record;
+use crate::replies::{posted, taken, value, word};
+use crate::station::Station;
+use crate::task::Task;
+use mv_board::Moved;
+use mv_ecb::EcbOp;
+use mv_machine::{Object, Op, ValidConfig, VolumeOp};
+use std::sync::Wait;
+
+/// The block or element is another caller's.
+#[derive(Clone, Copy, Debug, PartialEq, Eq)]
+pub struct NotOwner;
+
+/// Why a block was not extended.
+#[derive(Clone, Copy, Debug, PartialEq, Eq)]
+pub enum ExtendRefusal {
+    /// The block is another caller's.
+    NotOwner,
+    /// No exit of that number starts from the block.
+    BadExit,
+    /// The block is extended.
+    Extended,
+    /// The block is complete, with this code.
+    Complete(u32),
+}
+
+impl Station {
+    /// Zeroes a block for its next use, and answers the word that it had.
+    ///
+    /// # Errors
+    ///
+    /// `NotOwner` where the block is another caller's; then no event is made.
+    pub fn clear<R: Wait>(&self, rt: &R, task: &mut Task, ecb: u32) -> Result<u32, NotOwner>
+        requires task { IsOf self.now task.old }
+        requires rest { IsAtRest task.old.log }
+        requires block { ecb < length self.now.config.owners }
+        requires left { 0 < task.old.left }
+        ensures served { IsServed 1 (clear self.now.config ecb) (λ a. a ≡ clear_answer result) task.old task.new }
+        ensures causes { MatchResult result
+            (λ _. is_others_block self.now.config (kept_of task.old.number task.old.log) ecb ≡ false)
+            (λ _. (is_others_block self.now.config (kept_of task.old.number task.old.log) ecb ≡ true) × (task.new ≡ task.old)) }
+    {
+        if self.is_others_block(&task.record, ecb) {
+            return Err(NotOwner);
+        }
+        let reply = task
+            .record
+            .event(rt, &self.board, Object::Ecb(ecb), Op::Ecb(EcbOp::Clear));
+        Ok(word(reply))
+    }
+
+    /// Makes the next post of a block run an exit.
+    ///
+    /// # Errors
+    ///
+    /// The first refusal that holds. Only `Complete` makes an event, whose reply it is.
+    pub fn extend<R: Wait>(
+        &self,
+        rt: &R,
+        task: &mut Task,
+        ecb: u32,
+        exit: u32,
+    ) -> Result<(), ExtendRefusal>
+        requires task { IsOf self.now task.old }
+        requires rest { IsAtRest task.old.log }
+        requires block { ecb < length self.now.config.owners }
+        requires left { 0 < task.old.left }
+        ensures served { IsServed 1 (extend self.now.config ecb exit) (λ a. a ≡ extend_answer result) task.old task.new }
+        ensures causes { MatchResult result
+            (λ _. extend_refusal self.now.config ecb exit (kept_of task.old.number task.old.log) ≡ None)
+            (λ why. IsExtendCause self.now.config ecb exit task.old why task.new) }
+    {
+        if let Some(refusal) = self.refuses_extend(&task.record, ecb, exit) {
+            return Err(refusal);
+        }
+        let reply = task.record.event(
+            rt,
+            &self.board,
+            Object::Ecb(ecb),
+            Op::Ecb(EcbOp::Extend(exit)),
+        );
+        match taken(reply) {
+            None => Ok(()),
+            Some(code) => Err(ExtendRefusal::Complete(code)),
+        }
+    }
+
+    // Why a block is not to be extended, if it is not.
+    fn refuses_extend(&self, me: &Record, ecb: u32, exit: u32) -> Option<ExtendRefusal>
+        requires task { IsOf self.now me.now }
+        requires block { ecb < length self.now.config.owners }
+        ensures refusal { option_map extend_refused result ≡ extend_refusal self.now.config ecb exit (kept_of me.now.number me.now.log) }
+        ensures few { result ≡ None → exit ≤ 32768 }
+    {
+        if self.is_others_block(me, ecb) {
+            return Some(ExtendRefusal::NotOwner);
+        }
+        if !starts(self.board.config(), exit, ecb) {
+            return Some(ExtendRefusal::BadExit);
+        }
+        if me.extended(ecb) {
+            return Some(ExtendRefusal::Extended);
+        }
+        None
+    }
+
+    // Whether a block is another caller's.
+    fn is_others_block(&self, me: &Record, ecb: u32) -> bool
+        requires { ecb < length self.now.config.owners }
+        ensures { result ≡ is_others_block self.now.config (kept_of me.now.number me.now.log) ecb }
+    {
+        !is_owner(self.board.config(), me.caller.number(), ecb)
+    }
+
+    /// Posts a block by one exchange of its word, which runs no exit and wakes nobody: the word that is expected has no wait bit.
+    ///
+    /// # Errors
+    ///
+    /// `Moved(w)` where the word found was w and not `expected`.
+    pub fn try_post(
+        &self,
+        task: &mut Task,
+        ecb: u32,
+        expected: u64,
+        code: u32,
+    ) -> Result<PostAnswer, Moved>
+        requires task { IsOf self.now task.old }
+        requires rest { IsAtRest task.old.log }
+        requires block { ecb < length self.now.config.owners }
+        requires code { code < 2 ^ 30 }
+        requires unwaited { HasNoWaitBit expected }
+        requires left { 0 < task.old.left }
+        ensures answer { MatchResult result
+            (λ answer. IsServed 1 (try_post ecb expected code) (λ p. post_answer p ≡ answer) task.old task.new)
+            (λ moved. Missed task.old (object.Ecb ecb) expected moved task.new) }
+        ensures rest { IsAtRest task.new.log }
+    {
+        let reply = task.record.try_event(
+            &self.board,
+            Object::Ecb(ecb),
+            Op::Ecb(EcbOp::Post(code)),
+            expected,
+        )?;
+        Ok(posted(reply).answer())
+    }
+
+    /// The word of a block.
+    pub fn test_ecb(&self, task: &mut Task, ecb: u32) -> u32
+        requires task { IsOf self.now task.old }
+        requires rest { IsAtRest task.old.log }
+        requires block { ecb < length self.now.config.owners }
+        requires left { 0 < task.old.left }
+        ensures served { IsServed 1 (test_ecb ecb) (λ a. a ≡ result) task.old task.new }
+    {
+        let reply = task.record.test(&self.board, Object::Ecb(ecb));
+        word(reply)
+    }
+
+    /// The number that a volume has.
+    pub fn read_volume(&self, task: &mut Task, volume: u32) -> u32
+        requires task { IsOf self.now task.old }
+        requires rest { IsAtRest task.old.log }
+        requires volume { volume < self.now.config.volumes }
+        requires left { 0 < task.old.left }
+        ensures served { IsServed 1 (read_volume volume) (λ a. a ≡ result) task.old task.new }
+    {
+        let reply = task.record.test(&self.board, Object::Volume(volume));
+        value(reply)
+    }
+
+    /// Gives a volume a number.
+    pub fn write_volume<R: Wait>(&self, rt: &R, task: &mut Task, volume: u32, number: u32)
+        requires task { IsOf self.now task.old }
+        requires rest { IsAtRest task.old.log }
+        requires volume { volume < self.now.config.volumes }
+        requires left { 0 < task.old.left }
+        ensures served { IsServed 1 (write_volume volume number) (λ a. a ≡ tt) task.old task.new }
+    {
+        task.record.event(
+            rt,
+            &self.board,
+            Object::Volume(volume),
+            Op::Volume(VolumeOp::Write(number)),
+        );
+    }
+}
+
+// Whether a block is this caller's.
+fn is_owner(config: &ValidConfig, caller: u32, ecb: u32) -> bool
+    requires { ecb < length config.now.owners }
+    ensures { result ≡ (owner_of config.now ecb == caller) }
+{
+    config.config().owners[ecb as usize] == caller
+}
+
+// Whether there is an exit of this number, and it starts from this block. Exits are counted from 1.
+fn starts(config: &ValidConfig, exit: u32, ecb: u32) -> bool
+    ensures starts { result ≡ is_exit_of config.now exit ecb }
+    ensures few { result ≡ true → exit ≤ 32768 }
+{
+    if exit == 0 {
+        return false;
+    }
+    match config.config().exits.get(exit as usize - 1) {
+        Some(found) => found.source == ecb,
+        None => false,
+    }
+}

@@ -1,0 +1,257 @@
+//! The station: a board, and what wakes the tasks that wait. Clauses cite `specs/Station.antt`, `specs/Run.antt` and the
+//! board's `Faces.antt`.
+
+ghost use Rattle.std.specs.Prelude.{◌≡◌, ◌<◌, ◌≤◌, ◌+◌, [], ◌++◌, ◌∷◌, true, length, map, vec_len, vec_capacity, IfOk, MatchResult, List};
+ghost use Rattle.std.specs.List.{Contains};
+ghost use Rattle.mv_machine.specs.Kept.{allowed};
+ghost use Rattle.mv_machine.specs.Parts.{IsPossible};
+ghost use Rattle.mv_board.specs.Faces.{IsOf, IsFresh, AreFresh, Happened, Found, Exchanged, Missed, IsAsListed, MayWatch, Peeks};
+ghost use Rattle.mv_board.specs.Words.{HasWord, test_of};
+ghost use Rattle.mv_machine.specs.Replies.{NamesUpTo};
+ghost use Rattle.mv_wait.specs.Run.{Went};
+
+use crate::keep::{Keep, OwnElement};
+use crate::pausing::pause;
+use crate::record::Record;
+use crate::task::Task;
+use crossbeam_utils::sync::{Parker, Unparker};
+use mv_board::{Board, Caller, Closed, Moved, Watch};
+use mv_io::NoMemory;
+use mv_machine::{Object, Op, Reply, ValidConfig};
+use slab::Slab;
+use std::alloc::Global;
+use std::marker::Model;
+use std::sync::Wait;
+
+/// The shared objects of a configuration, for tasks that wait.
+#[derive(Drop)]
+pub struct Station {
+    pub(crate) board: Board,
+    // What wakes each task, by its number.
+    pub(crate) unparkers: Vec<Unparker>,
+}
+
+impl Model for Station {
+    ghost use Rattle.mv_board.specs.Faces.{BoardFace};
+    ghost use Rattle.mv_wait.specs.Station.{IsStation};
+
+    ghost Value = { BoardFace };
+
+    ghost view = { λ s. s.board };
+
+    ghost invariant = { IsStation };
+}
+
+impl Station {
+    /// A station with all objects at place 0, and its tasks in the order of their numbers. All memory that later calls use is
+    /// taken here.
+    ///
+    /// # Errors
+    ///
+    /// `NoMemory` where there is not enough. The configuration is dropped then.
+    pub fn open(alloc: Global, config: ValidConfig) -> Result<(Station, Vec<Task>), NoMemory>
+        ensures config { IfOk result (λ r. r.0.config ≡ config) }
+        ensures tasks { IfOk result (λ r. AreFresh r.0 0 r.1.items) }
+        ensures count { IfOk result (λ r. length r.1.items ≡ config.callers) }
+    {
+        let (board, callers) = Board::open(alloc, config)?;
+        let (tasks, unparkers) = tasks_of(alloc, &board, callers)?;
+        Ok((Station { board, unparkers }, tasks))
+    }
+
+    /// The configuration that it was opened with.
+    pub fn config(&self) -> &ValidConfig
+        ensures { result.now ≡ self.now.config }
+    {
+        self.board.config()
+    }
+
+    /// One event on an object, and its reply.
+    pub fn event<R: Wait>(&self, rt: &R, task: &mut Task, object: Object, op: Op) -> Reply
+        requires task { IsOf self.now task.old }
+        requires left { 0 < task.old.left }
+        requires admitted { task.old.number < self.now.config.callers → allowed self.now.config task.old.number task.old.log object op ≡ true }
+        ensures event { Happened task.old object op result task.new }
+        ensures possible { IsPossible self.now.config task.new.number task.new.log task.new.told }
+        ensures listed { IsAsListed task.old object op result }
+        ensures low { NamesUpTo 262143 result }
+    {
+        task.record.event(rt, &self.board, object, op)
+    }
+
+    /// One exchange of an object's word.
+    ///
+    /// # Errors
+    ///
+    /// `Moved(w)` where the word found was w and not `expected`.
+    pub fn try_event(
+        &self,
+        task: &mut Task,
+        object: Object,
+        op: Op,
+        expected: u64,
+    ) -> Result<Reply, Moved>
+        requires task { IsOf self.now task.old }
+        requires word { HasWord self.now.config object }
+        requires left { 0 < task.old.left }
+        requires admitted { task.old.number < self.now.config.callers → allowed self.now.config task.old.number task.old.log object op ≡ true }
+        ensures answer { MatchResult result
+            (λ reply. Exchanged task.old object op expected reply task.new)
+            (λ moved. Missed task.old object expected moved task.new) }
+        ensures possible { IfOk result (λ _. IsPossible self.now.config task.new.number task.new.log task.new.told) }
+        ensures listed { IfOk result (λ reply. IsAsListed task.old object op reply) }
+        ensures low { IfOk result (λ reply. NamesUpTo 262143 reply) }
+    {
+        task.record.try_event(&self.board, object, op, expected)
+    }
+
+    /// The event that reads an object.
+    pub fn test(&self, task: &mut Task, object: Object) -> Reply
+        requires task { IsOf self.now task.old }
+        requires word { HasWord self.now.config object }
+        requires left { 0 < task.old.left }
+        ensures event { Happened task.old object (test_of object) result task.new }
+        ensures met { task.new.met ≡ task.old.met }
+        ensures possible { IsPossible self.now.config task.new.number task.new.log task.new.told }
+        ensures low { NamesUpTo 262143 result }
+    {
+        task.record.test(&self.board, object)
+    }
+
+    /// One load of an object's word.
+    pub fn look(&self, task: &mut Task, object: Object) -> u64
+        requires task { IsOf self.now task.old }
+        requires word { HasWord self.now.config object }
+        ensures found { Found task.old object result task.new }
+        ensures ready { task.new.ready ≡ task.old.ready }
+    {
+        task.record.look(&self.board, object)
+    }
+
+    /// Whether what a task waits for is so.
+    pub fn peek<R: Wait>(&self, rt: &R, task: &mut Task, watch: Watch) -> bool
+        requires task { IsOf self.now task.old }
+        requires own { MayWatch self.now.config task.old watch }
+        ensures look { Peeks task.old watch result task.new }
+        ensures stays { Contains task.old.ready watch → result ≡ true }
+    {
+        task.record.peek(rt, &self.board, watch)
+    }
+
+    /// Parks until what the task waits for is so.
+    pub fn park_for<R: Wait>(&self, rt: &R, task: &mut Task, watch: Watch)
+        requires task { IsOf self.now task.old }
+        requires own { MayWatch self.now.config task.old watch }
+        ensures went { Went [] task.old task.new }
+        ensures ready { Contains task.new.ready watch }
+    {
+        self.await_ready(rt, &mut task.record, &task.parker, watch);
+    }
+
+    // Parks until the watch is on the ready list.
+    fn await_ready<R: Wait>(&self, rt: &R, me: &mut Record, parker: &Parker, watch: Watch)
+        requires task { IsOf self.now me.old }
+        requires own { MayWatch self.now.config me.old watch }
+        ensures went { Went [] me.old me.new }
+        ensures ready { Contains me.new.ready watch }
+    {
+        let mut looks = 0;
+        for _ in rt.forever() {
+            if me.peek(rt, &self.board, watch) {
+                return;
+            }
+            looks = pause(rt, parker, looks);
+        }
+    }
+
+    /// Wakes a task that waits.
+    pub fn wake(&self, caller: u32)
+        requires { caller < self.now.config.callers }
+    {
+        self.unparkers[caller as usize].unpark();
+    }
+}
+
+impl Station {
+    ghost use Rattle.std.specs.List.{AllByRecursion};
+    ghost use Rattle.mv_machine.specs.Legal.{Legal, after};
+    ghost use Rattle.mv_machine.specs.Merge.{merged as merged_logs};
+    ghost use Rattle.mv_machine.specs.Parts.{KeepsBudgets};
+    ghost use Rattle.mv_machine.specs.State.{system_of, wakes_of, IsOpenedWith};
+    ghost use Rattle.mv_machine.specs.Told.{last_wakes};
+    ghost use Rattle.mv_board.specs.Faces.{AreInOrder, IsIn};
+
+    /// Ends the station: joins its tasks, and merges their logs. It takes no memory, and never refuses.
+    pub fn close(self, tasks: Vec<Task>) -> Closed
+        requires order { AreInOrder self 0 tasks.items }
+        requires all { length tasks.items ≡ self.config.callers }
+        ensures config { result.config ≡ self.config }
+        ensures legal { Legal self.config result.journal.items }
+        ensures budgets { KeepsBudgets self.config result.journal.items }
+        ensures few { length result.journal.items ≤ 524287 }
+        ensures merged { result.journal.items ≡ merged_logs (map (λ k. k.log) tasks.items) }
+        ensures callers { AllByRecursion (IsIn self.config result.journal.items) tasks.items }
+        ensures state { system_of result.state ≡ after self.config result.journal.items }
+        ensures wakes { wakes_of result.state ≡ last_wakes self.config result.journal.items }
+        ensures opened { IsOpenedWith self.config result.state }
+    {
+        let Station { board, .. } = self;
+        let mut closing = board.closing();
+        for task in tasks {
+            closing.take_back(task.into_caller());
+        }
+        closing.done()
+    }
+}
+
+// A task for each of these callers in order, and what each is woken with.
+fn tasks_of(
+    alloc: Global,
+    board: &Board,
+    callers: Vec<Caller>,
+) -> Result<(Vec<Task>, Vec<Unparker>), NoMemory>
+    requires { AreFresh board.now 0 callers.items }
+    ensures tasks { IfOk result (λ r. r.0.items ≡ callers.items) }
+    ensures wakers { IfOk result (λ r. vec_len r.1 ≡ length callers.items) }
+{
+    let mut tasks = Vec::with_capacity(alloc, callers.len())?;
+    let mut unparkers = Vec::with_capacity(alloc, callers.len())?;
+    for caller in callers {
+        let parker = Parker::new(alloc)?;
+        unparkers.push_reserved(parker.unparker().clone()?);
+        tasks.push_reserved(task_of(alloc, board.config(), caller, parker)?);
+    }
+    Ok((tasks, unparkers))
+}
+
+// A task with this caller, whose tables are empty and have room for all its events.
+fn task_of(
+    alloc: Global,
+    config: &ValidConfig,
+    caller: Caller,
+    parker: Parker,
+) -> Result<Task, NoMemory>
+    requires about { caller.about ≡ config.now ∷ [] }
+    requires new { caller.log ≡ [] }
+    ensures { IfOk result (λ t. t ≡ caller) }
+{
+    let given = config.config();
+    let left = caller.left() as usize;
+    let none = OwnElement {
+        in_use: false,
+        generation: 0,
+    };
+    let keep = Keep {
+        caller: caller.number(),
+        first: caller.number() * given.elements_per_caller,
+        extended: vec![in alloc; false; given.owners.len()]?,
+        elements: vec![in alloc; none; given.elements_per_caller as usize]?,
+        requests: Slab::with_capacity(alloc, left)?,
+    };
+    let record = Record { caller, keep };
+    Ok(Task {
+        record,
+        parker,
+        pending: Vec::with_capacity(alloc, left)?,
+    })
+}

@@ -1,0 +1,129 @@
+//! A task: one caller's seat, and what it keeps of its entries. Clauses cite `specs/Task.antt`, the board's `Faces.antt` and
+//! the machine's `calls/Keeping.antt`.
+
+ghost use Rattle.std.specs.Prelude.{◌≡◌, ◌<◌, ◌≤◌};
+ghost use Rattle.std.specs.List.{AllByRecursion};
+ghost use Rattle.mv_machine.specs.Setup.{Setup};
+ghost use Rattle.mv_board.specs.Faces.{last_of};
+
+use crate::record::Record;
+use crossbeam_utils::sync::Parker;
+use mv_board::Caller;
+use mv_latch::Wake;
+use mv_machine::Entry;
+use std::marker::Model;
+
+/// One task of a station. No other task's call changes anything of it.
+#[derive(Drop)]
+pub struct Task {
+    pub(crate) record: Record,
+    pub(crate) parker: Parker,
+    // The blocks that a call is still to post, the next one last.
+    pub(crate) pending: Vec<u32>,
+}
+
+impl Model for Task {
+    ghost use Rattle.mv_board.specs.Faces.{CallerFace};
+    ghost use Rattle.mv_wait.specs.Task.{IsTask};
+
+    ghost Value = { CallerFace };
+
+    ghost view = { λ t. t.record };
+
+    ghost invariant = { IsTask };
+}
+
+impl Task {
+    /// Its number. There is such a task.
+    pub fn number(&self) -> u32
+        ensures number { result ≡ self.now.number }
+        ensures exists { AllByRecursion (λ (s : Setup). result < s.callers) self.now.about }
+    {
+        self.record.caller.number()
+    }
+
+    /// How many events it may still make. All tasks have together no more than 524,287.
+    pub fn left(&self) -> u32
+        ensures left { result ≡ self.now.left }
+        ensures few { result ≤ 524287 }
+    {
+        self.record.caller.left()
+    }
+
+    /// Its entries so far, in order.
+    pub fn log(&self) -> &[Entry]
+        ensures { result.now ≡ self.now.log }
+    {
+        self.record.caller.log()
+    }
+
+    /// The wakes of its last event on the latch set, in order. Before one there are none.
+    pub fn wakes(&self) -> &[Wake]
+        ensures wakes { result.now ≡ self.now.wakes }
+        ensures last { result.now ≡ last_of self.now.told }
+    {
+        self.record.caller.wakes()
+    }
+
+    // Its caller, which the board takes back at its end.
+    pub(crate) fn into_caller(self) -> Caller
+        ensures { result ≡ self }
+    {
+        let Task { record, .. } = self;
+        let Record { caller, .. } = record;
+        caller
+    }
+}
+
+impl Task {
+    ghost use Rattle.std.specs.Prelude.{◌<◌, ◌∷◌, [], ◌==◌, length, filter, is_some};
+    ghost use Rattle.std.specs.List.{list_any};
+    ghost use Rattle.mv_machine.specs.Kept.{is_posting};
+    ghost use Rattle.mv_machine.specs.Setup.{Setup, element_owner};
+    ghost use Rattle.mv_machine.specs.calls.Keeping.{kept_of};
+
+    /// Whether it holds a block extended.
+    pub fn extended(&self, ecb: u32) -> bool
+        requires { (s : Setup) × (self.now.about ≡ s ∷ []) × (ecb < length s.owners) }
+        ensures { result ≡ (kept_of self.now.number self.now.log).extended ecb }
+    {
+        self.record.extended(ecb)
+    }
+
+    /// Whether an element of its own is in use.
+    pub fn in_use(&self, element: u32) -> bool
+        requires { (s : Setup) × (self.now.about ≡ s ∷ []) × (element_owner s element ≡ self.now.number) }
+        ensures { result ≡ (kept_of self.now.number self.now.log).in_use element }
+    {
+        self.record.element(element).in_use
+    }
+
+    /// The generation of an element of its own.
+    pub fn generation(&self, element: u32) -> u32
+        requires { (s : Setup) × (self.now.about ≡ s ∷ []) × (element_owner s element ≡ self.now.number) }
+        ensures { result ≡ (kept_of self.now.number self.now.log).generation element }
+    {
+        self.record.element(element).generation
+    }
+
+    /// How many of its latch requests stand.
+    pub fn standing(&self) -> u32
+        ensures { result ≡ length (kept_of self.now.number self.now.log).requests }
+    {
+        self.record.standing()
+    }
+
+    /// How many of those are to post a block at their grant.
+    pub fn standing_posted(&self) -> u32
+        ensures { result ≡ length (filter is_posting (kept_of self.now.number self.now.log).requests) }
+    {
+        self.record.standing_posted()
+    }
+
+    /// The key under which its request of this number stands, if one stands.
+    pub fn key(&self, id: u32) -> Option<usize>
+        ensures { is_some result ≡ list_any (λ t. t.request.id == id) (kept_of self.now.number self.now.log).requests }
+    {
+        self.record.key(id)
+    }
+}

@@ -1,0 +1,228 @@
+//! Waits for events. Clauses cite the machine's `calls/Waits.antt`, and `specs/Run.antt`, `specs/Answers.antt`,
+//! `specs/Waiting.antt` and `specs/Listed.antt`.
+
+ghost use Rattle.std.specs.Prelude.{◌≡◌, ◌<◌, ◌≤◌, ◌+◌, ◌*◌, ◌^◌, ◌==◌, not, ℕ, [], ◌∷◌, true, length, option_map, MatchResult, Some, None, false};
+ghost use Rattle.std.specs.List.{AllByRecursion};
+ghost use Rattle.mv_machine.specs.Setup.{owner_of};
+ghost use Rattle.mv_board.specs.Faces.{IsOf};
+ghost use Rattle.mv_machine.specs.calls.Keeping.{kept_of};
+ghost use Rattle.mv_machine.specs.calls.Rest.{IsAtRest};
+ghost use Rattle.mv_machine.specs.calls.Waits.{wait, wait_refusal, doubled_at, refused_at, is_others_block, AreDistinct};
+ghost use Rattle.mv_machine.specs.calls.Waits as program;
+ghost use Rattle.mv_machine.specs.calls.Refusal.{Doubled, NotOwnerAt, ExtendedAt};
+ghost use Rattle.mv_wait.specs.Answers.{wait_answer, wait_refused, slots_of};
+ghost use Rattle.mv_wait.specs.Listed.{is_listed, listed_count};
+ghost use Rattle.mv_wait.specs.Run.{Went, Runs, IsServed};
+ghost use Rattle.mv_wait.specs.Waiting.{IsArmedFor, ArePlain, AreOwn, ArmsAll, SettlesEnough, IsSettled, IsComplete};
+
+use crate::pausing::pause;
+use crate::record::Record;
+use crate::replies::slot;
+use crate::station::Station;
+use crate::task::Task;
+use crossbeam_utils::sync::Parker;
+use mv_board::Watch;
+use mv_ecb::EcbOp;
+use mv_machine::{Object, Op, ValidConfig};
+use std::sync::Wait;
+
+/// How a block of a wait was found.
+#[derive(Clone, Copy, Debug, PartialEq, Eq)]
+pub enum WaitSlot {
+    /// It is complete with this code.
+    Complete(u32),
+    /// It is not complete.
+    Open,
+}
+
+/// Why a wait was refused. Positions count from 0.
+#[derive(Clone, Copy, Debug, PartialEq, Eq)]
+pub enum WaitRefusal {
+    /// The list is shorter than the count.
+    TooMany,
+    /// The block at this position stands earlier in the list.
+    Doubled(u32),
+    /// The block at this position is another caller's.
+    NotOwner(u32),
+    /// The block at this position is extended.
+    Extended(u32),
+}
+
+impl Station {
+    /// Waits until at least `count` of these blocks are complete, and says of each whether it is, and with which code.
+    ///
+    /// # Errors
+    ///
+    /// The first refusal that holds. Then no event is made, and `out` is as it was.
+    pub fn wait<R: Wait>(
+        &self,
+        rt: &R,
+        task: &mut Task,
+        count: u32,
+        ecbs: &[u32],
+        out: &mut [WaitSlot],
+    ) -> Result<(), WaitRefusal>
+        requires task { IsOf self.now task.old }
+        requires rest { IsAtRest task.old.log }
+        requires blocks { AllByRecursion (λ e. e < length self.now.config.owners) ecbs.now }
+        requires out { length out.old ≡ length ecbs.now }
+        requires left { 2 * length ecbs.now ≤ task.old.left }
+        ensures served { IsServed (2 * length ecbs.now) (wait self.now.config count ecbs.now) (λ a. a ≡ wait_answer result out.new) task.old task.new }
+        ensures causes { MatchResult result
+            (λ _. wait_refusal self.now.config count ecbs.now (kept_of task.old.number task.old.log) ≡ None)
+            (λ why. (wait_refusal self.now.config count ecbs.now (kept_of task.old.number task.old.log) ≡ Some (wait_refused why)) × (task.new ≡ task.old) × (out.new ≡ out.old)) }
+    {
+        if let Some(refusal) = self.refuses_wait(&task.record, count, ecbs) {
+            return Err(refusal);
+        }
+        self.arm_all(rt, &mut task.record, ecbs);
+        self.await_complete(rt, &mut task.record, &task.parker, count, ecbs);
+        self.settle_all(rt, &mut task.record, count, ecbs, out);
+        Ok(())
+    }
+
+    // Why a wait is refused, if it is.
+    fn refuses_wait(&self, me: &Record, count: u32, ecbs: &[u32]) -> Option<WaitRefusal>
+        requires task { IsOf self.now me.now }
+        requires blocks { AllByRecursion (λ e. e < length self.now.config.owners) ecbs.now }
+        requires few { 2 * length ecbs.now ≤ me.now.left }
+        ensures { option_map wait_refused result ≡ wait_refusal self.now.config count ecbs.now (kept_of me.now.number me.now.log) }
+    {
+        let number = me.caller.number();
+        if ecbs.len() < count as usize {
+            return Some(WaitRefusal::TooMany);
+        }
+        if let Some(p) = doubled(ecbs) {
+            return Some(WaitRefusal::Doubled(p));
+        }
+        if let Some(p) = not_owned(self.board.config(), number, ecbs) {
+            return Some(WaitRefusal::NotOwner(p));
+        }
+        if let Some(p) = me.first_extended(ecbs) {
+            return Some(WaitRefusal::Extended(p));
+        }
+        None
+    }
+
+    // Arms each block.
+    fn arm_all<R: Wait>(&self, rt: &R, me: &mut Record, ecbs: &[u32])
+        requires task { IsOf self.now me.old }
+        requires rest { IsAtRest me.old.log }
+        requires own { AreOwn self.now.config me.old.number ecbs.now }
+        requires plain { ArePlain me.old ecbs.now }
+        requires distinct { AreDistinct ecbs.now }
+        requires left { length ecbs.now ≤ me.old.left }
+        ensures armed { ArmsAll ecbs.now me.old me.new }
+        ensures waits { IsArmedFor ecbs.now me.new.log }
+        ensures plain { ArePlain me.new ecbs.now }
+    {
+        for ecb in ecbs {
+            me.event(rt, &self.board, Object::Ecb(*ecb), Op::Ecb(EcbOp::Arm));
+        }
+    }
+
+    // Parks until `count` of the blocks are complete.
+    fn await_complete<R: Wait>(
+        &self,
+        rt: &R,
+        me: &mut Record,
+        parker: &Parker,
+        count: u32,
+        ecbs: &[u32],
+    )
+        requires task { IsOf self.now me.old }
+        requires own { AreOwn self.now.config me.old.number ecbs.now }
+        ensures went { Went [] me.old me.new }
+        ensures listed { count ≤ listed_count me.new.ready ecbs.now }
+    {
+        let mut looks = 0;
+        for _ in rt.forever() {
+            if self.count_complete(rt, me, ecbs) >= count as usize {
+                return;
+            }
+            looks = pause(rt, parker, looks);
+        }
+    }
+
+    // How many of the blocks are complete, by a look at each.
+    fn count_complete<R: Wait>(&self, rt: &R, me: &mut Record, ecbs: &[u32]) -> usize
+        requires task { IsOf self.now me.old }
+        requires own { AreOwn self.now.config me.old.number ecbs.now }
+        ensures went { Went [] me.old me.new }
+        ensures listed { result ≤ listed_count me.new.ready ecbs.now }
+    {
+        let mut count = 0;
+        for ecb in ecbs {
+            if me.peek(rt, &self.board, Watch::Ecb(*ecb)) {
+                count += 1;
+            }
+        }
+        count
+    }
+
+    // Settles each block, and puts down what is found. At least `count` are complete, since so many are listed.
+    fn settle_all<R: Wait>(
+        &self,
+        rt: &R,
+        me: &mut Record,
+        count: u32,
+        ecbs: &[u32],
+        out: &mut [WaitSlot],
+    )
+        requires task { IsOf self.now me.old }
+        requires waits { IsArmedFor ecbs.now me.old.log }
+        requires own { AreOwn self.now.config me.old.number ecbs.now }
+        requires plain { ArePlain me.old ecbs.now }
+        requires distinct { AreDistinct ecbs.now }
+        requires listed { count ≤ listed_count me.old.ready ecbs.now }
+        requires out { length out.old ≡ length ecbs.now }
+        requires left { length ecbs.now ≤ me.old.left }
+        ensures settled { SettlesEnough count ecbs.now (slots_of out.new) me.old me.new }
+        ensures rest { IsAtRest me.new.log }
+    {
+        for i in 0..ecbs.len() {
+            out[i] = self.settle(rt, me, ecbs[i]);
+        }
+    }
+
+    // Settles one block.
+    fn settle<R: Wait>(&self, rt: &R, me: &mut Record, ecb: u32) -> WaitSlot
+        requires task { IsOf self.now me.old }
+        requires own { AreOwn self.now.config me.old.number (ecb ∷ []) }
+        requires plain { ArePlain me.old (ecb ∷ []) }
+        requires left { 0 < me.old.left }
+        ensures settled { IsSettled ecb me.old result me.new }
+        ensures complete { is_listed me.old.ready ecb ≡ true → IsComplete result }
+    {
+        let reply = me.event(rt, &self.board, Object::Ecb(ecb), Op::Ecb(EcbOp::Settle));
+        slot(reply)
+    }
+}
+
+// The first position whose block stands earlier.
+fn doubled(ecbs: &[u32]) -> Option<u32>
+    requires { length ecbs.now < 2 ^ 32 }
+    ensures { option_map (λ p. Doubled p) result ≡ doubled_at [] 0 ecbs.now }
+{
+    for p in 0..ecbs.len() {
+        if ecbs[..p].contains(&ecbs[p]) {
+            return Some(p as u32);
+        }
+    }
+    None
+}
+
+// The first position whose block is another caller's.
+fn not_owned(config: &ValidConfig, caller: u32, ecbs: &[u32]) -> Option<u32>
+    requires few { length ecbs.now < 2 ^ 32 }
+    requires blocks { AllByRecursion (λ e. e < length config.now.owners) ecbs.now }
+    ensures { option_map (λ p. NotOwnerAt p) result ≡ refused_at NotOwnerAt (λ e. not (owner_of config.now e == caller)) 0 ecbs.now }
+{
+    let owners = &config.config().owners;
+    for p in 0..ecbs.len() {
+        if owners[ecbs[p] as usize] != caller {
+            return Some(p as u32);
+        }
+    }
+    None
+}
