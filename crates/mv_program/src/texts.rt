@@ -33,13 +33,7 @@ fn texts_of_deck(alloc: Global, deck: &Deck) -> Result<Texts, NoMemory>
     ensures typed { OnOk result (All IsTyped (posts (ends (deck_data deck.now)))) }
 {
     let outcome = outcome_of(alloc, deck)?;
-    let report = write_report(
-        alloc,
-        deck,
-        &outcome.ends,
-        &outcome.lines,
-        &outcome.volumes,
-    )?;
+    let report = write_report(alloc, deck, &outcome.ends, &outcome.lines, &outcome.volumes)?;
     let config = config_of(alloc, outcome.ends.len() as u32)?;
     let events = posts_of(alloc, &outcome.ends)?;
     let journal = write_journal(alloc, &config, &events)?;

@@ -7,5 +7,8 @@ pub counts_add_up : (ends : List ℕ) → count_by is_ended ends + count_by is_a
 counts_add_up [] = refl
 counts_add_up (end ∷ ends) =
     let more = counts_add_up ends in
-    rw (sum_by-cons (λ e. cond (is_ended e) 1 0) end ends, sum_by-cons (λ e. cond (is_abended e) 1 0) end ends,
-    sum_by-cons (λ e. cond (is_not_run e) 1 0) end ends) (grind arith)
+    rw (
+      sum_by-cons (λ e. cond (is_ended e) 1 0) end ends,
+      sum_by-cons (λ e. cond (is_abended e) 1 0) end ends,
+      sum_by-cons (λ e. cond (is_not_run e) 1 0) end ends,
+    ) (grind arith)

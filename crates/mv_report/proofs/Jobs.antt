@@ -24,10 +24,10 @@ pub jobs_text-more : (jobs : List Job) (ends : List ℕ) (lines : List (List (Li
     ≡ jobs_text (map job_data (take i jobs)) (take i ends) (take i lines) ++ job_text job.name (get_or ends i 0) texts
 jobs_text-more jobs ends lines i job texts e l lt is_job is_texts =
     let jobs-is : take (i + 1) jobs ≡ take i jobs ++ job ∷ [] =
-        take_more jobs i job lt ∙ ap (λ (j : Job). take i jobs ++ j ∷ []) (sym is_job) in
+    take_more jobs i job lt ∙ ap (λ (j : Job). take i jobs ++ j ∷ []) (sym is_job) in
     let ends-is : take (i + 1) ends ≡ take i ends ++ get_or ends i 0 ∷ [] = take_more ends i 0 (omega arith) in
     let lines-is : take (i + 1) lines ≡ take i lines ++ texts ∷ [] =
-        take_more lines i texts (omega arith) ∙ ap (λ (t : List (List ℕ)). take i lines ++ t ∷ []) (sym is_texts) in
+    take_more lines i texts (omega arith) ∙ ap (λ (t : List (List ℕ)). take i lines ++ t ∷ []) (sym is_texts) in
     rw (jobs-is, ends-is, lines-is, map-append job_data (take i jobs) (job ∷ []))
     (jobs_text-push (map job_data (take i jobs)) (take i ends) (take i lines) (job_data job) (get_or ends i 0) texts
     (simp length-map (omega (arith, length-take i jobs, length-take i ends)))

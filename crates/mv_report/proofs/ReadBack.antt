@@ -81,9 +81,9 @@ abend_reads_back : (end : ℕ) → eqb end 0 ≡ false → is_ended end ≡ fals
 abend_reads_back end some gone was_run system user =
     elim (cases_eq (system_code end) 0) [
       | inl e ↦ let none = eq-eqb (system_code end) 0 e in
-        rw (some, gone, was_run, none) (ap (λ (n : ℕ). 2 ^ 24 + n) (decimal_reads_back (user_code end) user))
+          rw (some, gone, was_run, none) (ap (λ (n : ℕ). 2 ^ 24 + n) (decimal_reads_back (user_code end) user))
       | inr ne ↦ let coded = ne_eqb (system_code end) 0 ne in
-        rw (some, gone, was_run, coded) (ap (λ (n : ℕ). 2 ^ 24 + 4096 * n) (hexadecimal_reads_back (system_code end) system))
+          rw (some, gone, was_run, coded) (ap (λ (n : ℕ). 2 ^ 24 + 4096 * n) (hexadecimal_reads_back (system_code end) system))
     ]
 
 pub outcome_reads_back : (end : ℕ) → IsEndCode end → end_from (outcome_text end) ≡ told end
@@ -96,7 +96,7 @@ outcome_reads_back end (inr (low, high)) =
     elim (cases_eq end not_run) [
       | inl e ↦ rw e refl
       | inr run ↦ abend_reads_back end (ne_eqb end 0 (λ e. absurd (omega arith))) (lt-leb end highest_return (omega arith))
-        (ne_eqb end not_run run) (omega arith) (omega arith)
+          (ne_eqb end not_run run) (omega arith) (omega arith)
     ]
 
 pub outcomes_apart : (a b : ℕ) → IsEndCode a → IsEndCode b → outcome_text a ≡ outcome_text b → told a ≡ told b

@@ -29,9 +29,9 @@ steps_of_job jobs es i job end steps are_ends lt is_job is_end is_steps =
     let within : i < length deck = omega arith in
     let inside : i < length es = omega (arith, ap length are_ends, one_end_per_job deck) in
     let job_is : get_or deck i (job_data job) ≡ job_data job =
-        get_or-map job_data jobs i job (job_data job) lt ∙ ap job_data (sym is_job) in
+    get_or-map job_data jobs i job (job_data job) lt ∙ ap job_data (sym is_job) in
     let end_is : get_or (ends deck) i 0 ≡ end =
-        ap (λ xs. get_or xs i 0) (sym are_ends) ∙ sym (get_or_default_zero es i end inside) ∙ sym is_end in (
+    ap (λ xs. get_or xs i 0) (sym are_ends) ∙ sym (get_or_default_zero es i end inside) ∙ sym is_end in (
       omega (arith, length-steps_done deck),
       get_or-all_steps_with (ends deck) deck i [] (job_data job) (one_end_per_job deck) within
           ∙ ap (λ e. steps_with e (get_or deck i (job_data job)).steps) end_is

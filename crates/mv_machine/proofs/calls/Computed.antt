@@ -92,7 +92,7 @@ says_by p [] e = tt
 says_by p (h ∷ hs) e = (first_of_list _ _ _ _ e, says_by (heard p h) hs (rest_of_list _ _ _ _ e))
 
 -- and is done on it where nothing but its answer is left
-made : {A : Type 0} {p : Program A} {hs : List Heard} {a : A} → said p hs ≡ map (λ h. Some (h.entry.object, h.entry.op)) hs
+pub made : {A : Type 0} {p : Program A} {hs : List Heard} {a : A} → said p hs ≡ map (λ h. Some (h.entry.object, h.entry.op)) hs
     → left p hs ≡ Done a → IsDoneOn p hs a
 made {p = p} {hs = hs} s d = record { says = says_by p hs s; done = d }
 

@@ -13,8 +13,11 @@ pub texts_of_deck-requires : goal.texts_of_deck-requires
 texts_of_deck-requires c =
     let stated = sound c.args.input.now c.args.initiators c.in_ok-deck.ensures.deck.0 in
     record {
-      sound = (c.args.initiators, c.requires.initiators.0,
-      subst (λ (d : List JobData). IsSound d c.args.initiators) (sym c.in_ok-deck.ensures.deck.1) stated);
+      sound = (
+        c.args.initiators,
+        c.requires.initiators.0,
+        subst (λ (d : List JobData). IsSound d c.args.initiators) (sym c.in_ok-deck.ensures.deck.1) stated,
+      );
     }
 
 pub returns-in-Ok-clause-run : goal.returns-in-Ok-clause-run

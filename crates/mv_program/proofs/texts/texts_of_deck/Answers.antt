@@ -15,13 +15,21 @@ use Rattle.mv_program.proofs.texts.texts_of_deck.Goals as goal
 
 pub write_report-requires-clause-one_end_per_job : goal.write_report-requires-clause-one_end_per_job
 write_report-requires-clause-one_end_per_job c =
-    ap length (c.deref.ensures.value ∙ c.in_ok-outcome.ensures.ends) ∙ one_end_per_job (deck_data c.args.deck.now)
-    ∙ length-map c.args.deck.now.jobs.items job_data
+    omega (
+      arith,
+      ap length (c.deref.ensures.value ∙ c.in_ok-outcome.ensures.ends),
+      one_end_per_job (deck_data c.args.deck.now),
+      length-map c.args.deck.now.jobs.items job_data,
+    )
 
 pub write_report-requires-clause-one_lines_per_job : goal.write_report-requires-clause-one_lines_per_job
 write_report-requires-clause-one_lines_per_job c =
-    ap length (c.deref-2.ensures.value ∙ c.in_ok-outcome.ensures.lines) ∙ one_lines_per_job (deck_data c.args.deck.now)
-    ∙ length-map c.args.deck.now.jobs.items job_data
+    omega (
+      arith,
+      ap length (c.deref-2.ensures.value ∙ c.in_ok-outcome.ensures.lines),
+      one_lines_per_job (deck_data c.args.deck.now),
+      length-map c.args.deck.now.jobs.items job_data,
+    )
 
 pub write_report-requires-clause-end_codes : goal.write_report-requires-clause-end_codes
 write_report-requires-clause-end_codes c =
@@ -52,7 +60,7 @@ pub returns-clause-report : goal.returns-clause-report
 returns-clause-report c =
     let deck = deck_data c.args.deck.now in
     let volumes : c.in_ok-outcome.outcome.volumes ≡ totals deck =
-        c.in_ok-outcome.ensures.volumes ∙ sound_totals deck c.requires.sound.0 c.requires.sound.1 c.requires.sound.2 in
+    c.in_ok-outcome.ensures.volumes ∙ sound_totals deck c.requires.sound.0 c.requires.sound.1 c.requires.sound.2 in
     let es : c.deref.result.now ≡ ends deck = c.deref.ensures.value ∙ c.in_ok-outcome.ensures.ends in
     let ls : c.deref-2.result.now ≡ lines deck = c.deref-2.ensures.value ∙ c.in_ok-outcome.ensures.lines in
     c.in_ok-report.ensures.text

@@ -10,8 +10,12 @@ use Rattle.mv_report.proofs.outcome.outcome_of.Goals as goal
 
 pub index-requires : goal.index-requires
 index-requires c =
-    omega (arith, one_end_per_job (deck_data c.args.deck.now), length-map c.args.deck.now.jobs.items job_data,
-    ap length c.in_ok-ends.ensures)
+    omega (
+      arith,
+      one_end_per_job (deck_data c.args.deck.now),
+      length-map c.args.deck.now.jobs.items job_data,
+      ap length c.in_ok-ends.ensures,
+    )
 
 pub loop-i-preserved : goal.loop-i-preserved
 loop-i-preserved c =
