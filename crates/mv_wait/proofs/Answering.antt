@@ -1,10 +1,9 @@
 -- What an event on a block is answered, by the state in which it found the block.
-use Rattle.std.proofs.Common.{◌≡◌, ℕ, ◌+◌, ◌≤◌, ◌==◌, Bool, true, false, List, [], ◌∷◌, ◌++◌, length, ◌⊎◌, inl, inr, refl, sym, ap, ◌∙◌}
-use Rattle.std.proofs.Common.{subst, arith}
+use Rattle.std.proofs.Common.{◌≡◌, ℕ, Bool, false, List, ◌⊎◌, inl, inr, refl, sym, ap, ◌∙◌}
+use Rattle.std.proofs.Common.{subst}
 use Rattle.std.proofs.lemmas.Bool.{false≢true}
 use Rattle.mv_ecb.specs.declared.operation.EcbOp.{EcbOp}
-use Rattle.mv_ecb.specs.declared.operation.EcbOp.TheVariants.{Arm, Extend, Settle, Clear, Post, Test}
-use Rattle.mv_ecb.specs.declared.operation.EcbReply.{EcbReply}
+use Rattle.mv_ecb.specs.declared.operation.EcbOp.TheVariants.{Arm, Settle, Post}
 use Rattle.mv_ecb.specs.declared.operation.EcbReply.TheVariants as ecb_reply
 use Rattle.mv_ecb.specs.Table.{ecb_step}
 use Rattle.mv_ecb.specs.Word.{EcbState, Zero, Waiting, Extended, Complete}
@@ -18,7 +17,7 @@ use Rattle.mv_machine.specs.declared.entry.Op.{Op}
 use Rattle.mv_machine.specs.declared.entry.Op.TheVariants as op_on
 use Rattle.mv_machine.specs.declared.entry.Reply.{Reply}
 use Rattle.mv_machine.specs.declared.entry.Reply.TheVariants as reply_of
-use Rattle.mv_machine.specs.Legal.{after, of}
+use Rattle.mv_machine.specs.Legal.{after}
 use Rattle.mv_machine.specs.Parts.{IsPossible}
 use Rattle.mv_machine.specs.Setup.{Setup, owner_of}
 use Rattle.mv_board.specs.Faces.{CallerFace, HappenedAt, Happened}
@@ -49,7 +48,8 @@ block_answers c t u e op reply h p =
     let b = made_behind c t u (Ecb e) h.0 (op_on.Ecb op) reply h.1 p in record {
       state = ((after c b.before).ecb e).state;
       reply_is = (let r = b.follows.reply in cc);
-      agrees = λ own. subst (λ (log : List Entry). BlockAgrees c e ((after c b.before).ecb e).state ((waits_from no_waits log).armed e) ((kept_of t.number log).extended e)) b.logged
+      agrees = λ own. subst (λ (log : List Entry). BlockAgrees c e ((after c b.before).ecb e).state ((waits_from no_waits log).armed e)
+          ((kept_of t.number log).extended e)) b.logged
           (block_agrees c e t.number own b.before b.legal);
     }
 
@@ -91,7 +91,8 @@ armed_reply c t u e reply h p own idle plain =
       | inr d ↦ inr (d.0, a.reply_is ∙ ap (λ r. reply_of.Ecb r) d.1)
     ]
 
-pub says_settled : (reply : Reply) → (reply ≡ reply_of.Ecb ecb_reply.Open) ⊎ ((code : ℕ) × (reply ≡ reply_of.Ecb (ecb_reply.Complete code))) → SaysSettled reply
+pub says_settled : (reply : Reply) → (reply ≡ reply_of.Ecb ecb_reply.Open)
+    ⊎ ((code : ℕ) × (reply ≡ reply_of.Ecb (ecb_reply.Complete code))) → SaysSettled reply
 says_settled reply (inl e) = subst SaysSettled (sym e) tt
 says_settled reply (inr (code, e)) = subst SaysSettled (sym e) tt
 
@@ -108,7 +109,8 @@ posts_say d (Complete c) = tt
 
 pub says_posted : (c : Setup) (t u : CallerFace) (e d : ℕ) (reply : Reply) → Happened t (Ecb e) (op_on.Ecb (Post d)) reply u
     → IsPossible c u.number u.log u.told → SaysPosted reply
-says_posted c t u e d reply h p = let a = block_answers c t u e (Post d) reply h p in subst SaysPosted (sym a.reply_is) (posts_say d a.state)
+says_posted c t u e d reply h p = let a = block_answers c t u e (Post d) reply h p in
+    subst SaysPosted (sym a.reply_is) (posts_say d a.state)
 
 pub says_value : (c : Setup) (t u : CallerFace) (v : ℕ) (reply : Reply) → Happened t (Volume v) (op_on.Volume Read) reply u
     → IsPossible c u.number u.log u.told → SaysValue reply

@@ -1,9 +1,9 @@
 -- Calls within calls, and what was served in the words of made calls.
-use Rattle.std.proofs.Common.{◌≡◌, ℕ, ◌+◌, ◌≤◌, List, ◌++◌, length, refl, sym, ap, ◌∙◌, subst, arith, length-append}
+use Rattle.std.proofs.Common.{ℕ, ◌+◌, ◌++◌, ◌∙◌, arith, length-append}
 use Rattle.mv_board.specs.Faces.{BoardFace, CallerFace, IsOf}
 use Rattle.mv_machine.specs.Setup.{Setup}
 use Rattle.mv_machine.specs.Reach.{reach}
-use Rattle.mv_machine.specs.calls.Keeping.{Kept, kept_of}
+use Rattle.mv_machine.specs.calls.Keeping.{Kept}
 use Rattle.mv_machine.specs.calls.Made.{IsMade}
 use Rattle.mv_machine.specs.calls.Posts.{Posting, post, wake_posted}
 use Rattle.mv_machine.specs.calls.Program.{Program, Done, Call, and_then}
@@ -42,11 +42,13 @@ made_of most call Is t u began s = (
 )
 
 -- a post that a wake or an end of a job asks for, and what follows it. The post looks at nothing that is kept
-pub post_within_call : {A : Type 0} (c : Setup) (e code n : ℕ) (kept : Kept) (Is : Posting → Type 0) (last q : Program A) (t u v : CallerFace)
+pub post_within_call : {A : Type 0} (c : Setup) (e code n : ℕ) (kept : Kept) (Is : Posting → Type 0) (last q : Program A)
+    (t u v : CallerFace)
     → IsServed (reach c e) (post c e code) Is t u → Runs n last q u v → Runs (reach c e + n) (wake_posted c (Some e) code kept last) q t v
 post_within_call c e code n kept Is last q t u v s y =
     runs_and_then (reach c e) n (post c e code kept) (λ p. last) s.answer q t u v s.made y
 
 -- a task that was served is still of its station
-pub still_served : {A : Type 0} (b : BoardFace) (most : ℕ) (call : Call A) (Is : A → Type 0) (t u : CallerFace) → IsServed most call Is t u → IsOf b t → IsOf b u
+pub still_served : {A : Type 0} (b : BoardFace) (most : ℕ) (call : Call A) (Is : A → Type 0) (t u : CallerFace)
+    → IsServed most call Is t u → IsOf b t → IsOf b u
 still_served b most call Is t u s of = (s.made.went.same.table ∙ of.0, s.made.went.same.about ∙ of.1)

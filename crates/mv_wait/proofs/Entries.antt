@@ -1,6 +1,6 @@
 -- The requests of a slab, one after the other.
-use Rattle.std.proofs.Common.{◌≡◌, ℕ, suc, ◌+◌, ◌<◌, ◌≤◌, ◌||◌, nat_lt, Bool, true, false, List, [], ◌∷◌, length, filter, cond, count_by}
-use Rattle.std.proofs.Common.{Option, Some, None, is_some, refl, sym, ap, ◌∙◌, subst, arith}
+use Rattle.std.proofs.Common.{◌≡◌, ℕ, suc, ◌+◌, ◌≤◌, ◌||◌, nat_lt, Bool, true, false, List, [], ◌∷◌, length, filter, cond, count_by}
+use Rattle.std.proofs.Common.{Option, Some, None, is_some, refl, sym, ap, ◌∙◌, arith}
 use Rattle.std.specs.List.{list_any}
 use Rattle.std.proofs.lemmas.Bool.{lt-ltb}
 use Rattle.slab.specs.Slab.{entries_from}
@@ -13,9 +13,11 @@ use Rattle.mv_wait.proofs.Slots.{cons, any_request, some_requests}
 abbrev pub counted : (StandingRequest → Bool) → List (ℕ × Standing) → ℕ
 counted test es = length (filter (λ e. test (request_of e.1)) es)
 
-one_counted : (test : StandingRequest → Bool) (e : ℕ × Standing) (es : List (ℕ × Standing)) → counted test (e ∷ es) ≡ cond {A = ℕ} (test (request_of e.1)) 1 0 + counted test es
+one_counted : (test : StandingRequest → Bool) (e : ℕ × Standing) (es : List (ℕ × Standing))
+    → counted test (e ∷ es) ≡ cond {A = ℕ} (test (request_of e.1)) 1 0 + counted test es
 one_counted test e es = go (test (request_of e.1)) where
-  go : (b : Bool) → length (cond b (e ∷ filter (λ x. test (request_of x.1)) es) (filter (λ x. test (request_of x.1)) es)) ≡ cond {A = ℕ} b 1 0 + counted test es
+  go : (b : Bool) → length (cond b (e ∷ filter (λ x. test (request_of x.1)) es) (filter (λ x. test (request_of x.1)) es))
+      ≡ cond {A = ℕ} b 1 0 + counted test es
   go true = omega arith
   go false = omega arith
 
@@ -24,7 +26,8 @@ pub entries_count : (test : StandingRequest → Bool) (key : ℕ) (slots : List 
 entries_count test key [] = refl
 entries_count test key (None ∷ slots) = let a = cons test None slots in let r = entries_count test (key + 1) slots in omega arith
 entries_count test key (Some v ∷ slots) =
-    let a = cons test (Some v) slots in let r = entries_count test (key + 1) slots in let o = one_counted test (key, v) (entries_from (key + 1) slots) in omega arith
+    let a = cons test (Some v) slots in let r = entries_count test (key + 1) slots in
+    let o = one_counted test (key, v) (entries_from (key + 1) slots) in omega arith
 
 pub some_count : {A : Type 0} (test : A → Bool) (xs : List A) → list_any test xs ≡ nat_lt 0 (length (filter test xs))
 some_count test [] = refl
@@ -38,7 +41,8 @@ some_count test (x ∷ xs) = go (test x) (some_count test xs) where
 pub any_stands : (test : StandingRequest → Bool) (ts : List StandingRequest) (slots : List (Option Standing)) → AreHeld ts slots
     → list_any (λ (e : ℕ × Standing). test (request_of e.1)) (entries_from 0 slots) ≡ list_any test ts
 any_stands test ts slots held =
-    some_count (λ (e : ℕ × Standing). test (request_of e.1)) (entries_from 0 slots) ∙ (ap (λ n. nat_lt 0 n) (entries_count test 0 slots ∙ held test) ∙ sym (some_count test ts))
+    some_count (λ (e : ℕ × Standing). test (request_of e.1)) (entries_from 0 slots)
+    ∙ (ap (λ n. nat_lt 0 n) (entries_count test 0 slots ∙ held test) ∙ sym (some_count test ts))
 
 pub all_stand : (ts : List StandingRequest) → length (filter (λ t. true) ts) ≡ length ts
 all_stand [] = refl

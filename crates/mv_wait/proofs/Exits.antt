@@ -1,28 +1,18 @@
 -- Exits: which a block can have, where they lead, and what they cost.
-use Rattle.std.proofs.Common.{◌≡◌, ℕ, zero, suc, ◌+◌, ◌-◌, ◌^◌, ◌<◌, ◌≤◌, ◌==◌, ◌&&◌, nat_lt, min, max, Bool, true, false, List, [], ◌∷◌}
+use Rattle.std.proofs.Common.{◌≡◌, ℕ, zero, suc, ◌+◌, ◌-◌, ◌<◌, ◌≤◌, ◌==◌, nat_lt, Bool, true, false, List, [], ◌∷◌}
 use Rattle.std.proofs.Common.{◌++◌, length, map, cond, Option, Some, None, slice_get, refl, sym, ap, ◌∙◌, subst, arith}
 use Rattle.std.proofs.lemmas.Bool.{false≢true, eqb-true, and_parts}
 use Rattle.std.specs.List.{AllByRecursion}
-use Rattle.mv_ecb.specs.declared.operation.EcbOp.{EcbOp}
-use Rattle.mv_ecb.specs.declared.operation.EcbOp.TheVariants.{Arm, Extend, Settle, Clear, Post, Test}
+use Rattle.mv_ecb.specs.declared.operation.EcbOp.TheVariants.{Post}
 use Rattle.mv_ecb.specs.declared.operation.EcbReply.TheVariants as ecb_reply
-use Rattle.mv_ecb.specs.Table.{ecb_step}
-use Rattle.mv_ecb.specs.Word.{EcbState, Zero, Waiting, Extended, Complete}
-use Rattle.mv_machine.specs.declared.entry.Entry.{Entry}
-use Rattle.mv_machine.specs.declared.entry.Object.{Object}
-use Rattle.mv_machine.specs.declared.entry.Object.TheVariants.{Ecb, Element, Volume, Latches}
-use Rattle.mv_machine.specs.declared.entry.Op.{Op}
+use Rattle.mv_machine.specs.declared.entry.Object.TheVariants.{Ecb}
 use Rattle.mv_machine.specs.declared.entry.Op.TheVariants as op_on
-use Rattle.mv_machine.specs.declared.entry.Reply.{Reply}
 use Rattle.mv_machine.specs.declared.entry.Reply.TheVariants as reply_of
 use Rattle.mv_machine.specs.Check.{IsValid}
-use Rattle.mv_machine.specs.Legal.{IsNext, Legal, next, after}
 use Rattle.mv_machine.specs.Parts.{IsPossible}
-use Rattle.mv_machine.specs.Reach.{cut, exits_of, greatest, total, reach, reach_within}
-use Rattle.mv_machine.specs.Setup.{Setup, SetupExit, owner_of, is_exit_of, starts_from}
-use Rattle.mv_machine.specs.System.{System, opening, moved, admitted, ecb_admitted}
+use Rattle.mv_machine.specs.Reach.{exits_of, greatest, total, reach, reach_within}
+use Rattle.mv_machine.specs.Setup.{Setup, SetupExit, is_exit_of, starts_from}
 use Rattle.mv_machine.proofs.Chains.{all_at}
-use Rattle.mv_machine.proofs.EntryRuns.{along_all}
 use Rattle.mv_machine.proofs.Posting.{exits_are_own}
 use Rattle.mv_machine.proofs.Reaches.{all_lead_up, next_reach, LeadsUp}
 use Rattle.mv_board.specs.Faces.{CallerFace, Happened}
@@ -58,7 +48,8 @@ greatest_member : (F : SetupExit → ℕ) (e : ℕ) (xs : List SetupExit) (i : �
 greatest_member F e [] i x at is = absurd (cc at)
 greatest_member F e (y ∷ xs) zero x at is =
     let same : y ≡ x = cc at in
-    subst (λ z. F z ≤ greatest (map F (exits_of e (y ∷ xs)))) same (greatest_here F e y xs (y.source == e) (ap (λ (z : SetupExit). z.source == e) same ∙ is))
+    subst (λ z. F z ≤ greatest (map F (exits_of e (y ∷ xs)))) same
+    (greatest_here F e y xs (y.source == e) (ap (λ (z : SetupExit). z.source == e) same ∙ is))
 greatest_member F e (y ∷ xs) (suc i) x at is = greatest_more F e (F x) y xs (y.source == e) (greatest_member F e xs i x at is)
 
 starts : (e : ℕ) (o : Option SetupExit) → starts_from e o ≡ true → (x : SetupExit) × (o ≡ Some x) × ((x.source == e) ≡ true)
@@ -72,7 +63,8 @@ one_at_least c e v lt =
 pub exit_leads : (c : Setup) (x e : ℕ) → IsValid c → e < length c.owners → is_exit_of c (suc x) e ≡ true → Leads c e (targets_of c (suc x))
 exit_leads c x e v there is =
     let minus : suc x - 1 ≡ x = omega arith in
-    let from : starts_from e (slice_get c.exits x) ≡ true = subst (λ i. starts_from e (slice_get c.exits i) ≡ true) minus ((and_parts (nat_lt 0 (suc x)) (starts_from e (slice_get c.exits (suc x - 1))) is).1) in
+    let from : starts_from e (slice_get c.exits x) ≡ true = subst (λ i. starts_from e (slice_get c.exits i) ≡ true) minus
+    ((and_parts (nat_lt 0 (suc x)) (starts_from e (slice_get c.exits (suc x - 1))) is).1) in
     let s = starts e (slice_get c.exits x) from in
     let source : s.0.source ≡ e = eqb-true s.0.source e s.2 in
     let up : LeadsUp (length c.owners) s.0 = all_at (LeadsUp (length c.owners)) c.exits x s.0 s.1 (all_lead_up c v) in

@@ -1,6 +1,6 @@
 -- The tables of a task, and what it keeps.
-use Rattle.std.proofs.Common.{◌≡◌, ◌≢◌, ℕ, zero, suc, ◌+◌, ◌-◌, ◌<◌, ◌≤◌, ◌==◌, Bool, true, false, not, ◌&&◌, List, [], ◌∷◌, ◌++◌, length}
-use Rattle.std.proofs.Common.{filter, cond, count_by, get_or, set, Option, Some, None, slice_get, refl, sym, ap, ◌∙◌, subst, arith}
+use Rattle.std.proofs.Common.{◌≡◌, ◌≢◌, ℕ, ◌+◌, ◌<◌, ◌==◌, Bool, true, false, length}
+use Rattle.std.proofs.Common.{cond, get_or, set, Some, slice_get, refl, sym, ap, ◌∙◌, subst, arith}
 use Rattle.std.proofs.lemmas.Bool.{false≢true, eqb-true, eq-eqb, ne_eqb}
 use Rattle.std.proofs.lemmas.Option.{slice_get_within, slice_get-get_or, get_or_from_slice_get}
 use Rattle.std.proofs.lemmas.List.{get_or-set_same, get_or-set_other}
@@ -48,7 +48,8 @@ in_use_at used n m (element_reply.State s) = used_same used n m
 module _ (used : ℕ → Bool) (generation : ℕ → ℕ) (k : Keep) (n : ℕ) (op : ElementOp) (reply : ElementReply) where
   -- what is said of an element then
   abbrev Says : ℕ → OwnElement → Type 0
-  Says j e = (e.in_use ≡ in_use_with used (Element n) (reply_of.Element reply) (k.first + j)) × (e.generation ≡ with_at generation n (generation_after (generation n) op reply) (k.first + j))
+  Says j e = (e.in_use ≡ in_use_with used (Element n) (reply_of.Element reply) (k.first + j))
+      × (e.generation ≡ with_at generation n (generation_after (generation n) op reply) (k.first + j))
 
   at_it : (j : ℕ) (old new e : OwnElement) → k.first + j ≡ n
       → (old.in_use ≡ used (k.first + j)) × (old.generation ≡ generation (k.first + j)) → new ≡ element_after old op reply → e ≡ new
@@ -86,14 +87,16 @@ module _ (used : ℕ → Bool) (generation : ℕ → ℕ) (k : Keep) (n : ℕ) (
     go true hit =
         let same : j ≡ i = eqb-true j i hit in
         at_it j old new e (omega arith)
-        (subst (λ m. (old.in_use ≡ used (k.first + m)) × (old.generation ≡ generation (k.first + m))) (sym same) (all i old (slice_get-get_or k.elements.items i old lt ∙ ap (λ x. Some x) (sym was))))
+        (subst (λ m. (old.in_use ≡ used (k.first + m)) × (old.generation ≡ generation (k.first + m))) (sym same)
+        (all i old (slice_get-get_or k.elements.items i old lt ∙ ap (λ x. Some x) (sym was))))
         after (sym read ∙ (ap (λ m. get_or (set k.elements.items i new) m e) same ∙ get_or-set_same k.elements.items i new e lt))
     go false miss =
         let apart : j ≢ i = λ q. false≢true (sym miss ∙ eq-eqb j i q) in
         let size = length-set k.elements.items i new in
         let inside = within in
         at_other j e (λ q. apart (omega arith))
-        (all j e (slice_get-get_or k.elements.items j e (omega arith) ∙ ap (λ x. Some x) (sym (get_or-set_other k.elements.items i j new e apart) ∙ read)))
+        (all j e (slice_get-get_or k.elements.items j e (omega arith)
+        ∙ ap (λ x. Some x) (sym (get_or-set_other k.elements.items i j new e apart) ∙ read)))
 
 -- ---- one event
 
@@ -106,8 +109,10 @@ block_kept kept k new n op reply same extended all = record {
   requests = subst (λ (z : Keep). AreHeld kept.requests z.requests.slots) (sym same) all.requests;
 }
 
-pub element_follows : (kept : Kept) (k new : Keep) (n : ℕ) (op : ElementOp) (reply : ElementReply) → new ≡ record k { elements = new.elements }
-    → AreElements (in_use_with kept.in_use (Element n) (reply_of.Element reply)) (generation_with kept.generation (Element n) (op_on.Element op) (reply_of.Element reply)) new → Keeps kept k
+pub element_follows : (kept : Kept) (k new : Keep) (n : ℕ) (op : ElementOp) (reply : ElementReply)
+    → new ≡ record k { elements = new.elements }
+    → AreElements (in_use_with kept.in_use (Element n) (reply_of.Element reply))
+    (generation_with kept.generation (Element n) (op_on.Element op) (reply_of.Element reply)) new → Keeps kept k
     → Keeps (kept_after kept (Element n) (op_on.Element op) (reply_of.Element reply)) new
 element_follows kept k new n op reply same elements all = record {
   extended = subst (λ (z : Keep). AreExtended kept.extended z) (sym same) all.extended;

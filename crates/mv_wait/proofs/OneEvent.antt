@@ -1,21 +1,22 @@
 -- Calls of one event.
-use Rattle.std.proofs.Common.{◌≡◌, ℕ, ◌∷◌, [], ◌++◌, List, Some, refl, sym, ap, ◌∙◌, subst}
+use Rattle.std.proofs.Common.{◌≡◌, ◌∷◌, [], Some, ap, ◌∙◌}
 use Rattle.mv_machine.specs.declared.entry.Object.{Object}
 use Rattle.mv_machine.specs.declared.entry.Op.{Op}
 use Rattle.mv_machine.specs.declared.entry.Reply.{Reply}
 use Rattle.mv_board.specs.Faces.{CallerFace, Happened}
 use Rattle.mv_machine.specs.calls.Keeping.{kept_of}
-use Rattle.mv_machine.specs.calls.Program.{Program, Do, Done, Call, Heard, asks, heard}
+use Rattle.mv_machine.specs.calls.Program.{Done, Call, Heard, asks, heard}
 use Rattle.mv_machine.specs.calls.Rest.{OpenWaits, IsAtRest, no_waits, waits_from, waits_after}
 use Rattle.mv_machine.proofs.calls.Making.{waits_from-append}
-use Rattle.mv_wait.specs.Run.{Runs, IsServed}
+use Rattle.mv_wait.specs.Run.{IsServed}
 use Rattle.mv_wait.proofs.Runs.{IsWord, entry_of, runs_word}
 
 -- an event that opens and ends no wait leaves the task at rest
 pub still_at_rest : (t u : CallerFace) (o : Object) (op : Op) (reply : Reply) → Happened t o op reply u
     → ((w : OpenWaits) → waits_after w o op reply ≡ w) → IsAtRest t.log → IsAtRest u.log
 still_at_rest t u o op reply h stay r =
-    let same = ap (waits_from no_waits) h.1.logged ∙ (waits_from-append no_waits t.log (entry_of t o h.0 op reply ∷ []) ∙ stay (waits_from no_waits t.log)) in record {
+    let same = ap (waits_from no_waits) h.1.logged
+    ∙ (waits_from-append no_waits t.log (entry_of t o h.0 op reply ∷ []) ∙ stay (waits_from no_waits t.log)) in record {
       armed = λ n. ap (λ w. w.armed n) same ∙ r.armed n;
       parked = λ n. ap (λ w. w.parked n) same ∙ r.parked n;
       queued = λ latch id. ap (λ w. w.queued latch id) same ∙ r.queued latch id;

@@ -1,5 +1,5 @@
 -- Small steps that several calls share.
-use Rattle.std.proofs.Common.{◌≡◌, ℕ, false, zero, suc, ◌+◌, ◌<◌, ◌≤◌, List, [], ◌∷◌, ◌++◌, length, get_or, drop, take, refl, sym, ap}
+use Rattle.std.proofs.Common.{◌≡◌, ℕ, false, zero, suc, ◌<◌, List, [], ◌∷◌, length, get_or, sym, ap}
 use Rattle.std.proofs.Common.{◌∙◌, subst, arith}
 use Rattle.std.specs.List.{AllByRecursion}
 use Rattle.mv_machine.specs.Setup.{Setup}
@@ -10,7 +10,8 @@ use Rattle.mv_machine.specs.Setup.{owner_of}
 
 -- the same caller is of the same board
 pub still_of : (b d : BoardFace) (t u : CallerFace) → IsSame t u → IsOf b t → d ≡ b → IsOf d u
-still_of b d t u s o e = (s.table ∙ (o.0 ∙ sym (ap (λ (x : BoardFace). x.table) e)), s.about ∙ (o.1 ∙ sym (ap (λ (x : BoardFace). x.config ∷ []) e)))
+still_of b d t u s o e =
+    (s.table ∙ (o.0 ∙ sym (ap (λ (x : BoardFace). x.table) e)), s.about ∙ (o.1 ∙ sym (ap (λ (x : BoardFace). x.config ∷ []) e)))
 
 pub one_of : {A : Type 0} (P : A → Type 0) (xs : List A) (i : ℕ) (d : A) → AllByRecursion P xs → i < length xs → P (get_or xs i d)
 one_of P [] i d all lt = absurd (omega arith)
@@ -28,8 +29,13 @@ own_one c d j k es i same number all lt =
 
 -- blocks that were not extended by a log are not extended by the same one
 pub plain_still : (t u : CallerFace) (es : List ℕ) → u.number ≡ t.number → u.log ≡ t.log → ArePlain t es → ArePlain u es
-plain_still t u es n l all = subst (λ k. AllByRecursion (λ e. (kept_of k u.log).extended e ≡ false) es) (sym n) (subst (λ log. AllByRecursion (λ e. (kept_of t.number log).extended e ≡ false) es) (sym l) all)
+plain_still t u es n l all = subst (λ k. AllByRecursion (λ e. (kept_of k u.log).extended e ≡ false) es) (sym n)
+    (subst (λ log. AllByRecursion (λ e. (kept_of t.number log).extended e ≡ false) es) (sym l) all)
 
 -- a task and its record are the same caller
 pub same_view : (t r : CallerFace) → r ≡ t → IsSame t r
-same_view t r e = record { table = ap (λ (d : CallerFace). d.table) e; about = ap (λ (d : CallerFace). d.about) e; number = ap (λ (d : CallerFace). d.number) e }
+same_view t r e = record {
+  table = ap (λ (d : CallerFace). d.table) e;
+  about = ap (λ (d : CallerFace). d.about) e;
+  number = ap (λ (d : CallerFace). d.number) e;
+}

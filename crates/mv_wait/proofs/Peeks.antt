@@ -1,12 +1,12 @@
 -- Looks for what a task waits for, and the callers of a new board.
-use Rattle.std.proofs.Common.{◌≡◌, ℕ, suc, ◌<◌, Bool, true, List, [], ◌∷◌, ◌++◌, Contains, refl, sym, ap, ◌∙◌, subst, arith}
+use Rattle.std.proofs.Common.{◌≡◌, ℕ, suc, Bool, true, List, [], ◌∷◌, ◌++◌, Contains, refl, sym, ◌∙◌, subst, arith}
 use Rattle.std.proofs.lemmas.List.{append-nil}
 use Rattle.std.proofs.lemmas.List.Elements.{Contains-append_right}
 use Rattle.mv_machine.specs.declared.entry.Object.TheVariants.{Ecb, Element}
-use Rattle.mv_machine.specs.Setup.{Setup, owner_of, element_owner, element_count}
+use Rattle.mv_machine.specs.Setup.{Setup}
 use Rattle.mv_board.specs.declared.watch.Watch.{Watch}
 use Rattle.mv_board.specs.declared.watch.Watch.TheVariants as watch
-use Rattle.mv_board.specs.Faces.{BoardFace, CallerFace, MayWatch, PeekedAt, PeekedIn, Peeks, IsFresh, AreFresh}
+use Rattle.mv_board.specs.Faces.{BoardFace, CallerFace, MayWatch, PeekedIn, Peeks, IsFresh, AreFresh}
 use Rattle.mv_board.specs.Rule.{HasMade}
 use Rattle.mv_wait.specs.Run.{Went}
 use Rattle.mv_wait.proofs.Runs.{went_look, went_log}

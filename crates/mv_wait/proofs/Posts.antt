@@ -1,5 +1,5 @@
 -- A post, target by target: what is left of its program is a stack of lists that are still to be posted.
-use Rattle.std.proofs.Common.{◌≡◌, ℕ, zero, suc, ◌+◌, ◌-◌, ◌<◌, ◌≤◌, append-nil, List, [], ◌∷◌, ◌++◌, length, Option, Some, refl, sym, ap}
+use Rattle.std.proofs.Common.{◌≡◌, ℕ, zero, suc, ◌+◌, ◌-◌, ◌<◌, ◌≤◌, append-nil, List, [], ◌∷◌, ◌++◌, length, Some, refl, sym, ap}
 use Rattle.std.proofs.Common.{◌∙◌, subst, arith}
 use Rattle.std.specs.List.{AllByRecursion}
 use Rattle.mv_ecb.specs.declared.operation.EcbOp.TheVariants.{Post}
@@ -45,12 +45,14 @@ module _ (c : Setup) (code : ℕ) where
 
   asks_behind : (o : Object) (op : Op) (next : Heard → Program Posting) (fs : List Frame) → asks (behind (Do o op next) fs) ≡ Some (o, op)
   asks_behind o op next [] = refl
-  asks_behind o op next (f ∷ fs) = asks_behind o op (λ h. and_then (next h) (λ a. each_posted (post_within f.depth c code) f.blocks f.answer)) fs
+  asks_behind o op next (f ∷ fs) =
+      asks_behind o op (λ h. and_then (next h) (λ a. each_posted (post_within f.depth c code) f.blocks f.answer)) fs
 
   heard_behind : (o : Object) (op : Op) (next : Heard → Program Posting) (h : Heard) (fs : List Frame)
       → heard (behind (Do o op next) fs) h ≡ behind (next h) fs
   heard_behind o op next h [] = refl
-  heard_behind o op next h (f ∷ fs) = heard_behind o op (λ x. and_then (next x) (λ a. each_posted (post_within f.depth c code) f.blocks f.answer)) h fs
+  heard_behind o op next h (f ∷ fs) =
+      heard_behind o op (λ x. and_then (next x) (λ a. each_posted (post_within f.depth c code) f.blocks f.answer)) h fs
 
   -- exits of these blocks are followed deep enough
   abbrev pub AreDeep : ℕ → List ℕ → Type 0
@@ -80,7 +82,8 @@ module _ (c : Setup) (code : ℕ) where
   ends a x (f ∷ []) e none = ends_one a x f f.blocks e (first_empty f.blocks [] none).0
   ends a x (f ∷ g ∷ fs) e none =
       let parts = first_empty f.blocks (flat (g ∷ fs)) none in
-      subst (λ (es : List ℕ). behind (and_then (Done x) (λ p. each_posted (post_within f.depth c code) es f.answer)) (g ∷ fs) ≡ Done a) (sym parts.0)
+      subst (λ (es : List ℕ). behind (and_then (Done x) (λ p. each_posted (post_within f.depth c code) es f.answer)) (g ∷ fs) ≡ Done a)
+      (sym parts.0)
       (ends a f.answer (g ∷ fs) e parts.1)
 
   -- the next block's post, and what is to be posted after it
@@ -107,7 +110,8 @@ module _ (c : Setup) (code : ℕ) where
     ends_in = same_end fs ending;
     same = λ x. refl;
   } where
-    same_end : (gs : List Frame) → EndsIn a (record { depth = suc depth; blocks = e ∷ es; answer = answer } ∷ gs) → EndsIn a (record { depth = suc depth; blocks = es; answer = answer } ∷ gs)
+    same_end : (gs : List Frame) → EndsIn a (record { depth = suc depth; blocks = e ∷ es; answer = answer } ∷ gs)
+        → EndsIn a (record { depth = suc depth; blocks = es; answer = answer } ∷ gs)
     same_end [] x = x
     same_end (g ∷ gs) x = x
 
@@ -123,14 +127,17 @@ module _ (c : Setup) (code : ℕ) where
         flat_is = n.flat_is;
         all_deep = n.all_deep;
         ends_in = n.ends_in;
-        same = λ x. subst (λ (es : List ℕ). behind (and_then (Done x) (λ p. each_posted (post_within f.depth c code) es f.answer)) (g ∷ fs) ≡ behind (post_within (suc n.depth) c code e) n.frames) (sym is) (n.same f.answer);
+        same = λ x. subst (λ (es : List ℕ). behind (and_then (Done x) (λ p. each_posted (post_within f.depth c code) es f.answer))
+            (g ∷ fs) ≡ behind (post_within (suc n.depth) c code e) n.frames) (sym is) (n.same f.answer);
       }
   in_frame a e rest f fs (m ∷ es) is ending deep flat_is later =
       let same : m ≡ e = cc flat_is in
       let tail : es ++ flat fs ≡ rest = cc flat_is in
-      let frame : f ≡ record { depth = f.depth; blocks = e ∷ es; answer = f.answer } = (λ i. record { depth = f.depth; blocks = (is ∙ ap (λ n. n ∷ es) same) i; answer = f.answer }) in
+      let frame : f ≡ record { depth = f.depth; blocks = e ∷ es; answer = f.answer } =
+      (λ i. record { depth = f.depth; blocks = (is ∙ ap (λ n. n ∷ es) same) i; answer = f.answer }) in
       subst (λ (g : Frame). Next a e rest (g ∷ fs)) (sym frame)
-      (next_in a f.depth e es rest f.answer fs (subst (λ (g : Frame). EndsIn a (g ∷ fs)) frame ending) (subst (λ (g : Frame). AllDeep (g ∷ fs)) frame deep) tail)
+      (next_in a f.depth e es rest f.answer fs (subst (λ (g : Frame). EndsIn a (g ∷ fs)) frame ending)
+      (subst (λ (g : Frame). AllDeep (g ∷ fs)) frame deep) tail)
 
   pub next_of : (a : Posting) (e : ℕ) (rest : List ℕ) (fs : List Frame) → EndsIn a fs → AllDeep fs → flat fs ≡ e ∷ rest → Next a e rest fs
   next_of a e rest [] ending deep is = absurd ending
@@ -138,7 +145,9 @@ module _ (c : Setup) (code : ℕ) where
 
   -- ---- one post
 
-  posted_on : (depth : ℕ) (p : Posting) → on_ecb (reply_of.Ecb (reply_to_post p)) (posting (λ q. each_posted (post_within depth c code) (posted_next c q) q)) ≡ each_posted (post_within depth c code) (posted_next c p) p
+  posted_on : (depth : ℕ) (p : Posting)
+      → on_ecb (reply_of.Ecb (reply_to_post p)) (posting (λ q. each_posted (post_within depth c code) (posted_next c q) q))
+      ≡ each_posted (post_within depth c code) (posted_next c p) p
   posted_on depth came.Posted = refl
   posted_on depth (came.Woke exit) = refl
   posted_on depth (came.Already d) = refl
@@ -146,19 +155,24 @@ module _ (c : Setup) (code : ℕ) where
   -- the block is posted, and what its exit posts comes before what was to be posted after it
   pub post_step : (t u : CallerFace) (e depth : ℕ) (p x : Posting) (fs : List Frame)
       → Happened t (Ecb e) (op_on.Ecb (Post code)) (reply_of.Ecb (reply_to_post p)) u
-      → Runs 1 (behind (post_within (suc depth) c code e) fs) (behind (Done x) (record { depth = depth; blocks = posted_next c p; answer = p } ∷ fs)) t u
+      → Runs 1 (behind (post_within (suc depth) c code e) fs)
+      (behind (Done x) (record { depth = depth; blocks = posted_next c p; answer = p } ∷ fs)) t u
   post_step t u e depth p x fs h =
-      let next : Heard → Program Posting = λ y. on_ecb y.entry.reply (posting (λ q. each_posted (post_within depth c code) (posted_next c q) q)) in
-      runs_word (behind (post_within (suc depth) c code e) fs) (behind (Done x) (record { depth = depth; blocks = posted_next c p; answer = p } ∷ fs))
+      let next : Heard → Program Posting =
+      λ y. on_ecb y.entry.reply (posting (λ q. each_posted (post_within depth c code) (posted_next c q) q)) in
+      runs_word (behind (post_within (suc depth) c code e) fs)
+      (behind (Done x) (record { depth = depth; blocks = posted_next c p; answer = p } ∷ fs))
       t (Ecb e) (op_on.Ecb (Post code)) (reply_of.Ecb (reply_to_post p)) u tt h
       (asks_behind (Ecb e) (op_on.Ecb (Post code)) next fs)
       (λ y is. heard_behind (Ecb e) (op_on.Ecb (Post code)) next y fs
-      ∙ ap (λ q. behind q fs) (ap (λ r. on_ecb r (posting (λ q. each_posted (post_within depth c code) (posted_next c q) q))) is ∙ posted_on depth p))
+      ∙ ap (λ q. behind q fs) (ap (λ r. on_ecb r (posting (λ q. each_posted (post_within depth c code) (posted_next c q) q))) is
+      ∙ posted_on depth p))
 
   -- the first post, with nothing after it
   pub first_step : (t u : CallerFace) (e depth : ℕ) (p x : Posting)
       → Happened t (Ecb e) (op_on.Ecb (Post code)) (reply_of.Ecb (reply_to_post p)) u
-      → Runs 1 (post_within (suc depth) c code e) (behind (Done x) (record { depth = depth; blocks = posted_next c p; answer = p } ∷ [])) t u
+      → Runs 1 (post_within (suc depth) c code e) (behind (Done x) (record { depth = depth; blocks = posted_next c p; answer = p } ∷ []))
+      t u
   first_step t u e depth p x h = post_step t u e depth p x [] h
 
   -- targets above a block are followed one less deep
@@ -192,9 +206,11 @@ module _ (c : Setup) (code : ℕ) where
     pub left : total (reach c) work ≤ u.left
     pub rest : IsAtRest u.log
 
-  rest_one : (log : List Entry) (k e place : ℕ) (reply : Reply) → IsAtRest log → IsAtRest (log ++ record { caller = k; object = Ecb e; place = place; op = op_on.Ecb (Post code); reply = reply } ∷ [])
+  rest_one : (log : List Entry) (k e place : ℕ) (reply : Reply) → IsAtRest log
+      → IsAtRest (log ++ record { caller = k; object = Ecb e; place = place; op = op_on.Ecb (Post code); reply = reply } ∷ [])
   rest_one log k e place reply r =
-      let same = waits_from-append no_waits log (record { caller = k; object = Ecb e; place = place; op = op_on.Ecb (Post code); reply = reply } ∷ []) in record {
+      let same = waits_from-append no_waits log
+      (record { caller = k; object = Ecb e; place = place; op = op_on.Ecb (Post code); reply = reply } ∷ []) in record {
         armed = λ n. ap (λ w. w.armed n) same ∙ r.armed n;
         parked = λ n. ap (λ w. w.parked n) same ∙ r.parked n;
         queued = λ latch id. ap (λ w. w.queued latch id) same ∙ r.queued latch id;
@@ -218,7 +234,8 @@ module _ (c : Setup) (code : ℕ) where
         deep = (deep_targets e depth (posted_next c p) (omega arith) leads.up, tt);
         flat_is = append-nil (posted_next c p);
         made = 1;
-        runs = subst (λ n. Runs 1 (post_within n c code e) (behind (Done p) (record { depth = depth; blocks = posted_next c p; answer = p } ∷ [])) t u) is (first_step t u e depth p p h);
+        runs = subst (λ n. Runs 1 (post_within n c code e)
+            (behind (Done p) (record { depth = depth; blocks = posted_next c p; answer = p } ∷ [])) t u) is (first_step t u e depth p p h);
         few = omega arith;
         left = omega arith;
         rest = rest_after t u e (reply_of.Ecb (reply_to_post p)) h rest;
@@ -241,8 +258,10 @@ module _ (c : Setup) (code : ℕ) where
         deep = (deep_targets next n.depth (posted_next c p) n.deep.0 leads.up, n.all_deep);
         flat_is = ap (λ es. posted_next c p ++ es) n.flat_is;
         made = w.made + 1;
-        runs = runs_then w.made 1 (post_within (length c.owners) c code e) (behind (Done a) w.frames) (behind (Done a) (record { depth = n.depth; blocks = posted_next c p; answer = p } ∷ n.frames)) t u v w.runs
-            (subst (λ q. Runs 1 q (behind (Done a) (record { depth = n.depth; blocks = posted_next c p; answer = p } ∷ n.frames)) u v) (sym (n.same a)) (post_step u v next n.depth p a n.frames h));
+        runs = runs_then w.made 1 (post_within (length c.owners) c code e) (behind (Done a) w.frames)
+            (behind (Done a) (record { depth = n.depth; blocks = posted_next c p; answer = p } ∷ n.frames)) t u v w.runs
+            (subst (λ q. Runs 1 q (behind (Done a) (record { depth = n.depth; blocks = posted_next c p; answer = p } ∷ n.frames)) u v)
+            (sym (n.same a)) (post_step u v next n.depth p a n.frames h));
         few = omega arith;
         left = omega arith;
         rest = rest_after u v next (reply_of.Ecb (reply_to_post p)) h w.rest;

@@ -1,14 +1,12 @@
 -- What a task keeps follows its events.
-use Rattle.std.proofs.Common.{◌≡◌, ℕ, zero, suc, ◌+◌, ◌*◌, ◌^◌, ◌<◌, ◌≤◌, ◌==◌, ◌&&◌, Bool, true, false, List, [], ◌∷◌, ◌++◌, length}
+use Rattle.std.proofs.Common.{◌≡◌, ℕ, ◌+◌, ◌*◌, ◌^◌, ◌<◌, ◌==◌, Bool, true, false, List, [], ◌∷◌, ◌++◌, length}
 use Rattle.std.proofs.Common.{cond, Some, refl, sym, ap, ◌∙◌, subst, arith, length-append}
 use Rattle.std.proofs.lemmas.Bool.{false≢true, eqb-true}
 use Rattle.std.specs.List.{AllByRecursion}
-use Rattle.slab.specs.Slab.{slab_len}
 use Rattle.mv_element.specs.declared.element.ElementState.{ElementState}
 use Rattle.mv_element.specs.declared.element.Phase.{Phase}
 use Rattle.mv_element.specs.declared.element.Phase.TheVariants.{Free, Reset, Prereleased, Paused, Released}
 use Rattle.mv_element.specs.declared.operation.ElementOp.TheVariants as element_op
-use Rattle.mv_element.specs.declared.operation.ElementReply.{ElementReply}
 use Rattle.mv_element.specs.declared.operation.ElementReply.TheVariants as element_reply
 use Rattle.mv_element.specs.Table.{element_step, is_current, close_step}
 use Rattle.mv_machine.specs.declared.entry.Object.{Object}
@@ -27,10 +25,9 @@ use Rattle.mv_latch.specs.LatchSet.{latch_step}
 use Rattle.mv_machine.proofs.Budgets.{no_high_generation}
 use Rattle.mv_machine.proofs.Longer.{legal_longer}
 use Rattle.mv_machine.proofs.OneHistory.{budgets_fit}
-use Rattle.mv_board.specs.Faces.{CallerFace, HappenedAt, Happened}
+use Rattle.mv_board.specs.Faces.{CallerFace, Happened}
 use Rattle.mv_board.specs.Words.{HasWord, test_of}
-use Rattle.mv_machine.specs.calls.Keeping.{Kept, kept_of, kept_after, nothing_kept}
-use Rattle.mv_machine.proofs.calls.Making.{kept_caller}
+use Rattle.mv_machine.specs.calls.Keeping.{Kept, kept_of, kept_after}
 use Rattle.mv_wait.specs.declared.keep.Keep.{Keep}
 use Rattle.mv_wait.specs.Keep.{Keeps, IsOfKind, ClosesBelow}
 use Rattle.mv_wait.specs.Record.{Fits}
@@ -40,10 +37,14 @@ use Rattle.mv_wait.proofs.Waits.{kept_one}
 
 of_kind : (c : Setup) (s : System) (k : ℕ) (o : Object) (op : Op) (reply : Reply) → admitted c s k o op ≡ true
     → Some reply ≡ reply_to s k o op → IsOfKind o op reply
-of_kind c s k (Ecb n) (op_on.Ecb op) reply a r = let e : reply ≡ reply_of.Ecb (ecb_step op (s.ecb n).state).1 = cc r in subst (IsOfKind (Ecb n) (op_on.Ecb op)) (sym e) tt
-of_kind c s k (Element n) (op_on.Element op) reply a r = let e : reply ≡ reply_of.Element (element_step op (s.element n).state).1 = cc r in subst (IsOfKind (Element n) (op_on.Element op)) (sym e) tt
-of_kind c s k (Volume n) (op_on.Volume op) reply a r = let e : reply ≡ reply_of.Volume (volume_step op (s.volume n).state).1 = cc r in subst (IsOfKind (Volume n) (op_on.Volume op)) (sym e) tt
-of_kind c s k Latches (op_on.Latch op) reply a r = let e : reply ≡ reply_of.Latch (latch_step k s.latches.place op s.latches.state).1 = cc r in subst (IsOfKind Latches (op_on.Latch op)) (sym e) tt
+of_kind c s k (Ecb n) (op_on.Ecb op) reply a r = let e : reply ≡ reply_of.Ecb (ecb_step op (s.ecb n).state).1 = cc r in
+    subst (IsOfKind (Ecb n) (op_on.Ecb op)) (sym e) tt
+of_kind c s k (Element n) (op_on.Element op) reply a r = let e : reply ≡ reply_of.Element (element_step op (s.element n).state).1 =
+    cc r in subst (IsOfKind (Element n) (op_on.Element op)) (sym e) tt
+of_kind c s k (Volume n) (op_on.Volume op) reply a r = let e : reply ≡ reply_of.Volume (volume_step op (s.volume n).state).1 = cc r in
+    subst (IsOfKind (Volume n) (op_on.Volume op)) (sym e) tt
+of_kind c s k Latches (op_on.Latch op) reply a r = let e : reply ≡ reply_of.Latch (latch_step k s.latches.place op s.latches.state).1 =
+    cc r in subst (IsOfKind Latches (op_on.Latch op)) (sym e) tt
 of_kind c s k (Ecb n) (op_on.Element op) reply a r = absurd (false≢true a)
 of_kind c s k (Ecb n) (op_on.Volume op) reply a r = absurd (false≢true a)
 of_kind c s k (Ecb n) (op_on.Latch op) reply a r = absurd (false≢true a)
@@ -85,13 +86,17 @@ closes_element : (c : Setup) (t u : CallerFace) (n g : ℕ) (reply : Reply)
 closes_element c t u n g reply h p v is =
     let b = made_behind c t u (Element n) h.0 (op_on.Element (element_op.Close g)) reply h.1 p in
     let r = b.follows.reply in
-    let few = budgets_fit c (b.before ++ entry_of t (Element n) h.0 (op_on.Element (element_op.Close g)) reply ∷ []) v (legal_longer c b.before _ b.legal b.follows) b.budgets in
+    let few = budgets_fit c (b.before ++ entry_of t (Element n) h.0 (op_on.Element (element_op.Close g)) reply ∷ []) v
+    (legal_longer c b.before _ b.legal b.follows) b.budgets in
     let size = length-append b.before (entry_of t (Element n) h.0 (op_on.Element (element_op.Close g)) reply ∷ []) in
     let low = no_high_generation c b.before n b.legal (omega arith) in
-    let answer : reply_of.Element (element_step (element_op.Close g) ((after c b.before).element n).state).1 ≡ reply_of.Element element_reply.Closed = cc in
+    let answer : reply_of.Element (element_step (element_op.Close g) ((after c b.before).element n).state).1
+    ≡ reply_of.Element element_reply.Closed = cc in
     let same = closed_at g ((after c b.before).element n).state (cc answer) in omega arith
 
-below_close : (op : Op) (reply : Reply) → ((g : ℕ) → op ≡ op_on.Element (element_op.Close g) → reply ≡ reply_of.Element element_reply.Closed → g + 1 < 2 ^ 32) → ClosesBelow op reply
+below_close : (op : Op) (reply : Reply)
+    → ((g : ℕ) → op ≡ op_on.Element (element_op.Close g) → reply ≡ reply_of.Element element_reply.Closed → g + 1 < 2 ^ 32)
+    → ClosesBelow op reply
 below_close (op_on.Ecb x) reply f = tt
 below_close (op_on.Volume x) reply f = tt
 below_close (op_on.Latch x) reply f = tt
@@ -154,7 +159,8 @@ pub all_fit : (t u : CallerFace) (o : Object) (op : Op) (reply : Reply) (k new :
     → length new.extended.items ≡ length k.extended.items → length new.elements.items ≡ length k.elements.items
     → AllByRecursion (Fits t k) ss → AllByRecursion (Fits u new) ss
 all_fit t u o op reply k new [] h a b e all = tt
-all_fit t u o op reply k new (s ∷ ss) h a b e all = (fits_on t u o op reply k new s h a b e all.0, all_fit t u o op reply k new ss h a b e all.1)
+all_fit t u o op reply k new (s ∷ ss) h a b e all =
+    (fits_on t u o op reply k new s h a b e all.0, all_fit t u o op reply k new ss h a b e all.1)
 
 -- ---- a read keeps all that is kept
 

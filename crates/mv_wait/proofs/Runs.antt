@@ -1,19 +1,16 @@
 -- Runs of programs, one after the other.
-use Rattle.std.proofs.Common.{◌≡◌, ℕ, ◌+◌, ◌≤◌, List, [], ◌∷◌, ◌++◌, length, Option, Some, refl, sym, ap, ◌∙◌, subst, append_assoc, arith}
+use Rattle.std.proofs.Common.{◌≡◌, ℕ, ◌+◌, ◌≤◌, List, [], ◌∷◌, ◌++◌, Some, refl, sym, ap, ◌∙◌, subst, append_assoc, arith}
 use Rattle.std.proofs.Common.{length-append}
 use Rattle.std.proofs.lemmas.List.{append-nil}
-use Rattle.mv_latch.specs.declared.operation.LatchOp.{LatchOp}
-use Rattle.mv_latch.specs.declared.operation.Wake.{Wake}
 use Rattle.mv_machine.specs.declared.entry.Entry.{Entry}
 use Rattle.mv_machine.specs.declared.entry.Object.{Object}
 use Rattle.mv_machine.specs.declared.entry.Object.TheVariants.{Ecb, Element, Volume, Latches}
 use Rattle.mv_machine.specs.declared.entry.Op.{Op}
-use Rattle.mv_machine.specs.declared.entry.Op.TheVariants as op_on
 use Rattle.mv_machine.specs.declared.entry.Reply.{Reply}
 use Rattle.mv_board.specs.declared.view.Sight.{Sight}
 use Rattle.mv_board.specs.Faces.{CallerFace, IsSame, HappenedAt, Happened, Shows, LooksAt, Found}
-use Rattle.mv_machine.specs.calls.Made.{told_by, told_with, HasItsWakes, HaveTheirWakes}
-use Rattle.mv_machine.specs.calls.Program.{Program, Do, Done, Heard, Says, left, asks, heard, entries}
+use Rattle.mv_machine.specs.calls.Made.{told_by, told_with, HasItsWakes}
+use Rattle.mv_machine.specs.calls.Program.{Program, Heard, Says, left, asks, heard, entries}
 use Rattle.mv_machine.proofs.calls.Making.{entries-append, told_by-append, wakes-append}
 use Rattle.mv_machine.proofs.calls.Programs.{left-append, Says-append}
 use Rattle.mv_wait.specs.Run.{Went, Runs}
@@ -39,8 +36,10 @@ pub went_then : (xs ys : List Heard) (t u v : CallerFace) → Went xs t u → We
 went_then xs ys t u v p q = record {
   same = same_then t u v p.same q.same;
   wakes = wakes-append xs ys p.wakes q.wakes;
-  logged = q.logged ∙ (ap (λ es. es ++ entries ys) p.logged ∙ (append_assoc t.log (entries xs) (entries ys) ∙ ap (λ es. t.log ++ es) (sym (entries-append xs ys))));
-  told = q.told ∙ (ap (λ ws. ws ++ told_by ys) p.told ∙ (append_assoc t.told (told_by xs) (told_by ys) ∙ ap (λ ws. t.told ++ ws) (sym (told_by-append xs ys))));
+  logged = q.logged ∙ (ap (λ es. es ++ entries ys) p.logged
+      ∙ (append_assoc t.log (entries xs) (entries ys) ∙ ap (λ es. t.log ++ es) (sym (entries-append xs ys))));
+  told = q.told ∙ (ap (λ ws. ws ++ told_by ys) p.told
+      ∙ (append_assoc t.told (told_by xs) (told_by ys) ∙ ap (λ ws. t.told ++ ws) (sym (told_by-append xs ys))));
   left = (let a = p.left in let b = q.left in let n = length-append xs ys in omega arith);
   met = (p.met.0 ++ q.met.0, q.met.1 ∙ (ap (λ ms. ms ++ q.met.0) p.met.1 ∙ append_assoc t.met p.met.0 q.met.0));
 }
@@ -122,7 +121,8 @@ runs_then m n p q r t u v x y = record {
 
 -- more may have been made
 pub runs_within : {A : Type 0} (m n : ℕ) (p q : Program A) (t u : CallerFace) → m ≤ n → Runs m p q t u → Runs n p q t u
-runs_within m n p q t u le x = record { events = x.events; went = x.went; few = (let a = x.few in omega arith); says = x.says; rest = x.rest }
+runs_within m n p q t u le x =
+    record { events = x.events; went = x.went; few = (let a = x.few in omega arith); says = x.says; rest = x.rest }
 
 -- what was met or seen ready makes no difference
 pub runs_look : {A : Type 0} (n : ℕ) (p q : Program A) (t u v : CallerFace) → Runs n p q t u → Went [] u v → Runs n p q t v

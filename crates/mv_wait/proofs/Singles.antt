@@ -1,11 +1,9 @@
 -- Calls of one event that may be refused, and one that goes by a word.
-use Rattle.std.proofs.Common.{◌≡◌, ℕ, ◌+◌, ◌<◌, ◌^◌, ◌==◌, ◌&&◌, nat_lt, Bool, true, false, not, List, [], ◌∷◌, ◌++◌, length, Option}
-use Rattle.std.proofs.Common.{Some, None, Result, Ok, Err, ◌⊎◌, inl, inr, cond, option_map, option_and_then, refl, sym, ap, ◌∙◌, subst}
+use Rattle.std.proofs.Common.{◌≡◌, ℕ, ◌<◌, ◌^◌, ◌==◌, ◌&&◌, Bool, true, false, not, List, [], ◌∷◌, length}
+use Rattle.std.proofs.Common.{Some, None, Result, Ok, Err, cond, option_map, option_and_then, refl, sym, ap, ◌∙◌, subst}
 use Rattle.std.proofs.Common.{arith}
 use Rattle.std.proofs.lemmas.Bool.{false≢true, eqb-true, eq-eqb, lt-ltb}
-use Rattle.std.proofs.lemmas.List.{append-nil}
 use Rattle.mv_ecb.specs.declared.operation.EcbOp.TheVariants.{Clear, Extend, Post}
-use Rattle.mv_ecb.specs.declared.operation.EcbReply.TheVariants as ecb_reply
 use Rattle.mv_ecb.specs.Table.{ecb_step}
 use Rattle.mv_ecb.specs.Word.{EcbState, Zero, Waiting, Extended, Complete}
 use Rattle.mv_machine.specs.Check.{or_else}
@@ -19,7 +17,7 @@ use Rattle.mv_machine.specs.declared.entry.Reply.TheVariants as reply_of
 use Rattle.mv_machine.specs.Kept.{allowed}
 use Rattle.mv_machine.specs.Parts.{IsPossible}
 use Rattle.mv_machine.specs.Setup.{Setup, owner_of, is_exit_of}
-use Rattle.mv_board.specs.Faces.{CallerFace, HappenedAt, Happened, Exchanged}
+use Rattle.mv_board.specs.Faces.{CallerFace, Happened, Exchanged}
 use Rattle.mv_machine.specs.calls.Keeping.{Kept, kept_of, nothing_kept}
 use Rattle.mv_machine.proofs.calls.Making.{kept_caller}
 use Rattle.mv_machine.specs.calls.Posts.{Posting, posting, try_post, expected_of, is_expected, same_post_reply, same_posting}
@@ -27,14 +25,13 @@ use Rattle.mv_machine.specs.calls.Posts as came
 use Rattle.mv_machine.specs.calls.Program.{Program, Do, Done, Wrong, Call, Heard, asks, heard, on_ecb, unless_refused}
 use Rattle.mv_machine.specs.calls.Refusal.{Refusal}
 use Rattle.mv_machine.specs.calls.Refusal as refusal
-use Rattle.mv_machine.specs.calls.Rest.{OpenWaits, IsAtRest, no_waits, waits_from, waits_after}
+use Rattle.mv_machine.specs.calls.Rest.{OpenWaits, IsAtRest, waits_after}
 use Rattle.mv_machine.specs.calls.Waits.{refused_if, is_others_block, clear, the_word, extend, extend_refusal, extended}
 use Rattle.mv_wait.specs.Answers.{post_answer}
 use Rattle.mv_wait.specs.Posted.{reply_to_post}
 use Rattle.mv_wait.specs.Run.{Runs, IsServed}
 use Rattle.mv_wait.specs.Says.{SaysExtended}
-use Rattle.mv_wait.specs.Single.{extend_reply}
-use Rattle.mv_wait.proofs.Answering.{Answers, block_answers}
+use Rattle.mv_wait.proofs.Answering.{block_answers}
 use Rattle.mv_machine.specs.Known.{BlockAgrees}
 use Rattle.mv_wait.proofs.OneEvent.{one_served, still_at_rest}
 use Rattle.mv_wait.proofs.Runs.{IsWord, heard_of, went_word, runs_none, runs_within}
@@ -51,7 +48,8 @@ refused_served n call Is why t e rest is = record {
 }
 
 -- one that is not makes its event
-pub event_served : {A : Type 0} (call : Call A) (Is : A → Type 0) (t u : CallerFace) (o : Object) (op : Op) (next : Heard → Program A) (reply : Reply) (a : A) → IsWord o
+pub event_served : {A : Type 0} (call : Call A) (Is : A → Type 0) (t u : CallerFace) (o : Object) (op : Op) (next : Heard → Program A)
+    (reply : Reply) (a : A) → IsWord o
     → Happened t o op reply u → call (kept_of t.number t.log) ≡ Do o op next → ((h : Heard) → h.entry.reply ≡ reply → next h ≡ Done a)
     → ((w : OpenWaits) → waits_after w o op reply ≡ w) → IsAtRest t.log → Is a → IsServed 1 call Is t u
 event_served call Is t u o op next reply a w h e goes stay rest is =
@@ -71,12 +69,17 @@ own_is c e k log is = eqb-true (owner_of c e) k (go (owner_of c e == k) refl) wh
 -- ---- extend
 
 not_owner : (c : Setup) (e exit : ℕ) (kept : Kept) → is_others_block c kept e ≡ true → extend_refusal c e exit kept ≡ Some refusal.NotOwner
-not_owner c e exit kept p = ap (λ b. or_else (refused_if b refusal.NotOwner) (or_else (refused_if (not (is_exit_of c exit e)) refusal.BadExit) (refused_if (kept.extended e) refusal.Extended))) p
+not_owner c e exit kept p =
+    ap (λ b. or_else (refused_if b refusal.NotOwner)
+    (or_else (refused_if (not (is_exit_of c exit e)) refusal.BadExit) (refused_if (kept.extended e) refusal.Extended))) p
 
 pub extend_refusal_is : (c : Setup) (e exit : ℕ) (kept : Kept) (a b d : Bool) → is_others_block c kept e ≡ a → is_exit_of c exit e ≡ b
     → kept.extended e ≡ d
-    → extend_refusal c e exit kept ≡ or_else (refused_if a refusal.NotOwner) (or_else (refused_if (not b) refusal.BadExit) (refused_if d refusal.Extended))
-extend_refusal_is c e exit kept a b d p q r = (λ i. or_else (refused_if (p i) refusal.NotOwner) (or_else (refused_if (not (q i)) refusal.BadExit) (refused_if (r i) refusal.Extended)))
+    → extend_refusal c e exit kept
+    ≡ or_else (refused_if a refusal.NotOwner) (or_else (refused_if (not b) refusal.BadExit) (refused_if d refusal.Extended))
+extend_refusal_is c e exit kept a b d p q r =
+    (λ i. or_else (refused_if (p i) refusal.NotOwner)
+    (or_else (refused_if (not (q i)) refusal.BadExit) (refused_if (r i) refusal.Extended)))
 
 -- what an extend that is not refused was asked
 pub record MayExtend (c : Setup) (e exit : ℕ) (kept : Kept) : Type 0 where
@@ -109,7 +112,8 @@ says_extended c t u e x reply h p own rest plain =
 pub allowed_extend : (c : Setup) (k e exit : ℕ) (log : List Entry) → k < c.callers → e < length c.owners → owner_of c e ≡ k
     → exit < 2 ^ 30 → is_exit_of c exit e ≡ true
     → allowed c k log (Ecb e) (op_on.Ecb (Extend exit)) ≡ true
-allowed_extend c k e exit log lt there own few starts = rw (lt-ltb k c.callers lt, lt-ltb e (length c.owners) there, eq-eqb (owner_of c e) k own, lt-ltb exit (2 ^ 30) few, starts) refl
+allowed_extend c k e exit log lt there own few starts =
+    rw (lt-ltb k c.callers lt, lt-ltb e (length c.owners) there, eq-eqb (owner_of c e) k own, lt-ltb exit (2 ^ 30) few, starts) refl
 
 -- ---- a post by an exchange
 
@@ -132,7 +136,8 @@ try_post_served c e expected code p t u x rest =
     let op : Op = op_on.Ecb (Post code) in
     let h = heard_of t o x.place op reply in
     let known : expected_of o op expected ≡ Some (x.place, reply) =
-    ap (λ z. option_and_then (λ v. option_map (λ r. (v.0, r)) (Rattle.mv_machine.specs.Packing.reply_in op v.1)) z) x.unpacks ∙ ap (λ z. option_map (λ r. (x.place, r)) z) x.replies in
+    ap (λ z. option_and_then (λ v. option_map (λ r. (v.0, r)) (Rattle.mv_machine.specs.Packing.reply_in op v.1)) z) x.unpacks
+    ∙ ap (λ z. option_map (λ r. (x.place, r)) z) x.replies in
     let same : is_expected same_post_reply (expected_of o op expected) x.place reply ≡ true =
     ap (λ z. is_expected same_post_reply z x.place reply) known ∙ (λ i. (eq-eqb x.place x.place refl i) && (same_twice p i)) in record {
       answer = p;

@@ -16,10 +16,13 @@ module _ (test : StandingRequest → Bool) where
   same_count : (xs ys : List (Option Standing)) → ((o : ℕ) → get_or ys o None ≡ get_or xs o None)
       → count_by (meets test) ys ≡ count_by (meets test) xs
   same_count [] [] e = refl
-  same_count [] (y ∷ ys) e = let a = cons y ys in let rest = same_count [] ys (λ o. e (suc o)) in let b = ap (λ z. cond {A = ℕ} (meets test z) 1 0) (e 0) in omega arith
-  same_count (x ∷ xs) [] e = let a = cons x xs in let rest = same_count xs [] (λ o. e (suc o)) in let b = ap (λ z. cond {A = ℕ} (meets test z) 1 0) (e 0) in omega arith
+  same_count [] (y ∷ ys) e = let a = cons y ys in let rest = same_count [] ys (λ o. e (suc o)) in
+      let b = ap (λ z. cond {A = ℕ} (meets test z) 1 0) (e 0) in omega arith
+  same_count (x ∷ xs) [] e = let a = cons x xs in let rest = same_count xs [] (λ o. e (suc o)) in
+      let b = ap (λ z. cond {A = ℕ} (meets test z) 1 0) (e 0) in omega arith
   same_count (x ∷ xs) (y ∷ ys) e =
-      let a = cons x xs in let d = cons y ys in let rest = same_count xs ys (λ o. e (suc o)) in let b = ap (λ z. cond {A = ℕ} (meets test z) 1 0) (e 0) in omega arith
+      let a = cons x xs in let d = cons y ys in let rest = same_count xs ys (λ o. e (suc o)) in
+      let b = ap (λ z. cond {A = ℕ} (meets test z) 1 0) (e 0) in omega arith
 
   apart : (o key : ℕ) → o ≢ key → suc o ≢ suc key
   apart o key d = λ q. d (let z : o ≡ key = omega arith in z)
@@ -30,7 +33,8 @@ module _ (test : StandingRequest → Bool) where
       → count_by (meets test) ys ≡ count_by (meets test) xs + cond (test (request_of v)) 1 0
   one_more xs [] key v was now e = absurd (cc now)
   one_more [] (y ∷ ys) zero v was now e =
-      let a = cons y ys in let rest = same_count [] ys (λ o. e (suc o) (λ q. absurd (omega arith))) in let b = ap (λ z. cond {A = ℕ} (meets test z) 1 0) now in omega arith
+      let a = cons y ys in let rest = same_count [] ys (λ o. e (suc o) (λ q. absurd (omega arith))) in
+      let b = ap (λ z. cond {A = ℕ} (meets test z) 1 0) now in omega arith
   one_more (x ∷ xs) (y ∷ ys) zero v was now e =
       let a = cons x xs in let d = cons y ys in let rest = same_count xs ys (λ o. e (suc o) (λ q. absurd (omega arith))) in
       let b = ap (λ z. cond {A = ℕ} (meets test z) 1 0) now in let f = ap (λ z. cond {A = ℕ} (meets test z) 1 0) was in omega arith
@@ -49,7 +53,8 @@ module _ (test : StandingRequest → Bool) where
     go false = refl
   last_counts (t ∷ ts) r = go (test t) (last_counts ts r) where
     go : (b : Bool) → length (filter test (ts ++ r ∷ [])) ≡ length (filter test ts) + cond (test r) 1 0
-        → length (cond b (t ∷ filter test (ts ++ r ∷ [])) (filter test (ts ++ r ∷ []))) ≡ length (cond b (t ∷ filter test ts) (filter test ts)) + cond (test r) 1 0
+        → length (cond b (t ∷ filter test (ts ++ r ∷ [])) (filter test (ts ++ r ∷ [])))
+        ≡ length (cond b (t ∷ filter test ts) (filter test ts)) + cond (test r) 1 0
     go true rest = omega arith
     go false rest = rest
 
@@ -64,8 +69,10 @@ held_more ts old new key v vacant u held test =
 
 -- ---- what is left after a test of each
 
-module _ {F : Type 0} (step : F → ℕ → MutBor Standing → Bool → MutBor Standing → F → Type 0) (P : F → Type 0) (test : StandingRequest → Bool)
-    (says : (f : F) (key : ℕ) (shown : MutBor Standing) (keep : Bool) (left : MutBor Standing) (next : F) → P f → step f key shown keep left next
+module _ {F : Type 0} (step : F → ℕ → MutBor Standing → Bool → MutBor Standing → F → Type 0) (P : F → Type 0)
+    (test : StandingRequest → Bool)
+    (says : (f : F) (key : ℕ) (shown : MutBor Standing) (keep : Bool) (left : MutBor Standing) (next : F) → P f
+    → step f key shown keep left next
     → (keep ≡ not (test (request_of shown.now))) × (left.now ≡ shown.now) × P next) where
   at_value : (f : F) (key : ℕ) (old : Standing) (keep : Bool) (new : Standing) (next : F) → P f → CalledAt step f key old keep new next
       → (keep ≡ not (test (request_of old))) × (new ≡ old) × P next
@@ -83,7 +90,8 @@ module _ {F : Type 0} (step : F → ℕ → MutBor Standing → Bool → MutBor 
   less_one g b keep old new rest later k is same r =
       let a = cons g (cond keep (Some new) None) later in
       let d = cons (λ t. not (test t) && g t) (Some old) rest in
-      let e : cond {A = ℕ} (meets g (cond keep (Some new) None)) 1 0 ≡ cond {A = ℕ} (not (test (request_of old)) && g (request_of old)) 1 0 = rw (k, is, same) (go b) in omega arith
+      let e : cond {A = ℕ} (meets g (cond keep (Some new) None)) 1 0
+      ≡ cond {A = ℕ} (not (test (request_of old)) && g (request_of old)) 1 0 = rw (k, is, same) (go b) in omega arith
     where
       go : (b : Bool) → cond {A = ℕ} (meets g (cond (not b) (Some old) None)) 1 0 ≡ cond {A = ℕ} (not b && g (request_of old)) 1 0
       go true = refl
@@ -103,8 +111,10 @@ module _ {F : Type 0} (step : F → ℕ → MutBor Standing → Bool → MutBor 
 
 pub any_request : (slots : List (Option Standing)) → count_by is_some slots ≡ count_by (meets (λ t. true)) slots
 any_request [] = refl
-any_request (None ∷ slots) = let a = sum_by-cons (λ o. cond (is_some {T = Standing} o) 1 0) None slots in let b = cons (λ t. true) None slots in let r = any_request slots in omega arith
-any_request (Some v ∷ slots) = let a = sum_by-cons (λ o. cond (is_some o) 1 0) (Some v) slots in let b = cons (λ t. true) (Some v) slots in let r = any_request slots in omega arith
+any_request (None ∷ slots) = let a = sum_by-cons (λ o. cond (is_some {T = Standing} o) 1 0) None slots in
+    let b = cons (λ t. true) None slots in let r = any_request slots in omega arith
+any_request (Some v ∷ slots) = let a = sum_by-cons (λ o. cond (is_some o) 1 0) (Some v) slots in
+    let b = cons (λ t. true) (Some v) slots in let r = any_request slots in omega arith
 
 pub some_requests : (f : StandingRequest → Bool) (slots : List (Option Standing))
     → count_by (meets f) slots ≤ count_by (meets (λ t. true)) slots
@@ -130,6 +140,7 @@ pub filter_both : (test g : StandingRequest → Bool) (ts : List StandingRequest
 filter_both test g [] = refl
 filter_both test g (t ∷ ts) = go (test t) (filter_both test g ts) where
   go : (b : Bool) → filter g (filter (λ x. not (test x)) ts) ≡ filter (λ x. not (test x) && g x) ts
-      → filter g (cond (not b) (t ∷ filter (λ x. not (test x)) ts) (filter (λ x. not (test x)) ts)) ≡ cond (not b && g t) (t ∷ filter (λ x. not (test x) && g x) ts) (filter (λ x. not (test x) && g x) ts)
+      → filter g (cond (not b) (t ∷ filter (λ x. not (test x)) ts) (filter (λ x. not (test x)) ts))
+      ≡ cond (not b && g t) (t ∷ filter (λ x. not (test x) && g x) ts) (filter (λ x. not (test x) && g x) ts)
   go true rest = rest
   go false rest = ap (λ xs. cond (g t) (t ∷ xs) xs) rest

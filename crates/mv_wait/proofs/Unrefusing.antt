@@ -1,6 +1,6 @@
 -- What a wait that is not refused has been asked.
-use Rattle.std.proofs.Common.{◌≡◌, ◌≢◌, ℕ, ◌+◌, ◌*◌, ◌<◌, ◌≤◌, ◌==◌, nat_le, nat_lt, Bool, true, false, not, ◌||◌, List, [], ◌∷◌, ◌++◌}
-use Rattle.std.proofs.Common.{length, cond, Option, Some, None, Result, Ok, Err, refl, sym, ap, ◌∙◌, subst, arith}
+use Rattle.std.proofs.Common.{◌≡◌, ℕ, ◌+◌, ◌*◌, ◌<◌, ◌≤◌, ◌==◌, nat_lt, Bool, true, false, not, ◌||◌, List, [], ◌∷◌, ◌++◌}
+use Rattle.std.proofs.Common.{length, cond, Option, Some, None, Ok, Err, refl, sym, ap, ◌∙◌, subst, arith}
 use Rattle.std.proofs.lemmas.Bool.{false≢true, eqb-true, eq-eqb, le-leb, le-ltb}
 use Rattle.std.specs.List.{AllByRecursion, list_any}
 use Rattle.mv_machine.specs.Check.{or_else}
@@ -9,14 +9,14 @@ use Rattle.mv_machine.specs.declared.entry.Entry.{Entry}
 use Rattle.mv_board.specs.Faces.{CallerFace, IsSame}
 use Rattle.mv_machine.specs.calls.Keeping.{Kept, kept_of, nothing_kept}
 use Rattle.mv_machine.proofs.calls.Making.{kept_caller}
-use Rattle.mv_machine.specs.calls.Program.{Program, Done, Early}
+use Rattle.mv_machine.specs.calls.Program.{Program, Done}
 use Rattle.mv_machine.specs.calls.Refusal.{Refusal, TooMany, Doubled, NotOwnerAt, ExtendedAt}
 use Rattle.mv_machine.specs.calls.Rest.{IsAtRest}
 use Rattle.mv_machine.specs.calls.Waits.{refused_if, refused_at, doubled_at, is_others_block, wait_refusal, wait, arm_all, settle_all}
 use Rattle.mv_machine.specs.calls.Waits.{enough, complete_count, AreDistinct}
 use Rattle.mv_machine.proofs.calls.Unrefused.{wait_is}
 use Rattle.mv_wait.specs.Run.{Went, Runs, IsServed}
-use Rattle.mv_wait.specs.Waiting.{ArePlain, AreOwn, ArmsAll, SettlesEnough, Waited}
+use Rattle.mv_wait.specs.Waiting.{AreOwn, ArmsAll, SettlesEnough, Waited}
 use Rattle.mv_wait.proofs.Runs.{runs_then, runs_within, runs_look, runs_none}
 
 first_none : (a b : Option Refusal) → or_else a b ≡ None → a ≡ None
@@ -102,7 +102,8 @@ pub accepted_own : (c : Setup) (t u : CallerFace) (es : List ℕ) → AllByRecur
     → IsAccepted c t.number (kept_of t.number t.log) es → IsSame t u
     → AreOwn c u.number es
 accepted_own c t u es there a same =
-    both_own c u.number es there (subst (λ k. AllByRecursion (λ e. owner_of c e ≡ k) es) (kept_caller (nothing_kept t.number) t.log ∙ sym same.number) a.own)
+    both_own c u.number es there
+    (subst (λ k. AllByRecursion (λ e. owner_of c e ≡ k) es) (kept_caller (nothing_kept t.number) t.log ∙ sym same.number) a.own)
 
 -- the parts of a wait put together
 pub wait_served : (c : Setup) (count : ℕ) (es : List ℕ) (slots : List (Option ℕ)) (t u v w : CallerFace)
@@ -113,10 +114,12 @@ wait_served c count es slots t u v w none arms looks settles rest =
     let after : Program Waited = settle_all es [] (enough count) in
     let last : enough count slots ≡ Done (Ok slots) = rw (le-leb count (complete_count slots) settles.enough) refl in
     let front : Runs (length es) (arm_all es after) after t v = runs_look (length es) (arm_all es after) after t u v (arms after) looks in
-    let back : Runs (length es) after (Done (Ok slots)) v w = subst (λ q. Runs (length es) after q v w) last (settles.settles [] (enough count)) in record {
+    let back : Runs (length es) after (Done (Ok slots)) v w =
+    subst (λ q. Runs (length es) after q v w) last (settles.settles [] (enough count)) in record {
       answer = Ok slots;
       is = refl;
-      made = runs_within (length es + length es) (2 * length es) (wait c count es (kept_of t.number t.log)) (Done (Ok slots)) t w (omega arith)
+      made = runs_within (length es + length es) (2 * length es) (wait c count es (kept_of t.number t.log)) (Done (Ok slots)) t w
+          (omega arith)
           (subst (λ p. Runs (length es + length es) p (Done (Ok slots)) t w) (sym (wait_is c count es (kept_of t.number t.log) none))
           (runs_then (length es) (length es) (arm_all es after) after (Done (Ok slots)) t v w front back));
       rest = rest;
@@ -141,5 +144,6 @@ pub refusal_is : (c : Setup) (count k : ℕ) (es : List ℕ) (log : List Entry) 
     → b ≡ refused_at NotOwnerAt (λ e. not (owner_of c e == k)) 0 es → d ≡ refused_at ExtendedAt (kept_of k log).extended 0 es
     → or_else a (or_else b d) ≡ wait_refusal c count es (kept_of k log)
 refusal_is c count k es log a b d le p q r =
-    let same : b ≡ refused_at NotOwnerAt (is_others_block c (kept_of k log)) 0 es = q ∙ ap (λ j. refused_at NotOwnerAt (λ e. not (owner_of c e == j)) 0 es) (sym (kept_caller (nothing_kept k) log)) in
+    let same : b ≡ refused_at NotOwnerAt (is_others_block c (kept_of k log)) 0 es = q
+    ∙ ap (λ j. refused_at NotOwnerAt (λ e. not (owner_of c e == j)) 0 es) (sym (kept_caller (nothing_kept k) log)) in
     rw (le-ltb (length es) count le) ((λ i. or_else (p i) (or_else (same i) (r i))))

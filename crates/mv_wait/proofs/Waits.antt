@@ -1,7 +1,7 @@
 -- The parts of a wait.
 use Rattle.std.proofs.Common.{◌≡◌, ◌≢◌, ℕ, zero, suc, get_or, set, not, ◌+◌, ◌<◌, ◌≤◌, ◌==◌, Bool, true, false, ◌||◌, List, [], ◌∷◌, ◌++◌}
-use Rattle.std.proofs.Common.{length, filter, cond, take, drop, Some, Option, None, ◌⊎◌, inl, inr, refl, sym, ap, ◌∙◌, subst}
-use Rattle.std.proofs.Common.{append_assoc, arith}
+use Rattle.std.proofs.Common.{length, cond, take, drop, Some, Option, None, ◌⊎◌, inl, inr, refl, sym, ap, ◌∙◌, subst}
+use Rattle.std.proofs.Common.{arith}
 use Rattle.std.proofs.lemmas.List.{take_more_set}
 use Rattle.std.proofs.lemmas.Bool.{false≢true, eq-eqb, eqb-true, ne_eqb}
 use Rattle.std.specs.List.{AllByRecursion, list_any, Contains}
@@ -41,10 +41,11 @@ contains_more x y xs p = (suc p.0, omega (arith, p.1), p.2)
 
 any-append : {A : Type 0} (test : A → Bool) (xs ys : List A) → list_any test (xs ++ ys) ≡ (list_any test xs || list_any test ys)
 any-append test [] ys = refl
-any-append test (x ∷ xs) ys = or_more (test x) (list_any test (xs ++ ys)) (list_any test xs) (list_any test ys) (any-append test xs ys) where
-  or_more : (a b c d : Bool) → b ≡ (c || d) → (a || b) ≡ ((a || c) || d)
-  or_more true b c d e = refl
-  or_more false b c d e = e
+any-append test (x ∷ xs) ys = or_more (test x) (list_any test (xs ++ ys)) (list_any test xs) (list_any test ys)
+    (any-append test xs ys) where
+      or_more : (a b c d : Bool) → b ≡ (c || d) → (a || b) ≡ ((a || c) || d)
+      or_more true b c d e = refl
+      or_more false b c d e = e
 
 pub all_at : {A : Type 0} (P : A → Type 0) (xs : List A) (i : ℕ) (x : A) → AllByRecursion P xs → i < length xs → get_or xs i x ≡ x → P x
 all_at P [] i x all lt e = absurd (omega arith)
@@ -84,7 +85,8 @@ listed_still : (ws : List Watch) (w : Watch) (n : ℕ) → is_listed ws n ≡ tr
 listed_still ws w n e = any-append (is_block n) ws (w ∷ []) ∙ or_first (is_listed ws n) (is_listed (w ∷ []) n) e
 
 pub listed_new : (ws : List Watch) (n : ℕ) → is_listed (ws ++ watch.Ecb n ∷ []) n ≡ true
-listed_new ws n = any-append (is_block n) ws (watch.Ecb n ∷ []) ∙ (ap (λ b. is_listed ws n || (b || false)) (eq-eqb n n refl) ∙ or_second (is_listed ws n))
+listed_new ws n = any-append (is_block n) ws (watch.Ecb n ∷ [])
+    ∙ (ap (λ b. is_listed ws n || (b || false)) (eq-eqb n n refl) ∙ or_second (is_listed ws n))
 
 count_one : (ws : List Watch) (e : ℕ) (es : List ℕ) → listed_count ws (e ∷ es) ≡ cond (is_listed ws e) 1 0 + listed_count ws es
 count_one ws e es = go (is_listed ws e) refl where
@@ -117,13 +119,15 @@ count_last ws (x ∷ es) e =
 pub look_counts : (ws : List Watch) (es : List ℕ) (e n : ℕ) (is : Bool) → n ≤ listed_count ws es
     → n + cond is 1 0 ≤ listed_count (with_watch is (watch.Ecb e) ws) (es ++ e ∷ [])
 look_counts ws es e n true le =
-    let a : listed_count (with_watch true (watch.Ecb e) ws) (es ++ e ∷ []) ≡ listed_count (ws ++ watch.Ecb e ∷ []) es + cond (is_listed (ws ++ watch.Ecb e ∷ []) e) 1 0 =
+    let a : listed_count (with_watch true (watch.Ecb e) ws) (es ++ e ∷ []) ≡ listed_count (ws ++ watch.Ecb e ∷ []) es
+    + cond (is_listed (ws ++ watch.Ecb e ∷ []) e) 1 0 =
     count_last (ws ++ watch.Ecb e ∷ []) es e in
     let b = count_still ws (watch.Ecb e) es in
     let c : cond {A = ℕ} (is_listed (ws ++ watch.Ecb e ∷ []) e) 1 0 ≡ 1 = ap (λ (b : Bool). cond {A = ℕ} b 1 0) (listed_new ws e) in
     omega arith
 look_counts ws es e n false le =
-    let a : listed_count (with_watch false (watch.Ecb e) ws) (es ++ e ∷ []) ≡ listed_count ws es + cond (is_listed ws e) 1 0 = count_last ws es e in omega arith
+    let a : listed_count (with_watch false (watch.Ecb e) ws) (es ++ e ∷ []) ≡ listed_count ws es + cond (is_listed ws e) 1 0 =
+    count_last ws es e in omega arith
 
 -- ---- an event on a block takes its own watch off, and no other block's
 off_block : (ws : List Watch) (m e n : ℕ) (op : Op) → n ≢ e → (b : Bool) → (m == e) ≡ b → is_listed (off (Ecb e) op ws) n ≡ is_listed ws n
@@ -168,7 +172,9 @@ pub armed_more : (es : List ℕ) (log : List Entry) (k e place : ℕ) (reply : R
     → IsArmedFor (es ++ e ∷ []) (log ++ record { caller = k; object = Ecb e; place = place; op = op_on.Ecb Arm; reply = reply } ∷ [])
 armed_more es log k e place reply a =
     let x : Entry = record { caller = k; object = Ecb e; place = place; op = op_on.Ecb Arm; reply = reply } in record {
-      armed = λ n. ap (λ w. w.armed n) (after_one log x) ∙ (armed_one (waits_from no_waits log).armed e n (list_any (λ m. n == m) es) (a.armed n) ∙ sym (any-append (λ m. n == m) es (e ∷ [])));
+      armed = λ n. ap (λ w. w.armed n) (after_one log x)
+          ∙ (armed_one (waits_from no_waits log).armed e n (list_any (λ m. n == m) es) (a.armed n)
+          ∙ sym (any-append (λ m. n == m) es (e ∷ [])));
       parked = λ n. ap (λ w. w.parked n) (after_one log x) ∙ a.parked n;
       queued = λ latch id. ap (λ w. w.queued latch id) (after_one log x) ∙ a.queued latch id;
     }
@@ -207,13 +213,15 @@ pub arm_keeps : (t u : CallerFace) (e place : ℕ) (reply : Reply) (es : List �
     → ArePlain t es → ArePlain u es
 arm_keeps t u e place reply es h all = subst (λ held. AllByRecursion (λ n. held n ≡ false) es) (sym same) all where
   same : (kept_of u.number u.log).extended ≡ (kept_of t.number t.log).extended
-  same = (λ i. (kept_of (h.same.number i) (h.logged i)).extended) ∙ ap (λ (q : Kept). q.extended) (kept_one t.number t.log (entry_of t (Ecb e) place (op_on.Ecb Arm) reply))
+  same = (λ i. (kept_of (h.same.number i) (h.logged i)).extended)
+      ∙ ap (λ (q : Kept). q.extended) (kept_one t.number t.log (entry_of t (Ecb e) place (op_on.Ecb Arm) reply))
 
 pub settle_keeps : (t u : CallerFace) (e place : ℕ) (reply : Reply) (es : List ℕ) → HappenedAt t (Ecb e) place (op_on.Ecb Settle) reply u
     → ArePlain t es → ArePlain u es
 settle_keeps t u e place reply es h all = subst (λ held. AllByRecursion (λ n. held n ≡ false) es) (sym same) all where
   same : (kept_of u.number u.log).extended ≡ (kept_of t.number t.log).extended
-  same = (λ i. (kept_of (h.same.number i) (h.logged i)).extended) ∙ ap (λ (q : Kept). q.extended) (kept_one t.number t.log (entry_of t (Ecb e) place (op_on.Ecb Settle) reply))
+  same = (λ i. (kept_of (h.same.number i) (h.logged i)).extended)
+      ∙ ap (λ (q : Kept). q.extended) (kept_one t.number t.log (entry_of t (Ecb e) place (op_on.Ecb Settle) reply))
 
 pub settled_complete : (found : WaitSlot) → is_complete_reply (reply_of.Ecb (settle_reply found)) ≡ true → IsComplete found
 settled_complete (slot.Complete code) e = (code, refl)
@@ -235,7 +243,8 @@ pub idle_after : (t u : CallerFace) (e place : ℕ) (reply : Reply) (es : List �
     → AreIdle t.log es → AreIdle u.log es
 idle_after t u e place reply es h differ idle =
     subst (λ log. AreIdle log es) (sym h.logged)
-    (subst (λ (w : OpenWaits). AllByRecursion (λ n. w.armed n ≡ false) es) (sym (after_one t.log (entry_of t (Ecb e) place (op_on.Ecb Arm) reply)))
+    (subst (λ (w : OpenWaits). AllByRecursion (λ n. w.armed n ≡ false) es)
+    (sym (after_one t.log (entry_of t (Ecb e) place (op_on.Ecb Arm) reply)))
     (still_idle (waits_from no_waits t.log).armed e es differ idle))
 
 none_armed : (log : List Entry) (es : List ℕ) → IsAtRest log → AreIdle log es
@@ -254,18 +263,22 @@ pub arm_step : (t u : CallerFace) (e : ℕ) (reply : Reply) (es : List ℕ) (p :
     → (reply ≡ reply_of.Ecb ecb_reply.Armed) ⊎ ((code : ℕ) × (reply ≡ reply_of.Ecb (ecb_reply.Complete code)))
     → Runs 1 (arm_all (e ∷ es) p) (arm_all es p) t u
 arm_step t u e reply es p h r =
-    runs_word (arm_all (e ∷ es) p) (arm_all es p) t (Ecb e) (op_on.Ecb Arm) reply u tt h refl (λ x is. ap (λ z. on_ecb z (armed (arm_all es p))) is ∙ armed_next reply (arm_all es p) r)
+    runs_word (arm_all (e ∷ es) p) (arm_all es p) t (Ecb e) (op_on.Ecb Arm) reply u tt h refl
+    (λ x is. ap (λ z. on_ecb z (armed (arm_all es p))) is ∙ armed_next reply (arm_all es p) r)
 
 settled_next : (found : WaitSlot) (f : Option ℕ → Program Waited)
     → on_ecb (reply_of.Ecb (settle_reply found)) (settled f) ≡ f (slot_of found)
 settled_next (slot.Complete code) f = refl
 settled_next slot.Open f = refl
 
-pub settle_step : (t u : CallerFace) (e : ℕ) (slot : WaitSlot) (es : List ℕ) (found : List (Option ℕ)) (f : List (Option ℕ) → Program Waited) → IsSettled e t slot u
+pub settle_step : (t u : CallerFace) (e : ℕ) (slot : WaitSlot) (es : List ℕ) (found : List (Option ℕ))
+    (f : List (Option ℕ) → Program Waited) → IsSettled e t slot u
     → Runs 1 (settle_all (e ∷ es) found f) (settle_all es (found ++ slot_of slot ∷ []) f) t u
 settle_step t u e slot es found f h =
-    runs_word (settle_all (e ∷ es) found f) (settle_all es (found ++ slot_of slot ∷ []) f) t (Ecb e) (op_on.Ecb Settle) (reply_of.Ecb (settle_reply slot)) u tt h refl
-    (λ x is. ap (λ z. on_ecb z (settled (λ s. settle_all es (found ++ s ∷ []) f))) is ∙ settled_next slot (λ s. settle_all es (found ++ s ∷ []) f))
+    runs_word (settle_all (e ∷ es) found f) (settle_all es (found ++ slot_of slot ∷ []) f) t (Ecb e) (op_on.Ecb Settle)
+    (reply_of.Ecb (settle_reply slot)) u tt h refl
+    (λ x is. ap (λ z. on_ecb z (settled (λ s. settle_all es (found ++ s ∷ []) f))) is
+    ∙ settled_next slot (λ s. settle_all es (found ++ s ∷ []) f))
 
 -- ---- how many are complete
 

@@ -1,5 +1,5 @@
 -- The answers of the calls, and what they are in the programs.
-use Rattle.std.specs.Prelude.{ℕ, zero, suc, ◌==◌, List, map, Option, Some, None, Result, Ok, Err, if◌then◌else◌}
+use Rattle.std.specs.Prelude.{ℕ, List, map, Option, Some, None, Result, Ok, Err}
 use Rattle.mv_machine.specs.calls.Posts.{Posting}
 use Rattle.mv_machine.specs.calls.Posts as posting
 use Rattle.mv_machine.specs.calls.Refusal.{Refusal}

@@ -38,7 +38,8 @@ pub record Leads (c : Setup) (e : ℕ) (ts : List ℕ) : Type 0 where
   pub cost : reach c e ≤ 524287 → total (reach c) ts + 1 ≤ reach c e
 
 -- the block was posted, and the targets of its exit are pending, the first one last
-pub record PostedOne (c : Setup) (code e : ℕ) (t : CallerFace) (before : List ℕ) (result : PostAnswer) (u : CallerFace) (since : List ℕ) : Type 0 where
+pub record PostedOne (c : Setup) (code e : ℕ) (t : CallerFace) (before : List ℕ) (result : PostAnswer) (u : CallerFace)
+    (since : List ℕ) : Type 0 where
   pub posted : Posting
   pub answer : post_answer posted ≡ result
   pub event : Happened t (Ecb e) (op_on.Ecb (Post code)) (reply_of.Ecb (reply_to_post posted)) u

@@ -1,5 +1,5 @@
 -- The parts of a wait.
-use Rattle.std.specs.Prelude.{◌≡◌, ℕ, ◌<◌, ◌≤◌, ◌==◌, Bool, false, List, ◌++◌, length, Option, Result}
+use Rattle.std.specs.Prelude.{◌≡◌, ℕ, ◌<◌, ◌≤◌, ◌==◌, false, List, ◌++◌, length, Option, Result}
 use Rattle.std.specs.List.{AllByRecursion, list_any}
 use Rattle.mv_ecb.specs.declared.operation.EcbOp.TheVariants.{Settle}
 use Rattle.mv_ecb.specs.declared.operation.EcbReply.{EcbReply}
@@ -43,7 +43,8 @@ ArmsAll es t u = (p : Program Waited) → Runs (length es) (arm_all es p) p t u
 
 -- each block was settled with these slots, whatever program follows
 abbrev pub SettlesAll : List ℕ → List (Option ℕ) → CallerFace → CallerFace → Type 0
-SettlesAll es slots t u = (found : List (Option ℕ)) (f : List (Option ℕ) → Program Waited) → Runs (length es) (settle_all es found f) (f (found ++ slots)) t u
+SettlesAll es slots t u = (found : List (Option ℕ)) (f : List (Option ℕ) → Program Waited)
+    → Runs (length es) (settle_all es found f) (f (found ++ slots)) t u
 
 pub record SettlesEnough (count : ℕ) (es : List ℕ) (slots : List (Option ℕ)) (t u : CallerFace) : Type 0 where
   pub settles : SettlesAll es slots t u

@@ -2,7 +2,6 @@
 //! `specs/Answers.antt` and `specs/Single.antt`.
 
 ghost use Rattle.std.specs.Prelude.{◌≡◌, ◌<◌, ◌≤◌, ◌^◌, ◌==◌, length, option_map, MatchResult, None, true, false};
-ghost use Rattle.mv_machine.specs.Setup.{is_exit_of, owner_of};
 ghost use Rattle.mv_machine.specs.declared.entry.Object.TheVariants as object;
 ghost use Rattle.mv_board.specs.Faces.{IsOf, Missed};
 ghost use Rattle.mv_machine.specs.calls.Keeping.{kept_of};
@@ -20,7 +19,7 @@ use crate::station::Station;
 use crate::task::Task;
 use mv_board::Moved;
 use mv_ecb::EcbOp;
-use mv_machine::{Object, Op, ValidConfig, VolumeOp};
+use mv_machine::{Object, Op, VolumeOp};
 use std::sync::Wait;
 
 /// The block or element is another caller's.
@@ -111,7 +110,7 @@ impl Station {
         if self.is_others_block(me, ecb) {
             return Some(ExtendRefusal::NotOwner);
         }
-        if !starts(self.board.config(), exit, ecb) {
+        if !self.board.config().is_exit_of(exit, ecb) {
             return Some(ExtendRefusal::BadExit);
         }
         if me.extended(ecb) {
@@ -125,7 +124,7 @@ impl Station {
         requires { ecb < length self.now.config.owners }
         ensures { result ≡ is_others_block self.now.config (kept_of me.now.number me.now.log) ecb }
     {
-        !is_owner(self.board.config(), me.caller.number(), ecb)
+        !self.board.config().owns_ecb(me.caller.number(), ecb)
     }
 
     /// Posts a block by one exchange of its word, which runs no exit and wakes nobody: the word that is expected has no wait bit.
@@ -198,27 +197,5 @@ impl Station {
             Object::Volume(volume),
             Op::Volume(VolumeOp::Write(number)),
         );
-    }
-}
-
-// Whether a block is this caller's.
-fn is_owner(config: &ValidConfig, caller: u32, ecb: u32) -> bool
-    requires { ecb < length config.now.owners }
-    ensures { result ≡ (owner_of config.now ecb == caller) }
-{
-    config.config().owners[ecb as usize] == caller
-}
-
-// Whether there is an exit of this number, and it starts from this block. Exits are counted from 1.
-fn starts(config: &ValidConfig, exit: u32, ecb: u32) -> bool
-    ensures starts { result ≡ is_exit_of config.now exit ecb }
-    ensures few { result ≡ true → exit ≤ 32768 }
-{
-    if exit == 0 {
-        return false;
-    }
-    match config.config().exits.get(exit as usize - 1) {
-        Some(found) => found.source == ecb,
-        None => false,
     }
 }

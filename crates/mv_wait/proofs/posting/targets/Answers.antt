@@ -31,6 +31,7 @@ returns-in-None-clause-targets c =
     let deref : c.deref.result.now ≡ items = c.deref.ensures.value in
     let i = c.args.exit - 1 in
     let past : length c.deref.result.now ≤ i = grind (arith, nat_tests, look.0) in
-    let none : slice_get (map exit_of items) i ≡ None = slice_get_past (map exit_of items) i (let m = length-map items exit_of in let d = ap length deref in omega arith) in
+    let none : slice_get (map exit_of items) i ≡ None =
+    slice_get_past (map exit_of items) i (let m = length-map items exit_of in let d = ap length deref in omega arith) in
     sym (targets_is c.args.config.now c.args.exit c.if-exit-eq0.false
     ∙ (ap (λ (s : Setup). targets_at (slice_get s.exits i)) (sym given) ∙ ap targets_at none))

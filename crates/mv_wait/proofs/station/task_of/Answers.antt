@@ -1,4 +1,4 @@
-use Rattle.std.proofs.Common.{◌≡◌, ◌+◌, ◌*◌, ◌<◌, ◌≤◌, ℕ, Bool, false, List, [], length, replicate, slice_get, slice_index_or, Some, refl}
+use Rattle.std.proofs.Common.{◌≡◌, ◌*◌, ◌<◌, Bool, false, List, [], length, slice_get, slice_index_or, Some, refl}
 use Rattle.std.proofs.Common.{sym, ap, ◌∙◌, subst, arith}
 use Rattle.std.specs.List.{AllByRecursion}
 use Rattle.std.proofs.lemmas.List.{length-replicate}
@@ -14,7 +14,13 @@ use Rattle.mv_wait.proofs.station.task_of.Goals as goal
 
 pub invariant_of-result : goal.invariant_of-result
 invariant_of-result c =
-    let k : Keep = record { caller = c.number.result; first = c.number-2.result * c.config-given.result.now.elements_per_caller; extended = c.in_ok-vec.field-0; elements = c.in_ok-vec-2.field-0; requests = c.in_ok-with_capacity.field-0 } in
+    let k : Keep = record {
+      caller = c.number.result;
+      first = c.number-2.result * c.config-given.result.now.elements_per_caller;
+      extended = c.in_ok-vec.field-0;
+      elements = c.in_ok-vec-2.field-0;
+      requests = c.in_ok-with_capacity.field-0;
+    } in
     let none : OwnElement = record { in_use = false; generation = 0 } in
     let blocks = c.in_ok-vec.ensures.items_if_clones_equal (λ y h. h) in
     let elements = c.in_ok-vec-2.ensures.items_if_clones_equal (λ y h. h) in
@@ -37,7 +43,8 @@ invariant_of-result c =
     } in record {
       kept = subst (λ (log : List Entry). Keeps (kept_of c.args.caller.number log) k) (sym c.requires.new) (record {
         extended = λ n lt. subst (λ (xs : List Bool). slice_index_or xs n false ≡ false) (sym blocks) (none_extended _ n);
-        elements = λ i e at. (let z = none_used _ i none e (subst (λ (xs : List OwnElement). slice_get xs i ≡ Some e) elements at) in (ap (λ (x : OwnElement). x.in_use) z, ap (λ (x : OwnElement). x.generation) z));
+        elements = λ i e at. (let z = none_used _ i none e (subst (λ (xs : List OwnElement). slice_get xs i ≡ Some e) elements at) in
+            (ap (λ (x : OwnElement). x.in_use) z, ap (λ (x : OwnElement). x.generation) z));
         requests = subst (AreHeld []) (sym empty) (λ test. refl);
       });
       caller = c.number.ensures.number;

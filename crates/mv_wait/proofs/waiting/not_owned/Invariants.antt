@@ -5,4 +5,5 @@ use Rattle.mv_machine.specs.calls.Waits.{refused_at}
 use Rattle.mv_wait.proofs.waiting.not_owned.Given as goal
 
 abbrev pub invariant-loop-p : goal.invariant-loop-p
-invariant-loop-p l = refused_at NotOwnerAt (λ e. not (owner_of l.config e == l.caller)) 0 l.ecbs ≡ refused_at NotOwnerAt (λ e. not (owner_of l.config e == l.caller)) l.p (drop l.p l.ecbs)
+invariant-loop-p l = refused_at NotOwnerAt (λ e. not (owner_of l.config e == l.caller)) 0 l.ecbs
+    ≡ refused_at NotOwnerAt (λ e. not (owner_of l.config e == l.caller)) l.p (drop l.p l.ecbs)

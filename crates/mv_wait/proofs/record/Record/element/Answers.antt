@@ -1,11 +1,10 @@
-use Rattle.std.proofs.Common.{◌≡◌, ◌<◌, ◌≤◌, ◌+◌, ◌-◌, ◌*◌, ◌/◌, ◌%◌, ℕ, length, ◌∷◌, [], slice_get, Some, get_or, refl, sym, ap, ◌∙◌}
+use Rattle.std.proofs.Common.{◌≡◌, ◌<◌, ◌≤◌, ◌+◌, ◌-◌, ◌*◌, ◌/◌, ◌%◌, length, Some, sym, ap, ◌∙◌}
 use Rattle.std.proofs.Common.{subst, arith}
 use Rattle.std.specs.List.{AllByRecursion}
 use Rattle.std.proofs.Math.Nat.{div-mul-le_self, mod-eq-sub-div-mul, mod-lt}
 use Rattle.std.proofs.lemmas.Option.{slice_get-get_or}
 use Rattle.mv_board.specs.Faces.{CallerFace}
 use Rattle.mv_machine.specs.calls.Keeping.{kept_of}
-use Rattle.mv_machine.specs.Setup.{Setup}
 use Rattle.mv_machine.proofs.Validity.{elements_kept}
 use Rattle.mv_wait.specs.Keep.{IsKeptAs}
 use Rattle.mv_wait.specs.Record.{Fits}
@@ -18,14 +17,16 @@ returns c =
     let k = c.self.inside.keep in
     let n = c.args.element in
     let size = c.requires.0.elements_per_caller in
-    let first : k.first ≡ n / size * size = fits.first ∙ ap (λ m. m * size) (ap (λ (d : CallerFace). d.number) c.self.view_is ∙ sym c.requires.2) in
+    let first : k.first ≡ n / size * size = fits.first
+    ∙ ap (λ m. m * size) (ap (λ (d : CallerFace). d.number) c.self.view_is ∙ sym c.requires.2) in
     let low : k.first ≤ n = subst (λ m. m ≤ n) (sym first) (div-mul-le_self n size) in
     let some = (elements_kept c.requires.0 fits.valid).0 in
     let rest : n - k.first ≡ n % size = ap (λ m. n - m) first ∙ sym (mod-eq-sub-div-mul n size) in
     let below : n % size < size = mod-lt n (omega arith) in
     let all = fits.elements in
     let lt : n - k.first < length k.elements.items = omega arith in
-    let x = c.self.invariant.kept.elements (n - k.first) c.index.result.now (slice_get-get_or k.elements.items (n - k.first) c.index.result.now lt ∙ ap (λ y. Some y) (sym c.index.ensures)) in
+    let x = c.self.invariant.kept.elements (n - k.first) c.index.result.now
+    (slice_get-get_or k.elements.items (n - k.first) c.index.result.now lt ∙ ap (λ y. Some y) (sym c.index.ensures)) in
     let here : k.first + (n - k.first) ≡ n = omega arith in
     subst (λ (d : CallerFace). IsKeptAs (kept_of d.number d.log) n c.index.result.now) c.self.view_is (record {
       used = x.0 ∙ ap (kept_of c.self.inside.caller.number c.self.inside.caller.log).in_use here;

@@ -5,4 +5,5 @@ use Rattle.mv_machine.specs.calls.Waits.{refused_at}
 use Rattle.mv_wait.proofs.record.Record.first_extended.Given as goal
 
 abbrev pub invariant-loop-p : goal.invariant-loop-p
-invariant-loop-p l = refused_at ExtendedAt (kept_of l.self.number l.self.log).extended 0 l.ecbs ≡ refused_at ExtendedAt (kept_of l.self.number l.self.log).extended l.p (drop l.p l.ecbs)
+invariant-loop-p l = refused_at ExtendedAt (kept_of l.self.number l.self.log).extended 0 l.ecbs
+    ≡ refused_at ExtendedAt (kept_of l.self.number l.self.log).extended l.p (drop l.p l.ecbs)

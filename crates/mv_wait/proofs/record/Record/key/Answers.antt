@@ -1,4 +1,4 @@
-use Rattle.std.proofs.Common.{◌≡◌, ◌==◌, refl, sym, ap, ◌∙◌}
+use Rattle.std.proofs.Common.{◌==◌, ap, ◌∙◌}
 use Rattle.std.specs.List.{list_any}
 use Rattle.mv_board.specs.Faces.{CallerFace}
 use Rattle.mv_machine.specs.Kept.{StandingRequest}
@@ -9,5 +9,7 @@ use Rattle.mv_wait.proofs.record.Record.key.Goals as goal
 pub returns : goal.returns
 returns c =
     c.key_of.ensures
-    ∙ (any_stands (λ t. t.request.id == c.args.id) (kept_of c.self.inside.caller.number c.self.inside.caller.log).requests c.self.inside.keep.requests.slots c.self.invariant.kept.requests
-    ∙ ap (λ (d : CallerFace). list_any (λ (t : StandingRequest). t.request.id == c.args.id) (kept_of d.number d.log).requests) c.self.view_is)
+    ∙ (any_stands (λ t. t.request.id == c.args.id) (kept_of c.self.inside.caller.number c.self.inside.caller.log).requests
+    c.self.inside.keep.requests.slots c.self.invariant.kept.requests
+    ∙ ap (λ (d : CallerFace). list_any (λ (t : StandingRequest). t.request.id == c.args.id) (kept_of d.number d.log).requests)
+    c.self.view_is)

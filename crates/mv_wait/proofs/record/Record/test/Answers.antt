@@ -1,6 +1,6 @@
-use Rattle.std.proofs.Common.{◌≡◌, ◌+◌, ◌≤◌, refl, sym, ap, ◌∙◌, subst, arith}
+use Rattle.std.proofs.Common.{refl, sym, ◌∙◌, subst, arith}
 use Rattle.std.specs.List.{AllByRecursion}
-use Rattle.mv_board.specs.Words.{HasWord, test_of}
+use Rattle.mv_board.specs.Words.{test_of}
 use Rattle.mv_wait.specs.Record.{Fits}
 use Rattle.mv_wait.proofs.Recording.{all_fit, keeps_on, test_keeps}
 use Rattle.mv_wait.proofs.Low.{valid_of, names_low}
@@ -15,15 +15,18 @@ invariant_of-self c =
     let few = c.self.invariant.few in
     let room = c.self.invariant.room in record {
       kept = keeps_on t u c.args.object (test_of c.args.object) c.test.result c.self.inside.keep h
-          (test_keeps c.args.board.now.config t u c.args.object c.test.result c.self.inside.keep c.requires.word h c.test.ensures.possible c.self.invariant.kept);
+          (test_keeps c.args.board.now.config t u c.args.object c.test.result c.self.inside.keep c.requires.word h
+          c.test.ensures.possible c.self.invariant.kept);
       caller = c.self.invariant.caller ∙ sym h.1.same.number;
       fits = subst (AllByRecursion (Fits u c.self.inside.keep)) (sym h.1.same.about)
-          (all_fit t u c.args.object (test_of c.args.object) c.test.result c.self.inside.keep c.self.inside.keep t.about h refl refl refl c.self.invariant.fits);
+          (all_fit t u c.args.object (test_of c.args.object) c.test.result c.self.inside.keep c.self.inside.keep t.about h refl refl refl
+          c.self.invariant.fits);
       few = omega arith;
       room = omega arith;
     }
 
 pub returns-clause-low : goal.returns-clause-low
 returns-clause-low c =
-    names_low c.args.board.now.config c.self.inside.caller c.test.new.caller c.args.object (test_of c.args.object) c.test.result c.test.ensures.event c.test.ensures.possible
+    names_low c.args.board.now.config c.self.inside.caller c.test.new.caller c.args.object (test_of c.args.object) c.test.result
+    c.test.ensures.event c.test.ensures.possible
     (valid_of c.self.inside c.args.self.now c.args.board.now c.self.view_is c.self.invariant c.requires.board)

@@ -1,7 +1,5 @@
-use Rattle.std.proofs.Common.{◌≡◌, ◌+◌, ◌≤◌, refl, sym, ap, ◌∙◌, subst, arith, ◌∷◌, []}
+use Rattle.std.proofs.Common.{sym, ap, ◌∙◌, subst, arith}
 use Rattle.std.specs.List.{AllByRecursion}
-use Rattle.mv_machine.specs.Check.{IsValid}
-use Rattle.mv_machine.specs.Setup.{Setup}
 use Rattle.mv_board.specs.Faces.{CallerFace, Happened}
 use Rattle.mv_machine.specs.calls.Keeping.{kept_of, nothing_kept}
 use Rattle.mv_machine.proofs.calls.Making.{kept_caller}
@@ -13,14 +11,16 @@ use Rattle.mv_wait.proofs.record.Record.try_event.Goals as goal
 pub follow-requires-clause-kinds : goal.follow-requires-clause-kinds
 follow-requires-clause-kinds c =
     let x = c.in-Ok.ensures.answer in
-    reply_kind c.args.board.now.config c.self.inside.caller c.try_event-answer.new.caller c.args.object c.args.op c.in-Ok.reply (x.place, x.happened) c.in-Ok.ensures.possible
+    reply_kind c.args.board.now.config c.self.inside.caller c.try_event-answer.new.caller c.args.object c.args.op c.in-Ok.reply
+    (x.place, x.happened) c.in-Ok.ensures.possible
 
 pub follow-requires-clause-closes : goal.follow-requires-clause-closes
 follow-requires-clause-closes c =
     let x = c.in-Ok.ensures.answer in
     let about = ap (λ (d : CallerFace). d.about) c.self.view_is ∙ c.requires.board.1 in
     let fits = subst (AllByRecursion (Fits c.self.inside.caller c.self.inside.keep)) about c.self.invariant.fits in
-    closes_below c.args.board.now.config c.self.inside.caller c.try_event-answer.new.caller c.args.object c.args.op c.in-Ok.reply (x.place, x.happened) c.in-Ok.ensures.possible fits.0.valid
+    closes_below c.args.board.now.config c.self.inside.caller c.try_event-answer.new.caller c.args.object c.args.op c.in-Ok.reply
+    (x.place, x.happened) c.in-Ok.ensures.possible fits.0.valid
 
 pub invariant_of-self : goal.invariant_of-self
 invariant_of-self c =
@@ -38,7 +38,8 @@ invariant_of-self c =
           (f.kept (kept_of t.number t.log) (kept_caller (nothing_kept t.number) t.log ∙ sym c.self.invariant.caller) c.self.invariant.kept);
       caller = f.same.0 ∙ (c.self.invariant.caller ∙ sym h.1.same.number);
       fits = subst (AllByRecursion (Fits u c.follow.new.self)) (sym h.1.same.about)
-          (all_fit t u c.args.object c.args.op c.in-Ok.reply c.self.inside.keep c.follow.new.self t.about h f.same.1 f.sizes.0 f.sizes.1 c.self.invariant.fits);
+          (all_fit t u c.args.object c.args.op c.in-Ok.reply c.self.inside.keep c.follow.new.self t.about h f.same.1 f.sizes.0 f.sizes.1
+          c.self.invariant.fits);
       few = omega arith;
       room = omega arith;
     }
@@ -46,5 +47,6 @@ invariant_of-self c =
 pub returns-in-Ok-clause-low : goal.returns-in-Ok-clause-low
 returns-in-Ok-clause-low c =
     let x = c.in-Ok.ensures.answer in
-    names_low c.args.board.now.config c.self.inside.caller c.try_event-answer.new.caller c.args.object c.args.op c.in-Ok.reply (x.place, x.happened) c.in-Ok.ensures.possible
+    names_low c.args.board.now.config c.self.inside.caller c.try_event-answer.new.caller c.args.object c.args.op c.in-Ok.reply
+    (x.place, x.happened) c.in-Ok.ensures.possible
     (valid_of c.self.inside c.args.self.now c.args.board.now c.self.view_is c.self.invariant c.requires.board)

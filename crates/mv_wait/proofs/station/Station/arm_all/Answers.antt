@@ -1,11 +1,7 @@
-use Rattle.std.proofs.Common.{◌≡◌, ℕ, false, ◌+◌, ◌≤◌, get_or, take, drop, length, ◌++◌, [], ◌∷◌, refl, sym, ap, ◌∙◌, subst, arith}
-use Rattle.std.specs.List.{AllByRecursion}
+use Rattle.std.proofs.Common.{◌≡◌, false, ◌+◌, ◌≤◌, get_or, take, drop, length, ◌++◌, [], ◌∷◌, sym, ap, subst, arith}
 use Rattle.std.proofs.lemmas.List.{take_more, drop_more, drop_all, take_all}
-use Rattle.mv_ecb.specs.declared.operation.EcbOp.TheVariants.{Arm}
-use Rattle.mv_machine.specs.Setup.{owner_of}
 use Rattle.mv_board.specs.Faces.{BoardFace}
 use Rattle.mv_machine.specs.calls.Keeping.{kept_of}
-use Rattle.mv_machine.specs.calls.Rest.{no_waits, waits_from}
 use Rattle.mv_machine.specs.calls.Waits.{arm_all, AreDistinct}
 use Rattle.mv_machine.specs.calls.Program.{Wrong}
 use Rattle.mv_wait.specs.Run.{Runs}
@@ -32,11 +28,13 @@ event-requires g c =
     let left = went.left in
     let below = c.loop-ecb-test.true in
     let much = c.requires.left in
-    let own = own_one c.args.self.now.config c.self.inside.board.config c.loop-ecb.me.number c.args.me.now.number c.args.ecbs.now c.loop-ecb.ecb-index
+    let own = own_one c.args.self.now.config c.self.inside.board.config c.loop-ecb.me.number c.args.me.now.number c.args.ecbs.now
+    c.loop-ecb.ecb-index
     (ap (λ (b : BoardFace). b.config) c.self.view_is) went.same.number c.requires.own below in record {
       board = still_of c.args.self.now c.self.inside.board c.args.me.now c.loop-ecb.me went.same c.requires.task c.self.view_is;
       left = omega arith;
-      admitted = λ lt. may_arm c.self.inside.board.config c.loop-ecb.me.number (get_or c.args.ecbs.now c.loop-ecb.ecb-index 0) c.loop-ecb.me.log lt own.0 own.1;
+      admitted = λ lt. may_arm c.self.inside.board.config c.loop-ecb.me.number (get_or c.args.ecbs.now c.loop-ecb.ecb-index 0)
+          c.loop-ecb.me.log lt own.0 own.1;
     }
 
 pub loop-ecb-preserved : goal.loop-ecb-preserved
@@ -49,7 +47,8 @@ loop-ecb-preserved g c =
     let i = c.loop-ecb.ecb-index in
     let es = c.args.ecbs.now in
     let e = get_or es i 0 in
-    let own = own_one c.args.self.now.config c.self.inside.board.config t.number c.args.me.now.number es i (ap (λ (b : BoardFace). b.config) c.self.view_is) went.same.number c.requires.own below in
+    let own = own_one c.args.self.now.config c.self.inside.board.config t.number c.args.me.now.number es i
+    (ap (λ (b : BoardFace). b.config) c.self.view_is) went.same.number c.requires.own below in
     let rest : drop i es ≡ e ∷ drop (i + 1) es = drop_more es i 0 below in
     let distinct : AreDistinct (e ∷ drop (i + 1) es) = subst AreDistinct rest (distinct_rest i es c.requires.distinct) in
     let idle : AreIdle t.log (e ∷ drop (i + 1) es) = subst (AreIdle t.log) rest since.idle in
@@ -57,9 +56,11 @@ loop-ecb-preserved g c =
     (one_of (λ n. (kept_of t.number t.log).extended n ≡ false) es i 0 since.plain below) in
     let h = c.event.ensures.event.1 in record {
       runs = λ p. runs_then i 1 (arm_all es p) (arm_all (drop i es) p) (arm_all (drop (i + 1) es) p) c.args.me.now t u (since.runs p)
-          (subst (λ ns. Runs 1 (arm_all ns p) (arm_all (drop (i + 1) es) p) t u) (sym rest) (arm_step t u e c.event.result (drop (i + 1) es) p c.event.ensures.event reply));
+          (subst (λ ns. Runs 1 (arm_all ns p) (arm_all (drop (i + 1) es) p) t u) (sym rest)
+          (arm_step t u e c.event.result (drop (i + 1) es) p c.event.ensures.event reply));
       waits = subst (λ ns. IsArmedFor ns u.log) (sym (take_more es i 0 below))
-          (subst (IsArmedFor (take i es ++ e ∷ [])) (sym h.logged) (armed_more (take i es) t.log t.number e c.event.ensures.event.0 c.event.result since.waits));
+          (subst (IsArmedFor (take i es ++ e ∷ [])) (sym h.logged)
+          (armed_more (take i es) t.log t.number e c.event.ensures.event.0 c.event.result since.waits));
       plain = arm_keeps t u e c.event.ensures.event.0 c.event.result es h since.plain;
       idle = idle_after t u e c.event.ensures.event.0 c.event.result (drop (i + 1) es) h distinct.0 idle.1;
     }
@@ -68,8 +69,10 @@ pub returns : goal.returns
 returns g c =
     let since = c.loop-ecb.invariant in
     let over : length c.args.ecbs.now ≤ c.loop-ecb.ecb-index = omega arith in record {
-      armed = λ p. runs_within c.loop-ecb.ecb-index (length c.args.ecbs.now) (arm_all c.args.ecbs.now p) p c.args.me.now c.loop-ecb.me (omega arith)
-          (subst (λ es. Runs c.loop-ecb.ecb-index (arm_all c.args.ecbs.now p) (arm_all es p) c.args.me.now c.loop-ecb.me) (drop_all c.loop-ecb.ecb-index c.args.ecbs.now over) (since.runs p));
+      armed = λ p. runs_within c.loop-ecb.ecb-index (length c.args.ecbs.now) (arm_all c.args.ecbs.now p) p c.args.me.now c.loop-ecb.me
+          (omega arith)
+          (subst (λ es. Runs c.loop-ecb.ecb-index (arm_all c.args.ecbs.now p) (arm_all es p) c.args.me.now c.loop-ecb.me)
+          (drop_all c.loop-ecb.ecb-index c.args.ecbs.now over) (since.runs p));
       waits = subst (λ es. IsArmedFor es c.loop-ecb.me.log) (take_all c.loop-ecb.ecb-index c.args.ecbs.now over) since.waits;
       plain = since.plain;
     }

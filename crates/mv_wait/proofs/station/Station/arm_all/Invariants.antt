@@ -1,4 +1,4 @@
-use Rattle.std.proofs.Common.{◌≡◌, take, drop}
+use Rattle.std.proofs.Common.{take, drop}
 use Rattle.mv_machine.specs.calls.Program.{Program}
 use Rattle.mv_machine.specs.calls.Waits.{arm_all}
 use Rattle.mv_wait.specs.Run.{Runs}

@@ -1,4 +1,4 @@
-use Rattle.std.proofs.Common.{◌≡◌, ◌<◌, ℕ, true, false, length, Ok, Err, refl, sym, ap, ◌∙◌, subst}
+use Rattle.std.proofs.Common.{◌≡◌, ◌<◌, true, false, length, Ok, Err, refl, sym, ap, ◌∙◌, subst}
 use Rattle.mv_ecb.specs.declared.operation.EcbOp.TheVariants.{Clear}
 use Rattle.mv_machine.specs.declared.entry.Object.TheVariants.{Ecb}
 use Rattle.mv_machine.specs.declared.entry.Op.TheVariants as op_on
@@ -17,27 +17,34 @@ use Rattle.mv_wait.proofs.station.Station.clear.Goals as goal
 pub returns-then-is_others_block-clause-served : goal.returns-then-is_others_block-clause-served
 returns-then-is_others_block-clause-served g c =
     let t = c.args.task.now in
-    let is = subst (λ (d : CallerFace). is_others_block c.args.self.now.config (kept_of d.number d.log) c.args.ecb ≡ true) c.task.view_is (sym c.is_others_block.ensures ∙ c.if-is_others_block.true) in
-    refused_served 1 (clear c.args.self.now.config c.args.ecb) (λ a. a ≡ Err NotOwner) NotOwner t (clear_stops c.args.self.now.config c.args.ecb (kept_of t.number t.log) is) c.requires.rest refl
+    let is = subst (λ (d : CallerFace). is_others_block c.args.self.now.config (kept_of d.number d.log) c.args.ecb ≡ true) c.task.view_is
+    (sym c.is_others_block.ensures ∙ c.if-is_others_block.true) in
+    refused_served 1 (clear c.args.self.now.config c.args.ecb) (λ a. a ≡ Err NotOwner) NotOwner t
+    (clear_stops c.args.self.now.config c.args.ecb (kept_of t.number t.log) is) c.requires.rest refl
 
 pub event-reply-requires-clause-admitted : goal.event-reply-requires-clause-admitted
 event-reply-requires-clause-admitted g c lt =
     let t = c.task.inside.record in
     let d = c.self.inside.board.config in
-    may_clear d t.number c.args.ecb t.log lt (subst (λ (b : BoardFace). c.args.ecb < length b.config.owners) (sym c.self.view_is) c.requires.block)
+    may_clear d t.number c.args.ecb t.log lt
+    (subst (λ (b : BoardFace). c.args.ecb < length b.config.owners) (sym c.self.view_is) c.requires.block)
     (own_is d c.args.ecb t.number t.log
-    (subst (λ (b : BoardFace). is_others_block b.config (kept_of t.number t.log) c.args.ecb ≡ false) (sym c.self.view_is) (sym c.is_others_block.ensures ∙ c.if-is_others_block.false)))
+    (subst (λ (b : BoardFace). is_others_block b.config (kept_of t.number t.log) c.args.ecb ≡ false) (sym c.self.view_is)
+    (sym c.is_others_block.ensures ∙ c.if-is_others_block.false)))
 
 pub word-requires : goal.word-requires
 word-requires g c =
-    says_word c.self.inside.board.config c.task.inside.record c.event-reply.new.self c.args.ecb Clear c.event-reply.result c.event-reply.ensures.event c.event-reply.ensures.possible (λ x. tt)
+    says_word c.self.inside.board.config c.task.inside.record c.event-reply.new.self c.args.ecb Clear c.event-reply.result
+    c.event-reply.ensures.event c.event-reply.ensures.possible (λ x. tt)
 
 pub returns-clause-served : goal.returns-clause-served
 returns-clause-served g c =
     let t = c.task.inside.record in
     let u = c.event-reply.new.self in
     subst (λ (d : CallerFace). IsServed 1 (clear c.args.self.now.config c.args.ecb) (λ a. a ≡ Ok c.word.result) d u) c.task.view_is
-    (event_served (clear c.args.self.now.config c.args.ecb) (λ a. a ≡ Ok c.word.result) t u (Ecb c.args.ecb) (op_on.Ecb Clear) clear_next c.event-reply.result (Ok c.word.result) tt
-    c.event-reply.ensures.event (clear_goes c.args.self.now.config c.args.ecb (kept_of t.number t.log) (sym c.is_others_block.ensures ∙ c.if-is_others_block.false))
+    (event_served (clear c.args.self.now.config c.args.ecb) (λ a. a ≡ Ok c.word.result) t u (Ecb c.args.ecb)
+    (op_on.Ecb Clear) clear_next c.event-reply.result (Ok c.word.result) tt
+    c.event-reply.ensures.event
+    (clear_goes c.args.self.now.config c.args.ecb (kept_of t.number t.log) (sym c.is_others_block.ensures ∙ c.if-is_others_block.false))
     (λ h r. ap (λ z. on_ecb z (the_word (λ w. Done (Ok w)))) (r ∙ c.word.ensures)) (λ w. refl)
     (subst (λ (d : CallerFace). IsAtRest d.log) (sym c.task.view_is) c.requires.rest) refl)

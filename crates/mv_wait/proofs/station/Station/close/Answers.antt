@@ -1,4 +1,4 @@
-use Rattle.std.proofs.Common.{◌≡◌, ◌+◌, List, [], ◌∷◌, ◌++◌, length, map, refl, sym, ap, ◌∙◌, subst, arith, append-nil}
+use Rattle.std.proofs.Common.{◌≡◌, List, [], ◌++◌, length, map, sym, ap, ◌∙◌, subst, arith, append-nil}
 use Rattle.std.proofs.lemmas.List.{nil_from_length}
 use Rattle.std.specs.List.{AllByRecursion}
 use Rattle.std.specs.Vec.Iter.{into_iter_items}
@@ -16,26 +16,34 @@ take_back-requires c =
     let number = next.1 in
     let back = ap length i.back in
     let same = ap (λ (d : CallerFace). d.number) c.into_caller.ensures in record {
-      board = subst (λ (d : CallerFace). IsOf c.loop-task.closing.board d) (sym c.into_caller.ensures) (subst (λ (b : BoardFace). IsOf b c.in-Some.task) (sym i.board) next.0);
+      board = subst (λ (d : CallerFace). IsOf c.loop-task.closing.board d) (sym c.into_caller.ensures)
+          (subst (λ (b : BoardFace). IsOf b c.in-Some.task) (sym i.board) next.0);
       next = omega arith;
     }
 
 pub returns-clause-budgets : goal.returns-clause-budgets
-returns-clause-budgets c = subst (λ (b : BoardFace). KeepsBudgets b.config c.done.result.journal.items) c.loop-task.invariant.board c.done.ensures.budgets
+returns-clause-budgets c = subst (λ (b : BoardFace). KeepsBudgets b.config c.done.result.journal.items) c.loop-task.invariant.board
+    c.done.ensures.budgets
 
 pub returns-clause-merged : goal.returns-clause-merged
 returns-clause-merged c =
     let i = c.loop-task.invariant in
-    let none : into_iter_items c.loop-task.task-iterator ≡ [] = (let gone = c.in-None.ensures.steps in let count = i.count in nil_from_length _ (omega arith)) in
-    let all : c.loop-task.yielded ≡ c.args.tasks.items = sym (append-nil c.loop-task.yielded) ∙ (ap (λ xs. c.loop-task.yielded ++ xs) (sym none) ∙ i.yielded) in
+    let none : into_iter_items c.loop-task.task-iterator ≡ [] =
+    (let gone = c.in-None.ensures.steps in let count = i.count in nil_from_length _ (omega arith)) in
+    let all : c.loop-task.yielded ≡ c.args.tasks.items = sym (append-nil c.loop-task.yielded)
+    ∙ (ap (λ xs. c.loop-task.yielded ++ xs) (sym none) ∙ i.yielded) in
     c.done.ensures.merged
-    ∙ (ap (λ ps. merged (map (λ p. p.log) ps)) i.back ∙ (ap merged (logs_of_parts c.loop-task.yielded) ∙ ap (λ (xs : List CallerFace). merged (map (λ k. k.log) xs)) all))
+    ∙ (ap (λ ps. merged (map (λ p. p.log) ps)) i.back
+    ∙ (ap merged (logs_of_parts c.loop-task.yielded) ∙ ap (λ (xs : List CallerFace). merged (map (λ k. k.log) xs)) all))
 
 pub returns-clause-callers : goal.returns-clause-callers
 returns-clause-callers c =
     let i = c.loop-task.invariant in
-    let none : into_iter_items c.loop-task.task-iterator ≡ [] = (let gone = c.in-None.ensures.steps in let count = i.count in nil_from_length _ (omega arith)) in
-    let all : c.loop-task.yielded ≡ c.args.tasks.items = sym (append-nil c.loop-task.yielded) ∙ (ap (λ xs. c.loop-task.yielded ++ xs) (sym none) ∙ i.yielded) in
+    let none : into_iter_items c.loop-task.task-iterator ≡ [] =
+    (let gone = c.in-None.ensures.steps in let count = i.count in nil_from_length _ (omega arith)) in
+    let all : c.loop-task.yielded ≡ c.args.tasks.items = sym (append-nil c.loop-task.yielded)
+    ∙ (ap (λ xs. c.loop-task.yielded ++ xs) (sym none) ∙ i.yielded) in
     each_in c.args.self.config c.done.result.journal.items c.args.tasks.items
     (subst (λ ps. AllByRecursion (IsPartIn c.args.self.config c.done.result.journal.items) ps) (i.back ∙ ap (map part_of) all)
-    (subst (λ (b : BoardFace). AllByRecursion (IsPartIn b.config c.done.result.journal.items) c.loop-task.closing.back) i.board c.done.ensures.callers))
+    (subst (λ (b : BoardFace). AllByRecursion (IsPartIn b.config c.done.result.journal.items) c.loop-task.closing.back) i.board
+    c.done.ensures.callers))

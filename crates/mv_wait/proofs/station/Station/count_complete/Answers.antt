@@ -1,9 +1,8 @@
-use Rattle.std.proofs.Common.{◌≡◌, ◌+◌, ◌≤◌, get_or, take, length, ◌++◌, [], ◌∷◌, cond, true, false, ℕ, Bool, refl, sym, ap, ◌∙◌, subst}
+use Rattle.std.proofs.Common.{◌≡◌, ◌+◌, ◌≤◌, get_or, take, ◌++◌, [], ◌∷◌, cond, ℕ, Bool, sym, ap, ◌∙◌, subst}
 use Rattle.std.proofs.Common.{arith}
 use Rattle.std.proofs.lemmas.List.{take_more}
 use Rattle.mv_machine.specs.declared.entry.Object.TheVariants.{Ecb}
-use Rattle.mv_board.specs.Faces.{BoardFace, with_watch}
-use Rattle.mv_board.specs.declared.watch.Watch.TheVariants as watch
+use Rattle.mv_board.specs.Faces.{BoardFace}
 use Rattle.mv_wait.specs.Listed.{listed_count}
 use Rattle.mv_wait.proofs.Parts.{still_of, own_one}
 use Rattle.mv_wait.proofs.Runs.{went_none, went_then, went_look}
@@ -15,7 +14,8 @@ pub loop-ecb-init : goal.loop-ecb-init
 loop-ecb-init g c = record { went = went_none c.args.me.now; count = omega arith; listed = omega arith }
 
 pub peek-requires-clause-board : goal.peek-requires-clause-board
-peek-requires-clause-board g c = still_of c.args.self.now c.self.inside.board c.args.me.now c.loop-ecb.me c.loop-ecb.invariant.went.same c.requires.task c.self.view_is
+peek-requires-clause-board g c = still_of c.args.self.now c.self.inside.board c.args.me.now c.loop-ecb.me c.loop-ecb.invariant.went.same
+    c.requires.task c.self.view_is
 
 pub peek-requires-clause-own : goal.peek-requires-clause-own
 peek-requires-clause-own g c =
@@ -33,10 +33,14 @@ loop-ecb-preserved g c =
       | else-peek w ↦ w.count-is ∙ (omega arith ∙ sym (ap (λ (b : Bool). c.loop-ecb.count + cond {A = ℕ} b 1 0) w.if-peek.false))
     ] in
     let more = look_counts c.loop-ecb.me.ready (take c.loop-ecb.ecb-index c.args.ecbs.now) e c.loop-ecb.count c.peek.result since.listed in
-    let front : take (c.loop-ecb.ecb-index + 1) c.args.ecbs.now ≡ take c.loop-ecb.ecb-index c.args.ecbs.now ++ e ∷ [] = take_more c.args.ecbs.now c.loop-ecb.ecb-index 0 c.loop-ecb-test.true in record {
-      went = went_then [] [] c.args.me.now c.loop-ecb.me c.peek.new.self since.went (went_look c.loop-ecb.me (Ecb e) look.word c.peek.new.self look.found);
-      count = elim c.if-peek.branch [ then-peek w ↦ (let x = w.count-is in omega arith) | else-peek w ↦ (let x = w.count-is in omega arith) ];
+    let front : take (c.loop-ecb.ecb-index + 1) c.args.ecbs.now ≡ take c.loop-ecb.ecb-index c.args.ecbs.now ++ e ∷ [] =
+    take_more c.args.ecbs.now c.loop-ecb.ecb-index 0 c.loop-ecb-test.true in record {
+      went = went_then [] [] c.args.me.now c.loop-ecb.me c.peek.new.self since.went
+          (went_look c.loop-ecb.me (Ecb e) look.word c.peek.new.self look.found);
+      count = elim c.if-peek.branch
+          [ then-peek w ↦ (let x = w.count-is in omega arith) | else-peek w ↦ (let x = w.count-is in omega arith) ];
       listed = subst (λ n. n ≤ listed_count c.peek.new.self.ready (take (c.loop-ecb.ecb-index + 1) c.args.ecbs.now)) (sym count)
           (subst (λ es. c.loop-ecb.count + cond {A = ℕ} c.peek.result 1 0 ≤ listed_count c.peek.new.self.ready es) (sym front)
-          (subst (λ ws. c.loop-ecb.count + cond {A = ℕ} c.peek.result 1 0 ≤ listed_count ws (take c.loop-ecb.ecb-index c.args.ecbs.now ++ e ∷ [])) (sym look.ready) more));
+          (subst (λ ws. c.loop-ecb.count + cond {A = ℕ} c.peek.result 1 0
+          ≤ listed_count ws (take c.loop-ecb.ecb-index c.args.ecbs.now ++ e ∷ [])) (sym look.ready) more));
     }

@@ -1,4 +1,4 @@
-use Rattle.std.proofs.Common.{◌≡◌, ℕ, zero, suc, ◌+◌, ◌<◌, ◌≤◌, length, List, reverse, vec_capacity, ◌++◌, ◌∷◌, [], refl, sym, ap, ◌∙◌}
+use Rattle.std.proofs.Common.{◌≡◌, ◌+◌, ◌<◌, ◌≤◌, length, reverse, vec_capacity, ◌++◌, sym, ap, ◌∙◌}
 use Rattle.std.proofs.Common.{subst, arith}
 use Rattle.std.specs.List.{AllByRecursion}
 use Rattle.std.proofs.lemmas.List.{length-reverse}
@@ -10,10 +10,9 @@ use Rattle.mv_machine.specs.declared.entry.Object.TheVariants.{Ecb}
 use Rattle.mv_machine.specs.declared.entry.Op.TheVariants as op_on
 use Rattle.mv_machine.specs.declared.entry.Reply.{Reply}
 use Rattle.mv_machine.specs.declared.entry.Reply.TheVariants as reply_of
-use Rattle.mv_machine.specs.Parts.{IsPossible}
 use Rattle.mv_board.specs.Faces.{BoardFace, Happened}
 use Rattle.mv_machine.specs.calls.Posts.{targets_of, posted_next}
-use Rattle.mv_wait.specs.Posted.{PostedOne, exit_of, reply_to_post, posting_of}
+use Rattle.mv_wait.specs.Posted.{PostedOne, reply_to_post, posting_of}
 use Rattle.mv_wait.proofs.Admits.{may_post}
 use Rattle.mv_wait.proofs.Answering.{says_posted}
 use Rattle.mv_wait.proofs.Exits.{came_leads, next_is, reach_some, room_for}
@@ -30,7 +29,8 @@ event-reply-requires-clause-admitted g c lt =
     (subst (λ (b : BoardFace). c.args.ecb < length b.config.owners) (sym c.self.view_is) c.requires.block) c.requires.code
 
 pub posted-came-requires : goal.posted-came-requires
-posted-came-requires g c = says_posted c.self.inside.board.config c.args.me.now c.event-reply.new.self c.args.ecb c.args.code c.event-reply.result c.event-reply.ensures.event c.event-reply.ensures.possible
+posted-came-requires g c = says_posted c.self.inside.board.config c.args.me.now c.event-reply.new.self c.args.ecb c.args.code
+    c.event-reply.result c.event-reply.ensures.event c.event-reply.ensures.possible
 
 pub note-requires : goal.note-requires
 note-requires g c =
@@ -41,12 +41,16 @@ note-requires g c =
     let u = c.event-reply.new.self in
     let p = posting_of c.posted-came.result in
     let h : Happened t (Ecb c.args.ecb) (op_on.Ecb (Post c.args.code)) (reply_of.Ecb (reply_to_post p)) u =
-    subst (λ (r : Reply). Happened t (Ecb c.args.ecb) (op_on.Ecb (Post c.args.code)) r u) c.posted-came.ensures c.event-reply.ensures.event in
+    subst (λ (r : Reply). Happened t (Ecb c.args.ecb) (op_on.Ecb (Post c.args.code)) r u) c.posted-came.ensures
+    c.event-reply.ensures.event in
     let there : c.args.ecb < length d.owners = subst (λ (s : Setup). c.args.ecb < length s.owners) (sym same) c.requires.block in
     let leads = came_leads d t u c.args.ecb c.args.code p valid there h c.event-reply.ensures.possible in
-    let blocks = subst (λ (s : Setup). AllByRecursion (λ e. e < length s.owners) (reverse c.args.pending.now.items)) (sym same) c.requires.blocks in
-    let cost = subst (λ (s : Setup). reach s c.args.ecb + total (reach s) (reverse c.args.pending.now.items) ≤ t.left) (sym same) c.requires.left in
-    let room = room_for d c.args.ecb t.left (vec_capacity c.args.pending.now) (posted_next d p) (reverse c.args.pending.now.items) valid leads blocks cost c.event-reply.ensures.few c.requires.room in
+    let blocks = subst (λ (s : Setup). AllByRecursion (λ e. e < length s.owners) (reverse c.args.pending.now.items))
+    (sym same) c.requires.blocks in
+    let cost = subst (λ (s : Setup). reach s c.args.ecb + total (reach s) (reverse c.args.pending.now.items) ≤ t.left)
+    (sym same) c.requires.left in
+    let room = room_for d c.args.ecb t.left (vec_capacity c.args.pending.now) (posted_next d p) (reverse c.args.pending.now.items) valid
+    leads blocks cost c.event-reply.ensures.few c.requires.room in
     let size = length-reverse c.args.pending.now.items in
     let targets : c.targets.result.now ≡ posted_next d p =
     c.targets.ensures.targets ∙ ((λ i. targets_of (c.config.ensures i) (c.exit.ensures i)) ∙ sym (next_is d p)) in
@@ -61,12 +65,14 @@ returns-clause-posted g c =
     let u = c.event-reply.new.self in
     let p = posting_of c.posted-came.result in
     let h : Happened t (Ecb c.args.ecb) (op_on.Ecb (Post c.args.code)) (reply_of.Ecb (reply_to_post p)) u =
-    subst (λ (r : Reply). Happened t (Ecb c.args.ecb) (op_on.Ecb (Post c.args.code)) r u) c.posted-came.ensures c.event-reply.ensures.event in
+    subst (λ (r : Reply). Happened t (Ecb c.args.ecb) (op_on.Ecb (Post c.args.code)) r u) c.posted-came.ensures
+    c.event-reply.ensures.event in
     let there : c.args.ecb < length d.owners = subst (λ (s : Setup). c.args.ecb < length s.owners) (sym same) c.requires.block in
     let leads = came_leads d t u c.args.ecb c.args.code p valid there h c.event-reply.ensures.possible in
     let targets : c.targets.result.now ≡ posted_next d p =
     c.targets.ensures.targets ∙ ((λ i. targets_of (c.config.ensures i) (c.exit.ensures i)) ∙ sym (next_is d p)) in
-    subst (λ (s : Setup). PostedOne s c.args.code c.args.ecb t c.args.pending.now.items c.answer-answer.result u c.note.new.pending.items) same (record {
+    subst (λ (s : Setup). PostedOne s c.args.code c.args.ecb t c.args.pending.now.items c.answer-answer.result u
+    c.note.new.pending.items) same (record {
       posted = p;
       answer = sym c.answer-answer.ensures;
       event = h;

@@ -1,10 +1,7 @@
-use Rattle.std.proofs.Common.{◌≡◌, ℕ, ◌+◌, ◌<◌, ◌≤◌, length, List, reverse, ◌++◌, ◌∷◌, [], refl, sym, ap, ◌∙◌, subst, arith, append-nil}
+use Rattle.std.proofs.Common.{◌≡◌, ℕ, ◌<◌, length, List, reverse, ◌++◌, ◌∷◌, [], refl, sym, ap, ◌∙◌, subst, arith}
 use Rattle.std.proofs.lemmas.List.{reverse-append, reverse-reverse}
 use Rattle.std.specs.List.{AllByRecursion}
-use Rattle.mv_machine.specs.calls.Posts.{Posting, posted_next, post}
-use Rattle.mv_wait.specs.Answers.{post_answer}
-use Rattle.mv_wait.specs.Run.{IsServed}
-use Rattle.mv_wait.specs.Posted.{Leads}
+use Rattle.mv_machine.specs.calls.Posts.{posted_next}
 use Rattle.mv_wait.proofs.Posts.{Underway, begun, going, ended, all_below}
 use Rattle.mv_wait.proofs.station.Station.post_through.Goals as goal
 
@@ -15,12 +12,14 @@ loop-next-init g c =
     let room = c.requires.room in
     let config = c.args.self.now.config in
     let work : reverse c.post_one-answer.new.pending.items ≡ posted_next config one.posted =
-    ap reverse (one.pending ∙ ap (λ xs. xs ++ reverse (posted_next config one.posted)) c.requires.idle) ∙ reverse-reverse (posted_next config one.posted) in record {
+    ap reverse (one.pending ∙ ap (λ xs. xs ++ reverse (posted_next config one.posted)) c.requires.idle)
+    ∙ reverse-reverse (posted_next config one.posted) in record {
       underway = (
         one.posted,
         one.answer,
         subst (λ ns. Underway config c.args.code c.args.ecb c.args.me.now one.posted c.post_one-answer.new.me ns) (sym work)
-            (begun config c.args.code c.args.me.now c.post_one-answer.new.me c.args.ecb one.posted c.requires.block one.event one.leads c.requires.left one.few c.requires.rest),
+            (begun config c.args.code c.args.me.now c.post_one-answer.new.me c.args.ecb one.posted c.requires.block one.event one.leads
+            c.requires.left one.few c.requires.rest),
       );
       capacity = c.post_one-answer.ensures.capacity;
       told = one.event.1.shown.0;
@@ -60,12 +59,15 @@ loop-next-preserved g c =
     let work = next_first c.loop-next.pending.items rest c.in-Some.next c.in-Some.ensures.items in
     let w = subst (Underway config c.args.code c.args.ecb c.args.me.now u.0 c.loop-next.me) work u.2 in
     let more : posted_next config one.posted ++ reverse rest ≡ reverse c.post_one.new.pending.items =
-    sym (ap reverse one.pending ∙ (reverse-append rest (reverse (posted_next config one.posted)) ∙ ap (λ xs. xs ++ reverse rest) (reverse-reverse (posted_next config one.posted)))) in record {
+    sym (ap reverse one.pending
+    ∙ (reverse-append rest (reverse (posted_next config one.posted))
+    ∙ ap (λ xs. xs ++ reverse rest) (reverse-reverse (posted_next config one.posted)))) in record {
       underway = (
         u.0,
         u.1,
         subst (Underway config c.args.code c.args.ecb c.args.me.now u.0 c.post_one.new.me) more
-            (going config c.args.code c.args.ecb c.args.me.now u.0 c.loop-next.me c.in-Some.next (reverse rest) c.post_one.new.me one.posted w one.event one.leads one.few),
+            (going config c.args.code c.args.ecb c.args.me.now u.0 c.loop-next.me c.in-Some.next (reverse rest) c.post_one.new.me
+            one.posted w one.event one.leads one.few),
       );
       told = one.event.1.shown.0 ∙ c.loop-next.invariant.told;
       capacity = c.post_one.ensures.capacity ∙ (c.in-Some.ensures.capacity ∙ c.loop-next.invariant.capacity);
@@ -76,6 +78,7 @@ pub returns-clause-served : goal.returns-clause-served
 returns-clause-served g c =
     let u = c.loop-next.invariant.underway in
     let config = c.args.self.now.config in
-    let none : c.loop-next.pending.items ≡ [] = length_zero c.loop-next.pending.items (let n = c.in_default.ensures.cases.0 in omega arith) in
+    let none : c.loop-next.pending.items ≡ [] =
+    length_zero c.loop-next.pending.items (let n = c.in_default.ensures.cases.0 in omega arith) in
     ended config c.args.code c.args.ecb c.args.me.now u.0 c.loop-next.me c.post_one-answer.result u.1
     (subst (λ ns. Underway config c.args.code c.args.ecb c.args.me.now u.0 c.loop-next.me (reverse ns)) none u.2)

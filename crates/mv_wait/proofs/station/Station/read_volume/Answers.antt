@@ -1,9 +1,9 @@
-use Rattle.std.proofs.Common.{◌≡◌, refl, sym, ap, ◌∙◌, subst, arith}
+use Rattle.std.proofs.Common.{◌≡◌, refl, sym, ap, ◌∙◌, subst}
 use Rattle.mv_machine.specs.declared.entry.VolumeOp.TheVariants.{Read}
 use Rattle.mv_machine.specs.declared.entry.Object.TheVariants.{Volume}
 use Rattle.mv_machine.specs.declared.entry.Op.TheVariants as op_on
 use Rattle.mv_board.specs.Faces.{CallerFace}
-use Rattle.mv_machine.specs.calls.Program.{Done, on_volume}
+use Rattle.mv_machine.specs.calls.Program.{on_volume}
 use Rattle.mv_machine.specs.calls.Rest.{IsAtRest}
 use Rattle.mv_machine.specs.calls.Waits.{read_volume, the_value}
 use Rattle.mv_wait.specs.Run.{IsServed}
@@ -13,13 +13,16 @@ use Rattle.mv_wait.proofs.station.Station.read_volume.Goals as goal
 
 pub value-requires : goal.value-requires
 value-requires c =
-    says_value c.self.inside.board.config c.task.inside.record c.test-reply.new.self c.args.volume c.test-reply.result c.test-reply.ensures.event c.test-reply.ensures.possible
+    says_value c.self.inside.board.config c.task.inside.record c.test-reply.new.self c.args.volume c.test-reply.result
+    c.test-reply.ensures.event c.test-reply.ensures.possible
 
 pub returns : goal.returns
 returns c =
     let t = c.task.inside.record in
     let u = c.test-reply.new.self in record {
       served = subst (λ (d : CallerFace). IsServed 1 (read_volume c.args.volume) (λ a. a ≡ c.value.result) d u) c.task.view_is
-          (one_served (read_volume c.args.volume) (λ a. a ≡ c.value.result) t u (Volume c.args.volume) (op_on.Volume Read) c.test-reply.result c.value.result tt c.test-reply.ensures.event refl
-          (λ h r. ap (λ z. on_volume z the_value) (r ∙ c.value.ensures)) (λ w. refl) (subst (λ (d : CallerFace). IsAtRest d.log) (sym c.task.view_is) c.requires.rest) refl);
+          (one_served (read_volume c.args.volume) (λ a. a ≡ c.value.result) t u (Volume c.args.volume)
+          (op_on.Volume Read) c.test-reply.result c.value.result tt c.test-reply.ensures.event refl
+          (λ h r. ap (λ z. on_volume z the_value) (r ∙ c.value.ensures)) (λ w. refl)
+          (subst (λ (d : CallerFace). IsAtRest d.log) (sym c.task.view_is) c.requires.rest) refl);
     }

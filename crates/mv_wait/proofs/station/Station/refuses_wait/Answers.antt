@@ -1,25 +1,29 @@
-use Rattle.std.proofs.Common.{◌≡◌, ◌<◌, ◌≤◌, ◌==◌, not, ℕ, length, Option, Some, None, option_map, refl, sym, ap, ◌∙◌, subst, arith}
+use Rattle.std.proofs.Common.{◌<◌, ◌==◌, not, length, Some, None, option_map, refl, sym, ap, ◌∙◌, subst}
 use Rattle.std.specs.List.{AllByRecursion}
 use Rattle.mv_machine.specs.Setup.{Setup, owner_of}
 use Rattle.mv_board.specs.Faces.{BoardFace, CallerFace}
 use Rattle.mv_machine.specs.calls.Keeping.{kept_of}
 use Rattle.mv_machine.specs.calls.Refusal.{Doubled, NotOwnerAt, ExtendedAt}
-use Rattle.mv_machine.specs.calls.Waits.{wait_refusal, refused_at}
+use Rattle.mv_machine.specs.calls.Waits.{refused_at}
 use Rattle.mv_wait.proofs.Unrefusing.{refusal_is}
 use Rattle.mv_wait.proofs.station.Station.refuses_wait.Goals as goal
 
 pub not_owned-requires-clause-blocks : goal.not_owned-requires-clause-blocks
 not_owned-requires-clause-blocks c =
-    subst (λ (s : Setup). AllByRecursion (λ e. e < length s.owners) c.args.ecbs.now) (sym (c.config.ensures ∙ ap (λ (b : BoardFace). b.config) c.self.view_is)) c.requires.blocks
+    subst (λ (s : Setup). AllByRecursion (λ e. e < length s.owners) c.args.ecbs.now)
+    (sym (c.config.ensures ∙ ap (λ (b : BoardFace). b.config) c.self.view_is)) c.requires.blocks
 
 pub returns-in-Some-not_owned : goal.returns-in-Some-not_owned
 returns-in-Some-not_owned c =
     let config = c.config.ensures ∙ ap (λ (b : BoardFace). b.config) c.self.view_is in
     let number = c.number-number.ensures.number ∙ ap (λ (d : CallerFace). d.number) c.me.view_is in
     let few = c.if-ecbs-count.false in
-    refusal_is c.args.self.now.config c.args.count c.args.me.now.number c.args.ecbs.now c.args.me.now.log None (Some (NotOwnerAt c.in-Some-not_owned.p)) (refused_at ExtendedAt (kept_of c.args.me.now.number c.args.me.now.log).extended 0 c.args.ecbs.now) few
+    refusal_is c.args.self.now.config c.args.count c.args.me.now.number c.args.ecbs.now c.args.me.now.log None
+    (Some (NotOwnerAt c.in-Some-not_owned.p))
+    (refused_at ExtendedAt (kept_of c.args.me.now.number c.args.me.now.log).extended 0 c.args.ecbs.now) few
     (sym (ap (λ o. option_map (λ p. Doubled p) o) c.in_default.is) ∙ c.doubled.ensures)
-    (sym (ap (λ o. option_map (λ p. NotOwnerAt p) o) c.in-Some-not_owned.is) ∙ (c.not_owned.ensures ∙ (λ i. refused_at NotOwnerAt (λ e. not (owner_of (config i) e == number i)) 0 c.args.ecbs.now)))
+    (sym (ap (λ o. option_map (λ p. NotOwnerAt p) o) c.in-Some-not_owned.is)
+    ∙ (c.not_owned.ensures ∙ (λ i. refused_at NotOwnerAt (λ e. not (owner_of (config i) e == number i)) 0 c.args.ecbs.now)))
     refl
 
 pub returns-in-Some-first_extended : goal.returns-in-Some-first_extended
@@ -27,9 +31,11 @@ returns-in-Some-first_extended c =
     let config = c.config.ensures ∙ ap (λ (b : BoardFace). b.config) c.self.view_is in
     let number = c.number-number.ensures.number ∙ ap (λ (d : CallerFace). d.number) c.me.view_is in
     let few = c.if-ecbs-count.false in
-    refusal_is c.args.self.now.config c.args.count c.args.me.now.number c.args.ecbs.now c.args.me.now.log None None (Some (ExtendedAt c.in-Some-first_extended.p)) few
+    refusal_is c.args.self.now.config c.args.count c.args.me.now.number c.args.ecbs.now c.args.me.now.log None None
+    (Some (ExtendedAt c.in-Some-first_extended.p)) few
     (sym (ap (λ o. option_map (λ p. Doubled p) o) c.in_default.is) ∙ c.doubled.ensures)
-    (sym (ap (λ o. option_map (λ p. NotOwnerAt p) o) c.in_default-not_owned.is) ∙ (c.not_owned.ensures ∙ (λ i. refused_at NotOwnerAt (λ e. not (owner_of (config i) e == number i)) 0 c.args.ecbs.now)))
+    (sym (ap (λ o. option_map (λ p. NotOwnerAt p) o) c.in_default-not_owned.is)
+    ∙ (c.not_owned.ensures ∙ (λ i. refused_at NotOwnerAt (λ e. not (owner_of (config i) e == number i)) 0 c.args.ecbs.now)))
     (sym (ap (λ o. option_map (λ p. ExtendedAt p) o) c.in-Some-first_extended.is) ∙ c.first_extended.ensures)
 
 pub returns : goal.returns
@@ -39,5 +45,6 @@ returns c =
     let few = c.if-ecbs-count.false in
     refusal_is c.args.self.now.config c.args.count c.args.me.now.number c.args.ecbs.now c.args.me.now.log None None None few
     (sym (ap (λ o. option_map (λ p. Doubled p) o) c.in_default.is) ∙ c.doubled.ensures)
-    (sym (ap (λ o. option_map (λ p. NotOwnerAt p) o) c.in_default-not_owned.is) ∙ (c.not_owned.ensures ∙ (λ i. refused_at NotOwnerAt (λ e. not (owner_of (config i) e == number i)) 0 c.args.ecbs.now)))
+    (sym (ap (λ o. option_map (λ p. NotOwnerAt p) o) c.in_default-not_owned.is)
+    ∙ (c.not_owned.ensures ∙ (λ i. refused_at NotOwnerAt (λ e. not (owner_of (config i) e == number i)) 0 c.args.ecbs.now)))
     (sym (ap (λ o. option_map (λ p. ExtendedAt p) o) c.in_default-first_extended.is) ∙ c.first_extended.ensures)

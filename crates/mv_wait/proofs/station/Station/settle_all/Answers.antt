@@ -1,22 +1,15 @@
-use Rattle.std.proofs.Common.{◌≡◌, ℕ, false, ◌+◌, ◌≤◌, List, Option, get_or, set, take, drop, length, ◌++◌, [], ◌∷◌, refl, sym, ap, ◌∙◌}
+use Rattle.std.proofs.Common.{◌≡◌, false, ◌+◌, ◌≤◌, get_or, set, take, drop, length, ◌++◌, [], ◌∷◌, refl, sym, ap, ◌∙◌}
 use Rattle.std.proofs.Common.{subst, arith, append_assoc, append-nil}
 use Rattle.std.proofs.Math.ListN.{length-set}
-use Rattle.std.specs.List.{AllByRecursion}
 use Rattle.std.proofs.lemmas.List.{drop_more, drop_all, take_all}
-use Rattle.mv_ecb.specs.declared.operation.EcbOp.TheVariants.{Settle}
-use Rattle.mv_machine.specs.Setup.{owner_of}
-use Rattle.mv_machine.specs.declared.entry.Op.TheVariants as op_on
 use Rattle.mv_machine.specs.declared.entry.Reply.TheVariants as reply_of
-use Rattle.mv_machine.specs.declared.entry.Object.TheVariants.{Ecb}
-use Rattle.mv_board.specs.Faces.{BoardFace}
-use Rattle.mv_board.specs.View.{off}
 use Rattle.mv_machine.specs.calls.Keeping.{kept_of}
-use Rattle.mv_machine.specs.calls.Program.{Program, Done, Wrong}
+use Rattle.mv_machine.specs.calls.Program.{Wrong}
 use Rattle.mv_machine.specs.calls.Waits.{settle_all, complete_count, AreDistinct}
 use Rattle.mv_wait.specs.Answers.{slot_of, slots_of}
 use Rattle.mv_wait.specs.Listed.{listed_count}
 use Rattle.mv_wait.specs.Run.{Runs}
-use Rattle.mv_wait.specs.Waiting.{IsArmedFor, Waited, settle_reply}
+use Rattle.mv_wait.specs.Waiting.{IsArmedFor, settle_reply}
 use Rattle.mv_wait.proofs.Parts.{still_of, own_one, one_of}
 use Rattle.mv_wait.proofs.Runs.{runs_none, runs_then, runs_within}
 use Rattle.mv_wait.proofs.Waits.{settled_less, settle_keeps, settle_step, slots_more, enough_still, distinct_rest, none_is_rest}
@@ -24,7 +17,8 @@ use Rattle.mv_wait.proofs.station.Station.settle_all.Goals as goal
 
 pub loop-i-init : goal.loop-i-init
 loop-i-init g c = record {
-  runs = λ found f. subst (λ xs. Runs 0 (settle_all c.args.ecbs.now found f) (settle_all c.args.ecbs.now xs f) c.args.me.now c.args.me.now) (sym (append-nil found))
+  runs = λ found f. subst (λ xs. Runs 0 (settle_all c.args.ecbs.now found f) (settle_all c.args.ecbs.now xs f) c.args.me.now
+      c.args.me.now) (sym (append-nil found))
       (runs_none (settle_all c.args.ecbs.now found f) c.args.me.now);
   waits = c.requires.waits;
   plain = c.requires.plain;
@@ -39,10 +33,15 @@ settle-requires g c =
     let left = one.went.left in
     let below = c.loop-i-test.true in
     let much = c.requires.left in
-    let own = own_one c.args.self.now.config c.args.self.now.config c.loop-i.me.number c.args.me.now.number c.args.ecbs.now c.loop-i.i refl one.went.same.number c.requires.own below in record {
+    let own = own_one c.args.self.now.config c.args.self.now.config c.loop-i.me.number c.args.me.now.number c.args.ecbs.now c.loop-i.i
+    refl one.went.same.number c.requires.own below in record {
       task = still_of c.args.self.now c.args.self.now c.args.me.now c.loop-i.me one.went.same c.requires.task refl;
       own = (own, tt);
-      plain = (one_of (λ n. (kept_of c.loop-i.me.number c.loop-i.me.log).extended n ≡ false) c.args.ecbs.now c.loop-i.i 0 c.loop-i.invariant.plain below, tt);
+      plain = (
+        one_of (λ n. (kept_of c.loop-i.me.number c.loop-i.me.log).extended n ≡ false) c.args.ecbs.now c.loop-i.i 0
+            c.loop-i.invariant.plain below,
+        tt,
+      );
       left = omega arith;
     }
 
@@ -67,16 +66,21 @@ loop-i-preserved g c =
     let enough : c.args.count ≤ complete_count (slots_of (take i out)) + listed_count t.ready (e ∷ drop (i + 1) es) =
     subst (λ ns. c.args.count ≤ complete_count (slots_of (take i out)) + listed_count t.ready ns) rest since.enough in record {
       runs = λ found f.
-          runs_then i 1 (settle_all es found f) (settle_all (drop i es) (found ++ slots_of (take i out)) f) (settle_all (drop (i + 1) es) (found ++ slots_of (take (i + 1) (set out i s))) f)
+          runs_then i 1 (settle_all es found f) (settle_all (drop i es) (found ++ slots_of (take i out)) f)
+          (settle_all (drop (i + 1) es) (found ++ slots_of (take (i + 1) (set out i s))) f)
           c.args.me.now t u (since.runs found f)
-          (subst (λ ns. Runs 1 (settle_all ns (found ++ slots_of (take i out)) f) (settle_all (drop (i + 1) es) (found ++ slots_of (take (i + 1) (set out i s))) f) t u) (sym rest)
-          (subst (λ xs. Runs 1 (settle_all (e ∷ drop (i + 1) es) (found ++ slots_of (take i out)) f) (settle_all (drop (i + 1) es) xs f) t u)
+          (subst (λ ns. Runs 1 (settle_all ns (found ++ slots_of (take i out)) f)
+          (settle_all (drop (i + 1) es) (found ++ slots_of (take (i + 1) (set out i s))) f) t u) (sym rest)
+          (subst (λ xs. Runs 1 (settle_all (e ∷ drop (i + 1) es) (found ++ slots_of (take i out)) f) (settle_all (drop (i + 1) es) xs f)
+          t u)
           (append_assoc found (slots_of (take i out)) (slot_of s ∷ []) ∙ ap (λ xs. found ++ xs) (sym more))
           (settle_step t u e s (drop (i + 1) es) (found ++ slots_of (take i out)) f c.settle.ensures.settled)));
-      waits = subst (IsArmedFor (drop (i + 1) es)) (sym h.logged) (settled_less (drop (i + 1) es) t.log t.number e place (reply_of.Ecb (settle_reply s)) distinct.0 waits);
+      waits = subst (IsArmedFor (drop (i + 1) es)) (sym h.logged)
+          (settled_less (drop (i + 1) es) t.log t.number e place (reply_of.Ecb (settle_reply s)) distinct.0 waits);
       plain = settle_keeps t u e place (reply_of.Ecb (settle_reply s)) es h since.plain;
       enough = subst (λ xs. c.args.count ≤ complete_count xs + listed_count u.ready (drop (i + 1) es)) (sym more)
-          (subst (λ ws. c.args.count ≤ complete_count (slots_of (take i out) ++ slot_of s ∷ []) + listed_count ws (drop (i + 1) es)) (sym h.ready)
+          (subst (λ ws. c.args.count ≤ complete_count (slots_of (take i out) ++ slot_of s ∷ []) + listed_count ws (drop (i + 1) es))
+          (sym h.ready)
           (enough_still c.args.count i e (drop (i + 1) es) t.ready (slots_of (take i out)) s distinct.0 c.settle.ensures.complete enough));
       size = length-set out i s ∙ size;
     }
@@ -95,9 +99,12 @@ returns g c =
         settles = λ found f.
             runs_within i (length es) (settle_all es found f) (f (found ++ slots_of out)) c.args.me.now c.loop-i.me (omega arith)
             (subst (λ xs. Runs i (settle_all es found f) (f (found ++ slots_of xs)) c.args.me.now c.loop-i.me) all
-            (subst (λ ns. Runs i (settle_all es found f) (settle_all ns (found ++ slots_of (take i out)) f) c.args.me.now c.loop-i.me) none (since.runs found f)));
+            (subst (λ ns. Runs i (settle_all es found f) (settle_all ns (found ++ slots_of (take i out)) f) c.args.me.now c.loop-i.me)
+            none (since.runs found f)));
         enough = subst (λ xs. c.args.count ≤ complete_count (slots_of xs)) all
-            (let e : c.args.count ≤ complete_count (slots_of (take i out)) + listed_count c.loop-i.me.ready [] = subst (λ ns. c.args.count ≤ complete_count (slots_of (take i out)) + listed_count c.loop-i.me.ready ns) none since.enough in omega arith);
+            (let e : c.args.count ≤ complete_count (slots_of (take i out)) + listed_count c.loop-i.me.ready [] =
+            subst (λ ns. c.args.count ≤ complete_count (slots_of (take i out)) + listed_count c.loop-i.me.ready ns) none
+            since.enough in omega arith);
       };
       rest = none_is_rest c.loop-i.me.log (subst (λ ns. IsArmedFor ns c.loop-i.me.log) none since.waits);
     }

@@ -1,19 +1,18 @@
-use Rattle.std.proofs.Common.{◌≡◌, ℕ, ◌+◌, ◌*◌, ◌≤◌, [], length, Option, Some, None, option_map, Ok, Err, refl, sym, ap, ◌∙◌, subst, arith}
+use Rattle.std.proofs.Common.{◌≡◌, ◌*◌, [], length, Some, None, option_map, Ok, refl, sym, ap, ◌∙◌, subst, arith}
 use Rattle.mv_machine.specs.Setup.{owner_of}
-use Rattle.mv_board.specs.Faces.{CallerFace, IsSame}
+use Rattle.mv_board.specs.Faces.{CallerFace}
 use Rattle.mv_machine.specs.calls.Keeping.{kept_of}
 use Rattle.mv_machine.specs.calls.Program.{Wrong}
-use Rattle.mv_machine.specs.calls.Refusal.{Refusal}
 use Rattle.mv_machine.specs.calls.Rest.{IsAtRest}
 use Rattle.mv_machine.specs.calls.Waits.{wait, wait_refusal}
 use Rattle.mv_machine.proofs.calls.Making.{kept_caller}
 use Rattle.mv_machine.specs.calls.Keeping.{nothing_kept}
 use Rattle.mv_wait.specs.Answers.{wait_refused, slots_of}
 use Rattle.mv_wait.specs.Run.{IsServed}
-use Rattle.mv_wait.specs.Waiting.{AreOwn, ArePlain, IsArmedFor}
+use Rattle.mv_wait.specs.Waiting.{IsArmedFor}
 use Rattle.mv_wait.proofs.Parts.{still_of, same_view, plain_still}
 use Rattle.mv_wait.proofs.Runs.{same_then, went_log}
-use Rattle.mv_wait.proofs.Unrefusing.{IsAccepted, accepted_wait, accepted_own, both_own, wait_served, wait_is_refused}
+use Rattle.mv_wait.proofs.Unrefusing.{accepted_wait, accepted_own, both_own, wait_served, wait_is_refused}
 use Rattle.mv_wait.proofs.station.Station.wait.Goals as goal
 use Rattle.mv_wait.proofs.station.Station.wait.Goals.{In-Some, In_default, After-arm_all-arg-1, After-arm_all, After-await_complete}
 use Rattle.mv_wait.proofs.station.Station.wait.Goals.{After-out-1}
@@ -21,21 +20,29 @@ use Rattle.mv_wait.proofs.station.Station.wait.Goals.{After-out-1}
 pub returns-in-Some-clause-served : goal.returns-in-Some-clause-served
 returns-in-Some-clause-served g c =
     wait_is_refused c.args.self.now.config c.args.count c.args.ecbs.now (wait_refused c.in-Some.refusal) c.args.task.now
-    (subst (λ (d : CallerFace). wait_refusal c.args.self.now.config c.args.count c.args.ecbs.now (kept_of d.number d.log) ≡ Some (wait_refused c.in-Some.refusal)) c.task.view_is
+    (subst (λ (d : CallerFace). wait_refusal c.args.self.now.config c.args.count c.args.ecbs.now (kept_of d.number d.log)
+    ≡ Some (wait_refused c.in-Some.refusal)) c.task.view_is
     (sym c.refuses_wait.ensures ∙ ap (λ o. option_map wait_refused o) c.in-Some.is))
     c.requires.rest
 
 pub arm_all-requires : goal.arm_all-requires
 arm_all-requires g c =
     let r = c.task.inside.record in
-    let none : wait_refusal c.args.self.now.config c.args.count c.args.ecbs.now (kept_of r.number r.log) ≡ None = sym c.refuses_wait.ensures ∙ ap (λ o. option_map wait_refused o) c.in_default.is in
+    let none : wait_refusal c.args.self.now.config c.args.count c.args.ecbs.now (kept_of r.number r.log) ≡ None =
+    sym c.refuses_wait.ensures ∙ ap (λ o. option_map wait_refused o) c.in_default.is in
     let a = accepted_wait c.args.self.now.config r.number c.args.count c.args.ecbs.now (kept_of r.number r.log) none in
     let much = c.requires.left in
     let left = ap (λ (d : CallerFace). d.left) c.task.view_is in record {
-      task = still_of c.args.self.now c.args.self.now c.args.task.now r (record { table = ap (λ (d : CallerFace). d.table) c.task.view_is; about = ap (λ (d : CallerFace). d.about) c.task.view_is; number = ap (λ (d : CallerFace). d.number) c.task.view_is }) c.requires.task refl;
+      task = still_of c.args.self.now c.args.self.now c.args.task.now r
+          (record {
+            table = ap (λ (d : CallerFace). d.table) c.task.view_is;
+            about = ap (λ (d : CallerFace). d.about) c.task.view_is;
+            number = ap (λ (d : CallerFace). d.number) c.task.view_is;
+          }) c.requires.task refl;
       rest = subst (λ (d : CallerFace). IsAtRest d.log) (sym c.task.view_is) c.requires.rest;
       own = both_own c.args.self.now.config r.number c.args.ecbs.now c.requires.blocks
-          (subst (λ k. Rattle.std.specs.List.AllByRecursion (λ e. owner_of c.args.self.now.config e ≡ k) c.args.ecbs.now) (kept_caller (nothing_kept r.number) r.log) a.own);
+          (subst (λ k. Rattle.std.specs.List.AllByRecursion (λ e. owner_of c.args.self.now.config e ≡ k) c.args.ecbs.now)
+          (kept_caller (nothing_kept r.number) r.log) a.own);
       plain = a.plain;
       distinct = a.distinct;
       left = omega arith;
@@ -44,10 +51,12 @@ arm_all-requires g c =
 pub await_complete-requires : goal.await_complete-requires
 await_complete-requires g c =
     let r = c.task.inside.record in
-    let none : wait_refusal c.args.self.now.config c.args.count c.args.ecbs.now (kept_of r.number r.log) ≡ None = sym c.refuses_wait.ensures ∙ ap (λ o. option_map wait_refused o) c.in_default.is in
+    let none : wait_refusal c.args.self.now.config c.args.count c.args.ecbs.now (kept_of r.number r.log) ≡ None =
+    sym c.refuses_wait.ensures ∙ ap (λ o. option_map wait_refused o) c.in_default.is in
     let a = accepted_wait c.args.self.now.config r.number c.args.count c.args.ecbs.now (kept_of r.number r.log) none in
     let same = (c.arm_all.ensures.armed Wrong).went.same in record {
-      task = still_of c.args.self.now c.args.self.now c.args.task.now c.arm_all.new.me (same_then c.args.task.now r c.arm_all.new.me (same_view c.args.task.now r c.task.view_is) same) c.requires.task refl;
+      task = still_of c.args.self.now c.args.self.now c.args.task.now c.arm_all.new.me
+          (same_then c.args.task.now r c.arm_all.new.me (same_view c.args.task.now r c.task.view_is) same) c.requires.task refl;
       own = accepted_own c.args.self.now.config r c.arm_all.new.me c.args.ecbs.now c.requires.blocks a same;
     }
 
@@ -56,7 +65,8 @@ settle_all-requires g c =
     let r = c.task.inside.record in
     let u = c.arm_all.new.me in
     let v = c.await_complete.new.me in
-    let none : wait_refusal c.args.self.now.config c.args.count c.args.ecbs.now (kept_of r.number r.log) ≡ None = sym c.refuses_wait.ensures ∙ ap (λ o. option_map wait_refused o) c.in_default.is in
+    let none : wait_refusal c.args.self.now.config c.args.count c.args.ecbs.now (kept_of r.number r.log) ≡ None =
+    sym c.refuses_wait.ensures ∙ ap (λ o. option_map wait_refused o) c.in_default.is in
     let a = accepted_wait c.args.self.now.config r.number c.args.count c.args.ecbs.now (kept_of r.number r.log) none in
     let arms = c.arm_all.ensures.armed Wrong in
     let looks = c.await_complete.ensures.went in
@@ -67,7 +77,8 @@ settle_all-requires g c =
     let few = arms.few in
     let first = arms.went.left in
     let second = looks.left in record {
-      task = still_of c.args.self.now c.args.self.now c.args.task.now v (same_then c.args.task.now r v (same_view c.args.task.now r c.task.view_is) same) c.requires.task refl;
+      task = still_of c.args.self.now c.args.self.now c.args.task.now v
+          (same_then c.args.task.now r v (same_view c.args.task.now r c.task.view_is) same) c.requires.task refl;
       waits = subst (IsArmedFor c.args.ecbs.now) (sym log) c.arm_all.ensures.waits;
       own = accepted_own c.args.self.now.config r v c.args.ecbs.now c.requires.blocks a same;
       plain = plain_still u v c.args.ecbs.now looks.same.number log c.arm_all.ensures.plain;
@@ -87,7 +98,10 @@ invariant_of-task g c =
 pub returns-clause-served : goal.returns-clause-served
 returns-clause-served g c =
     let r = c.task.inside.record in
-    let none : wait_refusal c.args.self.now.config c.args.count c.args.ecbs.now (kept_of r.number r.log) ≡ None = sym c.refuses_wait.ensures ∙ ap (λ o. option_map wait_refused o) c.in_default.is in
-    subst (λ (d : CallerFace). IsServed (2 * length c.args.ecbs.now) (wait c.args.self.now.config c.args.count c.args.ecbs.now) (λ a. a ≡ Ok (slots_of c.settle_all.new.out)) d c.settle_all.new.me) c.task.view_is
-    (wait_served c.args.self.now.config c.args.count c.args.ecbs.now (slots_of c.settle_all.new.out) r c.arm_all.new.me c.await_complete.new.me c.settle_all.new.me none
+    let none : wait_refusal c.args.self.now.config c.args.count c.args.ecbs.now (kept_of r.number r.log) ≡ None =
+    sym c.refuses_wait.ensures ∙ ap (λ o. option_map wait_refused o) c.in_default.is in
+    subst (λ (d : CallerFace). IsServed (2 * length c.args.ecbs.now) (wait c.args.self.now.config c.args.count c.args.ecbs.now)
+    (λ a. a ≡ Ok (slots_of c.settle_all.new.out)) d c.settle_all.new.me) c.task.view_is
+    (wait_served c.args.self.now.config c.args.count c.args.ecbs.now (slots_of c.settle_all.new.out) r c.arm_all.new.me
+    c.await_complete.new.me c.settle_all.new.me none
     c.arm_all.ensures.armed c.await_complete.ensures.went c.settle_all.ensures.settled c.settle_all.ensures.rest)
