@@ -15,5 +15,7 @@ pub mod Passes
 pub mod Lowest
 -- the law that decks are sound
 pub mod Sounds
+-- the plain search of the tests
+pub mod Anew
 -- rows worked by hand
 pub mod Rows

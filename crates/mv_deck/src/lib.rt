@@ -12,6 +12,8 @@ mod line;
 mod names;
 mod operand;
 mod parts;
+#[cfg(test)]
+mod plain;
 mod reading;
 #[cfg(test)]
 mod tests;

@@ -1,4 +1,5 @@
 use super::*;
+use crate::plain::plain_first_fault;
 use mv_latch::Mode;
 use std::alloc::{AllocError, Global};
 use std::process::Abort;
@@ -9,10 +10,12 @@ fn told(line: u32, kind: u32) -> Option<DeckFault> {
     Some(DeckFault { line, kind })
 }
 
-// Each row: a text, and its first fault by the rules, or none where it is accepted.
+// Each row: a text, and its first fault by the rules, or none where it is accepted. The plain search tells the same.
 fn are_told(rt: &impl Abort, alloc: Global, rows: &[(&[u8], Option<DeckFault>)]) {
     for (text, fault) in rows {
         assert!(rt; text.len() < 1000);
+        let plain = plain_first_fault(alloc, text, 1).expect(rt, "no memory");
+        assert_eq!(rt; plain, *fault);
         let read = match read_deck(alloc, text, 1) {
             Ok(_) => None,
             Err(DeckRefusal::Fault(fault)) => Some(fault),
