@@ -619,19 +619,7 @@ fn two_threads_hand_over_and_back(rt: HostRuntime) -> Result<(), Fail> {
     Ok(())
 }
 
-// Those that `bench/run` times: 100,000 hand-offs and back on two stations, since a history has at most 524,287 events; and
-// 500,000 events of posts and waits that nobody disputes.
-#[test]
-fn a_hundred_thousand_hand_offs_and_back(rt: HostRuntime) -> Result<(), Fail> {
-    let half = hand_to_and_fro(&rt, rt.alloc(), 50_000)?;
-    let rest = hand_to_and_fro(&rt, rt.alloc(), 50_000)?;
-    assert_eq!(rt;
-        [half.journal.len(), rest.journal.len()],
-        [400_000, 400_000]
-    );
-    Ok(())
-}
-
+// What `bench/run` times: 500,000 events of posts and waits that nobody disputes.
 #[test]
 fn posts_and_waits_of_one_thread(rt: HostRuntime) -> Result<(), Fail> {
     let config = setup(
