@@ -1,8 +1,7 @@
 -- What a caller's log says with one entry more.
 use Rattle.std.proofs.Common.{◌≡◌, ℕ, true, List, [], ◌∷◌, ◌++◌, inl, inr, refl}
 use Rattle.mv_machine.specs.declared.entry.Entry.{Entry}
-use Rattle.mv_machine.specs.Kept.{StandingRequest, stands_with, standing_from}
-use Rattle.mv_board.specs.Rule.{makes, HasMade}
+use Rattle.mv_machine.specs.Kept.{StandingRequest, stands_with, standing_from, makes, HasMade}
 
 -- which requests stand
 pub standing_more : (ts : List StandingRequest) (log : List Entry) (e : Entry)

@@ -1,5 +1,6 @@
 -- What an operation makes of a word.
-use Rattle.std.proofs.Common.{◌≡◌, ◌≤◌, ◌<◌, ℕ, ◌+◌, ◌*◌, ◌^◌, Bool, true, false, Option, Some, None, List, refl, sym, ap, ◌∙◌, subst, arith}
+use Rattle.std.proofs.Common.{◌≡◌, ◌≤◌, ◌<◌, ℕ, ◌+◌, ◌*◌, ◌^◌, Bool, true, false, Option, Some, None, List, refl, sym, ap, ◌∙◌, subst}
+use Rattle.std.proofs.Common.{arith}
 use Rattle.std.specs.Prelude.{option_map}
 use Rattle.std.proofs.lemmas.Bool.{false≢true}
 use Rattle.std.proofs.lemmas.Bool.Decides.{nat_tests}
@@ -16,6 +17,7 @@ use Rattle.mv_machine.specs.declared.packing.WordState.{WordState}
 use Rattle.mv_machine.specs.declared.packing.WordState.TheVariants as state
 use Rattle.mv_machine.specs.Elements.{extra, only_if}
 use Rattle.mv_machine.specs.Kept.{allowed}
+use Rattle.mv_machine.specs.Limits.{events_limit}
 use Rattle.mv_machine.specs.Packing.{HasFields, HasOpFields, unpack, state_step, reply_in}
 use Rattle.mv_machine.specs.Setup.{Setup}
 use Rattle.mv_machine.specs.System.{opening}
@@ -52,7 +54,7 @@ stepped r s e h = let same : r ≡ s = cc e in subst (λ (z : WordState × Reply
 
 -- two events at least went into each generation, so that its number stays small
 pub next_fields : (op : Op) (s next : WordState) (reply : Reply) (place : ℕ) → HasOpFields op → HasFields s → fits place s ≡ true
-    → place < 524287 → state_step op s ≡ Some (next, reply) → HasFields next
+    → place < events_limit → state_step op s ≡ Some (next, reply) → HasFields next
 next_fields (op_on.Element op) (state.Element s) next reply place has fields fit low e =
     let now : 2 * s.generation + extra s.phase ≤ place = grind (arith, nat_tests) in
     let f = fits_next (record { place = place; state = s }) op now in

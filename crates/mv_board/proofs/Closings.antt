@@ -1,10 +1,13 @@
 -- A board that ends, with all its callers back.
-use Rattle.std.proofs.Common.{◌≡◌, ℕ, ◌+◌, List, [], ◌∷◌, ◌++◌, length, map, Some, refl, sym, ap, ◌∙◌, subst, arith}
+use Rattle.std.proofs.Common.{◌≡◌, ℕ, ◌+◌, ◌≤◌, List, [], ◌∷◌, ◌++◌, length, map, Some, refl, sym, ap, ◌∙◌, subst, arith}
 use Rattle.atomic_table.specs.declared.shared.Seat.{Seat}
 use Rattle.atomic_table.specs.Table.{Final, Seen}
 use Rattle.mv_machine.specs.declared.entry.Entry.{Entry}
+use Rattle.mv_machine.specs.Check.{IsValid}
+use Rattle.mv_machine.specs.Limits.{events_limit}
 use Rattle.mv_machine.specs.Merge.{merged, AreOneHistory}
 use Rattle.mv_machine.specs.Setup.{Setup}
+use Rattle.mv_machine.proofs.OneHistory.{budgets_fit}
 use Rattle.mv_board.specs.declared.closing.Closing.TheInside.{Inside}
 use Rattle.mv_board.specs.declared.item.Item.{Item}
 use Rattle.mv_board.specs.declared.view.Part.{Part}
@@ -14,17 +17,21 @@ use Rattle.mv_board.specs.Faces.{ClosingFace, AreNumbered, log_of}
 use Rattle.mv_board.specs.Rule.{Ruled}
 use Rattle.mv_board.proofs.Ends.{Ends, closes}
 
-module _ (x : Inside) (i : IsClosing x) (b : ClosingFace) (view : closing_of x ≡ b) (all : length b.back ≡ b.board.config.callers) (seat : Seat Item View) (some : x.seat ≡ Some seat)
+module _ (x : Inside) (i : IsClosing x) (b : ClosingFace) (view : closing_of x ≡ b) (all : length b.back ≡ b.board.config.callers)
+    (seat : Seat Item View) (some : x.seat ≡ Some seat)
     (ws : List ℕ) (items : List Item) (last : Final (Seen (Ruled x.table.shared.key) seat.id seat.me.0) ws items) where
+  -- what the seat holds is what came back
   parts_are : held x.seat ≡ seat.me.0.parts
   parts_are = ap held some
 
   back_is : seat.me.0.parts ≡ b.back
   back_is = sym parts_are ∙ ap (λ z. z.back) view
 
+  -- and the logs are those of its parts
   logs_are : x.logs.items ≡ map log_of seat.me.0.parts
   logs_are = i.logs ∙ ap (map log_of) parts_are
 
+  -- they are one history, and its merge ends the board
   both : AreOneHistory x.config (map log_of seat.me.0.parts) × Ends x.config seat.me.0.parts (merged (map log_of seat.me.0.parts))
   both =
       let F : Setup → Type 0 = λ c. Final (Seen (Ruled c) seat.id seat.me.0) ws items in
@@ -37,6 +44,11 @@ module _ (x : Inside) (i : IsClosing x) (b : ClosingFace) (view : closing_of x �
   pub merged_are : merged x.logs.items ≡ merged (map log_of b.back)
   merged_are = ap merged (logs_are ∙ ap (map log_of) back_is)
 
+  -- the merge of the logs ends the board
   pub ended : Ends b.board.config b.back (merged x.logs.items)
   ended = subst (λ (z : Setup × (List Part × List (List Entry))). Ends z.0 z.1.0 (merged z.1.1))
       (λ j. (ap (λ (z : ClosingFace). z.board.config) view j, (back_is j, sym logs_are j))) both.1
+
+  -- it is no longer than a run may be
+  pub few : length (merged x.logs.items) ≤ events_limit
+  few = budgets_fit b.board.config _ (subst IsValid (ap (λ (z : ClosingFace). z.board.config) view) i.valid) ended.legal ended.budgets

@@ -26,7 +26,8 @@ pub record Ends (c : Setup) (ps : List Part) (h : List Entry) : Type 0 where
 
 -- ---- all callers' parts are the history
 
-logs_in_order : (c : Setup) (h : List Entry) (k : ℕ) (ps : List Part) → AreNumbered k ps → AllByRecursion (IsPart c h) ps → parts_from k (length ps) h ≡ map log_of ps
+logs_in_order : (c : Setup) (h : List Entry) (k : ℕ) (ps : List Part) → AreNumbered k ps → AllByRecursion (IsPart c h) ps
+    → parts_from k (length ps) h ≡ map log_of ps
 logs_in_order c h k [] o a = refl
 logs_in_order c h k (p ∷ ps) o a = λ i. (ap (λ z. of z h) (sym o.0) ∙ sym a.0.logged) i ∷ logs_in_order c h (suc k) ps o.1 a.1 i
 
@@ -50,7 +51,8 @@ module _ (c : Setup) (s : Table) (r : Ruled c s) (ps : List Part) (all : length 
   merges = ap merged (sym ends.logs ∙ sym (logs_parts c s.views (history_of c s.views) r.logs))
 
 -- one view that holds them all is enough
-pub closes : (c : Setup) (ws : List ℕ) (items : List Item) (id : ℕ) (v : View) → length v.parts ≡ c.callers → AreNumbered 0 v.parts → Final (Seen (Ruled c) id v) ws items
+pub closes : (c : Setup) (ws : List ℕ) (items : List Item) (id : ℕ) (v : View) → length v.parts ≡ c.callers → AreNumbered 0 v.parts
+    → Final (Seen (Ruled c) id v) ws items
     → AreOneHistory c (map log_of v.parts) × Ends c v.parts (merged (map log_of v.parts))
 closes c ws items id v all numbered f =
     let s : Table = f.0 in
@@ -71,13 +73,22 @@ numbered_more k [] p all next = (omega arith, tt)
 numbered_more k (q ∷ ps) p all next = (all.0, numbered_more (suc k) ps p all.1 (omega arith))
 
 -- of callers in order each is of the board, and has the number of those before it
-pub next_in_order : (b : BoardFace) (k : ℕ) (before : List CallerFace) (x : CallerFace) (rest : List CallerFace) → AreInOrder b k (before ++ x ∷ rest)
+pub next_in_order : (b : BoardFace) (k : ℕ) (before : List CallerFace) (x : CallerFace) (rest : List CallerFace)
+    → AreInOrder b k (before ++ x ∷ rest)
     → IsOf b x × (x.number ≡ length (map part_of before) + k)
 next_in_order b k [] x rest o = let number = o.1 in (o.0, omega arith)
-next_in_order b k (y ∷ before) x rest o = let next = next_in_order b (suc k) before x rest o.2 in let number = next.1 in (next.0, omega arith)
+next_in_order b k (y ∷ before) x rest o = let next = next_in_order b (suc k) before x rest o.2 in let number = next.1 in
+    (next.0, omega arith)
+
+-- the same of the first of those that are left
+pub next_left : (b : BoardFace) (callers before left rest : List CallerFace) (x : CallerFace) → AreInOrder b 0 callers
+    → before ++ left ≡ callers → left ≡ x ∷ rest → IsOf b x × (x.number ≡ length (map part_of before) + 0)
+next_left b callers before left rest x order whole first =
+    next_in_order b 0 before x rest (subst (AreInOrder b 0) (sym whole ∙ ap (λ xs. before ++ xs) first) order)
 
 -- what is said of their parts is said of them
-pub each_in : (c : Setup) (h : List Entry) (xs : List CallerFace) → AllByRecursion (IsPartIn c h) (map part_of xs) → AllByRecursion (IsIn c h) xs
+pub each_in : (c : Setup) (h : List Entry) (xs : List CallerFace) → AllByRecursion (IsPartIn c h) (map part_of xs)
+    → AllByRecursion (IsIn c h) xs
 each_in c h [] all = tt
 each_in c h (x ∷ xs) all = (all.0, each_in c h xs all.1)
 

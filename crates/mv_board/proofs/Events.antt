@@ -1,5 +1,7 @@
 -- What one event on a word makes of a history, of its words, and of what is ready.
-use Rattle.std.proofs.Common.{◌≡◌, ◌≢◌, ◌⊎◌, ℕ, ◌+◌, ◌<◌, ◌≤◌, ltb, Bool, true, false, ◌&&◌, cond, List, [], ◌∷◌, ◌++◌, length, get_or, Option, Some, None, option_map, option_and_then, IsSome, inl, inr, refl, sym, ap, ◌∙◌, subst, arith, append-nil, eq-eqb, ne_eqb, length-append}
+use Rattle.std.proofs.Common.{◌≡◌, ◌≢◌, ◌⊎◌, ℕ, ◌+◌, ◌<◌, ◌≤◌, ltb, Bool, true, false, ◌&&◌, cond, List, [], ◌∷◌, ◌++◌, length, get_or}
+use Rattle.std.proofs.Common.{Option, Some, None, option_map, option_and_then, IsSome, inl, inr, refl, sym, ap, ◌∙◌, subst, arith}
+use Rattle.std.proofs.Common.{append-nil, eq-eqb, ne_eqb, length-append}
 use Rattle.std.proofs.lemmas.Bool.{false≢true, true≢false, lt-ltb}
 use mathlib.Core.Logic.{dite}
 use native.Mathlib.Decide.{ℕ_discrete}
@@ -19,6 +21,7 @@ use Rattle.mv_machine.specs.declared.entry.VolumeOp.TheVariants.{Read}
 use Rattle.mv_machine.specs.declared.packing.WordState.{WordState}
 use Rattle.mv_machine.specs.declared.packing.WordState.TheVariants as state
 use Rattle.mv_machine.specs.Check.{IsValid}
+use Rattle.mv_machine.specs.Limits.{events_limit}
 use Rattle.mv_machine.specs.Legal.{IsNext, Legal, after, next, of, «at»}
 use Rattle.mv_machine.specs.Owned.{owner_at, is_owners, is_clear, HasNo, IsGranted, IsGone}
 use Rattle.mv_machine.specs.Packing.{pack, unpack, state_at, word_at, state_step, state_after, reply_in}
@@ -35,7 +38,9 @@ use Rattle.mv_machine.proofs.SameParts.{same_told}
 use Rattle.mv_machine.proofs.WordSteps.{reply_by_state, state_by_state, place_rises}
 use Rattle.mv_board.specs.declared.watch.Watch.{Watch}
 use Rattle.mv_board.specs.declared.watch.Watch.TheVariants as watch
-use Rattle.mv_board.specs.Rule.{is_released, HasMade, IsReady}
+use Rattle.mv_element.specs.Element.{is_released}
+use Rattle.mv_machine.specs.Kept.{HasMade}
+use Rattle.mv_board.specs.Rule.{IsReady}
 use Rattle.mv_board.specs.Steps.{watch_of, is_ready}
 use Rattle.mv_board.specs.View.{takes_off}
 use Rattle.mv_board.specs.Words.{HasWord, fits, changed, test_of}
@@ -50,8 +55,10 @@ pub record Change (op : Op) (place : ℕ) (x : WordState) (new : ℕ) (reply : R
   pub steps : state_step op x ≡ Some (state, reply)
   pub word : new ≡ pack (place + 1) state
 
-parts : (op : Op) (q : ℕ) (x : WordState) (place new : ℕ) (reply : Reply) (b : Bool) (found : Option (WordState × Reply)) → state_step op x ≡ found
-    → cond b (option_map {U = ℕ × ℕ × Reply} (λ r. (q, pack (q + 1) r.0, r.1)) found) None ≡ Some (place, new, reply) → (place ≡ q) × Change op q x new reply
+parts : (op : Op) (q : ℕ) (x : WordState) (place new : ℕ) (reply : Reply) (b : Bool) (found : Option (WordState × Reply))
+    → state_step op x ≡ found
+    → cond b (option_map {U = ℕ × ℕ × Reply} (λ r. (q, pack (q + 1) r.0, r.1)) found) None ≡ Some (place, new, reply) → (place ≡ q)
+    × Change op q x new reply
 parts op q x place new reply false found is e = absurd (cc e)
 parts op q x place new reply true None is e = absurd (cc e)
 parts op q x place new reply true (Some r) is e =
@@ -66,18 +73,23 @@ parts op q x place new reply true (Some r) is e =
 
 pub changed_parts : (o : Object) (op : Op) (w q : ℕ) (x : WordState) (place new : ℕ) (reply : Reply) → unpack o w ≡ Some (q, x)
     → changed o op w ≡ Some (place, new, reply) → (place ≡ q) × Change op q x new reply
-changed_parts o op w q x place new reply is e = parts op q x place new reply (ltb q 524287 && fits q x) (state_step op x) refl (rw is at e)
+changed_parts o op w q x place new reply is e = parts op q x place new reply (ltb q events_limit && fits q x) (state_step op x) refl
+    (rw is at e)
 
-pub changed_is : (o : Object) (op : Op) (w q : ℕ) (x y : WordState) (reply : Reply) → unpack o w ≡ Some (q, x) → q < 524287 → fits q x ≡ true
+pub changed_is : (o : Object) (op : Op) (w q : ℕ) (x y : WordState) (reply : Reply) → unpack o w ≡ Some (q, x) → q < events_limit
+    → fits q x ≡ true
     → state_step op x ≡ Some (y, reply) → changed o op w ≡ Some (q, pack (q + 1) y, reply)
-changed_is o op w q x y reply is lt fit steps = rw (is, lt-ltb q 524287 lt, fit, steps) refl
+changed_is o op w q x y reply is lt fit steps = rw (is, lt-ltb q events_limit lt, fit, steps) refl
 
 -- a test gives the state that it finds
 pub test_steps : (c : Setup) (m : System) (o : Object) (x : WordState) → HasWord c o → state_at m o ≡ Some x
     → (r : Reply) × (state_step (test_of o) x ≡ Some (x, r))
-test_steps c m (Ecb n) x has e = let y : state.Ecb (m.ecb n).state ≡ x = cc in subst (λ z. (r : Reply) × (state_step (test_of (Ecb n)) z ≡ Some (z, r))) y (_, refl)
-test_steps c m (Element n) x has e = let y : state.Element (m.element n).state ≡ x = cc in subst (λ z. (r : Reply) × (state_step (test_of (Element n)) z ≡ Some (z, r))) y (_, refl)
-test_steps c m (Volume n) x has e = let y : state.Volume (m.volume n).state ≡ x = cc in subst (λ z. (r : Reply) × (state_step (test_of (Volume n)) z ≡ Some (z, r))) y (_, refl)
+test_steps c m (Ecb n) x has e = let y : state.Ecb (m.ecb n).state ≡ x = cc in
+    subst (λ z. (r : Reply) × (state_step (test_of (Ecb n)) z ≡ Some (z, r))) y (_, refl)
+test_steps c m (Element n) x has e = let y : state.Element (m.element n).state ≡ x = cc in
+    subst (λ z. (r : Reply) × (state_step (test_of (Element n)) z ≡ Some (z, r))) y (_, refl)
+test_steps c m (Volume n) x has e = let y : state.Volume (m.volume n).state ≡ x = cc in
+    subst (λ z. (r : Reply) × (state_step (test_of (Volume n)) z ≡ Some (z, r))) y (_, refl)
 test_steps c m Latches x has e = absurd has
 
 -- and is anyone's
@@ -104,7 +116,8 @@ module _ (c : Setup) (m : System) (e : Entry) (x y : WordState) (admits : admitt
   pub event_word : word_at (next m e) e.object ≡ pack (place_of m e.object + 1) y
   event_word =
       word_by_state (next m e) e.object y
-      (state_by_state c m e.caller e.object e.op admits ∙ (ap (option_and_then (state_after e.op)) is ∙ ap (λ z. option_map (λ r. r.0) z) steps))
+      (state_by_state c m e.caller e.object e.op admits
+      ∙ (ap (option_and_then (state_after e.op)) is ∙ ap (λ z. option_map (λ r. r.0) z) steps))
       ∙ ap (λ p. pack p y) (place_rises c m e.caller e.object e.op admits)
 
 pub other_word : (m : System) (e : Entry) (q : Object) → q ≢ e.object → word_at (next m e) q ≡ word_at m q
@@ -142,7 +155,8 @@ pub told_latch : (c : Setup) (k : ℕ) (h : List Entry) (e : Entry) (op : LatchO
 told_latch c k h e op who there is =
     told_from-append (opening c) k h (e ∷ [])
     ∙ ap (λ ws. told c k h ++ (ws ++ []))
-    ((λ i. told_at (after c h) k (who i) (there i) (is i)) ∙ ap (λ b. cond b (wakes k op (after c h).latches.state ∷ []) []) (eq-eqb k k refl))
+    ((λ i. told_at (after c h) k (who i) (there i) (is i)) ∙ ap (λ b. cond b (wakes k op (after c h).latches.state ∷ []) [])
+    (eq-eqb k k refl))
 
 told_nothing_from : (m : System) (k : ℕ) (h : List Entry) → of k h ≡ [] → told_from m k h ≡ []
 told_nothing_from m k [] z = refl
@@ -156,11 +170,18 @@ pub told_nothing : (c : Setup) (k : ℕ) (h : List Entry) → of k h ≡ [] → 
 told_nothing c k h z = told_nothing_from (opening c) k h z
 
 -- where a caller has an event left, there is room for one more
-pub room : (c : Setup) (h : List Entry) (k : ℕ) → IsValid c → Legal c h → KeepsBudgets c h → k < c.callers → length (of k h) < get_or c.budgets k 0
-    → length h + 1 ≤ 524287
+pub room : (c : Setup) (h : List Entry) (k : ℕ) → IsValid c → Legal c h → KeepsBudgets c h → k < c.callers
+    → length (of k h) < get_or c.budgets k 0
+    → length h + 1 ≤ events_limit
 room c h k v l keeps lt left =
     let m : System = after c h in
-    let e : Entry = record { caller = k; object = Volume 0; place = place_of m (Volume 0); op = op_on.Volume Read; reply = reply_of.Volume (volume_step Read (m.volume 0).state).1 } in
+    let e : Entry = record {
+      caller = k;
+      object = Volume 0;
+      place = place_of m (Volume 0);
+      op = op_on.Volume Read;
+      reply = reply_of.Volume (volume_step Read (m.volume 0).state).1;
+    } in
     let some : 1 ≤ c.volumes = (volumes_kept c v).0 in
     let n : IsNext c m e = record { admits = rw (lt-ltb k c.callers lt, lt-ltb 0 c.volumes some) refl; place = refl; reply = refl } in
     let more : KeepsBudgets c (h ++ e ∷ []) = (λ j small. dite (ℕ_discrete k j)
@@ -211,14 +232,21 @@ ready_next c h e k (watch.Latch latch id) l stays r = (
 )
 
 -- what is ready goes by where the history leads, and by the caller's part of it
-pub ready_same : (c : Setup) (h g : List Entry) (k : ℕ) (w : Watch) → after c g ≡ after c h → of k g ≡ of k h → IsReady c h k w → IsReady c g k w
+pub ready_same : (c : Setup) (h g : List Entry) (k : ℕ) (w : Watch) → after c g ≡ after c h → of k g ≡ of k h → IsReady c h k w
+    → IsReady c g k w
 ready_same c h g k (watch.Ecb n) leads part r = (r.0, r.1, subst (λ (m : System). is_complete (m.ecb n).state ≡ true) (sym leads) r.2)
-ready_same c h g k (watch.Element n) leads part r = (r.0, r.1, subst (λ (m : System). is_released (m.element n).state.phase ≡ true) (sym leads) r.2)
+ready_same c h g k (watch.Element n) leads part r = (
+  r.0,
+  r.1,
+  subst (λ (m : System). is_released (m.element n).state.phase ≡ true)
+      (sym leads) r.2,
+)
 ready_same c h g k (watch.Latch latch id) leads part r =
     (subst (λ z. HasMade latch id z) (sym part) r.0, subst (λ m. IsGranted k latch id m ⊎ IsGone k latch id m) (sym leads) r.1)
 
 -- so the word of a listed watch's object shows it
-pub ready_state : (c : Setup) (h : List Entry) (k : ℕ) (o : Object) (w : Watch) (x : WordState) → state_at (after c h) o ≡ Some x → watch_of o ≡ Some w → IsReady c h k w
+pub ready_state : (c : Setup) (h : List Entry) (k : ℕ) (o : Object) (w : Watch) (x : WordState) → state_at (after c h) o ≡ Some x
+    → watch_of o ≡ Some w → IsReady c h k w
     → is_ready x ≡ true
 ready_state c h k (Ecb n) w x is watched r =
     let s : state.Ecb ((after c h).ecb n).state ≡ x = cc in
@@ -232,7 +260,8 @@ ready_state c h k (Volume n) w x is watched r = absurd (cc watched)
 ready_state c h k Latches w x is watched r = absurd (cc watched)
 
 -- and where it is shown, the owner's watch is ready
-pub state_ready : (c : Setup) (h : List Entry) (k : ℕ) (o : Object) (w : Watch) (x : WordState) → HasWord c o → owner_at c o ≡ Some k → state_at (after c h) o ≡ Some x
+pub state_ready : (c : Setup) (h : List Entry) (k : ℕ) (o : Object) (w : Watch) (x : WordState) → HasWord c o → owner_at c o ≡ Some k
+    → state_at (after c h) o ≡ Some x
     → watch_of o ≡ Some w → is_ready x ≡ true → IsReady c h k w
 state_ready c h k (Ecb n) w x has own is watched ready =
     let s : state.Ecb ((after c h).ecb n).state ≡ x = cc in

@@ -1,5 +1,6 @@
 -- Each step keeps the rule.
-use Rattle.std.proofs.Common.{◌≡◌, ℕ, zero, suc, ◌+◌, ◌/◌, ◌%◌, ◌^◌, ◌<◌, ◌≤◌, ◌==◌, true, List, [], ◌∷◌, ◌++◌, length, set, get_or, Some, sym, refl, ap, ◌∙◌, subst, arith, eq-eqb, ne_eqb}
+use Rattle.std.proofs.Common.{◌≡◌, ℕ, zero, suc, ◌+◌, ◌/◌, ◌%◌, ◌^◌, ◌<◌, ◌≤◌, ◌==◌, true, List, [], ◌∷◌, ◌++◌, length, set, get_or, Some}
+use Rattle.std.proofs.Common.{sym, refl, ap, ◌∙◌, subst, arith, eq-eqb, ne_eqb}
 use Rattle.std.specs.List.{AllByRecursion}
 use mathlib.Core.Logic.{dite}
 use mathlib.Core.Option.{none, some, some-injective, some-ne-none}
@@ -13,6 +14,7 @@ use Rattle.mv_machine.specs.declared.entry.Op.{Op}
 use Rattle.mv_machine.specs.declared.entry.Reply.{Reply}
 use Rattle.mv_machine.specs.Check.{IsValid}
 use Rattle.mv_machine.specs.Kept.{allowed}
+use Rattle.mv_machine.specs.Limits.{events_limit}
 use Rattle.mv_machine.specs.Legal.{after, of}
 use Rattle.mv_machine.specs.Packing.{pack, unpack, state_at}
 use Rattle.mv_machine.specs.Setup.{Setup}
@@ -24,7 +26,8 @@ use Rattle.mv_board.specs.declared.item.Item.TheVariants.{Held, Said}
 use Rattle.mv_board.specs.declared.item.Lists.{Lists}
 use Rattle.mv_board.specs.declared.view.Part.{Part}
 use Rattle.mv_board.specs.declared.view.View.{View}
-use Rattle.mv_board.specs.Rule.{holders_in, holders, tally, made, history_of, IsPart, Knows, IsNamed, ReadyFor, AboutFor, Stands, Ruled, IsLists}
+use Rattle.mv_board.specs.Rule.{holders_in, holders, tally, made, history_of, IsPart, Knows, IsNamed, ReadyFor, AboutFor, Stands, Ruled}
+use Rattle.mv_board.specs.Rule.{IsLists}
 use Rattle.mv_board.specs.Steps.{Looked, Tried, Tested, Made, Meets, entry_of}
 use Rattle.mv_board.specs.View.{fresh, part_logged, with_own, logged, met, cut_left, cut_right, fresh_in, first_view}
 use Rattle.mv_board.specs.Words.{HasWord, word_number, word_count, turn_word, object_of, changed, test_of}
@@ -38,7 +41,8 @@ module _ (c : Setup) (slots id : ℕ) (me : Me Item View) (p : Part) (more : Lis
   -- what the seat learns of its event
   made_here : (s : Table) → Ruled c s → get_elem? s.views id ≡ some me.0 → (o : Object) (op : Op) (place new : ℕ) (reply : Reply)
       → changed o op (get_or s.words (word_number o) 0) ≡ Some (place, new, reply)
-      → Stands c (stepped s (word_number o) new id me.1 (logged (entry_of me.0 o op place reply) [] me.0) keeps) (history_of c s.views ++ entry_of me.0 o op place reply ∷ [])
+      → Stands c (stepped s (word_number o) new id me.1 (logged (entry_of me.0 o op place reply) [] me.0) keeps)
+      (history_of c s.views ++ entry_of me.0 o op place reply ∷ [])
       → Made me.0 o op (get_or s.words (word_number o) 0) (logged (entry_of me.0 o op place reply) [] me.0)
   made_here s r at o op place new reply here st =
       let e : Entry = entry_of me.0 o op place reply in
@@ -48,11 +52,13 @@ module _ (c : Setup) (slots id : ℕ) (me : Me Item View) (p : Part) (more : Lis
         reply = reply;
         change = here;
         view = refl;
-        possible = possible c (stepped s (word_number o) new id me.1 w keeps) (history_of c s.views ++ e ∷ []) st id w (part_logged e [] p) more
+        possible = possible c (stepped s (word_number o) new id me.1 w keeps) (history_of c s.views ++ e ∷ []) st id w
+            (part_logged e [] p) more
             (put_there s.views id me.0 w at) (ap (with_own (part_logged e [])) is);
       }
 
-  pub looks : (o : Object) → HasWord c o → Allows (Ruled c) slots id me (word_number o) (λ n. n) (Looked (step slots (word_number o) 0 0 none) me)
+  pub looks : (o : Object) → HasWord c o → Allows (Ruled c) slots id me (word_number o) (λ n. n)
+      (Looked (step slots (word_number o) 0 0 none) me)
   looks o has s r _ at _ =
       let h : List Entry = history_of c s.views in
       let i : ℕ = word_number o in
@@ -72,7 +78,8 @@ module _ (c : Setup) (slots id : ℕ) (me : Me Item View) (p : Part) (more : Lis
 
   pub happens : (o : Object) (op : Op) (old place new : ℕ) (reply : Reply) → HasWord c o → allowed c p.caller p.log o op ≡ true → 0 < p.left
       → changed o op old ≡ Some (place, new, reply)
-      → Allows (Ruled c) slots id me (word_number o) (λ n. either (n == old) new n) (Tried (step slots (word_number o) old new (some (Said op))) me)
+      → Allows (Ruled c) slots id me (word_number o) (λ n. either (n == old) new n)
+      (Tried (step slots (word_number o) old new (some (Said op))) me)
   happens o op old place new reply has may left change s r _ at _ =
       let h : List Entry = history_of c s.views in
       let i : ℕ = word_number o in
@@ -128,7 +135,7 @@ module _ (c : Setup) (slots id : ℕ) (me : Me Item View) (p : Part) (more : Lis
       let steps = test_steps c m o there.0 has is_state in
       let new : ℕ = pack (q + 1) there.0 in
       let unpacks : unpack o x ≡ Some (q, there.0) = stands_for c s h r id me.0 p more at is o there.0 has is_state in
-      let free : q < 524287 =
+      let free : q < events_limit =
       (let a = has_room c s h r id me.0 p more at is left in let b : q ≤ length h = place_within c h o r.legal in omega arith) in
       let sum : (x + 2 ^ 45) % 2 ^ 64 ≡ new =
       (let a : x ≡ pack q there.0 = r.words o has ∙ word_by_state m o there.0 is_state in
@@ -153,7 +160,8 @@ module _ (c : Setup) (slots id : ℕ) (me : Me Item View) (p : Part) (more : Lis
         },
       )
 
-pub splits : (c : Setup) (id : ℕ) (v : View) → 0 < v.made → v.made < c.callers → v.about ≡ c ∷ [] → Splits (Ruled c) id v (cut_left v) (cut_right v)
+pub splits : (c : Setup) (id : ℕ) (v : View) → 0 < v.made → v.made < c.callers → v.about ≡ c ∷ [] → Splits (Ruled c) id v (cut_left v)
+    (cut_right v)
 splits c id v counts few about s r at =
     let h : List Entry = history_of c s.views in
     let left : View = cut_left v in
@@ -220,7 +228,8 @@ only : (w : View) (P : View → Type 0) → P w → (j : ℕ) (u : View) → get
 only w P here zero u a = subst P (some-injective w u a) here
 only w P here (suc j) u a = absurd (some-ne-none u (sym a))
 
-pub opens : (c : Setup) (words : List ℕ) (l : Lists) → IsValid c → length words ≡ word_count c → ((i : ℕ) → get_or words i 0 ≡ 0) → IsLists c (opening c).latches l
+pub opens : (c : Setup) (words : List ℕ) (l : Lists) → IsValid c → length words ≡ word_count c → ((i : ℕ) → get_or words i 0 ≡ 0)
+    → IsLists c (opening c).latches l
     → Ruled c (opening_state words (Held l ∷ []) (first_view c))
 opens c words l valid wide zeros lists =
     let first : View = first_view c in

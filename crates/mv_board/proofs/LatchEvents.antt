@@ -26,7 +26,8 @@ use Rattle.mv_board.specs.declared.view.View.{View}
 use Rattle.mv_board.specs.Caller.{face_of, IsSeated}
 use Rattle.mv_board.specs.Faces.{CallerFace, HappenedAt, IsAsListed, last_of}
 use Rattle.mv_board.specs.Steps.{PossibleFor, entry_of}
-use Rattle.mv_board.specs.Turn.{MeetsLists, latch_entry, named_by, is_settled}
+use Rattle.mv_latch.specs.Latch.{is_settled}
+use Rattle.mv_board.specs.Turn.{MeetsLists, latch_entry, named_by}
 use Rattle.mv_board.specs.View.{own, first_of, with_own, part_logged, logged, with_turn}
 use Rattle.mv_board.proofs.Logging.{HasAppended, Grew, entry, own_is}
 use Rattle.mv_board.proofs.Logging as logging
@@ -34,29 +35,36 @@ use Rattle.mv_board.proofs.Logging as logging
 -- ---- the lists that were taken
 
 -- the lists in the slot again, while the seat still names those that it took
-pub held_again : (taken back : Me Item View) (v : View) (t : Named) (l : Lists) → taken ≡ (with_turn (t ∷ []) v, (0, Away) ∷ []) → back ≡ (taken.0, (0, Held l) ∷ rest taken.1)
+pub held_again : (taken back : Me Item View) (v : View) (t : Named) (l : Lists) → taken ≡ (with_turn (t ∷ []) v, (0, Away) ∷ [])
+    → back ≡ (taken.0, (0, Held l) ∷ rest taken.1)
     → back ≡ (with_turn (t ∷ []) v, (0, Held l) ∷ [])
 held_again taken back v t l is held = held ∙ ap (λ (m : Me Item View). (m.0, (0, Held l) ∷ rest m.1)) is
 
 -- they admit what the caller's own entries allow
-pub admits_here : (c : Inside) (f : CallerFace) (b : Setup) (op : LatchOp) (l : Lists) → IsSeated c → face_of c ≡ f → f.about ≡ b ∷ [] → MeetsLists c.seat.me.0 l
+pub admits_here : (c : Inside) (f : CallerFace) (b : Setup) (op : LatchOp) (l : Lists) → IsSeated c → face_of c ≡ f → f.about ≡ b ∷ []
+    → MeetsLists c.seat.me.0 l
     → allowed b f.number f.log Latches (op_on.Latch op) ≡ true → latch_admitted c.events.caller op l.latches ≡ true
 admits_here c f b op l h is about m may =
     let all = subst (λ (z : List Part × List Setup). AllByRecursion (λ s. (x : LatchOp)
-    → allowed s (first_of z.0).caller (first_of z.0).log Latches (op_on.Latch x) ≡ true → latch_admitted (first_of z.0).caller x l.latches ≡ true) z.1)
+    → allowed s (first_of z.0).caller (first_of z.0).log Latches (op_on.Latch x) ≡ true → latch_admitted (first_of z.0).caller x l.latches
+    ≡ true) z.1)
     (λ i. (h.parts i, (ap (λ (x : CallerFace). x.about) is ∙ about) i)) m.admits in
     all.0 op (subst (λ (x : CallerFace). allowed b x.number x.log Latches (op_on.Latch op) ≡ true) (sym is) may)
 
 -- and after an operation they are still the configuration's
-pub lists_after : (b : Setup) (v : View) (l : Lists) (new : LatchLists) (k : ℕ) (op : LatchOp) (r : LatchReply) → MeetsLists v l → v.about ≡ b ∷ []
-    → new ≡ record l.latches { lists = new.lists } → ◌≡◌ {A = List (List Request) × LatchReply} (new.lists, r) (latch_step k l.place op l.latches.lists)
+pub lists_after : (b : Setup) (v : View) (l : Lists) (new : LatchLists) (k : ℕ) (op : LatchOp) (r : LatchReply) → MeetsLists v l
+    → v.about ≡ b ∷ []
+    → new ≡ record l.latches { lists = new.lists } → ◌≡◌ {A = List (List Request) × LatchReply} (new.lists, r)
+    (latch_step k l.place op l.latches.lists)
     → new ≡ latches_of b (latch_step k l.place op l.latches.lists).0
 lists_after b v l new k op r m about kept step =
     let set = subst (AllByRecursion (λ s. l.latches ≡ latches_of s l.latches.lists)) about m.set in
-    kept ∙ (ap (λ (z : LatchLists). record z { lists = new.lists }) set.0 ∙ ap (λ (z : List (List Request) × LatchReply). latches_of b z.0) step)
+    kept ∙ (ap (λ (z : LatchLists). record z { lists = new.lists }) set.0
+    ∙ ap (λ (z : List (List Request) × LatchReply). latches_of b z.0) step)
 
 -- a listed request no longer waits in the lists that were taken
-listed_in : (f : CallerFace) (op : LatchOp) (v : View) (l : Lists) (r : LatchReply) → MeetsLists v l → f.ready ≡ v.ready → r ≡ (latch_step (own v).caller l.place op l.latches.lists).1
+listed_in : (f : CallerFace) (op : LatchOp) (v : View) (l : Lists) (r : LatchReply) → MeetsLists v l → f.ready ≡ v.ready
+    → r ≡ (latch_step (own v).caller l.place op l.latches.lists).1
     → IsAsListed f Latches (op_on.Latch op) (reply_of.Latch r)
 listed_in f (Confirm latch id) v l r m ready is = rw ready (λ there. ap is_settled is ∙ m.ready latch id there)
 listed_in f (Obtain latch requestor mode form) v l r m ready is = tt
@@ -78,7 +86,8 @@ grew : (v new : View) (k : ℕ) (op : LatchOp) (l : Lists) (r : LatchReply) → 
     → Grew v Latches (op_on.Latch op) l.place (reply_of.Latch r) (wakes k op l.latches.lists ∷ []) new
 grew v new k op l r alone mine meets view may answer =
     let lists = l.latches.lists in
-    let said : (latch_step (own v).caller l.place op lists).1 ≡ r = ap (λ z. (latch_step z l.place op lists).1) mine ∙ sym answer in record {
+    let said : (latch_step (own v).caller l.place op lists).1 ≡ r = ap (λ z. (latch_step z l.place op lists).1) mine ∙ sym answer in
+    record {
       above = meets.above;
       more = [];
       parts = ap (λ (u : View). u.parts) view
@@ -92,8 +101,10 @@ grew v new k op l r alone mine meets view may answer =
       possible = may;
     }
 
-module _ (c d : Inside) (op : LatchOp) (l : Lists) (r : LatchReply) (h : IsSeated c) (left : 0 < c.events.left) (meets : MeetsLists c.seat.me.0 l)
-    (view : d.seat.me.0 ≡ with_turn [] (logged (latch_entry c.seat.me.0 op (named_by l)) (wakes (own c.seat.me.0).caller op l.latches.lists ∷ []) c.seat.me.0))
+module _ (c d : Inside) (op : LatchOp) (l : Lists) (r : LatchReply) (h : IsSeated c) (left : 0 < c.events.left)
+    (meets : MeetsLists c.seat.me.0 l)
+    (view : d.seat.me.0 ≡ with_turn []
+    (logged (latch_entry c.seat.me.0 op (named_by l)) (wakes (own c.seat.me.0).caller op l.latches.lists ∷ []) c.seat.me.0))
     (may : PossibleFor d.seat.me.0) (answer : r ≡ (latch_step c.events.caller l.place op l.latches.lists).1)
     (appended : HasAppended c d (entry c Latches (op_on.Latch op) l.place (reply_of.Latch r)))
     (showed : d.events.wakes.items ≡ wakes c.events.caller op l.latches.lists) where
@@ -124,4 +135,5 @@ module _ (c d : Inside) (op : LatchOp) (l : Lists) (r : LatchReply) (h : IsSeate
   possible = logging.possible c d Latches (op_on.Latch op) l.place (reply_of.Latch r) (shown ∷ []) h left behind appended
 
   pub as_listed : IsAsListed (face_of c) Latches (op_on.Latch op) (reply_of.Latch r)
-  as_listed = listed_in (face_of c) op c.seat.me.0 l r meets refl (answer ∙ ap (λ (ps : List Part). (latch_step (first_of ps).caller l.place op l.latches.lists).1) (sym h.parts))
+  as_listed = listed_in (face_of c) op c.seat.me.0 l r meets refl
+      (answer ∙ ap (λ (ps : List Part). (latch_step (first_of ps).caller l.place op l.latches.lists).1) (sym h.parts))

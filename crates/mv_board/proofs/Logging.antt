@@ -91,7 +91,8 @@ pub record Grew (v : View) (o : Object) (op : Op) (place : ℕ) (reply : Reply) 
   pub ready : new.ready ≡ off o op v.ready
   pub possible : PossibleFor new
 
-module _ (c d : Inside) (o : Object) (op : Op) (place : ℕ) (reply : Reply) (shown : List (List Wake)) (h : IsSeated c) (left : 0 < c.events.left)
+module _ (c d : Inside) (o : Object) (op : Op) (place : ℕ) (reply : Reply) (shown : List (List Wake)) (h : IsSeated c)
+    (left : 0 < c.events.left)
     (grew : Grew c.seat.me.0 o op place reply shown d.seat.me.0) (more : HasAppended c d (entry c o op place reply)) where
   -- the parts of the view behind it
   parts_after : d.seat.me.0.parts ≡ record {
@@ -103,7 +104,8 @@ module _ (c d : Inside) (o : Object) (op : Op) (place : ℕ) (reply : Reply) (sh
   } ∷ []
   parts_after =
       grew.parts
-      ∙ ap (λ (p : Part). part_logged record { caller = p.caller; object = o; place = place; op = op; reply = reply } shown (seeing grew.more p) ∷ [])
+      ∙ ap (λ (p : Part). part_logged record { caller = p.caller; object = o; place = place; op = op; reply = reply } shown
+      (seeing grew.more p) ∷ [])
       (ap first_of h.parts)
 
   pub told_after : (own d.seat.me.0).told ≡ (own c.seat.me.0).told ++ shown
@@ -150,9 +152,11 @@ module _ (c d : Inside) (o : Object) (op : Op) (place : ℕ) (reply : Reply) (sh
     parts = parts_again;
     turn = grew.turn;
     room = (let n = one_longer in let cap = more.capacity in let r = h.room in let less = more.left in omega arith);
-    wakes = subst (λ (z : List Setup × ℕ). AllByRecursion (λ (s : Setup). s.callers * s.quota ≤ z.1) z.0) (λ i. (sym grew.about i, sym more.room i)) h.wakes;
+    wakes = subst (λ (z : List Setup × ℕ). AllByRecursion (λ (s : Setup). s.callers * s.quota ≤ z.1) z.0)
+        (λ i. (sym grew.about i, sym more.room i)) h.wakes;
     shown = wakes ∙ ap last_of (sym told_after);
-    exists = subst (λ (z : List Setup × ℕ). AllByRecursion (λ (s : Setup). z.1 < s.callers) z.0) (λ i. (sym grew.about i, sym more.caller i)) h.exists;
+    exists = subst (λ (z : List Setup × ℕ). AllByRecursion (λ (s : Setup). z.1 < s.callers) z.0)
+        (λ i. (sym grew.about i, sym more.caller i)) h.exists;
     few = (let less = more.left in let f = h.few in omega arith);
   }
 

@@ -12,7 +12,7 @@ use Rattle.mv_board.specs.declared.view.Sight.{Sight}
 use Rattle.mv_board.specs.declared.view.View.{View}
 use Rattle.mv_board.specs.declared.watch.Watch.{Watch}
 use Rattle.mv_board.specs.declared.watch.Watch.TheVariants as watch
-use Rattle.mv_board.specs.Parked.{parked}
+use Rattle.mv_machine.specs.Parked.{parked}
 use Rattle.mv_board.specs.Steps.{Meets, Made, LooksOn, MadeAfterLooks}
 use Rattle.mv_board.specs.View.{own, first_of, with_own, part_met, met, logged}
 use Rattle.mv_board.specs.Words.{changed}
@@ -39,7 +39,12 @@ look_more v w o x is l =
     ap (λ ps. with_own (part_met o x) (with_own (seeing l.more) ps)) is
     ∙ (ap (λ (ss : List Sight). record (own v) { sights = ss } ∷ []) (append_assoc (own v).sights l.more (s ∷ []))
     ∙ sym (ap (with_own (seeing all)) is)) in
-    record { more = all; there = all_append (λ y. (y.object ≡ o) × (y.after ≡ length (own v).log)) l.more (s ∷ []) l.there ((refl, refl), tt); view = ap (met o x) l.view ∙ ap (λ (ps : List Part). record v { parts = ps }) parts }
+    record {
+      more = all;
+      there = all_append (λ y. (y.object ≡ o) × (y.after ≡ length (own v).log)) l.more (s ∷ []) l.there
+          ((refl, refl), tt);
+      view = ap (met o x) l.view ∙ ap (λ (ps : List Part). record v { parts = ps }) parts;
+    }
 
 -- the own part but what it met
 pub own_kept : (v w : View) (o : Object) → v.parts ≡ own v ∷ [] → (l : LooksOn v o w) → own w ≡ seeing l.more (own v)
@@ -63,7 +68,8 @@ meets_still v w o x is l m =
       above = subst (λ (p : Part). IsBelow o m.place p.log) same m.above;
       room = λ some. m.room (omega arith);
       ready = λ y of listed. m.ready y of (subst (λ (ws : List Watch). Contains ws y) (sym ready) listed);
-      pause = λ n g s of is listed parks. m.pause n g s of is (subst (λ (ws : List Watch). Contains ws (watch.Element n)) (sym ready) listed)
+      pause = λ n g s of is listed parks. m.pause n g s of is
+          (subst (λ (ws : List Watch). Contains ws (watch.Element n)) (sym ready) listed)
           (ap (λ (p : Part). parked n p.log) same ∙ parks);
     }
 
@@ -71,7 +77,8 @@ meets_still v w o x is l m =
 
 -- it has the place and the reply that were computed of the word
 unfoldable pub after_looks : (v between new : View) (o : Object) (op : Op) (w place next : ℕ) (reply : Reply) → v.parts ≡ own v ∷ []
-    → LooksOn v o between → Meets v o w → Made between o op w new → changed o op w ≡ Some (place, next, reply) → MadeAfterLooks v o op place reply new
+    → LooksOn v o between → Meets v o w → Made between o op w new → changed o op w ≡ Some (place, next, reply)
+    → MadeAfterLooks v o op place reply new
 after_looks v between new o op w place next reply is l m made e =
     let a : ℕ × ℕ × Reply = (made.place, made.word, made.reply) in
     let b : ℕ × ℕ × Reply = (place, next, reply) in

@@ -1,5 +1,6 @@
 -- The few facts of the machine that the board's proofs cite.
-use Rattle.std.proofs.Common.{◌≡◌, ◌≢◌, ℕ, ◌+◌, ◌*◌, ◌/◌, ◌%◌, ◌^◌, ◌<◌, ◌≤◌, true, List, [], length, Option, Some, None, option_map, refl, sym, ap, ◌∙◌, subst, arith}
+use Rattle.std.proofs.Common.{◌≡◌, ◌≢◌, ℕ, ◌+◌, ◌*◌, ◌/◌, ◌%◌, ◌^◌, ◌<◌, ◌≤◌, true, List, [], length, Option, Some, None, option_map}
+use Rattle.std.proofs.Common.{refl, sym, ap, ◌∙◌, subst, arith}
 use Rattle.std.proofs.lemmas.Bool.{le-leb}
 use Rattle.std.proofs.lemmas.Bool.Decides.{nat_tests}
 use Rattle.mv_machine.specs.declared.entry.Entry.{Entry}
@@ -85,13 +86,16 @@ same_word (Element n) s t same = ap (λ z. pack z.place (state.Element z.state))
 same_word (Volume n) s t same = ap (λ z. pack z.place (state.Volume z.state)) same
 same_word Latches s t same = refl
 
-pub fitting : (c : Setup) (es : List Entry) (o : Object) (x : WordState) → Legal c es → state_at (after c es) o ≡ Some x → fits (place_of (after c es) o) x ≡ true
-fitting c es (Ecb n) x l e = let y : state.Ecb ((after c es).ecb n).state ≡ x = cc in subst (λ z. fits ((after c es).ecb n).place z ≡ true) y refl
+pub fitting : (c : Setup) (es : List Entry) (o : Object) (x : WordState) → Legal c es → state_at (after c es) o ≡ Some x
+    → fits (place_of (after c es) o) x ≡ true
+fitting c es (Ecb n) x l e = let y : state.Ecb ((after c es).ecb n).state ≡ x = cc in
+    subst (λ z. fits ((after c es).ecb n).place z ≡ true) y refl
 fitting c es (Element n) x l e =
     let y : state.Element ((after c es).element n).state ≡ x = cc in
     let f : FitsItsPlace ((after c es).element n) = generation_fits c es n l in
     subst (λ z. fits ((after c es).element n).place z ≡ true) y (le-leb _ _ f)
-fitting c es (Volume n) x l e = let y : state.Volume ((after c es).volume n).state ≡ x = cc in subst (λ z. fits ((after c es).volume n).place z ≡ true) y refl
+fitting c es (Volume n) x l e = let y : state.Volume ((after c es).volume n).state ≡ x = cc in
+    subst (λ z. fits ((after c es).volume n).place z ≡ true) y refl
 fitting c es Latches x l e = absurd (cc e)
 
 pub zero_words : (c : Setup) (o : Object) → word_at (after c []) o ≡ 0
@@ -110,7 +114,8 @@ pub place_within : (c : Setup) (es : List Entry) (o : Object) → Legal c es →
 place_within c es o l = omega (arith, place_bounded c (opening c) es o l, zero_places c o)
 
 -- the place that a word stands for
-place_above : (w q : ℕ) (x : WordState) (found : Option WordState) → option_map {U = ℕ × WordState} (λ s. (w / 2 ^ 45, s)) found ≡ Some (q, x) → w / 2 ^ 45 ≡ q
+place_above : (w q : ℕ) (x : WordState) (found : Option WordState) → option_map {U = ℕ × WordState} (λ s. (w / 2 ^ 45, s)) found ≡ Some
+    (q, x) → w / 2 ^ 45 ≡ q
 place_above w q x None e = absurd (cc e)
 place_above w q x (Some s) e = let t : ◌≡◌ {A = ℕ × WordState} (w / 2 ^ 45, s) (q, x) = cc e in ap (λ (z : ℕ × WordState). z.0) t
 

@@ -1,5 +1,6 @@
 -- What stands after a seat's move on a word: its caller's event, or a look.
-use Rattle.std.proofs.Common.{◌≡◌, ◌≢◌, ℕ, ◌<◌, true, List, [], ◌∷◌, ◌++◌, length, set, get_or, Some, sym, refl, ap, ◌∙◌, subst, arith, length-append, length-set, append-nil, IsSome, get_or-set_same, get_or-set_other}
+use Rattle.std.proofs.Common.{◌≡◌, ◌≢◌, ℕ, ◌<◌, true, List, [], ◌∷◌, ◌++◌, length, set, get_or, Some, sym, refl, ap, ◌∙◌, subst, arith}
+use Rattle.std.proofs.Common.{length-append, length-set, append-nil, IsSome, get_or-set_same, get_or-set_other}
 use Rattle.std.specs.List.{AllByRecursion}
 use mathlib.Core.Logic.{dite}
 use mathlib.Core.Option.{some}
@@ -30,17 +31,22 @@ use Rattle.mv_board.specs.Rule.{holders_in, made, IsPart, Turns, IsReady, ReadyF
 use Rattle.mv_board.specs.Steps.{entry_of}
 use Rattle.mv_board.specs.View.{first_of, part_logged, part_met, with_own, takes_off, off, logged, met}
 use Rattle.mv_board.specs.Words.{HasWord, word_number, turn_word, changed}
-use Rattle.mv_board.proofs.Events.{changed_parts, event_is_next, event_word, other_word, latches_stay, of_longer_mine, of_longer_other, told_away, told_else, ready_next}
+use Rattle.mv_board.proofs.Events.{changed_parts, event_is_next, event_word, other_word, latches_stay, of_longer_mine, of_longer_other}
+use Rattle.mv_board.proofs.Events.{told_away, told_else, ready_next}
 use Rattle.mv_board.proofs.Machine.{one_number, not_turn, in_table, no_latches, state_there}
 use Rattle.mv_board.proofs.Standing.{Table, logs_put, turn_put, mine, mine_ready, mine_about, caller_made, alone, apart, short, stands_for}
 use Rattle.mv_board.proofs.Views.{all_map, all_append, all_without, each_put, holders_mine, parts_apart}
 
 module _ (c : Setup) where
-  module _ (s : Table) (h : List Entry) (r : Stands c s h) (id : ℕ) (v : View) (p : Part) (more : List Part) (at : get_elem? s.views id ≡ some v) (is : v.parts ≡ p ∷ more) where
-    pub idle_view : (w : View) (q : Part) → w.parts ≡ q ∷ more → (j : ℕ) (u : View) → get_elem? (set s.views id w) j ≡ some u → u.parts ≡ [] → u.turn ≡ []
-    idle_view w q ps = each_put s.views id w (λ u. u.parts ≡ [] → u.turn ≡ []) (λ none. absurd (cc (sym none ∙ ps))) (λ j u n a. r.idle j u a)
+  module _ (s : Table) (h : List Entry) (r : Stands c s h) (id : ℕ) (v : View) (p : Part) (more : List Part)
+      (at : get_elem? s.views id ≡ some v) (is : v.parts ≡ p ∷ more) where
+    pub idle_view : (w : View) (q : Part) → w.parts ≡ q ∷ more → (j : ℕ) (u : View) → get_elem? (set s.views id w) j ≡ some u
+        → u.parts ≡ [] → u.turn ≡ []
+    idle_view w q ps = each_put s.views id w (λ u. u.parts ≡ [] → u.turn ≡ []) (λ none. absurd (cc (sym none ∙ ps)))
+        (λ j u n a. r.idle j u a)
 
-    pub about_view : (w : View) (q : Part) → w.parts ≡ q ∷ more → w.about ≡ v.about → (j : ℕ) (u : View) → get_elem? (set s.views id w) j ≡ some u → AboutFor c u.parts u.about
+    pub about_view : (w : View) (q : Part) → w.parts ≡ q ∷ more → w.about ≡ v.about → (j : ℕ) (u : View)
+        → get_elem? (set s.views id w) j ≡ some u → AboutFor c u.parts u.about
     about_view w q ps same = each_put s.views id w (λ u. AboutFor c u.parts u.about)
         (subst (λ (z : List Part). AboutFor c z w.about) (sym ps) (same ∙ mine_about c s h r id v p more at is))
         (λ j u n a. r.about j u a)
@@ -80,12 +86,14 @@ module _ (c : Setup) where
             counted = subst (λ n. 0 < n → n ≡ made s.views) (sym same_made) (r.logs.known id v at).counted;
             parts = subst (AllByRecursion (IsPart c (h ++ e ∷ []))) (sym q) (
               part_mine left,
-              parts_apart (IsPart c h) (IsPart c (h ++ e ∷ [])) p.caller more (alone c s h r id v p more at is) part_over (mine c s h r id v p more at is).1,
+              parts_apart (IsPart c h) (IsPart c (h ++ e ∷ [])) p.caller more (alone c s h r id v p more at is) part_over
+                  (mine c s h r id v p more at is).1,
             );
           }
           (λ j u n a. let y = r.logs.known j u a in record {
             counted = y.counted;
-            parts = parts_apart (IsPart c h) (IsPart c (h ++ e ∷ [])) p.caller u.parts (apart c s h r id v p more at is j u a n) part_over y.parts;
+            parts = parts_apart (IsPart c h) (IsPart c (h ++ e ∷ [])) p.caller u.parts (apart c s h r id v p more at is j u a n) part_over
+                y.parts;
           })
 
       ready_over : (ps : List Part) (ws : List Watch) → holders_in p.caller ps ≡ 0 → ReadyFor c h ps ws → ReadyFor c (h ++ e ∷ []) ps ws
@@ -95,7 +103,8 @@ module _ (c : Setup) where
           all_map (IsReady c h x.caller) (IsReady c (h ++ e ∷ []) x.caller) ws
           (λ w y. ready_next c h e x.caller w legal (λ z. absurd (other (sym z ∙ who))) y) a
 
-      pub ready_event : w.ready ≡ off e.object e.op v.ready → (j : ℕ) (u : View) → get_elem? (set s.views id w) j ≡ some u → ReadyFor c (h ++ e ∷ []) u.parts u.ready
+      pub ready_event : w.ready ≡ off e.object e.op v.ready → (j : ℕ) (u : View) → get_elem? (set s.views id w) j ≡ some u
+          → ReadyFor c (h ++ e ∷ []) u.parts u.ready
       ready_event taken =
           each_put s.views id w (λ u. ReadyFor c (h ++ e ∷ []) u.parts u.ready)
           (subst (λ (z : List Part × List Watch). ReadyFor c (h ++ e ∷ []) z.0 z.1) (λ i. (sym q i, sym taken i))
@@ -105,7 +114,8 @@ module _ (c : Setup) where
 
     -- on a word
     happen : (e : Entry) (new : ℕ) (cs : List (ℕ × Item)) → 0 < p.left → e.caller ≡ p.caller → HasWord c e.object → IsNext c (after c h) e
-        → new ≡ word_at (next (after c h) e) e.object → Stands c (stepped s (word_number e.object) new id cs (logged e [] v) keeps) (h ++ e ∷ [])
+        → new ≡ word_at (next (after c h) e) e.object → Stands c (stepped s (word_number e.object) new id cs (logged e [] v) keeps)
+        (h ++ e ∷ [])
     happen e new cs left who has is_next is_new =
         let w : View = logged e [] v in
         let q : w.parts ≡ part_logged e [] p ∷ more = ap (with_own (part_logged e [])) is in
@@ -128,7 +138,8 @@ module _ (c : Setup) where
               ∙ (r.words o there ∙ (sym (other_word (after c h) e o other) ∙ ap (λ m. word_at m o) (sym leads))));
           turn =
               let set_stays : Cell (List (List Request)) = (after c h).latches in
-              let same : (after c g).latches ≡ (after c h).latches = ap (λ (m : System). m.latches) leads ∙ latches_stay (after c h) e away in
+              let same : (after c g).latches ≡ (after c h).latches = ap (λ (m : System). m.latches) leads
+              ∙ latches_stay (after c h) e away in
               subst (λ (z : Cell (List (List Request)) × ℕ). Turns c z.0 z.1 s.homes (set s.views id w))
               (λ k. (sym same k, sym (get_or-set_other s.words i turn_word new 0 turn) k))
               (turn_put c (after c h).latches (get_or s.words turn_word 0) s.homes s.views id v w r.turn at refl);
@@ -138,14 +149,17 @@ module _ (c : Setup) where
         }
 
     -- an operation that the machine admits is one
-    pub event : (o : Object) (op : Op) (place new : ℕ) (reply : Reply) (cs : List (ℕ × Item)) → HasWord c o → admitted c (after c h) p.caller o op ≡ true → 0 < p.left
+    pub event : (o : Object) (op : Op) (place new : ℕ) (reply : Reply) (cs : List (ℕ × Item)) → HasWord c o
+        → admitted c (after c h) p.caller o op ≡ true → 0 < p.left
         → changed o op (get_or s.words (word_number o) 0) ≡ Some (place, new, reply)
-        → Stands c (stepped s (word_number o) new id cs (logged (entry_of v o op place reply) [] v) keeps) (h ++ entry_of v o op place reply ∷ [])
+        → Stands c (stepped s (word_number o) new id cs (logged (entry_of v o op place reply) [] v) keeps)
+        (h ++ entry_of v o op place reply ∷ [])
     event o op place new reply cs has admits left change =
         let e : Entry = entry_of v o op place reply in
         let who : e.caller ≡ p.caller = ap (λ ps. (first_of ps).caller) is in
         let x = state_there c (after c h) o has in
-        let parts = changed_parts o op (get_or s.words (word_number o) 0) (place_of (after c h) o) x.0 place new reply (stands_for c s h r id v p more at is o x.0 has x.1) change in
+        let parts = changed_parts o op (get_or s.words (word_number o) 0) (place_of (after c h) o) x.0 place new reply
+        (stands_for c s h r id v p more at is o x.0 has x.1) change in
         let may : admitted c (after c h) e.caller o op ≡ true = subst (λ k. admitted c (after c h) k o op ≡ true) (sym who) admits in
         happen e new cs left who has
         (event_is_next c (after c h) e x.0 parts.1.state may x.1 parts.1.steps parts.0)
@@ -153,7 +167,8 @@ module _ (c : Setup) where
 
     -- ---- a step that changes no word, and of the view what the seat met and what is listed alone
 
-    pub find : (o : Object) (cs : List (ℕ × Item)) (w : View) → HasWord c o → w.parts ≡ part_met o (get_or s.words (word_number o) 0) p ∷ more → w.made ≡ v.made
+    pub find : (o : Object) (cs : List (ℕ × Item)) (w : View) → HasWord c o → w.parts ≡ part_met o
+        (get_or s.words (word_number o) 0) p ∷ more → w.made ≡ v.made
         → w.turn ≡ v.turn → w.about ≡ v.about → AllByRecursion (IsReady c h p.caller) w.ready
         → Stands c (stepped s (word_number o) (get_or s.words (word_number o) 0) id cs w keeps) h
     find o cs w has q same_made same_turn same_about lists =
@@ -164,7 +179,8 @@ module _ (c : Setup) where
         let now : Had c h p.caller (length p.log) o x =
         subst (λ (z : ℕ × ℕ). Had c h p.caller z.0 o z.1) (λ k. (ap length (sym y.logged) k, sym (r.words o has) k))
         (had_now c h p.caller o r.legal (short c s h r id v p more at is) (subst (λ z. IsSome z) (sym there.1) refl)) in
-        subst (λ (z : List ℕ). Stands c record { words = z; homes = s.homes; views = set s.views id w } h) (sym (set-get_or s.words i 0)) record {
+        subst (λ (z : List ℕ). Stands c record { words = z; homes = s.homes; views = set s.views id w } h)
+        (sym (set-get_or s.words i 0)) record {
           valid = r.valid;
           legal = r.legal;
           logs = logs_put c s.views h h id v w r.logs at (λ k. ap (holders_in k) q ∙ ap (holders_in k) (sym is)) same_made r.logs.unmade
@@ -184,7 +200,8 @@ module _ (c : Setup) where
           wide = r.wide;
           words = r.words;
           turn = turn_put c (after c h).latches (get_or s.words turn_word 0) s.homes s.views id v w r.turn at same_turn;
-          ready = each_put s.views id w (λ u. ReadyFor c h u.parts u.ready) (subst (λ (z : List Part). ReadyFor c h z w.ready) (sym q) lists)
+          ready = each_put s.views id w (λ u. ReadyFor c h u.parts u.ready)
+              (subst (λ (z : List Part). ReadyFor c h z w.ready) (sym q) lists)
               (λ j u n a. r.ready j u a);
           about = about_view w (part_met o x p) q same_about;
           idle = idle_view w (part_met o x p) q;

@@ -22,13 +22,13 @@ use Rattle.mv_machine.specs.declared.entry.Reply.TheVariants as reply_of
 use Rattle.mv_machine.specs.Legal.{IsNext, LegalFrom, Legal, after, after_from, next, of}
 use Rattle.mv_machine.specs.Owned.{owner_at}
 use Rattle.mv_machine.specs.Setup.{Setup, element_owner}
-use Rattle.mv_machine.specs.System.{System, Cell, opening, moved, turned}
+use Rattle.mv_machine.specs.System.{System, Cell, opening, moved, advanced}
 use Rattle.mv_machine.proofs.EntryRuns.{entry_of}
 use Rattle.mv_machine.proofs.Histories.{with_at-same, with_at-other}
 use Rattle.mv_machine.proofs.Owners.{made_by_owner}
 use Rattle.mv_machine.proofs.Places.{of_mine, of_other}
-use Rattle.mv_board.specs.Parked.{parked_by, parked_from, parked}
-use Rattle.mv_board.specs.Rule.{is_released}
+use Rattle.mv_machine.specs.Parked.{parked_by, parked_from, parked}
+use Rattle.mv_element.specs.Element.{is_released}
 
 -- a pause is on, and may be released
 abbrev is_on : Phase → Bool
@@ -49,7 +49,8 @@ is_pause x = false
 was_on : (x : ElementOp) (z : ElementState) → is_pause x ≡ false → is_on (element_step x z).0.phase ≡ true → is_on z.phase ≡ true
 was_on x z other on = grind arith
 
-same_pause : (x : ElementOp) (z : ElementState) → is_pause x ≡ false → is_on (element_step x z).0.phase ≡ true → (element_step x z).0.generation ≡ z.generation
+same_pause : (x : ElementOp) (z : ElementState) → is_pause x ≡ false → is_on (element_step x z).0.phase ≡ true
+    → (element_step x z).0.generation ≡ z.generation
 same_pause x z other on = grind arith
 
 parks_at : (g : ℕ) (z : ElementState) → (element_step (Pause g) z).1 ≡ Parked → (element_step (Pause g) z).0.generation ≡ g
@@ -76,7 +77,8 @@ passes n m last (Pause g) (reply_of.Element Parked) other = rw (ne_eqb m n other
 passes n m last (Pause g) r other = rw (ne_eqb m n other) refl
 passes n m last x r other = refl
 
-event_tells : (c : Setup) (s : System) (n : ℕ) (last : Option ℕ) (k : ℕ) (o : Object) (p : ℕ) (op : Op) (r : Reply) → IsNext c s (entry_of k o p op r)
+event_tells : (c : Setup) (s : System) (n : ℕ) (last : Option ℕ) (k : ℕ) (o : Object) (p : ℕ) (op : Op) (r : Reply)
+    → IsNext c s (entry_of k o p op r)
     → Tells last (s.element n).state → Tells (parked_by n last o op r) ((moved s k o op).element n).state
 event_tells c s n last k (Element m) p (op_on.Element x) r h t = elim (cases_eq n m) [
   | inl same ↦
@@ -84,12 +86,18 @@ event_tells c s n last k (Element m) p (op_on.Element x) r h t = elim (cases_eq 
       ap (λ z. reply_of.Element (element_step x (s.element z).state).1) same ∙ cc (h.reply) in
       let state : (element_step x (s.element n).state).0 ≡ ((moved s k (Element m) (op_on.Element x)).element n).state =
       ap (λ z. (element_step x (s.element z).state).0) same
-      ∙ sym (ap (λ (y : Cell ElementState). y.state) (with_at-same s.element m (turned (s.element m) (element_step x (s.element m).state).0) n same)) in
-      subst (λ (z : Object × Reply × ElementState). Tells (parked_by n last z.0 (op_on.Element x) z.1) z.2) (λ i. (Element (same i), reply i, state i))
+      ∙ sym (ap (λ (y : Cell ElementState). y.state)
+      (with_at-same s.element m (advanced (s.element m) (element_step x (s.element m).state).0) n same)) in
+      subst (λ (z : Object × Reply × ElementState). Tells (parked_by n last z.0 (op_on.Element x) z.1) z.2)
+      (λ i. (Element (same i), reply i, state i))
       (step_tells n last x (s.element n).state t)
   | inr other ↦
       subst (λ (z : Option ℕ × Cell ElementState). Tells z.0 z.1.state)
-      (λ i. (sym (passes n m last x r (λ z. other (sym z))) i, sym (with_at-other s.element m (turned (s.element m) (element_step x (s.element m).state).0) n other) i)) t
+      (λ i. (
+        sym (passes n m last x r (λ z. other (sym z))) i,
+        sym
+            (with_at-other s.element m (advanced (s.element m) (element_step x (s.element m).state).0) n other) i,
+      )) t
 ]
 event_tells c s n last k (Ecb m) p (op_on.Ecb x) r h t = t
 event_tells c s n last k (Volume m) p (op_on.Volume x) r h t = t
@@ -97,7 +105,8 @@ event_tells c s n last k Latches p (op_on.Latch x) r h t = t
 event_tells c s n last k o p op r h t = absurd (false≢true h.admits)
 
 -- none but the owner pauses it
-others_pass : (c : Setup) (s : System) (n : ℕ) (last : Option ℕ) (k : ℕ) (o : Object) (p : ℕ) (op : Op) (r : Reply) → IsNext c s (entry_of k o p op r)
+others_pass : (c : Setup) (s : System) (n : ℕ) (last : Option ℕ) (k : ℕ) (o : Object) (p : ℕ) (op : Op) (r : Reply)
+    → IsNext c s (entry_of k o p op r)
     → k ≢ element_owner c n → parked_by n last o op r ≡ last
 others_pass c s n last k (Element m) p (op_on.Element (Pause g)) r h not_owner = elim (cases_eq m n) [
   | inl same ↦
@@ -110,7 +119,8 @@ others_pass c s n last k o p op r h not_owner = refl
 
 -- ---- a history
 
-along_tells : (c : Setup) (n k : ℕ) (s : System) (es : List Entry) (last : Option ℕ) → element_owner c n ≡ k → LegalFrom c s es → Tells last (s.element n).state
+along_tells : (c : Setup) (n k : ℕ) (s : System) (es : List Entry) (last : Option ℕ) → element_owner c n ≡ k → LegalFrom c s es
+    → Tells last (s.element n).state
     → Tells (parked_from n last (of k es)) ((after_from s es).element n).state
 along_tells c n k s [] last own l t = t
 along_tells c n k s (e ∷ es) last own l t =
@@ -131,4 +141,5 @@ released_on x is = absurd (false≢true is)
 pub released_pause : (c : Setup) (h : List Entry) (k n g : ℕ) → Legal c h → element_owner c n ≡ k → parked n (of k h) ≡ Some g
     → is_released ((after c h).element n).state.phase ≡ true → ((after c h).element n).state.generation ≡ g
 released_pause c h k n g l own parks released =
-    along_tells c n k (opening c) h None own l (λ m none on. absurd (cc none)) g parks (released_on ((after c h).element n).state.phase released)
+    along_tells c n k (opening c) h None own l (λ m none on. absurd (cc none)) g parks
+    (released_on ((after c h).element n).state.phase released)

@@ -1,7 +1,8 @@
 -- What a look for what is ready makes of a caller.
-use Rattle.std.proofs.Common.{◌<◌, ◌≡◌, ◌≤◌, ℕ, ◌*◌, ◌-◌, Bool, true, false, Some, List, [], ◌∷◌, ◌++◌, length, vec_capacity, refl, sym, ap, ◌∙◌, subst}
+use Rattle.std.proofs.Common.{◌<◌, ◌≡◌, ◌≤◌, ℕ, ◌*◌, ◌-◌, Bool, true, false, Some, List, [], ◌∷◌, ◌++◌, length, vec_capacity, refl, sym}
+use Rattle.std.proofs.Common.{ap, ◌∙◌, subst}
 use Rattle.std.specs.List.{AllByRecursion}
-use Rattle.mv_latch.specs.Latch.{confirm_reply}
+use Rattle.mv_latch.specs.Latch.{confirm_reply, is_settled}
 use Rattle.mv_latch.specs.LatchSet.{list_of}
 use Rattle.mv_machine.specs.declared.entry.Object.{Object}
 use Rattle.mv_machine.specs.declared.entry.Object.TheVariants.{Ecb, Element, Volume, Latches}
@@ -15,7 +16,6 @@ use Rattle.mv_board.specs.declared.watch.Watch.TheVariants as watch
 use Rattle.mv_board.specs.Caller.{face_of, IsSeated}
 use Rattle.mv_board.specs.Faces.{PeekedAt, PeekedIn, with_watch, last_of}
 use Rattle.mv_board.specs.Steps.{Meets, watch_of, is_ready}
-use Rattle.mv_board.specs.Turn.{is_settled}
 use Rattle.mv_board.specs.View.{own, first_of, met, listed, with_turn, with_returned}
 use Rattle.mv_board.proofs.Logging.{found_with}
 
@@ -31,8 +31,10 @@ pub listed_is : (b : Bool) (w : Watch) (v : View) → listed b (Some w) v ≡ re
 listed_is true w v = refl
 listed_is false w v = refl
 
-pub peeked : (c d : Inside) (o : Object) (x : ℕ) (w : Watch) (is : Bool) → IsSeated c → d ≡ record c { seat = d.seat } → d.seat.table_id ≡ c.seat.table_id
-    → (m : Meets c.seat.me.0 o x) → watch_of o ≡ Some w → d.seat.me.0 ≡ listed (is_ready m.state) (watch_of o) (met o x c.seat.me.0) → is ≡ is_ready m.state
+pub peeked : (c d : Inside) (o : Object) (x : ℕ) (w : Watch) (is : Bool) → IsSeated c → d ≡ record c { seat = d.seat }
+    → d.seat.table_id ≡ c.seat.table_id
+    → (m : Meets c.seat.me.0 o x) → watch_of o ≡ Some w → d.seat.me.0 ≡ listed (is_ready m.state) (watch_of o) (met o x c.seat.me.0)
+    → is ≡ is_ready m.state
     → PeekedAt (face_of c) o w is (face_of d)
 unfolding found_with
 peeked c d o x w is h kept table m watches view answer =
@@ -48,9 +50,11 @@ peeked c d o x w is h kept table m watches view answer =
 
 -- ---- the lists of the latch set
 
-module _ (c d : Inside) (latch id : ℕ) (l : Lists) (is : Bool) (h : IsSeated c) (kept : d ≡ record c { seat = d.seat }) (table : d.seat.table_id ≡ c.seat.table_id)
+module _ (c d : Inside) (latch id : ℕ) (l : Lists) (is : Bool) (h : IsSeated c) (kept : d ≡ record c { seat = d.seat })
+    (table : d.seat.table_id ≡ c.seat.table_id)
     (slots : d.seat.me.1 ≡ []) (answer : is ≡ is_settled (confirm_reply c.events.caller id (list_of l.latches.lists latch)))
-    (view : d.seat.me.0 ≡ with_turn [] (with_returned l.latches.lists (listed (is_settled (confirm_reply (own c.seat.me.0).caller id (list_of l.latches.lists latch)))
+    (view : d.seat.me.0 ≡ with_turn []
+    (with_returned l.latches.lists (listed (is_settled (confirm_reply (own c.seat.me.0).caller id (list_of l.latches.lists latch)))
     (Some (watch.Latch latch id)) c.seat.me.0))) where
   after : d.seat.me.0 ≡ record c.seat.me.0 {
     turn = [];
@@ -91,7 +95,8 @@ module _ (c d : Inside) (latch id : ℕ) (l : Lists) (is : Bool) (h : IsSeated c
         } ∷ []));
         turn = ap (λ (u : View). u.turn) after;
         room = h.room;
-        wakes = subst (AllByRecursion (λ (s : Setup). s.callers * s.quota ≤ vec_capacity c.events.wakes)) (sym (ap (λ (u : View). u.about) after)) h.wakes;
+        wakes = subst (AllByRecursion (λ (s : Setup). s.callers * s.quota ≤ vec_capacity c.events.wakes))
+            (sym (ap (λ (u : View). u.about) after)) h.wakes;
         shown = h.shown ∙ ap last_of (sym (ap (λ (u : View). (own u).told) after));
         exists = subst (AllByRecursion (λ (s : Setup). c.events.caller < s.callers)) (sym (ap (λ (u : View). u.about) after)) h.exists;
         few = h.few;

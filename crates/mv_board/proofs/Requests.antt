@@ -1,6 +1,7 @@
 -- A caller's own latch requests: their numbers are earlier than the place, one that no longer waits never waits again, and what
 -- the lists say of one.
-use Rattle.std.proofs.Common.{◌≡◌, ◌⊎◌, ℕ, ◌+◌, ◌<◌, ◌==◌, Bool, true, false, cond, List, [], ◌∷◌, ◌++◌, length, inl, inr, ⊎_elim, refl, sym, ◌∙◌, subst, arith}
+use Rattle.std.proofs.Common.{◌≡◌, ◌⊎◌, ℕ, ◌+◌, ◌<◌, ◌==◌, Bool, true, false, cond, List, [], ◌∷◌, ◌++◌, length, inl, inr, ⊎_elim, refl}
+use Rattle.std.proofs.Common.{sym, ◌∙◌, subst, arith}
 use Rattle.std.proofs.lemmas.Bool.{false≢true, true≢false, eqb-true}
 use Rattle.std.proofs.lemmas.List.{length-replicate}
 use Rattle.std.specs.List.{list_any}
@@ -10,7 +11,7 @@ use Rattle.mv_latch.specs.declared.operation.LatchOp.TheVariants.{Obtain}
 use Rattle.mv_latch.specs.declared.operation.LatchReply.{LatchReply}
 use Rattle.mv_latch.specs.declared.operation.LatchReply.TheVariants.{Granted, Queued, NotNow, Waiting, Gone}
 use Rattle.mv_latch.specs.declared.request.Request.{Request}
-use Rattle.mv_latch.specs.Latch.{granted, grants, blocker, obtain_step, confirm_reply}
+use Rattle.mv_latch.specs.Latch.{granted, grants, blocker, obtain_step, confirm_reply, is_settled}
 use Rattle.mv_latch.specs.LatchSet.{list_of}
 use Rattle.mv_latch.specs.Request.{is_own, queues}
 use Rattle.mv_machine.specs.declared.entry.Entry.{Entry}
@@ -31,8 +32,7 @@ use Rattle.mv_machine.proofs.Histories.{place-after, place-moved}
 use Rattle.mv_machine.proofs.Longer.{front_is_legal}
 use Rattle.mv_machine.proofs.Places.{of_mine, of_other}
 use Rattle.mv_machine.proofs.StandingRuns.{names_of}
-use Rattle.mv_board.specs.Rule.{makes, HasMade}
-use Rattle.mv_board.specs.Turn.{is_settled}
+use Rattle.mv_machine.specs.Kept.{makes, HasMade}
 
 -- ---- the number of a request is the place of the event that made it
 

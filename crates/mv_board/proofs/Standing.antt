@@ -1,5 +1,6 @@
 -- A history that stands: the merge of the logs is another, and one view may be put for another.
-use Rattle.std.proofs.Common.{◌≡◌, ℕ, suc, ◌+◌, ◌<◌, ◌≤◌, ◌≢◌, ◌==◌, List, [], ◌∷◌, length, set, get_or, Some, option_map, sym, refl, ap, ◌∙◌, subst, arith}
+use Rattle.std.proofs.Common.{◌≡◌, ℕ, suc, ◌+◌, ◌<◌, ◌≤◌, ◌≢◌, ◌==◌, List, [], ◌∷◌, length, set, get_or, Some, option_map, sym, refl, ap}
+use Rattle.std.proofs.Common.{◌∙◌, subst, arith}
 use Rattle.std.proofs.lemmas.List.Elements.{All-contains, All-from_recursion}
 use Rattle.std.specs.List.{AllByRecursion, Contains}
 use mathlib.Core.Logic.{dite}
@@ -13,6 +14,7 @@ use Rattle.mv_machine.specs.declared.entry.Entry.{Entry}
 use Rattle.mv_machine.specs.declared.entry.Object.{Object}
 use Rattle.mv_machine.specs.declared.entry.Object.TheVariants.{Element}
 use Rattle.mv_machine.specs.declared.packing.WordState.{WordState}
+use Rattle.mv_machine.specs.Limits.{events_limit}
 use Rattle.mv_machine.specs.Legal.{Legal, after, of}
 use Rattle.mv_machine.specs.Merge.{merged}
 use Rattle.mv_machine.specs.Packing.{unpack, state_at, word_at}
@@ -28,8 +30,9 @@ use Rattle.mv_board.specs.declared.view.Part.{Part}
 use Rattle.mv_board.specs.declared.view.View.{View}
 use Rattle.mv_board.specs.declared.watch.Watch.{Watch}
 use Rattle.mv_board.specs.declared.watch.Watch.TheVariants as watch
-use Rattle.mv_board.specs.Parked.{parked}
-use Rattle.mv_board.specs.Rule.{holders_in, holders, tally, made, IsPart, Knows, Logs, IsNamed, Turns, IsReady, ReadyFor, AboutFor, Stands, Ruled}
+use Rattle.mv_machine.specs.Parked.{parked}
+use Rattle.mv_board.specs.Rule.{holders_in, holders, tally, made, IsPart, Knows, Logs, IsNamed, Turns, IsReady, ReadyFor, AboutFor}
+use Rattle.mv_board.specs.Rule.{Stands, Ruled}
 use Rattle.mv_board.specs.Steps.{Meets, PossibleFor}
 use Rattle.mv_board.specs.View.{first_of}
 use Rattle.mv_board.specs.Words.{HasWord, word_number, turn_word}
@@ -44,7 +47,8 @@ Table = State Item View
 module _ (c : Setup) where
   -- ---- the merge of the logs
 
-  ready_map : (h g : List Entry) (ps : List Part) (ws : List Watch) → ((k : ℕ) (w : Watch) → IsReady c h k w → IsReady c g k w) → ReadyFor c h ps ws → ReadyFor c g ps ws
+  ready_map : (h g : List Entry) (ps : List Part) (ws : List Watch) → ((k : ℕ) (w : Watch) → IsReady c h k w → IsReady c g k w)
+      → ReadyFor c h ps ws → ReadyFor c g ps ws
   ready_map h g [] ws f a = a
   ready_map h g (p ∷ ps) ws f a = all_map (IsReady c h p.caller) (IsReady c g p.caller) ws (f p.caller) a
 
@@ -53,7 +57,8 @@ module _ (c : Setup) where
     logged = q.logged ∙ sym (merged_callers c h p.caller l);
     shown = q.shown ∙ sym (merged_told c h p.caller l);
     budget = q.budget;
-    had = all_map (λ m. Had c h p.caller m.after m.object m.word) (λ m. Had c (merged (parts c.callers h)) p.caller m.after m.object m.word) p.sights
+    had = all_map (λ m. Had c h p.caller m.after m.object m.word)
+        (λ m. Had c (merged (parts c.callers h)) p.caller m.after m.object m.word) p.sights
         (λ m y. merged_had c h p.caller m.after m.word m.object l y) q.had;
   }
 
@@ -81,7 +86,8 @@ module _ (c : Setup) where
         wide = r.wide;
         words = λ o has. r.words o has ∙ ap (λ m. word_at m o) (sym leads);
         turn = subst (λ (m : System). Turns c m.latches (get_or s.words turn_word 0) s.homes s.views) (sym leads) r.turn;
-        ready = λ j v e. ready_map h g v.parts v.ready (λ k w y. ready_same c h g k w leads (merged_callers c h k r.legal) y) (r.ready j v e);
+        ready = λ j v e. ready_map h g v.parts v.ready (λ k w y. ready_same c h g k w leads (merged_callers c h k r.legal) y)
+            (r.ready j v e);
         about = r.about;
         idle = r.idle;
       }
@@ -89,12 +95,14 @@ module _ (c : Setup) where
   -- ---- one view is put for another of the same callers
 
   -- over a history g
-  pub logs_put : (vs : List View) (h g : List Entry) (id : ℕ) (v w : View) → Logs c vs h → get_elem? vs id ≡ some v → ((k : ℕ) → holders k w ≡ holders k v)
+  pub logs_put : (vs : List View) (h g : List Entry) (id : ℕ) (v w : View) → Logs c vs h → get_elem? vs id ≡ some v
+      → ((k : ℕ) → holders k w ≡ holders k v)
       → w.made ≡ v.made → ((k : ℕ) → made vs ≤ k → of k g ≡ []) → Knows c g (made vs) w
       → ((j : ℕ) (u : View) → j ≢ id → get_elem? vs j ≡ some u → Knows c g (made vs) u) → Logs c (set vs id w) g
   logs_put vs h g id v w r at same_holders same_made unmade mine others =
       let count : made (set vs id w) ≡ made vs = (let t = tally_set (λ x. x.made) vs id v w at in omega arith) in
-      let held : (k : ℕ) → tally (holders k) (set vs id w) ≡ tally (holders k) vs = (λ k. let t = tally_set (holders k) vs id v w at in let y = same_holders k in omega arith) in record {
+      let held : (k : ℕ) → tally (holders k) (set vs id w) ≡ tally (holders k) vs = (λ k. let t = tally_set (holders k) vs id v w at in
+      let y = same_holders k in omega arith) in record {
         one = λ k l. held k ∙ r.one k (omega arith);
         none_yet = λ k l. held k ∙ r.none_yet k (omega arith);
         few = (let f = r.few in omega arith);
@@ -104,18 +112,21 @@ module _ (c : Setup) where
       }
 
   -- which holds the turn as that did
-  pub turn_put : (x : Cell (List (List Request))) (word : ℕ) (homes : List (Maybe Item)) (vs : List View) (id : ℕ) (v w : View) → Turns c x word homes vs
+  pub turn_put : (x : Cell (List (List Request))) (word : ℕ) (homes : List (Maybe Item)) (vs : List View) (id : ℕ) (v w : View)
+      → Turns c x word homes vs
       → get_elem? vs id ≡ some v → w.turn ≡ v.turn → Turns c x word homes (set vs id w)
   turn_put x word homes vs id v w r at same = record {
     count = r.count ∙ (let t = tally_set (λ y. length y.turn) vs id v w at in let e = ap length same in omega arith);
     single = r.single;
     home = r.home;
-    named = each_put vs id w (λ (u : View). AllByRecursion (IsNamed x) u.turn) (subst (AllByRecursion (IsNamed x)) (sym same) (r.named id v at)) (λ j u n a. r.named j u a);
+    named = each_put vs id w (λ (u : View). AllByRecursion (IsNamed x) u.turn)
+        (subst (AllByRecursion (IsNamed x)) (sym same) (r.named id v at)) (λ j u n a. r.named j u a);
   }
 
   -- ---- what the rule says of a seat and its own caller
 
-  module _ (s : Table) (h : List Entry) (r : Stands c s h) (id : ℕ) (v : View) (p : Part) (more : List Part) (at : get_elem? s.views id ≡ some v) (is : v.parts ≡ p ∷ more) where
+  module _ (s : Table) (h : List Entry) (r : Stands c s h) (id : ℕ) (v : View) (p : Part) (more : List Part)
+      (at : get_elem? s.views id ≡ some v) (is : v.parts ≡ p ∷ more) where
     pub mine : AllByRecursion (IsPart c h) (p ∷ more)
     mine = subst (AllByRecursion (IsPart c h)) is (r.logs.known id v at).parts
 
@@ -139,13 +150,14 @@ module _ (c : Setup) where
     alone = let z = r.logs.one p.caller caller_made in let a = tally_at (holders p.caller) s.views id v at in let b = held in omega arith
 
     pub apart : (j : ℕ) (u : View) → get_elem? s.views j ≡ some u → j ≢ id → holders p.caller u ≡ 0
-    apart j u e n = let z = r.logs.one p.caller caller_made in let a = tally_two (holders p.caller) s.views id j v u at e n in let b = held in omega arith
+    apart j u e n = let z = r.logs.one p.caller caller_made in let a = tally_two (holders p.caller) s.views id j v u at e n in
+        let b = held in omega arith
 
-    pub short : length h ≤ 524287
+    pub short : length h ≤ events_limit
     short = budgets_fit c h r.valid r.legal (keeps_budgets c s.views h r.logs)
 
     -- with an event left there is room for one more
-    pub has_room : 0 < p.left → length h + 1 ≤ 524287
+    pub has_room : 0 < p.left → length h + 1 ≤ events_limit
     has_room left =
         let m = caller_made in let f = r.logs.few in
         let same = ap length mine.0.logged in
@@ -166,7 +178,8 @@ module _ (c : Setup) where
 
     -- what is listed is ready
     pub is_ready_here : (w : Watch) → Contains v.ready w → IsReady c h p.caller w
-    is_ready_here w there = All-contains (IsReady c h p.caller) v.ready w (All-from_recursion (IsReady c h p.caller) v.ready mine_ready) there
+    is_ready_here w there = All-contains (IsReady c h p.caller) v.ready w (All-from_recursion (IsReady c h p.caller) v.ready mine_ready)
+        there
 
     pub meets : (o : Object) → HasWord c o → Meets v o (get_or s.words (word_number o) 0)
     meets o has = let x = state_there c (after c h) o has in record {
@@ -189,10 +202,12 @@ module _ (c : Setup) where
     }
 
   -- after a step that leads to history g, the seat's log and told list are possible
-  pub possible : (s : Table) (g : List Entry) → Stands c s g → (id : ℕ) (w : View) (q : Part) (more : List Part) → get_elem? s.views id ≡ some w → w.parts ≡ q ∷ more
+  pub possible : (s : Table) (g : List Entry) → Stands c s g → (id : ℕ) (w : View) (q : Part) (more : List Part)
+      → get_elem? s.views id ≡ some w → w.parts ≡ q ∷ more
       → PossibleFor w
   possible s g r id w q more at is =
       let a : w.about ≡ c ∷ [] = mine_about s g r id w q more at is in
       let b : IsPart c g q = (mine s g r id w q more at is).0 in
-      subst (λ (z : List Setup × Part). AllByRecursion (λ d. IsPossible d z.1.caller z.1.log z.1.told) z.0) (λ i. (sym a i, ap first_of (sym is) i))
+      subst (λ (z : List Setup × Part). AllByRecursion (λ d. IsPossible d z.1.caller z.1.log z.1.told) z.0)
+      (λ i. (sym a i, ap first_of (sym is) i))
       (record { history = g; legal = r.legal; budgets = keeps_budgets c s.views g r.logs; logged = sym b.logged; told = sym b.shown }, tt)

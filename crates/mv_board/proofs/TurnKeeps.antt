@@ -1,5 +1,6 @@
 -- Each step on the turn keeps the rule, and so do looks for what is ready.
-use Rattle.std.proofs.Common.{◌≡◌, ℕ, ◌+◌, ◌<◌, ◌==◌, Bool, true, List, [], ◌∷◌, ◌++◌, length, get_or, Option, Some, sym, refl, ap, ◌∙◌, subst, arith, eq-eqb, ne_eqb}
+use Rattle.std.proofs.Common.{◌≡◌, ℕ, ◌+◌, ◌<◌, ◌==◌, Bool, true, List, [], ◌∷◌, ◌++◌, length, get_or, Option, Some, sym, refl, ap, ◌∙◌}
+use Rattle.std.proofs.Common.{subst, arith, eq-eqb, ne_eqb}
 use Rattle.std.proofs.lemmas.Bool.{and_parts}
 use Rattle.std.specs.List.{AllByRecursion}
 use mathlib.Core.Logic.{dite}
@@ -14,14 +15,14 @@ use Rattle.atomic_table.proofs.Lists.{set_again}
 use Rattle.mv_latch.specs.declared.operation.LatchOp.{LatchOp}
 use Rattle.mv_latch.specs.declared.operation.Wake.{Wake}
 use Rattle.mv_latch.specs.declared.request.Request.{Request}
-use Rattle.mv_latch.specs.Latch.{confirm_reply}
+use Rattle.mv_latch.specs.Latch.{confirm_reply, is_settled}
 use Rattle.mv_latch.specs.LatchSet.{LatchLists, IsNewId, list_of, latch_admitted, latch_step, wakes}
 use Rattle.mv_machine.specs.declared.entry.Entry.{Entry}
 use Rattle.mv_machine.specs.declared.entry.Object.{Object}
 use Rattle.mv_machine.specs.declared.entry.Object.TheVariants.{Latches}
 use Rattle.mv_machine.specs.declared.entry.Op.TheVariants as op_on
 use Rattle.mv_machine.specs.declared.packing.WordState.{WordState}
-use Rattle.mv_machine.specs.Kept.{allowed}
+use Rattle.mv_machine.specs.Kept.{allowed, HasMade}
 use Rattle.mv_machine.specs.Legal.{after, next, of}
 use Rattle.mv_machine.specs.Owned.{owner_at}
 use Rattle.mv_machine.specs.Packing.{unpack}
@@ -38,16 +39,17 @@ use Rattle.mv_board.specs.declared.view.Part.{Part}
 use Rattle.mv_board.specs.declared.view.View.{View}
 use Rattle.mv_board.specs.declared.watch.Watch.{Watch}
 use Rattle.mv_board.specs.declared.watch.Watch.TheVariants as watch
-use Rattle.mv_board.specs.Rule.{history_of, HasMade, IsLists, IsNamed, IsReady, Stands, Ruled}
+use Rattle.mv_board.specs.Rule.{history_of, IsLists, IsNamed, IsReady, Stands, Ruled}
 use Rattle.mv_board.specs.Steps.{Meets, Peeked, watch_of, is_ready}
-use Rattle.mv_board.specs.Turn.{MeetsLists, Took, Gave, Returned, latch_entry, named_by, is_settled}
+use Rattle.mv_board.specs.Turn.{MeetsLists, Took, Gave, Returned, latch_entry, named_by}
 use Rattle.mv_board.specs.View.{first_of, own, part_logged, part_met, with_own, logged, met, listed, with_turn, with_returned}
 use Rattle.mv_board.specs.Words.{HasWord, word_number, turn_word, object_of}
 use Rattle.mv_board.proofs.Events.{state_ready}
 use Rattle.mv_board.proofs.Machine.{object_again, state_there, place_within}
 use Rattle.mv_board.proofs.Moves.{find}
 use Rattle.mv_board.proofs.Requests.{latch_exists, says_settled, settled_as_said}
-use Rattle.mv_board.proofs.Standing.{Table, remerge, mine, mine_ready, mine_about, has_room, stands_for, above, is_ready_here, meets, possible}
+use Rattle.mv_board.proofs.Standing.{Table, remerge, mine, mine_ready, mine_about, has_room, stands_for, above, is_ready_here, meets}
+use Rattle.mv_board.proofs.Standing.{possible}
 use Rattle.mv_board.proofs.Turns.{turn_is, named_here, take, give, give_back}
 use Rattle.mv_board.proofs.Views.{all_append, put_there}
 
@@ -94,7 +96,8 @@ module _ (c : Setup) (slots id : ℕ) (me : Me Item View) (p : Part) (more : Lis
           new = λ n le. subst (IsNewId n) (sym here) (numbers_ahead_are_new c h n r.legal (let e = lists.0 in omega arith));
           set = subst (AllByRecursion (λ d. l.latches ≡ latches_of d l.latches.lists)) (sym about)
               (lists.1 ∙ ap (latches_of c) (sym here), tt);
-          count = subst (AllByRecursion (λ d. length l.latches.lists ≡ d.latches)) (sym about) (ap length here ∙ lists_stay c h r.legal, tt);
+          count = subst (AllByRecursion (λ d. length l.latches.lists ≡ d.latches)) (sym about)
+              (ap length here ∙ lists_stay c h r.legal, tt);
           admits = subst (λ (z : List Setup × Part). AllByRecursion
               (λ d. (op : LatchOp) → allowed d z.1.caller z.1.log Latches (op_on.Latch op) ≡ true
               → latch_admitted z.1.caller op l.latches ≡ true) z.0)
@@ -105,7 +108,8 @@ module _ (c : Setup) (slots id : ℕ) (me : Me Item View) (p : Part) (more : Lis
               subst (HasMade latch n) (ap (λ (q : Part). q.log) first ∙ (mine c s h r id me.0 p more at is).0.logged) made in
               subst (λ z. latch < z) (sym (ap length here ∙ lists_stay c h r.legal)) (latch_exists c h p.caller latch n r.legal whole);
           ready = λ latch n there.
-              let known : IsReady c h p.caller (watch.Latch latch n) = is_ready_here c s h r id me.0 p more at is (watch.Latch latch n) there in
+              let known : IsReady c h p.caller (watch.Latch latch n) = is_ready_here c s h r id me.0 p more at is
+              (watch.Latch latch n) there in
               subst (λ (z : Part × List (List Request)). is_settled (confirm_reply z.0.caller n (list_of z.1 latch)) ≡ true)
               (λ i. (sym first i, sym here i))
               (says_settled p.caller n (list_of (after c h).latches.state latch) known.1);
@@ -140,7 +144,8 @@ module _ (c : Setup) (slots id : ℕ) (me : Me Item View) (p : Part) (more : Lis
       → 0 < p.left
       → allowed c p.caller p.log Latches (op_on.Latch op) ≡ true → l.place ≡ t.place + 1
       → l.latches ≡ latches_of c (latch_step p.caller t.place op t.lists).0
-      → Allows (Ruled c) slots id me turn_word (λ n. either (n == 1) 0 n) (Gave (step slots turn_word 1 0 (some (Said (op_on.Latch op)))) me)
+      → Allows (Ruled c) slots id me turn_word (λ n. either (n == 1) 0 n)
+      (Gave (step slots turn_word 1 0 (some (Said (op_on.Latch op)))) me)
   gives op t l cs turn held slot left may place lists s r homes at _ =
       let h : List Entry = history_of c s.views in
       let x : ℕ = get_or s.words turn_word 0 in
@@ -187,7 +192,8 @@ module _ (c : Setup) (slots id : ℕ) (me : Me Item View) (p : Part) (more : Lis
       let sought : Option Watch = Some (watch.Latch latch request) in
       let w : View = with_turn [] (with_returned t.lists (listed seen sought me.0)) in
       let same = listed_keeps seen sought me.0 in
-      let made_it : HasMade latch request (of p.caller h) = subst (HasMade latch request) (mine c s h r id me.0 p more at is).0.logged made in
+      let made_it : HasMade latch request (of p.caller h) = subst (HasMade latch request)
+      (mine c s h r id me.0 p more at is).0.logged made in
       let ready : AllByRecursion (IsReady c h p.caller) w.ready =
       listed_ready (IsReady c h p.caller) seen sought me.0
       (λ y here settled. let it : watch.Latch latch request ≡ y = cc here in subst (IsReady c h p.caller) it (
@@ -213,7 +219,8 @@ module _ (c : Setup) (slots id : ℕ) (me : Me Item View) (p : Part) (more : Lis
               let b : request ≡ request2 = cc in
               let d : t ≡ t2 = cc in
               λ i. with_turn [] (with_returned (d i).lists
-              (listed (is_settled (confirm_reply (own me.0).caller (b i) (list_of (d i).lists (a i)))) (Some (watch.Latch (a i) (b i))) me.0));
+              (listed (is_settled (confirm_reply (own me.0).caller (b i) (list_of (d i).lists (a i))))
+              (Some (watch.Latch (a i) (b i))) me.0));
         },
       )
 

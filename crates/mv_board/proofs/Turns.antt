@@ -1,5 +1,6 @@
 -- What stands after a seat's move on the turn of the latch set: the lists are taken, or given back with an event or without one.
-use Rattle.std.proofs.Common.{◌≡◌, ◌≢◌, ℕ, ◌<◌, true, List, [], ◌∷◌, ◌++◌, length, set, get_or, Some, sym, refl, ap, ◌∙◌, subst, arith, length-set, get_or-set_same, get_or-set_other}
+use Rattle.std.proofs.Common.{◌≡◌, ◌≢◌, ℕ, ◌<◌, true, List, [], ◌∷◌, ◌++◌, length, set, get_or, Some, sym, refl, ap, ◌∙◌, subst, arith}
+use Rattle.std.proofs.Common.{length-set, get_or-set_same, get_or-set_other}
 use Rattle.std.proofs.lemmas.List.{nil_from_length}
 use Rattle.std.specs.List.{AllByRecursion}
 use mathlib.Core.Option.{Option as Maybe, none, some}
@@ -138,7 +139,8 @@ module _ (c : Setup) (s : Table) (h : List Entry) (r : Stands c s h) (id : ℕ) 
         → admitted c (after c h) p.caller Latches (op_on.Latch op) ≡ true
         → IsLists c (next (after c h) (latch_entry v op t)).latches l → 0 < length s.homes
         → Stands c
-        (stepped s turn_word 0 id ((0, Held l) ∷ cs) (with_turn [] (logged (latch_entry v op t) (wakes (own v).caller op t.lists ∷ []) v)) gives)
+        (stepped s turn_word 0 id ((0, Held l) ∷ cs) (with_turn [] (logged (latch_entry v op t) (wakes (own v).caller op t.lists ∷ []) v))
+        gives)
         (h ++ latch_entry v op t ∷ [])
     give op t l cs turn left admits lists slot =
         let e : Entry = latch_entry v op t in

@@ -1,5 +1,6 @@
 -- Sums over the views, and what the logs in them are.
-use Rattle.std.proofs.Common.{◌≡◌, ℕ, zero, suc, ◌+◌, ◌<◌, ◌≤◌, ◌≢◌, ◌⊎◌, Bool, true, false, not, cond, inl, inr, ⊎_elim, List, [], ◌∷◌, ◌++◌, length, set, get_or, filter, sym, refl, ap, ◌∙◌, subst, arith, eq-eqb, ne_eqb}
+use Rattle.std.proofs.Common.{◌≡◌, ℕ, zero, suc, ◌+◌, ◌<◌, ◌≤◌, ◌≢◌, ◌⊎◌, Bool, true, false, not, cond, inl, inr, ⊎_elim, List, [], ◌∷◌}
+use Rattle.std.proofs.Common.{◌++◌, length, set, get_or, filter, sym, refl, ap, ◌∙◌, subst, arith, eq-eqb, ne_eqb}
 use Rattle.std.specs.List.{AllByRecursion}
 use mathlib.Core.Logic.{dite}
 use mathlib.Core.Option.{some, some-injective, some-ne-none}
@@ -45,7 +46,8 @@ module _ {A : Type 0} where
       go false rest = rest
 
 -- what holds of each view after one is put for another
-pub each_put : (vs : List View) (id : ℕ) (w : View) (P : View → Type 0) → P w → ((j : ℕ) (u : View) → j ≢ id → get_elem? vs j ≡ some u → P u)
+pub each_put : (vs : List View) (id : ℕ) (w : View) (P : View → Type 0) → P w
+    → ((j : ℕ) (u : View) → j ≢ id → get_elem? vs j ≡ some u → P u)
     → (j : ℕ) (u : View) → get_elem? (set vs id w) j ≡ some u → P u
 each_put vs id w P here others j u a = ⊎_elim
     (λ (t : (j ≡ id) × (w ≡ u)). subst P t.1 here)
@@ -67,7 +69,8 @@ put_there (x ∷ xs) (suc id) v w e = put_there xs id v w e
 
 -- ---- sums
 
-pub tally_set : (f : View → ℕ) (vs : List View) (i : ℕ) (v w : View) → get_elem? vs i ≡ some v → tally f (set vs i w) + f v ≡ tally f vs + f w
+pub tally_set : (f : View → ℕ) (vs : List View) (i : ℕ) (v w : View) → get_elem? vs i ≡ some v
+    → tally f (set vs i w) + f v ≡ tally f vs + f w
 tally_set f [] i v w e = absurd (some-ne-none v (sym e))
 tally_set f (x ∷ xs) zero v w e = let a = ap f (some-injective x v e) in omega arith
 tally_set f (x ∷ xs) (suc i) v w e = let r = tally_set f xs i v w e in omega arith
@@ -146,14 +149,16 @@ found : (c : Setup) (h : List Entry) (k : ℕ) (ps : List Part) → AllByRecursi
 found c h k [] a = inr (refl, refl)
 found c h k (p ∷ ps) a = dite (ℕ_discrete p.caller k)
     (λ m. found_first c h k p ps a.0 m)
-    (λ m. ⊎_elim (λ r. inl (log_other k p ps m ∙ r.0, r.1)) (λ r. inr (log_other k p ps m ∙ r.0, holders_other k p ps m ∙ r.1)) (found c h k ps a.1))
+    (λ m. ⊎_elim (λ r. inl (log_other k p ps m ∙ r.0, r.1)) (λ r. inr (log_other k p ps m ∙ r.0, holders_other k p ps m ∙ r.1))
+    (found c h k ps a.1))
 
 module _ (c : Setup) (vs : List View) (h : List Entry) (r : Logs c vs h) where
   found_all : (k : ℕ) → Found c h k (all_parts vs)
   found_all k = found c h k (all_parts vs) (parts_all (IsPart c h) vs (λ j v e. (r.known j v e).parts))
 
   not_made : (k : ℕ) → holders_in k (all_parts vs) ≡ 0 → made vs ≤ k
-  not_made k z = dite (dec_lt k (made vs)) (λ (l : k < made vs). let a = r.one k l in let b = holders_all k vs in absurd (omega arith)) (λ n. omega arith)
+  not_made k z = dite (dec_lt k (made vs)) (λ (l : k < made vs). let a = r.one k l in let b = holders_all k vs in absurd (omega arith))
+      (λ n. omega arith)
 
   log_is : (k : ℕ) → log_in k (all_parts vs) ≡ of k h
   log_is k = ⊎_elim (λ y. y.0) (λ y. y.0 ∙ sym (r.unmade k (not_made k y.1))) (found_all k)

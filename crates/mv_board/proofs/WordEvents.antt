@@ -45,7 +45,8 @@ shows_nothing k (Volume n) c d has told wakes = (told, wakes)
 shows_nothing k Latches c d has told wakes = absurd has
 
 -- and meets words of its own object alone
-looks_at : (k : Setup) (o : Object) (c d : CallerFace) (more : List Sight) → HasWord k o → d.met ≡ c.met ++ more → AreAt o (length c.log) more → LooksAt o c d
+looks_at : (k : Setup) (o : Object) (c d : CallerFace) (more : List Sight) → HasWord k o → d.met ≡ c.met ++ more
+    → AreAt o (length c.log) more → LooksAt o c d
 looks_at k (Ecb n) c d more has met there = (more, met, there)
 looks_at k (Element n) c d more has met there = (more, met, there)
 looks_at k (Volume n) c d more has met there = (more, met, there)

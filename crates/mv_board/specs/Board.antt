@@ -8,6 +8,7 @@ use Rattle.mv_board.specs.declared.board.Board.TheInside.{Inside}
 use Rattle.mv_board.specs.Faces.{BoardFace}
 use Rattle.mv_board.specs.Words.{word_count}
 
+-- its table, and the configuration that it was opened with
 abbrev pub board_of : Inside → BoardFace
 board_of b = record { table = b.table.shared.table_id; config = b.config }
 

@@ -18,6 +18,7 @@ abbrev pub held : Option (Seat Item View) → List Part
 held None = []
 held (Some seat) = seat.me.0.parts
 
+-- the board that ends, and the parts of the callers that came back
 abbrev pub closing_of : Inside → ClosingFace
 closing_of b = record { board = record { table = b.table.shared.table_id; config = b.config }; back = held b.seat }
 

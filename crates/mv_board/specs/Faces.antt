@@ -1,4 +1,5 @@
--- What contracts see of a board and of a caller, and what a call makes of a caller.
+-- What contracts see of a board and of a caller, and what a call makes of a caller. A board is b, a configuration c, a caller's number k,
+-- and a caller's face f, or g behind a call.
 use Rattle.std.specs.Prelude.{◌≡◌, ◌≢◌, ℕ, suc, ◌+◌, ◌<◌, Bool, true, false, List, [], ◌∷◌, ◌++◌, length, slice_index, Some, if◌then◌else◌}
 use Rattle.std.specs.List.{AllByRecursion, Contains}
 use Rattle.atomic_table.specs.Seated.{TableId}
@@ -6,7 +7,7 @@ use Rattle.mv_ecb.specs.declared.operation.EcbOp.TheVariants as ecb_op
 use Rattle.mv_ecb.specs.declared.operation.EcbReply.TheVariants as ecb_reply
 use Rattle.mv_element.specs.declared.operation.ElementOp.TheVariants as element_op
 use Rattle.mv_element.specs.declared.operation.ElementReply.TheVariants.{Given}
-use Rattle.mv_latch.specs.Latch.{confirm_reply}
+use Rattle.mv_latch.specs.Latch.{confirm_reply, is_settled}
 use Rattle.mv_latch.specs.LatchSet.{list_of}
 use Rattle.mv_latch.specs.declared.operation.LatchOp.TheVariants.{Confirm}
 use Rattle.mv_latch.specs.declared.operation.Wake.{Wake}
@@ -29,16 +30,17 @@ use Rattle.mv_board.specs.declared.view.Part.{Part}
 use Rattle.mv_board.specs.declared.view.Sight.{Sight}
 use Rattle.mv_board.specs.declared.watch.Watch.{Watch}
 use Rattle.mv_board.specs.declared.watch.Watch.TheVariants as watch
-use Rattle.mv_board.specs.Parked.{parked}
-use Rattle.mv_board.specs.Rule.{HasMade}
+use Rattle.mv_machine.specs.Parked.{parked}
+use Rattle.mv_machine.specs.Kept.{HasMade}
 use Rattle.mv_board.specs.Steps.{AreAt, is_ready}
-use Rattle.mv_board.specs.Turn.{is_settled}
 use Rattle.mv_board.specs.View.{off}
 
+-- what contracts see of a board: which table it is, and its configuration
 pub record BoardFace : Type 0 where
   pub table : TableId
   pub config : Setup
 
+-- and of a caller: which table it has its seat at, and what it did, was told and met
 pub record CallerFace : Type 0 where
   pub table : TableId
   pub about : List Setup
@@ -57,136 +59,141 @@ pub record CallerFace : Type 0 where
 
 -- the caller is of this board
 abbrev pub IsOf : BoardFace → CallerFace → Type 0
-IsOf b c = (c.table ≡ b.table) × (c.about ≡ b.config ∷ [])
+IsOf b f = (f.table ≡ b.table) × (f.about ≡ b.config ∷ [])
 
 -- the same caller of the same board
-pub record IsSame (c d : CallerFace) : Type 0 where
-  pub table : d.table ≡ c.table
-  pub about : d.about ≡ c.about
-  pub number : d.number ≡ c.number
+pub record IsSame (f g : CallerFace) : Type 0 where
+  pub table : g.table ≡ f.table
+  pub about : g.about ≡ f.about
+  pub number : g.number ≡ f.number
 
 -- a caller of a new board, with room for all its events
-pub record IsFresh (b : BoardFace) (k : ℕ) (c : CallerFace) : Type 0 where
-  pub board : IsOf b c
-  pub number : c.number ≡ k
-  pub left : c.left ≡ slice_index b.config.budgets k
-  pub room : c.room ≡ c.left
-  pub log : c.log ≡ []
-  pub told : c.told ≡ []
-  pub wakes : c.wakes ≡ []
-  pub met : c.met ≡ []
-  pub returned : c.returned ≡ []
-  pub ready : c.ready ≡ []
+pub record IsFresh (b : BoardFace) (k : ℕ) (f : CallerFace) : Type 0 where
+  pub board : IsOf b f
+  pub number : f.number ≡ k
+  pub left : f.left ≡ slice_index b.config.budgets k
+  pub room : f.room ≡ f.left
+  pub log : f.log ≡ []
+  pub told : f.told ≡ []
+  pub wakes : f.wakes ≡ []
+  pub met : f.met ≡ []
+  pub returned : f.returned ≡ []
+  pub ready : f.ready ≡ []
 
 -- the callers of a new board, in order from number k on
 abbrev pub AreFresh : BoardFace → ℕ → List CallerFace → Type 0
 AreFresh b k [] = Unit {0}
-AreFresh b k (c ∷ cs) = IsFresh b k c × AreFresh b (suc k) cs
+AreFresh b k (f ∷ fs) = IsFresh b k f × AreFresh b (suc k) fs
 
 -- what an event shows: one on the latch set its wakes, and any other nothing
 abbrev pub Shows : Object → CallerFace → CallerFace → Type 0
-Shows Latches c d = d.told ≡ c.told ++ d.wakes ∷ []
-Shows o c d = (d.told ≡ c.told) × (d.wakes ≡ c.wakes)
+Shows Latches f g = g.told ≡ f.told ++ g.wakes ∷ []
+Shows o f g = (g.told ≡ f.told) × (g.wakes ≡ f.wakes)
 
 -- what an event meets on its way: words of its own object alone, and on the latch set none. What was met before stays
 abbrev pub LooksAt : Object → CallerFace → CallerFace → Type 0
-LooksAt Latches c d = d.met ≡ c.met
-LooksAt o c d = (more : List Sight) × (d.met ≡ c.met ++ more) × AreAt o (length c.log) more
+LooksAt Latches f g = g.met ≡ f.met
+LooksAt o f g = (more : List Sight) × (g.met ≡ f.met ++ more) × AreAt o (length f.log) more
 
 -- One event of the caller, at this place, which is above those that it had at the object.
-pub record HappenedAt (c : CallerFace) (o : Object) (place : ℕ) (op : Op) (reply : Reply) (d : CallerFace) : Type 0 where
-  pub same : IsSame c d
-  pub above : IsBelow o place c.log
-  pub logged : d.log ≡ c.log ++ record { caller = c.number; object = o; place = place; op = op; reply = reply } ∷ []
-  pub left : d.left + 1 ≡ c.left
-  pub room : d.room + 1 ≡ c.room
-  pub shown : Shows o c d
-  pub met : LooksAt o c d
-  pub returned : d.returned ≡ c.returned
-  pub ready : d.ready ≡ off o op c.ready
+pub record HappenedAt (f : CallerFace) (o : Object) (place : ℕ) (op : Op) (reply : Reply) (g : CallerFace) : Type 0 where
+  pub same : IsSame f g
+  pub above : IsBelow o place f.log
+  pub logged : g.log ≡ f.log ++ record { caller = f.number; object = o; place = place; op = op; reply = reply } ∷ []
+  pub left : g.left + 1 ≡ f.left
+  pub room : g.room + 1 ≡ f.room
+  pub shown : Shows o f g
+  pub met : LooksAt o f g
+  pub returned : g.returned ≡ f.returned
+  pub ready : g.ready ≡ off o op f.ready
 
+-- the same, at some place
 abbrev pub Happened : CallerFace → Object → Op → Reply → CallerFace → Type 0
-Happened c o op reply d = (place : ℕ) × HappenedAt c o place op reply d
+Happened f o op reply g = (place : ℕ) × HappenedAt f o place op reply g
 
 -- The caller found the word at the object, and that is all. The word is one of the object's, above those of its log.
-pub record Found (c : CallerFace) (o : Object) (w : ℕ) (d : CallerFace) : Type 0 where
-  pub same : IsSame c d
+pub record Found (f : CallerFace) (o : Object) (w : ℕ) (g : CallerFace) : Type 0 where
+  pub same : IsSame f g
   pub place : ℕ
   pub state : WordState
   pub unpacks : unpack o w ≡ Some (place, state)
-  pub above : IsBelow o place c.log
-  pub met : d.met ≡ c.met ++ record { object = o; word = w; after = length c.log } ∷ []
-  pub log : d.log ≡ c.log
-  pub left : d.left ≡ c.left
-  pub room : d.room ≡ c.room
-  pub told : d.told ≡ c.told
-  pub wakes : d.wakes ≡ c.wakes
-  pub returned : d.returned ≡ c.returned
+  pub above : IsBelow o place f.log
+  pub met : g.met ≡ f.met ++ record { object = o; word = w; after = length f.log } ∷ []
+  pub log : g.log ≡ f.log
+  pub left : g.left ≡ f.left
+  pub room : g.room ≡ f.room
+  pub told : g.told ≡ f.told
+  pub wakes : g.wakes ≡ f.wakes
+  pub returned : g.returned ≡ f.returned
 
 -- an exchange that was made, and met nothing before: the entry has the place that the expected word has, and the reply that its
 -- state gives
-pub record Exchanged (c : CallerFace) (o : Object) (op : Op) (expected : ℕ) (reply : Reply) (d : CallerFace) : Type 0 where
+pub record Exchanged (f : CallerFace) (o : Object) (op : Op) (expected : ℕ) (reply : Reply) (g : CallerFace) : Type 0 where
   pub place : ℕ
   pub state : WordState
   pub unpacks : unpack o expected ≡ Some (place, state)
   pub replies : reply_in op state ≡ Some reply
-  pub happened : HappenedAt c o place op reply d
-  pub met : d.met ≡ c.met
+  pub happened : HappenedAt f o place op reply g
+  pub met : g.met ≡ f.met
 
 -- one that found another word
-pub record Missed (c : CallerFace) (o : Object) (expected : ℕ) (moved : Moved) (d : CallerFace) : Type 0 where
+pub record Missed (f : CallerFace) (o : Object) (expected : ℕ) (moved : Moved) (g : CallerFace) : Type 0 where
   pub other : moved.0 ≢ expected
-  pub found : Found c o moved.0 d
-  pub ready : d.ready ≡ c.ready
+  pub found : Found f o moved.0 g
+  pub ready : g.ready ≡ f.ready
 
 -- ---- looks for what a caller waits for
 
 -- the caller may wait for it: its own block, its own element, or a request that it made
 abbrev pub MayWatch : Setup → CallerFace → Watch → Type 0
-MayWatch c k (watch.Ecb n) = (n < length c.owners) × (owner_of c n ≡ k.number)
-MayWatch c k (watch.Element n) = (n < element_count c) × (element_owner c n ≡ k.number)
-MayWatch c k (watch.Latch latch id) = HasMade latch id k.log
+MayWatch c f (watch.Ecb n) = (n < length c.owners) × (owner_of c n ≡ f.number)
+MayWatch c f (watch.Element n) = (n < element_count c) × (element_owner c n ≡ f.number)
+MayWatch c f (watch.Latch latch id) = HasMade latch id f.log
 
 -- what is ready is listed
 abbrev pub with_watch : Bool → Watch → List Watch → List Watch
 with_watch is w ws = if is then ws ++ w ∷ [] else ws
 
 -- an object's word was looked at: it says whether its state is ready
-pub record PeekedAt (c : CallerFace) (o : Object) (w : Watch) (is : Bool) (d : CallerFace) : Type 0 where
+pub record PeekedAt (f : CallerFace) (o : Object) (w : Watch) (is : Bool) (g : CallerFace) : Type 0 where
   pub word : ℕ
-  pub found : Found c o word d
+  pub found : Found f o word g
   pub answer : is ≡ is_ready found.state
-  pub ready : d.ready ≡ with_watch is w c.ready
+  pub ready : g.ready ≡ with_watch is w f.ready
 
 -- the lists of the latch set were looked at, and given back: they say whether the request no longer waits
-pub record PeekedIn (c : CallerFace) (latch id : ℕ) (is : Bool) (d : CallerFace) : Type 0 where
+pub record PeekedIn (f : CallerFace) (latch id : ℕ) (is : Bool) (g : CallerFace) : Type 0 where
   pub lists : List (List Request)
-  pub answer : is ≡ is_settled (confirm_reply c.number id (list_of lists latch))
-  pub returned : d.returned ≡ c.returned ++ lists ∷ []
-  pub ready : d.ready ≡ with_watch is (watch.Latch latch id) c.ready
-  pub same : IsSame c d
-  pub log : d.log ≡ c.log
-  pub left : d.left ≡ c.left
-  pub room : d.room ≡ c.room
-  pub told : d.told ≡ c.told
-  pub wakes : d.wakes ≡ c.wakes
-  pub met : d.met ≡ c.met
+  pub answer : is ≡ is_settled (confirm_reply f.number id (list_of lists latch))
+  pub returned : g.returned ≡ f.returned ++ lists ∷ []
+  pub ready : g.ready ≡ with_watch is (watch.Latch latch id) f.ready
+  pub same : IsSame f g
+  pub log : g.log ≡ f.log
+  pub left : g.left ≡ f.left
+  pub room : g.room ≡ f.room
+  pub told : g.told ≡ f.told
+  pub wakes : g.wakes ≡ f.wakes
+  pub met : g.met ≡ f.met
 
+-- a look for what a watch names
 abbrev pub Peeks : CallerFace → Watch → Bool → CallerFace → Type 0
-Peeks c (watch.Ecb n) is d = PeekedAt c (Ecb n) (watch.Ecb n) is d
-Peeks c (watch.Element n) is d = PeekedAt c (Element n) (watch.Element n) is d
-Peeks c (watch.Latch latch id) is d = PeekedIn c latch id is d
+Peeks f (watch.Ecb n) is g = PeekedAt f (Ecb n) (watch.Ecb n) is g
+Peeks f (watch.Element n) is g = PeekedAt f (Element n) (watch.Element n) is g
+Peeks f (watch.Latch latch id) is g = PeekedIn f latch id is g
 
 -- ---- what a listed watch promises
 
+-- the pause was given its code
 abbrev pub is_given : Reply → Bool
 is_given (reply_of.Element (Given code next)) = true
 is_given _ = false
 
+-- the block is complete
 abbrev pub is_complete_reply : Reply → Bool
 is_complete_reply (reply_of.Ecb (ecb_reply.Complete code)) = true
 is_complete_reply _ = false
 
+-- the request no longer waits
 abbrev pub is_settled_reply : Reply → Bool
 is_settled_reply (reply_of.Latch r) = is_settled r
 is_settled_reply _ = false
@@ -194,10 +201,11 @@ is_settled_reply _ = false
 -- While its watch is listed a block is answered Complete to its Settle, an element Given to the Resume of the pause that parked,
 -- and a request Granted or Gone to its Confirm.
 abbrev pub IsAsListed : CallerFace → Object → Op → Reply → Type 0
-IsAsListed c (Ecb n) (op_on.Ecb ecb_op.Settle) r = Contains c.ready (watch.Ecb n) → is_complete_reply r ≡ true
-IsAsListed c (Element n) (op_on.Element (element_op.Resume g)) r = Contains c.ready (watch.Element n) → parked n c.log ≡ Some g → is_given r ≡ true
-IsAsListed c Latches (op_on.Latch (Confirm latch id)) r = Contains c.ready (watch.Latch latch id) → is_settled_reply r ≡ true
-IsAsListed c o op r = Unit {0}
+IsAsListed f (Ecb n) (op_on.Ecb ecb_op.Settle) r = Contains f.ready (watch.Ecb n) → is_complete_reply r ≡ true
+IsAsListed f (Element n) (op_on.Element (element_op.Resume g)) r = Contains f.ready (watch.Element n) → parked n f.log ≡ Some g
+    → is_given r ≡ true
+IsAsListed f Latches (op_on.Latch (Confirm latch id)) r = Contains f.ready (watch.Latch latch id) → is_settled_reply r ≡ true
+IsAsListed f o op r = Unit {0}
 
 -- the last of some lists of wakes; none where there is none
 abbrev pub last_of : List (List Wake) → List Wake
@@ -210,12 +218,13 @@ last_of (ws ∷ more ∷ rest) = last_of (more ∷ rest)
 -- callers of this board, in order from number k on
 abbrev pub AreInOrder : BoardFace → ℕ → List CallerFace → Type 0
 AreInOrder b k [] = Unit {0}
-AreInOrder b k (c ∷ cs) = IsOf b c × (c.number ≡ k) × AreInOrder b (suc k) cs
+AreInOrder b k (f ∷ fs) = IsOf b f × (f.number ≡ k) × AreInOrder b (suc k) fs
 
 -- what a board that ends keeps of a caller that came back
 abbrev pub part_of : CallerFace → Part
-part_of k = record { caller = k.number; left = k.left; log = k.log; told = k.told; sights = k.met }
+part_of f = record { caller = f.number; left = f.left; log = f.log; told = f.told; sights = f.met }
 
+-- its entries alone
 abbrev pub log_of : Part → List Entry
 log_of p = p.log
 
@@ -235,5 +244,6 @@ pub record IsPartIn (c : Setup) (history : List Entry) (p : Part) : Type 0 where
   pub told : told c p.caller history ≡ p.told
   pub met : AllByRecursion (λ m. Had c history p.caller m.after m.object m.word) p.sights
 
+-- the same of a caller
 abbrev pub IsIn : Setup → List Entry → CallerFace → Type 0
-IsIn c history k = IsPartIn c history (part_of k)
+IsIn c history f = IsPartIn c history (part_of f)

@@ -1,7 +1,6 @@
 pub mod Words
 pub mod View
 pub mod Rule
-pub mod Parked
 pub mod Steps
 pub mod Turn
 pub mod Faces

@@ -1,16 +1,14 @@
 -- The one rule. At every moment, between any two steps of any threads, there is one legal history: the merge of the
 -- callers' logs that the views hold. The words and the lists of the latch set are what it leads to, and each view's parts
 -- are its callers' parts of it.
-use Rattle.std.specs.Prelude.{◌≡◌, ℕ, zero, suc, ◌+◌, ◌<◌, ◌≤◌, ◌==◌, Bool, true, false, ◌⊎◌, List, [], ◌∷◌, ◌++◌, length, slice_index, if◌then◌else◌}
+use Rattle.std.specs.Prelude.{◌≡◌, ℕ, zero, suc, ◌+◌, ◌<◌, ◌≤◌, ◌==◌, Bool, true, false, ◌⊎◌, List, [], ◌∷◌, ◌++◌, length, slice_index}
+use Rattle.std.specs.Prelude.{if◌then◌else◌}
 use Rattle.std.specs.List.{AllByRecursion}
 use mathlib.Core.Option.{Option, some}
 use lib.ListN.{get_elem?}
 use Rattle.atomic_table.specs.Table.{State}
 use Rattle.mv_ecb.specs.Word.{is_complete}
-use Rattle.mv_element.specs.declared.element.Phase.{Phase}
-use Rattle.mv_element.specs.declared.element.Phase.TheVariants.{Released}
-use Rattle.mv_latch.specs.declared.operation.LatchOp.TheVariants.{Obtain}
-use Rattle.mv_latch.specs.declared.operation.LatchReply.TheVariants.{Granted, Queued}
+use Rattle.mv_element.specs.Element.{is_released}
 use Rattle.mv_latch.specs.declared.request.Request.{Request}
 use Rattle.mv_machine.specs.declared.entry.Entry.{Entry}
 use Rattle.mv_machine.specs.declared.entry.Object.{Object}
@@ -19,6 +17,7 @@ use Rattle.mv_machine.specs.declared.entry.Op.TheVariants as op_on
 use Rattle.mv_machine.specs.declared.entry.Reply.{Reply}
 use Rattle.mv_machine.specs.declared.entry.Reply.TheVariants as reply_of
 use Rattle.mv_machine.specs.Check.{IsValid}
+use Rattle.mv_machine.specs.Kept.{HasMade}
 use Rattle.mv_machine.specs.Legal.{Legal, after, of}
 use Rattle.mv_machine.specs.Merge.{merged}
 use Rattle.mv_machine.specs.Owned.{IsGranted, IsGone}
@@ -39,6 +38,7 @@ use Rattle.mv_board.specs.Words.{HasWord, word_number, word_count, turn_word}
 
 -- ---- sums over the views
 
+-- the sum over all views
 abbrev pub tally : (View → ℕ) → List View → ℕ
 tally f [] = 0
 tally f (v ∷ vs) = f v + tally f vs
@@ -48,6 +48,7 @@ abbrev pub holders_in : ℕ → List Part → ℕ
 holders_in k [] = 0
 holders_in k (p ∷ ps) = (if p.caller == k then 1 else 0) + holders_in k ps
 
+-- how many parts of a view are of this caller
 abbrev pub holders : ℕ → View → ℕ
 holders k v = holders_in k v.parts
 
@@ -55,11 +56,13 @@ holders k v = holders_in k v.parts
 abbrev pub made : List View → ℕ
 made vs = tally (λ v. v.made) vs
 
+-- how many views hold the turn
 abbrev pub turns : List View → ℕ
 turns vs = tally (λ v. length v.turn) vs
 
 -- ---- the history, read off the views
 
+-- the parts of all views
 abbrev pub all_parts : List View → List Part
 all_parts [] = []
 all_parts (v ∷ vs) = v.parts ++ all_parts vs
@@ -69,10 +72,12 @@ abbrev pub log_in : ℕ → List Part → List Entry
 log_in k [] = []
 log_in k (p ∷ ps) = if p.caller == k then p.log else log_in k ps
 
+-- the log of each of n callers, from caller k on, as the views have it
 abbrev pub logs_from : ℕ → ℕ → List View → List (List Entry)
 logs_from k zero vs = []
 logs_from k (suc n) vs = log_in k (all_parts vs) ∷ logs_from (suc k) n vs
 
+-- the merge of all logs that the views hold
 abbrev pub history_of : Setup → List View → List Entry
 history_of c vs = merged (logs_from 0 c.callers vs)
 
@@ -105,6 +110,7 @@ pub record Logs (c : Setup) (vs : List View) (h : List Entry) : Type 0 where
 abbrev pub IsLists : Setup → Cell (List (List Request)) → Lists → Type 0
 IsLists c x l = (l.place ≡ x.place) × (l.latches ≡ latches_of c x.state)
 
+-- a view names the lists as they are, with their place
 abbrev pub IsNamed : Cell (List (List Request)) → Named → Type 0
 IsNamed x t = (t.place ≡ x.place) × (t.lists ≡ x.state)
 
@@ -116,21 +122,6 @@ pub record Turns (c : Setup) (x : Cell (List (List Request))) (word : ℕ) (home
   pub named : (j : ℕ) (v : View) → get_elem? vs j ≡ some v → AllByRecursion (IsNamed x) v.turn
 
 -- ---- watches
-
-abbrev pub is_released : Phase → Bool
-is_released Released = true
-is_released _ = false
-
--- whether an event made this request
-abbrev pub makes : ℕ → ℕ → Op → Reply → Bool
-makes latch id (op_on.Latch (Obtain l requestor mode form)) (reply_of.Latch (Granted i)) = if l == latch then i == id else false
-makes latch id (op_on.Latch (Obtain l requestor mode form)) (reply_of.Latch (Queued i)) = if l == latch then i == id else false
-makes latch id op reply = false
-
--- a caller made this request
-abbrev pub HasMade : ℕ → ℕ → List Entry → Type 0
-HasMade latch id [] = ⊥
-HasMade latch id (e ∷ es) = (makes latch id e.op e.reply ≡ true) ⊎ HasMade latch id es
 
 -- a caller's own block is complete, its own element released, its own request granted or gone
 abbrev pub IsReady : Setup → List Entry → ℕ → Watch → Type 0

@@ -15,6 +15,7 @@ use Rattle.mv_machine.specs.declared.entry.Reply.{Reply}
 use Rattle.mv_machine.specs.declared.entry.VolumeOp.TheVariants.{Read}
 use Rattle.mv_machine.specs.declared.packing.WordState.{WordState}
 use Rattle.mv_machine.specs.declared.packing.WordState.TheVariants as state_of
+use Rattle.mv_machine.specs.Limits.{events_limit}
 use Rattle.mv_machine.specs.Packing.{unpack}
 use Rattle.mv_machine.specs.Parts.{IsBelow, IsPossible}
 use Rattle.mv_board.specs.declared.item.Item.{Item}
@@ -23,17 +24,19 @@ use Rattle.mv_board.specs.declared.view.Sight.{Sight}
 use Rattle.mv_board.specs.declared.view.View.{View}
 use Rattle.mv_board.specs.declared.watch.Watch.{Watch}
 use Rattle.mv_board.specs.declared.watch.Watch.TheVariants as watch
-use Rattle.mv_board.specs.Parked.{parked}
-use Rattle.mv_board.specs.Rule.{is_released}
+use Rattle.mv_machine.specs.Parked.{parked}
+use Rattle.mv_element.specs.Element.{is_released}
 use Rattle.mv_board.specs.View.{own, with_own, logged, met, listed}
 use Rattle.mv_board.specs.Words.{object_of, changed, fits, test_of}
 
 -- ---- what was announced
 
+-- the operation that an item announces
 abbrev pub op_said : Item → Op
 op_said (Said op) = op
 op_said _ = op_on.Volume Read
 
+-- the same, where an item is announced
 abbrev pub op_of : Option Item → Op
 op_of (some i) = op_said i
 op_of none = op_on.Volume Read
@@ -66,7 +69,7 @@ pub record Meets (v : View) (o : Object) (w : ℕ) : Type 0 where
   pub unpacks : unpack o w ≡ Some (place, state)
   pub fitting : fits place state ≡ true
   pub above : IsBelow o place (own v).log
-  pub room : 0 < (own v).left → place < 524287
+  pub room : 0 < (own v).left → place < events_limit
   pub ready : (x : Watch) → watch_of o ≡ Some x → Contains v.ready x → is_ready state ≡ true
   pub pause : (n g : ℕ) (s : ElementState) → o ≡ Element n → state ≡ state_of.Element s → Contains v.ready (watch.Element n)
       → parked n (own v).log ≡ Some g → s.generation ≡ g

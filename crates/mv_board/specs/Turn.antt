@@ -4,15 +4,14 @@ use Rattle.std.specs.List.{AllByRecursion, Contains}
 use mathlib.Core.Option.{some}
 use Rattle.atomic_table.specs.Table.{Me, Step, rest}
 use Rattle.mv_latch.specs.declared.operation.LatchOp.{LatchOp}
-use Rattle.mv_latch.specs.declared.operation.LatchReply.{LatchReply}
-use Rattle.mv_latch.specs.declared.operation.LatchReply.TheVariants.{Granted, Gone}
-use Rattle.mv_latch.specs.Latch.{confirm_reply}
+use Rattle.mv_latch.specs.Latch.{confirm_reply, is_settled}
 use Rattle.mv_latch.specs.LatchSet.{list_of, latch_admitted, latch_step, wakes, IsNewId}
 use Rattle.mv_machine.specs.declared.entry.Entry.{Entry}
 use Rattle.mv_machine.specs.declared.entry.Object.TheVariants.{Latches}
 use Rattle.mv_machine.specs.declared.entry.Op.TheVariants as op_on
 use Rattle.mv_machine.specs.declared.entry.Reply.TheVariants as reply_of
-use Rattle.mv_machine.specs.Kept.{allowed}
+use Rattle.mv_machine.specs.Kept.{allowed, HasMade}
+use Rattle.mv_machine.specs.Limits.{events_limit}
 use Rattle.mv_machine.specs.Parts.{IsBelow}
 use Rattle.mv_machine.specs.System.{latches_of}
 use Rattle.mv_board.specs.declared.item.Item.{Item}
@@ -21,7 +20,6 @@ use Rattle.mv_board.specs.declared.item.Lists.{Lists}
 use Rattle.mv_board.specs.declared.view.Named.{Named}
 use Rattle.mv_board.specs.declared.view.View.{View}
 use Rattle.mv_board.specs.declared.watch.Watch.TheVariants as watch
-use Rattle.mv_board.specs.Rule.{HasMade}
 use Rattle.mv_board.specs.Steps.{op_of, PossibleFor}
 use Rattle.mv_board.specs.View.{own, logged, listed, with_turn, with_returned}
 
@@ -29,17 +27,11 @@ use Rattle.mv_board.specs.View.{own, logged, listed, with_turn, with_returned}
 abbrev pub named_by : Lists → Named
 named_by l = record { place = l.place; lists = l.latches.lists }
 
--- whether a request no longer waits: it is granted, or gone
-abbrev pub is_settled : LatchReply → Bool
-is_settled (Granted id) = true
-is_settled Gone = true
-is_settled _ = false
-
 -- what a seat learns of the lists that it takes: their place is above the own ones and leaves room for an event, they are the
 -- configuration's, one for each latch, what the own entries allow they admit, and what is listed no longer waits
 pub record MeetsLists (v : View) (l : Lists) : Type 0 where
   pub above : IsBelow Latches l.place (own v).log
-  pub room : 0 < (own v).left → l.place < 524287
+  pub room : 0 < (own v).left → l.place < events_limit
   pub new : (id : ℕ) → l.place ≤ id → IsNewId id l.latches.lists
   pub set : AllByRecursion (λ c. l.latches ≡ latches_of c l.latches.lists) v.about
   pub count : AllByRecursion (λ c. length l.latches.lists ≡ c.latches) v.about

@@ -26,6 +26,7 @@ abbrev pub first_of : List Part → Part
 first_of [] = record { caller = 0; left = 0; log = []; told = []; sights = [] }
 first_of (p ∷ ps) = p
 
+-- the part of the caller whose seat it is
 abbrev pub own : View → Part
 own v = first_of v.parts
 
@@ -52,6 +53,7 @@ takes_off Latches (op_on.Latch (Obtain latch requestor mode form)) (watch.Latch 
 takes_off Latches op (watch.Latch l id) = true
 takes_off o op w = false
 
+-- the watches that an event leaves
 abbrev pub off : Object → Op → List Watch → List Watch
 off o op ws = filter (λ w. not (takes_off o op w)) ws
 
@@ -73,20 +75,30 @@ first_view c = fresh_view c 0 1
 abbrev pub cut_left : View → View
 cut_left v = record v { made = v.made + 1 }
 
+-- the part of caller k, where there is a configuration
 abbrev pub fresh_in : List Setup → ℕ → List Part
 fresh_in [] k = []
 fresh_in (c ∷ cs) k = fresh c k ∷ []
 
+-- what the new seat of a split sees
 abbrev pub cut_right : View → View
 cut_right v = record { parts = fresh_in v.about v.made; made = 0; turn = []; returned = []; ready = []; about = v.about }
 
+-- the configuration of either view
 abbrev pub either_about : List Setup → List Setup → List Setup
 either_about [] cs = cs
 either_about (c ∷ cs) ds = c ∷ cs
 
 -- a join takes over the other's parts. No watch stays listed
 abbrev pub joined : View → View → View
-joined v w = record { parts = v.parts ++ w.parts; made = v.made + w.made; turn = v.turn ++ w.turn; returned = v.returned; ready = []; about = either_about v.about w.about }
+joined v w = record {
+  parts = v.parts ++ w.parts;
+  made = v.made + w.made;
+  turn = v.turn ++ w.turn;
+  returned = v.returned;
+  ready = [];
+  about = either_about v.about w.about;
+}
 
 -- an event of the seat's own caller
 abbrev pub logged : Entry → List (List Wake) → View → View

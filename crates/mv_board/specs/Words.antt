@@ -1,5 +1,6 @@
 -- Which word of the table is which object's, and what an operation makes of a word.
-use Rattle.std.specs.Prelude.{ℕ, ◌+◌, ◌*◌, ◌-◌, ◌==◌, nat_le, nat_lt, Bool, true, ◌&&◌, length, Option, None, option_map, option_and_then, if◌then◌else◌}
+use Rattle.std.specs.Prelude.{ℕ, ◌+◌, ◌*◌, ◌-◌, ◌==◌, nat_le, nat_lt, Bool, true, ◌&&◌, length, Option, None, option_map, option_and_then}
+use Rattle.std.specs.Prelude.{if◌then◌else◌}
 use Rattle.mv_machine.specs.declared.entry.Object.{Object}
 use Rattle.mv_machine.specs.declared.entry.Object.TheVariants.{Ecb, Element, Volume, Latches}
 use Rattle.mv_machine.specs.declared.entry.Op.{Op}
@@ -11,23 +12,28 @@ use Rattle.mv_machine.specs.declared.packing.WordState.TheVariants as state
 use Rattle.mv_ecb.specs.declared.operation.EcbOp.TheVariants as ecb_op
 use Rattle.mv_element.specs.declared.operation.ElementOp.TheVariants as element_op
 use Rattle.mv_machine.specs.Elements.{extra}
+use Rattle.mv_machine.specs.Limits.{events_limit}
 use Rattle.mv_machine.specs.Packing.{pack, unpack, state_step}
 use Rattle.mv_machine.specs.Setup.{Setup, IsObjectOf}
 
 -- ---- the words: 8 volumes, 256 elements, the turn of the latch set, and the event control blocks
 
+-- the word of the turn
 abbrev pub turn_word : ℕ
 turn_word = 264
 
+-- the number of the word of an object
 abbrev pub word_number : Object → ℕ
 word_number (Volume n) = n
 word_number (Element n) = 8 + n
 word_number Latches = turn_word
 word_number (Ecb n) = 265 + n
 
+-- the object that has the word of this number
 abbrev pub object_of : ℕ → Object
 object_of i = if nat_lt i 8 then Volume i else if nat_lt i 264 then Element (i - 8) else if i == 264 then Latches else Ecb (i - 265)
 
+-- how many words a board has
 abbrev pub word_count : Setup → ℕ
 word_count c = 265 + length c.owners
 
@@ -47,7 +53,8 @@ fits place s = true
 -- further event
 abbrev pub changed : Object → Op → ℕ → Option (ℕ × ℕ × Reply)
 changed o op w =
-    option_and_then (λ x. if nat_lt x.0 524287 && fits x.0 x.1 then option_map (λ r. (x.0, pack (x.0 + 1) r.0, r.1)) (state_step op x.1) else None) (unpack o w)
+    option_and_then (λ x. if nat_lt x.0 events_limit && fits x.0 x.1 then option_map (λ r. (x.0, pack (x.0 + 1) r.0, r.1))
+    (state_step op x.1) else None) (unpack o w)
 
 -- the operation that reads a word and changes its place alone
 abbrev pub test_of : Object → Op

@@ -85,8 +85,8 @@ impl Board {
     fn seats(&self, alloc: Global, mut first: Seat<Item, View>) -> Result<Vec<Caller>, NoMemory>
         requires board { first.table_id ≡ self.now.table }
         requires first { first.me ≡ (first_view self.now.config, []) }
-        ensures callers { IfOk result (λ cs. AreFresh self.now 0 cs.items) }
-        ensures count { IfOk result (λ cs. length cs.items ≡ self.now.config.callers) }
+        ensures callers { IfOk result (λ fs. AreFresh self.now 0 fs.items) }
+        ensures count { IfOk result (λ fs. length fs.items ≡ self.now.config.callers) }
     {
         let count = self.config.config().callers;
         let mut callers = Vec::with_capacity(alloc, count as usize)?;
@@ -310,15 +310,14 @@ fn seated(
 ) -> Result<Caller, NoMemory>
     requires number { number < config.now.callers }
     requires seat { seat.me ≡ (fresh_view config.now number seat.me.0.made, []) }
-    ensures { IfOk result (λ d. IsFresh record { table = seat.table_id; config = config.now } number d) }
+    ensures { IfOk result (λ f. IsFresh record { table = seat.table_id; config = config.now } number f) }
 {
-    let given = config.config();
-    let left = given.budgets[number as usize];
+    let left = config.config().budgets[number as usize];
     let events = Events {
         caller: number,
         left,
         log: Vec::with_capacity(alloc, left as usize)?,
-        wakes: Vec::with_capacity(alloc, given.callers as usize * given.quota as usize)?,
+        wakes: Vec::with_capacity(alloc, config.most_wakes())?,
     };
     Ok(Caller { events, seat })
 }

@@ -2,6 +2,7 @@
 
 ghost use Rattle.std.specs.Prelude.{◌≡◌, ◌<◌, ◌≤◌, ◌-◌, ◌++◌, ◌∷◌, [], vec_len, vec_capacity};
 ghost use Rattle.std.specs.List.{AllByRecursion};
+ghost use Rattle.mv_machine.specs.Limits.{events_limit};
 ghost use Rattle.mv_machine.specs.Setup.{Setup};
 ghost use Rattle.mv_board.specs.Faces.{last_of};
 
@@ -68,7 +69,7 @@ impl Caller {
     /// Its number. There is such a caller.
     pub fn number(&self) -> u32
         ensures number { result ≡ self.now.number }
-        ensures exists { AllByRecursion (λ (s : Setup). result < s.callers) self.now.about }
+        ensures exists { AllByRecursion (λ (c : Setup). result < c.callers) self.now.about }
     {
         self.events.caller
     }
@@ -77,7 +78,7 @@ impl Caller {
     pub fn left(&self) -> u32
         ensures left { result ≡ self.now.left }
         ensures room { result ≤ self.now.room }
-        ensures few { result ≤ 524287 }
+        ensures few { result ≤ events_limit }
     {
         self.events.left
     }

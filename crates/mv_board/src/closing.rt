@@ -4,6 +4,7 @@
 ghost use Rattle.std.specs.Prelude.{◌≡◌, ◌≤◌, ◌++◌, ◌∷◌, [], length, map};
 ghost use Rattle.std.specs.List.{AllByRecursion};
 ghost use Rattle.mv_machine.specs.Legal.{Legal, after};
+ghost use Rattle.mv_machine.specs.Limits.{events_limit};
 ghost use Rattle.mv_machine.specs.Merge.{merged as merged_logs};
 ghost use Rattle.mv_machine.specs.Parts.{KeepsBudgets};
 ghost use Rattle.mv_machine.specs.State.{system_of, wakes_of, IsOpenedWith};
@@ -44,8 +45,8 @@ impl Board {
         ensures config { result.config ≡ self.config }
         ensures legal { Legal self.config result.journal.items }
         ensures budgets { KeepsBudgets self.config result.journal.items }
-        ensures few { length result.journal.items ≤ 524287 }
-        ensures merged { result.journal.items ≡ merged_logs (map (λ k. k.log) callers.items) }
+        ensures few { length result.journal.items ≤ events_limit }
+        ensures merged { result.journal.items ≡ merged_logs (map (λ f. f.log) callers.items) }
         ensures callers { AllByRecursion (IsIn self.config result.journal.items) callers.items }
         ensures state { system_of result.state ≡ after self.config result.journal.items }
         ensures wakes { wakes_of result.state ≡ last_wakes self.config result.journal.items }
@@ -135,7 +136,7 @@ impl Closing {
         ensures config { result.config ≡ self.board.config }
         ensures legal { Legal self.board.config result.journal.items }
         ensures budgets { KeepsBudgets self.board.config result.journal.items }
-        ensures few { length result.journal.items ≤ 524287 }
+        ensures few { length result.journal.items ≤ events_limit }
         ensures merged { result.journal.items ≡ merged_logs (map log_of self.back) }
         ensures callers { AllByRecursion (IsPartIn self.board.config result.journal.items) self.back }
         ensures state { system_of result.state ≡ after self.board.config result.journal.items }
@@ -170,7 +171,7 @@ fn go_through(state: &mut State, config: &ValidConfig, entries: &[Entry])
     requires opening { system_of state.old ≡ opening config.now }
     requires unshown { wakes_of state.old ≡ [] }
     requires legal { Legal config.now entries.now }
-    requires few { length entries.now ≤ 524287 }
+    requires few { length entries.now ≤ events_limit }
     ensures after { system_of state.new ≡ after config.now entries.now }
     ensures wakes { wakes_of state.new ≡ last_wakes config.now entries.now }
     ensures opened { IsOpenedWith config.now state.new }

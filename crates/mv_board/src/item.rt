@@ -1,3 +1,5 @@
+//! What stands in the slot of the latch set, and what steps announce.
+
 use mv_latch::LatchSet;
 use mv_machine::Op;
 

@@ -1,11 +1,13 @@
+//! Events of callers on one board: each call once, callers on threads of their own, and the history that a board leaves.
+
 ghost use Rattle.std.specs.Prelude.{◌≡◌, ◌+◌, ◌<◌, ◌≤◌, ℕ, [], ◌∷◌, true, false, length, IfOk};
 ghost use Rattle.mv_latch.specs.Request.{is_posted};
-ghost use Rattle.mv_machine.specs.Kept.{allowed, standing, stands_after};
+ghost use Rattle.mv_machine.specs.Kept.{allowed, standing, stands_after, makes, HasMade};
 ghost use Rattle.mv_machine.specs.Legal.{Legal};
+ghost use Rattle.mv_machine.specs.Limits.{events_limit};
 ghost use Rattle.mv_machine.specs.Setup.{element_count};
 ghost use Rattle.mv_machine.specs.System.{ecb_admitted, element_admitted};
 ghost use Rattle.mv_board.specs.Faces.{IsOf, IsFresh, AreFresh};
-ghost use Rattle.mv_board.specs.Rule.{makes, HasMade};
 
 use super::*;
 use mv_ecb::{EcbOp, EcbReply};
@@ -71,8 +73,8 @@ fn close_two(alloc: Global, board: Board, first: Caller, second: Caller) -> Resu
     requires two { board.config.callers ≡ 2 }
     requires first { IsOf board first × (first.number ≡ 0) }
     requires second { IsOf board second × (second.number ≡ 1) }
-    ensures legal { IfOk result (λ k. Legal k.config k.journal.items) }
-    ensures few { IfOk result (λ k. length k.journal.items ≤ 524287) }
+    ensures legal { IfOk result (λ e. Legal e.config e.journal.items) }
+    ensures few { IfOk result (λ e. length e.journal.items ≤ events_limit) }
 {
     Ok(board.close(vec![in alloc; first, second]?))
 }
@@ -104,8 +106,8 @@ fn close_three(
     requires first { IsOf board first × (first.number ≡ 0) }
     requires second { IsOf board second × (second.number ≡ 1) }
     requires third { IsOf board third × (third.number ≡ 2) }
-    ensures legal { IfOk result (λ k. Legal k.config k.journal.items) }
-    ensures few { IfOk result (λ k. length k.journal.items ≤ 524287) }
+    ensures legal { IfOk result (λ e. Legal e.config e.journal.items) }
+    ensures few { IfOk result (λ e. length e.journal.items ≤ events_limit) }
 {
     Ok(board.close(vec![in alloc; first, second, third]?))
 }
@@ -356,7 +358,7 @@ fn post_beside_tests<R: Abort + Wait + Threads + Sync>(
 // Whether a journal is judged legal, and leads the block to the same place and word.
 fn is_replayed<R: Abort>(rt: &R, alloc: Global, closed: &Closed) -> bool
     requires legal { Legal closed.now.config closed.now.journal.items }
-    requires few { length closed.now.journal.items ≤ 524287 }
+    requires few { length closed.now.journal.items ≤ events_limit }
 {
     let Ok(state) = replay(alloc, &closed.config, &closed.journal) else {
         return false;

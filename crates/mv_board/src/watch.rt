@@ -1,3 +1,5 @@
+//! What a caller may wait for.
+
 /// What a caller waits for: that its event control block is complete, that its element is released, or that a latch request
 /// that it made is granted or gone.
 #[derive(Clone, Copy, Debug, PartialEq, Eq)]

@@ -9,7 +9,9 @@ ghost use Rattle.mv_board.specs.Words.{word_number as number_of, changed, fits a
 
 use mv_ecb::EcbOp;
 use mv_element::{ElementOp, Phase};
-use mv_machine::{Object, Op, Reply, VolumeOp, WordState, pack, state_apply, unpack};
+use mv_machine::{
+    HIGHEST_PLACE, Object, Op, Reply, VolumeOp, WordState, pack, state_apply, unpack,
+};
 
 /// The word of the latch set's turn.
 pub(crate) const TURN: usize = 264;
@@ -19,9 +21,6 @@ pub(crate) const BEFORE_ECBS: usize = 265;
 
 /// One place more, in a word.
 pub(crate) const PLACE: u64 = 1 << 45;
-
-/// The highest place of a run's last event.
-const HIGHEST_PLACE: u32 = 524_286;
 
 /// The number of an object's word.
 pub(crate) fn word_number(object: Object) -> usize
@@ -42,7 +41,7 @@ pub(crate) fn test_of(object: Object) -> Op
     match object {
         Object::Ecb(_) => Op::Ecb(EcbOp::Test),
         Object::Element(_) => Op::Element(ElementOp::Test),
-        _ => Op::Volume(VolumeOp::Read),
+        Object::Volume(_) | Object::Latches => Op::Volume(VolumeOp::Read),
     }
 }
 
@@ -54,7 +53,7 @@ fn fits(place: u32, state: &WordState) -> bool
         WordState::Element(state) => {
             2 * u64::from(state.generation) + extra(state.phase) <= u64::from(place)
         }
-        _ => true,
+        WordState::Ecb(_) | WordState::Volume(_) => true,
     }
 }
 

@@ -7,11 +7,18 @@ use Rattle.mv_ecb.specs.declared.operation.EcbReply.TheVariants.{Armed, Linked, 
 use Rattle.mv_ecb.specs.declared.operation.EcbReply.TheVariants as reply
 use Rattle.mv_ecb.specs.Word.{EcbState, Zero, Waiting, Extended, Complete, word_of}
 
--- a code has 30 bits, and so has the number of an exit, which is not 0
+-- codes and the numbers of exits have 30 bits
+abbrev pub code_limit : ℕ
+code_limit = 2 ^ 30
+
+-- an operation's code is below that, and so is the number of its exit, which is not 0
 abbrev pub IsEcbOp : EcbOp → Type 0
-IsEcbOp (Extend x) = (1 ≤ x) × (x < 2 ^ 30)
-IsEcbOp (Post d) = d < 2 ^ 30
-IsEcbOp _ = Unit {0}
+IsEcbOp Arm = Unit {0}
+IsEcbOp (Extend x) = (1 ≤ x) × (x < code_limit)
+IsEcbOp Settle = Unit {0}
+IsEcbOp Clear = Unit {0}
+IsEcbOp (Post d) = d < code_limit
+IsEcbOp Test = Unit {0}
 
 -- the table, a line a cell: the operation and the state give the new state and the reply
 abbrev pub ecb_step : EcbOp → EcbState → EcbState × EcbReply

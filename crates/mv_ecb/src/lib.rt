@@ -8,7 +8,7 @@ mod operation;
 mod word;
 
 pub use laws::complete_keeps_its_code;
-pub use operation::{EcbOp, EcbReply};
+pub use operation::{CODE_LIMIT, EcbOp, EcbReply};
 pub use word::{EcbWord, ecb_apply};
 
 #[cfg(test)]

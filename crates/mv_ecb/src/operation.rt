@@ -1,5 +1,8 @@
 //! What is done with an event control block, and what it answers.
 
+/// Codes and the numbers of exits are below this.
+pub const CODE_LIMIT: u32 = 1 << 30;
+
 /// What is done with an event control block.
 #[derive(Clone, Copy, Debug, PartialEq, Eq)]
 pub enum EcbOp {

@@ -88,9 +88,9 @@ fn is_valid(op: EcbOp) -> bool
     ensures { IsTrue result → IsEcbOp op }
 {
     match op {
-        EcbOp::Extend(exit) => 1 <= exit && exit < 1 << 30,
-        EcbOp::Post(code) => code < 1 << 30,
-        _ => true,
+        EcbOp::Extend(exit) => 1 <= exit && exit < CODE_LIMIT,
+        EcbOp::Post(code) => code < CODE_LIMIT,
+        EcbOp::Arm | EcbOp::Settle | EcbOp::Clear | EcbOp::Test => true,
     }
 }
 

@@ -2,7 +2,7 @@
 
 ghost use Rattle.std.specs.Prelude.{◌≡◌, ◌<◌, ◌^◌, ◌↔◌, IsSome, IfSome};
 ghost use Rattle.mv_ecb.specs.Word.{IsEcbWord, Zero, is_complete as is_complete_state, word_of, state_of};
-ghost use Rattle.mv_ecb.specs.Table.{IsEcbOp, ecb_step, wait_step, standing_reply};
+ghost use Rattle.mv_ecb.specs.Table.{IsEcbOp, code_limit, ecb_step, wait_step, standing_reply};
 
 use crate::operation::{EcbOp, EcbReply};
 use std::marker::Model;
@@ -85,7 +85,7 @@ pub fn ecb_apply(op: EcbOp, word: EcbWord) -> (EcbWord, EcbReply)
 
 // Arm where the exit is 0, and else Extend.
 fn begin_wait(word: EcbWord, exit: u32) -> (EcbWord, EcbReply)
-    requires { exit < 2 ^ 30 }
+    requires { exit < code_limit }
     ensures { result ≡ wait_step exit word }
 {
     if word.bits == 0 {
@@ -107,7 +107,7 @@ fn end_wait(word: EcbWord) -> (EcbWord, EcbReply)
 }
 
 fn post(word: EcbWord, code: u32) -> (EcbWord, EcbReply)
-    requires { code < 2 ^ 30 }
+    requires { code < code_limit }
     ensures { result ≡ ecb_step (EcbOp.Post code) word }
 {
     let value = word.bits & VALUE_BITS;

@@ -1,6 +1,7 @@
 -- The states of a pause element, one for each phase.
-use Rattle.std.specs.Prelude.{ℕ, refl}
+use Rattle.std.specs.Prelude.{ℕ, Bool, true, false, refl}
 use Rattle.mv_element.specs.declared.element.ElementState.{ElementState}
+use Rattle.mv_element.specs.declared.element.Phase.{Phase}
 use Rattle.mv_element.specs.declared.element.Phase.TheVariants.{Free, Reset, Prereleased, Paused, Released}
 
 -- not allocated
@@ -22,3 +23,8 @@ paused g = record { generation = g; phase = Paused; code = 0; kept = refl }
 -- the pause was released, with this code
 abbrev pub released : ℕ → ℕ → ElementState
 released g d = record { generation = g; phase = Released; code = d; kept = refl }
+
+-- whether a pause was released and not resumed yet
+abbrev pub is_released : Phase → Bool
+is_released Released = true
+is_released _ = false

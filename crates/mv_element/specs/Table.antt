@@ -10,9 +10,17 @@ use Rattle.mv_element.specs.declared.operation.ElementReply.TheVariants.{Opened,
 use Rattle.mv_element.specs.Element.{free, reset, prereleased, paused, released}
 
 -- a release code has three bytes
+abbrev pub release_limit : ℕ
+release_limit = 2 ^ 24
+
+-- an operation's release code is below that
 abbrev pub IsElementOp : ElementOp → Type 0
-IsElementOp (Release g d) = d < 2 ^ 24
-IsElementOp _ = Unit {0}
+IsElementOp Open = Unit {0}
+IsElementOp (Pause g) = Unit {0}
+IsElementOp (Resume g) = Unit {0}
+IsElementOp (Release g d) = d < release_limit
+IsElementOp (Close g) = Unit {0}
+IsElementOp Test = Unit {0}
 
 -- whether the pause of generation g may still come, or is on
 abbrev pub is_current : Phase → ℕ → ℕ → Bool

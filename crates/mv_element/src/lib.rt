@@ -10,7 +10,7 @@ mod table;
 
 pub use element::{ElementState, Phase, Token};
 pub use laws::generation_rises_as_it_ends;
-pub use operation::{ElementOp, ElementReply};
+pub use operation::{ElementOp, ElementReply, RELEASE_LIMIT};
 pub use table::element_apply;
 
 #[cfg(test)]

@@ -4,6 +4,9 @@ ghost use Rattle.std.specs.Prelude.{◌≡◌, ◌↔◌, IsTrue};
 
 use crate::element::ElementState;
 
+/// Release codes, of three bytes, are below this.
+pub const RELEASE_LIMIT: u32 = 1 << 24;
+
 /// What is done with a pause element. The first number is a generation, which may be any; the second is a release
 /// code, below 2^24.
 #[derive(Clone, Copy, Debug, PartialEq, Eq)]

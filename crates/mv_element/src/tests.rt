@@ -9,8 +9,12 @@ fn is_valid(op: ElementOp) -> bool
     ensures { IsTrue result → IsElementOp op }
 {
     match op {
-        ElementOp::Release(_, code) => code < 1 << 24,
-        _ => true,
+        ElementOp::Release(_, code) => code < RELEASE_LIMIT,
+        ElementOp::Open
+        | ElementOp::Pause(_)
+        | ElementOp::Resume(_)
+        | ElementOp::Close(_)
+        | ElementOp::Test => true,
     }
 }
 

@@ -1,5 +1,5 @@
 -- One latch: a list of requests in the order of their arrival, and what each operation does to it.
-use Rattle.std.specs.Prelude.{ℕ, Bool, true, not, ◌&&◌, List, [], ◌∷◌, ◌++◌, length, filter, map, drop, ◌≤◌, if◌then◌else◌}
+use Rattle.std.specs.Prelude.{ℕ, Bool, true, false, not, ◌&&◌, List, [], ◌∷◌, ◌++◌, length, filter, map, drop, ◌≤◌, if◌then◌else◌}
 use Rattle.std.specs.List.{list_any, list_all}
 use Rattle.mv_latch.specs.declared.request.Request.{Request}
 use Rattle.mv_latch.specs.declared.operation.LatchReply.{LatchReply}
@@ -87,3 +87,9 @@ HasDistinctIds qs = (id : ℕ) → length (filter (has_id id) qs) ≤ 1
 -- the wakes of a list that changed: its newly granted requests, with code 0
 abbrev pub granted_wakes : List Request → List Request → List Wake
 granted_wakes old new = map (wake_of 0) (newly_granted old new)
+
+-- whether a confirmed request no longer waits: it is granted, or gone
+abbrev pub is_settled : LatchReply → Bool
+is_settled (Granted id) = true
+is_settled Gone = true
+is_settled _ = false

@@ -12,7 +12,7 @@ use Rattle.mv_element.specs.declared.element.Phase.TheVariants.{Prereleased, Rel
 use Rattle.mv_element.specs.Element.{free}
 use Rattle.mv_element.specs.Table.{element_step}
 use Rattle.mv_machine.specs.System.{Cell}
-use Rattle.mv_machine.proofs.OneObject.{Table, turn, cell_after, RunFrom, RunFrom-front, RunFrom-rest, along}
+use Rattle.mv_machine.proofs.OneObject.{Table, next_cell, cell_after, RunFrom, RunFrom-front, RunFrom-rest, along}
 use Rattle.mv_machine.specs.Elements.{ElementEvent, given_code, accepted_code, releases, givens, ends_by, IsSpentUpTo, IsOrderlyElement}
 
 -- an event answers what the table says at this state
@@ -45,7 +45,7 @@ pub passed : (g : ℕ) (cell : Cell ElementState) (vs : List ElementEvent) → g
 passed g cell [] lt l = record { none_released = refl; none_given = refl; all_spent = tt }
 passed g cell (v ∷ vs) lt l =
     let up : cell.state.generation ≤ (element_step v.op cell.state).0.generation = rises v.op cell.state in
-    let rest : Passed g vs = passed g (turn element_table cell v) vs (omega arith) l.1 in
+    let rest : Passed g vs = passed g (next_cell element_table cell v) vs (omega arith) l.1 in
     record {
       none_released = rw (no_accepted g cell.state v l.0.reply lt) rest.none_released;
       none_given = rw (no_given g cell.state v l.0.reply lt) rest.none_given;
@@ -189,12 +189,12 @@ module _ (g : ℕ) (vs before later : List ElementEvent) (v : ElementEvent) (l :
       let w : (there.state.generation ≡ g) × (kept_in there.state ≡ code ∷ []) × (g < (element_step v.op there.state).0.generation) =
       given_kept g code there.state v run.1.0.reply is in
       let k : Known g (releases g before) (givens g before) there.state = known g before run.0 in
-      ((k.now w.0).0 ∙ w.1, (passed g (turn element_table there v) later w.2 run.1.1).none_released)
+      ((k.now w.0).0 ∙ w.1, (passed g (next_cell element_table there v) later w.2 run.1.1).none_released)
 
   -- part 3
   pub spent_later : IsTrue (ends_by g v.op v.reply) → AllByRecursion (IsSpentUpTo g) later
   spent_later is =
-      (passed g (turn element_table there v) later (ends_up g there.state v run_at.1.0.reply is) run_at.1.1).all_spent
+      (passed g (next_cell element_table there v) later (ends_up g there.state v run_at.1.0.reply is) run_at.1.1).all_spent
 
 pub element_is_orderly : (vs : List ElementEvent) → RunFrom element_table start vs → IsOrderlyElement vs
 element_is_orderly vs l = record {

@@ -25,13 +25,15 @@ pub mod Words
 pub mod WordSteps
 -- merge, and the law on merging
 pub mod Picks
-pub mod Turns
+pub mod Lefts
 pub mod Merged
 pub mod OneHistory
 -- generations_fit, and what a history keeps to at one element
 pub mod OneObject
 pub mod ElementLaws
 pub mod ElementRuns
+-- posts_complete_once
+pub mod OnePost
 -- others_keep_what_is_owned
 pub mod Owners
 pub mod GrantRuns
@@ -45,31 +47,8 @@ pub mod StandingCounts
 pub mod LatchNumbers
 pub mod Allowed
 -- histories_are_orderly
-pub mod Orderly
--- last_event_is_the_machines, generations_in_replies
-pub mod Behind
 pub mod Replies
-pub mod Generations
--- keeping_agrees, own_blocks_answer, own_elements_answer
-pub mod Folds
-pub mod Blocks
-pub mod Elements
-pub mod AtRest
-pub mod OwnBlocks
-pub mod OwnReplies
--- quotas_hold, wakes_are_in_range
 pub mod Requests
-pub mod Wakes
--- requests_leave_by_purges, requests_stay, latches_answer, requests_at_rest
-pub mod Purged
-pub mod Gone
-pub mod LatchReplies
-pub mod Queues
--- posts_reach
-pub mod Posting
--- the laws in the words of a caller's own log
-pub mod Uses
--- calls of the services, for the crates above
-pub mod calls
+pub mod Orderly
 -- worked rows
 pub mod Rows

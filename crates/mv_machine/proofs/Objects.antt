@@ -14,7 +14,7 @@ use Rattle.mv_machine.specs.declared.entry.Reply.{Reply}
 use Rattle.mv_machine.specs.declared.entry.Entry.{Entry}
 use Rattle.mv_machine.specs.Told.{told_at, told_from}
 use Rattle.mv_machine.specs.Setup.{Setup}
-use Rattle.mv_machine.specs.System.{System, moved, place_of, turned, volume_step}
+use Rattle.mv_machine.specs.System.{System, moved, place_of, advanced, volume_step}
 use Rattle.mv_machine.specs.Legal.{IsNext, next, after_from, LegalFrom, same_object, SameAt, of, «at», CountsFrom}
 use Rattle.mv_machine.proofs.Histories.{place-moved, with_at-same, with_at-other}
 
@@ -38,19 +38,19 @@ next_there : (c : Setup) (s t : System) (k : ℕ) (o : Object) (p : ℕ) (op : O
     → IsNext c t (entry_of k o p op r) × SameAt o (moved s k o op) (moved t k o op)
 next_there c s t k (Ecb n) p (op_on.Ecb op) r same h = (
   record { admits = h.admits; place = rw (← same) h.place; reply = rw (← same) h.reply },
-  with_at-same s.ecb n _ n refl ∙ ap (λ z. turned z (ecb_step op z.state).0) same ∙ sym (with_at-same t.ecb n _ n refl),
+  with_at-same s.ecb n _ n refl ∙ ap (λ z. advanced z (ecb_step op z.state).0) same ∙ sym (with_at-same t.ecb n _ n refl),
 )
 next_there c s t k (Element n) p (op_on.Element op) r same h = (
   record { admits = h.admits; place = rw (← same) h.place; reply = rw (← same) h.reply },
-  with_at-same s.element n _ n refl ∙ ap (λ z. turned z (element_step op z.state).0) same ∙ sym (with_at-same t.element n _ n refl),
+  with_at-same s.element n _ n refl ∙ ap (λ z. advanced z (element_step op z.state).0) same ∙ sym (with_at-same t.element n _ n refl),
 )
 next_there c s t k (Volume n) p (op_on.Volume op) r same h = (
   record { admits = h.admits; place = rw (← same) h.place; reply = rw (← same) h.reply },
-  with_at-same s.volume n _ n refl ∙ ap (λ z. turned z (volume_step op z.state).0) same ∙ sym (with_at-same t.volume n _ n refl),
+  with_at-same s.volume n _ n refl ∙ ap (λ z. advanced z (volume_step op z.state).0) same ∙ sym (with_at-same t.volume n _ n refl),
 )
 next_there c s t k Latches p (op_on.Latch op) r same h = (
   record { admits = rw (← same) h.admits; place = rw (← same) h.place; reply = rw (← same) h.reply },
-  ap (λ z. turned z (latch_step k z.place op z.state).0) same,
+  ap (λ z. advanced z (latch_step k z.place op z.state).0) same,
 )
 next_there c s t k o p op r same h = absurd (false≢true h.admits)
 
@@ -136,7 +136,7 @@ told_at-same s t me k Latches (op_on.Latch op) same = rw same refl
 told_at-same s t me k o op same = refl
 
 latches-same : (s t : System) (k : ℕ) (o : Object) (op : Op) → s.latches ≡ t.latches → (moved s k o op).latches ≡ (moved t k o op).latches
-latches-same s t k Latches (op_on.Latch op) same = ap (λ z. turned z (latch_step k z.place op z.state).0) same
+latches-same s t k Latches (op_on.Latch op) same = ap (λ z. advanced z (latch_step k z.place op z.state).0) same
 latches-same s t k (Ecb n) (op_on.Ecb op) same = same
 latches-same s t k (Element n) (op_on.Element op) same = same
 latches-same s t k (Volume n) (op_on.Volume op) same = same

@@ -1,48 +1,74 @@
 -- Runs of one object alone, of any kind.
-use Rattle.std.proofs.Common.{◌≡◌, ℕ, List, [], ◌∷◌, ◌++◌, refl, append-nil, append_assoc}
-use Rattle.mv_machine.specs.System.{Cell, turned}
+use Rattle.std.proofs.Common.{◌≡◌, ℕ, List, [], ◌∷◌, ◌++◌, ◌⊎◌, inl, inr, Option, Some, None, refl, append-nil, append_assoc}
+use Rattle.std.specs.List.{filter_map}
+use Rattle.mv_machine.specs.declared.entry.Entry.{Entry}
 use Rattle.mv_machine.specs.Elements.{Event}
+use Rattle.mv_machine.specs.Legal.{IsNext, next, LegalFrom}
+use Rattle.mv_machine.specs.Setup.{Setup}
+use Rattle.mv_machine.specs.System.{System, Cell, advanced}
 
 -- what an event does to a state: its caller and its place, the operation, the state
 abbrev pub Table : (O R S : Type 0) → Type 0
 Table O R S = ℕ → ℕ → O → S → S × R
 
-pub record IsTurn {O R S : Type 0} (table : Table O R S) (cell : Cell S) (v : Event O R) : Type 0 where
+pub record IsAnsweredBy {O R S : Type 0} (table : Table O R S) (cell : Cell S) (v : Event O R) : Type 0 where
   pub place : v.place ≡ cell.place
   pub reply : v.reply ≡ (table v.caller v.place v.op cell.state).1
 
-abbrev pub turn : {O R S : Type 0} → Table O R S → Cell S → Event O R → Cell S
-turn table cell v = turned cell (table v.caller v.place v.op cell.state).0
+abbrev pub next_cell : {O R S : Type 0} → Table O R S → Cell S → Event O R → Cell S
+next_cell table cell v = advanced cell (table v.caller v.place v.op cell.state).0
 
 abbrev pub cell_after : {O R S : Type 0} → Table O R S → Cell S → List (Event O R) → Cell S
 cell_after table cell [] = cell
-cell_after table cell (v ∷ vs) = cell_after table (turn table cell v) vs
+cell_after table cell (v ∷ vs) = cell_after table (next_cell table cell v) vs
 
 abbrev pub RunFrom : {O R S : Type 0} → Table O R S → Cell S → List (Event O R) → Type 0
 RunFrom table cell [] = Unit {0}
-RunFrom table cell (v ∷ vs) = IsTurn table cell v × RunFrom table (turn table cell v) vs
+RunFrom table cell (v ∷ vs) = IsAnsweredBy table cell v × RunFrom table (next_cell table cell v) vs
 
 module _ {O R S : Type 0} (table : Table O R S) where
   pub cell_after-append : (cell : Cell S) (xs ys : List (Event O R))
       → cell_after table cell (xs ++ ys) ≡ cell_after table (cell_after table cell xs) ys
   cell_after-append cell [] ys = refl
-  cell_after-append cell (x ∷ xs) ys = cell_after-append (turn table cell x) xs ys
+  cell_after-append cell (x ∷ xs) ys = cell_after-append (next_cell table cell x) xs ys
 
   pub RunFrom-front : (cell : Cell S) (xs ys : List (Event O R)) → RunFrom table cell (xs ++ ys) → RunFrom table cell xs
   RunFrom-front cell [] ys l = tt
-  RunFrom-front cell (x ∷ xs) ys l = (l.0, RunFrom-front (turn table cell x) xs ys l.1)
+  RunFrom-front cell (x ∷ xs) ys l = (l.0, RunFrom-front (next_cell table cell x) xs ys l.1)
 
   pub RunFrom-rest : (cell : Cell S) (xs ys : List (Event O R)) → RunFrom table cell (xs ++ ys)
       → RunFrom table (cell_after table cell xs) ys
   RunFrom-rest cell [] ys l = l
-  RunFrom-rest cell (x ∷ xs) ys l = RunFrom-rest (turn table cell x) xs ys l.1
+  RunFrom-rest cell (x ∷ xs) ys l = RunFrom-rest (next_cell table cell x) xs ys l.1
 
   -- an invariant of a history and the state that it leads to
   pub along : (Inv : List (Event O R) → S → Type 0)
-      → ((past : List (Event O R)) (cell : Cell S) (v : Event O R) → IsTurn table cell v → Inv past cell.state
+      → ((past : List (Event O R)) (cell : Cell S) (v : Event O R) → IsAnsweredBy table cell v → Inv past cell.state
       → Inv (past ++ v ∷ []) (table v.caller v.place v.op cell.state).0)
       → (past : List (Event O R)) (cell : Cell S) → Inv past cell.state
       → (vs : List (Event O R)) → RunFrom table cell vs → Inv (past ++ vs) (cell_after table cell vs).state
   along Inv keeps past cell inv [] l = rw append-nil inv
   along Inv keeps past cell inv (v ∷ vs) l =
-      rw append_assoc at (along Inv keeps (past ++ v ∷ []) (turn table cell v) (keeps past cell v l.0 inv) vs l.1)
+      rw append_assoc at (along Inv keeps (past ++ v ∷ []) (next_cell table cell v) (keeps past cell v l.0 inv) vs l.1)
+
+-- ---- from a legal list to the run of one object
+
+module _ {O R S : Type 0} (table : Table O R S) (as_event : Entry → Option (Event O R)) (cell : System → Cell S) where
+  -- an entry passes the object by
+  abbrev pub PassesBy : System → Entry → Type 0
+  PassesBy s e = (as_event e ≡ None) × (cell (next s e) ≡ cell s)
+
+  -- or is an event on it
+  abbrev pub HappensAt : System → Entry → Type 0
+  HappensAt s e = (v : Event O R) × (as_event e ≡ Some v) × IsAnsweredBy table (cell s) v × (cell (next s e) ≡ next_cell table (cell s) v)
+
+  -- where each next entry is one of these, the object's events of a legal list are a run of it
+  pub run_of : (c : Setup) → ((s : System) (e : Entry) → IsNext c s e → PassesBy s e ⊎ HappensAt s e)
+      → (s : System) (es : List Entry) → LegalFrom c s es → RunFrom table (cell s) (filter_map as_event es)
+  run_of c one s [] l = tt
+  run_of c one s (e ∷ es) l =
+      let rest : RunFrom table (cell (next s e)) (filter_map as_event es) = run_of c one (next s e) es l.1 in
+      elim (one s e l.0) [
+        | inl w ↦ rw (w.0) (rw w.1 at rest)
+        | inr w ↦ rw (w.1) (w.2, rw w.3 at rest)
+      ]

@@ -19,7 +19,7 @@ use Rattle.mv_machine.specs.declared.entry.Reply.{Reply}
 use Rattle.mv_machine.specs.Legal.{IsNext, next, Legal, after, same_object, of}
 use Rattle.mv_machine.specs.Owned.{owner_at, is_owners, is_clear, HasNo}
 use Rattle.mv_machine.specs.Setup.{Setup, owner_of, element_owner}
-use Rattle.mv_machine.specs.System.{System, Cell, moved, turned, ecb_admitted, element_admitted}
+use Rattle.mv_machine.specs.System.{System, Cell, moved, advanced, ecb_admitted, element_admitted}
 use Rattle.mv_machine.proofs.EntryRuns.{entry_of, along, rest_is_legal, at_end}
 use Rattle.mv_machine.proofs.Histories.{with_at-same, with_at-other}
 use Rattle.mv_machine.proofs.Objects.{same_is}
@@ -72,18 +72,18 @@ not_made c s test o owner e owned is h none same = elim (cases_Bool (test e.op))
 ]
 
 -- ---- one entry passes an object by, or is an operation on it
-abbrev ecb_turn : EcbOp → Cell EcbState → Cell EcbState
-ecb_turn x cell = turned cell (ecb_step x cell.state).0
+abbrev ecb_next : EcbOp → Cell EcbState → Cell EcbState
+ecb_next x cell = advanced cell (ecb_step x cell.state).0
 
 abbrev EcbMoves : System → ℕ → ℕ → Object → Op → Type 0
 EcbMoves s n k o op = ((moved s k o op).ecb n ≡ s.ecb n)
     ⊎ ((x : EcbOp) × (op ≡ op_on.Ecb x) × (same_object o (Ecb n) ≡ true)
-    × ((moved s k o op).ecb n ≡ ecb_turn x (s.ecb n)))
+    × ((moved s k o op).ecb n ≡ ecb_next x (s.ecb n)))
 
 ecb_moves : (c : Setup) (s : System) (n k : ℕ) (o : Object) (p : ℕ) (op : Op) (r : Reply) → IsNext c s (entry_of k o p op r)
     → EcbMoves s n k o op
 ecb_moves c s n k (Ecb m) p (op_on.Ecb op) r h = elim (cases_eq n m) [
-  | inl same ↦ inr (op, refl, eq-eqb m n (sym same), with_at-same s.ecb m _ n same ∙ ap (λ z. ecb_turn op (s.ecb z)) (sym same))
+  | inl same ↦ inr (op, refl, eq-eqb m n (sym same), with_at-same s.ecb m _ n same ∙ ap (λ z. ecb_next op (s.ecb z)) (sym same))
   | inr other ↦ inl (with_at-other s.ecb m _ n other)
 ]
 ecb_moves c s n k (Element m) p (op_on.Element op) r h = inl refl
@@ -91,18 +91,18 @@ ecb_moves c s n k (Volume m) p (op_on.Volume op) r h = inl refl
 ecb_moves c s n k Latches p (op_on.Latch op) r h = inl refl
 ecb_moves c s n k o p op r h = absurd (false≢true h.admits)
 
-abbrev element_turn : ElementOp → Cell ElementState → Cell ElementState
-element_turn x cell = turned cell (element_step x cell.state).0
+abbrev element_next : ElementOp → Cell ElementState → Cell ElementState
+element_next x cell = advanced cell (element_step x cell.state).0
 
 abbrev ElementMoves : System → ℕ → ℕ → Object → Op → Type 0
 ElementMoves s n k o op = ((moved s k o op).element n ≡ s.element n)
     ⊎ ((x : ElementOp) × (op ≡ op_on.Element x) × (same_object o (Element n) ≡ true)
-    × ((moved s k o op).element n ≡ element_turn x (s.element n)))
+    × ((moved s k o op).element n ≡ element_next x (s.element n)))
 
 element_moves : (c : Setup) (s : System) (n k : ℕ) (o : Object) (p : ℕ) (op : Op) (r : Reply) → IsNext c s (entry_of k o p op r)
     → ElementMoves s n k o op
 element_moves c s n k (Element m) p (op_on.Element op) r h = elim (cases_eq n m) [
-  | inl same ↦ inr (op, refl, eq-eqb m n (sym same), with_at-same s.element m _ n same ∙ ap (λ z. element_turn op (s.element z)) (sym same))
+  | inl same ↦ inr (op, refl, eq-eqb m n (sym same), with_at-same s.element m _ n same ∙ ap (λ z. element_next op (s.element z)) (sym same))
   | inr other ↦ inl (with_at-other s.element m _ n other)
 ]
 element_moves c s n k (Ecb m) p (op_on.Ecb op) r h = inl refl

@@ -101,7 +101,7 @@ wakes_more c s shown es i d lt h =
 abbrev pub no_entry : Entry
 no_entry = record { caller = 0; object = Ecb 0; place = 0; op = op_on.Ecb Arm; reply = reply_of.Ecb Armed }
 
--- one turn of the loop, whatever the entry is
+-- one pass of the loop, whatever the entry is
 module _ (c : Setup) (s t : System) (es : List Entry) (i : ℕ) (lt : i < length es) (l : LegalFrom c s (take i es))
     (is : t ≡ after_from s (take i es)) (m : Option (ℕ × Reply)) (e : Entry) (at_i : e ≡ get_or es i no_entry)
     (says : m ≡ answer c t e.caller e.object e.op) where
@@ -109,25 +109,25 @@ module _ (c : Setup) (s t : System) (es : List Entry) (i : ℕ) (lt : i < length
       (get_or es i no_entry).op ≡ Some ((get_or es i no_entry).place, (get_or es i no_entry).reply)
   the_answer same = rw (← at_i, ← is) (sym says ∙ same)
 
-  pub turn_legal : m ≡ Some (e.place, e.reply) → LegalFrom c s (take (i + 1) es)
-  turn_legal same = legal_more c s es i no_entry lt l (the_answer same)
+  pub pass_legal : m ≡ Some (e.place, e.reply) → LegalFrom c s (take (i + 1) es)
+  pass_legal same = legal_more c s es i no_entry lt l (the_answer same)
 
-  pub turn_after : m ≡ Some (e.place, e.reply) → after_step c t e.caller e.object e.op ≡ after_from s (take (i + 1) es)
-  turn_after same = rw (is, at_i) (after_more c s es i no_entry lt (the_answer same))
+  pub pass_after : m ≡ Some (e.place, e.reply) → after_step c t e.caller e.object e.op ≡ after_from s (take (i + 1) es)
+  pass_after same = rw (is, at_i) (after_more c s es i no_entry lt (the_answer same))
 
-  pub turn_wakes : (shown before : List Wake) → before ≡ last_wakes_from s shown (take i es) → m ≡ Some (e.place, e.reply)
+  pub pass_wakes : (shown before : List Wake) → before ≡ last_wakes_from s shown (take i es) → m ≡ Some (e.place, e.reply)
       → wakes_after c t before e.caller e.object e.op ≡ last_wakes_from s shown (take (i + 1) es)
-  turn_wakes shown before was same = rw (was, is, at_i) (wakes_more c s shown es i no_entry lt (the_answer same))
+  pass_wakes shown before was same = rw (was, is, at_i) (wakes_more c s shown es i no_entry lt (the_answer same))
 
-  pub turn_places : e.place ≤ 524286 → ((o : Object) → place_of t o < 2 ^ 19) → m ≡ Some (e.place, e.reply) → (o : Object)
+  pub pass_places : e.place ≤ 524286 → ((o : Object) → place_of t o < 2 ^ 19) → m ≡ Some (e.place, e.reply) → (o : Object)
       → place_of (after_step c t e.caller e.object e.op) o < 2 ^ 19
-  turn_places low places same o =
+  pass_places low places same o =
       let n : IsNext c t e = is_next c t e (sym says ∙ same) in
       rw (n.admits) (place_kept c t e o n low (places o))
 
-  pub turn_illegal : (m ≡ Some (e.place, e.reply) → ⊥)
+  pub pass_illegal : (m ≡ Some (e.place, e.reply) → ⊥)
       → IsFirstIllegal c s es (record { index = i; kept = (e.place, e.reply); machine = m })
-  turn_illegal other = record {
+  pass_illegal other = record {
     before = take i es;
     entry = e;
     later = drop (i + 1) es;

@@ -1,12 +1,14 @@
 -- Worked rows of the definitions, by computing them.
-use Rattle.std.proofs.Common.{◌≡◌, false, List, [], ◌∷◌, ◌++◌, take, drop, Some, None, refl}
+use Rattle.std.proofs.Common.{◌≡◌, ℕ, false, List, [], ◌∷◌, ◌++◌, take, drop, Some, None, refl}
 use Rattle.mv_ecb.specs.Word.{Zero, Complete}
 use Rattle.mv_element.specs.Element.{prereleased}
 use Rattle.mv_machine.specs.declared.packing.WordState.TheVariants as word_state
 use Rattle.mv_machine.specs.Merge.{merged}
 use Rattle.mv_machine.specs.Packing.{pack, unpack}
 use Rattle.mv_machine.specs.Parts.{parts}
+use Rattle.mv_ecb.specs.declared.operation.EcbOp.{EcbOp}
 use Rattle.mv_ecb.specs.declared.operation.EcbOp.TheVariants as ecb_op
+use Rattle.mv_ecb.specs.declared.operation.EcbReply.{EcbReply}
 use Rattle.mv_ecb.specs.declared.operation.EcbReply.TheVariants as ecb_reply
 use Rattle.mv_element.specs.declared.operation.ElementOp.TheVariants as element_op
 use Rattle.mv_element.specs.declared.operation.ElementReply.TheVariants as element_reply
@@ -23,6 +25,7 @@ use Rattle.mv_machine.specs.declared.entry.VolumeOp.TheVariants.{Read, Write}
 use Rattle.mv_machine.specs.declared.entry.VolumeReply.TheVariants.{Value, Stored}
 use Rattle.mv_machine.specs.Check.{refusal_of}
 use Rattle.mv_machine.specs.Legal.{Legal}
+use Rattle.mv_machine.specs.OnePost.{ecb_events, taken}
 use Rattle.mv_machine.specs.Setup.{Setup}
 use Rattle.mv_machine.specs.System.{opening, answer, after_step}
 use Rattle.mv_machine.specs.Told.{told}
@@ -53,6 +56,20 @@ post_first = refl
 arm_late : answer two (after_step two (opening two) 1 (Ecb 0) (op_on.Ecb (ecb_op.Post 5))) 0 (Ecb 0) (op_on.Ecb ecb_op.Arm) ≡ Some
     (1, reply_of.Ecb (ecb_reply.Complete 5))
 arm_late = refl
+
+-- of two posts the first is taken, and behind a clear the next one is
+abbrev on_block : ℕ → ℕ → EcbOp → EcbReply → Entry
+on_block k p op r = record { caller = k; object = Ecb 0; place = p; op = op_on.Ecb op; reply = reply_of.Ecb r }
+
+abbrev posted_twice : List Entry
+posted_twice = on_block 1 0 (ecb_op.Post 7) ecb_reply.Posted ∷ on_block 1 1 (ecb_op.Post 9) (ecb_reply.Already 7)
+    ∷ on_block 0 2 ecb_op.Clear (ecb_reply.Word 1073741831) ∷ on_block 1 3 (ecb_op.Post 9) ecb_reply.Posted ∷ []
+
+taken_once : taken (ecb_events 0 (take 2 posted_twice)) ≡ 7 ∷ []
+taken_once = refl
+
+taken_again : taken (ecb_events 0 posted_twice) ≡ 7 ∷ 9 ∷ []
+taken_again = refl
 
 valid : refusal_of two ≡ None
 valid = refl

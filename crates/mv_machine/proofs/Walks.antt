@@ -29,7 +29,7 @@ use Rattle.mv_machine.specs.Legal.{IsNext, next, Legal, LegalFrom, after, after_
 use Rattle.mv_machine.specs.Setup.{Setup}
 use Rattle.mv_machine.specs.declared.entry.VolumeOp.{VolumeOp}
 use Rattle.mv_machine.specs.declared.entry.VolumeReply.{VolumeReply}
-use Rattle.mv_machine.specs.System.{System, opening, place_of, admitted, answer, volume_step, latches_of, moved, posts_own_ecb, turned}
+use Rattle.mv_machine.specs.System.{System, opening, place_of, admitted, answer, volume_step, latches_of, moved, posts_own_ecb, advanced}
 use Rattle.mv_machine.proofs.Histories.{after_from-append, LegalFrom-front, LegalFrom-rest, with_at-same}
 use Rattle.mv_machine.proofs.Replays.{place_kept, opening_places}
 use Rattle.mv_machine.proofs.Budgets.{place_is_count}
@@ -108,7 +108,7 @@ latch_fits : (c : Setup) (s : System) (k : ℕ) (op : LatchOp) → IsTrue (admit
     → latch_admitted k op (latches_of c s.latches.state) ≡ true
 latch_fits c s k op h = grind arith
 
--- ---- one turn of a loop over the entries
+-- ---- one pass of a loop over the entries
 module _ (c : Setup) (es : List Entry) (l : Legal c es) (i : ℕ) (lt : i < length es) (e : Entry) (read : e ≡ get_or es i e) where
   abbrev before : System
   before = after c (take i es)
@@ -127,14 +127,14 @@ module _ (c : Setup) (es : List Entry) (l : Legal c es) (i : ℕ) (lt : i < leng
       (subst (λ q. IsTrue (admitted c before e.caller q e.op)) on is_next.admits)
 
   -- an event control block
-  pub ecb_turn_fits : (n : ℕ) (op : EcbOp) → e.object ≡ Ecb n → e.op ≡ op_on.Ecb op → IsEcbOp op
-  ecb_turn_fits n op on is = ecb_op_fits c before e.caller n op (admits (Ecb n) (op_on.Ecb op) on is)
+  pub ecb_pass_fits : (n : ℕ) (op : EcbOp) → e.object ≡ Ecb n → e.op ≡ op_on.Ecb op → IsEcbOp op
+  ecb_pass_fits n op on is = ecb_op_fits c before e.caller n op (admits (Ecb n) (op_on.Ecb op) on is)
 
-  pub ecb_turn : (n : ℕ) (op : EcbOp) → e.object ≡ Ecb n → e.op ≡ op_on.Ecb op → (word : EcbState) → word ≡ (before.ecb n).state
+  pub ecb_pass : (n : ℕ) (op : EcbOp) → e.object ≡ Ecb n → e.op ≡ op_on.Ecb op → (word : EcbState) → word ≡ (before.ecb n).state
       → (ecb_step op word).0 ≡ ((after c (take (i + 1) es)).ecb n).state
-  ecb_turn n op on is word was =
+  ecb_pass n op on is word was =
       ap (λ w. (ecb_step op w).0) was
-      ∙ sym (ap (λ z. z.state) (with_at-same before.ecb n (turned (before.ecb n) (ecb_step op (before.ecb n).state).0) n refl))
+      ∙ sym (ap (λ z. z.state) (with_at-same before.ecb n (advanced (before.ecb n) (ecb_step op (before.ecb n).state).0) n refl))
       ∙ sym (ap (λ (s : System). (s.ecb n).state) (moves (Ecb n) (op_on.Ecb op) on is))
 
   pub ecb_stays : (n : ℕ) → ((s : System) → (next s e).ecb n ≡ s.ecb n) → (word : EcbState) → word ≡ (before.ecb n).state
@@ -142,19 +142,19 @@ module _ (c : Setup) (es : List Entry) (l : Legal c es) (i : ℕ) (lt : i < leng
   ecb_stays n same word was = was ∙ sym (ap (λ z. z.state) (same before)) ∙ sym (ap (λ (s : System). (s.ecb n).state) one_more)
 
   -- an element
-  pub element_turn_fits : (n : ℕ) (op : ElementOp) → e.object ≡ Element n → e.op ≡ op_on.Element op → IsElementOp op
-  element_turn_fits n op on is = element_op_fits c before e.caller n op (admits (Element n) (op_on.Element op) on is)
+  pub element_pass_fits : (n : ℕ) (op : ElementOp) → e.object ≡ Element n → e.op ≡ op_on.Element op → IsElementOp op
+  element_pass_fits n op on is = element_op_fits c before e.caller n op (admits (Element n) (op_on.Element op) on is)
 
-  pub element_turn_low : AreLow es → (n : ℕ) (state : ElementState) → state ≡ (before.element n).state → state.generation < 2 ^ 18
-  element_turn_low low n state was = rw was (generation_low c (take i es) (legal_take c (opening c) es i l)
+  pub element_pass_low : AreLow es → (n : ℕ) (state : ElementState) → state ≡ (before.element n).state → state.generation < 2 ^ 18
+  element_pass_low low n state was = rw was (generation_low c (take i es) (legal_take c (opening c) es i l)
       (All-take (λ (x : Entry). x.place ≤ 524286) i es low) n)
 
-  pub element_turn : (n : ℕ) (op : ElementOp) → e.object ≡ Element n → e.op ≡ op_on.Element op → (state : ElementState)
+  pub element_pass : (n : ℕ) (op : ElementOp) → e.object ≡ Element n → e.op ≡ op_on.Element op → (state : ElementState)
       → state ≡ (before.element n).state → (element_step op state).0 ≡ ((after c (take (i + 1) es)).element n).state
-  element_turn n op on is state was =
+  element_pass n op on is state was =
       ap (λ w. (element_step op w).0) was
       ∙ sym (ap (λ z. z.state) (with_at-same before.element n
-      (turned (before.element n) (element_step op (before.element n).state).0) n refl))
+      (advanced (before.element n) (element_step op (before.element n).state).0) n refl))
       ∙ sym (ap (λ (s : System). (s.element n).state) (moves (Element n) (op_on.Element op) on is))
 
   pub element_stays : (n : ℕ) → ((s : System) → (next s e).element n ≡ s.element n) → (state : ElementState)
@@ -162,10 +162,10 @@ module _ (c : Setup) (es : List Entry) (l : Legal c es) (i : ℕ) (lt : i < leng
   element_stays n same state was = was ∙ sym (ap (λ z. z.state) (same before)) ∙ sym (ap (λ (s : System). (s.element n).state) one_more)
 
   -- a volume
-  pub volume_turn : (n number : ℕ) → e.object ≡ Volume n → e.op ≡ op_on.Volume (Write number)
+  pub volume_pass : (n number : ℕ) → e.object ≡ Volume n → e.op ≡ op_on.Volume (Write number)
       → number ≡ ((after c (take (i + 1) es)).volume n).state
-  volume_turn n number on is =
-      sym (ap (λ z. z.state) (with_at-same before.volume n (turned (before.volume n) number) n refl))
+  volume_pass n number on is =
+      sym (ap (λ z. z.state) (with_at-same before.volume n (advanced (before.volume n) number) n refl))
       ∙ sym (ap (λ (s : System). (s.volume n).state) (moves (Volume n) (op_on.Volume (Write number)) on is))
 
   pub volume_stays : (n : ℕ) → ((s : System) → ((next s e).volume n).state ≡ (s.volume n).state) → (number : ℕ)
@@ -173,15 +173,15 @@ module _ (c : Setup) (es : List Entry) (l : Legal c es) (i : ℕ) (lt : i < leng
   volume_stays n same number was = was ∙ sym (same before) ∙ sym (ap (λ (s : System). (s.volume n).state) one_more)
 
   -- the latch set
-  pub latch_turn_caller : (op : LatchOp) → e.object ≡ Latches → e.op ≡ op_on.Latch op → (old : LatchLists)
+  pub latch_pass_caller : (op : LatchOp) → e.object ≡ Latches → e.op ≡ op_on.Latch op → (old : LatchLists)
       → old ≡ latches_of c before.latches.state → e.caller < old.callers
-  latch_turn_caller op on is old was = rw was (latch_caller c before e.caller op (admits Latches (op_on.Latch op) on is))
+  latch_pass_caller op on is old was = rw was (latch_caller c before e.caller op (admits Latches (op_on.Latch op) on is))
 
   latch_place : e.object ≡ Latches → e.place ≡ before.latches.place
   latch_place on = is_next.place ∙ ap (λ o. place_of before o) on
 
-  pub latch_turn_new : e.object ≡ Latches → (old : LatchLists) → old ≡ latches_of c before.latches.state → IsNewId e.place old.lists
-  latch_turn_new on old was = rw was (place_is_new c (take i es) e.place (latch_place on))
+  pub latch_pass_new : e.object ≡ Latches → (old : LatchLists) → old ≡ latches_of c before.latches.state → IsNewId e.place old.lists
+  latch_pass_new on old was = rw was (place_is_new c (take i es) e.place (latch_place on))
 
   lists_of : (op : LatchOp) (old new : LatchLists) (r : LatchReply) → old ≡ latches_of c before.latches.state
       → (new.lists, r) ≡ latch_step e.caller e.place op old.lists → new ≡ record old { lists = new.lists } → e.place ≡ before.latches.place
@@ -200,11 +200,11 @@ module _ (c : Setup) (es : List Entry) (l : Legal c es) (i : ℕ) (lt : i < leng
   stepped op old new None on is was some step quotas =
       absurd (false≢true (some.1 (rw was (latch_fits c before e.caller op (admits Latches (op_on.Latch op) on is)))))
 
-  pub latch_turn : (op : LatchOp) (old new : LatchLists) (r : Option LatchReply) → e.object ≡ Latches → e.op ≡ op_on.Latch op
+  pub latch_pass : (op : LatchOp) (old new : LatchLists) (r : Option LatchReply) → e.object ≡ Latches → e.op ≡ op_on.Latch op
       → old ≡ latches_of c before.latches.state → (IsSome r ↔ IsTrue (latch_admitted e.caller op old))
       → IfSome r (λ reply. (new.lists, reply) ≡ latch_step e.caller e.place op old.lists) → new ≡ record old { lists = new.lists }
       → new ≡ latches_of c (after c (take (i + 1) es)).latches.state
-  latch_turn op old new r on is was some step quotas =
+  latch_pass op old new r on is was some step quotas =
       stepped op old new r on is was some step quotas
       ∙ sym (ap (λ (s : System). latches_of c s.latches.state) (moves Latches (op_on.Latch op) on is))
 

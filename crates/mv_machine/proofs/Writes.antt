@@ -27,7 +27,7 @@ use Rattle.mv_machine.specs.declared.state.ElementCell.{ElementCell}
 use Rattle.mv_machine.specs.declared.state.VolumeCell.{VolumeCell}
 use Rattle.mv_machine.specs.declared.state.State.{State}
 use Rattle.mv_machine.specs.Setup.{Setup}
-use Rattle.mv_machine.specs.System.{System, latches_of, admitted, answer, moved, after_step, wakes_after, with_at, turned, volume_step}
+use Rattle.mv_machine.specs.System.{System, latches_of, admitted, answer, moved, after_step, wakes_after, with_at, advanced, volume_step}
 use Rattle.mv_machine.specs.State.{IsOpenedWith, IsStep, system_of, wakes_of, ecb_cell, no_ecb, element_cell, no_element, volume_cell}
 use Rattle.mv_machine.specs.State.{no_volume}
 use Rattle.mv_machine.specs.Elements.{FitsItsPlace}
@@ -36,9 +36,9 @@ use Rattle.mv_machine.proofs.LatchIds.{same_count, new_from_next}
 use Rattle.mv_machine.proofs.Tables.{table-set}
 
 at_fits : (s : System) (n : ℕ) (op : ElementOp) (m : ℕ) → FitsItsPlace (s.element m) → FitsItsPlace (s.element n)
-    → FitsItsPlace (with_at s.element n (turned (s.element n) (element_step op (s.element n).state).0) m)
+    → FitsItsPlace (with_at s.element n (advanced (s.element n) (element_step op (s.element n).state).0) m)
 at_fits s n op m f g =
-    elim (m == n) as (λ b. FitsItsPlace (cond b (turned (s.element n) (element_step op (s.element n).state).0) (s.element m))) [
+    elim (m == n) as (λ b. FitsItsPlace (cond b (advanced (s.element n) (element_step op (s.element n).state).0) (s.element m))) [
       | true ↦ fits_next (s.element n) op g
       | false ↦ f
     ]

@@ -1,6 +1,7 @@
 -- The exits of each block, as a chain from the last to the first. Exits are counted from 1, and 0 is none.
 use Rattle.std.specs.Prelude.{◌≡◌, ℕ, ◌-◌, ◌<◌, ◌≤◌, true, List, length, take, slice_get, slice_index}
 use Rattle.std.specs.List.{AllByRecursion}
+use Rattle.mv_machine.specs.Limits.{targets_limit}
 use Rattle.mv_machine.specs.Reach.{exits_of, reach}
 use Rattle.mv_machine.specs.Setup.{Setup, SetupExit, starts_from}
 
@@ -20,7 +21,7 @@ pub record AreChains (ecbs : ℕ) (exits : List SetupExit) (k : ℕ) (last befor
 -- each exit starts from a block that is there, and posts few blocks that are
 pub record HasFewGoodTargets (ecbs : ℕ) (x : SetupExit) : Type 0 where
   pub source : x.source < ecbs
-  pub few : length x.targets ≤ 8
+  pub few : length x.targets ≤ targets_limit
   pub good : AllByRecursion (λ t. t < ecbs) x.targets
 
 -- a number for each block: its reach

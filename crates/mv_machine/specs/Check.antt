@@ -7,6 +7,7 @@ use Rattle.mv_machine.specs.declared.config.CheckRefusal.TheVariants.{Limit, Bad
 use Rattle.mv_machine.specs.declared.config.ConfigLimit.{ConfigLimit}
 use Rattle.mv_machine.specs.declared.config.ConfigLimit.TheVariants.{Callers, Elements, Volumes, Latches, Quota, Posted, Budgets}
 use Rattle.mv_machine.specs.declared.config.ConfigLimit.TheVariants.{Ecbs, Exits, Targets}
+use Rattle.mv_machine.specs.Limits.{ecbs_limit, exits_limit, targets_limit, events_limit}
 use Rattle.mv_machine.specs.Setup.{Setup, SetupExit}
 
 -- whether a number is one of these
@@ -22,9 +23,9 @@ keeps Latches c = is_within 1 8 c.latches
 keeps Quota c = is_within 1 16 c.quota
 keeps Posted c = nat_le c.posted_quota c.quota
 keeps Budgets c = length c.budgets == c.callers
-keeps Ecbs c = nat_le (length c.owners) 131072
-keeps Exits c = nat_le (length c.exits) 32768
-keeps Targets c = list_all (λ x. is_within 1 8 (length x.targets)) c.exits
+keeps Ecbs c = nat_le (length c.owners) ecbs_limit
+keeps Exits c = nat_le (length c.exits) exits_limit
+keeps Targets c = list_all (λ x. is_within 1 targets_limit (length x.targets)) c.exits
 
 -- the limits in the order in which they are asked
 abbrev pub limits : List ConfigLimit
@@ -48,7 +49,7 @@ first_bad_exit c = position_from (is_bad_exit (length c.owners)) 1 c.exits
 
 -- the sum of the budgets, where it is above what a run may have
 abbrev pub bad_budget : Setup → Option ℕ
-bad_budget c = if nat_lt 524287 (sum c.budgets) then Some (sum c.budgets) else None
+bad_budget c = if nat_lt events_limit (sum c.budgets) then Some (sum c.budgets) else None
 
 -- the first of two answers
 abbrev pub or_else : {A : Type 0} → Option A → Option A → Option A

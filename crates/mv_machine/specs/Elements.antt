@@ -3,7 +3,7 @@ use Rattle.std.specs.Prelude.{◌≡◌, ℕ, ◌+◌, ◌*◌, ◌≤◌, ◌==
 use Rattle.std.specs.Prelude.{Some, None, if◌then◌else◌}
 use Rattle.std.specs.List.{filter_map, AllByRecursion}
 use Rattle.mv_element.specs.declared.operation.ElementOp.{ElementOp}
-use Rattle.mv_element.specs.declared.operation.ElementOp.TheVariants.{Pause, Resume, Release, Close}
+use Rattle.mv_element.specs.declared.operation.ElementOp.TheVariants.{Open, Pause, Resume, Release, Close, Test}
 use Rattle.mv_element.specs.declared.operation.ElementReply.{ElementReply}
 use Rattle.mv_element.specs.declared.operation.ElementReply.TheVariants.{Given, Spent, Early, Woke, Closed}
 use Rattle.mv_element.specs.declared.element.ElementState.{ElementState}
@@ -49,11 +49,12 @@ only_if b a = if b then Some a else None
 
 -- the generation that an operation carries
 abbrev pub carried : ElementOp → Option ℕ
+carried Open = None
 carried (Pause g) = Some g
 carried (Resume g) = Some g
 carried (Release g d) = Some g
 carried (Close g) = Some g
-carried _ = None
+carried Test = None
 
 -- the code that ended generation g, where the reply gave one
 abbrev pub given_code : ℕ → ElementReply → Option ℕ

@@ -1,5 +1,5 @@
 -- Which latch requests of a caller stand, by its own entries alone.
-use Rattle.std.specs.Prelude.{ℕ, ◌+◌, ◌==◌, ◌≤◌, nat_lt, Bool, true, not, ◌&&◌, ◌||◌, List, [], ◌∷◌, ◌++◌, length, filter}
+use Rattle.std.specs.Prelude.{◌≡◌, ℕ, ◌+◌, ◌==◌, ◌≤◌, nat_lt, Bool, true, false, not, ◌&&◌, ◌||◌, ◌⊎◌, if◌then◌else◌, List, [], ◌∷◌, ◌++◌, length, filter}
 use Rattle.mv_latch.specs.declared.operation.LatchOp.{LatchOp}
 use Rattle.mv_latch.specs.declared.operation.LatchOp.TheVariants.{Obtain, Confirm, Release, Purge}
 use Rattle.mv_latch.specs.declared.operation.LatchReply.{LatchReply}
@@ -88,3 +88,16 @@ latch_allowed c ts (Purge requestor) = true
 abbrev pub allowed : Setup → ℕ → List Entry → Object → Op → Bool
 allowed c k log Latches (op_on.Latch op) = nat_lt k c.callers && posts_own_ecb c k op && latch_allowed c (standing log) op
 allowed c k log o op = admitted c (opening c) k o op
+
+-- ---- what a caller asked for
+
+-- whether an event made this request
+abbrev pub makes : ℕ → ℕ → Op → Reply → Bool
+makes latch id (op_on.Latch (Obtain l requestor mode form)) (reply_of.Latch (Granted i)) = if l == latch then i == id else false
+makes latch id (op_on.Latch (Obtain l requestor mode form)) (reply_of.Latch (Queued i)) = if l == latch then i == id else false
+makes latch id op reply = false
+
+-- a caller made this request
+abbrev pub HasMade : ℕ → ℕ → List Entry → Type 0
+HasMade latch id [] = ⊥
+HasMade latch id (e ∷ es) = (makes latch id e.op e.reply ≡ true) ⊎ HasMade latch id es

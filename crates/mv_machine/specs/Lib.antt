@@ -1,3 +1,4 @@
+pub mod Limits
 pub mod Setup
 pub mod Config
 pub mod Check
@@ -5,6 +6,7 @@ pub mod System
 pub mod Legal
 pub mod Told
 pub mod Elements
+pub mod OnePost
 pub mod State
 pub mod Reach
 pub mod Chains
@@ -15,13 +17,10 @@ pub mod Parts
 pub mod Merge
 pub mod Room
 pub mod Kept
+pub mod Parked
 pub mod Owned
 pub mod Orderly
--- what calls are, and what a log says of the machine
-pub mod calls
-pub mod Behind
+-- what replies and wakes say, and what takes a request out
 pub mod Replies
-pub mod Known
 pub mod Leaving
 pub mod Waking
-pub mod Exits

@@ -8,7 +8,7 @@ use Rattle.mv_latch.specs.LatchSet.{list_of}
 use Rattle.mv_latch.specs.Request.{is_own}
 use Rattle.mv_machine.specs.declared.entry.Entry.{Entry}
 use Rattle.mv_machine.specs.declared.entry.Object.{Object}
-use Rattle.mv_machine.specs.declared.entry.Object.TheVariants.{Ecb, Element}
+use Rattle.mv_machine.specs.declared.entry.Object.TheVariants.{Ecb, Element, Volume, Latches}
 use Rattle.mv_machine.specs.declared.entry.Op.{Op}
 use Rattle.mv_machine.specs.declared.entry.Op.TheVariants as op_on
 use Rattle.mv_machine.specs.Legal.{same_object}
@@ -19,7 +19,8 @@ use Rattle.mv_machine.specs.System.{System}
 abbrev pub owner_at : Setup → Object → Option ℕ
 owner_at c (Ecb n) = Some (owner_of c n)
 owner_at c (Element n) = Some (element_owner c n)
-owner_at c _ = None
+owner_at c (Volume n) = None
+owner_at c Latches = None
 
 -- whether an operation is its object's owner's alone
 abbrev pub is_owners : Op → Bool
@@ -27,11 +28,16 @@ is_owners (op_on.Ecb ecb_op.Arm) = true
 is_owners (op_on.Ecb (ecb_op.Extend exit)) = true
 is_owners (op_on.Ecb ecb_op.Settle) = true
 is_owners (op_on.Ecb ecb_op.Clear) = true
+is_owners (op_on.Ecb (ecb_op.Post code)) = false
+is_owners (op_on.Ecb ecb_op.Test) = false
 is_owners (op_on.Element element_op.Open) = true
 is_owners (op_on.Element (element_op.Pause generation)) = true
 is_owners (op_on.Element (element_op.Resume generation)) = true
+is_owners (op_on.Element (element_op.Release generation code)) = false
 is_owners (op_on.Element (element_op.Close generation)) = true
-is_owners _ = false
+is_owners (op_on.Element element_op.Test) = false
+is_owners (op_on.Volume op) = false
+is_owners (op_on.Latch op) = false
 
 -- whether an operation clears a block
 abbrev pub is_clear : Op → Bool

@@ -1,12 +1,12 @@
 -- The word of an object that tasks share: its place in the 19 bits above, its state in the 45 bits below.
 use Rattle.std.specs.Prelude.{ℕ, ◌+◌, ◌*◌, ◌/◌, ◌%◌, ◌^◌, ◌==◌, ◌<◌, ◌≤◌, nat_le, nat_lt, Bool, ◌&&◌, ◌||◌, Option, Some, None}
 use Rattle.std.specs.Prelude.{option_map, if◌then◌else◌}
-use Rattle.mv_ecb.specs.Table.{IsEcbOp, ecb_step}
+use Rattle.mv_ecb.specs.Table.{IsEcbOp, code_limit, ecb_step}
 use Rattle.mv_ecb.specs.Word.{EcbState, Extended, Complete, wait_bit, completion_bit, word_of, state_of}
 use Rattle.mv_element.specs.declared.element.ElementState.{ElementState}
 use Rattle.mv_element.specs.declared.element.Phase.{Phase}
 use Rattle.mv_element.specs.declared.element.Phase.TheVariants.{Free, Reset, Prereleased, Paused, Released}
-use Rattle.mv_element.specs.Table.{IsElementOp, element_step}
+use Rattle.mv_element.specs.Table.{IsElementOp, release_limit, element_step}
 use Rattle.mv_element.specs.Element.{free, reset, prereleased, paused, released}
 use Rattle.mv_machine.specs.declared.entry.Object.{Object}
 use Rattle.mv_machine.specs.declared.entry.Object.TheVariants.{Ecb, Element, Volume, Latches}
@@ -42,13 +42,13 @@ pack place s = place * 2 ^ 45 + state_bits s
 -- an element's numbers have their bits: 18 for the generation, 24 for the code. A block's fullword and a volume's number
 -- have theirs by their types
 abbrev pub HasFields : WordState → Type 0
-HasFields (state.Element s) = (s.generation < 2 ^ 18) × (s.code < 2 ^ 24)
+HasFields (state.Element s) = (s.generation < 2 ^ 18) × (s.code < release_limit)
 HasFields _ = Unit {0}
 
 -- an exit is counted from 1, and it and a code have 30 bits
 abbrev pub IsBlock : EcbState → Type 0
-IsBlock (Extended y) = (1 ≤ y) × (y < 2 ^ 30)
-IsBlock (Complete d) = d < 2 ^ 30
+IsBlock (Extended y) = (1 ≤ y) × (y < code_limit)
+IsBlock (Complete d) = d < code_limit
 IsBlock _ = Unit {0}
 
 -- a state of an object of this kind, whose numbers have their bits
@@ -107,7 +107,8 @@ word_at s Latches = 0
 abbrev pub HasOpFields : Op → Type 0
 HasOpFields (op_on.Ecb op) = IsEcbOp op
 HasOpFields (op_on.Element op) = IsElementOp op
-HasOpFields _ = Unit {0}
+HasOpFields (op_on.Volume op) = Unit {0}
+HasOpFields (op_on.Latch op) = Unit {0}
 
 -- the state after it, and the reply, by the table of the object's kind
 abbrev pub state_step : Op → WordState → Option (WordState × Reply)

@@ -1,11 +1,12 @@
 -- How many posts one post can lead to, over the exits.
 use Rattle.std.specs.Prelude.{ℕ, zero, suc, ◌+◌, ◌*◌, ◌==◌, min, max, List, [], ◌∷◌, length, map, filter}
 use Rattle.std.specs.List.{range_with_len}
+use Rattle.mv_machine.specs.Limits.{highest_reach}
 use Rattle.mv_machine.specs.Setup.{Setup, SetupExit}
 
 -- no number of posts above this one is told apart
 abbrev pub cut : ℕ → ℕ
-cut n = min n 524288
+cut n = min n highest_reach
 
 -- the exits that start from a block
 abbrev pub exits_of : ℕ → List SetupExit → List SetupExit

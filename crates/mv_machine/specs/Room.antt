@@ -5,7 +5,8 @@ use Rattle.mv_machine.specs.declared.entry.Object.{Object}
 use Rattle.mv_machine.specs.declared.entry.Object.TheVariants.{Ecb, Element, Volume, Latches}
 use Rattle.mv_machine.specs.declared.merging.MergeRoom.{MergeRoom}
 use Rattle.mv_machine.specs.declared.merging.NextPlaces.{NextPlaces}
-use Rattle.mv_machine.specs.declared.merging.Turn.{Turn}
+use Rattle.mv_machine.specs.declared.merging.Picked.{Picked}
+use Rattle.mv_machine.specs.Limits.{events_limit}
 use Rattle.mv_machine.specs.Merge.{Places, start, pick}
 use Rattle.mv_machine.specs.Setup.{Setup, IsObjectOf}
 
@@ -27,7 +28,7 @@ next_in t Latches = t.latches
 pub record IsRoomFor (c : Setup) (r : MergeRoom) : Type 0 where
   pub empty : r.journal.items ≡ []
   pub room : sum c.budgets ≤ vec_capacity r.journal
-  pub few : sum c.budgets ≤ 524287
+  pub few : sum c.budgets ≤ events_limit
   pub objects : (o : Object) → IsObjectOf c o → Keeps r.places o
   pub unmoved : next_in r.places ≡ start
   pub logs : r.merged.items ≡ replicate c.callers 0
@@ -38,8 +39,8 @@ lefts [] logs = []
 lefts (n ∷ ns) [] = []
 lefts (n ∷ ns) (log ∷ logs) = drop n log ∷ lefts ns logs
 
--- the entry is picked, and as many of its caller's as the turn says are merged then
-pub record IsTurn (places : NextPlaces) (merged : List ℕ) (logs : List (List Entry)) (t : Turn) : Type 0 where
-  pub caller : t.caller < length merged
-  pub kept : Keeps places t.entry.object
-  pub picks : pick (next_in places) (lefts merged logs) ≡ Some (t.entry, lefts (slice_set merged t.caller t.merged) logs)
+-- the entry is picked, and as many of its caller's as it says are merged then
+pub record IsPicked (places : NextPlaces) (merged : List ℕ) (logs : List (List Entry)) (p : Picked) : Type 0 where
+  pub caller : p.caller < length merged
+  pub kept : Keeps places p.entry.object
+  pub picks : pick (next_in places) (lefts merged logs) ≡ Some (p.entry, lefts (slice_set merged p.caller p.merged) logs)

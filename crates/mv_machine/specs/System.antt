@@ -3,16 +3,17 @@ use Rattle.std.specs.Prelude.{ℕ, ◌+◌, ◌==◌, ◌^◌, nat_lt, Bool, tru
 use Rattle.std.specs.Prelude.{if◌then◌else◌, replicate}
 use Rattle.mv_ecb.specs.declared.operation.EcbOp.{EcbOp}
 use Rattle.mv_ecb.specs.declared.operation.EcbOp.TheVariants as ecb_op
-use Rattle.mv_ecb.specs.Table.{ecb_step}
+use Rattle.mv_ecb.specs.Table.{code_limit, ecb_step}
 use Rattle.mv_ecb.specs.Word.{EcbState, Zero}
 use Rattle.mv_element.specs.declared.operation.ElementOp.{ElementOp}
 use Rattle.mv_element.specs.declared.operation.ElementOp.TheVariants as element_op
 use Rattle.mv_element.specs.declared.element.ElementState.{ElementState}
 use Rattle.mv_element.specs.Element.{free}
-use Rattle.mv_element.specs.Table.{element_step}
+use Rattle.mv_element.specs.Table.{release_limit, element_step}
 use Rattle.mv_latch.specs.declared.operation.LatchOp.{LatchOp}
-use Rattle.mv_latch.specs.declared.operation.LatchOp.TheVariants.{Obtain}
-use Rattle.mv_latch.specs.declared.request.LatchForm.TheVariants.{Posted}
+use Rattle.mv_latch.specs.declared.operation.LatchOp.TheVariants.{Obtain, Confirm, Release, Purge}
+use Rattle.mv_latch.specs.declared.request.LatchForm.{LatchForm}
+use Rattle.mv_latch.specs.declared.request.LatchForm.TheVariants.{Conditional, Waiting, Posted}
 use Rattle.mv_latch.specs.declared.request.Request.{Request}
 use Rattle.mv_latch.specs.declared.operation.Wake.{Wake}
 use Rattle.mv_latch.specs.LatchSet.{LatchLists, latch_admitted, latch_step, wakes}
@@ -61,18 +62,23 @@ place_of s (Element n) = (s.element n).place
 place_of s (Volume n) = (s.volume n).place
 place_of s Latches = s.latches.place
 
--- anyone may post a block and read it; its owner alone waits on it, extends, settles and clears it
+-- anyone may post a block and read it; its owner alone arms, extends, settles and clears it
 abbrev pub ecb_admitted : Setup → ℕ → ℕ → EcbOp → Bool
-ecb_admitted c k n (ecb_op.Extend x) = (owner_of c n == k) && (nat_lt x (2 ^ 30) && is_exit_of c x n)
-ecb_admitted c k n (ecb_op.Post d) = nat_lt d (2 ^ 30)
+ecb_admitted c k n ecb_op.Arm = owner_of c n == k
+ecb_admitted c k n (ecb_op.Extend x) = (owner_of c n == k) && (nat_lt x code_limit && is_exit_of c x n)
+ecb_admitted c k n ecb_op.Settle = owner_of c n == k
+ecb_admitted c k n ecb_op.Clear = owner_of c n == k
+ecb_admitted c k n (ecb_op.Post d) = nat_lt d code_limit
 ecb_admitted c k n ecb_op.Test = true
-ecb_admitted c k n _ = owner_of c n == k
 
 -- anyone may release an element and read it; its owner alone opens it, pauses with it and closes it
 abbrev pub element_admitted : Setup → ℕ → ℕ → ElementOp → Bool
-element_admitted c k n (element_op.Release g d) = nat_lt d (2 ^ 24)
+element_admitted c k n element_op.Open = element_owner c n == k
+element_admitted c k n (element_op.Pause g) = element_owner c n == k
+element_admitted c k n (element_op.Resume g) = element_owner c n == k
+element_admitted c k n (element_op.Release g d) = nat_lt d release_limit
+element_admitted c k n (element_op.Close g) = element_owner c n == k
 element_admitted c k n element_op.Test = true
-element_admitted c k n _ = element_owner c n == k
 
 -- a volume's number has 32 bits
 abbrev pub volume_admitted : VolumeOp → Bool
@@ -83,10 +89,18 @@ volume_admitted (Write m) = nat_lt m (2 ^ 32)
 abbrev pub latches_of : Setup → List (List Request) → LatchLists
 latches_of c lists = record { lists = lists; callers = c.callers; quota = c.quota; posted = c.posted_quota }
 
--- a request of the Posted form names a block that the caller owns
+-- the Posted form names a block that is there and the caller's, and no other form names one
+abbrev pub names_own_ecb : Setup → ℕ → LatchForm → Bool
+names_own_ecb c k Conditional = true
+names_own_ecb c k Waiting = true
+names_own_ecb c k (Posted e) = nat_lt e (length c.owners) && (owner_of c e == k)
+
+-- and so does an obtain, and no other operation names one
 abbrev pub posts_own_ecb : Setup → ℕ → LatchOp → Bool
-posts_own_ecb c k (Obtain latch requestor mode (Posted e)) = nat_lt e (length c.owners) && (owner_of c e == k)
-posts_own_ecb c k _ = true
+posts_own_ecb c k (Obtain latch requestor mode form) = names_own_ecb c k form
+posts_own_ecb c k (Confirm latch id) = true
+posts_own_ecb c k (Release latch id conditional) = true
+posts_own_ecb c k (Purge requestor) = true
 
 -- whether the operation of a caller on an object is admitted: both exist, it is of the object's kind, and may be made
 abbrev pub admitted : Setup → System → ℕ → Object → Op → Bool
@@ -102,8 +116,8 @@ abbrev pub with_at : {A : Type 0} → (ℕ → A) → ℕ → A → ℕ → A
 with_at f n a k = if k == n then a else f k
 
 -- an object after one more event
-abbrev pub turned : {A : Type 0} → Cell A → A → Cell A
-turned cell a = record { place = cell.place + 1; state = a }
+abbrev pub advanced : {A : Type 0} → Cell A → A → Cell A
+advanced cell a = record { place = cell.place + 1; state = a }
 
 -- the reply to an operation of the object's kind
 abbrev pub reply_to : System → ℕ → Object → Op → Option Reply
@@ -117,13 +131,13 @@ reply_to s k _ _ = None
 -- has the place as its number
 abbrev pub moved : System → ℕ → Object → Op → System
 moved s k (Ecb n) (op_on.Ecb op) =
-    record s { ecb = with_at s.ecb n (turned (s.ecb n) (ecb_step op (s.ecb n).state).0) }
+    record s { ecb = with_at s.ecb n (advanced (s.ecb n) (ecb_step op (s.ecb n).state).0) }
 moved s k (Element n) (op_on.Element op) =
-    record s { element = with_at s.element n (turned (s.element n) (element_step op (s.element n).state).0) }
+    record s { element = with_at s.element n (advanced (s.element n) (element_step op (s.element n).state).0) }
 moved s k (Volume n) (op_on.Volume op) =
-    record s { volume = with_at s.volume n (turned (s.volume n) (volume_step op (s.volume n).state).0) }
+    record s { volume = with_at s.volume n (advanced (s.volume n) (volume_step op (s.volume n).state).0) }
 moved s k Latches (op_on.Latch op) =
-    record s { latches = turned s.latches (latch_step k s.latches.place op s.latches.state).0 }
+    record s { latches = advanced s.latches (latch_step k s.latches.place op s.latches.state).0 }
 moved s k _ _ = s
 
 -- what the machine answers: the place and the reply, where the operation is admitted

@@ -5,8 +5,10 @@ ghost use Rattle.std.specs.Prelude.{◌≡◌, ◌≢◌, ◌≤◌, ◌||◌, n
 ghost use Rattle.mv_machine.specs.Config.{setup_of, exit_of};
 ghost use Rattle.mv_machine.specs.Check.{refusal_of, first_limit, first_bad_owner, first_bad_exit, bad_budget};
 ghost use Rattle.mv_machine.specs.Check.{is_bad_exit as is_bad_exit_at, is_within, IsValid};
+ghost use Rattle.mv_machine.specs.Limits.{ecbs_limit, exits_limit, targets_limit};
 
 use crate::config::{CheckRefusal, Config, ConfigLimit, Exit};
+use crate::limits::{ECBS_LIMIT, EVENTS_LIMIT, EXITS_LIMIT, TARGETS_LIMIT};
 use crate::valid::ValidConfig;
 use std::alloc::Global;
 
@@ -36,10 +38,10 @@ impl Config {
         if self.budgets.len() != self.callers as usize {
             return Some(ConfigLimit::Budgets);
         }
-        if self.owners.len() > 131_072 {
+        if self.owners.len() > ECBS_LIMIT {
             return Some(ConfigLimit::Ecbs);
         }
-        if self.exits.len() > 32_768 {
+        if self.exits.len() > EXITS_LIMIT {
             return Some(ConfigLimit::Exits);
         }
         if !has_few_targets(&self.exits) {
@@ -50,7 +52,7 @@ impl Config {
 
     // The first event control block whose owner is no caller.
     fn first_bad_owner(&self) -> Option<u32>
-        requires { vec_len self.now.owners ≤ 131072 }
+        requires { vec_len self.now.owners ≤ ecbs_limit }
         ensures { result ≡ first_bad_owner (setup_of self.now) }
     {
         let mut ecb: u32 = 0;
@@ -65,7 +67,7 @@ impl Config {
 
     // The first exit that leads nowhere or not up, counted from 1.
     fn first_bad_exit(&self) -> Option<u32>
-        requires { vec_len self.now.exits ≤ 32768 }
+        requires { vec_len self.now.exits ≤ exits_limit }
         ensures { result ≡ first_bad_exit (setup_of self.now) }
     {
         let mut number = 1;
@@ -96,7 +98,7 @@ impl Config {
         ensures { result ≡ bad_budget (setup_of self.now) }
     {
         let sum = self.budget_sum();
-        if sum > 524_287 {
+        if sum > EVENTS_LIMIT {
             return Some(sum);
         }
         None
@@ -138,11 +140,9 @@ impl Config {
 
 // Whether each exit has 1 to 8 targets.
 fn has_few_targets(exits: &[Exit]) -> bool
-    ensures { result ≡ list_all (λ x. is_within 1 8 (vec_len x.targets)) exits.now }
+    ensures { result ≡ list_all (λ x. is_within 1 targets_limit (vec_len x.targets)) exits.now }
 {
-    exits
-        .iter()
-        .all(|exit| exit.targets.len() >= 1 && exit.targets.len() <= 8)
+    exits.iter().all(|exit| exit.targets.len() >= 1 && exit.targets.len() <= TARGETS_LIMIT)
 }
 
 // Whether an exit's source is no block, or one of its targets is no block or not above the source.

@@ -1,4 +1,4 @@
-//! Laws of whole histories: generations, places, parts, words, owners and requests, by specs/Elements.antt, Parts.antt,
+//! Laws of whole histories: generations, places, parts, words, owners and requests, by specs/Elements.antt, OnePost.antt, Parts.antt,
 //! Merge.antt, Packing.antt, Owned.antt, Kept.antt and Orderly.antt. Each function is there for its clauses alone.
 
 ghost use Rattle.std.specs.Prelude.{◌≡◌, ◌↔◌, ◌⊎◌, ◌<◌, ◌≤◌, ◌++◌, ◌∷◌, ◌+◌, ◌^◌, ℕ, true, false, List, [], length, filter, Some};
@@ -20,7 +20,9 @@ ghost use Rattle.mv_machine.specs.Elements.{FitsItsPlace};
 ghost use Rattle.mv_machine.specs.Kept.{StandingRequest, standing, allowed, is_posting, RisesFrom};
 ghost use Rattle.mv_machine.specs.Leaving.{NoneTakesOut};
 ghost use Rattle.mv_machine.specs.Legal.{Legal, SameAt, same_object, after, of, «at», CountsFrom};
+ghost use Rattle.mv_machine.specs.Limits.{events_limit, highest_place, highest_generation};
 ghost use Rattle.mv_machine.specs.Merge.{merged, merge_from, start, total};
+ghost use Rattle.mv_machine.specs.OnePost.{TakePosts};
 ghost use Rattle.mv_machine.specs.Orderly.{IsOrderly};
 ghost use Rattle.mv_machine.specs.Owned.{owner_at, is_owners, is_clear, HasNo, IsGranted, IsGone};
 ghost use Rattle.mv_machine.specs.Packing.{HasFields, IsStateOf, HasOpFields, pack, unpack, state_at, word_at, state_after, reply_in};
@@ -34,10 +36,10 @@ ghost use Rattle.mv_machine.specs.Told.{told};
 /// generation passes 262,143.
 pub fn generations_fit()
     ensures fits { (c : Setup) (es : List Entry) (n : ℕ) → Legal c es → FitsItsPlace ((after c es).element n) }
-    ensures places { (c : Setup) (es : List Entry) (o : Object) → Legal c es → length es ≤ 524287 → place_of (after c es) o ≤ 524287 }
-    ensures entries { (c : Setup) (es : List Entry) → Legal c es → length es ≤ 524287 → All (λ e. e.place ≤ 524286) es }
-    ensures generations { (c : Setup) (es : List Entry) (n : ℕ) → Legal c es → length es ≤ 524287
-        → ((after c es).element n).state.generation ≤ 262143 }
+    ensures places { (c : Setup) (es : List Entry) (o : Object) → Legal c es → length es ≤ events_limit → place_of (after c es) o ≤ events_limit }
+    ensures entries { (c : Setup) (es : List Entry) → Legal c es → length es ≤ events_limit → All (λ e. e.place ≤ highest_place) es }
+    ensures generations { (c : Setup) (es : List Entry) (n : ℕ) → Legal c es → length es ≤ events_limit
+        → ((after c es).element n).state.generation ≤ highest_generation }
 {}
 
 /// The entries on one object have the places 0, 1, 2 and so on, and its place after the list is their number.
@@ -67,9 +69,15 @@ pub fn histories_are_orderly()
     ensures orderly { (c : Setup) (es : List Entry) → Legal c es → IsOrderly c es }
 {}
 
+/// Between two clears of an event control block, before its first and after its last, at most one post is taken: nobody waited, or
+/// a task was woken or an exit begun. Every other post there comes after it and is told its code.
+pub fn posts_complete_once()
+    ensures posts { (c : Setup) (es : List Entry) → Legal c es → TakePosts es }
+{}
+
 /// A word that an object has now was had, and stays had with every further entry.
 pub fn words_stay_had()
-    ensures now { (c : Setup) (es : List Entry) (k : ℕ) (o : Object) → Legal c es → length es ≤ 524287 → IsSome (state_at (after c es) o)
+    ensures now { (c : Setup) (es : List Entry) (k : ℕ) (o : Object) → Legal c es → length es ≤ events_limit → IsSome (state_at (after c es) o)
         → Had c es k (length (of k es)) o (word_at (after c es) o) }
     ensures longer { (c : Setup) (es : List Entry) (e : Entry) (k n w : ℕ) (o : Object) → Legal c (es ++ e ∷ [])
         → Had c es k n o w → Had c (es ++ e ∷ []) k n o w }
@@ -149,11 +157,11 @@ pub fn requests_stand_by_their_callers_entries()
 /// Within the events that the budgets of a run may allow, no place leaves its 19 bits and no generation its 18: the word
 /// of each object has 64 bits and stands for the object's place and state.
 pub fn reached_states_have_words()
-    ensures budgets { (c : Setup) (es : List Entry) → IsValid c → Legal c es → KeepsBudgets c es → length es ≤ 524287 }
-    ensures word { (c : Setup) (es : List Entry) (o : Object) → Legal c es → length es ≤ 524287 → word_at (after c es) o < 2 ^ 64 }
-    ensures unpacks { (c : Setup) (es : List Entry) (o : Object) → Legal c es → length es ≤ 524287
+    ensures budgets { (c : Setup) (es : List Entry) → IsValid c → Legal c es → KeepsBudgets c es → length es ≤ events_limit }
+    ensures word { (c : Setup) (es : List Entry) (o : Object) → Legal c es → length es ≤ events_limit → word_at (after c es) o < 2 ^ 64 }
+    ensures unpacks { (c : Setup) (es : List Entry) (o : Object) → Legal c es → length es ≤ events_limit
         → unpack o (word_at (after c es) o) ≡ option_map (λ s. (place_of (after c es) o, s)) (state_at (after c es) o) }
-    ensures fields { (c : Setup) (es : List Entry) (o : Object) → Legal c es → length es ≤ 524287
+    ensures fields { (c : Setup) (es : List Entry) (o : Object) → Legal c es → length es ≤ events_limit
         → IfSome (state_at (after c es) o) (λ s. HasFields s) }
 {}
 

@@ -4,9 +4,10 @@ ghost use Rattle.std.specs.Prelude.{◌≡◌, ◌≤◌, length, IfOk, MatchOpt
 ghost use Rattle.std.specs.List.{AllByRecursion};
 ghost use Rattle.mv_machine.specs.declared.entry.Object.{Object as AnyObject};
 ghost use Rattle.mv_machine.specs.Legal.{Legal};
+ghost use Rattle.mv_machine.specs.Limits.{highest_place};
 ghost use Rattle.mv_machine.specs.Merge.{start, risen, pick, merged as merged_logs, AreOneHistory};
 ghost use Rattle.mv_machine.specs.Parts.{parts};
-ghost use Rattle.mv_machine.specs.Room.{IsRoomFor, IsTurn, Keeps, next_in, lefts};
+ghost use Rattle.mv_machine.specs.Room.{IsRoomFor, IsPicked, Keeps, next_in, lefts};
 ghost use Rattle.mv_machine.specs.Setup.{IsObjectOf};
 
 use crate::entry::{Entry, Object};
@@ -72,7 +73,7 @@ impl NextPlaces {
     // One entry more on an object.
     fn rise(&mut self, object: Object)
         requires kept { Keeps self.old object }
-        requires place { next_in self.old object ≤ 524286 }
+        requires place { next_in self.old object ≤ highest_place }
         ensures places { next_in self.new ≡ risen (next_in self.old) object }
         ensures objects { (o : AnyObject) → Keeps self.old o → Keeps self.new o }
     {
@@ -113,24 +114,24 @@ impl MergeRoom {
 
 // What a merge takes next: an entry, its caller, and how many of the caller's entries are merged then.
 #[derive(Clone, Copy)]
-struct Turn {
+struct Picked {
     caller: usize,
     merged: usize,
     entry: Entry,
 }
 
 // The lowest caller whose next entry has its object's next place gives that entry.
-fn ready(logs: &[Log], merged: &[usize], places: &NextPlaces) -> Option<Turn>
+fn ready(logs: &[Log], merged: &[usize], places: &NextPlaces) -> Option<Picked>
     requires merged { length merged.now ≡ length logs.now }
     requires objects { AllByRecursion (λ log. AllByRecursion (λ e. Keeps places.now e.object) log) logs.now }
     ensures { MatchOption result (pick (next_in places.now) (lefts merged.now logs.now) ≡ None)
-        (λ t. IsTurn places.now merged.now logs.now t) }
+        (λ p. IsPicked places.now merged.now logs.now p) }
 {
     for (caller, log) in logs.iter().enumerate() {
         let from = merged[caller];
         if let Some(entry) = log.entries.get(from) {
             if places.next(entry.object) == entry.place {
-                return Some(Turn {
+                return Some(Picked {
                     caller,
                     merged: from + 1,
                     entry: *entry,
@@ -155,10 +156,10 @@ pub fn merge(config: &ValidConfig, logs: Vec<Log>, room: MergeRoom) -> Vec<Entry
         mut places,
         mut merged,
     } = room;
-    while let Some(turn) = ready(&logs, &merged, &places) {
-        merged[turn.caller] = turn.merged;
-        places.rise(turn.entry.object);
-        journal.push_reserved(turn.entry);
+    while let Some(picked) = ready(&logs, &merged, &places) {
+        merged[picked.caller] = picked.merged;
+        places.rise(picked.entry.object);
+        journal.push_reserved(picked.entry);
     }
     journal
 }

@@ -2,14 +2,16 @@
 //! specs/Legal.antt compute, for the tests to compare `State::step` with.
 ghost use Rattle.std.specs.Prelude.{◌≡◌, ◌<◌, ◌≤◌, ◌^◌, length, All, IfOk, IfErr, IfSome, IfNone};
 ghost use Rattle.mv_machine.specs.Legal.{Legal, after, next, same_object, «at»};
-ghost use Rattle.mv_machine.specs.System.{System, answer, volume_step, ecb_admitted, element_admitted, posts_own_ecb};
+ghost use Rattle.mv_machine.specs.Limits.{highest_place};
+ghost use Rattle.mv_machine.specs.System.{System, answer, volume_step};
 
+use crate::admission::{admits_ecb, admits_element, posts_own_ecb};
 use crate::entry::{Entry, Object, Op, Reply, VolumeOp, VolumeReply};
 use crate::valid::ValidConfig;
 use mv_ecb::{EcbOp, EcbWord, ecb_apply};
 use mv_element::{ElementOp, ElementState, element_apply};
 use mv_io::NoMemory;
-use mv_latch::{LatchForm, LatchOp};
+use mv_latch::LatchOp;
 use std::alloc::Global;
 
 // What the machine answers to an operation behind a legal list of entries: the place is the number of the object's
@@ -24,7 +26,7 @@ pub(crate) fn plain_answer(
     op: Op,
 ) -> Result<Option<(u32, Reply)>, NoMemory>
     requires legal { Legal config.now past.now }
-    requires places { All (λ e. e.place ≤ 524286) past.now }
+    requires places { All (λ e. e.place ≤ highest_place) past.now }
     ensures answer { IfOk result (λ r. r ≡ answer config.now (after config.now past.now) caller object op) }
     ensures memory { IfErr result (λ _. object ≡ Object.Latches) }
 {
@@ -52,7 +54,7 @@ fn answer_of_ecb(
     op: EcbOp,
 ) -> Option<(u32, Reply)>
     requires legal { Legal config.now past.now }
-    requires places { All (λ e. e.place ≤ 524286) past.now }
+    requires places { All (λ e. e.place ≤ highest_place) past.now }
     requires caller { caller < config.now.callers }
     ensures { result ≡ answer config.now (after config.now past.now) caller (Object.Ecb ecb) (Op.Ecb op) }
 {
@@ -78,7 +80,7 @@ fn answer_of_element(
     op: ElementOp,
 ) -> Option<(u32, Reply)>
     requires legal { Legal config.now past.now }
-    requires places { All (λ e. e.place ≤ 524286) past.now }
+    requires places { All (λ e. e.place ≤ highest_place) past.now }
     requires caller { caller < config.now.callers }
     ensures { result ≡ answer config.now (after config.now past.now) caller (Object.Element element) (Op.Element op) }
 {
@@ -104,7 +106,7 @@ fn answer_of_volume(
     op: VolumeOp,
 ) -> Option<(u32, Reply)>
     requires legal { Legal config.now past.now }
-    requires places { All (λ e. e.place ≤ 524286) past.now }
+    requires places { All (λ e. e.place ≤ highest_place) past.now }
     requires caller { caller < config.now.callers }
     ensures { result ≡ answer config.now (after config.now past.now) caller (Object.Volume volume) (Op.Volume op) }
 {
@@ -133,16 +135,15 @@ fn answer_of_latches(
     op: LatchOp,
 ) -> Result<Option<(u32, Reply)>, NoMemory>
     requires legal { Legal config.now past.now }
-    requires places { All (λ e. e.place ≤ 524286) past.now }
+    requires places { All (λ e. e.place ≤ highest_place) past.now }
     requires caller { caller < config.now.callers }
     ensures { IfOk result (λ r. r ≡ answer config.now (after config.now past.now) caller Object.Latches (Op.Latch op)) }
 {
-    if !names_own_ecb(config, caller, op) {
+    if !posts_own_ecb(config, caller, op) {
         return Ok(None);
     }
     let mut latches = config.open_latches(alloc)?;
-    let given = config.config();
-    let mut wakes = Vec::with_capacity(alloc, given.callers as usize * given.quota as usize)?;
+    let mut wakes = Vec::with_capacity(alloc, config.most_wakes())?;
     for entry in past {
         if let Some(earlier) = latch_op(entry) {
             latches.apply(entry.caller, entry.place, earlier, &mut wakes);
@@ -219,44 +220,5 @@ fn latch_op(entry: &Entry) -> Option<LatchOp>
     match (entry.object, entry.op) {
         (Object::Latches, Op::Latch(op)) => Some(op),
         _ => None,
-    }
-}
-
-// Whether a caller may make this operation on an event control block that is there.
-fn admits_ecb(config: &ValidConfig, caller: u32, ecb: u32, op: EcbOp) -> bool
-    requires { ecb < length config.now.owners }
-    ensures { result ≡ ecb_admitted config.now caller ecb op }
-{
-    let owns = config.owns_ecb(caller, ecb);
-    match op {
-        EcbOp::Arm | EcbOp::Settle | EcbOp::Clear => owns,
-        EcbOp::Extend(exit) => owns && exit < 1 << 30 && config.is_exit_of(exit, ecb),
-        EcbOp::Post(code) => code < 1 << 30,
-        EcbOp::Test => true,
-    }
-}
-
-// Whether a caller may make this operation on an element.
-fn admits_element(config: &ValidConfig, caller: u32, element: u32, op: ElementOp) -> bool
-    ensures { result ≡ element_admitted config.now caller element op }
-{
-    let owns = config.owns_element(caller, element);
-    match op {
-        ElementOp::Open | ElementOp::Pause(_) | ElementOp::Resume(_) | ElementOp::Close(_) => owns,
-        ElementOp::Release(_, code) => code < 1 << 24,
-        ElementOp::Test => true,
-    }
-}
-
-// Whether the block that an obtain of the Posted form names is there and the caller's.
-fn names_own_ecb(config: &ValidConfig, caller: u32, op: LatchOp) -> bool
-    ensures { result ≡ posts_own_ecb config.now caller op }
-{
-    match op {
-        LatchOp::Obtain {
-            form: LatchForm::Posted(ecb),
-            ..
-        } => config.has_ecb(ecb) && config.owns_ecb(caller, ecb),
-        _ => true,
     }
 }

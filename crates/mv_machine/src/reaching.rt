@@ -1,13 +1,15 @@
 //! How many posts one post can lead to over the exits, by specs/Reach.antt and specs/Chains.antt.
 
-ghost use Rattle.std.specs.Prelude.{◌≡◌, ◌<◌, ◌≤◌, ◌^◌, ℕ, length, map, IfOk, slice_index};
+ghost use Rattle.std.specs.Prelude.{◌≡◌, ◌<◌, ◌≤◌, ◌^◌, ◌*◌, ℕ, length, map, IfOk, slice_index};
 ghost use Rattle.std.specs.List.{AllByRecursion};
 ghost use Rattle.mv_machine.specs.Chains.{AreChains, AreReaches, HasFewGoodTargets};
 ghost use Rattle.mv_machine.specs.Check.{IsValid};
 ghost use Rattle.mv_machine.specs.Config.{exit_of, setup_of};
+ghost use Rattle.mv_machine.specs.Limits.{highest_reach, targets_limit};
 ghost use Rattle.mv_machine.specs.Reach.{exits_of, greatest, release_cost, total as total_of};
 
 use crate::config::{Config, Exit};
+use crate::limits::HIGHEST_REACH;
 use std::alloc::{AllocError, Global};
 
 // The exits of each block, from the last to the first. Exits are counted from 1, and 0 is none.
@@ -37,11 +39,11 @@ fn chains_of(alloc: Global, ecbs: usize, exits: &[Exit]) -> Result<Chains, Alloc
 
 // The sum of the reaches of some blocks.
 fn total(targets: &[u32], reaches: &[u32]) -> u32
-    requires few { length targets.now ≤ 8 }
+    requires few { length targets.now ≤ targets_limit }
     requires good { AllByRecursion (λ t. t < length reaches.now) targets.now }
-    requires cut { AllByRecursion (λ r. r ≤ 524288) reaches.now }
+    requires cut { AllByRecursion (λ r. r ≤ highest_reach) reaches.now }
     ensures value { result ≡ total_of (λ t. slice_index reaches.now t) targets.now }
-    ensures fits { result ≤ 4194304 }
+    ensures fits { result ≤ targets_limit * highest_reach }
 {
     let mut sum = 0;
     for target in targets {
@@ -56,10 +58,10 @@ fn greatest_total(exits: &[Exit], chains: &Chains, ecb: usize, reaches: &[u32]) 
     requires chains { AreChains (length reaches.now) (map exit_of exits.now)
         (length exits.now) chains.now.last.items chains.now.before.items }
     requires ecb { ecb < length reaches.now }
-    requires cut { AllByRecursion (λ r. r ≤ 524288) reaches.now }
+    requires cut { AllByRecursion (λ r. r ≤ highest_reach) reaches.now }
     ensures value { result ≡ greatest (map (λ x. total_of (λ t. slice_index reaches.now t) x.targets)
         (exits_of ecb (map exit_of exits.now))) }
-    ensures fits { result ≤ 4194304 }
+    ensures fits { result ≤ targets_limit * highest_reach }
 {
     let mut best: u32 = 0;
     let mut at = chains.last[ecb];
@@ -84,7 +86,7 @@ pub(crate) fn reaches_of(alloc: Global, config: &Config) -> Result<Vec<u32>, All
     while ecb > 0 {
         ecb -= 1;
         let most = greatest_total(&config.exits, &chains, ecb, &reaches);
-        reaches[ecb] = (1 + most).min(524_288);
+        reaches[ecb] = (1 + most).min(HIGHEST_REACH);
     }
     Ok(reaches)
 }
@@ -99,5 +101,5 @@ pub(crate) fn release_cost_of(config: &Config, reaches: &[u32]) -> u32
     for reach in reaches {
         most = most.max(*reach);
     }
-    (1 + config.callers * config.posted_quota * most).min(524_288)
+    (1 + config.callers * config.posted_quota * most).min(HIGHEST_REACH)
 }

@@ -1,10 +1,12 @@
 //! The judgement of a list of entries: is it legal, and which entry is the first that is not, by specs/Legal.antt and
 //! specs/Replay.antt.
 
-ghost use Rattle.std.specs.Prelude.{◌≡◌, ◌≢◌, ◌<◌, ◌≤◌, ◌^◌, ◌↔◌, ℕ, IsTrue, MatchOption, OnOk, IfOk, IfErr, All, Some, None};
+ghost use Rattle.std.specs.Prelude.{◌≡◌, ◌≢◌, ◌<◌, ◌≤◌, ◌^◌, ◌↔◌, IsTrue, MatchOption, OnOk, IfOk, IfErr, All, Some, None};
 ghost use Rattle.mv_machine.specs.declared.entry.Object.{Object as AnyObject};
-ghost use Rattle.mv_machine.specs.Elements.{IsOrderlyElement, element_events};
 ghost use Rattle.mv_machine.specs.Legal.{Legal, LegalFrom, after, after_from};
+ghost use Rattle.mv_machine.specs.Limits.{highest_place};
+ghost use Rattle.mv_machine.specs.OnePost.{TakePosts};
+ghost use Rattle.mv_machine.specs.Orderly.{IsOrderly};
 ghost use Rattle.mv_machine.specs.Replay.{IsFirstIllegal, IsRefused};
 ghost use Rattle.mv_machine.specs.State.{system_of, wakes_of, IsOpenedWith};
 ghost use Rattle.mv_machine.specs.System.{place_of};
@@ -51,14 +53,15 @@ pub fn replay(
     config: &ValidConfig,
     entries: &[Entry],
 ) -> Result<State, ReplayRefusal>
-    requires places { All (λ e. e.place ≤ 524286) entries.now }
+    requires places { All (λ e. e.place ≤ highest_place) entries.now }
     ensures legal { OnOk result (Legal config.now entries.now) }
     ensures after { IfOk result (λ s. system_of s ≡ after config.now entries.now) }
     ensures wakes { IfOk result (λ s. wakes_of s ≡ last_wakes config.now entries.now) }
     ensures opened { IfOk result (λ s. IsOpenedWith config.now s) }
     ensures refused { IfErr result (λ r. IsRefused config.now entries.now r) }
     ensures not_legal { IfErr result (λ r. r ≢ ReplayRefusal.NoMemory → ¬ Legal config.now entries.now) }
-    ensures orderly { OnOk result ((element : ℕ) → IsOrderlyElement (element_events element entries.now)) }
+    ensures orderly { OnOk result (IsOrderly config.now entries.now) }
+    ensures posts { OnOk result (TakePosts entries.now) }
 {
     let mut state = State::opening(alloc, config)?;
     match first_illegal(&mut state, config, entries) {
@@ -70,7 +73,7 @@ pub fn replay(
 // Steps through the entries as long as they are the machine's. What the state is after an illegal one is not said.
 fn first_illegal(state: &mut State, config: &ValidConfig, entries: &[Entry]) -> Option<Illegal>
     requires opened { IsOpenedWith config.now state.old }
-    requires places { All (λ e. e.place ≤ 524286) entries.now }
+    requires places { All (λ e. e.place ≤ highest_place) entries.now }
     requires at_most { (o : AnyObject) → place_of (system_of state.old) o < 2 ^ 19 }
     ensures legal { MatchOption result (LegalFrom config.now (system_of state.old) entries.now)
         (λ i. IsFirstIllegal config.now (system_of state.old) entries.now i) }

@@ -2,16 +2,18 @@
 
 ghost use Rattle.std.specs.Prelude.{◌≡◌, ◌<◌, ◌≤◌, ◌+◌, ◌^◌, ◌-◌, ℕ, [], length, IfOk, IfSome, IsTrue, ◌↔◌};
 ghost use Rattle.mv_latch.specs.LatchSet.{list_of};
-ghost use Rattle.mv_machine.specs.System.{System, answer, after_step, place_of, volume_step, ecb_admitted, element_admitted};
-ghost use Rattle.mv_machine.specs.System.{posts_own_ecb as posts_own_ecb_of, wakes_after, opening as opening_of};
+ghost use Rattle.mv_machine.specs.Limits.{highest_place};
+ghost use Rattle.mv_machine.specs.System.{System, answer, after_step, place_of, volume_step};
+ghost use Rattle.mv_machine.specs.System.{wakes_after, opening as opening_of};
 ghost use Rattle.mv_machine.specs.State.{system_of, wakes_of, IsOpenedWith, IsStep, Exists, HasLatch};
 
+use crate::admission::{admits_ecb, admits_element, posts_own_ecb};
 use crate::entry::{Object, Op, Reply, VolumeOp, VolumeReply};
 use crate::valid::ValidConfig;
 use mv_ecb::{EcbOp, EcbWord, ecb_apply};
 use mv_element::{ElementOp, ElementState, element_apply};
 use mv_io::NoMemory;
-use mv_latch::{LatchForm, LatchOp, LatchSet, Request, Wake};
+use mv_latch::{LatchOp, LatchSet, Request, Wake};
 use std::alloc::Global;
 
 // An event control block and its place.
@@ -74,7 +76,7 @@ impl State {
         };
         volumes.resize(given.volumes as usize, empty)?;
         let latches = config.open_latches(alloc)?;
-        let wakes = Vec::with_capacity(alloc, given.callers as usize * given.quota as usize)?;
+        let wakes = Vec::with_capacity(alloc, config.most_wakes())?;
         Ok(State {
             ecbs,
             elements,
@@ -160,7 +162,7 @@ impl State {
         op: Op,
     ) -> Option<(u32, Reply)>
         requires opened { IsOpenedWith config.now self.old }
-        requires place { place_of (system_of self.old) object ≤ 524286 }
+        requires place { place_of (system_of self.old) object ≤ highest_place }
         ensures answer { result ≡ answer config.now (system_of self.old) caller object op }
         ensures after { system_of self.new ≡ after_step config.now (system_of self.old) caller object op }
         ensures wakes { wakes_of self.new ≡ wakes_after config.now (system_of self.old) (wakes_of self.old) caller object op }
@@ -288,45 +290,6 @@ impl State {
         let reply = self.latches.apply(caller, place, op, &mut self.wakes)?;
         self.latch_place = place + 1;
         Some((place, Reply::Latch(reply)))
-    }
-}
-
-// Whether a caller may make this operation on an event control block that is there.
-fn admits_ecb(config: &ValidConfig, caller: u32, ecb: u32, op: EcbOp) -> bool
-    requires { ecb < length config.now.owners }
-    ensures { result ≡ ecb_admitted config.now caller ecb op }
-{
-    match op {
-        EcbOp::Test => true,
-        EcbOp::Post(code) => code < 1 << 30,
-        EcbOp::Extend(exit) => {
-            config.owns_ecb(caller, ecb) && exit < 1 << 30 && config.is_exit_of(exit, ecb)
-        }
-        _ => config.owns_ecb(caller, ecb),
-    }
-}
-
-// Whether a caller may make this operation on an element.
-fn admits_element(config: &ValidConfig, caller: u32, element: u32, op: ElementOp) -> bool
-    ensures { result ≡ element_admitted config.now caller element op }
-{
-    match op {
-        ElementOp::Test => true,
-        ElementOp::Release(_, code) => code < 1 << 24,
-        _ => config.owns_element(caller, element),
-    }
-}
-
-// Whether the block that an obtain of the Posted form names is the caller's.
-fn posts_own_ecb(config: &ValidConfig, caller: u32, op: LatchOp) -> bool
-    ensures { result ≡ posts_own_ecb_of config.now caller op }
-{
-    match op {
-        LatchOp::Obtain {
-            form: LatchForm::Posted(ecb),
-            ..
-        } => config.has_ecb(ecb) && config.owns_ecb(caller, ecb),
-        _ => true,
     }
 }
 

@@ -1,8 +1,9 @@
 //! A configuration that was checked, with what is computed from it once, by specs/Valid.antt, specs/Reach.antt and
 //! specs/Setup.antt.
 
-ghost use Rattle.std.specs.Prelude.{◌≡◌, ◌<◌, ◌≤◌, ◌==◌, nat_lt, length, IfOk, IsTrue};
+ghost use Rattle.std.specs.Prelude.{◌≡◌, ◌<◌, ◌≤◌, ◌*◌, ◌==◌, nat_lt, length, IfOk, IsTrue};
 ghost use Rattle.mv_latch.specs.LatchSet.{opened};
+ghost use Rattle.mv_machine.specs.Limits.{exits_limit};
 ghost use Rattle.mv_machine.specs.Reach.{reach, release_cost};
 ghost use Rattle.mv_machine.specs.Setup.{Setup, is_exit_of, owner_of, element_owner, element_count};
 
@@ -77,6 +78,13 @@ impl ValidConfig {
         self.release_cost
     }
 
+    /// How many wakes one event on the latch set may have: one for each request that the quotas allow.
+    pub fn most_wakes(&self) -> usize
+        ensures { result ≡ self.now.callers * self.now.quota }
+    {
+        self.config.callers as usize * self.config.quota as usize
+    }
+
     // Whether there is this caller.
     pub(crate) fn has_caller(&self, caller: u32) -> bool
         ensures { result ≡ nat_lt caller self.now.callers }
@@ -130,7 +138,7 @@ impl ValidConfig {
     /// Whether there is an exit of this number, counted from 1, and it starts from this block.
     pub fn is_exit_of(&self, exit: u32, ecb: u32) -> bool
         ensures starts { result ≡ is_exit_of self.now exit ecb }
-        ensures few { IsTrue result → exit ≤ 32768 }
+        ensures few { IsTrue result → exit ≤ exits_limit }
     {
         if exit == 0 {
             return false;

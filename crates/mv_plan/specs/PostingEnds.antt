@@ -13,7 +13,7 @@ use Rattle.mv_machine.specs.declared.entry.Reply.{Reply}
 use Rattle.mv_machine.specs.declared.entry.Reply.TheVariants as reply_of
 use Rattle.mv_deck.specs.Deck.{JobData}
 use Rattle.mv_plan.specs.Jobs.{end_of}
-use Rattle.mv_report.specs.EndCode.{not_run}
+use Rattle.mv_deck.specs.EndCode.{not_run}
 use Rattle.mv_plan.specs.SpoolSetup.{done, end_for_scheduler, end_for_writer}
 use Rattle.mv_plan.specs.SpoolTasks.{code_of}
 

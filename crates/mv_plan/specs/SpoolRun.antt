@@ -2,7 +2,7 @@
 use Rattle.std.specs.Prelude.{ℕ, List}
 use Rattle.mv_machine.specs.declared.entry.Entry.{Entry}
 use Rattle.mv_deck.specs.Deck.{JobData}
-use Rattle.mv_machine.specs.calls.Runs.{FollowPrograms, FinishPrograms}
+use Rattle.mv_calls.specs.Runs.{FollowPrograms, FinishPrograms}
 use Rattle.mv_plan.specs.SpoolSetup.{spool_setup}
 use Rattle.mv_plan.specs.SpoolTasks.{task_program}
 

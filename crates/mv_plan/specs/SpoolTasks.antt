@@ -6,21 +6,21 @@ use Rattle.mv_element.specs.declared.element.Token.{Token}
 use Rattle.mv_latch.specs.declared.request.LatchForm.TheVariants.{Waiting}
 use Rattle.mv_machine.specs.Setup.{Setup}
 use Rattle.mv_machine.specs.System.{with_at}
-use Rattle.mv_machine.specs.calls.Endings.{end_of_job}
+use Rattle.mv_calls.specs.Endings.{end_of_job}
 use Rattle.mv_deck.specs.Deck.{JobData}
 use Rattle.mv_deck.specs.declared.deck.After.{After}
 use Rattle.mv_deck.specs.declared.deck.Step.{Step}
 use Rattle.mv_deck.specs.declared.deck.Step.TheVariants.{Print, Use, Free, Count, Scan, Abend, Return}
 use Rattle.mv_plan.specs.Jobs.{job_at}
-use Rattle.mv_report.specs.EndCode.{not_run}
-use Rattle.mv_machine.specs.calls.Keeping.{nothing_kept}
-use Rattle.mv_machine.specs.calls.LatchCalls.{Obtained, GrantedAs, PendingAs, Counts, obtain, release_latch}
-use Rattle.mv_machine.specs.calls.Pauses.{token_of, allocate, pause, release, deallocate}
-use Rattle.mv_machine.specs.calls.Posts.{post}
-use Rattle.mv_machine.specs.calls.Program.{Program, Call, followed, accepted, for_each, finished, wrong}
+use Rattle.mv_deck.specs.EndCode.{not_run}
+use Rattle.mv_calls.specs.Keeping.{nothing_kept}
+use Rattle.mv_calls.specs.LatchCalls.{Obtained, GrantedAs, PendingAs, Counts, obtain, release_latch}
+use Rattle.mv_calls.specs.Pauses.{token_of, allocate, pause, release, deallocate}
+use Rattle.mv_calls.specs.Posts.{post}
+use Rattle.mv_calls.specs.Program.{Program, Call, followed, accepted, for_each, finished, wrong}
 use Rattle.mv_plan.specs.SpoolSetup.{spool_setup, entered, done, end_for_scheduler, end_for_writer, idle, reader, scheduler, initiator}
 use Rattle.mv_plan.specs.SpoolSetup.{writer}
-use Rattle.mv_machine.specs.calls.Waits.{wait, clear, extend, read_volume, write_volume}
+use Rattle.mv_calls.specs.Waits.{wait, clear, extend, read_volume, write_volume}
 
 -- the lowest that was found complete: its position, counted from p, and its code
 abbrev pub lowest : {A : Type 0} → (ℕ → ℕ → Call A) → ℕ → List (Option ℕ) → Call A

@@ -6,8 +6,8 @@ use Rattle.mv_machine.specs.declared.entry.Object.{Object}
 use Rattle.mv_machine.specs.declared.entry.Op.{Op}
 use Rattle.mv_machine.specs.Legal.{of}
 use Rattle.mv_machine.specs.Parts.{KeepsBudgets}
-use Rattle.mv_machine.specs.calls.Program.{asks}
-use Rattle.mv_machine.specs.calls.Runs.{left_in}
+use Rattle.mv_calls.specs.Program.{asks}
+use Rattle.mv_calls.specs.Runs.{left_in}
 use Rattle.mv_deck.specs.Deck.{JobData}
 use Rattle.mv_plan.specs.SpoolSetup.{spool_setup, task_budgets}
 use Rattle.mv_plan.specs.SpoolTasks.{task_program}

@@ -11,7 +11,7 @@ use Rattle.mv_machine.specs.declared.entry.Reply.TheVariants as reply_of
 use Rattle.mv_deck.specs.declared.deck.After.{After}
 use Rattle.mv_deck.specs.declared.deck.Step.{Step}
 use Rattle.mv_deck.specs.Deck.{JobData}
-use Rattle.mv_machine.specs.calls.Waits.{complete_count}
+use Rattle.mv_calls.specs.Waits.{complete_count}
 use Rattle.mv_plan.proofs.deck.Events.{after_parts}
 use Rattle.mv_plan.specs.SpoolTasks.{ends_of}
 use Rattle.mv_plan.specs.SpoolSetup.{end_for_scheduler, idle}

@@ -13,8 +13,8 @@ use Rattle.mv_machine.specs.declared.entry.Reply.{Reply}
 use Rattle.mv_machine.specs.declared.entry.Reply.TheVariants as reply_of
 use Rattle.mv_machine.specs.Legal.{of}
 use Rattle.mv_machine.specs.System.{with_at, opening}
-use Rattle.mv_machine.specs.calls.Program.{asks}
-use Rattle.mv_machine.specs.calls.Runs.{left_in}
+use Rattle.mv_calls.specs.Program.{asks}
+use Rattle.mv_calls.specs.Runs.{left_in}
 use Rattle.mv_machine.proofs.Objects.{of-append}
 use Rattle.mv_deck.specs.Deck.{JobData}
 use Rattle.mv_plan.proofs.deck.Sound.{IsSound}

@@ -16,7 +16,7 @@ use Rattle.mv_plan.specs.Jobs.{job_at, end_of}
 use Rattle.mv_plan.proofs.deck.Sound.{IsSoundJob, AreSoundJobs, IsSound, Held}
 use Rattle.mv_deck.specs.Weight.{weight, all_events, after_parts}
 use Rattle.mv_plan.proofs.deck.Sound.{AreSoundSteps}
-use Rattle.mv_report.specs.EndCode.{not_run}
+use Rattle.mv_deck.specs.EndCode.{not_run}
 use Rattle.mv_report.specs.Outcome.{some_unaccepted, own_end, end_behind, ends_from, ends}
 use Rattle.mv_plan.specs.SpoolTasks.{not_to_run}
 use Rattle.mv_plan.specs.SpoolSetup.{task_budgets}

@@ -8,7 +8,7 @@ use Rattle.std.proofs.lemmas.Bool.{eq-eqb, eqb-true, lt-ltb, ltb-true, false≢t
 use Rattle.std.proofs.lemmas.List.{get_or-append-add, get_or_append_left, get_or-replicate, length-append, length-replicate}
 use Rattle.mv_machine.specs.Setup.{Setup, SetupExit, owner_of, is_exit_of, starts_from, element_owner}
 use Rattle.mv_deck.specs.Deck.{JobData}
-use Rattle.mv_machine.specs.calls.Posts.{targets_of, targets_at}
+use Rattle.mv_calls.specs.Posts.{targets_of, targets_at}
 use Rattle.mv_plan.specs.SpoolSetup.{spool_setup, end_owners, block_owners, end_exit, entered, done, end_for_scheduler, end_for_writer}
 use Rattle.mv_plan.specs.SpoolSetup.{idle, scheduler, writer}
 

@@ -17,7 +17,7 @@ use Rattle.mv_plan.proofs.deck.Sound.{AreSoundJobs}
 use Rattle.mv_report.specs.Outcome.{ends}
 use Rattle.mv_plan.specs.SpoolSetup.{end_for_scheduler}
 use Rattle.mv_plan.specs.SpoolTasks.{code_of, some_end_above, ends_of}
-use Rattle.mv_machine.specs.calls.Waits.{complete_count}
+use Rattle.mv_calls.specs.Waits.{complete_count}
 use Rattle.mv_plan.proofs.points.Points.{Point, At, TooSoon, WaitAt, Arming, Settling, Stage, Dispatching, Dismissing, Awaited}
 use Rattle.mv_plan.proofs.points.Points.{ForEntry, ForEnds, ForIdle, ToDismiss, SchedulerAt, Waits, Extends, Clears, Releases}
 use Rattle.mv_plan.proofs.points.Points.{awaited_blocks, awaited_count, scheduler_goes, arming_first, arming_from, settling_from}

@@ -8,7 +8,7 @@ use Rattle.mv_machine.specs.declared.entry.Op.TheVariants as op_on
 use Rattle.mv_machine.specs.declared.entry.Reply.{Reply}
 use Rattle.mv_machine.specs.declared.entry.Reply.TheVariants as reply_of
 use Rattle.mv_deck.specs.Deck.{JobData}
-use Rattle.mv_machine.specs.calls.LatchCalls.{Counts}
+use Rattle.mv_calls.specs.LatchCalls.{Counts}
 use Rattle.mv_plan.specs.SpoolSetup.{entered, done, end_for_scheduler, end_for_writer, idle}
 use Rattle.mv_plan.proofs.points.Points.{Point, At, Finished, TooSoon, Astray, Running, InitiatorAt, Opening, Offering, Pausing, Resuming}
 use Rattle.mv_plan.proofs.points.Points.{Obtaining, Confirming, Freeing, Reading, Writing, Scanning, Rescanning, Purging, EndingJob}

@@ -20,9 +20,9 @@ use Rattle.mv_machine.specs.declared.entry.Reply.TheVariants as reply_of
 use Rattle.mv_machine.specs.declared.entry.VolumeOp.TheVariants as volume_op
 use Rattle.mv_machine.specs.declared.entry.VolumeReply.TheVariants as volume_reply
 use Rattle.mv_machine.specs.Legal.{Legal}
-use Rattle.mv_machine.specs.calls.Program.{asks}
+use Rattle.mv_calls.specs.Program.{asks}
 use Rattle.mv_machine.proofs.EntryRuns.{entry_of}
-use Rattle.mv_machine.proofs.calls.Computed.{legal_by}
+use Rattle.mv_calls.proofs.Computed.{legal_by}
 use Rattle.mv_deck.specs.declared.deck.Step.TheVariants.{Use, Count, Free}
 use Rattle.mv_deck.specs.Deck.{JobData}
 use Rattle.mv_plan.specs.SpoolRun.{Follows, IsRun}

@@ -16,13 +16,13 @@ use Rattle.mv_machine.specs.Legal.{Legal}
 use Rattle.mv_deck.specs.Deck.{JobData}
 use Rattle.mv_deck.specs.declared.deck.Step.TheVariants.{Print, Abend}
 use Rattle.mv_report.specs.Outcome.{ends}
-use Rattle.mv_machine.specs.calls.Program.{IsDoneOn}
-use Rattle.mv_machine.specs.calls.Runs.{heard_in}
+use Rattle.mv_calls.specs.Program.{IsDoneOn}
+use Rattle.mv_calls.specs.Runs.{heard_in}
 use Rattle.mv_plan.specs.SpoolSetup.{spool_setup}
 use Rattle.mv_plan.specs.SpoolTasks.{task_program}
 use Rattle.mv_plan.specs.SpoolRun.{IsRun}
-use Rattle.mv_machine.proofs.calls.Interleaved.{finish}
-use Rattle.mv_machine.proofs.calls.Computed.{legal_by, made}
+use Rattle.mv_calls.proofs.Interleaved.{finish}
+use Rattle.mv_calls.proofs.Computed.{legal_by, made}
 use Rattle.mv_machine.proofs.EntryRuns.{entry_of}
 
 unfoldable pub pay_deck : List JobData

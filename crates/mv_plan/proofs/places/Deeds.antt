@@ -15,7 +15,7 @@ use Rattle.mv_machine.specs.declared.entry.Op.TheVariants as op_on
 use Rattle.mv_machine.specs.declared.entry.Reply.{Reply}
 use Rattle.mv_machine.specs.declared.entry.Reply.TheVariants as reply_of
 use Rattle.mv_latch.specs.LatchSet.{latch_step}
-use Rattle.mv_machine.specs.System.{System, moved, reply_to, with_at, turned, volume_step}
+use Rattle.mv_machine.specs.System.{System, moved, reply_to, with_at, advanced, volume_step}
 use Rattle.mv_plan.specs.HandingOut.{gift_code}
 use Rattle.mv_deck.specs.Deck.{JobData}
 use Rattle.mv_plan.specs.Jobs.{job_at}
@@ -192,9 +192,9 @@ module _ (deck : List JobData) (s : System) (q : Point SchedulerAt) (i : ℕ) wh
 
   on_element : (p q : Point InitiatorAt) (r : Reply) (y : ElementState) → Deed n p q (code_held (element_of s i)) (code_held y) r
       → Deed n p q (code_held (element_of s i))
-      (code_held (with_at s.element (initiator i) (turned (s.element (initiator i)) y) (initiator i)).state) r
+      (code_held (with_at s.element (initiator i) (advanced (s.element (initiator i)) y) (initiator i)).state) r
   on_element p q r y d = did_at n p q _ _ _ r
-      (ap (λ z. code_held z.state) (with_at-same s.element (initiator i) (turned (s.element (initiator i)) y))) d
+      (ap (λ z. code_held z.state) (with_at-same s.element (initiator i) (advanced (s.element (initiator i)) y))) d
 
   runs_did : (x : InitiatorAt) (r : Reply) (run : Running) → run_of (At x) ≡ Some run → IsInitiatorAt deck (At x)
       → Some r ≡ reply_to s (initiator i) (initiator_asks n i x).0 (initiator_asks n i x).1 → IsNotLost (initiator_goes deck x r)

@@ -18,7 +18,7 @@ use Rattle.mv_machine.specs.Setup.{Setup}
 use Rattle.mv_machine.specs.System.{System, moved, reply_to, with_at}
 use Rattle.mv_plan.specs.HandingOut.{release_code, gift_code}
 use Rattle.mv_deck.specs.Deck.{JobData}
-use Rattle.mv_machine.specs.calls.Keeping.{Kept}
+use Rattle.mv_calls.specs.Keeping.{Kept}
 use Rattle.mv_plan.specs.SpoolSetup.{reader, scheduler, initiator, writer, done}
 use Rattle.mv_plan.specs.SpoolTasks.{code_of, not_to_run}
 use Rattle.mv_plan.proofs.points.ReaderAndWriter.{IsReaderAt, IsWriterAt}

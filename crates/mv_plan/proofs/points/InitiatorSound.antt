@@ -21,10 +21,10 @@ use Rattle.mv_deck.specs.declared.deck.Step.{Step}
 use Rattle.mv_deck.specs.declared.deck.Step.TheVariants.{Print, Use, Free, Count, Scan, Abend, Return}
 use Rattle.mv_plan.specs.Jobs.{job_at}
 use Rattle.mv_plan.proofs.deck.Sound.{Held, is_held, AreSoundSteps, AreSoundJobs}
-use Rattle.mv_report.specs.EndCode.{not_run}
+use Rattle.mv_deck.specs.EndCode.{not_run}
 use Rattle.mv_report.specs.Outcome.{own_end}
-use Rattle.mv_machine.specs.calls.Waits.{AreDistinct}
-use Rattle.mv_machine.specs.calls.Keeping.{Kept, nothing_kept}
+use Rattle.mv_calls.specs.Waits.{AreDistinct}
+use Rattle.mv_calls.specs.Keeping.{Kept, nothing_kept}
 use Rattle.mv_plan.specs.SpoolSetup.{initiator}
 use Rattle.mv_plan.specs.SpoolTasks.{Named, job_named, code_of, not_to_run}
 use Rattle.mv_plan.proofs.points.Points.{Point, At, Astray, Grant, Running, Hand, empty_hand, hand_with, without_latch, hand_without}

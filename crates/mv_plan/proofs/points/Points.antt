@@ -24,11 +24,11 @@ use Rattle.mv_deck.specs.Deck.{JobData}
 use Rattle.mv_deck.specs.declared.deck.Step.{Step}
 use Rattle.mv_deck.specs.declared.deck.Step.TheVariants.{Print, Use, Free, Count, Scan, Abend, Return}
 use Rattle.mv_plan.specs.Jobs.{job_at}
-use Rattle.mv_report.specs.EndCode.{not_run}
-use Rattle.mv_machine.specs.calls.LatchCalls.{Counts}
+use Rattle.mv_deck.specs.EndCode.{not_run}
+use Rattle.mv_calls.specs.LatchCalls.{Counts}
 use Rattle.mv_plan.specs.SpoolSetup.{entered, done, end_for_scheduler, end_for_writer, idle, initiator}
 use Rattle.mv_plan.specs.SpoolTasks.{Named, job_named, code_of, some_end_above, ends_of}
-use Rattle.mv_machine.specs.calls.Waits.{complete_count}
+use Rattle.mv_calls.specs.Waits.{complete_count}
 
 -- a task is at a point of its program, or that has ended: with its answer, too soon, or by a reply that nothing foresees
 pub data Point (X : Type 0) : Type 0 where

@@ -11,22 +11,22 @@ use Rattle.mv_machine.specs.declared.entry.Op.TheVariants as op_on
 use Rattle.mv_machine.specs.declared.entry.VolumeOp.TheVariants as volume_op
 use Rattle.mv_machine.specs.Setup.{Setup}
 use Rattle.mv_machine.specs.System.{with_at}
-use Rattle.mv_machine.specs.calls.Endings.{end_of_job}
+use Rattle.mv_calls.specs.Endings.{end_of_job}
 use Rattle.mv_deck.specs.Deck.{JobData}
 use Rattle.mv_deck.specs.declared.deck.Step.{Step}
-use Rattle.mv_machine.specs.calls.Keeping.{Kept}
-use Rattle.mv_machine.specs.calls.LatchCalls.{Counts, obtained, confirmed, let_go, purged}
-use Rattle.mv_machine.specs.calls.Pauses.{Gift, token_of, opened, paused, resumed, closed}
-use Rattle.mv_machine.specs.calls.Posts.{Posting, Woke, post, post_within, each_posted, wake_posted}
-use Rattle.mv_machine.specs.calls.Program.{Program, Do, Done, Early, Wrong, Call, and_then, going_on, unrefused, for_each, finished, on_ecb}
-use Rattle.mv_machine.specs.calls.Program.{on_element, on_volume, on_latch}
-use Rattle.mv_machine.specs.calls.Refusal.{Refusal}
+use Rattle.mv_calls.specs.Keeping.{Kept}
+use Rattle.mv_calls.specs.LatchCalls.{Counts, obtained, confirmed, let_go, purged}
+use Rattle.mv_calls.specs.Pauses.{Gift, token_of, opened, paused, resumed, closed}
+use Rattle.mv_calls.specs.Posts.{Posting, Woke, post, post_within, each_posted, wake_posted}
+use Rattle.mv_calls.specs.Program.{Program, Do, Done, Early, Wrong, Call, and_then, going_on, unrefused, for_each, finished, on_ecb}
+use Rattle.mv_calls.specs.Program.{on_element, on_volume, on_latch}
+use Rattle.mv_calls.specs.Refusal.{Refusal}
 use Rattle.mv_plan.specs.SpoolSetup.{entered, done, end_for_scheduler, end_for_writer, idle, initiator}
 use Rattle.mv_plan.specs.SpoolTasks.{lowest, some_end_above, ends_awaited, hand_over, code_of, dispatch_all, dismiss, granted_as, counted}
 use Rattle.mv_plan.specs.SpoolTasks.{run_steps, named_by, run_job, turns, job_named, ends_kept, first_of}
-use Rattle.mv_machine.specs.calls.Waits.{arm_all, settle_all, enough, the_word, extended, the_value, stored, extend, read_volume}
-use Rattle.mv_machine.specs.calls.Pauses.{release, deallocate, pause}
-use Rattle.mv_machine.specs.calls.Program.{followed, accepted}
+use Rattle.mv_calls.specs.Waits.{arm_all, settle_all, enough, the_word, extended, the_value, stored, extend, read_volume}
+use Rattle.mv_calls.specs.Pauses.{release, deallocate, pause}
+use Rattle.mv_calls.specs.Program.{followed, accepted}
 use Rattle.mv_plan.proofs.points.Points.{Point, At, Finished, TooSoon, Astray, ReaderAt, Entering, WaitAt, Arming, Settling, Stage}
 use Rattle.mv_plan.proofs.points.Points.{Dispatching, Dismissing, Awaited, ForEntry, ForEnds, ForIdle, ToDismiss, SchedulerAt, Waits}
 use Rattle.mv_plan.proofs.points.Points.{Extends, Clears, Releases, awaited_blocks, awaited_count, WriterAt, Keeping, Running, Hand}

@@ -17,16 +17,16 @@ use Rattle.mv_deck.specs.Deck.{JobData}
 use Rattle.mv_deck.specs.declared.deck.After.{After}
 use Rattle.mv_deck.specs.declared.deck.Step.{Step}
 use Rattle.mv_plan.proofs.deck.Sound.{IsSoundJob, AreSoundJobs}
-use Rattle.mv_machine.specs.calls.Keeping.{Kept}
-use Rattle.mv_machine.specs.calls.Pauses.{token_of, release, released}
-use Rattle.mv_machine.specs.calls.Program.{Do, Done, Heard, asks, heard, going_on, unrefused, accepted, finished, unless_refused, on_ecb}
-use Rattle.mv_machine.specs.calls.Program.{on_element}
-use Rattle.mv_machine.specs.calls.Refusal.{Refusal}
-use Rattle.mv_machine.specs.calls.Refusal as refusal
+use Rattle.mv_calls.specs.Keeping.{Kept}
+use Rattle.mv_calls.specs.Pauses.{token_of, release, released}
+use Rattle.mv_calls.specs.Program.{Do, Done, Heard, asks, heard, going_on, unrefused, accepted, finished, unless_refused, on_ecb}
+use Rattle.mv_calls.specs.Program.{on_element}
+use Rattle.mv_calls.specs.Refusal.{Refusal}
+use Rattle.mv_calls.specs.Refusal as refusal
 use Rattle.mv_plan.specs.SpoolSetup.{entered, done, end_for_scheduler, idle, initiator}
 use Rattle.mv_plan.specs.SpoolTasks.{code_of, ends_of, some_end_above, ends_awaited, first_of, hand_over}
-use Rattle.mv_machine.specs.calls.Waits.{AreDistinct, wait, wait_refusal, extend, extended, the_word, refused_if, arm_all, settle_all}
-use Rattle.mv_machine.specs.calls.Waits.{enough}
+use Rattle.mv_calls.specs.Waits.{AreDistinct, wait, wait_refusal, extend, extended, the_word, refused_if, arm_all, settle_all}
+use Rattle.mv_calls.specs.Waits.{enough}
 use Rattle.mv_plan.proofs.points.Points.{At, Arming, Settling, Stage, Dispatching, Dismissing, Awaited, ForEntry, ForEnds, ForIdle}
 use Rattle.mv_plan.proofs.points.Points.{ToDismiss, SchedulerAt, Waits, Extends, Clears, Releases, awaited_blocks, awaited_count}
 use Rattle.mv_plan.proofs.points.Points.{scheduler_asks, scheduler_goes, arming_first, arming_from, settling_from, found_at, ends_at}
@@ -34,7 +34,7 @@ use Rattle.mv_plan.proofs.points.Points.{dismissing_from, stage_at}
 use Rattle.mv_plan.proofs.points.Programs.{program_at, dismissals, stage_call, staged, awaited_then, awaited_stage, scheduler_program}
 use Rattle.mv_plan.proofs.points.PostsAndWaits.{armed_goes, settled_goes, lowest_goes, enough_goes}
 use Rattle.mv_plan.proofs.points.ReaderAndWriter.{keeps}
-use Rattle.mv_machine.proofs.calls.Unrefused.{IsFree, own_block, wait_unrefused, extend_unrefused}
+use Rattle.mv_calls.proofs.Unrefused.{IsFree, own_block, wait_unrefused, extend_unrefused}
 use Rattle.mv_plan.proofs.points.SchedulerSound.{IsRest, rest_count, rest_below, rest_sound, IsAwaited, IsStage, stage_extended}
 use Rattle.mv_plan.proofs.points.SchedulerSound.{awaited_extended, SchedulerKept, others_plain, SchedulerStands, extended_kept}
 use Rattle.mv_plan.proofs.deck.Setup.{Facts}

@@ -10,7 +10,7 @@ use Rattle.mv_deck.specs.Deck.{JobData}
 use Rattle.mv_deck.specs.declared.deck.After.{After}
 use Rattle.mv_deck.specs.declared.deck.Step.{Step}
 use Rattle.mv_plan.specs.SpoolTasks.{code_of, some_end_above}
-use Rattle.mv_machine.specs.calls.Waits.{complete_count}
+use Rattle.mv_calls.specs.Waits.{complete_count}
 use Rattle.mv_plan.proofs.points.Points.{Point, At, TooSoon, Astray, WaitAt, Arming, Settling, Stage, Dispatching, Dismissing, Awaited}
 use Rattle.mv_plan.proofs.points.Points.{ForEntry, ForEnds, ForIdle, ToDismiss, SchedulerAt, Waits, Extends, Clears, Releases}
 use Rattle.mv_plan.proofs.points.Points.{awaited_blocks, awaited_count, scheduler_goes, arming_first, arming_from, settling_from}

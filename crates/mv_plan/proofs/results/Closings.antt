@@ -19,7 +19,7 @@ use Rattle.mv_plan.specs.HandingOut.{release_code, is_closing, closings, IsRight
 use Rattle.mv_deck.specs.Deck.{JobData}
 use Rattle.mv_plan.specs.SpoolSetup.{scheduler, initiator}
 use Rattle.mv_plan.specs.SpoolTasks.{code_of}
-use Rattle.mv_machine.specs.calls.Keeping.{Kept}
+use Rattle.mv_calls.specs.Keeping.{Kept}
 use Rattle.mv_plan.proofs.points.SchedulerNext.{same_errand, after_dismissals, after_release, released_errand, release_accepted}
 use Rattle.mv_plan.proofs.deck.Codes.{never_zero}
 use Rattle.mv_plan.proofs.points.Points.{Point, At, Stage, Dispatching, Dismissing, SchedulerAt, Waits, Extends, Clears, Releases}

@@ -17,7 +17,7 @@ use Rattle.mv_plan.specs.Purging.{is_purge, is_obtain, purges, obtains, ArePurge
 use Rattle.mv_deck.specs.Deck.{JobData}
 use Rattle.mv_plan.proofs.deck.Sound.{IsSound}
 use Rattle.mv_report.specs.Outcome.{total}
-use Rattle.mv_machine.specs.calls.Keeping.{Kept}
+use Rattle.mv_calls.specs.Keeping.{Kept}
 use Rattle.mv_plan.specs.SpoolRun.{IsRun}
 use Rattle.mv_plan.specs.SpoolSetup.{initiator, spool_setup}
 use Rattle.mv_plan.proofs.walks.Always.{Always, always_now, always_next, always_rest, always_keeps}

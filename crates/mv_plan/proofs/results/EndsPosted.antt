@@ -15,8 +15,8 @@ use Rattle.mv_deck.specs.Deck.{JobData}
 use Rattle.mv_plan.specs.Jobs.{end_of}
 use Rattle.mv_plan.proofs.deck.Sound.{IsSound}
 use Rattle.mv_report.specs.Outcome.{ends}
-use Rattle.mv_machine.specs.calls.Program.{Done}
-use Rattle.mv_machine.specs.calls.Runs.{left_in}
+use Rattle.mv_calls.specs.Program.{Done}
+use Rattle.mv_calls.specs.Runs.{left_in}
 use Rattle.mv_plan.specs.SpoolRun.{IsRun}
 use Rattle.mv_plan.specs.SpoolSetup.{spool_setup, done, end_for_scheduler, end_for_writer, idle, writer}
 use Rattle.mv_plan.specs.SpoolTasks.{task_program}

@@ -24,10 +24,10 @@ use Rattle.mv_deck.specs.declared.deck.Step.{Step}
 use Rattle.mv_deck.specs.declared.deck.Step.TheVariants.{Print, Use, Free, Count, Scan, Abend, Return}
 use Rattle.mv_plan.specs.Jobs.{job_at}
 use Rattle.mv_plan.proofs.deck.Sound.{AreSoundSteps, AreSoundJobs}
-use Rattle.mv_machine.specs.calls.LatchCalls.{Counts}
+use Rattle.mv_calls.specs.LatchCalls.{Counts}
 use Rattle.mv_plan.specs.SpoolSetup.{reader, scheduler, initiator, writer, entered, done, end_for_scheduler, end_for_writer, idle}
 use Rattle.mv_plan.specs.SpoolTasks.{job_named, code_of, not_to_run}
-use Rattle.mv_machine.specs.calls.Waits.{complete_count}
+use Rattle.mv_calls.specs.Waits.{complete_count}
 use Rattle.mv_plan.proofs.standing.Arms.{In, in_middle, in_all, IsNoDone, awaited_no_done, SchedulerArms, WriterArms, arm_owner}
 use Rattle.mv_plan.proofs.points.ReaderAndWriter.{IsWriterAt}
 use Rattle.mv_plan.proofs.results.FewTurns.{fewer, none_found, not_found, code_named}

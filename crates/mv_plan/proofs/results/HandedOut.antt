@@ -7,7 +7,7 @@ use Rattle.mv_plan.specs.HandingOut.{IsHandedOut, AreHandedOut, release_code, na
 use Rattle.mv_deck.specs.Deck.{JobData}
 use Rattle.mv_plan.specs.Jobs.{end_of}
 use Rattle.mv_plan.proofs.deck.Sound.{IsSound}
-use Rattle.mv_report.specs.EndCode.{not_run}
+use Rattle.mv_deck.specs.EndCode.{not_run}
 use Rattle.mv_plan.specs.SpoolRun.{IsRun}
 use Rattle.mv_plan.specs.SpoolSetup.{spool_setup}
 use Rattle.mv_plan.specs.SpoolTasks.{code_of}

@@ -9,8 +9,8 @@ use Rattle.mv_machine.specs.System.{System}
 use Rattle.mv_plan.specs.PostingEnds.{HasRightMark, PostsFirst}
 use Rattle.mv_deck.specs.Deck.{JobData}
 use Rattle.mv_plan.proofs.deck.Sound.{IsSound}
-use Rattle.mv_machine.specs.calls.Program.{Wrong}
-use Rattle.mv_machine.specs.calls.Runs.{left_in}
+use Rattle.mv_calls.specs.Program.{Wrong}
+use Rattle.mv_calls.specs.Runs.{left_in}
 use Rattle.mv_plan.specs.SpoolRun.{Follows}
 use Rattle.mv_plan.specs.SpoolSetup.{spool_setup, scheduler, initiator}
 use Rattle.mv_plan.specs.SpoolTasks.{task_program}

@@ -13,8 +13,8 @@ use Rattle.mv_machine.specs.System.{System, opening, with_at}
 use Rattle.mv_machine.specs.declared.entry.Reply.{Reply}
 use Rattle.mv_deck.specs.Deck.{JobData}
 use Rattle.mv_plan.proofs.deck.Sound.{AreSoundJobs, IsSound}
-use Rattle.mv_machine.specs.calls.Program.{Wrong}
-use Rattle.mv_machine.specs.calls.Runs.{left_in}
+use Rattle.mv_calls.specs.Program.{Wrong}
+use Rattle.mv_calls.specs.Runs.{left_in}
 use Rattle.mv_plan.specs.SpoolSetup.{spool_setup, reader, scheduler, initiator, writer}
 use Rattle.mv_plan.specs.SpoolTasks.{not_to_run, task_program}
 use Rattle.mv_plan.proofs.standing.Arms.{Armed, armed_next, armed_start}

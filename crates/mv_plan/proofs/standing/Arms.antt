@@ -18,12 +18,12 @@ use Rattle.mv_machine.specs.declared.entry.Reply.{Reply}
 use Rattle.mv_machine.specs.declared.entry.Reply.TheVariants as reply_of
 use Rattle.mv_machine.specs.Legal.{IsNext, next}
 use Rattle.mv_machine.specs.Setup.{Setup, owner_of}
-use Rattle.mv_machine.specs.System.{System, opening, admitted, ecb_admitted, moved, with_at, turned}
+use Rattle.mv_machine.specs.System.{System, opening, admitted, ecb_admitted, moved, with_at, advanced}
 use Rattle.mv_deck.specs.Deck.{JobData}
 use Rattle.mv_deck.specs.declared.deck.After.{After}
 use Rattle.mv_plan.proofs.deck.Sound.{AreSoundJobs}
-use Rattle.mv_machine.specs.calls.Waits.{AreDistinct}
-use Rattle.mv_machine.specs.calls.Keeping.{Kept}
+use Rattle.mv_calls.specs.Waits.{AreDistinct}
+use Rattle.mv_calls.specs.Keeping.{Kept}
 use Rattle.mv_plan.specs.SpoolSetup.{reader, scheduler, initiator, writer, done, end_for_writer, idle}
 use Rattle.mv_plan.specs.SpoolTasks.{ends_of}
 use Rattle.mv_plan.proofs.points.ReaderAndWriter.{IsWriterAt}
@@ -133,9 +133,9 @@ still_waiting s k (Ecb m) (op_on.Ecb op) b w e =
     elim (cases_eq m b) [
       | inl same ↦ ap (λ z. (s.ecb z).state) (sym same)
           ∙ waiting_was op (s.ecb m).state w
-          (sym (ap (λ z. z.state) (with_at-same s.ecb m (turned (s.ecb m) (ecb_step op (s.ecb m).state).0)))
-          ∙ ap (λ z. (with_at s.ecb m (turned (s.ecb m) (ecb_step op (s.ecb m).state).0) z).state) same ∙ e)
-      | inr other ↦ sym (ap (λ z. z.state) (with_at-other s.ecb m b (turned (s.ecb m) (ecb_step op (s.ecb m).state).0) other)) ∙ e
+          (sym (ap (λ z. z.state) (with_at-same s.ecb m (advanced (s.ecb m) (ecb_step op (s.ecb m).state).0)))
+          ∙ ap (λ z. (with_at s.ecb m (advanced (s.ecb m) (ecb_step op (s.ecb m).state).0) z).state) same ∙ e)
+      | inr other ↦ sym (ap (λ z. z.state) (with_at-other s.ecb m b (advanced (s.ecb m) (ecb_step op (s.ecb m).state).0) other)) ∙ e
     ]
 still_waiting s k (Element m) (op_on.Element op) b w e = e
 still_waiting s k (Volume m) (op_on.Volume op) b w e = e
@@ -143,19 +143,19 @@ still_waiting s k Latches (op_on.Latch op) b w e = e
 still_waiting s k o op b w e = e
 
 -- at another block
-else_waiting : (s : System) (e b : ℕ) (y : EcbState) → (e ≡ b → ⊥) → (with_at s.ecb e (turned (s.ecb e) y) b).state ≡ Waiting
+else_waiting : (s : System) (e b : ℕ) (y : EcbState) → (e ≡ b → ⊥) → (with_at s.ecb e (advanced (s.ecb e) y) b).state ≡ Waiting
     → (s.ecb b).state ≡ Waiting
-else_waiting s e b y d w = sym (ap (λ z. z.state) (with_at-other s.ecb e b (turned (s.ecb e) y) d)) ∙ w
+else_waiting s e b y d w = sym (ap (λ z. z.state) (with_at-other s.ecb e b (advanced (s.ecb e) y) d)) ∙ w
 
 settled_not : (v : EcbState) → (ecb_step ecb_op.Settle v).0 ≡ Waiting → ⊥
 settled_not v e = grind arith
 
 -- a settled block does not wait
 settled_other : (s : System) (e b : ℕ)
-    → (with_at s.ecb e (turned (s.ecb e) (ecb_step ecb_op.Settle (s.ecb e).state).0) b).state ≡ Waiting → e ≡ b → ⊥
+    → (with_at s.ecb e (advanced (s.ecb e) (ecb_step ecb_op.Settle (s.ecb e).state).0) b).state ≡ Waiting → e ≡ b → ⊥
 settled_other s e b w same = settled_not (s.ecb e).state
-    (sym (ap (λ z. z.state) (with_at-same s.ecb e (turned (s.ecb e) (ecb_step ecb_op.Settle (s.ecb e).state).0)))
-    ∙ ap (λ z. (with_at s.ecb e (turned (s.ecb e) (ecb_step ecb_op.Settle (s.ecb e).state).0) z).state) same ∙ w)
+    (sym (ap (λ z. z.state) (with_at-same s.ecb e (advanced (s.ecb e) (ecb_step ecb_op.Settle (s.ecb e).state).0)))
+    ∙ ap (λ z. (with_at s.ecb e (advanced (s.ecb e) (ecb_step ecb_op.Settle (s.ecb e).state).0) z).state) same ∙ w)
 
 -- ---- the points that follow have armed what they are to settle
 

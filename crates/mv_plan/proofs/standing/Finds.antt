@@ -16,13 +16,13 @@ use Rattle.mv_machine.specs.declared.entry.Op.{Op}
 use Rattle.mv_machine.specs.declared.entry.Op.TheVariants as op_on
 use Rattle.mv_machine.specs.declared.entry.Reply.{Reply}
 use Rattle.mv_machine.specs.declared.entry.Reply.TheVariants as reply_of
-use Rattle.mv_machine.specs.System.{System, Cell, moved, reply_to, with_at, turned}
+use Rattle.mv_machine.specs.System.{System, Cell, moved, reply_to, with_at, advanced}
 use Rattle.mv_deck.specs.Deck.{JobData}
 use Rattle.mv_deck.specs.declared.deck.After.{After}
 use Rattle.mv_deck.specs.declared.deck.Step.{Step}
 use Rattle.mv_plan.specs.SpoolSetup.{scheduler, idle}
 use Rattle.mv_plan.specs.SpoolTasks.{code_of}
-use Rattle.mv_machine.specs.calls.Waits.{complete_count}
+use Rattle.mv_calls.specs.Waits.{complete_count}
 use Rattle.mv_plan.proofs.points.PostsAndWaits.{on_armed_keeps}
 use Rattle.mv_plan.proofs.points.Points.{Point, At, Finished, TooSoon, Astray, Stage, Dispatching, Dismissing, Awaited, ForEntry, ForEnds}
 use Rattle.mv_plan.proofs.points.Points.{ForIdle, ToDismiss, WaitAt, Arming, Settling, SchedulerAt, Waits, Extends, Clears, Releases}
@@ -77,10 +77,10 @@ not_clear ecb_op.Test w e = cc e
 pub stay_moved : (s : System) (k : ℕ) (o : Object) (op : Op) → NoClear op → Stay s.ecb (moved s k o op).ecb
 stay_moved s k (Ecb m) (op_on.Ecb op) w b code e =
     elim (cases_eq m b) [
-      | inl same ↦ subst (λ z. (with_at s.ecb m (turned (s.ecb m) (ecb_step op (s.ecb m).state).0) z).state ≡ Complete code) same
-          (ap (λ z. z.state) (with_at-same s.ecb m (turned (s.ecb m) (ecb_step op (s.ecb m).state).0))
+      | inl same ↦ subst (λ z. (with_at s.ecb m (advanced (s.ecb m) (ecb_step op (s.ecb m).state).0) z).state ≡ Complete code) same
+          (ap (λ z. z.state) (with_at-same s.ecb m (advanced (s.ecb m) (ecb_step op (s.ecb m).state).0))
           ∙ complete_kept op (s.ecb m).state code (not_clear op w) (ap (λ z. (s.ecb z).state) same ∙ e))
-      | inr other ↦ ap (λ z. z.state) (with_at-other s.ecb m b (turned (s.ecb m) (ecb_step op (s.ecb m).state).0) other) ∙ e
+      | inr other ↦ ap (λ z. z.state) (with_at-other s.ecb m b (advanced (s.ecb m) (ecb_step op (s.ecb m).state).0) other) ∙ e
     ]
 stay_moved s k (Element m) (op_on.Element op) w b code e = e
 stay_moved s k (Volume m) (op_on.Volume op) w b code e = e
@@ -188,7 +188,7 @@ module _ (n initiators : ℕ) (s : System) where
 
   settled_slot : (e : ℕ) (r : Reply) (f : Option ℕ → Point SchedulerAt) (P : Point SchedulerAt → Type 0)
       → r ≡ reply_of.Ecb (ecb_step ecb_op.Settle (s.ecb e).state).1
-      → ((slot : Option ℕ) → SlotIs (with_at s.ecb e (turned (s.ecb e) (ecb_step ecb_op.Settle (s.ecb e).state).0) e).state slot
+      → ((slot : Option ℕ) → SlotIs (with_at s.ecb e (advanced (s.ecb e) (ecb_step ecb_op.Settle (s.ecb e).state).0) e).state slot
       → P (f slot)) → P Astray → P (on_settled f r)
   settled_slot e (reply_of.Ecb (ecb_reply.Complete code)) f P q each a =
       each (Some code) (ap (λ z. z.state) (with_at-same s.ecb e _) ∙ settled_is (s.ecb e).state code (sym (cc q)))

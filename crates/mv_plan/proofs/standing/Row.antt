@@ -15,7 +15,7 @@ use Rattle.mv_element.specs.Element.{free, reset, prereleased, paused, released}
 use Rattle.mv_element.specs.Table.{element_step}
 use Rattle.mv_machine.specs.declared.entry.Reply.{Reply}
 use Rattle.mv_machine.specs.declared.entry.Reply.TheVariants as reply_of
-use Rattle.mv_machine.specs.System.{System, moved, reply_to, with_at, turned}
+use Rattle.mv_machine.specs.System.{System, moved, reply_to, with_at, advanced}
 use Rattle.mv_deck.specs.Deck.{JobData}
 use Rattle.mv_plan.specs.Jobs.{job_at}
 use Rattle.mv_plan.specs.SpoolSetup.{initiator, idle}
@@ -209,9 +209,9 @@ module _ (deck : List JobData) (s : System) (q : Point SchedulerAt) (i : ℕ) wh
 
   -- its own event keeps its row
   on_element : (p : Point InitiatorAt) (o : Option ℕ) (h : Option ℕ) (y : ElementState) → Row (stance p) o h y
-      → Row (stance p) o h (with_at s.element (initiator i) (turned (s.element (initiator i)) y) (initiator i)).state
+      → Row (stance p) o h (with_at s.element (initiator i) (advanced (s.element (initiator i)) y) (initiator i)).state
   on_element p o h y w = row_at _ _ o o h h y _ refl refl refl
-      (ap (λ z. z.state) (with_at-same s.element (initiator i) (turned (s.element (initiator i)) y))) w
+      (ap (λ z. z.state) (with_at-same s.element (initiator i) (advanced (s.element (initiator i)) y))) w
 
   runs_row : (x : InitiatorAt) (r : Reply) (run : Running) → run_of (At x) ≡ Some run → IsInitiatorAt deck (At x) → RowAt n s q i (At x)
       → RowAt n (then_s x) q i (initiator_goes deck x r)

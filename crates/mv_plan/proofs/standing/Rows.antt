@@ -19,9 +19,9 @@ use Rattle.mv_machine.specs.declared.entry.Reply.{Reply}
 use Rattle.mv_machine.specs.declared.entry.Reply.TheVariants as reply_of
 use Rattle.mv_machine.specs.Legal.{IsNext, next}
 use Rattle.mv_machine.specs.Setup.{Setup}
-use Rattle.mv_machine.specs.System.{System, opening, moved, reply_to, with_at, turned}
+use Rattle.mv_machine.specs.System.{System, opening, moved, reply_to, with_at, advanced}
 use Rattle.mv_deck.specs.Deck.{JobData}
-use Rattle.mv_machine.specs.calls.Keeping.{Kept}
+use Rattle.mv_calls.specs.Keeping.{Kept}
 use Rattle.mv_plan.specs.SpoolSetup.{reader, scheduler, initiator, writer, idle, done, end_for_writer}
 use Rattle.mv_plan.proofs.points.ReaderAndWriter.{IsReaderAt, IsWriterAt}
 use Rattle.mv_plan.proofs.standing.Row.{Stance, Starts, Works, Offers, Parks, Ends, Loses, stance, code_in, offered, taken, handed, Row}
@@ -152,12 +152,12 @@ settle_code : (v : EcbState) → code_in (ecb_step ecb_op.Settle v).0 ≡ code_i
 settle_code v = grind arith
 
 code_kept : (f : Blocks) (e b : ℕ) (y : EcbState) → code_in y ≡ code_in (f e).state
-    → code_in (with_at f e (turned (f e) y) b).state ≡ code_in (f b).state
+    → code_in (with_at f e (advanced (f e) y) b).state ≡ code_in (f b).state
 code_kept f e b y q =
     elim (cases_eq e b) [
-      | inl same ↦ subst (λ z. code_in (with_at f e (turned (f e) y) z).state ≡ code_in (f z).state) same
-          (ap (λ z. code_in z.state) (with_at-same f e (turned (f e) y)) ∙ q)
-      | inr other ↦ ap (λ z. code_in z.state) (with_at-other f e b (turned (f e) y) other)
+      | inl same ↦ subst (λ z. code_in (with_at f e (advanced (f e) y) z).state ≡ code_in (f z).state) same
+          (ap (λ z. code_in z.state) (with_at-same f e (advanced (f e) y)) ∙ q)
+      | inr other ↦ ap (λ z. code_in z.state) (with_at-other f e b (advanced (f e) y) other)
     ]
 
 pub wait_codes : (s : System) (k b : ℕ) (w : WaitAt)
@@ -191,14 +191,14 @@ module _ (deck : List JobData) (initiators : ℕ) (s : System) (m : ℕ) (st : S
       → Now (Clears i g code after) → Then (Clears i g code after) (At (Releases i g code after))
   cleared_row i g code after e (inl same) w =
       row_at _ _ None _ (Some g) _ _ _ refl
-      (ap (λ z. code_in (with_at s.ecb (idle n i) (turned (s.ecb (idle n i)) Zero) (idle n z)).state) (sym same)
-      ∙ ap (λ z. code_in z.state) (with_at-same s.ecb (idle n i) (turned (s.ecb (idle n i)) Zero)))
+      (ap (λ z. code_in (with_at s.ecb (idle n i) (advanced (s.ecb (idle n i)) Zero) (idle n z)).state) (sym same)
+      ∙ ap (λ z. code_in z.state) (with_at-same s.ecb (idle n i) (advanced (s.ecb (idle n i)) Zero)))
       (ap (λ b. if b then Some g else None) (eq-eqb i m same)) refl
       (row_cleared st g (element_of s m)
       (row_at _ _ _ _ _ _ _ _ refl (sym (ap (λ z. offer_of n s z) (sym same) ∙ ap (λ z. code_in z) e)) refl refl w))
   cleared_row i g code after e (inr other) w =
       row_at _ _ _ _ None _ _ _ refl
-      (ap (λ z. code_in z.state) (with_at-other s.ecb (idle n i) (idle n m) (turned (s.ecb (idle n i)) Zero)
+      (ap (λ z. code_in z.state) (with_at-other s.ecb (idle n i) (idle n m) (advanced (s.ecb (idle n i)) Zero)
       (λ z. other (omega arith))))
       (ap (λ b. if b then Some g else None) (ne_eqb i m other)) refl w
 
@@ -207,7 +207,7 @@ module _ (deck : List JobData) (initiators : ℕ) (s : System) (m : ℕ) (st : S
   released_row i g code after q none (inl same) w =
       row_at _ _ _ _ None _ _ _ refl refl (none m)
       (ap (λ z. (with_at s.element (initiator i)
-      (turned (s.element (initiator i)) (element_step (element_op.Release g code) (s.element (initiator i)).state).0)
+      (advanced (s.element (initiator i)) (element_step (element_op.Release g code) (s.element (initiator i)).state).0)
       (initiator z)).state) (sym same)
       ∙ ap (λ z. z.state) (with_at-same s.element (initiator i) _)
       ∙ ap (λ z. (element_step (element_op.Release g code) (element_of s z)).0) same)

@@ -13,7 +13,7 @@ use Rattle.mv_machine.specs.Setup.{Setup}
 use Rattle.mv_machine.specs.System.{System, opening, moved}
 use Rattle.mv_deck.specs.Deck.{JobData}
 use Rattle.mv_plan.proofs.deck.Sound.{AreSoundJobs}
-use Rattle.mv_machine.specs.calls.Keeping.{Kept, nothing_kept}
+use Rattle.mv_calls.specs.Keeping.{Kept, nothing_kept}
 use Rattle.mv_plan.specs.SpoolSetup.{initiator}
 use Rattle.mv_plan.proofs.walks.Always.{Always, always_now, always_next, always_keeps, always_both, always_map}
 use Rattle.mv_plan.proofs.latches.Exclusion.{touched, counted_on, excludes}

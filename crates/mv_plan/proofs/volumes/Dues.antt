@@ -10,7 +10,7 @@ use Rattle.mv_machine.specs.declared.entry.Reply.{Reply}
 use Rattle.mv_machine.specs.declared.entry.Reply.TheVariants as reply_of
 use Rattle.mv_machine.specs.declared.entry.VolumeReply.TheVariants as volume_reply
 use Rattle.mv_machine.specs.Setup.{Setup}
-use Rattle.mv_machine.specs.System.{System, with_at, turned}
+use Rattle.mv_machine.specs.System.{System, with_at, advanced}
 use Rattle.mv_plan.specs.HandingOut.{gift_code}
 use Rattle.mv_deck.specs.Deck.{JobData}
 use Rattle.mv_deck.specs.declared.deck.Step.{Step}
@@ -124,18 +124,18 @@ module _ (c : Setup) (s : System) (deck : List JobData) (i v : ℕ) where
   read_due M N d a e f = omega arith
 
   write_due : (volume amount number d a : ℕ) → (s.volume volume).state ≡ number → d ≡ a
-      → (with_at s.volume volume (turned (s.volume volume) (number + amount)) v).state + d ≡ (s.volume v).state +
+      → (with_at s.volume volume (advanced (s.volume volume) (number + amount)) v).state + d ≡ (s.volume v).state +
       (added v (Count volume amount) + a) + 0
   write_due volume amount number d a e f = elim (cases_eq volume v) [
     | inl q ↦
-        let now : (with_at s.volume volume (turned (s.volume volume) (number + amount)) v).state ≡ number + amount =
-        subst (λ w. (with_at s.volume volume (turned (s.volume volume) (number + amount)) w).state ≡ number + amount) q
+        let now : (with_at s.volume volume (advanced (s.volume volume) (number + amount)) v).state ≡ number + amount =
+        subst (λ w. (with_at s.volume volume (advanced (s.volume volume) (number + amount)) w).state ≡ number + amount) q
         (write_same s.volume volume (number + amount)) in
         let was : (s.volume v).state ≡ number = subst (λ w. (s.volume w).state ≡ number) q e in
         let more : added v (Count volume amount) ≡ amount = ap (λ b. if b then amount else 0) (eq-eqb volume v q) in
         omega arith
     | inr n ↦
-        let now : (with_at s.volume volume (turned (s.volume volume) (number + amount)) v).state ≡ (s.volume v).state =
+        let now : (with_at s.volume volume (advanced (s.volume volume) (number + amount)) v).state ≡ (s.volume v).state =
         write_other s.volume volume v (number + amount) n in
         let more : added v (Count volume amount) ≡ 0 = ap (λ b. if b then amount else 0) (ne_eqb volume v n) in
         omega arith
@@ -173,7 +173,7 @@ module _ (c : Setup) (s : System) (deck : List JobData) (i v : ℕ) where
   own_due (Reading run hand volume amount steps) p (reply_of.Volume (volume_reply.Value number)) h a n =
       go (nat_lt (number + amount) (2 ^ 32)) n where
         go : (b : Bool) → IsNotLost (if b then At (Writing run hand volume amount number steps) else Astray)
-            → (with_at s.volume volume (turned (s.volume volume) (s.volume volume).state) v).state + due v
+            → (with_at s.volume volume (advanced (s.volume volume) (s.volume volume).state) v).state + due v
             (if b then At (Writing run hand volume amount number steps) else Astray) ≡ (s.volume v).state +
             (added v (Count volume amount) + added_by v (before_end steps)) + 0
         go true n = read_due _ (s.volume v).state _ (added v (Count volume amount) + added_by v (before_end steps))

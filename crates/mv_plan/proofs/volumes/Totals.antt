@@ -9,7 +9,7 @@ use Rattle.std.proofs.lemmas.List.Sums.{sum_by-cons}
 use Rattle.mv_deck.specs.declared.deck.Step.{Step}
 use Rattle.mv_plan.proofs.volumes.Added.{added_by, added_by_is}
 use Rattle.mv_plan.specs.Jobs.{job_at, end_of}
-use Rattle.mv_report.specs.EndCode.{not_run}
+use Rattle.mv_deck.specs.EndCode.{not_run}
 use Rattle.mv_report.specs.Outcome as outcome
 use Rattle.mv_report.specs.Outcome.{before_end, ends, steps_with, all_steps_with, total}
 use Rattle.mv_plan.specs.SpoolTasks.{code_of}

@@ -17,7 +17,7 @@ use Rattle.mv_machine.specs.declared.entry.VolumeOp.TheVariants as volume_op
 use Rattle.mv_machine.specs.declared.entry.VolumeReply.TheVariants as volume_reply
 use Rattle.mv_machine.specs.Legal.{IsNext, next}
 use Rattle.mv_machine.specs.Setup.{Setup}
-use Rattle.mv_machine.specs.System.{Cell, System, moved, with_at, turned}
+use Rattle.mv_machine.specs.System.{Cell, System, moved, with_at, advanced}
 use Rattle.mv_machine.proofs.EntryRuns.{entry_of}
 use Rattle.mv_deck.specs.Deck.{JobData}
 use Rattle.mv_deck.specs.declared.deck.Step.{Step}
@@ -54,18 +54,18 @@ abbrev pub Numbers : Type 0
 Numbers = ℕ → Cell ℕ
 
 -- a read leaves each number
-pub read_keeps : (f : Numbers) (v w : ℕ) → (with_at f v (turned (f v) (f v).state) w).state ≡ (f w).state
+pub read_keeps : (f : Numbers) (v w : ℕ) → (with_at f v (advanced (f v) (f v).state) w).state ≡ (f w).state
 read_keeps f v w = elim (cases_eq v w) [
-  | inl e ↦ subst (λ z. (with_at f v (turned (f v) (f v).state) z).state ≡ (f z).state) e
-      (ap (λ z. z.state) (with_at-same f v (turned (f v) (f v).state)))
-  | inr n ↦ ap (λ z. z.state) (with_at-other f v w (turned (f v) (f v).state) n)
+  | inl e ↦ subst (λ z. (with_at f v (advanced (f v) (f v).state) z).state ≡ (f z).state) e
+      (ap (λ z. z.state) (with_at-same f v (advanced (f v) (f v).state)))
+  | inr n ↦ ap (λ z. z.state) (with_at-other f v w (advanced (f v) (f v).state) n)
 ]
 
-pub write_other : (f : Numbers) (v w number : ℕ) → (v ≡ w → ⊥) → (with_at f v (turned (f v) number) w).state ≡ (f w).state
-write_other f v w number n = ap (λ z. z.state) (with_at-other f v w (turned (f v) number) n)
+pub write_other : (f : Numbers) (v w number : ℕ) → (v ≡ w → ⊥) → (with_at f v (advanced (f v) number) w).state ≡ (f w).state
+write_other f v w number n = ap (λ z. z.state) (with_at-other f v w (advanced (f v) number) n)
 
-pub write_same : (f : Numbers) (v number : ℕ) → (with_at f v (turned (f v) number) v).state ≡ number
-write_same f v number = ap (λ z. z.state) (with_at-same f v (turned (f v) number))
+pub write_same : (f : Numbers) (v number : ℕ) → (with_at f v (advanced (f v) number) v).state ≡ number
+write_same f v number = ap (λ z. z.state) (with_at-same f v (advanced (f v) number))
 
 -- the reply to a read is the number
 pub value_is : (c : Setup) (s : System) (k v p number : ℕ)
@@ -86,13 +86,13 @@ ValueAt f p = Unit {0}
 abbrev pub Values : ℕ → Numbers → (ℕ → Point InitiatorAt) → Type 0
 Values initiators f points = (i : ℕ) → i < initiators → ValueAt f (points i)
 
-value_read : (f : Numbers) (v : ℕ) (p : Point InitiatorAt) → ValueAt f p → ValueAt (with_at f v (turned (f v) (f v).state)) p
+value_read : (f : Numbers) (v : ℕ) (p : Point InitiatorAt) → ValueAt f p → ValueAt (with_at f v (advanced (f v) (f v).state)) p
 value_read f v (At (Writing run hand volume amount number steps)) w = read_keeps f v volume ∙ w
 value_read f v (At (Rescanning run hand volume number steps)) w = read_keeps f v volume ∙ w
 value_read f v p w = tt
 
 value_write : (f : Numbers) (v number : ℕ) (p : Point InitiatorAt) → (touched p ≡ Some v → ⊥) → ValueAt f p
-    → ValueAt (with_at f v (turned (f v) number)) p
+    → ValueAt (with_at f v (advanced (f v) number)) p
 value_write f v new (At (Writing run hand volume amount number steps)) n w =
     write_other f v volume new (λ e. n (ap (λ z. Some z) (sym e))) ∙ w
 value_write f v new (At (Rescanning run hand volume number steps)) n w = write_other f v volume new (λ e. n (ap (λ z. Some z) (sym e)))

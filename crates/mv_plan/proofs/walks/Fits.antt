@@ -27,8 +27,8 @@ use Rattle.mv_machine.specs.declared.entry.Op.{Op}
 use Rattle.mv_machine.specs.declared.entry.Op.TheVariants as op_on
 use Rattle.mv_machine.specs.Legal.{IsNext, next}
 use Rattle.mv_machine.specs.Setup.{Setup, is_exit_of}
-use Rattle.mv_machine.specs.System.{System, opening, admitted, ecb_admitted, latches_of, moved, with_at, turned}
-use Rattle.mv_machine.proofs.calls.Hearing.{wakes_at}
+use Rattle.mv_machine.specs.System.{System, opening, admitted, ecb_admitted, latches_of, moved, with_at, advanced}
+use Rattle.mv_calls.proofs.Hearing.{wakes_at}
 use Rattle.mv_plan.proofs.points.Initiator.{PostNothing}
 use Rattle.mv_machine.proofs.Lists.{all_append, all_filter}
 use Rattle.mv_plan.proofs.lists.Lists.{all_drop, all_set, all_get}
@@ -169,13 +169,13 @@ fits_opening c = record { exits = λ n x e. absurd (cc e); plain = none_yet c.la
 fits_moved : (c : Setup) (s : System) (k : ℕ) (o : Object) (op : Op) → c.posted_quota ≡ 0 → admitted c s k o op ≡ true → Fits c s
     → Fits c (moved s k o op)
 fits_moved c s k (Ecb m) (op_on.Ecb op) z adm f = record { exits = λ n x e. go n x e (cases_eq n m); plain = f.plain } where
-  go : (n x : ℕ) → (with_at s.ecb m (turned (s.ecb m) (ecb_step op (s.ecb m).state).0) n).state ≡ Extended x → (n ≡ m) ⊎ (n ≡ m → ⊥)
+  go : (n x : ℕ) → (with_at s.ecb m (advanced (s.ecb m) (ecb_step op (s.ecb m).state).0) n).state ≡ Extended x → (n ≡ m) ⊎ (n ≡ m → ⊥)
       → is_exit_of c x n ≡ true
   go n x e (inl same) = subst (λ j. is_exit_of c x j ≡ true) (sym same)
       (exit_step c k m op (s.ecb m).state x (and_parts _ _ adm).1 (λ y q. f.exits m y q)
-      (sym (ap (λ b. (if b then turned (s.ecb m) (ecb_step op (s.ecb m).state).0 else s.ecb n).state) (eq-eqb n m same)) ∙ e))
+      (sym (ap (λ b. (if b then advanced (s.ecb m) (ecb_step op (s.ecb m).state).0 else s.ecb n).state) (eq-eqb n m same)) ∙ e))
   go n x e (inr other) = f.exits n x
-      (sym (ap (λ b. (if b then turned (s.ecb m) (ecb_step op (s.ecb m).state).0 else s.ecb n).state) (ne_eqb n m other)) ∙ e)
+      (sym (ap (λ b. (if b then advanced (s.ecb m) (ecb_step op (s.ecb m).state).0 else s.ecb n).state) (ne_eqb n m other)) ∙ e)
 fits_moved c s k (Element m) (op_on.Element op) z adm f = record { exits = f.exits; plain = f.plain }
 fits_moved c s k (Volume m) (op_on.Volume op) z adm f = record { exits = f.exits; plain = f.plain }
 fits_moved c s k Latches (op_on.Latch op) z adm f =

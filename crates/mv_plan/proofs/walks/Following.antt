@@ -21,8 +21,8 @@ use Rattle.mv_machine.specs.Setup.{Setup, is_exit_of}
 use Rattle.mv_machine.specs.System.{System, reply_to, with_at}
 use Rattle.mv_deck.specs.Deck.{JobData}
 use Rattle.mv_plan.proofs.deck.Sound.{AreSoundJobs}
-use Rattle.mv_machine.specs.calls.Keeping.{Kept}
-use Rattle.mv_machine.specs.calls.Program.{Program, asks, heard}
+use Rattle.mv_calls.specs.Keeping.{Kept}
+use Rattle.mv_calls.specs.Program.{Program, asks, heard}
 use Rattle.mv_plan.specs.SpoolSetup.{entered, done, end_for_scheduler, end_for_writer, idle, reader, scheduler, initiator, writer}
 use Rattle.mv_plan.proofs.points.Points.{Point, At, Finished, TooSoon, Astray, ReaderAt, Entering, reader_asks, reader_goes, SchedulerAt}
 use Rattle.mv_plan.proofs.points.Points.{scheduler_asks, scheduler_goes, WriterAt, writer_asks, writer_goes, InitiatorAt, Opening}
@@ -33,10 +33,10 @@ use Rattle.mv_plan.proofs.points.Programs.{program_at, reader_program, scheduler
 use Rattle.mv_plan.proofs.points.PostsAndWaits.{IsPlainPost}
 use Rattle.mv_plan.proofs.points.ReaderAndWriter.{keeps, IsReaderAt, IsWriterAt, reader_says, reader_hears, writer_says, writer_hears}
 use Rattle.mv_plan.proofs.walks.Fits.{Fits, fits_next, fits_wakes, fits_woke}
-use Rattle.mv_machine.proofs.calls.Hearing.{hearing}
+use Rattle.mv_calls.proofs.Hearing.{hearing}
 use Rattle.mv_plan.proofs.points.Initiator.{IsPlainReply, WokeAs, PostNothing, initiator_says, initiator_hears}
 use Rattle.mv_plan.proofs.points.InitiatorSound.{InitiatorStands}
-use Rattle.mv_machine.proofs.calls.Interleaved.{FollowFrom, programs_after}
+use Rattle.mv_calls.proofs.Interleaved.{FollowFrom, programs_after}
 use Rattle.mv_plan.proofs.points.Scheduler.{scheduler_says, scheduler_hears}
 use Rattle.mv_plan.proofs.points.SchedulerSound.{SchedulerStands}
 use Rattle.mv_plan.proofs.deck.Setup.{Facts}

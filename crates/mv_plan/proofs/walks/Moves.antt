@@ -18,7 +18,7 @@ use Rattle.mv_machine.specs.declared.entry.Reply.{Reply}
 use Rattle.mv_machine.specs.declared.entry.Reply.TheVariants as reply_of
 use Rattle.mv_machine.specs.Legal.{IsNext, next}
 use Rattle.mv_machine.specs.Setup.{Setup}
-use Rattle.mv_machine.specs.System.{System, Cell, moved, with_at, turned}
+use Rattle.mv_machine.specs.System.{System, Cell, moved, with_at, advanced}
 use Rattle.mv_deck.specs.Deck.{JobData}
 use Rattle.mv_plan.specs.SpoolSetup.{reader, scheduler, initiator, writer}
 use Rattle.mv_plan.proofs.points.Points.{At, ReaderAt, reader_asks, reader_goes, SchedulerAt, scheduler_asks, scheduler_goes, WriterAt}
@@ -142,10 +142,10 @@ pub element_reply : (c : Setup) (s : System) (k m : ℕ) (op : ElementOp) (p : �
     → IsNext c s (entry_of k p (Element m, op_on.Element op) r) → r ≡ reply_of.Element (element_step op (element s m)).1
 element_reply c s k m op p r n = cc n.reply
 
--- a table of cells in which one was turned
+-- a table of cells in which one was advanced
 module _ {A : Type 0} (f : ℕ → Cell A) (m : ℕ) (a : A) where
-  pub turned_there : (b : ℕ) → b ≡ m → (with_at f m (turned (f m) a) b).state ≡ a
-  turned_there b e = ap (λ z. (if z then turned (f m) a else f b).state) (eq-eqb b m e)
+  pub turned_there : (b : ℕ) → b ≡ m → (with_at f m (advanced (f m) a) b).state ≡ a
+  turned_there b e = ap (λ z. (if z then advanced (f m) a else f b).state) (eq-eqb b m e)
 
-  pub turned_elsewhere : (b : ℕ) → (b ≡ m → ⊥) → (with_at f m (turned (f m) a) b).state ≡ (f b).state
-  turned_elsewhere b d = ap (λ z. (if z then turned (f m) a else f b).state) (ne_eqb b m d)
+  pub turned_elsewhere : (b : ℕ) → (b ≡ m → ⊥) → (with_at f m (advanced (f m) a) b).state ≡ (f b).state
+  turned_elsewhere b d = ap (λ z. (if z then advanced (f m) a else f b).state) (ne_eqb b m d)

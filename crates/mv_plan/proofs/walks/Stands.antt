@@ -8,7 +8,7 @@ use Rattle.mv_machine.specs.Setup.{Setup}
 use Rattle.mv_machine.specs.System.{System, with_at}
 use Rattle.mv_deck.specs.Deck.{JobData}
 use Rattle.mv_plan.proofs.deck.Sound.{AreSoundJobs}
-use Rattle.mv_machine.specs.calls.Keeping.{Kept, kept_after, nothing_kept}
+use Rattle.mv_calls.specs.Keeping.{Kept, kept_after, nothing_kept}
 use Rattle.mv_plan.specs.SpoolSetup.{reader, scheduler, initiator, writer}
 use Rattle.mv_plan.proofs.points.Points.{scheduler_asks, scheduler_goes, writer_asks, initiator_asks, initiator_goes, Dispatching}
 use Rattle.mv_plan.proofs.points.ReaderAndWriter.{keeps, IsReaderAt, reader_starts, reader_stands, WriterKept, IsWriterAt, writer_starts}

@@ -1,6 +1,5 @@
 use Rattle.std.proofs.Common.{[], ◌∙◌, sym, ap, subst}
-use Rattle.mv_machine.specs.Kept.{standing}
-use Rattle.mv_board.specs.Rule.{HasMade}
+use Rattle.mv_machine.specs.Kept.{standing, HasMade}
 use Rattle.mv_board.proofs.Acting.{standing_more, made_more}
 use Rattle.mv_board.proofs.tests.on_latches.Goals as goal
 

@@ -1,18 +1,18 @@
--- One turn after another.
+-- One pick after another.
 use Rattle.std.proofs.Common.{◌≡◌, ◌+◌, ◌<◌, ◌≤◌, ◌++◌, None, [], ◌∷◌, length, replicate, set, sym, subst, ap, ◌∙◌, arith}
 use Rattle.std.proofs.Common.{length-append, length-set}
 use Rattle.std.proofs.lemmas.List.{append-nil, length-replicate}
 use Rattle.mv_machine.specs.Legal.{Legal}
 use Rattle.mv_machine.specs.Merge.{merge_from, merged, pick, risen, total}
 use Rattle.mv_machine.specs.Parts.{parts}
-use Rattle.mv_machine.specs.Room.{IsTurn, Keeps, lefts, next_in}
+use Rattle.mv_machine.specs.Room.{IsPicked, Keeps, lefts, next_in}
 use Rattle.mv_machine.proofs.OneHistory.{logs_count, logs_legal, logs_parts, logs_total, more_kept, on_logs}
 use Rattle.mv_machine.proofs.Places.{risen_low}
-use Rattle.mv_machine.proofs.Turns.{gives_none, lefts_zero, pick_takes, turn_taken}
+use Rattle.mv_machine.proofs.Lefts.{gives_none, lefts_zero, pick_takes, pick_taken}
 use Rattle.mv_machine.proofs.merging.merge.Goals as goal
 
-pub loop-turn-init : goal.loop-turn-init
-loop-turn-init c =
+pub loop-picked-init : goal.loop-picked-init
+loop-picked-init c =
     let config = c.args.config.now in
     let logs = c.args.logs.items in
     let history = c.requires.history in
@@ -31,68 +31,68 @@ loop-turn-init c =
 
 pub rise-requires-clause-place : goal.rise-requires-clause-place
 rise-requires-clause-place c =
-    let ms = c.loop-turn.merged.items in
+    let ms = c.loop-picked.merged.items in
     let logs = c.args.logs.items in
-    let turn = c.in-Some.turn in
-    let t : IsTurn c.loop-turn.places ms logs turn = rw (c.deref-in-loop-turn.ensures.value, c.deref.ensures.value) at c.in-Some.ensures in
-    let takes = pick_takes (next_in c.loop-turn.places) (lefts ms logs) turn.entry (lefts (set ms turn.caller turn.merged) logs) t.picks in
-    omega (arith, takes, c.loop-turn.invariant.low turn.entry.object, c.loop-turn.invariant.left, c.requires.room.few)
+    let picked = c.in-Some.picked in
+    let t : IsPicked c.loop-picked.places ms logs picked = rw (c.deref-in-loop-picked.ensures.value, c.deref.ensures.value) at c.in-Some.ensures in
+    let takes = pick_takes (next_in c.loop-picked.places) (lefts ms logs) picked.entry (lefts (set ms picked.caller picked.merged) logs) t.picks in
+    omega (arith, takes, c.loop-picked.invariant.low picked.entry.object, c.loop-picked.invariant.left, c.requires.room.few)
 
 pub push_reserved-requires : goal.push_reserved-requires
 push_reserved-requires c =
-    let ms = c.loop-turn.merged.items in
+    let ms = c.loop-picked.merged.items in
     let logs = c.args.logs.items in
-    let turn = c.in-Some.turn in
-    let t : IsTurn c.loop-turn.places ms logs turn = rw (c.deref-in-loop-turn.ensures.value, c.deref.ensures.value) at c.in-Some.ensures in
-    let takes = pick_takes (next_in c.loop-turn.places) (lefts ms logs) turn.entry (lefts (set ms turn.caller turn.merged) logs) t.picks in
-    omega (arith, takes, c.loop-turn.invariant.left, c.loop-turn.invariant.room)
+    let picked = c.in-Some.picked in
+    let t : IsPicked c.loop-picked.places ms logs picked = rw (c.deref-in-loop-picked.ensures.value, c.deref.ensures.value) at c.in-Some.ensures in
+    let takes = pick_takes (next_in c.loop-picked.places) (lefts ms logs) picked.entry (lefts (set ms picked.caller picked.merged) logs) t.picks in
+    omega (arith, takes, c.loop-picked.invariant.left, c.loop-picked.invariant.room)
 
-pub loop-turn-smaller : goal.loop-turn-smaller
-loop-turn-smaller c =
-    let ms = c.loop-turn.merged.items in
+pub loop-picked-smaller : goal.loop-picked-smaller
+loop-picked-smaller c =
+    let ms = c.loop-picked.merged.items in
     let logs = c.args.logs.items in
-    let turn = c.in-Some.turn in
-    let t : IsTurn c.loop-turn.places ms logs turn = rw (c.deref-in-loop-turn.ensures.value, c.deref.ensures.value) at c.in-Some.ensures in
-    let rest = lefts (set ms turn.caller turn.merged) logs in
-    let takes = pick_takes (next_in c.loop-turn.places) (lefts ms logs) turn.entry rest t.picks in
+    let picked = c.in-Some.picked in
+    let t : IsPicked c.loop-picked.places ms logs picked = rw (c.deref-in-loop-picked.ensures.value, c.deref.ensures.value) at c.in-Some.ensures in
+    let rest = lefts (set ms picked.caller picked.merged) logs in
+    let takes = pick_takes (next_in c.loop-picked.places) (lefts ms logs) picked.entry rest t.picks in
     let down : total rest < total (lefts ms logs) = omega arith in
     down
 
-pub loop-turn-preserved : goal.loop-turn-preserved
-loop-turn-preserved c =
-    let ms = c.loop-turn.merged.items in
+pub loop-picked-preserved : goal.loop-picked-preserved
+loop-picked-preserved c =
+    let ms = c.loop-picked.merged.items in
     let logs = c.args.logs.items in
-    let turn = c.in-Some.turn in
-    let known = c.loop-turn.invariant in
-    let journal = c.loop-turn.journal.items in
-    let t : IsTurn c.loop-turn.places ms logs turn = rw (c.deref-in-loop-turn.ensures.value, c.deref.ensures.value) at c.in-Some.ensures in
-    let rest = lefts (set ms turn.caller turn.merged) logs in
-    let p = next_in c.loop-turn.places in
+    let picked = c.in-Some.picked in
+    let known = c.loop-picked.invariant in
+    let journal = c.loop-picked.journal.items in
+    let t : IsPicked c.loop-picked.places ms logs picked = rw (c.deref-in-loop-picked.ensures.value, c.deref.ensures.value) at c.in-Some.ensures in
+    let rest = lefts (set ms picked.caller picked.merged) logs in
+    let p = next_in c.loop-picked.places in
     let q = next_in c.rise.new.self in
-    let takes = pick_takes p (lefts ms logs) turn.entry rest t.picks in
+    let takes = pick_takes p (lefts ms logs) picked.entry rest t.picks in
     let longer : length c.push_reserved.new.self.items ≡ length journal + 1 =
-    ap length c.push_reserved.ensures.items ∙ length-append journal (turn.entry ∷ []) in
+    ap length c.push_reserved.ensures.items ∙ length-append journal (picked.entry ∷ []) in
     record {
       whole = ap (λ j. j ++ merge_from (total rest) q rest) c.push_reserved.ensures.items
-          ∙ turn_taken p q (lefts ms logs) rest turn.entry journal (merged logs) t.picks c.rise.ensures.places known.whole;
+          ∙ pick_taken p q (lefts ms logs) rest picked.entry journal (merged logs) t.picks c.rise.ensures.places known.whole;
       left = omega (arith, takes, longer, known.left);
       room = omega (arith, known.room, c.push_reserved.ensures.capacity);
-      logs = length-set ms turn.caller turn.merged ∙ known.logs;
-      kept = more_kept (λ o. Keeps c.loop-turn.places o) (λ o. Keeps c.rise.new.self o) c.rise.ensures.objects logs known.kept;
+      logs = length-set ms picked.caller picked.merged ∙ known.logs;
+      kept = more_kept (λ o. Keeps c.loop-picked.places o) (λ o. Keeps c.rise.new.self o) c.rise.ensures.objects logs known.kept;
       low = λ o. subst (λ z. z o ≤ length c.push_reserved.new.self.items) (sym c.rise.ensures.places)
-          (subst (λ n. risen p turn.entry.object o ≤ n) (sym longer) (risen_low p turn.entry.object o (length journal) (known.low o)));
+          (subst (λ n. risen p picked.entry.object o ≤ n) (sym longer) (risen_low p picked.entry.object o (length journal) (known.low o)));
     }
 
 -- nothing is left
-is_merged : (c : goal.After-drop-logs) → c.loop-turn.journal.items ≡ merged c.args.logs.items
+is_merged : (c : goal.After-drop-logs) → c.loop-picked.journal.items ≡ merged c.args.logs.items
 is_merged c =
-    let ms = c.loop-turn.merged.items in
+    let ms = c.loop-picked.merged.items in
     let logs = c.args.logs.items in
-    let over : pick (next_in c.loop-turn.places) (lefts ms logs) ≡ None =
-    rw (c.deref-in-loop-turn.ensures.value, c.deref.ensures.value) at c.in_default.ensures in
-    sym (append-nil c.loop-turn.journal.items)
-    ∙ ap (λ l. c.loop-turn.journal.items ++ l) (sym (gives_none (total (lefts ms logs)) (next_in c.loop-turn.places) (lefts ms logs) over))
-    ∙ c.loop-turn.invariant.whole
+    let over : pick (next_in c.loop-picked.places) (lefts ms logs) ≡ None =
+    rw (c.deref-in-loop-picked.ensures.value, c.deref.ensures.value) at c.in_default.ensures in
+    sym (append-nil c.loop-picked.journal.items)
+    ∙ ap (λ l. c.loop-picked.journal.items ++ l) (sym (gives_none (total (lefts ms logs)) (next_in c.loop-picked.places) (lefts ms logs) over))
+    ∙ c.loop-picked.invariant.whole
 
 pub returns-clause-merged : goal.returns-clause-merged
 returns-clause-merged c = is_merged c

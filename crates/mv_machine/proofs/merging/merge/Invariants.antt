@@ -6,8 +6,8 @@ use Rattle.mv_machine.specs.Merge.{merge_from, merged, total}
 use Rattle.mv_machine.specs.Room.{Keeps, lefts, next_in}
 use Rattle.mv_machine.proofs.merging.merge.Given as goal
 
-abbrev pub invariant-loop-turn : goal.invariant-loop-turn
-invariant-loop-turn l = record {
+abbrev pub invariant-loop-picked : goal.invariant-loop-picked
+invariant-loop-picked l = record {
   whole : l.journal.items
       ++ merge_from (total (lefts l.merged.items l.logs.items)) (next_in l.places)
       (lefts l.merged.items l.logs.items) ≡ merged l.logs.items;
@@ -18,5 +18,5 @@ invariant-loop-turn l = record {
   low : (o : Object) → next_in l.places o ≤ length l.journal.items;
 }
 
-abbrev pub decreases-loop-turn : goal.decreases-loop-turn
-decreases-loop-turn l = total (lefts l.merged.items l.logs.items)
+abbrev pub decreases-loop-picked : goal.decreases-loop-picked
+decreases-loop-picked l = total (lefts l.merged.items l.logs.items)

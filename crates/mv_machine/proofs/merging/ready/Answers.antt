@@ -6,7 +6,7 @@ use Rattle.std.proofs.lemmas.Option.{gets, slice_get-get_or}
 use Rattle.std.specs.List.{AllByRecursion}
 use Rattle.mv_machine.specs.Room.{Keeps, next_in}
 use Rattle.mv_machine.proofs.Chains.{all_at}
-use Rattle.mv_machine.proofs.Turns.{past_end, past_other, picks_here, at_end}
+use Rattle.mv_machine.proofs.Lefts.{past_end, past_other, picks_here, at_end}
 use Rattle.mv_machine.proofs.merging.ready.Goals as goal
 use Rattle.mv_machine.proofs.merging.ready.Goals.{in-Some+else-next-entry, in_default}
 

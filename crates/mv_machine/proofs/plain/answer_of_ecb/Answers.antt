@@ -2,13 +2,13 @@
 use Rattle.std.proofs.Common.{◌∙◌, ap, arith}
 use Rattle.std.proofs.lemmas.Grind.{common_steps}
 use Rattle.mv_machine.specs.declared.entry.Object.TheVariants.{Ecb}
-use Rattle.mv_machine.proofs.Walks.{count_low, ecb_turn_fits, ecb_turn, ecb_stays, ecb_answer}
+use Rattle.mv_machine.proofs.Walks.{count_low, ecb_pass_fits, ecb_pass, ecb_stays, ecb_answer}
 use Rattle.mv_machine.proofs.plain.answer_of_ecb.Goals as goal
 use Rattle.mv_machine.proofs.plain.answer_of_ecb.Goals.{in-Some, in_default}
 
 pub ecb_apply-word-requires : goal.ecb_apply-word-requires
 ecb_apply-word-requires c =
-    ecb_turn_fits c.args.config.now c.args.past.now c.requires.legal c.loop-entry.entry-index
+    ecb_pass_fits c.args.config.now c.args.past.now c.requires.legal c.loop-entry.entry-index
     (omega arith) c.entry-item.result c.entry-item.is
     c.args.ecb c.in-Some.earlier c.in-Some.ensures.there.0 c.in-Some.ensures.there.1
 
@@ -16,7 +16,7 @@ pub loop-entry-preserved : goal.loop-entry-preserved
 loop-entry-preserved c =
     elim c.match-ecb_op.branch [
       | in-Some w ↦ w.word-is ∙ ap (λ z. z.0) w.ecb_apply-word.ensures
-          ∙ ecb_turn c.args.config.now c.args.past.now c.requires.legal c.loop-entry.entry-index
+          ∙ ecb_pass c.args.config.now c.args.past.now c.requires.legal c.loop-entry.entry-index
           (omega arith) c.entry-item.result c.entry-item.is c.args.ecb w.in-Some.earlier w.in-Some.ensures.there.0 w.in-Some.ensures.there.1
           c.loop-entry.word c.loop-entry.invariant
       | in_default w ↦ w.word-is ∙ ecb_stays c.args.config.now c.args.past.now c.requires.legal c.loop-entry.entry-index

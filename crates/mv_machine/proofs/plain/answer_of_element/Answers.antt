@@ -2,20 +2,20 @@
 use Rattle.std.proofs.Common.{◌∙◌, ap, arith}
 use Rattle.std.proofs.lemmas.Grind.{common_steps}
 use Rattle.mv_machine.specs.declared.entry.Object.TheVariants.{Element}
-use Rattle.mv_machine.proofs.Walks.{count_low, element_turn_fits, element_turn_low, element_turn, element_stays, element_end_low}
+use Rattle.mv_machine.proofs.Walks.{count_low, element_pass_fits, element_pass_low, element_pass, element_stays, element_end_low}
 use Rattle.mv_machine.proofs.Walks.{element_answer}
 use Rattle.mv_machine.proofs.plain.answer_of_element.Goals as goal
 use Rattle.mv_machine.proofs.plain.answer_of_element.Goals.{in-Some, in_default}
 
 pub element_apply-requires-clause-generation : goal.element_apply-requires-clause-generation
 element_apply-requires-clause-generation c =
-    element_turn_low c.args.config.now c.args.past.now c.requires.legal c.loop-entry.entry-index
+    element_pass_low c.args.config.now c.args.past.now c.requires.legal c.loop-entry.entry-index
     (omega arith) c.entry-item.result c.entry-item.is
     c.requires.places c.args.element c.loop-entry.state c.loop-entry.invariant
 
 pub element_apply-requires-clause-code : goal.element_apply-requires-clause-code
 element_apply-requires-clause-code c =
-    element_turn_fits c.args.config.now c.args.past.now c.requires.legal c.loop-entry.entry-index
+    element_pass_fits c.args.config.now c.args.past.now c.requires.legal c.loop-entry.entry-index
     (omega arith) c.entry-item.result c.entry-item.is
     c.args.element c.in-Some.earlier c.in-Some.ensures.there.0 c.in-Some.ensures.there.1
 
@@ -23,7 +23,7 @@ pub loop-entry-preserved : goal.loop-entry-preserved
 loop-entry-preserved c =
     elim c.match-element_op.branch [
       | in-Some w ↦ w.state-is ∙ ap (λ z. z.0) w.element_apply.ensures
-          ∙ element_turn c.args.config.now c.args.past.now c.requires.legal c.loop-entry.entry-index
+          ∙ element_pass c.args.config.now c.args.past.now c.requires.legal c.loop-entry.entry-index
           (omega arith) c.entry-item.result c.entry-item.is c.args.element w.in-Some.earlier w.in-Some.ensures.there.0
           w.in-Some.ensures.there.1 c.loop-entry.state c.loop-entry.invariant
       | in_default w ↦ w.state-is ∙ element_stays c.args.config.now c.args.past.now c.requires.legal c.loop-entry.entry-index

@@ -2,20 +2,20 @@
 use Rattle.std.proofs.Common.{◌∙◌, refl, arith}
 use Rattle.std.proofs.lemmas.Grind.{common_steps}
 use Rattle.mv_machine.specs.declared.entry.Object.TheVariants.{Latches}
-use Rattle.mv_machine.proofs.Walks.{count_low, latch_turn_caller, latch_turn_new, latch_turn, latch_stays, latch_end_new}
+use Rattle.mv_machine.proofs.Walks.{count_low, latch_pass_caller, latch_pass_new, latch_pass, latch_stays, latch_end_new}
 use Rattle.mv_machine.proofs.Walks.{latch_end_ok, latch_answer}
 use Rattle.mv_machine.proofs.plain.answer_of_latches.Goals as goal
 use Rattle.mv_machine.proofs.plain.answer_of_latches.Goals.{in-Some, in_default}
 
 pub apply-requires-clause-caller : goal.apply-requires-clause-caller
 apply-requires-clause-caller c =
-    latch_turn_caller c.args.config.now c.args.past.now c.requires.legal c.loop-entry.entry-index
+    latch_pass_caller c.args.config.now c.args.past.now c.requires.legal c.loop-entry.entry-index
     (omega arith) c.entry-item.result c.entry-item.is
     c.in-Some.earlier c.in-Some.ensures.there.0 c.in-Some.ensures.there.1 c.loop-entry.latches c.loop-entry.invariant.latches
 
 pub apply-requires-clause-new_id : goal.apply-requires-clause-new_id
 apply-requires-clause-new_id c =
-    latch_turn_new c.args.config.now c.args.past.now c.requires.legal c.loop-entry.entry-index
+    latch_pass_new c.args.config.now c.args.past.now c.requires.legal c.loop-entry.entry-index
     (omega arith) c.entry-item.result c.entry-item.is
     c.in-Some.ensures.there.0 c.loop-entry.latches c.loop-entry.invariant.latches
 
@@ -23,7 +23,7 @@ pub loop-entry-preserved : goal.loop-entry-preserved
 loop-entry-preserved c =
     elim c.match-latch_op.branch [
       | in-Some w ↦ record {
-        latches = w.latches-is ∙ latch_turn c.args.config.now c.args.past.now c.requires.legal c.loop-entry.entry-index
+        latches = w.latches-is ∙ latch_pass c.args.config.now c.args.past.now c.requires.legal c.loop-entry.entry-index
             (omega arith) c.entry-item.result c.entry-item.is w.in-Some.earlier c.loop-entry.latches w.apply.new.self w.apply.result
             w.in-Some.ensures.there.0 w.in-Some.ensures.there.1 c.loop-entry.invariant.latches w.apply.ensures.admitted w.apply.ensures.step
             w.apply.ensures.quotas;

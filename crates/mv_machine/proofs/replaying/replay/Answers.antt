@@ -1,6 +1,7 @@
 -- The list is gone through from the opening.
 use Rattle.mv_machine.specs.System.{opening}
-use Rattle.mv_machine.proofs.ElementRuns.{elements_are_orderly}
+use Rattle.mv_machine.proofs.OnePost.{posts_are_taken_once}
+use Rattle.mv_machine.proofs.Orderly.{history_is_orderly}
 use Rattle.mv_machine.proofs.Replays.{not_legal, opening_places}
 use Rattle.mv_machine.proofs.replaying.replay.Goals as goal
 
@@ -12,5 +13,9 @@ returns-in-Some-clause-not_legal c = λ _ l. not_legal c.args.config.now (openin
     (rw c.in_ok-state.ensures.system at c.in-Some.ensures.legal) l
 
 pub returns-in-None-clause-orderly : goal.returns-in-None-clause-orderly
-returns-in-None-clause-orderly c = elements_are_orderly c.args.config.now c.args.entries.now
+returns-in-None-clause-orderly c = history_is_orderly c.args.config.now c.args.entries.now
+    (rw c.in_ok-state.ensures.system at c.in-None.ensures.legal)
+
+pub returns-in-None-clause-posts : goal.returns-in-None-clause-posts
+returns-in-None-clause-posts c = posts_are_taken_once c.args.config.now c.args.entries.now
     (rw c.in_ok-state.ensures.system at c.in-None.ensures.legal)

@@ -4,39 +4,47 @@ use Rattle.std.specs.Vec.Iter.{into_iter_items}
 use Rattle.mv_machine.specs.declared.entry.Entry.{Entry}
 use Rattle.mv_machine.specs.Merge.{merged}
 use Rattle.mv_machine.specs.Parts.{KeepsBudgets}
-use Rattle.mv_board.specs.Faces.{BoardFace, CallerFace, AreInOrder, IsOf, IsPartIn, part_of}
-use Rattle.mv_board.proofs.Ends.{next_in_order, each_in, logs_of_parts}
+use Rattle.std.specs.List.{AllByRecursion}
+use Rattle.mv_board.specs.Faces.{BoardFace, CallerFace, IsOf, IsPartIn, part_of}
+use Rattle.mv_board.proofs.Ends.{next_left, each_in, logs_of_parts}
 use Rattle.mv_board.proofs.board.Board.close.Goals as goal
 
 pub take_back-requires-clause-board : goal.take_back-requires-clause-board
 take_back-requires-clause-board c =
     let i = c.loop-caller.invariant in
-    let all = sym i.yielded ∙ ap (λ xs. c.loop-caller.yielded ++ xs) c.in-Some.ensures.steps.0 in
-    let next = next_in_order c.args.self 0 c.loop-caller.yielded c.in-Some.caller _ (subst (AreInOrder c.args.self 0) all c.requires.order) in
+    let next = next_left c.args.self _ _ _ _ c.in-Some.caller c.requires.order i.yielded c.in-Some.ensures.steps.0 in
     subst (λ (b : BoardFace). IsOf b c.in-Some.caller) (sym i.board) next.0
 
 pub take_back-requires-clause-next : goal.take_back-requires-clause-next
 take_back-requires-clause-next c =
     let i = c.loop-caller.invariant in
-    let all = sym i.yielded ∙ ap (λ xs. c.loop-caller.yielded ++ xs) c.in-Some.ensures.steps.0 in
-    let next = (next_in_order c.args.self 0 c.loop-caller.yielded c.in-Some.caller _ (subst (AreInOrder c.args.self 0) all c.requires.order)).1 in
-    let back = ap length i.back in omega arith
+    let next : c.in-Some.caller.number ≡ length (map part_of c.loop-caller.yielded) + 0 =
+    (next_left c.args.self _ _ _ _ c.in-Some.caller c.requires.order i.yielded c.in-Some.ensures.steps.0).1 in
+    let back = ap length i.back in
+    omega arith
+
+-- behind the last caller all have come back
+all_back : (c : goal.After-done) → c.loop-caller.yielded ≡ c.args.callers.items
+all_back c =
+    let i = c.loop-caller.invariant in
+    let none : into_iter_items c.loop-caller.caller-iterator ≡ [] =
+    (let gone = c.in-None.ensures.steps in let count = i.count in nil_from_length _ (omega arith)) in
+    sym (append-nil c.loop-caller.yielded) ∙ (ap (λ xs. c.loop-caller.yielded ++ xs) (sym none) ∙ i.yielded)
 
 pub returns-clause-budgets : goal.returns-clause-budgets
-returns-clause-budgets c = subst (λ (b : BoardFace). KeepsBudgets b.config c.done.result.journal.items) c.loop-caller.invariant.board c.done.ensures.budgets
+returns-clause-budgets c =
+    subst (λ (b : BoardFace). KeepsBudgets b.config c.done.result.journal.items) c.loop-caller.invariant.board c.done.ensures.budgets
 
 pub returns-clause-merged : goal.returns-clause-merged
 returns-clause-merged c =
-    let i = c.loop-caller.invariant in
-    let none : into_iter_items c.loop-caller.caller-iterator ≡ [] = (let gone = c.in-None.ensures.steps in let count = i.count in nil_from_length _ (omega arith)) in
-    let all : c.loop-caller.yielded ≡ c.args.callers.items = sym (append-nil c.loop-caller.yielded) ∙ (ap (λ xs. c.loop-caller.yielded ++ xs) (sym none) ∙ i.yielded) in
-    c.done.ensures.merged ∙ (ap (λ ps. merged (map (λ p. p.log) ps)) i.back ∙ (ap merged (logs_of_parts c.loop-caller.yielded) ∙ ap (λ (xs : List CallerFace). merged (map (λ k. k.log) xs)) all))
+    c.done.ensures.merged
+    ∙ (ap (λ ps. merged (map (λ p. p.log) ps)) c.loop-caller.invariant.back
+    ∙ (ap merged (logs_of_parts c.loop-caller.yielded) ∙ ap (λ (xs : List CallerFace). merged (map (λ f. f.log) xs)) (all_back c)))
 
 pub returns-clause-callers : goal.returns-clause-callers
 returns-clause-callers c =
     let i = c.loop-caller.invariant in
-    let none : into_iter_items c.loop-caller.caller-iterator ≡ [] = (let gone = c.in-None.ensures.steps in let count = i.count in nil_from_length _ (omega arith)) in
-    let all : c.loop-caller.yielded ≡ c.args.callers.items = sym (append-nil c.loop-caller.yielded) ∙ (ap (λ xs. c.loop-caller.yielded ++ xs) (sym none) ∙ i.yielded) in
-    each_in c.args.self.config c.done.result.journal.items c.args.callers.items
-    (subst (λ ps. Rattle.std.specs.List.AllByRecursion (IsPartIn c.args.self.config c.done.result.journal.items) ps) (i.back ∙ ap (map part_of) all)
-    (subst (λ (b : BoardFace). Rattle.std.specs.List.AllByRecursion (IsPartIn b.config c.done.result.journal.items) c.loop-caller.closing.back) i.board c.done.ensures.callers))
+    let history = c.done.result.journal.items in
+    each_in c.args.self.config history c.args.callers.items
+    (subst (AllByRecursion (IsPartIn c.args.self.config history)) (i.back ∙ ap (map part_of) (all_back c))
+    (subst (λ (b : BoardFace). AllByRecursion (IsPartIn b.config history) c.loop-caller.closing.back) i.board c.done.ensures.callers))

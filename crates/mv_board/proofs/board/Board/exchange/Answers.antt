@@ -60,7 +60,8 @@ compare_exchange_with-found-requires g c =
       since.table ∙ (c.load-seen.ensures.0 ∙ (c.requires.board ∙ sym (ap (λ (b : BoardFace). b.table) c.self.view_is))),
       below c.self.inside _ _ c.self.invariant has c.word_number-word.ensures,
       rw (c.word_number-word.ensures, c.self.invariant.key)
-          (happens c.self.inside.config _ _ _ _ [] (alone_still v w c.args.object c.requires.alone since.looks) c.args.object c.args.op c.loop.seen
+          (happens c.self.inside.config _ _ _ _ [] (alone_still v w c.args.object c.requires.alone since.looks) c.args.object c.args.op
+          c.loop.seen
           c.in-Some-change.place c.in-Some-change.next c.in-Some-change.reply has may left
           (sym c.change.ensures ∙ c.in-Some-change.is)),
     )
@@ -89,7 +90,8 @@ loop-preserved g c =
     let step = c.compare_exchange_with-found.ensures.2 in record {
       table = c.compare_exchange_with-found.ensures.0 ∙ since.table;
       slots = step.slots ∙ since.slots;
-      looks = subst (LooksOn v c.args.object) (sym (step.miss c.if-found-seen.false ∙ ap (λ o. met o c.compare_exchange_with-found.result w) here))
+      looks = subst (LooksOn v c.args.object)
+          (sym (step.miss c.if-found-seen.false ∙ ap (λ o. met o c.compare_exchange_with-found.result w) here))
           (look_more v w c.args.object c.compare_exchange_with-found.result c.requires.alone since.looks);
       meets = meets_still v w c.args.object c.compare_exchange_with-found.result c.requires.alone since.looks
           (subst (λ o. Meets w o c.compare_exchange_with-found.result) here step.meets);

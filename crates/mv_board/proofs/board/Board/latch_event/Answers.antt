@@ -28,25 +28,31 @@ use Rattle.mv_board.proofs.board.Board.latch_event.Goals as goal
 pub unreachable-requires : goal.unreachable-requires
 unreachable-requires g c =
     let about = ap (λ (d : CallerFace). d.about) c.caller.view_is ∙ c.requires.board.1 in
-    let may = admits_here c.caller.inside c.args.caller.now c.args.self.now.config c.args.op c.take-place.result c.caller.invariant c.caller.view_is c.requires.board.1 c.take-place.ensures.meets c.requires.admitted in
+    let may = admits_here c.caller.inside c.args.caller.now c.args.self.now.config c.args.op c.take-place.result c.caller.invariant
+    c.caller.view_is c.requires.board.1 c.take-place.ensures.meets c.requires.admitted in
     grind arith
 
 pub compare_exchange_with-requires : goal.compare_exchange_with-requires
 compare_exchange_with-requires g c =
     let t = named_by c.take-place.result in
     let l : Lists = record { place = c.take-place.result.place + 1; latches = c.apply.new.self } in
-    let now = held_again c.take-place.new.seat.me c.exchange.new.seat.me c.caller.inside.seat.me.0 t l c.take-place.ensures.took c.exchange.ensures.3 in
+    let now = held_again c.take-place.new.seat.me c.exchange.new.seat.me c.caller.inside.seat.me.0 t l c.take-place.ensures.took
+    c.exchange.ensures.3 in
     let left : 0 < c.caller.inside.events.left = rw (ap (λ (d : CallerFace). d.left) c.caller.view_is) c.requires.left in
     let config = ap (λ (b : BoardFace). b.config) c.self.view_is in
     let about = ap (λ (d : CallerFace). d.about) c.caller.view_is ∙ (c.requires.board.1 ∙ ap (λ s. s ∷ []) (sym config)) in
-    let may : allowed c.self.inside.config c.caller.inside.events.caller c.caller.inside.events.log.items Latches (op_on.Latch c.args.op) ≡ true =
-    (λ i. allowed (config i) (c.caller.view_is i).number (c.caller.view_is i).log Latches (op_on.Latch c.args.op)) ∙ c.requires.admitted in (
-      c.exchange.ensures.0 ∙ (c.take-place.ensures.same ∙ same_table c.self.inside c.caller.inside _ _ c.self.view_is c.caller.view_is c.requires.board),
+    let may : allowed c.self.inside.config c.caller.inside.events.caller c.caller.inside.events.log.items Latches (op_on.Latch c.args.op)
+    ≡ true =
+    (λ i. allowed (config i) (c.caller.view_is i).number (c.caller.view_is i).log Latches (op_on.Latch c.args.op))
+    ∙ c.requires.admitted in (
+      c.exchange.ensures.0 ∙ (c.take-place.ensures.same ∙ same_table c.self.inside c.caller.inside _ _ c.self.view_is c.caller.view_is
+          c.requires.board),
       (let wide = c.self.invariant.words in omega arith),
       rw c.self.invariant.key (gives c.self.inside.config _ _ _ _ [] (ap (λ (m : Me Item View). m.0.parts) now ∙ c.caller.invariant.parts)
           c.args.op t l [] (ap (λ (m : Me Item View). m.0.turn) now) (ap (λ (m : Me Item View). m.1) now)
           (let slots = c.self.invariant.slots in omega arith) left may refl
-          (lists_after c.self.inside.config c.caller.inside.seat.me.0 c.take-place.result c.apply.new.self c.caller.inside.events.caller c.args.op c.in-Some.reply
+          (lists_after c.self.inside.config c.caller.inside.seat.me.0 c.take-place.result c.apply.new.self c.caller.inside.events.caller
+          c.args.op c.in-Some.reply
           c.take-place.ensures.meets about c.apply.ensures.quotas c.in-Some.ensures.step)),
     )
 
@@ -58,14 +64,17 @@ now : (g : Over) (c : After-append g) → c.exchange.new.seat.me ≡ (
   with_turn (named_by c.take-place.result ∷ []) c.caller.inside.seat.me.0,
   (0, Held record { place = c.take-place.result.place + 1; latches = c.apply.new.self }) ∷ [],
 )
-now g c = held_again c.take-place.new.seat.me c.exchange.new.seat.me c.caller.inside.seat.me.0 _ _ c.take-place.ensures.took c.exchange.ensures.3
+now g c = held_again c.take-place.new.seat.me c.exchange.new.seat.me c.caller.inside.seat.me.0 _ _ c.take-place.ensures.took
+    c.exchange.ensures.3
 
-view : (g : Over) (c : After-append g) → c.compare_exchange_with.new.seat.me.0 ≡ with_turn [] (logged (latch_entry c.caller.inside.seat.me.0 c.args.op (named_by c.take-place.result))
+view : (g : Over) (c : After-append g) → c.compare_exchange_with.new.seat.me.0 ≡ with_turn []
+    (logged (latch_entry c.caller.inside.seat.me.0 c.args.op (named_by c.take-place.result))
     (wakes (own c.caller.inside.seat.me.0).caller c.args.op c.take-place.result.latches.lists ∷ []) c.caller.inside.seat.me.0)
 view g c =
     let t = named_by c.take-place.result in
     c.compare_exchange_with.ensures.2.view c.args.op t refl (ap (λ (m : Me Item View). m.0.turn) (now g c))
-    ∙ ap (λ (m : Me Item View). with_turn [] (logged (latch_entry m.0 c.args.op t) (wakes (own m.0).caller c.args.op t.lists ∷ []) m.0)) (now g c)
+    ∙ ap (λ (m : Me Item View). with_turn [] (logged (latch_entry m.0 c.args.op t) (wakes (own m.0).caller c.args.op t.lists ∷ []) m.0))
+    (now g c)
 
 appended : (g : Over) (c : After-append g) → HasAppended c.caller.inside (later g c)
     (entry c.caller.inside Latches (op_on.Latch c.args.op) c.take-place.result.place (reply_of.Latch c.in-Some.reply))
@@ -80,41 +89,49 @@ appended g c = record {
   slots = c.compare_exchange_with.ensures.2.slots ∙ ap (λ (m : Me Item View). rest m.1) (now g c);
 }
 
-showed : (g : Over) (c : After-append g) → (later g c).events.wakes.items ≡ wakes c.caller.inside.events.caller c.args.op c.take-place.result.latches.lists
+showed : (g : Over) (c : After-append g) → (later g c).events.wakes.items ≡ wakes c.caller.inside.events.caller c.args.op
+    c.take-place.result.latches.lists
 unfolding later
 showed g c = ap (λ (x : Events). x.wakes.items) c.append.ensures.same ∙ c.in-Some.ensures.wakes
 
 left : (g : Over) (c : After-append g) → 0 < c.caller.inside.events.left
 left g c = rw (ap (λ (d : CallerFace). d.left) c.caller.view_is) c.requires.left
 
-answer : (g : Over) (c : After-append g) → c.in-Some.reply ≡ (latch_step c.caller.inside.events.caller c.take-place.result.place c.args.op c.take-place.result.latches.lists).1
+answer : (g : Over) (c : After-append g) → c.in-Some.reply ≡
+    (latch_step c.caller.inside.events.caller c.take-place.result.place c.args.op c.take-place.result.latches.lists).1
 answer g c = ap (λ (z : List (List Request) × LatchReply). z.1) c.in-Some.ensures.step
 
-after : (g : Over) (c : After-append g) → HappenedAt (face_of c.caller.inside) Latches c.take-place.result.place (op_on.Latch c.args.op) (reply_of.Latch c.in-Some.reply) (face_of (later g c))
+after : (g : Over) (c : After-append g) → HappenedAt (face_of c.caller.inside) Latches c.take-place.result.place (op_on.Latch c.args.op)
+    (reply_of.Latch c.in-Some.reply) (face_of (later g c))
 unfolding later
 after g c =
-    happened c.caller.inside (later g c) _ _ _ c.caller.invariant (left g c) c.take-place.ensures.meets (view g c) c.compare_exchange_with.ensures.2.possible (answer g c) (appended g c) (showed g c)
+    happened c.caller.inside (later g c) _ _ _ c.caller.invariant (left g c) c.take-place.ensures.meets
+    (view g c) c.compare_exchange_with.ensures.2.possible (answer g c) (appended g c) (showed g c)
 
 pub invariant_of-caller : goal.invariant_of-caller
 unfolding later
 invariant_of-caller g c =
-    seated c.caller.inside (later g c) _ _ _ c.caller.invariant (left g c) c.take-place.ensures.meets (view g c) c.compare_exchange_with.ensures.2.possible (answer g c) (appended g c) (showed g c)
+    seated c.caller.inside (later g c) _ _ _ c.caller.invariant (left g c) c.take-place.ensures.meets
+    (view g c) c.compare_exchange_with.ensures.2.possible (answer g c) (appended g c) (showed g c)
 
 pub returns-clause-event : goal.returns-clause-event
 unfolding later
 returns-clause-event g c = (
   c.take-place.result.place,
-  subst (λ (d : CallerFace). HappenedAt d Latches c.take-place.result.place (op_on.Latch c.args.op) (reply_of.Latch c.in-Some.reply) (face_of (later g c))) c.caller.view_is (after g c),
+  subst (λ (d : CallerFace). HappenedAt d Latches c.take-place.result.place (op_on.Latch c.args.op) (reply_of.Latch c.in-Some.reply)
+      (face_of (later g c))) c.caller.view_is (after g c),
 )
 
 pub returns-clause-possible : goal.returns-clause-possible
 unfolding later
 returns-clause-possible g c =
-    possible c.caller.inside (later g c) _ _ _ c.caller.invariant (left g c) c.take-place.ensures.meets (view g c) c.compare_exchange_with.ensures.2.possible (answer g c) (appended g c) (showed g c)
+    possible c.caller.inside (later g c) _ _ _ c.caller.invariant (left g c) c.take-place.ensures.meets
+    (view g c) c.compare_exchange_with.ensures.2.possible (answer g c) (appended g c) (showed g c)
     c.args.self.now.config (ap (λ (d : CallerFace). d.about) c.caller.view_is ∙ c.requires.board.1)
 
 pub returns-clause-listed : goal.returns-clause-listed
 unfolding later
 returns-clause-listed g c =
     subst (λ (d : CallerFace). IsAsListed d Latches (op_on.Latch c.args.op) (reply_of.Latch c.in-Some.reply)) c.caller.view_is
-    (as_listed c.caller.inside (later g c) _ _ _ c.caller.invariant (left g c) c.take-place.ensures.meets (view g c) c.compare_exchange_with.ensures.2.possible (answer g c) (appended g c) (showed g c))
+    (as_listed c.caller.inside (later g c) _ _ _ c.caller.invariant (left g c) c.take-place.ensures.meets
+    (view g c) c.compare_exchange_with.ensures.2.possible (answer g c) (appended g c) (showed g c))

@@ -32,4 +32,5 @@ pub returns-clause-listed : goal.returns-clause-listed
 returns-clause-listed g c =
     let log = ap (λ (ps : List Part). (first_of ps).log) (sym c.caller.invariant.parts) in
     subst (λ (d : CallerFace). IsAsListed d c.args.object c.args.op c.exchange-place.result.1) c.caller.view_is
-    (as_listed c.args.self.now.config (face_of c.caller.inside) c.caller.inside.seat.me.0 _ _ _ _ _ c.requires.word c.exchange-place.ensures.event refl log)
+    (as_listed c.args.self.now.config (face_of c.caller.inside) c.caller.inside.seat.me.0 _ _ _ _ _ c.requires.word
+    c.exchange-place.ensures.event refl log)

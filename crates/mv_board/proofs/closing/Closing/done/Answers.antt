@@ -1,42 +1,46 @@
 use Rattle.std.proofs.Common.{◌≡◌, ◌≤◌, Bool, false, List, [], ◌∷◌, length, map, get_or, set, refl, sym, ap, ◌∙◌, subst, arith}
 use Rattle.std.specs.List.{AllByRecursion}
 use Rattle.mv_machine.specs.declared.entry.Entry.{Entry}
-use Rattle.mv_machine.specs.Check.{IsValid}
+use Rattle.mv_machine.specs.Limits.{events_limit}
 use Rattle.mv_machine.specs.Merge.{merged}
 use Rattle.mv_machine.specs.Parts.{KeepsBudgets}
 use Rattle.mv_machine.specs.Setup.{Setup}
-use Rattle.mv_machine.proofs.OneHistory.{budgets_fit}
-use Rattle.mv_board.specs.Faces.{ClosingFace, IsPartIn, log_of}
-use Rattle.mv_board.proofs.Closings.{one_history, merged_are, ended}
+use Rattle.mv_board.specs.Faces.{IsPartIn, log_of}
+use Rattle.mv_board.proofs.Closings.{one_history, merged_are, ended, few}
 use Rattle.mv_board.proofs.closing.Closing.done.Goals as goal
 
 pub merge-journal-requires-clause-history : goal.merge-journal-requires-clause-history
 merge-journal-requires-clause-history c =
-    one_history c.self.inside c.self.invariant c.args.self c.self.view_is c.requires.all c.in-Some.seat c.in-Some.is _ _ c.close_with-closed.ensures.values.2
+    one_history c.self.inside c.self.invariant c.args.self c.self.view_is c.requires.all c.in-Some.seat c.in-Some.is _ _
+    c.close_with-closed.ensures.values.2
 
 pub go_through-requires-clause-few : goal.go_through-requires-clause-few
 go_through-requires-clause-few c =
-    let end = ended c.self.inside c.self.invariant c.args.self c.self.view_is c.requires.all c.in-Some.seat c.in-Some.is _ _ c.close_with-closed.ensures.values.2 in
-    let valid = subst IsValid (ap (λ (b : ClosingFace). b.board.config) c.self.view_is) c.self.invariant.valid in
-    subst (λ (h : List Entry). length h ≤ 524287) (sym (c.deref.ensures.value ∙ c.merge-journal.ensures.merged)) (budgets_fit c.args.self.board.config _ valid end.legal end.budgets)
+    subst (λ (h : List Entry). length h ≤ events_limit) (sym (c.deref.ensures.value ∙ c.merge-journal.ensures.merged))
+    (few c.self.inside c.self.invariant c.args.self c.self.view_is c.requires.all c.in-Some.seat c.in-Some.is _ _
+    c.close_with-closed.ensures.values.2)
 
 pub returns-clause-few : goal.returns-clause-few
 returns-clause-few c =
-    let end = ended c.self.inside c.self.invariant c.args.self c.self.view_is c.requires.all c.in-Some.seat c.in-Some.is _ _ c.close_with-closed.ensures.values.2 in
-    let valid = subst IsValid (ap (λ (b : ClosingFace). b.board.config) c.self.view_is) c.self.invariant.valid in
-    subst (λ (h : List Entry). length h ≤ 524287) (sym c.merge-journal.ensures.merged) (budgets_fit c.args.self.board.config _ valid end.legal end.budgets)
+    subst (λ (h : List Entry). length h ≤ events_limit) (sym c.merge-journal.ensures.merged)
+    (few c.self.inside c.self.invariant c.args.self c.self.view_is c.requires.all c.in-Some.seat c.in-Some.is _ _
+    c.close_with-closed.ensures.values.2)
 
 pub returns-clause-budgets : goal.returns-clause-budgets
 returns-clause-budgets c =
-    let end = ended c.self.inside c.self.invariant c.args.self c.self.view_is c.requires.all c.in-Some.seat c.in-Some.is _ _ c.close_with-closed.ensures.values.2 in
+    let end = ended c.self.inside c.self.invariant c.args.self c.self.view_is c.requires.all c.in-Some.seat c.in-Some.is _ _
+    c.close_with-closed.ensures.values.2 in
     subst (KeepsBudgets c.args.self.board.config) (sym c.merge-journal.ensures.merged) end.budgets
 
 pub returns-clause-callers : goal.returns-clause-callers
 returns-clause-callers c =
-    let end = ended c.self.inside c.self.invariant c.args.self c.self.view_is c.requires.all c.in-Some.seat c.in-Some.is _ _ c.close_with-closed.ensures.values.2 in
-    subst (λ (h : List Entry). AllByRecursion (IsPartIn c.args.self.board.config h) c.args.self.back) (sym c.merge-journal.ensures.merged) end.parts
+    let end = ended c.self.inside c.self.invariant c.args.self c.self.view_is c.requires.all c.in-Some.seat c.in-Some.is _ _
+    c.close_with-closed.ensures.values.2 in
+    subst (λ (h : List Entry). AllByRecursion (IsPartIn c.args.self.board.config h) c.args.self.back)
+    (sym c.merge-journal.ensures.merged) end.parts
 
 pub returns-clause-merged : goal.returns-clause-merged
 returns-clause-merged c =
     c.merge-journal.ensures.merged
-    ∙ merged_are c.self.inside c.self.invariant c.args.self c.self.view_is c.requires.all c.in-Some.seat c.in-Some.is _ _ c.close_with-closed.ensures.values.2
+    ∙ merged_are c.self.inside c.self.invariant c.args.self c.self.view_is c.requires.all c.in-Some.seat c.in-Some.is _ _
+    c.close_with-closed.ensures.values.2

@@ -49,7 +49,7 @@ returns-clause-opened c =
       volumes = rw (new_volumes c, length-replicate) (ap (λ (x : Setup). x.volumes) given);
       lists = grind (arith, common_steps, length-replicate);
       latches = rw made refl;
-      room = rw (← given) (omega (arith, c.in_ok-wakes.ensures.exact));
+      room = omega (arith, c.in_ok-wakes.ensures.exact, c.most_wakes.ensures);
       new_ids = λ id le. rw made (none_in_new c.args.config.now.latches id);
       generations = same_fits _ _ (returns-clause-system c) (λ n. omega arith);
     }

@@ -1,0 +1,39 @@
+-- programs over what was heard, and calls one after the other
+pub mod Programs
+pub mod Making
+-- what a caller hears in a history, and histories in which each follows its program
+pub mod Hearing
+pub mod Interleaved
+-- the program that a call is where it is not refused
+pub mod Unrefused
+-- calls_keep_to_their_events
+pub mod Needs
+-- last_event_is_the_machines, generations_in_replies
+pub mod Behind
+pub mod Generations
+-- keeping_agrees, own_blocks_answer, own_elements_answer
+pub mod Folds
+pub mod Blocks
+pub mod Elements
+pub mod AtRest
+pub mod OwnBlocks
+pub mod OwnReplies
+-- quotas_hold, wakes_are_in_range
+pub mod Wakes
+-- requests_leave_by_purges, requests_stay, latches_answer, requests_at_rest
+pub mod Purged
+pub mod Gone
+pub mod LatchReplies
+pub mod Queues
+-- posts_reach
+pub mod Posting
+-- the laws in the words of a caller's own log
+pub mod Uses
+-- number_calls, replay_calls
+pub mod call_numbers
+-- calls that are computed
+pub mod Computed
+pub mod WaitRows
+pub mod PauseRows
+pub mod LatchRows
+pub mod EndRows

@@ -1,0 +1,140 @@
+-- Calls that are not refused: when a wait and an extend are not, and the program that each call is then. Whoever follows a
+-- program call by call rewrites with these.
+use Rattle.std.proofs.Common.{◌≡◌, ℕ, suc, ◌+◌, ◌<◌, ◌≤◌, ◌==◌, nat_lt, true, false, Bool, List, [], ◌∷◌, ◌++◌, length, Option, None, Ok}
+use Rattle.std.proofs.Common.{refl, sym, ap, arith}
+use Rattle.std.specs.List.{AllByRecursion, list_any}
+use Rattle.std.proofs.lemmas.Bool.{eq-eqb, ne_eqb, lt-ltb, le-ltb}
+use Rattle.mv_ecb.specs.declared.operation.EcbOp.TheVariants as ecb_op
+use Rattle.mv_element.specs.declared.element.Token.{Token}
+use Rattle.mv_element.specs.declared.operation.ElementOp.TheVariants as element_op
+use Rattle.mv_latch.specs.declared.operation.LatchOp.TheVariants.{Obtain}
+use Rattle.mv_latch.specs.declared.request.LatchForm.TheVariants.{Waiting}
+use Rattle.mv_latch.specs.declared.request.Mode.{Mode}
+use Rattle.mv_machine.specs.declared.entry.Object.TheVariants.{Ecb, Element, Latches}
+use Rattle.mv_machine.specs.declared.entry.Op.TheVariants as op_on
+use Rattle.mv_machine.specs.Check.{or_else}
+use Rattle.mv_machine.specs.Setup.{Setup, owner_of, element_owner, is_exit_of}
+use Rattle.mv_calls.specs.Keeping.{Kept}
+use Rattle.mv_calls.specs.LatchCalls.{obtain, obtained}
+use Rattle.mv_calls.specs.Pauses.{pause, paused, deallocate, closed}
+use Rattle.mv_calls.specs.Posts.{post, post_within, posting, each_posted, posted_next}
+use Rattle.mv_calls.specs.Program.{Do, Done, on_ecb, on_element, on_latch, unless_refused}
+use Rattle.mv_calls.specs.Refusal.{Refusal, TooMany, NotOwnerAt, ExtendedAt}
+use Rattle.mv_calls.specs.Waits.{refused_if, refused_at, doubled_at, is_others_block, wait_refusal, extend_refusal, wait, arm_all}
+use Rattle.mv_calls.specs.Waits.{settle_all, enough, clear, the_word, extend, extended, AreDistinct}
+use Rattle.mv_machine.proofs.Lists.{all_push}
+
+-- none of four reasons holds
+no_reason : (a b c d : Option Refusal) → a ≡ None → b ≡ None → c ≡ None → d ≡ None → or_else a (or_else b (or_else c d)) ≡ None
+no_reason a b c d p q r s = rw (p, q, r, s) refl
+
+-- a test that holds nowhere refuses no position
+pub nowhere : (why : ℕ → Refusal) (test : ℕ → Bool) (p : ℕ) (es : List ℕ) → AllByRecursion (λ e. test e ≡ false) es
+    → refused_at why test p es ≡ None
+nowhere why test p [] all = refl
+nowhere why test p (e ∷ es) all = rw all.0 (nowhere why test (p + 1) es all.1)
+
+-- a block that its caller may wait for, clear and extend: its own, and not extended
+pub record IsFree (c : Setup) (kept : Kept) (e : ℕ) : Type 0 where
+  pub own : owner_of c e ≡ kept.caller
+  pub plain : kept.extended e ≡ false
+
+-- the caller's own block
+pub own_block : (c : Setup) (kept : Kept) (e : ℕ) → owner_of c e ≡ kept.caller → is_others_block c kept e ≡ false
+own_block c kept e own = rw (eq-eqb (owner_of c e) kept.caller own) refl
+
+-- own blocks, of a list
+own_blocks : (c : Setup) (kept : Kept) (es : List ℕ) → AllByRecursion (IsFree c kept) es
+    → AllByRecursion (λ e. is_others_block c kept e ≡ false) es
+own_blocks c kept [] free = tt
+own_blocks c kept (e ∷ es) free = (own_block c kept e free.0.own, own_blocks c kept es free.1)
+
+-- blocks that are not extended, of a list
+plain_blocks : (c : Setup) (kept : Kept) (es : List ℕ) → AllByRecursion (IsFree c kept) es
+    → AllByRecursion (λ e. kept.extended e ≡ false) es
+plain_blocks c kept [] free = tt
+plain_blocks c kept (e ∷ es) free = (free.0.plain, plain_blocks c kept es free.1)
+
+-- blocks that are different, and different from those before them, are not doubled
+not_among : (e : ℕ) (before : List ℕ) → AllByRecursion (λ b. b ≡ e → ⊥) before → list_any (λ b. b == e) before ≡ false
+not_among e [] all = refl
+not_among e (b ∷ before) all = rw (ne_eqb b e all.0) (not_among e before all.1)
+
+-- each of these differs from all of those before
+abbrev Differ : List ℕ → List ℕ → Type 0
+Differ before es = AllByRecursion (λ e. AllByRecursion (λ b. b ≡ e → ⊥) before) es
+
+-- what differs from all before differs from one more
+widen : (before : List ℕ) (e : ℕ) (es : List ℕ) → Differ before es → AllByRecursion (λ m. m ≡ e → ⊥) es → Differ (before ++ e ∷ []) es
+widen before e [] d n = tt
+widen before e (x ∷ es) d n = (all_push (λ b. b ≡ x → ⊥) before e d.0 (λ q. n.0 (sym q)), widen before e es d.1 n.1)
+
+-- so none is doubled
+none_doubled : (before : List ℕ) (p : ℕ) (es : List ℕ) → AreDistinct es → Differ before es → doubled_at before p es ≡ None
+none_doubled before p [] a d = refl
+none_doubled before p (e ∷ es) a d =
+    rw (not_among e before d.0) (none_doubled (before ++ e ∷ []) (p + 1) es a.1 (widen before e es d.1 a.0))
+
+-- there is nothing to differ from at first
+differ_from_none : (es : List ℕ) → Differ [] es
+differ_from_none [] = tt
+differ_from_none (e ∷ es) = (tt, differ_from_none es)
+
+-- a wait for no more than there are, over different free blocks
+pub wait_unrefused : (c : Setup) (count : ℕ) (es : List ℕ) (kept : Kept) → count ≤ length es → AreDistinct es
+    → AllByRecursion (IsFree c kept) es → wait_refusal c count es kept ≡ None
+wait_unrefused c count es kept few distinct free =
+    no_reason (refused_if (nat_lt (length es) count) TooMany) (doubled_at [] 0 es)
+    (refused_at NotOwnerAt (is_others_block c kept) 0 es) (refused_at ExtendedAt kept.extended 0 es)
+    (rw (le-ltb (length es) count few) refl) (none_doubled [] 0 es distinct (differ_from_none es))
+    (nowhere NotOwnerAt (is_others_block c kept) 0 es (own_blocks c kept es free))
+    (nowhere ExtendedAt kept.extended 0 es (plain_blocks c kept es free))
+
+-- an extend of a free block with an exit of its own
+pub extend_unrefused : (c : Setup) (e exit : ℕ) (kept : Kept) → IsFree c kept e → is_exit_of c exit e ≡ true
+    → extend_refusal c e exit kept ≡ None
+extend_unrefused c e exit kept free starts = rw (own_block c kept e free.own, starts, free.plain) refl
+
+-- such a wait arms and settles
+pub wait_is : (c : Setup) (count : ℕ) (es : List ℕ) (kept : Kept) → wait_refusal c count es kept ≡ None
+    → wait c count es kept ≡ arm_all es (settle_all es [] (enough count))
+wait_is c count es kept none = ap (λ r. unless_refused r (arm_all es (settle_all es [] (enough count)))) none
+
+-- over one block
+pub wait_for_one : (c : Setup) (e : ℕ) (kept : Kept) → IsFree c kept e
+    → wait c 1 (e ∷ []) kept ≡ arm_all (e ∷ []) (settle_all (e ∷ []) [] (enough 1))
+wait_for_one c e kept free = wait_is c 1 (e ∷ []) kept (wait_unrefused c 1 (e ∷ []) kept (omega arith) (tt, tt) (free, tt))
+
+-- the caller's own block is cleared
+pub clear_is : (c : Setup) (e : ℕ) (kept : Kept) → owner_of c e ≡ kept.caller
+    → clear c e kept ≡ Do (Ecb e) (op_on.Ecb ecb_op.Clear) (λ h. on_ecb h.entry.reply (the_word (λ w. Done (Ok w))))
+clear_is c e kept own = rw (own_block c kept e own) refl
+
+-- a free block is extended with an exit of its own
+pub extend_is : (c : Setup) (e exit : ℕ) (kept : Kept) → IsFree c kept e → is_exit_of c exit e ≡ true
+    → extend c e exit kept ≡ Do (Ecb e) (op_on.Ecb (ecb_op.Extend exit)) (λ h. on_ecb h.entry.reply extended)
+extend_is c e exit kept free starts = rw (own_block c kept e free.own, starts, free.plain) refl
+
+-- a post, where there is a block at all
+pub post_is : (c : Setup) (e code depth : ℕ) (kept : Kept) → length c.owners ≡ suc depth
+    → post c e code kept ≡ Do (Ecb e) (op_on.Ecb (ecb_op.Post code))
+    (λ h. on_ecb h.entry.reply (posting (λ p. each_posted (post_within depth c code) (posted_next c p) p)))
+post_is c e code depth kept some = ap (λ d. post_within d c code e) some
+
+-- a pause with an own element, and its return
+pub pause_is : (c : Setup) (t : Token) (kept : Kept) → element_owner c t.element ≡ kept.caller
+    → pause c t kept ≡ Do (Element t.element) (op_on.Element (element_op.Pause t.generation))
+    (λ h. on_element h.entry.reply (paused t.element t.generation))
+pause_is c t kept own = rw (eq-eqb (element_owner c t.element) kept.caller own) refl
+
+-- and a deallocation
+pub deallocate_is : (c : Setup) (t : Token) (kept : Kept) → element_owner c t.element ≡ kept.caller
+    → deallocate c t kept ≡ Do (Element t.element) (op_on.Element (element_op.Close t.generation))
+    (λ h. on_element h.entry.reply closed)
+deallocate_is c t kept own = rw (eq-eqb (element_owner c t.element) kept.caller own) refl
+
+-- an obtain of a latch that exists, in the Waiting form and within the quota
+pub obtain_is : (c : Setup) (latch requestor : ℕ) (mode : Mode) (kept : Kept) → latch < c.latches → length kept.requests < c.quota
+    → obtain c latch requestor mode Waiting kept ≡ Do Latches (op_on.Latch (Obtain latch requestor mode Waiting))
+    (λ h. on_latch h.entry.reply (obtained latch Waiting))
+obtain_is c latch requestor mode kept exists few = rw (lt-ltb latch c.latches exists, lt-ltb (length kept.requests) c.quota few) refl

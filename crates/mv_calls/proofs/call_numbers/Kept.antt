@@ -1,0 +1,112 @@
+-- What is kept of each caller, as it is read and written.
+use Rattle.std.proofs.Common.{◌≡◌, ℕ, ◌+◌, ◌<◌, ◌≤◌, ◌==◌, Bool, true, false, if◌then◌else◌, List, [], ◌∷◌, ◌++◌, length, map, set, get_or}
+use Rattle.std.proofs.Common.{replicate, drop, Option, Some, None, Result, Ok, Err, IfOk, subst, refl, sym, ap, ◌∙◌, arith}
+use Rattle.std.proofs.lemmas.List.{map-set, length-map, get_or-map, drop_more, append_assoc}
+use Rattle.mv_latch.specs.declared.operation.Wake.{Wake}
+use Rattle.mv_machine.specs.declared.entry.Entry.{Entry}
+use Rattle.mv_machine.specs.declared.entry.Object.{Object}
+use Rattle.mv_machine.specs.declared.entry.Object.TheVariants.{Ecb, Element, Volume, Latches}
+use Rattle.mv_machine.specs.declared.entry.Op.{Op}
+use Rattle.mv_machine.specs.declared.entry.Op.TheVariants as op_on
+use Rattle.mv_machine.specs.declared.entry.Reply.{Reply}
+use Rattle.mv_machine.specs.Legal.{IsNext, LegalFrom, next}
+use Rattle.mv_machine.specs.Setup.{Setup}
+use Rattle.mv_machine.specs.State.{table}
+use Rattle.mv_machine.specs.System.{System, admitted, wakes_after, with_at}
+use Rattle.mv_machine.proofs.Tables.{table-set, table-replicate}
+use Rattle.mv_calls.specs.declared.counting.Counter.{Counter}
+use Rattle.mv_calls.specs.Counters.{numbering_of, counted}
+use Rattle.mv_calls.specs.Numbers.{Numbering, unnumbered, numbered, numbered_at, wakes_at, asked, kept_pending, continues, group_after}
+use Rattle.mv_calls.specs.Numbers.{calls_from}
+
+-- a counter that is written
+pub counted-set : (xs : List Counter) (n : ℕ) (x : Counter) → n < length xs → counted (set xs n x) ≡ with_at (counted xs) n (numbering_of x)
+counted-set xs n x lt =
+    ap (λ ys. table (λ (t : Numbering). t) unnumbered ys) (map-set numbering_of xs n x)
+    ∙ table-set (λ (t : Numbering). t) unnumbered (map numbering_of xs) n (numbering_of x) (rw (length-map xs numbering_of) lt)
+
+-- a counter that is read
+pub counted-read : (xs : List Counter) (n : ℕ) (x : Counter) → n < length xs → x ≡ get_or xs n x → counted xs n ≡ numbering_of x
+counted-read xs n x lt at = get_or-map numbering_of xs n x unnumbered lt ∙ ap numbering_of (sym at)
+
+-- new counters
+pub counted-new : (xs : List Counter) (n : ℕ) → map numbering_of xs ≡ replicate n unnumbered → counted xs ≡ (λ k. unnumbered)
+counted-new xs n new = ap (λ ys. table (λ (t : Numbering). t) unnumbered ys) new ∙ table-replicate (λ (t : Numbering). t) unnumbered n
+
+-- the wakes are asked of events on the latch set alone
+asked_same : (c : Setup) (s : System) (shown : List Wake) (k : ℕ) (o : Object) (op : Op) (reply : Reply) → admitted c s k o op ≡ true
+    → asked c o op reply (wakes_after c s shown k o op) ≡ asked c o op reply (wakes_at s k o op)
+asked_same c s shown k Latches (op_on.Latch op) reply a = rw a refl
+asked_same c s shown k Latches (op_on.Ecb op) reply a = refl
+asked_same c s shown k Latches (op_on.Element op) reply a = refl
+asked_same c s shown k Latches (op_on.Volume op) reply a = refl
+asked_same c s shown k (Ecb e) (op_on.Ecb op) reply a = refl
+asked_same c s shown k (Ecb e) (op_on.Element op) reply a = refl
+asked_same c s shown k (Ecb e) (op_on.Volume op) reply a = refl
+asked_same c s shown k (Ecb e) (op_on.Latch op) reply a = refl
+asked_same c s shown k (Element e) op reply a = refl
+asked_same c s shown k (Volume e) op reply a = refl
+
+-- one more entry
+pub one_counted : (c : Setup) (s : System) (shown ws : List Wake) (xs : List Counter) (e : Entry) (old new : Counter) → IsNext c s e
+    → e.caller < length xs
+    → old ≡ get_or xs e.caller old → ws ≡ wakes_after c s shown e.caller e.object e.op
+    → numbering_of new ≡ numbered c (numbering_of old) e ws
+    → counted (set xs e.caller new) ≡ with_at (counted xs) e.caller (numbered_at c s (counted xs) e)
+one_counted c s shown ws xs e old new n lt at told is =
+    counted-set xs e.caller new lt ∙ ap (λ t. with_at (counted xs) e.caller t) (is
+    ∙ (ap (λ t. numbered c t e ws) (sym (counted-read xs e.caller old lt at))
+    ∙ (ap (λ x. numbered c (counted xs e.caller) e x) told
+    ∙ ap (λ ps. record (numbered c (counted xs e.caller) e []) {
+      pending = ps ++ kept_pending
+          (counted xs e.caller).pending e.object e.op;
+    }) (asked_same c s shown e.caller e.object e.op e.reply n.admits))))
+
+-- ---- a turn of the loop
+
+-- the entry at a place, and what is left behind it
+at_drop : (es : List Entry) (i : ℕ) (e : Entry) → i < length es → e ≡ get_or es i e → drop i es ≡ e ∷ drop (i + 1) es
+at_drop es i e lt at = drop_more es i e lt ∙ ap (λ x. x ∷ drop (i + 1) es) (sym at)
+
+-- it is the machine's next
+pub turn_next : (c : Setup) (s : System) (es : List Entry) (i : ℕ) (e : Entry) → i < length es → e ≡ get_or es i e
+    → LegalFrom c s (drop i es) → IsNext c s e
+turn_next c s es i e lt at l = (subst (λ xs. LegalFrom c s xs) (at_drop es i e lt at) l).0
+
+-- what is left is legal behind it
+pub turn_rest : (c : Setup) (s : System) (es : List Entry) (i : ℕ) (e : Entry) → i < length es → e ≡ get_or es i e
+    → LegalFrom c s (drop i es) → LegalFrom c (next s e) (drop (i + 1) es)
+turn_rest c s es i e lt at l = (subst (λ xs. LegalFrom c s xs) (at_drop es i e lt at) l).1
+
+-- its number comes next
+pub turn_numbers : (c : Setup) (s : System) (table : ℕ → Numbering) (es : List Entry) (i : ℕ) (e : Entry) (all ns : List ℕ)
+    → i < length es → e ≡ get_or es i e
+    → all ≡ ns ++ calls_from c s table (drop i es)
+    → all ≡ (ns ++ (numbered_at c s table e).group ∷ []) ++ calls_from c (next s e) (with_at table e.caller (numbered_at c s table e))
+    (drop (i + 1) es)
+turn_numbers c s table es i e all ns lt at is = is ∙ ap (λ xs. ns ++ calls_from c s table xs) (at_drop es i e lt at) ∙ sym
+    (append_assoc ns ((numbered_at c s table e).group ∷ [])
+    (calls_from c (next s e) (with_at table e.caller (numbered_at c s table e)) (drop (i + 1) es)))
+
+-- a group number rises by one at most
+one_more : (last : Option Entry) (g : ℕ) (b : Bool) (i : ℕ) → g ≤ i → group_after last g b ≤ i + 1
+one_more None g b i le = omega arith
+one_more (Some e) g true i le = omega arith
+one_more (Some e) g false i le = omega arith
+
+-- one of two numbers
+low_at : (b : Bool) (t u : Numbering) (i : ℕ) → t.group ≤ i → u.group ≤ i → (if b then t else u).group ≤ i
+low_at true t u i lt lu = lt
+low_at false t u i lt lu = lu
+
+-- so no group number is above the place
+pub turn_low : (c : Setup) (s : System) (table : ℕ → Numbering) (e : Entry) (i : ℕ) → ((k : ℕ) → (table k).group ≤ i) → (k : ℕ)
+    → (with_at table e.caller (numbered_at c s table e) k).group ≤ i + 1
+turn_low c s table e i low k = low_at (k == e.caller) (numbered_at c s table e) (table k) (i + 1)
+    (one_more (table e.caller).last (table e.caller).group (continues (table e.caller) e.object e.op) i (low e.caller))
+    (let l : (table k).group ≤ i = low k in omega arith)
+
+-- what follows from what holds of an Ok
+pub ok_map : {X Y : Type 0} (r : Result X Y) (P Q : Type 0) → (P → Q) → IfOk r (λ x. P) → IfOk r (λ x. Q)
+ok_map (Ok x) P Q f p = f p
+ok_map (Err y) P Q f p = p

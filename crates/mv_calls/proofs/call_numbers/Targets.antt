@@ -1,0 +1,29 @@
+-- The targets of an exit, as they are read.
+use Rattle.std.proofs.Common.{◌≡◌, ℕ, zero, suc, ◌-◌, [], Option, Some, None, option_map, slice_get, refl, sym, ap, ◌∙◌, arith}
+use Rattle.std.proofs.lemmas.Option.{slice_get-map}
+use Rattle.mv_machine.specs.declared.config.Config.{Config}
+use Rattle.mv_machine.specs.declared.config.Exit.{Exit}
+use Rattle.mv_machine.specs.Config.{setup_of, exit_of}
+use Rattle.mv_machine.specs.Setup.{Setup}
+use Rattle.mv_calls.specs.Posts.{targets_of, targets_at}
+
+-- exits are counted from 1
+counted : (c : Setup) (x : ℕ) → (x ≡ 0 → ⊥) → targets_of c x ≡ targets_at (slice_get c.exits (x - 1))
+counted c zero n = absurd (n refl)
+counted c (suc x) n = let e : (suc x - 1) ≡ x = omega arith in rw e refl
+
+-- what is read in the list of exits
+there : (config : Config) (x : ℕ) (read : Option Exit) → (x ≡ 0 → ⊥) → slice_get config.exits.items (x - 1) ≡ read
+    → targets_of (setup_of config) x ≡ targets_at (option_map exit_of read)
+there config x read n is = counted (setup_of config) x n ∙ ap targets_at
+    (slice_get-map exit_of config.exits.items (x - 1) ∙ ap (option_map exit_of) is)
+
+-- an exit that is there
+pub targets_found : (config : Config) (c : Setup) (x : ℕ) (e : Exit) → setup_of config ≡ c → (x ≡ 0 → ⊥)
+    → slice_get config.exits.items (x - 1) ≡ Some e → targets_of c x ≡ e.targets.items
+targets_found config c x e given n is = ap (λ s. targets_of s x) (sym given) ∙ there config x (Some e) n is
+
+-- one that is not
+pub targets_missing : (config : Config) (c : Setup) (x : ℕ) → setup_of config ≡ c → (x ≡ 0 → ⊥)
+    → slice_get config.exits.items (x - 1) ≡ None → targets_of c x ≡ []
+targets_missing config c x given n is = ap (λ s. targets_of s x) (sym given) ∙ there config x None n is

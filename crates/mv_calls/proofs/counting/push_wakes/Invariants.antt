@@ -1,0 +1,13 @@
+-- The blocks of the wakes from a place on lie on top.
+use Rattle.std.proofs.Common.{◌≡◌, ◌++◌, ◌≤◌, reverse, length, drop}
+use Rattle.mv_calls.specs.Numbers.{blocks_of}
+use Rattle.mv_calls.proofs.counting.push_wakes.Given as goal
+
+abbrev pub invariant-loop-at : goal.invariant-loop-at
+invariant-loop-at l = record {
+  within : l.at ≤ length l.wakes;
+  pushed : reverse l.stack.items ≡ blocks_of (drop l.at l.wakes) ++ reverse l.initial.stack.items;
+}
+
+abbrev pub decreases-loop-at : goal.decreases-loop-at
+decreases-loop-at l = l.at

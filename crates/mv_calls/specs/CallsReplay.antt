@@ -1,0 +1,40 @@
+-- What a list of entries with call numbers is refused for.
+use Rattle.std.specs.Prelude.{◌≡◌, ◌≢◌, ℕ, ◌+◌, List, take, slice_get, Some}
+use Rattle.mv_machine.specs.declared.entry.Entry.{Entry}
+use Rattle.mv_machine.specs.declared.replaying.Illegal.{Illegal}
+use Rattle.mv_machine.specs.Legal.{Legal}
+use Rattle.mv_machine.specs.Replay.{IsFirstIllegal}
+use Rattle.mv_machine.specs.Setup.{Setup}
+use Rattle.mv_machine.specs.System.{opening}
+use Rattle.mv_calls.specs.declared.calls_replaying.CallsRefusal.{CallsRefusal}
+use Rattle.mv_calls.specs.declared.calls_replaying.CallsRefusal.TheVariants as refusal
+use Rattle.mv_calls.specs.Numbers.{calls}
+
+-- two lists are one up to a place, and have other numbers there
+pub record IsFirstOther (xs ys : List ℕ) (index x y : ℕ) : Type 0 where
+  pub same : take index xs ≡ take index ys
+  pub one : slice_get xs index ≡ Some x
+  pub other : slice_get ys index ≡ Some y
+  pub differs : x ≢ y
+
+-- the entries up to this one are legal and have their call numbers, but for the last, which has another
+pub record IsFirstNumber (c : Setup) (es : List Entry) (kept : List ℕ) (index k machine : ℕ) : Type 0 where
+  pub legal : Legal c (take (index + 1) es)
+  pub other : IsFirstOther kept (calls c (take (index + 1) es)) index k machine
+
+-- the entries up to one are legal and have their call numbers, and that one is not the machine's
+pub record IsFirstBad (c : Setup) (es : List Entry) (kept : List ℕ) (i : Illegal) : Type 0 where
+  pub illegal : IsFirstIllegal c (opening c) es i
+  pub numbers : take i.index kept ≡ calls c (take i.index es)
+
+-- why a list with call numbers is refused
+abbrev pub IsCallsRefused : Setup → List Entry → List ℕ → CallsRefusal → Type 0
+IsCallsRefused c es kept (refusal.Illegal i) = IsFirstBad c es kept i
+IsCallsRefused c es kept (refusal.Number index k machine) = IsFirstNumber c es kept index k machine
+IsCallsRefused c es kept refusal.NoMemory = Unit {0}
+
+-- the same of a list that is known to be legal
+abbrev pub IsNumberRefused : Setup → List Entry → List ℕ → CallsRefusal → Type 0
+IsNumberRefused c es kept (refusal.Illegal i) = ⊥
+IsNumberRefused c es kept (refusal.Number index k machine) = IsFirstNumber c es kept index k machine
+IsNumberRefused c es kept refusal.NoMemory = Unit {0}

@@ -1,0 +1,24 @@
+-- Exits that replies name, and wakes, in what a task hears.
+use Rattle.std.specs.Prelude.{◌≡◌, suc, true, List}
+use Rattle.std.specs.List.{AllByRecursion}
+use Rattle.mv_ecb.specs.declared.operation.EcbReply.TheVariants.{Woke}
+use Rattle.mv_machine.specs.declared.entry.Object.{Object}
+use Rattle.mv_machine.specs.declared.entry.Object.TheVariants.{Ecb}
+use Rattle.mv_machine.specs.declared.entry.Reply.{Reply}
+use Rattle.mv_machine.specs.declared.entry.Reply.TheVariants as reply_of
+use Rattle.mv_machine.specs.Setup.{Setup, is_exit_of}
+use Rattle.mv_machine.specs.Waking.{AreFairWakes}
+use Rattle.mv_calls.specs.Program.{Heard}
+
+-- the exit that a block's reply names, if it names one, is the block's
+abbrev pub NamesOwnExit : Setup → Object → Reply → Type 0
+NamesOwnExit c (Ecb e) (reply_of.Ecb (Woke (suc x))) = is_exit_of c (suc x) e ≡ true
+NamesOwnExit c _ _ = Unit {0}
+
+-- and so in all that was heard
+abbrev pub NameOwnExits : Setup → List Heard → Type 0
+NameOwnExits c hs = AllByRecursion (λ h. NamesOwnExit c h.entry.object h.entry.reply) hs
+
+-- and the wakes of each event are fair
+abbrev pub HaveFairWakes : Setup → List Heard → Type 0
+HaveFairWakes c hs = AllByRecursion (λ h. AreFairWakes c h.wakes) hs

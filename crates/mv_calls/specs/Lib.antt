@@ -1,0 +1,24 @@
+-- What calls of the services are, and what a log says of the machine.
+-- what is kept, what a call is, and what it is that one was made
+pub mod Refusal
+pub mod Keeping
+pub mod Program
+pub mod Rest
+pub mod Made
+pub mod Runs
+-- the calls, one by one
+pub mod Waits
+pub mod Posts
+pub mod Pauses
+pub mod LatchCalls
+pub mod Endings
+pub mod Services
+-- what a log says of the machine
+pub mod Behind
+pub mod Known
+pub mod Exits
+-- to which call of its caller each entry belongs
+pub mod Numbers
+pub mod Counters
+pub mod OneCall
+pub mod CallsReplay

@@ -1,0 +1,143 @@
+-- To which call of its caller each entry of a history belongs: a number for each.
+use Rattle.std.specs.Prelude.{ℕ, ◌+◌, ◌==◌, Bool, true, false, List, [], ◌∷◌, ◌++◌, Option, Some, None, if◌then◌else◌}
+use Rattle.mv_ecb.specs.declared.operation.EcbOp.{EcbOp}
+use Rattle.mv_ecb.specs.declared.operation.EcbOp.TheVariants as ecb_op
+use Rattle.mv_ecb.specs.declared.operation.EcbReply.TheVariants as ecb_reply
+use Rattle.mv_element.specs.declared.operation.ElementOp.TheVariants as element_op
+use Rattle.mv_element.specs.declared.operation.ElementReply.TheVariants as element_reply
+use Rattle.mv_latch.specs.declared.operation.LatchOp.TheVariants as latch_op
+use Rattle.mv_latch.specs.declared.operation.LatchReply.TheVariants as latch_reply
+use Rattle.mv_latch.specs.declared.operation.Wake.{Wake}
+use Rattle.mv_latch.specs.declared.request.LatchForm.TheVariants as form_of
+use Rattle.mv_latch.specs.LatchSet.{wakes}
+use Rattle.mv_machine.specs.declared.entry.Entry.{Entry}
+use Rattle.mv_machine.specs.declared.entry.Object.{Object}
+use Rattle.mv_machine.specs.declared.entry.Object.TheVariants.{Ecb, Element, Latches}
+use Rattle.mv_machine.specs.declared.entry.Op.{Op}
+use Rattle.mv_machine.specs.declared.entry.Op.TheVariants as op_on
+use Rattle.mv_machine.specs.declared.entry.Reply.{Reply}
+use Rattle.mv_machine.specs.declared.entry.Reply.TheVariants as reply_of
+use Rattle.mv_machine.specs.Legal.{next}
+use Rattle.mv_machine.specs.Setup.{Setup}
+use Rattle.mv_machine.specs.System.{System, opening, with_at}
+use Rattle.mv_calls.specs.Posts.{targets_of}
+
+-- what is kept of a caller: the number of its last group of entries, the blocks whose posts may still follow in that
+-- group, and its last entry
+pub record Numbering : Type 0 where
+  pub group : ℕ
+  pub pending : List ℕ
+  pub last : Option Entry
+
+-- before its first entry
+abbrev pub unnumbered : Numbering
+unnumbered = record { group = 0; pending = []; last = None }
+
+-- ---- which entries continue the group
+
+-- whether an operation begins to wait on a block
+abbrev pub is_arm : Op → Bool
+is_arm (op_on.Ecb ecb_op.Arm) = true
+is_arm op = false
+
+-- whether a request was queued for which its task waits
+abbrev pub is_queued : Op → Reply → Bool
+is_queued (op_on.Latch (latch_op.Obtain latch requestor mode form_of.Waiting)) (reply_of.Latch (latch_reply.Queued id)) = true
+is_queued op reply = false
+
+-- whether a release of an element was accepted
+abbrev pub is_accepted : Op → Reply → Bool
+is_accepted (op_on.Element (element_op.Release g code)) (reply_of.Element element_reply.Early) = true
+is_accepted (op_on.Element (element_op.Release g code)) (reply_of.Element element_reply.Woke) = true
+is_accepted op reply = false
+
+-- whether the last entry meets a test
+abbrev pub last_is : (Op → Reply → Bool) → Option Entry → Bool
+last_is test None = false
+last_is test (Some e) = test e.op e.reply
+
+-- whether a block is the first of these
+abbrev pub is_first : ℕ → List ℕ → Bool
+is_first e [] = false
+is_first e (p ∷ ps) = e == p
+
+-- A settle and a resume continue; an arm after an arm; a confirm after a request was queued for which its task waits; a
+-- pause after an accepted release; a post of the first pending block. Nothing else does
+abbrev pub continues : Numbering → Object → Op → Bool
+continues t (Ecb e) (op_on.Ecb ecb_op.Settle) = true
+continues t (Ecb e) (op_on.Ecb ecb_op.Arm) = last_is (λ op reply. is_arm op) t.last
+continues t (Ecb e) (op_on.Ecb (ecb_op.Post code)) = is_first e t.pending
+continues t (Element n) (op_on.Element (element_op.Resume g)) = true
+continues t (Element n) (op_on.Element (element_op.Pause g)) = last_is is_accepted t.last
+continues t Latches (op_on.Latch (latch_op.Confirm latch id)) = last_is is_queued t.last
+continues t object op = false
+
+-- the first entry of a caller is of group 0, whatever it is; a later one that does not continue opens the next
+abbrev pub group_after : Option Entry → ℕ → Bool → ℕ
+group_after None g continued = g
+group_after (Some e) g true = g
+group_after (Some e) g false = g + 1
+
+-- ---- which posts may follow
+
+-- a block, if there is one, before others
+abbrev pub and_block : Option ℕ → List ℕ → List ℕ
+and_block None rest = rest
+and_block (Some e) rest = e ∷ rest
+
+-- the blocks of wakes, of those that have one
+abbrev pub blocks_of : List Wake → List ℕ
+blocks_of [] = []
+blocks_of (w ∷ ws) = and_block w.ecb (blocks_of ws)
+
+-- the targets of the exit that a post ran, if it ran one
+abbrev pub targets_run : Setup → EcbOp → Reply → List ℕ
+targets_run c (ecb_op.Post code) (reply_of.Ecb (ecb_reply.Woke x)) = targets_of c x
+targets_run c op reply = []
+
+-- the blocks that an entry asks to be posted: those targets, and the blocks of the wakes of a release of a latch that was
+-- let go, and of a purge
+abbrev pub asked : Setup → Object → Op → Reply → List Wake → List ℕ
+asked c (Ecb e) (op_on.Ecb op) reply ws = targets_run c op reply
+asked c Latches (op_on.Latch (latch_op.Release latch id conditional)) (reply_of.Latch (latch_reply.Released granted)) ws = blocks_of ws
+asked c Latches (op_on.Latch (latch_op.Purge requestor)) reply ws = blocks_of ws
+asked c object op reply ws = []
+
+-- what stays pending of these: the others, where the entry is a post of the first; otherwise none
+abbrev pub kept_pending : List ℕ → Object → Op → List ℕ
+kept_pending (p ∷ ps) (Ecb e) (op_on.Ecb (ecb_op.Post code)) = if e == p then ps else []
+kept_pending pending object op = []
+
+-- after one more entry of the caller, with its wakes
+abbrev pub numbered : Setup → Numbering → Entry → List Wake → Numbering
+numbered c t e ws = record {
+  group = group_after t.last t.group (continues t e.object e.op);
+  pending = asked c e.object e.op e.reply ws ++ kept_pending t.pending e.object e.op;
+  last = Some e;
+}
+
+-- ---- a history
+
+-- the wakes that an event has
+abbrev pub wakes_at : System → ℕ → Object → Op → List Wake
+wakes_at s k Latches (op_on.Latch op) = wakes k op s.latches.state
+wakes_at s k object op = []
+
+-- what is kept of the caller after its entry, where this is kept of each caller
+abbrev pub numbered_at : Setup → System → (ℕ → Numbering) → Entry → Numbering
+numbered_at c s table e = numbered c (table e.caller) e (wakes_at s e.caller e.object e.op)
+
+-- each entry's number, where this is kept of each caller
+abbrev pub calls_from : Setup → System → (ℕ → Numbering) → List Entry → List ℕ
+calls_from c s table [] = []
+calls_from c s table (e ∷ es) = (numbered_at c s table e).group ∷ calls_from c (next s e)
+    (with_at table e.caller (numbered_at c s table e)) es
+
+-- the call numbers of a history
+abbrev pub calls : Setup → List Entry → List ℕ
+calls c es = calls_from c (opening c) (λ k. unnumbered) es
+
+-- the numbers of one caller's entries, in order
+abbrev pub numbers_of : ℕ → List Entry → List ℕ → List ℕ
+numbers_of k (e ∷ es) (n ∷ ns) = if e.caller == k then n ∷ numbers_of k es ns else numbers_of k es ns
+numbers_of k es ns = []

@@ -1,0 +1,105 @@
+-- Posts of event control blocks: each with the posts of its exit, and these with theirs.
+use Rattle.std.specs.Prelude.{ℕ, suc, zero, ◌==◌, Bool, true, false, ◌&&◌, List, [], ◌∷◌, length, Option, Some, None, option_map}
+use Rattle.std.specs.Prelude.{option_and_then, slice_get, if◌then◌else◌}
+use Rattle.mv_ecb.specs.declared.operation.EcbOp.TheVariants as ecb_op
+use Rattle.mv_ecb.specs.declared.operation.EcbReply.{EcbReply}
+use Rattle.mv_ecb.specs.declared.operation.EcbReply.TheVariants as ecb_reply
+use Rattle.mv_latch.specs.declared.operation.Wake.{Wake}
+use Rattle.mv_machine.specs.declared.entry.Object.{Object}
+use Rattle.mv_machine.specs.declared.entry.Object.TheVariants.{Ecb}
+use Rattle.mv_machine.specs.declared.entry.Op.{Op}
+use Rattle.mv_machine.specs.declared.entry.Op.TheVariants as op_on
+use Rattle.mv_machine.specs.declared.entry.Reply.{Reply}
+use Rattle.mv_machine.specs.declared.entry.Reply.TheVariants as reply_of
+use Rattle.mv_machine.specs.Packing.{unpack, reply_in}
+use Rattle.mv_machine.specs.Setup.{Setup, SetupExit}
+use Rattle.mv_calls.specs.Keeping.{Kept}
+use Rattle.mv_calls.specs.Program.{Program, Do, Done, Wrong, Call, and_then, on_ecb}
+
+-- what a post comes to: nobody waited; a waiting task was woken, or an exit of this number, where it is not 0; the block was
+-- complete with this code before
+pub data Posting : Type 0 where
+  Posted : Posting
+  Woke : (exit : ℕ) → Posting
+  Already : (code : ℕ) → Posting
+
+-- what the reply to a post says
+abbrev pub posting : {A : Type 0} → (Posting → Program A) → EcbReply → Program A
+posting f ecb_reply.Posted = f Posted
+posting f (ecb_reply.Woke x) = f (Woke x)
+posting f (ecb_reply.Already c) = f (Already c)
+posting f reply = Wrong
+
+-- the targets of an exit, if there is one
+abbrev pub targets_at : Option SetupExit → List ℕ
+targets_at None = []
+targets_at (Some x) = x.targets
+
+-- the targets of an exit, which is counted from 1. Exit 0 is none
+abbrev pub targets_of : Setup → ℕ → List ℕ
+targets_of c zero = []
+targets_of c (suc x) = targets_at (slice_get c.exits x)
+
+-- the blocks that are posted after a first post
+abbrev pub posted_next : Setup → Posting → List ℕ
+posted_next c (Woke x) = targets_of c x
+posted_next c p = []
+
+-- these blocks are posted in order, and then the answer is given
+abbrev pub each_posted : (ℕ → Program Posting) → List ℕ → Posting → Program Posting
+each_posted post [] answer = Done answer
+each_posted post (e ∷ es) answer = and_then (post e) (λ p. each_posted post es answer)
+
+-- a post, where exits are followed this deep: depth first, each target with its own exit before the next target
+abbrev pub post_within : ℕ → Setup → ℕ → ℕ → Program Posting
+post_within zero c code e = Wrong
+post_within (suc depth) c code e =
+    Do (Ecb e) (op_on.Ecb (ecb_op.Post code))
+    (λ h. on_ecb h.entry.reply (posting (λ p. each_posted (post_within depth c code) (posted_next c p) p)))
+
+-- a post; the answer is that of the block itself. Exits lead up from block to block, so none is deeper than there are blocks
+abbrev pub post : Setup → ℕ → ℕ → Call Posting
+post c e code kept = post_within (length c.owners) c code e
+
+-- ---- what a word lets a caller expect
+
+-- the place and the reply that an operation has on an object with this word
+abbrev pub expected_of : Object → Op → ℕ → Option (ℕ × Reply)
+expected_of o op w = option_and_then (λ u. option_map (λ r. (u.0, r)) (reply_in op u.1)) (unpack o w)
+
+-- whether an event has the place and the reply that were expected
+abbrev pub is_expected : (Reply → Reply → Bool) → Option (ℕ × Reply) → ℕ → Reply → Bool
+is_expected same None place reply = false
+is_expected same (Some e) place reply = (e.0 == place) && same e.1 reply
+
+-- whether two replies to a post are one
+abbrev pub same_posting : EcbReply → EcbReply → Bool
+same_posting ecb_reply.Posted ecb_reply.Posted = true
+same_posting (ecb_reply.Woke x) (ecb_reply.Woke y) = x == y
+same_posting (ecb_reply.Already c) (ecb_reply.Already d) = c == d
+same_posting x y = false
+
+-- the same of replies of any kind
+abbrev pub same_post_reply : Reply → Reply → Bool
+same_post_reply (reply_of.Ecb x) (reply_of.Ecb y) = same_posting x y
+same_post_reply x y = false
+
+-- one post, where the block is as expected
+abbrev pub try_post : ℕ → ℕ → ℕ → Call Posting
+try_post e expected code kept =
+    Do (Ecb e) (op_on.Ecb (ecb_op.Post code)) (λ h.
+    if is_expected same_post_reply (expected_of (Ecb e) (op_on.Ecb (ecb_op.Post code)) expected) h.entry.place h.entry.reply
+    then on_ecb h.entry.reply (posting (λ p. Done p))
+    else Wrong)
+
+-- ---- posts that wakes ask for
+
+-- a wake with a block posts it; one without posts nothing
+abbrev pub wake_posted : {A : Type 0} → Setup → Option ℕ → ℕ → Kept → Program A → Program A
+wake_posted c None code kept last = last
+wake_posted c (Some e) code kept last = and_then (post c e code kept) (λ p. last)
+
+-- the posts of these wakes in order, and then the rest
+abbrev pub wakes_posted : {A : Type 0} → Setup → List Wake → Kept → Program A → Program A
+wakes_posted c [] kept last = last
+wakes_posted c (w ∷ ws) kept last = wake_posted c w.ecb w.code kept (wakes_posted c ws kept last)

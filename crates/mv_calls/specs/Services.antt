@@ -1,0 +1,134 @@
+-- The calls of the services, each as a value: what it answers, what it does, and how many events it may need.
+use Rattle.std.specs.Prelude.{ℕ, ◌+◌, ◌*◌, Bool, List, length, Option, Some, None, Result}
+use Rattle.mv_element.specs.declared.element.ElementState.{ElementState}
+use Rattle.mv_element.specs.declared.element.Token.{Token}
+use Rattle.mv_latch.specs.declared.request.LatchForm.{LatchForm}
+use Rattle.mv_latch.specs.declared.request.LatchForm.TheVariants as form_of
+use Rattle.mv_latch.specs.declared.request.Mode.{Mode}
+use Rattle.mv_machine.specs.Reach.{reach, release_cost}
+use Rattle.mv_machine.specs.Setup.{Setup}
+use Rattle.mv_calls.specs.Endings as endings
+use Rattle.mv_calls.specs.Keeping.{Kept}
+use Rattle.mv_calls.specs.LatchCalls as latches
+use Rattle.mv_calls.specs.LatchCalls.{Obtained, Standing, Counts}
+use Rattle.mv_calls.specs.Pauses as pauses
+use Rattle.mv_calls.specs.Pauses.{Gift, Reached}
+use Rattle.mv_calls.specs.Posts as posts
+use Rattle.mv_calls.specs.Posts.{Posting}
+use Rattle.mv_calls.specs.Program.{Call}
+use Rattle.mv_calls.specs.Refusal.{Refusal}
+use Rattle.mv_calls.specs.Waits as waits
+
+-- a call with its arguments
+pub data Service : Type 0 where
+  Wait : (count : ℕ) (blocks : List ℕ) → Service
+  Post : (block code : ℕ) → Service
+  TryPost : (block expected code : ℕ) → Service
+  Clear : (block : ℕ) → Service
+  Extend : (block exit : ℕ) → Service
+  TestEcb : (block : ℕ) → Service
+  ReadVolume : (volume : ℕ) → Service
+  WriteVolume : (volume number : ℕ) → Service
+  Allocate : Service
+  Pause : (token : Token) → Service
+  Release : (token : Token) (code : ℕ) → Service
+  TryRelease : (token : Token) (expected code : ℕ) → Service
+  Transfer : (current : Option Token) (target : Token) (code : ℕ) → Service
+  Deallocate : (token : Token) → Service
+  TestElement : (element : ℕ) → Service
+  Obtain : (latch requestor : ℕ) (mode : Mode) (form : LatchForm) → Service
+  CheckLatch : (latch id : ℕ) → Service
+  ReleaseLatch : (latch id : ℕ) (conditional : Bool) → Service
+  Purge : (requestor : ℕ) → Service
+  EndOfJob : (requestor block code : ℕ) → Service
+  EndOfTask : (requestor : ℕ) (mother : Option ℕ) (code : ℕ) → Service
+
+-- what it answers
+abbrev pub Answer : Service → Type 0
+Answer (Wait count blocks) = Result (List (Option ℕ)) Refusal
+Answer (Post block code) = Posting
+Answer (TryPost block expected code) = Posting
+Answer (Clear block) = Result ℕ Refusal
+Answer (Extend block exit) = Result (Unit {0}) Refusal
+Answer (TestEcb block) = ℕ
+Answer (ReadVolume volume) = ℕ
+Answer (WriteVolume volume number) = Unit {0}
+Answer Allocate = Result Token Refusal
+Answer (Pause token) = Result Gift Refusal
+Answer (Release token code) = Result Reached Refusal
+Answer (TryRelease token expected code) = Result Reached Refusal
+Answer (Transfer current target code) = Result (Option Gift) Refusal
+Answer (Deallocate token) = Result (Unit {0}) Refusal
+Answer (TestElement element) = ElementState
+Answer (Obtain latch requestor mode form) = Result Obtained Refusal
+Answer (CheckLatch latch id) = Standing
+Answer (ReleaseLatch latch id conditional) = Result ℕ Refusal
+Answer (Purge requestor) = Counts
+Answer (EndOfJob requestor block code) = Counts
+Answer (EndOfTask requestor mother code) = Counts
+
+-- what it does
+abbrev pub program : Setup → (s : Service) → Call (Answer s)
+program c (Wait count blocks) = waits.wait c count blocks
+program c (Post block code) = posts.post c block code
+program c (TryPost block expected code) = posts.try_post block expected code
+program c (Clear block) = waits.clear c block
+program c (Extend block exit) = waits.extend c block exit
+program c (TestEcb block) = waits.test_ecb block
+program c (ReadVolume volume) = waits.read_volume volume
+program c (WriteVolume volume number) = waits.write_volume volume number
+program c Allocate = pauses.allocate c
+program c (Pause token) = pauses.pause c token
+program c (Release token code) = pauses.release token code
+program c (TryRelease token expected code) = pauses.try_release token expected code
+program c (Transfer current target code) = pauses.transfer c current target code
+program c (Deallocate token) = pauses.deallocate c token
+program c (TestElement element) = pauses.test_element element
+program c (Obtain latch requestor mode form) = latches.obtain c latch requestor mode form
+program c (CheckLatch latch id) = latches.check_latch latch id
+program c (ReleaseLatch latch id conditional) = latches.release_latch c latch id conditional
+program c (Purge requestor) = latches.purge c requestor
+program c (EndOfJob requestor block code) = endings.end_of_job c requestor block code
+program c (EndOfTask requestor mother code) = endings.end_of_task c requestor mother code
+
+-- ---- how many events it may need, by the configuration and what its task keeps
+
+-- a transfer pauses where it has a current token
+abbrev pub transfer_events : Option Token → ℕ
+transfer_events None = 1
+transfer_events (Some current) = 3
+
+-- an obtain of the Waiting form may have to be confirmed
+abbrev pub obtain_events : LatchForm → ℕ
+obtain_events form_of.Waiting = 2
+obtain_events form = 1
+
+-- the posts that a post of a mother's block leads to, if there is one
+abbrev pub mother_events : Setup → Option ℕ → ℕ
+mother_events c None = 0
+mother_events c (Some block) = reach c block
+
+-- the table: a wait arms and settles, a post reaches, a release or a purge costs with the posts of its wakes
+abbrev pub most_events : Setup → Kept → Service → ℕ
+most_events c kept (Wait count blocks) = 2 * length blocks
+most_events c kept (Post block code) = reach c block
+most_events c kept (TryPost block expected code) = 1
+most_events c kept (Clear block) = 1
+most_events c kept (Extend block exit) = 1
+most_events c kept (TestEcb block) = 1
+most_events c kept (ReadVolume volume) = 1
+most_events c kept (WriteVolume volume number) = 1
+most_events c kept Allocate = 1
+most_events c kept (Pause token) = 2
+most_events c kept (Release token code) = 1
+most_events c kept (TryRelease token expected code) = 1
+most_events c kept (Transfer current target code) = transfer_events current
+most_events c kept (Deallocate token) = 1
+most_events c kept (TestElement element) = 1
+most_events c kept (Obtain latch requestor mode form) = obtain_events form
+most_events c kept (CheckLatch latch id) = 1
+most_events c kept (ReleaseLatch latch id conditional) = release_cost c
+most_events c kept (Purge requestor) = release_cost c
+most_events c kept (EndOfJob requestor block code) = release_cost c + reach c block
+most_events c kept (EndOfTask requestor mother code) =
+    length (endings.used_elements c kept) + release_cost c + mother_events c mother

@@ -1,0 +1,82 @@
+//! What a log says of its last event, and how many events calls may need: the laws of specs/Behind.antt, specs/Replies.antt
+//! and specs/Exits.antt.
+ghost use Rattle.std.specs.Prelude.{◌≡◌, ◌<◌, ◌≤◌, ◌+◌, ◌++◌, ◌∷◌, ℕ, suc, true, List, [], length};
+ghost use Rattle.mv_ecb.specs.declared.operation.EcbOp.{EcbOp};
+ghost use Rattle.mv_ecb.specs.Table.{ecb_step};
+ghost use Rattle.mv_element.specs.declared.operation.ElementOp.{ElementOp};
+ghost use Rattle.mv_element.specs.Table.{element_step};
+ghost use Rattle.mv_latch.specs.declared.operation.LatchOp.{LatchOp};
+ghost use Rattle.mv_latch.specs.declared.operation.Wake.{Wake};
+ghost use Rattle.mv_latch.specs.LatchSet.{latch_step};
+ghost use Rattle.mv_machine.specs.declared.entry.Entry.{Entry};
+ghost use Rattle.mv_machine.specs.declared.entry.Object.TheVariants.{Ecb, Element, Volume, Latches};
+ghost use Rattle.mv_machine.specs.declared.entry.Op.TheVariants as op_on;
+ghost use Rattle.mv_machine.specs.declared.entry.Reply.TheVariants as reply_of;
+ghost use Rattle.mv_machine.specs.declared.entry.VolumeOp.{VolumeOp};
+ghost use Rattle.mv_calls.specs.Behind.{IsBehind};
+ghost use Rattle.mv_machine.specs.Check.{IsValid};
+ghost use Rattle.mv_calls.specs.Exits.{NamesOwnExit, NameOwnExits, HaveFairWakes};
+ghost use Rattle.mv_machine.specs.Legal.{IsNext, Legal, after};
+ghost use Rattle.mv_machine.specs.Limits.{events_limit, highest_generation};
+ghost use Rattle.mv_machine.specs.Parts.{IsPossible};
+ghost use Rattle.mv_machine.specs.Reach.{reach, total};
+ghost use Rattle.mv_machine.specs.Replies.{IsOfKind, HasPlaceAsNumber, NamesUpTo};
+ghost use Rattle.mv_machine.specs.Setup.{Setup, is_exit_of};
+ghost use Rattle.mv_machine.specs.System.{System, volume_step};
+ghost use Rattle.mv_machine.specs.Told.{told};
+ghost use Rattle.mv_calls.specs.Keeping.{Kept};
+ghost use Rattle.mv_calls.specs.Made.{told_by, HaveTheirWakes};
+ghost use Rattle.mv_calls.specs.Posts.{post, targets_of};
+ghost use Rattle.mv_calls.specs.Program.{Heard, Says, entries};
+ghost use Rattle.mv_calls.specs.Services.{Service, program, most_events};
+
+/// The last entry of a possible log was the machine's next one, after a legal history of which the log before it is the
+/// caller's part. So its reply is of its operation's kind, and is what the table gives of the object's state; and an
+/// obtain that was granted or queued has its place as the request's number.
+pub fn last_event_is_the_machines()
+    ensures behind { (c : Setup) (k : ℕ) (log : List Entry) (e : Entry) (shown : List (List Wake))
+        → IsPossible c k (log ++ e ∷ []) shown → IsBehind c k log e shown }
+    ensures before { (c : Setup) (k : ℕ) (log : List Entry) (e : Entry) (shown : List (List Wake)) → (b : IsBehind c k log e shown)
+        → IsPossible c k log (told c k b.before) }
+    ensures kind { (c : Setup) (s : System) (e : Entry) → IsNext c s e → IsOfKind e.op e.reply }
+    ensures number { (c : Setup) (s : System) (e : Entry) → IsNext c s e → HasPlaceAsNumber e.place e.op e.reply }
+    ensures ecb { (c : Setup) (s : System) (e : Entry) (n : ℕ) (op : EcbOp) → IsNext c s e → e.object ≡ Ecb n → e.op ≡ op_on.Ecb op
+        → e.reply ≡ reply_of.Ecb (ecb_step op (s.ecb n).state).1 }
+    ensures element { (c : Setup) (s : System) (e : Entry) (n : ℕ) (op : ElementOp) → IsNext c s e → e.object ≡ Element n
+        → e.op ≡ op_on.Element op → e.reply ≡ reply_of.Element (element_step op (s.element n).state).1 }
+    ensures volume { (c : Setup) (s : System) (e : Entry) (n : ℕ) (op : VolumeOp) → IsNext c s e → e.object ≡ Volume n
+        → e.op ≡ op_on.Volume op → e.reply ≡ reply_of.Volume (volume_step op (s.volume n).state).1 }
+    ensures latch { (c : Setup) (s : System) (e : Entry) (op : LatchOp) → IsNext c s e → e.object ≡ Latches → e.op ≡ op_on.Latch op
+        → e.reply ≡ reply_of.Latch (latch_step e.caller s.latches.place op s.latches.state).1 }
+{}
+
+/// A generation in a reply has its 18 bits, within the events that the budgets of a run may allow.
+pub fn generations_in_replies()
+    ensures entries { (c : Setup) (xs ys : List Entry) (e : Entry) → Legal c (xs ++ e ∷ ys) → length (xs ++ e ∷ ys) ≤ events_limit
+        → NamesUpTo highest_generation e.reply }
+    ensures possible { (c : Setup) (k : ℕ) (log : List Entry) (e : Entry) (shown : List (List Wake)) → IsValid c
+        → IsPossible c k (log ++ e ∷ []) shown → NamesUpTo highest_generation e.reply }
+{}
+
+/// A block's reply names an exit of its own, if it names one. So a post, with the posts of its exits, makes at most as many
+/// events as its block's reach, where that is told exactly; and the targets of an exit reach less than its block.
+pub fn posts_reach()
+    ensures exits { (c : Setup) (es : List Entry) (e : Entry) → Legal c es → IsNext c (after c es) e
+        → NamesOwnExit c e.object e.reply }
+    ensures heard { (c : Setup) (k : ℕ) (log : List Entry) (hs : List Heard) (shown : List (List Wake))
+        → IsPossible c k (log ++ entries hs) shown → NameOwnExits c hs }
+    ensures post { (c : Setup) (code e : ℕ) (kept : Kept) (hs : List Heard) → reach c e ≤ events_limit → NameOwnExits c hs
+        → Says (post c e code kept) hs → length hs ≤ reach c e }
+    ensures targets { (c : Setup) (e x : ℕ) → IsValid c → e < length c.owners → is_exit_of c (suc x) e ≡ true → reach c e ≤ events_limit
+        → total (reach c) (targets_of c (suc x)) + 1 ≤ reach c e }
+{}
+
+/// Each call makes at most as many events as its row of the table says that it may need, where that is below 524,288: on events
+/// whose replies name own exits and whose wakes are fair; and so in a log that is possible, with what was told.
+pub fn calls_keep_to_their_events()
+    ensures few { (c : Setup) (kept : Kept) (s : Service) (hs : List Heard) → most_events c kept s ≤ events_limit → NameOwnExits c hs
+        → HaveFairWakes c hs → Says (program c s kept) hs → length hs ≤ most_events c kept s }
+    ensures possible { (c : Setup) (k : ℕ) (kept : Kept) (s : Service) (log : List Entry) (shown : List (List Wake)) (hs : List Heard)
+        → IsPossible c k (log ++ entries hs) (shown ++ told_by hs) → HaveTheirWakes hs → most_events c kept s ≤ events_limit
+        → Says (program c s kept) hs → length hs ≤ most_events c kept s }
+{}

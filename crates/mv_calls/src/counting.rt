@@ -1,0 +1,196 @@
+//! What is counted of each caller while its entries are numbered. `specs/Numbers.antt` says what a number is, and
+//! `specs/Counters.antt` how contracts see a counter.
+
+ghost use Rattle.std.specs.Prelude.{◌≡◌, ◌++◌, ◌<◌, ◌-◌, ◌^◌, [], reverse, length, IfOk, IfSome};
+ghost use Rattle.mv_calls.specs.Posts.{targets_of};
+ghost use Rattle.mv_calls.specs.Counters.{numbering_of};
+ghost use Rattle.mv_calls.specs.Numbers.{unnumbered, is_queued as is_queued_of, is_accepted as is_accepted_of, continues as continues_of, blocks_of, asked, kept_pending, numbered};
+
+use mv_ecb::{EcbOp, EcbReply};
+use mv_element::{ElementOp, ElementReply};
+use mv_io::NoMemory;
+use mv_latch::{LatchForm, LatchOp, LatchReply, Wake};
+use mv_machine::{Entry, Object, Op, Reply, ValidConfig};
+use std::alloc::Global;
+
+// What is kept of a caller: the number of its last group of entries, the blocks whose posts may still follow in that
+// group, of which the next lies on top, and its last entry.
+#[derive(Drop)]
+pub(crate) struct Counter {
+    group: u32,
+    pending: Vec<u32>,
+    last: Option<Entry>,
+}
+
+// Whether a request was queued for which its task waits.
+fn is_queued(entry: &Entry) -> bool
+    ensures { result ≡ is_queued_of entry.now.op entry.now.reply }
+{
+    match (entry.op, entry.reply) {
+        (
+            Op::Latch(
+                LatchOp::Obtain {
+                    form: LatchForm::Waiting,
+                    ..
+                },
+            ),
+            Reply::Latch(LatchReply::Queued(_)),
+        ) => true,
+        _ => false,
+    }
+}
+
+// Whether a release of an element was accepted.
+fn is_accepted(entry: &Entry) -> bool
+    ensures { result ≡ is_accepted_of entry.now.op entry.now.reply }
+{
+    match (entry.op, entry.reply) {
+        (Op::Element(ElementOp::Release(_, _)), Reply::Element(ElementReply::Early)) => true,
+        (Op::Element(ElementOp::Release(_, _)), Reply::Element(ElementReply::Woke)) => true,
+        _ => false,
+    }
+}
+
+// Puts blocks on top, the first of them topmost.
+fn push_blocks(stack: &mut Vec<u32>, blocks: &[u32]) -> Result<(), NoMemory>
+    ensures { IfOk result (λ _. reverse stack.new.items ≡ blocks.now ++ reverse stack.old.items) }
+{
+    let mut at = blocks.len();
+    while at > 0 {
+        at -= 1;
+        stack.push(blocks[at])?;
+    }
+    Ok(())
+}
+
+// The same of the blocks of wakes.
+fn push_wakes(stack: &mut Vec<u32>, wakes: &[Wake]) -> Result<(), NoMemory>
+    ensures { IfOk result (λ _. reverse stack.new.items ≡ blocks_of wakes.now ++ reverse stack.old.items) }
+{
+    let mut at = wakes.len();
+    while at > 0 {
+        at -= 1;
+        if let Some(ecb) = wakes[at].ecb {
+            stack.push(ecb)?;
+        }
+    }
+    Ok(())
+}
+
+// Puts the targets of an exit on top. Exit 0 has none.
+#[tactic(auto, using(crate::proofs::call_numbers::Targets::targets_found, crate::proofs::call_numbers::Targets::targets_missing))]
+fn push_targets(stack: &mut Vec<u32>, config: &ValidConfig, exit: u32) -> Result<(), NoMemory>
+    ensures { IfOk result (λ _. reverse stack.new.items ≡ targets_of config.now exit ++ reverse stack.old.items) }
+{
+    if exit == 0 {
+        return Ok(());
+    }
+    match config.config().exits.get(exit as usize - 1) {
+        Some(found) => push_blocks(stack, &found.targets),
+        None => Ok(()),
+    }
+}
+
+impl Counter {
+    // Before the first entry.
+    pub(crate) fn new(alloc: Global) -> Counter
+        ensures { numbering_of result ≡ unnumbered }
+    {
+        Counter {
+            group: 0,
+            pending: Vec::new(alloc),
+            last: None,
+        }
+    }
+
+    // Whether an entry continues the group.
+    fn continues(&self, object: Object, op: Op) -> bool
+        ensures { result ≡ continues_of (numbering_of self.now) object op }
+    {
+        match (object, op) {
+            (Object::Ecb(_), Op::Ecb(EcbOp::Settle)) => true,
+            (Object::Ecb(_), Op::Ecb(EcbOp::Arm)) => match &self.last {
+                Some(last) => match last.op {
+                    Op::Ecb(EcbOp::Arm) => true,
+                    _ => false,
+                },
+                None => false,
+            },
+            (Object::Ecb(ecb), Op::Ecb(EcbOp::Post(_))) => match self.pending.last() {
+                Some(first) => ecb == *first,
+                None => false,
+            },
+            (Object::Element(_), Op::Element(ElementOp::Resume(_))) => true,
+            (Object::Element(_), Op::Element(ElementOp::Pause(_))) => match &self.last {
+                Some(last) => is_accepted(last),
+                None => false,
+            },
+            (Object::Latches, Op::Latch(LatchOp::Confirm { .. })) => match &self.last {
+                Some(last) => is_queued(last),
+                None => false,
+            },
+            _ => false,
+        }
+    }
+
+    // Takes the first pending block off, where the entry is its post, and otherwise all.
+    fn keep(&mut self, object: Object, op: Op)
+        ensures pending { reverse self.new.pending.items ≡ kept_pending (reverse self.old.pending.items) object op }
+        ensures group { self.new.group ≡ self.old.group }
+        ensures last { self.new.last ≡ self.old.last }
+    {
+        if let (Object::Ecb(ecb), Op::Ecb(EcbOp::Post(_))) = (object, op) {
+            if let Some(first) = self.pending.pop() {
+                if first == ecb {
+                    return;
+                }
+            }
+        }
+        self.pending.clear();
+    }
+
+    // Puts the blocks that an entry asks for on top.
+    fn ask(&mut self, config: &ValidConfig, entry: &Entry, wakes: &[Wake]) -> Result<(), NoMemory>
+        ensures pending { IfOk result (λ _. reverse self.new.pending.items
+            ≡ asked config.now entry.now.object entry.now.op entry.now.reply wakes.now ++ reverse self.old.pending.items) }
+        ensures group { self.new.group ≡ self.old.group }
+        ensures last { self.new.last ≡ self.old.last }
+    {
+        match (entry.object, entry.op) {
+            (Object::Ecb(_), Op::Ecb(EcbOp::Post(_))) => match entry.reply {
+                Reply::Ecb(EcbReply::Woke(exit)) => push_targets(&mut self.pending, config, exit),
+                _ => Ok(()),
+            },
+            (Object::Latches, Op::Latch(LatchOp::Release { .. })) => match entry.reply {
+                Reply::Latch(LatchReply::Released { .. }) => push_wakes(&mut self.pending, wakes),
+                _ => Ok(()),
+            },
+            (Object::Latches, Op::Latch(LatchOp::Purge { .. })) => push_wakes(
+                &mut self.pending,
+                wakes,
+            ),
+            _ => Ok(()),
+        }
+    }
+
+    // One more entry of the caller, with its wakes: its number.
+    pub(crate) fn count(
+        &mut self,
+        config: &ValidConfig,
+        entry: &Entry,
+        wakes: &[Wake],
+    ) -> Result<u32, NoMemory>
+        requires { self.old.group < 2 ^ 32 - 1 }
+        ensures number { IfOk result (λ n. n ≡ (numbered config.now (numbering_of self.old) entry.now wakes.now).group) }
+        ensures after { IfOk result (λ _. numbering_of self.new ≡ numbered config.now (numbering_of self.old) entry.now wakes.now) }
+    {
+        let continued = self.continues(entry.object, entry.op);
+        if self.last.is_some() && !continued {
+            self.group += 1;
+        }
+        self.keep(entry.object, entry.op);
+        self.ask(config, entry, wakes)?;
+        self.last = Some(*entry);
+        Ok(self.group)
+    }
+}

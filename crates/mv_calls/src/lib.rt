@@ -1,0 +1,25 @@
+//! What each call of the services does, event by event, as a program of what its task hears; what a task keeps of its own log;
+//! and what it knows by that of the machine, whatever other tasks do. `number_calls` tells to which call of its caller each entry of
+//! a history belongs.
+#![tactic(auto)]
+
+mod call_laws;
+mod calls_replaying;
+mod counting;
+mod keeping_laws;
+mod latch_laws;
+mod numbering;
+
+pub use call_laws::{
+    calls_keep_to_their_events, generations_in_replies, last_event_is_the_machines, posts_reach,
+};
+pub use calls_replaying::{CallsRefusal, replay_calls};
+pub use keeping_laws::{keeping_agrees, own_blocks_answer, own_elements_answer};
+pub use latch_laws::{
+    latches_answer, quotas_hold, requests_at_rest, requests_leave_by_purges, requests_stay,
+    wakes_are_in_range,
+};
+pub use numbering::number_calls;
+
+#[cfg(test)]
+mod numbered_rows;

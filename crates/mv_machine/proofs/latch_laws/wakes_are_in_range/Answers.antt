@@ -1,9 +1,0 @@
--- The laws are the lemmas.
-use Rattle.mv_machine.proofs.Uses.{wakes_of_next, wakes_heard}
-use Rattle.mv_machine.proofs.latch_laws.wakes_are_in_range.Goals as goal
-
-pub returns-clause-wakes : goal.returns-clause-wakes
-returns-clause-wakes c = wakes_of_next
-
-pub returns-clause-heard : goal.returns-clause-heard
-returns-clause-heard c = wakes_heard

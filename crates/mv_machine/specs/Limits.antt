@@ -1,0 +1,30 @@
+-- The limits of a run, by their names.
+use Rattle.std.specs.Prelude.{ℕ}
+
+-- how many events a run may have. A place counts them in 19 bits, and so many are the most that it can count
+abbrev pub events_limit : ℕ
+events_limit = 524287
+
+-- the highest place that an entry may have: places count from 0
+abbrev pub highest_place : ℕ
+highest_place = 524286
+
+-- the highest generation that so many events lead an element to: two of them at least go into each
+abbrev pub highest_generation : ℕ
+highest_generation = 262143
+
+-- how many event control blocks a configuration may have
+abbrev pub ecbs_limit : ℕ
+ecbs_limit = 131072
+
+-- how many exits it may have
+abbrev pub exits_limit : ℕ
+exits_limit = 32768
+
+-- how many blocks an exit may post
+abbrev pub targets_limit : ℕ
+targets_limit = 8
+
+-- the highest number of posts that is told apart: it stands for all above it, too
+abbrev pub highest_reach : ℕ
+highest_reach = 524288
