@@ -21,7 +21,7 @@ use Rattle.mv_deck.specs.declared.form.Form.{Form}
 use Rattle.mv_deck.specs.declared.form.Form.TheVariants as form
 use Rattle.mv_deck.specs.declared.form.Part.{Part}
 use Rattle.mv_deck.specs.declared.form.Version.{Version}
-use Rattle.mv_deck.specs.Line.{lines_of}
+use Rattle.mv_line.specs.Line.{lines_of}
 use Rattle.mv_deck.specs.Operand.{is_name}
 use Rattle.mv_deck.specs.Statement.{Statement, JobOf, AfterPart, statement_of, statements_of}
 use Rattle.mv_deck.specs.Form.{stated, part_data, bytes_behind, listed}

@@ -1,5 +1,6 @@
 -- The reader behind one more statement.
-use Rattle.std.proofs.Common.{◌≡◌, ℕ, ◌+◌, ◌*◌, ◌<◌, Bool, true, false, ◌||◌, List, [], ◌∷◌, ◌++◌, length, map, Option, Some, None, refl, sym, ap, subst, ◌∙◌, arith, rules, length-append, bytes_eq, if◌then◌else◌}
+use Rattle.std.proofs.Common.{◌≡◌, ℕ, ◌+◌, ◌*◌, ◌<◌, Bool, true, false, ◌||◌, List, [], ◌∷◌, ◌++◌, length, map, Option, Some, None, refl}
+use Rattle.std.proofs.Common.{sym, ap, subst, ◌∙◌, arith, rules, length-append, bytes_eq, if◌then◌else◌}
 use Rattle.std.specs.Prelude.{IsSome, is_some, unwrap_or, nat_lt}
 use Rattle.std.specs.List.{list_any}
 use Rattle.std.proofs.lemmas.List.{length-map}
@@ -65,7 +66,8 @@ behind_null n v sts r b = record {
   initiators_are = b.initiators_are;
   version = b.version;
   jobs = b.jobs ∙ sym (jobs-push sts Null);
-  kept = subst (λ (x : List JobData). Keeps n x (record r { stated = true; ended = true })) (sym (jobs-push sts Null)) (record { named = b.kept.named; latched = b.kept.latched; closed = b.kept.closed; room = b.kept.room });
+  kept = subst (λ (x : List JobData). Keeps n x (record r { stated = true; ended = true })) (sym (jobs-push sts Null))
+      (record { named = b.kept.named; latched = b.kept.latched; closed = b.kept.closed; room = b.kept.room });
   begun = b.begun ∙ sym (same_any is_job sts Null refl);
   stated = sym (some_stated sts Null);
   ended = sym (some_any is_null sts Null refl);
@@ -78,7 +80,8 @@ behind_deck n v sts r word b = record {
   initiators_are = b.initiators_are;
   version = b.version;
   jobs = b.jobs ∙ sym (jobs-push sts (DeckOf word));
-  kept = subst (λ (x : List JobData). Keeps n x (record r { stated = true })) (sym (jobs-push sts (DeckOf word))) (record { named = b.kept.named; latched = b.kept.latched; closed = b.kept.closed; room = b.kept.room });
+  kept = subst (λ (x : List JobData). Keeps n x (record r { stated = true })) (sym (jobs-push sts (DeckOf word)))
+      (record { named = b.kept.named; latched = b.kept.latched; closed = b.kept.closed; room = b.kept.room });
   begun = b.begun ∙ sym (same_any is_job sts (DeckOf word) refl);
   stated = sym (some_stated sts (DeckOf word));
   ended = b.ended ∙ sym (same_any is_null sts (DeckOf word) refl);
@@ -109,7 +112,8 @@ pub job_weight : (n : ℕ) (jobs : List JobData) (name : List ℕ) (after : List
     → weight (jobs ++ fresh_job jobs name after ∷ []) n ≡ weight jobs n + (8 + 9 * n + 2 * length after)
 job_weight n jobs name after =
     let count : length (map (after_of jobs) after) ≡ length after = length-map after (after_of jobs) in
-    let added : weight jobs n + (8 + 9 * n + 2 * length (map (after_of jobs) after) + n * 0) ≡ weight jobs n + (8 + 9 * n + 2 * length after) = ap (λ (x : ℕ). weight jobs n + x) (omega (arith, count)) in
+    let added : weight jobs n + (8 + 9 * n + 2 * length (map (after_of jobs) after) + n * 0) ≡ weight jobs n +
+    (8 + 9 * n + 2 * length after) = ap (λ (x : ℕ). weight jobs n + x) (omega (arith, count)) in
     weight-push jobs (fresh_job jobs name after) n ∙ added
 
 -- what is added to the weight is taken from the room
@@ -125,10 +129,12 @@ kept_by_job n jobs name after r next k new g =
     let steps = last_steps-push jobs j in
     let heavier = job_weight n jobs name after in
     record {
-      named = λ q. g.names q ∙ ap (λ (x : Option ℕ). if bytes_eq name q then Some (length jobs) else x) (k.named q) ∙ sym (place-push jobs j new q);
+      named = λ q. g.names q ∙ ap (λ (x : Option ℕ). if bytes_eq name q then Some (length jobs) else x) (k.named q)
+          ∙ sym (place-push jobs j new q);
       latched = g.held_none ∙ ap (λ (x : List Step). map (held x) latches) (sym steps);
       closed = g.closed ∙ ap (list_any is_end) (sym steps);
-      room = room_left next.room (8 + 9 * n + 2 * length after) r.room (weight jobs n) (weight (jobs ++ j ∷ []) n) heaviest g.room heavier k.room;
+      room = room_left next.room (8 + 9 * n + 2 * length after) r.room (weight jobs n) (weight (jobs ++ j ∷ []) n) heaviest g.room heavier
+          k.room;
     }
 
 -- the reader behind a JOB
@@ -139,7 +145,8 @@ behind_job n v sts r next name after b new g = record {
   initiators_are = g.initiators_are ∙ b.initiators_are;
   version = g.version ∙ b.version;
   jobs = g.jobs_are ∙ sym (jobs-push sts (JobOf name after));
-  kept = subst (λ (x : List JobData). Keeps n x next) (sym (jobs-push sts (JobOf name after))) (kept_by_job n (jobs_of sts) name after r next b.kept new g);
+  kept = subst (λ (x : List JobData). Keeps n x next) (sym (jobs-push sts (JobOf name after)))
+      (kept_by_job n (jobs_of sts) name after r next b.kept new g);
   begun = is_begun next.name g.begun ∙ sym (some_any is_job sts (JobOf name after) refl);
   stated = g.stated ∙ sym (some_stated sts (JobOf name after));
   ended = g.ended ∙ b.ended ∙ sym (same_any is_null sts (JobOf name after) refl);
@@ -171,9 +178,12 @@ kept_by_step n jobs j step r next k going g =
     let heavier = weight-step jobs j step n in
     record {
       named = λ q. ap (λ x. place_in x q) g.names ∙ k.named q ∙ sym (place-step jobs j step q);
-      latched = g.latched j.steps (k.latched ∙ ap (λ (x : List Step). map (held x) latches) old) ∙ ap (λ (x : List Step). map (held x) latches) (sym new);
-      closed = g.closed ∙ sym (ended-push j.steps step (ap (list_any is_end) (sym old) ∙ sym k.closed ∙ going)) ∙ ap (list_any is_end) (sym new);
-      room = room_left next.room (n * step_events step) r.room (weight (jobs ++ j ∷ []) n) (weight (jobs ++ stepped j step ∷ []) n) heaviest g.room heavier k.room;
+      latched = g.latched j.steps (k.latched ∙ ap (λ (x : List Step). map (held x) latches) old)
+          ∙ ap (λ (x : List Step). map (held x) latches) (sym new);
+      closed = g.closed ∙ sym (ended-push j.steps step (ap (list_any is_end) (sym old) ∙ sym k.closed ∙ going)) ∙ ap (list_any is_end)
+          (sym new);
+      room = room_left next.room (n * step_events step) r.room (weight (jobs ++ j ∷ []) n)
+          (weight (jobs ++ stepped j step ∷ []) n) heaviest g.room heavier k.room;
     }
 
 -- the last job of a reader that has begun one
@@ -200,12 +210,14 @@ behind_step n v sts s step r next b is begun going g =
     let before : jobs_of sts ≡ js ++ j ∷ [] = sym b.jobs ∙ jobs_of_named r name.0 name.1 in
     let behind : jobs_of (sts ++ s ∷ []) ≡ js ++ stepped j step ∷ [] =
     jobs-push sts s ∙ is_a.behind (jobs_of sts) ∙ ap (λ (x : List JobData). with_step x step) before ∙ with_step-push js j step in
-    let read : jobs_read next ≡ js ++ stepped j step ∷ [] = jobs_of_named next name.0 (g.name ∙ name.1) ∙ rw (g.finished, g.after, g.steps) refl in
+    let read : jobs_read next ≡ js ++ stepped j step ∷ [] = jobs_of_named next name.0 (g.name ∙ name.1)
+    ∙ rw (g.finished, g.after, g.steps) refl in
     record {
       initiators_are = g.initiators_are ∙ b.initiators_are;
       version = g.version ∙ b.version;
       jobs = read ∙ sym behind;
-      kept = subst (λ (x : List JobData). Keeps n x next) (sym behind) (kept_by_step n js j step r next (subst (λ (x : List JobData). Keeps n x r) before b.kept) going g);
+      kept = subst (λ (x : List JobData). Keeps n x next) (sym behind)
+          (kept_by_step n js j step r next (subst (λ (x : List JobData). Keeps n x r) before b.kept) going g);
       begun = ap is_some g.name ∙ b.begun ∙ sym (same_any is_job sts s is_a.no_job);
       stated = g.stated ∙ b.stated ∙ stated_before is_job sts (sym b.begun ∙ begun) ∙ sym (some_stated sts s);
       ended = g.ended ∙ b.ended ∙ sym (same_any is_null sts s is_a.no_null);
@@ -256,7 +268,8 @@ new_name sts name after g = go (place_of (jobs_of sts) name) g.new where
 pub heavy_jobs : (n : ℕ) (jobs : List JobData) (r : Reading) → jobs_read r ≡ jobs → heaviest < length r.finished.items
     → heaviest < weight jobs n
 heavy_jobs n jobs r e lt =
-    let count : length jobs ≡ length (map job_data r.finished.items) + length (open_job r.name r.after.items r.steps.items) = ap length (sym e) ∙ length-append (map job_data r.finished.items) _ in
+    let count : length jobs ≡ length (map job_data r.finished.items) + length (open_job r.name r.after.items r.steps.items) = ap length
+    (sym e) ∙ length-append (map job_data r.finished.items) _ in
     let same : length (map job_data r.finished.items) ≡ length r.finished.items = length-map r.finished.items job_data in
     omega (arith, count, same)
 

@@ -1,5 +1,6 @@
 -- What the reader asks of a JOB and of a line, in the words of its faults.
-use Rattle.std.proofs.Common.{◌≡◌, ℕ, ◌<◌, ◌≤◌, Bool, true, false, not, ◌||◌, List, [], ◌∷◌, ◌++◌, length, map, Option, Some, Result, is_none, option_map, MatchResult, refl, sym, ap, subst, ◌∙◌, arith}
+use Rattle.std.proofs.Common.{◌≡◌, ℕ, ◌<◌, ◌≤◌, Bool, true, false, not, ◌||◌, List, [], ◌∷◌, ◌++◌, length, map, Option, Some, Result}
+use Rattle.std.proofs.Common.{is_none, option_map, MatchResult, refl, sym, ap, subst, ◌∙◌, arith}
 use Rattle.std.specs.Prelude.{option_to_list, nat_lt}
 use Rattle.std.specs.List.{list_any}
 use Rattle.std.proofs.lemmas.List.{length-map}
@@ -8,12 +9,15 @@ use Rattle.mv_deck.specs.declared.form.Part.{Part}
 use Rattle.mv_deck.specs.declared.form.Version.{Version}
 use Rattle.mv_deck.specs.declared.names.Names.{Names}
 use Rattle.mv_deck.specs.declared.reading.Reading.{Reading}
-use Rattle.mv_deck.specs.Line.{without_cr, without_last_spaces, shown, is_empty, is_comment}
-use Rattle.mv_deck.specs.Operand.{is_name, is_within}
+use Rattle.mv_line.specs.Line.{without_cr, without_last_spaces}
+use Rattle.mv_deck.specs.Line.{shown, is_empty, is_comment}
+use Rattle.mv_line.specs.Byte.{is_printable}
+use Rattle.mv_deck.specs.Operand.{is_name}
 use Rattle.mv_deck.specs.Statement.{Statement, JobOf, AfterPart, form_of, statement_of}
 use Rattle.mv_deck.specs.Form.{part_data, bytes_behind}
 use Rattle.mv_deck.specs.Deck.{JobData, place_of}
-use Rattle.mv_deck.specs.Fault.{has_bad_name, has_bad_number, awaits_no_job, accepts_no_code, is_crowded, has_double, has_foreign_byte, is_too_long, kinds_of, kinds_of_statement}
+use Rattle.mv_deck.specs.Fault.{has_bad_name, has_bad_number, awaits_no_job, accepts_no_code, is_crowded, has_double, has_foreign_byte}
+use Rattle.mv_deck.specs.Fault.{is_too_long, kinds_of, kinds_of_statement}
 use Rattle.mv_deck.specs.Names.{place_in}
 use Rattle.mv_deck.specs.Reading.{IsBehind, Tells}
 use Rattle.mv_deck.proofs.Mapped.{any-map}
@@ -61,11 +65,13 @@ module _ (name : List ℕ) (parts : List Part) where
       → awaits_no_job jobs job ≡ list_any (λ (p : Part). is_none (place_in names p.name.now)) parts
   unknown_are jobs names same =
       any-map (λ (p : AfterPart). is_none (place_of jobs p.name)) part_data parts
-      ∙ any_same (λ (p : Part). is_none (place_of jobs p.name.now)) (λ (p : Part). is_none (place_in names p.name.now)) (λ p. ap is_none (sym (same p.name.now))) parts
+      ∙ any_same (λ (p : Part). is_none (place_of jobs p.name.now)) (λ (p : Part). is_none (place_in names p.name.now))
+      (λ p. ap is_none (sym (same p.name.now))) parts
 
   -- more than eight names
   pub too_many : 8 < length parts → is_crowded job ≡ true
-  too_many lt = let more : nat_lt 8 (length (map part_data parts)) ≡ true = rw (length-map parts part_data) (grind arith) in rw more (or_true (has_double (map part_data parts)))
+  too_many lt = let more : nat_lt 8 (length (map part_data parts)) ≡ true = rw (length-map parts part_data) (grind arith) in
+      rw more (or_true (has_double (map part_data parts)))
 
   -- a name twice
   pub doubled : has_double (map part_data parts) ≡ true → is_crowded job ≡ true
@@ -73,7 +79,8 @@ module _ (name : List ℕ) (parts : List Part) where
 
   -- at most eight names, none twice
   pub few : length parts ≤ 8 → has_double (map part_data parts) ≡ false → is_crowded job ≡ false
-  few le e = let no_more : nat_lt 8 (length (map part_data parts)) ≡ false = rw (length-map parts part_data) (grind arith) in rw (e, no_more) refl
+  few le e = let no_more : nat_lt 8 (length (map part_data parts)) ≡ false = rw (length-map parts part_data) (grind arith) in
+      rw (e, no_more) refl
 
 -- ---- a line that has a form
 
@@ -90,14 +97,14 @@ is_stated n v earlier line s a b c d e =
 
 -- the same, by what was cut of the line
 pub is_shown : (n : ℕ) (v : Version) (earlier : List Statement) (line content text : List ℕ) (s : Statement)
-    → content ≡ without_cr line → text ≡ without_last_spaces content → list_any (λ b. not (is_within 32 126 b)) content ≡ false
+    → content ≡ without_cr line → text ≡ without_last_spaces content → list_any (λ b. not (is_printable b)) content ≡ false
     → length content ≤ 80
     → is_empty text ≡ false → is_comment text ≡ false → form_of v text ≡ Some s → IsStated n v earlier line s
 is_shown n v earlier line content text s same cut a b c d e =
     let all : text ≡ shown line = cut ∙ ap without_last_spaces same in
     let fits : nat_lt 80 (length content) ≡ false = grind arith in
     is_stated n v earlier line s
-    (ap (list_any (λ b. not (is_within 32 126 b))) (sym same) ∙ a)
+    (ap (list_any (λ b. not (is_printable b))) (sym same) ∙ a)
     (ap (λ (x : List ℕ). nat_lt 80 (length x)) (sym same) ∙ fits)
     (ap is_empty (sym all) ∙ c)
     (ap is_comment (sym all) ∙ d)
@@ -105,12 +112,16 @@ is_shown n v earlier line content text s same cut a b c d e =
 
 -- what became of a line or a statement of which these are the kinds and the statements
 abbrev pub Taken : {A : Type 0} → ℕ → Version → List Statement → List ℕ → List Statement → Reading → Result A LineRefusal → Type 0
-Taken n v earlier kinds statements next result = MatchResult result (λ _. (kinds ≡ []) × IsBehind n v (earlier ++ statements) next) (λ e. Tells e kinds)
+Taken n v earlier kinds statements next result = MatchResult result (λ _. (kinds ≡ []) × IsBehind n v (earlier ++ statements) next)
+    (λ e. Tells e kinds)
 
 -- what becomes of a statement becomes of its line
-pub taken : {A : Type 0} (n : ℕ) (v : Version) (earlier : List Statement) (line : List ℕ) (s : Statement) (next : Reading) (result : Result A LineRefusal)
+pub taken : {A : Type 0} (n : ℕ) (v : Version) (earlier : List Statement) (line : List ℕ) (s : Statement) (next : Reading)
+    (result : Result A LineRefusal)
     → IsStated n v earlier line s
-    → Taken n v earlier (kinds_of_statement n earlier (Some s)) (s ∷ []) next result → Taken n v earlier (kinds_of n v earlier line) (option_to_list (statement_of v line)) next result
+    → Taken n v earlier (kinds_of_statement n earlier (Some s)) (s ∷ []) next result → Taken n v earlier (kinds_of n v earlier line)
+    (option_to_list (statement_of v line)) next result
 taken n v earlier line s next result is h =
     subst (λ (k : List ℕ). Taken n v earlier k (option_to_list (statement_of v line)) next result) (sym is.kinds)
-    (subst (λ (o : Option Statement). Taken n v earlier (kinds_of_statement n earlier (Some s)) (option_to_list o) next result) (sym is.statement) h)
+    (subst (λ (o : Option Statement). Taken n v earlier (kinds_of_statement n earlier (Some s)) (option_to_list o) next result)
+    (sym is.statement) h)

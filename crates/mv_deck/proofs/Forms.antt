@@ -2,7 +2,7 @@
 use Rattle.std.proofs.Common.{◌≡◌, ℕ, ◌+◌, Bool, List, [], ◌∷◌, length, Option, Some, None, refl, sym, ap, ◌∙◌, bytes_eq}
 use Rattle.std.specs.Borrow.{Bor}
 use Rattle.mv_deck.specs.declared.form.Version.{Version}
-use Rattle.mv_deck.specs.Line.{fields_of, starts_fields}
+use Rattle.mv_line.specs.Field.{fields_of, starts_fields}
 use Rattle.mv_deck.specs.Statement.{operation_of, operated}
 
 -- the first field is the operation

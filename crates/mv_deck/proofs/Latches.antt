@@ -1,5 +1,6 @@
 -- What the array of eight latches says of them.
-use Rattle.std.proofs.Common.{◌≡◌, ℕ, zero, suc, ◌≤◌, ◌==◌, List, ◌∷◌, ◌++◌, [], map, drop, set, Option, Some, None, is_some, slice_index_or, refl, sym, ◌∙◌, arith, if◌then◌else◌}
+use Rattle.std.proofs.Common.{◌≡◌, ℕ, zero, suc, ◌≤◌, ◌==◌, List, ◌∷◌, ◌++◌, [], map, drop, set, Option, Some, None, is_some}
+use Rattle.std.proofs.Common.{slice_index_or, refl, sym, ◌∙◌, arith, if◌then◌else◌}
 use Rattle.std.specs.List.{list_any}
 use Rattle.std.proofs.lemmas.List.Sums.{fold_push}
 use Rattle.mv_latch.specs.declared.request.Mode.{Mode}

@@ -1,5 +1,5 @@
--- lines, fields and parts, and the forms of lines
-pub mod Lines
+-- lists and their parts, and the forms of lines
+pub mod Commas
 pub mod Forms
 -- held latches
 pub mod Latches

@@ -4,7 +4,8 @@ use Rattle.std.specs.Prelude.{codes}
 use Rattle.mv_latch.specs.declared.request.Mode.TheVariants.{Shared, Exclusive}
 use Rattle.mv_deck.specs.declared.deck.Step.TheVariants.{Print, Use, Free, Count, Scan, Return}
 use Rattle.mv_deck.specs.declared.form.Version.TheVariants.{One, Two}
-use Rattle.mv_deck.specs.Line.{lines_of, without_cr, fields_of}
+use Rattle.mv_line.specs.Line.{lines_of, without_cr}
+use Rattle.mv_line.specs.Field.{fields_of}
 use Rattle.mv_deck.specs.Operand.{latch_of, amount_of, code_of, end_code_of}
 use Rattle.mv_deck.specs.Statement.{Null, JobOf, PrintOf, UseOf, CountOf, AbendOf, ReturnOf, form_of, statement_of, version_of}
 use Rattle.mv_deck.specs.Deck.{JobData, deck_of}
@@ -39,13 +40,15 @@ the_null_statement = refl
 a_job : form_of One (codes "//JOB JOB") ≡ Some (JobOf (codes "JOB") [])
 a_job = refl
 
-a_list_with_an_empty_part : form_of One (codes "//B JOB AFTER=A,") ≡ Some (JobOf (codes "B") (record { name = codes "A"; most = None } ∷ record { name = []; most = None } ∷ []))
+a_list_with_an_empty_part : form_of One (codes "//B JOB AFTER=A,") ≡ Some
+    (JobOf (codes "B") (record { name = codes "A"; most = None } ∷ record { name = []; most = None } ∷ []))
 a_list_with_an_empty_part = refl
 
 a_part_of_version_1 : form_of One (codes "//B JOB AFTER=A:4") ≡ Some (JobOf (codes "B") (record { name = codes "A:4"; most = None } ∷ []))
 a_part_of_version_1 = refl
 
-a_part_of_version_2 : form_of Two (codes "//B JOB AFTER=A:4:2") ≡ Some (JobOf (codes "B") (record { name = codes "A"; most = Some (codes "4:2") } ∷ []))
+a_part_of_version_2 : form_of Two (codes "//B JOB AFTER=A:4:2") ≡ Some
+    (JobOf (codes "B") (record { name = codes "A"; most = Some (codes "4:2") } ∷ []))
 a_part_of_version_2 = refl
 
 no_list : form_of Two (codes "//B JOB AFTER") ≡ None
@@ -137,14 +140,19 @@ no_user_4096 = refl
 
 abbrev small : List ℕ
 small =
-    codes "// DECK 2" ++ lf ++ codes "//LOAD JOB" ++ lf ++ codes "// PRINT ROWS 9" ++ lf ++ codes "// RETURN 4" ++ lf ++ codes "//REPORT JOB AFTER=LOAD:4" ++ lf ++ codes "// PRINT OK" ++ lf
+    codes "// DECK 2" ++ lf ++ codes "//LOAD JOB" ++ lf ++ codes "// PRINT ROWS 9" ++ lf ++ codes "// RETURN 4" ++ lf
+    ++ codes "//REPORT JOB AFTER=LOAD:4" ++ lf ++ codes "// PRINT OK" ++ lf
     ++ codes "//CLEAN JOB AFTER=LOAD,REPORT:8" ++ lf ++ codes "// PRINT CLEANED" ++ lf ++ codes "//"
 
 abbrev small_jobs : List JobData
 small_jobs =
     record { name = codes "LOAD"; after = []; steps = Print (codes "ROWS 9") ∷ Return 4 ∷ [] }
     ∷ record { name = codes "REPORT"; after = record { job = 0; most = 4 } ∷ []; steps = Print (codes "OK") ∷ [] }
-    ∷ record { name = codes "CLEAN"; after = record { job = 0; most = 0 } ∷ record { job = 1; most = 8 } ∷ []; steps = Print (codes "CLEANED") ∷ [] }
+    ∷ record {
+      name = codes "CLEAN";
+      after = record { job = 0; most = 0 } ∷ record { job = 1; most = 8 } ∷ [];
+      steps = Print (codes "CLEANED") ∷ [];
+    }
     ∷ []
 
 small_deck : deck_of small ≡ small_jobs
@@ -161,7 +169,8 @@ small_has_no_fault = refl
 
 abbrev counting : List ℕ
 counting =
-    codes "//A JOB" ++ lf ++ codes "// USE 1 X" ++ lf ++ codes "// COUNT 1 9999" ++ lf ++ codes "// SCAN 1" ++ lf ++ codes "// FREE 1" ++ lf ++ codes "//B JOB" ++ lf
+    codes "//A JOB" ++ lf ++ codes "// USE 1 X" ++ lf ++ codes "// COUNT 1 9999" ++ lf ++ codes "// SCAN 1" ++ lf ++ codes "// FREE 1"
+    ++ lf ++ codes "//B JOB" ++ lf
     ++ codes "// USE 1 S" ++ lf ++ codes "// SCAN 1" ++ lf ++ codes "//"
 
 abbrev counting_jobs : List JobData
@@ -182,7 +191,8 @@ counting_has_no_fault = refl
 
 -- ---- first faults
 
-a_lower_latch : first_fault (codes "//A JOB" ++ lf ++ codes "// USE 3 X" ++ lf ++ codes "// USE 1 S" ++ lf ++ codes "//") 1 ≡ Some (fault_at 3 9)
+a_lower_latch : first_fault (codes "//A JOB" ++ lf ++ codes "// USE 3 X" ++ lf ++ codes "// USE 1 S" ++ lf ++ codes "//") 1 ≡ Some
+    (fault_at 3 9)
 unfolding faults_from
 a_lower_latch = refl
 
@@ -194,7 +204,8 @@ a_use_before_any_job : first_fault (codes "// USE 1 S") 1 ≡ Some (fault_at 1 1
 unfolding faults_from
 a_use_before_any_job = refl
 
-a_count_under_a_shared_latch : first_fault (codes "//A JOB" ++ lf ++ codes "// USE 0 S" ++ lf ++ codes "// COUNT 0 1" ++ lf ++ codes "//") 1 ≡ Some (fault_at 3 10)
+a_count_under_a_shared_latch : first_fault (codes "//A JOB" ++ lf ++ codes "// USE 0 S" ++ lf ++ codes "// COUNT 0 1" ++ lf ++ codes "//")
+    1 ≡ Some (fault_at 3 10)
 unfolding faults_from
 a_count_under_a_shared_latch = refl
 
@@ -210,7 +221,8 @@ a_late_deck : first_fault (codes "//A JOB" ++ lf ++ codes "// DECK 2" ++ lf ++ c
 unfolding faults_from
 a_late_deck = refl
 
-an_ended_job : first_fault (codes "// DECK 2" ++ lf ++ codes "//A JOB" ++ lf ++ codes "// RETURN 0" ++ lf ++ codes "// DECK 2") 1 ≡ Some (fault_at 4 13)
+an_ended_job : first_fault (codes "// DECK 2" ++ lf ++ codes "//A JOB" ++ lf ++ codes "// RETURN 0" ++ lf ++ codes "// DECK 2") 1 ≡ Some
+    (fault_at 4 13)
 unfolding faults_from
 an_ended_job = refl
 

@@ -1,5 +1,7 @@
 -- A text without fault states a sound deck.
-use Rattle.std.proofs.Common.{◌≡◌, ℕ, ◌+◌, ◌<◌, ◌≤◌, ◌^◌, Bool, true, false, not, ◌&&◌, ◌||◌, ◌==◌, List, [], ◌∷◌, ◌++◌, length, map, Option, Some, None, is_none, is_some, option_map, refl, sym, ap, subst, ◌∙◌, arith, append_assoc, bytes_eq, if◌then◌else◌}
+use Rattle.std.proofs.Common.{◌≡◌, ℕ, ◌+◌, ◌<◌, ◌≤◌, ◌^◌, Bool, true, false, not, ◌&&◌, ◌||◌, ◌==◌, List, [], ◌∷◌, ◌++◌, length, map}
+use Rattle.std.proofs.Common.{Option, Some, None, is_none, is_some, option_map, refl, sym, ap, subst, ◌∙◌, arith, append_assoc, bytes_eq}
+use Rattle.std.proofs.Common.{if◌then◌else◌}
 use Rattle.std.proofs.lemmas.List.{append-nil, length-map}
 use Rattle.std.proofs.lemmas.Slice.Eq.{bytes_eq-Decides}
 use Rattle.std.specs.Prelude.{nat_lt, unwrap_or, option_to_list}
@@ -11,14 +13,24 @@ use Rattle.mv_deck.specs.declared.deck.Step.{Step}
 use Rattle.mv_deck.specs.declared.deck.Step.TheVariants.{Print, Use, Free, Count, Scan, Abend, Return}
 use Rattle.mv_deck.specs.declared.fault.DeckFault.{DeckFault}
 use Rattle.mv_deck.specs.declared.fault.Kind.{Kind}
-use Rattle.mv_deck.specs.declared.fault.Kind.TheVariants.{ForeignByte, TooLong, NoForm, NoNull, BadName, RepeatedName, UnknownAfter, CrowdedAfter, BadNumber, LatchOrder, LatchNotHeld, Misplaced, BehindEnd, TooHeavy}
+use Rattle.mv_deck.specs.declared.fault.Kind.TheVariants.{ForeignByte, TooLong, NoForm, NoNull, BadName, RepeatedName, UnknownAfter}
+use Rattle.mv_deck.specs.declared.fault.Kind.TheVariants.{CrowdedAfter, BadNumber, LatchOrder, LatchNotHeld, Misplaced, BehindEnd}
+use Rattle.mv_deck.specs.declared.fault.Kind.TheVariants.{TooHeavy}
 use Rattle.mv_deck.specs.declared.form.Version.{Version}
-use Rattle.mv_deck.specs.Line.{lines_of}
-use Rattle.mv_deck.specs.Operand.{is_within, within, is_name, number_of, latch_of, amount_of, code_of, is_hex, hex_value, abended, user_code_of, system_code_of, end_code_of}
-use Rattle.mv_deck.specs.Statement.{Statement, Null, DeckOf, JobOf, PrintOf, UseOf, FreeOf, CountOf, ScanOf, AbendOf, ReturnOf, AfterPart, statement_of, statements_of}
-use Rattle.mv_deck.specs.Deck.{JobData, place_of, after_of, most_of, fresh_job, step_of, with_step, jobs_behind, jobs_of, deck_of, last_steps}
+use Rattle.mv_line.specs.Line.{lines_of}
+use Rattle.mv_line.specs.Byte.{is_within}
+use Rattle.mv_line.specs.Number.{within, number_of}
+use Rattle.mv_deck.specs.EndCode.{abended}
+use Rattle.mv_deck.specs.Operand.{is_name, latch_of, amount_of, code_of, is_hex, hex_value, user_code_of, system_code_of, end_code_of}
+use Rattle.mv_deck.specs.Statement.{Statement, Null, DeckOf, JobOf, PrintOf, UseOf, FreeOf, CountOf, ScanOf, AbendOf, ReturnOf, AfterPart}
+use Rattle.mv_deck.specs.Statement.{statement_of, statements_of}
+use Rattle.mv_deck.specs.Deck.{JobData, place_of, after_of, most_of, fresh_job, step_of, with_step, jobs_behind, jobs_of, deck_of}
+use Rattle.mv_deck.specs.Deck.{last_steps}
 use Rattle.mv_deck.specs.Held.{is_out_of_order, lacks_latch, is_end}
-use Rattle.mv_deck.specs.Fault.{is_job, is_null, is_deck, when, has_foreign_byte, is_too_long, has_no_form, kinds_of, kinds_of_statement, fault_at, faults_from, first_of_list, first_fault, kinds_behind, has_bad_name, has_bad_number, accepts_no_code, has_double, repeats_name, awaits_no_job, is_crowded, is_step_that, uses_out_of_order, needs_latch, is_misplaced, is_behind_end, is_too_heavy}
+use Rattle.mv_deck.specs.Fault.{is_job, is_null, is_deck, when, has_foreign_byte, is_too_long, has_no_form, kinds_of, kinds_of_statement}
+use Rattle.mv_deck.specs.Fault.{fault_at, faults_from, first_of_list, first_fault, kinds_behind, has_bad_name, has_bad_number}
+use Rattle.mv_deck.specs.Fault.{accepts_no_code, has_double, repeats_name, awaits_no_job, is_crowded, is_step_that, uses_out_of_order}
+use Rattle.mv_deck.specs.Fault.{needs_latch, is_misplaced, is_behind_end, is_too_heavy}
 use Rattle.mv_deck.specs.Sound.{HasGoodNumbers, IsSoundStep, AreSoundSteps, IsSoundAfter, AreDistinct, IsSoundJob, AreSoundJobs, IsSound}
 use Rattle.mv_deck.specs.Weight.{weight, heaviest}
 use Rattle.mv_deck.proofs.Jobs.{stepped, last_steps-push, with_step-push}
@@ -32,15 +44,21 @@ use Rattle.mv_deck.proofs.Passes.{version_in, one_line, earlier_more}
 steps_push : (done steps : List Step) (step : Step) → AreSoundSteps done steps → IsSoundStep (done ++ steps) step
     → AreSoundSteps done (steps ++ step ∷ [])
 steps_push done [] step are is = (subst (λ (x : List Step). IsSoundStep x step) (append-nil done) is, tt)
-steps_push done (s ∷ steps) step are is =
-    (are.0, steps_push (done ++ s ∷ []) steps step are.1 (subst (λ (x : List Step). IsSoundStep x step) (sym (append_assoc done (s ∷ []) steps)) is))
+steps_push done (s ∷ steps) step are is = (
+  are.0,
+  steps_push (done ++ s ∷ []) steps step are.1
+      (subst (λ (x : List Step). IsSoundStep x step) (sym (append_assoc done (s ∷ []) steps)) is),
+)
 
 -- one more job behind sound ones
 jobs_push : (before jobs : List JobData) (j : JobData) → AreSoundJobs before jobs → IsSoundJob (before ++ jobs) j
     → AreSoundJobs before (jobs ++ j ∷ [])
 jobs_push before [] j are is = (subst (λ (x : List JobData). IsSoundJob x j) (append-nil before) is, tt)
-jobs_push before (i ∷ jobs) j are is =
-    (are.0, jobs_push (before ++ i ∷ []) jobs j are.1 (subst (λ (x : List JobData). IsSoundJob x j) (sym (append_assoc before (i ∷ []) jobs)) is))
+jobs_push before (i ∷ jobs) j are is = (
+  are.0,
+  jobs_push (before ++ i ∷ []) jobs j are.1
+      (subst (λ (x : List JobData). IsSoundJob x j) (sym (append_assoc before (i ∷ []) jobs)) is),
+)
 
 -- the last of sound jobs
 jobs_split : (before jobs : List JobData) (j : JobData) → AreSoundJobs before (jobs ++ j ∷ [])
@@ -56,7 +74,15 @@ pub step_push : (jobs : List JobData) (j : JobData) (step : Step) → AreSoundJo
 step_push jobs j step are is =
     let parts = jobs_split [] jobs j are in
     let old = parts.1 in
-    jobs_push [] jobs (stepped j step) parts.0 (record { named = old.named; new = old.new; few = old.few; distinct = old.distinct; earlier = old.earlier; steps = steps_push [] j.steps step old.steps is })
+    jobs_push [] jobs (stepped j step) parts.0
+    (record {
+      named = old.named;
+      new = old.new;
+      few = old.few;
+      distinct = old.distinct;
+      earlier = old.earlier;
+      steps = steps_push [] j.steps step old.steps is;
+    })
 
 -- the same from the first job on
 pub job_push : (jobs : List JobData) (j : JobData) → AreSoundJobs [] jobs → IsSoundJob jobs j → AreSoundJobs [] (jobs ++ j ∷ [])
@@ -105,10 +131,12 @@ place_bound : (name : List ℕ) (k : ℕ) (jobs : List JobData) (i : ℕ)
     → position_from (λ (j : JobData). bytes_eq j.name name) k jobs ≡ Some i → (k ≤ i) × (i < k + length jobs)
 place_bound name k [] i e = absurd cc
 place_bound name k (j ∷ jobs) i e = go (bytes_eq j.name name) refl (λ f. place_bound name (k + 1) jobs i f) where
-  go : (b : Bool) → bytes_eq j.name name ≡ b → (position_from (λ (j : JobData). bytes_eq j.name name) (k + 1) jobs ≡ Some i → (k + 1 ≤ i) × (i < k + 1 + length jobs))
+  go : (b : Bool) → bytes_eq j.name name ≡ b → (position_from (λ (j : JobData). bytes_eq j.name name) (k + 1) jobs ≡ Some i → (k + 1 ≤ i)
+      × (i < k + 1 + length jobs))
       → (k ≤ i) × (i < k + length (j ∷ jobs))
   go true t ih = let same : k ≡ i = cc (e, t) in (omega arith, omega arith)
-  go false t ih = let more : position_from (λ (j : JobData). bytes_eq j.name name) (k + 1) jobs ≡ Some i = cc (e, t) in let b = ih more in (omega (arith, b.0), omega (arith, b.1))
+  go false t ih = let more : position_from (λ (j : JobData). bytes_eq j.name name) (k + 1) jobs ≡ Some i = cc (e, t) in let b = ih more in
+      (omega (arith, b.0), omega (arith, b.1))
 
 -- two names with one place are one
 one_name : (a b : List ℕ) (k : ℕ) (jobs : List JobData) (i : ℕ) → position_from (λ (j : JobData). bytes_eq j.name a) k jobs ≡ Some i
@@ -116,10 +144,13 @@ one_name : (a b : List ℕ) (k : ℕ) (jobs : List JobData) (i : ℕ) → positi
 one_name a b k [] i e f = absurd cc
 one_name a b k (j ∷ jobs) i e f = go (bytes_eq j.name a) (bytes_eq j.name b) refl refl (λ x y. one_name a b (k + 1) jobs i x y) where
   go : (p q : Bool) → bytes_eq j.name a ≡ p → bytes_eq j.name b ≡ q
-      → (position_from (λ (j : JobData). bytes_eq j.name a) (k + 1) jobs ≡ Some i → position_from (λ (j : JobData). bytes_eq j.name b) (k + 1) jobs ≡ Some i → a ≡ b) → a ≡ b
+      → (position_from (λ (j : JobData). bytes_eq j.name a) (k + 1) jobs ≡ Some i → position_from (λ (j : JobData). bytes_eq j.name b)
+      (k + 1) jobs ≡ Some i → a ≡ b) → a ≡ b
   go true true x y ih = sym ((bytes_eq-Decides j.name a).0 x) ∙ (bytes_eq-Decides j.name b).0 y
-  go true false x y ih = absurd (let same : k ≡ i = cc (e, x) in let more : position_from (λ (j : JobData). bytes_eq j.name b) (k + 1) jobs ≡ Some i = cc (f, y) in omega (arith, (place_bound b (k + 1) jobs i more).0))
-  go false true x y ih = absurd (let same : k ≡ i = cc (f, y) in let more : position_from (λ (j : JobData). bytes_eq j.name a) (k + 1) jobs ≡ Some i = cc (e, x) in omega (arith, (place_bound a (k + 1) jobs i more).0))
+  go true false x y ih = absurd (let same : k ≡ i = cc (e, x) in let more : position_from (λ (j : JobData). bytes_eq j.name b)
+      (k + 1) jobs ≡ Some i = cc (f, y) in omega (arith, (place_bound b (k + 1) jobs i more).0))
+  go false true x y ih = absurd (let same : k ≡ i = cc (f, y) in let more : position_from (λ (j : JobData). bytes_eq j.name a)
+      (k + 1) jobs ≡ Some i = cc (e, x) in omega (arith, (place_bound a (k + 1) jobs i more).0))
   go false false x y ih = ih (cc (e, x)) (cc (f, y))
 
 -- ---- what a faultless statement is
@@ -164,7 +195,8 @@ is_faultless n earlier jobs s none =
     let j = when_none (is_too_heavy n jobs s && (not (is_misplaced earlier s) && not (is_behind_end jobs s))) TooHeavy _ i.1 in
     let placed : not (is_misplaced earlier s) ≡ true = ap not h.0 in
     let going : is_behind_end jobs s ≡ false = alone (is_behind_end jobs s) (not (is_misplaced earlier s)) i.0 placed in
-    let asked : (not (is_misplaced earlier s) && not (is_behind_end jobs s)) ≡ true = ap (λ (x : Bool). x && not (is_behind_end jobs s)) placed ∙ ap not going in
+    let asked : (not (is_misplaced earlier s) && not (is_behind_end jobs s)) ≡ true = ap
+    (λ (x : Bool). x && not (is_behind_end jobs s)) placed ∙ ap not going in
     record {
       name = a.0;
       new = alone (repeats_name jobs s) _ b.0 placed;
@@ -302,7 +334,8 @@ numbers_added : (o u : Option ℕ) (step : Step) → ((l : ℕ) → o ≡ Some l
     → option_and_then (λ v. option_map (Count v) u) o ≡ Some step → HasGoodNumbers step
 numbers_added None u step b d e = absurd cc
 numbers_added (Some l) None step b d e = absurd cc
-numbers_added (Some l) (Some m) step b d e = subst HasGoodNumbers (let same : Count l m ≡ step = cc in same) (b l refl, (d m refl).0, (d m refl).1)
+numbers_added (Some l) (Some m) step b d e = subst HasGoodNumbers (let same : Count l m ≡ step = cc in same)
+    (b l refl, (d m refl).0, (d m refl).1)
 
 -- the code of a RETURN
 numbers_returned : (o : Option ℕ) (step : Step) → ((l : ℕ) → o ≡ Some l → l ≤ 4095) → option_map Return o ≡ Some step → HasGoodNumbers step
@@ -348,7 +381,8 @@ good_numbers (JobOf name after) step e = absurd cc
 good_numbers (PrintOf text) step e = subst HasGoodNumbers (let same : Print text ≡ step = cc in same) tt
 good_numbers (UseOf latch mode) step e = numbers_used (latch_of latch) mode step (latch_bound latch) e
 good_numbers (FreeOf latch) step e = numbers_freed (latch_of latch) step (latch_bound latch) e
-good_numbers (CountOf volume amount) step e = numbers_added (latch_of volume) (amount_of amount) step (latch_bound volume) (within_bound 1 9999 (number_of amount)) e
+good_numbers (CountOf volume amount) step e = numbers_added (latch_of volume) (amount_of amount) step (latch_bound volume)
+    (within_bound 1 9999 (number_of amount)) e
 good_numbers (ScanOf volume) step e = numbers_read (latch_of volume) step (latch_bound volume) e
 good_numbers (AbendOf code) step e = numbers_ended (end_code_of code) step (end_bound code) e
 good_numbers (ReturnOf code) step e = numbers_returned (code_of code) step (λ l f. (within_bound 0 4095 (number_of code) l f).1) e
@@ -363,7 +397,8 @@ sound_step n earlier jobs s step e f =
       numbers = good_numbers s step e;
       in_order = ap (is_step_that (is_out_of_order (last_steps jobs))) (sym e) ∙ f.ordered;
       latched = ap (is_step_that (lacks_latch (last_steps jobs))) (sym e) ∙ f.latched;
-      before_end = alone (list_any is_end (last_steps jobs)) _ ended (ap (λ (b : Bool). not (b || is_null s)) is_a.no_job ∙ ap not is_a.no_null);
+      before_end = alone (list_any is_end (last_steps jobs)) _ ended (ap (λ (b : Bool). not (b || is_null s)) is_a.no_job
+          ∙ ap not is_a.no_null);
     }
 
 -- ---- faultless statements leave sound jobs
@@ -396,7 +431,8 @@ fine_same n sts s fine same no_job f =
     let jobs : jobs_of (sts ++ s ∷ []) ≡ jobs_of sts = jobs-push sts s ∙ same in
     record {
       jobs = subst (AreSoundJobs []) (sym jobs) fine.jobs;
-      light = λ some. not_heavy (weight (jobs_of (sts ++ s ∷ [])) n) (ap (λ (x : List JobData). nat_lt heaviest (weight x n)) (jobs-push sts s) ∙ f.light);
+      light = λ some. not_heavy (weight (jobs_of (sts ++ s ∷ [])) n)
+          (ap (λ (x : List JobData). nat_lt heaviest (weight x n)) (jobs-push sts s) ∙ f.light);
       begun = λ any. ap (λ (x : List JobData). nat_lt 0 (length x)) jobs ∙ fine.begun (sym (same_any is_job sts s no_job) ∙ any);
     }
 
@@ -406,8 +442,10 @@ fine_job : (n : ℕ) (sts : List Statement) (name : List ℕ) (after : List Afte
 fine_job n sts name after fine f =
     let jobs = jobs-push sts (JobOf name after) in
     record {
-      jobs = subst (AreSoundJobs []) (sym jobs) (job_push (jobs_of sts) (fresh_job (jobs_of sts) name after) fine.jobs (sound_job n sts (jobs_of sts) name after f));
-      light = λ some. not_heavy (weight (jobs_of (sts ++ JobOf name after ∷ [])) n) (ap (λ (x : List JobData). nat_lt heaviest (weight x n)) jobs ∙ f.light);
+      jobs = subst (AreSoundJobs []) (sym jobs) (job_push (jobs_of sts) (fresh_job (jobs_of sts) name after) fine.jobs
+          (sound_job n sts (jobs_of sts) name after f));
+      light = λ some. not_heavy (weight (jobs_of (sts ++ JobOf name after ∷ [])) n)
+          (ap (λ (x : List JobData). nat_lt heaviest (weight x n)) jobs ∙ f.light);
       begun = λ any. ap (λ (x : List JobData). nat_lt 0 (length x)) jobs ∙ some_jobs (jobs_of sts) (fresh_job (jobs_of sts) name after);
     }
 
@@ -417,14 +455,18 @@ fine_step : (n : ℕ) (sts : List Statement) (s : Statement) (step : Step) → s
 fine_step n sts s step e fine f =
     let is_a = is_step s step e in
     let outside : (list_any is_null sts || (not (list_any is_job sts) && not (is_job s || is_null s || is_deck s))) ≡ false = f.placed in
-    let begun : list_any is_job sts ≡ true = has_job (list_any is_null sts) (list_any is_job sts) (is_job s) (is_null s) (is_deck s) is_a.no_job is_a.no_null is_a.no_deck outside in
+    let begun : list_any is_job sts ≡ true = has_job (list_any is_null sts) (list_any is_job sts) (is_job s) (is_null s)
+    (is_deck s) is_a.no_job is_a.no_null is_a.no_deck outside in
     let last = last_job (jobs_of sts) (fine.begun begun) in
     let before = last.2 in
-    let behind : jobs_of (sts ++ s ∷ []) ≡ last.0 ++ stepped last.1 step ∷ [] = jobs-push sts s ∙ is_a.behind (jobs_of sts) ∙ ap (λ (x : List JobData). with_step x step) before ∙ with_step-push last.0 last.1 step in
-    let stands : IsSoundStep last.1.steps step = subst (λ (x : List Step). IsSoundStep x step) (ap last_steps before ∙ last_steps-push last.0 last.1) (sound_step n sts (jobs_of sts) s step e f) in
+    let behind : jobs_of (sts ++ s ∷ []) ≡ last.0 ++ stepped last.1 step ∷ [] = jobs-push sts s ∙ is_a.behind (jobs_of sts)
+    ∙ ap (λ (x : List JobData). with_step x step) before ∙ with_step-push last.0 last.1 step in
+    let stands : IsSoundStep last.1.steps step = subst (λ (x : List Step). IsSoundStep x step)
+    (ap last_steps before ∙ last_steps-push last.0 last.1) (sound_step n sts (jobs_of sts) s step e f) in
     record {
       jobs = subst (AreSoundJobs []) (sym behind) (step_push last.0 last.1 step (subst (AreSoundJobs []) before fine.jobs) stands);
-      light = λ some. not_heavy (weight (jobs_of (sts ++ s ∷ [])) n) (ap (λ (x : List JobData). nat_lt heaviest (weight x n)) (jobs-push sts s) ∙ f.light);
+      light = λ some. not_heavy (weight (jobs_of (sts ++ s ∷ [])) n)
+          (ap (λ (x : List JobData). nat_lt heaviest (weight x n)) (jobs-push sts s) ∙ f.light);
       begun = λ any. ap (λ (x : List JobData). nat_lt 0 (length x)) behind ∙ some_jobs last.0 (stepped last.1 step);
     }
   where
@@ -496,8 +538,10 @@ sound_from n v number sts (line ∷ lines) fine e =
     let none = no_kinds number (kinds_of n v sts line) _ e in
     let next = fine_line n sts (statement_of v line) fine (stated_kinds n v sts line none) in
     subst (λ (x : List Statement). IsSound (jobs_of x) n) (sym (earlier_more sts (statement_of v line) (statements_of v lines)))
-    (sound_from n v (number + 1) (sts ++ option_to_list (statement_of v line)) lines next (ap first_of_list (sym (one_line n v number sts line lines none)) ∙ e))
+    (sound_from n v (number + 1) (sts ++ option_to_list (statement_of v line)) lines next
+    (ap first_of_list (sym (one_line n v number sts line lines none)) ∙ e))
 
 -- the law
 pub sound : (bytes : List ℕ) (n : ℕ) → first_fault bytes n ≡ None → IsSound (deck_of bytes) n
-sound bytes n e = sound_from n (version_in bytes) 1 [] (lines_of bytes) (record { jobs = tt; light = λ some. absurd cc; begun = λ any. absurd cc }) e
+sound bytes n e = sound_from n (version_in bytes) 1 [] (lines_of bytes)
+    (record { jobs = tt; light = λ some. absurd cc; begun = λ any. absurd cc }) e

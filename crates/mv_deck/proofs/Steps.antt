@@ -42,13 +42,55 @@ is_step (DeckOf version) step e = absurd cc
 is_step (JobOf name after) step e = absurd cc
 is_step (PrintOf text) step e =
     let same : Print text ≡ step = cc in
-    record { no_job = refl; no_null = refl; no_deck = refl; behind = λ jobs. ap (with_step jobs) same; kinds = λ n earlier jobs. ap (kinds_of_step n (is_outside earlier) jobs) same }
-is_step (UseOf latch mode) step e = record { no_job = refl; no_null = refl; no_deck = refl; behind = λ jobs. rw e refl; kinds = λ n earlier jobs. rw e refl }
-is_step (FreeOf latch) step e = record { no_job = refl; no_null = refl; no_deck = refl; behind = λ jobs. rw e refl; kinds = λ n earlier jobs. rw e refl }
-is_step (CountOf volume amount) step e = record { no_job = refl; no_null = refl; no_deck = refl; behind = λ jobs. rw e refl; kinds = λ n earlier jobs. rw e refl }
-is_step (ScanOf volume) step e = record { no_job = refl; no_null = refl; no_deck = refl; behind = λ jobs. rw e refl; kinds = λ n earlier jobs. rw e refl }
-is_step (AbendOf code) step e = record { no_job = refl; no_null = refl; no_deck = refl; behind = λ jobs. rw e refl; kinds = λ n earlier jobs. rw e refl }
-is_step (ReturnOf code) step e = record { no_job = refl; no_null = refl; no_deck = refl; behind = λ jobs. rw e refl; kinds = λ n earlier jobs. rw e refl }
+    record {
+      no_job = refl;
+      no_null = refl;
+      no_deck = refl;
+      behind = λ jobs. ap (with_step jobs) same;
+      kinds = λ n earlier jobs. ap (kinds_of_step n (is_outside earlier) jobs) same;
+    }
+is_step (UseOf latch mode) step e = record {
+  no_job = refl;
+  no_null = refl;
+  no_deck = refl;
+  behind = λ jobs. rw e refl;
+  kinds = λ n earlier jobs. rw e refl;
+}
+is_step (FreeOf latch) step e = record {
+  no_job = refl;
+  no_null = refl;
+  no_deck = refl;
+  behind = λ jobs. rw e refl;
+  kinds = λ n earlier jobs. rw e refl;
+}
+is_step (CountOf volume amount) step e = record {
+  no_job = refl;
+  no_null = refl;
+  no_deck = refl;
+  behind = λ jobs. rw e refl;
+  kinds = λ n earlier jobs. rw e refl;
+}
+is_step (ScanOf volume) step e = record {
+  no_job = refl;
+  no_null = refl;
+  no_deck = refl;
+  behind = λ jobs. rw e refl;
+  kinds = λ n earlier jobs. rw e refl;
+}
+is_step (AbendOf code) step e = record {
+  no_job = refl;
+  no_null = refl;
+  no_deck = refl;
+  behind = λ jobs. rw e refl;
+  kinds = λ n earlier jobs. rw e refl;
+}
+is_step (ReturnOf code) step e = record {
+  no_job = refl;
+  no_null = refl;
+  no_deck = refl;
+  behind = λ jobs. rw e refl;
+  kinds = λ n earlier jobs. rw e refl;
+}
 
 -- a statement without a name has no lower fault than a bad number
 pub bad_number : (n : ℕ) (earlier : List Statement) (jobs : List JobData) (s : Statement) → is_job s ≡ false

@@ -8,7 +8,8 @@ use Rattle.mv_deck.specs.Statement.{Statement, Null, DeckOf, JobOf, AfterPart}
 use Rattle.mv_deck.specs.Deck.{JobData, last_steps, with_step}
 use Rattle.mv_deck.specs.Held.{is_end, is_out_of_order, lacks_latch}
 use Rattle.mv_deck.specs.Weight.{weight, heaviest}
-use Rattle.mv_deck.specs.Fault.{is_null, is_job, has_bad_name, has_bad_number, repeats_name, awaits_no_job, is_crowded, is_misplaced, is_too_heavy, kinds_behind, when, first_of_list}
+use Rattle.mv_deck.specs.Fault.{is_null, is_job, has_bad_name, has_bad_number, repeats_name, awaits_no_job, is_crowded, is_misplaced}
+use Rattle.mv_deck.specs.Fault.{is_too_heavy, kinds_behind, when, first_of_list}
 use Rattle.mv_deck.specs.Reading.{IsGoodJob}
 use Rattle.mv_deck.proofs.Steps.{kinds_of_step}
 
@@ -48,7 +49,8 @@ deck_all misplaced ended weighs late =
 
 module _ (n : ℕ) (earlier : List Statement) (jobs : List JobData) (word : List ℕ) (good : has_bad_number (DeckOf word) ≡ false) where
   -- they are its kinds
-  deck_asked : kinds_behind n earlier jobs (DeckOf word) ≡ deck_all (list_any is_null earlier || (not (list_any is_job earlier) && false)) (list_any is_end (last_steps jobs)) (nat_lt heaviest (weight jobs n)) (nat_lt 0 (length earlier))
+  deck_asked : kinds_behind n earlier jobs (DeckOf word) ≡ deck_all (list_any is_null earlier || (not (list_any is_job earlier) && false))
+      (list_any is_end (last_steps jobs)) (nat_lt heaviest (weight jobs n)) (nat_lt 0 (length earlier))
   deck_asked = rw good refl
 
   -- behind the null statement
@@ -135,7 +137,13 @@ module _ (n : ℕ) (jobs : List JobData) (step : Step) where
   -- kind 13
   pub step_behind_end : (misplaced : Bool) → misplaced ≡ false → list_any is_end (last_steps jobs) ≡ true
       → first_of_list (kinds_of_step n misplaced jobs step) ≡ Some 13
-  step_behind_end misplaced m e = rw (m, e, and_false (is_out_of_order (last_steps jobs) step), and_false (lacks_latch (last_steps jobs) step)) refl
+  step_behind_end misplaced m e = rw (
+    m,
+    e,
+    and_false (is_out_of_order (last_steps jobs) step),
+    and_false
+        (lacks_latch (last_steps jobs) step),
+  ) refl
 
   -- kind 9
   pub step_out_of_order : (misplaced : Bool) → misplaced ≡ false → list_any is_end (last_steps jobs) ≡ false

@@ -7,9 +7,10 @@ use Rattle.mv_deck.specs.declared.deck.Step.TheVariants.{Print, Use, Free, Count
 use Rattle.mv_deck.specs.declared.deck.After.{After}
 use Rattle.mv_deck.specs.declared.deck.Job.{Job}
 use Rattle.mv_deck.specs.declared.deck.Deck.{Deck}
-use Rattle.mv_deck.specs.Line.{lines_of}
+use Rattle.mv_line.specs.Line.{lines_of}
 use Rattle.mv_deck.specs.Operand.{latch_of, amount_of, code_of, end_code_of}
-use Rattle.mv_deck.specs.Statement.{Statement, Null, DeckOf, JobOf, PrintOf, UseOf, FreeOf, CountOf, ScanOf, AbendOf, ReturnOf, AfterPart, statements_of, version_of}
+use Rattle.mv_deck.specs.Statement.{Statement, Null, DeckOf, JobOf, PrintOf, UseOf, FreeOf, CountOf, ScanOf, AbendOf, ReturnOf, AfterPart}
+use Rattle.mv_deck.specs.Statement.{statements_of, version_of}
 
 -- a job without where it lies in memory
 pub record JobData : Type 0 where
@@ -17,9 +18,11 @@ pub record JobData : Type 0 where
   pub after : List After
   pub steps : List Step
 
+-- a job without where it lies in memory
 abbrev pub job_data : Job → JobData
 job_data j = record { name = j.name; after = j.after.items; steps = j.steps.items }
 
+-- the jobs of a deck, so
 abbrev pub deck_data : Deck → List JobData
 deck_data d = map job_data d.jobs.items
 

@@ -1,5 +1,6 @@
 -- The faults of a text: one test for each kind of fault that a line can have, and which fault is the first.
-use Rattle.std.specs.Prelude.{◌≡◌, ℕ, ◌+◌, Bool, true, false, ◌&&◌, ◌||◌, not, nat_lt, List, [], ◌∷◌, ◌++◌, length, map, Option, Some, None, is_none, is_some, option_to_list, codes, if◌then◌else◌}
+use Rattle.std.specs.Prelude.{◌≡◌, ℕ, ◌+◌, Bool, true, false, ◌&&◌, ◌||◌, not, nat_lt, List, [], ◌∷◌, ◌++◌, length, map, Option, Some}
+use Rattle.std.specs.Prelude.{None, is_none, is_some, option_to_list, codes, if◌then◌else◌}
 use Rattle.std.specs.List.{list_any}
 use Rattle.std.specs.Str.{bytes_eq}
 use Rattle.mv_deck.specs.declared.deck.Step.{Step}
@@ -7,11 +8,16 @@ use Rattle.mv_deck.specs.declared.fault.DeckFault.{DeckFault}
 use Rattle.mv_deck.specs.declared.fault.DeckRefusal.{DeckRefusal}
 use Rattle.mv_deck.specs.declared.fault.DeckRefusal.TheVariants.{Fault, NoMemory}
 use Rattle.mv_deck.specs.declared.fault.Kind.{Kind}
-use Rattle.mv_deck.specs.declared.fault.Kind.TheVariants.{ForeignByte, TooLong, NoForm, BadName, RepeatedName, UnknownAfter, CrowdedAfter, BadNumber, LatchOrder, LatchNotHeld, Misplaced, NoNull, BehindEnd, TooHeavy, LateDeck}
+use Rattle.mv_deck.specs.declared.fault.Kind.TheVariants.{ForeignByte, TooLong, NoForm, BadName, RepeatedName, UnknownAfter, CrowdedAfter}
+use Rattle.mv_deck.specs.declared.fault.Kind.TheVariants.{BadNumber, LatchOrder, LatchNotHeld, Misplaced, NoNull, BehindEnd, TooHeavy}
+use Rattle.mv_deck.specs.declared.fault.Kind.TheVariants.{LateDeck}
 use Rattle.mv_deck.specs.declared.form.Version.{Version}
-use Rattle.mv_deck.specs.Line.{lines_of, without_cr, is_passed}
-use Rattle.mv_deck.specs.Operand.{is_name, is_within, code_of, most_after}
-use Rattle.mv_deck.specs.Statement.{Statement, Null, DeckOf, JobOf, PrintOf, UseOf, FreeOf, CountOf, ScanOf, AbendOf, ReturnOf, AfterPart, statement_of, version_of}
+use Rattle.mv_line.specs.Byte.{is_printable}
+use Rattle.mv_line.specs.Line.{lines_of, without_cr}
+use Rattle.mv_deck.specs.Line.{longest_line, is_passed}
+use Rattle.mv_deck.specs.Operand.{is_name, code_of, most_after}
+use Rattle.mv_deck.specs.Statement.{Statement, Null, DeckOf, JobOf, PrintOf, UseOf, FreeOf, CountOf, ScanOf, AbendOf, ReturnOf, AfterPart}
+use Rattle.mv_deck.specs.Statement.{statement_of, version_of}
 use Rattle.mv_deck.specs.Deck.{JobData, place_of, step_of, jobs_behind, jobs_of, last_steps}
 use Rattle.mv_deck.specs.Held.{is_out_of_order, lacks_latch, is_end}
 use Rattle.mv_deck.specs.Weight.{weight, heaviest}
@@ -36,11 +42,13 @@ kind_number LateDeck = 15
 
 -- ---- faults of a line by itself
 
+-- a byte that is no printable ASCII; one CR at the end is none of the line
 abbrev pub has_foreign_byte : List ℕ → Bool
-has_foreign_byte line = list_any (λ b. not (is_within 32 126 b)) (without_cr line)
+has_foreign_byte line = list_any (λ b. not (is_printable b)) (without_cr line)
 
+-- more bytes than a card has, not counting one CR at the end
 abbrev pub is_too_long : List ℕ → Bool
-is_too_long line = nat_lt 80 (length (without_cr line))
+is_too_long line = nat_lt longest_line (length (without_cr line))
 
 -- an ignored line or a comment states nothing, and needs no form
 abbrev pub has_no_form : Version → List ℕ → Bool
@@ -48,6 +56,7 @@ has_no_form v line = not (is_passed line) && is_none (statement_of v line)
 
 -- ---- faults of a statement by itself
 
+-- a job name, or one in an AFTER list, that is none
 abbrev pub has_bad_name : Statement → Bool
 has_bad_name Null = false
 has_bad_name (DeckOf version) = false
@@ -80,6 +89,7 @@ has_bad_number (ReturnOf code) = is_none (step_of (ReturnOf code))
 
 -- ---- where a statement stands
 
+-- the null statement
 abbrev pub is_null : Statement → Bool
 is_null Null = true
 is_null (DeckOf version) = false
@@ -92,6 +102,7 @@ is_null (ScanOf volume) = false
 is_null (AbendOf code) = false
 is_null (ReturnOf code) = false
 
+-- a JOB
 abbrev pub is_job : Statement → Bool
 is_job Null = false
 is_job (DeckOf version) = false
@@ -104,6 +115,7 @@ is_job (ScanOf volume) = false
 is_job (AbendOf code) = false
 is_job (ReturnOf code) = false
 
+-- a DECK
 abbrev pub is_deck : Statement → Bool
 is_deck Null = false
 is_deck (DeckOf version) = true
@@ -198,6 +210,7 @@ is_too_heavy initiators jobs s = nat_lt heaviest (weight (jobs_behind jobs s) in
 
 -- ---- all faults, and the first
 
+-- the number of a kind, where its test holds
 abbrev pub when : Bool → Kind → List ℕ
 when holds kind = if holds then kind_number kind ∷ [] else []
 
@@ -219,6 +232,7 @@ kinds_behind initiators earlier jobs s =
     ++ (when (is_too_heavy initiators jobs s && asked) TooHeavy
     ++ when (is_late_deck earlier s && asked) LateDeck)))))))))
 
+-- the same for a line that may state nothing
 abbrev pub kinds_of_statement : ℕ → List Statement → Option Statement → List ℕ
 kinds_of_statement initiators earlier None = []
 kinds_of_statement initiators earlier (Some s) = kinds_behind initiators earlier (jobs_of earlier) s
@@ -231,6 +245,7 @@ kinds_of initiators v earlier line =
     ++ (when (has_no_form v line) NoForm
     ++ kinds_of_statement initiators earlier (statement_of v line)))
 
+-- the fault of this kind in the line of this number
 abbrev pub fault_at : ℕ → ℕ → DeckFault
 fault_at line kind = record { line = line; kind = kind }
 
@@ -246,6 +261,7 @@ faults_from initiators v number earlier (line ∷ lines) =
 abbrev pub faults_of : List ℕ → ℕ → List DeckFault
 faults_of bytes initiators = faults_from initiators (version_of (lines_of bytes)) 1 [] (lines_of bytes)
 
+-- the first of a list, if there is one
 abbrev pub first_of_list : {A : Type 0} → List A → Option A
 first_of_list [] = None
 first_of_list (x ∷ xs) = Some x

@@ -6,7 +6,8 @@ use Rattle.mv_deck.specs.declared.form.Form.TheVariants as form
 use Rattle.mv_deck.specs.declared.form.Part.{Part}
 use Rattle.mv_deck.specs.declared.form.Version.{Version}
 use Rattle.mv_deck.specs.Line.{parts_of}
-use Rattle.mv_deck.specs.Statement.{Statement, Null, DeckOf, JobOf, PrintOf, UseOf, FreeOf, CountOf, ScanOf, AbendOf, ReturnOf, AfterPart, part_of}
+use Rattle.mv_deck.specs.Statement.{Statement, Null, DeckOf, JobOf, PrintOf, UseOf, FreeOf, CountOf, ScanOf, AbendOf, ReturnOf, AfterPart}
+use Rattle.mv_deck.specs.Statement.{part_of}
 
 -- the bytes behind a reference
 abbrev pub bytes_behind : Bor (List ℕ) → List ℕ
@@ -25,6 +26,7 @@ parts_behind (Some list) = parts_of list.now
 abbrev pub listed : Version → Option (Bor (List ℕ)) → List AfterPart
 listed v list = map (part_of v) (parts_behind list)
 
+-- the statement that a form stands for
 abbrev pub stated : Version → Form → Statement
 stated v form.Null = Null
 stated v (form.Deck version) = DeckOf version.now

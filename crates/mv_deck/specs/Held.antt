@@ -1,5 +1,6 @@
 -- The latches that a job holds behind some of its steps, and where a step may stand by them.
-use Rattle.std.specs.Prelude.{ℕ, ◌≤◌, ◌==◌, Bool, true, false, not, List, [], ◌∷◌, drop, fold, Option, Some, None, is_none, is_some, if◌then◌else◌}
+use Rattle.std.specs.Prelude.{ℕ, ◌≤◌, ◌==◌, Bool, true, false, not, List, [], ◌∷◌, drop, fold, Option, Some, None, is_none, is_some}
+use Rattle.std.specs.Prelude.{if◌then◌else◌}
 use Rattle.std.specs.List.{list_any}
 use Rattle.mv_latch.specs.declared.request.Mode.{Mode}
 use Rattle.mv_latch.specs.declared.request.Mode.TheVariants.{Shared, Exclusive}
@@ -31,6 +32,7 @@ held_behind latch mode (Return code) = mode
 abbrev pub held : List Step → ℕ → Option Mode
 held steps latch = fold (held_behind latch) None steps
 
+-- the numbers of the latches
 abbrev pub latches : List ℕ
 latches = 0 ∷ 1 ∷ 2 ∷ 3 ∷ 4 ∷ 5 ∷ 6 ∷ 7 ∷ []
 
@@ -38,6 +40,7 @@ latches = 0 ∷ 1 ∷ 2 ∷ 3 ∷ 4 ∷ 5 ∷ 6 ∷ 7 ∷ []
 abbrev pub holds_from : List Step → ℕ → Bool
 holds_from steps latch = list_any (λ l. is_some (held steps l)) (drop latch latches)
 
+-- whether a latch is held exclusive
 abbrev pub is_exclusive : Option Mode → Bool
 is_exclusive None = false
 is_exclusive (Some Shared) = false

@@ -1,3 +1,4 @@
+pub mod EndCode
 pub mod Line
 pub mod Operand
 pub mod Statement

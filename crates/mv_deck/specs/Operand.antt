@@ -1,36 +1,35 @@
 -- What may stand in the places of names, numbers and codes.
-use Rattle.std.specs.Prelude.{ℕ, ◌+◌, ◌-◌, ◌*◌, ◌^◌, Bool, false, ◌==◌, ◌&&◌, ◌||◌, nat_le, nat_lt, List, [], ◌∷◌, length, Option, Some, None, option_map, codes, if◌then◌else◌}
+use Rattle.std.specs.Prelude.{ℕ, ◌+◌, ◌-◌, ◌*◌, Bool, false, ◌==◌, ◌&&◌, ◌||◌, nat_le, nat_lt, List, [], ◌∷◌, length, Option, Some, None}
+use Rattle.std.specs.Prelude.{option_map, codes, if◌then◌else◌}
 use Rattle.std.specs.List.{list_all}
 use Rattle.std.specs.Str.{bytes_eq}
 use Rattle.mv_latch.specs.declared.request.Mode.{Mode}
 use Rattle.mv_latch.specs.declared.request.Mode.TheVariants.{Shared, Exclusive}
+use Rattle.mv_line.specs.Byte.{is_within, is_digit}
+use Rattle.mv_line.specs.Number.{number_of, within}
+use Rattle.mv_deck.specs.EndCode.{highest_code, abended}
 
 -- ---- limits
 
+-- the highest number of a latch, and of the volume that it guards
 abbrev pub highest_latch : ℕ
 highest_latch = 7
 
+-- the highest amount of a COUNT
 abbrev pub highest_amount : ℕ
 highest_amount = 9999
 
-abbrev pub highest_code : ℕ
-highest_code = 4095
-
+-- how many jobs a job may wait for
 abbrev pub most_after : ℕ
 most_after = 8
 
 -- ---- names
 
-abbrev pub is_within : ℕ → ℕ → ℕ → Bool
-is_within low high b = nat_le low b && nat_le b high
-
-abbrev pub is_digit : ℕ → Bool
-is_digit b = is_within 48 57 b
-
 -- `A` to `Z`, `@`, `#`, `$`
 abbrev pub is_name_start : ℕ → Bool
 is_name_start b = is_within 64 90 b || is_within 35 36 b
 
+-- one of these, or a digit
 abbrev pub is_name_byte : ℕ → Bool
 is_name_byte b = is_name_start b || is_digit b
 
@@ -41,29 +40,11 @@ is_name (b ∷ bs) = is_name_start b && list_all is_name_byte bs && nat_lt (leng
 
 -- ---- numbers
 
--- the number that these digits show behind some that show so much
-abbrev pub value_behind : ℕ → List ℕ → ℕ
-value_behind shown [] = shown
-value_behind shown (d ∷ digits) = value_behind (10 * shown + (d - 48)) digits
-
--- One to four digits, the first not 0 where there are more. No number of a deck has five.
-abbrev pub is_number : List ℕ → Bool
-is_number [] = false
-is_number (d ∷ []) = is_digit d
-is_number (d ∷ e ∷ digits) = is_within 49 57 d && list_all is_digit (e ∷ digits) && nat_lt (length digits) 3
-
-abbrev pub number_of : List ℕ → Option ℕ
-number_of text = if is_number text then Some (value_behind 0 text) else None
-
--- a number where it is within these
-abbrev pub within : ℕ → ℕ → Option ℕ → Option ℕ
-within low high None = None
-within low high (Some n) = if is_within low high n then Some n else None
-
 -- the number of a latch or a volume
 abbrev pub latch_of : List ℕ → Option ℕ
 latch_of text = within 0 highest_latch (number_of text)
 
+-- the amount of a COUNT
 abbrev pub amount_of : List ℕ → Option ℕ
 amount_of text = within 1 highest_amount (number_of text)
 
@@ -81,14 +62,11 @@ mode_of text = if bytes_eq text (codes "S") then Some Shared else if bytes_eq te
 abbrev pub is_hex : ℕ → Bool
 is_hex b = is_digit b || is_within 65 70 b
 
+-- what such a digit counts
 abbrev pub hex_value : ℕ → ℕ
 hex_value b = if is_digit b then b - 48 else b - 55
 
--- the end code of a job that ends with this system and this user code
-abbrev pub abended : ℕ → ℕ → ℕ
-abended system user = 2 ^ 24 + 4096 * system + user
-
--- four digits, up to 4095
+-- four digits, up to the highest code
 abbrev pub user_code_of : List ℕ → Option ℕ
 user_code_of (a ∷ b ∷ c ∷ d ∷ []) =
     let n = 1000 * (a - 48) + 100 * (b - 48) + 10 * (c - 48) + (d - 48) in

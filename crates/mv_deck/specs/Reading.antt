@@ -12,7 +12,8 @@ use Rattle.mv_deck.specs.declared.form.Version.{Version}
 use Rattle.mv_deck.specs.declared.reading.Reading.{Reading}
 use Rattle.mv_deck.specs.Statement.{Statement}
 use Rattle.mv_deck.specs.Deck.{JobData, job_data, jobs_of, place_of, last_steps}
-use Rattle.mv_deck.specs.Fault.{is_null, is_job, first_of_list, fault_at, kind_number, has_bad_name, has_bad_number, is_misplaced, repeats_name, awaits_no_job, is_crowded}
+use Rattle.mv_deck.specs.Fault.{is_null, is_job, first_of_list, fault_at, kind_number, has_bad_name, has_bad_number, is_misplaced}
+use Rattle.mv_deck.specs.Fault.{repeats_name, awaits_no_job, is_crowded}
 use Rattle.mv_deck.specs.Held.{held, latches, is_end}
 use Rattle.mv_deck.specs.Names.{place_in}
 use Rattle.mv_deck.specs.Weight.{weight, heaviest}
@@ -22,6 +23,7 @@ abbrev pub open_job : Option (List ℕ) → List After → List Step → List Jo
 open_job None after steps = []
 open_job (Some name) after steps = record { name = name; after = after; steps = steps } ∷ []
 
+-- the jobs that were read, the last one as far as it goes
 abbrev pub jobs_read : Reading → List JobData
 jobs_read r = map job_data r.finished.items ++ open_job r.name r.after.items r.steps.items
 
@@ -32,6 +34,7 @@ pub record Keeps (initiators : ℕ) (jobs : List JobData) (r : Reading) : Type 0
   pub closed : r.closed ≡ list_any is_end (last_steps jobs)
   pub room : r.room + weight jobs initiators ≡ heaviest
 
+-- the reader has read these statements, and keeps what they come to
 pub record IsBehind (initiators : ℕ) (v : Version) (statements : List Statement) (r : Reading) : Type 0 where
   pub initiators_are : r.initiators ≡ initiators
   pub version : r.version ≡ v

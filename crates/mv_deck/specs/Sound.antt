@@ -4,7 +4,8 @@ use Rattle.std.specs.List.{AllByRecursion, list_any}
 use Rattle.mv_deck.specs.declared.deck.Step.{Step}
 use Rattle.mv_deck.specs.declared.deck.Step.TheVariants.{Print, Use, Free, Count, Scan, Abend, Return}
 use Rattle.mv_deck.specs.declared.deck.After.{After}
-use Rattle.mv_deck.specs.Operand.{is_name, highest_latch, highest_amount, highest_code, most_after}
+use Rattle.mv_deck.specs.EndCode.{highest_code, lowest_abend, not_run}
+use Rattle.mv_deck.specs.Operand.{is_name, highest_latch, highest_amount, most_after}
 use Rattle.mv_deck.specs.Deck.{JobData, place_of}
 use Rattle.mv_deck.specs.Held.{is_out_of_order, lacks_latch, is_end}
 use Rattle.mv_deck.specs.Weight.{weight, heaviest}
@@ -18,7 +19,7 @@ HasGoodNumbers (Use latch mode) = latch ≤ highest_latch
 HasGoodNumbers (Free latch) = latch ≤ highest_latch
 HasGoodNumbers (Count volume amount) = (volume ≤ highest_latch) × (1 ≤ amount) × (amount ≤ highest_amount)
 HasGoodNumbers (Scan volume) = volume ≤ highest_latch
-HasGoodNumbers (Abend code) = (2 ^ 24 ≤ code) × (code < 2 ^ 25)
+HasGoodNumbers (Abend code) = (lowest_abend ≤ code) × (code < not_run)
 HasGoodNumbers (Return code) = code ≤ highest_code
 
 -- a step may stand behind these of its job

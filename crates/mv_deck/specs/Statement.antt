@@ -5,7 +5,9 @@ use Rattle.std.specs.Str.{bytes_eq}
 use Rattle.mv_latch.specs.declared.request.Mode.{Mode}
 use Rattle.mv_deck.specs.declared.form.Version.{Version}
 use Rattle.mv_deck.specs.declared.form.Version.TheVariants.{One, Two}
-use Rattle.mv_deck.specs.Line.{without_first_spaces, fields_of, one_of, two_of, shown, is_comment, is_passed, parts_of, before_colon, behind_colon}
+use Rattle.mv_line.specs.Line.{without_first_spaces}
+use Rattle.mv_line.specs.Field.{fields_of, one_of, two_of}
+use Rattle.mv_deck.specs.Line.{shown, is_comment, is_passed, parts_of, before_colon, behind_colon}
 use Rattle.mv_deck.specs.Operand.{mode_of}
 
 -- a part of an AFTER list: what stands in the place of a name, and in that of an accepted code where there is one
@@ -71,6 +73,7 @@ operated v rest operation operands =
     else if bytes_eq operation (codes "DECK") then option_map DeckOf (one_of operands)
     else None
 
+-- the statement of a line without a name, by its first field
 abbrev pub operation_of : Version → List ℕ → List (List ℕ) → Option Statement
 operation_of v rest [] = None
 operation_of v rest (operation ∷ operands) = operated v rest operation operands
@@ -86,6 +89,7 @@ behind_slashes v (b ∷ bs) = if b == 32 then operation_of v (b ∷ bs) (fields_
 abbrev pub form_of : Version → List ℕ → Option Statement
 form_of v text = if starts_with nat_eq text (codes "//") then behind_slashes v (drop 2 text) else None
 
+-- the statement of a line, if it states one
 abbrev pub statement_of : Version → List ℕ → Option Statement
 statement_of v line = if is_comment (shown line) then None else form_of v (shown line)
 

@@ -3,15 +3,17 @@
 ghost use Rattle.std.specs.Prelude.{◌≡◌, ◌<◌, ◌^◌, List, ℕ, length, drop, map, option_map, IfOk};
 ghost use Rattle.std.specs.Borrow.{Bor};
 ghost use Rattle.mv_deck.specs.Form.{stated, part_data, listed};
-ghost use Rattle.mv_deck.specs.Line.{fields_of, lines_of, one_of, two_of, without_first_spaces as from_first_field};
+ghost use Rattle.mv_line.specs.Line.{lines_of, without_first_spaces as from_first_field};
+ghost use Rattle.mv_line.specs.Field.{fields_of, one_of, two_of};
 ghost use Rattle.mv_deck.specs.Statement.{Statement, form_of as form_by_words, job_of as named, operation_of as unnamed, use_of as used, return_of as returns_by, part_of as cut, declared_by, version_of as version_by_lines};
 
-use crate::line::{
-    is_comment, one_field, split_colon, split_field, split_line, split_part, two_fields,
-    without_cr, without_first_spaces, without_last_spaces,
-};
+use crate::line::{is_comment, split_colon, split_part};
 use crate::operand::mode;
 use mv_latch::Mode;
+use mv_line::{
+    one_field, split_field, split_line, two_fields, without_cr, without_first_spaces,
+    without_last_spaces,
+};
 use std::alloc::{AllocError, Global};
 
 /// Which forms the lines of a deck may have.

@@ -4,6 +4,7 @@
 #![tactic(auto)]
 
 mod deck;
+mod end_code;
 mod fault;
 mod form;
 mod held;
@@ -17,8 +18,10 @@ mod plain;
 mod reading;
 #[cfg(test)]
 mod tests;
+mod weight;
 
 pub use deck::{After, Deck, Job, Name, Step, Text};
+pub use end_code::{HIGHEST_CODE, LOWEST_ABEND, NOT_RUN, USER_CODES};
 pub use fault::{DeckFault, DeckRefusal};
 pub use laws::{decks_are_sound, first_fault_is_lowest};
 pub use reading::read_deck;

@@ -2,18 +2,22 @@
 
 ghost use Rattle.std.specs.Prelude.{◌≡◌, ◌-◌, ◌≤◌, IfSome, Some, None, if◌then◌else◌};
 ghost use Rattle.std.specs.List.{list_all};
-ghost use Rattle.mv_deck.specs.Operand.{highest_latch, is_name_start as starts_name, is_name_byte as stands_in_name, is_name as names_job, is_digit as shows_digit, is_hex as shows_hex, hex_value as value_of_hex, number_of, within as is_number_within, latch_of, amount_of, code_of, mode_of, user_code_of, system_code_of, end_code_of};
+ghost use Rattle.mv_line.specs.Byte.{is_digit as shows_digit};
+ghost use Rattle.mv_line.specs.Number.{number_of, within as is_number_within};
+ghost use Rattle.mv_deck.specs.Operand.{highest_latch, is_name_start as starts_name, is_name_byte as stands_in_name, is_name as names_job, is_hex as shows_hex, hex_value as value_of_hex, latch_of, amount_of, code_of, mode_of, user_code_of, system_code_of, end_code_of};
 
+use crate::end_code::{HIGHEST_CODE, LOWEST_ABEND, USER_CODES};
 use mv_latch::Mode;
+use mv_line::{digit, number_within};
 
 // The highest number of a latch, and of the volume that it guards.
 const HIGHEST_LATCH: u32 = 7;
 
+// The highest amount of a COUNT.
 const HIGHEST_AMOUNT: u32 = 9999;
-// The highest return code, and the highest user code of an ABEND.
-const HIGHEST_CODE: u32 = 4095;
-// What a job ends with that ends by a code of 0.
-const ABENDED: u32 = 1 << 24;
+
+/// How many jobs a job may wait for.
+pub(crate) const MOST_AFTER: usize = 8;
 
 fn is_name_start(byte: u8) -> bool
     ensures { result ≡ starts_name byte }
@@ -41,37 +45,6 @@ pub(crate) fn is_name(field: &[u8]) -> bool
         [] => false,
         [first, rest @ ..] => is_name_start(*first) && are_name_bytes(rest) && rest.len() < 8,
     }
-}
-
-// The number that one to four digits show, without a zero in front.
-fn number(text: &[u8]) -> Option<u32>
-    ensures { result ≡ number_of text.now }
-{
-    match text {
-        [a] => digit(*a),
-        [b'0', ..] => None,
-        [a, b] => Some(10 * digit(*a)? + digit(*b)?),
-        [a, b, c] => Some(100 * digit(*a)? + 10 * digit(*b)? + digit(*c)?),
-        [a, b, c, d] => Some(1000 * digit(*a)? + 100 * digit(*b)? + 10 * digit(*c)? + digit(*d)?),
-        _ => None,
-    }
-}
-
-fn digit(byte: u8) -> Option<u32>
-    ensures { result ≡ (if shows_digit byte then Some (byte - 48) else None) }
-{
-    match byte {
-        b'0'..=b'9' => Some((byte - b'0') as u32),
-        _ => None,
-    }
-}
-
-fn number_within(low: u32, high: u32, text: &[u8]) -> Option<u32>
-    ensures number { result ≡ is_number_within low high (number_of text.now) }
-    ensures bound { IfSome result (λ n. n ≤ high) }
-{
-    let number = number(text)?;
-    (low <= number && number <= high).then_some(number)
 }
 
 /// The number of a latch or a volume, 0 to 7.
@@ -143,8 +116,8 @@ pub(crate) fn end_code(code: &[u8]) -> Option<u32>
     ensures { result ≡ end_code_of code.now }
 {
     match code {
-        [b'U', digits @ ..] => Some(ABENDED + user_code(digits)?),
-        [b'S', digits @ ..] => Some(ABENDED + 4096 * system_code(digits)?),
+        [b'U', digits @ ..] => Some(LOWEST_ABEND + user_code(digits)?),
+        [b'S', digits @ ..] => Some(LOWEST_ABEND + USER_CODES * system_code(digits)?),
         _ => None,
     }
 }

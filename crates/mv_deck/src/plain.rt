@@ -11,24 +11,21 @@ ghost use Rattle.mv_deck.specs.Deck.{job_data, jobs_behind, with_step, jobs_of a
 ghost use Rattle.mv_deck.specs.Fault.{first_fault, first_of_list, kind_number, kinds_of, kinds_of_statement, fault_at, when, is_step_that, is_null as states_null, is_job as states_job, is_deck as states_deck, has_bad_name as names_badly, has_bad_number as numbers_badly, repeats_name as names_again, awaits_no_job as awaits_none, is_crowded as crowds, is_misplaced as stands_misplaced, is_behind_end as stands_behind_end, is_late_deck as comes_late, is_too_long as exceeds_line, has_no_form as lacks_form, is_too_heavy as weighs_too_much};
 ghost use Rattle.mv_deck.specs.Form.{stated, part_data, bytes_behind};
 ghost use Rattle.mv_deck.specs.Held.{HasLatch, held as held_by_definition, held_behind as behind_by_definition, holds_from as holds_by_definition, is_out_of_order as steps_out_of_order, lacks_latch as steps_without_latch, is_end as ends_by};
-ghost use Rattle.mv_deck.specs.Line.{lines_of, is_passed as passes};
+ghost use Rattle.mv_line.specs.Line.{lines_of};
+ghost use Rattle.mv_deck.specs.Line.{is_passed as passes};
 ghost use Rattle.mv_deck.specs.Operand.{highest_latch};
 ghost use Rattle.mv_deck.specs.Statement.{statement_of as statement_of_line, statements_of};
 ghost use Rattle.mv_deck.specs.Weight.{weight as weight_by_definition, step_events as events_of_step};
 
 use crate::fault::Kind;
 use crate::form::{Form, Part, Version, form_of, parts_of, version_of};
-use crate::line::{
-    LONGEST_LINE, has_foreign_byte, is_comment, split_line, without_cr, without_last_spaces,
-};
-use crate::operand::{amount, code, end_code, is_name, latch};
+use crate::line::{LONGEST_LINE, is_comment};
+use crate::operand::{MOST_AFTER, amount, code, end_code, is_name, latch};
+use crate::weight::{HEAVIEST, step_events};
 use crate::{After, DeckFault, Job, Name, Step, Text, parts};
 use mv_latch::Mode;
+use mv_line::{has_foreign_byte, split_line, without_cr, without_last_spaces};
 use std::alloc::{AllocError, Global};
-
-const HEAVIEST: u128 = 524_287;
-
-const MOST_AFTER: usize = 8;
 
 const LATCHES: [u32; 8] = [0, 1, 2, 3, 4, 5, 6, 7];
 
@@ -463,7 +460,7 @@ fn is_too_heavy(
 {
     let mut jobs = jobs_of(alloc, version, earlier)?;
     follow(alloc, version, &mut jobs, form)?;
-    Ok(weight(&jobs, initiators) > HEAVIEST)
+    Ok(weight(&jobs, initiators) > u128::from(HEAVIEST))
 }
 
 // ---- the jobs of statements
@@ -639,18 +636,7 @@ fn events(steps: &[Step]) -> u128
 {
     let mut total = 0;
     for step in steps.iter() {
-        total += step_events(step);
+        total += u128::from(step_events(step));
     }
     total
-}
-
-fn step_events(step: &Step) -> u128
-    ensures events { result ≡ events_of_step step.now }
-    ensures few { result ≤ 2 }
-{
-    match step {
-        Step::Use(_, _) | Step::Count(_, _) | Step::Scan(_) => 2,
-        Step::Free(_) => 1,
-        Step::Print(_) | Step::Abend(_) | Step::Return(_) => 0,
-    }
 }

@@ -9,24 +9,20 @@ ghost use Rattle.mv_deck.specs.Held.{HasLatch, held, latches, is_end as ends_by}
 ghost use Rattle.mv_deck.specs.Names.{place_in};
 ghost use Rattle.mv_deck.specs.Reading.{IsBehind, IsGoodJob, Tells, jobs_read, refusal_at};
 ghost use Rattle.mv_deck.specs.Statement.{Statement, Null, DeckOf, JobOf, statement_of};
-ghost use Rattle.mv_deck.specs.Weight.{step_events as events_of_step};
+ghost use Rattle.mv_deck.specs.Operand.{most_after};
+ghost use Rattle.mv_deck.specs.Weight.{heaviest};
 
 use crate::fault::{Kind, LineRefusal};
 use crate::form::{Form, Part, Version, form_of, parts_of, version_of};
 use crate::held::Held;
-use crate::line::{
-    LONGEST_LINE, has_foreign_byte, is_comment, split_line, without_cr, without_last_spaces,
-};
+use crate::line::{LONGEST_LINE, is_comment};
 use crate::names::Names;
-use crate::operand::{amount, code, end_code, is_name, latch};
+use crate::operand::{MOST_AFTER, amount, code, end_code, is_name, latch};
 use crate::parts::{has_bad_code, has_bad_name, has_double};
+use crate::weight::{HEAVIEST, step_events};
 use crate::{After, Deck, DeckFault, DeckRefusal, Job, Name, Step, Text};
+use mv_line::{has_foreign_byte, split_line, without_cr, without_last_spaces};
 use std::alloc::{AllocError, Global};
-
-// The weight that a deck may have.
-const HEAVIEST: u64 = 524_287;
-// The jobs that an AFTER list may name.
-const MOST_AFTER: usize = 8;
 
 /// Reads a deck for a spool of so many initiators, 1 to 8.
 ///
@@ -253,7 +249,7 @@ impl<'a> Reading<'a> {
 
     // Tells the lowest kind of fault of a JOB, but for its weight.
     fn check_job(&self, name: &'a [u8], parts: &[Part<'a>]) -> Result<(), LineRefusal>
-        ensures few { OnOk result (length parts.now ≤ 8) }
+        ensures few { OnOk result (length parts.now ≤ most_after) }
         ensures kinds { (n : ℕ) (v : Version) (earlier : List Statement) → IsBehind n v earlier self.now
             → MatchResult result
             (λ _. IsGoodJob earlier (jobs_of earlier) (JobOf name.now (map part_data parts.now)))
@@ -287,7 +283,7 @@ impl<'a> Reading<'a> {
 
     // Begins a job.
     fn begin(&mut self, name: &'a [u8], parts: &[Part<'a>]) -> Result<(), AllocError>
-        requires { length self.now.finished.items ≤ 524287 }
+        requires { length self.now.finished.items ≤ heaviest }
         ensures jobs { (jobs : List JobData) → ((q : List ℕ) → place_in self.old.names q ≡ place_of jobs q) → jobs_read self.old ≡ jobs
             → OnOk result (jobs_read self.new ≡ jobs ++ fresh_job jobs name.now (map part_data parts.now) ∷ []) }
         ensures names { (jobs : List JobData) → jobs_read self.old ≡ jobs
@@ -366,18 +362,6 @@ impl<'a> Reading<'a> {
         Ok(Deck {
             jobs: self.finished,
         })
-    }
-}
-
-// The events of a step at most.
-fn step_events(step: &Step) -> u64
-    ensures events { result ≡ events_of_step step.now }
-    ensures few { result ≤ 2 }
-{
-    match step {
-        Step::Use(_, _) | Step::Count(_, _) | Step::Scan(_) => 2,
-        Step::Free(_) => 1,
-        Step::Print(_) | Step::Abend(_) | Step::Return(_) => 0,
     }
 }
 

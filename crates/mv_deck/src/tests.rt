@@ -1,3 +1,6 @@
+//! Decks by their texts: which are read, and the first fault of the others, beside the plain search. Expected values are worked
+//! out by hand.
+
 use super::*;
 use crate::plain::plain_first_fault;
 use mv_latch::Mode;

@@ -75,7 +75,10 @@ pub fn tell<N: Sink>(notes: &mut N, note: Option<Note>)
 {
     let Some(note) = note else { return };
     match note {
-        Note::Usage => write_line(notes, b"USAGE: spool I, script, replay, load N I\n"),
+        Note::Usage => write_line(
+            notes,
+            b"USAGE: spool I, script, replay, convert, load N I\n",
+        ),
         Note::DeckFault { line, kind } => write_line(
             notes,
             fault_line(b"DECK ", line, kind).as_bytes(),

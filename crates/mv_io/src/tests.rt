@@ -1,3 +1,5 @@
+//! Sources and sinks in memory, with and without faults.
+
 ghost use Rattle.std.specs.Prelude.{◌≤◌, IfOk};
 
 use super::*;

@@ -5,7 +5,8 @@ use Rattle.std.proofs.lemmas.List.Elements.{All-from_recursion}
 use Rattle.mv_deck.specs.declared.deck.Step.{Step}
 use Rattle.mv_deck.specs.declared.deck.Step.TheVariants.{Print, Use, Free, Count, Scan, Abend, Return}
 use Rattle.mv_deck.specs.Deck.{JobData}
-use Rattle.mv_report.specs.EndCode.{IsEndCode, not_run}
+use Rattle.mv_deck.specs.EndCode.{not_run}
+use Rattle.mv_report.specs.EndCode.{IsEndCode}
 use Rattle.mv_report.specs.Outcome.{own_end, some_unaccepted, end_behind, ends_from, ends}
 
 -- each ABEND and each RETURN of these steps has an end code

@@ -5,7 +5,8 @@ use Rattle.std.specs.Str.Parse.{AllDigits, digits_value}
 use Rattle.std.proofs.lemmas.Bool.{cases_eq, eqb-true, eq-eqb, ne_eqb, le-leb, lt-leb, and_parts}
 use Rattle.std.proofs.lemmas.Fmt.{digits_value-decimal}
 use Rattle.std.proofs.lemmas.Str.Parse.{numerals_by_value, tells_digits}
-use Rattle.mv_report.specs.EndCode.{IsEndCode, highest_return, not_run, is_ended, is_not_run, is_abended, system_code, user_code}
+use Rattle.mv_deck.specs.EndCode.{highest_code, lowest_abend, user_codes, not_run}
+use Rattle.mv_report.specs.EndCode.{IsEndCode, is_ended, is_not_run, is_abended, system_code, user_code}
 use Rattle.mv_report.specs.Report.{digit, outcome_text}
 
 -- ---- digits
@@ -48,7 +49,7 @@ decimal_reads_back n lt =
     let d = value_of-digit (n % 10) (omega arith) in
     rw (a, b, c, d) (omega arith)
 
-hexadecimal_reads_back : (n : ℕ) → n < 4096 → hexadecimal_value (digit (n / 256)) (digit (n / 16 % 16)) (digit (n % 16)) ≡ n
+hexadecimal_reads_back : (n : ℕ) → n < user_codes → hexadecimal_value (digit (n / 256)) (digit (n / 16 % 16)) (digit (n % 16)) ≡ n
 hexadecimal_reads_back n lt =
     let a = value_of-digit (n / 256) (omega arith) in
     let b = value_of-digit (n / 16 % 16) (omega arith) in
@@ -64,45 +65,46 @@ end_from text =
     let at : ℕ → ℕ = λ i. get_or text i 0 in
     cond (eqb (at 0) 69) (digits_value 10 (drop 9 text))
     (cond (eqb (at 0) 78) not_run
-    (2 ^ 24 + cond (eqb (at 8) 85) (decimal_value (at 9) (at 10) (at 11) (at 12)) (4096 * hexadecimal_value (at 9) (at 10) (at 11))))
+    (lowest_abend + cond (eqb (at 8) 85) (decimal_value (at 9) (at 10) (at 11) (at 12)) (user_codes * hexadecimal_value (at 9) (at 10)
+    (at 11))))
 
 -- an end code without a user code behind a system code
 abbrev pub told : ℕ → ℕ
 told end =
-    cond (is_abended end) (2 ^ 24 + cond (eqb (system_code end) 0) (user_code end) (4096 * system_code end)) end
+    cond (is_abended end) (lowest_abend + cond (eqb (system_code end) 0) (user_code end) (user_codes * system_code end)) end
 
-return_reads_back : (end : ℕ) → eqb end 0 ≡ false → is_ended end ≡ true → end ≤ highest_return → end_from (outcome_text end) ≡ told end
+return_reads_back : (end : ℕ) → eqb end 0 ≡ false → is_ended end ≡ true → end ≤ highest_code → end_from (outcome_text end) ≡ told end
 return_reads_back end some ended le =
     rw (some, ended) (digits_value-decimal (numerals_by_value (AllDigits 10) tells_digits) end (omega arith))
 
 abend_reads_back : (end : ℕ) → eqb end 0 ≡ false → is_ended end ≡ false → is_not_run end ≡ false
-    → system_code end < 4096 → user_code end < 10000
+    → system_code end < user_codes → user_code end < 10000
     → end_from (outcome_text end) ≡ told end
 abend_reads_back end some gone was_run system user =
     elim (cases_eq (system_code end) 0) [
       | inl e ↦ let none = eq-eqb (system_code end) 0 e in
-          rw (some, gone, was_run, none) (ap (λ (n : ℕ). 2 ^ 24 + n) (decimal_reads_back (user_code end) user))
+          rw (some, gone, was_run, none) (ap (λ (n : ℕ). lowest_abend + n) (decimal_reads_back (user_code end) user))
       | inr ne ↦ let coded = ne_eqb (system_code end) 0 ne in
-          rw (some, gone, was_run, coded) (ap (λ (n : ℕ). 2 ^ 24 + 4096 * n) (hexadecimal_reads_back (system_code end) system))
+          rw (some, gone, was_run, coded) (ap (λ (n : ℕ). lowest_abend + user_codes * n) (hexadecimal_reads_back (system_code end) system))
     ]
 
 pub outcome_reads_back : (end : ℕ) → IsEndCode end → end_from (outcome_text end) ≡ told end
 outcome_reads_back end (inl le) =
     elim (cases_eq end 0) [
       | inl e ↦ rw e refl
-      | inr some ↦ return_reads_back end (ne_eqb end 0 some) (le-leb end highest_return le) le
+      | inr some ↦ return_reads_back end (ne_eqb end 0 some) (le-leb end highest_code le) le
     ]
 outcome_reads_back end (inr (low, high)) =
     elim (cases_eq end not_run) [
       | inl e ↦ rw e refl
-      | inr run ↦ abend_reads_back end (ne_eqb end 0 (λ e. absurd (omega arith))) (lt-leb end highest_return (omega arith))
+      | inr run ↦ abend_reads_back end (ne_eqb end 0 (λ e. absurd (omega arith))) (lt-leb end highest_code (omega arith))
           (ne_eqb end not_run run) (omega arith) (omega arith)
     ]
 
 pub outcomes_apart : (a b : ℕ) → IsEndCode a → IsEndCode b → outcome_text a ≡ outcome_text b → told a ≡ told b
 outcomes_apart a b ha hb e = sym (outcome_reads_back a ha) ∙ ap end_from e ∙ outcome_reads_back b hb
 
-abend_told : (end : ℕ) → is_ended end ≡ false → is_not_run end ≡ false → 2 ^ 24 ≤ end
+abend_told : (end : ℕ) → is_ended end ≡ false → is_not_run end ≡ false → lowest_abend ≤ end
     → (system_code end ≡ 0) ⊎ (user_code end ≡ 0) → told end ≡ end
 abend_told end gone was_run lowest one =
     elim (cases_eq (system_code end) 0) [
@@ -112,9 +114,9 @@ abend_told end gone was_run lowest one =
 
 -- with one of the two codes 0, all of the end code is told
 pub told_is_all : (end : ℕ) → IsEndCode end → (system_code end ≡ 0) ⊎ (user_code end ≡ 0) → told end ≡ end
-told_is_all end (inl le) one = rw (le-leb end highest_return le) refl
+told_is_all end (inl le) one = rw (le-leb end highest_code le) refl
 told_is_all end (inr (low, high)) one =
     elim (cases_eq end not_run) [
       | inl e ↦ rw e refl
-      | inr run ↦ abend_told end (lt-leb end highest_return (omega arith)) (ne_eqb end not_run run) low one
+      | inr run ↦ abend_told end (lt-leb end highest_code (omega arith)) (ne_eqb end not_run run) low one
     ]

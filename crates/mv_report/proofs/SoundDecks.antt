@@ -53,7 +53,13 @@ all_added_few : (v : ℕ) (steps : List Step) → HaveGoodNumbers steps → 2 * 
 unfolding HaveGoodNumbers events
 all_added_few v [] good = omega arith
 all_added_few v (step ∷ steps) good =
-    omega (arith, sum_by-cons (added v) step steps, sum_by-cons step_events step steps, few_added v step good.0, all_added_few v steps good.1)
+    omega (
+      arith,
+      sum_by-cons (added v) step steps,
+      sum_by-cons step_events step steps,
+      few_added v step good.0,
+      all_added_few v steps good.1,
+    )
 
 one_longer : (v : ℕ) (step : Step) (front steps : List Step) → added_by v front ≤ added_by v steps
     → added_by v (step ∷ front) ≤ added_by v (step ∷ steps)
@@ -121,7 +127,8 @@ sound_total deck initiators v one sound =
     let le : all_events deck ≤ heaviest = few_events deck initiators one sound in
     omega arith
 
-pub sound_totals : (deck : List JobData) (initiators : ℕ) → 1 ≤ initiators → IsSound deck initiators → map held_of (totals deck) ≡ totals deck
+pub sound_totals : (deck : List JobData) (initiators : ℕ) → 1 ≤ initiators → IsSound deck initiators
+    → map held_of (totals deck) ≡ totals deck
 sound_totals deck initiators one sound = each (0 ∷ 1 ∷ 2 ∷ 3 ∷ 4 ∷ 5 ∷ 6 ∷ 7 ∷ []) where
   each : (volumes : List ℕ) → map held_of (map (total deck) volumes) ≡ map (total deck) volumes
   each [] = refl

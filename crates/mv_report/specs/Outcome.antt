@@ -5,9 +5,10 @@ use Rattle.std.specs.Prelude.{List, [], ◌∷◌, ◌++◌, map, flat_map, sum_
 use Rattle.std.specs.List.{list_any}
 use Rattle.mv_deck.specs.declared.deck.After.{After}
 use Rattle.mv_deck.specs.declared.deck.Step.{Step}
-use Rattle.mv_deck.specs.declared.deck.Step.TheVariants.{Print, Count, Scan, Abend, Return}
+use Rattle.mv_deck.specs.declared.deck.Step.TheVariants.{Print, Use, Free, Count, Scan, Abend, Return}
 use Rattle.mv_deck.specs.Deck.{JobData}
-use Rattle.mv_report.specs.EndCode.{not_run, is_not_run}
+use Rattle.mv_deck.specs.EndCode.{not_run}
+use Rattle.mv_report.specs.EndCode.{is_not_run}
 use Rattle.mv_report.specs.Report.{report_text}
 
 -- ---- how jobs end
@@ -15,22 +16,31 @@ use Rattle.mv_report.specs.Report.{report_text}
 -- the code of the first ABEND or the number of the first RETURN, whichever stands first; 0 without one
 abbrev pub own_end : List Step → ℕ
 own_end [] = 0
+own_end (Print text ∷ steps) = own_end steps
+own_end (Use latch mode ∷ steps) = own_end steps
+own_end (Free latch ∷ steps) = own_end steps
+own_end (Count volume amount ∷ steps) = own_end steps
+own_end (Scan volume ∷ steps) = own_end steps
 own_end (Abend code ∷ steps) = code
 own_end (Return code ∷ steps) = code
-own_end (step ∷ steps) = own_end steps
 
 -- the steps in front of the first ABEND or RETURN, all without one
 abbrev pub before_end : List Step → List Step
 before_end [] = []
+before_end (Print text ∷ steps) = Print text ∷ before_end steps
+before_end (Use latch mode ∷ steps) = Use latch mode ∷ before_end steps
+before_end (Free latch ∷ steps) = Free latch ∷ before_end steps
+before_end (Count volume amount ∷ steps) = Count volume amount ∷ before_end steps
+before_end (Scan volume ∷ steps) = Scan volume ∷ before_end steps
 before_end (Abend code ∷ steps) = []
 before_end (Return code ∷ steps) = []
-before_end (step ∷ steps) = step ∷ before_end steps
 
 -- Whether a part of an AFTER names a job whose end is above the code that the part accepts. These are the ends of the jobs in
 -- front of its own; a part that names none of them refuses nothing.
 abbrev pub is_unaccepted : List ℕ → After → Bool
 is_unaccepted ends part = nat_lt part.most (slice_index ends part.job)
 
+-- whether one of these parts refuses the job
 abbrev pub some_unaccepted : List ℕ → List After → Bool
 some_unaccepted ends parts = list_any (is_unaccepted ends) parts
 
@@ -67,8 +77,12 @@ steps_done deck = all_steps_with (ends deck) deck
 -- the lines that a step writes
 abbrev pub lines_of_step : Step → List (List ℕ)
 lines_of_step (Print text) = (codes "| " ++ text) ∷ []
+lines_of_step (Use latch mode) = []
+lines_of_step (Free latch) = []
+lines_of_step (Count volume amount) = []
 lines_of_step (Scan volume) = (codes "| SCAN " ++ decimal volume ++ codes " STEADY") ∷ []
-lines_of_step _ = []
+lines_of_step (Abend code) = []
+lines_of_step (Return code) = []
 
 -- the lines that some steps write, in order
 abbrev pub lines_of_steps : List Step → List (List ℕ)
@@ -82,8 +96,13 @@ lines deck = map lines_of_steps (steps_done deck)
 
 -- what a step adds to a volume
 abbrev pub added : ℕ → Step → ℕ
+added volume (Print text) = 0
+added volume (Use latch mode) = 0
+added volume (Free latch) = 0
 added volume (Count v amount) = if v == volume then amount else 0
-added volume _ = 0
+added volume (Scan v) = 0
+added volume (Abend code) = 0
+added volume (Return code) = 0
 
 -- the sum of the amounts that some steps add to a volume
 abbrev pub added_by : ℕ → List Step → ℕ

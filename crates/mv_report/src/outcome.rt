@@ -5,10 +5,9 @@ ghost use Rattle.std.specs.Prelude.{◌≡◌, ℕ, ◌+◌, ◌<◌, ◌++◌, 
 ghost use Rattle.mv_deck.specs.Deck.{job_data, deck_data};
 ghost use Rattle.mv_report.specs.Outcome.{is_unaccepted, some_unaccepted, own_end, end_behind, ends, steps_with, lines_of_steps, lines, added_by, totals, held_of};
 
-use crate::end_code::NOT_RUN;
 use crate::lines::Lines;
 use itoa::Buffer;
-use mv_deck::{After, Deck, Job, Step, Text};
+use mv_deck::{After, Deck, Job, NOT_RUN, Step, Text};
 use mv_io::NoMemory;
 use std::alloc::Global;
 
@@ -70,8 +69,10 @@ fn own_end(steps: &[Step]) -> u32
     ensures { result ≡ own_end steps.now }
 {
     for step in steps {
-        if let Step::Abend(end) | Step::Return(end) = step {
-            return *end;
+        match step {
+            Step::Abend(end) | Step::Return(end) => return *end,
+            Step::Print(_) | Step::Use(_, _) | Step::Free(_) | Step::Count(_, _) | Step::Scan(_) =>
+                {}
         }
     }
     0
@@ -107,8 +108,10 @@ fn steps_with(end: u32, steps: &[Step]) -> &[Step]
         return &steps[..0];
     }
     for (count, step) in steps.iter().enumerate() {
-        if let Step::Abend(_) | Step::Return(_) = step {
-            return &steps[..count];
+        match step {
+            Step::Abend(_) | Step::Return(_) => return &steps[..count],
+            Step::Print(_) | Step::Use(_, _) | Step::Free(_) | Step::Count(_, _) | Step::Scan(_) =>
+                {}
         }
     }
     steps

@@ -2,15 +2,14 @@
 
 ghost use Rattle.std.specs.Prelude.{◌≡◌, ◌^◌, ◌<◌, ◌≤◌, ◌++◌, length, All, count_by, decimal, OnOk, IfOk, vec_len};
 ghost use Rattle.mv_deck.specs.Deck.{deck_data};
+ghost use Rattle.mv_deck.specs.EndCode.{lowest_abend, not_run};
 ghost use Rattle.mv_report.specs.EndCode.{IsEndCode, is_ended, is_abended, is_not_run};
 ghost use Rattle.mv_report.specs.Report.{digit, abend_text, outcome_text, lines_text, job_text, jobs_text, counts_text, volumes_text, report_text};
 
-use crate::end_code::{
-    HIGHEST_RETURN, LOWEST_ABEND, NOT_RUN, USER_CODES, is_abended, is_ended, is_not_run,
-};
+use crate::end_code::{is_abended, is_ended, is_not_run};
 use crate::lines::Lines;
 use itoa::Buffer;
-use mv_deck::{Deck, Name};
+use mv_deck::{Deck, HIGHEST_CODE, LOWEST_ABEND, NOT_RUN, Name, USER_CODES};
 use mv_io::NoMemory;
 use std::alloc::Global;
 
@@ -32,8 +31,8 @@ fn push_number(out: &mut Vec<u8>, label: &[u8], number: usize) -> Result<(), NoM
 }
 
 fn push_abend(out: &mut Vec<u8>, end: u32) -> Result<(), NoMemory>
-    requires lowest { 2 ^ 24 ≤ end }
-    requires highest { end < 2 ^ 25 }
+    requires lowest { lowest_abend ≤ end }
+    requires highest { end < not_run }
     ensures { OnOk result (out.new.items ≡ out.old.items ++ abend_text end) }
 {
     let system = (end - LOWEST_ABEND) / USER_CODES;
@@ -64,7 +63,7 @@ fn push_outcome(out: &mut Vec<u8>, end: u32) -> Result<(), NoMemory>
 {
     match end {
         0 => out.extend_from_slice(b"ENDED")?,
-        1..=HIGHEST_RETURN => push_number(out, b"ENDED RC ", end as usize)?,
+        1..=HIGHEST_CODE => push_number(out, b"ENDED RC ", end as usize)?,
         NOT_RUN => out.extend_from_slice(b"NOT RUN")?,
         _ => {
             out.extend_from_slice(b"ABENDED ")?;

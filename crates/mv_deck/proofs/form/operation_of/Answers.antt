@@ -1,5 +1,5 @@
 use Rattle.std.proofs.Common.{ℕ, List, sym, ◌∙◌, refl}
-use Rattle.mv_deck.specs.Line.{fields_of}
+use Rattle.mv_line.specs.Field.{fields_of}
 use Rattle.mv_deck.proofs.Forms.{chosen, compared}
 use Rattle.mv_deck.proofs.form.operation_of.Goals as goal
 

@@ -1,5 +1,5 @@
 use Rattle.std.proofs.Common.{◌≡◌, length}
-use Rattle.mv_deck.specs.Line.{lines_of}
+use Rattle.mv_line.specs.Line.{lines_of}
 use Rattle.mv_deck.specs.Statement as statement
 use Rattle.mv_deck.proofs.form.version_of.Given as goal
 

@@ -1,6 +1,6 @@
 use Rattle.std.proofs.Common.{sym, ◌∙◌, arith}
 use Rattle.std.proofs.lemmas.Grind.{common_steps}
-use Rattle.mv_deck.proofs.Lines.{at_comma, no_comma}
+use Rattle.mv_deck.proofs.Commas.{at_comma, no_comma}
 use Rattle.mv_deck.proofs.line.split_part.Goals as goal
 
 pub returns-in-Some-clause-parts : goal.returns-in-Some-clause-parts

@@ -6,7 +6,7 @@ use Rattle.mv_deck.specs.declared.form.Form.{Form}
 use Rattle.mv_deck.specs.declared.form.Version.{Version}
 use Rattle.mv_deck.specs.Fault.{is_null, kind_number}
 use Rattle.mv_deck.specs.Form.{stated}
-use Rattle.mv_deck.specs.Line.{lines_of}
+use Rattle.mv_line.specs.Line.{lines_of}
 use Rattle.mv_deck.specs.Statement.{statements_of}
 use Rattle.mv_deck.proofs.Anew.{told_by, fault_before, before_next, before_end}
 use Rattle.mv_deck.proofs.plain.plain_first_fault.Goals as goal

@@ -1,7 +1,7 @@
 -- What was read and what the lines that are left state are all statements.
 use Rattle.std.proofs.Common.{◌≡◌, ◌+◌, ◌≤◌, ◌++◌, length, map, take}
 use Rattle.mv_deck.specs.Form.{stated}
-use Rattle.mv_deck.specs.Line.{lines_of}
+use Rattle.mv_line.specs.Line.{lines_of}
 use Rattle.mv_deck.specs.Statement.{statements_of}
 use Rattle.mv_deck.proofs.plain.statements.Given as goal
 

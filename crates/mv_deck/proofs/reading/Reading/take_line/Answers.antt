@@ -12,5 +12,8 @@ returns-in-Some c = λ n v earlier b.
     ∙ ap (option_map (stated c.args.self.now.version)) c.in-Some.is
     ∙ ap (λ x. Some (stated x c.in-Some.form)) b.version in
     taken n v earlier c.args.line.now (stated v c.in-Some.form) _ _
-    (is_shown n v earlier c.args.line.now c.without_cr-content.result.now c.without_last_spaces-text.result.now (stated v c.in-Some.form) c.without_cr-content.ensures c.without_last_spaces-text.ensures (sym c.has_foreign_byte.ensures ∙ c.if-has_foreign_byte.false) c.if-content-gt-LONGEST_LINE.false (sym c.is_empty.ensures ∙ c.if-is_empty.false) (sym c.is_comment.ensures ∙ c.if-is_comment.false) form)
+    (is_shown n v earlier c.args.line.now c.without_cr-content.result.now c.without_last_spaces-text.result.now
+    (stated v c.in-Some.form) c.without_cr-content.ensures c.without_last_spaces-text.ensures
+    (sym c.has_foreign_byte.ensures ∙ c.if-has_foreign_byte.false) c.if-content-gt-LONGEST_LINE.false
+    (sym c.is_empty.ensures ∙ c.if-is_empty.false) (sym c.is_comment.ensures ∙ c.if-is_comment.false) form)
     (c.take.ensures n v earlier b)

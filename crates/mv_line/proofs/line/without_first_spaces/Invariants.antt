@@ -1,7 +1,7 @@
 use Rattle.std.proofs.Common.{◌≡◌, ◌+◌, ◌-◌, ◌≤◌, length, drop}
 use Rattle.std.specs.List.{prefix_len}
-use Rattle.mv_deck.specs.Line.{is_space}
-use Rattle.mv_deck.proofs.line.without_first_spaces.Given as goal
+use Rattle.mv_line.specs.Byte.{is_space}
+use Rattle.mv_line.proofs.line.without_first_spaces.Given as goal
 
 abbrev pub invariant-loop-start : goal.invariant-loop-start
 invariant-loop-start l = (l.start ≤ length l.text) × (l.start + prefix_len is_space (drop l.start l.text) ≡ prefix_len is_space l.text)

@@ -1,7 +1,7 @@
 use Rattle.std.proofs.Common.{arith}
 use Rattle.std.proofs.lemmas.Grind.{common_steps}
-use Rattle.mv_deck.proofs.Lines.{line_of_text}
-use Rattle.mv_deck.proofs.line.split_line.Goals as goal
+use Rattle.mv_line.proofs.Lines.{line_of_text}
+use Rattle.mv_line.proofs.line.split_line.Goals as goal
 
 pub returns-then-end-text-clause-lines : goal.returns-then-end-text-clause-lines
 returns-then-end-text-clause-lines c = let l = line_of_text c.args.text.now c.requires in grind (arith, common_steps)

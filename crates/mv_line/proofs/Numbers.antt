@@ -1,0 +1,27 @@
+-- Numbers in digits.
+use Rattle.std.proofs.Common.{◌≡◌, ℕ, ◌+◌, ◌-◌, ◌*◌, ◌<◌, ◌≤◌, ◌&&◌, Bool, true, false, cond, List, [], ◌∷◌, length, drop, get_or, Option, Some}
+use Rattle.std.proofs.Common.{None, refl, ap, arith, leb}
+use Rattle.std.proofs.lemmas.Bool.{lt-leb}
+use Rattle.std.proofs.lemmas.List.{drop_more}
+use Rattle.mv_line.specs.Number.{value_behind, is_number, number_of, within}
+
+-- further digits never show less
+pub value_rises : (shown : ℕ) (digits : List ℕ) → shown ≤ value_behind shown digits
+value_rises shown [] = omega arith
+value_rises shown (d ∷ digits) =
+    let more = value_rises (10 * shown + (d - 48)) digits in
+    omega arith
+
+-- where the first digits show more than the highest number of a range, the text shows none of it
+pub too_high : (low high shown i : ℕ) (text : List ℕ) → i < length text → is_number text ≡ true
+    → value_behind shown (drop i text) ≡ value_behind 0 text → high < 10 * shown + (get_or text i 0 - 48)
+    → within low high (number_of text) ≡ None
+too_high low high shown i text lt is so_far over =
+    let digit : ℕ = get_or text i 0 in
+    let rises = value_rises (10 * shown + (digit - 48)) (drop (i + 1) text) in
+    let split : value_behind shown (drop i text) ≡ value_behind (10 * shown + (digit - 48)) (drop (i + 1) text)
+    = ap (value_behind shown) (drop_more text i 0 lt) in
+    rw (is, lt-leb (value_behind 0 text) high (omega arith)) (neither (leb low (value_behind 0 text))) where
+      neither : (b : Bool) → cond (b && false) (Some (value_behind 0 text)) None ≡ None
+      neither true = refl
+      neither false = refl

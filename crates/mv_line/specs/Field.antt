@@ -1,0 +1,35 @@
+-- The fields of a text, parted by one or more spaces.
+use Rattle.std.specs.Prelude.{ℕ, Bool, true, List, [], ◌∷◌, Option, Some, None, if◌then◌else◌}
+use Rattle.std.specs.List.{onto_first}
+use Rattle.mv_line.specs.Byte.{is_space}
+
+-- whether a field ends here: at a space or at the end
+abbrev pub ends_field : List ℕ → Bool
+ends_field [] = true
+ends_field (b ∷ bs) = is_space b
+
+-- the fields of a text, in order
+abbrev pub fields_of : List ℕ → List (List ℕ)
+fields_of [] = []
+fields_of (b ∷ bs) =
+    if is_space b then fields_of bs
+    else if ends_field bs then (b ∷ []) ∷ fields_of bs
+    else onto_first b (fields_of bs)
+
+-- a field, and the fields behind it; an empty one is none
+abbrev pub starts_fields : List ℕ → List (List ℕ) → List (List ℕ)
+starts_fields [] rest = []
+starts_fields (b ∷ bs) rest = (b ∷ bs) ∷ rest
+
+-- the field of a list that has just one
+abbrev pub one_of : List (List ℕ) → Option (List ℕ)
+one_of [] = None
+one_of (field ∷ []) = Some field
+one_of (first ∷ second ∷ more) = None
+
+-- the fields of a list that has just two
+abbrev pub two_of : List (List ℕ) → Option (List ℕ × List ℕ)
+two_of [] = None
+two_of (first ∷ []) = None
+two_of (first ∷ second ∷ []) = Some (first, second)
+two_of (first ∷ second ∷ third ∷ more) = None

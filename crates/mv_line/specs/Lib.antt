@@ -1,0 +1,4 @@
+pub mod Byte
+pub mod Line
+pub mod Field
+pub mod Number

@@ -1,0 +1,27 @@
+-- How a text is cut into lines, and what of a line counts.
+use Rattle.std.specs.Prelude.{ℕ, ◌-◌, ◌==◌, Bool, false, List, [], ◌∷◌, length, take, drop, slice_index, if◌then◌else◌}
+use Rattle.std.specs.List.{onto_first, prefix_len, suffix_len}
+use Rattle.mv_line.specs.Byte.{is_space}
+
+-- Each line ends at LF or at the end of the text; LF is no part of it. What stands behind the last LF is a line
+-- exactly where it has a byte.
+abbrev pub lines_of : List ℕ → List (List ℕ)
+lines_of [] = []
+lines_of (b ∷ bs) = if b == 10 then [] ∷ lines_of bs else onto_first b (lines_of bs)
+
+-- a line without the CR that stands right at its end, if one does
+abbrev pub without_cr : List ℕ → List ℕ
+without_cr line = if slice_index line (length line - 1) == 13 then take (length line - 1) line else line
+
+-- a text without the spaces at its end
+abbrev pub without_last_spaces : List ℕ → List ℕ
+without_last_spaces text = take (length text - suffix_len is_space text) text
+
+-- a text without the spaces at its front
+abbrev pub without_first_spaces : List ℕ → List ℕ
+without_first_spaces text = drop (prefix_len is_space text) text
+
+-- whether a text begins with a space
+abbrev pub begins_with_space : List ℕ → Bool
+begins_with_space [] = false
+begins_with_space (b ∷ bs) = is_space b

@@ -1,0 +1,40 @@
+//! Kinds of bytes, and where one first stands (`specs/Byte.antt`).
+
+ghost use Rattle.std.specs.Prelude.{◌≡◌, ◌==◌, ◌-◌, ◌≤◌, length, not, Some, None, if◌then◌else◌};
+ghost use Rattle.std.specs.List.{list_any, position, position_or_len};
+ghost use Rattle.mv_line.specs.Byte.{is_digit, is_printable};
+
+/// Where a byte first stands in a text, if it does.
+pub fn first_place(text: &[u8], byte: u8) -> Option<usize>
+    ensures { result ≡ position (λ b. b == byte) text.now }
+{
+    text.iter().position(|b| *b == byte)
+}
+
+/// Where a byte first stands in a text, or the text's length.
+pub fn end_at(text: &[u8], byte: u8) -> usize
+    ensures place { result ≡ position_or_len (λ b. b == byte) text.now }
+    ensures within { result ≤ length text.now }
+{
+    match first_place(text, byte) {
+        Some(place) => place,
+        None => text.len(),
+    }
+}
+
+/// Whether a byte stands in a text that is no printable ASCII, 32 to 126.
+pub fn has_foreign_byte(text: &[u8]) -> bool
+    ensures { result ≡ list_any (λ b. not (is_printable b)) text.now }
+{
+    text.iter().any(|b| !(32..=126).contains(b))
+}
+
+/// The number that a byte shows, where it is a decimal digit.
+pub fn digit(byte: u8) -> Option<u32>
+    ensures { result ≡ (if is_digit byte then Some (byte - 48) else None) }
+{
+    match byte {
+        b'0'..=b'9' => Some((byte - b'0') as u32),
+        _ => None,
+    }
+}

@@ -1,0 +1,40 @@
+//! The fields of a text, parted by one or more spaces (`specs/Field.antt`).
+
+ghost use Rattle.std.specs.Prelude.{◌≡◌, List, ℕ, option_map};
+ghost use Rattle.std.specs.Borrow.{Bor};
+ghost use Rattle.mv_line.specs.Field.{fields_of, starts_fields, one_of, two_of};
+
+use crate::byte::end_at;
+use crate::line::without_first_spaces;
+
+/// The first field of a text and what follows it; an empty field where there is none.
+pub fn split_field(text: &[u8]) -> (&[u8], &[u8])
+    ensures { fields_of text.now ≡ starts_fields result.0.now (fields_of result.1.now) }
+{
+    let text = without_first_spaces(text);
+    text.split_at(end_at(text, b' '))
+}
+
+/// The field of a text that has just one.
+pub fn one_field(text: &[u8]) -> Option<&[u8]>
+    ensures { option_map (λ (f : Bor (List ℕ)). f.now) result ≡ one_of (fields_of text.now) }
+{
+    let (first, rest) = split_field(text);
+    let (second, _) = split_field(rest);
+    if first.is_empty() || !second.is_empty() {
+        return None;
+    }
+    Some(first)
+}
+
+/// The fields of a text that has just two.
+pub fn two_fields(text: &[u8]) -> Option<(&[u8], &[u8])>
+    ensures { option_map (λ (p : Bor (List ℕ) × Bor (List ℕ)). (p.0.now, p.1.now)) result ≡ two_of (fields_of text.now) }
+{
+    let (first, rest) = split_field(text);
+    let second = one_field(rest)?;
+    if first.is_empty() {
+        return None;
+    }
+    Some((first, second))
+}

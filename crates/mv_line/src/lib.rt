@@ -1,0 +1,19 @@
+//! Texts in lines and fields: how bytes are cut into lines, a line into fields, and which number digits show.
+//! Nothing is copied: each function answers a part of the text that it was given.
+//! What the fields mean, and what a reader says of a text that it can't take, is the business of the crates above.
+#![tactic(auto)]
+
+mod byte;
+mod field;
+mod line;
+mod number;
+
+pub use byte::{digit, end_at, first_place, has_foreign_byte};
+pub use field::{one_field, split_field, two_fields};
+pub use line::{
+    begins_with_space, split_line, without_cr, without_first_spaces, without_last_spaces,
+};
+pub use number::number_within;
+
+#[cfg(test)]
+mod tests;

@@ -1,0 +1,59 @@
+//! Lines of a text, and what of a line counts (`specs/Line.antt`).
+
+ghost use Rattle.std.specs.Prelude.{◌≡◌, ◌∷◌, ◌<◌, length};
+ghost use Rattle.mv_line.specs.Line.{lines_of, without_cr as text_without_cr, without_first_spaces as from_first_field};
+ghost use Rattle.mv_line.specs.Line.{without_last_spaces as to_last_field, begins_with_space as begins_so};
+
+use crate::byte::end_at;
+
+/// The first line of a text and what follows it. The text has a byte.
+pub fn split_line(text: &[u8]) -> (&[u8], &[u8])
+    requires { 0 < length text.now }
+    ensures lines { lines_of text.now ≡ result.0.now ∷ lines_of result.1.now }
+    ensures shorter { length result.1.now < length text.now }
+{
+    let end = end_at(text, b'\n');
+    if end == text.len() {
+        return text.split_at(end);
+    }
+    (&text[..end], &text[end + 1..])
+}
+
+/// A line without one CR at its end; a second CR stays, and is no printable byte.
+pub fn without_cr(line: &[u8]) -> &[u8]
+    ensures { result.now ≡ text_without_cr line.now }
+{
+    match line {
+        [content @ .., b'\r'] => content,
+        _ => line,
+    }
+}
+
+/// A text without the spaces at its end.
+pub fn without_last_spaces(text: &[u8]) -> &[u8]
+    ensures { result.now ≡ to_last_field text.now }
+{
+    let mut end = text.len();
+    while end > 0 && text[end - 1] == b' ' {
+        end -= 1;
+    }
+    &text[..end]
+}
+
+/// A text without the spaces at its front.
+pub fn without_first_spaces(text: &[u8]) -> &[u8]
+    ensures { result.now ≡ from_first_field text.now }
+{
+    let mut start = 0;
+    while start < text.len() && text[start] == b' ' {
+        start += 1;
+    }
+    &text[start..]
+}
+
+/// Whether a text begins with a space.
+pub fn begins_with_space(text: &[u8]) -> bool
+    ensures { result ≡ begins_so text.now }
+{
+    matches!(text, [b' ', ..])
+}
