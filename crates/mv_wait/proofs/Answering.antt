@@ -21,12 +21,12 @@ use Rattle.mv_machine.specs.Legal.{after}
 use Rattle.mv_machine.specs.Parts.{IsPossible}
 use Rattle.mv_machine.specs.Setup.{Setup, owner_of}
 use Rattle.mv_board.specs.Faces.{CallerFace, HappenedAt, Happened}
-use Rattle.mv_machine.specs.calls.Keeping.{kept_of}
-use Rattle.mv_machine.specs.calls.Rest.{no_waits, waits_from}
-use Rattle.mv_machine.specs.Behind.{IsBehind}
-use Rattle.mv_machine.specs.Known.{BlockAgrees}
-use Rattle.mv_machine.proofs.Behind.{last_is_behind}
-use Rattle.mv_machine.proofs.Blocks.{block_agrees}
+use Rattle.mv_calls.specs.Keeping.{kept_of}
+use Rattle.mv_calls.specs.Rest.{no_waits, waits_from}
+use Rattle.mv_calls.specs.Behind.{IsBehind}
+use Rattle.mv_calls.specs.Known.{BlockAgrees}
+use Rattle.mv_calls.proofs.Behind.{last_is_behind}
+use Rattle.mv_calls.proofs.Blocks.{block_agrees}
 use Rattle.mv_wait.proofs.Runs.{entry_of}
 
 -- the history behind which an event was made

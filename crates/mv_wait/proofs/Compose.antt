@@ -1,17 +1,15 @@
--- Calls within calls, and what was served in the words of made calls.
+-- Calls within calls.
 use Rattle.std.proofs.Common.{ℕ, ◌+◌, ◌++◌, ◌∙◌, arith, length-append}
 use Rattle.mv_board.specs.Faces.{BoardFace, CallerFace, IsOf}
 use Rattle.mv_machine.specs.Setup.{Setup}
 use Rattle.mv_machine.specs.Reach.{reach}
-use Rattle.mv_machine.specs.calls.Keeping.{Kept}
-use Rattle.mv_machine.specs.calls.Made.{IsMade}
-use Rattle.mv_machine.specs.calls.Posts.{Posting, post, wake_posted}
-use Rattle.mv_machine.specs.calls.Program.{Program, Done, Call, and_then}
-use Rattle.mv_machine.specs.calls.Rest.{IsAtRest}
-use Rattle.mv_machine.proofs.calls.Programs.{and_then_says, and_then_left}
+use Rattle.mv_calls.specs.Keeping.{Kept}
+use Rattle.mv_calls.specs.Posts.{Posting, post, wake_posted}
+use Rattle.mv_calls.specs.Program.{Program, Done, Call, and_then}
+use Rattle.mv_calls.proofs.Programs.{and_then_says, and_then_left}
 use Rattle.std.specs.Prelude.{Some}
 use Rattle.mv_wait.specs.Run.{Runs, IsServed}
-use Rattle.mv_wait.proofs.Runs.{went_then}
+use Rattle.mv_wait.proofs.Runs.{went_then, served_runs}
 
 -- a program of a call, and the one that follows it in the same call
 pub runs_and_then : {A B : Type 0} (m n : ℕ) (p : Program A) (f : A → Program B) (a : A) (q : Program B) (t u v : CallerFace)
@@ -25,30 +23,14 @@ runs_and_then m n p f a q t u v x y = record {
   rest = and_then_left p f x.events y.events a x.says x.rest ∙ y.rest;
 }
 
--- what was served to a task at rest is a call that was made
-pub made_of : {A : Type 0} (most : ℕ) (call : Call A) (Is : A → Type 0) (t u : CallerFace) → IsAtRest t.log → IsServed most call Is t u
-    → (a : A) × (Is a) × IsMade most call t.number t.log u.log t.told u.told a
-made_of most call Is t u began s = (
-  s.answer,
-  s.is,
-  record {
-    began = began;
-    events = s.made.events;
-    longer = record { wakes = s.made.went.wakes; logged = s.made.went.logged; told = s.made.went.told };
-    few = s.made.few;
-    done = record { says = s.made.says; done = s.made.rest };
-    rest = s.rest;
-  },
-)
-
 -- a post that a wake or an end of a job asks for, and what follows it. The post looks at nothing that is kept
 pub post_within_call : {A : Type 0} (c : Setup) (e code n : ℕ) (kept : Kept) (Is : Posting → Type 0) (last q : Program A)
     (t u v : CallerFace)
     → IsServed (reach c e) (post c e code) Is t u → Runs n last q u v → Runs (reach c e + n) (wake_posted c (Some e) code kept last) q t v
 post_within_call c e code n kept Is last q t u v s y =
-    runs_and_then (reach c e) n (post c e code kept) (λ p. last) s.answer q t u v s.made y
+    runs_and_then (reach c e) n (post c e code kept) (λ p. last) s.answer q t u v (served_runs (reach c e) (post c e code) Is t u s) y
 
 -- a task that was served is still of its station
 pub still_served : {A : Type 0} (b : BoardFace) (most : ℕ) (call : Call A) (Is : A → Type 0) (t u : CallerFace)
     → IsServed most call Is t u → IsOf b t → IsOf b u
-still_served b most call Is t u s of = (s.made.went.same.table ∙ of.0, s.made.went.same.about ∙ of.1)
+still_served b most call Is t u s of = (s.same.table ∙ of.0, s.same.about ∙ of.1)

@@ -12,7 +12,7 @@ use Rattle.mv_machine.specs.declared.entry.Object.TheVariants.{Ecb, Element}
 use Rattle.mv_machine.specs.declared.entry.Op.TheVariants as op_on
 use Rattle.mv_machine.specs.declared.entry.Reply.TheVariants as reply_of
 use Rattle.mv_machine.specs.System.{with_at}
-use Rattle.mv_machine.specs.calls.Keeping.{Kept, kept_after, extended_with, in_use_with, generation_with, generation_after}
+use Rattle.mv_calls.specs.Keeping.{Kept, kept_after, extended_with, in_use_with, generation_with, generation_after}
 use Rattle.mv_ecb.specs.declared.operation.EcbOp.{EcbOp}
 use Rattle.mv_ecb.specs.declared.operation.EcbReply.{EcbReply}
 use Rattle.mv_wait.specs.declared.keep.Keep.{Keep}

@@ -1,5 +1,7 @@
 -- events that a task made, and how far a program ran by them
 pub mod Runs
+pub mod Steps
+pub mod LatchSteps
 pub mod OneEvent
 pub mod Compose
 -- what a reply says, by the history behind it

@@ -5,7 +5,7 @@ use Rattle.std.specs.List.{AllByRecursion}
 use Rattle.mv_machine.specs.Setup.{Setup}
 use Rattle.mv_board.specs.Faces.{BoardFace, CallerFace, IsOf, IsSame}
 use Rattle.mv_wait.specs.Waiting.{AreOwn, ArePlain}
-use Rattle.mv_machine.specs.calls.Keeping.{kept_of}
+use Rattle.mv_calls.specs.Keeping.{kept_of}
 use Rattle.mv_machine.specs.Setup.{owner_of}
 
 -- the same caller is of the same board

@@ -7,7 +7,7 @@ use Rattle.mv_machine.specs.Setup.{Setup}
 use Rattle.mv_board.specs.declared.watch.Watch.{Watch}
 use Rattle.mv_board.specs.declared.watch.Watch.TheVariants as watch
 use Rattle.mv_board.specs.Faces.{BoardFace, CallerFace, MayWatch, PeekedIn, Peeks, IsFresh, AreFresh}
-use Rattle.mv_board.specs.Rule.{HasMade}
+use Rattle.mv_machine.specs.Kept.{HasMade}
 use Rattle.mv_wait.specs.Run.{Went}
 use Rattle.mv_wait.proofs.Runs.{went_look, went_log}
 

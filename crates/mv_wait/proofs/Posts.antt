@@ -13,18 +13,18 @@ use Rattle.mv_board.specs.Faces.{CallerFace, Happened}
 use Rattle.mv_machine.specs.declared.entry.Entry.{Entry}
 use Rattle.mv_machine.specs.declared.entry.Reply.{Reply}
 use Rattle.mv_machine.specs.Reach.{reach, total}
-use Rattle.mv_machine.specs.calls.Rest.{IsAtRest, no_waits}
-use Rattle.mv_machine.proofs.calls.Making.{waits_from-append}
+use Rattle.mv_calls.specs.Rest.{IsAtRest, no_waits}
+use Rattle.mv_calls.proofs.Making.{waits_from-append}
 use Rattle.mv_wait.specs.Answers.{post_answer}
 use Rattle.mv_wait.specs.declared.posting.PostAnswer.{PostAnswer}
 use Rattle.mv_wait.specs.Posted.{Leads}
 use Rattle.mv_wait.proofs.Exits.{total-append}
-use Rattle.mv_machine.specs.calls.Posts.{Posting, posting, post, post_within, each_posted, posted_next}
-use Rattle.mv_machine.specs.calls.Posts as came
-use Rattle.mv_machine.specs.calls.Program.{Program, Do, Done, Heard, asks, heard, and_then, on_ecb}
+use Rattle.mv_calls.specs.Posts.{Posting, posting, post, post_within, each_posted, posted_next}
+use Rattle.mv_calls.specs.Posts as came
+use Rattle.mv_calls.specs.Program.{Program, Do, Done, Heard, asks, heard, and_then, on_ecb}
 use Rattle.mv_wait.specs.Posted.{reply_to_post}
 use Rattle.mv_wait.specs.Run.{Runs, IsServed}
-use Rattle.mv_wait.proofs.Runs.{runs_word, runs_then, runs_within}
+use Rattle.mv_wait.proofs.Runs.{runs_word, runs_then, runs_within, serves}
 
 -- blocks of one exit that are still to be posted, how deep exits are followed there, and the answer of the post that has the exit
 pub record Frame : Type 0 where
@@ -268,12 +268,9 @@ module _ (c : Setup) (code : ℕ) where
       }
 
   -- and the last
-  pub ended : (e : ℕ) (t : CallerFace) (a : Posting) (u : CallerFace) (result : PostAnswer) → post_answer a ≡ result → Underway e t a u []
+  pub ended : (e : ℕ) (t : CallerFace) (a : Posting) (u : CallerFace) (result : PostAnswer) → post_answer a ≡ result → IsAtRest t.log → Underway e t a u []
       → IsServed (reach c e) (post c e code) (λ p. post_answer p ≡ result) t u
-  ended e t a u result is w = record {
-    answer = a;
-    is = is;
-    made = runs_within w.made (reach c e) (post_within (length c.owners) c code e) (Done a) t u (let few = w.few in omega arith)
-        (subst (λ q. Runs w.made (post_within (length c.owners) c code e) q t u) (ends a a w.frames w.ending w.flat_is) w.runs);
-    rest = w.rest;
-  }
+  ended e t a u result is began w = serves (reach c e) (post c e code) (λ p. post_answer p ≡ result) t u a began is
+      (runs_within w.made (reach c e) (post_within (length c.owners) c code e) (Done a) t u (let few = w.few in omega arith)
+      (subst (λ q. Runs w.made (post_within (length c.owners) c code e) q t u) (ends a a w.frames w.ending w.flat_is) w.runs))
+      w.rest

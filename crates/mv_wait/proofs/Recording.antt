@@ -1,5 +1,5 @@
 -- What a task keeps follows its events.
-use Rattle.std.proofs.Common.{◌≡◌, ℕ, ◌+◌, ◌*◌, ◌^◌, ◌<◌, ◌==◌, Bool, true, false, List, [], ◌∷◌, ◌++◌, length}
+use Rattle.std.proofs.Common.{◌≡◌, ℕ, ◌+◌, ◌*◌, ◌^◌, ◌<◌, ◌==◌, Bool, true, false, [], ◌∷◌, ◌++◌, length}
 use Rattle.std.proofs.Common.{cond, Some, refl, sym, ap, ◌∙◌, subst, arith, length-append}
 use Rattle.std.proofs.lemmas.Bool.{false≢true, eqb-true}
 use Rattle.std.specs.List.{AllByRecursion}
@@ -16,6 +16,7 @@ use Rattle.mv_machine.specs.declared.entry.Op.TheVariants as op_on
 use Rattle.mv_machine.specs.declared.entry.Reply.{Reply}
 use Rattle.mv_machine.specs.declared.entry.Reply.TheVariants as reply_of
 use Rattle.mv_machine.specs.Check.{IsValid}
+use Rattle.mv_machine.specs.Kept.{standing, stands_with}
 use Rattle.mv_machine.specs.Legal.{after}
 use Rattle.mv_machine.specs.Parts.{IsPossible}
 use Rattle.mv_machine.specs.Setup.{Setup}
@@ -27,11 +28,14 @@ use Rattle.mv_machine.proofs.Longer.{legal_longer}
 use Rattle.mv_machine.proofs.OneHistory.{budgets_fit}
 use Rattle.mv_board.specs.Faces.{CallerFace, Happened}
 use Rattle.mv_board.specs.Words.{HasWord, test_of}
-use Rattle.mv_machine.specs.calls.Keeping.{Kept, kept_of, kept_after}
+use Rattle.mv_board.proofs.Acting.{standing_more}
+use Rattle.mv_calls.specs.Keeping.{Kept, kept_of, kept_after, nothing_kept}
+use Rattle.mv_calls.proofs.Making.{kept_caller}
 use Rattle.mv_wait.specs.declared.keep.Keep.{Keep}
 use Rattle.mv_wait.specs.Keep.{Keeps, IsOfKind, ClosesBelow}
 use Rattle.mv_wait.specs.Record.{Fits}
 use Rattle.mv_wait.proofs.Answering.{made_behind}
+use Rattle.mv_wait.proofs.Low.{kept_low}
 use Rattle.mv_wait.proofs.Runs.{entry_of}
 use Rattle.mv_wait.proofs.Waits.{kept_one}
 
@@ -136,16 +140,18 @@ closes_below c t u o op reply h p v =
 
 -- ---- the tables stay
 
-pub fits_on : (t u : CallerFace) (o : Object) (op : Op) (reply : Reply) (k new : Keep) (s : Setup) → Happened t o op reply u
+fits_on : (t u : CallerFace) (o : Object) (op : Op) (reply : Reply) (k new : Keep) (s : Setup) → Happened t o op reply u
     → new.first ≡ k.first
-    → length new.extended.items ≡ length k.extended.items → length new.elements.items ≡ length k.elements.items → Fits t k s → Fits u new s
-fits_on t u o op reply k new s h first blocks elements f =
+    → length new.extended.items ≡ length k.extended.items → length new.elements.items ≡ length k.elements.items
+    → IsPossible s u.number u.log u.told → Fits t k s → Fits u new s
+fits_on t u o op reply k new s h first blocks elements p f =
     let n = h.1.same.number in record {
       valid = f.valid;
       caller = subst (λ m. m < s.callers) (sym n) f.caller;
       blocks = blocks ∙ f.blocks;
       elements = elements ∙ f.elements;
       first = first ∙ (f.first ∙ ap (λ m. m * s.elements_per_caller) (sym n));
+      low = λ element own. kept_low s u.number element u.log u.told f.valid p own;
     }
 
 pub keeps_on : (t u : CallerFace) (o : Object) (op : Op) (reply : Reply) (new : Keep) → Happened t o op reply u
@@ -154,13 +160,25 @@ keeps_on t u o op reply new h k =
     subst (λ (z : Kept). Keeps z new)
     (sym ((λ i. kept_of (h.1.same.number i) (h.1.logged i)) ∙ kept_one t.number t.log (entry_of t o h.0 op reply))) k
 
-pub all_fit : (t u : CallerFace) (o : Object) (op : Op) (reply : Reply) (k new : Keep) (ss : List Setup) → Happened t o op reply u
+-- the requests that are kept go on to be those that stand by the log: each entry is the caller's own
+pub stands_on : (t u : CallerFace) (o : Object) (op : Op) (reply : Reply) → Happened t o op reply u
+    → (kept_of t.number t.log).requests ≡ standing t.log → (kept_of u.number u.log).requests ≡ standing u.log
+stands_on t u o op reply h same =
+    let e = entry_of t o h.0 op reply in
+    (λ i. (kept_of (h.1.same.number i) (h.1.logged i)).requests)
+    ∙ ap (λ (q : Kept). q.requests) (kept_one t.number t.log e)
+    ∙ ap (λ k. stands_with k (kept_of t.number t.log).requests o op reply) (kept_caller (nothing_kept t.number) t.log)
+    ∙ ap (λ ts. stands_with t.number ts o op reply) same
+    ∙ sym (standing_more [] t.log e)
+    ∙ ap standing (sym h.1.logged)
+
+pub all_fit : (t u : CallerFace) (o : Object) (op : Op) (reply : Reply) (k new : Keep) (s : Setup) → Happened t o op reply u
     → new.first ≡ k.first
     → length new.extended.items ≡ length k.extended.items → length new.elements.items ≡ length k.elements.items
-    → AllByRecursion (Fits t k) ss → AllByRecursion (Fits u new) ss
-all_fit t u o op reply k new [] h a b e all = tt
-all_fit t u o op reply k new (s ∷ ss) h a b e all =
-    (fits_on t u o op reply k new s h a b e all.0, all_fit t u o op reply k new ss h a b e all.1)
+    → t.about ≡ s ∷ [] → IsPossible s u.number u.log u.told → AllByRecursion (Fits t k) t.about → AllByRecursion (Fits u new) u.about
+all_fit t u o op reply k new s h a b e about p all =
+    subst (AllByRecursion (Fits u new)) (sym (h.1.same.about ∙ about))
+    (fits_on t u o op reply k new s h a b e p (subst (AllByRecursion (Fits t k)) about all).0, tt)
 
 -- ---- a read keeps all that is kept
 

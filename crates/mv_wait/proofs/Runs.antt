@@ -9,11 +9,13 @@ use Rattle.mv_machine.specs.declared.entry.Op.{Op}
 use Rattle.mv_machine.specs.declared.entry.Reply.{Reply}
 use Rattle.mv_board.specs.declared.view.Sight.{Sight}
 use Rattle.mv_board.specs.Faces.{CallerFace, IsSame, HappenedAt, Happened, Shows, LooksAt, Found}
-use Rattle.mv_machine.specs.calls.Made.{told_by, told_with, HasItsWakes}
-use Rattle.mv_machine.specs.calls.Program.{Program, Heard, Says, left, asks, heard, entries}
-use Rattle.mv_machine.proofs.calls.Making.{entries-append, told_by-append, wakes-append}
-use Rattle.mv_machine.proofs.calls.Programs.{left-append, Says-append}
-use Rattle.mv_wait.specs.Run.{Went, Runs}
+use Rattle.mv_calls.specs.Made.{told_by, told_with, HasItsWakes}
+use Rattle.mv_calls.specs.Keeping.{kept_of}
+use Rattle.mv_calls.specs.Program.{Program, Done, Call, Heard, Says, left, asks, heard, entries}
+use Rattle.mv_calls.specs.Rest.{IsAtRest}
+use Rattle.mv_calls.proofs.Making.{entries-append, told_by-append, wakes-append}
+use Rattle.mv_calls.proofs.Programs.{left-append, Says-append}
+use Rattle.mv_wait.specs.Run.{Went, Runs, IsServed}
 
 pub same_caller : (t : CallerFace) → IsSame t t
 same_caller t = record { table = refl; about = refl; number = refl }
@@ -149,3 +151,42 @@ runs_word p q t o op reply u w h a next = record {
 -- without an event the log is the same
 pub went_log : (t u : CallerFace) → Went [] t u → u.log ≡ t.log
 went_log t u w = w.logged ∙ append-nil t.log
+
+-- ---- whole calls
+
+-- a call that began at rest, and whose program was run to its end
+pub serves : {A : Type 0} (most : ℕ) (call : Call A) (Is : A → Type 0) (t u : CallerFace) (a : A) → IsAtRest t.log → Is a
+    → Runs most (call (kept_of t.number t.log)) (Done a) t u → IsAtRest u.log → IsServed most call Is t u
+serves most call Is t u a began is runs rest = record {
+  answer = a;
+  is = is;
+  made = record {
+    began = began;
+    events = runs.events;
+    longer = record { wakes = runs.went.wakes; logged = runs.went.logged; told = runs.went.told };
+    few = runs.few;
+    done = record { says = runs.says; done = runs.rest };
+    rest = rest;
+  };
+  same = runs.went.same;
+  left = runs.went.left;
+  met = runs.went.met;
+}
+
+-- and what was served is a run
+pub served_runs : {A : Type 0} (most : ℕ) (call : Call A) (Is : A → Type 0) (t u : CallerFace) → (s : IsServed most call Is t u)
+    → Runs most (call (kept_of t.number t.log)) (Done s.answer) t u
+served_runs most call Is t u s = record {
+  events = s.made.events;
+  went = record {
+    same = s.same;
+    wakes = s.made.longer.wakes;
+    logged = s.made.longer.logged;
+    told = s.made.longer.told;
+    left = s.left;
+    met = s.met;
+  };
+  few = s.made.few;
+  says = s.made.done.says;
+  rest = s.made.done.done;
+}

@@ -18,42 +18,23 @@ use Rattle.mv_machine.specs.Kept.{allowed}
 use Rattle.mv_machine.specs.Parts.{IsPossible}
 use Rattle.mv_machine.specs.Setup.{Setup, owner_of, is_exit_of}
 use Rattle.mv_board.specs.Faces.{CallerFace, Happened, Exchanged}
-use Rattle.mv_machine.specs.calls.Keeping.{Kept, kept_of, nothing_kept}
-use Rattle.mv_machine.proofs.calls.Making.{kept_caller}
-use Rattle.mv_machine.specs.calls.Posts.{Posting, posting, try_post, expected_of, is_expected, same_post_reply, same_posting}
-use Rattle.mv_machine.specs.calls.Posts as came
-use Rattle.mv_machine.specs.calls.Program.{Program, Do, Done, Wrong, Call, Heard, asks, heard, on_ecb, unless_refused}
-use Rattle.mv_machine.specs.calls.Refusal.{Refusal}
-use Rattle.mv_machine.specs.calls.Refusal as refusal
-use Rattle.mv_machine.specs.calls.Rest.{OpenWaits, IsAtRest, waits_after}
-use Rattle.mv_machine.specs.calls.Waits.{refused_if, is_others_block, clear, the_word, extend, extend_refusal, extended}
+use Rattle.mv_calls.specs.Keeping.{Kept, kept_of, nothing_kept}
+use Rattle.mv_calls.proofs.Making.{kept_caller}
+use Rattle.mv_calls.specs.Posts.{Posting, posting, try_post, expected_of, is_expected, same_post_reply, same_posting}
+use Rattle.mv_calls.specs.Posts as came
+use Rattle.mv_calls.specs.Program.{Program, Do, Done, Wrong, Heard, on_ecb, unless_refused}
+use Rattle.mv_calls.specs.Refusal.{Refusal}
+use Rattle.mv_calls.specs.Refusal as refusal
+use Rattle.mv_calls.specs.Rest.{IsAtRest}
+use Rattle.mv_calls.specs.Waits.{refused_if, is_others_block, clear, the_word, extend, extend_refusal, extended}
 use Rattle.mv_wait.specs.Answers.{post_answer}
 use Rattle.mv_wait.specs.Posted.{reply_to_post}
-use Rattle.mv_wait.specs.Run.{Runs, IsServed}
+use Rattle.mv_wait.specs.Run.{IsServed}
 use Rattle.mv_wait.specs.Says.{SaysExtended}
 use Rattle.mv_wait.proofs.Answering.{block_answers}
-use Rattle.mv_machine.specs.Known.{BlockAgrees}
-use Rattle.mv_wait.proofs.OneEvent.{one_served, still_at_rest}
-use Rattle.mv_wait.proofs.Runs.{IsWord, heard_of, went_word, runs_none, runs_within}
-
--- a call that is refused makes no event
-pub refused_served : {A : Type 0} (n : ℕ) (call : Call (Result A Refusal)) (Is : Result A Refusal → Type 0) (why : Refusal) (t : CallerFace)
-    → call (kept_of t.number t.log) ≡ Done (Err why) → IsAtRest t.log → Is (Err why) → IsServed n call Is t t
-refused_served n call Is why t e rest is = record {
-  answer = Err why;
-  is = is;
-  made = runs_within 0 n (call (kept_of t.number t.log)) (Done (Err why)) t t (omega arith)
-      (subst (λ q. Runs 0 (call (kept_of t.number t.log)) q t t) e (runs_none (call (kept_of t.number t.log)) t));
-  rest = rest;
-}
-
--- one that is not makes its event
-pub event_served : {A : Type 0} (call : Call A) (Is : A → Type 0) (t u : CallerFace) (o : Object) (op : Op) (next : Heard → Program A)
-    (reply : Reply) (a : A) → IsWord o
-    → Happened t o op reply u → call (kept_of t.number t.log) ≡ Do o op next → ((h : Heard) → h.entry.reply ≡ reply → next h ≡ Done a)
-    → ((w : OpenWaits) → waits_after w o op reply ≡ w) → IsAtRest t.log → Is a → IsServed 1 call Is t u
-event_served call Is t u o op next reply a w h e goes stay rest is =
-    one_served call Is t u o op reply a w h (ap asks e) (λ x r. ap (λ p. heard p x) e ∙ goes x r) stay rest is
+use Rattle.mv_calls.specs.Known.{BlockAgrees}
+use Rattle.mv_wait.proofs.Runs.{heard_of, went_word, serves}
+use Rattle.mv_wait.proofs.Steps.{still_at_rest}
 
 -- ---- whose a block is
 
@@ -139,18 +120,16 @@ try_post_served c e expected code p t u x rest =
     ap (λ z. option_and_then (λ v. option_map (λ r. (v.0, r)) (Rattle.mv_machine.specs.Packing.reply_in op v.1)) z) x.unpacks
     ∙ ap (λ z. option_map (λ r. (x.place, r)) z) x.replies in
     let same : is_expected same_post_reply (expected_of o op expected) x.place reply ≡ true =
-    ap (λ z. is_expected same_post_reply z x.place reply) known ∙ (λ i. (eq-eqb x.place x.place refl i) && (same_twice p i)) in record {
-      answer = p;
-      is = refl;
-      made = record {
-        events = h ∷ [];
-        went = went_word t o x.place op reply u tt x.happened;
-        few = omega arith;
-        says = (refl, tt);
-        rest = ap (λ b. cond b (on_ecb reply (posting (λ q. Done q))) Wrong) same ∙ answered p;
-      };
-      rest = still_at_rest t u o op reply (x.place, x.happened) (λ w. refl) rest;
-    }
+    ap (λ z. is_expected same_post_reply z x.place reply) known ∙ (λ i. (eq-eqb x.place x.place refl i) && (same_twice p i)) in
+    serves 1 (try_post e expected code) (λ q. post_answer q ≡ post_answer p) t u p rest refl
+    (record {
+      events = h ∷ [];
+      went = went_word t o x.place op reply u tt x.happened;
+      few = omega arith;
+      says = (refl, tt);
+      rest = ap (λ b. cond b (on_ecb reply (posting (λ q. Done q))) Wrong) same ∙ answered p;
+    })
+    (still_at_rest t u o op reply (x.place, x.happened) (λ w. refl) rest)
 
 -- ---- the calls that may be refused, with their refusal and without
 

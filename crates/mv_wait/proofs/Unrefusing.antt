@@ -7,17 +7,18 @@ use Rattle.mv_machine.specs.Check.{or_else}
 use Rattle.mv_machine.specs.Setup.{Setup, owner_of}
 use Rattle.mv_machine.specs.declared.entry.Entry.{Entry}
 use Rattle.mv_board.specs.Faces.{CallerFace, IsSame}
-use Rattle.mv_machine.specs.calls.Keeping.{Kept, kept_of, nothing_kept}
-use Rattle.mv_machine.proofs.calls.Making.{kept_caller}
-use Rattle.mv_machine.specs.calls.Program.{Program, Done}
-use Rattle.mv_machine.specs.calls.Refusal.{Refusal, TooMany, Doubled, NotOwnerAt, ExtendedAt}
-use Rattle.mv_machine.specs.calls.Rest.{IsAtRest}
-use Rattle.mv_machine.specs.calls.Waits.{refused_if, refused_at, doubled_at, is_others_block, wait_refusal, wait, arm_all, settle_all}
-use Rattle.mv_machine.specs.calls.Waits.{enough, complete_count, AreDistinct}
-use Rattle.mv_machine.proofs.calls.Unrefused.{wait_is}
+use Rattle.mv_calls.specs.Keeping.{Kept, kept_of, nothing_kept}
+use Rattle.mv_calls.proofs.Making.{kept_caller}
+use Rattle.mv_calls.specs.Program.{Program, Done}
+use Rattle.mv_calls.specs.Refusal.{Refusal, TooMany, Doubled, NotOwnerAt, ExtendedAt}
+use Rattle.mv_calls.specs.Rest.{IsAtRest}
+use Rattle.mv_calls.specs.Waits.{refused_if, refused_at, doubled_at, is_others_block, wait_refusal, wait, arm_all, settle_all}
+use Rattle.mv_calls.specs.Waits.{enough, complete_count, AreDistinct}
+use Rattle.mv_calls.proofs.Unrefused.{wait_is}
 use Rattle.mv_wait.specs.Run.{Went, Runs, IsServed}
 use Rattle.mv_wait.specs.Waiting.{AreOwn, ArmsAll, SettlesEnough, Waited}
-use Rattle.mv_wait.proofs.Runs.{runs_then, runs_within, runs_look, runs_none}
+use Rattle.mv_wait.proofs.Runs.{runs_then, runs_within, runs_look, serves}
+use Rattle.mv_wait.proofs.Steps.{done_served}
 
 first_none : (a b : Option Refusal) → or_else a b ≡ None → a ≡ None
 first_none None b e = refl
@@ -108,35 +109,28 @@ accepted_own c t u es there a same =
 -- the parts of a wait put together
 pub wait_served : (c : Setup) (count : ℕ) (es : List ℕ) (slots : List (Option ℕ)) (t u v w : CallerFace)
     → wait_refusal c count es (kept_of t.number t.log) ≡ None
-    → ArmsAll es t u → Went [] u v → SettlesEnough count es slots v w → IsAtRest w.log
+    → IsAtRest t.log → ArmsAll es t u → Went [] u v → SettlesEnough count es slots v w → IsAtRest w.log
     → IsServed (2 * length es) (wait c count es) (λ a. a ≡ Ok slots) t w
-wait_served c count es slots t u v w none arms looks settles rest =
+wait_served c count es slots t u v w none began arms looks settles rest =
     let after : Program Waited = settle_all es [] (enough count) in
     let last : enough count slots ≡ Done (Ok slots) = rw (le-leb count (complete_count slots) settles.enough) refl in
     let front : Runs (length es) (arm_all es after) after t v = runs_look (length es) (arm_all es after) after t u v (arms after) looks in
     let back : Runs (length es) after (Done (Ok slots)) v w =
-    subst (λ q. Runs (length es) after q v w) last (settles.settles [] (enough count)) in record {
-      answer = Ok slots;
-      is = refl;
-      made = runs_within (length es + length es) (2 * length es) (wait c count es (kept_of t.number t.log)) (Done (Ok slots)) t w
-          (omega arith)
-          (subst (λ p. Runs (length es + length es) p (Done (Ok slots)) t w) (sym (wait_is c count es (kept_of t.number t.log) none))
-          (runs_then (length es) (length es) (arm_all es after) after (Done (Ok slots)) t v w front back));
-      rest = rest;
-    }
+    subst (λ q. Runs (length es) after q v w) last (settles.settles [] (enough count)) in
+    serves (2 * length es) (wait c count es) (λ a. a ≡ Ok slots) t w (Ok slots) began refl
+    (runs_within (length es + length es) (2 * length es) (wait c count es (kept_of t.number t.log)) (Done (Ok slots)) t w
+    (omega arith)
+    (subst (λ p. Runs (length es + length es) p (Done (Ok slots)) t w) (sym (wait_is c count es (kept_of t.number t.log) none))
+    (runs_then (length es) (length es) (arm_all es after) after (Done (Ok slots)) t v w front back)))
+    rest
 
 -- one that is refused makes no event
 pub wait_is_refused : (c : Setup) (count : ℕ) (es : List ℕ) (why : Refusal) (t : CallerFace)
     → wait_refusal c count es (kept_of t.number t.log) ≡ Some why → IsAtRest t.log
     → IsServed (2 * length es) (wait c count es) (λ a. a ≡ Err why) t t
 wait_is_refused c count es why t is rest =
-    let p : Program Waited = wait c count es (kept_of t.number t.log) in
-    let e : p ≡ Done (Err why) = rw is refl in record {
-      answer = Err why;
-      is = refl;
-      made = runs_within 0 (2 * length es) p (Done (Err why)) t t (omega arith) (subst (λ q. Runs 0 p q t t) e (runs_none p t));
-      rest = rest;
-    }
+    let e : wait c count es (kept_of t.number t.log) ≡ Done (Err why) = rw is refl in
+    done_served (2 * length es) (wait c count es) (λ a. a ≡ Err why) t (Err why) e rest refl
 
 -- the refusal of a wait, by those of its parts
 pub refusal_is : (c : Setup) (count k : ℕ) (es : List ℕ) (log : List Entry) (a b d : Option Refusal) → count ≤ length es

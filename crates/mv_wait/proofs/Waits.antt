@@ -18,13 +18,13 @@ use Rattle.mv_board.specs.declared.watch.Watch.{Watch}
 use Rattle.mv_board.specs.declared.watch.Watch.TheVariants as watch
 use Rattle.mv_board.specs.Faces.{CallerFace, HappenedAt, Happened, with_watch, is_complete_reply}
 use Rattle.mv_board.specs.View.{off}
-use Rattle.mv_machine.specs.calls.Keeping.{Kept, kept_of, kept_after, nothing_kept}
-use Rattle.mv_machine.specs.calls.Rest.{OpenWaits, no_waits, waits_from, waits_after, IsAtRest}
-use Rattle.mv_machine.specs.calls.Waits.{AreDistinct, arm_all, armed, settle_all, settled, complete_count}
-use Rattle.mv_machine.specs.calls.Program.{Program, on_ecb}
+use Rattle.mv_calls.specs.Keeping.{Kept, kept_of, kept_after, nothing_kept}
+use Rattle.mv_calls.specs.Rest.{OpenWaits, no_waits, waits_from, waits_after, IsAtRest}
+use Rattle.mv_calls.specs.Waits.{AreDistinct, arm_all, armed, settle_all, settled, complete_count}
+use Rattle.mv_calls.specs.Program.{Program, on_ecb}
 use Rattle.mv_wait.specs.Answers.{slot_of, slots_of}
 use Rattle.mv_wait.specs.Run.{Runs}
-use Rattle.mv_machine.proofs.calls.Making.{kept_from-append, waits_from-append}
+use Rattle.mv_calls.proofs.Making.{kept_from-append, waits_from-append}
 use Rattle.mv_wait.specs.Listed.{is_block, is_listed, listed_count}
 use Rattle.mv_wait.specs.Waiting.{IsArmedFor, ArePlain, IsComplete, IsSettled, Waited, settle_reply}
 use Rattle.mv_wait.specs.declared.waiting.WaitSlot.{WaitSlot}

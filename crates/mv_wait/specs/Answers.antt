@@ -1,9 +1,9 @@
 -- The answers of the calls, and what they are in the programs.
 use Rattle.std.specs.Prelude.{ℕ, List, map, Option, Some, None, Result, Ok, Err}
-use Rattle.mv_machine.specs.calls.Posts.{Posting}
-use Rattle.mv_machine.specs.calls.Posts as posting
-use Rattle.mv_machine.specs.calls.Refusal.{Refusal}
-use Rattle.mv_machine.specs.calls.Refusal as refusal
+use Rattle.mv_calls.specs.Posts.{Posting}
+use Rattle.mv_calls.specs.Posts as posting
+use Rattle.mv_calls.specs.Refusal.{Refusal}
+use Rattle.mv_calls.specs.Refusal as refusal
 use Rattle.mv_wait.specs.declared.posting.PostAnswer.{PostAnswer}
 use Rattle.mv_wait.specs.declared.posting.PostAnswer.TheVariants as answer
 use Rattle.mv_wait.specs.declared.single.NotOwner.{NotOwner}

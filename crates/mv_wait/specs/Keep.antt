@@ -12,7 +12,7 @@ use Rattle.mv_element.specs.declared.operation.ElementOp.{ElementOp}
 use Rattle.mv_element.specs.declared.operation.ElementOp.TheVariants as element_op
 use Rattle.mv_element.specs.declared.operation.ElementReply.{ElementReply}
 use Rattle.mv_element.specs.declared.operation.ElementReply.TheVariants as element_reply
-use Rattle.mv_machine.specs.calls.Keeping.{Kept, generation_after}
+use Rattle.mv_calls.specs.Keeping.{Kept, generation_after}
 use Rattle.mv_wait.specs.declared.keep.Keep.{Keep}
 use Rattle.mv_wait.specs.declared.keep.OwnElement.{OwnElement}
 use Rattle.mv_wait.specs.declared.keep.Standing.{Standing}

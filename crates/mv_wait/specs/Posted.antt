@@ -10,8 +10,8 @@ use Rattle.mv_machine.specs.declared.entry.Op.TheVariants as op_on
 use Rattle.mv_machine.specs.declared.entry.Reply.TheVariants as reply_of
 use Rattle.mv_machine.specs.Setup.{Setup}
 use Rattle.mv_board.specs.Faces.{CallerFace, Happened}
-use Rattle.mv_machine.specs.calls.Posts.{Posting, posted_next}
-use Rattle.mv_machine.specs.calls.Posts as posting
+use Rattle.mv_calls.specs.Posts.{Posting, posted_next}
+use Rattle.mv_calls.specs.Posts as posting
 use Rattle.mv_wait.specs.declared.posting.PostAnswer.{PostAnswer}
 use Rattle.mv_wait.specs.declared.replies.Came.{Came}
 use Rattle.mv_wait.specs.declared.replies.Came.TheVariants as came

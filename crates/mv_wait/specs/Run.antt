@@ -2,10 +2,8 @@
 use Rattle.std.specs.Prelude.{◌≡◌, ℕ, ◌+◌, ◌≤◌, List, ◌++◌, length}
 use Rattle.mv_board.specs.declared.view.Sight.{Sight}
 use Rattle.mv_board.specs.Faces.{CallerFace, IsSame}
-use Rattle.mv_machine.specs.calls.Keeping.{kept_of}
-use Rattle.mv_machine.specs.calls.Made.{told_by, HaveTheirWakes}
-use Rattle.mv_machine.specs.calls.Program.{Program, Done, Call, Heard, Says, left, entries}
-use Rattle.mv_machine.specs.calls.Rest.{IsAtRest}
+use Rattle.mv_calls.specs.Made.{IsMade, told_by, HaveTheirWakes}
+use Rattle.mv_calls.specs.Program.{Program, Call, Heard, Says, left, entries}
 
 -- The task made these events, each on the latch set with its wakes. They lengthen its log and what it was told, and lower what
 -- is left to it by their number; what it met before stays.
@@ -25,10 +23,12 @@ pub record Runs {A : Type 0} (most : ℕ) (p q : Program A) (t u : CallerFace) :
   pub says : Says p events
   pub rest : left p events ≡ q
 
--- The call was begun with what the task kept of its log, and is done with an answer that is so; it took at most so many events,
--- and the task is at rest.
+-- The call was made of the task's log, with an answer that is so; its events were taken off what was left, and what the task met
+-- before stays.
 pub record IsServed {A : Type 0} (most : ℕ) (call : Call A) (Is : A → Type 0) (t u : CallerFace) : Type 0 where
   pub answer : A
   pub is : Is answer
-  pub made : Runs most (call (kept_of t.number t.log)) (Done answer) t u
-  pub rest : IsAtRest u.log
+  pub made : IsMade most call t.number t.log u.log t.told u.told answer
+  pub same : IsSame t u
+  pub left : u.left + length made.events ≡ t.left
+  pub met : (more : List Sight) × (u.met ≡ t.met ++ more)

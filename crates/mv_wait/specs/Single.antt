@@ -8,8 +8,8 @@ use Rattle.mv_machine.specs.declared.entry.Op.TheVariants as op_on
 use Rattle.mv_machine.specs.declared.entry.Reply.TheVariants as reply_of
 use Rattle.mv_machine.specs.Setup.{Setup}
 use Rattle.mv_board.specs.Faces.{CallerFace, Happened}
-use Rattle.mv_machine.specs.calls.Keeping.{kept_of}
-use Rattle.mv_machine.specs.calls.Waits.{extend_refusal}
+use Rattle.mv_calls.specs.Keeping.{kept_of}
+use Rattle.mv_calls.specs.Waits.{extend_refusal}
 use Rattle.mv_wait.specs.declared.single.ExtendRefusal.{ExtendRefusal}
 use Rattle.mv_wait.specs.declared.single.ExtendRefusal.TheVariants as extend_refusal_of
 use Rattle.mv_wait.specs.Answers.{extend_refused}

@@ -10,11 +10,11 @@ use Rattle.mv_machine.specs.declared.entry.Op.TheVariants as op_on
 use Rattle.mv_machine.specs.declared.entry.Reply.TheVariants as reply_of
 use Rattle.mv_machine.specs.Setup.{Setup, owner_of}
 use Rattle.mv_board.specs.Faces.{CallerFace, Happened}
-use Rattle.mv_machine.specs.calls.Keeping.{kept_of}
-use Rattle.mv_machine.specs.calls.Program.{Program}
-use Rattle.mv_machine.specs.calls.Refusal.{Refusal}
-use Rattle.mv_machine.specs.calls.Rest.{no_waits, waits_from}
-use Rattle.mv_machine.specs.calls.Waits.{arm_all, settle_all, complete_count}
+use Rattle.mv_calls.specs.Keeping.{kept_of}
+use Rattle.mv_calls.specs.Program.{Program}
+use Rattle.mv_calls.specs.Refusal.{Refusal}
+use Rattle.mv_calls.specs.Rest.{no_waits, waits_from}
+use Rattle.mv_calls.specs.Waits.{arm_all, settle_all, complete_count}
 use Rattle.mv_wait.specs.declared.waiting.WaitSlot.{WaitSlot}
 use Rattle.mv_wait.specs.declared.waiting.WaitSlot.TheVariants as slot
 use Rattle.mv_wait.specs.Run.{Runs}

@@ -1,10 +1,10 @@
-//! What a task keeps of its own entries, in tables. Clauses cite `specs/Keep.antt` and the machine's `calls/Keeping.antt`.
+//! What a task keeps of its own entries, in tables. Clauses cite `specs/Keep.antt` and the calls' `Keeping.antt`.
 
 ghost use Rattle.std.specs.Prelude.{◌≡◌, ◌+◌, ◌<◌, ◌≤◌, ◌++◌, ◌∷◌, [], ℕ, Bool, not, List, length, count_by, is_some, ◌^◌, ◌==◌};
 ghost use Rattle.std.specs.List.{list_any};
 ghost use Rattle.slab.specs.Slab.{HasRoomFor, slab_len, entries};
 ghost use Rattle.mv_element.specs.declared.operation.ElementReply.TheVariants.{Closed};
-ghost use Rattle.mv_machine.specs.calls.Keeping.{Kept, kept_after, generation_after};
+ghost use Rattle.mv_calls.specs.Keeping.{Kept, kept_after, generation_after};
 ghost use Rattle.mv_machine.specs.Kept.{StandingRequest, is_posting, less, is_named, is_for};
 ghost use Rattle.mv_machine.specs.declared.entry.Op.TheVariants as op_on;
 ghost use Rattle.mv_machine.specs.declared.entry.Reply.TheVariants as reply_of;
@@ -66,7 +66,7 @@ impl Keep {
 
 impl Keep {
     ghost use Rattle.mv_machine.specs.Kept.{stands_after};
-    ghost use Rattle.mv_machine.specs.calls.Keeping.{extended_with, in_use_with, generation_with};
+    ghost use Rattle.mv_calls.specs.Keeping.{extended_with, in_use_with, generation_with};
     ghost use Rattle.mv_machine.specs.declared.entry.Object.TheVariants as object;
     ghost use Rattle.mv_wait.specs.Keep.{AreExtended, AreElements};
 

@@ -1,4 +1,4 @@
-//! Posts, each with the posts of its exit. Clauses cite the machine's `calls/Posts.antt`, and `specs/Run.antt`,
+//! Posts, each with the posts of its exit. Clauses cite the calls' `Posts.antt`, and `specs/Run.antt`,
 //! `specs/Answers.antt` and `specs/Posted.antt`.
 
 ghost use Rattle.std.specs.Prelude.{◌≡◌, ◌<◌, ◌≤◌, ◌^◌, ◌++◌, ◌+◌, ◌∷◌, [], length, reverse, vec_len, vec_capacity};
@@ -6,8 +6,8 @@ ghost use Rattle.std.specs.List.{AllByRecursion};
 ghost use Rattle.mv_machine.specs.Check.{IsValid};
 ghost use Rattle.mv_machine.specs.Reach.{reach, total};
 ghost use Rattle.mv_board.specs.Faces.{IsOf};
-ghost use Rattle.mv_machine.specs.calls.Posts.{post, targets_of};
-ghost use Rattle.mv_machine.specs.calls.Rest.{IsAtRest};
+ghost use Rattle.mv_calls.specs.Posts.{post, targets_of};
+ghost use Rattle.mv_calls.specs.Rest.{IsAtRest};
 ghost use Rattle.mv_wait.specs.Answers.{post_answer};
 ghost use Rattle.mv_wait.specs.Posted.{PostedOne};
 ghost use Rattle.mv_wait.specs.Run.{IsServed};

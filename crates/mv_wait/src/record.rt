@@ -117,9 +117,9 @@ impl Record {
     ghost use Rattle.std.specs.Prelude.{◌^◌, ◌∷◌, [], length, option_map};
     ghost use Rattle.mv_machine.specs.Setup.{Setup};
     ghost use Rattle.std.specs.List.{AllByRecursion};
-    ghost use Rattle.mv_machine.specs.calls.Keeping.{kept_of};
-    ghost use Rattle.mv_machine.specs.calls.Refusal.{ExtendedAt};
-    ghost use Rattle.mv_machine.specs.calls.Waits.{refused_at};
+    ghost use Rattle.mv_calls.specs.Keeping.{kept_of};
+    ghost use Rattle.mv_calls.specs.Refusal.{ExtendedAt};
+    ghost use Rattle.mv_calls.specs.Waits.{refused_at};
 
     // Whether a block is extended.
     pub(crate) fn extended(&self, ecb: u32) -> bool
@@ -147,22 +147,24 @@ impl Record {
 impl Record {
     ghost use Rattle.std.specs.Prelude.{◌==◌, ◌∷◌, [], length, filter, is_some};
     ghost use Rattle.std.specs.List.{list_any};
-    ghost use Rattle.mv_machine.specs.calls.Keeping.{kept_of};
-    ghost use Rattle.mv_machine.specs.Kept.{is_posting};
+    ghost use Rattle.mv_calls.specs.Keeping.{kept_of};
+    ghost use Rattle.mv_machine.specs.Kept.{is_posting, standing};
     ghost use Rattle.mv_machine.specs.Setup.{Setup, element_owner};
     ghost use Rattle.mv_wait.specs.Keep.{IsKeptAs};
 
     // What is kept of an element of the task's own.
     pub(crate) fn element(&self, element: u32) -> OwnElement
         requires { (s : Setup) × (self.now.about ≡ s ∷ []) × (element_owner s element ≡ self.now.number) }
-        ensures { IsKeptAs (kept_of self.now.number self.now.log) element result }
+        ensures kept { IsKeptAs (kept_of self.now.number self.now.log) element result }
+        ensures low { result.generation ≤ 262143 }
     {
         self.keep.elements[(element - self.keep.first) as usize]
     }
 
     // How many requests stand.
     pub(crate) fn standing(&self) -> u32
-        ensures { result ≡ length (kept_of self.now.number self.now.log).requests }
+        ensures count { result ≡ length (kept_of self.now.number self.now.log).requests }
+        ensures kept { (kept_of self.now.number self.now.log).requests ≡ standing self.now.log }
     {
         self.keep.requests.len() as u32
     }

@@ -1,13 +1,13 @@
-//! The calls of one event. Clauses cite the machine's `calls/Waits.antt` and `calls/Posts.antt`, and `specs/Run.antt`,
+//! The calls of one event. Clauses cite the calls' `Waits.antt` and `Posts.antt`, and `specs/Run.antt`,
 //! `specs/Answers.antt` and `specs/Single.antt`.
 
 ghost use Rattle.std.specs.Prelude.{◌≡◌, ◌<◌, ◌≤◌, ◌^◌, ◌==◌, length, option_map, MatchResult, None, true, false};
 ghost use Rattle.mv_machine.specs.declared.entry.Object.TheVariants as object;
 ghost use Rattle.mv_board.specs.Faces.{IsOf, Missed};
-ghost use Rattle.mv_machine.specs.calls.Keeping.{kept_of};
-ghost use Rattle.mv_machine.specs.calls.Posts.{try_post};
-ghost use Rattle.mv_machine.specs.calls.Rest.{IsAtRest};
-ghost use Rattle.mv_machine.specs.calls.Waits.{clear, extend, extend_refusal, is_others_block, test_ecb, read_volume, write_volume};
+ghost use Rattle.mv_calls.specs.Keeping.{kept_of};
+ghost use Rattle.mv_calls.specs.Posts.{try_post};
+ghost use Rattle.mv_calls.specs.Rest.{IsAtRest};
+ghost use Rattle.mv_calls.specs.Waits.{clear, extend, extend_refusal, is_others_block, test_ecb, read_volume, write_volume};
 ghost use Rattle.mv_wait.specs.Answers.{clear_answer, extend_answer, extend_refused, post_answer};
 ghost use Rattle.mv_wait.specs.Run.{IsServed};
 ghost use Rattle.mv_wait.specs.Single.{IsExtendCause, HasNoWaitBit};

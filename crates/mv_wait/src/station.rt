@@ -11,7 +11,7 @@ ghost use Rattle.mv_machine.specs.Replies.{NamesUpTo};
 ghost use Rattle.mv_wait.specs.Run.{Went};
 
 use crate::keep::{Keep, OwnElement};
-use crate::pausing::pause;
+use crate::pausing::Pauses;
 use crate::record::Record;
 use crate::task::Task;
 use crossbeam_utils::sync::{Parker, Unparker};
@@ -74,6 +74,7 @@ impl Station {
         ensures event { Happened task.old object op result task.new }
         ensures possible { IsPossible self.now.config task.new.number task.new.log task.new.told }
         ensures listed { IsAsListed task.old object op result }
+        ensures few { task.old.left ≤ 524287 }
         ensures low { NamesUpTo 262143 result }
     {
         task.record.event(rt, &self.board, object, op)
@@ -145,11 +146,11 @@ impl Station {
         ensures went { Went [] task.old task.new }
         ensures ready { Contains task.new.ready watch }
     {
-        self.await_ready(rt, &mut task.record, &task.parker, watch);
+        self.await_ready(rt, &mut task.record, &task.pauses, watch);
     }
 
     // Parks until the watch is on the ready list.
-    fn await_ready<R: Wait>(&self, rt: &R, me: &mut Record, parker: &Parker, watch: Watch)
+    fn await_ready<R: Wait>(&self, rt: &R, me: &mut Record, pauses: &Pauses, watch: Watch)
         requires task { IsOf self.now me.old }
         requires own { MayWatch self.now.config me.old watch }
         ensures went { Went [] me.old me.new }
@@ -160,7 +161,7 @@ impl Station {
             if me.peek(rt, &self.board, watch) {
                 return;
             }
-            looks = pause(rt, parker, looks);
+            looks = pauses.pause(rt, looks);
         }
     }
 
@@ -251,7 +252,7 @@ fn task_of(
     let record = Record { caller, keep };
     Ok(Task {
         record,
-        parker,
+        pauses: Pauses::new(parker),
         pending: Vec::with_capacity(alloc, left)?,
     })
 }

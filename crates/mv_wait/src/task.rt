@@ -1,13 +1,13 @@
 //! A task: one caller's seat, and what it keeps of its entries. Clauses cite `specs/Task.antt`, the board's `Faces.antt` and
-//! the machine's `calls/Keeping.antt`.
+//! the calls' `Keeping.antt`.
 
 ghost use Rattle.std.specs.Prelude.{◌≡◌, ◌<◌, ◌≤◌};
 ghost use Rattle.std.specs.List.{AllByRecursion};
 ghost use Rattle.mv_machine.specs.Setup.{Setup};
 ghost use Rattle.mv_board.specs.Faces.{last_of};
 
+use crate::pausing::Pauses;
 use crate::record::Record;
-use crossbeam_utils::sync::Parker;
 use mv_board::Caller;
 use mv_latch::Wake;
 use mv_machine::Entry;
@@ -17,7 +17,7 @@ use std::marker::Model;
 #[derive(Drop)]
 pub struct Task {
     pub(crate) record: Record,
-    pub(crate) parker: Parker,
+    pub(crate) pauses: Pauses,
     // The blocks that a call is still to post, the next one last.
     pub(crate) pending: Vec<u32>,
 }
@@ -78,9 +78,9 @@ impl Task {
 impl Task {
     ghost use Rattle.std.specs.Prelude.{◌<◌, ◌∷◌, [], ◌==◌, length, filter, is_some};
     ghost use Rattle.std.specs.List.{list_any};
-    ghost use Rattle.mv_machine.specs.Kept.{is_posting};
+    ghost use Rattle.mv_machine.specs.Kept.{is_posting, standing};
     ghost use Rattle.mv_machine.specs.Setup.{Setup, element_owner};
-    ghost use Rattle.mv_machine.specs.calls.Keeping.{kept_of};
+    ghost use Rattle.mv_calls.specs.Keeping.{kept_of};
 
     /// Whether it holds a block extended.
     pub fn extended(&self, ecb: u32) -> bool
@@ -98,17 +98,19 @@ impl Task {
         self.record.element(element).in_use
     }
 
-    /// The generation of an element of its own.
+    /// The generation of an element of its own: 18 bits.
     pub fn generation(&self, element: u32) -> u32
         requires { (s : Setup) × (self.now.about ≡ s ∷ []) × (element_owner s element ≡ self.now.number) }
-        ensures { result ≡ (kept_of self.now.number self.now.log).generation element }
+        ensures kept { result ≡ (kept_of self.now.number self.now.log).generation element }
+        ensures low { result ≤ 262143 }
     {
         self.record.element(element).generation
     }
 
-    /// How many of its latch requests stand.
+    /// How many of its latch requests stand. What is kept of them is what stands by the log.
     pub fn standing(&self) -> u32
-        ensures { result ≡ length (kept_of self.now.number self.now.log).requests }
+        ensures count { result ≡ length (kept_of self.now.number self.now.log).requests }
+        ensures kept { (kept_of self.now.number self.now.log).requests ≡ standing self.now.log }
     {
         self.record.standing()
     }

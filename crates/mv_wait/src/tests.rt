@@ -1,11 +1,11 @@
-//! Worked rows of the calls, made on a station, and the hand-offs that `bench/run` times.
+//! Worked rows: tables of calls with their answers, and the log that they make; two threads that hand over to each other; and
+//! what `bench/run` times.
 
-ghost use Rattle.std.specs.Prelude.{◌≡◌, ◌<◌, ◌≤◌, ◌+◌, ◌^◌, ◌∷◌, [], length, map, IfOk};
+ghost use Rattle.std.specs.Prelude.{◌≡◌, ◌<◌, ◌≤◌, ◌+◌, ◌∷◌, [], length, map, IfOk};
 ghost use Rattle.std.specs.List.{AllByRecursion};
 ghost use Rattle.mv_machine.specs.Config.{exit_of};
-ghost use Rattle.mv_machine.specs.calls.Rest.{IsAtRest};
+ghost use Rattle.mv_calls.specs.Rest.{IsAtRest};
 ghost use Rattle.mv_board.specs.Faces.{IsFresh, AreFresh, IsOf};
-ghost use Rattle.mv_wait.specs.Single.{HasNoWaitBit};
 
 use super::*;
 use mv_board::{Closed, Moved};
@@ -55,7 +55,7 @@ fn last(station: &Station, tasks: &mut Vec<Task>) -> Task
     task
 }
 
-// A new station with its one task.
+// A new station of this configuration, with its one task.
 fn open_one(alloc: Global, config: ValidConfig) -> Result<(Station, Task), Fail>
     requires { config.callers ≡ 1 }
     ensures config { IfOk result (λ r. r.0.config ≡ config) }
@@ -99,6 +99,15 @@ fn assert_is_block(rt: &impl Abort, station: &Station, ecb: u32)
     assert!(rt; (ecb as usize) < station.config().config().owners.len());
 }
 
+// Stops the test where there is not each of these.
+fn assert_are_blocks(rt: &impl Abort, station: &Station, ecbs: &[u32])
+    ensures { AllByRecursion (λ e. e < length station.now.config.owners) ecbs.now }
+{
+    for ecb in ecbs {
+        assert_is_block(rt, station, *ecb);
+    }
+}
+
 // A wait for blocks that there are.
 fn wait<R: Abort + Wait>(
     rt: &R,
@@ -131,12 +140,12 @@ fn post<R: Abort + Wait>(
 ) -> PostAnswer
     requires task { IsOf station.now task.old }
     requires rest { IsAtRest task.old.log }
-    requires code { code < 2 ^ 30 }
     ensures task { IsOf station.now task.new }
     ensures rest { IsAtRest task.new.log }
     ensures number { task.new.number ≡ task.old.number }
 {
     assert_is_block(rt, station, ecb);
+    assert!(rt; code < 1_073_741_824);
     assert!(rt; station.config().reach(ecb) <= task.left());
     station.post(rt, task, ecb, code)
 }
@@ -152,12 +161,12 @@ fn try_post(
 ) -> Result<PostAnswer, Moved>
     requires task { IsOf station.now task.old }
     requires rest { IsAtRest task.old.log }
-    requires code { code < 2 ^ 30 }
-    requires unwaited { HasNoWaitBit expected }
     ensures task { IsOf station.now task.new }
     ensures rest { IsAtRest task.new.log }
 {
     assert_is_block(rt, station, ecb);
+    assert!(rt; code < 1_073_741_824);
+    assert!(rt; expected / 2_147_483_648 % 2 == 0);
     assert!(rt; task.left() > 0);
     station.try_post(task, ecb, expected, code)
 }
@@ -214,10 +223,10 @@ fn test_ecb(rt: &impl Abort, station: &Station, task: &mut Task, ecb: u32) -> u3
 fn read_volume(rt: &impl Abort, station: &Station, task: &mut Task, volume: u32) -> u32
     requires task { IsOf station.now task.old }
     requires rest { IsAtRest task.old.log }
-    requires volume { volume < station.now.config.volumes }
     ensures task { IsOf station.now task.new }
     ensures rest { IsAtRest task.new.log }
 {
+    assert!(rt; volume < station.config().config().volumes);
     assert!(rt; task.left() > 0);
     station.read_volume(task, volume)
 }
@@ -232,10 +241,10 @@ fn write_volume<R: Abort + Wait>(
 )
     requires task { IsOf station.now task.old }
     requires rest { IsAtRest task.old.log }
-    requires volume { volume < station.now.config.volumes }
     ensures task { IsOf station.now task.new }
     ensures rest { IsAtRest task.new.log }
 {
+    assert!(rt; volume < station.config().config().volumes);
     assert!(rt; task.left() > 0);
     station.write_volume(rt, task, volume, number);
 }
@@ -246,6 +255,144 @@ fn is_extended(rt: &impl Abort, station: &Station, task: &Task, ecb: u32) -> boo
 {
     assert_is_block(rt, station, ecb);
     task.extended(ecb)
+}
+
+// ---- tables of calls
+
+// How the list of a wait's answer stands before it.
+const UNTOUCHED: [WaitSlot; 3] = [
+    WaitSlot::Complete(91),
+    WaitSlot::Complete(92),
+    WaitSlot::Complete(93),
+];
+
+// A call of a task.
+#[derive(Drop)]
+enum Call<'a> {
+    Post(u32, u32),
+    TryPost(u32, u64, u32),
+    Wait(u32, &'a [u32]),
+    Extend(u32, u32),
+    IsExtended(u32),
+    Clear(u32),
+    Test(u32),
+    Read(u32),
+    Write(u32, u32),
+}
+
+// What it answers, and of a wait also how the list of its answer stands behind it.
+#[derive(Drop, PartialEq)]
+enum Answer {
+    Posted(PostAnswer),
+    Tried(Result<PostAnswer, Moved>),
+    Waited(Result<(), WaitRefusal>, [WaitSlot; 3]),
+    Extended(Result<(), ExtendRefusal>),
+    Is(bool),
+    Cleared(Result<u32, NotOwner>),
+    Number(u32),
+    Written,
+}
+
+// A wait for at most three blocks.
+fn wait_for<R: Abort + Wait>(
+    rt: &R,
+    station: &Station,
+    task: &mut Task,
+    count: u32,
+    ecbs: &[u32],
+) -> Answer
+    requires task { IsOf station.now task.old }
+    requires rest { IsAtRest task.old.log }
+    ensures task { IsOf station.now task.new }
+    ensures rest { IsAtRest task.new.log }
+{
+    assert_are_blocks(rt, station, ecbs);
+    let mut out = UNTOUCHED;
+    assert!(rt; ecbs.len() <= out.len());
+    let answer = wait(rt, station, task, count, ecbs, &mut out[..ecbs.len()]);
+    Answer::Waited(answer, out)
+}
+
+// Makes a call.
+fn make<R: Abort + Wait>(rt: &R, station: &Station, task: &mut Task, call: &Call) -> Answer
+    requires task { IsOf station.now task.old }
+    requires rest { IsAtRest task.old.log }
+    ensures task { IsOf station.now task.new }
+    ensures rest { IsAtRest task.new.log }
+{
+    match *call {
+        Call::Post(ecb, code) => Answer::Posted(post(rt, station, task, ecb, code)),
+        Call::TryPost(ecb, expected, code) => {
+            Answer::Tried(try_post(rt, station, task, ecb, expected, code))
+        }
+        Call::Wait(count, ecbs) => wait_for(rt, station, task, count, ecbs),
+        Call::Extend(ecb, exit) => Answer::Extended(extend(rt, station, task, ecb, exit)),
+        Call::IsExtended(ecb) => Answer::Is(is_extended(rt, station, task, ecb)),
+        Call::Clear(ecb) => Answer::Cleared(clear(rt, station, task, ecb)),
+        Call::Test(ecb) => Answer::Number(test_ecb(rt, station, task, ecb)),
+        Call::Read(volume) => Answer::Number(read_volume(rt, station, task, volume)),
+        Call::Write(volume, number) => {
+            write_volume(rt, station, task, volume, number);
+            Answer::Written
+        }
+    }
+}
+
+// Makes these calls in order: each is answered as it stands beside it.
+fn make_all<R: Abort + Wait>(rt: &R, station: &Station, task: &mut Task, rows: &[(Call, Answer)])
+    requires task { IsOf station.now task.old }
+    requires rest { IsAtRest task.old.log }
+    ensures task { IsOf station.now task.new }
+    ensures rest { IsAtRest task.new.log }
+{
+    for i in 0..rows.len() {
+        let answer = make(rt, station, task, &rows[i].0);
+        assert!(rt; answer == rows[i].1, "row {i}");
+    }
+}
+
+// The words of the first three blocks, with their places. To look at them is no event.
+fn words(rt: &impl Abort, station: &Station, task: &mut Task) -> [u64; 3]
+    requires task { IsOf station.now task.old }
+    requires rest { IsAtRest task.old.log }
+    ensures task { IsOf station.now task.new }
+    ensures rest { IsAtRest task.new.log }
+{
+    [
+        word(rt, station, task, 0),
+        word(rt, station, task, 1),
+        word(rt, station, task, 2),
+    ]
+}
+
+// The word of a block, with its place.
+fn word(rt: &impl Abort, station: &Station, task: &mut Task, ecb: u32) -> u64
+    requires task { IsOf station.now task.old }
+    requires rest { IsAtRest task.old.log }
+    ensures task { IsOf station.now task.new }
+    ensures rest { IsAtRest task.new.log }
+{
+    assert_is_block(rt, station, ecb);
+    station.look(task, Object::Ecb(ecb))
+}
+
+// Makes these calls in order, which are refused as it stands beside each: no event is made, and each block stays as it was.
+fn make_refused<R: Abort + Wait>(
+    rt: &R,
+    station: &Station,
+    task: &mut Task,
+    rows: &[(Call, Answer)],
+)
+    requires task { IsOf station.now task.old }
+    requires rest { IsAtRest task.old.log }
+    ensures task { IsOf station.now task.new }
+    ensures rest { IsAtRest task.new.log }
+{
+    let before = words(rt, station, task);
+    let events = task.log().len();
+    make_all(rt, station, task, rows);
+    assert!(rt; task.log().len() == events);
+    assert!(rt; words(rt, station, task) == before);
 }
 
 // An event of task 0 on a block.
@@ -259,30 +406,46 @@ fn on_block(ecb: u32, place: u32, op: EcbOp, reply: EcbReply) -> Entry {
     }
 }
 
-// ---- one task
+// One of task 0 on the volume.
+fn on_volume(place: u32, op: VolumeOp, reply: VolumeReply) -> Entry {
+    Entry {
+        caller: 0,
+        object: Object::Volume(0),
+        place,
+        op: Op::Volume(op),
+        reply: Reply::Volume(reply),
+    }
+}
+
+// One task, three blocks, and an exit from the first to the others.
+fn alone(alloc: Global) -> Result<(Station, Task), Fail>
+    ensures task { IfOk result (λ r. IsOf r.0 r.1) }
+    ensures rest { IfOk result (λ r. IsAtRest r.1.log) }
+{
+    let exit = Exit {
+        source: 0,
+        targets: vec![in alloc; 1, 2]?,
+    };
+    let config = setup(
+        alloc,
+        vec![in alloc; 100]?,
+        vec![in alloc; 0, 0, 0]?,
+        vec![in alloc; exit]?,
+    )?;
+    open_one(alloc, config)
+}
 
 #[test]
 fn posts_come_before_a_wait(rt: HostRuntime) -> Result<(), Fail> {
-    let owners = vec![in rt.alloc(); 0, 0, 0]?;
-    let config = setup(
-        rt.alloc(),
-        vec![in rt.alloc(); 100]?,
-        owners,
-        Vec::new(rt.alloc()),
-    )?;
-    let (station, mut task) = open_one(rt.alloc(), config)?;
-    assert_eq!(rt; post(&rt, &station, &mut task, 0, 7), PostAnswer::Posted);
-    assert_eq!(rt; post(&rt, &station, &mut task, 2, 9), PostAnswer::Posted);
-    let mut out = [WaitSlot::Open, WaitSlot::Open, WaitSlot::Open];
-    assert_eq!(rt;
-        wait(&rt, &station, &mut task, 2, &[0, 1, 2], &mut out),
-        Ok(())
-    );
-    assert_eq!(rt;
-        out,
-        [WaitSlot::Complete(7), WaitSlot::Open, WaitSlot::Complete(9)]
-    );
-    assert_eq!(rt; test_ecb(&rt, &station, &mut task, 1), 0);
+    let (station, mut task) = alone(rt.alloc())?;
+    let found = [WaitSlot::Complete(7), WaitSlot::Open, WaitSlot::Complete(9)];
+    let rows = [
+        (Call::Post(0, 7), Answer::Posted(PostAnswer::Posted)),
+        (Call::Post(2, 9), Answer::Posted(PostAnswer::Posted)),
+        (Call::Wait(2, &[0, 1, 2]), Answer::Waited(Ok(()), found)),
+        (Call::Test(1), Answer::Number(0)),
+    ];
+    make_all(&rt, &station, &mut task, &rows);
     let expected = [
         on_block(0, 0, EcbOp::Post(7), EcbReply::Posted),
         on_block(2, 0, EcbOp::Post(9), EcbReply::Posted),
@@ -300,45 +463,38 @@ fn posts_come_before_a_wait(rt: HostRuntime) -> Result<(), Fail> {
 
 #[test]
 fn a_wait_for_none_of_one_block_makes_no_difference_to_it(rt: HostRuntime) -> Result<(), Fail> {
-    let config = setup(
-        rt.alloc(),
-        vec![in rt.alloc(); 100]?,
-        vec![in rt.alloc(); 0]?,
-        Vec::new(rt.alloc()),
-    )?;
-    let (station, mut task) = open_one(rt.alloc(), config)?;
-    assert_eq!(rt; wait(&rt, &station, &mut task, 0, &[], &mut []), Ok(()));
-    assert_eq!(rt; task.log().len(), 0);
-    let mut out = [WaitSlot::Complete(1)];
-    assert_eq!(rt; wait(&rt, &station, &mut task, 0, &[0], &mut out), Ok(()));
-    assert_eq!(rt; out, [WaitSlot::Open]);
-    assert_eq!(rt; test_ecb(&rt, &station, &mut task, 0), 0);
+    let (station, mut task) = alone(rt.alloc())?;
+    let found = [
+        WaitSlot::Open,
+        WaitSlot::Complete(92),
+        WaitSlot::Complete(93),
+    ];
+    let rows = [
+        (Call::Wait(0, &[]), Answer::Waited(Ok(()), UNTOUCHED)),
+        (Call::Wait(0, &[0]), Answer::Waited(Ok(()), found)),
+        (Call::Test(0), Answer::Number(0)),
+    ];
+    make_all(&rt, &station, &mut task, &rows);
+    let expected = [
+        on_block(0, 0, EcbOp::Arm, EcbReply::Armed),
+        on_block(0, 1, EcbOp::Settle, EcbReply::Open),
+        on_block(0, 2, EcbOp::Test, EcbReply::Word(0)),
+    ];
+    assert_eq!(rt; task.log(), &expected[..]);
     Ok(())
 }
 
 #[test]
 fn a_volume_has_what_was_written(rt: HostRuntime) -> Result<(), Fail> {
-    let config = setup(
-        rt.alloc(),
-        vec![in rt.alloc(); 100]?,
-        Vec::new(rt.alloc()),
-        Vec::new(rt.alloc()),
-    )?;
-    let (station, mut task) = open_one(rt.alloc(), config)?;
-    write_volume(&rt, &station, &mut task, 0, 4_294_967_295);
-    assert_eq!(rt; read_volume(&rt, &station, &mut task, 0), 4_294_967_295);
-    let event = |place: u32, op: VolumeOp, reply: VolumeReply| -> Entry {
-        Entry {
-            caller: 0,
-            object: Object::Volume(0),
-            place,
-            op: Op::Volume(op),
-            reply: Reply::Volume(reply),
-        }
-    };
+    let (station, mut task) = alone(rt.alloc())?;
+    let rows = [
+        (Call::Write(0, 4_294_967_295), Answer::Written),
+        (Call::Read(0), Answer::Number(4_294_967_295)),
+    ];
+    make_all(&rt, &station, &mut task, &rows);
     let expected = [
-        event(0, VolumeOp::Write(4_294_967_295), VolumeReply::Stored),
-        event(1, VolumeOp::Read, VolumeReply::Value(4_294_967_295)),
+        on_volume(0, VolumeOp::Write(4_294_967_295), VolumeReply::Stored),
+        on_volume(1, VolumeOp::Read, VolumeReply::Value(4_294_967_295)),
     ];
     assert_eq!(rt; task.log(), &expected[..]);
     Ok(())
@@ -346,66 +502,121 @@ fn a_volume_has_what_was_written(rt: HostRuntime) -> Result<(), Fail> {
 
 #[test]
 fn a_post_by_an_exchange_is_made_once(rt: HostRuntime) -> Result<(), Fail> {
-    let config = setup(
-        rt.alloc(),
-        vec![in rt.alloc(); 100]?,
-        vec![in rt.alloc(); 0]?,
-        Vec::new(rt.alloc()),
-    )?;
-    let (station, mut task) = open_one(rt.alloc(), config)?;
-    assert_eq!(rt;
-        try_post(&rt, &station, &mut task, 0, 0, 5),
-        Ok(PostAnswer::Posted)
-    );
-    assert_eq!(rt;
-        try_post(&rt, &station, &mut task, 0, 0, 6),
-        Err(Moved(35_185_445_830_661))
-    );
-    assert_eq!(rt; task.log().len(), 1);
-    assert_eq!(rt; test_ecb(&rt, &station, &mut task, 0), 1_073_741_829);
+    let (station, mut task) = alone(rt.alloc())?;
+    let rows = [
+        (
+            Call::TryPost(0, 0, 5),
+            Answer::Tried(Ok(PostAnswer::Posted)),
+        ),
+        (
+            Call::TryPost(0, 0, 6),
+            Answer::Tried(Err(Moved(35_185_445_830_661))),
+        ),
+        (Call::Test(0), Answer::Number(1_073_741_829)),
+    ];
+    make_all(&rt, &station, &mut task, &rows);
+    let expected = [
+        on_block(0, 0, EcbOp::Post(5), EcbReply::Posted),
+        on_block(0, 1, EcbOp::Test, EcbReply::Word(1_073_741_829)),
+    ];
+    assert_eq!(rt; task.log(), &expected[..]);
     Ok(())
 }
 
-// ---- exits
-
 #[test]
 fn an_exit_posts_its_targets(rt: HostRuntime) -> Result<(), Fail> {
-    let exits = vec![in rt.alloc();
-        Exit {
-            source: 0,
-            targets: vec![in rt.alloc(); 1, 2]?
-        },
-    ]?;
-    let config = setup(
-        rt.alloc(),
-        vec![in rt.alloc(); 100]?,
-        vec![in rt.alloc(); 0, 0, 0]?,
-        exits,
-    )?;
-    let (station, mut task) = open_one(rt.alloc(), config)?;
-    assert_eq!(rt; post(&rt, &station, &mut task, 2, 3), PostAnswer::Posted);
-    assert_eq!(rt; extend(&rt, &station, &mut task, 0, 1), Ok(()));
-    assert_eq!(rt; is_extended(&rt, &station, &task, 0), true);
-    let mut out = [WaitSlot::Open];
-    assert_eq!(rt;
-        wait(&rt, &station, &mut task, 1, &[0], &mut out),
-        Err(WaitRefusal::Extended(0))
-    );
-    assert_eq!(rt; post(&rt, &station, &mut task, 0, 8), PostAnswer::Woke);
+    let (station, mut task) = alone(rt.alloc())?;
+    let rows = [
+        (Call::Post(2, 3), Answer::Posted(PostAnswer::Posted)),
+        (Call::Extend(0, 1), Answer::Extended(Ok(()))),
+        (Call::IsExtended(0), Answer::Is(true)),
+        (Call::Post(0, 8), Answer::Posted(PostAnswer::Woke)),
+        (Call::Test(1), Answer::Number(1_073_741_832)),
+        (Call::Clear(0), Answer::Cleared(Ok(1_073_741_832))),
+        (Call::IsExtended(0), Answer::Is(false)),
+    ];
+    make_all(&rt, &station, &mut task, &rows);
     let expected = [
         on_block(2, 0, EcbOp::Post(3), EcbReply::Posted),
         on_block(0, 0, EcbOp::Extend(1), EcbReply::Armed),
         on_block(0, 1, EcbOp::Post(8), EcbReply::Woke(1)),
         on_block(1, 0, EcbOp::Post(8), EcbReply::Posted),
         on_block(2, 1, EcbOp::Post(8), EcbReply::Already(3)),
+        on_block(1, 1, EcbOp::Test, EcbReply::Word(1_073_741_832)),
+        on_block(0, 2, EcbOp::Clear, EcbReply::Word(1_073_741_832)),
     ];
     assert_eq!(rt; task.log(), &expected[..]);
-    assert_eq!(rt; test_ecb(&rt, &station, &mut task, 1), 1_073_741_832);
-    assert_eq!(rt; test_ecb(&rt, &station, &mut task, 2), 1_073_741_827);
-    assert_eq!(rt; clear(&rt, &station, &mut task, 0), Ok(1_073_741_832));
-    assert_eq!(rt; is_extended(&rt, &station, &task, 0), false);
     Ok(())
 }
+
+// Two tasks, two blocks of the first and one of the second, and an exit of block 0 and one of block 1.
+fn refusing(alloc: Global) -> Result<ValidConfig, Fail>
+    ensures { IfOk result (λ c. c.callers ≡ 2) }
+{
+    let first = Exit {
+        source: 0,
+        targets: vec![in alloc; 1]?,
+    };
+    let second = Exit {
+        source: 1,
+        targets: vec![in alloc; 2]?,
+    };
+    setup(
+        alloc,
+        vec![in alloc; 100, 100]?,
+        vec![in alloc; 0, 0, 1]?,
+        vec![in alloc; first, second]?,
+    )
+}
+
+// What a wait answers that is refused.
+fn refused(why: WaitRefusal) -> Answer {
+    Answer::Waited(Err(why), UNTOUCHED)
+}
+
+// What an extend answers that is refused.
+fn unextended(why: ExtendRefusal) -> Answer {
+    Answer::Extended(Err(why))
+}
+
+#[test]
+fn what_is_refused_makes_no_difference(rt: HostRuntime) -> Result<(), Fail> {
+    let (station, mut task, _other) = open_two(rt.alloc(), refusing(rt.alloc())?)?;
+    let first = [(Call::Extend(0, 1), Answer::Extended(Ok(())))];
+    make_all(&rt, &station, &mut task, &first);
+    let rows = [
+        (Call::Wait(4, &[2, 1, 1]), refused(WaitRefusal::TooMany)),
+        (Call::Wait(0, &[2, 0, 2]), refused(WaitRefusal::Doubled(2))),
+        (Call::Wait(1, &[0, 2, 1]), refused(WaitRefusal::NotOwner(1))),
+        (Call::Wait(1, &[1, 0]), refused(WaitRefusal::Extended(1))),
+        (Call::Clear(2), Answer::Cleared(Err(NotOwner))),
+        (Call::Extend(2, 0), unextended(ExtendRefusal::NotOwner)),
+        (Call::Extend(0, 2), unextended(ExtendRefusal::BadExit)),
+        (Call::Extend(0, 1), unextended(ExtendRefusal::Extended)),
+        (Call::TryPost(1, 1, 5), Answer::Tried(Err(Moved(0)))),
+    ];
+    make_refused(&rt, &station, &mut task, &rows);
+    // This one alone makes an event, which leaves the block as it was.
+    let last = [
+        (
+            Call::TryPost(1, 0, 4),
+            Answer::Tried(Ok(PostAnswer::Posted)),
+        ),
+        (Call::Extend(1, 2), unextended(ExtendRefusal::Complete(4))),
+        (Call::Test(1), Answer::Number(1_073_741_828)),
+    ];
+    make_all(&rt, &station, &mut task, &last);
+    let expected = [
+        on_block(0, 0, EcbOp::Extend(1), EcbReply::Armed),
+        on_block(1, 0, EcbOp::Post(4), EcbReply::Posted),
+        on_block(1, 1, EcbOp::Extend(2), EcbReply::Complete(4)),
+        on_block(1, 2, EcbOp::Test, EcbReply::Word(1_073_741_828)),
+    ];
+    assert_eq!(rt; task.log(), &expected[..]);
+    Ok(())
+}
+
+// ---- a long chain
 
 // One task with 4,000 events, and blocks in a chain: the exit of each posts the next.
 fn chain(alloc: Global, exits: u32) -> Result<ValidConfig, Fail>
@@ -428,7 +639,7 @@ fn chain(alloc: Global, exits: u32) -> Result<ValidConfig, Fail>
 fn a_chain_of_a_thousand_exits_is_posted(rt: HostRuntime) -> Result<(), Fail> {
     let (station, mut task) = open_one(rt.alloc(), chain(rt.alloc(), 1000)?)?;
     for i in 0..1000u32 {
-        assert_eq!(rt; extend(&rt, &station, &mut task, i, i + 1), Ok(()));
+        assert!(rt; extend(&rt, &station, &mut task, i, i + 1).is_ok());
     }
     assert_eq!(rt; post(&rt, &station, &mut task, 0, 5), PostAnswer::Woke);
     assert_eq!(rt; task.log().len(), 2001);
@@ -436,96 +647,6 @@ fn a_chain_of_a_thousand_exits_is_posted(rt: HostRuntime) -> Result<(), Fail> {
         task.log().last(),
         Some(&on_block(1000, 0, EcbOp::Post(5), EcbReply::Posted))
     );
-    Ok(())
-}
-
-// ---- refusals: no event is made, and the list that is to be answered stays
-
-// Two tasks, two blocks of the first and one of the second, and an exit of block 0 and one of block 1.
-fn refusing(alloc: Global) -> Result<ValidConfig, Fail>
-    ensures callers { IfOk result (λ c. c.callers ≡ 2) }
-    ensures blocks { IfOk result (λ c. length c.owners ≡ 3) }
-{
-    let first = Exit {
-        source: 0,
-        targets: vec![in alloc; 1]?,
-    };
-    let second = Exit {
-        source: 1,
-        targets: vec![in alloc; 2]?,
-    };
-    setup(
-        alloc,
-        vec![in alloc; 100, 100]?,
-        vec![in alloc; 0, 0, 1]?,
-        vec![in alloc; first, second]?,
-    )
-}
-
-#[test]
-fn waits_are_refused(rt: HostRuntime) -> Result<(), Fail> {
-    let (station, mut task, _other) = open_two(rt.alloc(), refusing(rt.alloc())?)?;
-    assert_eq!(rt; extend(&rt, &station, &mut task, 0, 1), Ok(()));
-    let found = [WaitSlot::Complete(1), WaitSlot::Open, WaitSlot::Complete(3)];
-    let mut out = found;
-    assert_eq!(rt;
-        wait(&rt, &station, &mut task, 4, &[2, 1, 1], &mut out),
-        Err(WaitRefusal::TooMany)
-    );
-    assert_eq!(rt;
-        wait(&rt, &station, &mut task, 0, &[2, 0, 2], &mut out),
-        Err(WaitRefusal::Doubled(2))
-    );
-    assert_eq!(rt;
-        wait(&rt, &station, &mut task, 1, &[0, 2, 1], &mut out),
-        Err(WaitRefusal::NotOwner(1))
-    );
-    assert_eq!(rt; out, found);
-    let mut out = [WaitSlot::Complete(1), WaitSlot::Complete(2)];
-    assert_eq!(rt;
-        wait(&rt, &station, &mut task, 1, &[1, 0], &mut out),
-        Err(WaitRefusal::Extended(1))
-    );
-    assert_eq!(rt; out, [WaitSlot::Complete(1), WaitSlot::Complete(2)]);
-    assert_eq!(rt; task.log().len(), 1);
-    Ok(())
-}
-
-#[test]
-fn clears_and_extends_are_refused(rt: HostRuntime) -> Result<(), Fail> {
-    let (station, mut task, _other) = open_two(rt.alloc(), refusing(rt.alloc())?)?;
-    assert_eq!(rt; extend(&rt, &station, &mut task, 0, 1), Ok(()));
-    assert_eq!(rt; clear(&rt, &station, &mut task, 2), Err(NotOwner));
-    assert_eq!(rt;
-        extend(&rt, &station, &mut task, 2, 0),
-        Err(ExtendRefusal::NotOwner)
-    );
-    assert_eq!(rt;
-        extend(&rt, &station, &mut task, 0, 2),
-        Err(ExtendRefusal::BadExit)
-    );
-    assert_eq!(rt;
-        extend(&rt, &station, &mut task, 0, 1),
-        Err(ExtendRefusal::Extended)
-    );
-    assert_eq!(rt; task.log().len(), 1);
-    assert_eq!(rt; clear(&rt, &station, &mut task, 0), Ok(2_147_483_649));
-    Ok(())
-}
-
-#[test]
-fn a_complete_block_is_not_extended(rt: HostRuntime) -> Result<(), Fail> {
-    let (station, mut task, _other) = open_two(rt.alloc(), refusing(rt.alloc())?)?;
-    assert_eq!(rt; try_post(&rt, &station, &mut task, 1, 1, 5), Err(Moved(0)));
-    assert_eq!(rt;
-        try_post(&rt, &station, &mut task, 1, 0, 4),
-        Ok(PostAnswer::Posted)
-    );
-    assert_eq!(rt;
-        extend(&rt, &station, &mut task, 1, 2),
-        Err(ExtendRefusal::Complete(4))
-    );
-    assert_eq!(rt; task.log().len(), 2);
     Ok(())
 }
 
@@ -612,10 +733,13 @@ fn hand_to_and_fro<R: Abort + Wait + Threads + Sync>(
     close_two(alloc, station, first, second)
 }
 
+// How often, there and back: few, since a busy machine may take long. `bench/run` times it beside its twin.
+const ROUNDS: u32 = 10_000;
+
 #[test]
 fn two_threads_hand_over_and_back(rt: HostRuntime) -> Result<(), Fail> {
-    let closed = hand_to_and_fro(&rt, rt.alloc(), 1000)?;
-    assert_eq!(rt; closed.journal.len(), 8000);
+    let closed = hand_to_and_fro(&rt, rt.alloc(), ROUNDS)?;
+    assert_eq!(rt; closed.journal.len(), 8 * ROUNDS as usize);
     Ok(())
 }
 
@@ -656,7 +780,6 @@ fn post_once<R: Abort + Wait>(
 ) -> PostAnswer
     requires task { IsOf station.now task }
     requires rest { IsAtRest task.log }
-    requires code { code < 2 ^ 30 }
 {
     post(rt, station, &mut task, ecb, code)
 }

@@ -1,26 +1,25 @@
-//! Waits for events. Clauses cite the machine's `calls/Waits.antt`, and `specs/Run.antt`, `specs/Answers.antt`,
+//! Waits for events. Clauses cite the calls' `Waits.antt`, and `specs/Run.antt`, `specs/Answers.antt`,
 //! `specs/Waiting.antt` and `specs/Listed.antt`.
 
 ghost use Rattle.std.specs.Prelude.{◌≡◌, ◌<◌, ◌≤◌, ◌+◌, ◌*◌, ◌^◌, ◌==◌, not, ℕ, [], ◌∷◌, true, length, option_map, MatchResult, Some, None, false};
 ghost use Rattle.std.specs.List.{AllByRecursion};
 ghost use Rattle.mv_machine.specs.Setup.{owner_of};
 ghost use Rattle.mv_board.specs.Faces.{IsOf};
-ghost use Rattle.mv_machine.specs.calls.Keeping.{kept_of};
-ghost use Rattle.mv_machine.specs.calls.Rest.{IsAtRest};
-ghost use Rattle.mv_machine.specs.calls.Waits.{wait, wait_refusal, doubled_at, refused_at, is_others_block, AreDistinct};
-ghost use Rattle.mv_machine.specs.calls.Waits as program;
-ghost use Rattle.mv_machine.specs.calls.Refusal.{Doubled, NotOwnerAt, ExtendedAt};
+ghost use Rattle.mv_calls.specs.Keeping.{kept_of};
+ghost use Rattle.mv_calls.specs.Rest.{IsAtRest};
+ghost use Rattle.mv_calls.specs.Waits.{wait, wait_refusal, doubled_at, refused_at, is_others_block, AreDistinct};
+ghost use Rattle.mv_calls.specs.Waits as program;
+ghost use Rattle.mv_calls.specs.Refusal.{Doubled, NotOwnerAt, ExtendedAt};
 ghost use Rattle.mv_wait.specs.Answers.{wait_answer, wait_refused, slots_of};
 ghost use Rattle.mv_wait.specs.Listed.{is_listed, listed_count};
 ghost use Rattle.mv_wait.specs.Run.{Went, Runs, IsServed};
 ghost use Rattle.mv_wait.specs.Waiting.{IsArmedFor, ArePlain, AreOwn, ArmsAll, SettlesEnough, IsSettled, IsComplete};
 
-use crate::pausing::pause;
+use crate::pausing::Pauses;
 use crate::record::Record;
 use crate::replies::slot;
 use crate::station::Station;
 use crate::task::Task;
-use crossbeam_utils::sync::Parker;
 use mv_board::Watch;
 use mv_ecb::EcbOp;
 use mv_machine::{Object, Op, ValidConfig};
@@ -76,7 +75,7 @@ impl Station {
             return Err(refusal);
         }
         self.arm_all(rt, &mut task.record, ecbs);
-        self.await_complete(rt, &mut task.record, &task.parker, count, ecbs);
+        self.await_complete(rt, &mut task.record, &task.pauses, count, ecbs);
         self.settle_all(rt, &mut task.record, count, ecbs, out);
         Ok(())
     }
@@ -126,7 +125,7 @@ impl Station {
         &self,
         rt: &R,
         me: &mut Record,
-        parker: &Parker,
+        pauses: &Pauses,
         count: u32,
         ecbs: &[u32],
     )
@@ -140,7 +139,7 @@ impl Station {
             if self.count_complete(rt, me, ecbs) >= count as usize {
                 return;
             }
-            looks = pause(rt, parker, looks);
+            looks = pauses.pause(rt, looks);
         }
     }
 

@@ -1,5 +1,5 @@
 use Rattle.mv_board.specs.Faces.{IsOf}
-use Rattle.mv_machine.specs.calls.Rest.{IsAtRest}
+use Rattle.mv_calls.specs.Rest.{IsAtRest}
 use Rattle.mv_wait.proofs.tests.a_chain_of_a_thousand_exits_is_posted.Given as goal
 
 abbrev pub invariant-loop-i : goal.invariant-loop-i

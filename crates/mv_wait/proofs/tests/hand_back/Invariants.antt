@@ -1,6 +1,6 @@
 use Rattle.std.proofs.Common.{◌≡◌}
 use Rattle.mv_board.specs.Faces.{IsOf}
-use Rattle.mv_machine.specs.calls.Rest.{IsAtRest}
+use Rattle.mv_calls.specs.Rest.{IsAtRest}
 use Rattle.mv_wait.proofs.tests.hand_back.Given as goal
 
 abbrev pub invariant-loop : goal.invariant-loop

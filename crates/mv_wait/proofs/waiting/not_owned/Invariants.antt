@@ -1,7 +1,7 @@
 use Rattle.std.proofs.Common.{◌≡◌, drop, not, ◌==◌}
 use Rattle.mv_machine.specs.Setup.{owner_of}
-use Rattle.mv_machine.specs.calls.Refusal.{NotOwnerAt}
-use Rattle.mv_machine.specs.calls.Waits.{refused_at}
+use Rattle.mv_calls.specs.Refusal.{NotOwnerAt}
+use Rattle.mv_calls.specs.Waits.{refused_at}
 use Rattle.mv_wait.proofs.waiting.not_owned.Given as goal
 
 abbrev pub invariant-loop-p : goal.invariant-loop-p

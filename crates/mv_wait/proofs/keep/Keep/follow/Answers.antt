@@ -1,5 +1,5 @@
 use Rattle.std.proofs.Common.{sym, subst}
-use Rattle.mv_machine.specs.calls.Keeping.{kept_after, Kept}
+use Rattle.mv_calls.specs.Keeping.{kept_after, Kept}
 use Rattle.mv_wait.specs.Keep.{Keeps}
 use Rattle.mv_wait.proofs.Keeping.{block_kept, element_follows}
 use Rattle.mv_wait.proofs.keep.Keep.follow.Goals as goal

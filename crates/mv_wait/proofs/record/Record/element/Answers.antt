@@ -4,7 +4,7 @@ use Rattle.std.specs.List.{AllByRecursion}
 use Rattle.std.proofs.Math.Nat.{div-mul-le_self, mod-eq-sub-div-mul, mod-lt}
 use Rattle.std.proofs.lemmas.Option.{slice_get-get_or}
 use Rattle.mv_board.specs.Faces.{CallerFace}
-use Rattle.mv_machine.specs.calls.Keeping.{kept_of}
+use Rattle.mv_calls.specs.Keeping.{kept_of}
 use Rattle.mv_machine.proofs.Validity.{elements_kept}
 use Rattle.mv_wait.specs.Keep.{IsKeptAs}
 use Rattle.mv_wait.specs.Record.{Fits}
@@ -28,7 +28,11 @@ returns c =
     let x = c.self.invariant.kept.elements (n - k.first) c.index.result.now
     (slice_get-get_or k.elements.items (n - k.first) c.index.result.now lt ∙ ap (λ y. Some y) (sym c.index.ensures)) in
     let here : k.first + (n - k.first) ≡ n = omega arith in
-    subst (λ (d : CallerFace). IsKeptAs (kept_of d.number d.log) n c.index.result.now) c.self.view_is (record {
-      used = x.0 ∙ ap (kept_of c.self.inside.caller.number c.self.inside.caller.log).in_use here;
-      generation = x.1 ∙ ap (kept_of c.self.inside.caller.number c.self.inside.caller.log).generation here;
-    })
+    let number = ap (λ (d : CallerFace). d.number) c.self.view_is in
+    let generation = x.1 ∙ ap (kept_of c.self.inside.caller.number c.self.inside.caller.log).generation here in record {
+      kept = subst (λ (d : CallerFace). IsKeptAs (kept_of d.number d.log) n c.index.result.now) c.self.view_is (record {
+        used = x.0 ∙ ap (kept_of c.self.inside.caller.number c.self.inside.caller.log).in_use here;
+        generation = generation;
+      });
+      low = subst (λ m. m ≤ 262143) (sym generation) (fits.low n (c.requires.2 ∙ sym number));
+    }

@@ -1,7 +1,7 @@
 use Rattle.std.proofs.Common.{◌≡◌, ◌<◌, ℕ, zero, suc, Bool, false, List, get_or, length, ◌∷◌, [], ap, ◌∙◌, subst, arith}
 use Rattle.std.specs.List.{AllByRecursion}
 use Rattle.mv_board.specs.Faces.{CallerFace}
-use Rattle.mv_machine.specs.calls.Keeping.{kept_of}
+use Rattle.mv_calls.specs.Keeping.{kept_of}
 use Rattle.mv_wait.specs.Record.{Fits}
 use Rattle.mv_wait.proofs.record.Record.extended.Goals as goal
 

@@ -1,7 +1,7 @@
 use Rattle.std.proofs.Common.{◌≡◌, drop}
-use Rattle.mv_machine.specs.calls.Keeping.{kept_of}
-use Rattle.mv_machine.specs.calls.Refusal.{ExtendedAt}
-use Rattle.mv_machine.specs.calls.Waits.{refused_at}
+use Rattle.mv_calls.specs.Keeping.{kept_of}
+use Rattle.mv_calls.specs.Refusal.{ExtendedAt}
+use Rattle.mv_calls.specs.Waits.{refused_at}
 use Rattle.mv_wait.proofs.record.Record.first_extended.Given as goal
 
 abbrev pub invariant-loop-p : goal.invariant-loop-p

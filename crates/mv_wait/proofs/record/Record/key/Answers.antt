@@ -2,7 +2,7 @@ use Rattle.std.proofs.Common.{◌==◌, ap, ◌∙◌}
 use Rattle.std.specs.List.{list_any}
 use Rattle.mv_board.specs.Faces.{CallerFace}
 use Rattle.mv_machine.specs.Kept.{StandingRequest}
-use Rattle.mv_machine.specs.calls.Keeping.{kept_of}
+use Rattle.mv_calls.specs.Keeping.{kept_of}
 use Rattle.mv_wait.proofs.Entries.{any_stands}
 use Rattle.mv_wait.proofs.record.Record.key.Goals as goal
 

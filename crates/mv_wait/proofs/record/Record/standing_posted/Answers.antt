@@ -1,7 +1,7 @@
 use Rattle.std.proofs.Common.{length, filter, ap, ◌∙◌}
 use Rattle.mv_board.specs.Faces.{CallerFace}
 use Rattle.mv_machine.specs.Kept.{is_posting}
-use Rattle.mv_machine.specs.calls.Keeping.{kept_of}
+use Rattle.mv_calls.specs.Keeping.{kept_of}
 use Rattle.mv_wait.proofs.record.Record.standing_posted.Goals as goal
 
 pub returns : goal.returns

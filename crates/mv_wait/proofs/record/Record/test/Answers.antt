@@ -1,8 +1,7 @@
-use Rattle.std.proofs.Common.{refl, sym, ◌∙◌, subst, arith}
-use Rattle.std.specs.List.{AllByRecursion}
+use Rattle.std.proofs.Common.{refl, sym, ap, ◌∙◌, arith}
+use Rattle.mv_board.specs.Faces.{CallerFace}
 use Rattle.mv_board.specs.Words.{test_of}
-use Rattle.mv_wait.specs.Record.{Fits}
-use Rattle.mv_wait.proofs.Recording.{all_fit, keeps_on, test_keeps}
+use Rattle.mv_wait.proofs.Recording.{all_fit, keeps_on, stands_on, test_keeps}
 use Rattle.mv_wait.proofs.Low.{valid_of, names_low}
 use Rattle.mv_wait.proofs.record.Record.test.Goals as goal
 
@@ -17,10 +16,11 @@ invariant_of-self c =
       kept = keeps_on t u c.args.object (test_of c.args.object) c.test.result c.self.inside.keep h
           (test_keeps c.args.board.now.config t u c.args.object c.test.result c.self.inside.keep c.requires.word h
           c.test.ensures.possible c.self.invariant.kept);
+      stands = stands_on t u c.args.object (test_of c.args.object) c.test.result h c.self.invariant.stands;
       caller = c.self.invariant.caller ∙ sym h.1.same.number;
-      fits = subst (AllByRecursion (Fits u c.self.inside.keep)) (sym h.1.same.about)
-          (all_fit t u c.args.object (test_of c.args.object) c.test.result c.self.inside.keep c.self.inside.keep t.about h refl refl refl
-          c.self.invariant.fits);
+      fits = all_fit t u c.args.object (test_of c.args.object) c.test.result c.self.inside.keep c.self.inside.keep
+          c.args.board.now.config h refl refl refl (ap (λ (d : CallerFace). d.about) c.self.view_is ∙ c.requires.board.1)
+          c.test.ensures.possible c.self.invariant.fits;
       few = omega arith;
       room = omega arith;
     }

@@ -1,10 +1,10 @@
 use Rattle.std.proofs.Common.{sym, ap, ◌∙◌, subst, arith}
 use Rattle.std.specs.List.{AllByRecursion}
 use Rattle.mv_board.specs.Faces.{CallerFace, Happened}
-use Rattle.mv_machine.specs.calls.Keeping.{kept_of, nothing_kept}
-use Rattle.mv_machine.proofs.calls.Making.{kept_caller}
+use Rattle.mv_calls.specs.Keeping.{kept_of, nothing_kept}
+use Rattle.mv_calls.proofs.Making.{kept_caller}
 use Rattle.mv_wait.specs.Record.{Fits}
-use Rattle.mv_wait.proofs.Recording.{reply_kind, closes_below, all_fit, keeps_on}
+use Rattle.mv_wait.proofs.Recording.{reply_kind, closes_below, all_fit, keeps_on, stands_on}
 use Rattle.mv_wait.proofs.Low.{valid_of, names_low}
 use Rattle.mv_wait.proofs.record.Record.try_event.Goals as goal
 
@@ -36,10 +36,11 @@ invariant_of-self c =
     let same = f.capacity in record {
       kept = keeps_on t u c.args.object c.args.op c.in-Ok.reply c.follow.new.self h
           (f.kept (kept_of t.number t.log) (kept_caller (nothing_kept t.number) t.log ∙ sym c.self.invariant.caller) c.self.invariant.kept);
+      stands = stands_on t u c.args.object c.args.op c.in-Ok.reply h c.self.invariant.stands;
       caller = f.same.0 ∙ (c.self.invariant.caller ∙ sym h.1.same.number);
-      fits = subst (AllByRecursion (Fits u c.follow.new.self)) (sym h.1.same.about)
-          (all_fit t u c.args.object c.args.op c.in-Ok.reply c.self.inside.keep c.follow.new.self t.about h f.same.1 f.sizes.0 f.sizes.1
-          c.self.invariant.fits);
+      fits = all_fit t u c.args.object c.args.op c.in-Ok.reply c.self.inside.keep c.follow.new.self c.args.board.now.config h f.same.1
+          f.sizes.0 f.sizes.1 (ap (λ (d : CallerFace). d.about) c.self.view_is ∙ c.requires.board.1) c.in-Ok.ensures.possible
+          c.self.invariant.fits;
       few = omega arith;
       room = omega arith;
     }

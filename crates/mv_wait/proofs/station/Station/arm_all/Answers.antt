@@ -1,9 +1,9 @@
 use Rattle.std.proofs.Common.{◌≡◌, false, ◌+◌, ◌≤◌, get_or, take, drop, length, ◌++◌, [], ◌∷◌, sym, ap, subst, arith}
 use Rattle.std.proofs.lemmas.List.{take_more, drop_more, drop_all, take_all}
 use Rattle.mv_board.specs.Faces.{BoardFace}
-use Rattle.mv_machine.specs.calls.Keeping.{kept_of}
-use Rattle.mv_machine.specs.calls.Waits.{arm_all, AreDistinct}
-use Rattle.mv_machine.specs.calls.Program.{Wrong}
+use Rattle.mv_calls.specs.Keeping.{kept_of}
+use Rattle.mv_calls.specs.Waits.{arm_all, AreDistinct}
+use Rattle.mv_calls.specs.Program.{Wrong}
 use Rattle.mv_wait.specs.Run.{Runs}
 use Rattle.mv_wait.specs.Waiting.{IsArmedFor}
 use Rattle.mv_wait.proofs.Admits.{may_arm}

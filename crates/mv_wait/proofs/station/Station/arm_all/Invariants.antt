@@ -1,6 +1,6 @@
 use Rattle.std.proofs.Common.{take, drop}
-use Rattle.mv_machine.specs.calls.Program.{Program}
-use Rattle.mv_machine.specs.calls.Waits.{arm_all}
+use Rattle.mv_calls.specs.Program.{Program}
+use Rattle.mv_calls.specs.Waits.{arm_all}
 use Rattle.mv_wait.specs.Run.{Runs}
 use Rattle.mv_wait.specs.Waiting.{IsArmedFor, ArePlain, Waited}
 use Rattle.mv_wait.proofs.Waits.{AreIdle}

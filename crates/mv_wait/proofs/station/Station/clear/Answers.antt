@@ -3,15 +3,17 @@ use Rattle.mv_ecb.specs.declared.operation.EcbOp.TheVariants.{Clear}
 use Rattle.mv_machine.specs.declared.entry.Object.TheVariants.{Ecb}
 use Rattle.mv_machine.specs.declared.entry.Op.TheVariants as op_on
 use Rattle.mv_board.specs.Faces.{BoardFace, CallerFace}
-use Rattle.mv_machine.specs.calls.Keeping.{kept_of}
-use Rattle.mv_machine.specs.calls.Program.{Done, on_ecb}
-use Rattle.mv_machine.specs.calls.Refusal.{NotOwner}
-use Rattle.mv_machine.specs.calls.Rest.{IsAtRest}
-use Rattle.mv_machine.specs.calls.Waits.{clear, the_word, is_others_block}
+use Rattle.mv_calls.specs.Keeping.{kept_of}
+use Rattle.mv_calls.specs.Program.{Done, on_ecb}
+use Rattle.mv_calls.specs.Refusal.{NotOwner}
+use Rattle.mv_calls.specs.Rest.{IsAtRest}
+use Rattle.mv_calls.specs.Waits.{clear, the_word, is_others_block}
 use Rattle.mv_wait.specs.Run.{IsServed}
 use Rattle.mv_wait.proofs.Admits.{may_clear}
 use Rattle.mv_wait.proofs.Answering.{says_word}
-use Rattle.mv_wait.proofs.Singles.{refused_served, event_served, own_is, clear_stops, clear_next, clear_goes}
+use Rattle.mv_wait.proofs.OneEvent.{event_served}
+use Rattle.mv_wait.proofs.Steps.{done_served}
+use Rattle.mv_wait.proofs.Singles.{own_is, clear_stops, clear_next, clear_goes}
 use Rattle.mv_wait.proofs.station.Station.clear.Goals as goal
 
 pub returns-then-is_others_block-clause-served : goal.returns-then-is_others_block-clause-served
@@ -19,7 +21,7 @@ returns-then-is_others_block-clause-served g c =
     let t = c.args.task.now in
     let is = subst (λ (d : CallerFace). is_others_block c.args.self.now.config (kept_of d.number d.log) c.args.ecb ≡ true) c.task.view_is
     (sym c.is_others_block.ensures ∙ c.if-is_others_block.true) in
-    refused_served 1 (clear c.args.self.now.config c.args.ecb) (λ a. a ≡ Err NotOwner) NotOwner t
+    done_served 1 (clear c.args.self.now.config c.args.ecb) (λ a. a ≡ Err NotOwner) t (Err NotOwner)
     (clear_stops c.args.self.now.config c.args.ecb (kept_of t.number t.log) is) c.requires.rest refl
 
 pub event-reply-requires-clause-admitted : goal.event-reply-requires-clause-admitted

@@ -3,14 +3,18 @@ use Rattle.mv_ecb.specs.declared.operation.EcbOp.TheVariants.{Extend}
 use Rattle.mv_machine.specs.declared.entry.Object.TheVariants.{Ecb}
 use Rattle.mv_machine.specs.declared.entry.Op.TheVariants as op_on
 use Rattle.mv_board.specs.Faces.{BoardFace, CallerFace}
-use Rattle.mv_machine.specs.calls.Keeping.{kept_of}
-use Rattle.mv_machine.specs.calls.Program.{Done, on_ecb}
-use Rattle.mv_machine.specs.calls.Rest.{IsAtRest}
-use Rattle.mv_machine.specs.calls.Waits.{extend, extend_refusal, extended}
+use Rattle.mv_calls.specs.Keeping.{kept_of}
+use Rattle.mv_calls.specs.Program.{Done, on_ecb}
+use Rattle.mv_calls.specs.Rest.{IsAtRest}
+use Rattle.mv_calls.specs.Waits.{extend, extend_refusal, extended}
 use Rattle.mv_wait.specs.Answers.{extend_answer, extend_refused}
 use Rattle.mv_wait.specs.Run.{IsServed}
 use Rattle.mv_wait.specs.Single.{extend_reply}
-use Rattle.mv_wait.proofs.Singles.{refused_served, event_served, own_is, may_extend, says_extended, allowed_extend}
+use Rattle.mv_wait.proofs.OneEvent.{event_served}
+use Rattle.mv_wait.proofs.Steps.{done_served}
+use Rattle.mv_wait.proofs.Singles.{own_is, may_extend, says_extended, allowed_extend}
+use Rattle.mv_wait.proofs.OneEvent.{event_served}
+use Rattle.mv_wait.proofs.Steps.{done_served}
 use Rattle.mv_wait.proofs.Singles.{extend_stops, extend_next, extend_goes}
 use Rattle.mv_wait.proofs.station.Station.extend.Goals as goal
 use Rattle.mv_wait.proofs.station.Station.extend.Goals.{in-None, in-Some-taken}
@@ -22,7 +26,7 @@ returns-in-Some-clause-served g c =
     let is = subst (λ (d : CallerFace). extend_refusal c.args.self.now.config c.args.ecb c.args.exit (kept_of d.number d.log) ≡ Some why)
     c.task.view_is
     (sym c.refuses_extend.ensures.refusal ∙ ap (λ o. option_map extend_refused o) c.in-Some.is) in
-    refused_served 1 (extend c.args.self.now.config c.args.ecb c.args.exit) (λ a. a ≡ Err why) why t
+    done_served 1 (extend c.args.self.now.config c.args.ecb c.args.exit) (λ a. a ≡ Err why) t (Err why)
     (extend_stops c.args.self.now.config c.args.ecb c.args.exit (kept_of t.number t.log) why is) c.requires.rest refl
 
 pub event-reply-requires-clause-admitted : goal.event-reply-requires-clause-admitted

@@ -1,8 +1,8 @@
 use Rattle.std.proofs.Common.{◌==◌, not, sym, ap, ◌∙◌}
 use Rattle.mv_machine.specs.Setup.{owner_of}
 use Rattle.mv_board.specs.Faces.{BoardFace, CallerFace}
-use Rattle.mv_machine.specs.calls.Keeping.{nothing_kept}
-use Rattle.mv_machine.proofs.calls.Making.{kept_caller}
+use Rattle.mv_calls.specs.Keeping.{nothing_kept}
+use Rattle.mv_calls.proofs.Making.{kept_caller}
 use Rattle.mv_wait.proofs.station.Station.is_others_block.Goals as goal
 
 pub returns : goal.returns

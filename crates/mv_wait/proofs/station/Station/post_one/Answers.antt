@@ -11,7 +11,7 @@ use Rattle.mv_machine.specs.declared.entry.Op.TheVariants as op_on
 use Rattle.mv_machine.specs.declared.entry.Reply.{Reply}
 use Rattle.mv_machine.specs.declared.entry.Reply.TheVariants as reply_of
 use Rattle.mv_board.specs.Faces.{BoardFace, Happened}
-use Rattle.mv_machine.specs.calls.Posts.{targets_of, posted_next}
+use Rattle.mv_calls.specs.Posts.{targets_of, posted_next}
 use Rattle.mv_wait.specs.Posted.{PostedOne, reply_to_post, posting_of}
 use Rattle.mv_wait.proofs.Admits.{may_post}
 use Rattle.mv_wait.proofs.Answering.{says_posted}

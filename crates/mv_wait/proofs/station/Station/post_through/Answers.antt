@@ -1,7 +1,7 @@
 use Rattle.std.proofs.Common.{◌≡◌, ℕ, ◌<◌, length, List, reverse, ◌++◌, ◌∷◌, [], refl, sym, ap, ◌∙◌, subst, arith}
 use Rattle.std.proofs.lemmas.List.{reverse-append, reverse-reverse}
 use Rattle.std.specs.List.{AllByRecursion}
-use Rattle.mv_machine.specs.calls.Posts.{posted_next}
+use Rattle.mv_calls.specs.Posts.{posted_next}
 use Rattle.mv_wait.proofs.Posts.{Underway, begun, going, ended, all_below}
 use Rattle.mv_wait.proofs.station.Station.post_through.Goals as goal
 
@@ -80,5 +80,5 @@ returns-clause-served g c =
     let config = c.args.self.now.config in
     let none : c.loop-next.pending.items ≡ [] =
     length_zero c.loop-next.pending.items (let n = c.in_default.ensures.cases.0 in omega arith) in
-    ended config c.args.code c.args.ecb c.args.me.now u.0 c.loop-next.me c.post_one-answer.result u.1
+    ended config c.args.code c.args.ecb c.args.me.now u.0 c.loop-next.me c.post_one-answer.result u.1 c.requires.rest
     (subst (λ ns. Underway config c.args.code c.args.ecb c.args.me.now u.0 c.loop-next.me (reverse ns)) none u.2)

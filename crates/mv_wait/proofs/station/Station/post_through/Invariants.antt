@@ -1,5 +1,5 @@
 use Rattle.std.proofs.Common.{◌≡◌, ◌≤◌, reverse, vec_capacity}
-use Rattle.mv_machine.specs.calls.Posts.{Posting}
+use Rattle.mv_calls.specs.Posts.{Posting}
 use Rattle.mv_wait.specs.Answers.{post_answer}
 use Rattle.mv_wait.proofs.Posts.{Underway}
 use Rattle.mv_wait.proofs.station.Station.post_through.Given as goal

@@ -2,9 +2,9 @@ use Rattle.std.proofs.Common.{◌<◌, ◌==◌, not, length, Some, None, option
 use Rattle.std.specs.List.{AllByRecursion}
 use Rattle.mv_machine.specs.Setup.{Setup, owner_of}
 use Rattle.mv_board.specs.Faces.{BoardFace, CallerFace}
-use Rattle.mv_machine.specs.calls.Keeping.{kept_of}
-use Rattle.mv_machine.specs.calls.Refusal.{Doubled, NotOwnerAt, ExtendedAt}
-use Rattle.mv_machine.specs.calls.Waits.{refused_at}
+use Rattle.mv_calls.specs.Keeping.{kept_of}
+use Rattle.mv_calls.specs.Refusal.{Doubled, NotOwnerAt, ExtendedAt}
+use Rattle.mv_calls.specs.Waits.{refused_at}
 use Rattle.mv_wait.proofs.Unrefusing.{refusal_is}
 use Rattle.mv_wait.proofs.station.Station.refuses_wait.Goals as goal
 

@@ -1,6 +1,6 @@
 use Rattle.std.proofs.Common.{◌≡◌, ◌≤◌, ◌+◌, ◌++◌, List, Option, ℕ, length, take, drop}
-use Rattle.mv_machine.specs.calls.Program.{Program}
-use Rattle.mv_machine.specs.calls.Waits.{settle_all, complete_count}
+use Rattle.mv_calls.specs.Program.{Program}
+use Rattle.mv_calls.specs.Waits.{settle_all, complete_count}
 use Rattle.mv_wait.specs.Answers.{slots_of}
 use Rattle.mv_wait.specs.Listed.{listed_count}
 use Rattle.mv_wait.specs.Run.{Runs}

@@ -3,9 +3,9 @@ use Rattle.mv_ecb.specs.declared.operation.EcbOp.TheVariants.{Test}
 use Rattle.mv_machine.specs.declared.entry.Object.TheVariants.{Ecb}
 use Rattle.mv_machine.specs.declared.entry.Op.TheVariants as op_on
 use Rattle.mv_board.specs.Faces.{CallerFace}
-use Rattle.mv_machine.specs.calls.Program.{Done, on_ecb}
-use Rattle.mv_machine.specs.calls.Rest.{IsAtRest}
-use Rattle.mv_machine.specs.calls.Waits.{test_ecb, the_word}
+use Rattle.mv_calls.specs.Program.{Done, on_ecb}
+use Rattle.mv_calls.specs.Rest.{IsAtRest}
+use Rattle.mv_calls.specs.Waits.{test_ecb, the_word}
 use Rattle.mv_wait.specs.Run.{IsServed}
 use Rattle.mv_wait.proofs.Answering.{says_word}
 use Rattle.mv_wait.proofs.OneEvent.{one_served}

@@ -3,8 +3,8 @@ use Rattle.mv_ecb.specs.declared.operation.EcbOp.TheVariants.{Post}
 use Rattle.mv_machine.specs.declared.entry.Object.TheVariants.{Ecb}
 use Rattle.mv_machine.specs.declared.entry.Op.TheVariants as op_on
 use Rattle.mv_board.specs.Faces.{CallerFace, Exchanged}
-use Rattle.mv_machine.specs.calls.Posts.{try_post}
-use Rattle.mv_machine.specs.calls.Rest.{IsAtRest}
+use Rattle.mv_calls.specs.Posts.{try_post}
+use Rattle.mv_calls.specs.Rest.{IsAtRest}
 use Rattle.mv_wait.specs.Answers.{post_answer}
 use Rattle.mv_wait.specs.Posted.{posting_of}
 use Rattle.mv_wait.specs.Run.{IsServed}
@@ -33,4 +33,4 @@ returns-clause-rest c =
     (try_post_served c.self.inside.board.config c.args.ecb c.args.expected c.args.code p t u
     (subst (λ r. Exchanged t (Ecb c.args.ecb) (op_on.Ecb (Post c.args.code)) c.args.expected r u) c.posted.ensures
     c.in_ok-reply.ensures.answer)
-    (subst (λ (d : CallerFace). IsAtRest d.log) (sym c.task.view_is) c.requires.rest)).rest
+    (subst (λ (d : CallerFace). IsAtRest d.log) (sym c.task.view_is) c.requires.rest)).made.rest

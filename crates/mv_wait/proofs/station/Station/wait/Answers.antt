@@ -1,12 +1,12 @@
 use Rattle.std.proofs.Common.{◌≡◌, ◌*◌, [], length, Some, None, option_map, Ok, refl, sym, ap, ◌∙◌, subst, arith}
 use Rattle.mv_machine.specs.Setup.{owner_of}
 use Rattle.mv_board.specs.Faces.{CallerFace}
-use Rattle.mv_machine.specs.calls.Keeping.{kept_of}
-use Rattle.mv_machine.specs.calls.Program.{Wrong}
-use Rattle.mv_machine.specs.calls.Rest.{IsAtRest}
-use Rattle.mv_machine.specs.calls.Waits.{wait, wait_refusal}
-use Rattle.mv_machine.proofs.calls.Making.{kept_caller}
-use Rattle.mv_machine.specs.calls.Keeping.{nothing_kept}
+use Rattle.mv_calls.specs.Keeping.{kept_of}
+use Rattle.mv_calls.specs.Program.{Wrong}
+use Rattle.mv_calls.specs.Rest.{IsAtRest}
+use Rattle.mv_calls.specs.Waits.{wait, wait_refusal}
+use Rattle.mv_calls.proofs.Making.{kept_caller}
+use Rattle.mv_calls.specs.Keeping.{nothing_kept}
 use Rattle.mv_wait.specs.Answers.{wait_refused, slots_of}
 use Rattle.mv_wait.specs.Run.{IsServed}
 use Rattle.mv_wait.specs.Waiting.{IsArmedFor}
@@ -104,4 +104,5 @@ returns-clause-served g c =
     (λ a. a ≡ Ok (slots_of c.settle_all.new.out)) d c.settle_all.new.me) c.task.view_is
     (wait_served c.args.self.now.config c.args.count c.args.ecbs.now (slots_of c.settle_all.new.out) r c.arm_all.new.me
     c.await_complete.new.me c.settle_all.new.me none
+    (subst (λ (d : CallerFace). IsAtRest d.log) (sym c.task.view_is) c.requires.rest)
     c.arm_all.ensures.armed c.await_complete.ensures.went c.settle_all.ensures.settled c.settle_all.ensures.rest)

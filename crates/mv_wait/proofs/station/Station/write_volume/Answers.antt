@@ -3,9 +3,9 @@ use Rattle.mv_machine.specs.declared.entry.Object.TheVariants.{Volume}
 use Rattle.mv_machine.specs.declared.entry.Op.TheVariants as op_on
 use Rattle.mv_machine.specs.declared.entry.VolumeOp.TheVariants.{Write}
 use Rattle.mv_board.specs.Faces.{BoardFace, CallerFace}
-use Rattle.mv_machine.specs.calls.Program.{on_volume}
-use Rattle.mv_machine.specs.calls.Rest.{IsAtRest}
-use Rattle.mv_machine.specs.calls.Waits.{write_volume, stored}
+use Rattle.mv_calls.specs.Program.{on_volume}
+use Rattle.mv_calls.specs.Rest.{IsAtRest}
+use Rattle.mv_calls.specs.Waits.{write_volume, stored}
 use Rattle.mv_wait.specs.Run.{IsServed}
 use Rattle.mv_wait.proofs.Admits.{may_write}
 use Rattle.mv_wait.proofs.Answering.{says_stored}
