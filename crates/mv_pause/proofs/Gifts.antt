@@ -1,0 +1,64 @@
+-- What a pause was given.
+use Rattle.std.proofs.Common.{◌≡◌, ℕ, ◌+◌, false, Result, Ok, Err, refl, sym, ap, ◌∙◌, subst}
+use Rattle.std.specs.Prelude.{IfOk, MatchResult}
+use Rattle.mv_element.specs.declared.element.Token.{Token}
+use Rattle.mv_element.specs.declared.operation.ElementReply.TheVariants.{Given as GivenWith}
+use Rattle.mv_machine.specs.declared.entry.Object.TheVariants.{Element}
+use Rattle.mv_machine.specs.declared.entry.Op.{Op}
+use Rattle.mv_machine.specs.declared.entry.Reply.TheVariants as reply_of
+use Rattle.mv_machine.specs.Setup.{Setup}
+use Rattle.mv_board.specs.Faces.{CallerFace, Happened}
+use Rattle.mv_calls.specs.Keeping.{kept_of}
+use Rattle.mv_calls.specs.Pauses.{Gift, is_others_token}
+use Rattle.mv_calls.specs.Pauses as program
+use Rattle.mv_wait.proofs.Runs.{entry_of}
+use Rattle.mv_pause.specs.Answers.{gift_of}
+use Rattle.mv_pause.specs.Pausing.{WasGiven, IsGiven, IsSpent, IsPauseCause}
+use Rattle.mv_pause.specs.declared.pausing.Given.{Given}
+use Rattle.mv_pause.specs.declared.pausing.PauseRefusal.{PauseRefusal}
+use Rattle.mv_pause.specs.declared.pausing.PauseRefusal.TheVariants as refused
+
+-- an event that gives the token's next generation
+pub was_given : (t u : CallerFace) (token : Token) (op : Op) (code next : ℕ)
+    → Happened t (Element token.element) op (reply_of.Element (GivenWith code next)) u → next ≡ token.generation + 1
+    → WasGiven token code u.log
+was_given t u token op code next h is = record {
+  before = t.log;
+  entry = entry_of t (Element token.element) h.0 op (reply_of.Element (GivenWith code next));
+  last = h.1.logged;
+  object = refl;
+  reply = ap (λ m. reply_of.Element (GivenWith code m)) is;
+}
+
+-- what the call answers of it
+pub is_given : (u : CallerFace) (token : Token) (given : Given) (code next : ℕ) → gift_of given ≡ program.gift_of token.element code next
+    → WasGiven token code u.log → next ≡ token.generation + 1 → IsGiven token given u.log
+is_given u token given code next e was is = record {
+  was = subst (λ d. WasGiven token d u.log) (sym (ap (λ (z : Gift). z.code) e)) was;
+  element = ap (λ (z : Gift). z.next.element) e;
+  generation = ap (λ (z : Gift). z.next.generation) e ∙ is;
+}
+
+-- ---- why a pause is answered so
+
+pub pause_cause : (c : Setup) (token : Token) (t u : CallerFace) (result : Result Given PauseRefusal)
+    → is_others_token c (kept_of t.number t.log) token ≡ false
+    → MatchResult result (λ given. IsGiven token given u.log) (λ why. IsSpent token t why u)
+    → MatchResult result
+    (λ given. (is_others_token c (kept_of t.number t.log) token ≡ false) × IsGiven token given u.log)
+    (λ why. IsPauseCause c token t why u)
+pause_cause c token t u (Ok given) own is = (own, is)
+pause_cause c token t u (Err refused.NotOwner) own is = absurd is
+pause_cause c token t u (Err (refused.Spent now)) own is = (own, is)
+
+pub next_element : (token : Token) (t u : CallerFace) (result : Result Given PauseRefusal)
+    → MatchResult result (λ given. IsGiven token given u.log) (λ why. IsSpent token t why u)
+    → IfOk result (λ given. given.next.element ≡ token.element)
+next_element token t u (Ok given) is = is.element
+next_element token t u (Err why) is = tt
+
+-- a pause with a current token is given its code
+pub given_or_spent : (token : Token) (t u : CallerFace) (result : Result Given PauseRefusal) (given : Given) → result ≡ Ok given
+    → MatchResult result (λ g. IsGiven token g u.log) (λ why. IsSpent token t why u) → IsGiven token given u.log
+given_or_spent token t u result given e is =
+    subst (λ r. MatchResult r (λ g. IsGiven token g u.log) (λ why. IsSpent token t why u)) e is

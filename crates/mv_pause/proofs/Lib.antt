@@ -1,0 +1,12 @@
+-- what a reply says, by the history behind it
+pub mod Answering
+-- events on elements as runs of the calls' programs
+pub mod Served
+-- the lowest element that is not in use
+pub mod Lowest
+-- pauses
+pub mod Gifts
+-- a release by an exchange
+pub mod Tried
+-- transfers
+pub mod Transfers

@@ -1,0 +1,85 @@
+-- The answers of the calls, and what they are in the programs.
+use Rattle.std.specs.Prelude.{◌≤◌, Option, Some, None, Result, Ok, Err}
+use Rattle.mv_element.specs.declared.element.Token.{Token}
+use Rattle.mv_calls.specs.Pauses.{Gift, Reached, CameEarly, WokeIt}
+use Rattle.mv_calls.specs.Refusal.{Refusal}
+use Rattle.mv_calls.specs.Refusal as refusal
+use Rattle.mv_pause.specs.declared.allocating.NoElement.{NoElement}
+use Rattle.mv_pause.specs.declared.deallocating.DeallocateRefusal.{DeallocateRefusal}
+use Rattle.mv_pause.specs.declared.deallocating.DeallocateRefusal.TheVariants as deallocate_refusal
+use Rattle.mv_pause.specs.declared.pausing.Given.{Given}
+use Rattle.mv_pause.specs.declared.pausing.PauseRefusal.{PauseRefusal}
+use Rattle.mv_pause.specs.declared.pausing.PauseRefusal.TheVariants as pause_refusal
+use Rattle.mv_pause.specs.declared.releasing.ReleaseAnswer.{ReleaseAnswer}
+use Rattle.mv_pause.specs.declared.releasing.ReleaseAnswer.TheVariants as answer
+use Rattle.mv_pause.specs.declared.releasing.ReleaseRefusal.{ReleaseRefusal}
+use Rattle.mv_pause.specs.declared.releasing.ReleaseRefusal.TheVariants as release_refusal
+use Rattle.mv_pause.specs.declared.releasing.TryReleaseRefusal.{TryReleaseRefusal}
+use Rattle.mv_pause.specs.declared.releasing.TryReleaseRefusal.TheVariants as try_refusal
+use Rattle.mv_pause.specs.declared.transferring.TransferRefusal.{TransferRefusal}
+use Rattle.mv_pause.specs.declared.transferring.TransferRefusal.TheVariants as transfer_refusal
+
+abbrev pub allocate_answer : Result Token NoElement → Result Token Refusal
+allocate_answer (Ok t) = Ok t
+allocate_answer (Err why) = Err refusal.NoElement
+
+abbrev pub gift_of : Given → Gift
+gift_of g = record { code = g.code; next = g.next }
+
+abbrev pub pause_refused : PauseRefusal → Refusal
+pause_refused pause_refusal.NotOwner = refusal.NotOwner
+pause_refused (pause_refusal.Spent now) = refusal.Spent now
+
+abbrev pub pause_answer : Result Given PauseRefusal → Result Gift Refusal
+pause_answer (Ok g) = Ok (gift_of g)
+pause_answer (Err why) = Err (pause_refused why)
+
+-- a release says whether it came before its pause or woke it
+abbrev pub reached : ReleaseAnswer → Reached
+reached answer.Early = CameEarly
+reached answer.Woke = WokeIt
+
+abbrev pub release_refused : ReleaseRefusal → Refusal
+release_refused (release_refusal.Spent now) = refusal.Spent now
+release_refused release_refusal.Already = refusal.Already
+
+abbrev pub release_answer : Result ReleaseAnswer ReleaseRefusal → Result Reached Refusal
+release_answer (Ok a) = Ok (reached a)
+release_answer (Err why) = Err (release_refused why)
+
+-- a word that moved is no answer of the program: nothing was done
+abbrev pub try_release_answer : Result ReleaseAnswer TryReleaseRefusal → Option (Result Reached Refusal)
+try_release_answer (Ok a) = Some (Ok (reached a))
+try_release_answer (Err (try_refusal.Moved word)) = None
+try_release_answer (Err (try_refusal.Spent now)) = Some (Err (refusal.Spent now))
+try_release_answer (Err try_refusal.Already) = Some (Err refusal.Already)
+
+abbrev pub transfer_refused : TransferRefusal → Refusal
+transfer_refused transfer_refusal.NotOwner = refusal.NotOwner
+transfer_refused (transfer_refusal.Spent now) = refusal.Spent now
+transfer_refused (transfer_refusal.TargetSpent now) = refusal.TargetSpent now
+transfer_refused transfer_refusal.TargetAlready = refusal.TargetAlready
+
+abbrev pub transfer_answer : Result (Option Given) TransferRefusal → Result (Option Gift) Refusal
+transfer_answer (Ok None) = Ok None
+transfer_answer (Ok (Some g)) = Ok (Some (gift_of g))
+transfer_answer (Err why) = Err (transfer_refused why)
+
+abbrev pub deallocate_refused : DeallocateRefusal → Refusal
+deallocate_refused deallocate_refusal.NotOwner = refusal.NotOwner
+deallocate_refused (deallocate_refusal.Spent now) = refusal.Spent now
+
+abbrev pub deallocate_answer : Result (Unit {0}) DeallocateRefusal → Result (Unit {0}) Refusal
+deallocate_answer (Ok done) = Ok tt
+deallocate_answer (Err why) = Err (deallocate_refused why)
+
+-- the generation that a refusal names, if it names one, has 18 bits
+abbrev pub IsLowRefusal : Refusal → Type 0
+IsLowRefusal (refusal.Spent now) = now ≤ 262143
+IsLowRefusal (refusal.TargetSpent now) = now ≤ 262143
+IsLowRefusal why = Unit {0}
+
+-- and so in an answer that is a refusal
+abbrev pub IsLow : {A : Type 0} → Result A Refusal → Type 0
+IsLow (Ok a) = Unit {0}
+IsLow (Err why) = IsLowRefusal why

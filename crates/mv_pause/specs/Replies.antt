@@ -1,0 +1,69 @@
+-- What replies say: which of them come to a call's event, and what the calls' answers are as replies.
+use Rattle.std.specs.Prelude.{ℕ, Option, Some, None, Result, Ok, Err}
+use Rattle.mv_element.specs.declared.element.Token.{Token}
+use Rattle.mv_element.specs.declared.operation.ElementOp.{ElementOp}
+use Rattle.mv_element.specs.declared.operation.ElementReply.{ElementReply}
+use Rattle.mv_element.specs.declared.operation.ElementReply.TheVariants as element_reply
+use Rattle.mv_machine.specs.declared.entry.Object.TheVariants.{Element}
+use Rattle.mv_machine.specs.declared.entry.Op.TheVariants as op_on
+use Rattle.mv_machine.specs.declared.entry.Reply.{Reply}
+use Rattle.mv_machine.specs.declared.entry.Reply.TheVariants as reply_of
+use Rattle.mv_board.specs.Faces.{CallerFace, Happened}
+use Rattle.mv_pause.specs.declared.releasing.ReleaseAnswer.{ReleaseAnswer}
+use Rattle.mv_pause.specs.declared.releasing.ReleaseAnswer.TheVariants as answer
+use Rattle.mv_pause.specs.declared.releasing.ReleaseRefusal.{ReleaseRefusal}
+use Rattle.mv_pause.specs.declared.releasing.ReleaseRefusal.TheVariants as release_refusal
+use Rattle.mv_pause.specs.declared.replies.Begun.{Begun}
+use Rattle.mv_pause.specs.declared.replies.Begun.TheVariants as begun
+
+abbrev pub SaysOpened : Reply → Type 0
+SaysOpened (reply_of.Element (element_reply.Opened g)) = Unit {0}
+SaysOpened reply = ⊥
+
+abbrev pub SaysGiven : Reply → Type 0
+SaysGiven (reply_of.Element (element_reply.Given code next)) = Unit {0}
+SaysGiven reply = ⊥
+
+abbrev pub SaysBegun : Reply → Type 0
+SaysBegun (reply_of.Element element_reply.Parked) = Unit {0}
+SaysBegun (reply_of.Element (element_reply.Given code next)) = Unit {0}
+SaysBegun (reply_of.Element (element_reply.Spent g)) = Unit {0}
+SaysBegun reply = ⊥
+
+abbrev pub SaysReleased : Reply → Type 0
+SaysReleased (reply_of.Element element_reply.Early) = Unit {0}
+SaysReleased (reply_of.Element element_reply.Woke) = Unit {0}
+SaysReleased (reply_of.Element (element_reply.Spent g)) = Unit {0}
+SaysReleased (reply_of.Element element_reply.Already) = Unit {0}
+SaysReleased reply = ⊥
+
+abbrev pub SaysClosed : Reply → Type 0
+SaysClosed (reply_of.Element element_reply.Closed) = Unit {0}
+SaysClosed (reply_of.Element (element_reply.Spent g)) = Unit {0}
+SaysClosed reply = ⊥
+
+abbrev pub SaysState : Reply → Type 0
+SaysState (reply_of.Element (element_reply.State s)) = Unit {0}
+SaysState reply = ⊥
+
+-- how a pause begins, as a reply
+abbrev pub reply_to_pause : Begun → ElementReply
+reply_to_pause begun.Parked = element_reply.Parked
+reply_to_pause (begun.Given gift) = element_reply.Given gift.code gift.next
+reply_to_pause (begun.Spent now) = element_reply.Spent now
+
+-- a release's answer is its event's reply
+abbrev pub reply_to_release : Result ReleaseAnswer ReleaseRefusal → ElementReply
+reply_to_release (Ok answer.Early) = element_reply.Early
+reply_to_release (Ok answer.Woke) = element_reply.Woke
+reply_to_release (Err (release_refusal.Spent now)) = element_reply.Spent now
+reply_to_release (Err release_refusal.Already) = element_reply.Already
+
+-- a close, by the element's generation where the token is over
+abbrev pub reply_to_close : Option ℕ → ElementReply
+reply_to_close None = element_reply.Closed
+reply_to_close (Some now) = element_reply.Spent now
+
+-- one event on a token's element, and its reply
+abbrev pub HappenedOn : Token → CallerFace → ElementOp → ElementReply → CallerFace → Type 0
+HappenedOn token t op reply u = Happened t (Element token.element) (op_on.Element op) (reply_of.Element reply) u

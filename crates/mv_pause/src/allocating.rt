@@ -1,0 +1,67 @@
+//! The beginning of an element's use. Clauses cite the programs' `Pauses.antt`, and `specs/Answers.antt`.
+
+ghost use Rattle.std.specs.Prelude.{◌≡◌, ◌<◌, ◌≤◌, Some, None, IfOk, IfSome, MatchResult};
+ghost use Rattle.mv_machine.specs.Setup.{element_count, element_owner};
+ghost use Rattle.mv_board.specs.Faces.{IsOf};
+ghost use Rattle.mv_calls.specs.Keeping.{kept_of};
+ghost use Rattle.mv_calls.specs.Pauses.{allocate, lowest_free};
+ghost use Rattle.mv_calls.specs.Rest.{IsAtRest};
+ghost use Rattle.mv_wait.specs.Run.{IsServed};
+ghost use Rattle.mv_pause.specs.Answers.{allocate_answer};
+
+use crate::replies::opened;
+use mv_element::{ElementOp, Token};
+use mv_machine::{Object, Op};
+use mv_wait::{Station, Task};
+use std::sync::Wait;
+
+/// All elements of the task are in use.
+#[derive(Clone, Copy, Debug, PartialEq, Eq)]
+pub struct NoElement;
+
+/// Takes the task's lowest element that is not in use, and answers the token of its next pause (IEAVAPE). One event.
+///
+/// # Errors
+///
+/// `NoElement` where all of the task's own elements are in use; then no event is made.
+pub fn allocate<R: Wait>(station: &Station, rt: &R, task: &mut Task) -> Result<Token, NoElement>
+    requires task { IsOf station.now task.old }
+    requires rest { IsAtRest task.old.log }
+    requires left { 0 < task.old.left }
+    ensures served { IsServed 1 (allocate station.now.config) (λ a. a ≡ allocate_answer result) task.old task.new }
+    ensures causes { MatchResult result
+        (λ token. lowest_free station.now.config (kept_of task.old.number task.old.log) ≡ Some token.element)
+        (λ _. (lowest_free station.now.config (kept_of task.old.number task.old.log) ≡ None) × (task.new ≡ task.old)) }
+    ensures own { IfOk result (λ token. (token.element < element_count station.now.config) × (element_owner station.now.config token.element ≡ task.old.number)) }
+    ensures low { IfOk result (λ token. token.generation ≤ 262143) }
+{
+    let Some(element) = lowest(station, task) else {
+        return Err(NoElement);
+    };
+    let reply = station.event(
+        rt,
+        task,
+        Object::Element(element),
+        Op::Element(ElementOp::Open),
+    );
+    Ok(Token {
+        element,
+        generation: opened(reply),
+    })
+}
+
+// The task's lowest element that is not in use.
+fn lowest(station: &Station, task: &Task) -> Option<u32>
+    requires { IsOf station.now task.now }
+    ensures lowest { result ≡ lowest_free station.now.config (kept_of task.now.number task.now.log) }
+    ensures own { IfSome result (λ n. (n < element_count station.now.config) × (element_owner station.now.config n ≡ task.now.number)) }
+{
+    let count = station.config().config().elements_per_caller;
+    let first = task.number() * count;
+    for i in 0..count {
+        if !task.in_use(first + i) {
+            return Some(first + i);
+        }
+    }
+    None
+}

@@ -1,0 +1,71 @@
+//! The end of an element's use. Clauses cite the programs' `Pauses.antt`, and `specs/Answers.antt` and `specs/Deallocating.antt`.
+
+ghost use Rattle.std.specs.Prelude.{◌≡◌, ◌<◌, ◌≤◌, false, Ok, MatchResult};
+ghost use Rattle.mv_element.specs.declared.operation.ElementOp.TheVariants as element_op;
+ghost use Rattle.mv_element.specs.declared.operation.ElementReply.TheVariants as element_reply;
+ghost use Rattle.mv_machine.specs.Setup.{element_count};
+ghost use Rattle.mv_board.specs.Faces.{IsOf};
+ghost use Rattle.mv_calls.specs.Keeping.{kept_of};
+ghost use Rattle.mv_calls.specs.Pauses.{deallocate, is_others_token};
+ghost use Rattle.mv_calls.specs.Rest.{IsAtRest};
+ghost use Rattle.mv_wait.specs.Run.{IsServed};
+ghost use Rattle.mv_pause.specs.Answers.{deallocate_answer, IsLow};
+ghost use Rattle.mv_pause.specs.Deallocating.{IsDeallocateCause};
+ghost use Rattle.mv_pause.specs.Pausing.{IsCurrent};
+ghost use Rattle.mv_pause.specs.Replies.{HappenedOn};
+
+use crate::owning::is_others;
+use crate::replies::over;
+use mv_element::{ElementOp, Token};
+use mv_machine::{Object, Op};
+use mv_wait::{Station, Task};
+use std::sync::Wait;
+
+/// Why an element was not given back.
+#[derive(Clone, Copy, Debug, PartialEq, Eq)]
+pub enum DeallocateRefusal {
+    /// The element is another caller's.
+    NotOwner,
+    /// The token is over; this is the element's generation.
+    Spent(u32),
+}
+
+/// Gives an element back (IEAVDPE). A code that was kept for its pause is lost. One event.
+///
+/// # Errors
+///
+/// `NotOwner` where the element is another caller's; then no event is made. `Spent` where the token is over.
+pub fn deallocate<R: Wait>(
+    station: &Station,
+    rt: &R,
+    task: &mut Task,
+    token: Token,
+) -> Result<(), DeallocateRefusal>
+    requires task { IsOf station.now task.old }
+    requires rest { IsAtRest task.old.log }
+    requires element { token.element < element_count station.now.config }
+    requires left { 0 < task.old.left }
+    ensures served { IsServed 1 (deallocate station.now.config token) (λ a. a ≡ deallocate_answer result) task.old task.new }
+    ensures causes { MatchResult result
+        (λ _. (is_others_token station.now.config (kept_of task.old.number task.old.log) token ≡ false)
+        × HappenedOn token task.old (element_op.Close token.generation) element_reply.Closed task.new)
+        (λ why. IsDeallocateCause station.now.config token task.old why task.new) }
+    // A token of an own element that is in use with its generation is never refused.
+    ensures current { is_others_token station.now.config (kept_of task.old.number task.old.log) token ≡ false
+        → IsCurrent (kept_of task.old.number task.old.log) token → result ≡ Ok tt }
+    ensures low { IsLow (deallocate_answer result) }
+{
+    if is_others(station, task, token) {
+        return Err(DeallocateRefusal::NotOwner);
+    }
+    let reply = station.event(
+        rt,
+        task,
+        Object::Element(token.element),
+        Op::Element(ElementOp::Close(token.generation)),
+    );
+    match over(reply) {
+        None => Ok(()),
+        Some(now) => Err(DeallocateRefusal::Spent(now)),
+    }
+}

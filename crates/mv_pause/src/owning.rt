@@ -1,0 +1,30 @@
+//! Whose an element is. Clauses cite the programs' `Pauses.antt`.
+
+ghost use Rattle.std.specs.Prelude.{◌≡◌, ◌<◌};
+ghost use Rattle.mv_machine.specs.Setup.{element_count};
+ghost use Rattle.mv_calls.specs.Keeping.{kept_of};
+ghost use Rattle.mv_calls.specs.Pauses.{is_others_token};
+
+use crate::releasing::{ReleaseAnswer, ReleaseRefusal};
+use mv_element::Token;
+use mv_wait::{Station, Task};
+
+/// Whether a token is of another caller's element.
+pub(crate) fn is_others(station: &Station, task: &Task, token: Token) -> bool
+    ensures { result ≡ is_others_token station.now.config (kept_of task.now.number task.now.log) token }
+{
+    !station.config().owns_element(task.number(), token.element)
+}
+
+/// Wakes an element's owner, where a release found it paused.
+pub(crate) fn wake_owner(
+    station: &Station,
+    answer: Result<ReleaseAnswer, ReleaseRefusal>,
+    element: u32,
+)
+    requires { element < element_count station.now.config }
+{
+    if let Ok(ReleaseAnswer::Woke) = answer {
+        station.wake(element / station.config().config().elements_per_caller);
+    }
+}

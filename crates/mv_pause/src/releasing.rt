@@ -1,0 +1,127 @@
+//! Releases. Clauses cite the programs' `Pauses.antt`, and `specs/Answers.antt` and `specs/Releasing.antt`.
+
+ghost use Rattle.std.specs.Prelude.{◌≡◌, ◌<◌, ◌^◌, IfOk, IfSome, Some};
+ghost use Rattle.mv_element.specs.declared.operation.ElementOp.TheVariants as element_op;
+ghost use Rattle.mv_machine.specs.Setup.{element_count};
+ghost use Rattle.mv_board.specs.Faces.{IsOf};
+ghost use Rattle.mv_calls.specs.Pauses.{release, try_release};
+ghost use Rattle.mv_calls.specs.Rest.{IsAtRest};
+ghost use Rattle.mv_wait.specs.Run.{IsServed};
+ghost use Rattle.mv_pause.specs.Answers.{release_answer, try_release_answer, IsLow};
+ghost use Rattle.mv_pause.specs.Releasing.{HasNoPause, IsTried};
+ghost use Rattle.mv_pause.specs.Replies.{HappenedOn, reply_to_release};
+ghost use Rattle.mv_pause.specs.declared.releasing.ReleaseAnswer.TheVariants.{Early};
+
+use crate::owning::wake_owner;
+use crate::replies::released;
+use mv_element::{ElementOp, Token};
+use mv_machine::{Object, Op};
+use mv_wait::{Station, Task};
+use std::sync::Wait;
+
+/// What a release came to.
+#[derive(Clone, Copy, Debug, PartialEq, Eq)]
+pub enum ReleaseAnswer {
+    /// It came before its pause, which will be given the code at once.
+    Early,
+    /// A task paused, and was woken.
+    Woke,
+}
+
+/// Why a release was refused.
+#[derive(Clone, Copy, Debug, PartialEq, Eq)]
+pub enum ReleaseRefusal {
+    /// The token is over; this is the element's generation.
+    Spent(u32),
+    /// The token was released before.
+    Already,
+}
+
+/// Why a release by an exchange was refused.
+#[derive(Clone, Copy, Debug, PartialEq, Eq)]
+pub enum TryReleaseRefusal {
+    /// The word found was this one, and not the one expected. No event was made.
+    Moved(u64),
+    /// The token is over; this is the element's generation.
+    Spent(u32),
+    /// The token was released before.
+    Already,
+}
+
+/// Releases the pause of a token with a code of three bytes, whether it is on or still to come (IEAVRLS). One event.
+///
+/// # Errors
+///
+/// `Spent` where the token is over, `Already` where it was released before.
+pub fn release<R: Wait>(
+    station: &Station,
+    rt: &R,
+    task: &mut Task,
+    token: Token,
+    code: u32,
+) -> Result<ReleaseAnswer, ReleaseRefusal>
+    requires task { IsOf station.now task.old }
+    requires rest { IsAtRest task.old.log }
+    requires element { token.element < element_count station.now.config }
+    requires code { code < 2 ^ 24 }
+    requires left { 0 < task.old.left }
+    ensures served { IsServed 1 (release token code) (λ a. a ≡ release_answer result) task.old task.new }
+    ensures causes { HappenedOn token task.old (element_op.Release token.generation code) (reply_to_release result) task.new }
+    ensures low { IsLow (release_answer result) }
+{
+    let reply = station.event(
+        rt,
+        task,
+        Object::Element(token.element),
+        Op::Element(ElementOp::Release(token.generation, code)),
+    );
+    let answer = released(reply);
+    wake_owner(station, answer, token.element);
+    answer
+}
+
+/// The same by one exchange of the element's word, which waits for nothing and wakes nobody: in the word that is expected no task
+/// pauses. At most one event.
+///
+/// # Errors
+///
+/// `Moved(w)` where the word found was w and not `expected`; then no event is made. Otherwise as a release.
+pub fn try_release(
+    station: &Station,
+    task: &mut Task,
+    token: Token,
+    expected: u64,
+    code: u32,
+) -> Result<ReleaseAnswer, TryReleaseRefusal>
+    requires task { IsOf station.now task.old }
+    requires rest { IsAtRest task.old.log }
+    requires element { token.element < element_count station.now.config }
+    requires unpaused { HasNoPause token.element expected }
+    requires code { code < 2 ^ 24 }
+    requires left { 0 < task.old.left }
+    ensures served { IfSome (try_release_answer result) (λ is. IsServed 1 (try_release token expected code) (λ a. a ≡ is) task.old task.new) }
+    ensures causes { IsTried token expected code task.old result task.new }
+    ensures early { IfOk result (λ a. a ≡ Early) }
+    ensures rest { IsAtRest task.new.log }
+    ensures low { IfSome (try_release_answer result) IsLow }
+{
+    let op = Op::Element(ElementOp::Release(token.generation, code));
+    let tried = station.try_event(task, Object::Element(token.element), op, expected);
+    match tried {
+        Ok(reply) => tried_as(released(reply)),
+        Err(moved) => Err(TryReleaseRefusal::Moved(moved.0)),
+    }
+}
+
+// What a release by an exchange answers, where it was made.
+fn tried_as(
+    answer: Result<ReleaseAnswer, ReleaseRefusal>,
+) -> Result<ReleaseAnswer, TryReleaseRefusal>
+    ensures { try_release_answer result ≡ Some (release_answer answer) }
+{
+    match answer {
+        Ok(answer) => Ok(answer),
+        Err(ReleaseRefusal::Spent(now)) => Err(TryReleaseRefusal::Spent(now)),
+        Err(ReleaseRefusal::Already) => Err(TryReleaseRefusal::Already),
+    }
+}

@@ -1,0 +1,101 @@
+//! What replies say, where their kind is known. Clauses cite `specs/Replies.antt`.
+
+ghost use Rattle.std.specs.Prelude.{◌≡◌};
+ghost use Rattle.mv_element.specs.declared.operation.ElementReply.TheVariants as element_reply;
+ghost use Rattle.mv_machine.specs.declared.entry.Reply.TheVariants as reply_of;
+ghost use Rattle.mv_pause.specs.Replies.{SaysOpened, SaysGiven, SaysBegun, SaysReleased, SaysClosed, SaysState};
+ghost use Rattle.mv_pause.specs.Replies.{reply_to_pause, reply_to_release, reply_to_close};
+
+use crate::releasing::{ReleaseAnswer, ReleaseRefusal};
+use mv_element::{ElementReply, ElementState};
+use mv_machine::Reply;
+
+/// The generation that an opened element has.
+pub(crate) fn opened(reply: Reply) -> u32
+    requires { SaysOpened reply }
+    ensures { reply ≡ reply_of.Element (element_reply.Opened result) }
+{
+    match reply {
+        Reply::Element(ElementReply::Opened(generation)) => generation,
+        _ => unreachable!(),
+    }
+}
+
+/// A release code, and the generation of the next pause.
+#[derive(Clone, Copy, Debug, PartialEq, Eq)]
+pub(crate) struct Gift {
+    pub code: u32,
+    pub next: u32,
+}
+
+/// What a pause was given.
+pub(crate) fn gift_in(reply: Reply) -> Gift
+    requires { SaysGiven reply }
+    ensures { reply ≡ reply_of.Element (element_reply.Given result.code result.next) }
+{
+    match reply {
+        Reply::Element(ElementReply::Given { code, next }) => Gift { code, next },
+        _ => unreachable!(),
+    }
+}
+
+/// How a pause begins.
+#[derive(Clone, Copy, Debug, PartialEq, Eq)]
+pub(crate) enum Begun {
+    /// The task is to wait for a code.
+    Parked,
+    /// A code was there.
+    Given(Gift),
+    /// The token is over; this is the element's generation.
+    Spent(u32),
+}
+
+/// How a pause began.
+pub(crate) fn beginning(reply: Reply) -> Begun
+    requires { SaysBegun reply }
+    ensures { reply ≡ reply_of.Element (reply_to_pause result) }
+{
+    match reply {
+        Reply::Element(ElementReply::Parked) => Begun::Parked,
+        Reply::Element(ElementReply::Given { code, next }) => Begun::Given(Gift { code, next }),
+        Reply::Element(ElementReply::Spent(now)) => Begun::Spent(now),
+        _ => unreachable!(),
+    }
+}
+
+/// What a release came to.
+pub(crate) fn released(reply: Reply) -> Result<ReleaseAnswer, ReleaseRefusal>
+    requires { SaysReleased reply }
+    ensures { reply ≡ reply_of.Element (reply_to_release result) }
+{
+    match reply {
+        Reply::Element(ElementReply::Early) => Ok(ReleaseAnswer::Early),
+        Reply::Element(ElementReply::Woke) => Ok(ReleaseAnswer::Woke),
+        Reply::Element(ElementReply::Spent(now)) => Err(ReleaseRefusal::Spent(now)),
+        Reply::Element(ElementReply::Already) => Err(ReleaseRefusal::Already),
+        _ => unreachable!(),
+    }
+}
+
+/// The element's generation, where the token that it was to be closed with is over.
+pub(crate) fn over(reply: Reply) -> Option<u32>
+    requires { SaysClosed reply }
+    ensures { reply ≡ reply_of.Element (reply_to_close result) }
+{
+    match reply {
+        Reply::Element(ElementReply::Closed) => None,
+        Reply::Element(ElementReply::Spent(now)) => Some(now),
+        _ => unreachable!(),
+    }
+}
+
+/// The state of an element.
+pub(crate) fn state(reply: Reply) -> ElementState
+    requires { SaysState reply }
+    ensures { reply ≡ reply_of.Element (element_reply.State result) }
+{
+    match reply {
+        Reply::Element(ElementReply::State(state)) => state,
+        _ => unreachable!(),
+    }
+}

@@ -1,0 +1,25 @@
+//! A look at an element's state. Clauses cite the programs' `Pauses.antt`.
+
+ghost use Rattle.std.specs.Prelude.{◌≡◌, ◌<◌, ◌≤◌};
+ghost use Rattle.mv_machine.specs.Setup.{element_count};
+ghost use Rattle.mv_board.specs.Faces.{IsOf};
+ghost use Rattle.mv_calls.specs.Pauses.{test_element};
+ghost use Rattle.mv_calls.specs.Rest.{IsAtRest};
+ghost use Rattle.mv_wait.specs.Run.{IsServed};
+
+use crate::replies::state;
+use mv_element::ElementState;
+use mv_machine::Object;
+use mv_wait::{Station, Task};
+
+/// The state of any caller's element, by one event that waits for nothing.
+pub fn test_element(station: &Station, task: &mut Task, element: u32) -> ElementState
+    requires task { IsOf station.now task.old }
+    requires rest { IsAtRest task.old.log }
+    requires element { element < element_count station.now.config }
+    requires left { 0 < task.old.left }
+    ensures served { IsServed 1 (test_element element) (λ a. a ≡ result) task.old task.new }
+    ensures low { result.generation ≤ 262143 }
+{
+    state(station.test(task, Object::Element(element)))
+}

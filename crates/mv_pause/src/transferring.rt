@@ -1,0 +1,140 @@
+//! A release and a pause in one call. Clauses cite the programs' `Pauses.antt`, and `specs/Answers.antt` and
+//! `specs/Transferring.antt`.
+
+ghost use Rattle.std.specs.Prelude.{◌≡◌, ◌<◌, ◌≤◌, ◌+◌, ◌^◌, Option, Some, None, IfOk, IfSome, MatchResult, option_map};
+ghost use Rattle.mv_element.specs.declared.element.Token.{Token};
+ghost use Rattle.mv_machine.specs.Setup.{element_count};
+ghost use Rattle.mv_board.specs.Faces.{IsOf};
+ghost use Rattle.mv_calls.specs.Keeping.{kept_of};
+ghost use Rattle.mv_calls.specs.Pauses.{transfer, transfer_refusal};
+ghost use Rattle.mv_calls.specs.Rest.{IsAtRest};
+ghost use Rattle.mv_wait.specs.Run.{IsServed};
+ghost use Rattle.mv_pause.specs.Answers.{transfer_answer, transfer_refused, IsLow, IsLowRefusal};
+ghost use Rattle.mv_pause.specs.Transferring.{cost, target_refused, IsPausedBy, IsGivenTo, IsTransferCause};
+
+use crate::owning::{is_others, wake_owner};
+use crate::pausing::{Given, pause_own};
+use crate::releasing::{ReleaseAnswer, ReleaseRefusal};
+use crate::replies::released;
+use mv_element::{ElementOp, Token};
+use mv_machine::{Object, Op};
+use mv_wait::{Station, Task};
+use std::sync::Wait;
+
+/// Why a transfer was refused. Then nobody was released, and the task did not pause.
+#[derive(Clone, Copy, Debug, PartialEq, Eq)]
+pub enum TransferRefusal {
+    /// The current token is of another caller's element.
+    NotOwner,
+    /// The current token is over, or its element is not in use; this is the element's generation.
+    Spent(u32),
+    /// The target is over; this is the element's generation.
+    TargetSpent(u32),
+    /// The target was released before.
+    TargetAlready,
+}
+
+/// Releases the target with a code of three bytes, and then pauses with the current token, if there is one (IEAVXFR). They may be
+/// the same: then the pause is given the code at once. At most one event without a current token, and three with one.
+///
+/// # Errors
+///
+/// `NotOwner` and `Spent` where the current token is not one of an own element in use; then no event is made. `TargetSpent` and
+/// `TargetAlready` as a release.
+pub fn transfer<R: Wait>(
+    station: &Station,
+    rt: &R,
+    task: &mut Task,
+    current: Option<Token>,
+    target: Token,
+    code: u32,
+) -> Result<Option<Given>, TransferRefusal>
+    requires task { IsOf station.now task.old }
+    requires rest { IsAtRest task.old.log }
+    requires current { IfSome current (λ t. t.element < element_count station.now.config) }
+    requires target { target.element < element_count station.now.config }
+    requires code { code < 2 ^ 24 }
+    requires left { cost current ≤ task.old.left }
+    ensures served { IsServed (cost current) (transfer station.now.config current target code) (λ a. a ≡ transfer_answer result) task.old task.new }
+    ensures causes { MatchResult result
+        (λ given. (transfer_refusal station.now.config current (kept_of task.old.number task.old.log) ≡ None) × IsGivenTo current given task.new.log)
+        (λ why. IsTransferCause station.now.config current target code task.old why task.new) }
+    ensures low { IsLow (transfer_answer result) × IfOk result (λ given. IfSome given (λ g. g.next.generation ≤ 262143)) }
+{
+    if let Some(refusal) = refuses_transfer(station, task, current) {
+        return Err(refusal);
+    }
+    let reply = station.event(
+        rt,
+        task,
+        Object::Element(target.element),
+        Op::Element(ElementOp::Release(target.generation, code)),
+    );
+    let answer = released(reply);
+    wake_owner(station, answer, target.element);
+    if let Some(refusal) = refuses_target(answer) {
+        return Err(refusal);
+    }
+    Ok(pause_current(station, rt, task, current))
+}
+
+// Why a transfer is refused without an event, if it is.
+fn refuses_transfer(
+    station: &Station,
+    task: &Task,
+    current: Option<Token>,
+) -> Option<TransferRefusal>
+    requires task { IsOf station.now task.now }
+    requires current { IfSome current (λ t. t.element < element_count station.now.config) }
+    ensures refusal { option_map transfer_refused result ≡ transfer_refusal station.now.config current (kept_of task.now.number task.now.log) }
+    ensures low { IfSome result (λ why. IsLowRefusal (transfer_refused why)) }
+{
+    let Some(token) = current else {
+        return None;
+    };
+    if is_others(station, task, token) {
+        return Some(TransferRefusal::NotOwner);
+    }
+    let now = task.generation(token.element);
+    if !task.in_use(token.element) || now != token.generation {
+        return Some(TransferRefusal::Spent(now));
+    }
+    None
+}
+
+// Why a transfer to the target that was released so is refused, if it is.
+fn refuses_target(answer: Result<ReleaseAnswer, ReleaseRefusal>) -> Option<TransferRefusal>
+    ensures { option_map transfer_refused result ≡ target_refused answer }
+{
+    match answer {
+        Ok(_) => None,
+        Err(ReleaseRefusal::Spent(now)) => Some(TransferRefusal::TargetSpent(now)),
+        Err(ReleaseRefusal::Already) => Some(TransferRefusal::TargetAlready),
+    }
+}
+
+// Pauses with the current token, if there is one. It is not refused.
+fn pause_current<R: Wait>(
+    station: &Station,
+    rt: &R,
+    task: &mut Task,
+    current: Option<Token>,
+) -> Option<Given>
+    requires task { IsOf station.now task.old }
+    requires rest { IsAtRest task.old.log }
+    requires current { IfSome current (λ t. t.element < element_count station.now.config) }
+    requires accepted { transfer_refusal station.now.config current (kept_of task.old.number task.old.log) ≡ None }
+    requires left { cost current ≤ task.old.left + 1 }
+    ensures paused { IsPausedBy station.now.config current result task.old task.new }
+    ensures given { IsGivenTo current result task.new.log }
+    ensures rest { IsAtRest task.new.log }
+    ensures low { IfSome result (λ g. g.next.generation ≤ 262143) }
+{
+    let Some(token) = current else {
+        return None;
+    };
+    match pause_own(station, rt, task, token) {
+        Ok(given) => Some(given),
+        Err(_) => unreachable!(),
+    }
+}
