@@ -1,0 +1,12 @@
+-- one event on the latch set: what it is answered, and what is kept and open after it
+pub mod Answering
+pub mod Admits
+pub mod Stands
+pub mod Resting
+-- obtain
+pub mod Obtains
+-- check_latch
+pub mod Checks
+-- release_latch, purge
+pub mod Wakes
+pub mod Releases

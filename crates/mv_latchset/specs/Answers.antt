@@ -1,0 +1,46 @@
+-- The answers of the calls, and what they are in the programs.
+use Rattle.std.specs.Prelude.{ℕ, Result, Ok, Err}
+use Rattle.mv_calls.specs.LatchCalls as called
+use Rattle.mv_calls.specs.Refusal.{Refusal}
+use Rattle.mv_calls.specs.Refusal as refusal
+use Rattle.mv_latchset.specs.declared.obtaining.ObtainRefusal.{ObtainRefusal}
+use Rattle.mv_latchset.specs.declared.obtaining.ObtainRefusal.TheVariants as obtain_refusal
+use Rattle.mv_latchset.specs.declared.obtaining.Obtained.{Obtained}
+use Rattle.mv_latchset.specs.declared.obtaining.Obtained.TheVariants as obtained
+use Rattle.mv_latchset.specs.declared.purging.Purged.{Purged}
+use Rattle.mv_latchset.specs.declared.releasing.ReleaseLatchRefusal.{ReleaseLatchRefusal}
+use Rattle.mv_latchset.specs.declared.releasing.ReleaseLatchRefusal.TheVariants as release_refusal
+use Rattle.mv_latchset.specs.declared.token.Standing.{Standing}
+use Rattle.mv_latchset.specs.declared.token.Standing.TheVariants as standing
+
+-- a program's answer has the request's number, and no more of the token
+abbrev pub obtained_as : Obtained → called.Obtained
+obtained_as (obtained.Granted token) = called.GrantedAs token.id
+obtained_as (obtained.Pending token) = called.PendingAs token.id
+
+abbrev pub obtain_refused : ObtainRefusal → Refusal
+obtain_refused obtain_refusal.BadLatch = refusal.BadLatch
+obtain_refused obtain_refusal.NotOwner = refusal.NotOwner
+obtain_refused obtain_refusal.Quota = refusal.Quota
+obtain_refused (obtain_refusal.NotNow id) = refusal.NotNow id
+obtain_refused obtain_refusal.Purged = refusal.Purged
+
+abbrev pub obtain_answer : Result Obtained ObtainRefusal → Result called.Obtained Refusal
+obtain_answer (Ok got) = Ok (obtained_as got)
+obtain_answer (Err why) = Err (obtain_refused why)
+
+abbrev pub standing_as : Standing → called.Standing
+standing_as standing.Granted = called.Holds
+standing_as standing.Waiting = called.Waits
+standing_as standing.Gone = called.IsOut
+
+abbrev pub release_refused : ReleaseLatchRefusal → Refusal
+release_refused release_refusal.Gone = refusal.Gone
+release_refused release_refusal.StillWaiting = refusal.StillWaiting
+
+abbrev pub release_answer : Result ℕ ReleaseLatchRefusal → Result ℕ Refusal
+release_answer (Ok granted) = Ok granted
+release_answer (Err why) = Err (release_refused why)
+
+abbrev pub counts_of : Purged → called.Counts
+counts_of p = record { removed = p.removed; granted = p.granted }

@@ -1,0 +1,73 @@
+-- What an obtain came to, event by event.
+use Rattle.std.specs.Prelude.{◌≡◌, ℕ, Bool, true, false, [], ◌⊎◌, Some, None}
+use Rattle.mv_latch.specs.declared.operation.LatchOp.{LatchOp}
+use Rattle.mv_latch.specs.declared.operation.LatchOp.TheVariants as latch_op
+use Rattle.mv_latch.specs.declared.operation.LatchReply.{LatchReply}
+use Rattle.mv_latch.specs.declared.operation.LatchReply.TheVariants as latch_reply
+use Rattle.mv_latch.specs.declared.request.LatchForm.{LatchForm}
+use Rattle.mv_latch.specs.declared.request.LatchForm.TheVariants as form_of
+use Rattle.mv_latch.specs.declared.request.Mode.{Mode}
+use Rattle.mv_machine.specs.declared.entry.Object.TheVariants.{Latches}
+use Rattle.mv_machine.specs.declared.entry.Op.TheVariants as op_on
+use Rattle.mv_machine.specs.declared.entry.Reply.TheVariants as reply_of
+use Rattle.mv_machine.specs.Setup.{Setup}
+use Rattle.mv_board.specs.Faces.{CallerFace, Happened}
+use Rattle.mv_calls.specs.Keeping.{kept_of}
+use Rattle.mv_calls.specs.LatchCalls.{obtain_refusal}
+use Rattle.mv_wait.specs.Run.{Went}
+use Rattle.mv_latchset.specs.declared.obtaining.ObtainRefusal.{ObtainRefusal}
+use Rattle.mv_latchset.specs.declared.obtaining.ObtainRefusal.TheVariants as refused
+use Rattle.mv_latchset.specs.declared.obtaining.Obtained.{Obtained}
+use Rattle.mv_latchset.specs.declared.obtaining.Obtained.TheVariants as obtained
+use Rattle.mv_latchset.specs.Answers.{obtain_refused}
+use Rattle.mv_latchset.specs.Replies.{IsPosted}
+
+-- one event on the latch set, and its reply
+abbrev pub IsAnswered : LatchOp → LatchReply → CallerFace → CallerFace → Type 0
+IsAnswered op reply t u = Happened t Latches (op_on.Latch op) (reply_of.Latch reply) u
+
+-- a confirm's reply of a request that no longer waits
+abbrev pub settled_reply : ℕ → Bool → LatchReply
+settled_reply id true = latch_reply.Granted id
+settled_reply id false = latch_reply.Gone
+
+-- the task waited without an event, and then its confirm found the request granted, or gone
+pub record IsSettled (latch id : ℕ) (t : CallerFace) (granted : Bool) (u : CallerFace) : Type 0 where
+  pub awaited : CallerFace
+  pub waited : Went [] t awaited
+  pub confirmed : IsAnswered (latch_op.Confirm latch id) (settled_reply id granted) awaited u
+
+-- the request was queued, and settled after that
+pub record IsQueuedAndSettled (op : LatchOp) (latch id : ℕ) (t : CallerFace) (granted : Bool) (u : CallerFace) : Type 0 where
+  pub waiting : CallerFace
+  pub queued : IsAnswered op (latch_reply.Queued id) t waiting
+  pub settled : IsSettled latch id waiting granted u
+
+-- Granted is the obtain's own reply, or in the Waiting form that of its confirm; Pending is the Posted form's Queued
+abbrev pub IsObtainedBy : LatchOp → ℕ → LatchForm → CallerFace → Obtained → CallerFace → Type 0
+IsObtainedBy op latch form t (obtained.Granted token) u =
+    IsAnswered op (latch_reply.Granted token.id) t u
+    ⊎ ((form ≡ form_of.Waiting) × IsQueuedAndSettled op latch token.id t true u)
+IsObtainedBy op latch form t (obtained.Pending token) u = IsPosted form × IsAnswered op (latch_reply.Queued token.id) t u
+
+-- refused before its event: nothing was done
+abbrev pub IsRefusedBefore : Setup → ℕ → ℕ → Mode → LatchForm → CallerFace → ObtainRefusal → CallerFace → Type 0
+IsRefusedBefore c latch requestor mode form t why u =
+    (obtain_refusal c latch requestor mode form (kept_of t.number t.log) ≡ Some (obtain_refused why)) × (u ≡ t)
+
+-- why an obtain was refused: before its event, by its reply, or since it was gone at its confirm
+abbrev pub IsRefusedBy : Setup → ℕ → ℕ → Mode → LatchForm → CallerFace → ObtainRefusal → CallerFace → Type 0
+IsRefusedBy c latch requestor mode form t (refused.NotNow id) u =
+    (obtain_refusal c latch requestor mode form (kept_of t.number t.log) ≡ None) × (form ≡ form_of.Conditional)
+    × IsAnswered (latch_op.Obtain latch requestor mode form) (latch_reply.NotNow id) t u
+IsRefusedBy c latch requestor mode form t refused.Purged u =
+    (obtain_refusal c latch requestor mode form (kept_of t.number t.log) ≡ None) × (form ≡ form_of.Waiting)
+    × ((id : ℕ) × IsQueuedAndSettled (latch_op.Obtain latch requestor mode form) latch id t false u)
+IsRefusedBy c latch requestor mode form t refused.BadLatch u = IsRefusedBefore c latch requestor mode form t refused.BadLatch u
+IsRefusedBy c latch requestor mode form t refused.NotOwner u = IsRefusedBefore c latch requestor mode form t refused.NotOwner u
+IsRefusedBy c latch requestor mode form t refused.Quota u = IsRefusedBefore c latch requestor mode form t refused.Quota u
+
+-- the token names this latch
+abbrev pub HasLatch : ℕ → Obtained → Type 0
+HasLatch latch (obtained.Granted token) = token.latch ≡ latch
+HasLatch latch (obtained.Pending token) = token.latch ≡ latch

@@ -1,0 +1,22 @@
+//! The latch services on running tasks: requests for latches that are granted at once, waited for, or told by a post; their
+//! release, and the purge of a requestor. Each call makes the events of its program and no others, and after a release or a
+//! purge it posts the blocks of those that are granted, and wakes the tasks that wait.
+#![tactic(auto)]
+
+mod checking;
+mod obtaining;
+mod purging;
+mod releasing;
+mod replies;
+mod token;
+mod waking;
+
+pub use checking::check_latch;
+pub use mv_latch::LatchForm as Form;
+pub use obtaining::{ObtainRefusal, Obtained, obtain};
+pub use purging::{Purged, purge};
+pub use releasing::{ReleaseLatchRefusal, release_latch};
+pub use token::{LatchToken, Standing};
+
+#[cfg(test)]
+mod tests;

@@ -1,0 +1,63 @@
+//! Releases of latches. Clauses cite the calls' `LatchCalls.antt`, the tasks' `Run.antt`, and `specs/Answers.antt` and
+//! `specs/Releasing.antt`.
+
+ghost use Rattle.std.specs.Prelude.{◌≡◌, ◌<◌, ◌≤◌};
+ghost use Rattle.mv_machine.specs.Reach.{release_cost};
+ghost use Rattle.mv_board.specs.Faces.{IsOf};
+ghost use Rattle.mv_calls.specs.LatchCalls.{release_latch};
+ghost use Rattle.mv_calls.specs.Rest.{IsAtRest};
+ghost use Rattle.mv_wait.specs.Run.{IsServed};
+ghost use Rattle.mv_latchset.specs.Answers.{release_answer};
+ghost use Rattle.mv_latchset.specs.Releasing.{IsReleasedBy};
+
+use crate::replies::released_in;
+use crate::token::LatchToken;
+use crate::waking::post_wakes;
+use mv_latch::LatchOp;
+use mv_machine::{Object, Op};
+use mv_wait::{Station, Task};
+use std::sync::Wait;
+
+/// Why a release was refused.
+#[derive(Clone, Copy, Debug, PartialEq, Eq)]
+pub enum ReleaseLatchRefusal {
+    /// The latch has no such request of the task.
+    Gone,
+    /// The request waits, and the release was conditional: it was left.
+    StillWaiting,
+}
+
+/// Takes a request of the task out, after ISGLREL, and says how many others were granted by that. Their blocks are then posted,
+/// with 0, and the tasks that wait for theirs are woken.
+///
+/// # Errors
+///
+/// `Gone` where the latch has no such request of the task; `StillWaiting` where it waits and the release is conditional.
+pub fn release_latch<R: Wait>(
+    station: &Station,
+    rt: &R,
+    task: &mut Task,
+    token: LatchToken,
+    conditional: bool,
+) -> Result<u32, ReleaseLatchRefusal>
+    requires task { IsOf station.now task.old }
+    requires rest { IsAtRest task.old.log }
+    requires latch { token.latch < station.now.config.latches }
+    requires left { release_cost station.now.config ≤ task.old.left }
+    ensures served { IsServed (release_cost station.now.config) (release_latch station.now.config token.latch token.id conditional) (λ a. a ≡ release_answer result) task.old task.new }
+    ensures causes { IsReleasedBy station.now.config token.latch token.id conditional task.old result task.new }
+{
+    let reply = station.event(
+        rt,
+        task,
+        Object::Latches,
+        Op::Latch(LatchOp::Release {
+            latch: token.latch,
+            id: token.id,
+            conditional,
+        }),
+    );
+    let granted = released_in(reply)?;
+    post_wakes(station, rt, task);
+    Ok(granted)
+}

@@ -1,0 +1,56 @@
+//! Who is told after a release or a purge: a block of each is posted, or its task is woken. Clauses cite `specs/Waking.antt` and
+//! the machine's `Waking.antt`.
+
+ghost use Rattle.std.specs.Prelude.{◌≡◌, ◌<◌, ◌≤◌, ◌∷◌, [], length, slice_get, Some};
+ghost use Rattle.std.specs.List.{All};
+ghost use Rattle.mv_machine.specs.Reach.{reach, total};
+ghost use Rattle.mv_machine.specs.Waking.{IsFairWake, blocks_of};
+ghost use Rattle.mv_board.specs.Faces.{IsOf, last_of};
+ghost use Rattle.mv_calls.specs.Rest.{IsAtRest};
+ghost use Rattle.mv_latchset.specs.Waking.{PostsWakes};
+
+use mv_latch::Wake;
+use mv_wait::{Station, Task};
+use std::sync::Wait;
+
+/// Goes through the wakes of the task's last event on the latch set, in order.
+pub(crate) fn post_wakes<R: Wait>(station: &Station, rt: &R, task: &mut Task)
+    requires task { IsOf station.now task.old }
+    requires rest { IsAtRest task.old.log }
+    requires fair { All (IsFairWake station.now.config) task.old.wakes }
+    requires left { total (reach station.now.config) (blocks_of task.old.wakes) ≤ task.old.left }
+    ensures posted { PostsWakes station.now.config task.old.wakes task.old task.new }
+    ensures rest { IsAtRest task.new.log }
+{
+    let count = task.wakes().len();
+    for i in 0..count {
+        let wake = wake_at(task, i);
+        post_wake(station, rt, task, wake);
+    }
+}
+
+// The wake at this position.
+fn wake_at(task: &Task, i: usize) -> Wake
+    requires { i < length (last_of task.now.told) }
+    ensures { slice_get (last_of task.now.told) i ≡ Some result }
+{
+    task.wakes()[i]
+}
+
+// Posts the block of a wake, or wakes its task where it has none.
+fn post_wake<R: Wait>(station: &Station, rt: &R, task: &mut Task, wake: Wake)
+    requires task { IsOf station.now task.old }
+    requires rest { IsAtRest task.old.log }
+    requires fair { IsFairWake station.now.config wake }
+    requires left { total (reach station.now.config) (blocks_of (wake ∷ [])) ≤ task.old.left }
+    ensures posted { PostsWakes station.now.config (wake ∷ []) task.old task.new }
+    ensures rest { IsAtRest task.new.log }
+    ensures told { task.new.told ≡ task.old.told }
+{
+    match wake.ecb {
+        Some(ecb) => {
+            station.post(rt, task, ecb, wake.code);
+        }
+        None => station.wake(wake.caller),
+    }
+}

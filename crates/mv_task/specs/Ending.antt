@@ -1,0 +1,32 @@
+-- The parts of a task's end.
+use Rattle.std.specs.Prelude.{◌≡◌, ℕ, ◌==◌, false, List, [], ◌∷◌, length, filter}
+use Rattle.mv_machine.specs.Setup.{Setup}
+use Rattle.mv_board.specs.Faces.{CallerFace}
+use Rattle.mv_calls.specs.Endings.{close_all, used_elements}
+use Rattle.mv_calls.specs.Keeping.{Kept, kept_of}
+use Rattle.mv_calls.specs.LatchCalls.{Counts}
+use Rattle.mv_calls.specs.Program.{Program}
+use Rattle.mv_wait.specs.Run.{Runs}
+
+-- what a task keeps of its log
+abbrev pub keeps : CallerFace → Kept
+keeps t = kept_of t.number t.log
+
+-- the elements of a list that are in use were closed in order, whatever program follows. The kept generations are those of then
+abbrev pub Closes : List ℕ → CallerFace → CallerFace → Type 0
+Closes ns t u = (p : Program Counts)
+    → Runs (length (filter (keeps t).in_use ns)) (close_all (keeps t) (filter (keeps t).in_use ns) p) p t u
+
+-- one element
+abbrev pub ClosesOne : ℕ → CallerFace → CallerFace → Type 0
+ClosesOne n t u = Closes (n ∷ []) t u
+
+-- all of the task's own that are in use
+abbrev pub ClosesAll : Setup → CallerFace → CallerFace → Type 0
+ClosesAll c t u = (p : Program Counts)
+    → Runs (length (used_elements c (keeps t))) (close_all (keeps t) (used_elements c (keeps t)) p) p t u
+
+-- what is kept of every other element stays
+pub record KeepsOthers (n : ℕ) (t u : CallerFace) : Type 0 where
+  pub used : (m : ℕ) → (m == n) ≡ false → (keeps u).in_use m ≡ (keeps t).in_use m
+  pub generation : (m : ℕ) → (m == n) ≡ false → (keeps u).generation m ≡ (keeps t).generation m

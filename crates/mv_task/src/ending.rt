@@ -1,0 +1,103 @@
+//! The ends of jobs and of tasks. Clauses cite the calls' `Endings.antt` and `Services.antt`, the tasks' `Run.antt`, the latch
+//! services' `Answers.antt`, and `specs/Ending.antt`.
+
+ghost use Rattle.std.specs.Prelude.{◌≡◌, ◌+◌, ◌<◌, ◌≤◌, ◌^◌, true, length, IfSome};
+ghost use Rattle.mv_machine.specs.Reach.{reach, release_cost};
+ghost use Rattle.mv_machine.specs.Setup.{element_count, element_owner};
+ghost use Rattle.mv_board.specs.Faces.{IsOf};
+ghost use Rattle.mv_calls.specs.Endings.{end_of_job, end_of_task, used_elements};
+ghost use Rattle.mv_calls.specs.Keeping.{kept_of};
+ghost use Rattle.mv_calls.specs.Rest.{IsAtRest};
+ghost use Rattle.mv_calls.specs.Services.{mother_events};
+ghost use Rattle.mv_wait.specs.Run.{IsServed};
+ghost use Rattle.mv_latchset.specs.Answers.{counts_of};
+ghost use Rattle.mv_task.specs.Ending.{ClosesOne, ClosesAll, KeepsOthers};
+
+use mv_element::Token;
+use mv_latchset::{Purged, purge};
+use mv_pause::deallocate;
+use mv_wait::{Station, Task};
+use std::sync::Wait;
+
+/// Ends a job: purges its requestor, and then posts a block with the code of its end.
+pub fn end_of_job<R: Wait>(
+    station: &Station,
+    rt: &R,
+    task: &mut Task,
+    requestor: u64,
+    ecb: u32,
+    code: u32,
+) -> Purged
+    requires task { IsOf station.now task.old }
+    requires rest { IsAtRest task.old.log }
+    requires block { ecb < length station.now.config.owners }
+    requires code { code < 2 ^ 30 }
+    requires left { release_cost station.now.config + reach station.now.config ecb ≤ task.old.left }
+    ensures served { IsServed (release_cost station.now.config + reach station.now.config ecb) (end_of_job station.now.config requestor ecb code) (λ a. a ≡ counts_of result) task.old task.new }
+{
+    let purged = purge(station, rt, task, requestor);
+    station.post(rt, task, ecb, code);
+    purged
+}
+
+/// Ends a task: gives back its elements that are in use, from the lowest on, purges its requestor, and then posts its mother's
+/// block with the code of its end, if there is one.
+pub fn end_of_task<R: Wait>(
+    station: &Station,
+    rt: &R,
+    task: &mut Task,
+    requestor: u64,
+    mother: Option<u32>,
+    code: u32,
+) -> Purged
+    requires task { IsOf station.now task.old }
+    requires rest { IsAtRest task.old.log }
+    requires block { IfSome mother (λ ecb. ecb < length station.now.config.owners) }
+    requires code { code < 2 ^ 30 }
+    requires left { length (used_elements station.now.config (kept_of task.old.number task.old.log)) + release_cost station.now.config + mother_events station.now.config mother ≤ task.old.left }
+    ensures served { IsServed (length (used_elements station.now.config (kept_of task.old.number task.old.log)) + release_cost station.now.config + mother_events station.now.config mother) (end_of_task station.now.config requestor mother code) (λ a. a ≡ counts_of result) task.old task.new }
+{
+    give_back_all(station, rt, task);
+    match mother {
+        Some(ecb) => end_of_job(station, rt, task, requestor, ecb, code),
+        None => purge(station, rt, task, requestor),
+    }
+}
+
+// Gives back the task's elements that are in use, from the lowest on.
+fn give_back_all<R: Wait>(station: &Station, rt: &R, task: &mut Task)
+    requires task { IsOf station.now task.old }
+    requires rest { IsAtRest task.old.log }
+    requires left { length (used_elements station.now.config (kept_of task.old.number task.old.log)) ≤ task.old.left }
+    ensures closed { ClosesAll station.now.config task.old task.new }
+    ensures rest { IsAtRest task.new.log }
+{
+    let count = station.config().config().elements_per_caller;
+    let first = task.number() * count;
+    for i in 0..count {
+        give_back(station, rt, task, first + i);
+    }
+}
+
+// Gives back an element of the task's own, if it is in use.
+fn give_back<R: Wait>(station: &Station, rt: &R, task: &mut Task, element: u32)
+    requires task { IsOf station.now task.old }
+    requires rest { IsAtRest task.old.log }
+    requires element { element < element_count station.now.config }
+    requires own { element_owner station.now.config element ≡ task.old.number }
+    requires left { (kept_of task.old.number task.old.log).in_use element ≡ true → 0 < task.old.left }
+    ensures closed { ClosesOne element task.old task.new }
+    ensures others { KeepsOthers element task.old task.new }
+    ensures rest { IsAtRest task.new.log }
+{
+    if !task.in_use(element) {
+        return;
+    }
+    let token = Token {
+        element,
+        generation: task.generation(element),
+    };
+    let Ok(()) = deallocate(station, rt, task, token) else {
+        unreachable!()
+    };
+}

@@ -1,0 +1,32 @@
+//! Where a run can be held.
+
+use std::sync::Wait;
+
+/// A moment in the life of a job, by the job's number.
+#[derive(Clone, Copy, Debug, PartialEq, Eq)]
+pub enum Point {
+    /// The reader is about to post the job.
+    Entered(u32),
+    /// The scheduler is about to release the job to an initiator.
+    Dispatched(u32),
+    /// An initiator is about to do the job's first step.
+    Started(u32),
+    /// An initiator is about to end the job.
+    Ended(u32),
+    /// The writer has waited for the job's end.
+    Written(u32),
+}
+
+/// What each task of a run passes at each point. A test holds tasks by it; it promises nothing.
+pub trait Gate {
+    /// The caller of this number is at this point.
+    fn pass<R: Wait>(&self, rt: &R, who: u32, point: Point);
+}
+
+/// A gate that holds nobody.
+#[derive(Clone, Copy, Debug, PartialEq, Eq)]
+pub struct OpenGate;
+
+impl Gate for OpenGate {
+    fn pass<R: Wait>(&self, _rt: &R, _who: u32, _point: Point) {}
+}

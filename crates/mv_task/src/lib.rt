@@ -1,0 +1,11 @@
+//! The ends of jobs and of tasks: what a job's requestor holds is purged before its end is posted, and a task that ends gives
+//! back its pause elements first. And the gate, at which a test holds the tasks of a run.
+#![tactic(auto)]
+
+mod ending;
+mod gate;
+mod meeting;
+
+pub use ending::{end_of_job, end_of_task};
+pub use gate::{Gate, OpenGate, Point};
+pub use meeting::MeetGate;

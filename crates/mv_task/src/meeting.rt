@@ -1,0 +1,63 @@
+//! A gate at which two points wait for each other.
+
+use crate::gate::{Gate, Point};
+use std::sync::Wait;
+use std::sync::atomic::{AtomicBool, Ordering};
+use std::thread;
+
+/// A gate that holds whoever comes to one of two points until the other is reached, or for so many turns, each of which yields.
+/// A test of tasks on threads sees by it that two things happen at once.
+#[derive(Drop)]
+pub struct MeetGate {
+    first: Point,
+    second: Point,
+    turns: u64,
+    first_reached: AtomicBool,
+    second_reached: AtomicBool,
+    ran_out: AtomicBool,
+}
+
+impl MeetGate {
+    /// A gate for two different points.
+    pub fn new(first: Point, second: Point, turns: u64) -> MeetGate {
+        MeetGate {
+            first,
+            second,
+            turns,
+            first_reached: AtomicBool::new(false),
+            second_reached: AtomicBool::new(false),
+            ran_out: AtomicBool::new(false),
+        }
+    }
+
+    /// Whether both points were reached, and nobody was held for all turns.
+    pub fn met(&self) -> bool {
+        self.first_reached.load(Ordering::SeqCst)
+            && self.second_reached.load(Ordering::SeqCst)
+            && !self.ran_out.load(Ordering::SeqCst)
+    }
+
+    // Marks a point as reached, and waits for the other.
+    fn meet(&self, own: &AtomicBool, other: &AtomicBool) {
+        own.store(true, Ordering::SeqCst);
+        for _ in 0..self.turns {
+            if other.load(Ordering::SeqCst) {
+                return;
+            }
+            thread::yield_now();
+        }
+        if !other.load(Ordering::SeqCst) {
+            self.ran_out.store(true, Ordering::SeqCst);
+        }
+    }
+}
+
+impl Gate for MeetGate {
+    fn pass<R: Wait>(&self, _rt: &R, _who: u32, point: Point) {
+        if point == self.first {
+            self.meet(&self.first_reached, &self.second_reached);
+        } else if point == self.second {
+            self.meet(&self.second_reached, &self.first_reached);
+        }
+    }
+}
