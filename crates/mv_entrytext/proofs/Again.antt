@@ -26,9 +26,10 @@ use Rattle.mv_machine.specs.declared.entry.VolumeOp.{VolumeOp}
 use Rattle.mv_machine.specs.declared.entry.VolumeOp.TheVariants.{Read, Write}
 use Rattle.mv_machine.specs.declared.entry.VolumeReply.{VolumeReply}
 use Rattle.mv_machine.specs.declared.entry.VolumeReply.TheVariants.{Value, Stored}
+use Rattle.mv_machine.specs.Limits.{highest_generation}
 use Rattle.mv_entrytext.specs.Words.{◌<+>◌}
 use Rattle.mv_entrytext.specs.Reading.{behind, number, any_u32, any_u64, parted, parted_by}
-use Rattle.mv_entrytext.specs.Ranges.{highest_u32, highest_u64, highest_ecb_code, highest_release_code, highest_generation}
+use Rattle.mv_entrytext.specs.Ranges.{highest_u32, highest_u64, highest_ecb_code, highest_release_code}
 use Rattle.mv_entrytext.specs.EcbText.{ecb_op_text, ecb_reply_text, IsEcbOpInRange, IsEcbReplyInRange, IsEcbReplyTyped, ecb_op, ecb_reply}
 use Rattle.mv_entrytext.specs.ElementText.{phase_text, element_op_text, element_reply_text, IsElementOpInRange, IsElementOpTyped, IsElementReplyInRange, release_code, reached_generation, phase, highest_kept, kept_code, state_in, element_state, element_op, telling_reply, element_reply}
 use Rattle.mv_entrytext.specs.VolumeText.{volume_op_text, volume_reply_text, IsVolumeOpTyped, IsVolumeReplyTyped, volume_op, volume_reply}

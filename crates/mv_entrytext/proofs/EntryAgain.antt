@@ -1,5 +1,5 @@
 -- An entry that is written is read again.
-use Rattle.std.proofs.Common.{◌≡◌, ℕ, ◌≤◌, true, List, [], ◌∷◌, ◌++◌, Some, decimal, refl, sym, ap, ◌∙◌, arith, append_assoc}
+use Rattle.std.proofs.Common.{◌≡◌, ℕ, ◌≤◌, true, List, [], ◌∷◌, ◌++◌, Option, Some, None, decimal, refl, sym, ap, ◌∙◌, arith, append_assoc}
 use Rattle.std.specs.Prelude.{codes}
 use Rattle.mv_machine.specs.declared.entry.Object.{Object}
 use Rattle.mv_machine.specs.declared.entry.Object.TheVariants.{Ecb, Element, Volume, Latches}
@@ -8,15 +8,19 @@ use Rattle.mv_machine.specs.declared.entry.Op.TheVariants as op_on
 use Rattle.mv_machine.specs.declared.entry.Reply.{Reply}
 use Rattle.mv_machine.specs.declared.entry.Reply.TheVariants as reply_of
 use Rattle.mv_machine.specs.declared.entry.Entry.{Entry}
+use Rattle.mv_machine.specs.Limits.{highest_place}
 use Rattle.mv_entrytext.specs.Words.{◌<+>◌}
-use Rattle.mv_entrytext.specs.Ranges.{highest_place}
+use Rattle.mv_entrytext.specs.Ranges.{highest_u32}
 use Rattle.mv_entrytext.specs.Reading.{Reader, nothing, behind, number, any_u32, parted}
 use Rattle.mv_entrytext.specs.EcbText.{ecb_op, ecb_reply, ecb_op_text, ecb_reply_text}
 use Rattle.mv_entrytext.specs.ElementText.{element_op, element_reply, element_op_text, element_reply_text}
 use Rattle.mv_entrytext.specs.VolumeText.{volume_op, volume_reply, volume_op_text, volume_reply_text}
 use Rattle.mv_entrytext.specs.LatchText.{latch_op, latch_reply, latch_op_text, latch_reply_text}
-use Rattle.mv_entrytext.specs.EntryText.{object_text, op_text, reply_text, entry_text, IsEventInRange, IsObjectTyped, IsOpTyped, IsReplyTyped, HasText, object_read, event, entry_of, entry_on, entry_read}
-use Rattle.mv_entrytext.proofs.Numbers.{Ends, number_again, u32_again, parted_again}
+use Rattle.mv_entrytext.specs.declared.version.Version.{Version}
+use Rattle.mv_entrytext.specs.declared.version.Version.TheVariants.{One, Two}
+use Rattle.mv_entrytext.specs.EntryText.{caller_text, caller_read, object_text, op_text, reply_text, entry_text, IsEventInRange, IsObjectTyped, IsOpTyped, IsReplyTyped, HasText, object_read, event, entry_of, entry_on, entry_read}
+use Rattle.mv_entrytext.proofs.Numbers.{Ends, number_again, u32_again, parted_again, parted_at_again}
+use Rattle.mv_entrytext.proofs.CallNumbers.{IsCallIn}
 use Rattle.mv_entrytext.proofs.Again.{ecb_op_again, ecb_reply_again, element_op_again, element_reply_again, volume_op_again, volume_reply_again, latch_op_again, latch_reply_again}
 
 object_again : (o : Object) (rest : List ℕ) → IsObjectTyped o → Ends rest → object_read true (object_text o ++ rest) ≡ Some (o, rest)
@@ -58,18 +62,29 @@ entry_on_again caller Latches place (op_on.Latch op) (reply_of.Latch r) le h to 
     (λ rest e. latch_op_again op rest to e) (latch_reply_again r [] tr refl)) refl
 entry_on_again caller o place op r le h to tr = absurd h
 
-pub entry_again : (e : Entry) → HasText e → entry_read true (entry_text e ++ []) ≡ Some (e, [])
+-- a caller, and the number of its call in version 2
+caller_again : (v : Version) (k : ℕ) (call : Option ℕ) (rest : List ℕ) → k ≤ highest_u32 → IsCallIn v call
+    → caller_read true v (caller_text k call ++ 32 ∷ rest) ≡ Some ((k, call), 32 ∷ rest)
+unfolding caller_read
+caller_again One k None rest le m = rw (u32_again k (32 ∷ rest) le refl) refl
+caller_again One k (Some n) rest le m = absurd m
+caller_again Two k None rest le m = absurd m
+caller_again Two k (Some n) rest le m =
+    let both = parted_at_again 46 (any_u32 true) (λ caller. any_u32 true) k n (decimal k) (decimal n) (32 ∷ rest)
+    (u32_again k (46 ∷ (decimal n ++ 32 ∷ rest)) le refl) (u32_again n (32 ∷ rest) m refl) in
+    rw both refl
+
+pub entry_again : (v : Version) (call : Option ℕ) (e : Entry) → HasText e → IsCallIn v call
+    → entry_read true v (entry_text call e ++ []) ≡ Some ((call, e), [])
 unfolding entry_read entry_text
-entry_again e h =
+entry_again v call e h m =
+    let who = caller_text e.caller call in
     let more = decimal e.place <+> op_text e.op <+> codes "=" <+> reply_text e.reply in
-    let front =
-    parted_again (any_u32 true) (λ _. object_read true) e.caller e.object (decimal e.caller) (object_text e.object) (32 ∷ (more ++ []))
-    (u32_again e.caller (32 ∷ (object_text e.object ++ 32 ∷ (more ++ []))) h.1.caller refl)
-    (object_again e.object (32 ∷ (more ++ [])) h.1.object refl) in
-    let regrouped : decimal e.caller <+> object_text e.object <+> more ≡ (decimal e.caller <+> object_text e.object) <+> more =
-    sym (append_assoc (decimal e.caller) (32 ∷ object_text e.object) (32 ∷ more)) in
-    let all =
-    parted_again (parted (any_u32 true) (object_read true)) (λ x. entry_on true x.0 x.1) (e.caller, e.object) e
-    (decimal e.caller <+> object_text e.object) more [] front
+    let front = parted_again (caller_read true v) (λ _. object_read true) (e.caller, call) e.object who (object_text e.object) (32 ∷ (more ++ []))
+    (caller_again v e.caller call (object_text e.object ++ 32 ∷ (more ++ [])) h.1.caller m) (object_again e.object (32 ∷ (more ++ [])) h.1.object refl) in
+    let regrouped : who <+> object_text e.object <+> more ≡ (who <+> object_text e.object) <+> more =
+    sym (append_assoc who (32 ∷ object_text e.object) (32 ∷ more)) in
+    let all = parted_again (parted (caller_read true v) (object_read true)) (λ x. entry_on true x.0.0 x.1) ((e.caller, call), e.object) e
+    (who <+> object_text e.object) more [] front
     (entry_on_again e.caller e.object e.place e.op e.reply h.0.place h.0.event h.1.op h.1.reply) in
-    ap (λ (t : List ℕ). entry_read true (t ++ [])) regrouped ∙ rw all refl
+    ap (λ (t : List ℕ). entry_read true v (t ++ [])) regrouped ∙ rw all refl

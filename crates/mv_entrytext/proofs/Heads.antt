@@ -30,7 +30,7 @@ pub head_is_cut : (d : HeadDraft) (text : List ℕ) → is_cut (head_seen d) tex
 head_is_cut d text = rw (not_ended d.stage) refl
 
 pub said_other : (l : Line) → (l ≡ Events → ⊥) → said l ≡ journal.Events → ⊥
-said_other Version h e = cc
+said_other (Version v) h e = cc
 said_other (Callers n) h e = cc
 said_other (Elements n) h e = cc
 said_other (Volumes n) h e = cc
@@ -43,7 +43,7 @@ said_other Events h e = h refl
 
 -- no other line than the last of the head is at fault by what it says
 pub nothing_said : (d : Draft) (l : Line) → (l ≡ Events → ⊥) → kind_said d (Some (said l)) ≡ None
-nothing_said d Version h = refl
+nothing_said d (Version v) h = refl
 nothing_said d (Callers n) h = refl
 nothing_said d (Elements n) h = refl
 nothing_said d (Volumes n) h = refl

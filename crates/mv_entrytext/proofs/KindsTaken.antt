@@ -1,6 +1,6 @@
 -- Each operation, reply and entry that is read strictly is written so.
 use Rattle.std.specs.Prelude.{codes}
-use Rattle.std.proofs.Common.{subst, ◌∙◌, append_assoc, ◌≡◌, ℕ, ◌≤◌, true, false, List, ◌∷◌, decimal, refl, sym, ap, arith}
+use Rattle.std.proofs.Common.{subst, ◌∙◌, append_assoc, ◌≡◌, ℕ, ◌≤◌, true, false, List, ◌∷◌, ◌++◌, Option, Some, None, decimal, refl, sym, ap, arith}
 use Rattle.mv_ecb.specs.declared.operation.EcbOp.TheVariants as ecb_op_of
 use Rattle.mv_ecb.specs.declared.operation.EcbReply.TheVariants as ecb_reply_of
 use Rattle.mv_element.specs.declared.element.ElementState.{ElementState}
@@ -15,22 +15,25 @@ use Rattle.mv_latch.specs.declared.operation.LatchReply.TheVariants as latch_rep
 use Rattle.mv_machine.specs.declared.entry.VolumeOp.TheVariants.{Read, Write}
 use Rattle.mv_machine.specs.declared.entry.VolumeReply.TheVariants.{Value, Stored}
 use Rattle.mv_entrytext.specs.Words.{◌<+>◌}
-use Rattle.mv_entrytext.specs.Reading.{behind, number, any_u32, any_u64, parted, parted_by}
-use Rattle.mv_entrytext.specs.Ranges.{highest_u32, highest_u64, highest_ecb_code, highest_release_code, highest_generation}
+use Rattle.mv_entrytext.specs.Reading.{behind, number, any_u32, any_u64, parted, parted_by, parted_at}
+use Rattle.mv_entrytext.specs.Ranges.{highest_u32, highest_u64, highest_ecb_code, highest_release_code}
 use Rattle.mv_entrytext.specs.EcbText.{ecb_op_text, ecb_reply_text, IsEcbOpInRange, IsEcbReplyInRange, IsEcbReplyTyped, ecb_op, ecb_reply}
 use Rattle.mv_entrytext.specs.ElementText.{phase_text, element_op_text, element_reply_text, IsElementOpInRange, IsElementOpTyped, IsElementReplyInRange, release_code, reached_generation, phase, highest_kept, kept_code, state_in, element_state, element_op, telling_reply, element_reply}
 use Rattle.mv_entrytext.specs.VolumeText.{volume_op_text, volume_reply_text, IsVolumeOpTyped, IsVolumeReplyTyped, volume_op, volume_reply}
 use Rattle.mv_entrytext.specs.LatchText.{mode_text, form_text, condition_text, latch_op_text, latch_reply_text, IsFormTyped, IsLatchOpTyped, IsLatchReplyTyped, mode_read, form_read, condition, two_u32, obtain_rest, obtain, release, latch_op, latch_reply}
-use Rattle.mv_entrytext.specs.EntryText.{object_text, op_text, reply_text, entry_text, IsEventInRange, IsObjectTyped, IsOpTyped, IsReplyTyped, HasText, object_read, event, entry_of, entry_on, entry_read}
+use Rattle.mv_entrytext.specs.declared.version.Version.{Version}
+use Rattle.mv_entrytext.specs.declared.version.Version.TheVariants.{One, Two}
+use Rattle.mv_entrytext.specs.EntryText.{caller_text, caller_read, object_text, op_text, reply_text, entry_text, IsEventInRange, IsObjectTyped, IsOpTyped, IsReplyTyped, HasText, object_read, event, entry_of, entry_on, entry_read}
 use Rattle.mv_machine.specs.declared.entry.Object.{Object}
 use Rattle.mv_machine.specs.declared.entry.Object.TheVariants.{Ecb, Element, Volume, Latches}
 use Rattle.mv_machine.specs.declared.entry.Op.TheVariants as op_on
 use Rattle.mv_machine.specs.declared.entry.Reply.TheVariants as reply_of
 use Rattle.mv_machine.specs.declared.entry.Entry.{Entry}
-use Rattle.mv_entrytext.specs.Ranges.{highest_place}
+use Rattle.mv_machine.specs.Limits.{highest_generation, highest_place}
 use Rattle.mv_entrytext.specs.Reading.{Reader, nothing}
+use Rattle.mv_entrytext.proofs.CallNumbers.{IsCallIn}
 use Rattle.mv_entrytext.proofs.Again.{state_text, highest_kept-le}
-use Rattle.mv_entrytext.proofs.Taken.{Takes, takes_nothing, takes_behind, behind_given, takes_made, behind_made, takes_parted, takes_number, takes_u32, takes_u64}
+use Rattle.mv_entrytext.proofs.Taken.{Takes, takes_nothing, takes_behind, behind_given, takes_made, behind_made, takes_parted, takes_parted_at, takes_number, takes_u32, takes_u64}
 
 -- ---- event control blocks
 
@@ -402,22 +405,44 @@ takes_entry_on caller Latches =
     (takes_event (latch_op true) (latch_reply true) latch_op_text latch_reply_text (λ op. IsLatchOpTyped op) (λ r. IsLatchReplyTyped r)
     takes_latch_op takes_latch_reply)
 
+-- ---- who made an entry
+
+-- a caller, and the number of its call, are fine
+abbrev IsCaller : Version → (ℕ × Option ℕ) → Type 0
+IsCaller v x = (x.0 ≤ highest_u32) × IsCallIn v x.1
+
+-- both as they are written
+abbrev who_text : (ℕ × Option ℕ) → List ℕ
+who_text x = caller_text x.0 x.1
+
+takes_caller : (v : Version) → Takes who_text (λ x. IsCaller v x) (caller_read true v)
+unfolding caller_read
+takes_caller One =
+    takes_made who_text (λ x. IsCaller One x) (λ caller. (caller, None)) decimal (λ n. n ≤ highest_u32) (any_u32 true)
+    (λ n h. refl) (λ n h. (h, tt)) takes_u32
+takes_caller Two =
+    takes_made who_text (λ x. IsCaller Two x) (λ x. (x.0, Some x.1)) (λ (x : ℕ × ℕ). decimal x.0 ++ 46 ∷ decimal x.1)
+    (λ x. (x.0 ≤ highest_u32) × (x.1 ≤ highest_u32)) (parted_at 46 (any_u32 true) (λ caller. any_u32 true)) (λ x h. refl) (λ x h. h)
+    (takes_parted_at 46 (any_u32 true) (λ _. any_u32 true) decimal decimal (λ n. n ≤ highest_u32) (λ _ n. n ≤ highest_u32) takes_u32
+    (λ _ _. takes_u32))
+
 -- the caller and the object, and what stands behind them
 abbrev FrontAnd : Type 0
-FrontAnd = (ℕ × Object) × Entry
+FrontAnd = ((ℕ × Option ℕ) × Object) × Entry
 
 abbrev front_and_tail : FrontAnd → List ℕ
-front_and_tail x = (decimal x.0.0 <+> object_text x.0.1) <+> tail_text x.1
+front_and_tail x = (who_text x.0.0 <+> object_text x.0.1) <+> tail_text x.1
 
-abbrev AreFine : FrontAnd → Type 0
-AreFine x = ((x.0.0 ≤ highest_u32) × IsObjectTyped x.0.1) × IsTail x.0.0 x.0.1 x.1
+abbrev AreFine : Version → FrontAnd → Type 0
+AreFine v x = (IsCaller v x.0.0 × IsObjectTyped x.0.1) × IsTail x.0.0.0 x.0.1 x.1
 
-is_entry : (k : ℕ) (o : Object) (e : Entry) → IsTail k o e → (decimal k <+> object_text o) <+> tail_text e ≡ entry_text e
+is_entry : (k : ℕ) (call : Option ℕ) (o : Object) (e : Entry) → IsTail k o e
+    → (caller_text k call <+> object_text o) <+> tail_text e ≡ entry_text call e
 unfolding entry_text
-is_entry k o e t =
-    ap (λ (n : ℕ). (decimal n <+> object_text o) <+> tail_text e) (sym t.caller_is)
-    ∙ ap (λ (p : Object). (decimal e.caller <+> object_text p) <+> tail_text e) (sym t.object_is)
-    ∙ append_assoc (decimal e.caller) (32 ∷ object_text e.object) (32 ∷ tail_text e)
+is_entry k call o e t =
+    ap (λ (n : ℕ). (caller_text n call <+> object_text o) <+> tail_text e) (sym t.caller_is)
+    ∙ ap (λ (p : Object). (caller_text e.caller call <+> object_text p) <+> tail_text e) (sym t.object_is)
+    ∙ append_assoc (caller_text e.caller call) (32 ∷ object_text e.object) (32 ∷ tail_text e)
 
 has_text : (k : ℕ) (o : Object) (e : Entry) → k ≤ highest_u32 → IsObjectTyped o → IsTail k o e → HasText e
 has_text k o e le t h = (
@@ -430,13 +455,20 @@ has_text k o e le t h = (
   },
 )
 
-pub takes_entry : Takes entry_text (λ e. HasText e) (entry_read true)
+-- an entry's text with the number of its call, and which are fine
+abbrev pub numbered_text : (Option ℕ × Entry) → List ℕ
+numbered_text x = entry_text x.0 x.1
+
+abbrev pub IsNumbered : Version → (Option ℕ × Entry) → Type 0
+IsNumbered v x = HasText x.1 × IsCallIn v x.0
+
+pub takes_entry : (v : Version) → Takes numbered_text (λ x. IsNumbered v x) (entry_read true v)
 unfolding entry_read
-takes_entry =
-    takes_made entry_text (λ e. HasText e) (λ x. x.1) front_and_tail (λ x. AreFine x)
-    (parted_by (parted (any_u32 true) (object_read true)) (λ front. entry_on true front.0 front.1))
-    (λ x h. is_entry x.0.0 x.0.1 x.1 h.1) (λ x h. has_text x.0.0 x.0.1 x.1 h.0.0 h.0.1 h.1)
-    (takes_parted (parted (any_u32 true) (object_read true)) (λ front. entry_on true front.0 front.1) (λ p. decimal p.0 <+> object_text p.1)
-    tail_text (λ p. (p.0 ≤ highest_u32) × IsObjectTyped p.1) (λ p e. IsTail p.0 p.1 e)
-    (takes_parted (any_u32 true) (λ _. object_read true) decimal object_text (λ n. n ≤ highest_u32) (λ _ o. IsObjectTyped o) takes_u32
-    (λ _ _. takes_object)) (λ p _. takes_entry_on p.0 p.1))
+takes_entry v =
+    takes_made numbered_text (λ x. IsNumbered v x) (λ x. (x.0.0.1, x.1)) front_and_tail (λ x. AreFine v x)
+    (parted_by (parted (caller_read true v) (object_read true)) (λ front. entry_on true front.0.0 front.1))
+    (λ x h. is_entry x.0.0.0 x.0.0.1 x.0.1 x.1 h.1) (λ x h. (has_text x.0.0.0 x.0.1 x.1 h.0.0.0 h.0.1 h.1, h.0.0.1))
+    (takes_parted (parted (caller_read true v) (object_read true)) (λ front. entry_on true front.0.0 front.1)
+    (λ p. who_text p.0 <+> object_text p.1) tail_text (λ p. IsCaller v p.0 × IsObjectTyped p.1) (λ p e. IsTail p.0.0 p.1 e)
+    (takes_parted (caller_read true v) (λ _. object_read true) who_text object_text (λ x. IsCaller v x) (λ _ o. IsObjectTyped o)
+    (takes_caller v) (λ _ _. takes_object)) (λ p _. takes_entry_on p.0.0 p.1))

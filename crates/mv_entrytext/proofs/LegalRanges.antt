@@ -22,13 +22,14 @@ use Rattle.mv_machine.specs.declared.entry.Reply.{Reply}
 use Rattle.mv_machine.specs.declared.entry.Reply.TheVariants as reply_of
 use Rattle.mv_machine.specs.declared.entry.Entry.{Entry}
 use Rattle.mv_machine.specs.Setup.{Setup, element_count}
-use Rattle.mv_machine.specs.System.{System, Cell, opening, ecb_admitted, element_admitted, turned, with_at}
+use Rattle.mv_machine.specs.System.{System, Cell, opening, ecb_admitted, element_admitted, advanced, with_at}
 use Rattle.mv_machine.specs.Legal.{IsNext, next, after_from, LegalFrom, Legal}
 use Rattle.mv_machine.specs.Elements.{FitsItsPlace}
 use Rattle.mv_machine.specs.Check.{IsValid}
+use Rattle.mv_machine.specs.Limits.{highest_place}
 use Rattle.mv_machine.proofs.ElementRuns.{generation_fits}
 use Rattle.mv_entrytext.specs.Fault.{HasJournal}
-use Rattle.mv_entrytext.specs.Ranges.{highest_u32, highest_place, highest_ecb_code, highest_release_code}
+use Rattle.mv_entrytext.specs.Ranges.{highest_u32, highest_ecb_code, highest_release_code}
 use Rattle.mv_entrytext.specs.EcbText.{IsEcbOpInRange, IsEcbReplyInRange}
 use Rattle.mv_entrytext.specs.ElementText.{IsElementOpInRange, IsElementReplyInRange}
 use Rattle.mv_entrytext.specs.EntryText.{IsEventInRange, IsInRange, IsTyped, entry_of}
@@ -118,7 +119,7 @@ bounds_next c s k (Ecb n) p (op_on.Ecb op) r h b =
     let fits = ecb_op_fits c k n op (and_parts (ltb k c.callers && ltb n (length c.owners)) (ecb_admitted c k n op) h.admits).1 in
     record {
       ecb =
-          at_each (λ (x : Cell EcbState). IsEcbBound x.state) s.ecb n (turned (s.ecb n) (ecb_step op (s.ecb n).state).0)
+          at_each (λ (x : Cell EcbState). IsEcbBound x.state) s.ecb n (advanced (s.ecb n) (ecb_step op (s.ecb n).state).0)
           (ecb_fits op (s.ecb n).state fits (b.ecb n)).0 b.ecb;
       element = b.element;
     }
@@ -128,7 +129,7 @@ bounds_next c s k (Element n) p (op_on.Element op) r h b =
       ecb = b.ecb;
       element =
           at_each (λ (x : Cell ElementState). x.state.code ≤ highest_release_code) s.element n
-          (turned (s.element n) (element_step op (s.element n).state).0) (code_fits op (s.element n).state fits (b.element n))
+          (advanced (s.element n) (element_step op (s.element n).state).0) (code_fits op (s.element n).state fits (b.element n))
           b.element;
     }
 bounds_next c s k (Volume n) p (op_on.Volume op) r h b = record { ecb = b.ecb; element = b.element }

@@ -6,6 +6,7 @@ pub mod Parts
 -- what is written is read again: the law `text_determines_journal`
 pub mod OneLine
 pub mod ConfigNumbers
+pub mod CallNumbers
 pub mod Again
 pub mod EntryAgain
 pub mod LinesAgain

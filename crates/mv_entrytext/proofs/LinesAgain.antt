@@ -1,5 +1,5 @@
 -- The text of a journal is passed line by line.
-use Rattle.std.proofs.Common.{◌≡◌, ℕ, ◌+◌, ◌≤◌, ◌<◌, true, List, [], ◌∷◌, ◌++◌, length, Some, None, decimal, map, refl, sym, ap, subst, ◌∙◌, arith, append_assoc}
+use Rattle.std.proofs.Common.{◌≡◌, ℕ, ◌+◌, ◌≤◌, ◌<◌, true, List, [], ◌∷◌, ◌++◌, length, Option, Some, None, decimal, map, refl, sym, ap, subst, ◌∙◌, arith, append_assoc}
 use Rattle.std.specs.Prelude.{codes}
 use Rattle.std.specs.List.{flat_map, AllByRecursion}
 use Rattle.std.specs.Str.Parse.{AllDigits}
@@ -11,17 +11,20 @@ use Rattle.std.proofs.lemmas.List.Concat.{flat_map-cons}
 use Rattle.mv_machine.specs.declared.entry.Entry.{Entry}
 use Rattle.mv_machine.specs.Setup.{Setup, SetupExit}
 use Rattle.mv_machine.specs.Check.{IsValid}
+use Rattle.mv_entrytext.specs.declared.version.Version.{Version}
+use Rattle.mv_entrytext.specs.declared.version.Version.TheVariants.{One, Two}
 use Rattle.mv_entrytext.specs.Ranges.{highest_u32}
 use Rattle.mv_entrytext.specs.Words.{◌<+>◌}
 use Rattle.mv_entrytext.specs.Reading.{Reader, behind, made, parts_at, parted_by, any_u32}
-use Rattle.mv_entrytext.specs.EntryText.{HasText, entry_read, entry_text, object_text, op_text, reply_text}
-use Rattle.mv_entrytext.specs.Journal.{Line, Version, Callers, Elements, Volumes, Latches, Quota, Budget, Owner, ExitTo, Events, EntryOf, End, line_text, line, counts_text, lists_text, head_text, journal_text}
-use Rattle.mv_entrytext.specs.Lines.{Stage, AtVersion, AtCallers, AtElements, AtVolumes, AtLatches, AtQuota, AtBudgets, AtOwners, AtExits, AtEntries, AtEnd, numbers, exit_from, exit_read, count_line, next_line, line_read, Draft, blank, draft_with}
-use Rattle.mv_entrytext.specs.Fault.{kind_said, first_fault, draft_of, HasJournal, text_fault, journal_of}
+use Rattle.mv_entrytext.specs.EntryText.{HasText, entry_read, entry_text, caller_text, object_text, op_text, reply_text}
+use Rattle.mv_entrytext.specs.Journal.{Line, JournalOf, Callers, Elements, Volumes, Latches, Quota, Budget, Owner, ExitTo, Events, EntryOf, End, line_text, line, entry_lines, counts_text, lists_text, head_text, text_of}
+use Rattle.mv_entrytext.specs.Lines.{Stage, AtVersion, AtCallers, AtElements, AtVolumes, AtLatches, AtQuota, AtBudgets, AtOwners, AtExits, AtEntries, AtEnd, numbers, exit_from, exit_read, count_line, next_line, line_read, with_call, Draft, blank, draft_with}
+use Rattle.mv_entrytext.specs.Fault.{kind_said, first_fault, draft_of, HasJournal, AreCallsIn, text_fault, journal_of}
 use Rattle.mv_entrytext.proofs.Numbers.{numeral_of, u32_again, parted_again}
 use Rattle.mv_entrytext.proofs.Parts.{Lacks-decimal, parts_first, parts_last, first_part}
 use Rattle.mv_entrytext.proofs.OneLine.{is_one_line}
 use Rattle.mv_entrytext.proofs.ConfigNumbers.{AreU32, IsExit, HasNumbers, has_numbers}
+use Rattle.mv_entrytext.proofs.CallNumbers.{IsCallIn, AreEach, each_from_calls}
 use Rattle.mv_entrytext.proofs.EntryAgain.{entry_again}
 
 -- ---- each line is read again
@@ -32,9 +35,10 @@ to_the_end reader a text h = rw (append-nil text) at h
 u32_alone : (n : ℕ) → n ≤ highest_u32 → any_u32 true (decimal n) ≡ Some (n, [])
 u32_alone n le = to_the_end (any_u32 true) n (decimal n) (u32_again n [] le refl)
 
-version_read : line_read true AtVersion (line_text Version) ≡ Some Version
+version_read : (v : Version) → line_read true AtVersion (line_text (JournalOf v)) ≡ Some (JournalOf v)
 unfolding next_line count_line behind
-version_read = refl
+version_read One = refl
+version_read Two = refl
 
 callers_read : (n : ℕ) → n ≤ highest_u32 → line_read true AtCallers (line_text (Callers n)) ≡ Some (Callers n)
 unfolding next_line count_line behind
@@ -89,9 +93,9 @@ events_read AtOwners m = refl
 events_read AtExits m = refl
 events_read s m = absurd m
 
-end_read : (n : ℕ) → n ≤ highest_u32 → line_read true AtEntries (line_text (End n)) ≡ Some (End n)
+end_read : (v : Version) (n : ℕ) → n ≤ highest_u32 → line_read true (AtEntries v) (line_text (End n)) ≡ Some (End n)
 unfolding next_line count_line behind
-end_read n le = rw (u32_alone n le) refl
+end_read v n le = rw (u32_alone n le) refl
 
 -- the fields of an exit
 abbrev targets_text : List ℕ → List ℕ
@@ -135,16 +139,27 @@ no_end : (reader other : Reader Line) (text : List ℕ) (c : ℕ) (cs : List ℕ
 unfolding behind
 no_end reader other text c cs e le = rw (e, ne_eqb 69 c (λ q. omega arith)) refl
 
-entry_line_read : (e : Entry) → HasText e → line_read true AtEntries (line_text (EntryOf e)) ≡ Some (EntryOf e)
+-- the text of a caller with what stands behind it begins with a digit
+caller_first : (k : ℕ) (call : Option ℕ) (more : List ℕ) → k ≤ highest_u32
+    → (c : ℕ) × (cs : List ℕ) × (caller_text k call ++ more ≡ c ∷ cs) × (c ≤ 57)
+caller_first k None more le =
+    let n = numeral_of k (omega (arith, le)) in
+    let d = first_digit (decimal k) n.0.0 n.0.1 in
+    (d.0, d.1 ++ more, ap (λ (x : List ℕ). x ++ more) d.2, d.3)
+caller_first k (Some m) more le =
+    let n = numeral_of k (omega (arith, le)) in
+    let d = first_digit (decimal k) n.0.0 n.0.1 in
+    (d.0, (d.1 ++ 46 ∷ decimal m) ++ more, ap (λ (x : List ℕ). (x ++ 46 ∷ decimal m) ++ more) d.2, d.3)
+
+entry_line_read : (v : Version) (call : Option ℕ) (e : Entry) → HasText e → IsCallIn v call
+    → line_read true (AtEntries v) (line_text (EntryOf call e)) ≡ Some (EntryOf call e)
 unfolding next_line count_line entry_text
-entry_line_read e h =
+entry_line_read v call e h m =
     let more = 32 ∷ (object_text e.object <+> decimal e.place <+> op_text e.op <+> codes "=" <+> reply_text e.reply) in
-    let n = numeral_of e.caller (omega (arith, h.1.caller)) in
-    let d = first_digit (decimal e.caller) n.0.0 n.0.1 in
-    let other =
-    no_end (made (λ n. End n) (any_u32 true)) (made (λ e. EntryOf e) (entry_read true)) (decimal e.caller ++ more) d.0 (d.1 ++ more)
-    (ap (λ (x : List ℕ). x ++ more) d.2) d.3 in
-    rw (other, to_the_end (entry_read true) e (decimal e.caller ++ more) (entry_again e h)) refl
+    let d = caller_first e.caller call more h.1.caller in
+    let other = no_end (made (λ n. End n) (any_u32 true)) (made (λ x. EntryOf x.0 x.1) (entry_read true v)) (caller_text e.caller call ++ more)
+    d.0 d.1 d.2 d.3 in
+    rw (other, to_the_end (entry_read true v) (call, e) (caller_text e.caller call ++ more) (entry_again v call e h m)) refl
 
 -- ---- a line is passed
 
@@ -195,8 +210,12 @@ one_line d l rest read said =
 
 -- ---- the lists of the head, and the entries
 
-abbrev draft : Stage → Setup → List Entry → Draft
-draft s c es = record { stage = s; setup = c; entries = es }
+abbrev draft : Stage → Version → Setup → List Entry → List ℕ → Draft
+draft s v c es ns = record { stage = s; version = v; setup = c; entries = es; calls = ns }
+
+-- within the head
+abbrev in_head : Stage → Version → Setup → Draft
+in_head s v c = draft s v c [] []
 
 text_is : (a b : Draft) (x y z : List ℕ) → x ≡ y → Goes a y b z → Goes a x b z
 text_is a b x y z e g = subst (λ (t : List ℕ). Goes a t b z) (sym e) g
@@ -205,16 +224,14 @@ first_of : {A : Type 0} (f : A → List ℕ) (x : A) (xs : List A) (rest : List 
     → flat_map f (x ∷ xs) ++ rest ≡ f x ++ (flat_map f xs ++ rest)
 first_of f x xs rest = ap (λ (t : List ℕ). t ++ rest) (flat_map-cons f x xs) ∙ append_assoc (f x) (flat_map f xs) rest
 
-budgets_pass : (ns : List ℕ) (c : Setup) (all rest : List ℕ) → AreU32 ns → all ≡ c.budgets ++ ns
-    → Goes (draft AtBudgets c []) (flat_map (λ n. line (Budget n)) ns ++ rest) (draft AtBudgets (record c { budgets = all }) []) rest
-budgets_pass [] c all rest h e = rw (e, append-nil c.budgets) (stays (draft AtBudgets c []) rest)
-budgets_pass (n ∷ ns) c all rest h e =
+budgets_pass : (v : Version) (ns : List ℕ) (c : Setup) (all rest : List ℕ) → AreU32 ns → all ≡ c.budgets ++ ns → Goes (in_head AtBudgets v c) (flat_map (λ n. line (Budget n)) ns ++ rest) (in_head AtBudgets v (record c { budgets = all })) rest
+budgets_pass v [] c all rest h e = rw (e, append-nil c.budgets) (stays (in_head AtBudgets v c) rest)
+budgets_pass v (n ∷ ns) c all rest h e =
     let f = λ (n : ℕ). line (Budget n) in
     let next = record c { budgets = c.budgets ++ n ∷ [] } in
-    let one = one_line (draft AtBudgets c []) (Budget n) (flat_map f ns ++ rest) (budget_read n h.0) refl in
-    let later = budgets_pass ns next all rest h.1 (e ∙ sym (append_assoc c.budgets (n ∷ []) ns)) in
-    text_is (draft AtBudgets c []) (draft AtBudgets (record c { budgets = all }) []) _ _ rest (first_of f n ns rest)
-    (goes_on (draft AtBudgets c []) (draft AtBudgets next []) (draft AtBudgets (record c { budgets = all }) []) _ _ _ one later)
+    let one = one_line (in_head AtBudgets v c) (Budget n) (flat_map f ns ++ rest) (budget_read n h.0) refl in
+    let later = budgets_pass v ns next all rest h.1 (e ∙ sym (append_assoc c.budgets (n ∷ []) ns)) in
+    text_is (in_head AtBudgets v c) (in_head AtBudgets v (record c { budgets = all })) _ _ rest (first_of f n ns rest) (goes_on (in_head AtBudgets v c) (in_head AtBudgets v next) (in_head AtBudgets v (record c { budgets = all })) _ _ _ one later)
 
 own_to_exit : (s : Stage) → MayOwn s → MayExit s
 own_to_exit AtBudgets m = tt
@@ -222,79 +239,98 @@ own_to_exit AtOwners m = tt
 own_to_exit s m = absurd m
 
 -- behind the owners, and behind the exits, the line that comes next may be an exit
-owners_pass : (ns : List ℕ) (s : Stage) (c : Setup) (all rest : List ℕ) → MayOwn s → AreU32 ns → all ≡ c.owners ++ ns
-    → (t : Stage) × MayExit t × Goes (draft s c []) (flat_map (λ n. line (Owner n)) ns ++ rest) (draft t (record c { owners = all }) [])
-    rest
-owners_pass [] s c all rest m h e = (s, own_to_exit s m, rw (e, append-nil c.owners) (stays (draft s c []) rest))
-owners_pass (n ∷ ns) s c all rest m h e =
+owners_pass : (v : Version) (ns : List ℕ) (s : Stage) (c : Setup) (all rest : List ℕ) → MayOwn s → AreU32 ns → all ≡ c.owners ++ ns
+    → (t : Stage) × MayExit t × Goes (in_head s v c) (flat_map (λ n. line (Owner n)) ns ++ rest) (in_head t v (record c { owners = all })) rest
+owners_pass v [] s c all rest m h e = (s, own_to_exit s m, rw (e, append-nil c.owners) (stays (in_head s v c) rest))
+owners_pass v (n ∷ ns) s c all rest m h e =
     let f = λ (n : ℕ). line (Owner n) in
     let next = record c { owners = c.owners ++ n ∷ [] } in
-    let one = one_line (draft s c []) (Owner n) (flat_map f ns ++ rest) (owner_read s n m h.0) refl in
-    let later = owners_pass ns AtOwners next all rest tt h.1 (e ∙ sym (append_assoc c.owners (n ∷ []) ns)) in
-    let last = draft later.0 (record c { owners = all }) [] in (
-      later.0,
-      later.1,
-      text_is (draft s c []) last _ _ rest (first_of f n ns rest)
-          (goes_on (draft s c []) (draft AtOwners next []) last _ _ _ one later.2),
-    )
+    let one = one_line (in_head s v c) (Owner n) (flat_map f ns ++ rest) (owner_read s n m h.0) refl in
+    let later = owners_pass v ns AtOwners next all rest tt h.1 (e ∙ sym (append_assoc c.owners (n ∷ []) ns)) in
+    let last = in_head later.0 v (record c { owners = all }) in
+    (later.0, later.1, text_is (in_head s v c) last _ _ rest (first_of f n ns rest) (goes_on (in_head s v c) (in_head AtOwners v next) last _ _ _ one later.2))
 
-exits_pass : (xs : List SetupExit) (s : Stage) (c : Setup) (all : List SetupExit) (rest : List ℕ) → MayExit s → AllByRecursion IsExit xs
-    → all ≡ c.exits ++ xs
-    → (t : Stage) × MayExit t × Goes (draft s c []) (flat_map (λ x. line (ExitTo x)) xs ++ rest) (draft t (record c { exits = all }) [])
-    rest
-exits_pass [] s c all rest m h e = (s, m, rw (e, append-nil c.exits) (stays (draft s c []) rest))
-exits_pass (x ∷ xs) s c all rest m h e =
+exits_pass : (v : Version) (xs : List SetupExit) (s : Stage) (c : Setup) (all : List SetupExit) (rest : List ℕ) → MayExit s → AllByRecursion IsExit xs → all ≡ c.exits ++ xs
+    → (t : Stage) × MayExit t × Goes (in_head s v c) (flat_map (λ x. line (ExitTo x)) xs ++ rest) (in_head t v (record c { exits = all })) rest
+exits_pass v [] s c all rest m h e = (s, m, rw (e, append-nil c.exits) (stays (in_head s v c) rest))
+exits_pass v (x ∷ xs) s c all rest m h e =
     let f = λ (x : SetupExit). line (ExitTo x) in
     let next = record c { exits = c.exits ++ x ∷ [] } in
-    let one = one_line (draft s c []) (ExitTo x) (flat_map f xs ++ rest) (exit_line_read s x m h.0) refl in
-    let later = exits_pass xs AtExits next all rest tt h.1 (e ∙ sym (append_assoc c.exits (x ∷ []) xs)) in
-    let last = draft later.0 (record c { exits = all }) [] in (
-      later.0,
-      later.1,
-      text_is (draft s c []) last _ _ rest (first_of f x xs rest)
-          (goes_on (draft s c []) (draft AtExits next []) last _ _ _ one later.2),
-    )
+    let one = one_line (in_head s v c) (ExitTo x) (flat_map f xs ++ rest) (exit_line_read s x m h.0) refl in
+    let later = exits_pass v xs AtExits next all rest tt h.1 (e ∙ sym (append_assoc c.exits (x ∷ []) xs)) in
+    let last = in_head later.0 v (record c { exits = all }) in
+    (later.0, later.1, text_is (in_head s v c) last _ _ rest (first_of f x xs rest) (goes_on (in_head s v c) (in_head AtExits v next) last _ _ _ one later.2))
 
-entries_pass : (es : List Entry) (c : Setup) (before all : List Entry) (rest : List ℕ) → AllByRecursion HasText es → all ≡ before ++ es
-    → Goes (draft AtEntries c before) (flat_map (λ e. line (EntryOf e)) es ++ rest) (draft AtEntries c all) rest
-entries_pass [] c before all rest h e = rw (e, append-nil before) (stays (draft AtEntries c before) rest)
-entries_pass (x ∷ es) c before all rest h e =
-    let f = λ (x : Entry). line (EntryOf x) in
-    let one = one_line (draft AtEntries c before) (EntryOf x) (flat_map f es ++ rest) (entry_line_read x h.0) refl in
-    let later = entries_pass es c (before ++ x ∷ []) all rest h.1 (e ∙ sym (append_assoc before (x ∷ []) es)) in
-    text_is (draft AtEntries c before) (draft AtEntries c all) _ _ rest (first_of f x es rest)
-    (goes_on (draft AtEntries c before) (draft AtEntries c (before ++ x ∷ [])) (draft AtEntries c all) _ _ _ one later)
+-- an entry's line, with the number of its call in version 2
+one_entry : (v : Version) (c : Setup) (before : List Entry) (said : List ℕ) (call : Option ℕ) (x : Entry) (rest : List ℕ) → HasText x
+    → IsCallIn v call → Goes (draft (AtEntries v) v c before said) (line (EntryOf call x) ++ rest)
+    (draft (AtEntries v) v c (before ++ x ∷ []) (with_call call said)) rest
+one_entry v c before said call x rest h m =
+    one_line (draft (AtEntries v) v c before said) (EntryOf call x) rest (entry_line_read v call x h m) refl
+
+-- those of entries without numbers
+plain_pass : (es : List Entry) (c : Setup) (before all : List Entry) (said rest : List ℕ) → AllByRecursion HasText es → all ≡ before ++ es
+    → Goes (draft (AtEntries One) One c before said) (flat_map line (entry_lines es []) ++ rest) (draft (AtEntries One) One c all said) rest
+plain_pass [] c before all said rest h e = rw (e, append-nil before) (stays (draft (AtEntries One) One c before said) rest)
+plain_pass (x ∷ es) c before all said rest h e =
+    let one = one_entry One c before said None x (flat_map line (entry_lines es []) ++ rest) h.0 tt in
+    let later = plain_pass es c (before ++ x ∷ []) all said rest h.1 (e ∙ sym (append_assoc before (x ∷ []) es)) in
+    text_is (draft (AtEntries One) One c before said) (draft (AtEntries One) One c all said) _ _ rest
+    (first_of line (EntryOf None x) (entry_lines es []) rest)
+    (goes_on (draft (AtEntries One) One c before said) (draft (AtEntries One) One c (before ++ x ∷ []) said)
+    (draft (AtEntries One) One c all said) _ _ _ one later)
+
+-- and those of entries with a number each
+numbered_pass : (es : List Entry) (ns : List ℕ) (c : Setup) (before all : List Entry) (said numbers rest : List ℕ) → AllByRecursion HasText es
+    → length ns ≡ length es → AllByRecursion (λ n. n ≤ highest_u32) ns → all ≡ before ++ es → numbers ≡ said ++ ns
+    → Goes (draft (AtEntries Two) Two c before said) (flat_map line (entry_lines es ns) ++ rest) (draft (AtEntries Two) Two c all numbers) rest
+numbered_pass [] [] c before all said numbers rest h l u e f =
+    rw (e, append-nil before, f, append-nil said) (stays (draft (AtEntries Two) Two c before said) rest)
+numbered_pass [] (n ∷ ns) c before all said numbers rest h l u e f = absurd (omega arith)
+numbered_pass (x ∷ es) [] c before all said numbers rest h l u e f = absurd (omega arith)
+numbered_pass (x ∷ es) (n ∷ ns) c before all said numbers rest h l u e f =
+    let one = one_entry Two c before said (Some n) x (flat_map line (entry_lines es ns) ++ rest) h.0 u.0 in
+    let later = numbered_pass es ns c (before ++ x ∷ []) all (said ++ n ∷ []) numbers rest h.1 (omega arith) u.1
+    (e ∙ sym (append_assoc before (x ∷ []) es)) (f ∙ sym (append_assoc said (n ∷ []) ns)) in
+    text_is (draft (AtEntries Two) Two c before said) (draft (AtEntries Two) Two c all numbers) _ _ rest
+    (first_of line (EntryOf (Some n) x) (entry_lines es ns) rest)
+    (goes_on (draft (AtEntries Two) Two c before said) (draft (AtEntries Two) Two c (before ++ x ∷ []) (said ++ n ∷ []))
+    (draft (AtEntries Two) Two c all numbers) _ _ _ one later)
+
+entries_pass : (v : Version) (es : List Entry) (ns : List ℕ) (c : Setup) (rest : List ℕ) → AllByRecursion HasText es → AreEach v es ns
+    → Goes (draft (AtEntries v) v c [] []) (flat_map line (entry_lines es ns) ++ rest) (draft (AtEntries v) v c es ns) rest
+entries_pass One es ns c rest h m =
+    subst (λ (x : List ℕ). Goes (draft (AtEntries One) One c [] []) (flat_map line (entry_lines es x) ++ rest) (draft (AtEntries One) One c es x) rest)
+    (sym m) (plain_pass es c [] es [] rest h refl)
+entries_pass Two es ns c rest h m = numbered_pass es ns c [] es [] ns rest h m.0 m.1 refl refl
 
 -- ---- the whole
 
 -- the text, line by line
-regrouped : (c : Setup) (es : List Entry) → journal_text c es
-    ≡ line Version ++ (line (Callers c.callers)
-    ++ (line (Elements c.elements_per_caller)
-    ++ (line (Volumes c.volumes) ++ (line (Latches c.latches) ++ (line (Quota c.quota c.posted_quota)
-    ++ (flat_map (λ n. line (Budget n)) c.budgets
-    ++ (flat_map (λ n. line (Owner n)) c.owners ++ (flat_map (λ x. line (ExitTo x)) c.exits ++ (line Events
-    ++ (flat_map (λ e. line (EntryOf e)) es ++ (line (End (length es)) ++ [])))))))))))
-unfolding journal_text head_text counts_text lists_text
-regrouped c es = simp (append_assoc, append-nil)
+regrouped : (v : Version) (c : Setup) (es : List Entry) (ns : List ℕ) → text_of v c es ns
+    ≡ line (JournalOf v) ++ (line (Callers c.callers) ++ (line (Elements c.elements_per_caller) ++ (line (Volumes c.volumes)
+    ++ (line (Latches c.latches) ++ (line (Quota c.quota c.posted_quota)
+    ++ (flat_map (λ n. line (Budget n)) c.budgets ++ (flat_map (λ n. line (Owner n)) c.owners ++ (flat_map (λ x. line (ExitTo x)) c.exits ++ (line Events
+    ++ (flat_map line (entry_lines es ns) ++ (line (End (length es)) ++ [])))))))))))
+unfolding text_of head_text counts_text lists_text
+regrouped v c es ns = simp (append_assoc, append-nil)
 
-events_said : (s : Stage) (c : Setup) (es : List Entry) → IsValid c → kind_said (draft s c es) (Some Events) ≡ None
-events_said s c es v = rw v refl
+events_said : (s : Stage) (v : Version) (c : Setup) → IsValid c → kind_said (in_head s v c) (Some Events) ≡ None
+events_said s v c valid = rw valid refl
 
-end_said : (c : Setup) (es : List Entry) → kind_said (draft AtEntries c es) (Some (End (length es))) ≡ None
-end_said c es = rw (eq-eqb (length es) (length es) refl) refl
+end_said : (v : Version) (c : Setup) (es : List Entry) (ns : List ℕ)
+    → kind_said (draft (AtEntries v) v c es ns) (Some (End (length es))) ≡ None
+end_said v c es ns = rw (eq-eqb (length es) (length es) refl) refl
 
 -- what the lines of the counts have said
 abbrev counts : Setup → Setup
 counts c = record c { budgets = []; owners = []; exits = [] }
 
-counts_pass : (c : Setup) (rest : List ℕ) → HasNumbers c
-    → Goes blank (line Version ++ (line (Callers c.callers)
-    ++ (line (Elements c.elements_per_caller)
-    ++ (line (Volumes c.volumes) ++
-    (line (Latches c.latches) ++ (line (Quota c.quota c.posted_quota) ++ rest)))))) (draft AtBudgets (counts c) []) rest
-counts_pass c rest h =
-    let d1 = draft_with Version blank in
+counts_pass : (v : Version) (c : Setup) (rest : List ℕ) → HasNumbers c
+    → Goes blank (line (JournalOf v) ++ (line (Callers c.callers) ++ (line (Elements c.elements_per_caller) ++ (line (Volumes c.volumes)
+    ++ (line (Latches c.latches) ++ (line (Quota c.quota c.posted_quota) ++ rest)))))) (in_head AtBudgets v (counts c)) rest
+counts_pass v c rest h =
+    let d1 = draft_with (JournalOf v) blank in
     let d2 = draft_with (Callers c.callers) d1 in
     let d3 = draft_with (Elements c.elements_per_caller) d2 in
     let d4 = draft_with (Volumes c.volumes) d3 in
@@ -305,62 +341,70 @@ counts_pass c rest h =
     let t3 = line (Volumes c.volumes) ++ t4 in
     let t2 = line (Elements c.elements_per_caller) ++ t3 in
     let t1 = line (Callers c.callers) ++ t2 in
-    goes_on blank d1 d6 (line Version ++ t1) t1 rest (one_line blank Version t1 version_read refl)
+    goes_on blank d1 d6 (line (JournalOf v) ++ t1) t1 rest (one_line blank (JournalOf v) t1 (version_read v) refl)
     (goes_on d1 d2 d6 t1 t2 rest (one_line d1 (Callers c.callers) t2 (callers_read c.callers h.callers) refl)
     (goes_on d2 d3 d6 t2 t3 rest (one_line d2 (Elements c.elements_per_caller) t3 (elements_read c.elements_per_caller h.elements) refl)
     (goes_on d3 d4 d6 t3 t4 rest (one_line d3 (Volumes c.volumes) t4 (volumes_read c.volumes h.volumes) refl)
     (goes_on d4 d5 d6 t4 t5 rest (one_line d4 (Latches c.latches) t5 (latches_read c.latches h.latches) refl)
     (one_line d5 (Quota c.quota c.posted_quota) rest (quota_read c.quota c.posted_quota h.quota h.posted) refl)))))
 
-journal_passes : (c : Setup) (es : List Entry) → HasJournal c es → Goes blank (journal_text c es) (draft AtEnd c es) []
-journal_passes c es h =
+journal_passes : (v : Version) (c : Setup) (es : List Entry) (ns : List ℕ) → HasJournal c es → AreCallsIn v es ns
+    → Goes blank (text_of v c es ns) (draft AtEnd v c es ns) []
+journal_passes v c es ns h m =
     let n = has_numbers c h.valid in
     let each = recursion_from_All HasText es h.each in
     let last = line (End (length es)) ++ [] in
-    let events = flat_map (λ e. line (EntryOf e)) es ++ last in
+    let events = flat_map line (entry_lines es ns) ++ last in
     let begin = line Events ++ events in
     let exits = flat_map (λ x. line (ExitTo x)) c.exits ++ begin in
     let owners = flat_map (λ n. line (Owner n)) c.owners ++ exits in
     let budgets = flat_map (λ n. line (Budget n)) c.budgets ++ owners in
     let c1 = record (counts c) { budgets = c.budgets } in
     let c2 = record c1 { owners = c.owners } in
-    let p1 = counts_pass c budgets n in
-    let p2 = budgets_pass c.budgets (counts c) c.budgets owners n.budgets refl in
-    let p3 = owners_pass c.owners AtBudgets c1 c.owners exits tt n.owners refl in
-    let p4 = exits_pass c.exits p3.0 c2 c.exits begin p3.1 n.exits refl in
-    let p5 = one_line (draft p4.0 c []) Events events (events_read p4.0 p4.1) (events_said p4.0 c [] h.valid) in
-    let p6 = entries_pass es c [] es last each refl in
-    let p7 = one_line (draft AtEntries c es) (End (length es)) [] (end_read (length es) h.count) (end_said c es) in
-    let a6 = goes_on (draft AtEntries c []) (draft AtEntries c es) (draft AtEnd c es) events last [] p6 p7 in
-    let a5 = goes_on (draft p4.0 c []) (draft AtEntries c []) (draft AtEnd c es) begin events [] p5 a6 in
-    let a4 = goes_on (draft p3.0 c2 []) (draft p4.0 c []) (draft AtEnd c es) exits begin [] p4.2 a5 in
-    let a3 = goes_on (draft AtBudgets c1 []) (draft p3.0 c2 []) (draft AtEnd c es) owners exits [] p3.2 a4 in
-    let a2 = goes_on (draft AtBudgets (counts c) []) (draft AtBudgets c1 []) (draft AtEnd c es) budgets owners [] p2 a3 in
-    text_is blank (draft AtEnd c es) (journal_text c es) _ [] (regrouped c es)
-    (goes_on blank (draft AtBudgets (counts c) []) (draft AtEnd c es) _ budgets [] p1 a2)
+    let p1 = counts_pass v c budgets n in
+    let p2 = budgets_pass v c.budgets (counts c) c.budgets owners n.budgets refl in
+    let p3 = owners_pass v c.owners AtBudgets c1 c.owners exits tt n.owners refl in
+    let p4 = exits_pass v c.exits p3.0 c2 c.exits begin p3.1 n.exits refl in
+    let p5 = one_line (in_head p4.0 v c) Events events (events_read p4.0 p4.1) (events_said p4.0 v c h.valid) in
+    let p6 = entries_pass v es ns c last each (each_from_calls v es ns m) in
+    let p7 = one_line (draft (AtEntries v) v c es ns) (End (length es)) [] (end_read v (length es) h.count) (end_said v c es ns) in
+    let over = draft AtEnd v c es ns in
+    let a6 = goes_on (draft (AtEntries v) v c [] []) (draft (AtEntries v) v c es ns) over events last [] p6 p7 in
+    let a5 = goes_on (in_head p4.0 v c) (draft (AtEntries v) v c [] []) over begin events [] p5 a6 in
+    let a4 = goes_on (in_head p3.0 v c2) (in_head p4.0 v c) over exits begin [] p4.2 a5 in
+    let a3 = goes_on (in_head AtBudgets v c1) (in_head p3.0 v c2) over owners exits [] p3.2 a4 in
+    let a2 = goes_on (in_head AtBudgets v (counts c)) (in_head AtBudgets v c1) over budgets owners [] p2 a3 in
+    text_is blank over (text_of v c es ns) _ [] (regrouped v c es ns) (goes_on blank (in_head AtBudgets v (counts c)) over _ budgets [] p1 a2)
 
-nothing_left : (number : ℕ) (c : Setup) (es : List Entry) → first_fault number (draft AtEnd c es) (parts_at 10 []) ≡ None
+nothing_left : (number : ℕ) (v : Version) (c : Setup) (es : List Entry) (ns : List ℕ)
+    → first_fault number (draft AtEnd v c es ns) (parts_at 10 []) ≡ None
 unfolding first_fault parts_at
-nothing_left number c es = refl
+nothing_left number v c es ns = refl
 
-nothing_more : (c : Setup) (es : List Entry) → draft_of (draft AtEnd c es) (parts_at 10 []) ≡ draft AtEnd c es
+nothing_more : (v : Version) (c : Setup) (es : List Entry) (ns : List ℕ)
+    → draft_of (draft AtEnd v c es ns) (parts_at 10 []) ≡ draft AtEnd v c es ns
 unfolding draft_of parts_at
-nothing_more c es = refl
+nothing_more v c es ns = refl
 
 -- a journal that is written has no fault, and is read again
-pub no_fault : (c : Setup) (es : List Entry) → HasJournal c es → text_fault (journal_text c es) ≡ None
-no_fault c es h = let f = (journal_passes c es h).fault 1 in f.1 ∙ nothing_left f.0 c es
+pub no_fault : (v : Version) (c : Setup) (es : List Entry) (ns : List ℕ) → HasJournal c es → AreCallsIn v es ns
+    → text_fault (text_of v c es ns) ≡ None
+no_fault v c es ns h m = let f = (journal_passes v c es ns h m).fault 1 in f.1 ∙ nothing_left f.0 v c es ns
 
-pub read_again : (c : Setup) (es : List Entry) → HasJournal c es → journal_of (journal_text c es) ≡ draft AtEnd c es
-read_again c es h = (journal_passes c es h).draft ∙ nothing_more c es
+pub read_again : (v : Version) (c : Setup) (es : List Entry) (ns : List ℕ) → HasJournal c es → AreCallsIn v es ns
+    → journal_of (text_of v c es ns) ≡ draft AtEnd v c es ns
+read_again v c es ns h m = (journal_passes v c es ns h m).draft ∙ nothing_more v c es ns
 
--- a text determines its configuration and entries
-pub one_journal : (c d : Setup) (es fs : List Entry) → HasJournal c es → HasJournal d fs → journal_text c es ≡ journal_text d fs
-    → (c ≡ d) × (es ≡ fs)
-one_journal c d es fs p q e =
-    let same : draft AtEnd c es ≡ draft AtEnd d fs = sym (read_again c es p) ∙ ap journal_of e ∙ read_again d fs q in
-    (ap (λ (x : Draft). x.setup) same, ap (λ (x : Draft). x.entries) same)
+-- a text determines its version, configuration, entries and call numbers
+pub one_journal : (v w : Version) (c d : Setup) (es fs : List Entry) (ns ms : List ℕ) → HasJournal c es → AreCallsIn v es ns
+    → HasJournal d fs → AreCallsIn w fs ms → text_of v c es ns ≡ text_of w d fs ms → (v ≡ w) × (c ≡ d) × (es ≡ fs) × (ns ≡ ms)
+one_journal v w c d es fs ns ms p q r s e =
+    let same : draft AtEnd v c es ns ≡ draft AtEnd w d fs ms = sym (read_again v c es ns p q) ∙ ap journal_of e ∙ read_again w d fs ms r s in
+    (ap (λ (x : Draft). x.version) same, ap (λ (x : Draft). x.setup) same, ap (λ (x : Draft). x.entries) same, ap (λ (x : Draft). x.calls) same)
 
-pub reads_back : (c : Setup) (es : List Entry) → HasJournal c es
-    → ((journal_of (journal_text c es)).setup ≡ c) × ((journal_of (journal_text c es)).entries ≡ es)
-reads_back c es h = (ap (λ (x : Draft). x.setup) (read_again c es h), ap (λ (x : Draft). x.entries) (read_again c es h))
+pub reads_back : (v : Version) (c : Setup) (es : List Entry) (ns : List ℕ) → HasJournal c es → AreCallsIn v es ns
+    → ((journal_of (text_of v c es ns)).version ≡ v) × ((journal_of (text_of v c es ns)).setup ≡ c)
+    × ((journal_of (text_of v c es ns)).entries ≡ es) × ((journal_of (text_of v c es ns)).calls ≡ ns)
+reads_back v c es ns h m =
+    let is = read_again v c es ns h m in
+    (ap (λ (x : Draft). x.version) is, ap (λ (x : Draft). x.setup) is, ap (λ (x : Draft). x.entries) is, ap (λ (x : Draft). x.calls) is)

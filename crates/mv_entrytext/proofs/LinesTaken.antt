@@ -7,14 +7,16 @@ use Rattle.std.proofs.lemmas.Bool.{eqb-true}
 use Rattle.std.proofs.lemmas.List.{append-nil}
 use Rattle.std.proofs.lemmas.List.Concat.{flat_map-cons}
 use Rattle.mv_machine.specs.Setup.{SetupExit}
+use Rattle.mv_entrytext.specs.declared.version.Version.TheVariants.{One, Two}
 use Rattle.mv_entrytext.specs.Ranges.{highest_u32}
 use Rattle.mv_entrytext.specs.Reading.{whole, parted, onto_first, parts_at, any_u32}
-use Rattle.mv_entrytext.specs.EntryText.{HasText, entry_read, entry_text}
-use Rattle.mv_entrytext.specs.Journal.{Line, Version, Callers, Elements, Volumes, Latches, Quota, Budget, Owner, ExitTo, Events, EntryOf, End, line_text}
+use Rattle.mv_entrytext.specs.EntryText.{HasText, entry_read}
+use Rattle.mv_entrytext.specs.Journal.{Line, JournalOf, Callers, Elements, Volumes, Latches, Quota, Budget, Owner, ExitTo, Events, EntryOf, End, line_text}
 use Rattle.mv_entrytext.specs.Lines.{Stage, AtVersion, AtCallers, AtElements, AtVolumes, AtLatches, AtQuota, AtBudgets, AtOwners, AtExits, AtEntries, AtEnd, numbers, exit_from, exit_read, count_line, next_line, line_read}
+use Rattle.mv_entrytext.proofs.CallNumbers.{IsCallIn}
 use Rattle.mv_entrytext.proofs.Parts.{first_part}
 use Rattle.mv_entrytext.proofs.Taken.{Takes, bound, some_is, takes_nothing, takes_behind, behind_given, takes_made, behind_made, takes_whole, takes_u32}
-use Rattle.mv_entrytext.proofs.KindsTaken.{pair_text, takes_two, takes_entry}
+use Rattle.mv_entrytext.proofs.KindsTaken.{pair_text, takes_two, numbered_text, IsNumbered, takes_entry}
 
 -- ---- the parts of a text, put together again
 
@@ -108,7 +110,7 @@ takes_exit text rest x e =
 
 -- which lines may come next
 abbrev pub MayCome : Stage → Line → Type 0
-MayCome AtVersion Version = Unit {0}
+MayCome AtVersion (JournalOf v) = Unit {0}
 MayCome AtCallers (Callers n) = Unit {0}
 MayCome AtElements (Elements n) = Unit {0}
 MayCome AtVolumes (Volumes n) = Unit {0}
@@ -123,16 +125,18 @@ MayCome AtOwners (ExitTo x) = Unit {0}
 MayCome AtOwners Events = Unit {0}
 MayCome AtExits (ExitTo x) = Unit {0}
 MayCome AtExits Events = Unit {0}
-MayCome AtEntries (EntryOf e) = HasText e
-MayCome AtEntries (End n) = n ≤ highest_u32
+MayCome (AtEntries v) (EntryOf call e) = HasText e × IsCallIn v call
+MayCome (AtEntries v) (End n) = n ≤ highest_u32
 MayCome _ _ = ⊥
 
 pub takes_line : (s : Stage) → Takes line_text (λ l. MayCome s l) (next_line true s)
 unfolding next_line count_line
 takes_line AtVersion =
     takes_behind (codes "JOURNAL 1") line_text (λ l. MayCome AtVersion l) _ _
-    (behind_given (codes "JOURNAL 1") line_text (λ l. MayCome AtVersion l) Version refl tt)
-    (takes_nothing line_text (λ l. MayCome AtVersion l))
+    (behind_given (codes "JOURNAL 1") line_text (λ l. MayCome AtVersion l) (JournalOf One) refl tt)
+    (takes_behind (codes "JOURNAL 2") line_text (λ l. MayCome AtVersion l) _ _
+    (behind_given (codes "JOURNAL 2") line_text (λ l. MayCome AtVersion l) (JournalOf Two) refl tt)
+    (takes_nothing line_text (λ l. MayCome AtVersion l)))
 takes_line AtCallers =
     takes_behind (codes "CALLERS ") line_text (λ l. MayCome AtCallers l) _ _
     (behind_made (codes "CALLERS ") line_text (λ l. MayCome AtCallers l) (λ n. Callers n) decimal (λ n. n ≤ highest_u32) (any_u32 true)
@@ -188,12 +192,12 @@ takes_line AtExits =
     (takes_behind (codes "EVENTS") line_text (λ l. MayCome AtExits l) _ _
     (behind_given (codes "EVENTS") line_text (λ l. MayCome AtExits l) Events refl tt)
     (takes_nothing line_text (λ l. MayCome AtExits l)))
-takes_line AtEntries =
-    takes_behind (codes "END ") line_text (λ l. MayCome AtEntries l) _ _
-    (behind_made (codes "END ") line_text (λ l. MayCome AtEntries l) (λ n. End n) decimal (λ n. n ≤ highest_u32) (any_u32 true)
-    (λ n. refl) (λ n h. h) takes_u32)
-    (takes_made line_text (λ l. MayCome AtEntries l) (λ e. EntryOf e) entry_text (λ e. HasText e) (entry_read true) (λ e h. refl) (λ e h. h)
-    takes_entry)
+takes_line (AtEntries v) =
+    takes_behind (codes "END ") line_text (λ l. MayCome (AtEntries v) l) _ _
+    (behind_made (codes "END ") line_text (λ l. MayCome (AtEntries v) l) (λ n. End n) decimal (λ n. n ≤ highest_u32) (any_u32 true) (λ n. refl)
+    (λ n h. h) takes_u32)
+    (takes_made line_text (λ l. MayCome (AtEntries v) l) (λ x. EntryOf x.0 x.1) numbered_text (λ x. IsNumbered v x) (entry_read true v)
+    (λ x h. refl) (λ x h. h) (takes_entry v))
 takes_line AtEnd =
     takes_nothing line_text (λ l. MayCome AtEnd l)
 

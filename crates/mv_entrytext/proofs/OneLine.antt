@@ -1,5 +1,5 @@
 -- No line's text has LF in it.
-use Rattle.std.proofs.Common.{ℕ, true, false, List, [], ◌∷◌, ◌++◌, decimal, refl, sym, subst, arith}
+use Rattle.std.proofs.Common.{ℕ, true, false, Option, Some, None, List, [], ◌∷◌, ◌++◌, decimal, refl, sym, subst, arith}
 use Rattle.std.specs.Prelude.{codes, Bool}
 use Rattle.std.specs.List.{flat_map}
 use Rattle.std.proofs.lemmas.List.Concat.{flat_map-cons}
@@ -37,7 +37,8 @@ use Rattle.mv_entrytext.specs.EcbText.{ecb_op_text, ecb_reply_text}
 use Rattle.mv_entrytext.specs.ElementText.{phase_text, element_op_text, element_reply_text}
 use Rattle.mv_entrytext.specs.VolumeText.{volume_op_text, volume_reply_text}
 use Rattle.mv_entrytext.specs.LatchText.{mode_text, form_text, condition_text, latch_op_text, latch_reply_text}
-use Rattle.mv_entrytext.specs.EntryText.{object_text, op_text, reply_text, entry_text}
+use Rattle.mv_entrytext.specs.declared.version.Version.TheVariants.{One, Two}
+use Rattle.mv_entrytext.specs.EntryText.{caller_text, object_text, op_text, reply_text, entry_text}
 use Rattle.mv_entrytext.specs.Journal as journal
 use Rattle.mv_entrytext.specs.Journal.{Line, line_text}
 use Rattle.mv_entrytext.proofs.Parts.{Lacks, Lacks-append, Lacks-decimal}
@@ -163,11 +164,15 @@ reply_line (reply_of.Element r) = element_reply_line r
 reply_line (reply_of.Volume r) = volume_reply_line r
 reply_line (reply_of.Latch r) = latch_reply_line r
 
-entry_line : (e : Entry) → IsOneLine (entry_text e)
+caller_line : (caller : ℕ) (call : Option ℕ) → IsOneLine (caller_text caller call)
+caller_line caller None = num caller
+caller_line caller (Some call) = Lacks-append 10 (decimal caller) (46 ∷ decimal call) (num caller) (num call)
+
+entry_line : (call : Option ℕ) (e : Entry) → IsOneLine (entry_text call e)
 unfolding entry_text
-entry_line e =
-    beside (decimal e.caller) (object_text e.object <+> decimal e.place <+> op_text e.op <+> codes "=" <+> reply_text e.reply)
-    (num e.caller)
+entry_line call e =
+    beside (caller_text e.caller call) (object_text e.object <+> decimal e.place <+> op_text e.op <+> codes "=" <+> reply_text e.reply)
+    (caller_line e.caller call)
     (beside (object_text e.object) (decimal e.place <+> op_text e.op <+> codes "=" <+> reply_text e.reply) (object_line e.object)
     (beside (decimal e.place) (op_text e.op <+> codes "=" <+> reply_text e.reply) (num e.place)
     (beside (op_text e.op) (codes "=" <+> reply_text e.reply) (op_line e.op) (reply_line e.reply))))
@@ -179,7 +184,8 @@ targets_line (t ∷ ts) =
     (Lacks-append 10 (decimal t) (flat_map (λ t. codes " " ++ decimal t) ts) (num t) (targets_line ts))
 
 pub is_one_line : (l : Line) → IsOneLine (line_text l)
-is_one_line journal.Version = refl
+is_one_line (journal.JournalOf One) = refl
+is_one_line (journal.JournalOf Two) = refl
 is_one_line (journal.Callers n) = num n
 is_one_line (journal.Elements n) = num n
 is_one_line (journal.Volumes n) = num n
@@ -190,5 +196,5 @@ is_one_line (journal.Owner n) = num n
 is_one_line (journal.ExitTo x) =
     Lacks-append 10 (decimal x.source) (flat_map (λ t. codes " " ++ decimal t) x.targets) (num x.source) (targets_line x.targets)
 is_one_line journal.Events = refl
-is_one_line (journal.EntryOf e) = entry_line e
+is_one_line (journal.EntryOf call e) = entry_line call e
 is_one_line (journal.End n) = num n

@@ -8,14 +8,15 @@ use Rattle.mv_machine.specs.Setup.{Setup}
 use Rattle.mv_entrytext.specs.declared.fault.TextFault.{TextFault}
 use Rattle.mv_entrytext.specs.declared.head.LineRefusal.{LineRefusal}
 use Rattle.mv_entrytext.specs.declared.head.LineRefusal.TheVariants.{Kind, NoMemory}
+use Rattle.mv_entrytext.specs.declared.version.Version.{Version}
 use Rattle.mv_entrytext.specs.Reading.{parts_at}
-use Rattle.mv_entrytext.specs.Journal.{Line, Version, Callers, Elements, Volumes, Latches, Quota, Budget, Owner, ExitTo, Events, EntryOf, End, journal_text}
+use Rattle.mv_entrytext.specs.Journal.{Line, JournalOf, Callers, Elements, Volumes, Latches, Quota, Budget, Owner, ExitTo, Events, EntryOf, End}
 use Rattle.mv_entrytext.specs.Lines.{Stage, AtVersion, AtCallers, AtElements, AtVolumes, AtLatches, AtQuota, AtBudgets, AtOwners, AtExits, AtEntries, AtEnd, count_line, next_line, line_read, Draft, blank, draft_with}
-use Rattle.mv_entrytext.specs.Fault.{TellsFirst, kind_said, kind_of, is_cut, fault_at, first_fault, text_fault, draft_of, journal_of, HasJournal}
+use Rattle.mv_entrytext.specs.Fault.{TellsFirst, kind_said, kind_of, is_cut, fault_at, first_fault, text_fault, draft_of, journal_of}
 use Rattle.mv_entrytext.specs.Draft.{Tells, refusal_at, kind_of_form, draft_at, line_behind, IsAt, kind_at_end}
 use Rattle.mv_entrytext.proofs.Parts.{first_part}
 use Rattle.mv_entrytext.proofs.LinesTaken.{joined, joined_again, MayCome, line_taken}
-use Rattle.mv_entrytext.proofs.TextsTaken.{is_read_whole}
+use Rattle.mv_entrytext.proofs.TextsTaken.{IsTextOf, is_read_whole}
 use Rattle.mv_entrytext.proofs.LinesAgain.{fault_passed, draft_passed}
 
 pub at_first : (bytes : List ℕ) → IsAt bytes bytes 1 blank
@@ -24,26 +25,26 @@ at_first bytes = record { fault = refl; draft = refl; count = omega arith; line 
 -- ---- a line is passed
 
 -- the lines of the lists, and the entries, are counted
-one_line_more : (s : Stage) (c : Setup) (es : List Entry) (l : Line) → MayCome s l
-    → line_behind (draft_with l (draft_at s c es)) ≡ line_behind (draft_at s c es) + 1
-one_line_more AtVersion c es Version m = omega arith
-one_line_more AtCallers c es (Callers n) m = omega arith
-one_line_more AtElements c es (Elements n) m = omega arith
-one_line_more AtVolumes c es (Volumes n) m = omega arith
-one_line_more AtLatches c es (Latches n) m = omega arith
-one_line_more AtQuota c es (Quota q p) m = omega arith
-one_line_more AtBudgets c es (Budget n) m = omega (arith, length-append c.budgets (n ∷ []))
-one_line_more AtBudgets c es (Owner n) m = omega (arith, length-append c.owners (n ∷ []))
-one_line_more AtBudgets c es (ExitTo x) m = omega (arith, length-append c.exits (x ∷ []))
-one_line_more AtBudgets c es Events m = omega arith
-one_line_more AtOwners c es (Owner n) m = omega (arith, length-append c.owners (n ∷ []))
-one_line_more AtOwners c es (ExitTo x) m = omega (arith, length-append c.exits (x ∷ []))
-one_line_more AtOwners c es Events m = omega arith
-one_line_more AtExits c es (ExitTo x) m = omega (arith, length-append c.exits (x ∷ []))
-one_line_more AtExits c es Events m = omega arith
-one_line_more AtEntries c es (EntryOf e) m = omega (arith, length-append es (e ∷ []))
-one_line_more AtEntries c es (End n) m = omega arith
-one_line_more s c es l m = absurd m
+one_line_more : (s : Stage) (v : Version) (c : Setup) (es : List Entry) (ns : List ℕ) (l : Line) → MayCome s l
+    → line_behind (draft_with l (draft_at s v c es ns)) ≡ line_behind (draft_at s v c es ns) + 1
+one_line_more AtVersion v c es ns (JournalOf w) m = omega arith
+one_line_more AtCallers v c es ns (Callers n) m = omega arith
+one_line_more AtElements v c es ns (Elements n) m = omega arith
+one_line_more AtVolumes v c es ns (Volumes n) m = omega arith
+one_line_more AtLatches v c es ns (Latches n) m = omega arith
+one_line_more AtQuota v c es ns (Quota q p) m = omega arith
+one_line_more AtBudgets v c es ns (Budget n) m = omega (arith, length-append c.budgets (n ∷ []))
+one_line_more AtBudgets v c es ns (Owner n) m = omega (arith, length-append c.owners (n ∷ []))
+one_line_more AtBudgets v c es ns (ExitTo x) m = omega (arith, length-append c.exits (x ∷ []))
+one_line_more AtBudgets v c es ns Events m = omega arith
+one_line_more AtOwners v c es ns (Owner n) m = omega (arith, length-append c.owners (n ∷ []))
+one_line_more AtOwners v c es ns (ExitTo x) m = omega (arith, length-append c.exits (x ∷ []))
+one_line_more AtOwners v c es ns Events m = omega arith
+one_line_more AtExits v c es ns (ExitTo x) m = omega (arith, length-append c.exits (x ∷ []))
+one_line_more AtExits v c es ns Events m = omega arith
+one_line_more (AtEntries w) v c es ns (EntryOf call e) m = omega (arith, length-append es (e ∷ []))
+one_line_more (AtEntries w) v c es ns (End n) m = omega arith
+one_line_more s v c es ns l m = absurd m
 
 pub at_next : (bytes rest behind text : List ℕ) (number : ℕ) (d : Draft) (l : Line) → IsAt bytes rest number d
     → parts_at 10 rest ≡ text ∷ parts_at 10 behind → suc (length behind) ≤ length rest → line_read true d.stage text ≡ Some l
@@ -58,7 +59,7 @@ at_next bytes rest behind text number d l at shape shorter read said =
           ∙ ap (first_fault number d) (sym two) ∙ at.fault;
       draft = ap (draft_of (draft_with l d)) p.2 ∙ sym (draft_passed d l text p.0 p.1 read) ∙ ap (draft_of d) (sym two) ∙ at.draft;
       count = omega (arith, at.count);
-      line = let m = one_line_more d.stage d.setup d.entries l (line_taken d.stage text l read).1 in omega (arith, at.line, m);
+      line = let m = one_line_more d.stage d.version d.setup d.entries d.calls l (line_taken d.stage text l read).1 in omega (arith, at.line, m);
     }
 
 -- ---- a fault
@@ -130,56 +131,48 @@ nothing_comes : (strict : Bool) (text : List ℕ) → line_read strict AtEnd tex
 unfolding next_line count_line
 nothing_comes strict text = refl
 
-no_form_at_end : (c : Setup) (es : List Entry) (text : List ℕ) → kind_of (draft_at AtEnd c es) text ≡ Some 1
-no_form_at_end c es text = rw (nothing_comes true text, nothing_comes false text) refl
+no_form_at_end : (v : Version) (c : Setup) (es : List Entry) (ns text : List ℕ) → kind_of (draft_at AtEnd v c es ns) text ≡ Some 1
+no_form_at_end v c es ns text = rw (nothing_comes true text, nothing_comes false text) refl
 
-end_kinds : (number : ℕ) (c : Setup) (es : List Entry) (p : List ℕ) (qs : List (List ℕ)) (e : LineRefusal) → Tells e (kind_at_end (p ∷ qs))
-    → TellsFirst (refusal_at number e) (first_fault number (draft_at AtEnd c es) (p ∷ qs))
+end_kinds : (number : ℕ) (v : Version) (c : Setup) (es : List Entry) (ns p : List ℕ) (qs : List (List ℕ)) (e : LineRefusal) → Tells e (kind_at_end (p ∷ qs)) → TellsFirst (refusal_at number e) (first_fault number (draft_at AtEnd v c es ns) (p ∷ qs))
 unfolding first_fault
-end_kinds number c es p [] (Kind k) told = go (eqb (length p) 0) told where
-  go : (t : Bool) → cond {A = Option ℕ} t None (Some 5) ≡ Some k
-      → cond (not (true && t)) (Some (fault_at number 5)) None ≡ Some (fault_at number k)
+end_kinds number v c es ns p [] (Kind k) told = go (eqb (length p) 0) told where
+  go : (t : Bool) → cond {A = Option ℕ} t None (Some 5) ≡ Some k → cond (not (true && t)) (Some (fault_at number 5)) None ≡ Some (fault_at number k)
   go true told = absurd cc
   go false told = let same : 5 ≡ k = cc in ap (λ (j : ℕ). Some (fault_at number j)) same
-end_kinds number c es p (q ∷ qs) (Kind k) told =
-    let same : 1 ≡ k = cc in rw (no_form_at_end c es p) (ap (λ (j : ℕ). Some (fault_at number j)) same)
-end_kinds number c es p qs NoMemory told = tt
+end_kinds number v c es ns p (q ∷ qs) (Kind k) told = let same : 1 ≡ k = cc in rw (no_form_at_end v c es ns p) (ap (λ (j : ℕ). Some (fault_at number j)) same)
+end_kinds number v c es ns p qs NoMemory told = tt
 
-pub at_end_fault : (bytes rest : List ℕ) (number : ℕ) (c : Setup) (es : List Entry) → IsAt bytes rest number (draft_at AtEnd c es)
-    → (e : LineRefusal) → Tells e (kind_at_end (parts_at 10 rest)) → TellsFirst (refusal_at number e) (text_fault bytes)
-at_end_fault bytes rest number c es at e told =
+pub at_end_fault : (bytes rest : List ℕ) (number : ℕ) (v : Version) (c : Setup) (es : List Entry) (ns : List ℕ) → IsAt bytes rest number (draft_at AtEnd v c es ns) → (e : LineRefusal) → Tells e (kind_at_end (parts_at 10 rest)) → TellsFirst (refusal_at number e) (text_fault bytes)
+at_end_fault bytes rest number v c es ns at e told =
     let p = first_part 10 rest in
-    let there = end_kinds number c es p.0 p.1 e (subst (λ (x : List (List ℕ)). Tells e (kind_at_end x)) p.2 told) in
-    subst (λ (o : Option TextFault). TellsFirst (refusal_at number e) o)
-    (ap (first_fault number (draft_at AtEnd c es)) (sym p.2) ∙ at.fault) there
+    let there = end_kinds number v c es ns p.0 p.1 e (subst (λ (x : List (List ℕ)). Tells e (kind_at_end x)) p.2 told) in
+    subst (λ (o : Option TextFault). TellsFirst (refusal_at number e) o) (ap (first_fault number (draft_at AtEnd v c es ns)) (sym p.2) ∙ at.fault) there
 
-over_fault : (number : ℕ) (c : Setup) (es : List Entry) → first_fault number (draft_at AtEnd c es) (parts_at 10 []) ≡ None
+over_fault : (number : ℕ) (v : Version) (c : Setup) (es : List Entry) (ns : List ℕ) → first_fault number (draft_at AtEnd v c es ns) (parts_at 10 []) ≡ None
 unfolding first_fault parts_at
-over_fault number c es = refl
+over_fault number v c es ns = refl
 
-over_draft : (c : Setup) (es : List Entry) → draft_of (draft_at AtEnd c es) (parts_at 10 []) ≡ draft_at AtEnd c es
+over_draft : (v : Version) (c : Setup) (es : List Entry) (ns : List ℕ) → draft_of (draft_at AtEnd v c es ns) (parts_at 10 []) ≡ draft_at AtEnd v c es ns
 unfolding draft_of parts_at
-over_draft c es = refl
+over_draft v c es ns = refl
 
 -- all was read
-pub record IsWhole (bytes : List ℕ) (c : Setup) (es : List Entry) : Type 0 where
-  pub text : bytes ≡ journal_text c es
-  pub journal : HasJournal c es
-
-pub at_over : (bytes rest : List ℕ) (number : ℕ) (c : Setup) (es : List Entry) → IsAt bytes rest number (draft_at AtEnd c es) → rest ≡ []
-    → IsWhole bytes c es
-at_over bytes rest number c es at nil =
-    let none : text_fault bytes ≡ None =
-    sym at.fault ∙ ap (λ (x : List ℕ). first_fault number (draft_at AtEnd c es) (parts_at 10 x)) nil ∙ over_fault number c es in
-    let is : journal_of bytes ≡ draft_at AtEnd c es =
-    sym at.draft ∙ ap (λ (x : List ℕ). draft_of (draft_at AtEnd c es) (parts_at 10 x)) nil ∙ over_draft c es in
-    let r = is_read_whole bytes none in
-    subst (λ (d : Draft). IsWhole bytes d.setup d.entries) is (record { text = r.0; journal = r.1 })
+pub at_over : (bytes rest : List ℕ) (number : ℕ) (v : Version) (c : Setup) (es : List Entry) (ns : List ℕ)
+    → IsAt bytes rest number (draft_at AtEnd v c es ns) → rest ≡ [] → IsTextOf bytes (draft_at AtEnd v c es ns)
+at_over bytes rest number v c es ns at nil =
+    let none : text_fault bytes ≡ None = sym at.fault ∙ ap (λ (x : List ℕ). first_fault number (draft_at AtEnd v c es ns) (parts_at 10 x)) nil
+    ∙ over_fault number v c es ns in
+    let is : journal_of bytes ≡ draft_at AtEnd v c es ns = sym at.draft
+    ∙ ap (λ (x : List ℕ). draft_of (draft_at AtEnd v c es ns) (parts_at 10 x)) nil ∙ over_draft v c es ns in
+    subst (λ (d : Draft). IsTextOf bytes d) is (is_read_whole bytes none)
 
 -- ---- the count at the end
 
-pub wrong_count : (c : Setup) (es : List Entry) (n : ℕ) → (length es ≡ n → ⊥) → kind_said (draft_at AtEntries c es) (Some (End n)) ≡ Some 4
-wrong_count c es n ne = rw (ne_eqb (length es) n ne) refl
+pub wrong_count : (v : Version) (c : Setup) (es : List Entry) (ns : List ℕ) (n : ℕ) → (length es ≡ n → ⊥)
+    → kind_said (draft_at (AtEntries v) v c es ns) (Some (End n)) ≡ Some 4
+wrong_count v c es ns n ne = rw (ne_eqb (length es) n ne) refl
 
-pub right_count : (c : Setup) (es : List Entry) (n : ℕ) → length es ≡ n → kind_said (draft_at AtEntries c es) (Some (End n)) ≡ None
-right_count c es n e = rw (eq-eqb (length es) n e) refl
+pub right_count : (v : Version) (c : Setup) (es : List Entry) (ns : List ℕ) (n : ℕ) → length es ≡ n
+    → kind_said (draft_at (AtEntries v) v c es ns) (Some (End n)) ≡ None
+right_count v c es ns n e = rw (eq-eqb (length es) n e) refl

@@ -3,7 +3,7 @@ use Rattle.std.proofs.Common.{◌≡◌, [], Some, None, refl}
 use Rattle.std.specs.Prelude.{codes}
 use Rattle.mv_entrytext.specs.Fault.{first_fault, text_fault, fault_at}
 use Rattle.mv_entrytext.specs.Lines.{next_line, count_line}
-use Rattle.mv_entrytext.specs.Reading.{behind, number, parts_at, parted_by}
+use Rattle.mv_entrytext.specs.Reading.{behind, number, parts_at, parted_at}
 
 pub empty_text : text_fault [] ≡ Some (fault_at 1 5)
 unfolding first_fault parts_at
@@ -18,9 +18,9 @@ unfolding first_fault parts_at next_line count_line behind number
 bad_form_goes_first = refl
 
 pub no_budget : text_fault (codes "JOURNAL 1\nCALLERS 1\nELEMENTS 1\nVOLUMES 1\nLATCHES 1\nQUOTA 1 0\nEVENTS\n") ≡ Some (fault_at 7 3)
-unfolding first_fault parts_at next_line count_line behind number parted_by
+unfolding first_fault parts_at next_line count_line behind number parted_at
 no_budget = refl
 
 pub no_entry : text_fault (codes "JOURNAL 1\nCALLERS 1\nELEMENTS 1\nVOLUMES 1\nLATCHES 1\nQUOTA 1 0\nBUDGET 0\nEVENTS\nEND 0\n") ≡ None
-unfolding first_fault parts_at next_line count_line behind number parted_by
+unfolding first_fault parts_at next_line count_line behind number parted_at
 no_entry = refl

@@ -14,7 +14,7 @@ use Rattle.std.proofs.lemmas.List.{take-append-drop, append-nil, nil_from_length
 use Rattle.std.proofs.lemmas.List.Folds.{length-prefix_len}
 use Rattle.mv_entrytext.specs.Ranges.{highest_u32, highest_u64}
 use Rattle.mv_entrytext.specs.Words.{◌<+>◌}
-use Rattle.mv_entrytext.specs.Reading.{Reader, given, nothing, behind, made, after, parted_by, whole, is_digit, digit_count, is_spelled_well, number, any_u32, any_u64}
+use Rattle.mv_entrytext.specs.Reading.{Reader, given, nothing, behind, made, after, parted_at, parted_by, whole, is_digit, digit_count, is_spelled_well, number, any_u32, any_u64}
 
 -- a reader takes the text of its value from the front, and its values are fine
 abbrev pub Takes : {A : Type 0} → (A → List ℕ) → (A → Type 0) → Reader A → Type 0
@@ -81,29 +81,31 @@ pub bound : {A B : Type 0} (f : A → Option B) (o : Option A) (b : B) → optio
 bound f None b e = absurd cc
 bound f (Some a) b e = (a, refl, e)
 
-space_first : (text rest : List ℕ) → after (codes " ") text ≡ Some rest → text ≡ 32 ∷ rest
-space_first text rest e = go (starts_with eqb text (32 ∷ [])) refl e where
-  go : (b : Bool) → starts_with eqb text (32 ∷ []) ≡ b → cond b (Some (drop 1 text)) None ≡ Some rest → text ≡ 32 ∷ rest
-  go true s h = word_first text (32 ∷ []) s ∙ ap (λ (x : List ℕ). 32 ∷ x) (some_is (drop 1 text) rest h)
+byte_first : (byte : ℕ) (text rest : List ℕ) → after (byte ∷ []) text ≡ Some rest → text ≡ byte ∷ rest
+byte_first byte text rest e = go (starts_with eqb text (byte ∷ [])) refl e where
+  go : (b : Bool) → starts_with eqb text (byte ∷ []) ≡ b → cond b (Some (drop 1 text)) None ≡ Some rest → text ≡ byte ∷ rest
+  go true s h = word_first text (byte ∷ []) s ∙ ap (λ (x : List ℕ). byte ∷ x) (some_is (drop 1 text) rest h)
   go false s h = absurd cc
 
-pub takes_parted : {A B : Type 0} (first : Reader A) (second : A → Reader B) (show : A → List ℕ) (tell : B → List ℕ) (Fine : A → Type 0)
-    (Good : A → B → Type 0)
-    → Takes show Fine first → ((a : A) → Fine a → Takes tell (Good a) (second a))
-    → Takes (λ p. show p.0 <+> tell p.1) (λ p. Fine p.0 × Good p.0 p.1) (parted_by first second)
-unfolding parted_by
-takes_parted {A = A} {B = B} first second show tell Fine Good one two text rest p e =
-    let a =
-    bound (λ x. option_and_then (λ r. option_map {U = (A × B) × List ℕ} (λ y. ((x.0, y.0), y.1)) (second x.0 r))
-    (after (codes " ") x.1)) (first text) (p, rest) e in
+pub takes_parted_at : {A B : Type 0} (byte : ℕ) (first : Reader A) (second : A → Reader B) (show : A → List ℕ) (tell : B → List ℕ) (Fine : A → Type 0) (Good : A → B → Type 0)
+    → Takes show Fine first → ((a : A) → Fine a → Takes tell (Good a) (second a)) → Takes (λ p. show p.0 ++ byte ∷ tell p.1) (λ p. Fine p.0 × Good p.0 p.1) (parted_at byte first second)
+unfolding parted_at
+takes_parted_at {A = A} {B = B} byte first second show tell Fine Good one two text rest p e =
+    let a = bound (λ x. option_and_then (λ r. option_map {U = (A × B) × List ℕ} (λ y. ((x.0, y.0), y.1)) (second x.0 r)) (after (byte ∷ []) x.1)) (first text) (p, rest) e in
     let x = a.0 in
-    let b = bound (λ r. option_map {U = (A × B) × List ℕ} (λ y. ((x.0, y.0), y.1)) (second x.0 r)) (after (codes " ") x.1) (p, rest) a.2 in
+    let b = bound (λ r. option_map {U = (A × B) × List ℕ} (λ y. ((x.0, y.0), y.1)) (second x.0 r)) (after (byte ∷ []) x.1) (p, rest) a.2 in
     let m = mapped (λ y. (x.0, y)) (second x.0 b.0) p rest b.2 in
     let t = one text x.1 x.0 a.1 in
     let u = two x.0 t.1 b.0 rest m.0 m.1 in
-    let gap : x.1 ≡ 32 ∷ (tell m.0 ++ rest) = space_first x.1 b.0 b.1 ∙ ap (λ (y : List ℕ). 32 ∷ y) u.0 in
-    subst (λ q. (text ≡ (show q.0 <+> tell q.1) ++ rest) × (Fine q.0 × Good q.0 q.1)) m.2
-    (t.0 ∙ ap (λ (y : List ℕ). show x.0 ++ y) gap ∙ sym (append_assoc (show x.0) (32 ∷ tell m.0) rest), (t.1, u.1))
+    let gap : x.1 ≡ byte ∷ (tell m.0 ++ rest) = byte_first byte x.1 b.0 b.1 ∙ ap (λ (y : List ℕ). byte ∷ y) u.0 in
+    subst (λ q. (text ≡ (show q.0 ++ byte ∷ tell q.1) ++ rest) × (Fine q.0 × Good q.0 q.1)) m.2
+    (t.0 ∙ ap (λ (y : List ℕ). show x.0 ++ y) gap ∙ sym (append_assoc (show x.0) (byte ∷ tell m.0) rest), (t.1, u.1))
+
+-- with one space between
+pub takes_parted : {A B : Type 0} (first : Reader A) (second : A → Reader B) (show : A → List ℕ) (tell : B → List ℕ) (Fine : A → Type 0)
+    (Good : A → B → Type 0) → Takes show Fine first → ((a : A) → Fine a → Takes tell (Good a) (second a))
+    → Takes (λ p. show p.0 <+> tell p.1) (λ p. Fine p.0 × Good p.0 p.1) (parted_by first second)
+takes_parted first second show tell Fine Good one two = takes_parted_at 32 first second show tell Fine Good one two
 
 pub takes_whole : {A : Type 0} (show : A → List ℕ) (Fine : A → Type 0) (reader : Reader A) → Takes show Fine reader
     → (text : List ℕ) (a : A) → whole reader text ≡ Some a → (text ≡ show a) × Fine a

@@ -1,5 +1,5 @@
 -- A text without fault is the text of the journal that it is read as.
-use Rattle.std.proofs.Common.{◌≡◌, ℕ, ◌+◌, Bool, true, false, cond, eqb, not, ◌||◌, List, [], ◌∷◌, ◌++◌, length, Option, Some, None, refl, sym, ap, subst, ◌∙◌, arith, append_assoc}
+use Rattle.std.proofs.Common.{◌≡◌, ℕ, ◌+◌, ◌≤◌, Bool, true, false, cond, eqb, not, ◌||◌, List, [], ◌∷◌, ◌++◌, length, Option, Some, None, refl, sym, ap, subst, ◌∙◌, arith, append_assoc}
 use Rattle.std.specs.Prelude.{codes, is_some}
 use Rattle.std.specs.List.{flat_map, AllByRecursion}
 use Rattle.std.proofs.lemmas.Bool.{eqb-true, false≢true, and_parts}
@@ -10,11 +10,14 @@ use Rattle.mv_machine.specs.declared.config.CheckRefusal.{CheckRefusal}
 use Rattle.mv_machine.specs.Check.{IsValid, refusal_of}
 use Rattle.mv_machine.specs.Setup.{Setup, SetupExit}
 use Rattle.mv_entrytext.specs.declared.fault.TextFault.{TextFault}
+use Rattle.mv_entrytext.specs.declared.version.Version.{Version}
+use Rattle.mv_entrytext.specs.Ranges.{highest_u32}
 use Rattle.mv_entrytext.specs.Reading.{parts_at}
 use Rattle.mv_entrytext.specs.EntryText.{HasText}
-use Rattle.mv_entrytext.specs.Journal.{Line, Version, Callers, Elements, Volumes, Latches, Quota, Budget, Owner, ExitTo, Events, EntryOf, End, line_text, line, counts_text, lists_text, head_text, journal_text}
-use Rattle.mv_entrytext.specs.Lines.{Stage, AtVersion, AtCallers, AtElements, AtVolumes, AtLatches, AtQuota, AtBudgets, AtOwners, AtExits, AtEntries, AtEnd, line_read, Draft, blank, draft_with}
-use Rattle.mv_entrytext.specs.Fault.{kind_said, kind_of, is_read, is_cut, is_ended, fault_at, fault_or, draft_after, first_fault, text_fault, draft_of, journal_of, HasJournal}
+use Rattle.mv_entrytext.specs.Journal.{Line, JournalOf, Callers, Elements, Volumes, Latches, Quota, Budget, Owner, ExitTo, Events, EntryOf, End, line_text, line, entry_lines, counts_text, lists_text, head_text, text_of}
+use Rattle.mv_entrytext.specs.Lines.{Stage, AtVersion, AtCallers, AtElements, AtVolumes, AtLatches, AtQuota, AtBudgets, AtOwners, AtExits, AtEntries, AtEnd, line_read, Draft, blank, with_call, draft_with}
+use Rattle.mv_entrytext.specs.Fault.{kind_said, kind_of, is_read, is_cut, is_ended, fault_at, fault_or, draft_after, first_fault, text_fault, draft_of, journal_of, HasJournal, AreCallsIn}
+use Rattle.mv_entrytext.proofs.CallNumbers.{IsCallIn, AreEach, calls_from_each, no_numbers, number_more, lines_more}
 use Rattle.mv_entrytext.proofs.Parts.{first_part}
 use Rattle.mv_entrytext.proofs.LinesTaken.{joined, joined_again, MayCome, line_taken}
 
@@ -29,85 +32,104 @@ owners_text ns = flat_map (λ n. line (Owner n)) ns
 abbrev exits_text : List SetupExit → List ℕ
 exits_text xs = flat_map (λ x. line (ExitTo x)) xs
 
-abbrev entries_text : List Entry → List ℕ
-entries_text es = flat_map (λ e. line (EntryOf e)) es
+abbrev entries_text : List Entry → List ℕ → List ℕ
+entries_text es ns = flat_map line (entry_lines es ns)
 
-abbrev up_to_budgets : Setup → List ℕ
-up_to_budgets c =
-    line Version ++ line (Callers c.callers) ++ line (Elements c.elements_per_caller) ++ line (Volumes c.volumes)
-    ++ line (Latches c.latches) ++ line (Quota c.quota c.posted_quota) ++ budgets_text c.budgets
+abbrev up_to_budgets : Version → Setup → List ℕ
+up_to_budgets v c =
+    line (JournalOf v) ++ line (Callers c.callers) ++ line (Elements c.elements_per_caller) ++ line (Volumes c.volumes) ++ line (Latches c.latches)
+    ++ line (Quota c.quota c.posted_quota) ++ budgets_text c.budgets
 
-abbrev up_to_exits : Setup → List ℕ
-up_to_exits c = up_to_budgets c ++ owners_text c.owners ++ exits_text c.exits
+abbrev up_to_exits : Version → Setup → List ℕ
+up_to_exits v c = up_to_budgets v c ++ owners_text c.owners ++ exits_text c.exits
 
-abbrev up_to_entries : Setup → List Entry → List ℕ
-up_to_entries c es = up_to_exits c ++ line Events ++ entries_text es
+abbrev up_to_entries : Version → Setup → List Entry → List ℕ → List ℕ
+up_to_entries v c es ns = up_to_exits v c ++ line Events ++ entries_text es ns
+
+-- no entry so far, and no number
+pub record HasNoEntry (es : List Entry) (ns : List ℕ) : Type 0 where
+  pub entries : es ≡ []
+  pub calls : ns ≡ []
 
 -- the lists of a configuration before the first of their lines
-pub record HasNoList (c : Setup) (es : List Entry) : Type 0 where
+pub record HasNoList (c : Setup) (es : List Entry) (ns : List ℕ) : Type 0 where
   pub budgets : c.budgets ≡ []
   pub owners : c.owners ≡ []
   pub exits : c.exits ≡ []
-  pub entries : es ≡ []
+  pub none : HasNoEntry es ns
 
-pub record AreEntries (front : List ℕ) (c : Setup) (es : List Entry) : Type 0 where
-  pub text : front ≡ up_to_entries c es
+-- what stands before the end of the entries, whose lines are read as those of this version
+pub record AreEntries (read v : Version) (front : List ℕ) (c : Setup) (es : List Entry) (ns : List ℕ) : Type 0 where
+  pub version : read ≡ v
+  pub text : front ≡ up_to_entries v c es ns
   pub valid : IsValid c
   pub each : AllByRecursion HasText es
+  pub calls : AreEach v es ns
+
+-- the whole
+pub record IsWritten (v : Version) (front : List ℕ) (c : Setup) (es : List Entry) (ns : List ℕ) : Type 0 where
+  pub text : front ≡ up_to_entries v c es ns ++ line (End (length es))
+  pub journal : HasJournal c es
+  pub calls : AreCallsIn v es ns
 
 -- the front of the text is that of what was said
-abbrev pub SoFar : Stage → Setup → List Entry → List ℕ → Type 0
-SoFar AtVersion c es front = (front ≡ []) × HasNoList c es
-SoFar AtCallers c es front = (front ≡ line Version) × HasNoList c es
-SoFar AtElements c es front = (front ≡ line Version ++ line (Callers c.callers)) × HasNoList c es
-SoFar AtVolumes c es front = (front ≡ line Version ++ line (Callers c.callers) ++ line (Elements c.elements_per_caller)) × HasNoList c es
-SoFar AtLatches c es front =
-    (front ≡ line Version ++ line (Callers c.callers) ++ line (Elements c.elements_per_caller) ++ line (Volumes c.volumes)) × HasNoList c es
-SoFar AtQuota c es front =
-    (front ≡ line Version ++ line (Callers c.callers) ++ line (Elements c.elements_per_caller) ++ line (Volumes c.volumes)
-    ++ line (Latches c.latches)) × HasNoList c es
-SoFar AtBudgets c es front = (front ≡ up_to_budgets c) × (c.owners ≡ []) × (c.exits ≡ []) × (es ≡ [])
-SoFar AtOwners c es front = (front ≡ up_to_budgets c ++ owners_text c.owners) × (c.exits ≡ []) × (es ≡ [])
-SoFar AtExits c es front = (front ≡ up_to_exits c) × (es ≡ [])
-SoFar AtEntries c es front = AreEntries front c es
-SoFar AtEnd c es front = (front ≡ up_to_entries c es ++ line (End (length es))) × HasJournal c es
+abbrev pub SoFar : Stage → Version → Setup → List Entry → List ℕ → List ℕ → Type 0
+SoFar AtVersion v c es ns front = (front ≡ []) × HasNoList c es ns
+SoFar AtCallers v c es ns front = (front ≡ line (JournalOf v)) × HasNoList c es ns
+SoFar AtElements v c es ns front = (front ≡ line (JournalOf v) ++ line (Callers c.callers)) × HasNoList c es ns
+SoFar AtVolumes v c es ns front = (front ≡ line (JournalOf v) ++ line (Callers c.callers) ++ line (Elements c.elements_per_caller)) × HasNoList c es ns
+SoFar AtLatches v c es ns front =
+    (front ≡ line (JournalOf v) ++ line (Callers c.callers) ++ line (Elements c.elements_per_caller) ++ line (Volumes c.volumes)) × HasNoList c es ns
+SoFar AtQuota v c es ns front =
+    (front ≡ line (JournalOf v) ++ line (Callers c.callers) ++ line (Elements c.elements_per_caller) ++ line (Volumes c.volumes)
+    ++ line (Latches c.latches)) × HasNoList c es ns
+SoFar AtBudgets v c es ns front = (front ≡ up_to_budgets v c) × (c.owners ≡ []) × (c.exits ≡ []) × HasNoEntry es ns
+SoFar AtOwners v c es ns front = (front ≡ up_to_budgets v c ++ owners_text c.owners) × (c.exits ≡ []) × HasNoEntry es ns
+SoFar AtExits v c es ns front = (front ≡ up_to_exits v c) × HasNoEntry es ns
+SoFar (AtEntries read) v c es ns front = AreEntries read v front c es ns
+SoFar AtEnd v c es ns front = IsWritten v front c es ns
 
 -- ---- one line more
 
 -- where no owner was named, the list of owners is empty, and so with exits
-no_owner : (c : Setup) (es : List Entry) (front : List ℕ) → SoFar AtBudgets c es front → SoFar AtOwners c es front
-no_owner c es front h = (h.0 ∙ sym (ap (λ (x : List ℕ). up_to_budgets c ++ owners_text x) h.1 ∙ append-nil (up_to_budgets c)), h.2, h.3)
+no_owner : (v : Version) (c : Setup) (es : List Entry) (ns front : List ℕ) → SoFar AtBudgets v c es ns front → SoFar AtOwners v c es ns front
+no_owner v c es ns front h =
+    (h.0 ∙ sym (ap (λ (x : List ℕ). up_to_budgets v c ++ owners_text x) h.1 ∙ append-nil (up_to_budgets v c)), h.2, h.3)
 
-no_exit : (c : Setup) (es : List Entry) (front : List ℕ) → SoFar AtOwners c es front → SoFar AtExits c es front
-no_exit c es front h = (
-  h.0 ∙ sym (ap (λ (x : List SetupExit). up_to_budgets c ++ owners_text c.owners ++ exits_text x) h.1
-      ∙ append-nil (up_to_budgets c ++ owners_text c.owners)),
+no_exit : (v : Version) (c : Setup) (es : List Entry) (ns front : List ℕ) → SoFar AtOwners v c es ns front → SoFar AtExits v c es ns front
+no_exit v c es ns front h = (
+  h.0 ∙ sym (ap (λ (x : List SetupExit). up_to_budgets v c ++ owners_text c.owners ++ exits_text x) h.1
+      ∙ append-nil (up_to_budgets v c ++ owners_text c.owners)),
   h.2,
 )
 
-then_owner : (c : Setup) (es : List Entry) (front : List ℕ) (n : ℕ) → SoFar AtOwners c es front
-    → SoFar AtOwners (record c { owners = c.owners ++ n ∷ [] }) es (front ++ line (Owner n))
-then_owner c es front n h =
-    (ap (λ (x : List ℕ). x ++ line (Owner n)) h.0 ∙ flat_map_more (λ n. line (Owner n)) (up_to_budgets c) c.owners n, h.1, h.2)
+then_owner : (v : Version) (c : Setup) (es : List Entry) (ns front : List ℕ) (n : ℕ) → SoFar AtOwners v c es ns front
+    → SoFar AtOwners v (record c { owners = c.owners ++ n ∷ [] }) es ns (front ++ line (Owner n))
+then_owner v c es ns front n h =
+    (ap (λ (x : List ℕ). x ++ line (Owner n)) h.0 ∙ flat_map_more (λ n. line (Owner n)) (up_to_budgets v c) c.owners n, h.1, h.2)
 
-then_exit : (c : Setup) (es : List Entry) (front : List ℕ) (x : SetupExit) → SoFar AtExits c es front
-    → SoFar AtExits (record c { exits = c.exits ++ x ∷ [] }) es (front ++ line (ExitTo x))
-then_exit c es front x h = (
+then_exit : (v : Version) (c : Setup) (es : List Entry) (ns front : List ℕ) (x : SetupExit) → SoFar AtExits v c es ns front
+    → SoFar AtExits v (record c { exits = c.exits ++ x ∷ [] }) es ns (front ++ line (ExitTo x))
+then_exit v c es ns front x h = (
   ap (λ (t : List ℕ). t ++ line (ExitTo x)) h.0
-      ∙ flat_map_more (λ x. line (ExitTo x)) (up_to_budgets c ++ owners_text c.owners) c.exits x,
+      ∙ flat_map_more (λ x. line (ExitTo x)) (up_to_budgets v c ++ owners_text c.owners) c.exits x,
   h.1,
 )
 
-then_events : (c : Setup) (es : List Entry) (front : List ℕ) → SoFar AtExits c es front → IsValid c
-    → SoFar AtEntries c es (front ++ line Events)
-then_events c es front h v =
-    let none : entries_text es ≡ [] = ap entries_text h.1 in
+no_lines : (es : List Entry) (ns : List ℕ) → HasNoEntry es ns → entries_text es ns ≡ []
+no_lines es ns h =
+    ap (λ (x : List Entry). entries_text x ns) h.entries ∙ ap (λ (x : List ℕ). entries_text [] x) h.calls
+
+then_events : (v : Version) (c : Setup) (es : List Entry) (ns front : List ℕ) → SoFar AtExits v c es ns front → IsValid c
+    → SoFar (AtEntries v) v c es ns (front ++ line Events)
+then_events v c es ns front h valid =
     record {
-      text =
-          ap (λ (t : List ℕ). t ++ line Events) h.0
-          ∙ sym (ap (λ (x : List ℕ). up_to_exits c ++ line Events ++ x) none ∙ append-nil (up_to_exits c ++ line Events));
-      valid = v;
-      each = subst (λ x. AllByRecursion HasText x) (sym h.1) tt;
+      version = refl;
+      text = ap (λ (t : List ℕ). t ++ line Events) h.0
+          ∙ sym (ap (λ (x : List ℕ). up_to_exits v c ++ line Events ++ x) (no_lines es ns h.1) ∙ append-nil (up_to_exits v c ++ line Events));
+      valid = valid;
+      each = subst (λ x. AllByRecursion HasText x) (sym h.1.entries) tt;
+      calls = no_numbers v es ns h.1.entries h.1.calls;
     }
 
 no_refusal : (o : Option CheckRefusal) → cond {A = Option ℕ} (is_some o) (Some 3) None ≡ None → o ≡ None
@@ -127,50 +149,68 @@ right_count a b e = go (eqb a b) refl e where
 plus : (front : List ℕ) (l : Line) (before : List ℕ) → front ≡ before → front ++ line l ≡ before ++ line l
 plus front l before e = ap (λ (x : List ℕ). x ++ line l) e
 
-one_line : (s : Stage) (c : Setup) (es : List Entry) (front : List ℕ) (l : Line) → SoFar s c es front → MayCome s l
-    → kind_said (record { stage = s; setup = c; entries = es }) (Some l) ≡ None
-    → let next = draft_with l (record { stage = s; setup = c; entries = es }) in SoFar next.stage next.setup next.entries (front ++ line l)
-one_line AtVersion c es front Version h m k = (plus front Version [] h.0, h.1)
-one_line AtCallers c es front (Callers n) h m k =
-    (plus front (Callers n) _ h.0, record { budgets = h.1.budgets; owners = h.1.owners; exits = h.1.exits; entries = h.1.entries })
-one_line AtElements c es front (Elements n) h m k =
-    (plus front (Elements n) _ h.0, record { budgets = h.1.budgets; owners = h.1.owners; exits = h.1.exits; entries = h.1.entries })
-one_line AtVolumes c es front (Volumes n) h m k =
-    (plus front (Volumes n) _ h.0, record { budgets = h.1.budgets; owners = h.1.owners; exits = h.1.exits; entries = h.1.entries })
-one_line AtLatches c es front (Latches n) h m k =
-    (plus front (Latches n) _ h.0, record { budgets = h.1.budgets; owners = h.1.owners; exits = h.1.exits; entries = h.1.entries })
-one_line AtQuota c es front (Quota q p) h m k = (
-  plus front (Quota q p) _ h.0 ∙ sym
-      (ap (λ (x : List ℕ). line Version ++ line (Callers c.callers) ++ line (Elements c.elements_per_caller) ++ line (Volumes c.volumes)
-      ++ line (Latches c.latches) ++ line (Quota q p) ++ budgets_text x) h.1.budgets ∙ append-nil _),
+-- an entry's line stands behind the others
+then_entry : (read v : Version) (c : Setup) (es : List Entry) (ns front : List ℕ) (call : Option ℕ) (e : Entry)
+    → AreEntries read v front c es ns → HasText e → IsCallIn read call
+    → AreEntries v v (front ++ line (EntryOf call e)) c (es ++ e ∷ []) (with_call call ns)
+then_entry read v c es ns front call e h t m =
+    let mine : IsCallIn v call = subst (λ w. IsCallIn w call) h.version m in
+    record {
+      version = refl;
+      text = plus front (EntryOf call e) (up_to_entries v c es ns) h.text
+          ∙ flat_map_more line (up_to_exits v c ++ line Events) (entry_lines es ns) (EntryOf call e)
+          ∙ ap (λ (ls : List Line). up_to_exits v c ++ line Events ++ flat_map line ls) (sym (lines_more v es ns call e h.calls mine));
+      valid = h.valid;
+      each = all_more HasText es e h.each t;
+      calls = number_more v es ns call e h.calls mine;
+    }
+
+-- the last line
+then_end : (read v : Version) (c : Setup) (es : List Entry) (ns front : List ℕ) (n : ℕ) → AreEntries read v front c es ns → length es ≡ n
+    → n ≤ highest_u32 → IsWritten v (front ++ line (End n)) c es ns
+then_end read v c es ns front n h count m =
+    record {
+      text = plus front (End n) (up_to_entries v c es ns) h.text ∙ ap (λ (x : ℕ). up_to_entries v c es ns ++ line (End x)) (sym count);
+      journal = record { valid = h.valid; each = All-from_recursion HasText es h.each; count = omega arith };
+      calls = calls_from_each v es ns h.calls;
+    }
+
+-- the next line of the counts
+same_lists : (c d : Setup) (es : List Entry) (ns : List ℕ) → HasNoList c es ns → d.budgets ≡ c.budgets → d.owners ≡ c.owners → d.exits ≡ c.exits
+    → HasNoList d es ns
+same_lists c d es ns h b o x = record { budgets = b ∙ h.budgets; owners = o ∙ h.owners; exits = x ∙ h.exits; none = h.none }
+
+one_line : (s : Stage) (v : Version) (c : Setup) (es : List Entry) (ns front : List ℕ) (l : Line) → SoFar s v c es ns front → MayCome s l
+    → kind_said (record { stage = s; version = v; setup = c; entries = es; calls = ns }) (Some l) ≡ None
+    → let next = draft_with l (record { stage = s; version = v; setup = c; entries = es; calls = ns }) in
+    SoFar next.stage next.version next.setup next.entries next.calls (front ++ line l)
+one_line AtVersion v c es ns front (JournalOf w) h m k = (plus front (JournalOf w) [] h.0, h.1)
+one_line AtCallers v c es ns front (Callers n) h m k = (plus front (Callers n) _ h.0, same_lists c (record c { callers = n }) es ns h.1 refl refl refl)
+one_line AtElements v c es ns front (Elements n) h m k =
+    (plus front (Elements n) _ h.0, same_lists c (record c { elements_per_caller = n }) es ns h.1 refl refl refl)
+one_line AtVolumes v c es ns front (Volumes n) h m k = (plus front (Volumes n) _ h.0, same_lists c (record c { volumes = n }) es ns h.1 refl refl refl)
+one_line AtLatches v c es ns front (Latches n) h m k = (plus front (Latches n) _ h.0, same_lists c (record c { latches = n }) es ns h.1 refl refl refl)
+one_line AtQuota v c es ns front (Quota q p) h m k = (
+  plus front (Quota q p) _ h.0 ∙ sym (ap (λ (x : List ℕ). line (JournalOf v) ++ line (Callers c.callers) ++ line (Elements c.elements_per_caller)
+      ++ line (Volumes c.volumes) ++ line (Latches c.latches) ++ line (Quota q p) ++ budgets_text x) h.1.budgets ∙ append-nil _),
   h.1.owners,
   h.1.exits,
-  h.1.entries,
+  h.1.none,
 )
-one_line AtBudgets c es front (Budget n) h m k =
+one_line AtBudgets v c es ns front (Budget n) h m k =
     (plus front (Budget n) _ h.0 ∙ flat_map_more (λ n. line (Budget n)) _ c.budgets n, h.1, h.2, h.3)
-one_line AtBudgets c es front (Owner n) h m k = then_owner c es front n (no_owner c es front h)
-one_line AtBudgets c es front (ExitTo x) h m k = then_exit c es front x (no_exit c es front (no_owner c es front h))
-one_line AtBudgets c es front Events h m k =
-    then_events c es front (no_exit c es front (no_owner c es front h)) (no_refusal (refusal_of c) k)
-one_line AtOwners c es front (Owner n) h m k = then_owner c es front n h
-one_line AtOwners c es front (ExitTo x) h m k = then_exit c es front x (no_exit c es front h)
-one_line AtOwners c es front Events h m k = then_events c es front (no_exit c es front h) (no_refusal (refusal_of c) k)
-one_line AtExits c es front (ExitTo x) h m k = then_exit c es front x h
-one_line AtExits c es front Events h m k = then_events c es front h (no_refusal (refusal_of c) k)
-one_line AtEntries c es front (EntryOf e) h m k =
-    record {
-      text = plus front (EntryOf e) _ h.text
-          ∙ flat_map_more (λ e. line (EntryOf e)) (up_to_exits c ++ line Events) es e;
-      valid = h.valid;
-      each = all_more HasText es e h.each m;
-    }
-one_line AtEntries c es front (End n) h m k =
-    let count = right_count (length es) n k in (
-      plus front (End n) _ h.text ∙ ap (λ (x : ℕ). up_to_entries c es ++ line (End x)) (sym count),
-      record { valid = h.valid; each = All-from_recursion HasText es h.each; count = omega arith },
-    )
-one_line s c es front l h m k = absurd m
+one_line AtBudgets v c es ns front (Owner n) h m k = then_owner v c es ns front n (no_owner v c es ns front h)
+one_line AtBudgets v c es ns front (ExitTo x) h m k = then_exit v c es ns front x (no_exit v c es ns front (no_owner v c es ns front h))
+one_line AtBudgets v c es ns front Events h m k =
+    then_events v c es ns front (no_exit v c es ns front (no_owner v c es ns front h)) (no_refusal (refusal_of c) k)
+one_line AtOwners v c es ns front (Owner n) h m k = then_owner v c es ns front n h
+one_line AtOwners v c es ns front (ExitTo x) h m k = then_exit v c es ns front x (no_exit v c es ns front h)
+one_line AtOwners v c es ns front Events h m k = then_events v c es ns front (no_exit v c es ns front h) (no_refusal (refusal_of c) k)
+one_line AtExits v c es ns front (ExitTo x) h m k = then_exit v c es ns front x h
+one_line AtExits v c es ns front Events h m k = then_events v c es ns front h (no_refusal (refusal_of c) k)
+one_line (AtEntries read) v c es ns front (EntryOf call e) h m k = then_entry read v c es ns front call e h m.0 m.1
+one_line (AtEntries read) v c es ns front (End n) h m k = then_end read v c es ns front n h (right_count (length es) n k) m
+one_line s v c es ns front l h m k = absurd m
 
 -- ---- all lines
 
@@ -224,7 +264,7 @@ is_over number d last e =
     record { stage = end_only d.stage both.0; nothing = nil_from_length last (eqb-true (length last) 0 both.1) }
 
 abbrev SoFarD : Draft → List ℕ → Type 0
-SoFarD d front = SoFar d.stage d.setup d.entries front
+SoFarD d front = SoFar d.stage d.version d.setup d.entries d.calls front
 
 pub record IsRead (d : Draft) (text : List ℕ) : Type 0 where
   pub stage : d.stage ≡ AtEnd
@@ -251,9 +291,8 @@ lines_read text (next ∷ more) number d front e h =
     let f = first_none number (kind_of d text) (first_fault (number + 1) (draft_after d (line_read true d.stage text)) (next ∷ more)) e in
     let s = is_said d text f.0 in
     let t = line_taken d.stage text s.said s.read in
-    let one = one_line d.stage d.setup d.entries front s.said h t.1 s.fine in
-    let rest : first_fault (number + 1) (draft_with s.said d) (next ∷ more) ≡ None =
-    sym (ap (λ (o : Option Line). first_fault (number + 1) (draft_after d o) (next ∷ more)) s.read) ∙ f.1 in
+    let one = one_line d.stage d.version d.setup d.entries d.calls front s.said h t.1 s.fine in
+    let rest : first_fault (number + 1) (draft_with s.said d) (next ∷ more) ≡ None = sym (ap (λ (o : Option Line). first_fault (number + 1) (draft_after d o) (next ∷ more)) s.read) ∙ f.1 in
     let ih = lines_read next more (number + 1) (draft_with s.said d) (front ++ line s.said) rest one in
     let text_is : front ++ joined 10 (text ∷ next ∷ more) ≡ (front ++ line s.said) ++ joined 10 (next ∷ more) =
     front_more front text (joined 10 (next ∷ more)) ∙ ap (λ (x : List ℕ). (front ++ (x ++ codes "\n")) ++ joined 10 (next ∷ more)) t.0
@@ -261,19 +300,27 @@ lines_read text (next ∷ more) number d front e h =
     subst (λ (o : Option Line). IsRead (draft_of (draft_after d o) (next ∷ more)) (front ++ joined 10 (text ∷ next ∷ more))) (sym s.read)
     (subst (λ (x : List ℕ). IsRead (draft_of (draft_with s.said d) (next ∷ more)) x) (sym text_is) ih)
 
-all_lines : (c : Setup) (es : List Entry) → up_to_entries c es ++ line (End (length es)) ≡ journal_text c es
-unfolding journal_text head_text counts_text lists_text
-all_lines c es = simp append_assoc
+all_lines : (v : Version) (c : Setup) (es : List Entry) (ns : List ℕ) → up_to_entries v c es ns ++ line (End (length es)) ≡ text_of v c es ns
+unfolding text_of head_text counts_text lists_text
+all_lines v c es ns = simp append_assoc
+
+-- the bytes are the text of what was said
+pub record IsTextOf (bytes : List ℕ) (d : Draft) : Type 0 where
+  pub text : bytes ≡ text_of d.version d.setup d.entries d.calls
+  pub journal : HasJournal d.setup d.entries
+  pub calls : AreCallsIn d.version d.entries d.calls
 
 -- a text without fault is the text of what it is read as
-pub is_read_whole : (bytes : List ℕ) → text_fault bytes ≡ None → let d =
-    journal_of bytes in (bytes ≡ journal_text d.setup d.entries) × HasJournal d.setup d.entries
+pub is_read_whole : (bytes : List ℕ) → text_fault bytes ≡ None → IsTextOf bytes (journal_of bytes)
 is_read_whole bytes e =
     let f = first_part 10 bytes in
-    let ih =
-    lines_read f.0 f.1 1 blank [] (sym (ap (first_fault 1 blank) f.2) ∙ e)
-    (refl, record { budgets = refl; owners = refl; exits = refl; entries = refl }) in
+    let ih = lines_read f.0 f.1 1 blank [] (sym (ap (first_fault 1 blank) f.2) ∙ e)
+    (refl, record { budgets = refl; owners = refl; exits = refl; none = record { entries = refl; calls = refl } }) in
     let all = subst (λ (x : List (List ℕ)). IsRead (draft_of blank x) (joined 10 x)) (sym f.2) ih in
     let d = journal_of bytes in
-    let last = subst (λ (s : Stage). SoFar s d.setup d.entries (joined 10 (parts_at 10 bytes))) all.stage all.so_far in
-    (sym (joined_again 10 bytes) ∙ last.0 ∙ all_lines d.setup d.entries, last.1)
+    let last = subst (λ (s : Stage). SoFar s d.version d.setup d.entries d.calls (joined 10 (parts_at 10 bytes))) all.stage all.so_far in
+    record {
+      text = sym (joined_again 10 bytes) ∙ last.text ∙ all_lines d.version d.setup d.entries d.calls;
+      journal = last.journal;
+      calls = last.calls;
+    }

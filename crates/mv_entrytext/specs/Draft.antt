@@ -10,6 +10,7 @@ use Rattle.mv_entrytext.specs.declared.fault.TextRefusal.TheVariants as refusal
 use Rattle.mv_entrytext.specs.declared.head.LineRefusal.{LineRefusal}
 use Rattle.mv_entrytext.specs.declared.head.LineRefusal.TheVariants.{Kind, NoMemory}
 use Rattle.mv_entrytext.specs.declared.head.HeadDraft.{HeadDraft}
+use Rattle.mv_entrytext.specs.declared.version.Version.{Version}
 use Rattle.mv_entrytext.specs.Reading.{parts_at}
 use Rattle.mv_entrytext.specs.Lines.{Stage, AtVersion, AtCallers, AtElements, AtVolumes, AtLatches, AtQuota, AtBudgets, AtOwners, AtExits, AtEntries, AtEnd, Draft, line_read}
 use Rattle.mv_entrytext.specs.Fault.{fault_at, first_fault, text_fault, draft_of, journal_of}
@@ -37,12 +38,13 @@ abbrev pub kind_of_config : Setup → Option ℕ
 kind_of_config c = if is_some (refusal_of c) then Some 3 else None
 
 -- what has been said where this line comes next
-abbrev pub draft_at : Stage → Setup → List Entry → Draft
-draft_at stage setup entries = record { stage = stage; setup = setup; entries = entries }
+abbrev pub draft_at : Stage → Version → Setup → List Entry → List ℕ → Draft
+draft_at stage version setup entries calls =
+    record { stage = stage; version = version; setup = setup; entries = entries; calls = calls }
 
 -- what the lines of the head have said so far
 abbrev pub head_seen : HeadDraft → Draft
-head_seen d = draft_at (stage_of d.stage) (setup_of d.config) []
+head_seen d = draft_at (stage_of d.stage) d.version (setup_of d.config) [] []
 
 -- the number of the first line at a stage, but for the lines of the lists
 abbrev pub first_line_at : Stage → ℕ
@@ -55,7 +57,7 @@ first_line_at AtQuota = 6
 first_line_at AtBudgets = 7
 first_line_at AtOwners = 7
 first_line_at AtExits = 7
-first_line_at AtEntries = 8
+first_line_at (AtEntries version) = 8
 first_line_at AtEnd = 9
 
 -- the number of the line behind those that have said this

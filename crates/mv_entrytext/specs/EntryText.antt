@@ -1,5 +1,5 @@
 -- Entries: their text, which of them have one, and how it is read.
-use Rattle.std.specs.Prelude.{ℕ, ◌≤◌, Bool, List, ◌++◌, codes, decimal}
+use Rattle.std.specs.Prelude.{ℕ, ◌≤◌, Bool, List, ◌++◌, Option, Some, None, codes, decimal}
 use Rattle.mv_machine.specs.declared.entry.Object.{Object}
 use Rattle.mv_machine.specs.declared.entry.Object.TheVariants.{Ecb, Element, Volume, Latches}
 use Rattle.mv_machine.specs.declared.entry.Op.{Op}
@@ -7,9 +7,12 @@ use Rattle.mv_machine.specs.declared.entry.Op.TheVariants as op_on
 use Rattle.mv_machine.specs.declared.entry.Reply.{Reply}
 use Rattle.mv_machine.specs.declared.entry.Reply.TheVariants as reply_of
 use Rattle.mv_machine.specs.declared.entry.Entry.{Entry}
-use Rattle.mv_entrytext.specs.Ranges.{highest_u32, highest_place}
+use Rattle.mv_machine.specs.Limits.{highest_place}
+use Rattle.mv_entrytext.specs.Ranges.{highest_u32}
 use Rattle.mv_entrytext.specs.Words.{◌<+>◌}
-use Rattle.mv_entrytext.specs.Reading.{Reader, given, nothing, behind, made, parted, parted_by, number, any_u32}
+use Rattle.mv_entrytext.specs.Reading.{Reader, given, nothing, behind, made, parted, parted_by, parted_at, number, any_u32}
+use Rattle.mv_entrytext.specs.declared.version.Version.{Version}
+use Rattle.mv_entrytext.specs.declared.version.Version.TheVariants.{One, Two}
 use Rattle.mv_entrytext.specs.EcbText.{ecb_op_text, ecb_reply_text, IsEcbOpInRange, IsEcbReplyInRange, IsEcbReplyTyped, ecb_op, ecb_reply}
 use Rattle.mv_entrytext.specs.ElementText.{element_op_text, element_reply_text, IsElementOpInRange, IsElementReplyInRange, IsElementOpTyped, element_op, element_reply}
 use Rattle.mv_entrytext.specs.VolumeText.{volume_op_text, volume_reply_text, IsVolumeOpTyped, IsVolumeReplyTyped, volume_op, volume_reply}
@@ -38,10 +41,14 @@ reply_text (reply_of.Element reply) = element_reply_text reply
 reply_text (reply_of.Volume reply) = volume_reply_text reply
 reply_text (reply_of.Latch reply) = latch_reply_text reply
 
--- the line of an entry without its LF
-unfoldable pub entry_text : Entry → List ℕ
-entry_text e =
-    decimal e.caller <+> object_text e.object <+> decimal e.place <+> op_text e.op <+> codes "=" <+> reply_text e.reply
+-- a caller, and where it is given behind a point the number of its call
+abbrev pub caller_text : ℕ → Option ℕ → List ℕ
+caller_text caller None = decimal caller
+caller_text caller (Some call) = decimal caller ++ (codes "." ++ decimal call)
+
+unfoldable pub entry_text : Option ℕ → Entry → List ℕ
+entry_text call e =
+    caller_text e.caller call <+> object_text e.object <+> decimal e.place <+> op_text e.op <+> codes "=" <+> reply_text e.reply
 
 -- ---- which entries have a text
 
@@ -124,7 +131,13 @@ entry_on strict caller (Volume n) =
 entry_on strict caller Latches =
     made (λ x. entry_of caller Latches x.0 (op_on.Latch x.1.0) (reply_of.Latch x.1.1)) (event strict (latch_op strict) (latch_reply strict))
 
--- an entry, read
-unfoldable pub entry_read : Bool → Reader Entry
-entry_read strict =
-    made (λ x. x.1) (parted_by (parted (any_u32 strict) (object_read strict)) (λ front. entry_on strict front.0 front.1))
+-- a caller alone in version 1, and with the number of its call in version 2
+unfoldable pub caller_read : Bool → Version → Reader (ℕ × Option ℕ)
+caller_read strict One = made (λ caller. (caller, None)) (any_u32 strict)
+caller_read strict Two = made (λ x. (x.0, Some x.1)) (parted_at 46 (any_u32 strict) (λ caller. any_u32 strict))
+
+-- an entry with the number of its call, if there is one
+unfoldable pub entry_read : Bool → Version → Reader (Option ℕ × Entry)
+entry_read strict version =
+    made (λ x. (x.0.0.1, x.1))
+    (parted_by (parted (caller_read strict version) (object_read strict)) (λ front. entry_on strict front.0.0 front.1))

@@ -6,10 +6,12 @@ use Rattle.mv_machine.specs.Setup.{Setup}
 use Rattle.mv_entrytext.specs.declared.fault.TextFault.{TextFault}
 use Rattle.mv_entrytext.specs.declared.fault.TextRefusal.{TextRefusal}
 use Rattle.mv_entrytext.specs.declared.fault.TextRefusal.TheVariants.{Fault, NoMemory}
+use Rattle.mv_entrytext.specs.declared.version.Version.{Version}
+use Rattle.mv_entrytext.specs.declared.version.Version.TheVariants.{One, Two}
 use Rattle.mv_entrytext.specs.Ranges.{highest_u32}
 use Rattle.mv_entrytext.specs.Reading.{parts_at}
 use Rattle.mv_entrytext.specs.EntryText.{HasText}
-use Rattle.mv_entrytext.specs.Journal.{Line, Events, End}
+use Rattle.mv_entrytext.specs.Journal.{Line, Events, End, number_of, text_of}
 use Rattle.mv_entrytext.specs.Lines.{Draft, Stage, AtEnd, line_read, blank, draft_with}
 
 -- ---- faults of a line behind the lines so far
@@ -98,7 +100,7 @@ draft_of d [] = d
 draft_of d (last ∷ []) = d
 draft_of d (line ∷ more ∷ lines) = draft_of (draft_after d (line_read true d.stage line)) (more ∷ lines)
 
--- the configuration and the entries of a text without fault
+-- the version, the configuration, the entries and their call numbers of a text without fault
 abbrev pub journal_of : List ℕ → Draft
 journal_of bytes = draft_of blank (parts_at 10 bytes)
 
@@ -109,3 +111,22 @@ pub record HasJournal (c : Setup) (entries : List Entry) : Type 0 where
   pub valid : IsValid c
   pub each : All HasText entries
   pub count : length entries ≤ highest_u32
+
+-- ---- and which numbers
+
+-- a number for each entry, of four bytes
+pub record AreCallNumbers (entries : List Entry) (calls : List ℕ) : Type 0 where
+  pub one_each : length calls ≡ length entries
+  pub each : All (λ n. n ≤ highest_u32) calls
+
+-- in version 2; in version 1 there are none
+abbrev pub AreCallsIn : Version → List Entry → List ℕ → Type 0
+AreCallsIn One entries calls = calls ≡ []
+AreCallsIn Two entries calls = AreCallNumbers entries calls
+
+-- the bytes are the text of these in the version of this number
+pub record IsTextIn (told : ℕ) (bytes : List ℕ) (c : Setup) (entries : List Entry) (numbers : List ℕ) : Type 0 where
+  pub version : Version
+  pub number : told ≡ number_of version
+  pub calls : AreCallsIn version entries numbers
+  pub text : bytes ≡ text_of version c entries numbers

@@ -1,14 +1,23 @@
--- The text of a journal: the lines of its head, a line for each entry, and the last line.
-use Rattle.std.specs.Prelude.{ℕ, List, ◌++◌, length, codes, decimal}
+-- The text of a journal: the lines of its head, a line for each entry, and the last line. In version 2 an entry's line has
+-- the number of the call that the entry belongs to.
+use Rattle.std.specs.Prelude.{ℕ, List, [], ◌∷◌, ◌++◌, length, Option, Some, None, codes, decimal}
 use Rattle.std.specs.List.{flat_map}
 use Rattle.mv_machine.specs.declared.entry.Entry.{Entry}
 use Rattle.mv_machine.specs.Setup.{Setup, SetupExit}
+use Rattle.mv_calls.specs.Numbers.{calls}
+use Rattle.mv_entrytext.specs.declared.version.Version.{Version}
+use Rattle.mv_entrytext.specs.declared.version.Version.TheVariants.{One, Two}
 use Rattle.mv_entrytext.specs.Words.{◌<+>◌}
 use Rattle.mv_entrytext.specs.EntryText.{entry_text}
 
+-- the number of a version
+abbrev pub number_of : Version → ℕ
+number_of One = 1
+number_of Two = 2
+
 -- what a line says
 pub data Line : Type 0 where
-  Version : Line
+  JournalOf : (version : Version) → Line
   Callers : (n : ℕ) → Line
   Elements : (n : ℕ) → Line
   Volumes : (n : ℕ) → Line
@@ -18,12 +27,13 @@ pub data Line : Type 0 where
   Owner : (caller : ℕ) → Line
   ExitTo : (x : SetupExit) → Line
   Events : Line
-  EntryOf : (e : Entry) → Line
+  EntryOf : (call : Option ℕ) (e : Entry) → Line
   End : (n : ℕ) → Line
 
 -- a line's text without its LF
 abbrev pub line_text : Line → List ℕ
-line_text Version = codes "JOURNAL 1"
+line_text (JournalOf One) = codes "JOURNAL 1"
+line_text (JournalOf Two) = codes "JOURNAL 2"
 line_text (Callers n) = codes "CALLERS" <+> decimal n
 line_text (Elements n) = codes "ELEMENTS" <+> decimal n
 line_text (Volumes n) = codes "VOLUMES" <+> decimal n
@@ -33,17 +43,17 @@ line_text (Budget n) = codes "BUDGET" <+> decimal n
 line_text (Owner caller) = codes "ECB" <+> decimal caller
 line_text (ExitTo x) = codes "EXIT" <+> decimal x.source ++ flat_map (λ target. codes " " ++ decimal target) x.targets
 line_text Events = codes "EVENTS"
-line_text (EntryOf e) = entry_text e
+line_text (EntryOf call e) = entry_text call e
 line_text (End n) = codes "END" <+> decimal n
 
 -- a line with its LF
 unfoldable pub line : Line → List ℕ
 line l = line_text l ++ codes "\n"
 
--- how many there are of what
-unfoldable pub counts_text : Setup → List ℕ
-counts_text c =
-    line Version ++ line (Callers c.callers) ++ line (Elements c.elements_per_caller) ++ line (Volumes c.volumes)
+-- the version, and how many there are of what
+unfoldable pub counts_text : Version → Setup → List ℕ
+counts_text version c =
+    line (JournalOf version) ++ line (Callers c.callers) ++ line (Elements c.elements_per_caller) ++ line (Volumes c.volumes)
     ++ line (Latches c.latches) ++ line (Quota c.quota c.posted_quota)
 
 -- each caller's budget, each event control block's owner, each exit
@@ -53,10 +63,31 @@ lists_text c =
     ++ flat_map (λ n. line (Owner n)) c.owners
     ++ flat_map (λ x. line (ExitTo x)) c.exits
 
--- the head: what there is, and the line that the events follow
-unfoldable pub head_text : Setup → List ℕ
-head_text c = counts_text c ++ lists_text c ++ line Events
+-- the head: the version, what there is, and the line that the events follow
+unfoldable pub head_text : Version → Setup → List ℕ
+head_text version c = counts_text version c ++ lists_text c ++ line Events
+
+-- the lines of entries, each with the number of its call, so far as there are numbers
+abbrev pub entry_lines : List Entry → List ℕ → List Line
+entry_lines [] calls = []
+entry_lines (e ∷ es) [] = EntryOf None e ∷ entry_lines es []
+entry_lines (e ∷ es) (call ∷ calls) = EntryOf (Some call) e ∷ entry_lines es calls
 
 -- the head, a line for each entry, and the end
-unfoldable pub journal_text : Setup → List Entry → List ℕ
-journal_text c entries = head_text c ++ flat_map (λ e. line (EntryOf e)) entries ++ line (End (length entries))
+unfoldable pub text_of : Version → Setup → List Entry → List ℕ → List ℕ
+text_of version c entries calls =
+    head_text version c ++ flat_map line (entry_lines entries calls) ++ line (End (length entries))
+
+-- ---- the texts of a configuration and entries
+
+-- in version 1, without call numbers
+abbrev pub text1 : Setup → List Entry → List ℕ
+text1 c entries = text_of One c entries []
+
+-- in version 2, with these call numbers
+abbrev pub text2 : Setup → List Entry → List ℕ → List ℕ
+text2 c entries numbers = text_of Two c entries numbers
+
+-- the text that is written: version 2 with the machine's call numbers
+abbrev pub journal_text : Setup → List Entry → List ℕ
+journal_text c entries = text2 c entries (calls c entries)

@@ -2,8 +2,10 @@
 use Rattle.std.specs.Prelude.{ℕ, Bool, List, [], ◌∷◌, ◌++◌, codes, Option, Some, None, option_map, option_and_then}
 use Rattle.mv_machine.specs.declared.entry.Entry.{Entry}
 use Rattle.mv_machine.specs.Setup.{Setup, SetupExit}
+use Rattle.mv_entrytext.specs.declared.version.Version.{Version}
+use Rattle.mv_entrytext.specs.declared.version.Version.TheVariants.{One, Two}
 use Rattle.mv_entrytext.specs.EntryText.{entry_read}
-use Rattle.mv_entrytext.specs.Journal.{Line, Version, Callers, Elements, Volumes, Latches, Quota, Budget, Owner, ExitTo, Events, EntryOf, End}
+use Rattle.mv_entrytext.specs.Journal.{Line, JournalOf, Callers, Elements, Volumes, Latches, Quota, Budget, Owner, ExitTo, Events, EntryOf, End}
 use Rattle.mv_entrytext.specs.Reading.{Reader, given, nothing, behind, made, parted, whole, parts_at, any_u32}
 
 -- which line comes next
@@ -17,7 +19,7 @@ pub data Stage : Type 0 where
   AtBudgets : Stage
   AtOwners : Stage
   AtExits : Stage
-  AtEntries : Stage
+  AtEntries : (version : Version) → Stage
   AtEnd : Stage
 
 -- the numbers of fields, each a number to its end
@@ -48,7 +50,8 @@ at_owners strict = behind (codes "ECB ") (made (λ n. Owner n) (any_u32 strict))
 
 -- the lines of the counts, each of which has its place
 unfoldable pub count_line : Bool → Stage → Reader Line
-count_line strict AtVersion = behind (codes "JOURNAL 1") (given Version) nothing
+count_line strict AtVersion =
+    behind (codes "JOURNAL 1") (given (JournalOf One)) (behind (codes "JOURNAL 2") (given (JournalOf Two)) nothing)
 count_line strict AtCallers = behind (codes "CALLERS ") (made (λ n. Callers n) (any_u32 strict)) nothing
 count_line strict AtElements = behind (codes "ELEMENTS ") (made (λ n. Elements n) (any_u32 strict)) nothing
 count_line strict AtVolumes = behind (codes "VOLUMES ") (made (λ n. Volumes n) (any_u32 strict)) nothing
@@ -61,8 +64,8 @@ unfoldable pub next_line : Bool → Stage → Reader Line
 next_line strict AtBudgets = behind (codes "BUDGET ") (made (λ n. Budget n) (any_u32 strict)) (at_owners strict)
 next_line strict AtOwners = at_owners strict
 next_line strict AtExits = at_exits strict
-next_line strict AtEntries =
-    behind (codes "END ") (made (λ n. End n) (any_u32 strict)) (made (λ e. EntryOf e) (entry_read strict))
+next_line strict (AtEntries version) =
+    behind (codes "END ") (made (λ n. End n) (any_u32 strict)) (made (λ x. EntryOf x.0 x.1) (entry_read strict version))
 next_line strict s = count_line strict s
 
 -- a line without its LF, read to its end
@@ -74,13 +77,16 @@ line_read strict stage text = whole (next_line strict stage) text
 -- which line comes next, the configuration so far, and the entries so far
 pub record Draft : Type 0 where
   pub stage : Stage
+  pub version : Version
   pub setup : Setup
   pub entries : List Entry
+  pub calls : List ℕ
 
--- before the first line
+-- before the first line, which tells the version
 abbrev pub blank : Draft
 blank = record {
   stage = AtVersion;
+  version = One;
   setup = record {
     callers = 0;
     elements_per_caller = 0;
@@ -93,22 +99,28 @@ blank = record {
     exits = [];
   };
   entries = [];
+  calls = [];
 }
 
--- which line comes next behind this one
-abbrev pub stage_behind : Line → Stage
-stage_behind Version = AtCallers
-stage_behind (Callers n) = AtElements
-stage_behind (Elements n) = AtVolumes
-stage_behind (Volumes n) = AtLatches
-stage_behind (Latches n) = AtQuota
-stage_behind (Quota quota posted) = AtBudgets
-stage_behind (Budget n) = AtBudgets
-stage_behind (Owner caller) = AtOwners
-stage_behind (ExitTo x) = AtExits
-stage_behind Events = AtEntries
-stage_behind (EntryOf e) = AtEntries
-stage_behind (End n) = AtEnd
+-- the version that a line tells, or else the one from before
+abbrev pub version_with : Line → Version → Version
+version_with (JournalOf version) v = version
+version_with _ v = v
+
+-- which line comes next behind this one, in a text of this version
+abbrev pub stage_behind : Line → Version → Stage
+stage_behind (JournalOf version) v = AtCallers
+stage_behind (Callers n) v = AtElements
+stage_behind (Elements n) v = AtVolumes
+stage_behind (Volumes n) v = AtLatches
+stage_behind (Latches n) v = AtQuota
+stage_behind (Quota quota posted) v = AtBudgets
+stage_behind (Budget n) v = AtBudgets
+stage_behind (Owner caller) v = AtOwners
+stage_behind (ExitTo x) v = AtExits
+stage_behind Events v = AtEntries v
+stage_behind (EntryOf call e) v = AtEntries v
+stage_behind (End n) v = AtEnd
 
 -- what a line adds to the configuration
 abbrev pub setup_with : Line → Setup → Setup
@@ -124,9 +136,23 @@ setup_with _ c = c
 
 -- and to the entries
 abbrev pub entries_with : Line → List Entry → List Entry
-entries_with (EntryOf e) es = es ++ e ∷ []
+entries_with (EntryOf call e) es = es ++ e ∷ []
 entries_with _ es = es
 
--- what the lines have said with one line more
+-- and to their call numbers
+abbrev pub with_call : Option ℕ → List ℕ → List ℕ
+with_call None calls = calls
+with_call (Some call) calls = calls ++ call ∷ []
+
+abbrev pub calls_with : Line → List ℕ → List ℕ
+calls_with (EntryOf call e) calls = with_call call calls
+calls_with _ calls = calls
+
 abbrev pub draft_with : Line → Draft → Draft
-draft_with l d = record { stage = stage_behind l; setup = setup_with l d.setup; entries = entries_with l d.entries }
+draft_with l d = record {
+  stage = stage_behind l d.version;
+  version = version_with l d.version;
+  setup = setup_with l d.setup;
+  entries = entries_with l d.entries;
+  calls = calls_with l d.calls;
+}

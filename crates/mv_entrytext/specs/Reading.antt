@@ -1,5 +1,5 @@
 -- How a text is read from left to right: what is read, and what stands behind it.
-use Rattle.std.specs.Prelude.{ℕ, ◌==◌, nat_eq, nat_le, Bool, not, ◌&&◌, ◌||◌, List, [], ◌∷◌, take, drop, length, slice_index, codes, Option, Some, None, option_map, option_and_then, if◌then◌else◌}
+use Rattle.std.specs.Prelude.{ℕ, ◌==◌, nat_eq, nat_le, Bool, not, ◌&&◌, ◌||◌, List, [], ◌∷◌, take, drop, length, slice_index, Option, Some, None, option_map, option_and_then, if◌then◌else◌}
 use Rattle.std.specs.Borrow.{Bor}
 use Rattle.std.specs.List.{starts_with, prefix_len}
 use Rattle.std.specs.Str.Parse.{digits_value}
@@ -33,11 +33,15 @@ behind word reader otherwise text = if starts_with nat_eq text word then reader 
 abbrev pub made : {A B : Type 0} → (A → B) → Reader A → Reader B
 made f reader text = option_map (λ x. (f x.0, x.1)) (reader text)
 
--- two values with one space between; how the second is read may depend on the first
-unfoldable pub parted_by : {A B : Type 0} → Reader A → (A → Reader B) → Reader (A × B)
-parted_by first second text =
+-- two values with this byte between; how the second is read may depend on the first
+unfoldable pub parted_at : {A B : Type 0} → ℕ → Reader A → (A → Reader B) → Reader (A × B)
+parted_at byte first second text =
     option_and_then (λ x.
-    option_and_then (λ rest. option_map (λ y. ((x.0, y.0), y.1)) (second x.0 rest)) (after (codes " ") x.1)) (first text)
+    option_and_then (λ rest. option_map (λ y. ((x.0, y.0), y.1)) (second x.0 rest)) (after (byte ∷ []) x.1)) (first text)
+
+-- with one space between
+abbrev pub parted_by : {A B : Type 0} → Reader A → (A → Reader B) → Reader (A × B)
+parted_by first second = parted_at 32 first second
 
 -- two values with one space between, each read by itself
 abbrev pub parted : {A B : Type 0} → Reader A → Reader B → Reader (A × B)

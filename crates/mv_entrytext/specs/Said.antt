@@ -14,7 +14,7 @@ use Rattle.mv_entrytext.specs.Reading.{parts_at}
 
 -- what a line says
 abbrev pub said : Line → journal.Line
-said Version = journal.Version
+said (Version v) = journal.JournalOf v
 said (Callers n) = journal.Callers n
 said (Elements n) = journal.Elements n
 said (Volumes n) = journal.Volumes n
@@ -27,7 +27,7 @@ said Events = journal.Events
 
 -- what a line behind the head says
 abbrev pub entry_said : EntryLine → journal.Line
-entry_said (Entry e) = journal.EntryOf e
+entry_said (Entry call e) = journal.EntryOf call e
 entry_said (End n) = journal.End n
 
 -- which line of the head comes next

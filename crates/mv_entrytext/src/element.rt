@@ -7,6 +7,7 @@ ghost use Rattle.mv_entrytext.specs.Reading.{seen};
 use crate::number::{after, any_u32, number_u32, push_number, push_pair, push_word, two_numbers};
 use mv_element::{ElementOp, ElementReply, ElementState, Phase};
 use mv_io::NoMemory;
+use mv_machine::HIGHEST_GENERATION;
 
 fn push_phase(out: &mut Vec<u8>, phase: Phase) -> Result<(), NoMemory>
     ensures { OnOk result (out.new.items ≡ out.old.items ++ phase_text phase) }
@@ -64,9 +65,6 @@ pub(crate) fn push_element_reply(out: &mut Vec<u8>, reply: ElementReply) -> Resu
 
 /// The highest release code: three bytes.
 const HIGHEST_RELEASE_CODE: u32 = 16_777_215;
-
-/// The highest generation that an element can reach: two events at least go into each, and places have 19 bits.
-const HIGHEST_GENERATION: u32 = 262_143;
 
 #[tactic(auto, unfolding(crate::specs::ElementText::element_op, crate::specs::Reading::behind))]
 pub(crate) fn read_element_op(strict: bool, text: &[u8]) -> Option<(ElementOp, &[u8])>
@@ -145,7 +143,7 @@ fn state_in(phase: Phase, generation: u32, code: u32) -> ElementState
     }
 }
 
-#[tactic(auto, unfolding(crate::specs::ElementText::element_state, crate::specs::Reading::parted_by))]
+#[tactic(auto, unfolding(crate::specs::ElementText::element_state, crate::specs::Reading::parted_at))]
 fn read_state(strict: bool, text: &[u8]) -> Option<(ElementState, &[u8])>
     ensures { seen result ≡ element_state strict text.now }
 {

@@ -8,18 +8,19 @@ ghost use Rattle.mv_entrytext.specs.ElementText.{element_op, element_reply};
 ghost use Rattle.mv_entrytext.specs.VolumeText.{volume_op, volume_reply};
 ghost use Rattle.mv_entrytext.specs.LatchText.{latch_op, latch_reply};
 ghost use Rattle.mv_entrytext.specs.Reading.{seen};
-ghost use Rattle.mv_entrytext.specs.EntryText.{object_text, op_text, reply_text, entry_text, IsObjectTyped, IsOpTyped, IsReplyTyped, IsTyped, object_read, event, entry_on, entry_read};
+ghost use Rattle.mv_entrytext.specs.EntryText.{caller_text, caller_read, object_text, op_text, reply_text, entry_text, IsObjectTyped, IsOpTyped, IsReplyTyped, IsTyped, object_read, event, entry_on, entry_read};
 
 use crate::ecb::{push_ecb_op, push_ecb_reply, read_ecb_op, read_ecb_reply};
 use crate::element::{push_element_op, push_element_reply, read_element_op, read_element_reply};
 use crate::latch::{push_latch_op, push_latch_reply, read_latch_op, read_latch_reply};
 use crate::number::{after, any_u32, number_u32, push_number, push_word};
+use crate::version::Version;
 use crate::volume::{push_volume_op, push_volume_reply, read_volume_op, read_volume_reply};
 use mv_ecb::{EcbOp, EcbReply};
 use mv_element::{ElementOp, ElementReply};
 use mv_io::NoMemory;
 use mv_latch::{LatchOp, LatchReply};
-use mv_machine::{Entry, Object, Op, Reply, VolumeOp, VolumeReply};
+use mv_machine::{Entry, HIGHEST_PLACE, Object, Op, Reply, VolumeOp, VolumeReply};
 
 fn push_object(out: &mut Vec<u8>, object: Object) -> Result<(), NoMemory>
     ensures text { OnOk result (out.new.items ≡ out.old.items ++ object_text object) }
@@ -57,15 +58,28 @@ fn push_reply(out: &mut Vec<u8>, reply: Reply) -> Result<(), NoMemory>
     }
 }
 
-// Who, on which object, at which place.
-fn push_front(out: &mut Vec<u8>, caller: u32, object: Object, place: u32) -> Result<(), NoMemory>
-    ensures text { OnOk result (out.new.items ≡ out.old.items ++ (decimal caller <+> object_text object <+> decimal place)) }
-    ensures typed { OnOk result ((caller ≤ highest_u32) × IsObjectTyped object) }
+// A caller, and the number of its call, if it is given.
+fn push_caller(out: &mut Vec<u8>, caller: u32, call: Option<u32>) -> Result<(), NoMemory>
+    ensures text { OnOk result (out.new.items ≡ out.old.items ++ caller_text caller call) }
+    ensures typed { OnOk result (caller ≤ highest_u32) }
 {
     push_number(out, b"", caller)?;
+    match call {
+        Some(number) => push_number(out, b".", number),
+        None => Ok(()),
+    }
+}
+
+// Who, on which object, at which place.
+fn push_front(out: &mut Vec<u8>, call: Option<u32>, entry: &Entry) -> Result<(), NoMemory>
+    ensures text { OnOk result (out.new.items
+        ≡ out.old.items ++ (caller_text entry.now.caller call <+> object_text entry.now.object <+> decimal entry.now.place)) }
+    ensures typed { OnOk result ((entry.now.caller ≤ highest_u32) × IsObjectTyped entry.now.object) }
+{
+    push_caller(out, entry.caller, call)?;
     push_word(out, b" ")?;
-    push_object(out, object)?;
-    push_number(out, b" ", place)
+    push_object(out, entry.object)?;
+    push_number(out, b" ", entry.place)
 }
 
 // What was done, and the reply.
@@ -78,19 +92,20 @@ fn push_event(out: &mut Vec<u8>, entry: &Entry) -> Result<(), NoMemory>
     push_reply(out, entry.reply)
 }
 
-/// Appends an entry's line without its LF.
+/// Appends an entry's line without its LF, with the number of its call, if it is given.
 #[tactic(auto, unfolding(crate::specs::EntryText::entry_text))]
-pub(crate) fn push_entry(out: &mut Vec<u8>, entry: &Entry) -> Result<(), NoMemory>
-    ensures text { OnOk result (out.new.items ≡ out.old.items ++ entry_text entry.now) }
+pub(crate) fn push_entry(
+    out: &mut Vec<u8>,
+    call: Option<u32>,
+    entry: &Entry,
+) -> Result<(), NoMemory>
+    ensures text { OnOk result (out.new.items ≡ out.old.items ++ entry_text call entry.now) }
     ensures typed { OnOk result (IsTyped entry.now) }
 {
-    push_front(out, entry.caller, entry.object, entry.place)?;
+    push_front(out, call, entry)?;
     push_word(out, b" ")?;
     push_event(out, entry)
 }
-
-/// The highest place: the budgets of a run allow one event more.
-const HIGHEST_PLACE: u32 = 524_286;
 
 #[tactic(auto, unfolding(crate::specs::EntryText::object_read, crate::specs::Reading::behind))]
 fn read_object(strict: bool, text: &[u8]) -> Option<(Object, &[u8])>
@@ -115,7 +130,7 @@ fn read_object(strict: bool, text: &[u8]) -> Option<(Object, &[u8])>
 }
 
 // A place, an operation on an event control block, and its reply.
-#[tactic(auto, unfolding(crate::specs::Reading::parted_by, crate::specs::Reading::behind))]
+#[tactic(auto, unfolding(crate::specs::Reading::parted_at, crate::specs::Reading::behind))]
 fn read_ecb_event(strict: bool, text: &[u8]) -> Option<((u32, (EcbOp, EcbReply)), &[u8])>
     ensures { seen result ≡ event strict (ecb_op strict) (ecb_reply strict) text.now }
 {
@@ -127,7 +142,7 @@ fn read_ecb_event(strict: bool, text: &[u8]) -> Option<((u32, (EcbOp, EcbReply))
 }
 
 // The same on a pause element.
-#[tactic(auto, unfolding(crate::specs::Reading::parted_by, crate::specs::Reading::behind))]
+#[tactic(auto, unfolding(crate::specs::Reading::parted_at, crate::specs::Reading::behind))]
 fn read_element_event(
     strict: bool,
     text: &[u8],
@@ -142,7 +157,7 @@ fn read_element_event(
 }
 
 // The same on a volume.
-#[tactic(auto, unfolding(crate::specs::Reading::parted_by, crate::specs::Reading::behind))]
+#[tactic(auto, unfolding(crate::specs::Reading::parted_at, crate::specs::Reading::behind))]
 fn read_volume_event(strict: bool, text: &[u8]) -> Option<((u32, (VolumeOp, VolumeReply)), &[u8])>
     ensures { seen result ≡ event strict (volume_op strict) (volume_reply strict) text.now }
 {
@@ -154,7 +169,7 @@ fn read_volume_event(strict: bool, text: &[u8]) -> Option<((u32, (VolumeOp, Volu
 }
 
 // The same on the latch set.
-#[tactic(auto, unfolding(crate::specs::Reading::parted_by, crate::specs::Reading::behind))]
+#[tactic(auto, unfolding(crate::specs::Reading::parted_at, crate::specs::Reading::behind))]
 fn read_latch_event(strict: bool, text: &[u8]) -> Option<((u32, (LatchOp, LatchReply)), &[u8])>
     ensures { seen result ≡ event strict (latch_op strict) (latch_reply strict) text.now }
 {
@@ -198,12 +213,32 @@ fn read_entry_on(strict: bool, caller: u32, object: Object, text: &[u8]) -> Opti
     Some((entry, rest))
 }
 
-/// Reads an entry from the front of a text.
-#[tactic(auto, unfolding(crate::specs::EntryText::entry_read, crate::specs::Reading::parted_by))]
-pub(crate) fn read_entry(strict: bool, text: &[u8]) -> Option<(Entry, &[u8])>
-    ensures { seen result ≡ entry_read strict text.now }
+// A caller, and in version 2 the number of its call.
+#[tactic(auto, unfolding(crate::specs::EntryText::caller_read, crate::specs::Reading::parted_at))]
+fn read_caller(strict: bool, version: Version, text: &[u8]) -> Option<((u32, Option<u32>), &[u8])>
+    ensures { seen result ≡ caller_read strict version text.now }
 {
     let (caller, rest) = any_u32(strict, text)?;
+    match version {
+        Version::One => Some(((caller, None), rest)),
+        Version::Two => {
+            let (call, rest) = any_u32(strict, after(rest, b".")?)?;
+            Some(((caller, Some(call)), rest))
+        }
+    }
+}
+
+/// Reads an entry from the front of a text, with the number of its call in version 2.
+#[tactic(auto, unfolding(crate::specs::EntryText::entry_read, crate::specs::Reading::parted_at))]
+pub(crate) fn read_entry(
+    strict: bool,
+    version: Version,
+    text: &[u8],
+) -> Option<((Option<u32>, Entry), &[u8])>
+    ensures { seen result ≡ entry_read strict version text.now }
+{
+    let ((caller, call), rest) = read_caller(strict, version, text)?;
     let (object, rest) = read_object(strict, after(rest, b" ")?)?;
-    read_entry_on(strict, caller, object, after(rest, b" ")?)
+    let (entry, rest) = read_entry_on(strict, caller, object, after(rest, b" ")?)?;
+    Some(((call, entry), rest))
 }

@@ -12,6 +12,10 @@ const COUNTS: &[u8] = b"JOURNAL 1\nCALLERS 1\nELEMENTS 1\nVOLUMES 1\nLATCHES 1\n
 const HEAD: &[u8] =
     b"JOURNAL 1\nCALLERS 1\nELEMENTS 1\nVOLUMES 1\nLATCHES 1\nQUOTA 1 0\nBUDGET 5\nEVENTS\n";
 
+// The same of version 2.
+const SECOND_HEAD: &[u8] =
+    b"JOURNAL 2\nCALLERS 1\nELEMENTS 1\nVOLUMES 1\nLATCHES 1\nQUOTA 1 0\nBUDGET 5\nEVENTS\n";
+
 // The first fault of a text.
 fn first_fault(rt: &impl Abort, alloc: Global, text: &[u8]) -> Option<TextRefusal> {
     assert!(rt; text.len() < 4_000_000);
@@ -37,7 +41,9 @@ fn heads(rt: HostRuntime) {
         (b"CALLERS".as_slice(), 1, 5),
         (b"JOURNAL 1\n".as_slice(), 2, 5),
         (b"\n".as_slice(), 1, 1),
-        (b"JOURNAL 2\n".as_slice(), 1, 1),
+        (b"JOURNAL 2\n".as_slice(), 2, 5),
+        (b"JOURNAL 3\n".as_slice(), 1, 1),
+        (b"JOURNAL 12\n".as_slice(), 1, 1),
         (b"JOURNAL 01\n".as_slice(), 1, 1),
         (b"journal 1\n".as_slice(), 1, 1),
         (b"JOURNAL 1\r\n".as_slice(), 1, 1),
@@ -166,9 +172,14 @@ fn too_many_of_the_head(rt: HostRuntime) -> Result<(), Fail> {
 }
 
 // Each stands on line 9, behind `EVENTS`.
-fn check_entries(rt: &impl Abort, alloc: Global, table: &[(&[u8], u32)]) -> Result<(), AllocError> {
+fn check_entries(
+    rt: &impl Abort,
+    alloc: Global,
+    head: &[u8],
+    table: &[(&[u8], u32)],
+) -> Result<(), AllocError> {
     for (line, kind) in table {
-        let text = joined(alloc, HEAD, line)?;
+        let text = joined(alloc, head, line)?;
         assert_eq!(rt; first_fault(rt, alloc, &text), fault(9, *kind), "{line:?}");
     }
     Ok(())
@@ -205,10 +216,11 @@ fn words_of_entries(rt: HostRuntime) -> Result<(), Fail> {
         (b"0 L 0 PURGE 1 = PURGED 0\n".as_slice(), 1),
         (b"0 E0 0 ARM = ARMED\xff\n".as_slice(), 1),
         (b"00 E0 0 ARM = LOST\n".as_slice(), 1),
+        (b"0.0 E0 0 ARM = ARMED\n".as_slice(), 1),
         (b"00 E0 0 ARM = ARMED\nX\n".as_slice(), 2),
         (b"00 E0 0 ARM = ARMED".as_slice(), 5),
     ];
-    check_entries(&rt, rt.alloc(), &table)?;
+    check_entries(&rt, rt.alloc(), HEAD, &table)?;
     Ok(())
 }
 
@@ -252,7 +264,27 @@ fn numbers_of_entries(rt: HostRuntime) -> Result<(), Fail> {
         (b"0 L 0 RELEASE 0 01 C = GONE\n".as_slice(), 2),
         (b"0 L 0 PURGE 1 = PURGED 0 4294967296\n".as_slice(), 2),
     ];
-    check_entries(&rt, rt.alloc(), &table)?;
+    check_entries(&rt, rt.alloc(), HEAD, &table)?;
+    Ok(())
+}
+
+#[test]
+fn call_numbers(rt: HostRuntime) -> Result<(), Fail> {
+    let table = [
+        (b"0 E0 0 ARM = ARMED\n".as_slice(), 1),
+        (b"0. E0 0 ARM = ARMED\n".as_slice(), 1),
+        (b".0 E0 0 ARM = ARMED\n".as_slice(), 1),
+        (b"0.0.0 E0 0 ARM = ARMED\n".as_slice(), 1),
+        (b"0 .0 E0 0 ARM = ARMED\n".as_slice(), 1),
+        (b"0.+0 E0 0 ARM = ARMED\n".as_slice(), 1),
+        (b"0,0 E0 0 ARM = ARMED\n".as_slice(), 1),
+        (b"0.00 E0 0 ARM = ARMED\n".as_slice(), 2),
+        (b"00.0 E0 0 ARM = ARMED\n".as_slice(), 2),
+        (b"0.4294967296 E0 0 ARM = ARMED\n".as_slice(), 2),
+        (b"0.00 E0 0 ARM = LOST\n".as_slice(), 1),
+        (b"0.0 E0 0 ARM = ARMED".as_slice(), 5),
+    ];
+    check_entries(&rt, rt.alloc(), SECOND_HEAD, &table)?;
     Ok(())
 }
 

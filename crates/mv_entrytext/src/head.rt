@@ -11,6 +11,7 @@ ghost use Rattle.mv_entrytext.specs.Draft.{Tells, refusal_at, kind_of_form, kind
 
 use crate::fault::{TextFault, TextRefusal};
 use crate::line::{Line, Stage, read_line, split_first};
+use crate::version::Version;
 use mv_io::NoMemory;
 use mv_machine::{CheckRefusal, Config, ValidConfig};
 use std::alloc::Global;
@@ -39,6 +40,7 @@ impl LineRefusal {
 #[derive(Drop)]
 struct HeadDraft {
     stage: Stage,
+    version: Version,
     config: Config,
 }
 
@@ -48,6 +50,8 @@ impl HeadDraft {
     {
         HeadDraft {
             stage: Stage::Version,
+            // Until the first line tells it.
+            version: Version::One,
             config: Config {
                 callers: 0,
                 elements_per_caller: 0,
@@ -67,7 +71,10 @@ impl HeadDraft {
         ensures { OnOk result (said line ≢ Events → head_seen self.new ≡ draft_with (said line) (head_seen self.old)) }
     {
         match line {
-            Line::Version => self.stage = Stage::Callers,
+            Line::Version(version) => {
+                self.version = version;
+                self.stage = Stage::Callers;
+            }
             Line::Callers(n) => {
                 self.config.callers = n;
                 self.stage = Stage::Elements;
@@ -139,9 +146,10 @@ fn checked(alloc: Global, config: Config) -> Result<ValidConfig, LineRefusal>
     }
 }
 
-/// A head that was read: its configuration, what stands behind it, and the number of the line there.
+/// A head that was read: its version, its configuration, what stands behind it, and the number of the line there.
 #[derive(Drop)]
 pub(crate) struct Head<'a> {
+    pub(crate) version: Version,
     pub(crate) config: ValidConfig,
     pub(crate) rest: &'a [u8],
     pub(crate) line: u32,
@@ -151,7 +159,7 @@ pub(crate) struct Head<'a> {
 pub(crate) fn read_head(alloc: Global, bytes: &[u8]) -> Result<Head<'_>, TextRefusal>
     requires { length bytes.now < 2 ^ 32 - 1 }
     ensures { MatchResult result
-        (λ h. IsAt bytes.now h.rest.now h.line (draft_at AtEntries h.config []))
+        (λ h. IsAt bytes.now h.rest.now h.line (draft_at (AtEntries h.version) h.version h.config [] []))
         (λ e. TellsFirst e (text_fault bytes.now)) }
 {
     let mut draft = HeadDraft::new(alloc);
@@ -167,8 +175,10 @@ pub(crate) fn read_head(alloc: Global, bytes: &[u8]) -> Result<Head<'_>, TextRef
             Err(refusal) => return Err(refusal.at(number)),
         };
         if let Line::Events = line {
+            let version = draft.version;
             return match checked(alloc, draft.config) {
                 Ok(config) => Ok(Head {
+                    version,
                     config,
                     rest: behind,
                     line: number + 1,

@@ -142,7 +142,7 @@ fn read_condition(text: &[u8]) -> Option<(bool, &[u8])>
 }
 
 // The requestor, the mode and the form of an obtain.
-#[tactic(auto, unfolding(crate::specs::LatchText::obtain_rest, crate::specs::Reading::parted_by))]
+#[tactic(auto, unfolding(crate::specs::LatchText::obtain_rest, crate::specs::Reading::parted_at))]
 fn read_obtain_rest(strict: bool, text: &[u8]) -> Option<((u64, (Mode, LatchForm)), &[u8])>
     ensures { seen result ≡ obtain_rest strict text.now }
 {
@@ -152,7 +152,7 @@ fn read_obtain_rest(strict: bool, text: &[u8]) -> Option<((u64, (Mode, LatchForm
     Some(((requestor, (mode, form)), rest))
 }
 
-#[tactic(auto, unfolding(crate::specs::LatchText::obtain, crate::specs::Reading::parted_by))]
+#[tactic(auto, unfolding(crate::specs::LatchText::obtain, crate::specs::Reading::parted_at))]
 fn read_obtain(strict: bool, text: &[u8]) -> Option<(LatchOp, &[u8])>
     ensures { seen result ≡ obtain strict text.now }
 {
@@ -167,7 +167,7 @@ fn read_obtain(strict: bool, text: &[u8]) -> Option<(LatchOp, &[u8])>
     Some((op, rest))
 }
 
-#[tactic(auto, unfolding(crate::specs::LatchText::release, crate::specs::Reading::parted_by))]
+#[tactic(auto, unfolding(crate::specs::LatchText::release, crate::specs::Reading::parted_at))]
 fn read_release(strict: bool, text: &[u8]) -> Option<(LatchOp, &[u8])>
     ensures { seen result ≡ release strict text.now }
 {

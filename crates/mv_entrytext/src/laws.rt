@@ -1,33 +1,41 @@
 //! What holds of the texts of journals, whoever writes or reads them: `specs/Journal.antt`, `specs/Fault.antt`.
 
-ghost use Rattle.std.specs.Prelude.{◌≡◌, ◌≤◌, ◌↔◌, ℕ, List, All, None, length};
+ghost use Rattle.std.specs.Prelude.{◌≡◌, ◌≤◌, ◌<◌, ◌^◌, ◌↔◌, ℕ, List, All, None, length};
 ghost use Rattle.mv_machine.specs.declared.entry.Entry.{Entry};
 ghost use Rattle.mv_machine.specs.Check.{IsValid};
 ghost use Rattle.mv_machine.specs.Legal.{Legal};
+ghost use Rattle.mv_calls.specs.Numbers.{calls as calls_of};
 ghost use Rattle.mv_machine.specs.Setup.{Setup};
-ghost use Rattle.mv_entrytext.specs.Ranges.{highest_place, highest_u32};
+ghost use Rattle.mv_machine.specs.Limits.{highest_place};
+ghost use Rattle.mv_entrytext.specs.declared.version.Version.{Version as AnyVersion};
+ghost use Rattle.mv_entrytext.specs.Ranges.{highest_u32};
 ghost use Rattle.mv_entrytext.specs.EntryText.{IsInRange, IsTyped};
-ghost use Rattle.mv_entrytext.specs.Fault.{HasJournal, journal_of, text_fault};
-ghost use Rattle.mv_entrytext.specs.Journal.{journal_text};
+ghost use Rattle.mv_entrytext.specs.Fault.{HasJournal, AreCallsIn, AreCallNumbers, journal_of, text_fault};
+ghost use Rattle.mv_entrytext.specs.Journal.{text_of};
 
-/// A text determines its configuration and its entries: they are what is read off it.
+/// A text determines its version, its configuration, its entries and their call numbers: they are what is read off it.
 pub fn text_determines_journal()
-    ensures one { (c d : Setup) (es fs : List Entry) → HasJournal c es → HasJournal d fs
-        → journal_text c es ≡ journal_text d fs → (c ≡ d) × (es ≡ fs) }
-    ensures read_back { (c : Setup) (es : List Entry) → HasJournal c es
-        → ((journal_of (journal_text c es)).setup ≡ c) × ((journal_of (journal_text c es)).entries ≡ es) }
+    ensures one { (v w : AnyVersion) (c d : Setup) (es fs : List Entry) (ns ms : List ℕ)
+        → HasJournal c es → AreCallsIn v es ns → HasJournal d fs → AreCallsIn w fs ms
+        → text_of v c es ns ≡ text_of w d fs ms → (v ≡ w) × (c ≡ d) × (es ≡ fs) × (ns ≡ ms) }
+    ensures read_back { (v : AnyVersion) (c : Setup) (es : List Entry) (ns : List ℕ) → HasJournal c es → AreCallsIn v es ns
+        → ((journal_of (text_of v c es ns)).version ≡ v) × ((journal_of (text_of v c es ns)).setup ≡ c)
+        × ((journal_of (text_of v c es ns)).entries ≡ es) × ((journal_of (text_of v c es ns)).calls ≡ ns) }
 {}
 
 /// The entries of a legal list, whose places are such as the budgets of a run allow, are in the ranges of the text. So
-/// they have one, where their numbers are of their types.
+/// they have one in version 1 and, with their call numbers, one in version 2, where their numbers are of their types.
 pub fn legal_lists_have_texts()
     ensures in_range { (c : Setup) (es : List Entry) → Legal c es → All (λ e. e.place ≤ highest_place) es → All IsInRange es }
     ensures text { (c : Setup) (es : List Entry) → IsValid c → Legal c es → All (λ e. e.place ≤ highest_place) es
         → All IsTyped es → length es ≤ highest_u32 → HasJournal c es }
+    ensures calls { (c : Setup) (es : List Entry) → length es ≤ highest_u32 → AreCallNumbers es (calls_of c es) }
 {}
 
-/// A text has no fault exactly where it is the text of a configuration and of entries that have one.
+/// A text has no fault exactly where it is the text, in one of the versions, of a configuration, of entries and of call
+/// numbers that have one.
 pub fn texts_without_fault_are_journals()
     ensures { (bytes : List ℕ) → (text_fault bytes ≡ None)
-        ↔ ((c : Setup) × (es : List Entry) × HasJournal c es × (bytes ≡ journal_text c es)) }
+        ↔ ((v : AnyVersion) × (c : Setup) × (es : List Entry) × (ns : List ℕ)
+        × HasJournal c es × AreCallsIn v es ns × (bytes ≡ text_of v c es ns)) }
 {}

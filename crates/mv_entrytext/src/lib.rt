@@ -13,13 +13,15 @@ mod laws;
 mod line;
 mod number;
 mod reading;
+mod version;
 mod volume;
 mod writing;
 
 pub use fault::{TextFault, TextRefusal};
 pub use laws::{legal_lists_have_texts, text_determines_journal, texts_without_fault_are_journals};
 pub use reading::{Journal, read_journal};
-pub use writing::write_journal;
+pub use version::Version;
+pub use writing::{write_journal, write_old_journal};
 
 #[cfg(test)]
 mod faulty_texts;

@@ -1,14 +1,15 @@
 //! The lines of a journal, read one by one: `specs/Lines.antt`; what they say is `specs/Said.antt`.
 
-ghost use Rattle.std.specs.Prelude.{◌≡◌, ◌==◌, ◌≤◌, ◌∷◌, [], ℕ, List, IfOk, option_map, length};
+ghost use Rattle.std.specs.Prelude.{◌≡◌, ◌==◌, ◌≤◌, ◌∷◌, [], ℕ, List, true, IfOk, option_map, length};
 ghost use Rattle.std.specs.List.{position};
 ghost use Rattle.mv_machine.specs.Config.{exit_of};
 ghost use Rattle.mv_entrytext.specs.Reading.{whole, any_u32, parts_at};
-ghost use Rattle.mv_entrytext.specs.Lines.{AtBudgets, AtEntries, numbers, exit_from, exit_read, at_exits, at_owners, count_line, next_line, line_read};
+ghost use Rattle.mv_entrytext.specs.Lines.{AtVersion, AtBudgets, AtEntries, numbers, exit_from, exit_read, at_exits, at_owners, count_line, next_line, line_read};
 ghost use Rattle.mv_entrytext.specs.Said.{said, entry_said, stage_of, line_seen, entry_line_seen, parts_left, left_of};
 
 use crate::entry::read_entry;
 use crate::number::{after, any_u32, two_numbers};
+use crate::version::Version;
 use mv_io::NoMemory;
 use mv_machine::{Entry, Exit};
 use std::alloc::Global;
@@ -16,7 +17,7 @@ use std::alloc::Global;
 /// What a line of the head says.
 #[derive(Drop)]
 pub(crate) enum Line {
-    Version,
+    Version(Version),
     Callers(u32),
     Elements(u32),
     Volumes(u32),
@@ -31,7 +32,8 @@ pub(crate) enum Line {
 /// What a line behind the head says.
 #[derive(Clone, Copy)]
 pub(crate) enum EntryLine {
-    Entry(Entry),
+    /// With the number of its call in version 2.
+    Entry(Option<u32>, Entry),
     End(u32),
 }
 
@@ -117,13 +119,24 @@ fn read_exit(alloc: Global, strict: bool, text: &[u8]) -> Result<Option<Exit>, N
     }
 }
 
+// The first line.
+#[tactic(auto, unfolding(crate::specs::Lines::count_line, crate::specs::Reading::behind))]
+fn read_version(text: &[u8]) -> Option<(Line, &[u8])>
+    ensures { line_seen result ≡ count_line true AtVersion text.now }
+{
+    if let Some(rest) = after(text, b"JOURNAL 1") {
+        return Some((Line::Version(Version::One), rest));
+    }
+    Some((Line::Version(Version::Two), after(text, b"JOURNAL 2")?))
+}
+
 // The counts of the head, each in its place.
 #[tactic(auto, unfolding(crate::specs::Lines::count_line, crate::specs::Reading::behind))]
 fn read_count(strict: bool, stage: Stage, text: &[u8]) -> Option<(Line, &[u8])>
     ensures { line_seen result ≡ count_line strict (stage_of stage) text.now }
 {
     match stage {
-        Stage::Version => Some((Line::Version, after(text, b"JOURNAL 1")?)),
+        Stage::Version => read_version(text),
         Stage::Callers => {
             let (n, rest) = any_u32(strict, after(text, b"CALLERS ")?)?;
             Some((Line::Callers(n), rest))
@@ -150,22 +163,22 @@ fn read_count(strict: bool, stage: Stage, text: &[u8]) -> Option<(Line, &[u8])>
 
 // An entry, or the end.
 #[tactic(auto, unfolding(crate::specs::Lines::next_line, crate::specs::Reading::behind))]
-fn read_entry_or_end(strict: bool, text: &[u8]) -> Option<(EntryLine, &[u8])>
-    ensures { entry_line_seen result ≡ next_line strict AtEntries text.now }
+fn read_entry_or_end(strict: bool, version: Version, text: &[u8]) -> Option<(EntryLine, &[u8])>
+    ensures { entry_line_seen result ≡ next_line strict (AtEntries version) text.now }
 {
     if let Some(rest) = after(text, b"END ") {
         let (n, rest) = any_u32(strict, rest)?;
         return Some((EntryLine::End(n), rest));
     }
-    let (entry, rest) = read_entry(strict, text)?;
-    Some((EntryLine::Entry(entry), rest))
+    let ((call, entry), rest) = read_entry(strict, version, text)?;
+    Some((EntryLine::Entry(call, entry), rest))
 }
 
 /// Reads a line behind the head without its LF, to its end.
-pub(crate) fn read_entry_line(strict: bool, text: &[u8]) -> Option<EntryLine>
-    ensures { option_map entry_said result ≡ line_read strict AtEntries text.now }
+pub(crate) fn read_entry_line(strict: bool, version: Version, text: &[u8]) -> Option<EntryLine>
+    ensures { option_map entry_said result ≡ line_read strict (AtEntries version) text.now }
 {
-    match read_entry_or_end(strict, text)? {
+    match read_entry_or_end(strict, version, text)? {
         (line, []) => Some(line),
         _ => None,
     }

@@ -79,7 +79,7 @@ pub(crate) fn any_u64(strict: bool, text: &[u8]) -> Option<(u64, &[u8])>
 }
 
 /// Two numbers of four bytes with one space between, each at most so high.
-#[tactic(auto, unfolding(crate::specs::Reading::parted_by))]
+#[tactic(auto, unfolding(crate::specs::Reading::parted_at))]
 pub(crate) fn two_numbers(
     strict: bool,
     highest: (u32, u32),

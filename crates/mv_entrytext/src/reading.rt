@@ -1,9 +1,8 @@
 //! The reader of journals, one pass over the bytes: `specs/Journal.antt`, `specs/Fault.antt` and `specs/Draft.antt`.
 
-ghost use Rattle.std.specs.Prelude.{◌≡◌, ◌<◌, ◌≤◌, ◌+◌, ◌-◌, ◌^◌, ◌∷◌, ℕ, List, [], true, Some, length, vec_len, IfOk, IfErr, MatchResult};
-ghost use Rattle.mv_entrytext.specs.Journal.{journal_text};
-ghost use Rattle.mv_entrytext.specs.Lines.{AtEntries, AtEnd, line_read};
-ghost use Rattle.mv_entrytext.specs.Fault.{HasJournal, TellsFirst, first_fault, text_fault};
+ghost use Rattle.std.specs.Prelude.{◌≡◌, ◌<◌, ◌≤◌, ◌+◌, ◌-◌, ◌^◌, ◌∷◌, ℕ, List, [], true, Some, length, vec_len, IfOk, IfErr, OnOk, MatchResult};
+ghost use Rattle.mv_entrytext.specs.Lines.{AtEntries, AtEnd, line_read, with_call};
+ghost use Rattle.mv_entrytext.specs.Fault.{HasJournal, IsTextIn, TellsFirst, first_fault, text_fault};
 ghost use Rattle.mv_entrytext.specs.Reading.{parts_at};
 ghost use Rattle.mv_entrytext.specs.Said.{entry_said};
 ghost use Rattle.mv_entrytext.specs.Draft.{Tells, kind_of_form, kind_at_end};
@@ -11,31 +10,47 @@ ghost use Rattle.mv_entrytext.specs.Draft.{Tells, kind_of_form, kind_at_end};
 use crate::fault::TextRefusal;
 use crate::head::{LineRefusal, read_head};
 use crate::line::{EntryLine, read_entry_line, split_first};
+use crate::version::Version;
+use mv_io::NoMemory;
 use mv_machine::{Entry, ValidConfig};
 use std::alloc::Global;
 
 /// A journal that was read.
 #[derive(Drop)]
 pub struct Journal {
+    /// The version of the text: 1 or 2.
+    pub version: u32,
     pub config: ValidConfig,
     pub entries: Vec<Entry>,
+    /// The number of each entry's call in version 2; in version 1 there are none.
+    pub calls: Vec<u32>,
     /// The number of the line behind `EVENTS`, counted from 1.
     pub first_line: u32,
 }
 
 // Reads a line behind the head, or says whether its form or a number in it is at fault.
-fn entry_line_or_kind(text: &[u8]) -> Result<EntryLine, LineRefusal>
+fn entry_line_or_kind(version: Version, text: &[u8]) -> Result<EntryLine, LineRefusal>
     ensures { MatchResult result
-        (λ l. line_read true AtEntries text.now ≡ Some (entry_said l))
-        (λ e. Tells e (kind_of_form AtEntries text.now)) }
+        (λ l. line_read true (AtEntries version) text.now ≡ Some (entry_said l))
+        (λ e. Tells e (kind_of_form (AtEntries version) text.now)) }
 {
-    match read_entry_line(true, text) {
+    match read_entry_line(true, version, text) {
         Some(line) => Ok(line),
-        None => match read_entry_line(false, text) {
+        None => match read_entry_line(false, version, text) {
             Some(_) => Err(LineRefusal::Kind(2)),
             None => Err(LineRefusal::Kind(1)),
         },
     }
+}
+
+// Keeps the number of an entry's call, if its line has one.
+fn push_call(calls: &mut Vec<u32>, call: Option<u32>) -> Result<(), NoMemory>
+    ensures { OnOk result (calls.new.items ≡ with_call call calls.old.items) }
+{
+    if let Some(number) = call {
+        calls.push(number)?;
+    }
+    Ok(())
 }
 
 // Nothing may stand behind the last line.
@@ -51,11 +66,12 @@ fn nothing_behind(rest: &[u8]) -> Result<(), LineRefusal>
     }
 }
 
-/// Reads a journal, of version 1 of the text.
+/// Reads a journal, of either version of the text. Call numbers are taken as they stand: whether they are the right ones,
+/// `replay_calls` judges.
 ///
-/// One pass, in time linear in the length. No list of lines is kept: an entry takes 80 bytes, in a `Vec` that grows by
-/// doubling, and its line at least 18 of the text. Lines are counted from 1 in a `u32`, and so is the line behind the
-/// last: hence fewer than 2^32 - 1 bytes.
+/// One pass, in time linear in the length. No list of lines is kept: an entry takes 80 bytes, and its call's number 4, in
+/// `Vec`s that grow by doubling, and its line at least 18 of the text. Lines are counted from 1 in a `u32`, and so is the
+/// line behind the last: hence fewer than 2^32 - 1 bytes.
 ///
 /// # Errors
 ///
@@ -64,9 +80,9 @@ fn nothing_behind(rest: &[u8]) -> Result<(), LineRefusal>
 pub fn read_journal(alloc: Global, bytes: &[u8]) -> Result<Journal, TextRefusal>
     requires short { length bytes.now < 2 ^ 32 - 1 }
 
-    // What is read is a journal, and the bytes are its text.
+    // What is read is a journal, and the bytes are its text in its version.
     ensures journal { IfOk result (λ j. HasJournal j.config j.entries.items) }
-    ensures text { IfOk result (λ j. bytes.now ≡ journal_text j.config j.entries.items) }
+    ensures text { IfOk result (λ j. IsTextIn j.version bytes.now j.config j.entries.items j.calls.items) }
     ensures first_line { IfOk result (λ j.
         j.first_line ≡ 8 + length j.config.budgets + length j.config.owners + length j.config.exits) }
     // The fault that is told is the first.
@@ -74,6 +90,7 @@ pub fn read_journal(alloc: Global, bytes: &[u8]) -> Result<Journal, TextRefusal>
 {
     let head = read_head(alloc, bytes)?;
     let mut entries = Vec::new(alloc);
+    let mut calls = Vec::new(alloc);
     let mut rest = head.rest;
     let mut number = head.line;
     'lines: loop {
@@ -81,8 +98,11 @@ pub fn read_journal(alloc: Global, bytes: &[u8]) -> Result<Journal, TextRefusal>
         let Some(behind) = behind else {
             return Err(LineRefusal::Kind(5).at(number));
         };
-        match entry_line_or_kind(text) {
-            Ok(EntryLine::Entry(entry)) => {
+        match entry_line_or_kind(head.version, text) {
+            Ok(EntryLine::Entry(call, entry)) => {
+                let Ok(()) = push_call(&mut calls, call) else {
+                    return Err(TextRefusal::NoMemory);
+                };
                 let Ok(()) = entries.push(entry) else {
                     return Err(TextRefusal::NoMemory);
                 };
@@ -93,8 +113,10 @@ pub fn read_journal(alloc: Global, bytes: &[u8]) -> Result<Journal, TextRefusal>
                 }
                 return match nothing_behind(behind) {
                     Ok(()) => Ok(Journal {
+                        version: head.version.number(),
                         config: head.config,
                         entries,
+                        calls,
                         first_line: head.line,
                     }),
                     Err(refusal) => Err(refusal.at(number + 1)),

@@ -1,13 +1,17 @@
 //! The journal, written from its first line to its last: `specs/Journal.antt`.
 
-ghost use Rattle.std.specs.Prelude.{◌≡◌, ◌≤◌, ◌<◌, ◌^◌, ◌++◌, List, ℕ, length, All, map, OnOk, IfOk, codes, decimal};
+ghost use Rattle.std.specs.Prelude.{◌≡◌, ◌≤◌, ◌<◌, ◌^◌, ◌++◌, List, ℕ, length, slice_get, All, map, OnOk, IfOk, codes, decimal};
 ghost use Rattle.std.specs.List.{flat_map};
 ghost use Rattle.mv_machine.specs.Config.{setup_of, exit_of};
+ghost use Rattle.mv_machine.specs.Legal.{Legal};
+ghost use Rattle.mv_machine.specs.Limits.{highest_place};
 ghost use Rattle.mv_entrytext.specs.EntryText.{IsInRange, IsTyped};
-ghost use Rattle.mv_entrytext.specs.Journal.{Version, Callers, Elements, Volumes, Latches, Quota, Budget, Owner, ExitTo, Events, EntryOf, End, line, counts_text, lists_text, head_text, journal_text};
+ghost use Rattle.mv_entrytext.specs.Journal.{JournalOf, Callers, Elements, Volumes, Latches, Quota, Budget, Owner, ExitTo, Events, EntryOf, End, line, entry_lines, counts_text, lists_text, head_text, text_of, text1, journal_text};
 
 use crate::entry::push_entry;
 use crate::number::{push_number, push_pair, push_wide, push_word};
+use crate::version::Version;
+use mv_calls::number_calls;
 use mv_io::NoMemory;
 use mv_machine::{Config, Entry, Exit, ValidConfig};
 use std::alloc::Global;
@@ -20,12 +24,23 @@ fn push_line(out: &mut Vec<u8>, word: &[u8], number: u32) -> Result<(), NoMemory
     push_word(out, b"\n")
 }
 
+// The first line.
 #[tactic(auto, unfolding(crate::specs::Journal::line))]
-fn push_per_caller(out: &mut Vec<u8>, config: &Config) -> Result<(), NoMemory>
-    ensures { let c = setup_of config.now in OnOk result (out.new.items
-        ≡ out.old.items ++ (line Version ++ line (Callers c.callers) ++ line (Elements c.elements_per_caller))) }
+fn push_version(out: &mut Vec<u8>, version: Version) -> Result<(), NoMemory>
+    ensures { OnOk result (out.new.items ≡ out.old.items ++ line (JournalOf version)) }
 {
-    push_word(out, b"JOURNAL 1\n")?;
+    match version {
+        Version::One => push_word(out, b"JOURNAL 1\n"),
+        Version::Two => push_word(out, b"JOURNAL 2\n"),
+    }
+}
+
+#[tactic(auto, unfolding(crate::specs::Journal::line))]
+fn push_per_caller(out: &mut Vec<u8>, version: Version, config: &Config) -> Result<(), NoMemory>
+    ensures { let c = setup_of config.now in OnOk result (out.new.items
+        ≡ out.old.items ++ (line (JournalOf version) ++ line (Callers c.callers) ++ line (Elements c.elements_per_caller))) }
+{
+    push_version(out, version)?;
     push_line(out, b"CALLERS ", config.callers)?;
     push_line(out, b"ELEMENTS ", config.elements_per_caller)
 }
@@ -48,10 +63,10 @@ fn push_quota(out: &mut Vec<u8>, config: &Config) -> Result<(), NoMemory>
 }
 
 #[tactic(auto, unfolding(crate::specs::Journal::counts_text))]
-fn push_counts(out: &mut Vec<u8>, config: &Config) -> Result<(), NoMemory>
-    ensures { OnOk result (out.new.items ≡ out.old.items ++ counts_text (setup_of config.now)) }
+fn push_counts(out: &mut Vec<u8>, version: Version, config: &Config) -> Result<(), NoMemory>
+    ensures { OnOk result (out.new.items ≡ out.old.items ++ counts_text version (setup_of config.now)) }
 {
-    push_per_caller(out, config)?;
+    push_per_caller(out, version, config)?;
     push_shared(out, config)?;
     push_quota(out, config)
 }
@@ -125,53 +140,96 @@ fn push_lists(out: &mut Vec<u8>, config: &Config) -> Result<(), NoMemory>
 }
 
 #[tactic(auto, unfolding(crate::specs::Journal::head_text, crate::specs::Journal::line))]
-fn push_head(out: &mut Vec<u8>, config: &Config) -> Result<(), NoMemory>
-    ensures { OnOk result (out.new.items ≡ out.old.items ++ head_text (setup_of config.now)) }
+fn push_head(out: &mut Vec<u8>, version: Version, config: &Config) -> Result<(), NoMemory>
+    ensures { OnOk result (out.new.items ≡ out.old.items ++ head_text version (setup_of config.now)) }
 {
-    push_counts(out, config)?;
+    push_counts(out, version, config)?;
     push_lists(out, config)?;
     push_word(out, b"EVENTS\n")
 }
 
 #[tactic(auto, unfolding(crate::specs::Journal::line))]
-fn push_entry_line(out: &mut Vec<u8>, entry: &Entry) -> Result<(), NoMemory>
-    ensures text { OnOk result (out.new.items ≡ out.old.items ++ line (EntryOf entry.now)) }
+fn push_entry_line(out: &mut Vec<u8>, call: Option<u32>, entry: &Entry) -> Result<(), NoMemory>
+    ensures text { OnOk result (out.new.items ≡ out.old.items ++ line (EntryOf call entry.now)) }
     ensures typed { OnOk result (IsTyped entry.now) }
 {
-    push_entry(out, entry)?;
+    push_entry(out, call, entry)?;
     push_word(out, b"\n")
 }
 
-fn push_entries(out: &mut Vec<u8>, entries: &[Entry]) -> Result<(), NoMemory>
-    ensures text { OnOk result (out.new.items ≡ out.old.items ++ flat_map (λ e. line (EntryOf e)) entries.now) }
+// The number at a place, if there is one.
+fn call_at(calls: &[u32], index: usize) -> Option<u32>
+    ensures { result ≡ slice_get calls.now index }
+{
+    match calls.get(index) {
+        Some(call) => Some(*call),
+        None => None,
+    }
+}
+
+// The lines of entries, with the numbers of their calls, so far as there are any.
+fn push_entries(out: &mut Vec<u8>, entries: &[Entry], calls: &[u32]) -> Result<(), NoMemory>
+    ensures text { OnOk result (out.new.items ≡ out.old.items ++ flat_map line (entry_lines entries.now calls.now)) }
     ensures typed { OnOk result (All IsTyped entries.now) }
 {
-    for entry in entries {
-        push_entry_line(out, entry)?;
+    for (i, entry) in entries.iter().enumerate() {
+        push_entry_line(out, call_at(calls, i), entry)?;
     }
     Ok(())
 }
 
-/// The journal of a run: its configuration and its entries, in version 1 of the text.
+// The whole text, in one of its versions.
+#[tactic(auto, unfolding(crate::specs::Journal::text_of, crate::specs::Journal::line))]
+fn write(
+    alloc: Global,
+    version: Version,
+    config: &ValidConfig,
+    entries: &[Entry],
+    calls: &[u32],
+) -> Result<Vec<u8>, NoMemory>
+    ensures text { IfOk result (λ text. text.items ≡ text_of version config.now entries.now calls.now) }
+    ensures typed { OnOk result (All IsTyped entries.now) }
+{
+    let mut out = Vec::new(alloc);
+    push_head(&mut out, version, config.config())?;
+    push_entries(&mut out, entries, calls)?;
+    push_wide(&mut out, b"END ", entries.len() as u64)?;
+    push_word(&mut out, b"\n")?;
+    Ok(out)
+}
+
+/// The journal of a run: its configuration and its entries, in version 2 of the text, with the call numbers that the
+/// machine's rules give.
 ///
-/// Each entry's operation and reply are of its object's kind, with numbers in the ranges of `docs/FORMATS.md`; what a
-/// number's type says already needs no condition, and is told. The only error is want of memory. The text is made in one
-/// buffer that grows by doubling, in time linear in its length.
-#[tactic(auto, unfolding(crate::specs::Journal::journal_text, crate::specs::Journal::line))]
+/// The entries are a legal list, so each operation and reply is of its object's kind, with numbers in the ranges of
+/// `docs/FORMATS.md`; what a number's type says already needs no condition, and is told. The only error is want of
+/// memory. The text is made in one buffer that grows by doubling, in time linear in its length.
 pub fn write_journal(
     alloc: Global,
     config: &ValidConfig,
     entries: &[Entry],
 ) -> Result<Vec<u8>, NoMemory>
-    requires in_range { All IsInRange entries.now }
+    requires legal { Legal config.now entries.now }
+    requires few { length entries.now < 2 ^ 32 }
+    requires places { All (λ e. e.place ≤ highest_place) entries.now }
     ensures text { IfOk result (λ text. text.items ≡ journal_text config.now entries.now) }
     // So these entries have a text that reads back.
     ensures typed { OnOk result (All IsTyped entries.now) }
 {
-    let mut out = Vec::new(alloc);
-    push_head(&mut out, config.config())?;
-    push_entries(&mut out, entries)?;
-    push_wide(&mut out, b"END ", entries.len() as u64)?;
-    push_word(&mut out, b"\n")?;
-    Ok(out)
+    let calls = number_calls(alloc, config, entries)?;
+    write(alloc, Version::Two, config, entries, &calls)
+}
+
+/// The same in version 1 of the text, without call numbers; of any entries whose operations and replies are of their
+/// objects' kinds, with numbers in the ranges of `docs/FORMATS.md`.
+pub fn write_old_journal(
+    alloc: Global,
+    config: &ValidConfig,
+    entries: &[Entry],
+) -> Result<Vec<u8>, NoMemory>
+    requires in_range { All IsInRange entries.now }
+    ensures text { IfOk result (λ text. text.items ≡ text1 config.now entries.now) }
+    ensures typed { OnOk result (All IsTyped entries.now) }
+{
+    write(alloc, Version::One, config, entries, &[])
 }

@@ -9,7 +9,7 @@ use Rattle.mv_replay.specs.declared.status.ReplayStatus.TheVariants as replay
 use Rattle.mv_replay.specs.Outcome as replays
 use Rattle.mv_replay.proofs.Endings as judged
 use Rattle.mv_program.specs.declared.command.Command.{Command}
-use Rattle.mv_program.specs.declared.command.Command.TheVariants.{Spool, Replay}
+use Rattle.mv_program.specs.declared.command.Command.TheVariants.{Spool, Replay, Convert}
 use Rattle.mv_program.specs.declared.status.Status.{Status}
 use Rattle.mv_program.specs.declared.status.Status.TheVariants.{Done, Words, Deck, TooLong, ReadFailed, ReportFailed, JournalFailed, NoMemory, Illegal, Text}
 use Rattle.mv_program.specs.Outcome.{IsFound, DeckAsks, DeckOf, InputOf, Asks, has_journal}
@@ -84,12 +84,14 @@ as_replay P NoMemory h = (replay.NoMemory, h, refl)
 as_replay P (Illegal line) h = (replay.Illegal line, h, refl)
 as_replay P (Text f) h = (replay.Text f, h, refl)
 
+-- no journal asks for two endings, whichever command reads it
 one_judgement : (bytes : List ℕ) (s t : Status) → Asks Replay bytes s → Asks Replay bytes t → s ≡ t
 one_judgement bytes s t a b =
     let p = as_replay (replays.Asks bytes) s a in
     let q = as_replay (replays.Asks bytes) t b in
     p.2 ∙ ap status_by (judged.one_ending bytes p.0 q.0 p.1 q.1) ∙ sym q.2
 
+-- both commands on journals end as their input asks
 journal_ends : (bytes : List ℕ) (new : Option (List ℕ)) (s t : Status) → InputOf (Some Replay) s (Some bytes) new
     → (s ≡ ReadFailed → ⊥) → (t ≡ Done → s ≡ ReportFailed → ⊥) → Asks Replay bytes t → EndsAs NoMemory s t
 journal_ends bytes new Done t i read report a = inl (one_judgement bytes Done t (i.0.short, i.1) a)
@@ -110,6 +112,7 @@ command_ends : (c : Command) (bytes : List ℕ) (new : Option (List ℕ)) (s t :
     → Asks c bytes t → EndsAs NoMemory s t
 command_ends (Spool n) bytes new s t i read report journal a = deck_ends n bytes new s t i read report (λ done. journal done refl) a
 command_ends Replay bytes new s t i read report journal a = journal_ends bytes new s t i read report a
+command_ends Convert bytes new s t i read report journal a = journal_ends bytes new s t i read report a
 
 -- The causes of failed streams, each by the status that it has.
 abbrev pub Owes : Status → Option (List ℕ) → Type 0 → Type 0 → Type 0 → Option Command → Type 0

@@ -1,13 +1,14 @@
--- What the writing of both texts leaves, and what a replay leaves, is what their commands tell; and a run goes by its words.
+-- What the writing of both texts leaves, and what a command on a journal leaves, is what their commands tell; and a run goes by its words.
 use Rattle.std.proofs.Common.{◌≡◌, ℕ, List, [], Option, Some, None, refl, sym, ap, subst, ◌∙◌, append-nil}
 use Rattle.std.specs.Prelude.{IfSome, IsSomeAnd}
 use Rattle.mv_io.specs.Sink.{Appends}
-use Rattle.mv_replay.specs.Outcome.{legal_text, ReportAfter}
+use Rattle.mv_ending.specs.Written.{WroteOf}
+use Rattle.mv_replay.specs.Outcome.{ReportAfter}
 use Rattle.mv_program.specs.declared.command.Command.{Command}
-use Rattle.mv_program.specs.declared.command.Command.TheVariants.{Spool, Replay}
+use Rattle.mv_program.specs.declared.command.Command.TheVariants.{Spool}
 use Rattle.mv_program.specs.declared.status.Status.{Status}
 use Rattle.mv_program.specs.declared.status.Status.TheVariants.{Done, Words, Deck, TooLong, ReadFailed, ReportFailed, JournalFailed, NoMemory, Illegal, Text}
-use Rattle.mv_program.specs.Outcome.{TellsRun, Told, Writes}
+use Rattle.mv_program.specs.Outcome.{TellsRun, TellsReport, Told, Writes, extent_of}
 use Rattle.mv_program.specs.Status.{replay_of}
 
 -- what holds of the command holds of the words that are it
@@ -44,34 +45,28 @@ run_is_told n s input left report0 report1 journal0 journal1 items report journa
     deck_is_told n s input report0 report1 journal0 journal1 report journal
     (told_of_input n input left items report journal read tells) wrote
 
--- ---- a replay has no journal
+-- ---- a command on a journal has none itself
 
+-- nothing more stands behind what stood there
 nothing_more : (old new : Option (List ℕ)) → new ≡ old → Appends old new []
 nothing_more None new e = tt
 nothing_more (Some xs) new e = e ∙ ap Some (sym (append-nil xs))
 
-pub replay_is_told : (s : Status) (input report0 report1 journal0 journal1 : Option (List ℕ))
-    → IsSomeAnd (replay_of s) (λ r. ReportAfter r input report0 report1) → journal1 ≡ journal0
-    → Told (Some Replay) s input report0 report1 journal0 journal1
-replay_is_told Done None report0 report1 journal0 journal1 wrote kept = tt
-replay_is_told Done (Some bytes) report0 report1 journal0 journal1 wrote kept = (
-  legal_text wrote.0,
-  [],
-  record { count = wrote.0; legal = wrote.1; reported = refl; none = refl },
-  (wrote.2, nothing_more journal0 journal1 kept),
-)
-replay_is_told ReportFailed None report0 report1 journal0 journal1 wrote kept = tt
-replay_is_told ReportFailed (Some bytes) report0 report1 journal0 journal1 wrote kept = (
-  legal_text wrote.0,
-  [],
-  record { count = wrote.0; legal = wrote.1; reported = refl; none = refl },
-  (wrote.2, kept),
-)
-replay_is_told Words input report0 report1 journal0 journal1 wrote kept = absurd wrote
-replay_is_told (Deck f) input report0 report1 journal0 journal1 wrote kept = absurd wrote
-replay_is_told JournalFailed input report0 report1 journal0 journal1 wrote kept = absurd wrote
-replay_is_told TooLong input report0 report1 journal0 journal1 wrote kept = (wrote, kept)
-replay_is_told ReadFailed input report0 report1 journal0 journal1 wrote kept = (wrote, kept)
-replay_is_told NoMemory input report0 report1 journal0 journal1 wrote kept = (wrote, kept)
-replay_is_told (Illegal line) input report0 report1 journal0 journal1 wrote kept = (wrote, kept)
-replay_is_told (Text f) input report0 report1 journal0 journal1 wrote kept = (wrote, kept)
+-- So much of a report of this kind was written, and no journal, as that status says.
+pub report_is_told : (Reports : List ℕ → List ℕ → Type 0) (s : Status) (input report0 report1 journal0 journal1 : Option (List ℕ))
+    → IsSomeAnd (replay_of s) (λ r. ReportAfter Reports r input report0 report1) → journal1 ≡ journal0
+    → WroteOf (TellsReport Reports) (extent_of s) input report0 report1 journal0 journal1
+report_is_told Reports Done None report0 report1 journal0 journal1 wrote kept = tt
+report_is_told Reports Done (Some bytes) report0 report1 journal0 journal1 wrote kept =
+    (wrote.0, [], record { reported = wrote.1; none = refl }, (wrote.2, nothing_more journal0 journal1 kept))
+report_is_told Reports ReportFailed None report0 report1 journal0 journal1 wrote kept = tt
+report_is_told Reports ReportFailed (Some bytes) report0 report1 journal0 journal1 wrote kept =
+    (wrote.0, [], record { reported = wrote.1; none = refl }, (wrote.2, kept))
+report_is_told Reports Words input report0 report1 journal0 journal1 wrote kept = absurd wrote
+report_is_told Reports (Deck f) input report0 report1 journal0 journal1 wrote kept = absurd wrote
+report_is_told Reports JournalFailed input report0 report1 journal0 journal1 wrote kept = absurd wrote
+report_is_told Reports TooLong input report0 report1 journal0 journal1 wrote kept = (wrote, kept)
+report_is_told Reports ReadFailed input report0 report1 journal0 journal1 wrote kept = (wrote, kept)
+report_is_told Reports NoMemory input report0 report1 journal0 journal1 wrote kept = (wrote, kept)
+report_is_told Reports (Illegal line) input report0 report1 journal0 journal1 wrote kept = (wrote, kept)
+report_is_told Reports (Text f) input report0 report1 journal0 journal1 wrote kept = (wrote, kept)

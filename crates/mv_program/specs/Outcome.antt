@@ -4,10 +4,9 @@ use Rattle.std.specs.Prelude.{◌≡◌, ℕ, ◌<◌, ◌≤◌, Bool, true, fa
 use Rattle.mv_deck.specs.Fault.{first_fault}
 use Rattle.mv_ending.specs.Input.{IsWhole, IsTooLong, IsCut, IsAllOrNothing}
 use Rattle.mv_ending.specs.Written.{Extent, Nothing, PartOfReport, PartOfJournal, Everything, Wrote, WroteOf}
-use Rattle.mv_replay.specs.Judgement.{IsLegalJournal}
 use Rattle.mv_replay.specs.Outcome as replay
 use Rattle.mv_program.specs.declared.command.Command.{Command}
-use Rattle.mv_program.specs.declared.command.Command.TheVariants.{Spool, Replay}
+use Rattle.mv_program.specs.declared.command.Command.TheVariants.{Spool, Replay, Convert}
 use Rattle.mv_program.specs.declared.status.Status.{Status}
 use Rattle.mv_program.specs.declared.status.Status.TheVariants.{Done, Words, Deck, TooLong, ReadFailed, ReportFailed, JournalFailed, NoMemory, Illegal, Text}
 use Rattle.mv_program.specs.Run.{deck_limit, report_of, journal_of_run, IsRun}
@@ -28,6 +27,7 @@ DeckAsks n input status = (length input ≤ deck_limit) × IsFound n input statu
 abbrev pub Asks : Command → List ℕ → Status → Type 0
 Asks (Spool n) input status = DeckAsks n input status
 Asks Replay input status = IsSomeAnd (replay_of status) (λ s. replay.Asks input s)
+Asks Convert input status = IsSomeAnd (replay_of status) (λ s. replay.Asks input s)
 
 -- ---- the texts that a command tells of an input, where all goes well: its report and its journal
 
@@ -37,21 +37,21 @@ pub record TellsRun (n : ℕ) (input report journal : List ℕ) : Type 0 where
   pub kept : journal ≡ journal_of_run input
   pub run : IsRun input
 
--- how many events of a journal are legal, and no journal
-pub record TellsLegal (input report journal : List ℕ) : Type 0 where
-  pub count : ℕ
-  pub legal : IsLegalJournal input count
-  pub reported : report ≡ replay.legal_text count
+-- a report of this kind on a journal, and no journal
+pub record TellsReport (Reports : List ℕ → List ℕ → Type 0) (input report journal : List ℕ) : Type 0 where
+  pub reported : Reports input report
   pub none : journal ≡ []
 
 abbrev pub Tells : Command → (input report journal : List ℕ) → Type 0
 Tells (Spool n) input report journal = TellsRun n input report journal
-Tells Replay input report journal = TellsLegal input report journal
+Tells Replay input report journal = TellsReport replay.IsReplayReport input report journal
+Tells Convert input report journal = TellsReport replay.IsConversion input report journal
 
 -- whether it has a journal at all
 abbrev pub has_journal : Command → Bool
 has_journal (Spool n) = true
 has_journal Replay = false
+has_journal Convert = false
 
 -- ---- the input, and what is left of it
 
@@ -73,6 +73,7 @@ DeckOf n _ old new = ⊥
 abbrev pub InputOf : Option Command → Status → Option (List ℕ) → Option (List ℕ) → Type 0
 InputOf (Some (Spool n)) status old new = DeckOf n status old new
 InputOf (Some Replay) status old new = IsSomeAnd (replay_of status) (λ s. replay.InputOf s old new)
+InputOf (Some Convert) status old new = IsSomeAnd (replay_of status) (λ s. replay.InputOf s old new)
 InputOf None status old new = new ≡ old
 
 -- ---- the two texts

@@ -11,6 +11,8 @@ pub enum Command {
     Spool(u32),
     /// Judge the journal of the input.
     Replay,
+    /// Judge the journal of the input, and write it in version 2.
+    Convert,
 }
 
 /// The command that the words are, where they are one.
@@ -19,6 +21,7 @@ pub(crate) fn command_of(words: &[String]) -> Option<Command>
 {
     match words {
         [word] if word.as_str() == "replay" => Some(Command::Replay),
+        [word] if word.as_str() == "convert" => Some(Command::Convert),
         [word, initiators] if word.as_str() == "spool" && initiators.as_str() == "1" => {
             Some(Command::Spool(1))
         }

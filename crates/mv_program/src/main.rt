@@ -4,23 +4,18 @@
 #![tactic(auto)]
 
 mod command;
-mod gate;
 mod history;
 mod laws;
 mod program;
 mod status;
 mod texts;
 
-pub use gate::{Gate, OpenGate, Point};
 pub use laws::runs_are_legal;
-pub use program::run_program;
-pub use status::Status;
-
-#[cfg(test)]
-mod tests;
-
 use mv_ending::{Note, tell};
 use mv_io::{StdSink, StdSource};
+pub use mv_task::{Gate, OpenGate, Point};
+pub use program::run_program;
+pub use status::Status;
 use std::env;
 use std::io::{self, ErrorKind};
 use std::process::ExitCode;

@@ -9,16 +9,16 @@ ghost use Rattle.mv_ending.specs.Written.{IfUnwritten};
 ghost use Rattle.mv_program.specs.Command.{command_of as command_by_words};
 ghost use Rattle.mv_program.specs.Outcome.{Asks, InputOf, Told, extent_of, has_journal, Writes};
 ghost use Rattle.mv_program.specs.Status.{note_of as note_by_status, replay_of};
-ghost use Rattle.mv_replay.specs.Outcome.{ReportAfter};
+ghost use Rattle.mv_replay.specs.Outcome.{IsReplayReport, IsConversion, ReportAfter};
 
 use crate::command::{Command, command_of};
-use crate::gate::Gate;
 use crate::status::{Status, note_of, status_of};
 use crate::texts::{Texts, texts_of};
 use mv_deck::DeckRefusal;
 use mv_ending::tell;
 use mv_io::{ReadRefusal, Sink, Source, read_limited, write_all};
-use mv_replay::replay_command;
+use mv_replay::{convert_command, replay_command};
+use mv_task::Gate;
 use std::alloc::Global;
 
 /// The most bytes of a deck.
@@ -82,7 +82,7 @@ fn replay<D: Source, R: Sink>(alloc: Global, input: &mut D, report: &mut R) -> S
     ensures words { result ≢ Status.Words }
     ensures journal { result ≢ Status.JournalFailed }
     ensures input { InputOf (Some Command.Replay) result (D.left input.old) (D.left input.new) }
-    ensures report { IsSomeAnd (replay_of result) (λ s. ReportAfter s (D.left input.old) (R.taken report.old) (R.taken report.new)) }
+    ensures report { IsSomeAnd (replay_of result) (λ s. ReportAfter IsReplayReport s (D.left input.old) (R.taken report.old) (R.taken report.new)) }
     ensures read_failed { result ≡ Status.ReadFailed → Rose (D.faults input.old) (D.faults input.new) }
     ensures report_failed { result ≡ Status.ReportFailed → Rose (R.faults report.old) (R.faults report.new) }
     ensures unwritten { IfUnwritten (extent_of result) (report.new ≡ report.old) }
@@ -91,10 +91,24 @@ fn replay<D: Source, R: Sink>(alloc: Global, input: &mut D, report: &mut R) -> S
     status_of(replay_command(alloc, input, report))
 }
 
+// Judges the journal of the input, and writes it in version 2.
+fn convert<D: Source, R: Sink>(alloc: Global, input: &mut D, report: &mut R) -> Status
+    ensures words { result ≢ Status.Words }
+    ensures journal { result ≢ Status.JournalFailed }
+    ensures input { InputOf (Some Command.Convert) result (D.left input.old) (D.left input.new) }
+    ensures report { IsSomeAnd (replay_of result) (λ s. ReportAfter IsConversion s (D.left input.old) (R.taken report.old) (R.taken report.new)) }
+    ensures read_failed { result ≡ Status.ReadFailed → Rose (D.faults input.old) (D.faults input.new) }
+    ensures report_failed { result ≡ Status.ReportFailed → Rose (R.faults report.old) (R.faults report.new) }
+    ensures unwritten { IfUnwritten (extent_of result) (report.new ≡ report.old) }
+    ensures counts { (D.faults input.old ≤ D.faults input.new) × (R.faults report.old ≤ R.faults report.new) }
+{
+    status_of(convert_command(alloc, input, report))
+}
+
 /// Runs a command: reads the input, and writes the report, and after it the journal where the command has one. What is
 /// written is made in memory before. Last it tells on the notes how it ended, where it did not end well.
 ///
-/// The commands so far are `spool 1` and `replay`. The words are those behind the program's name. `rt` and `gate` are for
+/// The commands so far are `spool 1`, `replay` and `convert`. The words are those behind the program's name. `rt` and `gate` are for
 /// the tasks of later commands. Of the input no more than the command's limit and one byte is taken. Nothing is read and
 /// no memory is taken where the words are no command.
 pub fn run_program<X, D: Source, R: Sink, K: Sink, N: Sink, G: Gate + Sync>(
@@ -144,6 +158,7 @@ pub fn run_program<X, D: Source, R: Sink, K: Sink, N: Sink, G: Gate + Sync>(
         None => Status::Words,
         Some(Command::Spool(initiators)) => spool(alloc, initiators, input, report, journal),
         Some(Command::Replay) => replay(alloc, input, report),
+        Some(Command::Convert) => convert(alloc, input, report),
     };
     tell(notes, note_of(status));
     status

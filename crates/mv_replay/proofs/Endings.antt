@@ -2,26 +2,27 @@
 use Rattle.std.proofs.Common.{◌≡◌, ℕ, ◌+◌, ◌≤◌, List, ◌∷◌, ◌++◌, length, Option, Some, None, refl, sym, ap, subst, ◌∙◌, arith, inl, inr}
 use Rattle.std.specs.Prelude.{IfSome}
 use Rattle.mv_machine.specs.declared.entry.Entry.{Entry}
-use Rattle.mv_machine.specs.Legal.{IsNext, Legal, after}
 use Rattle.mv_machine.specs.Setup.{Setup}
-use Rattle.mv_machine.specs.System.{opening}
 use Rattle.mv_entrytext.specs.declared.fault.TextFault.{TextFault}
 use Rattle.mv_entrytext.specs.Fault.{text_fault}
 use Rattle.mv_entrytext.proofs.LinesAgain.{no_fault, one_journal}
 use Rattle.mv_replay.specs.declared.status.ReplayStatus.{ReplayStatus}
 use Rattle.mv_replay.specs.declared.status.ReplayStatus.TheVariants.{Done, TooLong, ReadFailed, ReportFailed, NoMemory, Illegal, Text}
-use Rattle.mv_replay.specs.Judgement.{journal_limit, first_line, IsLegalJournal, IsIllegalAt}
+use Rattle.mv_replay.specs.Judgement.{journal_limit, first_line, calls_in, AreRight, IsFirstWrong, IsLegalJournal, IsIllegalAt}
 use Rattle.mv_ending.specs.Ending.{EndsAs}
 use Rattle.mv_replay.specs.Outcome.{IsFound, Asks, InputOf}
-use Rattle.mv_replay.proofs.Splits.{one_split, no_split}
+use Rattle.mv_replay.proofs.Converted.{right_calls}
+use Rattle.mv_replay.proofs.Wrong.{one_first, not_first}
 
 -- ---- what a text is found to be
 
 pub legal_is_sound : (bytes : List ℕ) (count : ℕ) → IsLegalJournal bytes count → text_fault bytes ≡ None
-legal_is_sound bytes count l = ap text_fault l.text ∙ no_fault l.setup l.entries l.journal
+legal_is_sound bytes count l =
+    ap text_fault l.text
+    ∙ no_fault l.version l.setup l.entries (calls_in l.version l.setup l.entries) l.journal (right_calls l.version l.setup l.entries l.journal.count)
 
 pub illegal_is_sound : (bytes : List ℕ) (line : ℕ) → IsIllegalAt bytes line → text_fault bytes ≡ None
-illegal_is_sound bytes line i = ap text_fault i.text ∙ no_fault i.setup (i.before ++ i.entry ∷ i.later) i.journal
+illegal_is_sound bytes line i = ap text_fault i.text ∙ no_fault i.version i.setup i.entries i.calls i.journal i.numbers
 
 not_faulty : (bytes : List ℕ) (f : TextFault) → text_fault bytes ≡ None → text_fault bytes ≡ Some f → ⊥
 not_faulty bytes f none some =
@@ -30,28 +31,27 @@ not_faulty bytes f none some =
 
 pub not_both : (bytes : List ℕ) (count line : ℕ) → IsLegalJournal bytes count → IsIllegalAt bytes line → ⊥
 not_both bytes count line l i =
-    let listed = i.before ++ i.entry ∷ i.later in
-    let same = one_journal l.setup i.setup l.entries listed l.journal i.journal (sym l.text ∙ i.text) in
-    let legal : Legal i.setup l.entries = subst (λ (c : Setup). Legal c l.entries) same.0 l.legal in
-    let all : Legal i.setup listed = subst (λ (es : List Entry). Legal i.setup es) same.1 legal in
-    no_split i.setup (opening i.setup) i.before i.later i.entry all i.other
+    let ns = calls_in l.version l.setup l.entries in
+    let same = one_journal l.version i.version l.setup i.setup l.entries i.entries ns i.calls l.journal
+    (right_calls l.version l.setup l.entries l.journal.count) i.journal i.numbers (sym l.text ∙ i.text) in
+    let right : AreRight l.version l.setup l.entries ns = record { legal = l.legal; numbers = refl } in
+    let other : AreRight i.version i.setup i.entries i.calls = rw (← same.0, ← same.1, ← same.2, ← same.3) right in
+    not_first i.version i.setup i.entries i.calls i.index other i.first
 
 pub one_count : (bytes : List ℕ) (m n : ℕ) → IsLegalJournal bytes m → IsLegalJournal bytes n → m ≡ n
 one_count bytes m n k l =
-    let same = one_journal k.setup l.setup k.entries l.entries k.journal l.journal (sym k.text ∙ l.text) in
-    k.number ∙ ap (λ (es : List Entry). length es) same.1 ∙ sym l.number
+    let same = one_journal k.version l.version k.setup l.setup k.entries l.entries (calls_in k.version k.setup k.entries)
+    (calls_in l.version l.setup l.entries) k.journal (right_calls k.version k.setup k.entries k.journal.count) l.journal
+    (right_calls l.version l.setup l.entries l.journal.count) (sym k.text ∙ l.text) in
+    k.number ∙ ap (λ (es : List Entry). length es) same.2 ∙ sym l.number
 
 pub one_line : (bytes : List ℕ) (m n : ℕ) → IsIllegalAt bytes m → IsIllegalAt bytes n → m ≡ n
 one_line bytes m n i j =
-    let one = i.before ++ i.entry ∷ i.later in
-    let other = j.before ++ j.entry ∷ j.later in
-    let same = one_journal i.setup j.setup one other i.journal j.journal (sym i.text ∙ j.text) in
-    let legal : Legal j.setup i.before = subst (λ (c : Setup). Legal c i.before) same.0 i.legal in
-    let differs : IsNext j.setup (after j.setup i.before) i.entry → ⊥ =
-    subst (λ (c : Setup). IsNext c (after c i.before) i.entry → ⊥) same.0 i.other in
-    let long : length i.before ≡ length j.before =
-    one_split j.setup (opening j.setup) i.before j.before i.later j.later i.entry j.entry same.1 legal j.legal differs j.other in
-    i.place ∙ ap (λ (c : Setup). first_line c + length i.before) same.0 ∙ ap (λ (k : ℕ). first_line j.setup + k) long ∙ sym j.place
+    let same = one_journal i.version j.version i.setup j.setup i.entries j.entries i.calls j.calls i.journal i.numbers j.journal j.numbers
+    (sym i.text ∙ j.text) in
+    let first : IsFirstWrong j.version j.setup j.entries j.calls i.index = rw (← same.0, ← same.1, ← same.2, ← same.3) i.first in
+    let at : i.index ≡ j.index = one_first j.version j.setup j.entries j.calls i.index j.index first j.first in
+    i.place ∙ ap (λ (c : Setup). first_line c + i.index) same.1 ∙ ap (λ (k : ℕ). first_line j.setup + k) at ∙ sym j.place
 
 one_fault : (f g : TextFault) → Some f ≡ Some g → f ≡ g
 one_fault f g e = cc

@@ -1,3 +1,10 @@
+-- how many lines a text has
 pub mod Lines
-pub mod Splits
+-- the first entry that is wrong
+pub mod Wrong
+-- convert_command, legal_lists_are_done
+pub mod Converted
+-- what is reported
+pub mod Reported
+-- texts_ask_for_one_ending, and the ending that is owed
 pub mod Endings

@@ -1,13 +1,12 @@
 -- The lines of a journal are no more than its bytes.
-use Rattle.std.proofs.Common.{◌≡◌, ℕ, ◌+◌, ◌≤◌, List, [], ◌∷◌, length, length-append, ap, ◌∙◌, arith}
+use Rattle.std.proofs.Common.{◌≡◌, ℕ, suc, ◌+◌, ◌<◌, ◌≤◌, List, [], ◌∷◌, length, length-append, refl, ap, arith}
 use Rattle.std.specs.Prelude.{codes}
 use Rattle.std.specs.List.{flat_map}
 use Rattle.mv_machine.specs.declared.entry.Entry.{Entry}
-use Rattle.mv_machine.specs.declared.replaying.Illegal.{Illegal}
-use Rattle.mv_machine.specs.Replay.{IsFirstIllegal}
 use Rattle.mv_machine.specs.Setup.{Setup}
-use Rattle.mv_machine.specs.System.{opening}
-use Rattle.mv_entrytext.specs.Journal.{Line, Version, Callers, Elements, Volumes, Latches, Quota, Budget, Owner, ExitTo, Events, EntryOf, End, line_text, line, counts_text, lists_text, head_text, journal_text}
+use Rattle.mv_entrytext.specs.Journal.{Line, JournalOf, Callers, Elements, Volumes, Latches, Quota, Budget, Owner, ExitTo, Events, EntryOf, End, line_text, line, entry_lines, counts_text, lists_text, head_text, text_of}
+use Rattle.mv_entrytext.specs.declared.version.Version.{Version}
+use Rattle.mv_entrytext.specs.Fault.{IsTextIn}
 use Rattle.mv_replay.specs.Judgement.{journal_limit, first_line}
 
 -- each line has its LF
@@ -19,31 +18,43 @@ as_many : {A : Type 0} (f : A → Line) (xs : List A) → length xs ≤ length (
 as_many f [] = omega arith
 as_many f (x ∷ xs) = omega (arith, has_a_byte (f x), length-append (line (f x)) (flat_map (λ y. line (f y)) xs), as_many f xs)
 
-counts : (c : Setup) → 6 ≤ length (counts_text c)
+counts : (v : Version) (c : Setup) → 6 ≤ length (counts_text v c)
 unfolding counts_text
-counts c =
+counts v c =
     let callers = has_a_byte (Callers c.callers) in
     let elements = has_a_byte (Elements c.elements_per_caller) in
     let volumes = has_a_byte (Volumes c.volumes) in
     let latches = has_a_byte (Latches c.latches) in
     let quota = has_a_byte (Quota c.quota c.posted_quota) in
-    simp length-append (omega (arith, has_a_byte Version, callers, elements, volumes, latches, quota))
+    simp length-append (omega (arith, has_a_byte (JournalOf v), callers, elements, volumes, latches, quota))
 
 lists : (c : Setup) → length c.budgets + length c.owners + length c.exits ≤ length (lists_text c)
 unfolding lists_text
 lists c =
     simp length-append (omega (arith, as_many (λ n. Budget n) c.budgets, as_many (λ n. Owner n) c.owners, as_many (λ x. ExitTo x) c.exits))
 
--- every line counts from the first to END
-pub lines_fit : (c : Setup) (es : List Entry) → first_line c + length es ≤ length (journal_text c es)
-unfolding head_text journal_text
-lines_fit c es =
-    simp length-append (omega (arith, counts c, lists c, has_a_byte Events, as_many (λ e. EntryOf e) es, has_a_byte (End (length es))))
+-- there is a line for each entry
+entry_line_each : (es : List Entry) (ns : List ℕ) → length (entry_lines es ns) ≡ length es
+entry_line_each [] ns = refl
+entry_line_each (e ∷ es) [] = ap (λ (n : ℕ). suc n) (entry_line_each es [])
+entry_line_each (e ∷ es) (n ∷ ns) = ap (λ (n : ℕ). suc n) (entry_line_each es ns)
 
--- so the line of an illegal entry is none beyond the limit
-pub line_fits : (bytes : List ℕ) (c : Setup) (es : List Entry) (i : Illegal) → length bytes ≤ journal_limit → bytes ≡ journal_text c es
-    → IsFirstIllegal c (opening c) es i → first_line c + i.index ≤ journal_limit
-line_fits bytes c es i short text w =
-    let parts : length es ≡ length w.before + length (w.entry ∷ w.later) =
-    ap length w.split ∙ length-append w.before (w.entry ∷ w.later) in
-    omega (arith, lines_fit c es, parts, w.index, ap length text, short)
+-- every line counts from the first to END
+pub lines_fit : (v : Version) (c : Setup) (es : List Entry) (ns : List ℕ) → first_line c + length es ≤ length (text_of v c es ns)
+unfolding head_text text_of
+lines_fit v c es ns =
+    simp length-append (omega (
+      arith,
+      counts v c,
+      lists c,
+      has_a_byte Events,
+      as_many (λ l. l) (entry_lines es ns),
+      entry_line_each es ns,
+      has_a_byte (End (length es)),
+    ))
+
+-- so the line of an entry is none beyond the limit
+pub line_fits : (told : ℕ) (bytes : List ℕ) (c : Setup) (es : List Entry) (ns : List ℕ) (i : ℕ) → length bytes ≤ journal_limit
+    → IsTextIn told bytes c es ns → i < length es → first_line c + i ≤ journal_limit
+line_fits told bytes c es ns i short t within =
+    omega (arith, lines_fit t.version c es ns, within, ap length t.text, short)

@@ -1,10 +1,14 @@
--- What a text is: the journal of a legal history, or one with a first entry that is not the machine's, or no journal.
-use Rattle.std.specs.Prelude.{◌≡◌, ℕ, ◌+◌, List, ◌∷◌, ◌++◌, length, Some}
+-- What a text is: the journal of a legal history with its call numbers, or one with a first entry that is not the machine's or
+-- has another number, or no journal.
+use Rattle.std.specs.Prelude.{◌≡◌, ℕ, suc, ◌+◌, ◌<◌, List, [], take, length, Option, Some, None}
 use Rattle.mv_machine.specs.declared.entry.Entry.{Entry}
-use Rattle.mv_machine.specs.Legal.{IsNext, Legal, after}
+use Rattle.mv_machine.specs.Legal.{Legal}
+use Rattle.mv_calls.specs.Numbers.{calls}
 use Rattle.mv_machine.specs.Setup.{Setup}
-use Rattle.mv_entrytext.specs.Journal.{journal_text}
-use Rattle.mv_entrytext.specs.Fault.{HasJournal, text_fault}
+use Rattle.mv_entrytext.specs.declared.version.Version.{Version}
+use Rattle.mv_entrytext.specs.declared.version.Version.TheVariants.{One, Two}
+use Rattle.mv_entrytext.specs.Journal.{number_of, text_of}
+use Rattle.mv_entrytext.specs.Fault.{HasJournal, AreCallsIn, text_fault}
 use Rattle.mv_replay.specs.declared.status.ReplayStatus.{ReplayStatus}
 use Rattle.mv_replay.specs.declared.status.ReplayStatus.TheVariants.{NoMemory, Illegal, Text}
 
@@ -12,12 +16,31 @@ use Rattle.mv_replay.specs.declared.status.ReplayStatus.TheVariants.{NoMemory, I
 abbrev pub journal_limit : ℕ
 journal_limit = 67_108_864
 
--- the text of so many entries, which are legal
+-- the call numbers of entries in a text of this version: the machine's, and in version 1 none
+abbrev pub calls_in : Version → Setup → List Entry → List ℕ
+calls_in One c es = []
+calls_in Two c es = calls c es
+
+-- entries are legal, and these are their call numbers
+pub record AreRight (v : Version) (c : Setup) (es : List Entry) (ns : List ℕ) : Type 0 where
+  pub legal : Legal c es
+  pub numbers : ns ≡ calls_in v c es
+
+-- the text, in the version of this number, of entries that are legal, with their call numbers
+pub record IsLegalText (told : ℕ) (bytes : List ℕ) (c : Setup) (es : List Entry) : Type 0 where
+  pub version : Version
+  pub number : told ≡ number_of version
+  pub journal : HasJournal c es
+  pub text : bytes ≡ text_of version c es (calls_in version c es)
+  pub legal : Legal c es
+
+-- the text of so many entries, which are legal, with their call numbers
 pub record IsLegalJournal (bytes : List ℕ) (count : ℕ) : Type 0 where
+  pub version : Version
   pub setup : Setup
   pub entries : List Entry
   pub journal : HasJournal setup entries
-  pub text : bytes ≡ journal_text setup entries
+  pub text : bytes ≡ text_of version setup entries (calls_in version setup entries)
   pub legal : Legal setup entries
   pub number : count ≡ length entries
 
@@ -25,17 +48,34 @@ pub record IsLegalJournal (bytes : List ℕ) (count : ℕ) : Type 0 where
 abbrev pub first_line : Setup → ℕ
 first_line c = 8 + length c.budgets + length c.owners + length c.exits
 
--- the text of entries that are legal up to the one on this line, which is not the machine's next
+-- the entries before this place are right, and with the one there they are not: it is not the machine's next, or has another
+-- number
+pub record IsFirstWrong (v : Version) (c : Setup) (es : List Entry) (ns : List ℕ) (i : ℕ) : Type 0 where
+  pub within : i < length es
+  pub good : AreRight v c (take i es) (take i ns)
+  pub bad : ¬ AreRight v c (take (suc i) es) (take (suc i) ns)
+
+-- the first of them that is wrong, if there is one
+abbrev pub IsFirstIn : Version → Setup → List Entry → List ℕ → Option ℕ → Type 0
+IsFirstIn v c es ns None = AreRight v c es ns
+IsFirstIn v c es ns (Some i) = IsFirstWrong v c es ns i
+
+-- that of a journal in the version of this number
+abbrev pub IsJudged : ℕ → Setup → List Entry → List ℕ → Option ℕ → Type 0
+IsJudged told c es ns first = (v : Version) → told ≡ number_of v → AreCallsIn v es ns → IsFirstIn v c es ns first
+
+-- the text of entries of which the one on this line is the first that is wrong
 pub record IsIllegalAt (bytes : List ℕ) (line : ℕ) : Type 0 where
+  pub version : Version
   pub setup : Setup
-  pub before : List Entry
-  pub entry : Entry
-  pub later : List Entry
-  pub journal : HasJournal setup (before ++ entry ∷ later)
-  pub text : bytes ≡ journal_text setup (before ++ entry ∷ later)
-  pub legal : Legal setup before
-  pub other : ¬ IsNext setup (after setup before) entry
-  pub place : line ≡ first_line setup + length before
+  pub entries : List Entry
+  pub calls : List ℕ
+  pub journal : HasJournal setup entries
+  pub numbers : AreCallsIn version entries calls
+  pub text : bytes ≡ text_of version setup entries calls
+  pub index : ℕ
+  pub first : IsFirstWrong version setup entries calls index
+  pub place : line ≡ first_line setup + index
 
 -- a text that is not a legal journal, or may be one where memory ran out
 abbrev pub IsRefused : List ℕ → ReplayStatus → Type 0

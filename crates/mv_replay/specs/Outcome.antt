@@ -1,16 +1,35 @@
--- What a replay writes, and what its streams hold after each way that it can end.
+-- What a replay and a conversion write, and what their streams hold after each way that they can end.
 use Rattle.std.specs.Prelude.{◌≡◌, ℕ, ◌<◌, ◌≤◌, List, ◌++◌, length, codes, decimal, Option, Some, IfSome}
 use Rattle.mv_io.specs.Sink.{Appends}
 use Rattle.mv_ending.specs.Input.{IsWhole, IsTooLong, IsCut, IsAllOrNothing}
 use Rattle.mv_ending.specs.Written.{AppendsFront, Extent, Nothing, PartOfReport, Everything}
-use Rattle.mv_entrytext.specs.Fault.{text_fault}
+use Rattle.mv_entrytext.specs.Journal.{journal_text}
+use Rattle.mv_entrytext.specs.Fault.{journal_of, text_fault}
 use Rattle.mv_replay.specs.declared.status.ReplayStatus.{ReplayStatus}
 use Rattle.mv_replay.specs.declared.status.ReplayStatus.TheVariants.{Done, TooLong, ReadFailed, ReportFailed, NoMemory, Illegal, Text}
 use Rattle.mv_replay.specs.Judgement.{journal_limit, IsLegalJournal, IsIllegalAt}
 
--- the report on a legal journal
+-- ---- the reports on a legal journal
+
+-- the line that tells how many events it has
 unfoldable pub legal_text : ℕ → List ℕ
 legal_text count = codes "LEGAL " ++ decimal count ++ codes " EVENTS\n"
+
+-- what a replay reports: that line
+pub record IsReplayReport (input report : List ℕ) : Type 0 where
+  pub count : ℕ
+  pub legal : IsLegalJournal input count
+  pub reported : report ≡ legal_text count
+
+-- the text in version 2 of the configuration and the entries that a text tells, with the machine's call numbers
+abbrev pub converted : List ℕ → List ℕ
+converted input = journal_text (journal_of input).setup (journal_of input).entries
+
+-- what a conversion reports: that text
+pub record IsConversion (input report : List ℕ) : Type 0 where
+  pub count : ℕ
+  pub legal : IsLegalJournal input count
+  pub reported : report ≡ converted input
 
 -- ---- the ending that is asked for
 
@@ -47,13 +66,14 @@ InputOf NoMemory old new = IsAllOrNothing journal_limit old new
 
 -- ---- the report
 
--- What the sink of the report holds after each status. What is told of an input is told where its source told it.
-abbrev pub ReportAfter : ReplayStatus → Option (List ℕ) → Option (List ℕ) → Option (List ℕ) → Type 0
-ReportAfter Done input old new =
-    IfSome input (λ bytes. (count : ℕ) × IsLegalJournal bytes count × Appends old new (legal_text count))
-ReportAfter ReportFailed input old new =
-    IfSome input (λ bytes. (count : ℕ) × IsLegalJournal bytes count × AppendsFront old new (legal_text count))
-ReportAfter _ input old new = new ≡ old
+-- What the sink of the report holds after each status of a command that reports so. What is told of an input is told where its
+-- source told it.
+abbrev pub ReportAfter : (List ℕ → List ℕ → Type 0) → ReplayStatus → (input old new : Option (List ℕ)) → Type 0
+ReportAfter Reports Done input old new =
+    IfSome input (λ bytes. (report : List ℕ) × Reports bytes report × Appends old new report)
+ReportAfter Reports ReportFailed input old new =
+    IfSome input (λ bytes. (report : List ℕ) × Reports bytes report × AppendsFront old new report)
+ReportAfter Reports _ input old new = new ≡ old
 
 -- how much of it was written
 abbrev pub extent_of : ReplayStatus → Extent

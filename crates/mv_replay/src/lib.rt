@@ -1,14 +1,17 @@
-//! The command that judges a journal: is the text on its input the journal of a legal history of the one-thread machine?
-//! `replay_command` reads the input, then the text, and steps the machine through the entries. It reports how many
-//! events were legal, or tells the line of the first entry that is not the machine's, or the first fault of the text.
+//! The commands on journals: is the text on the input the journal of a legal history of the one-thread machine?
+//! `replay_command` reports how many events were legal, `convert_command` the journal in version 2 of the text; both tell the
+//! line of the first entry that is not the machine's or has another call number, or the first fault of the text.
 #![tactic(auto)]
 
+mod converting;
 mod judging;
 mod laws;
+mod reading;
 mod replaying;
 mod status;
 
-pub use laws::texts_ask_for_one_ending;
+pub use converting::convert_command;
+pub use laws::{legal_lists_are_done, texts_ask_for_one_ending};
 pub use replaying::replay_command;
 pub use status::ReplayStatus;
 

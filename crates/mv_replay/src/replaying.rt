@@ -1,19 +1,16 @@
-//! The command: what is read, judged and written. Its clauses cite specs/Outcome.
+//! The command `replay`: what is read, judged and written. Its clauses cite specs/Outcome.
 
 ghost use Rattle.std.specs.Prelude.{◌≡◌, ◌≤◌, IfSome};
 ghost use Rattle.mv_io.specs.Fault.{Rose};
 ghost use Rattle.mv_ending.specs.Ending.{EndsAs};
 ghost use Rattle.mv_ending.specs.Written.{IfUnwritten};
-ghost use Rattle.mv_replay.specs.Outcome.{legal_text, Asks, InputOf, ReportAfter, extent_of};
+ghost use Rattle.mv_replay.specs.Outcome.{legal_text, IsReplayReport, Asks, InputOf, ReportAfter, extent_of};
 
-use crate::judging::judge;
+use crate::reading::read_legal;
 use crate::status::ReplayStatus;
 use mv_ending::Line;
-use mv_io::{ReadRefusal, Sink, Source, read_limited, write_all};
+use mv_io::{Sink, Source, write_all};
 use std::alloc::Global;
-
-/// The most bytes of a journal.
-const JOURNAL_LIMIT: usize = 67_108_864;
 
 // The report on a legal journal.
 #[tactic(auto, unfolding(crate::specs::Outcome::legal_text))]
@@ -27,8 +24,9 @@ fn legal_line(count: u32) -> Line
     line
 }
 
-/// Judges the journal on the input, of at most 67,108,864 bytes. Where it is the text of a journal whose entries are
-/// legal, the report gains the line `LEGAL n EVENTS` with their number. What else a status has to tell is the caller's.
+/// Judges the journal on the input, of at most 67,108,864 bytes. Where it is the text of a journal whose entries are legal,
+/// and have in version 2 their call numbers, the report gains the line `LEGAL n EVENTS` with their number. What else a status
+/// has to tell is the caller's.
 ///
 /// The input is read whole before it is judged, and nothing is written before that is done. The budgets of the
 /// configuration are not asked. Time is linear in the text, but for the events on a latch set, each of which takes a
@@ -44,7 +42,7 @@ pub fn replay_command<D: Source, R: Sink>(
     ensures report_failed { result ≡ ReplayStatus.ReportFailed → Rose (R.faults report.old) (R.faults report.new) }
 
     // What the report holds then. Where it is not used it is as it was, whether or not it tells its bytes.
-    ensures report { ReportAfter result (D.left input.old) (R.taken report.old) (R.taken report.new) }
+    ensures report { ReportAfter IsReplayReport result (D.left input.old) (R.taken report.old) (R.taken report.new) }
     ensures unwritten { IfUnwritten (extent_of result) (report.new ≡ report.old) }
 
     // How a replay has to end, where its streams do not fail.
@@ -53,21 +51,16 @@ pub fn replay_command<D: Source, R: Sink>(
         → (wanted ≡ ReplayStatus.Done → ¬ Rose (R.faults report.old) (R.faults report.new))
         → EndsAs ReplayStatus.NoMemory result wanted) }
 
-    // Counts of faults do not fall.
+    // IsReplayReport of faults do not fall.
     ensures counts { (D.faults input.old ≤ D.faults input.new) × (R.faults report.old ≤ R.faults report.new) }
 {
-    let bytes = match read_limited(alloc, input, JOURNAL_LIMIT) {
-        Ok(bytes) => bytes,
-        Err(ReadRefusal::Failed) => return ReplayStatus::ReadFailed,
-        Err(ReadRefusal::TooLong) => return ReplayStatus::TooLong,
-        Err(ReadRefusal::NoMemory) => return ReplayStatus::NoMemory,
-    };
-    let count = match judge(alloc, &bytes) {
-        Ok(count) => count,
+    let legal = match read_legal(alloc, input) {
+        Ok(legal) => legal,
         Err(status) => return status,
     };
-    if write_all(report, legal_line(count).as_bytes()).is_err() {
-        return ReplayStatus::ReportFailed;
+    let line = legal_line(legal.journal.entries.len() as u32);
+    match write_all(report, line.as_bytes()) {
+        Ok(()) => ReplayStatus::Done,
+        Err(_) => ReplayStatus::ReportFailed,
     }
-    ReplayStatus::Done
 }

@@ -29,11 +29,8 @@ returns-in-Ok-checked c =
     let shape = shape_some c.lines.rest.now text c.split_first.result.1 c.in-Some.behind c.split_first.ensures.parts c.in-Some.is in
     let shorter = shorter_some _ c.split_first.result.1 c.in-Some.behind c.split_first.ensures.shorter c.in-Some.is in
     let read : line_read true d.stage text ≡ Some journal.Events = c.in-Ok.ensures ∙ ap (λ l. Some (said l)) c.in-Events.is in
-    let next =
-    at_next c.args.bytes.now c.lines.rest.now c.in-Some.behind.now text c.lines.number d journal.Events c.lines.invariant shape shorter
-    read (valid_said d c.in-Ok-checked.ensures.1) in
-    subst (λ (s : Setup). IsAt c.args.bytes.now c.in-Some.behind.now (c.lines.number + 1) (draft_at AtEntries s []))
-    (sym c.in-Ok-checked.ensures.0) next
+    let next = at_next c.args.bytes.now c.lines.rest.now c.in-Some.behind.now text c.lines.number d journal.Events c.lines.invariant shape shorter read (valid_said d c.in-Ok-checked.ensures.1) in
+    subst (λ (s : Setup). IsAt c.args.bytes.now c.in-Some.behind.now (c.lines.number + 1) (draft_at (AtEntries d.version) d.version s [] [])) (sym c.in-Ok-checked.ensures.0) next
 
 pub returns-in-Err-checked : goal.returns-in-Err-checked
 returns-in-Err-checked c =

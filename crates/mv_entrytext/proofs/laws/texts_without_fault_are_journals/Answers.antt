@@ -7,6 +7,9 @@ use Rattle.mv_entrytext.proofs.laws.texts_without_fault_are_journals.Goals as go
 
 pub returns : goal.returns
 returns c = λ bytes. (
-  λ e. let r = is_read_whole bytes e in ((journal_of bytes).setup, (journal_of bytes).entries, r.1, r.0),
-  λ h. ap text_fault h.3 ∙ no_fault h.0 h.1 h.2,
+  λ e.
+      let r = is_read_whole bytes e in
+      let d = journal_of bytes in
+      (d.version, d.setup, d.entries, d.calls, r.journal, r.calls, r.text),
+  λ h. ap text_fault h.6 ∙ no_fault h.0 h.1 h.2 h.3 h.4 h.5,
 )

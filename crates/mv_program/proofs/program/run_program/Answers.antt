@@ -1,11 +1,12 @@
 -- What a command told and owes, a run by its words did and does.
 use Rattle.std.proofs.Common.{Some, None, sym, ap, ◌∙◌}
 use Rattle.mv_io.specs.Fault.{Rose}
-use Rattle.mv_program.specs.declared.command.Command.TheVariants.{Spool, Replay}
+use Rattle.mv_replay.specs.Outcome.{IsReplayReport, IsConversion}
+use Rattle.mv_program.specs.declared.command.Command.TheVariants.{Spool, Replay, Convert}
 use Rattle.mv_program.proofs.Owed.{owed_for}
-use Rattle.mv_program.proofs.Told.{told_for, replay_is_told}
+use Rattle.mv_program.proofs.Told.{told_for, report_is_told}
 use Rattle.mv_program.proofs.program.run_program.Goals as goal
-use Rattle.mv_program.proofs.program.run_program.Goals.{in-None, in-Some-Spool, in-Some-Replay}
+use Rattle.mv_program.proofs.program.run_program.Goals.{in-None, in-Some-Spool, in-Some-Replay, in-Some-Convert}
 
 pub returns-clause-told : goal.returns-clause-told
 returns-clause-told g c =
@@ -26,8 +27,13 @@ returns-clause-told g c =
       | in-Some-Replay w ↦
           told_for _ (Some Replay) made.status old report0 report1 journal0 journal1
           (sym c.command_of.ensures ∙ w.in-Some-Replay.is ∙ ap Some w.in-Some-Replay.field-0-is)
-          (replay_is_told made.status old report0 report1 journal0 journal1
+          (report_is_told IsReplayReport made.status old report0 report1 journal0 journal1
           (rw (sym w.status-is) at (rw (sym w.report-is) at w.replay-status.ensures.report)) (ap g.K.Sink.taken w.journal-is))
+      | in-Some-Convert w ↦
+          told_for _ (Some Convert) made.status old report0 report1 journal0 journal1
+          (sym c.command_of.ensures ∙ w.in-Some-Convert.is ∙ ap Some w.in-Some-Convert.field-0-is)
+          (report_is_told IsConversion made.status old report0 report1 journal0 journal1
+          (rw (sym w.status-is) at (rw (sym w.report-is) at w.convert-status.ensures.report)) (ap g.K.Sink.taken w.journal-is))
     ]
 
 pub returns-clause-owed : goal.returns-clause-owed
@@ -55,6 +61,14 @@ returns-clause-owed g c =
           let run = w.replay-status in
           owed_for _ (Some Replay) made.status old new read report journal
           (sym c.command_of.ensures ∙ w.in-Some-Replay.is ∙ ap Some w.in-Some-Replay.field-0-is)
+          (rw (sym w.status-is) at (rw (sym w.input-is) at run.ensures.input))
+          (rw (sym w.status-is) at (rw (sym w.input-is) at run.ensures.read_failed))
+          (rw (sym w.status-is) at (rw (sym w.report-is) at run.ensures.report_failed))
+          (λ e. absurd (run.ensures.journal (sym w.status-is ∙ e)))
+      | in-Some-Convert w ↦
+          let run = w.convert-status in
+          owed_for _ (Some Convert) made.status old new read report journal
+          (sym c.command_of.ensures ∙ w.in-Some-Convert.is ∙ ap Some w.in-Some-Convert.field-0-is)
           (rw (sym w.status-is) at (rw (sym w.input-is) at run.ensures.input))
           (rw (sym w.status-is) at (rw (sym w.input-is) at run.ensures.read_failed))
           (rw (sym w.status-is) at (rw (sym w.report-is) at run.ensures.report_failed))

@@ -3,14 +3,17 @@ use Rattle.std.specs.Prelude.{All}
 use Rattle.std.proofs.lemmas.List.{length-map}
 use Rattle.mv_deck.specs.Deck.{deck_data, job_data}
 use Rattle.mv_machine.specs.declared.entry.Entry.{Entry}
-use Rattle.mv_entrytext.specs.EntryText.{IsInRange, IsTyped}
+use Rattle.mv_machine.specs.Legal.{Legal}
+use Rattle.mv_machine.specs.Setup.{Setup}
+use Rattle.mv_machine.specs.Limits.{highest_place}
+use Rattle.mv_entrytext.specs.EntryText.{IsTyped}
 use Rattle.mv_report.specs.EndCode.{IsEndCode}
 use Rattle.mv_report.specs.Outcome.{ends, lines, totals}
 use Rattle.mv_report.specs.Report.{report_text}
 use Rattle.mv_report.proofs.Lengths.{one_end_per_job, one_lines_per_job}
 use Rattle.mv_report.proofs.SoundDecks.{sound_ends, sound_totals}
-use Rattle.mv_program.specs.Machine.{posts}
-use Rattle.mv_program.proofs.Runs.{few_jobs, are_codes, run_in_range}
+use Rattle.mv_program.specs.Machine.{plain_setup, posts}
+use Rattle.mv_program.proofs.Runs.{few_jobs, are_codes, low_places, few_events, legal_run}
 use Rattle.mv_program.proofs.texts.texts_of_deck.Goals as goal
 
 pub write_report-requires-clause-one_end_per_job : goal.write_report-requires-clause-one_end_per_job
@@ -49,12 +52,22 @@ posts_of-requires-clause-ends c =
     subst (λ (xs : List ℕ). All (λ end. end < 2 ^ 30) xs) (sym (c.deref-3.ensures.value ∙ c.in_ok-outcome.ensures.ends))
     (are_codes (deck_data c.args.deck.now) c.requires.sound.0 c.requires.sound.2)
 
+-- the configuration and the events are those of the deck's run
 pub write_journal-requires : goal.write_journal-requires
-write_journal-requires c = record {
-  in_range = subst (λ (xs : List Entry). All IsInRange xs)
-      (sym (c.deref-4.ensures.value ∙ c.in_ok-events.ensures ∙ ap posts (c.deref-3.ensures.value ∙ c.in_ok-outcome.ensures.ends)))
-      (run_in_range (deck_data c.args.deck.now) c.requires.sound.0 c.requires.sound.2);
-}
+write_journal-requires c =
+    let deck = deck_data c.args.deck.now in
+    let n = c.requires.sound.0 in
+    let sound = c.requires.sound.2 in
+    let count : c.len.result ≡ length (ends deck) = omega (arith, ap length c.in_ok-outcome.ensures.ends) in
+    let setup : c.in_ok-config.config ≡ plain_setup (length (ends deck)) = c.in_ok-config.ensures ∙ ap plain_setup count in
+    let events : c.deref-4.result.now ≡ posts (ends deck) =
+    c.deref-4.ensures.value ∙ c.in_ok-events.ensures ∙ ap posts (c.deref-3.ensures.value ∙ c.in_ok-outcome.ensures.ends) in
+    record {
+      legal = subst (λ (x : Setup). Legal x c.deref-4.result.now) (sym setup)
+          (subst (λ (xs : List Entry). Legal (plain_setup (length (ends deck))) xs) (sym events) (legal_run deck n sound));
+      few = omega (arith, ap length events, few_events deck n sound);
+      places = subst (λ (xs : List Entry). All (λ e. e.place ≤ highest_place) xs) (sym events) (low_places (ends deck));
+    }
 
 pub returns-clause-report : goal.returns-clause-report
 returns-clause-report c =

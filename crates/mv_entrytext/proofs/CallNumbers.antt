@@ -1,0 +1,143 @@
+-- Call numbers beside entries: one for each in version 2, and none in version 1.
+use Rattle.std.proofs.Common.{◌≡◌, ℕ, zero, suc, ◌+◌, ◌≤◌, List, [], ◌∷◌, ◌++◌, length, take, slice_get, Option, Some, None, cond, subst}
+use Rattle.std.proofs.Common.{refl, sym, ap, ◌∙◌, arith}
+use Rattle.std.specs.List.{AllByRecursion}
+use Rattle.std.proofs.lemmas.List.{length-append}
+use Rattle.std.proofs.lemmas.List.Elements.{All-from_recursion, recursion_from_All}
+use Rattle.std.proofs.lemmas.Bool.{eq-eqb}
+use Rattle.mv_machine.specs.declared.entry.Entry.{Entry}
+use Rattle.mv_machine.specs.Legal.{next}
+use Rattle.mv_calls.specs.Numbers.{Numbering, unnumbered, numbered_at, calls_from, calls}
+use Rattle.mv_machine.specs.Setup.{Setup}
+use Rattle.mv_machine.specs.System.{System, opening, with_at}
+use Rattle.mv_calls.proofs.call_numbers.Kept.{turn_low}
+use Rattle.mv_calls.proofs.call_numbers.Prefixes.{calls_length}
+use Rattle.mv_entrytext.specs.declared.version.Version.{Version}
+use Rattle.mv_entrytext.specs.declared.version.Version.TheVariants.{One, Two}
+use Rattle.mv_entrytext.specs.Ranges.{highest_u32}
+use Rattle.mv_entrytext.specs.Journal.{Line, EntryOf, entry_lines}
+use Rattle.mv_entrytext.specs.Lines.{with_call}
+use Rattle.mv_entrytext.specs.Fault.{AreCallNumbers, AreCallsIn}
+
+-- the number that an entry's line may have
+abbrev pub IsCallIn : Version → Option ℕ → Type 0
+IsCallIn One None = Unit {0}
+IsCallIn One (Some n) = ⊥
+IsCallIn Two None = ⊥
+IsCallIn Two (Some n) = n ≤ highest_u32
+
+-- those of a list
+abbrev pub AreEach : Version → List Entry → List ℕ → Type 0
+AreEach One es ns = ns ≡ []
+AreEach Two es ns = (length ns ≡ length es) × AllByRecursion (λ n. n ≤ highest_u32) ns
+
+-- the same as contracts say it
+pub calls_from_each : (v : Version) (es : List Entry) (ns : List ℕ) → AreEach v es ns → AreCallsIn v es ns
+calls_from_each One es ns h = h
+calls_from_each Two es ns h = record { one_each = h.0; each = All-from_recursion (λ n. n ≤ highest_u32) ns h.1 }
+
+-- and back
+pub each_from_calls : (v : Version) (es : List Entry) (ns : List ℕ) → AreCallsIn v es ns → AreEach v es ns
+each_from_calls One es ns h = h
+each_from_calls Two es ns h = (h.one_each, recursion_from_All (λ n. n ≤ highest_u32) ns h.each)
+
+-- before the first entry there is no number
+pub no_numbers : (v : Version) (es : List Entry) (ns : List ℕ) → es ≡ [] → ns ≡ [] → AreEach v es ns
+no_numbers One es ns e n = n
+no_numbers Two es ns e n = (
+  ap (λ (x : List ℕ). length x) n ∙ sym (ap (λ (x : List Entry). length x) e),
+  subst (λ x. AllByRecursion (λ n. n ≤ highest_u32) x) (sym n) tt,
+)
+
+-- ---- one entry more
+
+all_more : (ns : List ℕ) (n : ℕ) → AllByRecursion (λ n. n ≤ highest_u32) ns → n ≤ highest_u32
+    → AllByRecursion (λ n. n ≤ highest_u32) (ns ++ n ∷ [])
+all_more [] n h le = (le, tt)
+all_more (m ∷ ns) n h le = (h.0, all_more ns n h.1 le)
+
+-- its number, if its line has one, comes behind the others
+pub number_more : (v : Version) (es : List Entry) (ns : List ℕ) (call : Option ℕ) (e : Entry) → AreEach v es ns → IsCallIn v call
+    → AreEach v (es ++ e ∷ []) (with_call call ns)
+number_more One es ns None e h m = h
+number_more One es ns (Some n) e h m = absurd m
+number_more Two es ns None e h m = absurd m
+number_more Two es ns (Some n) e h m =
+    (length-append ns (n ∷ []) ∙ ap (λ (k : ℕ). k + 1) h.0 ∙ sym (length-append es (e ∷ [])), all_more ns n h.1 m)
+
+-- without numbers
+plain_more : (es : List Entry) (e : Entry) → entry_lines (es ++ e ∷ []) [] ≡ entry_lines es [] ++ EntryOf None e ∷ []
+plain_more [] e = refl
+plain_more (x ∷ es) e = ap (λ (ls : List Line). EntryOf None x ∷ ls) (plain_more es e)
+
+-- with a number for each
+numbered_more : (es : List Entry) (ns : List ℕ) (e : Entry) (n : ℕ) → length ns ≡ length es
+    → entry_lines (es ++ e ∷ []) (ns ++ n ∷ []) ≡ entry_lines es ns ++ EntryOf (Some n) e ∷ []
+numbered_more [] [] e n h = refl
+numbered_more [] (m ∷ ns) e n h = absurd (omega arith)
+numbered_more (x ∷ es) [] e n h = absurd (omega arith)
+numbered_more (x ∷ es) (m ∷ ns) e n h = ap (λ (ls : List Line). EntryOf (Some m) x ∷ ls) (numbered_more es ns e n (omega arith))
+
+-- so its line comes behind theirs
+pub lines_more : (v : Version) (es : List Entry) (ns : List ℕ) (call : Option ℕ) (e : Entry) → AreEach v es ns → IsCallIn v call
+    → entry_lines (es ++ e ∷ []) (with_call call ns) ≡ entry_lines es ns ++ EntryOf call e ∷ []
+lines_more One es ns None e h m =
+    subst (λ (x : List ℕ). entry_lines (es ++ e ∷ []) x ≡ entry_lines es x ++ EntryOf None e ∷ []) (sym h) (plain_more es e)
+lines_more One es ns (Some n) e h m = absurd m
+lines_more Two es ns None e h m = absurd m
+lines_more Two es ns (Some n) e h m = numbered_more es ns e n h.0
+
+-- ---- the machine's numbers
+
+-- each is of four bytes, where the entries are so few
+calls_fit : (c : Setup) (s : System) (table : ℕ → Numbering) (es : List Entry) (i : ℕ) → ((k : ℕ) → (table k).group ≤ i)
+    → i + length es ≤ highest_u32 → AllByRecursion (λ n. n ≤ highest_u32) (calls_from c s table es)
+calls_fit c s table [] i low le = tt
+calls_fit c s table (e ∷ es) i low le =
+    let after = numbered_at c s table e in
+    let here : after.group ≤ i + 1 =
+    subst (λ b. (cond b after (table e.caller)).group ≤ i + 1) (eq-eqb e.caller e.caller refl) (turn_low c s table e i low e.caller) in
+    (omega arith, calls_fit c (next s e) (with_at table e.caller after) es (i + 1) (turn_low c s table e i low) (omega arith))
+
+-- so there is one for each entry
+pub calls_are_numbers : (c : Setup) (es : List Entry) → length es ≤ highest_u32 → AreCallNumbers es (calls c es)
+calls_are_numbers c es le = record {
+  one_each = calls_length c es;
+  each = All-from_recursion (λ n. n ≤ highest_u32) (calls c es)
+      (calls_fit c (opening c) (λ k. unnumbered) es 0 (λ k. omega arith) (omega arith));
+}
+
+-- ---- a line more is written
+
+some_entry : (x y : Entry) → Some x ≡ Some y → x ≡ y
+some_entry x y e = cc
+
+take_none : (i : ℕ) → take {A = ℕ} i [] ≡ []
+take_none zero = refl
+take_none (suc i) = refl
+
+-- the line of the entry at a place stands behind those before it, with the number at that place, if there is one
+pub line_at : (es : List Entry) (ns : List ℕ) (i : ℕ) (e : Entry) (call : Option ℕ) → slice_get es i ≡ Some e → slice_get ns i ≡ call
+    → entry_lines (take (suc i) es) (take (suc i) ns) ≡ entry_lines (take i es) (take i ns) ++ EntryOf call e ∷ []
+line_at [] ns zero e call here there = absurd cc
+line_at [] ns (suc i) e call here there = absurd cc
+line_at (x ∷ es) [] zero e call here there =
+    ap (λ (o : Option ℕ). EntryOf o x ∷ []) there ∙ ap (λ (y : Entry). EntryOf call y ∷ []) (some_entry x e here)
+line_at (x ∷ es) (n ∷ ns) zero e call here there =
+    ap (λ (o : Option ℕ). EntryOf o x ∷ []) there ∙ ap (λ (y : Entry). EntryOf call y ∷ []) (some_entry x e here)
+line_at (x ∷ es) [] (suc i) e call here there =
+    let more : entry_lines (take (suc i) es) [] ≡ entry_lines (take i es) (take i []) ++ EntryOf call e ∷ [] =
+    line_at es [] i e call here there in
+    ap (λ (ls : List Line). EntryOf None x ∷ ls)
+    (more ∙ ap (λ (ns : List ℕ). entry_lines (take i es) ns ++ EntryOf call e ∷ []) (take_none i))
+line_at (x ∷ es) (n ∷ ns) (suc i) e call here there = ap (λ (ls : List Line). EntryOf (Some n) x ∷ ls) (line_at es ns i e call here there)
+
+-- the lines of all
+pub lines_all : (es : List Entry) (ns : List ℕ) (i : ℕ) → length es ≤ i → entry_lines (take i es) (take i ns) ≡ entry_lines es ns
+lines_all [] ns zero le = refl
+lines_all [] ns (suc i) le = refl
+lines_all (e ∷ es) ns zero le = absurd (omega arith)
+lines_all (e ∷ es) [] (suc i) le =
+    ap (λ (ls : List Line). EntryOf None e ∷ ls)
+    (sym (ap (λ (ns : List ℕ). entry_lines (take i es) ns) (take_none i)) ∙ lines_all es [] i (omega arith))
+lines_all (e ∷ es) (n ∷ ns) (suc i) le = ap (λ (ls : List Line). EntryOf (Some n) e ∷ ls) (lines_all es ns i (omega arith))

@@ -1,0 +1,23 @@
+//! The versions of the text: in the second each entry has the number of its call. `specs/Journal.antt` says how they differ.
+
+ghost use Rattle.std.specs.Prelude.{◌≡◌};
+ghost use Rattle.mv_entrytext.specs.Journal.{number_of};
+
+/// A version of the text, as laws and definitions name it.
+#[derive(Clone, Copy, Debug, PartialEq, Eq)]
+pub enum Version {
+    One,
+    Two,
+}
+
+impl Version {
+    /// Its number, as its first line has it.
+    pub fn number(self) -> u32
+        ensures { result ≡ number_of self }
+    {
+        match self {
+            Version::One => 1,
+            Version::Two => 2,
+        }
+    }
+}

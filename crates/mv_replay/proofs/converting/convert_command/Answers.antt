@@ -1,0 +1,59 @@
+-- What the input asks for, by what was read, and what was written of the report.
+use Rattle.std.proofs.Common.{◌≡◌, List, length, sym, ◌∙◌, rules}
+use Rattle.mv_io.specs.Fault.{Rose}
+use Rattle.mv_replay.specs.declared.status.ReplayStatus.TheVariants.{Done, ReportFailed}
+use Rattle.mv_replay.specs.Outcome.{converted, IsConversion}
+use Rattle.mv_replay.proofs.Converted.{journal_is_legal, is_converted}
+use Rattle.mv_replay.proofs.Endings.{owed}
+use Rattle.mv_replay.proofs.Reported.{reported, begun, unreported}
+use Rattle.mv_replay.proofs.converting.convert_command.Goals as goal
+
+-- an input that was not taken
+pub returns-in-Err-clause-owed : goal.returns-in-Err-clause-owed
+returns-in-Err-clause-owed g c =
+    owed c.in-Err.status (g.D.Source.left c.args.input.now) (g.D.Source.left c.read_legal.new.input) _
+    (Rose (g.R.Sink.faults c.args.report.now) (g.R.Sink.faults c.args.report.now)) c.in-Err.ensures.input (search rules)
+    (unreported _ c.in-Err.status c.in-Err.ensures.unreported)
+
+-- a report that was written
+pub returns-in-Ok-write_all-clause-owed : goal.returns-in-Ok-write_all-clause-owed
+returns-in-Ok-write_all-clause-owed g c =
+    owed Done (g.D.Source.left c.args.input.now) (g.D.Source.left c.read_legal.new.input) _
+    (Rose (g.R.Sink.faults c.args.report.now) (g.R.Sink.faults c.write_all.new.sink)) c.in-Ok.ensures.whole (λ e. absurd cc) (λ e. absurd cc)
+
+pub returns-in-Ok-write_all-clause-report : goal.returns-in-Ok-write_all-clause-report
+returns-in-Ok-write_all-clause-report g c =
+    let j = c.in-Ok.legal.journal in
+    let text = c.in-Ok.legal.text.items in
+    let made : c.deref.result.now ≡ converted text =
+    c.deref.ensures.value ∙ c.in-Ok-second_version.ensures ∙ sym (is_converted j.version text j.config j.entries.items c.in-Ok.ensures.legal) in
+    let says : IsConversion text c.deref.result.now = record {
+      count = length j.entries.items;
+      legal = journal_is_legal j.version text j.config j.entries.items c.in-Ok.ensures.legal;
+      reported = made;
+    } in
+    reported IsConversion (g.D.Source.left c.args.input.now) (g.R.Sink.taken c.args.report.now) (g.R.Sink.taken c.write_all.new.sink)
+    text c.deref.result.now c.in-Ok.ensures.text says c.in-Ok-write_all.ensures.whole
+
+-- one that was not
+pub returns-clause-owed : goal.returns-clause-owed
+returns-clause-owed g c =
+    owed ReportFailed (g.D.Source.left c.args.input.now) (g.D.Source.left c.read_legal.new.input) _
+    (Rose (g.R.Sink.faults c.args.report.now) (g.R.Sink.faults c.write_all.new.sink)) c.in-Ok.ensures.whole (λ e. absurd cc)
+    (λ e. c.in-Err-write_all.ensures.failed)
+
+-- of which a front stands there
+pub returns-clause-report : goal.returns-clause-report
+returns-clause-report g c =
+    let j = c.in-Ok.legal.journal in
+    let text = c.in-Ok.legal.text.items in
+    let made : c.deref.result.now ≡ converted text =
+    c.deref.ensures.value ∙ c.in-Ok-second_version.ensures ∙ sym (is_converted j.version text j.config j.entries.items c.in-Ok.ensures.legal) in
+    let says : IsConversion text c.deref.result.now = record {
+      count = length j.entries.items;
+      legal = journal_is_legal j.version text j.config j.entries.items c.in-Ok.ensures.legal;
+      reported = made;
+    } in
+    begun IsConversion (g.D.Source.left c.args.input.now) (g.R.Sink.taken c.args.report.now) (g.R.Sink.taken c.write_all.new.sink)
+    c.in-Err-write_all.field-0.taken text c.deref.result.now c.in-Ok.ensures.text says
+    c.in-Err-write_all.ensures.short c.in-Err-write_all.ensures.partial

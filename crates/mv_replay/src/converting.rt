@@ -1,0 +1,66 @@
+//! The command `convert`: what is read, judged and written. Its clauses cite specs/Outcome.
+
+ghost use Rattle.std.specs.Prelude.{◌≡◌, ◌≤◌, IfSome, IfOk};
+ghost use Rattle.mv_io.specs.Fault.{Rose};
+ghost use Rattle.mv_ending.specs.Ending.{EndsAs};
+ghost use Rattle.mv_ending.specs.Written.{IfUnwritten};
+ghost use Rattle.mv_entrytext.specs.Journal.{journal_text};
+ghost use Rattle.mv_replay.specs.Judgement.{IsLegalText};
+ghost use Rattle.mv_replay.specs.Outcome.{IsConversion, Asks, InputOf, ReportAfter, extent_of};
+
+use crate::reading::{LegalJournal, read_legal};
+use crate::status::ReplayStatus;
+use mv_entrytext::write_journal;
+use mv_io::{NoMemory, Sink, Source, write_all};
+use std::alloc::Global;
+
+// A legal journal's text in version 2. A text of that version is it already.
+fn second_version(alloc: Global, legal: LegalJournal) -> Result<Vec<u8>, NoMemory>
+    requires { IsLegalText legal.journal.version legal.text.items legal.journal.config legal.journal.entries.items }
+    ensures { IfOk result (λ text. text.items ≡ journal_text legal.journal.config legal.journal.entries.items) }
+{
+    if legal.journal.version == 2 {
+        return Ok(legal.text);
+    }
+    write_journal(alloc, &legal.journal.config, &legal.journal.entries)
+}
+
+/// Judges the journal on the input as `replay_command` does, and where it is legal the report gains its text in version 2,
+/// with the call numbers that the machine's rules give; a legal text of that version is its own conversion.
+///
+/// The text is made in memory before it is written, in time linear in the text, but for the events on a latch set.
+pub fn convert_command<D: Source, R: Sink>(
+    alloc: Global,
+    input: &mut D,
+    report: &mut R,
+) -> ReplayStatus
+    // Why a conversion ends as it does.
+    ensures input { InputOf result (D.left input.old) (D.left input.new) }
+    ensures read_failed { result ≡ ReplayStatus.ReadFailed → Rose (D.faults input.old) (D.faults input.new) }
+    ensures report_failed { result ≡ ReplayStatus.ReportFailed → Rose (R.faults report.old) (R.faults report.new) }
+
+    // What the report holds then. Where it is not used it is as it was, whether or not it tells its bytes.
+    ensures report { ReportAfter IsConversion result (D.left input.old) (R.taken report.old) (R.taken report.new) }
+    ensures unwritten { IfUnwritten (extent_of result) (report.new ≡ report.old) }
+
+    // How a conversion has to end, where its streams do not fail.
+    ensures owed { ¬ Rose (D.faults input.old) (D.faults input.new)
+        → IfSome (D.left input.old) (λ bytes. (wanted : ReplayStatus) → Asks bytes wanted
+        → (wanted ≡ ReplayStatus.Done → ¬ Rose (R.faults report.old) (R.faults report.new))
+        → EndsAs ReplayStatus.NoMemory result wanted) }
+
+    // IsReplayReport of faults do not fall.
+    ensures counts { (D.faults input.old ≤ D.faults input.new) × (R.faults report.old ≤ R.faults report.new) }
+{
+    let legal = match read_legal(alloc, input) {
+        Ok(legal) => legal,
+        Err(status) => return status,
+    };
+    let Ok(text) = second_version(alloc, legal) else {
+        return ReplayStatus::NoMemory;
+    };
+    match write_all(report, &text) {
+        Ok(()) => ReplayStatus::Done,
+        Err(_) => ReplayStatus::ReportFailed,
+    }
+}
