@@ -1,7 +1,8 @@
-//! The twin of the command `replay`: a reader and checker of journals in plain Rust, with nothing proved, to time the
-//! program against. It reads a journal (docs/FORMATS.md) from standard input, writes `LEGAL n EVENTS`, or a line on
-//! standard error, and ends with the program's own status. The design is the program's: the text becomes a list of
-//! entries, and a machine of one thread goes through them.
+//! The twin of the commands `replay` and `convert`: a reader, checker and writer of journals in plain Rust, with nothing
+//! proved, to time the program against. It reads a journal (docs/FORMATS.md) of either version from standard input and, by
+//! its one word, writes `LEGAL n EVENTS` or the journal in version 2; else a line on standard error; and it ends with the
+//! program's own status. The design is the program's: the text becomes a list of entries, and a machine of one thread goes
+//! through them, with a counter of each caller's calls.
 //!
 //! Build it by `rustc -O replay.rs`.
 
@@ -472,6 +473,8 @@ enum Stage {
 struct Journal {
     config: Config,
     entries: Vec<Entry>,
+    // The call numbers of version 2.
+    calls: Option<Vec<u32>>,
     first_line: usize,
 }
 
@@ -479,7 +482,9 @@ struct Journal {
 fn head_line(config: &mut Config, stage: Stage, line: &[u8], fields: &mut Fields) -> Option<Stage> {
     let word = fields.word()?;
     let next = match (stage, word) {
-        (Stage::Version, _) => return (line == b"JOURNAL 1").then_some(Stage::Callers),
+        (Stage::Version, _) => {
+            return matches!(line, b"JOURNAL 1" | b"JOURNAL 2").then_some(Stage::Callers)
+        }
         (Stage::Callers, b"CALLERS") => {
             config.callers = fields.any()?;
             Stage::Elements
@@ -526,14 +531,19 @@ fn head_line(config: &mut Config, stage: Stage, line: &[u8], fields: &mut Fields
 }
 
 enum EntryLine {
-    Entry(Entry),
+    Entry(Option<u32>, Entry),
     End(usize),
 }
 
-fn entry_line(fields: &mut Fields) -> Option<EntryLine> {
+fn entry_line(fields: &mut Fields, has_calls: bool) -> Option<EntryLine> {
     let line = match fields.word()? {
         b"END" => EntryLine::End(fields.any()? as usize),
-        caller => EntryLine::Entry(entry(fields, caller)?),
+        caller if has_calls => {
+            let point = caller.iter().position(|b| *b == b'.')?;
+            let call = fields.value(&caller[point + 1..], 0, ANY)? as u32;
+            EntryLine::Entry(Some(call), entry(fields, &caller[..point])?)
+        }
+        caller => EntryLine::Entry(None, entry(fields, caller)?),
     };
     fields.ends()?;
     Some(line)
@@ -552,6 +562,7 @@ fn sound<T>(read: Option<T>, fields: &Fields) -> Result<T, u32> {
 fn read_journal(mut rest: &[u8]) -> Result<Journal, (usize, u32)> {
     let mut config = Config::default();
     let mut entries = Vec::new();
+    let mut calls = rest.starts_with(b"JOURNAL 2\n").then(Vec::new);
     let mut stage = Stage::Version;
     let mut first_line = 0;
     let mut number = 1;
@@ -571,11 +582,16 @@ fn read_journal(mut rest: &[u8]) -> Result<Journal, (usize, u32)> {
                 first_line = number + 1;
             }
         } else {
-            let read = entry_line(&mut fields);
+            let read = entry_line(&mut fields, calls.is_some());
             match sound(read, &fields).map_err(|kind| (number, kind))? {
-                EntryLine::Entry(entry) => entries.push(entry),
+                EntryLine::Entry(call, entry) => {
+                    entries.push(entry);
+                    if let (Some(calls), Some(call)) = (&mut calls, call) {
+                        calls.push(call);
+                    }
+                }
                 EntryLine::End(count) if count != entries.len() => return Err((number, 4)),
-                EntryLine::End(_) if behind.is_empty() => return Ok(Journal { config, entries, first_line }),
+                EntryLine::End(_) if behind.is_empty() => return Ok(Journal { config, entries, calls, first_line }),
                 EntryLine::End(_) if behind.contains(&b'\n') => return Err((number + 1, 1)),
                 EntryLine::End(_) => return Err((number + 1, 5)),
             }
@@ -604,6 +620,8 @@ struct Request {
 
 struct Machine<'a> {
     config: &'a Config,
+    // The blocks of those that the last event on the latch set told.
+    told: Vec<u32>,
     ecbs: Vec<Cell<u32>>,
     elements: Vec<Cell<ElementState>>,
     volumes: Vec<Cell<u32>>,
@@ -691,12 +709,22 @@ fn granted_len(list: &[Request]) -> usize {
     }
 }
 
-// Takes requests out, and answers how many others are granted by that.
-fn remove(list: &mut Vec<Request>, is_meant: impl Fn(&Request) -> bool) -> u32 {
+// The blocks of those requests that have one.
+fn blocks(requests: &[Request]) -> impl Iterator<Item = u32> + '_ {
+    requests.iter().filter_map(|r| match r.form {
+        LatchForm::Posted(ecb) => Some(ecb),
+        _ => None,
+    })
+}
+
+// Takes requests out, and answers how many others are granted by that, whose blocks are told.
+fn remove(list: &mut Vec<Request>, told: &mut Vec<u32>, is_meant: impl Fn(&Request) -> bool) -> u32 {
     let held = granted_len(list);
     let left = list[..held].iter().filter(|r| !is_meant(r)).count();
     list.retain(|r| !is_meant(r));
-    (granted_len(list) - left) as u32
+    let granted = granted_len(list);
+    told.extend(blocks(&list[left..granted]));
+    (granted - left) as u32
 }
 
 impl Machine<'_> {
@@ -706,6 +734,7 @@ impl Machine<'_> {
         let room = (config.callers * config.quota) as usize;
         Machine {
             config,
+            told: Vec::new(),
             ecbs: vec![Cell { place: 0, state: 0 }; config.owners.len()],
             elements: vec![Cell { place: 0, state: free }; elements],
             volumes: vec![Cell { place: 0, state: 0 }; config.volumes as usize],
@@ -801,6 +830,7 @@ impl Machine<'_> {
 
     fn latch(&mut self, caller: u32, op: LatchOp) -> Option<(u32, Reply)> {
         let place = self.latch_place;
+        self.told.clear();
         let reply = match op {
             LatchOp::Obtain { latch, requestor, mode, form } => {
                 self.obtain(latch, Request { id: place, caller, requestor, mode, form })?
@@ -818,16 +848,22 @@ impl Machine<'_> {
                 let is_own = |r: &Request| r.id == id && r.caller == caller;
                 match list.iter().position(is_own) {
                     Some(i) if conditional && i >= granted_len(list) => LatchReply::Waiting,
-                    Some(_) => LatchReply::Released(remove(list, is_own)),
+                    Some(_) => LatchReply::Released(remove(list, &mut self.told, is_own)),
                     None => LatchReply::Gone,
                 }
             }
             LatchOp::Purge { requestor } => {
                 let is_meant = |r: &Request| r.requestor == requestor;
-                LatchReply::Purged {
-                    removed: self.count(is_meant),
-                    granted: self.latches.iter_mut().map(|list| remove(list, is_meant)).sum(),
+                let removed = self.count(is_meant);
+                for list in &self.latches {
+                    let waiting: Vec<Request> = list[granted_len(list)..].iter().copied().filter(is_meant).collect();
+                    self.told.extend(blocks(&waiting));
                 }
+                let mut granted = 0;
+                for list in &mut self.latches {
+                    granted += remove(list, &mut self.told, is_meant);
+                }
+                LatchReply::Purged { removed, granted }
             }
         };
         self.latch_place += 1;
@@ -848,15 +884,257 @@ impl Machine<'_> {
     }
 }
 
-// The first entry that is not the machine's.
-fn first_illegal(journal: &Journal) -> Option<usize> {
+// ---- the calls
+
+// A caller's last call: its number, the blocks whose posts may still follow in it, the next one last, and its last entry.
+#[derive(Default)]
+struct Counter {
+    group: u32,
+    pending: Vec<u32>,
+    last: Option<(Op, Reply)>,
+}
+
+impl Counter {
+    fn continues(&self, object: Object, op: Op) -> bool {
+        match (op, self.last) {
+            (Op::Ecb(EcbOp::Settle), _) | (Op::Element(ElementOp::Resume(_)), _) => true,
+            (Op::Ecb(EcbOp::Arm), Some((Op::Ecb(EcbOp::Arm), _))) => true,
+            (Op::Ecb(EcbOp::Post(_)), _) => self.pending.last().is_some_and(|e| object == Object::Ecb(*e)),
+            (
+                Op::Element(ElementOp::Pause(_)),
+                Some((Op::Element(ElementOp::Release(..)), Reply::Element(ElementReply::Early | ElementReply::Woke))),
+            ) => true,
+            (
+                Op::Latch(LatchOp::Confirm { .. }),
+                Some((
+                    Op::Latch(LatchOp::Obtain { form: LatchForm::Waiting, .. }),
+                    Reply::Latch(LatchReply::Queued(_)),
+                )),
+            ) => true,
+            _ => false,
+        }
+    }
+
+    // The call number of one more entry, after which the machine told these blocks.
+    fn count(&mut self, config: &Config, entry: &Entry, told: &[u32]) -> u32 {
+        let continued = self.continues(entry.object, entry.op);
+        if self.last.is_some() && !continued {
+            self.group += 1;
+        }
+        if continued && matches!(entry.op, Op::Ecb(EcbOp::Post(_))) {
+            self.pending.pop();
+        } else {
+            self.pending.clear();
+        }
+        match (entry.op, entry.reply) {
+            (Op::Ecb(EcbOp::Post(_)), Reply::Ecb(EcbReply::Woke(exit))) if exit > 0 => {
+                self.pending.extend(config.exits[exit as usize - 1].targets.iter().rev());
+            }
+            (Op::Latch(LatchOp::Release { .. } | LatchOp::Purge { .. }), _) => self.pending.extend(told.iter().rev()),
+            _ => {}
+        }
+        self.last = Some((entry.op, entry.reply));
+        self.group
+    }
+}
+
+// The call numbers of a legal journal; else the index of the first entry that is not the machine's or has another number.
+fn judge(journal: &Journal) -> Result<Vec<u32>, usize> {
     let mut machine = Machine::opening(&journal.config);
-    journal.entries.iter().position(|e| machine.step(e.caller, e.object, e.op) != Some((e.place, e.reply)))
+    let mut counters: Vec<Counter> = (0..journal.config.callers).map(|_| Counter::default()).collect();
+    let mut numbers = Vec::with_capacity(journal.entries.len());
+    for (i, e) in journal.entries.iter().enumerate() {
+        if machine.step(e.caller, e.object, e.op) != Some((e.place, e.reply)) {
+            return Err(i);
+        }
+        let number = counters[e.caller as usize].count(&journal.config, e, &machine.told);
+        if journal.calls.as_ref().is_some_and(|calls| calls[i] != number) {
+            return Err(i);
+        }
+        numbers.push(number);
+    }
+    Ok(numbers)
+}
+
+// ---- the journal in version 2
+
+// Appends words and numbers, with a space between any two of them.
+struct Text {
+    bytes: Vec<u8>,
+    is_begun: bool,
+}
+
+impl Text {
+    fn word(&mut self, word: &str) -> &mut Text {
+        if self.is_begun {
+            self.bytes.push(b' ');
+        }
+        self.is_begun = true;
+        self.bytes.extend_from_slice(word.as_bytes());
+        self
+    }
+
+    fn digits(&mut self, mut number: u64) -> &mut Text {
+        let mut digits = [0; 20];
+        let mut at = digits.len();
+        loop {
+            at -= 1;
+            digits[at] = b'0' + (number % 10) as u8;
+            number /= 10;
+            if number == 0 {
+                break;
+            }
+        }
+        self.bytes.extend_from_slice(&digits[at..]);
+        self
+    }
+
+    fn number(&mut self, number: u32) -> &mut Text {
+        self.word("").digits(u64::from(number))
+    }
+
+    fn wide(&mut self, number: u64) -> &mut Text {
+        self.word("").digits(number)
+    }
+
+    fn ends(&mut self) {
+        self.bytes.push(b'\n');
+        self.is_begun = false;
+    }
+
+    fn phase(&mut self, phase: Phase) -> &mut Text {
+        self.word(match phase {
+            Phase::Free => "FREE",
+            Phase::Reset => "RESET",
+            Phase::Prereleased => "PRERELEASED",
+            Phase::Paused => "PAUSED",
+            Phase::Released => "RELEASED",
+        })
+    }
+
+    fn op(&mut self, op: Op) -> &mut Text {
+        match op {
+            Op::Ecb(EcbOp::Arm) => self.word("ARM"),
+            Op::Ecb(EcbOp::Extend(exit)) => self.word("EXTEND").number(exit),
+            Op::Ecb(EcbOp::Settle) => self.word("SETTLE"),
+            Op::Ecb(EcbOp::Clear) => self.word("CLEAR"),
+            Op::Ecb(EcbOp::Post(code)) => self.word("POST").number(code),
+            Op::Ecb(EcbOp::Test) | Op::Element(ElementOp::Test) => self.word("TEST"),
+            Op::Element(ElementOp::Open) => self.word("OPEN"),
+            Op::Element(ElementOp::Pause(g)) => self.word("PAUSE").number(g),
+            Op::Element(ElementOp::Resume(g)) => self.word("RESUME").number(g),
+            Op::Element(ElementOp::Release(g, code)) => self.word("RELEASE").number(g).number(code),
+            Op::Element(ElementOp::Close(g)) => self.word("CLOSE").number(g),
+            Op::Volume(VolumeOp::Read) => self.word("READ"),
+            Op::Volume(VolumeOp::Write(number)) => self.word("WRITE").number(number),
+            Op::Latch(LatchOp::Obtain { latch, requestor, mode, form }) => {
+                self.word("OBTAIN").number(latch).wide(requestor);
+                self.word(if mode == Mode::Shared { "S" } else { "X" });
+                match form {
+                    LatchForm::Conditional => self.word("C"),
+                    LatchForm::Waiting => self.word("W"),
+                    LatchForm::Posted(ecb) => self.word("P").digits(u64::from(ecb)),
+                }
+            }
+            Op::Latch(LatchOp::Confirm { latch, id }) => self.word("CONFIRM").number(latch).number(id),
+            Op::Latch(LatchOp::Release { latch, id, conditional }) => {
+                self.word("RELEASE").number(latch).number(id).word(if conditional { "C" } else { "U" })
+            }
+            Op::Latch(LatchOp::Purge { requestor }) => self.word("PURGE").wide(requestor),
+        }
+    }
+
+    fn reply(&mut self, reply: Reply) -> &mut Text {
+        match reply {
+            Reply::Ecb(EcbReply::Armed) => self.word("ARMED"),
+            Reply::Ecb(EcbReply::Linked(exit)) => self.word("LINKED").number(exit),
+            Reply::Ecb(EcbReply::Complete(code)) => self.word("COMPLETE").number(code),
+            Reply::Ecb(EcbReply::Waiting) | Reply::Latch(LatchReply::Waiting) => self.word("WAITING"),
+            Reply::Ecb(EcbReply::Open) => self.word("OPEN"),
+            Reply::Ecb(EcbReply::Posted) => self.word("POSTED"),
+            Reply::Ecb(EcbReply::Woke(exit)) => self.word("WOKE").number(exit),
+            Reply::Ecb(EcbReply::Already(code)) => self.word("ALREADY").number(code),
+            Reply::Ecb(EcbReply::Word(word)) => self.word("WORD").number(word),
+            Reply::Element(ElementReply::Opened(g)) => self.word("OPENED").number(g),
+            Reply::Element(ElementReply::InUse) => self.word("INUSE"),
+            Reply::Element(ElementReply::Parked) => self.word("PARKED"),
+            Reply::Element(ElementReply::Given { code, next }) => self.word("GIVEN").number(code).number(next),
+            Reply::Element(ElementReply::Spent(g)) => self.word("SPENT").number(g),
+            Reply::Element(ElementReply::Busy) => self.word("BUSY"),
+            Reply::Element(ElementReply::NotYet) => self.word("NOTYET"),
+            Reply::Element(ElementReply::Early) => self.word("EARLY"),
+            Reply::Element(ElementReply::Woke) => self.word("WOKE"),
+            Reply::Element(ElementReply::Already) => self.word("ALREADY"),
+            Reply::Element(ElementReply::Closed) => self.word("CLOSED"),
+            Reply::Element(ElementReply::State(s)) => {
+                self.word("STATE").number(s.generation).phase(s.phase).number(s.code)
+            }
+            Reply::Volume(VolumeReply::Value(number)) => self.word("VALUE").number(number),
+            Reply::Volume(VolumeReply::Stored) => self.word("STORED"),
+            Reply::Latch(LatchReply::Granted(id)) => self.word("GRANTED").number(id),
+            Reply::Latch(LatchReply::Queued(id)) => self.word("QUEUED").number(id),
+            Reply::Latch(LatchReply::NotNow(id)) => self.word("NOTNOW").number(id),
+            Reply::Latch(LatchReply::Gone) => self.word("GONE"),
+            Reply::Latch(LatchReply::Released(granted)) => self.word("RELEASED").number(granted),
+            Reply::Latch(LatchReply::Purged { removed, granted }) => self.word("PURGED").number(removed).number(granted),
+        }
+    }
+
+    fn object(&mut self, object: Object) -> &mut Text {
+        match object {
+            Object::Ecb(n) => self.word("E").digits(u64::from(n)),
+            Object::Element(n) => self.word("P").digits(u64::from(n)),
+            Object::Volume(n) => self.word("V").digits(u64::from(n)),
+            Object::Latches => self.word("L"),
+        }
+    }
+
+    fn head(&mut self, config: &Config) {
+        self.word("JOURNAL").number(2).ends();
+        self.word("CALLERS").number(config.callers).ends();
+        self.word("ELEMENTS").number(config.elements_per_caller).ends();
+        self.word("VOLUMES").number(config.volumes).ends();
+        self.word("LATCHES").number(config.latches).ends();
+        self.word("QUOTA").number(config.quota).number(config.posted_quota).ends();
+        for budget in &config.budgets {
+            self.word("BUDGET").number(*budget).ends();
+        }
+        for owner in &config.owners {
+            self.word("ECB").number(*owner).ends();
+        }
+        for exit in &config.exits {
+            self.word("EXIT").number(exit.source);
+            for target in &exit.targets {
+                self.number(*target);
+            }
+            self.ends();
+        }
+        self.word("EVENTS").ends();
+    }
+}
+
+// The journal in version 2, with these call numbers.
+fn write_journal(journal: &Journal, numbers: &[u32]) -> Vec<u8> {
+    let mut text = Text { bytes: Vec::new(), is_begun: false };
+    text.head(&journal.config);
+    for (e, call) in journal.entries.iter().zip(numbers) {
+        text.number(e.caller);
+        text.bytes.push(b'.');
+        text.digits(u64::from(*call));
+        text.object(e.object).number(e.place).op(e.op).word("=").reply(e.reply).ends();
+    }
+    text.word("END").wide(journal.entries.len() as u64).ends();
+    text.bytes
 }
 
 const LIMIT: u64 = 67_108_864;
 
 fn main() -> ExitCode {
+    let converts = match std::env::args().nth(1).as_deref() {
+        Some("replay") => false,
+        Some("convert") => true,
+        _ => return ExitCode::from(2),
+    };
     let mut bytes = Vec::new();
     if std::io::stdin().lock().take(LIMIT + 1).read_to_end(&mut bytes).is_err() {
         eprintln!("READ FAILED");
@@ -873,11 +1151,20 @@ fn main() -> ExitCode {
             return ExitCode::from(11);
         }
     };
-    if let Some(index) = first_illegal(&journal) {
-        eprintln!("ILLEGAL AT LINE {}", journal.first_line + index);
-        return ExitCode::from(10);
-    }
-    match writeln!(std::io::stdout(), "LEGAL {} EVENTS", journal.entries.len()) {
+    let numbers = match judge(&journal) {
+        Ok(numbers) => numbers,
+        Err(index) => {
+            eprintln!("ILLEGAL AT LINE {}", journal.first_line + index);
+            return ExitCode::from(10);
+        }
+    };
+    // A journal of version 2 is its own conversion.
+    let report = match (converts, &journal.calls) {
+        (true, Some(_)) => bytes,
+        (true, None) => write_journal(&journal, &numbers),
+        (false, _) => format!("LEGAL {} EVENTS\n", journal.entries.len()).into_bytes(),
+    };
+    match std::io::stdout().lock().write_all(&report) {
         Ok(()) => ExitCode::SUCCESS,
         Err(_) => {
             eprintln!("REPORT FAILED");
