@@ -11,11 +11,15 @@ mod status;
 mod texts;
 
 pub use laws::runs_are_legal;
-use mv_ending::{Note, tell};
-use mv_io::{StdSink, StdSource};
 pub use mv_task::{Gate, OpenGate, Point};
 pub use program::run_program;
 pub use status::Status;
+
+#[cfg(test)]
+mod tests;
+
+use mv_ending::{Note, tell};
+use mv_io::{StdSink, StdSource};
 use std::env;
 use std::io::{self, ErrorKind};
 use std::process::ExitCode;
