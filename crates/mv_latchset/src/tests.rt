@@ -298,6 +298,50 @@ fn a_grant_posts_the_block_of_a_request(rt: HostRuntime) -> Result<(), Fail> {
     Ok(())
 }
 
+#[test]
+fn eight_requests_stand_and_no_ninth(rt: HostRuntime) -> Result<(), Fail> {
+    let config = setup(
+        rt.alloc(),
+        vec![in rt.alloc(); 100]?,
+        0,
+        Vec::new(rt.alloc()),
+    )?;
+    let (station, mut task) = open_one(rt.alloc(), config)?;
+    for _ in 0..8u32 {
+        let obtained = obtain(&rt, &station, &mut task, 0, 1, SHARED, Form::Conditional);
+        assert!(rt; matches!(obtained, Ok(Obtained::Granted(_))));
+    }
+    assert_eq!(rt;
+        obtain(&rt, &station, &mut task, 0, 1, SHARED, Form::Conditional),
+        Err(ObtainRefusal::Quota)
+    );
+    assert_eq!(rt; task.log().len(), 8);
+    Ok(())
+}
+
+#[test]
+fn four_requests_may_post_and_no_fifth(rt: HostRuntime) -> Result<(), Fail> {
+    let config = setup(
+        rt.alloc(),
+        vec![in rt.alloc(); 100]?,
+        4,
+        vec![in rt.alloc(); 0]?,
+    )?;
+    let (station, mut task) = open_one(rt.alloc(), config)?;
+    let first = obtain(&rt, &station, &mut task, 0, 1, ALONE, Form::Conditional);
+    assert!(rt; matches!(first, Ok(Obtained::Granted(_))));
+    for _ in 0..4u32 {
+        let obtained = obtain(&rt, &station, &mut task, 0, 2, ALONE, Form::Posted(0));
+        assert!(rt; matches!(obtained, Ok(Obtained::Pending(_))));
+    }
+    assert_eq!(rt;
+        obtain(&rt, &station, &mut task, 0, 2, ALONE, Form::Posted(0)),
+        Err(ObtainRefusal::Quota)
+    );
+    assert_eq!(rt; task.log().len(), 5);
+    Ok(())
+}
+
 // ---- several tasks
 
 #[test]

@@ -18,3 +18,6 @@ pub use pausing::{Given, PauseRefusal, pause};
 pub use releasing::{ReleaseAnswer, ReleaseRefusal, TryReleaseRefusal, release, try_release};
 pub use testing::test_element;
 pub use transferring::{TransferRefusal, transfer};
+
+#[cfg(test)]
+mod tests;
