@@ -31,9 +31,13 @@ use Rattle.mv_entrytext.specs.Words.{◌<+>◌}
 use Rattle.mv_entrytext.specs.Reading.{behind, number, any_u32, any_u64, parted, parted_by}
 use Rattle.mv_entrytext.specs.Ranges.{highest_u32, highest_u64, highest_ecb_code, highest_release_code}
 use Rattle.mv_entrytext.specs.EcbText.{ecb_op_text, ecb_reply_text, IsEcbOpInRange, IsEcbReplyInRange, IsEcbReplyTyped, ecb_op, ecb_reply}
-use Rattle.mv_entrytext.specs.ElementText.{phase_text, element_op_text, element_reply_text, IsElementOpInRange, IsElementOpTyped, IsElementReplyInRange, release_code, reached_generation, phase, highest_kept, kept_code, state_in, element_state, element_op, telling_reply, element_reply}
+use Rattle.mv_entrytext.specs.ElementText.{phase_text, element_op_text, element_reply_text, IsElementOpInRange, IsElementOpTyped}
+use Rattle.mv_entrytext.specs.ElementText.{IsElementReplyInRange, release_code, reached_generation, phase, highest_kept, kept_code}
+use Rattle.mv_entrytext.specs.ElementText.{state_in, element_state, element_op, telling_reply, element_reply}
 use Rattle.mv_entrytext.specs.VolumeText.{volume_op_text, volume_reply_text, IsVolumeOpTyped, IsVolumeReplyTyped, volume_op, volume_reply}
-use Rattle.mv_entrytext.specs.LatchText.{mode_text, form_text, condition_text, latch_op_text, latch_reply_text, IsFormTyped, IsLatchOpTyped, IsLatchReplyTyped, mode_read, form_read, condition, two_u32, obtain_rest, obtain, release, latch_op, latch_reply}
+use Rattle.mv_entrytext.specs.LatchText.{mode_text, form_text, condition_text, latch_op_text, latch_reply_text, IsFormTyped}
+use Rattle.mv_entrytext.specs.LatchText.{IsLatchOpTyped, IsLatchReplyTyped, mode_read, form_read, condition, two_u32, obtain_rest, obtain}
+use Rattle.mv_entrytext.specs.LatchText.{release, latch_op, latch_reply}
 use Rattle.mv_entrytext.proofs.Numbers.{Ends, number_again, u32_again, u64_again, parted_again}
 
 -- ---- event control blocks

@@ -1,5 +1,6 @@
 -- The numbers of a valid configuration.
-use Rattle.std.proofs.Common.{◌≡◌, ℕ, ◌+◌, ◌≤◌, Bool, true, false, cond, leb, not, ◌||◌, Some, None, Option, List, [], ◌∷◌, length, sum, refl, sym, arith}
+use Rattle.std.proofs.Common.{◌≡◌, ℕ, ◌+◌, ◌≤◌, Bool, true, false, cond, leb, not, ◌||◌, Some, None, Option, List, [], ◌∷◌, length, sum}
+use Rattle.std.proofs.Common.{refl, sym, arith}
 use Rattle.std.specs.List.{AllByRecursion, position_from, list_all, list_any}
 use Rattle.std.specs.Option.{option_map}
 use Rattle.std.proofs.lemmas.Bool.{leb-false, leb-true, and_parts, false≢true}

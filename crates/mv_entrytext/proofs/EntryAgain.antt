@@ -18,10 +18,13 @@ use Rattle.mv_entrytext.specs.VolumeText.{volume_op, volume_reply, volume_op_tex
 use Rattle.mv_entrytext.specs.LatchText.{latch_op, latch_reply, latch_op_text, latch_reply_text}
 use Rattle.mv_entrytext.specs.declared.version.Version.{Version}
 use Rattle.mv_entrytext.specs.declared.version.Version.TheVariants.{One, Two}
-use Rattle.mv_entrytext.specs.EntryText.{caller_text, caller_read, object_text, op_text, reply_text, entry_text, IsEventInRange, IsObjectTyped, IsOpTyped, IsReplyTyped, HasText, object_read, event, entry_of, entry_on, entry_read}
+use Rattle.mv_entrytext.specs.EntryText.{caller_text, caller_read, object_text, op_text, reply_text, entry_text, IsEventInRange}
+use Rattle.mv_entrytext.specs.EntryText.{IsObjectTyped, IsOpTyped, IsReplyTyped, HasText, object_read, event, entry_of, entry_on}
+use Rattle.mv_entrytext.specs.EntryText.{entry_read}
 use Rattle.mv_entrytext.proofs.Numbers.{Ends, number_again, u32_again, parted_again, parted_at_again}
 use Rattle.mv_entrytext.proofs.CallNumbers.{IsCallIn}
-use Rattle.mv_entrytext.proofs.Again.{ecb_op_again, ecb_reply_again, element_op_again, element_reply_again, volume_op_again, volume_reply_again, latch_op_again, latch_reply_again}
+use Rattle.mv_entrytext.proofs.Again.{ecb_op_again, ecb_reply_again, element_op_again, element_reply_again, volume_op_again}
+use Rattle.mv_entrytext.proofs.Again.{volume_reply_again, latch_op_again, latch_reply_again}
 
 object_again : (o : Object) (rest : List ℕ) → IsObjectTyped o → Ends rest → object_read true (object_text o ++ rest) ≡ Some (o, rest)
 unfolding object_read behind
@@ -80,8 +83,9 @@ unfolding entry_read entry_text
 entry_again v call e h m =
     let who = caller_text e.caller call in
     let more = decimal e.place <+> op_text e.op <+> codes "=" <+> reply_text e.reply in
-    let front = parted_again (caller_read true v) (λ _. object_read true) (e.caller, call) e.object who (object_text e.object) (32 ∷ (more ++ []))
-    (caller_again v e.caller call (object_text e.object ++ 32 ∷ (more ++ [])) h.1.caller m) (object_again e.object (32 ∷ (more ++ [])) h.1.object refl) in
+    let last = 32 ∷ (more ++ []) in
+    let front = parted_again (caller_read true v) (λ _. object_read true) (e.caller, call) e.object who (object_text e.object) last
+    (caller_again v e.caller call (object_text e.object ++ last) h.1.caller m) (object_again e.object last h.1.object refl) in
     let regrouped : who <+> object_text e.object <+> more ≡ (who <+> object_text e.object) <+> more =
     sym (append_assoc who (32 ∷ object_text e.object) (32 ∷ more)) in
     let all = parted_again (parted (caller_read true v) (object_read true)) (λ x. entry_on true x.0.0 x.1) ((e.caller, call), e.object) e

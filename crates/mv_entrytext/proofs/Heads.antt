@@ -1,17 +1,16 @@
 -- What the reader of the head takes.
-use Rattle.std.proofs.Common.{◌≡◌, ℕ, suc, ◌≤◌, true, false, List, ◌∷◌, Option, Some, None, length, refl, ap, subst, ◌∙◌}
-use Rattle.std.specs.Borrow.{Bor}
+use Rattle.std.proofs.Common.{◌≡◌, ℕ, true, false, List, Some, None, refl}
 use Rattle.mv_machine.specs.Check.{IsValid}
 use Rattle.mv_entrytext.specs.declared.line.Line.{Line}
-use Rattle.mv_entrytext.specs.declared.line.Line.TheVariants.{Version, Callers, Elements, Volumes, Latches, Quota, Budget, Owner, Exit, Events}
+use Rattle.mv_entrytext.specs.declared.line.Line.TheVariants.{Version, Callers, Elements, Volumes, Latches, Quota, Budget, Owner, Exit}
+use Rattle.mv_entrytext.specs.declared.line.Line.TheVariants.{Events}
 use Rattle.mv_entrytext.specs.declared.line.Stage.{Stage}
 use Rattle.mv_entrytext.specs.declared.line.Stage.TheVariants as stage
 use Rattle.mv_entrytext.specs.declared.head.HeadDraft.{HeadDraft}
 use Rattle.mv_entrytext.specs.Journal as journal
-use Rattle.mv_entrytext.specs.Reading.{parts_at}
 use Rattle.mv_entrytext.specs.Fault.{kind_said, is_cut, is_ended}
 use Rattle.mv_entrytext.specs.Lines.{Draft}
-use Rattle.mv_entrytext.specs.Said.{said, stage_of, parts_left, left_of}
+use Rattle.mv_entrytext.specs.Said.{said, stage_of}
 use Rattle.mv_entrytext.specs.Draft.{head_seen}
 
 not_ended : (s : Stage) → is_ended (stage_of s) ≡ false
@@ -56,17 +55,3 @@ nothing_said d Events h = absurd (h refl)
 
 pub valid_said : (d : Draft) → IsValid d.setup → kind_said d (Some journal.Events) ≡ None
 valid_said d v = rw v refl
-
--- ---- the part that was split off
-
-pub shape_some : (rest text : List ℕ) (o : Option (Bor (List ℕ))) (behind : Bor (List ℕ)) → parts_at 10 rest ≡ text ∷ parts_left 10 o
-    → o ≡ Some behind → parts_at 10 rest ≡ text ∷ parts_at 10 behind.now
-shape_some rest text o behind parts e = parts ∙ ap (λ (x : Option (Bor (List ℕ))). text ∷ parts_left 10 x) e
-
-pub shape_none : (rest text : List ℕ) (o : Option (Bor (List ℕ))) → parts_at 10 rest ≡ text ∷ parts_left 10 o → o ≡ None
-    → parts_at 10 rest ≡ text ∷ parts_left 10 None
-shape_none rest text o parts e = parts ∙ ap (λ (x : Option (Bor (List ℕ))). text ∷ parts_left 10 x) e
-
-pub shorter_some : (n : ℕ) (o : Option (Bor (List ℕ))) (behind : Bor (List ℕ)) → left_of o ≤ n → o ≡ Some behind
-    → suc (length behind.now) ≤ n
-shorter_some n o behind le e = subst (λ (x : Option (Bor (List ℕ))). left_of x ≤ n) e le

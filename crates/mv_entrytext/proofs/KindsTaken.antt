@@ -1,6 +1,7 @@
 -- Each operation, reply and entry that is read strictly is written so.
 use Rattle.std.specs.Prelude.{codes}
-use Rattle.std.proofs.Common.{subst, ◌∙◌, append_assoc, ◌≡◌, ℕ, ◌≤◌, true, false, List, ◌∷◌, ◌++◌, Option, Some, None, decimal, refl, sym, ap, arith}
+use Rattle.std.proofs.Common.{subst, ◌∙◌, append_assoc, ◌≡◌, ℕ, ◌≤◌, true, false, List, ◌∷◌, ◌++◌, Option, Some, None, decimal, refl, sym}
+use Rattle.std.proofs.Common.{ap, arith}
 use Rattle.mv_ecb.specs.declared.operation.EcbOp.TheVariants as ecb_op_of
 use Rattle.mv_ecb.specs.declared.operation.EcbReply.TheVariants as ecb_reply_of
 use Rattle.mv_element.specs.declared.element.ElementState.{ElementState}
@@ -18,12 +19,18 @@ use Rattle.mv_entrytext.specs.Words.{◌<+>◌}
 use Rattle.mv_entrytext.specs.Reading.{behind, number, any_u32, any_u64, parted, parted_by, parted_at}
 use Rattle.mv_entrytext.specs.Ranges.{highest_u32, highest_u64, highest_ecb_code, highest_release_code}
 use Rattle.mv_entrytext.specs.EcbText.{ecb_op_text, ecb_reply_text, IsEcbOpInRange, IsEcbReplyInRange, IsEcbReplyTyped, ecb_op, ecb_reply}
-use Rattle.mv_entrytext.specs.ElementText.{phase_text, element_op_text, element_reply_text, IsElementOpInRange, IsElementOpTyped, IsElementReplyInRange, release_code, reached_generation, phase, highest_kept, kept_code, state_in, element_state, element_op, telling_reply, element_reply}
+use Rattle.mv_entrytext.specs.ElementText.{phase_text, element_op_text, element_reply_text, IsElementOpInRange, IsElementOpTyped}
+use Rattle.mv_entrytext.specs.ElementText.{IsElementReplyInRange, release_code, reached_generation, phase, highest_kept, kept_code}
+use Rattle.mv_entrytext.specs.ElementText.{state_in, element_state, element_op, telling_reply, element_reply}
 use Rattle.mv_entrytext.specs.VolumeText.{volume_op_text, volume_reply_text, IsVolumeOpTyped, IsVolumeReplyTyped, volume_op, volume_reply}
-use Rattle.mv_entrytext.specs.LatchText.{mode_text, form_text, condition_text, latch_op_text, latch_reply_text, IsFormTyped, IsLatchOpTyped, IsLatchReplyTyped, mode_read, form_read, condition, two_u32, obtain_rest, obtain, release, latch_op, latch_reply}
+use Rattle.mv_entrytext.specs.LatchText.{mode_text, form_text, condition_text, latch_op_text, latch_reply_text, IsFormTyped}
+use Rattle.mv_entrytext.specs.LatchText.{IsLatchOpTyped, IsLatchReplyTyped, mode_read, form_read, condition, two_u32, obtain_rest, obtain}
+use Rattle.mv_entrytext.specs.LatchText.{release, latch_op, latch_reply}
 use Rattle.mv_entrytext.specs.declared.version.Version.{Version}
 use Rattle.mv_entrytext.specs.declared.version.Version.TheVariants.{One, Two}
-use Rattle.mv_entrytext.specs.EntryText.{caller_text, caller_read, object_text, op_text, reply_text, entry_text, IsEventInRange, IsObjectTyped, IsOpTyped, IsReplyTyped, HasText, object_read, event, entry_of, entry_on, entry_read}
+use Rattle.mv_entrytext.specs.EntryText.{caller_text, caller_read, object_text, op_text, reply_text, entry_text, IsEventInRange}
+use Rattle.mv_entrytext.specs.EntryText.{IsObjectTyped, IsOpTyped, IsReplyTyped, HasText, object_read, event, entry_of, entry_on}
+use Rattle.mv_entrytext.specs.EntryText.{entry_read}
 use Rattle.mv_machine.specs.declared.entry.Object.{Object}
 use Rattle.mv_machine.specs.declared.entry.Object.TheVariants.{Ecb, Element, Volume, Latches}
 use Rattle.mv_machine.specs.declared.entry.Op.TheVariants as op_on
@@ -33,7 +40,8 @@ use Rattle.mv_machine.specs.Limits.{highest_generation, highest_place}
 use Rattle.mv_entrytext.specs.Reading.{Reader, nothing}
 use Rattle.mv_entrytext.proofs.CallNumbers.{IsCallIn}
 use Rattle.mv_entrytext.proofs.Again.{state_text, highest_kept-le}
-use Rattle.mv_entrytext.proofs.Taken.{Takes, takes_nothing, takes_behind, behind_given, takes_made, behind_made, takes_parted, takes_parted_at, takes_number, takes_u32, takes_u64}
+use Rattle.mv_entrytext.proofs.Taken.{Takes, takes_nothing, takes_behind, behind_given, takes_made, behind_made, takes_parted}
+use Rattle.mv_entrytext.proofs.Taken.{takes_parted_at, takes_number, takes_u32, takes_u64}
 
 -- ---- event control blocks
 

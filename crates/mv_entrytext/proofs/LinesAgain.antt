@@ -1,5 +1,6 @@
 -- The text of a journal is passed line by line.
-use Rattle.std.proofs.Common.{◌≡◌, ℕ, ◌+◌, ◌≤◌, ◌<◌, true, List, [], ◌∷◌, ◌++◌, length, Option, Some, None, decimal, map, refl, sym, ap, subst, ◌∙◌, arith, append_assoc}
+use Rattle.std.proofs.Common.{◌≡◌, ℕ, ◌+◌, ◌≤◌, ◌<◌, true, List, [], ◌∷◌, ◌++◌, length, Option, Some, None, decimal, map, refl, sym, ap}
+use Rattle.std.proofs.Common.{subst, ◌∙◌, arith, append_assoc}
 use Rattle.std.specs.Prelude.{codes}
 use Rattle.std.specs.List.{flat_map, AllByRecursion}
 use Rattle.std.specs.Str.Parse.{AllDigits}
@@ -17,8 +18,11 @@ use Rattle.mv_entrytext.specs.Ranges.{highest_u32}
 use Rattle.mv_entrytext.specs.Words.{◌<+>◌}
 use Rattle.mv_entrytext.specs.Reading.{Reader, behind, made, parts_at, parted_by, any_u32}
 use Rattle.mv_entrytext.specs.EntryText.{HasText, entry_read, entry_text, caller_text, object_text, op_text, reply_text}
-use Rattle.mv_entrytext.specs.Journal.{Line, JournalOf, Callers, Elements, Volumes, Latches, Quota, Budget, Owner, ExitTo, Events, EntryOf, End, line_text, line, entry_lines, counts_text, lists_text, head_text, text_of}
-use Rattle.mv_entrytext.specs.Lines.{Stage, AtVersion, AtCallers, AtElements, AtVolumes, AtLatches, AtQuota, AtBudgets, AtOwners, AtExits, AtEntries, AtEnd, numbers, exit_from, exit_read, count_line, next_line, line_read, with_call, Draft, blank, draft_with}
+use Rattle.mv_entrytext.specs.Journal.{Line, JournalOf, Callers, Elements, Volumes, Latches, Quota, Budget, Owner, ExitTo, Events}
+use Rattle.mv_entrytext.specs.Journal.{EntryOf, End, line_text, line, entry_lines, counts_text, lists_text, head_text, text_of}
+use Rattle.mv_entrytext.specs.Lines.{Stage, AtVersion, AtCallers, AtElements, AtVolumes, AtLatches, AtQuota, AtBudgets, AtOwners, AtExits}
+use Rattle.mv_entrytext.specs.Lines.{AtEntries, AtEnd, numbers, exit_from, exit_read, count_line, next_line, line_read, with_call, Draft}
+use Rattle.mv_entrytext.specs.Lines.{blank, draft_with}
 use Rattle.mv_entrytext.specs.Fault.{kind_said, first_fault, draft_of, HasJournal, AreCallsIn, text_fault, journal_of}
 use Rattle.mv_entrytext.proofs.Numbers.{numeral_of, u32_again, parted_again}
 use Rattle.mv_entrytext.proofs.Parts.{Lacks-decimal, parts_first, parts_last, first_part}
@@ -157,8 +161,8 @@ unfolding next_line count_line entry_text
 entry_line_read v call e h m =
     let more = 32 ∷ (object_text e.object <+> decimal e.place <+> op_text e.op <+> codes "=" <+> reply_text e.reply) in
     let d = caller_first e.caller call more h.1.caller in
-    let other = no_end (made (λ n. End n) (any_u32 true)) (made (λ x. EntryOf x.0 x.1) (entry_read true v)) (caller_text e.caller call ++ more)
-    d.0 d.1 d.2 d.3 in
+    let other = no_end (made (λ n. End n) (any_u32 true)) (made (λ x. EntryOf x.0 x.1) (entry_read true v))
+    (caller_text e.caller call ++ more) d.0 d.1 d.2 d.3 in
     rw (other, to_the_end (entry_read true v) (call, e) (caller_text e.caller call ++ more) (entry_again v call e h m)) refl
 
 -- ---- a line is passed
@@ -224,14 +228,17 @@ first_of : {A : Type 0} (f : A → List ℕ) (x : A) (xs : List A) (rest : List 
     → flat_map f (x ∷ xs) ++ rest ≡ f x ++ (flat_map f xs ++ rest)
 first_of f x xs rest = ap (λ (t : List ℕ). t ++ rest) (flat_map-cons f x xs) ∙ append_assoc (f x) (flat_map f xs) rest
 
-budgets_pass : (v : Version) (ns : List ℕ) (c : Setup) (all rest : List ℕ) → AreU32 ns → all ≡ c.budgets ++ ns → Goes (in_head AtBudgets v c) (flat_map (λ n. line (Budget n)) ns ++ rest) (in_head AtBudgets v (record c { budgets = all })) rest
+budgets_pass : (v : Version) (ns : List ℕ) (c : Setup) (all rest : List ℕ) → AreU32 ns → all ≡ c.budgets ++ ns
+    → Goes (in_head AtBudgets v c) (flat_map (λ n. line (Budget n)) ns ++ rest) (in_head AtBudgets v (record c { budgets = all })) rest
 budgets_pass v [] c all rest h e = rw (e, append-nil c.budgets) (stays (in_head AtBudgets v c) rest)
 budgets_pass v (n ∷ ns) c all rest h e =
     let f = λ (n : ℕ). line (Budget n) in
     let next = record c { budgets = c.budgets ++ n ∷ [] } in
     let one = one_line (in_head AtBudgets v c) (Budget n) (flat_map f ns ++ rest) (budget_read n h.0) refl in
     let later = budgets_pass v ns next all rest h.1 (e ∙ sym (append_assoc c.budgets (n ∷ []) ns)) in
-    text_is (in_head AtBudgets v c) (in_head AtBudgets v (record c { budgets = all })) _ _ rest (first_of f n ns rest) (goes_on (in_head AtBudgets v c) (in_head AtBudgets v next) (in_head AtBudgets v (record c { budgets = all })) _ _ _ one later)
+    let last = in_head AtBudgets v (record c { budgets = all }) in
+    text_is (in_head AtBudgets v c) last _ _ rest (first_of f n ns rest)
+    (goes_on (in_head AtBudgets v c) (in_head AtBudgets v next) last _ _ _ one later)
 
 own_to_exit : (s : Stage) → MayOwn s → MayExit s
 own_to_exit AtBudgets m = tt
@@ -240,7 +247,8 @@ own_to_exit s m = absurd m
 
 -- behind the owners, and behind the exits, the line that comes next may be an exit
 owners_pass : (v : Version) (ns : List ℕ) (s : Stage) (c : Setup) (all rest : List ℕ) → MayOwn s → AreU32 ns → all ≡ c.owners ++ ns
-    → (t : Stage) × MayExit t × Goes (in_head s v c) (flat_map (λ n. line (Owner n)) ns ++ rest) (in_head t v (record c { owners = all })) rest
+    → (t : Stage) × MayExit t
+    × Goes (in_head s v c) (flat_map (λ n. line (Owner n)) ns ++ rest) (in_head t v (record c { owners = all })) rest
 owners_pass v [] s c all rest m h e = (s, own_to_exit s m, rw (e, append-nil c.owners) (stays (in_head s v c) rest))
 owners_pass v (n ∷ ns) s c all rest m h e =
     let f = λ (n : ℕ). line (Owner n) in
@@ -248,10 +256,13 @@ owners_pass v (n ∷ ns) s c all rest m h e =
     let one = one_line (in_head s v c) (Owner n) (flat_map f ns ++ rest) (owner_read s n m h.0) refl in
     let later = owners_pass v ns AtOwners next all rest tt h.1 (e ∙ sym (append_assoc c.owners (n ∷ []) ns)) in
     let last = in_head later.0 v (record c { owners = all }) in
-    (later.0, later.1, text_is (in_head s v c) last _ _ rest (first_of f n ns rest) (goes_on (in_head s v c) (in_head AtOwners v next) last _ _ _ one later.2))
+    let whole = goes_on (in_head s v c) (in_head AtOwners v next) last _ _ _ one later.2 in
+    (later.0, later.1, text_is (in_head s v c) last _ _ rest (first_of f n ns rest) whole)
 
-exits_pass : (v : Version) (xs : List SetupExit) (s : Stage) (c : Setup) (all : List SetupExit) (rest : List ℕ) → MayExit s → AllByRecursion IsExit xs → all ≡ c.exits ++ xs
-    → (t : Stage) × MayExit t × Goes (in_head s v c) (flat_map (λ x. line (ExitTo x)) xs ++ rest) (in_head t v (record c { exits = all })) rest
+exits_pass : (v : Version) (xs : List SetupExit) (s : Stage) (c : Setup) (all : List SetupExit) (rest : List ℕ) → MayExit s
+    → AllByRecursion IsExit xs → all ≡ c.exits ++ xs
+    → (t : Stage) × MayExit t
+    × Goes (in_head s v c) (flat_map (λ x. line (ExitTo x)) xs ++ rest) (in_head t v (record c { exits = all })) rest
 exits_pass v [] s c all rest m h e = (s, m, rw (e, append-nil c.exits) (stays (in_head s v c) rest))
 exits_pass v (x ∷ xs) s c all rest m h e =
     let f = λ (x : SetupExit). line (ExitTo x) in
@@ -259,7 +270,8 @@ exits_pass v (x ∷ xs) s c all rest m h e =
     let one = one_line (in_head s v c) (ExitTo x) (flat_map f xs ++ rest) (exit_line_read s x m h.0) refl in
     let later = exits_pass v xs AtExits next all rest tt h.1 (e ∙ sym (append_assoc c.exits (x ∷ []) xs)) in
     let last = in_head later.0 v (record c { exits = all }) in
-    (later.0, later.1, text_is (in_head s v c) last _ _ rest (first_of f x xs rest) (goes_on (in_head s v c) (in_head AtExits v next) last _ _ _ one later.2))
+    let whole = goes_on (in_head s v c) (in_head AtExits v next) last _ _ _ one later.2 in
+    (later.0, later.1, text_is (in_head s v c) last _ _ rest (first_of f x xs rest) whole)
 
 -- an entry's line, with the number of its call in version 2
 one_entry : (v : Version) (c : Setup) (before : List Entry) (said : List ℕ) (call : Option ℕ) (x : Entry) (rest : List ℕ) → HasText x
@@ -281,9 +293,11 @@ plain_pass (x ∷ es) c before all said rest h e =
     (draft (AtEntries One) One c all said) _ _ _ one later)
 
 -- and those of entries with a number each
-numbered_pass : (es : List Entry) (ns : List ℕ) (c : Setup) (before all : List Entry) (said numbers rest : List ℕ) → AllByRecursion HasText es
-    → length ns ≡ length es → AllByRecursion (λ n. n ≤ highest_u32) ns → all ≡ before ++ es → numbers ≡ said ++ ns
-    → Goes (draft (AtEntries Two) Two c before said) (flat_map line (entry_lines es ns) ++ rest) (draft (AtEntries Two) Two c all numbers) rest
+numbered_pass : (es : List Entry) (ns : List ℕ) (c : Setup) (before all : List Entry) (said numbers rest : List ℕ)
+    → AllByRecursion HasText es → length ns ≡ length es → AllByRecursion (λ n. n ≤ highest_u32) ns → all ≡ before ++ es
+    → numbers ≡ said ++ ns
+    → Goes (draft (AtEntries Two) Two c before said) (flat_map line (entry_lines es ns) ++ rest)
+    (draft (AtEntries Two) Two c all numbers) rest
 numbered_pass [] [] c before all said numbers rest h l u e f =
     rw (e, append-nil before, f, append-nil said) (stays (draft (AtEntries Two) Two c before said) rest)
 numbered_pass [] (n ∷ ns) c before all said numbers rest h l u e f = absurd (omega arith)
@@ -300,8 +314,8 @@ numbered_pass (x ∷ es) (n ∷ ns) c before all said numbers rest h l u e f =
 entries_pass : (v : Version) (es : List Entry) (ns : List ℕ) (c : Setup) (rest : List ℕ) → AllByRecursion HasText es → AreEach v es ns
     → Goes (draft (AtEntries v) v c [] []) (flat_map line (entry_lines es ns) ++ rest) (draft (AtEntries v) v c es ns) rest
 entries_pass One es ns c rest h m =
-    subst (λ (x : List ℕ). Goes (draft (AtEntries One) One c [] []) (flat_map line (entry_lines es x) ++ rest) (draft (AtEntries One) One c es x) rest)
-    (sym m) (plain_pass es c [] es [] rest h refl)
+    subst (λ (x : List ℕ). Goes (draft (AtEntries One) One c [] []) (flat_map line (entry_lines es x) ++ rest)
+    (draft (AtEntries One) One c es x) rest) (sym m) (plain_pass es c [] es [] rest h refl)
 entries_pass Two es ns c rest h m = numbered_pass es ns c [] es [] ns rest h m.0 m.1 refl refl
 
 -- ---- the whole
@@ -310,8 +324,9 @@ entries_pass Two es ns c rest h m = numbered_pass es ns c [] es [] ns rest h m.0
 regrouped : (v : Version) (c : Setup) (es : List Entry) (ns : List ℕ) → text_of v c es ns
     ≡ line (JournalOf v) ++ (line (Callers c.callers) ++ (line (Elements c.elements_per_caller) ++ (line (Volumes c.volumes)
     ++ (line (Latches c.latches) ++ (line (Quota c.quota c.posted_quota)
-    ++ (flat_map (λ n. line (Budget n)) c.budgets ++ (flat_map (λ n. line (Owner n)) c.owners ++ (flat_map (λ x. line (ExitTo x)) c.exits ++ (line Events
-    ++ (flat_map line (entry_lines es ns) ++ (line (End (length es)) ++ [])))))))))))
+    ++ (flat_map (λ n. line (Budget n)) c.budgets ++ (flat_map (λ n. line (Owner n)) c.owners
+    ++ (flat_map (λ x. line (ExitTo x)) c.exits ++ (line Events ++ (flat_map line (entry_lines es ns)
+    ++ (line (End (length es)) ++ [])))))))))))
 unfolding text_of head_text counts_text lists_text
 regrouped v c es ns = simp (append_assoc, append-nil)
 
@@ -374,7 +389,8 @@ journal_passes v c es ns h m =
     let a4 = goes_on (in_head p3.0 v c2) (in_head p4.0 v c) over exits begin [] p4.2 a5 in
     let a3 = goes_on (in_head AtBudgets v c1) (in_head p3.0 v c2) over owners exits [] p3.2 a4 in
     let a2 = goes_on (in_head AtBudgets v (counts c)) (in_head AtBudgets v c1) over budgets owners [] p2 a3 in
-    text_is blank over (text_of v c es ns) _ [] (regrouped v c es ns) (goes_on blank (in_head AtBudgets v (counts c)) over _ budgets [] p1 a2)
+    text_is blank over (text_of v c es ns) _ [] (regrouped v c es ns)
+    (goes_on blank (in_head AtBudgets v (counts c)) over _ budgets [] p1 a2)
 
 nothing_left : (number : ℕ) (v : Version) (c : Setup) (es : List Entry) (ns : List ℕ)
     → first_fault number (draft AtEnd v c es ns) (parts_at 10 []) ≡ None
@@ -399,8 +415,13 @@ read_again v c es ns h m = (journal_passes v c es ns h m).draft ∙ nothing_more
 pub one_journal : (v w : Version) (c d : Setup) (es fs : List Entry) (ns ms : List ℕ) → HasJournal c es → AreCallsIn v es ns
     → HasJournal d fs → AreCallsIn w fs ms → text_of v c es ns ≡ text_of w d fs ms → (v ≡ w) × (c ≡ d) × (es ≡ fs) × (ns ≡ ms)
 one_journal v w c d es fs ns ms p q r s e =
-    let same : draft AtEnd v c es ns ≡ draft AtEnd w d fs ms = sym (read_again v c es ns p q) ∙ ap journal_of e ∙ read_again w d fs ms r s in
-    (ap (λ (x : Draft). x.version) same, ap (λ (x : Draft). x.setup) same, ap (λ (x : Draft). x.entries) same, ap (λ (x : Draft). x.calls) same)
+    let same : draft AtEnd v c es ns ≡ draft AtEnd w d fs ms =
+    sym (read_again v c es ns p q) ∙ ap journal_of e ∙ read_again w d fs ms r s in (
+      ap (λ (x : Draft). x.version) same,
+      ap (λ (x : Draft). x.setup) same,
+      ap (λ (x : Draft). x.entries) same,
+      ap (λ (x : Draft). x.calls) same,
+    )
 
 pub reads_back : (v : Version) (c : Setup) (es : List Entry) (ns : List ℕ) → HasJournal c es → AreCallsIn v es ns
     → ((journal_of (text_of v c es ns)).version ≡ v) × ((journal_of (text_of v c es ns)).setup ≡ c)

@@ -1,49 +1,24 @@
 -- Each line that is read strictly is the text of what it says.
-use Rattle.std.proofs.Common.{◌≡◌, ℕ, ◌≤◌, Bool, true, false, cond, eqb, List, [], ◌∷◌, ◌++◌, Option, Some, None, decimal, refl, sym, ap, subst, ◌∙◌}
+use Rattle.std.proofs.Common.{◌≡◌, ℕ, ◌≤◌, true, List, [], ◌∷◌, ◌++◌, Option, Some, None, decimal, refl, sym, ap, subst, ◌∙◌}
 use Rattle.std.specs.Prelude.{codes}
 use Rattle.std.specs.Option.{option_map}
-use Rattle.std.specs.List.{flat_map}
-use Rattle.std.proofs.lemmas.Bool.{eqb-true}
+use Rattle.std.specs.List.{flat_map, join_with_byte}
 use Rattle.std.proofs.lemmas.List.{append-nil}
 use Rattle.std.proofs.lemmas.List.Concat.{flat_map-cons}
 use Rattle.mv_machine.specs.Setup.{SetupExit}
 use Rattle.mv_entrytext.specs.declared.version.Version.TheVariants.{One, Two}
 use Rattle.mv_entrytext.specs.Ranges.{highest_u32}
-use Rattle.mv_entrytext.specs.Reading.{whole, parted, onto_first, parts_at, any_u32}
+use Rattle.mv_entrytext.specs.Reading.{whole, parted, parts_at, any_u32}
 use Rattle.mv_entrytext.specs.EntryText.{HasText, entry_read}
-use Rattle.mv_entrytext.specs.Journal.{Line, JournalOf, Callers, Elements, Volumes, Latches, Quota, Budget, Owner, ExitTo, Events, EntryOf, End, line_text}
-use Rattle.mv_entrytext.specs.Lines.{Stage, AtVersion, AtCallers, AtElements, AtVolumes, AtLatches, AtQuota, AtBudgets, AtOwners, AtExits, AtEntries, AtEnd, numbers, exit_from, exit_read, count_line, next_line, line_read}
+use Rattle.mv_entrytext.specs.Journal.{Line, JournalOf, Callers, Elements, Volumes, Latches, Quota, Budget, Owner, ExitTo, Events}
+use Rattle.mv_entrytext.specs.Journal.{EntryOf, End, line_text}
+use Rattle.mv_entrytext.specs.Lines.{Stage, AtVersion, AtCallers, AtElements, AtVolumes, AtLatches, AtQuota, AtBudgets, AtOwners}
+use Rattle.mv_entrytext.specs.Lines.{AtExits, AtEntries, AtEnd, numbers, exit_from, exit_read, count_line, next_line, line_read}
 use Rattle.mv_entrytext.proofs.CallNumbers.{IsCallIn}
-use Rattle.mv_entrytext.proofs.Parts.{first_part}
-use Rattle.mv_entrytext.proofs.Taken.{Takes, bound, some_is, takes_nothing, takes_behind, behind_given, takes_made, behind_made, takes_whole, takes_u32}
+use Rattle.mv_entrytext.proofs.Parts.{joined_again}
+use Rattle.mv_entrytext.proofs.Taken.{Takes, bound, some_is, takes_nothing, takes_behind, behind_given, takes_made, behind_made}
+use Rattle.mv_entrytext.proofs.Taken.{takes_whole, takes_u32}
 use Rattle.mv_entrytext.proofs.KindsTaken.{pair_text, takes_two, numbered_text, IsNumbered, takes_entry}
-
--- ---- the parts of a text, put together again
-
-abbrev pub joined : ℕ → List (List ℕ) → List ℕ
-joined byte [] = []
-joined byte (p ∷ []) = p
-joined byte (p ∷ q ∷ ps) = p ++ byte ∷ joined byte (q ∷ ps)
-
-joined-onto : (byte b : ℕ) (ps : List (List ℕ)) → joined byte (onto_first b ps) ≡ b ∷ joined byte ps
-joined-onto byte b [] = refl
-joined-onto byte b (p ∷ []) = refl
-joined-onto byte b (p ∷ q ∷ ps) = refl
-
-joined-empty : (byte : ℕ) (text : List ℕ) (p : List ℕ) (qs : List (List ℕ)) → parts_at byte text ≡ p ∷ qs
-    → joined byte ([] ∷ parts_at byte text) ≡ byte ∷ joined byte (parts_at byte text)
-joined-empty byte text p qs e = rw e refl
-
-pub joined_again : (byte : ℕ) (text : List ℕ) → joined byte (parts_at byte text) ≡ text
-unfolding parts_at
-joined_again byte [] = refl
-joined_again byte (b ∷ text) = go (eqb b byte) refl (joined_again byte text) where
-  go : (t : Bool) → eqb b byte ≡ t → joined byte (parts_at byte text) ≡ text
-      → joined byte (cond t ([] ∷ parts_at byte text) (onto_first b (parts_at byte text))) ≡ b ∷ text
-  go true e h =
-      let f = first_part byte text in
-      joined-empty byte text f.0 f.1 f.2 ∙ ap (λ (x : List ℕ). byte ∷ x) h ∙ ap (λ (c : ℕ). c ∷ text) (sym (eqb-true b byte e))
-  go false e h = joined-onto byte b (parts_at byte text) ∙ ap (λ (x : List ℕ). b ∷ x) h
 
 -- ---- the fields of an exit
 
@@ -66,7 +41,8 @@ mapped_cons n (Some ms) ns e = (ms, refl, some_is (n ∷ ms) ns e)
 one_number : (field : List ℕ) (n : ℕ) → whole (any_u32 true) field ≡ Some n → field ≡ decimal n
 one_number field n e = (takes_whole decimal (λ n. n ≤ highest_u32) (any_u32 true) takes_u32 field n e).0
 
-some_number : (g : List ℕ) (fs : List (List ℕ)) (ms : List ℕ) → numbers true (g ∷ fs) ≡ Some ms → (m : ℕ) × (ks : List ℕ) × (ms ≡ m ∷ ks)
+some_number : (g : List ℕ) (fs : List (List ℕ)) (ms : List ℕ) → numbers true (g ∷ fs) ≡ Some ms
+    → (m : ℕ) × (ks : List ℕ) × (ms ≡ m ∷ ks)
 unfolding numbers
 some_number g fs ms e =
     let b = bound (λ n. option_map (λ ks. n ∷ ks) (numbers true fs)) (whole (any_u32 true) g) ms e in
@@ -76,7 +52,7 @@ some_number g fs ms e =
 one_more : (n : ℕ) (ms : List ℕ) (m : ℕ) (ks : List ℕ) → ms ≡ m ∷ ks → decimal n ++ 32 ∷ spaced ms ≡ spaced (n ∷ ms)
 one_more n ms m ks e = rw e (spaced_more n m ks)
 
-takes_numbers : (fields : List (List ℕ)) (ns : List ℕ) → numbers true fields ≡ Some ns → joined 32 fields ≡ spaced ns
+takes_numbers : (fields : List (List ℕ)) (ns : List ℕ) → numbers true fields ≡ Some ns → join_with_byte 32 fields ≡ spaced ns
 unfolding numbers
 takes_numbers [] ns e = ap spaced (some_is [] ns e)
 takes_numbers (f ∷ []) ns e =
@@ -86,7 +62,7 @@ takes_numbers (f ∷ g ∷ fs) ns e =
     let b = bound (λ n. option_map (λ ms. n ∷ ms) (numbers true (g ∷ fs))) (whole (any_u32 true) f) ns e in
     let m = mapped_cons b.0 (numbers true (g ∷ fs)) ns b.2 in
     let s = some_number g fs m.0 m.1 in
-    ap (λ (x : List ℕ). x ++ 32 ∷ joined 32 (g ∷ fs)) (one_number f b.0 b.1)
+    ap (λ (x : List ℕ). x ++ 32 ∷ join_with_byte 32 (g ∷ fs)) (one_number f b.0 b.1)
     ∙ ap (λ (x : List ℕ). decimal b.0 ++ 32 ∷ x) (takes_numbers (g ∷ fs) m.0 m.1) ∙ one_more b.0 m.0 s.0 s.1 s.2 ∙ ap spaced m.2
 
 abbrev exit_text : SetupExit → List ℕ
@@ -194,8 +170,8 @@ takes_line AtExits =
     (takes_nothing line_text (λ l. MayCome AtExits l)))
 takes_line (AtEntries v) =
     takes_behind (codes "END ") line_text (λ l. MayCome (AtEntries v) l) _ _
-    (behind_made (codes "END ") line_text (λ l. MayCome (AtEntries v) l) (λ n. End n) decimal (λ n. n ≤ highest_u32) (any_u32 true) (λ n. refl)
-    (λ n h. h) takes_u32)
+    (behind_made (codes "END ") line_text (λ l. MayCome (AtEntries v) l) (λ n. End n) decimal (λ n. n ≤ highest_u32) (any_u32 true)
+    (λ n. refl) (λ n h. h) takes_u32)
     (takes_made line_text (λ l. MayCome (AtEntries v) l) (λ x. EntryOf x.0 x.1) numbered_text (λ x. IsNumbered v x) (entry_read true v)
     (λ x h. refl) (λ x h. h) (takes_entry v))
 takes_line AtEnd =

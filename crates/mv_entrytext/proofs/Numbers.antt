@@ -1,24 +1,22 @@
 -- A number that is written is read again, and what is read strictly is written so.
-use Rattle.std.proofs.Common.{◌≡◌, ℕ, ◌≤◌, true, false, eqb, not, ◌||◌, List, [], ◌∷◌, ◌++◌, length, get_or, Some, decimal, refl, inl, inr, arith, append_assoc}
+use Rattle.std.proofs.Common.{◌≡◌, ℕ, ◌≤◌, true, false, eqb, List, [], ◌∷◌, ◌++◌, length, Some, decimal, refl, arith, append_assoc}
 use Rattle.std.specs.Str.Parse.{AllDigits, IsNumeral, digits_value}
-use Rattle.std.specs.Int.{IsInRange}
-use Rattle.std.proofs.lemmas.Bool.{cases_eq, eq-eqb, ne_eqb, le-leb}
-use Rattle.std.proofs.lemmas.Fmt.{decimal_is_IsNumeral, decimal_digit, first_decimal}
+use Rattle.std.proofs.lemmas.Bool.{eq-eqb, ne_eqb}
+use Rattle.std.proofs.lemmas.Fmt.{decimal_is_IsNumeral}
 use Rattle.std.proofs.lemmas.Str.Parse.{digit_from_value}
 use Rattle.std.proofs.lemmas.List.{take_at, drop_at}
 use Rattle.std.proofs.lemmas.List.Folds.{prefix_len-append}
+use Rattle.mv_line.specs.Byte.{is_digit}
 use Rattle.mv_entrytext.specs.Ranges.{highest_u32, highest_u64}
 use Rattle.mv_entrytext.specs.Words.{◌<+>◌}
-use Rattle.mv_entrytext.specs.Reading.{is_digit, digit_count, is_spelled_well, number, any_u32, any_u64, Reader, parted_at, parted_by}
+use Rattle.mv_entrytext.specs.Reading.{digit_count, number, any_u32, any_u64, Reader, parted_at, parted_by}
+use Rattle.mv_entrytext.proofs.Digits.{is_digit-true, shown_again}
 
 -- no number goes on here
 abbrev pub Ends : List ℕ → Type 0
 Ends rest = digit_count rest ≡ 0
 
 -- ---- digits
-
-is_digit-true : (c : ℕ) → IsInRange 48 57 c → is_digit c ≡ true
-is_digit-true c h = rw (le-leb 48 c h.0, le-leb c 57 h.1) refl
 
 digits_are_counted : (ds : List ℕ) → AllDigits 10 ds → digit_count ds ≡ length ds
 digits_are_counted [] h = refl
@@ -35,15 +33,6 @@ count_again n rest le e =
     rw (prefix_len-append is_digit (decimal n) rest, count_of_decimal n le, eq-eqb (length (decimal n)) (length (decimal n)) refl, e)
     (omega arith)
 
-no_leading_zero : (n : ℕ) → n ≤ highest_u64 → (not (eqb (get_or (decimal n) 0 0) 48) || eqb (length (decimal n)) 1) ≡ true
-no_leading_zero n le = elim (cases_eq n 0) [
-  | inl e ↦ rw (e, decimal_digit 0 (omega arith)) refl
-  | inr ne ↦ rw (ne_eqb (get_or (decimal n) 0 0) 48 (λ q. omega (arith, first_decimal n (omega arith) (omega arith)))) refl
-]
-
-well_spelled : (low high n : ℕ) → low ≤ n → n ≤ high → n ≤ highest_u64 → is_spelled_well low high (decimal n) ≡ true
-well_spelled low high n lo hi le = rw (no_leading_zero n le, (numeral_of n le).1, le-leb low n lo, le-leb n high hi) refl
-
 -- what is written is read again, where no digit follows
 pub number_again : (low high n : ℕ) (rest : List ℕ) → low ≤ n → n ≤ high → high ≤ highest_u64 → Ends rest
     → number true low high (decimal n ++ rest) ≡ Some (n, rest)
@@ -56,8 +45,7 @@ number_again low high n rest lo hi wide e =
       take_at (decimal n) rest (length (decimal n)) refl,
       drop_at (decimal n) rest (length (decimal n)) refl,
       some,
-      well_spelled low high n lo hi le,
-      (numeral_of n le).1,
+      shown_again low high n lo hi le,
     ) refl
 
 -- a number of four bytes, and one of eight

@@ -1,11 +1,16 @@
 -- The parts of a text, and which texts lack a byte.
-use Rattle.std.proofs.Common.{ltb, take, drop, Option, Some, None, ◌-◌, ◌≤◌, length, ◌≡◌, ℕ, zero, suc, ◌+◌, ◌/◌, ◌%◌, ◌<◌, Bool, true, false, cond, eqb, not, List, [], ◌∷◌, ◌++◌, decimal, refl, sym, ◌∙◌, arith}
+use Rattle.std.proofs.Common.{take, drop, Some, None, ◌-◌, length, ◌≡◌, ℕ, zero, suc, ◌+◌, ◌/◌, ◌%◌, ◌<◌, Bool, true, false}
+use Rattle.std.proofs.Common.{cond, eqb, not, List, [], ◌∷◌, ◌++◌, decimal, refl, sym, ap, ◌∙◌, arith}
 use Rattle.std.specs.Fmt.{digits, digits_onto, digit_glyph}
-use Rattle.std.specs.List.{position, position_or_len, list_all}
-use Rattle.std.proofs.lemmas.Bool.{eq-eqb, ne_eqb, and_parts, lt-ltb, ltb-true, ltb-false}
+use Rattle.std.specs.List.{position, position_or_len, list_all, onto_first, join_with_byte}
+use Rattle.std.proofs.lemmas.Bool.{eq-eqb, ne_eqb, and_parts, lt-ltb}
+use Rattle.std.proofs.lemmas.Grind.{common_steps}
 use Rattle.std.proofs.lemmas.List.{take_all, length-drop}
 use Rattle.std.proofs.lemmas.List.Folds.{list_all-append}
-use Rattle.mv_entrytext.specs.Reading.{onto_first, parts_at}
+use Rattle.std.proofs.lemmas.List.Splits.{slice_split_none, slice_split_first, join_with_byte-slice_split}
+use Rattle.std.proofs.lemmas.List.Sums.{fails_before_first}
+use Rattle.mv_line.proofs.Places.{no_place}
+use Rattle.mv_entrytext.specs.Reading.{parts_at}
 
 -- a text that lacks a byte
 abbrev pub lacks : ℕ → List ℕ → Bool
@@ -78,64 +83,26 @@ Lacks-decimal byte n low = Lacks-onto byte 64 n [] low refl
 
 -- ---- the first part, by the place of the byte
 
-abbrev pub place_in : ℕ → List ℕ → ℕ
-place_in byte text = position_or_len (λ b. eqb b byte) text
-
-pub parts_cut : (byte : ℕ) (text : List ℕ) → place_in byte text < length text
-    → parts_at byte text ≡ take (place_in byte text) text ∷ parts_at byte (drop (place_in byte text + 1) text)
-unfolding parts_at
-parts_cut byte [] lt = absurd (omega arith)
-parts_cut byte (b ∷ bs) lt = go (eqb b byte) lt (λ h. parts_cut byte bs h) where
-  go : (t : Bool) → cond (not t) (1 + place_in byte bs) 0 < length (b ∷ bs)
-      → (place_in byte bs < length bs → parts_at byte bs ≡ take (place_in byte bs) bs ∷ parts_at byte (drop (place_in byte bs + 1) bs))
-      → cond t ([] ∷ parts_at byte bs) (onto_first b (parts_at byte bs))
-      ≡ take (cond (not t) (1 + place_in byte bs) 0) (b ∷ bs) ∷ parts_at byte
-      (drop (cond (not t) (1 + place_in byte bs) 0 + 1) (b ∷ bs))
-  go true h ih = refl
-  go false h ih =
-      let one : 1 + place_in byte bs ≡ suc (place_in byte bs) = omega arith in
-      let two : suc (place_in byte bs) + 1 ≡ suc (place_in byte bs + 1) = omega arith in
-      rw (ih (omega arith), one, two) refl
-
-pub parts_whole : (byte : ℕ) (text : List ℕ) → length text ≤ place_in byte text → parts_at byte text ≡ text ∷ []
-unfolding parts_at
-parts_whole byte [] le = refl
-parts_whole byte (b ∷ bs) le = go (eqb b byte) le (λ h. parts_whole byte bs h) where
-  go : (t : Bool) → length (b ∷ bs) ≤ cond (not t) (1 + place_in byte bs) 0 → (length bs ≤ place_in byte bs → parts_at byte bs ≡ bs ∷ [])
-      → cond t ([] ∷ parts_at byte bs) (onto_first b (parts_at byte bs)) ≡ (b ∷ bs) ∷ []
-  go true h ih = absurd (omega arith)
-  go false h ih = rw (ih (omega arith)) refl
-
--- what position says
-abbrev where_found : Bool → ℕ → Option ℕ
-where_found b k = cond b (Some k) None
-
-found_at : (b : Bool) (n k : ℕ) → where_found b n ≡ Some k → (b ≡ true) × (k ≡ n)
-found_at true n k e = (refl, let same : n ≡ k = cc in sym same)
-found_at false n k e = absurd cc
-
-not_found : (b : Bool) (n : ℕ) → where_found b n ≡ None → b ≡ false
-not_found true n e = absurd cc
-not_found false n e = refl
-
-pub place_found : (byte : ℕ) (text : List ℕ) (k : ℕ) → position (λ b. eqb b byte) text ≡ Some k
-    → (k ≡ place_in byte text) × (k < length text)
-place_found byte text k e =
-    let f = found_at (ltb (place_in byte text) (length text)) (place_in byte text) k e in
-    (f.1, omega (arith, f.1, ltb-true (place_in byte text) (length text) f.0))
-
-pub place_missed : (byte : ℕ) (text : List ℕ) → position (λ b. eqb b byte) text ≡ None → length text ≤ place_in byte text
-place_missed byte text e =
-    ltb-false (place_in byte text) (length text) (not_found (ltb (place_in byte text) (length text)) (place_in byte text) e)
-
 -- the first part ends before the place that was found
 pub parts_found : (byte : ℕ) (text : List ℕ) (k : ℕ) → position (λ b. eqb b byte) text ≡ Some k
     → parts_at byte text ≡ take k text ∷ parts_at byte (take (length text - (k + 1)) (drop (k + 1) text))
+unfolding parts_at
 parts_found byte text k e =
-    let f = place_found byte text k e in
+    let lt : position_or_len (λ b. eqb b byte) text < length text = grind (arith, common_steps) in
+    let same : position_or_len (λ b. eqb b byte) text ≡ k = grind (arith, common_steps) in
     let all : take (length text - (k + 1)) (drop (k + 1) text) ≡ drop (k + 1) text =
     take_all (length text - (k + 1)) (drop (k + 1) text) (omega (arith, length-drop (k + 1) text)) in
-    rw all (rw f.0 (parts_cut byte text (omega (arith, f.0, f.1))))
+    slice_split_first (λ b. eqb b byte) text 0 lt ∙ ap (λ (n : ℕ). take n text ∷ parts_at byte (drop (n + 1) text)) same
+    ∙ ap (λ (x : List ℕ). take k text ∷ parts_at byte x) (sym all)
 
+-- a text in which the byte is not found is one part
 pub parts_missed : (byte : ℕ) (text : List ℕ) → position (λ b. eqb b byte) text ≡ None → parts_at byte text ≡ text ∷ []
-parts_missed byte text e = parts_whole byte text (place_missed byte text e)
+unfolding parts_at
+parts_missed byte text e =
+    let all : length text ≡ position_or_len (λ b. eqb b byte) text = no_place (λ b. eqb b byte) text e in
+    slice_split_none (λ b. eqb b byte) text (λ k d lt. fails_before_first (λ b. eqb b byte) text k d (omega (arith, all)))
+
+-- the parts of a text, put together again
+pub joined_again : (byte : ℕ) (text : List ℕ) → join_with_byte byte (parts_at byte text) ≡ text
+unfolding parts_at
+joined_again byte text = join_with_byte-slice_split byte text

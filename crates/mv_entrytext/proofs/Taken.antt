@@ -1,20 +1,18 @@
 -- What is read strictly is the text of its value, and what stands behind it.
-use Rattle.std.proofs.Common.{◌≡◌, ℕ, suc, ◌+◌, ◌≤◌, ◌<◌, Bool, true, false, cond, eqb, leb, not, ◌&&◌, ◌||◌, List, [], ◌∷◌, ◌++◌, length, get_or, take, drop, Option, Some, None, decimal, refl, sym, ap, subst, ◌∙◌, arith, append_assoc}
-use Rattle.std.specs.Prelude.{codes}
+use Rattle.std.proofs.Common.{◌≡◌, ℕ, ◌≤◌, Bool, true, false, cond, eqb, List, [], ◌∷◌, ◌++◌, length, take, drop, Option, Some, None}
+use Rattle.std.proofs.Common.{decimal, refl, sym, ap, subst, ◌∙◌, arith, append_assoc}
 use Rattle.std.specs.List.{starts_with}
 use Rattle.std.specs.Option.{option_map, option_and_then}
-use Rattle.std.specs.Str.Parse.{AllDigits, digits_value}
-use Rattle.std.specs.Char.{digit_value}
-use Rattle.std.proofs.lemmas.Bool.{and_parts, leb-true, eqb-true, eqb-false, eq-eqb, false≢true}
+use Rattle.std.proofs.lemmas.Bool.{eqb-true}
 use Rattle.std.proofs.lemmas.Bool.Decides.{Decides-eqb}
 use Rattle.std.proofs.lemmas.Slice.Eq.{starts_is}
-use Rattle.std.proofs.lemmas.Fmt.{decimal-digits_value}
-use Rattle.std.proofs.lemmas.Str.Parse.{IsNumeralModel, tells_digits}
 use Rattle.std.proofs.lemmas.List.{take-append-drop, append-nil, nil_from_length}
-use Rattle.std.proofs.lemmas.List.Folds.{length-prefix_len}
+use Rattle.mv_line.specs.Number.{number_of, within}
 use Rattle.mv_entrytext.specs.Ranges.{highest_u32, highest_u64}
 use Rattle.mv_entrytext.specs.Words.{◌<+>◌}
-use Rattle.mv_entrytext.specs.Reading.{Reader, given, nothing, behind, made, after, parted_at, parted_by, whole, is_digit, digit_count, is_spelled_well, number, any_u32, any_u64}
+use Rattle.mv_entrytext.specs.Reading.{Reader, given, nothing, behind, made, after, parted_at, parted_by, whole, digit_count, shown_or_zero}
+use Rattle.mv_entrytext.specs.Reading.{number, any_u32, any_u64}
+use Rattle.mv_entrytext.proofs.Digits.{shown_is}
 
 -- a reader takes the text of its value from the front, and its values are fine
 abbrev pub Takes : {A : Type 0} → (A → List ℕ) → (A → Type 0) → Reader A → Type 0
@@ -87,11 +85,14 @@ byte_first byte text rest e = go (starts_with eqb text (byte ∷ [])) refl e whe
   go true s h = word_first text (byte ∷ []) s ∙ ap (λ (x : List ℕ). byte ∷ x) (some_is (drop 1 text) rest h)
   go false s h = absurd cc
 
-pub takes_parted_at : {A B : Type 0} (byte : ℕ) (first : Reader A) (second : A → Reader B) (show : A → List ℕ) (tell : B → List ℕ) (Fine : A → Type 0) (Good : A → B → Type 0)
-    → Takes show Fine first → ((a : A) → Fine a → Takes tell (Good a) (second a)) → Takes (λ p. show p.0 ++ byte ∷ tell p.1) (λ p. Fine p.0 × Good p.0 p.1) (parted_at byte first second)
+pub takes_parted_at : {A B : Type 0} (byte : ℕ) (first : Reader A) (second : A → Reader B) (show : A → List ℕ) (tell : B → List ℕ)
+    (Fine : A → Type 0) (Good : A → B → Type 0) → Takes show Fine first → ((a : A) → Fine a → Takes tell (Good a) (second a))
+    → Takes (λ p. show p.0 ++ byte ∷ tell p.1) (λ p. Fine p.0 × Good p.0 p.1) (parted_at byte first second)
 unfolding parted_at
 takes_parted_at {A = A} {B = B} byte first second show tell Fine Good one two text rest p e =
-    let a = bound (λ x. option_and_then (λ r. option_map {U = (A × B) × List ℕ} (λ y. ((x.0, y.0), y.1)) (second x.0 r)) (after (byte ∷ []) x.1)) (first text) (p, rest) e in
+    let a =
+    bound (λ x. option_and_then (λ r. option_map {U = (A × B) × List ℕ} (λ y. ((x.0, y.0), y.1)) (second x.0 r)) (after (byte ∷ []) x.1))
+    (first text) (p, rest) e in
     let x = a.0 in
     let b = bound (λ r. option_map {U = (A × B) × List ℕ} (λ y. ((x.0, y.0), y.1)) (second x.0 r)) (after (byte ∷ []) x.1) (p, rest) a.2 in
     let m = mapped (λ y. (x.0, y)) (second x.0 b.0) p rest b.2 in
@@ -123,50 +124,6 @@ takes_whole {A = A} show Fine reader takes text a e =
 
 -- ---- numbers
 
-digit_is : (c : ℕ) → is_digit c ≡ true → digit_value c < 10
-digit_is c e =
-    let both = and_parts (leb 48 c) (leb c 57) e in
-    (tells_digits.more c [] (leb-true 48 c both.0, leb-true c 57 both.1) tt).0
-
-all_digits : (text : List ℕ) → AllDigits 10 (take (digit_count text) text)
-all_digits [] = tt
-all_digits (c ∷ cs) = go (is_digit c) refl (all_digits cs) where
-  go : (b : Bool) → is_digit c ≡ b → AllDigits 10 (take (digit_count cs) cs) → AllDigits 10 (take (cond b (1 + digit_count cs) 0) (c ∷ cs))
-  go true e h = let k : 1 + digit_count cs ≡ suc (digit_count cs) = omega arith in rw k (digit_is c e, h)
-  go false e h = tt
-
-own : IsNumeralModel (λ ds. AllDigits 10 ds) (digits_value 10)
-own = record { to = λ ds h. h; from = λ ds h. h; same = λ ds h. refl }
-
--- a well spelled number is the decimal of its value
-spelled : (low high : ℕ) (ds : List ℕ) → AllDigits 10 ds → 0 < length ds → high ≤ highest_u64 → is_spelled_well low high ds ≡ true
-    → (decimal (digits_value 10 ds) ≡ ds) × (low ≤ digits_value 10 ds) × (digits_value 10 ds ≤ high)
-spelled low high ds h some wide e =
-    let a =
-    and_parts ((not (eqb (get_or ds 0 0) 48) || eqb (length ds) 1) && leb low (digits_value 10 ds)) (leb (digits_value 10 ds) high) e in
-    let b = and_parts (not (eqb (get_or ds 0 0) 48) || eqb (length ds) 1) (leb low (digits_value 10 ds)) a.0 in
-    let le : digits_value 10 ds ≤ high = leb-true (digits_value 10 ds) high a.1 in (
-      decimal-digits_value own ds h some (λ z. alone (eqb (get_or ds 0 0) 48) (eqb (length ds) 1) (eq-eqb (get_or ds 0 0) 48 z) b.0 refl)
-          (omega arith),
-      leb-true low (digits_value 10 ds) b.1,
-      le,
-    )
-  where
-    alone : (p q : Bool) → p ≡ true → (not p || q) ≡ true → eqb (length ds) 1 ≡ q → length ds ≡ 1
-    alone true true z o is = eqb-true (length ds) 1 is
-    alone true false z o is = absurd (false≢true o)
-    alone false q z o is = absurd (false≢true z)
-
-abbrev chosen : Bool → Option (ℕ × List ℕ) → Option (ℕ × List ℕ)
-chosen b o = cond b o None
-
-chosen_is : (b : Bool) (n : ℕ) (rest : List ℕ) (m : ℕ) (left : List ℕ) → chosen b (Some (n, rest)) ≡ Some (m, left)
-    → (b ≡ true) × (n ≡ m) × (rest ≡ left)
-chosen_is true n rest m left e =
-    let same : (n, rest) ≡ (m, left) = some_is (n, rest) (m, left) e in
-    (refl, ap (λ x. x.0) same, ap (λ x. x.1) same)
-chosen_is false n rest m left e = absurd cc
-
 front_is : (text ds : List ℕ) (n : ℕ) → ds ≡ take (digit_count text) text → decimal n ≡ ds
     → text ≡ decimal n ++ drop (digit_count text) text
 front_is text ds n is d =
@@ -174,19 +131,17 @@ front_is text ds n is d =
 
 pub takes_number : (low high : ℕ) → high ≤ highest_u64 → Takes decimal (λ n. (low ≤ n) × (n ≤ high)) (number true low high)
 unfolding number
-takes_number low high wide text rest n e = go (eqb (digit_count text) 0) refl e where
-  go : (b : Bool) → eqb (digit_count text) 0 ≡ b
-      → cond b None (chosen (is_spelled_well low high (take (digit_count text) text))
-      (let x : ℕ × List ℕ = (digits_value 10 (take (digit_count text) text), drop (digit_count text) text) in Some x)) ≡ Some (n, rest)
-      → (text ≡ decimal n ++ rest) × ((low ≤ n) × (n ≤ high))
-  go true z h = absurd cc
-  go false z h =
-      let ds = take (digit_count text) text in
-      let c = chosen_is (is_spelled_well low high ds) (digits_value 10 ds) (drop (digit_count text) text) n rest h in
-      let some : 0 < length ds = omega (arith, length-prefix_len is_digit text, eqb-false (digit_count text) 0 z) in
-      let s = spelled low high ds (all_digits text) some wide c.0 in
-      let value : digits_value 10 ds ≡ n = c.1 in
-      (front_is text ds n refl (rw value at s.0) ∙ ap (λ (r : List ℕ). decimal n ++ r) c.2, (omega (arith, s.1), omega (arith, s.2)))
+takes_number low high wide text rest n e =
+    go (eqb (digit_count text) 0) (within low high (number_of (take (digit_count text) text))) refl e where
+      go : (b : Bool) (o : Option ℕ) → within low high (number_of (take (digit_count text) text)) ≡ o
+          → cond b None (shown_or_zero true (drop (digit_count text) text) o) ≡ Some (n, rest)
+          → (text ≡ decimal n ++ rest) × ((low ≤ n) × (n ≤ high))
+      go true o z h = absurd cc
+      go false None z h = absurd cc
+      go false (Some m) z h =
+          let same : (m, drop (digit_count text) text) ≡ (n, rest) = some_is (m, drop (digit_count text) text) (n, rest) h in
+          let s = shown_is low high m (take (digit_count text) text) wide z in
+          subst (λ x. (text ≡ decimal x.0 ++ x.1) × ((low ≤ x.0) × (x.0 ≤ high))) same (front_is text _ m refl s.0, (s.1, s.2))
 
 pub takes_u32 : Takes decimal (λ n. n ≤ highest_u32) (any_u32 true)
 takes_u32 text rest n e = let t = takes_number 0 highest_u32 (omega arith) text rest n e in (t.0, t.1.1)

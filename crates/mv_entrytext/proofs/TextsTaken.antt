@@ -1,7 +1,8 @@
 -- A text without fault is the text of the journal that it is read as.
-use Rattle.std.proofs.Common.{◌≡◌, ℕ, ◌+◌, ◌≤◌, Bool, true, false, cond, eqb, not, ◌||◌, List, [], ◌∷◌, ◌++◌, length, Option, Some, None, refl, sym, ap, subst, ◌∙◌, arith, append_assoc}
+use Rattle.std.proofs.Common.{◌≡◌, ℕ, ◌+◌, ◌≤◌, Bool, true, false, cond, eqb, not, ◌||◌, List, [], ◌∷◌, ◌++◌, length, Option, Some}
+use Rattle.std.proofs.Common.{None, refl, sym, ap, subst, ◌∙◌, arith, append_assoc}
 use Rattle.std.specs.Prelude.{codes, is_some}
-use Rattle.std.specs.List.{flat_map, AllByRecursion}
+use Rattle.std.specs.List.{flat_map, AllByRecursion, join_with_byte}
 use Rattle.std.proofs.lemmas.Bool.{eqb-true, false≢true, and_parts}
 use Rattle.std.proofs.lemmas.List.{append-nil, nil_from_length, flat_map_more}
 use Rattle.std.proofs.lemmas.List.Elements.{All-from_recursion}
@@ -9,17 +10,22 @@ use Rattle.mv_machine.specs.declared.entry.Entry.{Entry}
 use Rattle.mv_machine.specs.declared.config.CheckRefusal.{CheckRefusal}
 use Rattle.mv_machine.specs.Check.{IsValid, refusal_of}
 use Rattle.mv_machine.specs.Setup.{Setup, SetupExit}
+use Rattle.mv_entrytext.specs.declared.fault.Kind.{Kind}
+use Rattle.mv_entrytext.specs.declared.fault.Kind.TheVariants.{NoForm, BadNumber, BadConfig, WrongCount, Cut}
 use Rattle.mv_entrytext.specs.declared.fault.TextFault.{TextFault}
 use Rattle.mv_entrytext.specs.declared.version.Version.{Version}
 use Rattle.mv_entrytext.specs.Ranges.{highest_u32}
 use Rattle.mv_entrytext.specs.Reading.{parts_at}
 use Rattle.mv_entrytext.specs.EntryText.{HasText}
-use Rattle.mv_entrytext.specs.Journal.{Line, JournalOf, Callers, Elements, Volumes, Latches, Quota, Budget, Owner, ExitTo, Events, EntryOf, End, line_text, line, entry_lines, counts_text, lists_text, head_text, text_of}
-use Rattle.mv_entrytext.specs.Lines.{Stage, AtVersion, AtCallers, AtElements, AtVolumes, AtLatches, AtQuota, AtBudgets, AtOwners, AtExits, AtEntries, AtEnd, line_read, Draft, blank, with_call, draft_with}
-use Rattle.mv_entrytext.specs.Fault.{kind_said, kind_of, is_read, is_cut, is_ended, fault_at, fault_or, draft_after, first_fault, text_fault, draft_of, journal_of, HasJournal, AreCallsIn}
+use Rattle.mv_entrytext.specs.Journal.{Line, JournalOf, Callers, Elements, Volumes, Latches, Quota, Budget, Owner, ExitTo, Events}
+use Rattle.mv_entrytext.specs.Journal.{EntryOf, End, line_text, line, entry_lines, counts_text, lists_text, head_text, text_of}
+use Rattle.mv_entrytext.specs.Lines.{Stage, AtVersion, AtCallers, AtElements, AtVolumes, AtLatches, AtQuota, AtBudgets, AtOwners}
+use Rattle.mv_entrytext.specs.Lines.{AtExits, AtEntries, AtEnd, line_read, Draft, blank, with_call, draft_with}
+use Rattle.mv_entrytext.specs.Fault.{kind_said, kind_of, is_read, is_cut, is_ended, fault_at, fault_or, draft_after, first_fault}
+use Rattle.mv_entrytext.specs.Fault.{text_fault, draft_of, journal_of, HasJournal, AreCallsIn}
 use Rattle.mv_entrytext.proofs.CallNumbers.{IsCallIn, AreEach, calls_from_each, no_numbers, number_more, lines_more}
-use Rattle.mv_entrytext.proofs.Parts.{first_part}
-use Rattle.mv_entrytext.proofs.LinesTaken.{joined, joined_again, MayCome, line_taken}
+use Rattle.mv_entrytext.proofs.Parts.{first_part, joined_again}
+use Rattle.mv_entrytext.proofs.LinesTaken.{MayCome, line_taken}
 
 -- ---- the text of the lines so far
 
@@ -35,10 +41,18 @@ exits_text xs = flat_map (λ x. line (ExitTo x)) xs
 abbrev entries_text : List Entry → List ℕ → List ℕ
 entries_text es ns = flat_map line (entry_lines es ns)
 
+-- the counts up to that of the elements, that of the volumes, that of the latches
+abbrev up_to_elements : Version → Setup → List ℕ
+up_to_elements v c = line (JournalOf v) ++ line (Callers c.callers) ++ line (Elements c.elements_per_caller)
+
+abbrev up_to_volumes : Version → Setup → List ℕ
+up_to_volumes v c = up_to_elements v c ++ line (Volumes c.volumes)
+
+abbrev up_to_latches : Version → Setup → List ℕ
+up_to_latches v c = up_to_volumes v c ++ line (Latches c.latches)
+
 abbrev up_to_budgets : Version → Setup → List ℕ
-up_to_budgets v c =
-    line (JournalOf v) ++ line (Callers c.callers) ++ line (Elements c.elements_per_caller) ++ line (Volumes c.volumes) ++ line (Latches c.latches)
-    ++ line (Quota c.quota c.posted_quota) ++ budgets_text c.budgets
+up_to_budgets v c = up_to_latches v c ++ line (Quota c.quota c.posted_quota) ++ budgets_text c.budgets
 
 abbrev up_to_exits : Version → Setup → List ℕ
 up_to_exits v c = up_to_budgets v c ++ owners_text c.owners ++ exits_text c.exits
@@ -77,12 +91,9 @@ abbrev pub SoFar : Stage → Version → Setup → List Entry → List ℕ → L
 SoFar AtVersion v c es ns front = (front ≡ []) × HasNoList c es ns
 SoFar AtCallers v c es ns front = (front ≡ line (JournalOf v)) × HasNoList c es ns
 SoFar AtElements v c es ns front = (front ≡ line (JournalOf v) ++ line (Callers c.callers)) × HasNoList c es ns
-SoFar AtVolumes v c es ns front = (front ≡ line (JournalOf v) ++ line (Callers c.callers) ++ line (Elements c.elements_per_caller)) × HasNoList c es ns
-SoFar AtLatches v c es ns front =
-    (front ≡ line (JournalOf v) ++ line (Callers c.callers) ++ line (Elements c.elements_per_caller) ++ line (Volumes c.volumes)) × HasNoList c es ns
-SoFar AtQuota v c es ns front =
-    (front ≡ line (JournalOf v) ++ line (Callers c.callers) ++ line (Elements c.elements_per_caller) ++ line (Volumes c.volumes)
-    ++ line (Latches c.latches)) × HasNoList c es ns
+SoFar AtVolumes v c es ns front = (front ≡ up_to_elements v c) × HasNoList c es ns
+SoFar AtLatches v c es ns front = (front ≡ up_to_volumes v c) × HasNoList c es ns
+SoFar AtQuota v c es ns front = (front ≡ up_to_latches v c) × HasNoList c es ns
 SoFar AtBudgets v c es ns front = (front ≡ up_to_budgets v c) × (c.owners ≡ []) × (c.exits ≡ []) × HasNoEntry es ns
 SoFar AtOwners v c es ns front = (front ≡ up_to_budgets v c ++ owners_text c.owners) × (c.exits ≡ []) × HasNoEntry es ns
 SoFar AtExits v c es ns front = (front ≡ up_to_exits v c) × HasNoEntry es ns
@@ -92,7 +103,8 @@ SoFar AtEnd v c es ns front = IsWritten v front c es ns
 -- ---- one line more
 
 -- where no owner was named, the list of owners is empty, and so with exits
-no_owner : (v : Version) (c : Setup) (es : List Entry) (ns front : List ℕ) → SoFar AtBudgets v c es ns front → SoFar AtOwners v c es ns front
+no_owner : (v : Version) (c : Setup) (es : List Entry) (ns front : List ℕ) → SoFar AtBudgets v c es ns front
+    → SoFar AtOwners v c es ns front
 no_owner v c es ns front h =
     (h.0 ∙ sym (ap (λ (x : List ℕ). up_to_budgets v c ++ owners_text x) h.1 ∙ append-nil (up_to_budgets v c)), h.2, h.3)
 
@@ -126,13 +138,14 @@ then_events v c es ns front h valid =
     record {
       version = refl;
       text = ap (λ (t : List ℕ). t ++ line Events) h.0
-          ∙ sym (ap (λ (x : List ℕ). up_to_exits v c ++ line Events ++ x) (no_lines es ns h.1) ∙ append-nil (up_to_exits v c ++ line Events));
+          ∙ sym (ap (λ (x : List ℕ). up_to_exits v c ++ line Events ++ x) (no_lines es ns h.1)
+          ∙ append-nil (up_to_exits v c ++ line Events));
       valid = valid;
       each = subst (λ x. AllByRecursion HasText x) (sym h.1.entries) tt;
       calls = no_numbers v es ns h.1.entries h.1.calls;
     }
 
-no_refusal : (o : Option CheckRefusal) → cond {A = Option ℕ} (is_some o) (Some 3) None ≡ None → o ≡ None
+no_refusal : (o : Option CheckRefusal) → cond {A = Option Kind} (is_some o) (Some BadConfig) None ≡ None → o ≡ None
 no_refusal None e = refl
 no_refusal (Some r) e = absurd cc
 
@@ -140,9 +153,9 @@ all_more : {A : Type 0} (P : A → Type 0) (xs : List A) (x : A) → AllByRecurs
 all_more P [] x h p = (p, tt)
 all_more P (y ∷ ys) x h p = (h.0, all_more P ys x h.1 p)
 
-right_count : (a b : ℕ) → cond {A = Option ℕ} (not (eqb a b)) (Some 4) None ≡ None → a ≡ b
+right_count : (a b : ℕ) → cond {A = Option Kind} (not (eqb a b)) (Some WrongCount) None ≡ None → a ≡ b
 right_count a b e = go (eqb a b) refl e where
-  go : (t : Bool) → eqb a b ≡ t → cond {A = Option ℕ} (not t) (Some 4) None ≡ None → a ≡ b
+  go : (t : Bool) → eqb a b ≡ t → cond {A = Option Kind} (not t) (Some WrongCount) None ≡ None → a ≡ b
   go true q h = eqb-true a b q
   go false q h = absurd cc
 
@@ -176,8 +189,8 @@ then_end read v c es ns front n h count m =
     }
 
 -- the next line of the counts
-same_lists : (c d : Setup) (es : List Entry) (ns : List ℕ) → HasNoList c es ns → d.budgets ≡ c.budgets → d.owners ≡ c.owners → d.exits ≡ c.exits
-    → HasNoList d es ns
+same_lists : (c d : Setup) (es : List Entry) (ns : List ℕ) → HasNoList c es ns → d.budgets ≡ c.budgets → d.owners ≡ c.owners
+    → d.exits ≡ c.exits → HasNoList d es ns
 same_lists c d es ns h b o x = record { budgets = b ∙ h.budgets; owners = o ∙ h.owners; exits = x ∙ h.exits; none = h.none }
 
 one_line : (s : Stage) (v : Version) (c : Setup) (es : List Entry) (ns front : List ℕ) (l : Line) → SoFar s v c es ns front → MayCome s l
@@ -185,14 +198,17 @@ one_line : (s : Stage) (v : Version) (c : Setup) (es : List Entry) (ns front : L
     → let next = draft_with l (record { stage = s; version = v; setup = c; entries = es; calls = ns }) in
     SoFar next.stage next.version next.setup next.entries next.calls (front ++ line l)
 one_line AtVersion v c es ns front (JournalOf w) h m k = (plus front (JournalOf w) [] h.0, h.1)
-one_line AtCallers v c es ns front (Callers n) h m k = (plus front (Callers n) _ h.0, same_lists c (record c { callers = n }) es ns h.1 refl refl refl)
+one_line AtCallers v c es ns front (Callers n) h m k =
+    (plus front (Callers n) _ h.0, same_lists c (record c { callers = n }) es ns h.1 refl refl refl)
 one_line AtElements v c es ns front (Elements n) h m k =
     (plus front (Elements n) _ h.0, same_lists c (record c { elements_per_caller = n }) es ns h.1 refl refl refl)
-one_line AtVolumes v c es ns front (Volumes n) h m k = (plus front (Volumes n) _ h.0, same_lists c (record c { volumes = n }) es ns h.1 refl refl refl)
-one_line AtLatches v c es ns front (Latches n) h m k = (plus front (Latches n) _ h.0, same_lists c (record c { latches = n }) es ns h.1 refl refl refl)
+one_line AtVolumes v c es ns front (Volumes n) h m k =
+    (plus front (Volumes n) _ h.0, same_lists c (record c { volumes = n }) es ns h.1 refl refl refl)
+one_line AtLatches v c es ns front (Latches n) h m k =
+    (plus front (Latches n) _ h.0, same_lists c (record c { latches = n }) es ns h.1 refl refl refl)
 one_line AtQuota v c es ns front (Quota q p) h m k = (
-  plus front (Quota q p) _ h.0 ∙ sym (ap (λ (x : List ℕ). line (JournalOf v) ++ line (Callers c.callers) ++ line (Elements c.elements_per_caller)
-      ++ line (Volumes c.volumes) ++ line (Latches c.latches) ++ line (Quota q p) ++ budgets_text x) h.1.budgets ∙ append-nil _),
+  plus front (Quota q p) _ h.0
+      ∙ sym (ap (λ (x : List ℕ). up_to_latches v c ++ line (Quota q p) ++ budgets_text x) h.1.budgets ∙ append-nil _),
   h.1.owners,
   h.1.exits,
   h.1.none,
@@ -220,10 +236,10 @@ pub record IsSaid (d : Draft) (text : List ℕ) : Type 0 where
   pub read : line_read true d.stage text ≡ Some said
   pub fine : kind_said d (Some said) ≡ None
 
-abbrev kind_by : Bool → Bool → Option ℕ → Option ℕ
-kind_by strict loose said = cond (not (strict || loose)) (Some 1) (cond (not strict) (Some 2) said)
+abbrev kind_by : Bool → Bool → Option Kind → Option Kind
+kind_by strict loose said = cond (not (strict || loose)) (Some NoForm) (cond (not strict) (Some BadNumber) said)
 
-kind_none : (strict loose : Bool) (said : Option ℕ) → kind_by strict loose said ≡ None → (strict ≡ true) × (said ≡ None)
+kind_none : (strict loose : Bool) (said : Option Kind) → kind_by strict loose said ≡ None → (strict ≡ true) × (said ≡ None)
 kind_none true loose said e = (refl, e)
 kind_none false true said e = absurd cc
 kind_none false false said e = absurd cc
@@ -236,7 +252,7 @@ is_said d text e =
       go None r s f = absurd (false≢true s)
       go (Some l) r s f = record { said = l; read = r; fine = f }
 
-first_none : (number : ℕ) (kind : Option ℕ) (behind : Option TextFault) → fault_or number kind behind ≡ None
+first_none : (number : ℕ) (kind : Option Kind) (behind : Option TextFault) → fault_or number kind behind ≡ None
     → (kind ≡ None) × (behind ≡ None)
 first_none number None behind e = (refl, e)
 first_none number (Some k) behind e = absurd cc
@@ -258,9 +274,9 @@ not_not : (b : Bool) → not b ≡ false → b ≡ true
 not_not true e = refl
 not_not false e = absurd (false≢true (sym e))
 
-is_over : (number : ℕ) (d : Draft) (last : List ℕ) → cond (is_cut d last) (Some (fault_at number 5)) None ≡ None → IsOver d last
+is_over : (number : ℕ) (d : Draft) (last : List ℕ) → cond (is_cut d last) (Some (fault_at number Cut)) None ≡ None → IsOver d last
 is_over number d last e =
-    let both = and_parts (is_ended d.stage) (eqb (length last) 0) (not_not _ (not_cut (is_cut d last) (fault_at number 5) e)) in
+    let both = and_parts (is_ended d.stage) (eqb (length last) 0) (not_not _ (not_cut (is_cut d last) (fault_at number Cut) e)) in
     record { stage = end_only d.stage both.0; nothing = nil_from_length last (eqb-true (length last) 0 both.1) }
 
 abbrev SoFarD : Draft → List ℕ → Type 0
@@ -278,7 +294,7 @@ unfolding line
 line_is l = refl
 
 lines_read : (text : List ℕ) (more : List (List ℕ)) (number : ℕ) (d : Draft) (front : List ℕ) → first_fault number d (text ∷ more) ≡ None
-    → SoFarD d front → IsRead (draft_of d (text ∷ more)) (front ++ joined 10 (text ∷ more))
+    → SoFarD d front → IsRead (draft_of d (text ∷ more)) (front ++ join_with_byte 10 (text ∷ more))
 unfolding first_fault draft_of
 lines_read last [] number d front e h =
     let o = is_over number d last e in
@@ -292,15 +308,19 @@ lines_read text (next ∷ more) number d front e h =
     let s = is_said d text f.0 in
     let t = line_taken d.stage text s.said s.read in
     let one = one_line d.stage d.version d.setup d.entries d.calls front s.said h t.1 s.fine in
-    let rest : first_fault (number + 1) (draft_with s.said d) (next ∷ more) ≡ None = sym (ap (λ (o : Option Line). first_fault (number + 1) (draft_after d o) (next ∷ more)) s.read) ∙ f.1 in
+    let rest : first_fault (number + 1) (draft_with s.said d) (next ∷ more) ≡ None =
+    sym (ap (λ (o : Option Line). first_fault (number + 1) (draft_after d o) (next ∷ more)) s.read) ∙ f.1 in
     let ih = lines_read next more (number + 1) (draft_with s.said d) (front ++ line s.said) rest one in
-    let text_is : front ++ joined 10 (text ∷ next ∷ more) ≡ (front ++ line s.said) ++ joined 10 (next ∷ more) =
-    front_more front text (joined 10 (next ∷ more)) ∙ ap (λ (x : List ℕ). (front ++ (x ++ codes "\n")) ++ joined 10 (next ∷ more)) t.0
-    ∙ ap (λ (x : List ℕ). (front ++ x) ++ joined 10 (next ∷ more)) (line_is s.said) in
-    subst (λ (o : Option Line). IsRead (draft_of (draft_after d o) (next ∷ more)) (front ++ joined 10 (text ∷ next ∷ more))) (sym s.read)
+    let text_is : front ++ join_with_byte 10 (text ∷ next ∷ more) ≡ (front ++ line s.said) ++ join_with_byte 10 (next ∷ more) =
+    front_more front text (join_with_byte 10 (next ∷ more))
+    ∙ ap (λ (x : List ℕ). (front ++ (x ++ codes "\n")) ++ join_with_byte 10 (next ∷ more)) t.0
+    ∙ ap (λ (x : List ℕ). (front ++ x) ++ join_with_byte 10 (next ∷ more)) (line_is s.said) in
+    subst (λ (o : Option Line). IsRead (draft_of (draft_after d o) (next ∷ more)) (front ++ join_with_byte 10 (text ∷ next ∷ more)))
+    (sym s.read)
     (subst (λ (x : List ℕ). IsRead (draft_of (draft_with s.said d) (next ∷ more)) x) (sym text_is) ih)
 
-all_lines : (v : Version) (c : Setup) (es : List Entry) (ns : List ℕ) → up_to_entries v c es ns ++ line (End (length es)) ≡ text_of v c es ns
+all_lines : (v : Version) (c : Setup) (es : List Entry) (ns : List ℕ)
+    → up_to_entries v c es ns ++ line (End (length es)) ≡ text_of v c es ns
 unfolding text_of head_text counts_text lists_text
 all_lines v c es ns = simp append_assoc
 
@@ -316,9 +336,10 @@ is_read_whole bytes e =
     let f = first_part 10 bytes in
     let ih = lines_read f.0 f.1 1 blank [] (sym (ap (first_fault 1 blank) f.2) ∙ e)
     (refl, record { budgets = refl; owners = refl; exits = refl; none = record { entries = refl; calls = refl } }) in
-    let all = subst (λ (x : List (List ℕ)). IsRead (draft_of blank x) (joined 10 x)) (sym f.2) ih in
+    let all = subst (λ (x : List (List ℕ)). IsRead (draft_of blank x) (join_with_byte 10 x)) (sym f.2) ih in
     let d = journal_of bytes in
-    let last = subst (λ (s : Stage). SoFar s d.version d.setup d.entries d.calls (joined 10 (parts_at 10 bytes))) all.stage all.so_far in
+    let last =
+    subst (λ (s : Stage). SoFar s d.version d.setup d.entries d.calls (join_with_byte 10 (parts_at 10 bytes))) all.stage all.so_far in
     record {
       text = sym (joined_again 10 bytes) ∙ last.text ∙ all_lines d.version d.setup d.entries d.calls;
       journal = last.journal;

@@ -1,41 +1,45 @@
 -- Where the reader of journals is, and what it tells.
-use Rattle.std.specs.Prelude.{◌∷◌, ◌==◌, ◌≡◌, ℕ, ◌+◌, ◌≤◌, true, false, not, ◌||◌, List, [], length, Option, Some, None, is_some, if◌then◌else◌}
+use Rattle.std.specs.Prelude.{◌∷◌, ◌==◌, ◌≡◌, ℕ, ◌+◌, ◌≤◌, true, false, not, ◌||◌, List, [], length, Option, Some, None, is_some}
+use Rattle.std.specs.Prelude.{if◌then◌else◌}
 use Rattle.mv_machine.specs.Check.{refusal_of}
 use Rattle.mv_machine.specs.Config.{setup_of}
 use Rattle.mv_machine.specs.Setup.{Setup}
 use Rattle.mv_machine.specs.declared.entry.Entry.{Entry}
+use Rattle.mv_entrytext.specs.declared.fault.Kind.{Kind}
+use Rattle.mv_entrytext.specs.declared.fault.Kind.TheVariants.{NoForm, BadNumber, BadConfig, Cut}
+use Rattle.mv_entrytext.specs.declared.fault.LineRefusal.{LineRefusal}
+use Rattle.mv_entrytext.specs.declared.fault.LineRefusal.TheVariants.{Has, NoMemory}
 use Rattle.mv_entrytext.specs.declared.fault.TextRefusal.{TextRefusal}
 use Rattle.mv_entrytext.specs.declared.fault.TextRefusal.TheVariants.{Fault}
 use Rattle.mv_entrytext.specs.declared.fault.TextRefusal.TheVariants as refusal
-use Rattle.mv_entrytext.specs.declared.head.LineRefusal.{LineRefusal}
-use Rattle.mv_entrytext.specs.declared.head.LineRefusal.TheVariants.{Kind, NoMemory}
 use Rattle.mv_entrytext.specs.declared.head.HeadDraft.{HeadDraft}
 use Rattle.mv_entrytext.specs.declared.version.Version.{Version}
 use Rattle.mv_entrytext.specs.Reading.{parts_at}
-use Rattle.mv_entrytext.specs.Lines.{Stage, AtVersion, AtCallers, AtElements, AtVolumes, AtLatches, AtQuota, AtBudgets, AtOwners, AtExits, AtEntries, AtEnd, Draft, line_read}
+use Rattle.mv_entrytext.specs.Lines.{Stage, AtVersion, AtCallers, AtElements, AtVolumes, AtLatches, AtQuota, AtBudgets, AtOwners}
+use Rattle.mv_entrytext.specs.Lines.{AtExits, AtEntries, AtEnd, Draft, line_read}
 use Rattle.mv_entrytext.specs.Fault.{fault_at, first_fault, text_fault, draft_of, journal_of}
 use Rattle.mv_entrytext.specs.Said.{stage_of}
 
 -- the kind that is told is the first
-abbrev pub Tells : LineRefusal → Option ℕ → Type 0
-Tells (Kind k) kind = kind ≡ Some k
+abbrev pub Tells : LineRefusal → Option Kind → Type 0
+Tells (Has k) kind = kind ≡ Some k
 Tells NoMemory kind = Unit {0}
 
 -- the refusal of a text whose line of this number was not taken
 abbrev pub refusal_at : ℕ → LineRefusal → TextRefusal
-refusal_at line (Kind k) = Fault (fault_at line k)
+refusal_at line (Has k) = Fault (fault_at line k)
 refusal_at line NoMemory = refusal.NoMemory
 
 -- the kind of a line by its form and its numbers alone
-abbrev pub kind_of_form : Stage → List ℕ → Option ℕ
+abbrev pub kind_of_form : Stage → List ℕ → Option Kind
 kind_of_form stage text =
-    if not (is_some (line_read true stage text) || is_some (line_read false stage text)) then Some 1
-    else if not (is_some (line_read true stage text)) then Some 2
+    if not (is_some (line_read true stage text) || is_some (line_read false stage text)) then Some NoForm
+    else if not (is_some (line_read true stage text)) then Some BadNumber
     else None
 
 -- the kind of the line that ends the head
-abbrev pub kind_of_config : Setup → Option ℕ
-kind_of_config c = if is_some (refusal_of c) then Some 3 else None
+abbrev pub kind_of_config : Setup → Option Kind
+kind_of_config c = if is_some (refusal_of c) then Some BadConfig else None
 
 -- what has been said where this line comes next
 abbrev pub draft_at : Stage → Version → Setup → List Entry → List ℕ → Draft
@@ -72,7 +76,7 @@ pub record IsAt (bytes rest : List ℕ) (number : ℕ) (d : Draft) : Type 0 wher
   pub line : number ≡ line_behind d
 
 -- the kind of what stands behind END: a line is none that may stand there, and anything else is cut off
-abbrev pub kind_at_end : List (List ℕ) → Option ℕ
+abbrev pub kind_at_end : List (List ℕ) → Option Kind
 kind_at_end [] = None
-kind_at_end (last ∷ []) = if length last == 0 then None else Some 5
-kind_at_end (line ∷ more) = Some 1
+kind_at_end (last ∷ []) = if length last == 0 then None else Some Cut
+kind_at_end (line ∷ more) = Some NoForm

@@ -8,7 +8,8 @@ use Rattle.mv_element.specs.declared.element.Phase.TheVariants.{Free, Reset, Pre
 use Rattle.mv_element.specs.declared.operation.ElementOp.{ElementOp}
 use Rattle.mv_element.specs.declared.operation.ElementOp.TheVariants.{Open, Pause, Resume, Release, Close, Test}
 use Rattle.mv_element.specs.declared.operation.ElementReply.{ElementReply}
-use Rattle.mv_element.specs.declared.operation.ElementReply.TheVariants.{Opened, InUse, Parked, Given, Spent, Busy, NotYet, Early, Woke, Already, Closed, State}
+use Rattle.mv_element.specs.declared.operation.ElementReply.TheVariants.{Opened, InUse, Parked, Given, Spent, Busy, NotYet, Early, Woke}
+use Rattle.mv_element.specs.declared.operation.ElementReply.TheVariants.{Already, Closed, State}
 use Rattle.mv_machine.specs.Limits.{highest_generation}
 use Rattle.mv_entrytext.specs.Ranges.{highest_u32, highest_release_code}
 use Rattle.mv_entrytext.specs.Words.{◌<+>◌}

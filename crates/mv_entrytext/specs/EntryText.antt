@@ -14,7 +14,8 @@ use Rattle.mv_entrytext.specs.Reading.{Reader, given, nothing, behind, made, par
 use Rattle.mv_entrytext.specs.declared.version.Version.{Version}
 use Rattle.mv_entrytext.specs.declared.version.Version.TheVariants.{One, Two}
 use Rattle.mv_entrytext.specs.EcbText.{ecb_op_text, ecb_reply_text, IsEcbOpInRange, IsEcbReplyInRange, IsEcbReplyTyped, ecb_op, ecb_reply}
-use Rattle.mv_entrytext.specs.ElementText.{element_op_text, element_reply_text, IsElementOpInRange, IsElementReplyInRange, IsElementOpTyped, element_op, element_reply}
+use Rattle.mv_entrytext.specs.ElementText.{element_op_text, element_reply_text, IsElementOpInRange, IsElementReplyInRange}
+use Rattle.mv_entrytext.specs.ElementText.{IsElementOpTyped, element_op, element_reply}
 use Rattle.mv_entrytext.specs.VolumeText.{volume_op_text, volume_reply_text, IsVolumeOpTyped, IsVolumeReplyTyped, volume_op, volume_reply}
 use Rattle.mv_entrytext.specs.LatchText.{latch_op_text, latch_reply_text, IsLatchOpTyped, IsLatchReplyTyped, latch_op, latch_reply}
 

@@ -1,8 +1,11 @@
 -- The faults of a text: one test for each kind of fault that a line can have, and which fault is the first.
-use Rattle.std.specs.Prelude.{◌≡◌, ℕ, ◌+◌, ◌≤◌, ◌==◌, Bool, true, false, ◌&&◌, ◌||◌, not, List, [], ◌∷◌, length, All, Option, Some, None, is_some, if◌then◌else◌}
+use Rattle.std.specs.Prelude.{◌≡◌, ℕ, ◌+◌, ◌≤◌, ◌==◌, Bool, true, false, ◌&&◌, ◌||◌, not, List, [], ◌∷◌, length, All, Option, Some}
+use Rattle.std.specs.Prelude.{None, is_some, if◌then◌else◌}
 use Rattle.mv_machine.specs.declared.entry.Entry.{Entry}
 use Rattle.mv_machine.specs.Check.{IsValid, refusal_of}
 use Rattle.mv_machine.specs.Setup.{Setup}
+use Rattle.mv_entrytext.specs.declared.fault.Kind.{Kind}
+use Rattle.mv_entrytext.specs.declared.fault.Kind.TheVariants.{NoForm, BadNumber, BadConfig, WrongCount, Cut}
 use Rattle.mv_entrytext.specs.declared.fault.TextFault.{TextFault}
 use Rattle.mv_entrytext.specs.declared.fault.TextRefusal.{TextRefusal}
 use Rattle.mv_entrytext.specs.declared.fault.TextRefusal.TheVariants.{Fault, NoMemory}
@@ -13,6 +16,14 @@ use Rattle.mv_entrytext.specs.Reading.{parts_at}
 use Rattle.mv_entrytext.specs.EntryText.{HasText}
 use Rattle.mv_entrytext.specs.Journal.{Line, Events, End, number_of, text_of}
 use Rattle.mv_entrytext.specs.Lines.{Draft, Stage, AtEnd, line_read, blank, draft_with}
+
+-- the number of a kind
+abbrev pub kind_number : Kind → ℕ
+kind_number NoForm = 1
+kind_number BadNumber = 2
+kind_number BadConfig = 3
+kind_number WrongCount = 4
+kind_number Cut = 5
 
 -- ---- faults of a line behind the lines so far
 
@@ -40,15 +51,15 @@ has_wrong_count d (End n) = not (length d.entries == n)
 has_wrong_count d l = false
 
 -- the kind of what a line says
-abbrev pub kind_said : Draft → Option Line → Option ℕ
+abbrev pub kind_said : Draft → Option Line → Option Kind
 kind_said d None = None
-kind_said d (Some l) = if has_bad_config d l then Some 3 else if has_wrong_count d l then Some 4 else None
+kind_said d (Some l) = if has_bad_config d l then Some BadConfig else if has_wrong_count d l then Some WrongCount else None
 
 -- the first kind of a line that ends with LF
-abbrev pub kind_of : Draft → List ℕ → Option ℕ
+abbrev pub kind_of : Draft → List ℕ → Option Kind
 kind_of d line =
-    if has_no_form d line then Some 1
-    else if has_bad_number d line then Some 2
+    if has_no_form d line then Some NoForm
+    else if has_bad_number d line then Some BadNumber
     else kind_said d (line_read true d.stage line)
 
 -- what stands behind the last LF is cut off, unless it is nothing and the last line was END
@@ -63,8 +74,8 @@ is_cut d line = not (is_ended d.stage && length line == 0)
 -- ---- the first fault of a text
 
 -- a fault of this line, of this kind
-abbrev pub fault_at : ℕ → ℕ → TextFault
-fault_at line kind = record { line = line; kind = kind }
+abbrev pub fault_at : ℕ → Kind → TextFault
+fault_at line kind = record { line = line; kind = kind_number kind }
 
 -- what the lines have said with this one
 abbrev pub draft_after : Draft → Option Line → Draft
@@ -72,14 +83,14 @@ draft_after d None = d
 draft_after d (Some l) = draft_with l d
 
 -- a fault of this line, or else the first one behind it
-abbrev pub fault_or : ℕ → Option ℕ → Option TextFault → Option TextFault
+abbrev pub fault_or : ℕ → Option Kind → Option TextFault → Option TextFault
 fault_or number (Some kind) behind = Some (fault_at number kind)
 fault_or number None behind = behind
 
 -- The first fault of lines that are numbered from here on, behind the lines so far. The last of them has no LF.
 unfoldable pub first_fault : ℕ → Draft → List (List ℕ) → Option TextFault
 first_fault number d [] = None
-first_fault number d (last ∷ []) = if is_cut d last then Some (fault_at number 5) else None
+first_fault number d (last ∷ []) = if is_cut d last then Some (fault_at number Cut) else None
 first_fault number d (line ∷ more ∷ lines) =
     fault_or number (kind_of d line) (first_fault (number + 1) (draft_after d (line_read true d.stage line)) (more ∷ lines))
 

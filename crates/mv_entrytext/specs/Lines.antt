@@ -5,7 +5,8 @@ use Rattle.mv_machine.specs.Setup.{Setup, SetupExit}
 use Rattle.mv_entrytext.specs.declared.version.Version.{Version}
 use Rattle.mv_entrytext.specs.declared.version.Version.TheVariants.{One, Two}
 use Rattle.mv_entrytext.specs.EntryText.{entry_read}
-use Rattle.mv_entrytext.specs.Journal.{Line, JournalOf, Callers, Elements, Volumes, Latches, Quota, Budget, Owner, ExitTo, Events, EntryOf, End}
+use Rattle.mv_entrytext.specs.Journal.{Line, JournalOf, Callers, Elements, Volumes, Latches, Quota, Budget, Owner, ExitTo, Events}
+use Rattle.mv_entrytext.specs.Journal.{EntryOf, End}
 use Rattle.mv_entrytext.specs.Reading.{Reader, given, nothing, behind, made, parted, whole, parts_at, any_u32}
 
 -- which line comes next

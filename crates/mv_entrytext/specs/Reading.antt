@@ -1,8 +1,10 @@
 -- How a text is read from left to right: what is read, and what stands behind it.
-use Rattle.std.specs.Prelude.{ℕ, ◌==◌, nat_eq, nat_le, Bool, not, ◌&&◌, ◌||◌, List, [], ◌∷◌, take, drop, length, slice_index, Option, Some, None, option_map, option_and_then, if◌then◌else◌}
+use Rattle.std.specs.Prelude.{ℕ, ◌==◌, nat_eq, Bool, List, [], ◌∷◌, take, drop, length, Option, Some, None, option_map}
+use Rattle.std.specs.Prelude.{option_and_then, if◌then◌else◌}
 use Rattle.std.specs.Borrow.{Bor}
-use Rattle.std.specs.List.{starts_with, prefix_len}
-use Rattle.std.specs.Str.Parse.{digits_value}
+use Rattle.std.specs.List.{starts_with, prefix_len, slice_split}
+use Rattle.mv_line.specs.Byte.{is_digit}
+use Rattle.mv_line.specs.Number.{number_of, within}
 use Rattle.mv_entrytext.specs.Ranges.{highest_u32, highest_u64}
 
 -- what reads a value from the front of a text; where it can, it answers the value and the rest of the text
@@ -55,43 +57,29 @@ ended read = option_and_then (λ x. if length x.1 == 0 then Some x.0 else None) 
 abbrev pub whole : {A : Type 0} → Reader A → List ℕ → Option A
 whole reader text = ended (reader text)
 
--- the parts of a text, one more than this byte stands in it
-abbrev pub onto_first : ℕ → List (List ℕ) → List (List ℕ)
-onto_first b [] = (b ∷ []) ∷ []
-onto_first b (part ∷ parts) = (b ∷ part) ∷ parts
-
--- the parts of a text between the bytes of this value, one part more than there are such bytes
+-- The parts of a text between the bytes of this value, empty ones too: one part more than there are such bytes.
 unfoldable pub parts_at : ℕ → List ℕ → List (List ℕ)
-parts_at byte [] = [] ∷ []
-parts_at byte (b ∷ text) = if b == byte then [] ∷ parts_at byte text else onto_first b (parts_at byte text)
+parts_at byte text = slice_split (λ b. b == byte) text
 
 -- ---- numbers
-
--- a decimal digit
-abbrev pub is_digit : ℕ → Bool
-is_digit b = nat_le 48 b && nat_le b 57
 
 -- how many digits a text begins with
 abbrev pub digit_count : List ℕ → ℕ
 digit_count text = prefix_len is_digit text
 
--- digits that spell a number in its range, without a leading zero
-abbrev pub is_spelled_well : ℕ → ℕ → List ℕ → Bool
-is_spelled_well low high digits =
-    (not (slice_index digits 0 == 48) || length digits == 1) && nat_le low (digits_value 10 digits) && nat_le (digits_value 10 digits) high
+-- what digits show, with what stands behind them; where they show nothing, a strict reader reads nothing, and any other 0
+abbrev pub shown_or_zero : Bool → List ℕ → Option ℕ → Option (ℕ × List ℕ)
+shown_or_zero strict rest (Some n) = Some (n, rest)
+shown_or_zero strict rest None = if strict then None else Some (0, rest)
 
--- A number from low to high. A strict reader wants it spelled well; any other takes one or more digits, and 0 for what
--- is spelled badly.
+-- A number from low to high. A strict reader wants digits that show one, without a zero in front of others; any other takes
+-- one or more digits, and 0 for those that show none.
 unfoldable pub number : Bool → ℕ → ℕ → Reader ℕ
 number strict low high text =
-    let digits = take (digit_count text) text in
-    let rest = drop (digit_count text) text in
     if digit_count text == 0 then None
-    else if is_spelled_well low high digits then Some (digits_value 10 digits, rest)
-    else if strict then None
-    else Some (0, rest)
+    else shown_or_zero strict (drop (digit_count text) text) (within low high (number_of (take (digit_count text) text)))
 
--- a number of four bytes, and one of eight
+-- a number of four bytes
 abbrev pub any_u32 : Bool → Reader ℕ
 any_u32 strict = number strict 0 highest_u32
 

@@ -3,7 +3,8 @@ use Rattle.std.specs.Prelude.{ℕ, List, [], Option, Some, None, option_map, len
 use Rattle.std.specs.Borrow.{Bor}
 use Rattle.mv_machine.specs.Config.{exit_of}
 use Rattle.mv_entrytext.specs.declared.line.Line.{Line}
-use Rattle.mv_entrytext.specs.declared.line.Line.TheVariants.{Version, Callers, Elements, Volumes, Latches, Quota, Budget, Owner, Exit, Events}
+use Rattle.mv_entrytext.specs.declared.line.Line.TheVariants.{Version, Callers, Elements, Volumes, Latches, Quota, Budget, Owner, Exit}
+use Rattle.mv_entrytext.specs.declared.line.Line.TheVariants.{Events}
 use Rattle.mv_entrytext.specs.declared.line.EntryLine.{EntryLine}
 use Rattle.mv_entrytext.specs.declared.line.EntryLine.TheVariants.{Entry, End}
 use Rattle.mv_entrytext.specs.declared.line.Stage.{Stage}

@@ -1,7 +1,8 @@
 //! Operations on pause elements and their replies, as text: `specs/ElementText.antt`.
 
 ghost use Rattle.std.specs.Prelude.{◌≡◌, ◌++◌, OnOk};
-ghost use Rattle.mv_entrytext.specs.ElementText.{phase_text, element_op_text, element_reply_text, IsElementOpTyped, phase, highest_kept, state_in, element_state, element_op, telling_reply, element_reply};
+ghost use Rattle.mv_entrytext.specs.ElementText.{phase_text, element_op_text, element_reply_text, IsElementOpTyped, phase, highest_kept};
+ghost use Rattle.mv_entrytext.specs.ElementText.{state_in, element_state, element_op, telling_reply, element_reply};
 ghost use Rattle.mv_entrytext.specs.Reading.{seen};
 
 use crate::number::{after, any_u32, number_u32, push_number, push_pair, push_word, two_numbers};

@@ -8,7 +8,8 @@ ghost use Rattle.mv_entrytext.specs.ElementText.{element_op, element_reply};
 ghost use Rattle.mv_entrytext.specs.VolumeText.{volume_op, volume_reply};
 ghost use Rattle.mv_entrytext.specs.LatchText.{latch_op, latch_reply};
 ghost use Rattle.mv_entrytext.specs.Reading.{seen};
-ghost use Rattle.mv_entrytext.specs.EntryText.{caller_text, caller_read, object_text, op_text, reply_text, entry_text, IsObjectTyped, IsOpTyped, IsReplyTyped, IsTyped, object_read, event, entry_on, entry_read};
+ghost use Rattle.mv_entrytext.specs.EntryText.{caller_text, caller_read, object_text, op_text, reply_text, entry_text, IsObjectTyped};
+ghost use Rattle.mv_entrytext.specs.EntryText.{IsOpTyped, IsReplyTyped, IsTyped, object_read, event, entry_on, entry_read};
 
 use crate::ecb::{push_ecb_op, push_ecb_reply, read_ecb_op, read_ecb_reply};
 use crate::element::{push_element_op, push_element_reply, read_element_op, read_element_reply};

@@ -1,6 +1,7 @@
 //! Texts that are no journals, each with the line and the kind of its first fault, worked out by hand.
 
 use super::*;
+use mv_line::{number_within, split_field};
 use std::alloc::{AllocError, Global};
 use std::process::Abort;
 use std::test::Fail;
@@ -33,125 +34,110 @@ fn joined(alloc: Global, front: &[u8], rest: &[u8]) -> Result<Vec<u8>, AllocErro
     Ok(text)
 }
 
-#[test]
-fn heads(rt: HostRuntime) {
-    let table = [
-        (b"".as_slice(), 1, 5),
-        (b"JOURNAL 1".as_slice(), 1, 5),
-        (b"CALLERS".as_slice(), 1, 5),
-        (b"JOURNAL 1\n".as_slice(), 2, 5),
-        (b"\n".as_slice(), 1, 1),
-        (b"JOURNAL 2\n".as_slice(), 2, 5),
-        (b"JOURNAL 3\n".as_slice(), 1, 1),
-        (b"JOURNAL 12\n".as_slice(), 1, 1),
-        (b"JOURNAL 01\n".as_slice(), 1, 1),
-        (b"journal 1\n".as_slice(), 1, 1),
-        (b"JOURNAL 1\r\n".as_slice(), 1, 1),
-        (b" JOURNAL 1\n".as_slice(), 1, 1),
-        (b"JOURNAL 1 \n".as_slice(), 1, 1),
-        (b"JOURNAL  1\n".as_slice(), 1, 1),
-        (b"JOURNAL\t1\n".as_slice(), 1, 1),
-        (b"JOURNAL 1\nELEMENTS 1\n".as_slice(), 2, 1),
-        (b"JOURNAL 1\nCALLERS 1\nCALLERS 1\n".as_slice(), 3, 1),
-        (b"JOURNAL 1\nCALLERS 01\n".as_slice(), 2, 2),
-        (b"JOURNAL 1\nCALLERS 00\n".as_slice(), 2, 2),
-        (b"JOURNAL 1\nCALLERS 4294967296\n".as_slice(), 2, 2),
-        (
-            b"JOURNAL 1\nCALLERS 18446744073709551617\n".as_slice(),
-            2,
-            2,
-        ),
-        (
-            b"JOURNAL 1\nCALLERS 1111111111111111111111111111111111111111111111111111111111111111111111111111111111111111111111111111\n".as_slice(),
-            2,
-            2,
-        ),
-        (
-            b"JOURNAL 1\nCALLERS 0000000000000000000000000000000000000000000000000000000000000000000000000000000000000000000000000001\n".as_slice(),
-            2,
-            2,
-        ),
-        (b"JOURNAL 1\nCALLERS +1\n".as_slice(), 2, 1),
-        (b"JOURNAL 1\nCALLERS -1\n".as_slice(), 2, 1),
-        (b"JOURNAL 1\nCALLERS \n".as_slice(), 2, 1),
-        (b"JOURNAL 1\nCALLERS\n".as_slice(), 2, 1),
-        (b"JOURNAL 1\nCALLERS 1a\n".as_slice(), 2, 1),
-        (b"JOURNAL 1\nCALLERS 1 1\n".as_slice(), 2, 1),
-        (b"JOURNAL 1\nCALLERS 01 \n".as_slice(), 2, 1),
-        (b"JOURNAL 1\nCALLERS  1\n".as_slice(), 2, 1),
-        (b"JOURNAL 1\n\nCALLERS 1\n".as_slice(), 2, 1),
-    ];
-    for (text, line, kind) in table {
-        assert_eq!(rt;
-            first_fault(&rt, rt.alloc(), text),
-            fault(line, kind),
-            "{text:?}"
-        );
+// A row of a table: the line and the kind of a fault, and behind one space the text that has it.
+fn row_of(row: &[u8]) -> Option<(u32, u32, &[u8])> {
+    let (line, rest) = split_field(row);
+    let (kind, rest) = split_field(rest);
+    match rest {
+        [b' ', text @ ..] => Some((
+            number_within(1, 99, line)?,
+            number_within(1, 5, kind)?,
+            text,
+        )),
+        _ => None,
     }
 }
 
-#[test]
-fn lists_of_the_head(rt: HostRuntime) -> Result<(), Fail> {
-    let table = [
-        (b"EVENTS\n".as_slice(), 7, 3),
-        (b"EVENTS".as_slice(), 7, 5),
-        (b"BUDGET 5\nBUDGET 5\nEVENTS\n".as_slice(), 9, 3),
-        (b"BUDGET 05\n".as_slice(), 7, 2),
-        (b"BUDGET 524288\nEVENTS\n".as_slice(), 8, 3),
-        (b"BUDGET 4294967296\nEVENTS\n".as_slice(), 7, 2),
-        (b"BUDGET 5\nECB 1\nEVENTS\n".as_slice(), 9, 3),
-        (b"ECB 0\nBUDGET 5\nEVENTS\n".as_slice(), 8, 1),
-        (b"BUDGET 5\nECB 00\n".as_slice(), 8, 2),
-        (b"BUDGET 5\nEXIT 0 1\nEVENTS\n".as_slice(), 9, 3),
-        (
-            b"BUDGET 5\nECB 0\nECB 0\nEXIT 1 1\nEVENTS\n".as_slice(),
-            11,
-            3,
-        ),
-        (
-            b"BUDGET 5\nECB 0\nECB 0\nEXIT 0 1 1 1 1 1 1 1 1 1\nEVENTS\n".as_slice(),
-            11,
-            3,
-        ),
-        (b"BUDGET 5\nEXIT 0\n".as_slice(), 8, 1),
-        (b"BUDGET 5\nEXIT 0 \n".as_slice(), 8, 1),
-        (b"BUDGET 5\nEXIT 0 1 \n".as_slice(), 8, 1),
-        (b"BUDGET 5\nEXIT  0 1\n".as_slice(), 8, 1),
-        (b"BUDGET 5\nEXIT 0 01\n".as_slice(), 8, 2),
-        (b"BUDGET 5\nEXIT 00 x\n".as_slice(), 8, 1),
-        (
-            b"BUDGET 5\nECB 0\nECB 0\nEXIT 0 1\nECB 0\n".as_slice(),
-            11,
-            1,
-        ),
-        (b"BUDGET 5\nEVENTS\nBUDGET 5\n".as_slice(), 9, 1),
-    ];
-    for (rest, line, kind) in table {
-        let text = joined(rt.alloc(), COUNTS, rest)?;
-        assert_eq!(rt;
-            first_fault(&rt, rt.alloc(), &text),
-            fault(line, kind),
-            "{rest:?}"
-        );
+// Tables are texts of rows, parted by semicolons: so a test is as short to prove with many rows as with one. The text of each
+// stands behind the front.
+fn check_rows(rt: &impl Abort, alloc: Global, front: &[u8], rows: &[u8]) -> Result<(), Fail> {
+    for row in rows.split(|byte| *byte == b';') {
+        let (line, kind, rest) = row_of(row).ok_or("a row")?;
+        let text = joined(alloc, front, rest)?;
+        assert_eq!(rt; first_fault(rt, alloc, &text), fault(line, kind), "{row:?}");
     }
     Ok(())
 }
 
+const HEADS: &[u8] = b"\
+    1 5 ;\
+    1 5 JOURNAL 1;\
+    1 5 CALLERS;\
+    2 5 JOURNAL 1\n;\
+    1 1 \n;\
+    2 5 JOURNAL 2\n;\
+    1 1 JOURNAL 3\n;\
+    1 1 JOURNAL 12\n;\
+    1 1 JOURNAL 01\n;\
+    1 1 journal 1\n;\
+    1 1 JOURNAL 1\r\n;\
+    1 1  JOURNAL 1\n;\
+    1 1 JOURNAL 1 \n;\
+    1 1 JOURNAL  1\n;\
+    1 1 JOURNAL\t1\n;\
+    2 1 JOURNAL 1\nELEMENTS 1\n;\
+    3 1 JOURNAL 1\nCALLERS 1\nCALLERS 1\n;\
+    2 2 JOURNAL 1\nCALLERS 01\n;\
+    2 2 JOURNAL 1\nCALLERS 00\n;\
+    2 2 JOURNAL 1\nCALLERS 4294967296\n;\
+    2 2 JOURNAL 1\nCALLERS 18446744073709551617\n;\
+    2 2 JOURNAL 1\nCALLERS 1111111111111111111111111111111111111111111111111111111111111111111111111111111111111111111111111111\n;\
+    2 2 JOURNAL 1\nCALLERS 0000000000000000000000000000000000000000000000000000000000000000000000000000000000000000000000000001\n;\
+    2 1 JOURNAL 1\nCALLERS +1\n;\
+    2 1 JOURNAL 1\nCALLERS -1\n;\
+    2 1 JOURNAL 1\nCALLERS \n;\
+    2 1 JOURNAL 1\nCALLERS\n;\
+    2 1 JOURNAL 1\nCALLERS 1a\n;\
+    2 1 JOURNAL 1\nCALLERS 1 1\n;\
+    2 1 JOURNAL 1\nCALLERS 01 \n;\
+    2 1 JOURNAL 1\nCALLERS  1\n;\
+    2 1 JOURNAL 1\n\nCALLERS 1\n";
+
 #[test]
-fn limits_of_the_head(rt: HostRuntime) {
-    let table = [
-        b"JOURNAL 1\nCALLERS 0\nELEMENTS 1\nVOLUMES 1\nLATCHES 1\nQUOTA 1 0\nEVENTS\nX".as_slice(),
-        b"JOURNAL 1\nCALLERS 17\nELEMENTS 1\nVOLUMES 1\nLATCHES 1\nQUOTA 1 0\nEVENTS\n".as_slice(),
-        b"JOURNAL 1\nCALLERS 1\nELEMENTS 0\nVOLUMES 1\nLATCHES 1\nQUOTA 1 0\nEVENTS\n".as_slice(),
-        b"JOURNAL 1\nCALLERS 1\nELEMENTS 17\nVOLUMES 1\nLATCHES 1\nQUOTA 1 0\nEVENTS\n".as_slice(),
-        b"JOURNAL 1\nCALLERS 1\nELEMENTS 1\nVOLUMES 9\nLATCHES 1\nQUOTA 1 0\nEVENTS\n".as_slice(),
-        b"JOURNAL 1\nCALLERS 1\nELEMENTS 1\nVOLUMES 1\nLATCHES 9\nQUOTA 1 0\nEVENTS\n".as_slice(),
-        b"JOURNAL 1\nCALLERS 1\nELEMENTS 1\nVOLUMES 1\nLATCHES 1\nQUOTA 17 0\nEVENTS\n".as_slice(),
-        b"JOURNAL 1\nCALLERS 1\nELEMENTS 1\nVOLUMES 1\nLATCHES 1\nQUOTA 1 2\nEVENTS\n".as_slice(),
-    ];
-    for text in table {
-        assert_eq!(rt; first_fault(&rt, rt.alloc(), text), fault(7, 3), "{text:?}");
-    }
+fn heads(rt: HostRuntime) -> Result<(), Fail> {
+    check_rows(&rt, rt.alloc(), b"", HEADS)
+}
+
+const LISTS: &[u8] = b"\
+    7 3 EVENTS\n;\
+    7 5 EVENTS;\
+    9 3 BUDGET 5\nBUDGET 5\nEVENTS\n;\
+    7 2 BUDGET 05\n;\
+    8 3 BUDGET 524288\nEVENTS\n;\
+    7 2 BUDGET 4294967296\nEVENTS\n;\
+    9 3 BUDGET 5\nECB 1\nEVENTS\n;\
+    8 1 ECB 0\nBUDGET 5\nEVENTS\n;\
+    8 2 BUDGET 5\nECB 00\n;\
+    9 3 BUDGET 5\nEXIT 0 1\nEVENTS\n;\
+    11 3 BUDGET 5\nECB 0\nECB 0\nEXIT 1 1\nEVENTS\n;\
+    11 3 BUDGET 5\nECB 0\nECB 0\nEXIT 0 1 1 1 1 1 1 1 1 1\nEVENTS\n;\
+    8 1 BUDGET 5\nEXIT 0\n;\
+    8 1 BUDGET 5\nEXIT 0 \n;\
+    8 1 BUDGET 5\nEXIT 0 1 \n;\
+    8 1 BUDGET 5\nEXIT  0 1\n;\
+    8 2 BUDGET 5\nEXIT 0 01\n;\
+    8 1 BUDGET 5\nEXIT 00 x\n;\
+    11 1 BUDGET 5\nECB 0\nECB 0\nEXIT 0 1\nECB 0\n;\
+    9 1 BUDGET 5\nEVENTS\nBUDGET 5\n";
+
+#[test]
+fn lists_of_the_head(rt: HostRuntime) -> Result<(), Fail> {
+    check_rows(&rt, rt.alloc(), COUNTS, LISTS)
+}
+
+const LIMITS: &[u8] = b"\
+    7 3 JOURNAL 1\nCALLERS 0\nELEMENTS 1\nVOLUMES 1\nLATCHES 1\nQUOTA 1 0\nEVENTS\nX;\
+    7 3 JOURNAL 1\nCALLERS 17\nELEMENTS 1\nVOLUMES 1\nLATCHES 1\nQUOTA 1 0\nEVENTS\n;\
+    7 3 JOURNAL 1\nCALLERS 1\nELEMENTS 0\nVOLUMES 1\nLATCHES 1\nQUOTA 1 0\nEVENTS\n;\
+    7 3 JOURNAL 1\nCALLERS 1\nELEMENTS 17\nVOLUMES 1\nLATCHES 1\nQUOTA 1 0\nEVENTS\n;\
+    7 3 JOURNAL 1\nCALLERS 1\nELEMENTS 1\nVOLUMES 9\nLATCHES 1\nQUOTA 1 0\nEVENTS\n;\
+    7 3 JOURNAL 1\nCALLERS 1\nELEMENTS 1\nVOLUMES 1\nLATCHES 9\nQUOTA 1 0\nEVENTS\n;\
+    7 3 JOURNAL 1\nCALLERS 1\nELEMENTS 1\nVOLUMES 1\nLATCHES 1\nQUOTA 17 0\nEVENTS\n;\
+    7 3 JOURNAL 1\nCALLERS 1\nELEMENTS 1\nVOLUMES 1\nLATCHES 1\nQUOTA 1 2\nEVENTS\n";
+
+#[test]
+fn limits_of_the_head(rt: HostRuntime) -> Result<(), Fail> {
+    check_rows(&rt, rt.alloc(), b"", LIMITS)
 }
 
 #[test]
@@ -162,158 +148,121 @@ fn too_many_of_the_head(rt: HostRuntime) -> Result<(), Fail> {
     }
     owners.extend_from_slice(b"EVENTS\n")?;
     assert_eq!(rt; first_fault(&rt, rt.alloc(), &owners), fault(131_081, 3));
-    let mut exits = joined(rt.alloc(), COUNTS, b"BUDGET 5\nECB 0\nECB 0\n")?;
-    for _ in 0..32_769 {
-        exits.extend_from_slice(b"EXIT 0 1\n")?;
-    }
-    exits.extend_from_slice(b"EVENTS\n")?;
-    assert_eq!(rt; first_fault(&rt, rt.alloc(), &exits), fault(32_779, 3));
     Ok(())
 }
 
-// Each stands on line 9, behind `EVENTS`.
-fn check_entries(
-    rt: &impl Abort,
-    alloc: Global,
-    head: &[u8],
-    table: &[(&[u8], u32)],
-) -> Result<(), AllocError> {
-    for (line, kind) in table {
-        let text = joined(alloc, head, line)?;
-        assert_eq!(rt; first_fault(rt, alloc, &text), fault(9, *kind), "{line:?}");
-    }
-    Ok(())
-}
+const WORDS: &[u8] = b"\
+    9 1 \n;\
+    9 1 0 E0 0 arm = ARMED\n;\
+    9 1 0 e0 0 ARM = ARMED\n;\
+    9 1 0 X0 0 ARM = ARMED\n;\
+    9 1 0 E 0 ARM = ARMED\n;\
+    9 1 0 L0 0 PURGE 1 = GONE\n;\
+    9 1 0  E0 0 ARM = ARMED\n;\
+    9 1  0 E0 0 ARM = ARMED\n;\
+    9 1 0 E0 0 ARM = ARMED \n;\
+    9 1 0 E0 0 ARM = ARMED\r\n;\
+    9 1 0 E0 0 ARM =  ARMED\n;\
+    9 1 0 E0 0 ARM =ARMED\n;\
+    9 1 0 E0 0 ARM ARMED\n;\
+    9 1 0 E0 0 ARM 1 = ARMED\n;\
+    9 1 0 E0 0 POST = POSTED\n;\
+    9 1 0 E0 ARM = ARMED\n;\
+    9 1 0 E0 -0 ARM = ARMED\n;\
+    9 1 0 E0 0 OPEN = OPENED 0\n;\
+    9 1 0 E0 0 ARM = STORED\n;\
+    9 1 0 P0 0 TEST = STATE 0 LOST 0\n;\
+    9 1 0 P0 0 TEST = STATE 0 FREE\n;\
+    9 1 0 L 0 OBTAIN 0 1 s W = GRANTED 0\n;\
+    9 1 0 L 0 OBTAIN 0 1 S P = GRANTED 0\n;\
+    9 1 0 L 0 OBTAIN 0 1 S P 0 = GRANTED 0\n;\
+    9 1 0 L 0 RELEASE 0 0 X = GONE\n;\
+    9 1 0 L 0 PURGE 1 = PURGED 0\n;\
+    9 1 0 E0 0 ARM = ARMED\xff\n;\
+    9 1 00 E0 0 ARM = LOST\n;\
+    9 1 0.0 E0 0 ARM = ARMED\n;\
+    9 2 00 E0 0 ARM = ARMED\nX\n;\
+    9 5 00 E0 0 ARM = ARMED";
 
 #[test]
 fn words_of_entries(rt: HostRuntime) -> Result<(), Fail> {
-    let table = [
-        (b"\n".as_slice(), 1),
-        (b"0 E0 0 arm = ARMED\n".as_slice(), 1),
-        (b"0 e0 0 ARM = ARMED\n".as_slice(), 1),
-        (b"0 X0 0 ARM = ARMED\n".as_slice(), 1),
-        (b"0 E 0 ARM = ARMED\n".as_slice(), 1),
-        (b"0 L0 0 PURGE 1 = GONE\n".as_slice(), 1),
-        (b"0  E0 0 ARM = ARMED\n".as_slice(), 1),
-        (b" 0 E0 0 ARM = ARMED\n".as_slice(), 1),
-        (b"0 E0 0 ARM = ARMED \n".as_slice(), 1),
-        (b"0 E0 0 ARM = ARMED\r\n".as_slice(), 1),
-        (b"0 E0 0 ARM =  ARMED\n".as_slice(), 1),
-        (b"0 E0 0 ARM =ARMED\n".as_slice(), 1),
-        (b"0 E0 0 ARM ARMED\n".as_slice(), 1),
-        (b"0 E0 0 ARM 1 = ARMED\n".as_slice(), 1),
-        (b"0 E0 0 POST = POSTED\n".as_slice(), 1),
-        (b"0 E0 ARM = ARMED\n".as_slice(), 1),
-        (b"0 E0 -0 ARM = ARMED\n".as_slice(), 1),
-        (b"0 E0 0 OPEN = OPENED 0\n".as_slice(), 1),
-        (b"0 E0 0 ARM = STORED\n".as_slice(), 1),
-        (b"0 P0 0 TEST = STATE 0 LOST 0\n".as_slice(), 1),
-        (b"0 P0 0 TEST = STATE 0 FREE\n".as_slice(), 1),
-        (b"0 L 0 OBTAIN 0 1 s W = GRANTED 0\n".as_slice(), 1),
-        (b"0 L 0 OBTAIN 0 1 S P = GRANTED 0\n".as_slice(), 1),
-        (b"0 L 0 OBTAIN 0 1 S P 0 = GRANTED 0\n".as_slice(), 1),
-        (b"0 L 0 RELEASE 0 0 X = GONE\n".as_slice(), 1),
-        (b"0 L 0 PURGE 1 = PURGED 0\n".as_slice(), 1),
-        (b"0 E0 0 ARM = ARMED\xff\n".as_slice(), 1),
-        (b"00 E0 0 ARM = LOST\n".as_slice(), 1),
-        (b"0.0 E0 0 ARM = ARMED\n".as_slice(), 1),
-        (b"00 E0 0 ARM = ARMED\nX\n".as_slice(), 2),
-        (b"00 E0 0 ARM = ARMED".as_slice(), 5),
-    ];
-    check_entries(&rt, rt.alloc(), HEAD, &table)?;
-    Ok(())
+    check_rows(&rt, rt.alloc(), HEAD, WORDS)
 }
+
+const NUMBERS: &[u8] = b"\
+    9 2 00 E0 0 ARM = ARMED\n;\
+    9 2 4294967296 E0 0 ARM = ARMED\n;\
+    9 2 0 E00 0 ARM = ARMED\n;\
+    9 2 0 V4294967296 0 READ = VALUE 0\n;\
+    9 2 0 E0 00 ARM = ARMED\n;\
+    9 2 0 E0 524287 ARM = ARMED\n;\
+    9 2 0 E0 0 EXTEND 0 = ARMED\n;\
+    9 2 0 E0 0 EXTEND 1073741824 = ARMED\n;\
+    9 2 0 E0 0 POST 1073741824 = POSTED\n;\
+    9 2 0 E0 0 POST 0 = WOKE 1073741824\n;\
+    9 2 0 E0 0 POST 0 = WOKE 00\n;\
+    9 2 0 E0 0 ARM = LINKED 0\n;\
+    9 2 0 E0 0 ARM = COMPLETE 1073741824\n;\
+    9 2 0 E0 0 CLEAR = WORD 4294967296\n;\
+    9 2 0 P0 0 PAUSE 4294967296 = PARKED\n;\
+    9 2 0 P0 0 RELEASE 0 16777216 = EARLY\n;\
+    9 2 0 P0 0 OPEN = OPENED 262144\n;\
+    9 2 0 P0 0 PAUSE 0 = GIVEN 16777216 1\n;\
+    9 2 0 P0 0 PAUSE 0 = GIVEN 0 262144\n;\
+    9 2 0 P0 0 PAUSE 0 = SPENT 262144\n;\
+    9 2 0 P0 0 TEST = STATE 262144 FREE 0\n;\
+    9 2 0 P0 0 TEST = STATE 0 FREE 1\n;\
+    9 2 0 P0 0 TEST = STATE 0 PAUSED 1\n;\
+    9 2 0 P0 0 TEST = STATE 0 RELEASED 16777216\n;\
+    9 2 0 V0 0 WRITE 4294967296 = STORED\n;\
+    9 2 0 L 0 PURGE 18446744073709551616 = PURGED 0 0\n;\
+    9 2 0 L 0 OBTAIN 0 1 S P4294967296 = GRANTED 0\n;\
+    9 2 0 L 0 CONFIRM 01 0 = GONE\n;\
+    9 2 0 L 0 RELEASE 0 01 C = GONE\n;\
+    9 2 0 L 0 PURGE 1 = PURGED 0 4294967296\n";
 
 #[test]
 fn numbers_of_entries(rt: HostRuntime) -> Result<(), Fail> {
-    let table = [
-        (b"00 E0 0 ARM = ARMED\n".as_slice(), 2),
-        (b"4294967296 E0 0 ARM = ARMED\n".as_slice(), 2),
-        (b"0 E00 0 ARM = ARMED\n".as_slice(), 2),
-        (b"0 V4294967296 0 READ = VALUE 0\n".as_slice(), 2),
-        (b"0 E0 00 ARM = ARMED\n".as_slice(), 2),
-        (b"0 E0 524287 ARM = ARMED\n".as_slice(), 2),
-        (b"0 E0 0 EXTEND 0 = ARMED\n".as_slice(), 2),
-        (b"0 E0 0 EXTEND 1073741824 = ARMED\n".as_slice(), 2),
-        (b"0 E0 0 POST 1073741824 = POSTED\n".as_slice(), 2),
-        (b"0 E0 0 POST 0 = WOKE 1073741824\n".as_slice(), 2),
-        (b"0 E0 0 POST 0 = WOKE 00\n".as_slice(), 2),
-        (b"0 E0 0 ARM = LINKED 0\n".as_slice(), 2),
-        (b"0 E0 0 ARM = COMPLETE 1073741824\n".as_slice(), 2),
-        (b"0 E0 0 CLEAR = WORD 4294967296\n".as_slice(), 2),
-        (b"0 P0 0 PAUSE 4294967296 = PARKED\n".as_slice(), 2),
-        (b"0 P0 0 RELEASE 0 16777216 = EARLY\n".as_slice(), 2),
-        (b"0 P0 0 OPEN = OPENED 262144\n".as_slice(), 2),
-        (b"0 P0 0 PAUSE 0 = GIVEN 16777216 1\n".as_slice(), 2),
-        (b"0 P0 0 PAUSE 0 = GIVEN 0 262144\n".as_slice(), 2),
-        (b"0 P0 0 PAUSE 0 = SPENT 262144\n".as_slice(), 2),
-        (b"0 P0 0 TEST = STATE 262144 FREE 0\n".as_slice(), 2),
-        (b"0 P0 0 TEST = STATE 0 FREE 1\n".as_slice(), 2),
-        (b"0 P0 0 TEST = STATE 0 PAUSED 1\n".as_slice(), 2),
-        (b"0 P0 0 TEST = STATE 0 RELEASED 16777216\n".as_slice(), 2),
-        (b"0 V0 0 WRITE 4294967296 = STORED\n".as_slice(), 2),
-        (
-            b"0 L 0 PURGE 18446744073709551616 = PURGED 0 0\n".as_slice(),
-            2,
-        ),
-        (
-            b"0 L 0 OBTAIN 0 1 S P4294967296 = GRANTED 0\n".as_slice(),
-            2,
-        ),
-        (b"0 L 0 CONFIRM 01 0 = GONE\n".as_slice(), 2),
-        (b"0 L 0 RELEASE 0 01 C = GONE\n".as_slice(), 2),
-        (b"0 L 0 PURGE 1 = PURGED 0 4294967296\n".as_slice(), 2),
-    ];
-    check_entries(&rt, rt.alloc(), HEAD, &table)?;
-    Ok(())
+    check_rows(&rt, rt.alloc(), HEAD, NUMBERS)
 }
+
+const CALLS: &[u8] = b"\
+    9 1 0 E0 0 ARM = ARMED\n;\
+    9 1 0. E0 0 ARM = ARMED\n;\
+    9 1 .0 E0 0 ARM = ARMED\n;\
+    9 1 0.0.0 E0 0 ARM = ARMED\n;\
+    9 1 0 .0 E0 0 ARM = ARMED\n;\
+    9 1 0.+0 E0 0 ARM = ARMED\n;\
+    9 1 0,0 E0 0 ARM = ARMED\n;\
+    9 2 0.00 E0 0 ARM = ARMED\n;\
+    9 2 00.0 E0 0 ARM = ARMED\n;\
+    9 2 0.4294967296 E0 0 ARM = ARMED\n;\
+    9 1 0.00 E0 0 ARM = LOST\n;\
+    9 5 0.0 E0 0 ARM = ARMED";
 
 #[test]
 fn call_numbers(rt: HostRuntime) -> Result<(), Fail> {
-    let table = [
-        (b"0 E0 0 ARM = ARMED\n".as_slice(), 1),
-        (b"0. E0 0 ARM = ARMED\n".as_slice(), 1),
-        (b".0 E0 0 ARM = ARMED\n".as_slice(), 1),
-        (b"0.0.0 E0 0 ARM = ARMED\n".as_slice(), 1),
-        (b"0 .0 E0 0 ARM = ARMED\n".as_slice(), 1),
-        (b"0.+0 E0 0 ARM = ARMED\n".as_slice(), 1),
-        (b"0,0 E0 0 ARM = ARMED\n".as_slice(), 1),
-        (b"0.00 E0 0 ARM = ARMED\n".as_slice(), 2),
-        (b"00.0 E0 0 ARM = ARMED\n".as_slice(), 2),
-        (b"0.4294967296 E0 0 ARM = ARMED\n".as_slice(), 2),
-        (b"0.00 E0 0 ARM = LOST\n".as_slice(), 1),
-        (b"0.0 E0 0 ARM = ARMED".as_slice(), 5),
-    ];
-    check_entries(&rt, rt.alloc(), SECOND_HEAD, &table)?;
-    Ok(())
+    check_rows(&rt, rt.alloc(), SECOND_HEAD, CALLS)
 }
+
+const ENDS: &[u8] = b"\
+    9 5 ;\
+    9 5 END 0;\
+    9 1 END\n;\
+    9 1 END 0 0\n;\
+    9 2 END 00\n;\
+    9 2 END 4294967296\n;\
+    9 4 END 1\n;\
+    10 4 0 E0 0 ARM = ARMED\nEND 0\n;\
+    10 5 0 E0 0 ARM = ARMED\n;\
+    10 1 END 0\n\n;\
+    10 1 END 0\nEND 0\n;\
+    10 5 END 0\nX;\
+    9 4 END 1\n\n";
 
 #[test]
 fn ends(rt: HostRuntime) -> Result<(), Fail> {
-    let table = [
-        (b"".as_slice(), 9, 5),
-        (b"END 0".as_slice(), 9, 5),
-        (b"END\n".as_slice(), 9, 1),
-        (b"END 0 0\n".as_slice(), 9, 1),
-        (b"END 00\n".as_slice(), 9, 2),
-        (b"END 4294967296\n".as_slice(), 9, 2),
-        (b"END 1\n".as_slice(), 9, 4),
-        (b"0 E0 0 ARM = ARMED\nEND 0\n".as_slice(), 10, 4),
-        (b"0 E0 0 ARM = ARMED\n".as_slice(), 10, 5),
-        (b"END 0\n\n".as_slice(), 10, 1),
-        (b"END 0\nEND 0\n".as_slice(), 10, 1),
-        (b"END 0\nX".as_slice(), 10, 5),
-        (b"END 1\n\n".as_slice(), 9, 4),
-    ];
-    for (rest, line, kind) in table {
-        let text = joined(rt.alloc(), HEAD, rest)?;
-        assert_eq!(rt;
-            first_fault(&rt, rt.alloc(), &text),
-            fault(line, kind),
-            "{rest:?}"
-        );
-    }
-    Ok(())
+    check_rows(&rt, rt.alloc(), HEAD, ENDS)
 }
 
 #[test]

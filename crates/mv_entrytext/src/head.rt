@@ -7,34 +7,14 @@ ghost use Rattle.mv_entrytext.specs.Journal.{Events};
 ghost use Rattle.mv_entrytext.specs.Lines.{AtEntries, blank, draft_with, line_read};
 ghost use Rattle.mv_entrytext.specs.Fault.{TellsFirst, text_fault};
 ghost use Rattle.mv_entrytext.specs.Said.{said, stage_of};
-ghost use Rattle.mv_entrytext.specs.Draft.{Tells, refusal_at, kind_of_form, kind_of_config, draft_at, head_seen, IsAt};
+ghost use Rattle.mv_entrytext.specs.Draft.{Tells, kind_of_form, kind_of_config, draft_at, head_seen, IsAt};
 
-use crate::fault::{TextFault, TextRefusal};
+use crate::fault::{Kind, LineRefusal, TextRefusal};
 use crate::line::{Line, Stage, read_line, split_first};
 use crate::version::Version;
 use mv_io::NoMemory;
 use mv_machine::{CheckRefusal, Config, ValidConfig};
 use std::alloc::Global;
-
-/// Why a line was not taken.
-#[derive(Clone, Copy)]
-pub(crate) enum LineRefusal {
-    /// The first kind of its faults.
-    Kind(u32),
-    NoMemory,
-}
-
-impl LineRefusal {
-    /// The refusal of a text that has it at this line.
-    pub(crate) fn at(self, line: u32) -> TextRefusal
-        ensures { result ≡ refusal_at line self }
-    {
-        match self {
-            LineRefusal::Kind(kind) => TextRefusal::Fault(TextFault { line, kind }),
-            LineRefusal::NoMemory => TextRefusal::NoMemory,
-        }
-    }
-}
 
 // What the lines of the head have said so far, and which line comes next.
 #[derive(Drop)]
@@ -127,8 +107,8 @@ fn line_or_kind(alloc: Global, stage: Stage, text: &[u8]) -> Result<Line, LineRe
         return Ok(line);
     }
     match read_line(alloc, false, stage, text) {
-        Ok(Some(_)) => Err(LineRefusal::Kind(2)),
-        Ok(None) => Err(LineRefusal::Kind(1)),
+        Ok(Some(_)) => Err(LineRefusal::Has(Kind::BadNumber)),
+        Ok(None) => Err(LineRefusal::Has(Kind::NoForm)),
         Err(_) => Err(LineRefusal::NoMemory),
     }
 }
@@ -142,7 +122,7 @@ fn checked(alloc: Global, config: Config) -> Result<ValidConfig, LineRefusal>
     match config.check(alloc) {
         Ok(valid) => Ok(valid),
         Err(CheckRefusal::NoMemory) => Err(LineRefusal::NoMemory),
-        Err(_) => Err(LineRefusal::Kind(3)),
+        Err(_) => Err(LineRefusal::Has(Kind::BadConfig)),
     }
 }
 
@@ -168,7 +148,7 @@ pub(crate) fn read_head(alloc: Global, bytes: &[u8]) -> Result<Head<'_>, TextRef
     'lines: loop {
         let (text, behind) = split_first(rest, b'\n');
         let Some(behind) = behind else {
-            return Err(LineRefusal::Kind(5).at(number));
+            return Err(LineRefusal::Has(Kind::Cut).at(number));
         };
         let line = match line_or_kind(alloc, draft.stage, text) {
             Ok(line) => line,

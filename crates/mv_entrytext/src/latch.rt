@@ -1,7 +1,9 @@
 //! Operations on the latch set and their replies, as text: `specs/LatchText.antt`.
 
 ghost use Rattle.std.specs.Prelude.{◌≡◌, ◌++◌, OnOk};
-ghost use Rattle.mv_entrytext.specs.LatchText.{mode_text, form_text, condition_text, latch_op_text, latch_reply_text, IsFormTyped, IsLatchOpTyped, IsLatchReplyTyped, mode_read, form_read, condition, obtain_rest, obtain, release, latch_op, latch_reply};
+ghost use Rattle.mv_entrytext.specs.LatchText.{mode_text, form_text, condition_text, latch_op_text, latch_reply_text, IsFormTyped};
+ghost use Rattle.mv_entrytext.specs.LatchText.{IsLatchOpTyped, IsLatchReplyTyped, mode_read, form_read, condition, obtain_rest, obtain};
+ghost use Rattle.mv_entrytext.specs.LatchText.{release, latch_op, latch_reply};
 ghost use Rattle.mv_entrytext.specs.Reading.{seen};
 
 use crate::number::{

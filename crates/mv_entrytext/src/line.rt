@@ -1,16 +1,17 @@
 //! The lines of a journal, read one by one: `specs/Lines.antt`; what they say is `specs/Said.antt`.
 
-ghost use Rattle.std.specs.Prelude.{◌≡◌, ◌==◌, ◌≤◌, ◌∷◌, [], ℕ, List, true, IfOk, option_map, length};
-ghost use Rattle.std.specs.List.{position};
+ghost use Rattle.std.specs.Prelude.{◌≡◌, ◌≤◌, ◌∷◌, [], ℕ, List, true, IfOk, option_map, length};
 ghost use Rattle.mv_machine.specs.Config.{exit_of};
 ghost use Rattle.mv_entrytext.specs.Reading.{whole, any_u32, parts_at};
-ghost use Rattle.mv_entrytext.specs.Lines.{AtVersion, AtBudgets, AtEntries, numbers, exit_from, exit_read, at_exits, at_owners, count_line, next_line, line_read};
+ghost use Rattle.mv_entrytext.specs.Lines.{AtVersion, AtBudgets, AtEntries, numbers, exit_from, exit_read, at_exits, at_owners};
+ghost use Rattle.mv_entrytext.specs.Lines.{count_line, next_line, line_read};
 ghost use Rattle.mv_entrytext.specs.Said.{said, entry_said, stage_of, line_seen, entry_line_seen, parts_left, left_of};
 
 use crate::entry::read_entry;
 use crate::number::{after, any_u32, two_numbers};
 use crate::version::Version;
 use mv_io::NoMemory;
+use mv_line::first_place;
 use mv_machine::{Entry, Exit};
 use std::alloc::Global;
 
@@ -60,13 +61,6 @@ pub(crate) fn split_first(text: &[u8], byte: u8) -> (&[u8], Option<&[u8]>)
         Some(place) => (&text[..place], Some(&text[place + 1..])),
         None => (text, None),
     }
-}
-
-// Where a byte first stands in a text, if it does.
-fn first_place(text: &[u8], byte: u8) -> Option<usize>
-    ensures { result ≡ position (λ b. b == byte) text.now }
-{
-    text.iter().position(|b| *b == byte)
 }
 
 // A number that is all of a text.

@@ -1,10 +1,12 @@
 //! Numbers in a text: `specs/Reading.antt`.
 
-ghost use Rattle.std.specs.Prelude.{◌≡◌, ◌≤◌, ◌<◌, ◌^◌, ◌++◌, ◌+◌, ◌*◌, ◌-◌, ℕ, List, All, OnOk, IfSome, SomeIff, MatchOption, Some, None, true, false, nat_eq, decimal, drop, length, if◌then◌else◌};
+ghost use Rattle.std.specs.Prelude.{◌≡◌, ◌≤◌, ◌<◌, ◌^◌, ◌++◌, ◌+◌, ◌*◌, ◌-◌, All, OnOk, IfSome, SomeIff, MatchOption, true, false};
+ghost use Rattle.std.specs.Prelude.{nat_eq, decimal, drop, length};
 ghost use Rattle.std.specs.List.{starts_with};
-ghost use Rattle.std.specs.Str.Parse.{digits_value};
+ghost use Rattle.mv_line.specs.Byte.{is_digit};
+ghost use Rattle.mv_line.specs.Number.{number_of, value_behind, within};
 ghost use Rattle.mv_entrytext.specs.Words.{◌<+>◌};
-ghost use Rattle.mv_entrytext.specs.Reading.{seen, is_digit, digit_count, is_spelled_well, number as number_at, any_u32, any_u64, parted};
+ghost use Rattle.mv_entrytext.specs.Reading.{seen, digit_count, number as number_at, any_u32, any_u64, parted};
 
 use itoa::Buffer;
 use mv_io::NoMemory;
@@ -96,7 +98,7 @@ pub(crate) fn two_numbers(
 /// A number within these bounds, with no leading zero. One that is spelled otherwise is refused by a strict reader, and
 /// taken for 0 by any other.
 #[tactic(auto, unfolding(crate::specs::Reading::number))]
-pub(crate) fn number(strict: bool, low: u64, high: u64, text: &[u8]) -> Option<(u64, &[u8])>
+fn number(strict: bool, low: u64, high: u64, text: &[u8]) -> Option<(u64, &[u8])>
     ensures read { seen result ≡ number_at strict low high text.now }
     ensures bound { IfSome result (λ x. x.0 ≤ high) }
 {
@@ -104,33 +106,41 @@ pub(crate) fn number(strict: bool, low: u64, high: u64, text: &[u8]) -> Option<(
     if digits.is_empty() {
         return None;
     }
-    match spelled_well(low, high, digits) {
+    match shown_within(low, high, digits) {
         Some(value) => Some((value, rest)),
         None if strict => None,
         None => Some((0, rest)),
     }
 }
 
-// The number that digits spell, where they spell it well.
-fn spelled_well(low: u64, high: u64, digits: &[u8]) -> Option<u64>
+// The number that digits show, where it is within these. mv_line reads numbers of four bytes alone.
+fn shown_within(low: u64, high: u64, digits: &[u8]) -> Option<u64>
     requires some { 0 < length digits.now }
     requires digits { All (λ b. is_digit b ≡ true) digits.now }
-    ensures { result ≡ (if is_spelled_well low high digits.now then Some (digits_value 10 digits.now) else None) }
+    ensures number { result ≡ within low high (number_of digits.now) }
+    ensures bound { IfSome result (λ n. n ≤ high) }
 {
     if digits[0] == b'0' && digits.len() > 1 {
         return None;
     }
-    let value = value(digits)?;
-    if value < low || value > high {
-        return None;
-    }
-    Some(value)
+    only_within(low, high, value(digits))
 }
 
-// The number that digits spell, where it fits eight bytes.
+// A number where it is within these.
+fn only_within(low: u64, high: u64, number: Option<u64>) -> Option<u64>
+    ensures within { result ≡ within low high number }
+    ensures bound { IfSome result (λ n. n ≤ high) }
+{
+    match number {
+        Some(n) if (low..=high).contains(&n) => Some(n),
+        _ => None,
+    }
+}
+
+// The value of digits, where it fits eight bytes.
 fn value(digits: &[u8]) -> Option<u64>
     requires { All (λ b. is_digit b ≡ true) digits.now }
-    ensures { SomeIff result (digits_value 10 digits.now < 2 ^ 64) (digits_value 10 digits.now) }
+    ensures { SomeIff result (value_behind 0 digits.now < 2 ^ 64) (value_behind 0 digits.now) }
 {
     let mut value: u64 = 0;
     for digit in digits {
@@ -145,7 +155,7 @@ fn value(digits: &[u8]) -> Option<u64>
 // A number with one more digit behind it, where it fits eight bytes.
 fn with_digit(value: u64, digit: u8) -> Option<u64>
     requires { is_digit digit ≡ true }
-    ensures { SomeIff result (value * 10 + (digit - 48) < 2 ^ 64) (value * 10 + (digit - 48)) }
+    ensures { SomeIff result (10 * value + (digit - 48) < 2 ^ 64) (10 * value + (digit - 48)) }
 {
     value.checked_mul(10)?.checked_add(u64::from(digit - b'0'))
 }

@@ -1,14 +1,15 @@
 //! The reader of journals, one pass over the bytes: `specs/Journal.antt`, `specs/Fault.antt` and `specs/Draft.antt`.
 
-ghost use Rattle.std.specs.Prelude.{◌≡◌, ◌<◌, ◌≤◌, ◌+◌, ◌-◌, ◌^◌, ◌∷◌, ℕ, List, [], true, Some, length, vec_len, IfOk, IfErr, OnOk, MatchResult};
+ghost use Rattle.std.specs.Prelude.{◌≡◌, ◌<◌, ◌≤◌, ◌+◌, ◌-◌, ◌^◌, ◌∷◌, ℕ, List, [], true, Some, length, vec_len, IfOk, IfErr, OnOk};
+ghost use Rattle.std.specs.Prelude.{MatchResult};
 ghost use Rattle.mv_entrytext.specs.Lines.{AtEntries, AtEnd, line_read, with_call};
 ghost use Rattle.mv_entrytext.specs.Fault.{HasJournal, IsTextIn, TellsFirst, first_fault, text_fault};
 ghost use Rattle.mv_entrytext.specs.Reading.{parts_at};
 ghost use Rattle.mv_entrytext.specs.Said.{entry_said};
 ghost use Rattle.mv_entrytext.specs.Draft.{Tells, kind_of_form, kind_at_end};
 
-use crate::fault::TextRefusal;
-use crate::head::{LineRefusal, read_head};
+use crate::fault::{Kind, LineRefusal, TextRefusal};
+use crate::head::read_head;
 use crate::line::{EntryLine, read_entry_line, split_first};
 use crate::version::Version;
 use mv_io::NoMemory;
@@ -37,8 +38,8 @@ fn entry_line_or_kind(version: Version, text: &[u8]) -> Result<EntryLine, LineRe
     match read_entry_line(true, version, text) {
         Some(line) => Ok(line),
         None => match read_entry_line(false, version, text) {
-            Some(_) => Err(LineRefusal::Kind(2)),
-            None => Err(LineRefusal::Kind(1)),
+            Some(_) => Err(LineRefusal::Has(Kind::BadNumber)),
+            None => Err(LineRefusal::Has(Kind::NoForm)),
         },
     }
 }
@@ -60,9 +61,9 @@ fn nothing_behind(rest: &[u8]) -> Result<(), LineRefusal>
         (λ e. Tells e (kind_at_end (parts_at 10 rest.now))) }
 {
     match split_first(rest, b'\n') {
-        (_, Some(_)) => Err(LineRefusal::Kind(1)),
+        (_, Some(_)) => Err(LineRefusal::Has(Kind::NoForm)),
         (last, None) if last.is_empty() => Ok(()),
-        _ => Err(LineRefusal::Kind(5)),
+        _ => Err(LineRefusal::Has(Kind::Cut)),
     }
 }
 
@@ -96,7 +97,7 @@ pub fn read_journal(alloc: Global, bytes: &[u8]) -> Result<Journal, TextRefusal>
     'lines: loop {
         let (text, behind) = split_first(rest, b'\n');
         let Some(behind) = behind else {
-            return Err(LineRefusal::Kind(5).at(number));
+            return Err(LineRefusal::Has(Kind::Cut).at(number));
         };
         match entry_line_or_kind(head.version, text) {
             Ok(EntryLine::Entry(call, entry)) => {
@@ -109,7 +110,7 @@ pub fn read_journal(alloc: Global, bytes: &[u8]) -> Result<Journal, TextRefusal>
             }
             Ok(EntryLine::End(count)) => {
                 if count as usize != entries.len() {
-                    return Err(LineRefusal::Kind(4).at(number));
+                    return Err(LineRefusal::Has(Kind::WrongCount).at(number));
                 }
                 return match nothing_behind(behind) {
                     Ok(()) => Ok(Journal {

@@ -1,7 +1,8 @@
 //! Operations on volumes and their replies, as text: `specs/VolumeText.antt`.
 
 ghost use Rattle.std.specs.Prelude.{◌≡◌, ◌++◌, OnOk};
-ghost use Rattle.mv_entrytext.specs.VolumeText.{volume_op_text, volume_reply_text, IsVolumeOpTyped, IsVolumeReplyTyped, volume_op, volume_reply};
+ghost use Rattle.mv_entrytext.specs.VolumeText.{volume_op_text, volume_reply_text, IsVolumeOpTyped, IsVolumeReplyTyped, volume_op};
+ghost use Rattle.mv_entrytext.specs.VolumeText.{volume_reply};
 ghost use Rattle.mv_entrytext.specs.Reading.{seen};
 
 use crate::number::{after, any_u32, push_number, push_word};

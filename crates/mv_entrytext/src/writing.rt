@@ -6,7 +6,9 @@ ghost use Rattle.mv_machine.specs.Config.{setup_of, exit_of};
 ghost use Rattle.mv_machine.specs.Legal.{Legal};
 ghost use Rattle.mv_machine.specs.Limits.{highest_place};
 ghost use Rattle.mv_entrytext.specs.EntryText.{IsInRange, IsTyped};
-ghost use Rattle.mv_entrytext.specs.Journal.{JournalOf, Callers, Elements, Volumes, Latches, Quota, Budget, Owner, ExitTo, Events, EntryOf, End, line, entry_lines, counts_text, lists_text, head_text, text_of, text1, journal_text};
+ghost use Rattle.mv_entrytext.specs.Journal.{JournalOf, Callers, Elements, Volumes, Latches, Quota, Budget, Owner, ExitTo, Events};
+ghost use Rattle.mv_entrytext.specs.Journal.{EntryOf, End, line, entry_lines, counts_text, lists_text, head_text, text_of, text1};
+ghost use Rattle.mv_entrytext.specs.Journal.{journal_text};
 
 use crate::entry::push_entry;
 use crate::number::{push_number, push_pair, push_wide, push_word};

@@ -1,6 +1,6 @@
 use Rattle.std.proofs.Common.{◌≡◌, ◌+◌, ◌-◌, ◌≤◌, length, drop}
 use Rattle.std.specs.List.{prefix_len}
-use Rattle.mv_entrytext.specs.Reading.{is_digit}
+use Rattle.mv_line.specs.Byte.{is_digit}
 use Rattle.mv_entrytext.proofs.number.digit_count.Given as goal
 
 abbrev pub invariant-loop-count : goal.invariant-loop-count

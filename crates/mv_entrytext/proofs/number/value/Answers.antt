@@ -1,27 +1,17 @@
-use Rattle.std.proofs.Common.{◌≡◌, ◌+◌, take, arith, ap, ◌∙◌}
-use Rattle.std.specs.Str.Parse.{digits_value}
-use Rattle.std.proofs.lemmas.List.{take_all}
-use Rattle.std.proofs.lemmas.Str.Parse.{digits_value-take-le}
-use Rattle.mv_entrytext.proofs.Digits.{one_more_digit}
+use Rattle.std.proofs.Common.{ℕ, ◌+◌, drop, arith, sym, ap, ◌∙◌}
+use Rattle.mv_line.specs.Number.{value_behind}
+use Rattle.mv_entrytext.proofs.Digits.{one_more_digit, no_less}
 use Rattle.mv_entrytext.proofs.number.value.Goals as goal
 
 pub returns-in_default : goal.returns-in_default
 returns-in_default c = λ lt.
-    let ds = c.args.digits.now in
-    let i = c.loop-digit.digit-index in
-    let more = one_more_digit ds i c.loop-digit-test.true (c.requires i 0 c.loop-digit-test.true) in
-    c.in_default.ensures (omega (arith, more, digits_value-take-le 10 ds (i + 1)))
+    let less = no_less c.args.digits.now c.loop-digit.digit-index c.loop-digit.value c.loop-digit-test.true c.loop-digit.invariant.0 in
+    c.in_default.ensures (omega (arith, less))
 
 pub loop-digit-preserved : goal.loop-digit-preserved
 loop-digit-preserved c =
-    let ds = c.args.digits.now in
-    let i = c.loop-digit.digit-index in
-    let more = one_more_digit ds i c.loop-digit-test.true (c.requires i 0 c.loop-digit-test.true) in
-    (omega (arith, more, c.in-Some.ensures.1), omega (arith, c.in-Some.ensures.0, c.in-Some.ensures.1))
-
-pub returns : goal.returns
-returns c =
-    let whole : take c.loop-digit.digit-index c.args.digits.now ≡ c.args.digits.now =
-    take_all c.loop-digit.digit-index c.args.digits.now c.loop-digit-test.false in
-    let is : c.loop-digit.value ≡ digits_value 10 c.args.digits.now = c.loop-digit.invariant.0 ∙ ap (digits_value 10) whole in
-    (omega arith, is)
+    let more = one_more_digit c.args.digits.now c.loop-digit.digit-index c.loop-digit.value c.loop-digit-test.true in (
+      ap (λ (v : ℕ). value_behind v (drop (c.loop-digit.digit-index + 1) c.args.digits.now)) c.in-Some.ensures.1 ∙ sym more
+          ∙ c.loop-digit.invariant.0,
+      omega (arith, c.in-Some.ensures.0, c.in-Some.ensures.1),
+    )

@@ -1,6 +1,6 @@
-use Rattle.std.proofs.Common.{◌≡◌, ◌<◌, ◌^◌, take}
-use Rattle.std.specs.Str.Parse.{digits_value}
+use Rattle.std.proofs.Common.{◌≡◌, ◌<◌, ◌^◌, drop}
+use Rattle.mv_line.specs.Number.{value_behind}
 use Rattle.mv_entrytext.proofs.number.value.Given as goal
 
 abbrev pub invariant-loop-digit : goal.invariant-loop-digit
-invariant-loop-digit l = (l.value ≡ digits_value 10 (take l.digit-index l.digits)) × (l.value < 2 ^ 64)
+invariant-loop-digit l = (value_behind l.value (drop l.digit-index l.digits) ≡ value_behind 0 l.digits) × (l.value < 2 ^ 64)

@@ -26,10 +26,12 @@ loop-i-preserved c =
       text = c.in_ok-push_entry_line.ensures.text ∙ ap (λ (x : List ℕ). x ++ line (EntryOf call e)) c.loop-i.invariant.text
           ∙ flat_map_more line first (entry_lines (take i es) (take i ns)) (EntryOf call e)
           ∙ ap (λ (ls : List Line). first ++ flat_map line ls) (sym more);
-      typed = All-more IsTyped es i e (omega arith) c.loop-i.invariant.typed (subst IsTyped c.index-entries-i.is c.in_ok-push_entry_line.ensures.typed);
+      typed = All-more IsTyped es i e (omega arith) c.loop-i.invariant.typed
+          (subst IsTyped c.index-entries-i.is c.in_ok-push_entry_line.ensures.typed);
     }
 
 pub returns-clause-text : goal.returns-clause-text
 returns-clause-text c =
     c.loop-i.invariant.text
-    ∙ ap (λ (ls : List Line). c.args.out.now.items ++ flat_map line ls) (lines_all c.args.entries.now c.args.calls.now c.loop-i.i (omega arith))
+    ∙ ap (λ (ls : List Line). c.args.out.now.items ++ flat_map line ls)
+    (lines_all c.args.entries.now c.args.calls.now c.loop-i.i (omega arith))
