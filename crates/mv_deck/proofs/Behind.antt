@@ -40,7 +40,7 @@ pub same_any : (p : Statement → Bool) (sts : List Statement) (s : Statement) �
 same_any p sts s e = any-push p sts s ∙ rw e (or_false (list_any p sts))
 
 -- a statement that passes the test makes it true
-some_any : (p : Statement → Bool) (sts : List Statement) (s : Statement) → p s ≡ true → list_any p (sts ++ s ∷ []) ≡ true
+pub some_any : (p : Statement → Bool) (sts : List Statement) (s : Statement) → p s ≡ true → list_any p (sts ++ s ∷ []) ≡ true
 some_any p sts s e = any-push p sts s ∙ rw e (or_true (list_any p sts))
 
 -- behind one more statement there is one

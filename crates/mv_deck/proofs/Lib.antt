@@ -15,6 +15,14 @@ pub mod Passes
 pub mod Lowest
 -- the law that decks are sound
 pub mod Sounds
+-- loads
+pub mod LoadText
+pub mod Tidy
+pub mod LoadLines
+pub mod LoadJobs
+pub mod LoadStates
+pub mod LoadBytes
+pub mod Loads
 -- the plain search of the tests
 pub mod Anew
 -- rows worked by hand

@@ -1,8 +1,9 @@
 -- Rows worked by hand: what the definitions come to.
 use Rattle.std.proofs.Common.{◌≡◌, ℕ, List, [], ◌∷◌, ◌++◌, Some, None, refl}
 use Rattle.std.specs.Prelude.{codes}
+use Rattle.std.specs.Fmt.{digits}
 use Rattle.mv_latch.specs.declared.request.Mode.TheVariants.{Shared, Exclusive}
-use Rattle.mv_deck.specs.declared.deck.Step.TheVariants.{Print, Use, Free, Count, Scan, Return}
+use Rattle.mv_deck.specs.declared.deck.Step.TheVariants.{Print, Use, Free, Count, Scan, Abend, Return}
 use Rattle.mv_deck.specs.declared.form.Version.TheVariants.{One, Two}
 use Rattle.mv_line.specs.Line.{lines_of, without_cr}
 use Rattle.mv_line.specs.Field.{fields_of}
@@ -11,6 +12,7 @@ use Rattle.mv_deck.specs.Statement.{Null, JobOf, PrintOf, UseOf, CountOf, AbendO
 use Rattle.mv_deck.specs.Deck.{JobData, deck_of}
 use Rattle.mv_deck.specs.Fault.{first_fault, fault_at, faults_from}
 use Rattle.mv_deck.specs.Weight.{weight}
+use Rattle.mv_deck.specs.Load.{job_lines, load_text, load_job, load_jobs}
 
 abbrev lf : List ℕ
 lf = 10 ∷ []
@@ -229,3 +231,26 @@ an_ended_job = refl
 nothing : first_fault [] 1 ≡ Some (fault_at 1 12)
 unfolding faults_from
 nothing = refl
+
+-- ---- loads
+
+the_load_of_one_job : load_text 1 ≡ codes "//J00000 JOB\n// USE 0 X\n// COUNT 0 1\n// PRINT WORK 0\n// FREE 0\n//\n"
+unfolding digits
+the_load_of_one_job = refl
+
+a_job_with_each_kind_of_line : job_lines 13
+    ≡ codes "//J00013 JOB AFTER=J00010" ∷ codes "// USE 5 X" ∷ codes "// COUNT 5 5" ∷ codes "// SCAN 5" ∷ codes "// PRINT WORK 13"
+    ∷ codes "// ABEND U0013" ∷ []
+unfolding digits
+a_job_with_each_kind_of_line = refl
+
+that_job : load_job 13 ≡ record {
+  name = codes "J00013";
+  after = record { job = 10; most = 0 } ∷ [];
+  steps = Use 5 Exclusive ∷ Count 5 5 ∷ Scan 5 ∷ Print (codes "WORK 13") ∷ Abend 16777229 ∷ [];
+}
+unfolding digits
+that_job = refl
+
+the_weight_of_two_jobs : weight (load_jobs 2) 1 ≡ 55
+the_weight_of_two_jobs = refl

@@ -9,5 +9,6 @@ pub mod Weight
 pub mod Fault
 pub mod Faults
 pub mod Sound
+pub mod Load
 pub mod Names
 pub mod Reading

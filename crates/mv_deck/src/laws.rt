@@ -1,11 +1,13 @@
 //! What the first fault of a text is, by its lines alone, and what a text without fault states.
 
-ghost use Rattle.std.specs.Prelude.{◌≡◌, ℕ, List, None, MatchOption};
+ghost use Rattle.std.specs.Prelude.{◌≡◌, ◌<◌, ◌≤◌, ℕ, List, length, None, MatchOption};
 ghost use Rattle.mv_deck.specs.declared.fault.DeckFault.{DeckFault};
 ghost use Rattle.mv_deck.specs.Deck.{deck_of};
 ghost use Rattle.mv_deck.specs.Fault.{first_fault};
 ghost use Rattle.mv_deck.specs.Faults.{HasFault, IsNoLater};
+ghost use Rattle.mv_deck.specs.Load.{most_jobs, load_text, load_jobs};
 ghost use Rattle.mv_deck.specs.Sound.{IsSound};
+ghost use Rattle.mv_deck.specs.Weight.{weight};
 
 /// The first fault is one that the text has, and no other comes before it by line and then by kind; there is none only
 /// where the text has no fault.
@@ -19,4 +21,15 @@ pub fn first_fault_is_lowest()
 /// their order and where they are needed, no step follows an end, and the weight is within its limit.
 pub fn decks_are_sound()
     ensures { (bytes : List ℕ) (initiators : ℕ) → first_fault bytes initiators ≡ None → IsSound (deck_of bytes) initiators }
+{}
+
+/// A load of 1 to 2000 jobs states the jobs of its rule. It has no fault, so it can be run by 1 to 8 initiators; its text is
+/// below 200,000 bytes and its weight below 300,000.
+pub fn loads_can_be_run()
+    ensures jobs { (n : ℕ) → 1 ≤ n → n ≤ most_jobs → deck_of (load_text n) ≡ load_jobs n }
+    ensures count { (n : ℕ) → length (load_jobs n) ≡ n }
+    ensures fault { (n initiators : ℕ) → 1 ≤ n → n ≤ most_jobs → initiators ≤ 8 → first_fault (load_text n) initiators ≡ None }
+    ensures sound { (n initiators : ℕ) → 1 ≤ n → n ≤ most_jobs → initiators ≤ 8 → IsSound (deck_of (load_text n)) initiators }
+    ensures weight { (n initiators : ℕ) → n ≤ most_jobs → initiators ≤ 8 → weight (load_jobs n) initiators < 300000 }
+    ensures bytes { (n : ℕ) → n ≤ most_jobs → length (load_text n) < 200000 }
 {}

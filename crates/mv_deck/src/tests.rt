@@ -725,3 +725,23 @@ fn comments_alone(rt: HostRuntime) -> Result<(), Fail> {
     assert_eq!(rt; read_deck(rt.alloc(), &text, 1)?.jobs.len(), 0);
     Ok(())
 }
+
+// Among the first seven jobs of a load are ones that scan, wait and abend.
+#[test]
+fn a_load(rt: HostRuntime) -> Result<(), Fail> {
+    let alloc = rt.alloc();
+    let text = load_deck(alloc, 7)?;
+    assert_eq!(rt;
+        text.as_slice(),
+        b"//J00000 JOB\n// USE 0 X\n// COUNT 0 1\n// PRINT WORK 0\n// FREE 0\n\
+        //J00001 JOB\n// USE 1 X\n// COUNT 1 2\n// SCAN 1\n// PRINT WORK 1\n// FREE 1\n\
+        //J00002 JOB\n// USE 2 X\n// COUNT 2 3\n// PRINT WORK 2\n// FREE 2\n\
+        //J00003 JOB AFTER=J00000\n// USE 3 X\n// COUNT 3 4\n// PRINT WORK 3\n// FREE 3\n\
+        //J00004 JOB\n// USE 4 X\n// COUNT 4 5\n// PRINT WORK 4\n// FREE 4\n\
+        //J00005 JOB\n// USE 5 X\n// COUNT 5 6\n// SCAN 5\n// PRINT WORK 5\n// FREE 5\n\
+        //J00006 JOB\n// USE 6 X\n// COUNT 6 7\n// PRINT WORK 6\n// ABEND U0006\n\
+        //\n"
+            .as_slice()
+    );
+    Ok(())
+}

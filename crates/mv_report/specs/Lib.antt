@@ -1,3 +1,4 @@
 pub mod EndCode
 pub mod Report
 pub mod Outcome
+pub mod Summary

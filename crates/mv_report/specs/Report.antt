@@ -67,7 +67,11 @@ counts_text jobs ends =
 abbrev pub volumes_text : List ℕ → List ℕ
 volumes_text volumes = line (codes "VOLUMES" ++ flat_map (λ volume. codes " " ++ decimal volume) volumes)
 
+-- the last two lines
+abbrev pub closing_text : ℕ → List ℕ → List ℕ → List ℕ
+closing_text jobs ends volumes = counts_text jobs ends ++ volumes_text volumes
+
 -- the report on jobs that have these ends and lines, and left these volumes
 abbrev pub report_text : List JobData → List ℕ → List (List (List ℕ)) → List ℕ → List ℕ
 report_text jobs ends lines volumes =
-    jobs_text jobs ends lines ++ counts_text (length jobs) ends ++ volumes_text volumes
+    jobs_text jobs ends lines ++ closing_text (length jobs) ends volumes

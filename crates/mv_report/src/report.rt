@@ -4,7 +4,7 @@ ghost use Rattle.std.specs.Prelude.{◌≡◌, ◌^◌, ◌<◌, ◌≤◌, ◌+
 ghost use Rattle.mv_deck.specs.Deck.{deck_data};
 ghost use Rattle.mv_deck.specs.EndCode.{lowest_abend, not_run};
 ghost use Rattle.mv_report.specs.EndCode.{IsEndCode, is_ended, is_abended, is_not_run};
-ghost use Rattle.mv_report.specs.Report.{digit, abend_text, outcome_text, lines_text, job_text, jobs_text, counts_text, volumes_text, report_text};
+ghost use Rattle.mv_report.specs.Report.{digit, abend_text, outcome_text, lines_text, job_text, jobs_text, counts_text, volumes_text, closing_text, report_text};
 
 use crate::end_code::{is_abended, is_ended, is_not_run};
 use crate::lines::Lines;
@@ -22,7 +22,8 @@ fn digit(value: u32) -> u8
     DIGITS[value as usize]
 }
 
-fn push_number(out: &mut Vec<u8>, label: &[u8], number: usize) -> Result<(), NoMemory>
+/// Appends a label and a number.
+pub(crate) fn push_number(out: &mut Vec<u8>, label: &[u8], number: usize) -> Result<(), NoMemory>
     ensures { OnOk result (out.new.items ≡ out.old.items ++ (label.now ++ decimal number)) }
 {
     out.extend_from_slice(label)?;
@@ -138,6 +139,19 @@ fn push_volumes(out: &mut Vec<u8>, volumes: &[u32]) -> Result<(), NoMemory>
     Ok(())
 }
 
+/// Appends the last two lines.
+pub(crate) fn push_closing(
+    out: &mut Vec<u8>,
+    jobs: usize,
+    ends: &[u32],
+    volumes: &[u32],
+) -> Result<(), NoMemory>
+    ensures { OnOk result (out.new.items ≡ out.old.items ++ closing_text jobs ends.now volumes.now) }
+{
+    push_counts(out, jobs, ends)?;
+    push_volumes(out, volumes)
+}
+
 /// The report on a deck whose jobs came to these ends and wrote these lines, and which left this in the eight volumes.
 ///
 /// An end is an end code: 0 to 4095 of a job that ended, its return code; `2^24 + 4096 * system + user` of one that
@@ -162,7 +176,6 @@ pub fn write_report(
     for (i, job) in deck.jobs.iter().enumerate() {
         push_job(&mut out, &job.name, ends[i], &lines[i])?;
     }
-    push_counts(&mut out, deck.jobs.len(), ends)?;
-    push_volumes(&mut out, volumes)?;
+    push_closing(&mut out, deck.jobs.len(), ends, volumes)?;
     Ok(out)
 }

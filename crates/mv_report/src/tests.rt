@@ -181,3 +181,17 @@ fn counts_and_scans(rt: HostRuntime) -> Result<(), Fail> {
     );
     Ok(())
 }
+
+// A load of seven jobs, of which the last abends behind its COUNT.
+#[test]
+fn the_summary_of_a_load(rt: HostRuntime) -> Result<(), Fail> {
+    let alloc = rt.alloc();
+    let ends = [0, 0, 0, 0, 0, 0, 16777222];
+    let volumes = [1, 2, 3, 4, 5, 6, 7, 0];
+    let summary = write_summary(alloc, 7, 2, &ends, &volumes)?;
+    assert_eq!(rt;
+        summary.as_slice(),
+        b"LOAD 7 2\nJOBS 7 ENDED 6 ABENDED 1 NOT RUN 0\nVOLUMES 1 2 3 4 5 6 7 0\n".as_slice()
+    );
+    Ok(())
+}

@@ -1,0 +1,125 @@
+-- The deck of a load: so many jobs by one rule, with waiting, abends and all kinds of steps among them.
+use Rattle.std.specs.Prelude.{ℕ, ◌+◌, ◌-◌, ◌/◌, ◌%◌, Bool, ◌==◌, if◌then◌else◌, List, [], ◌∷◌, ◌++◌, map, flat_map, codes, decimal}
+use Rattle.std.specs.List.{range_with_len}
+use Rattle.mv_latch.specs.declared.request.Mode.TheVariants.{Exclusive}
+use Rattle.mv_deck.specs.declared.deck.After.{After}
+use Rattle.mv_deck.specs.declared.deck.Step.{Step}
+use Rattle.mv_deck.specs.declared.deck.Step.TheVariants.{Print, Use, Free, Count, Scan, Abend}
+use Rattle.mv_deck.specs.Deck.{JobData}
+use Rattle.mv_deck.specs.EndCode.{abended}
+
+-- the most jobs of a load
+abbrev pub most_jobs : ℕ
+most_jobs = 2000
+
+-- ---- what job i does, counted from 0
+
+-- the volume that it counts in, and the latch that guards this
+abbrev pub volume_of : ℕ → ℕ
+volume_of i = i % 8
+
+-- what it counts
+abbrev pub counted_by : ℕ → ℕ
+counted_by i = 1 + i % 9
+
+-- whether it waits for the job three before it; the first is job 3
+abbrev pub waits : ℕ → Bool
+waits i = i % 5 == 3
+
+-- whether it scans its volume
+abbrev pub scans : ℕ → Bool
+scans i = i % 4 == 1
+
+-- whether it abends, by its own number as the user code, and does not free its latch
+abbrev pub abends : ℕ → Bool
+abends i = i % 7 == 6
+
+-- ---- its text
+
+-- the decimal digit of a number that counts so much
+abbrev pub digit_of : ℕ → ℕ → ℕ
+digit_of weight n = 48 + n / weight % 10
+
+-- a number below 10000, with zeros in front
+abbrev pub four_digits : ℕ → List ℕ
+four_digits n = digit_of 1000 n ∷ digit_of 100 n ∷ digit_of 10 n ∷ digit_of 1 n ∷ []
+
+-- a number below 100000, so
+abbrev pub five_digits : ℕ → List ℕ
+five_digits n = digit_of 10000 n ∷ four_digits n
+
+-- `J` and its number
+abbrev pub load_name : ℕ → List ℕ
+load_name i = codes "J" ++ five_digits i
+
+-- the rest of its JOB, where it waits
+abbrev pub after_text : ℕ → List ℕ
+after_text i = if waits i then codes " AFTER=" ++ load_name (i - 3) else []
+
+-- its JOB
+abbrev pub job_line : ℕ → List ℕ
+job_line i = codes "//" ++ load_name i ++ codes " JOB" ++ after_text i
+
+-- its COUNT
+abbrev pub count_line : ℕ → List ℕ
+count_line i = codes "// COUNT " ++ decimal (volume_of i) ++ codes " " ++ decimal (counted_by i)
+
+-- its SCAN, where it scans
+abbrev pub scan_lines : ℕ → List (List ℕ)
+scan_lines i = if scans i then (codes "// SCAN " ++ decimal (volume_of i)) ∷ [] else []
+
+-- its PRINT
+abbrev pub print_line : ℕ → List ℕ
+print_line i = codes "// PRINT WORK " ++ decimal i
+
+-- its last statement
+abbrev pub last_line : ℕ → List ℕ
+last_line i = if abends i then codes "// ABEND U" ++ four_digits i else codes "// FREE " ++ decimal (volume_of i)
+
+-- all its lines
+abbrev pub job_lines : ℕ → List (List ℕ)
+job_lines i =
+    job_line i
+    ∷ (codes "// USE " ++ decimal (volume_of i) ++ codes " X")
+    ∷ count_line i
+    ∷ (scan_lines i ++ print_line i ∷ last_line i ∷ [])
+
+-- the lines of the first so many jobs
+abbrev pub first_lines : ℕ → List (List ℕ)
+first_lines n = flat_map job_lines (range_with_len 0 n)
+
+-- a line with its LF
+abbrev pub ended : List ℕ → List ℕ
+ended line = line ++ codes "\n"
+
+-- The text of a load of so many jobs: the lines of each, then the null statement; every line ends with LF.
+abbrev pub load_text : ℕ → List ℕ
+load_text n = flat_map ended (first_lines n ++ codes "//" ∷ [])
+
+-- ---- what it states
+
+-- the job that it waits for, with return code 0
+abbrev pub load_after : ℕ → List After
+load_after i = if waits i then record { job = i - 3; most = 0 } ∷ [] else []
+
+-- its SCAN, where it scans
+abbrev pub scan_steps : ℕ → List Step
+scan_steps i = if scans i then Scan (volume_of i) ∷ [] else []
+
+-- its last step
+abbrev pub last_step : ℕ → Step
+last_step i = if abends i then Abend (abended 0 i) else Free (volume_of i)
+
+-- its steps
+abbrev pub load_steps : ℕ → List Step
+load_steps i =
+    Use (volume_of i) Exclusive ∷ Count (volume_of i) (counted_by i)
+    ∷ (scan_steps i ++ Print (codes "WORK " ++ decimal i) ∷ last_step i ∷ [])
+
+-- job i
+abbrev pub load_job : ℕ → JobData
+load_job i = record { name = load_name i; after = load_after i; steps = load_steps i }
+
+-- the jobs of a load of so many
+abbrev pub load_jobs : ℕ → List JobData
+load_jobs n = map load_job (range_with_len 0 n)

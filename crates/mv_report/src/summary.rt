@@ -1,0 +1,32 @@
+//! The summary of a load. `specs/Summary.antt` says which bytes that is.
+
+ghost use Rattle.std.specs.Prelude.{◌≡◌, length, All, IfOk};
+ghost use Rattle.mv_report.specs.EndCode.{IsEndCode};
+ghost use Rattle.mv_report.specs.Summary.{summary_text};
+
+use crate::report::{push_closing, push_number};
+use mv_io::NoMemory;
+use std::alloc::Global;
+
+/// The summary of a load whose jobs came to these ends on so many initiators, and which left this in the eight volumes.
+///
+/// Ends are those of `write_report`. The only error is want of memory, and the time is linear in the jobs.
+pub fn write_summary(
+    alloc: Global,
+    jobs: u32,
+    initiators: u32,
+    ends: &[u32],
+    volumes: &[u32],
+) -> Result<Vec<u8>, NoMemory>
+    requires one_end_per_job { length ends.now ≡ jobs }
+    requires eight_volumes { length volumes.now ≡ 8 }
+    requires end_codes { All IsEndCode ends.now }
+    ensures text { IfOk result (λ text. text.items ≡ summary_text jobs initiators ends.now volumes.now) }
+{
+    let mut out = Vec::new(alloc);
+    push_number(&mut out, b"LOAD ", jobs as usize)?;
+    push_number(&mut out, b" ", initiators as usize)?;
+    out.push(b'\n')?;
+    push_closing(&mut out, jobs as usize, ends, volumes)?;
+    Ok(out)
+}
