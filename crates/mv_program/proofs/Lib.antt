@@ -1,6 +1,4 @@
--- The run of a deck, and its journal.
-pub mod Posts
-pub mod Legal
+-- The journal of a run.
 pub mod Runs
 -- How a run ends, and what it tells.
 pub mod Owed

@@ -9,10 +9,10 @@ use Rattle.mv_replay.specs.declared.status.ReplayStatus.TheVariants as replay
 use Rattle.mv_replay.specs.Outcome as replays
 use Rattle.mv_replay.proofs.Endings as judged
 use Rattle.mv_program.specs.declared.command.Command.{Command}
-use Rattle.mv_program.specs.declared.command.Command.TheVariants.{Spool, Replay, Convert}
+use Rattle.mv_program.specs.declared.command.Command.TheVariants.{Spool, Load, Replay, Convert}
 use Rattle.mv_program.specs.declared.status.Status.{Status}
 use Rattle.mv_program.specs.declared.status.Status.TheVariants.{Done, Words, Deck, TooLong, ReadFailed, ReportFailed, JournalFailed, NoMemory, Illegal, Text}
-use Rattle.mv_program.specs.Outcome.{IsFound, DeckAsks, DeckOf, InputOf, Asks, has_journal}
+use Rattle.mv_program.specs.Outcome.{IsFound, DeckAsks, DeckOf, EndsLoad, InputOf, Asks, has_journal}
 use Rattle.mv_program.specs.Status.{replay_of}
 
 -- ---- decks
@@ -105,12 +105,26 @@ journal_ends bytes new NoMemory t i read report a = inr refl
 journal_ends bytes new (Illegal line) t i read report a = inl (one_judgement bytes (Illegal line) t (i.0.short, i.1) a)
 journal_ends bytes new (Text f) t i read report a = inl (one_judgement bytes (Text f) t (i.0.short, i.1) a)
 
+-- ---- loads
+
+load_ends : (s t : Status) → EndsLoad s → (s ≡ ReportFailed → ⊥) → (s ≡ JournalFailed → ⊥) → t ≡ Done → EndsAs NoMemory s t
+load_ends Done t i report journal a = inl (sym a)
+load_ends ReportFailed t i report journal a = absurd (report refl)
+load_ends JournalFailed t i report journal a = absurd (journal refl)
+load_ends NoMemory t i report journal a = inr refl
+load_ends s t i report journal a = absurd i
+
+-- it fails no source
+pub load_never_reads : (s : Status) → EndsLoad s → s ≡ ReadFailed → ⊥
+load_never_reads s i e = subst (λ (k : Status). EndsLoad k) e i
+
 -- ---- every command
 
 command_ends : (c : Command) (bytes : List ℕ) (new : Option (List ℕ)) (s t : Status) → InputOf (Some c) s (Some bytes) new
     → (s ≡ ReadFailed → ⊥) → (t ≡ Done → s ≡ ReportFailed → ⊥) → (t ≡ Done → has_journal c ≡ true → s ≡ JournalFailed → ⊥)
     → Asks c bytes t → EndsAs NoMemory s t
 command_ends (Spool n) bytes new s t i read report journal a = deck_ends n bytes new s t i read report (λ done. journal done refl) a
+command_ends (Load jobs n) bytes new s t i read report journal a = load_ends s t i.0 (λ e. report a e) (λ e. journal a refl e) a
 command_ends Replay bytes new s t i read report journal a = journal_ends bytes new s t i read report a
 command_ends Convert bytes new s t i read report journal a = journal_ends bytes new s t i read report a
 

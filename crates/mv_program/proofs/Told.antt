@@ -5,10 +5,10 @@ use Rattle.mv_io.specs.Sink.{Appends}
 use Rattle.mv_ending.specs.Written.{WroteOf}
 use Rattle.mv_replay.specs.Outcome.{ReportAfter}
 use Rattle.mv_program.specs.declared.command.Command.{Command}
-use Rattle.mv_program.specs.declared.command.Command.TheVariants.{Spool}
+use Rattle.mv_program.specs.declared.command.Command.TheVariants.{Spool, Load}
 use Rattle.mv_program.specs.declared.status.Status.{Status}
 use Rattle.mv_program.specs.declared.status.Status.TheVariants.{Done, Words, Deck, TooLong, ReadFailed, ReportFailed, JournalFailed, NoMemory, Illegal, Text}
-use Rattle.mv_program.specs.Outcome.{TellsRun, TellsReport, Told, Writes, extent_of}
+use Rattle.mv_program.specs.Outcome.{TellsRun, TellsLoad, TellsReport, Told, Writes, extent_of}
 use Rattle.mv_program.specs.Status.{replay_of}
 
 -- what holds of the command holds of the words that are it
@@ -44,6 +44,17 @@ pub run_is_told : (n : ℕ) (s : Status) (input left report0 report1 journal0 jo
 run_is_told n s input left report0 report1 journal0 journal1 items report journal read tells wrote =
     deck_is_told n s input report0 report1 journal0 journal1 report journal
     (told_of_input n input left items report journal read tells) wrote
+
+-- ---- loads
+
+-- a load tells of its own deck, whatever the input
+pub load_is_told : (jobs n : ℕ) (s : Status) (report0 report1 journal0 journal1 : Option (List ℕ)) (report journal : List ℕ)
+    → TellsLoad jobs n report journal → Writes s report0 report1 journal0 journal1 report journal
+    → WroteOf (λ _. TellsLoad jobs n) (extent_of s) (Some []) report0 report1 journal0 journal1
+load_is_told jobs n Done report0 report1 journal0 journal1 report journal tells wrote = (report, journal, tells, wrote)
+load_is_told jobs n ReportFailed report0 report1 journal0 journal1 report journal tells wrote = (report, journal, tells, wrote)
+load_is_told jobs n JournalFailed report0 report1 journal0 journal1 report journal tells wrote = (report, journal, tells, wrote)
+load_is_told jobs n s report0 report1 journal0 journal1 report journal tells wrote = absurd wrote
 
 -- ---- a command on a journal has none itself
 

@@ -1,13 +1,56 @@
 -- What the words of the command line ask for.
-use Rattle.std.specs.Prelude.{ℕ, ◌&&◌, List, [], ◌∷◌, Option, Some, None, codes, if◌then◌else◌}
+use Rattle.std.specs.Prelude.{ℕ, ◌+◌, ◌-◌, ◌≤◌, ◌&&◌, nat_lt, nat_le, List, [], ◌∷◌, Option, Some, None, option_map, codes, if◌then◌else◌}
 use Rattle.std.specs.Str.{bytes_eq}
+use Rattle.mv_deck.specs.Load.{most_jobs}
+use Rattle.mv_line.specs.Number.{number_of, within}
 use Rattle.mv_program.specs.declared.command.Command.{Command}
-use Rattle.mv_program.specs.declared.command.Command.TheVariants.{Spool, Replay, Convert}
+use Rattle.mv_program.specs.declared.command.Command.TheVariants.{Spool, Load, Replay, Convert}
 
--- `spool 1`, `replay` or `convert`, exactly
+-- the most initiators of a spool
+abbrev pub most_initiators : ℕ
+most_initiators = 8
+
+-- the digit 0 in ASCII
+abbrev pub digit_0 : ℕ
+digit_0 = 48
+
+-- a number of initiators: one digit alone, from 1 to 8
+abbrev pub initiators_of : List ℕ → Option ℕ
+initiators_of (digit ∷ []) =
+    if nat_lt digit_0 digit && nat_le digit (digit_0 + most_initiators) then Some (digit - digit_0) else None
+initiators_of _ = None
+
+-- a number of jobs: digits without a zero in front, from 1 to 2000
+abbrev pub jobs_of : List ℕ → Option ℕ
+jobs_of word = within 1 most_jobs (number_of word)
+
+-- a load, where both numbers are there
+abbrev pub load_of : Option ℕ → Option ℕ → Option Command
+load_of None initiators = None
+load_of (Some jobs) None = None
+load_of (Some jobs) (Some initiators) = Some (Load jobs initiators)
+
+-- `spool` and a number of initiators, `load` with a number of jobs and one of initiators, `replay` or `convert`, exactly
 abbrev pub command_of : List (List ℕ) → Option Command
 command_of (word ∷ []) =
     if bytes_eq word (codes "replay") then Some Replay else if bytes_eq word (codes "convert") then Some Convert else None
 command_of (word ∷ initiators ∷ []) =
-    if bytes_eq word (codes "spool") && bytes_eq initiators (codes "1") then Some (Spool 1) else None
+    if bytes_eq word (codes "spool") then option_map Spool (initiators_of initiators) else None
+command_of (word ∷ jobs ∷ initiators ∷ []) =
+    if bytes_eq word (codes "load") then load_of (jobs_of jobs) (initiators_of initiators) else None
 command_of _ = None
+
+-- a number of initiators is 1 to 8
+abbrev pub AreInitiators : ℕ → Type 0
+AreInitiators n = (1 ≤ n) × (n ≤ most_initiators)
+
+-- a number of jobs of a load is 1 to 2000
+abbrev pub AreJobs : ℕ → Type 0
+AreJobs jobs = (1 ≤ jobs) × (jobs ≤ most_jobs)
+
+-- its numbers are such
+abbrev pub IsRunnable : Command → Type 0
+IsRunnable (Spool n) = AreInitiators n
+IsRunnable (Load jobs n) = AreJobs jobs × AreInitiators n
+IsRunnable Replay = Unit {0}
+IsRunnable Convert = Unit {0}

@@ -1,15 +1,18 @@
 -- What a command asks and tells of its input, and what the streams hold after each way that a run can end. What is told of an
 -- input is told where its source told it.
-use Rattle.std.specs.Prelude.{◌≡◌, ℕ, ◌<◌, ◌≤◌, Bool, true, false, List, [], length, Option, Some, None, IfSome, IsSomeAnd}
+use Rattle.std.specs.Prelude.{if◌then◌else◌, ◌≡◌, ℕ, ◌<◌, ◌≤◌, Bool, true, false, List, [], length, Option, Some, None, IfSome, IsSomeAnd}
+use Rattle.mv_deck.specs.Deck.{deck_of}
 use Rattle.mv_deck.specs.Fault.{first_fault}
+use Rattle.mv_deck.specs.Load.{load_text}
 use Rattle.mv_ending.specs.Input.{IsWhole, IsTooLong, IsCut, IsAllOrNothing}
 use Rattle.mv_ending.specs.Written.{Extent, Nothing, PartOfReport, PartOfJournal, Everything, Wrote, WroteOf}
 use Rattle.mv_replay.specs.Outcome as replay
+use Rattle.mv_report.specs.Summary.{load_summary}
 use Rattle.mv_program.specs.declared.command.Command.{Command}
-use Rattle.mv_program.specs.declared.command.Command.TheVariants.{Spool, Replay, Convert}
+use Rattle.mv_program.specs.declared.command.Command.TheVariants.{Spool, Load, Replay, Convert}
 use Rattle.mv_program.specs.declared.status.Status.{Status}
 use Rattle.mv_program.specs.declared.status.Status.TheVariants.{Done, Words, Deck, TooLong, ReadFailed, ReportFailed, JournalFailed, NoMemory, Illegal, Text}
-use Rattle.mv_program.specs.Run.{deck_limit, report_of, journal_of_run, IsRun}
+use Rattle.mv_program.specs.Run.{deck_limit, report_of, IsJournalOfRun}
 use Rattle.mv_program.specs.Status.{replay_of}
 
 -- ---- the ending that an input asks of a command, where no stream fails and memory is there
@@ -26,16 +29,21 @@ DeckAsks n input status = (length input ≤ deck_limit) × IsFound n input statu
 
 abbrev pub Asks : Command → List ℕ → Status → Type 0
 Asks (Spool n) input status = DeckAsks n input status
+Asks (Load jobs n) input status = status ≡ Done
 Asks Replay input status = IsSomeAnd (replay_of status) (λ s. replay.Asks input s)
 Asks Convert input status = IsSomeAnd (replay_of status) (λ s. replay.Asks input s)
 
 -- ---- the texts that a command tells of an input, where all goes well: its report and its journal
 
--- a deck's report, and the journal of its run, which is a legal history
+-- a deck's report, and the journal of a run of it by so many initiators
 pub record TellsRun (n : ℕ) (input report journal : List ℕ) : Type 0 where
   pub reported : report ≡ report_of input
-  pub kept : journal ≡ journal_of_run input
-  pub run : IsRun input
+  pub run : IsJournalOfRun (deck_of input) n journal
+
+-- the summary of a load, and the journal of a run of its deck
+pub record TellsLoad (jobs n : ℕ) (report journal : List ℕ) : Type 0 where
+  pub reported : report ≡ load_summary jobs n
+  pub run : IsJournalOfRun (deck_of (load_text jobs)) n journal
 
 -- a report of this kind on a journal, and no journal
 pub record TellsReport (Reports : List ℕ → List ℕ → Type 0) (input report journal : List ℕ) : Type 0 where
@@ -44,14 +52,27 @@ pub record TellsReport (Reports : List ℕ → List ℕ → Type 0) (input repor
 
 abbrev pub Tells : Command → (input report journal : List ℕ) → Type 0
 Tells (Spool n) input report journal = TellsRun n input report journal
+Tells (Load jobs n) input report journal = TellsLoad jobs n report journal
 Tells Replay input report journal = TellsReport replay.IsReplayReport input report journal
 Tells Convert input report journal = TellsReport replay.IsConversion input report journal
 
 -- whether it has a journal at all
 abbrev pub has_journal : Command → Bool
 has_journal (Spool n) = true
+has_journal (Load jobs n) = true
 has_journal Replay = false
 has_journal Convert = false
+
+-- whether it reads its input
+abbrev pub reads_input : Command → Bool
+reads_input (Spool n) = true
+reads_input (Load jobs n) = false
+reads_input Replay = true
+reads_input Convert = true
+
+-- the input of which it tells: of none, where it reads none
+abbrev pub input_told : Command → Option (List ℕ) → Option (List ℕ)
+input_told command input = if reads_input command then input else Some []
 
 -- ---- the input, and what is left of it
 
@@ -70,8 +91,17 @@ DeckOf n ReadFailed old new = IfSome old (λ bytes. IsCut deck_limit bytes new)
 DeckOf n NoMemory old new = IsAllOrNothing deck_limit old new
 DeckOf n _ old new = ⊥
 
+-- a load reads nothing, so it ends as its deck asks, or for want of memory, or because a sink fails
+abbrev pub EndsLoad : Status → Type 0
+EndsLoad Done = Unit {0}
+EndsLoad ReportFailed = Unit {0}
+EndsLoad JournalFailed = Unit {0}
+EndsLoad NoMemory = Unit {0}
+EndsLoad _ = ⊥
+
 abbrev pub InputOf : Option Command → Status → Option (List ℕ) → Option (List ℕ) → Type 0
 InputOf (Some (Spool n)) status old new = DeckOf n status old new
+InputOf (Some (Load jobs n)) status old new = EndsLoad status × (new ≡ old)
 InputOf (Some Replay) status old new = IsSomeAnd (replay_of status) (λ s. replay.InputOf s old new)
 InputOf (Some Convert) status old new = IsSomeAnd (replay_of status) (λ s. replay.InputOf s old new)
 InputOf None status old new = new ≡ old
@@ -94,7 +124,7 @@ extent_of (Text fault) = Nothing
 -- what the sinks hold: so much of texts that the command tells of the input
 abbrev pub Told : Option Command → Status → (input report0 report1 journal0 journal1 : Option (List ℕ)) → Type 0
 Told (Some command) status input report0 report1 journal0 journal1 =
-    WroteOf (Tells command) (extent_of status) input report0 report1 journal0 journal1
+    WroteOf (Tells command) (extent_of status) (input_told command input) report0 report1 journal0 journal1
 Told None status input report0 report1 journal0 journal1 = (report1 ≡ report0) × (journal1 ≡ journal0)
 
 -- the writing of both texts, the report first, ends in one of three ways

@@ -1,13 +1,15 @@
--- What the run of a deck is: its report, and the history that its journal tells.
-use Rattle.std.specs.Prelude.{◌≡◌, ℕ, List, length}
-use Rattle.mv_deck.specs.Deck.{deck_of}
-use Rattle.mv_report.specs.Outcome.{ends, report}
-use Rattle.mv_machine.specs.declared.entry.Entry.{Entry}
-use Rattle.mv_machine.specs.Setup.{Setup}
-use Rattle.mv_machine.specs.Legal.{Legal}
-use Rattle.mv_entrytext.specs.Journal.{journal_text}
+-- What the run of a deck is: its report, and the journal that tells its history.
+use Rattle.std.specs.Prelude.{◌≡◌, ℕ, List}
+use Rattle.mv_deck.specs.Deck.{JobData, deck_of}
 use Rattle.mv_entrytext.specs.Fault.{HasJournal, journal_of}
-use Rattle.mv_program.specs.Machine.{plain_setup, posts}
+use Rattle.mv_entrytext.specs.Journal.{journal_text}
+use Rattle.mv_machine.specs.declared.entry.Entry.{Entry}
+use Rattle.mv_machine.specs.Legal.{Legal}
+use Rattle.mv_machine.specs.Orderly.{IsOrderly, IsExact}
+use Rattle.mv_machine.specs.Setup.{Setup}
+use Rattle.mv_plan.specs.SpoolRun.{IsRun}
+use Rattle.mv_plan.specs.SpoolSetup.{spool_setup}
+use Rattle.mv_report.specs.Outcome.{report}
 
 -- the most bytes of a deck
 abbrev pub deck_limit : ℕ
@@ -17,22 +19,20 @@ deck_limit = 1048576
 abbrev pub report_of : List ℕ → List ℕ
 report_of input = report (deck_of input)
 
--- the configuration and the events of its run, and the journal that is their text
-abbrev pub setup_of_run : List ℕ → Setup
-setup_of_run input = plain_setup (length (ends (deck_of input)))
-
-abbrev pub events_of_run : List ℕ → List Entry
-events_of_run input = posts (ends (deck_of input))
-
-abbrev pub journal_of_run : List ℕ → List ℕ
-journal_of_run input = journal_text (setup_of_run input) (events_of_run input)
-
--- a text tells one legal history: this configuration and these events, which have a text, are read off it
+-- a text tells one legal history: it is the text of this configuration and these events, which are read off it again
 pub record TellsHistory (text : List ℕ) (setup : Setup) (events : List Entry) : Type 0 where
   pub written : HasJournal setup events
+  pub kept : text ≡ journal_text setup events
   pub setup_read : (journal_of text).setup ≡ setup
   pub events_read : (journal_of text).entries ≡ events
   pub legal : Legal setup events
 
-abbrev pub IsRun : List ℕ → Type 0
-IsRun input = TellsHistory (journal_of_run input) (setup_of_run input) (events_of_run input)
+-- a text is the journal of a run of the deck by so many initiators: of a history in which each task has done its program, as it
+-- is asked of it, and nothing else was done. In each of them what was granted was granted in order, and each code that was
+-- released reached one pause
+pub record IsJournalOfRun (deck : List JobData) (initiators : ℕ) (text : List ℕ) : Type 0 where
+  pub events : List Entry
+  pub told : TellsHistory text (spool_setup deck initiators) events
+  pub run : IsRun deck initiators events
+  pub orderly : IsOrderly (spool_setup deck initiators) events
+  pub exact : IsExact events

@@ -1,29 +1,59 @@
-//! The words of the command line.
+//! The words of the command line: `specs/Command.antt`.
 
-ghost use Rattle.std.specs.Prelude.{◌≡◌, map};
+ghost use Rattle.std.specs.Prelude.{◌≡◌, map, IfSome};
 ghost use Rattle.std.specs.String.{string_bytes};
-ghost use Rattle.mv_program.specs.Command.{command_of as command_by_words};
+ghost use Rattle.mv_program.specs.Command.{command_of as command_by_words, initiators_of as initiators_by_word, jobs_of, load_of as load_by_numbers, IsRunnable, AreInitiators};
+
+use mv_deck::MOST_JOBS;
+use mv_line::number_within;
 
 /// What the program is to do.
 #[derive(Clone, Copy, Debug, PartialEq, Eq)]
 pub enum Command {
-    /// Run the deck of the input with this many initiators.
+    /// Run the deck of the input with this many initiators, 1 to 8.
     Spool(u32),
+    /// Run a load of this many jobs, 1 to 2000, with this many initiators, 1 to 8.
+    Load(u32, u32),
     /// Judge the journal of the input.
     Replay,
     /// Judge the journal of the input, and write it in version 2.
     Convert,
 }
 
+// The number of initiators that a word is, where it is one.
+fn initiators_of(word: &[u8]) -> Option<u32>
+    ensures number { result ≡ initiators_by_word word.now }
+    ensures range { IfSome result AreInitiators }
+{
+    match word {
+        [digit @ b'1'..=b'8'] => Some((*digit - b'0') as u32),
+        _ => None,
+    }
+}
+
+// The load of these numbers of jobs and of initiators, where both are such.
+fn load_of(jobs: &[u8], initiators: &[u8]) -> Option<Command>
+    ensures load { result ≡ load_by_numbers (jobs_of jobs.now) (initiators_by_word initiators.now) }
+    ensures runnable { IfSome result IsRunnable }
+{
+    let jobs = number_within(1, MOST_JOBS, jobs)?;
+    let initiators = initiators_of(initiators)?;
+    Some(Command::Load(jobs, initiators))
+}
+
 /// The command that the words are, where they are one.
 pub(crate) fn command_of(words: &[String]) -> Option<Command>
-    ensures { result ≡ command_by_words (map string_bytes words.now) }
+    ensures command { result ≡ command_by_words (map string_bytes words.now) }
+    ensures runnable { IfSome result IsRunnable }
 {
     match words {
         [word] if word.as_str() == "replay" => Some(Command::Replay),
         [word] if word.as_str() == "convert" => Some(Command::Convert),
-        [word, initiators] if word.as_str() == "spool" && initiators.as_str() == "1" => {
-            Some(Command::Spool(1))
+        [word, initiators] if word.as_str() == "spool" => {
+            Some(Command::Spool(initiators_of(initiators.as_bytes())?))
+        }
+        [word, jobs, initiators] if word.as_str() == "load" => {
+            load_of(jobs.as_bytes(), initiators.as_bytes())
         }
         _ => None,
     }

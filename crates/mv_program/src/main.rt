@@ -4,7 +4,6 @@
 #![tactic(auto)]
 
 mod command;
-mod history;
 mod laws;
 mod program;
 mod status;

@@ -1,25 +1,27 @@
 //! The top call: all that the program does. Its clauses cite specs/Outcome and specs/Status.
 
-ghost use Rattle.std.specs.Prelude.{◌≡◌, ◌≢◌, ◌≤◌, ◌↔◌, map, true, false, Some, None, IfSome, IsSomeAnd};
+ghost use Rattle.std.specs.Prelude.{[], ◌≡◌, ◌≢◌, ◌≤◌, ◌↔◌, map, true, false, Some, None, IfSome, IsSomeAnd};
 ghost use Rattle.std.specs.String.{string_bytes};
 ghost use Rattle.mv_io.specs.Fault.{Rose};
 ghost use Rattle.mv_ending.specs.Ending.{EndsAs};
 ghost use Rattle.mv_ending.specs.Note.{NotesAfter};
-ghost use Rattle.mv_ending.specs.Written.{IfUnwritten};
-ghost use Rattle.mv_program.specs.Command.{command_of as command_by_words};
-ghost use Rattle.mv_program.specs.Outcome.{Asks, InputOf, Told, extent_of, has_journal, Writes};
+ghost use Rattle.mv_ending.specs.Written.{IfUnwritten, WroteOf};
+ghost use Rattle.mv_program.specs.Command.{command_of as command_by_words, AreInitiators, AreJobs, most_initiators};
+ghost use Rattle.mv_program.specs.Outcome.{Asks, EndsLoad, InputOf, TellsLoad, Told, extent_of, has_journal, reads_input, Writes};
 ghost use Rattle.mv_program.specs.Status.{note_of as note_by_status, replay_of};
 ghost use Rattle.mv_replay.specs.Outcome.{IsReplayReport, IsConversion, ReportAfter};
 
 use crate::command::{Command, command_of};
 use crate::status::{Status, note_of, status_of};
-use crate::texts::{Texts, texts_of};
+use crate::texts::{Texts, texts_of, texts_of_load};
 use mv_deck::DeckRefusal;
 use mv_ending::tell;
-use mv_io::{ReadRefusal, Sink, Source, read_limited, write_all};
+use mv_io::{NoMemory, ReadRefusal, Sink, Source, read_limited, write_all};
 use mv_replay::{convert_command, replay_command};
 use mv_task::Gate;
 use std::alloc::Global;
+use std::sync::Wait;
+use std::thread::Threads;
 
 /// The most bytes of a deck.
 const DECK_LIMIT: usize = 1_048_576;
@@ -44,14 +46,16 @@ fn write_texts<R: Sink, K: Sink>(report: &mut R, journal: &mut K, texts: &Texts)
 }
 
 // Runs the deck of the input with so many initiators.
-fn spool<D: Source, R: Sink, K: Sink>(
+fn spool<X: Threads + Wait + Sync, D: Source, R: Sink, K: Sink, G: Gate + Sync>(
+    rt: &X,
     alloc: Global,
     initiators: u32,
     input: &mut D,
     report: &mut R,
     journal: &mut K,
+    gate: &G,
 ) -> Status
-    requires { (1 ≤ initiators) × (initiators ≤ 8) }
+    requires { (1 ≤ initiators) × (initiators ≤ most_initiators) }
     ensures words { result ≢ Status.Words }
     ensures input { InputOf (Some (Command.Spool initiators)) result (D.left input.old) (D.left input.new) }
     ensures told { Told (Some (Command.Spool initiators)) result (D.left input.old)
@@ -70,10 +74,37 @@ fn spool<D: Source, R: Sink, K: Sink>(
         Err(ReadRefusal::TooLong) => return Status::TooLong,
         Err(ReadRefusal::NoMemory) => return Status::NoMemory,
     };
-    match texts_of(alloc, &deck, initiators) {
+    match texts_of(rt, alloc, &deck, initiators, gate) {
         Ok(texts) => write_texts(report, journal, &texts),
         Err(DeckRefusal::Fault(fault)) => Status::Deck(fault),
         Err(DeckRefusal::NoMemory) => Status::NoMemory,
+    }
+}
+
+// Runs a load of so many jobs with so many initiators.
+fn load<X: Threads + Wait + Sync, R: Sink, K: Sink, G: Gate + Sync>(
+    rt: &X,
+    alloc: Global,
+    jobs: u32,
+    initiators: u32,
+    report: &mut R,
+    journal: &mut K,
+    gate: &G,
+) -> Status
+    requires jobs { AreJobs jobs }
+    requires initiators { AreInitiators initiators }
+    ensures ends { EndsLoad result }
+    ensures told { WroteOf (λ _. TellsLoad jobs initiators) (extent_of result) (Some [])
+        (R.taken report.old) (R.taken report.new) (K.taken journal.old) (K.taken journal.new) }
+    ensures report_failed { result ≡ Status.ReportFailed → Rose (R.faults report.old) (R.faults report.new) }
+    ensures journal_failed { result ≡ Status.JournalFailed → Rose (K.faults journal.old) (K.faults journal.new) }
+    ensures unwritten { IfUnwritten (extent_of result) ((report.new ≡ report.old) × (journal.new ≡ journal.old)) }
+    ensures no_journal { result ≡ Status.ReportFailed → journal.new ≡ journal.old }
+    ensures counts { (R.faults report.old ≤ R.faults report.new) × (K.faults journal.old ≤ K.faults journal.new) }
+{
+    match texts_of_load(rt, alloc, jobs, initiators, gate) {
+        Ok(texts) => write_texts(report, journal, &texts),
+        Err(NoMemory) => Status::NoMemory,
     }
 }
 
@@ -108,10 +139,12 @@ fn convert<D: Source, R: Sink>(alloc: Global, input: &mut D, report: &mut R) -> 
 /// Runs a command: reads the input, and writes the report, and after it the journal where the command has one. What is
 /// written is made in memory before. Last it tells on the notes how it ended, where it did not end well.
 ///
-/// The commands so far are `spool 1`, `replay` and `convert`. The words are those behind the program's name. `rt` and `gate` are for
-/// the tasks of later commands. Of the input no more than the command's limit and one byte is taken. Nothing is read and
-/// no memory is taken where the words are no command.
-pub fn run_program<X, D: Source, R: Sink, K: Sink, N: Sink, G: Gate + Sync>(
+/// The commands are `spool I` for I from 1 to 8, `load N I` for N from 1 to 2000, `replay` and `convert`. The words are those
+/// behind the program's name. Of the input no more than the command's limit and one byte is taken; `load` takes nothing of it.
+/// Nothing is read and no memory is taken where the words are no command. `spool` runs the deck of the input, and `load` a deck
+/// of N jobs, by I initiators beside a reader, a scheduler and a writer, each on a thread of its own, which have all ended before
+/// anything is written; they pass the gate at each point of each job. The other commands start no thread.
+pub fn run_program<X: Threads + Wait + Sync, D: Source, R: Sink, K: Sink, N: Sink, G: Gate + Sync>(
     rt: &X,
     alloc: Global,
     words: &[String],
@@ -135,6 +168,8 @@ pub fn run_program<X, D: Source, R: Sink, K: Sink, N: Sink, G: Gate + Sync>(
 
     // Streams that are not used are as they were, whether or not they tell their bytes.
     ensures unread { result ≡ Status.Words → input.new ≡ input.old }
+    ensures no_input { IfSome (command_by_words (map string_bytes words.now)) (λ command.
+        reads_input command ≡ false → input.new ≡ input.old) }
     ensures unwritten { IfUnwritten (extent_of result) ((report.new ≡ report.old) × (journal.new ≡ journal.old)) }
     ensures unbegun { result ≡ Status.ReportFailed → journal.new ≡ journal.old }
     ensures no_journal { IfSome (command_by_words (map string_bytes words.now)) (λ command.
@@ -156,7 +191,12 @@ pub fn run_program<X, D: Source, R: Sink, K: Sink, N: Sink, G: Gate + Sync>(
 {
     let status = match command_of(words) {
         None => Status::Words,
-        Some(Command::Spool(initiators)) => spool(alloc, initiators, input, report, journal),
+        Some(Command::Spool(initiators)) => {
+            spool(rt, alloc, initiators, input, report, journal, gate)
+        }
+        Some(Command::Load(jobs, initiators)) => {
+            load(rt, alloc, jobs, initiators, report, journal, gate)
+        }
         Some(Command::Replay) => replay(alloc, input, report),
         Some(Command::Convert) => convert(alloc, input, report),
     };

@@ -1,20 +1,28 @@
-//! The commands from words and bytes to reports, journals, notes and exits.
+//! Whole runs over memory: the rows of decks, journals and words, and what is left of each where a stream fails. Expected values are
+//! worked out by hand.
 
 use super::*;
 use mv_deck::DeckFault;
 use mv_entrytext::TextFault;
 use mv_io::{MemSink, MemSource, NoMemory, read_limited};
+use mv_task::MeetGate;
 use std::alloc::{AllocError, Global};
 use std::process::Abort;
+use std::sync::Wait;
 use std::test::Fail;
+use std::thread::Threads;
 
+// One job ends, one abends, and one is not run, since it waited for the second to end well.
 const PAYROLL: &[u8] =
-    b"//PAYROLL JOB\n// PRINT PAY RUN 7\n// PRINT DONE\n//BACKUP JOB\n// PRINT COPYING\n// ABEND U0012\n//\n";
+    b"//PAYROLL JOB\n// PRINT PAY RUN 7\n// PRINT DONE\n//BACKUP JOB\n// PRINT COPYING\n// ABEND U0012\n//VERIFY JOB AFTER=BACKUP\n// PRINT CHECKED\n//\n";
 
 const PAYROLL_REPORT: &[u8] =
-    b"JOB PAYROLL ENDED\n| PAY RUN 7\n| DONE\nJOB BACKUP ABENDED U0012\n| COPYING\nJOBS 2 ENDED 1 ABENDED 1 NOT RUN 0\nVOLUMES 0 0 0 0 0 0 0 0\n";
+    b"JOB PAYROLL ENDED\n| PAY RUN 7\n| DONE\nJOB BACKUP ABENDED U0012\n| COPYING\nJOB VERIFY NOT RUN\nJOBS 3 ENDED 1 ABENDED 1 NOT RUN 1\nVOLUMES 0 0 0 0 0 0 0 0\n";
 
-const PAYROLL_JOURNAL: &str = "\
+const NO_JOB: &[u8] = b"JOBS 0 ENDED 0 ABENDED 0 NOT RUN 0\nVOLUMES 0 0 0 0 0 0 0 0\n";
+
+// Two posts of one caller, each to a block of its own.
+const POSTS: &str = "\
 JOURNAL 2
 CALLERS 1
 ELEMENTS 1
@@ -45,13 +53,18 @@ fn streams_over(alloc: Global, input: &[u8]) -> Result<Streams, NoMemory> {
     Ok(Streams {
         input: MemSource::new(alloc, input, 1 << 20, &[])?,
         report: MemSink::new(alloc, 4096, &[])?,
-        journal: MemSink::new(alloc, 4096, &[])?,
+        journal: MemSink::new(alloc, 1 << 16, &[])?,
         notes: MemSink::new(alloc, 4096, &[])?,
     })
 }
 
 // Runs the command whose words stand in a text, parted by spaces.
-fn run<X: AllocGlobal>(rt: &X, text: &str, on: &mut Streams) -> Result<Status, AllocError> {
+fn run_by<X: AllocGlobal + Threads + Wait + Sync, G: Gate + Sync>(
+    rt: &X,
+    text: &str,
+    on: &mut Streams,
+    gate: &G,
+) -> Result<Status, AllocError> {
     let mut words = Vec::new(rt.alloc());
     for word in text.split_whitespace() {
         words.push(String::from_str(rt.alloc(), word)?)?;
@@ -64,8 +77,17 @@ fn run<X: AllocGlobal>(rt: &X, text: &str, on: &mut Streams) -> Result<Status, A
         &mut on.report,
         &mut on.journal,
         &mut on.notes,
-        &OpenGate,
+        gate,
     ))
+}
+
+// The same where no task is held.
+fn run<X: AllocGlobal + Threads + Wait + Sync>(
+    rt: &X,
+    text: &str,
+    on: &mut Streams,
+) -> Result<Status, AllocError> {
+    run_by(rt, text, on, &OpenGate)
 }
 
 // What the report, the journal and the notes hold.
@@ -75,42 +97,147 @@ fn assert_written(rt: &impl Abort, on: &Streams, report: &[u8], journal: &[u8], 
     assert_eq!(rt; on.notes.bytes(), notes);
 }
 
-#[test]
-fn two_jobs(rt: HostRuntime) -> Result<(), Fail> {
-    let mut on = streams_over(rt.alloc(), PAYROLL)?;
-    assert_eq!(rt; run(&rt, "spool 1", &mut on)?, Status::Done);
-    assert_written(&rt, &on, PAYROLL_REPORT, PAYROLL_JOURNAL.as_bytes(), b"");
+// Whether a text has this piece.
+fn has(text: &[u8], piece: &str) -> bool {
+    match std::str::from_utf8(text) {
+        Ok(text) => text.contains(piece),
+        Err(_) => false,
+    }
+}
+
+// The journal is a legal history, as `replay` judges it, and has this piece.
+fn assert_legal<X: Abort + AllocGlobal + Threads + Wait + Sync>(
+    rt: &X,
+    journal: &[u8],
+    piece: &str,
+) -> Result<(), Fail> {
+    assert!(rt; has(journal, piece), "{piece}");
+    let mut on = streams_over(rt.alloc(), journal)?;
+    assert_eq!(rt; run(rt, "replay", &mut on)?, Status::Done);
+    assert!(rt; on.report.bytes().starts_with(b"LEGAL "));
     Ok(())
 }
 
+// Jobs that wait for one another, that print, count and scan, abend and end with return codes; and no job at all.
+#[test]
+fn decks(rt: HostRuntime) -> Result<(), Fail> {
+    let table = [
+        ("spool 2", PAYROLL, PAYROLL_REPORT, "= PURGED 0 0\n"),
+        ("spool 8", b"//\n".as_slice(), NO_JOB, "CALLERS 11\n"),
+        (
+            "spool 1",
+            b"//ADD JOB\n// USE 0 X\n// COUNT 0 5\n// ABEND S0C4\n//NEXT JOB\n// USE 0 X\n// COUNT 0 7\n// FREE 0\n//\n".as_slice(),
+            b"JOB ADD ABENDED S0C4\nJOB NEXT ENDED\nJOBS 2 ENDED 1 ABENDED 1 NOT RUN 0\nVOLUMES 12 0 0 0 0 0 0 0\n".as_slice(),
+            "= PURGED 1 0\n",
+        ),
+        (
+            "spool 2",
+            b"//A JOB\n// USE 1 X\n// COUNT 1 9999\n// SCAN 1\n// FREE 1\n//B JOB\n// USE 1 S\n// SCAN 1\n//\n".as_slice(),
+            b"JOB A ENDED\n| SCAN 1 STEADY\nJOB B ENDED\n| SCAN 1 STEADY\nJOBS 2 ENDED 2 ABENDED 0 NOT RUN 0\nVOLUMES 0 9999 0 0 0 0 0 0\n".as_slice(),
+            " WRITE 9999 = STORED\n",
+        ),
+        (
+            "spool 1",
+            b"// DECK 2\n//LOAD JOB\n// PRINT ROWS 9\n// RETURN 4\n//REPORT JOB AFTER=LOAD:4\n// PRINT OK\n//CLEAN JOB AFTER=LOAD,REPORT:8\n// PRINT CLEANED\n//\n".as_slice(),
+            b"JOB LOAD ENDED RC 4\n| ROWS 9\nJOB REPORT ENDED\n| OK\nJOB CLEAN NOT RUN\nJOBS 3 ENDED 2 ABENDED 0 NOT RUN 1\nVOLUMES 0 0 0 0 0 0 0 0\n".as_slice(),
+            " POST 33554432 = ",
+        ),
+    ];
+    for (words, deck, report, piece) in table {
+        let mut on = streams_over(rt.alloc(), deck)?;
+        assert_eq!(rt; run(&rt, words, &mut on)?, Status::Done, "{words}");
+        assert_eq!(rt; on.report.bytes(), report);
+        assert_eq!(rt; on.notes.bytes(), b"".as_slice());
+        assert_legal(&rt, on.journal.bytes(), piece)?;
+    }
+    Ok(())
+}
+
+// Four events of the scheduler and four of the initiator, or five where its pause parked.
 #[test]
 fn no_job(rt: HostRuntime) -> Result<(), Fail> {
     let mut on = streams_over(rt.alloc(), b"//\n")?;
     assert_eq!(rt; run(&rt, "spool 1", &mut on)?, Status::Done);
-    let report = b"JOBS 0 ENDED 0 ABENDED 0 NOT RUN 0\nVOLUMES 0 0 0 0 0 0 0 0\n";
-    let journal =
-        b"JOURNAL 2\nCALLERS 1\nELEMENTS 1\nVOLUMES 8\nLATCHES 8\nQUOTA 8 0\nBUDGET 0\nEVENTS\nEND 0\n";
-    assert_written(&rt, &on, report, journal, b"");
+    assert_eq!(rt; on.report.bytes(), NO_JOB);
+    let journal = on.journal.bytes();
+    assert!(rt; has(journal, "\nEND 8\n") || has(journal, "\nEND 9\n"));
     Ok(())
 }
 
-// The reports on decks whose jobs wait for one another, end with return codes, and count.
+// Two jobs of one step each are begun side by side; and of two that count on one volume the one that is held last writes last.
 #[test]
-fn decks_of_both_versions(rt: HostRuntime) -> Result<(), Fail> {
+fn jobs_meet(rt: HostRuntime) -> Result<(), Fail> {
+    let prints = b"//A JOB\n// PRINT A\n//B JOB\n// PRINT B\n//\n".as_slice();
+    let counts =
+        b"//A JOB\n// USE 0 X\n// COUNT 0 5\n// FREE 0\n//B JOB\n// USE 0 X\n// COUNT 0 7\n// FREE 0\n//\n".as_slice();
     let table = [
+        (prints, Point::Started(0), Point::Started(1), "| A\n", ""),
         (
-            b"// DECK 2\n//LOAD JOB\n// PRINT ROWS 9\n// RETURN 4\n//REPORT JOB AFTER=LOAD:4\n// PRINT OK\n//CLEAN JOB AFTER=LOAD,REPORT:8\n// PRINT CLEANED\n//\n".as_slice(),
-            b"JOB LOAD ENDED RC 4\n| ROWS 9\nJOB REPORT ENDED\n| OK\nJOB CLEAN NOT RUN\nJOBS 3 ENDED 2 ABENDED 0 NOT RUN 1\nVOLUMES 0 0 0 0 0 0 0 0\n".as_slice(),
+            counts,
+            Point::Started(0),
+            Point::Ended(1),
+            "VOLUMES 12 ",
+            " V0 1 WRITE 7 = STORED\n",
         ),
         (
-            b"//ADD JOB\n// USE 0 X\n// COUNT 0 5\n// ABEND S0C4\n//NEXT JOB\n// USE 0 X\n// COUNT 0 7\n// FREE 0\n//\n".as_slice(),
-            b"JOB ADD ABENDED S0C4\nJOB NEXT ENDED\nJOBS 2 ENDED 1 ABENDED 1 NOT RUN 0\nVOLUMES 12 0 0 0 0 0 0 0\n".as_slice(),
+            counts,
+            Point::Started(1),
+            Point::Ended(0),
+            "VOLUMES 12 ",
+            " V0 1 WRITE 5 = STORED\n",
         ),
     ];
-    for (deck, report) in table {
+    for (deck, first, second, line, write) in table {
         let mut on = streams_over(rt.alloc(), deck)?;
-        assert_eq!(rt; run(&rt, "spool 1", &mut on)?, Status::Done);
+        let gate = MeetGate::new(first, second, 1_000_000);
+        assert_eq!(rt; run_by(&rt, "spool 2", &mut on, &gate)?, Status::Done);
+        assert!(rt; gate.met());
+        assert!(rt; has(on.report.bytes(), line));
+        assert_legal(&rt, on.journal.bytes(), write)?;
+        if !write.is_empty() {
+            for piece in [
+                " V0 0 READ = ",
+                " V0 2 READ = ",
+                " V0 3 WRITE 12 = STORED\n",
+            ] {
+                assert!(rt; has(on.journal.bytes(), piece), "{piece}");
+            }
+        }
+    }
+    Ok(())
+}
+
+// Loads; nothing of the input is read.
+#[test]
+fn loads(rt: HostRuntime) -> Result<(), Fail> {
+    let table = [
+        (
+            "load 1 1",
+            b"LOAD 1 1\nJOBS 1 ENDED 1 ABENDED 0 NOT RUN 0\nVOLUMES 1 0 0 0 0 0 0 0\n".as_slice(),
+        ),
+        (
+            "load 7 2",
+            b"LOAD 7 2\nJOBS 7 ENDED 6 ABENDED 1 NOT RUN 0\nVOLUMES 1 2 3 4 5 6 7 0\n".as_slice(),
+        ),
+        (
+            "load 40 3",
+            b"LOAD 40 3\nJOBS 40 ENDED 34 ABENDED 5 NOT RUN 1\nVOLUMES 31 27 23 19 15 20 25 24\n".as_slice(),
+        ),
+        (
+            "load 2000 8",
+            b"LOAD 2000 8\nJOBS 2000 ENDED 1658 ABENDED 285 NOT RUN 57\nVOLUMES 1213 1223 1213 1214 1215 1205 1215 1210\n".as_slice(),
+        ),
+    ];
+    for (words, report) in table {
+        let mut on = streams_over(rt.alloc(), PAYROLL)?;
+        on.journal = MemSink::new(rt.alloc(), 1 << 24, &[])?;
+        assert_eq!(rt; run(&rt, words, &mut on)?, Status::Done, "{words}");
         assert_eq!(rt; on.report.bytes(), report);
+        assert_eq!(rt; on.notes.bytes(), b"".as_slice());
+        let unread = read_limited(rt.alloc(), &mut on.input, 1000)?;
+        assert_eq!(rt; unread.as_slice(), PAYROLL);
+        let mut on_journal = streams_over(rt.alloc(), on.journal.bytes())?;
+        assert_eq!(rt; run(&rt, "replay", &mut on_journal)?, Status::Done);
     }
     Ok(())
 }
@@ -121,7 +248,7 @@ fn words_that_are_no_command(rt: HostRuntime) -> Result<(), Fail> {
         "",
         "spool",
         "spool 1 1",
-        "spool 2",
+        "spool 0",
         "spool 9",
         "spool 01",
         "SPOOL 1",
@@ -130,7 +257,14 @@ fn words_that_are_no_command(rt: HostRuntime) -> Result<(), Fail> {
         "convert x",
         "CONVERT",
         "script",
+        "load",
+        "load 1",
         "load 0 1",
+        "load 2001 1",
+        "load 01 1",
+        "load 1 9",
+        "load 1 0",
+        "load 1 1 1",
     ];
     for words in table {
         let mut on = streams_over(rt.alloc(), PAYROLL)?;
@@ -162,29 +296,18 @@ fn decks_with_a_fault(rt: HostRuntime) -> Result<(), Fail> {
     Ok(())
 }
 
-// What a run writes to its journal is fed back.
+// A journal in version 1 is converted to one in version 2, and that is its own conversion.
 #[test]
-fn the_journal_of_two_jobs_is_replayed(rt: HostRuntime) -> Result<(), Fail> {
-    let mut run_of_jobs = streams_over(rt.alloc(), PAYROLL)?;
-    assert_eq!(rt; run(&rt, "spool 1", &mut run_of_jobs)?, Status::Done);
-    let mut on = streams_over(rt.alloc(), run_of_jobs.journal.bytes())?;
-    assert_eq!(rt; run(&rt, "replay", &mut on)?, Status::Done);
-    assert_written(&rt, &on, b"LEGAL 2 EVENTS\n", b"", b"");
-    Ok(())
-}
-
-// The journal in version 1 is converted to what a run writes, and that is its own conversion.
-#[test]
-fn the_journal_of_two_jobs_is_converted(rt: HostRuntime) -> Result<(), Fail> {
+fn journals_are_converted(rt: HostRuntime) -> Result<(), Fail> {
     let alloc = rt.alloc();
-    let old = PAYROLL_JOURNAL
+    let old = POSTS
         .replace(alloc, "JOURNAL 2", "JOURNAL 1")?
         .replace(alloc, "0.0 E0", "0 E0")?
         .replace(alloc, "0.1 E1", "0 E1")?;
-    for journal in [old.as_str(), PAYROLL_JOURNAL] {
+    for journal in [old.as_str(), POSTS] {
         let mut on = streams_over(alloc, journal.as_bytes())?;
         assert_eq!(rt; run(&rt, "convert", &mut on)?, Status::Done);
-        assert_written(&rt, &on, PAYROLL_JOURNAL.as_bytes(), b"", b"");
+        assert_written(&rt, &on, POSTS.as_bytes(), b"", b"");
     }
     Ok(())
 }
@@ -195,19 +318,19 @@ fn journals_that_are_refused(rt: HostRuntime) -> Result<(), Fail> {
     let alloc = rt.alloc();
     let table = [
         (
-            PAYROLL_JOURNAL.replace(alloc, "16777228 = POSTED", "16777228 = WOKE 0")?,
+            POSTS.replace(alloc, "16777228 = POSTED", "16777228 = WOKE 0")?,
             Status::Illegal(12),
             10,
             b"ILLEGAL AT LINE 12\n".as_slice(),
         ),
         (
-            PAYROLL_JOURNAL.replace(alloc, "0.1 E1", "0.0 E1")?,
+            POSTS.replace(alloc, "0.1 E1", "0.0 E1")?,
             Status::Illegal(12),
             10,
             b"ILLEGAL AT LINE 12\n".as_slice(),
         ),
         (
-            PAYROLL_JOURNAL.replace(alloc, "END 2", "END 02")?,
+            POSTS.replace(alloc, "END 2", "END 02")?,
             Status::Text(TextFault { line: 13, kind: 2 }),
             11,
             b"JOURNAL LINE 13 KIND 2\n".as_slice(),
@@ -230,7 +353,7 @@ fn journals_that_are_refused(rt: HostRuntime) -> Result<(), Fail> {
 fn a_report_sink_that_fails(rt: HostRuntime) -> Result<(), Fail> {
     let mut on = streams_over(rt.alloc(), PAYROLL)?;
     on.report = MemSink::new(rt.alloc(), 4096, &[0])?;
-    assert_eq!(rt; run(&rt, "spool 1", &mut on)?, Status::ReportFailed);
+    assert_eq!(rt; run(&rt, "spool 2", &mut on)?, Status::ReportFailed);
     assert_written(&rt, &on, b"", b"", b"REPORT FAILED\n");
     Ok(())
 }
@@ -239,7 +362,7 @@ fn a_report_sink_that_fails(rt: HostRuntime) -> Result<(), Fail> {
 fn a_journal_sink_that_is_full(rt: HostRuntime) -> Result<(), Fail> {
     let mut on = streams_over(rt.alloc(), PAYROLL)?;
     on.journal = MemSink::new(rt.alloc(), 10, &[])?;
-    assert_eq!(rt; run(&rt, "spool 1", &mut on)?, Status::JournalFailed);
+    assert_eq!(rt; run(&rt, "spool 2", &mut on)?, Status::JournalFailed);
     assert_written(
         &rt,
         &on,
@@ -254,7 +377,7 @@ fn a_journal_sink_that_is_full(rt: HostRuntime) -> Result<(), Fail> {
 fn a_source_that_fails(rt: HostRuntime) -> Result<(), Fail> {
     let mut on = streams_over(rt.alloc(), PAYROLL)?;
     on.input = MemSource::new(rt.alloc(), PAYROLL, 1, &[3])?;
-    assert_eq!(rt; run(&rt, "spool 1", &mut on)?, Status::ReadFailed);
+    assert_eq!(rt; run(&rt, "spool 2", &mut on)?, Status::ReadFailed);
     assert_written(&rt, &on, b"", b"", b"READ FAILED\n");
     Ok(())
 }

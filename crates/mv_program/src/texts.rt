@@ -1,21 +1,24 @@
-//! Both texts of a run, made in memory.
+//! Both texts of a run, made in memory. Clauses cite specs/Run and the report's `Outcome.antt`.
 
-ghost use Rattle.std.specs.Prelude.{◌≡◌, ℕ, ◌≤◌, All, length, None, IfOk, IfErr, OnOk};
-ghost use Rattle.mv_deck.specs.Deck.{deck_data};
+ghost use Rattle.std.specs.Prelude.{◌≡◌, ◌≤◌, length, None, IfOk, IfErr};
+ghost use Rattle.mv_deck.specs.Deck.{deck_data, deck_of};
 ghost use Rattle.mv_deck.specs.Fault.{first_fault, TellsFirst};
+ghost use Rattle.mv_deck.specs.Load.{load_text};
 ghost use Rattle.mv_deck.specs.Sound.{IsSound};
-ghost use Rattle.mv_entrytext.specs.EntryText.{IsTyped};
-ghost use Rattle.mv_entrytext.specs.Journal.{journal_text};
-ghost use Rattle.mv_report.specs.Outcome.{ends, report};
-ghost use Rattle.mv_program.specs.Machine.{plain_setup, posts};
-ghost use Rattle.mv_program.specs.Run.{report_of, journal_of_run, IsRun, deck_limit};
+ghost use Rattle.mv_report.specs.Outcome.{report};
+ghost use Rattle.mv_report.specs.Summary.{load_summary};
+ghost use Rattle.mv_program.specs.Command.{AreInitiators, AreJobs, most_initiators};
+ghost use Rattle.mv_program.specs.Run.{report_of, IsJournalOfRun, deck_limit};
 
-use crate::history::{config_of, posts_of};
-use mv_deck::{Deck, DeckRefusal, read_deck};
+use mv_deck::{Deck, DeckRefusal, load_deck, read_deck};
 use mv_entrytext::write_journal;
 use mv_io::NoMemory;
-use mv_report::{outcome_of, write_report};
+use mv_report::{write_report, write_summary};
+use mv_spool::run_deck;
+use mv_task::Gate;
 use std::alloc::Global;
+use std::sync::Wait;
+use std::thread::Threads;
 
 /// What a run writes.
 #[derive(Drop)]
@@ -24,35 +27,79 @@ pub(crate) struct Texts {
     pub journal: Vec<u8>,
 }
 
-// The texts of the run of a deck that the input states.
-fn texts_of_deck(alloc: Global, deck: &Deck) -> Result<Texts, NoMemory>
-    requires sound { (n : ℕ) × (1 ≤ n) × IsSound (deck_data deck.now) n }
+// The texts of a run of this deck.
+fn texts_of_deck<X: Threads + Wait + Sync, G: Gate + Sync>(
+    rt: &X,
+    alloc: Global,
+    deck: &Deck,
+    initiators: u32,
+    gate: &G,
+) -> Result<Texts, NoMemory>
+    requires some { 1 ≤ initiators }
+    requires few { initiators ≤ most_initiators }
+    requires sound { IsSound (deck_data deck.now) initiators }
     ensures report { IfOk result (λ texts. texts.report.items ≡ report (deck_data deck.now)) }
-    ensures journal { IfOk result (λ texts. texts.journal.items
-        ≡ journal_text (plain_setup (length (ends (deck_data deck.now)))) (posts (ends (deck_data deck.now)))) }
-    ensures typed { OnOk result (All IsTyped (posts (ends (deck_data deck.now)))) }
+    ensures journal { IfOk result (λ texts. IsJournalOfRun (deck_data deck.now) initiators texts.journal.items) }
 {
-    let outcome = outcome_of(alloc, deck)?;
-    let report = write_report(alloc, deck, &outcome.ends, &outcome.lines, &outcome.volumes)?;
-    let config = config_of(alloc, outcome.ends.len() as u32)?;
-    let events = posts_of(alloc, &outcome.ends)?;
-    let journal = write_journal(alloc, &config, &events)?;
+    let run = run_deck(rt, alloc, deck, initiators, gate)?;
+    let report = write_report(alloc, deck, &run.ends, &run.lines, &run.volumes)?;
+    let journal = write_journal(alloc, &run.config, &run.journal)?;
     Ok(Texts { report, journal })
 }
 
-/// The texts of the run of a deck with so many initiators.
-pub(crate) fn texts_of(alloc: Global, input: &[u8], initiators: u32) -> Result<Texts, DeckRefusal>
+/// The texts of a run of the deck that the input states, by so many initiators.
+pub(crate) fn texts_of<X: Threads + Wait + Sync, G: Gate + Sync>(
+    rt: &X,
+    alloc: Global,
+    input: &[u8],
+    initiators: u32,
+    gate: &G,
+) -> Result<Texts, DeckRefusal>
     requires short { length input.now ≤ deck_limit }
-    requires initiators { (1 ≤ initiators) × (initiators ≤ 8) }
+    requires initiators { (1 ≤ initiators) × (initiators ≤ most_initiators) }
     ensures sound { IfOk result (λ _. first_fault input.now initiators ≡ None) }
     ensures report { IfOk result (λ texts. texts.report.items ≡ report_of input.now) }
-    ensures journal { IfOk result (λ texts. texts.journal.items ≡ journal_of_run input.now) }
-    ensures run { OnOk result (IsRun input.now) }
+    ensures run { IfOk result (λ texts. IsJournalOfRun (deck_of input.now) initiators texts.journal.items) }
     ensures fault { IfErr result (λ refusal. TellsFirst refusal (first_fault input.now initiators)) }
 {
     let deck = read_deck(alloc, input, initiators)?;
-    match texts_of_deck(alloc, &deck) {
+    match texts_of_deck(rt, alloc, &deck, initiators, gate) {
         Ok(texts) => Ok(texts),
         Err(NoMemory) => Err(DeckRefusal::NoMemory),
     }
+}
+
+// The deck of a load.
+fn deck_of_load(alloc: Global, jobs: u32, initiators: u32) -> Result<Deck, NoMemory>
+    requires jobs { AreJobs jobs }
+    requires initiators { AreInitiators initiators }
+    ensures deck { IfOk result (λ deck. deck_data deck ≡ deck_of (load_text jobs)) }
+{
+    let text = load_deck(alloc, jobs)?;
+    match read_deck(alloc, &text, initiators) {
+        Ok(deck) => Ok(deck),
+        Err(DeckRefusal::NoMemory) => Err(NoMemory),
+        // A load has no fault.
+        Err(DeckRefusal::Fault(_)) => unreachable!(),
+    }
+}
+
+/// The summary of a load of so many jobs, and the journal of its run by so many initiators.
+pub(crate) fn texts_of_load<X: Threads + Wait + Sync, G: Gate + Sync>(
+    rt: &X,
+    alloc: Global,
+    jobs: u32,
+    initiators: u32,
+    gate: &G,
+) -> Result<Texts, NoMemory>
+    requires jobs { AreJobs jobs }
+    requires initiators { AreInitiators initiators }
+    ensures report { IfOk result (λ texts. texts.report.items ≡ load_summary jobs initiators) }
+    ensures run { IfOk result (λ texts. IsJournalOfRun (deck_of (load_text jobs)) initiators texts.journal.items) }
+{
+    let deck = deck_of_load(alloc, jobs, initiators)?;
+    let run = run_deck(rt, alloc, &deck, initiators, gate)?;
+    let report = write_summary(alloc, jobs, initiators, &run.ends, &run.volumes)?;
+    let journal = write_journal(alloc, &run.config, &run.journal)?;
+    Ok(Texts { report, journal })
 }

@@ -2,11 +2,11 @@
 use Rattle.std.proofs.Common.{Some, None, sym, ap, ◌∙◌}
 use Rattle.mv_io.specs.Fault.{Rose}
 use Rattle.mv_replay.specs.Outcome.{IsReplayReport, IsConversion}
-use Rattle.mv_program.specs.declared.command.Command.TheVariants.{Spool, Replay, Convert}
-use Rattle.mv_program.proofs.Owed.{owed_for}
+use Rattle.mv_program.specs.declared.command.Command.TheVariants.{Spool, Load, Replay, Convert}
+use Rattle.mv_program.proofs.Owed.{owed_for, load_never_reads}
 use Rattle.mv_program.proofs.Told.{told_for, report_is_told}
 use Rattle.mv_program.proofs.program.run_program.Goals as goal
-use Rattle.mv_program.proofs.program.run_program.Goals.{in-None, in-Some-Spool, in-Some-Replay, in-Some-Convert}
+use Rattle.mv_program.proofs.program.run_program.Goals.{in-None, in-Some-Spool, in-Some-Load, in-Some-Replay, in-Some-Convert}
 
 pub returns-clause-told : goal.returns-clause-told
 returns-clause-told g c =
@@ -19,19 +19,23 @@ returns-clause-told g c =
     elim made.branch [
       | in-None w ↦
           told_for _ None made.status old report0 report1 journal0 journal1
-          (sym c.command_of.ensures ∙ w.in-None.is) (ap g.R.Sink.taken w.report-is, ap g.K.Sink.taken w.journal-is)
+          (sym c.command_of.ensures.command ∙ w.in-None.is) (ap g.R.Sink.taken w.report-is, ap g.K.Sink.taken w.journal-is)
       | in-Some-Spool w ↦
           told_for _ (Some (Spool w.in-Some-Spool.initiators)) made.status old report0 report1 journal0 journal1
-          (sym c.command_of.ensures ∙ w.in-Some-Spool.is ∙ ap Some w.in-Some-Spool.field-0-is)
+          (sym c.command_of.ensures.command ∙ w.in-Some-Spool.is ∙ ap Some w.in-Some-Spool.field-0-is)
           (rw (sym w.status-is) at (rw (sym w.report-is) at (rw (sym w.journal-is) at w.spool-status.ensures.told)))
+      | in-Some-Load w ↦
+          told_for _ (Some (Load w.in-Some-Load.jobs w.in-Some-Load.initiators)) made.status old report0 report1 journal0 journal1
+          (sym c.command_of.ensures.command ∙ w.in-Some-Load.is ∙ ap Some w.in-Some-Load.field-0-is)
+          (rw (sym w.status-is) at (rw (sym w.report-is) at (rw (sym w.journal-is) at w.load-status.ensures.told)))
       | in-Some-Replay w ↦
           told_for _ (Some Replay) made.status old report0 report1 journal0 journal1
-          (sym c.command_of.ensures ∙ w.in-Some-Replay.is ∙ ap Some w.in-Some-Replay.field-0-is)
+          (sym c.command_of.ensures.command ∙ w.in-Some-Replay.is ∙ ap Some w.in-Some-Replay.field-0-is)
           (report_is_told IsReplayReport made.status old report0 report1 journal0 journal1
           (rw (sym w.status-is) at (rw (sym w.report-is) at w.replay-status.ensures.report)) (ap g.K.Sink.taken w.journal-is))
       | in-Some-Convert w ↦
           told_for _ (Some Convert) made.status old report0 report1 journal0 journal1
-          (sym c.command_of.ensures ∙ w.in-Some-Convert.is ∙ ap Some w.in-Some-Convert.field-0-is)
+          (sym c.command_of.ensures.command ∙ w.in-Some-Convert.is ∙ ap Some w.in-Some-Convert.field-0-is)
           (report_is_told IsConversion made.status old report0 report1 journal0 journal1
           (rw (sym w.status-is) at (rw (sym w.report-is) at w.convert-status.ensures.report)) (ap g.K.Sink.taken w.journal-is))
     ]
@@ -47,20 +51,28 @@ returns-clause-owed g c =
     elim made.branch [
       | in-None w ↦
           owed_for _ None made.status old new read report journal
-          (sym c.command_of.ensures ∙ w.in-None.is) (ap g.D.Source.left w.input-is)
+          (sym c.command_of.ensures.command ∙ w.in-None.is) (ap g.D.Source.left w.input-is)
           (λ e. absurd cc) (λ e. absurd cc) (λ e. absurd cc)
       | in-Some-Spool w ↦
           let run = w.spool-status in
           owed_for _ (Some (Spool w.in-Some-Spool.initiators)) made.status old new read report journal
-          (sym c.command_of.ensures ∙ w.in-Some-Spool.is ∙ ap Some w.in-Some-Spool.field-0-is)
+          (sym c.command_of.ensures.command ∙ w.in-Some-Spool.is ∙ ap Some w.in-Some-Spool.field-0-is)
           (rw (sym w.status-is) at (rw (sym w.input-is) at run.ensures.input))
           (rw (sym w.status-is) at (rw (sym w.input-is) at run.ensures.read_failed))
+          (rw (sym w.status-is) at (rw (sym w.report-is) at run.ensures.report_failed))
+          (rw (sym w.status-is) at (rw (sym w.journal-is) at run.ensures.journal_failed))
+      | in-Some-Load w ↦
+          let run = w.load-status in
+          owed_for _ (Some (Load w.in-Some-Load.jobs w.in-Some-Load.initiators)) made.status old new read report journal
+          (sym c.command_of.ensures.command ∙ w.in-Some-Load.is ∙ ap Some w.in-Some-Load.field-0-is)
+          (rw (sym w.status-is) at run.ensures.ends, ap g.D.Source.left w.input-is)
+          (λ e. absurd (load_never_reads made.status (rw (sym w.status-is) at run.ensures.ends) e))
           (rw (sym w.status-is) at (rw (sym w.report-is) at run.ensures.report_failed))
           (rw (sym w.status-is) at (rw (sym w.journal-is) at run.ensures.journal_failed))
       | in-Some-Replay w ↦
           let run = w.replay-status in
           owed_for _ (Some Replay) made.status old new read report journal
-          (sym c.command_of.ensures ∙ w.in-Some-Replay.is ∙ ap Some w.in-Some-Replay.field-0-is)
+          (sym c.command_of.ensures.command ∙ w.in-Some-Replay.is ∙ ap Some w.in-Some-Replay.field-0-is)
           (rw (sym w.status-is) at (rw (sym w.input-is) at run.ensures.input))
           (rw (sym w.status-is) at (rw (sym w.input-is) at run.ensures.read_failed))
           (rw (sym w.status-is) at (rw (sym w.report-is) at run.ensures.report_failed))
@@ -68,7 +80,7 @@ returns-clause-owed g c =
       | in-Some-Convert w ↦
           let run = w.convert-status in
           owed_for _ (Some Convert) made.status old new read report journal
-          (sym c.command_of.ensures ∙ w.in-Some-Convert.is ∙ ap Some w.in-Some-Convert.field-0-is)
+          (sym c.command_of.ensures.command ∙ w.in-Some-Convert.is ∙ ap Some w.in-Some-Convert.field-0-is)
           (rw (sym w.status-is) at (rw (sym w.input-is) at run.ensures.input))
           (rw (sym w.status-is) at (rw (sym w.input-is) at run.ensures.read_failed))
           (rw (sym w.status-is) at (rw (sym w.report-is) at run.ensures.report_failed))

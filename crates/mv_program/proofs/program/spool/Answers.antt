@@ -11,4 +11,4 @@ returns-in-Ok-texts_of-clause-told g c =
     (g.R.Sink.taken c.args.report.now) (g.R.Sink.taken c.write_texts.new.report)
     (g.K.Sink.taken c.args.journal.now) (g.K.Sink.taken c.write_texts.new.journal)
     c.deref.result.now made.texts.report.items made.texts.journal.items
-    read (record { reported = made.ensures.report; kept = made.ensures.journal; run = made.ensures.run }) c.write_texts.ensures.written
+    read (record { reported = made.ensures.report; run = made.ensures.run }) c.write_texts.ensures.written

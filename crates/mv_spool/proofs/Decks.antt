@@ -1,0 +1,111 @@
+-- Decks that are sound, job by job, and their configuration.
+use Rattle.std.proofs.Common.{◌≡◌, ℕ, zero, suc, ◌+◌, ◌-◌, ◌*◌, ◌<◌, ◌≤◌, List, [], ◌∷◌, ◌++◌, length, get_or, sym, ap, ◌∙◌}
+use Rattle.std.proofs.Common.{subst, arith}
+use Rattle.std.specs.List.{AllByRecursion}
+use Rattle.std.proofs.lemmas.List.{length-append, length-map, get_or-map}
+use Rattle.mv_deck.specs.declared.deck.After.{After}
+use Rattle.mv_deck.specs.declared.deck.Job.{Job}
+use Rattle.mv_deck.specs.declared.deck.Step.{Step}
+use Rattle.mv_deck.specs.Deck.{JobData, job_data}
+use Rattle.mv_deck.specs.Sound.{IsSound, IsSoundJob, IsSoundAfter, AreSoundJobs, AreSoundSteps, HasGoodNumbers}
+use Rattle.mv_machine.specs.Reach.{reach, release_cost}
+use Rattle.mv_machine.specs.Setup.{Setup, element_owner}
+use Rattle.mv_plan.specs.Jobs.{job_at, no_job}
+use Rattle.mv_plan.specs.SpoolSetup.{spool_setup, entered, idle}
+use Rattle.mv_plan.proofs.deck.Setup.{facts}
+use Rattle.mv_spool.specs.Parts.{jobs_of}
+use Rattle.mv_spool.proofs.Reaches.{block_count, reach_alone, reach_done, release_cost_is}
+
+-- ---- jobs
+
+pub job_count : (deck : List Job) → length (jobs_of deck) ≡ length deck
+job_count deck = length-map deck job_data
+
+-- codes can name them
+pub few_jobs : (deck : List Job) (i : ℕ) → IsSound (jobs_of deck) i → length deck ≤ 65535
+few_jobs deck i sound = let light = sound.light in let n = job_count deck in omega arith
+
+-- the job of a number
+pub job_read : (deck : List Job) (j : ℕ) (job : Job) → j < length deck → get_or deck j job ≡ job → job_at (jobs_of deck) j ≡ job_data job
+job_read deck j job lt is = get_or-map job_data deck j job no_job lt ∙ ap job_data is
+
+-- each job is sound behind as many as its number
+sound_behind : (before jobs : List JobData) (j : ℕ) (d : JobData) → AreSoundJobs before jobs → j < length jobs
+    → (earlier : List JobData) × (length earlier ≡ length before + j) × IsSoundJob earlier (get_or jobs j d)
+sound_behind before [] j d sound lt = absurd (omega arith)
+sound_behind before (job ∷ jobs) zero d sound lt = (before, omega arith, sound.0)
+sound_behind before (job ∷ jobs) (suc j) d sound lt =
+    let rest = sound_behind (before ++ job ∷ []) jobs j d sound.1 (omega arith) in
+    let count = rest.1 in
+    let one = length-append before (job ∷ []) in (rest.0, omega arith, rest.2)
+
+sound_job : (deck : List Job) (i j : ℕ) (job : Job) → IsSound (jobs_of deck) i → j < length deck → get_or deck j job ≡ job
+    → (earlier : List JobData) × (length earlier ≡ j) × IsSoundJob earlier (job_data job)
+sound_job deck i j job sound lt is =
+    let n = job_count deck in
+    let at = sound_behind [] (jobs_of deck) j no_job sound.jobs_stand (omega arith) in
+    let count : length at.0 ≡ 0 + j = at.1 in
+    (at.0, omega arith, subst (λ (k : JobData). IsSoundJob at.0 k) (job_read deck j job lt is) at.2)
+
+good_numbers : (done steps : List Step) → AreSoundSteps done steps → AllByRecursion HasGoodNumbers steps
+good_numbers done [] sound = tt
+good_numbers done (step ∷ steps) sound = (sound.0.numbers, good_numbers (done ++ step ∷ []) steps sound.1)
+
+-- the numbers of its steps are in their ranges
+pub job_numbers : (deck : List Job) (i j : ℕ) (job : Job) → IsSound (jobs_of deck) i → j < length deck → get_or deck j job ≡ job
+    → AllByRecursion HasGoodNumbers job.steps.items
+job_numbers deck i j job sound lt is = let own = sound_job deck i j job sound lt is in good_numbers [] job.steps.items own.2.steps
+
+-- it waits for at most eight jobs
+pub after_few : (deck : List Job) (i j : ℕ) (job : Job) → IsSound (jobs_of deck) i → j < length deck → get_or deck j job ≡ job
+    → length job.after.items ≤ 8
+after_few deck i j job sound lt is = let own = sound_job deck i j job sound lt is in own.2.few
+
+each_earlier : (m n : ℕ) (parts : List After) → m ≤ n → AllByRecursion (IsSoundAfter m) parts
+    → AllByRecursion (λ (part : After). part.job < n) parts
+each_earlier m n [] le all = tt
+each_earlier m n (part ∷ parts) le all = (let lt = all.0.0 in omega arith, each_earlier m n parts le all.1)
+
+-- of the deck
+pub after_earlier : (deck : List Job) (i j : ℕ) (job : Job) → IsSound (jobs_of deck) i → j < length deck → get_or deck j job ≡ job
+    → AllByRecursion (λ (part : After). part.job < length deck) job.after.items
+after_earlier deck i j job sound lt is =
+    let own = sound_job deck i j job sound lt is in
+    let count = own.1 in each_earlier (length own.0) (length deck) job.after.items (omega arith) own.2.earlier
+
+-- ---- the configuration
+
+module _ (deck : List Job) (i : ℕ) (c : Setup) (is : c ≡ spool_setup (jobs_of deck) i) where
+  pub block_exists : (e : ℕ) → e < 4 * length deck + i → e < length c.owners
+  block_exists e lt =
+      let count : length c.owners ≡ 4 * length (jobs_of deck) + i = ap (λ (s : Setup). length s.owners) is
+      ∙ block_count (length (jobs_of deck)) i in
+      let n = job_count deck in omega arith
+
+  -- a post that enters a job leads no further
+  pub reach_entered : (j : ℕ) → j < length deck → reach c (entered j) ≡ 1
+  reach_entered j lt =
+      let n = job_count deck in ap (λ s. reach s j) is ∙ reach_alone (jobs_of deck) i j (omega arith) (λ m low q. omega arith)
+
+  -- nor does one of an idle initiator
+  pub reach_idle : (e : ℕ) → 4 * length deck ≤ e → 0 < i → reach c e ≡ 1
+  reach_idle e le some =
+      let n = job_count deck in ap (λ s. reach s e) is ∙ reach_alone (jobs_of deck) i e (omega arith) (λ m low q. omega arith)
+
+  -- the end of a job makes four events at most
+  pub end_cost : (j : ℕ) → j < length deck → release_cost c + reach c (length deck + j) ≡ 4
+  end_cost j lt =
+      let n = job_count deck in
+      let purge : release_cost c ≡ 1 = ap release_cost is ∙ release_cost_is (jobs_of deck) i in
+      let post : reach c (length deck + j) ≡ 3 = ap (λ m. reach c (m + j)) (sym n) ∙ ap (λ s. reach s (length (jobs_of deck) + j)) is
+      ∙ reach_done (jobs_of deck) i j (omega arith) in omega arith
+
+  pub release_cost_one : release_cost c ≡ 1
+  release_cost_one = ap release_cost is ∙ release_cost_is (jobs_of deck) i
+
+  -- an element has its owner's number
+  pub own_number : (e k : ℕ) → 0 < i → element_owner c e ≡ k → e ≡ k
+  own_number e k some own = sym ((facts (jobs_of deck) i (omega arith)).element e) ∙ sym (ap (λ s. element_owner s e) is) ∙ own
+
+pub idle_is : (deck : List Job) (r k : ℕ) → r ≡ k → 4 * length deck + (r - 2) ≡ idle (length (jobs_of deck)) (k - 2)
+idle_is deck r k e = let n = job_count deck in omega arith

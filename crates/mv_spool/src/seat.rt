@@ -1,0 +1,127 @@
+//! What each thread has: a task, and the room that its work needs. Clauses cite `specs/Seats.antt`.
+
+ghost use Rattle.std.specs.Prelude.{◌≡◌, ◌<◌, ◌≤◌, ◌+◌, ℕ, length, slice_index_or};
+ghost use Rattle.mv_deck.specs.Sound.{IsSound};
+ghost use Rattle.mv_plan.specs.SpoolSetup.{spool_setup};
+ghost use Rattle.mv_spool.specs.Parts.{jobs_of};
+ghost use Rattle.mv_spool.specs.Seats.{IsReady, AreReady, HasWorked};
+
+use crate::initiator::initiate;
+use crate::reader::read;
+use crate::scheduler::schedule;
+use crate::writer::write;
+use mv_deck::Job;
+use mv_task::Gate;
+use mv_wait::{Station, Task};
+use std::sync::Wait;
+use std::thread::{self, Threads};
+
+/// The reader's number.
+const READER: u32 = 0;
+
+/// The scheduler's. The initiators follow, and then the writer.
+const SCHEDULER: u32 = 1;
+
+/// A task, with the room that its work needs.
+#[derive(Drop)]
+pub(crate) struct Seat {
+    pub task: Task,
+    /// For an initiator: which jobs it was given.
+    pub ran: Vec<bool>,
+}
+
+/// Does what the task of this number is to do.
+fn work<R: Wait, G: Gate>(
+    rt: &R,
+    station: &Station,
+    deck: &[Job],
+    initiators: u32,
+    gate: &G,
+    seat: &mut Seat,
+)
+    requires deck { (length deck.now ≤ 65535) × (initiators ≤ 8) }
+    requires sound { IsSound (jobs_of deck.now) initiators }
+    requires station { station.now.config ≡ spool_setup (jobs_of deck.now) initiators }
+    requires number { seat.old.task.number < initiators + 3 }
+    requires ready { IsReady station.now (length deck.now) seat.old.task.number seat.old }
+    ensures worked { HasWorked (jobs_of deck.now) initiators seat.old.task.number seat.old seat.new }
+{
+    let task = &mut seat.task;
+    let number = task.number();
+    if number == READER {
+        read(rt, station, task, deck, initiators, gate);
+    } else if number == SCHEDULER {
+        schedule(rt, station, task, deck, initiators, gate);
+    } else if number == initiators + 2 {
+        write(rt, station, task, deck, initiators, gate);
+    } else {
+        initiate(rt, station, task, deck, initiators, gate, &mut seat.ran);
+    }
+}
+
+/// Does the work of the one seat of a chunk, whose number is the place where the chunk begins.
+fn work_one<R: Wait, G: Gate>(
+    rt: &R,
+    station: &Station,
+    deck: &[Job],
+    initiators: u32,
+    gate: &G,
+    number: usize,
+    one: &mut [Seat],
+)
+    requires deck { (length deck.now ≤ 65535) × (initiators ≤ 8) }
+    requires sound { IsSound (jobs_of deck.now) initiators }
+    requires station { station.now.config ≡ spool_setup (jobs_of deck.now) initiators }
+    requires number { number < initiators + 3 }
+    requires one { length one.old ≡ 1 }
+    requires ready { (d : _) → IsReady station.now (length deck.now) number (slice_index_or one.old 0 d) }
+    ensures worked { (d : _) → HasWorked (jobs_of deck.now) initiators number (slice_index_or one.old 0 d) (slice_index_or one.new 0 d) }
+{
+    work(rt, station, deck, initiators, gate, &mut one[0]);
+}
+
+/// Does the work of all seats, each on a thread of its own.
+fn work_all<R: Threads + Wait + Sync, G: Gate + Sync>(
+    rt: &R,
+    station: &Station,
+    deck: &[Job],
+    initiators: u32,
+    gate: &G,
+    seats: &mut [Seat],
+)
+    requires deck { (length deck.now ≤ 65535) × (initiators ≤ 8) }
+    requires sound { IsSound (jobs_of deck.now) initiators }
+    requires station { station.now.config ≡ spool_setup (jobs_of deck.now) initiators }
+    requires count { length seats.old ≡ initiators + 3 }
+    requires ready { AreReady station.now (length deck.now) seats.old }
+    ensures count { length seats.new ≡ length seats.old }
+    ensures worked { (k : ℕ) (d : _) → k < length seats.old → HasWorked (jobs_of deck.now) initiators k (slice_index_or seats.old k d) (slice_index_or seats.new k d) }
+{
+    let job = move |number: usize, one: &mut [Seat]|
+        requires { (length deck.now ≤ 65535) × (initiators ≤ 8) × IsSound (jobs_of deck.now) initiators × (station.now.config ≡ spool_setup (jobs_of deck.now) initiators)
+            × (number < initiators + 3) × (length one.now ≡ 1) × ((d : _) → IsReady station.now (length deck.now) number (slice_index_or one.now 0 d)) }
+        ensures { (d : _) → HasWorked (jobs_of deck.entry.now) initiators number (slice_index_or one.entry.now 0 d) (slice_index_or one.exit.now 0 d) }
+    { work_one(rt, station, deck, initiators, gate, number, one) };
+    thread::for_each_chunk_mut(rt, seats, 1, &job);
+}
+
+/// The same for seats that are handed over and come back.
+pub(crate) fn worked<R: Threads + Wait + Sync, G: Gate + Sync>(
+    rt: &R,
+    station: &Station,
+    deck: &[Job],
+    initiators: u32,
+    gate: &G,
+    mut seats: Vec<Seat>,
+) -> Vec<Seat>
+    requires deck { (length deck.now ≤ 65535) × (initiators ≤ 8) }
+    requires sound { IsSound (jobs_of deck.now) initiators }
+    requires station { station.now.config ≡ spool_setup (jobs_of deck.now) initiators }
+    requires count { length seats.items ≡ initiators + 3 }
+    requires ready { AreReady station.now (length deck.now) seats.items }
+    ensures count { length result.items ≡ length seats.items }
+    ensures worked { (k : ℕ) (d : _) → k < length seats.items → HasWorked (jobs_of deck.now) initiators k (slice_index_or seats.items k d) (slice_index_or result.items k d) }
+{
+    work_all(rt, station, deck, initiators, gate, &mut seats);
+    seats
+}
