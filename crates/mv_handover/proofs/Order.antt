@@ -1,0 +1,81 @@
+-- What comes out is what went in, in order. Used by hand_over.
+use Rattle.std.proofs.Common.{◌≡◌, ℕ, ◌<◌, ◌≤◌, List, [], ◌∷◌, ◌++◌, length, ◌⊎◌, inl, inr, refl, sym, ap, ◌∙◌, subst, arith}
+use Rattle.std.proofs.lemmas.Bool.{cases_eq}
+use Rattle.std.specs.List.{AllByRecursion}
+use Rattle.mv_machine.specs.declared.entry.Entry.{Entry}
+use Rattle.mv_machine.specs.Legal.{Legal, of}
+use Rattle.mv_machine.specs.Setup.{Setup, owner_of}
+use Rattle.mv_machine.specs.System.{opening}
+use Rattle.mv_board.specs.Faces.{CallerFace, IsIn}
+use Rattle.mv_calls.proofs.Hearing.{of_own, of_other}
+use Rattle.mv_calls.proofs.Interleaved.{callers_exist}
+use Rattle.mv_handover.specs.Setup.{slots, HasSlots}
+use Rattle.mv_handover.specs.Slots.{posts, takes, part}
+use Rattle.mv_handover.proofs.Blocks.{taken_were_posted}
+use Rattle.mv_handover.proofs.Lists.{within_same, same_parts, parts_length}
+use Rattle.mv_handover.proofs.Logs.{posts-append}
+use Rattle.mv_handover.proofs.Through.{full_owner}
+
+no_front : (xs ys : List ℕ) → xs ++ ys ≡ [] → (xs ≡ []) × (ys ≡ [])
+no_front [] ys e = (refl, e)
+no_front (x ∷ xs) ys e = absurd (cc e)
+
+-- where the second of two callers posts nothing, the first one makes all posts
+posts_of_first : (n : ℕ) (es : List Entry) → AllByRecursion (λ e. e.caller < 2) es → posts n (of 1 es) ≡ []
+    → posts n es ≡ posts n (of 0 es)
+posts_of_first n [] two none = refl
+posts_of_first n (e ∷ es) two none = by_caller (λ rest. posts_of_first n es two.1 rest) (cases_eq e.caller 0) where
+  by_caller : (posts n (of 1 es) ≡ [] → posts n es ≡ posts n (of 0 es)) → (e.caller ≡ 0) ⊎ (e.caller ≡ 0 → ⊥)
+      → posts n (e ∷ es) ≡ posts n (of 0 (e ∷ es))
+  by_caller on (inl first) =
+      let rest = on (ap (posts n) (sym (of_other 1 e es (λ q. absurd (omega arith)))) ∙ none) in
+      posts-append n (e ∷ []) es ∙ ap (λ xs. posts n (e ∷ []) ++ xs) rest ∙ sym (posts-append n (e ∷ []) (of 0 es))
+      ∙ ap (posts n) (sym (of_own 0 e es first))
+  by_caller on (inr other) =
+      let lt = two.0 in
+      let second : e.caller ≡ 1 = omega arith in
+      let both = no_front (posts n (e ∷ [])) (posts n (of 1 es))
+      (sym (posts-append n (e ∷ []) (of 1 es)) ∙ ap (posts n) (sym (of_own 1 e es second)) ∙ none) in
+      posts-append n (e ∷ []) es ∙ ap (λ xs. xs ++ posts n es) both.0 ∙ on both.1 ∙ ap (posts n) (sym (of_other 0 e es other))
+
+-- a history in which one task put these items in and another took those out
+pub in_order : (c : Setup) (es : List Entry) (items taken : List ℕ) → HasSlots c → Legal c es → length taken ≡ length items
+    → ((s : ℕ) → s < slots → posts s (of 0 es) ≡ part s items)
+    → ((s : ℕ) → s < slots → posts s (of 1 es) ≡ [])
+    → ((s : ℕ) → s < slots → takes s (of 1 es) ≡ part s taken) → taken ≡ items
+in_order c es items taken has legal size put none took = same_parts 0 taken items size (λ s lt. one s lt) where
+  two : AllByRecursion (λ e. e.caller < 2) es
+  two = subst (λ (k : Setup). AllByRecursion (λ e. e.caller < k.callers) es) has.1 (callers_exist c (opening c) es legal)
+
+  one : (s : ℕ) → s < slots → part s taken ≡ part s items
+  one s lt =
+      let all = posts_of_first s es two (none s lt) ∙ put s lt in
+      let within = taken_were_posted c s es legal in
+      let own : takes s (of (owner_of c s) es) ≡ part s taken = ap (λ k. takes s (of k es)) (full_owner c has s lt) ∙ took s lt in
+      let few : length (posts s es) ≤ length (takes s (of (owner_of c s) es)) =
+      (let a = parts_length s 0 taken items size in let b = ap length all in let d = ap length own in omega arith) in
+      sym own ∙ within_same (takes s (of (owner_of c s) es)) (posts s es) within few ∙ all
+
+-- two tasks that came back
+both_in : (c : Setup) (es : List Entry) (room mid tasks : List CallerFace) (p q : CallerFace) → room ≡ [] → mid ≡ room ++ p ∷ []
+    → tasks ≡ mid ++ q ∷ [] → AllByRecursion (IsIn c es) tasks → IsIn c es p × IsIn c es q
+both_in c es room mid tasks p q none first second all =
+    let two : tasks ≡ p ∷ q ∷ [] = second ∙ ap (λ ts. ts ++ q ∷ []) (first ∙ ap (λ ts. ts ++ p ∷ []) none) in
+    let both = subst (λ ts. AllByRecursion (IsIn c es) ts) two all in (both.0, both.1.0)
+
+part_is : (c : Setup) (es : List Entry) (k : ℕ) (t : CallerFace) → IsIn c es t → t.number ≡ k → of k es ≡ t.log
+part_is c es k t within number = ap (λ j. of j es) (sym number) ∙ within.logged
+
+-- with what their logs say
+pub closed_in_order : (c : Setup) (es : List Entry) (room mid tasks : List CallerFace) (p q : CallerFace) (items taken : List ℕ)
+    → HasSlots c → Legal c es → room ≡ [] → mid ≡ room ++ p ∷ [] → tasks ≡ mid ++ q ∷ [] → AllByRecursion (IsIn c es) tasks
+    → p.number ≡ 0 → q.number ≡ 1 → length taken ≡ length items
+    → ((s : ℕ) → s < slots → posts s p.log ≡ part s items)
+    → ((s : ℕ) → s < slots → posts s q.log ≡ [])
+    → ((s : ℕ) → s < slots → takes s q.log ≡ part s taken) → taken ≡ items
+closed_in_order c es room mid tasks p q items taken has legal none first second all zero one size put nothing took =
+    let both = both_in c es room mid tasks p q none first second all in
+    let own = part_is c es 0 p both.0 zero in
+    let other = part_is c es 1 q both.1 one in
+    in_order c es items taken has legal size (λ s lt. ap (posts s) own ∙ put s lt) (λ s lt. ap (posts s) other ∙ nothing s lt)
+    (λ s lt. ap (takes s) other ∙ took s lt)

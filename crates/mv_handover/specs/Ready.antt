@@ -1,0 +1,46 @@
+-- How a task stands between two calls, and what a call adds to its log.
+use Rattle.std.specs.Prelude.{◌≡◌, ℕ, ◌+◌, false, List, [], ◌∷◌, ◌++◌, length}
+use Rattle.mv_ecb.specs.declared.operation.EcbOp.{EcbOp}
+use Rattle.mv_ecb.specs.declared.operation.EcbOp.TheVariants.{Arm, Settle, Clear, Post}
+use Rattle.mv_ecb.specs.declared.operation.EcbReply.TheVariants.{Complete}
+use Rattle.mv_machine.specs.declared.entry.Entry.{Entry}
+use Rattle.mv_machine.specs.declared.entry.Object.TheVariants.{Ecb}
+use Rattle.mv_machine.specs.declared.entry.Op.TheVariants as op_on
+use Rattle.mv_machine.specs.declared.entry.Reply.TheVariants as reply_of
+use Rattle.mv_board.specs.Faces.{BoardFace, CallerFace, IsOf}
+use Rattle.mv_calls.specs.Keeping.{kept_of}
+use Rattle.mv_calls.specs.Rest.{IsAtRest}
+
+-- the task is of this board, is at rest, and holds no block extended
+pub record IsReady (b : BoardFace) (t : CallerFace) : Type 0 where
+  pub task : IsOf b t
+  pub rest : IsAtRest t.log
+  pub plain : (e : ℕ) → (kept_of t.number t.log).extended e ≡ false
+
+-- the same task made these entries
+pub record Added (es : List Entry) (t u : CallerFace) : Type 0 where
+  pub number : u.number ≡ t.number
+  pub logged : u.log ≡ t.log ++ es
+  pub left : u.left + length es ≡ t.left
+
+-- the entry is this operation on this block
+pub record IsOn (ecb : ℕ) (op : EcbOp) (e : Entry) : Type 0 where
+  pub object : e.object ≡ Ecb ecb
+  pub makes : e.op ≡ op_on.Ecb op
+
+-- the task posted this block with this code
+pub record Put (ecb code : ℕ) (t u : CallerFace) : Type 0 where
+  pub entry : Entry
+  pub added : Added (entry ∷ []) t u
+  pub post : IsOn ecb (Post code) entry
+
+-- the task waited for this block, found it complete with this code, and cleared it
+pub record Took (ecb code : ℕ) (t u : CallerFace) : Type 0 where
+  pub first : Entry
+  pub second : Entry
+  pub third : Entry
+  pub added : Added (first ∷ second ∷ third ∷ []) t u
+  pub arm : IsOn ecb Arm first
+  pub settle : IsOn ecb Settle second
+  pub found : second.reply ≡ reply_of.Ecb (Complete code)
+  pub clear : IsOn ecb Clear third

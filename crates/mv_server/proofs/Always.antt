@@ -1,0 +1,217 @@
+-- What holds of each event that a program says, whatever is answered, holds of each entry that its call makes.
+use Rattle.std.proofs.Common.{◌≡◌, ℕ, zero, suc, ◌+◌, ◌≤◌, List, [], ◌∷◌, ◌++◌, length, Option, Some, None, Result, Ok}
+use Rattle.std.proofs.Common.{Bool, true, false, nat_le, refl, sym, ap, ◌∙◌, subst, arith, if◌then◌else◌}
+use Rattle.std.specs.List.{AllByRecursion}
+use Rattle.mv_ecb.specs.declared.operation.EcbOp.TheVariants as ecb_op
+use Rattle.mv_ecb.specs.declared.operation.EcbReply.{EcbReply}
+use Rattle.mv_ecb.specs.declared.operation.EcbReply.TheVariants as ecb_reply
+use Rattle.mv_element.specs.declared.element.Token.{Token}
+use Rattle.mv_element.specs.declared.operation.ElementOp.TheVariants as element_op
+use Rattle.mv_element.specs.declared.operation.ElementReply.{ElementReply}
+use Rattle.mv_element.specs.declared.operation.ElementReply.TheVariants as element_reply
+use Rattle.mv_machine.specs.declared.entry.Entry.{Entry}
+use Rattle.mv_machine.specs.declared.entry.Object.{Object}
+use Rattle.mv_machine.specs.declared.entry.Object.TheVariants.{Ecb, Element}
+use Rattle.mv_machine.specs.declared.entry.Op.{Op}
+use Rattle.mv_machine.specs.declared.entry.Op.TheVariants as op_on
+use Rattle.mv_machine.specs.declared.entry.Reply.{Reply}
+use Rattle.mv_machine.specs.declared.entry.Reply.TheVariants as reply_of
+use Rattle.mv_machine.specs.Setup.{Setup}
+use Rattle.mv_machine.proofs.Lists.{all_append}
+use Rattle.mv_board.specs.Faces.{BoardFace, CallerFace}
+use Rattle.mv_calls.specs.Keeping.{Kept, kept_of}
+use Rattle.mv_calls.specs.Pauses.{allocate, open_lowest, lowest_free, opened, pause, paused, resumed, release, released, is_others_token}
+use Rattle.mv_calls.specs.Posts.{Posting, post, post_within, posting, posted_next, each_posted, targets_of}
+use Rattle.mv_calls.specs.Posts as came
+use Rattle.mv_calls.specs.Program.{Program, Do, Done, Early, Wrong, Call, Heard, Says, entries, on_ecb, on_element, unless_refused}
+use Rattle.mv_calls.specs.Refusal.{Refusal}
+use Rattle.mv_calls.specs.Refusal as refusal
+use Rattle.mv_calls.specs.Waits.{wait, wait_refusal, refused_if, is_others_block, clear, the_word, arm_all, armed, settle_all, settled, enough, complete_count}
+use Rattle.mv_wait.specs.Run.{IsServed}
+use Rattle.mv_server.specs.Pool.{pool_setup}
+use Rattle.mv_server.specs.Right.{IsRight, AreRight, IsReady}
+
+-- each event that the program may say is so
+abbrev pub Always : {A : Type 0} → (Object → Op → Type 0) → Program A → Type 0
+Always P (Do o op next) = P o op × ((h : Heard) → Always P (next h))
+Always P (Done a) = Unit {0}
+Always P Early = Unit {0}
+Always P Wrong = Unit {0}
+
+-- an event that is asked for
+abbrev pub event : Object → Op → Object × Op
+event o op = (o, op)
+
+abbrev object_in : Object → Option (Object × Op) → Object
+object_in o None = o
+object_in o (Some x) = x.0
+
+abbrev op_in : Op → Option (Object × Op) → Op
+op_in op None = op
+op_in op (Some x) = x.1
+
+pub asked_is : (o p : Object) (op oq : Op) → Some (event o op) ≡ Some (event p oq) → (p ≡ o) × (oq ≡ op)
+asked_is o p op oq q = (sym (ap (object_in o) q), sym (ap (op_in op) q))
+
+always_says : {A : Type 0} (P : Object → Op → Type 0) (p : Program A) (hs : List Heard) → Always P p → Says p hs
+    → AllByRecursion (λ e. P e.object e.op) (entries hs)
+always_says P p [] a s = tt
+always_says P (Do o op next) (h ∷ hs) a s =
+    let is = asked_is o h.entry.object op h.entry.op s.0 in
+    (subst (λ x. P x h.entry.op) (sym is.0) (subst (λ x. P o x) (sym is.1) a.0), always_says P (next h) hs (a.1 h) s.1)
+always_says P (Done x) (h ∷ hs) a s = absurd (cc s.0)
+always_says P Early (h ∷ hs) a s = absurd (cc s.0)
+always_says P Wrong (h ∷ hs) a s = absurd (cc s.0)
+
+-- ---- a call that says right events leaves its task ready
+
+pub ready_after : {A : Type 0} (b : BoardFace) (requests : List ℕ) (most : ℕ) (call : Call A) (Is : A → Type 0) (t u : CallerFace)
+    → IsServed most call Is t u → IsReady b requests t → Always (IsRight requests) (call (kept_of t.number t.log)) → IsReady b requests u
+ready_after b requests most call Is t u s r a = record {
+  task = (s.same.table ∙ r.task.0, s.same.about ∙ r.task.1);
+  rest = s.made.rest;
+  right = subst (λ log. AreRight requests log) (sym s.made.longer.logged)
+      (all_append (λ (e : Entry). IsRight requests e.object e.op) t.log (entries s.made.events) r.right
+      (always_says (IsRight requests) (call (kept_of t.number t.log)) s.made.events a s.made.done.says));
+}
+
+pub served_few : {A : Type 0} (most : ℕ) (call : Call A) (Is : A → Type 0) (t u : CallerFace) → IsServed most call Is t u
+    → t.left ≤ u.left + most
+served_few most call Is t u s = let few = s.made.few in let left = s.left in omega arith
+
+-- ---- the calls
+
+always_ecb : {A : Type 0} (P : Object → Op → Type 0) (r : Reply) (f : EcbReply → Program A) → ((x : EcbReply) → Always P (f x))
+    → Always P (on_ecb r f)
+always_ecb P (reply_of.Ecb x) f a = a x
+always_ecb P r f a = tt
+
+always_element : {A : Type 0} (P : Object → Op → Type 0) (r : Reply) (f : ElementReply → Program A) → ((x : ElementReply) → Always P (f x))
+    → Always P (on_element r f)
+always_element P (reply_of.Element x) f a = a x
+always_element P r f a = tt
+
+always_unless : {A : Type 0} (P : Object → Op → Type 0) (why : Option Refusal) (p : Program (Result A Refusal)) → Always P p
+    → Always P (unless_refused why p)
+always_unless P None p a = a
+always_unless P (Some why) p a = tt
+
+always_armed : {A : Type 0} (requests : List ℕ) (p : Program A) → Always (IsRight requests) p → (x : EcbReply)
+    → Always (IsRight requests) (armed p x)
+always_armed requests p a ecb_reply.Armed = a
+always_armed requests p a (ecb_reply.Complete c) = a
+always_armed requests p a x = tt
+
+always_arm : {A : Type 0} (requests : List ℕ) (es : List ℕ) (p : Program A) → Always (IsRight requests) p
+    → Always (IsRight requests) (arm_all es p)
+always_arm requests [] p a = a
+always_arm requests (e ∷ es) p a = (
+  tt,
+  λ h. always_ecb (IsRight requests) h.entry.reply (armed (arm_all es p))
+      (always_armed requests (arm_all es p) (always_arm requests es p a)),
+)
+
+always_settled : {A : Type 0} (requests : List ℕ) (f : Option ℕ → Program A) → ((o : Option ℕ) → Always (IsRight requests) (f o))
+    → (x : EcbReply) → Always (IsRight requests) (settled f x)
+always_settled requests f a ecb_reply.Open = a None
+always_settled requests f a (ecb_reply.Complete c) = a (Some c)
+always_settled requests f a x = tt
+
+always_settle : {A : Type 0} (requests : List ℕ) (es : List ℕ) (found : List (Option ℕ)) (f : List (Option ℕ) → Program A)
+    → ((slots : List (Option ℕ)) → Always (IsRight requests) (f slots)) → Always (IsRight requests) (settle_all es found f)
+always_settle requests [] found f a = a found
+always_settle requests (e ∷ es) found f a = (
+  tt,
+  λ h. always_ecb (IsRight requests) h.entry.reply (settled (λ slot. settle_all es (found ++ slot ∷ []) f))
+      (always_settled requests (λ slot. settle_all es (found ++ slot ∷ []) f)
+      (λ slot. always_settle requests es (found ++ slot ∷ []) f a)),
+)
+
+enough_if : (requests : List ℕ) (b : Bool) (slots : List (Option ℕ))
+    → Always {A = Result (List (Option ℕ)) Refusal} (IsRight requests) (if b then Done (Ok slots) else Early)
+enough_if requests true slots = tt
+enough_if requests false slots = tt
+
+always_enough : (requests : List ℕ) (count : ℕ) (slots : List (Option ℕ)) → Always (IsRight requests) (enough count slots)
+always_enough requests count slots = enough_if requests (nat_le count (complete_count slots)) slots
+
+pub always_wait : (requests : List ℕ) (c : Setup) (count : ℕ) (es : List ℕ) (kept : Kept)
+    → Always (IsRight requests) (wait c count es kept)
+always_wait requests c count es kept =
+    always_unless (IsRight requests) (wait_refusal c count es kept) (arm_all es (settle_all es [] (enough count)))
+    (always_arm requests es (settle_all es [] (enough count))
+    (always_settle requests es [] (enough count) (always_enough requests count)))
+
+pub always_clear : (requests : List ℕ) (c : Setup) (e : ℕ) (kept : Kept) → Always (IsRight requests) (clear c e kept)
+always_clear requests c e kept =
+    always_unless (IsRight requests) (refused_if (is_others_block c kept e) refusal.NotOwner)
+    (Do (Ecb e) (op_on.Ecb ecb_op.Clear) (λ h. on_ecb h.entry.reply (the_word (λ w. Done (Ok w)))))
+    (tt, λ h. always_ecb (IsRight requests) h.entry.reply (the_word (λ w. Done (Ok w))) (λ x. on x)) where
+      on : (x : EcbReply) → Always (IsRight requests) (the_word {A = Result ℕ Refusal} (λ w. Done (Ok w)) x)
+      on (ecb_reply.Word w) = tt
+      on x = tt
+
+-- a pool has no exits
+no_targets : (n x : ℕ) → targets_of (pool_setup n) x ≡ []
+no_targets n zero = refl
+no_targets n (suc x) = refl
+
+always_within : (requests : List ℕ) (n depth code e : ℕ) → IsRight requests (Ecb e) (op_on.Ecb (ecb_op.Post code))
+    → Always (IsRight requests) (post_within depth (pool_setup n) code e)
+always_within requests n zero code e right = tt
+always_within requests n (suc depth) code e right = (
+  right,
+  λ h. always_ecb (IsRight requests) h.entry.reply
+      (posting (λ p. each_posted (post_within depth (pool_setup n) code) (posted_next (pool_setup n) p) p)) (λ x. on x),
+) where
+  next : (p : Posting) → Always (IsRight requests) (each_posted (post_within depth (pool_setup n) code) (posted_next (pool_setup n) p) p)
+  next came.Posted = tt
+  next (came.Woke x) = rw (no_targets n x) tt
+  next (came.Already c) = tt
+
+  on : (x : EcbReply) → Always (IsRight requests)
+      (posting (λ p. each_posted (post_within depth (pool_setup n) code) (posted_next (pool_setup n) p) p) x)
+  on ecb_reply.Posted = next came.Posted
+  on (ecb_reply.Woke x) = next (came.Woke x)
+  on (ecb_reply.Already c) = next (came.Already c)
+  on x = tt
+
+pub always_post : (requests : List ℕ) (n e code : ℕ) (kept : Kept) → IsRight requests (Ecb e) (op_on.Ecb (ecb_op.Post code))
+    → Always (IsRight requests) (post (pool_setup n) e code kept)
+always_post requests n e code kept right = always_within requests n (length (pool_setup n).owners) code e right
+
+pub always_allocate : (requests : List ℕ) (c : Setup) (kept : Kept) → Always (IsRight requests) (allocate c kept)
+always_allocate requests c kept = on (lowest_free c kept) where
+  reply : (n : ℕ) (x : ElementReply) → Always (IsRight requests) (opened n x)
+  reply n (element_reply.Opened g) = tt
+  reply n x = tt
+
+  on : (o : Option ℕ) → Always (IsRight requests) (open_lowest o)
+  on None = tt
+  on (Some n) = (tt, λ h. always_element (IsRight requests) h.entry.reply (opened n) (reply n))
+
+pub always_pause : (requests : List ℕ) (c : Setup) (t : Token) (kept : Kept) → Always (IsRight requests) (pause c t kept)
+always_pause requests c t kept =
+    always_unless (IsRight requests) (refused_if (is_others_token c kept t) refusal.NotOwner)
+    (Do (Element t.element) (op_on.Element (element_op.Pause t.generation))
+    (λ h. on_element h.entry.reply (paused t.element t.generation)))
+    (tt, λ h. always_element (IsRight requests) h.entry.reply (paused t.element t.generation) (λ x. on x)) where
+      last : (x : ElementReply) → Always (IsRight requests) (resumed t.element x)
+      last (element_reply.Given code next) = tt
+      last element_reply.NotYet = tt
+      last x = tt
+
+      on : (x : ElementReply) → Always (IsRight requests) (paused t.element t.generation x)
+      on (element_reply.Given code next) = tt
+      on element_reply.Parked = (tt, λ h. always_element (IsRight requests) h.entry.reply (resumed t.element) (λ x. last x))
+      on (element_reply.Spent g) = tt
+      on x = tt
+
+pub always_release : (requests : List ℕ) (t : Token) (code : ℕ) (kept : Kept) → Always (IsRight requests) (release t code kept)
+always_release requests t code kept = (tt, λ h. always_element (IsRight requests) h.entry.reply released (λ x. on x)) where
+  on : (x : ElementReply) → Always (IsRight requests) (released x)
+  on element_reply.Early = tt
+  on element_reply.Woke = tt
+  on (element_reply.Spent g) = tt
+  on element_reply.Already = tt
+  on x = tt

@@ -1,0 +1,24 @@
+use Rattle.std.proofs.Common.{◌≡◌, ◌+◌, ◌<◌, length, get_or, sym, ap, ◌∙◌, subst, arith}
+use Rattle.mv_server.specs.Right.{IsBack}
+use Rattle.mv_board.specs.Faces.{IsFresh}
+use Rattle.mv_server.proofs.Closing.{given_back, fresh_at}
+use Rattle.mv_server.proofs.server.worked.Goals as goal
+
+pub work_all-requires-clause-fresh : goal.work_all-requires-clause-fresh
+work_all-requires-clause-fresh g c κs within k d lt =
+    let b = c.args.station.now in
+    let items = c.args.pool.items in
+    let is = c.deref_mut.ensures.value in
+    subst (λ xs. IsFresh b k (get_or xs k d)) (sym is) (subst (λ n. IsFresh b n (get_or items k d)) (let e : 0 + k ≡ k = omega arith in e)
+    (fresh_at b 0 k items d c.requires.fresh (subst (λ xs. k < length xs) is lt)))
+
+pub returns-clause-ready : goal.returns-clause-ready
+returns-clause-ready g c k d lt =
+    let b = c.args.station.now in
+    let requests = c.args.requests.now in
+    let old = c.args.pool.items in
+    let new = c.work_all.new.pool in
+    let is = c.deref_mut.ensures.value in
+    let count : length new ≡ length old = c.work_all.ensures.count ∙ ap length is in
+    let made = c.work_all.ensures.ready k d (subst (λ xs. k < length xs) (sym is) lt) in
+    subst (λ xs. IsBack b requests k (get_or xs k d)) (sym (given_back c.args.pool.len new old count c.args.pool.ok.0)) made

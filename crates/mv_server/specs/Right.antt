@@ -1,0 +1,42 @@
+-- What each task of a pool keeps to, whatever the others do: a block of an answer is posted with nothing but that answer.
+use Rattle.std.specs.Prelude.{◌≡◌, ℕ, ◌≤◌, List}
+use Rattle.std.specs.List.{AllByRecursion, Contains}
+use Rattle.mv_ecb.specs.declared.operation.EcbOp.TheVariants.{Extend, Post}
+use Rattle.mv_ecb.specs.declared.operation.EcbReply.TheVariants.{Complete}
+use Rattle.mv_machine.specs.declared.entry.Entry.{Entry}
+use Rattle.mv_machine.specs.declared.entry.Object.{Object}
+use Rattle.mv_machine.specs.declared.entry.Object.TheVariants.{Ecb}
+use Rattle.mv_machine.specs.declared.entry.Op.{Op}
+use Rattle.mv_machine.specs.declared.entry.Op.TheVariants as op_on
+use Rattle.mv_machine.specs.declared.entry.Reply.TheVariants as reply_of
+use Rattle.mv_board.specs.Faces.{BoardFace, CallerFace, IsOf}
+use Rattle.mv_calls.specs.Rest.{IsAtRest}
+use Rattle.mv_server.specs.Pool.{answer_at}
+
+-- a post of a block of an answer has that answer, and no block is extended
+abbrev pub IsRight : List ℕ → Object → Op → Type 0
+IsRight requests (Ecb n) (op_on.Ecb (Post code)) = 3 ≤ n → code ≡ answer_at requests n
+IsRight requests (Ecb n) (op_on.Ecb (Extend exit)) = ⊥
+IsRight requests object op = Unit {0}
+
+-- so each of these
+abbrev pub AreRight : List ℕ → List Entry → Type 0
+AreRight requests es = AllByRecursion (λ e. IsRight requests e.object e.op) es
+
+-- a task of this board is at rest, and has made right entries
+pub record IsReady (b : BoardFace) (requests : List ℕ) (t : CallerFace) : Type 0 where
+  pub task : IsOf b t
+  pub rest : IsAtRest t.log
+  pub right : AreRight requests t.log
+
+-- it is the task of this number
+pub record IsBack (b : BoardFace) (requests : List ℕ) (k : ℕ) (t : CallerFace) : Type 0 where
+  pub ready : IsReady b requests t
+  pub number : t.number ≡ k
+
+-- one of these entries found the block complete with this code
+pub record Finds (es : List Entry) (block code : ℕ) : Type 0 where
+  pub entry : Entry
+  pub member : Contains es entry
+  pub object : entry.object ≡ Ecb block
+  pub found : entry.reply ≡ reply_of.Ecb (Complete code)
