@@ -1,0 +1,497 @@
+-- The reader behind one more statement that has no fault.
+use Rattle.std.proofs.Common.{◌≡◌, ℕ, ◌+◌, ◌-◌, ◌<◌, ◌≤◌, Bool, true, false, cond, not, ◌||◌, List, [], ◌∷◌, ◌++◌, length, map, replicate}
+use Rattle.std.proofs.Common.{Option, Some, None, refl, sym, ap, subst, ◌∙◌, arith}
+use Rattle.std.specs.Prelude.{nat_lt, nat_le, sum, is_some, count_by}
+use Rattle.std.proofs.lemmas.List.{map-append}
+use Rattle.std.proofs.lemmas.List.Sums.{sum_by-append, sum_by_push}
+use Rattle.mv_machine.specs.Limits.{events_limit}
+use Rattle.mv_machine.specs.Setup.{Setup, SetupExit}
+use Rattle.mv_script.specs.declared.call.Call.{Call}
+use Rattle.mv_script.specs.declared.statement.Statement.{Statement}
+use Rattle.mv_script.specs.declared.statement.Statement.TheVariants as statement
+use Rattle.mv_script.specs.Costs.{cost, costs_of, script_setup}
+use Rattle.mv_script.specs.Fault.{is_script, has_script, has_exit, has_task, has_end, is_out_of_order, leads_down}
+use Rattle.mv_script.specs.Fault.{is_too_costly, kinds_behind, obtain_meant, is_no_obtain}
+use Rattle.mv_script.specs.Limits.{most_tasks, most_ecbs, most_exits, most_calls}
+use Rattle.mv_script.specs.Reading.{Progress, progress_of, with_statement, setup_in, budgets_in, IsSoundSoFar, Notes, open_task}
+use Rattle.mv_script.specs.Reading.{HasCosts, IsAsFar, Stands}
+use Rattle.mv_script.specs.Script.{task_count, owners_of, exits_of, tasks_of, with_call, last_task, budgets_of, sizes_behind, is_obtain}
+use Rattle.mv_script.specs.Sound.{IsGoodStatement}
+use Rattle.mv_script.proofs.Progresses.{same_any, one_ecb, one_exit, one_task, one_call, the_end, sound_script, sound_ecb, sound_exit}
+use Rattle.mv_script.proofs.Progresses.{sound_task, sound_call, sound_end, same_cost, call_cost, append_none, without_tasks, is_positive}
+use Rattle.mv_script.proofs.Told.{fine}
+
+-- ---- answers taken apart
+
+-- neither of two
+pub neither : (a b : Bool) → (a || b) ≡ false → (a ≡ false) × (b ≡ false)
+neither false b e = (refl, e)
+neither true b e = absurd cc
+
+-- the first is true and the other is not
+pub only_first : (a b : Bool) → (not a || b) ≡ false → (a ≡ true) × (b ≡ false)
+only_first true b e = (refl, e)
+only_first false b e = absurd cc
+
+-- ---- lists
+
+-- the last task takes the call
+last_takes : (finished : List (List Call)) (calls : List Call) (c : Call)
+    → with_call (finished ++ calls ∷ []) c ≡ finished ++ (calls ++ c ∷ []) ∷ []
+last_takes [] calls c = refl
+last_takes (first ∷ []) calls c = refl
+last_takes (first ∷ second ∷ finished) calls c = ap (λ (x : List (List Call)). first ∷ x) (last_takes (second ∷ finished) calls c)
+
+-- the last task
+pub last_is : (finished : List (List Call)) (calls : List Call) → last_task (finished ++ calls ∷ []) ≡ calls
+last_is [] calls = refl
+last_is (first ∷ []) calls = refl
+last_is (first ∷ second ∷ finished) calls = last_is (second ∷ finished) calls
+
+-- one more OBTAIN, or none
+pub count_push : (calls : List Call) (c : Call) → count_by is_obtain (calls ++ c ∷ []) ≡ count_by is_obtain calls + count_by is_obtain (c ∷ [])
+count_push calls c = sum_by-append (λ (d : Call). cond (is_obtain d) 1 0) calls (c ∷ [])
+
+-- where no task has begun nothing costs
+none_costs : (o : Option Setup) (c : Setup) → is_some o ≡ false → HasCosts o c
+none_costs None c e = tt
+none_costs (Some d) c e = absurd cc
+
+-- notes by their parts
+abbrev of_parts : ℕ → List ℕ → List SetupExit → Option Setup → List (List Call) → List ℕ → List Call → ℕ → ℕ → ℕ → Bool → Notes
+of_parts stated owners exits costs finished budgets calls spent obtains room ended = record {
+  stated = stated;
+  owners = owners;
+  exits = exits;
+  costs = costs;
+  finished = finished;
+  budgets = budgets;
+  calls = calls;
+  spent = spent;
+  obtains = obtains;
+  room = room;
+  ended = ended;
+}
+
+-- notes that are the same in each part
+pub same_notes : {a b : ℕ} {c d : List ℕ} {e f : List SetupExit} {g h : Option Setup} {i j : List (List Call)} {k l : List ℕ}
+    {m n : List Call} {o p q r s t : ℕ} {u v : Bool}
+    → a ≡ b → c ≡ d → e ≡ f → g ≡ h → i ≡ j → k ≡ l → m ≡ n → o ≡ p → q ≡ r → s ≡ t → u ≡ v
+    → of_parts a c e g i k m o q s u ≡ of_parts b d f h j l n p r t v
+same_notes e1 e2 e3 e4 e5 e6 e7 e8 e9 e10 e11 = rw (e1, e2, e3, e4, e5, e6, e7, e8, e9, e10, e11) refl
+
+-- a configuration by its parts, with budgets of nothing
+same_setup : (a b : ℕ) (c d : List ℕ) (e f : List SetupExit) → a ≡ b → c ≡ d → e ≡ f
+    → script_setup a c e (replicate a 0) ≡ script_setup b d f (replicate b 0)
+same_setup a b c d e f x y z = rw (x, y, z) refl
+
+-- ---- what is asked, by the notes
+
+module _ (earlier : List Statement) (n : Notes) (b : Stands earlier n) where
+  -- so far
+  abbrev p : Progress
+  p = progress_of earlier
+
+  -- whether a SCRIPT stands
+  pub script_is : nat_lt 0 n.stated ≡ has_script earlier
+  script_is = ap (nat_lt 0) b.far.stated ∙ sym b.far.sound.script
+
+  -- an EXIT
+  pub exit_is : nat_lt 0 (length n.exits) ≡ has_exit earlier
+  exit_is = ap (λ (x : List SetupExit). nat_lt 0 (length x)) b.far.exits ∙ sym b.far.sound.exit
+
+  -- whether an ECB is late
+  pub late_ecb : (m owner : ℕ) → m ≡ length n.exits
+      → (not (nat_lt 0 n.stated) || (nat_lt 0 m || (is_some n.costs || n.ended))) ≡ is_out_of_order earlier (statement.Ecb owner)
+  late_ecb m owner e = rw (e, script_is, exit_is, b.far.begun, b.far.ended) refl
+
+  -- an EXIT
+  pub late_exit : (source : ℕ) (targets : List ℕ)
+      → (not (nat_lt 0 n.stated) || (is_some n.costs || n.ended)) ≡ is_out_of_order earlier (statement.Exit source targets)
+  late_exit source targets = rw (script_is, b.far.begun, b.far.ended) refl
+
+  -- a TASK
+  pub late_task : (not (nat_lt 0 n.stated) || n.ended) ≡ is_out_of_order earlier statement.Task
+  late_task = rw (script_is, b.far.ended) refl
+
+  -- a call
+  pub late_call : (c : Call) → (not (is_some n.costs) || n.ended) ≡ is_out_of_order earlier (statement.Call c)
+  late_call c = rw (b.far.begun, b.far.ended) refl
+
+  -- the END
+  pub late_end : (not (nat_lt 0 n.stated) || n.ended) ≡ is_out_of_order earlier statement.End
+  late_end = rw (script_is, b.far.ended) refl
+
+  -- the configuration that calls cost by
+  pub setup_is : (owners : List ℕ) (exits : List SetupExit) → owners ≡ n.owners → exits ≡ n.exits
+      → script_setup n.stated owners exits (replicate n.stated 0) ≡ setup_in p (replicate p.stated 0)
+  setup_is owners exits o x =
+      same_setup n.stated p.stated owners p.owners exits p.exits b.far.stated (o ∙ b.far.owners) (x ∙ b.far.exits)
+
+  -- where a line is in order, some tasks are stated
+  pub some_stated : (not (has_script earlier) || n.ended) ≡ false → 1 ≤ p.stated
+  some_stated e = is_positive p.stated (sym b.far.sound.script ∙ (only_first (has_script earlier) n.ended e).0)
+
+  -- SCRIPT stays the first
+  still_first : (s : Statement) → is_script s ≡ false → has_script earlier ≡ true → has_script (earlier ++ s ∷ []) ≡ false
+      → earlier ++ s ∷ [] ≡ []
+  still_first s e h f = absurd (cc (same_any is_script earlier s e, h, f))
+
+  -- what can be run does not cost too much
+  cheap : (s : Statement) → IsSoundSoFar (progress_of (earlier ++ s ∷ [])) → is_too_costly earlier s ≡ false
+  cheap s sound = low (sum (budgets_of (earlier ++ s ∷ []))) sound.light where
+    low : (m : ℕ) → m ≤ events_limit → nat_lt events_limit m ≡ false
+    low m le = grind arith
+
+  -- no task is finished where none has begun
+  none_finished : p.task ≡ false → n.finished ≡ []
+  none_finished e =
+      let tasks : p.tasks ≡ [] = without_tasks p b.far.sound e in
+      sym (append_none n.finished) ∙ ap (λ (t : Bool). n.finished ++ open_task t n.calls) (sym e) ∙ b.far.tasks ∙ tasks
+
+  few : (k m : ℕ) → m < k → nat_le k m ≡ false
+  few k m lt = grind arith
+
+  -- ---- an ECB
+
+  pub taken_ecb : (owner : ℕ) → is_out_of_order earlier (statement.Ecb owner) ≡ false → length n.owners < most_ecbs
+      → owner < task_count earlier
+      → (kinds_behind earlier (statement.Ecb owner) ≡ [])
+      × Stands (earlier ++ statement.Ecb owner ∷ []) (record n { owners = n.owners ++ owner ∷ [] })
+  taken_ecb owner order lt good =
+      let s : Statement = statement.Ecb owner in
+      let a = only_first (has_script earlier) _ order in
+      let x = neither (has_exit earlier) _ a.1 in
+      let t = neither (has_task earlier) _ x.1 in
+      let count : length p.owners < most_ecbs = subst (λ (l : List ℕ). length l < most_ecbs) b.far.owners lt in
+      let sound = sound_ecb p b.far.sound owner x.0 t.0 count good in
+      let whole : IsSoundSoFar (progress_of (earlier ++ s ∷ [])) = subst IsSoundSoFar (sym (one_ecb earlier owner)) sound in
+      let none : n.finished ≡ [] = none_finished t.0 in
+      let empty : n.calls ≡ [] = b.far.fresh t.0 in
+      let tasks : p.tasks ≡ [] = without_tasks p b.far.sound t.0 in
+      let q : Progress = with_statement p s in (
+        fine earlier s order (few most_ecbs (length (owners_of earlier)) count) refl refl (cheap s whole),
+        record {
+          far = subst (λ (y : Progress). IsAsFar y (record n { owners = n.owners ++ owner ∷ [] })) (sym (one_ecb earlier owner)) (record {
+            sound = sound;
+            stated = b.far.stated;
+            owners = ap (λ (l : List ℕ). l ++ owner ∷ []) b.far.owners;
+            exits = b.far.exits;
+            begun = b.far.begun;
+            costs = none_costs n.costs (setup_in q (replicate q.stated 0)) (b.far.begun ∙ t.0);
+            tasks = b.far.tasks;
+            fresh = b.far.fresh;
+            budgets = b.far.budgets ∙ ap (map (costs_of (setup_in p []))) none ∙ sym (ap (map (costs_of (setup_in q []))) none);
+            spent = b.far.spent ∙ ap (costs_of (setup_in p [])) empty ∙ sym (ap (costs_of (setup_in q [])) empty);
+            obtains = b.far.obtains;
+            room = ap (λ (l : List (List Call)). n.room + sum (map (costs_of (setup_in q [])) l)) tasks
+                ∙ sym (ap (λ (l : List (List Call)). n.room + sum (map (costs_of (setup_in p [])) l)) tasks) ∙ b.far.room;
+            ended = b.far.ended;
+          });
+          first = still_first s refl a.0;
+        },
+      )
+
+  -- ---- an EXIT
+
+  pub taken_exit : (source : ℕ) (targets : List ℕ) → is_out_of_order earlier (statement.Exit source targets) ≡ false
+      → length n.exits < most_exits → leads_down (statement.Exit source targets) ≡ false
+      → IsGoodStatement (sizes_behind earlier) (statement.Exit source targets)
+      → (kinds_behind earlier (statement.Exit source targets) ≡ [])
+      × Stands (earlier ++ statement.Exit source targets ∷ [])
+      (record n { exits = n.exits ++ record { source = source; targets = targets } ∷ [] })
+  taken_exit source targets order lt up good =
+      let s : Statement = statement.Exit source targets in
+      let x : SetupExit = record { source = source; targets = targets } in
+      let a = only_first (has_script earlier) _ order in
+      let t = neither (has_task earlier) _ a.1 in
+      let count : length p.exits < most_exits = subst (λ (l : List SetupExit). length l < most_exits) b.far.exits lt in
+      let sound = sound_exit p b.far.sound source targets t.0 count good.0 good.1.0 good.1.1.0 good.1.1.1 up in
+      let whole : IsSoundSoFar (progress_of (earlier ++ s ∷ [])) = subst IsSoundSoFar (sym (one_exit earlier source targets)) sound in
+      let none : n.finished ≡ [] = none_finished t.0 in
+      let empty : n.calls ≡ [] = b.far.fresh t.0 in
+      let tasks : p.tasks ≡ [] = without_tasks p b.far.sound t.0 in
+      let q : Progress = with_statement p s in (
+        fine earlier s order (few most_exits (length (exits_of earlier)) count) up refl (cheap s whole),
+        record {
+          far = subst (λ (y : Progress). IsAsFar y (record n { exits = n.exits ++ x ∷ [] })) (sym (one_exit earlier source targets)) (record {
+            sound = sound;
+            stated = b.far.stated;
+            owners = b.far.owners;
+            exits = ap (λ (l : List SetupExit). l ++ x ∷ []) b.far.exits;
+            begun = b.far.begun;
+            costs = none_costs n.costs (setup_in q (replicate q.stated 0)) (b.far.begun ∙ t.0);
+            tasks = b.far.tasks;
+            fresh = b.far.fresh;
+            budgets = b.far.budgets ∙ ap (map (costs_of (setup_in p []))) none ∙ sym (ap (map (costs_of (setup_in q []))) none);
+            spent = b.far.spent ∙ ap (costs_of (setup_in p [])) empty ∙ sym (ap (costs_of (setup_in q [])) empty);
+            obtains = b.far.obtains;
+            room = ap (λ (l : List (List Call)). n.room + sum (map (costs_of (setup_in q [])) l)) tasks
+                ∙ sym (ap (λ (l : List (List Call)). n.room + sum (map (costs_of (setup_in p [])) l)) tasks) ∙ b.far.room;
+            ended = b.far.ended;
+          });
+          first = still_first s refl a.0;
+        },
+      )
+
+  -- ---- a TASK
+
+  -- how many there are
+  pub task_number : (m : ℕ) → m ≡ length (n.finished ++ open_task (is_some n.costs) n.calls) → m ≡ length (tasks_of earlier)
+  task_number m e = e ∙ ap (λ (t : Bool). length (n.finished ++ open_task t n.calls)) b.far.begun ∙ ap length b.far.tasks
+
+  -- the kinds of a TASK
+  no_kinds : is_out_of_order earlier statement.Task ≡ false → length p.tasks < p.stated
+      → IsSoundSoFar (progress_of (earlier ++ statement.Task ∷ [])) → kinds_behind earlier statement.Task ≡ []
+  no_kinds order lt whole =
+      fine earlier statement.Task order (few (task_count earlier) (length (tasks_of earlier)) lt) refl refl (cheap statement.Task whole)
+
+  -- the room that is left
+  same_room : n.room + sum (budgets_in (with_statement p statement.Task)) ≡ events_limit
+  same_room = ap (λ (m : ℕ). n.room + m) (same_cost p b.far.sound) ∙ b.far.room
+
+  -- behind another task
+  pub taken_task : is_out_of_order earlier statement.Task ≡ false → length (tasks_of earlier) < task_count earlier → is_some n.costs ≡ true
+      → (kinds_behind earlier statement.Task ≡ [])
+      × Stands (earlier ++ statement.Task ∷ []) (record n {
+        finished = n.finished ++ n.calls ∷ [];
+        budgets = n.budgets ++ n.spent ∷ [];
+        calls = [];
+        spent = 0;
+        obtains = 0;
+      })
+  taken_task order lt begun =
+      let s : Statement = statement.Task in
+      let a = only_first (has_script earlier) _ order in
+      let sound = sound_task p b.far.sound lt a.1 in
+      let whole : IsSoundSoFar (progress_of (earlier ++ s ∷ [])) = subst IsSoundSoFar (sym (one_task earlier)) sound in
+      let task : p.task ≡ true = sym b.far.begun ∙ begun in
+      let c : List Call → ℕ = costs_of (setup_in p []) in (
+        no_kinds order lt whole,
+        record {
+          far = subst (λ (y : Progress). IsAsFar y (record n {
+            finished = n.finished ++ n.calls ∷ [];
+            budgets = n.budgets ++ n.spent ∷ [];
+            calls = [];
+            spent = 0;
+            obtains = 0;
+          })) (sym (one_task earlier)) (record {
+            sound = sound;
+            stated = b.far.stated;
+            owners = b.far.owners;
+            exits = b.far.exits;
+            begun = begun;
+            costs = b.far.costs;
+            tasks = ap (λ (l : List (List Call)). l ++ [] ∷ [])
+                (ap (λ (t : Bool). n.finished ++ open_task t n.calls) (sym task) ∙ b.far.tasks);
+            fresh = λ e. refl;
+            budgets = ap (λ (l : List ℕ). l ++ n.spent ∷ []) b.far.budgets ∙ ap (λ (m : ℕ). map c n.finished ++ m ∷ []) b.far.spent
+                ∙ sym (map-append c n.finished (n.calls ∷ []));
+            spent = refl;
+            obtains = refl;
+            room = same_room;
+            ended = b.far.ended;
+          });
+          first = still_first s refl a.0;
+        },
+      )
+
+  -- the first task
+  pub first_task : (k : Setup) → is_out_of_order earlier statement.Task ≡ false → length (tasks_of earlier) < task_count earlier
+      → is_some n.costs ≡ false → k ≡ setup_in p (replicate p.stated 0)
+      → (kinds_behind earlier statement.Task ≡ []) × Stands (earlier ++ statement.Task ∷ []) (record n { costs = Some k })
+  first_task k order lt none same =
+      let s : Statement = statement.Task in
+      let a = only_first (has_script earlier) _ order in
+      let sound = sound_task p b.far.sound lt a.1 in
+      let whole : IsSoundSoFar (progress_of (earlier ++ s ∷ [])) = subst IsSoundSoFar (sym (one_task earlier)) sound in
+      let task : p.task ≡ false = sym b.far.begun ∙ none in
+      let empty : n.calls ≡ [] = b.far.fresh task in
+      let finished : n.finished ≡ [] = none_finished task in
+      let tasks : p.tasks ≡ [] = without_tasks p b.far.sound task in (
+        no_kinds order lt whole,
+        record {
+          far = subst (λ (y : Progress). IsAsFar y (record n { costs = Some k })) (sym (one_task earlier)) (record {
+            sound = sound;
+            stated = b.far.stated;
+            owners = b.far.owners;
+            exits = b.far.exits;
+            begun = refl;
+            costs = same;
+            tasks = rw (empty, finished, tasks) refl;
+            fresh = λ e. absurd cc;
+            budgets = b.far.budgets;
+            spent = b.far.spent;
+            obtains = b.far.obtains;
+            room = same_room;
+            ended = b.far.ended;
+          });
+          first = still_first s refl a.0;
+        },
+      )
+
+  -- ---- the tasks, where one has begun
+
+  -- the tasks
+  pub tasks_are : is_some n.costs ≡ true → tasks_of earlier ≡ n.finished ++ n.calls ∷ []
+  tasks_are begun = sym b.far.tasks ∙ ap (λ (t : Bool). n.finished ++ open_task t n.calls) (sym b.far.begun ∙ begun)
+
+  -- the calls of the last one
+  pub last_calls : is_some n.costs ≡ true → last_task (tasks_of earlier) ≡ n.calls
+  last_calls begun = ap last_task (tasks_are begun) ∙ last_is n.finished n.calls
+
+  -- what their calls may cost
+  pub budgets_are : is_some n.costs ≡ true → budgets_of earlier ≡ n.budgets ++ n.spent ∷ []
+  budgets_are begun =
+      let c : List Call → ℕ = costs_of (setup_in p []) in
+      ap (map c) (tasks_are begun) ∙ map-append c n.finished (n.calls ∷ [])
+      ∙ sym (ap (λ (l : List ℕ). l ++ n.spent ∷ []) b.far.budgets ∙ ap (λ (m : ℕ). map c n.finished ++ m ∷ []) b.far.spent)
+
+  -- behind END a task has begun, and there are as many as are stated
+  pub ended_well : n.ended ≡ true → (is_some n.costs ≡ true) × ((1 ≤ p.stated) × (length p.tasks ≡ p.stated))
+  ended_well e =
+      let same : length p.tasks ≡ p.stated = b.far.sound.ended (sym b.far.ended ∙ e) in
+      let some : 1 ≤ p.stated = is_positive p.stated (sym b.far.sound.script ∙ script (has_script earlier) refl) in
+      (b.far.begun ∙ b.far.sound.task ∙ up (length p.tasks) (omega (arith, same, some)), (some, same)) where
+        up : (m : ℕ) → 1 ≤ m → nat_lt 0 m ≡ true
+        up m le = grind arith
+
+        script : (h : Bool) → has_script earlier ≡ h → has_script earlier ≡ true
+        script true is = is
+        script false is = absurd (cc (ap has_end (b.first is), b.far.ended, e))
+
+  -- ---- a call
+
+  -- the kinds of a call that costs too much
+  pub too_much : (c : Call) → is_some n.costs ≡ true → n.room < cost (setup_in p []) c
+      → is_too_costly earlier (statement.Call c) ≡ true
+  too_much c begun lt =
+      let e : sum (budgets_of (earlier ++ statement.Call c ∷ [])) ≡ sum (budgets_in p) + cost (setup_in p []) c =
+      ap (λ (y : Progress). sum (budgets_in y)) (one_call earlier c) ∙ call_cost p b.far.sound c (sym b.far.begun ∙ begun) in
+      ap (nat_lt events_limit) e ∙ high (sum (budgets_in p)) (cost (setup_in p []) c) n.room b.far.room lt where
+        high : (m d room : ℕ) → room + m ≡ events_limit → room < d → nat_lt events_limit (m + d) ≡ true
+        high m d room e lt = grind arith
+
+  pub taken_call : (c : Call) (obtains : ℕ) → is_out_of_order earlier (statement.Call c) ≡ false → is_some n.costs ≡ true
+      → length n.calls < most_calls → IsGoodStatement (sizes_behind earlier) (statement.Call c)
+      → is_no_obtain n.calls (obtain_meant c) ≡ false → cost (setup_in p []) c ≤ n.room
+      → obtains ≡ n.obtains + count_by is_obtain (c ∷ [])
+      → (kinds_behind earlier (statement.Call c) ≡ [])
+      × Stands (earlier ++ statement.Call c ∷ []) (record n {
+        calls = n.calls ++ c ∷ [];
+        spent = n.spent + cost (setup_in p []) c;
+        obtains = obtains;
+        room = n.room - cost (setup_in p []) c;
+      })
+  taken_call c obtains order begun lt good means le more =
+      let s : Statement = statement.Call c in
+      let a = only_first (has_task earlier) _ order in
+      let d : ℕ = cost (setup_in p []) c in
+      let last : last_task p.tasks ≡ n.calls = last_calls begun in
+      let count : length (last_task p.tasks) < most_calls = subst (λ (l : List Call). length l < most_calls) (sym last) lt in
+      let meant : is_no_obtain (last_task p.tasks) (obtain_meant c) ≡ false =
+      ap (λ (l : List Call). is_no_obtain l (obtain_meant c)) last ∙ means in
+      let sound = sound_call p b.far.sound c a.0 a.1 count good meant (omega (arith, b.far.room, le)) in
+      let whole : IsSoundSoFar (progress_of (earlier ++ s ∷ [])) = subst IsSoundSoFar (sym (one_call earlier c)) sound in
+      let total : sum (budgets_in (with_statement p s)) ≡ sum (budgets_in p) + d = call_cost p b.far.sound c a.0 in
+      let script : has_script earlier ≡ true = begun_script a.0 in (
+        fine earlier s order (few most_calls (length (last_task (tasks_of earlier))) count) refl meant (cheap s whole),
+        record {
+          far = subst (λ (y : Progress). IsAsFar y (record n {
+            calls = n.calls ++ c ∷ [];
+            spent = n.spent + d;
+            obtains = obtains;
+            room = n.room - d;
+          })) (sym (one_call earlier c)) (record {
+            sound = sound;
+            stated = b.far.stated;
+            owners = b.far.owners;
+            exits = b.far.exits;
+            begun = b.far.begun;
+            costs = b.far.costs;
+            tasks = ap (λ (t : Bool). n.finished ++ open_task t (n.calls ++ c ∷ [])) a.0 ∙ sym (last_takes n.finished n.calls c)
+                ∙ ap (λ (l : List (List Call)). with_call l c) (sym (tasks_are begun));
+            fresh = λ e. absurd (cc (a.0, e));
+            budgets = b.far.budgets;
+            spent = ap (λ (m : ℕ). m + d) b.far.spent ∙ sym (sum_by_push (cost (setup_in p [])) n.calls c);
+            obtains = more ∙ ap (λ (m : ℕ). m + count_by is_obtain (c ∷ [])) b.far.obtains ∙ sym (count_push n.calls c);
+            room = omega (arith, total, b.far.room, le);
+            ended = b.far.ended;
+          });
+          first = still_first s refl script;
+        },
+      )
+    where
+      begun_script : has_task earlier ≡ true → has_script earlier ≡ true
+      begun_script e =
+          let some : 1 ≤ length p.tasks = is_positive (length p.tasks) (sym b.far.sound.task ∙ e) in
+          b.far.sound.script ∙ up p.stated (omega (arith, some, b.far.sound.few_tasks)) where
+            up : (m : ℕ) → 1 ≤ m → nat_lt 0 m ≡ true
+            up m le = grind arith
+
+  -- ---- END
+
+  pub taken_end : is_out_of_order earlier statement.End ≡ false → task_count earlier ≤ length (tasks_of earlier)
+      → (kinds_behind earlier statement.End ≡ []) × Stands (earlier ++ statement.End ∷ []) (record n { ended = true })
+  taken_end order le =
+      let s : Statement = statement.End in
+      let a = only_first (has_script earlier) _ order in
+      let sound = sound_end p b.far.sound le in
+      let whole : IsSoundSoFar (progress_of (earlier ++ s ∷ [])) = subst IsSoundSoFar (sym (the_end earlier)) sound in (
+        fine earlier s order (enough (task_count earlier) (length (tasks_of earlier)) le) refl refl (cheap s whole),
+        record {
+          far = subst (λ (y : Progress). IsAsFar y (record n { ended = true })) (sym (the_end earlier)) (record {
+            sound = sound;
+            stated = b.far.stated;
+            owners = b.far.owners;
+            exits = b.far.exits;
+            begun = b.far.begun;
+            costs = b.far.costs;
+            tasks = b.far.tasks;
+            fresh = b.far.fresh;
+            budgets = b.far.budgets;
+            spent = b.far.spent;
+            obtains = b.far.obtains;
+            room = b.far.room;
+            ended = refl;
+          });
+          first = still_first s refl a.0;
+        },
+      )
+    where
+      enough : (k m : ℕ) → k ≤ m → nat_lt m k ≡ false
+      enough k m le = grind arith
+
+-- ---- SCRIPT
+
+pub taken_script : (earlier : List Statement) (n : Notes) (t : ℕ) → Stands earlier n → n.stated ≡ 0 → (1 ≤ t) × (t ≤ most_tasks)
+    → (kinds_behind earlier (statement.Script t) ≡ []) × Stands (earlier ++ statement.Script t ∷ []) (record n { stated = t })
+taken_script [] n t b zero good = (
+  refl,
+  record {
+    far = record {
+      sound = sound_script t good.0 good.1;
+      stated = refl;
+      owners = b.far.owners;
+      exits = b.far.exits;
+      begun = b.far.begun;
+      costs = none_costs n.costs _ b.far.begun;
+      tasks = b.far.tasks;
+      fresh = b.far.fresh;
+      budgets = b.far.budgets ∙ none_yet n.finished (sym (append_none n.finished) ∙ b.far.tasks);
+      spent = b.far.spent ∙ ap (costs_of (setup_in (progress_of []) [])) (b.far.fresh refl)
+          ∙ sym (ap (costs_of (setup_in (progress_of (statement.Script t ∷ [])) [])) (b.far.fresh refl));
+      obtains = b.far.obtains;
+      room = b.far.room;
+      ended = b.far.ended;
+    };
+    first = λ e. absurd cc;
+  },
+) where
+  none_yet : (tasks : List (List Call)) → tasks ≡ [] → map (costs_of (setup_in (progress_of []) [])) tasks
+      ≡ map (costs_of (setup_in (progress_of (statement.Script t ∷ [])) [])) tasks
+  none_yet tasks e = rw e refl
+taken_script (s ∷ earlier) n t b zero good =
+    absurd (some (b.first (sym (script_is (s ∷ earlier) n b) ∙ ap (nat_lt 0) zero))) where
+      some : s ∷ earlier ≡ [] → ⊥
+      some e = absurd cc

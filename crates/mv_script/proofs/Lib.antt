@@ -1,0 +1,23 @@
+-- words and numbers
+pub mod Operands
+pub mod Lists
+pub mod Fields
+pub mod Obtains
+pub mod Good
+-- one more statement
+pub mod Progresses
+pub mod Told
+pub mod Costs
+pub mod Behind
+pub mod Valid
+-- the pass, and the first fault
+pub mod Lines
+pub mod Passes
+pub mod Lowest
+-- the law that scripts are sound
+pub mod Sounds
+-- the law that costs suffice
+pub mod Suffices
+-- rows worked by hand: texts, and runs
+pub mod Rows
+pub mod RunRows

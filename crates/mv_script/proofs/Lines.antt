@@ -1,0 +1,121 @@
+-- What a line adds, by what of it counts.
+use Rattle.std.proofs.Common.{◌≡◌, ℕ, true, false, List, [], ◌++◌, length, Option, Some, None, Result, Ok, Err, refl, sym, ap}
+use Rattle.std.proofs.Common.{subst, ◌∙◌, arith, MatchResult}
+use Rattle.std.specs.Prelude.{◌==◌, ◌<◌, ◌≤◌, not, nat_lt}
+use Rattle.std.specs.List.{list_any}
+use Rattle.mv_line.specs.Byte.{is_printable}
+use Rattle.mv_line.specs.Line.{without_cr}
+use Rattle.mv_script.specs.declared.operand.Sizes.{Sizes}
+use Rattle.mv_script.specs.declared.fault.LineRefusal.{LineRefusal}
+use Rattle.mv_script.specs.declared.fault.LineRefusal.TheVariants.{Has, NoMemory}
+use Rattle.mv_script.specs.declared.reading.Reading.{Reading}
+use Rattle.mv_script.specs.declared.statement.Statement.{Statement}
+use Rattle.mv_script.specs.declared.words.Misread.{Misread}
+use Rattle.mv_script.specs.declared.words.Misread.TheVariants.{NoForm, BadNumber}
+use Rattle.mv_script.specs.Fault.{has_foreign_byte, is_too_long, kinds_of, kinds_behind, first_of_list}
+use Rattle.mv_script.specs.Line.{shown}
+use Rattle.mv_script.specs.Misread.{misread_refusal, IsReadAs}
+use Rattle.mv_script.specs.Limits.{longest_line}
+use Rattle.mv_script.specs.Reading.{IsBehind, IsTaken, Tells, Notes, Stands}
+use Rattle.mv_script.specs.Script.{sizes_behind, with_line, added, task_count, owners_of}
+use Rattle.mv_script.specs.Statement.{line_states, text_states}
+use Rattle.mv_script.specs.Words.{Read}
+use Rattle.mv_script.proofs.Progresses.{append_none}
+
+is_nothing : (n : ℕ) → n ≡ 0 → (n == 0) ≡ true
+is_nothing n e = grind arith
+
+is_something : (n : ℕ) → 0 < n → (n == 0) ≡ false
+is_something n lt = grind arith
+
+-- what was found of a line without its CR
+pub printable_by : (line content : List ℕ) → content ≡ without_cr line → list_any (λ b. not (is_printable b)) content ≡ false
+    → has_foreign_byte line ≡ false
+printable_by line content e f = subst (λ (l : List ℕ). list_any (λ b. not (is_printable b)) l ≡ false) e f
+
+not_longer : (n : ℕ) → n ≤ longest_line → nat_lt longest_line n ≡ false
+not_longer n le = grind arith
+
+-- and of its length
+pub short_by : (line content : List ℕ) → content ≡ without_cr line → length content ≤ longest_line → is_too_long line ≡ false
+short_by line content e le = not_longer (length (without_cr line)) (subst (λ (l : List ℕ). length l ≤ longest_line) e le)
+
+-- a text that is not empty
+pub some_text : (n : ℕ) → (n == 0) ≡ false → 0 < n
+some_text n e = grind arith
+
+-- sizes by their numbers
+abbrev pub sizes : ℕ → ℕ → Sizes
+sizes tasks ecbs = record { tasks = tasks; ecbs = ecbs }
+
+same_sizes : (a b c d : ℕ) → a ≡ b → c ≡ d → sizes a c ≡ sizes b d
+same_sizes a b c d e f = rw (e, f) refl
+
+-- the sizes by which a line is read
+pub sizes_are : (earlier : List Statement) (n : Notes) → Stands earlier n → (m : ℕ) → m ≡ length n.owners
+    → sizes n.stated m ≡ sizes_behind earlier
+sizes_are earlier n b m e =
+    same_sizes n.stated (task_count earlier) m (length (owners_of earlier)) b.far.stated (e ∙ ap length b.far.owners)
+
+-- a line whose bytes are good, and what counts of it
+module _ (earlier : List Statement) (line text : List ℕ) (same : text ≡ shown line) (printable : has_foreign_byte line ≡ false)
+    (short : is_too_long line ≡ false) where
+  -- ---- an ignored line
+
+  none_stated : length text ≡ 0 → line_states (sizes_behind earlier) line ≡ None
+  none_stated e = rw (is_nothing (length (shown line)) (ap length (sym same) ∙ e)) refl
+
+  no_kinds : line_states (sizes_behind earlier) line ≡ None → kinds_of earlier line ≡ []
+  no_kinds e = rw (printable, short, e) refl
+
+  pub line_ignored : (r : Reading) → length text ≡ 0 → IsBehind earlier r
+      → (kinds_of earlier line ≡ []) × IsBehind (with_line earlier line) r
+  line_ignored r e b =
+      let none = none_stated e in (
+        no_kinds none,
+        subst (λ (l : List Statement). IsBehind l r)
+            (sym (ap (λ (o : Option (Read Statement)). earlier ++ added o) none ∙ append_none earlier)) b,
+      )
+
+  -- ---- one that is not
+
+  some_stated : 0 < length text → line_states (sizes_behind earlier) line ≡ Some (text_states (sizes_behind earlier) text)
+  some_stated lt =
+      rw (is_something (length (shown line)) (subst (λ (l : List ℕ). 0 < length l) same lt))
+      (ap (λ (l : List ℕ). Some (text_states (sizes_behind earlier) l)) (sym same))
+
+  its_kinds : (s : Statement) → line_states (sizes_behind earlier) line ≡ Some (Ok s) → kinds_of earlier line ≡ kinds_behind earlier s
+  its_kinds s e = rw (printable, short, e) refl
+
+  no_form : line_states (sizes_behind earlier) line ≡ Some (Err NoForm) → first_of_list (kinds_of earlier line) ≡ Some 3
+  no_form e = rw (printable, short, e) refl
+
+  bad_number : line_states (sizes_behind earlier) line ≡ Some (Err BadNumber) → first_of_list (kinds_of earlier line) ≡ Some 4
+  bad_number e = rw (printable, short, e) refl
+
+  pub line_taken : (s : Statement) → 0 < length text → text_states (sizes_behind earlier) text ≡ Ok s
+      → (result : Result (Unit {0}) LineRefusal) (r : Reading) → IsTaken result earlier s r
+      → MatchResult result (λ (done : Unit {0}). (kinds_of earlier line ≡ []) × IsBehind (with_line earlier line) r)
+      (λ e. Tells e (kinds_of earlier line))
+  line_taken s lt e (Ok done) r h =
+      let is = some_stated lt ∙ ap (λ (o : Read Statement). Some o) e in (
+        its_kinds s is ∙ h.0,
+        subst (λ (l : List Statement). IsBehind l r) (sym (ap (λ (o : Option (Read Statement)). earlier ++ added o) is)) h.1,
+      )
+  line_taken s lt e (Err (Has k)) r h =
+      ap first_of_list (its_kinds s (some_stated lt ∙ ap (λ (o : Read Statement). Some o) e)) ∙ h
+  line_taken s lt e (Err NoMemory) r h = tt
+
+  misread : (why : Misread) → line_states (sizes_behind earlier) line ≡ Some (Err why) → (e : LineRefusal) → e ≡ misread_refusal why
+      → Tells e (kinds_of earlier line)
+  misread NoForm is e same = subst (λ (x : LineRefusal). Tells x (kinds_of earlier line)) (sym same) (no_form is)
+  misread BadNumber is e same = subst (λ (x : LineRefusal). Tells x (kinds_of earlier line)) (sym same) (bad_number is)
+
+  pub line_refused : 0 < length text → (e : LineRefusal) → IsReadAs {A = Statement} (Err e) (text_states (sizes_behind earlier) text)
+      → Tells e (kinds_of earlier line)
+  line_refused lt NoMemory h = tt
+  line_refused lt (Has k) h = go (text_states (sizes_behind earlier) text) refl h where
+    go : (read : Read Statement) → text_states (sizes_behind earlier) text ≡ read → IsReadAs {A = Statement} (Err (Has k)) read
+        → Tells (Has k) (kinds_of earlier line)
+    go (Ok s) is h = absurd h
+    go (Err why) is h = misread why (some_stated lt ∙ ap (λ (o : Read Statement). Some o) is) (Has k) h

@@ -1,0 +1,48 @@
+-- Numbers in the places of operands.
+use Rattle.std.proofs.Common.{◌≡◌, ℕ, ◌≤◌, ◌^◌, Bool, true, false, List, [], ◌∷◌, Option, Some, None, Ok, Err, refl}
+use Rattle.std.proofs.Common.{arith, if◌then◌else◌}
+use Rattle.std.specs.Prelude.{nat_lt}
+use Rattle.std.specs.List.{list_all}
+use Rattle.mv_line.specs.Byte.{is_digit, is_within}
+use Rattle.mv_line.specs.Number.{number_of}
+use Rattle.mv_script.specs.declared.words.Misread.TheVariants.{NoForm, BadNumber}
+use Rattle.mv_script.specs.Operand.{is_digits, passed, below, task_count}
+use Rattle.mv_script.specs.Words.{Read}
+
+-- digits are digits
+pub all_digits : (word : List ℕ) → is_digits word ≡ true → list_all is_digit word ≡ true
+all_digits [] e = refl
+all_digits (b ∷ bs) e = e
+
+-- a number that was read, put to another test
+abbrev pub filtered : (ℕ → Bool) → Read ℕ → Read ℕ
+filtered q (Ok n) = if q n then Ok n else Err BadNumber
+filtered q (Err why) = Err why
+
+-- where the other test is the stricter one, that is all
+stricter : (p q : ℕ → Bool) → ((n : ℕ) → p n ≡ false → q n ≡ false) → (digits : Bool) (shown : Option ℕ)
+    → (if digits then passed q shown else Err NoForm) ≡ filtered q (if digits then passed p shown else Err NoForm)
+stricter p q le false shown = refl
+stricter p q le true None = refl
+stricter p q le true (Some n) = go (p n) refl where
+  go : (b : Bool) → p n ≡ b → (if q n then Ok n else Err BadNumber) ≡ filtered q (if p n then Ok n else Err BadNumber)
+  go true e = rw e refl
+  go false e = rw (e, le n e) refl
+
+-- no number at or above one limit is below a lower one
+no_lower : (limit wide n : ℕ) → limit ≤ wide → nat_lt n wide ≡ false → nat_lt n limit ≡ false
+no_lower limit wide n le e = grind arith
+
+-- a number below a limit is one of eight bytes that is below it
+pub filtered_number : (limit : ℕ) (word : List ℕ) → limit ≤ 2 ^ 32 → below limit word ≡ filtered (λ n. nat_lt n limit) (below (2 ^ 64) word)
+filtered_number limit word le =
+    stricter (λ n. nat_lt n (2 ^ 64)) (λ n. nat_lt n limit) (λ n e. no_lower limit (2 ^ 64) n (omega (arith, le)) e) (is_digits word)
+    (number_of word)
+
+-- no number above 8 is one of 1 to 8
+no_count : (n : ℕ) → nat_lt n 9 ≡ false → is_within 1 8 n ≡ false
+no_count n e = grind arith
+
+-- a number of tasks is one below 9 that is not 0
+pub counted_tasks : (word : List ℕ) → task_count word ≡ filtered (is_within 1 8) (below 9 word)
+counted_tasks word = stricter (λ n. nat_lt n 9) (is_within 1 8) no_count (is_digits word) (number_of word)

@@ -1,0 +1,91 @@
+-- A call, in the order of the kinds.
+use Rattle.std.proofs.Common.{◌≡◌, ℕ, ◌+◌, List, [], true, false, length, refl, sym, ap, subst, ◌∙◌, arith, ◌<◌, ◌≤◌, Option, Some}
+use Rattle.std.specs.Prelude.{is_some, nat_le, replicate}
+use Rattle.std.proofs.lemmas.Bool.{le-leb, lt-leb}
+use Rattle.mv_machine.specs.Setup.{Setup}
+use Rattle.mv_script.specs.declared.call.Call.{Call}
+use Rattle.mv_script.specs.declared.statement.Statement.{Statement}
+use Rattle.mv_script.specs.declared.statement.Statement.TheVariants as statement
+use Rattle.mv_script.specs.Costs.{cost}
+use Rattle.mv_script.specs.Fault.{is_out_of_order, is_miscounted, lacks_obtain, is_no_obtain, obtain_meant}
+use Rattle.mv_script.specs.Limits.{most_calls}
+use Rattle.mv_script.specs.Reading.{Notes, notes_of, Stands, HasCosts, progress_of, setup_in}
+use Rattle.mv_script.specs.Script.{task_count, owners_of, exits_of}
+use Rattle.mv_script.proofs.Behind.{late_call, last_calls, too_much, taken_call}
+use Rattle.mv_script.proofs.Costs.{cost_same}
+use Rattle.mv_script.proofs.Told.{many, none, much}
+use Rattle.mv_script.proofs.reading.Reading.take_call.Goals as goal
+
+-- what is known of a call where a task has begun
+module _ (earlier : List Statement) (n : Notes) (b : Stands earlier n) (call : Call) (k : Setup) (is : n.costs ≡ Some k) (going : n.ended ≡ false) where
+  -- a task has begun
+  begun : is_some n.costs ≡ true
+  begun = ap is_some is
+
+  -- the call is in order
+  order : is_out_of_order earlier (statement.Call call) ≡ false
+  order = sym (late_call earlier n b call) ∙ rw (begun, going) refl
+
+  -- one call too many
+  crowded : most_calls ≤ length n.calls → is_miscounted earlier (statement.Call call) ≡ true
+  crowded le = ap (λ (l : List Call). nat_le most_calls (length l)) (last_calls earlier n b begun) ∙ le-leb most_calls (length n.calls) le
+
+  -- not one too many
+  counted : length n.calls < most_calls → is_miscounted earlier (statement.Call call) ≡ false
+  counted lt = ap (λ (l : List Call). nat_le most_calls (length l)) (last_calls earlier n b begun) ∙ lt-leb most_calls (length n.calls) lt
+
+  -- which OBTAIN is meant
+  means : lacks_obtain earlier (statement.Call call) ≡ is_no_obtain n.calls (obtain_meant call)
+  means = ap (λ (l : List Call). is_no_obtain l (obtain_meant call)) (last_calls earlier n b begun)
+
+  -- what the call costs
+  price : (m : ℕ) → m ≡ cost k call → m ≡ cost (setup_in (progress_of earlier) []) call
+  price m e =
+      let p = progress_of earlier in
+      let same : k ≡ setup_in p (replicate p.stated 0) =
+      subst (λ (o : Option Setup). HasCosts o (setup_in p (replicate p.stated 0))) is b.far.costs in
+      e ∙ ap (λ (s : Setup). cost s call) same ∙ cost_same (task_count earlier) (owners_of earlier) (exits_of earlier)
+      (replicate p.stated 0) [] call
+
+pub returns-then-len-ge-MOST_CALLS : goal.returns-then-len-ge-MOST_CALLS
+returns-then-len-ge-MOST_CALLS c = λ earlier b good.
+    let n = notes_of c.args.self.now in
+    let o = order earlier n b c.args.call c.in-Some.costs c.in-Some.is c.if-self.false in
+    let m = crowded earlier n b c.args.call c.in-Some.costs c.in-Some.is c.if-self.false
+    (omega (arith, c.len.ensures, c.if-len-ge-MOST_CALLS.true)) in
+    many earlier (statement.Call c.args.call) o m
+
+pub returns-then-lacks_obtain : goal.returns-then-lacks_obtain
+returns-then-lacks_obtain c = λ earlier b good.
+    let n = notes_of c.args.self.now in
+    let o = order earlier n b c.args.call c.in-Some.costs c.in-Some.is c.if-self.false in
+    let m = counted earlier n b c.args.call c.in-Some.costs c.in-Some.is c.if-self.false
+    (omega (arith, c.len.ensures, c.if-len-ge-MOST_CALLS.false)) in
+    let l = means earlier n b c.args.call c.in-Some.costs c.in-Some.is c.if-self.false
+    ∙ sym (c.lacks_obtain.ensures n.calls (sym b.far.obtains)) ∙ c.if-lacks_obtain.true in
+    none earlier (statement.Call c.args.call) o m refl l
+
+pub returns-then-cost-self : goal.returns-then-cost-self
+returns-then-cost-self c = λ earlier b good.
+    let n = notes_of c.args.self.now in
+    let o = order earlier n b c.args.call c.in-Some.costs c.in-Some.is c.if-self.false in
+    let m = counted earlier n b c.args.call c.in-Some.costs c.in-Some.is c.if-self.false
+    (omega (arith, c.len.ensures, c.if-len-ge-MOST_CALLS.false)) in
+    let l = means earlier n b c.args.call c.in-Some.costs c.in-Some.is c.if-self.false
+    ∙ sym (c.lacks_obtain.ensures n.calls (sym b.far.obtains)) ∙ c.if-lacks_obtain.false in
+    let d = price earlier n b c.args.call c.in-Some.costs c.in-Some.is c.if-self.false c.cost-cost.result c.cost-cost.ensures in
+    much earlier (statement.Call c.args.call) o m refl l
+    (too_much earlier n b c.args.call (begun earlier n b c.args.call c.in-Some.costs c.in-Some.is c.if-self.false)
+    (omega (arith, d, c.if-cost-self.true)))
+
+pub returns : goal.returns
+returns c = λ earlier b good.
+    let n = notes_of c.args.self.now in
+    let o = order earlier n b c.args.call c.in-Some.costs c.in-Some.is c.if-self.false in
+    let l = sym (c.lacks_obtain.ensures n.calls (sym b.far.obtains)) ∙ c.if-lacks_obtain.false in
+    let d = price earlier n b c.args.call c.in-Some.costs c.in-Some.is c.if-self.false c.cost-cost.result c.cost-cost.ensures in
+    rw (c.in_ok-push.ensures.items, d)
+    (taken_call earlier n b c.args.call (n.obtains + c.obtain_count.result) o
+    (begun earlier n b c.args.call c.in-Some.costs c.in-Some.is c.if-self.false)
+    (omega (arith, c.len.ensures, c.if-len-ge-MOST_CALLS.false)) good l (omega (arith, d, c.if-cost-self.false))
+    (ap (λ (m : ℕ). n.obtains + m) c.obtain_count.ensures))

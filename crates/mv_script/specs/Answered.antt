@@ -1,0 +1,105 @@
+-- What a call of a script answers, by what the service answered.
+use Rattle.std.specs.Prelude.{ℕ, map, Option, Some, None, Result, Ok, Err}
+use Rattle.mv_calls.specs.LatchCalls.{Obtained, GrantedAs, PendingAs, Standing, Holds, Waits, IsOut, Counts}
+use Rattle.mv_calls.specs.Pauses.{Gift, Reached, CameEarly, WokeIt}
+use Rattle.mv_calls.specs.Posts.{Posting}
+use Rattle.mv_calls.specs.Posts as posting
+use Rattle.mv_calls.specs.Refusal.{Refusal}
+use Rattle.mv_calls.specs.Refusal as refusal
+use Rattle.mv_calls.specs.Services.{Service}
+use Rattle.mv_calls.specs.Services as service
+use Rattle.mv_wait.specs.declared.waiting.WaitSlot.{WaitSlot}
+use Rattle.mv_wait.specs.declared.waiting.WaitSlot.TheVariants as slot
+use Rattle.mv_script.specs.declared.answer.Answer.{Answer}
+use Rattle.mv_script.specs.declared.answer.Answer.TheVariants as answer
+
+-- each refusal has an answer of its own
+abbrev pub refused : Refusal → Answer
+refused refusal.TooMany = answer.TooMany
+refused (refusal.Doubled position) = answer.Doubled position
+refused (refusal.NotOwnerAt position) = answer.NotOwnerAt position
+refused (refusal.ExtendedAt position) = answer.ExtendedAt position
+refused refusal.NotOwner = answer.NotOwner
+refused refusal.BadExit = answer.BadExit
+refused refusal.Extended = answer.Extended
+refused (refusal.Complete code) = answer.Complete code
+refused refusal.NoElement = answer.NoElement
+refused (refusal.Spent generation) = answer.Spent generation
+refused refusal.Already = answer.AlreadyReleased
+refused (refusal.TargetSpent generation) = answer.TargetSpent generation
+refused refusal.TargetAlready = answer.TargetAlready
+refused refusal.BadLatch = answer.BadLatch
+refused refusal.Quota = answer.Quota
+refused (refusal.NotNow id) = answer.NotNow id
+refused refusal.Purged = answer.Purged
+refused refusal.Gone = answer.Gone
+refused refusal.StillWaiting = answer.Waiting
+
+-- what was done, or why it was refused
+abbrev pub done_or : {A : Type 0} → (A → Answer) → Result A Refusal → Answer
+done_or f (Ok a) = f a
+done_or f (Err why) = refused why
+
+-- how a block of a wait was found
+abbrev pub slot_with : Option ℕ → WaitSlot
+slot_with None = slot.Open
+slot_with (Some code) = slot.Complete code
+
+-- a post, whichever exit it started
+abbrev pub posted : Posting → Answer
+posted posting.Posted = answer.Posted
+posted (posting.Woke exit) = answer.Woke
+posted (posting.Already code) = answer.AlreadyPosted code
+
+-- what a pause was given
+abbrev pub given : Gift → Answer
+given gift = answer.Given gift.code gift.next
+
+-- a transfer without a pause is done
+abbrev pub given_if_paused : Option Gift → Answer
+given_if_paused None = answer.Done
+given_if_paused (Some gift) = given gift
+
+-- a release
+abbrev pub reached : Reached → Answer
+reached CameEarly = answer.Early
+reached WokeIt = answer.Woke
+
+-- an obtain; its number is not told
+abbrev pub obtained : Obtained → Answer
+obtained (GrantedAs id) = answer.Granted
+obtained (PendingAs id) = answer.Pending
+
+-- how a request stands
+abbrev pub standing : Standing → Answer
+standing Holds = answer.Granted
+standing Waits = answer.Waiting
+standing IsOut = answer.Gone
+
+-- a purge
+abbrev pub purged : Counts → Answer
+purged counts = answer.PurgedCounts counts.removed counts.granted
+
+-- the answer to each service
+abbrev pub answer_to : (s : Service) → service.Answer s → Answer
+answer_to (service.Wait count blocks) a = done_or (λ slots. answer.Waited (map slot_with slots)) a
+answer_to (service.Post block code) a = posted a
+answer_to (service.TryPost block expected code) a = posted a
+answer_to (service.Clear block) a = done_or (λ word. answer.Word word) a
+answer_to (service.Extend block exit) a = done_or (λ nothing. answer.Done) a
+answer_to (service.TestEcb block) a = answer.Word a
+answer_to (service.ReadVolume volume) a = answer.Value a
+answer_to (service.WriteVolume volume number) a = answer.Done
+answer_to service.Allocate a = done_or (λ token. answer.Token token) a
+answer_to (service.Pause token) a = done_or given a
+answer_to (service.Release token code) a = done_or reached a
+answer_to (service.TryRelease token expected code) a = done_or reached a
+answer_to (service.Transfer current target code) a = done_or given_if_paused a
+answer_to (service.Deallocate token) a = done_or (λ nothing. answer.Done) a
+answer_to (service.TestElement element) a = answer.State a
+answer_to (service.Obtain latch requestor mode form) a = done_or obtained a
+answer_to (service.CheckLatch latch id) a = standing a
+answer_to (service.ReleaseLatch latch id conditional) a = done_or (λ granted. answer.Released granted) a
+answer_to (service.Purge requestor) a = purged a
+answer_to (service.EndOfJob requestor block code) a = purged a
+answer_to (service.EndOfTask requestor mother code) a = purged a

@@ -1,0 +1,212 @@
+-- The faults of a text: one test for each kind of fault that a line can have, and which fault is the first.
+use Rattle.std.specs.Prelude.{◌≡◌, ℕ, ◌+◌, Bool, true, false, ◌&&◌, ◌||◌, not, nat_le, nat_lt, List, [], ◌∷◌, ◌++◌, length, map, sum}
+use Rattle.std.specs.Prelude.{count_by, Option, Some, None, Ok, Err, if◌then◌else◌}
+use Rattle.std.specs.List.{list_any}
+use Rattle.mv_line.specs.Byte.{is_printable, is_within}
+use Rattle.mv_line.specs.Line.{lines_of, without_cr}
+use Rattle.mv_machine.specs.Limits.{events_limit}
+use Rattle.mv_script.specs.declared.call.Call.{Call}
+use Rattle.mv_script.specs.declared.call.Call.TheVariants as call
+use Rattle.mv_script.specs.declared.fault.Kind.{Kind}
+use Rattle.mv_script.specs.declared.fault.Kind.TheVariants.{ForeignByte, TooLong, NoForm, BadNumber, OutOfOrder, Miscounted, LeadsDown}
+use Rattle.mv_script.specs.declared.fault.Kind.TheVariants.{NoObtain, NoEnd, TooCostly}
+use Rattle.mv_script.specs.declared.fault.ScriptFault.{ScriptFault}
+use Rattle.mv_script.specs.declared.fault.ScriptRefusal.{ScriptRefusal}
+use Rattle.mv_script.specs.declared.fault.ScriptRefusal.TheVariants.{Fault, NoMemory}
+use Rattle.mv_script.specs.declared.statement.Statement.{Statement}
+use Rattle.mv_script.specs.declared.statement.Statement.TheVariants as statement
+use Rattle.mv_script.specs.declared.words.Misread.TheVariants as misread
+use Rattle.mv_script.specs.Limits.{longest_line, most_ecbs, most_exits, most_calls}
+use Rattle.mv_script.specs.Script.{task_count, owners_of, exits_of, tasks_of, last_task, is_obtain, budgets_of, sizes_behind, with_line}
+use Rattle.mv_script.specs.Statement.{line_states}
+use Rattle.mv_script.specs.Words.{Read}
+
+-- the number of a kind
+abbrev pub kind_number : Kind → ℕ
+kind_number ForeignByte = 1
+kind_number TooLong = 2
+kind_number NoForm = 3
+kind_number BadNumber = 4
+kind_number OutOfOrder = 5
+kind_number Miscounted = 6
+kind_number LeadsDown = 7
+kind_number NoObtain = 8
+kind_number NoEnd = 9
+kind_number TooCostly = 10
+
+-- ---- faults of a line by itself
+
+-- a byte that is no printable ASCII; one CR at the end is none of the line
+abbrev pub has_foreign_byte : List ℕ → Bool
+has_foreign_byte line = list_any (λ b. not (is_printable b)) (without_cr line)
+
+-- more bytes than a card has, not counting one CR at the end
+abbrev pub is_too_long : List ℕ → Bool
+is_too_long line = nat_lt longest_line (length (without_cr line))
+
+-- an ignored line needs no form
+abbrev pub has_no_form : Option (Read Statement) → Bool
+has_no_form None = false
+has_no_form (Some (Ok s)) = false
+has_no_form (Some (Err misread.NoForm)) = true
+has_no_form (Some (Err misread.BadNumber)) = false
+
+-- a number with a zero in front, out of its range, or of no task, block, element or volume
+abbrev pub has_bad_number : Option (Read Statement) → Bool
+has_bad_number None = false
+has_bad_number (Some (Ok s)) = false
+has_bad_number (Some (Err misread.NoForm)) = false
+has_bad_number (Some (Err misread.BadNumber)) = true
+
+-- ---- where a statement stands
+
+-- the five sorts of lines that others ask for
+abbrev pub is_script : Statement → Bool
+is_script (statement.Script t) = true
+is_script _ = false
+
+-- an EXIT
+abbrev pub is_exit : Statement → Bool
+is_exit (statement.Exit source targets) = true
+is_exit _ = false
+
+-- a TASK
+abbrev pub is_task : Statement → Bool
+is_task statement.Task = true
+is_task _ = false
+
+-- the END
+abbrev pub is_end : Statement → Bool
+is_end statement.End = true
+is_end _ = false
+
+-- whether one of these is a SCRIPT
+abbrev pub has_script : List Statement → Bool
+has_script earlier = list_any is_script earlier
+
+-- an EXIT
+abbrev pub has_exit : List Statement → Bool
+has_exit earlier = list_any is_exit earlier
+
+-- a TASK
+abbrev pub has_task : List Statement → Bool
+has_task earlier = list_any is_task earlier
+
+-- the END
+abbrev pub has_end : List Statement → Bool
+has_end earlier = list_any is_end earlier
+
+-- SCRIPT is the first of all, and stands once. Behind it come the ECBs, then the EXITs, then the tasks, each a TASK and its
+-- calls, and then END, behind which nothing stands
+abbrev pub is_out_of_order : List Statement → Statement → Bool
+is_out_of_order earlier (statement.Script t) = nat_lt 0 (length earlier)
+is_out_of_order earlier (statement.Ecb owner) = not (has_script earlier) || (has_exit earlier || (has_task earlier || has_end earlier))
+is_out_of_order earlier (statement.Exit source targets) = not (has_script earlier) || (has_task earlier || has_end earlier)
+is_out_of_order earlier statement.Task = not (has_script earlier) || has_end earlier
+is_out_of_order earlier (statement.Call c) = not (has_task earlier) || has_end earlier
+is_out_of_order earlier statement.End = not (has_script earlier) || has_end earlier
+
+-- ---- what a statement asks of those before it
+
+-- one more block, exit, task or call than there may be, or an END behind fewer tasks than are stated
+abbrev pub is_miscounted : List Statement → Statement → Bool
+is_miscounted earlier (statement.Script t) = false
+is_miscounted earlier (statement.Ecb owner) = nat_le most_ecbs (length (owners_of earlier))
+is_miscounted earlier (statement.Exit source targets) = nat_le most_exits (length (exits_of earlier))
+is_miscounted earlier statement.Task = nat_le (task_count earlier) (length (tasks_of earlier))
+is_miscounted earlier (statement.Call c) = nat_le most_calls (length (last_task (tasks_of earlier)))
+is_miscounted earlier statement.End = nat_lt (length (tasks_of earlier)) (task_count earlier)
+
+-- an EXIT with a target that is not above its source
+abbrev pub leads_down : Statement → Bool
+leads_down (statement.Script t) = false
+leads_down (statement.Ecb owner) = false
+leads_down (statement.Exit source targets) = list_any (λ target. nat_le target source) targets
+leads_down statement.Task = false
+leads_down (statement.Call c) = false
+leads_down statement.End = false
+
+-- the OBTAIN that a call means, counted from 1
+abbrev pub obtain_meant : Call → Option ℕ
+obtain_meant (call.Check k) = Some k
+obtain_meant (call.Free k conditional) = Some k
+obtain_meant _ = None
+
+-- whether a number is that of none of these calls that is an OBTAIN
+abbrev pub is_no_obtain : List Call → Option ℕ → Bool
+is_no_obtain calls None = false
+is_no_obtain calls (Some k) = not (is_within 1 (count_by is_obtain calls) k)
+
+-- a CHECK or FREE of no earlier OBTAIN of its task
+abbrev pub lacks_obtain : List Statement → Statement → Bool
+lacks_obtain earlier (statement.Script t) = false
+lacks_obtain earlier (statement.Ecb owner) = false
+lacks_obtain earlier (statement.Exit source targets) = false
+lacks_obtain earlier statement.Task = false
+lacks_obtain earlier (statement.Call c) = is_no_obtain (last_task (tasks_of earlier)) (obtain_meant c)
+lacks_obtain earlier statement.End = false
+
+-- the calls of a script with this statement may make more events than a run may have
+abbrev pub is_too_costly : List Statement → Statement → Bool
+is_too_costly earlier s = nat_lt events_limit (sum (budgets_of (earlier ++ s ∷ [])))
+
+-- ---- all faults, and the first
+
+-- the number of a kind, where its test holds
+abbrev pub when : Bool → Kind → List ℕ
+when holds kind = if holds then kind_number kind ∷ [] else []
+
+-- the kinds of fault of a statement behind earlier ones, rising. One that is out of order is asked no more
+abbrev pub kinds_behind : List Statement → Statement → List ℕ
+kinds_behind earlier s =
+    let in_order = not (is_out_of_order earlier s) in
+    when (is_out_of_order earlier s) OutOfOrder
+    ++ (when (is_miscounted earlier s && in_order) Miscounted
+    ++ (when (leads_down s && in_order) LeadsDown
+    ++ (when (lacks_obtain earlier s && in_order) NoObtain
+    ++ when (is_too_costly earlier s && in_order) TooCostly)))
+
+-- the same for a line that may state nothing
+abbrev pub kinds_of_statement : List Statement → Option (Read Statement) → List ℕ
+kinds_of_statement earlier None = []
+kinds_of_statement earlier (Some (Ok s)) = kinds_behind earlier s
+kinds_of_statement earlier (Some (Err why)) = []
+
+-- the kinds of fault of a line behind the earlier statements, rising
+abbrev pub kinds_of : List Statement → List ℕ → List ℕ
+kinds_of earlier line =
+    let states = line_states (sizes_behind earlier) line in
+    when (has_foreign_byte line) ForeignByte
+    ++ (when (is_too_long line) TooLong
+    ++ (when (has_no_form states) NoForm
+    ++ (when (has_bad_number states) BadNumber
+    ++ kinds_of_statement earlier states)))
+
+-- the fault of this kind in the line of this number
+abbrev pub fault_at : ℕ → ℕ → ScriptFault
+fault_at line kind = record { line = line; kind = kind }
+
+-- The faults of lines that are numbered from here on, behind the earlier statements: by line, and in a line by kind.
+-- Behind the last line it is a fault that no END stands.
+unfoldable pub faults_from : ℕ → List Statement → List (List ℕ) → List ScriptFault
+faults_from number earlier [] = map (fault_at number) (when (not (has_end earlier)) NoEnd)
+faults_from number earlier (line ∷ lines) =
+    map (fault_at number) (kinds_of earlier line) ++ faults_from (number + 1) (with_line earlier line) lines
+
+-- the faults of a text
+abbrev pub faults_of : List ℕ → List ScriptFault
+faults_of bytes = faults_from 1 [] (lines_of bytes)
+
+-- the first of a list, if there is one
+abbrev pub first_of_list : {A : Type 0} → List A → Option A
+first_of_list [] = None
+first_of_list (x ∷ xs) = Some x
+
+-- the fault with the lowest line, and there with the lowest kind
+abbrev pub first_fault : List ℕ → Option ScriptFault
+first_fault bytes = first_of_list (faults_of bytes)
+
+-- a fault is told only where it is the first
+abbrev pub TellsFirst : ScriptRefusal → Option ScriptFault → Type 0
+TellsFirst (Fault f) first = first ≡ Some f
+TellsFirst NoMemory first = Unit {0}

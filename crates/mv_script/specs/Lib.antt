@@ -1,0 +1,16 @@
+pub mod Limits
+pub mod Line
+pub mod Words
+pub mod Operand
+pub mod Statement
+pub mod Costs
+pub mod Script
+pub mod Misread
+pub mod Fault
+pub mod Answered
+pub mod Tasks
+pub mod Run
+pub mod AnswerText
+pub mod Sound
+pub mod Reading
+pub mod Faults

@@ -1,0 +1,60 @@
+-- The limits of a script, by their names.
+use Rattle.std.specs.Prelude.{ℕ}
+
+-- the longest line, without the CR that is dropped at its end: a card of the reader
+abbrev pub longest_line : ℕ
+longest_line = 80
+
+-- tasks
+abbrev pub most_tasks : ℕ
+most_tasks = 8
+
+-- event control blocks
+abbrev pub most_ecbs : ℕ
+most_ecbs = 64
+
+-- exits
+abbrev pub most_exits : ℕ
+most_exits = 16
+
+-- targets of an exit
+abbrev pub most_targets : ℕ
+most_targets = 4
+
+-- calls of a task
+abbrev pub most_calls : ℕ
+most_calls = 128
+
+-- blocks of one WAIT
+abbrev pub most_waited : ℕ
+most_waited = 8
+
+-- the highest count of a WAIT: more than the blocks of one is its refusal, and no fault
+abbrev pub highest_count : ℕ
+highest_count = 99
+
+-- the highest number of a latch: one that there is not is a refusal, and no fault
+abbrev pub highest_latch : ℕ
+highest_latch = 99
+
+-- ---- what the configuration of every script has
+
+-- elements of each task
+abbrev pub elements_per_task : ℕ
+elements_per_task = 4
+
+-- volumes
+abbrev pub volumes : ℕ
+volumes = 8
+
+-- latches
+abbrev pub latches : ℕ
+latches = 8
+
+-- how many requests of a task may stand
+abbrev pub quota : ℕ
+quota = 8
+
+-- and how many of them may post a block
+abbrev pub posted_quota : ℕ
+posted_quota = 4

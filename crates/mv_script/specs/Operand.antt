@@ -1,0 +1,122 @@
+-- What may stand in the places of numbers, tokens and modes.
+use Rattle.std.specs.Prelude.{ℕ, ◌+◌, ◌*◌, ◌^◌, Bool, true, false, nat_lt, List, [], ◌∷◌, take, drop, Option, Some, None, Ok, Err}
+use Rattle.std.specs.Prelude.{codes, ◌==◌, if◌then◌else◌}
+use Rattle.std.specs.List.{list_all, position}
+use Rattle.std.specs.Str.{bytes_eq}
+use Rattle.mv_ecb.specs.Table.{code_limit}
+use Rattle.mv_element.specs.declared.element.Token.{Token}
+use Rattle.mv_element.specs.Table.{release_limit}
+use Rattle.mv_latch.specs.declared.request.Mode.{Mode}
+use Rattle.mv_latch.specs.declared.request.Mode.TheVariants.{Shared, Exclusive}
+use Rattle.mv_line.specs.Byte.{is_digit, is_within}
+use Rattle.mv_line.specs.Number.{number_of}
+use Rattle.mv_machine.specs.Limits.{highest_place, highest_generation}
+use Rattle.mv_script.specs.declared.words.Misread.TheVariants.{NoForm, BadNumber}
+use Rattle.mv_script.specs.declared.operand.Sizes.{Sizes}
+use Rattle.mv_script.specs.Limits.{most_tasks, highest_count, highest_latch, elements_per_task, volumes}
+use Rattle.mv_script.specs.Words.{Read, making, both}
+
+-- ---- numbers: a word that is none fits no form; a zero in front of others, or a number that does not pass the test, is bad
+
+-- one or more digits
+abbrev pub is_digits : List ℕ → Bool
+is_digits [] = false
+is_digits (b ∷ bs) = list_all is_digit (b ∷ bs)
+
+-- what digits show is to pass a test
+abbrev pub passed : (ℕ → Bool) → Option ℕ → Read ℕ
+passed test None = Err BadNumber
+passed test (Some n) = if test n then Ok n else Err BadNumber
+
+-- a number that passes a test
+abbrev pub number : (ℕ → Bool) → List ℕ → Read ℕ
+number test word = if is_digits word then passed test (number_of word) else Err NoForm
+
+-- a number below this one
+abbrev pub below : ℕ → List ℕ → Read ℕ
+below limit word = number (λ n. nat_lt n limit) word
+
+-- how many tasks a script has
+abbrev pub task_count : List ℕ → Read ℕ
+task_count word = number (is_within 1 most_tasks) word
+
+-- a task, an event control block and an element that the script has so far
+abbrev pub task : Sizes → List ℕ → Read ℕ
+task z word = below z.tasks word
+
+-- a block
+abbrev pub ecb : Sizes → List ℕ → Read ℕ
+ecb z word = below z.ecbs word
+
+-- an element
+abbrev pub element : Sizes → List ℕ → Read ℕ
+element z word = below (elements_per_task * z.tasks) word
+
+-- a volume
+abbrev pub volume : List ℕ → Read ℕ
+volume word = below volumes word
+
+-- a latch, which need not be there
+abbrev pub latch : List ℕ → Read ℕ
+latch word = below (highest_latch + 1) word
+
+-- how many blocks of a WAIT are to be complete
+abbrev pub count : List ℕ → Read ℕ
+count word = below (highest_count + 1) word
+
+-- the completion code of a block
+abbrev pub ecb_code : List ℕ → Read ℕ
+ecb_code word = below code_limit word
+
+-- a release code
+abbrev pub release_code : List ℕ → Read ℕ
+release_code word = below release_limit word
+
+-- how many events an object has had
+abbrev pub place : List ℕ → Read ℕ
+place word = below (highest_place + 1) word
+
+-- the number of an exit or of an OBTAIN, or what a volume keeps
+abbrev pub any_number : List ℕ → Read ℕ
+any_number word = below (2 ^ 32) word
+
+-- the eight bytes of a requestor
+abbrev pub requestor : List ℕ → Read ℕ
+requestor word = below (2 ^ 64) word
+
+-- ---- tokens: an element and a generation that may have another behind it, with a point between
+
+-- the point
+abbrev pub is_point : ℕ → Bool
+is_point b = b == 46
+
+-- a token, where the point stands at this place
+abbrev pub parted : Sizes → List ℕ → Option ℕ → Read Token
+parted z word None = Err NoForm
+parted z word (Some point) =
+    making (λ (p : ℕ × ℕ). record { element = p.0; generation = p.1 })
+    (both (element z (take point word)) (below highest_generation (drop (point + 1) word)))
+
+-- a token
+abbrev pub token : Sizes → List ℕ → Read Token
+token z word = parted z word (position is_point word)
+
+-- ---- words
+
+-- a hyphen stands for none, or else a value
+abbrev pub or_hyphen : {A : Type 0} → (List ℕ → Read A) → List ℕ → Read (Option A)
+or_hyphen f word = if bytes_eq word (codes "-") then Ok None else making (λ a. Some a) (f word)
+
+-- `S` or `X`
+abbrev pub mode : List ℕ → Read Mode
+mode word =
+    if bytes_eq word (codes "S") then Ok Shared
+    else if bytes_eq word (codes "X") then Ok Exclusive
+    else Err NoForm
+
+-- `C`, conditional, or `U`
+abbrev pub conditional : List ℕ → Read Bool
+conditional word =
+    if bytes_eq word (codes "C") then Ok true
+    else if bytes_eq word (codes "U") then Ok false
+    else Err NoForm

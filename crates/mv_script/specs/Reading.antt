@@ -1,0 +1,171 @@
+-- Where the reader of scripts is: behind these statements.
+use Rattle.std.specs.Prelude.{◌≡◌, ℕ, ◌+◌, ◌≤◌, Bool, true, false, nat_lt, List, [], ◌∷◌, ◌++◌, length, map, sum, count_by, replicate}
+use Rattle.std.specs.Prelude.{Option, Some, None, is_some, Result, Ok, Err, ◌<◌}
+use Rattle.std.specs.List.{AllByRecursion}
+use Rattle.mv_machine.specs.Config.{exit_of}
+use Rattle.mv_machine.specs.Limits.{events_limit}
+use Rattle.mv_machine.specs.Setup.{Setup, SetupExit}
+use Rattle.mv_script.specs.declared.call.Call.{Call}
+use Rattle.mv_script.specs.declared.fault.LineRefusal.{LineRefusal}
+use Rattle.mv_script.specs.declared.fault.LineRefusal.TheVariants.{Has, NoMemory}
+use Rattle.mv_script.specs.declared.fault.ScriptRefusal.{ScriptRefusal}
+use Rattle.mv_script.specs.declared.fault.ScriptRefusal.TheVariants.{Fault}
+use Rattle.mv_script.specs.declared.fault.ScriptRefusal.TheVariants as refusal
+use Rattle.mv_script.specs.declared.operand.Sizes.{Sizes}
+use Rattle.mv_script.specs.declared.reading.Reading.{Reading}
+use Rattle.mv_script.specs.declared.statement.Statement.{Statement}
+use Rattle.mv_script.specs.declared.statement.Statement.TheVariants as statement
+use Rattle.mv_script.specs.Costs.{script_setup, costs_of}
+use Rattle.mv_script.specs.Fault.{has_script, has_exit, has_task, has_end, first_of_list, kind_number, fault_at, kinds_behind}
+use Rattle.mv_script.specs.Limits.{most_tasks, most_ecbs, most_exits}
+use Rattle.mv_script.specs.Script.{task_count, owners_of, exits_of, tasks_of, with_call, sizes_behind, is_obtain}
+use Rattle.mv_script.specs.Sound.{IsSoundExit, IsSoundTask, IsGoodStatement}
+
+-- ---- how far statements have come
+
+-- what they state so far: how many tasks, the blocks and exits, the tasks with their calls; and which lines stand among them
+pub record Progress : Type 0 where
+  pub script : Bool
+  pub stated : ℕ
+  pub owners : List ℕ
+  pub exit : Bool
+  pub exits : List SetupExit
+  pub task : Bool
+  pub tasks : List (List Call)
+  pub ended : Bool
+
+-- that of some statements
+abbrev pub progress_of : List Statement → Progress
+progress_of statements = record {
+  script = has_script statements;
+  stated = task_count statements;
+  owners = owners_of statements;
+  exit = has_exit statements;
+  exits = exits_of statements;
+  task = has_task statements;
+  tasks = tasks_of statements;
+  ended = has_end statements;
+}
+
+-- one more statement, which is in order
+abbrev pub with_statement : Progress → Statement → Progress
+with_statement p (statement.Script t) = record p { script = true; stated = t }
+with_statement p (statement.Ecb owner) = record p { owners = p.owners ++ owner ∷ [] }
+with_statement p (statement.Exit source targets) =
+    record p { exit = true; exits = p.exits ++ record { source = source; targets = targets } ∷ [] }
+with_statement p statement.Task = record p { task = true; tasks = p.tasks ++ [] ∷ [] }
+with_statement p (statement.Call c) = record p { tasks = with_call p.tasks c }
+with_statement p statement.End = record p { ended = true }
+
+-- how many tasks and blocks there are that a line may name
+abbrev pub sizes_in : Progress → Sizes
+sizes_in p = record { tasks = p.stated; ecbs = length p.owners }
+
+-- the configuration so far, with these budgets
+abbrev pub setup_in : Progress → List ℕ → Setup
+setup_in p budgets = script_setup p.stated p.owners p.exits budgets
+
+-- what the calls of each task may cost
+abbrev pub budgets_in : Progress → List ℕ
+budgets_in p = map (costs_of (setup_in p [])) p.tasks
+
+-- as far as it goes, this is a script that can be run
+pub record IsSoundSoFar (p : Progress) : Type 0 where
+  pub few : p.stated ≤ most_tasks
+  pub script : p.script ≡ nat_lt 0 p.stated
+  pub few_ecbs : length p.owners ≤ most_ecbs
+  pub owners : AllByRecursion (λ owner. owner < p.stated) p.owners
+  pub few_exits : length p.exits ≤ most_exits
+  pub exits : AllByRecursion (IsSoundExit (sizes_in p)) p.exits
+  pub exit : p.exit ≡ nat_lt 0 (length p.exits)
+  pub few_tasks : length p.tasks ≤ p.stated
+  pub tasks : AllByRecursion (IsSoundTask (sizes_in p)) p.tasks
+  pub task : p.task ≡ nat_lt 0 (length p.tasks)
+  pub light : sum (budgets_in p) ≤ events_limit
+  pub ended : p.ended ≡ true → length p.tasks ≡ p.stated
+
+-- ---- the reader
+
+-- what the reader keeps, without where it lies in memory: of the tasks those before the last one, and of the last one its calls
+pub record Notes : Type 0 where
+  pub stated : ℕ
+  pub owners : List ℕ
+  pub exits : List SetupExit
+  pub costs : Option Setup
+  pub finished : List (List Call)
+  pub budgets : List ℕ
+  pub calls : List Call
+  pub spent : ℕ
+  pub obtains : ℕ
+  pub room : ℕ
+  pub ended : Bool
+
+-- those of a reader
+abbrev pub notes_of : Reading → Notes
+notes_of r = record {
+  stated = r.stated;
+  owners = r.owners.items;
+  exits = map exit_of r.exits.items;
+  costs = r.costs;
+  finished = r.finished.items;
+  budgets = r.budgets.items;
+  calls = r.calls.items;
+  spent = r.spent;
+  obtains = r.obtains;
+  room = r.room;
+  ended = r.ended;
+}
+
+-- the task that takes calls, where one has begun
+abbrev pub open_task : Bool → List Call → List (List Call)
+open_task false calls = []
+open_task true calls = calls ∷ []
+
+-- the configuration that calls cost by, where a task has begun
+abbrev pub HasCosts : Option Setup → Setup → Type 0
+HasCosts None c = Unit {0}
+HasCosts (Some costs) c = costs ≡ c
+
+-- these notes are what it comes to
+pub record IsAsFar (p : Progress) (n : Notes) : Type 0 where
+  pub sound : IsSoundSoFar p
+  pub stated : n.stated ≡ p.stated
+  pub owners : n.owners ≡ p.owners
+  pub exits : n.exits ≡ p.exits
+  pub begun : is_some n.costs ≡ p.task
+  pub costs : HasCosts n.costs (setup_in p (replicate p.stated 0))
+  pub tasks : n.finished ++ open_task p.task n.calls ≡ p.tasks
+  pub fresh : p.task ≡ false → n.calls ≡ []
+  pub budgets : n.budgets ≡ map (costs_of (setup_in p [])) n.finished
+  pub spent : n.spent ≡ costs_of (setup_in p []) n.calls
+  pub obtains : n.obtains ≡ count_by is_obtain n.calls
+  pub room : n.room + sum (budgets_in p) ≡ events_limit
+  pub ended : n.ended ≡ p.ended
+
+-- they are those of a reader behind these statements, of which SCRIPT is the first
+pub record Stands (statements : List Statement) (n : Notes) : Type 0 where
+  pub far : IsAsFar (progress_of statements) n
+  pub first : has_script statements ≡ false → statements ≡ []
+
+-- the reader has read these statements
+abbrev pub IsBehind : List Statement → Reading → Type 0
+IsBehind statements r = Stands statements (notes_of r)
+
+-- the kind that is told is the lowest
+abbrev pub Tells : LineRefusal → List ℕ → Type 0
+Tells (Has kind) kinds = first_of_list kinds ≡ Some (kind_number kind)
+Tells NoMemory kinds = Unit {0}
+
+-- the reader is behind some statements, and this one names what they state
+abbrev pub IsReady : Reading → Statement → Type 0
+IsReady r s = (earlier : List Statement) × (IsBehind earlier r × IsGoodStatement (sizes_behind earlier) s)
+
+-- the statement has no fault and the reader is behind it, or the kind that is told is its lowest
+abbrev pub IsTaken : Result (Unit {0}) LineRefusal → List Statement → Statement → Reading → Type 0
+IsTaken (Ok done) earlier s r = (kinds_behind earlier s ≡ []) × IsBehind (earlier ++ s ∷ []) r
+IsTaken (Err refusal) earlier s r = Tells refusal (kinds_behind earlier s)
+
+-- the refusal of a script whose line of this number was not taken
+abbrev pub refusal_at : ℕ → LineRefusal → ScriptRefusal
+refusal_at line (Has kind) = Fault (fault_at line (kind_number kind))
+refusal_at line NoMemory = refusal.NoMemory

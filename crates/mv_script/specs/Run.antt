@@ -1,0 +1,78 @@
+-- Runs of a script, and what its calls answer in one.
+use Rattle.std.specs.Prelude.{◌≡◌, ℕ, ◌+◌, ◌<◌, List, ◌∷◌, length, take, map, slice_get, Option, Some, None, option_and_then}
+use Rattle.std.specs.List.{range_with_len}
+use Rattle.mv_machine.specs.declared.entry.Entry.{Entry}
+use Rattle.mv_machine.specs.declared.entry.Object.{Object}
+use Rattle.mv_machine.specs.declared.entry.Object.TheVariants.{Ecb, Element}
+use Rattle.mv_machine.specs.Parts.{Had}
+use Rattle.mv_calls.specs.Keeping.{nothing_kept}
+use Rattle.mv_calls.specs.Program.{Program, Do, Done, Heard}
+use Rattle.mv_calls.specs.Runs.{FinishPrograms, heard_in, left_in}
+use Rattle.mv_script.specs.declared.answer.Answer.{Answer}
+use Rattle.mv_script.specs.declared.answer.Answer.TheVariants.{Moved}
+use Rattle.mv_script.specs.declared.call.Call.{Call}
+use Rattle.mv_script.specs.declared.call.Call.TheVariants as call
+use Rattle.mv_script.specs.Costs.{zero_at, reset_at}
+use Rattle.mv_script.specs.Script.{ScriptData}
+use Rattle.mv_script.specs.Tasks.{Past, no_past, made_all, calls_at, Moves, task_program}
+
+-- ---- words that were met
+
+-- the object of a try, and the word that it expects there
+abbrev pub tried : Call → Option (Object × ℕ)
+tried (call.TryPost ecb place code) = Some (Ecb ecb, zero_at place)
+tried (call.TryRelease token place code) = Some (Element token.element, reset_at token.generation place)
+tried _ = None
+
+-- how many of the events that are heard a program takes until it is done
+abbrev pub taken : {A : Type 0} → Program A → List Heard → ℕ
+taken (Do o op next) (h ∷ hs) = 1 + taken (next h) hs
+taken p hs = 0
+
+-- how many entries of a task's part of a history its first i calls made
+abbrev pub entries_before : ScriptData → Moves → List Entry → ℕ → ℕ → ℕ
+entries_before script moves es k i =
+    taken (made_all script.setup (moves k) no_past (take i (calls_at script k)) (nothing_kept k)) (heard_in script.setup k es)
+
+-- In this history, call i of task k tried an object and met this word there. It is not the word that was expected, and the object
+-- had it behind the entries of the task's earlier calls and before those of its later ones.
+pub record IsMet (script : ScriptData) (moves : Moves) (es : List Entry) (k i w : ℕ) : Type 0 where
+  pub call : Call
+  pub made : slice_get (calls_at script k) i ≡ Some call
+  pub object : Object
+  pub expected : ℕ
+  pub tries : tried call ≡ Some (object, expected)
+  pub other : w ≡ expected → ⊥
+  pub had : Had script.setup es k (entries_before script moves es k i) object w
+
+-- ---- runs
+
+-- A run of a script, in which these words were met: a legal history in which each entry is what its task's program says, and each
+-- task is done; and each of the words was met in it.
+pub record IsScriptRun (script : ScriptData) (moves : Moves) (es : List Entry) : Type 0 where
+  pub finish : FinishPrograms script.setup (task_program script moves) es
+  pub met : (k i w : ℕ) → k < length script.tasks → moves k i ≡ Some w → IsMet script moves es k i w
+
+-- ---- answers
+
+-- what a task has where its program is done
+abbrev pub past_in : Program Past → Past
+past_in (Done past) = past
+past_in _ = no_past
+
+-- the answers of a task's calls, by its own part of the history and the words that were met
+abbrev pub task_answers : ScriptData → Moves → List Entry → ℕ → List Answer
+task_answers script moves es k = (past_in (left_in script.setup (task_program script moves) k es)).answers
+
+-- the answers of all tasks
+abbrev pub script_answers : ScriptData → Moves → List Entry → List (List Answer)
+script_answers script moves es = map (task_answers script moves es) (range_with_len 0 (length script.tasks))
+
+-- the word that an answer shows, if another one was met
+abbrev pub word_in : Answer → Option ℕ
+word_in (Moved w) = Some w
+word_in _ = None
+
+-- the words that answers show
+abbrev pub moves_in : List (List Answer) → Moves
+moves_in answers k i = option_and_then word_in (option_and_then (λ task. slice_get task i) (slice_get answers k))

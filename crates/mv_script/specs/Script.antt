@@ -1,0 +1,127 @@
+-- What a script is, and the script that a text without fault states.
+use Rattle.std.specs.Prelude.{ℕ, Bool, true, false, List, [], ◌∷◌, ◌++◌, length, map, fold, filter_map, Option, Some, None}
+use Rattle.std.specs.Prelude.{Ok, Err}
+use Rattle.mv_line.specs.Line.{lines_of}
+use Rattle.mv_machine.specs.Setup.{Setup, SetupExit}
+use Rattle.mv_script.specs.declared.call.Call.{Call}
+use Rattle.mv_script.specs.declared.call.Call.TheVariants as call
+use Rattle.mv_script.specs.declared.script.Script.{Script}
+use Rattle.mv_script.specs.declared.statement.Statement.{Statement}
+use Rattle.mv_script.specs.declared.statement.Statement.TheVariants as statement
+use Rattle.mv_script.specs.declared.operand.Sizes.{Sizes}
+use Rattle.mv_script.specs.Costs.{script_setup, costs_of}
+use Rattle.mv_script.specs.Statement.{line_states}
+use Rattle.mv_script.specs.Words.{Read}
+
+-- a script without where it lies in memory: the configuration, and the calls of each task
+pub record ScriptData : Type 0 where
+  pub setup : Setup
+  pub tasks : List (List Call)
+
+-- a script without where it lies in memory
+abbrev pub script_data : Script → ScriptData
+script_data s = record { setup = s.config; tasks = s.tasks.items }
+
+-- ---- what statements come to
+
+-- how many tasks they state: as many as the first SCRIPT says
+abbrev pub task_count : List Statement → ℕ
+task_count [] = 0
+task_count (statement.Script t ∷ statements) = t
+task_count (statement.Ecb owner ∷ statements) = task_count statements
+task_count (statement.Exit source targets ∷ statements) = task_count statements
+task_count (statement.Task ∷ statements) = task_count statements
+task_count (statement.Call c ∷ statements) = task_count statements
+task_count (statement.End ∷ statements) = task_count statements
+
+-- the owner of a block that a statement states
+abbrev pub owner_in : Statement → Option ℕ
+owner_in (statement.Script t) = None
+owner_in (statement.Ecb owner) = Some owner
+owner_in (statement.Exit source targets) = None
+owner_in statement.Task = None
+owner_in (statement.Call c) = None
+owner_in statement.End = None
+
+-- the owners of all blocks, in order
+abbrev pub owners_of : List Statement → List ℕ
+owners_of statements = filter_map owner_in statements
+
+-- the exit that a statement states
+abbrev pub exit_in : Statement → Option SetupExit
+exit_in (statement.Script t) = None
+exit_in (statement.Ecb owner) = None
+exit_in (statement.Exit source targets) = Some (record { source = source; targets = targets })
+exit_in statement.Task = None
+exit_in (statement.Call c) = None
+exit_in statement.End = None
+
+-- all exits, in order
+abbrev pub exits_of : List Statement → List SetupExit
+exits_of statements = filter_map exit_in statements
+
+-- the tasks, of which the last one makes one more call
+abbrev pub with_call : List (List Call) → Call → List (List Call)
+with_call [] c = []
+with_call (calls ∷ []) c = (calls ++ c ∷ []) ∷ []
+with_call (calls ∷ other ∷ tasks) c = calls ∷ with_call (other ∷ tasks) c
+
+-- the tasks behind one more statement
+abbrev pub tasks_behind : List (List Call) → Statement → List (List Call)
+tasks_behind tasks (statement.Script t) = tasks
+tasks_behind tasks (statement.Ecb owner) = tasks
+tasks_behind tasks (statement.Exit source targets) = tasks
+tasks_behind tasks statement.Task = tasks ++ [] ∷ []
+tasks_behind tasks (statement.Call c) = with_call tasks c
+tasks_behind tasks statement.End = tasks
+
+-- the tasks, each with its calls
+abbrev pub tasks_of : List Statement → List (List Call)
+tasks_of statements = fold tasks_behind [] statements
+
+-- the calls of the last task
+abbrev pub last_task : List (List Call) → List Call
+last_task [] = []
+last_task (calls ∷ []) = calls
+last_task (calls ∷ other ∷ tasks) = last_task (other ∷ tasks)
+
+-- whether a call is an OBTAIN
+abbrev pub is_obtain : Call → Bool
+is_obtain (call.Obtain latch requestor mode form) = true
+is_obtain _ = false
+
+-- the configuration of a script with these statements, and budgets of so many events
+abbrev pub setup_with : List Statement → List ℕ → Setup
+setup_with statements budgets = script_setup (task_count statements) (owners_of statements) (exits_of statements) budgets
+
+-- what the calls of each task may cost
+abbrev pub budgets_of : List Statement → List ℕ
+budgets_of statements = map (costs_of (setup_with statements [])) (tasks_of statements)
+
+-- the script that they state
+abbrev pub script_in : List Statement → ScriptData
+script_in statements = record { setup = setup_with statements (budgets_of statements); tasks = tasks_of statements }
+
+-- ---- the statements of lines
+
+-- how many tasks and blocks there are that a line behind these statements may name
+abbrev pub sizes_behind : List Statement → Sizes
+sizes_behind earlier = record { tasks = task_count earlier; ecbs = length (owners_of earlier) }
+
+-- what a line adds
+abbrev pub added : Option (Read Statement) → List Statement
+added None = []
+added (Some (Ok s)) = s ∷ []
+added (Some (Err why)) = []
+
+-- the statements behind one more line
+abbrev pub with_line : List Statement → List ℕ → List Statement
+with_line earlier line = earlier ++ added (line_states (sizes_behind earlier) line)
+
+-- the statements of lines, in order
+abbrev pub statements_of : List (List ℕ) → List Statement
+statements_of lines = fold with_line [] lines
+
+-- the script of a text without fault
+abbrev pub script_of : List ℕ → ScriptData
+script_of bytes = script_in (statements_of (lines_of bytes))

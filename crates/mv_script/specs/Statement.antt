@@ -1,0 +1,122 @@
+-- The forms of a script's lines: their words, and what they state.
+use Rattle.std.specs.Prelude.{ℕ, List, [], ◌∷◌, length, Option, Some, None, Ok, Err, codes, nat_lt, if◌then◌else◌}
+use Rattle.std.specs.Str.{bytes_eq}
+use Rattle.mv_latch.specs.declared.request.LatchForm.{LatchForm}
+use Rattle.mv_latch.specs.declared.request.LatchForm.TheVariants.{Conditional, Waiting, Posted}
+use Rattle.mv_latch.specs.declared.request.Mode.{Mode}
+use Rattle.mv_line.specs.Byte.{is_within}
+use Rattle.mv_line.specs.Field.{fields_of}
+use Rattle.mv_line.specs.Line.{begins_with_space}
+use Rattle.mv_script.specs.declared.call.Call.{Call}
+use Rattle.mv_script.specs.declared.call.Call.TheVariants as call
+use Rattle.mv_script.specs.declared.statement.Statement.{Statement}
+use Rattle.mv_script.specs.declared.statement.Statement.TheVariants as statement
+use Rattle.mv_script.specs.declared.words.Misread.TheVariants.{NoForm}
+use Rattle.mv_script.specs.declared.operand.Sizes.{Sizes}
+use Rattle.mv_script.specs.Limits.{most_targets, most_waited}
+use Rattle.mv_script.specs.Line.{shown, is_ignored}
+use Rattle.mv_script.specs.Operand.{task_count, task, ecb, volume, latch, count, ecb_code, release_code, place, any_number, requestor}
+use Rattle.mv_script.specs.Operand.{element, token, or_hyphen, mode, conditional}
+use Rattle.mv_script.specs.Words.{Read, making, both, each, none, one, two, three}
+
+-- ---- the calls: the word of each, and behind it what its words are read as
+
+-- a count, and up to eight blocks
+abbrev pub wait : Sizes → List (List ℕ) → Read Call
+wait z [] = Err NoForm
+wait z (n ∷ ecbs) =
+    if nat_lt most_waited (length ecbs) then Err NoForm
+    else making (λ (p : ℕ × List ℕ). call.Wait p.0 p.1) (both (count n) (each (ecb z) ecbs))
+
+-- what becomes of a request that is not granted at once: `COND`, `WAIT`, or `ECB` and a block
+abbrev pub form : Sizes → List (List ℕ) → Read LatchForm
+form z [] = Err NoForm
+form z (word ∷ []) =
+    if bytes_eq word (codes "COND") then Ok Conditional
+    else if bytes_eq word (codes "WAIT") then Ok Waiting
+    else Err NoForm
+form z (word ∷ block ∷ []) = if bytes_eq word (codes "ECB") then making (λ e. Posted e) (ecb z block) else Err NoForm
+form z (word ∷ block ∷ other ∷ words) = Err NoForm
+
+-- a latch, a requestor, a mode and a form
+abbrev pub obtain : Sizes → List (List ℕ) → Read Call
+obtain z (l ∷ r ∷ m ∷ f) =
+    making (λ (p : ℕ × (ℕ × (Mode × LatchForm))). call.Obtain p.0 p.1.0 p.1.1.0 p.1.1.1)
+    (both (latch l) (both (requestor r) (both (mode m) (form z f))))
+obtain z (l ∷ r ∷ []) = Err NoForm
+obtain z (l ∷ []) = Err NoForm
+obtain z [] = Err NoForm
+
+-- on latches, and the end of a task
+abbrev pub latch_call : Sizes → List ℕ → List (List ℕ) → Read Call
+latch_call z word words =
+    if bytes_eq word (codes "OBTAIN") then obtain z words
+    else if bytes_eq word (codes "CHECK") then making (λ k. call.Check k) (one any_number words)
+    else if bytes_eq word (codes "FREE") then making (λ p. call.Free p.0 p.1) (two any_number conditional words)
+    else if bytes_eq word (codes "PURGE") then making (λ r. call.Purge r) (one requestor words)
+    else if bytes_eq word (codes "EOT") then
+    making (λ p. call.EndTask p.0 p.1.0 p.1.1) (three requestor (or_hyphen (ecb z)) ecb_code words)
+    else Err NoForm
+
+-- on pause elements
+abbrev pub element_call : Sizes → List ℕ → List (List ℕ) → Read Call
+element_call z word words =
+    if bytes_eq word (codes "ALLOC") then none call.Alloc words
+    else if bytes_eq word (codes "PAUSE") then making (λ t. call.Pause t) (one (token z) words)
+    else if bytes_eq word (codes "RELEASE") then making (λ p. call.Release p.0 p.1) (two (token z) release_code words)
+    else if bytes_eq word (codes "TRYRELEASE") then
+    making (λ p. call.TryRelease p.0 p.1.0 p.1.1) (three (token z) place release_code words)
+    else if bytes_eq word (codes "TRANSFER") then
+    making (λ p. call.Transfer p.0 p.1.0 p.1.1) (three (or_hyphen (token z)) (token z) release_code words)
+    else if bytes_eq word (codes "DEALLOC") then making (λ t. call.Dealloc t) (one (token z) words)
+    else if bytes_eq word (codes "TESTP") then making (λ n. call.TestElement n) (one (element z) words)
+    else latch_call z word words
+
+-- on event control blocks and volumes
+abbrev pub other_call : Sizes → List ℕ → List (List ℕ) → Read Call
+other_call z word words =
+    if bytes_eq word (codes "POST") then making (λ p. call.Post p.0 p.1) (two (ecb z) ecb_code words)
+    else if bytes_eq word (codes "TRYPOST") then making (λ p. call.TryPost p.0 p.1.0 p.1.1) (three (ecb z) place ecb_code words)
+    else if bytes_eq word (codes "CLEAR") then making (λ e. call.Clear e) (one (ecb z) words)
+    else if bytes_eq word (codes "EXTEND") then making (λ p. call.Extend p.0 p.1) (two (ecb z) any_number words)
+    else if bytes_eq word (codes "TEST") then making (λ e. call.Test e) (one (ecb z) words)
+    else if bytes_eq word (codes "READ") then making (λ v. call.Read v) (one volume words)
+    else if bytes_eq word (codes "WRITE") then making (λ p. call.Write p.0 p.1) (two volume any_number words)
+    else element_call z word words
+
+-- any call
+abbrev pub call_of : Sizes → List ℕ → List (List ℕ) → Read Call
+call_of z word words = if bytes_eq word (codes "WAIT") then wait z words else other_call z word words
+
+-- ---- the lines
+
+-- an exit: its source, and one to four targets
+abbrev pub exit : Sizes → List (List ℕ) → Read Statement
+exit z [] = Err NoForm
+exit z (source ∷ targets) =
+    if is_within 1 most_targets (length targets) then
+    making (λ (p : ℕ × List ℕ). statement.Exit p.0 p.1) (both (ecb z source) (each (ecb z) targets))
+    else Err NoForm
+
+-- a line by its first word
+abbrev pub stated : Sizes → List ℕ → List (List ℕ) → Read Statement
+stated z word words =
+    if bytes_eq word (codes "SCRIPT") then making (λ t. statement.Script t) (one task_count words)
+    else if bytes_eq word (codes "ECB") then making (λ k. statement.Ecb k) (one (task z) words)
+    else if bytes_eq word (codes "EXIT") then exit z words
+    else if bytes_eq word (codes "TASK") then none statement.Task words
+    else if bytes_eq word (codes "END") then none statement.End words
+    else making (λ c. statement.Call c) (call_of z word words)
+
+-- a line's words
+abbrev pub words_state : Sizes → List (List ℕ) → Read Statement
+words_state z [] = Err NoForm
+words_state z (word ∷ words) = stated z word words
+
+-- what a text states, where the script has so many tasks and blocks so far
+abbrev pub text_states : Sizes → List ℕ → Read Statement
+text_states z text = if begins_with_space text then Err NoForm else words_state z (fields_of text)
+
+-- what a line states, unless it is ignored
+abbrev pub line_states : Sizes → List ℕ → Option (Read Statement)
+line_states z line = if is_ignored line then None else Some (text_states z (shown line))

@@ -1,0 +1,90 @@
+-- What the tasks of a script do: each makes its calls in order, one after the other.
+use Rattle.std.specs.Prelude.{ℕ, ◌-◌, Bool, false, List, [], ◌∷◌, ◌++◌, length, slice_get, Option, Some, None, is_none}
+use Rattle.std.specs.Prelude.{option_and_then, unwrap_or, Result, Ok, Err, if◌then◌else◌}
+use Rattle.mv_machine.specs.Setup.{Setup}
+use Rattle.mv_calls.specs.Keeping.{nothing_kept}
+use Rattle.mv_calls.specs.LatchCalls.{Obtained, GrantedAs, PendingAs}
+use Rattle.mv_calls.specs.Program.{Program, followed, finished}
+use Rattle.mv_calls.specs.Program as program
+use Rattle.mv_calls.specs.Refusal.{Refusal}
+use Rattle.mv_calls.specs.Services.{Service}
+use Rattle.mv_calls.specs.Services as service
+use Rattle.mv_script.specs.declared.answer.Answer.{Answer}
+use Rattle.mv_script.specs.declared.answer.Answer.TheVariants.{Moved, NoToken}
+use Rattle.mv_script.specs.declared.call.Call.{Call}
+use Rattle.mv_script.specs.Answered.{answer_to}
+use Rattle.mv_script.specs.Costs.{Asked, service_of}
+use Rattle.mv_script.specs.Fault.{obtain_meant}
+use Rattle.mv_script.specs.Script.{ScriptData}
+
+-- what a task has behind some of its calls: their answers; and for each OBTAIN among them the request that it got, if it got one
+pub record Past : Type 0 where
+  pub answers : List Answer
+  pub requests : List (Option Asked)
+
+-- before its first call
+abbrev pub no_past : Past
+no_past = record { answers = []; requests = [] }
+
+-- the request of the k-th OBTAIN, counted from 1, if it got one
+abbrev pub request_at : List (Option Asked) → ℕ → Option Asked
+request_at requests k = option_and_then (λ r. r) (slice_get requests (k - 1))
+
+-- the same, where there is one
+abbrev pub request_of : List (Option Asked) → ℕ → Asked
+request_of requests k = unwrap_or (request_at requests k) (record { latch = 0; id = 0 })
+
+-- whether a call means an OBTAIN that got no request
+abbrev pub lacks_request : List (Option Asked) → Option ℕ → Bool
+lacks_request requests None = false
+lacks_request requests (Some k) = is_none (request_at requests k)
+
+-- ---- one call
+
+-- the request that an obtain of this latch got
+abbrev pub request_in : ℕ → Result Obtained Refusal → Option Asked
+request_in latch (Ok (GrantedAs id)) = Some (record { latch = latch; id = id })
+request_in latch (Ok (PendingAs id)) = Some (record { latch = latch; id = id })
+request_in latch (Err why) = None
+
+-- an OBTAIN adds the request that it got, or none
+abbrev pub requests_with : List (Option Asked) → (s : Service) → service.Answer s → List (Option Asked)
+requests_with requests (service.Obtain latch requestor mode form) a = requests ++ request_in latch a ∷ []
+requests_with requests _ a = requests
+
+-- a call that asked no service has answered
+abbrev pub answered : Past → Answer → Past
+answered past a = record past { answers = past.answers ++ a ∷ [] }
+
+-- a service has answered
+abbrev pub served : Past → (s : Service) → service.Answer s → Past
+served past s a = record { answers = past.answers ++ answer_to s a ∷ []; requests = requests_with past.requests s a }
+
+-- A call. A try for which another word was met answers MOVED, and a CHECK or FREE whose OBTAIN got no request NOTOKEN: these two
+-- make no event. Any other call is its service's.
+abbrev pub made : Setup → Option ℕ → Past → Call → program.Call Past
+made c (Some w) past call = finished (answered past (Moved w))
+made c None past call =
+    if lacks_request past.requests (obtain_meant call) then finished (answered past NoToken)
+    else followed (service.program c (service_of (request_of past.requests) call))
+    (λ a. finished (served past (service_of (request_of past.requests) call) a))
+
+-- ---- all calls of a task
+
+-- The calls of a task from here on, in order. `moved` says of each call, numbered from 0, whether another word was met, and which.
+abbrev pub made_all : Setup → (ℕ → Option ℕ) → Past → List Call → program.Call Past
+made_all c moved past [] = finished past
+made_all c moved past (call ∷ calls) =
+    followed (made c (moved (length past.answers)) past call) (λ next. made_all c moved next calls)
+
+-- the calls of a task
+abbrev pub calls_at : ScriptData → ℕ → List Call
+calls_at script k = unwrap_or (slice_get script.tasks k) []
+
+-- which words were met elsewhere: for each task, and each of its calls, numbered from 0
+abbrev pub Moves : Type 0
+Moves = ℕ → ℕ → Option ℕ
+
+-- a task's program, before it has heard anything
+abbrev pub task_program : ScriptData → Moves → ℕ → Program Past
+task_program script moves k = made_all script.setup (moves k) no_past (calls_at script k) (nothing_kept k)

@@ -1,0 +1,66 @@
+-- How the words of a line are read: into a value, or not, for one of two reasons.
+use Rattle.std.specs.Prelude.{ℕ, List, [], ◌∷◌, Option, Some, None, option_map, Result, Ok, Err}
+use Rattle.mv_line.specs.Field.{one_of, two_of}
+use Rattle.mv_script.specs.declared.words.Misread.{Misread}
+use Rattle.mv_script.specs.declared.words.Misread.TheVariants.{NoForm, BadNumber}
+
+-- what some words are read as
+abbrev pub Read : Type 0 → Type 0
+Read A = Result A Misread
+
+-- of two reasons it is that words fit no form, where one of them is
+abbrev pub worse : Misread → Misread → Misread
+worse NoForm other = NoForm
+worse BadNumber other = other
+
+-- the reason so far, if there is one, and one more
+abbrev pub worsened : Option Misread → Misread → Misread
+worsened None why = why
+worsened (Some before) why = worse before why
+
+-- what is made of a value that was read
+abbrev pub making : {A B : Type 0} → (A → B) → Read A → Read B
+making f (Ok a) = Ok (f a)
+making f (Err why) = Err why
+
+-- two values, where both were read
+abbrev pub both : {A B : Type 0} → Read A → Read B → Read (A × B)
+both (Ok a) (Ok b) = Ok (a, b)
+both (Ok a) (Err why) = Err why
+both (Err why) (Ok b) = Err why
+both (Err why) (Err other) = Err (worse why other)
+
+-- a value for each word
+abbrev pub each : {A : Type 0} → (List ℕ → Read A) → List (List ℕ) → Read (List A)
+each {A = A} f [] = Ok []
+each {A = A} f (word ∷ words) = making (λ (p : A × List A). p.0 ∷ p.1) (both (f word) (each f words))
+
+-- ---- so many words, and no more
+
+-- where there are not so many, they fit no form
+abbrev pub formed : {A : Type 0} → Option (Read A) → Read A
+formed None = Err NoForm
+formed (Some read) = read
+
+-- no words at all
+abbrev pub none : {A : Type 0} → A → List (List ℕ) → Read A
+none a [] = Ok a
+none a (word ∷ words) = Err NoForm
+
+-- one word
+abbrev pub one : {A : Type 0} → (List ℕ → Read A) → List (List ℕ) → Read A
+one f words = formed (option_map f (one_of words))
+
+-- two words
+abbrev pub two : {A B : Type 0} → (List ℕ → Read A) → (List ℕ → Read B) → List (List ℕ) → Read (A × B)
+two f g words = formed (option_map (λ p. both (f p.0) (g p.1)) (two_of words))
+
+-- the fields of a list that has just three
+abbrev pub three_of : List (List ℕ) → Option (List ℕ × (List ℕ × List ℕ))
+three_of [] = None
+three_of (first ∷ words) = option_map (λ p. (first, p)) (two_of words)
+
+-- three words
+abbrev pub three : {A B C : Type 0} → (List ℕ → Read A) → (List ℕ → Read B) → (List ℕ → Read C) → List (List ℕ)
+    → Read (A × (B × C))
+three f g h words = formed (option_map (λ p. both (f p.0) (both (g p.1.0) (h p.1.1))) (three_of words))

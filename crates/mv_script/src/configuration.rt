@@ -1,0 +1,73 @@
+//! The configuration of a script (`specs/Costs.antt`).
+
+ghost use Rattle.std.specs.Prelude.{◌≡◌, ◌≤◌, map, replicate, IfOk};
+ghost use Rattle.mv_machine.specs.Check.{IsValid};
+ghost use Rattle.mv_machine.specs.Config.{exit_of};
+ghost use Rattle.mv_script.specs.Costs.{script_setup};
+
+use crate::limits::{ELEMENTS_PER_TASK, LATCHES, POSTED_QUOTA, QUOTA, VOLUMES};
+use mv_io::NoMemory;
+use mv_machine::{CheckRefusal, Config, Exit, ValidConfig};
+use std::alloc::{AllocError, Global};
+
+/// The configuration of a script with so many tasks, and with these blocks, exits and budgets.
+pub(crate) fn with_budgets(
+    alloc: Global,
+    tasks: u32,
+    owners: Vec<u32>,
+    exits: Vec<Exit>,
+    budgets: Vec<u32>,
+) -> Result<ValidConfig, NoMemory>
+    requires valid { IsValid (script_setup tasks owners.items (map exit_of exits.items) budgets.items) }
+    ensures { IfOk result (λ c. c ≡ script_setup tasks owners.items (map exit_of exits.items) budgets.items) }
+{
+    let config = Config {
+        callers: tasks,
+        elements_per_caller: ELEMENTS_PER_TASK,
+        volumes: VOLUMES,
+        latches: LATCHES,
+        quota: QUOTA,
+        posted_quota: POSTED_QUOTA,
+        budgets,
+        owners,
+        exits,
+    };
+    match config.check(alloc) {
+        Ok(config) => Ok(config),
+        Err(refusal) => match refusal {
+            CheckRefusal::NoMemory => Err(NoMemory),
+            // No rule of configurations refuses it.
+            _ => unreachable!(),
+        },
+    }
+}
+
+/// The same with budgets of nothing, by which the calls of its tasks cost.
+pub(crate) fn unbudgeted(
+    alloc: Global,
+    tasks: u32,
+    owners: &[u32],
+    exits: &[Exit],
+) -> Result<ValidConfig, NoMemory>
+    requires valid { IsValid (script_setup tasks owners.now (map exit_of exits.now) (replicate tasks 0)) }
+    ensures { IfOk result (λ c. c ≡ script_setup tasks owners.now (map exit_of exits.now) (replicate tasks 0)) }
+{
+    let mut budgets = Vec::new(alloc);
+    budgets.resize(tasks as usize, 0)?;
+    let owners = Vec::from_slice(alloc, owners)?;
+    with_budgets(alloc, tasks, owners, copied(alloc, exits)?, budgets)
+}
+
+// The same exits.
+fn copied(alloc: Global, exits: &[Exit]) -> Result<Vec<Exit>, AllocError>
+    ensures { IfOk result (λ copies. map exit_of copies.items ≡ map exit_of exits.now) }
+{
+    let mut copies = Vec::new(alloc);
+    for exit in exits {
+        copies.push(Exit {
+            source: exit.source,
+            targets: Vec::from_slice(alloc, &exit.targets)?,
+        })?;
+    }
+    Ok(copies)
+}

@@ -1,0 +1,27 @@
+//! Scripts: texts that state the calls of up to eight tasks, one call a line. `read_script` goes over the bytes once and answers the
+//! script that the text states, or the first fault. What the tasks of a script do, and what their calls answer in a history, is
+//! defined beside it.
+#![tactic(auto)]
+
+mod answer;
+mod call;
+mod calls;
+mod configuration;
+mod cost;
+mod fault;
+mod laws;
+mod limits;
+mod numbers;
+mod operand;
+mod reading;
+mod script;
+mod statement;
+mod words;
+
+pub use answer::{Answer, AnswerList};
+pub use call::{Call, CallList};
+pub use fault::{ScriptFault, ScriptRefusal};
+pub use laws::{costs_suffice, first_fault_is_lowest, scripts_are_sound};
+pub use numbers::{Numbers, Slots};
+pub use reading::read_script;
+pub use script::Script;

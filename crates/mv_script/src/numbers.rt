@@ -1,0 +1,33 @@
+//! Lists that the values of a script have in them.
+
+use mv_wait::WaitSlot;
+use std::marker::Model;
+
+/// Numbers of event control blocks.
+#[derive(Debug, Drop)]
+pub struct Numbers {
+    pub numbers: Vec<u32>,
+}
+
+impl Model for Numbers {
+    ghost use Rattle.std.specs.Prelude.{List, ℕ};
+
+    ghost Value = { List ℕ };
+
+    ghost view = { λ n. n.numbers.items };
+}
+
+/// How the blocks of a wait were found.
+#[derive(Debug, Drop)]
+pub struct Slots {
+    pub slots: Vec<WaitSlot>,
+}
+
+impl Model for Slots {
+    ghost use Rattle.std.specs.Prelude.{List};
+    ghost use Rattle.mv_wait.specs.declared.waiting.WaitSlot.{WaitSlot};
+
+    ghost Value = { List WaitSlot };
+
+    ghost view = { λ s. s.slots.items };
+}

@@ -1,0 +1,250 @@
+//! What may stand in the places of numbers, tokens and modes (`specs/Operand.antt`).
+
+ghost use Rattle.std.specs.Prelude.{◌≡◌, ◌<◌, ◌≤◌, ◌^◌, ◌+◌, ◌-◌, ◌*◌, true, SomeIff, length};
+ghost use Rattle.std.specs.List.{list_all};
+ghost use Rattle.mv_line.specs.Byte.{is_digit as shows_digit};
+ghost use Rattle.mv_line.specs.Number.{value_behind, is_number as shows_number};
+ghost use Rattle.mv_script.specs.Limits.{most_tasks};
+ghost use Rattle.mv_script.specs.Operand.{is_digits as are_digits, below as reads_below, task_count as reads_task_count, task as reads_task, ecb as reads_ecb, element as reads_element, volume as reads_volume, latch as reads_latch, count as reads_count, ecb_code as reads_ecb_code, release_code as reads_release_code, place as reads_place, any_number as reads_any_number, requestor as reads_requestor, token as reads_token, or_hyphen, mode as reads_mode, conditional as reads_conditional};
+
+use crate::limits::{ELEMENTS_PER_TASK, HIGHEST_COUNT, HIGHEST_LATCH, MOST_TASKS, VOLUMES};
+use crate::words::{Misread, both};
+use mv_element::Token;
+use mv_latch::Mode;
+use mv_line::first_place;
+
+/// How many tasks and event control blocks a script has so far: those that its lines may name.
+#[derive(Clone, Copy)]
+pub(crate) struct Sizes {
+    pub(crate) tasks: u32,
+    pub(crate) ecbs: u32,
+}
+
+// One or more digits.
+fn is_digits(word: &[u8]) -> bool
+    ensures { result ≡ are_digits word.now }
+{
+    match word {
+        [] => false,
+        [_, ..] => are_all_digits(word),
+    }
+}
+
+fn are_all_digits(word: &[u8]) -> bool
+    ensures { result ≡ list_all shows_digit word.now }
+{
+    word.iter().all(|b| b.is_ascii_digit())
+}
+
+// Digits without a zero in front of others.
+fn is_number(word: &[u8]) -> bool
+    ensures { result ≡ shows_number word.now }
+{
+    match word {
+        [] => false,
+        [only] => only.is_ascii_digit(),
+        [first, rest @ ..] => matches!(first, b'1'..=b'9') && are_all_digits(rest),
+    }
+}
+
+// A number with one more digit behind it, where it fits eight bytes.
+fn with_digit(value: u64, digit: u8) -> Option<u64>
+    requires { shows_digit digit ≡ true }
+    ensures { SomeIff result (10 * value + (digit - 48) < 2 ^ 64) (10 * value + (digit - 48)) }
+{
+    value.checked_mul(10)?.checked_add(u64::from(digit - b'0'))
+}
+
+// The number that digits show, where it fits eight bytes.
+fn value(digits: &[u8]) -> Option<u64>
+    requires { list_all shows_digit digits.now ≡ true }
+    ensures { SomeIff result (value_behind 0 digits.now < 2 ^ 64) (value_behind 0 digits.now) }
+{
+    let mut value: u64 = 0;
+    for digit in digits {
+        let Some(next) = with_digit(value, *digit) else {
+            return None;
+        };
+        value = next;
+    }
+    Some(value)
+}
+
+/// The eight bytes of a requestor, as a number.
+pub(crate) fn requestor(word: &[u8]) -> Result<u64, Misread>
+    ensures { result ≡ reads_requestor word.now }
+{
+    if !is_digits(word) {
+        return Err(Misread::NoForm);
+    }
+    if !is_number(word) {
+        return Err(Misread::BadNumber);
+    }
+    match value(word) {
+        Some(value) => Ok(value),
+        None => Err(Misread::BadNumber),
+    }
+}
+
+// A number below this one, which fits four bytes.
+#[tactic(auto, using(crate::proofs::Operands::filtered_number))]
+fn below(limit: u64, word: &[u8]) -> Result<u32, Misread>
+    requires { limit ≤ 2 ^ 32 }
+    ensures { result ≡ reads_below limit word.now }
+{
+    let number = requestor(word)?;
+    if number < limit {
+        Ok(number as u32)
+    } else {
+        Err(Misread::BadNumber)
+    }
+}
+
+/// How many tasks a script has: 1 to 8.
+#[tactic(auto, using(crate::proofs::Operands::counted_tasks))]
+pub(crate) fn task_count(word: &[u8]) -> Result<u32, Misread>
+    ensures { result ≡ reads_task_count word.now }
+{
+    let number = below(u64::from(MOST_TASKS) + 1, word)?;
+    if number > 0 {
+        Ok(number)
+    } else {
+        Err(Misread::BadNumber)
+    }
+}
+
+/// A task of the script.
+pub(crate) fn task(sizes: Sizes, word: &[u8]) -> Result<u32, Misread>
+    ensures { result ≡ reads_task sizes word.now }
+{
+    below(u64::from(sizes.tasks), word)
+}
+
+/// An event control block of the script.
+pub(crate) fn ecb(sizes: Sizes, word: &[u8]) -> Result<u32, Misread>
+    ensures { result ≡ reads_ecb sizes word.now }
+{
+    below(u64::from(sizes.ecbs), word)
+}
+
+/// A pause element of the script.
+pub(crate) fn element(sizes: Sizes, word: &[u8]) -> Result<u32, Misread>
+    requires { sizes.tasks ≤ most_tasks }
+    ensures { result ≡ reads_element sizes word.now }
+{
+    below(u64::from(ELEMENTS_PER_TASK * sizes.tasks), word)
+}
+
+/// A volume.
+pub(crate) fn volume(word: &[u8]) -> Result<u32, Misread>
+    ensures { result ≡ reads_volume word.now }
+{
+    below(u64::from(VOLUMES), word)
+}
+
+/// A latch, which need not be there.
+pub(crate) fn latch(word: &[u8]) -> Result<u32, Misread>
+    ensures { result ≡ reads_latch word.now }
+{
+    below(HIGHEST_LATCH + 1, word)
+}
+
+/// How many blocks of a WAIT are to be complete.
+pub(crate) fn count(word: &[u8]) -> Result<u32, Misread>
+    ensures { result ≡ reads_count word.now }
+{
+    below(HIGHEST_COUNT + 1, word)
+}
+
+/// The completion code of a block: 30 bits.
+pub(crate) fn ecb_code(word: &[u8]) -> Result<u32, Misread>
+    ensures { result ≡ reads_ecb_code word.now }
+{
+    below(1 << 30, word)
+}
+
+/// A release code: 24 bits.
+pub(crate) fn release_code(word: &[u8]) -> Result<u32, Misread>
+    ensures { result ≡ reads_release_code word.now }
+{
+    below(1 << 24, word)
+}
+
+/// How many events an object has had.
+pub(crate) fn place(word: &[u8]) -> Result<u32, Misread>
+    ensures { result ≡ reads_place word.now }
+{
+    below(524_287, word)
+}
+
+/// The number of an exit or of an OBTAIN, or what a volume keeps: 32 bits.
+pub(crate) fn any_number(word: &[u8]) -> Result<u32, Misread>
+    ensures { result ≡ reads_any_number word.now }
+{
+    below(1 << 32, word)
+}
+
+/// A token: an element and a generation, with a point between.
+pub(crate) fn token(sizes: Sizes, word: &[u8]) -> Result<Token, Misread>
+    requires { sizes.tasks ≤ most_tasks }
+    ensures { result ≡ reads_token sizes word.now }
+{
+    let Some(point) = first_place(word, b'.') else {
+        return Err(Misread::NoForm);
+    };
+    let (element, generation) = both(
+        element(sizes, &word[..point]),
+        below(262_143, &word[point + 1..]),
+    )?;
+    Ok(Token {
+        element,
+        generation,
+    })
+}
+
+/// A token, or a hyphen for none.
+pub(crate) fn token_or_none(sizes: Sizes, word: &[u8]) -> Result<Option<Token>, Misread>
+    requires { sizes.tasks ≤ most_tasks }
+    ensures { result ≡ or_hyphen (reads_token sizes) word.now }
+{
+    if word == b"-".as_slice() {
+        return Ok(None);
+    }
+    Ok(Some(token(sizes, word)?))
+}
+
+/// A block, or a hyphen for none.
+pub(crate) fn ecb_or_none(sizes: Sizes, word: &[u8]) -> Result<Option<u32>, Misread>
+    ensures { result ≡ or_hyphen (reads_ecb sizes) word.now }
+{
+    if word == b"-".as_slice() {
+        return Ok(None);
+    }
+    Ok(Some(ecb(sizes, word)?))
+}
+
+/// `S` or `X`.
+pub(crate) fn mode(word: &[u8]) -> Result<Mode, Misread>
+    ensures { result ≡ reads_mode word.now }
+{
+    if word == b"S".as_slice() {
+        return Ok(Mode::Shared);
+    }
+    if word == b"X".as_slice() {
+        return Ok(Mode::Exclusive);
+    }
+    Err(Misread::NoForm)
+}
+
+/// Whether a release is conditional: `C` or `U`.
+pub(crate) fn conditional(word: &[u8]) -> Result<bool, Misread>
+    ensures { result ≡ reads_conditional word.now }
+{
+    if word == b"C".as_slice() {
+        return Ok(true);
+    }
+    if word == b"U".as_slice() {
+        return Ok(false);
+    }
+    Err(Misread::NoForm)
+}

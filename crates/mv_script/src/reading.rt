@@ -1,0 +1,372 @@
+//! The reader of scripts: one pass over the bytes (`specs/Reading.antt`).
+
+ghost use Rattle.std.specs.Prelude.{◌≡◌, ◌<◌, ◌≤◌, ◌-◌, ◌+◌, ◌^◌, ◌++◌, List, [], ◌∷◌, true, None, not, ◌||◌, nat_lt, is_some, length, count_by, MatchResult, IfOk, IfErr, OnOk};
+ghost use Rattle.mv_script.specs.declared.call.Call.{Call};
+ghost use Rattle.mv_script.specs.declared.statement.Statement.{Statement};
+ghost use Rattle.mv_script.specs.declared.statement.Statement.TheVariants as statement;
+ghost use Rattle.mv_script.specs.Fault.{first_fault, TellsFirst, kinds_of, leads_down, is_no_obtain, obtain_meant};
+ghost use Rattle.mv_script.specs.Reading.{IsBehind, IsReady, IsTaken, Tells, refusal_at};
+ghost use Rattle.mv_script.specs.Script.{script_data, script_of, script_in, with_line, tasks_of, sizes_behind, is_obtain};
+ghost use Rattle.mv_script.specs.Sound.{IsSound, IsGoodStatement};
+
+use crate::call::{Call, CallList};
+use crate::configuration::{unbudgeted, with_budgets};
+use crate::cost::cost;
+use crate::fault::{Kind, LineRefusal, ScriptFault, ScriptRefusal};
+use crate::limits::{EVENTS_LIMIT, LONGEST_LINE, MOST_CALLS, MOST_ECBS, MOST_EXITS};
+use crate::numbers::Numbers;
+use crate::operand::Sizes;
+use crate::script::Script;
+use crate::statement::{Statement, statement_of};
+use mv_io::NoMemory;
+use mv_line::{has_foreign_byte, split_line, without_cr, without_last_spaces};
+use mv_machine::{Exit, ValidConfig};
+use std::alloc::Global;
+
+/// Reads a script.
+///
+/// Lines are cut as those of a deck are; empty ones are ignored, and there are no comments. They are counted from 1 in a `u32`,
+/// and so is the line behind the last: hence fewer than 2^32 - 1 bytes. The time is linear in the bytes.
+///
+/// # Errors
+///
+/// `Fault` where the text has a fault: its first. `NoMemory` where there is no room for the script, which may show before a
+/// fault is reached.
+pub fn read_script(alloc: Global, bytes: &[u8]) -> Result<Script, ScriptRefusal>
+    requires short { length bytes.now < 2 ^ 32 - 1 }
+
+    // What is read is the script of a text without fault.
+    ensures script { IfOk result (λ s. (first_fault bytes.now ≡ None) × (script_data s ≡ script_of bytes.now)) }
+    // It can be run.
+    ensures sound { IfOk result (λ s. IsSound (script_data s)) }
+    // The fault that is told is the first.
+    ensures fault { IfErr result (λ e. TellsFirst e (first_fault bytes.now)) }
+{
+    let mut reading = Reading::new(alloc);
+    let mut rest = bytes;
+    let mut number = 1;
+    while !rest.is_empty() {
+        let (line, behind) = split_line(rest);
+        if let Err(refusal) = reading.take_line(line) {
+            return Err(refused(refusal, number));
+        }
+        rest = behind;
+        number += 1;
+    }
+    if !reading.ended {
+        return Err(refused(LineRefusal::Has(Kind::NoEnd), number));
+    }
+    Ok(reading.script()?)
+}
+
+// The refusal of a script that has it at this line.
+fn refused(refusal: LineRefusal, line: u32) -> ScriptRefusal
+    ensures { result ≡ refusal_at line refusal }
+{
+    match refusal {
+        LineRefusal::Has(kind) => ScriptRefusal::Fault(ScriptFault {
+            line,
+            kind: kind.number(),
+        }),
+        LineRefusal::NoMemory => ScriptRefusal::NoMemory,
+    }
+}
+
+// What the lines so far have stated.
+#[derive(Drop)]
+struct Reading {
+    alloc: Global,
+    // How many tasks are stated: none before SCRIPT.
+    stated: u32,
+    owners: Vec<u32>,
+    exits: Vec<Exit>,
+    // What the calls cost by, from the first TASK on.
+    costs: Option<ValidConfig>,
+    // The tasks before the last one, and what their calls may cost.
+    finished: Vec<CallList>,
+    budgets: Vec<u32>,
+    // The calls of the last task, what they may cost, and how many of them are OBTAINs.
+    calls: Vec<Call>,
+    spent: u32,
+    obtains: u32,
+    // What the calls may still cost.
+    room: u32,
+    // Whether END was read.
+    ended: bool,
+}
+
+impl Reading {
+    fn new(alloc: Global) -> Self
+        ensures { IsBehind [] result }
+    {
+        Reading {
+            alloc,
+            stated: 0,
+            owners: Vec::new(alloc),
+            exits: Vec::new(alloc),
+            costs: None,
+            finished: Vec::new(alloc),
+            budgets: Vec::new(alloc),
+            calls: Vec::new(alloc),
+            spent: 0,
+            obtains: 0,
+            room: EVENTS_LIMIT,
+            ended: false,
+        }
+    }
+
+    // Takes a line.
+    fn take_line(&mut self, line: &[u8]) -> Result<(), LineRefusal>
+        requires { (earlier : List Statement) × IsBehind earlier self.now }
+        ensures { (earlier : List Statement) → IsBehind earlier self.old
+            → MatchResult result (λ _. (kinds_of earlier line.now ≡ []) × IsBehind (with_line earlier line.now) self.new)
+            (λ e. Tells e (kinds_of earlier line.now)) }
+    {
+        let content = without_cr(line);
+        if has_foreign_byte(content) {
+            return Err(LineRefusal::Has(Kind::ForeignByte));
+        }
+        if content.len() > LONGEST_LINE {
+            return Err(LineRefusal::Has(Kind::TooLong));
+        }
+        let text = without_last_spaces(content);
+        if text.is_empty() {
+            return Ok(());
+        }
+        let sizes = Sizes {
+            tasks: self.stated,
+            ecbs: self.owners.len() as u32,
+        };
+        match statement_of(self.alloc, sizes, text) {
+            Ok(statement) => self.take(statement),
+            Err(refusal) => Err(refusal),
+        }
+    }
+
+    // Takes a statement.
+    fn take(&mut self, statement: Statement) -> Result<(), LineRefusal>
+        requires { IsReady self.now (statement) }
+        ensures { (earlier : List Statement) → IsBehind earlier self.old → IsGoodStatement (sizes_behind earlier) (statement)
+            → IsTaken result earlier (statement) self.new }
+    {
+        match statement {
+            Statement::Script(tasks) => self.take_script(tasks),
+            Statement::Ecb(owner) => self.take_ecb(owner),
+            Statement::Exit { source, targets } => self.take_exit(source, targets),
+            Statement::Task => self.take_task(),
+            Statement::Call(call) => self.take_call(call),
+            Statement::End => self.take_end(),
+        }
+    }
+
+    // Takes a SCRIPT of so many tasks.
+    fn take_script(&mut self, tasks: u32) -> Result<(), LineRefusal>
+        requires { IsReady self.now (statement.Script tasks) }
+        ensures { (earlier : List Statement) → IsBehind earlier self.old → IsGoodStatement (sizes_behind earlier) (statement.Script tasks)
+            → IsTaken result earlier (statement.Script tasks) self.new }
+    {
+        if self.stated > 0 {
+            return Err(LineRefusal::Has(Kind::OutOfOrder));
+        }
+        self.stated = tasks;
+        Ok(())
+    }
+
+    // Whether no ECB may stand here.
+    fn is_late_for_ecbs(&self) -> bool
+        ensures { result ≡ (not (nat_lt 0 self.now.stated) || (nat_lt 0 (length self.now.exits.items) || (is_some self.now.costs || self.now.ended))) }
+    {
+        self.stated == 0 || !self.exits.is_empty() || self.costs.is_some() || self.ended
+    }
+
+    // Whether no EXIT may stand here.
+    fn is_late_for_exits(&self) -> bool
+        ensures { result ≡ (not (nat_lt 0 self.now.stated) || (is_some self.now.costs || self.now.ended)) }
+    {
+        self.stated == 0 || self.costs.is_some() || self.ended
+    }
+
+    // Whether no TASK and no END may stand here.
+    fn is_closed(&self) -> bool
+        ensures { result ≡ (not (nat_lt 0 self.now.stated) || self.now.ended) }
+    {
+        self.stated == 0 || self.ended
+    }
+
+    // Takes an ECB of this task.
+    fn take_ecb(&mut self, owner: u32) -> Result<(), LineRefusal>
+        requires { IsReady self.now (statement.Ecb owner) }
+        ensures { (earlier : List Statement) → IsBehind earlier self.old → IsGoodStatement (sizes_behind earlier) (statement.Ecb owner)
+            → IsTaken result earlier (statement.Ecb owner) self.new }
+    {
+        if self.is_late_for_ecbs() {
+            return Err(LineRefusal::Has(Kind::OutOfOrder));
+        }
+        if self.owners.len() >= MOST_ECBS {
+            return Err(LineRefusal::Has(Kind::Miscounted));
+        }
+        self.owners.push(owner)?;
+        Ok(())
+    }
+
+    // Takes an EXIT.
+    fn take_exit(&mut self, source: u32, targets: Numbers) -> Result<(), LineRefusal>
+        requires { IsReady self.now (statement.Exit source targets) }
+        ensures { (earlier : List Statement) → IsBehind earlier self.old → IsGoodStatement (sizes_behind earlier) (statement.Exit source targets)
+            → IsTaken result earlier (statement.Exit source targets) self.new }
+    {
+        if self.is_late_for_exits() {
+            return Err(LineRefusal::Has(Kind::OutOfOrder));
+        }
+        if self.exits.len() >= MOST_EXITS {
+            return Err(LineRefusal::Has(Kind::Miscounted));
+        }
+        let targets = targets.numbers;
+        if is_downward(source, &targets) {
+            return Err(LineRefusal::Has(Kind::LeadsDown));
+        }
+        self.exits.push(Exit { source, targets })?;
+        Ok(())
+    }
+
+    // Takes a TASK.
+    fn take_task(&mut self) -> Result<(), LineRefusal>
+        requires { IsReady self.now (statement.Task) }
+        ensures { (earlier : List Statement) → IsBehind earlier self.old → IsGoodStatement (sizes_behind earlier) (statement.Task)
+            → IsTaken result earlier (statement.Task) self.new }
+    {
+        if self.is_closed() {
+            return Err(LineRefusal::Has(Kind::OutOfOrder));
+        }
+        if self.task_count() >= self.stated {
+            return Err(LineRefusal::Has(Kind::Miscounted));
+        }
+        if self.costs.is_some() {
+            self.finish()?;
+            return Ok(());
+        }
+        let costs = unbudgeted(self.alloc, self.stated, &self.owners, &self.exits)?;
+        self.costs = Some(costs);
+        Ok(())
+    }
+
+    // How many tasks there are, the last one among them.
+    fn task_count(&self) -> u32
+        requires { (earlier : List Statement) × IsBehind earlier self.now }
+        ensures { (earlier : List Statement) → IsBehind earlier self.now → result ≡ length (tasks_of earlier) }
+    {
+        let finished = self.finished.len() as u32;
+        if self.costs.is_some() {
+            finished + 1
+        } else {
+            finished
+        }
+    }
+
+    // Takes a call of the last task.
+    fn take_call(&mut self, call: Call) -> Result<(), LineRefusal>
+        requires { IsReady self.now (statement.Call call) }
+        ensures { (earlier : List Statement) → IsBehind earlier self.old → IsGoodStatement (sizes_behind earlier) (statement.Call call)
+            → IsTaken result earlier (statement.Call call) self.new }
+    {
+        let Some(costs) = &self.costs else {
+            return Err(LineRefusal::Has(Kind::OutOfOrder));
+        };
+        if self.ended {
+            return Err(LineRefusal::Has(Kind::OutOfOrder));
+        }
+        if self.calls.len() >= MOST_CALLS {
+            return Err(LineRefusal::Has(Kind::Miscounted));
+        }
+        if lacks_obtain(&call, self.obtains) {
+            return Err(LineRefusal::Has(Kind::NoObtain));
+        }
+        let cost = cost(costs, &call);
+        if cost > self.room {
+            return Err(LineRefusal::Has(Kind::TooCostly));
+        }
+        self.room -= cost;
+        self.spent += cost;
+        self.obtains += obtain_count(&call);
+        self.calls.push(call)?;
+        Ok(())
+    }
+
+    // Takes the END.
+    fn take_end(&mut self) -> Result<(), LineRefusal>
+        requires { IsReady self.now (statement.End) }
+        ensures { (earlier : List Statement) → IsBehind earlier self.old → IsGoodStatement (sizes_behind earlier) (statement.End)
+            → IsTaken result earlier (statement.End) self.new }
+    {
+        if self.is_closed() {
+            return Err(LineRefusal::Has(Kind::OutOfOrder));
+        }
+        if self.task_count() < self.stated {
+            return Err(LineRefusal::Has(Kind::Miscounted));
+        }
+        self.ended = true;
+        Ok(())
+    }
+
+    // Puts the last task to those before it.
+    fn finish(&mut self) -> Result<(), NoMemory>
+        ensures tasks { OnOk result (self.new.finished.items ≡ self.old.finished.items ++ self.old.calls.items ∷ []) }
+        ensures budgets { OnOk result (self.new.budgets.items ≡ self.old.budgets.items ++ self.old.spent ∷ []) }
+        ensures fresh { OnOk result ((self.new.calls.items ≡ []) × ((self.new.spent ≡ 0) × (self.new.obtains ≡ 0))) }
+        ensures rest { OnOk result ((self.new.stated ≡ self.old.stated) × ((self.new.owners ≡ self.old.owners) × ((self.new.exits ≡ self.old.exits)
+            × ((self.new.costs ≡ self.old.costs) × ((self.new.room ≡ self.old.room) × (self.new.ended ≡ self.old.ended)))))) }
+    {
+        let calls = std::mem::replace(&mut self.calls, Vec::new(self.alloc));
+        self.finished.push(CallList { calls })?;
+        self.budgets.push(self.spent)?;
+        self.spent = 0;
+        self.obtains = 0;
+        Ok(())
+    }
+
+    // The script of all lines, of which END was the last.
+    fn script(mut self) -> Result<Script, NoMemory>
+        requires { (statements : List Statement) × (IsBehind statements self × (self.ended ≡ true)) }
+        ensures { (statements : List Statement) → IsBehind statements self → IfOk result (λ s. script_data s ≡ script_in statements) }
+    {
+        self.finish()?;
+        Ok(Script {
+            config: with_budgets(
+                self.alloc,
+                self.stated,
+                self.owners,
+                self.exits,
+                self.budgets,
+            )?,
+            tasks: self.finished,
+        })
+    }
+}
+
+// Whether a target is not above its source.
+fn is_downward(source: u32, targets: &[u32]) -> bool
+    ensures { result ≡ leads_down (statement.Exit source targets.now) }
+{
+    targets.iter().any(|target| *target <= source)
+}
+
+// Whether a call means an OBTAIN that is none of so many.
+fn lacks_obtain(call: &Call, obtains: u32) -> bool
+    ensures { (calls : List Call) → count_by is_obtain calls ≡ obtains → result ≡ is_no_obtain calls (obtain_meant call.now) }
+{
+    match call {
+        Call::Check(k) => *k < 1 || *k > obtains,
+        Call::Free { obtain, .. } => *obtain < 1 || *obtain > obtains,
+        _ => false,
+    }
+}
+
+// How many OBTAINs a call is.
+fn obtain_count(call: &Call) -> u32
+    ensures { result ≡ count_by is_obtain (call.now ∷ []) }
+{
+    match call {
+        Call::Obtain { .. } => 1,
+        _ => 0,
+    }
+}

@@ -1,0 +1,124 @@
+//! What a line of a script states, by its words (`specs/Statement.antt`, `specs/Misread.antt`).
+
+ghost use Rattle.std.specs.Prelude.{◌≡◌, ◌≤◌, List, ℕ, IfOk, Ok};
+ghost use Rattle.mv_line.specs.Field.{fields_of};
+ghost use Rattle.mv_script.specs.Limits.{most_tasks};
+ghost use Rattle.mv_script.specs.Misread.{IsReadAs};
+ghost use Rattle.mv_script.specs.Statement.{exit as exit_read, stated, text_states};
+ghost use Rattle.mv_script.specs.Words.{each};
+ghost use Rattle.mv_script.specs.Operand.{ecb as ecb_read};
+
+use crate::call::Call;
+use crate::calls::{other_call, wait};
+use crate::fault::{Kind, LineRefusal};
+use crate::limits::MOST_TARGETS;
+use crate::numbers::Numbers;
+use crate::operand::{Sizes, ecb, task, task_count};
+use crate::words::{Misread, field_count, no_field, one_word, worse, worsened};
+use mv_line::{begins_with_space, split_field};
+use std::alloc::{AllocError, Global};
+
+/// What a line states.
+#[derive(Drop)]
+pub(crate) enum Statement {
+    /// There are so many tasks.
+    Script(u32),
+    /// There is an event control block of this task.
+    Ecb(u32),
+    /// There is an exit.
+    Exit { source: u32, targets: Numbers },
+    /// A task begins.
+    Task,
+    /// The task makes a call.
+    Call(Call),
+    /// The script is at its end.
+    End,
+}
+
+/// What a text without spaces at its end states, where a script has so many tasks and blocks so far.
+pub(crate) fn statement_of(
+    alloc: Global,
+    sizes: Sizes,
+    text: &[u8],
+) -> Result<Statement, LineRefusal>
+    requires { sizes.tasks ≤ most_tasks }
+    ensures { IsReadAs result (text_states sizes text.now) }
+{
+    if begins_with_space(text) {
+        return Err(LineRefusal::Has(Kind::NoForm));
+    }
+    let (word, words) = split_field(text);
+    if word.is_empty() {
+        return Err(LineRefusal::Has(Kind::NoForm));
+    }
+    line_of(alloc, sizes, word, words)
+}
+
+// What a line with this first word states, by the words behind it.
+fn line_of(alloc: Global, sizes: Sizes, word: &[u8], words: &[u8]) -> Result<Statement, LineRefusal>
+    requires { sizes.tasks ≤ most_tasks }
+    ensures { IsReadAs result (stated sizes word.now (fields_of words.now)) }
+{
+    if word == b"SCRIPT".as_slice() {
+        return Ok(Statement::Script(task_count(one_word(words)?)?));
+    }
+    if word == b"ECB".as_slice() {
+        return Ok(Statement::Ecb(task(sizes, one_word(words)?)?));
+    }
+    if word == b"EXIT".as_slice() {
+        return exit(alloc, sizes, words);
+    }
+    if word == b"TASK".as_slice() {
+        no_field(words)?;
+        return Ok(Statement::Task);
+    }
+    if word == b"END".as_slice() {
+        no_field(words)?;
+        return Ok(Statement::End);
+    }
+    if word == b"WAIT".as_slice() {
+        return Ok(Statement::Call(wait(alloc, sizes, words)?));
+    }
+    Ok(Statement::Call(other_call(sizes, word, words)?))
+}
+
+// A source, and one to four targets.
+fn exit(alloc: Global, sizes: Sizes, words: &[u8]) -> Result<Statement, LineRefusal>
+    ensures { IsReadAs result (exit_read sizes (fields_of words.now)) }
+{
+    let (source_word, rest) = split_field(words);
+    let targets = field_count(rest);
+    if source_word.is_empty() || targets < 1 || targets > MOST_TARGETS {
+        return Err(LineRefusal::Has(Kind::NoForm));
+    }
+    match (ecb(sizes, source_word), ecbs(alloc, sizes, rest)?) {
+        (Ok(source), Ok(targets)) => Ok(Statement::Exit { source, targets }),
+        (Ok(_), Err(why)) => Err(why)?,
+        (Err(why), Ok(_)) => Err(why)?,
+        (Err(why), Err(other)) => Err(worse(why, other))?,
+    }
+}
+
+/// Event control blocks of the script, one for each word.
+pub(crate) fn ecbs(
+    alloc: Global,
+    sizes: Sizes,
+    words: &[u8],
+) -> Result<Result<Numbers, Misread>, AllocError>
+    ensures { IfOk result (λ r. r ≡ each (ecb_read sizes) (fields_of words.now)) }
+{
+    let mut numbers = Vec::new(alloc);
+    let mut misread = None;
+    let (mut word, mut rest) = split_field(words);
+    while !word.is_empty() {
+        match ecb(sizes, word) {
+            Ok(number) => numbers.push(number)?,
+            Err(why) => misread = Some(worsened(misread, why)),
+        }
+        (word, rest) = split_field(rest);
+    }
+    match misread {
+        None => Ok(Ok(Numbers { numbers })),
+        Some(why) => Ok(Err(why)),
+    }
+}
