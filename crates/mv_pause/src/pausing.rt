@@ -65,6 +65,9 @@ pub fn pause<R: Wait>(
         × IsGiven token given task.new.log)
         (λ why. IsPauseCause station.now.config token task.old why task.new) }
     ensures next { IfOk result (λ given. given.next.element ≡ token.element) }
+    // A token of an own element that is in use with its generation is never refused.
+    ensures current { is_others_token station.now.config (kept_of task.old.number task.old.log) token ≡ false
+        → IsCurrent (kept_of task.old.number task.old.log) token → (given : Given) × (result ≡ Ok given) }
     ensures low { IsLow (pause_answer result) × IfOk result (λ given. given.next.generation ≤ 262143) }
 {
     if is_others(station, task, token) {

@@ -1,13 +1,13 @@
 //! Waits for events. Clauses cite the calls' `Waits.antt`, and `specs/Run.antt`, `specs/Answers.antt`,
 //! `specs/Waiting.antt` and `specs/Listed.antt`.
 
-ghost use Rattle.std.specs.Prelude.{◌≡◌, ◌<◌, ◌≤◌, ◌+◌, ◌*◌, ◌^◌, ◌==◌, not, ℕ, [], ◌∷◌, true, length, option_map, MatchResult, Some, None, false};
+ghost use Rattle.std.specs.Prelude.{◌≡◌, ◌<◌, ◌≤◌, ◌+◌, ◌*◌, ◌^◌, ◌==◌, not, ℕ, [], ◌∷◌, true, length, option_map, IfOk, MatchResult, Some, None, false};
 ghost use Rattle.std.specs.List.{AllByRecursion};
 ghost use Rattle.mv_machine.specs.Setup.{owner_of};
 ghost use Rattle.mv_board.specs.Faces.{IsOf};
 ghost use Rattle.mv_calls.specs.Keeping.{kept_of};
 ghost use Rattle.mv_calls.specs.Rest.{IsAtRest};
-ghost use Rattle.mv_calls.specs.Waits.{wait, wait_refusal, doubled_at, refused_at, is_others_block, AreDistinct};
+ghost use Rattle.mv_calls.specs.Waits.{wait, wait_refusal, complete_count, doubled_at, refused_at, is_others_block, AreDistinct};
 ghost use Rattle.mv_calls.specs.Waits as program;
 ghost use Rattle.mv_calls.specs.Refusal.{Doubled, NotOwnerAt, ExtendedAt};
 ghost use Rattle.mv_wait.specs.Answers.{wait_answer, wait_refused, slots_of};
@@ -70,6 +70,7 @@ impl Station {
         ensures causes { MatchResult result
             (λ _. wait_refusal self.now.config count ecbs.now (kept_of task.old.number task.old.log) ≡ None)
             (λ why. (wait_refusal self.now.config count ecbs.now (kept_of task.old.number task.old.log) ≡ Some (wait_refused why)) × (task.new ≡ task.old) × (out.new ≡ out.old)) }
+        ensures enough { IfOk result (λ _. count ≤ complete_count (slots_of out.new)) }
     {
         if let Some(refusal) = self.refuses_wait(&task.record, count, ecbs) {
             return Err(refusal);

@@ -1,4 +1,5 @@
 use Rattle.std.proofs.Common.{◌≡◌, Err, refl, sym, ◌∙◌}
+use Rattle.std.proofs.lemmas.Bool.{false≢true}
 use Rattle.mv_calls.specs.Keeping.{kept_of}
 use Rattle.mv_calls.specs.Pauses.{pause}
 use Rattle.mv_calls.specs.Refusal as refusal
@@ -15,6 +16,10 @@ returns-then-is_others-clause-served g c =
     done_served 2 (pause c.args.station.now.config c.args.token) (λ a. a ≡ Err refusal.NotOwner) t (Err refusal.NotOwner)
     (others c.args.station.now.config (kept_of t.number t.log) c.args.token (pause_own c.args.token)
     (sym c.is_others.ensures ∙ c.if-is_others.true)) c.requires.rest refl
+
+pub returns-then-is_others-clause-current : goal.returns-then-is_others-clause-current
+returns-then-is_others-clause-current g c own current =
+    absurd (false≢true (sym own ∙ (sym c.is_others.ensures ∙ c.if-is_others.true)))
 
 pub pause_own-requires-clause-own : goal.pause_own-requires-clause-own
 pause_own-requires-clause-own g c =
@@ -33,5 +38,6 @@ returns g c =
           c.requires.rest c.pause_own.ensures.rest refl;
       causes = pause_cause s token t u c.pause_own.result own c.pause_own.ensures.answer;
       next = next_element token t u c.pause_own.result c.pause_own.ensures.answer;
+      current = λ mine current. c.pause_own.ensures.current current;
       low = c.pause_own.ensures.low;
     }

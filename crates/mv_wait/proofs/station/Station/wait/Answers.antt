@@ -106,3 +106,6 @@ returns-clause-served g c =
     c.await_complete.new.me c.settle_all.new.me none
     (subst (λ (d : CallerFace). IsAtRest d.log) (sym c.task.view_is) c.requires.rest)
     c.arm_all.ensures.armed c.await_complete.ensures.went c.settle_all.ensures.settled c.settle_all.ensures.rest)
+
+pub returns-clause-enough : goal.returns-clause-enough
+returns-clause-enough g c = c.settle_all.ensures.settled.enough
