@@ -12,30 +12,42 @@ use Rattle.mv_machine.specs.declared.packing.WordState.TheVariants as state
 use Rattle.mv_ecb.specs.declared.operation.EcbOp.TheVariants as ecb_op
 use Rattle.mv_element.specs.declared.operation.ElementOp.TheVariants as element_op
 use Rattle.mv_machine.specs.Elements.{extra}
-use Rattle.mv_machine.specs.Limits.{events_limit}
+use Rattle.mv_machine.specs.Limits.{volumes_limit, events_limit}
 use Rattle.mv_machine.specs.Packing.{pack, unpack, state_step}
 use Rattle.mv_machine.specs.Setup.{Setup, IsObjectOf}
 
--- ---- the words: 8 volumes, 256 elements, the turn of the latch set, and the event control blocks
+-- ---- the words: of the volumes, of the elements of all callers, of the turn of the latch set, and of the event control blocks
 
--- the word of the turn
+-- the first word of an element: behind those of the volumes
+abbrev pub first_element_word : ℕ
+first_element_word = volumes_limit
+
+-- the word of the turn: behind those of `callers_limit * elements_limit` elements
 abbrev pub turn_word : ℕ
 turn_word = 264
+
+-- the first word of an event control block: behind the turn
+abbrev pub first_ecb_word : ℕ
+first_ecb_word = 265
 
 -- the number of the word of an object
 abbrev pub word_number : Object → ℕ
 word_number (Volume n) = n
-word_number (Element n) = 8 + n
+word_number (Element n) = first_element_word + n
 word_number Latches = turn_word
-word_number (Ecb n) = 265 + n
+word_number (Ecb n) = first_ecb_word + n
 
 -- the object that has the word of this number
 abbrev pub object_of : ℕ → Object
-object_of i = if nat_lt i 8 then Volume i else if nat_lt i 264 then Element (i - 8) else if i == 264 then Latches else Ecb (i - 265)
+object_of i =
+    if nat_lt i first_element_word then Volume i
+    else if nat_lt i turn_word then Element (i - first_element_word)
+    else if i == turn_word then Latches
+    else Ecb (i - first_ecb_word)
 
 -- how many words a board has
 abbrev pub word_count : Setup → ℕ
-word_count c = 265 + length c.owners
+word_count c = first_ecb_word + length c.owners
 
 -- the object is there, and has a word of its own
 abbrev pub HasWord : Setup → Object → Type 0

@@ -13,6 +13,9 @@ use mv_machine::{
     HIGHEST_PLACE, Object, Op, Reply, VolumeOp, WordState, pack, state_apply, unpack,
 };
 
+/// The first word of an element, behind those of the volumes.
+const FIRST_ELEMENT: usize = 8;
+
 /// The word of the latch set's turn.
 pub(crate) const TURN: usize = 264;
 
@@ -28,7 +31,7 @@ pub(crate) fn word_number(object: Object) -> usize
 {
     match object {
         Object::Volume(volume) => volume as usize,
-        Object::Element(element) => 8 + element as usize,
+        Object::Element(element) => FIRST_ELEMENT + element as usize,
         Object::Latches => TURN,
         Object::Ecb(ecb) => BEFORE_ECBS + ecb as usize,
     }

@@ -7,7 +7,8 @@ use Rattle.mv_machine.specs.declared.config.CheckRefusal.TheVariants.{Limit, Bad
 use Rattle.mv_machine.specs.declared.config.ConfigLimit.{ConfigLimit}
 use Rattle.mv_machine.specs.declared.config.ConfigLimit.TheVariants.{Callers, Elements, Volumes, Latches, Quota, Posted, Budgets}
 use Rattle.mv_machine.specs.declared.config.ConfigLimit.TheVariants.{Ecbs, Exits, Targets}
-use Rattle.mv_machine.specs.Limits.{ecbs_limit, exits_limit, targets_limit, events_limit}
+use Rattle.mv_machine.specs.Limits.{callers_limit, elements_limit, volumes_limit, latches_limit, requests_limit, ecbs_limit}
+use Rattle.mv_machine.specs.Limits.{exits_limit, targets_limit, events_limit}
 use Rattle.mv_machine.specs.Setup.{Setup, SetupExit}
 
 -- whether a number is one of these
@@ -16,11 +17,11 @@ is_within low high n = nat_le low n && nat_le n high
 
 -- whether a limit is kept
 abbrev pub keeps : ConfigLimit → Setup → Bool
-keeps Callers c = is_within 1 16 c.callers
-keeps Elements c = is_within 1 16 c.elements_per_caller
-keeps Volumes c = is_within 1 8 c.volumes
-keeps Latches c = is_within 1 8 c.latches
-keeps Quota c = is_within 1 16 c.quota
+keeps Callers c = is_within 1 callers_limit c.callers
+keeps Elements c = is_within 1 elements_limit c.elements_per_caller
+keeps Volumes c = is_within 1 volumes_limit c.volumes
+keeps Latches c = is_within 1 latches_limit c.latches
+keeps Quota c = is_within 1 requests_limit c.quota
 keeps Posted c = nat_le c.posted_quota c.quota
 keeps Budgets c = length c.budgets == c.callers
 keeps Ecbs c = nat_le (length c.owners) ecbs_limit

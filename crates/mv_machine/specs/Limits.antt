@@ -13,11 +13,30 @@ highest_place = 524286
 abbrev pub highest_generation : ℕ
 highest_generation = 262143
 
--- how many event control blocks a configuration may have
+-- how many callers a configuration may have
+abbrev pub callers_limit : ℕ
+callers_limit = 16
+
+-- how many elements each caller may have
+abbrev pub elements_limit : ℕ
+elements_limit = 16
+
+-- how many volumes, and how many latches
+abbrev pub volumes_limit : ℕ
+volumes_limit = 8
+
+abbrev pub latches_limit : ℕ
+latches_limit = 8
+
+-- how many requests of a caller may stand at once
+abbrev pub requests_limit : ℕ
+requests_limit = 16
+
+-- how many event control blocks it may have
 abbrev pub ecbs_limit : ℕ
 ecbs_limit = 131072
 
--- how many exits it may have
+-- how many exits
 abbrev pub exits_limit : ℕ
 exits_limit = 32768
 

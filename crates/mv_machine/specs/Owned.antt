@@ -48,9 +48,10 @@ is_clear _ = false
 abbrev pub HasNo : (Op → Bool) → Object → List Entry → Type 0
 HasNo test o es = AllByRecursion (λ e. (same_object e.object o && test e.op) ≡ false) es
 
--- a caller's request of this number at a latch, as Confirm finds it: granted, or gone
+-- a caller's request of this number at a latch is granted, as Confirm finds it
 abbrev pub IsGranted : ℕ → ℕ → ℕ → System → Type 0
 IsGranted k latch id s = list_any (is_own k id) (granted (list_of s.latches.state latch)) ≡ true
 
+-- or it is gone: in the list no more
 abbrev pub IsGone : ℕ → ℕ → ℕ → System → Type 0
 IsGone k latch id s = list_any (is_own k id) (list_of s.latches.state latch) ≡ false

@@ -31,10 +31,11 @@ pub record IsPossible (c : Setup) (k : ℕ) (log : List Entry) (shown : List (Li
   pub logged : of k history ≡ log
   pub told : told c k history ≡ shown
 
--- each of these entries on the object has a place below p, or of p and more
+-- each of these entries that is on the object has a place below p
 abbrev pub IsBelow : Object → ℕ → List Entry → Type 0
 IsBelow o p es = AllByRecursion (λ e. e.object ≡ o → e.place < p) es
 
+-- or a place of p and more
 abbrev pub IsFrom : Object → ℕ → List Entry → Type 0
 IsFrom o p es = AllByRecursion (λ e. e.object ≡ o → p ≤ e.place) es
 

@@ -5,10 +5,13 @@ ghost use Rattle.std.specs.Prelude.{◌≡◌, ◌≢◌, ◌≤◌, ◌||◌, n
 ghost use Rattle.mv_machine.specs.Config.{setup_of, exit_of};
 ghost use Rattle.mv_machine.specs.Check.{refusal_of, first_limit, first_bad_owner, first_bad_exit, bad_budget};
 ghost use Rattle.mv_machine.specs.Check.{is_bad_exit as is_bad_exit_at, is_within, IsValid};
-ghost use Rattle.mv_machine.specs.Limits.{ecbs_limit, exits_limit, targets_limit};
+ghost use Rattle.mv_machine.specs.Limits.{callers_limit, ecbs_limit, exits_limit, targets_limit};
 
 use crate::config::{CheckRefusal, Config, ConfigLimit, Exit};
-use crate::limits::{ECBS_LIMIT, EVENTS_LIMIT, EXITS_LIMIT, TARGETS_LIMIT};
+use crate::limits::{
+    CALLERS_LIMIT, ECBS_LIMIT, ELEMENTS_LIMIT, EVENTS_LIMIT, EXITS_LIMIT, LATCHES_LIMIT,
+    REQUESTS_LIMIT, TARGETS_LIMIT, VOLUMES_LIMIT,
+};
 use crate::valid::ValidConfig;
 use std::alloc::Global;
 
@@ -17,19 +20,19 @@ impl Config {
     fn first_limit(&self) -> Option<ConfigLimit>
         ensures { result ≡ first_limit (setup_of self.now) }
     {
-        if self.callers < 1 || self.callers > 16 {
+        if self.callers < 1 || self.callers > CALLERS_LIMIT {
             return Some(ConfigLimit::Callers);
         }
-        if self.elements_per_caller < 1 || self.elements_per_caller > 16 {
+        if self.elements_per_caller < 1 || self.elements_per_caller > ELEMENTS_LIMIT {
             return Some(ConfigLimit::Elements);
         }
-        if self.volumes < 1 || self.volumes > 8 {
+        if self.volumes < 1 || self.volumes > VOLUMES_LIMIT {
             return Some(ConfigLimit::Volumes);
         }
-        if self.latches < 1 || self.latches > 8 {
+        if self.latches < 1 || self.latches > LATCHES_LIMIT {
             return Some(ConfigLimit::Latches);
         }
-        if self.quota < 1 || self.quota > 16 {
+        if self.quota < 1 || self.quota > REQUESTS_LIMIT {
             return Some(ConfigLimit::Quota);
         }
         if self.posted_quota > self.quota {
@@ -82,7 +85,7 @@ impl Config {
 
     // The sum of the budgets.
     pub(crate) fn budget_sum(&self) -> u64
-        requires { vec_len self.now.budgets ≤ 16 }
+        requires { vec_len self.now.budgets ≤ callers_limit }
         ensures { result ≡ sum self.now.budgets.items }
     {
         let mut sum: u64 = 0;
@@ -94,7 +97,7 @@ impl Config {
 
     // The sum of the budgets, where it is too high.
     fn bad_budget(&self) -> Option<u64>
-        requires { vec_len self.now.budgets ≤ 16 }
+        requires { vec_len self.now.budgets ≤ callers_limit }
         ensures { result ≡ bad_budget (setup_of self.now) }
     {
         let sum = self.budget_sum();

@@ -32,6 +32,8 @@ pub use state::State;
 pub use valid::ValidConfig;
 
 #[cfg(test)]
+mod packed_words;
+#[cfg(test)]
 mod plain;
 #[cfg(test)]
 mod tests;

@@ -9,6 +9,21 @@ pub const HIGHEST_PLACE: u32 = 524_286;
 /// The highest generation that the events of a run lead an element to.
 pub const HIGHEST_GENERATION: u32 = 262_143;
 
+/// How many callers a configuration may have.
+pub(crate) const CALLERS_LIMIT: u32 = 16;
+
+/// How many elements each caller may have.
+pub(crate) const ELEMENTS_LIMIT: u32 = 16;
+
+/// How many volumes a configuration may have.
+pub(crate) const VOLUMES_LIMIT: u32 = 8;
+
+/// How many latches a configuration may have.
+pub(crate) const LATCHES_LIMIT: u32 = 8;
+
+/// How many latch requests of a caller may stand at once.
+pub(crate) const REQUESTS_LIMIT: u32 = 16;
+
 /// How many event control blocks a configuration may have.
 pub(crate) const ECBS_LIMIT: usize = 131_072;
 

@@ -18,13 +18,14 @@ own_place k m e i lt few = let le : suc k * e ≤ m * e = mul-le-mul_right e lt 
 pub own_owner : (k e i : ℕ) → i < e → (k * e + i) / e ≡ k
 own_owner k e i few = div-mul-add k e i few
 
-module _ (test : ℕ → Bool) where
-  range_at : (a n i : ℕ) → i < n → range_with_len (a + i) (n - i) ≡ (a + i) ∷ range_with_len (a + (i + 1)) (n - (i + 1))
-  range_at a n i lt =
-      let more : n - i ≡ suc (n - (i + 1)) = omega arith in
-      let next : (a + i) + 1 ≡ a + (i + 1) = omega arith in
-      ap (λ m. range_with_len (a + i) m) more ∙ ap (λ b. (a + i) ∷ range_with_len b (n - (i + 1))) next
+-- an element and those behind it
+pub range_at : (a n i : ℕ) → i < n → range_with_len (a + i) (n - i) ≡ (a + i) ∷ range_with_len (a + (i + 1)) (n - (i + 1))
+range_at a n i lt =
+    let more : n - i ≡ suc (n - (i + 1)) = omega arith in
+    let next : (a + i) + 1 ≡ a + (i + 1) = omega arith in
+    ap (λ m. range_with_len (a + i) m) more ∙ ap (λ b. (a + i) ∷ range_with_len b (n - (i + 1))) next
 
+module _ (test : ℕ → Bool) where
   -- one that fails is passed over
   pub find_next : (a n i : ℕ) → i < n → test (a + i) ≡ false
       → find test (range_with_len (a + i) (n - i)) ≡ find test (range_with_len (a + (i + 1)) (n - (i + 1)))

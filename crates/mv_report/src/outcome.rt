@@ -162,11 +162,19 @@ fn add_counts(volumes: &mut [u32; VOLUMES], steps: &[Step])
         → slice_index volumes.new volume ≡ held_of (slice_index volumes.old volume + added_by volume steps.now) }
 {
     for step in steps {
-        if let Step::Count(volume, amount) = step {
-            let volume = *volume as usize;
-            if volume < VOLUMES {
-                volumes[volume] = volumes[volume].saturating_add(*amount);
+        match step {
+            Step::Count(volume, amount) => {
+                let volume = *volume as usize;
+                if volume < VOLUMES {
+                    volumes[volume] = volumes[volume].saturating_add(*amount);
+                }
             }
+            Step::Print(_)
+            | Step::Use(_, _)
+            | Step::Free(_)
+            | Step::Scan(_)
+            | Step::Abend(_)
+            | Step::Return(_) => {}
         }
     }
 }

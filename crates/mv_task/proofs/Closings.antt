@@ -1,5 +1,6 @@
 -- The closes of a task's own elements, one after the other.
-use Rattle.std.proofs.Common.{◌≡◌, ◌≢◌, ℕ, zero, suc, ◌+◌, ◌-◌, ◌*◌, ◌<◌, ◌≤◌, ◌==◌, Bool, true, false, List, [], ◌∷◌, length, filter, cond, not}
+use Rattle.std.proofs.Common.{◌≡◌, ◌≢◌, ℕ, zero, suc, ◌+◌, ◌-◌, ◌*◌, ◌<◌, ◌≤◌, ◌==◌, Bool, true, false, List, [], ◌∷◌, length, filter}
+use Rattle.std.proofs.Common.{cond, not}
 use Rattle.std.proofs.Common.{refl, sym, ap, ◌∙◌, subst, arith}
 use Rattle.std.specs.List.{range_with_len}
 use Rattle.std.proofs.lemmas.Bool.{eq-eqb, ne_eqb}
@@ -17,6 +18,7 @@ use Rattle.mv_calls.specs.LatchCalls.{Counts}
 use Rattle.mv_calls.specs.Pauses.{is_others_token}
 use Rattle.mv_calls.specs.Program.{Program, Do, Wrong, on_element}
 use Rattle.mv_calls.proofs.Making.{kept_caller}
+use Rattle.mv_pause.proofs.Lowest.{range_at}
 use Rattle.mv_wait.specs.Run.{Runs}
 use Rattle.mv_wait.proofs.Runs.{entry_of, runs_none, runs_then, runs_within}
 use Rattle.mv_wait.proofs.Steps.{element_runs}
@@ -62,13 +64,6 @@ pub none_changed : (n : ℕ) (t : CallerFace) → KeepsOthers n t t
 none_changed n t = record { used = λ m other. refl; generation = λ m other. refl }
 
 -- ---- one after the other
-
--- an element and those behind it
-range_at : (a n i : ℕ) → i < n → range_with_len (a + i) (n - i) ≡ (a + i) ∷ range_with_len (a + (i + 1)) (n - (i + 1))
-range_at a n i lt =
-    let more : n - i ≡ suc (n - (i + 1)) = omega arith in
-    let next : (a + i) + 1 ≡ a + (i + 1) = omega arith in
-    ap (λ m. range_with_len (a + i) m) more ∙ ap (λ b. (a + i) ∷ range_with_len b (n - (i + 1))) next
 
 -- the close of one, by what is kept by then, and those behind it, by what was kept at first
 one_more : (kept then : Kept) (n : ℕ) (ns : List ℕ) (p : Program Counts) (b d : Bool) → d ≡ b

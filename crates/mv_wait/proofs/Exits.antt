@@ -9,6 +9,7 @@ use Rattle.mv_machine.specs.declared.entry.Object.TheVariants.{Ecb}
 use Rattle.mv_machine.specs.declared.entry.Op.TheVariants as op_on
 use Rattle.mv_machine.specs.declared.entry.Reply.TheVariants as reply_of
 use Rattle.mv_machine.specs.Check.{IsValid}
+use Rattle.mv_machine.specs.Limits.{events_limit}
 use Rattle.mv_machine.specs.Parts.{IsPossible}
 use Rattle.mv_machine.specs.Reach.{exits_of, greatest, total, reach, reach_within}
 use Rattle.mv_machine.specs.Setup.{Setup, SetupExit, is_exit_of, starts_from}
@@ -120,7 +121,7 @@ reach_some c e lt = within_some (length c.owners) c e (omega arith)
 -- what is pending and what an exit posts has room, where there is room for all events that are left
 pub room_for : (c : Setup) (e left room : ℕ) (ts pending : List ℕ) → IsValid c → Leads c e ts
     → AllByRecursion (λ t. t < length c.owners) pending
-    → reach c e + total (reach c) pending ≤ left → left ≤ 524287 → left ≤ room → length pending + length ts ≤ room
+    → reach c e + total (reach c) pending ≤ left → left ≤ events_limit → left ≤ room → length pending + length ts ≤ room
 room_for c e left room ts pending v leads there cost few fits =
     let a = leads.cost (omega arith) in
     let b = few_blocks c ts v (below_all c e ts leads.up) in

@@ -4,6 +4,7 @@ use Rattle.std.specs.List.{AllByRecursion}
 use Rattle.mv_latch.specs.declared.operation.Wake.{Wake}
 use Rattle.mv_machine.specs.Check.{IsValid}
 use Rattle.mv_machine.specs.Legal.{after}
+use Rattle.mv_machine.specs.Limits.{highest_generation}
 use Rattle.mv_machine.specs.Parts.{IsPossible}
 use Rattle.mv_machine.specs.Setup.{Setup, element_owner}
 use Rattle.mv_machine.specs.declared.entry.Entry.{Entry}
@@ -28,13 +29,13 @@ valid_of r t b view inv of =
     let fits = (subst (AllByRecursion (Fits r.caller r.keep)) about inv.fits).0 in fits.valid
 
 pub names_low : (c : Setup) (t u : CallerFace) (o : Object) (op : Op) (reply : Reply) → Happened t o op reply u
-    → IsPossible c u.number u.log u.told → IsValid c → NamesUpTo 262143 reply
+    → IsPossible c u.number u.log u.told → IsValid c → NamesUpTo highest_generation reply
 names_low c t u o op reply h p v = possible_names c t.number t.log (entry_of t o h.0 op reply) u.told v
     (subst (λ (z : ℕ × List Entry). IsPossible c z.0 z.1 u.told) (λ i. (h.1.same.number i, h.1.logged i)) p)
 
 -- an owner keeps the generation that its element has
 pub kept_low : (c : Setup) (k n : ℕ) (log : List Entry) (shown : List (List Wake)) → IsValid c → IsPossible c k log shown
-    → element_owner c n ≡ k → (kept_of k log).generation n ≤ 262143
+    → element_owner c n ≡ k → (kept_of k log).generation n ≤ highest_generation
 kept_low c k n log shown v p own =
     let few = budgets_fit c p.history v p.legal p.budgets in
     let low = no_high_generation c p.history n p.legal (omega arith) in

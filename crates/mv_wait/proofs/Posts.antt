@@ -8,6 +8,7 @@ use Rattle.mv_machine.specs.declared.entry.Object.TheVariants.{Ecb}
 use Rattle.mv_machine.specs.declared.entry.Op.{Op}
 use Rattle.mv_machine.specs.declared.entry.Op.TheVariants as op_on
 use Rattle.mv_machine.specs.declared.entry.Reply.TheVariants as reply_of
+use Rattle.mv_machine.specs.Limits.{events_limit}
 use Rattle.mv_machine.specs.Setup.{Setup}
 use Rattle.mv_board.specs.Faces.{CallerFace, Happened}
 use Rattle.mv_machine.specs.declared.entry.Entry.{Entry}
@@ -223,7 +224,7 @@ module _ (c : Setup) (code : ℕ) where
   -- the first post
   pub begun : (t u : CallerFace) (e : ℕ) (p : Posting) → e < length c.owners
       → Happened t (Ecb e) (op_on.Ecb (Post code)) (reply_of.Ecb (reply_to_post p)) u
-      → Leads c e (posted_next c p) → reach c e ≤ t.left → t.left ≤ 524287 → IsAtRest t.log → Underway e t p u (posted_next c p)
+      → Leads c e (posted_next c p) → reach c e ≤ t.left → t.left ≤ events_limit → IsAtRest t.log → Underway e t p u (posted_next c p)
   begun t u e p there h leads left few rest =
       let depth = length c.owners - 1 in
       let is : suc depth ≡ length c.owners = omega arith in
@@ -244,7 +245,8 @@ module _ (c : Setup) (code : ℕ) where
   -- one more post
   pub going : (e : ℕ) (t : CallerFace) (a : Posting) (u : CallerFace) (next : ℕ) (work : List ℕ) (v : CallerFace) (p : Posting)
       → Underway e t a u (next ∷ work)
-      → Happened u (Ecb next) (op_on.Ecb (Post code)) (reply_of.Ecb (reply_to_post p)) v → Leads c next (posted_next c p) → u.left ≤ 524287
+      → Happened u (Ecb next) (op_on.Ecb (Post code)) (reply_of.Ecb (reply_to_post p)) v → Leads c next (posted_next c p)
+      → u.left ≤ events_limit
       → Underway e t a v (posted_next c p ++ work)
   going e t a u next work v p w h leads few =
       let n = next_of a next work w.frames w.ending w.deep w.flat_is in

@@ -1,6 +1,7 @@
 -- One post of a call, and what is pending then.
 use Rattle.std.specs.Prelude.{◌≡◌, ℕ, ◌<◌, ◌≤◌, ◌+◌, List, ◌++◌, length, reverse}
 use Rattle.std.specs.List.{AllByRecursion}
+use Rattle.mv_machine.specs.Limits.{events_limit}
 use Rattle.mv_machine.specs.Reach.{reach, total}
 use Rattle.mv_ecb.specs.declared.operation.EcbOp.TheVariants.{Post}
 use Rattle.mv_ecb.specs.declared.operation.EcbReply.{EcbReply}
@@ -35,7 +36,7 @@ exit_of came = 0
 -- the targets lie above the block, and posting them all costs less than the block's reach, where that is told exactly
 pub record Leads (c : Setup) (e : ℕ) (ts : List ℕ) : Type 0 where
   pub up : AllByRecursion (λ t. (e < t) × (t < length c.owners)) ts
-  pub cost : reach c e ≤ 524287 → total (reach c) ts + 1 ≤ reach c e
+  pub cost : reach c e ≤ events_limit → total (reach c) ts + 1 ≤ reach c e
 
 -- the block was posted, and the targets of its exit are pending, the first one last
 pub record PostedOne (c : Setup) (code e : ℕ) (t : CallerFace) (before : List ℕ) (result : PostAnswer) (u : CallerFace)
@@ -43,6 +44,6 @@ pub record PostedOne (c : Setup) (code e : ℕ) (t : CallerFace) (before : List 
   pub posted : Posting
   pub answer : post_answer posted ≡ result
   pub event : Happened t (Ecb e) (op_on.Ecb (Post code)) (reply_of.Ecb (reply_to_post posted)) u
-  pub few : t.left ≤ 524287
+  pub few : t.left ≤ events_limit
   pub leads : Leads c e (posted_next c posted)
   pub pending : since ≡ before ++ reverse (posted_next c posted)

@@ -4,6 +4,7 @@ use Rattle.std.specs.List.{AllByRecursion}
 use Rattle.slab.specs.Slab.{slab_len}
 use Rattle.mv_machine.specs.Check.{IsValid}
 use Rattle.mv_machine.specs.Kept.{standing}
+use Rattle.mv_machine.specs.Limits.{events_limit, highest_generation}
 use Rattle.mv_machine.specs.Setup.{Setup, element_owner}
 use Rattle.mv_board.specs.Faces.{CallerFace}
 use Rattle.mv_calls.specs.Keeping.{kept_of}
@@ -19,7 +20,7 @@ pub record Fits (c : CallerFace) (k : Keep) (s : Setup) : Type 0 where
   pub blocks : length k.extended.items ≡ length s.owners
   pub elements : length k.elements.items ≡ s.elements_per_caller
   pub first : k.first ≡ c.number * s.elements_per_caller
-  pub low : (n : ℕ) → element_owner s n ≡ c.number → (kept_of c.number c.log).generation n ≤ 262143
+  pub low : (n : ℕ) → element_owner s n ≡ c.number → (kept_of c.number c.log).generation n ≤ highest_generation
 
 -- the tables say what is kept of the log, the requests that are kept are those that stand by it, and there is room for a request at
 -- each event that is left
@@ -28,5 +29,5 @@ pub record IsRecorded (r : Inside) : Type 0 where
   pub stands : (kept_of r.caller.number r.caller.log).requests ≡ standing r.caller.log
   pub caller : r.keep.caller ≡ r.caller.number
   pub fits : AllByRecursion (Fits r.caller r.keep) r.caller.about
-  pub few : slab_len r.keep.requests + r.caller.left ≤ 524287
+  pub few : slab_len r.keep.requests + r.caller.left ≤ events_limit
   pub room : slab_len r.keep.requests + r.caller.left ≤ r.keep.requests.capacity

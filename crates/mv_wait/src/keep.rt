@@ -6,6 +6,7 @@ ghost use Rattle.slab.specs.Slab.{HasRoomFor, slab_len, entries};
 ghost use Rattle.mv_element.specs.declared.operation.ElementReply.TheVariants.{Closed};
 ghost use Rattle.mv_calls.specs.Keeping.{Kept, kept_after, generation_after};
 ghost use Rattle.mv_machine.specs.Kept.{StandingRequest, is_posting, less, is_named, is_for};
+ghost use Rattle.mv_machine.specs.Limits.{events_limit};
 ghost use Rattle.mv_machine.specs.declared.entry.Op.TheVariants as op_on;
 ghost use Rattle.mv_machine.specs.declared.entry.Reply.TheVariants as reply_of;
 ghost use Rattle.mv_wait.specs.Keep.{Keeps, Reaches, meets, IsOfKind, ClosesBelow, AreHeld, request_of, element_after};
@@ -229,7 +230,7 @@ fn retain_requestors(requests: &mut Slab<Standing>, requestor: u64)
 
 /// How many requests are to post a block at their grant.
 pub(crate) fn posting_count(requests: &Slab<Standing>) -> u32
-    requires { slab_len requests.now ≤ 524287 }
+    requires { slab_len requests.now ≤ events_limit }
     ensures { result ≡ count_by (meets is_posting) requests.now.slots }
 {
     let mut count = 0;

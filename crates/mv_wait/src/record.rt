@@ -2,6 +2,7 @@
 
 ghost use Rattle.std.specs.Prelude.{◌≡◌, ◌<◌, ◌≤◌, true, IfOk, MatchResult};
 ghost use Rattle.mv_machine.specs.Kept.{allowed};
+ghost use Rattle.mv_machine.specs.Limits.{events_limit, highest_generation};
 ghost use Rattle.mv_machine.specs.Parts.{IsPossible};
 ghost use Rattle.mv_machine.specs.Replies.{NamesUpTo};
 ghost use Rattle.mv_board.specs.Faces.{IsOf, Happened, Exchanged, Missed, IsAsListed};
@@ -40,8 +41,8 @@ impl Record {
         ensures event { Happened self.old object op result self.new }
         ensures possible { IsPossible board.now.config self.new.number self.new.log self.new.told }
         ensures listed { IsAsListed self.old object op result }
-        ensures few { self.old.left ≤ 524287 }
-        ensures low { NamesUpTo 262143 result }
+        ensures few { self.old.left ≤ events_limit }
+        ensures low { NamesUpTo highest_generation result }
     {
         let reply = board.event(rt, &mut self.caller, object, op);
         self.keep.follow(object, op, reply);
@@ -56,7 +57,7 @@ impl Record {
         ensures event { Happened self.old object (test_of object) result self.new }
         ensures met { self.new.met ≡ self.old.met }
         ensures possible { IsPossible board.now.config self.new.number self.new.log self.new.told }
-        ensures low { NamesUpTo 262143 result }
+        ensures low { NamesUpTo highest_generation result }
     {
         board.test(&mut self.caller, object)
     }
@@ -103,7 +104,7 @@ impl Record {
             (λ moved. Missed self.old object expected moved self.new) }
         ensures possible { IfOk result (λ _. IsPossible board.now.config self.new.number self.new.log self.new.told) }
         ensures listed { IfOk result (λ reply. IsAsListed self.old object op reply) }
-        ensures low { IfOk result (λ reply. NamesUpTo 262143 reply) }
+        ensures low { IfOk result (λ reply. NamesUpTo highest_generation reply) }
     {
         let answer = board.try_event(&mut self.caller, object, op, expected);
         if let Ok(reply) = answer {
@@ -156,7 +157,7 @@ impl Record {
     pub(crate) fn element(&self, element: u32) -> OwnElement
         requires { (s : Setup) × (self.now.about ≡ s ∷ []) × (element_owner s element ≡ self.now.number) }
         ensures kept { IsKeptAs (kept_of self.now.number self.now.log) element result }
-        ensures low { result.generation ≤ 262143 }
+        ensures low { result.generation ≤ highest_generation }
     {
         self.keep.elements[(element - self.keep.first) as usize]
     }

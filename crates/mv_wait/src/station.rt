@@ -4,6 +4,7 @@
 ghost use Rattle.std.specs.Prelude.{◌≡◌, ◌<◌, ◌≤◌, ◌+◌, [], ◌++◌, ◌∷◌, true, length, map, vec_len, vec_capacity, IfOk, MatchResult, List};
 ghost use Rattle.std.specs.List.{Contains};
 ghost use Rattle.mv_machine.specs.Kept.{allowed};
+ghost use Rattle.mv_machine.specs.Limits.{events_limit, highest_generation};
 ghost use Rattle.mv_machine.specs.Parts.{IsPossible};
 ghost use Rattle.mv_board.specs.Faces.{IsOf, IsFresh, AreFresh, Happened, Found, Exchanged, Missed, IsAsListed, MayWatch, Peeks};
 ghost use Rattle.mv_board.specs.Words.{HasWord, test_of};
@@ -74,8 +75,8 @@ impl Station {
         ensures event { Happened task.old object op result task.new }
         ensures possible { IsPossible self.now.config task.new.number task.new.log task.new.told }
         ensures listed { IsAsListed task.old object op result }
-        ensures few { task.old.left ≤ 524287 }
-        ensures low { NamesUpTo 262143 result }
+        ensures few { task.old.left ≤ events_limit }
+        ensures low { NamesUpTo highest_generation result }
     {
         task.record.event(rt, &self.board, object, op)
     }
@@ -101,7 +102,7 @@ impl Station {
             (λ moved. Missed task.old object expected moved task.new) }
         ensures possible { IfOk result (λ _. IsPossible self.now.config task.new.number task.new.log task.new.told) }
         ensures listed { IfOk result (λ reply. IsAsListed task.old object op reply) }
-        ensures low { IfOk result (λ reply. NamesUpTo 262143 reply) }
+        ensures low { IfOk result (λ reply. NamesUpTo highest_generation reply) }
     {
         task.record.try_event(&self.board, object, op, expected)
     }
@@ -114,7 +115,7 @@ impl Station {
         ensures event { Happened task.old object (test_of object) result task.new }
         ensures met { task.new.met ≡ task.old.met }
         ensures possible { IsPossible self.now.config task.new.number task.new.log task.new.told }
-        ensures low { NamesUpTo 262143 result }
+        ensures low { NamesUpTo highest_generation result }
     {
         task.record.test(&self.board, object)
     }
@@ -189,7 +190,7 @@ impl Station {
         ensures config { result.config ≡ self.config }
         ensures legal { Legal self.config result.journal.items }
         ensures budgets { KeepsBudgets self.config result.journal.items }
-        ensures few { length result.journal.items ≤ 524287 }
+        ensures few { length result.journal.items ≤ events_limit }
         ensures merged { result.journal.items ≡ merged_logs (map (λ k. k.log) tasks.items) }
         ensures callers { AllByRecursion (IsIn self.config result.journal.items) tasks.items }
         ensures state { system_of result.state ≡ after self.config result.journal.items }

@@ -3,6 +3,7 @@
 
 ghost use Rattle.std.specs.Prelude.{◌≡◌, ◌<◌, ◌≤◌};
 ghost use Rattle.std.specs.List.{AllByRecursion};
+ghost use Rattle.mv_machine.specs.Limits.{events_limit, highest_generation};
 ghost use Rattle.mv_machine.specs.Setup.{Setup};
 ghost use Rattle.mv_board.specs.Faces.{last_of};
 
@@ -45,7 +46,7 @@ impl Task {
     /// How many events it may still make. All tasks have together no more than 524,287.
     pub fn left(&self) -> u32
         ensures left { result ≡ self.now.left }
-        ensures few { result ≤ 524287 }
+        ensures few { result ≤ events_limit }
     {
         self.record.caller.left()
     }
@@ -102,7 +103,7 @@ impl Task {
     pub fn generation(&self, element: u32) -> u32
         requires { (s : Setup) × (self.now.about ≡ s ∷ []) × (element_owner s element ≡ self.now.number) }
         ensures kept { result ≡ (kept_of self.now.number self.now.log).generation element }
-        ensures low { result ≤ 262143 }
+        ensures low { result ≤ highest_generation }
     {
         self.record.element(element).generation
     }

@@ -746,12 +746,9 @@ fn two_threads_hand_over_and_back(rt: HostRuntime) -> Result<(), Fail> {
 // What `bench/run` times: 500,000 events of posts and waits that nobody disputes.
 #[test]
 fn posts_and_waits_of_one_thread(rt: HostRuntime) -> Result<(), Fail> {
-    let config = setup(
-        rt.alloc(),
-        vec![in rt.alloc(); 500_000]?,
-        vec![in rt.alloc(); 0]?,
-        Vec::new(rt.alloc()),
-    )?;
+    let budgets = vec![in rt.alloc(); 500_000]?;
+    let owners = vec![in rt.alloc(); 0]?;
+    let config = setup(rt.alloc(), budgets, owners, Vec::new(rt.alloc()))?;
     let (station, task) = open_one(rt.alloc(), config)?;
     let task = hand_over(&rt, &station, task, 0, 0, 125_000);
     assert_eq!(rt; task.log().len(), 500_000);

@@ -3,6 +3,7 @@ use Rattle.std.proofs.Common.{sym, ap, ◌∙◌, subst, arith}
 use Rattle.std.specs.List.{AllByRecursion}
 use Rattle.std.proofs.lemmas.List.{length-replicate}
 use Rattle.mv_machine.specs.Kept.{standing}
+use Rattle.mv_machine.specs.Limits.{highest_generation}
 use Rattle.mv_machine.specs.Setup.{Setup}
 use Rattle.mv_machine.specs.declared.entry.Entry.{Entry}
 use Rattle.mv_calls.specs.Keeping.{kept_of}
@@ -41,7 +42,8 @@ invariant_of-result c =
       blocks = omega (arith, c.config-given.result.now.owners.ok.0);
       elements = ap length elements ∙ (length-replicate _ _ ∙ ap (λ (s : Setup). s.elements_per_caller) given);
       first = (λ i. c.number-2.ensures.number i * (given i).elements_per_caller);
-      low = λ n own. subst (λ (log : List Entry). (kept_of c.args.caller.number log).generation n ≤ 262143) (sym c.requires.new) (omega arith);
+      low = λ n own. subst (λ (log : List Entry). (kept_of c.args.caller.number log).generation n ≤ highest_generation)
+          (sym c.requires.new) (omega arith);
     } in record {
       kept = subst (λ (log : List Entry). Keeps (kept_of c.args.caller.number log) k) (sym c.requires.new) (record {
         extended = λ n lt. subst (λ (xs : List Bool). slice_index_or xs n false ≡ false) (sym blocks) (none_extended _ n);

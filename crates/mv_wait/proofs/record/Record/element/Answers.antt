@@ -6,6 +6,7 @@ use Rattle.std.proofs.lemmas.Option.{slice_get-get_or}
 use Rattle.mv_board.specs.Faces.{CallerFace}
 use Rattle.mv_calls.specs.Keeping.{kept_of}
 use Rattle.mv_machine.proofs.Validity.{elements_kept}
+use Rattle.mv_machine.specs.Limits.{highest_generation}
 use Rattle.mv_wait.specs.Keep.{IsKeptAs}
 use Rattle.mv_wait.specs.Record.{Fits}
 use Rattle.mv_wait.proofs.record.Record.element.Goals as goal
@@ -34,5 +35,5 @@ returns c =
         used = x.0 ∙ ap (kept_of c.self.inside.caller.number c.self.inside.caller.log).in_use here;
         generation = generation;
       });
-      low = subst (λ m. m ≤ 262143) (sym generation) (fits.low n (c.requires.2 ∙ sym number));
+      low = subst (λ m. m ≤ highest_generation) (sym generation) (fits.low n (c.requires.2 ∙ sym number));
     }
