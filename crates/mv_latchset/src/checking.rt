@@ -14,7 +14,9 @@ use mv_machine::{Object, Op};
 use mv_wait::{Station, Task};
 use std::sync::Wait;
 
-/// How a request of the task stands now: what one confirm answers.
+/// How a request of the task stands now: what one confirm answers. Its latch must be one of the configuration's. One event, which
+/// must be left. It does not park, and waits for its turn at the lists. After `Gone` the task no longer counts the request among
+/// those that stand.
 pub fn check_latch<R: Wait>(
     station: &Station,
     rt: &R,

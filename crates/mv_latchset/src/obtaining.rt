@@ -49,11 +49,22 @@ pub enum ObtainRefusal {
     Purged,
 }
 
-/// A request for a latch, after ISGLOBT. In the Waiting form it returns once the request is granted, or taken out by a purge.
+/// A request for a latch, after ISGLOBT, of a requestor of eight bytes, shared or alone. It is granted at once where nothing stands
+/// in the way. Otherwise the Conditional form is refused; the Waiting form parks until the request is granted or taken out by a
+/// purge, for ever where neither comes; and the Posted form goes on, and the block, which must be the task's own, is posted with 0
+/// at the grant and with 1 at a purge. One event, in the Waiting form up to two, which must be left. The lists of all latches are
+/// lent to one caller at a time, so every form waits for its turn.
 ///
 /// # Errors
 ///
-/// The first refusal that holds. `BadLatch`, `NotOwner` and `Quota` make no event; `NotNow` and `Purged` are replies.
+/// The first refusal that holds, in the order of `ObtainRefusal`. `BadLatch`, `NotOwner` and `Quota` make no event; `NotNow` and
+/// `Purged` are replies.
+///
+/// # Example
+///
+/// ```
+/// let Ok(Obtained::Granted(token)) = obtain(station, rt, task, 0, 17, Mode::Exclusive, Form::Waiting) else { return };
+/// ```
 pub fn obtain<R: Wait>(
     station: &Station,
     rt: &R,

@@ -25,7 +25,9 @@ pub struct Purged {
 }
 
 /// Takes all requests of a requestor out of all latches, after ISGLPRG, whichever tasks made them. The blocks of those that
-/// waited are then posted with 1, and those of requests that are granted by it with 0; the tasks that wait for theirs are woken.
+/// waited are then posted with 1, and those of requests that are granted by it with 0, with their exits; the tasks that wait for
+/// theirs are woken. Any task may, and nothing refuses it. As many events as `ValidConfig::release_cost` at most, which must be left.
+/// It does not park, and waits for its turn at the lists.
 pub fn purge<R: Wait>(station: &Station, rt: &R, task: &mut Task, requestor: u64) -> Purged
     requires task { IsOf station.now task.old }
     requires rest { IsAtRest task.old.log }

@@ -27,12 +27,14 @@ pub enum ReleaseLatchRefusal {
     StillWaiting,
 }
 
-/// Takes a request of the task out, after ISGLREL, and says how many others were granted by that. Their blocks are then posted,
-/// with 0, and the tasks that wait for theirs are woken.
+/// Takes a request of the task out, after ISGLREL, granted or, where the release is not conditional, waiting, and says how many
+/// others were granted by that. Their blocks are then posted with 0, with their exits, and the tasks that wait for theirs are woken.
+/// As many events as `ValidConfig::release_cost` at most, which must be left. It does not park, and waits for its turn at the lists.
 ///
 /// # Errors
 ///
-/// `Gone` where the latch has no such request of the task; `StillWaiting` where it waits and the release is conditional.
+/// `Gone` where the latch has no such request of the task, as after a purge; `StillWaiting` where it waits and the release is
+/// conditional. Either is the reply to one event, and posts nothing.
 pub fn release_latch<R: Wait>(
     station: &Station,
     rt: &R,

@@ -5,7 +5,7 @@ ghost use Rattle.mv_latchset.specs.Token.{stands};
 
 use mv_wait::Task;
 
-/// A request that a task made.
+/// A request that a task made: its latch, and the number by which it is released and checked. No other task's call takes it.
 #[derive(Clone, Copy, Debug, PartialEq, Eq)]
 pub struct LatchToken {
     pub latch: u32,

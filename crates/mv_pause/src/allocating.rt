@@ -19,7 +19,9 @@ use std::sync::Wait;
 #[derive(Clone, Copy, Debug, PartialEq, Eq)]
 pub struct NoElement;
 
-/// Takes the task's lowest element that is not in use, and answers the token of its next pause (IEAVAPE). One event.
+/// Takes the task's lowest element that is not in use, and answers the token of its next pause (IEAVAPE): give it to whoever is to
+/// release that pause. The generation is the one that the element has by then, of 18 bits. One event, which must be left. It does
+/// not park.
 ///
 /// # Errors
 ///

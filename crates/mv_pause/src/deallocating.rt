@@ -30,7 +30,8 @@ pub enum DeallocateRefusal {
     Spent(u32),
 }
 
-/// Gives an element back (IEAVDPE). A code that was kept for its pause is lost. One event.
+/// Gives an element of the task's own back (IEAVDPE), by the token of its next pause, which is over then. A code that was kept for
+/// that pause is lost. One event, which must be left. It does not park.
 ///
 /// # Errors
 ///

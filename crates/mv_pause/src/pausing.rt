@@ -43,12 +43,21 @@ pub enum PauseRefusal {
     Spent(u32),
 }
 
-/// Pauses until the token is released, and answers the code that it was released with (IEAVPSE). A code that came early is given
-/// at once. At most two events.
+/// Pauses until the token is released, and answers the code of three bytes that it was released with, and the token of the next
+/// pause (IEAVPSE). The token must be of an own element. A code that came early is given at once, by one event; otherwise the task
+/// parks, for ever where nobody releases the token, and a second event ends the pause. Two events must be left.
 ///
 /// # Errors
 ///
-/// `NotOwner` where the element is another caller's; then no event is made. `Spent` where the token is over.
+/// `NotOwner` where the element is another caller's; then no event is made. `Spent` where the token is over, by one event. The last
+/// token that the task was given for an element in use is refused by neither.
+///
+/// # Example
+///
+/// ```
+/// let Ok(given) = pause(station, rt, task, token) else { return };
+/// token = given.next;
+/// ```
 pub fn pause<R: Wait>(
     station: &Station,
     rt: &R,

@@ -48,11 +48,13 @@ pub enum TryReleaseRefusal {
     Already,
 }
 
-/// Releases the pause of a token with a code of three bytes, whether it is on or still to come (IEAVRLS). One event.
+/// Releases the pause of a token with a code of three bytes, whether it is on or still to come (IEAVRLS). Any task may that has the
+/// token. One event, which must be left. It does not park, and wakes the task that pauses.
 ///
 /// # Errors
 ///
-/// `Spent` where the token is over, `Already` where it was released before.
+/// `Spent` where the token is over or its element not allocated, `Already` where it was released before. Either is the reply to the
+/// one event, and the code is not kept.
 pub fn release<R: Wait>(
     station: &Station,
     rt: &R,

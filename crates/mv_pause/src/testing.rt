@@ -12,7 +12,8 @@ use mv_element::ElementState;
 use mv_machine::Object;
 use mv_wait::{Station, Task};
 
-/// The state of any caller's element, by one event that waits for nothing.
+/// The state of any caller's element: its phase, its generation of 18 bits, and the code of three bytes that is kept for its pause,
+/// or 0. One event, which must be left. It never waits.
 pub fn test_element(station: &Station, task: &mut Task, element: u32) -> ElementState
     requires task { IsOf station.now task.old }
     requires rest { IsAtRest task.old.log }

@@ -35,7 +35,9 @@ pub enum TransferRefusal {
 }
 
 /// Releases the target with a code of three bytes, and then pauses with the current token, if there is one (IEAVXFR). They may be
-/// the same: then the pause is given the code at once. At most one event without a current token, and three with one.
+/// the same: then the pause is given the code at once. Any task may release the target; the current token must be of an own
+/// element in use. At most one event without a current token, and three with one, which must be left. With a current token it
+/// parks as a pause.
 ///
 /// # Errors
 ///

@@ -19,7 +19,9 @@ use mv_pause::deallocate;
 use mv_wait::{Station, Task};
 use std::sync::Wait;
 
-/// Ends a job: purges its requestor, and then posts a block with the code of its end.
+/// Ends a job: purges its requestor of eight bytes, and then posts a block with the code of its end, of 30 bits. Whoever waits for
+/// the block finds the job's latches free. As many events as a purge (`ValidConfig::release_cost`) and a post of the block
+/// (`ValidConfig::reach`) at most, which must be left. It does not park, and nothing refuses it: what the purge did is the answer.
 pub fn end_of_job<R: Wait>(
     station: &Station,
     rt: &R,
@@ -41,7 +43,8 @@ pub fn end_of_job<R: Wait>(
 }
 
 /// Ends a task: gives back its elements that are in use, from the lowest on, purges its requestor, and then posts its mother's
-/// block with the code of its end, if there is one.
+/// block with the code of its end, of 30 bits, if there is one. The tokens of its elements are over then. As many events as it has
+/// elements in use, a purge and a post of the block at most, which must be left. It does not park, and nothing refuses it.
 pub fn end_of_task<R: Wait>(
     station: &Station,
     rt: &R,

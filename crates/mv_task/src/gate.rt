@@ -19,7 +19,7 @@ pub enum Point {
 
 /// What each task of a run passes at each point. A test holds tasks by it; it promises nothing.
 pub trait Gate {
-    /// The caller of this number is at this point.
+    /// The caller of this number is at this point. It makes no event; it may wait, and may never return.
     fn pass<R: Wait>(&self, rt: &R, who: u32, point: Point);
 }
 

@@ -18,7 +18,7 @@ pub struct MeetGate {
 }
 
 impl MeetGate {
-    /// A gate for two different points.
+    /// A gate for two different points. It takes no memory. Whoever is held at one is let go after so many turns.
     pub fn new(first: Point, second: Point, turns: u64) -> MeetGate {
         MeetGate {
             first,

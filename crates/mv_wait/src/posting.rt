@@ -27,12 +27,20 @@ pub enum PostAnswer {
     Posted,
     /// A task waited, or an exit was to run.
     Woke,
-    /// The block was complete before, with this code.
+    /// The block was complete before, with this code, which stays; the new one is not kept.
     Already(u32),
 }
 
 impl Station {
-    /// Posts a block, and what its exit posts, depth first.
+    /// Posts a block with a code of 30 bits, and with the same code what its exit posts, each block with its own exits before the
+    /// next; wakes whoever waits for them. Any task may. As many events as `ValidConfig::reach` says of the block at most, which
+    /// must be left. It does not park, and nothing refuses it: the answer says whether the code was taken.
+    ///
+    /// # Example
+    ///
+    /// ```
+    /// if let PostAnswer::Already(first) = station.post(rt, task, 3, 12) { .. }
+    /// ```
     pub fn post<R: Wait>(&self, rt: &R, task: &mut Task, ecb: u32, code: u32) -> PostAnswer
         requires task { IsOf self.now task.old }
         requires rest { IsAtRest task.old.log }

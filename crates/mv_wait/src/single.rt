@@ -40,7 +40,8 @@ pub enum ExtendRefusal {
 }
 
 impl Station {
-    /// Zeroes a block for its next use, and answers the word that it had.
+    /// Zeroes a block of the task's own for its next use, extended or not, and answers the fullword that it had: with the completion
+    /// bit, 2^30, and the code where it was complete. One event, which must be left. It does not park.
     ///
     /// # Errors
     ///
@@ -64,11 +65,12 @@ impl Station {
         Ok(word(reply))
     }
 
-    /// Makes the next post of a block run an exit.
+    /// Makes the next post of a block of the task's own run an exit of the configuration, counted from 1, that starts from the
+    /// block. It holds for one post, and until the block is cleared. One event, which must be left. It does not park.
     ///
     /// # Errors
     ///
-    /// The first refusal that holds. Only `Complete` makes an event, whose reply it is.
+    /// The first refusal that holds, in the order of `ExtendRefusal`. Only `Complete` makes an event, whose reply it is.
     pub fn extend<R: Wait>(
         &self,
         rt: &R,
@@ -127,11 +129,13 @@ impl Station {
         !self.board.config().owns_ecb(me.caller.number(), ecb)
     }
 
-    /// Posts a block by one exchange of its word, which runs no exit and wakes nobody: the word that is expected has no wait bit.
+    /// Posts a block with a code of 30 bits by one exchange of its word, which runs no exit and wakes nobody: the word that is
+    /// expected, place and state in 64 bits as `look` and `Moved` give it, has no wait bit. At most one event, which must be left.
+    /// It never waits.
     ///
     /// # Errors
     ///
-    /// `Moved(w)` where the word found was w and not `expected`.
+    /// `Moved(w)` where the word found was w and not `expected`; then no event is made.
     pub fn try_post(
         &self,
         task: &mut Task,
@@ -159,7 +163,8 @@ impl Station {
         Ok(posted(reply).answer())
     }
 
-    /// The word of a block.
+    /// The fullword of any caller's block: wait bit 2^31, completion bit 2^30, code or exit below. One event, which must be left. It
+    /// never waits.
     pub fn test_ecb(&self, task: &mut Task, ecb: u32) -> u32
         requires task { IsOf self.now task.old }
         requires rest { IsAtRest task.old.log }
@@ -171,7 +176,7 @@ impl Station {
         word(reply)
     }
 
-    /// The number that a volume has.
+    /// The number of 32 bits that a volume has. Any task may read it. One event, which must be left. It never waits.
     pub fn read_volume(&self, task: &mut Task, volume: u32) -> u32
         requires task { IsOf self.now task.old }
         requires rest { IsAtRest task.old.log }
@@ -183,7 +188,8 @@ impl Station {
         value(reply)
     }
 
-    /// Gives a volume a number.
+    /// Gives a volume a number of 32 bits. Any task may; a read and a write are two events, between which others may write, so
+    /// guard them by a latch. One event, which must be left. It does not park.
     pub fn write_volume<R: Wait>(&self, rt: &R, task: &mut Task, volume: u32, number: u32)
         requires task { IsOf self.now task.old }
         requires rest { IsAtRest task.old.log }

@@ -24,7 +24,8 @@ use std::alloc::Global;
 use std::marker::Model;
 use std::sync::Wait;
 
-/// The shared objects of a configuration, for tasks that wait.
+/// The shared objects of a configuration, for tasks that wait. It is shared by threads by reference; each thread acts by a `Task`
+/// of its own. All calls that name it go with a task that it gave, and with objects of its configuration.
 #[derive(Drop)]
 pub struct Station {
     pub(crate) board: Board,
@@ -60,14 +61,15 @@ impl Station {
         Ok((Station { board, unparkers }, tasks))
     }
 
-    /// The configuration that it was opened with.
+    /// The configuration that it was opened with. No event, and it does not wait.
     pub fn config(&self) -> &ValidConfig
         ensures { result.now ≡ self.now.config }
     {
         self.board.config()
     }
 
-    /// One event on an object, and its reply.
+    /// One event on an object, and its reply: what the calls are made of. It takes one event that must be left, and the operation
+    /// must be one that the task may make by its own log. It does not park; on the latch set it waits for its turn.
     pub fn event<R: Wait>(&self, rt: &R, task: &mut Task, object: Object, op: Op) -> Reply
         requires task { IsOf self.now task.old }
         requires left { 0 < task.old.left }
@@ -81,11 +83,12 @@ impl Station {
         task.record.event(rt, &self.board, object, op)
     }
 
-    /// One exchange of an object's word.
+    /// One exchange of an object's word: a block's, an element's or a volume's. One event that must be left, which is taken only
+    /// where the exchange was made. It never waits.
     ///
     /// # Errors
     ///
-    /// `Moved(w)` where the word found was w and not `expected`.
+    /// `Moved(w)` where the word found was w and not `expected`; then no event is made.
     pub fn try_event(
         &self,
         task: &mut Task,
@@ -107,7 +110,8 @@ impl Station {
         task.record.try_event(&self.board, object, op, expected)
     }
 
-    /// The event that reads an object.
+    /// The event that reads an object that has a word: a block, an element or a volume. One event that must be left. It never
+    /// waits.
     pub fn test(&self, task: &mut Task, object: Object) -> Reply
         requires task { IsOf self.now task.old }
         requires word { HasWord self.now.config object }
@@ -120,7 +124,7 @@ impl Station {
         task.record.test(&self.board, object)
     }
 
-    /// One load of an object's word.
+    /// One load of an object's word: its place and its state in 64 bits. No event, and it never waits.
     pub fn look(&self, task: &mut Task, object: Object) -> u64
         requires task { IsOf self.now task.old }
         requires word { HasWord self.now.config object }
@@ -130,7 +134,8 @@ impl Station {
         task.record.look(&self.board, object)
     }
 
-    /// Whether what a task waits for is so.
+    /// Whether what a task waits for is so: its own block complete, its own element released, a request that it made granted or
+    /// gone. No event, and it does not park. What was so once stays so until the task's own event on it.
     pub fn peek<R: Wait>(&self, rt: &R, task: &mut Task, watch: Watch) -> bool
         requires task { IsOf self.now task.old }
         requires own { MayWatch self.now.config task.old watch }
@@ -140,7 +145,8 @@ impl Station {
         task.record.peek(rt, &self.board, watch)
     }
 
-    /// Parks until what the task waits for is so.
+    /// Parks until what the task waits for is so, as `peek` tells. No event. It may never return: nothing promises that another
+    /// task ends the wait.
     pub fn park_for<R: Wait>(&self, rt: &R, task: &mut Task, watch: Watch)
         requires task { IsOf self.now task.old }
         requires own { MayWatch self.now.config task.old watch }
@@ -166,7 +172,8 @@ impl Station {
         }
     }
 
-    /// Wakes a task that waits.
+    /// Wakes the task of this number, if it parks; it looks again, and parks again where its wait is not over. No event, and it
+    /// never waits. The calls do it themselves: it is for calls that are made of events.
     pub fn wake(&self, caller: u32)
         requires { caller < self.now.config.callers }
     {
@@ -183,7 +190,8 @@ impl Station {
     ghost use Rattle.mv_machine.specs.Told.{last_wakes};
     ghost use Rattle.mv_board.specs.Faces.{AreInOrder, IsIn};
 
-    /// Ends the station: joins its tasks, and merges their logs. It takes no memory, and never refuses.
+    /// Ends the station: takes back all its tasks, in the order of their numbers, and merges their logs into one legal history.
+    /// It takes no memory, never refuses, and does not wait: the tasks' threads must have ended.
     pub fn close(self, tasks: Vec<Task>) -> Closed
         requires order { AreInOrder self 0 tasks.items }
         requires all { length tasks.items ≡ self.config.callers }

@@ -14,7 +14,8 @@ use mv_latch::Wake;
 use mv_machine::Entry;
 use std::marker::Model;
 
-/// One task of a station. No other task's call changes anything of it.
+/// One task of a station: a caller's seat, which one thread has at a time. No other task's call changes anything of it. None of
+/// its own methods makes an event or waits.
 #[derive(Drop)]
 pub struct Task {
     pub(crate) record: Record,
@@ -35,7 +36,7 @@ impl Model for Task {
 }
 
 impl Task {
-    /// Its number. There is such a task.
+    /// Its number, from 0 on, below the configuration's `callers`.
     pub fn number(&self) -> u32
         ensures number { result ≡ self.now.number }
         ensures exists { AllByRecursion (λ (s : Setup). result < s.callers) self.now.about }
@@ -43,7 +44,7 @@ impl Task {
         self.record.caller.number()
     }
 
-    /// How many events it may still make. All tasks have together no more than 524,287.
+    /// How many events it may still make: its budget less its entries. All tasks have together no more than 524,287.
     pub fn left(&self) -> u32
         ensures left { result ≡ self.now.left }
         ensures few { result ≤ events_limit }
@@ -83,7 +84,8 @@ impl Task {
     ghost use Rattle.mv_machine.specs.Setup.{Setup, element_owner};
     ghost use Rattle.mv_calls.specs.Keeping.{kept_of};
 
-    /// Whether it holds a block extended.
+    /// Whether it holds a block extended: from an `extend` that was answered Ok until its `clear`. The block must be one of the
+    /// configuration's.
     pub fn extended(&self, ecb: u32) -> bool
         requires { (s : Setup) × (self.now.about ≡ s ∷ []) × (ecb < length s.owners) }
         ensures { result ≡ (kept_of self.now.number self.now.log).extended ecb }
@@ -91,7 +93,7 @@ impl Task {
         self.record.extended(ecb)
     }
 
-    /// Whether an element of its own is in use.
+    /// Whether an element of its own is in use: from its `allocate` until it is deallocated. The element must be its own.
     pub fn in_use(&self, element: u32) -> bool
         requires { (s : Setup) × (self.now.about ≡ s ∷ []) × (element_owner s element ≡ self.now.number) }
         ensures { result ≡ (kept_of self.now.number self.now.log).in_use element }
@@ -99,7 +101,8 @@ impl Task {
         self.record.element(element).in_use
     }
 
-    /// The generation of an element of its own: 18 bits.
+    /// The generation of an element of its own, in use or not: 18 bits. It is that of the token of its next pause. The element must
+    /// be its own.
     pub fn generation(&self, element: u32) -> u32
         requires { (s : Setup) × (self.now.about ≡ s ∷ []) × (element_owner s element ≡ self.now.number) }
         ensures kept { result ≡ (kept_of self.now.number self.now.log).generation element }
@@ -108,7 +111,8 @@ impl Task {
         self.record.element(element).generation
     }
 
-    /// How many of its latch requests stand. What is kept of them is what stands by the log.
+    /// How many of its latch requests stand, granted or waiting, by its own log: at most the configuration's `quota`. One that
+    /// another task purged stands until the task learns of it.
     pub fn standing(&self) -> u32
         ensures count { result ≡ length (kept_of self.now.number self.now.log).requests }
         ensures kept { (kept_of self.now.number self.now.log).requests ≡ standing self.now.log }
@@ -116,7 +120,7 @@ impl Task {
         self.record.standing()
     }
 
-    /// How many of those are to post a block at their grant.
+    /// How many of those are of the Posted form: at most the configuration's `posted_quota`.
     pub fn standing_posted(&self) -> u32
         ensures { result ≡ length (filter is_posting (kept_of self.now.number self.now.log).requests) }
     {

@@ -48,11 +48,20 @@ pub enum WaitRefusal {
 }
 
 impl Station {
-    /// Waits until at least `count` of these blocks are complete, and says of each whether it is, and with which code.
+    /// Waits until at least `count` of these blocks are complete, and says of each whether it is, and with which code of 30 bits.
+    /// `out` has a slot for each block. Two events a block, which must be left. It parks until enough blocks are complete, not at
+    /// all where they are so when it comes, and for ever where nobody posts them. With the count 0 it only looks.
     ///
     /// # Errors
     ///
-    /// The first refusal that holds. Then no event is made, and `out` is as it was.
+    /// The first refusal that holds, in the order of `WaitRefusal`. Then no event is made, and `out` is as it was.
+    ///
+    /// # Example
+    ///
+    /// ```
+    /// let mut found = [WaitSlot::Open, WaitSlot::Open];
+    /// station.wait(rt, task, 1, &[3, 4], &mut found)?;
+    /// ```
     pub fn wait<R: Wait>(
         &self,
         rt: &R,
