@@ -298,6 +298,39 @@ fn a_grant_posts_the_block_of_a_request(rt: HostRuntime) -> Result<(), Fail> {
     Ok(())
 }
 
+// A shared obtain that is granted at once.
+fn share<R: Abort + Wait>(rt: &R, station: &Station, task: &mut Task, latch: u32) -> LatchToken
+    requires task { IsOf station.now task.old }
+    requires rest { IsAtRest task.old.log }
+    ensures task { IsOf station.now task.new }
+    ensures rest { IsAtRest task.new.log }
+{
+    let obtained = obtain(rt, station, task, latch, 1, SHARED, Form::Conditional);
+    granted(rt, obtained)
+}
+
+#[test]
+fn a_token_has_the_key_of_its_record(rt: HostRuntime) -> Result<(), Fail> {
+    let config = setup(
+        rt.alloc(),
+        vec![in rt.alloc(); 100]?,
+        0,
+        Vec::new(rt.alloc()),
+    )?;
+    let (station, mut task) = open_one(rt.alloc(), config)?;
+    let first = share(&rt, &station, &mut task, 0);
+    let second = share(&rt, &station, &mut task, 1);
+    assert_eq!(rt; (first.key, second.key), (0, 1));
+    assert_eq!(rt; release_latch(&rt, &station, &mut task, first, false), Ok(0));
+    // The record that was given back is used again, under the number of another request.
+    let third = share(&rt, &station, &mut task, 2);
+    assert_eq!(rt; (third.id, third.key), (3, 0));
+    assert_eq!(rt; task.key(first.id), None);
+    assert_eq!(rt; task.key(second.id), Some(1));
+    assert_eq!(rt; task.key(third.id), Some(0));
+    Ok(())
+}
+
 #[test]
 fn eight_requests_stand_and_no_ninth(rt: HostRuntime) -> Result<(), Fail> {
     let config = setup(

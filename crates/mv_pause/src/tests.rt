@@ -584,7 +584,7 @@ fn hand_to_and_fro<R: Abort + Wait + Threads + Sync>(
     alloc: Global,
     times: u32,
 ) -> Result<(u32, u32), Fail>
-    requires { times ≤ 80000 }
+    requires { times ≤ 50000 }
 {
     let budget = 3 * times + 1;
     let (station, mut first, mut second) = open_two(alloc, vec![in alloc; budget, budget]?)?;
@@ -619,8 +619,11 @@ fn hand_to_and_fro<R: Abort + Wait + Threads + Sync>(
 
 #[test]
 fn two_threads_hand_over_and_back(rt: HostRuntime) -> Result<(), Fail> {
-    let (first, second) = hand_to_and_fro(&rt, rt.alloc(), 10_000)?;
-    // A release and a pause of at most two events, and the allocation.
-    assert!(rt; first <= 10_000 && second <= 10_000);
+    // On each of two stations: one has not the events for all. `bench/run` times it beside its twin.
+    for _ in 0..2 {
+        let (first, second) = hand_to_and_fro(&rt, rt.alloc(), 50_000)?;
+        // A release and a pause of at most two events, and the allocation.
+        assert!(rt; first <= 50_000 && second <= 50_000);
+    }
     Ok(())
 }

@@ -18,6 +18,7 @@ pub mod Fresh
 pub mod Peeks
 -- waits
 pub mod Waits
+pub mod Doubled
 pub mod Parts
 pub mod Unrefusing
 -- posts with their exits

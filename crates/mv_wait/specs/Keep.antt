@@ -1,6 +1,7 @@
 -- What a task has in memory, and what it keeps by its log.
 use Rattle.std.specs.Prelude.{◌≡◌, ℕ, ◌+◌, ◌<◌, ◌^◌, Bool, true, false, List, length, filter, count_by, Option, Some, None, slice_get}
-use Rattle.std.specs.Prelude.{slice_index_or}
+use Rattle.std.specs.Prelude.{IsSomeAnd, slice_index_or}
+use Rattle.slab.specs.Slab.{Slab, get}
 use Rattle.mv_machine.specs.declared.entry.Object.{Object}
 use Rattle.mv_machine.specs.declared.entry.Object.TheVariants.{Ecb, Element, Volume, Latches}
 use Rattle.mv_machine.specs.Kept.{StandingRequest}
@@ -33,6 +34,10 @@ meets test (Some s) = test (request_of s)
 -- whatever test is asked: as many slots have a request that meets it as there are such requests
 abbrev pub AreHeld : List StandingRequest → List (Option Standing) → Type 0
 AreHeld ts slots = (test : StandingRequest → Bool) → count_by (meets test) slots ≡ length (filter test ts)
+
+-- the slot under this key holds a request of this number
+abbrev pub HoldsRequest : Slab Standing → ℕ → ℕ → Type 0
+HoldsRequest requests id key = IsSomeAnd (get requests key) (λ s. s.request.id ≡ id)
 
 abbrev pub AreExtended : (ℕ → Bool) → Keep → Type 0
 AreExtended held k = (n : ℕ) → n < length k.extended.items → slice_index_or k.extended.items n false ≡ held n

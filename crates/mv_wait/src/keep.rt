@@ -1,6 +1,6 @@
 //! What a task keeps of its own entries, in tables. Clauses cite `specs/Keep.antt` and the calls' `Keeping.antt`.
 
-ghost use Rattle.std.specs.Prelude.{◌≡◌, ◌+◌, ◌<◌, ◌≤◌, ◌++◌, ◌∷◌, [], ℕ, Bool, not, List, length, count_by, is_some, ◌^◌, ◌==◌};
+ghost use Rattle.std.specs.Prelude.{◌≡◌, ◌+◌, ◌<◌, ◌≤◌, ◌++◌, ◌∷◌, [], ℕ, Bool, not, List, length, count_by, is_some, IfSome, ◌^◌, ◌==◌};
 ghost use Rattle.std.specs.List.{list_any};
 ghost use Rattle.slab.specs.Slab.{HasRoomFor, slab_len, entries};
 ghost use Rattle.mv_element.specs.declared.operation.ElementReply.TheVariants.{Closed};
@@ -9,7 +9,7 @@ ghost use Rattle.mv_machine.specs.Kept.{StandingRequest, is_posting, less, is_na
 ghost use Rattle.mv_machine.specs.Limits.{events_limit};
 ghost use Rattle.mv_machine.specs.declared.entry.Op.TheVariants as op_on;
 ghost use Rattle.mv_machine.specs.declared.entry.Reply.TheVariants as reply_of;
-ghost use Rattle.mv_wait.specs.Keep.{Keeps, Reaches, meets, IsOfKind, ClosesBelow, AreHeld, request_of, element_after};
+ghost use Rattle.mv_wait.specs.Keep.{Keeps, Reaches, meets, IsOfKind, ClosesBelow, AreHeld, HoldsRequest, request_of, element_after};
 
 use mv_ecb::{EcbOp, EcbReply};
 use mv_element::{ElementOp, ElementReply};
@@ -244,7 +244,8 @@ pub(crate) fn posting_count(requests: &Slab<Standing>) -> u32
 
 /// The key of a request of this number, if there is one.
 pub(crate) fn key_of(requests: &Slab<Standing>, id: u32) -> Option<usize>
-    ensures { is_some result ≡ list_any (λ e. (request_of e.1).request.id == id) (entries requests.now) }
+    ensures stands { is_some result ≡ list_any (λ e. (request_of e.1).request.id == id) (entries requests.now) }
+    ensures there { IfSome result (λ key. HoldsRequest requests.now id key) }
 {
     for (key, stood) in requests.iter() {
         if stood.request.id == id {

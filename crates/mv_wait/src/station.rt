@@ -263,5 +263,6 @@ fn task_of(
         record,
         pauses: Pauses::new(parker),
         pending: Vec::with_capacity(alloc, left)?,
+        places: vec![in alloc; 0; given.owners.len()]?,
     })
 }

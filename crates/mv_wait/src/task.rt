@@ -22,6 +22,8 @@ pub struct Task {
     pub(crate) pauses: Pauses,
     // The blocks that a call is still to post, the next one last.
     pub(crate) pending: Vec<u32>,
+    // A place for each block, where a wait notes at which position of its list it stands.
+    pub(crate) places: Vec<u32>,
 }
 
 impl Model for Task {

@@ -50,7 +50,8 @@ pub enum WaitRefusal {
 impl Station {
     /// Waits until at least `count` of these blocks are complete, and says of each whether it is, and with which code of 30 bits.
     /// `out` has a slot for each block. Two events a block, which must be left. It parks until enough blocks are complete, not at
-    /// all where they are so when it comes, and for ever where nobody posts them. With the count 0 it only looks.
+    /// all where they are so when it comes, and for ever where nobody posts them; each time it is woken it looks at all of them.
+    /// With the count 0 it only looks.
     ///
     /// # Errors
     ///
@@ -81,7 +82,7 @@ impl Station {
             (λ why. (wait_refusal self.now.config count ecbs.now (kept_of task.old.number task.old.log) ≡ Some (wait_refused why)) × (task.new ≡ task.old) × (out.new ≡ out.old)) }
         ensures enough { IfOk result (λ _. count ≤ complete_count (slots_of out.new)) }
     {
-        if let Some(refusal) = self.refuses_wait(&task.record, count, ecbs) {
+        if let Some(refusal) = self.refuses_wait(&task.record, &mut task.places, count, ecbs) {
             return Err(refusal);
         }
         self.arm_all(rt, &mut task.record, ecbs);
@@ -91,17 +92,25 @@ impl Station {
     }
 
     // Why a wait is refused, if it is.
-    fn refuses_wait(&self, me: &Record, count: u32, ecbs: &[u32]) -> Option<WaitRefusal>
+    fn refuses_wait(
+        &self,
+        me: &Record,
+        places: &mut [u32],
+        count: u32,
+        ecbs: &[u32],
+    ) -> Option<WaitRefusal>
         requires task { IsOf self.now me.now }
         requires blocks { AllByRecursion (λ e. e < length self.now.config.owners) ecbs.now }
         requires few { 2 * length ecbs.now ≤ me.now.left }
-        ensures { option_map wait_refused result ≡ wait_refusal self.now.config count ecbs.now (kept_of me.now.number me.now.log) }
+        requires places { length places.old ≡ length self.now.config.owners }
+        ensures refusal { option_map wait_refused result ≡ wait_refusal self.now.config count ecbs.now (kept_of me.now.number me.now.log) }
+        ensures places { length places.new ≡ length places.old }
     {
         let number = me.caller.number();
         if ecbs.len() < count as usize {
             return Some(WaitRefusal::TooMany);
         }
-        if let Some(p) = doubled(ecbs) {
+        if let Some(p) = doubled(places, ecbs) {
             return Some(WaitRefusal::Doubled(p));
         }
         if let Some(p) = not_owned(self.board.config(), number, ecbs) {
@@ -208,15 +217,21 @@ impl Station {
     }
 }
 
-// The first position whose block stands earlier.
-fn doubled(ecbs: &[u32]) -> Option<u32>
-    requires { length ecbs.now < 2 ^ 32 }
-    ensures { option_map (λ p. Doubled p) result ≡ doubled_at [] 0 ecbs.now }
+// The first position whose block stands earlier. `places` has a place for each block, whatever it says of it from earlier calls:
+// it is believed only where the list has that block there.
+fn doubled(places: &mut [u32], ecbs: &[u32]) -> Option<u32>
+    requires few { length ecbs.now < 2 ^ 32 }
+    requires blocks { AllByRecursion (λ e. e < length places.old) ecbs.now }
+    ensures first { option_map (λ p. Doubled p) result ≡ doubled_at [] 0 ecbs.now }
+    ensures size { length places.new ≡ length places.old }
 {
     for p in 0..ecbs.len() {
-        if ecbs[..p].contains(&ecbs[p]) {
+        let ecb = ecbs[p];
+        let place = places[ecb as usize] as usize;
+        if place < p && ecbs[place] == ecb {
             return Some(p as u32);
         }
+        places[ecb as usize] = p as u32;
     }
     None
 }

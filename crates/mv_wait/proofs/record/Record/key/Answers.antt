@@ -8,7 +8,7 @@ use Rattle.mv_wait.proofs.record.Record.key.Goals as goal
 
 pub returns : goal.returns
 returns c =
-    c.key_of.ensures
+    c.key_of.ensures.stands
     ∙ (any_stands (λ t. t.request.id == c.args.id) (kept_of c.self.inside.caller.number c.self.inside.caller.log).requests
     c.self.inside.keep.requests.slots c.self.invariant.kept.requests
     ∙ ap (λ (d : CallerFace). list_any (λ (t : StandingRequest). t.request.id == c.args.id) (kept_of d.number d.log).requests)

@@ -13,38 +13,38 @@ not_owned-requires-clause-blocks c =
     subst (λ (s : Setup). AllByRecursion (λ e. e < length s.owners) c.args.ecbs.now)
     (sym (c.config.ensures ∙ ap (λ (b : BoardFace). b.config) c.self.view_is)) c.requires.blocks
 
-pub returns-in-Some-not_owned : goal.returns-in-Some-not_owned
-returns-in-Some-not_owned c =
+pub returns-in-Some-not_owned-clause-refusal : goal.returns-in-Some-not_owned-clause-refusal
+returns-in-Some-not_owned-clause-refusal c =
     let config = c.config.ensures ∙ ap (λ (b : BoardFace). b.config) c.self.view_is in
     let number = c.number-number.ensures.number ∙ ap (λ (d : CallerFace). d.number) c.me.view_is in
     let few = c.if-ecbs-count.false in
     refusal_is c.args.self.now.config c.args.count c.args.me.now.number c.args.ecbs.now c.args.me.now.log None
     (Some (NotOwnerAt c.in-Some-not_owned.p))
     (refused_at ExtendedAt (kept_of c.args.me.now.number c.args.me.now.log).extended 0 c.args.ecbs.now) few
-    (sym (ap (λ o. option_map (λ p. Doubled p) o) c.in_default.is) ∙ c.doubled.ensures)
+    (sym (ap (λ o. option_map (λ p. Doubled p) o) c.in_default.is) ∙ c.doubled.ensures.first)
     (sym (ap (λ o. option_map (λ p. NotOwnerAt p) o) c.in-Some-not_owned.is)
     ∙ (c.not_owned.ensures ∙ (λ i. refused_at NotOwnerAt (λ e. not (owner_of (config i) e == number i)) 0 c.args.ecbs.now)))
     refl
 
-pub returns-in-Some-first_extended : goal.returns-in-Some-first_extended
-returns-in-Some-first_extended c =
+pub returns-in-Some-first_extended-clause-refusal : goal.returns-in-Some-first_extended-clause-refusal
+returns-in-Some-first_extended-clause-refusal c =
     let config = c.config.ensures ∙ ap (λ (b : BoardFace). b.config) c.self.view_is in
     let number = c.number-number.ensures.number ∙ ap (λ (d : CallerFace). d.number) c.me.view_is in
     let few = c.if-ecbs-count.false in
     refusal_is c.args.self.now.config c.args.count c.args.me.now.number c.args.ecbs.now c.args.me.now.log None None
     (Some (ExtendedAt c.in-Some-first_extended.p)) few
-    (sym (ap (λ o. option_map (λ p. Doubled p) o) c.in_default.is) ∙ c.doubled.ensures)
+    (sym (ap (λ o. option_map (λ p. Doubled p) o) c.in_default.is) ∙ c.doubled.ensures.first)
     (sym (ap (λ o. option_map (λ p. NotOwnerAt p) o) c.in_default-not_owned.is)
     ∙ (c.not_owned.ensures ∙ (λ i. refused_at NotOwnerAt (λ e. not (owner_of (config i) e == number i)) 0 c.args.ecbs.now)))
     (sym (ap (λ o. option_map (λ p. ExtendedAt p) o) c.in-Some-first_extended.is) ∙ c.first_extended.ensures)
 
-pub returns : goal.returns
-returns c =
+pub returns-clause-refusal : goal.returns-clause-refusal
+returns-clause-refusal c =
     let config = c.config.ensures ∙ ap (λ (b : BoardFace). b.config) c.self.view_is in
     let number = c.number-number.ensures.number ∙ ap (λ (d : CallerFace). d.number) c.me.view_is in
     let few = c.if-ecbs-count.false in
     refusal_is c.args.self.now.config c.args.count c.args.me.now.number c.args.ecbs.now c.args.me.now.log None None None few
-    (sym (ap (λ o. option_map (λ p. Doubled p) o) c.in_default.is) ∙ c.doubled.ensures)
+    (sym (ap (λ o. option_map (λ p. Doubled p) o) c.in_default.is) ∙ c.doubled.ensures.first)
     (sym (ap (λ o. option_map (λ p. NotOwnerAt p) o) c.in_default-not_owned.is)
     ∙ (c.not_owned.ensures ∙ (λ i. refused_at NotOwnerAt (λ e. not (owner_of (config i) e == number i)) 0 c.args.ecbs.now)))
     (sym (ap (λ o. option_map (λ p. ExtendedAt p) o) c.in_default-first_extended.is) ∙ c.first_extended.ensures)
