@@ -1,22 +1,31 @@
 -- A sink in memory as its callers see it, and what a call makes of it.
-use Rattle.std.specs.Prelude.{ℕ, ◌-◌, ◌<◌, ◌≡◌, ◌⊎◌, List, [], ◌++◌, length, take, Contains, Result, Ok, Err}
+use Rattle.std.specs.Prelude.{ℕ, ◌-◌, ◌^◌, ◌<◌, ◌≡◌, ◌⊎◌, List, [], ◌++◌, length, take, min, Contains, Result, Ok, Err}
 use Rattle.mv_io.specs.Fault.{one_more}
 
--- the bytes taken, how many it takes in all, which calls fail, and the calls and faults so far
+-- the bytes taken, how many it takes in all, how many a call takes at most, which calls fail, and the calls and faults so far
 pub record SinkState : Type 0 where
   pub taken : List ℕ
   pub room : ℕ
+  pub step : ℕ
   pub fail : List ℕ
   pub calls : ℕ
   pub faults : ℕ
 
 -- before the first call
-abbrev pub fresh_sink : ℕ → List ℕ → SinkState
-fresh_sink room fail = record { taken = []; room = room; fail = fail; calls = 0; faults = 0 }
+abbrev pub fresh_sink : ℕ → ℕ → List ℕ → SinkState
+fresh_sink room step fail = record { taken = []; room = room; step = step; fail = fail; calls = 0; faults = 0 }
+
+-- the step that bounds no call: no piece is longer
+abbrev pub any_step : ℕ
+any_step = 2 ^ 64 - 1
 
 -- the room that is left
 abbrev pub room_left : SinkState → ℕ
 room_left s = s.room - length s.taken
+
+-- how many bytes of a piece of this length a call takes, where it does not fail
+abbrev pub accepted : SinkState → ℕ → ℕ
+accepted s size = min s.step (min size (room_left s))
 
 -- the call is one of those that fail, or its piece has bytes and finds no room
 abbrev pub Refuses : SinkState → List ℕ → Type 0

@@ -1,12 +1,12 @@
 //! Streams in memory, which fail at the calls that they are told. Their clauses cite specs/MemSource and specs/MemSink for
 //! what a call makes of them, beside those of the traits.
 
-ghost use Rattle.std.specs.Prelude.{◌≡◌, ◌↔◌, ◌≤◌, length, min, Some, IfOk, IsErr, Contains};
+ghost use Rattle.std.specs.Prelude.{◌≡◌, ◌↔◌, ◌≤◌, length, Some, IfOk, IsErr, Contains};
 ghost use Rattle.mv_io.specs.Fault.{HasCause, HasWriteCause};
 ghost use Rattle.mv_io.specs.Source.{Reads};
 ghost use Rattle.mv_io.specs.Sink.{Writes};
 ghost use Rattle.mv_io.specs.MemSource.{fresh_source, given, after_read};
-ghost use Rattle.mv_io.specs.MemSink.{fresh_sink, room_left, Refuses, after_write};
+ghost use Rattle.mv_io.specs.MemSink.{fresh_sink, any_step, accepted, Refuses, after_write};
 
 use crate::{Failed, NoMemory, Sink, Source};
 use std::alloc::Global;
@@ -96,6 +96,7 @@ impl Source for MemSource {
 pub struct MemSink {
     bytes: Vec<u8>,
     room: usize,
+    step: usize,
     fail: Vec<u64>,
     calls: u64,
     faults: u64,
@@ -110,22 +111,37 @@ impl Model for MemSink {
     ghost view = { λ s. record {
       taken = s.bytes.items;
       room = s.room;
+      step = s.step;
       fail = s.fail.items;
       calls = s.calls;
       faults = s.faults;
     } };
 
-    ghost invariant = { λ s. (length s.bytes.items ≤ s.room) × (s.room ≤ vec_capacity s.bytes) };
+    ghost invariant = { λ s. (1 ≤ s.step) × (length s.bytes.items ≤ s.room) × (s.room ≤ vec_capacity s.bytes) };
 }
 
 impl MemSink {
-    /// An empty sink. All its memory is taken here.
+    /// An empty sink that takes at once all that it has room for. All its memory is taken here.
     pub fn new(alloc: Global, room: usize, fail: &[u64]) -> Result<MemSink, NoMemory>
-        ensures { IfOk result (λ sink. sink ≡ fresh_sink room fail.now) }
+        ensures { IfOk result (λ sink. sink ≡ fresh_sink room any_step fail.now) }
+    {
+        MemSink::stepped(alloc, room, usize::MAX, fail)
+    }
+
+    /// An empty sink that takes at most `step` bytes a call. All its memory is taken here.
+    pub fn stepped(
+        alloc: Global,
+        room: usize,
+        step: usize,
+        fail: &[u64],
+    ) -> Result<MemSink, NoMemory>
+        requires { 1 ≤ step }
+        ensures { IfOk result (λ sink. sink ≡ fresh_sink room step fail.now) }
     {
         Ok(MemSink {
             bytes: Vec::with_capacity(alloc, room)?,
             room,
+            step,
             fail: Vec::from_slice(alloc, fail)?,
             calls: 0,
             faults: 0,
@@ -151,16 +167,17 @@ impl Sink for MemSink {
         ensures faults { HasWriteCause self.old.faults self.new.faults result piece.now }
 
         ensures fails { IsErr result ↔ Refuses self.old piece.now }
-        ensures takes { IfOk result (λ k. k ≡ min (length piece.now) (room_left self.old)) }
+        ensures takes { IfOk result (λ k. k ≡ accepted self.old (length piece.now)) }
         ensures after { self.new ≡ after_write self.old piece.now result }
     {
         let call = self.calls;
         self.calls = call.saturating_add(1);
-        let count = piece.len().min(self.room - self.bytes.len());
-        if self.fail.contains(&call) || (count == 0 && !piece.is_empty()) {
+        let room = self.room - self.bytes.len();
+        if self.fail.contains(&call) || (room == 0 && !piece.is_empty()) {
             self.faults = self.faults.saturating_add(1);
             return Err(Failed);
         }
+        let count = self.step.min(piece.len()).min(room);
         // `new` took the room, so this cannot be refused.
         let Ok(()) = self.bytes.extend_from_slice(&piece[..count]) else {
             unreachable!()

@@ -117,6 +117,35 @@ fn a_sink_takes_what_it_has_room_for(rt: HostRuntime) -> Result<(), Fail> {
     Ok(())
 }
 
+// A text of five bytes through a sink that takes so many a call: whole, and cut by want of room and by
+// a call that fails.
+#[test]
+fn a_stepped_sink_takes_a_piece_at_a_time(rt: HostRuntime) -> Result<(), Fail> {
+    let alloc = rt.alloc();
+    for (room, step, fail, answer, taken) in [
+        (5, 1, 9, Ok(()), b"tasks".as_slice()),
+        (9, 2, 9, Ok(()), b"tasks".as_slice()),
+        (5, 7, 9, Ok(()), b"tasks".as_slice()),
+        (4, 1, 9, Err(Partial { taken: 4 }), b"task".as_slice()),
+        (4, 3, 9, Err(Partial { taken: 4 }), b"task".as_slice()),
+        (5, 2, 2, Err(Partial { taken: 4 }), b"task".as_slice()),
+        (5, 1, 0, Err(Partial { taken: 0 }), b"".as_slice()),
+    ] {
+        let mut sink = MemSink::stepped(alloc, room, step, &[fail])?;
+        assert_eq!(rt;
+            write_all(&mut sink, b"tasks"),
+            answer,
+            "room {room}, step {step}, call {fail} fails"
+        );
+        assert_eq!(rt;
+            sink.bytes(),
+            taken,
+            "room {room}, step {step}, call {fail} fails"
+        );
+    }
+    Ok(())
+}
+
 // A reader and a writer of std that pass two bytes a call and fail at their second call.
 #[derive(Drop)]
 struct Worn {
