@@ -6,7 +6,8 @@ use Rattle.mv_element.specs.declared.element.Phase.TheVariants.{Free, Reset, Pre
 use Rattle.mv_element.specs.declared.operation.ElementOp.{ElementOp}
 use Rattle.mv_element.specs.declared.operation.ElementOp.TheVariants.{Open, Pause, Resume, Release, Close, Test}
 use Rattle.mv_element.specs.declared.operation.ElementReply.{ElementReply}
-use Rattle.mv_element.specs.declared.operation.ElementReply.TheVariants.{Opened, InUse, Parked, Given, Spent, Busy, NotYet, Early, Woke, Already, Closed, State}
+use Rattle.mv_element.specs.declared.operation.ElementReply.TheVariants.{Opened, InUse, Parked, Given, Spent, Busy}
+use Rattle.mv_element.specs.declared.operation.ElementReply.TheVariants.{NotYet, Early, Woke, Already, Closed, State}
 use Rattle.mv_element.specs.Element.{free, reset, prereleased, paused, released}
 
 -- a release code has three bytes

@@ -3,7 +3,8 @@ use Rattle.std.specs.Prelude.{◌≡◌, ℕ, ◌⊎◌, List, ◌++◌, codes, 
 use Rattle.mv_io.specs.Fault.{Rose}
 use Rattle.mv_io.specs.Sink.{Appends}
 use Rattle.mv_ending.specs.declared.note.Note.{Note}
-use Rattle.mv_ending.specs.declared.note.Note.TheVariants.{Usage, DeckFault, InputTooLong, ReadFailed, ReportFailed, JournalFailed, NoMemory, Illegal, JournalFault}
+use Rattle.mv_ending.specs.declared.note.Note.TheVariants.{Usage, DeckFault, InputTooLong, ReadFailed, ReportFailed}
+use Rattle.mv_ending.specs.declared.note.Note.TheVariants.{JournalFailed, NoMemory, Illegal, JournalFault}
 use Rattle.mv_ending.specs.Written.{AppendsFront}
 
 -- which line of the input is at fault, and how, behind a word that says what the input is

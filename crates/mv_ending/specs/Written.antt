@@ -24,7 +24,8 @@ IfUnwritten Everything P = Unit {0}
 abbrev pub Wrote : Extent → (report0 report1 journal0 journal1 : Option (List ℕ)) → (report journal : List ℕ) → Type 0
 Wrote Nothing report0 report1 journal0 journal1 report journal = (report1 ≡ report0) × (journal1 ≡ journal0)
 Wrote PartOfReport report0 report1 journal0 journal1 report journal = AppendsFront report0 report1 report × (journal1 ≡ journal0)
-Wrote PartOfJournal report0 report1 journal0 journal1 report journal = Appends report0 report1 report × AppendsFront journal0 journal1 journal
+Wrote PartOfJournal report0 report1 journal0 journal1 report journal =
+    Appends report0 report1 report × AppendsFront journal0 journal1 journal
 Wrote Everything report0 report1 journal0 journal1 report journal = Appends report0 report1 report × Appends journal0 journal1 journal
 
 -- so much was written of two texts that are told of the input, where its source told that

@@ -1,5 +1,6 @@
 -- One more read after others, and one more write: the fronts of the told bytes join.
-use Rattle.std.proofs.Common.{◌≡◌, ℕ, ◌+◌, ◌-◌, ◌<◌, ◌≤◌, List, ◌++◌, length, take, drop, None, Some, Ok, IfSome, refl, sym, ap, ◌∙◌, arith, append_assoc, drop-drop, length-drop, length-take-le, take-add, take-take, take_at, drop_at}
+use Rattle.std.proofs.Common.{◌≡◌, ℕ, ◌+◌, ◌-◌, ◌<◌, ◌≤◌, List, ◌++◌, length, take, drop, None, Some, Ok, IfSome, refl, sym, ap, ◌∙◌}
+use Rattle.std.proofs.Common.{arith, append_assoc, drop-drop, length-drop, length-take-le, take-add, take-take, take_at, drop_at}
 use Rattle.std.proofs.lemmas.List.{take_rest, take-append-le}
 use Rattle.std.proofs.lemmas.Slice.{take-put_mid}
 use borrow.Rule.Slice.PartMut.{put_mid}

@@ -16,4 +16,5 @@ pub record GivesFront (xs : List ℕ) (new : Option (List ℕ)) (buf : List ℕ)
 -- at Ok the front of the told bytes moved into the buffer, and none of them exactly at their end; at Err none was taken off
 abbrev pub Reads : {E : Type 0} → Option (List ℕ) → Option (List ℕ) → Result ℕ E → List ℕ → Type 0
 Reads None new result buf = ⊤
-Reads (Some xs) new result buf = MatchResult result (λ k. GivesFront xs new buf k × (0 < length buf → (k ≡ 0 ↔ xs ≡ []))) (λ _. new ≡ Some xs)
+Reads (Some xs) new result buf =
+    MatchResult result (λ k. GivesFront xs new buf k × (0 < length buf → (k ≡ 0 ↔ xs ≡ []))) (λ _. new ≡ Some xs)

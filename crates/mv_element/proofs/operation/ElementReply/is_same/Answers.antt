@@ -5,7 +5,8 @@ use denote.Enum.Bare.{sameb, same_true, true_same}
 use Rattle.mv_element.specs.contracts.element.Phase.{the_type}
 use Rattle.mv_element.specs.declared.element.ElementState.{ElementState}
 use Rattle.mv_element.specs.declared.operation.ElementReply.{ElementReply}
-use Rattle.mv_element.specs.declared.operation.ElementReply.TheVariants.{Opened, InUse, Parked, Given, Spent, Busy, NotYet, Early, Woke, Already, Closed, State}
+use Rattle.mv_element.specs.declared.operation.ElementReply.TheVariants.{Opened, InUse, Parked, Given, Spent, Busy}
+use Rattle.mv_element.specs.declared.operation.ElementReply.TheVariants.{NotYet, Early, Woke, Already, Closed, State}
 use Rattle.mv_element.proofs.States.{same_state}
 use Rattle.mv_element.proofs.operation.ElementReply.is_same.Goals as goal
 
