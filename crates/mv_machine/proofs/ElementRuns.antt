@@ -16,15 +16,13 @@ use Rattle.mv_machine.specs.Setup.{Setup}
 use Rattle.mv_machine.specs.System.{System, Cell, opening, advanced}
 use Rattle.mv_machine.specs.Legal.{IsNext, next, after_from, LegalFrom, Legal, after}
 use Rattle.mv_machine.specs.Elements.{ElementEvent, as_element_event, element_events, IsOrderlyElement, FitsItsPlace}
+use Rattle.mv_machine.proofs.EntryRuns.{entry_of, along_all}
 use Rattle.mv_machine.proofs.OneObject.{PassesBy, HappensAt, RunFrom, run_of}
 use Rattle.mv_machine.proofs.ElementLaws.{element_table, element_is_orderly}
 
 -- the element in a machine
 abbrev cell_of : ℕ → System → Cell ElementState
 cell_of n s = s.element n
-
-abbrev entry_of : ℕ → Object → ℕ → Op → Reply → Entry
-entry_of k o p op r = record { caller = k; object = o; place = p; op = op; reply = r }
 
 other_element : (s : System) (n k m p : ℕ) (op : ElementOp) (r : ElementReply) → (m ≡ n → ⊥)
     → PassesBy element_table (as_element_event n) (cell_of n) s (entry_of k (Element m) p (op_on.Element op) (reply_of.Element r))
@@ -36,9 +34,10 @@ this_element : (c : Setup) (s : System) (n k m p : ℕ) (op : ElementOp) (r : El
 this_element c s n k m p op r same h =
     (record { caller = k; place = p; op = op; reply = r }, grind arith, record { place = grind arith; reply = grind arith }, grind arith)
 
+-- an entry is on the element, or is none of it
 passes_or_happens : (c : Setup) (s : System) (n k : ℕ) (o : Object) (p : ℕ) (op : Op) (r : Reply) → IsNext c s (entry_of k o p op r)
-    → PassesBy element_table (as_element_event n) (cell_of n) s (entry_of k o p op r) ⊎ HappensAt element_table (as_element_event n)
-    (cell_of n) s (entry_of k o p op r)
+    → PassesBy element_table (as_element_event n) (cell_of n) s (entry_of k o p op r)
+    ⊎ HappensAt element_table (as_element_event n) (cell_of n) s (entry_of k o p op r)
 passes_or_happens c s n k (Element m) p (op_on.Element op) (reply_of.Element r) h =
     elim (cases_eq m n) [ inl same ↦ inr (this_element c s n k m p op r same h) | inr other ↦ inl (other_element s n k m p op r other) ]
 passes_or_happens c s n k (Element m) p (op_on.Element op) r h = absurd (cc h.reply)
@@ -59,10 +58,8 @@ elements_are_orderly c es l n = element_is_orderly (element_events n es) (elemen
 pub element_along : (P : Cell ElementState → Type 0)
     → ((cell : Cell ElementState) (op : ElementOp) → P cell → P (advanced cell (element_step op cell.state).0))
     → (c : Setup) (n : ℕ) (s : System) (es : List Entry) → LegalFrom c s es → P (s.element n) → P ((after_from s es).element n)
-element_along P keeps c n s [] l p = p
-element_along P keeps c n s (e ∷ es) l p =
-    element_along P keeps c n (next s e) es l.1
-    (elim (passes_or_happens c s n e.caller e.object e.place e.op e.reply l.0) [
+element_along P keeps c n = along_all c (λ t. P (t.element n)) (λ s e h p.
+    elim (passes_or_happens c s n e.caller e.object e.place e.op e.reply h) [
       | inl w ↦ rw (w.1) p
       | inr w ↦ rw (w.3) (keeps (s.element n) (w.0).op p)
     ])

@@ -1,5 +1,5 @@
 -- One pick after another.
-use Rattle.std.proofs.Common.{◌≡◌, ◌+◌, ◌<◌, ◌≤◌, ◌++◌, None, [], ◌∷◌, length, replicate, set, sym, subst, ap, ◌∙◌, arith}
+use Rattle.std.proofs.Common.{◌≡◌, suc, ◌+◌, ◌<◌, ◌≤◌, ◌++◌, None, [], ◌∷◌, length, replicate, set, sym, subst, ap, ◌∙◌, arith}
 use Rattle.std.proofs.Common.{length-append, length-set}
 use Rattle.std.proofs.lemmas.List.{append-nil, length-replicate}
 use Rattle.mv_machine.specs.Legal.{Legal}
@@ -10,6 +10,7 @@ use Rattle.mv_machine.proofs.OneHistory.{logs_count, logs_legal, logs_parts, log
 use Rattle.mv_machine.proofs.Places.{risen_low}
 use Rattle.mv_machine.proofs.Lefts.{gives_none, lefts_zero, pick_takes, pick_taken}
 use Rattle.mv_machine.proofs.merging.merge.Goals as goal
+use Rattle.mv_machine.proofs.merging.merge.Goals.{In-Some}
 
 pub loop-picked-init : goal.loop-picked-init
 loop-picked-init c =
@@ -29,34 +30,30 @@ loop-picked-init c =
       low = λ o. subst (λ p. p o ≤ length c.args.room.journal.items) (sym room.unmoved) (omega arith);
     }
 
+-- what is picked
+picked_is : (c : In-Some) → IsPicked c.loop-picked.places c.loop-picked.merged.items c.args.logs.items c.in-Some.picked
+picked_is c = rw (c.deref-in-loop-picked.ensures.value, c.deref.ensures.value) at c.in-Some.ensures
+
+-- it leaves one entry fewer
+picked_takes : (c : In-Some) → total (lefts c.loop-picked.merged.items c.args.logs.items)
+    ≡ suc (total (lefts (set c.loop-picked.merged.items c.in-Some.picked.caller c.in-Some.picked.merged) c.args.logs.items))
+picked_takes c =
+    pick_takes (next_in c.loop-picked.places) (lefts c.loop-picked.merged.items c.args.logs.items) c.in-Some.picked.entry _ (picked_is c).picks
+
 pub rise-requires-clause-place : goal.rise-requires-clause-place
 rise-requires-clause-place c =
-    let ms = c.loop-picked.merged.items in
-    let logs = c.args.logs.items in
-    let picked = c.in-Some.picked in
-    let t : IsPicked c.loop-picked.places ms logs picked = rw (c.deref-in-loop-picked.ensures.value, c.deref.ensures.value) at c.in-Some.ensures in
-    let takes = pick_takes (next_in c.loop-picked.places) (lefts ms logs) picked.entry (lefts (set ms picked.caller picked.merged) logs) t.picks in
-    omega (arith, takes, c.loop-picked.invariant.low picked.entry.object, c.loop-picked.invariant.left, c.requires.room.few)
+    let takes = picked_takes (goal.at.rise-requires-clause-place c).In-Some in
+    omega (arith, takes, c.loop-picked.invariant.low c.in-Some.picked.entry.object, c.loop-picked.invariant.left, c.requires.room.few)
 
 pub push_reserved-requires : goal.push_reserved-requires
 push_reserved-requires c =
-    let ms = c.loop-picked.merged.items in
-    let logs = c.args.logs.items in
-    let picked = c.in-Some.picked in
-    let t : IsPicked c.loop-picked.places ms logs picked = rw (c.deref-in-loop-picked.ensures.value, c.deref.ensures.value) at c.in-Some.ensures in
-    let takes = pick_takes (next_in c.loop-picked.places) (lefts ms logs) picked.entry (lefts (set ms picked.caller picked.merged) logs) t.picks in
+    let takes = picked_takes (goal.at.push_reserved-requires c).In-Some in
     omega (arith, takes, c.loop-picked.invariant.left, c.loop-picked.invariant.room)
 
 pub loop-picked-smaller : goal.loop-picked-smaller
 loop-picked-smaller c =
-    let ms = c.loop-picked.merged.items in
-    let logs = c.args.logs.items in
-    let picked = c.in-Some.picked in
-    let t : IsPicked c.loop-picked.places ms logs picked = rw (c.deref-in-loop-picked.ensures.value, c.deref.ensures.value) at c.in-Some.ensures in
-    let rest = lefts (set ms picked.caller picked.merged) logs in
-    let takes = pick_takes (next_in c.loop-picked.places) (lefts ms logs) picked.entry rest t.picks in
-    let down : total rest < total (lefts ms logs) = omega arith in
-    down
+    let takes = picked_takes (goal.at.loop-picked-smaller c).In-Some in
+    omega arith
 
 pub loop-picked-preserved : goal.loop-picked-preserved
 loop-picked-preserved c =
@@ -65,16 +62,17 @@ loop-picked-preserved c =
     let picked = c.in-Some.picked in
     let known = c.loop-picked.invariant in
     let journal = c.loop-picked.journal.items in
-    let t : IsPicked c.loop-picked.places ms logs picked = rw (c.deref-in-loop-picked.ensures.value, c.deref.ensures.value) at c.in-Some.ensures in
+    let here = (goal.at.loop-picked-preserved c).In-Some in
     let rest = lefts (set ms picked.caller picked.merged) logs in
     let p = next_in c.loop-picked.places in
     let q = next_in c.rise.new.self in
-    let takes = pick_takes p (lefts ms logs) picked.entry rest t.picks in
+    let takes = picked_takes here in
     let longer : length c.push_reserved.new.self.items ≡ length journal + 1 =
     ap length c.push_reserved.ensures.items ∙ length-append journal (picked.entry ∷ []) in
     record {
       whole = ap (λ j. j ++ merge_from (total rest) q rest) c.push_reserved.ensures.items
-          ∙ pick_taken p q (lefts ms logs) rest picked.entry journal (merged logs) t.picks c.rise.ensures.places known.whole;
+          ∙ pick_taken p q (lefts ms logs) rest picked.entry journal (merged logs) (picked_is here).picks c.rise.ensures.places
+          known.whole;
       left = omega (arith, takes, longer, known.left);
       room = omega (arith, known.room, c.push_reserved.ensures.capacity);
       logs = length-set ms picked.caller picked.merged ∙ known.logs;
@@ -88,10 +86,11 @@ is_merged : (c : goal.After-drop-logs) → c.loop-picked.journal.items ≡ merge
 is_merged c =
     let ms = c.loop-picked.merged.items in
     let logs = c.args.logs.items in
-    let over : pick (next_in c.loop-picked.places) (lefts ms logs) ≡ None =
+    let p = next_in c.loop-picked.places in
+    let over : pick p (lefts ms logs) ≡ None =
     rw (c.deref-in-loop-picked.ensures.value, c.deref.ensures.value) at c.in_default.ensures in
     sym (append-nil c.loop-picked.journal.items)
-    ∙ ap (λ l. c.loop-picked.journal.items ++ l) (sym (gives_none (total (lefts ms logs)) (next_in c.loop-picked.places) (lefts ms logs) over))
+    ∙ ap (λ l. c.loop-picked.journal.items ++ l) (sym (gives_none (total (lefts ms logs)) p (lefts ms logs) over))
     ∙ c.loop-picked.invariant.whole
 
 pub returns-clause-merged : goal.returns-clause-merged
