@@ -1,7 +1,9 @@
 -- A purge goes over the lists one by one.
-use Rattle.std.proofs.Common.{◌≡◌, ℕ, ◌+◌, ◌<◌, ◌≤◌, zero, suc, not, List, [], ◌∷◌, ◌++◌, length, map, take, drop, set, get_or, Vec, Global, vec_capacity, sym, ap, ◌∙◌, arith, length-append, append_assoc}
+use Rattle.std.proofs.Common.{◌≡◌, ℕ, ◌+◌, ◌<◌, ◌≤◌, zero, suc, not, List, [], ◌∷◌, ◌++◌, length, map, take, drop, set}
+use Rattle.std.proofs.Common.{get_or, Vec, Global, vec_capacity, sym, ap, ◌∙◌, arith, length-append, append_assoc}
 use Rattle.std.specs.List.{flat_map, AllByRecursion}
-use Rattle.std.proofs.lemmas.List.{take_more_set, drop-set-lt, length-set, length-map, map-append, map_more, map-set, set-get_or, get_or-map, drop_more}
+use Rattle.std.proofs.lemmas.List.{take_more_set, drop-set-lt, length-set, length-map, map-append}
+use Rattle.std.proofs.lemmas.List.{map_more, map-set, set-get_or, get_or-map, drop_more}
 use Rattle.std.proofs.lemmas.Grind.{drop_more_same}
 use Rattle.mv_latch.specs.declared.request.Request.{Request}
 use Rattle.mv_latch.specs.declared.operation.Wake.{Wake}

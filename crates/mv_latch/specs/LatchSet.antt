@@ -1,5 +1,6 @@
 -- A latch set: one list of requests for each latch, and the quotas of its callers.
-use Rattle.std.specs.Prelude.{◌≡◌, ℕ, ◌+◌, nat_lt, nat_le, ◌*◌, ◌^◌, ◌<◌, ◌≤◌, Bool, true, not, ◌&&◌, ◌||◌, List, [], ◌∷◌, ◌++◌, length, map, filter, replicate, slice_index_or, slice_set}
+use Rattle.std.specs.Prelude.{◌≡◌, ℕ, ◌+◌, nat_lt, nat_le, ◌*◌, ◌^◌, ◌<◌, ◌≤◌, Bool, true, not, ◌&&◌, ◌||◌}
+use Rattle.std.specs.Prelude.{List, [], ◌∷◌, ◌++◌, length, map, filter, replicate, slice_index_or, slice_set}
 use Rattle.std.specs.List.{flat_map}
 use Rattle.mv_latch.specs.declared.request.LatchForm.{LatchForm}
 use Rattle.mv_latch.specs.declared.request.Request.{Request}
@@ -85,4 +86,5 @@ wakes caller (Release latch id conditional) lists =
     granted_wakes (list_of lists latch) (release_step caller id conditional (list_of lists latch)).0
 wakes caller (Purge requestor) lists =
     map (wake_of 1) (flat_map (waiting_of requestor) lists) ++ map (wake_of 0) (flat_map (granted_by_purge requestor) lists)
-wakes caller _ lists = []
+wakes caller (Obtain latch requestor mode form) lists = []
+wakes caller (Confirm latch id) lists = []

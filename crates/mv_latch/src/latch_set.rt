@@ -149,7 +149,7 @@ impl LatchSet {
             LatchForm::Posted(_) => {
                 self.count(Selection::PostedBy { caller }) < self.posted as usize
             }
-            _ => true,
+            LatchForm::Conditional | LatchForm::Waiting => true,
         }
     }
 

@@ -71,7 +71,7 @@ impl Wake {
     {
         let ecb = match request.form {
             LatchForm::Posted(ecb) => Some(ecb),
-            _ => None,
+            LatchForm::Conditional | LatchForm::Waiting => None,
         };
         Wake {
             caller: request.caller,

@@ -4,7 +4,8 @@ use Rattle.std.proofs.lemmas.List.{length-map, map-set}
 use Rattle.mv_latch.specs.Request.{wake_of}
 use Rattle.mv_latch.specs.Latch.{purged, newly_granted, granted_by_purge, HasDistinctIds}
 use Rattle.mv_latch.specs.Queues.{items_of}
-use Rattle.mv_latch.proofs.Purges.{here, distinct_at, total_at, turn_fits, turn_told, turn_counted, turn_purged, capacities_kept, granted_by_purge_fit}
+use Rattle.mv_latch.proofs.Purges.{here, distinct_at, total_at, turn_fits, turn_told, turn_counted}
+use Rattle.mv_latch.proofs.Purges.{turn_purged, capacities_kept, granted_by_purge_fit}
 use Rattle.mv_latch.proofs.lists.remove_from_all.Goals as goal
 
 pub remove-granted-requires-clause-distinct : goal.remove-granted-requires-clause-distinct
