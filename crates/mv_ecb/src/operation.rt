@@ -1,9 +1,11 @@
 //! What is done with an event control block, and what it answers.
 
-/// Codes and the numbers of exits are below this.
+/// Codes and the numbers of exits are below this: a completion code has the 30 low bits of the fullword, as *z/OS MVS
+/// Programming: Assembler Services Reference* has it for POST.
 pub const CODE_LIMIT: u32 = 1 << 30;
 
-/// What is done with an event control block.
+/// What is done with an event control block. WAIT is Arm and then, once the event is complete, Settle; POST is Post. Extend
+/// and the exit that it names are this project's own.
 #[derive(Clone, Copy, Debug, PartialEq, Eq)]
 pub enum EcbOp {
     /// A wait on this block begins: the wait bit is set where nothing was posted.
@@ -20,7 +22,7 @@ pub enum EcbOp {
     Test,
 }
 
-/// What an operation answers.
+/// What an operation answers. None is a failure: a block in another state than was hoped for says so, and stays as it is.
 #[derive(Clone, Copy, Debug, PartialEq, Eq)]
 pub enum EcbReply {
     /// The wait bit was set by this operation.

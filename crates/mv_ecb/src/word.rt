@@ -8,7 +8,8 @@ use crate::operation::{EcbOp, EcbReply};
 use std::marker::Model;
 
 /// The fullword of an event control block: the wait bit, the completion bit, and 30 bits of value.
-/// Bit 0 of the book, the wait bit, is the highest one here.
+/// Bit 0 of the book, the wait bit, is the highest one here; the value is a code where the block is complete, and the number
+/// of an exit, counted from 1, where it waits with one.
 #[derive(Clone, Copy, Debug, PartialEq, Eq)]
 pub struct EcbWord {
     bits: u32,
@@ -33,7 +34,8 @@ const COMPLETION_BIT: u32 = 0x4000_0000;
 const VALUE_BITS: u32 = 0x3fff_ffff;
 
 impl EcbWord {
-    /// The word before the block is first waited on or posted.
+    /// The word before the block is first waited on or posted, as the books ask for it. The operation Clear makes it again for
+    /// the next use.
     pub fn zero() -> EcbWord
         ensures { result ≡ Zero }
     {
@@ -53,14 +55,14 @@ impl EcbWord {
         }
     }
 
-    /// Whether the event is complete.
+    /// Whether the event is complete: whether a WAIT on it would not wait.
     pub fn is_complete(self) -> bool
         ensures { result ≡ is_complete_state self }
     {
         self.bits >> 30 == 1
     }
 
-    /// The fullword.
+    /// The fullword: wait bit 2^31, completion bit 2^30, value below. `of` takes it back.
     pub fn word(self) -> u32
         ensures { result ≡ word_of self }
     {
@@ -68,7 +70,17 @@ impl EcbWord {
     }
 }
 
-/// One operation on an event control block: the new word and the reply.
+/// One operation on an event control block: the new word and the reply. A code is below 2^30, and an exit from 1 to 2^30 - 1.
+/// It never waits: Arm sets the wait bit, and who waits has to look again until the block is complete. WAIT, POST and the
+/// fullword are those of *z/OS MVS Programming: Assembler Services Guide*; that a second post keeps the first code, and exits,
+/// are this project's own.
+///
+/// # Example
+///
+/// ```
+/// let (word, reply) = ecb_apply(EcbOp::Post(7), EcbWord::zero());
+/// // reply is Posted; a second post is told Already(7), and an arm Complete(7)
+/// ```
 pub fn ecb_apply(op: EcbOp, word: EcbWord) -> (EcbWord, EcbReply)
     requires { IsEcbOp op }
     ensures { result ≡ ecb_step op word }

@@ -3,14 +3,17 @@
 ghost use Rattle.std.specs.Prelude.{◌≡◌};
 ghost use Rattle.mv_element.specs.Code.{IsKeptCode};
 
-/// What names one pause: an element, and which of its pauses is meant.
+/// What names one pause: an element, and which of its pauses is meant. It serves one pause, as a pause element token does; the
+/// code that ends the pause comes with the token of the next. Whoever has it may release the pause.
 #[derive(Clone, Copy, Debug, PartialEq, Eq)]
 pub struct Token {
+    /// Counted from 0 over all callers: element e is of caller `e / elements_per_caller`.
     pub element: u32,
+    /// How many pauses of the element are over before this one: at most 262,143.
     pub generation: u32,
 }
 
-/// Where an element stands.
+/// Where an element stands. The phases are this project's own.
 #[derive(Clone, Copy, Debug, PartialEq, Eq)]
 pub enum Phase {
     /// Not allocated.
@@ -39,6 +42,7 @@ pub struct ElementState {
 impl ElementState {
     ghost use Rattle.mv_element.specs.Element.{free, reset, prereleased, paused, released};
 
+    /// Not allocated, so many pauses being over.
     pub fn free(generation: u32) -> ElementState
         ensures { result ≡ free generation }
     {
@@ -49,6 +53,7 @@ impl ElementState {
         }
     }
 
+    /// Allocated, and neither paused nor released.
     pub fn reset(generation: u32) -> ElementState
         ensures { result ≡ reset generation }
     {
@@ -59,6 +64,7 @@ impl ElementState {
         }
     }
 
+    /// Released with this code, below 2^24 in a run, before its pause.
     pub fn prereleased(generation: u32, code: u32) -> ElementState
         ensures { result ≡ prereleased generation code }
     {
@@ -69,6 +75,7 @@ impl ElementState {
         }
     }
 
+    /// Paused, and not released yet.
     pub fn paused(generation: u32) -> ElementState
         ensures { result ≡ paused generation }
     {
@@ -79,6 +86,7 @@ impl ElementState {
         }
     }
 
+    /// Paused, and released with this code, which its task has not taken yet.
     pub fn released(generation: u32, code: u32) -> ElementState
         ensures { result ≡ released generation code }
     {

@@ -4,11 +4,12 @@ ghost use Rattle.std.specs.Prelude.{◌≡◌, ◌↔◌, IsTrue};
 
 use crate::element::ElementState;
 
-/// Release codes, of three bytes, are below this.
+/// Release codes, of three bytes as IEAVRLS has them, are below this.
 pub const RELEASE_LIMIT: u32 = 1 << 24;
 
 /// What is done with a pause element. The first number is a generation, which may be any; the second is a release
-/// code, below 2^24.
+/// code, below 2^24. The services are those of *z/OS MVS Programming: Authorized Assembler Services Reference*; generations in
+/// place of tokens, and Resume, are this project's own.
 #[derive(Clone, Copy, Debug, PartialEq, Eq)]
 pub enum ElementOp {
     /// A free element is allocated (IEAVAPE).
@@ -25,7 +26,7 @@ pub enum ElementOp {
     Test,
 }
 
-/// What an operation answers.
+/// What an operation answers. Spent, Busy, NotYet, InUse and Already change nothing.
 #[derive(Clone, Copy, Debug, PartialEq, Eq)]
 pub enum ElementReply {
     /// The element is allocated, with this generation.

@@ -6,7 +6,18 @@ ghost use Rattle.mv_element.specs.Table.{IsElementOp, element_step, is_current a
 use crate::element::{ElementState, Phase};
 use crate::operation::{ElementOp, ElementReply};
 
-/// One operation on a pause element: the new state and the reply.
+/// One operation on a pause element: the new state and the reply. It never waits: after Parked the task asks by Resume whether
+/// it was released. Within a run no generation passes 262,143 = 2^18 - 1. Pause, release, allocate and deallocate are those of
+/// *z/OS MVS Programming: Authorized Assembler Services Guide*; that a release before its pause is kept for it, and what an
+/// operation does to an element in another phase, are this project's own.
+///
+/// # Example
+///
+/// ```
+/// let (paused, _) = element_apply(ElementOp::Pause(0), ElementState::reset(0));
+/// let (released, reply) = element_apply(ElementOp::Release(0, 12), paused);
+/// // reply is Woke; a Resume(0) is now Given { code: 12, next: 1 }
+/// ```
 pub fn element_apply(op: ElementOp, state: ElementState) -> (ElementState, ElementReply)
     requires generation { state.generation < 2 ^ 18 }
     requires code { IsElementOp op }

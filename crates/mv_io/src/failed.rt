@@ -2,11 +2,11 @@
 
 use std::alloc::{AllocError, AllocFailed};
 
-/// A stream failed. Its count of faults says that it was the stream.
+/// A stream failed. Its count of faults says that it was the stream. The cause is not told, and a later call may go through.
 #[derive(Clone, Copy, Debug, PartialEq, Eq)]
 pub struct Failed;
 
-/// There was no memory.
+/// There was no memory. A later call may find some.
 #[derive(Clone, Copy, Debug, PartialEq, Eq)]
 pub struct NoMemory;
 

@@ -12,7 +12,7 @@ use crate::{Failed, NoMemory, Sink, Source};
 use std::alloc::Global;
 use std::marker::Model;
 
-/// A source of given bytes. The calls of `read` are numbered from 0, and those that it was told fail.
+/// A source of given bytes, for tests. The calls of `read` are numbered from 0, and those that it was told fail.
 #[derive(Drop)]
 pub struct MemSource {
     bytes: Vec<u8>,
@@ -41,7 +41,11 @@ impl Model for MemSource {
 }
 
 impl MemSource {
-    /// A source that gives these bytes, at most `step` of them a call.
+    /// A source that gives these bytes, at most `step` of them a call. The calls with the numbers in `fail` fail, in any order.
+    ///
+    /// # Errors
+    ///
+    /// `NoMemory` where there is no room for a copy of both.
     pub fn new(
         alloc: Global,
         bytes: &[u8],
@@ -90,8 +94,8 @@ impl Source for MemSource {
     }
 }
 
-/// A sink with room for so many bytes. The calls of `write` are numbered from 0, and those that it
-/// was told fail, as does one that finds no room.
+/// A sink with room for so many bytes, for tests. The calls of `write` are numbered from 0, and those that it
+/// was told fail, as does one that has bytes to hand over and finds no room.
 #[derive(Drop)]
 pub struct MemSink {
     bytes: Vec<u8>,
@@ -121,14 +125,23 @@ impl Model for MemSink {
 }
 
 impl MemSink {
-    /// An empty sink that takes at once all that it has room for. All its memory is taken here.
+    /// An empty sink that takes at once all that it has room for. All its memory is taken here, so `write` can't fail for want of
+    /// it.
+    ///
+    /// # Errors
+    ///
+    /// `NoMemory` where there is no room for so many bytes.
     pub fn new(alloc: Global, room: usize, fail: &[u64]) -> Result<MemSink, NoMemory>
         ensures { IfOk result (λ sink. sink ≡ fresh_sink room any_step fail.now) }
     {
         MemSink::stepped(alloc, room, usize::MAX, fail)
     }
 
-    /// An empty sink that takes at most `step` bytes a call. All its memory is taken here.
+    /// An empty sink that takes at most `step` bytes a call, of one or more. All its memory is taken here.
+    ///
+    /// # Errors
+    ///
+    /// `NoMemory` where there is no room for so many bytes.
     pub fn stepped(
         alloc: Global,
         room: usize,
@@ -148,7 +161,7 @@ impl MemSink {
         })
     }
 
-    /// What it has taken.
+    /// What it has taken, in the order in which it came.
     pub fn bytes(&self) -> &[u8]
         ensures { result.now ≡ self.now.taken }
     {

@@ -11,9 +11,9 @@ use std::alloc::{AllocError, Global};
 /// Why an input was not read.
 #[derive(Clone, Copy, Debug, PartialEq, Eq)]
 pub enum ReadRefusal {
-    /// The source failed.
+    /// The source failed. What was taken off it before is lost.
     Failed,
-    /// The input has more bytes than the limit.
+    /// The input has more bytes than the limit, of which so many and one were taken off.
     TooLong,
     /// There was no memory for the limit and one byte. Nothing was read.
     NoMemory,
@@ -40,7 +40,19 @@ const PIECE: usize = 64 * 1024;
 
 /// Reads a whole input of at most `limit` bytes. Room for `limit` and one byte is taken before the
 /// first read, and no memory after it. No more bytes than that are taken off the source, and where
-/// it fails at most `limit`. Only as much of the room is touched as bytes came, to the next piece.
+/// it fails at most `limit`. Only as much of the room is touched as bytes came, to the next piece. It waits as long as
+/// the source's reads do.
+///
+/// # Errors
+///
+/// Those of `ReadRefusal`. A fault is not tried again.
+///
+/// # Example
+///
+/// ```
+/// let mut source = StdSource::new(stdin);
+/// let bytes = read_limited(alloc, &mut source, 1024 * 1024)?;
+/// ```
 pub fn read_limited<S: Source>(
     alloc: Global,
     src: &mut S,

@@ -7,7 +7,7 @@ ghost use Rattle.mv_io.specs.Sink.{Writes};
 
 use crate::Failed;
 
-/// Where bytes go.
+/// Where bytes go. `write_all` hands a whole text to one.
 pub trait Sink {
     /// The bytes taken so far, where the sink tells them.
     ghost taken: { Self → Option (List ℕ) };
@@ -15,8 +15,12 @@ pub trait Sink {
     /// How often the sink has failed. The count does not fall, and stands still at 2^64 - 1.
     ghost faults: { Self → ℕ };
 
-    /// Takes bytes from the front of the piece, and answers how many. It may take none of a piece
+    /// Takes bytes from the front of the piece, and answers how many: maybe fewer than it has. It may take none of a piece
     /// that has bytes only where it counted a fault.
+    ///
+    /// # Errors
+    ///
+    /// `Failed` where the sink failed. Then it took nothing of the piece.
     fn write(&mut self, piece: &[u8]) -> Result<usize, Failed>
         ensures bound { IfOk result (λ k. k ≤ length piece.now) }
         ensures bytes { Writes (taken self.old) (taken self.new) result piece.now }

@@ -7,7 +7,7 @@ ghost use Rattle.mv_io.specs.Source.{Reads};
 
 use crate::Failed;
 
-/// Where bytes come from.
+/// Where bytes come from. `read_limited` takes a whole input off one.
 pub trait Source {
     /// The bytes that are left, where the source tells them.
     ghost left: { Self → Option (List ℕ) };
@@ -15,8 +15,12 @@ pub trait Source {
     /// How often the source has failed. The count does not fall, and stands still at 2^64 - 1.
     ghost faults: { Self → ℕ };
 
-    /// Moves bytes into the front of the buffer, and answers how many. No byte into a buffer that
+    /// Moves bytes into the front of the buffer, and answers how many: maybe fewer than are left. No byte into a buffer that
     /// has room is the end of the input.
+    ///
+    /// # Errors
+    ///
+    /// `Failed` where the source failed. Then no byte was taken off it, and what the buffer holds is not said.
     fn read(&mut self, buf: &mut [u8]) -> Result<usize, Failed>
         ensures bound { IfOk result (λ k. k ≤ length buf.new) }
         ensures bytes { Reads (left self.old) (left self.new) result buf.new }

@@ -17,7 +17,8 @@ use std::io::{Read, Write};
 // The most bytes that one call hands on.
 const PIECE: usize = 64 * 1024;
 
-/// A source over a reader of std. Each error of the reader is a counted fault.
+/// A source over a reader of std. Each error of the reader is a counted fault. A call asks for 65,536 bytes at most, and waits as
+/// long as the reader does.
 #[derive(Drop)]
 pub struct StdSource<R> {
     inner: R,
@@ -27,7 +28,7 @@ pub struct StdSource<R> {
 impl<R: Read> StdSource<R> {
     ghost use Rattle.mv_io.specs.StdSource.{std_source_reader, std_source_faults};
 
-    /// A source over this reader.
+    /// A source over this reader, with no faults yet.
     pub fn new(inner: R) -> StdSource<R>
         ensures reader { std_source_reader result ≡ inner }
         ensures faults { std_source_faults result ≡ 0 }
@@ -35,7 +36,7 @@ impl<R: Read> StdSource<R> {
         StdSource { inner, faults: 0 }
     }
 
-    /// How often the reader has failed.
+    /// How often the reader has failed, up to 2^64 - 1.
     pub fn faults(&self) -> u64
         ensures { result ≡ std_source_faults self.now }
     {
@@ -71,7 +72,7 @@ impl<R: Read> Source for StdSource<R> {
 }
 
 /// A sink over a writer of std. Each error of the writer is a counted fault, and so is a write that
-/// takes no byte of a piece that has some.
+/// takes no byte of a piece that has some. A call hands on 65,536 bytes at most, and waits as long as the writer does.
 #[derive(Drop)]
 pub struct StdSink<W> {
     inner: W,
@@ -89,7 +90,7 @@ impl<W: Write> StdSink<W> {
         StdSink { inner, faults: 0 }
     }
 
-    /// How often the writer has failed.
+    /// How often the writer has failed, up to 2^64 - 1.
     pub fn faults(&self) -> u64
         ensures { result ≡ std_sink_faults self.now }
     {

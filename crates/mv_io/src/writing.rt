@@ -9,11 +9,22 @@ use crate::Sink;
 /// A sink failed before it had all bytes.
 #[derive(Clone, Copy, Debug, PartialEq, Eq)]
 pub struct Partial {
-    /// How many bytes it took.
+    /// How many bytes of the text it took, from its front.
     pub taken: usize,
 }
 
-/// Writes all bytes. The first failure ends it.
+/// Writes all bytes, a piece after the other as the sink takes them. It waits as long as the sink's writes do.
+///
+/// # Errors
+///
+/// `Partial` at the first failure, which is not tried again.
+///
+/// # Example
+///
+/// ```
+/// let mut sink = StdSink::new(stdout);
+/// if let Err(partial) = write_all(&mut sink, &text) { .. }
+/// ```
 pub fn write_all<K: Sink>(sink: &mut K, bytes: &[u8]) -> Result<(), Partial>
     ensures whole { OnOk result (Appends (K.taken sink.old) (K.taken sink.new) bytes.now) }
 

@@ -17,7 +17,7 @@ use crate::selection::Selection;
 use std::alloc::Global;
 use std::marker::Model;
 
-/// The lists of requests of a set of latches. Contracts see them with the quotas of the callers.
+/// The lists of requests of a set of latches. Contracts see them with the quotas of the callers. A new set is what ISGLCRT makes.
 #[derive(Drop)]
 pub struct LatchSet {
     lists: Vec<Vec<Request>>,
@@ -42,6 +42,10 @@ impl LatchSet {
     /// A set of latches, numbered from 0, that nobody asks for, with all room that its later calls use: each
     /// list takes `callers * quota` requests. Callers are numbered from 0. Each has at most `quota` requests in
     /// all lists together, and at most `posted` of them in the Posted form.
+    ///
+    /// # Errors
+    ///
+    /// `NoMemory` where there is no room for `latches * callers * quota` requests.
     pub fn new(
         alloc: Global,
         latches: u32,
@@ -65,7 +69,8 @@ impl LatchSet {
         })
     }
 
-    /// The requests of a latch, in the order of their arrival.
+    /// The requests of a latch, in the order of their arrival. Those that hold it come first: the first alone where it is
+    /// exclusive, else the longest front of shared ones. That order is this project's own.
     pub fn requests(&self, latch: u32) -> &[Request]
         requires { latch < length self.now.lists }
         ensures { result.now ≡ list_of self.now.lists latch }
@@ -73,7 +78,8 @@ impl LatchSet {
         &self.lists[latch as usize]
     }
 
-    /// How a caller's request of this number stands, as the operation Confirm answers it. Nothing changes.
+    /// How a caller's request of this number stands, as the operation Confirm answers it: Granted, Waiting, or Gone. Nothing
+    /// changes.
     pub fn confirm(&self, caller: u32, latch: u32, id: u32) -> LatchReply
         requires { latch < length self.now.lists }
         ensures { result ≡ confirm_reply caller id (list_of self.now.lists latch) }
@@ -206,9 +212,17 @@ impl LatchSet {
     }
 
     /// One operation of a caller, its reply, and in `wakes` who is to be told of what it did, after the latch
-    /// services ISGLOBT, ISGLREL and ISGLPRG. A new request has the number `id`. `None` where the operation is
-    /// not admitted: its latch does not exist, or an obtain's caller has used up its quota of requests, or of
-    /// requests in the Posted form.
+    /// services ISGLOBT, ISGLREL and ISGLPRG of *z/OS MVS Programming: Authorized Assembler Services Guide*. A new request has the
+    /// number `id`. `None` where the operation is not admitted: its latch does not exist, or an obtain's caller has used up its
+    /// quota of requests, or of requests in the Posted form. It never waits and needs no memory: `wakes` comes with room for
+    /// `callers * quota` of them. A purge goes over all lists, any other operation over one.
+    ///
+    /// # Example
+    ///
+    /// ```
+    /// let reply = set.apply(0, 7, op, &mut wakes);
+    /// // an exclusive obtain of a free latch: Some(Granted(7)), and nobody is told
+    /// ```
     pub fn apply(
         &mut self,
         caller: u32,

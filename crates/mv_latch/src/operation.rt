@@ -4,10 +4,12 @@ ghost use Rattle.std.specs.Prelude.{◌≡◌};
 
 use crate::request::{LatchForm, Mode, Request};
 
-/// An operation on a latch set. Latches are numbered from 0.
+/// An operation on a latch set. Latches are numbered from 0, and an `id` is the number that its obtain was answered with. The
+/// services are those of *z/OS MVS Programming: Authorized Assembler Services Reference*.
 #[derive(Clone, Copy, Debug, PartialEq, Eq)]
 pub enum LatchOp {
-    /// Asks for a latch, after ISGLOBT.
+    /// Asks for a latch, after ISGLOBT. A requestor that holds it already gets no
+    /// preference, and may wait for itself.
     Obtain {
         latch: u32,
         requestor: u64,
@@ -26,7 +28,7 @@ pub enum LatchOp {
         id: u32,
         conditional: bool,
     },
-    /// Takes all requests of a requestor out of all latches, after ISGLPRG.
+    /// Takes all requests of a requestor out of all latches, after ISGLPRG, whoever made them.
     Purge {
         requestor: u64,
     },
@@ -39,11 +41,12 @@ pub enum LatchReply {
     Granted(u32),
     /// The request of this number was queued.
     Queued(u32),
-    /// Nothing was queued, since the request of this number stands in the way.
+    /// Nothing was queued, since the request of this number stands in the way: the first of the list, or for a
+    /// shared request the first exclusive one.
     NotNow(u32),
     /// The request is in the list, and not granted.
     Waiting,
-    /// The latch has no such request of this caller.
+    /// The latch has no such request of this caller: it was released, or its requestor was purged.
     Gone,
     /// The request was taken out, and this many others were granted by that.
     Released { granted: u32 },
@@ -54,7 +57,9 @@ pub enum LatchReply {
 /// Who is told of what became of a request.
 #[derive(Clone, Copy, Debug, PartialEq, Eq)]
 pub struct Wake {
+    /// Who made the request.
     pub caller: u32,
+    /// The request's number.
     pub id: u32,
     /// The ECB of a request of the Posted form, which is posted with the code. With no ECB the task is woken.
     pub ecb: Option<u32>,

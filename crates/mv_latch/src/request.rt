@@ -1,6 +1,6 @@
 //! What a task asks of a latch. `specs/Request.antt` has words for it.
 
-/// How a requestor holds a latch.
+/// How a requestor holds a latch, after ISGLOBT.
 #[derive(Clone, Copy, Debug, PartialEq, Eq)]
 pub enum Mode {
     /// Beside other shared holders.
@@ -12,11 +12,11 @@ pub enum Mode {
 /// What becomes of a request that is not granted at once, as the obtain service ISGLOBT offers it.
 #[derive(Clone, Copy, Debug, PartialEq, Eq)]
 pub enum LatchForm {
-    /// It is dropped.
+    /// It is dropped, and no number is used.
     Conditional,
-    /// It is queued, and its task is woken at the grant.
+    /// It is queued, and its task is woken at the grant, or when the request is purged.
     Waiting,
-    /// It is queued, and the ECB of this number is posted at the grant.
+    /// It is queued, and the ECB of this number is posted with 0 at the grant, or with 1 when the request is purged.
     Posted(u32),
 }
 
@@ -29,6 +29,8 @@ pub struct Request {
     pub caller: u32,
     /// The eight bytes that a purge names it by.
     pub requestor: u64,
+    /// How it holds the latch, once granted.
     pub mode: Mode,
+    /// Who was to be told of its grant, had it to wait.
     pub form: LatchForm,
 }
