@@ -18,14 +18,18 @@ use std::alloc::Global;
 /// Why a list of entries with call numbers was not replayed to its end.
 #[derive(Clone, Copy, Debug, PartialEq, Eq)]
 pub enum CallsRefusal {
+    /// The list is not legal, and the entries before this one have their numbers.
     Illegal(Illegal),
     /// The first entry that has not its call number.
     Number {
         /// Counted from 0.
         index: usize,
+        /// The number that it has.
         kept: u32,
+        /// The number of its caller's call that it belongs to.
         machine: u32,
     },
+    /// There was no memory; the list was not judged.
     NoMemory,
 }
 
@@ -76,6 +80,18 @@ fn check_numbers(
 /// Goes through a list of entries with their call numbers. Ok exactly where the list is legal and each entry has its
 /// call number, with the state after it, unless there is no memory. Otherwise it names the first entry that is not the
 /// machine's (`Illegal`) or has another number (`Number`); an entry that is both is `Illegal`. The budgets are not asked.
+/// There is a number for each entry, in the same order. In time linear in the list.
+///
+/// # Errors
+///
+/// Those of `CallsRefusal`.
+///
+/// # Example
+///
+/// ```
+/// let calls = number_calls(alloc, &config, &journal)?;
+/// let state = replay_calls(alloc, &config, &journal, &calls)?;
+/// ```
 #[tactic(auto, using(crate::proofs::call_numbers::Refused::front_is_legal, crate::proofs::call_numbers::Refused::front_is_within, crate::proofs::call_numbers::Refused::refused_in_front, crate::proofs::call_numbers::Refused::refused_in_all, crate::proofs::call_numbers::Refused::refused_there, crate::proofs::call_numbers::Refused::refused_is_wrong, crate::proofs::call_numbers::Refused::number_is_wrong))]
 pub fn replay_calls(
     alloc: Global,

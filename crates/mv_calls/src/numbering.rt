@@ -53,7 +53,12 @@ fn number_next(
 }
 
 /// To which call of its caller each entry of a legal list belongs, by a number for each entry. A caller's calls are
-/// numbered from 0 on. One pass, in time linear in the length; the only error is want of memory.
+/// numbered from 0 on, in the order in which it made them; a call that was refused without an event has no number. One pass, in
+/// time linear in the length. Calls are this project's own way to read a history.
+///
+/// # Errors
+///
+/// `NoMemory` where there is no room for the numbers and the state.
 pub fn number_calls(
     alloc: Global,
     config: &ValidConfig,

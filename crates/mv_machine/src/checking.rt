@@ -126,8 +126,20 @@ impl Config {
         None
     }
 
-    /// Makes a checked configuration of this one, or drops it and answers the first refusal that holds. Want of
-    /// memory comes behind all of them.
+    /// Makes a checked configuration of this one, with what it computes from it once: how many posts one post leads to. Linear in
+    /// the blocks and the exits.
+    ///
+    /// # Errors
+    ///
+    /// The first refusal that holds, in the order of `CheckRefusal`; the configuration is dropped then. Want of memory comes
+    /// behind all others.
+    ///
+    /// # Example
+    ///
+    /// ```
+    /// let config = given.check(alloc)?;
+    /// let state = State::opening(alloc, &config)?;
+    /// ```
     pub fn check(self, alloc: Global) -> Result<ValidConfig, CheckRefusal>
         ensures ok { IfOk result (λ v. v ≡ setup_of self) }
         ensures valid { OnOk result (IsValid (setup_of self)) }

@@ -3,31 +3,35 @@
 
 use mv_io::NoMemory;
 
-/// An exit: a post that ends an extended wait on its source also posts its targets, in this order.
+/// An exit: a post of its source, while the owner holds that extended with this exit, also posts its targets, in this order and
+/// with the same code. Exits are this project's own.
 #[derive(Debug, Drop)]
 pub struct Exit {
+    /// The event control block that it starts from.
     pub source: u32,
+    /// 1 to 8 blocks with numbers above the source, of any owners; one may stand twice.
     pub targets: Vec<u32>,
 }
 
-/// A configuration as it was given.
+/// A configuration as it was given: which callers and objects there are, and what each caller may do. Callers, elements, volumes,
+/// latches and event control blocks are numbered from 0, exits from 1. `check` makes it one that a machine can open.
 #[derive(Debug, Drop)]
 pub struct Config {
-    /// 1 to 16.
+    /// How many tasks act on their own: 1 to 16.
     pub callers: u32,
-    /// 1 to 16. Element e belongs to caller `e / elements_per_caller`.
+    /// How many pause elements each caller has: 1 to 16. Element e belongs to caller `e / elements_per_caller`.
     pub elements_per_caller: u32,
-    /// 1 to 8.
+    /// How many shared numbers there are: 1 to 8.
     pub volumes: u32,
-    /// 1 to 8.
+    /// How many latches the one latch set has: 1 to 8.
     pub latches: u32,
     /// How many latch requests of a caller may stand at once: 1 to 16.
     pub quota: u32,
     /// How many of them may be of the Posted form: at most the quota.
     pub posted_quota: u32,
-    /// How many events each caller may make: at most 524,287 in all.
+    /// How many events each caller may make, one number for each caller: at most 524,287 in all.
     pub budgets: Vec<u32>,
-    /// The one caller that waits on each event control block: at most 131,072 blocks.
+    /// The one caller that waits on each event control block, and clears it: at most 131,072 blocks.
     pub owners: Vec<u32>,
     /// Numbered from 1: at most 32,768.
     pub exits: Vec<Exit>,
@@ -36,15 +40,25 @@ pub struct Config {
 /// A limit of a configuration, in the order in which they are asked.
 #[derive(Clone, Copy, Debug, PartialEq, Eq)]
 pub enum ConfigLimit {
+    /// There are 1 to 16 callers.
     Callers,
+    /// Each has 1 to 16 elements.
     Elements,
+    /// There are 1 to 8 volumes.
     Volumes,
+    /// There are 1 to 8 latches.
     Latches,
+    /// The quota of requests is 1 to 16.
     Quota,
+    /// That of the Posted form is no higher.
     Posted,
+    /// There is a budget for each caller.
     Budgets,
+    /// There are at most 131,072 event control blocks.
     Ecbs,
+    /// There are at most 32,768 exits.
     Exits,
+    /// Each exit has 1 to 8 targets.
     Targets,
 }
 
@@ -60,7 +74,7 @@ pub enum CheckRefusal {
     BadExit(u32),
     /// The sum of the budgets, which is above 524,287.
     Budget(u64),
-    /// There was no memory.
+    /// There was no memory. Nothing else is wrong with the configuration.
     NoMemory,
 }
 

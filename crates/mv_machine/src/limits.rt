@@ -3,10 +3,10 @@
 /// How many events a run may have.
 pub(crate) const EVENTS_LIMIT: u64 = 524_287;
 
-/// The highest place that an entry may have.
+/// The highest place that an entry may have: the budgets allow one event more.
 pub const HIGHEST_PLACE: u32 = 524_286;
 
-/// The highest generation that the events of a run lead an element to.
+/// The highest generation that the events of a run lead an element to: 18 bits.
 pub const HIGHEST_GENERATION: u32 = 262_143;
 
 /// How many callers a configuration may have.

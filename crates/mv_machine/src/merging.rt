@@ -86,7 +86,7 @@ impl NextPlaces {
     }
 }
 
-/// The memory of a merge: with it `merge` takes none.
+/// The memory of a merge: with it `merge` takes none. It serves one merge.
 #[derive(Drop)]
 pub struct MergeRoom {
     journal: Vec<Entry>,
@@ -97,6 +97,10 @@ pub struct MergeRoom {
 
 impl MergeRoom {
     /// Room for all entries that the budgets allow.
+    ///
+    /// # Errors
+    ///
+    /// `NoMemory` where there is not so much.
     pub fn new(alloc: Global, config: &ValidConfig) -> Result<MergeRoom, NoMemory>
         ensures { IfOk result (λ r. IsRoomFor config.now r) }
     {
@@ -143,7 +147,8 @@ fn ready(logs: &[Log], merged: &[usize], places: &NextPlaces) -> Option<Picked>
 }
 
 /// Puts the callers' entries into one order: again and again the lowest caller whose next entry has its object's next
-/// place gives that entry. It answers no want of memory, and always returns.
+/// place gives that entry. It answers no want of memory, and always returns. There is one log for each caller, in the order of
+/// their numbers; each picked entry costs at most a look at each log.
 pub fn merge(config: &ValidConfig, logs: Vec<Log>, room: MergeRoom) -> Vec<Entry>
     requires history { AreOneHistory config.now logs.items }
     requires room { IsRoomFor config.now room }

@@ -13,12 +13,16 @@ use mv_element::{ElementState, Phase, element_apply};
 /// The state of an object that has a word of its own. The latch set has none.
 #[derive(Clone, Copy, Debug, PartialEq, Eq)]
 pub enum WordState {
+    /// In 32 bits, as its fullword.
     Ecb(EcbWord),
+    /// Generation, phase and code, in 18, 3 and 24 bits.
     Element(ElementState),
+    /// In 32 bits.
     Volume(u32),
 }
 
-/// A word: a place in its 19 high bits, a state in the 45 low ones.
+/// A word: a place in its 19 high bits, a state in the 45 low ones. So one exchange of a word changes both, and no word that was
+/// changed comes back.
 pub fn pack(place: u32, state: WordState) -> u64
     requires place { place < 2 ^ 19 }
     requires fields { HasFields state }
@@ -56,7 +60,7 @@ fn phase_number(phase: Phase) -> u64
 }
 
 /// The place and the state that a word of an object stands for, where it stands for one: its bits are those of a state
-/// of the object's kind.
+/// of the object's kind. Of the object its kind alone is asked.
 pub fn unpack(object: Object, word: u64) -> Option<(u32, WordState)>
     ensures word { result ≡ unpack_of object word }
     ensures fields { IfSome result (λ r. HasFields r.1) }
@@ -107,7 +111,7 @@ fn element_in(generation: u32, phase: u64, code: u32) -> Option<ElementState>
 }
 
 /// One operation on the state of an object: the state after it, and the reply. There is none where the operation is
-/// of another kind of object.
+/// of another kind of object. Who may make it is not asked.
 pub fn state_apply(op: Op, state: WordState) -> Option<(WordState, Reply)>
     requires op { HasOpFields op }
     requires fields { HasFields state }

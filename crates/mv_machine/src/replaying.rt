@@ -23,7 +23,7 @@ use std::alloc::Global;
 pub struct Illegal {
     /// Counted from 0.
     pub index: usize,
-    /// The place and the reply of the entry.
+    /// The place and the reply that the entry has.
     pub kept: (u32, Reply),
     /// Those that the machine gives, or nothing where it does not admit the operation.
     pub machine: Option<(u32, Reply)>,
@@ -32,7 +32,9 @@ pub struct Illegal {
 /// Why a list of entries was not replayed to its end.
 #[derive(Clone, Copy, Debug, PartialEq, Eq)]
 pub enum ReplayRefusal {
+    /// The list is not legal.
     Illegal(Illegal),
+    /// There was no memory for the opening state; the list was not judged.
     NoMemory,
 }
 
@@ -47,7 +49,22 @@ impl From<NoMemory> for ReplayRefusal {
 }
 
 /// Goes through a list of entries from the opening on. Ok exactly where the list is legal, with the state after it,
-/// unless there is no memory for the opening state. The budgets are not asked.
+/// unless there is no memory for the opening state. The budgets are not asked. Its places are at
+/// most 524,286, as those of every run are. The time is that of a step of the machine for each entry.
+///
+/// # Errors
+///
+/// Those of `ReplayRefusal`.
+///
+/// # Example
+///
+/// ```
+/// match replay(alloc, &config, &journal) {
+///     Ok(state) => { .. }
+///     Err(ReplayRefusal::Illegal(Illegal { index, .. })) => { .. }
+///     Err(ReplayRefusal::NoMemory) => { .. }
+/// }
+/// ```
 pub fn replay(
     alloc: Global,
     config: &ValidConfig,

@@ -37,7 +37,7 @@ struct VolumeCell {
     number: u32,
 }
 
-/// The place and the state of every object of a configuration.
+/// The place and the state of every object of a configuration: the machine of one thread. `step` makes one event.
 #[derive(Drop)]
 pub struct State {
     ecbs: Vec<EcbCell>,
@@ -50,7 +50,12 @@ pub struct State {
 }
 
 impl State {
-    /// The state before the first event, with room for all that `step` will do.
+    /// The state before the first event, with room for all that `step` will do: blocks are zero, elements free and of generation
+    /// 0, volumes 0, and nothing is requested.
+    ///
+    /// # Errors
+    ///
+    /// `NoMemory` where there is not enough.
     pub fn opening(alloc: Global, config: &ValidConfig) -> Result<State, NoMemory>
         ensures system { IfOk result (λ s. system_of s ≡ opening_of config.now) }
         ensures wakes { IfOk result (λ s. wakes_of s ≡ []) }
@@ -99,7 +104,7 @@ impl State {
         }
     }
 
-    /// How many events an object has had.
+    /// How many events an object has had: the place of its next.
     pub fn place(&self, object: Object) -> u32
         requires { Exists self.now object }
         ensures { result ≡ place_of (system_of self.now) object }
@@ -153,7 +158,8 @@ impl State {
 
     /// One operation of a caller on an object: the place that the object had, and the reply. The place rises by one,
     /// and is the number of an obtain's request. There is no answer, and nothing changes, exactly where the operation
-    /// is not admitted.
+    /// is not admitted: there is no such caller or object, or the operation is not for that caller or not within its limits. It
+    /// never waits, and needs no memory.
     pub fn step(
         &mut self,
         config: &ValidConfig,

@@ -14,7 +14,7 @@ use mv_latch::LatchSet;
 use std::alloc::Global;
 use std::marker::Model;
 
-/// A configuration that was checked.
+/// A configuration that was checked, by `Config::check`. It does not change.
 #[derive(Drop)]
 pub struct ValidConfig {
     config: Config,
@@ -62,7 +62,7 @@ impl ValidConfig {
     }
 
     /// At most how many posts one post of an event control block leads to, itself among them: 1 to 524,288, where
-    /// 524,288 also stands for all above. It takes the one exit that leads to most.
+    /// 524,288 also stands for all above. It takes the one exit that leads to most. So many events a post of it may take.
     pub fn reach(&self, ecb: u32) -> u32
         requires { ecb < length self.now.owners }
         ensures { result ≡ reach self.now ecb }
@@ -150,6 +150,10 @@ impl ValidConfig {
     }
 
     /// A latch set with this configuration's latches and quotas, in which nothing is requested.
+    ///
+    /// # Errors
+    ///
+    /// `NoMemory` where there is no room for the requests that the quotas allow.
     pub fn open_latches(&self, alloc: Global) -> Result<LatchSet, NoMemory>
         ensures { IfOk result (λ s. s ≡ opened self.now.latches self.now.callers self.now.quota self.now.posted_quota) }
     {
