@@ -27,7 +27,8 @@ use std::alloc::Global;
 use std::marker::Model;
 use std::sync::Wait;
 
-/// The shared objects of a configuration. It is shared by reference; each caller makes its calls with its own `Caller`.
+/// The shared objects of a configuration. It is shared by reference; each caller makes its calls with its own `Caller`. Who writes
+/// tasks takes a `Station` of mv_wait, which wakes those that park; here nothing parks, and a call that waits tries again.
 #[derive(Drop)]
 pub struct Board {
     pub(crate) config: ValidConfig,
@@ -56,6 +57,14 @@ impl Board {
     /// # Errors
     ///
     /// `NoMemory` where there is not enough. The configuration is dropped then.
+    ///
+    /// # Example
+    ///
+    /// ```
+    /// let (board, mut callers) = Board::open(alloc, config)?;
+    /// let reply = board.event(rt, &mut callers[0], Object::Ecb(0), Op::Ecb(EcbOp::Post(7)));
+    /// let closed = board.close(callers);
+    /// ```
     pub fn open(alloc: Global, config: ValidConfig) -> Result<(Board, Vec<Caller>), NoMemory>
         ensures config { IfOk result (λ r. r.0.config ≡ config) }
         ensures callers { IfOk result (λ r. AreFresh r.0 0 r.1.items) }
@@ -175,7 +184,14 @@ impl Board {
 
     /// One exchange of an object's word: the event where the word is the one expected, and otherwise no event, but a look.
     /// It waits for nobody. The words are those that `look` answers. It is not for the latch set, which has no word, and the
-    /// caller must have an event left.
+    /// caller must have an event left. The operation is one that `event` would take.
+    ///
+    /// # Example
+    ///
+    /// ```
+    /// let word = board.look(&mut caller, object);
+    /// if let Err(Moved(now)) = board.try_event(&mut caller, object, op, word) { .. }
+    /// ```
     ///
     /// # Errors
     ///

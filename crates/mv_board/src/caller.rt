@@ -47,7 +47,8 @@ impl Events {
     }
 }
 
-/// One caller's seat at a board. No other caller's call changes anything of it.
+/// One caller's seat at a board. No other caller's call changes anything of it. One thread has it at a time, and `close` takes it
+/// back.
 #[derive(Drop)]
 pub struct Caller {
     pub(crate) events: Events,
@@ -66,7 +67,7 @@ impl Model for Caller {
 }
 
 impl Caller {
-    /// Its number. There is such a caller.
+    /// Its number, counted from 0. There is such a caller.
     pub fn number(&self) -> u32
         ensures number { result ≡ self.now.number }
         ensures exists { AllByRecursion (λ (c : Setup). result < c.callers) self.now.about }
@@ -83,14 +84,15 @@ impl Caller {
         self.events.left
     }
 
-    /// Its entries so far, in order.
+    /// Its entries so far, in order: its part of the history, whatever the others do.
     pub fn log(&self) -> &[Entry]
         ensures { result.now ≡ self.now.log }
     {
         &self.events.log
     }
 
-    /// The wakes of its last event on the latch set, in order. Before one there are none.
+    /// The wakes of its last event on the latch set, in order: who is to be posted or woken, which is left to the caller. Before
+    /// such an event there are none.
     pub fn wakes(&self) -> &[Wake]
         ensures wakes { result.now ≡ self.now.wakes }
         ensures last { result.now ≡ last_of self.now.told }

@@ -29,7 +29,7 @@ pub struct Closed {
     pub config: ValidConfig,
     /// All entries, as one legal history.
     pub journal: Vec<Entry>,
-    /// Where the history leads.
+    /// Where the history leads: the state of each object.
     pub state: State,
 }
 
@@ -106,7 +106,7 @@ impl Model for Closing {
 }
 
 impl Closing {
-    /// Takes the next caller back. It needs no memory.
+    /// Takes the next caller back: the one whose number is how many came before. It needs no memory.
     pub fn take_back(&mut self, caller: Caller)
         requires board { IsOf self.old.board caller }
         requires next { caller.number ≡ length self.old.back }
