@@ -31,23 +31,24 @@ impl Model for Name {
     ghost view = { λ n. n.bytes.items };
 }
 
-/// One step of a job. Latches and volumes are numbered from 0 to 7.
+/// One step of a job. Latches and volumes are numbered from 0 to 7. The steps are this project's own.
 #[derive(Debug, Drop)]
 pub enum Step {
-    /// Writes a line of output.
+    /// Writes a line of output (PRINT).
     Print(Text),
-    /// Obtains this latch.
+    /// Obtains this latch, which is above each that the job holds (USE). The job waits where others are in the way.
     Use(u32, Mode),
-    /// Releases this latch.
+    /// Releases this latch, which the job holds (FREE).
     Free(u32),
-    /// Adds to this volume an amount, 1 to 9999.
+    /// Adds to this volume an amount, 1 to 9999 (COUNT). The job holds the latch of the same number exclusive.
     Count(u32, u32),
-    /// Reads this volume twice.
+    /// Reads this volume twice, and writes a line that says whether both reads told one number (SCAN). The job holds the latch of
+    /// the same number.
     Scan(u32),
-    /// Ends the job with this end code, `2^24 + 4096 * system + user`, of which system (1 to 4095) or user (0 to 4095) alone
-    /// is given and the other is 0.
+    /// Ends the job with this end code (ABEND), `2^24 + 4096 * system + user`, of which system (1 to 4095) or user (0 to 4095)
+    /// alone is given and the other is 0.
     Abend(u32),
-    /// Ends the job with this return code, 0 to 4095.
+    /// Ends the job with this return code, 0 to 4095 (RETURN).
     Return(u32),
 }
 

@@ -31,6 +31,7 @@ use std::alloc::{AllocError, AllocFailed};
 #[derive(Clone, Copy, Debug, PartialEq, Eq)]
 pub struct DeckFault {
     pub line: u32,
+    /// 1 to 15.
     pub kind: u32,
 }
 

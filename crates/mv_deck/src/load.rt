@@ -13,8 +13,18 @@ pub const MOST_JOBS: u32 = 2000;
 /// The text of a deck of so many jobs, 1 to 2000: the same for the same number.
 ///
 /// Job i, counted from 0, counts 1 + i mod 9 in volume i mod 8 under the latch of that number, and prints `WORK` and i. Every
-/// fourth job scans its volume, every fifth waits for an earlier one, and every seventh abends. The only error is want of
-/// memory.
+/// fourth job scans its volume, every fifth waits for an earlier one, and every seventh abends. The text is below 200,000 bytes,
+/// has no fault, and can be run by 1 to 8 initiators.
+///
+/// # Errors
+///
+/// `NoMemory` where there is no room for the text.
+///
+/// # Example
+///
+/// ```
+/// let deck = read_deck(alloc, &load_deck(alloc, 100)?, 4)?;
+/// ```
 pub fn load_deck(alloc: Global, jobs: u32) -> Result<Vec<u8>, NoMemory>
     requires jobs { (1 ≤ jobs) × (jobs ≤ most_jobs) }
     ensures text { IfOk result (λ text. text.items ≡ load_text jobs) }

@@ -34,6 +34,16 @@ use std::alloc::{AllocError, Global};
 ///
 /// `Fault` where the text has a fault: its first. `NoMemory` where there is no room for the jobs, which may show before a
 /// fault is reached.
+///
+/// # Example
+///
+/// ```
+/// match read_deck(alloc, text, 2) {
+///     Ok(deck) => { .. }
+///     Err(DeckRefusal::Fault(DeckFault { line, kind })) => { .. }
+///     Err(DeckRefusal::NoMemory) => { .. }
+/// }
+/// ```
 pub fn read_deck(alloc: Global, bytes: &[u8], initiators: u32) -> Result<Deck, DeckRefusal>
     requires short { length bytes.now < 2 ^ 32 - 1 }
     requires initiators { (1 ≤ initiators) × (initiators ≤ 8) }

@@ -21,14 +21,14 @@ use std::alloc::Global;
 // How many volumes there are.
 const VOLUMES: u32 = 8;
 
-/// What a run of a deck came to.
+/// What a run of a deck came to, job by job in the order of the deck.
 #[derive(Drop)]
 pub struct SpoolRun {
     /// What it ran with.
     pub config: ValidConfig,
     /// Its events, in order.
     pub journal: Vec<Entry>,
-    /// The end code of each job.
+    /// The end code of each job, as `write_report` takes them.
     pub ends: Vec<u32>,
     /// The lines of each job.
     pub lines: Vec<Lines>,
@@ -64,7 +64,12 @@ fn told_end(entry: &Entry, jobs: u32) -> Option<ToldEnd>
     }
 }
 
-/// The end of each of so many jobs that a history of their run tells, 0 where it tells none. Linear in the history.
+/// The end of each of so many jobs that a history of their run tells, 0 where it tells none; where it tells more, the last. Linear
+/// in the history.
+///
+/// # Errors
+///
+/// `NoMemory` where there is no room for the ends.
 pub fn ends_of(alloc: Global, jobs: u32, journal: &[Entry]) -> Result<Vec<u32>, NoMemory>
     requires few { jobs < 2 ^ 28 }
     ensures ends { IfOk result (λ ends. ends.items ≡ told_ends jobs journal.now) }
@@ -79,7 +84,11 @@ pub fn ends_of(alloc: Global, jobs: u32, journal: &[Entry]) -> Result<Vec<u32>, 
     Ok(ends)
 }
 
-/// The number that each volume holds.
+/// The number that each of the eight volumes holds.
+///
+/// # Errors
+///
+/// `NoMemory` where there is no room for them.
 pub fn volumes_of(alloc: Global, state: &State) -> Result<Vec<u32>, NoMemory>
     requires volumes { (volume : ℕ) → volume < 8 → Exists state.now (Object.Volume volume) }
     ensures numbers { IfOk result (λ volumes. volumes.items ≡ numbers (system_of state.now)) }
@@ -94,6 +103,10 @@ pub fn volumes_of(alloc: Global, state: &State) -> Result<Vec<u32>, NoMemory>
 /// What a run of this deck came to, of its closed history and the machine that it led to: the deck's ends, lines and totals. The
 /// lines that PRINT steps wrote stand in the deck alone; those of SCAN steps say what every run keeps to, that both reads told
 /// one number. Linear in the deck and in the history.
+///
+/// # Errors
+///
+/// `NoMemory` where there is no room for ends, lines and volumes; configuration and journal are dropped then.
 pub fn spool_run(
     alloc: Global,
     deck: &Deck,

@@ -123,8 +123,18 @@ fn exits_of(alloc: Global, jobs: u32) -> Result<Vec<Exit>, NoMemory>
     Ok(exits)
 }
 
-/// The configuration of a run of this deck by so many initiators. Nothing but want of memory refuses that of a deck which they
-/// can run.
+/// The configuration of a run of this deck by 1 to 8 initiators: callers are the reader, the scheduler, the initiators and the
+/// writer. Linear in the deck.
+///
+/// # Errors
+///
+/// `NoMemory` where there is not enough. Nothing else refuses a deck that they can run.
+///
+/// # Example
+///
+/// ```
+/// let config = spool_config(alloc, &deck, 2)?;
+/// ```
 pub fn spool_config(alloc: Global, deck: &Deck, initiators: u32) -> Result<ValidConfig, NoMemory>
     requires some { 1 ≤ initiators }
     requires few { initiators ≤ 8 }

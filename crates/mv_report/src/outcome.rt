@@ -17,16 +17,27 @@ const VOLUMES: usize = 8;
 /// What a deck comes to.
 #[derive(Debug, Drop)]
 pub struct Outcome {
-    /// The end code of each job.
+    /// The end code of each job, in the order of the deck, as `write_report` takes them.
     pub ends: Vec<u32>,
-    /// The lines of each job.
+    /// The lines of each job. One that is not run has none.
     pub lines: Vec<Lines>,
     /// What each volume holds at the end.
     pub volumes: [u32; VOLUMES],
 }
 
 /// What a deck comes to, job after job. A volume whose total is above `u32::MAX` holds `u32::MAX`; no deck that can be run has
-/// such a total. The only error is want of memory, and the time is linear in the deck and in what its jobs write.
+/// such a total. The time is linear in the deck and in what its jobs write. Nothing is run: it is what every run comes to.
+///
+/// # Errors
+///
+/// `NoMemory` where there is no room for what the jobs write.
+///
+/// # Example
+///
+/// ```
+/// let outcome = outcome_of(alloc, &deck)?;
+/// let text = write_report(alloc, &deck, &outcome.ends, &outcome.lines, &outcome.volumes)?;
+/// ```
 pub fn outcome_of(alloc: Global, deck: &Deck) -> Result<Outcome, NoMemory>
     ensures ends { IfOk result (λ outcome. outcome.ends.items ≡ ends (deck_data deck.now)) }
     ensures lines { IfOk result (λ outcome. outcome.lines.items ≡ lines (deck_data deck.now)) }

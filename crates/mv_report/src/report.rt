@@ -156,8 +156,12 @@ pub(crate) fn push_closing(
 ///
 /// An end is an end code: 0 to 4095 of a job that ended, its return code; `2^24 + 4096 * system + user` of one that
 /// abended; `2^25` of one that was not run, whose lines do not show. Of an abend a system code stands in three
-/// hexadecimal digits, a user code in four decimal ones. The only error is want of memory, and the time is linear in what
-/// is written.
+/// hexadecimal digits, a user code in four decimal ones, as the books write completion codes. The time is linear in what is
+/// written.
+///
+/// # Errors
+///
+/// `NoMemory` where there is no room for the text.
 pub fn write_report(
     alloc: Global,
     deck: &Deck,

@@ -10,7 +10,11 @@ use std::alloc::Global;
 
 /// The summary of a load whose jobs came to these ends on so many initiators, and which left this in the eight volumes.
 ///
-/// Ends are those of `write_report`. The only error is want of memory, and the time is linear in the jobs.
+/// Ends are those of `write_report`. The time is linear in the jobs.
+///
+/// # Errors
+///
+/// `NoMemory` where there is no room for the text.
 pub fn write_summary(
     alloc: Global,
     jobs: u32,
