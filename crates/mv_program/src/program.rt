@@ -144,6 +144,17 @@ fn convert<D: Source, R: Sink>(alloc: Global, input: &mut D, report: &mut R) -> 
 /// Nothing is read and no memory is taken where the words are no command. `spool` runs the deck of the input, and `load` a deck
 /// of N jobs, by I initiators beside a reader, a scheduler and a writer, each on a thread of its own, which have all ended before
 /// anything is written; they pass the gate at each point of each job. The other commands start no thread.
+///
+/// # Errors
+///
+/// Each `Status` but `Done`; the first cause that is met. What was written before it stays.
+///
+/// # Example
+///
+/// ```
+/// let status = run_program(rt, alloc, &words, &mut input, &mut report, &mut journal, &mut notes, &OpenGate);
+/// ExitCode::from(status.exit())
+/// ```
 pub fn run_program<X: Threads + Wait + Sync, D: Source, R: Sink, K: Sink, N: Sink, G: Gate + Sync>(
     rt: &X,
     alloc: Global,

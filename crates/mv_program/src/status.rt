@@ -17,15 +17,15 @@ pub enum Status {
     Words,
     /// The deck has this fault, its first.
     Deck(DeckFault),
-    /// The input has more bytes than the limit.
+    /// The input has more bytes than the command's limit.
     TooLong,
     /// The input could not be read.
     ReadFailed,
-    /// The report could not be written.
+    /// The report could not be written whole: a front of it may stand there.
     ReportFailed,
-    /// The journal could not be written.
+    /// The journal could not be written whole: a front of it may stand there, behind the whole report.
     JournalFailed,
-    /// Memory ran out.
+    /// Memory ran out, before anything was written.
     NoMemory,
     /// The journal is replayed up to this line, whose entry is the first that is not the machine's.
     Illegal(u32),
@@ -34,7 +34,7 @@ pub enum Status {
 }
 
 impl Status {
-    /// The exit status of the process.
+    /// The exit status of the process: 0 for `Done` alone. docs/FORMATS.md has them all.
     pub fn exit(&self) -> u8
         ensures { result ≡ exit_of self.now }
     {

@@ -28,7 +28,12 @@ fn second_version(alloc: Global, legal: LegalJournal) -> Result<Vec<u8>, NoMemor
 /// Judges the journal on the input as `replay_command` does, and where it is legal the report gains its text in version 2,
 /// with the call numbers that the machine's rules give; a legal text of that version is its own conversion.
 ///
-/// The text is made in memory before it is written, in time linear in the text, but for the events on a latch set.
+/// The text is made in memory before it is written, in time linear in the text, but for the events on a latch set. It waits as
+/// long as its streams do, and for nothing else.
+///
+/// # Errors
+///
+/// Each `ReplayStatus` but `Done`. Where the text is the cause, nothing was written.
 pub fn convert_command<D: Source, R: Sink>(
     alloc: Global,
     input: &mut D,

@@ -30,7 +30,21 @@ fn legal_line(count: u32) -> Line
 ///
 /// The input is read whole before it is judged, and nothing is written before that is done. The budgets of the
 /// configuration are not asked. Time is linear in the text, but for the events on a latch set, each of which takes a
-/// small multiple of the requests that stand there.
+/// small multiple of the requests that stand there. It waits as long as its streams do, and for nothing else.
+///
+/// # Errors
+///
+/// Each `ReplayStatus` but `Done`. Where the text is the cause, nothing was written.
+///
+/// # Example
+///
+/// ```
+/// match replay_command(alloc, &mut input, &mut report) {
+///     ReplayStatus::Done => { .. }
+///     ReplayStatus::Illegal(line) => { .. }
+///     other => { .. }
+/// }
+/// ```
 pub fn replay_command<D: Source, R: Sink>(
     alloc: Global,
     input: &mut D,

@@ -88,11 +88,23 @@ fn run_tasks<R: Threads + Wait + Sync, G: Gate + Sync>(
 }
 
 /// Runs a deck by a reader, a scheduler, so many initiators and a writer, each on a thread of its own, and answers what it came
-/// to. All memory that the tasks use is taken before the first of them starts. The gate is passed at each point of each job.
+/// to. All memory that the tasks use is taken before the first of them starts. The gate is passed at each point of each job;
+/// `OpenGate` lets every task pass. The deck is one that `read_deck` gave for as many initiators, 1 to 8.
+///
+/// It returns when all tasks have ended. Nothing says that they do: where the machine can't start a thread for a task, the others
+/// may wait for it for ever.
 ///
 /// # Errors
 ///
 /// `NoMemory` where there is not enough, before the tasks start or after all have ended.
+///
+/// # Example
+///
+/// ```
+/// let deck = read_deck(alloc, text, 2)?;
+/// let run = run_deck(rt, alloc, &deck, 2, &OpenGate)?;
+/// let report = write_report(alloc, &deck, &run.ends, &run.lines, &run.volumes)?;
+/// ```
 pub fn run_deck<R: Threads + Wait + Sync, G: Gate + Sync>(
     rt: &R,
     alloc: Global,
