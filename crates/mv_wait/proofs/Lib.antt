@@ -21,6 +21,8 @@ pub mod Waits
 pub mod Doubled
 pub mod Parts
 pub mod Unrefusing
+-- a wait for one block, for the programs above
+pub mod OneBlock
 -- posts with their exits
 pub mod Exits
 pub mod Posts

@@ -1,0 +1,145 @@
+-- A wait for one block that is not refused arms it, settles it and finds it complete, and answers the code with which it was posted.
+-- For the programs above that take what a block was posted with.
+use Rattle.std.proofs.Common.{◌≡◌, ℕ, ◌+◌, ◌≤◌, false, List, [], ◌∷◌, ◌++◌, length, Option, Some, None, Result, Ok, get_or, refl, sym, ap}
+use Rattle.std.proofs.Common.{◌∙◌, arith}
+use Rattle.mv_ecb.specs.declared.operation.EcbOp.TheVariants.{Arm, Settle}
+use Rattle.mv_ecb.specs.declared.operation.EcbReply.TheVariants as ecb_reply
+use Rattle.mv_machine.specs.declared.entry.Entry.{Entry}
+use Rattle.mv_machine.specs.declared.entry.Object.{Object}
+use Rattle.mv_machine.specs.declared.entry.Object.TheVariants.{Ecb}
+use Rattle.mv_machine.specs.declared.entry.Op.{Op}
+use Rattle.mv_machine.specs.declared.entry.Op.TheVariants as op_on
+use Rattle.mv_machine.specs.declared.entry.Reply.{Reply}
+use Rattle.mv_machine.specs.declared.entry.Reply.TheVariants as reply_of
+use Rattle.mv_machine.specs.Setup.{Setup}
+use Rattle.mv_board.specs.Faces.{CallerFace}
+use Rattle.mv_calls.specs.Keeping.{Kept, kept_of}
+use Rattle.mv_calls.specs.Program.{Program, Done, Heard, Says, left, asks, heard, entries, on_ecb, unless_refused}
+use Rattle.mv_calls.specs.Refusal.{Refusal}
+use Rattle.mv_calls.specs.Waits.{wait, wait_refusal, is_others_block, armed, settled, enough, arm_all, settle_all}
+use Rattle.mv_wait.specs.Answers.{slots_of}
+use Rattle.mv_wait.specs.Run.{IsServed}
+use Rattle.mv_wait.specs.declared.waiting.WaitSlot.{WaitSlot}
+use Rattle.mv_wait.specs.declared.waiting.WaitSlot.TheVariants as slot
+
+-- ---- an event that is asked for
+
+abbrev pub event : Object → Op → Object × Op
+event o op = (o, op)
+
+abbrev object_in : Object → Option (Object × Op) → Object
+object_in o None = o
+object_in o (Some x) = x.0
+
+abbrev op_in : Op → Option (Object × Op) → Op
+op_in op None = op
+op_in op (Some x) = x.1
+
+pub asked_is : (o p : Object) (op oq : Op) → Some (event o op) ≡ Some (event p oq) → (p ≡ o) × (oq ≡ op)
+asked_is o p op oq q = (sym (ap (object_in o) q), sym (ap (op_in op) q))
+
+-- ---- the wait
+
+-- what it adds to the log of its task
+pub record Waited (ecb code : ℕ) (t u : CallerFace) : Type 0 where
+  pub first : Entry
+  pub second : Entry
+  pub number : u.number ≡ t.number
+  pub logged : u.log ≡ t.log ++ first ∷ second ∷ []
+  pub left : u.left + 2 ≡ t.left
+  pub arm : (first.object ≡ Ecb ecb) × (first.op ≡ op_on.Ecb Arm)
+  pub settle : (second.object ≡ Ecb ecb) × (second.op ≡ op_on.Ecb Settle)
+  pub found : second.reply ≡ reply_of.Ecb (ecb_reply.Complete code)
+
+-- that, and the answer that says it
+abbrev pub FoundIt : ℕ → Result (List (Option ℕ)) Refusal → CallerFace → CallerFace → Type 0
+FoundIt ecb a t u = (code : ℕ) × (a ≡ Ok (Some code ∷ [])) × Waited ecb code t u
+
+-- a block of the task's own that is not extended is not refused
+pub unrefused : (c : Setup) (ecb : ℕ) (kept : Kept) → is_others_block c kept ecb ≡ false → kept.extended ecb ≡ false
+    → wait_refusal c 1 (ecb ∷ []) kept ≡ None
+unrefused c ecb kept own plain = rw (own, plain) refl
+
+-- the program behind the arm
+abbrev settling : ℕ → Program (Result (List (Option ℕ)) Refusal)
+settling ecb = settle_all (ecb ∷ []) [] (enough 1)
+
+-- behind the reply to the arm another event is asked for
+asks_settle : (ecb : ℕ) (r : Reply) (x : Object × Op) → asks (on_ecb r (armed (settling ecb))) ≡ Some x
+    → on_ecb r (armed (settling ecb)) ≡ settling ecb
+asks_settle ecb (reply_of.Ecb ecb_reply.Armed) x e = refl
+asks_settle ecb (reply_of.Ecb (ecb_reply.Complete c)) x e = refl
+asks_settle ecb (reply_of.Ecb r) x e = absurd (cc e)
+asks_settle ecb r x e = absurd (cc e)
+
+not_done_yet : (ecb : ℕ) (r : Reply) (a : Result (List (Option ℕ)) Refusal) → on_ecb r (armed (settling ecb)) ≡ Done a → ⊥
+not_done_yet ecb (reply_of.Ecb ecb_reply.Armed) a e = cc e
+not_done_yet ecb (reply_of.Ecb (ecb_reply.Complete c)) a e = cc e
+not_done_yet ecb (reply_of.Ecb r) a e = cc e
+not_done_yet ecb r a e = cc e
+
+-- and its end has a code
+found_by : (r : Reply) (a : Result (List (Option ℕ)) Refusal) → on_ecb r (settled (λ slot. enough 1 (slot ∷ []))) ≡ Done a
+    → (code : ℕ) × (r ≡ reply_of.Ecb (ecb_reply.Complete code)) × (a ≡ Ok (Some code ∷ []))
+found_by (reply_of.Ecb (ecb_reply.Complete code)) a e = (code, refl, cc e)
+found_by (reply_of.Ecb ecb_reply.Open) a e = absurd (cc e)
+found_by (reply_of.Ecb r) a e = absurd (cc e)
+found_by r a e = absurd (cc e)
+
+waited_by : (ecb : ℕ) (p : Program (Result (List (Option ℕ)) Refusal)) (a : Result (List (Option ℕ)) Refusal) (t u : CallerFace)
+    (hs : List Heard) → p ≡ arm_all (ecb ∷ []) (settling ecb) → Says p hs → left p hs ≡ Done a → length hs ≤ 2 → u.number ≡ t.number
+    → u.log ≡ t.log ++ entries hs → u.left + length hs ≡ t.left → FoundIt ecb a t u
+waited_by ecb p a t u [] is says done few number logged spent = absurd (cc (sym is ∙ done))
+waited_by ecb p a t u (h ∷ []) is says done few number logged spent =
+    absurd (not_done_yet ecb h.entry.reply a (ap (λ q. heard q h) (sym is) ∙ done))
+waited_by ecb p a t u (h ∷ g ∷ []) is says done few number logged spent =
+    let asked : Some (event (Ecb ecb) (op_on.Ecb Arm)) ≡ Some (event h.entry.object h.entry.op) = ap asks (sym is) ∙ says.0 in
+    let next : asks (on_ecb h.entry.reply (armed (settling ecb))) ≡ Some (g.entry.object, g.entry.op) =
+    ap (λ q. asks (heard q h)) (sym is) ∙ says.1.0 in
+    let goes = asks_settle ecb h.entry.reply (g.entry.object, g.entry.op) next in
+    let settles : Some (event (Ecb ecb) (op_on.Ecb Settle)) ≡ Some (event g.entry.object g.entry.op) = ap asks (sym goes) ∙ next in
+    let found = found_by g.entry.reply a (ap (λ q. heard q g) (sym goes) ∙ ap (λ q. heard (heard q h) g) (sym is) ∙ done) in (
+      found.0,
+      found.2,
+      record {
+        first = h.entry;
+        second = g.entry;
+        number = number;
+        logged = logged;
+        left = spent;
+        arm = asked_is (Ecb ecb) h.entry.object (op_on.Ecb Arm) h.entry.op asked;
+        settle = asked_is (Ecb ecb) g.entry.object (op_on.Ecb Settle) g.entry.op settles;
+        found = found.1;
+      },
+    )
+waited_by ecb p a t u (h ∷ g ∷ f ∷ hs) is says done few number logged spent = absurd (omega arith)
+
+pub waited_made : (c : Setup) (ecb : ℕ) (Is : Result (List (Option ℕ)) Refusal → Type 0) (t u : CallerFace)
+    → (s : IsServed 2 (wait c 1 (ecb ∷ [])) Is t u)
+    → wait_refusal c 1 (ecb ∷ []) (kept_of t.number t.log) ≡ None → FoundIt ecb s.answer t u
+waited_made c ecb Is t u s accepted = waited_by ecb (wait c 1 (ecb ∷ []) (kept_of t.number t.log)) s.answer t u s.made.events
+    (ap (λ why. unless_refused why (arm_all (ecb ∷ []) (settling ecb))) accepted)
+    s.made.done.says s.made.done.done s.made.few s.same.number s.made.longer.logged s.left
+
+-- ---- the one slot of a wait that answers so
+
+pub slot_is : (out : List WaitSlot) (a : Result (List (Option ℕ)) Refusal) (code : ℕ) → a ≡ Ok (slots_of out) → a ≡ Ok (Some code ∷ [])
+    → out ≡ slot.Complete code ∷ []
+slot_is out a code is found = go out (cc (sym is ∙ found)) where
+  go : (out : List WaitSlot) → slots_of out ≡ Some code ∷ [] → out ≡ slot.Complete code ∷ []
+  go [] e = absurd (cc e)
+  go (slot.Complete d ∷ []) e = (λ i. slot.Complete (same i) ∷ []) where
+    same : d ≡ code
+    same = cc e
+  go (slot.Open ∷ out) e = absurd (cc e)
+  go (slot.Complete d ∷ x ∷ out) e = absurd (cc e)
+
+-- so it is not open
+pub found_open : (out : List WaitSlot) (code : ℕ) (d : WaitSlot) → out ≡ slot.Complete code ∷ [] → get_or out 0 d ≡ slot.Open → ⊥
+found_open out code d is at = let e : slot.Complete code ≡ slot.Open = sym (ap (λ xs. get_or xs 0 d) is) ∙ at in cc e
+
+-- and its code is that code
+pub found_code : (out : List WaitSlot) (code other : ℕ) (d : WaitSlot) → out ≡ slot.Complete code ∷ []
+    → get_or out 0 d ≡ slot.Complete other → code ≡ other
+found_code out code other d is at =
+    let e : slot.Complete code ≡ slot.Complete other = sym (ap (λ xs. get_or xs 0 d) is) ∙ at in cc e
