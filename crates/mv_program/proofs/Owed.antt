@@ -12,7 +12,7 @@ use Rattle.mv_program.specs.declared.command.Command.{Command}
 use Rattle.mv_program.specs.declared.command.Command.TheVariants.{Spool, Load, Replay, Convert}
 use Rattle.mv_program.specs.declared.status.Status.{Status}
 use Rattle.mv_program.specs.declared.status.Status.TheVariants.{Done, Words, Deck, TooLong, ReadFailed, ReportFailed, JournalFailed, NoMemory, Illegal, Text}
-use Rattle.mv_program.specs.Outcome.{IsFound, DeckAsks, DeckOf, EndsLoad, InputOf, Asks, has_journal}
+use Rattle.mv_program.specs.Program.{IsFound, DeckAsks, DeckOf, EndsLoad, InputOf, Asks, has_journal}
 use Rattle.mv_program.specs.Status.{replay_of}
 
 -- ---- decks

@@ -24,7 +24,7 @@ use Rattle.mv_plan.proofs.deck.Planned.{planned}
 use Rattle.mv_plan.proofs.deck.Valid.{spool_setup_is_valid}
 use Rattle.mv_plan.proofs.results.HandedOut.{are_handed_out}
 use Rattle.mv_program.specs.Command.{most_initiators}
-use Rattle.mv_program.specs.Run.{TellsHistory, IsJournalOfRun}
+use Rattle.mv_program.specs.Texts.{TellsHistory, IsJournalOfRun}
 
 -- the text of a configuration and of legal entries that have one tells them
 told_by : (c : Setup) (es : List Entry) (text : List ℕ) → HasJournal c es → text ≡ journal_text c es → Legal c es → TellsHistory text c es

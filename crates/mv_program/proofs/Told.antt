@@ -8,7 +8,7 @@ use Rattle.mv_program.specs.declared.command.Command.{Command}
 use Rattle.mv_program.specs.declared.command.Command.TheVariants.{Spool, Load}
 use Rattle.mv_program.specs.declared.status.Status.{Status}
 use Rattle.mv_program.specs.declared.status.Status.TheVariants.{Done, Words, Deck, TooLong, ReadFailed, ReportFailed, JournalFailed, NoMemory, Illegal, Text}
-use Rattle.mv_program.specs.Outcome.{TellsRun, TellsLoad, TellsReport, Told, Writes, extent_of}
+use Rattle.mv_program.specs.Program.{TellsRun, TellsLoad, TellsReport, Told, Writes, extent_of}
 use Rattle.mv_program.specs.Status.{replay_of}
 
 -- what holds of the command holds of the words that are it

@@ -1,4 +1,4 @@
 pub mod Command
 pub mod Status
-pub mod Run
-pub mod Outcome
+pub mod Texts
+pub mod Program

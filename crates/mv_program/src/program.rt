@@ -1,4 +1,4 @@
-//! The top call: all that the program does. Its clauses cite specs/Outcome and specs/Status.
+//! The top call: all that the program does. Its clauses cite specs/Program and specs/Status.
 
 ghost use Rattle.std.specs.Prelude.{[], ◌≡◌, ◌≢◌, ◌≤◌, ◌↔◌, map, true, false, Some, None, IfSome, IsSomeAnd};
 ghost use Rattle.std.specs.String.{string_bytes};
@@ -7,7 +7,7 @@ ghost use Rattle.mv_ending.specs.Ending.{EndsAs};
 ghost use Rattle.mv_ending.specs.Note.{NotesAfter};
 ghost use Rattle.mv_ending.specs.Written.{IfUnwritten, WroteOf};
 ghost use Rattle.mv_program.specs.Command.{command_of as command_by_words, AreInitiators, AreJobs, most_initiators};
-ghost use Rattle.mv_program.specs.Outcome.{Asks, EndsLoad, InputOf, TellsLoad, Told, extent_of, has_journal, reads_input, Writes};
+ghost use Rattle.mv_program.specs.Program.{Asks, EndsLoad, InputOf, TellsLoad, Told, extent_of, has_journal, reads_input, Writes};
 ghost use Rattle.mv_program.specs.Status.{note_of as note_by_status, replay_of};
 ghost use Rattle.mv_replay.specs.Outcome.{IsReplayReport, IsConversion, ReportAfter};
 

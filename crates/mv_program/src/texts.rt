@@ -1,4 +1,4 @@
-//! Both texts of a run, made in memory. Clauses cite specs/Run and the report's `Outcome.antt`.
+//! Both texts of a run, made in memory. Clauses cite specs/Texts and the report's `Outcome.antt`.
 
 ghost use Rattle.std.specs.Prelude.{◌≡◌, ◌≤◌, length, None, IfOk, IfErr};
 ghost use Rattle.mv_deck.specs.Deck.{deck_data, deck_of};
@@ -8,7 +8,7 @@ ghost use Rattle.mv_deck.specs.Sound.{IsSound};
 ghost use Rattle.mv_report.specs.Outcome.{report};
 ghost use Rattle.mv_report.specs.Summary.{load_summary};
 ghost use Rattle.mv_program.specs.Command.{AreInitiators, AreJobs, most_initiators};
-ghost use Rattle.mv_program.specs.Run.{report_of, IsJournalOfRun, deck_limit};
+ghost use Rattle.mv_program.specs.Texts.{report_of, IsJournalOfRun, deck_limit};
 
 use mv_deck::{Deck, DeckRefusal, load_deck, read_deck};
 use mv_entrytext::write_journal;

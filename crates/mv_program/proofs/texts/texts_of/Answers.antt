@@ -3,7 +3,7 @@ use Rattle.std.proofs.Common.{ℕ, List, subst, sym}
 use Rattle.mv_deck.specs.Deck.{JobData}
 use Rattle.mv_deck.specs.Sound.{IsSound}
 use Rattle.mv_deck.proofs.Sounds.{sound}
-use Rattle.mv_program.specs.Run.{IsJournalOfRun}
+use Rattle.mv_program.specs.Texts.{IsJournalOfRun}
 use Rattle.mv_program.proofs.texts.texts_of.Goals as goal
 
 pub texts_of_deck-requires-clause-sound : goal.texts_of_deck-requires-clause-sound

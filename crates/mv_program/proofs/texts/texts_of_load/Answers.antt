@@ -19,7 +19,7 @@ use Rattle.mv_report.specs.Outcome.{ends, totals}
 use Rattle.mv_report.specs.Summary.{summary_of, summary_text, load_summary}
 use Rattle.mv_report.proofs.Lengths.{one_end_per_job, eight_totals}
 use Rattle.mv_report.proofs.SoundDecks.{sound_ends}
-use Rattle.mv_program.specs.Run.{IsJournalOfRun}
+use Rattle.mv_program.specs.Texts.{IsJournalOfRun}
 use Rattle.mv_program.proofs.Runs.{journal_of_run}
 use Rattle.mv_program.proofs.texts.texts_of_load.Goals as goal
 

@@ -1,4 +1,4 @@
--- What the run of a deck is: its report, and the journal that tells its history.
+-- The texts of the run of a deck: its report, and the journal that tells its history.
 use Rattle.std.specs.Prelude.{◌≡◌, ℕ, List}
 use Rattle.mv_deck.specs.Deck.{JobData, deck_of}
 use Rattle.mv_entrytext.specs.Fault.{HasJournal, journal_of}
