@@ -1,6 +1,7 @@
 -- The answers of the calls, and what they are in the programs.
 use Rattle.std.specs.Prelude.{◌≤◌, Option, Some, None, Result, Ok, Err}
 use Rattle.mv_element.specs.declared.element.Token.{Token}
+use Rattle.mv_machine.specs.Limits.{highest_generation}
 use Rattle.mv_calls.specs.Pauses.{Gift, Reached, CameEarly, WokeIt}
 use Rattle.mv_calls.specs.Refusal.{Refusal}
 use Rattle.mv_calls.specs.Refusal as refusal
@@ -75,8 +76,8 @@ deallocate_answer (Err why) = Err (deallocate_refused why)
 
 -- the generation that a refusal names, if it names one, has 18 bits
 abbrev pub IsLowRefusal : Refusal → Type 0
-IsLowRefusal (refusal.Spent now) = now ≤ 262143
-IsLowRefusal (refusal.TargetSpent now) = now ≤ 262143
+IsLowRefusal (refusal.Spent now) = now ≤ highest_generation
+IsLowRefusal (refusal.TargetSpent now) = now ≤ highest_generation
 IsLowRefusal why = Unit {0}
 
 -- and so in an answer that is a refusal

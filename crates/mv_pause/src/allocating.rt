@@ -2,6 +2,7 @@
 
 ghost use Rattle.std.specs.Prelude.{◌≡◌, ◌<◌, ◌≤◌, Some, None, IfOk, IfSome, MatchResult};
 ghost use Rattle.mv_machine.specs.Setup.{element_count, element_owner};
+ghost use Rattle.mv_machine.specs.Limits.{highest_generation};
 ghost use Rattle.mv_board.specs.Faces.{IsOf};
 ghost use Rattle.mv_calls.specs.Keeping.{kept_of};
 ghost use Rattle.mv_calls.specs.Pauses.{allocate, lowest_free};
@@ -35,7 +36,7 @@ pub fn allocate<R: Wait>(station: &Station, rt: &R, task: &mut Task) -> Result<T
         (λ token. lowest_free station.now.config (kept_of task.old.number task.old.log) ≡ Some token.element)
         (λ _. (lowest_free station.now.config (kept_of task.old.number task.old.log) ≡ None) × (task.new ≡ task.old)) }
     ensures own { IfOk result (λ token. (token.element < element_count station.now.config) × (element_owner station.now.config token.element ≡ task.old.number)) }
-    ensures low { IfOk result (λ token. token.generation ≤ 262143) }
+    ensures low { IfOk result (λ token. token.generation ≤ highest_generation) }
 {
     let Some(element) = lowest(station, task) else {
         return Err(NoElement);

@@ -8,6 +8,7 @@ ghost use Rattle.mv_machine.specs.Setup.{element_count, element_owner};
 ghost use Rattle.mv_machine.specs.declared.entry.Object.TheVariants as object;
 ghost use Rattle.mv_machine.specs.declared.entry.Op.TheVariants as op_on;
 ghost use Rattle.mv_machine.specs.declared.entry.Reply.TheVariants as reply_of;
+ghost use Rattle.mv_machine.specs.Limits.{highest_generation};
 ghost use Rattle.mv_board.specs.Faces.{IsOf};
 ghost use Rattle.mv_calls.specs.Keeping.{kept_of};
 ghost use Rattle.mv_calls.specs.Pauses.{pause, is_others_token};
@@ -77,7 +78,7 @@ pub fn pause<R: Wait>(
     // A token of an own element that is in use with its generation is never refused.
     ensures current { is_others_token station.now.config (kept_of task.old.number task.old.log) token ≡ false
         → IsCurrent (kept_of task.old.number task.old.log) token → (given : Given) × (result ≡ Ok given) }
-    ensures low { IsLow (pause_answer result) × IfOk result (λ given. given.next.generation ≤ 262143) }
+    ensures low { IsLow (pause_answer result) × IfOk result (λ given. given.next.generation ≤ highest_generation) }
 {
     if is_others(station, task, token) {
         return Err(PauseRefusal::NotOwner);
@@ -101,7 +102,7 @@ pub(crate) fn pause_own<R: Wait>(
     ensures rest { IsAtRest task.new.log }
     ensures current { IsCurrent (kept_of task.old.number task.old.log) token → (given : Given) × (result ≡ Ok given) }
     ensures answer { MatchResult result (λ given. IsGiven token given task.new.log) (λ why. IsSpent token task.old why task.new) }
-    ensures low { IsLow (pause_answer result) × IfOk result (λ given. given.next.generation ≤ 262143) }
+    ensures low { IsLow (pause_answer result) × IfOk result (λ given. given.next.generation ≤ highest_generation) }
 {
     let reply = station.event(
         rt,
@@ -127,7 +128,7 @@ fn await_release<R: Wait>(station: &Station, rt: &R, task: &mut Task, token: Tok
     ensures waits { waits_from no_waits task.new.log
         ≡ waits_after (waits_from no_waits task.old.log) (object.Element token.element) (op_on.Element (Resume token.generation)) (reply_of.Element (GivenWith result.code result.next)) }
     ensures given { WasGiven token result.code task.new.log × (result.next ≡ token.generation + 1) }
-    ensures low { result.next ≤ 262143 }
+    ensures low { result.next ≤ highest_generation }
 {
     station.park_for(rt, task, Watch::Element(token.element));
     let reply = station.event(

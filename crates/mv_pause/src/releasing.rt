@@ -1,7 +1,8 @@
 //! Releases. Clauses cite the programs' `Pauses.antt`, and `specs/Answers.antt` and `specs/Releasing.antt`.
 
-ghost use Rattle.std.specs.Prelude.{◌≡◌, ◌<◌, ◌^◌, IfOk, IfSome, Some};
+ghost use Rattle.std.specs.Prelude.{◌≡◌, ◌<◌, IfOk, IfSome, Some};
 ghost use Rattle.mv_element.specs.declared.operation.ElementOp.TheVariants as element_op;
+ghost use Rattle.mv_element.specs.Table.{release_limit};
 ghost use Rattle.mv_machine.specs.Setup.{element_count};
 ghost use Rattle.mv_board.specs.Faces.{IsOf};
 ghost use Rattle.mv_calls.specs.Pauses.{release, try_release};
@@ -65,7 +66,7 @@ pub fn release<R: Wait>(
     requires task { IsOf station.now task.old }
     requires rest { IsAtRest task.old.log }
     requires element { token.element < element_count station.now.config }
-    requires code { code < 2 ^ 24 }
+    requires code { code < release_limit }
     requires left { 0 < task.old.left }
     ensures served { IsServed 1 (release token code) (λ a. a ≡ release_answer result) task.old task.new }
     ensures causes { HappenedOn token task.old (element_op.Release token.generation code) (reply_to_release result) task.new }
@@ -99,7 +100,7 @@ pub fn try_release(
     requires rest { IsAtRest task.old.log }
     requires element { token.element < element_count station.now.config }
     requires unpaused { HasNoPause token.element expected }
-    requires code { code < 2 ^ 24 }
+    requires code { code < release_limit }
     requires left { 0 < task.old.left }
     ensures served { IfSome (try_release_answer result) (λ is. IsServed 1 (try_release token expected code) (λ a. a ≡ is) task.old task.new) }
     ensures causes { IsTried token expected code task.old result task.new }

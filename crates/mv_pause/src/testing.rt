@@ -2,6 +2,7 @@
 
 ghost use Rattle.std.specs.Prelude.{◌≡◌, ◌<◌, ◌≤◌};
 ghost use Rattle.mv_machine.specs.Setup.{element_count};
+ghost use Rattle.mv_machine.specs.Limits.{highest_generation};
 ghost use Rattle.mv_board.specs.Faces.{IsOf};
 ghost use Rattle.mv_calls.specs.Pauses.{test_element};
 ghost use Rattle.mv_calls.specs.Rest.{IsAtRest};
@@ -20,7 +21,7 @@ pub fn test_element(station: &Station, task: &mut Task, element: u32) -> Element
     requires element { element < element_count station.now.config }
     requires left { 0 < task.old.left }
     ensures served { IsServed 1 (test_element element) (λ a. a ≡ result) task.old task.new }
-    ensures low { result.generation ≤ 262143 }
+    ensures low { result.generation ≤ highest_generation }
 {
     state(station.test(task, Object::Element(element)))
 }

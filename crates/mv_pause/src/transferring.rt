@@ -1,9 +1,11 @@
 //! A release and a pause in one call. Clauses cite the programs' `Pauses.antt`, and `specs/Answers.antt` and
 //! `specs/Transferring.antt`.
 
-ghost use Rattle.std.specs.Prelude.{◌≡◌, ◌<◌, ◌≤◌, ◌+◌, ◌^◌, Option, Some, None, IfOk, IfSome, MatchResult, option_map};
+ghost use Rattle.std.specs.Prelude.{◌≡◌, ◌<◌, ◌≤◌, ◌+◌, Option, Some, None, IfOk, IfSome, MatchResult, option_map};
 ghost use Rattle.mv_element.specs.declared.element.Token.{Token};
+ghost use Rattle.mv_element.specs.Table.{release_limit};
 ghost use Rattle.mv_machine.specs.Setup.{element_count};
+ghost use Rattle.mv_machine.specs.Limits.{highest_generation};
 ghost use Rattle.mv_board.specs.Faces.{IsOf};
 ghost use Rattle.mv_calls.specs.Keeping.{kept_of};
 ghost use Rattle.mv_calls.specs.Pauses.{transfer, transfer_refusal};
@@ -55,13 +57,13 @@ pub fn transfer<R: Wait>(
     requires rest { IsAtRest task.old.log }
     requires current { IfSome current (λ t. t.element < element_count station.now.config) }
     requires target { target.element < element_count station.now.config }
-    requires code { code < 2 ^ 24 }
+    requires code { code < release_limit }
     requires left { cost current ≤ task.old.left }
     ensures served { IsServed (cost current) (transfer station.now.config current target code) (λ a. a ≡ transfer_answer result) task.old task.new }
     ensures causes { MatchResult result
         (λ given. (transfer_refusal station.now.config current (kept_of task.old.number task.old.log) ≡ None) × IsGivenTo current given task.new.log)
         (λ why. IsTransferCause station.now.config current target code task.old why task.new) }
-    ensures low { IsLow (transfer_answer result) × IfOk result (λ given. IfSome given (λ g. g.next.generation ≤ 262143)) }
+    ensures low { IsLow (transfer_answer result) × IfOk result (λ given. IfSome given (λ g. g.next.generation ≤ highest_generation)) }
 {
     if let Some(refusal) = refuses_transfer(station, task, current) {
         return Err(refusal);
@@ -130,7 +132,7 @@ fn pause_current<R: Wait>(
     ensures paused { IsPausedBy station.now.config current result task.old task.new }
     ensures given { IsGivenTo current result task.new.log }
     ensures rest { IsAtRest task.new.log }
-    ensures low { IfSome result (λ g. g.next.generation ≤ 262143) }
+    ensures low { IfSome result (λ g. g.next.generation ≤ highest_generation) }
 {
     let Some(token) = current else {
         return None;
