@@ -104,8 +104,8 @@ confirm_ends latch id w r but = record {
 pub confirm_rests : (t u : CallerFace) (latch id : ℕ) (r : LatchReply) → IsAnswered (Confirm latch id) r t u → IsAtRest t.log
     → IsAtRest u.log
 confirm_rests t u latch id r h rest =
-    subst AreNone (sym (waits_one t u Latches (op_on.Latch (Confirm latch id)) (reply_of.Latch r) h)) (confirm_ends latch id (open_waits t.log) r
-    (none_but latch id (open_waits t.log) rest))
+    subst AreNone (sym (waits_one t u Latches (op_on.Latch (Confirm latch id)) (reply_of.Latch r) h))
+    (confirm_ends latch id (open_waits t.log) r (none_but latch id (open_waits t.log) rest))
 
 -- and after the confirm of a request that was queued and waited for
 pub settled_rests : (t v u : CallerFace) (latch requestor : ℕ) (mode : Mode) (id : ℕ) (granted : Bool)
@@ -116,5 +116,6 @@ settled_rests t v u latch requestor mode id granted h s rest =
     (reply_of.Latch (settled_reply id granted)) s.confirmed))
     (confirm_ends latch id (open_waits s.awaited.log) (settled_reply id granted)
     (subst (λ log. AreNoneBut latch id (open_waits log)) (sym (went_log v s.awaited s.waited))
-    (subst (AreNoneBut latch id) (sym (waits_one t v Latches (op_on.Latch (Obtain latch requestor mode form_of.Waiting)) (reply_of.Latch (Queued id)) h))
+    (subst (AreNoneBut latch id)
+    (sym (waits_one t v Latches (op_on.Latch (Obtain latch requestor mode form_of.Waiting)) (reply_of.Latch (Queued id)) h))
     (but_queued latch requestor mode id (open_waits t.log) rest))))
