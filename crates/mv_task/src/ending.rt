@@ -1,7 +1,8 @@
 //! The ends of jobs and of tasks. Clauses cite the calls' `Endings.antt` and `Services.antt`, the tasks' `Run.antt`, the latch
 //! services' `Answers.antt`, and `specs/Ending.antt`.
 
-ghost use Rattle.std.specs.Prelude.{◌≡◌, ◌+◌, ◌<◌, ◌≤◌, ◌^◌, true, length, IfSome};
+ghost use Rattle.std.specs.Prelude.{◌≡◌, ◌+◌, ◌<◌, ◌≤◌, true, length, IfSome};
+ghost use Rattle.mv_ecb.specs.Table.{code_limit};
 ghost use Rattle.mv_machine.specs.Reach.{reach, release_cost};
 ghost use Rattle.mv_machine.specs.Setup.{element_count, element_owner};
 ghost use Rattle.mv_board.specs.Faces.{IsOf};
@@ -33,9 +34,10 @@ pub fn end_of_job<R: Wait>(
     requires task { IsOf station.now task.old }
     requires rest { IsAtRest task.old.log }
     requires block { ecb < length station.now.config.owners }
-    requires code { code < 2 ^ 30 }
+    requires code { code < code_limit }
     requires left { release_cost station.now.config + reach station.now.config ecb ≤ task.old.left }
-    ensures served { IsServed (release_cost station.now.config + reach station.now.config ecb) (end_of_job station.now.config requestor ecb code) (λ a. a ≡ counts_of result) task.old task.new }
+    ensures served { IsServed (release_cost station.now.config + reach station.now.config ecb)
+        (end_of_job station.now.config requestor ecb code) (λ a. a ≡ counts_of result) task.old task.new }
 {
     let purged = purge(station, rt, task, requestor);
     station.post(rt, task, ecb, code);
@@ -56,9 +58,12 @@ pub fn end_of_task<R: Wait>(
     requires task { IsOf station.now task.old }
     requires rest { IsAtRest task.old.log }
     requires block { IfSome mother (λ ecb. ecb < length station.now.config.owners) }
-    requires code { code < 2 ^ 30 }
-    requires left { length (used_elements station.now.config (kept_of task.old.number task.old.log)) + release_cost station.now.config + mother_events station.now.config mother ≤ task.old.left }
-    ensures served { IsServed (length (used_elements station.now.config (kept_of task.old.number task.old.log)) + release_cost station.now.config + mother_events station.now.config mother) (end_of_task station.now.config requestor mother code) (λ a. a ≡ counts_of result) task.old task.new }
+    requires code { code < code_limit }
+    requires left { length (used_elements station.now.config (kept_of task.old.number task.old.log))
+        + release_cost station.now.config + mother_events station.now.config mother ≤ task.old.left }
+    ensures served { IsServed (length (used_elements station.now.config (kept_of task.old.number task.old.log))
+        + release_cost station.now.config + mother_events station.now.config mother)
+        (end_of_task station.now.config requestor mother code) (λ a. a ≡ counts_of result) task.old task.new }
 {
     give_back_all(station, rt, task);
     match mother {
