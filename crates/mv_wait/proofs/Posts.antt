@@ -270,8 +270,8 @@ module _ (c : Setup) (code : ℕ) where
       }
 
   -- and the last
-  pub ended : (e : ℕ) (t : CallerFace) (a : Posting) (u : CallerFace) (result : PostAnswer) → post_answer a ≡ result → IsAtRest t.log → Underway e t a u []
-      → IsServed (reach c e) (post c e code) (λ p. post_answer p ≡ result) t u
+  pub ended : (e : ℕ) (t : CallerFace) (a : Posting) (u : CallerFace) (result : PostAnswer) → post_answer a ≡ result → IsAtRest t.log
+      → Underway e t a u [] → IsServed (reach c e) (post c e code) (λ p. post_answer p ≡ result) t u
   ended e t a u result is began w = serves (reach c e) (post c e code) (λ p. post_answer p ≡ result) t u a began is
       (runs_within w.made (reach c e) (post_within (length c.owners) c code e) (Done a) t u (let few = w.few in omega arith)
       (subst (λ q. Runs w.made (post_within (length c.owners) c code e) q t u) (ends a a w.frames w.ending w.flat_is) w.runs))

@@ -23,8 +23,8 @@ use Rattle.mv_wait.specs.Run.{Went, Runs, IsServed}
 use Rattle.mv_wait.proofs.Runs.{IsWord, entry_of, runs_none, runs_then, runs_within, runs_look, runs_word, serves}
 
 -- one event on an object with a word, and what is left of the program by its reply
-pub event_runs : {A : Type 0} (o : Object) (op : Op) (next : Heard → Program A) (q : Program A) (t u : CallerFace) (reply : Reply) → IsWord o
-    → Happened t o op reply u → ((h : Heard) → h.entry.reply ≡ reply → next h ≡ q) → Runs 1 (Do o op next) q t u
+pub event_runs : {A : Type 0} (o : Object) (op : Op) (next : Heard → Program A) (q : Program A) (t u : CallerFace) (reply : Reply)
+    → IsWord o → Happened t o op reply u → ((h : Heard) → h.entry.reply ≡ reply → next h ≡ q) → Runs 1 (Do o op next) q t u
 event_runs o op next q t u reply w h goes = runs_word (Do o op next) q t o op reply u w h refl goes
 
 -- one on a block
@@ -35,8 +35,8 @@ block_runs f q t u n op r h e =
     event_runs (Ecb n) (op_on.Ecb op) (λ x. on_ecb x.entry.reply f) q t u (reply_of.Ecb r) tt h (λ x is. ap (λ z. on_ecb z f) is ∙ e)
 
 -- one on an element
-pub element_runs : {A : Type 0} (f : ElementReply → Program A) (q : Program A) (t u : CallerFace) (n : ℕ) (op : ElementOp) (r : ElementReply)
-    → Happened t (Element n) (op_on.Element op) (reply_of.Element r) u → f r ≡ q
+pub element_runs : {A : Type 0} (f : ElementReply → Program A) (q : Program A) (t u : CallerFace) (n : ℕ) (op : ElementOp)
+    (r : ElementReply) → Happened t (Element n) (op_on.Element op) (reply_of.Element r) u → f r ≡ q
     → Runs 1 (Do (Element n) (op_on.Element op) (λ h. on_element h.entry.reply f)) q t u
 element_runs f q t u n op r h e =
     event_runs (Element n) (op_on.Element op) (λ x. on_element x.entry.reply f) q t u (reply_of.Element r) tt h

@@ -38,7 +38,8 @@ picked_is c = rw (c.deref-in-loop-picked.ensures.value, c.deref.ensures.value) a
 picked_takes : (c : In-Some) → total (lefts c.loop-picked.merged.items c.args.logs.items)
     ≡ suc (total (lefts (set c.loop-picked.merged.items c.in-Some.picked.caller c.in-Some.picked.merged) c.args.logs.items))
 picked_takes c =
-    pick_takes (next_in c.loop-picked.places) (lefts c.loop-picked.merged.items c.args.logs.items) c.in-Some.picked.entry _ (picked_is c).picks
+    pick_takes (next_in c.loop-picked.places) (lefts c.loop-picked.merged.items c.args.logs.items) c.in-Some.picked.entry _
+    (picked_is c).picks
 
 pub rise-requires-clause-place : goal.rise-requires-clause-place
 rise-requires-clause-place c =

@@ -105,7 +105,11 @@ invariant_of-task-2 g c =
     let third = (c.settle_all.ensures.settled.settles [] (λ xs. Wrong)).went.left in
     let about = (c.settle_all.ensures.settled.settles [] (λ xs. Wrong)).went.same.about
     ∙ (c.await_complete.ensures.went.same.about ∙ (c.arm_all.ensures.armed Wrong).went.same.about) in
-    let room = c.task.invariant.room in record { idle = c.task.invariant.idle; room = omega arith; places = c.task.invariant.places ∙ sym (ap blocks_in about) }
+    let room = c.task.invariant.room in record {
+      idle = c.task.invariant.idle;
+      room = omega arith;
+      places = c.task.invariant.places ∙ sym (ap blocks_in about);
+    }
 
 pub returns-clause-served : goal.returns-clause-served
 returns-clause-served g c =
