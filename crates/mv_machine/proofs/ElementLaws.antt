@@ -8,7 +8,7 @@ use Rattle.mv_element.specs.declared.operation.ElementOp.{ElementOp}
 use Rattle.mv_element.specs.declared.operation.ElementReply.{ElementReply}
 use Rattle.mv_element.specs.declared.element.ElementState.{ElementState}
 use Rattle.mv_element.specs.declared.element.Phase.{Phase}
-use Rattle.mv_element.specs.declared.element.Phase.TheVariants.{Prereleased, Released}
+use Rattle.mv_element.specs.declared.element.Phase.TheVariants.{Free, Reset, Prereleased, Paused, Released}
 use Rattle.mv_element.specs.Element.{free}
 use Rattle.mv_element.specs.Table.{element_step}
 use Rattle.mv_machine.specs.System.{Cell}
@@ -58,10 +58,18 @@ kept_at Prereleased c = c ∷ []
 kept_at Released c = c ∷ []
 kept_at _ c = []
 
+one_kept : (p : Phase) (c : ℕ) → length (kept_at p c) ≤ 1
+one_kept Free c = omega arith
+one_kept Reset c = omega arith
+one_kept Prereleased c = omega arith
+one_kept Paused c = omega arith
+one_kept Released c = omega arith
+
 pub record Known (g : ℕ) (rel giv : List ℕ) (s : ElementState) : Type 0 where
   pub future : s.generation < g → (rel ≡ []) × (giv ≡ [])
   pub now : s.generation ≡ g → (rel ≡ kept_at s.phase s.code) × (giv ≡ [])
   pub past : g < s.generation → (giv ≡ []) ⊎ ((c : ℕ) × (giv ≡ c ∷ []) × (rel ≡ c ∷ []))
+  pub few : length rel ≤ 1
 
 -- the table, as far as this needs it
 abbrev pub kept_in : ElementState → List ℕ
@@ -94,6 +102,10 @@ given_kept g code s v e is = grind arith
 given_not_released : (g code : ℕ) (s : ElementState) (v : ElementEvent) → Answers s v → given_code g v.reply ≡ Some code
     → releases g (v ∷ []) ≡ []
 given_not_released g code s v e is = grind arith
+
+ends_unreleased : (g : ℕ) (s : ElementState) (v : ElementEvent) → Answers s v → s.generation ≡ g → g < (element_step v.op s).0.generation
+    → releases g (v ∷ []) ≡ []
+ends_unreleased g s v e is lt = grind arith
 
 hands_over : (g : ℕ) (s : ElementState) (v : ElementEvent) → Answers s v → (givens g (v ∷ []) ≡ [])
     ⊎ ((c : ℕ) × (givens g (v ∷ []) ≡ c ∷ []) × (kept_in s ++ releases g (v ∷ []) ≡ c ∷ []))
@@ -138,12 +150,26 @@ module _ (g : ℕ) (rel giv : List ℕ) (s : ElementState) (v : ElementEvent) (e
         | inr (inr after) ↦ rw (no_accepted g s v e after, no_given g s v e after, append-nil, append-nil) (k.past after)
       ]
 
+  known-few : length (rel ++ releases g (v ∷ [])) ≤ 1
+  known-few =
+      let up : s.generation ≤ s'.generation = rises v.op s in
+      elim (cases_order s.generation g) [
+        | inl same ↦ elim (cases_order s'.generation g) [
+          | inl is ↦ rw ((known-now is).0) (one_kept s'.phase s'.code)
+          | inr (inl before) ↦ absurd (omega arith)
+          | inr (inr after) ↦ rw ((k.now same).0, ends_unreleased g s v e same after, append-nil) (one_kept s.phase s.code)
+        ]
+        | inr (inl before) ↦ rw ((k.future before).0, not_yet_accepted g s v e before) (omega arith)
+        | inr (inr after) ↦ rw (no_accepted g s v e after, append-nil) k.few
+      ]
+
 pub known_more : (g : ℕ) (rel giv : List ℕ) (s : ElementState) (v : ElementEvent) → Answers s v → Known g rel giv s
     → Known g (rel ++ releases g (v ∷ [])) (giv ++ givens g (v ∷ [])) (element_step v.op s).0
 known_more g rel giv s v e k = record {
   future = known-future g rel giv s v e k;
   now = known-now g rel giv s v e k;
   past = known-past g rel giv s v e k;
+  few = known-few g rel giv s v e k;
 }
 
 abbrev pub start : Cell ElementState
@@ -155,7 +181,7 @@ known g vs l =
     along element_table (λ past s. Known g (releases g past) (givens g past) s)
     (λ past cell v t k. rw (filter_map-append (accepted_code g) past (v ∷ []), filter_map-append (λ w. given_code g w.reply) past (v ∷ []))
     (known_more g (releases g past) (givens g past) cell.state v t.reply k))
-    [] start (record { future = λ _. (refl, refl); now = λ _. (refl, refl); past = λ lt. inl refl }) vs l
+    [] start (record { future = λ _. (refl, refl); now = λ _. (refl, refl); past = λ lt. inl refl; few = omega arith }) vs l
 
 -- part 2
 pub given_once : (g : ℕ) (vs : List ElementEvent) → RunFrom element_table start vs → length (givens g vs) ≤ 1
@@ -167,6 +193,10 @@ given_once g vs l =
       | inr (inl before) ↦ rw ((k.future before).1) (omega arith)
       | inr (inr after) ↦ elim (k.past after) [ inl none ↦ rw none (omega arith) | inr w ↦ rw (w.1) (omega arith) ]
     ]
+
+-- no token is accepted twice
+pub accepted_once : (g : ℕ) (vs : List ElementEvent) → RunFrom element_table start vs → length (releases g vs) ≤ 1
+accepted_once g vs l = (known g vs l).few
 
 ends_up : (g : ℕ) (s : ElementState) (v : ElementEvent) → Answers s v → IsTrue (ends_by g v.op v.reply)
     → g < (element_step v.op s).0.generation
@@ -200,5 +230,6 @@ pub element_is_orderly : (vs : List ElementEvent) → RunFrom element_table star
 element_is_orderly vs l = record {
   reached = λ g code before later v split is. reached g vs before later v l split code is;
   once = λ g. given_once g vs l;
+  accepted = λ g. accepted_once g vs l;
   spent = λ g before later v split is. spent_later g vs before later v l split is;
 }

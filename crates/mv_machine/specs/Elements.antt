@@ -104,13 +104,16 @@ is_spent _ = false
 abbrev pub IsSpentUpTo : ℕ → ElementEvent → Type 0
 IsSpentUpTo g v = IfSome (carried v.op) (λ h. h ≤ g → IsTrue (is_spent v.reply))
 
--- each gift of a code has its one release, no pause is given twice, and what is over is answered Spent for ever
+-- each gift of a code has its one release, no pause is given twice, no token is accepted twice, and what is over is answered Spent
+-- for ever
 pub record IsOrderlyElement (vs : List ElementEvent) : Type 0 where
   -- what a pause was given was released once, before it, with that code
   pub reached : (g code : ℕ) (before later : List ElementEvent) (v : ElementEvent) → vs ≡ before ++ v ∷ later
       → given_code g v.reply ≡ Some code → (releases g before ≡ code ∷ []) × (releases g later ≡ [])
   -- no generation is given twice
   pub once : (g : ℕ) → length (givens g vs) ≤ 1
+  -- at most one release of a generation is accepted
+  pub accepted : (g : ℕ) → length (releases g vs) ≤ 1
   -- what carries a generation that has ended is answered Spent
   pub spent : (g : ℕ) (before later : List ElementEvent) (v : ElementEvent) → vs ≡ before ++ v ∷ later → IsTrue (ends_by g v.op v.reply)
       → AllByRecursion (IsSpentUpTo g) later

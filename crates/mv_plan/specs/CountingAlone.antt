@@ -42,8 +42,9 @@ ScansAreSteady es =
     → once.object ≡ Volume v → once.op ≡ op_on.Volume Read → again.object ≡ Volume v → again.op ≡ op_on.Volume Read
     → once.caller ≡ again.caller → of again.caller between ≡ [] → once.reply ≡ again.reply
 
--- whoever counts or scans a volume has it alone, and in the end each volume has the sum of what was counted
-pub record AreExclusive (deck : List JobData) (initiators : ℕ) (es : List Entry) : Type 0 where
+-- whoever counts in a volume has it alone, whoever scans one reads one number twice, and in the end each volume has the sum of what
+-- was counted
+pub record AreCountedAlone (deck : List JobData) (initiators : ℕ) (es : List Entry) : Type 0 where
   pub counts : CountsStandAlone es
   pub scans : ScansAreSteady es
   -- the last number of each volume

@@ -4,7 +4,7 @@ ghost use Rattle.mv_machine.specs.declared.entry.Entry.{Entry};
 ghost use Rattle.mv_machine.specs.Check.{IsValid};
 ghost use Rattle.mv_report.specs.Outcome.{ends};
 ghost use Rattle.mv_plan.specs.PostingEnds.{EndsArePosted};
-ghost use Rattle.mv_plan.specs.CountingAlone.{AreExclusive};
+ghost use Rattle.mv_plan.specs.CountingAlone.{AreCountedAlone};
 ghost use Rattle.mv_plan.specs.Purging.{ArePurged};
 ghost use Rattle.mv_plan.specs.HandingOut.{AreHandedOut};
 ghost use Rattle.mv_deck.specs.Deck.{JobData};
@@ -54,10 +54,11 @@ pub fn runs_keep_the_ends()
         → left_in (spool_setup deck initiators) (task_program deck initiators) (writer initiators) es ≡ Done (ends deck) }
 {}
 
-/// In each run a job counts and scans a volume alone, and the volumes end with the deck's totals.
+/// In each run a job counts in a volume alone, and reads one number twice where it scans one; the volumes end with the deck's
+/// totals.
 pub fn runs_count_alone()
     ensures { (deck : List JobData) (initiators : ℕ) (es : List Entry)
-        → 1 ≤ initiators → IsSound deck initiators → IsRun deck initiators es → AreExclusive deck initiators es }
+        → 1 ≤ initiators → IsSound deck initiators → IsRun deck initiators es → AreCountedAlone deck initiators es }
 {}
 
 /// Each run purges each job's requests once, and leaves no request.

@@ -65,7 +65,7 @@ pub fn replay_command<D: Source, R: Sink>(
         → (wanted ≡ ReplayStatus.Done → ¬ Rose (R.faults report.old) (R.faults report.new))
         → EndsAs ReplayStatus.NoMemory result wanted) }
 
-    // IsReplayReport of faults do not fall.
+    // Counts of faults do not fall.
     ensures counts { (D.faults input.old ≤ D.faults input.new) × (R.faults report.old ≤ R.faults report.new) }
 {
     let legal = match read_legal(alloc, input) {

@@ -15,7 +15,7 @@ pub enum ReplayStatus {
     ReportFailed,
     /// Memory ran out.
     NoMemory,
-    /// The entry on this line is the first that is not the machine's.
+    /// The entry on this line is the first that is not the machine's, or is not numbered as its call is.
     Illegal(u32),
     /// The text has this fault, its first.
     Text(TextFault),

@@ -13,7 +13,7 @@ use Rattle.mv_plan.specs.SpoolRun.{IsRun}
 use Rattle.mv_plan.specs.SpoolSetup.{spool_setup}
 use Rattle.mv_plan.proofs.deck.Planned.{planned}
 use Rattle.mv_plan.proofs.results.EndsPosted.{ends_are_posted}
-use Rattle.mv_plan.proofs.results.Exclusive.{are_exclusive}
+use Rattle.mv_plan.proofs.results.Exclusive.{are_counted_alone}
 use Rattle.mv_plan.proofs.results.Told.{told_of_run}
 
 -- one more volume
@@ -42,4 +42,4 @@ module _ (jobs : List JobData) (initiators : ℕ) (some : 1 ≤ initiators) (sou
   volumes_made s made e same =
       e ∙ ap numbers same
       ∙ same_map (λ v. ((after (spool_setup jobs initiators) es).volume v).state) (total jobs)
-      (are_exclusive jobs initiators some (planned jobs initiators sound) es run).totals (range_with_len 0 8)
+      (are_counted_alone jobs initiators some (planned jobs initiators sound) es run).totals (range_with_len 0 8)

@@ -159,7 +159,7 @@ pub record Dispatches (deck : List JobData) (initiators : ℕ) (s : System) (t :
 
 exact_start : (c : Setup) → AreExacting (opening c) []
 exact_start c m g = record {
-  known = record { future = λ lt. (refl, refl); now = λ e. (refl, refl); past = λ lt. inl refl };
+  known = record { future = λ lt. (refl, refl); now = λ e. (refl, refl); past = λ lt. inl refl; few = omega arith };
   matched = λ lt e. refl;
 }
 

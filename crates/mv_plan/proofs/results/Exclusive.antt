@@ -2,7 +2,7 @@
 use Rattle.std.proofs.Common.{◌≡◌, ℕ, ◌<◌, ◌≤◌, List, length, ap}
 use Rattle.mv_machine.specs.declared.entry.Entry.{Entry}
 use Rattle.mv_plan.specs.HandingOut.{given_codes, AreHandedOut}
-use Rattle.mv_plan.specs.CountingAlone.{AreExclusive}
+use Rattle.mv_plan.specs.CountingAlone.{AreCountedAlone}
 use Rattle.mv_plan.specs.Purging.{ArePurged}
 use Rattle.mv_deck.specs.Deck.{JobData}
 use Rattle.mv_plan.proofs.deck.Sound.{IsSound}
@@ -21,8 +21,8 @@ module _ (deck : List JobData) (initiators : ℕ) (some : 1 ≤ initiators) (sou
   pub are_purged_once : ArePurged deck initiators es
   are_purged_once = are_purged deck initiators some sound es run given_one
 
-  pub are_exclusive : AreExclusive deck initiators es
-  are_exclusive = record {
+  pub are_counted_alone : AreCountedAlone deck initiators es
+  are_counted_alone = record {
     counts = counts_alone deck initiators some sound es run given_one;
     scans = scans_steady deck initiators some sound es run given_one;
     totals = totals_are deck initiators some sound es run given_one (λ j lt. (handed.jobs j lt).given);

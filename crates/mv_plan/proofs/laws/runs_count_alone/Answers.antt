@@ -1,7 +1,7 @@
 -- The law is the lemma.
 use Rattle.mv_plan.proofs.deck.Planned.{planned}
-use Rattle.mv_plan.proofs.results.Exclusive.{are_exclusive}
+use Rattle.mv_plan.proofs.results.Exclusive.{are_counted_alone}
 use Rattle.mv_plan.proofs.laws.runs_count_alone.Goals as goal
 
 pub returns : goal.returns
-returns c = λ deck initiators es some sound run. are_exclusive deck initiators some (planned deck initiators sound) es run
+returns c = λ deck initiators es some sound run. are_counted_alone deck initiators some (planned deck initiators sound) es run
