@@ -5,7 +5,8 @@ ghost use Rattle.std.specs.List.{range_with_len};
 ghost use Rattle.mv_machine.specs.Config.{exit_of};
 ghost use Rattle.mv_deck.specs.Deck.{job_data, deck_data};
 ghost use Rattle.mv_deck.specs.Sound.{IsSound};
-ghost use Rattle.mv_deck.specs.Weight.{step_events as events_of_step, all_events as events_of_jobs, after_parts as parts_of_jobs, weight};
+ghost use Rattle.mv_deck.specs.Weight.{step_events as events_of_step, all_events as events_of_jobs, after_parts as parts_of_jobs};
+ghost use Rattle.mv_deck.specs.Weight.{heaviest, weight};
 ghost use Rattle.mv_plan.specs.SpoolSetup.{spool_setup, task_budgets, block_owners, end_exit};
 
 use mv_deck::{Deck, Job, Step};
@@ -74,7 +75,7 @@ fn after_parts(jobs: &[Job]) -> u32
 
 // The budgets of the reader, the scheduler, each initiator and the writer.
 fn budgets_of(alloc: Global, deck: &Deck, initiators: u32) -> Result<Vec<u32>, NoMemory>
-    requires light { weight (deck_data deck.now) initiators ≤ 524287 }
+    requires light { weight (deck_data deck.now) initiators ≤ heaviest }
     requires some { 1 ≤ initiators }
     ensures { IfOk result (λ budgets. budgets.items ≡ task_budgets (deck_data deck.now) initiators) }
 {
