@@ -4,5 +4,7 @@ pub mod Places
 pub mod Lines
 -- split_field
 pub mod Fields
--- number_within
+-- split_part
+pub mod Parts
+-- wide_number_within
 pub mod Numbers

@@ -1,4 +1,5 @@
 pub mod Byte
 pub mod Line
 pub mod Field
+pub mod Part
 pub mod Number

@@ -1,7 +1,7 @@
 -- How a text is cut into lines, and what of a line counts.
-use Rattle.std.specs.Prelude.{ℕ, ◌-◌, ◌==◌, Bool, false, List, [], ◌∷◌, length, take, drop, slice_index, if◌then◌else◌}
+use Rattle.std.specs.Prelude.{ℕ, ◌-◌, ◌==◌, Bool, false, nat_lt, List, [], ◌∷◌, length, take, drop, slice_index, if◌then◌else◌}
 use Rattle.std.specs.List.{onto_first, prefix_len, suffix_len}
-use Rattle.mv_line.specs.Byte.{is_space}
+use Rattle.mv_line.specs.Byte.{is_space, has_foreign_byte}
 
 -- Each line ends at LF or at the end of the text; LF is no part of it. What stands behind the last LF is a line
 -- exactly where it has a byte.
@@ -25,3 +25,25 @@ without_first_spaces text = drop (prefix_len is_space text) text
 abbrev pub begins_with_space : List ℕ → Bool
 begins_with_space [] = false
 begins_with_space (b ∷ bs) = is_space b
+
+-- ---- a line that a reader takes: its CR at the end is none of it
+
+-- what counts of a line: not one CR at its end, and then no spaces at its end
+abbrev pub shown : List ℕ → List ℕ
+shown line = without_last_spaces (without_cr line)
+
+-- a line of which nothing counts is ignored
+abbrev pub is_ignored : List ℕ → Bool
+is_ignored line = length (shown line) == 0
+
+-- a byte stands in it that is no printable ASCII
+abbrev pub is_foreign : List ℕ → Bool
+is_foreign line = has_foreign_byte (without_cr line)
+
+-- the longest line: a card of the reader
+abbrev pub longest_line : ℕ
+longest_line = 80
+
+-- more bytes than a card has
+abbrev pub is_too_long : List ℕ → Bool
+is_too_long line = nat_lt longest_line (length (without_cr line))

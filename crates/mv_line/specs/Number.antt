@@ -8,6 +8,11 @@ abbrev pub value_behind : ℕ → List ℕ → ℕ
 value_behind shown [] = shown
 value_behind shown (d ∷ digits) = value_behind (10 * shown + (d - 48)) digits
 
+-- one or more digits
+abbrev pub is_digits : List ℕ → Bool
+is_digits [] = false
+is_digits (d ∷ digits) = list_all is_digit (d ∷ digits)
+
 -- one or more digits, the first not 0 where there are more
 abbrev pub is_number : List ℕ → Bool
 is_number [] = false

@@ -1,8 +1,8 @@
 //! Kinds of bytes, and where one first stands (`specs/Byte.antt`).
 
-ghost use Rattle.std.specs.Prelude.{◌≡◌, ◌==◌, ◌-◌, ◌≤◌, length, not, Some, None, if◌then◌else◌};
-ghost use Rattle.std.specs.List.{list_any, position, position_or_len};
-ghost use Rattle.mv_line.specs.Byte.{is_digit, is_printable};
+ghost use Rattle.std.specs.Prelude.{◌≡◌, ◌==◌, ◌-◌, ◌≤◌, length, Some, None, if◌then◌else◌};
+ghost use Rattle.std.specs.List.{position, position_or_len};
+ghost use Rattle.mv_line.specs.Byte.{is_digit, has_foreign_byte as has_other_byte};
 
 /// Where a byte first stands in a text, if it does.
 pub fn first_place(text: &[u8], byte: u8) -> Option<usize>
@@ -24,7 +24,7 @@ pub fn end_at(text: &[u8], byte: u8) -> usize
 
 /// Whether a byte stands in a text that is no printable ASCII, 32 to 126.
 pub fn has_foreign_byte(text: &[u8]) -> bool
-    ensures { result ≡ list_any (λ b. not (is_printable b)) text.now }
+    ensures { result ≡ has_other_byte text.now }
 {
     text.iter().any(|b| !(32..=126).contains(b))
 }

@@ -7,13 +7,16 @@ mod byte;
 mod field;
 mod line;
 mod number;
+mod part;
 
 pub use byte::{digit, end_at, first_place, has_foreign_byte};
 pub use field::{one_field, split_field, two_fields};
 pub use line::{
-    begins_with_space, split_line, without_cr, without_first_spaces, without_last_spaces,
+    LONGEST_LINE, begins_with_space, is_foreign, is_too_long, shown, split_line, without_cr,
+    without_first_spaces, without_last_spaces,
 };
-pub use number::number_within;
+pub use number::{is_digits, number_within, wide_number_within};
+pub use part::split_part;
 
 #[cfg(test)]
 mod tests;

@@ -3,8 +3,12 @@
 ghost use Rattle.std.specs.Prelude.{◌≡◌, ◌∷◌, ◌<◌, length};
 ghost use Rattle.mv_line.specs.Line.{lines_of, without_cr as text_without_cr, without_first_spaces as from_first_field};
 ghost use Rattle.mv_line.specs.Line.{without_last_spaces as to_last_field, begins_with_space as begins_so};
+ghost use Rattle.mv_line.specs.Line.{shown as what_counts, is_foreign as has_foreign, is_too_long as exceeds_card};
 
-use crate::byte::end_at;
+use crate::byte::{end_at, has_foreign_byte};
+
+/// The longest line, in bytes without the CR that is dropped at its end: a card of the reader.
+pub const LONGEST_LINE: usize = 80;
 
 /// The first line of a text and what follows it. The text has a byte.
 pub fn split_line(text: &[u8]) -> (&[u8], &[u8])
@@ -56,4 +60,25 @@ pub fn begins_with_space(text: &[u8]) -> bool
     ensures { result ≡ begins_so text.now }
 {
     matches!(text, [b' ', ..])
+}
+
+/// What counts of a line: not one CR at its end, and then no spaces at its end.
+pub fn shown(line: &[u8]) -> &[u8]
+    ensures { result.now ≡ what_counts line.now }
+{
+    without_last_spaces(without_cr(line))
+}
+
+/// Whether a line has a byte that is no printable ASCII, the one CR at its end not counted.
+pub fn is_foreign(line: &[u8]) -> bool
+    ensures { result ≡ has_foreign line.now }
+{
+    has_foreign_byte(without_cr(line))
+}
+
+/// Whether a line is longer than a card, the one CR at its end not counted.
+pub fn is_too_long(line: &[u8]) -> bool
+    ensures { result ≡ exceeds_card line.now }
+{
+    without_cr(line).len() > LONGEST_LINE
 }

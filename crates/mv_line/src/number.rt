@@ -1,13 +1,22 @@
 //! Numbers in decimal digits (`specs/Number.antt`).
 
-ghost use Rattle.std.specs.Prelude.{◌≡◌, ◌≤◌, IfSome};
+ghost use Rattle.std.specs.Prelude.{◌≡◌, ◌≤◌, ◌+◌, ◌-◌, ◌*◌, true, IfSome, SomeIff};
 ghost use Rattle.std.specs.List.{list_all};
 ghost use Rattle.mv_line.specs.Byte.{is_digit as shows_digit};
-ghost use Rattle.mv_line.specs.Number.{is_number as shows_number, number_of, within};
+ghost use Rattle.mv_line.specs.Number.{is_digits as shows_digits, is_number as shows_number, number_of, within};
 
 /// The number that a text shows in one or more digits, without a zero in front of others, where it is within these. It may
 /// have any number of digits.
 pub fn number_within(low: u32, high: u32, text: &[u8]) -> Option<u32>
+    ensures number { result ≡ within low high (number_of text.now) }
+    ensures bound { IfSome result (λ n. n ≤ high) }
+{
+    let number = wide_number_within(u64::from(low), u64::from(high), text)?;
+    Some(number as u32)
+}
+
+/// The same of a number of eight bytes.
+pub fn wide_number_within(low: u64, high: u64, text: &[u8]) -> Option<u64>
     ensures number { result ≡ within low high (number_of text.now) }
     ensures bound { IfSome result (λ n. n ≤ high) }
 {
@@ -16,12 +25,21 @@ pub fn number_within(low: u32, high: u32, text: &[u8]) -> Option<u32>
     }
     let mut value: u64 = 0;
     for byte in text {
-        value = 10 * value + (*byte - b'0') as u64;
-        if value > u64::from(high) {
+        let Some(next) = with_digit(high, value, *byte) else {
             return None;
-        }
+        };
+        value = next;
     }
-    (u64::from(low) <= value).then_some(value as u32)
+    (low <= value).then_some(value)
+}
+
+// A number with one more digit behind it, where it is at most so high.
+fn with_digit(high: u64, value: u64, digit: u8) -> Option<u64>
+    requires { shows_digit digit ≡ true }
+    ensures { SomeIff result (10 * value + (digit - 48) ≤ high) (10 * value + (digit - 48)) }
+{
+    let next = value.checked_mul(10)?.checked_add(u64::from(digit - b'0'))?;
+    (next <= high).then_some(next)
 }
 
 fn is_number(text: &[u8]) -> bool
@@ -31,6 +49,16 @@ fn is_number(text: &[u8]) -> bool
         [] => false,
         [only] => only.is_ascii_digit(),
         [first, rest @ ..] => matches!(first, b'1'..=b'9') && are_digits(rest),
+    }
+}
+
+/// Whether a text has one or more bytes, each a decimal digit.
+pub fn is_digits(text: &[u8]) -> bool
+    ensures { result ≡ shows_digits text.now }
+{
+    match text {
+        [] => false,
+        [_, ..] => are_digits(text),
     }
 }
 

@@ -3,7 +3,7 @@ use Rattle.std.proofs.Common.{◌≡◌, ◌≤◌, true, drop}
 use Rattle.std.specs.List.{list_all}
 use Rattle.mv_line.specs.Byte.{is_digit}
 use Rattle.mv_line.specs.Number.{value_behind}
-use Rattle.mv_line.proofs.number.number_within.Given as goal
+use Rattle.mv_line.proofs.number.wide_number_within.Given as goal
 
 abbrev pub invariant-loop-byte : goal.invariant-loop-byte
 invariant-loop-byte l = record {
