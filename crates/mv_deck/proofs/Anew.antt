@@ -26,9 +26,10 @@ use Rattle.mv_deck.specs.Operand.{is_name}
 use Rattle.mv_deck.specs.Statement.{Statement, JobOf, AfterPart, statement_of, statements_of}
 use Rattle.mv_deck.specs.Form.{stated, part_data, bytes_behind, listed}
 use Rattle.mv_deck.specs.Deck.{JobData, job_data, place_of, with_step, last_steps}
+use Rattle.mv_line.specs.Line.{is_foreign, is_too_long}
 use Rattle.mv_deck.specs.Fault.{is_null, has_bad_name, has_bad_number, accepts_no_code, repeats_name, awaits_no_job, is_crowded}
-use Rattle.mv_deck.specs.Fault.{uses_out_of_order, needs_latch, is_misplaced, is_behind_end, is_too_heavy, is_late_deck, has_foreign_byte}
-use Rattle.mv_deck.specs.Fault.{is_too_long, has_no_form, kinds_behind, kinds_of_statement, kinds_of, faults_from, fault_at, first_fault}
+use Rattle.mv_deck.specs.Fault.{uses_out_of_order, needs_latch, is_misplaced, is_behind_end, is_too_heavy, is_late_deck}
+use Rattle.mv_deck.specs.Fault.{has_no_form, kinds_behind, kinds_of_statement, kinds_of, faults_from, fault_at, first_fault}
 use Rattle.mv_deck.specs.Fault.{first_of_list, when}
 use Rattle.mv_deck.specs.Held.{latches}
 use Rattle.mv_deck.specs.Weight.{weight, step_events}
@@ -210,7 +211,7 @@ kinds_by n earlier jobs s bad_name repeated unknown crowded bad_number unordered
 
 -- the kinds of a line by what was tested
 pub kinds_in : (n : ℕ) (v : Version) (earlier : List Statement) (line : List ℕ) (foreign long formless : Bool) (o : Option Statement)
-    → foreign ≡ has_foreign_byte line → long ≡ is_too_long line → formless ≡ has_no_form v line → o ≡ statement_of v line
+    → foreign ≡ is_foreign line → long ≡ is_too_long line → formless ≡ has_no_form v line → o ≡ statement_of v line
     → when foreign ForeignByte ++ (when long TooLong ++ (when formless NoForm ++ kinds_of_statement n earlier o))
     ≡ kinds_of n v earlier line
 kinds_in n v earlier line foreign long formless o a b c d = rw (a, b, c, d) refl

@@ -1,6 +1,6 @@
 -- What the reader asks of a JOB and of a line, in the words of its faults.
 use Rattle.std.proofs.Common.{◌≡◌, ℕ, ◌<◌, ◌≤◌, Bool, true, false, not, ◌||◌, List, [], ◌∷◌, ◌++◌, length, map, Option, Some, Result}
-use Rattle.std.proofs.Common.{is_none, option_map, MatchResult, refl, sym, ap, subst, ◌∙◌, arith}
+use Rattle.std.proofs.Common.{is_none, ◌==◌, option_map, MatchResult, refl, sym, ap, subst, ◌∙◌, arith}
 use Rattle.std.specs.Prelude.{option_to_list, nat_lt}
 use Rattle.std.specs.List.{list_any}
 use Rattle.std.proofs.lemmas.List.{length-map}
@@ -9,15 +9,14 @@ use Rattle.mv_deck.specs.declared.form.Part.{Part}
 use Rattle.mv_deck.specs.declared.form.Version.{Version}
 use Rattle.mv_deck.specs.declared.names.Names.{Names}
 use Rattle.mv_deck.specs.declared.reading.Reading.{Reading}
-use Rattle.mv_line.specs.Line.{without_cr, without_last_spaces}
-use Rattle.mv_deck.specs.Line.{shown, is_empty, is_comment}
-use Rattle.mv_line.specs.Byte.{is_printable}
+use Rattle.mv_line.specs.Line.{shown, is_ignored, is_foreign, is_too_long}
+use Rattle.mv_deck.specs.Line.{is_comment}
 use Rattle.mv_deck.specs.Operand.{is_name}
 use Rattle.mv_deck.specs.Statement.{Statement, JobOf, AfterPart, form_of, statement_of}
 use Rattle.mv_deck.specs.Form.{part_data, bytes_behind}
 use Rattle.mv_deck.specs.Deck.{JobData, place_of}
-use Rattle.mv_deck.specs.Fault.{has_bad_name, has_bad_number, awaits_no_job, accepts_no_code, is_crowded, has_double, has_foreign_byte}
-use Rattle.mv_deck.specs.Fault.{is_too_long, kinds_of, kinds_of_statement}
+use Rattle.mv_deck.specs.Fault.{has_bad_name, has_bad_number, awaits_no_job, accepts_no_code, is_crowded, has_double, kinds_of}
+use Rattle.mv_deck.specs.Fault.{kinds_of_statement}
 use Rattle.mv_deck.specs.Names.{place_in}
 use Rattle.mv_deck.specs.Reading.{IsBehind, Tells}
 use Rattle.mv_deck.proofs.Mapped.{any-map}
@@ -89,26 +88,21 @@ pub record IsStated (n : ℕ) (v : Version) (earlier : List Statement) (line : L
   pub statement : statement_of v line ≡ Some s
 
 -- a line that passes what is asked of it by itself has the kinds of its statement
-pub is_stated : (n : ℕ) (v : Version) (earlier : List Statement) (line : List ℕ) (s : Statement) → has_foreign_byte line ≡ false
-    → is_too_long line ≡ false → is_empty (shown line) ≡ false → is_comment (shown line) ≡ false → form_of v (shown line) ≡ Some s
+pub is_stated : (n : ℕ) (v : Version) (earlier : List Statement) (line : List ℕ) (s : Statement) → is_foreign line ≡ false
+    → is_too_long line ≡ false → is_ignored line ≡ false → is_comment (shown line) ≡ false → form_of v (shown line) ≡ Some s
     → IsStated n v earlier line s
 is_stated n v earlier line s a b c d e =
     let same : statement_of v line ≡ Some s = rw d e in record { kinds = rw (a, b, c, d, e) refl; statement = same }
 
--- the same, by what was cut of the line
-pub is_shown : (n : ℕ) (v : Version) (earlier : List Statement) (line content text : List ℕ) (s : Statement)
-    → content ≡ without_cr line → text ≡ without_last_spaces content → list_any (λ b. not (is_printable b)) content ≡ false
-    → length content ≤ 80
-    → is_empty text ≡ false → is_comment text ≡ false → form_of v text ≡ Some s → IsStated n v earlier line s
-is_shown n v earlier line content text s same cut a b c d e =
-    let all : text ≡ shown line = cut ∙ ap without_last_spaces same in
-    let fits : nat_lt 80 (length content) ≡ false = grind arith in
-    is_stated n v earlier line s
-    (ap (list_any (λ b. not (is_printable b))) (sym same) ∙ a)
-    (ap (λ (x : List ℕ). nat_lt 80 (length x)) (sym same) ∙ fits)
-    (ap is_empty (sym all) ∙ c)
-    (ap is_comment (sym all) ∙ d)
-    (ap (form_of v) (sym all) ∙ e)
+-- the same, by what counts of the line
+pub is_shown : (n : ℕ) (v : Version) (earlier : List Statement) (line text : List ℕ) (s : Statement) → text ≡ shown line
+    → is_foreign line ≡ false → is_too_long line ≡ false → (length text == 0) ≡ false → is_comment text ≡ false → form_of v text ≡ Some s
+    → IsStated n v earlier line s
+is_shown n v earlier line text s same a b c d e =
+    is_stated n v earlier line s a b
+    (ap (λ (x : List ℕ). length x == 0) (sym same) ∙ c)
+    (ap is_comment (sym same) ∙ d)
+    (ap (form_of v) (sym same) ∙ e)
 
 -- what became of a line or a statement of which these are the kinds and the statements
 abbrev pub Taken : {A : Type 0} → ℕ → Version → List Statement → List ℕ → List Statement → Reading → Result A LineRefusal → Type 0

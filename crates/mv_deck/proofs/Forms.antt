@@ -16,11 +16,6 @@ pub chosen : (v : Version) (rest operation : List ℕ) (operands : List (List �
     → operation_of v rest (fields_of rest) ≡ operated v rest operation operands
 chosen v rest operation operands e = ap (operation_of v rest) e ∙ starts v rest operation operands
 
--- how much of a list is not yet cut into parts
-abbrev pub left_in : Option (Bor (List ℕ)) → ℕ
-left_in None = 0
-left_in (Some list) = length list.now + 1
-
 -- a field was compared with a word
 pub compared : (field seen word : List ℕ) (result answer : Bool) → seen ≡ word → result ≡ bytes_eq field seen → result ≡ answer
     → bytes_eq field word ≡ answer

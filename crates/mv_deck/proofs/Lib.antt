@@ -1,5 +1,4 @@
--- lists and their parts, and the forms of lines
-pub mod Commas
+-- the forms of lines
 pub mod Forms
 -- held latches
 pub mod Latches

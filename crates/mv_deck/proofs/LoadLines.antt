@@ -1,6 +1,6 @@
 -- What each line of a load states.
-use Rattle.std.proofs.Common.{◌≡◌, ℕ, ◌+◌, ◌-◌, ◌*◌, ◌/◌, ◌%◌, ◌<◌, ◌≤◌, true, false, List, [], ◌∷◌, ◌++◌, length, Some, None, refl, sym}
-use Rattle.std.proofs.Common.{ap, subst, ◌∙◌, arith}
+use Rattle.std.proofs.Common.{◌≡◌, ℕ, ◌+◌, ◌-◌, ◌*◌, ◌/◌, ◌%◌, ◌<◌, ◌≤◌, ◌==◌, true, false, List, [], ◌∷◌, ◌++◌, length, Some, None, refl}
+use Rattle.std.proofs.Common.{sym, ap, subst, ◌∙◌, arith}
 use Rattle.std.specs.Prelude.{codes, decimal}
 use Rattle.std.specs.Char.{digit_value}
 use Rattle.std.specs.Str.Parse.{AllDigits}
@@ -10,7 +10,9 @@ use Rattle.std.proofs.lemmas.Str.Parse.{digit_from_value}
 use Rattle.mv_latch.specs.declared.request.Mode.TheVariants.{Exclusive}
 use Rattle.mv_deck.specs.declared.form.Version.TheVariants.{One}
 use Rattle.mv_line.specs.Byte.{is_digit, is_printable, is_space}
-use Rattle.mv_deck.specs.Line.{longest_line, is_comment, is_comma}
+use Rattle.mv_line.specs.Line.{longest_line}
+use Rattle.mv_line.specs.Part.{parts_at}
+use Rattle.mv_deck.specs.Line.{is_comment, comma}
 use Rattle.mv_deck.specs.Operand.{is_name, is_name_byte, latch_of, amount_of, user_code_of}
 use Rattle.mv_deck.specs.Statement.{Statement, JobOf, PrintOf, UseOf, FreeOf, CountOf, ScanOf, AbendOf, form_of}
 use Rattle.mv_deck.specs.Load.{digit_of, four_digits}
@@ -23,7 +25,7 @@ pub record IsDigit (d : ℕ) : Type 0 where
   pub digit : is_digit d ≡ true
   pub printable : is_printable d ≡ true
   pub no_space : is_space d ≡ false
-  pub no_comma : is_comma d ≡ false
+  pub no_comma : (d == comma) ≡ false
   pub named : is_name_byte d ≡ true
 
 -- a number below 10 as a byte
@@ -69,6 +71,7 @@ module _ (a b c d e : ℕ) (ia : IsDigit a) (ib : IsDigit b) (ic : IsDigit c) (i
 
     pub job_after_other : States (codes "//" ++ name ++ codes " JOB" ++ (codes " AFTER=" ++ other))
         (JobOf name (record { name = other; most = None } ∷ []))
+    unfolding parts_at
     job_after_other = record {
       tidy = rw (
         ia.printable,

@@ -1,13 +1,14 @@
 -- The lines of a load, and what they state.
 use Rattle.std.proofs.Common.{◌≡◌, ℕ, zero, suc, ◌+◌, ◌-◌, ◌/◌, ◌%◌, ◌<◌, ◌≤◌, Bool, true, false, ◌==◌, List, [], ◌∷◌, ◌++◌, length, None}
 use Rattle.std.proofs.Common.{refl, sym, ap, subst, ◌∙◌, arith, if◌then◌else◌}
-use Rattle.std.specs.Prelude.{codes, decimal, flat_map}
+use Rattle.std.specs.Prelude.{codes, decimal, flat_map, nat_lt}
 use Rattle.std.specs.List.{AllByRecursion, range_with_len}
 use Rattle.std.proofs.lemmas.Grind.{flat_map-append}
 use Rattle.std.proofs.lemmas.List.{append-nil}
 use Rattle.mv_latch.specs.declared.request.Mode.TheVariants.{Exclusive}
 use Rattle.mv_deck.specs.declared.form.Version.TheVariants.{One}
-use Rattle.mv_line.specs.Line.{lines_of}
+use Rattle.mv_line.specs.Byte.{has_foreign_byte}
+use Rattle.mv_line.specs.Line.{lines_of, without_cr, without_last_spaces, shown, is_foreign, longest_line, is_too_long}
 use Rattle.mv_deck.specs.Statement.{Statement, Null, JobOf, PrintOf, UseOf, FreeOf, CountOf, ScanOf, AbendOf, AfterPart, statements_of}
 use Rattle.mv_deck.specs.Statement.{version_of}
 use Rattle.mv_deck.specs.Load.{load_name, load_text, waits, scans, abends, volume_of, counted_by, job_line, job_lines, scan_lines}
@@ -136,9 +137,15 @@ load_lines n le = lines_again (first_lines n ++ codes "//" ∷ []) (all_tidy _ _
 -- a line that states this, behind any statements
 pub is_stated : (k : ℕ) (earlier : List Statement) (line : List ℕ) (s : Statement) → States line s → IsStated k One earlier line s
 is_stated k earlier line s st =
-    is_shown k One earlier line line line s (sym (keeps_cr line st.tidy)) (sym (keeps_spaces line st.tidy)) (printable line st.tidy)
-    st.short (no_length (length line) (filled line st.tidy)) st.no_comment st.form
+    let ended : without_cr line ≡ line = keeps_cr line st.tidy in
+    let counts : shown line ≡ line = ap without_last_spaces ended ∙ keeps_spaces line st.tidy in
+    let foreign : is_foreign line ≡ false = ap has_foreign_byte ended ∙ printable line st.tidy in
+    let long : is_too_long line ≡ false = ap (λ (x : List ℕ). nat_lt longest_line (length x)) ended ∙ no_longer (length line) st.short in
+    is_shown k One earlier line line s (sym counts) foreign long (no_length (length line) (filled line st.tidy)) st.no_comment st.form
   where
+    no_longer : (n : ℕ) → n ≤ longest_line → nat_lt longest_line n ≡ false
+    no_longer n le = grind arith
+
     no_length : (n : ℕ) → 0 < n → (n == 0) ≡ false
     no_length n some = grind arith
 

@@ -13,7 +13,8 @@ use Rattle.mv_deck.specs.declared.form.Version.{Version}
 use Rattle.mv_line.specs.Line.{lines_of}
 use Rattle.mv_deck.specs.Statement.{Statement, statement_of, statements_of}
 use Rattle.mv_deck.specs.Deck.{JobData, jobs_of}
-use Rattle.mv_deck.specs.Fault.{is_null, is_misplaced, is_behind_end, is_late_deck, is_too_heavy, has_foreign_byte, is_too_long}
+use Rattle.mv_line.specs.Line.{is_foreign, is_too_long}
+use Rattle.mv_deck.specs.Fault.{is_null, is_misplaced, is_behind_end, is_late_deck, is_too_heavy}
 use Rattle.mv_deck.specs.Fault.{has_no_form, has_bad_name, has_bad_number, repeats_name, awaits_no_job, is_crowded, uses_out_of_order}
 use Rattle.mv_deck.specs.Fault.{needs_latch, kinds_of, kinds_of_statement, kinds_behind, kind_number, faults_from, fault_at, first_fault}
 use Rattle.mv_deck.specs.Fault.{first_of_list, when}
@@ -66,7 +67,7 @@ statement_rises n earlier (Some s) = behind_rises n earlier (jobs_of earlier) s
 -- the kinds of a line rise
 line_rises : (n : ℕ) (v : Version) (earlier : List Statement) (line : List ℕ) → Rises 1 (kinds_of n v earlier line)
 line_rises n v earlier line =
-    rises_when (has_foreign_byte line) ForeignByte 1 _ (omega arith)
+    rises_when (is_foreign line) ForeignByte 1 _ (omega arith)
     (rises_when (is_too_long line) TooLong 1 _ (omega arith)
     (rises_when (has_no_form v line) NoForm 2 _ (omega arith) (statement_rises n earlier (statement_of v line))))
 

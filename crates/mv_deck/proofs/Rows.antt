@@ -7,6 +7,7 @@ use Rattle.mv_deck.specs.declared.deck.Step.TheVariants.{Print, Use, Free, Count
 use Rattle.mv_deck.specs.declared.form.Version.TheVariants.{One, Two}
 use Rattle.mv_line.specs.Line.{lines_of, without_cr}
 use Rattle.mv_line.specs.Field.{fields_of}
+use Rattle.mv_line.specs.Part.{parts_at}
 use Rattle.mv_deck.specs.Operand.{latch_of, amount_of, code_of, end_code_of}
 use Rattle.mv_deck.specs.Statement.{Null, JobOf, PrintOf, UseOf, CountOf, AbendOf, ReturnOf, form_of, statement_of, version_of}
 use Rattle.mv_deck.specs.Deck.{JobData, deck_of}
@@ -44,13 +45,16 @@ a_job = refl
 
 a_list_with_an_empty_part : form_of One (codes "//B JOB AFTER=A,") ≡ Some
     (JobOf (codes "B") (record { name = codes "A"; most = None } ∷ record { name = []; most = None } ∷ []))
+unfolding parts_at
 a_list_with_an_empty_part = refl
 
 a_part_of_version_1 : form_of One (codes "//B JOB AFTER=A:4") ≡ Some (JobOf (codes "B") (record { name = codes "A:4"; most = None } ∷ []))
+unfolding parts_at
 a_part_of_version_1 = refl
 
 a_part_of_version_2 : form_of Two (codes "//B JOB AFTER=A:4:2") ≡ Some
     (JobOf (codes "B") (record { name = codes "A"; most = Some (codes "4:2") } ∷ []))
+unfolding parts_at
 a_part_of_version_2 = refl
 
 no_list : form_of Two (codes "//B JOB AFTER") ≡ None
@@ -158,13 +162,14 @@ small_jobs =
     ∷ []
 
 small_deck : deck_of small ≡ small_jobs
+unfolding parts_at
 small_deck = refl
 
 small_weight : weight small_jobs 1 ≡ 66
 small_weight = refl
 
 small_has_no_fault : first_fault small 1 ≡ None
-unfolding faults_from
+unfolding faults_from parts_at
 small_has_no_fault = refl
 
 -- ---- a deck with latches and volumes, and its weight for two initiators
@@ -199,7 +204,7 @@ unfolding faults_from
 a_lower_latch = refl
 
 a_job_after_itself : first_fault (codes "//A JOB AFTER=A") 1 ≡ Some (fault_at 1 6)
-unfolding faults_from
+unfolding faults_from parts_at
 a_job_after_itself = refl
 
 a_use_before_any_job : first_fault (codes "// USE 1 S") 1 ≡ Some (fault_at 1 11)

@@ -27,7 +27,8 @@ use Rattle.mv_deck.specs.Statement.{statement_of, statements_of}
 use Rattle.mv_deck.specs.Deck.{JobData, place_of, after_of, most_of, fresh_job, step_of, with_step, jobs_behind, jobs_of, deck_of}
 use Rattle.mv_deck.specs.Deck.{last_steps}
 use Rattle.mv_deck.specs.Held.{is_out_of_order, lacks_latch, is_end}
-use Rattle.mv_deck.specs.Fault.{is_job, is_null, is_deck, when, has_foreign_byte, is_too_long, has_no_form, kinds_of, kinds_of_statement}
+use Rattle.mv_line.specs.Line.{is_foreign, is_too_long}
+use Rattle.mv_deck.specs.Fault.{is_job, is_null, is_deck, when, has_no_form, kinds_of, kinds_of_statement}
 use Rattle.mv_deck.specs.Fault.{fault_at, faults_from, first_of_list, first_fault, kinds_behind, has_bad_name, has_bad_number}
 use Rattle.mv_deck.specs.Fault.{accepts_no_code, has_double, repeats_name, awaits_no_job, is_crowded, is_step_that, uses_out_of_order}
 use Rattle.mv_deck.specs.Fault.{needs_latch, is_misplaced, is_behind_end, is_too_heavy}
@@ -513,7 +514,7 @@ no_kinds number (k ∷ kinds) rest e = absurd cc
 stated_kinds : (n : ℕ) (v : Version) (sts : List Statement) (line : List ℕ) → kinds_of n v sts line ≡ []
     → kinds_of_statement n sts (statement_of v line) ≡ []
 stated_kinds n v sts line e =
-    let a = when_none (has_foreign_byte line) ForeignByte _ e in
+    let a = when_none (is_foreign line) ForeignByte _ e in
     let b = when_none (is_too_long line) TooLong _ a.1 in
     (when_none (has_no_form v line) NoForm _ b.1).1
 

@@ -6,7 +6,7 @@ use Rattle.std.specs.List.{AllByRecursion, list_any, onto_first, suffix_len}
 use Rattle.std.proofs.lemmas.Bool.{and_parts, leb-true, ne_eqb}
 use Rattle.std.proofs.lemmas.List.Sums.{suffix_len_is}
 use Rattle.std.proofs.Math.Seq.{take-length}
-use Rattle.mv_line.specs.Byte.{is_printable, is_space}
+use Rattle.mv_line.specs.Byte.{is_printable, is_space, has_foreign_byte}
 use Rattle.mv_line.specs.Line.{lines_of, without_cr, without_last_spaces}
 use Rattle.mv_deck.specs.Load.{ended}
 
@@ -19,7 +19,7 @@ is_tidy (b ∷ c ∷ bs) = is_printable b && is_tidy (c ∷ bs)
 -- ---- its bytes
 
 -- no byte is foreign
-pub printable : (line : List ℕ) → is_tidy line ≡ true → list_any (λ b. not (is_printable b)) line ≡ false
+pub printable : (line : List ℕ) → is_tidy line ≡ true → has_foreign_byte line ≡ false
 printable [] e = absurd cc
 printable (b ∷ []) e = let both = and_parts (is_printable b) (not (is_space b)) e in rw both.0 refl
 printable (b ∷ c ∷ bs) e = let both = and_parts (is_printable b) (is_tidy (c ∷ bs)) e in rw (both.0, printable (c ∷ bs) both.1) refl

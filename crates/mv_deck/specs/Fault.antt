@@ -12,9 +12,8 @@ use Rattle.mv_deck.specs.declared.fault.Kind.TheVariants.{ForeignByte, TooLong, 
 use Rattle.mv_deck.specs.declared.fault.Kind.TheVariants.{BadNumber, LatchOrder, LatchNotHeld, Misplaced, NoNull, BehindEnd, TooHeavy}
 use Rattle.mv_deck.specs.declared.fault.Kind.TheVariants.{LateDeck}
 use Rattle.mv_deck.specs.declared.form.Version.{Version}
-use Rattle.mv_line.specs.Byte.{is_printable}
-use Rattle.mv_line.specs.Line.{lines_of, without_cr}
-use Rattle.mv_deck.specs.Line.{longest_line, is_passed}
+use Rattle.mv_line.specs.Line.{lines_of, is_foreign, is_too_long}
+use Rattle.mv_deck.specs.Line.{is_passed}
 use Rattle.mv_deck.specs.Operand.{is_name, code_of, most_after}
 use Rattle.mv_deck.specs.Statement.{Statement, Null, DeckOf, JobOf, PrintOf, UseOf, FreeOf, CountOf, ScanOf, AbendOf, ReturnOf, AfterPart}
 use Rattle.mv_deck.specs.Statement.{statement_of, version_of}
@@ -41,14 +40,6 @@ kind_number TooHeavy = 14
 kind_number LateDeck = 15
 
 -- ---- faults of a line by itself
-
--- a byte that is no printable ASCII; one CR at the end is none of the line
-abbrev pub has_foreign_byte : List ℕ → Bool
-has_foreign_byte line = list_any (λ b. not (is_printable b)) (without_cr line)
-
--- more bytes than a card has, not counting one CR at the end
-abbrev pub is_too_long : List ℕ → Bool
-is_too_long line = nat_lt longest_line (length (without_cr line))
 
 -- an ignored line or a comment states nothing, and needs no form
 abbrev pub has_no_form : Version → List ℕ → Bool
@@ -240,7 +231,7 @@ kinds_of_statement initiators earlier (Some s) = kinds_behind initiators earlier
 -- the kinds of fault of a line behind the earlier statements, rising
 abbrev pub kinds_of : ℕ → Version → List Statement → List ℕ → List ℕ
 kinds_of initiators v earlier line =
-    when (has_foreign_byte line) ForeignByte
+    when (is_foreign line) ForeignByte
     ++ (when (is_too_long line) TooLong
     ++ (when (has_no_form v line) NoForm
     ++ kinds_of_statement initiators earlier (statement_of v line)))

@@ -1,11 +1,12 @@
 -- What a form states.
-use Rattle.std.specs.Prelude.{ℕ, List, [], map, Option, Some, None, option_map}
+use Rattle.std.specs.Prelude.{ℕ, List, map, Option, option_map}
 use Rattle.std.specs.Borrow.{Bor}
 use Rattle.mv_deck.specs.declared.form.Form.{Form}
 use Rattle.mv_deck.specs.declared.form.Form.TheVariants as form
 use Rattle.mv_deck.specs.declared.form.Part.{Part}
 use Rattle.mv_deck.specs.declared.form.Version.{Version}
-use Rattle.mv_deck.specs.Line.{parts_of}
+use Rattle.mv_line.specs.Part.{parts_left}
+use Rattle.mv_deck.specs.Line.{comma}
 use Rattle.mv_deck.specs.Statement.{Statement, Null, DeckOf, JobOf, PrintOf, UseOf, FreeOf, CountOf, ScanOf, AbendOf, ReturnOf, AfterPart}
 use Rattle.mv_deck.specs.Statement.{part_of}
 
@@ -17,14 +18,9 @@ bytes_behind text = text.now
 abbrev pub part_data : Part → AfterPart
 part_data p = record { name = p.name.now; most = option_map bytes_behind p.most }
 
--- the parts of a list, where there is one
-abbrev pub parts_behind : Option (Bor (List ℕ)) → List (List ℕ)
-parts_behind None = []
-parts_behind (Some list) = parts_of list.now
-
--- the same, as parts of an AFTER list
+-- the parts of an AFTER list, where there is one
 abbrev pub listed : Version → Option (Bor (List ℕ)) → List AfterPart
-listed v list = map (part_of v) (parts_behind list)
+listed v list = map (part_of v) (parts_left comma list)
 
 -- the statement that a form stands for
 abbrev pub stated : Version → Form → Statement

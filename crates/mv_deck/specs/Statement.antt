@@ -7,7 +7,8 @@ use Rattle.mv_deck.specs.declared.form.Version.{Version}
 use Rattle.mv_deck.specs.declared.form.Version.TheVariants.{One, Two}
 use Rattle.mv_line.specs.Line.{without_first_spaces}
 use Rattle.mv_line.specs.Field.{fields_of, one_of, two_of}
-use Rattle.mv_deck.specs.Line.{shown, is_comment, is_passed, parts_of, before_colon, behind_colon}
+use Rattle.mv_line.specs.Line.{shown}
+use Rattle.mv_deck.specs.Line.{is_comment, is_passed, parts_of, before_colon, behind_colon}
 use Rattle.mv_deck.specs.Operand.{mode_of}
 
 -- a part of an AFTER list: what stands in the place of a name, and in that of an accepted code where there is one

@@ -7,12 +7,11 @@ ghost use Rattle.mv_line.specs.Line.{lines_of, without_first_spaces as from_firs
 ghost use Rattle.mv_line.specs.Field.{fields_of, one_of, two_of};
 ghost use Rattle.mv_deck.specs.Statement.{Statement, form_of as form_by_words, job_of as named, operation_of as unnamed, use_of as used, return_of as returns_by, part_of as cut, declared_by, version_of as version_by_lines};
 
-use crate::line::{is_comment, split_colon, split_part};
+use crate::line::{is_comment, split_colon};
 use crate::operand::mode;
 use mv_latch::Mode;
 use mv_line::{
-    one_field, split_field, split_line, two_fields, without_cr, without_first_spaces,
-    without_last_spaces,
+    one_field, shown, split_field, split_line, split_part, two_fields, without_first_spaces,
 };
 use std::alloc::{AllocError, Global};
 
@@ -145,7 +144,7 @@ pub(crate) fn version_of(bytes: &[u8]) -> Version
     let mut rest = bytes;
     while !rest.is_empty() {
         let (line, behind) = split_line(rest);
-        let text = without_last_spaces(without_cr(line));
+        let text = shown(line);
         if !text.is_empty() && !is_comment(text) {
             return declared(form_of(Version::One, text));
         }
@@ -175,7 +174,7 @@ pub(crate) fn parts_of<'a>(
     let mut parts = Vec::new(alloc);
     let mut rest = list;
     while let Some(text) = rest {
-        let (part, behind) = split_part(text);
+        let (part, behind) = split_part(text, b',');
         parts.push(part_of(version, part))?;
         rest = behind;
     }

@@ -8,7 +8,7 @@ ghost use Rattle.mv_deck.specs.declared.deck.Job.{Job};
 ghost use Rattle.mv_deck.specs.declared.form.Part.{Part};
 ghost use Rattle.mv_deck.specs.declared.form.Version.{Version};
 ghost use Rattle.mv_deck.specs.Deck.{job_data, jobs_behind, with_step, jobs_of as jobs_by_definition, fresh_job as fresh_by_definition, most_of as most_by_definition, place_of as place_by_definition, step_of as step_by_definition, last_steps as last_by_definition};
-ghost use Rattle.mv_deck.specs.Fault.{first_fault, first_of_list, kind_number, kinds_of, kinds_of_statement, fault_at, when, is_step_that, is_null as states_null, is_job as states_job, is_deck as states_deck, has_bad_name as names_badly, has_bad_number as numbers_badly, repeats_name as names_again, awaits_no_job as awaits_none, is_crowded as crowds, is_misplaced as stands_misplaced, is_behind_end as stands_behind_end, is_late_deck as comes_late, is_too_long as exceeds_line, has_no_form as lacks_form, is_too_heavy as weighs_too_much};
+ghost use Rattle.mv_deck.specs.Fault.{first_fault, first_of_list, kind_number, kinds_of, kinds_of_statement, fault_at, when, is_step_that, is_null as states_null, is_job as states_job, is_deck as states_deck, has_bad_name as names_badly, has_bad_number as numbers_badly, repeats_name as names_again, awaits_no_job as awaits_none, is_crowded as crowds, is_misplaced as stands_misplaced, is_behind_end as stands_behind_end, is_late_deck as comes_late, has_no_form as lacks_form, is_too_heavy as weighs_too_much};
 ghost use Rattle.mv_deck.specs.Form.{stated, part_data, bytes_behind};
 ghost use Rattle.mv_deck.specs.Held.{HasLatch, held as held_by_definition, held_behind as behind_by_definition, holds_from as holds_by_definition, is_out_of_order as steps_out_of_order, lacks_latch as steps_without_latch, is_end as ends_by};
 ghost use Rattle.mv_line.specs.Line.{lines_of};
@@ -19,12 +19,12 @@ ghost use Rattle.mv_deck.specs.Weight.{weight as weight_by_definition, step_even
 
 use crate::fault::Kind;
 use crate::form::{Form, Part, Version, form_of, parts_of, version_of};
-use crate::line::{LONGEST_LINE, is_comment};
+use crate::line::is_comment;
 use crate::operand::{MOST_AFTER, amount, code, end_code, is_name, latch};
 use crate::weight::{HEAVIEST, step_events};
 use crate::{After, DeckFault, Job, Name, Step, Text, parts};
 use mv_latch::Mode;
-use mv_line::{has_foreign_byte, split_line, without_cr, without_last_spaces};
+use mv_line::{is_foreign, is_too_long, shown, split_line};
 use std::alloc::{AllocError, Global};
 
 const LATCHES: [u32; 8] = [0, 1, 2, 3, 4, 5, 6, 7];
@@ -96,7 +96,7 @@ fn statements(
 fn statement(version: Version, line: &[u8]) -> Option<Form<'_>>
     ensures { option_map (stated version) result ≡ statement_of_line version line.now }
 {
-    let text = without_last_spaces(without_cr(line));
+    let text = shown(line);
     if is_comment(text) {
         return None;
     }
@@ -107,7 +107,7 @@ fn statement(version: Version, line: &[u8]) -> Option<Form<'_>>
 fn is_passed(line: &[u8]) -> bool
     ensures { result ≡ passes line.now }
 {
-    let text = without_last_spaces(without_cr(line));
+    let text = shown(line);
     text.is_empty() || is_comment(text)
 }
 
@@ -143,14 +143,7 @@ fn kind_of_line(
     let kind = kind_of_form(alloc, version, initiators, earlier, form)?;
     let kind = told_when(has_no_form(version, line), Kind::NoForm, kind);
     let kind = told_when(is_too_long(line), Kind::TooLong, kind);
-    let foreign = has_foreign_byte(without_cr(line));
-    Ok(told_when(foreign, Kind::ForeignByte, kind))
-}
-
-fn is_too_long(line: &[u8]) -> bool
-    ensures { result ≡ exceeds_line line.now }
-{
-    without_cr(line).len() > LONGEST_LINE
+    Ok(told_when(is_foreign(line), Kind::ForeignByte, kind))
 }
 
 fn has_no_form(version: Version, line: &[u8]) -> bool

@@ -15,13 +15,13 @@ ghost use Rattle.mv_deck.specs.Weight.{heaviest};
 use crate::fault::{Kind, LineRefusal};
 use crate::form::{Form, Part, Version, form_of, parts_of, version_of};
 use crate::held::Held;
-use crate::line::{LONGEST_LINE, is_comment};
+use crate::line::is_comment;
 use crate::names::Names;
 use crate::operand::{MOST_AFTER, amount, code, end_code, is_name, latch};
 use crate::parts::{has_bad_code, has_bad_name, has_double};
 use crate::weight::{HEAVIEST, step_events};
 use crate::{After, Deck, DeckFault, DeckRefusal, Job, Name, Step, Text};
-use mv_line::{has_foreign_byte, split_line, without_cr, without_last_spaces};
+use mv_line::{is_foreign, is_too_long, shown, split_line};
 use std::alloc::{AllocError, Global};
 
 /// Reads a deck for a spool of so many initiators, 1 to 8.
@@ -138,14 +138,13 @@ impl<'a> Reading<'a> {
             (λ _. (kinds_of n v earlier line.now ≡ []) × IsBehind n v (earlier ++ option_to_list (statement_of v line.now)) self.new)
             (λ e. Tells e (kinds_of n v earlier line.now)) }
     {
-        let content = without_cr(line);
-        if has_foreign_byte(content) {
+        if is_foreign(line) {
             return Err(LineRefusal::Has(Kind::ForeignByte));
         }
-        if content.len() > LONGEST_LINE {
+        if is_too_long(line) {
             return Err(LineRefusal::Has(Kind::TooLong));
         }
-        let text = without_last_spaces(content);
+        let text = shown(line);
         if text.is_empty() || is_comment(text) {
             return Ok(());
         }

@@ -20,7 +20,8 @@ use Rattle.mv_deck.proofs.reading.Reading.check_job.Goals.{then-parts-gt-MOST_AF
 use Rattle.mv_deck.proofs.reading.Reading.check_job.Goals as goal
 
 -- a JOB of this name with these parts, where the reader is behind these statements
-module _ (name : List ℕ) (parts : List Part) (n : ℕ) (v : Version) (earlier : List Statement) (r : Reading) (b : IsBehind n v earlier r) where
+module _ (name : List ℕ) (parts : List Part) (n : ℕ) (v : Version) (earlier : List Statement) (r : Reading)
+    (b : IsBehind n v earlier r) where
   -- it stands where one may
   placed : r.ended ≡ false → is_misplaced earlier (job name parts) ≡ false
   placed none = job_placed n earlier (jobs_of earlier) name (map part_data parts) (sym b.ended ∙ none)

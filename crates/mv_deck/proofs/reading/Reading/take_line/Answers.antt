@@ -6,14 +6,13 @@ use Rattle.mv_deck.proofs.reading.Reading.take_line.Goals as goal
 
 pub returns-in-Some : goal.returns-in-Some
 returns-in-Some c = λ n v earlier b.
-    let form : statement.form_of v c.without_last_spaces-text.result.now ≡ Some (stated v c.in-Some.form) =
-    ap (λ x. statement.form_of x c.without_last_spaces-text.result.now) (sym b.version)
+    let form : statement.form_of v c.shown-text.result.now ≡ Some (stated v c.in-Some.form) =
+    ap (λ x. statement.form_of x c.shown-text.result.now) (sym b.version)
     ∙ sym c.form_of.ensures
     ∙ ap (option_map (stated c.args.self.now.version)) c.in-Some.is
     ∙ ap (λ x. Some (stated x c.in-Some.form)) b.version in
     taken n v earlier c.args.line.now (stated v c.in-Some.form) _ _
-    (is_shown n v earlier c.args.line.now c.without_cr-content.result.now c.without_last_spaces-text.result.now
-    (stated v c.in-Some.form) c.without_cr-content.ensures c.without_last_spaces-text.ensures
-    (sym c.has_foreign_byte.ensures ∙ c.if-has_foreign_byte.false) c.if-content-gt-LONGEST_LINE.false
+    (is_shown n v earlier c.args.line.now c.shown-text.result.now (stated v c.in-Some.form) c.shown-text.ensures
+    (sym c.is_foreign.ensures ∙ c.if-is_foreign.false) (sym c.is_too_long.ensures ∙ c.if-is_too_long.false)
     (sym c.is_empty.ensures ∙ c.if-is_empty.false) (sym c.is_comment.ensures ∙ c.if-is_comment.false) form)
     (c.take.ensures n v earlier b)
