@@ -1,21 +1,15 @@
 -- Which digits show a number, that it is the one that std writes so, and the value of digits, one by one.
-use Rattle.std.proofs.Common.{◌≡◌, ℕ, ◌+◌, ◌-◌, ◌*◌, ◌<◌, ◌≤◌, Bool, true, false, cond, leb, ◌&&◌, List, [], ◌∷◌, length, get_or, take}
-use Rattle.std.proofs.Common.{drop, ◌^◌, Option, Some, None, decimal, refl, ap, arith, All, inl, inr}
-use Rattle.std.specs.Option.{SomeIff}
+use Rattle.std.proofs.Common.{◌≡◌, ℕ, ◌<◌, ◌≤◌, Bool, true, false, cond, leb, ◌&&◌, List, [], ◌∷◌, length, get_or}
+use Rattle.std.proofs.Common.{Some, None, decimal, refl, ap, arith, inl, inr}
 use Rattle.std.specs.Int.{IsInRange}
 use Rattle.std.specs.List.{list_all}
 use Rattle.std.specs.Str.Parse.{AllDigits}
-use Rattle.std.proofs.lemmas.Bool.{cases_eq, and_parts, leb-true, le-leb, lt-leb, false≢true}
+use Rattle.std.proofs.lemmas.Bool.{cases_eq, and_parts, leb-true, le-leb, false≢true}
 use Rattle.std.proofs.lemmas.Fmt.{decimal_is_IsNumeral, decimal_digit, first_decimal, digits_value-decimal, decimal-digits_value}
-use Rattle.std.proofs.lemmas.List.{get_or-take, length-take, drop_more}
-use Rattle.std.proofs.lemmas.List.Elements.{All-head, All-tail}
-use Rattle.std.proofs.lemmas.List.Sums.{prefix_len_passes}
 use Rattle.std.proofs.lemmas.Str.Parse.{IsNumeralModel, tells_digits, digit_from_value, numerals_by_fold}
 use Rattle.mv_line.specs.Byte.{is_within, is_digit}
 use Rattle.mv_line.specs.Number.{is_number, number_of, value_behind, within}
-use Rattle.mv_line.proofs.Numbers.{value_rises}
 use Rattle.mv_entrytext.specs.Ranges.{highest_u64}
-use Rattle.mv_entrytext.specs.Reading.{digit_count}
 
 -- ---- digits
 
@@ -110,50 +104,3 @@ shown_is low high n ds wide e = go (is_number ds) refl e where
       let s = is_spelled ds i in
       let is : decimal v ≡ ds = decimal-digits_value std_value ds s.digits s.some s.lead (omega (arith, w.2)) in
       (rw w.0 at is, omega (arith, w.0, w.1), omega (arith, w.0, w.2))
-
--- ---- the reader of a number
-
--- what a text begins with are digits
-pub front_digits : (text : List ℕ) → All (λ b. is_digit b ≡ true) (take (digit_count text) text)
-front_digits text = λ k d lt.
-    let less : k < digit_count text = omega (arith, length-take (digit_count text) text) in
-    rw (get_or-take (digit_count text) text k d less) (prefix_len_passes is_digit text k d less)
-
--- the value of digits, one digit further
-pub one_more_digit : (ds : List ℕ) (i shown : ℕ) → i < length ds
-    → value_behind shown (drop i ds) ≡ value_behind (10 * shown + (get_or ds i 0 - 48)) (drop (i + 1) ds)
-one_more_digit ds i shown lt = ap (value_behind shown) (drop_more ds i 0 lt)
-
--- further digits never show less
-pub no_less : (ds : List ℕ) (i shown : ℕ) → i < length ds → value_behind shown (drop i ds) ≡ value_behind 0 ds
-    → 10 * shown + (get_or ds i 0 - 48) ≤ value_behind 0 ds
-no_less ds i shown lt so_far =
-    let rises = value_rises (10 * shown + (get_or ds i 0 - 48)) (drop (i + 1) ds) in
-    omega (arith, rises, one_more_digit ds i shown lt, so_far)
-
-std_digits : (ds : List ℕ) → All (λ b. is_digit b ≡ true) ds → AllDigits 10 ds
-std_digits [] h = tt
-std_digits (c ∷ cs) h =
-    tells_digits.more c cs (digit_range c (All-head (λ b. is_digit b ≡ true) c cs h))
-    (std_digits cs (All-tail (λ b. is_digit b ≡ true) c cs h))
-
--- a zero in front of other digits
-pub leading_zero : (ds : List ℕ) → get_or ds 0 0 ≡ 48 → 1 < length ds → number_of ds ≡ None
-leading_zero [] z more = absurd (omega arith)
-leading_zero (c ∷ []) z more = absurd (omega arith)
-leading_zero (c ∷ d ∷ ds) z more = rw z refl
-
--- a number that is kept where it fits eight bytes is none too many for a range of these
-in_eight_bytes : (low high v : ℕ) (o : Option ℕ) → high < 2 ^ 64 → SomeIff o (v < 2 ^ 64) v → within low high o ≡ within low high (Some v)
-in_eight_bytes low high v (Some w) wide h = ap (λ (n : ℕ). within low high (Some n)) h.1
-in_eight_bytes low high v None wide h = rw (lt-leb v high (omega (arith, h))) (neither (leb low v)) where
-  neither : (b : Bool) → None ≡ cond (b && false) (Some v) None
-  neither true = refl
-  neither false = refl
-
--- and no zero in front of others: they show their value
-pub no_leading_zero : (low high : ℕ) (ds : List ℕ) (o : Option ℕ) → high < 2 ^ 64 → All (λ b. is_digit b ≡ true) ds → 0 < length ds
-    → (get_or ds 0 0 ≡ 48 → length ds ≡ 1) → SomeIff o (value_behind 0 ds < 2 ^ 64) (value_behind 0 ds)
-    → within low high o ≡ within low high (number_of ds)
-no_leading_zero low high ds o wide h some lead is =
-    rw (shows ds (record { digits = std_digits ds h; some = some; lead = lead })) (in_eight_bytes low high (value_behind 0 ds) o wide is)

@@ -6,9 +6,10 @@ use Rattle.std.specs.List.{flat_map, join_with_byte}
 use Rattle.std.proofs.lemmas.List.{append-nil}
 use Rattle.std.proofs.lemmas.List.Concat.{flat_map-cons}
 use Rattle.mv_machine.specs.Setup.{SetupExit}
+use Rattle.mv_line.specs.Part.{parts_at}
 use Rattle.mv_entrytext.specs.declared.version.Version.TheVariants.{One, Two}
 use Rattle.mv_entrytext.specs.Ranges.{highest_u32}
-use Rattle.mv_entrytext.specs.Reading.{whole, parted, parts_at, any_u32}
+use Rattle.mv_entrytext.specs.Reading.{whole, parted, any_u32}
 use Rattle.mv_entrytext.specs.EntryText.{HasText, entry_read}
 use Rattle.mv_entrytext.specs.Journal.{Line, JournalOf, Callers, Elements, Volumes, Latches, Quota, Budget, Owner, ExitTo, Events}
 use Rattle.mv_entrytext.specs.Journal.{EntryOf, End, line_text}

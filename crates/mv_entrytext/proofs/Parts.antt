@@ -1,16 +1,12 @@
 -- The parts of a text, and which texts lack a byte.
-use Rattle.std.proofs.Common.{take, drop, Some, None, ◌-◌, length, ◌≡◌, ℕ, zero, suc, ◌+◌, ◌/◌, ◌%◌, ◌<◌, Bool, true, false}
-use Rattle.std.proofs.Common.{cond, eqb, not, List, [], ◌∷◌, ◌++◌, decimal, refl, sym, ap, ◌∙◌, arith}
+use Rattle.std.proofs.Common.{◌≡◌, ℕ, zero, suc, ◌+◌, ◌/◌, ◌%◌, ◌<◌, Bool, true, false}
+use Rattle.std.proofs.Common.{cond, eqb, not, List, [], ◌∷◌, ◌++◌, decimal, refl, sym, ◌∙◌, arith}
 use Rattle.std.specs.Fmt.{digits, digits_onto, digit_glyph}
-use Rattle.std.specs.List.{position, position_or_len, list_all, onto_first, join_with_byte}
+use Rattle.std.specs.List.{list_all, onto_first, join_with_byte}
 use Rattle.std.proofs.lemmas.Bool.{eq-eqb, ne_eqb, and_parts, lt-ltb}
-use Rattle.std.proofs.lemmas.Grind.{common_steps}
-use Rattle.std.proofs.lemmas.List.{take_all, length-drop}
 use Rattle.std.proofs.lemmas.List.Folds.{list_all-append}
-use Rattle.std.proofs.lemmas.List.Splits.{slice_split_none, slice_split_first, join_with_byte-slice_split}
-use Rattle.std.proofs.lemmas.List.Sums.{fails_before_first}
-use Rattle.mv_line.proofs.Places.{no_place}
-use Rattle.mv_entrytext.specs.Reading.{parts_at}
+use Rattle.std.proofs.lemmas.List.Splits.{join_with_byte-slice_split}
+use Rattle.mv_line.specs.Part.{parts_at}
 
 -- a text that lacks a byte
 abbrev pub lacks : ℕ → List ℕ → Bool
@@ -80,27 +76,6 @@ Lacks-onto byte (suc k) n acc low h =
 pub Lacks-decimal : (byte n : ℕ) → byte < 48 → Lacks byte (decimal n)
 unfolding digits
 Lacks-decimal byte n low = Lacks-onto byte 64 n [] low refl
-
--- ---- the first part, by the place of the byte
-
--- the first part ends before the place that was found
-pub parts_found : (byte : ℕ) (text : List ℕ) (k : ℕ) → position (λ b. eqb b byte) text ≡ Some k
-    → parts_at byte text ≡ take k text ∷ parts_at byte (take (length text - (k + 1)) (drop (k + 1) text))
-unfolding parts_at
-parts_found byte text k e =
-    let lt : position_or_len (λ b. eqb b byte) text < length text = grind (arith, common_steps) in
-    let same : position_or_len (λ b. eqb b byte) text ≡ k = grind (arith, common_steps) in
-    let all : take (length text - (k + 1)) (drop (k + 1) text) ≡ drop (k + 1) text =
-    take_all (length text - (k + 1)) (drop (k + 1) text) (omega (arith, length-drop (k + 1) text)) in
-    slice_split_first (λ b. eqb b byte) text 0 lt ∙ ap (λ (n : ℕ). take n text ∷ parts_at byte (drop (n + 1) text)) same
-    ∙ ap (λ (x : List ℕ). take k text ∷ parts_at byte x) (sym all)
-
--- a text in which the byte is not found is one part
-pub parts_missed : (byte : ℕ) (text : List ℕ) → position (λ b. eqb b byte) text ≡ None → parts_at byte text ≡ text ∷ []
-unfolding parts_at
-parts_missed byte text e =
-    let all : length text ≡ position_or_len (λ b. eqb b byte) text = no_place (λ b. eqb b byte) text e in
-    slice_split_none (λ b. eqb b byte) text (λ k d lt. fails_before_first (λ b. eqb b byte) text k d (omega (arith, all)))
 
 -- the parts of a text, put together again
 pub joined_again : (byte : ℕ) (text : List ℕ) → join_with_byte byte (parts_at byte text) ≡ text

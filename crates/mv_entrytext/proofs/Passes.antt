@@ -8,6 +8,7 @@ use Rattle.std.proofs.lemmas.Bool.{eq-eqb, ne_eqb}
 use Rattle.std.proofs.lemmas.List.{length-append}
 use Rattle.mv_machine.specs.declared.entry.Entry.{Entry}
 use Rattle.mv_machine.specs.Setup.{Setup}
+use Rattle.mv_line.specs.Part.{parts_at, parts_left, left_of}
 use Rattle.mv_entrytext.specs.declared.fault.Kind.{Kind}
 use Rattle.mv_entrytext.specs.declared.fault.Kind.TheVariants.{NoForm, BadNumber, WrongCount, Cut}
 use Rattle.mv_entrytext.specs.declared.fault.LineRefusal.{LineRefusal}
@@ -15,13 +16,12 @@ use Rattle.mv_entrytext.specs.declared.fault.LineRefusal.TheVariants.{Has, NoMem
 use Rattle.mv_entrytext.specs.declared.fault.TextFault.{TextFault}
 use Rattle.mv_entrytext.specs.declared.line.EntryLine.{EntryLine}
 use Rattle.mv_entrytext.specs.declared.version.Version.{Version}
-use Rattle.mv_entrytext.specs.Reading.{parts_at}
 use Rattle.mv_entrytext.specs.Journal.{Line, JournalOf, Callers, Elements, Volumes, Latches, Quota, Budget, Owner, ExitTo, Events}
 use Rattle.mv_entrytext.specs.Journal.{EntryOf, End}
 use Rattle.mv_entrytext.specs.Lines.{Stage, AtVersion, AtCallers, AtElements, AtVolumes, AtLatches, AtQuota, AtBudgets, AtOwners}
 use Rattle.mv_entrytext.specs.Lines.{AtExits, AtEntries, AtEnd, count_line, next_line, line_read, Draft, blank, draft_with}
 use Rattle.mv_entrytext.specs.Fault.{TellsFirst, kind_said, kind_of, is_cut, fault_at, first_fault, text_fault, draft_of, journal_of}
-use Rattle.mv_entrytext.specs.Said.{entry_said, parts_left, left_of}
+use Rattle.mv_entrytext.specs.Said.{entry_said}
 use Rattle.mv_entrytext.specs.Draft.{Tells, refusal_at, kind_of_form, draft_at, line_behind, IsAt, kind_at_end}
 use Rattle.mv_entrytext.proofs.Parts.{first_part, joined_again}
 use Rattle.mv_entrytext.proofs.LinesTaken.{MayCome, line_taken}

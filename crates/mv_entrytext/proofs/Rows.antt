@@ -1,10 +1,11 @@
 -- Worked rows: texts with their first faults, and a journal with none.
 use Rattle.std.proofs.Common.{◌≡◌, [], Some, None, refl}
 use Rattle.std.specs.Prelude.{codes}
+use Rattle.mv_line.specs.Part.{parts_at}
 use Rattle.mv_entrytext.specs.declared.fault.Kind.TheVariants.{NoForm, BadNumber, BadConfig, Cut}
 use Rattle.mv_entrytext.specs.Fault.{first_fault, text_fault, fault_at}
 use Rattle.mv_entrytext.specs.Lines.{next_line, count_line}
-use Rattle.mv_entrytext.specs.Reading.{behind, number, parts_at, parted_at}
+use Rattle.mv_entrytext.specs.Reading.{behind, number, parted_at}
 
 pub empty_text : text_fault [] ≡ Some (fault_at 1 Cut)
 unfolding first_fault parts_at

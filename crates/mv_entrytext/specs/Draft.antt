@@ -5,6 +5,7 @@ use Rattle.mv_machine.specs.Check.{refusal_of}
 use Rattle.mv_machine.specs.Config.{setup_of}
 use Rattle.mv_machine.specs.Setup.{Setup}
 use Rattle.mv_machine.specs.declared.entry.Entry.{Entry}
+use Rattle.mv_line.specs.Part.{parts_at}
 use Rattle.mv_entrytext.specs.declared.fault.Kind.{Kind}
 use Rattle.mv_entrytext.specs.declared.fault.Kind.TheVariants.{NoForm, BadNumber, BadConfig, Cut}
 use Rattle.mv_entrytext.specs.declared.fault.LineRefusal.{LineRefusal}
@@ -14,7 +15,6 @@ use Rattle.mv_entrytext.specs.declared.fault.TextRefusal.TheVariants.{Fault}
 use Rattle.mv_entrytext.specs.declared.fault.TextRefusal.TheVariants as refusal
 use Rattle.mv_entrytext.specs.declared.head.HeadDraft.{HeadDraft}
 use Rattle.mv_entrytext.specs.declared.version.Version.{Version}
-use Rattle.mv_entrytext.specs.Reading.{parts_at}
 use Rattle.mv_entrytext.specs.Lines.{Stage, AtVersion, AtCallers, AtElements, AtVolumes, AtLatches, AtQuota, AtBudgets, AtOwners}
 use Rattle.mv_entrytext.specs.Lines.{AtExits, AtEntries, AtEnd, Draft, line_read}
 use Rattle.mv_entrytext.specs.Fault.{fault_at, first_fault, text_fault, draft_of, journal_of}

@@ -4,6 +4,7 @@ use Rattle.std.specs.Prelude.{None, is_some, if◌then◌else◌}
 use Rattle.mv_machine.specs.declared.entry.Entry.{Entry}
 use Rattle.mv_machine.specs.Check.{IsValid, refusal_of}
 use Rattle.mv_machine.specs.Setup.{Setup}
+use Rattle.mv_line.specs.Part.{parts_at}
 use Rattle.mv_entrytext.specs.declared.fault.Kind.{Kind}
 use Rattle.mv_entrytext.specs.declared.fault.Kind.TheVariants.{NoForm, BadNumber, BadConfig, WrongCount, Cut}
 use Rattle.mv_entrytext.specs.declared.fault.TextFault.{TextFault}
@@ -12,7 +13,6 @@ use Rattle.mv_entrytext.specs.declared.fault.TextRefusal.TheVariants.{Fault, NoM
 use Rattle.mv_entrytext.specs.declared.version.Version.{Version}
 use Rattle.mv_entrytext.specs.declared.version.Version.TheVariants.{One, Two}
 use Rattle.mv_entrytext.specs.Ranges.{highest_u32}
-use Rattle.mv_entrytext.specs.Reading.{parts_at}
 use Rattle.mv_entrytext.specs.EntryText.{HasText}
 use Rattle.mv_entrytext.specs.Journal.{Line, Events, End, number_of, text_of}
 use Rattle.mv_entrytext.specs.Lines.{Draft, Stage, AtEnd, line_read, blank, draft_with}

@@ -2,12 +2,13 @@
 use Rattle.std.specs.Prelude.{ℕ, Bool, List, [], ◌∷◌, ◌++◌, codes, Option, Some, None, option_map, option_and_then}
 use Rattle.mv_machine.specs.declared.entry.Entry.{Entry}
 use Rattle.mv_machine.specs.Setup.{Setup, SetupExit}
+use Rattle.mv_line.specs.Part.{parts_at}
 use Rattle.mv_entrytext.specs.declared.version.Version.{Version}
 use Rattle.mv_entrytext.specs.declared.version.Version.TheVariants.{One, Two}
 use Rattle.mv_entrytext.specs.EntryText.{entry_read}
 use Rattle.mv_entrytext.specs.Journal.{Line, JournalOf, Callers, Elements, Volumes, Latches, Quota, Budget, Owner, ExitTo, Events}
 use Rattle.mv_entrytext.specs.Journal.{EntryOf, End}
-use Rattle.mv_entrytext.specs.Reading.{Reader, given, nothing, behind, made, parted, whole, parts_at, any_u32}
+use Rattle.mv_entrytext.specs.Reading.{Reader, given, nothing, behind, made, parted, whole, any_u32}
 
 -- which line comes next
 pub data Stage : Type 0 where

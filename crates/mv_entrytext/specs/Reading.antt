@@ -2,7 +2,7 @@
 use Rattle.std.specs.Prelude.{ℕ, ◌==◌, nat_eq, Bool, List, [], ◌∷◌, take, drop, length, Option, Some, None, option_map}
 use Rattle.std.specs.Prelude.{option_and_then, if◌then◌else◌}
 use Rattle.std.specs.Borrow.{Bor}
-use Rattle.std.specs.List.{starts_with, prefix_len, slice_split}
+use Rattle.std.specs.List.{starts_with, prefix_len}
 use Rattle.mv_line.specs.Byte.{is_digit}
 use Rattle.mv_line.specs.Number.{number_of, within}
 use Rattle.mv_entrytext.specs.Ranges.{highest_u32, highest_u64}
@@ -56,10 +56,6 @@ ended read = option_and_then (λ x. if length x.1 == 0 then Some x.0 else None) 
 -- the value of a text that is read to its end
 abbrev pub whole : {A : Type 0} → Reader A → List ℕ → Option A
 whole reader text = ended (reader text)
-
--- The parts of a text between the bytes of this value, empty ones too: one part more than there are such bytes.
-unfoldable pub parts_at : ℕ → List ℕ → List (List ℕ)
-parts_at byte text = slice_split (λ b. b == byte) text
 
 -- ---- numbers
 

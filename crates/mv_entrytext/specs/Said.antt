@@ -1,5 +1,5 @@
 -- How the reader's own types are seen.
-use Rattle.std.specs.Prelude.{ℕ, List, [], Option, Some, None, option_map, length}
+use Rattle.std.specs.Prelude.{ℕ, List, Option, option_map}
 use Rattle.std.specs.Borrow.{Bor}
 use Rattle.mv_machine.specs.Config.{exit_of}
 use Rattle.mv_entrytext.specs.declared.line.Line.{Line}
@@ -11,7 +11,6 @@ use Rattle.mv_entrytext.specs.declared.line.Stage.{Stage}
 use Rattle.mv_entrytext.specs.declared.line.Stage.TheVariants as stage
 use Rattle.mv_entrytext.specs.Journal as journal
 use Rattle.mv_entrytext.specs.Lines as lines
-use Rattle.mv_entrytext.specs.Reading.{parts_at}
 
 -- what a line says
 abbrev pub said : Line → journal.Line
@@ -50,13 +49,3 @@ line_seen read = option_map (λ x. (said x.0, x.1.now)) read
 -- what was read of a line behind the head, and what is left
 abbrev pub entry_line_seen : Option (EntryLine × Bor (List ℕ)) → Option (journal.Line × List ℕ)
 entry_line_seen read = option_map (λ x. (entry_said x.0, x.1.now)) read
-
--- the parts that are left, none behind the last
-abbrev pub parts_left : ℕ → Option (Bor (List ℕ)) → List (List ℕ)
-parts_left byte None = []
-parts_left byte (Some text) = parts_at byte text.now
-
--- more than the bytes that are left, 0 behind the last part
-abbrev pub left_of : Option (Bor (List ℕ)) → ℕ
-left_of None = 0
-left_of (Some text) = Prim.Native.Nat.suc (length text.now)

@@ -10,9 +10,10 @@ ghost use Rattle.mv_entrytext.specs.Said.{said, stage_of};
 ghost use Rattle.mv_entrytext.specs.Draft.{Tells, kind_of_form, kind_of_config, draft_at, head_seen, IsAt};
 
 use crate::fault::{Kind, LineRefusal, TextRefusal};
-use crate::line::{Line, Stage, read_line, split_first};
+use crate::line::{Line, Stage, read_line};
 use crate::version::Version;
 use mv_io::NoMemory;
+use mv_line::split_part;
 use mv_machine::{CheckRefusal, Config, ValidConfig};
 use std::alloc::Global;
 
@@ -146,7 +147,7 @@ pub(crate) fn read_head(alloc: Global, bytes: &[u8]) -> Result<Head<'_>, TextRef
     let mut rest = bytes;
     let mut number = 1;
     'lines: loop {
-        let (text, behind) = split_first(rest, b'\n');
+        let (text, behind) = split_part(rest, b'\n');
         let Some(behind) = behind else {
             return Err(LineRefusal::Has(Kind::Cut).at(number));
         };

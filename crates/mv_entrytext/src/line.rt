@@ -2,16 +2,17 @@
 
 ghost use Rattle.std.specs.Prelude.{◌≡◌, ◌≤◌, ◌∷◌, [], ℕ, List, true, IfOk, option_map, length};
 ghost use Rattle.mv_machine.specs.Config.{exit_of};
-ghost use Rattle.mv_entrytext.specs.Reading.{whole, any_u32, parts_at};
+ghost use Rattle.mv_line.specs.Part.{parts_at, parts_left, left_of};
+ghost use Rattle.mv_entrytext.specs.Reading.{whole, any_u32};
 ghost use Rattle.mv_entrytext.specs.Lines.{AtVersion, AtBudgets, AtEntries, numbers, exit_from, exit_read, at_exits, at_owners};
 ghost use Rattle.mv_entrytext.specs.Lines.{count_line, next_line, line_read};
-ghost use Rattle.mv_entrytext.specs.Said.{said, entry_said, stage_of, line_seen, entry_line_seen, parts_left, left_of};
+ghost use Rattle.mv_entrytext.specs.Said.{said, entry_said, stage_of, line_seen, entry_line_seen};
 
 use crate::entry::read_entry;
 use crate::number::{after, any_u32, two_numbers};
 use crate::version::Version;
 use mv_io::NoMemory;
-use mv_line::first_place;
+use mv_line::split_part;
 use mv_machine::{Entry, Exit};
 use std::alloc::Global;
 
@@ -52,17 +53,6 @@ pub(crate) enum Stage {
     Exits,
 }
 
-/// The first part of a text, up to this byte, and what stands behind it; nothing behind the last part.
-pub(crate) fn split_first(text: &[u8], byte: u8) -> (&[u8], Option<&[u8]>)
-    ensures parts { parts_at byte text.now ≡ result.0.now ∷ parts_left byte result.1 }
-    ensures shorter { left_of result.1 ≤ length text.now }
-{
-    match first_place(text, byte) {
-        Some(place) => (&text[..place], Some(&text[place + 1..])),
-        None => (text, None),
-    }
-}
-
 // A number that is all of a text.
 fn whole_number(strict: bool, text: &[u8]) -> Option<u32>
     ensures { result ≡ whole (any_u32 strict) text.now }
@@ -78,7 +68,7 @@ fn read_numbers(alloc: Global, strict: bool, text: &[u8]) -> Result<Option<Vec<u
     let mut found = Vec::new(alloc);
     let mut left = Some(text);
     while let Some(fields) = left {
-        let (field, behind) = split_first(fields, b' ');
+        let (field, behind) = split_part(fields, b' ');
         let Some(number) = whole_number(strict, field) else {
             return Ok(None);
         };

@@ -1,15 +1,14 @@
 //! Numbers in a text: `specs/Reading.antt`.
 
-ghost use Rattle.std.specs.Prelude.{◌≡◌, ◌≤◌, ◌<◌, ◌^◌, ◌++◌, ◌+◌, ◌*◌, ◌-◌, All, OnOk, IfSome, SomeIff, MatchOption, true, false};
+ghost use Rattle.std.specs.Prelude.{◌≡◌, ◌≤◌, ◌++◌, OnOk, IfSome, MatchOption, true, false};
 ghost use Rattle.std.specs.Prelude.{nat_eq, decimal, drop, length};
 ghost use Rattle.std.specs.List.{starts_with};
-ghost use Rattle.mv_line.specs.Byte.{is_digit};
-ghost use Rattle.mv_line.specs.Number.{number_of, value_behind, within};
 ghost use Rattle.mv_entrytext.specs.Words.{◌<+>◌};
 ghost use Rattle.mv_entrytext.specs.Reading.{seen, digit_count, number as number_at, any_u32, any_u64, parted};
 
 use itoa::Buffer;
 use mv_io::NoMemory;
+use mv_line::wide_number_within;
 
 /// Appends a word and a number behind it.
 pub(crate) fn push_number(out: &mut Vec<u8>, word: &[u8], number: u32) -> Result<(), NoMemory>
@@ -106,58 +105,11 @@ fn number(strict: bool, low: u64, high: u64, text: &[u8]) -> Option<(u64, &[u8])
     if digits.is_empty() {
         return None;
     }
-    match shown_within(low, high, digits) {
+    match wide_number_within(low, high, digits) {
         Some(value) => Some((value, rest)),
         None if strict => None,
         None => Some((0, rest)),
     }
-}
-
-// The number that digits show, where it is within these. mv_line reads numbers of four bytes alone.
-fn shown_within(low: u64, high: u64, digits: &[u8]) -> Option<u64>
-    requires some { 0 < length digits.now }
-    requires digits { All (λ b. is_digit b ≡ true) digits.now }
-    ensures number { result ≡ within low high (number_of digits.now) }
-    ensures bound { IfSome result (λ n. n ≤ high) }
-{
-    if digits[0] == b'0' && digits.len() > 1 {
-        return None;
-    }
-    only_within(low, high, value(digits))
-}
-
-// A number where it is within these.
-fn only_within(low: u64, high: u64, number: Option<u64>) -> Option<u64>
-    ensures within { result ≡ within low high number }
-    ensures bound { IfSome result (λ n. n ≤ high) }
-{
-    match number {
-        Some(n) if (low..=high).contains(&n) => Some(n),
-        _ => None,
-    }
-}
-
-// The value of digits, where it fits eight bytes.
-fn value(digits: &[u8]) -> Option<u64>
-    requires { All (λ b. is_digit b ≡ true) digits.now }
-    ensures { SomeIff result (value_behind 0 digits.now < 2 ^ 64) (value_behind 0 digits.now) }
-{
-    let mut value: u64 = 0;
-    for digit in digits {
-        let Some(next) = with_digit(value, *digit) else {
-            return None;
-        };
-        value = next;
-    }
-    Some(value)
-}
-
-// A number with one more digit behind it, where it fits eight bytes.
-fn with_digit(value: u64, digit: u8) -> Option<u64>
-    requires { is_digit digit ≡ true }
-    ensures { SomeIff result (10 * value + (digit - 48) < 2 ^ 64) (10 * value + (digit - 48)) }
-{
-    value.checked_mul(10)?.checked_add(u64::from(digit - b'0'))
 }
 
 // How many digits a text begins with.

@@ -2,17 +2,18 @@
 
 ghost use Rattle.std.specs.Prelude.{◌≡◌, ◌<◌, ◌≤◌, ◌+◌, ◌-◌, ◌^◌, ◌∷◌, ℕ, List, [], true, Some, length, vec_len, IfOk, IfErr, OnOk};
 ghost use Rattle.std.specs.Prelude.{MatchResult};
+ghost use Rattle.mv_line.specs.Part.{parts_at};
 ghost use Rattle.mv_entrytext.specs.Lines.{AtEntries, AtEnd, line_read, with_call};
 ghost use Rattle.mv_entrytext.specs.Fault.{HasJournal, IsTextIn, TellsFirst, first_fault, text_fault};
-ghost use Rattle.mv_entrytext.specs.Reading.{parts_at};
 ghost use Rattle.mv_entrytext.specs.Said.{entry_said};
 ghost use Rattle.mv_entrytext.specs.Draft.{Tells, kind_of_form, kind_at_end};
 
 use crate::fault::{Kind, LineRefusal, TextRefusal};
 use crate::head::read_head;
-use crate::line::{EntryLine, read_entry_line, split_first};
+use crate::line::{EntryLine, read_entry_line};
 use crate::version::Version;
 use mv_io::NoMemory;
+use mv_line::split_part;
 use mv_machine::{Entry, ValidConfig};
 use std::alloc::Global;
 
@@ -60,7 +61,7 @@ fn nothing_behind(rest: &[u8]) -> Result<(), LineRefusal>
         (λ _. rest.now ≡ [])
         (λ e. Tells e (kind_at_end (parts_at 10 rest.now))) }
 {
-    match split_first(rest, b'\n') {
+    match split_part(rest, b'\n') {
         (_, Some(_)) => Err(LineRefusal::Has(Kind::NoForm)),
         (last, None) if last.is_empty() => Ok(()),
         _ => Err(LineRefusal::Has(Kind::Cut)),
@@ -95,7 +96,7 @@ pub fn read_journal(alloc: Global, bytes: &[u8]) -> Result<Journal, TextRefusal>
     let mut rest = head.rest;
     let mut number = head.line;
     'lines: loop {
-        let (text, behind) = split_first(rest, b'\n');
+        let (text, behind) = split_part(rest, b'\n');
         let Some(behind) = behind else {
             return Err(LineRefusal::Has(Kind::Cut).at(number));
         };

@@ -1,8 +1,7 @@
 use Rattle.std.proofs.Common.{◌≡◌, ◌++◌, List, ℕ}
 use Rattle.std.specs.Option.{option_map}
-use Rattle.mv_entrytext.specs.Reading.{parts_at}
+use Rattle.mv_line.specs.Part.{parts_at, parts_left, left_of}
 use Rattle.mv_entrytext.specs.Lines.{numbers}
-use Rattle.mv_entrytext.specs.Said.{parts_left, left_of}
 use Rattle.mv_entrytext.proofs.line.read_numbers.Given as goal
 
 abbrev pub invariant-loop-left : goal.invariant-loop-left
