@@ -13,6 +13,7 @@ ghost use Rattle.mv_machine.specs.Setup.{element_count};
 ghost use Rattle.mv_pause.specs.Answers.{gift_of};
 ghost use Rattle.mv_plan.specs.SpoolSetup.{spool_setup};
 ghost use Rattle.mv_plan.specs.SpoolTasks.{initiating, job_named as named_by};
+ghost use Rattle.mv_spool.specs.Limits.{jobs_limit};
 ghost use Rattle.mv_spool.specs.Parts.{jobs_of, named_of, next_gift};
 ghost use Rattle.mv_spool.specs.Ran.{Ran, RanOut};
 
@@ -36,7 +37,7 @@ pub(crate) const NO_JOB: u32 = 0;
 
 /// The job of so many that a code names, if it names one.
 fn job_named(jobs: u32, code: u32) -> Option<Named>
-    requires { jobs ≤ 65535 }
+    requires { jobs ≤ jobs_limit }
     ensures { option_map named_of result ≡ named_by jobs code }
 {
     if 1 <= code && code <= jobs {
@@ -90,7 +91,7 @@ pub(crate) fn initiate<R: Wait, G: Gate>(
     gate: &G,
     ran: &mut [bool],
 )
-    requires few { length deck.now ≤ 65535 }
+    requires few { length deck.now ≤ jobs_limit }
     requires sound { IsSound (jobs_of deck.now) initiators }
     requires station { station.now.config ≡ spool_setup (jobs_of deck.now) initiators }
     requires task { IsOf station.now task.old }

@@ -1,17 +1,19 @@
 //! Jobs that are run. Clauses cite the plan's `SpoolTasks.antt`, and `specs/Ran.antt` and `specs/Steps.antt`.
 
-ghost use Rattle.std.specs.Prelude.{◌≡◌, ◌<◌, ◌≤◌, ◌+◌, ◌*◌, ◌^◌, length, sum_by, MatchResult, IfOk, IfSome, None};
+ghost use Rattle.std.specs.Prelude.{◌≡◌, ◌<◌, ◌≤◌, ◌+◌, ◌*◌, length, sum_by, MatchResult, IfOk, IfSome, None};
 ghost use Rattle.std.specs.List.{AllByRecursion};
 ghost use Rattle.mv_machine.specs.Reach.{release_cost};
 ghost use Rattle.mv_board.specs.Faces.{IsOf};
 ghost use Rattle.mv_calls.specs.Program.{Done, Wrong};
 ghost use Rattle.mv_calls.specs.Rest.{IsAtRest};
 ghost use Rattle.mv_deck.specs.Deck.{job_data};
+ghost use Rattle.mv_deck.specs.EndCode.{not_run};
 ghost use Rattle.mv_deck.specs.Sound.{IsSound, HasGoodNumbers};
 ghost use Rattle.mv_deck.specs.Weight.{step_events};
 ghost use Rattle.mv_plan.specs.Jobs.{job_at};
 ghost use Rattle.mv_plan.specs.SpoolSetup.{spool_setup};
 ghost use Rattle.mv_plan.specs.SpoolTasks.{run_steps as steps_run, run_job as job_run, job_done};
+ghost use Rattle.mv_spool.specs.Limits.{jobs_limit};
 ghost use Rattle.mv_spool.specs.Parts.{jobs_of, named_of};
 ghost use Rattle.mv_spool.specs.Ran.{Ran, RanSome};
 ghost use Rattle.mv_spool.specs.Steps.{AreKept, DoesStep};
@@ -58,7 +60,7 @@ fn do_step<R: Wait>(
     ensures board { IsOf station.now task.new }
     ensures rest { IsAtRest task.new.log }
     ensures few { task.old.left ≤ task.new.left + step_events step.now }
-    ensures end { IfOk result (λ end. IfSome end (λ e. e < 2 ^ 25)) }
+    ensures end { IfOk result (λ end. IfSome end (λ e. e < not_run)) }
 {
     match step {
         Step::Print(_) => Ok(None),
@@ -116,7 +118,7 @@ fn run_steps<R: Wait>(
         (λ end. Ran (steps_run station.now.config requestor (λ latch. None) steps.now) (Done end) task.old task.new)
         (λ _. Ran (steps_run station.now.config requestor (λ latch. None) steps.now) Wrong task.old task.new) }
     ensures few { task.old.left ≤ task.new.left + sum_by step_events steps.now }
-    ensures end { IfOk result (λ end. end < 2 ^ 25) }
+    ensures end { IfOk result (λ end. end < not_run) }
 {
     let mut requests: [Option<LatchToken>; LATCHES] = [None; LATCHES];
     for step in steps {
@@ -147,7 +149,7 @@ fn do_job<R: Wait>(
         (λ end. Ran (job_done station.now.config requestor (job_data job.now) skipped) (Done end) task.old task.new)
         (λ _. Ran (job_done station.now.config requestor (job_data job.now) skipped) Wrong task.old task.new) }
     ensures few { task.old.left ≤ task.new.left + sum_by step_events job.now.steps.items }
-    ensures end { IfOk result (λ end. end ≤ 2 ^ 25) }
+    ensures end { IfOk result (λ end. end ≤ not_run) }
 {
     if skipped {
         return Ok(NOT_RUN);
@@ -165,7 +167,7 @@ pub(crate) fn run_job<R: Wait, G: Gate>(
     gate: &G,
     named: Named,
 ) -> Result<(), Lost>
-    requires few { length deck.now ≤ 65535 }
+    requires few { length deck.now ≤ jobs_limit }
     requires job { named.job < length deck.now }
     requires sound { IsSound (jobs_of deck.now) initiators }
     requires station { station.now.config ≡ spool_setup (jobs_of deck.now) initiators }

@@ -1,7 +1,8 @@
 //! The scheduler. Clauses cite the plan's `SpoolTasks.antt`, and `specs/Ran.antt` and `specs/Parts.antt`.
 
-ghost use Rattle.std.specs.Prelude.{◌≡◌, ◌<◌, ◌≤◌, ◌+◌, ◌*◌, ◌^◌, length, map, take, MatchResult};
+ghost use Rattle.std.specs.Prelude.{◌≡◌, ◌<◌, ◌≤◌, ◌+◌, ◌*◌, length, map, take, MatchResult};
 ghost use Rattle.std.specs.List.{AllByRecursion, range_with_len};
+ghost use Rattle.mv_element.specs.Table.{release_limit};
 ghost use Rattle.mv_board.specs.Faces.{IsOf};
 ghost use Rattle.mv_calls.specs.Program.{Done, Wrong};
 ghost use Rattle.mv_calls.specs.Rest.{IsAtRest};
@@ -9,7 +10,9 @@ ghost use Rattle.mv_deck.specs.Sound.{IsSound};
 ghost use Rattle.mv_deck.specs.Weight.{after_parts};
 ghost use Rattle.mv_plan.specs.Jobs.{job_at};
 ghost use Rattle.mv_plan.specs.SpoolSetup.{spool_setup, idle};
-ghost use Rattle.mv_plan.specs.SpoolTasks.{scheduling, hand_over as handed, dispatch as dispatched, dismiss as dismissed, code_of, ends_of, some_end_above};
+ghost use Rattle.mv_plan.specs.SpoolTasks.{scheduling, hand_over as handed, dispatch as dispatched, dismiss as dismissed};
+ghost use Rattle.mv_plan.specs.SpoolTasks.{code_of, ends_of, some_end_above};
+ghost use Rattle.mv_spool.specs.Limits.{jobs_limit, most_initiators};
 ghost use Rattle.mv_spool.specs.Parts.{jobs_of, all_ends, is_end_above};
 ghost use Rattle.mv_spool.specs.Ran.{Ran, RanOut};
 ghost use Rattle.mv_wait.specs.Answers.{slot_of, slots_of};
@@ -32,7 +35,7 @@ const MOST_INITIATORS: usize = 8;
 
 /// The scheduler's blocks with the ends of these jobs.
 fn end_blocks(jobs: u32, after: &[After]) -> [u32; MOST_AFTER]
-    requires jobs { (jobs ≤ 65535) × (length after.now ≤ 8) }
+    requires jobs { (jobs ≤ jobs_limit) × (length after.now ≤ 8) }
     requires earlier { AllByRecursion (λ part. part.job < jobs) after.now }
     ensures { take (length after.now) result ≡ ends_of jobs after.now }
 {
@@ -74,7 +77,7 @@ fn await_ends<R: Wait>(
     jobs: u32,
     after: &[After],
 ) -> Result<bool, Lost>
-    requires jobs { jobs ≤ 65535 }
+    requires jobs { jobs ≤ jobs_limit }
     requires few { length after.now ≤ 8 }
     requires earlier { AllByRecursion (λ part. part.job < jobs) after.now }
     requires station { 4 * jobs ≤ length station.now.config.owners }
@@ -109,8 +112,9 @@ fn hand_over<R: Wait>(
     initiator: u32,
     generation: u32,
 ) -> Result<(), Lost>
-    requires jobs { (jobs ≤ 65535) × (initiator < 8) × (code < 2 ^ 24) }
-    requires station { (4 * jobs + initiator < length station.now.config.owners) × (initiator + 2 < station.now.config.callers) × (station.now.config.elements_per_caller ≡ 1) }
+    requires jobs { (jobs ≤ jobs_limit) × (initiator < most_initiators) × (code < release_limit) }
+    requires station { (4 * jobs + initiator < length station.now.config.owners) × (initiator + 2 < station.now.config.callers)
+        × (station.now.config.elements_per_caller ≡ 1) }
     requires task { IsOf station.now task.old }
     requires rest { IsAtRest task.old.log }
     requires left { 2 ≤ task.old.left }
@@ -134,9 +138,9 @@ fn hand_over<R: Wait>(
 
 /// The code that hands out a job, or tells that it is not to be run.
 fn job_code(job: u32, skipped: bool) -> u32
-    requires { job ≤ 65535 }
+    requires { job ≤ jobs_limit }
     ensures code { result ≡ code_of job skipped }
-    ensures few { result < 2 ^ 24 }
+    ensures few { result < release_limit }
 {
     if skipped {
         job + 1 + NOT_TO_RUN
@@ -147,7 +151,7 @@ fn job_code(job: u32, skipped: bool) -> u32
 
 /// The blocks that initiators post when they are idle.
 fn idle_blocks(jobs: u32, initiators: u32) -> [u32; MOST_INITIATORS]
-    requires { (jobs ≤ 65535) × (initiators ≤ 8) }
+    requires { (jobs ≤ jobs_limit) × (initiators ≤ most_initiators) }
     ensures { take initiators result ≡ map (idle jobs) (range_with_len 0 initiators) }
 {
     let mut blocks = [0; MOST_INITIATORS];
@@ -167,17 +171,19 @@ fn dispatch<R: Wait, G: Gate>(
     gate: &G,
     job: u32,
 ) -> Result<(), Lost>
-    requires few { length deck.now ≤ 65535 }
+    requires few { length deck.now ≤ jobs_limit }
     requires job { job < length deck.now }
-    requires initiators { initiators ≤ 8 }
+    requires initiators { initiators ≤ most_initiators }
     requires sound { IsSound (jobs_of deck.now) initiators }
     requires station { station.now.config ≡ spool_setup (jobs_of deck.now) initiators }
     requires task { IsOf station.now task.old }
     requires rest { IsAtRest task.old.log }
     requires left { 5 + 2 * length (job_at (jobs_of deck.now) job).after + 2 * initiators ≤ task.old.left }
     ensures ran { MatchResult result
-        (λ _. Ran (dispatched station.now.config (length deck.now) initiators job (job_at (jobs_of deck.now) job)) (Done tt) task.old task.new)
-        (λ _. Ran (dispatched station.now.config (length deck.now) initiators job (job_at (jobs_of deck.now) job)) Wrong task.old task.new) }
+        (λ _. Ran (dispatched station.now.config (length deck.now) initiators job (job_at (jobs_of deck.now) job)) (Done tt)
+        task.old task.new)
+        (λ _. Ran (dispatched station.now.config (length deck.now) initiators job (job_at (jobs_of deck.now) job)) Wrong
+        task.old task.new) }
     ensures few { task.old.left ≤ task.new.left + (5 + 2 * length (job_at (jobs_of deck.now) job).after + 2 * initiators) }
 {
     let jobs = deck.len() as u32;
@@ -220,8 +226,9 @@ fn dismiss<R: Wait>(
     jobs: u32,
     initiator: u32,
 ) -> Result<(), Lost>
-    requires jobs { (jobs ≤ 65535) × (initiator < 8) }
-    requires station { (4 * jobs + initiator < length station.now.config.owners) × (initiator + 2 < station.now.config.callers) × (station.now.config.elements_per_caller ≡ 1) }
+    requires jobs { (jobs ≤ jobs_limit) × (initiator < most_initiators) }
+    requires station { (4 * jobs + initiator < length station.now.config.owners) × (initiator + 2 < station.now.config.callers)
+        × (station.now.config.elements_per_caller ≡ 1) }
     requires task { IsOf station.now task.old }
     requires rest { IsAtRest task.old.log }
     requires left { 4 ≤ task.old.left }
@@ -249,8 +256,8 @@ pub(crate) fn schedule<R: Wait, G: Gate>(
     initiators: u32,
     gate: &G,
 )
-    requires few { length deck.now ≤ 65535 }
-    requires initiators { initiators ≤ 8 }
+    requires few { length deck.now ≤ jobs_limit }
+    requires initiators { initiators ≤ most_initiators }
     requires sound { IsSound (jobs_of deck.now) initiators }
     requires station { station.now.config ≡ spool_setup (jobs_of deck.now) initiators }
     requires task { IsOf station.now task.old }

@@ -3,6 +3,7 @@
 ghost use Rattle.std.specs.Prelude.{◌≡◌, ◌<◌, ◌≤◌, ◌+◌, ℕ, length, slice_index_or};
 ghost use Rattle.mv_deck.specs.Sound.{IsSound};
 ghost use Rattle.mv_plan.specs.SpoolSetup.{spool_setup};
+ghost use Rattle.mv_spool.specs.Limits.{jobs_limit, most_initiators};
 ghost use Rattle.mv_spool.specs.Parts.{jobs_of};
 ghost use Rattle.mv_spool.specs.Seats.{IsReady, AreReady, HasWorked};
 
@@ -39,7 +40,7 @@ fn work<R: Wait, G: Gate>(
     gate: &G,
     seat: &mut Seat,
 )
-    requires deck { (length deck.now ≤ 65535) × (initiators ≤ 8) }
+    requires deck { (length deck.now ≤ jobs_limit) × (initiators ≤ most_initiators) }
     requires sound { IsSound (jobs_of deck.now) initiators }
     requires station { station.now.config ≡ spool_setup (jobs_of deck.now) initiators }
     requires number { seat.old.task.number < initiators + 3 }
@@ -69,7 +70,7 @@ fn work_one<R: Wait, G: Gate>(
     number: usize,
     one: &mut [Seat],
 )
-    requires deck { (length deck.now ≤ 65535) × (initiators ≤ 8) }
+    requires deck { (length deck.now ≤ jobs_limit) × (initiators ≤ most_initiators) }
     requires sound { IsSound (jobs_of deck.now) initiators }
     requires station { station.now.config ≡ spool_setup (jobs_of deck.now) initiators }
     requires number { number < initiators + 3 }
@@ -89,18 +90,22 @@ fn work_all<R: Threads + Wait + Sync, G: Gate + Sync>(
     gate: &G,
     seats: &mut [Seat],
 )
-    requires deck { (length deck.now ≤ 65535) × (initiators ≤ 8) }
+    requires deck { (length deck.now ≤ jobs_limit) × (initiators ≤ most_initiators) }
     requires sound { IsSound (jobs_of deck.now) initiators }
     requires station { station.now.config ≡ spool_setup (jobs_of deck.now) initiators }
     requires count { length seats.old ≡ initiators + 3 }
     requires ready { AreReady station.now (length deck.now) seats.old }
     ensures count { length seats.new ≡ length seats.old }
-    ensures worked { (k : ℕ) (d : _) → k < length seats.old → HasWorked (jobs_of deck.now) initiators k (slice_index_or seats.old k d) (slice_index_or seats.new k d) }
+    ensures worked { (k : ℕ) (d : _) → k < length seats.old → HasWorked (jobs_of deck.now) initiators k
+        (slice_index_or seats.old k d) (slice_index_or seats.new k d) }
 {
     let job = move |number: usize, one: &mut [Seat]|
-        requires { (length deck.now ≤ 65535) × (initiators ≤ 8) × IsSound (jobs_of deck.now) initiators × (station.now.config ≡ spool_setup (jobs_of deck.now) initiators)
-            × (number < initiators + 3) × (length one.now ≡ 1) × ((d : _) → IsReady station.now (length deck.now) number (slice_index_or one.now 0 d)) }
-        ensures { (d : _) → HasWorked (jobs_of deck.entry.now) initiators number (slice_index_or one.entry.now 0 d) (slice_index_or one.exit.now 0 d) }
+        requires { (length deck.now ≤ jobs_limit) × (initiators ≤ most_initiators) × IsSound (jobs_of deck.now) initiators
+            × (station.now.config ≡ spool_setup (jobs_of deck.now) initiators)
+            × (number < initiators + 3) × (length one.now ≡ 1)
+            × ((d : _) → IsReady station.now (length deck.now) number (slice_index_or one.now 0 d)) }
+        ensures { (d : _) → HasWorked (jobs_of deck.entry.now) initiators number
+            (slice_index_or one.entry.now 0 d) (slice_index_or one.exit.now 0 d) }
     { work_one(rt, station, deck, initiators, gate, number, one) };
     thread::for_each_chunk_mut(rt, seats, 1, &job);
 }
@@ -114,13 +119,14 @@ pub(crate) fn worked<R: Threads + Wait + Sync, G: Gate + Sync>(
     gate: &G,
     mut seats: Vec<Seat>,
 ) -> Vec<Seat>
-    requires deck { (length deck.now ≤ 65535) × (initiators ≤ 8) }
+    requires deck { (length deck.now ≤ jobs_limit) × (initiators ≤ most_initiators) }
     requires sound { IsSound (jobs_of deck.now) initiators }
     requires station { station.now.config ≡ spool_setup (jobs_of deck.now) initiators }
     requires count { length seats.items ≡ initiators + 3 }
     requires ready { AreReady station.now (length deck.now) seats.items }
     ensures count { length result.items ≡ length seats.items }
-    ensures worked { (k : ℕ) (d : _) → k < length seats.items → HasWorked (jobs_of deck.now) initiators k (slice_index_or seats.items k d) (slice_index_or result.items k d) }
+    ensures worked { (k : ℕ) (d : _) → k < length seats.items → HasWorked (jobs_of deck.now) initiators k
+        (slice_index_or seats.items k d) (slice_index_or result.items k d) }
 {
     work_all(rt, station, deck, initiators, gate, &mut seats);
     seats

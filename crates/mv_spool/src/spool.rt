@@ -10,6 +10,7 @@ ghost use Rattle.mv_machine.specs.State.{system_of, Exists};
 ghost use Rattle.mv_plan.specs.SpoolRun.{IsRun};
 ghost use Rattle.mv_plan.specs.SpoolSetup.{spool_setup};
 ghost use Rattle.mv_report.specs.Outcome.{ends, lines, totals};
+ghost use Rattle.mv_spool.specs.Limits.{jobs_limit, most_initiators};
 ghost use Rattle.mv_spool.specs.Parts.{jobs_of};
 ghost use Rattle.mv_spool.specs.Seats.{IsSeat};
 
@@ -70,13 +71,14 @@ fn run_tasks<R: Threads + Wait + Sync, G: Gate + Sync>(
     gate: &G,
 ) -> Result<Closed, NoMemory>
     requires some { 1 ≤ initiators }
-    requires few { (initiators ≤ 8) × (length deck.now ≤ 65535) }
+    requires few { (initiators ≤ most_initiators) × (length deck.now ≤ jobs_limit) }
     requires sound { IsSound (jobs_of deck.now) initiators }
     requires config { config ≡ spool_setup (jobs_of deck.now) initiators }
     ensures config { IfOk result (λ closed. closed.config ≡ config) }
     ensures run { IfOk result (λ closed. IsRun (jobs_of deck.now) initiators closed.journal.items) }
     ensures few { IfOk result (λ closed. length closed.journal.items ≤ events_limit) }
-    ensures state { IfOk result (λ closed. system_of closed.state ≡ after (spool_setup (jobs_of deck.now) initiators) closed.journal.items) }
+    ensures state { IfOk result (λ closed. system_of closed.state
+        ≡ after (spool_setup (jobs_of deck.now) initiators) closed.journal.items) }
     ensures volumes { IfOk result (λ closed. (v : ℕ) → v < 8 → Exists closed.state (Object.Volume v)) }
 {
     let (station, tasks) = Station::open(alloc, config)?;
@@ -113,7 +115,7 @@ pub fn run_deck<R: Threads + Wait + Sync, G: Gate + Sync>(
     gate: &G,
 ) -> Result<SpoolRun, NoMemory>
     requires some { 1 ≤ initiators }
-    requires few { initiators ≤ 8 }
+    requires few { initiators ≤ most_initiators }
     requires sound { IsSound (deck_data deck.now) initiators }
     ensures config { IfOk result (λ run. run.config ≡ spool_setup (deck_data deck.now) initiators) }
     ensures run { IfOk result (λ run. IsRun (deck_data deck.now) initiators run.journal.items) }

@@ -3,6 +3,7 @@
 ghost use Rattle.std.specs.Prelude.{◌<◌, ◌≤◌, ◌^◌, ◌-◌, IfOk, length};
 ghost use Rattle.mv_deck.specs.Deck.{deck_data};
 ghost use Rattle.mv_deck.specs.Sound.{IsSound};
+ghost use Rattle.mv_spool.specs.Limits.{most_initiators};
 
 use super::*;
 use mv_deck::{Deck, read_deck};
@@ -18,7 +19,7 @@ use std::thread::Threads;
 // The deck that a text states.
 fn deck_of(alloc: Global, text: &[u8], initiators: u32) -> Result<Deck, Fail>
     requires short { length text.now < 2 ^ 32 - 1 }
-    requires initiators { (1 ≤ initiators) × (initiators ≤ 8) }
+    requires initiators { (1 ≤ initiators) × (initiators ≤ most_initiators) }
     ensures { IfOk result (λ deck. IsSound (deck_data deck) initiators) }
 {
     let deck = read_deck(alloc, text, initiators)?;
@@ -33,7 +34,7 @@ fn run<R: Abort + Threads + Wait + Sync>(
     initiators: u32,
 ) -> Result<SpoolRun, Fail>
     requires short { length text.now < 2 ^ 32 - 1 }
-    requires initiators { (1 ≤ initiators) × (initiators ≤ 8) }
+    requires initiators { (1 ≤ initiators) × (initiators ≤ most_initiators) }
 {
     let deck = deck_of(alloc, text, initiators)?;
     Ok(run_deck(rt, alloc, &deck, initiators, &OpenGate)?)
@@ -86,7 +87,7 @@ fn assert_steps<R: Abort + Threads + Wait + Sync>(
     alloc: Global,
     initiators: u32,
 ) -> Result<(), Fail>
-    requires { (1 ≤ initiators) × (initiators ≤ 8) }
+    requires { (1 ≤ initiators) × (initiators ≤ most_initiators) }
 {
     let run = run(rt, alloc, STEPS, initiators)?;
     assert_eq!(rt; &run.ends[..], [16_777_228, 0, 33_554_432, 7].as_slice());

@@ -5,6 +5,7 @@ ghost use Rattle.mv_board.specs.Faces.{IsOf};
 ghost use Rattle.mv_calls.specs.Rest.{IsAtRest};
 ghost use Rattle.mv_plan.specs.SpoolSetup.{spool_setup};
 ghost use Rattle.mv_plan.specs.SpoolTasks.{writing};
+ghost use Rattle.mv_spool.specs.Limits.{jobs_limit};
 ghost use Rattle.mv_spool.specs.Parts.{jobs_of};
 ghost use Rattle.mv_spool.specs.Ran.{RanOut};
 
@@ -23,7 +24,7 @@ pub(crate) fn write<R: Wait, G: Gate>(
     initiators: u32,
     gate: &G,
 )
-    requires few { length deck.now ≤ 65535 }
+    requires few { length deck.now ≤ jobs_limit }
     requires station { station.now.config ≡ spool_setup (jobs_of deck.now) initiators }
     requires task { IsOf station.now task.old }
     requires rest { IsAtRest task.old.log }
