@@ -12,7 +12,7 @@ use Rattle.mv_entrytext.specs.Lines.{Draft}
 use Rattle.mv_entrytext.proofs.CallNumbers.{calls_are_numbers}
 use Rattle.mv_entrytext.proofs.LinesAgain.{reads_back}
 use Rattle.mv_replay.specs.Judgement.{calls_in, IsLegalText, IsLegalJournal}
-use Rattle.mv_replay.specs.Outcome.{converted}
+use Rattle.mv_replay.specs.Outcome.{converted, IsConversion}
 
 -- the machine's numbers are such as a text may have
 pub right_calls : (v : Version) (c : Setup) (es : List Entry) → length es ≤ highest_u32 → AreCallsIn v es (calls_in v c es)
@@ -48,6 +48,15 @@ pub is_converted : (told : ℕ) (bytes : List ℕ) (c : Setup) (es : List Entry)
 is_converted told bytes c es t =
     let back = reads_back t.version c es (calls_in t.version c es) t.journal (right_calls t.version c es t.journal.count) in
     ap converted t.text ∙ told_text (journal_of (text_of t.version c es (calls_in t.version c es))) c es back.1 back.2
+
+-- and what is made of those is the conversion of the text
+pub is_conversion : (told : ℕ) (bytes made : List ℕ) (c : Setup) (es : List Entry) → IsLegalText told bytes c es
+    → made ≡ journal_text c es → IsConversion bytes made
+is_conversion told bytes made c es t is = record {
+  count = length es;
+  legal = journal_is_legal told bytes c es t;
+  reported = is ∙ sym (is_converted told bytes c es t);
+}
 
 -- a legal text of version 2 is that text itself
 pub second_is_whole : (told : ℕ) (bytes : List ℕ) (c : Setup) (es : List Entry) → told ≡ 2 → IsLegalText told bytes c es

@@ -19,7 +19,8 @@ use Rattle.mv_replay.proofs.Wrong.{one_first, not_first}
 pub legal_is_sound : (bytes : List ℕ) (count : ℕ) → IsLegalJournal bytes count → text_fault bytes ≡ None
 legal_is_sound bytes count l =
     ap text_fault l.text
-    ∙ no_fault l.version l.setup l.entries (calls_in l.version l.setup l.entries) l.journal (right_calls l.version l.setup l.entries l.journal.count)
+    ∙ no_fault l.version l.setup l.entries (calls_in l.version l.setup l.entries) l.journal
+    (right_calls l.version l.setup l.entries l.journal.count)
 
 pub illegal_is_sound : (bytes : List ℕ) (line : ℕ) → IsIllegalAt bytes line → text_fault bytes ≡ None
 illegal_is_sound bytes line i = ap text_fault i.text ∙ no_fault i.version i.setup i.entries i.calls i.journal i.numbers

@@ -4,7 +4,8 @@ use Rattle.std.specs.Prelude.{codes}
 use Rattle.std.specs.List.{flat_map}
 use Rattle.mv_machine.specs.declared.entry.Entry.{Entry}
 use Rattle.mv_machine.specs.Setup.{Setup}
-use Rattle.mv_entrytext.specs.Journal.{Line, JournalOf, Callers, Elements, Volumes, Latches, Quota, Budget, Owner, ExitTo, Events, EntryOf, End, line_text, line, entry_lines, counts_text, lists_text, head_text, text_of}
+use Rattle.mv_entrytext.specs.Journal.{Line, JournalOf, Callers, Elements, Volumes, Latches, Quota, Budget, Owner, ExitTo, Events}
+use Rattle.mv_entrytext.specs.Journal.{EntryOf, End, line_text, line, entry_lines, counts_text, lists_text, head_text, text_of}
 use Rattle.mv_entrytext.specs.declared.version.Version.{Version}
 use Rattle.mv_entrytext.specs.Fault.{IsTextIn}
 use Rattle.mv_replay.specs.Judgement.{journal_limit, first_line}

@@ -1,5 +1,6 @@
 -- The first entry of a list that is not the machine's or has another call number.
-use Rattle.std.proofs.Common.{◌≡◌, ℕ, zero, suc, ◌+◌, ◌<◌, ◌≤◌, List, [], ◌∷◌, ◌++◌, length, take, slice_get, Option, Some, None, refl, sym, ap, subst, ◌∙◌}
+use Rattle.std.proofs.Common.{◌≡◌, ℕ, zero, suc, ◌+◌, ◌<◌, ◌≤◌, List, [], ◌∷◌, ◌++◌, length}
+use Rattle.std.proofs.Common.{take, slice_get, Option, Some, None, refl, sym, ap, subst, ◌∙◌}
 use Rattle.std.proofs.Common.{arith, inl, inr}
 use Rattle.std.proofs.lemmas.Bool.{cases_order}
 use Rattle.std.proofs.lemmas.List.{take-take}
@@ -35,7 +36,8 @@ calls_in-take One c k es = sym (take_none k)
 calls_in-take Two c k es = calls-take c k es
 
 -- so a front of entries that are right is right
-pub right_front : (v : Version) (c : Setup) (es : List Entry) (ns : List ℕ) (k : ℕ) → AreRight v c es ns → AreRight v c (take k es) (take k ns)
+pub right_front : (v : Version) (c : Setup) (es : List Entry) (ns : List ℕ) (k : ℕ) → AreRight v c es ns
+    → AreRight v c (take k es) (take k ns)
 right_front v c es ns k r = record {
   legal = legal_take c k es r.legal;
   numbers = ap (λ (x : List ℕ). take k x) r.numbers ∙ sym (calls_in-take v c k es);
@@ -52,7 +54,8 @@ right_below v c es ns i j lt r =
     rw (take-take (suc i) j es le, take-take (suc i) j ns le) at front
 
 -- two firsts are one
-pub one_first : (v : Version) (c : Setup) (es : List Entry) (ns : List ℕ) (i j : ℕ) → IsFirstWrong v c es ns i → IsFirstWrong v c es ns j → i ≡ j
+pub one_first : (v : Version) (c : Setup) (es : List Entry) (ns : List ℕ) (i j : ℕ) → IsFirstWrong v c es ns i → IsFirstWrong v c es ns j
+    → i ≡ j
 one_first v c es ns i j p q = elim (cases_order i j) [
   | inl e ↦ e
   | inr rest ↦ elim rest [
@@ -128,7 +131,8 @@ wrong_number c es ns i k machine same w =
         numbers = w.other.same ∙ sym (calls-take c i (take (i + 1) es)) ∙ ap (λ (x : List Entry). calls c x) short;
       };
       bad = λ r.
-          let numbers : take (i + 1) ns ≡ calls c (take (i + 1) es) = subst (λ (n : ℕ). take n ns ≡ calls c (take n es)) one_more r.numbers in
+          let numbers : take (i + 1) ns ≡ calls c (take (i + 1) es) =
+          subst (λ (n : ℕ). take n ns ≡ calls c (take n es)) one_more r.numbers in
           let mine : slice_get (take (i + 1) ns) i ≡ Some k = slice_get_front ns i k w.other.one in
           let both : Some k ≡ Some machine = sym mine ∙ ap (λ (x : List ℕ). slice_get x i) numbers ∙ w.other.other in
           w.other.differs (cc both);

@@ -1,9 +1,9 @@
 -- What the input asks for, by what was read, and what was written of the report.
-use Rattle.std.proofs.Common.{◌≡◌, List, length, sym, ◌∙◌, rules}
+use Rattle.std.proofs.Common.{◌∙◌, rules}
 use Rattle.mv_io.specs.Fault.{Rose}
 use Rattle.mv_replay.specs.declared.status.ReplayStatus.TheVariants.{Done, ReportFailed}
-use Rattle.mv_replay.specs.Outcome.{converted, IsConversion}
-use Rattle.mv_replay.proofs.Converted.{journal_is_legal, is_converted}
+use Rattle.mv_replay.specs.Outcome.{IsConversion}
+use Rattle.mv_replay.proofs.Converted.{is_conversion}
 use Rattle.mv_replay.proofs.Endings.{owed}
 use Rattle.mv_replay.proofs.Reported.{reported, begun, unreported}
 use Rattle.mv_replay.proofs.converting.convert_command.Goals as goal
@@ -19,19 +19,16 @@ returns-in-Err-clause-owed g c =
 pub returns-in-Ok-write_all-clause-owed : goal.returns-in-Ok-write_all-clause-owed
 returns-in-Ok-write_all-clause-owed g c =
     owed Done (g.D.Source.left c.args.input.now) (g.D.Source.left c.read_legal.new.input) _
-    (Rose (g.R.Sink.faults c.args.report.now) (g.R.Sink.faults c.write_all.new.sink)) c.in-Ok.ensures.whole (λ e. absurd cc) (λ e. absurd cc)
+    (Rose (g.R.Sink.faults c.args.report.now) (g.R.Sink.faults c.write_all.new.sink)) c.in-Ok.ensures.whole
+    (λ e. absurd cc) (λ e. absurd cc)
 
 pub returns-in-Ok-write_all-clause-report : goal.returns-in-Ok-write_all-clause-report
 returns-in-Ok-write_all-clause-report g c =
     let j = c.in-Ok.legal.journal in
     let text = c.in-Ok.legal.text.items in
-    let made : c.deref.result.now ≡ converted text =
-    c.deref.ensures.value ∙ c.in-Ok-second_version.ensures ∙ sym (is_converted j.version text j.config j.entries.items c.in-Ok.ensures.legal) in
-    let says : IsConversion text c.deref.result.now = record {
-      count = length j.entries.items;
-      legal = journal_is_legal j.version text j.config j.entries.items c.in-Ok.ensures.legal;
-      reported = made;
-    } in
+    let says : IsConversion text c.deref.result.now =
+    is_conversion j.version text c.deref.result.now j.config j.entries.items c.in-Ok.ensures.legal
+    (c.deref.ensures.value ∙ c.in-Ok-second_version.ensures) in
     reported IsConversion (g.D.Source.left c.args.input.now) (g.R.Sink.taken c.args.report.now) (g.R.Sink.taken c.write_all.new.sink)
     text c.deref.result.now c.in-Ok.ensures.text says c.in-Ok-write_all.ensures.whole
 
@@ -47,13 +44,9 @@ pub returns-clause-report : goal.returns-clause-report
 returns-clause-report g c =
     let j = c.in-Ok.legal.journal in
     let text = c.in-Ok.legal.text.items in
-    let made : c.deref.result.now ≡ converted text =
-    c.deref.ensures.value ∙ c.in-Ok-second_version.ensures ∙ sym (is_converted j.version text j.config j.entries.items c.in-Ok.ensures.legal) in
-    let says : IsConversion text c.deref.result.now = record {
-      count = length j.entries.items;
-      legal = journal_is_legal j.version text j.config j.entries.items c.in-Ok.ensures.legal;
-      reported = made;
-    } in
+    let says : IsConversion text c.deref.result.now =
+    is_conversion j.version text c.deref.result.now j.config j.entries.items c.in-Ok.ensures.legal
+    (c.deref.ensures.value ∙ c.in-Ok-second_version.ensures) in
     begun IsConversion (g.D.Source.left c.args.input.now) (g.R.Sink.taken c.args.report.now) (g.R.Sink.taken c.write_all.new.sink)
     c.in-Err-write_all.field-0.taken text c.deref.result.now c.in-Ok.ensures.text says
     c.in-Err-write_all.ensures.short c.in-Err-write_all.ensures.partial

@@ -20,7 +20,8 @@ returns-in-Err-clause-owed g c =
 pub returns-in-Ok-write_all-clause-owed : goal.returns-in-Ok-write_all-clause-owed
 returns-in-Ok-write_all-clause-owed g c =
     owed Done (g.D.Source.left c.args.input.now) (g.D.Source.left c.read_legal.new.input) _
-    (Rose (g.R.Sink.faults c.args.report.now) (g.R.Sink.faults c.write_all.new.sink)) c.in-Ok.ensures.whole (λ e. absurd cc) (λ e. absurd cc)
+    (Rose (g.R.Sink.faults c.args.report.now) (g.R.Sink.faults c.write_all.new.sink)) c.in-Ok.ensures.whole
+    (λ e. absurd cc) (λ e. absurd cc)
 
 -- one that was not
 pub returns-clause-owed : goal.returns-clause-owed
