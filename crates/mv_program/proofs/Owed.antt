@@ -11,7 +11,8 @@ use Rattle.mv_replay.proofs.Endings as judged
 use Rattle.mv_program.specs.declared.command.Command.{Command}
 use Rattle.mv_program.specs.declared.command.Command.TheVariants.{Spool, Load, Replay, Convert}
 use Rattle.mv_program.specs.declared.status.Status.{Status}
-use Rattle.mv_program.specs.declared.status.Status.TheVariants.{Done, Words, Deck, TooLong, ReadFailed, ReportFailed, JournalFailed, NoMemory, Illegal, Text}
+use Rattle.mv_program.specs.declared.status.Status.TheVariants.{Done, Words, Deck, TooLong, ReadFailed, ReportFailed}
+use Rattle.mv_program.specs.declared.status.Status.TheVariants.{JournalFailed, NoMemory, Illegal, Text}
 use Rattle.mv_program.specs.Program.{IsFound, DeckAsks, DeckOf, EndsLoad, InputOf, Asks, has_journal}
 use Rattle.mv_program.specs.Status.{replay_of}
 

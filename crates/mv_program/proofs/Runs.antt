@@ -23,7 +23,7 @@ use Rattle.mv_plan.specs.SpoolSetup.{spool_setup}
 use Rattle.mv_plan.proofs.deck.Planned.{planned}
 use Rattle.mv_plan.proofs.deck.Valid.{spool_setup_is_valid}
 use Rattle.mv_plan.proofs.results.HandedOut.{are_handed_out}
-use Rattle.mv_program.specs.Command.{most_initiators}
+use Rattle.mv_spool.specs.Limits.{most_initiators}
 use Rattle.mv_program.specs.Texts.{TellsHistory, IsJournalOfRun}
 
 -- the text of a configuration and of legal entries that have one tells them

@@ -7,7 +7,8 @@ use Rattle.mv_replay.specs.Outcome.{ReportAfter}
 use Rattle.mv_program.specs.declared.command.Command.{Command}
 use Rattle.mv_program.specs.declared.command.Command.TheVariants.{Spool, Load}
 use Rattle.mv_program.specs.declared.status.Status.{Status}
-use Rattle.mv_program.specs.declared.status.Status.TheVariants.{Done, Words, Deck, TooLong, ReadFailed, ReportFailed, JournalFailed, NoMemory, Illegal, Text}
+use Rattle.mv_program.specs.declared.status.Status.TheVariants.{Done, Words, Deck, TooLong, ReadFailed, ReportFailed}
+use Rattle.mv_program.specs.declared.status.Status.TheVariants.{JournalFailed, NoMemory, Illegal, Text}
 use Rattle.mv_program.specs.Program.{TellsRun, TellsLoad, TellsReport, Told, Writes, extent_of}
 use Rattle.mv_program.specs.Status.{replay_of}
 

@@ -11,7 +11,8 @@ use Rattle.mv_report.specs.Summary.{load_summary}
 use Rattle.mv_program.specs.declared.command.Command.{Command}
 use Rattle.mv_program.specs.declared.command.Command.TheVariants.{Spool, Load, Replay, Convert}
 use Rattle.mv_program.specs.declared.status.Status.{Status}
-use Rattle.mv_program.specs.declared.status.Status.TheVariants.{Done, Words, Deck, TooLong, ReadFailed, ReportFailed, JournalFailed, NoMemory, Illegal, Text}
+use Rattle.mv_program.specs.declared.status.Status.TheVariants.{Done, Words, Deck, TooLong, ReadFailed, ReportFailed}
+use Rattle.mv_program.specs.declared.status.Status.TheVariants.{JournalFailed, NoMemory, Illegal, Text}
 use Rattle.mv_program.specs.Texts.{deck_limit, report_of, IsJournalOfRun}
 use Rattle.mv_program.specs.Status.{replay_of}
 

@@ -2,7 +2,8 @@
 
 ghost use Rattle.std.specs.Prelude.{◌≡◌, map, IfSome};
 ghost use Rattle.std.specs.String.{string_bytes};
-ghost use Rattle.mv_program.specs.Command.{command_of as command_by_words, initiators_of as initiators_by_word, jobs_of, load_of as load_by_numbers, IsRunnable, AreInitiators};
+ghost use Rattle.mv_program.specs.Command.{command_of as command_by_words, initiators_of as initiators_by_word, jobs_of};
+ghost use Rattle.mv_program.specs.Command.{load_of as load_by_numbers, IsRunnable, AreInitiators};
 
 use mv_deck::MOST_JOBS;
 use mv_line::number_within;

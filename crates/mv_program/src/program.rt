@@ -6,7 +6,8 @@ ghost use Rattle.mv_io.specs.Fault.{Rose};
 ghost use Rattle.mv_ending.specs.Ending.{EndsAs};
 ghost use Rattle.mv_ending.specs.Note.{NotesAfter};
 ghost use Rattle.mv_ending.specs.Written.{IfUnwritten, WroteOf};
-ghost use Rattle.mv_program.specs.Command.{command_of as command_by_words, AreInitiators, AreJobs, most_initiators};
+ghost use Rattle.mv_spool.specs.Limits.{most_initiators};
+ghost use Rattle.mv_program.specs.Command.{command_of as command_by_words, AreInitiators, AreJobs};
 ghost use Rattle.mv_program.specs.Program.{Asks, EndsLoad, InputOf, TellsLoad, Told, extent_of, has_journal, reads_input, Writes};
 ghost use Rattle.mv_program.specs.Status.{note_of as note_by_status, replay_of};
 ghost use Rattle.mv_replay.specs.Outcome.{IsReplayReport, IsConversion, ReportAfter};
@@ -113,7 +114,8 @@ fn replay<D: Source, R: Sink>(alloc: Global, input: &mut D, report: &mut R) -> S
     ensures words { result ≢ Status.Words }
     ensures journal { result ≢ Status.JournalFailed }
     ensures input { InputOf (Some Command.Replay) result (D.left input.old) (D.left input.new) }
-    ensures report { IsSomeAnd (replay_of result) (λ s. ReportAfter IsReplayReport s (D.left input.old) (R.taken report.old) (R.taken report.new)) }
+    ensures report { IsSomeAnd (replay_of result) (λ s.
+        ReportAfter IsReplayReport s (D.left input.old) (R.taken report.old) (R.taken report.new)) }
     ensures read_failed { result ≡ Status.ReadFailed → Rose (D.faults input.old) (D.faults input.new) }
     ensures report_failed { result ≡ Status.ReportFailed → Rose (R.faults report.old) (R.faults report.new) }
     ensures unwritten { IfUnwritten (extent_of result) (report.new ≡ report.old) }
@@ -127,7 +129,8 @@ fn convert<D: Source, R: Sink>(alloc: Global, input: &mut D, report: &mut R) -> 
     ensures words { result ≢ Status.Words }
     ensures journal { result ≢ Status.JournalFailed }
     ensures input { InputOf (Some Command.Convert) result (D.left input.old) (D.left input.new) }
-    ensures report { IsSomeAnd (replay_of result) (λ s. ReportAfter IsConversion s (D.left input.old) (R.taken report.old) (R.taken report.new)) }
+    ensures report { IsSomeAnd (replay_of result) (λ s.
+        ReportAfter IsConversion s (D.left input.old) (R.taken report.old) (R.taken report.new)) }
     ensures read_failed { result ≡ Status.ReadFailed → Rose (D.faults input.old) (D.faults input.new) }
     ensures report_failed { result ≡ Status.ReportFailed → Rose (R.faults report.old) (R.faults report.new) }
     ensures unwritten { IfUnwritten (extent_of result) (report.new ≡ report.old) }

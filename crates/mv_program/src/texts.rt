@@ -7,7 +7,8 @@ ghost use Rattle.mv_deck.specs.Load.{load_text};
 ghost use Rattle.mv_deck.specs.Sound.{IsSound};
 ghost use Rattle.mv_report.specs.Outcome.{report};
 ghost use Rattle.mv_report.specs.Summary.{load_summary};
-ghost use Rattle.mv_program.specs.Command.{AreInitiators, AreJobs, most_initiators};
+ghost use Rattle.mv_spool.specs.Limits.{most_initiators};
+ghost use Rattle.mv_program.specs.Command.{AreInitiators, AreJobs};
 ghost use Rattle.mv_program.specs.Texts.{report_of, IsJournalOfRun, deck_limit};
 
 use mv_deck::{Deck, DeckRefusal, load_deck, read_deck};

@@ -13,4 +13,5 @@ texts_of_deck-requires-clause-sound g c = λ κs live.
 
 pub returns-in-Ok-clause-run : goal.returns-in-Ok-clause-run
 returns-in-Ok-clause-run g c =
-    subst (λ (d : List JobData). IsJournalOfRun d c.args.initiators c.in-Ok.texts.journal.items) c.in_ok-deck.ensures.deck.1 c.in-Ok.ensures.journal
+    subst (λ (d : List JobData). IsJournalOfRun d c.args.initiators c.in-Ok.texts.journal.items)
+    c.in_ok-deck.ensures.deck.1 c.in-Ok.ensures.journal

@@ -52,7 +52,8 @@ write_journal-requires g c =
     let entries = c.deref-4.ensures.value in
     record {
       legal = subst (λ (x : Setup). Legal x c.deref-4.result.now) (sym run.config)
-          (subst (λ (xs : List Entry). Legal (spool_setup (deck_data c.args.deck.now) c.args.initiators) xs) (sym entries) run.run.follow.legal);
+          (subst (λ (xs : List Entry). Legal (spool_setup (deck_data c.args.deck.now) c.args.initiators) xs) (sym entries)
+          run.run.follow.legal);
       few = omega (arith, ap length entries, run.few);
       places = subst (λ (xs : List Entry). All (λ e. e.place ≤ highest_place) xs) (sym entries) run.places;
     }

@@ -60,7 +60,8 @@ write_journal-requires g c =
     let entries = c.deref-3.ensures.value in
     record {
       legal = subst (λ (x : Setup). Legal x c.deref-3.result.now) (sym run.config)
-          (subst (λ (xs : List Entry). Legal (spool_setup (deck_data c.in_ok-deck.deck) c.args.initiators) xs) (sym entries) run.run.follow.legal);
+          (subst (λ (xs : List Entry). Legal (spool_setup (deck_data c.in_ok-deck.deck) c.args.initiators) xs) (sym entries)
+          run.run.follow.legal);
       few = omega (arith, ap length entries, run.few);
       places = subst (λ (xs : List Entry). All (λ e. e.place ≤ highest_place) xs) (sym entries) run.places;
     }
