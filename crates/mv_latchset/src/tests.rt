@@ -321,7 +321,10 @@ fn a_token_has_the_key_of_its_record(rt: HostRuntime) -> Result<(), Fail> {
     let first = share(&rt, &station, &mut task, 0);
     let second = share(&rt, &station, &mut task, 1);
     assert_eq!(rt; (first.key, second.key), (0, 1));
-    assert_eq!(rt; release_latch(&rt, &station, &mut task, first, false), Ok(0));
+    assert_eq!(rt;
+        release_latch(&rt, &station, &mut task, first, false),
+        Ok(0)
+    );
     // The record that was given back is used again, under the number of another request.
     let third = share(&rt, &station, &mut task, 2);
     assert_eq!(rt; (third.id, third.key), (3, 0));

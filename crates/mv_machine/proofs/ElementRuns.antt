@@ -1,5 +1,5 @@
 -- From a legal list to the run of one element.
-use Rattle.std.proofs.Common.{◌≡◌, ℕ, List, [], ◌∷◌, Some, None, ◌⊎◌, inl, inr, refl, arith}
+use Rattle.std.proofs.Common.{◌≡◌, ℕ, List, ◌⊎◌, inl, inr, refl, arith}
 use Rattle.std.proofs.lemmas.Bool.{cases_eq, false≢true}
 use Rattle.mv_element.specs.declared.operation.ElementOp.{ElementOp}
 use Rattle.mv_element.specs.declared.operation.ElementReply.{ElementReply}
@@ -14,8 +14,8 @@ use Rattle.mv_machine.specs.declared.entry.Reply.TheVariants as reply_of
 use Rattle.mv_machine.specs.declared.entry.Entry.{Entry}
 use Rattle.mv_machine.specs.Setup.{Setup}
 use Rattle.mv_machine.specs.System.{System, Cell, opening, advanced}
-use Rattle.mv_machine.specs.Legal.{IsNext, next, after_from, LegalFrom, Legal, after}
-use Rattle.mv_machine.specs.Elements.{ElementEvent, as_element_event, element_events, IsOrderlyElement, FitsItsPlace}
+use Rattle.mv_machine.specs.Legal.{IsNext, after_from, LegalFrom, Legal, after}
+use Rattle.mv_machine.specs.Elements.{as_element_event, element_events, IsOrderlyElement, FitsItsPlace}
 use Rattle.mv_machine.proofs.EntryRuns.{entry_of, along_all}
 use Rattle.mv_machine.proofs.OneObject.{PassesBy, HappensAt, RunFrom, run_of}
 use Rattle.mv_machine.proofs.ElementLaws.{element_table, element_is_orderly}

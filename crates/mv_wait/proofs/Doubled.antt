@@ -1,11 +1,11 @@
 -- Blocks of a list that are noted in their places, and whether one stands twice.
 use Rattle.std.proofs.Common.{◌≡◌, ◌≢◌, ℕ, zero, suc, ◌+◌, ◌<◌, ◌==◌, Bool, false, true, List, [], ◌∷◌, ◌++◌, length, length-take}
-use Rattle.std.proofs.Common.{take, drop, get_or, set, cond, Option, Some, refl, sym, ap, ◌∙◌, arith, ◌⊎◌, inl, inr}
+use Rattle.std.proofs.Common.{take, drop, get_or, set, cond, Some, refl, sym, ap, ◌∙◌, arith}
 use Rattle.std.proofs.lemmas.Bool.{ne_eqb, eq-eqb, eqb-true, eqb-false}
 use Rattle.std.proofs.lemmas.List.{get_or-take, get_or-set_same, get_or-set_other, drop_more, take_more}
 use Rattle.std.proofs.lemmas.List.Folds.{list_any_at}
 use Rattle.std.specs.List.{list_any}
-use Rattle.mv_calls.specs.Refusal.{Refusal, Doubled}
+use Rattle.mv_calls.specs.Refusal.{Doubled}
 use Rattle.mv_calls.specs.Waits.{doubled_at}
 
 -- the place of each of the first p blocks has the position where it stands

@@ -1,5 +1,5 @@
 -- One pick after another.
-use Rattle.std.proofs.Common.{◌≡◌, suc, ◌+◌, ◌<◌, ◌≤◌, ◌++◌, None, [], ◌∷◌, length, replicate, set, sym, subst, ap, ◌∙◌, arith}
+use Rattle.std.proofs.Common.{◌≡◌, suc, ◌+◌, ◌≤◌, ◌++◌, None, [], ◌∷◌, length, replicate, set, sym, subst, ap, ◌∙◌, arith}
 use Rattle.std.proofs.Common.{length-append, length-set}
 use Rattle.std.proofs.lemmas.List.{append-nil, length-replicate}
 use Rattle.mv_machine.specs.Legal.{Legal}

@@ -1,4 +1,4 @@
-use Rattle.std.proofs.Common.{◌≡◌, ◌==◌, ◌<◌, ◌||◌, ◌∷◌, ℕ, Some, IsSomeAnd, length, get_or, sym, ap, ◌∙◌, subst, arith, refl, Contains}
+use Rattle.std.proofs.Common.{◌≡◌, ◌==◌, ◌||◌, ◌∷◌, ℕ, IsSomeAnd, sym, ap, ◌∙◌, subst, arith, refl, Contains}
 use Rattle.std.proofs.lemmas.Bool.{ne_eqb}
 use Rattle.std.specs.List.{list_any}
 use Rattle.slab.proofs.SlabLemmas.{Contains-cons, Contains-entries}
@@ -22,8 +22,8 @@ loop-key-preserved c =
       tt,
       tt,
       sym (ap (list_any (λ (e : ℕ × Standing). (request_of e.1).request.id == c.args.id)) at
-      ∙ ap (λ b. b || list_any (λ (e : ℕ × Standing). (request_of e.1).request.id == c.args.id) c.next.new.self) other)
-      ∙ c.loop-key.invariant.2,
+          ∙ ap (λ b. b || list_any (λ (e : ℕ × Standing). (request_of e.1).request.id == c.args.id) c.next.new.self) other)
+          ∙ c.loop-key.invariant.2,
       λ key s there. c.loop-key.invariant.3 key s (rw at (Contains-cons _ _ _ there)),
     )
 
