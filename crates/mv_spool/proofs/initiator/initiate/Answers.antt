@@ -12,10 +12,26 @@ use Rattle.mv_spool.specs.Ran.{Ran}
 use Rattle.mv_spool.proofs.Decks.{job_count, block_exists, reach_idle, idle_is, own_number}
 use Rattle.mv_spool.proofs.Ranges.{below_last}
 use Rattle.mv_spool.proofs.Runs.{still_of, served_few}
-use Rattle.mv_spool.proofs.Turns.{events_all, events_less, none_noted, one_noted, opened, unopened, given, not_given, ended, unnamed}
-use Rattle.mv_spool.proofs.Turns.{last_named}
-use Rattle.mv_spool.proofs.Turns.{named_again, job_run, job_astray, still_given, still_turns}
+use Rattle.mv_spool.proofs.Turns.{events_all, events_less, none_noted, one_noted, GivenLeft, opened, unopened, given, not_given}
+use Rattle.mv_spool.proofs.Turns.{ended, unnamed, last_named, named_again, job_run, job_astray, still_given, still_turns}
+use Rattle.mv_spool.proofs.initiator.initiate.Given as bound
 use Rattle.mv_spool.proofs.initiator.initiate.Goals as goal
+use Rattle.mv_spool.proofs.initiator.initiate.Goals.{In-Ok-next_given}
+
+-- what is left to do behind the code of a turn
+left_by_code : (g : bound.Over) (c : In-Ok-next_given g)
+    → GivenLeft c.args.station.now.config (jobs_of c.args.deck.now) (c.args.task.now.number - 2) c.args.task.now
+    (length c.args.deck.now - c.loop-turn.turn) c.loop-turn.invariant.leads.0 (gift_of c.in-Ok-next_given.given) c.next_given.new.task
+left_by_code g c =
+    let config = c.args.station.now.config in
+    let t = c.args.task.now in
+    let since = c.loop-turn.invariant.leads in
+    let token = c.loop-turn.token in
+    let gift = gift_of c.in-Ok-next_given.given in
+    given config (jobs_of c.args.deck.now) (t.number - 2) t (length c.args.deck.now - c.loop-turn.turn) since.0 token gift
+    c.loop-turn.task c.next_given.new.task since.2
+    (subst (λ e. Ran (next_gift config e token) (Done gift) c.loop-turn.task c.next_given.new.task)
+    (idle_is c.args.deck.now c.number.result t.number c.number.ensures.number) c.in-Ok-next_given.ensures.ran)
 
 pub returns-in_default : goal.returns-in_default
 returns-in_default g c = record {
@@ -87,12 +103,9 @@ returns-then-given-eq-NO_JOB g c =
     let i = t.number - 2 in
     let more = length c.args.deck.now - c.loop-turn.turn in
     let since = c.loop-turn.invariant.leads in
-    let token = c.loop-turn.token in
     let gift = gift_of c.in-Ok-next_given.given in
     let v = c.next_given.new.task in
-    let left = given config deck i t more since.0 token gift c.loop-turn.task v since.2
-    (subst (λ e. Ran (next_gift config e token) (Done gift) c.loop-turn.task v)
-    (idle_is c.args.deck.now c.number.result t.number c.number.ensures.number) c.in-Ok-next_given.ensures.ran) in record {
+    let left = left_by_code g (goal.at.returns-then-given-eq-NO_JOB g c).In-Ok-next_given in record {
       ran = ended config deck i t more since.0 gift (deallocate_answer c.deallocate.result) v c.deallocate.new.task
           c.if-given-eq-NO_JOB.true left
           c.deallocate.ensures.served;
@@ -106,13 +119,10 @@ returns-in_default-job_named g c =
     let i = t.number - 2 in
     let more = length c.args.deck.now - c.loop-turn.turn in
     let since = c.loop-turn.invariant.leads in
-    let token = c.loop-turn.token in
     let gift = gift_of c.in-Ok-next_given.given in
     let v = c.next_given.new.task in
     let ran = c.in-Ok-next_given.ensures.ran in
-    let left = given config deck i t more since.0 token gift c.loop-turn.task v since.2
-    (subst (λ e. Ran (next_gift config e token) (Done gift) c.loop-turn.task v)
-    (idle_is c.args.deck.now c.number.result t.number c.number.ensures.number) ran) in
+    let left = left_by_code g (goal.at.returns-in_default-job_named g c).In-Ok-next_given in
     let none = c.in_default-job_named.ensures ∙ ap (λ m. job_named m gift.code) (sym (job_count c.args.deck.now)) in record {
       ran = unnamed config deck i t more since.0 gift v c.if-given-eq-NO_JOB.false none left ran.quiet;
     }
@@ -125,13 +135,10 @@ returns-then-turn-jobs g c =
     let i = t.number - 2 in
     let more = length c.args.deck.now - c.loop-turn.turn in
     let since = c.loop-turn.invariant.leads in
-    let token = c.loop-turn.token in
     let gift = gift_of c.in-Ok-next_given.given in
     let v = c.next_given.new.task in
     let ran = c.in-Ok-next_given.ensures.ran in
-    let left = given config deck i t more since.0 token gift c.loop-turn.task v since.2
-    (subst (λ e. Ran (next_gift config e token) (Done gift) c.loop-turn.task v)
-    (idle_is c.args.deck.now c.number.result t.number c.number.ensures.number) ran) in
+    let left = left_by_code g (goal.at.returns-then-turn-jobs g c).In-Ok-next_given in
     let some = c.in-Some.ensures ∙ ap (λ m. job_named m gift.code) (sym (job_count c.args.deck.now)) in
     let last = c.if-turn-jobs.true in record {
       ran = last_named config deck i t since.0 gift (named_of c.in-Some.named) v c.if-given-eq-NO_JOB.false some
@@ -148,13 +155,10 @@ returns-then-ran-named g c =
     let turn = c.loop-turn.turn in
     let since = c.loop-turn.invariant in
     let before = since.leads.0 in
-    let token = c.loop-turn.token in
     let gift = gift_of c.in-Ok-next_given.given in
     let v = c.next_given.new.task in
     let ran = c.in-Ok-next_given.ensures.ran in
-    let left = given config deck i t (n - turn) before token gift c.loop-turn.task v since.leads.2
-    (subst (λ e. Ran (next_gift config e token) (Done gift) c.loop-turn.task v)
-    (idle_is c.args.deck.now c.number.result t.number c.number.ensures.number) ran) in
+    let left = left_by_code g (goal.at.returns-then-ran-named g c).In-Ok-next_given in
     let count = job_count c.args.deck.now in
     let some = c.in-Some.ensures ∙ ap (λ m. job_named m gift.code) (sym count) in
     let named : Named = named_of c.in-Some.named in
@@ -193,13 +197,10 @@ returns-in_default-run_job g c =
     let turn = c.loop-turn.turn in
     let since = c.loop-turn.invariant in
     let before = since.leads.0 in
-    let token = c.loop-turn.token in
     let gift = gift_of c.in-Ok-next_given.given in
     let v = c.next_given.new.task in
     let ran = c.in-Ok-next_given.ensures.ran in
-    let left = given config deck i t (n - turn) before token gift c.loop-turn.task v since.leads.2
-    (subst (λ e. Ran (next_gift config e token) (Done gift) c.loop-turn.task v)
-    (idle_is c.args.deck.now c.number.result t.number c.number.ensures.number) ran) in
+    let left = left_by_code g (goal.at.returns-in_default-run_job g c).In-Ok-next_given in
     let count = job_count c.args.deck.now in
     let some = c.in-Some.ensures ∙ ap (λ m. job_named m gift.code) (sym count) in
     let named : Named = named_of c.in-Some.named in
@@ -221,15 +222,12 @@ loop-turn-preserved g c =
     let turn = c.loop-turn.turn in
     let since = c.loop-turn.invariant in
     let before = since.leads.0 in
-    let token = c.loop-turn.token in
     let gift = gift_of c.in-Ok-next_given.given in
     let u = c.loop-turn.task in
     let v = c.next_given.new.task in
     let w = c.run_job.new.task in
     let ran = c.in-Ok-next_given.ensures.ran in
-    let left = given config deck i t (n - turn) before token gift u v since.leads.2
-    (subst (λ e. Ran (next_gift config e token) (Done gift) u v)
-    (idle_is c.args.deck.now c.number.result t.number c.number.ensures.number) ran) in
+    let left = left_by_code g (goal.at.loop-turn-preserved g c).In-Ok-next_given in
     let count = job_count c.args.deck.now in
     let some = c.in-Some.ensures ∙ ap (λ m. job_named m gift.code) (sym count) in
     let named : Named = named_of c.in-Some.named in
