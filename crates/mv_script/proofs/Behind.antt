@@ -49,7 +49,8 @@ last_is (first ∷ []) calls = refl
 last_is (first ∷ second ∷ finished) calls = last_is (second ∷ finished) calls
 
 -- one more OBTAIN, or none
-pub count_push : (calls : List Call) (c : Call) → count_by is_obtain (calls ++ c ∷ []) ≡ count_by is_obtain calls + count_by is_obtain (c ∷ [])
+pub count_push : (calls : List Call) (c : Call)
+    → count_by is_obtain (calls ++ c ∷ []) ≡ count_by is_obtain calls + count_by is_obtain (c ∷ [])
 count_push calls c = sum_by-append (λ (d : Call). cond (is_obtain d) 1 0) calls (c ∷ [])
 
 -- where no task has begun nothing costs
@@ -214,22 +215,23 @@ module _ (earlier : List Statement) (n : Notes) (b : Stands earlier n) where
       let q : Progress = with_statement p s in (
         fine earlier s order (few most_exits (length (exits_of earlier)) count) up refl (cheap s whole),
         record {
-          far = subst (λ (y : Progress). IsAsFar y (record n { exits = n.exits ++ x ∷ [] })) (sym (one_exit earlier source targets)) (record {
-            sound = sound;
-            stated = b.far.stated;
-            owners = b.far.owners;
-            exits = ap (λ (l : List SetupExit). l ++ x ∷ []) b.far.exits;
-            begun = b.far.begun;
-            costs = none_costs n.costs (setup_in q (replicate q.stated 0)) (b.far.begun ∙ t.0);
-            tasks = b.far.tasks;
-            fresh = b.far.fresh;
-            budgets = b.far.budgets ∙ ap (map (costs_of (setup_in p []))) none ∙ sym (ap (map (costs_of (setup_in q []))) none);
-            spent = b.far.spent ∙ ap (costs_of (setup_in p [])) empty ∙ sym (ap (costs_of (setup_in q [])) empty);
-            obtains = b.far.obtains;
-            room = ap (λ (l : List (List Call)). n.room + sum (map (costs_of (setup_in q [])) l)) tasks
-                ∙ sym (ap (λ (l : List (List Call)). n.room + sum (map (costs_of (setup_in p [])) l)) tasks) ∙ b.far.room;
-            ended = b.far.ended;
-          });
+          far = subst (λ (y : Progress). IsAsFar y (record n { exits = n.exits ++ x ∷ [] }))
+              (sym (one_exit earlier source targets)) (record {
+                sound = sound;
+                stated = b.far.stated;
+                owners = b.far.owners;
+                exits = ap (λ (l : List SetupExit). l ++ x ∷ []) b.far.exits;
+                begun = b.far.begun;
+                costs = none_costs n.costs (setup_in q (replicate q.stated 0)) (b.far.begun ∙ t.0);
+                tasks = b.far.tasks;
+                fresh = b.far.fresh;
+                budgets = b.far.budgets ∙ ap (map (costs_of (setup_in p []))) none ∙ sym (ap (map (costs_of (setup_in q []))) none);
+                spent = b.far.spent ∙ ap (costs_of (setup_in p [])) empty ∙ sym (ap (costs_of (setup_in q [])) empty);
+                obtains = b.far.obtains;
+                room = ap (λ (l : List (List Call)). n.room + sum (map (costs_of (setup_in q [])) l)) tasks
+                    ∙ sym (ap (λ (l : List (List Call)). n.room + sum (map (costs_of (setup_in p [])) l)) tasks) ∙ b.far.room;
+                ended = b.far.ended;
+              });
           first = still_first s refl a.0;
         },
       )

@@ -33,7 +33,8 @@ module _ (k : ℕ) (owners : List ℕ) (exits : List SetupExit) (b c : List ℕ)
   within_same zero e = refl
   within_same (suc depth) e =
       ap (λ (xs : List ℕ). cut (1 + greatest xs))
-      (map_same (λ (x : SetupExit). total (reach_within depth one) x.targets) (λ (x : SetupExit). total (reach_within depth other) x.targets)
+      (map_same (λ (x : SetupExit). total (reach_within depth one) x.targets)
+      (λ (x : SetupExit). total (reach_within depth other) x.targets)
       (λ x. total_same (reach_within depth one) (reach_within depth other) (within_same depth) x.targets) (exits_of e exits))
 
   -- from all blocks

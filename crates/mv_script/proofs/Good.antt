@@ -12,7 +12,7 @@ use Rattle.mv_latch.specs.declared.request.Mode.{Mode}
 use Rattle.mv_line.specs.Byte.{is_within}
 use Rattle.mv_line.specs.Field.{fields_of}
 use Rattle.mv_line.specs.Line.{begins_with_space}
-use Rattle.mv_line.specs.Number.{number_of}
+use Rattle.mv_line.specs.Number.{is_digits, number_of}
 use Rattle.mv_machine.specs.Limits.{highest_place, highest_generation}
 use Rattle.mv_script.specs.declared.call.Call.{Call}
 use Rattle.mv_script.specs.declared.call.Call.TheVariants as call
@@ -21,10 +21,11 @@ use Rattle.mv_script.specs.declared.statement.Statement.{Statement}
 use Rattle.mv_script.specs.declared.statement.Statement.TheVariants as statement
 use Rattle.mv_script.specs.declared.words.Misread.TheVariants.{NoForm, BadNumber}
 use Rattle.mv_script.specs.Limits.{most_tasks, most_targets, most_waited, highest_count, highest_latch, elements_per_task, volumes}
-use Rattle.mv_script.specs.Operand.{is_digits, passed, number, below, task_count, task, ecb, element, volume, latch, count, ecb_code}
+use Rattle.mv_script.specs.Operand.{passed, number, below, task_count, task, ecb, element, volume, latch, count, ecb_code}
 use Rattle.mv_script.specs.Operand.{release_code, place, any_number, requestor, is_point, parted, token, or_hyphen, mode, conditional}
 use Rattle.mv_script.specs.Sound.{IsEcb, IsElement, IsToken, IfThere, HasEcb, HasGoodNumbers, IsGoodStatement}
-use Rattle.mv_script.specs.Statement.{wait, form, obtain, latch_call, element_call, other_call, call_of, exit, stated, words_state, text_states}
+use Rattle.mv_script.specs.Statement.{wait, form, obtain, latch_call, element_call, other_call, call_of, exit, stated, words_state}
+use Rattle.mv_script.specs.Statement.{text_states}
 use Rattle.mv_script.specs.Words.{Read, making, both, each, none, one, two, three}
 
 -- so it is of what was read, where it was
@@ -242,7 +243,8 @@ module _ (z : Sizes) where
       (of_three (IsToken z) (λ n. n ≤ highest_place) (λ n. n < release_limit) (token z) place release_code token_good
       (λ word. up_to highest_place word) (λ word. below_limit release_limit word) words))
       (chosen Good (bytes_eq word (codes "TRANSFER"))
-      (making (λ (p : Option Token × (Token × ℕ)). call.Transfer p.0 p.1.0 p.1.1) (three (or_hyphen (token z)) (token z) release_code words)) _
+      (making (λ (p : Option Token × (Token × ℕ)). call.Transfer p.0 p.1.0 p.1.1)
+      (three (or_hyphen (token z)) (token z) release_code words)) _
       (made Good (λ (p : Option Token × (Token × ℕ)). call.Transfer p.0 p.1.0 p.1.1)
       (three (or_hyphen (token z)) (token z) release_code words)
       (of_three (IfThere (IsToken z)) (IsToken z) (λ n. n < release_limit) (or_hyphen (token z)) (token z) release_code

@@ -1,10 +1,8 @@
 -- What a line adds, by what of it counts.
 use Rattle.std.proofs.Common.{◌≡◌, ℕ, true, false, List, [], ◌++◌, length, Option, Some, None, Result, Ok, Err, refl, sym, ap}
 use Rattle.std.proofs.Common.{subst, ◌∙◌, arith, MatchResult}
-use Rattle.std.specs.Prelude.{◌==◌, ◌<◌, ◌≤◌, not, nat_lt}
-use Rattle.std.specs.List.{list_any}
-use Rattle.mv_line.specs.Byte.{is_printable}
-use Rattle.mv_line.specs.Line.{without_cr}
+use Rattle.std.specs.Prelude.{◌==◌, ◌<◌}
+use Rattle.mv_line.specs.Line.{shown, is_foreign, is_too_long}
 use Rattle.mv_script.specs.declared.operand.Sizes.{Sizes}
 use Rattle.mv_script.specs.declared.fault.LineRefusal.{LineRefusal}
 use Rattle.mv_script.specs.declared.fault.LineRefusal.TheVariants.{Has, NoMemory}
@@ -12,10 +10,8 @@ use Rattle.mv_script.specs.declared.reading.Reading.{Reading}
 use Rattle.mv_script.specs.declared.statement.Statement.{Statement}
 use Rattle.mv_script.specs.declared.words.Misread.{Misread}
 use Rattle.mv_script.specs.declared.words.Misread.TheVariants.{NoForm, BadNumber}
-use Rattle.mv_script.specs.Fault.{has_foreign_byte, is_too_long, kinds_of, kinds_behind, first_of_list}
-use Rattle.mv_script.specs.Line.{shown}
+use Rattle.mv_script.specs.Fault.{kinds_of, kinds_behind, first_of_list}
 use Rattle.mv_script.specs.Misread.{misread_refusal, IsReadAs}
-use Rattle.mv_script.specs.Limits.{longest_line}
 use Rattle.mv_script.specs.Reading.{IsBehind, IsTaken, Tells, Notes, Stands}
 use Rattle.mv_script.specs.Script.{sizes_behind, with_line, added, task_count, owners_of}
 use Rattle.mv_script.specs.Statement.{line_states, text_states}
@@ -27,18 +23,6 @@ is_nothing n e = grind arith
 
 is_something : (n : ℕ) → 0 < n → (n == 0) ≡ false
 is_something n lt = grind arith
-
--- what was found of a line without its CR
-pub printable_by : (line content : List ℕ) → content ≡ without_cr line → list_any (λ b. not (is_printable b)) content ≡ false
-    → has_foreign_byte line ≡ false
-printable_by line content e f = subst (λ (l : List ℕ). list_any (λ b. not (is_printable b)) l ≡ false) e f
-
-not_longer : (n : ℕ) → n ≤ longest_line → nat_lt longest_line n ≡ false
-not_longer n le = grind arith
-
--- and of its length
-pub short_by : (line content : List ℕ) → content ≡ without_cr line → length content ≤ longest_line → is_too_long line ≡ false
-short_by line content e le = not_longer (length (without_cr line)) (subst (λ (l : List ℕ). length l ≤ longest_line) e le)
 
 -- a text that is not empty
 pub some_text : (n : ℕ) → (n == 0) ≡ false → 0 < n
@@ -58,7 +42,7 @@ sizes_are earlier n b m e =
     same_sizes n.stated (task_count earlier) m (length (owners_of earlier)) b.far.stated (e ∙ ap length b.far.owners)
 
 -- a line whose bytes are good, and what counts of it
-module _ (earlier : List Statement) (line text : List ℕ) (same : text ≡ shown line) (printable : has_foreign_byte line ≡ false)
+module _ (earlier : List Statement) (line text : List ℕ) (same : text ≡ shown line) (printable : is_foreign line ≡ false)
     (short : is_too_long line ≡ false) where
   -- ---- an ignored line
 

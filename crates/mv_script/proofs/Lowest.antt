@@ -4,12 +4,13 @@ use Rattle.std.proofs.Common.{Option, Some, None, Ok, Err, refl, sym, ap, subst,
 use Rattle.std.specs.Prelude.{MatchOption, slice_index_or, fold}
 use Rattle.std.specs.List.{Contains}
 use Rattle.mv_line.specs.Line.{lines_of}
+use Rattle.mv_line.specs.Line.{is_foreign, is_too_long}
 use Rattle.mv_script.specs.declared.fault.Kind.{Kind}
 use Rattle.mv_script.specs.declared.fault.Kind.TheVariants.{ForeignByte, TooLong, NoForm, BadNumber, OutOfOrder, Miscounted, LeadsDown}
 use Rattle.mv_script.specs.declared.fault.Kind.TheVariants.{NoObtain, NoEnd, TooCostly}
 use Rattle.mv_script.specs.declared.fault.ScriptFault.{ScriptFault}
 use Rattle.mv_script.specs.declared.statement.Statement.{Statement}
-use Rattle.mv_script.specs.Fault.{has_foreign_byte, is_too_long, has_no_form, has_bad_number, has_end, is_out_of_order, is_miscounted}
+use Rattle.mv_script.specs.Fault.{has_no_form, has_bad_number, has_end, is_out_of_order, is_miscounted}
 use Rattle.mv_script.specs.Fault.{leads_down, lacks_obtain, is_too_costly, kinds_of, kinds_of_statement, kinds_behind, kind_number}
 use Rattle.mv_script.specs.Fault.{faults_from, fault_at, first_fault, first_of_list, when}
 use Rattle.mv_script.specs.Faults.{HasFault, in_line, at_end, IsNoLater}
@@ -59,7 +60,7 @@ statement_rises earlier (Some (Err why)) = tt
 line_rises : (earlier : List Statement) (line : List ℕ) → Rises 1 (kinds_of earlier line)
 line_rises earlier line =
     let states : Option (Read Statement) = line_states (sizes_behind earlier) line in
-    rises_when (has_foreign_byte line) ForeignByte 1 _ (omega arith)
+    rises_when (is_foreign line) ForeignByte 1 _ (omega arith)
     (rises_when (is_too_long line) TooLong 1 _ (omega arith)
     (rises_when (has_no_form states) NoForm 2 _ (omega arith)
     (rises_when (has_bad_number states) BadNumber 3 _ (omega arith) (statement_rises earlier states))))
@@ -166,7 +167,8 @@ unfolding faults_from
 lowest_from number earlier [] = lowest_at_end number earlier (has_end earlier) refl
 lowest_from number earlier (line ∷ lines) = go (kinds_of earlier line) refl (lowest_from (number + 1) (with_line earlier line) lines) where
   go : (kinds : List ℕ) → kinds_of earlier line ≡ kinds
-      → Lowest (first_of_list (faults_from (number + 1) (with_line earlier line) lines)) (FaultIn (number + 1) (with_line earlier line) lines)
+      → Lowest (first_of_list (faults_from (number + 1) (with_line earlier line) lines))
+      (FaultIn (number + 1) (with_line earlier line) lines)
       → Lowest (first_of_list (faults_from number earlier (line ∷ lines))) (FaultIn number earlier (line ∷ lines))
   go [] e ih =
       subst (λ (o : Option ScriptFault). Lowest o (FaultIn number earlier (line ∷ lines)))
@@ -178,11 +180,13 @@ lowest_from number earlier (line ∷ lines) = go (kinds_of earlier line) refl (l
       (sym (first_of_map number k (kinds_of earlier line) _ (ap first_of_list e))) (lowest_in_line number earlier line lines k kinds e)
 
 pub lowest : (bytes : List ℕ) → Lowest (first_fault bytes) (HasFault bytes)
-lowest bytes = lowest_same (first_fault bytes) (FaultIn 1 [] (lines_of bytes)) (HasFault bytes) to from (lowest_from 1 [] (lines_of bytes)) where
-  to : (f : ScriptFault) → FaultIn 1 [] (lines_of bytes) f → HasFault bytes f
-  to f (line_has before behind line e l c) = in_line before behind line e l c
-  to f (end_has e l k) = at_end e l k
+lowest bytes =
+    lowest_same (first_fault bytes) (FaultIn 1 [] (lines_of bytes)) (HasFault bytes) to from (lowest_from 1 [] (lines_of bytes))
+  where
+    to : (f : ScriptFault) → FaultIn 1 [] (lines_of bytes) f → HasFault bytes f
+    to f (line_has before behind line e l c) = in_line before behind line e l c
+    to f (end_has e l k) = at_end e l k
 
-  from : (f : ScriptFault) → HasFault bytes f → FaultIn 1 [] (lines_of bytes) f
-  from f (in_line before behind line e l c) = line_has before behind line e l c
-  from f (at_end e l k) = end_has e l k
+    from : (f : ScriptFault) → HasFault bytes f → FaultIn 1 [] (lines_of bytes) f
+    from f (in_line before behind line e l c) = line_has before behind line e l c
+    from f (at_end e l k) = end_has e l k

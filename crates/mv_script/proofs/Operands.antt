@@ -1,18 +1,29 @@
 -- Numbers in the places of operands.
-use Rattle.std.proofs.Common.{◌≡◌, ℕ, ◌≤◌, ◌^◌, Bool, true, false, List, [], ◌∷◌, Option, Some, None, Ok, Err, refl}
+use Rattle.std.proofs.Common.{◌≡◌, ℕ, ◌≤◌, ◌-◌, ◌^◌, Bool, true, false, List, Option, Some, None, Ok, Err, refl}
 use Rattle.std.proofs.Common.{arith, if◌then◌else◌}
 use Rattle.std.specs.Prelude.{nat_lt}
-use Rattle.std.specs.List.{list_all}
-use Rattle.mv_line.specs.Byte.{is_digit, is_within}
-use Rattle.mv_line.specs.Number.{number_of}
+use Rattle.mv_line.specs.Byte.{is_within}
+use Rattle.mv_line.specs.Number.{is_digits, number_of, within}
 use Rattle.mv_script.specs.declared.words.Misread.TheVariants.{NoForm, BadNumber}
-use Rattle.mv_script.specs.Operand.{is_digits, passed, below, task_count}
+use Rattle.mv_script.specs.Operand.{passed, below, task_count}
 use Rattle.mv_script.specs.Words.{Read}
 
--- digits are digits
-pub all_digits : (word : List ℕ) → is_digits word ≡ true → list_all is_digit word ≡ true
-all_digits [] e = refl
-all_digits (b ∷ bs) e = e
+-- what is told of a number, where there is one
+abbrev pub told : Option ℕ → Read ℕ
+told None = Err BadNumber
+told (Some n) = Ok n
+
+all_wide : (n : ℕ) (b : Bool) → nat_lt n (2 ^ 64) ≡ b → is_within 0 (2 ^ 64 - 1) n ≡ b
+all_wide n true e = grind arith
+all_wide n false e = grind arith
+
+-- what passes as a number of eight bytes is within all of them
+pub passed_wide : (shown : Option ℕ) → passed (λ n. nat_lt n (2 ^ 64)) shown ≡ told (within 0 (2 ^ 64 - 1) shown)
+passed_wide None = refl
+passed_wide (Some n) = rw (all_wide n (nat_lt n (2 ^ 64)) refl) (told_if (nat_lt n (2 ^ 64))) where
+  told_if : (b : Bool) → (if b then Ok n else Err BadNumber) ≡ told (if b then Some n else None)
+  told_if true = refl
+  told_if false = refl
 
 -- a number that was read, put to another test
 abbrev pub filtered : (ℕ → Bool) → Read ℕ → Read ℕ

@@ -1,6 +1,6 @@
 -- What one more statement adds, and that a script which can be run stays one.
-use Rattle.std.proofs.Common.{◌≡◌, ℕ, suc, ◌+◌, ◌<◌, ◌≤◌, Bool, true, false, not, ◌||◌, List, [], ◌∷◌, ◌++◌, length, map, Option, Some, None}
-use Rattle.std.proofs.Common.{refl, sym, ap, subst, ◌∙◌, arith, append_assoc}
+use Rattle.std.proofs.Common.{◌≡◌, ℕ, suc, ◌+◌, ◌<◌, ◌≤◌, Bool, true, false, not, ◌||◌, List, [], ◌∷◌, ◌++◌, length, map, Option, Some}
+use Rattle.std.proofs.Common.{None, refl, sym, ap, subst, ◌∙◌, arith, append_assoc}
 use Rattle.std.specs.Prelude.{nat_lt, nat_le, sum, count_by}
 use Rattle.std.specs.List.{AllByRecursion, list_any}
 use Rattle.std.proofs.lemmas.List.{length-append, map-append}
@@ -19,7 +19,8 @@ use Rattle.mv_script.specs.Costs.{cost, costs_of}
 use Rattle.mv_script.specs.Fault.{is_script, is_exit, is_task, is_end, obtain_meant, is_no_obtain}
 use Rattle.mv_script.specs.Limits.{most_tasks, most_ecbs, most_exits, most_targets, most_calls}
 use Rattle.mv_script.specs.Reading.{Progress, progress_of, with_statement, sizes_in, setup_in, budgets_in, IsSoundSoFar}
-use Rattle.mv_script.specs.Script.{task_count, owner_in, owners_of, exit_in, exits_of, with_call, tasks_behind, tasks_of, last_task, is_obtain}
+use Rattle.mv_script.specs.Script.{task_count, owner_in, owners_of, exit_in, exits_of, with_call, tasks_behind, tasks_of, last_task}
+use Rattle.mv_script.specs.Script.{is_obtain}
 use Rattle.mv_script.specs.Sound.{IsEcb, HasGoodNumbers, IsObtainOf, IfThere, IsSoundCall, AreSoundCalls, IsSoundTask, IsSoundExit}
 
 -- ---- what one more statement adds
@@ -259,8 +260,8 @@ module _ (p : Progress) (sound : IsSoundSoFar p) where
         tasks = subst (λ (x : List (List Call)). AllByRecursion (IsSoundTask (sizes_in (with_statement p (statement.Ecb owner)))) x)
             (sym tasks) tt;
         task = sound.task;
-        light = subst (λ (x : List (List Call)). sum (map (costs_of (setup_in (with_statement p (statement.Ecb owner)) [])) x) ≤ events_limit)
-            (sym tasks) (omega arith);
+        light = subst (λ (x : List (List Call)).
+            sum (map (costs_of (setup_in (with_statement p (statement.Ecb owner)) [])) x) ≤ events_limit) (sym tasks) (omega arith);
         ended = sound.ended;
       }
 

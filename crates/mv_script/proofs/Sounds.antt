@@ -1,9 +1,10 @@
 -- The script of a text without fault can be run.
-use Rattle.std.proofs.Common.{◌≡◌, ℕ, suc, ◌+◌, ◌<◌, ◌≤◌, Bool, true, false, not, ◌&&◌, List, [], ◌∷◌, ◌++◌, length, map, Option, Some, None}
-use Rattle.std.proofs.Common.{Ok, Err, refl, sym, ap, subst, ◌∙◌, arith}
+use Rattle.std.proofs.Common.{◌≡◌, ℕ, suc, ◌+◌, ◌<◌, ◌≤◌, Bool, true, false, not, ◌&&◌, List, [], ◌∷◌, ◌++◌, length, map, Option, Some}
+use Rattle.std.proofs.Common.{None, Ok, Err, refl, sym, ap, subst, ◌∙◌, arith}
 use Rattle.std.specs.Prelude.{nat_lt, nat_le, sum, fold}
 use Rattle.mv_line.specs.Line.{lines_of}
 use Rattle.mv_machine.specs.Limits.{events_limit}
+use Rattle.mv_line.specs.Line.{shown, is_ignored, is_foreign, is_too_long}
 use Rattle.mv_script.specs.declared.fault.Kind.{Kind}
 use Rattle.mv_script.specs.declared.fault.Kind.TheVariants.{ForeignByte, TooLong, NoForm, BadNumber, OutOfOrder, Miscounted, LeadsDown}
 use Rattle.mv_script.specs.declared.fault.Kind.TheVariants.{NoObtain, NoEnd, TooCostly}
@@ -13,14 +14,13 @@ use Rattle.mv_script.specs.declared.statement.Statement.TheVariants as statement
 use Rattle.mv_script.specs.Costs.{costs_of}
 use Rattle.mv_script.specs.Fault.{has_script, has_task, has_end, is_script, is_out_of_order, is_miscounted, leads_down, lacks_obtain}
 use Rattle.mv_script.specs.Fault.{is_too_costly, kinds_of, kinds_of_statement, kinds_behind, faults_from, fault_at, first_fault}
-use Rattle.mv_script.specs.Fault.{first_of_list, when, has_foreign_byte, is_too_long, has_no_form, has_bad_number}
+use Rattle.mv_script.specs.Fault.{first_of_list, when, has_no_form, has_bad_number}
 use Rattle.mv_script.specs.Limits.{most_ecbs, most_exits, most_calls}
 use Rattle.mv_script.specs.Reading.{progress_of, budgets_in, IsSoundSoFar}
 use Rattle.mv_script.specs.Script.{task_count, owners_of, exits_of, tasks_of, last_task, budgets_of, sizes_behind, added, with_line}
 use Rattle.mv_script.specs.Script.{statements_of, script_in, script_of, setup_with}
 use Rattle.mv_script.specs.Sound.{IsSound, IsGoodStatement}
 use Rattle.mv_script.specs.Statement.{line_states, text_states}
-use Rattle.mv_script.specs.Line.{shown, is_ignored}
 use Rattle.mv_script.specs.Words.{Read}
 use Rattle.mv_script.proofs.Costs.{costs_same, map_same}
 use Rattle.mv_script.proofs.Good.{read_well}
@@ -111,8 +111,8 @@ holds_more earlier (statement.Exit source targets) h g f =
     let t = neither _ _ a.1 in
     record {
       sound = subst IsSoundSoFar (sym (one_exit earlier source targets))
-          (sound_exit (progress_of earlier) h.sound source targets t.0 (few most_exits (length (exits_of earlier)) f.count) g.0 g.1.0 g.1.1.0
-          g.1.1.1 f.up);
+          (sound_exit (progress_of earlier) h.sound source targets t.0 (few most_exits (length (exits_of earlier)) f.count)
+          g.0 g.1.0 g.1.1.0 g.1.1.1 f.up);
       first = stays_first earlier (statement.Exit source targets) refl a.0;
     }
 holds_more earlier statement.Task h g f =
@@ -131,7 +131,8 @@ holds_more earlier (statement.Call c) h g f =
       sound = subst IsSoundSoFar (sym (one_call earlier c))
           (sound_call (progress_of earlier) h.sound c a.0 a.1 (few most_calls (length (last_task (tasks_of earlier))) f.count) g f.obtain
           (omega (arith, total, le)));
-      first = stays_first earlier (statement.Call c) refl (h.sound.script ∙ up (task_count earlier) (omega (arith, some, h.sound.few_tasks)));
+      first = stays_first earlier (statement.Call c) refl
+          (h.sound.script ∙ up (task_count earlier) (omega (arith, some, h.sound.few_tasks)));
     } where
       up : (m : ℕ) → 1 ≤ m → nat_lt 0 m ≡ true
       up m le = grind arith
@@ -147,11 +148,11 @@ holds_more earlier statement.End h g f =
 
 -- what the kinds of a line say of what it states
 states_fine : (earlier : List Statement) (line : List ℕ) (states : Option (Read Statement))
-    → when (has_foreign_byte line) ForeignByte ++ (when (is_too_long line) TooLong ++ (when (has_no_form states) NoForm
+    → when (is_foreign line) ForeignByte ++ (when (is_too_long line) TooLong ++ (when (has_no_form states) NoForm
     ++ (when (has_bad_number states) BadNumber ++ kinds_of_statement earlier states))) ≡ []
     → kinds_of_statement earlier states ≡ []
 states_fine earlier line states e =
-    let a = none_when (has_foreign_byte line) ForeignByte _ e in
+    let a = none_when (is_foreign line) ForeignByte _ e in
     let b = none_when (is_too_long line) TooLong _ a.1 in
     let c = none_when (has_no_form states) NoForm _ b.1 in
     (none_when (has_bad_number states) BadNumber _ c.1).1

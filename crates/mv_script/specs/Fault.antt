@@ -2,8 +2,8 @@
 use Rattle.std.specs.Prelude.{◌≡◌, ℕ, ◌+◌, Bool, true, false, ◌&&◌, ◌||◌, not, nat_le, nat_lt, List, [], ◌∷◌, ◌++◌, length, map, sum}
 use Rattle.std.specs.Prelude.{count_by, Option, Some, None, Ok, Err, if◌then◌else◌}
 use Rattle.std.specs.List.{list_any}
-use Rattle.mv_line.specs.Byte.{is_printable, is_within}
-use Rattle.mv_line.specs.Line.{lines_of, without_cr}
+use Rattle.mv_line.specs.Byte.{is_within}
+use Rattle.mv_line.specs.Line.{lines_of, is_foreign, is_too_long}
 use Rattle.mv_machine.specs.Limits.{events_limit}
 use Rattle.mv_script.specs.declared.call.Call.{Call}
 use Rattle.mv_script.specs.declared.call.Call.TheVariants as call
@@ -16,7 +16,7 @@ use Rattle.mv_script.specs.declared.fault.ScriptRefusal.TheVariants.{Fault, NoMe
 use Rattle.mv_script.specs.declared.statement.Statement.{Statement}
 use Rattle.mv_script.specs.declared.statement.Statement.TheVariants as statement
 use Rattle.mv_script.specs.declared.words.Misread.TheVariants as misread
-use Rattle.mv_script.specs.Limits.{longest_line, most_ecbs, most_exits, most_calls}
+use Rattle.mv_script.specs.Limits.{most_ecbs, most_exits, most_calls}
 use Rattle.mv_script.specs.Script.{task_count, owners_of, exits_of, tasks_of, last_task, is_obtain, budgets_of, sizes_behind, with_line}
 use Rattle.mv_script.specs.Statement.{line_states}
 use Rattle.mv_script.specs.Words.{Read}
@@ -35,14 +35,6 @@ kind_number NoEnd = 9
 kind_number TooCostly = 10
 
 -- ---- faults of a line by itself
-
--- a byte that is no printable ASCII; one CR at the end is none of the line
-abbrev pub has_foreign_byte : List ℕ → Bool
-has_foreign_byte line = list_any (λ b. not (is_printable b)) (without_cr line)
-
--- more bytes than a card has, not counting one CR at the end
-abbrev pub is_too_long : List ℕ → Bool
-is_too_long line = nat_lt longest_line (length (without_cr line))
 
 -- an ignored line needs no form
 abbrev pub has_no_form : Option (Read Statement) → Bool
@@ -176,7 +168,7 @@ kinds_of_statement earlier (Some (Err why)) = []
 abbrev pub kinds_of : List Statement → List ℕ → List ℕ
 kinds_of earlier line =
     let states = line_states (sizes_behind earlier) line in
-    when (has_foreign_byte line) ForeignByte
+    when (is_foreign line) ForeignByte
     ++ (when (is_too_long line) TooLong
     ++ (when (has_no_form states) NoForm
     ++ (when (has_bad_number states) BadNumber

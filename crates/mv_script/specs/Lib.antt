@@ -1,5 +1,4 @@
 pub mod Limits
-pub mod Line
 pub mod Words
 pub mod Operand
 pub mod Statement

@@ -1,10 +1,6 @@
 -- The limits of a script, by their names.
 use Rattle.std.specs.Prelude.{ℕ}
 
--- the longest line, without the CR that is dropped at its end: a card of the reader
-abbrev pub longest_line : ℕ
-longest_line = 80
-
 -- tasks
 abbrev pub most_tasks : ℕ
 most_tasks = 8

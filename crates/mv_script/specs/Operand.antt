@@ -1,15 +1,15 @@
 -- What may stand in the places of numbers, tokens and modes.
-use Rattle.std.specs.Prelude.{ℕ, ◌+◌, ◌*◌, ◌^◌, Bool, true, false, nat_lt, List, [], ◌∷◌, take, drop, Option, Some, None, Ok, Err}
+use Rattle.std.specs.Prelude.{ℕ, ◌+◌, ◌*◌, ◌^◌, Bool, true, false, nat_lt, List, take, drop, Option, Some, None, Ok, Err}
 use Rattle.std.specs.Prelude.{codes, ◌==◌, if◌then◌else◌}
-use Rattle.std.specs.List.{list_all, position}
+use Rattle.std.specs.List.{position}
 use Rattle.std.specs.Str.{bytes_eq}
 use Rattle.mv_ecb.specs.Table.{code_limit}
 use Rattle.mv_element.specs.declared.element.Token.{Token}
 use Rattle.mv_element.specs.Table.{release_limit}
 use Rattle.mv_latch.specs.declared.request.Mode.{Mode}
 use Rattle.mv_latch.specs.declared.request.Mode.TheVariants.{Shared, Exclusive}
-use Rattle.mv_line.specs.Byte.{is_digit, is_within}
-use Rattle.mv_line.specs.Number.{number_of}
+use Rattle.mv_line.specs.Byte.{is_within}
+use Rattle.mv_line.specs.Number.{is_digits, number_of}
 use Rattle.mv_machine.specs.Limits.{highest_place, highest_generation}
 use Rattle.mv_script.specs.declared.words.Misread.TheVariants.{NoForm, BadNumber}
 use Rattle.mv_script.specs.declared.operand.Sizes.{Sizes}
@@ -17,11 +17,6 @@ use Rattle.mv_script.specs.Limits.{most_tasks, highest_count, highest_latch, ele
 use Rattle.mv_script.specs.Words.{Read, making, both}
 
 -- ---- numbers: a word that is none fits no form; a zero in front of others, or a number that does not pass the test, is bad
-
--- one or more digits
-abbrev pub is_digits : List ℕ → Bool
-is_digits [] = false
-is_digits (b ∷ bs) = list_all is_digit (b ∷ bs)
 
 -- what digits show is to pass a test
 abbrev pub passed : (ℕ → Bool) → Option ℕ → Read ℕ

@@ -6,7 +6,7 @@ use Rattle.mv_latch.specs.declared.request.LatchForm.TheVariants.{Conditional, W
 use Rattle.mv_latch.specs.declared.request.Mode.{Mode}
 use Rattle.mv_line.specs.Byte.{is_within}
 use Rattle.mv_line.specs.Field.{fields_of}
-use Rattle.mv_line.specs.Line.{begins_with_space}
+use Rattle.mv_line.specs.Line.{begins_with_space, shown, is_ignored}
 use Rattle.mv_script.specs.declared.call.Call.{Call}
 use Rattle.mv_script.specs.declared.call.Call.TheVariants as call
 use Rattle.mv_script.specs.declared.statement.Statement.{Statement}
@@ -14,7 +14,6 @@ use Rattle.mv_script.specs.declared.statement.Statement.TheVariants as statement
 use Rattle.mv_script.specs.declared.words.Misread.TheVariants.{NoForm}
 use Rattle.mv_script.specs.declared.operand.Sizes.{Sizes}
 use Rattle.mv_script.specs.Limits.{most_targets, most_waited}
-use Rattle.mv_script.specs.Line.{shown, is_ignored}
 use Rattle.mv_script.specs.Operand.{task_count, task, ecb, volume, latch, count, ecb_code, release_code, place, any_number, requestor}
 use Rattle.mv_script.specs.Operand.{element, token, or_hyphen, mode, conditional}
 use Rattle.mv_script.specs.Words.{Read, making, both, each, none, one, two, three}

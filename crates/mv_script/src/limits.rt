@@ -1,8 +1,5 @@
 //! The limits of a script (`specs/Limits.antt`).
 
-/// The longest line, in bytes without the CR that is dropped at its end: a card of the reader.
-pub(crate) const LONGEST_LINE: usize = 80;
-
 /// How many tasks a script may have.
 pub(crate) const MOST_TASKS: u32 = 8;
 

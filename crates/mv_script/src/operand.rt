@@ -1,17 +1,19 @@
 //! What may stand in the places of numbers, tokens and modes (`specs/Operand.antt`).
 
-ghost use Rattle.std.specs.Prelude.{◌≡◌, ◌<◌, ◌≤◌, ◌^◌, ◌+◌, ◌-◌, ◌*◌, true, SomeIff, length};
-ghost use Rattle.std.specs.List.{list_all};
-ghost use Rattle.mv_line.specs.Byte.{is_digit as shows_digit};
-ghost use Rattle.mv_line.specs.Number.{value_behind, is_number as shows_number};
+ghost use Rattle.std.specs.Prelude.{◌≡◌, ◌≤◌, ◌^◌};
 ghost use Rattle.mv_script.specs.Limits.{most_tasks};
-ghost use Rattle.mv_script.specs.Operand.{is_digits as are_digits, below as reads_below, task_count as reads_task_count, task as reads_task, ecb as reads_ecb, element as reads_element, volume as reads_volume, latch as reads_latch, count as reads_count, ecb_code as reads_ecb_code, release_code as reads_release_code, place as reads_place, any_number as reads_any_number, requestor as reads_requestor, token as reads_token, or_hyphen, mode as reads_mode, conditional as reads_conditional};
+ghost use Rattle.mv_script.specs.Operand.{below as reads_below, task_count as reads_task_count, task as reads_task};
+ghost use Rattle.mv_script.specs.Operand.{ecb as reads_ecb, element as reads_element, volume as reads_volume};
+ghost use Rattle.mv_script.specs.Operand.{latch as reads_latch, count as reads_count, ecb_code as reads_ecb_code};
+ghost use Rattle.mv_script.specs.Operand.{release_code as reads_release_code, place as reads_place};
+ghost use Rattle.mv_script.specs.Operand.{any_number as reads_any_number, requestor as reads_requestor, token as reads_token};
+ghost use Rattle.mv_script.specs.Operand.{or_hyphen, mode as reads_mode, conditional as reads_conditional};
 
 use crate::limits::{ELEMENTS_PER_TASK, HIGHEST_COUNT, HIGHEST_LATCH, MOST_TASKS, VOLUMES};
 use crate::words::{Misread, both};
 use mv_element::Token;
 use mv_latch::Mode;
-use mv_line::first_place;
+use mv_line::{first_place, is_digits, wide_number_within};
 
 /// How many tasks and event control blocks a script has so far: those that its lines may name.
 #[derive(Clone, Copy)]
@@ -20,68 +22,16 @@ pub(crate) struct Sizes {
     pub(crate) ecbs: u32,
 }
 
-// One or more digits.
-fn is_digits(word: &[u8]) -> bool
-    ensures { result ≡ are_digits word.now }
-{
-    match word {
-        [] => false,
-        [_, ..] => are_all_digits(word),
-    }
-}
-
-fn are_all_digits(word: &[u8]) -> bool
-    ensures { result ≡ list_all shows_digit word.now }
-{
-    word.iter().all(|b| b.is_ascii_digit())
-}
-
-// Digits without a zero in front of others.
-fn is_number(word: &[u8]) -> bool
-    ensures { result ≡ shows_number word.now }
-{
-    match word {
-        [] => false,
-        [only] => only.is_ascii_digit(),
-        [first, rest @ ..] => matches!(first, b'1'..=b'9') && are_all_digits(rest),
-    }
-}
-
-// A number with one more digit behind it, where it fits eight bytes.
-fn with_digit(value: u64, digit: u8) -> Option<u64>
-    requires { shows_digit digit ≡ true }
-    ensures { SomeIff result (10 * value + (digit - 48) < 2 ^ 64) (10 * value + (digit - 48)) }
-{
-    value.checked_mul(10)?.checked_add(u64::from(digit - b'0'))
-}
-
-// The number that digits show, where it fits eight bytes.
-fn value(digits: &[u8]) -> Option<u64>
-    requires { list_all shows_digit digits.now ≡ true }
-    ensures { SomeIff result (value_behind 0 digits.now < 2 ^ 64) (value_behind 0 digits.now) }
-{
-    let mut value: u64 = 0;
-    for digit in digits {
-        let Some(next) = with_digit(value, *digit) else {
-            return None;
-        };
-        value = next;
-    }
-    Some(value)
-}
-
 /// The eight bytes of a requestor, as a number.
+#[tactic(auto, using(crate::proofs::Operands::passed_wide))]
 pub(crate) fn requestor(word: &[u8]) -> Result<u64, Misread>
     ensures { result ≡ reads_requestor word.now }
 {
     if !is_digits(word) {
         return Err(Misread::NoForm);
     }
-    if !is_number(word) {
-        return Err(Misread::BadNumber);
-    }
-    match value(word) {
-        Some(value) => Ok(value),
+    match wide_number_within(0, u64::MAX, word) {
+        Some(number) => Ok(number),
         None => Err(Misread::BadNumber),
     }
 }

@@ -13,13 +13,13 @@ use crate::call::{Call, CallList};
 use crate::configuration::{unbudgeted, with_budgets};
 use crate::cost::cost;
 use crate::fault::{Kind, LineRefusal, ScriptFault, ScriptRefusal};
-use crate::limits::{EVENTS_LIMIT, LONGEST_LINE, MOST_CALLS, MOST_ECBS, MOST_EXITS};
+use crate::limits::{EVENTS_LIMIT, MOST_CALLS, MOST_ECBS, MOST_EXITS};
 use crate::numbers::Numbers;
 use crate::operand::Sizes;
 use crate::script::Script;
 use crate::statement::{Statement, statement_of};
 use mv_io::NoMemory;
-use mv_line::{has_foreign_byte, split_line, without_cr, without_last_spaces};
+use mv_line::{is_foreign, is_too_long, shown, split_line};
 use mv_machine::{Exit, ValidConfig};
 use std::alloc::Global;
 
@@ -122,14 +122,13 @@ impl Reading {
             → MatchResult result (λ _. (kinds_of earlier line.now ≡ []) × IsBehind (with_line earlier line.now) self.new)
             (λ e. Tells e (kinds_of earlier line.now)) }
     {
-        let content = without_cr(line);
-        if has_foreign_byte(content) {
+        if is_foreign(line) {
             return Err(LineRefusal::Has(Kind::ForeignByte));
         }
-        if content.len() > LONGEST_LINE {
+        if is_too_long(line) {
             return Err(LineRefusal::Has(Kind::TooLong));
         }
-        let text = without_last_spaces(content);
+        let text = shown(line);
         if text.is_empty() {
             return Ok(());
         }

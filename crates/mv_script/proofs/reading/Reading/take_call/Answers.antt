@@ -17,7 +17,8 @@ use Rattle.mv_script.proofs.Told.{many, none, much}
 use Rattle.mv_script.proofs.reading.Reading.take_call.Goals as goal
 
 -- what is known of a call where a task has begun
-module _ (earlier : List Statement) (n : Notes) (b : Stands earlier n) (call : Call) (k : Setup) (is : n.costs ≡ Some k) (going : n.ended ≡ false) where
+module _ (earlier : List Statement) (n : Notes) (b : Stands earlier n) (call : Call) (k : Setup) (is : n.costs ≡ Some k)
+    (going : n.ended ≡ false) where
   -- a task has begun
   begun : is_some n.costs ≡ true
   begun = ap is_some is

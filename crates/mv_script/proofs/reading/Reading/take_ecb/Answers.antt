@@ -14,4 +14,5 @@ returns c = λ earlier b good.
     let order : is_out_of_order earlier (statement.Ecb c.args.owner) ≡ false =
     sym (late_ecb earlier n b (length items) c.args.owner (sym (length-map items exit_of))) ∙ sym c.is_late_for_ecbs.ensures
     ∙ c.if-is_late_for_ecbs.false in
-    rw c.in_ok-push.ensures.items (taken_ecb earlier n b c.args.owner order (omega (arith, c.len.ensures, c.if-len-ge-MOST_ECBS.false)) good)
+    rw c.in_ok-push.ensures.items
+    (taken_ecb earlier n b c.args.owner order (omega (arith, c.len.ensures, c.if-len-ge-MOST_ECBS.false)) good)
