@@ -25,3 +25,8 @@ pub use laws::{costs_suffice, first_fault_is_lowest, scripts_are_sound};
 pub use numbers::{Numbers, Slots};
 pub use reading::read_script;
 pub use script::Script;
+
+#[cfg(test)]
+mod faulty_texts;
+#[cfg(test)]
+mod tests;
