@@ -162,7 +162,8 @@ module _ (c : Setup) (n : ℕ) where
       → GoesOn (next s e) es → GoesOn s (e ∷ es)
   passes s es e state code takes rest seen sees = by_owner (cases_eq e.caller (owner_of c n)) where
     after : IsWithin (takes_from n seen (of (owner_of c n) es)) (held (s.ecb n).state ++ posts n (e ∷ es))
-    after = rw code (subst (λ (cell : Cell EcbState). IsWithin (takes_from n seen (of (owner_of c n) es)) (held cell.state ++ posts n es)) state
+    after = rw code (subst
+        (λ (cell : Cell EcbState). IsWithin (takes_from n seen (of (owner_of c n) es)) (held cell.state ++ posts n es)) state
         (rest seen (subst (λ (cell : Cell EcbState). Sees seen cell.state) (sym state) sees)))
 
     by_owner : (e.caller ≡ owner_of c n) ⊎ (e.caller ≡ owner_of c n → ⊥) → Goes s seen (e ∷ es)
@@ -186,8 +187,10 @@ module _ (c : Setup) (n : ℕ) where
           elsewhere Settle = refl
           elsewhere Clear = refl
           elsewhere Test = refl
-  step s es k (Element m) p (op_on.Element op) r h rest = passes s es (entry_of k (Element m) p (op_on.Element op) r) refl refl (λ seen xs. refl) rest
-  step s es k (Volume m) p (op_on.Volume op) r h rest = passes s es (entry_of k (Volume m) p (op_on.Volume op) r) refl refl (λ seen xs. refl) rest
+  step s es k (Element m) p (op_on.Element op) r h rest =
+      passes s es (entry_of k (Element m) p (op_on.Element op) r) refl refl (λ seen xs. refl) rest
+  step s es k (Volume m) p (op_on.Volume op) r h rest =
+      passes s es (entry_of k (Volume m) p (op_on.Volume op) r) refl refl (λ seen xs. refl) rest
   step s es k Latches p (op_on.Latch op) r h rest = passes s es (entry_of k Latches p (op_on.Latch op) r) refl refl (λ seen xs. refl) rest
   step s es k o p op r h rest = absurd (false≢true h.admits)
 

@@ -5,7 +5,7 @@ mod Logs
 mod Blocks
 -- take, put
 mod Calls
--- await_free, produce, consume
+-- produce, consume
 mod Through
 -- hand_over
 mod Order

@@ -6,9 +6,10 @@ use Rattle.mv_machine.specs.declared.entry.Entry.{Entry}
 use Rattle.mv_machine.specs.Legal.{Legal, of}
 use Rattle.mv_machine.specs.Setup.{Setup, owner_of}
 use Rattle.mv_machine.specs.System.{opening}
-use Rattle.mv_board.specs.Faces.{CallerFace, IsIn}
+use Rattle.mv_board.specs.Faces.{BoardFace, CallerFace, IsIn}
 use Rattle.mv_calls.proofs.Hearing.{of_own, of_other}
 use Rattle.mv_calls.proofs.Interleaved.{callers_exist}
+use Rattle.mv_handover.specs.Ready.{HasPut, HasTaken}
 use Rattle.mv_handover.specs.Setup.{slots, HasSlots}
 use Rattle.mv_handover.specs.Slots.{posts, takes, part}
 use Rattle.mv_handover.proofs.Blocks.{taken_were_posted}
@@ -67,15 +68,13 @@ part_is : (c : Setup) (es : List Entry) (k : ℕ) (t : CallerFace) → IsIn c es
 part_is c es k t within number = ap (λ j. of j es) (sym number) ∙ within.logged
 
 -- with what their logs say
-pub closed_in_order : (c : Setup) (es : List Entry) (room mid tasks : List CallerFace) (p q : CallerFace) (items taken : List ℕ)
-    → HasSlots c → Legal c es → room ≡ [] → mid ≡ room ++ p ∷ [] → tasks ≡ mid ++ q ∷ [] → AllByRecursion (IsIn c es) tasks
-    → p.number ≡ 0 → q.number ≡ 1 → length taken ≡ length items
-    → ((s : ℕ) → s < slots → posts s p.log ≡ part s items)
-    → ((s : ℕ) → s < slots → posts s q.log ≡ [])
-    → ((s : ℕ) → s < slots → takes s q.log ≡ part s taken) → taken ≡ items
-closed_in_order c es room mid tasks p q items taken has legal none first second all zero one size put nothing took =
-    let both = both_in c es room mid tasks p q none first second all in
-    let own = part_is c es 0 p both.0 zero in
-    let other = part_is c es 1 q both.1 one in
-    in_order c es items taken has legal size (λ s lt. ap (posts s) own ∙ put s lt) (λ s lt. ap (posts s) other ∙ nothing s lt)
-    (λ s lt. ap (takes s) other ∙ took s lt)
+pub closed_in_order : (b : BoardFace) (es : List Entry) (room mid tasks : List CallerFace) (p q : CallerFace) (items taken : List ℕ)
+    → Legal b.config es → room ≡ [] → mid ≡ room ++ p ∷ [] → tasks ≡ mid ++ q ∷ [] → AllByRecursion (IsIn b.config es) tasks
+    → length taken ≡ length items → HasPut b items p → HasTaken b taken q → taken ≡ items
+closed_in_order b es room mid tasks p q items taken legal none first second all size put took =
+    let both = both_in b.config es room mid tasks p q none first second all in
+    let own = part_is b.config es 0 p both.0 put.ready.number in
+    let other = part_is b.config es 1 q both.1 took.ready.number in
+    in_order b.config es items taken put.ready.config legal size
+    (λ s lt. ap (posts s) own ∙ put.posts s lt) (λ s lt. ap (posts s) other ∙ took.posts s lt)
+    (λ s lt. ap (takes s) other ∙ took.takes s lt)

@@ -1,4 +1,4 @@
--- What a take and a put do to what goes through a slot. Used by await_free, produce and consume.
+-- What a take and a put do to what goes through a slot. Used by produce and consume.
 use Rattle.std.proofs.Common.{◌≡◌, ℕ, zero, suc, ◌+◌, ◌%◌, ◌<◌, ◌==◌, List, [], ◌∷◌, ◌++◌, length, None, ◌⊎◌, inl, inr, refl, ap}
 use Rattle.std.proofs.Common.{◌∙◌, arith, append-nil, if◌then◌else◌}
 use Rattle.std.proofs.lemmas.Bool.{cases_eq, eq-eqb, ne_eqb}
@@ -82,10 +82,10 @@ takes_took a code s t u w none = (
 ) where
   all : (a ≡ s) ⊎ (a ≡ s → ⊥) → (takes_from s None (w.first ∷ w.second ∷ w.third ∷ []) ≡ (if a == s then code ∷ [] else []))
       × (seen_after s None (w.first ∷ w.second ∷ w.third ∷ []) ≡ None)
-  all (inl same) = rw (w.arm.object, w.arm.makes, w.settle.object, w.settle.makes, w.found, w.clear.object, w.clear.makes, eq-eqb a s same)
-      (refl, refl)
-  all (inr other) = rw (w.arm.object, w.arm.makes, w.settle.object, w.settle.makes, w.found, w.clear.object, w.clear.makes, ne_eqb a s other)
-      (refl, refl)
+  all (inl same) = rw
+      (w.arm.object, w.arm.makes, w.settle.object, w.settle.makes, w.found, w.clear.object, w.clear.makes, eq-eqb a s same) (refl, refl)
+  all (inr other) = rw
+      (w.arm.object, w.arm.makes, w.settle.object, w.settle.makes, w.found, w.clear.object, w.clear.makes, ne_eqb a s other) (refl, refl)
 
 -- ---- one more item
 

@@ -1,5 +1,6 @@
--- the configuration, and how a task stands between two calls
+-- the configuration
 pub mod Setup
-pub mod Ready
 -- what goes through a block
 pub mod Slots
+-- how a task stands between two calls, and what it has done when it is back
+pub mod Ready

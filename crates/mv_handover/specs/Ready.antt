@@ -1,5 +1,5 @@
--- How a task stands between two calls, and what a call adds to its log.
-use Rattle.std.specs.Prelude.{◌≡◌, ℕ, ◌+◌, false, List, [], ◌∷◌, ◌++◌, length}
+-- How a task stands between two calls, what a call adds to its log, and what each task has done when it is back.
+use Rattle.std.specs.Prelude.{◌≡◌, ℕ, ◌+◌, ◌<◌, false, List, [], ◌∷◌, ◌++◌, length}
 use Rattle.mv_ecb.specs.declared.operation.EcbOp.{EcbOp}
 use Rattle.mv_ecb.specs.declared.operation.EcbOp.TheVariants.{Arm, Settle, Clear, Post}
 use Rattle.mv_ecb.specs.declared.operation.EcbReply.TheVariants.{Complete}
@@ -7,15 +7,30 @@ use Rattle.mv_machine.specs.declared.entry.Entry.{Entry}
 use Rattle.mv_machine.specs.declared.entry.Object.TheVariants.{Ecb}
 use Rattle.mv_machine.specs.declared.entry.Op.TheVariants as op_on
 use Rattle.mv_machine.specs.declared.entry.Reply.TheVariants as reply_of
+use Rattle.mv_machine.specs.Setup.{owner_of}
 use Rattle.mv_board.specs.Faces.{BoardFace, CallerFace, IsOf}
 use Rattle.mv_calls.specs.Keeping.{kept_of}
 use Rattle.mv_calls.specs.Rest.{IsAtRest}
+use Rattle.mv_handover.specs.Setup.{slots, HasSlots}
+use Rattle.mv_handover.specs.Slots.{posts, takes, part}
 
--- the task is of this board, is at rest, and holds no block extended
-pub record IsReady (b : BoardFace) (t : CallerFace) : Type 0 where
+-- it is task k of a hand-over on this board, is at rest, and holds no block extended
+pub record IsReady (b : BoardFace) (k : ℕ) (t : CallerFace) : Type 0 where
+  pub config : HasSlots b.config
   pub task : IsOf b t
+  pub number : t.number ≡ k
   pub rest : IsAtRest t.log
   pub plain : (e : ℕ) → (kept_of t.number t.log).extended e ≡ false
+
+-- one that has made no event
+abbrev pub IsNew : BoardFace → ℕ → CallerFace → Type 0
+IsNew b k t = IsReady b k t × (t.log ≡ [])
+
+-- the block is there, and is the task's own
+abbrev pub IsOwn : BoardFace → ℕ → CallerFace → Type 0
+IsOwn b ecb t = (ecb < 8) × (owner_of b.config ecb ≡ t.number)
+
+-- ---- calls
 
 -- the same task made these entries
 pub record Added (es : List Entry) (t u : CallerFace) : Type 0 where
@@ -44,3 +59,16 @@ pub record Took (ecb code : ℕ) (t u : CallerFace) : Type 0 where
   pub settle : IsOn ecb Settle second
   pub found : second.reply ≡ reply_of.Ecb (Complete code)
   pub clear : IsOn ecb Clear third
+
+-- ---- tasks that are back
+
+-- the producer put these items, each into its slot
+pub record HasPut (b : BoardFace) (items : List ℕ) (t : CallerFace) : Type 0 where
+  pub ready : IsReady b 0 t
+  pub posts : (s : ℕ) → s < slots → posts s t.log ≡ part s items
+
+-- the consumer took these items, each out of its slot, and put none
+pub record HasTaken (b : BoardFace) (items : List ℕ) (t : CallerFace) : Type 0 where
+  pub ready : IsReady b 1 t
+  pub takes : (s : ℕ) → s < slots → takes s t.log ≡ part s items
+  pub posts : (s : ℕ) → s < slots → posts s t.log ≡ []

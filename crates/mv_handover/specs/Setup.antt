@@ -1,5 +1,5 @@
 -- The configuration of a hand-over.
-use Rattle.std.specs.Prelude.{◌≡◌, ℕ, ◌*◌, [], ◌∷◌}
+use Rattle.std.specs.Prelude.{◌≡◌, ℕ, ◌+◌, ◌*◌, [], ◌∷◌}
 use Rattle.mv_machine.specs.Setup.{Setup}
 
 -- how many slots there are
@@ -7,7 +7,8 @@ abbrev pub slots : ℕ
 slots = 4
 
 -- The producer is caller 0, and the consumer caller 1. Blocks 0 to 3 are the consumer's, and say that a slot is full; blocks 4 to 7
--- are the producer's, and say that it is free again. For each item each of them waits for a block, clears it, and posts one.
+-- are the producer's, and say that it is free. For each item each of them waits for a block, clears it, and posts one; before that
+-- the consumer says of each slot that it is free.
 abbrev pub slots_setup : ℕ → Setup
 slots_setup n = record {
   callers = 2;
@@ -16,7 +17,7 @@ slots_setup n = record {
   latches = 1;
   quota = 1;
   posted_quota = 0;
-  budgets = 4 * n ∷ 4 * n ∷ [];
+  budgets = 4 * n ∷ (4 * n + 4) ∷ [];
   owners = 1 ∷ 1 ∷ 1 ∷ 1 ∷ 0 ∷ 0 ∷ 0 ∷ 0 ∷ [];
   exits = [];
 }

@@ -5,10 +5,18 @@ use Rattle.mv_handover.specs.Slots.{posts, takes, part}
 use Rattle.mv_handover.proofs.Through.{SeesNone}
 use Rattle.mv_handover.proofs.handover.consume.Given as goal
 
+abbrev pub invariant-loop-slot : goal.invariant-loop-slot
+invariant-loop-slot g l = record {
+  ready : IsReady l.station 1 l.task;
+  left : 4 * l.count + 4 ≤ l.task.left + l.slot;
+  seen : SeesNone l.task;
+  takes : (s : ℕ) → s < slots → takes s l.task.log ≡ [];
+  posts : (s : ℕ) → s < slots → posts s l.task.log ≡ [];
+}
+
 abbrev pub invariant-loop-i : goal.invariant-loop-i
 invariant-loop-i g l = record {
-  number : l.task.number ≡ 1;
-  ready : IsReady l.station l.task;
+  ready : IsReady l.station 1 l.task;
   left : 4 * l.count ≤ l.task.left + 4 * l.i;
   within : l.i ≤ l.count;
   size : length l.taken.items ≡ l.i;

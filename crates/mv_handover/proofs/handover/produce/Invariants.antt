@@ -6,8 +6,7 @@ use Rattle.mv_handover.proofs.handover.produce.Given as goal
 
 abbrev pub invariant-loop-i : goal.invariant-loop-i
 invariant-loop-i g l = record {
-  number : l.task.number ≡ 0;
-  ready : IsReady l.station l.task;
+  ready : IsReady l.station 0 l.task;
   left : 4 * length l.items ≤ l.task.left + 4 * l.i;
   posts : (s : ℕ) → s < slots → posts s l.task.log ≡ part s (take l.i l.items);
 }

@@ -9,19 +9,20 @@ use Rattle.mv_handover.proofs.handover.put.Goals as goal
 
 pub post-requires-clause-block : goal.post-requires-clause-block
 post-requires-clause-block g c =
-    subst (λ (s : Setup). c.args.ecb < length s.owners) (sym c.requires.config.1) c.requires.block
+    subst (λ (s : Setup). c.args.ecb < length s.owners) (sym c.requires.ready.config.1) c.requires.block
 
 pub post-requires-clause-left : goal.post-requires-clause-left
 post-requires-clause-left g c =
-    subst (λ (s : Setup). reach s c.args.ecb ≤ c.args.task.now.left) (sym c.requires.config.1) c.requires.left
+    subst (λ (s : Setup). reach s c.args.ecb ≤ c.args.task.now.left) (sym c.requires.ready.config.1) c.requires.left
 
 pub returns : goal.returns
 returns g c =
-    let served = subst (λ (s : Setup). IsServed (reach s c.args.ecb) (post s c.args.ecb c.args.code) (λ p. post_answer p ≡ c.post.result)
-    c.args.task.now c.post.new.task) c.requires.config.1 c.post.ensures.served in
-    let put = put_made c.requires.config.0 c.args.ecb c.args.code (λ p. post_answer p ≡ c.post.result) c.args.task.now c.post.new.task
-    served in record {
+    let t = c.args.task.now in
+    let config = c.requires.ready.config in
+    let served = subst (λ (s : Setup). IsServed (reach s c.args.ecb) (post s c.args.ecb c.args.code) (λ p. post_answer p ≡ c.post.result) t
+    c.post.new.task) config.1 c.post.ensures.served in
+    let put = put_made config.0 c.args.ecb c.args.code (λ p. post_answer p ≡ c.post.result) t c.post.new.task served in record {
       put = put;
-      ready = put_ready c.args.station.now c.requires.config.0 c.args.ecb c.args.code (λ p. post_answer p ≡ c.post.result)
-          c.args.task.now c.post.new.task served c.requires.ready put;
+      ready = put_ready c.args.station.now t.number config.0 c.args.ecb c.args.code (λ p. post_answer p ≡ c.post.result) t
+          c.post.new.task served c.requires.ready put;
     }
