@@ -1,6 +1,6 @@
 -- What holds of each event that a program says, whatever is answered, holds of each entry that its call makes.
 use Rattle.std.proofs.Common.{◌≡◌, ℕ, zero, suc, ◌+◌, ◌≤◌, List, [], ◌∷◌, ◌++◌, length, Option, Some, None, Result, Ok}
-use Rattle.std.proofs.Common.{Bool, true, false, nat_le, refl, sym, ap, ◌∙◌, subst, arith, if◌then◌else◌}
+use Rattle.std.proofs.Common.{Bool, true, false, nat_le, refl, sym, ◌∙◌, subst, arith, if◌then◌else◌}
 use Rattle.std.specs.List.{AllByRecursion}
 use Rattle.mv_ecb.specs.declared.operation.EcbOp.TheVariants as ecb_op
 use Rattle.mv_ecb.specs.declared.operation.EcbReply.{EcbReply}
@@ -16,6 +16,7 @@ use Rattle.mv_machine.specs.declared.entry.Op.{Op}
 use Rattle.mv_machine.specs.declared.entry.Op.TheVariants as op_on
 use Rattle.mv_machine.specs.declared.entry.Reply.{Reply}
 use Rattle.mv_machine.specs.declared.entry.Reply.TheVariants as reply_of
+use Rattle.mv_machine.specs.Reach.{reach}
 use Rattle.mv_machine.specs.Setup.{Setup}
 use Rattle.mv_machine.proofs.Lists.{all_append}
 use Rattle.mv_board.specs.Faces.{BoardFace, CallerFace}
@@ -26,10 +27,13 @@ use Rattle.mv_calls.specs.Posts as came
 use Rattle.mv_calls.specs.Program.{Program, Do, Done, Early, Wrong, Call, Heard, Says, entries, on_ecb, on_element, unless_refused}
 use Rattle.mv_calls.specs.Refusal.{Refusal}
 use Rattle.mv_calls.specs.Refusal as refusal
-use Rattle.mv_calls.specs.Waits.{wait, wait_refusal, refused_if, is_others_block, clear, the_word, arm_all, armed, settle_all, settled, enough, complete_count}
+use Rattle.mv_calls.specs.Waits.{wait, wait_refusal, refused_if, is_others_block, clear, the_word, arm_all, armed, settle_all, settled}
+use Rattle.mv_calls.specs.Waits.{enough, complete_count}
 use Rattle.mv_wait.specs.Run.{IsServed}
-use Rattle.mv_server.specs.Pool.{pool_setup}
-use Rattle.mv_server.specs.Right.{IsRight, AreRight, IsReady}
+use Rattle.mv_server.specs.Pool.{pool_setup, answer_at}
+use Rattle.mv_server.proofs.Pool.{reach_one}
+use Rattle.mv_wait.proofs.OneBlock.{asked_is}
+use Rattle.mv_server.specs.Right.{IsRight, AreRight, IsReady, Keeps}
 
 -- each event that the program may say is so
 abbrev pub Always : {A : Type 0} → (Object → Op → Type 0) → Program A → Type 0
@@ -37,21 +41,6 @@ Always P (Do o op next) = P o op × ((h : Heard) → Always P (next h))
 Always P (Done a) = Unit {0}
 Always P Early = Unit {0}
 Always P Wrong = Unit {0}
-
--- an event that is asked for
-abbrev pub event : Object → Op → Object × Op
-event o op = (o, op)
-
-abbrev object_in : Object → Option (Object × Op) → Object
-object_in o None = o
-object_in o (Some x) = x.0
-
-abbrev op_in : Op → Option (Object × Op) → Op
-op_in op None = op
-op_in op (Some x) = x.1
-
-pub asked_is : (o p : Object) (op oq : Op) → Some (event o op) ≡ Some (event p oq) → (p ≡ o) × (oq ≡ op)
-asked_is o p op oq q = (sym (ap (object_in o) q), sym (ap (op_in op) q))
 
 always_says : {A : Type 0} (P : Object → Op → Type 0) (p : Program A) (hs : List Heard) → Always P p → Says p hs
     → AllByRecursion (λ e. P e.object e.op) (entries hs)
@@ -65,9 +54,10 @@ always_says P Wrong (h ∷ hs) a s = absurd (cc s.0)
 
 -- ---- a call that says right events leaves its task ready
 
-pub ready_after : {A : Type 0} (b : BoardFace) (requests : List ℕ) (most : ℕ) (call : Call A) (Is : A → Type 0) (t u : CallerFace)
+ready_after : {A : Type 0} (b : BoardFace) (requests : List ℕ) (most : ℕ) (call : Call A) (Is : A → Type 0) (t u : CallerFace)
     → IsServed most call Is t u → IsReady b requests t → Always (IsRight requests) (call (kept_of t.number t.log)) → IsReady b requests u
 ready_after b requests most call Is t u s r a = record {
+  asked = r.asked;
   task = (s.same.table ∙ r.task.0, s.same.about ∙ r.task.1);
   rest = s.made.rest;
   right = subst (λ log. AreRight requests log) (sym s.made.longer.logged)
@@ -75,9 +65,32 @@ ready_after b requests most call Is t u s r a = record {
       (always_says (IsRight requests) (call (kept_of t.number t.log)) s.made.events a s.made.done.says));
 }
 
-pub served_few : {A : Type 0} (most : ℕ) (call : Call A) (Is : A → Type 0) (t u : CallerFace) → IsServed most call Is t u
+served_few : {A : Type 0} (most : ℕ) (call : Call A) (Is : A → Type 0) (t u : CallerFace) → IsServed most call Is t u
     → t.left ≤ u.left + most
 served_few most call Is t u s = let few = s.made.few in let left = s.left in omega arith
+
+-- the same task, with fewer events left
+pub keeps_after : {A : Type 0} (b : BoardFace) (requests : List ℕ) (most : ℕ) (call : Call A) (Is : A → Type 0) (t u : CallerFace)
+    → IsServed most call Is t u → IsReady b requests t → Always (IsRight requests) (call (kept_of t.number t.log))
+    → Keeps b requests most t u
+keeps_after b requests most call Is t u s r a = record {
+  ready = ready_after b requests most call Is t u s r a;
+  number = s.same.number;
+  left = served_few most call Is t u s;
+}
+
+-- one call after another
+pub keeps_then : (b : BoardFace) (requests : List ℕ) (m n most : ℕ) (t u v : CallerFace) → Keeps b requests m t u → Keeps b requests n u v
+    → m + n ≤ most → Keeps b requests most t v
+keeps_then b requests m n most t u v first second le = record {
+  ready = second.ready;
+  number = second.number ∙ first.number;
+  left = (let i = first.left in let j = second.left in omega arith);
+}
+
+pub keeps_more : (b : BoardFace) (requests : List ℕ) (m most : ℕ) (t u : CallerFace) → Keeps b requests m t u → m ≤ most
+    → Keeps b requests most t u
+keeps_more b requests m most t u k le = record { ready = k.ready; number = k.number; left = (let i = k.left in omega arith) }
 
 -- ---- the calls
 
@@ -176,9 +189,19 @@ always_within requests n (suc depth) code e right = (
   on (ecb_reply.Already c) = next (came.Already c)
   on x = tt
 
-pub always_post : (requests : List ℕ) (n e code : ℕ) (kept : Kept) → IsRight requests (Ecb e) (op_on.Ecb (ecb_op.Post code))
+always_post : (requests : List ℕ) (n e code : ℕ) (kept : Kept) → IsRight requests (Ecb e) (op_on.Ecb (ecb_op.Post code))
     → Always (IsRight requests) (post (pool_setup n) e code kept)
 always_post requests n e code kept right = always_within requests n (length (pool_setup n).owners) code e right
+
+-- a post of an answer's block with the answer, or of another block
+pub told : (b : BoardFace) (requests : List ℕ) (e code : ℕ) (Is : Posting → Type 0) (t u : CallerFace)
+    → IsServed (reach b.config e) (post b.config e code) Is t u → IsReady b requests t → (3 ≤ e → code ≡ answer_at requests e)
+    → Keeps b requests 1 t u
+told b requests e code Is t u s r right =
+    subst (λ k. Keeps b requests k t u) (reach_one b.config (length requests) e r.asked.config)
+    (keeps_after b requests (reach b.config e) (post b.config e code) Is t u s r
+    (subst (λ (c : Setup). Always (IsRight requests) (post c e code (kept_of t.number t.log))) (sym r.asked.config)
+    (always_post requests (length requests) e code (kept_of t.number t.log) right)))
 
 pub always_allocate : (requests : List ℕ) (c : Setup) (kept : Kept) → Always (IsRight requests) (allocate c kept)
 always_allocate requests c kept = on (lowest_free c kept) where

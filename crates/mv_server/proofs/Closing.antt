@@ -1,6 +1,6 @@
--- The tasks that came back, and the answers that the server found. Used by close_all.
-use Rattle.std.proofs.Common.{◌≡◌, ℕ, zero, suc, ◌+◌, ◌-◌, ◌<◌, ◌≤◌, List, [], ◌∷◌, ◌++◌, length, map, get_or, take, drop, ◌⊎◌, inl, inr, refl, sym}
-use Rattle.std.proofs.Common.{ap, ◌∙◌, subst, arith}
+-- The tasks that came back, and the answers that the server found. Used by serve, worked and serve_all.
+use Rattle.std.proofs.Common.{◌≡◌, ℕ, zero, suc, ◌+◌, ◌-◌, ◌<◌, ◌≤◌, List, [], ◌∷◌, ◌++◌, length, map, get_or, take, drop, ◌⊎◌, inl, inr}
+use Rattle.std.proofs.Common.{refl, sym, ap, ◌∙◌, subst, arith}
 use Rattle.std.proofs.lemmas.List.{get_or-map, length-map, length-append, same_lists, append-nil, drop_all, take_all}
 use Rattle.std.proofs.Math.ListN.{get_or-append}
 use Rattle.std.proofs.Math.Nat.{eq-or-lt_of_le}
@@ -13,7 +13,7 @@ use Rattle.mv_machine.specs.Setup.{Setup}
 use Rattle.mv_machine.specs.System.{opening}
 use Rattle.mv_calls.proofs.Interleaved.{callers_exist}
 use Rattle.mv_server.specs.Pool.{pool_setup, days_in}
-use Rattle.mv_server.specs.Right.{IsReady, IsBack, AreRight, Finds}
+use Rattle.mv_server.specs.Right.{IsBack, AreDone, AreRight, Finds}
 use Rattle.mv_server.proofs.Answers.{found_is_answer}
 
 abbrev pub AreBack : BoardFace → List ℕ → ℕ → List CallerFace → Type 0
@@ -37,15 +37,14 @@ back_append b requests k n [] t back is last =
     (subst (λ m. IsBack b requests m t) (let e : n ≡ k = omega arith in e) last, tt)
 back_append b requests k n (x ∷ ts) t back is last = (back.0, back_append b requests (suc k) n ts t back.1 (omega arith) last)
 
-pub all_back : (b : BoardFace) (requests : List ℕ) (pool tasks : List CallerFace) (server : CallerFace) → length pool ≡ 3
-    → ((i : ℕ) (d : CallerFace) → i < length pool → IsBack b requests i (get_or pool i d))
-    → IsReady b requests server × (server.number ≡ 3) → tasks ≡ pool ++ server ∷ [] → AreBack b requests 0 tasks
-all_back b requests pool tasks server size each last is =
+pub all_back : (b : BoardFace) (requests : List ℕ) (pool tasks : List CallerFace) (server : CallerFace) → AreDone b requests pool
+    → IsBack b requests 3 server → tasks ≡ pool ++ server ∷ [] → AreBack b requests 0 tasks
+all_back b requests pool tasks server done last is =
     subst (λ ts. AreBack b requests 0 ts) (sym is)
     (back_append b requests 0 3 pool server
     (are_back b requests 0 pool
-    (λ i d lt. subst (λ n. IsBack b requests n (get_or pool i d)) (let e : i ≡ 0 + i = omega arith in e) (each i d lt)))
-    (let e : 0 + length pool ≡ 3 = omega arith in e) (record { ready = last.0; number = last.1 }))
+    (λ i d lt. subst (λ n. IsBack b requests n (get_or pool i d)) (let e : i ≡ 0 + i = omega arith in e) (done.back i d lt)))
+    (let size = done.count in let e : 0 + length pool ≡ 3 = omega arith in e) last)
 
 -- they are in order
 pub back_in_order : (b : BoardFace) (requests : List ℕ) (k : ℕ) (ts : List CallerFace) → AreBack b requests k ts → AreInOrder b k ts

@@ -1,6 +1,6 @@
--- The configuration of a pool. Used by tell, hand_to_idle and await_answer.
-use Rattle.std.proofs.Common.{◌≡◌, ℕ, zero, suc, ◌+◌, ◌*◌, ◌<◌, ◌≤◌, nat_le, true, [], ◌∷◌, length, replicate, sum, None, Some, refl, sym, ap}
-use Rattle.std.proofs.Common.{◌∙◌, ◌-◌, List, get_or, subst, arith, if◌then◌else◌}
+-- The configuration of a pool. Used by valid_config, work, hand_out and await_answer.
+use Rattle.std.proofs.Common.{◌≡◌, ℕ, zero, suc, ◌+◌, ◌*◌, ◌<◌, ◌≤◌, nat_le, true, [], ◌∷◌, length, replicate, sum, None, Some, refl}
+use Rattle.std.proofs.Common.{sym, ap, ◌∙◌, ◌-◌, List, get_or, subst, arith, if◌then◌else◌}
 use Rattle.std.specs.List.{position_from}
 use Rattle.std.proofs.lemmas.Bool.{le-leb, lt-leb}
 use Rattle.std.proofs.lemmas.List.{length-replicate}

@@ -1,5 +1,5 @@
 -- What each task of a pool keeps to, whatever the others do: a block of an answer is posted with nothing but that answer.
-use Rattle.std.specs.Prelude.{◌≡◌, ℕ, ◌≤◌, List}
+use Rattle.std.specs.Prelude.{◌≡◌, ℕ, ◌+◌, ◌^◌, ◌<◌, ◌≤◌, List, length, slice_index_or}
 use Rattle.std.specs.List.{AllByRecursion, Contains}
 use Rattle.mv_ecb.specs.declared.operation.EcbOp.TheVariants.{Extend, Post}
 use Rattle.mv_ecb.specs.declared.operation.EcbReply.TheVariants.{Complete}
@@ -9,9 +9,9 @@ use Rattle.mv_machine.specs.declared.entry.Object.TheVariants.{Ecb}
 use Rattle.mv_machine.specs.declared.entry.Op.{Op}
 use Rattle.mv_machine.specs.declared.entry.Op.TheVariants as op_on
 use Rattle.mv_machine.specs.declared.entry.Reply.TheVariants as reply_of
-use Rattle.mv_board.specs.Faces.{BoardFace, CallerFace, IsOf}
+use Rattle.mv_board.specs.Faces.{BoardFace, CallerFace, IsOf, AreFresh}
 use Rattle.mv_calls.specs.Rest.{IsAtRest}
-use Rattle.mv_server.specs.Pool.{answer_at}
+use Rattle.mv_server.specs.Pool.{workers, pool_setup, answer_at}
 
 -- a post of a block of an answer has that answer, and no block is extended
 abbrev pub IsRight : List ℕ → Object → Op → Type 0
@@ -23,8 +23,17 @@ IsRight requests object op = Unit {0}
 abbrev pub AreRight : List ℕ → List Entry → Type 0
 AreRight requests es = AllByRecursion (λ e. IsRight requests e.object e.op) es
 
+-- ---- tasks between two calls
+
+-- the board is that of a pool for these requests, which are few and small
+pub record IsAsked (b : BoardFace) (requests : List ℕ) : Type 0 where
+  pub config : b.config ≡ pool_setup (length requests)
+  pub few : length requests ≤ 10000
+  pub small : AllByRecursion (λ weeks. weeks < 2 ^ 27) requests
+
 -- a task of this board is at rest, and has made right entries
 pub record IsReady (b : BoardFace) (requests : List ℕ) (t : CallerFace) : Type 0 where
+  pub asked : IsAsked b requests
   pub task : IsOf b t
   pub rest : IsAtRest t.log
   pub right : AreRight requests t.log
@@ -33,6 +42,25 @@ pub record IsReady (b : BoardFace) (requests : List ℕ) (t : CallerFace) : Type
 pub record IsBack (b : BoardFace) (requests : List ℕ) (k : ℕ) (t : CallerFace) : Type 0 where
   pub ready : IsReady b requests t
   pub number : t.number ≡ k
+
+-- the same task is ready again, after at most so many events
+pub record Keeps (b : BoardFace) (requests : List ℕ) (most : ℕ) (t u : CallerFace) : Type 0 where
+  pub ready : IsReady b requests u
+  pub number : u.number ≡ t.number
+  pub left : t.left ≤ u.left + most
+
+-- ---- the workers, before and behind their work
+
+pub record AreNew (b : BoardFace) (requests : List ℕ) (ts : List CallerFace) : Type 0 where
+  pub asked : IsAsked b requests
+  pub count : length ts ≡ workers
+  pub fresh : AreFresh b 0 ts
+
+pub record AreDone (b : BoardFace) (requests : List ℕ) (ts : List CallerFace) : Type 0 where
+  pub count : length ts ≡ workers
+  pub back : (k : ℕ) (d : CallerFace) → k < length ts → IsBack b requests k (slice_index_or ts k d)
+
+-- ---- answers
 
 -- one of these entries found the block complete with this code
 pub record Finds (es : List Entry) (block code : ℕ) : Type 0 where

@@ -3,12 +3,10 @@
 #![tactic(auto)]
 
 mod server;
-mod worker;
 
 use mv_machine::replay;
-pub use server::{Served, serve_all};
+pub use server::{Served, answer_to, serve_all};
 use std::io::{self, ErrorKind};
-pub use worker::answer_to;
 
 // What is asked: how many days so many weeks have.
 const REQUESTS: [u32; 8] = [2, 7, 1, 8, 28, 18, 28, 52];

@@ -1,12 +1,8 @@
 use Rattle.std.proofs.Common.{◌≡◌, ◌+◌, ◌∷◌, [], length, ap, ◌∙◌, subst, arith}
 use Rattle.std.proofs.lemmas.List.{length-append}
 use Rattle.mv_board.specs.Faces.{IsFresh, AreFresh}
-use Rattle.mv_board.proofs.Fresh.{fresh_last, fresh_front}
+use Rattle.mv_board.proofs.Fresh.{fresh_last}
 use Rattle.mv_server.proofs.server.pool_and_server.Goals as goal
-
-pub returns-clause-pool : goal.returns-clause-pool
-returns-clause-pool c =
-    fresh_front c.args.station.now 0 c.pop.new.self.items _ (subst (AreFresh c.args.station.now 0) c.in-Some.ensures.items c.requires.fresh)
 
 pub returns-clause-server : goal.returns-clause-server
 returns-clause-server c =

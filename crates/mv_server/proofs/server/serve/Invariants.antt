@@ -1,15 +1,26 @@
 use Rattle.std.proofs.Common.{◌≡◌, ◌≤◌, ◌<◌, ◌+◌, ◌*◌, ℕ, length, vec_capacity}
 use Rattle.std.specs.Prelude.{slice_index}
-use Rattle.mv_server.specs.Right.{IsReady, Finds}
+use Rattle.mv_server.specs.Right.{IsBack, Finds}
 use Rattle.mv_server.proofs.server.serve.Given as goal
 
 abbrev pub invariant-loop-request : goal.invariant-loop-request
 invariant-loop-request g l = record {
-  ready : IsReady l.station l.requests l.task;
-  number : l.task.number ≡ 3;
-  left : 2 * length l.requests ≤ l.task.left + 2 * l.request;
-  within : l.request ≤ length l.requests;
-  size : length l.answers.items ≡ l.request;
+  back : IsBack l.station l.requests 3 l.task;
+  left : 10 * length l.requests + 24 ≤ l.task.left + 8 * l.request;
+}
+
+abbrev pub invariant-loop-worker : goal.invariant-loop-worker
+invariant-loop-worker g l = record {
+  back : IsBack l.station l.requests 3 l.task;
+  left : 2 * length l.requests + 24 ≤ l.task.left + 8 * l.worker;
+}
+
+abbrev pub invariant-loop-r : goal.invariant-loop-r
+invariant-loop-r g l = record {
+  back : IsBack l.station l.requests 3 l.task;
+  left : 2 * length l.requests ≤ l.task.left + 2 * l.r;
+  within : l.r ≤ length l.requests;
+  size : length l.answers.items ≡ l.r;
   room : length l.requests ≤ vec_capacity l.answers;
-  finds : (r : ℕ) → r < l.request → Finds l.task.log (3 + r) (slice_index l.answers.items r);
+  finds : (r : ℕ) → r < l.r → Finds l.task.log (3 + r) (slice_index l.answers.items r);
 }

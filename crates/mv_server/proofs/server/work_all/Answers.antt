@@ -2,8 +2,8 @@ use Rattle.std.proofs.Common.{◌≡◌, get_or, sym, ap, ◌∙◌, subst, arit
 use Rattle.mv_server.specs.Right.{IsBack}
 use Rattle.mv_server.proofs.server.work_all.Goals as goal
 
-pub returns-clause-ready : goal.returns-clause-ready
-returns-clause-ready g c k d lt =
+pub returns-clause-back : goal.returns-clause-back
+returns-clause-back g c k d lt =
     let b = c.args.station.now in
     let requests = c.args.requests.now in
     let at = (c.for_each_chunk_mut.ensures.by_index k d lt).1 in
