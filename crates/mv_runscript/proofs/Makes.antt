@@ -1,0 +1,160 @@
+-- One call of a script, by what its service did. Used by serve, ask, make, and the tries.
+use Rattle.std.proofs.Common.{◌≡◌, ℕ, zero, suc, ◌-◌, ◌≤◌, true, false, List, [], ◌∷◌, ◌++◌, get_or, Option, Some, None}
+use Rattle.std.proofs.Common.{refl, sym, ap, ◌∙◌, subst, arith}
+use Rattle.std.specs.Prelude.{slice_get, option_map, option_and_then, unwrap_or, is_none}
+use Rattle.mv_board.specs.Faces.{CallerFace, Missed}
+use Rattle.mv_board.specs.declared.caller.Moved.{Moved}
+use Rattle.mv_calls.specs.Keeping.{kept_of}
+use Rattle.mv_calls.specs.Program.{followed, finished}
+use Rattle.mv_calls.specs.Program as program
+use Rattle.mv_calls.specs.Rest.{IsAtRest}
+use Rattle.mv_calls.specs.Services.{Service, most_events}
+use Rattle.mv_calls.specs.Services as service
+use Rattle.mv_latchset.specs.declared.token.LatchToken.{LatchToken}
+use Rattle.mv_machine.specs.declared.entry.Object.{Object}
+use Rattle.mv_machine.specs.Setup.{Setup}
+use Rattle.mv_wait.specs.Run.{IsServed}
+use Rattle.mv_wait.proofs.Runs.{runs_none, runs_within, runs_look, went_look, serves}
+use Rattle.mv_script.specs.declared.answer.Answer.{Answer}
+use Rattle.mv_script.specs.declared.answer.Answer.TheVariants as answer
+use Rattle.mv_script.specs.declared.call.Call.{Call}
+use Rattle.mv_script.specs.Answered.{answer_to}
+use Rattle.mv_script.specs.Costs.{service_of, cost}
+use Rattle.mv_script.specs.Fault.{obtain_meant}
+use Rattle.mv_script.specs.Run.{tried, word_in}
+use Rattle.mv_script.specs.Script.{is_obtain}
+use Rattle.mv_script.specs.Tasks.{Past, request_of, lacks_request, requests_with, served, made}
+use Rattle.mv_script.proofs.Suffices.{suffices}
+use Rattle.mv_runscript.specs.Making.{asked_by, requests_of, past_with, HasMet, MakesCall}
+use Rattle.mv_runscript.specs.Served.{Serves}
+use Rattle.mv_runscript.proofs.Answers.{no_word, keeps_requests}
+use Rattle.mv_runscript.proofs.Served.{served_so, served_none, served_then}
+
+-- ---- a call that is its service's
+
+-- where it lacks no request
+unmoved : (c : Setup) (past : Past) (d : Call) → lacks_request past.requests (obtain_meant d) ≡ false
+    → made c None past d ≡ followed (service.program c (service_of (request_of past.requests) d))
+    (λ a. finished (served past (service_of (request_of past.requests) d) a))
+unmoved c past d has = rw has refl
+
+module _ (c : Setup) (d : Call) (reply : Answer) (old new : List (Option LatchToken)) (t u : CallerFace) where
+  abbrev asks : Service
+  asks = service_of (request_of (requests_of old)) d
+
+  pub serves_makes : lacks_request (requests_of old) (obtain_meant d) ≡ false → (x : Serves c asks reply t u)
+      → requests_with (requests_of old) asks x.answer ≡ requests_of new → MakesCall c d reply old new t u
+  serves_makes has x more = record {
+    served = λ answers. subst (λ m. IsServed (cost c d) (made c m (past_with answers old) d)
+        (λ past. past ≡ past_with (answers ++ reply ∷ []) new) t u) (sym none)
+        (subst (λ call. IsServed (cost c d) call (λ past. past ≡ past_with (answers ++ reply ∷ []) new) t u)
+        (sym (unmoved c (past_with answers old) d has))
+        (served_so (most_events c (kept_of t.number t.log) asks) (cost c d)
+        (followed (service.program c asks) (λ a. finished (served (past_with answers old) asks a)))
+        (λ past. past ≡ past_with (answers ++ reply ∷ []) new) (λ past. past ≡ past_with (answers ++ reply ∷ []) new) t u
+        (suffices c (kept_of t.number t.log) (request_of (requests_of old)) d) (λ past is. is)
+        (served_then (most_events c (kept_of t.number t.log) asks) (service.program c asks) (served (past_with answers old) asks)
+        (λ a. answer_to asks a ≡ reply) (λ past. past ≡ past_with (answers ++ reply ∷ []) new) t u x (behind answers))));
+    met = λ w is. absurd (cc (sym none ∙ is));
+  } where
+    none : word_in reply ≡ None
+    none = ap word_in (sym x.is) ∙ no_word asks x.answer
+
+    behind : (answers : List Answer) → served (past_with answers old) asks x.answer ≡ past_with (answers ++ reply ∷ []) new
+    behind answers =
+        ap (λ b. record { answers = answers ++ b ∷ []; requests = requests_with (requests_of old) asks x.answer }) x.is
+        ∙ ap (λ rs. record { answers = answers ++ reply ∷ []; requests = rs }) more
+
+  -- with a service's answer that is known
+  pub known_makes : (most : ℕ) (a : service.Answer asks) → most ≤ cost c d → lacks_request (requests_of old) (obtain_meant d) ≡ false
+      → IsServed most (service.program c asks) (λ b. b ≡ a) t u → reply ≡ answer_to asks a
+      → requests_with (requests_of old) asks a ≡ requests_of new → MakesCall c d reply old new t u
+  known_makes most a le has s is more = record {
+    served = λ answers. subst (λ m. IsServed (cost c d) (made c m (past_with answers old) d)
+        (λ past. past ≡ past_with (answers ++ reply ∷ []) new) t u) (sym none)
+        (subst (λ call. IsServed (cost c d) call (λ past. past ≡ past_with (answers ++ reply ∷ []) new) t u)
+        (sym (unmoved c (past_with answers old) d has))
+        (served_so most (cost c d) (followed (service.program c asks) (λ a. finished (served (past_with answers old) asks a)))
+        (λ past. past ≡ past_with (answers ++ reply ∷ []) new) (λ past. past ≡ past_with (answers ++ reply ∷ []) new) t u le
+        (λ past same. same)
+        (served_then most (service.program c asks) (served (past_with answers old) asks) (λ b. b ≡ a)
+        (λ past. past ≡ past_with (answers ++ reply ∷ []) new) t u s
+        (ap (served (past_with answers old) asks) s.is ∙ behind answers))));
+    met = λ w shown. absurd (cc (sym none ∙ shown));
+  } where
+    none : word_in reply ≡ None
+    none = ap word_in is ∙ no_word asks a
+
+    behind : (answers : List Answer) → served (past_with answers old) asks a ≡ past_with (answers ++ reply ∷ []) new
+    behind answers =
+        ap (λ b. record { answers = answers ++ b ∷ []; requests = requests_with (requests_of old) asks a }) (sym is)
+        ∙ ap (λ rs. record { answers = answers ++ reply ∷ []; requests = rs }) more
+
+-- a call that is no OBTAIN and means none
+pub plain_makes : (c : Setup) (e d : Call) (reply : Answer) (tokens : List (Option LatchToken)) (t u : CallerFace) → e ≡ d
+    → is_obtain d ≡ false → obtain_meant d ≡ None → Serves c (service_of (request_of (requests_of tokens)) d) reply t u
+    → MakesCall c e reply tokens tokens t u
+plain_makes c e d reply tokens t u same other none x =
+    subst (λ d. MakesCall c d reply tokens tokens t u) (sym same)
+    (serves_makes c d reply tokens tokens t u (ap (lacks_request (requests_of tokens)) none) x
+    (keeps_requests (requests_of tokens) (request_of (requests_of tokens)) d x.answer other))
+
+-- ---- a call that means an OBTAIN
+
+request_is : (tokens : List (Option LatchToken)) (n : ℕ)
+    → option_and_then (λ r. r) (slice_get (requests_of tokens) n) ≡ option_map asked_by (get_or tokens n None)
+request_is [] n = refl
+request_is (token ∷ tokens) zero = refl
+request_is (token ∷ tokens) (suc n) = request_is tokens n
+
+module _ (c : Setup) (d : Call) (k : ℕ) (tokens : List (Option LatchToken)) (t : CallerFace) (means : obtain_meant d ≡ Some k) where
+  -- which got this request
+  pub held : (token : LatchToken) → get_or tokens (k - 1) None ≡ Some token → request_of (requests_of tokens) k ≡ asked_by token
+  held token is =
+      ap (λ o. unwrap_or o (record { latch = 0; id = 0 })) (request_is tokens (k - 1) ∙ ap (λ o. option_map asked_by o) is)
+
+  pub held_makes : (token : LatchToken) (reply : Answer) (u : CallerFace) → get_or tokens (k - 1) None ≡ Some token → is_obtain d ≡ false
+      → Serves c (service_of (request_of (requests_of tokens)) d) reply t u → MakesCall c d reply tokens tokens t u
+  held_makes token reply u is other x =
+      serves_makes c d reply tokens tokens t u
+      (ap (lacks_request (requests_of tokens)) means
+      ∙ ap (λ o. is_none o) (request_is tokens (k - 1) ∙ ap (λ o. option_map asked_by o) is))
+      x (keeps_requests (requests_of tokens) (request_of (requests_of tokens)) d x.answer other)
+
+  -- which got none
+  pub unheld_makes : get_or tokens (k - 1) None ≡ None → IsAtRest t.log → MakesCall c d answer.NoToken tokens tokens t t
+  unheld_makes is quiet = record {
+    served = λ answers. served_so 0 (cost c d) (made c None (past_with answers tokens) d)
+        (λ past. past ≡ past_with (answers ++ answer.NoToken ∷ []) tokens)
+        (λ past. past ≡ past_with (answers ++ answer.NoToken ∷ []) tokens)
+        t t (omega arith) (λ past same. same)
+        (served_none (made c None (past_with answers tokens) d) (past_with (answers ++ answer.NoToken ∷ []) tokens)
+        (λ past. past ≡ past_with (answers ++ answer.NoToken ∷ []) tokens) t (ends answers) refl quiet);
+    met = λ w is. absurd (cc is);
+  } where
+    lacks : lacks_request (requests_of tokens) (obtain_meant d) ≡ true
+    lacks = ap (lacks_request (requests_of tokens)) means
+        ∙ ap (λ o. is_none o) (request_is tokens (k - 1) ∙ ap (λ o. option_map asked_by o) is)
+
+    ends : (answers : List Answer) → made c None (past_with answers tokens) d (kept_of t.number t.log)
+        ≡ program.Done (past_with (answers ++ answer.NoToken ∷ []) tokens)
+    ends answers = rw lacks refl
+
+-- ---- a try that met another word
+
+pub missed_makes : (c : Setup) (d : Call) (o : Object) (expected : ℕ) (moved : Moved) (tokens : List (Option LatchToken))
+    (t u : CallerFace) → tried d ≡ Some (o, expected) → IsAtRest t.log → Missed t o expected moved u
+    → MakesCall c d (answer.Moved moved.0) tokens tokens t u
+missed_makes c d o expected moved tokens t u tries quiet missed = record {
+  served = λ answers. serves (cost c d) (made c (Some moved.0) (past_with answers tokens) d)
+      (λ past. past ≡ past_with (answers ++ answer.Moved moved.0 ∷ []) tokens) t u
+      (past_with (answers ++ answer.Moved moved.0 ∷ []) tokens) quiet refl
+      (runs_within 0 (cost c d) (program.Done (past_with (answers ++ answer.Moved moved.0 ∷ []) tokens))
+      (program.Done (past_with (answers ++ answer.Moved moved.0 ∷ []) tokens)) t u (omega arith)
+      (runs_look 0 (program.Done (past_with (answers ++ answer.Moved moved.0 ∷ []) tokens))
+      (program.Done (past_with (answers ++ answer.Moved moved.0 ∷ []) tokens)) t t u
+      (runs_none (program.Done (past_with (answers ++ answer.Moved moved.0 ∷ []) tokens)) t) (went_look t o moved.0 u missed.found)))
+      (subst IsAtRest (sym missed.found.log) quiet);
+  met = λ w is. subst (λ w. HasMet d w t u) (let e : moved.0 ≡ w = cc is in e)
+      (record { object = o; expected = expected; tries = tries; other = missed.other; met = missed.found.met });
+}

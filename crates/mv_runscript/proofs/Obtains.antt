@@ -1,0 +1,77 @@
+-- The request that an obtain got, behind those of the OBTAINs before. Used by ask.
+use Rattle.std.proofs.Common.{◌≡◌, ℕ, ◌<◌, Bool, true, false, List, [], ◌∷◌, ◌++◌, Option, Some, None, Result, Ok, Err, refl, sym, ap, ◌∙◌}
+use Rattle.std.proofs.Common.{subst, arith}
+use Rattle.std.specs.Prelude.{nat_lt, not, IfOk, MatchResult, option_map}
+use Rattle.std.proofs.lemmas.Bool.{ltb-true}
+use Rattle.std.proofs.lemmas.List.{map-append}
+use Rattle.mv_latch.specs.declared.request.LatchForm.{LatchForm}
+use Rattle.mv_latch.specs.declared.request.Mode.{Mode}
+use Rattle.mv_latchset.specs.declared.obtaining.Obtained.{Obtained}
+use Rattle.mv_latchset.specs.declared.obtaining.Obtained.TheVariants.{Granted, Pending}
+use Rattle.mv_latchset.specs.declared.obtaining.ObtainRefusal.{ObtainRefusal}
+use Rattle.mv_latchset.specs.declared.token.LatchToken.{LatchToken}
+use Rattle.mv_latchset.specs.Answers.{obtain_answer}
+use Rattle.mv_latchset.specs.Obtaining.{HasLatch, IsObtainedBy, IsRefusedBy}
+use Rattle.mv_latch.specs.declared.operation.LatchOp.TheVariants.{Obtain}
+use Rattle.mv_board.specs.Faces.{CallerFace}
+use Rattle.mv_machine.specs.Check.{or_else}
+use Rattle.mv_machine.specs.Setup.{Setup}
+use Rattle.mv_calls.specs.Keeping.{Kept, kept_of}
+use Rattle.mv_calls.specs.LatchCalls.{obtain_refusal}
+use Rattle.mv_calls.specs.Refusal.{Refusal}
+use Rattle.mv_calls.specs.Refusal as refusal
+use Rattle.mv_calls.specs.Waits.{refused_if}
+use Rattle.mv_script.specs.Limits.{latches}
+use Rattle.mv_script.specs.Sound.{IfThere}
+use Rattle.mv_script.specs.Tasks.{request_in}
+use Rattle.mv_runscript.specs.Making.{asked_by, requests_of, token_in, AreOfLatches, IsForScripts}
+use Rattle.mv_runscript.proofs.Lists.{all_both}
+
+-- its latch and its number are those of the program
+asked_is : (latch : ℕ) (outcome : Result Obtained ObtainRefusal) → IfOk outcome (HasLatch latch)
+    → request_in latch (obtain_answer outcome) ≡ option_map asked_by (token_in outcome)
+asked_is latch (Ok (Granted token)) own = ap (λ l. Some (record { latch = l; id = token.id })) (sym own)
+asked_is latch (Ok (Pending token)) own = ap (λ l. Some (record { latch = l; id = token.id })) (sym own)
+asked_is latch (Err why) own = refl
+
+pub requests_more : (latch : ℕ) (outcome : Result Obtained ObtainRefusal) (tokens : List (Option LatchToken))
+    → IfOk outcome (HasLatch latch)
+    → requests_of tokens ++ request_in latch (obtain_answer outcome) ∷ [] ≡ requests_of (tokens ++ token_in outcome ∷ [])
+requests_more latch outcome tokens own =
+    ap (λ r. requests_of tokens ++ r ∷ []) (asked_is latch outcome own)
+    ∙ sym (map-append (λ (t : Option LatchToken). option_map asked_by t) tokens (token_in outcome ∷ []))
+
+-- what is not refused is of a latch that there is
+there_is : (c : Setup) (latch : ℕ) (rest : Option Refusal) (b : Bool) → nat_lt latch c.latches ≡ b
+    → or_else (refused_if (not b) refusal.BadLatch) rest ≡ None → latch < c.latches
+there_is c latch rest true is none = ltb-true latch c.latches is
+there_is c latch rest false is none = absurd (cc none)
+
+pub latch_exists : (c : Setup) (latch requestor : ℕ) (mode : Mode) (form : LatchForm) (kept : Kept)
+    → obtain_refusal c latch requestor mode form kept ≡ None → latch < c.latches
+latch_exists c latch requestor mode form kept none = there_is c latch _ (nat_lt latch c.latches) refl none
+
+fits : (latch : ℕ) (outcome : Result Obtained ObtainRefusal) → IfOk outcome (HasLatch latch) → IfOk outcome (λ got. latch < latches)
+    → IfThere (λ (t : LatchToken). t.latch < latches) (token_in outcome)
+fits latch (Ok (Granted token)) own low = subst (λ l. l < latches) (sym own) low
+fits latch (Ok (Pending token)) own low = subst (λ l. l < latches) (sym own) low
+fits latch (Err why) own low = tt
+
+-- and so is the latch of an obtain that got a request
+pub latch_low : (c : Setup) (latch requestor : ℕ) (mode : Mode) (form : LatchForm) (t u : CallerFace)
+    (outcome : Result Obtained ObtainRefusal) → IsForScripts c
+    → MatchResult outcome
+    (λ got. (obtain_refusal c latch requestor mode form (kept_of t.number t.log) ≡ None)
+    × IsObtainedBy (Obtain latch requestor mode form) latch form t got u)
+    (λ why. IsRefusedBy c latch requestor mode form t why u)
+    → IfOk outcome (λ got. latch < latches)
+latch_low c latch requestor mode form t u (Ok got) is cause =
+    let below = latch_exists c latch requestor mode form (kept_of t.number t.log) cause.0 in
+    let count = is.latch_count in omega arith
+latch_low c latch requestor mode form t u (Err why) is cause = tt
+
+pub tokens_more : (latch : ℕ) (outcome : Result Obtained ObtainRefusal) (tokens : List (Option LatchToken))
+    → IfOk outcome (HasLatch latch) → IfOk outcome (λ got. latch < latches) → AreOfLatches tokens
+    → AreOfLatches (tokens ++ token_in outcome ∷ [])
+tokens_more latch outcome tokens own low all =
+    all_both (IfThere (λ (t : LatchToken). t.latch < latches)) tokens (token_in outcome ∷ []) all (fits latch outcome own low, tt)

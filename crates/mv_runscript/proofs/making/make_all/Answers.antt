@@ -1,0 +1,72 @@
+use Rattle.std.proofs.Common.{◌≤◌, ◌+◌, ◌∷◌, [], length, take, sym, ap, ◌∙◌, subst, arith, length-append}
+use Rattle.std.specs.Prelude.{count_by}
+use Rattle.mv_script.specs.declared.call.Call.{Call}
+use Rattle.mv_script.specs.Fault.{obtain_meant}
+use Rattle.mv_script.specs.Script.{is_obtain}
+use Rattle.mv_script.specs.Sound.{IfThere}
+use Rattle.mv_runscript.specs.Making.{AreGoodIn, MakesCalls, is_wait}
+use Rattle.mv_runscript.proofs.Scripts.{sound_at}
+use Rattle.mv_runscript.proofs.Steps.{cost_more, counted_more, left_more, path_more, call_spends, call_rests, call_keeps_board}
+use Rattle.mv_runscript.proofs.making.make_all.Goals as goal
+
+pub make-answer-requires-clause-numbers : goal.make-answer-requires-clause-numbers
+make-answer-requires-clause-numbers g c =
+    let config = c.args.station.now.config in
+    let d = c.call-item.result in
+    subst (λ (x : Call). AreGoodIn config x) (sym c.call-item.is)
+    (sound_at config [] c.args.calls.now c.loop-call.call-index d c.requires.sound c.loop-call-test.true).numbers
+
+pub make-answer-requires-clause-obtain : goal.make-answer-requires-clause-obtain
+make-answer-requires-clause-obtain g c =
+    let config = c.args.station.now.config in
+    let d = c.call-item.result in
+    subst (λ n. IfThere (λ k. (1 ≤ k) × (k ≤ n)) (obtain_meant d)) (sym c.loop-call.invariant.count)
+    (subst (λ (x : Call). IfThere (λ k. (1 ≤ k) × (k ≤ count_by is_obtain (take c.loop-call.call-index c.args.calls.now))) (obtain_meant x))
+    (sym c.call-item.is)
+    (sound_at config [] c.args.calls.now c.loop-call.call-index d c.requires.sound c.loop-call-test.true).obtain)
+
+pub loop-call-preserved : goal.loop-call-preserved
+loop-call-preserved g c =
+    let config = c.args.station.now.config in
+    let calls = c.args.calls.now in
+    let i = c.loop-call.call-index in
+    let d = c.call-item.result in
+    let a = c.make-answer.result in
+    let since = c.loop-call.invariant in
+    let old = c.loop-call.seat.requests.items in
+    let new = c.make-answer.new.requests.items in
+    let t = c.loop-call.seat.task in
+    let u = c.make-answer.new.task in
+    let made = c.make-answer.ensures.makes in
+    let lt = c.loop-call-test.true in
+    let is = c.call-item.is in
+    let spends = call_spends config d a old new t u made in
+    let cost = cost_more calls i d lt is config in
+    let counted = counted_more calls i d lt is is_obtain in
+    let waits = left_more calls i d lt is is_wait in
+    let left = since.left in
+    let count = since.count in
+    let asked = c.make-answer.ensures.count in
+    let rooms = since.rooms in
+    let taken = c.make-answer.ensures.rooms in
+    let size = since.answers in
+    let more = c.push_reserved.ensures.len in
+    let answer_room = since.answer_room in
+    let request_room = since.request_room in
+    let pushed = c.push_reserved.ensures.capacity in
+    let kept = c.make-answer.ensures.capacity in
+    record {
+      board = call_keeps_board config d a old new t u made c.args.station.now since.board;
+      quiet = call_rests config d a old new t u made;
+      left = omega arith;
+      requests = c.make-answer.ensures.requests;
+      count = asked ∙ ap (λ n. n + count_by is_obtain (d ∷ [])) count ∙ sym counted;
+      request_room = omega arith;
+      answers = ap length c.push_reserved.ensures.items ∙ length-append c.loop-call.seat.answers.items (a ∷ []) ∙ ap (λ n. n + 1) size;
+      answer_room = omega arith;
+      slots = c.make-answer.ensures.slots;
+      rooms = omega arith;
+      makes = subst (λ answers. MakesCalls config (take (i + 1) calls) answers [] new c.args.seat.now.task u)
+          (sym c.push_reserved.ensures.items)
+          (path_more calls i d lt is config c.loop-call.seat.answers.items a [] old new c.args.seat.now.task t u since.makes made);
+    }

@@ -1,0 +1,16 @@
+use Rattle.mv_calls.specs.Keeping.{kept_of}
+use Rattle.mv_calls.specs.Services.{Service, most_events}
+use Rattle.mv_calls.specs.Services as service
+use Rattle.mv_latchset.specs.Answers.{release_answer}
+use Rattle.mv_script.specs.Answered.{answer_to}
+use Rattle.mv_runscript.proofs.Served.{served_with}
+use Rattle.mv_runscript.proofs.serving.free.Goals as goal
+
+pub returns : goal.returns
+returns g c =
+    let config = c.args.station.now.config in
+    let t = c.args.task.now in
+    let asked : Service = service.ReleaseLatch c.args.token.latch c.args.token.id c.args.conditional in
+    served_with (most_events config (kept_of t.number t.log) asked) (service.program config asked)
+    (answer_to asked) (release_answer c.release_latch.result)
+    c.freed.result t c.release_latch.new.task c.freed.ensures c.release_latch.ensures.served

@@ -1,0 +1,22 @@
+use Rattle.std.proofs.Common.{◌≡◌, ◌<◌, ◌+◌, List, ◌∷◌, ◌++◌, [], length, take, get_or, sym, ap, ◌∙◌, subst, arith, length-take}
+use Rattle.std.proofs.lemmas.List.{take_more}
+use Rattle.mv_script.specs.declared.answer.Answer.{Answer}
+use Rattle.mv_script.specs.AnswerText.{task_lines, lines_from}
+use Rattle.mv_runscript.proofs.Texts.{tasks_more}
+use Rattle.mv_runscript.proofs.text.write_answers.Goals as goal
+
+pub loop-task-preserved : goal.loop-task-preserved
+loop-task-preserved c =
+    let lists = c.args.run.now.answers.items in
+    let task = c.loop-task.task in
+    let list = c.list-item.result in
+    let all = c.deref-list-items.ensures.value in
+    let lt : task < length lists = subst (λ (ls : List (List Answer)). task < length ls) all c.loop-task-test.true in
+    let at : list ≡ get_or lists task list = c.list-item.is ∙ ap (λ (ls : List (List Answer)). get_or ls task list) all in
+    let size : 0 + length (take task lists) ≡ task = (let n = length-take task lists in omega arith) in
+    c.in_ok-push_task.ensures
+    ∙ ap (λ o. o ++ task_lines task 1 c.deref.result.now) c.loop-task.invariant
+    ∙ ap (λ answers. lines_from 0 (take task lists) ++ task_lines task 1 answers) (c.deref.ensures.value ∙ c.list.view_is)
+    ∙ ap (λ n. lines_from 0 (take task lists) ++ task_lines n 1 list) (sym size)
+    ∙ sym (tasks_more 0 (take task lists) list)
+    ∙ ap (lines_from 0) (ap (λ x. take task lists ++ x ∷ []) at ∙ sym (take_more lists task list lt))

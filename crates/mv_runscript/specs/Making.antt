@@ -1,0 +1,105 @@
+-- Calls of a script that a task made: one of them, and one after the other.
+use Rattle.std.specs.Prelude.{◌≡◌, ℕ, ◌<◌, ◌≤◌, Bool, true, false, List, [], ◌∷◌, ◌++◌, length, map, option_map, Option}
+use Rattle.std.specs.Prelude.{Some, None, Result, Ok, Err}
+use Rattle.std.specs.List.{AllByRecursion}
+use Rattle.mv_board.specs.Faces.{CallerFace}
+use Rattle.mv_latchset.specs.declared.obtaining.Obtained.{Obtained}
+use Rattle.mv_latchset.specs.declared.obtaining.Obtained.TheVariants.{Granted, Pending}
+use Rattle.mv_latchset.specs.declared.obtaining.ObtainRefusal.{ObtainRefusal}
+use Rattle.mv_latchset.specs.declared.token.LatchToken.{LatchToken}
+use Rattle.mv_machine.specs.declared.entry.Object.{Object}
+use Rattle.mv_machine.specs.Setup.{Setup}
+use Rattle.mv_wait.specs.declared.waiting.WaitSlot.{WaitSlot}
+use Rattle.mv_wait.specs.Run.{IsServed}
+use Rattle.mv_script.specs.declared.answer.Answer.{Answer}
+use Rattle.mv_script.specs.declared.call.Call.{Call}
+use Rattle.mv_script.specs.declared.call.Call.TheVariants as call
+use Rattle.mv_script.specs.Costs.{Asked, cost}
+use Rattle.mv_script.specs.Limits.{elements_per_task, volumes, latches, most_waited}
+use Rattle.mv_script.specs.Run.{tried, word_in}
+use Rattle.mv_script.specs.Sound.{IfThere, HasGoodNumbers, IsSoundCall, AreSoundCalls}
+use Rattle.mv_script.specs.Tasks.{Past, made}
+
+-- ---- what a task has behind some of its calls
+
+-- a request by its token, without where the task keeps it
+abbrev pub asked_by : LatchToken → Asked
+asked_by token = record { latch = token.latch; id = token.id }
+
+-- the request that an obtain got, if it got one
+abbrev pub token_in : Result Obtained ObtainRefusal → Option LatchToken
+token_in (Ok (Granted token)) = Some token
+token_in (Ok (Pending token)) = Some token
+token_in (Err why) = None
+
+-- the requests that the OBTAINs got, by their tokens
+abbrev pub requests_of : List (Option LatchToken) → List (Option Asked)
+requests_of tokens = map (λ t. option_map asked_by t) tokens
+
+-- these answers, and these requests
+abbrev pub past_with : List Answer → List (Option LatchToken) → Past
+past_with answers tokens = record { answers = answers; requests = requests_of tokens }
+
+-- each of these tokens, where there is one, is of a latch that there is
+abbrev pub AreOfLatches : List (Option LatchToken) → Type 0
+AreOfLatches tokens = AllByRecursion (IfThere (λ (t : LatchToken). t.latch < latches)) tokens
+
+-- ---- configurations of scripts, as far as calls ask for it
+
+-- the numbers of a call are in their ranges there
+abbrev pub AreGoodIn : Setup → Call → Type 0
+AreGoodIn c call = HasGoodNumbers (record { tasks = c.callers; ecbs = length c.owners }) call
+
+-- a call may stand there behind these of its task
+abbrev pub IsSoundIn : Setup → List Call → Call → Type 0
+IsSoundIn c before call = IsSoundCall (record { tasks = c.callers; ecbs = length c.owners }) before call
+
+-- and each of these behind those before it
+abbrev pub AreSoundIn : Setup → List Call → List Call → Type 0
+AreSoundIn c before calls = AreSoundCalls (record { tasks = c.callers; ecbs = length c.owners }) before calls
+
+-- it has as many elements, volumes and latches as that of a script
+pub record IsForScripts (c : Setup) : Type 0 where
+  pub elements : c.elements_per_caller ≡ elements_per_task
+  pub volume_count : c.volumes ≡ volumes
+  pub latch_count : c.latches ≡ latches
+
+-- ---- room for the answers of waits
+
+-- whether a call is a WAIT
+abbrev pub is_wait : Call → Bool
+is_wait (call.Wait count ecbs) = true
+is_wait _ = false
+
+-- each of these has a slot for each block that a WAIT may have
+abbrev pub HaveSlots : List (List WaitSlot) → Type 0
+HaveSlots rooms = AllByRecursion (λ (slots : List WaitSlot). most_waited ≤ length slots) rooms
+
+-- ---- one call
+
+-- The call tried an object, and found this word there and not the one that it expected. It was met behind the task's entries of
+-- then, and nothing else was met.
+pub record HasMet (call : Call) (w : ℕ) (t u : CallerFace) : Type 0 where
+  pub object : Object
+  pub expected : ℕ
+  pub tries : tried call ≡ Some (object, expected)
+  pub other : w ≡ expected → ⊥
+  pub met : u.met ≡ t.met ++ record { object = object; word = w; after = length t.log } ∷ []
+
+-- The call was made and answered so, whatever was answered before: it did what a call of a script's task does, and if it shows a
+-- word, then that one was met.
+pub record MakesCall (c : Setup) (call : Call) (answer : Answer) (old new : List (Option LatchToken)) (t u : CallerFace) : Type 0 where
+  pub served : (answers : List Answer)
+      → IsServed (cost c call) (made c (word_in answer) (past_with answers old) call)
+      (λ past. past ≡ past_with (answers ++ answer ∷ []) new) t u
+  pub met : (w : ℕ) → word_in answer ≡ Some w → HasMet call w t u
+
+-- ---- one after the other
+
+-- these calls were made in order, and each answered the one of these answers that stands in its place
+abbrev pub MakesCalls : Setup → List Call → List Answer → List (Option LatchToken) → List (Option LatchToken) → CallerFace → CallerFace
+    → Type 0
+MakesCalls c [] [] old new t u = (new ≡ old) × (u ≡ t)
+MakesCalls c (call ∷ calls) (answer ∷ answers) old new t u = (between : List (Option LatchToken)) × (v : CallerFace)
+    × MakesCall c call answer old between t v × MakesCalls c calls answers between new v u
+MakesCalls c _ _ old new t u = ⊥

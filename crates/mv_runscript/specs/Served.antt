@@ -1,0 +1,14 @@
+-- Services that a task was served with, as the answers of a script's calls show it.
+use Rattle.std.specs.Prelude.{◌≡◌}
+use Rattle.mv_board.specs.Faces.{CallerFace}
+use Rattle.mv_calls.specs.Keeping.{kept_of}
+use Rattle.mv_calls.specs.Services.{Service, most_events}
+use Rattle.mv_calls.specs.Services as service
+use Rattle.mv_machine.specs.Setup.{Setup}
+use Rattle.mv_wait.specs.Run.{IsServed}
+use Rattle.mv_script.specs.declared.answer.Answer.{Answer}
+use Rattle.mv_script.specs.Answered.{answer_to}
+
+-- the task was served with this, and a call that asks for it answers so
+abbrev pub Serves : Setup → Service → Answer → CallerFace → CallerFace → Type 0
+Serves c s answer t u = IsServed (most_events c (kept_of t.number t.log) s) (service.program c s) (λ a. answer_to s a ≡ answer) t u

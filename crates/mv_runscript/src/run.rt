@@ -1,0 +1,163 @@
+//! The run of a script. Clauses cite the script's `Run.antt`, the machine's `Orderly.antt`, and `specs/Seats.antt`.
+
+ghost use Rattle.std.specs.Prelude.{◌≡◌, ◌≤◌, [], All, length, map, vec_capacity, IfOk, OnOk};
+ghost use Rattle.mv_machine.specs.Check.{IsValid};
+ghost use Rattle.mv_machine.specs.Limits.{events_limit, highest_place};
+ghost use Rattle.mv_machine.specs.Orderly.{IsOrderly};
+ghost use Rattle.mv_machine.specs.Config.{exit_of};
+ghost use Rattle.mv_script.specs.Run.{IsScriptRun, script_answers, moves_in};
+ghost use Rattle.mv_script.specs.Script.{script_data};
+ghost use Rattle.mv_script.specs.Sound.{IsSound};
+ghost use Rattle.mv_runscript.specs.Seats.{HaveRooms, script_with};
+
+use crate::seat::{Seat, seat_of, worked};
+use mv_board::Closed;
+use mv_io::NoMemory;
+use mv_machine::{CheckRefusal, Config, Entry, Exit, ValidConfig};
+use mv_script::{AnswerList, CallList, Script};
+use mv_wait::{Station, Task};
+use std::alloc::{AllocError, Global};
+use std::sync::Wait;
+use std::thread::Threads;
+
+/// What a script came to: the history of its tasks' events, and what each of their calls answered.
+#[derive(Drop)]
+pub struct ScriptRun {
+    pub config: ValidConfig,
+    /// All events, in an order in which they may have happened.
+    pub journal: Vec<Entry>,
+    /// One list for each task, with one answer for each of its calls.
+    pub answers: Vec<AnswerList>,
+}
+
+/// Runs a script, each of its tasks on a thread of its own, and answers what it came to. All memory that the tasks use is taken
+/// before the first of them starts. It may never return: nothing promises that another task ends a wait.
+///
+/// # Errors
+///
+/// `NoMemory` where there is not enough, before the tasks start.
+pub fn run_script<R: Threads + Wait + Sync>(
+    rt: &R,
+    alloc: Global,
+    script: &Script,
+) -> Result<ScriptRun, NoMemory>
+    requires { IsSound (script_data script.now) }
+    ensures config { IfOk result (λ run. run.config ≡ script.now.config) }
+    ensures valid { OnOk result (IsValid script.now.config) }
+    ensures run { IfOk result (λ run. IsScriptRun (script_data script.now) (moves_in run.answers.items) run.journal.items) }
+    ensures orderly { IfOk result (λ run. IsOrderly script.now.config run.journal.items) }
+    ensures answers { IfOk result (λ run. run.answers.items ≡ script_answers (script_data script.now) (moves_in run.answers.items) run.journal.items) }
+    ensures few { IfOk result (λ run. length run.journal.items ≤ events_limit) }
+    ensures places { IfOk result (λ run. All (λ e. e.place ≤ highest_place) run.journal.items) }
+{
+    let config = copy_of(alloc, &script.config)?;
+    run_tasks(rt, alloc, config, &script.tasks)
+}
+
+// Opens a station of this configuration, has its tasks make their calls, and closes it.
+fn run_tasks<R: Threads + Wait + Sync>(
+    rt: &R,
+    alloc: Global,
+    config: ValidConfig,
+    tasks: &[CallList],
+) -> Result<ScriptRun, NoMemory>
+    requires sound { IsSound (script_with config tasks.now) }
+    ensures config { IfOk result (λ run. run.config ≡ config) }
+    ensures run { IfOk result (λ run. IsScriptRun (script_with config tasks.now) (moves_in run.answers.items) run.journal.items) }
+    ensures orderly { IfOk result (λ run. IsOrderly config run.journal.items) }
+    ensures answers { IfOk result (λ run. run.answers.items ≡ script_answers (script_with config tasks.now) (moves_in run.answers.items) run.journal.items) }
+    ensures few { IfOk result (λ run. length run.journal.items ≤ events_limit) }
+    ensures places { IfOk result (λ run. All (λ e. e.place ≤ highest_place) run.journal.items) }
+{
+    let (station, new) = Station::open(alloc, config)?;
+    let ended = Vec::with_capacity(alloc, tasks.len())?;
+    let lists = Vec::with_capacity(alloc, tasks.len())?;
+    let seats = seats_of(alloc, new, tasks)?;
+    let seats = worked(rt, &station, tasks, seats);
+    let (ended, answers) = parted(seats, ended, lists);
+    let closed = station.close(ended);
+    let Closed {
+        config,
+        journal,
+        ..
+    } = closed;
+    Ok(ScriptRun {
+        config,
+        journal,
+        answers,
+    })
+}
+
+// The tasks, each with the room that its calls need.
+fn seats_of(alloc: Global, new: Vec<Task>, tasks: &[CallList]) -> Result<Vec<Seat>, NoMemory>
+    requires { length new.items ≡ length tasks.now }
+    ensures tasks { IfOk result (λ seats. map (λ seat. seat.task) seats.items ≡ new.items) }
+    ensures rooms { IfOk result (λ seats. HaveRooms tasks.now seats.items) }
+{
+    let mut seats = Vec::with_capacity(alloc, new.len())?;
+    for task in new {
+        let list = &tasks[seats.len()];
+        seats.push_reserved(seat_of(alloc, task, &list.calls)?);
+    }
+    Ok(seats)
+}
+
+// The tasks without their seats, and the answers of each.
+fn parted(
+    seats: Vec<Seat>,
+    mut tasks: Vec<Task>,
+    mut lists: Vec<AnswerList>,
+) -> (Vec<Task>, Vec<AnswerList>)
+    requires tasks { (tasks.items ≡ []) × (length seats.items ≤ vec_capacity tasks) }
+    requires lists { (lists.items ≡ []) × (length seats.items ≤ vec_capacity lists) }
+    ensures tasks { result.0.items ≡ map (λ seat. seat.task) seats.items }
+    ensures answers { result.1.items ≡ map (λ seat. seat.answers.items) seats.items }
+{
+    for seat in seats {
+        let Seat { task, answers, .. } = seat;
+        tasks.push_reserved(task);
+        lists.push_reserved(AnswerList { answers });
+    }
+    (tasks, lists)
+}
+
+// The same configuration.
+fn copy_of(alloc: Global, config: &ValidConfig) -> Result<ValidConfig, NoMemory>
+    ensures same { IfOk result (λ copy. copy ≡ config.now) }
+    ensures valid { IsValid config.now }
+{
+    let given = config.config();
+    let copy = Config {
+        callers: given.callers,
+        elements_per_caller: given.elements_per_caller,
+        volumes: given.volumes,
+        latches: given.latches,
+        quota: given.quota,
+        posted_quota: given.posted_quota,
+        budgets: Vec::from_slice(alloc, &given.budgets)?,
+        owners: Vec::from_slice(alloc, &given.owners)?,
+        exits: copied(alloc, &given.exits)?,
+    };
+    match copy.check(alloc) {
+        Ok(copy) => Ok(copy),
+        Err(refusal) => match refusal {
+            CheckRefusal::NoMemory => Err(NoMemory),
+            // It was checked before, so no rule of configurations refuses it.
+            _ => unreachable!(),
+        },
+    }
+}
+
+// The same exits.
+fn copied(alloc: Global, exits: &[Exit]) -> Result<Vec<Exit>, AllocError>
+    ensures { IfOk result (λ copies. map exit_of copies.items ≡ map exit_of exits.now) }
+{
+    let mut copies = Vec::new(alloc);
+    for exit in exits {
+        copies.push(Exit {
+            source: exit.source,
+            targets: Vec::from_slice(alloc, &exit.targets)?,
+        })?;
+    }
+    Ok(copies)
+}

@@ -1,0 +1,73 @@
+//! Tries: a post and a release by one exchange, where the object's word is the one that is expected (`specs/Making.antt`).
+
+ghost use Rattle.std.specs.Prelude.{◌≡◌, ◌<◌, ◌≤◌, ◌^◌, length, List, Option};
+ghost use Rattle.mv_machine.specs.Limits.{highest_place, highest_generation};
+ghost use Rattle.mv_machine.specs.Setup.{element_count};
+ghost use Rattle.mv_board.specs.Faces.{IsOf};
+ghost use Rattle.mv_calls.specs.Rest.{IsAtRest};
+ghost use Rattle.mv_latchset.specs.declared.token.LatchToken.{LatchToken};
+ghost use Rattle.mv_script.specs.declared.call.Call.TheVariants as call;
+ghost use Rattle.mv_runscript.specs.Making.{MakesCall};
+
+use crate::answered::posted;
+use mv_board::Moved;
+use mv_ecb::EcbWord;
+use mv_element::{ElementState, Token};
+use mv_machine::{WordState, pack};
+use mv_pause::{ReleaseAnswer, TryReleaseRefusal, try_release};
+use mv_script::Answer;
+use mv_wait::{Station, Task};
+
+/// TRYPOST: the block is to be zero, and to have had so many events.
+pub(crate) fn try_post(
+    station: &Station,
+    task: &mut Task,
+    ecb: u32,
+    place: u32,
+    code: u32,
+) -> Answer
+    requires task { IsOf station.now task.old }
+    requires rest { IsAtRest task.old.log }
+    requires block { ecb < length station.now.config.owners }
+    requires place { place ≤ highest_place }
+    requires code { code < 2 ^ 30 }
+    requires left { 0 < task.old.left }
+    ensures { (tokens : List (Option LatchToken)) → MakesCall station.now.config (call.TryPost ecb place code) result tokens tokens task.old task.new }
+{
+    let zero = pack(place, WordState::Ecb(EcbWord::zero()));
+    match station.try_post(task, ecb, zero, code) {
+        Ok(outcome) => posted(outcome),
+        Err(Moved(word)) => Answer::Moved(word),
+    }
+}
+
+/// TRYRELEASE: the element is to be allocated with the token's generation, neither paused nor released, and to have had so many
+/// events.
+pub(crate) fn try_release_token(
+    station: &Station,
+    task: &mut Task,
+    token: Token,
+    place: u32,
+    code: u32,
+) -> Answer
+    requires task { IsOf station.now task.old }
+    requires rest { IsAtRest task.old.log }
+    requires element { token.element < element_count station.now.config }
+    requires generation { token.generation < highest_generation }
+    requires place { place ≤ highest_place }
+    requires code { code < 2 ^ 24 }
+    requires left { 0 < task.old.left }
+    ensures { (tokens : List (Option LatchToken)) → MakesCall station.now.config (call.TryRelease token place code) result tokens tokens task.old task.new }
+{
+    let reset = pack(
+        place,
+        WordState::Element(ElementState::reset(token.generation)),
+    );
+    match try_release(station, task, token, reset, code) {
+        Ok(ReleaseAnswer::Early) => Answer::Early,
+        Ok(ReleaseAnswer::Woke) => Answer::Woke,
+        Err(TryReleaseRefusal::Spent(generation)) => Answer::Spent(generation),
+        Err(TryReleaseRefusal::Already) => Answer::AlreadyReleased,
+        Err(TryReleaseRefusal::Moved(word)) => Answer::Moved(word),
+    }
+}
