@@ -4,7 +4,7 @@ use Rattle.mv_io.specs.Fault.{Rose}
 use Rattle.mv_io.specs.Sink.{Appends}
 use Rattle.mv_ending.specs.declared.note.Note.{Note}
 use Rattle.mv_ending.specs.declared.note.Note.TheVariants.{Usage, DeckFault, InputTooLong, ReadFailed, ReportFailed}
-use Rattle.mv_ending.specs.declared.note.Note.TheVariants.{JournalFailed, NoMemory, Illegal, JournalFault}
+use Rattle.mv_ending.specs.declared.note.Note.TheVariants.{JournalFailed, NoMemory, Illegal, JournalFault, ScriptFault}
 use Rattle.mv_ending.specs.Written.{AppendsFront}
 
 -- which line of the input is at fault, and how, behind a word that says what the input is
@@ -22,6 +22,7 @@ note_text JournalFailed = codes "JOURNAL FAILED\n"
 note_text NoMemory = codes "NO MEMORY\n"
 note_text (Illegal line) = codes "ILLEGAL AT LINE " ++ decimal line ++ codes "\n"
 note_text (JournalFault line kind) = fault_text (codes "JOURNAL ") line kind
+note_text (ScriptFault line kind) = fault_text (codes "SCRIPT ") line kind
 
 -- the note's line stands on the notes, or a front of it where that sink failed; without a note they are as they were
 abbrev pub NotesAfter : Option Note → ℕ → ℕ → Option (List ℕ) → Option (List ℕ) → Type 0

@@ -30,6 +30,8 @@ pub enum Note {
     Illegal { line: u32 },
     /// The journal's text has this fault.
     JournalFault { line: u32, kind: u32 },
+    /// The script has this fault.
+    ScriptFault { line: u32, kind: u32 },
 }
 
 // The line of a fault, by the word before it.
@@ -92,6 +94,10 @@ pub fn tell<N: Sink>(notes: &mut N, note: Option<Note>)
         Note::JournalFault { line, kind } => write_line(
             notes,
             fault_line(b"JOURNAL ", line, kind).as_bytes(),
+        ),
+        Note::ScriptFault { line, kind } => write_line(
+            notes,
+            fault_line(b"SCRIPT ", line, kind).as_bytes(),
         ),
     }
 }

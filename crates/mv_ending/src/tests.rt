@@ -32,6 +32,10 @@ fn each_note_has_its_line(rt: HostRuntime) -> Result<(), Fail> {
             }),
             b"JOURNAL LINE 4294967295 KIND 4294967295\n".as_slice(),
         ),
+        (
+            Some(Note::ScriptFault { line: 1, kind: 9 }),
+            b"SCRIPT LINE 1 KIND 9\n".as_slice(),
+        ),
     ];
     for (note, line) in table {
         let mut notes = MemSink::new(rt.alloc(), 100, &[])?;
