@@ -4,16 +4,21 @@ use Rattle.std.specs.Prelude.{IfSome, IsSomeAnd}
 use Rattle.mv_deck.specs.declared.fault.DeckFault.{DeckFault}
 use Rattle.mv_deck.specs.Fault.{first_fault}
 use Rattle.mv_ending.specs.Ending.{EndsAs}
+use Rattle.mv_script.specs.declared.fault.ScriptFault.{ScriptFault}
+use Rattle.mv_script.specs.Fault as scripts
 use Rattle.mv_replay.specs.declared.status.ReplayStatus.{ReplayStatus}
 use Rattle.mv_replay.specs.declared.status.ReplayStatus.TheVariants as replay
 use Rattle.mv_replay.specs.Outcome as replays
 use Rattle.mv_replay.proofs.Endings as judged
 use Rattle.mv_program.specs.declared.command.Command.{Command}
 use Rattle.mv_program.specs.declared.command.Command.TheVariants.{Spool, Load, Replay, Convert}
+use Rattle.mv_program.specs.declared.command.Command.TheVariants as asked
 use Rattle.mv_program.specs.declared.status.Status.{Status}
 use Rattle.mv_program.specs.declared.status.Status.TheVariants.{Done, Words, Deck, TooLong, ReadFailed, ReportFailed}
 use Rattle.mv_program.specs.declared.status.Status.TheVariants.{JournalFailed, NoMemory, Illegal, Text}
-use Rattle.mv_program.specs.Program.{IsFound, DeckAsks, DeckOf, EndsLoad, InputOf, Asks, has_journal}
+use Rattle.mv_program.specs.declared.status.Status.TheVariants.{Script}
+use Rattle.mv_program.specs.Program.{IsFound, DeckAsks, DeckOf, IsScriptFound, ScriptAsks, ScriptOf, EndsLoad, InputOf, Asks}
+use Rattle.mv_program.specs.Program.{has_journal}
 use Rattle.mv_program.specs.Status.{replay_of}
 
 -- ---- decks
@@ -58,7 +63,54 @@ deck_ends n bytes new JournalFailed t i read report journal a =
     absurd (journal (sym (one_ending n bytes Done t (i.read.short, i.is) a)) refl)
 deck_ends n bytes new NoMemory t i read report journal a = inr refl
 deck_ends n bytes new (Illegal line) t i read report journal a = absurd i
+deck_ends n bytes new (Script f) t i read report journal a = absurd i
 deck_ends n bytes new (Text f) t i read report journal a = absurd i
+
+-- ---- scripts
+
+script_apart : (bytes : List ℕ) (f : ScriptFault) → scripts.first_fault bytes ≡ None → scripts.first_fault bytes ≡ Some f → ⊥
+script_apart bytes f none some =
+    let both : None ≡ Some f = sym none ∙ some in
+    absurd cc
+
+one_script : (bytes : List ℕ) (f g : ScriptFault) → scripts.first_fault bytes ≡ Some f → scripts.first_fault bytes ≡ Some g
+    → Script f ≡ Script g
+one_script bytes f g a b =
+    let both : Some f ≡ Some g = sym a ∙ b in
+    let same : f ≡ g = cc in
+    ap Script same
+
+one_script_finding : (bytes : List ℕ) (s t : Status) → IsScriptFound bytes s → IsScriptFound bytes t → s ≡ t
+one_script_finding bytes Done Done a b = refl
+one_script_finding bytes Done (Script g) a b = absurd (script_apart bytes g a b)
+one_script_finding bytes (Script f) Done a b = absurd (script_apart bytes f b a)
+one_script_finding bytes (Script f) (Script g) a b = one_script bytes f g a b
+one_script_finding bytes Done t a b = absurd b
+one_script_finding bytes (Script f) t a b = absurd b
+one_script_finding bytes s t a b = absurd a
+
+one_script_ending : (bytes : List ℕ) (s t : Status) → ScriptAsks bytes s → ScriptAsks bytes t → s ≡ t
+one_script_ending bytes TooLong TooLong a b = refl
+one_script_ending bytes TooLong t a b = absurd (omega (arith, b.0))
+one_script_ending bytes s TooLong a b = absurd (omega (arith, a.0))
+one_script_ending bytes s t a b = one_script_finding bytes s t a.1 b.1
+
+script_ends : (bytes : List ℕ) (new : Option (List ℕ)) (s t : Status) → ScriptOf s (Some bytes) new
+    → (s ≡ ReadFailed → ⊥) → (t ≡ Done → s ≡ ReportFailed → ⊥) → (t ≡ Done → s ≡ JournalFailed → ⊥)
+    → ScriptAsks bytes t → EndsAs NoMemory s t
+script_ends bytes new Done t i read report journal a = inl (one_script_ending bytes Done t (i.read.short, i.is) a)
+script_ends bytes new Words t i read report journal a = absurd i
+script_ends bytes new (Deck f) t i read report journal a = absurd i
+script_ends bytes new TooLong t i read report journal a = inl (one_script_ending bytes TooLong t i.long a)
+script_ends bytes new ReadFailed t i read report journal a = absurd (read refl)
+script_ends bytes new ReportFailed t i read report journal a =
+    absurd (report (sym (one_script_ending bytes Done t (i.read.short, i.is) a)) refl)
+script_ends bytes new JournalFailed t i read report journal a =
+    absurd (journal (sym (one_script_ending bytes Done t (i.read.short, i.is) a)) refl)
+script_ends bytes new NoMemory t i read report journal a = inr refl
+script_ends bytes new (Script f) t i read report journal a = inl (one_script_ending bytes (Script f) t (i.read.short, i.is) a)
+script_ends bytes new (Illegal line) t i read report journal a = absurd i
+script_ends bytes new (Text f) t i read report journal a = absurd i
 
 -- ---- journals
 
@@ -82,6 +134,7 @@ as_replay P ReadFailed h = (replay.ReadFailed, h, refl)
 as_replay P ReportFailed h = (replay.ReportFailed, h, refl)
 as_replay P JournalFailed h = absurd h
 as_replay P NoMemory h = (replay.NoMemory, h, refl)
+as_replay P (Script f) h = absurd h
 as_replay P (Illegal line) h = (replay.Illegal line, h, refl)
 as_replay P (Text f) h = (replay.Text f, h, refl)
 
@@ -103,6 +156,7 @@ journal_ends bytes new ReadFailed t i read report a = absurd (read refl)
 journal_ends bytes new ReportFailed t i read report a = absurd (report (sym (one_judgement bytes Done t (i.0.short, i.1) a)) refl)
 journal_ends bytes new JournalFailed t i read report a = absurd i
 journal_ends bytes new NoMemory t i read report a = inr refl
+journal_ends bytes new (Script f) t i read report a = absurd i
 journal_ends bytes new (Illegal line) t i read report a = inl (one_judgement bytes (Illegal line) t (i.0.short, i.1) a)
 journal_ends bytes new (Text f) t i read report a = inl (one_judgement bytes (Text f) t (i.0.short, i.1) a)
 
@@ -126,6 +180,7 @@ command_ends : (c : Command) (bytes : List ℕ) (new : Option (List ℕ)) (s t :
     → Asks c bytes t → EndsAs NoMemory s t
 command_ends (Spool n) bytes new s t i read report journal a = deck_ends n bytes new s t i read report (λ done. journal done refl) a
 command_ends (Load jobs n) bytes new s t i read report journal a = load_ends s t i.0 (λ e. report a e) (λ e. journal a refl e) a
+command_ends asked.Script bytes new s t i read report journal a = script_ends bytes new s t i read report (λ done. journal done refl) a
 command_ends Replay bytes new s t i read report journal a = journal_ends bytes new s t i read report a
 command_ends Convert bytes new s t i read report journal a = journal_ends bytes new s t i read report a
 

@@ -1,4 +1,4 @@
--- The text of a run's configuration and entries is the journal of a run.
+-- The text of a run's configuration and entries is the journal of a run, of a deck's or of a script's.
 use Rattle.std.proofs.Common.{◌≡◌, ℕ, ◌<◌, ◌≤◌, ◌^◌, List, length, ap, ◌∙◌, arith}
 use Rattle.std.specs.Prelude.{All}
 use Rattle.mv_deck.specs.Deck.{JobData}
@@ -24,7 +24,12 @@ use Rattle.mv_plan.proofs.deck.Planned.{planned}
 use Rattle.mv_plan.proofs.deck.Valid.{spool_setup_is_valid}
 use Rattle.mv_plan.proofs.results.HandedOut.{are_handed_out}
 use Rattle.mv_spool.specs.Limits.{most_initiators}
-use Rattle.mv_program.specs.Texts.{TellsHistory, IsJournalOfRun}
+use Rattle.mv_script.specs.declared.answer.Answer.{Answer}
+use Rattle.mv_script.specs.AnswerText.{answers_text}
+use Rattle.mv_script.specs.Run.{IsScriptRun, script_answers, moves_in}
+use Rattle.mv_script.specs.Script.{ScriptData}
+use Rattle.mv_machine.specs.Check.{IsValid}
+use Rattle.mv_program.specs.Texts.{TellsHistory, IsJournalOfRun, IsRunOfScript}
 
 -- the text of a configuration and of legal entries that have one tells them
 told_by : (c : Setup) (es : List Entry) (text : List ℕ) → HasJournal c es → text ≡ journal_text c es → Legal c es → TellsHistory text c es
@@ -53,4 +58,21 @@ journal_of_run deck n es text some few sound run count low typed kept =
       run = run;
       orderly = history_is_orderly c es legal;
       exact = (are_handed_out deck n some (planned deck n sound) es run).exact;
+    }
+
+-- the same of a script, with the text of the answers
+pub run_of_script : (script : ScriptData) (lists : List (List Answer)) (es : List Entry) (answers text : List ℕ)
+    → IsValid script.setup → IsScriptRun script (moves_in lists) es → lists ≡ script_answers script (moves_in lists) es
+    → length es ≤ highest_u32 → All (λ e. e.place ≤ highest_place) es → All IsTyped es
+    → answers ≡ answers_text lists → text ≡ journal_text script.setup es → IsRunOfScript script answers text
+run_of_script script lists es answers text valid run answered count low typed written kept =
+    let legal = run.finish.follow.legal in
+    record {
+      events = es;
+      lists = lists;
+      told = told_by script.setup es text (legal_journal script.setup es valid legal low typed count) kept legal;
+      run = run;
+      orderly = history_is_orderly script.setup es legal;
+      answered = answered;
+      written = written;
     }

@@ -6,10 +6,12 @@ use Rattle.mv_ending.specs.Written.{WroteOf}
 use Rattle.mv_replay.specs.Outcome.{ReportAfter}
 use Rattle.mv_program.specs.declared.command.Command.{Command}
 use Rattle.mv_program.specs.declared.command.Command.TheVariants.{Spool, Load}
+use Rattle.mv_program.specs.declared.command.Command.TheVariants as asked
 use Rattle.mv_program.specs.declared.status.Status.{Status}
 use Rattle.mv_program.specs.declared.status.Status.TheVariants.{Done, Words, Deck, TooLong, ReadFailed, ReportFailed}
 use Rattle.mv_program.specs.declared.status.Status.TheVariants.{JournalFailed, NoMemory, Illegal, Text}
-use Rattle.mv_program.specs.Program.{TellsRun, TellsLoad, TellsReport, Told, Writes, extent_of}
+use Rattle.mv_program.specs.declared.status.Status.TheVariants.{Script}
+use Rattle.mv_program.specs.Program.{TellsRun, TellsLoad, TellsScript, TellsReport, Told, Writes, extent_of}
 use Rattle.mv_program.specs.Status.{replay_of}
 
 -- what holds of the command holds of the words that are it
@@ -46,6 +48,33 @@ run_is_told n s input left report0 report1 journal0 journal1 items report journa
     deck_is_told n s input report0 report1 journal0 journal1 report journal
     (told_of_input n input left items report journal read tells) wrote
 
+-- ---- scripts
+
+script_of_input : (input left : Option (List ℕ)) (items report journal : List ℕ)
+    → IfSome input (λ xs. (items ≡ xs) × (left ≡ Some [])) → TellsScript items report journal
+    → IfSome input (λ xs. TellsScript xs report journal)
+script_of_input None left items report journal read tells = tt
+script_of_input (Some xs) left items report journal read tells =
+    subst (λ (bytes : List ℕ). TellsScript bytes report journal) read.0 tells
+
+answers_are_told : (s : Status) (input report0 report1 journal0 journal1 : Option (List ℕ)) (report journal : List ℕ)
+    → IfSome input (λ bytes. TellsScript bytes report journal) → Writes s report0 report1 journal0 journal1 report journal
+    → Told (Some asked.Script) s input report0 report1 journal0 journal1
+answers_are_told Done None report0 report1 journal0 journal1 report journal tells wrote = tt
+answers_are_told Done (Some bytes) report0 report1 journal0 journal1 report journal tells wrote = (report, journal, tells, wrote)
+answers_are_told ReportFailed None report0 report1 journal0 journal1 report journal tells wrote = tt
+answers_are_told ReportFailed (Some bytes) report0 report1 journal0 journal1 report journal tells wrote = (report, journal, tells, wrote)
+answers_are_told JournalFailed None report0 report1 journal0 journal1 report journal tells wrote = tt
+answers_are_told JournalFailed (Some bytes) report0 report1 journal0 journal1 report journal tells wrote = (report, journal, tells, wrote)
+answers_are_told s input report0 report1 journal0 journal1 report journal tells wrote = absurd wrote
+
+pub script_is_told : (s : Status) (input left report0 report1 journal0 journal1 : Option (List ℕ)) (items report journal : List ℕ)
+    → IfSome input (λ xs. (items ≡ xs) × (left ≡ Some [])) → TellsScript items report journal
+    → Writes s report0 report1 journal0 journal1 report journal → Told (Some asked.Script) s input report0 report1 journal0 journal1
+script_is_told s input left report0 report1 journal0 journal1 items report journal read tells wrote =
+    answers_are_told s input report0 report1 journal0 journal1 report journal
+    (script_of_input input left items report journal read tells) wrote
+
 -- ---- loads
 
 -- a load tells of its own deck, whatever the input
@@ -81,4 +110,5 @@ report_is_told Reports TooLong input report0 report1 journal0 journal1 wrote kep
 report_is_told Reports ReadFailed input report0 report1 journal0 journal1 wrote kept = (wrote, kept)
 report_is_told Reports NoMemory input report0 report1 journal0 journal1 wrote kept = (wrote, kept)
 report_is_told Reports (Illegal line) input report0 report1 journal0 journal1 wrote kept = (wrote, kept)
+report_is_told Reports (Script f) input report0 report1 journal0 journal1 wrote kept = absurd wrote
 report_is_told Reports (Text f) input report0 report1 journal0 journal1 wrote kept = (wrote, kept)

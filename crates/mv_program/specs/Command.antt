@@ -5,7 +5,7 @@ use Rattle.mv_deck.specs.Load.{most_jobs}
 use Rattle.mv_line.specs.Number.{number_of, within}
 use Rattle.mv_spool.specs.Limits.{most_initiators}
 use Rattle.mv_program.specs.declared.command.Command.{Command}
-use Rattle.mv_program.specs.declared.command.Command.TheVariants.{Spool, Load, Replay, Convert}
+use Rattle.mv_program.specs.declared.command.Command.TheVariants.{Spool, Load, Script, Replay, Convert}
 
 -- the digit 0 in ASCII
 abbrev pub digit_0 : ℕ
@@ -27,10 +27,13 @@ load_of None initiators = None
 load_of (Some jobs) None = None
 load_of (Some jobs) (Some initiators) = Some (Load jobs initiators)
 
--- `spool` and a number of initiators, `load` with a number of jobs and one of initiators, `replay` or `convert`, exactly
+-- `spool` and a number of initiators, `load` with a number of jobs and one of initiators, `script`, `replay` or `convert`, exactly
 abbrev pub command_of : List (List ℕ) → Option Command
 command_of (word ∷ []) =
-    if bytes_eq word (codes "replay") then Some Replay else if bytes_eq word (codes "convert") then Some Convert else None
+    if bytes_eq word (codes "script") then Some Script
+    else if bytes_eq word (codes "replay") then Some Replay
+    else if bytes_eq word (codes "convert") then Some Convert
+    else None
 command_of (word ∷ initiators ∷ []) =
     if bytes_eq word (codes "spool") then option_map Spool (initiators_of initiators) else None
 command_of (word ∷ jobs ∷ initiators ∷ []) =
@@ -49,5 +52,6 @@ AreJobs jobs = (1 ≤ jobs) × (jobs ≤ most_jobs)
 abbrev pub IsRunnable : Command → Type 0
 IsRunnable (Spool n) = AreInitiators n
 IsRunnable (Load jobs n) = AreJobs jobs × AreInitiators n
+IsRunnable Script = Unit {0}
 IsRunnable Replay = Unit {0}
 IsRunnable Convert = Unit {0}

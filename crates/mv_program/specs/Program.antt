@@ -8,12 +8,16 @@ use Rattle.mv_ending.specs.Input.{IsWhole, IsTooLong, IsCut, IsAllOrNothing}
 use Rattle.mv_ending.specs.Written.{Extent, Nothing, PartOfReport, PartOfJournal, Everything, Wrote, WroteOf}
 use Rattle.mv_replay.specs.Outcome as replay
 use Rattle.mv_report.specs.Summary.{load_summary}
+use Rattle.mv_script.specs.Fault as scripts
+use Rattle.mv_script.specs.Script.{script_of}
 use Rattle.mv_program.specs.declared.command.Command.{Command}
 use Rattle.mv_program.specs.declared.command.Command.TheVariants.{Spool, Load, Replay, Convert}
+use Rattle.mv_program.specs.declared.command.Command.TheVariants as asked
 use Rattle.mv_program.specs.declared.status.Status.{Status}
 use Rattle.mv_program.specs.declared.status.Status.TheVariants.{Done, Words, Deck, TooLong, ReadFailed, ReportFailed}
 use Rattle.mv_program.specs.declared.status.Status.TheVariants.{JournalFailed, NoMemory, Illegal, Text}
-use Rattle.mv_program.specs.Texts.{deck_limit, report_of, IsJournalOfRun}
+use Rattle.mv_program.specs.declared.status.Status.TheVariants.{Script}
+use Rattle.mv_program.specs.Texts.{deck_limit, report_of, IsJournalOfRun, IsRunOfScript}
 use Rattle.mv_program.specs.Status.{replay_of}
 
 -- ---- the ending that an input asks of a command, where no stream fails and memory is there
@@ -28,9 +32,20 @@ abbrev pub DeckAsks : ℕ → List ℕ → Status → Type 0
 DeckAsks n input TooLong = deck_limit < length input
 DeckAsks n input status = (length input ≤ deck_limit) × IsFound n input status
 
+-- what a script is found to be
+abbrev pub IsScriptFound : List ℕ → Status → Type 0
+IsScriptFound input Done = scripts.first_fault input ≡ None
+IsScriptFound input (Script fault) = scripts.first_fault input ≡ Some fault
+IsScriptFound input _ = ⊥
+
+abbrev pub ScriptAsks : List ℕ → Status → Type 0
+ScriptAsks input TooLong = deck_limit < length input
+ScriptAsks input status = (length input ≤ deck_limit) × IsScriptFound input status
+
 abbrev pub Asks : Command → List ℕ → Status → Type 0
 Asks (Spool n) input status = DeckAsks n input status
 Asks (Load jobs n) input status = status ≡ Done
+Asks asked.Script input status = ScriptAsks input status
 Asks Replay input status = IsSomeAnd (replay_of status) (λ s. replay.Asks input s)
 Asks Convert input status = IsSomeAnd (replay_of status) (λ s. replay.Asks input s)
 
@@ -46,6 +61,10 @@ pub record TellsLoad (jobs n : ℕ) (report journal : List ℕ) : Type 0 where
   pub reported : report ≡ load_summary jobs n
   pub run : IsJournalOfRun (deck_of (load_text jobs)) n journal
 
+-- a script's answers, and the journal of the same run of it
+pub record TellsScript (input report journal : List ℕ) : Type 0 where
+  pub run : IsRunOfScript (script_of input) report journal
+
 -- a report of this kind on a journal, and no journal
 pub record TellsReport (Reports : List ℕ → List ℕ → Type 0) (input report journal : List ℕ) : Type 0 where
   pub reported : Reports input report
@@ -54,6 +73,7 @@ pub record TellsReport (Reports : List ℕ → List ℕ → Type 0) (input repor
 abbrev pub Tells : Command → (input report journal : List ℕ) → Type 0
 Tells (Spool n) input report journal = TellsRun n input report journal
 Tells (Load jobs n) input report journal = TellsLoad jobs n report journal
+Tells asked.Script input report journal = TellsScript input report journal
 Tells Replay input report journal = TellsReport replay.IsReplayReport input report journal
 Tells Convert input report journal = TellsReport replay.IsConversion input report journal
 
@@ -61,6 +81,7 @@ Tells Convert input report journal = TellsReport replay.IsConversion input repor
 abbrev pub has_journal : Command → Bool
 has_journal (Spool n) = true
 has_journal (Load jobs n) = true
+has_journal asked.Script = true
 has_journal Replay = false
 has_journal Convert = false
 
@@ -68,6 +89,7 @@ has_journal Convert = false
 abbrev pub reads_input : Command → Bool
 reads_input (Spool n) = true
 reads_input (Load jobs n) = false
+reads_input asked.Script = true
 reads_input Replay = true
 reads_input Convert = true
 
@@ -92,6 +114,21 @@ DeckOf n ReadFailed old new = IfSome old (λ bytes. IsCut deck_limit bytes new)
 DeckOf n NoMemory old new = IsAllOrNothing deck_limit old new
 DeckOf n _ old new = ⊥
 
+-- a script was read to its end, and is found to be that
+pub record IsScript (input : List ℕ) (left : Option (List ℕ)) (found : Status) : Type 0 where
+  pub read : IsWhole deck_limit input left
+  pub is : IsScriptFound input found
+
+abbrev pub ScriptOf : Status → Option (List ℕ) → Option (List ℕ) → Type 0
+ScriptOf Done old new = IfSome old (λ bytes. IsScript bytes new Done)
+ScriptOf ReportFailed old new = IfSome old (λ bytes. IsScript bytes new Done)
+ScriptOf JournalFailed old new = IfSome old (λ bytes. IsScript bytes new Done)
+ScriptOf (Script fault) old new = IfSome old (λ bytes. IsScript bytes new (Script fault))
+ScriptOf TooLong old new = IfSome old (λ bytes. IsTooLong deck_limit bytes new)
+ScriptOf ReadFailed old new = IfSome old (λ bytes. IsCut deck_limit bytes new)
+ScriptOf NoMemory old new = IsAllOrNothing deck_limit old new
+ScriptOf _ old new = ⊥
+
 -- a load reads nothing, so it ends as its deck asks, or for want of memory, or because a sink fails
 abbrev pub EndsLoad : Status → Type 0
 EndsLoad Done = Unit {0}
@@ -103,6 +140,7 @@ EndsLoad _ = ⊥
 abbrev pub InputOf : Option Command → Status → Option (List ℕ) → Option (List ℕ) → Type 0
 InputOf (Some (Spool n)) status old new = DeckOf n status old new
 InputOf (Some (Load jobs n)) status old new = EndsLoad status × (new ≡ old)
+InputOf (Some asked.Script) status old new = ScriptOf status old new
 InputOf (Some Replay) status old new = IsSomeAnd (replay_of status) (λ s. replay.InputOf s old new)
 InputOf (Some Convert) status old new = IsSomeAnd (replay_of status) (λ s. replay.InputOf s old new)
 InputOf None status old new = new ≡ old
@@ -119,6 +157,7 @@ extent_of (Deck fault) = Nothing
 extent_of TooLong = Nothing
 extent_of ReadFailed = Nothing
 extent_of NoMemory = Nothing
+extent_of (Script fault) = Nothing
 extent_of (Illegal line) = Nothing
 extent_of (Text fault) = Nothing
 

@@ -7,6 +7,7 @@ use Rattle.mv_replay.specs.declared.status.ReplayStatus.TheVariants as replay
 use Rattle.mv_program.specs.declared.status.Status.{Status}
 use Rattle.mv_program.specs.declared.status.Status.TheVariants.{Done, Words, Deck, TooLong, ReadFailed, ReportFailed}
 use Rattle.mv_program.specs.declared.status.Status.TheVariants.{JournalFailed, NoMemory, Illegal, Text}
+use Rattle.mv_program.specs.declared.status.Status.TheVariants.{Script}
 
 abbrev pub exit_of : Status → ℕ
 exit_of Done = 0
@@ -17,6 +18,7 @@ exit_of ReadFailed = 5
 exit_of ReportFailed = 6
 exit_of JournalFailed = 7
 exit_of NoMemory = 8
+exit_of (Script f) = 9
 exit_of (Illegal line) = 10
 exit_of (Text f) = 11
 
@@ -30,6 +32,7 @@ note_of ReadFailed = Some note.ReadFailed
 note_of ReportFailed = Some note.ReportFailed
 note_of JournalFailed = Some note.JournalFailed
 note_of NoMemory = Some note.NoMemory
+note_of (Script f) = Some (note.ScriptFault f.line f.kind)
 note_of (Illegal line) = Some (note.Illegal line)
 note_of (Text f) = Some (note.JournalFault f.line f.kind)
 

@@ -1,4 +1,5 @@
--- The texts of the run of a deck: its report, and the journal that tells its history.
+-- The texts of the run of a deck: its report, and the journal that tells its history; and those of the run of a script: its answers,
+-- and the journal that tells its history.
 use Rattle.std.specs.Prelude.{◌≡◌, ℕ, List}
 use Rattle.mv_deck.specs.Deck.{JobData, deck_of}
 use Rattle.mv_entrytext.specs.Fault.{HasJournal, journal_of}
@@ -10,8 +11,12 @@ use Rattle.mv_machine.specs.Setup.{Setup}
 use Rattle.mv_plan.specs.SpoolRun.{IsRun}
 use Rattle.mv_plan.specs.SpoolSetup.{spool_setup}
 use Rattle.mv_report.specs.Outcome.{report}
+use Rattle.mv_script.specs.declared.answer.Answer.{Answer}
+use Rattle.mv_script.specs.AnswerText.{answers_text}
+use Rattle.mv_script.specs.Run.{IsScriptRun, script_answers, moves_in}
+use Rattle.mv_script.specs.Script.{ScriptData}
 
--- the most bytes of a deck
+-- the most bytes of a deck, and of a script
 abbrev pub deck_limit : ℕ
 deck_limit = 1048576
 
@@ -36,3 +41,15 @@ pub record IsJournalOfRun (deck : List JobData) (initiators : ℕ) (text : List 
   pub run : IsRun deck initiators events
   pub orderly : IsOrderly (spool_setup deck initiators) events
   pub exact : IsExact events
+
+-- two texts are the answers and the journal of one run of the script: of a history in which each task has made its calls, as they are
+-- asked of it, and nothing else was done, and in which each word that an answer shows was met. The answers are those of that history
+-- and of these words
+pub record IsRunOfScript (script : ScriptData) (answers journal : List ℕ) : Type 0 where
+  pub events : List Entry
+  pub lists : List (List Answer)
+  pub told : TellsHistory journal script.setup events
+  pub run : IsScriptRun script (moves_in lists) events
+  pub orderly : IsOrderly script.setup events
+  pub answered : lists ≡ script_answers script (moves_in lists) events
+  pub written : answers ≡ answers_text lists

@@ -15,6 +15,8 @@ pub enum Command {
     Spool(u32),
     /// Run a load of this many jobs, 1 to 2000, with this many initiators, 1 to 8.
     Load(u32, u32),
+    /// Run the script of the input.
+    Script,
     /// Judge the journal of the input.
     Replay,
     /// Judge the journal of the input, and write it in version 2.
@@ -48,6 +50,7 @@ pub(crate) fn command_of(words: &[String]) -> Option<Command>
     ensures runnable { IfSome result IsRunnable }
 {
     match words {
+        [word] if word.as_str() == "script" => Some(Command::Script),
         [word] if word.as_str() == "replay" => Some(Command::Replay),
         [word] if word.as_str() == "convert" => Some(Command::Convert),
         [word, initiators] if word.as_str() == "spool" => {

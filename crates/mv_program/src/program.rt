@@ -14,17 +14,18 @@ ghost use Rattle.mv_replay.specs.Outcome.{IsReplayReport, IsConversion, ReportAf
 
 use crate::command::{Command, command_of};
 use crate::status::{Status, note_of, status_of};
-use crate::texts::{Texts, texts_of, texts_of_load};
+use crate::texts::{Texts, texts_of, texts_of_load, texts_of_script};
 use mv_deck::DeckRefusal;
 use mv_ending::tell;
 use mv_io::{NoMemory, ReadRefusal, Sink, Source, read_limited, write_all};
 use mv_replay::{convert_command, replay_command};
+use mv_script::ScriptRefusal;
 use mv_task::Gate;
 use std::alloc::Global;
 use std::sync::Wait;
 use std::thread::Threads;
 
-/// The most bytes of a deck.
+/// The most bytes of a deck, and of a script.
 const DECK_LIMIT: usize = 1_048_576;
 
 // Writes the report, and then the journal.
@@ -109,6 +110,39 @@ fn load<X: Threads + Wait + Sync, R: Sink, K: Sink, G: Gate + Sync>(
     }
 }
 
+// Runs the script of the input.
+fn script<X: Threads + Wait + Sync, D: Source, R: Sink, K: Sink>(
+    rt: &X,
+    alloc: Global,
+    input: &mut D,
+    report: &mut R,
+    journal: &mut K,
+) -> Status
+    ensures words { result ≢ Status.Words }
+    ensures input { InputOf (Some Command.Script) result (D.left input.old) (D.left input.new) }
+    ensures told { Told (Some Command.Script) result (D.left input.old)
+        (R.taken report.old) (R.taken report.new) (K.taken journal.old) (K.taken journal.new) }
+    ensures read_failed { result ≡ Status.ReadFailed → Rose (D.faults input.old) (D.faults input.new) }
+    ensures report_failed { result ≡ Status.ReportFailed → Rose (R.faults report.old) (R.faults report.new) }
+    ensures journal_failed { result ≡ Status.JournalFailed → Rose (K.faults journal.old) (K.faults journal.new) }
+    ensures unwritten { IfUnwritten (extent_of result) ((report.new ≡ report.old) × (journal.new ≡ journal.old)) }
+    ensures no_journal { result ≡ Status.ReportFailed → journal.new ≡ journal.old }
+    ensures counts { (D.faults input.old ≤ D.faults input.new) × (R.faults report.old ≤ R.faults report.new)
+        × (K.faults journal.old ≤ K.faults journal.new) }
+{
+    let script = match read_limited(alloc, input, DECK_LIMIT) {
+        Ok(script) => script,
+        Err(ReadRefusal::Failed) => return Status::ReadFailed,
+        Err(ReadRefusal::TooLong) => return Status::TooLong,
+        Err(ReadRefusal::NoMemory) => return Status::NoMemory,
+    };
+    match texts_of_script(rt, alloc, &script) {
+        Ok(texts) => write_texts(report, journal, &texts),
+        Err(ScriptRefusal::Fault(fault)) => Status::Script(fault),
+        Err(ScriptRefusal::NoMemory) => Status::NoMemory,
+    }
+}
+
 // Judges the journal of the input.
 fn replay<D: Source, R: Sink>(alloc: Global, input: &mut D, report: &mut R) -> Status
     ensures words { result ≢ Status.Words }
@@ -142,11 +176,12 @@ fn convert<D: Source, R: Sink>(alloc: Global, input: &mut D, report: &mut R) -> 
 /// Runs a command: reads the input, and writes the report, and after it the journal where the command has one. What is
 /// written is made in memory before. Last it tells on the notes how it ended, where it did not end well.
 ///
-/// The commands are `spool I` for I from 1 to 8, `load N I` for N from 1 to 2000, `replay` and `convert`. The words are those
+/// The commands are `spool I` for I from 1 to 8, `load N I` for N from 1 to 2000, `script`, `replay` and `convert`. The words are those
 /// behind the program's name. Of the input no more than the command's limit and one byte is taken; `load` takes nothing of it.
 /// Nothing is read and no memory is taken where the words are no command. `spool` runs the deck of the input, and `load` a deck
 /// of N jobs, by I initiators beside a reader, a scheduler and a writer, each on a thread of its own, which have all ended before
-/// anything is written; they pass the gate at each point of each job. The other commands start no thread.
+/// anything is written; they pass the gate at each point of each job. `script` runs the script of the input, each of its tasks on a
+/// thread of its own, and its report is the answers of their calls. The other commands start no thread.
 ///
 /// # Errors
 ///
@@ -211,6 +246,7 @@ pub fn run_program<X: Threads + Wait + Sync, D: Source, R: Sink, K: Sink, N: Sin
         Some(Command::Load(jobs, initiators)) => {
             load(rt, alloc, jobs, initiators, report, journal, gate)
         }
+        Some(Command::Script) => script(rt, alloc, input, report, journal),
         Some(Command::Replay) => replay(alloc, input, report),
         Some(Command::Convert) => convert(alloc, input, report),
     };

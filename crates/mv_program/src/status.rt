@@ -7,6 +7,7 @@ use mv_deck::DeckFault;
 use mv_ending::Note;
 use mv_entrytext::TextFault;
 use mv_replay::ReplayStatus;
+use mv_script::ScriptFault;
 
 /// How a run ended.
 #[derive(Clone, Copy, Debug, PartialEq, Eq)]
@@ -27,6 +28,8 @@ pub enum Status {
     JournalFailed,
     /// Memory ran out, before anything was written.
     NoMemory,
+    /// The script has this fault, its first.
+    Script(ScriptFault),
     /// The journal is replayed up to this line, whose entry is the first that is not the machine's.
     Illegal(u32),
     /// The text of the journal has this fault, its first.
@@ -47,6 +50,7 @@ impl Status {
             Status::ReportFailed => 6,
             Status::JournalFailed => 7,
             Status::NoMemory => 8,
+            Status::Script(_) => 9,
             Status::Illegal(_) => 10,
             Status::Text(_) => 11,
         }
@@ -69,6 +73,10 @@ pub(crate) fn note_of(status: Status) -> Option<Note>
         Status::ReportFailed => Some(Note::ReportFailed),
         Status::JournalFailed => Some(Note::JournalFailed),
         Status::NoMemory => Some(Note::NoMemory),
+        Status::Script(fault) => Some(Note::ScriptFault {
+            line: fault.line,
+            kind: fault.kind,
+        }),
         Status::Illegal(line) => Some(Note::Illegal { line }),
         Status::Text(fault) => Some(Note::JournalFault {
             line: fault.line,

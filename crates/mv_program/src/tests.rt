@@ -5,6 +5,7 @@ use super::*;
 use mv_deck::DeckFault;
 use mv_entrytext::TextFault;
 use mv_io::{MemSink, MemSource, NoMemory, read_limited};
+use mv_script::ScriptFault;
 use mv_task::MeetGate;
 use std::alloc::{AllocError, Global};
 use std::process::Abort;
@@ -256,7 +257,8 @@ fn words_that_are_no_command(rt: HostRuntime) -> Result<(), Fail> {
         "REPLAY",
         "convert x",
         "CONVERT",
-        "script",
+        "script x",
+        "SCRIPT",
         "load",
         "load 1",
         "load 0 1",
@@ -291,6 +293,56 @@ fn decks_with_a_fault(rt: HostRuntime) -> Result<(), Fail> {
         let mut on = streams_over(rt.alloc(), deck)?;
         let fault = Status::Deck(DeckFault { line, kind });
         assert_eq!(rt; run(&rt, "spool 1", &mut on)?, fault);
+        assert_written(&rt, &on, b"", b"", notes);
+    }
+    Ok(())
+}
+
+// The answers of two tasks, one of which waits for the other, and those of tries, of which the second meets another word.
+#[test]
+fn scripts(rt: HostRuntime) -> Result<(), Fail> {
+    let waits = b"SCRIPT 2\nECB 0\nTASK\nWAIT 1 0\nTASK\nPOST 0 3\nEND\n".as_slice();
+    let tries = b"SCRIPT 1\nECB 0\nTASK\nTRYPOST 0 0 5\nTRYPOST 0 0 6\nEND\n".as_slice();
+    let table = [
+        (waits, "0 1 WAITED C3\n1 1 ", " E0 2 SETTLE = COMPLETE 3\n"),
+        (
+            tries,
+            "0 1 POSTED\n0 2 MOVED 1 1073741829\n",
+            "0.0 E0 0 POST 5 = POSTED\nEND 1\n",
+        ),
+    ];
+    for (script, answers, piece) in table {
+        let mut on = streams_over(rt.alloc(), script)?;
+        assert_eq!(rt; run(&rt, "script", &mut on)?, Status::Done);
+        assert!(rt; has(on.report.bytes(), answers));
+        assert_eq!(rt; on.notes.bytes(), b"".as_slice());
+        assert_legal(&rt, on.journal.bytes(), piece)?;
+    }
+    Ok(())
+}
+
+#[test]
+fn scripts_with_a_fault(rt: HostRuntime) -> Result<(), Fail> {
+    let table = [
+        (b"".as_slice(), 1, 9, b"SCRIPT LINE 1 KIND 9\n".as_slice()),
+        (
+            b"SCRIPT 1\nTASK\nCHECK 1\nEND\n".as_slice(),
+            3,
+            8,
+            b"SCRIPT LINE 3 KIND 8\n".as_slice(),
+        ),
+        (
+            b"SCRIPT 1\nECB 0\nEXIT 0 0\n".as_slice(),
+            3,
+            7,
+            b"SCRIPT LINE 3 KIND 7\n".as_slice(),
+        ),
+    ];
+    for (script, line, kind, notes) in table {
+        let mut on = streams_over(rt.alloc(), script)?;
+        let fault = Status::Script(ScriptFault { line, kind });
+        assert_eq!(rt; run(&rt, "script", &mut on)?, fault);
+        assert_eq!(rt; fault.exit(), 9);
         assert_written(&rt, &on, b"", b"", notes);
     }
     Ok(())

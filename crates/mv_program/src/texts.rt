@@ -9,12 +9,17 @@ ghost use Rattle.mv_report.specs.Outcome.{report};
 ghost use Rattle.mv_report.specs.Summary.{load_summary};
 ghost use Rattle.mv_spool.specs.Limits.{most_initiators};
 ghost use Rattle.mv_program.specs.Command.{AreInitiators, AreJobs};
-ghost use Rattle.mv_program.specs.Texts.{report_of, IsJournalOfRun, deck_limit};
+ghost use Rattle.mv_script.specs.Fault as scripts;
+ghost use Rattle.mv_script.specs.Script.{script_data, script_of};
+ghost use Rattle.mv_script.specs.Sound.{IsSound as IsSoundScript};
+ghost use Rattle.mv_program.specs.Texts.{report_of, IsJournalOfRun, IsRunOfScript, deck_limit};
 
 use mv_deck::{Deck, DeckRefusal, load_deck, read_deck};
 use mv_entrytext::write_journal;
 use mv_io::NoMemory;
 use mv_report::{write_report, write_summary};
+use mv_runscript::{run_script, write_answers};
+use mv_script::{Script, ScriptRefusal, read_script};
 use mv_spool::run_deck;
 use mv_task::Gate;
 use std::alloc::Global;
@@ -103,4 +108,37 @@ pub(crate) fn texts_of_load<X: Threads + Wait + Sync, G: Gate + Sync>(
     let report = write_summary(alloc, jobs, initiators, &run.ends, &run.volumes)?;
     let journal = write_journal(alloc, &run.config, &run.journal)?;
     Ok(Texts { report, journal })
+}
+
+// The answers and the journal of a run of this script.
+fn texts_of_run<X: Threads + Wait + Sync>(
+    rt: &X,
+    alloc: Global,
+    script: &Script,
+) -> Result<Texts, NoMemory>
+    requires { IsSoundScript (script_data script.now) }
+    ensures { IfOk result (λ texts. IsRunOfScript (script_data script.now) texts.report.items texts.journal.items) }
+{
+    let run = run_script(rt, alloc, script)?;
+    let report = write_answers(alloc, &run)?;
+    let journal = write_journal(alloc, &run.config, &run.journal)?;
+    Ok(Texts { report, journal })
+}
+
+/// The answers and the journal of a run of the script that the input states.
+pub(crate) fn texts_of_script<X: Threads + Wait + Sync>(
+    rt: &X,
+    alloc: Global,
+    input: &[u8],
+) -> Result<Texts, ScriptRefusal>
+    requires short { length input.now ≤ deck_limit }
+    ensures sound { IfOk result (λ _. scripts.first_fault input.now ≡ None) }
+    ensures run { IfOk result (λ texts. IsRunOfScript (script_of input.now) texts.report.items texts.journal.items) }
+    ensures fault { IfErr result (λ refusal. scripts.TellsFirst refusal (scripts.first_fault input.now)) }
+{
+    let script = read_script(alloc, input)?;
+    match texts_of_run(rt, alloc, &script) {
+        Ok(texts) => Ok(texts),
+        Err(NoMemory) => Err(ScriptRefusal::NoMemory),
+    }
 }

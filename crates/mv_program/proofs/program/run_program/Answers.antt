@@ -2,11 +2,12 @@
 use Rattle.std.proofs.Common.{Some, None, sym, ap, ◌∙◌}
 use Rattle.mv_io.specs.Fault.{Rose}
 use Rattle.mv_replay.specs.Outcome.{IsReplayReport, IsConversion}
-use Rattle.mv_program.specs.declared.command.Command.TheVariants.{Spool, Load, Replay, Convert}
+use Rattle.mv_program.specs.declared.command.Command.TheVariants.{Spool, Load, Script, Replay, Convert}
 use Rattle.mv_program.proofs.Owed.{owed_for, load_never_reads}
 use Rattle.mv_program.proofs.Told.{told_for, report_is_told}
 use Rattle.mv_program.proofs.program.run_program.Goals as goal
-use Rattle.mv_program.proofs.program.run_program.Goals.{in-None, in-Some-Spool, in-Some-Load, in-Some-Replay, in-Some-Convert}
+use Rattle.mv_program.proofs.program.run_program.Goals.{in-None, in-Some-Spool, in-Some-Load, in-Some-Script, in-Some-Replay}
+use Rattle.mv_program.proofs.program.run_program.Goals.{in-Some-Convert}
 
 pub returns-clause-told : goal.returns-clause-told
 returns-clause-told g c =
@@ -28,6 +29,10 @@ returns-clause-told g c =
           told_for _ (Some (Load w.in-Some-Load.jobs w.in-Some-Load.initiators)) made.status old report0 report1 journal0 journal1
           (sym c.command_of.ensures.command ∙ w.in-Some-Load.is ∙ ap Some w.in-Some-Load.field-0-is)
           (rw (sym w.status-is) at (rw (sym w.report-is) at (rw (sym w.journal-is) at w.load-status.ensures.told)))
+      | in-Some-Script w ↦
+          told_for _ (Some Script) made.status old report0 report1 journal0 journal1
+          (sym c.command_of.ensures.command ∙ w.in-Some-Script.is ∙ ap Some w.in-Some-Script.field-0-is)
+          (rw (sym w.status-is) at (rw (sym w.report-is) at (rw (sym w.journal-is) at w.script-status.ensures.told)))
       | in-Some-Replay w ↦
           told_for _ (Some Replay) made.status old report0 report1 journal0 journal1
           (sym c.command_of.ensures.command ∙ w.in-Some-Replay.is ∙ ap Some w.in-Some-Replay.field-0-is)
@@ -67,6 +72,14 @@ returns-clause-owed g c =
           (sym c.command_of.ensures.command ∙ w.in-Some-Load.is ∙ ap Some w.in-Some-Load.field-0-is)
           (rw (sym w.status-is) at run.ensures.ends, ap g.D.Source.left w.input-is)
           (λ e. absurd (load_never_reads made.status (rw (sym w.status-is) at run.ensures.ends) e))
+          (rw (sym w.status-is) at (rw (sym w.report-is) at run.ensures.report_failed))
+          (rw (sym w.status-is) at (rw (sym w.journal-is) at run.ensures.journal_failed))
+      | in-Some-Script w ↦
+          let run = w.script-status in
+          owed_for _ (Some Script) made.status old new read report journal
+          (sym c.command_of.ensures.command ∙ w.in-Some-Script.is ∙ ap Some w.in-Some-Script.field-0-is)
+          (rw (sym w.status-is) at (rw (sym w.input-is) at run.ensures.input))
+          (rw (sym w.status-is) at (rw (sym w.input-is) at run.ensures.read_failed))
           (rw (sym w.status-is) at (rw (sym w.report-is) at run.ensures.report_failed))
           (rw (sym w.status-is) at (rw (sym w.journal-is) at run.ensures.journal_failed))
       | in-Some-Replay w ↦
