@@ -6,12 +6,15 @@ use mv_deck::DeckFault;
 use mv_entrytext::TextFault;
 use mv_io::{MemSink, MemSource, NoMemory, read_limited};
 use mv_script::ScriptFault;
-use mv_task::MeetGate;
 use std::alloc::{AllocError, Global};
 use std::process::Abort;
 use std::sync::Wait;
 use std::test::Fail;
 use std::thread::Threads;
+
+mod failing_streams;
+mod forged_journals;
+mod held_tasks;
 
 // One job ends, one abends, and one is not run, since it waited for the second to end well.
 const PAYROLL: &[u8] =
@@ -162,49 +165,6 @@ fn no_job(rt: HostRuntime) -> Result<(), Fail> {
     assert_eq!(rt; on.report.bytes(), NO_JOB);
     let journal = on.journal.bytes();
     assert!(rt; has(journal, "\nEND 8\n") || has(journal, "\nEND 9\n"));
-    Ok(())
-}
-
-// Two jobs of one step each are begun side by side; and of two that count on one volume the one that is held last writes last.
-#[test]
-fn jobs_meet(rt: HostRuntime) -> Result<(), Fail> {
-    let prints = b"//A JOB\n// PRINT A\n//B JOB\n// PRINT B\n//\n".as_slice();
-    let counts =
-        b"//A JOB\n// USE 0 X\n// COUNT 0 5\n// FREE 0\n//B JOB\n// USE 0 X\n// COUNT 0 7\n// FREE 0\n//\n".as_slice();
-    let table = [
-        (prints, Point::Started(0), Point::Started(1), "| A\n", ""),
-        (
-            counts,
-            Point::Started(0),
-            Point::Ended(1),
-            "VOLUMES 12 ",
-            " V0 1 WRITE 7 = STORED\n",
-        ),
-        (
-            counts,
-            Point::Started(1),
-            Point::Ended(0),
-            "VOLUMES 12 ",
-            " V0 1 WRITE 5 = STORED\n",
-        ),
-    ];
-    for (deck, first, second, line, write) in table {
-        let mut on = streams_over(rt.alloc(), deck)?;
-        let gate = MeetGate::new(first, second, 1_000_000);
-        assert_eq!(rt; run_by(&rt, "spool 2", &mut on, &gate)?, Status::Done);
-        assert!(rt; gate.met());
-        assert!(rt; has(on.report.bytes(), line));
-        assert_legal(&rt, on.journal.bytes(), write)?;
-        if !write.is_empty() {
-            for piece in [
-                " V0 0 READ = ",
-                " V0 2 READ = ",
-                " V0 3 WRITE 12 = STORED\n",
-            ] {
-                assert!(rt; has(on.journal.bytes(), piece), "{piece}");
-            }
-        }
-    }
     Ok(())
 }
 
@@ -422,15 +382,6 @@ fn a_journal_sink_that_is_full(rt: HostRuntime) -> Result<(), Fail> {
         b"JOURNAL 2\n",
         b"JOURNAL FAILED\n",
     );
-    Ok(())
-}
-
-#[test]
-fn a_source_that_fails(rt: HostRuntime) -> Result<(), Fail> {
-    let mut on = streams_over(rt.alloc(), PAYROLL)?;
-    on.input = MemSource::new(rt.alloc(), PAYROLL, 1, &[3])?;
-    assert_eq!(rt; run(&rt, "spool 2", &mut on)?, Status::ReadFailed);
-    assert_written(&rt, &on, b"", b"", b"READ FAILED\n");
     Ok(())
 }
 
