@@ -1,0 +1,373 @@
+//! Scripts that ask for what is not theirs, what is over, or more than there is, and some that are none. Rows are parted by a line
+//! `==`; each has a script, behind a line `--` what `replay` reports of the run's journal, and the answers, or else the note that
+//! tells the script's fault. They were worked out by hand.
+
+use super::*;
+
+// Calls on blocks and elements of others, and on blocks that are extended; and lists of a wait that are none.
+const OTHERS: &str = "\
+SCRIPT 2
+ECB 0
+ECB 1
+TASK
+WAIT 1 1
+WAIT 1 0 1
+CLEAR 1
+EXTEND 1 1
+OBTAIN 0 1 X ECB 1
+TASK
+END
+--
+LEGAL 0 EVENTS
+0 1 NOTOWNER 0
+0 2 NOTOWNER 1
+0 3 NOTOWNER
+0 4 NOTOWNER
+0 5 NOTOWNER
+==
+SCRIPT 2
+TASK
+PAUSE 4.0
+DEALLOC 4.0
+TRANSFER 4.0 4.0 1
+RELEASE 4.0 1
+TASK
+END
+--
+LEGAL 1 EVENTS
+0 1 NOTOWNER
+0 2 NOTOWNER
+0 3 NOTOWNER
+0 4 SPENT 0
+==
+SCRIPT 1
+ECB 0
+ECB 0
+EXIT 0 1
+TASK
+EXTEND 0 1
+EXTEND 0 1
+WAIT 1 0
+EXTEND 1 1
+CLEAR 0
+POST 0 2
+EXTEND 0 1
+TEST 1
+END
+--
+LEGAL 5 EVENTS
+0 1 DONE
+0 2 EXTENDED
+0 3 EXTENDED 0
+0 4 BADEXIT
+0 5 WORD 2147483649
+0 6 POSTED
+0 7 COMPLETE 2
+0 8 WORD 0
+==
+SCRIPT 1
+ECB 0
+TASK
+WAIT 0
+WAIT 2 0
+WAIT 1 0 0
+END
+--
+LEGAL 0 EVENTS
+0 1 WAITED
+0 2 TOOMANY
+0 3 DOUBLED 1
+";
+
+// Tokens and codes at their ends: what is over is SPENT, a code that reaches nobody is lost with its element, and the highest
+// codes are codes.
+const OVER: &str = "\
+SCRIPT 1
+TASK
+ALLOC
+DEALLOC 0.0
+ALLOC
+PAUSE 0.0
+RELEASE 0.0 1
+TRANSFER 0.0 0.1 2
+TRANSFER 0.1 0.1 16777215
+DEALLOC 0.1
+END
+--
+LEGAL 8 EVENTS
+0 1 TOKEN 0.0
+0 2 DONE
+0 3 TOKEN 0.1
+0 4 SPENT 1
+0 5 SPENT 1
+0 6 SPENT 1
+0 7 GIVEN 16777215 0.2
+0 8 SPENT 2
+==
+SCRIPT 1
+ECB 0
+TASK
+POST 0 1073741823
+CLEAR 0
+TEST 0
+END
+--
+LEGAL 3 EVENTS
+0 1 POSTED
+0 2 WORD 2147483647
+0 3 WORD 0
+==
+SCRIPT 1
+TASK
+ALLOC
+RELEASE 0.0 16777215
+PAUSE 0.0
+PAUSE 0.0
+ALLOC
+RELEASE 1.0 4
+DEALLOC 1.0
+RELEASE 1.0 4
+END
+--
+LEGAL 8 EVENTS
+0 1 TOKEN 0.0
+0 2 EARLY
+0 3 GIVEN 16777215 0.1
+0 4 SPENT 1
+0 5 TOKEN 1.0
+0 6 EARLY
+0 7 DONE
+0 8 SPENT 1
+==
+SCRIPT 1
+TASK
+ALLOC
+ALLOC
+DEALLOC 1.0
+TRANSFER 0.0 1.0 5
+TESTP 0
+TRANSFER 0.0 0.0 6
+END
+--
+LEGAL 7 EVENTS
+0 1 TOKEN 0.0
+0 2 TOKEN 1.0
+0 3 DONE
+0 4 TARGET SPENT 1
+0 5 STATE 0 RESET 0
+0 6 GIVEN 6 0.1
+";
+
+// Requests that are purged as they wait, and quotas that are used up.
+const REQUESTS: &str = "\
+SCRIPT 1
+ECB 0
+TASK
+OBTAIN 0 1 X COND
+OBTAIN 0 9 S ECB 0
+PURGE 9
+TEST 0
+CHECK 2
+FREE 2 U
+PURGE 1
+END
+--
+LEGAL 8 EVENTS
+0 1 GRANTED
+0 2 PENDING
+0 3 PURGED 1 0
+0 4 WORD 1073741825
+0 5 GONE
+0 6 GONE
+0 7 PURGED 1 0
+==
+SCRIPT 1
+TASK
+OBTAIN 0 1 S COND
+OBTAIN 0 1 S COND
+OBTAIN 0 1 S COND
+OBTAIN 0 1 S COND
+OBTAIN 0 1 S COND
+OBTAIN 0 1 S COND
+OBTAIN 0 1 S COND
+OBTAIN 0 1 S COND
+OBTAIN 0 1 S COND
+OBTAIN 8 1 S COND
+END
+--
+LEGAL 8 EVENTS
+0 1 GRANTED
+0 2 GRANTED
+0 3 GRANTED
+0 4 GRANTED
+0 5 GRANTED
+0 6 GRANTED
+0 7 GRANTED
+0 8 GRANTED
+0 9 QUOTA
+0 10 BADLATCH
+==
+SCRIPT 1
+ECB 0
+TASK
+OBTAIN 0 1 X COND
+OBTAIN 0 2 X ECB 0
+OBTAIN 0 2 X ECB 0
+OBTAIN 0 2 X ECB 0
+OBTAIN 0 2 X ECB 0
+OBTAIN 0 2 X ECB 0
+END
+--
+LEGAL 5 EVENTS
+0 1 GRANTED
+0 2 PENDING
+0 3 PENDING
+0 4 PENDING
+0 5 PENDING
+0 6 QUOTA
+";
+
+// Codes of posts and releases that are one too high, and others.
+const FAULTS: &str = "\
+SCRIPT 1
+ECB 0
+TASK
+POST 0 1073741824
+END
+--
+SCRIPT LINE 4 KIND 4
+==
+SCRIPT 1
+ECB 0
+TASK
+RELEASE 0.0 16777216
+END
+--
+SCRIPT LINE 4 KIND 4
+==
+--
+SCRIPT LINE 1 KIND 9
+==
+SCRIPT 1
+TASK
+CHECK 1
+END
+--
+SCRIPT LINE 3 KIND 8
+==
+SCRIPT 1
+ECB 0
+EXIT 0 0
+TASK
+END
+--
+SCRIPT LINE 3 KIND 7
+";
+
+// A script runs, its calls answer so, and `replay` says this of its journal.
+fn assert_answers<X: Abort + AllocGlobal + Threads + Wait + Sync>(
+    rt: &X,
+    script: &str,
+    legal: &str,
+    answers: &str,
+) -> Result<(), Fail> {
+    let mut on = streams_over(rt.alloc(), script.as_bytes())?;
+    assert_eq!(rt; run(rt, "script", &mut on)?, Status::Done, "{script}");
+    assert_eq!(rt; on.report.bytes(), answers.as_bytes(), "{script}");
+    assert_eq!(rt; on.notes.bytes(), b"".as_slice(), "{script}");
+    let mut replayed = streams_over(rt.alloc(), on.journal.bytes())?;
+    assert_eq!(rt; run(rt, "replay", &mut replayed)?, Status::Done, "{script}");
+    assert_eq!(rt; replayed.report.bytes(), legal.as_bytes(), "{script}");
+    Ok(())
+}
+
+// A script has a fault: this note tells it, and nothing else is written.
+fn assert_faulty<X: Abort + AllocGlobal + Threads + Wait + Sync>(
+    rt: &X,
+    script: &str,
+    note: &str,
+) -> Result<(), Fail> {
+    let mut on = streams_over(rt.alloc(), script.as_bytes())?;
+    assert_eq!(rt; run(rt, "script", &mut on)?.exit(), 9, "{script}");
+    assert_written(rt, &on, b"", b"", note.as_bytes());
+    Ok(())
+}
+
+// Each row of a table.
+fn assert_rows<X: Abort + AllocGlobal + Threads + Wait + Sync>(
+    rt: &X,
+    rows: &str,
+) -> Result<(), Fail> {
+    for row in rows.split("==\n") {
+        let (script, comes_to) = row.split_once("--\n").ok_or("no script")?;
+        match comes_to.split_once(" EVENTS\n") {
+            Some((legal, answers)) => {
+                let legal = format!(in rt.alloc(); "{legal} EVENTS\n")?;
+                assert_answers(rt, script, &legal, answers)?;
+            }
+            None => assert_faulty(rt, script, comes_to)?,
+        }
+    }
+    Ok(())
+}
+
+#[test]
+fn scripts_that_ask_for_what_is_not_theirs(rt: HostRuntime) -> Result<(), Fail> {
+    assert_rows(&rt, OTHERS)
+}
+
+#[test]
+fn scripts_with_tokens_that_are_over(rt: HostRuntime) -> Result<(), Fail> {
+    assert_rows(&rt, OVER)
+}
+
+#[test]
+fn scripts_that_use_up_their_quotas(rt: HostRuntime) -> Result<(), Fail> {
+    assert_rows(&rt, REQUESTS)
+}
+
+#[test]
+fn scripts_that_are_none(rt: HostRuntime) -> Result<(), Fail> {
+    assert_rows(&rt, FAULTS)
+}
+
+// Of sixteen posts of one block by two tasks one is taken, and each other is told its code.
+const POSTS_OF_ONE_BLOCK: &str = "\
+SCRIPT 2
+ECB 0
+TASK
+POST 0 1
+POST 0 2
+POST 0 3
+POST 0 4
+POST 0 5
+POST 0 6
+POST 0 7
+POST 0 8
+TASK
+POST 0 9
+POST 0 10
+POST 0 11
+POST 0 12
+POST 0 13
+POST 0 14
+POST 0 15
+POST 0 16
+END
+";
+
+#[test]
+fn one_of_sixteen_posts_is_taken(rt: HostRuntime) -> Result<(), Fail> {
+    let mut on = streams_over(rt.alloc(), POSTS_OF_ONE_BLOCK.as_bytes())?;
+    assert_eq!(rt; run(&rt, "script", &mut on)?, Status::Done);
+    let report = std::str::from_utf8(on.report.bytes())?;
+    let taken = if report.starts_with("0 1 POSTED\n") {
+        1
+    } else {
+        9
+    };
+    let told = format!(in rt.alloc(); " ALREADY {taken}\n")?;
+    assert_eq!(rt; report.matches(" POSTED\n").count(), 1);
+    assert_eq!(rt; report.matches(told.as_str()).count(), 15);
+    assert_legal(&rt, on.journal.bytes(), " = POSTED\n")
+}
