@@ -1,8 +1,180 @@
-//! Scripts that ask for what is not theirs, what is over, or more than there is, and some that are none. Rows are parted by a line
-//! `==`; each has a script, behind a line `--` what `replay` reports of the run's journal, and the answers, or else the note that
-//! tells the script's fault. They were worked out by hand.
+//! Scripts of each service; those that ask for what is not theirs, what is over, or more than there is; and some that are none. Rows
+//! are parted by a line `==`; each has a script, behind a line `--` what `replay` reports of the run's journal, and the answers, or else
+//! the note that tells the script's fault. They were worked out by hand.
 
 use super::*;
+
+// Waits, posts and exits; pauses, releases and transfers; latches, and the end of a task.
+const SERVICES: &str = "\
+SCRIPT 1
+ECB 0
+ECB 0
+ECB 0
+TASK
+POST 0 7
+POST 2 9
+WAIT 2 0 1 2
+TEST 1
+END
+--
+LEGAL 9 EVENTS
+0 1 POSTED
+0 2 POSTED
+0 3 WAITED C7 O C9
+0 4 WORD 0
+==
+SCRIPT 1
+ECB 0
+ECB 0
+ECB 0
+EXIT 0 1 2
+TASK
+POST 2 3
+EXTEND 0 1
+WAIT 1 0
+POST 0 8
+TEST 1
+TEST 2
+END
+--
+LEGAL 7 EVENTS
+0 1 POSTED
+0 2 DONE
+0 3 EXTENDED 0
+0 4 WOKE
+0 5 WORD 1073741832
+0 6 WORD 1073741827
+==
+SCRIPT 1
+ECB 0
+TASK
+TRYPOST 0 0 5
+TRYPOST 0 0 6
+END
+--
+LEGAL 1 EVENTS
+0 1 POSTED
+0 2 MOVED 1 1073741829
+==
+SCRIPT 1
+TASK
+ALLOC
+RELEASE 0.0 5
+RELEASE 0.0 6
+PAUSE 0.0
+END
+--
+LEGAL 4 EVENTS
+0 1 TOKEN 0.0
+0 2 EARLY
+0 3 ALREADY
+0 4 GIVEN 5 0.1
+==
+SCRIPT 1
+TASK
+ALLOC
+ALLOC
+ALLOC
+ALLOC
+ALLOC
+END
+--
+LEGAL 4 EVENTS
+0 1 TOKEN 0.0
+0 2 TOKEN 1.0
+0 3 TOKEN 2.0
+0 4 TOKEN 3.0
+0 5 NOELEMENT
+==
+SCRIPT 1
+TASK
+ALLOC
+TRYRELEASE 0.0 1 5
+TRYRELEASE 0.0 2 6
+PAUSE 0.0
+END
+--
+LEGAL 3 EVENTS
+0 1 TOKEN 0.0
+0 2 EARLY
+0 3 MOVED 2 33554437
+0 4 GIVEN 5 0.1
+==
+SCRIPT 1
+TASK
+ALLOC
+TRANSFER - 0.0 3
+TRANSFER - 0.0 4
+PAUSE 0.0
+END
+--
+LEGAL 4 EVENTS
+0 1 TOKEN 0.0
+0 2 DONE
+0 3 TARGET ALREADY
+0 4 GIVEN 3 0.1
+==
+SCRIPT 1
+TASK
+ALLOC
+DEALLOC 0.0
+TRANSFER 0.0 1.0 1
+END
+--
+LEGAL 2 EVENTS
+0 1 TOKEN 0.0
+0 2 DONE
+0 3 SPENT 1
+==
+SCRIPT 1
+TASK
+OBTAIN 0 1 S COND
+OBTAIN 0 2 X COND
+FREE 1 U
+END
+--
+LEGAL 3 EVENTS
+0 1 GRANTED
+0 2 NOTNOW 0
+0 3 RELEASED 0
+==
+SCRIPT 1
+ECB 0
+TASK
+OBTAIN 0 1 X COND
+OBTAIN 0 2 X ECB 0
+TEST 0
+FREE 1 C
+TEST 0
+CHECK 2
+FREE 1 C
+END
+--
+LEGAL 8 EVENTS
+0 1 GRANTED
+0 2 PENDING
+0 3 WORD 0
+0 4 RELEASED 1
+0 5 WORD 1073741824
+0 6 GRANTED
+0 7 GONE
+==
+SCRIPT 1
+TASK
+ALLOC
+OBTAIN 0 5 X COND
+EOT 5 - 0
+TESTP 0
+DEALLOC 0.0
+END
+--
+LEGAL 6 EVENTS
+0 1 TOKEN 0.0
+0 2 GRANTED
+0 3 PURGED 1 0
+0 4 STATE 1 FREE 0
+0 5 SPENT 1
+";
 
 // Calls on blocks and elements of others, and on blocks that are extended; and lists of a wait that are none.
 const OTHERS: &str = "\
@@ -309,6 +481,11 @@ fn assert_rows<X: Abort + AllocGlobal + Threads + Wait + Sync>(
         }
     }
     Ok(())
+}
+
+#[test]
+fn scripts_of_each_service(rt: HostRuntime) -> Result<(), Fail> {
+    assert_rows(&rt, SERVICES)
 }
 
 #[test]
