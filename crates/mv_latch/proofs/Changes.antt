@@ -1,9 +1,10 @@
 -- What one operation does to each list, and who stays granted.
-use Rattle.std.proofs.Common.{◌≡◌, ℕ, zero, suc, Bool, true, false, not, List, [], ◌∷◌, ◌++◌, length}
+use Rattle.std.proofs.Common.{◌≡◌, ◌<◌, ℕ, Bool, true, false, not, List, [], ◌∷◌, ◌++◌, length}
 use Rattle.std.proofs.Common.{map, filter, set, cond, ◌⊎◌, inl, inr, refl, sym, ap, ◌∙◌, arith}
 use Rattle.std.specs.List.{Contains}
 use Rattle.std.proofs.lemmas.Bool.{cases_eq, cases_lt, true≢false}
 use Rattle.std.proofs.lemmas.List.{get_or-set_same, get_or-set_other, set_past}
+use Rattle.std.proofs.Math.ListN.{get_or-map}
 use Rattle.std.proofs.lemmas.List.Elements.{All-contains, filter_passes}
 use Rattle.mv_latch.specs.declared.request.Request.{Request}
 use Rattle.mv_latch.specs.declared.operation.LatchOp.{LatchOp}
@@ -43,11 +44,20 @@ list_of-set : (lists : List (List Request)) (i j : ℕ) (qs : List Request)
     → ((j ≡ i) × (list_of (set lists i qs) j ≡ qs)) ⊎ (list_of (set lists i qs) j ≡ list_of lists j)
 list_of-set lists i j qs = grind (arith, get_or-set_same, get_or-set_other, set_past, cases_eq i j, cases_lt i (length lists))
 
-list_of-purged : (requestor : ℕ) (lists : List (List Request)) (j : ℕ)
-    → list_of (map (purged requestor) lists) j ≡ purged requestor (list_of lists j)
-list_of-purged requestor [] j = refl
-list_of-purged requestor (qs ∷ rest) zero = refl
-list_of-purged requestor (qs ∷ rest) (suc j) = list_of-purged requestor rest j
+-- the latch's own list
+pub list_replaced : (lists : List (List Request)) (latch : ℕ) (qs : List Request) → latch < length lists
+    → list_of (set lists latch qs) latch ≡ qs
+list_replaced lists latch qs lt = get_or-set_same lists latch qs [] lt
+
+-- and those of the other latches
+pub list_elsewhere : (lists : List (List Request)) (latch other : ℕ) (qs : List Request) → (other ≡ latch → ⊥)
+    → list_of (set lists latch qs) other ≡ list_of lists other
+list_elsewhere lists latch other qs apart = get_or-set_other lists latch other qs [] apart
+
+-- a purge goes over each list
+pub list_purged : (requestor : ℕ) (lists : List (List Request)) (latch : ℕ)
+    → list_of (map (purged requestor) lists) latch ≡ purged requestor (list_of lists latch)
+list_purged requestor lists latch = get_or-map (purged requestor) lists latch []
 
 replaced : (id : ℕ) (lists : List (List Request)) (i j : ℕ) (qs : List Request) → Changed id (list_of lists i) qs
     → Changed id (list_of lists j) (list_of (set lists i qs) j)
@@ -62,7 +72,7 @@ latch_changes caller id (Obtain latch requestor mode form) lists j =
 latch_changes caller id (Confirm latch old) lists j = same refl
 latch_changes caller id (Release latch old conditional) lists j =
     replaced id lists latch j _ (release_changes id caller old conditional (list_of lists latch))
-latch_changes caller id (Purge requestor) lists j = shrank (λ q. not (of_requestor requestor q)) (list_of-purged requestor lists j)
+latch_changes caller id (Purge requestor) lists j = shrank (λ q. not (of_requestor requestor q)) (list_purged requestor lists j)
 
 -- ---- a granted request stays granted while it is there
 -- who passed a filter meets its test

@@ -9,7 +9,7 @@ use Rattle.mv_latch.specs.declared.request.Request.{Request}
 use Rattle.mv_latch.specs.declared.operation.Wake.{Wake}
 use Rattle.mv_latch.specs.Request.{of_requestor, wake_of}
 use Rattle.mv_latch.specs.Latch.{purged, granted_by_purge, HasDistinctIds}
-use Rattle.mv_latch.specs.LatchSet.{total}
+use Rattle.mv_latch.specs.LatchSet.{request_count}
 use Rattle.mv_latch.specs.Queues.{items_of, capacities}
 use Rattle.mv_latch.proofs.Splits.{length_filter}
 use Rattle.mv_latch.proofs.Grants.{newly_fit}
@@ -44,7 +44,7 @@ distinct_at [] i a id = omega arith
 distinct_at (qs ∷ rest) zero a id = a.0 id
 distinct_at (qs ∷ rest) (suc i) a id = distinct_at rest i a.1 id
 
-pub total_at : (lists : List (List Request)) (i : ℕ) → length (get_or lists i []) ≤ total lists
+pub total_at : (lists : List (List Request)) (i : ℕ) → length (get_or lists i []) ≤ request_count lists
 total_at [] i = omega arith
 total_at (qs ∷ rest) zero = omega arith
 total_at (qs ∷ rest) (suc i) = omega (arith, total_at rest i)
@@ -88,7 +88,7 @@ turn_purged requestor old now next qs i lt w e f = rw (e, f) (purged_more reques
 
 -- no more are granted by a purge than there are
 pub granted_by_purge_fit : (requestor : ℕ) (lists : List (List Request))
-    → length (flat_map (granted_by_purge requestor) lists) ≤ total lists
+    → length (flat_map (granted_by_purge requestor) lists) ≤ request_count lists
 granted_by_purge_fit requestor [] = omega arith
 granted_by_purge_fit requestor (qs ∷ rest) =
     omega (

@@ -10,7 +10,7 @@ use Rattle.mv_latch.specs.declared.request.Request.{Request}
 use Rattle.mv_latch.specs.declared.operation.LatchReply.{LatchReply}
 use Rattle.mv_latch.specs.Request.{of_caller, of_requestor, has_id, is_own}
 use Rattle.mv_latch.specs.Latch.{granted, waiting, waiting_of, granted_by_purge, purged, HasDistinctIds, obtain_step, release_step, without}
-use Rattle.mv_latch.specs.LatchSet.{LatchLists, opened, list_of, count_in, total, IsNewId, IsSound, at_latch}
+use Rattle.mv_latch.specs.LatchSet.{LatchLists, opened, list_of, count_in, request_count, IsNewId, IsSound, at_latch}
 use Rattle.mv_latch.proofs.Splits.{count_split, count_filter, length_filter, granted_split}
 use Rattle.mv_latch.proofs.Grants.{newly_fit}
 use Rattle.mv_latch.proofs.Purges.{distinct_at}
@@ -33,7 +33,7 @@ count_purged t requestor (qs ∷ rest) = omega (arith, count_filter t (λ q. not
 
 -- ---- how many requests there are
 same_all : (p q : Request → Bool) → ((x : Request) → q x ≡ not (p x)) → (lists : List (List Request))
-    → count_in p lists + count_in q lists ≡ total lists
+    → count_in p lists + count_in q lists ≡ request_count lists
 same_all p q other [] = refl
 same_all p q other (qs ∷ rest) = omega (arith, length-filter_both p q other qs, same_all p q other rest)
 
@@ -94,18 +94,18 @@ below_free lists quota (suc n) k q lt free = elim (cases_eq k n) [
 other : (n k : ℕ) → nat_le n k ≡ not (nat_lt k n)
 other n k = grind (arith, nat_tests)
 
-total_below : (s : LatchLists) → IsSound s → count_in (below s.callers) s.lists ≡ total s.lists
-total_below s w =
+all_below : (s : LatchLists) → IsSound s → count_in (below s.callers) s.lists ≡ request_count s.lists
+all_below s w =
     omega (arith, same_all (below s.callers) (λ q. nat_le s.callers q.caller) (λ q. other s.callers q.caller) s.lists, w.known)
 
 -- the quotas bound how many requests there are
-pub total_fit : (s : LatchLists) → IsSound s → total s.lists ≤ s.callers * s.quota
-total_fit s w = omega (arith, total_below s w, below_fit s.lists s.quota s.callers w.quotas)
+pub total_fit : (s : LatchLists) → IsSound s → request_count s.lists ≤ s.callers * s.quota
+total_fit s w = omega (arith, all_below s w, below_fit s.lists s.quota s.callers w.quotas)
 
 -- where a caller has not used up its quota, there is room for one more
 pub total_free : (s : LatchLists) (caller : ℕ) → IsSound s → caller < s.callers → count_in (of_caller caller) s.lists < s.quota
-    → total s.lists < s.callers * s.quota
-total_free s caller w lt free = omega (arith, total_below s w, below_free s.lists s.quota s.callers caller w.quotas lt free)
+    → request_count s.lists < s.callers * s.quota
+total_free s caller w lt free = omega (arith, all_below s w, below_free s.lists s.quota s.callers caller w.quotas lt free)
 
 -- ---- what keeps a latch set sound
 pub sound_new : (latches callers quota posted : ℕ) → callers * quota < 2 ^ 32 → IsSound (opened latches callers quota posted)
@@ -219,8 +219,9 @@ waiting_fit requestor qs =
       length-filter_both t (λ q. not (t q)) (λ _. refl) qs,
     )
 
-pub purge_fit : (requestor : ℕ) (lists : List (List Request))
-    → length (flat_map (waiting_of requestor) lists) + length (flat_map (granted_by_purge requestor) lists) ≤ total lists
+-- a purge tells of no more requests than stand in the lists
+purge_fit : (requestor : ℕ) (lists : List (List Request))
+    → length (flat_map (waiting_of requestor) lists) + length (flat_map (granted_by_purge requestor) lists) ≤ request_count lists
 purge_fit requestor [] = omega arith
 purge_fit requestor (qs ∷ rest) =
     omega (
@@ -231,6 +232,16 @@ purge_fit requestor (qs ∷ rest) =
       length-append (granted_by_purge requestor qs) (flat_map (granted_by_purge requestor) rest),
     )
 
-pub count_total : (t : Request → Bool) (lists : List (List Request)) → count_in t lists ≤ total lists
+-- no more of them meet a test
+count_total : (t : Request → Bool) (lists : List (List Request)) → count_in t lists ≤ request_count lists
 count_total t [] = omega arith
 count_total t (qs ∷ rest) = omega (arith, length_filter t qs, count_total t rest)
+
+-- so 32 bits count any of them
+pub counts_fit : (t : Request → Bool) (s : LatchLists) → IsSound s → count_in t s.lists < 2 ^ 32
+counts_fit t s w = omega (arith, count_total t s.lists, total_fit s w, w.fits)
+
+-- the wakes of a purge are no more than the requests that the quotas allow
+pub purge_told : (requestor : ℕ) (s : LatchLists) → IsSound s
+    → length (flat_map (waiting_of requestor) s.lists) + length (flat_map (granted_by_purge requestor) s.lists) ≤ s.callers * s.quota
+purge_told requestor s w = omega (arith, purge_fit requestor s.lists, total_fit s w)

@@ -33,9 +33,9 @@ count_in test [] = 0
 count_in test (qs ∷ rest) = length (filter test qs) + count_in test rest
 
 -- how many requests stand in the lists
-abbrev pub total : List (List Request) → ℕ
-total [] = 0
-total (qs ∷ rest) = length qs + total rest
+abbrev pub request_count : List (List Request) → ℕ
+request_count [] = 0
+request_count (qs ∷ rest) = length qs + request_count rest
 
 -- no request in the lists has this number
 abbrev pub IsNewId : ℕ → List (List Request) → Type 0

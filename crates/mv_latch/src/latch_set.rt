@@ -1,19 +1,21 @@
 //! A latch set and its operations. Clauses cite `specs/LatchSet.antt` and `specs/Latch.antt`; what is kept between calls is
 //! `specs/Inside.antt`.
 
-ghost use Rattle.std.specs.Prelude.{◌≡◌, ◌<◌, ◌≤◌, ◌*◌, ◌+◌, ◌^◌, ◌↔◌, ◌++◌, [], map, IsTrue, IsSome, IfSome, OnSome, IfNone, IfOk, vec_len, vec_capacity, length};
+ghost use Rattle.std.specs.Prelude.{◌≡◌, ◌<◌, ◌≤◌, ◌*◌, ◌+◌, ◌^◌, ◌↔◌, ◌++◌, [], map, length, vec_len, vec_capacity};
+ghost use Rattle.std.specs.Prelude.{IsTrue, IsSome, IfSome, OnSome, IfNone, IfOk};
 ghost use Rattle.std.specs.List.{flat_map};
 ghost use Rattle.mv_latch.specs.Request.{of_caller, of_requestor};
 ghost use Rattle.mv_latch.specs.Latch.{obtain_step, confirm_reply, release_step, purged, granted_by_purge};
 ghost use Rattle.mv_latch.specs.Selection.{selects};
-ghost use Rattle.mv_latch.specs.LatchSet.{opened, at_latch, list_of, count_in, IsNewId, is_within_quotas, latch_admitted, latch_step, wakes as wakes_of};
+ghost use Rattle.mv_latch.specs.LatchSet.{opened, at_latch, list_of, count_in, IsNewId, is_within_quotas, latch_admitted};
+ghost use Rattle.mv_latch.specs.LatchSet.{latch_step, wakes as wakes_of};
 
 use crate::lists::{count_in_all, remove_from_all, wake_all_waiting};
-use crate::memory::NoMemory;
 use crate::operation::{LatchOp, LatchReply, Wake};
 use crate::queue::{confirm, obtain, release};
 use crate::request::{LatchForm, Request};
 use crate::selection::Selection;
+use mv_io::NoMemory;
 use std::alloc::Global;
 use std::marker::Model;
 
@@ -93,7 +95,9 @@ impl LatchSet {
         requires caller { request.caller < self.old.callers }
         requires quota { count_in (of_caller request.caller) self.old.lists < self.old.quota }
         requires new_id { IsNewId request.id self.old.lists }
-        ensures lists { self.new ≡ record self.old { lists = (at_latch self.old.lists latch (obtain_step request (list_of self.old.lists latch))).0 } }
+        ensures lists { self.new ≡ record self.old {
+          lists = (at_latch self.old.lists latch (obtain_step request (list_of self.old.lists latch))).0;
+        } }
         ensures reply { result ≡ (obtain_step request (list_of self.old.lists latch)).1 }
     {
         let list = &mut self.lists[latch as usize];
@@ -111,7 +115,9 @@ impl LatchSet {
     ) -> LatchReply
         requires latch { latch < length self.old.lists }
         requires room { vec_len wakes.old + self.old.callers * self.old.quota ≤ vec_capacity wakes.old }
-        ensures lists { self.new ≡ record self.old { lists = (at_latch self.old.lists latch (release_step caller id conditional (list_of self.old.lists latch))).0 } }
+        ensures lists { self.new ≡ record self.old {
+          lists = (at_latch self.old.lists latch (release_step caller id conditional (list_of self.old.lists latch))).0;
+        } }
         ensures reply { result ≡ (release_step caller id conditional (list_of self.old.lists latch)).1 }
         ensures wakes { wakes.new.items ≡ wakes.old.items ++ wakes_of caller (LatchOp.Release latch id conditional) self.old.lists }
         ensures capacity { vec_capacity wakes.new ≡ vec_capacity wakes.old }
@@ -124,7 +130,8 @@ impl LatchSet {
     fn purge(&mut self, requestor: u64, wakes: &mut Vec<Wake>) -> LatchReply
         requires { vec_len wakes.old + self.old.callers * self.old.quota ≤ vec_capacity wakes.old }
         ensures lists { self.new ≡ record self.old { lists = map (purged requestor) self.old.lists } }
-        ensures reply { result ≡ LatchReply.Purged (count_in (of_requestor requestor) self.old.lists) (length (flat_map (granted_by_purge requestor) self.old.lists)) }
+        ensures reply { result ≡ LatchReply.Purged (count_in (of_requestor requestor) self.old.lists)
+            (length (flat_map (granted_by_purge requestor) self.old.lists)) }
         ensures wakes { wakes.new.items ≡ wakes.old.items ++ wakes_of 0 (LatchOp.Purge requestor) self.old.lists }
         ensures capacity { vec_capacity wakes.new ≡ vec_capacity wakes.old }
     {

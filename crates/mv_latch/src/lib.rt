@@ -6,13 +6,11 @@
 mod latch_set;
 pub mod laws;
 mod lists;
-mod memory;
 mod operation;
 mod queue;
 mod request;
 mod selection;
 
 pub use latch_set::LatchSet;
-pub use memory::NoMemory;
 pub use operation::{LatchOp, LatchReply, Wake};
 pub use request::{LatchForm, Mode, Request};

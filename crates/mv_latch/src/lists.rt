@@ -4,7 +4,7 @@ ghost use Rattle.std.specs.Prelude.{◌≡◌, ◌+◌, ◌<◌, ◌≤◌, ◌^
 ghost use Rattle.std.specs.List.{flat_map, AllByRecursion};
 ghost use Rattle.mv_latch.specs.Request.{wake_of};
 ghost use Rattle.mv_latch.specs.Latch.{purged, waiting_of, granted_by_purge, HasDistinctIds};
-ghost use Rattle.mv_latch.specs.LatchSet.{count_in, total};
+ghost use Rattle.mv_latch.specs.LatchSet.{count_in, request_count};
 ghost use Rattle.mv_latch.specs.Queues.{items_of, capacities};
 ghost use Rattle.mv_latch.specs.Selection.{selects};
 
@@ -44,7 +44,7 @@ pub(crate) fn remove_from_all(
     wakes: &mut Vec<Wake>,
 ) -> u32
     requires distinct { AllByRecursion HasDistinctIds (items_of lists.old) }
-    requires fits { total (items_of lists.old) < 2 ^ 32 }
+    requires fits { request_count (items_of lists.old) < 2 ^ 32 }
     requires room { vec_len wakes.old + length (flat_map (granted_by_purge requestor) (items_of lists.old)) ≤ vec_capacity wakes.old }
     ensures items { items_of lists.new ≡ map (purged requestor) (items_of lists.old) }
     ensures count { result ≡ length (flat_map (granted_by_purge requestor) (items_of lists.old)) }

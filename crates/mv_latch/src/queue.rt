@@ -3,7 +3,9 @@
 ghost use Rattle.std.specs.Prelude.{◌≡◌, ◌+◌, ◌<◌, ◌≤◌, ◌^◌, ◌++◌, not, length, map, filter, take, drop, vec_len, vec_capacity};
 ghost use Rattle.std.specs.List.{list_all, list_any};
 ghost use Rattle.mv_latch.specs.Request.{shared_request, is_own, of_requestor, wake_of};
-ghost use Rattle.mv_latch.specs.Latch.{shared_front, granted as granted_of, waiting as waiting_in, grants, first_id, blocker as blocker_of, obtain_step, confirm_reply, release_step, left_without, newly_granted, granted_wakes, waiting_of, HasDistinctIds};
+ghost use Rattle.mv_latch.specs.Latch.{shared_front, granted as granted_of, waiting as waiting_in, grants, first_id};
+ghost use Rattle.mv_latch.specs.Latch.{blocker as blocker_of, obtain_step, confirm_reply, release_step, left_without};
+ghost use Rattle.mv_latch.specs.Latch.{newly_granted, granted_wakes, waiting_of, HasDistinctIds};
 ghost use Rattle.mv_latch.specs.Selection.{selects};
 
 use crate::operation::{LatchReply, Wake};
@@ -188,7 +190,8 @@ pub(crate) fn wake_waiting(list: &[Request], requestor: u64, wakes: &mut Vec<Wak
 pub(crate) fn remove(list: &mut Vec<Request>, selection: Selection, wakes: &mut Vec<Wake>) -> u32
     requires distinct { HasDistinctIds list.old.items }
     requires fits { vec_len list.old < 2 ^ 32 }
-    requires room { vec_len wakes.old + length (newly_granted list.old.items (left_without (selects selection) list.old.items)) ≤ vec_capacity wakes.old }
+    requires room { vec_len wakes.old + length (newly_granted list.old.items (left_without (selects selection) list.old.items))
+        ≤ vec_capacity wakes.old }
     ensures items { list.new.items ≡ left_without (selects selection) list.old.items }
     ensures count { result ≡ length (newly_granted list.old.items list.new.items) }
     ensures wakes { wakes.new.items ≡ wakes.old.items ++ granted_wakes list.old.items list.new.items }

@@ -4,32 +4,23 @@ use Rattle.std.specs.List.{AllByRecursion, flat_map}
 use Rattle.std.proofs.lemmas.List.{length-map}
 use Rattle.mv_latch.specs.Request.{of_requestor}
 use Rattle.mv_latch.specs.Latch.{purged, waiting_of, granted_by_purge, HasDistinctIds}
-use Rattle.mv_latch.specs.LatchSet.{LatchLists, count_in, total}
+use Rattle.mv_latch.specs.LatchSet.{LatchLists, count_in, request_count}
 use Rattle.mv_latch.specs.Queues.{items_of, capacities}
 use Rattle.mv_latch.specs.Inside.{view_of}
-use Rattle.mv_latch.proofs.Quotas.{count_total, total_fit, purge_fit, all_distinct, sound_purge}
+use Rattle.mv_latch.proofs.Quotas.{counts_fit, total_fit, purge_told, all_distinct, sound_purge}
 use Rattle.mv_latch.proofs.Ready.{ready_all}
 use Rattle.mv_latch.proofs.latch_set.LatchSet.purge.Goals as goal
 
 pub count_in_all-removed-requires : goal.count_in_all-removed-requires
 count_in_all-removed-requires c =
     let t = of_requestor c.args.requestor in
-    let w = c.self.invariant.sound in
-    omega (
-      arith,
-      count_total t (items_of c.self.inside.lists.items),
-      total_fit (view_of c.self.inside) w,
-      w.fits,
-      ap (λ z. count_in t (items_of z)) c.deref.ensures.value,
-    )
+    omega (arith, counts_fit t (view_of c.self.inside) c.self.invariant.sound, ap (λ z. count_in t (items_of z)) c.deref.ensures.value)
 
 pub wake_all_waiting-requires : goal.wake_all_waiting-requires
 wake_all_waiting-requires c =
-    let w = c.self.invariant.sound in
     omega (
       arith,
-      purge_fit c.args.requestor (items_of c.self.inside.lists.items),
-      total_fit (view_of c.self.inside) w,
+      purge_told c.args.requestor (view_of c.self.inside) c.self.invariant.sound,
       c.requires,
       ap (λ (z : LatchLists). z.callers * z.quota) c.self.view_is,
       ap (λ z. length (flat_map (waiting_of c.args.requestor) (items_of z))) c.deref-2.ensures.value,
@@ -43,16 +34,14 @@ remove_from_all-granted-requires-clause-distinct c =
 pub remove_from_all-granted-requires-clause-fits : goal.remove_from_all-granted-requires-clause-fits
 remove_from_all-granted-requires-clause-fits c =
     let w = c.self.invariant.sound in
-    omega (arith, total_fit (view_of c.self.inside) w, w.fits, ap (λ z. total (items_of z)) c.deref_mut.ensures.value)
+    omega (arith, total_fit (view_of c.self.inside) w, w.fits, ap (λ z. request_count (items_of z)) c.deref_mut.ensures.value)
 
 pub remove_from_all-granted-requires-clause-room : goal.remove_from_all-granted-requires-clause-room
 remove_from_all-granted-requires-clause-room c =
-    let w = c.self.invariant.sound in
     let told = simp (length-append, length-map) at (ap length c.wake_all_waiting.ensures.items) in
     omega (
       arith,
-      purge_fit c.args.requestor (items_of c.self.inside.lists.items),
-      total_fit (view_of c.self.inside) w,
+      purge_told c.args.requestor (view_of c.self.inside) c.self.invariant.sound,
       c.requires,
       c.wake_all_waiting.ensures.capacity,
       ap (λ (z : LatchLists). z.callers * z.quota) c.self.view_is,
@@ -63,13 +52,10 @@ remove_from_all-granted-requires-clause-room c =
 pub overflow_cast-result : goal.overflow_cast-result
 overflow_cast-result c =
     let t = of_requestor c.args.requestor in
-    let w = c.self.invariant.sound in
     omega (
       arith,
       c.count_in_all-removed.ensures,
-      count_total t (items_of c.self.inside.lists.items),
-      total_fit (view_of c.self.inside) w,
-      w.fits,
+      counts_fit t (view_of c.self.inside) c.self.invariant.sound,
       ap (λ z. count_in t (items_of z)) c.deref.ensures.value,
     )
 
