@@ -1,8 +1,12 @@
 -- The states of a pause element, one for each phase.
-use Rattle.std.specs.Prelude.{ℕ, Bool, true, false, refl}
+use Rattle.std.specs.Prelude.{ℕ, ◌^◌, Bool, true, false, refl}
 use Rattle.mv_element.specs.declared.element.ElementState.{ElementState}
 use Rattle.mv_element.specs.declared.element.Phase.{Phase}
 use Rattle.mv_element.specs.declared.element.Phase.TheVariants.{Free, Reset, Prereleased, Paused, Released}
+
+-- generations are below this, in 18 bits: a run ends no more of them
+abbrev pub generation_limit : ℕ
+generation_limit = 2 ^ 18
 
 -- not allocated
 abbrev pub free : ℕ → ElementState

@@ -3,6 +3,9 @@
 ghost use Rattle.std.specs.Prelude.{◌≡◌};
 ghost use Rattle.mv_element.specs.Code.{IsKeptCode};
 
+/// Generations, of 18 bits, are below this.
+pub const GENERATION_LIMIT: u32 = 1 << 18;
+
 /// What names one pause: an element, and which of its pauses is meant. It serves one pause, as a pause element token does; the
 /// code that ends the pause comes with the token of the next. Whoever has it may release the pause.
 #[derive(Clone, Copy, Debug, PartialEq, Eq)]
@@ -64,7 +67,7 @@ impl ElementState {
         }
     }
 
-    /// Released with this code, below 2^24 in a run, before its pause.
+    /// Released with this code, below `RELEASE_LIMIT` in a run, before its pause.
     pub fn prereleased(generation: u32, code: u32) -> ElementState
         ensures { result ≡ prereleased generation code }
     {

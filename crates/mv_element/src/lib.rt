@@ -8,7 +8,7 @@ mod laws;
 mod operation;
 mod table;
 
-pub use element::{ElementState, Phase, Token};
+pub use element::{ElementState, GENERATION_LIMIT, Phase, Token};
 pub use laws::generation_rises_as_it_ends;
 pub use operation::{ElementOp, ElementReply, RELEASE_LIMIT};
 pub use table::element_apply;

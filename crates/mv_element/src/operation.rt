@@ -8,7 +8,7 @@ use crate::element::ElementState;
 pub const RELEASE_LIMIT: u32 = 1 << 24;
 
 /// What is done with a pause element. The first number is a generation, which may be any; the second is a release
-/// code, below 2^24. The services are those of *z/OS MVS Programming: Authorized Assembler Services Reference*; generations in
+/// code, below `RELEASE_LIMIT`. The services are those of *z/OS MVS Programming: Authorized Assembler Services Reference*; generations in
 /// place of tokens, and Resume, are this project's own.
 #[derive(Clone, Copy, Debug, PartialEq, Eq)]
 pub enum ElementOp {

@@ -1,13 +1,15 @@
 //! The operations on a pause element: `specs/Table.antt`.
 
-ghost use Rattle.std.specs.Prelude.{◌≡◌, ◌<◌, ◌^◌};
-ghost use Rattle.mv_element.specs.Table.{IsElementOp, element_step, is_current as is_current_at, open_step, pause_step, resume_step, release_step, close_step, given_step};
+ghost use Rattle.std.specs.Prelude.{◌≡◌, ◌<◌};
+ghost use Rattle.mv_element.specs.Element.{generation_limit};
+ghost use Rattle.mv_element.specs.Table.{IsElementOp, element_step, is_current as is_current_at};
+ghost use Rattle.mv_element.specs.Table.{open_step, pause_step, resume_step, release_step, close_step, given_step};
 
 use crate::element::{ElementState, Phase};
 use crate::operation::{ElementOp, ElementReply};
 
 /// One operation on a pause element: the new state and the reply. It never waits: after Parked the task asks by Resume whether
-/// it was released. Within a run no generation passes 262,143 = 2^18 - 1. Pause, release, allocate and deallocate are those of
+/// it was released. Within a run each generation is below `GENERATION_LIMIT`. Pause, release, allocate and deallocate are those of
 /// *z/OS MVS Programming: Authorized Assembler Services Guide*; that a release before its pause is kept for it, and what an
 /// operation does to an element in another phase, are this project's own.
 ///
@@ -19,7 +21,7 @@ use crate::operation::{ElementOp, ElementReply};
 /// // reply is Woke; a Resume(0) is now Given { code: 12, next: 1 }
 /// ```
 pub fn element_apply(op: ElementOp, state: ElementState) -> (ElementState, ElementReply)
-    requires generation { state.generation < 2 ^ 18 }
+    requires generation { state.generation < generation_limit }
     requires code { IsElementOp op }
     ensures { result ≡ element_step op state }
 {
@@ -57,7 +59,7 @@ fn open(state: ElementState) -> (ElementState, ElementReply)
 }
 
 fn pause(state: ElementState) -> (ElementState, ElementReply)
-    requires { state.generation < 2 ^ 18 }
+    requires { state.generation < generation_limit }
     ensures { result ≡ pause_step state.phase state }
 {
     match state.phase {
@@ -68,7 +70,7 @@ fn pause(state: ElementState) -> (ElementState, ElementReply)
 }
 
 fn resume(state: ElementState) -> (ElementState, ElementReply)
-    requires { state.generation < 2 ^ 18 }
+    requires { state.generation < generation_limit }
     ensures { result ≡ resume_step state.phase state }
 {
     match state.phase {
@@ -93,7 +95,7 @@ fn release(state: ElementState, code: u32) -> (ElementState, ElementReply)
 }
 
 fn close(state: ElementState) -> (ElementState, ElementReply)
-    requires { state.generation < 2 ^ 18 }
+    requires { state.generation < generation_limit }
     ensures { result ≡ close_step state.phase state }
 {
     match state.phase {
@@ -107,7 +109,7 @@ fn close(state: ElementState) -> (ElementState, ElementReply)
 
 // The kept code is handed over, and the next generation begins.
 fn give(state: ElementState) -> (ElementState, ElementReply)
-    requires { state.generation < 2 ^ 18 }
+    requires { state.generation < generation_limit }
     ensures { result ≡ given_step state }
 {
     let code = state.code;

@@ -1,6 +1,6 @@
 //! Each cell of the table once, and a worked row.
 
-ghost use Rattle.std.specs.Prelude.{◌<◌, ◌^◌, IsTrue};
+ghost use Rattle.std.specs.Prelude.{IsTrue};
 ghost use Rattle.mv_element.specs.Table.{IsElementOp};
 
 use super::*;
@@ -67,7 +67,7 @@ fn each_cell_of_the_table(rt: HostRuntime) {
     ];
     for (op, before, after, reply) in cells {
         assert!(rt; is_valid(op));
-        assert!(rt; before.generation < 1 << 18);
+        assert!(rt; before.generation < GENERATION_LIMIT);
         let (new, answer) = element_apply(op, before);
         assert_eq!(rt; new, after, "{op:?} at {before:?}");
         assert_eq!(rt; answer, reply, "{op:?} at {before:?}");

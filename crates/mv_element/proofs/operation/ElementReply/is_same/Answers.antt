@@ -1,6 +1,6 @@
 -- What `==` says, reply by reply.
-use Rattle.std.proofs.Common.{◌≡◌, Bool, true, false, eqb, ◌&&◌, refl, sym, ap, ◌∙◌}
-use Rattle.std.proofs.lemmas.Bool.{true≢false, eqb-true, eq-eqb}
+use Rattle.std.proofs.Common.{◌≡◌, true, eqb, ◌&&◌, refl, sym, ap, ◌∙◌}
+use Rattle.std.proofs.lemmas.Bool.{true≢false, eqb-true, eq-eqb, and_parts, and_from}
 use denote.Enum.Bare.{sameb, same_true, true_same}
 use Rattle.mv_element.specs.contracts.element.Phase.{the_type}
 use Rattle.mv_element.specs.declared.element.ElementState.{ElementState}
@@ -10,22 +10,21 @@ use Rattle.mv_element.specs.declared.operation.ElementReply.TheVariants.{NotYet,
 use Rattle.mv_element.proofs.States.{same_state}
 use Rattle.mv_element.proofs.operation.ElementReply.is_same.Goals as goal
 
-both : (a b : Bool) → true ≡ (a && b) → (a ≡ true) × (b ≡ true)
-both true b e = (refl, sym e)
-both false b e = absurd (true≢false e)
-
+-- states that are told to be the same are so
 one_state : (x y : ElementState) → true ≡ (eqb x.generation y.generation && (sameb the_type x.phase y.phase && eqb x.code y.code)) → x ≡ y
 one_state x y e =
-    let first : (eqb x.generation y.generation ≡ true) × ((sameb the_type x.phase y.phase && eqb x.code y.code) ≡ true) = both _ _ e in
-    let rest : (sameb the_type x.phase y.phase ≡ true) × (eqb x.code y.code ≡ true) = both _ _ (sym first.1) in
+    let first : (eqb x.generation y.generation ≡ true) × ((sameb the_type x.phase y.phase && eqb x.code y.code) ≡ true) =
+    and_parts _ _ (sym e) in
+    let rest : (sameb the_type x.phase y.phase ≡ true) × (eqb x.code y.code ≡ true) = and_parts _ _ first.1 in
     same_state x y (eqb-true x.generation y.generation first.0) (same_true the_type tt x.phase y.phase rest.0)
     (eqb-true x.code y.code rest.1)
 
+-- replies that are told to be the same are so
 from_eq : (c : goal.After-eq) (a b : ElementReply) → c.args.self ≡ a → c.args.other ≡ b → c.eq.result ≡ true → a ≡ b
 from_eq c (Opened x) (Opened y) ea eb t = ap (λ z. Opened z) (eqb-true x y (sym (rw (ea, eb, t) at c.eq.ensures)))
 from_eq c (Spent x) (Spent y) ea eb t = ap (λ z. Spent z) (eqb-true x y (sym (rw (ea, eb, t) at c.eq.ensures)))
 from_eq c (Given x m) (Given y n) ea eb t =
-    let k : (eqb x y ≡ true) × (eqb m n ≡ true) = both _ _ (rw (ea, eb, t) at c.eq.ensures) in
+    let k : (eqb x y ≡ true) × (eqb m n ≡ true) = and_parts _ _ (sym (rw (ea, eb, t) at c.eq.ensures)) in
     ap (λ z. Given z m) (eqb-true x y k.0) ∙ ap (λ z. Given y z) (eqb-true m n k.1)
 from_eq c (State x) (State y) ea eb t = ap (λ z. State z) (one_state x y (rw (ea, eb, t) at c.eq.ensures))
 from_eq c InUse InUse ea eb t = refl
@@ -38,17 +37,15 @@ from_eq c Already Already ea eb t = refl
 from_eq c Closed Closed ea eb t = refl
 from_eq c a b ea eb t = absurd (true≢false (rw (ea, eb, t) at c.eq.ensures))
 
-all_true : (a b : Bool) → a ≡ true → b ≡ true → (a && b) ≡ true
-all_true a b p q = rw (p, q) refl
-
+-- and each is told to be the same as itself
 to_eq : (c : goal.After-eq) (a : ElementReply) → c.args.self ≡ a → c.args.other ≡ a → c.eq.result ≡ true
 to_eq c (Opened x) ea eb = rw (ea, eb) at c.eq.ensures ∙ eq-eqb x x refl
 to_eq c (Spent x) ea eb = rw (ea, eb) at c.eq.ensures ∙ eq-eqb x x refl
-to_eq c (Given x m) ea eb = rw (ea, eb) at c.eq.ensures ∙ all_true _ _ (eq-eqb x x refl) (eq-eqb m m refl)
+to_eq c (Given x m) ea eb = rw (ea, eb) at c.eq.ensures ∙ and_from _ _ (eq-eqb x x refl) (eq-eqb m m refl)
 to_eq c (State x) ea eb =
     rw (ea, eb) at c.eq.ensures
-    ∙ all_true _ _ (eq-eqb x.generation x.generation refl)
-    (all_true _ _ (true_same the_type x.phase x.phase refl) (eq-eqb x.code x.code refl))
+    ∙ and_from _ _ (eq-eqb x.generation x.generation refl)
+    (and_from _ _ (true_same the_type x.phase x.phase refl) (eq-eqb x.code x.code refl))
 to_eq c a ea eb = rw (ea, eb) at c.eq.ensures
 
 pub returns : goal.returns
