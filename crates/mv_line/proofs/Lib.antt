@@ -8,3 +8,5 @@ pub mod Fields
 pub mod Parts
 -- wide_number_within
 pub mod Numbers
+-- texts whose faults are listed by line, in the crates above
+pub mod Faults

@@ -3,3 +3,4 @@ pub mod Line
 pub mod Field
 pub mod Part
 pub mod Number
+pub mod Fault
