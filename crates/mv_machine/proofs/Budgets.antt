@@ -1,5 +1,6 @@
 -- Places and generations of legal lists stay within their limits.
 use Rattle.std.proofs.Common.{◌≡◌, ℕ, ◌≤◌, List, length, subst, arith}
+use Rattle.mv_machine.specs.Limits.{events_limit, highest_generation}
 use Rattle.mv_machine.specs.declared.entry.Entry.{Entry}
 use Rattle.mv_machine.specs.declared.entry.Object.{Object}
 use Rattle.mv_machine.specs.declared.entry.Object.TheVariants.{Ecb, Element, Volume, Latches}
@@ -17,7 +18,7 @@ at_opening c (Element n) = omega arith
 at_opening c (Volume n) = omega arith
 at_opening c Latches = omega arith
 
-pub places_fit : (c : Setup) (es : List Entry) (o : Object) → Legal c es → length es ≤ 524287 → place_of (after c es) o ≤ 524287
+pub places_fit : (c : Setup) (es : List Entry) (o : Object) → Legal c es → length es ≤ events_limit → place_of (after c es) o ≤ events_limit
 places_fit c es o l le = omega (arith, place_bounded c (opening c) es o l, at_opening c o)
 
 pub place_is_count : (c : Setup) (es : List Entry) (o : Object) → Legal c es → place_of (after c es) o ≡ length («at» o es)
@@ -26,9 +27,9 @@ place_is_count c es o l = omega (arith, place-after c (opening c) es o l, at_ope
 pub places_count : (c : Setup) (es : List Entry) (o : Object) → Legal c es → CountsFrom 0 («at» o es)
 places_count c es o l = subst (λ p. CountsFrom p («at» o es)) (at_opening c o) (at_counts c (opening c) o es l)
 
-pub no_high_generation : (c : Setup) (es : List Entry) (n : ℕ) → Legal c es → length es ≤ 524287
-    → ((after c es).element n).state.generation ≤ 262143
+pub no_high_generation : (c : Setup) (es : List Entry) (n : ℕ) → Legal c es → length es ≤ events_limit
+    → ((after c es).element n).state.generation ≤ highest_generation
 no_high_generation c es n l le =
     let fits : FitsItsPlace ((after c es).element n) = generation_fits c es n l in
-    let place : ((after c es).element n).place ≤ 524287 = places_fit c es (Element n) l le in
+    let place : ((after c es).element n).place ≤ events_limit = places_fit c es (Element n) l le in
     omega arith

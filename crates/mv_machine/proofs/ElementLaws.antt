@@ -5,14 +5,14 @@ use Rattle.std.proofs.lemmas.Bool.{cases_order}
 use Rattle.std.proofs.lemmas.List.Elements.{filter_map-append}
 use Rattle.std.specs.List.{AllByRecursion}
 use Rattle.mv_element.specs.declared.operation.ElementOp.{ElementOp}
-use Rattle.mv_element.specs.declared.operation.ElementReply.{ElementReply}
 use Rattle.mv_element.specs.declared.element.ElementState.{ElementState}
 use Rattle.mv_element.specs.declared.element.Phase.{Phase}
 use Rattle.mv_element.specs.declared.element.Phase.TheVariants.{Free, Reset, Prereleased, Paused, Released}
 use Rattle.mv_element.specs.Element.{free}
 use Rattle.mv_element.specs.Table.{element_step}
 use Rattle.mv_machine.specs.System.{Cell}
-use Rattle.mv_machine.proofs.OneObject.{Table, next_cell, cell_after, RunFrom, RunFrom-front, RunFrom-rest, along}
+use Rattle.mv_machine.proofs.Subjects.{element_table}
+use Rattle.mv_machine.proofs.OneObject.{next_cell, cell_after, RunFrom, RunFrom-front, RunFrom-rest, along}
 use Rattle.mv_machine.specs.Elements.{ElementEvent, given_code, accepted_code, releases, givens, ends_by, IsSpentUpTo, IsOrderlyElement}
 
 -- an event answers what the table says at this state
@@ -30,9 +30,6 @@ no_accepted g s v e lt = grind arith
 
 pub answers_spent : (g : ℕ) (s : ElementState) (v : ElementEvent) → Answers s v → g < s.generation → IsSpentUpTo g v
 answers_spent g s v e lt = grind arith
-
-abbrev pub element_table : Table ElementOp ElementReply ElementState
-element_table k p op s = element_step op s
 
 -- once its generation has passed g, nothing is released or given under g, and what carries g is answered Spent
 pub record Passed (g : ℕ) (vs : List ElementEvent) : Type 0 where

@@ -67,6 +67,9 @@ place-after c s (e ∷ es) q l =
 pub with_at-same : {A : Type 0} (f : ℕ → A) (n : ℕ) (a : A) (k : ℕ) → k ≡ n → with_at f n a k ≡ a
 with_at-same f n a k e = rw (eq-eqb k n e)
 
+pub with_at-own : {A : Type 0} (f : ℕ → A) (n : ℕ) (a : A) → with_at f n a n ≡ a
+with_at-own f n a = with_at-same f n a n refl
+
 pub with_at-other : {A : Type 0} (f : ℕ → A) (n : ℕ) (a : A) (k : ℕ) → (k ≡ n → ⊥) → with_at f n a k ≡ f k
 with_at-other f n a k e = rw (ne_eqb k n e)
 

@@ -5,7 +5,7 @@ use Rattle.std.proofs.lemmas.List.{take_more, drop_more, drop_all, set_split}
 use mathlib.Core.Logic.{dite}
 use native.Mathlib.Decide.{ℕ_discrete}
 use Rattle.mv_machine.specs.declared.entry.Entry.{Entry}
-use Rattle.mv_machine.specs.Merge.{Places, Pick, risen, behind, pick, followed, merge_from, total}
+use Rattle.mv_machine.specs.Merge.{Places, Pick, risen, behind, pick, followed, merge_from, entry_count}
 use Rattle.mv_machine.specs.Room.{lefts}
 
 -- ---- what is left of the logs
@@ -146,29 +146,29 @@ behind_some l (Some t) e rest h =
     (t.1, ap (λ (x : Entry). Some (x, t.1)) first, ap (λ (z : Entry × List (List Entry)). z.1) (sym both))
 
 pub pick_takes : (p : Places) (ls : List (List Entry)) (e : Entry) (rest : List (List Entry)) → pick p ls ≡ Some (e, rest)
-    → total ls ≡ suc (total rest)
+    → entry_count ls ≡ suc (entry_count rest)
 pick_takes p [] e rest h = cc
 pick_takes p ([] ∷ ls) e rest h =
     let t = behind_some [] (pick p ls) e rest h in
     let fewer = pick_takes p ls e t.0 t.1 in
-    let is = ap total t.2 in
+    let is = ap entry_count t.2 in
     omega arith
 pick_takes p ((x ∷ xs) ∷ ls) e rest h = dite (ℕ_discrete x.place (p x.object))
     (λ m. let some : Some (x, xs ∷ ls) ≡ Some (e, rest) = (rw (eq-eqb x.place (p x.object) m) at h) in
     let both : ◌≡◌ {A = Entry × List (List Entry)} (x, xs ∷ ls) (e, rest) = cc in
-    let is : total (xs ∷ ls) ≡ total rest = ap (λ (z : Entry × List (List Entry)). total z.1) both in
+    let is : entry_count (xs ∷ ls) ≡ entry_count rest = ap (λ (z : Entry × List (List Entry)). entry_count z.1) both in
     omega arith)
     (λ m. let t = behind_some (x ∷ xs) (pick p ls) e rest (rw (ne_eqb x.place (p x.object) m) at h) in
     let fewer = pick_takes p ls e t.0 t.1 in
-    let is = ap total t.2 in
+    let is = ap entry_count t.2 in
     omega arith)
 
 -- so the merge of the logs is that entry before the merge of what it leaves
 pub gives_one : (p : Places) (ls : List (List Entry)) (e : Entry) (rest : List (List Entry)) → pick p ls ≡ Some (e, rest)
-    → merge_from (total ls) p ls ≡ e ∷ merge_from (total rest) (risen p e.object) rest
+    → merge_from (entry_count ls) p ls ≡ e ∷ merge_from (entry_count rest) (risen p e.object) rest
 gives_one p ls e rest h =
     ap (λ n. merge_from n p ls) (pick_takes p ls e rest h)
-    ∙ ap (followed (λ x others. merge_from (total rest) (risen p x.object) others)) h
+    ∙ ap (followed (λ x others. merge_from (entry_count rest) (risen p x.object) others)) h
 
 pub gives_none : (n : ℕ) (p : Places) (ls : List (List Entry)) → pick p ls ≡ None → merge_from n p ls ≡ []
 gives_none zero p ls e = refl
@@ -176,9 +176,10 @@ gives_none (suc n) p ls e = ap (followed (λ x others. merge_from n (risen p x.o
 
 -- one pick: what is merged and what is left stay the whole
 pub pick_taken : (p q : Places) (ls rest : List (List Entry)) (e : Entry) (journal all : List Entry) → pick p ls ≡ Some (e, rest)
-    → q ≡ risen p e.object → journal ++ merge_from (total ls) p ls ≡ all → (journal ++ e ∷ []) ++ merge_from (total rest) q rest ≡ all
+    → q ≡ risen p e.object → journal ++ merge_from (entry_count ls) p ls ≡ all
+    → (journal ++ e ∷ []) ++ merge_from (entry_count rest) q rest ≡ all
 pick_taken p q ls rest e journal all picks rises h =
-    append_assoc journal (e ∷ []) (merge_from (total rest) q rest)
-    ∙ ap (λ z. journal ++ e ∷ merge_from (total rest) z rest) rises
+    append_assoc journal (e ∷ []) (merge_from (entry_count rest) q rest)
+    ∙ ap (λ z. journal ++ e ∷ merge_from (entry_count rest) z rest) rises
     ∙ ap (λ z. journal ++ z) (sym (gives_one p ls e rest picks))
     ∙ h

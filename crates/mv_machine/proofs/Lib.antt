@@ -28,8 +28,10 @@ pub mod Picks
 pub mod Lefts
 pub mod Merged
 pub mod OneHistory
--- generations_fit, and what a history keeps to at one element
+-- what an entry is to one object, and the object's own run
 pub mod OneObject
+pub mod Subjects
+-- generations_fit, and what a history keeps to at one element
 pub mod ElementLaws
 pub mod ElementRuns
 -- posts_complete_once

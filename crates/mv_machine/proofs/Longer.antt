@@ -5,6 +5,7 @@ use Rattle.std.proofs.lemmas.List.{take-append-le, drop-append-le, take_all, dro
 use Rattle.std.proofs.lemmas.Bool.{false≢true}
 use Rattle.std.proofs.lemmas.List.Elements.{All-weaker, All-from_recursion}
 use Rattle.std.specs.List.{All, AllByRecursion}
+use Rattle.mv_machine.specs.Limits.{events_limit, highest_place}
 use Rattle.mv_machine.specs.declared.entry.Entry.{Entry}
 use Rattle.mv_machine.specs.declared.entry.Object.{Object}
 use Rattle.mv_machine.specs.declared.entry.Object.TheVariants.{Ecb, Element, Volume, Latches}
@@ -109,10 +110,10 @@ each_below : (next : Object → ℕ) (es : List Entry) → ((o : Object) → IsB
 each_below next [] below = tt
 each_below next (e ∷ es) below = ((below e.object).0 refl, each_below next es (λ o. (below o).1))
 
-pub entries_fit : (c : Setup) (es : List Entry) → Legal c es → length es ≤ 524287 → All (λ e. e.place ≤ 524286) es
+pub entries_fit : (c : Setup) (es : List Entry) → Legal c es → length es ≤ events_limit → All (λ e. e.place ≤ highest_place) es
 entries_fit c es l le =
     let next : Object → ℕ = place_of (after c es) in
-    All-weaker (λ (e : Entry). e.place < next e.object) (λ e. e.place ≤ 524286)
+    All-weaker (λ (e : Entry). e.place < next e.object) (λ e. e.place ≤ highest_place)
     (λ e low. let high = places_fit c es e.object l le in omega (arith, low, high)) es
     (All-from_recursion (λ (e : Entry). e.place < next e.object) es (each_below next es (λ o. below_after c es o l)))
 
@@ -122,7 +123,7 @@ same_state_at (Element n) s t same = rw same refl
 same_state_at (Volume n) s t same = rw same refl
 same_state_at Latches s t same = refl
 
-had_state : (c : Setup) (es : List Entry) (k : ℕ) (o : Object) (x : WordState) → Legal c es → length es ≤ 524287
+had_state : (c : Setup) (es : List Entry) (k : ℕ) (o : Object) (x : WordState) → Legal c es → length es ≤ events_limit
     → state_at (after c es) o ≡ Some x
     → Had c es k (length (of k es)) o (word_at (after c es) o)
 had_state c es k o x l le is =
@@ -140,7 +141,7 @@ had_state c es k o x l le is =
       ahead = rw (drop_all (length (of k es)) (of k es) (le_refl (length (of k es)))) tt;
     }
 
-pub had_now : (c : Setup) (es : List Entry) (k : ℕ) (o : Object) → Legal c es → length es ≤ 524287 → IsSome (state_at (after c es) o)
+pub had_now : (c : Setup) (es : List Entry) (k : ℕ) (o : Object) → Legal c es → length es ≤ events_limit → IsSome (state_at (after c es) o)
     → Had c es k (length (of k es)) o (word_at (after c es) o)
 had_now c es k (Ecb n) l le is = had_state c es k (Ecb n) _ l le refl
 had_now c es k (Element n) l le is = had_state c es k (Element n) _ l le refl

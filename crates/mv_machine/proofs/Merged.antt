@@ -9,7 +9,7 @@ use Rattle.mv_machine.specs.declared.entry.Object.TheVariants.{Ecb, Element, Vol
 use Rattle.mv_machine.specs.declared.entry.Op.{Op}
 use Rattle.mv_machine.specs.declared.entry.Op.TheVariants as op_on
 use Rattle.mv_machine.specs.Legal.{Legal, LegalFrom, IsNext, after, next, same_object, of, «at»}
-use Rattle.mv_machine.specs.Merge.{start, risen, merge_from, total, merged}
+use Rattle.mv_machine.specs.Merge.{start, risen, merge_from, entry_count, merged}
 use Rattle.mv_machine.specs.Parts.{parts_from, parts, Had}
 use Rattle.mv_machine.specs.Setup.{Setup}
 use Rattle.mv_machine.specs.System.{System, opening, place_of, admitted}
@@ -20,8 +20,8 @@ use Rattle.mv_machine.proofs.Picks.{Within, Same, merges, picks_count}
 use Rattle.mv_machine.proofs.SameParts.{same_legal, same_after, same_told, same_had}
 
 -- ---- a legal list has its objects' places, and its callers are those of the configuration
-pub same_turned : (a b : Object) → same_object a b ≡ same_object b a
-same_turned a b = dite (object_discrete a b)
+pub same_swapped : (a b : Object) → same_object a b ≡ same_object b a
+same_swapped a b = dite (object_discrete a b)
     (λ e. same_hit a b e ∙ sym (same_hit b a (sym e)))
     (λ n. same_miss a b n ∙ sym (same_miss b a (λ e. n (sym e))))
 
@@ -32,7 +32,7 @@ places_after c s e n = λ i o. moves o i
     moves : (o : Object) → place_of (next s e) o ≡ risen (place_of s) e.object o
     moves o =
         place-moved c s e.caller e.object e.place e.op e.reply o n
-        ∙ ap (λ b. cond b (place_of s o + 1) (place_of s o)) (same_turned e.object o)
+        ∙ ap (λ b. cond b (place_of s o + 1) (place_of s o)) (same_swapped e.object o)
 
 pub placed_from : (c : Setup) (s : System) (es : List Entry) → LegalFrom c s es → Placed (place_of s) es
 placed_from c s [] l = tt
@@ -66,7 +66,8 @@ legal_within c es l = within_from c (opening c) es l
 
 -- ---- the parts have all entries
 -- an entry of a caller below k is in none of the parts from k on, and one of theirs in just one
-total_skip : (n k : ℕ) (x : Entry) (xs : List Entry) → x.caller < k → total (parts_from k n (x ∷ xs)) ≡ total (parts_from k n xs)
+total_skip : (n k : ℕ) (x : Entry) (xs : List Entry) → x.caller < k
+    → entry_count (parts_from k n (x ∷ xs)) ≡ entry_count (parts_from k n xs)
 total_skip zero k x xs l = refl
 total_skip (suc n) k x xs l =
     let a = ap (λ (z : List Entry). length z) (of_other k x xs (λ e. absurd (omega arith))) in
@@ -74,18 +75,18 @@ total_skip (suc n) k x xs l =
     omega arith
 
 total_one : (n k : ℕ) (x : Entry) (xs : List Entry) → k ≤ x.caller → x.caller < k + n
-    → total (parts_from k n (x ∷ xs)) ≡ suc (total (parts_from k n xs))
+    → entry_count (parts_from k n (x ∷ xs)) ≡ suc (entry_count (parts_from k n xs))
 total_one zero k x xs a b = absurd (omega arith)
 total_one (suc n) k x xs a b = dite (ℕ_discrete x.caller k)
     (λ m. let p = ap (λ (z : List Entry). length z) (of_mine k x xs m) in let q = total_skip n (suc k) x xs (omega arith) in omega arith)
     (λ m. let p = ap (λ (z : List Entry). length z) (of_other k x xs m) in
     let q = total_one n (suc k) x xs (omega arith) (omega arith) in omega arith)
 
-total_none : (n k : ℕ) → total (parts_from k n []) ≡ 0
+total_none : (n k : ℕ) → entry_count (parts_from k n []) ≡ 0
 total_none zero k = refl
 total_none (suc n) k = let a = total_none n (suc k) in omega arith
 
-total_within : (n : ℕ) (es : List Entry) → Within n es → total (parts n es) ≡ length es
+total_within : (n : ℕ) (es : List Entry) → Within n es → entry_count (parts n es) ≡ length es
 total_within n [] w = total_none n 0
 total_within n (x ∷ xs) w =
     let a : x.caller < n = w.0 in
@@ -93,7 +94,7 @@ total_within n (x ∷ xs) w =
     let p = total_one n 0 x xs (omega arith) (omega arith) in
     omega arith
 
-pub total_parts : (c : Setup) (es : List Entry) → Legal c es → total (parts c.callers es) ≡ length es
+pub total_parts : (c : Setup) (es : List Entry) → Legal c es → entry_count (parts c.callers es) ≡ length es
 total_parts c es l = total_within c.callers es (legal_within c es l)
 
 -- ---- the merge is the same history

@@ -16,7 +16,8 @@ use Rattle.mv_machine.specs.Told.{told_at, told_from}
 use Rattle.mv_machine.specs.Setup.{Setup}
 use Rattle.mv_machine.specs.System.{System, moved, place_of, advanced, volume_step}
 use Rattle.mv_machine.specs.Legal.{IsNext, next, after_from, LegalFrom, same_object, SameAt, of, «at», CountsFrom}
-use Rattle.mv_machine.proofs.Histories.{place-moved, with_at-same, with_at-other}
+use Rattle.mv_machine.proofs.EntryRuns.{entry_of}
+use Rattle.mv_machine.proofs.Histories.{place-moved, with_at-own, with_at-other}
 
 pub same_flip : (o : Object) (s t : System) → SameAt o s t → SameAt o t s
 same_flip (Ecb n) s t h = sym h
@@ -30,23 +31,20 @@ same_refl (Element n) s = refl
 same_refl (Volume n) s = refl
 same_refl Latches s = refl
 
-abbrev entry_of : ℕ → Object → ℕ → Op → Reply → Entry
-entry_of k o p op r = record { caller = k; object = o; place = p; op = op; reply = r }
-
 -- an entry looks at its own object alone
 next_there : (c : Setup) (s t : System) (k : ℕ) (o : Object) (p : ℕ) (op : Op) (r : Reply) → SameAt o s t → IsNext c s (entry_of k o p op r)
     → IsNext c t (entry_of k o p op r) × SameAt o (moved s k o op) (moved t k o op)
 next_there c s t k (Ecb n) p (op_on.Ecb op) r same h = (
   record { admits = h.admits; place = rw (← same) h.place; reply = rw (← same) h.reply },
-  with_at-same s.ecb n _ n refl ∙ ap (λ z. advanced z (ecb_step op z.state).0) same ∙ sym (with_at-same t.ecb n _ n refl),
+  with_at-own s.ecb n _ ∙ ap (λ z. advanced z (ecb_step op z.state).0) same ∙ sym (with_at-own t.ecb n _),
 )
 next_there c s t k (Element n) p (op_on.Element op) r same h = (
   record { admits = h.admits; place = rw (← same) h.place; reply = rw (← same) h.reply },
-  with_at-same s.element n _ n refl ∙ ap (λ z. advanced z (element_step op z.state).0) same ∙ sym (with_at-same t.element n _ n refl),
+  with_at-own s.element n _ ∙ ap (λ z. advanced z (element_step op z.state).0) same ∙ sym (with_at-own t.element n _),
 )
 next_there c s t k (Volume n) p (op_on.Volume op) r same h = (
   record { admits = h.admits; place = rw (← same) h.place; reply = rw (← same) h.reply },
-  with_at-same s.volume n _ n refl ∙ ap (λ z. advanced z (volume_step op z.state).0) same ∙ sym (with_at-same t.volume n _ n refl),
+  with_at-own s.volume n _ ∙ ap (λ z. advanced z (volume_step op z.state).0) same ∙ sym (with_at-own t.volume n _),
 )
 next_there c s t k Latches p (op_on.Latch op) r same h = (
   record { admits = rw (← same) h.admits; place = rw (← same) h.place; reply = rw (← same) h.reply },

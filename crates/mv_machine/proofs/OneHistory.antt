@@ -6,13 +6,14 @@ use Rattle.std.proofs.lemmas.List.Sums.{sum_by-cons}
 use Rattle.std.specs.List.{AllByRecursion}
 use mathlib.Core.Logic.{dite}
 use native.Mathlib.Decide.{ℕ_discrete}
+use Rattle.mv_machine.specs.Limits.{events_limit}
 use Rattle.mv_machine.specs.declared.entry.Entry.{Entry}
 use Rattle.mv_machine.specs.declared.entry.Object.{Object}
 use Rattle.mv_machine.specs.declared.entry.Object.TheVariants.{Ecb, Element, Volume, Latches}
 use Rattle.mv_machine.specs.declared.entry.Op.{Op}
 use Rattle.mv_machine.specs.declared.entry.Op.TheVariants as op_on
 use Rattle.mv_machine.specs.Legal.{Legal, LegalFrom, next, of}
-use Rattle.mv_machine.specs.Merge.{total, merged, AreOneHistory}
+use Rattle.mv_machine.specs.Merge.{entry_count, merged, AreOneHistory}
 use Rattle.mv_machine.specs.Parts.{parts_from, parts, KeepsBudgets}
 use Rattle.mv_machine.specs.Setup.{Setup, IsObjectOf}
 use Rattle.mv_machine.specs.System.{System, opening, admitted}
@@ -23,7 +24,7 @@ use Rattle.mv_machine.specs.Check.{IsValid}
 
 -- ---- a history within the budgets is within their sum
 total_from : (n k : ℕ) (es : List Entry) (bs : List ℕ) → ((j : ℕ) → k ≤ j → j < k + n → length (of j es) ≤ get_or bs (j - k) 0)
-    → total (parts_from k n es) ≤ sum bs
+    → entry_count (parts_from k n es) ≤ sum bs
 total_from zero k es bs l = omega arith
 total_from (suc n) k es [] l =
     let first : length (of k es) ≤ 0 = l k (le_refl k) (omega arith) in
@@ -39,7 +40,7 @@ total_from (suc n) k es (b ∷ bs) l =
 
 pub within_budgets : (c : Setup) (es : List Entry) → Legal c es → KeepsBudgets c es → length es ≤ sum c.budgets
 within_budgets c es l b =
-    let all : total (parts c.callers es) ≤ sum c.budgets = total_from c.callers 0 es c.budgets (λ j low high.
+    let all : entry_count (parts c.callers es) ≤ sum c.budgets = total_from c.callers 0 es c.budgets (λ j low high.
     subst (λ z. length (of j es) ≤ get_or c.budgets z 0) (let same : j ≡ j - 0 = omega arith in same) (b j (omega arith))) in
     omega (arith, total_parts c es l)
 
@@ -84,9 +85,9 @@ in_parts P (suc n) k es a = (in_part P k es a, in_parts P n (suc k) es a)
 pub logs_count : (c : Setup) (logs : List (List Entry)) → AreOneHistory c logs → length logs ≡ c.callers
 logs_count c logs h = ap length (sym h.parts) ∙ parts_count c.callers 0 h.history
 
-pub logs_total : (c : Setup) (logs : List (List Entry)) → AreOneHistory c logs → total logs ≤ sum c.budgets
+pub logs_total : (c : Setup) (logs : List (List Entry)) → AreOneHistory c logs → entry_count logs ≤ sum c.budgets
 logs_total c logs h =
-    omega (arith, ap total h.parts, total_parts c h.history h.legal, within_budgets c h.history h.legal h.budgets)
+    omega (arith, ap entry_count h.parts, total_parts c h.history h.legal, within_budgets c h.history h.legal h.budgets)
 
 pub on_logs : (c : Setup) (P : Object → Type 0) → ((o : Object) → IsObjectOf c o → P o) → (logs : List (List Entry)) → AreOneHistory c logs
     → AllByRecursion (λ log. AllByRecursion (λ e. P e.object) log) logs
@@ -113,5 +114,5 @@ logs_parts c logs h =
     ∙ same_parts c.callers 0 (merged (parts c.callers h.history)) h.history (λ k. merged_callers c h.history k h.legal)
     ∙ h.parts
 
-pub budgets_fit : (c : Setup) (es : List Entry) → IsValid c → Legal c es → KeepsBudgets c es → length es ≤ 524287
+pub budgets_fit : (c : Setup) (es : List Entry) → IsValid c → Legal c es → KeepsBudgets c es → length es ≤ events_limit
 budgets_fit c es v l b = omega (arith, within_budgets c es l b, budgets_kept c v)

@@ -1,9 +1,11 @@
 -- Runs of one object alone, of any kind.
-use Rattle.std.proofs.Common.{◌≡◌, ℕ, List, [], ◌∷◌, ◌++◌, ◌⊎◌, inl, inr, Option, Some, None, refl, append-nil, append_assoc}
+use Rattle.std.proofs.Common.{◌≡◌, ℕ, List, [], ◌∷◌, ◌++◌, ◌⊎◌, inl, inr, Option, Some, None, true, refl, append-nil, append_assoc}
 use Rattle.std.specs.List.{filter_map}
 use Rattle.mv_machine.specs.declared.entry.Entry.{Entry}
+use Rattle.mv_machine.specs.declared.entry.Object.{Object}
+use Rattle.mv_machine.specs.declared.entry.Op.{Op}
 use Rattle.mv_machine.specs.Elements.{Event}
-use Rattle.mv_machine.specs.Legal.{IsNext, next, LegalFrom}
+use Rattle.mv_machine.specs.Legal.{IsNext, next, same_object, LegalFrom}
 use Rattle.mv_machine.specs.Setup.{Setup}
 use Rattle.mv_machine.specs.System.{System, Cell, advanced}
 
@@ -53,22 +55,36 @@ module _ {O R S : Type 0} (table : Table O R S) where
 
 -- ---- from a legal list to the run of one object
 
-module _ {O R S : Type 0} (table : Table O R S) (as_event : Entry → Option (Event O R)) (cell : System → Cell S) where
+-- an object that is looked at: its table, where the machine has it, which operations are of its kind, and which entries are its events
+pub record Subject (O R S : Type 0) : Type 0 where
+  pub table : Table O R S
+  pub object : Object
+  pub cell : System → Cell S
+  pub on : O → Op
+  pub as_event : Entry → Option (Event O R)
+
+module _ {O R S : Type 0} (x : Subject O R S) where
   -- an entry passes the object by
-  abbrev pub PassesBy : System → Entry → Type 0
-  PassesBy s e = (as_event e ≡ None) × (cell (next s e) ≡ cell s)
+  pub record PassesBy (s : System) (e : Entry) : Type 0 where
+    pub none : x.as_event e ≡ None
+    pub kept : x.cell (next s e) ≡ x.cell s
 
   -- or is an event on it
-  abbrev pub HappensAt : System → Entry → Type 0
-  HappensAt s e = (v : Event O R) × (as_event e ≡ Some v) × IsAnsweredBy table (cell s) v × (cell (next s e) ≡ next_cell table (cell s) v)
+  pub record HappensAt (s : System) (e : Entry) : Type 0 where
+    pub event : Event O R
+    pub is : x.as_event e ≡ Some event
+    pub op : e.op ≡ x.on event.op
+    pub there : same_object e.object x.object ≡ true
+    pub answered : IsAnsweredBy x.table (x.cell s) event
+    pub after : x.cell (next s e) ≡ next_cell x.table (x.cell s) event
 
   -- where each next entry is one of these, the object's events of a legal list are a run of it
   pub run_of : (c : Setup) → ((s : System) (e : Entry) → IsNext c s e → PassesBy s e ⊎ HappensAt s e)
-      → (s : System) (es : List Entry) → LegalFrom c s es → RunFrom table (cell s) (filter_map as_event es)
+      → (s : System) (es : List Entry) → LegalFrom c s es → RunFrom x.table (x.cell s) (filter_map x.as_event es)
   run_of c one s [] l = tt
   run_of c one s (e ∷ es) l =
-      let rest : RunFrom table (cell (next s e)) (filter_map as_event es) = run_of c one (next s e) es l.1 in
+      let rest : RunFrom x.table (x.cell (next s e)) (filter_map x.as_event es) = run_of c one (next s e) es l.1 in
       elim (one s e l.0) [
-        | inl w ↦ rw (w.0) (rw w.1 at rest)
-        | inr w ↦ rw (w.1) (w.2, rw w.3 at rest)
+        | inl w ↦ rw (w.none) (rw w.kept at rest)
+        | inr w ↦ rw (w.is) (w.answered, rw w.after at rest)
       ]

@@ -1,67 +1,28 @@
 -- Between two clears of a block at most one post is taken.
-use Rattle.std.proofs.Common.{◌≡◌, ℕ, ◌≤◌, Bool, true, false, IsTrue, List, [], ◌∷◌, ◌++◌, length, Some, None, ◌⊎◌, inl, inr, refl}
+use Rattle.std.proofs.Common.{◌≡◌, ℕ, ◌≤◌, false, IsTrue, List, [], ◌∷◌, ◌++◌, length, inl, inr, refl}
 use Rattle.std.proofs.Common.{sym, ◌∙◌, ap, arith, append-nil, append_assoc, length-append, subst}
-use Rattle.std.proofs.lemmas.Bool.{cases_eq, false≢true}
 use Rattle.std.proofs.lemmas.List.Elements.{filter_map-append}
 use Rattle.std.specs.List.{AllByRecursion}
 use Rattle.mv_ecb.specs.declared.operation.EcbOp.{EcbOp}
 use Rattle.mv_ecb.specs.declared.operation.EcbOp.TheVariants.{Post}
-use Rattle.mv_ecb.specs.declared.operation.EcbReply.{EcbReply}
 use Rattle.mv_ecb.specs.declared.operation.EcbReply.TheVariants.{Already}
 use Rattle.mv_ecb.specs.Table.{ecb_step}
-use Rattle.mv_ecb.specs.Word.{EcbState, Zero, Waiting, Extended, Complete}
-use Rattle.mv_machine.specs.declared.entry.Object.{Object}
-use Rattle.mv_machine.specs.declared.entry.Object.TheVariants.{Ecb, Element, Volume, Latches}
-use Rattle.mv_machine.specs.declared.entry.Op.{Op}
-use Rattle.mv_machine.specs.declared.entry.Op.TheVariants as op_on
-use Rattle.mv_machine.specs.declared.entry.Reply.{Reply}
-use Rattle.mv_machine.specs.declared.entry.Reply.TheVariants as reply_of
+use Rattle.mv_ecb.specs.Word.{EcbState, Complete}
 use Rattle.mv_machine.specs.declared.entry.Entry.{Entry}
-use Rattle.mv_machine.specs.Legal.{IsNext, Legal}
-use Rattle.mv_machine.specs.OnePost.{EcbEvent, as_ecb_event, ecb_events, clears, taken_code, taken, EndsCleared, IsStretch, TakesOnePost}
+use Rattle.mv_machine.specs.Legal.{Legal}
+use Rattle.mv_machine.specs.OnePost.{EcbEvent, ecb_events, clears, taken_code, taken, EndsCleared, TakesOnePost}
 use Rattle.mv_machine.specs.OnePost.{TakePosts}
 use Rattle.mv_machine.specs.Setup.{Setup}
-use Rattle.mv_machine.specs.System.{System, Cell, opening}
-use Rattle.mv_machine.proofs.EntryRuns.{entry_of}
-use Rattle.mv_machine.proofs.Lists.{all_at}
-use Rattle.mv_machine.proofs.OneObject.{Table, PassesBy, HappensAt, IsAnsweredBy, next_cell, cell_after, RunFrom, RunFrom-front}
+use Rattle.mv_machine.specs.System.{Cell, opening}
+use Rattle.mv_machine.proofs.Subjects.{block, ecb_table, block_meets}
+use Rattle.mv_machine.proofs.OneObject.{IsAnsweredBy, next_cell, cell_after, RunFrom, RunFrom-front}
 use Rattle.mv_machine.proofs.OneObject.{RunFrom-rest, run_of}
 use Rattle.mv_machine.proofs.OneObject.{cell_after-append}
 
 -- ---- the run of one block
 
-abbrev pub ecb_table : Table EcbOp EcbReply EcbState
-ecb_table k p op s = ecb_step op s
-
--- the block in a machine
-abbrev cell_of : ℕ → System → Cell EcbState
-cell_of n s = s.ecb n
-
-other_block : (s : System) (n k m p : ℕ) (op : EcbOp) (r : EcbReply) → (m ≡ n → ⊥)
-    → PassesBy ecb_table (as_ecb_event n) (cell_of n) s (entry_of k (Ecb m) p (op_on.Ecb op) (reply_of.Ecb r))
-other_block s n k m p op r other = grind arith
-
-this_block : (c : Setup) (s : System) (n k m p : ℕ) (op : EcbOp) (r : EcbReply) → m ≡ n
-    → IsNext c s (entry_of k (Ecb m) p (op_on.Ecb op) (reply_of.Ecb r))
-    → HappensAt ecb_table (as_ecb_event n) (cell_of n) s (entry_of k (Ecb m) p (op_on.Ecb op) (reply_of.Ecb r))
-this_block c s n k m p op r same h =
-    (record { caller = k; place = p; op = op; reply = r }, grind arith, record { place = grind arith; reply = grind arith }, grind arith)
-
--- an entry is on the block, or is none of it
-passes_or_happens : (c : Setup) (s : System) (n k : ℕ) (o : Object) (p : ℕ) (op : Op) (r : Reply) → IsNext c s (entry_of k o p op r)
-    → PassesBy ecb_table (as_ecb_event n) (cell_of n) s (entry_of k o p op r)
-    ⊎ HappensAt ecb_table (as_ecb_event n) (cell_of n) s (entry_of k o p op r)
-passes_or_happens c s n k (Ecb m) p (op_on.Ecb op) (reply_of.Ecb r) h =
-    elim (cases_eq m n) [ inl same ↦ inr (this_block c s n k m p op r same h) | inr other ↦ inl (other_block s n k m p op r other) ]
-passes_or_happens c s n k (Ecb m) p (op_on.Ecb op) r h = absurd (cc h.reply)
-passes_or_happens c s n k (Element m) p (op_on.Element op) r h = inl (refl, refl)
-passes_or_happens c s n k (Volume m) p (op_on.Volume op) r h = inl (refl, refl)
-passes_or_happens c s n k Latches p (op_on.Latch op) r h = inl (refl, refl)
-passes_or_happens c s n k o p op r h = absurd (false≢true h.admits)
-
 block_run : (c : Setup) (n : ℕ) (es : List Entry) → Legal c es → RunFrom ecb_table ((opening c).ecb n) (ecb_events n es)
-block_run c n es l = run_of ecb_table (as_ecb_event n) (cell_of n) c
-    (λ r e h. passes_or_happens c r n e.caller e.object e.place e.op e.reply h) (opening c) es l
+block_run c n es l = run_of (block n) c (block_meets c n) (opening c) es l
 
 -- ---- a stretch
 

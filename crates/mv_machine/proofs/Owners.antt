@@ -2,7 +2,7 @@
 use Rattle.std.proofs.Common.{◌≡◌, ◌==◌, ◌&&◌, ◌⊎◌, ℕ, Bool, true, false, List, [], ◌∷◌, ◌++◌, Some, cond, inl, inr, refl, sym, ap}
 use Rattle.std.proofs.Common.{◌∙◌, arith}
 use Rattle.std.specs.List.{AllByRecursion}
-use Rattle.std.proofs.lemmas.Bool.{cases_eq, cases_Bool, false≢true, eq-eqb, and_parts}
+use Rattle.std.proofs.lemmas.Bool.{cases_Bool, false≢true, eq-eqb, and_parts}
 use Rattle.mv_ecb.specs.declared.operation.EcbOp.{EcbOp}
 use Rattle.mv_ecb.specs.Word.{EcbState, Complete}
 use Rattle.mv_ecb.specs.Table.{ecb_step}
@@ -16,13 +16,15 @@ use Rattle.mv_machine.specs.declared.entry.Object.TheVariants.{Ecb, Element, Vol
 use Rattle.mv_machine.specs.declared.entry.Op.{Op}
 use Rattle.mv_machine.specs.declared.entry.Op.TheVariants as op_on
 use Rattle.mv_machine.specs.declared.entry.Reply.{Reply}
+use Rattle.mv_machine.specs.Elements.{Event}
 use Rattle.mv_machine.specs.Legal.{IsNext, next, Legal, after, same_object, of}
 use Rattle.mv_machine.specs.Owned.{owner_at, is_owners, is_clear, HasNo}
 use Rattle.mv_machine.specs.Setup.{Setup, owner_of, element_owner}
-use Rattle.mv_machine.specs.System.{System, Cell, moved, advanced, ecb_admitted, element_admitted}
+use Rattle.mv_machine.specs.System.{System, ecb_admitted, element_admitted}
 use Rattle.mv_machine.proofs.EntryRuns.{entry_of, along, rest_is_legal, at_end}
-use Rattle.mv_machine.proofs.Histories.{with_at-same, with_at-other}
 use Rattle.mv_machine.proofs.Objects.{same_is}
+use Rattle.mv_machine.proofs.OneObject.{Subject, PassesBy, HappensAt}
+use Rattle.mv_machine.proofs.Subjects.{block, element, block_meets, element_meets}
 
 -- ---- an owner's operation is made by the owner
 ecb_made_by : (c : Setup) (k n : ℕ) (op : EcbOp) → ecb_admitted c k n op ≡ true → is_owners (op_on.Ecb op) ≡ true → owner_of c n ≡ k
@@ -71,94 +73,41 @@ not_made c s test o owner e owned is h none same = elim (cases_Bool (test e.op))
   | inr not_so ↦ not_so
 ]
 
--- ---- an object of any kind: its table, how the machine has its operations, and where it has its state
+-- ---- what an object keeps under each operation that does not meet the test, it keeps until its owner makes one
+kept_by_others : {O R S : Type 0} (x : Subject O R S) (c : Setup) (owner : ℕ) (test : Op → Bool) (P : S → Type 0)
+    → ((s : System) (e : Entry) → IsNext c s e → PassesBy x s e ⊎ HappensAt x s e)
+    → owner_at c x.object ≡ Some owner → ((op : Op) → test op ≡ true → is_owners op ≡ true)
+    → ((v : Event O R) (z : S) → test (x.on v.op) ≡ false → P z → P (x.table v.caller v.place v.op z).0)
+    → (xs ys : List Entry) → Legal c (xs ++ ys) → HasNo test x.object (of owner ys) → P (x.cell (after c xs)).state
+    → P (x.cell (after c (xs ++ ys))).state
+kept_by_others x c owner test P meets is owned keeps xs ys l none p =
+    at_end c (λ s. P (x.cell s).state) xs ys
+    (along c (λ s. P (x.cell s).state) (OwnersHasNo test x.object owner) step (after c xs) ys (rest_is_legal c xs ys l)
+    (owners_entries test x.object owner ys none) p) where
+      step : (s : System) (e : Entry) → IsNext c s e → OwnersHasNo test x.object owner e → P (x.cell s).state
+          → P (x.cell (next s e)).state
+      step s e h never q = elim (meets s e h) [
+        | inl w ↦ rw (w.kept) q
+        | inr w ↦
+            let other : test e.op ≡ false = not_made c s test x.object owner e owned is h never w.there in
+            rw (w.after) (keeps w.event (x.cell s).state (ap test (sym w.op) ∙ other) q)
+      ]
 
-module _ {X S : Type 0} (table : X → S → S) (on : X → Op) (o : Object) (cell : System → Cell S) where
-  -- an entry passes the object by, or is an operation on it
-  abbrev Moves : System → ℕ → Object → Op → Type 0
-  Moves s k there op = (cell (moved s k there op) ≡ cell s)
-      ⊎ ((x : X) × (op ≡ on x) × (same_object there o ≡ true)
-      × (cell (moved s k there op) ≡ advanced (cell s) (table x (cell s).state)))
-
-  -- what the object keeps under each operation that does not meet the test, it keeps until its owner makes one
-  kept_by_others : (c : Setup) (owner : ℕ) (test : Op → Bool) (P : S → Type 0) → owner_at c o ≡ Some owner
-      → ((op : Op) → test op ≡ true → is_owners op ≡ true) → ((x : X) (z : S) → test (on x) ≡ false → P z → P (table x z))
-      → ((s : System) (e : Entry) → IsNext c s e → Moves s e.caller e.object e.op)
-      → (xs ys : List Entry) → Legal c (xs ++ ys) → HasNo test o (of owner ys) → P (cell (after c xs)).state
-      → P (cell (after c (xs ++ ys))).state
-  kept_by_others c owner test P is owned keeps moves xs ys l none p =
-      at_end c (λ s. P (cell s).state) xs ys
-      (along c (λ s. P (cell s).state) (OwnersHasNo test o owner) step (after c xs) ys (rest_is_legal c xs ys l)
-      (owners_entries test o owner ys none) p) where
-        step : (s : System) (e : Entry) → IsNext c s e → OwnersHasNo test o owner e → P (cell s).state → P (cell (next s e)).state
-        step s e h never q = elim (moves s e h) [
-          | inl w ↦ rw w q
-          | inr w ↦
-              let other : test e.op ≡ false = not_made c s test o owner e owned is h never w.2 in
-              rw (w.3) (keeps w.0 (cell s).state (ap test (sym w.1) ∙ other) q)
-        ]
-
--- ---- the event control blocks
-abbrev ecb_table : EcbOp → EcbState → EcbState
-ecb_table x z = (ecb_step x z).0
-
-abbrev EcbMoves : System → ℕ → ℕ → Object → Op → Type 0
-EcbMoves s n k o op = Moves ecb_table (λ x. op_on.Ecb x) (Ecb n) (λ t. t.ecb n) s k o op
-
-ecb_moves : (c : Setup) (s : System) (n k : ℕ) (o : Object) (p : ℕ) (op : Op) (r : Reply) → IsNext c s (entry_of k o p op r)
-    → EcbMoves s n k o op
-ecb_moves c s n k (Ecb m) p (op_on.Ecb op) r h = elim (cases_eq n m) [
-  | inl same ↦ inr (
-    op,
-    refl,
-    eq-eqb m n (sym same),
-    with_at-same s.ecb m _ n same ∙ ap (λ z. advanced (s.ecb z) (ecb_table op (s.ecb z).state)) (sym same),
-  )
-  | inr other ↦ inl (with_at-other s.ecb m _ n other)
-]
-ecb_moves c s n k (Element m) p (op_on.Element op) r h = inl refl
-ecb_moves c s n k (Volume m) p (op_on.Volume op) r h = inl refl
-ecb_moves c s n k Latches p (op_on.Latch op) r h = inl refl
-ecb_moves c s n k o p op r h = absurd (false≢true h.admits)
-
+-- so a block keeps it
 pub ecb_kept : (c : Setup) (n : ℕ) (test : Op → Bool) (P : EcbState → Type 0) → ((op : Op) → test op ≡ true → is_owners op ≡ true)
     → ((x : EcbOp) (z : EcbState) → test (op_on.Ecb x) ≡ false → P z → P (ecb_step x z).0)
     → (xs ys : List Entry) → Legal c (xs ++ ys) → HasNo test (Ecb n) (of (owner_of c n) ys) → P ((after c xs).ecb n).state
     → P ((after c (xs ++ ys)).ecb n).state
 ecb_kept c n test P owned keeps xs ys l none p =
-    kept_by_others ecb_table (λ x. op_on.Ecb x) (Ecb n) (λ s. s.ecb n) c (owner_of c n) test P refl owned keeps
-    (λ s e h. ecb_moves c s n e.caller e.object e.place e.op e.reply h) xs ys l none p
+    kept_by_others (block n) c (owner_of c n) test P (block_meets c n) refl owned (λ v. keeps v.op) xs ys l none p
 
--- ---- the pause elements
-abbrev element_table : ElementOp → ElementState → ElementState
-element_table x z = (element_step x z).0
-
-abbrev ElementMoves : System → ℕ → ℕ → Object → Op → Type 0
-ElementMoves s n k o op = Moves element_table (λ x. op_on.Element x) (Element n) (λ t. t.element n) s k o op
-
-element_moves : (c : Setup) (s : System) (n k : ℕ) (o : Object) (p : ℕ) (op : Op) (r : Reply) → IsNext c s (entry_of k o p op r)
-    → ElementMoves s n k o op
-element_moves c s n k (Element m) p (op_on.Element op) r h = elim (cases_eq n m) [
-  | inl same ↦ inr (
-    op,
-    refl,
-    eq-eqb m n (sym same),
-    with_at-same s.element m _ n same ∙ ap (λ z. advanced (s.element z) (element_table op (s.element z).state)) (sym same),
-  )
-  | inr other ↦ inl (with_at-other s.element m _ n other)
-]
-element_moves c s n k (Ecb m) p (op_on.Ecb op) r h = inl refl
-element_moves c s n k (Volume m) p (op_on.Volume op) r h = inl refl
-element_moves c s n k Latches p (op_on.Latch op) r h = inl refl
-element_moves c s n k o p op r h = absurd (false≢true h.admits)
-
+-- and an element
 pub element_kept : (c : Setup) (n : ℕ) (P : ElementState → Type 0)
     → ((x : ElementOp) (z : ElementState) → is_owners (op_on.Element x) ≡ false → P z → P (element_step x z).0)
     → (xs ys : List Entry) → Legal c (xs ++ ys) → HasNo is_owners (Element n) (of (element_owner c n) ys)
     → P ((after c xs).element n).state → P ((after c (xs ++ ys)).element n).state
 element_kept c n P keeps xs ys l none p =
-    kept_by_others element_table (λ x. op_on.Element x) (Element n) (λ s. s.element n) c (element_owner c n) is_owners P refl
-    (λ _ own. own) keeps (λ s e h. element_moves c s n e.caller e.object e.place e.op e.reply h) xs ys l none p
+    kept_by_others (element n) c (element_owner c n) is_owners P (element_meets c n) refl (λ _ own. own) (λ v. keeps v.op) xs ys l none p
 
 -- ---- the tables, for operations that are not the owner's
 clear_is_owners : (op : Op) → is_clear op ≡ true → is_owners op ≡ true

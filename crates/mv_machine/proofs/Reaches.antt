@@ -6,6 +6,7 @@ use Rattle.std.proofs.lemmas.Nat.{mul-le}
 use Rattle.std.proofs.lemmas.List.{take_more}
 use Rattle.std.proofs.lemmas.List.FromFn.{fill_by_all}
 use Rattle.std.proofs.lemmas.Bool.{false≢true, true≢false, eqb-true}
+use Rattle.mv_machine.specs.Limits.{highest_reach}
 use Rattle.mv_machine.specs.declared.config.ConfigLimit.TheVariants.{Targets, Posted, Quota}
 use Rattle.mv_machine.specs.Chains.{HasFewGoodTargets, AreReaches}
 use Rattle.mv_machine.proofs.Validity.{no_bad_limit}
@@ -140,7 +141,7 @@ next_reach c v f e lt right =
     ∙ sym (reach_is c (all_lead_up c v) e lt)
 
 -- ---- reaches are cut, and the greatest of them
-pub reach_cut : (k : ℕ) (c : Setup) (e : ℕ) → reach_within k c e ≤ 524288
+pub reach_cut : (k : ℕ) (c : Setup) (e : ℕ) → reach_within k c e ≤ highest_reach
 reach_cut zero c e = omega arith
 reach_cut (suc k) c e = omega arith
 
@@ -166,5 +167,5 @@ quotas_fit c v =
     let q : keeps Quota c ≡ true = quota_kept c (no_bad_limit c v) in
     grind arith
 
-pub product_fits : (a b m : ℕ) → a ≤ 16 → b ≤ 16 → m ≤ 524288 → a * b * m ≤ 134217728
-product_fits a b m la lb lm = mul-le (a * b) m 256 524288 (mul-le a b 16 16 la lb) lm
+pub product_fits : (a b m : ℕ) → a ≤ 16 → b ≤ 16 → m ≤ highest_reach → a * b * m ≤ 134217728
+product_fits a b m la lb lm = mul-le (a * b) m 256 highest_reach (mul-le a b 16 16 la lb) lm

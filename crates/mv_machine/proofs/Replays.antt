@@ -1,11 +1,12 @@
 -- A list gone through entry by entry.
-use Rattle.std.proofs.Common.{◌≡◌, ℕ, ◌+◌, ◌<◌, ◌≤◌, ◌^◌, Bool, true, List, [], ◌∷◌, ◌++◌, length, take, drop, get_or, Option, Some}
+use Rattle.std.proofs.Common.{◌≡◌, ℕ, ◌+◌, ◌<◌, ◌≤◌, Bool, true, List, [], ◌∷◌, ◌++◌, length, take, drop, get_or, Option, Some}
 use Rattle.std.proofs.Common.{None, option_map, cond, inl, inr, refl, sym, ap, ◌∙◌, arith}
 use Rattle.std.proofs.lemmas.Bool.{cases_Bool}
 use Rattle.std.proofs.lemmas.List.{take_more, drop_more, take-append-drop, length-take-le}
 use Rattle.mv_ecb.specs.declared.operation.EcbOp.TheVariants.{Arm}
 use Rattle.mv_ecb.specs.declared.operation.EcbReply.TheVariants.{Armed}
 use Rattle.mv_latch.specs.declared.operation.Wake.{Wake}
+use Rattle.mv_machine.specs.Limits.{highest_place, place_limit}
 use Rattle.mv_machine.specs.declared.entry.Entry.{Entry}
 use Rattle.mv_machine.specs.declared.entry.Object.{Object}
 use Rattle.mv_machine.specs.declared.entry.Object.TheVariants.{Ecb, Element, Volume, Latches}
@@ -39,8 +40,8 @@ pub legal_push : (c : Setup) (s : System) (es : List Entry) (e : Entry) → Lega
 legal_push c s es e l n = LegalFrom-append c s es (e ∷ []) l (n, tt)
 
 -- a place stays below its limit where the entry's is below it by one
-pub place_kept : (c : Setup) (s : System) (e : Entry) (q : Object) → IsNext c s e → e.place ≤ 524286 → place_of s q < 2 ^ 19
-    → place_of (next s e) q < 2 ^ 19
+pub place_kept : (c : Setup) (s : System) (e : Entry) (q : Object) → IsNext c s e → e.place ≤ highest_place → place_of s q < place_limit
+    → place_of (next s e) q < place_limit
 place_kept c s e q n low lt =
     let moves : place_of (next s e) q ≡ cond (same_object e.object q) (place_of s q + 1) (place_of s q) =
     place-moved c s e.caller e.object e.place e.op e.reply q n in
@@ -119,8 +120,8 @@ module _ (c : Setup) (s t : System) (es : List Entry) (i : ℕ) (lt : i < length
       → wakes_after c t before e.caller e.object e.op ≡ last_wakes_from s shown (take (i + 1) es)
   pass_wakes shown before was same = rw (was, is, at_i) (wakes_more c s shown es i no_entry lt (the_answer same))
 
-  pub pass_places : e.place ≤ 524286 → ((o : Object) → place_of t o < 2 ^ 19) → m ≡ Some (e.place, e.reply) → (o : Object)
-      → place_of (after_step c t e.caller e.object e.op) o < 2 ^ 19
+  pub pass_places : e.place ≤ highest_place → ((o : Object) → place_of t o < place_limit) → m ≡ Some (e.place, e.reply) → (o : Object)
+      → place_of (after_step c t e.caller e.object e.op) o < place_limit
   pass_places low places same o =
       let n : IsNext c t e = is_next c t e (sym says ∙ same) in
       rw (n.admits) (place_kept c t e o n low (places o))
@@ -141,7 +142,7 @@ module _ (c : Setup) (s t : System) (es : List Entry) (i : ℕ) (lt : i < length
   }
 
 -- every place is 0 at the opening
-pub opening_places : (c : Setup) (o : Object) → place_of (opening c) o < 2 ^ 19
+pub opening_places : (c : Setup) (o : Object) → place_of (opening c) o < place_limit
 opening_places c (Ecb n) = omega arith
 opening_places c (Element n) = omega arith
 opening_places c (Volume n) = omega arith

@@ -1,11 +1,9 @@
 -- Along a legal list a caller's requests stand by its own entries.
-use Rattle.std.proofs.Common.{◌≡◌, ◌<◌, ℕ, nat_lt, Bool, true, false, not, ◌&&◌, List, [], ◌∷◌, ◌++◌, length, map, set, cond, inl}
+use Rattle.std.proofs.Common.{◌≡◌, ◌<◌, ℕ, nat_lt, Bool, true, false, not, ◌&&◌, List, [], ◌∷◌, ◌++◌, length, set, cond, inl}
 use Rattle.std.proofs.Common.{inr, refl, sym, subst, arith}
 use Rattle.std.specs.List.{Contains, list_any}
 use Rattle.std.proofs.lemmas.Bool.{cases_eq, false≢true, eq-eqb, ne_eqb, and_parts}
 use Rattle.std.proofs.lemmas.Bool.Decides.{nat_tests}
-use Rattle.std.proofs.lemmas.List.{get_or-set_same, get_or-set_other}
-use Rattle.std.proofs.Math.ListN.{get_or-map}
 use Rattle.mv_latch.specs.declared.operation.LatchOp.{LatchOp}
 use Rattle.mv_latch.specs.declared.operation.LatchOp.TheVariants.{Obtain, Confirm, Release, Purge}
 use Rattle.mv_latch.specs.declared.operation.LatchReply.{LatchReply}
@@ -13,9 +11,10 @@ use Rattle.mv_latch.specs.declared.operation.LatchReply.TheVariants.{Granted, Qu
 use Rattle.mv_latch.specs.declared.request.LatchForm.{LatchForm}
 use Rattle.mv_latch.specs.declared.request.Mode.{Mode}
 use Rattle.mv_latch.specs.declared.request.Request.{Request}
-use Rattle.mv_latch.specs.Latch.{granted, grants, blocker, obtain_step, confirm_reply, release_step, newly_granted, without, purged}
+use Rattle.mv_latch.specs.Latch.{granted, grants, blocker, obtain_step, confirm_reply, release_step, newly_granted, without}
 use Rattle.mv_latch.specs.LatchSet.{list_of, latch_admitted, latch_step}
 use Rattle.mv_latch.specs.Request.{queues, of_caller, of_requestor, is_own}
+use Rattle.mv_latch.proofs.Changes.{list_replaced, list_elsewhere, list_purged}
 use Rattle.mv_machine.specs.declared.entry.Entry.{Entry}
 use Rattle.mv_machine.specs.declared.entry.Object.{Object}
 use Rattle.mv_machine.specs.declared.entry.Object.TheVariants.{Ecb, Element, Volume, Latches}
@@ -103,18 +102,6 @@ released_elsewhere k other latch id conditional (Released n) qs ts apart w = wit
 released_elsewhere k other latch id conditional reply qs ts apart w = w
 
 -- ---- each list after an operation
-list_replaced : (lists : List (List Request)) (latch : ℕ) (qs : List Request) → latch < length lists
-    → list_of (set lists latch qs) latch ≡ qs
-list_replaced lists latch qs lt = get_or-set_same lists latch qs [] lt
-
-list_elsewhere : (lists : List (List Request)) (latch other : ℕ) (qs : List Request) → (other ≡ latch → ⊥)
-    → list_of (set lists latch qs) other ≡ list_of lists other
-list_elsewhere lists latch other qs apart = get_or-set_other lists latch other qs [] apart
-
-list_purged : (requestor : ℕ) (lists : List (List Request)) (latch : ℕ)
-    → list_of (map (purged requestor) lists) latch ≡ purged requestor (list_of lists latch)
-list_purged requestor lists latch = get_or-map (purged requestor) lists latch []
-
 -- the latch that is named exists
 abbrev pub NamesLatch : LatchOp → List (List Request) → Type 0
 NamesLatch (Obtain latch requestor mode form) lists = latch < length lists

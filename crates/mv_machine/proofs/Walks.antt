@@ -17,6 +17,8 @@ use Rattle.mv_latch.specs.declared.operation.LatchOp.{LatchOp}
 use Rattle.mv_latch.specs.declared.operation.LatchReply.{LatchReply}
 use Rattle.mv_latch.specs.declared.request.Request.{Request}
 use Rattle.mv_latch.specs.LatchSet.{LatchLists, latch_admitted, latch_step, IsNewId}
+use Rattle.mv_element.specs.Element.{generation_limit}
+use Rattle.mv_machine.specs.Limits.{highest_place, place_limit}
 use Rattle.mv_machine.specs.declared.entry.Entry.{Entry}
 use Rattle.mv_machine.specs.declared.entry.Object.{Object}
 use Rattle.mv_machine.specs.declared.entry.Object.TheVariants.{Ecb, Element, Volume, Latches}
@@ -30,7 +32,8 @@ use Rattle.mv_machine.specs.Setup.{Setup}
 use Rattle.mv_machine.specs.declared.entry.VolumeOp.{VolumeOp}
 use Rattle.mv_machine.specs.declared.entry.VolumeReply.{VolumeReply}
 use Rattle.mv_machine.specs.System.{System, opening, place_of, admitted, answer, volume_step, latches_of, moved, posts_own_ecb, advanced}
-use Rattle.mv_machine.proofs.Histories.{after_from-append, LegalFrom-front, LegalFrom-rest, with_at-same}
+use Rattle.mv_machine.proofs.WordSteps.{fields_admitted}
+use Rattle.mv_machine.proofs.Histories.{after_from-append, LegalFrom-front, LegalFrom-rest, with_at-own}
 use Rattle.mv_machine.proofs.Replays.{place_kept, opening_places}
 use Rattle.mv_machine.proofs.Budgets.{place_is_count}
 use Rattle.mv_machine.proofs.ElementRuns.{generation_fits}
@@ -38,16 +41,16 @@ use Rattle.mv_machine.proofs.LatchIds.{new_from_next, none_in_new}
 
 -- places that were all written down are low
 abbrev pub AreLow : List Entry → Type 0
-AreLow es = All (λ e. e.place ≤ 524286) es
+AreLow es = All (λ e. e.place ≤ highest_place) es
 
-low_from : (c : Setup) (s : System) (es : List Entry) → LegalFrom c s es → AreLow es → ((o : Object) → place_of s o < 2 ^ 19) → (o : Object)
-    → place_of (after_from s es) o < 2 ^ 19
+low_from : (c : Setup) (s : System) (es : List Entry) → LegalFrom c s es → AreLow es → ((o : Object) → place_of s o < place_limit)
+    → (o : Object) → place_of (after_from s es) o < place_limit
 low_from c s [] l low places o = places o
 low_from c s (e ∷ es) l low places o =
-    low_from c (next s e) es l.1 (All-tail (λ (x : Entry). x.place ≤ 524286) e es low)
-    (λ q. place_kept c s e q l.0 (All-head (λ (x : Entry). x.place ≤ 524286) e es low) (places q)) o
+    low_from c (next s e) es l.1 (All-tail (λ (x : Entry). x.place ≤ highest_place) e es low)
+    (λ q. place_kept c s e q l.0 (All-head (λ (x : Entry). x.place ≤ highest_place) e es low) (places q)) o
 
-places_low : (c : Setup) (es : List Entry) → Legal c es → AreLow es → (o : Object) → place_of (after c es) o < 2 ^ 19
+places_low : (c : Setup) (es : List Entry) → Legal c es → AreLow es → (o : Object) → place_of (after c es) o < place_limit
 places_low c es l low o = low_from c (opening c) es l low (opening_places c) o
 
 -- so the entries on one object can be counted
@@ -56,10 +59,11 @@ pub count_low : (c : Setup) (es : List Entry) → Legal c es → AreLow es → (
 count_low c es l low o count is = omega (arith, places_low c es l low o, place_is_count c es o l)
 
 -- and an element's generation is low
-pub generation_low : (c : Setup) (es : List Entry) → Legal c es → AreLow es → (n : ℕ) → ((after c es).element n).state.generation < 2 ^ 18
+pub generation_low : (c : Setup) (es : List Entry) → Legal c es → AreLow es → (n : ℕ)
+    → ((after c es).element n).state.generation < generation_limit
 generation_low c es l low n =
     let fits : FitsItsPlace ((after c es).element n) = generation_fits c es n l in
-    let place : ((after c es).element n).place < 2 ^ 19 = places_low c es l low (Element n) in
+    let place : ((after c es).element n).place < place_limit = places_low c es l low (Element n) in
     omega arith
 
 legal_take : (c : Setup) (s : System) (es : List Entry) (i : ℕ) → LegalFrom c s es → LegalFrom c s (take i es)
@@ -94,13 +98,6 @@ pub place_is_new : (c : Setup) (es : List Entry) (id : ℕ) → id ≡ (after c 
 place_is_new c es id is = new_after (opening c) es (λ n le. none_in_new c.latches n) id (omega arith)
 
 -- ---- operations that were admitted keep to their limits
-ecb_op_fits : (c : Setup) (s : System) (k n : ℕ) (op : EcbOp) → IsTrue (admitted c s k (Ecb n) (op_on.Ecb op)) → IsEcbOp op
-ecb_op_fits c s k n op h = grind arith
-
-element_op_fits : (c : Setup) (s : System) (k n : ℕ) (op : ElementOp) → IsTrue (admitted c s k (Element n) (op_on.Element op))
-    → IsElementOp op
-element_op_fits c s k n op h = grind arith
-
 latch_caller : (c : Setup) (s : System) (k : ℕ) (op : LatchOp) → IsTrue (admitted c s k Latches (op_on.Latch op)) → k < c.callers
 latch_caller c s k op h = grind arith
 
@@ -126,51 +123,45 @@ module _ (c : Setup) (es : List Entry) (l : Legal c es) (i : ℕ) (lt : i < leng
   admits o op on is = subst (λ p. IsTrue (admitted c before e.caller o p)) is
       (subst (λ q. IsTrue (admitted c before e.caller q e.op)) on is_next.admits)
 
+  -- what the entry leaves as it is
+  pub stays : {A : Type 0} (view : System → A) → ((s : System) → view (next s e) ≡ view s) → (a : A) → a ≡ view before
+      → a ≡ view (after c (take (i + 1) es))
+  stays view same a was = was ∙ sym (same before) ∙ sym (ap view one_more)
+
   -- an event control block
   pub ecb_pass_fits : (n : ℕ) (op : EcbOp) → e.object ≡ Ecb n → e.op ≡ op_on.Ecb op → IsEcbOp op
-  ecb_pass_fits n op on is = ecb_op_fits c before e.caller n op (admits (Ecb n) (op_on.Ecb op) on is)
+  ecb_pass_fits n op on is = fields_admitted c before e.caller (Ecb n) (op_on.Ecb op) (admits (Ecb n) (op_on.Ecb op) on is)
 
   pub ecb_pass : (n : ℕ) (op : EcbOp) → e.object ≡ Ecb n → e.op ≡ op_on.Ecb op → (word : EcbState) → word ≡ (before.ecb n).state
       → (ecb_step op word).0 ≡ ((after c (take (i + 1) es)).ecb n).state
   ecb_pass n op on is word was =
       ap (λ w. (ecb_step op w).0) was
-      ∙ sym (ap (λ z. z.state) (with_at-same before.ecb n (advanced (before.ecb n) (ecb_step op (before.ecb n).state).0) n refl))
+      ∙ sym (ap (λ z. z.state) (with_at-own before.ecb n (advanced (before.ecb n) (ecb_step op (before.ecb n).state).0)))
       ∙ sym (ap (λ (s : System). (s.ecb n).state) (moves (Ecb n) (op_on.Ecb op) on is))
-
-  pub ecb_stays : (n : ℕ) → ((s : System) → (next s e).ecb n ≡ s.ecb n) → (word : EcbState) → word ≡ (before.ecb n).state
-      → word ≡ ((after c (take (i + 1) es)).ecb n).state
-  ecb_stays n same word was = was ∙ sym (ap (λ z. z.state) (same before)) ∙ sym (ap (λ (s : System). (s.ecb n).state) one_more)
 
   -- an element
   pub element_pass_fits : (n : ℕ) (op : ElementOp) → e.object ≡ Element n → e.op ≡ op_on.Element op → IsElementOp op
-  element_pass_fits n op on is = element_op_fits c before e.caller n op (admits (Element n) (op_on.Element op) on is)
+  element_pass_fits n op on is =
+      fields_admitted c before e.caller (Element n) (op_on.Element op) (admits (Element n) (op_on.Element op) on is)
 
-  pub element_pass_low : AreLow es → (n : ℕ) (state : ElementState) → state ≡ (before.element n).state → state.generation < 2 ^ 18
+  pub element_pass_low : AreLow es → (n : ℕ) (state : ElementState) → state ≡ (before.element n).state → state.generation < generation_limit
   element_pass_low low n state was = rw was (generation_low c (take i es) (legal_take c (opening c) es i l)
-      (All-take (λ (x : Entry). x.place ≤ 524286) i es low) n)
+      (All-take (λ (x : Entry). x.place ≤ highest_place) i es low) n)
 
   pub element_pass : (n : ℕ) (op : ElementOp) → e.object ≡ Element n → e.op ≡ op_on.Element op → (state : ElementState)
       → state ≡ (before.element n).state → (element_step op state).0 ≡ ((after c (take (i + 1) es)).element n).state
   element_pass n op on is state was =
       ap (λ w. (element_step op w).0) was
-      ∙ sym (ap (λ z. z.state) (with_at-same before.element n
-      (advanced (before.element n) (element_step op (before.element n).state).0) n refl))
+      ∙ sym (ap (λ z. z.state) (with_at-own before.element n
+      (advanced (before.element n) (element_step op (before.element n).state).0)))
       ∙ sym (ap (λ (s : System). (s.element n).state) (moves (Element n) (op_on.Element op) on is))
-
-  pub element_stays : (n : ℕ) → ((s : System) → (next s e).element n ≡ s.element n) → (state : ElementState)
-      → state ≡ (before.element n).state → state ≡ ((after c (take (i + 1) es)).element n).state
-  element_stays n same state was = was ∙ sym (ap (λ z. z.state) (same before)) ∙ sym (ap (λ (s : System). (s.element n).state) one_more)
 
   -- a volume
   pub volume_pass : (n number : ℕ) → e.object ≡ Volume n → e.op ≡ op_on.Volume (Write number)
       → number ≡ ((after c (take (i + 1) es)).volume n).state
   volume_pass n number on is =
-      sym (ap (λ z. z.state) (with_at-same before.volume n (advanced (before.volume n) number) n refl))
+      sym (ap (λ z. z.state) (with_at-own before.volume n (advanced (before.volume n) number)))
       ∙ sym (ap (λ (s : System). (s.volume n).state) (moves (Volume n) (op_on.Volume (Write number)) on is))
-
-  pub volume_stays : (n : ℕ) → ((s : System) → ((next s e).volume n).state ≡ (s.volume n).state) → (number : ℕ)
-      → number ≡ (before.volume n).state → number ≡ ((after c (take (i + 1) es)).volume n).state
-  volume_stays n same number was = was ∙ sym (same before) ∙ sym (ap (λ (s : System). (s.volume n).state) one_more)
 
   -- the latch set
   pub latch_pass_caller : (op : LatchOp) → e.object ≡ Latches → e.op ≡ op_on.Latch op → (old : LatchLists)
@@ -208,11 +199,6 @@ module _ (c : Setup) (es : List Entry) (l : Legal c es) (i : ℕ) (lt : i < leng
       stepped op old new r on is was some step quotas
       ∙ sym (ap (λ (s : System). latches_of c s.latches.state) (moves Latches (op_on.Latch op) on is))
 
-  pub latch_stays : ((s : System) → (next s e).latches ≡ s.latches) → (old : LatchLists) → old ≡ latches_of c before.latches.state
-      → old ≡ latches_of c (after c (take (i + 1) es)).latches.state
-  latch_stays same old was = was ∙ sym (ap (λ z. latches_of c z.state) (same before))
-      ∙ sym (ap (λ (s : System). latches_of c s.latches.state) one_more)
-
 -- ---- the answer behind the whole list
 module _ (c : Setup) (es : List Entry) (l : Legal c es) (i : ℕ) (all : length es ≤ i) where
   whole : after c (take i es) ≡ after c es
@@ -228,7 +214,7 @@ module _ (c : Setup) (es : List Entry) (l : Legal c es) (i : ℕ) (all : length 
   ecb_answer k n op word z place was step is ok = rw (ok, step, was, whole, counted (Ecb n) place is) refl
 
   pub element_end_low : AreLow es → (n : ℕ) (state : ElementState) → state ≡ ((after c (take i es)).element n).state
-      → state.generation < 2 ^ 18
+      → state.generation < generation_limit
   element_end_low low n state was = rw (was, whole) (generation_low c es l low n)
 
   pub element_answer : (k n : ℕ) (op : ElementOp) (state : ElementState) (z : ElementState × ElementReply) (place : ℕ)

@@ -13,7 +13,7 @@ use Rattle.mv_machine.specs.declared.packing.WordState.TheVariants as state
 use Rattle.mv_machine.specs.Packing.{HasOpFields, state_at, state_after, reply_in}
 use Rattle.mv_machine.specs.Setup.{Setup}
 use Rattle.mv_machine.specs.System.{System, admitted, ecb_admitted, element_admitted, reply_to, moved, place_of, advanced, volume_step}
-use Rattle.mv_machine.proofs.Histories.{with_at-same}
+use Rattle.mv_machine.proofs.Histories.{with_at-own}
 
 ecb_fields : (c : Setup) (k n : ℕ) (op : EcbOp) → ecb_admitted c k n op ≡ true → IsEcbOp op
 ecb_fields c k n op a = grind arith
@@ -39,21 +39,21 @@ reply_by_state c m k o op a w = absurd (false≢true a)
 pub state_by_state : (c : Setup) (m : System) (k : ℕ) (o : Object) (op : Op) → admitted c m k o op ≡ true
     → state_at (moved m k o op) o ≡ option_and_then (state_after op) (state_at m o)
 state_by_state c m k (Ecb n) (op_on.Ecb op) a = ap (λ z. Some (state.Ecb z.state))
-    (with_at-same m.ecb n (advanced (m.ecb n) (ecb_step op (m.ecb n).state).0) n refl)
+    (with_at-own m.ecb n (advanced (m.ecb n) (ecb_step op (m.ecb n).state).0))
 state_by_state c m k (Element n) (op_on.Element op) a = ap (λ z. Some (state.Element z.state))
-    (with_at-same m.element n (advanced (m.element n) (element_step op (m.element n).state).0) n refl)
+    (with_at-own m.element n (advanced (m.element n) (element_step op (m.element n).state).0))
 state_by_state c m k (Volume n) (op_on.Volume op) a = ap (λ z. Some (state.Volume z.state))
-    (with_at-same m.volume n (advanced (m.volume n) (volume_step op (m.volume n).state).0) n refl)
+    (with_at-own m.volume n (advanced (m.volume n) (volume_step op (m.volume n).state).0))
 state_by_state c m k Latches (op_on.Latch op) a = refl
 state_by_state c m k o op a = absurd (false≢true a)
 
 pub place_rises : (c : Setup) (m : System) (k : ℕ) (o : Object) (op : Op) → admitted c m k o op ≡ true
     → place_of (moved m k o op) o ≡ place_of m o + 1
 place_rises c m k (Ecb n) (op_on.Ecb op) a = ap (λ z. z.place)
-    (with_at-same m.ecb n (advanced (m.ecb n) (ecb_step op (m.ecb n).state).0) n refl)
+    (with_at-own m.ecb n (advanced (m.ecb n) (ecb_step op (m.ecb n).state).0))
 place_rises c m k (Element n) (op_on.Element op) a =
-    ap (λ z. z.place) (with_at-same m.element n (advanced (m.element n) (element_step op (m.element n).state).0) n refl)
+    ap (λ z. z.place) (with_at-own m.element n (advanced (m.element n) (element_step op (m.element n).state).0))
 place_rises c m k (Volume n) (op_on.Volume op) a =
-    ap (λ z. z.place) (with_at-same m.volume n (advanced (m.volume n) (volume_step op (m.volume n).state).0) n refl)
+    ap (λ z. z.place) (with_at-own m.volume n (advanced (m.volume n) (volume_step op (m.volume n).state).0))
 place_rises c m k Latches (op_on.Latch op) a = refl
 place_rises c m k o op a = absurd (false≢true a)

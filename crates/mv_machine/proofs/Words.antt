@@ -6,13 +6,14 @@ use Rattle.mv_ecb.specs.Table.{ecb_step}
 use Rattle.mv_ecb.specs.Word.{EcbState, Zero, Waiting, Extended, Complete, word_of}
 use Rattle.mv_ecb.specs.declared.operation.EcbOp.{EcbOp}
 use Rattle.mv_element.specs.Code.{IsKeptCode}
-use Rattle.mv_element.specs.Element.{free, reset, prereleased, paused, released}
-use Rattle.mv_element.specs.Table.{element_step}
+use Rattle.mv_element.specs.Element.{generation_limit, free, reset, prereleased, paused, released}
+use Rattle.mv_element.specs.Table.{release_limit, element_step}
 use Rattle.mv_element.specs.declared.element.ElementState.{ElementState}
 use Rattle.mv_element.specs.declared.element.Phase.{Phase}
 use Rattle.mv_element.specs.declared.element.Phase.TheVariants.{Free, Reset, Prereleased, Paused, Released}
 use Rattle.mv_element.specs.declared.operation.ElementOp.{ElementOp}
 use Rattle.mv_element.proofs.States.{same_state}
+use Rattle.mv_machine.specs.Limits.{events_limit, highest_generation}
 use Rattle.mv_machine.specs.declared.entry.Entry.{Entry}
 use Rattle.mv_machine.specs.declared.entry.Object.{Object}
 use Rattle.mv_machine.specs.declared.entry.Object.TheVariants.{Ecb, Element, Volume, Latches}
@@ -35,8 +36,8 @@ use Rattle.mv_machine.proofs.Budgets.{places_fit, no_high_generation}
 block_next : (c : Setup) (k n : ℕ) (op : EcbOp) (s : EcbState) → ecb_admitted c k n op ≡ true → IsBlock s → IsBlock (ecb_step op s).0
 block_next c k n op s a b = grind arith
 
-code_next : (c : Setup) (k n : ℕ) (op : ElementOp) (s : ElementState) → element_admitted c k n op ≡ true → s.code < 2 ^ 24
-    → (element_step op s).0.code < 2 ^ 24
+code_next : (c : Setup) (k n : ℕ) (op : ElementOp) (s : ElementState) → element_admitted c k n op ≡ true → s.code < release_limit
+    → (element_step op s).0.code < release_limit
 code_next c k n op s a b = grind arith
 
 number_next : (op : VolumeOp) (n : ℕ) → volume_admitted op ≡ true → n < 2 ^ 32 → (volume_step op n).0 < 2 ^ 32
@@ -45,7 +46,7 @@ number_next op n a b = grind arith
 -- each state's numbers are such as can be packed
 pub record HasNumbers (s : System) : Type 0 where
   pub blocks : (n : ℕ) → IsBlock (s.ecb n).state
-  pub codes : (n : ℕ) → (s.element n).state.code < 2 ^ 24
+  pub codes : (n : ℕ) → (s.element n).state.code < release_limit
   pub numbers : (n : ℕ) → (s.volume n).state < 2 ^ 32
 
 numbers_next : (c : Setup) (s : System) (k : ℕ) (o : Object) (op : Op) → admitted c s k o op ≡ true → HasNumbers s
@@ -62,9 +63,10 @@ numbers_next c s k (Ecb n) (op_on.Ecb op) a h = record {
 numbers_next c s k (Element n) (op_on.Element op) a h = record {
   blocks = h.blocks;
   codes = λ m. elim (cases_eq m n) [
-    | inl same ↦ (let b : (element_step op (s.element n).state).0.code < 2 ^ 24 = code_next c k n op (s.element n).state (grind arith)
+    | inl same ↦ (let b : (element_step op (s.element n).state).0.code < release_limit =
+        code_next c k n op (s.element n).state (grind arith)
         (h.codes n) in grind arith)
-    | inr other ↦ (let b : (s.element m).state.code < 2 ^ 24 = h.codes m in grind arith)
+    | inr other ↦ (let b : (s.element m).state.code < release_limit = h.codes m in grind arith)
   ];
   numbers = h.numbers;
 }
@@ -118,7 +120,8 @@ element_by_phase Released s e = ap (λ z. Some z) (same_state (released s.genera
 phase_small : (p : Phase) → phase_number p < 8
 phase_small p = grind arith
 
-element_back : (n : ℕ) (s : ElementState) → s.code < 2 ^ 24 → state_in (Element n) (state_bits (state.Element s)) ≡ Some (state.Element s)
+element_back : (n : ℕ) (s : ElementState) → s.code < release_limit
+    → state_in (Element n) (state_bits (state.Element s)) ≡ Some (state.Element s)
 element_back n s d =
     let p : phase_number s.phase < 8 = phase_small s.phase in
     let g : state_bits (state.Element s) / 2 ^ 27 ≡ s.generation = omega arith in
@@ -149,8 +152,8 @@ packed_unpacks (Ecb n) place (state.Ecb s) b =
     let w : word_of s < 2 ^ 32 = block_word s b in
     unpacked (Ecb n) place (state.Ecb s) (omega arith) (block_back n s b)
 packed_unpacks (Element n) place (state.Element s) b =
-    let g : s.generation < 2 ^ 18 = b.0 in
-    let d : s.code < 2 ^ 24 = b.1 in
+    let g : s.generation < generation_limit = b.0 in
+    let d : s.code < release_limit = b.1 in
     let p : phase_number s.phase < 8 = phase_small s.phase in
     unpacked (Element n) place (state.Element s) (omega arith) (element_back n s d)
 packed_unpacks (Volume n) place (state.Volume m) b =
@@ -158,36 +161,36 @@ packed_unpacks (Volume n) place (state.Volume m) b =
     unpacked (Volume n) place (state.Volume m) (omega arith) (number_back n m lt)
 packed_unpacks o place s b = absurd b
 
-pub reached_unpack : (c : Setup) (es : List Entry) (o : Object) → Legal c es → length es ≤ 524287
+pub reached_unpack : (c : Setup) (es : List Entry) (o : Object) → Legal c es → length es ≤ events_limit
     → unpack o (word_at (after c es) o) ≡ option_map (λ s. (place_of (after c es) o, s)) (state_at (after c es) o)
 reached_unpack c es (Ecb n) l le = packed_unpacks (Ecb n) _ (state.Ecb ((after c es).ecb n).state) ((numbers_after c es l).blocks n)
 reached_unpack c es (Element n) l le =
-    let g : ((after c es).element n).state.generation ≤ 262143 = no_high_generation c es n l le in
+    let g : ((after c es).element n).state.generation ≤ highest_generation = no_high_generation c es n l le in
     packed_unpacks (Element n) _ (state.Element ((after c es).element n).state) (omega arith, (numbers_after c es l).codes n)
 reached_unpack c es (Volume n) l le = packed_unpacks (Volume n) _ (state.Volume ((after c es).volume n).state)
     ((numbers_after c es l).numbers n)
 reached_unpack c es Latches l le = refl
 
-pub reached_word : (c : Setup) (es : List Entry) (o : Object) → Legal c es → length es ≤ 524287 → word_at (after c es) o < 2 ^ 64
+pub reached_word : (c : Setup) (es : List Entry) (o : Object) → Legal c es → length es ≤ events_limit → word_at (after c es) o < 2 ^ 64
 reached_word c es (Ecb n) l le =
     let w : word_of ((after c es).ecb n).state < 2 ^ 32 = block_word ((after c es).ecb n).state ((numbers_after c es l).blocks n) in
-    let p : ((after c es).ecb n).place ≤ 524287 = places_fit c es (Ecb n) l le in omega arith
+    let p : ((after c es).ecb n).place ≤ events_limit = places_fit c es (Ecb n) l le in omega arith
 reached_word c es (Element n) l le =
-    let d : ((after c es).element n).state.code < 2 ^ 24 = (numbers_after c es l).codes n in
-    let g : ((after c es).element n).state.generation ≤ 262143 = no_high_generation c es n l le in
+    let d : ((after c es).element n).state.code < release_limit = (numbers_after c es l).codes n in
+    let g : ((after c es).element n).state.generation ≤ highest_generation = no_high_generation c es n l le in
     let f : phase_number ((after c es).element n).state.phase < 8 = phase_small ((after c es).element n).state.phase in
-    let p : ((after c es).element n).place ≤ 524287 = places_fit c es (Element n) l le in omega arith
+    let p : ((after c es).element n).place ≤ events_limit = places_fit c es (Element n) l le in omega arith
 reached_word c es (Volume n) l le =
     let m : ((after c es).volume n).state < 2 ^ 32 = (numbers_after c es l).numbers n in
-    let p : ((after c es).volume n).place ≤ 524287 = places_fit c es (Volume n) l le in omega arith
+    let p : ((after c es).volume n).place ≤ events_limit = places_fit c es (Volume n) l le in omega arith
 reached_word c es Latches l le = omega arith
 
-pub reached_fields : (c : Setup) (es : List Entry) (o : Object) → Legal c es → length es ≤ 524287
+pub reached_fields : (c : Setup) (es : List Entry) (o : Object) → Legal c es → length es ≤ events_limit
     → IfSome (state_at (after c es) o) (λ s. HasFields s)
 reached_fields c es (Ecb n) l le = tt
 reached_fields c es (Element n) l le =
-    let d : ((after c es).element n).state.code < 2 ^ 24 = (numbers_after c es l).codes n in
-    let g : ((after c es).element n).state.generation ≤ 262143 = no_high_generation c es n l le in
+    let d : ((after c es).element n).state.code < release_limit = (numbers_after c es l).codes n in
+    let g : ((after c es).element n).state.generation ≤ highest_generation = no_high_generation c es n l le in
     (omega arith, d)
 reached_fields c es (Volume n) l le = tt
 reached_fields c es Latches l le = tt

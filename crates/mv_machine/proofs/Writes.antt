@@ -64,6 +64,23 @@ after_step_fits c s k o op f m =
 pub same_fits : (t u : System) → t ≡ u → ((m : ℕ) → FitsItsPlace (u.element m)) → (m : ℕ) → FitsItsPlace (t.element m)
 same_fits t u e f = rw e f
 
+-- a state with other cells is opened, too, where these are as many and the elements' generations fit
+still_opened : (c : Setup) (s : State) (ecbs : Vec EcbCell Global) (elements : Vec ElementCell Global) (volumes : Vec VolumeCell Global)
+    → IsOpenedWith c s → length ecbs.items ≡ length s.ecbs.items → length elements.items ≡ length s.elements.items
+    → length volumes.items ≡ length s.volumes.items
+    → ((n : ℕ) → FitsItsPlace ((system_of (record s { ecbs = ecbs; elements = elements; volumes = volumes })).element n))
+    → IsOpenedWith c (record s { ecbs = ecbs; elements = elements; volumes = volumes })
+still_opened c s ecbs elements volumes o same_ecbs same_elements same_volumes fit = record {
+  ecbs = same_ecbs ∙ o.ecbs;
+  elements = same_elements ∙ o.elements;
+  volumes = same_volumes ∙ o.volumes;
+  lists = o.lists;
+  latches = o.latches;
+  room = o.room;
+  new_ids = o.new_ids;
+  generations = fit;
+}
+
 -- an operation on an event control block: its cell is written
 module _ (c : Setup) (s : State) (k n : ℕ) (op : EcbOp) (x : EcbCell) (z : EcbState × EcbReply) (lt : n < length s.ecbs.items)
     (read : x ≡ get_or s.ecbs.items n x) (step : z ≡ ecb_step op x.word)
@@ -85,17 +102,7 @@ module _ (c : Setup) (s : State) (k n : ℕ) (op : EcbOp) (x : EcbCell) (z : Ecb
     answered = ecb_answered;
     after = ecb_written;
     wakes = refl;
-    opened = record {
-      ecbs = rw length-set o.ecbs;
-      elements = o.elements;
-      volumes = o.volumes;
-      lists = o.lists;
-      latches = o.latches;
-      room =
-          o.room;
-      new_ids = o.new_ids;
-      generations = o.generations;
-    };
+    opened = still_opened c s ecb_after.ecbs s.elements s.volumes o (length-set s.ecbs.items n _) refl refl o.generations;
   }
 
 -- an operation on an element
@@ -120,18 +127,8 @@ module _ (c : Setup) (s : State) (k n : ℕ) (op : ElementOp) (x : ElementCell) 
     answered = element_answered;
     after = element_written;
     wakes = refl;
-    opened = record {
-      ecbs = o.ecbs;
-      elements = rw length-set o.elements;
-      volumes = o.volumes;
-      lists = o.lists;
-      latches = o.latches;
-      room =
-          o.room;
-      new_ids = o.new_ids;
-      generations =
-          same_fits _ _ element_written (after_step_fits c (system_of s) k (Element n) (op_on.Element op) o.generations);
-    };
+    opened = still_opened c s s.ecbs element_after.elements s.volumes o refl (length-set s.elements.items n _) refl
+        (same_fits _ _ element_written (after_step_fits c (system_of s) k (Element n) (op_on.Element op) o.generations));
   }
 
 -- an operation on a volume
@@ -156,17 +153,7 @@ module _ (c : Setup) (s : State) (k n : ℕ) (op : VolumeOp) (x : VolumeCell) (z
     answered = volume_answered;
     after = volume_written;
     wakes = refl;
-    opened = record {
-      ecbs = o.ecbs;
-      elements = o.elements;
-      volumes = rw length-set o.volumes;
-      lists = o.lists;
-      latches = o.latches;
-      room =
-          o.room;
-      new_ids = o.new_ids;
-      generations = o.generations;
-    };
+    opened = still_opened c s s.ecbs s.elements volume_after.volumes o refl refl (length-set s.volumes.items n _) o.generations;
   }
 
 -- an operation on the latch set

@@ -1,7 +1,11 @@
 -- The limits of a run, by their names.
-use Rattle.std.specs.Prelude.{ℕ}
+use Rattle.std.specs.Prelude.{ℕ, ◌^◌}
 
--- how many events a run may have. A place counts them in 19 bits, and so many are the most that it can count
+-- places have 19 bits: how many events an object has had is below this
+abbrev pub place_limit : ℕ
+place_limit = 2 ^ 19
+
+-- how many events a run may have: the most that a place can count
 abbrev pub events_limit : ℕ
 events_limit = 524287
 
@@ -21,10 +25,11 @@ callers_limit = 16
 abbrev pub elements_limit : ℕ
 elements_limit = 16
 
--- how many volumes, and how many latches
+-- how many volumes
 abbrev pub volumes_limit : ℕ
 volumes_limit = 8
 
+-- how many latches
 abbrev pub latches_limit : ℕ
 latches_limit = 8
 

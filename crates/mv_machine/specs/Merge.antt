@@ -44,13 +44,13 @@ merge_from zero p logs = []
 merge_from (suc n) p logs = followed (λ e rest. merge_from n (risen p e.object) rest) (pick p logs)
 
 -- how many entries the logs have
-abbrev pub total : List (List Entry) → ℕ
-total [] = 0
-total (log ∷ logs) = length log + total logs
+abbrev pub entry_count : List (List Entry) → ℕ
+entry_count [] = 0
+entry_count (log ∷ logs) = length log + entry_count logs
 
 -- as many picks as the logs have entries
 abbrev pub merged : List (List Entry) → List Entry
-merged logs = merge_from (total logs) start logs
+merged logs = merge_from (entry_count logs) start logs
 
 -- the logs are the callers' parts of one legal history within the budgets
 pub record AreOneHistory (c : Setup) (logs : List (List Entry)) : Type 0 where

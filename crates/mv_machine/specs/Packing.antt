@@ -7,7 +7,7 @@ use Rattle.mv_element.specs.declared.element.ElementState.{ElementState}
 use Rattle.mv_element.specs.declared.element.Phase.{Phase}
 use Rattle.mv_element.specs.declared.element.Phase.TheVariants.{Free, Reset, Prereleased, Paused, Released}
 use Rattle.mv_element.specs.Table.{IsElementOp, release_limit, element_step}
-use Rattle.mv_element.specs.Element.{free, reset, prereleased, paused, released}
+use Rattle.mv_element.specs.Element.{generation_limit, free, reset, prereleased, paused, released}
 use Rattle.mv_machine.specs.declared.entry.Object.{Object}
 use Rattle.mv_machine.specs.declared.entry.Object.TheVariants.{Ecb, Element, Volume, Latches}
 use Rattle.mv_machine.specs.declared.entry.Op.{Op}
@@ -42,7 +42,7 @@ pack place s = place * 2 ^ 45 + state_bits s
 -- an element's numbers have their bits: 18 for the generation, 24 for the code. A block's fullword and a volume's number
 -- have theirs by their types
 abbrev pub HasFields : WordState → Type 0
-HasFields (state.Element s) = (s.generation < 2 ^ 18) × (s.code < release_limit)
+HasFields (state.Element s) = (s.generation < generation_limit) × (s.code < release_limit)
 HasFields _ = Unit {0}
 
 -- an exit is counted from 1, and it and a code have 30 bits

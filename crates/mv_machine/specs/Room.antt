@@ -11,11 +11,11 @@ use Rattle.mv_machine.specs.Merge.{Places, start, pick}
 use Rattle.mv_machine.specs.Setup.{Setup, IsObjectOf}
 
 -- whether an object's next place is kept here
-abbrev pub Keeps : NextPlaces → Object → Type 0
-Keeps t (Ecb n) = n < length t.ecbs.items
-Keeps t (Element n) = n < length t.elements.items
-Keeps t (Volume n) = n < length t.volumes.items
-Keeps t Latches = Unit {0}
+abbrev pub HasNext : NextPlaces → Object → Type 0
+HasNext t (Ecb n) = n < length t.ecbs.items
+HasNext t (Element n) = n < length t.elements.items
+HasNext t (Volume n) = n < length t.volumes.items
+HasNext t Latches = Unit {0}
 
 -- each object's next place
 abbrev pub next_in : NextPlaces → Places
@@ -29,7 +29,7 @@ pub record IsRoomFor (c : Setup) (r : MergeRoom) : Type 0 where
   pub empty : r.journal.items ≡ []
   pub room : sum c.budgets ≤ vec_capacity r.journal
   pub few : sum c.budgets ≤ events_limit
-  pub objects : (o : Object) → IsObjectOf c o → Keeps r.places o
+  pub objects : (o : Object) → IsObjectOf c o → HasNext r.places o
   pub unmoved : next_in r.places ≡ start
   pub logs : r.merged.items ≡ replicate c.callers 0
 
@@ -42,5 +42,5 @@ lefts (n ∷ ns) (log ∷ logs) = drop n log ∷ lefts ns logs
 -- the entry is picked, and as many of its caller's as it says are merged then
 pub record IsPicked (places : NextPlaces) (merged : List ℕ) (logs : List (List Entry)) (p : Picked) : Type 0 where
   pub caller : p.caller < length merged
-  pub kept : Keeps places p.entry.object
+  pub kept : HasNext places p.entry.object
   pub picks : pick (next_in places) (lefts merged logs) ≡ Some (p.entry, lefts (slice_set merged p.caller p.merged) logs)

@@ -21,7 +21,7 @@ ghost use Rattle.mv_machine.specs.Kept.{StandingRequest, standing, allowed, is_p
 ghost use Rattle.mv_machine.specs.Leaving.{NoneTakesOut};
 ghost use Rattle.mv_machine.specs.Legal.{Legal, SameAt, same_object, after, of, «at», CountsFrom};
 ghost use Rattle.mv_machine.specs.Limits.{events_limit, highest_place, highest_generation};
-ghost use Rattle.mv_machine.specs.Merge.{merged, merge_from, start, total};
+ghost use Rattle.mv_machine.specs.Merge.{merged, merge_from, start, entry_count};
 ghost use Rattle.mv_machine.specs.OnePost.{TakePosts};
 ghost use Rattle.mv_machine.specs.Orderly.{IsOrderly};
 ghost use Rattle.mv_machine.specs.Owned.{owner_at, is_owners, is_clear, HasNo, IsGranted, IsGone};
@@ -36,7 +36,8 @@ ghost use Rattle.mv_machine.specs.Told.{told};
 /// generation passes 262,143.
 pub fn generations_fit()
     ensures fits { (c : Setup) (es : List Entry) (n : ℕ) → Legal c es → FitsItsPlace ((after c es).element n) }
-    ensures places { (c : Setup) (es : List Entry) (o : Object) → Legal c es → length es ≤ events_limit → place_of (after c es) o ≤ events_limit }
+    ensures places { (c : Setup) (es : List Entry) (o : Object) → Legal c es → length es ≤ events_limit
+        → place_of (after c es) o ≤ events_limit }
     ensures entries { (c : Setup) (es : List Entry) → Legal c es → length es ≤ events_limit → All (λ e. e.place ≤ highest_place) es }
     ensures generations { (c : Setup) (es : List Entry) (n : ℕ) → Legal c es → length es ≤ events_limit
         → ((after c es).element n).state.generation ≤ highest_generation }
@@ -77,7 +78,8 @@ pub fn posts_complete_once()
 
 /// A word that an object has now was had, and stays had with every further entry.
 pub fn words_stay_had()
-    ensures now { (c : Setup) (es : List Entry) (k : ℕ) (o : Object) → Legal c es → length es ≤ events_limit → IsSome (state_at (after c es) o)
+    ensures now { (c : Setup) (es : List Entry) (k : ℕ) (o : Object) → Legal c es → length es ≤ events_limit
+        → IsSome (state_at (after c es) o)
         → Had c es k (length (of k es)) o (word_at (after c es) o) }
     ensures longer { (c : Setup) (es : List Entry) (e : Entry) (k n w : ℕ) (o : Object) → Legal c (es ++ e ∷ [])
         → Had c es k n o w → Had c (es ++ e ∷ []) k n o w }
@@ -96,7 +98,7 @@ pub fn merging_keeps_a_history()
     ensures after { (c : Setup) (es : List Entry) → Legal c es → after c (merged (parts c.callers es)) ≡ after c es }
     ensures each_pick { (c : Setup) (es : List Entry) (n : ℕ) → Legal c es → n ≤ length es
         → length (merge_from n start (parts c.callers es)) ≡ n }
-    ensures total { (c : Setup) (es : List Entry) → Legal c es → total (parts c.callers es) ≡ length es }
+    ensures total { (c : Setup) (es : List Entry) → Legal c es → entry_count (parts c.callers es) ≡ length es }
 {}
 
 /// What a task waits for stays until the task itself goes on; a granted request alone may go earlier, by anyone's purge of

@@ -7,7 +7,7 @@ ghost use Rattle.mv_machine.specs.Legal.{Legal};
 ghost use Rattle.mv_machine.specs.Limits.{highest_place};
 ghost use Rattle.mv_machine.specs.Merge.{start, risen, pick, merged as merged_logs, AreOneHistory};
 ghost use Rattle.mv_machine.specs.Parts.{parts};
-ghost use Rattle.mv_machine.specs.Room.{IsRoomFor, IsPicked, Keeps, next_in, lefts};
+ghost use Rattle.mv_machine.specs.Room.{IsRoomFor, IsPicked, HasNext, next_in, lefts};
 ghost use Rattle.mv_machine.specs.Setup.{IsObjectOf};
 
 use crate::entry::{Entry, Object};
@@ -44,7 +44,7 @@ impl NextPlaces {
     // Before the first entry.
     fn new(alloc: Global, config: &ValidConfig) -> Result<NextPlaces, NoMemory>
         ensures start { IfOk result (λ n. next_in n ≡ start) }
-        ensures objects { IfOk result (λ n. (o : AnyObject) → IsObjectOf config.now o → Keeps n o) }
+        ensures objects { IfOk result (λ n. (o : AnyObject) → IsObjectOf config.now o → HasNext n o) }
     {
         let given = config.config();
         let ecbs = vec![in alloc; 0; given.owners.len()]?;
@@ -59,7 +59,7 @@ impl NextPlaces {
     }
 
     fn next(&self, object: Object) -> u32
-        requires { Keeps self.now object }
+        requires { HasNext self.now object }
         ensures { result ≡ next_in self.now object }
     {
         match object {
@@ -72,10 +72,10 @@ impl NextPlaces {
 
     // One entry more on an object.
     fn rise(&mut self, object: Object)
-        requires kept { Keeps self.old object }
+        requires kept { HasNext self.old object }
         requires place { next_in self.old object ≤ highest_place }
         ensures places { next_in self.new ≡ risen (next_in self.old) object }
-        ensures objects { (o : AnyObject) → Keeps self.old o → Keeps self.new o }
+        ensures objects { (o : AnyObject) → HasNext self.old o → HasNext self.new o }
     {
         match object {
             Object::Ecb(ecb) => self.ecbs[ecb as usize] += 1,
@@ -127,7 +127,7 @@ struct Picked {
 // The lowest caller whose next entry has its object's next place gives that entry.
 fn ready(logs: &[Log], merged: &[usize], places: &NextPlaces) -> Option<Picked>
     requires merged { length merged.now ≡ length logs.now }
-    requires objects { AllByRecursion (λ log. AllByRecursion (λ e. Keeps places.now e.object) log) logs.now }
+    requires objects { AllByRecursion (λ log. AllByRecursion (λ e. HasNext places.now e.object) log) logs.now }
     ensures { MatchOption result (pick (next_in places.now) (lefts merged.now logs.now) ≡ None)
         (λ p. IsPicked places.now merged.now logs.now p) }
 {

@@ -1,6 +1,8 @@
 //! The word of a shared object: its place and its state in 64 bits, by specs/Packing.antt.
 
 ghost use Rattle.std.specs.Prelude.{◌≡◌, ◌<◌, ◌^◌, IfSome};
+ghost use Rattle.mv_element.specs.Table.{release_limit};
+ghost use Rattle.mv_machine.specs.Limits.{place_limit};
 ghost use Rattle.mv_machine.specs.Packing.{HasFields, HasOpFields, state_step, pack as pack_of, state_bits};
 ghost use Rattle.mv_machine.specs.Packing.{phase_number as number_of, unpack as unpack_of, state_in as state_by_bits};
 ghost use Rattle.mv_machine.specs.Packing.{element_in as element_by_fields};
@@ -24,7 +26,7 @@ pub enum WordState {
 /// A word: a place in its 19 high bits, a state in the 45 low ones. So one exchange of a word changes both, and no word that was
 /// changed comes back.
 pub fn pack(place: u32, state: WordState) -> u64
-    requires place { place < 2 ^ 19 }
+    requires place { place < place_limit }
     requires fields { HasFields state }
     ensures { result ≡ pack_of place state }
 {
@@ -97,7 +99,7 @@ fn state_in(object: Object, bits: u64) -> Option<WordState>
 
 // The element of this generation, in the phase of this number.
 fn element_in(generation: u32, phase: u64, code: u32) -> Option<ElementState>
-    requires { code < 2 ^ 24 }
+    requires { code < release_limit }
     ensures { result ≡ element_by_fields generation phase code }
 {
     match phase {

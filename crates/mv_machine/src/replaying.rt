@@ -4,7 +4,7 @@
 ghost use Rattle.std.specs.Prelude.{◌≡◌, ◌≢◌, ◌<◌, ◌≤◌, ◌^◌, ◌↔◌, IsTrue, MatchOption, OnOk, IfOk, IfErr, All, Some, None};
 ghost use Rattle.mv_machine.specs.declared.entry.Object.{Object as AnyObject};
 ghost use Rattle.mv_machine.specs.Legal.{Legal, LegalFrom, after, after_from};
-ghost use Rattle.mv_machine.specs.Limits.{highest_place};
+ghost use Rattle.mv_machine.specs.Limits.{highest_place, place_limit};
 ghost use Rattle.mv_machine.specs.OnePost.{TakePosts};
 ghost use Rattle.mv_machine.specs.Orderly.{IsOrderly};
 ghost use Rattle.mv_machine.specs.Replay.{IsFirstIllegal, IsRefused};
@@ -91,7 +91,7 @@ pub fn replay(
 fn first_illegal(state: &mut State, config: &ValidConfig, entries: &[Entry]) -> Option<Illegal>
     requires opened { IsOpenedWith config.now state.old }
     requires places { All (λ e. e.place ≤ highest_place) entries.now }
-    requires at_most { (o : AnyObject) → place_of (system_of state.old) o < 2 ^ 19 }
+    requires at_most { (o : AnyObject) → place_of (system_of state.old) o < place_limit }
     ensures legal { MatchOption result (LegalFrom config.now (system_of state.old) entries.now)
         (λ i. IsFirstIllegal config.now (system_of state.old) entries.now i) }
     ensures after { MatchOption result (system_of state.new ≡ after_from (system_of state.old) entries.now) (λ _. Unit {0}) }

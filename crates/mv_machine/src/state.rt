@@ -2,7 +2,7 @@
 
 ghost use Rattle.std.specs.Prelude.{◌≡◌, ◌<◌, ◌≤◌, ◌+◌, ◌^◌, ◌-◌, ℕ, [], length, IfOk, IfSome, IsTrue, ◌↔◌};
 ghost use Rattle.mv_latch.specs.LatchSet.{list_of};
-ghost use Rattle.mv_machine.specs.Limits.{highest_place};
+ghost use Rattle.mv_machine.specs.Limits.{highest_place, place_limit};
 ghost use Rattle.mv_machine.specs.System.{System, answer, after_step, place_of, volume_step};
 ghost use Rattle.mv_machine.specs.System.{wakes_after, opening as opening_of};
 ghost use Rattle.mv_machine.specs.State.{system_of, wakes_of, IsOpenedWith, IsStep, Exists, HasLatch};
@@ -187,7 +187,7 @@ impl State {
         op: Op,
     ) -> Option<(u32, Reply)>
         requires opened { IsOpenedWith config.now self.old }
-        requires place { place_of (system_of self.old) object < 2 ^ 19 }
+        requires place { place_of (system_of self.old) object < place_limit }
         ensures { IsStep config.now self.old self.new caller object op result }
     {
         if !config.has_caller(caller) {
@@ -215,7 +215,7 @@ impl State {
     ) -> Option<(u32, Reply)>
         requires opened { IsOpenedWith config.now self.old }
         requires caller { caller < config.now.callers }
-        requires place { place_of (system_of self.old) (Object.Ecb ecb) < 2 ^ 19 }
+        requires place { place_of (system_of self.old) (Object.Ecb ecb) < place_limit }
         ensures { IsStep config.now self.old self.new caller (Object.Ecb ecb) (Op.Ecb op) result }
     {
         if !config.has_ecb(ecb) || !admits_ecb(config, caller, ecb, op) {
@@ -239,7 +239,7 @@ impl State {
     ) -> Option<(u32, Reply)>
         requires opened { IsOpenedWith config.now self.old }
         requires caller { caller < config.now.callers }
-        requires place { place_of (system_of self.old) (Object.Element element) < 2 ^ 19 }
+        requires place { place_of (system_of self.old) (Object.Element element) < place_limit }
         ensures { IsStep config.now self.old self.new caller (Object.Element element) (Op.Element op) result }
     {
         if !config.has_element(element) || !admits_element(config, caller, element, op) {
@@ -263,7 +263,7 @@ impl State {
     ) -> Option<(u32, Reply)>
         requires opened { IsOpenedWith config.now self.old }
         requires caller { caller < config.now.callers }
-        requires place { place_of (system_of self.old) (Object.Volume volume) < 2 ^ 19 }
+        requires place { place_of (system_of self.old) (Object.Volume volume) < place_limit }
         ensures { IsStep config.now self.old self.new caller (Object.Volume volume) (Op.Volume op) result }
     {
         if !config.has_volume(volume) {
@@ -286,7 +286,7 @@ impl State {
     ) -> Option<(u32, Reply)>
         requires opened { IsOpenedWith config.now self.old }
         requires caller { caller < config.now.callers }
-        requires place { place_of (system_of self.old) Object.Latches < 2 ^ 19 }
+        requires place { place_of (system_of self.old) Object.Latches < place_limit }
         ensures { IsStep config.now self.old self.new caller Object.Latches (Op.Latch op) result }
     {
         if !posts_own_ecb(config, caller, op) {

@@ -3,6 +3,7 @@
 
 ghost use Rattle.std.specs.Prelude.{◌≡◌, ◌≤◌, length, IsTrue, IfOk, All};
 ghost use Rattle.mv_machine.specs.Legal.{of};
+ghost use Rattle.mv_machine.specs.Limits.{highest_place};
 ghost use Rattle.mv_machine.specs.Parts.{parts as parts_of, KeepsBudgets};
 ghost use Rattle.mv_machine.specs.State.{IsOpenedWith};
 
@@ -49,7 +50,7 @@ fn step(
     ensures { IsOpenedWith config.now state.new }
 {
     assert!(rt; state.has(object));
-    assert!(rt; state.place(object) <= 524_286);
+    assert!(rt; state.place(object) <= HIGHEST_PLACE);
     state.step(config, caller, object, op)
 }
 
@@ -74,9 +75,9 @@ fn a_block_is_armed_by_its_owner_alone(rt: HostRuntime) -> Result<(), Fail> {
 }
 
 fn are_low(entries: &[Entry]) -> bool
-    ensures { IsTrue result → All (λ e. e.place ≤ 524286) entries.now }
+    ensures { IsTrue result → All (λ e. e.place ≤ highest_place) entries.now }
 {
-    entries.iter().all(|e| e.place <= 524_286)
+    entries.iter().all(|e| e.place <= HIGHEST_PLACE)
 }
 
 fn entry(caller: u32, object: Object, place: u32, op: Op, reply: Reply) -> Entry {

@@ -158,15 +158,12 @@ impl ValidConfig {
         ensures { IfOk result (λ s. s ≡ opened self.now.latches self.now.callers self.now.quota self.now.posted_quota) }
     {
         let given = &self.config;
-        match LatchSet::new(
+        LatchSet::new(
             alloc,
             given.latches,
             given.callers,
             given.quota,
             given.posted_quota,
-        ) {
-            Ok(latches) => Ok(latches),
-            Err(_) => Err(NoMemory),
-        }
+        )
     }
 }

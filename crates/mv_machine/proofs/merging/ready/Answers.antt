@@ -4,7 +4,7 @@ use Rattle.std.proofs.lemmas.Grind.{common_steps}
 use Rattle.std.proofs.lemmas.List.{get_or_read}
 use Rattle.std.proofs.lemmas.Option.{gets, slice_get-get_or}
 use Rattle.std.specs.List.{AllByRecursion}
-use Rattle.mv_machine.specs.Room.{Keeps, next_in}
+use Rattle.mv_machine.specs.Room.{HasNext, next_in}
 use Rattle.mv_machine.proofs.Chains.{all_at}
 use Rattle.mv_machine.proofs.Lefts.{past_end, past_other, picks_here, at_end}
 use Rattle.mv_machine.proofs.merging.ready.Goals as goal
@@ -43,8 +43,8 @@ returns-then-next-entry c =
     let place : e.place ≡ next_in c.args.places.now e.object = sym c.if-next-entry.true ∙ c.next.ensures in
     record {
       caller = omega arith;
-      kept = all_at (λ x. Keeps c.args.places.now x.object) (get_or logs k []) (get_or merged k 0) e (rw log at here)
-          (all_at (λ l. AllByRecursion (λ x. Keeps c.args.places.now x.object) l) logs k (get_or logs k [])
+      kept = all_at (λ x. HasNext c.args.places.now x.object) (get_or logs k []) (get_or merged k 0) e (rw log at here)
+          (all_at (λ l. AllByRecursion (λ x. HasNext c.args.places.now x.object) l) logs k (get_or logs k [])
           (slice_get-get_or logs k [] inside) c.requires.objects);
       picks = picks_here (next_in c.args.places.now) merged logs k e c.requires.merged inside
           (rw log at here) place c.loop-caller.invariant;

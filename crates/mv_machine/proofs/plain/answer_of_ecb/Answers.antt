@@ -2,7 +2,8 @@
 use Rattle.std.proofs.Common.{◌∙◌, ap, arith}
 use Rattle.std.proofs.lemmas.Grind.{common_steps}
 use Rattle.mv_machine.specs.declared.entry.Object.TheVariants.{Ecb}
-use Rattle.mv_machine.proofs.Walks.{count_low, ecb_pass_fits, ecb_pass, ecb_stays, ecb_answer}
+use Rattle.mv_machine.specs.System.{System}
+use Rattle.mv_machine.proofs.Walks.{count_low, ecb_pass_fits, ecb_pass, stays, ecb_answer}
 use Rattle.mv_machine.proofs.plain.answer_of_ecb.Goals as goal
 use Rattle.mv_machine.proofs.plain.answer_of_ecb.Goals.{in-Some, in_default}
 
@@ -19,9 +20,9 @@ loop-entry-preserved c =
           ∙ ecb_pass c.args.config.now c.args.past.now c.requires.legal c.loop-entry.entry-index
           (omega arith) c.entry-item.result c.entry-item.is c.args.ecb w.in-Some.earlier w.in-Some.ensures.there.0 w.in-Some.ensures.there.1
           c.loop-entry.word c.loop-entry.invariant
-      | in_default w ↦ w.word-is ∙ ecb_stays c.args.config.now c.args.past.now c.requires.legal c.loop-entry.entry-index
-          (omega arith) c.entry-item.result c.entry-item.is c.args.ecb w.in_default.ensures.elsewhere c.loop-entry.word
-          c.loop-entry.invariant
+      | in_default w ↦ w.word-is ∙ stays c.args.config.now c.args.past.now c.requires.legal c.loop-entry.entry-index
+          (omega arith) c.entry-item.result c.entry-item.is (λ (s : System). (s.ecb c.args.ecb).state)
+          (λ s. ap (λ z. z.state) (w.in_default.ensures.elsewhere s)) c.loop-entry.word c.loop-entry.invariant
     ]
 
 pub overflow_cast-place : goal.overflow_cast-place

@@ -2,7 +2,8 @@
 use Rattle.std.proofs.Common.{◌∙◌, ap, arith}
 use Rattle.std.proofs.lemmas.Grind.{common_steps}
 use Rattle.mv_machine.specs.declared.entry.Object.TheVariants.{Element}
-use Rattle.mv_machine.proofs.Walks.{count_low, element_pass_fits, element_pass_low, element_pass, element_stays, element_end_low}
+use Rattle.mv_machine.specs.System.{System}
+use Rattle.mv_machine.proofs.Walks.{count_low, element_pass_fits, element_pass_low, element_pass, stays, element_end_low}
 use Rattle.mv_machine.proofs.Walks.{element_answer}
 use Rattle.mv_machine.proofs.plain.answer_of_element.Goals as goal
 use Rattle.mv_machine.proofs.plain.answer_of_element.Goals.{in-Some, in_default}
@@ -26,9 +27,9 @@ loop-entry-preserved c =
           ∙ element_pass c.args.config.now c.args.past.now c.requires.legal c.loop-entry.entry-index
           (omega arith) c.entry-item.result c.entry-item.is c.args.element w.in-Some.earlier w.in-Some.ensures.there.0
           w.in-Some.ensures.there.1 c.loop-entry.state c.loop-entry.invariant
-      | in_default w ↦ w.state-is ∙ element_stays c.args.config.now c.args.past.now c.requires.legal c.loop-entry.entry-index
-          (omega arith) c.entry-item.result c.entry-item.is c.args.element w.in_default.ensures.elsewhere c.loop-entry.state
-          c.loop-entry.invariant
+      | in_default w ↦ w.state-is ∙ stays c.args.config.now c.args.past.now c.requires.legal c.loop-entry.entry-index
+          (omega arith) c.entry-item.result c.entry-item.is (λ (s : System). (s.element c.args.element).state)
+          (λ s. ap (λ z. z.state) (w.in_default.ensures.elsewhere s)) c.loop-entry.state c.loop-entry.invariant
     ]
 
 pub overflow_cast-place : goal.overflow_cast-place

@@ -1,8 +1,9 @@
 -- The latch set, entry by entry.
-use Rattle.std.proofs.Common.{◌∙◌, refl, arith}
+use Rattle.std.proofs.Common.{◌∙◌, ap, refl, arith}
 use Rattle.std.proofs.lemmas.Grind.{common_steps}
 use Rattle.mv_machine.specs.declared.entry.Object.TheVariants.{Latches}
-use Rattle.mv_machine.proofs.Walks.{count_low, latch_pass_caller, latch_pass_new, latch_pass, latch_stays, latch_end_new}
+use Rattle.mv_machine.specs.System.{System, latches_of}
+use Rattle.mv_machine.proofs.Walks.{count_low, latch_pass_caller, latch_pass_new, latch_pass, stays, latch_end_new}
 use Rattle.mv_machine.proofs.Walks.{latch_end_ok, latch_answer}
 use Rattle.mv_machine.proofs.plain.answer_of_latches.Goals as goal
 use Rattle.mv_machine.proofs.plain.answer_of_latches.Goals.{in-Some, in_default}
@@ -30,8 +31,9 @@ loop-entry-preserved c =
         room = rw (w.wakes-is, w.apply.ensures.capacity) c.loop-entry.invariant.room;
       }
       | in_default w ↦ record {
-        latches = w.latches-is ∙ latch_stays c.args.config.now c.args.past.now c.requires.legal c.loop-entry.entry-index
-            (omega arith) c.entry-item.result c.entry-item.is w.in_default.ensures.elsewhere c.loop-entry.latches
+        latches = w.latches-is ∙ stays c.args.config.now c.args.past.now c.requires.legal c.loop-entry.entry-index
+            (omega arith) c.entry-item.result c.entry-item.is (λ (s : System). latches_of c.args.config.now s.latches.state)
+            (λ s. ap (λ z. latches_of c.args.config.now z.state) (w.in_default.ensures.elsewhere s)) c.loop-entry.latches
             c.loop-entry.invariant.latches;
         room = rw (w.wakes-is) c.loop-entry.invariant.room;
       }

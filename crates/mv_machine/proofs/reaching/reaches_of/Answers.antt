@@ -3,6 +3,7 @@ use Rattle.std.proofs.Common.{◌≡◌, ℕ, ◌+◌, ◌-◌, ◌<◌, ◌≤�
 use Rattle.std.proofs.lemmas.Bool.{cases_eq}
 use Rattle.std.proofs.lemmas.Grind.{get_or-set_at}
 use Rattle.std.proofs.lemmas.List.{length-set, length-replicate, get_or-set_other}
+use Rattle.mv_machine.specs.Limits.{highest_reach}
 use Rattle.mv_machine.specs.Config.{exit_of, setup_of}
 use Rattle.mv_machine.specs.Reach.{cut, exits_of, greatest, total, reach}
 use Rattle.mv_machine.specs.Setup.{SetupExit}
@@ -25,7 +26,7 @@ loop-ecb-init c =
     record {
       within = omega arith;
       blocks = ap length zeros ∙ length-replicate c.len-ecbs.result 0 ∙ n;
-      cut = rw zeros (all_copies (λ r. r ≤ 524288) c.len-ecbs.result 0 (omega arith));
+      cut = rw zeros (all_copies (λ r. r ≤ highest_reach) c.len-ecbs.result 0 (omega arith));
       known = λ e le lt. absurd (omega arith);
     }
 
@@ -53,7 +54,7 @@ loop-ecb-preserved c =
     record {
       within = omega (arith, known.within);
       blocks = length-set reaches ecb c.min.result ∙ known.blocks;
-      cut = all_set (λ r. r ≤ 524288) reaches ecb c.min.result (omega (arith, c.min.ensures)) known.cut;
+      cut = all_set (λ r. r ≤ highest_reach) reaches ecb c.min.result (omega (arith, c.min.ensures)) known.cut;
       known = λ e le below. elim (cases_eq e ecb) [
         | inl same ↦ get_or-set_at reaches ecb e c.min.result 0 same (omega (arith, known.blocks)) ∙ new
             ∙ ap (reach (setup_of config)) (sym same)

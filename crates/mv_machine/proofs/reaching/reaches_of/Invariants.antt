@@ -1,6 +1,7 @@
 -- The reaches of the blocks from this one on are known.
 use Rattle.std.proofs.Common.{◌≡◌, ℕ, ◌<◌, ◌≤◌, length, slice_index}
 use Rattle.std.specs.List.{AllByRecursion}
+use Rattle.mv_machine.specs.Limits.{highest_reach}
 use Rattle.mv_machine.specs.Config.{setup_of}
 use Rattle.mv_machine.specs.Reach.{reach}
 use Rattle.mv_machine.proofs.reaching.reaches_of.Given as goal
@@ -9,7 +10,7 @@ abbrev pub invariant-loop-ecb : goal.invariant-loop-ecb
 invariant-loop-ecb l = record {
   within : l.ecb ≤ length l.config.owners.items;
   blocks : length l.reaches.items ≡ length l.config.owners.items;
-  cut : AllByRecursion (λ r. r ≤ 524288) l.reaches.items;
+  cut : AllByRecursion (λ r. r ≤ highest_reach) l.reaches.items;
   known : (e : ℕ) → l.ecb ≤ e → e < length l.config.owners.items → slice_index l.reaches.items e ≡ reach (setup_of l.config) e;
 }
 

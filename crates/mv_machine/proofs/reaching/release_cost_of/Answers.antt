@@ -2,6 +2,7 @@
 use Rattle.std.proofs.Common.{◌≡◌, ◌+◌, ◌*◌, ◌≤◌, length, map, max, take, get_or, ap, ◌∙◌, arith}
 use Rattle.std.proofs.lemmas.List.{take_all}
 use Rattle.std.specs.List.{range_with_len}
+use Rattle.mv_machine.specs.Limits.{highest_reach}
 use Rattle.mv_machine.specs.Config.{setup_of}
 use Rattle.mv_machine.specs.Reach.{cut, greatest, reach}
 use Rattle.mv_machine.proofs.Reaches.{reach_cut, greatest_more, reaches_are, quotas_fit, product_fits}
@@ -14,7 +15,7 @@ loop-reach-preserved c =
     let ns = c.args.reaches.now in
     let more : greatest (take (i + 1) ns) ≡ max (greatest (take i ns)) (get_or ns i 0) = greatest_more ns i (omega arith) in
     let is : get_or ns i 0 ≡ reach (setup_of c.args.config.now) i = c.requires.reaches.reach i (omega (arith, c.requires.reaches.blocks)) in
-    let low : reach (setup_of c.args.config.now) i ≤ 524288 = reach_cut (length c.args.config.now.owners.items)
+    let low : reach (setup_of c.args.config.now) i ≤ highest_reach = reach_cut (length c.args.config.now.owners.items)
     (setup_of c.args.config.now) i in
     record { so_far = omega (arith, more); fits = omega (arith, is, low) }
 

@@ -3,6 +3,7 @@ use Rattle.std.proofs.Common.{◌≡◌, ◌≤◌, Some, get_or, arith, sym, �
 use Rattle.std.proofs.lemmas.Bool.{false≢true}
 use Rattle.std.proofs.lemmas.List.{get_or_read}
 use Rattle.std.proofs.lemmas.List.Elements.{All-get_or}
+use Rattle.mv_machine.specs.Limits.{highest_place}
 use Rattle.mv_machine.specs.declared.entry.Entry.{Entry}
 use Rattle.mv_machine.specs.State.{system_of, wakes_of}
 use Rattle.mv_machine.proofs.Replays.{no_entry, pass_legal, pass_after, pass_wakes, pass_places, pass_illegal}
@@ -20,7 +21,7 @@ loop-i-preserved c =
     let stepped = c.advance-machine.ensures in
     let known = c.loop-i.invariant in
     let same : m ≡ Some (e.place, e.reply) = c.is_answer.ensures.0 c.if-not-is_answer.false in
-    let low : e.place ≤ 524286 = rw read (All-get_or (λ (x : Entry). x.place ≤ 524286) entries c.loop-i.i no_entry
+    let low : e.place ≤ highest_place = rw read (All-get_or (λ (x : Entry). x.place ≤ highest_place) entries c.loop-i.i no_entry
     (omega arith) c.requires.places) in
     record {
       legal = pass_legal config first before entries c.loop-i.i (omega arith) known.legal known.state m e read stepped.answered same;
