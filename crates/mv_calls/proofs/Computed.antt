@@ -1,6 +1,6 @@
 -- Histories of calls that are computed: that a list of entries is legal, and that a program is done on a list of events, by
 -- equations that compute; and what the rows of the modules beside this one claim.
-use Rattle.std.proofs.Common.{◌≡◌, ℕ, nat_le, Bool, true, List, [], ◌∷◌, map, take, drop, replicate, Option, Some, sym}
+use Rattle.std.proofs.Common.{◌≡◌, ℕ, nat_le, Bool, true, List, [], ◌∷◌, map, take, drop, replicate, Option, Some, sym, ap}
 use Rattle.mv_ecb.specs.declared.operation.EcbOp.{EcbOp}
 use Rattle.mv_ecb.specs.declared.operation.EcbReply.{EcbReply}
 use Rattle.mv_element.specs.declared.operation.ElementOp.{ElementOp}
@@ -122,11 +122,48 @@ pub record IsRow (c : Setup) (k : ℕ) (es : List Entry) (steps : List Step) : T
   pub legal : Legal c es
   pub made : AreMade c (nothing_kept k) (heard_in c k es) steps
 
--- one call more of a row: it says its events, nothing but its answer is left, and it makes no more events than it may need
-pub and_so : {A C : Type 0} {p : Program A} {hs : List Heard} {a : A} {b : Bool}
-    → said p hs ≡ map (λ h. Some (h.entry.object, h.entry.op)) hs → left p hs ≡ Done a → b ≡ true → C
-    → IsDoneOn p hs a × (b ≡ true) × C
-and_so says answered few rest = (made says answered, few, rest)
+-- what each call of a row says, what is left of it, and whether it makes no more events than it may need; and what no call heard
+abbrev pub Outcomes : List Step → Type 0
+Outcomes [] = List Heard
+Outcomes (s ∷ steps) = List (Option (Object × Op)) × Program (Answer s.service) × Bool × Outcomes steps
+
+-- as the programs of these calls have it
+abbrev pub outcomes : Setup → Kept → List Heard → (steps : List Step) → Outcomes steps
+outcomes c kept hs [] = hs
+outcomes c kept hs (s ∷ steps) = (
+  said (program c s.service kept) (take s.makes hs),
+  left (program c s.service kept) (take s.makes hs),
+  nat_le s.makes (most_events c kept s.service),
+  outcomes c (kept_from kept (entries (take s.makes hs))) (drop s.makes hs) steps,
+)
+
+-- as the row has it
+abbrev pub foreseen : List Heard → (steps : List Step) → Outcomes steps
+foreseen hs [] = []
+foreseen hs (s ∷ steps) = (
+  map (λ h. Some (h.entry.object, h.entry.op)) (take s.makes hs),
+  Done s.answer,
+  true,
+  foreseen (drop s.makes hs) steps,
+)
+
+-- calls are made where the two are the same
+are_made : (c : Setup) (kept : Kept) (hs : List Heard) (steps : List Step) → outcomes c kept hs steps ≡ foreseen hs steps
+    → AreMade c kept hs steps
+are_made c kept hs [] e = e
+are_made c kept hs (s ∷ steps) e = (
+  made (ap (λ (x : Outcomes (s ∷ steps)). x.0) e) (ap (λ (x : Outcomes (s ∷ steps)). x.1) e),
+  ap (λ (x : Outcomes (s ∷ steps)). x.2) e,
+  are_made c (kept_from kept (entries (take s.makes hs))) (drop s.makes hs) steps (ap (λ (x : Outcomes (s ∷ steps)). x.3) e),
+)
+
+-- a row, by computing what the machine answers and what its calls come to
+pub row : {c : Setup} {k : ℕ} {es : List Entry} {steps : List Step} → answers c (opening c) es ≡ claims es
+    → outcomes c (nothing_kept k) (heard_in c k es) steps ≡ foreseen (heard_in c k es) steps → IsRow c k es steps
+row {c = c} {k = k} {es = es} {steps = steps} answered came = record {
+  legal = legal_by c es answered;
+  made = are_made c (nothing_kept k) (heard_in c k es) steps came;
+}
 
 -- a configuration of so many tasks, with four elements each and ample budgets, and these owners of blocks and exits
 abbrev tasks : ℕ → List ℕ → List SetupExit → Setup

@@ -62,32 +62,14 @@ in_use_at : (used : ℕ → Bool) (m n : ℕ) (r : ElementReply) → in_use_with
     (used_by r (used n)) (used n)
 in_use_at used m n (element_reply.Opened g) = refl
 in_use_at used m n element_reply.Closed = refl
-in_use_at used m n element_reply.InUse = sym (either_same (n == m) (used n))
-in_use_at used m n element_reply.Parked = sym (either_same (n == m) (used n))
-in_use_at used m n (element_reply.Given code next) = sym (either_same (n == m) (used n))
-in_use_at used m n (element_reply.Spent g) = sym (either_same (n == m) (used n))
-in_use_at used m n element_reply.Busy = sym (either_same (n == m) (used n))
-in_use_at used m n element_reply.NotYet = sym (either_same (n == m) (used n))
-in_use_at used m n element_reply.Early = sym (either_same (n == m) (used n))
-in_use_at used m n element_reply.Woke = sym (either_same (n == m) (used n))
-in_use_at used m n element_reply.Already = sym (either_same (n == m) (used n))
-in_use_at used m n (element_reply.State s) = sym (either_same (n == m) (used n))
+in_use_at used m n r = sym (either_same (n == m) (used n))
 
 -- and the other mark
 parked_at : (parked : ℕ → Bool) (m n : ℕ) (r : ElementReply) → parked_with parked (Element m) (reply_of.Element r) n ≡ cond (n == m)
     (parked_by r (parked n)) (parked n)
-parked_at parked m n (element_reply.Opened g) = sym (either_same (n == m) (parked n))
-parked_at parked m n element_reply.Closed = sym (either_same (n == m) (parked n))
-parked_at parked m n element_reply.InUse = sym (either_same (n == m) (parked n))
 parked_at parked m n element_reply.Parked = refl
 parked_at parked m n (element_reply.Given code next) = refl
-parked_at parked m n (element_reply.Spent g) = sym (either_same (n == m) (parked n))
-parked_at parked m n element_reply.Busy = sym (either_same (n == m) (parked n))
-parked_at parked m n element_reply.NotYet = sym (either_same (n == m) (parked n))
-parked_at parked m n element_reply.Early = sym (either_same (n == m) (parked n))
-parked_at parked m n element_reply.Woke = sym (either_same (n == m) (parked n))
-parked_at parked m n element_reply.Already = sym (either_same (n == m) (parked n))
-parked_at parked m n (element_reply.State s) = sym (either_same (n == m) (parked n))
+parked_at parked m n r = sym (either_same (n == m) (parked n))
 
 -- the state of element n after an event on element m
 state_at_element : (s : System) (k m n : ℕ) (op : ElementOp) → ((moved s k (Element m) (op_on.Element op)).element n).state ≡ cond (n == m)

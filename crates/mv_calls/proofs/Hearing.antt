@@ -3,21 +3,16 @@
 use Rattle.std.proofs.Common.{◌≡◌, ℕ, ◌==◌, List, [], ◌∷◌, ◌++◌, if◌then◌else◌, inl, inr, refl, sym, ap, ◌∙◌}
 use Rattle.std.proofs.lemmas.Bool.{cases_eq, eq-eqb, ne_eqb}
 use Rattle.mv_latch.specs.declared.operation.Wake.{Wake}
-use Rattle.mv_latch.specs.LatchSet.{wakes}
 use Rattle.mv_machine.specs.declared.entry.Entry.{Entry}
 use Rattle.mv_machine.specs.declared.entry.Object.{Object}
-use Rattle.mv_machine.specs.declared.entry.Object.TheVariants.{Ecb, Element, Volume, Latches}
+use Rattle.mv_machine.specs.declared.entry.Object.TheVariants.{Latches}
 use Rattle.mv_machine.specs.declared.entry.Op.{Op}
 use Rattle.mv_machine.specs.declared.entry.Op.TheVariants as op_on
 use Rattle.mv_machine.specs.Legal.{next, after_from, of}
 use Rattle.mv_machine.specs.System.{System}
 use Rattle.mv_machine.specs.Told.{told_at, told_from}
 use Rattle.mv_calls.specs.Program.{Heard, noted, wakes_now, wakes_then}
-
--- the wakes of an event, by the machine before it
-abbrev pub wakes_at : System → ℕ → Object → Op → List Wake
-wakes_at s k Latches (op_on.Latch op) = wakes k op s.latches.state
-wakes_at s k o op = []
+pub use Rattle.mv_calls.specs.Numbers.{wakes_at}
 
 -- what its caller hears of an event
 abbrev pub hearing : System → Entry → Heard
@@ -28,37 +23,16 @@ abbrev pub heard_from : System → ℕ → List Entry → List Heard
 heard_from s k [] = []
 heard_from s k (e ∷ es) = if e.caller == k then hearing s e ∷ heard_from (next s e) k es else heard_from (next s e) k es
 
--- the next of what is told are its own wakes
-own_now : (s : System) (me k : ℕ) (o : Object) (op : Op) (told : List (List Wake)) → k ≡ me
-    → wakes_now o op (told_at s me k o op ++ told) ≡ wakes_at s k o op
-own_now s me k Latches (op_on.Latch op) told own = rw (eq-eqb k me own) refl
-own_now s me k (Ecb n) op told own = refl
-own_now s me k (Element n) op told own = refl
-own_now s me k (Volume n) op told own = refl
-own_now s me k Latches (op_on.Ecb op) told own = refl
-own_now s me k Latches (op_on.Element op) told own = refl
-own_now s me k Latches (op_on.Volume op) told own = refl
-
--- and the rest is told later
-own_then : (s : System) (me k : ℕ) (o : Object) (op : Op) (told : List (List Wake)) → k ≡ me
-    → wakes_then o op (told_at s me k o op ++ told) ≡ told
-own_then s me k Latches (op_on.Latch op) told own = rw (eq-eqb k me own) refl
-own_then s me k (Ecb n) op told own = refl
-own_then s me k (Element n) op told own = refl
-own_then s me k (Volume n) op told own = refl
-own_then s me k Latches (op_on.Ecb op) told own = refl
-own_then s me k Latches (op_on.Element op) told own = refl
-own_then s me k Latches (op_on.Volume op) told own = refl
+-- of what is told with an own event and later, the next are the event's wakes, and the rest is told later
+own_told : (s : System) (me k : ℕ) (o : Object) (op : Op) (told : List (List Wake)) → k ≡ me
+    → (wakes_now o op (told_at s me k o op ++ told) ≡ wakes_at s k o op) × (wakes_then o op (told_at s me k o op ++ told) ≡ told)
+own_told s me k Latches (op_on.Latch op) told own = rw (eq-eqb k me own) (refl, refl)
+own_told s me k o op told own = (refl, refl)
 
 -- another caller's event tells nothing
 other_told : (s : System) (me k : ℕ) (o : Object) (op : Op) → (k ≡ me → ⊥) → told_at s me k o op ≡ []
 other_told s me k Latches (op_on.Latch op) other = rw (ne_eqb k me other) refl
-other_told s me k (Ecb n) op other = refl
-other_told s me k (Element n) op other = refl
-other_told s me k (Volume n) op other = refl
-other_told s me k Latches (op_on.Ecb op) other = refl
-other_told s me k Latches (op_on.Element op) other = refl
-other_told s me k Latches (op_on.Volume op) other = refl
+other_told s me k o op other = refl
 
 -- a caller's part with an entry of its own in front
 pub of_own : (k : ℕ) (e : Entry) (es : List Entry) → e.caller ≡ k → of k (e ∷ es) ≡ e ∷ of k es
@@ -85,8 +59,8 @@ noted_is s k (e ∷ es) =
     elim (cases_eq e.caller k) [
       | inl own ↦ ap (λ xs. noted xs (told_from s k (e ∷ es))) (of_own k e es own)
           ∙ ap (λ ws. record { entry = e; wakes = ws } ∷ noted (of k es) (wakes_then e.object e.op (told_from s k (e ∷ es))))
-          (own_now s k e.caller e.object e.op (told_from (next s e) k es) own)
-          ∙ ap (λ t. hearing s e ∷ noted (of k es) t) (own_then s k e.caller e.object e.op (told_from (next s e) k es) own)
+          (own_told s k e.caller e.object e.op (told_from (next s e) k es) own).0
+          ∙ ap (λ t. hearing s e ∷ noted (of k es) t) (own_told s k e.caller e.object e.op (told_from (next s e) k es) own).1
           ∙ ap (λ hs. hearing s e ∷ hs) (noted_is (next s e) k es)
           ∙ sym (heard_own s k e es own)
       | inr other ↦ ap (λ xs. noted xs (told_from s k (e ∷ es))) (of_other k e es other)

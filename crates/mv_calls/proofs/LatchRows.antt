@@ -23,30 +23,26 @@ use Rattle.mv_calls.specs.Refusal as refusal
 use Rattle.mv_calls.specs.Runs.{heard_in}
 use Rattle.mv_calls.specs.Services.{Post, TestEcb, Obtain, CheckLatch, ReleaseLatch, Purge}
 use Rattle.mv_calls.specs.Waits.{read_volume}
-use Rattle.mv_calls.proofs.Computed.{Step, does, IsRow, and_so, legal_by, one_task, two_tasks, three_tasks, at_block}
+use Rattle.mv_calls.proofs.Examples as examples
+use Rattle.mv_calls.proofs.Computed.{does, IsRow, row, legal_by, one_task, two_tasks, three_tasks, at_block}
 use Rattle.mv_calls.proofs.Computed.{at_volume, at_latches}
 
 -- A conditional request does not wait, and names the one that stands in its way.
-abbrev blocked_log : List Entry
-blocked_log =
+blocked : IsRow (one_task [] []) 0
+    (
     at_latches 0 0 (latch_op.Obtain 0 1 Shared Conditional) (latch_reply.Granted 0)
     ∷ at_latches 0 1 (latch_op.Obtain 0 2 Exclusive Conditional) (latch_reply.NotNow 0)
     ∷ at_latches 0 2 (latch_op.Release 0 0 false) (latch_reply.Released 0)
     ∷ []
-
-abbrev blocked_calls : List Step
-blocked_calls =
+    )
+    (
     does (Obtain 0 1 Shared Conditional) 1 (Ok (GrantedAs 0))
     ∷ does (Obtain 0 2 Exclusive Conditional) 1 (Err (refusal.NotNow 0))
     ∷ does (ReleaseLatch 0 0 false) 1 (Ok 0)
     ∷ does (Obtain 8 1 Shared Conditional) 0 (Err refusal.BadLatch)
     ∷ []
-
-blocked : IsRow (one_task [] []) 0 blocked_log blocked_calls
-blocked = record {
-  legal = legal_by (one_task [] []) blocked_log refl;
-  made = and_so refl refl refl (and_so refl refl refl (and_so refl refl refl (and_so refl refl refl refl)));
-}
+    )
+blocked = row refl refl
 
 -- A purge takes out a request that waits: its obtain answers Purged, and the next in line is granted.
 abbrev purged_waiting_log : List Entry
@@ -59,55 +55,31 @@ purged_waiting_log =
     ∷ at_latches 2 5 (latch_op.Confirm 0 2) (latch_reply.Granted 2)
     ∷ []
 
-abbrev purged_waiting_of_0_calls : List Step
-purged_waiting_of_0_calls =
+purged_waiting_of_0 : IsRow (three_tasks [] []) 0 purged_waiting_log
+    (
     does (Obtain 0 9 Exclusive Conditional) 1 (Ok (GrantedAs 0))
     ∷ does (Purge 9) 1 (record { removed = 2; granted = 1 })
     ∷ []
+    )
+purged_waiting_of_0 = row refl refl
 
-purged_waiting_of_0 : IsRow (three_tasks [] []) 0 purged_waiting_log purged_waiting_of_0_calls
-purged_waiting_of_0 = record {
-  legal = legal_by (three_tasks [] []) purged_waiting_log refl;
-  made = and_so refl refl refl (and_so refl refl refl refl);
-}
-
-abbrev purged_waiting_of_1_calls : List Step
-purged_waiting_of_1_calls =
+purged_waiting_of_1 : IsRow (three_tasks [] []) 1 purged_waiting_log
+    (
     does (Obtain 0 9 Shared Waiting) 2 (Err refusal.Purged)
     ∷ []
+    )
+purged_waiting_of_1 = row refl refl
 
-purged_waiting_of_1 : IsRow (three_tasks [] []) 1 purged_waiting_log purged_waiting_of_1_calls
-purged_waiting_of_1 = record {
-  legal = legal_by (three_tasks [] []) purged_waiting_log refl;
-  made = and_so refl refl refl refl;
-}
-
-abbrev purged_waiting_of_2_calls : List Step
-purged_waiting_of_2_calls =
+purged_waiting_of_2 : IsRow (three_tasks [] []) 2 purged_waiting_log
+    (
     does (Obtain 0 5 Exclusive Waiting) 2 (Ok (GrantedAs 2))
     ∷ []
-
-purged_waiting_of_2 : IsRow (three_tasks [] []) 2 purged_waiting_log purged_waiting_of_2_calls
-purged_waiting_of_2 = record {
-  legal = legal_by (three_tasks [] []) purged_waiting_log refl;
-  made = and_so refl refl refl refl;
-}
+    )
+purged_waiting_of_2 = row refl refl
 
 -- A request of the Posted form is pending, and its block is posted as it is granted.
-abbrev posted_grant_log : List Entry
-posted_grant_log =
-    at_latches 0 0 (latch_op.Obtain 0 1 Exclusive Conditional) (latch_reply.Granted 0)
-    ∷ at_latches 0 1 (latch_op.Obtain 0 2 Exclusive (Posted 0)) (latch_reply.Queued 1)
-    ∷ at_block 0 0 0 ecb_op.Test (ecb_reply.Word 0)
-    ∷ at_latches 0 2 (latch_op.Release 0 0 true) (latch_reply.Released 1)
-    ∷ at_block 0 0 1 (ecb_op.Post 0) ecb_reply.Posted
-    ∷ at_block 0 0 2 ecb_op.Test (ecb_reply.Word 1073741824)
-    ∷ at_latches 0 3 (latch_op.Confirm 0 1) (latch_reply.Granted 1)
-    ∷ at_latches 0 4 (latch_op.Release 0 0 true) latch_reply.Gone
-    ∷ []
-
-abbrev posted_grant_calls : List Step
-posted_grant_calls =
+posted_grant : IsRow (one_task (0 ∷ []) []) 0 examples.grant_posts
+    (
     does (Obtain 0 1 Exclusive Conditional) 1 (Ok (GrantedAs 0))
     ∷ does (Obtain 0 2 Exclusive (Posted 0)) 1 (Ok (PendingAs 1))
     ∷ does (TestEcb 0) 1 0
@@ -116,17 +88,12 @@ posted_grant_calls =
     ∷ does (CheckLatch 0 1) 1 Holds
     ∷ does (ReleaseLatch 0 0 true) 1 (Err refusal.Gone)
     ∷ []
-
-posted_grant : IsRow (one_task (0 ∷ []) []) 0 posted_grant_log posted_grant_calls
-posted_grant = record {
-  legal = legal_by (one_task (0 ∷ []) []) posted_grant_log refl;
-  made = and_so refl refl refl (and_so refl refl refl (and_so refl refl refl (and_so refl refl refl (
-      and_so refl refl refl (and_so refl refl refl (and_so refl refl refl refl))))));
-}
+    )
+posted_grant = row refl refl
 
 -- A purge posts the block of a request that waited with 1. A conditional release leaves a request that waits.
-abbrev posted_purge_log : List Entry
-posted_purge_log =
+posted_purge : IsRow (one_task (0 ∷ []) []) 0
+    (
     at_latches 0 0 (latch_op.Obtain 0 1 Exclusive Conditional) (latch_reply.Granted 0)
     ∷ at_latches 0 1 (latch_op.Obtain 0 2 Exclusive (Posted 0)) (latch_reply.Queued 1)
     ∷ at_latches 0 2 (latch_op.Confirm 0 1) latch_reply.Waiting
@@ -135,9 +102,8 @@ posted_purge_log =
     ∷ at_block 0 0 0 (ecb_op.Post 1) ecb_reply.Posted
     ∷ at_latches 0 5 (latch_op.Confirm 0 1) latch_reply.Gone
     ∷ []
-
-abbrev posted_purge_calls : List Step
-posted_purge_calls =
+    )
+    (
     does (Obtain 0 1 Exclusive Conditional) 1 (Ok (GrantedAs 0))
     ∷ does (Obtain 0 2 Exclusive (Posted 0)) 1 (Ok (PendingAs 1))
     ∷ does (CheckLatch 0 1) 1 Waits
@@ -145,17 +111,12 @@ posted_purge_calls =
     ∷ does (Purge 2) 2 (record { removed = 1; granted = 0 })
     ∷ does (CheckLatch 0 1) 1 IsOut
     ∷ []
-
-posted_purge : IsRow (one_task (0 ∷ []) []) 0 posted_purge_log posted_purge_calls
-posted_purge = record {
-  legal = legal_by (one_task (0 ∷ []) []) posted_purge_log refl;
-  made = and_so refl refl refl (and_so refl refl refl (and_so refl refl refl (and_so refl refl refl (
-      and_so refl refl refl (and_so refl refl refl refl)))));
-}
+    )
+posted_purge = row refl refl
 
 -- Eight requests stand, and no ninth.
-abbrev quota_reached_log : List Entry
-quota_reached_log =
+quota_reached : IsRow (one_task [] []) 0
+    (
     at_latches 0 0 (latch_op.Obtain 0 1 Shared Conditional) (latch_reply.Granted 0)
     ∷ at_latches 0 1 (latch_op.Obtain 0 1 Shared Conditional) (latch_reply.Granted 1)
     ∷ at_latches 0 2 (latch_op.Obtain 0 1 Shared Conditional) (latch_reply.Granted 2)
@@ -165,9 +126,8 @@ quota_reached_log =
     ∷ at_latches 0 6 (latch_op.Obtain 0 1 Shared Conditional) (latch_reply.Granted 6)
     ∷ at_latches 0 7 (latch_op.Obtain 0 1 Shared Conditional) (latch_reply.Granted 7)
     ∷ []
-
-abbrev quota_reached_calls : List Step
-quota_reached_calls =
+    )
+    (
     does (Obtain 0 1 Shared Conditional) 1 (Ok (GrantedAs 0))
     ∷ does (Obtain 0 1 Shared Conditional) 1 (Ok (GrantedAs 1))
     ∷ does (Obtain 0 1 Shared Conditional) 1 (Ok (GrantedAs 2))
@@ -178,27 +138,20 @@ quota_reached_calls =
     ∷ does (Obtain 0 1 Shared Conditional) 1 (Ok (GrantedAs 7))
     ∷ does (Obtain 0 1 Shared Conditional) 0 (Err refusal.Quota)
     ∷ []
-
-quota_reached : IsRow (one_task [] []) 0 quota_reached_log quota_reached_calls
-quota_reached = record {
-  legal = legal_by (one_task [] []) quota_reached_log refl;
-  made = and_so refl refl refl (and_so refl refl refl (and_so refl refl refl (and_so refl refl refl (
-      and_so refl refl refl (and_so refl refl refl (and_so refl refl refl (and_so refl refl refl (
-      and_so refl refl refl refl))))))));
-}
+    )
+quota_reached = row refl refl
 
 -- Four requests of the Posted form stand, and no fifth.
-abbrev posted_quota_reached_log : List Entry
-posted_quota_reached_log =
+posted_quota_reached : IsRow (one_task (0 ∷ []) []) 0
+    (
     at_latches 0 0 (latch_op.Obtain 0 1 Exclusive Conditional) (latch_reply.Granted 0)
     ∷ at_latches 0 1 (latch_op.Obtain 0 2 Exclusive (Posted 0)) (latch_reply.Queued 1)
     ∷ at_latches 0 2 (latch_op.Obtain 0 2 Exclusive (Posted 0)) (latch_reply.Queued 2)
     ∷ at_latches 0 3 (latch_op.Obtain 0 2 Exclusive (Posted 0)) (latch_reply.Queued 3)
     ∷ at_latches 0 4 (latch_op.Obtain 0 2 Exclusive (Posted 0)) (latch_reply.Queued 4)
     ∷ []
-
-abbrev posted_quota_reached_calls : List Step
-posted_quota_reached_calls =
+    )
+    (
     does (Obtain 0 1 Exclusive Conditional) 1 (Ok (GrantedAs 0))
     ∷ does (Obtain 0 2 Exclusive (Posted 0)) 1 (Ok (PendingAs 1))
     ∷ does (Obtain 0 2 Exclusive (Posted 0)) 1 (Ok (PendingAs 2))
@@ -206,13 +159,8 @@ posted_quota_reached_calls =
     ∷ does (Obtain 0 2 Exclusive (Posted 0)) 1 (Ok (PendingAs 4))
     ∷ does (Obtain 0 2 Exclusive (Posted 0)) 0 (Err refusal.Quota)
     ∷ []
-
-posted_quota_reached : IsRow (one_task (0 ∷ []) []) 0 posted_quota_reached_log posted_quota_reached_calls
-posted_quota_reached = record {
-  legal = legal_by (one_task (0 ∷ []) []) posted_quota_reached_log refl;
-  made = and_so refl refl refl (and_so refl refl refl (and_so refl refl refl (and_so refl refl refl (
-      and_so refl refl refl (and_so refl refl refl refl)))));
-}
+    )
+posted_quota_reached = row refl refl
 
 -- A task announces itself by its post, and the other purges its request while it waits.
 abbrev purged_by_another_log : List Entry
@@ -226,32 +174,24 @@ purged_by_another_log =
     ∷ at_latches 1 5 (latch_op.Confirm 0 2) latch_reply.Gone
     ∷ []
 
-abbrev purged_by_another_of_0_calls : List Step
-purged_by_another_of_0_calls =
+purged_by_another_of_0 : IsRow (two_tasks (0 ∷ []) []) 0 purged_by_another_log
+    (
     does (Obtain 0 1 Exclusive Conditional) 1 (Ok (GrantedAs 0))
     ∷ does (Purge 9) 1 (record { removed = 0; granted = 0 })
     ∷ does (Purge 9) 1 (record { removed = 1; granted = 0 })
     ∷ does (ReleaseLatch 0 0 false) 1 (Ok 0)
     ∷ []
+    )
+purged_by_another_of_0 = row refl refl
 
-purged_by_another_of_0 : IsRow (two_tasks (0 ∷ []) []) 0 purged_by_another_log purged_by_another_of_0_calls
-purged_by_another_of_0 = record {
-  legal = legal_by (two_tasks (0 ∷ []) []) purged_by_another_log refl;
-  made = and_so refl refl refl (and_so refl refl refl (and_so refl refl refl (and_so refl refl refl refl)));
-}
-
-abbrev purged_by_another_of_1_calls : List Step
-purged_by_another_of_1_calls =
+purged_by_another_of_1 : IsRow (two_tasks (0 ∷ []) []) 1 purged_by_another_log
+    (
     does (Post 0 1) 1 posts.Posted
     ∷ does (Obtain 0 9 Exclusive Waiting) 2 (Err refusal.Purged)
     ∷ does (Obtain 0 9 Exclusive (Posted 0)) 0 (Err refusal.NotOwner)
     ∷ []
-
-purged_by_another_of_1 : IsRow (two_tasks (0 ∷ []) []) 1 purged_by_another_log purged_by_another_of_1_calls
-purged_by_another_of_1 = record {
-  legal = legal_by (two_tasks (0 ∷ []) []) purged_by_another_log refl;
-  made = and_so refl refl refl (and_so refl refl refl (and_so refl refl refl refl));
-}
+    )
+purged_by_another_of_1 = row refl refl
 
 -- ---- what does not follow
 

@@ -6,6 +6,8 @@ pub mod Hearing
 pub mod Interleaved
 -- the program that a call is where it is not refused
 pub mod Unrefused
+-- what a call is behind each reply, and the calls of one event: for the two laws below on all calls
+pub mod Replies
 -- calls_keep_to_their_events
 pub mod Needs
 -- last_event_is_the_machines, generations_in_replies
@@ -31,8 +33,9 @@ pub mod Posting
 pub mod Uses
 -- number_calls, replay_calls
 pub mod call_numbers
--- calls that are computed
+-- worked rows: calls that are computed, the histories that several rows are made of, and the rows
 pub mod Computed
+pub mod Examples
 pub mod WaitRows
 pub mod PauseRows
 pub mod LatchRows

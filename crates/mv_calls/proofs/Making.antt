@@ -5,7 +5,7 @@ use Rattle.std.proofs.Common.{subst, arith, append_assoc, length-append}
 use Rattle.mv_latch.specs.declared.operation.Wake.{Wake}
 use Rattle.mv_machine.specs.declared.entry.Entry.{Entry}
 use Rattle.mv_machine.specs.declared.entry.Object.{Object}
-use Rattle.mv_machine.specs.declared.entry.Object.TheVariants.{Ecb, Element, Volume, Latches}
+use Rattle.mv_machine.specs.declared.entry.Object.TheVariants.{Latches}
 use Rattle.mv_machine.specs.declared.entry.Op.{Op}
 use Rattle.mv_machine.specs.declared.entry.Op.TheVariants as op_on
 use Rattle.mv_calls.specs.Keeping.{Kept, kept_after, kept_from, kept_of, nothing_kept}
@@ -48,34 +48,19 @@ pub wakes-append : (xs ys : List Heard) → HaveTheirWakes xs → HaveTheirWakes
 wakes-append [] ys w v = v
 wakes-append (x ∷ xs) ys w v = (w.0, wakes-append xs ys w.1 v)
 
--- the next of what is told are an event's own wakes
-now_is : (o : Object) (op : Op) (ws : List Wake) (told : List (List Wake)) → HasItsWakes o op ws
-    → wakes_now o op (told_with o op ws ++ told) ≡ ws
-now_is Latches (op_on.Latch op) ws told w = refl
-now_is (Ecb n) op ws told w = sym w
-now_is (Element n) op ws told w = sym w
-now_is (Volume n) op ws told w = sym w
-now_is Latches (op_on.Ecb op) ws told w = sym w
-now_is Latches (op_on.Element op) ws told w = sym w
-now_is Latches (op_on.Volume op) ws told w = sym w
-
--- and the rest is what is told later
-then_is : (o : Object) (op : Op) (ws : List Wake) (told : List (List Wake)) → wakes_then o op (told_with o op ws ++ told) ≡ told
-then_is Latches (op_on.Latch op) ws told = refl
-then_is (Ecb n) op ws told = refl
-then_is (Element n) op ws told = refl
-then_is (Volume n) op ws told = refl
-then_is Latches (op_on.Ecb op) ws told = refl
-then_is Latches (op_on.Element op) ws told = refl
-then_is Latches (op_on.Volume op) ws told = refl
+-- of what is told with an event and later, the next are the event's own wakes, and the rest is told later
+told_next : (o : Object) (op : Op) (ws : List Wake) (told : List (List Wake)) → HasItsWakes o op ws
+    → (wakes_now o op (told_with o op ws ++ told) ≡ ws) × (wakes_then o op (told_with o op ws ++ told) ≡ told)
+told_next Latches (op_on.Latch op) ws told w = (refl, refl)
+told_next o op ws told w = (sym w, refl)
 
 -- events are read off their entries and what is told with them
 pub noted_again : (hs : List Heard) → HaveTheirWakes hs → noted (entries hs) (told_by hs) ≡ hs
 noted_again [] w = refl
 noted_again (h ∷ hs) w =
     ap (λ ws. record { entry = h.entry; wakes = ws } ∷ noted (entries hs) (wakes_then h.entry.object h.entry.op (told_by (h ∷ hs))))
-    (now_is h.entry.object h.entry.op h.wakes (told_by hs) w.0)
-    ∙ ap (λ t. h ∷ noted (entries hs) t) (then_is h.entry.object h.entry.op h.wakes (told_by hs))
+    (told_next h.entry.object h.entry.op h.wakes (told_by hs) w.0).0
+    ∙ ap (λ t. h ∷ noted (entries hs) t) (told_next h.entry.object h.entry.op h.wakes (told_by hs) w.0).1
     ∙ ap (λ gs. h ∷ gs) (noted_again hs w.1)
 
 -- ---- what lengthened a log and then lengthened it again

@@ -1,12 +1,11 @@
 -- No call makes more events than it may need. The posts of exits and of wakes are counted in proofs/Posting; here the rest of each
 -- call is, reply by reply.
-use Rattle.std.proofs.Common.{Result, Ok, Err, if◌then◌else◌, cond, refl, sym, ap, ◌∙◌, subst, arith, append_assoc}
-use Rattle.std.proofs.Common.{◌≡◌, ℕ, suc, ◌+◌, ◌*◌, ◌≤◌, nat_le, Bool, true, false, List, [], ◌∷◌, ◌++◌, length, Option}
+use Rattle.std.proofs.Common.{Result, Ok, Err, cond, sym, ap, ◌∙◌, subst, arith, append_assoc}
+use Rattle.std.proofs.Common.{◌≡◌, ℕ, suc, ◌+◌, ◌*◌, ◌≤◌, Bool, true, List, [], ◌∷◌, ◌++◌, length, Option}
 use Rattle.std.proofs.Common.{Some, None}
 use Rattle.std.proofs.lemmas.Bool.{eq-eqb}
 use Rattle.std.proofs.lemmas.List.{append-nil, append_cancel_right}
 use Rattle.std.specs.List.{AllByRecursion}
-use Rattle.mv_ecb.specs.declared.operation.EcbReply.TheVariants as ecb_reply
 use Rattle.mv_element.specs.declared.element.Token.{Token}
 use Rattle.mv_element.specs.declared.operation.ElementReply.TheVariants as element_reply
 use Rattle.mv_latch.specs.LatchSet.{wakes}
@@ -34,34 +33,30 @@ use Rattle.mv_calls.specs.Pauses as pauses
 use Rattle.mv_calls.specs.Pauses.{Gift, Reached}
 use Rattle.mv_calls.specs.Posts as posts
 use Rattle.mv_calls.specs.Posts.{Posting}
-use Rattle.mv_calls.specs.Program.{Program, Do, Done, Early, Wrong, Heard, Says, and_then, on_ecb, on_element}
-use Rattle.mv_calls.specs.Program.{on_volume}
+use Rattle.mv_calls.specs.Program.{Program, Do, Done, Early, Wrong, Heard, Says, and_then, on_element}
 use Rattle.mv_calls.specs.Program.{entries}
 use Rattle.mv_calls.specs.Program.{on_latch, unless_refused}
-use Rattle.mv_calls.specs.Refusal as refusal
 use Rattle.mv_calls.specs.Refusal.{Refusal}
 use Rattle.mv_calls.specs.Services as services
 use Rattle.mv_calls.specs.Services.{Service, Answer, program, most_events, transfer_events, obtain_events, mother_events}
 use Rattle.mv_calls.specs.Waits as waits
 use Rattle.mv_machine.specs.declared.entry.Entry.{Entry}
-use Rattle.mv_machine.specs.declared.entry.Object.TheVariants.{Ecb, Element, Volume, Latches}
+use Rattle.mv_machine.specs.declared.entry.Object.TheVariants.{Latches}
 use Rattle.mv_machine.specs.declared.entry.Object.{Object}
 use Rattle.mv_machine.specs.declared.entry.Op.TheVariants as op_on
 use Rattle.mv_machine.specs.declared.entry.Op.{Op}
 use Rattle.mv_machine.specs.declared.entry.Reply.TheVariants as reply_of
 use Rattle.mv_machine.specs.declared.entry.Reply.{Reply}
-use Rattle.mv_machine.specs.declared.entry.VolumeReply.TheVariants as volume_reply
 use Rattle.mv_calls.proofs.Behind.{last_is_behind, front_is_possible}
 use Rattle.mv_machine.proofs.Histories.{by_last}
 use Rattle.mv_machine.proofs.Lists.{all_push}
-use Rattle.mv_calls.proofs.Posting.{Asks, HasOwnExit, both_ask, done_asks, wrong_asks, post_asks, wakes_ask}
+use Rattle.mv_calls.proofs.Replies.{HasOneEvent, by_arm, by_settle, by_pause, by_close, gave_ends, enough_ends, confirmed_ends}
+use Rattle.mv_calls.proofs.Replies.{try_post_once, clear_once, extend_once, test_ecb_once, read_volume_once, write_volume_once}
+use Rattle.mv_calls.proofs.Replies.{allocate_once, release_once, try_release_once, deallocate_once, test_element_once, check_latch_once}
+use Rattle.mv_calls.proofs.Replies.{obtain_once}
+use Rattle.mv_calls.proofs.Posting.{Asks, HasOwnExit, both_ask, none_asks, post_asks, wakes_ask}
 use Rattle.mv_calls.proofs.Uses.{last_same, wakes_of_next, call_exits}
 use Rattle.mv_calls.proofs.Making.{entries-append, told_by-append}
-
--- nor does a program whose wait ended too soon ask for more
-early_asks : (A : Type 0) (P : Heard → Type 0) (most : ℕ) → Asks {A = A} P most Early
-early_asks A P most [] each s = omega arith
-early_asks A P most (h ∷ hs) each s = absurd (cc s.0)
 
 -- a bound may be wider
 wider : {A : Type 0} (P : Heard → Type 0) (m n : ℕ) (p : Program A) → m ≤ n → Asks P m p → Asks P n p
@@ -73,194 +68,51 @@ one_more : {A : Type 0} (P : Heard → Type 0) (n : ℕ) (o : Object) (op : Op) 
 one_more P n o op next later [] each s = omega arith
 one_more P n o op next later (h ∷ hs) each s = let rest : length hs ≤ n = later h each.0 hs each.1 s.1 in omega arith
 
+-- one event, and nothing behind it
+once_asks : {A : Type 0} (P : Heard → Type 0) (p : Program A) → HasOneEvent p → Asks P 1 p
+once_asks P (Do o op next) once = one_more P 0 o op next (λ h is. none_asks P 0 (next h) (once.behind h))
+once_asks P (Done a) once = none_asks P 1 (Done a) tt
+once_asks P Early once = none_asks P 1 Early tt
+once_asks P Wrong once = none_asks P 1 Wrong tt
+
 -- a refusal asks for nothing
 unless_asks : {A : Type 0} (P : Heard → Type 0) (n : ℕ) (why : Option Refusal) (p : Program (Result A Refusal)) → Asks P n p
     → Asks P n (unless_refused why p)
 unless_asks P n None p few = few
-unless_asks {A = A} P n (Some why) p few = done_asks P n (Err why)
-
--- ---- what is left behind a last reply asks for nothing
-word_over : {A : Type 0} (P : Heard → Type 0) (f : ℕ → Program A) → ((w : ℕ) → Asks P 0 (f w)) → (r : Reply)
-    → Asks P 0 (on_ecb r (waits.the_word f))
-word_over P f each (reply_of.Ecb (ecb_reply.Word w)) = each w
-word_over P f each (reply_of.Ecb r) = wrong_asks _ P 0
-word_over P f each (reply_of.Element r) = wrong_asks _ P 0
-word_over P f each (reply_of.Volume r) = wrong_asks _ P 0
-word_over P f each (reply_of.Latch r) = wrong_asks _ P 0
-
--- an extend
-extended_over : (P : Heard → Type 0) (r : Reply) → Asks P 0 (on_ecb r waits.extended)
-extended_over P (reply_of.Ecb ecb_reply.Armed) = done_asks P 0 (Ok tt)
-extended_over P (reply_of.Ecb (ecb_reply.Complete code)) = done_asks P 0 (Err (refusal.Complete code))
-extended_over P (reply_of.Ecb r) = wrong_asks _ P 0
-extended_over P (reply_of.Element r) = wrong_asks _ P 0
-extended_over P (reply_of.Volume r) = wrong_asks _ P 0
-extended_over P (reply_of.Latch r) = wrong_asks _ P 0
-
--- a post that was tried
-posted_over : (P : Heard → Type 0) (r : Reply) → Asks P 0 (on_ecb r (posts.posting (λ p. Done p)))
-posted_over P (reply_of.Ecb ecb_reply.Posted) = done_asks P 0 posts.Posted
-posted_over P (reply_of.Ecb (ecb_reply.Woke x)) = done_asks P 0 (posts.Woke x)
-posted_over P (reply_of.Ecb (ecb_reply.Already code)) = done_asks P 0 (posts.Already code)
-posted_over P (reply_of.Ecb r) = wrong_asks _ P 0
-posted_over P (reply_of.Element r) = wrong_asks _ P 0
-posted_over P (reply_of.Volume r) = wrong_asks _ P 0
-posted_over P (reply_of.Latch r) = wrong_asks _ P 0
-
--- a read
-value_over : (P : Heard → Type 0) (r : Reply) → Asks P 0 (on_volume r waits.the_value)
-value_over P (reply_of.Volume (volume_reply.Value n)) = done_asks P 0 n
-value_over P (reply_of.Volume r) = wrong_asks _ P 0
-value_over P (reply_of.Ecb r) = wrong_asks _ P 0
-value_over P (reply_of.Element r) = wrong_asks _ P 0
-value_over P (reply_of.Latch r) = wrong_asks _ P 0
-
--- a write
-stored_over : (P : Heard → Type 0) (r : Reply) → Asks P 0 (on_volume r waits.stored)
-stored_over P (reply_of.Volume volume_reply.Stored) = done_asks P 0 tt
-stored_over P (reply_of.Volume r) = wrong_asks _ P 0
-stored_over P (reply_of.Ecb r) = wrong_asks _ P 0
-stored_over P (reply_of.Element r) = wrong_asks _ P 0
-stored_over P (reply_of.Latch r) = wrong_asks _ P 0
-
--- an opening
-opened_over : (P : Heard → Type 0) (n : ℕ) (r : Reply) → Asks P 0 (on_element r (pauses.opened n))
-opened_over P n (reply_of.Element (element_reply.Opened g)) = done_asks P 0 (Ok (pauses.token_of n g))
-opened_over P n (reply_of.Element r) = wrong_asks _ P 0
-opened_over P n (reply_of.Ecb r) = wrong_asks _ P 0
-opened_over P n (reply_of.Volume r) = wrong_asks _ P 0
-opened_over P n (reply_of.Latch r) = wrong_asks _ P 0
-
--- a resume
-resumed_over : (P : Heard → Type 0) (n : ℕ) (r : Reply) → Asks P 0 (on_element r (pauses.resumed n))
-resumed_over P n (reply_of.Element (element_reply.Given code later)) = done_asks P 0 (Ok (pauses.gift_of n code later))
-resumed_over P n (reply_of.Element element_reply.NotYet) = early_asks (Result Gift Refusal) P 0
-resumed_over P n (reply_of.Element r) = wrong_asks _ P 0
-resumed_over P n (reply_of.Ecb r) = wrong_asks _ P 0
-resumed_over P n (reply_of.Volume r) = wrong_asks _ P 0
-resumed_over P n (reply_of.Latch r) = wrong_asks _ P 0
-
--- a release
-released_over : (P : Heard → Type 0) (r : Reply) → Asks P 0 (on_element r pauses.released)
-released_over P (reply_of.Element element_reply.Early) = done_asks P 0 (Ok pauses.CameEarly)
-released_over P (reply_of.Element element_reply.Woke) = done_asks P 0 (Ok pauses.WokeIt)
-released_over P (reply_of.Element (element_reply.Spent g)) = done_asks P 0 (Err (refusal.Spent g))
-released_over P (reply_of.Element element_reply.Already) = done_asks P 0 (Err refusal.Already)
-released_over P (reply_of.Element r) = wrong_asks _ P 0
-released_over P (reply_of.Ecb r) = wrong_asks _ P 0
-released_over P (reply_of.Volume r) = wrong_asks _ P 0
-released_over P (reply_of.Latch r) = wrong_asks _ P 0
-
--- a close
-closed_over : (P : Heard → Type 0) (r : Reply) → Asks P 0 (on_element r pauses.closed)
-closed_over P (reply_of.Element element_reply.Closed) = done_asks P 0 (Ok tt)
-closed_over P (reply_of.Element (element_reply.Spent g)) = done_asks P 0 (Err (refusal.Spent g))
-closed_over P (reply_of.Element r) = wrong_asks _ P 0
-closed_over P (reply_of.Ecb r) = wrong_asks _ P 0
-closed_over P (reply_of.Volume r) = wrong_asks _ P 0
-closed_over P (reply_of.Latch r) = wrong_asks _ P 0
-
--- a test of an element
-state_over : (P : Heard → Type 0) (r : Reply) → Asks P 0 (on_element r pauses.the_state)
-state_over P (reply_of.Element (element_reply.State x)) = done_asks P 0 x
-state_over P (reply_of.Element r) = wrong_asks _ P 0
-state_over P (reply_of.Ecb r) = wrong_asks _ P 0
-state_over P (reply_of.Volume r) = wrong_asks _ P 0
-state_over P (reply_of.Latch r) = wrong_asks _ P 0
-
--- the confirm of an obtain
-confirmed_over : (P : Heard → Type 0) (id : ℕ) (r : Reply) → Asks P 0 (on_latch r (latches.confirmed id))
-confirmed_over P id (reply_of.Latch (latch_reply.Granted same)) = done_asks P 0 (Ok (latches.GrantedAs id))
-confirmed_over P id (reply_of.Latch latch_reply.Waiting) = early_asks (Result Obtained Refusal) P 0
-confirmed_over P id (reply_of.Latch latch_reply.Gone) = done_asks P 0 (Err refusal.Purged)
-confirmed_over P id (reply_of.Latch r) = wrong_asks _ P 0
-confirmed_over P id (reply_of.Ecb r) = wrong_asks _ P 0
-confirmed_over P id (reply_of.Element r) = wrong_asks _ P 0
-confirmed_over P id (reply_of.Volume r) = wrong_asks _ P 0
-
--- a check
-checked_over : (P : Heard → Type 0) (r : Reply) → Asks P 0 (on_latch r latches.checked)
-checked_over P (reply_of.Latch (latch_reply.Granted id)) = done_asks P 0 latches.Holds
-checked_over P (reply_of.Latch latch_reply.Waiting) = done_asks P 0 latches.Waits
-checked_over P (reply_of.Latch latch_reply.Gone) = done_asks P 0 latches.IsOut
-checked_over P (reply_of.Latch r) = wrong_asks _ P 0
-checked_over P (reply_of.Ecb r) = wrong_asks _ P 0
-checked_over P (reply_of.Element r) = wrong_asks _ P 0
-checked_over P (reply_of.Volume r) = wrong_asks _ P 0
+unless_asks P n (Some why) p few = none_asks P n (Done (Err why)) tt
 
 -- ---- waits
+
+-- a settle for each block
 settles_ask : (P : Heard → Type 0) (es : List ℕ) (found : List (Option ℕ)) (f : List (Option ℕ)
     → Program (Result (List (Option ℕ)) Refusal))
     → ((slots : List (Option ℕ)) → Asks P 0 (f slots)) → Asks P (length es) (waits.settle_all es found f)
 settles_ask P [] found f last = last found
 settles_ask P (e ∷ es) found f last = one_more P (length es) _ _ _
-    (λ h is. slot h.entry.reply (λ more. settles_ask P es more f last)) where
-      slot : (r : Reply) → ((more : List (Option ℕ)) → Asks P (length es) (waits.settle_all es more f))
-          → Asks P (length es) (on_ecb r (waits.settled (λ s. waits.settle_all es (found ++ s ∷ []) f)))
-      slot (reply_of.Ecb (ecb_reply.Complete code)) rest = rest (found ++ Some code ∷ [])
-      slot (reply_of.Ecb ecb_reply.Open) rest = rest (found ++ None ∷ [])
-      slot (reply_of.Ecb r) rest = wrong_asks _ P _
-      slot (reply_of.Element r) rest = wrong_asks _ P _
-      slot (reply_of.Volume r) rest = wrong_asks _ P _
-      slot (reply_of.Latch r) rest = wrong_asks _ P _
+    (λ h is. by_settle (Asks P (length es)) (none_asks P (length es)) _ (λ slot. settles_ask P es (found ++ slot ∷ []) f last)
+    h.entry.reply)
 
 -- an arm for each block
 arms_ask : {A : Type 0} (P : Heard → Type 0) (es : List ℕ) (n : ℕ) (p : Program A) → Asks P n p
     → Asks P (length es + n) (waits.arm_all es p)
 arms_ask P [] n p few = wider P n _ p (omega arith) few
 arms_ask P (e ∷ es) n p few = wider P (suc (length es + n)) _ _ (omega arith)
-    (one_more P (length es + n) _ _ _ (λ h is. armed h.entry.reply (arms_ask P es n p few))) where
-      armed : (r : Reply) → Asks P (length es + n) (waits.arm_all es p)
-          → Asks P (length es + n) (on_ecb r (waits.armed (waits.arm_all es p)))
-      armed (reply_of.Ecb ecb_reply.Armed) rest = rest
-      armed (reply_of.Ecb (ecb_reply.Complete code)) rest = rest
-      armed (reply_of.Ecb r) rest = wrong_asks _ P _
-      armed (reply_of.Element r) rest = wrong_asks _ P _
-      armed (reply_of.Volume r) rest = wrong_asks _ P _
-      armed (reply_of.Latch r) rest = wrong_asks _ P _
-
--- the end of a wait
-enough_asks : (P : Heard → Type 0) (count : ℕ) (slots : List (Option ℕ)) → Asks P 0 (waits.enough count slots)
-enough_asks P count slots = go (nat_le count (waits.complete_count slots)) where
-  go : (b : Bool) → Asks {A = Result (List (Option ℕ)) Refusal} P 0 (if b then Done (Ok slots) else Early)
-  go true = done_asks P 0 (Ok slots)
-  go false = early_asks _ P 0
+    (one_more P (length es + n) _ _ _ (λ h is. by_arm (Asks P (length es + n)) (none_asks P (length es + n)) _ (arms_ask P es n p few)
+    h.entry.reply))
 
 -- a wait
 wait_asks : (P : Heard → Type 0) (c : Setup) (count : ℕ) (es : List ℕ) (kept : Kept) → Asks P (2 * length es) (waits.wait c count es kept)
 wait_asks P c count es kept =
     unless_asks P (2 * length es) _ _
     (wider P (length es + length es) (2 * length es) _ (omega arith)
-    (arms_ask P es (length es) _ (settles_ask P es [] (waits.enough count) (enough_asks P count))))
-
--- ---- exchanges
-post_tried : (P : Heard → Type 0) (b : Bool) (r : Reply) → Asks P 0 (if b then on_ecb r (posts.posting (λ p. Done p)) else Wrong)
-post_tried P true r = posted_over P r
-post_tried P false r = wrong_asks _ P 0
-
--- a release
-release_tried : (P : Heard → Type 0) (b : Bool) (r : Reply) → Asks P 0 (if b then on_element r pauses.released else Wrong)
-release_tried P true r = released_over P r
-release_tried P false r = wrong_asks _ P 0
+    (arms_ask P es (length es) _ (settles_ask P es [] (waits.enough count) (λ slots. none_asks P 0 _ (enough_ends count slots)))))
 
 -- ---- pauses and transfers
-paused_asks : (P : Heard → Type 0) (n g : ℕ) (r : Reply) → Asks P 1 (on_element r (pauses.paused n g))
-paused_asks P n g (reply_of.Element (element_reply.Given code later)) = done_asks P 1 (Ok (pauses.gift_of n code later))
-paused_asks P n g (reply_of.Element element_reply.Parked) = one_more P 0 _ _ _ (λ h is. resumed_over P n h.entry.reply)
-paused_asks P n g (reply_of.Element (element_reply.Spent now)) = done_asks P 1 (Err (refusal.Spent now))
-paused_asks P n g (reply_of.Element r) = wrong_asks _ P 1
-paused_asks P n g (reply_of.Ecb r) = wrong_asks _ P 1
-paused_asks P n g (reply_of.Volume r) = wrong_asks _ P 1
-paused_asks P n g (reply_of.Latch r) = wrong_asks _ P 1
 
 -- a pause
 pause_asks : (P : Heard → Type 0) (c : Setup) (t : Token) (kept : Kept) → Asks P 2 (pauses.pause c t kept)
-pause_asks P c t kept = unless_asks P 2 _ _ (one_more P 1 _ _ _ (λ h is. paused_asks P t.element t.generation h.entry.reply))
-
--- the end of a transfer
-gave_asks : (P : Heard → Type 0) (answer : Result Gift Refusal) → Asks P 0 (pauses.gave answer)
-gave_asks P (Ok gift) = done_asks P 0 (Ok (Some gift))
-gave_asks P (Err why) = wrong_asks _ P 0
+pause_asks P c t kept = unless_asks P 2 _ _ (one_more P 1 _ _ _
+    (λ h is. by_pause (Asks P 1) (none_asks P 1) t.element t.generation (λ ends. once_asks P _ ends) h.entry.reply))
 
 -- what a transfer may ask for behind its release
 abbrev behind : Option Token → ℕ
@@ -270,21 +122,19 @@ behind (Some t) = 2
 -- the pause of a transfer
 current_asks : (P : Heard → Type 0) (c : Setup) (current : Option Token) (kept : Kept)
     → Asks P (behind current) (pauses.pause_current c current kept)
-current_asks P c None kept = done_asks P 0 (Ok None)
+current_asks P c None kept = none_asks P 0 (Done (Ok None)) tt
 current_asks P c (Some t) kept =
-    wider P (2 + 0) 2 _ (omega arith) (both_ask P 2 0 (pauses.pause c t kept) pauses.gave (pause_asks P c t kept) (gave_asks P))
+    wider P (2 + 0) 2 _ (omega arith) (both_ask P 2 0 (pauses.pause c t kept) pauses.gave (pause_asks P c t kept)
+    (λ answer. none_asks P 0 _ (gave_ends answer)))
 
 -- behind the release of a transfer
 transferred_asks : (P : Heard → Type 0) (c : Setup) (current : Option Token) (kept : Kept) (r : Reply)
     → Asks P (behind current) (on_element r (pauses.transferred c current kept))
 transferred_asks P c current kept (reply_of.Element element_reply.Early) = current_asks P c current kept
 transferred_asks P c current kept (reply_of.Element element_reply.Woke) = current_asks P c current kept
-transferred_asks P c current kept (reply_of.Element (element_reply.Spent g)) = done_asks P _ (Err (refusal.TargetSpent g))
-transferred_asks P c current kept (reply_of.Element element_reply.Already) = done_asks P _ (Err refusal.TargetAlready)
-transferred_asks P c current kept (reply_of.Element r) = wrong_asks _ P _
-transferred_asks P c current kept (reply_of.Ecb r) = wrong_asks _ P _
-transferred_asks P c current kept (reply_of.Volume r) = wrong_asks _ P _
-transferred_asks P c current kept (reply_of.Latch r) = wrong_asks _ P _
+transferred_asks P c current kept (reply_of.Element (element_reply.Spent g)) = none_asks P _ _ tt
+transferred_asks P c current kept (reply_of.Element element_reply.Already) = none_asks P _ _ tt
+transferred_asks P c current kept r = none_asks P _ _ tt
 
 -- a transfer
 transfer_asks : (P : Heard → Type 0) (c : Setup) (current : Option Token) (target : Token) (code : ℕ) (kept : Kept)
@@ -295,11 +145,6 @@ transfer_asks P c current target code kept = unless_asks P (transfer_events curr
       fits : (t : Option Token) → suc (behind t) ≤ transfer_events t
       fits None = omega arith
       fits (Some t) = omega arith
-
--- an allocation
-allocate_asks : (P : Heard → Type 0) (found : Option ℕ) → Asks P 1 (pauses.open_lowest found)
-allocate_asks P None = done_asks P 1 (Err refusal.NoElement)
-allocate_asks P (Some n) = one_more P 0 _ _ _ (λ h is. opened_over P n h.entry.reply)
 
 -- ---- latches
 
@@ -326,29 +171,22 @@ wakes_need : {A : Type 0} (c : Setup) (ws : List Wake) (kept : Kept) (a : A) →
     → Asks (IsHeard c) (total (reach c) (blocks_of ws)) (posts.wakes_posted c ws kept (Done a))
 wakes_need c ws kept a low =
     wider (IsHeard c) (total (reach c) (blocks_of ws) + 0) (total (reach c) (blocks_of ws)) _ (omega arith)
-    (by_exits c _ _ (wakes_ask c ws kept (Done a) 0 (done_asks (HasOwnExit c) 0 a) low))
+    (by_exits c _ _ (wakes_ask c ws kept (Done a) 0 (none_asks (HasOwnExit c) 0 (Done a) tt) low))
 
 -- behind the release of a latch
 let_go_asks : (c : Setup) (conditional : Bool) (ws : List Wake) (kept : Kept) (r : Reply) → total (reach c) (blocks_of ws) ≤ 524287
     → Asks (IsHeard c) (total (reach c) (blocks_of ws)) (on_latch r (latches.let_go c conditional ws kept))
 let_go_asks c conditional ws kept (reply_of.Latch (latch_reply.Released granted)) low = wakes_need c ws kept (Ok granted) low
-let_go_asks c conditional ws kept (reply_of.Latch latch_reply.Gone) low = done_asks (IsHeard c) _ (Err refusal.Gone)
-let_go_asks c true ws kept (reply_of.Latch latch_reply.Waiting) low = done_asks (IsHeard c) _ (Err refusal.StillWaiting)
-let_go_asks c false ws kept (reply_of.Latch latch_reply.Waiting) low = wrong_asks _ (IsHeard c) _
-let_go_asks c conditional ws kept (reply_of.Latch r) low = wrong_asks _ (IsHeard c) _
-let_go_asks c conditional ws kept (reply_of.Ecb r) low = wrong_asks _ (IsHeard c) _
-let_go_asks c conditional ws kept (reply_of.Element r) low = wrong_asks _ (IsHeard c) _
-let_go_asks c conditional ws kept (reply_of.Volume r) low = wrong_asks _ (IsHeard c) _
+let_go_asks c conditional ws kept (reply_of.Latch latch_reply.Gone) low = none_asks (IsHeard c) _ _ tt
+let_go_asks c true ws kept (reply_of.Latch latch_reply.Waiting) low = none_asks (IsHeard c) _ _ tt
+let_go_asks c conditional ws kept r low = none_asks (IsHeard c) _ _ tt
 
 -- behind a purge
 purged_asks : (c : Setup) (ws : List Wake) (kept : Kept) (r : Reply) → total (reach c) (blocks_of ws) ≤ 524287
     → Asks (IsHeard c) (total (reach c) (blocks_of ws)) (on_latch r (latches.purged c ws kept))
 purged_asks c ws kept (reply_of.Latch (latch_reply.Purged removed granted)) low =
     wakes_need c ws kept (record { removed = removed; granted = granted }) low
-purged_asks c ws kept (reply_of.Latch r) low = wrong_asks _ (IsHeard c) _
-purged_asks c ws kept (reply_of.Ecb r) low = wrong_asks _ (IsHeard c) _
-purged_asks c ws kept (reply_of.Element r) low = wrong_asks _ (IsHeard c) _
-purged_asks c ws kept (reply_of.Volume r) low = wrong_asks _ (IsHeard c) _
+purged_asks c ws kept r low = none_asks (IsHeard c) _ _ tt
 
 -- an event whose wakes are then posted costs no more than a release may
 cost_asks : {A : Type 0} (c : Setup) (o : Object) (op : Op) (next : Heard → Program A) → release_cost c ≤ 524287
@@ -360,55 +198,32 @@ cost_asks c o op next exact later (h ∷ hs) each s =
     let rest : length hs ≤ total (reach c) (blocks_of h.wakes) = later h (omega (arith, cost, exact)) hs each.1 s.1 in
     omega (arith, cost, rest)
 
--- behind an obtain there may be a confirm
-obtained_asks : (P : Heard → Type 0) (latch : ℕ) (form : LatchForm) (r : Reply) → Asks P 1 (on_latch r (latches.obtained latch form))
-obtained_asks P latch form_of.Waiting (reply_of.Latch (latch_reply.Queued id)) =
-    one_more P 0 _ _ _ (λ h is. confirmed_over P id h.entry.reply)
-obtained_asks P latch (form_of.Posted e) (reply_of.Latch (latch_reply.Queued id)) = done_asks P 1 (Ok (latches.PendingAs id))
-obtained_asks P latch form_of.Conditional (reply_of.Latch (latch_reply.Queued id)) = wrong_asks _ P 1
-obtained_asks P latch form_of.Conditional (reply_of.Latch (latch_reply.NotNow id)) = done_asks P 1 (Err (refusal.NotNow id))
-obtained_asks P latch form_of.Waiting (reply_of.Latch (latch_reply.NotNow id)) = wrong_asks _ P 1
-obtained_asks P latch (form_of.Posted e) (reply_of.Latch (latch_reply.NotNow id)) = wrong_asks _ P 1
-obtained_asks P latch form (reply_of.Latch (latch_reply.Granted id)) = done_asks P 1 (Ok (latches.GrantedAs id))
-obtained_asks P latch form (reply_of.Latch r) = wrong_asks _ P 1
-obtained_asks P latch form (reply_of.Ecb r) = wrong_asks _ P 1
-obtained_asks P latch form (reply_of.Element r) = wrong_asks _ P 1
-obtained_asks P latch form (reply_of.Volume r) = wrong_asks _ P 1
-
--- only the Waiting form goes on behind its reply
-obtained_over : (P : Heard → Type 0) (latch : ℕ) (form : LatchForm) (r : Reply) → (form ≡ form_of.Waiting → ⊥)
-    → Asks P 0 (on_latch r (latches.obtained latch form))
-obtained_over P latch form_of.Waiting r other = absurd (other refl)
-obtained_over P latch (form_of.Posted e) (reply_of.Latch (latch_reply.Queued id)) other = done_asks P 0 (Ok (latches.PendingAs id))
-obtained_over P latch form_of.Conditional (reply_of.Latch (latch_reply.NotNow id)) other = done_asks P 0 (Err (refusal.NotNow id))
-obtained_over P latch (form_of.Posted e) (reply_of.Latch (latch_reply.Granted id)) other = done_asks P 0 (Ok (latches.GrantedAs id))
-obtained_over P latch form_of.Conditional (reply_of.Latch (latch_reply.Granted id)) other = done_asks P 0 (Ok (latches.GrantedAs id))
-obtained_over P latch (form_of.Posted e) (reply_of.Latch r) other = wrong_asks _ P 0
-obtained_over P latch form_of.Conditional (reply_of.Latch r) other = wrong_asks _ P 0
-obtained_over P latch form (reply_of.Ecb r) other = wrong_asks _ P 0
-obtained_over P latch form (reply_of.Element r) other = wrong_asks _ P 0
-obtained_over P latch form (reply_of.Volume r) other = wrong_asks _ P 0
+-- behind an obtain of the Waiting form there may be a confirm
+waiting_asks : (P : Heard → Type 0) (latch : ℕ) (r : Reply) → Asks P 1 (on_latch r (latches.obtained latch form_of.Waiting))
+waiting_asks P latch (reply_of.Latch (latch_reply.Queued id)) = once_asks P _ (record { behind = λ h. confirmed_ends id h.entry.reply })
+waiting_asks P latch (reply_of.Latch (latch_reply.Granted id)) = none_asks P 1 _ tt
+waiting_asks P latch r = none_asks P 1 _ tt
 
 -- an obtain
 obtain_asks : (P : Heard → Type 0) (c : Setup) (latch requestor : ℕ) (mode : Mode) (form : LatchForm) (kept : Kept)
     → Asks P (obtain_events form) (latches.obtain c latch requestor mode form kept)
 obtain_asks P c latch requestor mode form_of.Waiting kept =
-    unless_asks P 2 _ _ (one_more P 1 _ _ _ (λ h is. obtained_asks P latch form_of.Waiting h.entry.reply))
+    unless_asks P 2 _ _ (one_more P 1 _ _ _ (λ h is. waiting_asks P latch h.entry.reply))
 obtain_asks P c latch requestor mode form_of.Conditional kept =
-    unless_asks P 1 _ _ (one_more P 0 _ _ _ (λ h is. obtained_over P latch form_of.Conditional h.entry.reply (λ e. cc e)))
+    once_asks P _ (obtain_once c latch requestor mode form_of.Conditional kept (λ e. cc e))
 obtain_asks P c latch requestor mode (form_of.Posted e) kept =
-    unless_asks P 1 _ _ (one_more P 0 _ _ _ (λ h is. obtained_over P latch (form_of.Posted e) h.entry.reply (λ q. cc q)))
+    once_asks P _ (obtain_once c latch requestor mode (form_of.Posted e) kept (λ q. cc q))
 
 -- ---- ends of jobs and tasks
 
 -- the post of a mother's block, if there is one
 mother_asks : (c : Setup) (mother : Option ℕ) (code : ℕ) (kept : Kept) (counts : Counts) → mother_events c mother ≤ 524287
     → Asks (IsHeard c) (mother_events c mother) (posts.wake_posted c mother code kept (Done counts))
-mother_asks c None code kept counts low = done_asks (IsHeard c) 0 counts
+mother_asks c None code kept counts low = none_asks (IsHeard c) 0 (Done counts) tt
 mother_asks c (Some e) code kept counts low =
     wider (IsHeard c) (reach c e + 0) (reach c e) _ (omega arith)
     (both_ask (IsHeard c) (reach c e) 0 (posts.post c e code kept) (λ p. Done counts) (by_exits c _ _ (post_asks c code e kept low))
-    (λ p. done_asks (IsHeard c) 0 counts))
+    (λ p. none_asks (IsHeard c) 0 (Done counts) tt))
 
 -- a purge
 purge_asks : (c : Setup) (requestor : ℕ) (kept : Kept) → release_cost c ≤ 524287
@@ -430,14 +245,8 @@ closes_ask : {A : Type 0} (P : Heard → Type 0) (kept : Kept) (ns : List ℕ) (
     → Asks P (length ns + n) (endings.close_all kept ns p)
 closes_ask P kept [] n p few = wider P n _ p (omega arith) few
 closes_ask P kept (m ∷ ns) n p few = wider P (suc (length ns + n)) _ _ (omega arith)
-    (one_more P (length ns + n) _ _ _ (λ h is. closed h.entry.reply (closes_ask P kept ns n p few))) where
-      closed : (r : Reply) → Asks P (length ns + n) (endings.close_all kept ns p)
-          → Asks P (length ns + n) (on_element r (endings.closed (endings.close_all kept ns p)))
-      closed (reply_of.Element element_reply.Closed) rest = rest
-      closed (reply_of.Element r) rest = wrong_asks _ P _
-      closed (reply_of.Ecb r) rest = wrong_asks _ P _
-      closed (reply_of.Volume r) rest = wrong_asks _ P _
-      closed (reply_of.Latch r) rest = wrong_asks _ P _
+    (one_more P (length ns + n) _ _ _ (λ h is. by_close (Asks P (length ns + n)) (none_asks P (length ns + n)) _
+    (closes_ask P kept ns n p few) h.entry.reply))
 
 -- ---- each call
 
@@ -446,27 +255,21 @@ call_asks : (c : Setup) (kept : Kept) (s : Service) → most_events c kept s ≤
     → Asks (IsHeard c) (most_events c kept s) (program c s kept)
 call_asks c kept (services.Wait count blocks) low = wait_asks (IsHeard c) c count blocks kept
 call_asks c kept (services.Post block code) low = by_exits c _ _ (post_asks c code block kept low)
-call_asks c kept (services.TryPost block expected code) low = one_more (IsHeard c) 0 _ _ _ (λ h is. post_tried (IsHeard c) _ h.entry.reply)
-call_asks c kept (services.Clear block) low =
-    unless_asks (IsHeard c) 1 _ _
-    (one_more (IsHeard c) 0 _ _ _ (λ h is. word_over (IsHeard c) _ (λ w. done_asks (IsHeard c) 0 (Ok w)) h.entry.reply))
-call_asks c kept (services.Extend block exit) low =
-    unless_asks (IsHeard c) 1 _ _ (one_more (IsHeard c) 0 _ _ _ (λ h is. extended_over (IsHeard c) h.entry.reply))
-call_asks c kept (services.TestEcb block) low =
-    one_more (IsHeard c) 0 _ _ _ (λ h is. word_over (IsHeard c) _ (λ w. done_asks (IsHeard c) 0 w) h.entry.reply)
-call_asks c kept (services.ReadVolume volume) low = one_more (IsHeard c) 0 _ _ _ (λ h is. value_over (IsHeard c) h.entry.reply)
-call_asks c kept (services.WriteVolume volume number) low = one_more (IsHeard c) 0 _ _ _ (λ h is. stored_over (IsHeard c) h.entry.reply)
-call_asks c kept services.Allocate low = allocate_asks (IsHeard c) (pauses.lowest_free c kept)
+call_asks c kept (services.TryPost block expected code) low = once_asks (IsHeard c) _ (try_post_once block expected code kept)
+call_asks c kept (services.Clear block) low = once_asks (IsHeard c) _ (clear_once c block kept)
+call_asks c kept (services.Extend block exit) low = once_asks (IsHeard c) _ (extend_once c block exit kept)
+call_asks c kept (services.TestEcb block) low = once_asks (IsHeard c) _ (test_ecb_once block kept)
+call_asks c kept (services.ReadVolume volume) low = once_asks (IsHeard c) _ (read_volume_once volume kept)
+call_asks c kept (services.WriteVolume volume number) low = once_asks (IsHeard c) _ (write_volume_once volume number kept)
+call_asks c kept services.Allocate low = once_asks (IsHeard c) _ (allocate_once c kept)
 call_asks c kept (services.Pause token) low = pause_asks (IsHeard c) c token kept
-call_asks c kept (services.Release token code) low = one_more (IsHeard c) 0 _ _ _ (λ h is. released_over (IsHeard c) h.entry.reply)
-call_asks c kept (services.TryRelease token expected code) low =
-    one_more (IsHeard c) 0 _ _ _ (λ h is. release_tried (IsHeard c) _ h.entry.reply)
+call_asks c kept (services.Release token code) low = once_asks (IsHeard c) _ (release_once token code kept)
+call_asks c kept (services.TryRelease token expected code) low = once_asks (IsHeard c) _ (try_release_once token expected code kept)
 call_asks c kept (services.Transfer current target code) low = transfer_asks (IsHeard c) c current target code kept
-call_asks c kept (services.Deallocate token) low =
-    unless_asks (IsHeard c) 1 _ _ (one_more (IsHeard c) 0 _ _ _ (λ h is. closed_over (IsHeard c) h.entry.reply))
-call_asks c kept (services.TestElement element) low = one_more (IsHeard c) 0 _ _ _ (λ h is. state_over (IsHeard c) h.entry.reply)
+call_asks c kept (services.Deallocate token) low = once_asks (IsHeard c) _ (deallocate_once c token kept)
+call_asks c kept (services.TestElement element) low = once_asks (IsHeard c) _ (test_element_once element kept)
 call_asks c kept (services.Obtain latch requestor mode form) low = obtain_asks (IsHeard c) c latch requestor mode form kept
-call_asks c kept (services.CheckLatch latch id) low = one_more (IsHeard c) 0 _ _ _ (λ h is. checked_over (IsHeard c) h.entry.reply)
+call_asks c kept (services.CheckLatch latch id) low = once_asks (IsHeard c) _ (check_latch_once latch id kept)
 call_asks c kept (services.ReleaseLatch latch id conditional) low =
     cost_asks c _ _ _ low (λ h fits. let_go_asks c conditional h.wakes kept h.entry.reply fits)
 call_asks c kept (services.Purge requestor) low = purge_asks c requestor kept low
@@ -495,27 +298,7 @@ told_apart c s k j Latches (op_on.Latch op) ws xs ys own fair its e =
       append_cancel_right xs ys (ws ∷ []) (ap (λ w. xs ++ w ∷ []) (sym last) ∙ same),
       subst (AreFairWakes c) last (fair op),
     )
-told_apart c s k j (Ecb n) op ws xs ys own fair its e = (
-  sym (append-nil xs) ∙ e ∙ append-nil ys,
-  subst (AreFairWakes c) (sym its) (fair (Confirm 0 0)),
-)
-told_apart c s k j (Element n) op ws xs ys own fair its e = (
-  sym (append-nil xs) ∙ e ∙ append-nil ys,
-  subst (AreFairWakes c) (sym its) (fair (Confirm 0 0)),
-)
-told_apart c s k j (Volume n) op ws xs ys own fair its e = (
-  sym (append-nil xs) ∙ e ∙ append-nil ys,
-  subst (AreFairWakes c) (sym its) (fair (Confirm 0 0)),
-)
-told_apart c s k j Latches (op_on.Ecb op) ws xs ys own fair its e = (
-  sym (append-nil xs) ∙ e ∙ append-nil ys,
-  subst (AreFairWakes c) (sym its) (fair (Confirm 0 0)),
-)
-told_apart c s k j Latches (op_on.Element op) ws xs ys own fair its e = (
-  sym (append-nil xs) ∙ e ∙ append-nil ys,
-  subst (AreFairWakes c) (sym its) (fair (Confirm 0 0)),
-)
-told_apart c s k j Latches (op_on.Volume op) ws xs ys own fair its e = (
+told_apart c s k j o op ws xs ys own fair its e = (
   sym (append-nil xs) ∙ e ∙ append-nil ys,
   subst (AreFairWakes c) (sym its) (fair (Confirm 0 0)),
 )

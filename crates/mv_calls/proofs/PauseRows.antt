@@ -10,11 +10,11 @@ use Rattle.mv_calls.specs.Pauses.{CameEarly, WokeIt, token_of}
 use Rattle.mv_calls.specs.Program.{Early, left, noted}
 use Rattle.mv_calls.specs.Refusal as refusal
 use Rattle.mv_calls.specs.Services.{program, Allocate, Pause, Release, TryRelease, Transfer, Deallocate, TestElement}
-use Rattle.mv_calls.proofs.Computed.{Step, does, IsRow, and_so, legal_by, one_task, two_tasks, at_element}
+use Rattle.mv_calls.proofs.Computed.{does, IsRow, row, legal_by, one_task, two_tasks, at_element}
 
 -- A code of three bytes reaches its pause; the token is spent then. The code of an element that is closed reaches nobody.
-abbrev lost_code_log : List Entry
-lost_code_log =
+lost_code : IsRow (one_task [] []) 0
+    (
     at_element 0 0 0 element_op.Open (element_reply.Opened 0)
     ∷ at_element 0 0 1 (element_op.Release 0 16777215) element_reply.Early
     ∷ at_element 0 0 2 (element_op.Pause 0) (element_reply.Given 16777215 1)
@@ -24,9 +24,8 @@ lost_code_log =
     ∷ at_element 0 1 2 (element_op.Close 0) element_reply.Closed
     ∷ at_element 0 1 3 (element_op.Release 0 4) (element_reply.Spent 1)
     ∷ []
-
-abbrev lost_code_calls : List Step
-lost_code_calls =
+    )
+    (
     does Allocate 1 (Ok (token_of 0 0))
     ∷ does (Release (token_of 0 0) 16777215) 1 (Ok CameEarly)
     ∷ does (Pause (token_of 0 0)) 1 (Ok (record { code = 16777215; next = token_of 0 1 }))
@@ -36,65 +35,73 @@ lost_code_calls =
     ∷ does (Deallocate (token_of 1 0)) 1 (Ok tt)
     ∷ does (Release (token_of 1 0) 4) 1 (Err (refusal.Spent 1))
     ∷ []
+    )
+lost_code = row refl refl
 
-lost_code : IsRow (one_task [] []) 0 lost_code_log lost_code_calls
-lost_code = record {
-  legal = legal_by (one_task [] []) lost_code_log refl;
-  made = and_so refl refl refl (and_so refl refl refl (and_so refl refl refl (and_so refl refl refl (
-      and_so refl refl refl (and_so refl refl refl (and_so refl refl refl (and_so refl refl refl refl)))))));
-}
-
--- A token is released once.
-abbrev released_twice_log : List Entry
-released_twice_log =
+-- An element is released twice, and then its owner pauses with it.
+abbrev released_twice : List Entry
+released_twice =
     at_element 0 0 0 element_op.Open (element_reply.Opened 0)
     ∷ at_element 0 0 1 (element_op.Release 0 5) element_reply.Early
     ∷ at_element 0 0 2 (element_op.Release 0 6) element_reply.Already
     ∷ at_element 0 0 3 (element_op.Pause 0) (element_reply.Given 5 1)
     ∷ []
 
-abbrev released_twice_calls : List Step
-released_twice_calls =
+-- A token is released once.
+releases : IsRow (one_task [] []) 0 released_twice
+    (
     does Allocate 1 (Ok (token_of 0 0))
     ∷ does (Release (token_of 0 0) 5) 1 (Ok CameEarly)
     ∷ does (Release (token_of 0 0) 6) 1 (Err refusal.Already)
     ∷ does (Pause (token_of 0 0)) 1 (Ok (record { code = 5; next = token_of 0 1 }))
     ∷ []
+    )
+releases = row refl refl
 
-released_twice : IsRow (one_task [] []) 0 released_twice_log released_twice_calls
-released_twice = record {
-  legal = legal_by (one_task [] []) released_twice_log refl;
-  made = and_so refl refl refl (and_so refl refl refl (and_so refl refl refl (and_so refl refl refl refl)));
-}
+-- Releases by one exchange of the word that was expected: the second finds the code of the first.
+tried_releases : IsRow (one_task [] []) 0 released_twice
+    (
+    does Allocate 1 (Ok (token_of 0 0))
+    ∷ does (TryRelease (token_of 0 0) 35184388866048 5) 1 (Ok CameEarly)
+    ∷ does (TryRelease (token_of 0 0) 70368777732101 6) 1 (Err refusal.Already)
+    ∷ does (Pause (token_of 0 0)) 1 (Ok (record { code = 5; next = token_of 0 1 }))
+    ∷ []
+    )
+tried_releases = row refl refl
+
+-- Transfers without a current token release, and nothing more.
+plain_transfers : IsRow (one_task [] []) 0 released_twice
+    (
+    does Allocate 1 (Ok (token_of 0 0))
+    ∷ does (Transfer None (token_of 0 0) 5) 1 (Ok None)
+    ∷ does (Transfer None (token_of 0 0) 6) 1 (Err refusal.TargetAlready)
+    ∷ does (Pause (token_of 0 0)) 1 (Ok (record { code = 5; next = token_of 0 1 }))
+    ∷ []
+    )
+plain_transfers = row refl refl
 
 -- A task has four elements.
-abbrev four_elements_log : List Entry
-four_elements_log =
+four_elements : IsRow (one_task [] []) 0
+    (
     at_element 0 0 0 element_op.Open (element_reply.Opened 0)
     ∷ at_element 0 1 0 element_op.Open (element_reply.Opened 0)
     ∷ at_element 0 2 0 element_op.Open (element_reply.Opened 0)
     ∷ at_element 0 3 0 element_op.Open (element_reply.Opened 0)
     ∷ []
-
-abbrev four_elements_calls : List Step
-four_elements_calls =
+    )
+    (
     does Allocate 1 (Ok (token_of 0 0))
     ∷ does Allocate 1 (Ok (token_of 1 0))
     ∷ does Allocate 1 (Ok (token_of 2 0))
     ∷ does Allocate 1 (Ok (token_of 3 0))
     ∷ does Allocate 0 (Err refusal.NoElement)
     ∷ []
-
-four_elements : IsRow (one_task [] []) 0 four_elements_log four_elements_calls
-four_elements = record {
-  legal = legal_by (one_task [] []) four_elements_log refl;
-  made = and_so refl refl refl (and_so refl refl refl (and_so refl refl refl (and_so refl refl refl (
-      and_so refl refl refl refl))));
-}
+    )
+four_elements = row refl refl
 
 -- A transfer to a token that is over pauses nobody; one to the current element is given its code at once.
-abbrev transfers_log : List Entry
-transfers_log =
+transfers : IsRow (one_task [] []) 0
+    (
     at_element 0 0 0 element_op.Open (element_reply.Opened 0)
     ∷ at_element 0 1 0 element_op.Open (element_reply.Opened 0)
     ∷ at_element 0 1 1 (element_op.Close 0) element_reply.Closed
@@ -103,9 +110,8 @@ transfers_log =
     ∷ at_element 0 0 2 (element_op.Release 0 6) element_reply.Early
     ∷ at_element 0 0 3 (element_op.Pause 0) (element_reply.Given 6 1)
     ∷ []
-
-abbrev transfers_calls : List Step
-transfers_calls =
+    )
+    (
     does Allocate 1 (Ok (token_of 0 0))
     ∷ does Allocate 1 (Ok (token_of 1 0))
     ∷ does (Deallocate (token_of 1 0)) 1 (Ok tt)
@@ -113,79 +119,23 @@ transfers_calls =
     ∷ does (TestElement 0) 1 (reset 0)
     ∷ does (Transfer (Some (token_of 0 0)) (token_of 0 0) 6) 2 (Ok (Some (record { code = 6; next = token_of 0 1 })))
     ∷ []
-
-transfers : IsRow (one_task [] []) 0 transfers_log transfers_calls
-transfers = record {
-  legal = legal_by (one_task [] []) transfers_log refl;
-  made = and_so refl refl refl (and_so refl refl refl (and_so refl refl refl (and_so refl refl refl (
-      and_so refl refl refl (and_so refl refl refl refl)))));
-}
+    )
+transfers = row refl refl
 
 -- A transfer with a token that is not in use makes no event.
-abbrev transfer_refused_log : List Entry
-transfer_refused_log =
+transfer_refused : IsRow (one_task [] []) 0
+    (
     at_element 0 0 0 element_op.Open (element_reply.Opened 0)
     ∷ at_element 0 0 1 (element_op.Close 0) element_reply.Closed
     ∷ []
-
-abbrev transfer_refused_calls : List Step
-transfer_refused_calls =
+    )
+    (
     does Allocate 1 (Ok (token_of 0 0))
     ∷ does (Deallocate (token_of 0 0)) 1 (Ok tt)
     ∷ does (Transfer (Some (token_of 0 0)) (token_of 1 0) 1) 0 (Err (refusal.Spent 1))
     ∷ []
-
-transfer_refused : IsRow (one_task [] []) 0 transfer_refused_log transfer_refused_calls
-transfer_refused = record {
-  legal = legal_by (one_task [] []) transfer_refused_log refl;
-  made = and_so refl refl refl (and_so refl refl refl (and_so refl refl refl refl));
-}
-
--- Releases by one exchange of the word that was expected: the second finds the code of the first.
-abbrev tried_release_log : List Entry
-tried_release_log =
-    at_element 0 0 0 element_op.Open (element_reply.Opened 0)
-    ∷ at_element 0 0 1 (element_op.Release 0 5) element_reply.Early
-    ∷ at_element 0 0 2 (element_op.Release 0 6) element_reply.Already
-    ∷ at_element 0 0 3 (element_op.Pause 0) (element_reply.Given 5 1)
-    ∷ []
-
-abbrev tried_release_calls : List Step
-tried_release_calls =
-    does Allocate 1 (Ok (token_of 0 0))
-    ∷ does (TryRelease (token_of 0 0) 35184388866048 5) 1 (Ok CameEarly)
-    ∷ does (TryRelease (token_of 0 0) 70368777732101 6) 1 (Err refusal.Already)
-    ∷ does (Pause (token_of 0 0)) 1 (Ok (record { code = 5; next = token_of 0 1 }))
-    ∷ []
-
-tried_release : IsRow (one_task [] []) 0 tried_release_log tried_release_calls
-tried_release = record {
-  legal = legal_by (one_task [] []) tried_release_log refl;
-  made = and_so refl refl refl (and_so refl refl refl (and_so refl refl refl (and_so refl refl refl refl)));
-}
-
--- Transfers without a current token release, and nothing more.
-abbrev plain_transfers_log : List Entry
-plain_transfers_log =
-    at_element 0 0 0 element_op.Open (element_reply.Opened 0)
-    ∷ at_element 0 0 1 (element_op.Release 0 3) element_reply.Early
-    ∷ at_element 0 0 2 (element_op.Release 0 4) element_reply.Already
-    ∷ at_element 0 0 3 (element_op.Pause 0) (element_reply.Given 3 1)
-    ∷ []
-
-abbrev plain_transfers_calls : List Step
-plain_transfers_calls =
-    does Allocate 1 (Ok (token_of 0 0))
-    ∷ does (Transfer None (token_of 0 0) 3) 1 (Ok None)
-    ∷ does (Transfer None (token_of 0 0) 4) 1 (Err refusal.TargetAlready)
-    ∷ does (Pause (token_of 0 0)) 1 (Ok (record { code = 3; next = token_of 0 1 }))
-    ∷ []
-
-plain_transfers : IsRow (one_task [] []) 0 plain_transfers_log plain_transfers_calls
-plain_transfers = record {
-  legal = legal_by (one_task [] []) plain_transfers_log refl;
-  made = and_so refl refl refl (and_so refl refl refl (and_so refl refl refl (and_so refl refl refl refl)));
-}
+    )
+transfer_refused = row refl refl
 
 -- One task pauses, and another releases it. Nobody but its owner pauses with an element, transfers from it or closes it.
 abbrev paused_log : List Entry
@@ -196,31 +146,23 @@ paused_log =
     ∷ at_element 0 0 3 (element_op.Resume 0) (element_reply.Given 9 1)
     ∷ []
 
-abbrev paused_of_0_calls : List Step
-paused_of_0_calls =
+paused_of_0 : IsRow (two_tasks [] []) 0 paused_log
+    (
     does Allocate 1 (Ok (token_of 0 0))
     ∷ does (Pause (token_of 0 0)) 2 (Ok (record { code = 9; next = token_of 0 1 }))
     ∷ []
+    )
+paused_of_0 = row refl refl
 
-paused_of_0 : IsRow (two_tasks [] []) 0 paused_log paused_of_0_calls
-paused_of_0 = record {
-  legal = legal_by (two_tasks [] []) paused_log refl;
-  made = and_so refl refl refl (and_so refl refl refl refl);
-}
-
-abbrev paused_of_1_calls : List Step
-paused_of_1_calls =
+paused_of_1 : IsRow (two_tasks [] []) 1 paused_log
+    (
     does (Release (token_of 0 0) 9) 1 (Ok WokeIt)
     ∷ does (Pause (token_of 0 0)) 0 (Err refusal.NotOwner)
     ∷ does (Transfer (Some (token_of 0 0)) (token_of 0 0) 1) 0 (Err refusal.NotOwner)
     ∷ does (Deallocate (token_of 0 0)) 0 (Err refusal.NotOwner)
     ∷ []
-
-paused_of_1 : IsRow (two_tasks [] []) 1 paused_log paused_of_1_calls
-paused_of_1 = record {
-  legal = legal_by (two_tasks [] []) paused_log refl;
-  made = and_so refl refl refl (and_so refl refl refl (and_so refl refl refl (and_so refl refl refl refl)));
-}
+    )
+paused_of_1 = row refl refl
 
 -- A transfer releases another task, which was parked, and parks its own.
 abbrev transferred_log : List Entry
@@ -235,30 +177,22 @@ transferred_log =
     ∷ at_element 1 4 3 (element_op.Resume 0) (element_reply.Given 8 1)
     ∷ []
 
-abbrev transferred_of_0_calls : List Step
-transferred_of_0_calls =
+transferred_of_0 : IsRow (two_tasks [] []) 0 transferred_log
+    (
     does Allocate 1 (Ok (token_of 0 0))
     ∷ does (Pause (token_of 0 0)) 2 (Ok (record { code = 7; next = token_of 0 1 }))
     ∷ does (Release (token_of 4 0) 8) 1 (Ok WokeIt)
     ∷ []
+    )
+transferred_of_0 = row refl refl
 
-transferred_of_0 : IsRow (two_tasks [] []) 0 transferred_log transferred_of_0_calls
-transferred_of_0 = record {
-  legal = legal_by (two_tasks [] []) transferred_log refl;
-  made = and_so refl refl refl (and_so refl refl refl (and_so refl refl refl refl));
-}
-
-abbrev transferred_of_1_calls : List Step
-transferred_of_1_calls =
+transferred_of_1 : IsRow (two_tasks [] []) 1 transferred_log
+    (
     does Allocate 1 (Ok (token_of 4 0))
     ∷ does (Transfer (Some (token_of 4 0)) (token_of 0 0) 7) 3 (Ok (Some (record { code = 8; next = token_of 4 1 })))
     ∷ []
-
-transferred_of_1 : IsRow (two_tasks [] []) 1 transferred_log transferred_of_1_calls
-transferred_of_1 = record {
-  legal = legal_by (two_tasks [] []) transferred_log refl;
-  made = and_so refl refl refl (and_so refl refl refl refl);
-}
+    )
+transferred_of_1 = row refl refl
 
 -- ---- what does not follow
 

@@ -33,6 +33,7 @@ use Rattle.mv_calls.specs.Posts as came
 use Rattle.mv_calls.specs.Program.{Program, Do, Done, Early, Wrong, Heard, asks, Says, and_then, on_ecb}
 use Rattle.mv_machine.specs.Waking.{blocks_of}
 use Rattle.mv_calls.proofs.Blocks.{block_agrees}
+use Rattle.mv_calls.proofs.Replies.{HasNoEvent}
 
 -- ---- a reply of the machine names an exit of its block
 shown : (c : Setup) (n : ℕ) (op : EcbOp) (x : EcbState) (a e : Bool) → BlockAgrees c n x a e
@@ -130,26 +131,26 @@ both_ask P m n p f first later hs each s = elim (parts p f hs s) [
       )
 ]
 
--- a program that is done asks nothing more
-pub done_asks : {A : Type 0} (P : Heard → Type 0) (most : ℕ) (a : A) → Asks P most (Done a)
-done_asks P most a [] each s = omega arith
-done_asks P most a (h ∷ hs) each s = absurd (cc s.0)
-
--- nor does one that met a reply that nothing foresees
-pub wrong_asks : (A : Type 0) (P : Heard → Type 0) (most : ℕ) → Asks {A = A} P most Wrong
-wrong_asks A P most [] each s = omega arith
-wrong_asks A P most (h ∷ hs) each s = absurd (cc s.0)
+-- a program without event asks for nothing
+pub none_asks : {A : Type 0} (P : Heard → Type 0) (most : ℕ) (p : Program A) → HasNoEvent p → Asks P most p
+none_asks P most p none [] each s = omega arith
+none_asks P most (Do o op next) none (h ∷ hs) each s = absurd none
+none_asks P most (Done a) none (h ∷ hs) each s = absurd (cc s.0)
+none_asks P most Early none (h ∷ hs) each s = absurd (cc s.0)
+none_asks P most Wrong none (h ∷ hs) each s = absurd (cc s.0)
 
 -- ---- posts one after the other
 each_asks : (c : Setup) (cost : ℕ → ℕ) (one : ℕ → Program Posting) → ((e : ℕ) → cost e ≤ 524287 → AsksAtMost c (cost e) (one e))
     → (es : List ℕ) (answer : Posting) → total cost es ≤ 524287
     → AsksAtMost c (total cost es) (each_posted one es answer)
-each_asks c cost one each [] answer le = done_asks (HasOwnExit c) 0 answer
+each_asks c cost one each [] answer le = none_asks (HasOwnExit c) 0 (Done answer) tt
 each_asks c cost one each (e ∷ es) answer le =
     both_ask (HasOwnExit c) (cost e) (total cost es) (one e) (λ p. each_posted one es answer) (each e (omega arith))
     (λ p. each_asks c cost one each es answer (omega arith))
 
 -- ---- a block's exits
+
+-- one more exit makes the greatest no less
 greatest_more : (F : SetupExit → ℕ) (e n : ℕ) (y : SetupExit) (xs : List SetupExit) (b : Bool) → n ≤ greatest (map F (exits_of e xs))
     → n ≤ greatest (map F (cond b (y ∷ exits_of e xs) (exits_of e xs)))
 greatest_more F e n y xs true le = omega arith
@@ -162,7 +163,7 @@ greatest_here F e y xs true is = omega arith
 greatest_here F e y xs false is = absurd (false≢true is)
 
 -- nor does any of them
-greatest_member : (F : SetupExit → ℕ) (e : ℕ) (xs : List SetupExit) (i : ℕ) (x : SetupExit) → slice_get xs i ≡ Some x
+pub greatest_member : (F : SetupExit → ℕ) (e : ℕ) (xs : List SetupExit) (i : ℕ) (x : SetupExit) → slice_get xs i ≡ Some x
     → (x.source == e) ≡ true
     → F x ≤ greatest (map F (exits_of e xs))
 greatest_member F e [] i x at is = absurd (cc at)
@@ -173,7 +174,7 @@ greatest_member F e (y ∷ xs) zero x at is =
 greatest_member F e (y ∷ xs) (suc i) x at is = greatest_more F e (F x) y xs (y.source == e) (greatest_member F e xs i x at is)
 
 -- an exit that starts from a block is one of the block's
-starts : (e : ℕ) (o : Option SetupExit) → starts_from e o ≡ true → (x : SetupExit) × (o ≡ Some x) × ((x.source == e) ≡ true)
+pub starts : (e : ℕ) (o : Option SetupExit) → starts_from e o ≡ true → (x : SetupExit) × (o ≡ Some x) × ((x.source == e) ≡ true)
 starts e None s = absurd (false≢true s)
 starts e (Some x) s = (x, refl, s)
 
@@ -208,13 +209,10 @@ module _ (c : Setup) (code : ℕ) where
         each_asks c (reach_within depth c) (post_within depth c code) each (targets_of c (suc x)) (came.Woke (suc x))
             (omega arith) hs names s,
       )
-  follows depth e (reply_of.Ecb (ecb_reply.Woke zero)) each own le hs names s = done_asks (HasOwnExit c) _ (came.Woke zero) hs names s
-  follows depth e (reply_of.Ecb ecb_reply.Posted) each own le hs names s = done_asks (HasOwnExit c) _ came.Posted hs names s
-  follows depth e (reply_of.Ecb (ecb_reply.Already d)) each own le hs names s = done_asks (HasOwnExit c) _ (came.Already d) hs names s
-  follows depth e (reply_of.Ecb r) each own le hs names s = wrong_asks Posting (HasOwnExit c) _ hs names s
-  follows depth e (reply_of.Element r) each own le hs names s = wrong_asks Posting (HasOwnExit c) _ hs names s
-  follows depth e (reply_of.Volume r) each own le hs names s = wrong_asks Posting (HasOwnExit c) _ hs names s
-  follows depth e (reply_of.Latch r) each own le hs names s = wrong_asks Posting (HasOwnExit c) _ hs names s
+  follows depth e (reply_of.Ecb (ecb_reply.Woke zero)) each own le hs names s = none_asks (HasOwnExit c) _ _ tt hs names s
+  follows depth e (reply_of.Ecb ecb_reply.Posted) each own le hs names s = none_asks (HasOwnExit c) _ _ tt hs names s
+  follows depth e (reply_of.Ecb (ecb_reply.Already d)) each own le hs names s = none_asks (HasOwnExit c) _ _ tt hs names s
+  follows depth e r each own le hs names s = none_asks (HasOwnExit c) _ _ tt hs names s
 
   -- a post and what it is followed by
   abbrev asking : ℕ → Op → Program Posting
@@ -224,7 +222,7 @@ module _ (c : Setup) (code : ℕ) where
   object_is e o op x q = (some_pair_parts (Ecb e) o x op q).0
 
   within_asks : (depth e : ℕ) → reach_within depth c e ≤ 524287 → AsksAtMost c (reach_within depth c e) (post_within depth c code e)
-  within_asks zero e le hs names s = wrong_asks Posting (HasOwnExit c) _ hs names s
+  within_asks zero e le hs names s = none_asks (HasOwnExit c) _ Wrong tt hs names s
   within_asks (suc depth) e le [] names s = omega arith
   within_asks (suc depth) e le (h ∷ hs) names s =
       let there : Ecb e ≡ h.entry.object = object_is e h.entry.object h.entry.op (op_on.Ecb (Post code)) s.0 in

@@ -240,6 +240,19 @@ stands_below c k es t l i =
           (All-from_recursion (λ (u : StandingRequest). u.request.caller ≡ k) (standing (of k es)) r.mine) i,
     )
 
+-- what stands behind a confirm stood before it
+pub stood_at_confirm : (k : ℕ) (ts : List StandingRequest) (t : StandingRequest) (latch id : ℕ) (y : LatchReply)
+    → Contains (stands_after k ts (Confirm latch id) y) t → Contains ts t
+stood_at_confirm k ts t latch id Gone i = was_in (λ u. not (is_named latch id u)) t ts i
+stood_at_confirm k ts t latch id y i = i
+
+-- and what stands behind a release before that
+pub stood_at_release : (k : ℕ) (ts : List StandingRequest) (t : StandingRequest) (latch id : ℕ) (conditional : Bool) (y : LatchReply)
+    → Contains (stands_after k ts (Release latch id conditional) y) t → Contains ts t
+stood_at_release k ts t latch id conditional Gone i = was_in (λ u. not (is_named latch id u)) t ts i
+stood_at_release k ts t latch id conditional (Released n) i = was_in (λ u. not (is_named latch id u)) t ts i
+stood_at_release k ts t latch id conditional y i = i
+
 -- ---- the caller's own entry
 module _ (W : Type 0) (k place : ℕ) (lists : List (List Request)) (ts : List StandingRequest) (t : StandingRequest) (ih : Contains ts t
     → Contains (list_of lists t.latch) t.request ⊎ W) where
@@ -280,15 +293,6 @@ module _ (W : Type 0) (k place : ℕ) (lists : List (List Request)) (ts : List S
       pushed latch (record { id = place; caller = k; requestor = requestor; mode = mode; form = form }) lt i
   obtained latch requestor mode form lt false false i = replaced latch (list_of lists latch) lt (λ same j. j) i
 
-  confirmed : (latch id : ℕ) (y : LatchReply) → Contains (stands_after k ts (Confirm latch id) y) t → Contains ts t
-  confirmed latch id Gone i = was_in (λ u. not (is_named latch id u)) t ts i
-  confirmed latch id (Granted x) i = i
-  confirmed latch id (Queued x) i = i
-  confirmed latch id (NotNow x) i = i
-  confirmed latch id Waiting i = i
-  confirmed latch id (Released x) i = i
-  confirmed latch id (Purged x y) i = i
-
   not_own : (latch id : ℕ) → t.latch ≡ latch → is_named latch id t ≡ false → not (is_own k id t.request) ≡ true
   not_own latch id same other = grind arith
 
@@ -323,7 +327,7 @@ module _ (W : Type 0) (k place : ℕ) (lists : List (List Request)) (ts : List S
   own_step (Obtain latch requestor mode form) lt i =
       let r : Request = record { id = place; caller = k; requestor = requestor; mode = mode; form = form } in
       obtained latch requestor mode form lt (grants (list_of lists latch) r) (queues form) i
-  own_step (Confirm latch id) lt i = ih (confirmed latch id (confirm_reply k id (list_of lists latch)) i)
+  own_step (Confirm latch id) lt i = ih (stood_at_confirm k ts t latch id (confirm_reply k id (list_of lists latch)) i)
   own_step (Release latch id conditional) lt i =
       released latch id conditional lt (list_any (is_own k id) (list_of lists latch))
       (conditional && not (list_any (is_own k id) (granted (list_of lists latch)))) i

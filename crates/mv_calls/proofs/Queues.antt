@@ -8,7 +8,7 @@ use Rattle.std.proofs.lemmas.List.Elements.{Contains-push, Contains-push_cases}
 use Rattle.mv_latch.specs.declared.operation.LatchOp.{LatchOp}
 use Rattle.mv_latch.specs.declared.operation.LatchOp.TheVariants.{Obtain, Confirm, Release, Purge}
 use Rattle.mv_latch.specs.declared.operation.LatchReply.{LatchReply}
-use Rattle.mv_latch.specs.declared.operation.LatchReply.TheVariants.{Granted, Queued, NotNow, Waiting, Gone, Released, Purged}
+use Rattle.mv_latch.specs.declared.operation.LatchReply.TheVariants.{Granted, Queued, NotNow, Waiting, Gone}
 use Rattle.mv_latch.specs.declared.request.LatchForm.{LatchForm}
 use Rattle.mv_latch.specs.declared.request.LatchForm.TheVariants as form_of
 use Rattle.mv_latch.specs.declared.request.Mode.{Mode}
@@ -44,6 +44,7 @@ use Rattle.mv_machine.specs.Leaving.{WasPurged, is_early_confirm, HasNoEarlyConf
 use Rattle.mv_machine.proofs.Grants.{in_granted}
 use Rattle.mv_calls.proofs.Gone.{one_request, its_own, confirm_finds_granted, confirm_gone}
 use Rattle.mv_calls.proofs.Purged.{found, finds, passes, was_in, not_true, standing_own, standing_other, stands_below, stands_or_purged}
+use Rattle.mv_calls.proofs.Purged.{stood_at_confirm, stood_at_release}
 
 -- ---- tables of two numbers
 abbrev Table : Type 0
@@ -194,25 +195,6 @@ module _ (k place : ℕ) (lists : List (List Request)) (ts : List StandingReques
       absurd (true≢false (sym (rw (eq-eqb t.latch latch (sym here), eq-eqb t.request.id id (sym too)) refl)
       ∙ not_true (is_named latch id t) (passes (λ u. not (is_named latch id u)) t ts i)))
 
-  confirm_within : (latch id : ℕ) (y : LatchReply) → Contains (stands_after k ts (Confirm latch id) y) t → Contains ts t
-  confirm_within latch id Gone i = was_in (λ u. not (is_named latch id u)) t ts i
-  confirm_within latch id (Granted x) i = i
-  confirm_within latch id (Queued x) i = i
-  confirm_within latch id (NotNow x) i = i
-  confirm_within latch id Waiting i = i
-  confirm_within latch id (Released x) i = i
-  confirm_within latch id (Purged x y) i = i
-
-  release_within : (latch id : ℕ) (conditional : Bool) (y : LatchReply) → Contains (stands_after k ts (Release latch id conditional) y) t
-      → Contains ts t
-  release_within latch id conditional Gone i = was_in (λ u. not (is_named latch id u)) t ts i
-  release_within latch id conditional (Granted x) i = i
-  release_within latch id conditional (Queued x) i = i
-  release_within latch id conditional (NotNow x) i = i
-  release_within latch id conditional Waiting i = i
-  release_within latch id conditional (Released x) i = was_in (λ u. not (is_named latch id u)) t ts i
-  release_within latch id conditional (Purged x y) i = i
-
   confirmed : (latch id : ℕ) → is_early_confirm t Latches (op_on.Latch (Confirm latch id))
       (reply_of.Latch (confirm_reply k id (list_of lists latch))) ≡ false
       → Contains (stands_after k ts (Confirm latch id) (confirm_reply k id (list_of lists latch))) t
@@ -225,7 +207,7 @@ module _ (k place : ℕ) (lists : List (List Request)) (ts : List StandingReques
         (list_any (is_own k id) (granted (list_of lists latch))) (list_any (is_own k id) (list_of lists latch)) refl not_early i
     | inr apart ↦ old_one (Confirm latch id) (queued_after queued (Confirm latch id) (confirm_reply k id (list_of lists latch)))
         (λ is. set_other queued latch id t.latch t.request.id apart is)
-        (confirm_within latch id (confirm_reply k id (list_of lists latch)) i) j
+        (stood_at_confirm k ts t latch id (confirm_reply k id (list_of lists latch)) i) j
   ]
 
   own_step : (op : LatchOp) → NamesLatch op lists → is_early_confirm t Latches (op_on.Latch op)
@@ -246,7 +228,7 @@ module _ (k place : ℕ) (lists : List (List Request)) (ts : List StandingReques
   own_step (Confirm latch id) lt not_early i j = confirmed latch id not_early i j
   own_step (Release latch id conditional) lt not_early i j =
       old_one (Release latch id conditional) queued (λ is. is)
-      (release_within latch id conditional (release_step k id conditional (list_of lists latch)).1 i) j
+      (stood_at_release k ts t latch id conditional (release_step k id conditional (list_of lists latch)).1 i) j
   own_step (Purge requestor) lt not_early i j = old_one (Purge requestor) queued (λ is. is)
       (was_in (λ u. not (is_for requestor u)) t ts i) j
 

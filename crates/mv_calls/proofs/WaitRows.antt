@@ -17,68 +17,33 @@ use Rattle.mv_calls.specs.Program.{Early, Wrong, IsDoneOn, asks, left, noted}
 use Rattle.mv_calls.specs.Refusal as refusal
 use Rattle.mv_calls.specs.Runs.{heard_in}
 use Rattle.mv_calls.specs.Services.{program, Wait, Post, TryPost, Clear, Extend, TestEcb, ReadVolume, WriteVolume}
-use Rattle.mv_calls.proofs.Computed.{Step, does, IsRow, and_so, legal_by, one_task, two_tasks, at_block, at_volume}
+use Rattle.mv_calls.proofs.Examples as examples
+use Rattle.mv_calls.proofs.Computed.{does, IsRow, row, legal_by, one_task, two_tasks, at_block, at_volume}
 
 -- Two blocks are posted before the wait that is for two of three, and the third is not waited for any more then.
-abbrev posted_before_log : List Entry
-posted_before_log =
-    at_block 0 0 0 (ecb_op.Post 7) ecb_reply.Posted
-    ∷ at_block 0 2 0 (ecb_op.Post 9) ecb_reply.Posted
-    ∷ at_block 0 0 1 ecb_op.Arm (ecb_reply.Complete 7)
-    ∷ at_block 0 1 0 ecb_op.Arm ecb_reply.Armed
-    ∷ at_block 0 2 1 ecb_op.Arm (ecb_reply.Complete 9)
-    ∷ at_block 0 0 2 ecb_op.Settle (ecb_reply.Complete 7)
-    ∷ at_block 0 1 1 ecb_op.Settle ecb_reply.Open
-    ∷ at_block 0 2 2 ecb_op.Settle (ecb_reply.Complete 9)
-    ∷ at_block 0 1 2 ecb_op.Test (ecb_reply.Word 0)
-    ∷ []
-
-abbrev posted_before_calls : List Step
-posted_before_calls =
+posted_before : IsRow (one_task (0 ∷ 0 ∷ 0 ∷ []) []) 0 examples.posted_before
+    (
     does (Post 0 7) 1 posts.Posted
     ∷ does (Post 2 9) 1 posts.Posted
     ∷ does (Wait 2 (0 ∷ 1 ∷ 2 ∷ [])) 6 (Ok (Some 7 ∷ None ∷ Some 9 ∷ []))
     ∷ does (TestEcb 1) 1 0
     ∷ []
-
-posted_before : IsRow (one_task (0 ∷ 0 ∷ 0 ∷ []) []) 0 posted_before_log posted_before_calls
-posted_before = record {
-  legal = legal_by (one_task (0 ∷ 0 ∷ 0 ∷ []) []) posted_before_log refl;
-  made = and_so refl refl refl (and_so refl refl refl (and_so refl refl refl (and_so refl refl refl refl)));
-}
+    )
+posted_before = row refl refl
 
 -- Waits that make no event: for none of none, for more than there are, and with a block twice.
-abbrev refused_waits_log : List Entry
-refused_waits_log =
-    []
-
-abbrev refused_waits_calls : List Step
-refused_waits_calls =
+refused_waits : IsRow (one_task (0 ∷ []) []) 0 []
+    (
     does (Wait 0 []) 0 (Ok [])
     ∷ does (Wait 2 (0 ∷ [])) 0 (Err refusal.TooMany)
     ∷ does (Wait 1 (0 ∷ 0 ∷ [])) 0 (Err (refusal.Doubled 1))
     ∷ []
-
-refused_waits : IsRow (one_task (0 ∷ []) []) 0 refused_waits_log refused_waits_calls
-refused_waits = record {
-  legal = legal_by (one_task (0 ∷ []) []) refused_waits_log refl;
-  made = and_so refl refl refl (and_so refl refl refl (and_so refl refl refl refl));
-}
+    )
+refused_waits = row refl refl
 
 -- A post that starts an exit posts its two targets; the second was complete before. A wait for an extended block is refused.
-abbrev exits_posted_log : List Entry
-exits_posted_log =
-    at_block 0 2 0 (ecb_op.Post 3) ecb_reply.Posted
-    ∷ at_block 0 0 0 (ecb_op.Extend 1) ecb_reply.Armed
-    ∷ at_block 0 0 1 (ecb_op.Post 8) (ecb_reply.Woke 1)
-    ∷ at_block 0 1 0 (ecb_op.Post 8) ecb_reply.Posted
-    ∷ at_block 0 2 1 (ecb_op.Post 8) (ecb_reply.Already 3)
-    ∷ at_block 0 1 1 ecb_op.Test (ecb_reply.Word 1073741832)
-    ∷ at_block 0 2 2 ecb_op.Test (ecb_reply.Word 1073741827)
-    ∷ []
-
-abbrev exits_posted_calls : List Step
-exits_posted_calls =
+exits_posted : IsRow examples.one_exit 0 examples.exit_posts
+    (
     does (Post 2 3) 1 posts.Posted
     ∷ does (Extend 0 1) 1 (Ok tt)
     ∷ does (Wait 1 (0 ∷ [])) 0 (Err (refusal.ExtendedAt 0))
@@ -86,17 +51,13 @@ exits_posted_calls =
     ∷ does (TestEcb 1) 1 1073741832
     ∷ does (TestEcb 2) 1 1073741827
     ∷ []
-
-exits_posted : IsRow (one_task (0 ∷ 0 ∷ 0 ∷ []) (record { source = 0; targets = 1 ∷ 2 ∷ [] } ∷ [])) 0 exits_posted_log exits_posted_calls
-exits_posted = record {
-  legal = legal_by (one_task (0 ∷ 0 ∷ 0 ∷ []) (record { source = 0; targets = 1 ∷ 2 ∷ [] } ∷ [])) exits_posted_log refl;
-  made = and_so refl refl refl (and_so refl refl refl (and_so refl refl refl (and_so refl refl refl (
-      and_so refl refl refl (and_so refl refl refl refl)))));
-}
+    )
+exits_posted = row refl refl
 
 -- An exit whose target starts an exit of its own: that one is posted before the next target. Extends that are refused, and clears.
-abbrev exits_in_exits_log : List Entry
-exits_in_exits_log =
+exits_in_exits : IsRow
+    (one_task (0 ∷ 0 ∷ 0 ∷ []) (record { source = 0; targets = 1 ∷ 2 ∷ [] } ∷ record { source = 1; targets = 2 ∷ [] } ∷ [])) 0
+    (
     at_block 0 0 0 (ecb_op.Extend 1) ecb_reply.Armed
     ∷ at_block 0 1 0 (ecb_op.Extend 2) ecb_reply.Armed
     ∷ at_block 0 0 1 (ecb_op.Post 8) (ecb_reply.Woke 1)
@@ -110,9 +71,8 @@ exits_in_exits_log =
     ∷ at_block 0 1 3 (ecb_op.Post 5) ecb_reply.Posted
     ∷ at_block 0 1 4 (ecb_op.Extend 2) (ecb_reply.Complete 5)
     ∷ []
-
-abbrev exits_in_exits_calls : List Step
-exits_in_exits_calls =
+    )
+    (
     does (Extend 0 1) 1 (Ok tt)
     ∷ does (Extend 0 1) 0 (Err refusal.Extended)
     ∷ does (Extend 1 1) 0 (Err refusal.BadExit)
@@ -126,88 +86,48 @@ exits_in_exits_calls =
     ∷ does (Post 1 5) 1 posts.Posted
     ∷ does (Extend 1 2) 1 (Err (refusal.Complete 5))
     ∷ []
-
-exits_in_exits : IsRow (one_task (0 ∷ 0 ∷ 0 ∷ []) (record { source = 0; targets = 1 ∷ 2 ∷ [] } ∷ record {
-  source = 1;
-  targets =
-      2 ∷ [];
-} ∷ [])) 0 exits_in_exits_log exits_in_exits_calls
-exits_in_exits = record {
-  legal = legal_by (one_task (0 ∷ 0 ∷ 0 ∷ []) (record { source = 0; targets = 1 ∷ 2 ∷ [] } ∷ record { source = 1; targets = 2 ∷ [] } ∷ []))
-      exits_in_exits_log refl;
-  made = and_so refl refl refl (and_so refl refl refl (and_so refl refl refl (and_so refl refl refl (
-      and_so refl refl refl (and_so refl refl refl (and_so refl refl refl (and_so refl refl refl (
-      and_so refl refl refl (and_so refl refl refl (and_so refl refl refl (and_so refl refl refl refl)))))))))));
-}
+    )
+exits_in_exits = row refl refl
 
 -- A post by one exchange of the word that was expected.
-abbrev tried_post_log : List Entry
-tried_post_log =
-    at_block 0 0 0 (ecb_op.Post 5) ecb_reply.Posted
-    ∷ []
-
-abbrev tried_post_calls : List Step
-tried_post_calls =
+tried_post : IsRow (one_task (0 ∷ []) []) 0 examples.one_post
+    (
     does (TryPost 0 0 5) 1 posts.Posted
     ∷ []
-
-tried_post : IsRow (one_task (0 ∷ []) []) 0 tried_post_log tried_post_calls
-tried_post = record {
-  legal = legal_by (one_task (0 ∷ []) []) tried_post_log refl;
-  made = and_so refl refl refl refl;
-}
+    )
+tried_post = row refl refl
 
 -- A volume keeps its number of 32 bits.
-abbrev volume_written_log : List Entry
-volume_written_log =
+volume_written : IsRow (one_task [] []) 0
+    (
     at_volume 0 0 0 (volume_op.Write 4294967295) volume_reply.Stored
     ∷ at_volume 0 0 1 volume_op.Read (volume_reply.Value 4294967295)
     ∷ []
-
-abbrev volume_written_calls : List Step
-volume_written_calls =
+    )
+    (
     does (WriteVolume 0 4294967295) 1 tt
     ∷ does (ReadVolume 0) 1 4294967295
     ∷ []
-
-volume_written : IsRow (one_task [] []) 0 volume_written_log volume_written_calls
-volume_written = record {
-  legal = legal_by (one_task [] []) volume_written_log refl;
-  made = and_so refl refl refl (and_so refl refl refl refl);
-}
+    )
+volume_written = row refl refl
 
 -- One task waits for its block, and another posts it.
-abbrev woken_log : List Entry
-woken_log =
-    at_block 0 0 0 ecb_op.Arm ecb_reply.Armed
-    ∷ at_block 1 0 1 (ecb_op.Post 3) (ecb_reply.Woke 0)
-    ∷ at_block 0 0 2 ecb_op.Settle (ecb_reply.Complete 3)
-    ∷ []
-
-abbrev woken_of_0_calls : List Step
-woken_of_0_calls =
+woken_of_0 : IsRow (two_tasks (0 ∷ []) []) 0 examples.post_wakes
+    (
     does (Wait 1 (0 ∷ [])) 2 (Ok (Some 3 ∷ []))
     ∷ []
+    )
+woken_of_0 = row refl refl
 
-woken_of_0 : IsRow (two_tasks (0 ∷ []) []) 0 woken_log woken_of_0_calls
-woken_of_0 = record {
-  legal = legal_by (two_tasks (0 ∷ []) []) woken_log refl;
-  made = and_so refl refl refl refl;
-}
-
-abbrev woken_of_1_calls : List Step
-woken_of_1_calls =
+woken_of_1 : IsRow (two_tasks (0 ∷ []) []) 1 examples.post_wakes
+    (
     does (Post 0 3) 1 (posts.Woke 0)
     ∷ does (Clear 0) 0 (Err refusal.NotOwner)
     ∷ does (Wait 1 (0 ∷ [])) 0 (Err (refusal.NotOwnerAt 0))
     ∷ does (Extend 0 1) 0 (Err refusal.NotOwner)
     ∷ []
-
-woken_of_1 : IsRow (two_tasks (0 ∷ []) []) 1 woken_log woken_of_1_calls
-woken_of_1 = record {
-  legal = legal_by (two_tasks (0 ∷ []) []) woken_log refl;
-  made = and_so refl refl refl (and_so refl refl refl (and_so refl refl refl (and_so refl refl refl refl)));
-}
+    )
+woken_of_1 = row refl refl
 
 -- The same, where the post comes first.
 abbrev posted_first_log : List Entry
@@ -217,27 +137,19 @@ posted_first_log =
     ∷ at_block 0 0 2 ecb_op.Settle (ecb_reply.Complete 3)
     ∷ []
 
-abbrev posted_first_of_0_calls : List Step
-posted_first_of_0_calls =
+posted_first_of_0 : IsRow (two_tasks (0 ∷ []) []) 0 posted_first_log
+    (
     does (Wait 1 (0 ∷ [])) 2 (Ok (Some 3 ∷ []))
     ∷ []
+    )
+posted_first_of_0 = row refl refl
 
-posted_first_of_0 : IsRow (two_tasks (0 ∷ []) []) 0 posted_first_log posted_first_of_0_calls
-posted_first_of_0 = record {
-  legal = legal_by (two_tasks (0 ∷ []) []) posted_first_log refl;
-  made = and_so refl refl refl refl;
-}
-
-abbrev posted_first_of_1_calls : List Step
-posted_first_of_1_calls =
+posted_first_of_1 : IsRow (two_tasks (0 ∷ []) []) 1 posted_first_log
+    (
     does (Post 0 3) 1 posts.Posted
     ∷ []
-
-posted_first_of_1 : IsRow (two_tasks (0 ∷ []) []) 1 posted_first_log posted_first_of_1_calls
-posted_first_of_1 = record {
-  legal = legal_by (two_tasks (0 ∷ []) []) posted_first_log refl;
-  made = and_so refl refl refl refl;
-}
+    )
+posted_first_of_1 = row refl refl
 
 -- ---- what does not follow
 
@@ -258,9 +170,6 @@ ended_too_soon : Legal two_blocks short_log
     × (left (program two_blocks (Wait 2 (0 ∷ 1 ∷ [])) (nothing_kept 0)) (heard_in two_blocks 0 short_log) ≡ Early)
 ended_too_soon = (legal_by two_blocks short_log refl, refl)
 
-abbrev one_exit : Setup
-one_exit = one_task (0 ∷ 0 ∷ []) (record { source = 0; targets = 1 ∷ [] } ∷ [])
-
 abbrev unposted_log : List Entry
 unposted_log =
     at_block 0 0 0 (ecb_op.Extend 1) ecb_reply.Armed
@@ -268,20 +177,20 @@ unposted_log =
     ∷ []
 
 -- a post that leaves out the posts of its exit is not done: it still says the target's
-exit_left_out : Legal one_exit unposted_log
-    × (asks (left (program one_exit (Post 0 8) (kept_of 0 (take 1 unposted_log))) (noted (drop 1 unposted_log) []))
+exit_left_out : Legal examples.one_exit unposted_log
+    × (asks (left (program examples.one_exit (Post 0 8) (kept_of 0 (take 1 unposted_log))) (noted (drop 1 unposted_log) []))
     ≡ Some (Ecb 1, op_on.Ecb (ecb_op.Post 8)))
-exit_left_out = (legal_by one_exit unposted_log refl, refl)
+exit_left_out = (legal_by examples.one_exit unposted_log refl, refl)
 
 -- so it has no answer
 no_answer : (answer : Posting)
-    → IsDoneOn (program one_exit (Post 0 8) (kept_of 0 (take 1 unposted_log))) (noted (drop 1 unposted_log) []) answer → ⊥
+    → IsDoneOn (program examples.one_exit (Post 0 8) (kept_of 0 (take 1 unposted_log))) (noted (drop 1 unposted_log) []) answer → ⊥
 no_answer answer d = absurd (cc d.done)
 
 -- a second try with the word from before meets this word, and has no event; one that was answered all the same would be Wrong
-moved_word : word_at (after (one_task (0 ∷ []) []) tried_post_log) (Ecb 0) ≡ 35185445830661
+moved_word : word_at (after (one_task (0 ∷ []) []) examples.one_post) (Ecb 0) ≡ 35185445830661
 moved_word = refl
 
-tried_again : left (program (one_task (0 ∷ []) []) (TryPost 0 0 6) (kept_of 0 tried_post_log))
+tried_again : left (program (one_task (0 ∷ []) []) (TryPost 0 0 6) (kept_of 0 examples.one_post))
     (noted (at_block 0 0 1 (ecb_op.Post 6) (ecb_reply.Already 5) ∷ []) []) ≡ Wrong
 tried_again = refl

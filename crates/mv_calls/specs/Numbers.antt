@@ -20,6 +20,7 @@ use Rattle.mv_machine.specs.declared.entry.Reply.TheVariants as reply_of
 use Rattle.mv_machine.specs.Legal.{next}
 use Rattle.mv_machine.specs.Setup.{Setup}
 use Rattle.mv_machine.specs.System.{System, opening, with_at}
+use Rattle.mv_machine.specs.Waking.{blocks_of}
 use Rattle.mv_calls.specs.Posts.{targets_of}
 
 -- what is kept of a caller: the number of its last group of entries, the blocks whose posts may still follow in that
@@ -79,16 +80,6 @@ group_after (Some e) g true = g
 group_after (Some e) g false = g + 1
 
 -- ---- which posts may follow
-
--- a block, if there is one, before others
-abbrev pub and_block : Option ℕ → List ℕ → List ℕ
-and_block None rest = rest
-and_block (Some e) rest = e ∷ rest
-
--- the blocks of wakes, of those that have one
-abbrev pub blocks_of : List Wake → List ℕ
-blocks_of [] = []
-blocks_of (w ∷ ws) = and_block w.ecb (blocks_of ws)
 
 -- the targets of the exit that a post ran, if it ran one
 abbrev pub targets_run : Setup → EcbOp → Reply → List ℕ

@@ -1,5 +1,5 @@
 -- The calls on pause elements.
-use Rattle.std.specs.Prelude.{ℕ, ◌*◌, ◌==◌, Bool, true, false, not, ◌&&◌, List, find, Option, Some, None, Result, Ok, Err, if◌then◌else◌}
+use Rattle.std.specs.Prelude.{ℕ, ◌*◌, ◌==◌, Bool, true, false, not, ◌&&◌, List, find, Option, Some, None, Result, Ok, Err}
 use Rattle.std.specs.List.{range_with_len}
 use Rattle.mv_element.specs.declared.element.ElementState.{ElementState}
 use Rattle.mv_element.specs.declared.element.Token.{Token}
@@ -13,7 +13,7 @@ use Rattle.mv_machine.specs.declared.entry.Reply.TheVariants as reply_of
 use Rattle.mv_machine.specs.Check.{or_else}
 use Rattle.mv_machine.specs.Setup.{Setup, element_owner}
 use Rattle.mv_calls.specs.Keeping.{Kept}
-use Rattle.mv_calls.specs.Posts.{expected_of, is_expected}
+use Rattle.mv_calls.specs.Posts.{tried}
 use Rattle.mv_calls.specs.Program.{Program, Do, Done, Early, Wrong, Call, and_then, on_element, unless_refused}
 use Rattle.mv_calls.specs.Refusal.{Refusal}
 use Rattle.mv_calls.specs.Refusal as refusal
@@ -117,12 +117,8 @@ same_release_reply x y = false
 
 -- one release, where the element is as expected
 abbrev pub try_release : Token → ℕ → ℕ → Call (Result Reached Refusal)
-try_release t expected code kept =
-    Do (Element t.element) (op_on.Element (element_op.Release t.generation code)) (λ h.
-    if is_expected same_release_reply
-    (expected_of (Element t.element) (op_on.Element (element_op.Release t.generation code)) expected) h.entry.place h.entry.reply
-    then on_element h.entry.reply released
-    else Wrong)
+try_release t expected code kept = tried same_release_reply (Element t.element) (op_on.Element (element_op.Release t.generation code))
+    expected (λ r. on_element r released)
 
 -- ---- transfer
 

@@ -84,13 +84,15 @@ abbrev pub same_post_reply : Reply → Reply → Bool
 same_post_reply (reply_of.Ecb x) (reply_of.Ecb y) = same_posting x y
 same_post_reply x y = false
 
+-- one event, where the object is as expected: then its reply, which is the expected one, is looked at
+abbrev pub tried : {A : Type 0} → (Reply → Reply → Bool) → Object → Op → ℕ → (Reply → Program A) → Program A
+tried same o op expected f =
+    Do o op (λ h. if is_expected same (expected_of o op expected) h.entry.place h.entry.reply then f h.entry.reply else Wrong)
+
 -- one post, where the block is as expected
 abbrev pub try_post : ℕ → ℕ → ℕ → Call Posting
 try_post e expected code kept =
-    Do (Ecb e) (op_on.Ecb (ecb_op.Post code)) (λ h.
-    if is_expected same_post_reply (expected_of (Ecb e) (op_on.Ecb (ecb_op.Post code)) expected) h.entry.place h.entry.reply
-    then on_ecb h.entry.reply (posting (λ p. Done p))
-    else Wrong)
+    tried same_post_reply (Ecb e) (op_on.Ecb (ecb_op.Post code)) expected (λ r. on_ecb r (posting (λ p. Done p)))
 
 -- ---- posts that wakes ask for
 

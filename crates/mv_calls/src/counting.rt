@@ -4,7 +4,9 @@
 ghost use Rattle.std.specs.Prelude.{◌≡◌, ◌++◌, ◌<◌, ◌-◌, ◌^◌, [], reverse, length, IfOk, IfSome};
 ghost use Rattle.mv_calls.specs.Posts.{targets_of};
 ghost use Rattle.mv_calls.specs.Counters.{numbering_of};
-ghost use Rattle.mv_calls.specs.Numbers.{unnumbered, is_queued as is_queued_of, is_accepted as is_accepted_of, continues as continues_of, blocks_of, asked, kept_pending, numbered};
+ghost use Rattle.mv_machine.specs.Waking.{blocks_of};
+ghost use Rattle.mv_calls.specs.Numbers.{unnumbered, asked, kept_pending, numbered};
+ghost use Rattle.mv_calls.specs.Numbers.{is_queued as is_queued_of, is_accepted as is_accepted_of, continues as continues_of};
 
 use mv_ecb::{EcbOp, EcbReply};
 use mv_element::{ElementOp, ElementReply};

@@ -62,29 +62,29 @@ one_counted c s shown ws xs e old new n lt at told is =
           (counted xs e.caller).pending e.object e.op;
     }) (asked_same c s shown e.caller e.object e.op e.reply n.admits))))
 
--- ---- a turn of the loop
+-- ---- a round of the loop
 
 -- the entry at a place, and what is left behind it
 at_drop : (es : List Entry) (i : ℕ) (e : Entry) → i < length es → e ≡ get_or es i e → drop i es ≡ e ∷ drop (i + 1) es
 at_drop es i e lt at = drop_more es i e lt ∙ ap (λ x. x ∷ drop (i + 1) es) (sym at)
 
 -- it is the machine's next
-pub turn_next : (c : Setup) (s : System) (es : List Entry) (i : ℕ) (e : Entry) → i < length es → e ≡ get_or es i e
+pub round_next : (c : Setup) (s : System) (es : List Entry) (i : ℕ) (e : Entry) → i < length es → e ≡ get_or es i e
     → LegalFrom c s (drop i es) → IsNext c s e
-turn_next c s es i e lt at l = (subst (λ xs. LegalFrom c s xs) (at_drop es i e lt at) l).0
+round_next c s es i e lt at l = (subst (λ xs. LegalFrom c s xs) (at_drop es i e lt at) l).0
 
 -- what is left is legal behind it
-pub turn_rest : (c : Setup) (s : System) (es : List Entry) (i : ℕ) (e : Entry) → i < length es → e ≡ get_or es i e
+pub round_rest : (c : Setup) (s : System) (es : List Entry) (i : ℕ) (e : Entry) → i < length es → e ≡ get_or es i e
     → LegalFrom c s (drop i es) → LegalFrom c (next s e) (drop (i + 1) es)
-turn_rest c s es i e lt at l = (subst (λ xs. LegalFrom c s xs) (at_drop es i e lt at) l).1
+round_rest c s es i e lt at l = (subst (λ xs. LegalFrom c s xs) (at_drop es i e lt at) l).1
 
 -- its number comes next
-pub turn_numbers : (c : Setup) (s : System) (table : ℕ → Numbering) (es : List Entry) (i : ℕ) (e : Entry) (all ns : List ℕ)
+pub round_numbers : (c : Setup) (s : System) (table : ℕ → Numbering) (es : List Entry) (i : ℕ) (e : Entry) (all ns : List ℕ)
     → i < length es → e ≡ get_or es i e
     → all ≡ ns ++ calls_from c s table (drop i es)
     → all ≡ (ns ++ (numbered_at c s table e).group ∷ []) ++ calls_from c (next s e) (with_at table e.caller (numbered_at c s table e))
     (drop (i + 1) es)
-turn_numbers c s table es i e all ns lt at is = is ∙ ap (λ xs. ns ++ calls_from c s table xs) (at_drop es i e lt at) ∙ sym
+round_numbers c s table es i e all ns lt at is = is ∙ ap (λ xs. ns ++ calls_from c s table xs) (at_drop es i e lt at) ∙ sym
     (append_assoc ns ((numbered_at c s table e).group ∷ [])
     (calls_from c (next s e) (with_at table e.caller (numbered_at c s table e)) (drop (i + 1) es)))
 
@@ -100,9 +100,9 @@ low_at true t u i lt lu = lt
 low_at false t u i lt lu = lu
 
 -- so no group number is above the place
-pub turn_low : (c : Setup) (s : System) (table : ℕ → Numbering) (e : Entry) (i : ℕ) → ((k : ℕ) → (table k).group ≤ i) → (k : ℕ)
+pub round_low : (c : Setup) (s : System) (table : ℕ → Numbering) (e : Entry) (i : ℕ) → ((k : ℕ) → (table k).group ≤ i) → (k : ℕ)
     → (with_at table e.caller (numbered_at c s table e) k).group ≤ i + 1
-turn_low c s table e i low k = low_at (k == e.caller) (numbered_at c s table e) (table k) (i + 1)
+round_low c s table e i low k = low_at (k == e.caller) (numbered_at c s table e) (table k) (i + 1)
     (one_more (table e.caller).last (table e.caller).group (continues (table e.caller) e.object e.op) i (low e.caller))
     (let l : (table k).group ≤ i = low k in omega arith)
 

@@ -10,7 +10,7 @@ use Rattle.mv_latch.specs.declared.request.LatchForm.TheVariants.{Conditional, W
 use Rattle.mv_latch.specs.declared.request.Mode.TheVariants.{Shared, Exclusive}
 use Rattle.mv_machine.specs.declared.entry.Entry.{Entry}
 use Rattle.mv_machine.specs.Legal.{Legal}
-use Rattle.mv_machine.specs.Setup.{Setup, SetupExit}
+use Rattle.mv_machine.specs.Setup.{Setup}
 use Rattle.mv_machine.specs.System.{opening}
 use Rattle.mv_calls.specs.Program.{Heard}
 use Rattle.mv_calls.specs.Posts.{Woke}
@@ -18,6 +18,7 @@ use Rattle.mv_calls.specs.Runs.{heard_in}
 use Rattle.mv_calls.specs.Numbers.{calls}
 use Rattle.mv_calls.specs.OneCall.{IsOneCall}
 use Rattle.mv_calls.specs.Services.{Post, ReleaseLatch}
+use Rattle.mv_calls.proofs.Examples as examples
 use Rattle.mv_calls.proofs.Computed.{answers, claims, legal_by, one_task, two_tasks, three_tasks, at_block, at_element, at_latches}
 
 -- a legal history, and its call numbers
@@ -59,32 +60,20 @@ two_blocks : IsNumbered (one_task (0 ∷ 0 ∷ []) [])
     (0 ∷ 0 ∷ 0 ∷ 0 ∷ 1 ∷ [])
 two_blocks = numbered refl refl
 
--- one exit, from the first of three blocks to the others
-abbrev an_exit : Setup
-an_exit = one_task (0 ∷ 0 ∷ 0 ∷ []) (record { source = 0; targets = 1 ∷ 2 ∷ [] } ∷ [])
+-- what the task of an exit hears as a post runs it
+abbrev exit_heard : List Heard
+exit_heard = heard_in examples.one_exit 0 examples.exit_posts
 
--- a post that runs it
-abbrev an_exit_runs : List Entry
-an_exit_runs =
-    at_block 0 2 0 (ecb_op.Post 3) ecb_reply.Posted
-    ∷ at_block 0 0 0 (ecb_op.Extend 1) ecb_reply.Armed
-    ∷ at_block 0 0 1 (ecb_op.Post 8) (ecb_reply.Woke 1)
-    ∷ at_block 0 1 0 (ecb_op.Post 8) ecb_reply.Posted
-    ∷ at_block 0 2 1 (ecb_op.Post 8) (ecb_reply.Already 3)
-    ∷ at_block 0 1 1 ecb_op.Test (ecb_reply.Word 1073741832)
-    ∷ at_block 0 2 2 ecb_op.Test (ecb_reply.Word 1073741827)
-    ∷ []
-
--- is one call, and each test is one
-exit_runs : IsNumbered an_exit an_exit_runs (0 ∷ 1 ∷ 2 ∷ 2 ∷ 2 ∷ 3 ∷ 4 ∷ [])
+-- a post that runs an exit is one call, and each test is one
+exit_runs : IsNumbered examples.one_exit examples.exit_posts (0 ∷ 1 ∷ 2 ∷ 2 ∷ 2 ∷ 3 ∷ 4 ∷ [])
 exit_runs = numbered refl refl
 
 -- it is such a call as the law speaks of
-post_is_one_call : IsOneCall an_exit 0 an_exit_runs (take 2 (heard_in an_exit 0 an_exit_runs))
-    (take 3 (drop 2 (heard_in an_exit 0 an_exit_runs)))
+post_is_one_call : IsOneCall examples.one_exit 0 examples.exit_posts (take 2 exit_heard)
+    (take 3 (drop 2 exit_heard))
 post_is_one_call = record {
   legal = exit_runs.legal;
-  later = drop 5 (heard_in an_exit 0 an_exit_runs);
+  later = drop 5 exit_heard;
   split = refl;
   rest = record { armed = λ n. refl; parked = λ n. refl; queued = λ latch id. refl };
   service = Post 0 8;
@@ -151,29 +140,20 @@ obtain_waits : IsNumbered (two_tasks [] [])
     (0 ∷ 0 ∷ 1 ∷ 0 ∷ 1 ∷ [])
 obtain_waits = numbered refl refl
 
--- a release of a latch posts the block of the request that it grants
-abbrev a_release_posts : List Entry
-a_release_posts =
-    at_latches 0 0 (latch_op.Obtain 0 1 Exclusive Conditional) (latch_reply.Granted 0)
-    ∷ at_latches 0 1 (latch_op.Obtain 0 2 Exclusive (Posted 0)) (latch_reply.Queued 1)
-    ∷ at_block 0 0 0 ecb_op.Test (ecb_reply.Word 0)
-    ∷ at_latches 0 2 (latch_op.Release 0 0 true) (latch_reply.Released 1)
-    ∷ at_block 0 0 1 (ecb_op.Post 0) ecb_reply.Posted
-    ∷ at_block 0 0 2 ecb_op.Test (ecb_reply.Word 1073741824)
-    ∷ at_latches 0 3 (latch_op.Confirm 0 1) (latch_reply.Granted 1)
-    ∷ at_latches 0 4 (latch_op.Release 0 0 true) latch_reply.Gone
-    ∷ []
+-- what one task with one block hears as a release of a latch posts it
+abbrev release_heard : List Heard
+release_heard = heard_in (one_task (0 ∷ []) []) 0 examples.grant_posts
 
--- in one call
-release_posts : IsNumbered (one_task (0 ∷ []) []) a_release_posts (0 ∷ 1 ∷ 2 ∷ 3 ∷ 3 ∷ 4 ∷ 5 ∷ 6 ∷ [])
+-- a release of a latch posts the block of the request that it grants, in one call
+release_posts : IsNumbered (one_task (0 ∷ []) []) examples.grant_posts (0 ∷ 1 ∷ 2 ∷ 3 ∷ 3 ∷ 4 ∷ 5 ∷ 6 ∷ [])
 release_posts = numbered refl refl
 
 -- which is such a call too
-release_is_one_call : IsOneCall (one_task (0 ∷ []) []) 0 a_release_posts
-    (take 3 (heard_in (one_task (0 ∷ []) []) 0 a_release_posts)) (take 2 (drop 3 (heard_in (one_task (0 ∷ []) []) 0 a_release_posts)))
+release_is_one_call : IsOneCall (one_task (0 ∷ []) []) 0 examples.grant_posts
+    (take 3 release_heard) (take 2 (drop 3 release_heard))
 release_is_one_call = record {
   legal = release_posts.legal;
-  later = drop 5 (heard_in (one_task (0 ∷ []) []) 0 a_release_posts);
+  later = drop 5 release_heard;
   split = refl;
   rest = record { armed = λ n. refl; parked = λ n. refl; queued = λ latch id. refl };
   service = ReleaseLatch 0 0 true;

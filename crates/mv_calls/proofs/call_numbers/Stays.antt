@@ -16,7 +16,8 @@ use Rattle.mv_calls.specs.Keeping.{Kept}
 use Rattle.mv_calls.specs.Posts.{Posting, Woke, posting, posted_next, targets_of, each_posted, post_within, wake_posted}
 use Rattle.mv_calls.specs.Posts.{wakes_posted}
 use Rattle.mv_calls.specs.Program.{Program, Do, Done, Early, Wrong, Heard, and_then, on_ecb}
-use Rattle.mv_calls.specs.Numbers.{Numbering, numbered, group_after, continues, kept_pending, and_block, blocks_of}
+use Rattle.mv_calls.specs.Numbers.{Numbering, numbered, group_after, continues, kept_pending}
+use Rattle.mv_machine.specs.Waking.{blocks_of}
 
 -- an event as it is heard
 abbrev pub event : ℕ → Object → ℕ → Op → Reply → List Wake → Heard
@@ -106,15 +107,7 @@ one_post c depth code e one below t taken k place (reply_of.Ecb (ecb_reply.Woke 
     (then_numbered c t (event k (Ecb e) place (op_on.Ecb (ecb_op.Post code)) (reply_of.Ecb (ecb_reply.Woke x)) ws)) (Woke x)
     (ap (λ ps. targets_of c x ++ ps) taken)
 one_post c depth code e one below t taken k place (reply_of.Ecb (ecb_reply.Already d)) ws = taken
-one_post c depth code e one below t taken k place (reply_of.Ecb ecb_reply.Armed) ws = tt
-one_post c depth code e one below t taken k place (reply_of.Ecb (ecb_reply.Linked x)) ws = tt
-one_post c depth code e one below t taken k place (reply_of.Ecb (ecb_reply.Complete x)) ws = tt
-one_post c depth code e one below t taken k place (reply_of.Ecb ecb_reply.Waiting) ws = tt
-one_post c depth code e one below t taken k place (reply_of.Ecb ecb_reply.Open) ws = tt
-one_post c depth code e one below t taken k place (reply_of.Ecb (ecb_reply.Word w)) ws = tt
-one_post c depth code e one below t taken k place (reply_of.Element r) ws = tt
-one_post c depth code e one below t taken k place (reply_of.Volume r) ws = tt
-one_post c depth code e one below t taken k place (reply_of.Latch r) ws = tt
+one_post c depth code e one below t taken k place r ws = tt
 
 -- a post of the first pending block continues
 pub post_stays : (c : Setup) (depth code e : ℕ) (below : List ℕ) (t : Numbering) → t.pending ≡ e ∷ below
@@ -124,6 +117,11 @@ post_stays c (suc depth) code e below t p = λ k place reply ws. (
   ap (λ b. group_after t.last t.group b) (first_continues c code e below t p) ∙ group_kept t.last t.group,
   one_post c depth code e (post_stays c depth code) below t (first_is_taken code e below t p) k place reply ws,
 )
+
+-- a block, if there is one, before others
+abbrev and_block : Option ℕ → List ℕ → List ℕ
+and_block None rest = rest
+and_block (Some e) rest = e ∷ rest
 
 -- the posts of a wake, if it has a block
 wake_stays : {A : Type 0} (c : Setup) (Q : Numbering → Type 0) (block : Option ℕ) (code : ℕ) (kept : Kept) (rest : List ℕ)
@@ -142,11 +140,12 @@ pub wakes_stay : {A : Type 0} (c : Setup) (Q : Numbering → Type 0) (ws : List 
     → StaysTo c Q t (wakes_posted c ws kept last)
 wakes_stay c Q [] kept below last t p g = g t p
 wakes_stay c Q (w ∷ ws) kept below last t p g =
-    wake_stays c Q w.ecb w.code kept (blocks_of ws ++ below) (wakes_posted c ws kept last) t (p ∙ before w.ecb (blocks_of ws))
+    wake_stays c Q w.ecb w.code kept (blocks_of ws ++ below) (wakes_posted c ws kept last) t (p ∙ before w.ecb)
     (λ u q. wakes_stay c Q ws kept below last u q g) where
-      before : (block : Option ℕ) (rest : List ℕ) → and_block block rest ++ below ≡ and_block block (rest ++ below)
-      before None rest = refl
-      before (Some e) rest = refl
+      before : (block : Option ℕ)
+          → blocks_of (record w { ecb = block } ∷ ws) ++ below ≡ and_block block (blocks_of ws ++ below)
+      before None = refl
+      before (Some e) = refl
 
 -- ---- a call from its first event on
 

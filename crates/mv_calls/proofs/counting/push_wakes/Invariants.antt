@@ -1,6 +1,6 @@
 -- The blocks of the wakes from a place on lie on top.
 use Rattle.std.proofs.Common.{◌≡◌, ◌++◌, ◌≤◌, reverse, length, drop}
-use Rattle.mv_calls.specs.Numbers.{blocks_of}
+use Rattle.mv_machine.specs.Waking.{blocks_of}
 use Rattle.mv_calls.proofs.counting.push_wakes.Given as goal
 
 abbrev pub invariant-loop-at : goal.invariant-loop-at

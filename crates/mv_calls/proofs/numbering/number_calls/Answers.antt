@@ -7,7 +7,7 @@ use Rattle.mv_machine.specs.System.{opening, with_at}
 use Rattle.mv_calls.specs.Counters.{counted}
 use Rattle.mv_calls.specs.Numbers.{unnumbered, numbered_at, calls, calls_from}
 use Rattle.mv_calls.specs.OneCall.{HasOneNumber}
-use Rattle.mv_calls.proofs.call_numbers.Kept.{turn_rest, turn_numbers, turn_low}
+use Rattle.mv_calls.proofs.call_numbers.Kept.{round_rest, round_numbers, round_low}
 use Rattle.mv_calls.proofs.call_numbers.OneCalls.{one_number}
 use Rattle.mv_calls.proofs.numbering.number_calls.Goals as goal
 
@@ -44,11 +44,12 @@ loop-entry-preserved c =
     c.in_ok-number.ensures.counters in
     record {
       opened = c.number_next.ensures.opened;
-      legal = subst (λ s. LegalFrom config s (drop (i + 1) entries)) (sym system) (turn_rest config before entries i e lt read known.legal);
-      numbers = turn_numbers config before table entries i e (calls config entries) c.loop-entry.numbers.items lt read known.numbers
+      legal = subst (λ s. LegalFrom config s (drop (i + 1) entries)) (sym system)
+          (round_rest config before entries i e lt read known.legal);
+      numbers = round_numbers config before table entries i e (calls config entries) c.loop-entry.numbers.items lt read known.numbers
           ∙ rw (system, counters, c.in_ok-push.ensures.items, c.in_ok-number.ensures.number) refl;
       callers = c.number_next.ensures.callers;
-      low = subst (λ t. (k : ℕ) → (t k).group ≤ i + 1) (sym counters) (turn_low config before table e i known.low);
+      low = subst (λ t. (k : ℕ) → (t k).group ≤ i + 1) (sym counters) (round_low config before table e i known.low);
     }
 
 pub returns-clause-one_number : goal.returns-clause-one_number
