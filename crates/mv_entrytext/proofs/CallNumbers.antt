@@ -10,7 +10,7 @@ use Rattle.mv_machine.specs.Legal.{next}
 use Rattle.mv_calls.specs.Numbers.{Numbering, unnumbered, numbered_at, calls_from, calls}
 use Rattle.mv_machine.specs.Setup.{Setup}
 use Rattle.mv_machine.specs.System.{System, opening, with_at}
-use Rattle.mv_calls.proofs.call_numbers.Kept.{turn_low}
+use Rattle.mv_calls.proofs.call_numbers.Kept.{round_low}
 use Rattle.mv_calls.proofs.call_numbers.Prefixes.{calls_length}
 use Rattle.mv_entrytext.specs.declared.version.Version.{Version}
 use Rattle.mv_entrytext.specs.declared.version.Version.TheVariants.{One, Two}
@@ -96,8 +96,8 @@ calls_fit c s table [] i low le = tt
 calls_fit c s table (e ∷ es) i low le =
     let after = numbered_at c s table e in
     let here : after.group ≤ i + 1 =
-    subst (λ b. (cond b after (table e.caller)).group ≤ i + 1) (eq-eqb e.caller e.caller refl) (turn_low c s table e i low e.caller) in
-    (omega arith, calls_fit c (next s e) (with_at table e.caller after) es (i + 1) (turn_low c s table e i low) (omega arith))
+    subst (λ b. (cond b after (table e.caller)).group ≤ i + 1) (eq-eqb e.caller e.caller refl) (round_low c s table e i low e.caller) in
+    (omega arith, calls_fit c (next s e) (with_at table e.caller after) es (i + 1) (round_low c s table e i low) (omega arith))
 
 -- so there is one for each entry
 pub calls_are_numbers : (c : Setup) (es : List Entry) → length es ≤ highest_u32 → AreCallNumbers es (calls c es)

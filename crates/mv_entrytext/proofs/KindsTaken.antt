@@ -40,7 +40,7 @@ use Rattle.mv_machine.specs.Limits.{highest_generation, highest_place}
 use Rattle.mv_entrytext.specs.Reading.{Reader, nothing}
 use Rattle.mv_entrytext.proofs.CallNumbers.{IsCallIn}
 use Rattle.mv_entrytext.proofs.Again.{state_text, highest_kept-le}
-use Rattle.mv_entrytext.proofs.Taken.{Takes, takes_nothing, takes_behind, behind_given, takes_made, behind_made, takes_parted}
+use Rattle.mv_entrytext.proofs.Taken.{Takes, takes_nothing, word_or, part_or, u32_or, takes_made, takes_parted, takes_behind}
 use Rattle.mv_entrytext.proofs.Taken.{takes_parted_at, takes_number, takes_u32, takes_u64}
 
 -- ---- event control blocks
@@ -54,48 +54,37 @@ takes_exit = takes_number 1 highest_ecb_code (omega arith)
 takes_ecb_op : Takes ecb_op_text (λ op. IsEcbOpInRange op) (ecb_op true)
 unfolding ecb_op
 takes_ecb_op =
-    takes_behind (codes "ARM") ecb_op_text (λ op. IsEcbOpInRange op) _ _
-    (behind_given (codes "ARM") ecb_op_text (λ op. IsEcbOpInRange op) ecb_op_of.Arm refl tt)
-    (takes_behind (codes "EXTEND ") ecb_op_text (λ op. IsEcbOpInRange op) _ _
-    (behind_made (codes "EXTEND ") ecb_op_text (λ op. IsEcbOpInRange op) (λ x. ecb_op_of.Extend x) decimal
-    (λ x. (1 ≤ x) × (x ≤ highest_ecb_code)) (number true 1 highest_ecb_code) (λ x. refl) (λ x h. h) takes_exit)
-    (takes_behind (codes "SETTLE") ecb_op_text (λ op. IsEcbOpInRange op) _ _
-    (behind_given (codes "SETTLE") ecb_op_text (λ op. IsEcbOpInRange op) ecb_op_of.Settle refl tt)
-    (takes_behind (codes "CLEAR") ecb_op_text (λ op. IsEcbOpInRange op) _ _
-    (behind_given (codes "CLEAR") ecb_op_text (λ op. IsEcbOpInRange op) ecb_op_of.Clear refl tt)
-    (takes_behind (codes "POST ") ecb_op_text (λ op. IsEcbOpInRange op) _ _
-    (behind_made (codes "POST ") ecb_op_text (λ op. IsEcbOpInRange op) (λ x. ecb_op_of.Post x) decimal (λ x. x ≤ highest_ecb_code)
-    (number true 0 highest_ecb_code) (λ x. refl) (λ x h. h) takes_code)
-    (takes_behind (codes "TEST") ecb_op_text (λ op. IsEcbOpInRange op) _ _
-    (behind_given (codes "TEST") ecb_op_text (λ op. IsEcbOpInRange op) ecb_op_of.Test refl tt)
+    let word = word_or ecb_op_text (λ op. IsEcbOpInRange op) in
+    let part = part_or ecb_op_text (λ op. IsEcbOpInRange op) in
+    word (codes "ARM") ecb_op_of.Arm refl tt _
+    (part _ (codes "EXTEND ") (λ x. ecb_op_of.Extend x) decimal (λ x. (1 ≤ x) × (x ≤ highest_ecb_code)) (number true 1 highest_ecb_code)
+    (λ x. refl) (λ x h. h) takes_exit _
+    (word (codes "SETTLE") ecb_op_of.Settle refl tt _
+    (word (codes "CLEAR") ecb_op_of.Clear refl tt _
+    (part _ (codes "POST ") (λ x. ecb_op_of.Post x) decimal (λ x. x ≤ highest_ecb_code) (number true 0 highest_ecb_code) (λ x. refl)
+    (λ x h. h) takes_code _
+    (word (codes "TEST") ecb_op_of.Test refl tt _
     (takes_nothing ecb_op_text (λ op. IsEcbOpInRange op)))))))
 
 takes_ecb_reply : Takes ecb_reply_text (λ r. IsEcbReplyInRange r × IsEcbReplyTyped r) (ecb_reply true)
 unfolding ecb_reply
 takes_ecb_reply =
-    takes_behind (codes "ARMED") ecb_reply_text (λ r. IsEcbReplyInRange r × IsEcbReplyTyped r) _ _
-    (behind_given (codes "ARMED") ecb_reply_text (λ r. IsEcbReplyInRange r × IsEcbReplyTyped r) ecb_reply_of.Armed refl (tt, tt))
-    (takes_behind (codes "LINKED ") ecb_reply_text (λ r. IsEcbReplyInRange r × IsEcbReplyTyped r) _ _
-    (behind_made (codes "LINKED ") ecb_reply_text (λ r. IsEcbReplyInRange r × IsEcbReplyTyped r) (λ x. ecb_reply_of.Linked x) decimal
-    (λ x. (1 ≤ x) × (x ≤ highest_ecb_code)) (number true 1 highest_ecb_code) (λ x. refl) (λ x h. (h, tt)) takes_exit)
-    (takes_behind (codes "COMPLETE ") ecb_reply_text (λ r. IsEcbReplyInRange r × IsEcbReplyTyped r) _ _
-    (behind_made (codes "COMPLETE ") ecb_reply_text (λ r. IsEcbReplyInRange r × IsEcbReplyTyped r) (λ x. ecb_reply_of.Complete x)
-    decimal (λ x. x ≤ highest_ecb_code) (number true 0 highest_ecb_code) (λ x. refl) (λ x h. (h, tt)) takes_code)
-    (takes_behind (codes "WAITING") ecb_reply_text (λ r. IsEcbReplyInRange r × IsEcbReplyTyped r) _ _
-    (behind_given (codes "WAITING") ecb_reply_text (λ r. IsEcbReplyInRange r × IsEcbReplyTyped r) ecb_reply_of.Waiting refl (tt, tt))
-    (takes_behind (codes "OPEN") ecb_reply_text (λ r. IsEcbReplyInRange r × IsEcbReplyTyped r) _ _
-    (behind_given (codes "OPEN") ecb_reply_text (λ r. IsEcbReplyInRange r × IsEcbReplyTyped r) ecb_reply_of.Open refl (tt, tt))
-    (takes_behind (codes "POSTED") ecb_reply_text (λ r. IsEcbReplyInRange r × IsEcbReplyTyped r) _ _
-    (behind_given (codes "POSTED") ecb_reply_text (λ r. IsEcbReplyInRange r × IsEcbReplyTyped r) ecb_reply_of.Posted refl (tt, tt))
-    (takes_behind (codes "WOKE ") ecb_reply_text (λ r. IsEcbReplyInRange r × IsEcbReplyTyped r) _ _
-    (behind_made (codes "WOKE ") ecb_reply_text (λ r. IsEcbReplyInRange r × IsEcbReplyTyped r) (λ x. ecb_reply_of.Woke x) decimal
-    (λ x. x ≤ highest_ecb_code) (number true 0 highest_ecb_code) (λ x. refl) (λ x h. (h, tt)) takes_code)
-    (takes_behind (codes "ALREADY ") ecb_reply_text (λ r. IsEcbReplyInRange r × IsEcbReplyTyped r) _ _
-    (behind_made (codes "ALREADY ") ecb_reply_text (λ r. IsEcbReplyInRange r × IsEcbReplyTyped r) (λ x. ecb_reply_of.Already x) decimal
-    (λ x. x ≤ highest_ecb_code) (number true 0 highest_ecb_code) (λ x. refl) (λ x h. (h, tt)) takes_code)
-    (takes_behind (codes "WORD ") ecb_reply_text (λ r. IsEcbReplyInRange r × IsEcbReplyTyped r) _ _
-    (behind_made (codes "WORD ") ecb_reply_text (λ r. IsEcbReplyInRange r × IsEcbReplyTyped r) (λ x. ecb_reply_of.Word x) decimal
-    (λ x. x ≤ highest_u32) (any_u32 true) (λ x. refl) (λ x h. (tt, h)) takes_u32)
+    let word = word_or ecb_reply_text (λ r. IsEcbReplyInRange r × IsEcbReplyTyped r) in
+    let u32 = u32_or ecb_reply_text (λ r. IsEcbReplyInRange r × IsEcbReplyTyped r) in
+    let part = part_or ecb_reply_text (λ r. IsEcbReplyInRange r × IsEcbReplyTyped r) in
+    word (codes "ARMED") ecb_reply_of.Armed refl (tt, tt) _
+    (part _ (codes "LINKED ") (λ x. ecb_reply_of.Linked x) decimal (λ x. (1 ≤ x) × (x ≤ highest_ecb_code))
+    (number true 1 highest_ecb_code) (λ x. refl) (λ x h. (h, tt)) takes_exit _
+    (part _ (codes "COMPLETE ") (λ x. ecb_reply_of.Complete x) decimal (λ x. x ≤ highest_ecb_code) (number true 0 highest_ecb_code)
+    (λ x. refl) (λ x h. (h, tt)) takes_code _
+    (word (codes "WAITING") ecb_reply_of.Waiting refl (tt, tt) _
+    (word (codes "OPEN") ecb_reply_of.Open refl (tt, tt) _
+    (word (codes "POSTED") ecb_reply_of.Posted refl (tt, tt) _
+    (part _ (codes "WOKE ") (λ x. ecb_reply_of.Woke x) decimal (λ x. x ≤ highest_ecb_code) (number true 0 highest_ecb_code) (λ x. refl)
+    (λ x h. (h, tt)) takes_code _
+    (part _ (codes "ALREADY ") (λ x. ecb_reply_of.Already x) decimal (λ x. x ≤ highest_ecb_code) (number true 0 highest_ecb_code)
+    (λ x. refl) (λ x h. (h, tt)) takes_code _
+    (u32 (codes "WORD ") (λ x. ecb_reply_of.Word x) (λ x. refl) (λ x h. (tt, h)) _
     (takes_nothing ecb_reply_text (λ r. IsEcbReplyInRange r × IsEcbReplyTyped r))))))))))
 
 -- ---- pause elements
@@ -109,13 +98,12 @@ takes_generation text rest n e = let t = takes_number 0 highest_generation (omeg
 takes_phase : Takes phase_text (λ p. Unit {0}) (phase)
 unfolding phase
 takes_phase =
-    takes_behind (codes "FREE") phase_text (λ p. Unit {0}) _ _ (behind_given (codes "FREE") phase_text (λ p. Unit {0}) Free refl tt)
-    (takes_behind (codes "RESET") phase_text (λ p. Unit {0}) _ _ (behind_given (codes "RESET") phase_text (λ p. Unit {0}) Reset refl tt)
-    (takes_behind (codes "PRERELEASED") phase_text (λ p. Unit {0}) _ _
-    (behind_given (codes "PRERELEASED") phase_text (λ p. Unit {0}) Prereleased refl tt)
-    (takes_behind (codes "PAUSED") phase_text (λ p. Unit {0}) _ _ (behind_given (codes "PAUSED") phase_text (λ p. Unit {0}) Paused refl tt)
-    (takes_behind (codes "RELEASED") phase_text (λ p. Unit {0}) _ _
-    (behind_given (codes "RELEASED") phase_text (λ p. Unit {0}) Released refl tt)
+    let word = word_or phase_text (λ p. Unit {0}) in
+    word (codes "FREE") Free refl tt _
+    (word (codes "RESET") Reset refl tt _
+    (word (codes "PRERELEASED") Prereleased refl tt _
+    (word (codes "PAUSED") Paused refl tt _
+    (word (codes "RELEASED") Released refl tt _
     (takes_nothing phase_text (λ p. Unit {0}))))))
 
 takes_kept : (p : Phase) → Takes decimal (λ n. n ≤ highest_kept p) (kept_code true p)
@@ -161,65 +149,49 @@ pair_text p = decimal p.0 <+> decimal p.1
 takes_element_op : Takes element_op_text (λ op. IsElementOpInRange op × IsElementOpTyped op) (element_op true)
 unfolding element_op
 takes_element_op =
-    takes_behind (codes "OPEN") element_op_text (λ op. IsElementOpInRange op × IsElementOpTyped op) _ _
-    (behind_given (codes "OPEN") element_op_text (λ op. IsElementOpInRange op × IsElementOpTyped op) element_op_of.Open refl (tt, tt))
-    (takes_behind (codes "PAUSE ") element_op_text (λ op. IsElementOpInRange op × IsElementOpTyped op) _ _
-    (behind_made (codes "PAUSE ") element_op_text (λ op. IsElementOpInRange op × IsElementOpTyped op) (λ x. element_op_of.Pause x)
-    decimal (λ x. x ≤ highest_u32) (any_u32 true) (λ x. refl) (λ x h. (tt, h)) takes_u32)
-    (takes_behind (codes "RESUME ") element_op_text (λ op. IsElementOpInRange op × IsElementOpTyped op) _ _
-    (behind_made (codes "RESUME ") element_op_text (λ op. IsElementOpInRange op × IsElementOpTyped op) (λ x. element_op_of.Resume x)
-    decimal (λ x. x ≤ highest_u32) (any_u32 true) (λ x. refl) (λ x h. (tt, h)) takes_u32)
-    (takes_behind (codes "RELEASE ") element_op_text (λ op. IsElementOpInRange op × IsElementOpTyped op) _ _
-    (behind_made (codes "RELEASE ") element_op_text (λ op. IsElementOpInRange op × IsElementOpTyped op)
-    (λ x. element_op_of.Release x.0 x.1) pair_text (λ x. (x.0 ≤ highest_u32) × (x.1 ≤ highest_release_code))
+    let word = word_or element_op_text (λ op. IsElementOpInRange op × IsElementOpTyped op) in
+    let u32 = u32_or element_op_text (λ op. IsElementOpInRange op × IsElementOpTyped op) in
+    let part = part_or element_op_text (λ op. IsElementOpInRange op × IsElementOpTyped op) in
+    word (codes "OPEN") element_op_of.Open refl (tt, tt) _
+    (u32 (codes "PAUSE ") (λ x. element_op_of.Pause x) (λ x. refl) (λ x h. (tt, h)) _
+    (u32 (codes "RESUME ") (λ x. element_op_of.Resume x) (λ x. refl) (λ x h. (tt, h)) _
+    (part _ (codes "RELEASE ") (λ x. element_op_of.Release x.0 x.1) pair_text (λ x. (x.0 ≤ highest_u32) × (x.1 ≤ highest_release_code))
     (parted (any_u32 true) (release_code true)) (λ x. refl) (λ x h. (h.1, h.0))
     (takes_parted (any_u32 true) (λ _. release_code true) decimal decimal (λ n. n ≤ highest_u32) (λ _ n. n ≤ highest_release_code)
-    takes_u32 (λ _ _. takes_release)))
-    (takes_behind (codes "CLOSE ") element_op_text (λ op. IsElementOpInRange op × IsElementOpTyped op) _ _
-    (behind_made (codes "CLOSE ") element_op_text (λ op. IsElementOpInRange op × IsElementOpTyped op) (λ x. element_op_of.Close x)
-    decimal (λ x. x ≤ highest_u32) (any_u32 true) (λ x. refl) (λ x h. (tt, h)) takes_u32)
-    (takes_behind (codes "TEST") element_op_text (λ op. IsElementOpInRange op × IsElementOpTyped op) _ _
-    (behind_given (codes "TEST") element_op_text (λ op. IsElementOpInRange op × IsElementOpTyped op) element_op_of.Test refl (tt, tt))
+    takes_u32 (λ _ _. takes_release)) _
+    (u32 (codes "CLOSE ") (λ x. element_op_of.Close x) (λ x. refl) (λ x h. (tt, h)) _
+    (word (codes "TEST") element_op_of.Test refl (tt, tt) _
     (takes_nothing element_op_text (λ op. IsElementOpInRange op × IsElementOpTyped op)))))))
 
 takes_telling : Takes element_reply_text (λ r. IsElementReplyInRange r) (telling_reply true)
 unfolding telling_reply
 takes_telling =
-    takes_behind (codes "OPENED ") element_reply_text (λ r. IsElementReplyInRange r) _ _
-    (behind_made (codes "OPENED ") element_reply_text (λ r. IsElementReplyInRange r) (λ x. element_reply_of.Opened x) decimal
-    (λ x. x ≤ highest_generation) (reached_generation true) (λ x. refl) (λ x h. h) takes_generation)
-    (takes_behind (codes "GIVEN ") element_reply_text (λ r. IsElementReplyInRange r) _ _
-    (behind_made (codes "GIVEN ") element_reply_text (λ r. IsElementReplyInRange r) (λ x. element_reply_of.Given x.0 x.1) pair_text
+    let part = part_or element_reply_text (λ r. IsElementReplyInRange r) in
+    part _ (codes "OPENED ") (λ x. element_reply_of.Opened x) decimal (λ x. x ≤ highest_generation) (reached_generation true)
+    (λ x. refl) (λ x h. h) takes_generation _
+    (part _ (codes "GIVEN ") (λ x. element_reply_of.Given x.0 x.1) pair_text
     (λ x. (x.0 ≤ highest_release_code) × (x.1 ≤ highest_generation)) (parted (release_code true) (reached_generation true)) (λ x. refl)
-    (λ x h. h) (takes_parted (release_code true) (λ _. reached_generation true) decimal decimal (λ n. n ≤ highest_release_code)
-    (λ _ n. n ≤ highest_generation) takes_release (λ _ _. takes_generation)))
-    (takes_behind (codes "SPENT ") element_reply_text (λ r. IsElementReplyInRange r) _ _
-    (behind_made (codes "SPENT ") element_reply_text (λ r. IsElementReplyInRange r) (λ x. element_reply_of.Spent x) decimal
-    (λ x. x ≤ highest_generation) (reached_generation true) (λ x. refl) (λ x h. h) takes_generation)
-    (takes_behind (codes "STATE ") element_reply_text (λ r. IsElementReplyInRange r) _ _
-    (behind_made (codes "STATE ") element_reply_text (λ r. IsElementReplyInRange r) (λ s. element_reply_of.State s) state_text
-    (λ s. IsStateFine s) (element_state true) (λ s. refl) (λ s h. h) takes_state)
+    (λ x h. h)
+    (takes_parted (release_code true) (λ _. reached_generation true) decimal decimal (λ n. n ≤ highest_release_code)
+    (λ _ n. n ≤ highest_generation) takes_release (λ _ _. takes_generation)) _
+    (part _ (codes "SPENT ") (λ x. element_reply_of.Spent x) decimal (λ x. x ≤ highest_generation) (reached_generation true) (λ x. refl)
+    (λ x h. h) takes_generation _
+    (part _ (codes "STATE ") (λ s. element_reply_of.State s) state_text (λ s. IsStateFine s) (element_state true) (λ s. refl) (λ s h. h)
+    takes_state _
     (takes_nothing element_reply_text (λ r. IsElementReplyInRange r)))))
 
 takes_element_reply : Takes element_reply_text (λ r. IsElementReplyInRange r) (element_reply true)
 unfolding element_reply
 takes_element_reply =
-    takes_behind (codes "INUSE") element_reply_text (λ r. IsElementReplyInRange r) _ _
-    (behind_given (codes "INUSE") element_reply_text (λ r. IsElementReplyInRange r) element_reply_of.InUse refl tt)
-    (takes_behind (codes "PARKED") element_reply_text (λ r. IsElementReplyInRange r) _ _
-    (behind_given (codes "PARKED") element_reply_text (λ r. IsElementReplyInRange r) element_reply_of.Parked refl tt)
-    (takes_behind (codes "BUSY") element_reply_text (λ r. IsElementReplyInRange r) _ _
-    (behind_given (codes "BUSY") element_reply_text (λ r. IsElementReplyInRange r) element_reply_of.Busy refl tt)
-    (takes_behind (codes "NOTYET") element_reply_text (λ r. IsElementReplyInRange r) _ _
-    (behind_given (codes "NOTYET") element_reply_text (λ r. IsElementReplyInRange r) element_reply_of.NotYet refl tt)
-    (takes_behind (codes "EARLY") element_reply_text (λ r. IsElementReplyInRange r) _ _
-    (behind_given (codes "EARLY") element_reply_text (λ r. IsElementReplyInRange r) element_reply_of.Early refl tt)
-    (takes_behind (codes "WOKE") element_reply_text (λ r. IsElementReplyInRange r) _ _
-    (behind_given (codes "WOKE") element_reply_text (λ r. IsElementReplyInRange r) element_reply_of.Woke refl tt)
-    (takes_behind (codes "ALREADY") element_reply_text (λ r. IsElementReplyInRange r) _ _
-    (behind_given (codes "ALREADY") element_reply_text (λ r. IsElementReplyInRange r) element_reply_of.Already refl tt)
-    (takes_behind (codes "CLOSED") element_reply_text (λ r. IsElementReplyInRange r) _ _
-    (behind_given (codes "CLOSED") element_reply_text (λ r. IsElementReplyInRange r) element_reply_of.Closed refl tt)
+    let word = word_or element_reply_text (λ r. IsElementReplyInRange r) in
+    word (codes "INUSE") element_reply_of.InUse refl tt _
+    (word (codes "PARKED") element_reply_of.Parked refl tt _
+    (word (codes "BUSY") element_reply_of.Busy refl tt _
+    (word (codes "NOTYET") element_reply_of.NotYet refl tt _
+    (word (codes "EARLY") element_reply_of.Early refl tt _
+    (word (codes "WOKE") element_reply_of.Woke refl tt _
+    (word (codes "ALREADY") element_reply_of.Already refl tt _
+    (word (codes "CLOSED") element_reply_of.Closed refl tt _
     (takes_telling))))))))
 
 -- ---- volumes
@@ -227,21 +199,19 @@ takes_element_reply =
 takes_volume_op : Takes volume_op_text (λ op. IsVolumeOpTyped op) (volume_op true)
 unfolding volume_op
 takes_volume_op =
-    takes_behind (codes "READ") volume_op_text (λ op. IsVolumeOpTyped op) _ _
-    (behind_given (codes "READ") volume_op_text (λ op. IsVolumeOpTyped op) Read refl tt)
-    (takes_behind (codes "WRITE ") volume_op_text (λ op. IsVolumeOpTyped op) _ _
-    (behind_made (codes "WRITE ") volume_op_text (λ op. IsVolumeOpTyped op) (λ x. Write x) decimal (λ x. x ≤ highest_u32) (any_u32 true)
-    (λ x. refl) (λ x h. h) takes_u32)
+    let word = word_or volume_op_text (λ op. IsVolumeOpTyped op) in
+    let u32 = u32_or volume_op_text (λ op. IsVolumeOpTyped op) in
+    word (codes "READ") Read refl tt _
+    (u32 (codes "WRITE ") (λ x. Write x) (λ x. refl) (λ x h. h) _
     (takes_nothing volume_op_text (λ op. IsVolumeOpTyped op)))
 
 takes_volume_reply : Takes volume_reply_text (λ r. IsVolumeReplyTyped r) (volume_reply true)
 unfolding volume_reply
 takes_volume_reply =
-    takes_behind (codes "VALUE ") volume_reply_text (λ r. IsVolumeReplyTyped r) _ _
-    (behind_made (codes "VALUE ") volume_reply_text (λ r. IsVolumeReplyTyped r) (λ x. Value x) decimal (λ x. x ≤ highest_u32)
-    (any_u32 true) (λ x. refl) (λ x h. h) takes_u32)
-    (takes_behind (codes "STORED") volume_reply_text (λ r. IsVolumeReplyTyped r) _ _
-    (behind_given (codes "STORED") volume_reply_text (λ r. IsVolumeReplyTyped r) Stored refl tt)
+    let word = word_or volume_reply_text (λ r. IsVolumeReplyTyped r) in
+    let u32 = u32_or volume_reply_text (λ r. IsVolumeReplyTyped r) in
+    u32 (codes "VALUE ") (λ x. Value x) (λ x. refl) (λ x h. h) _
+    (word (codes "STORED") Stored refl tt _
     (takes_nothing volume_reply_text (λ r. IsVolumeReplyTyped r)))
 
 -- ---- the latch set
@@ -249,27 +219,27 @@ takes_volume_reply =
 takes_mode : Takes mode_text (λ m. Unit {0}) (mode_read)
 unfolding mode_read
 takes_mode =
-    takes_behind (codes "S") mode_text (λ m. Unit {0}) _ _ (behind_given (codes "S") mode_text (λ m. Unit {0}) Shared refl tt)
-    (takes_behind (codes "X") mode_text (λ m. Unit {0}) _ _ (behind_given (codes "X") mode_text (λ m. Unit {0}) Exclusive refl tt)
+    let word = word_or mode_text (λ m. Unit {0}) in
+    word (codes "S") Shared refl tt _
+    (word (codes "X") Exclusive refl tt _
     (takes_nothing mode_text (λ m. Unit {0})))
 
 takes_form : Takes form_text (λ f. IsFormTyped f) (form_read true)
 unfolding form_read
 takes_form =
-    takes_behind (codes "C") form_text (λ f. IsFormTyped f) _ _
-    (behind_given (codes "C") form_text (λ f. IsFormTyped f) form.Conditional refl tt)
-    (takes_behind (codes "W") form_text (λ f. IsFormTyped f) _ _
-    (behind_given (codes "W") form_text (λ f. IsFormTyped f) form.Waiting refl tt)
-    (takes_behind (codes "P") form_text (λ f. IsFormTyped f) _ _
-    (behind_made (codes "P") form_text (λ f. IsFormTyped f) (λ x. form.Posted x) decimal (λ x. x ≤ highest_u32) (any_u32 true)
-    (λ x. refl) (λ x h. h) takes_u32)
+    let word = word_or form_text (λ f. IsFormTyped f) in
+    let u32 = u32_or form_text (λ f. IsFormTyped f) in
+    word (codes "C") form.Conditional refl tt _
+    (word (codes "W") form.Waiting refl tt _
+    (u32 (codes "P") (λ x. form.Posted x) (λ x. refl) (λ x h. h) _
     (takes_nothing form_text (λ f. IsFormTyped f))))
 
 takes_condition : Takes condition_text (λ b. Unit {0}) (condition)
 unfolding condition
 takes_condition =
-    takes_behind (codes "C") condition_text (λ b. Unit {0}) _ _ (behind_given (codes "C") condition_text (λ b. Unit {0}) true refl tt)
-    (takes_behind (codes "U") condition_text (λ b. Unit {0}) _ _ (behind_given (codes "U") condition_text (λ b. Unit {0}) false refl tt)
+    let word = word_or condition_text (λ b. Unit {0}) in
+    word (codes "C") true refl tt _
+    (word (codes "U") false refl tt _
     (takes_nothing condition_text (λ b. Unit {0})))
 
 pub takes_two : Takes pair_text (λ x. (x.0 ≤ highest_u32) × (x.1 ≤ highest_u32)) (two_u32 true)
@@ -280,8 +250,8 @@ takes_two =
 takes_latch_op : Takes latch_op_text (λ op. IsLatchOpTyped op) (latch_op true)
 unfolding latch_op obtain release obtain_rest
 takes_latch_op =
-    takes_behind (codes "OBTAIN ") latch_op_text (λ op. IsLatchOpTyped op) _ _
-    (behind_made (codes "OBTAIN ") latch_op_text (λ op. IsLatchOpTyped op) (λ x. latch_op_of.Obtain x.0 x.1.0 x.1.1.0 x.1.1.1)
+    let part = part_or latch_op_text (λ op. IsLatchOpTyped op) in
+    part _ (codes "OBTAIN ") (λ x. latch_op_of.Obtain x.0 x.1.0 x.1.1.0 x.1.1.1)
     (λ x. decimal x.0 <+> decimal x.1.0 <+> mode_text x.1.1.0 <+> form_text x.1.1.1)
     (λ x. (x.0 ≤ highest_u32) × ((x.1.0 ≤ highest_u64) × (Unit {0} × IsFormTyped x.1.1.1)))
     (parted (any_u32 true) (parted (any_u64 true) (parted mode_read (form_read true)))) (λ x. refl) (λ x h. (h.0, h.1.0, h.1.1.1))
@@ -291,45 +261,33 @@ takes_latch_op =
     (λ _ _. takes_parted (any_u64 true) (λ _. parted mode_read (form_read true)) decimal (λ z. mode_text z.0 <+> form_text z.1)
     (λ n. n ≤ highest_u64) (λ _ z. Unit {0} × IsFormTyped z.1) takes_u64
     (λ _ _. takes_parted mode_read (λ _. form_read true) mode_text form_text (λ m. Unit {0}) (λ _ f. IsFormTyped f) takes_mode
-    (λ _ _. takes_form)))))
-    (takes_behind (codes "CONFIRM ") latch_op_text (λ op. IsLatchOpTyped op) _ _
-    (behind_made (codes "CONFIRM ") latch_op_text (λ op. IsLatchOpTyped op) (λ x. latch_op_of.Confirm x.0 x.1) pair_text
-    (λ x. (x.0 ≤ highest_u32) × (x.1 ≤ highest_u32)) (two_u32 true) (λ x. refl) (λ x h. h) takes_two)
-    (takes_behind (codes "RELEASE ") latch_op_text (λ op. IsLatchOpTyped op) _ _
-    (behind_made (codes "RELEASE ") latch_op_text (λ op. IsLatchOpTyped op) (λ x. latch_op_of.Release x.0 x.1.0 x.1.1)
-    (λ x. decimal x.0 <+> decimal x.1.0 <+> condition_text x.1.1) (λ x. (x.0 ≤ highest_u32) × ((x.1.0 ≤ highest_u32) × Unit {0}))
-    (parted (any_u32 true) (parted (any_u32 true) condition)) (λ x. refl) (λ x h. (h.0, h.1.0))
+    (λ _ _. takes_form)))) _
+    (part _ (codes "CONFIRM ") (λ x. latch_op_of.Confirm x.0 x.1) pair_text (λ x. (x.0 ≤ highest_u32) × (x.1 ≤ highest_u32))
+    (two_u32 true) (λ x. refl) (λ x h. h) takes_two _
+    (part _ (codes "RELEASE ") (λ x. latch_op_of.Release x.0 x.1.0 x.1.1) (λ x. decimal x.0 <+> decimal x.1.0 <+> condition_text x.1.1)
+    (λ x. (x.0 ≤ highest_u32) × ((x.1.0 ≤ highest_u32) × Unit {0})) (parted (any_u32 true) (parted (any_u32 true) condition))
+    (λ x. refl) (λ x h. (h.0, h.1.0))
     (takes_parted (any_u32 true) (λ _. parted (any_u32 true) condition) decimal (λ y. decimal y.0 <+> condition_text y.1)
     (λ n. n ≤ highest_u32) (λ _ y. (y.0 ≤ highest_u32) × Unit {0}) takes_u32
     (λ _ _. takes_parted (any_u32 true) (λ _. condition) decimal condition_text (λ n. n ≤ highest_u32) (λ _ b. Unit {0}) takes_u32
-    (λ _ _. takes_condition))))
-    (takes_behind (codes "PURGE ") latch_op_text (λ op. IsLatchOpTyped op) _ _
-    (behind_made (codes "PURGE ") latch_op_text (λ op. IsLatchOpTyped op) (λ x. latch_op_of.Purge x) decimal (λ x. x ≤ highest_u64)
-    (any_u64 true) (λ x. refl) (λ x h. h) takes_u64)
+    (λ _ _. takes_condition))) _
+    (part _ (codes "PURGE ") (λ x. latch_op_of.Purge x) decimal (λ x. x ≤ highest_u64) (any_u64 true) (λ x. refl) (λ x h. h) takes_u64 _
     (takes_nothing latch_op_text (λ op. IsLatchOpTyped op)))))
 
 takes_latch_reply : Takes latch_reply_text (λ r. IsLatchReplyTyped r) (latch_reply true)
 unfolding latch_reply
 takes_latch_reply =
-    takes_behind (codes "GRANTED ") latch_reply_text (λ r. IsLatchReplyTyped r) _ _
-    (behind_made (codes "GRANTED ") latch_reply_text (λ r. IsLatchReplyTyped r) (λ x. latch_reply_of.Granted x) decimal
-    (λ x. x ≤ highest_u32) (any_u32 true) (λ x. refl) (λ x h. h) takes_u32)
-    (takes_behind (codes "QUEUED ") latch_reply_text (λ r. IsLatchReplyTyped r) _ _
-    (behind_made (codes "QUEUED ") latch_reply_text (λ r. IsLatchReplyTyped r) (λ x. latch_reply_of.Queued x) decimal
-    (λ x. x ≤ highest_u32) (any_u32 true) (λ x. refl) (λ x h. h) takes_u32)
-    (takes_behind (codes "NOTNOW ") latch_reply_text (λ r. IsLatchReplyTyped r) _ _
-    (behind_made (codes "NOTNOW ") latch_reply_text (λ r. IsLatchReplyTyped r) (λ x. latch_reply_of.NotNow x) decimal
-    (λ x. x ≤ highest_u32) (any_u32 true) (λ x. refl) (λ x h. h) takes_u32)
-    (takes_behind (codes "WAITING") latch_reply_text (λ r. IsLatchReplyTyped r) _ _
-    (behind_given (codes "WAITING") latch_reply_text (λ r. IsLatchReplyTyped r) latch_reply_of.Waiting refl tt)
-    (takes_behind (codes "GONE") latch_reply_text (λ r. IsLatchReplyTyped r) _ _
-    (behind_given (codes "GONE") latch_reply_text (λ r. IsLatchReplyTyped r) latch_reply_of.Gone refl tt)
-    (takes_behind (codes "RELEASED ") latch_reply_text (λ r. IsLatchReplyTyped r) _ _
-    (behind_made (codes "RELEASED ") latch_reply_text (λ r. IsLatchReplyTyped r) (λ x. latch_reply_of.Released x) decimal
-    (λ x. x ≤ highest_u32) (any_u32 true) (λ x. refl) (λ x h. h) takes_u32)
-    (takes_behind (codes "PURGED ") latch_reply_text (λ r. IsLatchReplyTyped r) _ _
-    (behind_made (codes "PURGED ") latch_reply_text (λ r. IsLatchReplyTyped r) (λ x. latch_reply_of.Purged x.0 x.1) pair_text
-    (λ x. (x.0 ≤ highest_u32) × (x.1 ≤ highest_u32)) (two_u32 true) (λ x. refl) (λ x h. h) takes_two)
+    let word = word_or latch_reply_text (λ r. IsLatchReplyTyped r) in
+    let u32 = u32_or latch_reply_text (λ r. IsLatchReplyTyped r) in
+    let part = part_or latch_reply_text (λ r. IsLatchReplyTyped r) in
+    u32 (codes "GRANTED ") (λ x. latch_reply_of.Granted x) (λ x. refl) (λ x h. h) _
+    (u32 (codes "QUEUED ") (λ x. latch_reply_of.Queued x) (λ x. refl) (λ x h. h) _
+    (u32 (codes "NOTNOW ") (λ x. latch_reply_of.NotNow x) (λ x. refl) (λ x h. h) _
+    (word (codes "WAITING") latch_reply_of.Waiting refl tt _
+    (word (codes "GONE") latch_reply_of.Gone refl tt _
+    (u32 (codes "RELEASED ") (λ x. latch_reply_of.Released x) (λ x. refl) (λ x h. h) _
+    (part _ (codes "PURGED ") (λ x. latch_reply_of.Purged x.0 x.1) pair_text (λ x. (x.0 ≤ highest_u32) × (x.1 ≤ highest_u32))
+    (two_u32 true) (λ x. refl) (λ x h. h) takes_two _
     (takes_nothing latch_reply_text (λ r. IsLatchReplyTyped r))))))))
 
 -- ---- entries
@@ -337,17 +295,12 @@ takes_latch_reply =
 takes_object : Takes object_text (λ o. IsObjectTyped o) (object_read true)
 unfolding object_read
 takes_object =
-    takes_behind (codes "E") object_text (λ o. IsObjectTyped o) _ _
-    (behind_made (codes "E") object_text (λ o. IsObjectTyped o) (λ x. Ecb x) decimal (λ x. x ≤ highest_u32) (any_u32 true) (λ x. refl)
-    (λ x h. h) takes_u32)
-    (takes_behind (codes "P") object_text (λ o. IsObjectTyped o) _ _
-    (behind_made (codes "P") object_text (λ o. IsObjectTyped o) (λ x. Element x) decimal (λ x. x ≤ highest_u32) (any_u32 true)
-    (λ x. refl) (λ x h. h) takes_u32)
-    (takes_behind (codes "V") object_text (λ o. IsObjectTyped o) _ _
-    (behind_made (codes "V") object_text (λ o. IsObjectTyped o) (λ x. Volume x) decimal (λ x. x ≤ highest_u32) (any_u32 true)
-    (λ x. refl) (λ x h. h) takes_u32)
-    (takes_behind (codes "L") object_text (λ o. IsObjectTyped o) _ _
-    (behind_given (codes "L") object_text (λ o. IsObjectTyped o) Latches refl tt)
+    let word = word_or object_text (λ o. IsObjectTyped o) in
+    let u32 = u32_or object_text (λ o. IsObjectTyped o) in
+    u32 (codes "E") (λ x. Ecb x) (λ x. refl) (λ x h. h) _
+    (u32 (codes "P") (λ x. Element x) (λ x. refl) (λ x h. h) _
+    (u32 (codes "V") (λ x. Volume x) (λ x. refl) (λ x h. h) _
+    (word (codes "L") Latches refl tt _
     (takes_nothing object_text (λ o. IsObjectTyped o)))))
 
 -- what stands behind an entry's object

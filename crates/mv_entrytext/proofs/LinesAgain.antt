@@ -24,6 +24,7 @@ use Rattle.mv_entrytext.specs.Journal.{EntryOf, End, line_text, line, entry_line
 use Rattle.mv_entrytext.specs.Lines.{Stage, AtVersion, AtCallers, AtElements, AtVolumes, AtLatches, AtQuota, AtBudgets, AtOwners, AtExits}
 use Rattle.mv_entrytext.specs.Lines.{AtEntries, AtEnd, numbers, exit_from, exit_read, count_line, next_line, line_read, with_call, Draft}
 use Rattle.mv_entrytext.specs.Lines.{blank, draft_with}
+use Rattle.mv_entrytext.specs.Draft.{draft_at}
 use Rattle.mv_entrytext.specs.Fault.{kind_said, first_fault, draft_of, HasJournal, AreCallsIn, text_fault, journal_of}
 use Rattle.mv_entrytext.proofs.Numbers.{numeral_of, u32_again, parted_again}
 use Rattle.mv_entrytext.proofs.Parts.{Lacks-decimal, parts_first, parts_last, first_part}
@@ -215,12 +216,9 @@ one_line d l rest read said =
 
 -- ---- the lists of the head, and the entries
 
-abbrev draft : Stage → Version → Setup → List Entry → List ℕ → Draft
-draft s v c es ns = record { stage = s; version = v; setup = c; entries = es; calls = ns }
-
 -- within the head
 abbrev in_head : Stage → Version → Setup → Draft
-in_head s v c = draft s v c [] []
+in_head s v c = draft_at s v c [] []
 
 text_is : (a b : Draft) (x y z : List ℕ) → x ≡ y → Goes a y b z → Goes a x b z
 text_is a b x y z e g = subst (λ (t : List ℕ). Goes a t b z) (sym e) g
@@ -276,47 +274,48 @@ exits_pass v (x ∷ xs) s c all rest m h e =
 
 -- an entry's line, with the number of its call in version 2
 one_entry : (v : Version) (c : Setup) (before : List Entry) (said : List ℕ) (call : Option ℕ) (x : Entry) (rest : List ℕ) → HasText x
-    → IsCallIn v call → Goes (draft (AtEntries v) v c before said) (line (EntryOf call x) ++ rest)
-    (draft (AtEntries v) v c (before ++ x ∷ []) (with_call call said)) rest
+    → IsCallIn v call → Goes (draft_at (AtEntries v) v c before said) (line (EntryOf call x) ++ rest)
+    (draft_at (AtEntries v) v c (before ++ x ∷ []) (with_call call said)) rest
 one_entry v c before said call x rest h m =
-    one_line (draft (AtEntries v) v c before said) (EntryOf call x) rest (entry_line_read v call x h m) refl
+    one_line (draft_at (AtEntries v) v c before said) (EntryOf call x) rest (entry_line_read v call x h m) refl
 
 -- those of entries without numbers
 plain_pass : (es : List Entry) (c : Setup) (before all : List Entry) (said rest : List ℕ) → AllByRecursion HasText es → all ≡ before ++ es
-    → Goes (draft (AtEntries One) One c before said) (flat_map line (entry_lines es []) ++ rest) (draft (AtEntries One) One c all said) rest
-plain_pass [] c before all said rest h e = rw (e, append-nil before) (stays (draft (AtEntries One) One c before said) rest)
+    → Goes (draft_at (AtEntries One) One c before said) (flat_map line (entry_lines es []) ++ rest)
+    (draft_at (AtEntries One) One c all said) rest
+plain_pass [] c before all said rest h e = rw (e, append-nil before) (stays (draft_at (AtEntries One) One c before said) rest)
 plain_pass (x ∷ es) c before all said rest h e =
     let one = one_entry One c before said None x (flat_map line (entry_lines es []) ++ rest) h.0 tt in
     let later = plain_pass es c (before ++ x ∷ []) all said rest h.1 (e ∙ sym (append_assoc before (x ∷ []) es)) in
-    text_is (draft (AtEntries One) One c before said) (draft (AtEntries One) One c all said) _ _ rest
+    text_is (draft_at (AtEntries One) One c before said) (draft_at (AtEntries One) One c all said) _ _ rest
     (first_of line (EntryOf None x) (entry_lines es []) rest)
-    (goes_on (draft (AtEntries One) One c before said) (draft (AtEntries One) One c (before ++ x ∷ []) said)
-    (draft (AtEntries One) One c all said) _ _ _ one later)
+    (goes_on (draft_at (AtEntries One) One c before said) (draft_at (AtEntries One) One c (before ++ x ∷ []) said)
+    (draft_at (AtEntries One) One c all said) _ _ _ one later)
 
 -- and those of entries with a number each
 numbered_pass : (es : List Entry) (ns : List ℕ) (c : Setup) (before all : List Entry) (said numbers rest : List ℕ)
     → AllByRecursion HasText es → length ns ≡ length es → AllByRecursion (λ n. n ≤ highest_u32) ns → all ≡ before ++ es
     → numbers ≡ said ++ ns
-    → Goes (draft (AtEntries Two) Two c before said) (flat_map line (entry_lines es ns) ++ rest)
-    (draft (AtEntries Two) Two c all numbers) rest
+    → Goes (draft_at (AtEntries Two) Two c before said) (flat_map line (entry_lines es ns) ++ rest)
+    (draft_at (AtEntries Two) Two c all numbers) rest
 numbered_pass [] [] c before all said numbers rest h l u e f =
-    rw (e, append-nil before, f, append-nil said) (stays (draft (AtEntries Two) Two c before said) rest)
+    rw (e, append-nil before, f, append-nil said) (stays (draft_at (AtEntries Two) Two c before said) rest)
 numbered_pass [] (n ∷ ns) c before all said numbers rest h l u e f = absurd (omega arith)
 numbered_pass (x ∷ es) [] c before all said numbers rest h l u e f = absurd (omega arith)
 numbered_pass (x ∷ es) (n ∷ ns) c before all said numbers rest h l u e f =
     let one = one_entry Two c before said (Some n) x (flat_map line (entry_lines es ns) ++ rest) h.0 u.0 in
     let later = numbered_pass es ns c (before ++ x ∷ []) all (said ++ n ∷ []) numbers rest h.1 (omega arith) u.1
     (e ∙ sym (append_assoc before (x ∷ []) es)) (f ∙ sym (append_assoc said (n ∷ []) ns)) in
-    text_is (draft (AtEntries Two) Two c before said) (draft (AtEntries Two) Two c all numbers) _ _ rest
+    text_is (draft_at (AtEntries Two) Two c before said) (draft_at (AtEntries Two) Two c all numbers) _ _ rest
     (first_of line (EntryOf (Some n) x) (entry_lines es ns) rest)
-    (goes_on (draft (AtEntries Two) Two c before said) (draft (AtEntries Two) Two c (before ++ x ∷ []) (said ++ n ∷ []))
-    (draft (AtEntries Two) Two c all numbers) _ _ _ one later)
+    (goes_on (draft_at (AtEntries Two) Two c before said) (draft_at (AtEntries Two) Two c (before ++ x ∷ []) (said ++ n ∷ []))
+    (draft_at (AtEntries Two) Two c all numbers) _ _ _ one later)
 
 entries_pass : (v : Version) (es : List Entry) (ns : List ℕ) (c : Setup) (rest : List ℕ) → AllByRecursion HasText es → AreEach v es ns
-    → Goes (draft (AtEntries v) v c [] []) (flat_map line (entry_lines es ns) ++ rest) (draft (AtEntries v) v c es ns) rest
+    → Goes (draft_at (AtEntries v) v c [] []) (flat_map line (entry_lines es ns) ++ rest) (draft_at (AtEntries v) v c es ns) rest
 entries_pass One es ns c rest h m =
-    subst (λ (x : List ℕ). Goes (draft (AtEntries One) One c [] []) (flat_map line (entry_lines es x) ++ rest)
-    (draft (AtEntries One) One c es x) rest) (sym m) (plain_pass es c [] es [] rest h refl)
+    subst (λ (x : List ℕ). Goes (draft_at (AtEntries One) One c [] []) (flat_map line (entry_lines es x) ++ rest)
+    (draft_at (AtEntries One) One c es x) rest) (sym m) (plain_pass es c [] es [] rest h refl)
 entries_pass Two es ns c rest h m = numbered_pass es ns c [] es [] ns rest h m.0 m.1 refl refl
 
 -- ---- the whole
@@ -335,7 +334,7 @@ events_said : (s : Stage) (v : Version) (c : Setup) → IsValid c → kind_said 
 events_said s v c valid = rw valid refl
 
 end_said : (v : Version) (c : Setup) (es : List Entry) (ns : List ℕ)
-    → kind_said (draft (AtEntries v) v c es ns) (Some (End (length es))) ≡ None
+    → kind_said (draft_at (AtEntries v) v c es ns) (Some (End (length es))) ≡ None
 end_said v c es ns = rw (eq-eqb (length es) (length es) refl) refl
 
 -- what the lines of the counts have said
@@ -365,7 +364,7 @@ counts_pass v c rest h =
     (one_line d5 (Quota c.quota c.posted_quota) rest (quota_read c.quota c.posted_quota h.quota h.posted) refl)))))
 
 journal_passes : (v : Version) (c : Setup) (es : List Entry) (ns : List ℕ) → HasJournal c es → AreCallsIn v es ns
-    → Goes blank (text_of v c es ns) (draft AtEnd v c es ns) []
+    → Goes blank (text_of v c es ns) (draft_at AtEnd v c es ns) []
 journal_passes v c es ns h m =
     let n = has_numbers c h.valid in
     let each = recursion_from_All HasText es h.each in
@@ -383,23 +382,25 @@ journal_passes v c es ns h m =
     let p4 = exits_pass v c.exits p3.0 c2 c.exits begin p3.1 n.exits refl in
     let p5 = one_line (in_head p4.0 v c) Events events (events_read p4.0 p4.1) (events_said p4.0 v c h.valid) in
     let p6 = entries_pass v es ns c last each (each_from_calls v es ns m) in
-    let p7 = one_line (draft (AtEntries v) v c es ns) (End (length es)) [] (end_read v (length es) h.count) (end_said v c es ns) in
-    let over = draft AtEnd v c es ns in
-    let a6 = goes_on (draft (AtEntries v) v c [] []) (draft (AtEntries v) v c es ns) over events last [] p6 p7 in
-    let a5 = goes_on (in_head p4.0 v c) (draft (AtEntries v) v c [] []) over begin events [] p5 a6 in
+    let p7 = one_line (draft_at (AtEntries v) v c es ns) (End (length es)) [] (end_read v (length es) h.count) (end_said v c es ns) in
+    let over = draft_at AtEnd v c es ns in
+    let a6 = goes_on (draft_at (AtEntries v) v c [] []) (draft_at (AtEntries v) v c es ns) over events last [] p6 p7 in
+    let a5 = goes_on (in_head p4.0 v c) (draft_at (AtEntries v) v c [] []) over begin events [] p5 a6 in
     let a4 = goes_on (in_head p3.0 v c2) (in_head p4.0 v c) over exits begin [] p4.2 a5 in
     let a3 = goes_on (in_head AtBudgets v c1) (in_head p3.0 v c2) over owners exits [] p3.2 a4 in
     let a2 = goes_on (in_head AtBudgets v (counts c)) (in_head AtBudgets v c1) over budgets owners [] p2 a3 in
     text_is blank over (text_of v c es ns) _ [] (regrouped v c es ns)
     (goes_on blank (in_head AtBudgets v (counts c)) over _ budgets [] p1 a2)
 
-nothing_left : (number : ℕ) (v : Version) (c : Setup) (es : List Entry) (ns : List ℕ)
-    → first_fault number (draft AtEnd v c es ns) (parts_at 10 []) ≡ None
+-- behind the last line nothing is left: no fault
+pub nothing_left : (number : ℕ) (v : Version) (c : Setup) (es : List Entry) (ns : List ℕ)
+    → first_fault number (draft_at AtEnd v c es ns) (parts_at 10 []) ≡ None
 unfolding first_fault parts_at
 nothing_left number v c es ns = refl
 
-nothing_more : (v : Version) (c : Setup) (es : List Entry) (ns : List ℕ)
-    → draft_of (draft AtEnd v c es ns) (parts_at 10 []) ≡ draft AtEnd v c es ns
+-- and nothing more is said
+pub nothing_more : (v : Version) (c : Setup) (es : List Entry) (ns : List ℕ)
+    → draft_of (draft_at AtEnd v c es ns) (parts_at 10 []) ≡ draft_at AtEnd v c es ns
 unfolding draft_of parts_at
 nothing_more v c es ns = refl
 
@@ -409,14 +410,14 @@ pub no_fault : (v : Version) (c : Setup) (es : List Entry) (ns : List ℕ) → H
 no_fault v c es ns h m = let f = (journal_passes v c es ns h m).fault 1 in f.1 ∙ nothing_left f.0 v c es ns
 
 pub read_again : (v : Version) (c : Setup) (es : List Entry) (ns : List ℕ) → HasJournal c es → AreCallsIn v es ns
-    → journal_of (text_of v c es ns) ≡ draft AtEnd v c es ns
+    → journal_of (text_of v c es ns) ≡ draft_at AtEnd v c es ns
 read_again v c es ns h m = (journal_passes v c es ns h m).draft ∙ nothing_more v c es ns
 
 -- a text determines its version, configuration, entries and call numbers
 pub one_journal : (v w : Version) (c d : Setup) (es fs : List Entry) (ns ms : List ℕ) → HasJournal c es → AreCallsIn v es ns
     → HasJournal d fs → AreCallsIn w fs ms → text_of v c es ns ≡ text_of w d fs ms → (v ≡ w) × (c ≡ d) × (es ≡ fs) × (ns ≡ ms)
 one_journal v w c d es fs ns ms p q r s e =
-    let same : draft AtEnd v c es ns ≡ draft AtEnd w d fs ms =
+    let same : draft_at AtEnd v c es ns ≡ draft_at AtEnd w d fs ms =
     sym (read_again v c es ns p q) ∙ ap journal_of e ∙ read_again w d fs ms r s in (
       ap (λ (x : Draft). x.version) same,
       ap (λ (x : Draft). x.setup) same,

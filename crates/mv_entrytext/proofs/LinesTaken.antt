@@ -17,8 +17,7 @@ use Rattle.mv_entrytext.specs.Lines.{Stage, AtVersion, AtCallers, AtElements, At
 use Rattle.mv_entrytext.specs.Lines.{AtExits, AtEntries, AtEnd, numbers, exit_from, exit_read, count_line, next_line, line_read}
 use Rattle.mv_entrytext.proofs.CallNumbers.{IsCallIn}
 use Rattle.mv_entrytext.proofs.Parts.{joined_again}
-use Rattle.mv_entrytext.proofs.Taken.{Takes, bound, some_is, takes_nothing, takes_behind, behind_given, takes_made, behind_made}
-use Rattle.mv_entrytext.proofs.Taken.{takes_whole, takes_u32}
+use Rattle.mv_entrytext.proofs.Taken.{Takes, bound, some_is, takes_nothing, word_or, part_or, u32_or, takes_made, takes_whole, takes_u32}
 use Rattle.mv_entrytext.proofs.KindsTaken.{pair_text, takes_two, numbered_text, IsNumbered, takes_entry}
 
 -- ---- the fields of an exit
@@ -109,74 +108,54 @@ MayCome _ _ = ⊥
 pub takes_line : (s : Stage) → Takes line_text (λ l. MayCome s l) (next_line true s)
 unfolding next_line count_line
 takes_line AtVersion =
-    takes_behind (codes "JOURNAL 1") line_text (λ l. MayCome AtVersion l) _ _
-    (behind_given (codes "JOURNAL 1") line_text (λ l. MayCome AtVersion l) (JournalOf One) refl tt)
-    (takes_behind (codes "JOURNAL 2") line_text (λ l. MayCome AtVersion l) _ _
-    (behind_given (codes "JOURNAL 2") line_text (λ l. MayCome AtVersion l) (JournalOf Two) refl tt)
+    let word = word_or line_text (λ l. MayCome AtVersion l) in
+    word (codes "JOURNAL 1") (JournalOf One) refl tt _
+    (word (codes "JOURNAL 2") (JournalOf Two) refl tt _
     (takes_nothing line_text (λ l. MayCome AtVersion l)))
 takes_line AtCallers =
-    takes_behind (codes "CALLERS ") line_text (λ l. MayCome AtCallers l) _ _
-    (behind_made (codes "CALLERS ") line_text (λ l. MayCome AtCallers l) (λ n. Callers n) decimal (λ n. n ≤ highest_u32) (any_u32 true)
-    (λ n. refl) (λ n h. tt) takes_u32)
+    u32_or line_text (λ l. MayCome AtCallers l) (codes "CALLERS ") (λ n. Callers n) (λ n. refl) (λ n h. tt) _
     (takes_nothing line_text (λ l. MayCome AtCallers l))
 takes_line AtElements =
-    takes_behind (codes "ELEMENTS ") line_text (λ l. MayCome AtElements l) _ _
-    (behind_made (codes "ELEMENTS ") line_text (λ l. MayCome AtElements l) (λ n. Elements n) decimal (λ n. n ≤ highest_u32)
-    (any_u32 true) (λ n. refl) (λ n h. tt) takes_u32)
+    u32_or line_text (λ l. MayCome AtElements l) (codes "ELEMENTS ") (λ n. Elements n) (λ n. refl) (λ n h. tt) _
     (takes_nothing line_text (λ l. MayCome AtElements l))
 takes_line AtVolumes =
-    takes_behind (codes "VOLUMES ") line_text (λ l. MayCome AtVolumes l) _ _
-    (behind_made (codes "VOLUMES ") line_text (λ l. MayCome AtVolumes l) (λ n. Volumes n) decimal (λ n. n ≤ highest_u32) (any_u32 true)
-    (λ n. refl) (λ n h. tt) takes_u32)
+    u32_or line_text (λ l. MayCome AtVolumes l) (codes "VOLUMES ") (λ n. Volumes n) (λ n. refl) (λ n h. tt) _
     (takes_nothing line_text (λ l. MayCome AtVolumes l))
 takes_line AtLatches =
-    takes_behind (codes "LATCHES ") line_text (λ l. MayCome AtLatches l) _ _
-    (behind_made (codes "LATCHES ") line_text (λ l. MayCome AtLatches l) (λ n. Latches n) decimal (λ n. n ≤ highest_u32) (any_u32 true)
-    (λ n. refl) (λ n h. tt) takes_u32)
+    u32_or line_text (λ l. MayCome AtLatches l) (codes "LATCHES ") (λ n. Latches n) (λ n. refl) (λ n h. tt) _
     (takes_nothing line_text (λ l. MayCome AtLatches l))
 takes_line AtQuota =
-    takes_behind (codes "QUOTA ") line_text (λ l. MayCome AtQuota l) _ _
-    (behind_made (codes "QUOTA ") line_text (λ l. MayCome AtQuota l) (λ x. Quota x.0 x.1) pair_text
-    (λ x. (x.0 ≤ highest_u32) × (x.1 ≤ highest_u32)) (parted (any_u32 true) (any_u32 true)) (λ x. refl) (λ x h. tt) takes_two)
+    part_or line_text (λ l. MayCome AtQuota l) _ (codes "QUOTA ") (λ x. Quota x.0 x.1) pair_text
+    (λ x. (x.0 ≤ highest_u32) × (x.1 ≤ highest_u32)) (parted (any_u32 true) (any_u32 true)) (λ x. refl) (λ x h. tt) takes_two _
     (takes_nothing line_text (λ l. MayCome AtQuota l))
 takes_line AtBudgets =
-    takes_behind (codes "BUDGET ") line_text (λ l. MayCome AtBudgets l) _ _
-    (behind_made (codes "BUDGET ") line_text (λ l. MayCome AtBudgets l) (λ n. Budget n) decimal (λ n. n ≤ highest_u32) (any_u32 true)
-    (λ n. refl) (λ n h. tt) takes_u32)
-    (takes_behind (codes "ECB ") line_text (λ l. MayCome AtBudgets l) _ _
-    (behind_made (codes "ECB ") line_text (λ l. MayCome AtBudgets l) (λ n. Owner n) decimal (λ n. n ≤ highest_u32) (any_u32 true)
-    (λ n. refl) (λ n h. tt) takes_u32)
-    (takes_behind (codes "EXIT ") line_text (λ l. MayCome AtBudgets l) _ _
-    (behind_made (codes "EXIT ") line_text (λ l. MayCome AtBudgets l) (λ x. ExitTo x) exit_text (λ x. Unit {0}) (exit_read true)
-    (λ x. refl) (λ x h. tt) takes_exit)
-    (takes_behind (codes "EVENTS") line_text (λ l. MayCome AtBudgets l) _ _
-    (behind_given (codes "EVENTS") line_text (λ l. MayCome AtBudgets l) Events refl tt)
+    let word = word_or line_text (λ l. MayCome AtBudgets l) in
+    let u32 = u32_or line_text (λ l. MayCome AtBudgets l) in
+    let part = part_or line_text (λ l. MayCome AtBudgets l) in
+    u32 (codes "BUDGET ") (λ n. Budget n) (λ n. refl) (λ n h. tt) _
+    (u32 (codes "ECB ") (λ n. Owner n) (λ n. refl) (λ n h. tt) _
+    (part _ (codes "EXIT ") (λ x. ExitTo x) exit_text (λ x. Unit {0}) (exit_read true) (λ x. refl) (λ x h. tt) takes_exit _
+    (word (codes "EVENTS") Events refl tt _
     (takes_nothing line_text (λ l. MayCome AtBudgets l)))))
 takes_line AtOwners =
-    takes_behind (codes "ECB ") line_text (λ l. MayCome AtOwners l) _ _
-    (behind_made (codes "ECB ") line_text (λ l. MayCome AtOwners l) (λ n. Owner n) decimal (λ n. n ≤ highest_u32) (any_u32 true)
-    (λ n. refl) (λ n h. tt) takes_u32)
-    (takes_behind (codes "EXIT ") line_text (λ l. MayCome AtOwners l) _ _
-    (behind_made (codes "EXIT ") line_text (λ l. MayCome AtOwners l) (λ x. ExitTo x) exit_text (λ x. Unit {0}) (exit_read true)
-    (λ x. refl) (λ x h. tt) takes_exit)
-    (takes_behind (codes "EVENTS") line_text (λ l. MayCome AtOwners l) _ _
-    (behind_given (codes "EVENTS") line_text (λ l. MayCome AtOwners l) Events refl tt)
+    let word = word_or line_text (λ l. MayCome AtOwners l) in
+    let u32 = u32_or line_text (λ l. MayCome AtOwners l) in
+    let part = part_or line_text (λ l. MayCome AtOwners l) in
+    u32 (codes "ECB ") (λ n. Owner n) (λ n. refl) (λ n h. tt) _
+    (part _ (codes "EXIT ") (λ x. ExitTo x) exit_text (λ x. Unit {0}) (exit_read true) (λ x. refl) (λ x h. tt) takes_exit _
+    (word (codes "EVENTS") Events refl tt _
     (takes_nothing line_text (λ l. MayCome AtOwners l))))
 takes_line AtExits =
-    takes_behind (codes "EXIT ") line_text (λ l. MayCome AtExits l) _ _
-    (behind_made (codes "EXIT ") line_text (λ l. MayCome AtExits l) (λ x. ExitTo x) exit_text (λ x. Unit {0}) (exit_read true)
-    (λ x. refl) (λ x h. tt) takes_exit)
-    (takes_behind (codes "EVENTS") line_text (λ l. MayCome AtExits l) _ _
-    (behind_given (codes "EVENTS") line_text (λ l. MayCome AtExits l) Events refl tt)
+    let word = word_or line_text (λ l. MayCome AtExits l) in
+    let part = part_or line_text (λ l. MayCome AtExits l) in
+    part _ (codes "EXIT ") (λ x. ExitTo x) exit_text (λ x. Unit {0}) (exit_read true) (λ x. refl) (λ x h. tt) takes_exit _
+    (word (codes "EVENTS") Events refl tt _
     (takes_nothing line_text (λ l. MayCome AtExits l)))
 takes_line (AtEntries v) =
-    takes_behind (codes "END ") line_text (λ l. MayCome (AtEntries v) l) _ _
-    (behind_made (codes "END ") line_text (λ l. MayCome (AtEntries v) l) (λ n. End n) decimal (λ n. n ≤ highest_u32) (any_u32 true)
-    (λ n. refl) (λ n h. h) takes_u32)
+    u32_or line_text (λ l. MayCome (AtEntries v) l) (codes "END ") (λ n. End n) (λ n. refl) (λ n h. h) _
     (takes_made line_text (λ l. MayCome (AtEntries v) l) (λ x. EntryOf x.0 x.1) numbered_text (λ x. IsNumbered v x) (entry_read true v)
     (λ x h. refl) (λ x h. h) (takes_entry v))
-takes_line AtEnd =
-    takes_nothing line_text (λ l. MayCome AtEnd l)
+takes_line AtEnd = takes_nothing line_text (λ l. MayCome AtEnd l)
 
 -- a line that is read is its text
 pub line_taken : (s : Stage) (text : List ℕ) (l : Line) → line_read true s text ≡ Some l → (text ≡ line_text l) × MayCome s l

@@ -26,7 +26,7 @@ use Rattle.mv_entrytext.specs.Draft.{Tells, refusal_at, kind_of_form, draft_at, 
 use Rattle.mv_entrytext.proofs.Parts.{first_part, joined_again}
 use Rattle.mv_entrytext.proofs.LinesTaken.{MayCome, line_taken}
 use Rattle.mv_entrytext.proofs.TextsTaken.{IsTextOf, is_read_whole}
-use Rattle.mv_entrytext.proofs.LinesAgain.{fault_passed, draft_passed}
+use Rattle.mv_entrytext.proofs.LinesAgain.{fault_passed, draft_passed, nothing_left, nothing_more}
 
 pub at_first : (bytes : List ℕ) → IsAt bytes bytes 1 blank
 at_first bytes = record { fault = refl; draft = refl; count = omega arith; line = refl }
@@ -184,25 +184,15 @@ at_end_fault {rest = rest} {number = number} {v = v} {c = c} {es = es} {ns = ns}
     subst (λ (o : Option TextFault). TellsFirst (refusal_at number e) o)
     (ap (first_fault number (draft_at AtEnd v c es ns)) (sym p.2) ∙ at.fault) there
 
-over_fault : (number : ℕ) (v : Version) (c : Setup) (es : List Entry) (ns : List ℕ)
-    → first_fault number (draft_at AtEnd v c es ns) (parts_at 10 []) ≡ None
-unfolding first_fault parts_at
-over_fault number v c es ns = refl
-
-over_draft : (v : Version) (c : Setup) (es : List Entry) (ns : List ℕ)
-    → draft_of (draft_at AtEnd v c es ns) (parts_at 10 []) ≡ draft_at AtEnd v c es ns
-unfolding draft_of parts_at
-over_draft v c es ns = refl
-
 -- all was read
 pub at_over : {bytes rest : List ℕ} {number : ℕ} {v : Version} {c : Setup} {es : List Entry} {ns : List ℕ}
     → IsAt bytes rest number (draft_at AtEnd v c es ns) → rest ≡ [] → IsTextOf bytes (draft_at AtEnd v c es ns)
 at_over {bytes = bytes} {number = number} {v = v} {c = c} {es = es} {ns = ns} at nil =
     let none : text_fault bytes ≡ None =
     sym at.fault ∙ ap (λ (x : List ℕ). first_fault number (draft_at AtEnd v c es ns) (parts_at 10 x)) nil
-    ∙ over_fault number v c es ns in
+    ∙ nothing_left number v c es ns in
     let is : journal_of bytes ≡ draft_at AtEnd v c es ns =
-    sym at.draft ∙ ap (λ (x : List ℕ). draft_of (draft_at AtEnd v c es ns) (parts_at 10 x)) nil ∙ over_draft v c es ns in
+    sym at.draft ∙ ap (λ (x : List ℕ). draft_of (draft_at AtEnd v c es ns) (parts_at 10 x)) nil ∙ nothing_more v c es ns in
     subst (λ (d : Draft). IsTextOf bytes d) is (is_read_whole bytes none)
 
 -- ---- a line behind the head

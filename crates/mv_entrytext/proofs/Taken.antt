@@ -148,3 +148,23 @@ takes_u32 text rest n e = let t = takes_number 0 highest_u32 (omega arith) text 
 
 pub takes_u64 : Takes decimal (λ n. n ≤ highest_u64) (any_u64 true)
 takes_u64 text rest n e = let t = takes_number 0 highest_u64 (omega arith) text rest n e in (t.0, t.1.1)
+
+-- ---- the forms of a kind of value, one behind the other
+
+module _ {A : Type 0} (show : A → List ℕ) (Fine : A → Type 0) where
+  -- a word alone is one value; what begins with another is one of the other forms
+  pub word_or : (word : List ℕ) (a : A) → word ≡ show a → Fine a → (other : Reader A) → Takes show Fine other
+      → Takes show Fine (behind word (given a) other)
+  word_or word a is fine other there = takes_behind word show Fine (given a) other (behind_given word show Fine a is fine) there
+
+  -- a word and a part behind it
+  pub part_or : (B : Type 0) (word : List ℕ) (f : B → A) (part : B → List ℕ) (Good : B → Type 0) (reader : Reader B)
+      → ((b : B) → word ++ part b ≡ show (f b)) → ((b : B) → Good b → Fine (f b)) → Takes part Good reader → (other : Reader A)
+      → Takes show Fine other → Takes show Fine (behind word (made f reader) other)
+  part_or B word f part Good reader is fine takes other there =
+      takes_behind word show Fine (made f reader) other (behind_made word show Fine f part Good reader is fine takes) there
+
+  -- a word and a number of four bytes behind it
+  pub u32_or : (word : List ℕ) (f : ℕ → A) → ((n : ℕ) → word ++ decimal n ≡ show (f n)) → ((n : ℕ) → n ≤ highest_u32 → Fine (f n))
+      → (other : Reader A) → Takes show Fine other → Takes show Fine (behind word (made f (any_u32 true)) other)
+  u32_or word f is fine other there = part_or ℕ word f decimal (λ n. n ≤ highest_u32) (any_u32 true) is fine takes_u32 other there

@@ -47,6 +47,7 @@ abbrev pub caller_text : ℕ → Option ℕ → List ℕ
 caller_text caller None = decimal caller
 caller_text caller (Some call) = decimal caller ++ (codes "." ++ decimal call)
 
+-- the line of an entry: caller, object, place, operation, reply
 unfoldable pub entry_text : Option ℕ → Entry → List ℕ
 entry_text call e =
     caller_text e.caller call <+> object_text e.object <+> decimal e.place <+> op_text e.op <+> codes "=" <+> reply_text e.reply

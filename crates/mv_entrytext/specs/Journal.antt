@@ -1,6 +1,6 @@
 -- The text of a journal: the lines of its head, a line for each entry, and the last line. In version 2 an entry's line has
 -- the number of the call that the entry belongs to.
-use Rattle.std.specs.Prelude.{ℕ, List, [], ◌∷◌, ◌++◌, length, Option, Some, None, codes, decimal}
+use Rattle.std.specs.Prelude.{ℕ, ◌+◌, List, [], ◌∷◌, ◌++◌, length, Option, Some, None, codes, decimal}
 use Rattle.std.specs.List.{flat_map}
 use Rattle.mv_machine.specs.declared.entry.Entry.{Entry}
 use Rattle.mv_machine.specs.Setup.{Setup, SetupExit}
@@ -66,6 +66,10 @@ lists_text c =
 -- the head: the version, what there is, and the line that the events follow
 unfoldable pub head_text : Version → Setup → List ℕ
 head_text version c = counts_text version c ++ lists_text c ++ line Events
+
+-- the number of the line behind the head, counted from 1
+abbrev pub first_line : Setup → ℕ
+first_line c = 8 + length c.budgets + length c.owners + length c.exits
 
 -- the lines of entries, each with the number of its call, so far as there are numbers
 abbrev pub entry_lines : List Entry → List ℕ → List Line

@@ -146,10 +146,12 @@ abbrev pub with_call : Option ℕ → List ℕ → List ℕ
 with_call None calls = calls
 with_call (Some call) calls = calls ++ call ∷ []
 
+-- the call numbers with that of a line, if it is an entry with one
 abbrev pub calls_with : Line → List ℕ → List ℕ
 calls_with (EntryOf call e) calls = with_call call calls
 calls_with _ calls = calls
 
+-- the draft with a line more
 abbrev pub draft_with : Line → Draft → Draft
 draft_with l d = record {
   stage = stage_behind l d.version;

@@ -5,6 +5,7 @@ ghost use Rattle.std.specs.Prelude.{MatchResult};
 ghost use Rattle.mv_line.specs.Part.{parts_at};
 ghost use Rattle.mv_entrytext.specs.Lines.{AtEntries, AtEnd, line_read, with_call};
 ghost use Rattle.mv_entrytext.specs.Fault.{HasJournal, IsTextIn, TellsFirst, first_fault, text_fault};
+ghost use Rattle.mv_entrytext.specs.Journal.{first_line};
 ghost use Rattle.mv_entrytext.specs.Said.{entry_said};
 ghost use Rattle.mv_entrytext.specs.Draft.{Tells, kind_of_form, kind_at_end};
 
@@ -85,8 +86,7 @@ pub fn read_journal(alloc: Global, bytes: &[u8]) -> Result<Journal, TextRefusal>
     // What is read is a journal, and the bytes are its text in its version.
     ensures journal { IfOk result (λ j. HasJournal j.config j.entries.items) }
     ensures text { IfOk result (λ j. IsTextIn j.version bytes.now j.config j.entries.items j.calls.items) }
-    ensures first_line { IfOk result (λ j.
-        j.first_line ≡ 8 + length j.config.budgets + length j.config.owners + length j.config.exits) }
+    ensures first_line { IfOk result (λ j. j.first_line ≡ first_line j.config) }
     // The fault that is told is the first.
     ensures fault { IfErr result (λ e. TellsFirst e (text_fault bytes.now)) }
 {
