@@ -33,7 +33,8 @@ impl Events {
         requires left { 0 < self.old.left }
         requires room { vec_len self.old.log < vec_capacity self.old.log }
         ensures same { self.new ≡ record self.old { left = self.old.left - 1; log = self.new.log } }
-        ensures logged { self.new.log.items ≡ self.old.log.items ++ record { caller = self.old.caller; object = object; place = place; op = op; reply = reply } ∷ [] }
+        ensures logged { self.new.log.items ≡ self.old.log.items
+            ++ record { caller = self.old.caller; object = object; place = place; op = op; reply = reply } ∷ [] }
         ensures capacity { vec_capacity self.new.log ≡ vec_capacity self.old.log }
     {
         self.left -= 1;

@@ -1,17 +1,15 @@
 //! Events of callers on one board: each call once, callers on threads of their own, and the history that a board leaves.
 
-ghost use Rattle.std.specs.Prelude.{◌≡◌, ◌+◌, ◌<◌, ◌≤◌, ℕ, [], ◌∷◌, true, false, length, IfOk};
+ghost use Rattle.std.specs.Prelude.{◌≡◌, ◌+◌, ◌<◌, ◌≤◌, [], ◌∷◌, true, false, length, IfOk};
 ghost use Rattle.mv_latch.specs.Request.{is_posted};
-ghost use Rattle.mv_machine.specs.Kept.{allowed, standing, stands_after, makes, HasMade};
+ghost use Rattle.mv_machine.specs.Kept.{allowed, standing, stands_after};
 ghost use Rattle.mv_machine.specs.Legal.{Legal};
 ghost use Rattle.mv_machine.specs.Limits.{events_limit};
-ghost use Rattle.mv_machine.specs.Setup.{element_count};
-ghost use Rattle.mv_machine.specs.System.{ecb_admitted, element_admitted};
+ghost use Rattle.mv_machine.specs.System.{ecb_admitted};
 ghost use Rattle.mv_board.specs.Faces.{IsOf, IsFresh, AreFresh};
 
 use super::*;
 use mv_ecb::{EcbOp, EcbReply};
-use mv_element::{ElementOp, ElementReply};
 use mv_latch::{LatchForm, LatchOp, LatchReply, Mode, Wake};
 use mv_machine::{Config, Entry, Object, Op, Reply, ValidConfig, replay};
 use std::alloc::Global;
@@ -25,7 +23,17 @@ use std::thread::{Threads, join};
 // Callers with these budgets, each with one element and four requests, and one event control block, of caller 0.
 fn setup(alloc: Global, budgets: Vec<u32>) -> Result<ValidConfig, Fail>
     requires { length budgets.items ≤ 16 }
-    ensures { IfOk result (λ c. c ≡ record { callers = length budgets.items; elements_per_caller = 1; volumes = 1; latches = 1; quota = 4; posted_quota = 0; budgets = budgets.items; owners = 0 ∷ []; exits = [] }) }
+    ensures { IfOk result (λ c. c ≡ record {
+      callers = length budgets.items;
+      elements_per_caller = 1;
+      volumes = 1;
+      latches = 1;
+      quota = 4;
+      posted_quota = 0;
+      budgets = budgets.items;
+      owners = 0 ∷ [];
+      exits = [];
+    }) }
 {
     let config = Config {
         callers: budgets.len() as u32,
@@ -160,28 +168,15 @@ fn look_at_block(board: &Board, caller: &mut Caller) -> u64
     board.look(caller, BLOCK)
 }
 
-// An event on the first element.
-fn on_element<R: Wait>(rt: &R, board: &Board, caller: &mut Caller, op: ElementOp) -> Reply
-    requires board { IsOf board.now caller.old }
-    requires number { caller.old.number < board.now.config.callers }
-    requires element { 0 < element_count board.now.config }
-    requires left { 0 < caller.old.left }
-    requires admitted { element_admitted board.now.config caller.old.number 0 op ≡ true }
-    ensures board { IsOf board.now caller.new }
-    ensures number { caller.new.number ≡ caller.old.number }
-    ensures left { caller.new.left + 1 ≡ caller.old.left }
-{
-    board.event(rt, caller, Object::Element(0), Op::Element(op))
-}
-
 #[test]
 fn a_post_its_looks_and_its_journal(rt: HostRuntime) -> Result<(), Fail> {
     let budgets = vec![in rt.alloc(); 3, 3]?;
     let (board, mut owner, mut poster) = open_two(rt.alloc(), setup(rt.alloc(), budgets)?)?;
-    let posted = on_block(&rt, &board, &mut poster, EcbOp::Post(5));
+    let zero = look_at_block(&board, &mut poster);
+    let posted = try_on_block(&board, &mut poster, EcbOp::Post(5), zero);
+    let moved = try_on_block(&board, &mut poster, EcbOp::Post(6), zero);
+    assert_eq!(rt; moved, Err(Moved(35_185_445_830_661)));
     let armed = on_block(&rt, &board, &mut owner, EcbOp::Arm);
-    let moved = try_on_block(&board, &mut owner, EcbOp::Settle, 35_184_372_088_832);
-    assert_eq!(rt; moved, Err(Moved(70_369_817_919_493)));
     assert!(rt; board.peek(&rt, &mut owner, Watch::Ecb(0)));
     let closed = close_two(rt.alloc(), board, owner, poster)?;
     let expected = [
@@ -201,45 +196,8 @@ fn a_post_its_looks_and_its_journal(rt: HostRuntime) -> Result<(), Fail> {
         },
     ];
     assert_eq!(rt; closed.journal.as_slice(), expected.as_slice());
-    assert_eq!(rt; [posted, armed], [expected[0].reply, expected[1].reply]);
-    Ok(())
-}
-
-#[test]
-fn an_exchange_finds_what_a_look_found(rt: HostRuntime) -> Result<(), Fail> {
-    let budgets = vec![in rt.alloc(); 0, 3]?;
-    let (board, _, mut poster) = open_two(rt.alloc(), setup(rt.alloc(), budgets)?)?;
-    let zero = look_at_block(&board, &mut poster);
-    assert_eq!(rt; zero, 0);
-    let posted = try_on_block(&board, &mut poster, EcbOp::Post(5), zero);
-    assert_eq!(rt; posted, Ok(Reply::Ecb(EcbReply::Posted)));
-    let moved = try_on_block(&board, &mut poster, EcbOp::Post(6), zero);
-    assert_eq!(rt; moved, Err(Moved(35_185_445_830_661)));
-    let complete = look_at_block(&board, &mut poster);
-    assert_eq!(rt; complete, 35_185_445_830_661);
-    let already = try_on_block(&board, &mut poster, EcbOp::Post(6), complete);
-    assert_eq!(rt; already, Ok(Reply::Ecb(EcbReply::Already(5))));
-    Ok(())
-}
-
-#[test]
-fn a_paused_element_is_seen_released(rt: HostRuntime) -> Result<(), Fail> {
-    let budgets = vec![in rt.alloc(); 3, 1]?;
-    let (board, mut owner, mut other) = open_two(rt.alloc(), setup(rt.alloc(), budgets)?)?;
-    let opened = on_element(&rt, &board, &mut owner, ElementOp::Open);
-    assert_eq!(rt; opened, Reply::Element(ElementReply::Opened(0)));
-    let parked = on_element(&rt, &board, &mut owner, ElementOp::Pause(0));
-    assert_eq!(rt; parked, Reply::Element(ElementReply::Parked));
-    let before = board.peek(&rt, &mut owner, Watch::Element(0));
-    let released = on_element(&rt, &board, &mut other, ElementOp::Release(0, 9));
-    assert_eq!(rt; released, Reply::Element(ElementReply::Woke));
-    let behind = board.peek(&rt, &mut owner, Watch::Element(0));
-    assert_eq!(rt; [before, behind], [false, true]);
-    let given = on_element(&rt, &board, &mut owner, ElementOp::Resume(0));
-    assert_eq!(rt;
-        given,
-        Reply::Element(ElementReply::Given { code: 9, next: 1 })
-    );
+    assert_eq!(rt; posted, Ok(expected[0].reply));
+    assert_eq!(rt; armed, expected[1].reply);
     Ok(())
 }
 
@@ -315,26 +273,6 @@ fn events_of_two_threads_on_one_word(rt: HostRuntime) -> Result<(), Fail> {
     Ok(())
 }
 
-#[test]
-fn two_threads_test_one_block(rt: HostRuntime) -> Result<(), Fail> {
-    let budgets = vec![in rt.alloc(); 1000, 1000]?;
-    let (board, first, second) = open_two(rt.alloc(), setup(rt.alloc(), budgets)?)?;
-    let (first, second) = join(
-        &rt,
-        || test_often(&rt, &board, first, 1000),
-        || test_often(&rt, &board, second, 1000),
-    );
-    let closed = close_two(rt.alloc(), board, first, second)?;
-    assert_eq!(rt; closed.journal.len(), 2000);
-    for (place, entry) in closed.journal.iter().enumerate() {
-        assert_eq!(rt; entry.place as usize, place);
-        assert_eq!(rt; entry.reply, Reply::Ecb(EcbReply::Word(0)));
-    }
-    let of_first = closed.journal.iter().filter(|entry| entry.caller == 0);
-    assert_eq!(rt; of_first.count(), 1000);
-    Ok(())
-}
-
 // Posts of the block, beside tests of it by another thread.
 fn post_beside_tests<R: Abort + Wait + Threads + Sync>(
     rt: &R,
@@ -398,7 +336,6 @@ fn on_latches<R: Abort + Wait>(
     ensures number { caller.new.number ≡ caller.old.number }
     ensures left { caller.new.left + 1 ≡ caller.old.left }
     ensures stands { standing caller.new.log ≡ stands_after caller.old.number (standing caller.old.log) op result }
-    ensures made { (id : ℕ) → makes 0 id (Op.Latch op) (Reply.Latch result) ≡ true → HasMade 0 id caller.new.log }
 {
     let Reply::Latch(reply) = board.event(rt, caller, Object::Latches, Op::Latch(op)) else {
         panic!(rt; "a reply of another object")
@@ -425,8 +362,8 @@ fn obtain<R: Abort + Wait>(
     ensures number { caller.new.number ≡ caller.old.number }
     ensures left { caller.new.left + 1 ≡ caller.old.left }
     ensures few { length (standing caller.new.log) ≤ length (standing caller.old.log) + 1 }
-    ensures stands { standing caller.new.log ≡ stands_after caller.old.number (standing caller.old.log) (LatchOp.Obtain 0 requestor mode form) result }
-    ensures queued { (id : ℕ) → result ≡ LatchReply.Queued id → HasMade 0 id caller.new.log }
+    ensures stands { standing caller.new.log
+        ≡ stands_after caller.old.number (standing caller.old.log) (LatchOp.Obtain 0 requestor mode form) result }
 {
     let op = LatchOp::Obtain {
         latch: 0,
@@ -446,7 +383,8 @@ fn release<R: Abort + Wait>(rt: &R, board: &Board, caller: &mut Caller, id: u32)
     ensures board { IsOf board.now caller.new }
     ensures number { caller.new.number ≡ caller.old.number }
     ensures left { caller.new.left + 1 ≡ caller.old.left }
-    ensures stands { standing caller.new.log ≡ stands_after caller.old.number (standing caller.old.log) (LatchOp.Release 0 id false) result }
+    ensures stands { standing caller.new.log
+        ≡ stands_after caller.old.number (standing caller.old.log) (LatchOp.Release 0 id false) result }
 {
     let op = LatchOp::Release {
         latch: 0,
@@ -513,45 +451,6 @@ fn two_threads_contend_for_one_latch(rt: HostRuntime) -> Result<(), Fail> {
     let closed = close_two(rt.alloc(), board, first, second)?;
     assert_eq!(rt; closed.journal.len(), 2000 + one + other);
     assert!(rt; is_replayed(&rt, rt.alloc(), &closed));
-    Ok(())
-}
-
-#[test]
-fn a_queued_request_is_purged_before_its_confirm(rt: HostRuntime) -> Result<(), Fail> {
-    let budgets = vec![in rt.alloc(); 2, 2]?;
-    let (board, mut first, mut second) = open_two(rt.alloc(), setup(rt.alloc(), budgets)?)?;
-    let holds = obtain(
-        &rt,
-        &board,
-        &mut second,
-        7,
-        Mode::Exclusive,
-        LatchForm::Waiting,
-    );
-    assert_eq!(rt; holds, LatchReply::Granted(0));
-    let LatchReply::Queued(id) = obtain(
-        &rt,
-        &board,
-        &mut first,
-        9,
-        Mode::Exclusive,
-        LatchForm::Waiting,
-    ) else {
-        panic!(rt; "a held latch is granted")
-    };
-    assert_eq!(rt; id, 1);
-    let watch = Watch::Latch { latch: 0, id };
-    let before = board.peek(&rt, &mut first, watch);
-    let purged = on_latches(&rt, &board, &mut second, LatchOp::Purge { requestor: 9 });
-    let one = LatchReply::Purged {
-        removed: 1,
-        granted: 0,
-    };
-    assert_eq!(rt; purged, one);
-    let behind = board.peek(&rt, &mut first, watch);
-    assert_eq!(rt; [before, behind], [false, true]);
-    let gone = on_latches(&rt, &board, &mut first, LatchOp::Confirm { latch: 0, id });
-    assert_eq!(rt; gone, LatchReply::Gone);
     Ok(())
 }
 
