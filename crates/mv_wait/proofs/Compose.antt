@@ -1,11 +1,12 @@
 -- Calls within calls.
-use Rattle.std.proofs.Common.{ℕ, ◌+◌, ◌++◌, ◌∙◌, arith, length-append}
+use Rattle.std.proofs.Common.{◌≡◌, ℕ, ◌+◌, ◌≤◌, ◌++◌, ◌∙◌, arith, length-append}
 use Rattle.mv_board.specs.Faces.{BoardFace, CallerFace, IsOf}
 use Rattle.mv_machine.specs.Setup.{Setup}
 use Rattle.mv_machine.specs.Reach.{reach}
 use Rattle.mv_calls.specs.Keeping.{Kept}
 use Rattle.mv_calls.specs.Posts.{Posting, post, wake_posted}
 use Rattle.mv_calls.specs.Program.{Program, Done, Call, and_then}
+use Rattle.mv_calls.specs.Rest.{IsAtRest}
 use Rattle.mv_calls.proofs.Programs.{and_then_says, and_then_left}
 use Rattle.std.specs.Prelude.{Some}
 use Rattle.mv_wait.specs.Run.{Runs, IsServed}
@@ -34,3 +35,20 @@ post_within_call c e code n kept Is last q t u v s y =
 pub still_served : {A : Type 0} (b : BoardFace) (most : ℕ) (call : Call A) (Is : A → Type 0) (t u : CallerFace)
     → IsServed most call Is t u → IsOf b t → IsOf b u
 still_served b most call Is t u s of = (s.same.table ∙ of.0, s.same.about ∙ of.1)
+
+-- and the same task
+pub served_number : {A : Type 0} (most : ℕ) (call : Call A) (Is : A → Type 0) (t u : CallerFace) → IsServed most call Is t u
+    → u.number ≡ t.number
+served_number most call Is t u s = s.same.number
+
+-- and at rest
+pub served_rest : {A : Type 0} (most : ℕ) (call : Call A) (Is : A → Type 0) (t u : CallerFace) → IsServed most call Is t u → IsAtRest u.log
+served_rest most call Is t u s = s.made.rest
+
+-- and has lost no more events than the call may need
+pub served_left : {A : Type 0} (most : ℕ) (call : Call A) (Is : A → Type 0) (t u : CallerFace) → IsServed most call Is t u
+    → t.left ≤ u.left + most
+served_left most call Is t u s = let few = s.made.few in let left = s.left in omega arith
+
+-- all of this, for whoever makes one call after another
+pub ruleset served = (still_served, served_number, served_rest, served_left)

@@ -14,12 +14,12 @@ use Rattle.mv_machine.specs.Parts.{IsPossible}
 use Rattle.mv_machine.specs.Reach.{exits_of, greatest, total, reach, reach_within}
 use Rattle.mv_machine.specs.Setup.{Setup, SetupExit, is_exit_of, starts_from}
 use Rattle.mv_machine.proofs.Chains.{all_at}
-use Rattle.mv_calls.proofs.Posting.{exits_are_own}
+use Rattle.mv_calls.proofs.Posting.{exits_are_own, greatest_member, starts}
 use Rattle.mv_machine.proofs.Reaches.{all_lead_up, next_reach, LeadsUp}
 use Rattle.mv_board.specs.Faces.{CallerFace, Happened}
 use Rattle.mv_calls.specs.Posts.{Posting, posted_next, targets_of, targets_at}
 use Rattle.mv_calls.specs.Posts as came
-use Rattle.mv_wait.specs.Posted.{Leads, exit_of, reply_to_post}
+use Rattle.mv_wait.specs.Posted.{Leads, exit_run, reply_to_post}
 use Rattle.mv_wait.proofs.Answering.{made_behind}
 use Rattle.mv_wait.proofs.Runs.{entry_of}
 
@@ -32,30 +32,6 @@ exit_known c t u e d x h p =
     exits_are_own c b.before (entry_of t (Ecb e) h.0 (op_on.Ecb (Post d)) (reply_of.Ecb (ecb_reply.Woke (suc x)))) b.legal b.follows
 
 -- ---- where it leads, and what that costs
-
-greatest_more : (F : SetupExit → ℕ) (e n : ℕ) (y : SetupExit) (xs : List SetupExit) (b : Bool) → n ≤ greatest (map F (exits_of e xs))
-    → n ≤ greatest (map F (cond b (y ∷ exits_of e xs) (exits_of e xs)))
-greatest_more F e n y xs true le = omega arith
-greatest_more F e n y xs false le = le
-
-greatest_here : (F : SetupExit → ℕ) (e : ℕ) (y : SetupExit) (xs : List SetupExit) (b : Bool) → b ≡ true
-    → F y ≤ greatest (map F (cond b (y ∷ exits_of e xs) (exits_of e xs)))
-greatest_here F e y xs true is = omega arith
-greatest_here F e y xs false is = absurd (false≢true is)
-
-greatest_member : (F : SetupExit → ℕ) (e : ℕ) (xs : List SetupExit) (i : ℕ) (x : SetupExit) → slice_get xs i ≡ Some x
-    → (x.source == e) ≡ true
-    → F x ≤ greatest (map F (exits_of e xs))
-greatest_member F e [] i x at is = absurd (cc at)
-greatest_member F e (y ∷ xs) zero x at is =
-    let same : y ≡ x = cc at in
-    subst (λ z. F z ≤ greatest (map F (exits_of e (y ∷ xs)))) same
-    (greatest_here F e y xs (y.source == e) (ap (λ (z : SetupExit). z.source == e) same ∙ is))
-greatest_member F e (y ∷ xs) (suc i) x at is = greatest_more F e (F x) y xs (y.source == e) (greatest_member F e xs i x at is)
-
-starts : (e : ℕ) (o : Option SetupExit) → starts_from e o ≡ true → (x : SetupExit) × (o ≡ Some x) × ((x.source == e) ≡ true)
-starts e None s = absurd (false≢true s)
-starts e (Some x) s = (x, refl, s)
 
 pub one_at_least : (c : Setup) (e : ℕ) → IsValid c → e < length c.owners → 1 ≤ reach c e
 one_at_least c e v lt =
@@ -79,7 +55,7 @@ exit_leads c x e v there is =
 pub no_exit_leads : (c : Setup) (e : ℕ) → IsValid c → e < length c.owners → Leads c e []
 no_exit_leads c e v there = record { up = tt; cost = λ exact. one_at_least c e v there }
 
-pub next_is : (c : Setup) (p : Posting) → posted_next c p ≡ targets_of c (exit_of p)
+pub next_is : (c : Setup) (p : Posting) → posted_next c p ≡ targets_of c (exit_run p)
 next_is c came.Posted = refl
 next_is c (came.Woke exit) = refl
 next_is c (came.Already d) = refl

@@ -20,29 +20,35 @@ post_answer posting.Posted = answer.Posted
 post_answer (posting.Woke exit) = answer.Woke
 post_answer (posting.Already code) = answer.Already code
 
+-- a slot has the code of a block that is complete
 abbrev pub slot_of : WaitSlot → Option ℕ
 slot_of (slot.Complete code) = Some code
 slot_of slot.Open = None
 
+-- the slots of a wait, in the order of its list
 abbrev pub slots_of : List WaitSlot → List (Option ℕ)
 slots_of slots = map slot_of slots
 
+-- why a wait is refused, and at which place of its list, where one block is the cause
 abbrev pub wait_refused : WaitRefusal → Refusal
 wait_refused wait_refusal.TooMany = refusal.TooMany
 wait_refused (wait_refusal.Doubled p) = refusal.Doubled p
 wait_refused (wait_refusal.NotOwner p) = refusal.NotOwnerAt p
 wait_refused (wait_refusal.Extended p) = refusal.ExtendedAt p
 
+-- why an extend is refused
 abbrev pub extend_refused : ExtendRefusal → Refusal
 extend_refused extend_refusal.NotOwner = refusal.NotOwner
 extend_refused extend_refusal.BadExit = refusal.BadExit
 extend_refused extend_refusal.Extended = refusal.Extended
 extend_refused (extend_refusal.Complete code) = refusal.Complete code
 
+-- a clear's answer: the fullword that was there
 abbrev pub clear_answer : Result ℕ NotOwner → Result ℕ Refusal
 clear_answer (Ok word) = Ok word
 clear_answer (Err why) = Err refusal.NotOwner
 
+-- an extend's answer: nothing more to tell where it is done
 abbrev pub extend_answer : Result (Unit {0}) ExtendRefusal → Result (Unit {0}) Refusal
 extend_answer (Ok done) = Ok tt
 extend_answer (Err why) = Err (extend_refused why)

@@ -23,6 +23,7 @@ abbrev pub Reaches : Object → Keep → Type 0
 Reaches (Ecb n) k = n < length k.extended.items
 Reaches o k = Unit {0}
 
+-- what a standing request is in the log
 abbrev pub request_of : Standing → StandingRequest
 request_of s = record { latch = s.latch; request = s.request }
 
@@ -39,9 +40,11 @@ AreHeld ts slots = (test : StandingRequest → Bool) → count_by (meets test) s
 abbrev pub HoldsRequest : Slab Standing → ℕ → ℕ → Type 0
 HoldsRequest requests id key = IsSomeAnd (get requests key) (λ s. s.request.id ≡ id)
 
+-- the table says which blocks are extended, as far as it goes
 abbrev pub AreExtended : (ℕ → Bool) → Keep → Type 0
 AreExtended held k = (n : ℕ) → n < length k.extended.items → slice_index_or k.extended.items n false ≡ held n
 
+-- the table says which own elements are in use, and of what generation
 abbrev pub AreElements : (ℕ → Bool) → (ℕ → ℕ) → Keep → Type 0
 AreElements used generation k =
     (i : ℕ) (e : OwnElement) → slice_get k.elements.items i ≡ Some e
@@ -60,6 +63,7 @@ abbrev pub ClosesBelow : Op → Reply → Type 0
 ClosesBelow (op_on.Element (element_op.Close g)) (reply_of.Element element_reply.Closed) = g + 1 < 2 ^ 32
 ClosesBelow op reply = Unit {0}
 
+-- whether an element is in use after an event on it
 abbrev pub in_use_after : Bool → ElementReply → Bool
 in_use_after used (element_reply.Opened g) = true
 in_use_after used element_reply.Closed = false

@@ -18,20 +18,22 @@ use Rattle.mv_wait.specs.declared.replies.Came.{Came}
 use Rattle.mv_wait.specs.declared.replies.Came.TheVariants as came
 use Rattle.mv_wait.specs.Answers.{post_answer}
 
+-- a post's outcome, as its event's reply
 abbrev pub reply_to_post : Posting → EcbReply
 reply_to_post posting.Posted = ecb_reply.Posted
 reply_to_post (posting.Woke exit) = ecb_reply.Woke exit
 reply_to_post (posting.Already code) = ecb_reply.Already code
 
+-- the same outcome, as the programs say it
 abbrev pub posting_of : Came → Posting
 posting_of came.Posted = posting.Posted
 posting_of (came.Woke exit) = posting.Woke exit
 posting_of (came.Already code) = posting.Already code
 
 -- the exit that is to run, or 0
-abbrev pub exit_of : Posting → ℕ
-exit_of (posting.Woke exit) = exit
-exit_of came = 0
+abbrev pub exit_run : Posting → ℕ
+exit_run (posting.Woke exit) = exit
+exit_run came = 0
 
 -- the targets lie above the block, and posting them all costs less than the block's reach, where that is told exactly
 pub record Leads (c : Setup) (e : ℕ) (ts : List ℕ) : Type 0 where

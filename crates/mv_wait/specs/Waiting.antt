@@ -46,16 +46,20 @@ abbrev pub SettlesAll : List ℕ → List (Option ℕ) → CallerFace → Caller
 SettlesAll es slots t u = (found : List (Option ℕ)) (f : List (Option ℕ) → Program Waited)
     → Runs (length es) (settle_all es found f) (f (found ++ slots)) t u
 
+-- each block was settled with these slots, and so many of them are complete
 pub record SettlesEnough (count : ℕ) (es : List ℕ) (slots : List (Option ℕ)) (t u : CallerFace) : Type 0 where
   pub settles : SettlesAll es slots t u
   pub enough : count ≤ complete_count slots
 
+-- what a settle found, as its event's reply
 abbrev pub settle_reply : WaitSlot → EcbReply
 settle_reply (slot.Complete code) = ecb_reply.Complete code
 settle_reply slot.Open = ecb_reply.Open
 
+-- block e was settled, and found so
 abbrev pub IsSettled : ℕ → CallerFace → WaitSlot → CallerFace → Type 0
 IsSettled e t found u = Happened t (Ecb e) (op_on.Ecb Settle) (reply_of.Ecb (settle_reply found)) u
 
+-- a slot has a code
 abbrev pub IsComplete : WaitSlot → Type 0
 IsComplete found = (code : ℕ) × (found ≡ slot.Complete code)

@@ -48,9 +48,11 @@ impl Keep {
         requires room { HasRoomFor self.old.requests 1 }
         requires kinds { IsOfKind object op reply }
         requires closes { ClosesBelow op reply }
-        ensures kept { (kept : Kept) → kept.caller ≡ self.old.caller → Keeps kept self.old → Keeps (kept_after kept object op reply) self.new }
+        ensures kept { (kept : Kept) → kept.caller ≡ self.old.caller → Keeps kept self.old
+            → Keeps (kept_after kept object op reply) self.new }
         ensures same { (self.new.caller ≡ self.old.caller) × (self.new.first ≡ self.old.first) }
-        ensures sizes { (length self.new.extended.items ≡ length self.old.extended.items) × (length self.new.elements.items ≡ length self.old.elements.items) }
+        ensures sizes { (length self.new.extended.items ≡ length self.old.extended.items)
+            × (length self.new.elements.items ≡ length self.old.elements.items) }
         ensures room { slab_len self.new.requests ≤ slab_len self.old.requests + 1 }
         ensures capacity { self.new.requests.capacity ≡ self.old.requests.capacity }
     {
@@ -74,7 +76,8 @@ impl Keep {
     // A block is extended from an extend that is answered Armed until it is cleared.
     fn follow_block(&mut self, n: u32, op: EcbOp, reply: EcbReply)
         requires block { n < length self.old.extended.items }
-        ensures kept { (held : ℕ → Bool) → AreExtended held self.old → AreExtended (extended_with held (object.Ecb n) (op_on.Ecb op) (reply_of.Ecb reply)) self.new }
+        ensures kept { (held : ℕ → Bool) → AreExtended held self.old
+            → AreExtended (extended_with held (object.Ecb n) (op_on.Ecb op) (reply_of.Ecb reply)) self.new }
         ensures same { self.new ≡ record self.old { extended = self.new.extended } }
         ensures size { length self.new.extended.items ≡ length self.old.extended.items }
     {
@@ -89,7 +92,8 @@ impl Keep {
     fn follow_element(&mut self, n: u32, op: ElementOp, reply: ElementReply)
         requires closes { ClosesBelow (op_on.Element op) (reply_of.Element reply) }
         ensures kept { (used : ℕ → Bool) (generation : ℕ → ℕ) → AreElements used generation self.old
-            → AreElements (in_use_with used (object.Element n) (reply_of.Element reply)) (generation_with generation (object.Element n) (op_on.Element op) (reply_of.Element reply)) self.new }
+            → AreElements (in_use_with used (object.Element n) (reply_of.Element reply))
+            (generation_with generation (object.Element n) (op_on.Element op) (reply_of.Element reply)) self.new }
         ensures same { self.new ≡ record self.old { elements = self.new.elements } }
         ensures size { length self.new.elements.items ≡ length self.old.elements.items }
     {
@@ -107,7 +111,8 @@ impl Keep {
     // A request stands from its obtain until it is gone, released or purged.
     fn follow_latches(&mut self, op: LatchOp, reply: LatchReply)
         requires room { HasRoomFor self.old.requests 1 }
-        ensures kept { (ts : List StandingRequest) → AreHeld ts self.old.requests.slots → AreHeld (stands_after self.old.caller ts op reply) self.new.requests.slots }
+        ensures kept { (ts : List StandingRequest) → AreHeld ts self.old.requests.slots
+            → AreHeld (stands_after self.old.caller ts op reply) self.new.requests.slots }
         ensures same { self.new ≡ record self.old { requests = self.new.requests } }
         ensures room { slab_len self.new.requests ≤ slab_len self.old.requests + 1 }
         ensures capacity { self.new.requests.capacity ≡ self.old.requests.capacity }
@@ -151,7 +156,11 @@ impl Keep {
     fn stand(&mut self, latch: u32, id: u32, requestor: u64, mode: Mode, form: LatchForm)
         requires room { HasRoomFor self.old.requests 1 }
         ensures kept { (ts : List StandingRequest) → AreHeld ts self.old.requests.slots
-            → AreHeld (ts ++ record { latch = latch; request = record { id = id; caller = self.old.caller; requestor = requestor; mode = mode; form = form } } ∷ []) self.new.requests.slots }
+            → AreHeld (ts ++ record {
+              latch = latch;
+              request = record { id = id; caller = self.old.caller; requestor = requestor; mode = mode; form = form };
+            } ∷ [])
+            self.new.requests.slots }
         ensures same { self.new ≡ record self.old { requests = self.new.requests } }
         ensures room { slab_len self.new.requests ≡ slab_len self.old.requests + 1 }
         ensures capacity { self.new.requests.capacity ≡ self.old.requests.capacity }

@@ -1,8 +1,9 @@
 //! Posts, each with the posts of its exit. Clauses cite the calls' `Posts.antt`, and `specs/Run.antt`,
 //! `specs/Answers.antt` and `specs/Posted.antt`.
 
-ghost use Rattle.std.specs.Prelude.{◌≡◌, ◌<◌, ◌≤◌, ◌^◌, ◌++◌, ◌+◌, ◌∷◌, [], length, reverse, vec_len, vec_capacity};
+ghost use Rattle.std.specs.Prelude.{◌≡◌, ◌<◌, ◌≤◌, ◌++◌, ◌+◌, ◌∷◌, [], length, reverse, vec_len, vec_capacity};
 ghost use Rattle.std.specs.List.{AllByRecursion};
+ghost use Rattle.mv_ecb.specs.Table.{code_limit};
 ghost use Rattle.mv_machine.specs.Check.{IsValid};
 ghost use Rattle.mv_machine.specs.Reach.{reach, total};
 ghost use Rattle.mv_board.specs.Faces.{IsOf};
@@ -45,9 +46,10 @@ impl Station {
         requires task { IsOf self.now task.old }
         requires rest { IsAtRest task.old.log }
         requires block { ecb < length self.now.config.owners }
-        requires code { code < 2 ^ 30 }
+        requires code { code < code_limit }
         requires left { reach self.now.config ecb ≤ task.old.left }
-        ensures served { IsServed (reach self.now.config ecb) (post self.now.config ecb code) (λ p. post_answer p ≡ result) task.old task.new }
+        ensures served { IsServed (reach self.now.config ecb) (post self.now.config ecb code)
+            (λ p. post_answer p ≡ result) task.old task.new }
         ensures told { task.new.told ≡ task.old.told }
     {
         self.post_through(rt, &mut task.record, &mut task.pending, ecb, code)
@@ -65,11 +67,12 @@ impl Station {
         requires task { IsOf self.now me.old }
         requires rest { IsAtRest me.old.log }
         requires block { ecb < length self.now.config.owners }
-        requires code { code < 2 ^ 30 }
+        requires code { code < code_limit }
         requires left { reach self.now.config ecb ≤ me.old.left }
         requires idle { pending.old.items ≡ [] }
         requires room { me.old.left ≤ vec_capacity pending.old }
-        ensures served { IsServed (reach self.now.config ecb) (post self.now.config ecb code) (λ p. post_answer p ≡ result) me.old me.new }
+        ensures served { IsServed (reach self.now.config ecb) (post self.now.config ecb code)
+            (λ p. post_answer p ≡ result) me.old me.new }
         ensures told { me.new.told ≡ me.old.told }
         ensures idle { pending.new.items ≡ [] }
         ensures capacity { vec_capacity pending.new ≡ vec_capacity pending.old }
@@ -93,7 +96,7 @@ impl Station {
         requires task { IsOf self.now me.old }
         requires block { ecb < length self.now.config.owners }
         requires blocks { AllByRecursion (λ e. e < length self.now.config.owners) (reverse pending.old.items) }
-        requires code { code < 2 ^ 30 }
+        requires code { code < code_limit }
         requires left { total (reach self.now.config) (ecb ∷ reverse pending.old.items) ≤ me.old.left }
         requires room { me.old.left ≤ vec_capacity pending.old }
         ensures posted { PostedOne self.now.config code ecb me.old pending.old.items result me.new pending.new.items }

@@ -37,7 +37,8 @@ impl Record {
     pub(crate) fn event<R: Wait>(&mut self, rt: &R, board: &Board, object: Object, op: Op) -> Reply
         requires board { IsOf board.now self.old }
         requires left { 0 < self.old.left }
-        requires admitted { self.old.number < board.now.config.callers → allowed board.now.config self.old.number self.old.log object op ≡ true }
+        requires admitted { self.old.number < board.now.config.callers
+            → allowed board.now.config self.old.number self.old.log object op ≡ true }
         ensures event { Happened self.old object op result self.new }
         ensures possible { IsPossible board.now.config self.new.number self.new.log self.new.told }
         ensures listed { IsAsListed self.old object op result }
@@ -98,7 +99,8 @@ impl Record {
         requires board { IsOf board.now self.old }
         requires word { HasWord board.now.config object }
         requires left { 0 < self.old.left }
-        requires admitted { self.old.number < board.now.config.callers → allowed board.now.config self.old.number self.old.log object op ≡ true }
+        requires admitted { self.old.number < board.now.config.callers
+            → allowed board.now.config self.old.number self.old.log object op ≡ true }
         ensures answer { MatchResult result
             (λ reply. Exchanged self.old object op expected reply self.new)
             (λ moved. Missed self.old object expected moved self.new) }

@@ -6,7 +6,7 @@ ghost use Rattle.mv_ecb.specs.declared.operation.EcbReply.TheVariants as ecb_rep
 ghost use Rattle.mv_machine.specs.declared.entry.Reply.TheVariants as reply_of;
 ghost use Rattle.mv_machine.specs.declared.entry.VolumeReply.TheVariants as volume_reply;
 ghost use Rattle.mv_wait.specs.Answers.{post_answer};
-ghost use Rattle.mv_wait.specs.Posted.{reply_to_post, exit_of, posting_of};
+ghost use Rattle.mv_wait.specs.Posted.{reply_to_post, exit_run, posting_of};
 ghost use Rattle.mv_wait.specs.Says.{SaysSettled, SaysWord, SaysValue, SaysPosted, SaysExtended};
 ghost use Rattle.mv_wait.specs.Single.{extend_reply};
 ghost use Rattle.mv_wait.specs.Waiting.{settle_reply};
@@ -97,7 +97,7 @@ impl Came {
 
     /// The exit that is to run, or 0.
     pub(crate) fn exit(self) -> u32
-        ensures { result ≡ exit_of (posting_of self) }
+        ensures { result ≡ exit_run (posting_of self) }
     {
         match self {
             Came::Woke(exit) => exit,

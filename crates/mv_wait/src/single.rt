@@ -1,7 +1,8 @@
 //! The calls of one event. Clauses cite the calls' `Waits.antt` and `Posts.antt`, and `specs/Run.antt`,
 //! `specs/Answers.antt` and `specs/Single.antt`.
 
-ghost use Rattle.std.specs.Prelude.{◌≡◌, ◌<◌, ◌≤◌, ◌^◌, ◌==◌, length, option_map, MatchResult, None, true, false};
+ghost use Rattle.std.specs.Prelude.{◌≡◌, ◌<◌, ◌≤◌, ◌==◌, length, option_map, MatchResult, None, true, false};
+ghost use Rattle.mv_ecb.specs.Table.{code_limit};
 ghost use Rattle.mv_machine.specs.declared.entry.Object.TheVariants as object;
 ghost use Rattle.mv_board.specs.Faces.{IsOf, Missed};
 ghost use Rattle.mv_calls.specs.Keeping.{kept_of};
@@ -146,7 +147,7 @@ impl Station {
         requires task { IsOf self.now task.old }
         requires rest { IsAtRest task.old.log }
         requires block { ecb < length self.now.config.owners }
-        requires code { code < 2 ^ 30 }
+        requires code { code < code_limit }
         requires unwaited { HasNoWaitBit expected }
         requires left { 0 < task.old.left }
         ensures answer { MatchResult result

@@ -61,6 +61,22 @@ impl Station {
         Ok((Station { board, unparkers }, tasks))
     }
 
+    /// Takes the last of the tasks that `open` gave, to be moved to its thread. No event, and it does not wait.
+    pub fn take_last(&self, tasks: &mut Vec<Task>) -> Task
+        requires some { 0 < length tasks.old.items }
+        requires fresh { AreFresh self.now 0 tasks.old.items }
+        ensures taken { tasks.old.items ≡ tasks.new.items ++ result ∷ [] }
+        ensures task { IsFresh self.now (length tasks.new.items) result }
+        ensures others { AreFresh self.now 0 tasks.new.items }
+        ensures count { length tasks.new.items + 1 ≡ length tasks.old.items }
+        ensures room { vec_capacity tasks.new ≡ vec_capacity tasks.old }
+    {
+        let Some(task) = tasks.pop() else {
+            unreachable!()
+        };
+        task
+    }
+
     /// The configuration that it was opened with. No event, and it does not wait.
     pub fn config(&self) -> &ValidConfig
         ensures { result.now ≡ self.now.config }
@@ -73,7 +89,8 @@ impl Station {
     pub fn event<R: Wait>(&self, rt: &R, task: &mut Task, object: Object, op: Op) -> Reply
         requires task { IsOf self.now task.old }
         requires left { 0 < task.old.left }
-        requires admitted { task.old.number < self.now.config.callers → allowed self.now.config task.old.number task.old.log object op ≡ true }
+        requires admitted { task.old.number < self.now.config.callers
+            → allowed self.now.config task.old.number task.old.log object op ≡ true }
         ensures event { Happened task.old object op result task.new }
         ensures possible { IsPossible self.now.config task.new.number task.new.log task.new.told }
         ensures listed { IsAsListed task.old object op result }
@@ -99,7 +116,8 @@ impl Station {
         requires task { IsOf self.now task.old }
         requires word { HasWord self.now.config object }
         requires left { 0 < task.old.left }
-        requires admitted { task.old.number < self.now.config.callers → allowed self.now.config task.old.number task.old.log object op ≡ true }
+        requires admitted { task.old.number < self.now.config.callers
+            → allowed self.now.config task.old.number task.old.log object op ≡ true }
         ensures answer { MatchResult result
             (λ reply. Exchanged task.old object op expected reply task.new)
             (λ moved. Missed task.old object expected moved task.new) }

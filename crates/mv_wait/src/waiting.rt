@@ -1,7 +1,8 @@
 //! Waits for events. Clauses cite the calls' `Waits.antt`, and `specs/Run.antt`, `specs/Answers.antt`,
 //! `specs/Waiting.antt` and `specs/Listed.antt`.
 
-ghost use Rattle.std.specs.Prelude.{◌≡◌, ◌<◌, ◌≤◌, ◌+◌, ◌*◌, ◌^◌, ◌==◌, not, ℕ, [], ◌∷◌, true, length, option_map, IfOk, MatchResult, Some, None, false};
+ghost use Rattle.std.specs.Prelude.{◌≡◌, ◌<◌, ◌≤◌, ◌+◌, ◌*◌, ◌^◌, ◌==◌, not, ℕ, [], ◌∷◌, true, false, length, option_map, Some, None};
+ghost use Rattle.std.specs.Prelude.{IfOk, MatchResult};
 ghost use Rattle.std.specs.List.{AllByRecursion};
 ghost use Rattle.mv_machine.specs.Setup.{owner_of};
 ghost use Rattle.mv_board.specs.Faces.{IsOf};
@@ -76,10 +77,12 @@ impl Station {
         requires blocks { AllByRecursion (λ e. e < length self.now.config.owners) ecbs.now }
         requires out { length out.old ≡ length ecbs.now }
         requires left { 2 * length ecbs.now ≤ task.old.left }
-        ensures served { IsServed (2 * length ecbs.now) (wait self.now.config count ecbs.now) (λ a. a ≡ wait_answer result out.new) task.old task.new }
+        ensures served { IsServed (2 * length ecbs.now) (wait self.now.config count ecbs.now)
+            (λ a. a ≡ wait_answer result out.new) task.old task.new }
         ensures causes { MatchResult result
             (λ _. wait_refusal self.now.config count ecbs.now (kept_of task.old.number task.old.log) ≡ None)
-            (λ why. (wait_refusal self.now.config count ecbs.now (kept_of task.old.number task.old.log) ≡ Some (wait_refused why)) × (task.new ≡ task.old) × (out.new ≡ out.old)) }
+            (λ why. (wait_refusal self.now.config count ecbs.now (kept_of task.old.number task.old.log) ≡ Some (wait_refused why))
+            × (task.new ≡ task.old) × (out.new ≡ out.old)) }
         ensures enough { IfOk result (λ _. count ≤ complete_count (slots_of out.new)) }
     {
         if let Some(refusal) = self.refuses_wait(&task.record, &mut task.places, count, ecbs) {
