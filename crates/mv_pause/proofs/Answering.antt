@@ -93,63 +93,46 @@ says_closed c t u n g reply h p own rest =
     let a = element_answers c t u n (element_op.Close g) reply h p in
     subst SaysClosed (sym a.reply_is) (close_says g a.state _ _ _ (a.agrees own) (rest.parked n))
 
--- a token that is current is not spent
-current_says : (g now : ℕ) (s : ElementState) (used parked : Bool) (kept : ℕ) → ElementAgrees s used parked kept → parked ≡ false
+-- a pause and a close with a token that is current are not answered Spent
+pub pause_is_current : (g now : ℕ) (s : ElementState) (used parked : Bool) (kept : ℕ) → ElementAgrees s used parked kept → parked ≡ false
     → used ≡ true → kept ≡ g → (element_step (element_op.Pause g) s).1 ≡ element_reply.Spent now → ⊥
-current_says g now s used parked kept h idle in_use same e = grind arith
+pause_is_current g now s used parked kept h idle in_use same e = grind arith
 
-pub current_is_not_spent : (c : Setup) (t u : CallerFace) (token : Token) (reply : Reply) (now : ℕ)
-    → Happened t (Element token.element) (op_on.Element (element_op.Pause token.generation)) reply u
-    → IsPossible c u.number u.log u.told → element_owner c token.element ≡ t.number → IsAtRest t.log
-    → IsCurrent (kept_of t.number t.log) token
-    → reply ≡ reply_of.Element (element_reply.Spent now) → ⊥
-current_is_not_spent c t u token reply now h p own rest current is =
-    let a = element_answers c t u token.element (element_op.Pause token.generation) reply h p in
-    let cell : reply_of.Element (element_step (element_op.Pause token.generation) a.state).1 ≡ reply_of.Element (element_reply.Spent now) =
-    sym a.reply_is ∙ is in
-    let spent : (element_step (element_op.Pause token.generation) a.state).1 ≡ element_reply.Spent now = cc cell in
-    current_says token.generation now a.state _ _ _ (a.agrees own) (rest.parked token.element) current.used current.generation spent
-
--- nor is its close
-current_closes : (g now : ℕ) (s : ElementState) (used parked : Bool) (kept : ℕ) → ElementAgrees s used parked kept → parked ≡ false
+pub close_is_current : (g now : ℕ) (s : ElementState) (used parked : Bool) (kept : ℕ) → ElementAgrees s used parked kept → parked ≡ false
     → used ≡ true → kept ≡ g → (element_step (element_op.Close g) s).1 ≡ element_reply.Spent now → ⊥
-current_closes g now s used parked kept h idle in_use same e = grind arith
+close_is_current g now s used parked kept h idle in_use same e = grind arith
 
-pub current_is_closed : (c : Setup) (t u : CallerFace) (token : Token) (reply : Reply) (now : ℕ)
-    → Happened t (Element token.element) (op_on.Element (element_op.Close token.generation)) reply u
+-- so neither is an event with such an operation
+pub current_is_not_spent : (c : Setup) (t u : CallerFace) (token : Token) (op : ElementOp) (reply : Reply) (now : ℕ)
+    → ((s : ElementState) (used parked : Bool) (kept : ℕ) → ElementAgrees s used parked kept → parked ≡ false
+    → used ≡ true → kept ≡ token.generation → (element_step op s).1 ≡ element_reply.Spent now → ⊥)
+    → Happened t (Element token.element) (op_on.Element op) reply u
     → IsPossible c u.number u.log u.told → element_owner c token.element ≡ t.number → IsAtRest t.log
     → IsCurrent (kept_of t.number t.log) token
     → reply ≡ reply_of.Element (element_reply.Spent now) → ⊥
-current_is_closed c t u token reply now h p own rest current is =
-    let a = element_answers c t u token.element (element_op.Close token.generation) reply h p in
-    let cell : reply_of.Element (element_step (element_op.Close token.generation) a.state).1 ≡ reply_of.Element (element_reply.Spent now) =
-    sym a.reply_is ∙ is in
-    let spent : (element_step (element_op.Close token.generation) a.state).1 ≡ element_reply.Spent now = cc cell in
-    current_closes token.generation now a.state _ _ _ (a.agrees own) (rest.parked token.element) current.used current.generation spent
+current_is_not_spent c t u token op reply now cell h p own rest current is =
+    let a = element_answers c t u token.element op reply h p in
+    let same : reply_of.Element (element_step op a.state).1 ≡ reply_of.Element (element_reply.Spent now) = sym a.reply_is ∙ is in
+    let spent : (element_step op a.state).1 ≡ element_reply.Spent now = cc same in
+    cell a.state _ _ _ (a.agrees own) (rest.parked token.element) current.used current.generation spent
 
 -- ---- a gift begins the next generation
 
-pause_gives : (g code next : ℕ) (s : ElementState) → (element_step (element_op.Pause g) s).1 ≡ element_reply.Given code next → next ≡ g + 1
+pub pause_gives : (g code next : ℕ) (s : ElementState) → (element_step (element_op.Pause g) s).1 ≡ element_reply.Given code next
+    → next ≡ g + 1
 pause_gives g code next s e = grind arith
 
-resume_gives : (g code next : ℕ) (s : ElementState) → (element_step (element_op.Resume g) s).1 ≡ element_reply.Given code next
+pub resume_gives : (g code next : ℕ) (s : ElementState) → (element_step (element_op.Resume g) s).1 ≡ element_reply.Given code next
     → next ≡ g + 1
 resume_gives g code next s e = grind arith
 
-pub pause_gives_next : (c : Setup) (t u : CallerFace) (n g code next : ℕ)
-    → Happened t (Element n) (op_on.Element (element_op.Pause g)) (reply_of.Element (element_reply.Given code next)) u
+-- so does that of an event with such an operation
+pub gives_next : (c : Setup) (t u : CallerFace) (n g : ℕ) (op : ElementOp) (code next : ℕ)
+    → ((s : ElementState) → (element_step op s).1 ≡ element_reply.Given code next → next ≡ g + 1)
+    → Happened t (Element n) (op_on.Element op) (reply_of.Element (element_reply.Given code next)) u
     → IsPossible c u.number u.log u.told → next ≡ g + 1
-pause_gives_next c t u n g code next h p =
-    let a = element_answers c t u n (element_op.Pause g) (reply_of.Element (element_reply.Given code next)) h p in
+gives_next c t u n g op code next cell h p =
+    let a = element_answers c t u n op (reply_of.Element (element_reply.Given code next)) h p in
     let r = a.reply_is in
-    let cell : (element_step (element_op.Pause g) a.state).1 ≡ element_reply.Given code next = cc (sym r) in
-    pause_gives g code next a.state cell
-
-pub resume_gives_next : (c : Setup) (t u : CallerFace) (n g code next : ℕ)
-    → Happened t (Element n) (op_on.Element (element_op.Resume g)) (reply_of.Element (element_reply.Given code next)) u
-    → IsPossible c u.number u.log u.told → next ≡ g + 1
-resume_gives_next c t u n g code next h p =
-    let a = element_answers c t u n (element_op.Resume g) (reply_of.Element (element_reply.Given code next)) h p in
-    let r = a.reply_is in
-    let cell : (element_step (element_op.Resume g) a.state).1 ≡ element_reply.Given code next = cc (sym r) in
-    resume_gives g code next a.state cell
+    let given : (element_step op a.state).1 ≡ element_reply.Given code next = cc (sym r) in
+    cell a.state given

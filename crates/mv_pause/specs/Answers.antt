@@ -20,17 +20,21 @@ use Rattle.mv_pause.specs.declared.releasing.TryReleaseRefusal.TheVariants as tr
 use Rattle.mv_pause.specs.declared.transferring.TransferRefusal.{TransferRefusal}
 use Rattle.mv_pause.specs.declared.transferring.TransferRefusal.TheVariants as transfer_refusal
 
+-- an allocate's answer: a token, or no element is free
 abbrev pub allocate_answer : Result Token NoElement → Result Token Refusal
 allocate_answer (Ok t) = Ok t
 allocate_answer (Err why) = Err refusal.NoElement
 
+-- what a pause is given: the release code, and the next token
 abbrev pub gift_of : Given → Gift
 gift_of g = record { code = g.code; next = g.next }
 
+-- why a pause is refused
 abbrev pub pause_refused : PauseRefusal → Refusal
 pause_refused pause_refusal.NotOwner = refusal.NotOwner
 pause_refused (pause_refusal.Spent now) = refusal.Spent now
 
+-- a pause's answer: what it is given, or why it did not pause
 abbrev pub pause_answer : Result Given PauseRefusal → Result Gift Refusal
 pause_answer (Ok g) = Ok (gift_of g)
 pause_answer (Err why) = Err (pause_refused why)
@@ -40,10 +44,12 @@ abbrev pub reached : ReleaseAnswer → Reached
 reached answer.Early = CameEarly
 reached answer.Woke = WokeIt
 
+-- why a release is refused
 abbrev pub release_refused : ReleaseRefusal → Refusal
 release_refused (release_refusal.Spent now) = refusal.Spent now
 release_refused release_refusal.Already = refusal.Already
 
+-- a release's answer
 abbrev pub release_answer : Result ReleaseAnswer ReleaseRefusal → Result Reached Refusal
 release_answer (Ok a) = Ok (reached a)
 release_answer (Err why) = Err (release_refused why)
@@ -55,21 +61,25 @@ try_release_answer (Err (try_refusal.Moved word)) = None
 try_release_answer (Err (try_refusal.Spent now)) = Some (Err (refusal.Spent now))
 try_release_answer (Err try_refusal.Already) = Some (Err refusal.Already)
 
+-- why a transfer is refused
 abbrev pub transfer_refused : TransferRefusal → Refusal
 transfer_refused transfer_refusal.NotOwner = refusal.NotOwner
 transfer_refused (transfer_refusal.Spent now) = refusal.Spent now
 transfer_refused (transfer_refusal.TargetSpent now) = refusal.TargetSpent now
 transfer_refused transfer_refusal.TargetAlready = refusal.TargetAlready
 
+-- a transfer's answer: with a current token what its pause is given, without one nothing
 abbrev pub transfer_answer : Result (Option Given) TransferRefusal → Result (Option Gift) Refusal
 transfer_answer (Ok None) = Ok None
 transfer_answer (Ok (Some g)) = Ok (Some (gift_of g))
 transfer_answer (Err why) = Err (transfer_refused why)
 
+-- why a deallocate is refused
 abbrev pub deallocate_refused : DeallocateRefusal → Refusal
 deallocate_refused deallocate_refusal.NotOwner = refusal.NotOwner
 deallocate_refused (deallocate_refusal.Spent now) = refusal.Spent now
 
+-- a deallocate's answer: nothing more to tell where it is done
 abbrev pub deallocate_answer : Result (Unit {0}) DeallocateRefusal → Result (Unit {0}) Refusal
 deallocate_answer (Ok done) = Ok tt
 deallocate_answer (Err why) = Err (deallocate_refused why)

@@ -16,20 +16,24 @@ use Rattle.mv_pause.specs.declared.releasing.ReleaseRefusal.TheVariants as relea
 use Rattle.mv_pause.specs.declared.replies.Begun.{Begun}
 use Rattle.mv_pause.specs.declared.replies.Begun.TheVariants as begun
 
+-- an element is opened
 abbrev pub SaysOpened : Reply → Type 0
 SaysOpened (reply_of.Element (element_reply.Opened g)) = Unit {0}
 SaysOpened reply = ⊥
 
+-- a pause that was waited for is given its code
 abbrev pub SaysGiven : Reply → Type 0
 SaysGiven (reply_of.Element (element_reply.Given code next)) = Unit {0}
 SaysGiven reply = ⊥
 
+-- a pause parks, or is given its code at once, or its token is over
 abbrev pub SaysBegun : Reply → Type 0
 SaysBegun (reply_of.Element element_reply.Parked) = Unit {0}
 SaysBegun (reply_of.Element (element_reply.Given code next)) = Unit {0}
 SaysBegun (reply_of.Element (element_reply.Spent g)) = Unit {0}
 SaysBegun reply = ⊥
 
+-- a release comes before its pause or wakes it, or its token is over, or was released before
 abbrev pub SaysReleased : Reply → Type 0
 SaysReleased (reply_of.Element element_reply.Early) = Unit {0}
 SaysReleased (reply_of.Element element_reply.Woke) = Unit {0}
@@ -37,11 +41,13 @@ SaysReleased (reply_of.Element (element_reply.Spent g)) = Unit {0}
 SaysReleased (reply_of.Element element_reply.Already) = Unit {0}
 SaysReleased reply = ⊥
 
+-- an element is closed, or its token is over
 abbrev pub SaysClosed : Reply → Type 0
 SaysClosed (reply_of.Element element_reply.Closed) = Unit {0}
 SaysClosed (reply_of.Element (element_reply.Spent g)) = Unit {0}
 SaysClosed reply = ⊥
 
+-- the state of an element
 abbrev pub SaysState : Reply → Type 0
 SaysState (reply_of.Element (element_reply.State s)) = Unit {0}
 SaysState reply = ⊥

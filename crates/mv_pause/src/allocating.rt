@@ -35,7 +35,8 @@ pub fn allocate<R: Wait>(station: &Station, rt: &R, task: &mut Task) -> Result<T
     ensures causes { MatchResult result
         (λ token. lowest_free station.now.config (kept_of task.old.number task.old.log) ≡ Some token.element)
         (λ _. (lowest_free station.now.config (kept_of task.old.number task.old.log) ≡ None) × (task.new ≡ task.old)) }
-    ensures own { IfOk result (λ token. (token.element < element_count station.now.config) × (element_owner station.now.config token.element ≡ task.old.number)) }
+    ensures own { IfOk result (λ token. (token.element < element_count station.now.config)
+        × (element_owner station.now.config token.element ≡ task.old.number)) }
     ensures low { IfOk result (λ token. token.generation ≤ highest_generation) }
 {
     let Some(element) = lowest(station, task) else {

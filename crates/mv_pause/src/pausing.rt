@@ -126,7 +126,8 @@ fn await_release<R: Wait>(station: &Station, rt: &R, task: &mut Task, token: Tok
     requires left { 0 < task.old.left }
     ensures runs { Runs 1 (resume_own token) (Done (Ok (program.gift_of token.element result.code result.next))) task.old task.new }
     ensures waits { waits_from no_waits task.new.log
-        ≡ waits_after (waits_from no_waits task.old.log) (object.Element token.element) (op_on.Element (Resume token.generation)) (reply_of.Element (GivenWith result.code result.next)) }
+        ≡ waits_after (waits_from no_waits task.old.log) (object.Element token.element) (op_on.Element (Resume token.generation))
+        (reply_of.Element (GivenWith result.code result.next)) }
     ensures given { WasGiven token result.code task.new.log × (result.next ≡ token.generation + 1) }
     ensures low { result.next ≤ highest_generation }
 {

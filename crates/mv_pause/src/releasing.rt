@@ -102,7 +102,8 @@ pub fn try_release(
     requires unpaused { HasNoPause token.element expected }
     requires code { code < release_limit }
     requires left { 0 < task.old.left }
-    ensures served { IfSome (try_release_answer result) (λ is. IsServed 1 (try_release token expected code) (λ a. a ≡ is) task.old task.new) }
+    ensures served { IfSome (try_release_answer result)
+        (λ is. IsServed 1 (try_release token expected code) (λ a. a ≡ is) task.old task.new) }
     ensures causes { IsTried token expected code task.old result task.new }
     ensures early { IfOk result (λ a. a ≡ Early) }
     ensures rest { IsAtRest task.new.log }

@@ -59,9 +59,11 @@ pub fn transfer<R: Wait>(
     requires target { target.element < element_count station.now.config }
     requires code { code < release_limit }
     requires left { cost current ≤ task.old.left }
-    ensures served { IsServed (cost current) (transfer station.now.config current target code) (λ a. a ≡ transfer_answer result) task.old task.new }
+    ensures served { IsServed (cost current) (transfer station.now.config current target code)
+        (λ a. a ≡ transfer_answer result) task.old task.new }
     ensures causes { MatchResult result
-        (λ given. (transfer_refusal station.now.config current (kept_of task.old.number task.old.log) ≡ None) × IsGivenTo current given task.new.log)
+        (λ given. (transfer_refusal station.now.config current (kept_of task.old.number task.old.log) ≡ None)
+        × IsGivenTo current given task.new.log)
         (λ why. IsTransferCause station.now.config current target code task.old why task.new) }
     ensures low { IsLow (transfer_answer result) × IfOk result (λ given. IfSome given (λ g. g.next.generation ≤ highest_generation)) }
 {
@@ -90,7 +92,8 @@ fn refuses_transfer(
 ) -> Option<TransferRefusal>
     requires task { IsOf station.now task.now }
     requires current { IfSome current (λ t. t.element < element_count station.now.config) }
-    ensures refusal { option_map transfer_refused result ≡ transfer_refusal station.now.config current (kept_of task.now.number task.now.log) }
+    ensures refusal { option_map transfer_refused result
+        ≡ transfer_refusal station.now.config current (kept_of task.now.number task.now.log) }
     ensures low { IfSome result (λ why. IsLowRefusal (transfer_refused why)) }
 {
     let Some(token) = current else {

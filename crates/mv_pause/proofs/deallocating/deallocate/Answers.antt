@@ -15,7 +15,7 @@ use Rattle.mv_calls.specs.Refusal as refusal
 use Rattle.mv_wait.proofs.OneEvent.{event_served}
 use Rattle.mv_wait.proofs.Steps.{done_served}
 use Rattle.mv_pause.specs.Replies.{reply_to_close}
-use Rattle.mv_pause.proofs.Answering.{says_closed, current_is_closed}
+use Rattle.mv_pause.proofs.Answering.{says_closed, close_is_current, current_is_not_spent}
 use Rattle.mv_pause.proofs.Served.{mine, others, own_is}
 use Rattle.mv_pause.proofs.deallocating.deallocate.Goals as goal
 
@@ -83,7 +83,8 @@ returns-in-Some g c =
           (mine s (kept_of t.number t.log) token (Do o op (λ x. on_element x.entry.reply closed)) own)
           (λ x r. ap (λ z. on_element z closed) r) (λ w. refl) c.requires.rest refl;
       causes = (own, h);
-      current = λ mine current. absurd (current_is_closed s t u token c.event-reply.result now c.event-reply.ensures.event
-          c.event-reply.ensures.possible (own_is s t.number t.log token own) c.requires.rest current is);
+      current = λ mine current. absurd (current_is_not_spent s t u token (Close token.generation) c.event-reply.result now
+          (close_is_current token.generation now) c.event-reply.ensures.event c.event-reply.ensures.possible
+          (own_is s t.number t.log token own) c.requires.rest current is);
       low = subst (NamesUpTo 262143) is c.event-reply.ensures.low;
     }

@@ -12,7 +12,7 @@ use Rattle.mv_calls.specs.Rest.{no_waits, waits_from, waits_after}
 use Rattle.mv_wait.proofs.Runs.{went_log}
 use Rattle.mv_wait.proofs.Steps.{element_runs, looked_runs, waits_one}
 use Rattle.mv_pause.specs.Pausing.{resume_own}
-use Rattle.mv_pause.proofs.Answering.{resume_gives_next}
+use Rattle.mv_pause.proofs.Answering.{resume_gives, gives_next}
 use Rattle.mv_pause.proofs.Gifts.{was_given}
 use Rattle.mv_pause.proofs.pausing.await_release.Goals as goal
 
@@ -48,8 +48,9 @@ returns-clause-given g c =
     let gift = c.gift_in.result in
     let op = op_on.Element (Resume token.generation) in
     let h = subst (λ r. Happened v (Element token.element) op r u) c.gift_in.ensures c.event-reply.ensures.event in
-    let next = resume_gives_next c.args.station.now.config v u token.element token.generation gift.code gift.next h
-    c.event-reply.ensures.possible in (was_given v u token op gift.code gift.next h next, next)
+    let next = gives_next c.args.station.now.config v u token.element token.generation (Resume token.generation) gift.code gift.next
+    (resume_gives token.generation gift.code gift.next) h c.event-reply.ensures.possible in
+    (was_given v u token op gift.code gift.next h next, next)
 
 pub returns-clause-low : goal.returns-clause-low
 returns-clause-low g c = subst (NamesUpTo 262143) c.gift_in.ensures c.event-reply.ensures.low

@@ -15,7 +15,7 @@ use Rattle.mv_wait.proofs.Runs.{runs_then, runs_within}
 use Rattle.mv_wait.proofs.Steps.{element_runs, waits_one, still_at_rest}
 use Rattle.mv_pause.specs.Answers.{gift_of}
 use Rattle.mv_pause.specs.Pausing.{pause_own, resume_own}
-use Rattle.mv_pause.proofs.Answering.{says_begun, current_is_not_spent, pause_gives_next}
+use Rattle.mv_pause.proofs.Answering.{says_begun, pause_is_current, current_is_not_spent, pause_gives, gives_next}
 use Rattle.mv_pause.proofs.Gifts.{was_given, is_given}
 use Rattle.mv_pause.proofs.Served.{rests_by, none_given, none_resumed, is_parked}
 use Rattle.mv_pause.proofs.pausing.pause_own.Goals as goal
@@ -42,7 +42,8 @@ returns-in-Given g c =
     let reply = reply_of.Element (Given gift.code gift.next) in
     let whole = Done (Ok (gift_of c.with_token.result)) in
     let h = subst (λ r. Happened t (Element n) op r u) c.in-Given.ensures c.event-reply.ensures.event in
-    let next = pause_gives_next c.args.station.now.config t u n token.generation gift.code gift.next h c.event-reply.ensures.possible in
+    let next = gives_next c.args.station.now.config t u n token.generation (Pause token.generation) gift.code gift.next
+    (pause_gives token.generation gift.code gift.next) h c.event-reply.ensures.possible in
     record {
       runs = runs_within 1 2 (pause_own token) whole t u (omega arith)
           (element_runs (paused n token.generation) whole t u n (Pause token.generation) (Given gift.code gift.next) h
@@ -72,8 +73,9 @@ returns-in-Spent g c =
       runs = runs_within 1 2 (pause_own token) whole t u (omega arith)
           (element_runs (paused n token.generation) whole t u n (Pause token.generation) (Spent now) h refl);
       rest = still_at_rest t u (Element n) op (reply_of.Element (Spent now)) h (λ w. refl) c.requires.rest;
-      current = λ is. absurd (current_is_not_spent c.args.station.now.config t u token c.event-reply.result now c.event-reply.ensures.event
-          c.event-reply.ensures.possible c.requires.own c.requires.rest is c.in-Spent.ensures);
+      current = λ is. absurd (current_is_not_spent c.args.station.now.config t u token (Pause token.generation) c.event-reply.result now
+          (pause_is_current token.generation now) c.event-reply.ensures.event c.event-reply.ensures.possible
+          c.requires.own c.requires.rest is c.in-Spent.ensures);
       answer = h;
       low = (subst (NamesUpTo 262143) c.in-Spent.ensures c.event-reply.ensures.low, tt);
     }

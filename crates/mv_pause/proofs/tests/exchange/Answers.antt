@@ -1,6 +1,6 @@
 use Rattle.std.proofs.Common.{◌∙◌}
 use Rattle.mv_pause.proofs.Tried.{tried_same}
-use Rattle.mv_pause.proofs.tests.try_release.Goals as goal
+use Rattle.mv_pause.proofs.tests.exchange.Goals as goal
 
 pub returns : goal.returns
 returns g c =
