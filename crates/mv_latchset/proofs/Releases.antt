@@ -1,5 +1,5 @@
 -- A release and a purge, by what their event was answered.
-use Rattle.std.proofs.Common.{◌≡◌, ℕ, ◌+◌, ◌≤◌, Bool, true, List, Result, Ok, Err, refl, sym, ap, ◌∙◌, subst, arith}
+use Rattle.std.proofs.Common.{◌≡◌, ℕ, ◌+◌, ◌≤◌, Bool, true, List, Result, Ok, Err, refl, sym, ap, subst, arith}
 use Rattle.mv_latch.specs.declared.operation.LatchOp.TheVariants.{Release, Purge}
 use Rattle.mv_latch.specs.declared.operation.LatchReply.{LatchReply}
 use Rattle.mv_latch.specs.declared.operation.LatchReply.TheVariants as latch_reply

@@ -14,9 +14,7 @@ use Rattle.mv_machine.specs.declared.entry.Reply.TheVariants as reply_of
 use Rattle.mv_machine.specs.Kept.{StandingRequest, stands_after, HasMade}
 use Rattle.mv_board.specs.Faces.{CallerFace}
 use Rattle.mv_board.proofs.Acting.{made_more}
-use Rattle.mv_calls.specs.Keeping.{Kept, kept_of, nothing_kept}
-use Rattle.mv_calls.proofs.Making.{kept_caller}
-use Rattle.mv_wait.specs.Run.{Went}
+use Rattle.mv_calls.specs.Keeping.{Kept, kept_of}
 use Rattle.mv_wait.proofs.Runs.{entry_of, went_log}
 use Rattle.mv_wait.proofs.Waits.{kept_one}
 use Rattle.mv_latchset.specs.Obtaining.{IsAnswered, IsSettled}

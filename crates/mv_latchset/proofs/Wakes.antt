@@ -1,5 +1,5 @@
 -- The posts of wakes, one after the other, and what follows them.
-use Rattle.std.proofs.Common.{◌≡◌, ℕ, suc, ◌+◌, ◌<◌, ◌≤◌, List, [], ◌∷◌, ◌++◌, length, take, drop, Option, Some, None, refl, sym, ap}
+use Rattle.std.proofs.Common.{◌≡◌, ℕ, ◌+◌, ◌<◌, ◌≤◌, List, [], ◌∷◌, ◌++◌, length, take, drop, Option, Some, None, refl, sym, ap}
 use Rattle.std.proofs.Common.{◌∙◌, subst, arith, add-zero, slice_get}
 use Rattle.std.specs.List.{All}
 use Rattle.std.proofs.lemmas.List.{take_more, drop_more, take_all, drop_all}
@@ -16,7 +16,7 @@ use Rattle.mv_calls.specs.Program.{Program, Do, Done, Early, Wrong, and_then}
 use Rattle.mv_wait.specs.Run.{Runs, IsServed}
 use Rattle.mv_wait.proofs.Compose.{runs_and_then, post_within_call}
 use Rattle.mv_wait.proofs.Exits.{total-append}
-use Rattle.mv_wait.proofs.Runs.{runs_none, runs_then, runs_within}
+use Rattle.mv_wait.proofs.Runs.{runs_none, runs_then}
 use Rattle.mv_latchset.specs.Waking.{PostsWakes, all_posted}
 
 -- ---- what follows the posts of some wakes

@@ -18,6 +18,7 @@ abbrev pub obtained_as : Obtained → called.Obtained
 obtained_as (obtained.Granted token) = called.GrantedAs token.id
 obtained_as (obtained.Pending token) = called.PendingAs token.id
 
+-- why an obtain is refused
 abbrev pub obtain_refused : ObtainRefusal → Refusal
 obtain_refused obtain_refusal.BadLatch = refusal.BadLatch
 obtain_refused obtain_refusal.NotOwner = refusal.NotOwner
@@ -25,22 +26,27 @@ obtain_refused obtain_refusal.Quota = refusal.Quota
 obtain_refused (obtain_refusal.NotNow id) = refusal.NotNow id
 obtain_refused obtain_refusal.Purged = refusal.Purged
 
+-- an obtain's answer: the request, or why there is none
 abbrev pub obtain_answer : Result Obtained ObtainRefusal → Result called.Obtained Refusal
 obtain_answer (Ok got) = Ok (obtained_as got)
 obtain_answer (Err why) = Err (obtain_refused why)
 
+-- how a request stands, as a check answers it
 abbrev pub standing_as : Standing → called.Standing
 standing_as standing.Granted = called.Holds
 standing_as standing.Waiting = called.Waits
 standing_as standing.Gone = called.IsOut
 
+-- why a release frees nothing
 abbrev pub release_refused : ReleaseLatchRefusal → Refusal
 release_refused release_refusal.Gone = refusal.Gone
 release_refused release_refusal.StillWaiting = refusal.StillWaiting
 
+-- a release's answer: how many requests it granted, or why it freed nothing
 abbrev pub release_answer : Result ℕ ReleaseLatchRefusal → Result ℕ Refusal
 release_answer (Ok granted) = Ok granted
 release_answer (Err why) = Err (release_refused why)
 
+-- what a purge counts
 abbrev pub counts_of : Purged → called.Counts
 counts_of p = record { removed = p.removed; granted = p.granted }

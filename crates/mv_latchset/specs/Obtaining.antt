@@ -68,6 +68,6 @@ IsRefusedBy c latch requestor mode form t refused.NotOwner u = IsRefusedBefore c
 IsRefusedBy c latch requestor mode form t refused.Quota u = IsRefusedBefore c latch requestor mode form t refused.Quota u
 
 -- the token names this latch
-abbrev pub HasLatch : ℕ → Obtained → Type 0
-HasLatch latch (obtained.Granted token) = token.latch ≡ latch
-HasLatch latch (obtained.Pending token) = token.latch ≡ latch
+abbrev pub IsOfLatch : ℕ → Obtained → Type 0
+IsOfLatch latch (obtained.Granted token) = token.latch ≡ latch
+IsOfLatch latch (obtained.Pending token) = token.latch ≡ latch

@@ -14,6 +14,7 @@ use Rattle.mv_latchset.specs.declared.replies.Asked.TheVariants as asked
 use Rattle.mv_latchset.specs.declared.token.Standing.{Standing}
 use Rattle.mv_latchset.specs.declared.token.Standing.TheVariants as standing
 
+-- what became of a request, as its event's reply: of one that is queued it is the same, whether the request posts or waits
 abbrev pub asked_reply : Asked → LatchReply
 asked_reply (asked.Granted id) = latch_reply.Granted id
 asked_reply (asked.NotNow id) = latch_reply.NotNow id
@@ -42,10 +43,12 @@ abbrev pub HasGrant : Reply → Bool → Type 0
 HasGrant reply true = (id : ℕ) × (reply ≡ reply_of.Latch (latch_reply.Granted id))
 HasGrant reply false = reply ≡ reply_of.Latch latch_reply.Gone
 
+-- a release's answer, as its event's reply
 abbrev pub release_reply : Result ℕ ReleaseLatchRefusal → LatchReply
 release_reply (Ok granted) = latch_reply.Released granted
 release_reply (Err release_refusal.Gone) = latch_reply.Gone
 release_reply (Err release_refusal.StillWaiting) = latch_reply.Waiting
 
+-- what a purge counts, as its event's reply
 abbrev pub purge_reply : Purged → LatchReply
 purge_reply p = latch_reply.Purged p.removed p.granted

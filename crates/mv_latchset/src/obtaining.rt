@@ -14,7 +14,7 @@ ghost use Rattle.mv_calls.specs.Rest.{IsAtRest};
 ghost use Rattle.mv_calls.specs.Services.{obtain_events};
 ghost use Rattle.mv_wait.specs.Run.{IsServed};
 ghost use Rattle.mv_latchset.specs.Answers.{obtain_answer, obtain_refused};
-ghost use Rattle.mv_latchset.specs.Obtaining.{IsObtainedBy, IsRefusedBy, HasLatch, IsSettled};
+ghost use Rattle.mv_latchset.specs.Obtaining.{IsObtainedBy, IsRefusedBy, IsOfLatch, IsSettled};
 ghost use Rattle.mv_latchset.specs.Token.{stands};
 
 use crate::replies::{Asked, asked_in, granted_in};
@@ -78,12 +78,13 @@ pub fn obtain<R: Wait>(
     requires rest { IsAtRest task.old.log }
     requires block { IfSome (posted_ecb form) (λ e. e < length station.now.config.owners) }
     requires left { obtain_events form ≤ task.old.left }
-    ensures served { IsServed (obtain_events form) (obtain station.now.config latch requestor mode form) (λ a. a ≡ obtain_answer result) task.old task.new }
+    ensures served { IsServed (obtain_events form) (obtain station.now.config latch requestor mode form)
+        (λ a. a ≡ obtain_answer result) task.old task.new }
     ensures causes { MatchResult result
         (λ got. (obtain_refusal station.now.config latch requestor mode form (kept_of task.old.number task.old.log) ≡ None)
         × IsObtainedBy (Obtain latch requestor mode form) latch form task.old got task.new)
         (λ why. IsRefusedBy station.now.config latch requestor mode form task.old why task.new) }
-    ensures latch { IfOk result (HasLatch latch) }
+    ensures latch { IfOk result (IsOfLatch latch) }
 {
     if let Some(refusal) = refuses(station, task, latch, form) {
         return Err(refusal);
@@ -117,7 +118,8 @@ pub fn obtain<R: Wait>(
 fn refuses(station: &Station, task: &Task, latch: u32, form: LatchForm) -> Option<ObtainRefusal>
     requires task { IsOf station.now task.now }
     requires block { IfSome (posted_ecb form) (λ e. e < length station.now.config.owners) }
-    ensures refusal { (requestor : ℕ) (mode : Mode) → option_map obtain_refused result ≡ obtain_refusal station.now.config latch requestor mode form (kept_of task.now.number task.now.log) }
+    ensures refusal { (requestor : ℕ) (mode : Mode) → option_map obtain_refused result
+        ≡ obtain_refusal station.now.config latch requestor mode form (kept_of task.now.number task.now.log) }
     ensures kept { result ≡ None → (kept_of task.now.number task.now.log).requests ≡ standing task.now.log }
 {
     if latch >= station.config().config().latches {
@@ -135,7 +137,8 @@ fn refuses(station: &Station, task: &Task, latch: u32, form: LatchForm) -> Optio
 // Whether the block that is to be posted, if there is one, is another caller's.
 fn posts_others_block(station: &Station, task: &Task, form: LatchForm) -> bool
     requires { IfSome (posted_ecb form) (λ e. e < length station.now.config.owners) }
-    ensures { (latch requestor : ℕ) (mode : Mode) → result ≡ not (posts_own_ecb station.now.config task.now.number (Obtain latch requestor mode form)) }
+    ensures { (latch requestor : ℕ) (mode : Mode) → result
+        ≡ not (posts_own_ecb station.now.config task.now.number (Obtain latch requestor mode form)) }
 {
     match form {
         LatchForm::Posted(ecb) => !station.config().owns_ecb(task.number(), ecb),

@@ -32,7 +32,8 @@ pub fn purge<R: Wait>(station: &Station, rt: &R, task: &mut Task, requestor: u64
     requires task { IsOf station.now task.old }
     requires rest { IsAtRest task.old.log }
     requires left { release_cost station.now.config ≤ task.old.left }
-    ensures served { IsServed (release_cost station.now.config) (purge station.now.config requestor) (λ a. a ≡ counts_of result) task.old task.new }
+    ensures served { IsServed (release_cost station.now.config) (purge station.now.config requestor)
+        (λ a. a ≡ counts_of result) task.old task.new }
 {
     let reply = station.event(
         rt,

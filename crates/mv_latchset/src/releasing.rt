@@ -46,7 +46,8 @@ pub fn release_latch<R: Wait>(
     requires rest { IsAtRest task.old.log }
     requires latch { token.latch < station.now.config.latches }
     requires left { release_cost station.now.config ≤ task.old.left }
-    ensures served { IsServed (release_cost station.now.config) (release_latch station.now.config token.latch token.id conditional) (λ a. a ≡ release_answer result) task.old task.new }
+    ensures served { IsServed (release_cost station.now.config)
+        (release_latch station.now.config token.latch token.id conditional) (λ a. a ≡ release_answer result) task.old task.new }
     ensures causes { IsReleasedBy station.now.config token.latch token.id conditional task.old result task.new }
 {
     let reply = station.event(

@@ -1,4 +1,4 @@
-use Rattle.std.proofs.Common.{◌≡◌, ◌+◌, ◌≤◌, refl, sym, ap, ◌∙◌, subst, arith}
+use Rattle.std.proofs.Common.{◌≡◌, refl, subst, arith}
 use Rattle.mv_latch.specs.declared.operation.LatchOp.TheVariants.{Purge}
 use Rattle.mv_machine.specs.declared.entry.Object.TheVariants.{Latches}
 use Rattle.mv_machine.specs.declared.entry.Op.TheVariants as op_on

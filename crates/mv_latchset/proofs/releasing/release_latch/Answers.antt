@@ -1,10 +1,8 @@
-use Rattle.std.proofs.Common.{◌≡◌, ◌+◌, ◌≤◌, Ok, Err, refl, sym, ap, ◌∙◌, subst, arith}
+use Rattle.std.proofs.Common.{◌≡◌, Ok, Err, refl, subst, arith}
 use Rattle.std.proofs.lemmas.Result.{err_from_is_err_and}
 use Rattle.mv_latch.specs.declared.operation.LatchOp.TheVariants.{Release}
-use Rattle.mv_latch.specs.declared.operation.LatchReply.TheVariants.{Released}
 use Rattle.mv_machine.specs.declared.entry.Object.TheVariants.{Latches}
 use Rattle.mv_machine.specs.declared.entry.Op.TheVariants as op_on
-use Rattle.mv_machine.specs.declared.entry.Reply.TheVariants as reply_of
 use Rattle.mv_board.specs.Faces.{Happened}
 use Rattle.mv_latchset.specs.Replies.{release_reply}
 use Rattle.mv_latchset.proofs.Answering.{fair_wakes, says_released}
