@@ -5,32 +5,32 @@ use std::sync::Wait;
 use std::sync::atomic::{AtomicBool, Ordering};
 use std::thread;
 
-/// A gate that holds whoever comes to one of two points until the other is reached, or for so many turns, each of which yields.
+/// A gate that holds whoever comes to one of two points until the other is reached, or for so many rounds, each of which yields.
 /// A test of tasks on threads sees by it that two things happen at once.
 #[derive(Drop)]
 pub struct MeetGate {
     first: Point,
     second: Point,
-    turns: u64,
+    rounds: u64,
     first_reached: AtomicBool,
     second_reached: AtomicBool,
     ran_out: AtomicBool,
 }
 
 impl MeetGate {
-    /// A gate for two different points. It takes no memory. Whoever is held at one is let go after so many turns.
-    pub fn new(first: Point, second: Point, turns: u64) -> MeetGate {
+    /// A gate for two different points. It takes no memory. Whoever is held at one is let go after so many rounds.
+    pub fn new(first: Point, second: Point, rounds: u64) -> MeetGate {
         MeetGate {
             first,
             second,
-            turns,
+            rounds,
             first_reached: AtomicBool::new(false),
             second_reached: AtomicBool::new(false),
             ran_out: AtomicBool::new(false),
         }
     }
 
-    /// Whether both points were reached, and nobody was held for all turns.
+    /// Whether both points were reached, and nobody was held for all rounds.
     pub fn met(&self) -> bool {
         self.first_reached.load(Ordering::SeqCst)
             && self.second_reached.load(Ordering::SeqCst)
@@ -40,7 +40,7 @@ impl MeetGate {
     // Marks a point as reached, and waits for the other.
     fn meet(&self, own: &AtomicBool, other: &AtomicBool) {
         own.store(true, Ordering::SeqCst);
-        for _ in 0..self.turns {
+        for _ in 0..self.rounds {
             if other.load(Ordering::SeqCst) {
                 return;
             }

@@ -1,9 +1,0 @@
-use Rattle.mv_wait.proofs.Compose.{still_served}
-use Rattle.mv_task.proofs.tests.test_element.Goals as goal
-
-pub returns : goal.returns
-returns g c =
-    let served = c.test_element.ensures.served in record {
-      task = still_served c.args.station.now _ _ _ _ _ served c.requires.task;
-      rest = served.made.rest;
-    }
