@@ -30,12 +30,13 @@ use Rattle.mv_line.specs.Line.{is_foreign, is_too_long}
 use Rattle.mv_deck.specs.Fault.{is_null, has_bad_name, has_bad_number, accepts_no_code, repeats_name, awaits_no_job, is_crowded}
 use Rattle.mv_deck.specs.Fault.{uses_out_of_order, needs_latch, is_misplaced, is_behind_end, is_too_heavy, is_late_deck}
 use Rattle.mv_deck.specs.Fault.{has_no_form, kinds_behind, kinds_of_statement, kinds_of, faults_from, fault_at, first_fault}
-use Rattle.mv_deck.specs.Fault.{first_of_list, when}
+use Rattle.mv_deck.specs.Fault.{when}
+use Rattle.mv_line.specs.Fault.{first_of_list}
 use Rattle.mv_deck.specs.Held.{latches}
 use Rattle.mv_deck.specs.Weight.{weight, step_events}
 use Rattle.mv_deck.proofs.Mapped.{any-map}
 use Rattle.mv_deck.proofs.Jobs.{stepped, last_steps-push, with_step-push, weight-push}
-use Rattle.mv_deck.proofs.Passes.{version_in, one_line, first_of_map}
+use Rattle.mv_deck.proofs.Passes.{version_in, one_line, first_of_line}
 
 -- ---- lists, element by element
 
@@ -334,12 +335,10 @@ told_by n bytes line count v forms o same all e =
 pub fault_before : (n : ℕ) (bytes rest behind line : List ℕ) (count kind : ℕ) → IsBefore n bytes rest count
     → lines_of rest ≡ line ∷ lines_of behind → first_of_list (kinds_of n (version_in bytes) (earlier_of bytes count) line) ≡ Some kind
     → Some (fault_at (count + 1) kind) ≡ first_fault bytes n
-unfolding faults_from
 fault_before n bytes rest behind line count kind at lines e =
     let v : Version = version_in bytes in
     let earlier : List Statement = earlier_of bytes count in
-    sym (first_of_map (count + 1) kind (kinds_of n v earlier line)
-    (faults_from n v (count + 1 + 1) (earlier ++ option_to_list (statement_of v line)) (lines_of behind)) e)
+    sym (first_of_line n v (count + 1) kind earlier line (lines_of behind) e)
     ∙ ap (λ (x : List (List ℕ)). first_of_list (faults_from n v (count + 1) earlier x)) (sym lines)
     ∙ at.first
 

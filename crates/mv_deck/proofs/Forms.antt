@@ -1,6 +1,5 @@
 -- What the words of a line say, by its first field and the fields behind it.
-use Rattle.std.proofs.Common.{◌≡◌, ℕ, ◌+◌, Bool, List, [], ◌∷◌, length, Option, Some, None, refl, sym, ap, ◌∙◌, bytes_eq}
-use Rattle.std.specs.Borrow.{Bor}
+use Rattle.std.proofs.Common.{◌≡◌, ℕ, Bool, List, [], ◌∷◌, refl, sym, ap, ◌∙◌, bytes_eq}
 use Rattle.mv_deck.specs.declared.form.Version.{Version}
 use Rattle.mv_line.specs.Field.{fields_of, starts_fields}
 use Rattle.mv_deck.specs.Statement.{operation_of, operated}

@@ -16,7 +16,8 @@ use Rattle.mv_deck.specs.EndCode.{abended}
 use Rattle.mv_deck.specs.Operand.{is_name, latch_of}
 use Rattle.mv_deck.specs.Statement.{Statement, Null, JobOf, PrintOf, FreeOf, ScanOf, AbendOf, AfterPart, statements_of, version_of}
 use Rattle.mv_deck.specs.Deck.{JobData, after_of, fresh_job, step_of, jobs_of, deck_of, with_step, last_steps}
-use Rattle.mv_deck.specs.Fault.{is_null, is_job, kinds_of_statement, faults_from, first_fault, first_of_list, awaits_no_job, has_bad_name}
+use Rattle.mv_deck.specs.Fault.{is_null, is_job, kinds_of_statement, faults_from, first_fault, awaits_no_job, has_bad_name}
+use Rattle.mv_line.specs.Fault.{first_of_list}
 use Rattle.mv_deck.specs.Fault.{has_bad_number, is_crowded}
 use Rattle.mv_deck.specs.Held.{is_end, is_out_of_order, lacks_latch}
 use Rattle.mv_deck.specs.Sound.{IsSoundStep, AreSoundSteps}

@@ -4,16 +4,17 @@ use Rattle.std.proofs.Common.{sym, ap, ◌∙◌, arith, append_assoc}
 use Rattle.std.proofs.lemmas.List.{append-nil, nil_from_length}
 use Rattle.std.specs.Prelude.{option_to_list}
 use Rattle.std.specs.List.{cons_option}
-use Rattle.mv_deck.specs.declared.fault.DeckFault.{DeckFault}
 use Rattle.mv_deck.specs.declared.fault.Kind.TheVariants.{NoNull}
 use Rattle.mv_deck.specs.declared.fault.LineRefusal.{LineRefusal}
 use Rattle.mv_deck.specs.declared.fault.LineRefusal.TheVariants.{Has, NoMemory}
 use Rattle.mv_deck.specs.declared.form.Version.{Version}
 use Rattle.mv_deck.specs.declared.reading.Reading.{Reading}
 use Rattle.mv_line.specs.Line.{lines_of}
+use Rattle.mv_line.specs.Fault.{first_of_list}
+use Rattle.mv_line.proofs.Faults.{line_passed, first_in_line}
 use Rattle.mv_deck.specs.Statement.{Statement, statement_of, statements_of, version_of}
 use Rattle.mv_deck.specs.Deck.{jobs_of, deck_of}
-use Rattle.mv_deck.specs.Fault.{kinds_of, faults_from, fault_at, first_fault, first_of_list, kind_number, TellsFirst, when}
+use Rattle.mv_deck.specs.Fault.{kinds_of, faults_from, fault_at, first_fault, line_rules, kind_number, TellsFirst, when}
 use Rattle.mv_deck.specs.Reading.{IsBehind, Tells, jobs_read, refusal_at}
 
 -- the version of a text
@@ -36,11 +37,19 @@ pub earlier_more : (earlier : List Statement) (o : Option Statement) (later : Li
 earlier_more earlier None later = ap (λ (x : List Statement). x ++ later) (sym (append-nil earlier))
 earlier_more earlier (Some s) later = sym (append_assoc earlier (s ∷ []) later)
 
+-- a line without fault is passed
 pub one_line : (n : ℕ) (v : Version) (number : ℕ) (earlier : List Statement) (line : List ℕ) (lines : List (List ℕ))
     → kinds_of n v earlier line ≡ [] → faults_from n v number earlier (line ∷ lines) ≡ faults_from n v (number + 1)
     (earlier ++ option_to_list (statement_of v line)) lines
 unfolding faults_from
-one_line n v number earlier line lines none = rw none refl
+one_line n v number earlier line lines none = line_passed (line_rules n v) fault_at number earlier line lines none
+
+-- the first kind of a line is the first fault
+pub first_of_line : (n : ℕ) (v : Version) (number k : ℕ) (earlier : List Statement) (line : List ℕ) (lines : List (List ℕ))
+    → first_of_list (kinds_of n v earlier line) ≡ Some k
+    → first_of_list (faults_from n v number earlier (line ∷ lines)) ≡ Some (fault_at number k)
+unfolding faults_from
+first_of_line n v number k earlier line lines e = first_in_line (line_rules n v) fault_at number k earlier line lines e
 
 pub at_next : (n : ℕ) (bytes rest behind line : List ℕ) (number : ℕ) (r next : Reading) (at : IsAt n bytes rest number r)
     → lines_of rest ≡ line ∷ lines_of behind → length behind < length rest → kinds_of n (version_in bytes) at.earlier line ≡ []
@@ -57,21 +66,13 @@ at_next n bytes rest behind line number r next at lines shorter none b = record 
   count = omega (arith, at.count);
 }
 
-pub first_of_map : (number k : ℕ) (kinds : List ℕ) (more : List DeckFault) → first_of_list kinds ≡ Some k
-    → first_of_list (map (fault_at number) kinds ++ more) ≡ Some (fault_at number k)
-first_of_map number k [] more e = absurd cc
-first_of_map number k (j ∷ kinds) more e = cc
-
--- the first kind of a line is the first fault
+-- the first kind of the next line is the first fault of the text
 pub first_at : (n : ℕ) (bytes rest behind line : List ℕ) (number k : ℕ) (r : Reading) (at : IsAt n bytes rest number r)
     → lines_of rest ≡ line ∷ lines_of behind → first_of_list (kinds_of n (version_in bytes) at.earlier line) ≡ Some k
     → first_fault bytes n ≡ Some (fault_at number k)
-unfolding faults_from
 first_at n bytes rest behind line number k r at lines e =
     sym at.first ∙ ap (λ (x : List (List ℕ)). first_of_list (faults_from n (version_in bytes) number at.earlier x)) lines
-    ∙ first_of_map number k (kinds_of n (version_in bytes) at.earlier line)
-    (faults_from n (version_in bytes) (number + 1) (at.earlier ++ option_to_list (statement_of (version_in bytes) line))
-    (lines_of behind)) e
+    ∙ first_of_line n (version_in bytes) number k at.earlier line (lines_of behind) e
 
 pub tells_at : (n : ℕ) (bytes rest behind line : List ℕ) (number : ℕ) (r : Reading) (at : IsAt n bytes rest number r)
     → lines_of rest ≡ line ∷ lines_of behind → (e : LineRefusal) → Tells e (kinds_of n (version_in bytes) at.earlier line)

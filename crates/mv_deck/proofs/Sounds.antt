@@ -11,9 +11,8 @@ use Rattle.mv_latch.specs.declared.request.Mode.{Mode}
 use Rattle.mv_deck.specs.declared.deck.After.{After}
 use Rattle.mv_deck.specs.declared.deck.Step.{Step}
 use Rattle.mv_deck.specs.declared.deck.Step.TheVariants.{Print, Use, Free, Count, Scan, Abend, Return}
-use Rattle.mv_deck.specs.declared.fault.DeckFault.{DeckFault}
 use Rattle.mv_deck.specs.declared.fault.Kind.{Kind}
-use Rattle.mv_deck.specs.declared.fault.Kind.TheVariants.{ForeignByte, TooLong, NoForm, NoNull, BadName, RepeatedName, UnknownAfter}
+use Rattle.mv_deck.specs.declared.fault.Kind.TheVariants.{ForeignByte, TooLong, NoForm, BadName, RepeatedName, UnknownAfter}
 use Rattle.mv_deck.specs.declared.fault.Kind.TheVariants.{CrowdedAfter, BadNumber, LatchOrder, LatchNotHeld, Misplaced, BehindEnd}
 use Rattle.mv_deck.specs.declared.fault.Kind.TheVariants.{TooHeavy}
 use Rattle.mv_deck.specs.declared.form.Version.{Version}
@@ -29,7 +28,10 @@ use Rattle.mv_deck.specs.Deck.{last_steps}
 use Rattle.mv_deck.specs.Held.{is_out_of_order, lacks_latch, is_end}
 use Rattle.mv_line.specs.Line.{is_foreign, is_too_long}
 use Rattle.mv_deck.specs.Fault.{is_job, is_null, is_deck, when, has_no_form, kinds_of, kinds_of_statement}
-use Rattle.mv_deck.specs.Fault.{fault_at, faults_from, first_of_list, first_fault, kinds_behind, has_bad_name, has_bad_number}
+use Rattle.mv_deck.specs.Fault.{fault_at, faults_from, first_fault, kinds_behind, has_bad_name, has_bad_number}
+use Rattle.mv_deck.specs.Fault.{line_rules}
+use Rattle.mv_line.specs.Fault.{first_of_list}
+use Rattle.mv_line.proofs.Faults.{no_kinds, no_fault_at_end}
 use Rattle.mv_deck.specs.Fault.{accepts_no_code, has_double, repeats_name, awaits_no_job, is_crowded, is_step_that, uses_out_of_order}
 use Rattle.mv_deck.specs.Fault.{needs_latch, is_misplaced, is_behind_end, is_too_heavy}
 use Rattle.mv_deck.specs.Sound.{HasGoodNumbers, IsSoundStep, AreSoundSteps, IsSoundAfter, AreDistinct, IsSoundJob, AreSoundJobs, IsSound}
@@ -505,12 +507,7 @@ fine_line : (n : ℕ) (sts : List Statement) (o : Option Statement) → IsFine n
 fine_line n sts None fine e = subst (IsFine n) (sym (append-nil sts)) fine
 fine_line n sts (Some s) fine e = fine_push n sts s fine (is_faultless n sts (jobs_of sts) s e)
 
--- a line without a first fault has no kinds
-no_kinds : (number : ℕ) (kinds : List ℕ) (rest : List DeckFault) → first_of_list (map (fault_at number) kinds ++ rest) ≡ None → kinds ≡ []
-no_kinds number [] rest e = refl
-no_kinds number (k ∷ kinds) rest e = absurd cc
-
--- nor has its statement
+-- where a line has no kinds, its statement has none
 stated_kinds : (n : ℕ) (v : Version) (sts : List Statement) (line : List ℕ) → kinds_of n v sts line ≡ []
     → kinds_of_statement n sts (statement_of v line) ≡ []
 stated_kinds n v sts line e =
@@ -523,20 +520,18 @@ some_before : (p : Statement → Bool) (sts : List Statement) → list_any p sts
 some_before p [] e = absurd cc
 some_before p (t ∷ sts) e = grind arith
 
--- behind the last line the null statement stands
-null_stands : (number : ℕ) (b : Bool) → first_of_list (map (fault_at number) (when (not b) NoNull)) ≡ None → b ≡ true
-null_stands number true e = refl
-null_stands number false e = absurd cc
-
 -- from a line on
 sound_from : (n : ℕ) (v : Version) (number : ℕ) (sts : List Statement) (lines : List (List ℕ)) → IsFine n sts
     → first_of_list (faults_from n v number sts lines) ≡ None → IsSound (jobs_of (sts ++ statements_of v lines)) n
 unfolding faults_from
 sound_from n v number sts [] fine e =
     subst (λ (x : List Statement). IsSound (jobs_of x) n) (sym (append-nil sts))
-    (record { jobs_stand = fine.jobs; light = fine.light (some_before is_null sts (null_stands number (list_any is_null sts) e)) })
+    (record {
+      jobs_stand = fine.jobs;
+      light = fine.light (some_before is_null sts (no_fault_at_end (line_rules n v) fault_at number sts e));
+    })
 sound_from n v number sts (line ∷ lines) fine e =
-    let none = no_kinds number (kinds_of n v sts line) _ e in
+    let none = no_kinds (line_rules n v) fault_at number sts line lines e in
     let next = fine_line n sts (statement_of v line) fine (stated_kinds n v sts line none) in
     subst (λ (x : List Statement). IsSound (jobs_of x) n) (sym (earlier_more sts (statement_of v line) (statements_of v lines)))
     (sound_from n v (number + 1) (sts ++ option_to_list (statement_of v line)) lines next

@@ -9,7 +9,8 @@ use Rattle.mv_deck.specs.Statement.{Statement, Null, DeckOf, JobOf, PrintOf, Use
 use Rattle.mv_deck.specs.Deck.{JobData, step_of, with_step, jobs_behind, last_steps}
 use Rattle.mv_deck.specs.Held.{is_out_of_order, lacks_latch, is_end}
 use Rattle.mv_deck.specs.Weight.{weight, heaviest}
-use Rattle.mv_deck.specs.Fault.{is_null, is_job, is_deck, has_bad_number, kinds_behind, when, first_of_list}
+use Rattle.mv_deck.specs.Fault.{is_null, is_job, is_deck, has_bad_number, kinds_behind, when}
+use Rattle.mv_line.specs.Fault.{first_of_list}
 
 -- the kinds of fault of a step behind these jobs
 abbrev pub kinds_of_step : ℕ → Bool → List JobData → Step → List ℕ
@@ -35,6 +36,14 @@ pub record IsStep (s : Statement) (step : Step) : Type 0 where
   pub kinds : (n : ℕ) (earlier : List Statement) (jobs : List JobData)
       → kinds_behind n earlier jobs s ≡ kinds_of_step n (is_outside earlier) jobs step
 
+-- by what it does and its kinds of fault, where it is one of no other sort
+by_form : {s : Statement} {step : Step} → is_job s ≡ false → is_null s ≡ false → is_deck s ≡ false
+    → ((jobs : List JobData) → jobs_behind jobs s ≡ with_step jobs step)
+    → ((n : ℕ) (earlier : List Statement) (jobs : List JobData)
+    → kinds_behind n earlier jobs s ≡ kinds_of_step n (is_outside earlier) jobs step) → IsStep s step
+by_form no_job no_null no_deck behind kinds =
+    record { no_job = no_job; no_null = no_null; no_deck = no_deck; behind = behind; kinds = kinds }
+
 -- each form that is a step
 pub is_step : (s : Statement) (step : Step) → step_of s ≡ Some step → IsStep s step
 is_step Null step e = absurd cc
@@ -42,55 +51,13 @@ is_step (DeckOf version) step e = absurd cc
 is_step (JobOf name after) step e = absurd cc
 is_step (PrintOf text) step e =
     let same : Print text ≡ step = cc in
-    record {
-      no_job = refl;
-      no_null = refl;
-      no_deck = refl;
-      behind = λ jobs. ap (with_step jobs) same;
-      kinds = λ n earlier jobs. ap (kinds_of_step n (is_outside earlier) jobs) same;
-    }
-is_step (UseOf latch mode) step e = record {
-  no_job = refl;
-  no_null = refl;
-  no_deck = refl;
-  behind = λ jobs. rw e refl;
-  kinds = λ n earlier jobs. rw e refl;
-}
-is_step (FreeOf latch) step e = record {
-  no_job = refl;
-  no_null = refl;
-  no_deck = refl;
-  behind = λ jobs. rw e refl;
-  kinds = λ n earlier jobs. rw e refl;
-}
-is_step (CountOf volume amount) step e = record {
-  no_job = refl;
-  no_null = refl;
-  no_deck = refl;
-  behind = λ jobs. rw e refl;
-  kinds = λ n earlier jobs. rw e refl;
-}
-is_step (ScanOf volume) step e = record {
-  no_job = refl;
-  no_null = refl;
-  no_deck = refl;
-  behind = λ jobs. rw e refl;
-  kinds = λ n earlier jobs. rw e refl;
-}
-is_step (AbendOf code) step e = record {
-  no_job = refl;
-  no_null = refl;
-  no_deck = refl;
-  behind = λ jobs. rw e refl;
-  kinds = λ n earlier jobs. rw e refl;
-}
-is_step (ReturnOf code) step e = record {
-  no_job = refl;
-  no_null = refl;
-  no_deck = refl;
-  behind = λ jobs. rw e refl;
-  kinds = λ n earlier jobs. rw e refl;
-}
+    by_form refl refl refl (λ jobs. ap (with_step jobs) same) (λ n earlier jobs. ap (kinds_of_step n (is_outside earlier) jobs) same)
+is_step (UseOf latch mode) step e = by_form refl refl refl (λ jobs. rw e refl) (λ n earlier jobs. rw e refl)
+is_step (FreeOf latch) step e = by_form refl refl refl (λ jobs. rw e refl) (λ n earlier jobs. rw e refl)
+is_step (CountOf volume amount) step e = by_form refl refl refl (λ jobs. rw e refl) (λ n earlier jobs. rw e refl)
+is_step (ScanOf volume) step e = by_form refl refl refl (λ jobs. rw e refl) (λ n earlier jobs. rw e refl)
+is_step (AbendOf code) step e = by_form refl refl refl (λ jobs. rw e refl) (λ n earlier jobs. rw e refl)
+is_step (ReturnOf code) step e = by_form refl refl refl (λ jobs. rw e refl) (λ n earlier jobs. rw e refl)
 
 -- a statement without a name has no lower fault than a bad number
 pub bad_number : (n : ℕ) (earlier : List Statement) (jobs : List JobData) (s : Statement) → is_job s ≡ false

@@ -9,7 +9,8 @@ use Rattle.mv_deck.specs.Deck.{JobData, last_steps, with_step}
 use Rattle.mv_deck.specs.Held.{is_end, is_out_of_order, lacks_latch}
 use Rattle.mv_deck.specs.Weight.{weight, heaviest}
 use Rattle.mv_deck.specs.Fault.{is_null, is_job, has_bad_name, has_bad_number, repeats_name, awaits_no_job, is_crowded, is_misplaced}
-use Rattle.mv_deck.specs.Fault.{is_too_heavy, kinds_behind, when, first_of_list}
+use Rattle.mv_deck.specs.Fault.{is_too_heavy, kinds_behind, when}
+use Rattle.mv_line.specs.Fault.{first_of_list}
 use Rattle.mv_deck.specs.Reading.{IsGoodJob}
 use Rattle.mv_deck.proofs.Steps.{kinds_of_step}
 

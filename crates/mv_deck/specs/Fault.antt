@@ -1,5 +1,5 @@
 -- The faults of a text: one test for each kind of fault that a line can have, and which fault is the first.
-use Rattle.std.specs.Prelude.{◌≡◌, ℕ, ◌+◌, Bool, true, false, ◌&&◌, ◌||◌, not, nat_lt, List, [], ◌∷◌, ◌++◌, length, map, Option, Some}
+use Rattle.std.specs.Prelude.{◌≡◌, ℕ, Bool, true, false, ◌&&◌, ◌||◌, not, nat_lt, List, [], ◌∷◌, ◌++◌, length, Option, Some}
 use Rattle.std.specs.Prelude.{None, is_none, is_some, option_to_list, codes, if◌then◌else◌}
 use Rattle.std.specs.List.{list_any}
 use Rattle.std.specs.Str.{bytes_eq}
@@ -13,6 +13,7 @@ use Rattle.mv_deck.specs.declared.fault.Kind.TheVariants.{BadNumber, LatchOrder,
 use Rattle.mv_deck.specs.declared.fault.Kind.TheVariants.{LateDeck}
 use Rattle.mv_deck.specs.declared.form.Version.{Version}
 use Rattle.mv_line.specs.Line.{lines_of, is_foreign, is_too_long}
+use Rattle.mv_line.specs.Fault.{LineRules, faults_by_line, first_of_list}
 use Rattle.mv_deck.specs.Line.{is_passed}
 use Rattle.mv_deck.specs.Operand.{is_name, code_of, most_after}
 use Rattle.mv_deck.specs.Statement.{Statement, Null, DeckOf, JobOf, PrintOf, UseOf, FreeOf, CountOf, ScanOf, AbendOf, ReturnOf, AfterPart}
@@ -240,22 +241,22 @@ kinds_of initiators v earlier line =
 abbrev pub fault_at : ℕ → ℕ → DeckFault
 fault_at line kind = record { line = line; kind = kind }
 
--- The faults of lines that are numbered from here on, behind the earlier statements: by line, and in a line by kind.
--- Behind the last line it is a fault that no null statement stands.
+-- the rules of a deck's lines: it ends with the null statement
+abbrev pub line_rules : ℕ → Version → LineRules (List Statement)
+line_rules initiators v = record {
+  with_line = λ earlier line. earlier ++ option_to_list (statement_of v line);
+  kinds_of = kinds_of initiators v;
+  is_whole = list_any is_null;
+  cut_short = kind_number NoNull;
+}
+
+-- the faults of lines that are numbered from here on, behind the earlier statements: by line, and in a line by kind
 unfoldable pub faults_from : ℕ → Version → ℕ → List Statement → List (List ℕ) → List DeckFault
-faults_from initiators v number earlier [] = map (fault_at number) (when (not (list_any is_null earlier)) NoNull)
-faults_from initiators v number earlier (line ∷ lines) =
-    map (fault_at number) (kinds_of initiators v earlier line)
-    ++ faults_from initiators v (number + 1) (earlier ++ option_to_list (statement_of v line)) lines
+faults_from initiators v number earlier lines = faults_by_line (line_rules initiators v) fault_at number earlier lines
 
 -- the faults of a text for so many initiators
 abbrev pub faults_of : List ℕ → ℕ → List DeckFault
 faults_of bytes initiators = faults_from initiators (version_of (lines_of bytes)) 1 [] (lines_of bytes)
-
--- the first of a list, if there is one
-abbrev pub first_of_list : {A : Type 0} → List A → Option A
-first_of_list [] = None
-first_of_list (x ∷ xs) = Some x
 
 -- the fault with the lowest line, and there with the lowest kind
 abbrev pub first_fault : List ℕ → ℕ → Option DeckFault

@@ -8,15 +8,15 @@ use Rattle.mv_deck.specs.Operand.{highest_latch}
 use Rattle.mv_deck.specs.declared.deck.Step.{Step}
 use Rattle.mv_deck.specs.declared.deck.Step.TheVariants.{Print, Use, Free, Count, Scan, Abend, Return}
 
--- the latch that a step names is one of the eight
-abbrev pub HasLatch : Step → Type 0
-HasLatch (Print text) = Unit {0}
-HasLatch (Use latch mode) = latch ≤ highest_latch
-HasLatch (Free latch) = latch ≤ highest_latch
-HasLatch (Count volume amount) = volume ≤ highest_latch
-HasLatch (Scan volume) = volume ≤ highest_latch
-HasLatch (Abend code) = Unit {0}
-HasLatch (Return code) = Unit {0}
+-- the number of the latch or volume that a step names, if it names one, is that of one of the eight
+abbrev pub HasNumberInRange : Step → Type 0
+HasNumberInRange (Print text) = Unit {0}
+HasNumberInRange (Use latch mode) = latch ≤ highest_latch
+HasNumberInRange (Free latch) = latch ≤ highest_latch
+HasNumberInRange (Count volume amount) = volume ≤ highest_latch
+HasNumberInRange (Scan volume) = volume ≤ highest_latch
+HasNumberInRange (Abend code) = Unit {0}
+HasNumberInRange (Return code) = Unit {0}
 
 -- how a latch is held behind one more step, if it is
 abbrev pub held_behind : ℕ → Option Mode → Step → Option Mode

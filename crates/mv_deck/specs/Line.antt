@@ -1,5 +1,5 @@
 -- Which lines of a deck state something, and the parts of a list.
-use Rattle.std.specs.Prelude.{ℕ, ◌+◌, Bool, ◌==◌, ◌||◌, nat_eq, List, length, take, drop, position, Option, option_map, codes}
+use Rattle.std.specs.Prelude.{ℕ, ◌+◌, Bool, ◌==◌, ◌||◌, nat_eq, List, take, drop, position, Option, option_map, codes}
 use Rattle.std.specs.List.{position_or_len, starts_with}
 use Rattle.mv_line.specs.Line.{shown, is_ignored}
 use Rattle.mv_line.specs.Part.{parts_at}

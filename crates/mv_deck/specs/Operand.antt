@@ -11,6 +11,10 @@ use Rattle.mv_deck.specs.EndCode.{highest_code, abended}
 
 -- ---- limits
 
+-- how many volumes there are, each guarded by the latch of its number
+abbrev pub volume_count : ℕ
+volume_count = 8
+
 -- the highest number of a latch, and of the volume that it guards
 abbrev pub highest_latch : ℕ
 highest_latch = 7

@@ -12,7 +12,8 @@ use Rattle.mv_deck.specs.declared.form.Version.{Version}
 use Rattle.mv_deck.specs.declared.reading.Reading.{Reading}
 use Rattle.mv_deck.specs.Statement.{Statement}
 use Rattle.mv_deck.specs.Deck.{JobData, job_data, jobs_of, place_of, last_steps}
-use Rattle.mv_deck.specs.Fault.{is_null, is_job, first_of_list, fault_at, kind_number, has_bad_name, has_bad_number, is_misplaced}
+use Rattle.mv_deck.specs.Fault.{is_null, is_job, fault_at, kind_number, has_bad_name, has_bad_number, is_misplaced}
+use Rattle.mv_line.specs.Fault.{first_of_list}
 use Rattle.mv_deck.specs.Fault.{repeats_name, awaits_no_job, is_crowded}
 use Rattle.mv_deck.specs.Held.{held, latches, is_end}
 use Rattle.mv_deck.specs.Names.{place_in}

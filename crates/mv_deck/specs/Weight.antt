@@ -8,6 +8,10 @@ use Rattle.mv_deck.specs.Deck.{JobData}
 abbrev pub heaviest : ℕ
 heaviest = 524287
 
+-- how many initiators may run a deck
+abbrev pub most_initiators : ℕ
+most_initiators = 8
+
 -- the events of a step at most
 abbrev pub step_events : Step → ℕ
 step_events (Print text) = 0

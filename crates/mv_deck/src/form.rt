@@ -5,7 +5,9 @@ ghost use Rattle.std.specs.Borrow.{Bor};
 ghost use Rattle.mv_deck.specs.Form.{stated, part_data, listed};
 ghost use Rattle.mv_line.specs.Line.{lines_of, without_first_spaces as from_first_field};
 ghost use Rattle.mv_line.specs.Field.{fields_of, one_of, two_of};
-ghost use Rattle.mv_deck.specs.Statement.{Statement, form_of as form_by_words, job_of as named, operation_of as unnamed, use_of as used, return_of as returns_by, part_of as cut, declared_by, version_of as version_by_lines};
+ghost use Rattle.mv_deck.specs.Statement.{Statement, form_of as form_by_words, job_of as named, operation_of as unnamed};
+ghost use Rattle.mv_deck.specs.Statement.{use_of as used, return_of as returns_by, part_of as cut, declared_by};
+ghost use Rattle.mv_deck.specs.Statement.{version_of as version_by_lines};
 
 use crate::line::{is_comment, split_colon};
 use crate::operand::mode;

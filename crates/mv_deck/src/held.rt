@@ -3,7 +3,8 @@
 ghost use Rattle.std.specs.Prelude.{◌≡◌, ◌≤◌, ◌++◌, ◌∷◌, List, [], map, Option, None, drop, set, slice_index_or, is_some};
 ghost use Rattle.std.specs.List.{list_any};
 ghost use Rattle.mv_deck.specs.declared.deck.Step.{Step};
-ghost use Rattle.mv_deck.specs.Held.{held, latches, is_out_of_order as stands_out_of_order, lacks_latch as stands_without_latch, HasLatch};
+ghost use Rattle.mv_deck.specs.Held.{held, latches, is_out_of_order as stands_out_of_order, lacks_latch as stands_without_latch};
+ghost use Rattle.mv_deck.specs.Held.{HasNumberInRange};
 ghost use Rattle.mv_deck.specs.Operand.{highest_latch};
 
 use crate::Step;
@@ -24,7 +25,7 @@ impl Held {
 
     /// Whether a step uses a latch that is not above all that are held.
     pub(crate) fn is_out_of_order(&self, step: &Step) -> bool
-        requires { HasLatch step.now }
+        requires { HasNumberInRange step.now }
         ensures { (done : List Step) → self.now.modes ≡ map (held done) latches → result ≡ stands_out_of_order done step.now }
     {
         match step {
@@ -40,7 +41,7 @@ impl Held {
 
     /// Whether a step lacks the latch that it needs.
     pub(crate) fn lacks_latch(&self, step: &Step) -> bool
-        requires { HasLatch step.now }
+        requires { HasNumberInRange step.now }
         ensures { (done : List Step) → self.now.modes ≡ map (held done) latches → result ≡ stands_without_latch done step.now }
     {
         match step {
@@ -53,8 +54,9 @@ impl Held {
 
     /// Goes on behind a step.
     pub(crate) fn follow(&mut self, step: &Step)
-        requires { HasLatch step.now }
-        ensures { (done : List Step) → self.old.modes ≡ map (held done) latches → self.new.modes ≡ map (held (done ++ step.now ∷ [])) latches }
+        requires { HasNumberInRange step.now }
+        ensures { (done : List Step) → self.old.modes ≡ map (held done) latches
+            → self.new.modes ≡ map (held (done ++ step.now ∷ [])) latches }
     {
         match step {
             Step::Use(latch, mode) => self.set(*latch, Some(*mode)),

@@ -7,7 +7,7 @@ ghost use Rattle.mv_deck.specs.Fault.{first_fault};
 ghost use Rattle.mv_deck.specs.Faults.{HasFault, IsNoLater};
 ghost use Rattle.mv_deck.specs.Load.{most_jobs, load_text, load_jobs};
 ghost use Rattle.mv_deck.specs.Sound.{IsSound};
-ghost use Rattle.mv_deck.specs.Weight.{weight};
+ghost use Rattle.mv_deck.specs.Weight.{most_initiators, weight};
 
 /// The first fault is one that the text has, and no other comes before it by line and then by kind; there is none only
 /// where the text has no fault.
@@ -28,8 +28,9 @@ pub fn decks_are_sound()
 pub fn loads_can_be_run()
     ensures jobs { (n : ℕ) → 1 ≤ n → n ≤ most_jobs → deck_of (load_text n) ≡ load_jobs n }
     ensures count { (n : ℕ) → length (load_jobs n) ≡ n }
-    ensures fault { (n initiators : ℕ) → 1 ≤ n → n ≤ most_jobs → initiators ≤ 8 → first_fault (load_text n) initiators ≡ None }
-    ensures sound { (n initiators : ℕ) → 1 ≤ n → n ≤ most_jobs → initiators ≤ 8 → IsSound (deck_of (load_text n)) initiators }
-    ensures weight { (n initiators : ℕ) → n ≤ most_jobs → initiators ≤ 8 → weight (load_jobs n) initiators < 300000 }
+    ensures fault { (n initiators : ℕ) → 1 ≤ n → n ≤ most_jobs → initiators ≤ most_initiators
+        → first_fault (load_text n) initiators ≡ None }
+    ensures sound { (n initiators : ℕ) → 1 ≤ n → n ≤ most_jobs → initiators ≤ most_initiators → IsSound (deck_of (load_text n)) initiators }
+    ensures weight { (n initiators : ℕ) → n ≤ most_jobs → initiators ≤ most_initiators → weight (load_jobs n) initiators < 300000 }
     ensures bytes { (n : ℕ) → n ≤ most_jobs → length (load_text n) < 200000 }
 {}

@@ -1,7 +1,9 @@
 //! The deck of a load, written line by line (`specs/Load.antt`).
 
 ghost use Rattle.std.specs.Prelude.{◌≡◌, ◌<◌, ◌≤◌, ◌++◌, decimal, flat_map, OnOk, IfOk};
-ghost use Rattle.mv_deck.specs.Load.{most_jobs, volume_of, counted_by, digit_of, four_digits as digits_of_four, load_name, after_text, job_line, count_line, scan_lines, print_line, last_line, job_lines, ended, load_text};
+ghost use Rattle.mv_deck.specs.Load.{most_jobs, volume_of, counted_by, digit_of, four_digits as digits_of_four, load_name};
+ghost use Rattle.mv_deck.specs.Load.{after_text, job_line, count_line, scan_lines, print_line, last_line, job_lines, ended};
+ghost use Rattle.mv_deck.specs.Load.{load_text};
 
 use itoa::Buffer;
 use mv_io::NoMemory;

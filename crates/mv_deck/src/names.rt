@@ -63,7 +63,8 @@ impl<'a> Names<'a> {
         name: &'a [u8],
         place: u32,
     ) -> Result<(), AllocFailed<(&'a [u8], u32)>>
-        ensures { OnOk result ((other : List ℕ) → place_in self.new other ≡ (if bytes_eq name.now other then Some place else place_in self.old other)) }
+        ensures { OnOk result ((other : List ℕ)
+            → place_in self.new other ≡ (if bytes_eq name.now other then Some place else place_in self.old other)) }
     {
         self.places.insert(name, place)?;
         Ok(())

@@ -1,21 +1,33 @@
 //! The first fault of a text by the definitions alone (`specs/Fault.antt`, `specs/Deck.antt`), with nothing kept from line to
 //! line, for the tests to compare `read_deck` with.
 
-ghost use Rattle.std.specs.Prelude.{◌≡◌, ◌<◌, ◌≤◌, ◌-◌, ◌+◌, ◌^◌, ◌++◌, List, ℕ, length, map, take, is_none, is_some, Some, ◌||◌, ◌&&◌, not, IfOk, OnOk, IfSome, option_map, sum_by};
+ghost use Rattle.std.specs.Prelude.{◌≡◌, ◌<◌, ◌≤◌, ◌-◌, ◌+◌, ◌^◌, ◌++◌, List, ℕ, length, map, take, is_none, is_some, Some, ◌||◌};
+ghost use Rattle.std.specs.Prelude.{◌&&◌, not, IfOk, OnOk, IfSome, option_map, sum_by};
 ghost use Rattle.std.specs.List.{list_any, position};
 ghost use Rattle.std.specs.Str.{bytes_eq};
 ghost use Rattle.mv_deck.specs.declared.deck.Job.{Job};
 ghost use Rattle.mv_deck.specs.declared.form.Part.{Part};
 ghost use Rattle.mv_deck.specs.declared.form.Version.{Version};
-ghost use Rattle.mv_deck.specs.Deck.{job_data, jobs_behind, with_step, jobs_of as jobs_by_definition, fresh_job as fresh_by_definition, most_of as most_by_definition, place_of as place_by_definition, step_of as step_by_definition, last_steps as last_by_definition};
-ghost use Rattle.mv_deck.specs.Fault.{first_fault, first_of_list, kind_number, kinds_of, kinds_of_statement, fault_at, when, is_step_that, is_null as states_null, is_job as states_job, is_deck as states_deck, has_bad_name as names_badly, has_bad_number as numbers_badly, repeats_name as names_again, awaits_no_job as awaits_none, is_crowded as crowds, is_misplaced as stands_misplaced, is_behind_end as stands_behind_end, is_late_deck as comes_late, has_no_form as lacks_form, is_too_heavy as weighs_too_much};
+ghost use Rattle.mv_deck.specs.Deck.{job_data, jobs_behind, with_step, jobs_of as jobs_by_definition};
+ghost use Rattle.mv_deck.specs.Deck.{fresh_job as fresh_by_definition, most_of as most_by_definition};
+ghost use Rattle.mv_deck.specs.Deck.{place_of as place_by_definition, step_of as step_by_definition};
+ghost use Rattle.mv_deck.specs.Deck.{last_steps as last_by_definition};
+ghost use Rattle.mv_deck.specs.Fault.{first_fault, kind_number, kinds_of, kinds_of_statement, fault_at, when, is_step_that};
+ghost use Rattle.mv_deck.specs.Fault.{is_null as states_null, is_job as states_job, is_deck as states_deck};
+ghost use Rattle.mv_deck.specs.Fault.{has_bad_name as names_badly, has_bad_number as numbers_badly, repeats_name as names_again};
+ghost use Rattle.mv_deck.specs.Fault.{awaits_no_job as awaits_none, is_crowded as crowds, is_misplaced as stands_misplaced};
+ghost use Rattle.mv_deck.specs.Fault.{is_behind_end as stands_behind_end, is_late_deck as comes_late, has_no_form as lacks_form};
+ghost use Rattle.mv_deck.specs.Fault.{is_too_heavy as weighs_too_much};
+ghost use Rattle.mv_line.specs.Fault.{first_of_list};
 ghost use Rattle.mv_deck.specs.Form.{stated, part_data, bytes_behind};
-ghost use Rattle.mv_deck.specs.Held.{HasLatch, held as held_by_definition, held_behind as behind_by_definition, holds_from as holds_by_definition, is_out_of_order as steps_out_of_order, lacks_latch as steps_without_latch, is_end as ends_by};
+ghost use Rattle.mv_deck.specs.Held.{HasNumberInRange, held as held_by_definition, held_behind as behind_by_definition};
+ghost use Rattle.mv_deck.specs.Held.{holds_from as holds_by_definition, is_out_of_order as steps_out_of_order};
+ghost use Rattle.mv_deck.specs.Held.{lacks_latch as steps_without_latch, is_end as ends_by};
 ghost use Rattle.mv_line.specs.Line.{lines_of};
 ghost use Rattle.mv_deck.specs.Line.{is_passed as passes};
 ghost use Rattle.mv_deck.specs.Operand.{highest_latch};
 ghost use Rattle.mv_deck.specs.Statement.{statement_of as statement_of_line, statements_of};
-ghost use Rattle.mv_deck.specs.Weight.{weight as weight_by_definition, step_events as events_of_step};
+ghost use Rattle.mv_deck.specs.Weight.{most_initiators, weight as weight_by_definition, step_events as events_of_step};
 
 use crate::fault::Kind;
 use crate::form::{Form, Part, Version, form_of, parts_of, version_of};
@@ -37,7 +49,7 @@ pub(crate) fn plain_first_fault(
     initiators: u32,
 ) -> Result<Option<DeckFault>, AllocError>
     requires short { length bytes.now < 2 ^ 32 - 1 }
-    requires initiators { initiators ≤ 8 }
+    requires initiators { initiators ≤ most_initiators }
     ensures { IfOk result (λ f. f ≡ first_fault bytes.now initiators) }
 {
     let version = version_of(bytes);
@@ -136,8 +148,9 @@ fn kind_of_line(
     line: &[u8],
 ) -> Result<Option<Kind>, AllocError>
     requires few { length earlier.now < 2 ^ 32 }
-    requires initiators { initiators ≤ 8 }
-    ensures { IfOk result (λ kind. option_map kind_number kind ≡ first_of_list (kinds_of initiators version (map (stated version) earlier.now) line.now)) }
+    requires initiators { initiators ≤ most_initiators }
+    ensures { IfOk result (λ kind. option_map kind_number kind
+        ≡ first_of_list (kinds_of initiators version (map (stated version) earlier.now) line.now)) }
 {
     let form = statement(version, line);
     let kind = kind_of_form(alloc, version, initiators, earlier, form)?;
@@ -164,8 +177,9 @@ fn kind_of_form(
     form: Option<Form>,
 ) -> Result<Option<Kind>, AllocError>
     requires few { length earlier.now < 2 ^ 32 }
-    requires initiators { initiators ≤ 8 }
-    ensures { IfOk result (λ kind. option_map kind_number kind ≡ first_of_list (kinds_of_statement initiators (map (stated version) earlier.now) (option_map (stated version) form.entry))) }
+    requires initiators { initiators ≤ most_initiators }
+    ensures { IfOk result (λ kind. option_map kind_number kind
+        ≡ first_of_list (kinds_of_statement initiators (map (stated version) earlier.now) (option_map (stated version) form.entry))) }
 {
     match form {
         Some(form) => kind_of_statement(alloc, version, initiators, earlier, form),
@@ -182,8 +196,9 @@ fn kind_of_statement(
     form: Form,
 ) -> Result<Option<Kind>, AllocError>
     requires few { length earlier.now < 2 ^ 32 }
-    requires initiators { initiators ≤ 8 }
-    ensures { IfOk result (λ kind. option_map kind_number kind ≡ first_of_list (kinds_of_statement initiators (map (stated version) earlier.now) (Some (stated version form.entry)))) }
+    requires initiators { initiators ≤ most_initiators }
+    ensures { IfOk result (λ kind. option_map kind_number kind
+        ≡ first_of_list (kinds_of_statement initiators (map (stated version) earlier.now) (Some (stated version form.entry)))) }
 {
     let made = jobs_of(alloc, version, earlier)?;
     let jobs = made.as_slice();
@@ -286,7 +301,7 @@ fn is_crowded(alloc: Global, version: Version, form: Form) -> Result<bool, Alloc
 // The step that a statement is, where its numbers and codes are good.
 fn step_of(alloc: Global, form: Form) -> Result<Option<Step>, AllocError>
     ensures step { IfOk result (λ step. (v : Version) → step ≡ step_by_definition (stated v form.entry)) }
-    ensures latch { IfOk result (λ step. IfSome step HasLatch) }
+    ensures latch { IfOk result (λ step. IfSome step HasNumberInRange) }
 {
     let step = match form {
         Form::Null | Form::Deck(_) | Form::Job(_, _) => None,
@@ -333,7 +348,8 @@ fn has_job(earlier: &[Form]) -> bool
 
 // Whether a statement may stand before the first JOB.
 fn may_begin(form: Form) -> bool
-    ensures { (v : Version) → result ≡ (states_job (stated v form.entry) || states_null (stated v form.entry) || states_deck (stated v form.entry)) }
+    ensures { (v : Version)
+        → result ≡ (states_job (stated v form.entry) || states_null (stated v form.entry) || states_deck (stated v form.entry)) }
 {
     matches!(form, Form::Job(_, _) | Form::Null | Form::Deck(_))
 }
@@ -418,7 +434,7 @@ fn lacks_one(jobs: &[Job], parts: &[Part]) -> bool
 }
 
 fn uses_out_of_order(jobs: &[Job], step: &Option<Step>) -> bool
-    requires { IfSome step.now HasLatch }
+    requires { IfSome step.now HasNumberInRange }
     ensures { result ≡ is_step_that (steps_out_of_order (last_by_definition (map job_data jobs.now))) step.now }
 {
     match step {
@@ -448,8 +464,9 @@ fn is_too_heavy(
     form: Form,
 ) -> Result<bool, AllocError>
     requires few { length earlier.now < 2 ^ 32 }
-    requires initiators { initiators ≤ 8 }
-    ensures { IfOk result (λ b. b ≡ weighs_too_much initiators (jobs_by_definition (map (stated version) earlier.now)) (stated version form.entry)) }
+    requires initiators { initiators ≤ most_initiators }
+    ensures { IfOk result (λ b. b
+        ≡ weighs_too_much initiators (jobs_by_definition (map (stated version) earlier.now)) (stated version form.entry)) }
 {
     let mut jobs = jobs_of(alloc, version, earlier)?;
     follow(alloc, version, &mut jobs, form)?;
@@ -611,7 +628,7 @@ fn is_end(step: &Step) -> bool
 
 fn weight(jobs: &[Job], initiators: u32) -> u128
     requires few { length jobs.now ≤ 2 ^ 32 }
-    requires initiators { initiators ≤ 8 }
+    requires initiators { initiators ≤ most_initiators }
     ensures { result ≡ weight_by_definition (map job_data jobs.now) initiators }
 {
     let each = initiators as u128;

@@ -1,16 +1,17 @@
 //! The reader of decks: one pass over the bytes (`specs/Reading.antt`).
 
-ghost use Rattle.std.specs.Prelude.{◌≡◌, ◌<◌, ◌≤◌, ◌-◌, ◌+◌, ◌^◌, ◌++◌, List, [], ◌∷◌, ℕ, true, false, map, Some, length, option_to_list, MatchResult, IfOk, IfErr, OnOk, IsSome, if◌then◌else◌};
+ghost use Rattle.std.specs.Prelude.{◌≡◌, ◌<◌, ◌≤◌, ◌-◌, ◌+◌, ◌^◌, ◌++◌, List, [], ◌∷◌, ℕ, true, false, map, Some, length};
+ghost use Rattle.std.specs.Prelude.{option_to_list, MatchResult, IfOk, IfErr, OnOk, IsSome, if◌then◌else◌};
 ghost use Rattle.std.specs.Str.{bytes_eq};
 ghost use Rattle.mv_deck.specs.Deck.{JobData, job_data, deck_data, deck_of, jobs_of, place_of, fresh_job, step_of};
 ghost use Rattle.mv_deck.specs.Fault.{first_fault, TellsFirst, kinds_of, kinds_of_statement};
 ghost use Rattle.mv_deck.specs.Form.{stated, part_data, listed};
-ghost use Rattle.mv_deck.specs.Held.{HasLatch, held, latches, is_end as ends_by};
+ghost use Rattle.mv_deck.specs.Held.{HasNumberInRange, held, latches, is_end as ends_by};
 ghost use Rattle.mv_deck.specs.Names.{place_in};
 ghost use Rattle.mv_deck.specs.Reading.{IsBehind, IsGoodJob, Tells, jobs_read, refusal_at};
 ghost use Rattle.mv_deck.specs.Statement.{Statement, Null, DeckOf, JobOf, statement_of};
 ghost use Rattle.mv_deck.specs.Operand.{most_after};
-ghost use Rattle.mv_deck.specs.Weight.{heaviest};
+ghost use Rattle.mv_deck.specs.Weight.{heaviest, most_initiators};
 
 use crate::fault::{Kind, LineRefusal};
 use crate::form::{Form, Part, Version, form_of, parts_of, version_of};
@@ -46,7 +47,7 @@ use std::alloc::{AllocError, Global};
 /// ```
 pub fn read_deck(alloc: Global, bytes: &[u8], initiators: u32) -> Result<Deck, DeckRefusal>
     requires short { length bytes.now < 2 ^ 32 - 1 }
-    requires initiators { (1 ≤ initiators) × (initiators ≤ 8) }
+    requires initiators { (1 ≤ initiators) × (initiators ≤ most_initiators) }
 
     // What is read is the deck of a text without fault.
     ensures deck { IfOk result (λ d. (first_fault bytes.now initiators ≡ None) × (deck_data d ≡ deck_of bytes.now)) }
@@ -111,7 +112,7 @@ struct Reading<'a> {
 
 impl<'a> Reading<'a> {
     fn new(alloc: Global, initiators: u32, version: Version) -> Self
-        requires { initiators ≤ 8 }
+        requires { initiators ≤ most_initiators }
         ensures { IsBehind initiators version [] result }
     {
         Reading {
@@ -158,7 +159,8 @@ impl<'a> Reading<'a> {
     fn take(&mut self, form: Form<'a>) -> Result<(), LineRefusal>
         ensures { (n : ℕ) (v : Version) (earlier : List Statement) → IsBehind n v earlier self.old
             → MatchResult result
-            (λ _. (kinds_of_statement n earlier (Some (stated v form.entry)) ≡ []) × IsBehind n v (earlier ++ stated v form.entry ∷ []) self.new)
+            (λ _. (kinds_of_statement n earlier (Some (stated v form.entry)) ≡ [])
+            × IsBehind n v (earlier ++ stated v form.entry ∷ []) self.new)
             (λ e. Tells e (kinds_of_statement n earlier (Some (stated v form.entry)))) }
     {
         match form {
@@ -296,11 +298,13 @@ impl<'a> Reading<'a> {
         ensures jobs { (jobs : List JobData) → ((q : List ℕ) → place_in self.old.names q ≡ place_of jobs q) → jobs_read self.old ≡ jobs
             → OnOk result (jobs_read self.new ≡ jobs ++ fresh_job jobs name.now (map part_data parts.now) ∷ []) }
         ensures names { (jobs : List JobData) → jobs_read self.old ≡ jobs
-            → OnOk result ((q : List ℕ) → place_in self.new.names q ≡ (if bytes_eq name.now q then Some (length jobs) else place_in self.old.names q)) }
+            → OnOk result ((q : List ℕ)
+            → place_in self.new.names q ≡ (if bytes_eq name.now q then Some (length jobs) else place_in self.old.names q)) }
         ensures begun { OnOk result (IsSome self.new.name) }
         ensures held { OnOk result (self.new.held.modes ≡ map (held []) latches) }
         ensures flags { OnOk result ((self.new.closed ≡ false) × (self.new.stated ≡ true) × (self.new.ended ≡ self.old.ended)) }
-        ensures rest { OnOk result ((self.new.room ≡ self.old.room) × (self.new.initiators ≡ self.old.initiators) × (self.new.version ≡ self.old.version)) }
+        ensures rest { OnOk result ((self.new.room ≡ self.old.room) × (self.new.initiators ≡ self.old.initiators)
+            × (self.new.version ≡ self.old.version)) }
     {
         let after = self.names.after(self.alloc, parts)?;
         self.finish()?;
@@ -318,7 +322,7 @@ impl<'a> Reading<'a> {
 
     // Takes a step of the last job.
     fn take_step(&mut self, step: Step) -> Result<(), LineRefusal>
-        requires { HasLatch step }
+        requires { HasNumberInRange step }
         ensures { (n : ℕ) (v : Version) (earlier : List Statement) (s : Statement) → IsBehind n v earlier self.old → step_of s ≡ Some step
             → MatchResult result
             (λ _. (kinds_of_statement n earlier (Some s) ≡ []) × IsBehind n v (earlier ++ s ∷ []) self.new)
@@ -351,8 +355,10 @@ impl<'a> Reading<'a> {
     fn finish(&mut self) -> Result<(), AllocError>
         ensures jobs { OnOk result (map job_data self.new.finished.items ≡ jobs_read self.old) }
         ensures steps { OnOk result (self.new.steps.items ≡ []) }
-        ensures flags { OnOk result ((self.new.closed ≡ self.old.closed) × (self.new.stated ≡ self.old.stated) × (self.new.ended ≡ self.old.ended)) }
-        ensures rest { OnOk result ((self.new.room ≡ self.old.room) × (self.new.initiators ≡ self.old.initiators) × (self.new.version ≡ self.old.version) × (self.new.names ≡ self.old.names)) }
+        ensures flags { OnOk result ((self.new.closed ≡ self.old.closed) × (self.new.stated ≡ self.old.stated)
+            × (self.new.ended ≡ self.old.ended)) }
+        ensures rest { OnOk result ((self.new.room ≡ self.old.room) × (self.new.initiators ≡ self.old.initiators)
+            × (self.new.version ≡ self.old.version) × (self.new.names ≡ self.old.names)) }
         ensures bound { OnOk result (length self.new.finished.items ≤ length self.old.finished.items + 1) }
     {
         let steps = std::mem::replace(&mut self.steps, Vec::new(self.alloc));

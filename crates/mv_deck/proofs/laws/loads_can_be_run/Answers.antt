@@ -1,5 +1,4 @@
-use Rattle.std.proofs.Common.{arith, subst}
-use Rattle.mv_deck.specs.Sound.{IsSound}
+use Rattle.std.proofs.Common.{arith}
 use Rattle.mv_deck.specs.Load.{load_text}
 use Rattle.mv_deck.proofs.Sounds.{sound}
 use Rattle.mv_deck.proofs.LoadJobs.{count_of_jobs, load_is_light}

@@ -1,5 +1,5 @@
 use Rattle.std.proofs.Common.{map, option_map, ap, ◌∙◌}
-use Rattle.mv_deck.specs.Fault.{first_of_list}
+use Rattle.mv_line.specs.Fault.{first_of_list}
 use Rattle.mv_deck.specs.Form.{stated}
 use Rattle.mv_deck.proofs.Anew.{kinds_in}
 use Rattle.mv_deck.proofs.plain.kind_of_line.Goals as goal

@@ -1,7 +1,8 @@
 use Rattle.std.proofs.Common.{◌≡◌, List, [], map, refl, ap, ◌∙◌}
 use Rattle.mv_deck.specs.declared.form.Version.{Version}
 use Rattle.mv_deck.specs.Deck.{JobData, job_data, jobs_of, step_of, last_steps}
-use Rattle.mv_deck.specs.Fault.{first_of_list, is_behind_end, is_step_that, awaits_no_job, repeats_name}
+use Rattle.mv_deck.specs.Fault.{is_behind_end, is_step_that, awaits_no_job, repeats_name}
+use Rattle.mv_line.specs.Fault.{first_of_list}
 use Rattle.mv_deck.specs.Form.{stated}
 use Rattle.mv_deck.specs.Held.{is_out_of_order, lacks_latch}
 use Rattle.mv_deck.specs.Statement.{Statement}

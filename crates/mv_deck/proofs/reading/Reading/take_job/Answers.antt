@@ -2,7 +2,8 @@ use Rattle.std.proofs.Common.{◌≡◌, ◌+◌, ◌*◌, ◌-◌, ◌<◌, tru
 use Rattle.std.specs.Prelude.{nat_lt}
 use Rattle.std.proofs.lemmas.List.{length-map}
 use Rattle.mv_deck.specs.Deck.{jobs_of, fresh_job}
-use Rattle.mv_deck.specs.Fault.{kinds_of_statement, kinds_behind, first_of_list}
+use Rattle.mv_deck.specs.Fault.{kinds_of_statement, kinds_behind}
+use Rattle.mv_line.specs.Fault.{first_of_list}
 use Rattle.mv_deck.specs.Form.{part_data, listed}
 use Rattle.mv_deck.specs.Reading.{Tells, jobs_read}
 use Rattle.mv_deck.specs.Statement.{JobOf, AfterPart}

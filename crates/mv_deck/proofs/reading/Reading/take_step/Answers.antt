@@ -2,7 +2,7 @@ use Rattle.std.proofs.Common.{◌≡◌, ◌*◌, ◌<◌, ◌-◌, ◌+◌, fal
 use Rattle.std.specs.Prelude.{nat_lt}
 use Rattle.std.specs.List.{list_any}
 use Rattle.mv_deck.specs.Deck.{jobs_of, last_steps, with_step}
-use Rattle.mv_deck.specs.Fault.{first_of_list}
+use Rattle.mv_line.specs.Fault.{first_of_list}
 use Rattle.mv_deck.specs.Held.{is_end, is_out_of_order, lacks_latch}
 use Rattle.mv_deck.specs.Weight.{weight, heaviest, step_events}
 use Rattle.mv_deck.proofs.Steps.{is_step, is_outside}
