@@ -26,7 +26,7 @@ pub enum Note {
     JournalFailed,
     /// Memory ran out.
     NoMemory,
-    /// The entry on this line of the journal is not the machine's.
+    /// The entry on this line of the journal is not the machine's, or is not numbered as its call is.
     Illegal { line: u32 },
     /// The journal's text has this fault.
     JournalFault { line: u32, kind: u32 },

@@ -11,28 +11,31 @@ use Rattle.mv_deck.specs.EndCode.{not_run}
 use Rattle.mv_report.specs.Outcome.{own_end, some_unaccepted, end_behind, ends_from, ends}
 use Rattle.mv_report.proofs.Lengths.{one_end_per_job}
 
+-- the ends of jobs behind others
 ends_from-append : (es : List ℕ) (before behind : List JobData) → ends_from es (before ++ behind) ≡ ends_from (ends_from es before) behind
 ends_from-append es [] behind = refl
 ends_from-append es (job ∷ before) behind = ends_from-append (es ++ end_behind es job ∷ []) before behind
 
 -- the jobs behind change no end
-ends_stay : (es : List ℕ) (jobs : List JobData) (i : ℕ) → i < length es → get_or (ends_from es jobs) i 0 ≡ get_or es i 0
+pub ends_stay : (es : List ℕ) (jobs : List JobData) (i : ℕ) → i < length es → get_or (ends_from es jobs) i 0 ≡ get_or es i 0
 ends_stay es [] i lt = refl
 ends_stay es (job ∷ jobs) i lt =
     let more : i < length (es ++ end_behind es job ∷ []) = omega (arith, length-append es (end_behind es job ∷ [])) in
     ends_stay (es ++ end_behind es job ∷ []) jobs i more ∙ get_or_append_left es (end_behind es job ∷ []) 0 i lt
 
 -- what a part accepts goes by the end of its job alone
-same_unaccepted : (es fs : List ℕ) (parts : List After) → AllByRecursion (λ part. get_or es part.job 0 ≡ get_or fs part.job 0) parts
+pub same_unaccepted : (es fs : List ℕ) (parts : List After) → AllByRecursion (λ part. get_or es part.job 0 ≡ get_or fs part.job 0) parts
     → some_unaccepted es parts ≡ some_unaccepted fs parts
 same_unaccepted es fs [] same = refl
 same_unaccepted es fs (part ∷ parts) same = rw (same.0, same_unaccepted es fs parts same.1) refl
 
-known_ends : (es : List ℕ) (jobs : List JobData) (parts : List After) → AllByRecursion (λ part. part.job < length es) parts
+-- the ends of earlier jobs are those of the whole deck
+pub known_ends : (es : List ℕ) (jobs : List JobData) (parts : List After) → AllByRecursion (λ part. part.job < length es) parts
     → AllByRecursion (λ part. get_or es part.job 0 ≡ get_or (ends_from es jobs) part.job 0) parts
 known_ends es jobs [] below = tt
 known_ends es jobs (part ∷ parts) below = (sym (ends_stay es jobs part.job below.0), known_ends es jobs parts below.1)
 
+-- the end of the next job
 next_end : (es : List ℕ) (job : JobData) (behind : List JobData) → AllByRecursion (λ part. part.job < length es) job.after
     → get_or (ends_from es (job ∷ behind)) (length es) 0 ≡ end_behind (ends_from es (job ∷ behind)) job
 next_end es job behind below =

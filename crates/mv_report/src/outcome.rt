@@ -3,7 +3,9 @@
 
 ghost use Rattle.std.specs.Prelude.{◌≡◌, ℕ, ◌+◌, ◌<◌, ◌++◌, codes, decimal, map, slice_index, IfOk};
 ghost use Rattle.mv_deck.specs.Deck.{job_data, deck_data};
-ghost use Rattle.mv_report.specs.Outcome.{is_unaccepted, some_unaccepted, own_end, end_behind, ends, steps_with, lines_of_steps, lines, added_by, totals, held_of};
+ghost use Rattle.mv_deck.specs.Operand.{volume_count};
+ghost use Rattle.mv_report.specs.Outcome.{is_unaccepted, some_unaccepted, own_end, end_behind, ends, steps_with, lines_of_steps};
+ghost use Rattle.mv_report.specs.Outcome.{lines, added_by, totals, held_of};
 
 use crate::lines::Lines;
 use itoa::Buffer;
@@ -169,7 +171,7 @@ fn lines_of(alloc: Global, steps: &[Step]) -> Result<Lines, NoMemory>
 
 // Adds to each volume what some steps add to it.
 fn add_counts(volumes: &mut [u32; VOLUMES], steps: &[Step])
-    ensures { (volume : ℕ) → volume < 8
+    ensures { (volume : ℕ) → volume < volume_count
         → slice_index volumes.new volume ≡ held_of (slice_index volumes.old volume + added_by volume steps.now) }
 {
     for step in steps {

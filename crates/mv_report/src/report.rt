@@ -4,7 +4,8 @@ ghost use Rattle.std.specs.Prelude.{◌≡◌, ◌^◌, ◌<◌, ◌≤◌, ◌+
 ghost use Rattle.mv_deck.specs.Deck.{deck_data};
 ghost use Rattle.mv_deck.specs.EndCode.{lowest_abend, not_run};
 ghost use Rattle.mv_report.specs.EndCode.{IsEndCode, is_ended, is_abended, is_not_run};
-ghost use Rattle.mv_report.specs.Report.{digit, abend_text, outcome_text, lines_text, job_text, jobs_text, counts_text, volumes_text, closing_text, report_text};
+ghost use Rattle.mv_report.specs.Report.{digit, abend_text, outcome_text, lines_text, job_text, jobs_text, counts_text};
+ghost use Rattle.mv_report.specs.Report.{volumes_text, closing_text, report_text};
 
 use crate::end_code::{is_abended, is_ended, is_not_run};
 use crate::lines::Lines;
