@@ -1,5 +1,5 @@
 -- Decks and the configuration.
-pub mod Sound
+pub mod Plans
 pub mod Planned
 pub mod Events
 pub mod Codes

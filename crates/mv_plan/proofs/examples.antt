@@ -1,4 +1,5 @@
 -- Runs that are computed.
+pub mod Computed
 pub mod OneInitiator
 pub mod TwoInitiators
 pub mod Returns

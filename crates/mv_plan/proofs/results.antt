@@ -6,7 +6,7 @@ pub mod EndsPosted
 pub mod HandedOut
 pub mod CountsAlone
 pub mod Exclusive
-pub mod FewTurns
+pub mod FewRounds
 pub mod Foreseen
 pub mod SafeWalks
 pub mod NoneWrong

@@ -70,6 +70,7 @@ pub record IsHandedOut (deck : List JobData) (es : List Entry) (j : ℕ) : Type 
   pub released : released_codes j es ≡ right_code deck j ∷ []
   pub given : given_codes j es ≡ right_code deck j ∷ []
 
+-- every job is handed out, and nothing else is
 pub record AreHandedOut (deck : List JobData) (initiators : ℕ) (es : List Entry) : Type 0 where
   -- each job is handed out once
   pub jobs : (j : ℕ) → j < length deck → IsHandedOut deck es j

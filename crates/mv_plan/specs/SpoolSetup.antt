@@ -4,6 +4,7 @@ use Rattle.std.specs.Prelude.{ℕ, zero, suc, ◌+◌, ◌*◌, List, [], ◌∷
 use Rattle.std.specs.List.{range_with_len}
 use Rattle.mv_machine.specs.Setup.{Setup, SetupExit}
 use Rattle.mv_deck.specs.Deck.{JobData}
+use Rattle.mv_deck.specs.Operand.{volume_count}
 use Rattle.mv_deck.specs.Weight.{after_parts, all_events}
 
 -- the blocks, where there are n jobs: a job was entered
@@ -68,8 +69,8 @@ abbrev pub spool_setup : List JobData → ℕ → Setup
 spool_setup deck initiators = record {
   callers = initiators + 3;
   elements_per_caller = 1;
-  volumes = 8;
-  latches = 8;
+  volumes = volume_count;
+  latches = volume_count;
   quota = 8;
   posted_quota = 0;
   budgets = task_budgets deck initiators;

@@ -147,26 +147,26 @@ run_job c deck named =
     followed (job_done c (named.job + 1) (job_at deck named.job) named.skipped)
     (λ code. end_of_job c (named.job + 1) (done (length deck) named.job) code)
 
--- what follows a code that is not 0, where these jobs were named before and so many turns are left: it names another job
+-- what follows a code that is not 0, where these jobs were named before and so many rounds are left: it names another job
 abbrev pub named_by : {A : Type 0} → Option Named → List ℕ → ℕ → (Named → Call A) → Call A
-named_by None before turns f = wrong
+named_by None before rounds f = wrong
 named_by (Some named) before zero f = wrong
-named_by (Some named) before (suc turns) f = if list_any (λ j. j == named.job) before then wrong else f named
+named_by (Some named) before (suc rounds) f = if list_any (λ j. j == named.job) before then wrong else f named
 
--- the turns of an initiator: it says that it is idle and with which generation, and pauses; code 0 ends the turns and its
+-- the rounds of an initiator: it says that it is idle and with which generation, and pauses; code 0 ends the rounds and its
 -- element is given back, and any other code names a job, which is run
-abbrev pub turns : Setup → List JobData → ℕ → ℕ → List ℕ → Token → Call (List ℕ)
-turns c deck i zero before token = wrong
-turns c deck i (suc more) before token =
+abbrev pub rounds : Setup → List JobData → ℕ → ℕ → List ℕ → Token → Call (List ℕ)
+rounds c deck i zero before token = wrong
+rounds c deck i (suc more) before token =
     followed (post c (idle (length deck) i) token.generation) (λ posted.
     accepted (pause c token) (λ gift.
     if gift.code == 0 then accepted (deallocate c gift.next) (λ closed. finished [])
     else named_by (job_named (length deck) gift.code) before more (λ named.
-    followed (run_job c deck named) (λ counts. turns c deck i more (before ++ named.job ∷ []) gift.next))))
+    followed (run_job c deck named) (λ counts. rounds c deck i more (before ++ named.job ∷ []) gift.next))))
 
--- at most one turn for each job, and the last
+-- at most one round for each job, and the last
 abbrev pub initiating : Setup → List JobData → ℕ → Call (List ℕ)
-initiating c deck i = accepted (allocate c) (turns c deck i (length deck + 1) [])
+initiating c deck i = accepted (allocate c) (rounds c deck i (length deck + 1) [])
 
 -- ---- the writer waits for each job's end, in order, and keeps it
 

@@ -12,6 +12,7 @@ use Rattle.mv_deck.specs.Deck.{JobData}
 use Rattle.mv_plan.specs.SpoolSetup.{spool_setup, task_budgets}
 use Rattle.mv_plan.specs.SpoolTasks.{task_program}
 
+-- no task is ever stopped by its budget
 pub record IsWithinBudgets (deck : List JobData) (initiators : ℕ) (es : List Entry) : Type 0 where
   -- no caller has made more events than it may
   pub made : KeepsBudgets (spool_setup deck initiators) es

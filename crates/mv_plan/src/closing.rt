@@ -3,6 +3,7 @@
 
 ghost use Rattle.std.specs.Prelude.{◌≡◌, ◌<◌, ◌≤◌, ◌^◌, ℕ, IfOk, length, None, option_map};
 ghost use Rattle.mv_deck.specs.Deck.{deck_data};
+ghost use Rattle.mv_deck.specs.Operand.{volume_count};
 ghost use Rattle.mv_deck.specs.Sound.{IsSound};
 ghost use Rattle.mv_machine.specs.Legal.{after};
 ghost use Rattle.mv_machine.specs.State.{system_of, Exists};
@@ -11,15 +12,13 @@ ghost use Rattle.mv_plan.specs.SpoolRun.{IsRun};
 ghost use Rattle.mv_plan.specs.SpoolSetup.{spool_setup};
 ghost use Rattle.mv_report.specs.Outcome.{ends as ends_of_deck, lines as lines_of_deck, totals};
 
+use crate::spool_setup::VOLUMES;
 use mv_deck::Deck;
 use mv_ecb::EcbOp;
 use mv_io::NoMemory;
 use mv_machine::{Entry, Object, Op, State, ValidConfig};
 use mv_report::{Lines, outcome_of};
 use std::alloc::Global;
-
-// How many volumes there are.
-const VOLUMES: u32 = 8;
 
 /// What a run of a deck came to, job by job in the order of the deck.
 #[derive(Drop)]
@@ -90,7 +89,7 @@ pub fn ends_of(alloc: Global, jobs: u32, journal: &[Entry]) -> Result<Vec<u32>, 
 ///
 /// `NoMemory` where there is no room for them.
 pub fn volumes_of(alloc: Global, state: &State) -> Result<Vec<u32>, NoMemory>
-    requires volumes { (volume : ℕ) → volume < 8 → Exists state.now (Object.Volume volume) }
+    requires volumes { (volume : ℕ) → volume < volume_count → Exists state.now (Object.Volume volume) }
     ensures numbers { IfOk result (λ volumes. volumes.items ≡ numbers (system_of state.now)) }
 {
     let mut volumes = Vec::with_capacity(alloc, VOLUMES as usize)?;
@@ -120,7 +119,7 @@ pub fn spool_run(
     requires config { config ≡ spool_setup (deck_data deck.now) initiators }
     requires run { IsRun (deck_data deck.now) initiators journal.items }
     requires state { system_of state.now ≡ after (spool_setup (deck_data deck.now) initiators) journal.items }
-    requires volumes { (volume : ℕ) → volume < 8 → Exists state.now (Object.Volume volume) }
+    requires volumes { (volume : ℕ) → volume < volume_count → Exists state.now (Object.Volume volume) }
     ensures config { IfOk result (λ run. run.config ≡ config) }
     ensures journal { IfOk result (λ run. run.journal.items ≡ journal.items) }
     ensures ends { IfOk result (λ run. run.ends.items ≡ ends_of_deck (deck_data deck.now)) }

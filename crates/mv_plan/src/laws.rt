@@ -9,6 +9,7 @@ ghost use Rattle.mv_plan.specs.Purging.{ArePurged};
 ghost use Rattle.mv_plan.specs.HandingOut.{AreHandedOut};
 ghost use Rattle.mv_deck.specs.Deck.{JobData};
 ghost use Rattle.mv_deck.specs.Sound.{IsSound};
+ghost use Rattle.mv_deck.specs.Weight.{most_initiators};
 ghost use Rattle.mv_calls.specs.Program.{Done, Wrong};
 ghost use Rattle.mv_calls.specs.Runs.{left_in};
 ghost use Rattle.mv_plan.specs.SpoolRun.{Follows, IsRun};
@@ -19,7 +20,7 @@ ghost use Rattle.mv_plan.specs.StayingWithin.{IsWithinBudgets};
 /// No rule of configurations refuses that of a deck which one to eight initiators can run.
 pub fn spool_setups_are_valid()
     ensures { (deck : List JobData) (initiators : ℕ)
-        → 1 ≤ initiators → initiators ≤ 8 → IsSound deck initiators → IsValid (spool_setup deck initiators) }
+        → 1 ≤ initiators → initiators ≤ most_initiators → IsSound deck initiators → IsValid (spool_setup deck initiators) }
 {}
 
 /// No task meets a reply that its program does not foresee.

@@ -6,7 +6,7 @@ ghost use Rattle.mv_machine.specs.Config.{exit_of};
 ghost use Rattle.mv_deck.specs.Deck.{job_data, deck_data};
 ghost use Rattle.mv_deck.specs.Sound.{IsSound};
 ghost use Rattle.mv_deck.specs.Weight.{step_events as events_of_step, all_events as events_of_jobs, after_parts as parts_of_jobs};
-ghost use Rattle.mv_deck.specs.Weight.{heaviest, weight};
+ghost use Rattle.mv_deck.specs.Weight.{heaviest, most_initiators, weight};
 ghost use Rattle.mv_plan.specs.SpoolSetup.{spool_setup, task_budgets, block_owners, end_exit};
 
 use mv_deck::{Deck, Job, Step};
@@ -20,8 +20,8 @@ const SCHEDULER: u32 = 1;
 // How many callers there are beside the initiators: the reader, the scheduler and the writer.
 const OTHER_TASKS: u32 = 3;
 
-// How many volumes there are, how many latches, and how many latches a job may hold at once.
-const VOLUMES: u32 = 8;
+// How many volumes there are, each with a latch; and how many latches a job may hold at once.
+pub(crate) const VOLUMES: u32 = 8;
 
 // At most how many events a step makes.
 fn step_events(step: &Step) -> u32
@@ -93,7 +93,7 @@ fn budgets_of(alloc: Global, deck: &Deck, initiators: u32) -> Result<Vec<u32>, N
 // The owner of each block.
 fn owners_of(alloc: Global, jobs: u32, initiators: u32) -> Result<Vec<u32>, NoMemory>
     requires few { jobs < 2 ^ 28 }
-    requires initiators { initiators ≤ 8 }
+    requires initiators { initiators ≤ most_initiators }
     ensures { IfOk result (λ owners. owners.items ≡ block_owners jobs initiators) }
 {
     let count = jobs as usize;
@@ -138,7 +138,7 @@ fn exits_of(alloc: Global, jobs: u32) -> Result<Vec<Exit>, NoMemory>
 /// ```
 pub fn spool_config(alloc: Global, deck: &Deck, initiators: u32) -> Result<ValidConfig, NoMemory>
     requires some { 1 ≤ initiators }
-    requires few { initiators ≤ 8 }
+    requires few { initiators ≤ most_initiators }
     requires sound { IsSound (deck_data deck.now) initiators }
     ensures setup { IfOk result (λ config. config ≡ spool_setup (deck_data deck.now) initiators) }
 {

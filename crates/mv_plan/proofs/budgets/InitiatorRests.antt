@@ -1,5 +1,5 @@
 -- How many events an initiator may still make, by its point: the events of each job that it was not named before, and those of
--- the turn in which it is; and that each event takes one of them. Used by Within.
+-- the round in which it is; and that each event takes one of them. Used by Within.
 use Rattle.std.proofs.Common.{◌≡◌, ℕ, zero, suc, ◌+◌, ◌*◌, ◌<◌, ◌≤◌, ◌==◌, nat_le, nat_lt, ◌&&◌, ◌||◌, ◌^◌, Bool, true, false}
 use Rattle.std.proofs.Common.{if◌then◌else◌}
 use Rattle.std.proofs.Common.{List, [], ◌∷◌, ◌++◌, length, Option, Some, None, refl, ap, subst, arith, ◌-◌}
@@ -20,38 +20,38 @@ use Rattle.mv_plan.specs.SpoolTasks.{Named, job_named, not_to_run}
 use Rattle.mv_plan.proofs.points.Points.{Point, At, Astray, Running, Hand, empty_hand, hand_with, hand_without, InitiatorAt, Opening}
 use Rattle.mv_plan.proofs.points.Points.{Offering, Pausing, Resuming, Obtaining, Confirming, Freeing, Reading, Writing, Scanning}
 use Rattle.mv_plan.proofs.points.Points.{Rescanning, Purging, EndingJob, EndingForScheduler, EndingForWriter, Closing, initiator_goes}
-use Rattle.mv_plan.proofs.points.Points.{turns_from, turns_after, freeing_at, steps_at, running, job_start, named_at, given_at}
+use Rattle.mv_plan.proofs.points.Points.{rounds_from, rounds_after, freeing_at, steps_at, running, job_start, named_at, given_at}
 use Rattle.mv_plan.proofs.points.Points.{counting_at}
 use Rattle.mv_plan.proofs.points.PostsAndWaits.{on_posted_keeps}
 use Rattle.mv_plan.proofs.volumes.Sums.{sum_to, sum_front, sum_change}
 
 -- ---- jobs that were not named before
 
--- the events of the turn of a job
-abbrev turn_events : List JobData → ℕ → ℕ
-turn_events deck j = 7 + steps_events (job_at deck j).steps
+-- the events of the round of a job
+abbrev round_events : List JobData → ℕ → ℕ
+round_events deck j = 7 + steps_events (job_at deck j).steps
 
 -- whether a job was named before
 abbrev is_among : ℕ → List ℕ → Bool
 is_among j before = list_any (λ b. b == j) before
 
 -- the events of a job that was not
-abbrev turn_to_come : List JobData → List ℕ → ℕ → ℕ
-turn_to_come deck before j = if is_among j before then 0 else turn_events deck j
+abbrev round_to_come : List JobData → List ℕ → ℕ → ℕ
+round_to_come deck before j = if is_among j before then 0 else round_events deck j
 
--- the turns of the jobs that were not named before
-abbrev pub turns_to_come : List JobData → List ℕ → ℕ
-turns_to_come deck before = sum_to (length deck) (turn_to_come deck before)
+-- the rounds of the jobs that were not named before
+abbrev pub rounds_to_come : List JobData → List ℕ → ℕ
+rounds_to_come deck before = sum_to (length deck) (round_to_come deck before)
 
--- naming a job takes its turn from those to come
-pub turn_taken : (deck : List JobData) (before : List ℕ) (j : ℕ) → j < length deck → is_among j before ≡ false
-    → turns_to_come deck (before ++ j ∷ []) + turn_events deck j ≡ turns_to_come deck before
-turn_taken deck before j lt new =
-    let change : turns_to_come deck (before ++ j ∷ []) + turn_to_come deck before j ≡ turns_to_come deck before
-    + turn_to_come deck (before ++ j ∷ []) j =
-    sum_change (length deck) j (turn_to_come deck before) (turn_to_come deck (before ++ j ∷ [])) lt others in
-    let was : turn_to_come deck before j ≡ turn_events deck j = ap (λ b. if b then 0 else turn_events deck j) new in
-    let is : turn_to_come deck (before ++ j ∷ []) j ≡ 0 = ap (λ b. if b then 0 else turn_events deck j) (own before) in
+-- naming a job takes its round from those to come
+pub round_taken : (deck : List JobData) (before : List ℕ) (j : ℕ) → j < length deck → is_among j before ≡ false
+    → rounds_to_come deck (before ++ j ∷ []) + round_events deck j ≡ rounds_to_come deck before
+round_taken deck before j lt new =
+    let change : rounds_to_come deck (before ++ j ∷ []) + round_to_come deck before j ≡ rounds_to_come deck before
+    + round_to_come deck (before ++ j ∷ []) j =
+    sum_change (length deck) j (round_to_come deck before) (round_to_come deck (before ++ j ∷ [])) lt others in
+    let was : round_to_come deck before j ≡ round_events deck j = ap (λ b. if b then 0 else round_events deck j) new in
+    let is : round_to_come deck (before ++ j ∷ []) j ≡ 0 = ap (λ b. if b then 0 else round_events deck j) (own before) in
     omega arith where
       own : (before : List ℕ) → is_among j (before ++ j ∷ []) ≡ true
       own [] = rw (eq-eqb j j refl) refl
@@ -64,16 +64,16 @@ turn_taken deck before j lt new =
       same [] m d = rw (ne_eqb j m d) refl
       same (b ∷ before) m d = rw (same before m d) refl
 
-      others : (m : ℕ) → (j ≡ m → ⊥) → turn_to_come deck (before ++ j ∷ []) m ≡ turn_to_come deck before m
-      others m d = ap (λ b. if b then 0 else turn_events deck m) (same before m d)
+      others : (m : ℕ) → (j ≡ m → ⊥) → round_to_come deck (before ++ j ∷ []) m ≡ round_to_come deck before m
+      others m d = ap (λ b. if b then 0 else round_events deck m) (same before m d)
 
--- the turns of all jobs
-pub all_turns : (deck : List JobData) → turns_to_come deck [] ≡ 7 * length deck + all_events deck
-all_turns [] = refl
-all_turns (job ∷ jobs) =
-    let front : turns_to_come (job ∷ jobs) [] ≡ (7 + steps_events job.steps) + turns_to_come jobs [] =
-    sum_front (length jobs) (turn_to_come (job ∷ jobs) []) in
-    let rest : turns_to_come jobs [] ≡ 7 * length jobs + all_events jobs = all_turns jobs in omega arith
+-- the rounds of all jobs
+pub all_rounds : (deck : List JobData) → rounds_to_come deck [] ≡ 7 * length deck + all_events deck
+all_rounds [] = refl
+all_rounds (job ∷ jobs) =
+    let front : rounds_to_come (job ∷ jobs) [] ≡ (7 + steps_events job.steps) + rounds_to_come jobs [] =
+    sum_front (length jobs) (round_to_come (job ∷ jobs) []) in
+    let rest : rounds_to_come jobs [] ≡ 7 * length jobs + all_events jobs = all_rounds jobs in omega arith
 
 -- a code names one of the jobs
 pub named_below : (n code : ℕ) (named : Named) → job_named n code ≡ Some named → named.job < n
@@ -102,14 +102,14 @@ named_below n code named e = go (nat_le 1 code && nat_le code n) (nat_le (1 + no
 module _ (deck : List JobData) where
   -- behind the job that it runs
   abbrev behind_job : Running → ℕ
-  behind_job run = 4 + turns_to_come deck (run.before ++ run.job ∷ [])
+  behind_job run = 4 + rounds_to_come deck (run.before ++ run.job ∷ [])
 
   -- what an initiator may still do
   abbrev pub initiator_rest : Point InitiatorAt → ℕ
-  initiator_rest (At Opening) = 5 + turns_to_come deck []
-  initiator_rest (At (Offering more before g)) = 4 + turns_to_come deck before
-  initiator_rest (At (Pausing more before g)) = 3 + turns_to_come deck before
-  initiator_rest (At (Resuming more before g)) = 2 + turns_to_come deck before
+  initiator_rest (At Opening) = 5 + rounds_to_come deck []
+  initiator_rest (At (Offering more before g)) = 4 + rounds_to_come deck before
+  initiator_rest (At (Pausing more before g)) = 3 + rounds_to_come deck before
+  initiator_rest (At (Resuming more before g)) = 2 + rounds_to_come deck before
   initiator_rest (At (Obtaining run hand latch mode steps)) = 6 + (steps_events steps + behind_job run)
   initiator_rest (At (Confirming run hand latch mode id steps)) = 5 + (steps_events steps + behind_job run)
   initiator_rest (At (Freeing run hand latch id steps)) = 5 + (steps_events steps + behind_job run)
@@ -124,10 +124,10 @@ module _ (deck : List JobData) where
   initiator_rest (At (Closing g)) = 1
   initiator_rest p = 0
 
-  -- where a turn begins
-  turns_rest : (more : ℕ) (before : List ℕ) (g : ℕ) → initiator_rest (turns_from more before g) ≤ 4 + turns_to_come deck before
-  turns_rest zero before g = omega arith
-  turns_rest (suc more) before g = omega arith
+  -- where a round begins
+  rounds_rest : (more : ℕ) (before : List ℕ) (g : ℕ) → initiator_rest (rounds_from more before g) ≤ 4 + rounds_to_come deck before
+  rounds_rest zero before g = omega arith
+  rounds_rest (suc more) before g = omega arith
 
   -- where a latch is to be freed
   freeing_rest : (run : Running) (hand : Hand) (latch : ℕ) (slot : Option ℕ) (steps : List Step)
@@ -159,27 +159,27 @@ module _ (deck : List JobData) where
 
   -- where a code names a job
   named_rest : (slot : Option Named) (before : List ℕ) (more g : ℕ) → ((named : Named) → slot ≡ Some named → named.job < length deck)
-      → initiator_rest (named_at deck slot before more g) ≤ 1 + turns_to_come deck before
+      → initiator_rest (named_at deck slot before more g) ≤ 1 + rounds_to_come deck before
   named_rest None before more g below = omega arith
   named_rest (Some named) before zero g below = omega arith
   named_rest (Some named) before (suc more) g below = go (is_among named.job before) refl where
     go : (b : Bool) → is_among named.job before ≡ b
         → initiator_rest (if b then Astray else job_start named.skipped (running named before (suc more) g) (job_at deck named.job))
-        ≤ 1 + turns_to_come deck before
+        ≤ 1 + rounds_to_come deck before
     go true e = omega arith
     go false e =
         let le : initiator_rest (job_start named.skipped (running named before (suc more) g) (job_at deck named.job))
         ≤ 4 + (steps_events (job_at deck named.job).steps + behind_job (running named before (suc more) g)) =
         start_rest named.skipped (running named before (suc more) g) (job_at deck named.job) in
-        let taken : turns_to_come deck (before ++ named.job ∷ []) + turn_events deck named.job ≡ turns_to_come deck before =
-        turn_taken deck before named.job (below named refl) e in omega arith
+        let taken : rounds_to_come deck (before ++ named.job ∷ []) + round_events deck named.job ≡ rounds_to_come deck before =
+        round_taken deck before named.job (below named refl) e in omega arith
 
   -- where a code was given
   given_rest : (more : ℕ) (before : List ℕ) (code g : ℕ)
-      → initiator_rest (given_at deck more before code g) ≤ 1 + turns_to_come deck before
+      → initiator_rest (given_at deck more before code g) ≤ 1 + rounds_to_come deck before
   given_rest more before code g = elim (code == 0) as
       (λ b. initiator_rest (if b then At (Closing g) else named_at deck (job_named (length deck) code) before more g)
-      ≤ 1 + turns_to_come deck before) [
+      ≤ 1 + rounds_to_come deck before) [
         | true ↦ omega arith
         | false ↦ named_rest (job_named (length deck) code) before more g (λ named e. named_below (length deck) code named e)
       ]
@@ -199,18 +199,18 @@ module _ (deck : List JobData) where
   paying d le enough = omega arith
 
   -- behind a job
-  after_rest : (run : Running) → initiator_rest (turns_after run) ≤ behind_job run
-  after_rest run = turns_rest run.more (run.before ++ run.job ∷ []) run.generation
+  after_rest : (run : Running) → initiator_rest (rounds_after run) ≤ behind_job run
+  after_rest run = rounds_rest run.more (run.before ++ run.job ∷ []) run.generation
 
   -- each event takes one
   pub initiator_pays : (x : InitiatorAt) (r : Reply) → suc (initiator_rest (initiator_goes deck x r)) ≤ initiator_rest (At x)
-  initiator_pays Opening (reply_of.Element (element_reply.Opened g)) = paying _ (turns_rest (length deck + 1) [] g) (omega arith)
+  initiator_pays Opening (reply_of.Element (element_reply.Opened g)) = paying _ (rounds_rest (length deck + 1) [] g) (omega arith)
   initiator_pays Opening r = omega arith
   initiator_pays (Offering more before g) r =
-      on_posted_keeps (λ p. suc (initiator_rest p) ≤ 4 + turns_to_come deck before) (At (Pausing more before g)) r
+      on_posted_keeps (λ p. suc (initiator_rest p) ≤ 4 + rounds_to_come deck before) (At (Pausing more before g)) r
       (omega arith) (omega arith)
   initiator_pays (Pausing more before g) (reply_of.Element (element_reply.Given code now)) =
-      let le : initiator_rest (given_at deck more before code now) ≤ 1 + turns_to_come deck before = given_rest more before code now in
+      let le : initiator_rest (given_at deck more before code now) ≤ 1 + rounds_to_come deck before = given_rest more before code now in
       omega arith
   initiator_pays (Pausing more before g) (reply_of.Element element_reply.Parked) = omega arith
   initiator_pays (Pausing more before g) r = omega arith
@@ -245,17 +245,17 @@ module _ (deck : List JobData) where
   initiator_pays (Purging run hand code) r = omega arith
   initiator_pays (EndingJob run code counts) (reply_of.Ecb (ecb_reply.Woke (suc x))) = omega arith
   initiator_pays (EndingJob run code counts) (reply_of.Ecb (ecb_reply.Woke zero)) =
-      let le : initiator_rest (turns_after run) ≤ behind_job run = after_rest run in omega arith
+      let le : initiator_rest (rounds_after run) ≤ behind_job run = after_rest run in omega arith
   initiator_pays (EndingJob run code counts) (reply_of.Ecb ecb_reply.Posted) =
-      let le : initiator_rest (turns_after run) ≤ behind_job run = after_rest run in omega arith
+      let le : initiator_rest (rounds_after run) ≤ behind_job run = after_rest run in omega arith
   initiator_pays (EndingJob run code counts) (reply_of.Ecb (ecb_reply.Already old)) =
-      let le : initiator_rest (turns_after run) ≤ behind_job run = after_rest run in omega arith
+      let le : initiator_rest (rounds_after run) ≤ behind_job run = after_rest run in omega arith
   initiator_pays (EndingJob run code counts) r = omega arith
   initiator_pays (EndingForScheduler run code counts) r =
       on_posted_keeps (λ p. suc (initiator_rest p) ≤ 2 + behind_job run) (At (EndingForWriter run code counts)) r
       (omega arith) (omega arith)
   initiator_pays (EndingForWriter run code counts) r =
-      on_posted_keeps (λ p. suc (initiator_rest p) ≤ 1 + behind_job run) (turns_after run) r
+      on_posted_keeps (λ p. suc (initiator_rest p) ≤ 1 + behind_job run) (rounds_after run) r
       (paying _ (after_rest run) (omega arith)) (omega arith)
   initiator_pays (Closing g) (reply_of.Element element_reply.Closed) = omega arith
   initiator_pays (Closing g) r = omega arith

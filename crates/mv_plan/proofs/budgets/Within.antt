@@ -17,7 +17,7 @@ use Rattle.mv_calls.specs.Program.{asks}
 use Rattle.mv_calls.specs.Runs.{left_in}
 use Rattle.mv_machine.proofs.Objects.{of-append}
 use Rattle.mv_deck.specs.Deck.{JobData}
-use Rattle.mv_plan.proofs.deck.Sound.{IsSound}
+use Rattle.mv_plan.proofs.deck.Plans.{IsPlanned}
 use Rattle.mv_deck.specs.Weight.{after_parts, all_events}
 use Rattle.mv_plan.proofs.deck.Events as events
 use Rattle.mv_plan.specs.SpoolRun.{Follows}
@@ -36,7 +36,7 @@ use Rattle.mv_plan.proofs.walks.Histories.{Stood, stood}
 use Rattle.mv_plan.proofs.walks.Walks.{Points, start_points, Move, reads, schedules, initiates, writes, walk_keeps}
 use Rattle.mv_plan.proofs.budgets.Rests.{reader_rest, reader_pays, entering_rest, scheduler_rest, scheduler_pays, stage_starts, jobs_rest}
 use Rattle.mv_plan.proofs.budgets.Rests.{jobs_rest_is, writer_rest, writer_pays, writing_rest}
-use Rattle.mv_plan.proofs.budgets.InitiatorRests.{initiator_rest, initiator_pays, all_turns, turns_to_come}
+use Rattle.mv_plan.proofs.budgets.InitiatorRests.{initiator_rest, initiator_pays, all_rounds, rounds_to_come}
 
 -- ---- how a caller's part grows by an entry
 
@@ -101,7 +101,7 @@ module _ (deck : List JobData) (initiators : ℕ) where
         jobs_rest_is (length deck) initiators deck in
         let parts : after_parts deck ≡ events.after_parts deck = events.after_parts_are deck in omega arith;
     by_initiator = λ i lt.
-        let e : turns_to_come deck [] ≡ 7 * length deck + events.all_events deck = all_turns deck in
+        let e : rounds_to_come deck [] ≡ 7 * length deck + events.all_events deck = all_rounds deck in
         let same : all_events deck ≡ events.all_events deck = events.all_events_are deck in omega arith;
     by_writer =
         let le : writer_rest (writing_from (length deck) 0 (length deck) []) ≤ 2 * length deck =
@@ -179,7 +179,7 @@ module _ (deck : List JobData) (initiators : ℕ) where
   abbrev some_reply : Reply
   some_reply = reply_of.Ecb ecb_reply.Posted
 
-  module _ (some : 1 ≤ initiators) (sound : IsSound deck initiators) (es : List Entry) (follows : Follows deck initiators es) where
+  module _ (some : 1 ≤ initiators) (sound : IsPlanned deck initiators) (es : List Entry) (follows : Follows deck initiators es) where
     st : Stood deck initiators some sound es
     st = stood deck initiators some sound es follows
 

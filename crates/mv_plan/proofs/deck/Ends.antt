@@ -2,96 +2,55 @@
 -- codes to name them; the budgets of all tasks are the weight. Used by the layer of ends, by totals, and by all results.
 use Rattle.std.proofs.Common.{◌≡◌, ℕ, zero, suc, ◌+◌, ◌*◌, ◌<◌, ◌≤◌, List, [], ◌∷◌, ◌++◌, length, get_or, replicate, sum, if◌then◌else◌}
 use Rattle.std.proofs.Common.{refl, sym, ap, ◌∙◌, subst, arith, add-zero, zero-add, ◌==◌, Bool, true, false, cond}
-use Rattle.std.specs.List.{AllByRecursion}
-use Rattle.std.proofs.lemmas.List.{get_or_append_left, length-append}
+use Rattle.std.specs.Prelude.{All, take, drop}
+use Rattle.std.proofs.lemmas.List.{length-take-le, set-get_or, set_split}
+use Rattle.std.proofs.lemmas.List.Elements.{All-from_recursion}
 use Rattle.std.specs.List.{sum_by}
 use Rattle.std.proofs.lemmas.List.Folds.{sum_by-replicate}
 use Rattle.std.proofs.lemmas.List.Sums.{sum_by-cons, sum_by_push}
-use Rattle.std.proofs.Math.Seq.{get_or-append_seam}
 use Rattle.mv_deck.specs.Deck.{JobData}
-use Rattle.mv_deck.specs.declared.deck.After.{After}
 use Rattle.mv_deck.specs.declared.deck.Step.{Step}
 use Rattle.mv_deck.specs.declared.deck.Step.TheVariants.{Print, Use, Free, Count, Scan, Abend, Return}
-use Rattle.mv_plan.specs.Jobs.{job_at, end_of}
-use Rattle.mv_plan.proofs.deck.Sound.{IsSoundJob, AreSoundJobs, IsSound, Held}
+use Rattle.mv_plan.specs.Jobs.{no_job, job_at, end_of}
+use Rattle.mv_plan.proofs.deck.Plans.{IsPlannedJob, ArePlannedJobs, IsPlanned, Held}
 use Rattle.mv_deck.specs.Weight.{weight, all_events, after_parts}
-use Rattle.mv_plan.proofs.deck.Sound.{AreSoundSteps}
+use Rattle.mv_plan.proofs.deck.Plans.{ArePlannedSteps}
 use Rattle.mv_deck.specs.EndCode.{not_run}
-use Rattle.mv_report.specs.Outcome.{some_unaccepted, own_end, end_behind, ends_from, ends}
+use Rattle.mv_report.specs.Outcome.{some_unaccepted, own_end, end_behind, ends}
+use Rattle.mv_report.proofs.Ends.{ends_by_accepted_codes}
 use Rattle.mv_plan.specs.SpoolTasks.{not_to_run}
 use Rattle.mv_plan.specs.SpoolSetup.{task_budgets}
 use Rattle.std.proofs.lemmas.Bool.{eq-eqb, ne_eqb}
 
-one_longer : (es : List ℕ) (x : ℕ) → length (es ++ x ∷ []) ≡ length es + 1
-one_longer es x = length-append es (x ∷ [])
-
--- the ends of the jobs behind change none of those before
-pub ends_front : (es : List ℕ) (jobs : List JobData) (i : ℕ) → i < length es → get_or (ends_from es jobs) i 0 ≡ get_or es i 0
-ends_front es [] i lt = refl
-ends_front es (job ∷ jobs) i lt =
-    ends_front (es ++ end_behind es job ∷ []) jobs i
-    (let e : length (es ++ end_behind es job ∷ []) ≡ length es + 1 = one_longer es (end_behind es job) in omega arith)
-    ∙ get_or_append_left es (end_behind es job ∷ []) 0 i lt
-
-pub length-ends_from : (es : List ℕ) (jobs : List JobData) → length (ends_from es jobs) ≡ length es + length jobs
-length-ends_from es [] = sym (add-zero (length es))
-length-ends_from es (job ∷ jobs) =
-    let e : length (es ++ end_behind es job ∷ []) ≡ length es + 1 = one_longer es (end_behind es job) in
-    let f : length (ends_from (es ++ end_behind es job ∷ []) jobs) ≡ length (es ++ end_behind es job ∷ []) + length jobs =
-    length-ends_from (es ++ end_behind es job ∷ []) jobs in
-    omega arith
-
--- whether one of these parts is unaccepted goes by the ends of its jobs alone
-same_failed : (es fs : List ℕ) (parts : List After) → AllByRecursion (λ p. get_or es p.job 0 ≡ get_or fs p.job 0) parts
-    → some_unaccepted es parts ≡ some_unaccepted fs parts
-same_failed es fs [] same = refl
-same_failed es fs (p ∷ parts) same = rw (same.0, same_failed es fs parts same.1) refl
-
-behind_front : (es : List ℕ) (jobs : List JobData) (parts : List After) → AllByRecursion (λ p. p.job < length es) parts
-    → AllByRecursion (λ p. get_or es p.job 0 ≡ get_or (ends_from es jobs) p.job 0) parts
-behind_front es jobs [] below = tt
-behind_front es jobs (p ∷ parts) below = (sym (ends_front es jobs p.job below.0), behind_front es jobs parts below.1)
-
-same_end : (es fs : List ℕ) (job : JobData) → some_unaccepted es job.after ≡ some_unaccepted fs job.after
-    → end_behind es job ≡ end_behind fs job
-same_end es fs job e = ap (λ b. if b then not_run else own_end job.steps) e
-
--- a job's end goes by the ends of the whole deck
-end_behind_is : (es : List ℕ) (jobs : List JobData) (j : ℕ) → j < length jobs
-    → AllByRecursion (λ p. p.job < length es + j) (job_at jobs j).after
-    → get_or (ends_from es jobs) (length es + j) 0 ≡ end_behind (ends_from es jobs) (job_at jobs j)
-end_behind_is es [] j lt below = absurd (omega arith)
-end_behind_is es (job ∷ jobs) zero lt below =
-    ap (λ i. get_or (ends_from (es ++ end_behind es job ∷ []) jobs) i 0) (add-zero (length es))
-    ∙ ends_front (es ++ end_behind es job ∷ []) jobs (length es)
-    (let e : length (es ++ end_behind es job ∷ []) ≡ length es + 1 = one_longer es (end_behind es job) in omega arith)
-    ∙ get_or-append_seam es (end_behind es job) [] 0
-    ∙ same_end es (ends_from es (job ∷ jobs)) job
-    (same_failed es (ends_from es (job ∷ jobs)) job.after
-    (behind_front es (job ∷ jobs) job.after (subst (λ m. AllByRecursion (λ p. p.job < m) job.after) (add-zero (length es)) below)))
-end_behind_is es (job ∷ jobs) (suc j) lt below =
-    let e : length (es ++ end_behind es job ∷ []) ≡ length es + 1 = one_longer es (end_behind es job) in
-    let f : length es + suc j ≡ length (es ++ end_behind es job ∷ []) + j = omega arith in
-    ap (λ i. get_or (ends_from (es ++ end_behind es job ∷ []) jobs) i 0) f
-    ∙ end_behind_is (es ++ end_behind es job ∷ []) jobs j (omega arith)
-    (subst (λ m. AllByRecursion (λ p. p.job < m) (job_at jobs j).after) f below)
-
 -- the job of each number in a sound deck is sound
-pub sound_job : (from : ℕ) (jobs : List JobData) (j : ℕ) → AreSoundJobs from jobs → j < length jobs → IsSoundJob (from + j) (job_at jobs j)
+pub sound_job : (from : ℕ) (jobs : List JobData) (j : ℕ) → ArePlannedJobs from jobs → j < length jobs
+    → IsPlannedJob (from + j) (job_at jobs j)
 sound_job from [] j sound lt = absurd (omega arith)
-sound_job from (job ∷ jobs) zero sound lt = subst (λ k. IsSoundJob k job) (sym (add-zero from)) sound.0
+sound_job from (job ∷ jobs) zero sound lt = subst (λ k. IsPlannedJob k job) (sym (add-zero from)) sound.0
 sound_job from (job ∷ jobs) (suc j) sound lt =
-    subst (λ k. IsSoundJob k (job_at jobs j)) (let e : from + 1 + j ≡ from + suc j = omega arith in e)
+    subst (λ k. IsPlannedJob k (job_at jobs j)) (let e : from + 1 + j ≡ from + suc j = omega arith in e)
     (sound_job (from + 1) jobs j sound.1 (omega arith))
+
+-- a deck is the jobs before one of its jobs, that job, and those behind it
+around : (deck : List JobData) (j : ℕ) → j < length deck → deck ≡ take j deck ++ job_at deck j ∷ drop (suc j) deck
+around deck j lt = sym (set-get_or deck j no_job) ∙ set_split deck j (job_at deck j) lt
 
 -- in a deck whose jobs wait for earlier ones: a job is not run exactly where the end of one that it waits for is not accepted,
 -- and ends by its first ABEND or RETURN otherwise
-pub end_is : (deck : List JobData) (j : ℕ) → AreSoundJobs 0 deck → j < length deck → end_of deck j ≡ end_behind (ends deck) (job_at deck j)
-end_is deck j sound lt = ap (λ i. get_or (ends deck) i 0) (sym (zero-add j))
-    ∙ end_behind_is [] deck j lt (sound_job 0 deck j sound lt).earlier
+pub end_is : (deck : List JobData) (j : ℕ) → ArePlannedJobs 0 deck → j < length deck
+    → end_of deck j ≡ end_behind (ends deck) (job_at deck j)
+end_is deck j sound lt =
+    let job : JobData = job_at deck j in
+    let count : length (take j deck) ≡ j = length-take-le j deck (omega arith) in
+    let earlier : All (λ part. part.job < length (take j deck)) job.after =
+    subst (λ n. All (λ part. part.job < n) job.after) (zero-add j ∙ sym count)
+    (All-from_recursion (λ part. part.job < 0 + j) job.after (sound_job 0 deck j sound lt).earlier) in
+    ap (λ n. get_or (ends deck) n 0) (sym count)
+    ∙ subst (λ d. get_or (ends d) (length (take j deck)) 0 ≡ end_behind (ends d) job) (sym (around deck j lt))
+    (ends_by_accepted_codes (take j deck) (drop (suc j) deck) job earlier)
 
 -- a deck that is sound has few jobs, so that codes can name them
-pub few_jobs : (deck : List JobData) (initiators : ℕ) → IsSound deck initiators → length deck ≤ not_to_run
+pub few_jobs : (deck : List JobData) (initiators : ℕ) → IsPlanned deck initiators → length deck ≤ not_to_run
 few_jobs deck initiators sound = let w : weight deck initiators ≤ 524287 = sound.light in omega arith
 
 -- the budgets of all tasks sum to the weight
@@ -118,7 +77,7 @@ abbrev pub is_skipped : List JobData → ℕ → Bool
 is_skipped deck j = some_unaccepted (ends deck) (job_at deck j).after
 
 -- what a job's steps end with is below the end of a job that is not run
-pub own_end_below : (steps : List Step) (held : List Held) → AreSoundSteps held steps → own_end steps < not_run
+pub own_end_below : (steps : List Step) (held : List Held) → ArePlannedSteps held steps → own_end steps < not_run
 own_end_below [] held s = omega arith
 own_end_below (Print text ∷ steps) held s = own_end_below steps held s
 own_end_below (Use latch mode ∷ steps) held s = own_end_below steps _ s.2
@@ -129,7 +88,7 @@ own_end_below (Abend code ∷ steps) held s = s.1
 own_end_below (Return code ∷ steps) held s = let le : code ≤ 4095 = s.0 in omega arith
 
 -- a job is not to be run exactly where its end is the not-run end
-pub skipped_ends : (deck : List JobData) (j : ℕ) → AreSoundJobs 0 deck → j < length deck → is_skipped deck j ≡ (end_of deck j == not_run)
+pub skipped_ends : (deck : List JobData) (j : ℕ) → ArePlannedJobs 0 deck → j < length deck → is_skipped deck j ≡ (end_of deck j == not_run)
 skipped_ends deck j sound lt = go (is_skipped deck j) refl where
   below : own_end (job_at deck j).steps < not_run
   below = own_end_below (job_at deck j).steps [] (sound_job 0 deck j sound lt).steps
@@ -144,7 +103,7 @@ skipped_ends deck j sound lt = go (is_skipped deck j) refl where
       (job_at deck j).steps < not_run = below in absurd (omega arith)))
 
 -- what an initiator ends a job with, by whether it was told to run it, is the job's end
-pub end_by_mark : (deck : List JobData) (j : ℕ) (skipped : Bool) → AreSoundJobs 0 deck → j < length deck → skipped ≡ is_skipped deck j
+pub end_by_mark : (deck : List JobData) (j : ℕ) (skipped : Bool) → ArePlannedJobs 0 deck → j < length deck → skipped ≡ is_skipped deck j
     → (if skipped then not_run else own_end (job_at deck j).steps) ≡ end_of deck j
 end_by_mark deck j skipped sound lt e =
     sym (end_is deck j sound lt ∙ ap (λ b. if b then not_run else own_end (job_at deck j).steps) (sym e))

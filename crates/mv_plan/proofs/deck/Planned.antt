@@ -17,7 +17,7 @@ use Rattle.mv_deck.specs.declared.deck.Step.TheVariants.{Print, Use, Free, Count
 use Rattle.mv_deck.specs.Deck.{JobData}
 use Rattle.mv_deck.specs.Held.{held, held_behind, holds_from, latches, is_exclusive, is_end}
 use Rattle.mv_deck.specs.Sound as deck
-use Rattle.mv_plan.proofs.deck.Sound.{Held, is_held, is_held_alone, AreSoundSteps, IsSoundJob, AreSoundJobs, IsSound}
+use Rattle.mv_plan.proofs.deck.Plans.{Held, is_held, is_held_alone, ArePlannedSteps, IsPlannedJob, ArePlannedJobs, IsPlanned}
 
 -- how a list says that a latch is held
 abbrev mode_in : List Held → ℕ → Option Mode
@@ -216,7 +216,7 @@ ended done step (next ∷ steps) e s = absurd (false≢true (sym s.0.before_end 
     either false = refl
 
 -- the steps
-planned_steps : (hs : List Held) (done steps : List Step) → Lists hs done → deck.AreSoundSteps done steps → AreSoundSteps hs steps
+planned_steps : (hs : List Held) (done steps : List Step) → Lists hs done → deck.AreSoundSteps done steps → ArePlannedSteps hs steps
 planned_steps hs done [] x s = tt
 planned_steps hs done (Print text ∷ steps) x s =
     planned_steps hs (done ++ Print text ∷ []) steps (same_lists hs done (Print text) (λ l m. refl) x) s.1
@@ -272,10 +272,10 @@ all_accepted j [] a = tt
 all_accepted j (part ∷ parts) a = (a.0.1, all_accepted j parts a.1)
 
 -- the jobs
-planned_jobs : (before jobs : List JobData) (j : ℕ) → length before ≡ j → deck.AreSoundJobs before jobs → AreSoundJobs j jobs
+planned_jobs : (before jobs : List JobData) (j : ℕ) → length before ≡ j → deck.AreSoundJobs before jobs → ArePlannedJobs j jobs
 planned_jobs before [] j e s = tt
 planned_jobs before (job ∷ jobs) j e s = (
-  subst (λ k. IsSoundJob k job) e (record {
+  subst (λ k. IsPlannedJob k job) e (record {
     few = s.0.few;
     distinct = distinct_jobs job.after s.0.distinct;
     earlier = all_earlier (length before) job.after s.0.earlier;
@@ -287,5 +287,5 @@ planned_jobs before (job ∷ jobs) j e s = (
 )
 
 -- the deck
-pub planned : (jobs : List JobData) (initiators : ℕ) → deck.IsSound jobs initiators → IsSound jobs initiators
+pub planned : (jobs : List JobData) (initiators : ℕ) → deck.IsSound jobs initiators → IsPlanned jobs initiators
 planned jobs initiators sound = record { jobs = planned_jobs [] jobs 0 refl sound.jobs_stand; light = sound.light }

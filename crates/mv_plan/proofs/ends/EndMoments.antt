@@ -9,7 +9,7 @@ use Rattle.mv_machine.specs.declared.entry.Op.TheVariants as op_on
 use Rattle.mv_machine.specs.Setup.{Setup}
 use Rattle.mv_machine.specs.System.{System}
 use Rattle.mv_deck.specs.Deck.{JobData}
-use Rattle.mv_plan.proofs.deck.Sound.{IsSound}
+use Rattle.mv_plan.proofs.deck.Plans.{IsPlanned}
 use Rattle.mv_plan.specs.SpoolSetup.{done, idle, reader, scheduler, initiator, writer}
 use Rattle.mv_plan.proofs.points.Points.{Point, At, Finished, TooSoon, Astray, ReaderAt, reader_asks, SchedulerAt, scheduler_asks}
 use Rattle.mv_plan.proofs.points.Points.{writer_asks, Running, InitiatorAt, Offering, EndingJob, EndingForScheduler, EndingForWriter}
@@ -27,8 +27,8 @@ use Rattle.mv_plan.proofs.ends.Awaited.{initiator_ecb}
 use Rattle.mv_plan.proofs.ends.RightCodes.{Codes, reader_releases, scheduler_releases, initiator_releases, writer_releases}
 use Rattle.mv_plan.proofs.ends.WhoPosts.{offers, ends_job, ends_scheduler, ends_writer, post_by, posts_run}
 use Rattle.mv_plan.proofs.ends.Posted.{Posted, NotDone, NotToScheduler, NotToWriter, DoneBlocks, extended_at, entered_from, next_extended}
-use Rattle.mv_plan.proofs.ends.Posted.{reader_is, reader_ends, scheduler_no_post, scheduler_clears, writer_no_post, writer_no_clear}
-use Rattle.mv_plan.proofs.ends.Posted.{no_clear}
+use Rattle.mv_plan.proofs.ends.Posted.{reader_is, reader_ends, scheduler_no_post, scheduler_clears, writer_no_post, writer_clears_none}
+use Rattle.mv_plan.proofs.ends.Posted.{clear_is_no_post}
 use Rattle.mv_plan.proofs.ends.Traces.{Traces, traces_next}
 use Rattle.mv_plan.proofs.walks.Moves.{KeepsUnder, by_moves, block}
 use Rattle.mv_plan.proofs.points.Views.{run_of, next_job, IsNotLost}
@@ -61,7 +61,7 @@ done_extended n s (Finished a) j going h lt less = (h j lt).0 lt
 done_extended n s TooSoon j going h lt less = absurd going
 done_extended n s Astray j going h lt less = absurd going
 
-module _ (deck : List JobData) (initiators : ℕ) (sound : IsSound deck initiators) where
+module _ (deck : List JobData) (initiators : ℕ) (sound : IsPlanned deck initiators) where
   -- an initiator's post finds its block not complete
   pub initiator_free : (s : System) (t : Points) (i : ℕ) (x : InitiatorAt) → EndMoment deck initiators s t → i < initiators
       → t.initiators i ≡ At x
@@ -126,8 +126,8 @@ module _ (deck : List JobData) (initiators : ℕ) (sound : IsSound deck initiato
       (λ s t past i x p r lt at n q h. traces_next deck initiators sound c s (initiator i) p (initiator_asks (length deck) i x).0
       (initiator_asks (length deck) i x).1 r past n h q.codes.blocks
       (initiator_releases deck initiators sound i x) (initiator_free s t i x q lt at) (initiator_extended s t i x q lt at)
-      (λ j b below has o op. no_clear (initiator_ecb deck initiators i x ecb_op.Clear op).1))
+      (λ j b below has o op. clear_is_no_post (initiator_ecb deck initiators i x ecb_op.Clear op).1))
       (λ s t past x p r at n q h. traces_next deck initiators sound c s (writer initiators) p (writer_asks x).0
       (writer_asks x).1 r past n h q.codes.blocks (writer_releases deck initiators sound x)
       (λ b d o op. absurd (writer_no_post x d op)) (λ j d lt o op. absurd (writer_no_post x d op))
-      (λ j b lt has o op. writer_no_clear x op))
+      (λ j b lt has o op. writer_clears_none x op))

@@ -3,7 +3,6 @@
 use Rattle.std.proofs.Common.{◌≡◌, ℕ, zero, suc, ◌+◌, ◌<◌, ◌≤◌, Bool, List, [], ◌∷◌, length, Some, ◌⊎◌, inl, inr, refl, sym, ap, ◌∙◌}
 use Rattle.std.proofs.Common.{subst, arith}
 use Rattle.std.proofs.lemmas.Bool.{cases_eq}
-use Rattle.mv_ecb.specs.declared.operation.EcbOp.{EcbOp}
 use Rattle.mv_ecb.specs.declared.operation.EcbOp.TheVariants as ecb_op
 use Rattle.mv_ecb.specs.declared.operation.EcbReply.TheVariants as ecb_reply
 use Rattle.mv_ecb.specs.Table.{ecb_step}
@@ -37,15 +36,16 @@ use Rattle.mv_plan.proofs.points.InitiatorSound.{IsInitiatorAt, named_is}
 use Rattle.mv_plan.proofs.places.Places.{Places, Coming, Run}
 use Rattle.mv_plan.proofs.ends.Blocks.{HasEnd, done_has, scheduler_has, writer_has, entered_none, idle_none, paused_code, resumed_code}
 use Rattle.mv_plan.proofs.walks.Stands.{Standing}
-use Rattle.mv_plan.proofs.ends.Complete.{IsComplete, NotComplete, block_moved, complete_moved, not_moved, is_moved, held_moved}
+use Rattle.mv_plan.proofs.ends.Complete.{IsComplete, NotComplete, BlockAfter, block_moved, moved_there, complete_moved, not_moved, is_moved}
+use Rattle.mv_plan.proofs.ends.Complete.{held_moved}
 use Rattle.mv_plan.proofs.points.Stages.{ByStage, Begins, stage_map, stage_goes}
 use Rattle.mv_plan.proofs.ends.Awaited.{IsIn, in_seam, awaited_plain, initiator_ecb}
 use Rattle.mv_plan.proofs.points.SchedulerNext.{AllNext, goes_next, next_grows}
 use Rattle.mv_plan.proofs.deck.Codes.{code_parts, never_zero}
 use Rattle.mv_plan.proofs.ends.WhoPosts.{offers, ends_job, ends_scheduler, ends_writer, post_by, initiator_no_release, run_below}
 use Rattle.mv_plan.proofs.ends.WhoPosts.{posts_run, posts_no_entered, NotEnding, plain_posts, ended_stage, scheduler_stage, writer_stage}
-use Rattle.mv_plan.proofs.walks.Moves.{KeepsUnder, by_moves, entry_of, block, element, block_reply, element_reply, turned_there}
-use Rattle.mv_plan.proofs.walks.Moves.{turned_elsewhere}
+use Rattle.mv_plan.proofs.walks.Moves.{KeepsUnder, by_moves, entry_of, block, element, block_reply, element_reply, changed_there}
+use Rattle.mv_plan.proofs.walks.Moves.{same_elsewhere}
 use Rattle.mv_machine.proofs.Histories.{with_at-same, with_at-other}
 use Rattle.mv_plan.proofs.points.Views.{code_held, run_of, next_job, next_in}
 
@@ -81,6 +81,15 @@ NotToScheduler n s j = NotComplete s (end_for_scheduler n j) × IsComplete s (do
 abbrev pub NotToWriter : ℕ → System → ℕ → Type 0
 NotToWriter n s j = NotComplete s (end_for_writer n j) × IsComplete s (end_for_scheduler n j)
 
+-- so of the job that an initiator runs, by how far its end was posted
+abbrev pub EndStage : ℕ → System → Point InitiatorAt → Type 0
+EndStage n s = ByStage (NotDone n s) (NotToScheduler n s) (NotToWriter n s)
+
+-- a job's ends are posted in this order
+abbrev pub IsInOrder : ℕ → System → ℕ → Type 0
+IsInOrder n s j = (IsComplete s (end_for_scheduler n j) → IsComplete s (done n j))
+    × (IsComplete s (end_for_writer n j) → IsComplete s (end_for_scheduler n j))
+
 pub record Posted (deck : List JobData) (initiators : ℕ) (s : System) (t : Points) : Type 0 where
   -- a job's entered block is not complete before the reader posts it
   pub entering : (j : ℕ) → j < length deck → entered_from (length deck) t.reader ≤ j → NotComplete s (entered j)
@@ -88,11 +97,8 @@ pub record Posted (deck : List JobData) (initiators : ℕ) (s : System) (t : Poi
   pub coming : (j : ℕ) → j < length deck → next_job (length deck) t.scheduler ≤ j → NotDone (length deck) s j
   pub handed : (i j : ℕ) (skipped : Bool) → i < initiators → j < length deck
       → code_held (element s (initiator i)) ≡ Some (code_of j skipped) → NotDone (length deck) s j
-  pub stages : (i : ℕ) → i < initiators
-      → ByStage (NotDone (length deck) s) (NotToScheduler (length deck) s) (NotToWriter (length deck) s) (t.initiators i)
-  -- the ends are posted in this order
-  pub order : (j : ℕ) → j < length deck → (IsComplete s (end_for_scheduler (length deck) j) → IsComplete s (done (length deck) j))
-      × (IsComplete s (end_for_writer (length deck) j) → IsComplete s (end_for_scheduler (length deck) j))
+  pub stages : (i : ℕ) → i < initiators → EndStage (length deck) s (t.initiators i)
+  pub order : (j : ℕ) → j < length deck → IsInOrder (length deck) s j
   pub blocks : DoneBlocks (length deck) s t.scheduler
 
 abbrev pub HasPlaces : List JobData → ℕ → System → Points → List Entry → Type 0
@@ -123,12 +129,12 @@ pub writer_no_post : (x : WriterAt) (d : ℕ) → (writer_asks x).1 ≡ op_on.Ec
 writer_no_post (Keeping k more kept (Arming e todo)) d q = cc q
 writer_no_post (Keeping k more kept (Settling e todo found)) d q = cc q
 
-pub writer_no_clear : (x : WriterAt) → (writer_asks x).1 ≡ op_on.Ecb ecb_op.Clear → ⊥
-writer_no_clear (Keeping k more kept (Arming e todo)) q = cc q
-writer_no_clear (Keeping k more kept (Settling e todo found)) q = cc q
+pub writer_clears_none : (x : WriterAt) → (writer_asks x).1 ≡ op_on.Ecb ecb_op.Clear → ⊥
+writer_clears_none (Keeping k more kept (Arming e todo)) q = cc q
+writer_clears_none (Keeping k more kept (Settling e todo found)) q = cc q
 
-pub no_clear : {d : ℕ} → ecb_op.Clear ≡ ecb_op.Post d → ⊥
-no_clear e = cc e
+pub clear_is_no_post : {d : ℕ} → ecb_op.Clear ≡ ecb_op.Post d → ⊥
+clear_is_no_post e = cc e
 
 posted_step : (d : ℕ) (v : EcbState) → (code : ℕ) × ((ecb_step (ecb_op.Post d) v).0 ≡ Complete code)
 posted_step d Zero = (d, refl)
@@ -136,14 +142,10 @@ posted_step d Waiting = (d, refl)
 posted_step d (Extended y) = (d, refl)
 posted_step d (Complete c) = (c, refl)
 
-pub posted_complete : (s : System) (k b d : ℕ) → IsComplete (moved s k (Ecb b) (op_on.Ecb (ecb_op.Post d))) b
-posted_complete s k b d = let c : (code : ℕ) × ((ecb_step (ecb_op.Post d) (block s b)).0 ≡ Complete code) = posted_step d (block s b) in
-    (c.0, turned_there s.ecb b (ecb_step (ecb_op.Post d) (block s b)).0 b refl ∙ c.1)
-
 posted_is : (s : System) (k : ℕ) (o : Object) (op : Op) (b d : ℕ) → o ≡ Ecb b → op ≡ op_on.Ecb (ecb_op.Post d)
     → IsComplete (moved s k o op) b
-posted_is s k o op b d e f = subst (λ z. IsComplete (moved s k z op) b) (sym e)
-    (subst (λ z. IsComplete (moved s k (Ecb b) z) b) (sym f) (posted_complete s k b d))
+posted_is s k o op b d e f = let c : (code : ℕ) × ((ecb_step (ecb_op.Post d) (block s b)).0 ≡ Complete code) = posted_step d (block s b) in
+    (c.0, moved_there s k b o op (ecb_op.Post d) e f ∙ c.1)
 
 -- a job that is given was in the initiator's element
 begins_plain : (deck : List JobData) (Q R S : ℕ → Type 0) (c : Setup) (s : System) (i : ℕ) (x : InitiatorAt) (p : ℕ) (r : Reply)
@@ -185,6 +187,18 @@ done_map n s s' (Finished answer) f h = f n (omega arith) h
 done_map n s s' TooSoon f h = tt
 done_map n s s' Astray f h = tt
 
+-- a stage stays where each block with an end of the job stays as it was, complete or not
+stage_stays : (n : ℕ) (s s' : System) (p : Point InitiatorAt)
+    → ((run : Running) → run_of p ≡ Some run → (b : ℕ) → HasEnd n run.job b
+    → (NotComplete s b → NotComplete s' b) × (IsComplete s b → IsComplete s' b)) → EndStage n s p → EndStage n s' p
+stage_stays n s s' p stays =
+    stage_map (NotDone n s) (NotToScheduler n s) (NotToWriter n s) (NotDone n s') (NotToScheduler n s') (NotToWriter n s') p
+    (λ run e. (
+      λ f. (stays run e _ (done_has refl)).0 f,
+      λ f. ((stays run e _ (scheduler_has refl)).0 f.0, (stays run e _ (done_has refl)).1 f.1),
+      λ f. ((stays run e _ (writer_has refl)).0 f.0, (stays run e _ (scheduler_has refl)).1 f.1),
+    ))
+
 module _ (deck : List JobData) (initiators : ℕ) where
   -- ---- an initiator's event
 
@@ -192,15 +206,18 @@ module _ (deck : List JobData) (initiators : ℕ) where
       (at : t.initiators i ≡ At x)
       (next : IsNext c s (entry_of (initiator i) p (initiator_asks (length deck) i x) r)) (q : HasPlaces deck initiators s t past)
       (h : Posted deck initiators s t) where
+    abbrev asks : Object × Op
+    asks = initiator_asks (length deck) i x
+
     abbrev i_after : System
-    i_after = moved s (initiator i) (initiator_asks (length deck) i x).0 (initiator_asks (length deck) i x).1
+    i_after = moved s (initiator i) asks.0 asks.1
 
     stands : IsInitiatorAt deck (At x)
     stands = subst (IsInitiatorAt deck) at (q.0.each i lt)
 
     -- it posts the end of the job that it runs alone
-    own_end_posted : (j b code : ℕ) → j < length deck → HasEnd (length deck) j b → (initiator_asks (length deck) i x).0 ≡ Ecb b
-        → (initiator_asks (length deck) i x).1 ≡ op_on.Ecb (ecb_op.Post code) → q.1.place j ≡ Run i
+    own_end_posted : (j b code : ℕ) → j < length deck → HasEnd (length deck) j b → asks.0 ≡ Ecb b
+        → asks.1 ≡ op_on.Ecb (ecb_op.Post code) → q.1.place j ≡ Run i
     own_end_posted j b code below has o op =
         let w : (run : Running) × (run_of (At x) ≡ Some run) × (run.job ≡ j) =
         posts_run deck i x j b stands below has (post_by (length deck) i x b (ecb_op.Post code) o op) in
@@ -209,136 +226,118 @@ module _ (deck : List JobData) (initiators : ℕ) where
     others_end : (j b : ℕ) → j < length deck → HasEnd (length deck) j b → (q.1.place j ≡ Run i → ⊥) → NotComplete s b
         → NotComplete i_after b
     others_end j b below has other free =
-        not_moved s (initiator i) (initiator_asks (length deck) i x).0 (initiator_asks (length deck) i x).1 b free
+        not_moved s (initiator i) asks.0 asks.1 b free
         (λ code o op. other (own_end_posted j b code below has o op))
 
     still : (b : ℕ) → IsComplete s b → IsComplete i_after b
-    still b w = is_moved s (initiator i) (initiator_asks (length deck) i x).0 (initiator_asks (length deck) i x).1 b w
-        (λ o op. no_clear (initiator_ecb deck initiators i x ecb_op.Clear op).1)
+    still b w = is_moved s (initiator i) asks.0 asks.1 b w
+        (λ o op. clear_is_no_post (initiator_ecb deck initiators i x ecb_op.Clear op).1)
 
     -- the others' jobs
-    others_stage : (m : ℕ) → m < initiators → (m ≡ i → ⊥)
-        → ByStage (NotDone (length deck) i_after) (NotToScheduler (length deck) i_after) (NotToWriter (length deck) i_after)
-        (t.initiators m)
-    others_stage m below other = stage_map (NotDone (length deck) s) (NotToScheduler (length deck) s) (NotToWriter (length deck) s)
-        (NotDone (length deck) i_after) (NotToScheduler (length deck) i_after) (NotToWriter (length deck) i_after) (t.initiators m)
-        (λ run e. let job : run.job < length deck = run_below deck (t.initiators m) run (q.0.each m below) e in
-        let apart : q.1.place run.job ≡ Run i → ⊥ = λ z. other (let y : Run m ≡ Run i = sym (q.1.running m run below e) ∙ z in cc y) in (
-          λ f. others_end run.job _ job (done_has refl) apart f,
-          λ f. (others_end run.job _ job (scheduler_has refl) apart f.0, still _ f.1),
-          λ f. (others_end run.job _ job (writer_has refl) apart f.0, still _ f.1),
-        ))
+    others_stage : (m : ℕ) → m < initiators → (m ≡ i → ⊥) → EndStage (length deck) i_after (t.initiators m)
+    others_stage m below other = stage_stays (length deck) s i_after (t.initiators m)
+        (λ run e b has. let job : run.job < length deck = run_below deck (t.initiators m) run (q.0.each m below) e in
+        let apart : q.1.place run.job ≡ Run i → ⊥ = λ z. other (let y : Run m ≡ Run i = sym (q.1.running m run below e) ∙ z in cc y) in
+        (λ f. others_end run.job b job has apart f, still b))
         (h.stages m below)
 
     -- ---- its own
 
     plain_end : (j b : ℕ) → NotEnding x → j < length deck → HasEnd (length deck) j b → NotComplete s b → NotComplete i_after b
     plain_end j b plain below has free =
-        not_moved s (initiator i) (initiator_asks (length deck) i x).0 (initiator_asks (length deck) i x).1 b free
+        not_moved s (initiator i) asks.0 asks.1 b free
         (λ code o op. plain_posts (length deck) i x j b plain below has (post_by (length deck) i x b (ecb_op.Post code) o op))
 
-    own_plain : NotEnding x → ByStage (NotDone (length deck) i_after) (NotToScheduler (length deck) i_after)
-        (NotToWriter (length deck) i_after) (initiator_goes deck x r)
+    -- what stands of the ends of the job that it runs
+    its_stage : (y : InitiatorAt) → x ≡ y → EndStage (length deck) s (At y)
+    its_stage y is = subst (EndStage (length deck) s) (at ∙ ap (λ z. At z) is) (h.stages i lt)
+
+    -- which is a job of the deck
+    job_below : (y : InitiatorAt) (run : Running) → x ≡ y → run_of (At y) ≡ Some run → run.job < length deck
+    job_below y run is e = run_below deck (At x) run stands (ap (λ z. run_of (At z)) is ∙ e)
+
+    -- it posts this block: it is complete then, and another that was not is not
+    posts : (b code : ℕ) → asks ≡ (Ecb b, op_on.Ecb (ecb_op.Post code)) → IsComplete i_after b
+    posts b code e = posted_is s (initiator i) asks.0 asks.1 b code (ap (λ z. z.0) e) (ap (λ z. z.1) e)
+
+    posts_alone : (m b code : ℕ) → asks ≡ (Ecb m, op_on.Ecb (ecb_op.Post code)) → (m ≡ b → ⊥) → NotComplete s b → NotComplete i_after b
+    posts_alone m b code e apart free = not_moved s (initiator i) asks.0 asks.1 b free
+        (λ d o op. apart (let z : Ecb m ≡ Ecb b = sym (ap (λ z. z.0) e) ∙ o in cc z))
+
+    -- then where it posts no end
+    own_plain : NotEnding x → EndStage (length deck) i_after (initiator_goes deck x r)
     own_plain plain = stage_goes (NotDone (length deck) i_after) (NotToScheduler (length deck) i_after)
         (NotToWriter (length deck) i_after) deck x r
-        (stage_map (NotDone (length deck) s) (NotToScheduler (length deck) s) (NotToWriter (length deck) s)
-        (NotDone (length deck) i_after) (NotToScheduler (length deck) i_after) (NotToWriter (length deck) i_after) (At x)
-        (λ run e. let job : run.job < length deck = run_below deck (At x) run stands e in (
-          λ f. plain_end run.job _ plain job (done_has refl) f,
-          λ f. (plain_end run.job _ plain job (scheduler_has refl) f.0, still _ f.1),
-          λ f. (plain_end run.job _ plain job (writer_has refl) f.0, still _ f.1),
-        ))
-        (subst (ByStage (NotDone (length deck) s) (NotToScheduler (length deck) s) (NotToWriter (length deck) s)) at (h.stages i lt)))
+        (stage_stays (length deck) s i_after (At x)
+        (λ run e b has. (λ f. plain_end run.job b plain (job_below x run refl e) has f, still b)) (its_stage x refl))
         (begins_plain deck (NotDone (length deck) i_after) (NotToScheduler (length deck) i_after)
         (NotToWriter (length deck) i_after) c s i x p r plain next
         (λ j skipped below held. plain_end j _ plain below (done_has refl) (h.handed i j skipped lt below held)))
 
-    own_stage : (y : InitiatorAt) → x ≡ y
-        → ByStage (NotDone (length deck) i_after) (NotToScheduler (length deck) i_after) (NotToWriter (length deck) i_after)
-        (initiator_goes deck y r)
+    -- and at each point
+    own_stage : (y : InitiatorAt) → x ≡ y → EndStage (length deck) i_after (initiator_goes deck y r)
     own_stage (EndingJob run code counts) is =
-        let job : run.job < length deck = run_below deck (At x) run stands (ap (λ z. run_of (At z)) is) in
-        let o : (initiator_asks (length deck) i x).0 ≡ Ecb (done (length deck) run.job) =
-        ap (λ z. (initiator_asks (length deck) i z).0) is in
-        let op : (initiator_asks (length deck) i x).1 ≡ op_on.Ecb (ecb_op.Post code) =
-        ap (λ z. (initiator_asks (length deck) i z).1) is in
-        let free : NotDone (length deck) s run.job =
-        subst (ByStage (NotDone (length deck) s) (NotToScheduler (length deck) s) (NotToWriter (length deck) s))
-        (at ∙ ap (λ z. At z) is) (h.stages i lt) in
+        let free : NotDone (length deck) s run.job = its_stage (EndingJob run code counts) is in
+        let asked : asks ≡ (Ecb (done (length deck) run.job), op_on.Ecb (ecb_op.Post code)) =
+        ap (λ z. initiator_asks (length deck) i z) is in
+        let job : run.job < length deck = job_below (EndingJob run code counts) run is refl in
+        let order = (h.order run.job job).0 in
         ended_stage (NotDone (length deck) i_after) (NotToScheduler (length deck) i_after)
         (NotToWriter (length deck) i_after) deck run code counts r (
-          not_moved s (initiator i) (initiator_asks (length deck) i x).0 (initiator_asks (length deck) i x).1
-              (end_for_scheduler (length deck) run.job)
-              (λ d e. let w : IsComplete s (done (length deck) run.job) = (h.order run.job job).0 (d, e) in free w.0 w.1)
-              (λ d oe ope. let z : end_for_scheduler (length deck) run.job ≡ done (length deck) run.job = cc (sym oe ∙ o) in absurd
-              (omega arith)),
-          posted_is s (initiator i) (initiator_asks (length deck) i x).0 (initiator_asks (length deck) i x).1
-              (done (length deck) run.job) code o op,
+          posts_alone _ (end_for_scheduler (length deck) run.job) code asked (λ z. omega arith)
+              (λ d e. let w : IsComplete s (done (length deck) run.job) = order (d, e) in free w.0 w.1),
+          posts _ code asked,
         )
     own_stage (EndingForScheduler run code counts) is =
-        let job : run.job < length deck = run_below deck (At x) run stands (ap (λ z. run_of (At z)) is) in
-        let o : (initiator_asks (length deck) i x).0 ≡ Ecb (end_for_scheduler (length deck) run.job) =
-        ap (λ z. (initiator_asks (length deck) i z).0) is in
-        let op : (initiator_asks (length deck) i x).1 ≡ op_on.Ecb (ecb_op.Post code) =
-        ap (λ z. (initiator_asks (length deck) i z).1) is in
-        let free : NotToScheduler (length deck) s run.job =
-        subst (ByStage (NotDone (length deck) s) (NotToScheduler (length deck) s) (NotToWriter (length deck) s))
-        (at ∙ ap (λ z. At z) is) (h.stages i lt) in
+        let free : NotToScheduler (length deck) s run.job = its_stage (EndingForScheduler run code counts) is in
+        let asked : asks ≡ (Ecb (end_for_scheduler (length deck) run.job), op_on.Ecb (ecb_op.Post code)) =
+        ap (λ z. initiator_asks (length deck) i z) is in
+        let job : run.job < length deck = job_below (EndingForScheduler run code counts) run is refl in
+        let order = (h.order run.job job).1 in
         scheduler_stage (NotDone (length deck) i_after) (NotToScheduler (length deck) i_after)
         (NotToWriter (length deck) i_after) deck run code counts r (
-          not_moved s (initiator i) (initiator_asks (length deck) i x).0 (initiator_asks (length deck) i x).1
-              (end_for_writer (length deck) run.job)
-              (λ d e. let w : IsComplete s (end_for_scheduler (length deck) run.job) = (h.order run.job job).1 (d, e) in free.0 w.0 w.1)
-              (λ d oe ope. let z : end_for_writer (length deck) run.job ≡ end_for_scheduler (length deck) run.job = cc
-              (sym oe ∙ o) in absurd (omega arith)),
-          posted_is s (initiator i) (initiator_asks (length deck) i x).0 (initiator_asks (length deck) i x).1
-              (end_for_scheduler (length deck) run.job) code o op,
+          posts_alone _ (end_for_writer (length deck) run.job) code asked (λ z. omega arith)
+              (λ d e. let w : IsComplete s (end_for_scheduler (length deck) run.job) = order (d, e) in free.0 w.0 w.1),
+          posts _ code asked,
         )
     own_stage (EndingForWriter run code counts) is =
         writer_stage (NotDone (length deck) i_after) (NotToScheduler (length deck) i_after)
         (NotToWriter (length deck) i_after) deck run code counts r
-    own_stage y is = subst (λ z. ByStage (NotDone (length deck) i_after) (NotToScheduler (length deck) i_after)
-        (NotToWriter (length deck) i_after) (initiator_goes deck z r)) is (own_plain (subst NotEnding (sym is) tt))
+    own_stage y is = subst (λ z. EndStage (length deck) i_after (initiator_goes deck z r)) is (own_plain (subst NotEnding (sym is) tt))
 
     -- the order of its posts
-    for_scheduler : (j code : ℕ) → j < length deck → (initiator_asks (length deck) i x).0 ≡ Ecb (end_for_scheduler (length deck) j)
-        → (initiator_asks (length deck) i x).1 ≡ op_on.Ecb (ecb_op.Post code) → IsComplete s (done (length deck) j)
+    for_scheduler : (j code : ℕ) → j < length deck → asks.0 ≡ Ecb (end_for_scheduler (length deck) j)
+        → asks.1 ≡ op_on.Ecb (ecb_op.Post code) → IsComplete s (done (length deck) j)
     for_scheduler j code below o op = elim (post_by (length deck) i x (end_for_scheduler (length deck) j) (ecb_op.Post code) o op) [
       | offers more before g is e ↦ absurd (omega arith)
-      | ends_job run d counts is e ↦ let job : run.job < length deck = run_below deck (At x) run stands (ap (λ z. run_of (At z)) is) in
+      | ends_job run d counts is e ↦ let job : run.job < length deck = job_below (EndingJob run d counts) run is refl in
           absurd (omega arith)
       | ends_scheduler run d counts is e ↦
-          let free : NotToScheduler (length deck) s run.job =
-          subst (ByStage (NotDone (length deck) s) (NotToScheduler (length deck) s) (NotToWriter (length deck) s))
-          (at ∙ ap (λ z. At z) is) (h.stages i lt) in
+          let free : NotToScheduler (length deck) s run.job = its_stage (EndingForScheduler run d counts) is in
           let same : run.job ≡ j = omega arith in subst (λ z. IsComplete s (done (length deck) z)) same free.1
       | ends_writer run d counts is e ↦ absurd (omega arith)
     ]
 
-    for_writer : (j code : ℕ) → j < length deck → (initiator_asks (length deck) i x).0 ≡ Ecb (end_for_writer (length deck) j)
-        → (initiator_asks (length deck) i x).1 ≡ op_on.Ecb (ecb_op.Post code) → IsComplete s (end_for_scheduler (length deck) j)
+    for_writer : (j code : ℕ) → j < length deck → asks.0 ≡ Ecb (end_for_writer (length deck) j)
+        → asks.1 ≡ op_on.Ecb (ecb_op.Post code) → IsComplete s (end_for_scheduler (length deck) j)
     for_writer j code below o op = elim (post_by (length deck) i x (end_for_writer (length deck) j) (ecb_op.Post code) o op) [
       | offers more before g is e ↦ absurd (omega arith)
-      | ends_job run d counts is e ↦ let job : run.job < length deck = run_below deck (At x) run stands (ap (λ z. run_of (At z)) is) in
+      | ends_job run d counts is e ↦ let job : run.job < length deck = job_below (EndingJob run d counts) run is refl in
           absurd (omega arith)
       | ends_scheduler run d counts is e ↦ absurd (omega arith)
       | ends_writer run d counts is e ↦
-          let free : NotToWriter (length deck) s run.job =
-          subst (ByStage (NotDone (length deck) s) (NotToScheduler (length deck) s) (NotToWriter (length deck) s))
-          (at ∙ ap (λ z. At z) is) (h.stages i lt) in
+          let free : NotToWriter (length deck) s run.job = its_stage (EndingForWriter run d counts) is in
           let same : run.job ≡ j = omega arith in subst (λ z. IsComplete s (end_for_scheduler (length deck) z)) same free.1
     ]
 
-    order_after : (j : ℕ) → j < length deck
-        → (IsComplete i_after (end_for_scheduler (length deck) j) → IsComplete i_after (done (length deck) j))
-        × (IsComplete i_after (end_for_writer (length deck) j) → IsComplete i_after (end_for_scheduler (length deck) j))
+    order_after : (j : ℕ) → j < length deck → IsInOrder (length deck) i_after j
     order_after j below = (
-      λ w. elim (complete_moved s (initiator i) (initiator_asks (length deck) i x).0 (initiator_asks (length deck) i x).1
+      λ w. elim (complete_moved s (initiator i) asks.0 asks.1
           (end_for_scheduler (length deck) j) w.0 w.1) [
             | inl before ↦ still _ ((h.order j below).0 (w.0, before))
             | inr posted ↦ still _ (for_scheduler j w.0 below posted.0 posted.1)
           ],
-      λ w. elim (complete_moved s (initiator i) (initiator_asks (length deck) i x).0 (initiator_asks (length deck) i x).1
+      λ w. elim (complete_moved s (initiator i) asks.0 asks.1
           (end_for_writer (length deck) j) w.0 w.1) [
             | inl before ↦ still _ ((h.order j below).1 (w.0, before))
             | inr posted ↦ still _ (for_writer j w.0 below posted.0 posted.1)
@@ -347,16 +346,13 @@ module _ (deck : List JobData) (initiators : ℕ) where
 
     -- the done blocks
     abbrev Moved : ℕ → Type 0
-    Moved j = (block i_after (done (length deck) j) ≡ block s (done (length deck) j))
-        ⊎ ((e : EcbOp) × ((initiator_asks (length deck) i x).0 ≡ Ecb (done (length deck) j))
-        × ((initiator_asks (length deck) i x).1 ≡ op_on.Ecb e)
-        × (block i_after (done (length deck) j) ≡ (ecb_step e (block s (done (length deck) j))).0))
+    Moved j = BlockAfter s (initiator i) asks.0 asks.1 (done (length deck) j)
 
     split_after : (m : ℕ) → next_job (length deck) t.scheduler ≤ m → IsSplit (length deck) s m → IsSplit (length deck) i_after m
     split_after m from sp j below = (
-      λ less. extended_after (block_moved s (initiator i) (initiator_asks (length deck) i x).0 (initiator_asks (length deck) i x).1
+      λ less. extended_after (block_moved s (initiator i) asks.0 asks.1
           (done (length deck) j)) ((sp j below).0 less),
-      λ le. zero_after (block_moved s (initiator i) (initiator_asks (length deck) i x).0 (initiator_asks (length deck) i x).1
+      λ le. zero_after (block_moved s (initiator i) asks.0 asks.1
           (done (length deck) j)) le,
     ) where
       extended_after : Moved j → (block s (done (length deck) j) ≡ Extended (j + 1)) ⊎ IsComplete s (done (length deck) j)
@@ -364,7 +360,7 @@ module _ (deck : List JobData) (initiators : ℕ) where
       extended_after (inl same) (inl e) = inl (same ∙ e)
       extended_after (inl same) (inr w) = inr (w.0, same ∙ w.1)
       extended_after (inr w) was = let post : (d : ℕ) × (w.0 ≡ ecb_op.Post d) = initiator_ecb deck initiators i x w.0 w.2 in
-          inr (posted_is s (initiator i) (initiator_asks (length deck) i x).0 (initiator_asks (length deck) i x).1
+          inr (posted_is s (initiator i) asks.0 asks.1
           (done (length deck) j) post.0 w.1 (w.2 ∙ ap (λ z. op_on.Ecb z) post.1))
 
       zero_after : Moved j → m ≤ j → block i_after (done (length deck) j) ≡ Zero
@@ -376,23 +372,21 @@ module _ (deck : List JobData) (initiators : ℕ) where
 
     pub initiator_posted : Posted deck initiators i_after (record t { initiators = with_at t.initiators i (initiator_goes deck x r) })
     initiator_posted = record {
-      entering = λ j below from. not_moved s (initiator i) (initiator_asks (length deck) i x).0 (initiator_asks (length deck) i x).1
+      entering = λ j below from. not_moved s (initiator i) asks.0 asks.1
           (entered j) (h.entering j below from)
           (λ code o op. posts_no_entered (length deck) i x j below (post_by (length deck) i x (entered j) (ecb_op.Post code) o op));
       coming = λ j below from. others_end j _ below (done_has refl) (λ z. cc (q.1.coming j from, z)) (h.coming j below from);
       handed = λ m j skipped lm below e. elim
-          (held_moved s (initiator i) (initiator_asks (length deck) i x).0 (initiator_asks (length deck) i x).1 (initiator m)
+          (held_moved s (initiator i) asks.0 asks.1 (initiator m)
           (code_of j skipped) e) [
             | inl before ↦ others_end j _ below (done_has refl) (λ z. cc (q.1.handed m j skipped lm below before, z))
                 (h.handed m j skipped lm below before)
             | inr w ↦ absurd (initiator_no_release (length deck) i x w.0 (code_of j skipped) w.2)
           ];
       stages = λ m lm. elim (cases_eq m i) [
-        | inl same ↦ subst (λ z. ByStage (NotDone (length deck) i_after) (NotToScheduler (length deck) i_after)
-            (NotToWriter (length deck) i_after) z) (sym (with_at-same t.initiators i (initiator_goes deck x r) m same))
+        | inl same ↦ subst (λ z. EndStage (length deck) i_after z) (sym (with_at-same t.initiators i (initiator_goes deck x r) m same))
             (own_stage x refl)
-        | inr other ↦ subst (λ z. ByStage (NotDone (length deck) i_after) (NotToScheduler (length deck) i_after)
-            (NotToWriter (length deck) i_after) z) (sym (with_at-other t.initiators i (initiator_goes deck x r) m other))
+        | inr other ↦ subst (λ z. EndStage (length deck) i_after z) (sym (with_at-other t.initiators i (initiator_goes deck x r) m other))
             (others_stage m lm other)
       ];
       order = order_after;
@@ -410,18 +404,10 @@ module _ (deck : List JobData) (initiators : ℕ) where
     quiet_still : (j b : ℕ) → j < length deck → HasEnd (length deck) j b → IsComplete s b → IsComplete (moved s k o op) b
     quiet_still j b below has w = is_moved s k o op b w (no_clear j b below has)
 
-    quiet_stage : (p : Point InitiatorAt) → IsInitiatorAt deck p
-        → ByStage (NotDone (length deck) s) (NotToScheduler (length deck) s) (NotToWriter (length deck) s) p
-        → ByStage (NotDone (length deck) (moved s k o op)) (NotToScheduler (length deck) (moved s k o op))
-        (NotToWriter (length deck) (moved s k o op)) p
-    quiet_stage p at = stage_map (NotDone (length deck) s) (NotToScheduler (length deck) s) (NotToWriter (length deck) s)
-        (NotDone (length deck) (moved s k o op)) (NotToScheduler (length deck) (moved s k o op))
-        (NotToWriter (length deck) (moved s k o op)) p
-        (λ run e. let job : run.job < length deck = run_below deck p run at e in (
-          λ f. quiet_free run.job _ job (done_has refl) f,
-          λ f. (quiet_free run.job _ job (scheduler_has refl) f.0, quiet_still run.job _ job (done_has refl) f.1),
-          λ f. (quiet_free run.job _ job (writer_has refl) f.0, quiet_still run.job _ job (scheduler_has refl) f.1),
-        ))
+    quiet_stage : (p : Point InitiatorAt) → IsInitiatorAt deck p → EndStage (length deck) s p → EndStage (length deck) (moved s k o op) p
+    quiet_stage p at = stage_stays (length deck) s (moved s k o op) p
+        (λ run e b has. let job : run.job < length deck = run_below deck p run at e in
+        (quiet_free run.job b job has, quiet_still run.job b job has))
 
     quiet_was : (j b : ℕ) → j < length deck → HasEnd (length deck) j b → IsComplete (moved s k o op) b → IsComplete s b
     quiet_was j b below has w = elim (complete_moved s k o op b w.0 w.1) [
@@ -429,10 +415,7 @@ module _ (deck : List JobData) (initiators : ℕ) where
       | inr posted ↦ absurd (no_post j b w.0 below has posted.0 posted.1)
     ]
 
-    quiet_order : (j : ℕ) → j < length deck
-        → (IsComplete (moved s k o op) (end_for_scheduler (length deck) j) → IsComplete (moved s k o op) (done (length deck) j))
-        × (IsComplete (moved s k o op) (end_for_writer (length deck) j)
-        → IsComplete (moved s k o op) (end_for_scheduler (length deck) j))
+    quiet_order : (j : ℕ) → j < length deck → IsInOrder (length deck) (moved s k o op) j
     quiet_order j below = (
       λ w. quiet_still j _ below (done_has refl) ((h.order j below).0 (quiet_was j _ below (scheduler_has refl) w)),
       λ w. quiet_still j _ below (scheduler_has refl) ((h.order j below).1 (quiet_was j _ below (writer_has refl) w)),
@@ -447,12 +430,28 @@ module _ (deck : List JobData) (initiators : ℕ) where
           λ le. same
               ∙ (sp j below).1 le,
         ) where
-          same_block : (block (moved s k o op) (done (length deck) j) ≡ block s (done (length deck) j))
-              ⊎ ((e : EcbOp) × (o ≡ Ecb (done (length deck) j)) × (op ≡ op_on.Ecb e)
-              × (block (moved s k o op) (done (length deck) j) ≡ (ecb_step e (block s (done (length deck) j))).0))
+          same_block : BlockAfter s k o op (done (length deck) j)
               → block (moved s k o op) (done (length deck) j) ≡ block s (done (length deck) j)
           same_block (inl e) = e
           same_block (inr w) = absurd (untouched j below w.1)
+
+    -- so of an event of the reader or the writer
+    quiet_posted : (next_reader : Point ReaderAt) (next_writer : Point WriterAt)
+        → ((i : ℕ) → i < initiators → IsInitiatorAt deck (t.initiators i))
+        → ((j : ℕ) → j < length deck → entered_from (length deck) next_reader ≤ j → NotComplete (moved s k o op) (entered j))
+        → ((m : ℕ) → o ≡ Element m → ⊥) → ((j : ℕ) → j < length deck → o ≡ Ecb (done (length deck) j) → ⊥)
+        → Posted deck initiators (moved s k o op) (record t { reader = next_reader; writer = next_writer })
+    quiet_posted next_reader next_writer each entering no_element untouched = record {
+      entering = entering;
+      coming = λ j below from. quiet_free j _ below (done_has refl) (h.coming j below from);
+      handed = λ m j skipped lm below e. elim (held_moved s k o op (initiator m) (code_of j skipped) e) [
+        | inl before ↦ quiet_free j _ below (done_has refl) (h.handed m j skipped lm below before)
+        | inr w ↦ absurd (no_element (initiator m) w.1)
+      ];
+      stages = λ m lm. quiet_stage (t.initiators m) (each m lm) (h.stages m lm);
+      order = quiet_order;
+      blocks = done_map (length deck) s (moved s k o op) t.scheduler (λ m le sp. quiet_split untouched m sp) h.blocks;
+    }
 
   -- ---- the reader
 
@@ -483,30 +482,22 @@ module _ (deck : List JobData) (initiators : ℕ) where
   reader_posted : (c : Setup) (s : System) (t : Points) (past : List Entry) (x : ReaderAt) (p : ℕ) (r : Reply) → t.reader ≡ At x
       → HasPlaces deck initiators s t past → Posted deck initiators s t
       → Posted deck initiators (moved s 0 (reader_asks x).0 (reader_asks x).1) (record t { reader = reader_goes x r })
-  reader_posted c s t past x p r at q h = let stands : IsReaderAt (length deck) (At x) =
-      subst (IsReaderAt (length deck)) at q.0.reader in record {
-        entering = λ j below from. let step : entered_from (length deck) (At x) + 1 ≤ entered_from (length deck) (reader_goes x r) =
+  reader_posted c s t past x p r at q h =
+      quiet_posted s t 0 (reader_asks x).0 (reader_asks x).1 h (λ j b code below has o op. reader_ends x j b stands has o)
+      (λ j b below has o op. reader_ends x j b stands has o) (reader_goes x r) t.writer q.0.each enters (λ m o. reader_element x o)
+      (λ j below o. reader_untouched x j stands o) where
+        stands : IsReaderAt (length deck) (At x)
+        stands = subst (IsReaderAt (length deck)) at q.0.reader
+
+        enters : (j : ℕ) → j < length deck → entered_from (length deck) (reader_goes x r) ≤ j
+            → NotComplete (moved s 0 (reader_asks x).0 (reader_asks x).1) (entered j)
+        enters j below from = let step : entered_from (length deck) (At x) + 1 ≤ entered_from (length deck) (reader_goes x r) =
             reader_counts x r stands in
             not_moved s 0 (reader_asks x).0 (reader_asks x).1 (entered j)
             (h.entering j below (subst (λ z. entered_from (length deck) z ≤ j) (sym at) (omega arith)))
             (λ code o op. let w : (entered j < length deck) × (entered_from (length deck) (At x) ≡ entered j) = reader_is x
-            (entered j) o stands in let same : entered_from (length deck) (At x) ≡ entered j = w.1 in omega arith);
-        coming = λ j below from. quiet_free s t 0 (reader_asks x).0 (reader_asks x).1 h
-            (λ j b code below has o op. reader_ends x j b stands has o) (λ j b below has o op. reader_ends x j b stands has o) j _ below
-            (done_has refl) (h.coming j below from);
-        handed = λ m j skipped lm below e. elim (held_moved s 0 (reader_asks x).0 (reader_asks x).1 (initiator m) (code_of j skipped) e) [
-          | inl before ↦ quiet_free s t 0 (reader_asks x).0 (reader_asks x).1 h (λ j b code below has o op. reader_ends x j b stands has o)
-              (λ j b below has o op. reader_ends x j b stands has o) j _ below (done_has refl) (h.handed m j skipped lm below before)
-          | inr w ↦ absurd (reader_element x w.1)
-        ];
-        stages = λ m lm. quiet_stage s t 0 (reader_asks x).0 (reader_asks x).1 h (λ j b code below has o op. reader_ends x j b stands has o)
-            (λ j b below has o op. reader_ends x j b stands has o) (t.initiators m) (q.0.each m lm) (h.stages m lm);
-        order = quiet_order s t 0 (reader_asks x).0 (reader_asks x).1 h (λ j b code below has o op. reader_ends x j b stands has o)
-            (λ j b below has o op. reader_ends x j b stands has o);
-        blocks = done_map (length deck) s (moved s 0 (reader_asks x).0 (reader_asks x).1) t.scheduler
-            (λ m le sp. quiet_split s t 0 (reader_asks x).0 (reader_asks x).1 h (λ j b code below has o op. reader_ends x j b stands has o)
-            (λ j b below has o op. reader_ends x j b stands has o) (λ j below o. reader_untouched x j stands o) m sp) h.blocks;
-      } where
+            (entered j) o stands in let same : entered_from (length deck) (At x) ≡ entered j = w.1 in omega arith)
+
         reader_element : (x : ReaderAt) {m : ℕ} → (reader_asks x).0 ≡ Element m → ⊥
         reader_element (Entering k more) e = cc e
 
@@ -524,29 +515,14 @@ module _ (deck : List JobData) (initiators : ℕ) where
   writer_posted : (s : System) (t : Points) (past : List Entry) (x : WriterAt) (k : ℕ) (v : Point WriterAt) → t.writer ≡ At x
       → HasPlaces deck initiators s t past → Posted deck initiators s t
       → Posted deck initiators (moved s k (writer_asks x).0 (writer_asks x).1) (record t { writer = v })
-  writer_posted s t past x k v at q h = let stands : IsWriterAt (length deck) (At x) = subst (IsWriterAt (length deck)) at q.0.writer in
-      record {
-        entering = λ j below from. not_moved s k (writer_asks x).0 (writer_asks x).1 (entered j) (h.entering j below from)
-            (λ code o op. writer_no_post x code op);
-        coming = λ j below from. quiet_free s t k (writer_asks x).0 (writer_asks x).1 h
-            (λ j b code below has o op. writer_no_post x code op) (λ j b below has o op. writer_no_clear x op) j _ below (done_has refl)
-            (h.coming j below from);
-        handed = λ m j skipped lm below e. elim (held_moved s k (writer_asks x).0 (writer_asks x).1 (initiator m) (code_of j skipped) e) [
-          | inl before ↦ quiet_free s t k (writer_asks x).0 (writer_asks x).1 h (λ j b code below has o op. writer_no_post x code op)
-              (λ j b below has o op. writer_no_clear x op) j _ below (done_has refl) (h.handed m j skipped lm below before)
-          | inr w ↦ absurd (writer_element x (initiator m) w.1)
-        ];
-        stages = λ m lm. quiet_stage s t k (writer_asks x).0 (writer_asks x).1 h (λ j b code below has o op. writer_no_post x code op)
-            (λ j b below has o op. writer_no_clear x op) (t.initiators m) (q.0.each m lm) (h.stages m lm);
-        order = quiet_order s t k (writer_asks x).0 (writer_asks x).1 h (λ j b code below has o op. writer_no_post x code op)
-            (λ j b below has o op. writer_no_clear x op);
-        blocks = done_map (length deck) s (moved s k (writer_asks x).0 (writer_asks x).1) t.scheduler
-            (λ m le sp. quiet_split s t k (writer_asks x).0 (writer_asks x).1 h (λ j b code below has o op. writer_no_post x code op)
-            (λ j b below has o op. writer_no_clear x op)
-            (λ j below o. let w : (i : ℕ) × (done (length deck) j ≡ end_for_writer (length deck) i) = writer_is x
-            (done (length deck) j) o stands in let e : done (length deck) j ≡ end_for_writer (length deck) w.0 = w.1 in
-            omega arith) m sp) h.blocks;
-      }
+  writer_posted s t past x k v at q h =
+      quiet_posted s t k (writer_asks x).0 (writer_asks x).1 h (λ j b code below has o op. writer_no_post x code op)
+      (λ j b below has o op. writer_clears_none x op) t.reader v q.0.each
+      (λ j below from. not_moved s k (writer_asks x).0 (writer_asks x).1 (entered j) (h.entering j below from)
+      (λ code o op. writer_no_post x code op)) (λ m o. writer_element x m o)
+      (λ j below o. let w : (i : ℕ) × (done (length deck) j ≡ end_for_writer (length deck) i) = writer_is x
+      (done (length deck) j) o (subst (IsWriterAt (length deck)) at q.0.writer) in
+      let e : done (length deck) j ≡ end_for_writer (length deck) w.0 = w.1 in omega arith)
 
   -- ---- the scheduler
 
@@ -620,13 +596,13 @@ module _ (deck : List JobData) (initiators : ℕ) where
   extends_split s k j sp here m below = elim (cases_eq m j) [
     | inl same ↦ (
       λ less. inl (ap (λ z. block (extended_now s k j) (done (length deck) z)) same
-          ∙ turned_there s.ecb (done (length deck) j) _ (done (length deck) j) refl
+          ∙ changed_there s.ecb (done (length deck) j) _ (done (length deck) j) refl
           ∙ ap (λ v. (ecb_step (ecb_op.Extend (j + 1)) v).0) ((sp j here).1 (omega arith)) ∙ ap (λ z. Extended (z + 1)) (sym same)),
       λ le. absurd (omega arith),
     )
     | inr other ↦
         let elsewhere : block (extended_now s k j) (done (length deck) m) ≡ block s (done (length deck) m) =
-        turned_elsewhere s.ecb (done (length deck) j) _ (done (length deck) m) (λ z. other (omega arith)) in (
+        same_elsewhere s.ecb (done (length deck) j) _ (done (length deck) m) (λ z. other (omega arith)) in (
           λ less. elim ((sp m below).0 (omega arith)) [ inl e ↦ inl (elsewhere ∙ e) | inr w ↦ inr (w.0, elsewhere ∙ w.1) ],
           λ le. elsewhere ∙ (sp m below).1 (omega arith),
         )
@@ -637,21 +613,24 @@ module _ (deck : List JobData) (initiators : ℕ) where
     s_stands : IsSchedulerAt deck initiators (At x)
     s_stands = subst (IsSchedulerAt deck initiators) at q.0.scheduler
 
-    abbrev s_after : System
-    s_after = moved s 1 (scheduler_asks (length deck) x).0 (scheduler_asks (length deck) x).1
+    abbrev s_asks : Object × Op
+    s_asks = scheduler_asks (length deck) x
 
-    s_no_post : (j b code : ℕ) → j < length deck → HasEnd (length deck) j b → (scheduler_asks (length deck) x).0 ≡ Ecb b
-        → (scheduler_asks (length deck) x).1 ≡ op_on.Ecb (ecb_op.Post code) → ⊥
+    abbrev s_after : System
+    s_after = moved s 1 s_asks.0 s_asks.1
+
+    s_no_post : (j b code : ℕ) → j < length deck → HasEnd (length deck) j b → s_asks.0 ≡ Ecb b
+        → s_asks.1 ≡ op_on.Ecb (ecb_op.Post code) → ⊥
     s_no_post j b code below has o op = scheduler_no_post (length deck) x code op
 
-    s_no_clear : (j b : ℕ) → j < length deck → HasEnd (length deck) j b → (scheduler_asks (length deck) x).0 ≡ Ecb b
-        → (scheduler_asks (length deck) x).1 ≡ op_on.Ecb ecb_op.Clear → ⊥
+    s_no_clear : (j b : ℕ) → j < length deck → HasEnd (length deck) j b → s_asks.0 ≡ Ecb b
+        → s_asks.1 ≡ op_on.Ecb ecb_op.Clear → ⊥
     s_no_clear j b below has o op = let w : (i : ℕ) × (b ≡ idle (length deck) i) = scheduler_clears (length deck) x b o op in
         idle_none (length deck) j w.0 below (subst (HasEnd (length deck) j) w.1 has)
 
     free_still : (j : ℕ) → j < length deck → NotDone (length deck) s j → NotDone (length deck) s_after j
-    free_still j below f = quiet_free s t 1 (scheduler_asks (length deck) x).0
-        (scheduler_asks (length deck) x).1 h s_no_post s_no_clear j _ below (done_has refl) f
+    free_still j below f = quiet_free s t 1 s_asks.0
+        s_asks.1 h s_no_post s_no_clear j _ below (done_has refl) f
 
     plain_after : (y : SchedulerAt) → x ≡ y
         → ((j : ℕ) (job : JobData) (jobs : List JobData) (skipped : Bool) → y ≡ Extends j job jobs skipped → ⊥)
@@ -659,7 +638,7 @@ module _ (deck : List JobData) (initiators : ℕ) where
         → DoneBlocks (length deck) s_after (scheduler_goes (length deck) initiators x r)
     plain_after y is ne sp = goes_next (length deck) initiators (λ p. DoneBlocks (length deck) s_after p) x r tt tt
         (nexts_done s_after x s_stands (λ j job jobs skipped e. ne j job jobs skipped (sym is ∙ e))
-        (quiet_split s t 1 (scheduler_asks (length deck) x).0 (scheduler_asks (length deck) x).1 h s_no_post s_no_clear
+        (quiet_split s t 1 s_asks.0 s_asks.1 h s_no_post s_no_clear
         (λ j below o. let w : (job : JobData) × (jobs : List JobData) × (skipped : Bool)
         × (x ≡ Extends j job jobs skipped) = scheduler_untouched x j s_stands below o in ne j w.0 w.1 w.2 (sym is ∙ w.3))
         (extended_at (length deck) x) (subst (λ z. IsSplit (length deck) s (extended_at (length deck) z)) (sym is) sp)))
@@ -678,20 +657,20 @@ module _ (deck : List JobData) (initiators : ℕ) where
 
     scheduler_posted : Posted deck initiators s_after (record t { scheduler = scheduler_goes (length deck) initiators x r })
     scheduler_posted = record {
-      entering = λ j below from. not_moved s 1 (scheduler_asks (length deck) x).0 (scheduler_asks (length deck) x).1 (entered j)
+      entering = λ j below from. not_moved s 1 s_asks.0 s_asks.1 (entered j)
           (h.entering j below from) (λ code o op. scheduler_no_post (length deck) x code op);
       coming = λ j below from. let grows : next_job (length deck) (At x) ≤ next_job (length deck)
           (scheduler_goes (length deck) initiators x r) = next_grows deck initiators x r s_stands in
           free_still j below (h.coming j below (subst (λ z. next_job (length deck) z ≤ j) (sym at) (omega arith)));
       handed = λ m j skipped lm below e. elim
-          (held_moved s 1 (scheduler_asks (length deck) x).0 (scheduler_asks (length deck) x).1 (initiator m) (code_of j skipped) e) [
+          (held_moved s 1 s_asks.0 s_asks.1 (initiator m) (code_of j skipped) e) [
             | inl before ↦ free_still j below (h.handed m j skipped lm below before)
             | inr w ↦ free_still j below (h.coming j below
                 (subst (λ z. next_job (length deck) z ≤ j) (sym at) (released_next x w.0 j skipped few s_stands below w.2)))
           ];
-      stages = λ m lm. quiet_stage s t 1 (scheduler_asks (length deck) x).0 (scheduler_asks (length deck) x).1 h s_no_post s_no_clear
+      stages = λ m lm. quiet_stage s t 1 s_asks.0 s_asks.1 h s_no_post s_no_clear
           (t.initiators m) (q.0.each m lm) (h.stages m lm);
-      order = quiet_order s t 1 (scheduler_asks (length deck) x).0 (scheduler_asks (length deck) x).1 h s_no_post s_no_clear;
+      order = quiet_order s t 1 s_asks.0 s_asks.1 h s_no_post s_no_clear;
       blocks = blocks_after x refl (subst (λ z. DoneBlocks (length deck) s z) at h.blocks);
     }
 

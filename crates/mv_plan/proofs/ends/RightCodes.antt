@@ -2,19 +2,16 @@
 -- code with the deck's mark, and the writer keeps the deck's ends. No induction over jobs: all blocks at once.
 use Rattle.std.proofs.Common.{◌≡◌, ℕ, zero, suc, ◌+◌, ◌<◌, List, [], ◌∷◌, ◌++◌, length, get_or, Option, Some, None, ◌⊎◌, inl, inr, refl}
 use Rattle.std.proofs.Common.{sym, ap, ◌∙◌, subst, append-nil, append_assoc, arith}
-use Rattle.std.proofs.lemmas.Bool.{cases_eq}
 use Rattle.std.proofs.lemmas.List.{length-append}
 use Rattle.std.proofs.Math.Seq.{get_or-append_seam}
 use Rattle.mv_ecb.specs.declared.operation.EcbOp.TheVariants as ecb_op
 use Rattle.mv_ecb.specs.declared.operation.EcbReply.TheVariants as ecb_reply
-use Rattle.mv_ecb.specs.Table.{ecb_step}
 use Rattle.mv_ecb.specs.Word.{Complete}
 use Rattle.mv_element.specs.declared.operation.ElementOp.TheVariants as element_op
 use Rattle.mv_element.specs.declared.operation.ElementReply.TheVariants as element_reply
-use Rattle.mv_element.specs.Table.{element_step}
 use Rattle.mv_machine.specs.declared.entry.Entry.{Entry}
 use Rattle.mv_machine.specs.declared.entry.Object.{Object}
-use Rattle.mv_machine.specs.declared.entry.Object.TheVariants.{Ecb, Element, Volume, Latches}
+use Rattle.mv_machine.specs.declared.entry.Object.TheVariants.{Ecb, Element}
 use Rattle.mv_machine.specs.declared.entry.Op.{Op}
 use Rattle.mv_machine.specs.declared.entry.Op.TheVariants as op_on
 use Rattle.mv_machine.specs.declared.entry.Reply.{Reply}
@@ -24,7 +21,7 @@ use Rattle.mv_machine.specs.Setup.{Setup}
 use Rattle.mv_machine.specs.System.{System, moved, opening}
 use Rattle.mv_deck.specs.Deck.{JobData}
 use Rattle.mv_plan.specs.Jobs.{end_of}
-use Rattle.mv_plan.proofs.deck.Sound.{IsSound}
+use Rattle.mv_plan.proofs.deck.Plans.{IsPlanned}
 use Rattle.mv_report.specs.Outcome.{ends}
 use Rattle.mv_plan.specs.SpoolSetup.{end_for_writer, initiator}
 use Rattle.mv_plan.specs.SpoolTasks.{Named, job_named, code_of}
@@ -38,15 +35,16 @@ use Rattle.mv_plan.proofs.walks.Walks.{Points, start_points}
 use Rattle.mv_plan.proofs.points.ReaderAndWriter.{IsReaderAt, IsWriterAt}
 use Rattle.mv_plan.proofs.points.SchedulerSound.{IsSchedulerAt}
 use Rattle.mv_plan.proofs.points.InitiatorSound.{IsInitiatorAt, IsEnding, named_is}
-use Rattle.mv_plan.proofs.deck.Ends.{is_skipped, end_by_mark, length-ends_from, few_jobs}
-use Rattle.mv_plan.proofs.ends.Blocks.{complete_by, held_by, paused_code, resumed_code, settled_code, HasEnd, entered_none, idle_none}
+use Rattle.mv_plan.proofs.deck.Ends.{is_skipped, end_by_mark, few_jobs}
+use Rattle.mv_report.proofs.Lengths.{one_end_per_job}
+use Rattle.mv_plan.proofs.ends.Complete.{complete_moved, held_moved}
+use Rattle.mv_plan.proofs.ends.Blocks.{paused_code, resumed_code, settled_code, HasEnd, entered_none, idle_none}
 use Rattle.mv_plan.proofs.ends.Blocks.{scheduler_has, writer_has, done_one, scheduler_one, writer_one}
 use Rattle.mv_plan.proofs.ends.SchedulerMarks.{IsMarked, IsCodeFor, FindsEnds, scheduler_marks, dismissing_marked}
 use Rattle.mv_plan.proofs.points.RunningJob.{OfRun, Starts, runs_goes}
 use Rattle.mv_plan.proofs.walks.Stands.{HasStanding}
 use Rattle.mv_plan.proofs.deck.Codes.{code_parts, never_zero}
-use Rattle.mv_plan.proofs.walks.Moves.{KeepsUnder, by_moves, entry_of, block, element, block_reply, element_reply, turned_there}
-use Rattle.mv_plan.proofs.walks.Moves.{turned_elsewhere}
+use Rattle.mv_plan.proofs.walks.Moves.{KeepsUnder, by_moves, entry_of, block, element, block_reply, element_reply}
 use Rattle.mv_plan.proofs.lists.Tables.{all_with}
 use Rattle.mv_plan.proofs.points.Views.{code_held}
 
@@ -68,17 +66,10 @@ PostsEnds deck o op = (m d : ℕ) → o ≡ Ecb m → op ≡ op_on.Ecb (ecb_op.P
 
 ends_moved : (deck : List JobData) (s : System) (k : ℕ) (o : Object) (op : Op) → PostsEnds deck o op → HoldEnds deck s
     → HoldEnds deck (moved s k o op)
-ends_moved deck s k (Ecb m) (op_on.Ecb op) right h = λ j b code lt has e. elim (cases_eq b m) [
-  | inl same ↦ elim (complete_by op (block s m) code (sym (turned_there s.ecb m (ecb_step op (block s m)).0 b same) ∙ e)) [
-    | inl before ↦ h j m code lt (subst (HasEnd (length deck) j) same has) before
-    | inr posted ↦ right m code refl (ap (λ z. op_on.Ecb z) posted) j lt (subst (HasEnd (length deck) j) same has)
-  ]
-  | inr other ↦ h j b code lt has (sym (turned_elsewhere s.ecb m (ecb_step op (block s m)).0 b other) ∙ e)
+ends_moved deck s k o op right h = λ j b code lt has e. elim (complete_moved s k o op b code e) [
+  | inl before ↦ h j b code lt has before
+  | inr posted ↦ right b code posted.0 posted.1 j lt has
 ]
-ends_moved deck s k (Element m) (op_on.Element op) right h = h
-ends_moved deck s k (Volume m) (op_on.Volume op) right h = h
-ends_moved deck s k Latches (op_on.Latch op) right h = h
-ends_moved deck s k o op right h = h
 
 abbrev pub HoldCodes : List JobData → System → Type 0
 HoldCodes deck s = (m code : ℕ) → code_held (element s m) ≡ Some code → IsCode deck code
@@ -88,18 +79,10 @@ ReleasesCodes deck o op = (m g d : ℕ) → o ≡ Element m → op ≡ op_on.Ele
 
 codes_moved : (deck : List JobData) (s : System) (k : ℕ) (o : Object) (op : Op) → ReleasesCodes deck o op → HoldCodes deck s
     → HoldCodes deck (moved s k o op)
-codes_moved deck s k (Element m) (op_on.Element op) right h = λ b code e. elim (cases_eq b m) [
-  | inl same ↦ elim (held_by op (element s m) code
-      (ap (λ x. code_held x) (sym (turned_there s.element m (element_step op (element s m)).0 b same)) ∙ e)) [
-        | inl before ↦ h m code before
-        | inr released ↦ right m released.0 code refl (ap (λ z. op_on.Element z) released.1)
-      ]
-  | inr other ↦ h b code (ap (λ x. code_held x) (sym (turned_elsewhere s.element m (element_step op (element s m)).0 b other)) ∙ e)
+codes_moved deck s k o op right h = λ m code e. elim (held_moved s k o op m code e) [
+  | inl before ↦ h m code before
+  | inr released ↦ right m released.0 code released.1 released.2
 ]
-codes_moved deck s k (Ecb m) (op_on.Ecb op) right h = h
-codes_moved deck s k (Volume m) (op_on.Volume op) right h = h
-codes_moved deck s k Latches (op_on.Latch op) right h = h
-codes_moved deck s k o op right h = h
 
 -- ---- the writer
 
@@ -109,9 +92,6 @@ KeepsEnds deck (At (Keeping j more kept w)) = (rest : List ℕ) × (kept ++ rest
 KeepsEnds deck (Finished kept) = kept ≡ ends deck
 KeepsEnds deck p = Unit {0}
 
-ends_count : (deck : List JobData) → length (ends deck) ≡ length deck
-ends_count deck = let e : length (ends deck) ≡ 0 + length deck = length-ends_from [] deck in omega arith
-
 none_left : (kept rest all : List ℕ) → kept ++ rest ≡ all → length kept ≡ length all → kept ≡ all
 none_left kept [] all e l = sym (append-nil kept) ∙ e
 none_left kept (r ∷ rest) all e l = let a : length (kept ++ r ∷ rest) ≡ length kept + length (r ∷ rest) =
@@ -120,7 +100,7 @@ none_left kept (r ∷ rest) all e l = let a : length (kept ++ r ∷ rest) ≡ le
 writing_keeps : (deck : List JobData) (j more : ℕ) (kept rest : List ℕ) → kept ++ rest ≡ ends deck → length kept ≡ j
     → j + more ≡ length deck → KeepsEnds deck (writing_from (length deck) j more kept)
 writing_keeps deck j zero kept rest e l n =
-    none_left kept rest (ends deck) e (let a : length (ends deck) ≡ length deck = ends_count deck in omega arith)
+    none_left kept rest (ends deck) e (let a : length (ends deck) ≡ length deck = one_end_per_job deck in omega arith)
 writing_keeps deck j (suc more) kept rest e l n = (rest, e, l)
 
 -- one more end is kept
@@ -128,7 +108,7 @@ one_kept : (deck : List JobData) (j more : ℕ) (kept rest : List ℕ) (code : �
     → j + suc more ≡ length deck → code ≡ end_of deck j
     → KeepsEnds deck (writing_from (length deck) (j + 1) more (kept ++ code ∷ []))
 one_kept deck j more kept [] code e l n c =
-    let a : length (ends deck) ≡ length deck = ends_count deck in let b : length (kept ++ []) ≡ length (ends deck) =
+    let a : length (ends deck) ≡ length deck = one_end_per_job deck in let b : length (kept ++ []) ≡ length (ends deck) =
     ap (λ x. length x) e in let d : length (kept ++ []) ≡ length kept = ap (λ x. length x) (append-nil kept) in absurd (omega arith)
 one_kept deck j more kept (r ∷ rest) code e l n c =
     writing_keeps deck (j + 1) more (kept ++ code ∷ []) rest
@@ -201,11 +181,11 @@ writer_posts deck (Keeping k more kept (Arming e todo)) m d p q j lt has = absur
 writer_posts deck (Keeping k more kept (Settling e todo found)) m d p q j lt has = absurd (cc q)
 
 -- the code with which an initiator ends its job is the job's end
-pub ending_is : (deck : List JobData) (initiators : ℕ) (run : Running) (code : ℕ) → IsSound deck initiators → IsEnding deck run code
+pub ending_is : (deck : List JobData) (initiators : ℕ) (run : Running) (code : ℕ) → IsPlanned deck initiators → IsEnding deck run code
     → IsMarkedRun deck run → code ≡ end_of deck run.job
-ending_is deck initiators run code sound at f = at.end ∙ end_by_mark deck run.job run.skipped sound.jobs at.turn.job f
+ending_is deck initiators run code sound at f = at.end ∙ end_by_mark deck run.job run.skipped sound.jobs at.round.job f
 
-module _ (deck : List JobData) (initiators : ℕ) (sound : IsSound deck initiators) where
+module _ (deck : List JobData) (initiators : ℕ) (sound : IsPlanned deck initiators) where
   initiator_posts : (i : ℕ) (x : InitiatorAt) → IsInitiatorAt deck (At x) → OfRun (IsMarkedRun deck) (At x)
       → PostsEnds deck (initiator_asks (length deck) i x).0 (initiator_asks (length deck) i x).1
   initiator_posts i Opening at f m d p q j lt has = absurd (cc p)
@@ -223,15 +203,15 @@ module _ (deck : List JobData) (initiators : ℕ) (sound : IsSound deck initiato
   initiator_posts i (Purging run hand code) at f m d p q j lt has = absurd (cc p)
   initiator_posts i (EndingJob run code counts) at f m d p q j lt has =
       sym (cc q) ∙ ending_is deck initiators run code sound at (f run refl)
-      ∙ ap (λ k. end_of deck k) (sym (done_one (length deck) j run.job lt at.turn.job
+      ∙ ap (λ k. end_of deck k) (sym (done_one (length deck) j run.job lt at.round.job
       (subst (HasEnd (length deck) j) (sym (cc p)) has)))
   initiator_posts i (EndingForScheduler run code counts) at f m d p q j lt has =
       sym (cc q) ∙ ending_is deck initiators run code sound at (f run refl)
-      ∙ ap (λ k. end_of deck k) (sym (scheduler_one (length deck) j run.job lt at.turn.job
+      ∙ ap (λ k. end_of deck k) (sym (scheduler_one (length deck) j run.job lt at.round.job
       (subst (HasEnd (length deck) j) (sym (cc p)) has)))
   initiator_posts i (EndingForWriter run code counts) at f m d p q j lt has =
       sym (cc q) ∙ ending_is deck initiators run code sound at (f run refl)
-      ∙ ap (λ k. end_of deck k) (sym (writer_one (length deck) j run.job lt at.turn.job
+      ∙ ap (λ k. end_of deck k) (sym (writer_one (length deck) j run.job lt at.round.job
       (subst (HasEnd (length deck) j) (sym (cc p)) has)))
   initiator_posts i (Closing g) at f m d p q j lt has = absurd (cc p)
 

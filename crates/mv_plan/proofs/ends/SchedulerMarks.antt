@@ -13,7 +13,7 @@ use Rattle.mv_deck.specs.declared.deck.After.{After}
 use Rattle.mv_deck.specs.declared.deck.Step.{Step}
 use Rattle.mv_report.specs.Outcome.{some_unaccepted}
 use Rattle.mv_plan.specs.Jobs.{no_job, job_at, end_of}
-use Rattle.mv_plan.proofs.deck.Sound.{AreSoundJobs}
+use Rattle.mv_plan.proofs.deck.Plans.{ArePlannedJobs}
 use Rattle.mv_report.specs.Outcome.{ends}
 use Rattle.mv_plan.specs.SpoolSetup.{end_for_scheduler}
 use Rattle.mv_plan.specs.SpoolTasks.{code_of, some_end_above, ends_of}
@@ -119,7 +119,7 @@ below_more : (j n : ℕ) (parts : List After) → j ≤ n → AllByRecursion (λ
 below_more j n [] le a = tt
 below_more j n (part ∷ parts) le a = (let lt : part.job < j = a.0 in omega arith, below_more j n parts le a.1)
 
-pub rest_parts : (deck : List JobData) (j : ℕ) (job : JobData) (jobs : List JobData) → AreSoundJobs 0 deck → IsRest deck j (job ∷ jobs)
+pub rest_parts : (deck : List JobData) (j : ℕ) (job : JobData) (jobs : List JobData) → ArePlannedJobs 0 deck → IsRest deck j (job ∷ jobs)
     → AllByRecursion (λ part. part.job < length deck) job.after
 rest_parts deck j job jobs sound r =
     below_more j (length deck) job.after (let lt : j < length deck = rest_below deck j job jobs r in omega arith)
@@ -173,7 +173,7 @@ module _ (deck : List JobData) (initiators : ℕ) where
   first_marked a [] f = tt
   first_marked a (e ∷ es) f = f
 
-  one_settled : (a : Awaited) (e : ℕ) (todo : List ℕ) (found : List (Option ℕ)) (slot : Option ℕ) → AreSoundJobs 0 deck
+  one_settled : (a : Awaited) (e : ℕ) (todo : List ℕ) (found : List (Option ℕ)) (slot : Option ℕ) → ArePlannedJobs 0 deck
       → IsAwaited deck initiators a → IsWaitAt (awaited_blocks (length deck) initiators a) (Settling e todo found)
       → MarkedWait deck a found → ((k : ℕ) → k < length deck → e ≡ end_for_scheduler (length deck) k → IsRight slot (end_of deck k))
       → MarkedWait deck a (found ++ slot ∷ [])
@@ -189,7 +189,7 @@ module _ (deck : List JobData) (initiators : ℕ) where
       (k : ℕ) → k < length deck → e ≡ end_for_scheduler (length deck) k → code ≡ end_of deck k
   FindsEnds x r = Unit {0}
 
-  pub scheduler_marks : (x : SchedulerAt) (r : Reply) → AreSoundJobs 0 deck → IsSchedulerAt deck initiators (At x)
+  pub scheduler_marks : (x : SchedulerAt) (r : Reply) → ArePlannedJobs 0 deck → IsSchedulerAt deck initiators (At x)
       → IsMarked deck (At x) → FindsEnds x r → IsMarked deck (scheduler_goes (length deck) initiators x r)
   scheduler_marks (Waits a (Arming e todo)) r sound s f finds =
       on_armed_keeps (IsMarked deck) (arming_from (length deck) initiators a todo) r (arming_marked a todo s.0 f) tt

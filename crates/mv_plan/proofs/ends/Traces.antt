@@ -22,15 +22,15 @@ use Rattle.mv_machine.specs.System.{System, moved, opening}
 use Rattle.mv_plan.specs.PostingEnds.{post_in, posts, post_codes, FindsEnd, HasRightMark, PostsFirst}
 use Rattle.mv_deck.specs.Deck.{JobData}
 use Rattle.mv_plan.specs.Jobs.{end_of}
-use Rattle.mv_plan.proofs.deck.Sound.{IsSound}
+use Rattle.mv_plan.proofs.deck.Plans.{IsPlanned}
 use Rattle.mv_plan.specs.SpoolSetup.{done, end_for_scheduler, end_for_writer}
 use Rattle.mv_plan.specs.SpoolTasks.{code_of}
 use Rattle.mv_plan.proofs.ends.Blocks.{HasEnd, scheduler_has, writer_has}
 use Rattle.mv_plan.proofs.deck.Ends.{is_skipped, skipped_ends, few_jobs}
 use Rattle.mv_plan.proofs.ends.RightCodes.{HoldEnds, ReleasesCodes}
 use Rattle.mv_plan.proofs.deck.Codes.{code_parts, never_zero}
-use Rattle.mv_plan.proofs.ends.Complete.{NotComplete, block_moved}
-use Rattle.mv_plan.proofs.walks.Moves.{entry_of, block, block_reply, turned_there}
+use Rattle.mv_plan.proofs.ends.Complete.{NotComplete, BlockAfter, block_moved, moved_there}
+use Rattle.mv_plan.proofs.walks.Moves.{entry_of, block, block_reply}
 use Rattle.mv_machine.proofs.Lists.{all_push}
 
 -- the codes that a block is complete with
@@ -132,13 +132,6 @@ replied c s k b p o op r e n f g =
     block_reply c s k b e p r (subst (λ z. IsNext c s (entry_of k p (z, op_on.Ecb e) r)) f
     (subst (λ z. IsNext c s (entry_of k p (o, z) r)) g n))
 
--- and the block after it
-moved_there : (s : System) (k b : ℕ) (o : Object) (op : Op) (e : EcbOp) → o ≡ Ecb b → op ≡ op_on.Ecb e
-    → block (moved s k o op) b ≡ (ecb_step e (block s b)).0
-moved_there s k b o op e f g = subst (λ z. block (moved s k z op) b ≡ (ecb_step e (block s b)).0) (sym f)
-    (subst (λ z. block (moved s k (Ecb b) z) b ≡ (ecb_step e (block s b)).0) (sym g)
-    (turned_there s.ecb b (ecb_step e (block s b)).0 b refl))
-
 -- an event on a block is of a block's kind
 ecb_kind : (c : Setup) (s : System) (k b p : ℕ) (o : Object) (op : Op) (r : Reply) → IsNext c s (entry_of k p (o, op) r) → o ≡ Ecb b
     → (e : EcbOp) × (op ≡ op_on.Ecb e)
@@ -155,8 +148,8 @@ ecb_kind c s k b p o (op_on.Latch e) r n f = absurd (none (subst (λ z. IsNext c
 
 -- ---- the step, for any event
 
-module _ (deck : List JobData) (initiators : ℕ) (sound : IsSound deck initiators) (c : Setup) (s : System) (k p : ℕ) (o : Object) (op : Op)
-    (r : Reply) (past : List Entry)
+module _ (deck : List JobData) (initiators : ℕ) (sound : IsPlanned deck initiators) (c : Setup) (s : System) (k p : ℕ)
+    (o : Object) (op : Op) (r : Reply) (past : List Entry)
     (next : IsNext c s (entry_of k p (o, op) r)) (h : Traces deck s past) (ends : HoldEnds deck s) (releases : ReleasesCodes deck o op)
     (free : (b d : ℕ) → o ≡ Ecb b → op ≡ op_on.Ecb (ecb_op.Post d) → NotComplete s b)
     (extended : (j d : ℕ) → j < length deck → o ≡ Ecb (done (length deck) j) → op ≡ op_on.Ecb (ecb_op.Post d)
@@ -173,9 +166,7 @@ module _ (deck : List JobData) (initiators : ℕ) (sound : IsSound deck initiato
       ∙ posted_code w.0 (block s b) (free b w.0 w.1 w.2))
   codes_next j b lt has (inr w) = ap (λ ps. map (λ p. p.0) ps) (posts_none b k p o op r past w.0) ∙ h.codes j b lt has
       ∙ sym (after (block_moved s k o op b)) where
-        after : (block (moved s k o op) b ≡ block s b)
-            ⊎ ((x : EcbOp) × (o ≡ Ecb b) × (op ≡ op_on.Ecb x) × (block (moved s k o op) b ≡ (ecb_step x (block s b)).0))
-            → code_list (block (moved s k o op) b) ≡ code_list (block s b)
+        after : BlockAfter s k o op b → code_list (block (moved s k o op) b) ≡ code_list (block s b)
         after (inl same) = ap (λ v. code_list v) same
         after (inr m) = ap (λ v. code_list v) m.3
             ∙ kept_code m.0 (block s b) (λ d q. w.1 d m.1 (m.2 ∙ ap (λ z. op_on.Ecb z) q))

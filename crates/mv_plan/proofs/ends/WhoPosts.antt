@@ -12,8 +12,8 @@ use Rattle.mv_calls.specs.LatchCalls.{Counts}
 use Rattle.mv_plan.specs.SpoolSetup.{entered, done, end_for_scheduler, end_for_writer, idle}
 use Rattle.mv_plan.proofs.points.Points.{Point, At, Finished, TooSoon, Astray, Running, InitiatorAt, Opening, Offering, Pausing, Resuming}
 use Rattle.mv_plan.proofs.points.Points.{Obtaining, Confirming, Freeing, Reading, Writing, Scanning, Rescanning, Purging, EndingJob}
-use Rattle.mv_plan.proofs.points.Points.{EndingForScheduler, EndingForWriter, Closing, initiator_asks, initiator_goes, turns_from}
-use Rattle.mv_plan.proofs.points.Points.{turns_after}
+use Rattle.mv_plan.proofs.points.Points.{EndingForScheduler, EndingForWriter, Closing, initiator_asks, initiator_goes, rounds_from}
+use Rattle.mv_plan.proofs.points.Points.{rounds_after}
 use Rattle.mv_plan.proofs.points.PostsAndWaits.{on_posted_keeps}
 use Rattle.mv_plan.proofs.points.InitiatorSound.{IsInitiatorAt}
 use Rattle.mv_plan.proofs.ends.Blocks.{HasEnd, idle_none, done_one, scheduler_one, writer_one}
@@ -76,17 +76,17 @@ run_below deck (At Opening) run s e = absurd (cc e)
 run_below deck (At (Offering more before g)) run s e = absurd (cc e)
 run_below deck (At (Pausing more before g)) run s e = absurd (cc e)
 run_below deck (At (Resuming more before g)) run s e = absurd (cc e)
-run_below deck (At (Obtaining r hand latch mode steps)) run s e = below_same r run (length deck) e s.turn.job
-run_below deck (At (Confirming r hand latch mode id steps)) run s e = below_same r run (length deck) e s.turn.job
-run_below deck (At (Freeing r hand latch id steps)) run s e = below_same r run (length deck) e s.0.turn.job
-run_below deck (At (Reading r hand volume amount steps)) run s e = below_same r run (length deck) e s.turn.job
-run_below deck (At (Writing r hand volume amount number steps)) run s e = below_same r run (length deck) e s.turn.job
-run_below deck (At (Scanning r hand volume steps)) run s e = below_same r run (length deck) e s.turn.job
-run_below deck (At (Rescanning r hand volume number steps)) run s e = below_same r run (length deck) e s.turn.job
-run_below deck (At (Purging r hand code)) run s e = below_same r run (length deck) e s.turn.job
-run_below deck (At (EndingJob r code counts)) run s e = below_same r run (length deck) e s.turn.job
-run_below deck (At (EndingForScheduler r code counts)) run s e = below_same r run (length deck) e s.turn.job
-run_below deck (At (EndingForWriter r code counts)) run s e = below_same r run (length deck) e s.turn.job
+run_below deck (At (Obtaining r hand latch mode steps)) run s e = below_same r run (length deck) e s.round.job
+run_below deck (At (Confirming r hand latch mode id steps)) run s e = below_same r run (length deck) e s.round.job
+run_below deck (At (Freeing r hand latch id steps)) run s e = below_same r run (length deck) e s.0.round.job
+run_below deck (At (Reading r hand volume amount steps)) run s e = below_same r run (length deck) e s.round.job
+run_below deck (At (Writing r hand volume amount number steps)) run s e = below_same r run (length deck) e s.round.job
+run_below deck (At (Scanning r hand volume steps)) run s e = below_same r run (length deck) e s.round.job
+run_below deck (At (Rescanning r hand volume number steps)) run s e = below_same r run (length deck) e s.round.job
+run_below deck (At (Purging r hand code)) run s e = below_same r run (length deck) e s.round.job
+run_below deck (At (EndingJob r code counts)) run s e = below_same r run (length deck) e s.round.job
+run_below deck (At (EndingForScheduler r code counts)) run s e = below_same r run (length deck) e s.round.job
+run_below deck (At (EndingForWriter r code counts)) run s e = below_same r run (length deck) e s.round.job
 run_below deck (At (Closing g)) run s e = absurd (cc e)
 run_below deck (Finished a) run s e = absurd (cc e)
 run_below deck TooSoon run s e = absurd (cc e)
@@ -139,19 +139,19 @@ plain_posts n i x j b plain lt has (ends_writer run code counts is e) = subst No
 
 -- ---- what follows the points that do
 
-turns_stage : (Q R S : ℕ → Type 0) (more : ℕ) (before : List ℕ) (g : ℕ) → ByStage Q R S (turns_from more before g)
-turns_stage Q R S zero before g = tt
-turns_stage Q R S (suc more) before g = tt
+rounds_stage : (Q R S : ℕ → Type 0) (more : ℕ) (before : List ℕ) (g : ℕ) → ByStage Q R S (rounds_from more before g)
+rounds_stage Q R S zero before g = tt
+rounds_stage Q R S (suc more) before g = tt
 
 pub ended_stage : (Q R S : ℕ → Type 0) (deck : List JobData) (run : Running) (code : ℕ) (counts : Counts) (r : Reply) → R run.job
     → ByStage Q R S (initiator_goes deck (EndingJob run code counts) r)
 ended_stage Q R S deck run code counts (reply_of.Ecb (ecb_reply.Woke (suc x))) h = h
 ended_stage Q R S deck run code counts (reply_of.Ecb (ecb_reply.Woke zero)) h =
-    turns_stage Q R S run.more (run.before ++ run.job ∷ []) run.generation
+    rounds_stage Q R S run.more (run.before ++ run.job ∷ []) run.generation
 ended_stage Q R S deck run code counts (reply_of.Ecb ecb_reply.Posted) h =
-    turns_stage Q R S run.more (run.before ++ run.job ∷ []) run.generation
+    rounds_stage Q R S run.more (run.before ++ run.job ∷ []) run.generation
 ended_stage Q R S deck run code counts (reply_of.Ecb (ecb_reply.Already old)) h =
-    turns_stage Q R S run.more (run.before ++ run.job ∷ []) run.generation
+    rounds_stage Q R S run.more (run.before ++ run.job ∷ []) run.generation
 ended_stage Q R S deck run code counts r h = tt
 
 pub scheduler_stage : (Q R S : ℕ → Type 0) (deck : List JobData) (run : Running) (code : ℕ) (counts : Counts) (r : Reply) → S run.job
@@ -161,4 +161,4 @@ scheduler_stage Q R S deck run code counts r h = on_posted_keeps (ByStage Q R S)
 pub writer_stage : (Q R S : ℕ → Type 0) (deck : List JobData) (run : Running) (code : ℕ) (counts : Counts) (r : Reply)
     → ByStage Q R S (initiator_goes deck (EndingForWriter run code counts) r)
 writer_stage Q R S deck run code counts r =
-    on_posted_keeps (ByStage Q R S) (turns_after run) r (turns_stage Q R S run.more (run.before ++ run.job ∷ []) run.generation) tt
+    on_posted_keeps (ByStage Q R S) (rounds_after run) r (rounds_stage Q R S run.more (run.before ++ run.job ∷ []) run.generation) tt

@@ -20,7 +20,7 @@ use Rattle.mv_plan.proofs.ends.Blocks.{settled_code}
 use Rattle.mv_plan.proofs.walks.Stands.{HasStanding}
 use Rattle.mv_plan.proofs.ends.Complete.{IsComplete, is_moved}
 use Rattle.mv_plan.proofs.ends.Awaited.{reader_ecb, initiator_ecb}
-use Rattle.mv_plan.proofs.ends.Posted.{scheduler_clears, writer_no_clear, no_clear}
+use Rattle.mv_plan.proofs.ends.Posted.{scheduler_clears, writer_clears_none, clear_is_no_post}
 use Rattle.mv_plan.proofs.walks.Moves.{KeepsUnder, by_moves, entry_of, block, block_reply}
 
 -- the ends of all jobs below are posted to the writer
@@ -101,7 +101,7 @@ module _ (deck : List JobData) (initiators : ℕ) where
   writer_has_keeps c = by_moves (HasStanding deck initiators) (WriterHas deck) c deck initiators
       (λ s t past x p r at n q h. below_kept s (moved s reader (reader_asks x).0 (reader_asks x).1) t q.writer
       (λ k lt w. is_moved s reader (reader_asks x).0 (reader_asks x).1 (end_for_writer (length deck) k) w
-      (λ o op. no_clear (reader_ecb deck initiators x ecb_op.Clear op).1)) h)
+      (λ o op. clear_is_no_post (reader_ecb deck initiators x ecb_op.Clear op).1)) h)
       (λ s t past x p r at n q h. below_kept s
       (moved s scheduler (scheduler_asks (length deck) x).0 (scheduler_asks (length deck) x).1) t q.writer
       (λ k lt w. is_moved s scheduler (scheduler_asks (length deck) x).0 (scheduler_asks (length deck) x).1
@@ -111,10 +111,10 @@ module _ (deck : List JobData) (initiators : ℕ) where
       (λ s t past i x p r lt at n q h. below_kept s
       (moved s (initiator i) (initiator_asks (length deck) i x).0 (initiator_asks (length deck) i x).1) t q.writer
       (λ k less w. is_moved s (initiator i) (initiator_asks (length deck) i x).0 (initiator_asks (length deck) i x).1
-      (end_for_writer (length deck) k) w (λ o op. no_clear (initiator_ecb deck initiators i x ecb_op.Clear op).1)) h)
+      (end_for_writer (length deck) k) w (λ o op. clear_is_no_post (initiator_ecb deck initiators i x ecb_op.Clear op).1)) h)
       (λ s t past x p r at n q h. own_found s (moved s (writer initiators) (writer_asks x).0 (writer_asks x).1) x r
       (subst (IsWriterAt (length deck)) at q.writer)
-      (λ b w. is_moved s (writer initiators) (writer_asks x).0 (writer_asks x).1 b w (λ o op. writer_no_clear x op))
+      (λ b w. is_moved s (writer initiators) (writer_asks x).0 (writer_asks x).1 b w (λ o op. writer_clears_none x op))
       (finds_it c s x _ p r n) (subst (HasFound (length deck) s) at h))
 
   pub writer_has_first : (c : Setup) → WriterHas deck (opening c) (start_points deck initiators) []

@@ -16,13 +16,11 @@ use Rattle.mv_machine.specs.declared.entry.Object.{Object}
 use Rattle.mv_machine.specs.declared.entry.Object.TheVariants.{Ecb, Element, Volume, Latches}
 use Rattle.mv_machine.specs.declared.entry.Op.{Op}
 use Rattle.mv_machine.specs.declared.entry.Op.TheVariants as op_on
-use Rattle.mv_machine.specs.declared.entry.Reply.TheVariants as reply_of
 use Rattle.mv_machine.specs.declared.entry.VolumeOp.TheVariants as volume_op
 use Rattle.mv_machine.specs.declared.entry.VolumeReply.TheVariants as volume_reply
 use Rattle.mv_machine.specs.Legal.{Legal}
 use Rattle.mv_calls.specs.Program.{asks}
-use Rattle.mv_machine.proofs.EntryRuns.{entry_of}
-use Rattle.mv_calls.proofs.Computed.{legal_by}
+use Rattle.mv_calls.proofs.Computed.{legal_by, at_block, at_element, at_volume, at_latches}
 use Rattle.mv_deck.specs.declared.deck.Step.TheVariants.{Use, Count, Free}
 use Rattle.mv_deck.specs.Deck.{JobData}
 use Rattle.mv_plan.specs.SpoolRun.{Follows, IsRun}
@@ -30,29 +28,30 @@ use Rattle.mv_plan.specs.SpoolSetup.{spool_setup}
 use Rattle.mv_plan.proofs.examples.OneInitiator.{empty_deck, empty_journal, add_deck, add_journal}
 
 -- what a program says is the event that was made
-abbrev Says : Object × Op → Object × Op → Type 0
-Says says made = Some says ≡ Some made
+abbrev IsSaid : Object × Op → Object × Op → Type 0
+IsSaid says made = Some says ≡ Some made
 
 -- two posts of one block
-same_post : (o : Object) (a b : ℕ) → Says (o, op_on.Ecb (ecb_op.Post a)) (o, op_on.Ecb (ecb_op.Post b)) → a ≡ b
+same_post : (o : Object) (a b : ℕ) → IsSaid (o, op_on.Ecb (ecb_op.Post a)) (o, op_on.Ecb (ecb_op.Post b)) → a ≡ b
 same_post o a b e =
     let q : op_on.Ecb (ecb_op.Post a) ≡ op_on.Ecb (ecb_op.Post b) = (some_pair_parts o o _ _ e).1 in cc q
 
 -- two releases of one pause
-same_release : (o : Object) (g a b : ℕ) → Says (o, op_on.Element (element_op.Release g a)) (o, op_on.Element (element_op.Release g b))
+same_release : (o : Object) (g a b : ℕ) → IsSaid (o, op_on.Element (element_op.Release g a)) (o, op_on.Element (element_op.Release g b))
     → a ≡ b
 same_release o g a b e =
     let q : op_on.Element (element_op.Release g a) ≡ op_on.Element (element_op.Release g b) = (some_pair_parts o o _ _ e).1 in cc q
 
 -- two objects
-confirm_is_no_read : (latch id v : ℕ) → Says (Latches, op_on.Latch (latch_op.Confirm latch id)) (Volume v, op_on.Volume volume_op.Read) → ⊥
+confirm_is_no_read : (latch id v : ℕ)
+    → IsSaid (Latches, op_on.Latch (latch_op.Confirm latch id)) (Volume v, op_on.Volume volume_op.Read) → ⊥
 confirm_is_no_read latch id v e = let q : Latches ≡ Volume v = (some_pair_parts Latches (Volume v) _ _ e).0 in absurd (cc q)
 
 -- ---- the job ends with S0C4, and 5 is posted
 
 -- the history
 other_end : List Entry
-other_end = take 22 add_journal ++ entry_of 2 (Ecb 2) 1 (op_on.Ecb (ecb_op.Post 5)) (reply_of.Ecb (ecb_reply.Woke 1)) ∷ []
+other_end = take 22 add_journal ++ at_block 2 2 1 (ecb_op.Post 5) (ecb_reply.Woke 1) ∷ []
 
 -- it is legal
 other_end_is_legal : Legal (spool_setup add_deck 1) other_end
@@ -95,30 +94,30 @@ pair_deck =
 -- up to the release of the second initiator, with this code
 released_with : ℕ → List Entry
 released_with code =
-    entry_of 0 (Ecb 0) 0 (op_on.Ecb (ecb_op.Post 0)) (reply_of.Ecb ecb_reply.Posted)
-    ∷ entry_of 0 (Ecb 1) 0 (op_on.Ecb (ecb_op.Post 0)) (reply_of.Ecb ecb_reply.Posted)
-    ∷ entry_of 2 (Element 2) 0 (op_on.Element element_op.Open) (reply_of.Element (element_reply.Opened 0))
-    ∷ entry_of 3 (Element 3) 0 (op_on.Element element_op.Open) (reply_of.Element (element_reply.Opened 0))
-    ∷ entry_of 2 (Ecb 8) 0 (op_on.Ecb (ecb_op.Post 0)) (reply_of.Ecb ecb_reply.Posted)
-    ∷ entry_of 3 (Ecb 9) 0 (op_on.Ecb (ecb_op.Post 0)) (reply_of.Ecb ecb_reply.Posted)
-    ∷ entry_of 1 (Ecb 0) 1 (op_on.Ecb ecb_op.Arm) (reply_of.Ecb (ecb_reply.Complete 0))
-    ∷ entry_of 1 (Ecb 0) 2 (op_on.Ecb ecb_op.Settle) (reply_of.Ecb (ecb_reply.Complete 0))
-    ∷ entry_of 1 (Ecb 2) 0 (op_on.Ecb (ecb_op.Extend 1)) (reply_of.Ecb ecb_reply.Armed)
-    ∷ entry_of 1 (Ecb 8) 1 (op_on.Ecb ecb_op.Arm) (reply_of.Ecb (ecb_reply.Complete 0))
-    ∷ entry_of 1 (Ecb 9) 1 (op_on.Ecb ecb_op.Arm) (reply_of.Ecb (ecb_reply.Complete 0))
-    ∷ entry_of 1 (Ecb 8) 2 (op_on.Ecb ecb_op.Settle) (reply_of.Ecb (ecb_reply.Complete 0))
-    ∷ entry_of 1 (Ecb 9) 2 (op_on.Ecb ecb_op.Settle) (reply_of.Ecb (ecb_reply.Complete 0))
-    ∷ entry_of 1 (Ecb 8) 3 (op_on.Ecb ecb_op.Clear) (reply_of.Ecb (ecb_reply.Word 1073741824))
-    ∷ entry_of 1 (Element 2) 1 (op_on.Element (element_op.Release 0 1)) (reply_of.Element element_reply.Early)
-    ∷ entry_of 1 (Ecb 1) 1 (op_on.Ecb ecb_op.Arm) (reply_of.Ecb (ecb_reply.Complete 0))
-    ∷ entry_of 1 (Ecb 1) 2 (op_on.Ecb ecb_op.Settle) (reply_of.Ecb (ecb_reply.Complete 0))
-    ∷ entry_of 1 (Ecb 3) 0 (op_on.Ecb (ecb_op.Extend 2)) (reply_of.Ecb ecb_reply.Armed)
-    ∷ entry_of 1 (Ecb 8) 4 (op_on.Ecb ecb_op.Arm) (reply_of.Ecb ecb_reply.Armed)
-    ∷ entry_of 1 (Ecb 9) 3 (op_on.Ecb ecb_op.Arm) (reply_of.Ecb (ecb_reply.Complete 0))
-    ∷ entry_of 1 (Ecb 8) 5 (op_on.Ecb ecb_op.Settle) (reply_of.Ecb ecb_reply.Open)
-    ∷ entry_of 1 (Ecb 9) 4 (op_on.Ecb ecb_op.Settle) (reply_of.Ecb (ecb_reply.Complete 0))
-    ∷ entry_of 1 (Ecb 9) 5 (op_on.Ecb ecb_op.Clear) (reply_of.Ecb (ecb_reply.Word 1073741824))
-    ∷ entry_of 1 (Element 3) 1 (op_on.Element (element_op.Release 0 code)) (reply_of.Element element_reply.Early)
+    at_block 0 0 0 (ecb_op.Post 0) ecb_reply.Posted
+    ∷ at_block 0 1 0 (ecb_op.Post 0) ecb_reply.Posted
+    ∷ at_element 2 2 0 element_op.Open (element_reply.Opened 0)
+    ∷ at_element 3 3 0 element_op.Open (element_reply.Opened 0)
+    ∷ at_block 2 8 0 (ecb_op.Post 0) ecb_reply.Posted
+    ∷ at_block 3 9 0 (ecb_op.Post 0) ecb_reply.Posted
+    ∷ at_block 1 0 1 ecb_op.Arm (ecb_reply.Complete 0)
+    ∷ at_block 1 0 2 ecb_op.Settle (ecb_reply.Complete 0)
+    ∷ at_block 1 2 0 (ecb_op.Extend 1) ecb_reply.Armed
+    ∷ at_block 1 8 1 ecb_op.Arm (ecb_reply.Complete 0)
+    ∷ at_block 1 9 1 ecb_op.Arm (ecb_reply.Complete 0)
+    ∷ at_block 1 8 2 ecb_op.Settle (ecb_reply.Complete 0)
+    ∷ at_block 1 9 2 ecb_op.Settle (ecb_reply.Complete 0)
+    ∷ at_block 1 8 3 ecb_op.Clear (ecb_reply.Word 1073741824)
+    ∷ at_element 1 2 1 (element_op.Release 0 1) element_reply.Early
+    ∷ at_block 1 1 1 ecb_op.Arm (ecb_reply.Complete 0)
+    ∷ at_block 1 1 2 ecb_op.Settle (ecb_reply.Complete 0)
+    ∷ at_block 1 3 0 (ecb_op.Extend 2) ecb_reply.Armed
+    ∷ at_block 1 8 4 ecb_op.Arm ecb_reply.Armed
+    ∷ at_block 1 9 3 ecb_op.Arm (ecb_reply.Complete 0)
+    ∷ at_block 1 8 5 ecb_op.Settle ecb_reply.Open
+    ∷ at_block 1 9 4 ecb_op.Settle (ecb_reply.Complete 0)
+    ∷ at_block 1 9 5 ecb_op.Clear (ecb_reply.Word 1073741824)
+    ∷ at_element 1 3 1 (element_op.Release 0 code) element_reply.Early
     ∷ []
 
 -- the first job is released again
@@ -137,11 +136,11 @@ twice_is_refused f =
 unconfirmed : List Entry
 unconfirmed =
     released_with 2
-    ++ entry_of 2 (Element 2) 2 (op_on.Element (element_op.Pause 0)) (reply_of.Element (element_reply.Given 1 1))
-    ∷ entry_of 3 (Element 3) 2 (op_on.Element (element_op.Pause 0)) (reply_of.Element (element_reply.Given 2 1))
-    ∷ entry_of 2 Latches 0 (op_on.Latch (latch_op.Obtain 0 1 Exclusive Waiting)) (reply_of.Latch (latch_reply.Granted 0))
-    ∷ entry_of 3 Latches 1 (op_on.Latch (latch_op.Obtain 0 2 Exclusive Waiting)) (reply_of.Latch (latch_reply.Queued 1))
-    ∷ entry_of 3 (Volume 0) 0 (op_on.Volume volume_op.Read) (reply_of.Volume (volume_reply.Value 0))
+    ++ at_element 2 2 2 (element_op.Pause 0) (element_reply.Given 1 1)
+    ∷ at_element 3 3 2 (element_op.Pause 0) (element_reply.Given 2 1)
+    ∷ at_latches 2 0 (latch_op.Obtain 0 1 Exclusive Waiting) (latch_reply.Granted 0)
+    ∷ at_latches 3 1 (latch_op.Obtain 0 2 Exclusive Waiting) (latch_reply.Queued 1)
+    ∷ at_volume 3 0 0 volume_op.Read (volume_reply.Value 0)
     ∷ []
 
 -- it is legal

@@ -11,7 +11,7 @@ use Rattle.mv_latch.proofs.Holders.{alone}
 use Rattle.mv_latch.proofs.Members.{not_in_empty, first_or_rest}
 use Rattle.mv_machine.specs.System.{System}
 use Rattle.mv_deck.specs.Deck.{JobData}
-use Rattle.mv_plan.proofs.deck.Sound.{is_held, is_held_alone}
+use Rattle.mv_plan.proofs.deck.Plans.{is_held, is_held_alone}
 use Rattle.mv_plan.specs.SpoolSetup.{initiator}
 use Rattle.mv_plan.proofs.latches.Asked.{finds, found, request_of}
 use Rattle.mv_plan.proofs.latches.HandMoves.{has_latch, works, Apart}

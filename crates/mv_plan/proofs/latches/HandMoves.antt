@@ -29,17 +29,17 @@ use Rattle.mv_machine.proofs.EntryRuns.{entry_of}
 use Rattle.mv_machine.proofs.Standing.{mine}
 use Rattle.mv_machine.proofs.StandingRuns.{names_of}
 use Rattle.mv_deck.specs.Deck.{JobData}
-use Rattle.mv_plan.proofs.deck.Sound.{is_held}
+use Rattle.mv_plan.proofs.deck.Plans.{is_held}
 use Rattle.mv_plan.specs.SpoolSetup.{initiator}
 use Rattle.mv_plan.proofs.latches.Hands.{Grip, Lost, Idle, Works, grip, OwnsBy, IsKnown, Hands, SparesJob, other_owns, obtain_owns}
-use Rattle.mv_plan.proofs.latches.Hands.{obtain_holds, confirm_owns, free_stands, free_owns, purge_owns, turns_own, steps_own, given_owns}
+use Rattle.mv_plan.proofs.latches.Hands.{obtain_holds, confirm_owns, free_stands, free_owns, purge_owns, rounds_own, steps_own, given_owns}
 use Rattle.mv_plan.proofs.latches.Hands.{counting_owns}
 use Rattle.mv_plan.proofs.points.InitiatorSound.{held_of, IsInitiatorAt}
 use Rattle.mv_plan.proofs.latches.Lists.{new_request, obtained_reply, confirm_granted, all_asked, AllAsked}
 use Rattle.mv_plan.proofs.points.PostsAndWaits.{on_posted_keeps}
 use Rattle.mv_plan.proofs.points.Points.{Point, At, Grant, InitiatorAt, Opening, Offering, Pausing, Resuming, Obtaining, Confirming}
 use Rattle.mv_plan.proofs.points.Points.{Freeing, Reading, Writing, Scanning, Rescanning, Purging, EndingJob, EndingForScheduler}
-use Rattle.mv_plan.proofs.points.Points.{EndingForWriter, Closing, initiator_asks, initiator_goes, turns_after, reader_asks}
+use Rattle.mv_plan.proofs.points.Points.{EndingForWriter, Closing, initiator_asks, initiator_goes, rounds_after, reader_asks}
 use Rattle.mv_plan.proofs.points.Points.{scheduler_asks, writer_asks}
 use Rattle.mv_plan.proofs.walks.Walks.{Points, Move, reads, schedules, initiates, writes}
 use Rattle.mv_plan.proofs.lists.Tables.{with_at-same, with_at-other}
@@ -76,7 +76,7 @@ module _ (c : Setup) (s : System) (deck : List JobData) (i : ℕ) where
       → IsInitiatorAt deck (At x) → OwnsBy s.latches.state (initiator i) (grip (At x))
       → OwnsBy (after_asks x) (initiator i) (grip (initiator_goes deck x r))
   own_next Opening p (reply_of.Element (element_reply.Opened g)) h a w =
-      turns_own s.latches.state (initiator i) (length deck + 1) [] g w
+      rounds_own s.latches.state (initiator i) (length deck + 1) [] g w
   own_next Opening p r h a w = tt
   own_next (Offering more before g) p r h a w =
       on_posted_keeps (λ z. OwnsBy s.latches.state (initiator i) (grip z)) (At (Pausing more before g)) r w tt
@@ -142,17 +142,17 @@ module _ (c : Setup) (s : System) (deck : List JobData) (i : ℕ) where
   own_next (Purging run hand code) p r h a w = tt
   own_next (EndingJob run code counts) p (reply_of.Ecb (ecb_reply.Woke (suc x))) h a w = w
   own_next (EndingJob run code counts) p (reply_of.Ecb (ecb_reply.Woke zero)) h a w =
-      turns_own s.latches.state (initiator i) run.more _ run.generation w
+      rounds_own s.latches.state (initiator i) run.more _ run.generation w
   own_next (EndingJob run code counts) p (reply_of.Ecb ecb_reply.Posted) h a w =
-      turns_own s.latches.state (initiator i) run.more _ run.generation w
+      rounds_own s.latches.state (initiator i) run.more _ run.generation w
   own_next (EndingJob run code counts) p (reply_of.Ecb (ecb_reply.Already old)) h a w =
-      turns_own s.latches.state (initiator i) run.more _ run.generation w
+      rounds_own s.latches.state (initiator i) run.more _ run.generation w
   own_next (EndingJob run code counts) p r h a w = tt
   own_next (EndingForScheduler run code counts) p r h a w =
       on_posted_keeps (λ z. OwnsBy s.latches.state (initiator i) (grip z)) (At (EndingForWriter run code counts)) r w tt
   own_next (EndingForWriter run code counts) p r h a w =
-      on_posted_keeps (λ z. OwnsBy s.latches.state (initiator i) (grip z)) (turns_after run) r
-      (turns_own s.latches.state (initiator i) run.more _ run.generation w) tt
+      on_posted_keeps (λ z. OwnsBy s.latches.state (initiator i) (grip z)) (rounds_after run) r
+      (rounds_own s.latches.state (initiator i) run.more _ run.generation w) tt
   own_next (Closing g) p (reply_of.Element element_reply.Closed) h a w = w
   own_next (Closing g) p r h a w = tt
 

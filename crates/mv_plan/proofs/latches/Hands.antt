@@ -29,7 +29,7 @@ use Rattle.mv_plan.proofs.latches.Lists.{obtained_list, obtained_elsewhere, gran
 use Rattle.mv_plan.proofs.latches.Lists.{granted_in, mine_pushed, mine_without, mine_purged, Spares, mine_kept, AllAsked}
 use Rattle.mv_plan.proofs.points.Points.{Point, At, Finished, Astray, Grant, Running, Hand, empty_hand, without_latch, InitiatorAt}
 use Rattle.mv_plan.proofs.points.Points.{Obtaining, Confirming, Freeing, Reading, Writing, Scanning, Rescanning, Purging, Closing}
-use Rattle.mv_plan.proofs.points.Points.{turns_from, freeing_at, steps_at, running, job_start, named_at, given_at, counting_at}
+use Rattle.mv_plan.proofs.points.Points.{rounds_from, freeing_at, steps_at, running, job_start, named_at, given_at, counting_at}
 use Rattle.mv_plan.proofs.lists.Lists.{all_map, all_join}
 use Rattle.mv_machine.proofs.Lists.{all_front, all_back, all_append, all_filter, all_at}
 
@@ -293,9 +293,9 @@ module _ (lists : List (List Request)) (k : ℕ) where
   abbrev OwnsAt : Point InitiatorAt → Type 0
   OwnsAt p = OwnsBy lists k (grip p)
 
-  pub turns_own : (m : ℕ) (before : List ℕ) (g : ℕ) → HasNone lists k → OwnsAt (turns_from m before g)
-  turns_own zero before g w = tt
-  turns_own (suc m) before g w = w
+  pub rounds_own : (m : ℕ) (before : List ℕ) (g : ℕ) → HasNone lists k → OwnsAt (rounds_from m before g)
+  rounds_own zero before g w = tt
+  rounds_own (suc m) before g w = w
 
   pub steps_own : (run : Running) (hand : Hand) (steps : List Step) → Owns lists k run.job hand.holding []
       → OwnsAt (steps_at run hand steps)

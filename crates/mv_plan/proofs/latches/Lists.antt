@@ -3,7 +3,6 @@ use Rattle.std.proofs.Common.{◌≡◌, ℕ, zero, suc, ◌<◌, ◌==◌, Bool
 use Rattle.std.proofs.Common.{length, map, filter, set, inl, inr, refl, sym, ap, ◌∙◌, subst}
 use Rattle.std.specs.List.{AllByRecursion, Contains, list_any}
 use Rattle.std.proofs.lemmas.Bool.{eq-eqb, ne_eqb, eqb-true, cases_eq, false≢true}
-use Rattle.std.proofs.lemmas.List.{get_or-set_same, get_or-set_other}
 use Rattle.std.proofs.lemmas.List.Elements.{filter-append, Contains-append_left, Contains-append_right}
 use Rattle.mv_latch.specs.declared.operation.LatchOp.{LatchOp}
 use Rattle.mv_latch.specs.declared.operation.LatchOp.TheVariants as latch_op
@@ -16,6 +15,7 @@ use Rattle.mv_latch.specs.Latch.{granted, waiting, grants, newly_granted, obtain
 use Rattle.mv_latch.specs.Latch.{blocker}
 use Rattle.mv_latch.specs.LatchSet.{list_of, latch_step}
 use Rattle.mv_latch.specs.Request.{is_own, of_caller, of_requestor, queues}
+use Rattle.mv_latch.proofs.Changes.{list_replaced, list_elsewhere}
 use Rattle.mv_latch.proofs.Holders.{granted_at_end}
 use Rattle.mv_latch.proofs.Members.{first_is_in}
 use Rattle.mv_latch.proofs.Splits.{granted_split}
@@ -26,14 +26,6 @@ use Rattle.mv_plan.proofs.lists.Lists.{all_map}
 use Rattle.mv_machine.proofs.Lists.{all_append, all_filter}
 
 -- ---- the lists after an event
-
-list_replaced : (lists : List (List Request)) (latch : ℕ) (qs : List Request) → latch < length lists
-    → list_of (set lists latch qs) latch ≡ qs
-list_replaced lists latch qs lt = get_or-set_same lists latch qs [] lt
-
-list_elsewhere : (lists : List (List Request)) (latch other : ℕ) (qs : List Request) → (other ≡ latch → ⊥)
-    → list_of (set lists latch qs) other ≡ list_of lists other
-list_elsewhere lists latch other qs apart = get_or-set_other lists latch other qs [] apart
 
 abbrev pub new_request : ℕ → ℕ → ℕ → Mode → Request
 new_request k place requestor mode = record { id = place; caller = k; requestor = requestor; mode = mode; form = form_of.Waiting }

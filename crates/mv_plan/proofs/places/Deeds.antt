@@ -27,7 +27,7 @@ use Rattle.mv_plan.proofs.points.PostsAndWaits.{on_posted_keeps}
 use Rattle.mv_plan.proofs.points.Points.{Point, At, Finished, TooSoon, Astray, SchedulerAt, Running, InitiatorAt, Opening, Offering}
 use Rattle.mv_plan.proofs.points.Points.{Pausing, Resuming, Obtaining, Confirming, Freeing, Reading, Writing, Scanning, Rescanning}
 use Rattle.mv_plan.proofs.points.Points.{Purging, EndingJob, EndingForScheduler, EndingForWriter, Closing, initiator_asks, initiator_goes}
-use Rattle.mv_plan.proofs.points.Points.{turns_from, turns_after, given_at, named_at, job_start, running, on_posted, on_opened, on_paused}
+use Rattle.mv_plan.proofs.points.Points.{rounds_from, rounds_after, given_at, named_at, job_start, running, on_posted, on_opened, on_paused}
 use Rattle.mv_plan.proofs.points.Points.{on_resumed, on_closed}
 use Rattle.mv_plan.proofs.points.RunningJob.{RunsOn, start_run, GoesOn, same, done, lost, run_goes, run_asks, run_sound}
 use Rattle.mv_plan.proofs.walks.NoneLost.{SameTalk, same_talk}
@@ -81,10 +81,10 @@ elsewhere_gave n s k Latches (op_on.Latch op) r low e = let q : r ≡ reply_of.L
     cc e in ap (λ z. gift_code z) q
 elsewhere_gave n s k o op r low e = absurd (cc e)
 
-turns_found : (m : ℕ) (before : List ℕ) (g : ℕ) → IsNotLost (turns_from m before g)
-    → (run_of (turns_from m before g) ≡ None) × (named_before (turns_from m before g) ≡ before)
-turns_found zero before g f = absurd f
-turns_found (suc m) before g f = (refl, refl)
+rounds_found : (m : ℕ) (before : List ℕ) (g : ℕ) → IsNotLost (rounds_from m before g)
+    → (run_of (rounds_from m before g) ≡ None) × (named_before (rounds_from m before g) ≡ before)
+rounds_found zero before g f = absurd f
+rounds_found (suc m) before g f = (refl, refl)
 
 -- the point after a gift, where it is not lost
 pub data Given (deck : List JobData) (before : List ℕ) (code : ℕ) (q : Point InitiatorAt) : Type 0 where
@@ -140,8 +140,8 @@ module _ (deck : List JobData) (o h : Option ℕ) where
       → IsNotLost (on_opened r (length deck))
       → Deed (length deck) (At Opening) (on_opened r (length deck)) (code_held y) (code_held (element_step element_op.Open y).0) r
   opened_did y r e w = rw (e, w.2)
-      (λ f. let t : (run_of (turns_from (length deck + 1) [] 0) ≡ None)
-      × (named_before (turns_from (length deck + 1) [] 0) ≡ []) = turns_found (length deck + 1) [] 0 f in went_on t.0 t.1 refl refl)
+      (λ f. let t : (run_of (rounds_from (length deck + 1) [] 0) ≡ None)
+      × (named_before (rounds_from (length deck + 1) [] 0) ≡ []) = rounds_found (length deck + 1) [] 0 f in went_on t.0 t.1 refl refl)
 
   paused_did : (more : ℕ) (before : List ℕ) (g : ℕ) (y : ElementState) (r : Reply)
       → r ≡ reply_of.Element (element_step (element_op.Pause g) y).1 → Row (Offers g) o h y → IsNotLost (on_paused deck more before g r)
@@ -172,8 +172,8 @@ run_did : (n : ℕ) (p q : Point InitiatorAt) (h h' : Option ℕ) (r : Reply) (r
     → IsNotLost q → h' ≡ h → gift_code r ≡ None → Deed n p q h h' r
 run_did n p q h h' r run e (same w) f k g = went_on (w ∙ sym e) (before_run q run w ∙ sym (before_run p run e)) k g
 run_did n p q h h' r run e (done w) f k g =
-    let t : (run_of (turns_after run) ≡ None) × (named_before (turns_after run) ≡ run.before ++ run.job ∷ []) =
-    turns_found run.more (run.before ++ run.job ∷ []) run.generation (subst (λ z. IsNotLost z) w f) in
+    let t : (run_of (rounds_after run) ≡ None) × (named_before (rounds_after run) ≡ run.before ++ run.job ∷ []) =
+    rounds_found run.more (run.before ++ run.job ∷ []) run.generation (subst (λ z. IsNotLost z) w f) in
     stopped run e (ap (λ z. run_of z) w ∙ t.0) (before_run p run e) (ap (λ z. named_before z) w ∙ t.1) k g
 run_did n p q h h' r run e (lost w) f k g = absurd (w f)
 

@@ -6,7 +6,7 @@ use Rattle.mv_machine.specs.Legal.{IsNext, next, after_from}
 use Rattle.mv_machine.specs.Setup.{Setup}
 use Rattle.mv_machine.specs.System.{System, opening}
 use Rattle.mv_deck.specs.Deck.{JobData}
-use Rattle.mv_plan.proofs.deck.Sound.{AreSoundJobs}
+use Rattle.mv_plan.proofs.deck.Plans.{ArePlannedJobs}
 use Rattle.mv_calls.specs.Keeping.{Kept, nothing_kept}
 use Rattle.mv_plan.specs.SpoolTasks.{not_to_run}
 use Rattle.mv_plan.proofs.walks.Fits.{Fits, fits_opening, fits_next}
@@ -54,7 +54,7 @@ ledger_start c deck initiators = record {
   accounts = λ j lt. (refl, refl);
 }
 
-module _ (c : Setup) (deck : List JobData) (initiators : ℕ) (facts : Facts c (length deck) initiators) (sound : AreSoundJobs 0 deck)
+module _ (c : Setup) (deck : List JobData) (initiators : ℕ) (facts : Facts c (length deck) initiators) (sound : ArePlannedJobs 0 deck)
     (few : length deck ≤ not_to_run) where
   unfoldable pub start_moment : NoneLost initiators (start_points deck initiators)
       → Moment c deck initiators (opening c) (start_points deck initiators) []

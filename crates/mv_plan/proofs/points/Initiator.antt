@@ -22,7 +22,7 @@ use Rattle.mv_deck.specs.Deck.{JobData}
 use Rattle.mv_deck.specs.declared.deck.Step.{Step}
 use Rattle.mv_deck.specs.declared.deck.Step.TheVariants.{Print, Use, Free, Count, Scan, Abend, Return}
 use Rattle.mv_plan.specs.Jobs.{job_at}
-use Rattle.mv_plan.proofs.deck.Sound.{AreSoundJobs}
+use Rattle.mv_plan.proofs.deck.Plans.{ArePlannedJobs}
 use Rattle.mv_calls.specs.Keeping.{Kept, nothing_kept}
 use Rattle.mv_calls.specs.LatchCalls.{obtain_refusal, obtained}
 use Rattle.mv_calls.specs.Pauses.{Gift, gift_of, token_of, allocate, lowest_free, own_elements, open_lowest, opened, pause, paused}
@@ -35,18 +35,18 @@ use Rattle.mv_calls.specs.Program.{wrong, unless_refused, on_element, on_latch}
 use Rattle.mv_calls.specs.Refusal.{Refusal}
 use Rattle.mv_calls.specs.Refusal as refusal
 use Rattle.mv_plan.specs.SpoolSetup.{done, end_for_scheduler, end_for_writer, idle, initiator}
-use Rattle.mv_plan.specs.SpoolTasks.{Named, job_named, named_by, run_job, job_done, granted_as, freed, turns}
+use Rattle.mv_plan.specs.SpoolTasks.{Named, job_named, named_by, run_job, job_done, granted_as, freed, rounds}
 use Rattle.mv_calls.specs.Waits.{refused_if, write_volume}
 use Rattle.mv_plan.proofs.points.Points.{At, Astray, Grant, Running, Hand, empty_hand, hand_with, hand_without, InitiatorAt, Opening}
 use Rattle.mv_plan.proofs.points.Points.{Offering, Pausing, Resuming, Obtaining, Confirming, Freeing, Reading, Writing, Scanning}
 use Rattle.mv_plan.proofs.points.Points.{Rescanning, Purging, EndingJob, EndingForScheduler, EndingForWriter, Closing, initiator_asks}
-use Rattle.mv_plan.proofs.points.Points.{initiator_goes, turns_from, turns_after, freeing_at, steps_at, running, job_start, named_at}
+use Rattle.mv_plan.proofs.points.Points.{initiator_goes, rounds_from, rounds_after, freeing_at, steps_at, running, job_start, named_at}
 use Rattle.mv_plan.proofs.points.Points.{given_at}
-use Rattle.mv_plan.proofs.points.Programs.{program_at, posting_next, turns_rest, given_rest, ending, stepping, steps_rest, obtained_rest}
+use Rattle.mv_plan.proofs.points.Programs.{program_at, posting_next, rounds_rest, given_rest, ending, stepping, steps_rest, obtained_rest}
 use Rattle.mv_plan.proofs.points.Programs.{initiator_program}
 use Rattle.mv_plan.proofs.points.PostsAndWaits.{post_is_now, IsPlainPost, posted_goes}
 use Rattle.mv_plan.proofs.points.ReaderAndWriter.{keeps}
-use Rattle.mv_plan.proofs.points.InitiatorSound.{IsTurn, IsStepping, InitiatorKept, InitiatorStands, standing_of, rises_few, named_is}
+use Rattle.mv_plan.proofs.points.InitiatorSound.{IsRound, IsStepping, InitiatorKept, InitiatorStands, standing_of, rises_few, named_is}
 use Rattle.mv_plan.proofs.points.InitiatorSound.{left_next, job_sound, obtained_stand, pushed_kept, freed_stand, freed_kept}
 use Rattle.mv_plan.proofs.deck.Setup.{Facts}
 
@@ -94,7 +94,8 @@ IsPlainReply (Freeing run hand latch id steps) r ws = PostNothing ws
 IsPlainReply (Purging run hand code) r ws = PostNothing ws
 IsPlainReply x r ws = Unit {0}
 
-module _ (c : Setup) (deck : List JobData) (initiators i : ℕ) (facts : Facts c (length deck) initiators) (sound : AreSoundJobs 0 deck) where
+module _ (c : Setup) (deck : List JobData) (initiators i : ℕ) (facts : Facts c (length deck) initiators)
+    (sound : ArePlannedJobs 0 deck) where
   some_blocks : 1 ≤ length c.owners
   some_blocks = let e : length c.owners ≡ 4 * length deck + initiators = facts.size in let s : 1 ≤ initiators = facts.some in
       omega arith
@@ -102,17 +103,17 @@ module _ (c : Setup) (deck : List JobData) (initiators i : ℕ) (facts : Facts c
   own_element : (kept : Kept) (g : ℕ) → kept.caller ≡ initiator i → pauses.is_others_token c kept (token_of (initiator i) g) ≡ false
   own_element kept g k = ap (λ b. not b) (eq-eqb (element_owner c (initiator i)) kept.caller (facts.element (initiator i) ∙ sym k))
 
-  turns_enter : (more : ℕ) (before : List ℕ) (g : ℕ) (kept : Kept)
-      → turns_rest c deck i more before g kept ≡ program_at (initiator_program c deck i kept) (turns_from more before g)
-  turns_enter zero before g kept = refl
-  turns_enter (suc more) before g kept =
+  rounds_enter : (more : ℕ) (before : List ℕ) (g : ℕ) (kept : Kept)
+      → rounds_rest c deck i more before g kept ≡ program_at (initiator_program c deck i kept) (rounds_from more before g)
+  rounds_enter zero before g kept = refl
+  rounds_enter (suc more) before g kept =
       ap (λ p. going_on kept p (λ posted. accepted (pause c (token_of (initiator i) g)) (given_rest c deck i more before)))
       (post_is_now c (idle (length deck) i) g kept some_blocks)
 
-  turns_after_enter : (run : Running) (kept : Kept)
-      → turns_rest c deck i run.more (run.before ++ run.job ∷ []) run.generation kept ≡ program_at (initiator_program c deck i kept)
-      (turns_after run)
-  turns_after_enter run kept = turns_enter run.more (run.before ++ run.job ∷ []) run.generation kept
+  rounds_after_enter : (run : Running) (kept : Kept)
+      → rounds_rest c deck i run.more (run.before ++ run.job ∷ []) run.generation kept ≡ program_at (initiator_program c deck i kept)
+      (rounds_after run)
+  rounds_after_enter run kept = rounds_enter run.more (run.before ++ run.job ∷ []) run.generation kept
 
   -- an exit's posts are one deeper than its source's
   deeper : (run : Running) → run.job < length deck → length c.owners - 1 ≡ suc (length c.owners - 2)
@@ -159,7 +160,7 @@ module _ (c : Setup) (deck : List JobData) (initiators i : ℕ) (facts : Facts c
   steps_enter run hand [] kept s k = refl
   steps_enter run hand (Print text ∷ steps) kept s k =
       steps_enter run hand steps kept
-      (record { turn = s.turn; holds = s.holds; left = left_next deck run (Print text) steps tt s.left; sound = s.sound }) k
+      (record { round = s.round; holds = s.holds; left = left_next deck run (Print text) steps tt s.left; sound = s.sound }) k
   steps_enter run hand (Use latch mode ∷ steps) kept s k =
       ap (λ r. stepping c deck i run kept
       (going_on kept (unless_refused r
@@ -178,53 +179,53 @@ module _ (c : Setup) (deck : List JobData) (initiators i : ℕ) (facts : Facts c
 
   start_enters : (named : Named) (skipped : Bool) (before : List ℕ) (more g : ℕ) (kept : Kept) → named.skipped ≡ skipped
       → named.job < length deck → list_any (λ j. j == named.job) before ≡ false
-      → IsTurn (length deck) more before → InitiatorKept i [] kept
+      → IsRound (length deck) more before → InitiatorKept i [] kept
       → stepping c deck i (running named before more g) kept (job_done c (named.job + 1) (job_at deck named.job) skipped kept)
       ≡ program_at (initiator_program c deck i kept) (job_start skipped (running named before more g) (job_at deck named.job))
-  start_enters named true before more g kept e lt new turn k = refl
-  start_enters named false before more g kept e lt new turn k =
+  start_enters named true before more g kept e lt new round k = refl
+  start_enters named false before more g kept e lt new round k =
       steps_enter (running named before more g) empty_hand (job_at deck named.job).steps kept (record {
-        turn = record { turn = turn; job = lt; new = new };
+        round = record { round = round; job = lt; new = new };
         holds = record { rises = tt; last = tt };
         left = record { past = []; whole = refl; going = tt; runs = e };
         sound = job_sound named.job 0 deck sound lt;
       }) k
 
   named_enters : (code more : ℕ) (before : List ℕ) (g : ℕ) (slot : Option Named) (kept : Kept) → job_named (length deck) code ≡ slot
-      → IsTurn (length deck) more before → InitiatorKept i [] kept
+      → IsRound (length deck) more before → InitiatorKept i [] kept
       → named_by slot before more (λ named. followed (run_job c deck named)
-      (λ counts. turns c deck i more (before ++ named.job ∷ []) (token_of (initiator i) g))) kept
+      (λ counts. rounds c deck i more (before ++ named.job ∷ []) (token_of (initiator i) g))) kept
       ≡ program_at (initiator_program c deck i kept) (named_at deck slot before more g)
-  named_enters code more before g None kept e turn k = refl
-  named_enters code zero before g (Some named) kept e turn k = refl
-  named_enters code (suc more) before g (Some named) kept e turn k = go (list_any (λ j. j == named.job) before) refl where
+  named_enters code more before g None kept e round k = refl
+  named_enters code zero before g (Some named) kept e round k = refl
+  named_enters code (suc more) before g (Some named) kept e round k = go (list_any (λ j. j == named.job) before) refl where
     go : (b : Bool) → list_any (λ j. j == named.job) before ≡ b
         → (if b then wrong else followed (run_job c deck named)
-        (λ counts. turns c deck i (suc more) (before ++ named.job ∷ []) (token_of (initiator i) g))) kept
+        (λ counts. rounds c deck i (suc more) (before ++ named.job ∷ []) (token_of (initiator i) g))) kept
         ≡ program_at (initiator_program c deck i kept)
         (if b then Astray else job_start named.skipped (running named before (suc more) g) (job_at deck named.job))
     go true t = refl
-    go false t = start_enters named named.skipped before (suc more) g kept refl (named_is (length deck) code named e).0 t turn k
+    go false t = start_enters named named.skipped before (suc more) g kept refl (named_is (length deck) code named e).0 t round k
 
-  given_enters : (more : ℕ) (before : List ℕ) (code g : ℕ) (kept : Kept) → IsTurn (length deck) more before → InitiatorKept i [] kept
+  given_enters : (more : ℕ) (before : List ℕ) (code g : ℕ) (kept : Kept) → IsRound (length deck) more before → InitiatorKept i [] kept
       → given_rest c deck i more before (gift_of (initiator i) code g) kept ≡ program_at (initiator_program c deck i kept)
       (given_at deck more before code g)
-  given_enters more before code g kept turn k =
+  given_enters more before code g kept round k =
       elim (code == 0) as (λ b. (if b then accepted (deallocate c (token_of (initiator i) g)) (λ closed. finished [])
       else named_by (job_named (length deck) code) before more
       (λ named. followed (run_job c deck named)
-      (λ counts. turns c deck i more (before ++ named.job ∷ []) (token_of (initiator i) g)))) kept
+      (λ counts. rounds c deck i more (before ++ named.job ∷ []) (token_of (initiator i) g)))) kept
       ≡ program_at (initiator_program c deck i kept)
       (if b then At (Closing g) else named_at deck (job_named (length deck) code) before more g)) [
         | true ↦ close_enters g kept k.caller
-        | false ↦ named_enters code more before g (job_named (length deck) code) kept refl turn k
+        | false ↦ named_enters code more before g (job_named (length deck) code) kept refl round k
       ]
 
   -- the whole program starts with the opening
-  pub opening_enters : accepted (allocate c) (turns c deck i (length deck + 1) [])
+  pub opening_enters : accepted (allocate c) (rounds c deck i (length deck + 1) [])
       (nothing_kept (initiator i)) ≡ initiator_program c deck i (nothing_kept (initiator i)) Opening
   opening_enters = ap (λ n. going_on (nothing_kept (initiator i)) (open_lowest n)
-      (unrefused (turns c deck i (length deck + 1) []))) lowest where
+      (unrefused (rounds c deck i (length deck + 1) []))) lowest where
         lowest : lowest_free c (nothing_kept (initiator i)) ≡ Some (initiator i)
         lowest = ap (λ k. find (λ n. true) (range_with_len (initiator i * k) k)) facts.each ∙ ap (λ n. Some n) (omega arith)
 
@@ -244,7 +245,7 @@ module _ (c : Setup) (deck : List JobData) (initiators i : ℕ) (facts : Facts c
         → heard (initiator_program c deck i kept x) (told r) ≡ program_at
         (initiator_program c deck i (keeps kept (initiator_asks (length deck) i x) r)) (initiator_goes deck x r)
     goes Opening (reply_of.Element (element_reply.Opened g)) s f =
-        turns_enter (length deck + 1) [] g
+        rounds_enter (length deck + 1) [] g
         (keeps kept (initiator_asks (length deck) i Opening) (reply_of.Element (element_reply.Opened g)))
     goes Opening r s f = refl
     goes (Offering more before g) r s f =
@@ -308,7 +309,7 @@ module _ (c : Setup) (deck : List JobData) (initiators i : ℕ) (facts : Facts c
         steps_enter run hand steps (keeps kept (initiator_asks (length deck) i (Writing run hand volume amount number steps))
         (reply_of.Volume volume_reply.Stored))
         (record {
-          turn = s.0.turn;
+          round = s.0.round;
           holds = s.0.holds;
           left = left_next deck run (Count volume amount) steps tt s.0.left;
           sound = s.0.sound.4;
@@ -319,7 +320,7 @@ module _ (c : Setup) (deck : List JobData) (initiators i : ℕ) (facts : Facts c
     goes (Rescanning run hand volume number steps) (reply_of.Volume (volume_reply.Value again)) s f =
         steps_enter run hand steps (keeps kept (initiator_asks (length deck) i (Rescanning run hand volume number steps))
         (reply_of.Volume (volume_reply.Value again)))
-        (record { turn = s.0.turn; holds = s.0.holds; left = left_next deck run (Scan volume) steps tt s.0.left; sound = s.0.sound.2 })
+        (record { round = s.0.round; holds = s.0.holds; left = left_next deck run (Scan volume) steps tt s.0.left; sound = s.0.sound.2 })
         (record { caller = s.1.caller; stand = s.1.stand })
     goes (Rescanning run hand volume number steps) r s f = refl
     goes (Purging run hand code) (reply_of.Latch (latch_reply.Purged removed granted)) s f =
@@ -339,19 +340,19 @@ module _ (c : Setup) (deck : List JobData) (initiators i : ℕ) (facts : Facts c
         ∙ ap (λ es. ending c deck i run
         (keeps kept (initiator_asks (length deck) i (EndingJob run code counts)) (reply_of.Ecb (ecb_reply.Woke (suc x))))
         (and_then (each_posted (post_within (length c.owners - 1) c code) es (Woke (run.job + 1))) (λ p. Done counts)))
-        (facts.targets run.job s.0.turn.job)
+        (facts.targets run.job s.0.round.job)
         ∙ ap (λ d. ending c deck i run (keeps kept (initiator_asks (length deck) i (EndingJob run code counts))
         (reply_of.Ecb (ecb_reply.Woke (suc x))))
         (and_then (each_posted (post_within d c code)
         (end_for_scheduler (length deck) run.job ∷ end_for_writer (length deck) run.job ∷ []) (Woke (run.job + 1)))
-        (λ p. Done counts))) (deeper run s.0.turn.job)
+        (λ p. Done counts))) (deeper run s.0.round.job)
     goes (EndingJob run code counts) (reply_of.Ecb (ecb_reply.Woke zero)) s f =
-        turns_after_enter run (keeps kept (initiator_asks (length deck) i (EndingJob run code counts))
+        rounds_after_enter run (keeps kept (initiator_asks (length deck) i (EndingJob run code counts))
         (reply_of.Ecb (ecb_reply.Woke zero)))
     goes (EndingJob run code counts) (reply_of.Ecb ecb_reply.Posted) s f =
-        turns_after_enter run (keeps kept (initiator_asks (length deck) i (EndingJob run code counts)) (reply_of.Ecb ecb_reply.Posted))
+        rounds_after_enter run (keeps kept (initiator_asks (length deck) i (EndingJob run code counts)) (reply_of.Ecb ecb_reply.Posted))
     goes (EndingJob run code counts) (reply_of.Ecb (ecb_reply.Already old)) s f =
-        turns_after_enter run (keeps kept (initiator_asks (length deck) i (EndingJob run code counts))
+        rounds_after_enter run (keeps kept (initiator_asks (length deck) i (EndingJob run code counts))
         (reply_of.Ecb (ecb_reply.Already old)))
     goes (EndingJob run code counts) r s f = refl
     goes (EndingForScheduler run code counts) r s f =
@@ -365,7 +366,7 @@ module _ (c : Setup) (deck : List JobData) (initiators i : ℕ) (facts : Facts c
         posted_goes c _ (λ p. ending c deck i run (keeps kept (initiator_asks (length deck) i (EndingForWriter run code counts)) r)
         (and_then (and_then p (λ p. each_posted (posting_next c code) [] (Woke (run.job + 1)))) (λ p. Done counts)))
         (initiator_program c deck i (keeps kept (initiator_asks (length deck) i (EndingForWriter run code counts)) r))
-        (turns_after run) r
-        (λ p. turns_after_enter run (keeps kept (initiator_asks (length deck) i (EndingForWriter run code counts)) r)) refl f
+        (rounds_after run) r
+        (λ p. rounds_after_enter run (keeps kept (initiator_asks (length deck) i (EndingForWriter run code counts)) r)) refl f
     goes (Closing g) (reply_of.Element element_reply.Closed) s f = refl
     goes (Closing g) r s f = refl

@@ -1,4 +1,4 @@
--- Where an initiator may stand: its turns, the steps that are left of its job, the latches in its hand, the code that it ends
+-- Where an initiator may stand: its rounds, the steps that are left of its job, the latches in its hand, the code that it ends
 -- with; and what it keeps there. Kept by each of its steps, whatever the reply.
 use Rattle.std.proofs.Common.{◌≡◌, ℕ, zero, suc, ◌+◌, ◌-◌, ◌^◌, ◌<◌, ◌≤◌, ◌==◌, nat_le, nat_lt, Bool, true, false, not, ◌&&◌}
 use Rattle.std.proofs.Common.{if◌then◌else◌, List, [], ◌∷◌, ◌++◌, length, map, filter, Option, Some, None, refl, sym, ap, ◌∙◌, subst}
@@ -20,7 +20,7 @@ use Rattle.mv_deck.specs.Deck.{JobData}
 use Rattle.mv_deck.specs.declared.deck.Step.{Step}
 use Rattle.mv_deck.specs.declared.deck.Step.TheVariants.{Print, Use, Free, Count, Scan, Abend, Return}
 use Rattle.mv_plan.specs.Jobs.{job_at}
-use Rattle.mv_plan.proofs.deck.Sound.{Held, is_held, AreSoundSteps, AreSoundJobs}
+use Rattle.mv_plan.proofs.deck.Plans.{Held, is_held, ArePlannedSteps, ArePlannedJobs}
 use Rattle.mv_deck.specs.EndCode.{not_run}
 use Rattle.mv_report.specs.Outcome.{own_end}
 use Rattle.mv_calls.specs.Waits.{AreDistinct}
@@ -30,23 +30,23 @@ use Rattle.mv_plan.specs.SpoolTasks.{Named, job_named, code_of, not_to_run}
 use Rattle.mv_plan.proofs.points.Points.{Point, At, Astray, Grant, Running, Hand, empty_hand, hand_with, without_latch, hand_without}
 use Rattle.mv_plan.proofs.points.Points.{InitiatorAt, Opening, Offering, Pausing, Resuming, Obtaining, Confirming, Freeing, Reading}
 use Rattle.mv_plan.proofs.points.Points.{Writing, Scanning, Rescanning, Purging, EndingJob, EndingForScheduler, EndingForWriter, Closing}
-use Rattle.mv_plan.proofs.points.Points.{initiator_asks, initiator_goes, turns_from, turns_after, freeing_at, steps_at, running}
+use Rattle.mv_plan.proofs.points.Points.{initiator_asks, initiator_goes, rounds_from, rounds_after, freeing_at, steps_at, running}
 use Rattle.mv_plan.proofs.points.Points.{job_start, named_at, given_at, counting_at}
 use Rattle.mv_plan.proofs.points.PostsAndWaits.{on_posted_keeps}
 use Rattle.mv_plan.proofs.points.ReaderAndWriter.{keeps}
 use Rattle.mv_machine.proofs.Lists.{all_push}
 
--- ---- turns
+-- ---- rounds
 
--- the jobs that were named before are different jobs of the n, and with the turns that are left there are n
-pub record IsTurn (n more : ℕ) (before : List ℕ) : Type 0 where
+-- the jobs that were named before are different jobs of the n, and with the rounds that are left there are n
+pub record IsRound (n more : ℕ) (before : List ℕ) : Type 0 where
   pub count : length before + more ≡ n
   pub below : AllByRecursion (λ j. j < n) before
   pub distinct : AreDistinct before
 
 -- so are the jobs that were named before the running one, and it
 pub record IsRunning (n : ℕ) (run : Running) : Type 0 where
-  pub turn : IsTurn n run.more run.before
+  pub round : IsRound n run.more run.before
   pub job : run.job < n
   pub new : list_any (λ j. j == run.job) run.before ≡ false
 
@@ -56,16 +56,16 @@ IsEnd deck run code = code ≡ (if run.skipped then not_run else own_end (job_at
 
 -- ---- steps
 
-abbrev pub GoesOn : Step → Type 0
-GoesOn (Abend code) = ⊥
-GoesOn (Return code) = ⊥
-GoesOn step = Unit {0}
+abbrev pub IsNoEnd : Step → Type 0
+IsNoEnd (Abend code) = ⊥
+IsNoEnd (Return code) = ⊥
+IsNoEnd step = Unit {0}
 
 -- these are the running job's steps behind others, none of which ended the job
 pub record AreLeft (deck : List JobData) (run : Running) (steps : List Step) : Type 0 where
   pub past : List Step
   pub whole : past ++ steps ≡ (job_at deck run.job).steps
-  pub going : AllByRecursion GoesOn past
+  pub going : AllByRecursion IsNoEnd past
   pub runs : run.skipped ≡ false
 
 -- the latches that it holds, as the deck's soundness sees them
@@ -83,20 +83,20 @@ pub record IsHand (hand : Hand) : Type 0 where
   pub last : AllByRecursion (λ g. hand.requests g.latch ≡ Some g.id) hand.holding
 
 pub record IsStepping (deck : List JobData) (run : Running) (hand : Hand) (steps : List Step) : Type 0 where
-  pub turn : IsRunning (length deck) run
+  pub round : IsRunning (length deck) run
   pub holds : IsHand hand
   pub left : AreLeft deck run steps
-  pub sound : AreSoundSteps (held_of hand.holding) steps
+  pub sound : ArePlannedSteps (held_of hand.holding) steps
 
 pub record IsEnding (deck : List JobData) (run : Running) (code : ℕ) : Type 0 where
-  pub turn : IsRunning (length deck) run
+  pub round : IsRunning (length deck) run
   pub end : IsEnd deck run code
 
 abbrev pub IsInitiatorAt : List JobData → Point InitiatorAt → Type 0
 IsInitiatorAt deck (At Opening) = Unit {0}
-IsInitiatorAt deck (At (Offering more before g)) = IsTurn (length deck) more before
-IsInitiatorAt deck (At (Pausing more before g)) = IsTurn (length deck) more before
-IsInitiatorAt deck (At (Resuming more before g)) = IsTurn (length deck) more before
+IsInitiatorAt deck (At (Offering more before g)) = IsRound (length deck) more before
+IsInitiatorAt deck (At (Pausing more before g)) = IsRound (length deck) more before
+IsInitiatorAt deck (At (Resuming more before g)) = IsRound (length deck) more before
 IsInitiatorAt deck (At (Obtaining run hand latch mode steps)) = IsStepping deck run hand (Use latch mode ∷ steps)
 IsInitiatorAt deck (At (Confirming run hand latch mode id steps)) = IsStepping deck run hand (Use latch mode ∷ steps)
 IsInitiatorAt deck (At (Freeing run hand latch id steps)) =
@@ -182,7 +182,7 @@ named_is n code named e = first (nat_le 1 code && nat_le code n) refl e where
 
 -- ---- ends
 
-pub own_end_left : (past steps : List Step) → AllByRecursion GoesOn past → own_end (past ++ steps) ≡ own_end steps
+pub own_end_left : (past steps : List Step) → AllByRecursion IsNoEnd past → own_end (past ++ steps) ≡ own_end steps
 own_end_left [] steps g = refl
 own_end_left (Print text ∷ past) steps g = own_end_left past steps g.1
 own_end_left (Use latch mode ∷ past) steps g = own_end_left past steps g.1
@@ -193,14 +193,14 @@ own_end_left (Abend code ∷ past) steps g = absurd g.0
 own_end_left (Return code ∷ past) steps g = absurd g.0
 
 -- one step was done
-pub left_next : (deck : List JobData) (run : Running) (step : Step) (steps : List Step) → GoesOn step → AreLeft deck run (step ∷ steps)
+pub left_next : (deck : List JobData) (run : Running) (step : Step) (steps : List Step) → IsNoEnd step → AreLeft deck run (step ∷ steps)
     → AreLeft deck run steps
 left_next deck run step steps s l =
     record {
       past = l.past ++ step ∷ [];
       whole = append_assoc l.past (step ∷ []) steps
           ∙ l.whole;
-      going = all_push GoesOn l.past step l.going s;
+      going = all_push IsNoEnd l.past step l.going s;
       runs = l.runs;
     }
 
@@ -349,7 +349,7 @@ held_request requests latch (g ∷ gs) l h = go (g.latch == latch) refl (λ t. h
 
 -- ---- each point's next stands
 
-pub job_sound : (j k : ℕ) (jobs : List JobData) → AreSoundJobs k jobs → j < length jobs → AreSoundSteps [] (job_at jobs j).steps
+pub job_sound : (j k : ℕ) (jobs : List JobData) → ArePlannedJobs k jobs → j < length jobs → ArePlannedSteps [] (job_at jobs j).steps
 job_sound j k [] s lt = absurd (omega arith)
 job_sound zero k (job ∷ jobs) s lt = s.0.steps
 job_sound (suc j) k (job ∷ jobs) s lt = job_sound j (k + 1) jobs s.1 (omega arith)
@@ -372,20 +372,20 @@ distinct_push (k ∷ ks) job d n = go (k == job) refl (λ t. distinct_push ks jo
   go true e rest = absurd (false≢true (sym (rw e at n)))
   go false e rest = (differs_push ks k job d.0 (λ q. absurd (false≢true (sym e ∙ eq-eqb k job (sym q)))), rest (rw e at n))
 
-pub turn_next : (n more : ℕ) (run : Running) → run.more ≡ suc more → IsRunning n run → IsTurn n more (run.before ++ run.job ∷ [])
-turn_next n more run e r = record {
+pub round_next : (n more : ℕ) (run : Running) → run.more ≡ suc more → IsRunning n run → IsRound n more (run.before ++ run.job ∷ [])
+round_next n more run e r = record {
   count = let l : length (run.before ++ run.job ∷ []) ≡ length run.before + 1 = length-append run.before (run.job ∷ []) in
-      let t : length run.before + run.more ≡ n = r.turn.count in omega arith;
-  below = before_below n run.before run.job r.turn.below r.job;
-  distinct = distinct_push run.before run.job r.turn.distinct r.new;
+      let t : length run.before + run.more ≡ n = r.round.count in omega arith;
+  below = before_below n run.before run.job r.round.below r.job;
+  distinct = distinct_push run.before run.job r.round.distinct r.new;
 }
 
-module _ (deck : List JobData) (i : ℕ) (sound : AreSoundJobs 0 deck) (kept : Kept) where
-  turns_stand : (run : Running) → IsRunning (length deck) run → InitiatorKept i [] kept → InitiatorStands deck i kept (turns_after run)
-  turns_stand run r k = go run.more refl where
-    go : (m : ℕ) → run.more ≡ m → InitiatorStands deck i kept (turns_from m (run.before ++ run.job ∷ []) run.generation)
+module _ (deck : List JobData) (i : ℕ) (sound : ArePlannedJobs 0 deck) (kept : Kept) where
+  rounds_stand : (run : Running) → IsRunning (length deck) run → InitiatorKept i [] kept → InitiatorStands deck i kept (rounds_after run)
+  rounds_stand run r k = go run.more refl where
+    go : (m : ℕ) → run.more ≡ m → InitiatorStands deck i kept (rounds_from m (run.before ++ run.job ∷ []) run.generation)
     go zero e = (tt, tt)
-    go (suc m) e = (turn_next (length deck) m run e r, k)
+    go (suc m) e = (round_next (length deck) m run e r, k)
 
   freeing_stands : (run : Running) (hand : Hand) (latch : ℕ) (steps : List Step) (slot : Option ℕ) → hand.requests latch ≡ slot
       → IsStepping deck run hand (Free latch ∷ steps)
@@ -397,10 +397,10 @@ module _ (deck : List JobData) (i : ℕ) (sound : AreSoundJobs 0 deck) (kept : K
   pub steps_stand : (run : Running) (hand : Hand) (steps : List Step) → IsStepping deck run hand steps
       → InitiatorKept i (standing_of (initiator i) run.job hand.holding) kept
       → InitiatorStands deck i kept (steps_at run hand steps)
-  steps_stand run hand [] s k = (record { turn = s.turn; end = left_end deck run [] s.left }, k)
+  steps_stand run hand [] s k = (record { round = s.round; end = left_end deck run [] s.left }, k)
   steps_stand run hand (Print text ∷ steps) s k =
       steps_stand run hand steps (record {
-        turn = s.turn;
+        round = s.round;
         holds = s.holds;
         left = left_next deck run (Print text) steps tt s.left;
         sound = s.sound;
@@ -409,46 +409,46 @@ module _ (deck : List JobData) (i : ℕ) (sound : AreSoundJobs 0 deck) (kept : K
   steps_stand run hand (Free latch ∷ steps) s k = freeing_stands run hand latch steps (hand.requests latch) refl s k
   steps_stand run hand (Count volume amount ∷ steps) s k = (s, k)
   steps_stand run hand (Scan volume ∷ steps) s k = (s, k)
-  steps_stand run hand (Abend code ∷ steps) s k = (record { turn = s.turn; end = left_end deck run (Abend code ∷ steps) s.left }, k)
-  steps_stand run hand (Return code ∷ steps) s k = (record { turn = s.turn; end = left_end deck run (Return code ∷ steps) s.left }, k)
+  steps_stand run hand (Abend code ∷ steps) s k = (record { round = s.round; end = left_end deck run (Abend code ∷ steps) s.left }, k)
+  steps_stand run hand (Return code ∷ steps) s k = (record { round = s.round; end = left_end deck run (Return code ∷ steps) s.left }, k)
 
   start_stands : (named : Named) (skipped : Bool) (before : List ℕ) (more g : ℕ) → named.skipped ≡ skipped → named.job < length deck
-      → list_any (λ j. j == named.job) before ≡ false → IsTurn (length deck) more before
+      → list_any (λ j. j == named.job) before ≡ false → IsRound (length deck) more before
       → InitiatorKept i [] kept → InitiatorStands deck i kept (job_start skipped (running named before more g) (job_at deck named.job))
-  start_stands named true before more g e lt new turn k = (
+  start_stands named true before more g e lt new round k = (
     record {
-      turn = record { turn = turn; job = lt; new = new };
+      round = record { round = round; job = lt; new = new };
       end = sym (ap (λ b. if b then not_run else own_end (job_at deck named.job).steps) e);
     },
     k,
   )
-  start_stands named false before more g e lt new turn k =
+  start_stands named false before more g e lt new round k =
       steps_stand (running named before more g) empty_hand (job_at deck named.job).steps (record {
-        turn = record { turn = turn; job = lt; new = new };
+        round = record { round = round; job = lt; new = new };
         holds = record { rises = tt; last = tt };
         left = record { past = []; whole = refl; going = tt; runs = e };
         sound = job_sound named.job 0 deck sound lt;
       }) k
 
   named_stands : (code more : ℕ) (before : List ℕ) (g : ℕ) (slot : Option Named) → job_named (length deck) code ≡ slot
-      → IsTurn (length deck) more before → InitiatorKept i [] kept
+      → IsRound (length deck) more before → InitiatorKept i [] kept
       → InitiatorStands deck i kept (named_at deck slot before more g)
-  named_stands code more before g None e turn k = (tt, tt)
-  named_stands code zero before g (Some named) e turn k = (tt, tt)
-  named_stands code (suc more) before g (Some named) e turn k = go (list_any (λ j. j == named.job) before) refl where
+  named_stands code more before g None e round k = (tt, tt)
+  named_stands code zero before g (Some named) e round k = (tt, tt)
+  named_stands code (suc more) before g (Some named) e round k = go (list_any (λ j. j == named.job) before) refl where
     go : (b : Bool) → list_any (λ j. j == named.job) before ≡ b
         → InitiatorStands deck i kept (if b then Astray else job_start named.skipped (running named before (suc more) g)
         (job_at deck named.job))
     go true t = (tt, tt)
-    go false t = start_stands named named.skipped before (suc more) g refl (named_is (length deck) code named e).0 t turn k
+    go false t = start_stands named named.skipped before (suc more) g refl (named_is (length deck) code named e).0 t round k
 
-  given_stands : (more : ℕ) (before : List ℕ) (code g : ℕ) → IsTurn (length deck) more before → InitiatorKept i [] kept
+  given_stands : (more : ℕ) (before : List ℕ) (code g : ℕ) → IsRound (length deck) more before → InitiatorKept i [] kept
       → InitiatorStands deck i kept (given_at deck more before code g)
-  given_stands more before code g turn k =
+  given_stands more before code g round k =
       elim (code == 0) as (λ b. InitiatorStands deck i kept
       (if b then At (Closing g) else named_at deck (job_named (length deck) code) before more g)) [
         | true ↦ (tt, k)
-        | false ↦ named_stands code more before g (job_named (length deck) code) refl turn k
+        | false ↦ named_stands code more before g (job_named (length deck) code) refl round k
       ]
 
   counting_stands : (run : Running) (hand : Hand) (volume amount : ℕ) (steps : List Step) (number : ℕ)
@@ -466,10 +466,10 @@ module _ (deck : List JobData) (i : ℕ) (sound : AreSoundJobs 0 deck) (kept : K
 pub obtained_stand : (deck : List JobData) (run : Running) (hand : Hand) (latch : ℕ) (mode : Mode) (id : ℕ) (steps : List Step)
     → IsStepping deck run hand (Use latch mode ∷ steps) → IsStepping deck run (hand_with hand latch mode id) steps
 obtained_stand deck run hand latch mode id steps s = record {
-  turn = s.turn;
+  round = s.round;
   holds = hand_push hand latch mode id s.holds s.sound.1;
   left = left_next deck run (Use latch mode) steps tt s.left;
-  sound = subst (λ hs. AreSoundSteps hs steps) (sym (held_push hand.holding latch mode id)) s.sound.2;
+  sound = subst (λ hs. ArePlannedSteps hs steps) (sym (held_push hand.holding latch mode id)) s.sound.2;
 }
 
 pub pushed_kept : (i : ℕ) (kept : Kept) (run : Running) (hand : Hand) (latch : ℕ) (mode : Mode) (id : ℕ)
@@ -506,10 +506,10 @@ pushed_kept i kept run hand latch mode id k same more = record {
 pub freed_stand : (deck : List JobData) (run : Running) (hand : Hand) (latch : ℕ) (steps : List Step)
     → IsStepping deck run hand (Free latch ∷ steps) → IsStepping deck run (hand_without hand latch) steps
 freed_stand deck run hand latch steps s = record {
-  turn = s.turn;
+  round = s.round;
   holds = hand_less hand latch s.holds;
   left = left_next deck run (Free latch) steps tt s.left;
-  sound = subst (λ hs. AreSoundSteps hs steps) (sym (held_without hand.holding latch)) s.sound.2;
+  sound = subst (λ hs. ArePlannedSteps hs steps) (sym (held_without hand.holding latch)) s.sound.2;
 }
 
 pub freed_kept : (i : ℕ) (kept : Kept) (run : Running) (hand : Hand) (latch id : ℕ) → IsHand hand → hand.requests latch ≡ Some id
@@ -522,13 +522,13 @@ freed_kept i kept run hand latch id h e k same fewer = record {
       ∙ standing_without (initiator i) run.job latch id hand.requests hand.holding h.last e;
 }
 
-pub initiator_stands : (deck : List JobData) (i : ℕ) (kept : Kept) (x : InitiatorAt) (r : Reply) → AreSoundJobs 0 deck
+pub initiator_stands : (deck : List JobData) (i : ℕ) (kept : Kept) (x : InitiatorAt) (r : Reply) → ArePlannedJobs 0 deck
     → InitiatorStands deck i kept (At x)
     → InitiatorStands deck i (keeps kept (initiator_asks (length deck) i x) r) (initiator_goes deck x r)
 initiator_stands deck i kept Opening (reply_of.Element (element_reply.Opened g)) sound s = go (length deck + 1) (omega arith) where
   go : (m : ℕ) → m ≡ suc (length deck)
       → InitiatorStands deck i (keeps kept (initiator_asks (length deck) i Opening) (reply_of.Element (element_reply.Opened g)))
-      (turns_from m [] g)
+      (rounds_from m [] g)
   go zero e = (tt, tt)
   go (suc m) e = (
     record { count = omega arith; below = tt; distinct = tt },
@@ -568,7 +568,7 @@ initiator_stands deck i kept (Reading run hand volume amount steps) r sound s = 
 initiator_stands deck i kept (Writing run hand volume amount number steps) (reply_of.Volume volume_reply.Stored) sound s =
     steps_stand deck i sound _ run hand steps
     (record {
-      turn = s.0.turn;
+      round = s.0.round;
       holds = s.0.holds;
       left = left_next deck run (Count volume amount) steps tt s.0.left;
       sound = s.0.sound.4;
@@ -579,7 +579,7 @@ initiator_stands deck i kept (Scanning run hand volume steps) (reply_of.Volume (
 initiator_stands deck i kept (Scanning run hand volume steps) r sound s = (tt, tt)
 initiator_stands deck i kept (Rescanning run hand volume number steps) (reply_of.Volume (volume_reply.Value again)) sound s =
     steps_stand deck i sound _ run hand steps
-    (record { turn = s.0.turn; holds = s.0.holds; left = left_next deck run (Scan volume) steps tt s.0.left; sound = s.0.sound.2 })
+    (record { round = s.0.round; holds = s.0.holds; left = left_next deck run (Scan volume) steps tt s.0.left; sound = s.0.sound.2 })
     (record { caller = s.1.caller; stand = s.1.stand })
 initiator_stands deck i kept (Rescanning run hand volume number steps) r sound s = (tt, tt)
 initiator_stands deck i kept (Purging run hand code) (reply_of.Latch (latch_reply.Purged removed granted)) sound s = (
@@ -594,17 +594,17 @@ initiator_stands deck i kept (Purging run hand code) r sound s = (tt, tt)
 initiator_stands deck i kept (EndingJob run code counts) (reply_of.Ecb (ecb_reply.Woke (suc x))) sound s =
     (s.0, record { caller = s.1.caller; stand = s.1.stand })
 initiator_stands deck i kept (EndingJob run code counts) (reply_of.Ecb (ecb_reply.Woke zero)) sound s =
-    turns_stand deck i sound _ run s.0.turn (record { caller = s.1.caller; stand = s.1.stand })
+    rounds_stand deck i sound _ run s.0.round (record { caller = s.1.caller; stand = s.1.stand })
 initiator_stands deck i kept (EndingJob run code counts) (reply_of.Ecb ecb_reply.Posted) sound s =
-    turns_stand deck i sound _ run s.0.turn (record { caller = s.1.caller; stand = s.1.stand })
+    rounds_stand deck i sound _ run s.0.round (record { caller = s.1.caller; stand = s.1.stand })
 initiator_stands deck i kept (EndingJob run code counts) (reply_of.Ecb (ecb_reply.Already old)) sound s =
-    turns_stand deck i sound _ run s.0.turn (record { caller = s.1.caller; stand = s.1.stand })
+    rounds_stand deck i sound _ run s.0.round (record { caller = s.1.caller; stand = s.1.stand })
 initiator_stands deck i kept (EndingJob run code counts) r sound s = (tt, tt)
 initiator_stands deck i kept (EndingForScheduler run code counts) r sound s =
     on_posted_keeps (InitiatorStands deck i (keeps kept (initiator_asks (length deck) i (EndingForScheduler run code counts)) r))
     (At (EndingForWriter run code counts)) r (s.0, record { caller = s.1.caller; stand = s.1.stand }) (tt, tt)
 initiator_stands deck i kept (EndingForWriter run code counts) r sound s =
     on_posted_keeps (InitiatorStands deck i (keeps kept (initiator_asks (length deck) i (EndingForWriter run code counts)) r))
-    (turns_after run) r (turns_stand deck i sound _ run s.0.turn (record { caller = s.1.caller; stand = s.1.stand })) (tt, tt)
+    (rounds_after run) r (rounds_stand deck i sound _ run s.0.round (record { caller = s.1.caller; stand = s.1.stand })) (tt, tt)
 initiator_stands deck i kept (Closing g) (reply_of.Element element_reply.Closed) sound s = (tt, tt)
 initiator_stands deck i kept (Closing g) r sound s = (tt, tt)

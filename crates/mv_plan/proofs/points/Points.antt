@@ -224,7 +224,7 @@ pub record Grant : Type 0 where
   pub mode : Mode
   pub id : ℕ
 
--- the running job, whether it is not to be run, the jobs that were named before it, how many turns are left, and the generation
+-- the running job, whether it is not to be run, the jobs that were named before it, how many rounds are left, and the generation
 -- that the element has
 pub record Running : Type 0 where
   pub job : ℕ
@@ -255,7 +255,7 @@ hand_without hand latch = record { requests = hand.requests; holding = without_l
 
 pub data InitiatorAt : Type 0 where
   Opening : InitiatorAt
-  -- a turn: so many turns are left after it, these jobs were named before, and the element has generation g
+  -- a round: so many rounds are left after it, these jobs were named before, and the element has generation g
   Offering : (more : ℕ) (before : List ℕ) (g : ℕ) → InitiatorAt
   Pausing : (more : ℕ) (before : List ℕ) (g : ℕ) → InitiatorAt
   Resuming : (more : ℕ) (before : List ℕ) (g : ℕ) → InitiatorAt
@@ -294,13 +294,13 @@ initiator_asks n i (EndingForScheduler run code counts) = (Ecb (end_for_schedule
 initiator_asks n i (EndingForWriter run code counts) = (Ecb (end_for_writer n run.job), op_on.Ecb (ecb_op.Post code))
 initiator_asks n i (Closing g) = (Element (initiator i), op_on.Element (element_op.Close g))
 
--- so many turns are left
-abbrev pub turns_from : ℕ → List ℕ → ℕ → Point InitiatorAt
-turns_from zero before g = Astray
-turns_from (suc more) before g = At (Offering more before g)
+-- so many rounds are left
+abbrev pub rounds_from : ℕ → List ℕ → ℕ → Point InitiatorAt
+rounds_from zero before g = Astray
+rounds_from (suc more) before g = At (Offering more before g)
 
-abbrev pub turns_after : Running → Point InitiatorAt
-turns_after run = turns_from run.more (run.before ++ run.job ∷ []) run.generation
+abbrev pub rounds_after : Running → Point InitiatorAt
+rounds_after run = rounds_from run.more (run.before ++ run.job ∷ []) run.generation
 
 abbrev pub freeing_at : Running → Hand → ℕ → Option ℕ → List Step → Point InitiatorAt
 freeing_at run hand latch None steps = Astray
@@ -336,7 +336,7 @@ abbrev pub given_at : List JobData → ℕ → List ℕ → ℕ → ℕ → Poin
 given_at deck more before code g = if code == 0 then At (Closing g) else named_at deck (job_named (length deck) code) before more g
 
 abbrev pub on_opened : Reply → ℕ → Point InitiatorAt
-on_opened (reply_of.Element (element_reply.Opened g)) n = turns_from (n + 1) [] g
+on_opened (reply_of.Element (element_reply.Opened g)) n = rounds_from (n + 1) [] g
 on_opened r n = Astray
 
 abbrev pub on_paused : List JobData → ℕ → List ℕ → ℕ → Reply → Point InitiatorAt
@@ -384,7 +384,7 @@ on_purged run code r = Astray
 -- the post of a done block that starts its exit is followed by those of the exit
 abbrev pub on_ended : Running → ℕ → Counts → Reply → Point InitiatorAt
 on_ended run code counts (reply_of.Ecb (ecb_reply.Woke (suc x))) = At (EndingForScheduler run code counts)
-on_ended run code counts r = on_posted (turns_after run) r
+on_ended run code counts r = on_posted (rounds_after run) r
 
 abbrev pub on_closed : Reply → Point InitiatorAt
 on_closed (reply_of.Element element_reply.Closed) = Finished []
@@ -405,5 +405,5 @@ initiator_goes deck (Rescanning run hand volume number steps) r = on_value (λ a
 initiator_goes deck (Purging run hand code) r = on_purged run code r
 initiator_goes deck (EndingJob run code counts) r = on_ended run code counts r
 initiator_goes deck (EndingForScheduler run code counts) r = on_posted (At (EndingForWriter run code counts)) r
-initiator_goes deck (EndingForWriter run code counts) r = on_posted (turns_after run) r
+initiator_goes deck (EndingForWriter run code counts) r = on_posted (rounds_after run) r
 initiator_goes deck (Closing g) r = on_closed r

@@ -23,7 +23,7 @@ use Rattle.mv_calls.specs.Program.{on_element, on_volume, on_latch}
 use Rattle.mv_calls.specs.Refusal.{Refusal}
 use Rattle.mv_plan.specs.SpoolSetup.{entered, done, end_for_scheduler, end_for_writer, idle, initiator}
 use Rattle.mv_plan.specs.SpoolTasks.{lowest, some_end_above, ends_awaited, hand_over, code_of, dispatch_all, dismiss, granted_as, counted}
-use Rattle.mv_plan.specs.SpoolTasks.{run_steps, named_by, run_job, turns, job_named, ends_kept, first_of}
+use Rattle.mv_plan.specs.SpoolTasks.{run_steps, named_by, run_job, rounds, job_named, ends_kept, first_of}
 use Rattle.mv_calls.specs.Waits.{arm_all, settle_all, enough, the_word, extended, the_value, stored, extend, read_volume}
 use Rattle.mv_calls.specs.Pauses.{release, deallocate, pause}
 use Rattle.mv_calls.specs.Program.{followed, accepted}
@@ -118,18 +118,18 @@ writer_program c n kept (Keeping j more ends w) =
 
 -- ---- initiator i
 
-abbrev pub turns_rest : Setup → List JobData → ℕ → ℕ → List ℕ → ℕ → Call (List ℕ)
-turns_rest c deck i more before g = turns c deck i more before (token_of (initiator i) g)
+abbrev pub rounds_rest : Setup → List JobData → ℕ → ℕ → List ℕ → ℕ → Call (List ℕ)
+rounds_rest c deck i more before g = rounds c deck i more before (token_of (initiator i) g)
 
 -- what follows a pause that was given a code
 abbrev pub given_rest : Setup → List JobData → ℕ → ℕ → List ℕ → Gift → Call (List ℕ)
 given_rest c deck i more before gift = if gift.code == 0 then accepted (deallocate c gift.next) (λ closed. finished [])
     else named_by (job_named (length deck) gift.code) before more (λ named.
-    followed (run_job c deck named) (λ counts. turns c deck i more (before ++ named.job ∷ []) gift.next))
+    followed (run_job c deck named) (λ counts. rounds c deck i more (before ++ named.job ∷ []) gift.next))
 
--- the rest of a job's end, and then the turns that are left
+-- the rest of a job's end, and then the rounds that are left
 abbrev pub ending : Setup → List JobData → ℕ → Running → Kept → Program Counts → Program (List ℕ)
-ending c deck i run kept p = going_on kept p (λ counts. turns_rest c deck i run.more (run.before ++ run.job ∷ []) run.generation)
+ending c deck i run kept p = going_on kept p (λ counts. rounds_rest c deck i run.more (run.before ++ run.job ∷ []) run.generation)
 
 -- the rest of a job's steps, and then its end
 abbrev pub stepping : Setup → List JobData → ℕ → Running → Kept → Program ℕ → Program (List ℕ)
@@ -146,7 +146,7 @@ obtained_rest c run hand latch steps id = run_steps c (run.job + 1) (with_at han
 abbrev pub initiator_program : Setup → List JobData → ℕ → Kept → InitiatorAt → Program (List ℕ)
 initiator_program c deck i kept Opening =
     going_on kept (Do (Element (initiator i)) (op_on.Element element_op.Open) (λ h. on_element h.entry.reply (opened (initiator i))))
-    (unrefused (turns c deck i (length deck + 1) []))
+    (unrefused (rounds c deck i (length deck + 1) []))
 initiator_program c deck i kept (Offering more before g) =
     going_on kept (posting_now c (idle (length deck) i) g)
     (λ posted. accepted (pause c (token_of (initiator i) g)) (given_rest c deck i more before))

@@ -14,7 +14,7 @@ use Rattle.mv_plan.specs.Jobs.{job_at}
 use Rattle.mv_plan.proofs.points.Points.{Point, At, Astray, Running, Hand, InitiatorAt, Opening, Offering, Pausing, Resuming, Obtaining}
 use Rattle.mv_plan.proofs.points.Points.{Confirming, Freeing, Reading, Writing, Scanning, Rescanning, Purging, EndingJob}
 use Rattle.mv_plan.proofs.points.Points.{EndingForScheduler, EndingForWriter, Closing, initiator_asks, initiator_goes, freeing_at}
-use Rattle.mv_plan.proofs.points.Points.{steps_at, job_start, turns_after, empty_hand, turns_from, running, named_at, given_at, Finished}
+use Rattle.mv_plan.proofs.points.Points.{steps_at, job_start, rounds_after, empty_hand, rounds_from, running, named_at, given_at, Finished}
 use Rattle.mv_plan.proofs.points.Points.{TooSoon}
 use Rattle.mv_plan.proofs.points.InitiatorSound.{IsRunning, IsInitiatorAt}
 use Rattle.std.specs.List.{list_any}
@@ -48,7 +48,7 @@ start_run false run job = steps_run run empty_hand job.steps
 -- what may follow
 pub data GoesOn (run : Running) (p : Point InitiatorAt) : Type 0 where
   same : run_of p ≡ Some run → GoesOn run p
-  done : p ≡ turns_after run → GoesOn run p
+  done : p ≡ rounds_after run → GoesOn run p
   lost : (IsNotLost p → ⊥) → GoesOn run p
 
 on_run : (run : Running) (p : Point InitiatorAt) → RunsOn run p → GoesOn run p
@@ -122,19 +122,11 @@ run_goes deck (EndingJob run' code counts) r run e = run_goes_from deck (EndingJ
   go (reply_of.Ecb (ecb_reply.Already old)) = done refl
   go r = lost (λ f. f)
 run_goes deck (EndingForScheduler run' code counts) r run e =
-    run_goes_from deck (EndingForScheduler run' code counts) r run e run' refl (go r) where
-      go : (r : Reply) → GoesOn run' (initiator_goes deck (EndingForScheduler run' code counts) r)
-      go (reply_of.Ecb (ecb_reply.Woke x)) = same refl
-      go (reply_of.Ecb ecb_reply.Posted) = same refl
-      go (reply_of.Ecb (ecb_reply.Already old)) = same refl
-      go r = lost (λ f. f)
+    run_goes_from deck (EndingForScheduler run' code counts) r run e run' refl
+    (on_posted_keeps (GoesOn run') (At (EndingForWriter run' code counts)) r (same refl) (lost (λ f. f)))
 run_goes deck (EndingForWriter run' code counts) r run e =
-    run_goes_from deck (EndingForWriter run' code counts) r run e run' refl (go r) where
-      go : (r : Reply) → GoesOn run' (initiator_goes deck (EndingForWriter run' code counts) r)
-      go (reply_of.Ecb (ecb_reply.Woke x)) = done refl
-      go (reply_of.Ecb ecb_reply.Posted) = done refl
-      go (reply_of.Ecb (ecb_reply.Already old)) = done refl
-      go r = lost (λ f. f)
+    run_goes_from deck (EndingForWriter run' code counts) r run e run' refl
+    (on_posted_keeps (GoesOn run') (rounds_after run') r (done refl) (lost (λ f. f)))
 run_goes deck (Closing g) r run e = absurd (cc e)
 
 -- what it asks is elsewhere
@@ -159,25 +151,25 @@ run_asks n i (EndingForWriter run' code counts) run e lt = let q : run'.job ≡ 
     omega arith
 run_asks n i (Closing g) run e lt = absurd (cc e)
 
--- a running job is one of the deck's, and a sound turn
+-- a running job is one of the deck's, and a sound round
 pub run_sound : (deck : List JobData) (x : InitiatorAt) (run : Running) → run_of (At x) ≡ Some run → IsInitiatorAt deck (At x)
     → IsRunning (length deck) run
 run_sound deck Opening run e s = absurd (cc e)
 run_sound deck (Offering more before g) run e s = absurd (cc e)
 run_sound deck (Pausing more before g) run e s = absurd (cc e)
 run_sound deck (Resuming more before g) run e s = absurd (cc e)
-run_sound deck (Obtaining run' hand latch mode steps) run e s = subst (λ z. IsRunning (length deck) z) (one_run run' run e) s.turn
-run_sound deck (Confirming run' hand latch mode id steps) run e s = subst (λ z. IsRunning (length deck) z) (one_run run' run e) s.turn
-run_sound deck (Freeing run' hand latch id steps) run e s = subst (λ z. IsRunning (length deck) z) (one_run run' run e) s.0.turn
-run_sound deck (Reading run' hand volume amount steps) run e s = subst (λ z. IsRunning (length deck) z) (one_run run' run e) s.turn
+run_sound deck (Obtaining run' hand latch mode steps) run e s = subst (λ z. IsRunning (length deck) z) (one_run run' run e) s.round
+run_sound deck (Confirming run' hand latch mode id steps) run e s = subst (λ z. IsRunning (length deck) z) (one_run run' run e) s.round
+run_sound deck (Freeing run' hand latch id steps) run e s = subst (λ z. IsRunning (length deck) z) (one_run run' run e) s.0.round
+run_sound deck (Reading run' hand volume amount steps) run e s = subst (λ z. IsRunning (length deck) z) (one_run run' run e) s.round
 run_sound deck (Writing run' hand volume amount number steps) run e s =
-    subst (λ z. IsRunning (length deck) z) (one_run run' run e) s.turn
-run_sound deck (Scanning run' hand volume steps) run e s = subst (λ z. IsRunning (length deck) z) (one_run run' run e) s.turn
-run_sound deck (Rescanning run' hand volume number steps) run e s = subst (λ z. IsRunning (length deck) z) (one_run run' run e) s.turn
-run_sound deck (Purging run' hand code) run e s = subst (λ z. IsRunning (length deck) z) (one_run run' run e) s.turn
-run_sound deck (EndingJob run' code counts) run e s = subst (λ z. IsRunning (length deck) z) (one_run run' run e) s.turn
-run_sound deck (EndingForScheduler run' code counts) run e s = subst (λ z. IsRunning (length deck) z) (one_run run' run e) s.turn
-run_sound deck (EndingForWriter run' code counts) run e s = subst (λ z. IsRunning (length deck) z) (one_run run' run e) s.turn
+    subst (λ z. IsRunning (length deck) z) (one_run run' run e) s.round
+run_sound deck (Scanning run' hand volume steps) run e s = subst (λ z. IsRunning (length deck) z) (one_run run' run e) s.round
+run_sound deck (Rescanning run' hand volume number steps) run e s = subst (λ z. IsRunning (length deck) z) (one_run run' run e) s.round
+run_sound deck (Purging run' hand code) run e s = subst (λ z. IsRunning (length deck) z) (one_run run' run e) s.round
+run_sound deck (EndingJob run' code counts) run e s = subst (λ z. IsRunning (length deck) z) (one_run run' run e) s.round
+run_sound deck (EndingForScheduler run' code counts) run e s = subst (λ z. IsRunning (length deck) z) (one_run run' run e) s.round
+run_sound deck (EndingForWriter run' code counts) run e s = subst (λ z. IsRunning (length deck) z) (one_run run' run e) s.round
 run_sound deck (Closing g) run e s = absurd (cc e)
 
 -- ---- what holds of the job that is run
@@ -203,9 +195,9 @@ module _ (Q : Running → Type 0) where
   is_run : (run other : Running) → Q run → ◌≡◌ {A = Option Running} (Some run) (Some other) → Q other
   is_run run other q e = subst Q (cc e) q
 
-  turns_run : (more : ℕ) (before : List ℕ) (g : ℕ) → OfRun Q (turns_from more before g)
-  turns_run zero before g run e = no_run e
-  turns_run (suc more) before g run e = no_run e
+  rounds_run : (more : ℕ) (before : List ℕ) (g : ℕ) → OfRun Q (rounds_from more before g)
+  rounds_run zero before g run e = no_run e
+  rounds_run (suc more) before g run e = no_run e
 
   lost_run : (p : Point InitiatorAt) → (IsNotLost p → ⊥) → OfRun Q p
   lost_run (At x) n other e = absurd (n tt)
@@ -216,7 +208,7 @@ module _ (Q : Running → Type 0) where
   goes_on_run : (run : Running) (p : Point InitiatorAt) → Q run → GoesOn run p → OfRun Q p
   goes_on_run run p q (same f) other e = is_run run other q (sym f ∙ e)
   goes_on_run run p q (done f) other e =
-      subst (OfRun Q) (sym f) (turns_run run.more (run.before ++ run.job ∷ []) run.generation) other e
+      subst (OfRun Q) (sym f) (rounds_run run.more (run.before ++ run.job ∷ []) run.generation) other e
   goes_on_run run p q (lost n) other e = lost_run p n other e
 
   named_run : (deck : List JobData) (slot : Option Named) (before : List ℕ) (more g : ℕ)
@@ -249,7 +241,7 @@ module _ (Q : Running → Type 0) where
   -- an initiator that runs no job
   starts_run : (deck : List JobData) (x : InitiatorAt) (r : Reply) → run_of (At x) ≡ None → Starts Q deck x r
       → OfRun Q (initiator_goes deck x r)
-  starts_run deck Opening (reply_of.Element (element_reply.Opened g)) e st = turns_run (length deck + 1) [] g
+  starts_run deck Opening (reply_of.Element (element_reply.Opened g)) e st = rounds_run (length deck + 1) [] g
   starts_run deck Opening r e st = none
   starts_run deck (Offering more before g) r e st = on_posted_keeps (OfRun Q) (At (Pausing more before g)) r (λ other e. no_run e) none
   starts_run deck (Pausing more before g) (reply_of.Element (element_reply.Given code now)) e st =

@@ -16,7 +16,7 @@ use Rattle.mv_machine.specs.Setup.{Setup}
 use Rattle.mv_deck.specs.Deck.{JobData}
 use Rattle.mv_deck.specs.declared.deck.After.{After}
 use Rattle.mv_deck.specs.declared.deck.Step.{Step}
-use Rattle.mv_plan.proofs.deck.Sound.{IsSoundJob, AreSoundJobs}
+use Rattle.mv_plan.proofs.deck.Plans.{IsPlannedJob, ArePlannedJobs}
 use Rattle.mv_calls.specs.Keeping.{Kept}
 use Rattle.mv_calls.specs.Pauses.{token_of, release, released}
 use Rattle.mv_calls.specs.Program.{Do, Done, Heard, asks, heard, going_on, unrefused, accepted, finished, unless_refused, on_ecb}
@@ -65,7 +65,7 @@ pub idles_distinct : (n from count : ℕ) → AreDistinct (map (idle n) (range_w
 idles_distinct n from zero = tt
 idles_distinct n from (suc count) = (idles_differ n from (from + 1) count (omega arith), idles_distinct n (from + 1) count)
 
-module _ (c : Setup) (deck : List JobData) (initiators : ℕ) (facts : Facts c (length deck) initiators) (sound : AreSoundJobs 0 deck) where
+module _ (c : Setup) (deck : List JobData) (initiators : ℕ) (facts : Facts c (length deck) initiators) (sound : ArePlannedJobs 0 deck) where
   ends_free : (count j : ℕ) (kept : Kept) (parts : List After) → SchedulerKept (length deck) count kept → count ≤ length deck
       → j ≤ length deck → AllByRecursion (λ p. p.job < j) parts → AllByRecursion (IsFree c kept) (ends_of (length deck) parts)
   ends_free count j kept [] k le lt below = tt
@@ -148,7 +148,7 @@ module _ (c : Setup) (deck : List JobData) (initiators : ℕ) (facts : Facts c (
       (ends_at (length deck) j (record { name = name; after = after; steps = steps }) jobs)
   ends_enter j name [] steps jobs kept r k = extend_enters j (record { name = name; after = []; steps = steps }) jobs false kept r k
   ends_enter j name (part ∷ parts) steps jobs kept r k =
-      let s : IsSoundJob j (record { name = name; after = part ∷ parts; steps = steps }) =
+      let s : IsPlannedJob j (record { name = name; after = part ∷ parts; steps = steps }) =
       rest_sound deck j (record { name = name; after = part ∷ parts; steps = steps }) jobs sound r in
       let lt : j < length deck = rest_below deck j (record { name = name; after = part ∷ parts; steps = steps }) jobs r in
       wait_enters (ForEnds j (record { name = name; after = part ∷ parts; steps = steps }) jobs) kept (ends_of (length deck) (part ∷ parts))

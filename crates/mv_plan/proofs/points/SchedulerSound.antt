@@ -14,7 +14,7 @@ use Rattle.mv_machine.specs.System.{with_at}
 use Rattle.mv_deck.specs.Deck.{JobData}
 use Rattle.mv_deck.specs.declared.deck.After.{After}
 use Rattle.mv_deck.specs.declared.deck.Step.{Step}
-use Rattle.mv_plan.proofs.deck.Sound.{IsSoundJob, AreSoundJobs}
+use Rattle.mv_plan.proofs.deck.Plans.{IsPlannedJob, ArePlannedJobs}
 use Rattle.mv_calls.specs.Keeping.{Kept}
 use Rattle.mv_plan.specs.SpoolSetup.{done, idle}
 use Rattle.mv_plan.specs.SpoolTasks.{code_of}
@@ -48,17 +48,17 @@ rest_count deck j jobs r = ap (λ k. k + length jobs) (sym r.count) ∙ sym (len
 pub rest_below : (deck : List JobData) (j : ℕ) (job : JobData) (jobs : List JobData) → IsRest deck j (job ∷ jobs) → j < length deck
 rest_below deck j job jobs r = let e : j + length (job ∷ jobs) ≡ length deck = rest_count deck j (job ∷ jobs) r in omega arith
 
-sound_from : (j : ℕ) (front jobs : List JobData) → AreSoundJobs j (front ++ jobs) → AreSoundJobs (j + length front) jobs
-sound_from j [] jobs s = subst (λ k. AreSoundJobs k jobs) (omega arith) s
-sound_from j (f ∷ front) jobs s = subst (λ k. AreSoundJobs k jobs) (one_more j (length front)) (sound_from (j + 1) front jobs s.1) where
+sound_from : (j : ℕ) (front jobs : List JobData) → ArePlannedJobs j (front ++ jobs) → ArePlannedJobs (j + length front) jobs
+sound_from j [] jobs s = subst (λ k. ArePlannedJobs k jobs) (omega arith) s
+sound_from j (f ∷ front) jobs s = subst (λ k. ArePlannedJobs k jobs) (one_more j (length front)) (sound_from (j + 1) front jobs s.1) where
   one_more : (j k : ℕ) → j + 1 + k ≡ j + suc k
   one_more j k = omega arith
 
-pub rest_sound : (deck : List JobData) (j : ℕ) (job : JobData) (jobs : List JobData) → AreSoundJobs 0 deck → IsRest deck j (job ∷ jobs)
-    → IsSoundJob j job
+pub rest_sound : (deck : List JobData) (j : ℕ) (job : JobData) (jobs : List JobData) → ArePlannedJobs 0 deck → IsRest deck j (job ∷ jobs)
+    → IsPlannedJob j job
 rest_sound deck j job jobs s r =
-    subst (λ k. IsSoundJob k job) (zero-add (length r.front) ∙ r.count)
-    (sound_from 0 r.front (job ∷ jobs) (subst (λ d. AreSoundJobs 0 d) (sym r.whole) s)).0
+    subst (λ k. IsPlannedJob k job) (zero-add (length r.front) ∙ r.count)
+    (sound_from 0 r.front (job ∷ jobs) (subst (λ d. ArePlannedJobs 0 d) (sym r.whole) s)).0
 
 -- how far a wait for these blocks is
 abbrev pub IsWaitAt : List ℕ → WaitAt → Type 0

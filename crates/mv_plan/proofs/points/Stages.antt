@@ -17,7 +17,7 @@ use Rattle.mv_plan.specs.SpoolTasks.{Named, job_named}
 use Rattle.mv_plan.proofs.points.Points.{Point, At, Finished, TooSoon, Astray, Running, Hand, empty_hand, hand_with, hand_without}
 use Rattle.mv_plan.proofs.points.Points.{InitiatorAt, Opening, Offering, Pausing, Resuming, Obtaining, Confirming, Freeing, Reading}
 use Rattle.mv_plan.proofs.points.Points.{Writing, Scanning, Rescanning, Purging, EndingJob, EndingForScheduler, EndingForWriter, Closing}
-use Rattle.mv_plan.proofs.points.Points.{initiator_goes, turns_from, turns_after, freeing_at, steps_at, running, job_start, named_at}
+use Rattle.mv_plan.proofs.points.Points.{initiator_goes, rounds_from, rounds_after, freeing_at, steps_at, running, job_start, named_at}
 use Rattle.mv_plan.proofs.points.Points.{given_at, counting_at}
 use Rattle.mv_plan.proofs.points.PostsAndWaits.{on_posted_keeps}
 use Rattle.mv_plan.proofs.points.Views.{run_of}
@@ -73,9 +73,9 @@ module _ (Q R S : ℕ → Type 0) where
   Begins deck (EndingForScheduler run code counts) r = S run.job
   Begins deck x r = Unit {0}
 
-  turns_stage : (more : ℕ) (before : List ℕ) (g : ℕ) → ByStage Q R S (turns_from more before g)
-  turns_stage zero before g = tt
-  turns_stage (suc more) before g = tt
+  rounds_stage : (more : ℕ) (before : List ℕ) (g : ℕ) → ByStage Q R S (rounds_from more before g)
+  rounds_stage zero before g = tt
+  rounds_stage (suc more) before g = tt
 
   freeing_stage : (run : Running) (hand : Hand) (latch : ℕ) (slot : Option ℕ) (steps : List Step) → Q run.job
       → ByStage Q R S (freeing_at run hand latch slot steps)
@@ -125,8 +125,8 @@ module _ (Q R S : ℕ → Type 0) where
         | false ↦ tt
       ]
 
-  opened_stage : (n g : ℕ) → ByStage Q R S (turns_from n [] g)
-  opened_stage n g = turns_stage n [] g
+  opened_stage : (n g : ℕ) → ByStage Q R S (rounds_from n [] g)
+  opened_stage n g = rounds_stage n [] g
 
   pub stage_goes : (deck : List JobData) (x : InitiatorAt) (r : Reply) → ByStage Q R S (At x) → Begins deck x r
       → ByStage Q R S (initiator_goes deck x r)
@@ -167,15 +167,15 @@ module _ (Q R S : ℕ → Type 0) where
   stage_goes deck (Purging run hand code) r h st = tt
   stage_goes deck (EndingJob run code counts) (reply_of.Ecb (ecb_reply.Woke (suc x))) h st = st
   stage_goes deck (EndingJob run code counts) (reply_of.Ecb (ecb_reply.Woke zero)) h st =
-      turns_stage run.more (run.before ++ run.job ∷ []) run.generation
+      rounds_stage run.more (run.before ++ run.job ∷ []) run.generation
   stage_goes deck (EndingJob run code counts) (reply_of.Ecb ecb_reply.Posted) h st =
-      turns_stage run.more (run.before ++ run.job ∷ []) run.generation
+      rounds_stage run.more (run.before ++ run.job ∷ []) run.generation
   stage_goes deck (EndingJob run code counts) (reply_of.Ecb (ecb_reply.Already old)) h st =
-      turns_stage run.more (run.before ++ run.job ∷ []) run.generation
+      rounds_stage run.more (run.before ++ run.job ∷ []) run.generation
   stage_goes deck (EndingJob run code counts) r h st = tt
   stage_goes deck (EndingForScheduler run code counts) r h st =
       on_posted_keeps (ByStage Q R S) (At (EndingForWriter run code counts)) r st tt
   stage_goes deck (EndingForWriter run code counts) r h st =
-      on_posted_keeps (ByStage Q R S) (turns_after run) r (turns_stage run.more (run.before ++ run.job ∷ []) run.generation) tt
+      on_posted_keeps (ByStage Q R S) (rounds_after run) r (rounds_stage run.more (run.before ++ run.job ∷ []) run.generation) tt
   stage_goes deck (Closing g) (reply_of.Element element_reply.Closed) h st = tt
   stage_goes deck (Closing g) r h st = tt

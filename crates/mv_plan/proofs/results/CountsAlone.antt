@@ -15,7 +15,7 @@ use Rattle.mv_plan.specs.HandingOut.{given_codes}
 use Rattle.mv_plan.specs.CountingAlone.{IsCountedBy, CountsStandAlone, ScansAreSteady}
 use Rattle.mv_plan.specs.Purging.{is_purge, is_obtain, purges, obtains, ArePurged}
 use Rattle.mv_deck.specs.Deck.{JobData}
-use Rattle.mv_plan.proofs.deck.Sound.{IsSound}
+use Rattle.mv_plan.proofs.deck.Plans.{IsPlanned}
 use Rattle.mv_report.specs.Outcome.{total}
 use Rattle.mv_calls.specs.Keeping.{Kept}
 use Rattle.mv_plan.specs.SpoolRun.{IsRun}
@@ -67,7 +67,7 @@ last_of k (e ∷ es) = go (last_of k es) (e.caller == k) refl where
   go (inl none) true q = inr (record { front = []; one = e; behind = es; is = refl; caller = eqb-true e.caller k q; last = none })
   go (inl none) false q = inl none
 
-module _ (deck : List JobData) (initiators : ℕ) (some : 1 ≤ initiators) (sound : IsSound deck initiators) (es : List Entry) (u : Points)
+module _ (deck : List JobData) (initiators : ℕ) (some : 1 ≤ initiators) (sound : IsPlanned deck initiators) (es : List Entry) (u : Points)
     (walk : WalkTo (spool_setup deck initiators) deck initiators (opening (spool_setup deck initiators))
     (start_points deck initiators) es u)
     (none : NoneLost initiators u) (once : NamedOnce deck es) where
@@ -254,7 +254,7 @@ all_empty (qs ∷ lists) e = (e 0, all_empty lists (λ latch. e (suc latch)))
 
 -- ---- runs in which each job was given once
 
-module _ (deck : List JobData) (initiators : ℕ) (some : 1 ≤ initiators) (sound : IsSound deck initiators) (es : List Entry)
+module _ (deck : List JobData) (initiators : ℕ) (some : 1 ≤ initiators) (sound : IsPlanned deck initiators) (es : List Entry)
     (run : IsRun deck initiators es)
     (given : (j : ℕ) → j < length deck → length (given_codes j es) ≡ 1) where
   st : Stood deck initiators some sound es

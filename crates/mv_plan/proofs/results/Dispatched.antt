@@ -12,7 +12,7 @@ use Rattle.mv_machine.specs.Setup.{Setup}
 use Rattle.mv_machine.specs.System.{System, opening}
 use Rattle.mv_plan.specs.HandingOut.{released_codes, given_codes, closings, IsRightRelease}
 use Rattle.mv_deck.specs.Deck.{JobData}
-use Rattle.mv_plan.proofs.deck.Sound.{IsSound}
+use Rattle.mv_plan.proofs.deck.Plans.{IsPlanned}
 use Rattle.mv_machine.specs.Orderly.{IsExact}
 use Rattle.mv_plan.specs.SpoolRun.{IsRun}
 use Rattle.mv_plan.specs.SpoolSetup.{spool_setup, initiator}
@@ -163,7 +163,7 @@ exact_start c m g = record {
   matched = λ lt e. refl;
 }
 
-module _ (deck : List JobData) (initiators : ℕ) (some : 1 ≤ initiators) (sound : IsSound deck initiators) (es : List Entry)
+module _ (deck : List JobData) (initiators : ℕ) (some : 1 ≤ initiators) (sound : IsPlanned deck initiators) (es : List Entry)
     (run : IsRun deck initiators es) where
   abbrev c : Setup
   c = spool_setup deck initiators

@@ -13,7 +13,7 @@ use Rattle.mv_machine.specs.System.{System, opening}
 use Rattle.mv_plan.specs.PostingEnds.{posts, post_codes, EndsArePosted, HasRightMark, PostsFirst}
 use Rattle.mv_deck.specs.Deck.{JobData}
 use Rattle.mv_plan.specs.Jobs.{end_of}
-use Rattle.mv_plan.proofs.deck.Sound.{IsSound}
+use Rattle.mv_plan.proofs.deck.Plans.{IsPlanned}
 use Rattle.mv_report.specs.Outcome.{ends}
 use Rattle.mv_calls.specs.Program.{Done}
 use Rattle.mv_calls.specs.Runs.{left_in}
@@ -45,7 +45,7 @@ pub record Ends (c : Setup) (deck : List JobData) (initiators : ℕ) (s : System
   pub found : WriterHas deck s t past
   pub traces : Traces deck s past
 
-pub ends_first : (c : Setup) (deck : List JobData) (initiators : ℕ) → IsSound deck initiators
+pub ends_first : (c : Setup) (deck : List JobData) (initiators : ℕ) → IsPlanned deck initiators
     → Ends c deck initiators (opening c) (start_points deck initiators) []
 ends_first c deck initiators sound = record {
   codes = codes_first deck initiators sound c;
@@ -72,7 +72,7 @@ end_moment c deck initiators s t past now h = record {
 }
 
 module _ (c : Setup) (deck : List JobData) (initiators : ℕ) (facts : Facts c (length deck) initiators)
-    (sound : IsSound deck initiators) where
+    (sound : IsPlanned deck initiators) where
   pub ends_next : (s : System) (t u : Points) (past : List Entry) (e : Entry) → Moment c deck initiators s t past → IsNext c s e
       → Move deck initiators t e u
       → Ends c deck initiators s t past → Ends c deck initiators (next s e) u (past ++ e ∷ [])
@@ -96,7 +96,7 @@ pairs_one (p ∷ q ∷ ps) a r e all = absurd (cc e)
 complete_list : (v : EcbState) (code : ℕ) → v ≡ Complete code → code_list v ≡ code ∷ []
 complete_list v code e = ap (λ z. code_list z) e
 
-module _ (deck : List JobData) (initiators : ℕ) (some : 1 ≤ initiators) (sound : IsSound deck initiators) (es : List Entry) where
+module _ (deck : List JobData) (initiators : ℕ) (some : 1 ≤ initiators) (sound : IsPlanned deck initiators) (es : List Entry) where
   abbrev c : Setup
   c = spool_setup deck initiators
 

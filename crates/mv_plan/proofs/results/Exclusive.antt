@@ -5,12 +5,12 @@ use Rattle.mv_plan.specs.HandingOut.{given_codes, AreHandedOut}
 use Rattle.mv_plan.specs.CountingAlone.{AreCountedAlone}
 use Rattle.mv_plan.specs.Purging.{ArePurged}
 use Rattle.mv_deck.specs.Deck.{JobData}
-use Rattle.mv_plan.proofs.deck.Sound.{IsSound}
+use Rattle.mv_plan.proofs.deck.Plans.{IsPlanned}
 use Rattle.mv_plan.specs.SpoolRun.{IsRun}
 use Rattle.mv_plan.proofs.results.CountsAlone.{counts_alone, scans_steady, totals_are, are_purged}
 use Rattle.mv_plan.proofs.results.HandedOut.{are_handed_out}
 
-module _ (deck : List JobData) (initiators : ℕ) (some : 1 ≤ initiators) (sound : IsSound deck initiators) (es : List Entry)
+module _ (deck : List JobData) (initiators : ℕ) (some : 1 ≤ initiators) (sound : IsPlanned deck initiators) (es : List Entry)
     (run : IsRun deck initiators es) where
   handed : AreHandedOut deck initiators es
   handed = are_handed_out deck initiators some sound es run

@@ -1,4 +1,4 @@
--- No reply leads the reader, the scheduler or the writer astray, nor an initiator in its turns.
+-- No reply leads the reader, the scheduler or the writer astray, nor an initiator in its rounds.
 use Rattle.std.proofs.Common.{◌≡◌, ℕ, zero, suc, ◌+◌, ◌<◌, ◌≤◌, ◌==◌, nat_le, Bool, true, false, IsTrue, cond, if◌then◌else◌, List, []}
 use Rattle.std.proofs.Common.{◌∷◌, ◌++◌, length, Option, Some, None, ◌⊎◌, inl, inr, refl, sym, ap, ◌∙◌, subst, arith}
 use Rattle.std.specs.List.{AllByRecursion}
@@ -23,18 +23,18 @@ use Rattle.mv_deck.specs.declared.deck.After.{After}
 use Rattle.mv_deck.specs.declared.deck.Step.{Step}
 use Rattle.mv_deck.specs.declared.deck.Step.TheVariants.{Print, Use, Free, Count, Scan, Abend, Return}
 use Rattle.mv_plan.specs.Jobs.{job_at}
-use Rattle.mv_plan.proofs.deck.Sound.{AreSoundSteps, AreSoundJobs}
+use Rattle.mv_plan.proofs.deck.Plans.{ArePlannedSteps, ArePlannedJobs}
 use Rattle.mv_calls.specs.LatchCalls.{Counts}
 use Rattle.mv_plan.specs.SpoolSetup.{reader, scheduler, initiator, writer, entered, done, end_for_scheduler, end_for_writer, idle}
 use Rattle.mv_plan.specs.SpoolTasks.{job_named, code_of, not_to_run}
 use Rattle.mv_calls.specs.Waits.{complete_count}
 use Rattle.mv_plan.proofs.standing.Arms.{In, in_middle, in_all, IsNoDone, awaited_no_done, SchedulerArms, WriterArms, arm_owner}
 use Rattle.mv_plan.proofs.points.ReaderAndWriter.{IsWriterAt}
-use Rattle.mv_plan.proofs.results.FewTurns.{fewer, none_found, not_found, code_named}
+use Rattle.mv_plan.proofs.results.FewRounds.{fewer, none_found, not_found, code_named}
 use Rattle.mv_plan.proofs.walks.Fits.{Fits}
 use Rattle.mv_plan.proofs.standing.Row.{Starts, Works, Offers, Parks, stance, offered, taken, handed, Row, RowAt, hold_for, offer_of}
 use Rattle.mv_plan.proofs.standing.Row.{element_of, row_at}
-use Rattle.mv_plan.proofs.points.InitiatorSound.{IsInitiatorAt, IsTurn, IsRunning, held_of, held_request, job_sound}
+use Rattle.mv_plan.proofs.points.InitiatorSound.{IsInitiatorAt, IsRound, IsRunning, held_of, held_request, job_sound}
 use Rattle.mv_plan.proofs.places.Places.{Place, Handed, Over}
 use Rattle.mv_plan.proofs.places.LedgerMoves.{has_stance}
 use Rattle.mv_plan.proofs.places.Ledger.{element_code}
@@ -47,7 +47,7 @@ use Rattle.mv_plan.proofs.points.Points.{dismissing_from, stage_at, lowest_at, o
 use Rattle.mv_plan.proofs.points.Points.{Keeping, writer_asks, writer_goes, writing_from, writer_arming, end_found, Hand, empty_hand}
 use Rattle.mv_plan.proofs.points.Points.{Running, running, InitiatorAt, Opening, Offering, Pausing, Resuming, Obtaining, Confirming}
 use Rattle.mv_plan.proofs.points.Points.{Freeing, Reading, Writing, Scanning, Rescanning, Purging, EndingJob, EndingForScheduler}
-use Rattle.mv_plan.proofs.points.Points.{EndingForWriter, Closing, initiator_asks, initiator_goes, turns_from, turns_after, freeing_at}
+use Rattle.mv_plan.proofs.points.Points.{EndingForWriter, Closing, initiator_asks, initiator_goes, rounds_from, rounds_after, freeing_at}
 use Rattle.mv_plan.proofs.points.Points.{steps_at, job_start, named_at, given_at, on_opened, on_paused, on_resumed, on_closed, on_ended}
 use Rattle.mv_plan.proofs.points.SchedulerSound.{IsSchedulerAt}
 use Rattle.mv_plan.proofs.standing.Rows.{Accepts, row_accepts}
@@ -250,7 +250,7 @@ module _ (c : Setup) (deck : List JobData) (initiators : ℕ) (facts : Facts c (
 
 -- sound steps begin with one that the initiator can make
 pub steps_found : (run : Running) (hand : Hand) (steps : List Step)
-    → AllByRecursion (λ g. hand.requests g.latch ≡ Some g.id) hand.holding → AreSoundSteps (held_of hand.holding) steps
+    → AllByRecursion (λ g. hand.requests g.latch ≡ Some g.id) hand.holding → ArePlannedSteps (held_of hand.holding) steps
     → IsNotLost (steps_at run hand steps)
 steps_found run hand [] l s = tt
 steps_found run hand (Print text ∷ steps) l s = steps_found run hand steps l s
@@ -269,28 +269,28 @@ foreseen_of (Finished answer) f = tt
 foreseen_of TooSoon f = tt
 foreseen_of Astray f = f
 
-start_found : (deck : List JobData) (skipped : Bool) (run : Running) (j : ℕ) → AreSoundJobs 0 deck → j < length deck
+start_found : (deck : List JobData) (skipped : Bool) (run : Running) (j : ℕ) → ArePlannedJobs 0 deck → j < length deck
     → IsForeseen (job_start skipped run (job_at deck j))
 start_found deck true run j sound lt = tt
 start_found deck false run j sound lt =
     foreseen_of _ (steps_found run empty_hand (job_at deck j).steps tt (job_sound j 0 deck sound lt))
 
-turns_foreseen : (m : ℕ) (before : List ℕ) (g : ℕ) → 1 ≤ m → IsForeseen (turns_from m before g)
-turns_foreseen zero before g le = absurd (omega arith)
-turns_foreseen (suc m) before g le = tt
+rounds_foreseen : (m : ℕ) (before : List ℕ) (g : ℕ) → 1 ≤ m → IsForeseen (rounds_from m before g)
+rounds_foreseen zero before g le = absurd (omega arith)
+rounds_foreseen (suc m) before g le = tt
 
--- a running job leaves a turn for what follows
-pub turn_left : (n : ℕ) (run : Running) → IsRunning n run → 1 ≤ run.more
-turn_left n run r =
+-- a running job leaves a round for what follows
+pub round_left : (n : ℕ) (run : Running) → IsRunning n run → 1 ≤ run.more
+round_left n run r =
     let lt : length run.before < n =
-    fewer n run.before run.job r.turn.below r.turn.distinct r.job (not_found run.before run.job r.new) in
-    let whole : length run.before + run.more ≡ n = r.turn.count in omega arith
+    fewer n run.before run.job r.round.below r.round.distinct r.job (not_found run.before run.job r.new) in
+    let whole : length run.before + run.more ≡ n = r.round.count in omega arith
 
-after_foreseen : (n : ℕ) (run : Running) → IsRunning n run → IsForeseen (turns_after run)
-after_foreseen n run r = turns_foreseen run.more (run.before ++ run.job ∷ []) run.generation (turn_left n run r)
+after_foreseen : (n : ℕ) (run : Running) → IsRunning n run → IsForeseen (rounds_after run)
+after_foreseen n run r = rounds_foreseen run.more (run.before ++ run.job ∷ []) run.generation (round_left n run r)
 
 ended_foreseen : (run : Running) (code : ℕ) (counts : Counts) (v : EcbState) (r : Reply)
-    → r ≡ reply_of.Ecb (ecb_step (ecb_op.Post code) v).1 → IsForeseen (turns_after run) → IsForeseen (on_ended run code counts r)
+    → r ≡ reply_of.Ecb (ecb_step (ecb_op.Post code) v).1 → IsForeseen (rounds_after run) → IsForeseen (on_ended run code counts r)
 ended_foreseen run code counts Zero r e w = rw e w
 ended_foreseen run code counts Waiting r e w = rw e w
 ended_foreseen run code counts (Extended zero) r e w = rw e w
@@ -298,12 +298,12 @@ ended_foreseen run code counts (Extended (suc y)) r e w = rw e tt
 ended_foreseen run code counts (Complete old) r e w = rw e w
 
 -- where a given code is right, and names no job that was named before
-module _ (deck : List JobData) (sound : AreSoundJobs 0 deck) (small : length deck ≤ not_to_run) (before : List ℕ) (more : ℕ)
-    (turn : IsTurn (length deck) more before) where
+module _ (deck : List JobData) (sound : ArePlannedJobs 0 deck) (small : length deck ≤ not_to_run) (before : List ℕ) (more : ℕ)
+    (round : IsRound (length deck) more before) where
   left_for : (j : ℕ) → j < length deck → AllByRecursion (λ k. k ≡ j → ⊥) before → 1 ≤ more
   left_for j lt new =
-      let less : length before < length deck = fewer (length deck) before j turn.below turn.distinct lt new in
-      let whole : length before + more ≡ length deck = turn.count in omega arith
+      let less : length before < length deck = fewer (length deck) before j round.below round.distinct lt new in
+      let whole : length before + more ≡ length deck = round.count in omega arith
 
   named_foreseen : (m : ℕ) (j : ℕ) (skipped : Bool) (g : ℕ) → 1 ≤ m → j < length deck → AllByRecursion (λ k. k ≡ j → ⊥) before
       → IsForeseen (named_at deck (Some (record { job = j; skipped = skipped })) before m g)
@@ -334,7 +334,7 @@ same_number g = eq-eqb g g refl
 module _ (deck : List JobData) (o h : Option ℕ) where
   opened_foreseen : (y : ElementState) (r : Reply) → r ≡ reply_of.Element (element_step element_op.Open y).1 → Row Starts o h y
       → IsForeseen (on_opened r (length deck))
-  opened_foreseen y r e w = rw (e, w.2) (turns_foreseen (length deck + 1) [] 0 (omega arith))
+  opened_foreseen y r e w = rw (e, w.2) (rounds_foreseen (length deck + 1) [] 0 (omega arith))
 
   paused_foreseen : (more : ℕ) (before : List ℕ) (g : ℕ) (y : ElementState) (r : Reply)
       → r ≡ reply_of.Element (element_step (element_op.Pause g) y).1 → Row (Offers g) o h y
@@ -358,36 +358,36 @@ module _ (deck : List JobData) (o h : Option ℕ) where
       → Row (Works g) o h y → IsForeseen (on_closed r)
   closed_foreseen g y r e w = rw (e, w.2, same_number g) tt
 
--- the points of an initiator's turns: those before, between and behind jobs, and the end of a job
-abbrev pub IsOfTurns : InitiatorAt → Type 0
-IsOfTurns (Obtaining run hand latch mode steps) = ⊥
-IsOfTurns (Confirming run hand latch mode id steps) = ⊥
-IsOfTurns (Freeing run hand latch id steps) = ⊥
-IsOfTurns (Reading run hand volume amount steps) = ⊥
-IsOfTurns (Writing run hand volume amount number steps) = ⊥
-IsOfTurns (Scanning run hand volume steps) = ⊥
-IsOfTurns (Rescanning run hand volume number steps) = ⊥
-IsOfTurns x = Unit {0}
+-- the points of an initiator's rounds: those before, between and behind jobs, and the end of a job
+abbrev pub IsOfRounds : InitiatorAt → Type 0
+IsOfRounds (Obtaining run hand latch mode steps) = ⊥
+IsOfRounds (Confirming run hand latch mode id steps) = ⊥
+IsOfRounds (Freeing run hand latch id steps) = ⊥
+IsOfRounds (Reading run hand volume amount steps) = ⊥
+IsOfRounds (Writing run hand volume amount number steps) = ⊥
+IsOfRounds (Scanning run hand volume steps) = ⊥
+IsOfRounds (Rescanning run hand volume number steps) = ⊥
+IsOfRounds x = Unit {0}
 
 over_new : (place : ℕ → Place) (i j : ℕ) (before : List ℕ) → place j ≡ Handed i → AllByRecursion (λ k. place k ≡ Over) before
     → AllByRecursion (λ k. k ≡ j → ⊥) before
 over_new place i j [] at w = tt
 over_new place i j (k ∷ before) at w = ((λ q. cc (at, sym (ap (λ z. place z) q) ∙ w.0)), over_new place i j before at w.1)
 
-module _ (deck : List JobData) (initiators : ℕ) (sound : AreSoundJobs 0 deck) (small : length deck ≤ not_to_run) (s : System)
+module _ (deck : List JobData) (initiators : ℕ) (sound : ArePlannedJobs 0 deck) (small : length deck ≤ not_to_run) (s : System)
     (q : Point SchedulerAt) (i : ℕ) (lt : i < initiators)
     (held : (i code : ℕ) → i < initiators → element_code s i ≡ Some code → IsCode deck code) (place : ℕ → Place)
     (handed_there : (j : ℕ) (skipped : Bool) → j < length deck → element_code s i ≡ Some (code_of j skipped) → place j ≡ Handed i) where
   abbrev size : ℕ
   size = length deck
 
-  gift_foreseen : (more : ℕ) (before : List ℕ) (g : ℕ) → IsTurn size more before → AllByRecursion (λ k. place k ≡ Over) before
+  gift_foreseen : (more : ℕ) (before : List ℕ) (g : ℕ) → IsRound size more before → AllByRecursion (λ k. place k ≡ Over) before
       → (code : ℕ) → element_code s i ≡ Some code → IsForeseen (given_at deck more before code (g + 1))
-  gift_foreseen more before g turn over code e =
-      given_foreseen deck sound small before more turn code (g + 1) (held i code lt e)
+  gift_foreseen more before g round over code e =
+      given_foreseen deck sound small before more round code (g + 1) (held i code lt e)
       (λ j skipped less is. over_new place i j before (handed_there j skipped less (e ∙ ap (λ z. Some z) is)) over)
 
-  pub initiator_foreseen : (x : InitiatorAt) (r : Reply) → IsOfTurns x → IsInitiatorAt deck (At x)
+  pub initiator_foreseen : (x : InitiatorAt) (r : Reply) → IsOfRounds x → IsInitiatorAt deck (At x)
       → AllByRecursion (λ k. place k ≡ Over) (named_before (At x)) → RowAt size s q i (At x)
       → Some r ≡ reply_to s (initiator i) (initiator_asks size i x).0 (initiator_asks size i x).1 → IsForeseen (initiator_goes deck x r)
   initiator_foreseen Opening r d st over w a = opened_foreseen deck _ _ (element_of s i) r (cc a) w
@@ -409,9 +409,9 @@ module _ (deck : List JobData) (initiators : ℕ) (sound : AreSoundJobs 0 deck) 
       (sym (let e : r ≡ reply_of.Latch
       (latch_step (initiator i) s.latches.place (latch_op.Purge (run.job + 1)) s.latches.state).1 = cc a in e)) tt
   initiator_foreseen (EndingJob run code counts) r d st over w a =
-      ended_foreseen run code counts (s.ecb (done size run.job)).state r (cc a) (after_foreseen size run st.turn)
+      ended_foreseen run code counts (s.ecb (done size run.job)).state r (cc a) (after_foreseen size run st.round)
   initiator_foreseen (EndingForScheduler run code counts) r d st over w a =
       post_foreseen (At (EndingForWriter run code counts)) code (s.ecb (end_for_scheduler size run.job)).state r (cc a) tt
   initiator_foreseen (EndingForWriter run code counts) r d st over w a =
-      post_foreseen (turns_after run) code (s.ecb (end_for_writer size run.job)).state r (cc a) (after_foreseen size run st.turn)
+      post_foreseen (rounds_after run) code (s.ecb (end_for_writer size run.job)).state r (cc a) (after_foreseen size run st.round)
   initiator_foreseen (Closing g) r d st over w a = closed_foreseen deck _ _ g (element_of s i) r (cc a) w

@@ -6,7 +6,7 @@ use Rattle.mv_machine.specs.System.{opening, System, admitted}
 use Rattle.mv_plan.specs.HandingOut.{IsHandedOut, AreHandedOut, release_code, naming, released_codes}
 use Rattle.mv_deck.specs.Deck.{JobData}
 use Rattle.mv_plan.specs.Jobs.{end_of}
-use Rattle.mv_plan.proofs.deck.Sound.{IsSound}
+use Rattle.mv_plan.proofs.deck.Plans.{IsPlanned}
 use Rattle.mv_deck.specs.EndCode.{not_run}
 use Rattle.mv_plan.specs.SpoolRun.{IsRun}
 use Rattle.mv_plan.specs.SpoolSetup.{spool_setup}
@@ -73,7 +73,7 @@ release_marks c deck s (x ∷ es) j skipped l a lt e =
           (subst (λ op. admitted c s x.caller x.object op ≡ true) it.1 l.0.admits) in
           a.0 on.0 it.0 j skipped lt on.1 (it.1 ∙ ap (λ z. op_on.Element (element_op.Release it.0 z)) same)
 
-module _ (deck : List JobData) (initiators : ℕ) (some : 1 ≤ initiators) (sound : IsSound deck initiators) (es : List Entry)
+module _ (deck : List JobData) (initiators : ℕ) (some : 1 ≤ initiators) (sound : IsPlanned deck initiators) (es : List Entry)
     (run : IsRun deck initiators es) where
   dispatched : AreDispatched deck initiators es
   dispatched = are_dispatched deck initiators some sound es run

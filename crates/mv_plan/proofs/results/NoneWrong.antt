@@ -1,4 +1,4 @@
--- No task of the spool goes wrong: what stands of blocks, of elements and turns, and of latches and volumes, put together by
+-- No task of the spool goes wrong: what stands of blocks, of elements and rounds, and of latches and volumes, put together by
 -- SafeWalks.
 use Rattle.std.proofs.Common.{◌≡◌, ℕ, ◌+◌, ◌<◌, ◌≤◌, List, length, refl, sym, ap, ◌∙◌, arith}
 use Rattle.std.specs.List.{AllByRecursion}
@@ -8,7 +8,7 @@ use Rattle.mv_machine.specs.Setup.{Setup}
 use Rattle.mv_machine.specs.System.{System}
 use Rattle.mv_plan.specs.PostingEnds.{HasRightMark, PostsFirst}
 use Rattle.mv_deck.specs.Deck.{JobData}
-use Rattle.mv_plan.proofs.deck.Sound.{IsSound}
+use Rattle.mv_plan.proofs.deck.Plans.{IsPlanned}
 use Rattle.mv_calls.specs.Program.{Wrong}
 use Rattle.mv_calls.specs.Runs.{left_in}
 use Rattle.mv_plan.specs.SpoolRun.{Follows}
@@ -17,7 +17,7 @@ use Rattle.mv_plan.specs.SpoolTasks.{task_program}
 use Rattle.mv_plan.proofs.ends.Posted.{extend_is_armed}
 use Rattle.mv_plan.proofs.deck.Ends.{few_jobs}
 use Rattle.mv_plan.proofs.results.EndsPosted.{Ends, ends_first, ends_next}
-use Rattle.mv_plan.proofs.results.Foreseen.{IsForeseen, IsOfTurns}
+use Rattle.mv_plan.proofs.results.Foreseen.{IsForeseen, IsOfRounds}
 use Rattle.mv_plan.proofs.serving.LatchCases.{IsServed}
 use Rattle.mv_plan.proofs.walks.Moves.{entry_next}
 use Rattle.mv_plan.proofs.deck.Setup.{facts}
@@ -32,7 +32,7 @@ use Rattle.mv_plan.proofs.walks.Histories.{Stood, stood, in_time}
 use Rattle.mv_plan.proofs.walks.Walks.{Points, Move, reads, schedules, initiates, writes}
 use Rattle.mv_plan.proofs.walks.Stands.{standing}
 
-served_of : (x : InitiatorAt) → (IsOfTurns x → ⊥) → IsServed x
+served_of : (x : InitiatorAt) → (IsOfRounds x → ⊥) → IsServed x
 served_of Opening n = n tt
 served_of (Offering more before g) n = n tt
 served_of (Pausing more before g) n = n tt
@@ -84,7 +84,7 @@ module _ (deck : List JobData) (initiators : ℕ) where
       let is : y ≡ x = cc points in
       (o ∙ ap (λ z. (scheduler_asks (length deck) z).0) is, op ∙ ap (λ z. (scheduler_asks (length deck) z).1) is)
 
-  module _ (some : 1 ≤ initiators) (sound : IsSound deck initiators) where
+  module _ (some : 1 ≤ initiators) (sound : IsPlanned deck initiators) where
     abbrev c : Setup
     c = spool_setup deck initiators
 

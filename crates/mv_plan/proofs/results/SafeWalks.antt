@@ -12,14 +12,14 @@ use Rattle.mv_machine.specs.Setup.{Setup}
 use Rattle.mv_machine.specs.System.{System, opening, with_at}
 use Rattle.mv_machine.specs.declared.entry.Reply.{Reply}
 use Rattle.mv_deck.specs.Deck.{JobData}
-use Rattle.mv_plan.proofs.deck.Sound.{AreSoundJobs, IsSound}
+use Rattle.mv_plan.proofs.deck.Plans.{ArePlannedJobs, IsPlanned}
 use Rattle.mv_calls.specs.Program.{Wrong}
 use Rattle.mv_calls.specs.Runs.{left_in}
 use Rattle.mv_plan.specs.SpoolSetup.{spool_setup, reader, scheduler, initiator, writer}
 use Rattle.mv_plan.specs.SpoolTasks.{not_to_run, task_program}
 use Rattle.mv_plan.proofs.standing.Arms.{Armed, armed_next, armed_start}
 use Rattle.mv_plan.proofs.points.ReaderAndWriter.{IsWriterAt, reader_says, writer_says}
-use Rattle.mv_plan.proofs.results.Foreseen.{IsForeseen, NoExtend, IsOfTurns, reader_foreseen, writer_foreseen, scheduler_foreseen}
+use Rattle.mv_plan.proofs.results.Foreseen.{IsForeseen, NoExtend, IsOfRounds, reader_foreseen, writer_foreseen, scheduler_foreseen}
 use Rattle.mv_plan.proofs.results.Foreseen.{extend_foreseen, initiator_foreseen, foreseen_of}
 use Rattle.mv_plan.proofs.points.Initiator.{initiator_says}
 use Rattle.mv_plan.proofs.standing.Row.{RowAt}
@@ -73,23 +73,23 @@ none_lost_of initiators t w d = record {
   at_writer = not_lost t.writer w.at_writer d.at_writer;
 }
 
-of_turns_or : (x : InitiatorAt) → (IsOfTurns x) ⊎ (IsOfTurns x → ⊥)
-of_turns_or Opening = inl tt
-of_turns_or (Offering more before g) = inl tt
-of_turns_or (Pausing more before g) = inl tt
-of_turns_or (Resuming more before g) = inl tt
-of_turns_or (Obtaining run hand latch mode steps) = inr (λ z. z)
-of_turns_or (Confirming run hand latch mode id steps) = inr (λ z. z)
-of_turns_or (Freeing run hand latch id steps) = inr (λ z. z)
-of_turns_or (Reading run hand volume amount steps) = inr (λ z. z)
-of_turns_or (Writing run hand volume amount number steps) = inr (λ z. z)
-of_turns_or (Scanning run hand volume steps) = inr (λ z. z)
-of_turns_or (Rescanning run hand volume number steps) = inr (λ z. z)
-of_turns_or (Purging run hand code) = inl tt
-of_turns_or (EndingJob run code counts) = inl tt
-of_turns_or (EndingForScheduler run code counts) = inl tt
-of_turns_or (EndingForWriter run code counts) = inl tt
-of_turns_or (Closing g) = inl tt
+of_rounds_or : (x : InitiatorAt) → (IsOfRounds x) ⊎ (IsOfRounds x → ⊥)
+of_rounds_or Opening = inl tt
+of_rounds_or (Offering more before g) = inl tt
+of_rounds_or (Pausing more before g) = inl tt
+of_rounds_or (Resuming more before g) = inl tt
+of_rounds_or (Obtaining run hand latch mode steps) = inr (λ z. z)
+of_rounds_or (Confirming run hand latch mode id steps) = inr (λ z. z)
+of_rounds_or (Freeing run hand latch id steps) = inr (λ z. z)
+of_rounds_or (Reading run hand volume amount steps) = inr (λ z. z)
+of_rounds_or (Writing run hand volume amount number steps) = inr (λ z. z)
+of_rounds_or (Scanning run hand volume steps) = inr (λ z. z)
+of_rounds_or (Rescanning run hand volume number steps) = inr (λ z. z)
+of_rounds_or (Purging run hand code) = inl tt
+of_rounds_or (EndingJob run code counts) = inl tt
+of_rounds_or (EndingForScheduler run code counts) = inl tt
+of_rounds_or (EndingForWriter run code counts) = inl tt
+of_rounds_or (Closing g) = inl tt
 
 extends_or : (x : SchedulerAt) → (NoExtend x)
     ⊎ ((j : ℕ) × (job : JobData) × (jobs : List JobData) × (skipped : Bool) × (x ≡ Extends j job jobs skipped))
@@ -104,7 +104,7 @@ pub record OthersForeseen (deck : List JobData) (initiators : ℕ) (s : System) 
   pub codes : (i code : ℕ) → i < initiators → element_code s i ≡ Some code → IsCode deck code
   pub extends : (j : ℕ) (job : JobData) (jobs : List JobData) (skipped : Bool) → e.caller ≡ scheduler
       → t.scheduler ≡ At (Extends j job jobs skipped) → e.reply ≡ reply_of.Ecb ecb_reply.Armed
-  pub steps : (i : ℕ) (x : InitiatorAt) → i < initiators → e.caller ≡ initiator i → t.initiators i ≡ At x → (IsOfTurns x → ⊥)
+  pub steps : (i : ℕ) (x : InitiatorAt) → i < initiators → e.caller ≡ initiator i → t.initiators i ≡ At x → (IsOfRounds x → ⊥)
       → IsForeseen (initiator_goes deck x e.reply)
 
 -- a moment, with which blocks are armed
@@ -112,7 +112,7 @@ pub record Safe (c : Setup) (deck : List JobData) (initiators : ℕ) (s : System
   pub now : Moment c deck initiators s t past
   pub arms : Armed c (length deck) initiators s t
 
-module _ (c : Setup) (deck : List JobData) (initiators : ℕ) (facts : Facts c (length deck) initiators) (sound : AreSoundJobs 0 deck)
+module _ (c : Setup) (deck : List JobData) (initiators : ℕ) (facts : Facts c (length deck) initiators) (sound : ArePlannedJobs 0 deck)
     (small : length deck ≤ not_to_run) where
   abbrev n : ℕ
   n = length deck
@@ -142,7 +142,7 @@ module _ (c : Setup) (deck : List JobData) (initiators : ℕ) (facts : Facts c (
     initiated : (s : System) (t : Points) (i : ℕ) (x : InitiatorAt) (p : ℕ) (r : Reply) → i < initiators → t.initiators i ≡ At x
         → IsNext c s (entry_of (initiator i) p (initiator_asks n i x) r) → Safe c deck initiators s t past
         → OthersForeseen deck initiators s t (entry_of (initiator i) p (initiator_asks n i x) r) → IsForeseen (initiator_goes deck x r)
-    initiated s t i x p r lt at nx w others = elim (of_turns_or x) [
+    initiated s t i x p r lt at nx w others = elim (of_rounds_or x) [
       | inl d ↦ initiator_foreseen deck initiators sound small s t.scheduler i lt others.codes w.now.ledger.places.place
           (λ j skipped less e. w.now.ledger.places.handed i j skipped lt less e) x r d
           (subst (λ z. IsInitiatorAt deck z) at (w.now.stand.at_initiator i lt).0)
@@ -252,7 +252,7 @@ module _ (c : Setup) (deck : List JobData) (initiators : ℕ) (facts : Facts c (
 lost_wrong : {X : Type 0} (p : Point X) → p ≡ Astray → IsNotLost p → ⊥
 lost_wrong p e f = subst (λ z. IsNotLost z) e f
 
-module _ (deck : List JobData) (initiators : ℕ) (some : 1 ≤ initiators) (sound : IsSound deck initiators) (es : List Entry)
+module _ (deck : List JobData) (initiators : ℕ) (some : 1 ≤ initiators) (sound : IsPlanned deck initiators) (es : List Entry)
     (st : Stood deck initiators some sound es) (found : NoneLost initiators st.points) where
   abbrev c : Setup
   c = spool_setup deck initiators

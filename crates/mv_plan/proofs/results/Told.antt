@@ -16,7 +16,7 @@ use Rattle.mv_report.specs.Outcome as outcome
 use Rattle.mv_plan.specs.Closing.{told_end, with_end, told_from, told_ends}
 use Rattle.mv_plan.specs.PostingEnds.{posts, post_in, EndsArePosted}
 use Rattle.mv_plan.specs.SpoolSetup.{done}
-use Rattle.mv_plan.proofs.deck.Ends.{length-ends_from}
+use Rattle.mv_report.proofs.Lengths.{one_end_per_job}
 
 -- the last code of these, or this one
 abbrev last_code : ℕ → List (ℕ × Reply) → ℕ
@@ -90,7 +90,7 @@ pub told_of_run : (deck : List JobData) (es : List Entry) → EndsArePosted deck
 told_of_run deck es posted = ext_get_or 0 (told_ends (length deck) es) (outcome.ends deck)
     (let a : length (told_ends (length deck) es) ≡ length deck =
     length_told (length deck) (replicate (length deck) 0) es (length-replicate (length deck) 0) in
-    let b : length (outcome.ends deck) ≡ 0 + length deck = length-ends_from [] deck in omega arith)
+    let b : length (outcome.ends deck) ≡ length deck = one_end_per_job deck in omega arith)
     (λ j lt. each j
     (let a : length (told_ends (length deck) es) ≡ length deck =
     length_told (length deck) (replicate (length deck) 0) es (length-replicate (length deck) 0) in omega arith)) where

@@ -23,7 +23,7 @@ use Rattle.mv_machine.proofs.EntryRuns.{entry_of}
 use Rattle.mv_deck.specs.Deck.{JobData}
 use Rattle.mv_deck.specs.declared.deck.Step.{Step}
 use Rattle.mv_deck.specs.declared.deck.Step.TheVariants.{Print, Use, Free, Count, Scan, Abend, Return}
-use Rattle.mv_plan.proofs.deck.Sound.{AreSoundSteps}
+use Rattle.mv_plan.proofs.deck.Plans.{ArePlannedSteps}
 use Rattle.mv_plan.specs.SpoolSetup.{initiator}
 use Rattle.mv_plan.proofs.latches.HandMoves.{has_latch}
 use Rattle.mv_plan.proofs.latches.Hands.{grip, OwnsBy, confirm_stands, free_stands}
@@ -50,7 +50,7 @@ abbrev pub IsWell : Point InitiatorAt → Type 0
 IsWell p = p ≡ Astray → ⊥
 
 -- the steps of a sound job: what is freed is held, so that its request is known
-pub steps_well : (run : Running) (hand : Hand) (steps : List Step) → IsHand hand → AreSoundSteps (held_of hand.holding) steps
+pub steps_well : (run : Running) (hand : Hand) (steps : List Step) → IsHand hand → ArePlannedSteps (held_of hand.holding) steps
     → IsWell (steps_at run hand steps)
 steps_well run hand [] h s e = absurd (cc e)
 steps_well run hand (Print text ∷ steps) h s e = steps_well run hand steps h s e

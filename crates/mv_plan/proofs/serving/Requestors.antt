@@ -30,7 +30,7 @@ use Rattle.mv_plan.proofs.latches.HandMoves.{Apart, works}
 use Rattle.mv_plan.proofs.points.InitiatorSound.{named_is, IsInitiatorAt}
 use Rattle.mv_plan.proofs.points.Points.{Point, At, Astray, Running, Hand, empty_hand, InitiatorAt, Opening, Offering, Pausing, Resuming}
 use Rattle.mv_plan.proofs.points.Points.{Obtaining, Confirming, Freeing, Reading, Writing, Scanning, Rescanning, Purging, EndingJob}
-use Rattle.mv_plan.proofs.points.Points.{EndingForScheduler, EndingForWriter, Closing, initiator_asks, initiator_goes, turns_from}
+use Rattle.mv_plan.proofs.points.Points.{EndingForScheduler, EndingForWriter, Closing, initiator_asks, initiator_goes, rounds_from}
 use Rattle.mv_plan.proofs.points.Points.{freeing_at, steps_at, running, job_start, named_at, given_at, ReaderAt, Entering, SchedulerAt}
 use Rattle.mv_plan.proofs.points.Points.{Waits, Extends, Clears, Releases, Arming, Settling, WriterAt, Keeping, reader_asks}
 use Rattle.mv_plan.proofs.points.Points.{scheduler_asks, writer_asks}
@@ -122,9 +122,9 @@ names_zero j = rw (ne_eqb 0 (code_of j false) (λ q. absurd (omega arith)), ne_e
 -- ---- the initiator that moves
 
 module _ (j : ℕ) where
-  work_turns : (m : ℕ) (before : List ℕ) (g : ℕ) → work j (turns_from m before g) ≡ 0
-  work_turns zero before g = refl
-  work_turns (suc m) before g = refl
+  work_rounds : (m : ℕ) (before : List ℕ) (g : ℕ) → work j (rounds_from m before g) ≡ 0
+  work_rounds zero before g = refl
+  work_rounds (suc m) before g = refl
 
   works_steps : (run : Running) (hand : Hand) (steps : List Step) → IsNotLost (steps_at run hand steps)
       → works (steps_at run hand steps) ≡ Some run.job
@@ -197,7 +197,7 @@ module _ (j : ℕ) where
     ]
 
     own_work : (i : ℕ) (x : InitiatorAt) (r : Reply) → IsNotLost (initiator_goes deck x r) → WorkNext i x r
-    own_work i Opening (reply_of.Element (element_reply.Opened g)) n = to_none _ (work_turns (length deck + 1) [] g)
+    own_work i Opening (reply_of.Element (element_reply.Opened g)) n = to_none _ (work_rounds (length deck + 1) [] g)
     own_work i Opening r n = absurd n
     own_work i (Offering more before g) (reply_of.Ecb ecb_reply.Posted) n = refl
     own_work i (Offering more before g) (reply_of.Ecb (ecb_reply.Woke x)) n = refl
@@ -240,18 +240,18 @@ module _ (j : ℕ) where
     own_work i (Purging run hand code) (reply_of.Latch (latch_reply.Purged removed count)) n = same_job run.job
     own_work i (Purging run hand code) r n = absurd n
     own_work i (EndingJob run code counts) (reply_of.Ecb (ecb_reply.Woke (suc x))) n = refl
-    own_work i (EndingJob run code counts) (reply_of.Ecb (ecb_reply.Woke zero)) n = to_none _ (work_turns run.more _ run.generation)
-    own_work i (EndingJob run code counts) (reply_of.Ecb ecb_reply.Posted) n = to_none _ (work_turns run.more _ run.generation)
-    own_work i (EndingJob run code counts) (reply_of.Ecb (ecb_reply.Already old)) n = to_none _ (work_turns run.more _ run.generation)
+    own_work i (EndingJob run code counts) (reply_of.Ecb (ecb_reply.Woke zero)) n = to_none _ (work_rounds run.more _ run.generation)
+    own_work i (EndingJob run code counts) (reply_of.Ecb ecb_reply.Posted) n = to_none _ (work_rounds run.more _ run.generation)
+    own_work i (EndingJob run code counts) (reply_of.Ecb (ecb_reply.Already old)) n = to_none _ (work_rounds run.more _ run.generation)
     own_work i (EndingJob run code counts) r n = absurd n
     own_work i (EndingForScheduler run code counts) (reply_of.Ecb ecb_reply.Posted) n = refl
     own_work i (EndingForScheduler run code counts) (reply_of.Ecb (ecb_reply.Woke x)) n = refl
     own_work i (EndingForScheduler run code counts) (reply_of.Ecb (ecb_reply.Already old)) n = refl
     own_work i (EndingForScheduler run code counts) r n = absurd n
-    own_work i (EndingForWriter run code counts) (reply_of.Ecb ecb_reply.Posted) n = to_none _ (work_turns run.more _ run.generation)
-    own_work i (EndingForWriter run code counts) (reply_of.Ecb (ecb_reply.Woke x)) n = to_none _ (work_turns run.more _ run.generation)
+    own_work i (EndingForWriter run code counts) (reply_of.Ecb ecb_reply.Posted) n = to_none _ (work_rounds run.more _ run.generation)
+    own_work i (EndingForWriter run code counts) (reply_of.Ecb (ecb_reply.Woke x)) n = to_none _ (work_rounds run.more _ run.generation)
     own_work i (EndingForWriter run code counts) (reply_of.Ecb (ecb_reply.Already old)) n =
-        to_none _ (work_turns run.more _ run.generation)
+        to_none _ (work_rounds run.more _ run.generation)
     own_work i (EndingForWriter run code counts) r n = absurd n
     own_work i (Closing g) (reply_of.Element element_reply.Closed) n = refl
     own_work i (Closing g) r n = absurd n
@@ -396,18 +396,18 @@ unpurged deck initiators t past i j lt below a none w once =
 -- whoever works on a job, it is one of the deck's
 pub works_bound : (deck : List JobData) (p : Point InitiatorAt) (job : ℕ) → IsInitiatorAt deck p → works p ≡ Some job → job < length deck
 works_bound deck (At (Obtaining run hand latch mode steps)) job a e =
-    subst (λ j. j < length deck) (let q : run.job ≡ job = cc e in q) a.turn.job
+    subst (λ j. j < length deck) (let q : run.job ≡ job = cc e in q) a.round.job
 works_bound deck (At (Confirming run hand latch mode id steps)) job a e =
-    subst (λ j. j < length deck) (let q : run.job ≡ job = cc e in q) a.turn.job
+    subst (λ j. j < length deck) (let q : run.job ≡ job = cc e in q) a.round.job
 works_bound deck (At (Freeing run hand latch id steps)) job a e =
-    subst (λ j. j < length deck) (let q : run.job ≡ job = cc e in q) a.0.turn.job
+    subst (λ j. j < length deck) (let q : run.job ≡ job = cc e in q) a.0.round.job
 works_bound deck (At (Reading run hand volume amount steps)) job a e =
-    subst (λ j. j < length deck) (let q : run.job ≡ job = cc e in q) a.turn.job
+    subst (λ j. j < length deck) (let q : run.job ≡ job = cc e in q) a.round.job
 works_bound deck (At (Writing run hand volume amount number steps)) job a e =
-    subst (λ j. j < length deck) (let q : run.job ≡ job = cc e in q) a.turn.job
+    subst (λ j. j < length deck) (let q : run.job ≡ job = cc e in q) a.round.job
 works_bound deck (At (Scanning run hand volume steps)) job a e =
-    subst (λ j. j < length deck) (let q : run.job ≡ job = cc e in q) a.turn.job
+    subst (λ j. j < length deck) (let q : run.job ≡ job = cc e in q) a.round.job
 works_bound deck (At (Rescanning run hand volume number steps)) job a e =
-    subst (λ j. j < length deck) (let q : run.job ≡ job = cc e in q) a.turn.job
-works_bound deck (At (Purging run hand code)) job a e = subst (λ j. j < length deck) (let q : run.job ≡ job = cc e in q) a.turn.job
+    subst (λ j. j < length deck) (let q : run.job ≡ job = cc e in q) a.round.job
+works_bound deck (At (Purging run hand code)) job a e = subst (λ j. j < length deck) (let q : run.job ≡ job = cc e in q) a.round.job
 works_bound deck p job a e = absurd (cc e)

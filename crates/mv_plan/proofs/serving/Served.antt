@@ -7,7 +7,7 @@ use Rattle.mv_machine.specs.System.{System, opening}
 use Rattle.mv_machine.proofs.EntryRuns.{entry_of}
 use Rattle.mv_plan.specs.HandingOut.{given_codes}
 use Rattle.mv_deck.specs.Deck.{JobData}
-use Rattle.mv_plan.proofs.deck.Sound.{IsSound}
+use Rattle.mv_plan.proofs.deck.Plans.{IsPlanned}
 use Rattle.mv_plan.specs.SpoolSetup.{initiator}
 use Rattle.mv_plan.specs.SpoolTasks.{code_of, not_to_run}
 use Rattle.mv_plan.proofs.volumes.Alone.{Latched, latched_next, latched_start}
@@ -54,7 +54,7 @@ once_each deck past once j lt =
 
 -- at such a point an initiator foresees each reply
 pub served_well : (c : Setup) (deck : List JobData) (initiators : ℕ) (s : System) (t : Points) (past : List Entry) (e : Entry) (i : ℕ)
-    (x : InitiatorAt) → 1 ≤ initiators → IsSound deck initiators
+    (x : InitiatorAt) → 1 ≤ initiators → IsPlanned deck initiators
     → AreSound deck initiators t → NoneLost initiators t → NamedOnce deck past → Served deck initiators s t past → IsNext c s e
     → IsServed x → i < initiators → e.caller ≡ initiator i → t.initiators i ≡ At x
     → e.object ≡ (initiator_asks (length deck) i x).0 → e.op ≡ (initiator_asks (length deck) i x).1

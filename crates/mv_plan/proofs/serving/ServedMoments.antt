@@ -6,7 +6,7 @@ use Rattle.mv_machine.specs.Setup.{Setup}
 use Rattle.mv_machine.specs.System.{System, opening}
 use Rattle.mv_plan.specs.HandingOut.{released_codes, given_codes}
 use Rattle.mv_deck.specs.Deck.{JobData}
-use Rattle.mv_plan.proofs.deck.Sound.{IsSound, AreSoundJobs}
+use Rattle.mv_plan.proofs.deck.Plans.{IsPlanned, ArePlannedJobs}
 use Rattle.mv_plan.specs.SpoolSetup.{initiator}
 use Rattle.mv_plan.specs.SpoolTasks.{not_to_run}
 use Rattle.mv_plan.proofs.latches.Exclusion.{places_apart}
@@ -47,7 +47,7 @@ module _ (c : Setup) (deck : List JobData) (initiators : ℕ) where
 
   -- an initiator foresees each reply at latches and volumes
   pub served_foreseen : (s : System) (t : Points) (past : List Entry) (e : Entry) (i : ℕ) (x : InitiatorAt) → 1 ≤ initiators
-      → IsSound deck initiators → Moment c deck initiators s t past
+      → IsPlanned deck initiators → Moment c deck initiators s t past
       → Served deck initiators s t past → IsNext c s e → IsServed x → i < initiators → e.caller ≡ initiator i → t.initiators i ≡ At x
       → e.object ≡ (initiator_asks (length deck) i x).0 → e.op ≡ (initiator_asks (length deck) i x).1
       → initiator_goes deck x e.reply ≡ Astray → ⊥
@@ -55,7 +55,7 @@ module _ (c : Setup) (deck : List JobData) (initiators : ℕ) where
       served_well c deck initiators s t past e i x some sound (moment_sound s t past now) now.none_lost
       (ledger_once deck initiators s t past now.ledger) w h on lt k at o op
 
-  pub served_end : Facts c (length deck) initiators → AreSoundJobs 0 deck → length deck ≤ not_to_run → (es : List Entry) (u : Points)
+  pub served_end : Facts c (length deck) initiators → ArePlannedJobs 0 deck → length deck ≤ not_to_run → (es : List Entry) (u : Points)
       → WalkTo c deck initiators (opening c) (start_points deck initiators) es u → NoneLost initiators u
       → Served deck initiators (after_from (opening c) es) u es
   served_end facts sound few es u walk found =

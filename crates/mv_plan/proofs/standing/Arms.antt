@@ -21,7 +21,7 @@ use Rattle.mv_machine.specs.Setup.{Setup, owner_of}
 use Rattle.mv_machine.specs.System.{System, opening, admitted, ecb_admitted, moved, with_at, advanced}
 use Rattle.mv_deck.specs.Deck.{JobData}
 use Rattle.mv_deck.specs.declared.deck.After.{After}
-use Rattle.mv_plan.proofs.deck.Sound.{AreSoundJobs}
+use Rattle.mv_plan.proofs.deck.Plans.{ArePlannedJobs}
 use Rattle.mv_calls.specs.Waits.{AreDistinct}
 use Rattle.mv_calls.specs.Keeping.{Kept}
 use Rattle.mv_plan.specs.SpoolSetup.{reader, scheduler, initiator, writer, done, end_for_writer, idle}
@@ -69,7 +69,7 @@ in_all P (x ∷ bs) b w (inr i) = in_all P bs b w.1 i
 
 -- ---- the blocks of a wait are different, and none is a done block
 
-pub awaited_distinct : (deck : List JobData) (initiators : ℕ) (a : Awaited) → AreSoundJobs 0 deck → IsAwaited deck initiators a
+pub awaited_distinct : (deck : List JobData) (initiators : ℕ) (a : Awaited) → ArePlannedJobs 0 deck → IsAwaited deck initiators a
     → AreDistinct (awaited_blocks (length deck) initiators a)
 awaited_distinct deck initiators (ForEntry j job jobs) sound s = (tt, tt)
 awaited_distinct deck initiators (ForEnds j job jobs) sound s =
@@ -178,7 +178,7 @@ pub arm_owner : (c : Setup) (s : System) (k e : ℕ) (op : EcbOp) → (ecb_admit
 arm_owner c s k e op q adm = eqb-true (owner_of c e) k
     (sym q ∙ (and_parts (nat_lt k c.callers && nat_lt e (length c.owners)) (ecb_admitted c k e op) adm).1)
 
-module _ (c : Setup) (deck : List JobData) (initiators : ℕ) (facts : Facts c (length deck) initiators) (sound : AreSoundJobs 0 deck)
+module _ (c : Setup) (deck : List JobData) (initiators : ℕ) (facts : Facts c (length deck) initiators) (sound : ArePlannedJobs 0 deck)
     (kept : ℕ → Kept) where
   abbrev n : ℕ
   n = length deck

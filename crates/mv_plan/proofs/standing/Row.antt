@@ -25,7 +25,7 @@ use Rattle.mv_plan.proofs.points.PostsAndWaits.{on_posted_keeps}
 use Rattle.mv_plan.proofs.points.Points.{Point, At, Finished, TooSoon, Astray, SchedulerAt, Releases, Running, InitiatorAt, Opening}
 use Rattle.mv_plan.proofs.points.Points.{Offering, Pausing, Resuming, Obtaining, Confirming, Freeing, Reading, Writing, Scanning}
 use Rattle.mv_plan.proofs.points.Points.{Rescanning, Purging, EndingJob, EndingForScheduler, EndingForWriter, Closing, initiator_asks}
-use Rattle.mv_plan.proofs.points.Points.{initiator_goes, turns_from, given_at, named_at, job_start, running, on_opened, on_paused}
+use Rattle.mv_plan.proofs.points.Points.{initiator_goes, rounds_from, given_at, named_at, job_start, running, on_opened, on_paused}
 use Rattle.mv_plan.proofs.points.Points.{on_resumed, on_closed}
 use Rattle.mv_plan.proofs.points.RunningJob.{RunsOn, start_run, GoesOn, same, done, lost, run_goes, run_asks, run_sound}
 use Rattle.mv_plan.proofs.walks.NoneLost.{SameTalk, same_talk}
@@ -127,9 +127,9 @@ row_lost : (st : Stance) (o h : Option ℕ) (x : ElementState) → st ≡ Loses 
 row_lost st o h x e = rw e tt
 
 module _ (o h : Option ℕ) where
-  turns_row : (m : ℕ) (before : List ℕ) (g : ℕ) (x : ElementState) → Row (Works g) o h x → Row (stance (turns_from m before g)) o h x
-  turns_row zero before g x r = tt
-  turns_row (suc m) before g x r = r
+  rounds_row : (m : ℕ) (before : List ℕ) (g : ℕ) (x : ElementState) → Row (Works g) o h x → Row (stance (rounds_from m before g)) o h x
+  rounds_row zero before g x r = tt
+  rounds_row (suc m) before g x r = r
 
   run_row : (p : Point InitiatorAt) (run : Running) (x : ElementState) → RunsOn run p → Row (Works run.generation) o h x
       → Row (stance p) o h x
@@ -141,7 +141,7 @@ module _ (o h : Option ℕ) where
   goes_row p run x (same e) r = run_row p run x (inl e) r
   goes_row p run x (lost e) r = run_row p run x (inr e) r
   goes_row p run x (done e) r = row_at _ _ o o h h x x (ap (λ z. stance z) e) refl refl refl
-      (turns_row run.more (run.before ++ run.job ∷ []) run.generation x r)
+      (rounds_row run.more (run.before ++ run.job ∷ []) run.generation x r)
 
   named_row : (deck : List JobData) (slot : Option Named) (more : ℕ) (before : List ℕ) (g : ℕ) (x : ElementState) → Row (Works g) o h x
       → Row (stance (named_at deck slot before more g)) o h x
@@ -168,7 +168,7 @@ module _ (o h : Option ℕ) where
   -- the element's events, by its state
   opened_row : (n : ℕ) (y : ElementState) (r : Reply) → r ≡ reply_of.Element (element_step element_op.Open y).1 → Row Starts o h y
       → Row (stance (on_opened r n)) o h (element_step element_op.Open y).0
-  opened_row n y r e w = rw (e, w.2) (turns_row (n + 1) [] 0 (reset 0) (w.0, w.1, refl))
+  opened_row n y r e w = rw (e, w.2) (rounds_row (n + 1) [] 0 (reset 0) (w.0, w.1, refl))
 
   same_number : (g : ℕ) → (g == g) ≡ true
   same_number g = eq-eqb g g refl

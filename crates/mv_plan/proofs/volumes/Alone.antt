@@ -12,7 +12,7 @@ use Rattle.mv_machine.specs.Legal.{IsNext, next, after_from, of, «at», same_ob
 use Rattle.mv_machine.specs.Setup.{Setup}
 use Rattle.mv_machine.specs.System.{System, opening, moved}
 use Rattle.mv_deck.specs.Deck.{JobData}
-use Rattle.mv_plan.proofs.deck.Sound.{AreSoundJobs}
+use Rattle.mv_plan.proofs.deck.Plans.{ArePlannedJobs}
 use Rattle.mv_calls.specs.Keeping.{Kept, nothing_kept}
 use Rattle.mv_plan.specs.SpoolSetup.{initiator}
 use Rattle.mv_plan.proofs.walks.Always.{Always, always_now, always_next, always_keeps, always_both, always_map}
@@ -56,7 +56,7 @@ latched_next c deck initiators s t u e h m sound apart w = record {
 pub latched_start : (c : Setup) (deck : List JobData) (initiators : ℕ) → Latched initiators (opening c) (start_points deck initiators)
 latched_start c deck initiators = record { hands = hands_start c.latches initiators; values = λ i lt. tt }
 
-module _ (c : Setup) (deck : List JobData) (initiators : ℕ) (facts : Facts c (length deck) initiators) (sound : AreSoundJobs 0 deck) where
+module _ (c : Setup) (deck : List JobData) (initiators : ℕ) (facts : Facts c (length deck) initiators) (sound : ArePlannedJobs 0 deck) where
   pub always_stand : (es : List Entry)
       → Always c deck initiators (λ s t past. (kept : ℕ → Kept) × Stand deck initiators kept t) (opening c)
       (start_points deck initiators) [] es

@@ -18,7 +18,7 @@ use Rattle.mv_deck.specs.declared.deck.Step.TheVariants.{Print, Use, Free, Count
 use Rattle.mv_plan.proofs.volumes.Added.{added_by}
 use Rattle.mv_plan.proofs.deck.Events.{steps_events, all_events, all_events_are}
 use Rattle.mv_deck.specs.Weight as heavy
-use Rattle.mv_plan.proofs.deck.Sound.{Held, AreSoundSteps, AreSoundJobs, IsSound}
+use Rattle.mv_plan.proofs.deck.Plans.{Held, ArePlannedSteps, ArePlannedJobs, IsPlanned}
 use Rattle.mv_report.specs.Outcome.{before_end, added}
 use Rattle.mv_plan.specs.SpoolSetup.{initiator}
 use Rattle.mv_plan.proofs.volumes.Dues.{due, gift_adds, own_due}
@@ -111,7 +111,7 @@ module _ (c : Setup) (deck : List JobData) (initiators : ℕ) where
 
 -- ---- how much a volume may have
 
-steps_bound : (v : ℕ) (steps : List Step) (held : List Held) → AreSoundSteps held steps
+steps_bound : (v : ℕ) (steps : List Step) (held : List Held) → ArePlannedSteps held steps
     → 2 * added_by v (before_end steps) ≤ 9999 * steps_events steps
 steps_bound v [] held s = omega arith
 steps_bound v (Print text ∷ steps) held s = let r : 2 * added_by v (before_end steps) ≤ 9999 * steps_events steps =
@@ -131,7 +131,7 @@ steps_bound v (Scan volume ∷ steps) held s = let r : 2 * added_by v (before_en
 steps_bound v (Abend code ∷ steps) held s = omega arith
 steps_bound v (Return code ∷ steps) held s = omega arith
 
-fulls_bound : (v k : ℕ) (jobs : List JobData) → AreSoundJobs k jobs → 2 * sum_to (length jobs) (full jobs v) ≤ 9999 * all_events jobs
+fulls_bound : (v k : ℕ) (jobs : List JobData) → ArePlannedJobs k jobs → 2 * sum_to (length jobs) (full jobs v) ≤ 9999 * all_events jobs
 fulls_bound v k [] s = omega arith
 fulls_bound v k (job ∷ jobs) s =
     let first : sum_to (suc (length jobs)) (full (job ∷ jobs) v) ≡ full (job ∷ jobs) v 0 + sum_to (length jobs)
@@ -139,7 +139,7 @@ fulls_bound v k (job ∷ jobs) s =
     let rest : 2 * sum_to (length jobs) (λ j. full (job ∷ jobs) v (suc j)) ≤ 9999 * all_events jobs = fulls_bound v (k + 1) jobs s.1 in
     let one : 2 * full (job ∷ jobs) v 0 ≤ 9999 * steps_events job.steps = steps_bound v job.steps [] s.0.steps in omega arith
 
-few_events : (deck : List JobData) (initiators : ℕ) → 1 ≤ initiators → IsSound deck initiators → all_events deck ≤ 524287
+few_events : (deck : List JobData) (initiators : ℕ) → 1 ≤ initiators → IsPlanned deck initiators → all_events deck ≤ 524287
 few_events deck zero some sound = absurd (omega arith)
 few_events deck (suc k) some sound = go (heavy.all_events deck) (all_events_are deck) sound.light where
   go : (e : ℕ) → e ≡ all_events deck
@@ -150,7 +150,7 @@ few_events deck (suc k) some sound = go (heavy.all_events deck) (all_events_are 
 abbrev pub OnceEach : List JobData → List ℕ → Type 0
 OnceEach deck codes = (j : ℕ) → j < length deck → count_of (j + 1) codes ≤ 1
 
-pub adds_few : (deck : List JobData) (initiators v : ℕ) (codes : List ℕ) → 1 ≤ initiators → IsSound deck initiators → OnceEach deck codes
+pub adds_few : (deck : List JobData) (initiators v : ℕ) (codes : List ℕ) → 1 ≤ initiators → IsPlanned deck initiators → OnceEach deck codes
     → 2 * adds_all deck v codes ≤ 9999 * 524287
 adds_few deck initiators v codes some sound once =
     let a : adds_all deck v codes ≡ sum_to (length deck) (λ j. times (count_of (j + 1) codes) (full deck v j)) =
@@ -164,7 +164,7 @@ adds_few deck initiators v codes some sound once =
 -- a COUNT's sum has 32 bits
 pub count_small : (deck : List JobData) (initiators : ℕ) (s : System) (t : Points) (past : List Entry) (i : ℕ) (run : Running) (hand : Hand)
     (volume amount : ℕ) (steps : List Step)
-    → 1 ≤ initiators → IsSound deck initiators → i < initiators → NoneLost initiators t → Balance deck initiators s t past
+    → 1 ≤ initiators → IsPlanned deck initiators → i < initiators → NoneLost initiators t → Balance deck initiators s t past
     → OnceEach deck (codes_of past)
     → t.initiators i ≡ At (Reading run hand volume amount steps) → (s.volume volume).state + amount < 2 ^ 32
 count_small deck initiators s t past i run hand volume amount steps some sound lt none w once at =

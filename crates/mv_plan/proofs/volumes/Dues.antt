@@ -22,7 +22,7 @@ use Rattle.mv_plan.specs.SpoolTasks.{Named, job_named}
 use Rattle.mv_plan.proofs.volumes.GivenCodes.{with_code, adds_if, adds_named, adds, adds_all, adds_high}
 use Rattle.mv_plan.proofs.points.Points.{Point, At, Astray, Running, Hand, empty_hand, InitiatorAt, Opening, Offering, Pausing, Resuming}
 use Rattle.mv_plan.proofs.points.Points.{Obtaining, Confirming, Freeing, Reading, Writing, Scanning, Rescanning, Purging, EndingJob}
-use Rattle.mv_plan.proofs.points.Points.{EndingForScheduler, EndingForWriter, Closing, initiator_goes, turns_from, freeing_at, steps_at}
+use Rattle.mv_plan.proofs.points.Points.{EndingForScheduler, EndingForWriter, Closing, initiator_goes, rounds_from, freeing_at, steps_at}
 use Rattle.mv_plan.proofs.points.Points.{running, job_start, named_at, given_at, initiator_asks}
 use Rattle.mv_plan.proofs.volumes.Values.{ValueAt, read_keeps, write_same, write_other, volumes_asked}
 use Rattle.mv_plan.proofs.points.Views.{IsNotLost}
@@ -51,9 +51,9 @@ zero_plus : (n : ℕ) → n ≡ 0 + n
 zero_plus n = omega arith
 
 module _ (v : ℕ) where
-  due_turns : (m : ℕ) (before : List ℕ) (g : ℕ) → due v (turns_from m before g) ≡ 0
-  due_turns zero before g = refl
-  due_turns (suc m) before g = refl
+  due_rounds : (m : ℕ) (before : List ℕ) (g : ℕ) → due v (rounds_from m before g) ≡ 0
+  due_rounds zero before g = refl
+  due_rounds (suc m) before g = refl
 
   due_steps : (run : Running) (hand : Hand) (steps : List Step) → IsNotLost (steps_at run hand steps)
       → due v (steps_at run hand steps) ≡ added_by v (before_end steps)
@@ -144,7 +144,7 @@ module _ (c : Setup) (s : System) (deck : List JobData) (i v : ℕ) where
   pub own_due : (x : InitiatorAt) (p : ℕ) (r : Reply) → NextAt c s deck i x p r → ValueAt s.volume (At x)
       → IsNotLost (initiator_goes deck x r) → DueNext x r
   own_due Opening p (reply_of.Element (element_reply.Opened g)) h a n =
-      to_zero (s.volume v).state _ (due_turns v (length deck + 1) [] g)
+      to_zero (s.volume v).state _ (due_rounds v (length deck + 1) [] g)
   own_due Opening p r h a n = absurd n
   own_due (Offering more before g) p (reply_of.Ecb ecb_reply.Posted) h a n = plain_due (s.volume v).state 0
   own_due (Offering more before g) p (reply_of.Ecb (ecb_reply.Woke x)) h a n = plain_due (s.volume v).state 0
@@ -193,22 +193,22 @@ module _ (c : Setup) (s : System) (deck : List JobData) (i v : ℕ) where
   own_due (Purging run hand code) p r h a n = absurd n
   own_due (EndingJob run code counts) p (reply_of.Ecb (ecb_reply.Woke (suc x))) h a n = plain_due (s.volume v).state 0
   own_due (EndingJob run code counts) p (reply_of.Ecb (ecb_reply.Woke zero)) h a n =
-      to_zero (s.volume v).state _ (due_turns v run.more _ run.generation)
+      to_zero (s.volume v).state _ (due_rounds v run.more _ run.generation)
   own_due (EndingJob run code counts) p (reply_of.Ecb ecb_reply.Posted) h a n =
-      to_zero (s.volume v).state _ (due_turns v run.more _ run.generation)
+      to_zero (s.volume v).state _ (due_rounds v run.more _ run.generation)
   own_due (EndingJob run code counts) p (reply_of.Ecb (ecb_reply.Already old)) h a n =
-      to_zero (s.volume v).state _ (due_turns v run.more _ run.generation)
+      to_zero (s.volume v).state _ (due_rounds v run.more _ run.generation)
   own_due (EndingJob run code counts) p r h a n = absurd n
   own_due (EndingForScheduler run code counts) p (reply_of.Ecb ecb_reply.Posted) h a n = plain_due (s.volume v).state 0
   own_due (EndingForScheduler run code counts) p (reply_of.Ecb (ecb_reply.Woke x)) h a n = plain_due (s.volume v).state 0
   own_due (EndingForScheduler run code counts) p (reply_of.Ecb (ecb_reply.Already old)) h a n = plain_due (s.volume v).state 0
   own_due (EndingForScheduler run code counts) p r h a n = absurd n
   own_due (EndingForWriter run code counts) p (reply_of.Ecb ecb_reply.Posted) h a n =
-      to_zero (s.volume v).state _ (due_turns v run.more _ run.generation)
+      to_zero (s.volume v).state _ (due_rounds v run.more _ run.generation)
   own_due (EndingForWriter run code counts) p (reply_of.Ecb (ecb_reply.Woke x)) h a n =
-      to_zero (s.volume v).state _ (due_turns v run.more _ run.generation)
+      to_zero (s.volume v).state _ (due_rounds v run.more _ run.generation)
   own_due (EndingForWriter run code counts) p (reply_of.Ecb (ecb_reply.Already old)) h a n =
-      to_zero (s.volume v).state _ (due_turns v run.more _ run.generation)
+      to_zero (s.volume v).state _ (due_rounds v run.more _ run.generation)
   own_due (EndingForWriter run code counts) p r h a n = absurd n
   own_due (Closing g) p (reply_of.Element element_reply.Closed) h a n = plain_due (s.volume v).state 0
   own_due (Closing g) p r h a n = absurd n

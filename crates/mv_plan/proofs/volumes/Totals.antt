@@ -13,7 +13,7 @@ use Rattle.mv_deck.specs.EndCode.{not_run}
 use Rattle.mv_report.specs.Outcome as outcome
 use Rattle.mv_report.specs.Outcome.{before_end, ends, steps_with, all_steps_with, total}
 use Rattle.mv_plan.specs.SpoolTasks.{code_of}
-use Rattle.mv_plan.proofs.deck.Ends.{length-ends_from}
+use Rattle.mv_report.proofs.Lengths.{one_end_per_job}
 use Rattle.mv_plan.proofs.volumes.GivenCodes.{with_code, codes_of, count_of, full, adds_all, adds_by_jobs}
 use Rattle.mv_plan.proofs.volumes.Sums.{sum_to, sum_ext, sum_front, times}
 
@@ -108,10 +108,7 @@ adds_total deck v es given =
     (λ j. added_by v (done_by deck j))
     (λ j lt. ap (λ k. times k (full deck v j)) (count_named j false es ∙ ap (count_of (code_of j false)) (given j lt))
     ∙ once j (end_of deck j == not_run))
-    ∙ total_from v (ends deck) deck (length-ends_from [] deck ∙ zero_more (length deck)) where
-      zero_more : (n : ℕ) → 0 + n ≡ n
-      zero_more n = omega arith
-
+    ∙ total_from v (ends deck) deck (one_end_per_job deck) where
       once : (j : ℕ) (b : Bool) → times (count_of (code_of j false) (code_of j b ∷ [])) (full deck v j) ≡ added_by v
           (if b then [] else before_end (job_at deck j).steps)
       once j true = ap (λ k. times k (full deck v j)) (count_other (code_of j false) (code_of j true) (λ e. codes_differ j (sym e)))

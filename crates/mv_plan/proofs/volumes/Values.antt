@@ -32,8 +32,8 @@ use Rattle.mv_plan.proofs.points.InitiatorSound.{IsInitiatorAt}
 use Rattle.mv_plan.proofs.points.PostsAndWaits.{on_posted_keeps}
 use Rattle.mv_plan.proofs.points.Points.{Point, At, Astray, Running, Hand, empty_hand, InitiatorAt, Opening, Offering, Pausing, Resuming}
 use Rattle.mv_plan.proofs.points.Points.{Obtaining, Confirming, Freeing, Reading, Writing, Scanning, Rescanning, Purging, EndingJob}
-use Rattle.mv_plan.proofs.points.Points.{EndingForScheduler, EndingForWriter, Closing, initiator_asks, initiator_goes, turns_from}
-use Rattle.mv_plan.proofs.points.Points.{turns_after, freeing_at, steps_at, running, job_start, named_at, given_at, reader_asks}
+use Rattle.mv_plan.proofs.points.Points.{EndingForScheduler, EndingForWriter, Closing, initiator_asks, initiator_goes, rounds_from}
+use Rattle.mv_plan.proofs.points.Points.{rounds_after, freeing_at, steps_at, running, job_start, named_at, given_at, reader_asks}
 use Rattle.mv_plan.proofs.points.Points.{scheduler_asks, writer_asks}
 use Rattle.mv_plan.proofs.walks.Walks.{Points, Move, reads, schedules, initiates, writes}
 use Rattle.mv_plan.proofs.lists.Tables.{with_at-same, with_at-other}
@@ -106,9 +106,9 @@ IsPlain (At (Writing run hand volume amount number steps)) = ⊥
 IsPlain (At (Rescanning run hand volume number steps)) = ⊥
 IsPlain p = Unit {0}
 
-plain_turns : (m : ℕ) (before : List ℕ) (g : ℕ) → IsPlain (turns_from m before g)
-plain_turns zero before g = tt
-plain_turns (suc m) before g = tt
+plain_rounds : (m : ℕ) (before : List ℕ) (g : ℕ) → IsPlain (rounds_from m before g)
+plain_rounds zero before g = tt
+plain_rounds (suc m) before g = tt
 
 plain_steps : (run : Running) (hand : Hand) (steps : List Step) → IsPlain (steps_at run hand steps)
 plain_steps run hand [] = tt
@@ -158,7 +158,7 @@ plain x r (At (Rescanning run hand volume number steps)) w = absurd w
 plain x r p w = tt
 
 pub leads : (deck : List JobData) (x : InitiatorAt) (r : Reply) → LeadsTo x r (initiator_goes deck x r)
-leads deck Opening (reply_of.Element (element_reply.Opened g)) = plain _ _ _ (plain_turns (length deck + 1) [] g)
+leads deck Opening (reply_of.Element (element_reply.Opened g)) = plain _ _ _ (plain_rounds (length deck + 1) [] g)
 leads deck Opening r = tt
 leads deck (Offering more before g) r = on_posted_keeps (LeadsTo (Offering more before g) r) (At (Pausing more before g)) r tt tt
 leads deck (Pausing more before g) (reply_of.Element (element_reply.Given code now)) =
@@ -196,15 +196,15 @@ leads deck (Rescanning run hand volume number steps) r = tt
 leads deck (Purging run hand code) (reply_of.Latch (latch_reply.Purged removed count)) = tt
 leads deck (Purging run hand code) r = tt
 leads deck (EndingJob run code counts) (reply_of.Ecb (ecb_reply.Woke (suc x))) = tt
-leads deck (EndingJob run code counts) (reply_of.Ecb (ecb_reply.Woke zero)) = plain _ _ _ (plain_turns run.more _ run.generation)
-leads deck (EndingJob run code counts) (reply_of.Ecb ecb_reply.Posted) = plain _ _ _ (plain_turns run.more _ run.generation)
-leads deck (EndingJob run code counts) (reply_of.Ecb (ecb_reply.Already old)) = plain _ _ _ (plain_turns run.more _ run.generation)
+leads deck (EndingJob run code counts) (reply_of.Ecb (ecb_reply.Woke zero)) = plain _ _ _ (plain_rounds run.more _ run.generation)
+leads deck (EndingJob run code counts) (reply_of.Ecb ecb_reply.Posted) = plain _ _ _ (plain_rounds run.more _ run.generation)
+leads deck (EndingJob run code counts) (reply_of.Ecb (ecb_reply.Already old)) = plain _ _ _ (plain_rounds run.more _ run.generation)
 leads deck (EndingJob run code counts) r = tt
 leads deck (EndingForScheduler run code counts) r =
     on_posted_keeps (LeadsTo (EndingForScheduler run code counts) r) (At (EndingForWriter run code counts)) r tt tt
 leads deck (EndingForWriter run code counts) r =
-    on_posted_keeps (LeadsTo (EndingForWriter run code counts) r) (turns_after run) r
-    (plain _ _ _ (plain_turns run.more _ run.generation)) tt
+    on_posted_keeps (LeadsTo (EndingForWriter run code counts) r) (rounds_after run) r
+    (plain _ _ _ (plain_rounds run.more _ run.generation)) tt
 leads deck (Closing g) (reply_of.Element element_reply.Closed) = tt
 leads deck (Closing g) r = tt
 

@@ -20,7 +20,7 @@ use Rattle.mv_machine.specs.Legal.{IsNext, next}
 use Rattle.mv_machine.specs.Setup.{Setup, is_exit_of}
 use Rattle.mv_machine.specs.System.{System, reply_to, with_at}
 use Rattle.mv_deck.specs.Deck.{JobData}
-use Rattle.mv_plan.proofs.deck.Sound.{AreSoundJobs}
+use Rattle.mv_plan.proofs.deck.Plans.{ArePlannedJobs}
 use Rattle.mv_calls.specs.Keeping.{Kept}
 use Rattle.mv_calls.specs.Program.{Program, asks, heard}
 use Rattle.mv_plan.specs.SpoolSetup.{entered, done, end_for_scheduler, end_for_writer, idle, reader, scheduler, initiator, writer}
@@ -102,7 +102,7 @@ who initiators (suc (suc i)) lt = elim (cases_eq i initiators) [
   | inr n ↦ is_initiator i (omega arith) (omega arith)
 ]
 
-module _ (c : Setup) (deck : List JobData) (initiators : ℕ) (facts : Facts c (length deck) initiators) (sound : AreSoundJobs 0 deck) where
+module _ (c : Setup) (deck : List JobData) (initiators : ℕ) (facts : Facts c (length deck) initiators) (sound : ArePlannedJobs 0 deck) where
   no_exit : (m : ℕ) → ((j : ℕ) → j < length deck → m ≡ done (length deck) j → ⊥) → (x : ℕ) → is_exit_of c x m ≡ true → ⊥
   no_exit m n x e = let r : (j : ℕ) × (j < length deck) × (x ≡ j + 1) × (m ≡ done (length deck) j) = facts.sources x m e in
       n r.0 r.1 r.3

@@ -8,7 +8,7 @@ use Rattle.mv_machine.specs.declared.entry.Object.{Object}
 use Rattle.mv_machine.specs.declared.entry.Op.{Op}
 use Rattle.mv_machine.specs.System.{opening}
 use Rattle.mv_deck.specs.Deck.{JobData}
-use Rattle.mv_plan.proofs.deck.Sound.{IsSound}
+use Rattle.mv_plan.proofs.deck.Plans.{IsPlanned}
 use Rattle.mv_calls.specs.Keeping.{Kept, nothing_kept}
 use Rattle.mv_calls.specs.Program.{Program, Done, Wrong, asks}
 use Rattle.mv_calls.specs.Runs.{left_in}
@@ -37,7 +37,7 @@ fourth : {A : Type 0} (a b d : Bool) (w x y z : A) → a ≡ false → b ≡ fal
     → (if a then w else if b then x else if d then y else z) ≡ z
 fourth a b d w x y z p q r = rw (p, q, r) refl
 
-module _ (deck : List JobData) (initiators : ℕ) (some : 1 ≤ initiators) (sound : IsSound deck initiators) where
+module _ (deck : List JobData) (initiators : ℕ) (some : 1 ≤ initiators) (sound : IsPlanned deck initiators) where
   tasks_start : TasksAt (spool_setup deck initiators) deck initiators nothing_kept (start_points deck initiators)
       (task_program deck initiators)
   tasks_start = record {
@@ -134,7 +134,7 @@ AreFinished initiators t = AllTasks initiators (λ X p. (a : List ℕ) × (p ≡
 abbrev pub AreInTime : ℕ → Points → Type 0
 AreInTime initiators t = AllTasks initiators (λ X p. p ≡ TooSoon → ⊥) t
 
-module _ (deck : List JobData) (initiators : ℕ) (some : 1 ≤ initiators) (sound : IsSound deck initiators) (es : List Entry) where
+module _ (deck : List JobData) (initiators : ℕ) (some : 1 ≤ initiators) (sound : IsPlanned deck initiators) (es : List Entry) where
   pub run_finished : (run : IsRun deck initiators es) → (st : Stood deck initiators some sound es) → AreFinished initiators st.points
   run_finished run st = record {
     at_reader = let d : (a : List ℕ) × (left_in (spool_setup deck initiators) (task_program deck initiators) reader es ≡ Done a) =

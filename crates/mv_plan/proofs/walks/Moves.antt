@@ -1,8 +1,8 @@
 -- Moves with their entry written out, so that object, operation and reply compute by cases of the point: of_move for any
 -- relation, by_moves for invariants; and the cells of blocks and elements after a move. Each invariant below is proved by one
 -- of the two.
-use Rattle.std.proofs.Common.{refl, ◌≡◌, ℕ, ◌<◌, if◌then◌else◌, List, [], ◌∷◌, ◌++◌, length, sym, ap, subst}
-use Rattle.std.proofs.lemmas.Bool.{eq-eqb, ne_eqb}
+use Rattle.std.proofs.Common.{refl, ◌≡◌, ℕ, ◌<◌, if◌then◌else◌, List, [], ◌∷◌, ◌++◌, length, ◌⊎◌, inl, inr, sym, ap, ◌∙◌, subst}
+use Rattle.std.proofs.lemmas.Bool.{cases_eq, eq-eqb, ne_eqb}
 use Rattle.mv_ecb.specs.declared.operation.EcbOp.{EcbOp}
 use Rattle.mv_ecb.specs.Table.{ecb_step}
 use Rattle.mv_ecb.specs.Word.{EcbState}
@@ -144,8 +144,17 @@ element_reply c s k m op p r n = cc n.reply
 
 -- a table of cells in which one was advanced
 module _ {A : Type 0} (f : ℕ → Cell A) (m : ℕ) (a : A) where
-  pub turned_there : (b : ℕ) → b ≡ m → (with_at f m (advanced (f m) a) b).state ≡ a
-  turned_there b e = ap (λ z. (if z then advanced (f m) a else f b).state) (eq-eqb b m e)
+  pub changed_there : (b : ℕ) → b ≡ m → (with_at f m (advanced (f m) a) b).state ≡ a
+  changed_there b e = ap (λ z. (if z then advanced (f m) a else f b).state) (eq-eqb b m e)
 
-  pub turned_elsewhere : (b : ℕ) → (b ≡ m → ⊥) → (with_at f m (advanced (f m) a) b).state ≡ (f b).state
-  turned_elsewhere b d = ap (λ z. (if z then advanced (f m) a else f b).state) (ne_eqb b m d)
+  pub same_elsewhere : (b : ℕ) → (b ≡ m → ⊥) → (with_at f m (advanced (f m) a) b).state ≡ (f b).state
+  same_elsewhere b d = ap (λ z. (if z then advanced (f m) a else f b).state) (ne_eqb b m d)
+
+-- so each cell after a step of one: it is that one, or as before
+pub advanced_at : {A : Type 0} (f : ℕ → Cell A) (m : ℕ) (step : A → A) (b : ℕ)
+    → ((b ≡ m) × ((with_at f m (advanced (f m) (step (f m).state)) b).state ≡ step (f b).state))
+    ⊎ ((with_at f m (advanced (f m) (step (f m).state)) b).state ≡ (f b).state)
+advanced_at f m step b = elim (cases_eq b m) [
+  | inl same ↦ inl (same, changed_there f m (step (f m).state) b same ∙ ap (λ z. step (f z).state) (sym same))
+  | inr other ↦ inr (same_elsewhere f m (step (f m).state) b other)
+]

@@ -7,7 +7,7 @@ use Rattle.mv_machine.specs.declared.entry.Op.{Op}
 use Rattle.mv_machine.specs.Setup.{Setup}
 use Rattle.mv_machine.specs.System.{System, with_at}
 use Rattle.mv_deck.specs.Deck.{JobData}
-use Rattle.mv_plan.proofs.deck.Sound.{AreSoundJobs}
+use Rattle.mv_plan.proofs.deck.Plans.{ArePlannedJobs}
 use Rattle.mv_calls.specs.Keeping.{Kept, kept_after, nothing_kept}
 use Rattle.mv_plan.specs.SpoolSetup.{reader, scheduler, initiator, writer}
 use Rattle.mv_plan.proofs.points.Points.{scheduler_asks, scheduler_goes, writer_asks, initiator_asks, initiator_goes, Dispatching}
@@ -72,7 +72,7 @@ kept_own kept e k ask same o op =
     ∙ ap (λ j. kept_after (kept j) e.object e.op e.reply) same ∙ ap (λ x. kept_after (kept k) x e.op e.reply) o
     ∙ ap (λ x. kept_after (kept k) ask.0 x e.reply) op
 
-module _ (c : Setup) (deck : List JobData) (initiators : ℕ) (facts : Facts c (length deck) initiators) (sound : AreSoundJobs 0 deck) where
+module _ (c : Setup) (deck : List JobData) (initiators : ℕ) (facts : Facts c (length deck) initiators) (sound : ArePlannedJobs 0 deck) where
   pub stand_next : (kept : ℕ → Kept) (t u : Points) (e : Entry) → Move deck initiators t e u → Stand deck initiators kept t
       → Stand deck initiators (kept_next kept e) u
   stand_next kept t u e (reads x k at o op moved) s = subst (λ v. Stand deck initiators (kept_next kept e) v) (sym moved) (record {
