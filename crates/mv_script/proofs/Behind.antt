@@ -2,7 +2,7 @@
 use Rattle.std.proofs.Common.{◌≡◌, ℕ, ◌+◌, ◌-◌, ◌<◌, ◌≤◌, Bool, true, false, cond, not, ◌||◌, List, [], ◌∷◌, ◌++◌, length, map, replicate}
 use Rattle.std.proofs.Common.{Option, Some, None, refl, sym, ap, subst, ◌∙◌, arith}
 use Rattle.std.specs.Prelude.{nat_lt, nat_le, sum, is_some, count_by}
-use Rattle.std.proofs.lemmas.List.{map-append}
+use Rattle.std.proofs.lemmas.List.{append-nil, map-append}
 use Rattle.std.proofs.lemmas.List.Sums.{sum_by-append, sum_by_push}
 use Rattle.mv_machine.specs.Limits.{events_limit}
 use Rattle.mv_machine.specs.Setup.{Setup, SetupExit}
@@ -11,14 +11,14 @@ use Rattle.mv_script.specs.declared.statement.Statement.{Statement}
 use Rattle.mv_script.specs.declared.statement.Statement.TheVariants as statement
 use Rattle.mv_script.specs.Costs.{cost, costs_of, script_setup}
 use Rattle.mv_script.specs.Fault.{is_script, has_script, has_exit, has_task, has_end, is_out_of_order, leads_down}
-use Rattle.mv_script.specs.Fault.{is_too_costly, kinds_behind, obtain_meant, is_no_obtain}
+use Rattle.mv_script.specs.Fault.{is_too_costly, is_miscounted, lacks_obtain, kinds_behind, obtain_meant, is_no_obtain}
 use Rattle.mv_script.specs.Limits.{most_tasks, most_ecbs, most_exits, most_calls}
 use Rattle.mv_script.specs.Reading.{Progress, progress_of, with_statement, setup_in, budgets_in, IsSoundSoFar, Notes, open_task}
 use Rattle.mv_script.specs.Reading.{HasCosts, IsAsFar, Stands}
 use Rattle.mv_script.specs.Script.{task_count, owners_of, exits_of, tasks_of, with_call, last_task, budgets_of, sizes_behind, is_obtain}
 use Rattle.mv_script.specs.Sound.{IsGoodStatement}
 use Rattle.mv_script.proofs.Progresses.{same_any, one_ecb, one_exit, one_task, one_call, the_end, sound_script, sound_ecb, sound_exit}
-use Rattle.mv_script.proofs.Progresses.{sound_task, sound_call, sound_end, same_cost, call_cost, append_none, without_tasks, is_positive}
+use Rattle.mv_script.proofs.Progresses.{sound_task, sound_call, sound_end, same_cost, call_cost, without_tasks, is_positive}
 use Rattle.mv_script.proofs.Told.{fine}
 
 -- ---- answers taken apart
@@ -138,62 +138,67 @@ module _ (earlier : List Statement) (n : Notes) (b : Stands earlier n) where
       → earlier ++ s ∷ [] ≡ []
   still_first s e h f = absurd (cc (same_any is_script earlier s e, h, f))
 
-  -- what can be run does not cost too much
-  cheap : (s : Statement) → IsSoundSoFar (progress_of (earlier ++ s ∷ [])) → is_too_costly earlier s ≡ false
-  cheap s sound = low (sum (budgets_of (earlier ++ s ∷ []))) sound.light where
-    low : (m : ℕ) → m ≤ events_limit → nat_lt events_limit m ≡ false
-    low m le = grind arith
+  -- the statement has no fault, and the reader is behind it
+  taken : (s : Statement) (q : Progress) (m : Notes) → progress_of (earlier ++ s ∷ []) ≡ q → IsAsFar q m → is_script s ≡ false
+      → has_script earlier ≡ true → is_out_of_order earlier s ≡ false → is_miscounted earlier s ≡ false → leads_down s ≡ false
+      → lacks_obtain earlier s ≡ false → (kinds_behind earlier s ≡ []) × Stands (earlier ++ s ∷ []) m
+  taken s q m is far other script order many up meant = (
+    fine earlier s order many up meant (cheap (sum (budgets_of (earlier ++ s ∷ []))) (subst IsSoundSoFar (sym is) far.sound).light),
+    record { far = subst (λ (y : Progress). IsAsFar y m) (sym is) far; first = still_first s other script },
+  ) where
+    -- what can be run does not cost too much
+    cheap : (m : ℕ) → m ≤ events_limit → nat_lt events_limit m ≡ false
+    cheap m le = grind arith
 
   -- no task is finished where none has begun
   none_finished : p.task ≡ false → n.finished ≡ []
   none_finished e =
       let tasks : p.tasks ≡ [] = without_tasks p b.far.sound e in
-      sym (append_none n.finished) ∙ ap (λ (t : Bool). n.finished ++ open_task t n.calls) (sym e) ∙ b.far.tasks ∙ tasks
+      sym (append-nil n.finished) ∙ ap (λ (t : Bool). n.finished ++ open_task t n.calls) (sym e) ∙ b.far.tasks ∙ tasks
 
   few : (k m : ℕ) → m < k → nat_le k m ≡ false
   few k m lt = grind arith
 
-  -- ---- an ECB
+  -- ---- an ECB, and an EXIT
+
+  -- before the first TASK nothing costs yet, whichever blocks and exits there are
+  headed : (owners own : List ℕ) (exit : Bool) (exits ways : List SetupExit) → p.task ≡ false
+      → IsSoundSoFar (record p { owners = owners; exit = exit; exits = exits }) → own ≡ owners → ways ≡ exits
+      → IsAsFar (record p { owners = owners; exit = exit; exits = exits }) (record n { owners = own; exits = ways })
+  headed owners own exit exits ways task sound o x =
+      let q : Progress = record p { owners = owners; exit = exit; exits = exits } in
+      let none : n.finished ≡ [] = none_finished task in
+      let empty : n.calls ≡ [] = b.far.fresh task in
+      let tasks : p.tasks ≡ [] = without_tasks p b.far.sound task in record {
+        sound = sound;
+        stated = b.far.stated;
+        owners = o;
+        exits = x;
+        begun = b.far.begun;
+        costs = none_costs n.costs (setup_in q (replicate q.stated 0)) (b.far.begun ∙ task);
+        tasks = b.far.tasks;
+        fresh = b.far.fresh;
+        budgets = b.far.budgets ∙ ap (map (costs_of (setup_in p []))) none ∙ sym (ap (map (costs_of (setup_in q []))) none);
+        spent = b.far.spent ∙ ap (costs_of (setup_in p [])) empty ∙ sym (ap (costs_of (setup_in q [])) empty);
+        obtains = b.far.obtains;
+        room = ap (λ (l : List (List Call)). n.room + sum (map (costs_of (setup_in q [])) l)) tasks
+            ∙ sym (ap (λ (l : List (List Call)). n.room + sum (map (costs_of (setup_in p [])) l)) tasks) ∙ b.far.room;
+        ended = b.far.ended;
+      }
 
   pub taken_ecb : (owner : ℕ) → is_out_of_order earlier (statement.Ecb owner) ≡ false → length n.owners < most_ecbs
       → owner < task_count earlier
       → (kinds_behind earlier (statement.Ecb owner) ≡ [])
       × Stands (earlier ++ statement.Ecb owner ∷ []) (record n { owners = n.owners ++ owner ∷ [] })
   taken_ecb owner order lt good =
-      let s : Statement = statement.Ecb owner in
       let a = only_first (has_script earlier) _ order in
       let x = neither (has_exit earlier) _ a.1 in
       let t = neither (has_task earlier) _ x.1 in
       let count : length p.owners < most_ecbs = subst (λ (l : List ℕ). length l < most_ecbs) b.far.owners lt in
-      let sound = sound_ecb p b.far.sound owner x.0 t.0 count good in
-      let whole : IsSoundSoFar (progress_of (earlier ++ s ∷ [])) = subst IsSoundSoFar (sym (one_ecb earlier owner)) sound in
-      let none : n.finished ≡ [] = none_finished t.0 in
-      let empty : n.calls ≡ [] = b.far.fresh t.0 in
-      let tasks : p.tasks ≡ [] = without_tasks p b.far.sound t.0 in
-      let q : Progress = with_statement p s in (
-        fine earlier s order (few most_ecbs (length (owners_of earlier)) count) refl refl (cheap s whole),
-        record {
-          far = subst (λ (y : Progress). IsAsFar y (record n { owners = n.owners ++ owner ∷ [] })) (sym (one_ecb earlier owner)) (record {
-            sound = sound;
-            stated = b.far.stated;
-            owners = ap (λ (l : List ℕ). l ++ owner ∷ []) b.far.owners;
-            exits = b.far.exits;
-            begun = b.far.begun;
-            costs = none_costs n.costs (setup_in q (replicate q.stated 0)) (b.far.begun ∙ t.0);
-            tasks = b.far.tasks;
-            fresh = b.far.fresh;
-            budgets = b.far.budgets ∙ ap (map (costs_of (setup_in p []))) none ∙ sym (ap (map (costs_of (setup_in q []))) none);
-            spent = b.far.spent ∙ ap (costs_of (setup_in p [])) empty ∙ sym (ap (costs_of (setup_in q [])) empty);
-            obtains = b.far.obtains;
-            room = ap (λ (l : List (List Call)). n.room + sum (map (costs_of (setup_in q [])) l)) tasks
-                ∙ sym (ap (λ (l : List (List Call)). n.room + sum (map (costs_of (setup_in p [])) l)) tasks) ∙ b.far.room;
-            ended = b.far.ended;
-          });
-          first = still_first s refl a.0;
-        },
-      )
-
-  -- ---- an EXIT
+      taken (statement.Ecb owner) _ _ (one_ecb earlier owner)
+      (headed (p.owners ++ owner ∷ []) (n.owners ++ owner ∷ []) p.exit p.exits n.exits t.0
+      (sound_ecb p b.far.sound owner x.0 t.0 count good) (ap (λ (l : List ℕ). l ++ owner ∷ []) b.far.owners) b.far.exits)
+      refl a.0 order (few most_ecbs (length (owners_of earlier)) count) refl refl
 
   pub taken_exit : (source : ℕ) (targets : List ℕ) → is_out_of_order earlier (statement.Exit source targets) ≡ false
       → length n.exits < most_exits → leads_down (statement.Exit source targets) ≡ false
@@ -202,51 +207,21 @@ module _ (earlier : List Statement) (n : Notes) (b : Stands earlier n) where
       × Stands (earlier ++ statement.Exit source targets ∷ [])
       (record n { exits = n.exits ++ record { source = source; targets = targets } ∷ [] })
   taken_exit source targets order lt up good =
-      let s : Statement = statement.Exit source targets in
       let x : SetupExit = record { source = source; targets = targets } in
       let a = only_first (has_script earlier) _ order in
       let t = neither (has_task earlier) _ a.1 in
       let count : length p.exits < most_exits = subst (λ (l : List SetupExit). length l < most_exits) b.far.exits lt in
-      let sound = sound_exit p b.far.sound source targets t.0 count good.0 good.1.0 good.1.1.0 good.1.1.1 up in
-      let whole : IsSoundSoFar (progress_of (earlier ++ s ∷ [])) = subst IsSoundSoFar (sym (one_exit earlier source targets)) sound in
-      let none : n.finished ≡ [] = none_finished t.0 in
-      let empty : n.calls ≡ [] = b.far.fresh t.0 in
-      let tasks : p.tasks ≡ [] = without_tasks p b.far.sound t.0 in
-      let q : Progress = with_statement p s in (
-        fine earlier s order (few most_exits (length (exits_of earlier)) count) up refl (cheap s whole),
-        record {
-          far = subst (λ (y : Progress). IsAsFar y (record n { exits = n.exits ++ x ∷ [] }))
-              (sym (one_exit earlier source targets)) (record {
-                sound = sound;
-                stated = b.far.stated;
-                owners = b.far.owners;
-                exits = ap (λ (l : List SetupExit). l ++ x ∷ []) b.far.exits;
-                begun = b.far.begun;
-                costs = none_costs n.costs (setup_in q (replicate q.stated 0)) (b.far.begun ∙ t.0);
-                tasks = b.far.tasks;
-                fresh = b.far.fresh;
-                budgets = b.far.budgets ∙ ap (map (costs_of (setup_in p []))) none ∙ sym (ap (map (costs_of (setup_in q []))) none);
-                spent = b.far.spent ∙ ap (costs_of (setup_in p [])) empty ∙ sym (ap (costs_of (setup_in q [])) empty);
-                obtains = b.far.obtains;
-                room = ap (λ (l : List (List Call)). n.room + sum (map (costs_of (setup_in q [])) l)) tasks
-                    ∙ sym (ap (λ (l : List (List Call)). n.room + sum (map (costs_of (setup_in p [])) l)) tasks) ∙ b.far.room;
-                ended = b.far.ended;
-              });
-          first = still_first s refl a.0;
-        },
-      )
+      taken (statement.Exit source targets) _ _ (one_exit earlier source targets)
+      (headed p.owners n.owners true (p.exits ++ x ∷ []) (n.exits ++ x ∷ []) t.0
+      (sound_exit p b.far.sound source targets t.0 count good.0 good.1.0 good.1.1.0 good.1.1.1 up) b.far.owners
+      (ap (λ (l : List SetupExit). l ++ x ∷ []) b.far.exits))
+      refl a.0 order (few most_exits (length (exits_of earlier)) count) up refl
 
   -- ---- a TASK
 
   -- how many there are
   pub task_number : (m : ℕ) → m ≡ length (n.finished ++ open_task (is_some n.costs) n.calls) → m ≡ length (tasks_of earlier)
   task_number m e = e ∙ ap (λ (t : Bool). length (n.finished ++ open_task t n.calls)) b.far.begun ∙ ap length b.far.tasks
-
-  -- the kinds of a TASK
-  no_kinds : is_out_of_order earlier statement.Task ≡ false → length p.tasks < p.stated
-      → IsSoundSoFar (progress_of (earlier ++ statement.Task ∷ [])) → kinds_behind earlier statement.Task ≡ []
-  no_kinds order lt whole =
-      fine earlier statement.Task order (few (task_count earlier) (length (tasks_of earlier)) lt) refl refl (cheap statement.Task whole)
 
   -- the room that is left
   same_room : n.room + sum (budgets_in (with_statement p statement.Task)) ≡ events_limit
@@ -263,74 +238,52 @@ module _ (earlier : List Statement) (n : Notes) (b : Stands earlier n) where
         obtains = 0;
       })
   taken_task order lt begun =
-      let s : Statement = statement.Task in
       let a = only_first (has_script earlier) _ order in
-      let sound = sound_task p b.far.sound lt a.1 in
-      let whole : IsSoundSoFar (progress_of (earlier ++ s ∷ [])) = subst IsSoundSoFar (sym (one_task earlier)) sound in
       let task : p.task ≡ true = sym b.far.begun ∙ begun in
-      let c : List Call → ℕ = costs_of (setup_in p []) in (
-        no_kinds order lt whole,
-        record {
-          far = subst (λ (y : Progress). IsAsFar y (record n {
-            finished = n.finished ++ n.calls ∷ [];
-            budgets = n.budgets ++ n.spent ∷ [];
-            calls = [];
-            spent = 0;
-            obtains = 0;
-          })) (sym (one_task earlier)) (record {
-            sound = sound;
-            stated = b.far.stated;
-            owners = b.far.owners;
-            exits = b.far.exits;
-            begun = begun;
-            costs = b.far.costs;
-            tasks = ap (λ (l : List (List Call)). l ++ [] ∷ [])
-                (ap (λ (t : Bool). n.finished ++ open_task t n.calls) (sym task) ∙ b.far.tasks);
-            fresh = λ e. refl;
-            budgets = ap (λ (l : List ℕ). l ++ n.spent ∷ []) b.far.budgets ∙ ap (λ (m : ℕ). map c n.finished ++ m ∷ []) b.far.spent
-                ∙ sym (map-append c n.finished (n.calls ∷ []));
-            spent = refl;
-            obtains = refl;
-            room = same_room;
-            ended = b.far.ended;
-          });
-          first = still_first s refl a.0;
-        },
-      )
+      let c : List Call → ℕ = costs_of (setup_in p []) in
+      taken statement.Task (with_statement p statement.Task) _ (one_task earlier) (record {
+        sound = sound_task p b.far.sound lt a.1;
+        stated = b.far.stated;
+        owners = b.far.owners;
+        exits = b.far.exits;
+        begun = begun;
+        costs = b.far.costs;
+        tasks = ap (λ (l : List (List Call)). l ++ [] ∷ [])
+            (ap (λ (t : Bool). n.finished ++ open_task t n.calls) (sym task) ∙ b.far.tasks);
+        fresh = λ e. refl;
+        budgets = ap (λ (l : List ℕ). l ++ n.spent ∷ []) b.far.budgets ∙ ap (λ (m : ℕ). map c n.finished ++ m ∷ []) b.far.spent
+            ∙ sym (map-append c n.finished (n.calls ∷ []));
+        spent = refl;
+        obtains = refl;
+        room = same_room;
+        ended = b.far.ended;
+      }) refl a.0 order (few (task_count earlier) (length (tasks_of earlier)) lt) refl refl
 
   -- the first task
   pub first_task : (k : Setup) → is_out_of_order earlier statement.Task ≡ false → length (tasks_of earlier) < task_count earlier
       → is_some n.costs ≡ false → k ≡ setup_in p (replicate p.stated 0)
       → (kinds_behind earlier statement.Task ≡ []) × Stands (earlier ++ statement.Task ∷ []) (record n { costs = Some k })
   first_task k order lt none same =
-      let s : Statement = statement.Task in
       let a = only_first (has_script earlier) _ order in
-      let sound = sound_task p b.far.sound lt a.1 in
-      let whole : IsSoundSoFar (progress_of (earlier ++ s ∷ [])) = subst IsSoundSoFar (sym (one_task earlier)) sound in
       let task : p.task ≡ false = sym b.far.begun ∙ none in
       let empty : n.calls ≡ [] = b.far.fresh task in
       let finished : n.finished ≡ [] = none_finished task in
-      let tasks : p.tasks ≡ [] = without_tasks p b.far.sound task in (
-        no_kinds order lt whole,
-        record {
-          far = subst (λ (y : Progress). IsAsFar y (record n { costs = Some k })) (sym (one_task earlier)) (record {
-            sound = sound;
-            stated = b.far.stated;
-            owners = b.far.owners;
-            exits = b.far.exits;
-            begun = refl;
-            costs = same;
-            tasks = rw (empty, finished, tasks) refl;
-            fresh = λ e. absurd cc;
-            budgets = b.far.budgets;
-            spent = b.far.spent;
-            obtains = b.far.obtains;
-            room = same_room;
-            ended = b.far.ended;
-          });
-          first = still_first s refl a.0;
-        },
-      )
+      let tasks : p.tasks ≡ [] = without_tasks p b.far.sound task in
+      taken statement.Task (with_statement p statement.Task) (record n { costs = Some k }) (one_task earlier) (record {
+        sound = sound_task p b.far.sound lt a.1;
+        stated = b.far.stated;
+        owners = b.far.owners;
+        exits = b.far.exits;
+        begun = refl;
+        costs = same;
+        tasks = rw (empty, finished, tasks) refl;
+        fresh = λ e. absurd cc;
+        budgets = b.far.budgets;
+        spent = b.far.spent;
+        obtains = b.far.obtains;
+        room = same_room;
+        ended = b.far.ended;
+      }) refl a.0 order (few (task_count earlier) (length (tasks_of earlier)) lt) refl refl
 
   -- ---- the tasks, where one has begun
 
@@ -386,43 +339,29 @@ module _ (earlier : List Statement) (n : Notes) (b : Stands earlier n) where
         room = n.room - cost (setup_in p []) c;
       })
   taken_call c obtains order begun lt good means le more =
-      let s : Statement = statement.Call c in
       let a = only_first (has_task earlier) _ order in
       let d : ℕ = cost (setup_in p []) c in
       let last : last_task p.tasks ≡ n.calls = last_calls begun in
       let count : length (last_task p.tasks) < most_calls = subst (λ (l : List Call). length l < most_calls) (sym last) lt in
       let meant : is_no_obtain (last_task p.tasks) (obtain_meant c) ≡ false =
       ap (λ (l : List Call). is_no_obtain l (obtain_meant c)) last ∙ means in
-      let sound = sound_call p b.far.sound c a.0 a.1 count good meant (omega (arith, b.far.room, le)) in
-      let whole : IsSoundSoFar (progress_of (earlier ++ s ∷ [])) = subst IsSoundSoFar (sym (one_call earlier c)) sound in
-      let total : sum (budgets_in (with_statement p s)) ≡ sum (budgets_in p) + d = call_cost p b.far.sound c a.0 in
-      let script : has_script earlier ≡ true = begun_script a.0 in (
-        fine earlier s order (few most_calls (length (last_task (tasks_of earlier))) count) refl meant (cheap s whole),
-        record {
-          far = subst (λ (y : Progress). IsAsFar y (record n {
-            calls = n.calls ++ c ∷ [];
-            spent = n.spent + d;
-            obtains = obtains;
-            room = n.room - d;
-          })) (sym (one_call earlier c)) (record {
-            sound = sound;
-            stated = b.far.stated;
-            owners = b.far.owners;
-            exits = b.far.exits;
-            begun = b.far.begun;
-            costs = b.far.costs;
-            tasks = ap (λ (t : Bool). n.finished ++ open_task t (n.calls ++ c ∷ [])) a.0 ∙ sym (last_takes n.finished n.calls c)
-                ∙ ap (λ (l : List (List Call)). with_call l c) (sym (tasks_are begun));
-            fresh = λ e. absurd (cc (a.0, e));
-            budgets = b.far.budgets;
-            spent = ap (λ (m : ℕ). m + d) b.far.spent ∙ sym (sum_by_push (cost (setup_in p [])) n.calls c);
-            obtains = more ∙ ap (λ (m : ℕ). m + count_by is_obtain (c ∷ [])) b.far.obtains ∙ sym (count_push n.calls c);
-            room = omega (arith, total, b.far.room, le);
-            ended = b.far.ended;
-          });
-          first = still_first s refl script;
-        },
-      )
+      let total : sum (budgets_in (with_statement p (statement.Call c))) ≡ sum (budgets_in p) + d = call_cost p b.far.sound c a.0 in
+      taken (statement.Call c) (with_statement p (statement.Call c)) _ (one_call earlier c) (record {
+        sound = sound_call p b.far.sound c a.0 a.1 count good meant (omega (arith, b.far.room, le));
+        stated = b.far.stated;
+        owners = b.far.owners;
+        exits = b.far.exits;
+        begun = b.far.begun;
+        costs = b.far.costs;
+        tasks = ap (λ (t : Bool). n.finished ++ open_task t (n.calls ++ c ∷ [])) a.0 ∙ sym (last_takes n.finished n.calls c)
+            ∙ ap (λ (l : List (List Call)). with_call l c) (sym (tasks_are begun));
+        fresh = λ e. absurd (cc (a.0, e));
+        budgets = b.far.budgets;
+        spent = ap (λ (m : ℕ). m + d) b.far.spent ∙ sym (sum_by_push (cost (setup_in p [])) n.calls c);
+        obtains = more ∙ ap (λ (m : ℕ). m + count_by is_obtain (c ∷ [])) b.far.obtains ∙ sym (count_push n.calls c);
+        room = omega (arith, total, b.far.room, le);
+        ended = b.far.ended;
+      }) refl (begun_script a.0) order (few most_calls (length (last_task (tasks_of earlier))) count) refl meant
     where
       begun_script : has_task earlier ≡ true → has_script earlier ≡ true
       begun_script e =
@@ -436,30 +375,22 @@ module _ (earlier : List Statement) (n : Notes) (b : Stands earlier n) where
   pub taken_end : is_out_of_order earlier statement.End ≡ false → task_count earlier ≤ length (tasks_of earlier)
       → (kinds_behind earlier statement.End ≡ []) × Stands (earlier ++ statement.End ∷ []) (record n { ended = true })
   taken_end order le =
-      let s : Statement = statement.End in
       let a = only_first (has_script earlier) _ order in
-      let sound = sound_end p b.far.sound le in
-      let whole : IsSoundSoFar (progress_of (earlier ++ s ∷ [])) = subst IsSoundSoFar (sym (the_end earlier)) sound in (
-        fine earlier s order (enough (task_count earlier) (length (tasks_of earlier)) le) refl refl (cheap s whole),
-        record {
-          far = subst (λ (y : Progress). IsAsFar y (record n { ended = true })) (sym (the_end earlier)) (record {
-            sound = sound;
-            stated = b.far.stated;
-            owners = b.far.owners;
-            exits = b.far.exits;
-            begun = b.far.begun;
-            costs = b.far.costs;
-            tasks = b.far.tasks;
-            fresh = b.far.fresh;
-            budgets = b.far.budgets;
-            spent = b.far.spent;
-            obtains = b.far.obtains;
-            room = b.far.room;
-            ended = refl;
-          });
-          first = still_first s refl a.0;
-        },
-      )
+      taken statement.End (with_statement p statement.End) (record n { ended = true }) (the_end earlier) (record {
+        sound = sound_end p b.far.sound le;
+        stated = b.far.stated;
+        owners = b.far.owners;
+        exits = b.far.exits;
+        begun = b.far.begun;
+        costs = b.far.costs;
+        tasks = b.far.tasks;
+        fresh = b.far.fresh;
+        budgets = b.far.budgets;
+        spent = b.far.spent;
+        obtains = b.far.obtains;
+        room = b.far.room;
+        ended = refl;
+      }) refl a.0 order (enough (task_count earlier) (length (tasks_of earlier)) le) refl refl
     where
       enough : (k m : ℕ) → k ≤ m → nat_lt m k ≡ false
       enough k m le = grind arith
@@ -480,7 +411,7 @@ taken_script [] n t b zero good = (
       costs = none_costs n.costs _ b.far.begun;
       tasks = b.far.tasks;
       fresh = b.far.fresh;
-      budgets = b.far.budgets ∙ none_yet n.finished (sym (append_none n.finished) ∙ b.far.tasks);
+      budgets = b.far.budgets ∙ none_yet n.finished (sym (append-nil n.finished) ∙ b.far.tasks);
       spent = b.far.spent ∙ ap (costs_of (setup_in (progress_of []) [])) (b.far.fresh refl)
           ∙ sym (ap (costs_of (setup_in (progress_of (statement.Script t ∷ [])) [])) (b.far.fresh refl));
       obtains = b.far.obtains;

@@ -1,5 +1,6 @@
 -- What a line adds, by what of it counts.
 use Rattle.std.proofs.Common.{◌≡◌, ℕ, true, false, List, [], ◌++◌, length, Option, Some, None, Result, Ok, Err, refl, sym, ap}
+use Rattle.std.proofs.lemmas.List.{append-nil}
 use Rattle.std.proofs.Common.{subst, ◌∙◌, arith, MatchResult}
 use Rattle.std.specs.Prelude.{◌==◌, ◌<◌}
 use Rattle.mv_line.specs.Line.{shown, is_foreign, is_too_long}
@@ -10,13 +11,13 @@ use Rattle.mv_script.specs.declared.reading.Reading.{Reading}
 use Rattle.mv_script.specs.declared.statement.Statement.{Statement}
 use Rattle.mv_script.specs.declared.words.Misread.{Misread}
 use Rattle.mv_script.specs.declared.words.Misread.TheVariants.{NoForm, BadNumber}
-use Rattle.mv_script.specs.Fault.{kinds_of, kinds_behind, first_of_list}
+use Rattle.mv_script.specs.Fault.{kinds_of, kinds_behind}
+use Rattle.mv_line.specs.Fault.{first_of_list}
 use Rattle.mv_script.specs.Misread.{misread_refusal, IsReadAs}
 use Rattle.mv_script.specs.Reading.{IsBehind, IsTaken, Tells, Notes, Stands}
 use Rattle.mv_script.specs.Script.{sizes_behind, with_line, added, task_count, owners_of}
 use Rattle.mv_script.specs.Statement.{line_states, text_states}
 use Rattle.mv_script.specs.Words.{Read}
-use Rattle.mv_script.proofs.Progresses.{append_none}
 
 is_nothing : (n : ℕ) → n ≡ 0 → (n == 0) ≡ true
 is_nothing n e = grind arith
@@ -58,7 +59,7 @@ module _ (earlier : List Statement) (line text : List ℕ) (same : text ≡ show
       let none = none_stated e in (
         no_kinds none,
         subst (λ (l : List Statement). IsBehind l r)
-            (sym (ap (λ (o : Option (Read Statement)). earlier ++ added o) none ∙ append_none earlier)) b,
+            (sym (ap (λ (o : Option (Read Statement)). earlier ++ added o) none ∙ append-nil earlier)) b,
       )
 
   -- ---- one that is not

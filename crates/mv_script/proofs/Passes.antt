@@ -1,16 +1,17 @@
 -- The one pass over the lines.
-use Rattle.std.proofs.Common.{◌≡◌, ℕ, ◌+◌, ◌≤◌, ◌<◌, Bool, true, false, not, List, [], ◌∷◌, ◌++◌, length, map, Some, None, refl}
+use Rattle.std.proofs.Common.{◌≡◌, ℕ, ◌+◌, ◌≤◌, ◌<◌, Bool, true, false, not, List, [], ◌∷◌, length, map, Some, None, refl}
 use Rattle.std.proofs.Common.{sym, ap, ◌∙◌, arith}
 use Rattle.std.specs.Prelude.{fold}
 use Rattle.std.proofs.lemmas.List.{nil_from_length}
 use Rattle.mv_line.specs.Line.{lines_of}
+use Rattle.mv_line.specs.Fault.{first_of_list}
+use Rattle.mv_line.proofs.Faults.{line_passed, first_in_line}
 use Rattle.mv_script.specs.declared.fault.Kind.TheVariants.{NoEnd}
 use Rattle.mv_script.specs.declared.fault.LineRefusal.{LineRefusal}
 use Rattle.mv_script.specs.declared.fault.LineRefusal.TheVariants.{Has, NoMemory}
-use Rattle.mv_script.specs.declared.fault.ScriptFault.{ScriptFault}
 use Rattle.mv_script.specs.declared.reading.Reading.{Reading}
 use Rattle.mv_script.specs.declared.statement.Statement.{Statement}
-use Rattle.mv_script.specs.Fault.{kinds_of, faults_from, fault_at, first_fault, first_of_list, kind_number, TellsFirst, when}
+use Rattle.mv_script.specs.Fault.{kinds_of, faults_from, fault_at, first_fault, line_rules, kind_number, TellsFirst, when}
 use Rattle.mv_script.specs.Reading.{IsBehind, Tells, refusal_at}
 use Rattle.mv_script.specs.Script.{with_line, statements_of}
 
@@ -25,10 +26,11 @@ pub record IsAt (bytes rest : List ℕ) (number : ℕ) (r : Reading) : Type 0 wh
 pub at_first : (bytes : List ℕ) (r : Reading) → IsBehind [] r → IsAt bytes bytes 1 r
 at_first bytes r b = record { earlier = []; behind = b; first = refl; statements = refl; count = omega arith }
 
+-- a line without fault is passed
 pub one_line : (number : ℕ) (earlier : List Statement) (line : List ℕ) (lines : List (List ℕ)) → kinds_of earlier line ≡ []
     → faults_from number earlier (line ∷ lines) ≡ faults_from (number + 1) (with_line earlier line) lines
 unfolding faults_from
-one_line number earlier line lines none = rw none refl
+one_line number earlier line lines none = line_passed line_rules fault_at number earlier line lines none
 
 pub at_next : (bytes rest behind line : List ℕ) (number : ℕ) (r next : Reading) (at : IsAt bytes rest number r)
     → lines_of rest ≡ line ∷ lines_of behind → length behind < length rest → kinds_of at.earlier line ≡ []
@@ -42,19 +44,14 @@ at_next bytes rest behind line number r next at lines shorter none b = record {
   count = omega (arith, at.count);
 }
 
-pub first_of_map : (number k : ℕ) (kinds : List ℕ) (more : List ScriptFault) → first_of_list kinds ≡ Some k
-    → first_of_list (map (fault_at number) kinds ++ more) ≡ Some (fault_at number k)
-first_of_map number k [] more e = absurd cc
-first_of_map number k (j ∷ kinds) more e = cc
-
--- the first kind of a line is the first fault
+-- the first kind of the next line is the first fault of the text
 first_at : (bytes rest behind line : List ℕ) (number k : ℕ) (r : Reading) (at : IsAt bytes rest number r)
     → lines_of rest ≡ line ∷ lines_of behind → first_of_list (kinds_of at.earlier line) ≡ Some k
     → first_fault bytes ≡ Some (fault_at number k)
 unfolding faults_from
 first_at bytes rest behind line number k r at lines e =
     sym at.first ∙ ap (λ (x : List (List ℕ)). first_of_list (faults_from number at.earlier x)) lines
-    ∙ first_of_map number k (kinds_of at.earlier line) (faults_from (number + 1) (with_line at.earlier line) (lines_of behind)) e
+    ∙ first_in_line line_rules fault_at number k at.earlier line (lines_of behind) e
 
 pub tells_at : (bytes rest behind line : List ℕ) (number : ℕ) (r : Reading) (at : IsAt bytes rest number r)
     → lines_of rest ≡ line ∷ lines_of behind → (e : LineRefusal) → Tells e (kinds_of at.earlier line)

@@ -3,7 +3,7 @@ use Rattle.std.proofs.Common.{◌≡◌, ℕ, suc, ◌+◌, ◌<◌, ◌≤◌, 
 use Rattle.std.proofs.Common.{None, refl, sym, ap, subst, ◌∙◌, arith, append_assoc}
 use Rattle.std.specs.Prelude.{nat_lt, nat_le, sum, count_by}
 use Rattle.std.specs.List.{AllByRecursion, list_any}
-use Rattle.std.proofs.lemmas.List.{length-append, map-append}
+use Rattle.std.proofs.lemmas.List.{append-nil, length-append, map-append}
 use Rattle.std.proofs.lemmas.List.Elements.{filter_map-append}
 use Rattle.std.proofs.lemmas.List.Folds.{list_any-append}
 use Rattle.std.proofs.lemmas.List.Sums.{fold_push, sum_by-append, sum_by-cons}
@@ -57,17 +57,13 @@ same_count (statement.Task ∷ earlier) s e = same_count earlier s e
 same_count (statement.Call c ∷ earlier) s e = same_count earlier s e
 same_count (statement.End ∷ earlier) s e = same_count earlier s e
 
-pub append_none : {A : Type 0} (xs : List A) → xs ++ [] ≡ xs
-append_none [] = refl
-append_none {A = A} (x ∷ xs) = ap (λ (l : List A). x ∷ l) (append_none xs)
-
 -- no block, one more block
 same_owners : (earlier : List Statement) (s : Statement) → owner_in s ≡ None → owners_of (earlier ++ s ∷ []) ≡ owners_of earlier
-same_owners earlier s e = filter_map-append owner_in earlier (s ∷ []) ∙ rw e (append_none (owners_of earlier))
+same_owners earlier s e = filter_map-append owner_in earlier (s ∷ []) ∙ rw e (append-nil (owners_of earlier))
 
 -- no exit
 same_exits : (earlier : List Statement) (s : Statement) → exit_in s ≡ None → exits_of (earlier ++ s ∷ []) ≡ exits_of earlier
-same_exits earlier s e = filter_map-append exit_in earlier (s ∷ []) ∙ rw e (append_none (exits_of earlier))
+same_exits earlier s e = filter_map-append exit_in earlier (s ∷ []) ∙ rw e (append-nil (exits_of earlier))
 
 -- the tasks behind one more statement
 tasks_push : (earlier : List Statement) (s : Statement) → tasks_of (earlier ++ s ∷ []) ≡ tasks_behind (tasks_of earlier) s
@@ -162,7 +158,7 @@ more_cost k (calls ∷ other ∷ tasks) c lt =
 -- calls that may stand so, with one more
 calls_push : (z : Sizes) (before calls : List Call) (c : Call) → AreSoundCalls z before calls → IsSoundCall z (before ++ calls) c
     → AreSoundCalls z before (calls ++ c ∷ [])
-calls_push z before [] c h s = (subst (λ (x : List Call). IsSoundCall z x c) (append_none before) s, tt)
+calls_push z before [] c h s = (subst (λ (x : List Call). IsSoundCall z x c) (append-nil before) s, tt)
 calls_push z before (d ∷ calls) c h s = (
   h.0,
   calls_push z (before ++ d ∷ []) calls c h.1
@@ -201,11 +197,11 @@ positive n le = grind arith
 pub is_positive : (n : ℕ) → nat_lt 0 n ≡ true → 1 ≤ n
 is_positive n e = grind arith
 
--- before any line
-pub sound_at_first : IsSoundSoFar (progress_of [])
-sound_at_first = record {
-  few = omega arith;
-  script = refl;
+-- before any line and behind SCRIPT: at most so many tasks are stated, and nothing else
+bare : (script : Bool) (t : ℕ) → t ≤ most_tasks → script ≡ nat_lt 0 t → IsSoundSoFar (of_parts script t [] false [] false [] false)
+bare script t few stated = record {
+  few = few;
+  script = stated;
   few_ecbs = omega arith;
   owners = tt;
   few_exits = omega arith;
@@ -218,22 +214,11 @@ sound_at_first = record {
   ended = λ e. absurd cc;
 }
 
--- behind SCRIPT
+pub sound_at_first : IsSoundSoFar (progress_of [])
+sound_at_first = bare false 0 (omega arith) refl
+
 pub sound_script : (t : ℕ) → 1 ≤ t → t ≤ most_tasks → IsSoundSoFar (progress_of (statement.Script t ∷ []))
-sound_script t some few = record {
-  few = few;
-  script = positive t some;
-  few_ecbs = omega arith;
-  owners = tt;
-  few_exits = omega arith;
-  exits = tt;
-  exit = refl;
-  few_tasks = omega arith;
-  tasks = tt;
-  task = refl;
-  light = omega arith;
-  ended = λ e. absurd cc;
-}
+sound_script t some few = bare true t few (positive t some)
 
 module _ (p : Progress) (sound : IsSoundSoFar p) where
   -- no task has begun

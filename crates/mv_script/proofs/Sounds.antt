@@ -1,5 +1,6 @@
 -- The script of a text without fault can be run.
 use Rattle.std.proofs.Common.{◌≡◌, ℕ, suc, ◌+◌, ◌<◌, ◌≤◌, Bool, true, false, not, ◌&&◌, List, [], ◌∷◌, ◌++◌, length, map, Option, Some}
+use Rattle.std.proofs.lemmas.List.{append-nil}
 use Rattle.std.proofs.Common.{None, Ok, Err, refl, sym, ap, subst, ◌∙◌, arith}
 use Rattle.std.specs.Prelude.{nat_lt, nat_le, sum, fold}
 use Rattle.mv_line.specs.Line.{lines_of}
@@ -7,14 +8,15 @@ use Rattle.mv_machine.specs.Limits.{events_limit}
 use Rattle.mv_line.specs.Line.{shown, is_ignored, is_foreign, is_too_long}
 use Rattle.mv_script.specs.declared.fault.Kind.{Kind}
 use Rattle.mv_script.specs.declared.fault.Kind.TheVariants.{ForeignByte, TooLong, NoForm, BadNumber, OutOfOrder, Miscounted, LeadsDown}
-use Rattle.mv_script.specs.declared.fault.Kind.TheVariants.{NoObtain, NoEnd, TooCostly}
-use Rattle.mv_script.specs.declared.fault.ScriptFault.{ScriptFault}
+use Rattle.mv_script.specs.declared.fault.Kind.TheVariants.{NoObtain, TooCostly}
 use Rattle.mv_script.specs.declared.statement.Statement.{Statement}
 use Rattle.mv_script.specs.declared.statement.Statement.TheVariants as statement
 use Rattle.mv_script.specs.Costs.{costs_of}
 use Rattle.mv_script.specs.Fault.{has_script, has_task, has_end, is_script, is_out_of_order, is_miscounted, leads_down, lacks_obtain}
 use Rattle.mv_script.specs.Fault.{is_too_costly, kinds_of, kinds_of_statement, kinds_behind, faults_from, fault_at, first_fault}
-use Rattle.mv_script.specs.Fault.{first_of_list, when, has_no_form, has_bad_number}
+use Rattle.mv_line.specs.Fault.{first_of_list}
+use Rattle.mv_line.proofs.Faults.{no_kinds, no_fault_at_end}
+use Rattle.mv_script.specs.Fault.{line_rules, when, has_no_form, has_bad_number}
 use Rattle.mv_script.specs.Limits.{most_ecbs, most_exits, most_calls}
 use Rattle.mv_script.specs.Reading.{progress_of, budgets_in, IsSoundSoFar}
 use Rattle.mv_script.specs.Script.{task_count, owners_of, exits_of, tasks_of, last_task, budgets_of, sizes_behind, added, with_line}
@@ -25,7 +27,7 @@ use Rattle.mv_script.specs.Words.{Read}
 use Rattle.mv_script.proofs.Costs.{costs_same, map_same}
 use Rattle.mv_script.proofs.Good.{read_well}
 use Rattle.mv_script.proofs.Passes.{one_line}
-use Rattle.mv_script.proofs.Progresses.{append_none, same_any, one_ecb, one_exit, one_task, one_call, the_end, sound_at_first, sound_script}
+use Rattle.mv_script.proofs.Progresses.{same_any, one_ecb, one_exit, one_task, one_call, the_end, sound_at_first, sound_script}
 use Rattle.mv_script.proofs.Progresses.{sound_ecb, sound_exit, sound_task, sound_call, sound_end, call_cost, is_positive}
 use Rattle.mv_script.proofs.Behind.{neither, only_first}
 
@@ -173,28 +175,20 @@ line_holds : (earlier : List Statement) (line : List ℕ) → Holds earlier → 
 line_holds earlier line h e = go (line_states (sizes_behind earlier) line) refl (states_fine earlier line _ e) where
   go : (states : Option (Read Statement)) → line_states (sizes_behind earlier) line ≡ states → kinds_of_statement earlier states ≡ []
       → Holds (earlier ++ added states)
-  go None is k = subst Holds (sym (append_none earlier)) h
+  go None is k = subst Holds (sym (append-nil earlier)) h
   go (Some (Ok s)) is k = holds_more earlier s h (line_well earlier line s is) (is_fine earlier s k)
-  go (Some (Err why)) is k = subst Holds (sym (append_none earlier)) h
+  go (Some (Err why)) is k = subst Holds (sym (append-nil earlier)) h
 
 -- ---- all lines
-
--- a list that has a first is not empty
-no_first : (kinds : List ℕ) (number : ℕ) (more : List ScriptFault) → first_of_list (map (fault_at number) kinds ++ more) ≡ None → kinds ≡ []
-no_first [] number more e = refl
-no_first (k ∷ kinds) number more e = absurd cc
 
 -- what holds behind all lines, where they have no fault
 lines_hold : (number : ℕ) (earlier : List Statement) (lines : List (List ℕ)) → Holds earlier
     → first_of_list (faults_from number earlier lines) ≡ None
     → Holds (fold with_line earlier lines) × (has_end (fold with_line earlier lines) ≡ true)
 unfolding faults_from
-lines_hold number earlier [] h e = (h, go (has_end earlier) refl e) where
-  go : (b : Bool) → has_end earlier ≡ b → first_of_list (map (fault_at number) (when (not b) NoEnd)) ≡ None → has_end earlier ≡ true
-  go true is e = is
-  go false is e = absurd cc
+lines_hold number earlier [] h e = (h, no_fault_at_end line_rules fault_at number earlier e)
 lines_hold number earlier (line ∷ lines) h e =
-    let none : kinds_of earlier line ≡ [] = no_first (kinds_of earlier line) number _ e in
+    let none : kinds_of earlier line ≡ [] = no_kinds line_rules fault_at number earlier line lines e in
     lines_hold (number + 1) (with_line earlier line) lines (line_holds earlier line h none)
     (ap first_of_list (sym (one_line number earlier line lines none)) ∙ e)
 

@@ -2,7 +2,8 @@
 use Rattle.std.proofs.Common.{◌≡◌, ℕ, Bool, true, false, not, ◌&&◌, List, [], ◌++◌, Some, refl}
 use Rattle.mv_script.specs.declared.statement.Statement.{Statement}
 use Rattle.mv_script.specs.declared.fault.Kind.TheVariants.{OutOfOrder, Miscounted, LeadsDown, NoObtain, TooCostly}
-use Rattle.mv_script.specs.Fault.{is_out_of_order, is_miscounted, leads_down, lacks_obtain, is_too_costly, kinds_behind, first_of_list}
+use Rattle.mv_script.specs.Fault.{is_out_of_order, is_miscounted, leads_down, lacks_obtain, is_too_costly, kinds_behind}
+use Rattle.mv_line.specs.Fault.{first_of_list}
 use Rattle.mv_script.specs.Fault.{when}
 
 -- the kinds, by the five answers

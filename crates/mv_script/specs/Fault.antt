@@ -1,9 +1,10 @@
 -- The faults of a text: one test for each kind of fault that a line can have, and which fault is the first.
-use Rattle.std.specs.Prelude.{◌≡◌, ℕ, ◌+◌, Bool, true, false, ◌&&◌, ◌||◌, not, nat_le, nat_lt, List, [], ◌∷◌, ◌++◌, length, map, sum}
+use Rattle.std.specs.Prelude.{◌≡◌, ℕ, Bool, true, false, ◌&&◌, ◌||◌, not, nat_le, nat_lt, List, [], ◌∷◌, ◌++◌, length, sum}
 use Rattle.std.specs.Prelude.{count_by, Option, Some, None, Ok, Err, if◌then◌else◌}
 use Rattle.std.specs.List.{list_any}
 use Rattle.mv_line.specs.Byte.{is_within}
 use Rattle.mv_line.specs.Line.{lines_of, is_foreign, is_too_long}
+use Rattle.mv_line.specs.Fault.{LineRules, faults_by_line, first_of_list}
 use Rattle.mv_machine.specs.Limits.{events_limit}
 use Rattle.mv_script.specs.declared.call.Call.{Call}
 use Rattle.mv_script.specs.declared.call.Call.TheVariants as call
@@ -178,21 +179,17 @@ kinds_of earlier line =
 abbrev pub fault_at : ℕ → ℕ → ScriptFault
 fault_at line kind = record { line = line; kind = kind }
 
--- The faults of lines that are numbered from here on, behind the earlier statements: by line, and in a line by kind.
--- Behind the last line it is a fault that no END stands.
+-- the rules of a script's lines: it ends with END
+abbrev pub line_rules : LineRules (List Statement)
+line_rules = record { with_line = with_line; kinds_of = kinds_of; is_whole = has_end; cut_short = kind_number NoEnd }
+
+-- the faults of lines that are numbered from here on, behind the earlier statements: by line, and in a line by kind
 unfoldable pub faults_from : ℕ → List Statement → List (List ℕ) → List ScriptFault
-faults_from number earlier [] = map (fault_at number) (when (not (has_end earlier)) NoEnd)
-faults_from number earlier (line ∷ lines) =
-    map (fault_at number) (kinds_of earlier line) ++ faults_from (number + 1) (with_line earlier line) lines
+faults_from number earlier lines = faults_by_line line_rules fault_at number earlier lines
 
 -- the faults of a text
 abbrev pub faults_of : List ℕ → List ScriptFault
 faults_of bytes = faults_from 1 [] (lines_of bytes)
-
--- the first of a list, if there is one
-abbrev pub first_of_list : {A : Type 0} → List A → Option A
-first_of_list [] = None
-first_of_list (x ∷ xs) = Some x
 
 -- the fault with the lowest line, and there with the lowest kind
 abbrev pub first_fault : List ℕ → Option ScriptFault

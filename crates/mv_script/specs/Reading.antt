@@ -16,7 +16,8 @@ use Rattle.mv_script.specs.declared.reading.Reading.{Reading}
 use Rattle.mv_script.specs.declared.statement.Statement.{Statement}
 use Rattle.mv_script.specs.declared.statement.Statement.TheVariants as statement
 use Rattle.mv_script.specs.Costs.{script_setup, costs_of}
-use Rattle.mv_script.specs.Fault.{has_script, has_exit, has_task, has_end, first_of_list, kind_number, fault_at, kinds_behind}
+use Rattle.mv_script.specs.Fault.{has_script, has_exit, has_task, has_end, kind_number, fault_at, kinds_behind}
+use Rattle.mv_line.specs.Fault.{first_of_list}
 use Rattle.mv_script.specs.Limits.{most_tasks, most_ecbs, most_exits}
 use Rattle.mv_script.specs.Script.{task_count, owners_of, exits_of, tasks_of, with_call, sizes_behind, is_obtain}
 use Rattle.mv_script.specs.Sound.{IsSoundExit, IsSoundTask, IsGoodStatement}

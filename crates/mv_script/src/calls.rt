@@ -7,7 +7,8 @@ ghost use Rattle.mv_script.specs.Limits.{most_tasks};
 ghost use Rattle.mv_script.specs.Operand.{ecb as ecb_read, token as token_read, or_hyphen};
 ghost use Rattle.mv_script.specs.Operand as operand;
 ghost use Rattle.mv_script.specs.Misread.{IsReadAs};
-ghost use Rattle.mv_script.specs.Statement.{wait as wait_read, form as form_read, obtain as obtain_read, latch_call as latch_read, element_call as element_read, other_call as other_read};
+ghost use Rattle.mv_script.specs.Statement.{wait as wait_read, form as form_read, obtain as obtain_read};
+ghost use Rattle.mv_script.specs.Statement.{latch_call as latch_read, element_call as element_read, other_call as other_read};
 ghost use Rattle.mv_script.specs.Words.{making, one, two, three};
 
 use crate::call::Call;
@@ -138,7 +139,8 @@ fn post(sizes: Sizes, words: &[u8]) -> Result<Call, Misread>
 }
 
 fn try_post(sizes: Sizes, words: &[u8]) -> Result<Call, Misread>
-    ensures { result ≡ making (λ p. call.TryPost p.0 p.1.0 p.1.1) (three (ecb_read sizes) operand.place operand.ecb_code (fields_of words.now)) }
+    ensures { result ≡ making (λ p. call.TryPost p.0 p.1.0 p.1.1)
+        (three (ecb_read sizes) operand.place operand.ecb_code (fields_of words.now)) }
 {
     let (ecb_word, (place_word, code_word)) = three_words(words)?;
     let behind = both(place(place_word), ecb_code(code_word));
@@ -188,7 +190,8 @@ fn release(sizes: Sizes, words: &[u8]) -> Result<Call, Misread>
 
 fn try_release(sizes: Sizes, words: &[u8]) -> Result<Call, Misread>
     requires { sizes.tasks ≤ most_tasks }
-    ensures { result ≡ making (λ p. call.TryRelease p.0 p.1.0 p.1.1) (three (token_read sizes) operand.place operand.release_code (fields_of words.now)) }
+    ensures { result ≡ making (λ p. call.TryRelease p.0 p.1.0 p.1.1)
+        (three (token_read sizes) operand.place operand.release_code (fields_of words.now)) }
 {
     let (token_word, (place_word, code_word)) = three_words(words)?;
     let behind = both(place(place_word), release_code(code_word));
@@ -198,7 +201,8 @@ fn try_release(sizes: Sizes, words: &[u8]) -> Result<Call, Misread>
 
 fn transfer(sizes: Sizes, words: &[u8]) -> Result<Call, Misread>
     requires { sizes.tasks ≤ most_tasks }
-    ensures { result ≡ making (λ p. call.Transfer p.0 p.1.0 p.1.1) (three (or_hyphen (token_read sizes)) (token_read sizes) operand.release_code (fields_of words.now)) }
+    ensures { result ≡ making (λ p. call.Transfer p.0 p.1.0 p.1.1)
+        (three (or_hyphen (token_read sizes)) (token_read sizes) operand.release_code (fields_of words.now)) }
 {
     let (current_word, (target_word, code_word)) = three_words(words)?;
     let behind = both(token(sizes, target_word), release_code(code_word));
@@ -281,7 +285,8 @@ fn purge(words: &[u8]) -> Result<Call, Misread>
 }
 
 fn end_task(sizes: Sizes, words: &[u8]) -> Result<Call, Misread>
-    ensures { result ≡ making (λ p. call.EndTask p.0 p.1.0 p.1.1) (three operand.requestor (or_hyphen (ecb_read sizes)) operand.ecb_code (fields_of words.now)) }
+    ensures { result ≡ making (λ p. call.EndTask p.0 p.1.0 p.1.1)
+        (three operand.requestor (or_hyphen (ecb_read sizes)) operand.ecb_code (fields_of words.now)) }
 {
     let (requestor_word, (mother_word, code_word)) = three_words(words)?;
     let behind = both(ecb_or_none(sizes, mother_word), ecb_code(code_word));

@@ -2,7 +2,7 @@
 
 ghost use Rattle.std.specs.Prelude.{◌≡◌, ◌≤◌, map, replicate, IfOk};
 ghost use Rattle.mv_machine.specs.Check.{IsValid};
-ghost use Rattle.mv_machine.specs.Config.{exit_of};
+ghost use Rattle.mv_machine.specs.Config.{exit_of, setup_of};
 ghost use Rattle.mv_script.specs.Costs.{script_setup};
 
 use crate::limits::{ELEMENTS_PER_TASK, LATCHES, POSTED_QUOTA, QUOTA, VOLUMES};
@@ -32,11 +32,18 @@ pub(crate) fn with_budgets(
         owners,
         exits,
     };
+    checked(alloc, config)
+}
+
+// A configuration that no rule refuses.
+fn checked(alloc: Global, config: Config) -> Result<ValidConfig, NoMemory>
+    requires { IsValid (setup_of config) }
+    ensures { IfOk result (λ c. c ≡ setup_of config) }
+{
     match config.check(alloc) {
         Ok(config) => Ok(config),
         Err(refusal) => match refusal {
             CheckRefusal::NoMemory => Err(NoMemory),
-            // No rule of configurations refuses it.
             _ => unreachable!(),
         },
     }
@@ -70,4 +77,28 @@ fn copied(alloc: Global, exits: &[Exit]) -> Result<Vec<Exit>, AllocError>
         })?;
     }
     Ok(copies)
+}
+
+/// The same configuration, in memory of its own.
+///
+/// # Errors
+///
+/// `NoMemory` where there is not enough.
+pub fn copy_config(alloc: Global, config: &ValidConfig) -> Result<ValidConfig, NoMemory>
+    ensures same { IfOk result (λ copy. copy ≡ config.now) }
+    ensures valid { IsValid config.now }
+{
+    let given = config.config();
+    let copy = Config {
+        callers: given.callers,
+        elements_per_caller: given.elements_per_caller,
+        volumes: given.volumes,
+        latches: given.latches,
+        quota: given.quota,
+        posted_quota: given.posted_quota,
+        budgets: Vec::from_slice(alloc, &given.budgets)?,
+        owners: Vec::from_slice(alloc, &given.owners)?,
+        exits: copied(alloc, &given.exits)?,
+    };
+    checked(alloc, copy)
 }

@@ -20,6 +20,7 @@ mod words;
 
 pub use answer::{Answer, AnswerList};
 pub use call::{Call, CallList};
+pub use configuration::copy_config;
 pub use fault::{ScriptFault, ScriptRefusal};
 pub use laws::{costs_suffice, first_fault_is_lowest, scripts_are_sound};
 pub use numbers::{Numbers, Slots};

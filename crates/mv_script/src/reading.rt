@@ -1,6 +1,7 @@
 //! The reader of scripts: one pass over the bytes (`specs/Reading.antt`).
 
-ghost use Rattle.std.specs.Prelude.{◌≡◌, ◌<◌, ◌≤◌, ◌-◌, ◌+◌, ◌^◌, ◌++◌, List, [], ◌∷◌, true, None, not, ◌||◌, nat_lt, is_some, length, count_by, MatchResult, IfOk, IfErr, OnOk};
+ghost use Rattle.std.specs.Prelude.{◌≡◌, ◌<◌, ◌≤◌, ◌-◌, ◌+◌, ◌^◌, ◌++◌, List, [], ◌∷◌, true, None, not, ◌||◌, nat_lt, is_some};
+ghost use Rattle.std.specs.Prelude.{length, count_by, MatchResult, IfOk, IfErr, OnOk};
 ghost use Rattle.mv_script.specs.declared.call.Call.{Call};
 ghost use Rattle.mv_script.specs.declared.statement.Statement.{Statement};
 ghost use Rattle.mv_script.specs.declared.statement.Statement.TheVariants as statement;
@@ -173,7 +174,8 @@ impl Reading {
 
     // Whether no ECB may stand here.
     fn is_late_for_ecbs(&self) -> bool
-        ensures { result ≡ (not (nat_lt 0 self.now.stated) || (nat_lt 0 (length self.now.exits.items) || (is_some self.now.costs || self.now.ended))) }
+        ensures { result ≡ (not (nat_lt 0 self.now.stated)
+            || (nat_lt 0 (length self.now.exits.items) || (is_some self.now.costs || self.now.ended))) }
     {
         self.stated == 0 || !self.exits.is_empty() || self.costs.is_some() || self.ended
     }
@@ -211,7 +213,8 @@ impl Reading {
     // Takes an EXIT.
     fn take_exit(&mut self, source: u32, targets: Numbers) -> Result<(), LineRefusal>
         requires { IsReady self.now (statement.Exit source targets) }
-        ensures { (earlier : List Statement) → IsBehind earlier self.old → IsGoodStatement (sizes_behind earlier) (statement.Exit source targets)
+        ensures { (earlier : List Statement) → IsBehind earlier self.old
+            → IsGoodStatement (sizes_behind earlier) (statement.Exit source targets)
             → IsTaken result earlier (statement.Exit source targets) self.new }
     {
         if self.is_late_for_exits() {
@@ -312,8 +315,9 @@ impl Reading {
         ensures tasks { OnOk result (self.new.finished.items ≡ self.old.finished.items ++ self.old.calls.items ∷ []) }
         ensures budgets { OnOk result (self.new.budgets.items ≡ self.old.budgets.items ++ self.old.spent ∷ []) }
         ensures fresh { OnOk result ((self.new.calls.items ≡ []) × ((self.new.spent ≡ 0) × (self.new.obtains ≡ 0))) }
-        ensures rest { OnOk result ((self.new.stated ≡ self.old.stated) × ((self.new.owners ≡ self.old.owners) × ((self.new.exits ≡ self.old.exits)
-            × ((self.new.costs ≡ self.old.costs) × ((self.new.room ≡ self.old.room) × (self.new.ended ≡ self.old.ended)))))) }
+        ensures rest { OnOk result ((self.new.stated ≡ self.old.stated) × ((self.new.owners ≡ self.old.owners)
+            × ((self.new.exits ≡ self.old.exits) × ((self.new.costs ≡ self.old.costs)
+            × ((self.new.room ≡ self.old.room) × (self.new.ended ≡ self.old.ended)))))) }
     {
         let calls = std::mem::replace(&mut self.calls, Vec::new(self.alloc));
         self.finished.push(CallList { calls })?;

@@ -34,11 +34,12 @@ fn shown_tasks(alloc: Global, tasks: &[CallList]) -> Result<String, AllocError> 
     Ok(text)
 }
 
-// What a text is read as: its configuration, and behind a line its calls.
+// What a text is read as: its configuration, as a copy has it, and behind a line its calls.
 fn shown_script(rt: &impl Abort, alloc: Global, text: &[u8]) -> Result<String, Fail> {
     assert!(rt; text.len() < 100_000);
     let script = script_of(alloc, text).ok_or("no script")?;
-    let config = script.config.config();
+    let copy = copy_config(alloc, &script.config)?;
+    let config = copy.config();
     let tasks = shown_tasks(alloc, &script.tasks)?;
     Ok(format!(in alloc; "{config:?}\n{tasks}")?)
 }
@@ -96,7 +97,8 @@ const CALLS: &[u8] = b"\
     RELEASE 1.2 3|Release { token: Token { element: 1, generation: 2 }, code: 3 };\
     TRYRELEASE 1.2 3 4|TryRelease { token: Token { element: 1, generation: 2 }, place: 3, code: 4 };\
     TRANSFER - 1.2 3|Transfer { current: None, target: Token { element: 1, generation: 2 }, code: 3 };\
-    TRANSFER 1.2 3.4 5|Transfer { current: Some(Token { element: 1, generation: 2 }), target: Token { element: 3, generation: 4 }, code: 5 };\
+    TRANSFER 1.2 3.4 5|Transfer { current: Some(Token { element: 1, generation: 2 }), target: Token { \
+    element: 3, generation: 4 }, code: 5 };\
     DEALLOC 7.2|Dealloc(Token { element: 7, generation: 2 });\
     TESTP 7|TestElement(7);\
     OBTAIN 1 2 S COND|Obtain { latch: 1, requestor: 2, mode: Shared, form: Conditional };\

@@ -65,7 +65,8 @@ pub(crate) fn no_field(text: &[u8]) -> Result<(), Misread>
 
 /// The word of a text that has just one.
 pub(crate) fn one_word(text: &[u8]) -> Result<&[u8], Misread>
-    ensures { MatchResult result (λ w. one_of (fields_of text.now) ≡ Some w.now) (λ e. (e ≡ NoForm) × (one_of (fields_of text.now) ≡ None)) }
+    ensures { MatchResult result (λ w. one_of (fields_of text.now) ≡ Some w.now)
+        (λ e. (e ≡ NoForm) × (one_of (fields_of text.now) ≡ None)) }
 {
     match one_field(text) {
         Some(word) => Ok(word),
@@ -75,7 +76,8 @@ pub(crate) fn one_word(text: &[u8]) -> Result<&[u8], Misread>
 
 /// The words of a text that has just two.
 pub(crate) fn two_words(text: &[u8]) -> Result<(&[u8], &[u8]), Misread>
-    ensures { MatchResult result (λ p. two_of (fields_of text.now) ≡ Some (p.0.now, p.1.now)) (λ e. (e ≡ NoForm) × (two_of (fields_of text.now) ≡ None)) }
+    ensures { MatchResult result (λ p. two_of (fields_of text.now) ≡ Some (p.0.now, p.1.now))
+        (λ e. (e ≡ NoForm) × (two_of (fields_of text.now) ≡ None)) }
 {
     match two_fields(text) {
         Some(words) => Ok(words),
@@ -85,7 +87,8 @@ pub(crate) fn two_words(text: &[u8]) -> Result<(&[u8], &[u8]), Misread>
 
 /// The words of a text that has just three.
 pub(crate) fn three_words(text: &[u8]) -> Result<(&[u8], (&[u8], &[u8])), Misread>
-    ensures { MatchResult result (λ p. three_of (fields_of text.now) ≡ Some (p.0.now, (p.1.0.now, p.1.1.now))) (λ e. (e ≡ NoForm) × (three_of (fields_of text.now) ≡ None)) }
+    ensures { MatchResult result (λ p. three_of (fields_of text.now) ≡ Some (p.0.now, (p.1.0.now, p.1.1.now)))
+        (λ e. (e ≡ NoForm) × (three_of (fields_of text.now) ≡ None)) }
 {
     let (first, rest) = split_field(text);
     let second_and_third = two_words(rest)?;

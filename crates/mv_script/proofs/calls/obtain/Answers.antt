@@ -6,30 +6,23 @@ use Rattle.mv_script.specs.Operand.{latch, requestor, mode}
 use Rattle.mv_script.specs.Statement.{form, obtain}
 use Rattle.mv_script.specs.Words.{making, both}
 use Rattle.mv_script.proofs.Obtains.{by_words, obtained}
+use Rattle.mv_script.proofs.calls.obtain.Goals.{After-split_field-3}
 use Rattle.mv_script.proofs.calls.obtain.Goals as goal
 
-pub returns-in-Ok : goal.returns-in-Ok
-returns-in-Ok c =
+parts : (c : After-split_field-3)
+    → obtain c.args.sizes (fields_of c.args.words.now)
+    ≡ making obtained (both (latch c.split_field.result.0.now) (both (requestor c.split_field-2.result.0.now)
+    (both (mode c.split_field-3.result.0.now) (form c.args.sizes (fields_of c.split_field-3.result.1.now)))))
+parts c =
     let z = c.args.sizes in
     let l = c.split_field.result.0.now in
     let r = c.split_field-2.result.0.now in
-    let m = c.split_field-3.result.0.now in
-    let f = fields_of c.split_field-3.result.1.now in
-    let parts : obtain z (fields_of c.args.words.now) ≡ making obtained (both (latch l) (both (requestor r) (both (mode m) (form z f)))) =
     ap (obtain z)
     (c.split_field.ensures ∙ ap (starts_fields l) (c.split_field-2.ensures ∙ ap (starts_fields r) c.split_field-3.ensures))
-    ∙ by_words z l r m f in
-    grind (arith, common_steps, parts)
+    ∙ by_words z l r c.split_field-3.result.0.now (fields_of c.split_field-3.result.1.now)
+
+pub returns-in-Ok : goal.returns-in-Ok
+returns-in-Ok c = grind (arith, common_steps, parts (goal.at.returns-in-Ok c).After-split_field-3)
 
 pub returns-in-Err : goal.returns-in-Err
-returns-in-Err c =
-    let z = c.args.sizes in
-    let l = c.split_field.result.0.now in
-    let r = c.split_field-2.result.0.now in
-    let m = c.split_field-3.result.0.now in
-    let f = fields_of c.split_field-3.result.1.now in
-    let parts : obtain z (fields_of c.args.words.now) ≡ making obtained (both (latch l) (both (requestor r) (both (mode m) (form z f)))) =
-    ap (obtain z)
-    (c.split_field.ensures ∙ ap (starts_fields l) (c.split_field-2.ensures ∙ ap (starts_fields r) c.split_field-3.ensures))
-    ∙ by_words z l r m f in
-    grind (arith, common_steps, parts)
+returns-in-Err c = grind (arith, common_steps, parts (goal.at.returns-in-Err c).After-split_field-3)
