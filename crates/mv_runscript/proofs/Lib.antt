@@ -1,9 +1,9 @@
 -- lists
 pub mod Lists
--- services that a task was served with, one after the other
+-- services that a task was served with, and what they answer a call
+pub mod Answers
 pub mod Served
 -- one call, by what its service did
-pub mod Answers
 pub mod Makes
 pub mod Obtains
 -- all calls of a task

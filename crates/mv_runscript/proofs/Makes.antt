@@ -1,5 +1,5 @@
--- One call of a script, by what its service did. Used by serve, ask, make, and the tries.
-use Rattle.std.proofs.Common.{◌≡◌, ℕ, zero, suc, ◌-◌, ◌≤◌, true, false, List, [], ◌∷◌, ◌++◌, get_or, Option, Some, None}
+-- One call of a script, by what its service did. Used by serve, check, free, ask, make, and the tries.
+use Rattle.std.proofs.Common.{◌≡◌, ℕ, zero, suc, ◌-◌, false, List, [], ◌∷◌, ◌++◌, get_or, Option, Some, None}
 use Rattle.std.proofs.Common.{refl, sym, ap, ◌∙◌, subst, arith}
 use Rattle.std.specs.Prelude.{slice_get, option_map, option_and_then, unwrap_or, is_none}
 use Rattle.mv_board.specs.Faces.{CallerFace, Missed}
@@ -19,7 +19,7 @@ use Rattle.mv_script.specs.declared.answer.Answer.{Answer}
 use Rattle.mv_script.specs.declared.answer.Answer.TheVariants as answer
 use Rattle.mv_script.specs.declared.call.Call.{Call}
 use Rattle.mv_script.specs.Answered.{answer_to}
-use Rattle.mv_script.specs.Costs.{service_of, cost}
+use Rattle.mv_script.specs.Costs.{Asked, service_of, cost}
 use Rattle.mv_script.specs.Fault.{obtain_meant}
 use Rattle.mv_script.specs.Run.{tried, word_in}
 use Rattle.mv_script.specs.Script.{is_obtain}
@@ -32,72 +32,66 @@ use Rattle.mv_runscript.proofs.Served.{served_so, served_none, served_then}
 
 -- ---- a call that is its service's
 
+-- the service that a call asks for, where the task's OBTAINs got these requests
+abbrev pub asks : Call → List (Option LatchToken) → Service
+asks d tokens = service_of (request_of (requests_of tokens)) d
+
 -- where it lacks no request
 unmoved : (c : Setup) (past : Past) (d : Call) → lacks_request past.requests (obtain_meant d) ≡ false
     → made c None past d ≡ followed (service.program c (service_of (request_of past.requests) d))
     (λ a. finished (served past (service_of (request_of past.requests) d) a))
 unmoved c past d has = rw has refl
 
-module _ (c : Setup) (d : Call) (reply : Answer) (old new : List (Option LatchToken)) (t u : CallerFace) where
-  abbrev asks : Service
-  asks = service_of (request_of (requests_of old)) d
+-- its service answered so, and left these requests
+makes : {c : Setup} {d : Call} {reply : Answer} {old new : List (Option LatchToken)} {t u : CallerFace}
+    {Is : service.Answer (asks d old) → Type 0}
+    → lacks_request (requests_of old) (obtain_meant d) ≡ false
+    → (x : IsServed (most_events c (kept_of t.number t.log) (asks d old)) (service.program c (asks d old)) Is t u)
+    → answer_to (asks d old) x.answer ≡ reply
+    → requests_with (requests_of old) (asks d old) x.answer ≡ requests_of new → MakesCall c d reply old new t u
+makes {c} {d} {reply} {old} {new} {t} {u} {Is} has x is more = record {
+  served = λ answers. subst (λ m. IsServed (cost c d) (made c m (past_with answers old) d)
+      (λ past. past ≡ past_with (answers ++ reply ∷ []) new) t u) (sym none)
+      (subst (λ call. IsServed (cost c d) call (λ past. past ≡ past_with (answers ++ reply ∷ []) new) t u)
+      (sym (unmoved c (past_with answers old) d has))
+      (served_so (most_events c (kept_of t.number t.log) (asks d old)) (cost c d)
+      (followed (service.program c (asks d old)) (λ a. finished (served (past_with answers old) (asks d old) a)))
+      (λ past. past ≡ past_with (answers ++ reply ∷ []) new) (λ past. past ≡ past_with (answers ++ reply ∷ []) new) t u
+      (suffices c (kept_of t.number t.log) (request_of (requests_of old)) d) (λ past same. same)
+      (served_then (most_events c (kept_of t.number t.log) (asks d old)) (service.program c (asks d old))
+      (served (past_with answers old) (asks d old)) Is
+      (λ past. past ≡ past_with (answers ++ reply ∷ []) new) t u x (behind answers))));
+  met = λ w shown. absurd (cc (sym none ∙ shown));
+} where
+  none : word_in reply ≡ None
+  none = ap word_in (sym is) ∙ no_word (asks d old) x.answer
 
-  pub serves_makes : lacks_request (requests_of old) (obtain_meant d) ≡ false → (x : Serves c asks reply t u)
-      → requests_with (requests_of old) asks x.answer ≡ requests_of new → MakesCall c d reply old new t u
-  serves_makes has x more = record {
-    served = λ answers. subst (λ m. IsServed (cost c d) (made c m (past_with answers old) d)
-        (λ past. past ≡ past_with (answers ++ reply ∷ []) new) t u) (sym none)
-        (subst (λ call. IsServed (cost c d) call (λ past. past ≡ past_with (answers ++ reply ∷ []) new) t u)
-        (sym (unmoved c (past_with answers old) d has))
-        (served_so (most_events c (kept_of t.number t.log) asks) (cost c d)
-        (followed (service.program c asks) (λ a. finished (served (past_with answers old) asks a)))
-        (λ past. past ≡ past_with (answers ++ reply ∷ []) new) (λ past. past ≡ past_with (answers ++ reply ∷ []) new) t u
-        (suffices c (kept_of t.number t.log) (request_of (requests_of old)) d) (λ past is. is)
-        (served_then (most_events c (kept_of t.number t.log) asks) (service.program c asks) (served (past_with answers old) asks)
-        (λ a. answer_to asks a ≡ reply) (λ past. past ≡ past_with (answers ++ reply ∷ []) new) t u x (behind answers))));
-    met = λ w is. absurd (cc (sym none ∙ is));
-  } where
-    none : word_in reply ≡ None
-    none = ap word_in (sym x.is) ∙ no_word asks x.answer
+  behind : (answers : List Answer) → served (past_with answers old) (asks d old) x.answer ≡ past_with (answers ++ reply ∷ []) new
+  behind answers =
+      ap (λ b. record { answers = answers ++ b ∷ []; requests = requests_with (requests_of old) (asks d old) x.answer }) is
+      ∙ ap (λ rs. record { answers = answers ++ reply ∷ []; requests = rs }) more
 
-    behind : (answers : List Answer) → served (past_with answers old) asks x.answer ≡ past_with (answers ++ reply ∷ []) new
-    behind answers =
-        ap (λ b. record { answers = answers ++ b ∷ []; requests = requests_with (requests_of old) asks x.answer }) x.is
-        ∙ ap (λ rs. record { answers = answers ++ reply ∷ []; requests = rs }) more
+-- with an answer that is known
+pub known_makes : {c : Setup} {d : Call} {reply : Answer} {old new : List (Option LatchToken)} {t u : CallerFace}
+    {a : service.Answer (asks d old)}
+    → lacks_request (requests_of old) (obtain_meant d) ≡ false → reply ≡ answer_to (asks d old) a
+    → IsServed (most_events c (kept_of t.number t.log) (asks d old)) (service.program c (asks d old)) (λ b. b ≡ a) t u
+    → requests_with (requests_of old) (asks d old) a ≡ requests_of new → MakesCall c d reply old new t u
+known_makes {c} {d} {reply} {old} {new} {t} {u} {a} has is x more =
+    makes has x (ap (answer_to (asks d old)) x.is ∙ sym is) (ap (requests_with (requests_of old) (asks d old)) x.is ∙ more)
 
-  -- with a service's answer that is known
-  pub known_makes : (most : ℕ) (a : service.Answer asks) → most ≤ cost c d → lacks_request (requests_of old) (obtain_meant d) ≡ false
-      → IsServed most (service.program c asks) (λ b. b ≡ a) t u → reply ≡ answer_to asks a
-      → requests_with (requests_of old) asks a ≡ requests_of new → MakesCall c d reply old new t u
-  known_makes most a le has s is more = record {
-    served = λ answers. subst (λ m. IsServed (cost c d) (made c m (past_with answers old) d)
-        (λ past. past ≡ past_with (answers ++ reply ∷ []) new) t u) (sym none)
-        (subst (λ call. IsServed (cost c d) call (λ past. past ≡ past_with (answers ++ reply ∷ []) new) t u)
-        (sym (unmoved c (past_with answers old) d has))
-        (served_so most (cost c d) (followed (service.program c asks) (λ a. finished (served (past_with answers old) asks a)))
-        (λ past. past ≡ past_with (answers ++ reply ∷ []) new) (λ past. past ≡ past_with (answers ++ reply ∷ []) new) t u le
-        (λ past same. same)
-        (served_then most (service.program c asks) (served (past_with answers old) asks) (λ b. b ≡ a)
-        (λ past. past ≡ past_with (answers ++ reply ∷ []) new) t u s
-        (ap (served (past_with answers old) asks) s.is ∙ behind answers))));
-    met = λ w shown. absurd (cc (sym none ∙ shown));
-  } where
-    none : word_in reply ≡ None
-    none = ap word_in is ∙ no_word asks a
-
-    behind : (answers : List Answer) → served (past_with answers old) asks a ≡ past_with (answers ++ reply ∷ []) new
-    behind answers =
-        ap (λ b. record { answers = answers ++ b ∷ []; requests = requests_with (requests_of old) asks a }) (sym is)
-        ∙ ap (λ rs. record { answers = answers ++ reply ∷ []; requests = rs }) more
+-- a call that is no OBTAIN and lacks none
+keeps : {c : Setup} {d : Call} {reply : Answer} {tokens : List (Option LatchToken)} {t u : CallerFace}
+    → lacks_request (requests_of tokens) (obtain_meant d) ≡ false → is_obtain d ≡ false → Serves c (asks d tokens) reply t u
+    → MakesCall c d reply tokens tokens t u
+keeps {c} {d} {reply} {tokens} {t} {u} has other x =
+    makes has x x.is (keeps_requests (requests_of tokens) (request_of (requests_of tokens)) d x.answer other)
 
 -- a call that is no OBTAIN and means none
-pub plain_makes : (c : Setup) (e d : Call) (reply : Answer) (tokens : List (Option LatchToken)) (t u : CallerFace) → e ≡ d
-    → is_obtain d ≡ false → obtain_meant d ≡ None → Serves c (service_of (request_of (requests_of tokens)) d) reply t u
-    → MakesCall c e reply tokens tokens t u
-plain_makes c e d reply tokens t u same other none x =
-    subst (λ d. MakesCall c d reply tokens tokens t u) (sym same)
-    (serves_makes c d reply tokens tokens t u (ap (lacks_request (requests_of tokens)) none) x
-    (keeps_requests (requests_of tokens) (request_of (requests_of tokens)) d x.answer other))
+pub plain_makes : {c : Setup} {e : Call} (d : Call) {reply : Answer} {tokens : List (Option LatchToken)} {t u : CallerFace} → e ≡ d
+    → is_obtain d ≡ false → obtain_meant d ≡ None → Serves c (asks d tokens) reply t u → MakesCall c e reply tokens tokens t u
+plain_makes {c} {e} d {reply} {tokens} {t} {u} same other none x =
+    subst (λ d. MakesCall c d reply tokens tokens t u) (sym same) (keeps (ap (lacks_request (requests_of tokens)) none) other x)
 
 -- ---- a call that means an OBTAIN
 
@@ -108,18 +102,22 @@ request_is (token ∷ tokens) zero = refl
 request_is (token ∷ tokens) (suc n) = request_is tokens n
 
 module _ (c : Setup) (d : Call) (k : ℕ) (tokens : List (Option LatchToken)) (t : CallerFace) (means : obtain_meant d ≡ Some k) where
-  -- which got this request
-  pub held : (token : LatchToken) → get_or tokens (k - 1) None ≡ Some token → request_of (requests_of tokens) k ≡ asked_by token
-  held token is =
-      ap (λ o. unwrap_or o (record { latch = 0; id = 0 })) (request_is tokens (k - 1) ∙ ap (λ o. option_map asked_by o) is)
+  -- what it is found to have got
+  lacks_as : (got : Option LatchToken) → get_or tokens (k - 1) None ≡ got
+      → lacks_request (requests_of tokens) (obtain_meant d) ≡ is_none (option_map asked_by got)
+  lacks_as got is =
+      ap (lacks_request (requests_of tokens)) means
+      ∙ ap (λ o. is_none o) (request_is tokens (k - 1) ∙ ap (λ o. option_map asked_by o) is)
 
-  pub held_makes : (token : LatchToken) (reply : Answer) (u : CallerFace) → get_or tokens (k - 1) None ≡ Some token → is_obtain d ≡ false
-      → Serves c (service_of (request_of (requests_of tokens)) d) reply t u → MakesCall c d reply tokens tokens t u
-  held_makes token reply u is other x =
-      serves_makes c d reply tokens tokens t u
-      (ap (lacks_request (requests_of tokens)) means
-      ∙ ap (λ o. is_none o) (request_is tokens (k - 1) ∙ ap (λ o. option_map asked_by o) is))
-      x (keeps_requests (requests_of tokens) (request_of (requests_of tokens)) d x.answer other)
+  -- which got this request, of which a service is asked
+  pub held_makes : (of : Asked → Service) (token : LatchToken) (reply : Answer) (u : CallerFace)
+      → asks d tokens ≡ of (request_of (requests_of tokens) k) → get_or tokens (k - 1) None ≡ Some token → is_obtain d ≡ false
+      → Serves c (of (asked_by token)) reply t u → MakesCall c d reply tokens tokens t u
+  held_makes of token reply u asked is other x =
+      keeps (lacks_as (Some token) is) other (subst (λ s. Serves c s reply t u) (ap of (sym held) ∙ sym asked) x) where
+        held : request_of (requests_of tokens) k ≡ asked_by token
+        held = ap (λ o. unwrap_or o (record { latch = 0; id = 0 }))
+            (request_is tokens (k - 1) ∙ ap (λ o. option_map asked_by o) is)
 
   -- which got none
   pub unheld_makes : get_or tokens (k - 1) None ≡ None → IsAtRest t.log → MakesCall c d answer.NoToken tokens tokens t t
@@ -132,20 +130,16 @@ module _ (c : Setup) (d : Call) (k : ℕ) (tokens : List (Option LatchToken)) (t
         (λ past. past ≡ past_with (answers ++ answer.NoToken ∷ []) tokens) t (ends answers) refl quiet);
     met = λ w is. absurd (cc is);
   } where
-    lacks : lacks_request (requests_of tokens) (obtain_meant d) ≡ true
-    lacks = ap (lacks_request (requests_of tokens)) means
-        ∙ ap (λ o. is_none o) (request_is tokens (k - 1) ∙ ap (λ o. option_map asked_by o) is)
-
     ends : (answers : List Answer) → made c None (past_with answers tokens) d (kept_of t.number t.log)
         ≡ program.Done (past_with (answers ++ answer.NoToken ∷ []) tokens)
-    ends answers = rw lacks refl
+    ends answers = rw (lacks_as None is) refl
 
 -- ---- a try that met another word
 
-pub missed_makes : (c : Setup) (d : Call) (o : Object) (expected : ℕ) (moved : Moved) (tokens : List (Option LatchToken))
-    (t u : CallerFace) → tried d ≡ Some (o, expected) → IsAtRest t.log → Missed t o expected moved u
+pub missed_makes : {c : Setup} {d : Call} {o : Object} {expected : ℕ} {moved : Moved} {tokens : List (Option LatchToken)} {t u : CallerFace}
+    → tried d ≡ Some (o, expected) → IsAtRest t.log → Missed t o expected moved u
     → MakesCall c d (answer.Moved moved.0) tokens tokens t u
-missed_makes c d o expected moved tokens t u tries quiet missed = record {
+missed_makes {c} {d} {o} {expected} {moved} {tokens} {t} {u} tries quiet missed = record {
   served = λ answers. serves (cost c d) (made c (Some moved.0) (past_with answers tokens) d)
       (λ past. past ≡ past_with (answers ++ answer.Moved moved.0 ∷ []) tokens) t u
       (past_with (answers ++ answer.Moved moved.0 ∷ []) tokens) quiet refl

@@ -11,11 +11,12 @@ use Rattle.mv_latchset.specs.declared.obtaining.Obtained.TheVariants.{Granted, P
 use Rattle.mv_latchset.specs.declared.obtaining.ObtainRefusal.{ObtainRefusal}
 use Rattle.mv_latchset.specs.declared.token.LatchToken.{LatchToken}
 use Rattle.mv_latchset.specs.Answers.{obtain_answer}
-use Rattle.mv_latchset.specs.Obtaining.{HasLatch, IsObtainedBy, IsRefusedBy}
+use Rattle.mv_latchset.specs.Obtaining.{IsOfLatch, IsObtainedBy, IsRefusedBy}
 use Rattle.mv_latch.specs.declared.operation.LatchOp.TheVariants.{Obtain}
 use Rattle.mv_board.specs.Faces.{CallerFace}
 use Rattle.mv_machine.specs.Check.{or_else}
 use Rattle.mv_machine.specs.Setup.{Setup}
+use Rattle.mv_machine.proofs.Lists.{all_push}
 use Rattle.mv_calls.specs.Keeping.{Kept, kept_of}
 use Rattle.mv_calls.specs.LatchCalls.{obtain_refusal}
 use Rattle.mv_calls.specs.Refusal.{Refusal}
@@ -25,21 +26,13 @@ use Rattle.mv_script.specs.Limits.{latches}
 use Rattle.mv_script.specs.Sound.{IfThere}
 use Rattle.mv_script.specs.Tasks.{request_in}
 use Rattle.mv_runscript.specs.Making.{asked_by, requests_of, token_in, AreOfLatches, IsForScripts}
-use Rattle.mv_runscript.proofs.Lists.{all_both}
 
 -- its latch and its number are those of the program
-asked_is : (latch : ℕ) (outcome : Result Obtained ObtainRefusal) → IfOk outcome (HasLatch latch)
+asked_is : (latch : ℕ) (outcome : Result Obtained ObtainRefusal) → IfOk outcome (IsOfLatch latch)
     → request_in latch (obtain_answer outcome) ≡ option_map asked_by (token_in outcome)
 asked_is latch (Ok (Granted token)) own = ap (λ l. Some (record { latch = l; id = token.id })) (sym own)
 asked_is latch (Ok (Pending token)) own = ap (λ l. Some (record { latch = l; id = token.id })) (sym own)
 asked_is latch (Err why) own = refl
-
-pub requests_more : (latch : ℕ) (outcome : Result Obtained ObtainRefusal) (tokens : List (Option LatchToken))
-    → IfOk outcome (HasLatch latch)
-    → requests_of tokens ++ request_in latch (obtain_answer outcome) ∷ [] ≡ requests_of (tokens ++ token_in outcome ∷ [])
-requests_more latch outcome tokens own =
-    ap (λ r. requests_of tokens ++ r ∷ []) (asked_is latch outcome own)
-    ∙ sym (map-append (λ (t : Option LatchToken). option_map asked_by t) tokens (token_in outcome ∷ []))
 
 -- what is not refused is of a latch that there is
 there_is : (c : Setup) (latch : ℕ) (rest : Option Refusal) (b : Bool) → nat_lt latch c.latches ≡ b
@@ -50,12 +43,6 @@ there_is c latch rest false is none = absurd (cc none)
 pub latch_exists : (c : Setup) (latch requestor : ℕ) (mode : Mode) (form : LatchForm) (kept : Kept)
     → obtain_refusal c latch requestor mode form kept ≡ None → latch < c.latches
 latch_exists c latch requestor mode form kept none = there_is c latch _ (nat_lt latch c.latches) refl none
-
-fits : (latch : ℕ) (outcome : Result Obtained ObtainRefusal) → IfOk outcome (HasLatch latch) → IfOk outcome (λ got. latch < latches)
-    → IfThere (λ (t : LatchToken). t.latch < latches) (token_in outcome)
-fits latch (Ok (Granted token)) own low = subst (λ l. l < latches) (sym own) low
-fits latch (Ok (Pending token)) own low = subst (λ l. l < latches) (sym own) low
-fits latch (Err why) own low = tt
 
 -- and so is the latch of an obtain that got a request
 pub latch_low : (c : Setup) (latch requestor : ℕ) (mode : Mode) (form : LatchForm) (t u : CallerFace)
@@ -70,8 +57,22 @@ latch_low c latch requestor mode form t u (Ok got) is cause =
     let count = is.latch_count in omega arith
 latch_low c latch requestor mode form t u (Err why) is cause = tt
 
-pub tokens_more : (latch : ℕ) (outcome : Result Obtained ObtainRefusal) (tokens : List (Option LatchToken))
-    → IfOk outcome (HasLatch latch) → IfOk outcome (λ got. latch < latches) → AreOfLatches tokens
-    → AreOfLatches (tokens ++ token_in outcome ∷ [])
-tokens_more latch outcome tokens own low all =
-    all_both (IfThere (λ (t : LatchToken). t.latch < latches)) tokens (token_in outcome ∷ []) all (fits latch outcome own low, tt)
+-- it is of a latch that there is
+fits : (latch : ℕ) (outcome : Result Obtained ObtainRefusal) → IfOk outcome (IsOfLatch latch) → IfOk outcome (λ got. latch < latches)
+    → IfThere (λ (t : LatchToken). t.latch < latches) (token_in outcome)
+fits latch (Ok (Granted token)) own low = subst (λ l. l < latches) (sym own) low
+fits latch (Ok (Pending token)) own low = subst (λ l. l < latches) (sym own) low
+fits latch (Err why) own low = tt
+
+-- what was put behind the requests before is the request that was got
+module _ (latch : ℕ) (outcome : Result Obtained ObtainRefusal) (token : Option LatchToken) (old new : List (Option LatchToken))
+    (own : IfOk outcome (IsOfLatch latch)) (got : token ≡ token_in outcome) (put : new ≡ old ++ token ∷ []) where
+  pub requests_more : requests_of old ++ request_in latch (obtain_answer outcome) ∷ [] ≡ requests_of new
+  requests_more =
+      ap (λ r. requests_of old ++ r ∷ []) (asked_is latch outcome own ∙ ap (option_map asked_by) (sym got))
+      ∙ sym (map-append (λ (t : Option LatchToken). option_map asked_by t) old (token ∷ [])) ∙ ap requests_of (sym put)
+
+  pub tokens_more : IfOk outcome (λ got. latch < latches) → AreOfLatches old → AreOfLatches new
+  tokens_more low all =
+      subst AreOfLatches (sym put) (all_push (IfThere (λ (t : LatchToken). t.latch < latches)) old token all
+      (subst (IfThere (λ (t : LatchToken). t.latch < latches)) (sym got) (fits latch outcome own low)))

@@ -20,9 +20,10 @@ use Rattle.mv_script.specs.Sound.{IsSound}
 use Rattle.mv_script.specs.Tasks.{Moves, task_program, calls_at}
 use Rattle.mv_runscript.specs.declared.seat.Seat.{Seat}
 use Rattle.mv_runscript.specs.Making.{past_with, MakesCalls}
-use Rattle.mv_runscript.specs.Seats.{HasRoom, HaveRooms, AreReady, HasWorked, script_with}
+use Rattle.mv_runscript.specs.Seats.{HasRoom, HaveRooms, AreReady, HaveWorked, script_with}
 use Rattle.mv_runscript.proofs.Histories.{task_done, task_met}
-use Rattle.mv_runscript.proofs.Lists.{at_each, is_mapped}
+use Rattle.mv_wait.proofs.Parts.{one_of}
+use Rattle.mv_runscript.proofs.Lists.{is_mapped}
 use Rattle.mv_runscript.proofs.Paths.{path_went}
 use Rattle.mv_runscript.proofs.Scripts.{task_count}
 
@@ -81,23 +82,22 @@ in_order b j (s ∷ seats) each =
           let at = each (suc k) d (omega arith) in (at.0, at.1 ∙ (let e : j + suc k ≡ suc j + k = omega arith in e))),
     )
 
--- the seats of a board's tasks, before and behind their work
-pub record HaveWorked (b : BoardFace) (calls : List (List Call)) (old new : List Seat) : Type 0 where
-  pub ready : AreReady b calls old
-  pub count : length new ≡ length old
-  pub worked : (k : ℕ) (d : Seat) → k < length old → HasWorked b.config (get_or calls k []) (get_or old k d) (get_or new k d)
+-- a history is a run of a script, in which each call answered so
+pub record IsRunOf (script : ScriptData) (lists : List (List Answer)) (es : List Entry) : Type 0 where
+  pub run : IsScriptRun script (moves_in lists) es
+  pub answers : lists ≡ script_answers script (moves_in lists) es
 
-module _ (b : BoardFace) (calls : List (List Call)) (old new : List Seat) (have : HaveWorked b calls old new) where
+module _ (b : BoardFace) (calls : List (List Call)) (old new : List Seat) (ready : AreReady b calls old) (count : length new ≡ length old)
+    (worked : HaveWorked b.config calls old new) where
   went_at : (k : ℕ) (d : Seat) → k < length old → IsSame (task_of (get_or old k d)) (task_of (get_or new k d))
   went_at k d lt =
       (path_went b.config (get_or calls k []) (answers_of (get_or new k d)) [] (get_or new k d).requests.items
-      (task_of (get_or old k d)) (task_of (get_or new k d)) (have.worked k d lt)).1.same
+      (task_of (get_or old k d)) (task_of (get_or new k d)) (worked k d lt)).1.same
 
   -- once they have worked they are the board's tasks, in order
   pub worked_in_order : AreInOrder b 0 (map task_of new)
   worked_in_order = in_order b 0 new (λ k d lt.
-      let count = have.count in
-      let was = (have.ready k d (omega arith)).fresh in
+      let was = (ready k d (omega arith)).fresh in
       let same = went_at k d (omega arith) in (
         still_of b (task_of (get_or old k d)) (task_of (get_or new k d)) was.board same,
         same.number ∙ was.number ∙ (let e : k ≡ 0 + k = omega arith in e),
@@ -120,7 +120,6 @@ module _ (b : BoardFace) (calls : List (List Call)) (old new : List Seat) (have 
     module _ (k : ℕ) (d : Seat) (lt : k < length old) where
       lists_at : slice_get lists k ≡ Some (answers_of (get_or new k d))
       lists_at =
-          let count = have.count in
           let size : length lists ≡ length new = length-map new answers_of in
           slice_get-get_or lists k [] (omega arith) ∙ ap (λ a. Some a) (get_or-map answers_of new k d [] (omega arith))
 
@@ -129,66 +128,58 @@ module _ (b : BoardFace) (calls : List (List Call)) (old new : List Seat) (have 
 
       within_at : IsIn b.config es (task_of (get_or new k d))
       within_at =
-          let count = have.count in
           let size : length (map task_of new) ≡ length new = length-map new task_of in
           subst (IsIn b.config es) (get_or-map task_of new k d (task_of d) (omega arith))
-          (at_each (IsIn b.config es) (map task_of new) k (task_of d) within (omega arith))
+          (one_of (IsIn b.config es) (map task_of new) k (task_of d) within (omega arith))
 
       makes_at : MakesCalls b.config (calls_at script k) (answers_of (get_or new k d)) [] (get_or new k d).requests.items
           (task_of (get_or old k d)) (task_of (get_or new k d))
       makes_at = subst (λ cs. MakesCalls b.config cs (answers_of (get_or new k d)) [] (get_or new k d).requests.items
-          (task_of (get_or old k d)) (task_of (get_or new k d))) (calls_are k) (have.worked k d lt)
+          (task_of (get_or old k d)) (task_of (get_or new k d))) (calls_are k) (worked k d lt)
 
       done_at : IsDoneOn (task_program script moves k) (heard_in b.config k es)
           (past_with (answers_of (get_or new k d)) (get_or new k d).requests.items)
       done_at =
-          let was = (have.ready k d lt).fresh in
+          let was = (ready k d lt).fresh in
           task_done script moves es k (answers_of (get_or new k d)) (get_or new k d).requests.items (task_of (get_or old k d))
           (task_of (get_or new k d)) was.number was.log was.told makes_at within_at words_at
 
       met_at : (i w : ℕ) → moves k i ≡ Some w → IsMet script moves es k i w
       met_at i w is =
-          let was = (have.ready k d lt).fresh in
+          let was = (ready k d lt).fresh in
           task_met script moves es k (answers_of (get_or new k d)) (get_or new k d).requests.items (task_of (get_or old k d))
           (task_of (get_or new k d)) was.number was.log was.told makes_at within_at words_at i w is
 
       answers_at : task_answers script moves es k ≡ answers_of (get_or new k d)
       answers_at = ap (λ p. (past_in p).answers) done_at.done
 
-    -- the history that they made is a run
-    run_made : Seat → IsScriptRun script moves es
-    run_made d = record {
+    -- the run, by a first seat
+    run_by : Seat → IsScriptRun script moves es
+    run_by d = record {
       finish = finish b.config (task_program script moves) es legal (λ k lt.
           let n = task_count b.config calls sound in (_, done_at k d (omega arith)));
       met = λ k i w lt is. met_at k d (omega arith) i w is;
     }
 
-    -- and their answers are those of the run
-    pub answers_made : lists ≡ script_answers script moves es
-    answers_made =
-        let count = have.count in
+    -- and the answers, by another
+    lists_by : Seat → lists ≡ script_answers script moves es
+    lists_by d =
         let n : length lists ≡ length new = length-map new answers_of in
-        is_mapped (task_answers script moves es) lists 0 (λ k d lt. at k d (omega arith))
+        is_mapped (task_answers script moves es) lists 0 (λ k answers lt. at k answers (omega arith))
         ∙ ap (λ m. map (task_answers script moves es) (range_with_len 0 m)) (let e : length lists ≡ length calls = omega arith in e) where
-          at : (k : ℕ) (d : List Answer) → k < length new → get_or lists k d ≡ task_answers script moves es (0 + k)
-          at k d lt = first k d lt new refl where
-            first : (k : ℕ) (d : List Answer) → k < length new → (seats : List Seat) → seats ≡ new
-                → get_or lists k d ≡ task_answers script moves es (0 + k)
-            first k d lt [] is = absurd (let e = ap (λ (ss : List Seat). length ss) is in omega arith)
-            first k d lt (s ∷ seats) is =
-                let count = have.count in
-                get_or-map answers_of new k s d lt ∙ sym (answers_at k s (omega arith))
-                ∙ ap (λ m. task_answers script moves es m) (let e : k ≡ 0 + k = omega arith in e)
+          at : (k : ℕ) (answers : List Answer) → k < length new → get_or lists k answers ≡ task_answers script moves es (0 + k)
+          at k answers lt =
+              get_or-map answers_of new k d answers lt ∙ sym (answers_at k d (omega arith))
+              ∙ ap (λ m. task_answers script moves es m) (let e : k ≡ 0 + k = omega arith in e)
 
-    -- there is a first seat to read
-    pub run_of : IsScriptRun script moves es
-    run_of = first new refl where
-      first : (seats : List Seat) → seats ≡ new → IsScriptRun script moves es
+    -- the history that they made is a run, whose answers are theirs; there is a first seat to read
+    pub run_made : IsRunOf script lists es
+    run_made = first new refl where
+      first : (seats : List Seat) → seats ≡ new → IsRunOf script lists es
       first [] is =
           let e = ap (λ (ss : List Seat). length ss) is in
-          let some = sound.some in
-          let count = have.count in absurd (omega arith)
-      first (s ∷ seats) is = run_made s
+          let some = sound.some in absurd (omega arith)
+      first (s ∷ seats) is = record { run = run_by s; answers = lists_by s }
 
 -- what a slice of a list gave back, as the list has it
 pub given_back : {A : Type 0} (n : ℕ) (new old : List A) → length new ≡ length old → n ≡ length old

@@ -7,7 +7,13 @@ use Rattle.mv_calls.specs.Rest.{IsAtRest}
 use Rattle.mv_calls.proofs.Making.{kept_from-append}
 use Rattle.mv_calls.proofs.Programs.{going_on_left, going_on_says}
 use Rattle.mv_wait.specs.Run.{Runs, IsServed}
+use Rattle.mv_calls.specs.Posts.{Posting}
 use Rattle.mv_script.specs.declared.answer.Answer.{Answer}
+use Rattle.mv_script.specs.Answered.{posted}
+use Rattle.mv_wait.specs.declared.posting.PostAnswer.{PostAnswer}
+use Rattle.mv_wait.specs.Answers.{post_answer}
+use Rattle.mv_runscript.specs.Answered as answered
+use Rattle.mv_runscript.proofs.Answers.{posted_is}
 use Rattle.mv_wait.proofs.Runs.{runs_none, runs_within, went_then, serves, served_runs}
 
 -- more may be said of the answer, and more events allowed
@@ -59,7 +65,15 @@ served_then most call g Is As t u s is =
     (runs_none (Done (g s.answer)) u))) s.made.rest
 
 -- a service whose answer is known, and what that is as the answer of a call
-pub served_with : {A : Type 0} (most : ℕ) (call : Call A) (f : A → Answer) (a : A) (reply : Answer) (t u : CallerFace) → reply ≡ f a
+pub served_with : {A : Type 0} {most : ℕ} {call : Call A} {f : A → Answer} {a : A} {reply : Answer} {t u : CallerFace} → reply ≡ f a
     → IsServed most call (λ b. b ≡ a) t u → IsServed most call (λ b. f b ≡ reply) t u
-served_with most call f a reply t u is s =
+served_with {A} {most} {call} {f} {a} {reply} {t} {u} is s =
     served_so most most call (λ b. b ≡ a) (λ b. f b ≡ reply) t u (omega arith) (λ b same. ap f same ∙ sym is) s
+
+-- a post, whichever exit it started
+pub served_post : {most : ℕ} {call : Call Posting} {outcome : PostAnswer} {reply : Answer} {t u : CallerFace}
+    → reply ≡ answered.posted outcome → IsServed most call (λ p. post_answer p ≡ outcome) t u
+    → IsServed most call (λ p. posted p ≡ reply) t u
+served_post {most} {call} {outcome} {reply} {t} {u} is s =
+    served_so most most call (λ p. post_answer p ≡ outcome) (λ p. posted p ≡ reply) t u (omega arith)
+    (λ p same. posted_is p ∙ ap answered.posted same ∙ sym is) s

@@ -36,3 +36,8 @@ script_with c tasks = record { setup = c; tasks = tasks }
 -- the seat's task has made these calls, and its answers are theirs
 abbrev pub HasWorked : Setup → List Call → Seat → Seat → Type 0
 HasWorked c calls old new = MakesCalls c calls new.answers.items [] new.requests.items old.task new.task
+
+-- and that of each seat its own, in the order of the numbers
+abbrev pub HaveWorked : Setup → List (List Call) → List Seat → List Seat → Type 0
+HaveWorked c tasks old new = (k : ℕ) (d : Seat) → k < length old
+    → HasWorked c (slice_index_or tasks k []) (slice_index_or old k d) (slice_index_or new k d)

@@ -6,8 +6,8 @@ ghost use Rattle.mv_latchset.specs.Answers.{obtain_answer, standing_as, release_
 ghost use Rattle.mv_pause.specs.Answers.{allocate_answer, pause_answer, release_answer, transfer_answer, deallocate_answer};
 ghost use Rattle.mv_wait.specs.Answers.{clear_answer, extend_answer, wait_answer};
 ghost use Rattle.mv_script.specs.declared.answer.Answer.TheVariants as answer;
-ghost use Rattle.mv_script.specs.Answered.{done_or, given as given_as, given_if_paused, reached, obtained as obtained_as, purged as purged_as, slot_with};
-ghost use Rattle.mv_script.specs.Answered.{standing as standing_of};
+ghost use Rattle.mv_script.specs.Answered.{done_or, given as given_as, given_if_paused, reached, obtained as obtained_as};
+ghost use Rattle.mv_script.specs.Answered.{purged as purged_as, slot_with, standing as standing_of};
 ghost use Rattle.mv_runscript.specs.Answered.{posted as posted_as};
 
 use mv_element::Token;

@@ -4,7 +4,6 @@ ghost use Rattle.std.specs.Prelude.{◌≡◌, ◌≤◌, [], All, length, map, 
 ghost use Rattle.mv_machine.specs.Check.{IsValid};
 ghost use Rattle.mv_machine.specs.Limits.{events_limit, highest_place};
 ghost use Rattle.mv_machine.specs.Orderly.{IsOrderly};
-ghost use Rattle.mv_machine.specs.Config.{exit_of};
 ghost use Rattle.mv_script.specs.Run.{IsScriptRun, script_answers, moves_in};
 ghost use Rattle.mv_script.specs.Script.{script_data};
 ghost use Rattle.mv_script.specs.Sound.{IsSound};
@@ -13,10 +12,10 @@ ghost use Rattle.mv_runscript.specs.Seats.{HaveRooms, script_with};
 use crate::seat::{Seat, seat_of, worked};
 use mv_board::Closed;
 use mv_io::NoMemory;
-use mv_machine::{CheckRefusal, Config, Entry, Exit, ValidConfig};
-use mv_script::{AnswerList, CallList, Script};
+use mv_machine::{Entry, ValidConfig};
+use mv_script::{AnswerList, CallList, Script, copy_config};
 use mv_wait::{Station, Task};
-use std::alloc::{AllocError, Global};
+use std::alloc::Global;
 use std::sync::Wait;
 use std::thread::Threads;
 
@@ -46,11 +45,12 @@ pub fn run_script<R: Threads + Wait + Sync>(
     ensures valid { OnOk result (IsValid script.now.config) }
     ensures run { IfOk result (λ run. IsScriptRun (script_data script.now) (moves_in run.answers.items) run.journal.items) }
     ensures orderly { IfOk result (λ run. IsOrderly script.now.config run.journal.items) }
-    ensures answers { IfOk result (λ run. run.answers.items ≡ script_answers (script_data script.now) (moves_in run.answers.items) run.journal.items) }
+    ensures answers { IfOk result (λ run. run.answers.items
+        ≡ script_answers (script_data script.now) (moves_in run.answers.items) run.journal.items) }
     ensures few { IfOk result (λ run. length run.journal.items ≤ events_limit) }
     ensures places { IfOk result (λ run. All (λ e. e.place ≤ highest_place) run.journal.items) }
 {
-    let config = copy_of(alloc, &script.config)?;
+    let config = copy_config(alloc, &script.config)?;
     run_tasks(rt, alloc, config, &script.tasks)
 }
 
@@ -65,7 +65,8 @@ fn run_tasks<R: Threads + Wait + Sync>(
     ensures config { IfOk result (λ run. run.config ≡ config) }
     ensures run { IfOk result (λ run. IsScriptRun (script_with config tasks.now) (moves_in run.answers.items) run.journal.items) }
     ensures orderly { IfOk result (λ run. IsOrderly config run.journal.items) }
-    ensures answers { IfOk result (λ run. run.answers.items ≡ script_answers (script_with config tasks.now) (moves_in run.answers.items) run.journal.items) }
+    ensures answers { IfOk result (λ run. run.answers.items
+        ≡ script_answers (script_with config tasks.now) (moves_in run.answers.items) run.journal.items) }
     ensures few { IfOk result (λ run. length run.journal.items ≤ events_limit) }
     ensures places { IfOk result (λ run. All (λ e. e.place ≤ highest_place) run.journal.items) }
 {
@@ -119,45 +120,4 @@ fn parted(
         lists.push_reserved(AnswerList { answers });
     }
     (tasks, lists)
-}
-
-// The same configuration.
-fn copy_of(alloc: Global, config: &ValidConfig) -> Result<ValidConfig, NoMemory>
-    ensures same { IfOk result (λ copy. copy ≡ config.now) }
-    ensures valid { IsValid config.now }
-{
-    let given = config.config();
-    let copy = Config {
-        callers: given.callers,
-        elements_per_caller: given.elements_per_caller,
-        volumes: given.volumes,
-        latches: given.latches,
-        quota: given.quota,
-        posted_quota: given.posted_quota,
-        budgets: Vec::from_slice(alloc, &given.budgets)?,
-        owners: Vec::from_slice(alloc, &given.owners)?,
-        exits: copied(alloc, &given.exits)?,
-    };
-    match copy.check(alloc) {
-        Ok(copy) => Ok(copy),
-        Err(refusal) => match refusal {
-            CheckRefusal::NoMemory => Err(NoMemory),
-            // It was checked before, so no rule of configurations refuses it.
-            _ => unreachable!(),
-        },
-    }
-}
-
-// The same exits.
-fn copied(alloc: Global, exits: &[Exit]) -> Result<Vec<Exit>, AllocError>
-    ensures { IfOk result (λ copies. map exit_of copies.items ≡ map exit_of exits.now) }
-{
-    let mut copies = Vec::new(alloc);
-    for exit in exits {
-        copies.push(Exit {
-            source: exit.source,
-            targets: Vec::from_slice(alloc, &exit.targets)?,
-        })?;
-    }
-    Ok(copies)
 }

@@ -1,9 +1,9 @@
 //! What each thread has: a task, and the room that its calls need. Clauses cite `specs/Seats.antt`.
 
-ghost use Rattle.std.specs.Prelude.{◌≡◌, ◌<◌, ◌≤◌, ◌+◌, ℕ, [], length, count_by, slice_index_or, IfOk};
+ghost use Rattle.std.specs.Prelude.{◌≡◌, ◌<◌, ◌≤◌, ◌+◌, [], length, count_by, slice_index_or, IfOk};
 ghost use Rattle.mv_script.specs.Sound.{IsSound};
 ghost use Rattle.mv_runscript.specs.Making.{HaveSlots, is_wait as is_wait_call};
-ghost use Rattle.mv_runscript.specs.Seats.{HasRoom, IsReady, AreReady, HasWorked, script_with};
+ghost use Rattle.mv_runscript.specs.Seats.{HasRoom, IsReady, AreReady, HasWorked, HaveWorked, script_with};
 
 use crate::making::make_all;
 use mv_io::NoMemory;
@@ -84,7 +84,8 @@ fn work_one<R: Wait>(rt: &R, station: &Station, tasks: &[CallList], number: usiz
     requires number { number < length tasks.now }
     requires one { length one.old ≡ 1 }
     requires ready { (d : _) → IsReady station.now (slice_index_or tasks.now number []) number (slice_index_or one.old 0 d) }
-    ensures worked { (d : _) → HasWorked station.now.config (slice_index_or tasks.now number []) (slice_index_or one.old 0 d) (slice_index_or one.new 0 d) }
+    ensures worked { (d : _) → HasWorked station.now.config (slice_index_or tasks.now number [])
+        (slice_index_or one.old 0 d) (slice_index_or one.new 0 d) }
 {
     work(rt, station, tasks, number, &mut one[0]);
 }
@@ -100,12 +101,13 @@ fn work_all<R: Threads + Wait + Sync>(
     requires count { length seats.old ≡ length tasks.now }
     requires ready { AreReady station.now tasks.now seats.old }
     ensures count { length seats.new ≡ length seats.old }
-    ensures worked { (k : ℕ) (d : _) → k < length seats.old → HasWorked station.now.config (slice_index_or tasks.now k []) (slice_index_or seats.old k d) (slice_index_or seats.new k d) }
+    ensures worked { HaveWorked station.now.config tasks.now seats.old seats.new }
 {
     let job = move |number: usize, one: &mut [Seat]|
         requires { IsSound (script_with station.now.config tasks.now) × (number < length tasks.now) × (length one.now ≡ 1)
             × ((d : _) → IsReady station.now (slice_index_or tasks.now number []) number (slice_index_or one.now 0 d)) }
-        ensures { (d : _) → HasWorked station.entry.now.config (slice_index_or tasks.entry.now number []) (slice_index_or one.entry.now 0 d) (slice_index_or one.exit.now 0 d) }
+        ensures { (d : _) → HasWorked station.entry.now.config (slice_index_or tasks.entry.now number [])
+            (slice_index_or one.entry.now 0 d) (slice_index_or one.exit.now 0 d) }
     { work_one(rt, station, tasks, number, one) };
     thread::for_each_chunk_mut(rt, seats, 1, &job);
 }
@@ -121,7 +123,7 @@ pub(crate) fn worked<R: Threads + Wait + Sync>(
     requires count { length seats.items ≡ length tasks.now }
     requires ready { AreReady station.now tasks.now seats.items }
     ensures count { length result.items ≡ length seats.items }
-    ensures worked { (k : ℕ) (d : _) → k < length seats.items → HasWorked station.now.config (slice_index_or tasks.now k []) (slice_index_or seats.items k d) (slice_index_or result.items k d) }
+    ensures worked { HaveWorked station.now.config tasks.now seats.items result.items }
 {
     work_all(rt, station, tasks, &mut seats);
     seats

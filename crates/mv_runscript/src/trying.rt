@@ -1,12 +1,15 @@
 //! Tries: a post and a release by one exchange, where the object's word is the one that is expected (`specs/Making.antt`).
 
-ghost use Rattle.std.specs.Prelude.{◌≡◌, ◌<◌, ◌≤◌, ◌^◌, length, List, Option};
+ghost use Rattle.std.specs.Prelude.{◌≡◌, ◌<◌, ◌≤◌, length, List, Option};
+ghost use Rattle.mv_ecb.specs.Table.{code_limit};
+ghost use Rattle.mv_element.specs.Table.{release_limit};
 ghost use Rattle.mv_machine.specs.Limits.{highest_place, highest_generation};
 ghost use Rattle.mv_machine.specs.Setup.{element_count};
 ghost use Rattle.mv_board.specs.Faces.{IsOf};
 ghost use Rattle.mv_calls.specs.Rest.{IsAtRest};
 ghost use Rattle.mv_latchset.specs.declared.token.LatchToken.{LatchToken};
 ghost use Rattle.mv_script.specs.declared.call.Call.TheVariants as call;
+ghost use Rattle.mv_script.specs.Costs as expected;
 ghost use Rattle.mv_runscript.specs.Making.{MakesCall};
 
 use crate::answered::posted;
@@ -30,11 +33,12 @@ pub(crate) fn try_post(
     requires rest { IsAtRest task.old.log }
     requires block { ecb < length station.now.config.owners }
     requires place { place ≤ highest_place }
-    requires code { code < 2 ^ 30 }
+    requires code { code < code_limit }
     requires left { 0 < task.old.left }
-    ensures { (tokens : List (Option LatchToken)) → MakesCall station.now.config (call.TryPost ecb place code) result tokens tokens task.old task.new }
+    ensures { (tokens : List (Option LatchToken)) → MakesCall station.now.config (call.TryPost ecb place code) result
+        tokens tokens task.old task.new }
 {
-    let zero = pack(place, WordState::Ecb(EcbWord::zero()));
+    let zero = zero_at(place);
     match station.try_post(task, ecb, zero, code) {
         Ok(outcome) => posted(outcome),
         Err(Moved(word)) => Answer::Moved(word),
@@ -55,14 +59,12 @@ pub(crate) fn try_release_token(
     requires element { token.element < element_count station.now.config }
     requires generation { token.generation < highest_generation }
     requires place { place ≤ highest_place }
-    requires code { code < 2 ^ 24 }
+    requires code { code < release_limit }
     requires left { 0 < task.old.left }
-    ensures { (tokens : List (Option LatchToken)) → MakesCall station.now.config (call.TryRelease token place code) result tokens tokens task.old task.new }
+    ensures { (tokens : List (Option LatchToken)) → MakesCall station.now.config (call.TryRelease token place code) result
+        tokens tokens task.old task.new }
 {
-    let reset = pack(
-        place,
-        WordState::Element(ElementState::reset(token.generation)),
-    );
+    let reset = reset_at(token.generation, place);
     match try_release(station, task, token, reset, code) {
         Ok(ReleaseAnswer::Early) => Answer::Early,
         Ok(ReleaseAnswer::Woke) => Answer::Woke,
@@ -70,4 +72,21 @@ pub(crate) fn try_release_token(
         Err(TryReleaseRefusal::Already) => Answer::AlreadyReleased,
         Err(TryReleaseRefusal::Moved(word)) => Answer::Moved(word),
     }
+}
+
+// The word of a block that is zero and has had so many events.
+fn zero_at(place: u32) -> u64
+    requires { place ≤ highest_place }
+    ensures { result ≡ expected.zero_at place }
+{
+    pack(place, WordState::Ecb(EcbWord::zero()))
+}
+
+// The word of an element that is allocated with this generation, neither paused nor released, and has had so many events.
+fn reset_at(generation: u32, place: u32) -> u64
+    requires generation { generation < highest_generation }
+    requires place { place ≤ highest_place }
+    ensures { result ≡ expected.reset_at generation place }
+{
+    pack(place, WordState::Element(ElementState::reset(generation)))
 }

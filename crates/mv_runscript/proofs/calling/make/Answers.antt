@@ -7,11 +7,7 @@ use Rattle.mv_runscript.proofs.calling.make.Goals as goal
 
 pub returns-in-Some-clause-makes : goal.returns-in-Some-clause-makes
 returns-in-Some-clause-makes g c =
-    let config = c.args.station.now.config in
     let count = c.in-Wait.count in
-    let t = c.args.task.now in
-    let u = c.wait_in.new.task in
-    plain_makes config c.args.call.now (call.Wait count c.in-Wait.ecbs) c.wait_in.result c.args.requests.now.items t u c.in-Wait.is
-    refl refl
-    (subst (λ (es : List ℕ). Serves config (service.Wait count es) c.wait_in.result t u) (c.deref.ensures.value ∙ c.ecbs.view_is)
-    c.wait_in.ensures)
+    plain_makes (call.Wait count c.in-Wait.ecbs) c.in-Wait.is refl refl
+    (subst (λ (es : List ℕ). Serves c.args.station.now.config (service.Wait count es) c.wait_in.result c.args.task.now c.wait_in.new.task)
+    (c.deref.ensures.value ∙ c.ecbs.view_is) c.wait_in.ensures)

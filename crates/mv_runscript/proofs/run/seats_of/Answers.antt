@@ -1,9 +1,9 @@
 use Rattle.std.proofs.Common.{◌≡◌, ◌<◌, List, [], ◌∷◌, ◌++◌, length, get_or, sym, ap, ◌∙◌, subst, arith, length-append}
 use Rattle.std.proofs.lemmas.Grind.{common_steps}
+use Rattle.std.proofs.lemmas.List.{get_or_default}
 use Rattle.std.specs.Vec.Iter.{into_iter_items}
 use Rattle.mv_board.specs.Faces.{CallerFace}
 use Rattle.mv_runscript.specs.Seats.{HaveRooms}
-use Rattle.mv_runscript.proofs.Lists.{same_at}
 use Rattle.mv_runscript.proofs.Seats.{rooms_more, seat_count}
 use Rattle.mv_runscript.proofs.run.seats_of.Goals as goal
 
@@ -30,7 +30,7 @@ loop-task-preserved c =
       count = grind (arith, common_steps);
       rooms = subst (HaveRooms tasks) (sym c.push_reserved.ensures.items)
           (rooms_more tasks seats c.in_ok-seat_of.field-0 c.deref.result.now c.loop-task.invariant.rooms
-          (same_at tasks n [] list lt ∙ ap (λ k. get_or tasks k list) (sym at) ∙ sym c.index-tasks-len.is ∙ sym c.list.view_is
+          (get_or_default tasks n [] list lt ∙ ap (λ k. get_or tasks k list) (sym at) ∙ sym c.index-tasks-len.is ∙ sym c.list.view_is
           ∙ sym c.deref.ensures.value) c.in_ok-seat_of.ensures.room);
       tasks = grind (arith, common_steps);
       room = grind (arith, common_steps);

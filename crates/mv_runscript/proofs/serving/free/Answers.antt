@@ -1,16 +1,17 @@
-use Rattle.mv_calls.specs.Keeping.{kept_of}
-use Rattle.mv_calls.specs.Services.{Service, most_events}
+use Rattle.std.proofs.Common.{refl}
 use Rattle.mv_calls.specs.Services as service
-use Rattle.mv_latchset.specs.Answers.{release_answer}
-use Rattle.mv_script.specs.Answered.{answer_to}
+use Rattle.mv_script.specs.declared.call.Call.TheVariants as call
+use Rattle.mv_runscript.proofs.Makes.{held_makes, unheld_makes}
 use Rattle.mv_runscript.proofs.Served.{served_with}
 use Rattle.mv_runscript.proofs.serving.free.Goals as goal
 
-pub returns : goal.returns
-returns g c =
-    let config = c.args.station.now.config in
-    let t = c.args.task.now in
-    let asked : Service = service.ReleaseLatch c.args.token.latch c.args.token.id c.args.conditional in
-    served_with (most_events config (kept_of t.number t.log) asked) (service.program config asked)
-    (answer_to asked) (release_answer c.release_latch.result)
-    c.freed.result t c.release_latch.new.task c.freed.ensures c.release_latch.ensures.served
+pub returns-in-Some : goal.returns-in-Some
+returns-in-Some g c =
+    held_makes c.args.station.now.config (call.Free c.args.obtain c.args.conditional) c.args.obtain c.args.requests.now c.args.task.now
+    refl (λ a. service.ReleaseLatch a.latch a.id c.args.conditional) c.in-Some.token c.freed.result c.release_latch.new.task refl
+    c.in-Some.is refl (served_with c.freed.ensures c.release_latch.ensures.served)
+
+pub returns-in-None : goal.returns-in-None
+returns-in-None g c =
+    unheld_makes c.args.station.now.config (call.Free c.args.obtain c.args.conditional) c.args.obtain c.args.requests.now c.args.task.now
+    refl c.in-None.is c.requires.rest

@@ -1,8 +1,6 @@
-use Rattle.std.proofs.Common.{◌≡◌, ◌*◌, length, map, ap, ◌∙◌}
-use Rattle.mv_calls.specs.Services as service
-use Rattle.mv_calls.specs.Waits.{wait}
+use Rattle.std.proofs.Common.{◌≡◌, length, map, ap, ◌∙◌}
 use Rattle.mv_script.specs.declared.answer.Answer.TheVariants as answer
-use Rattle.mv_script.specs.Answered.{done_or, slot_with, answer_to}
+use Rattle.mv_script.specs.Answered.{done_or, slot_with}
 use Rattle.mv_wait.specs.Answers.{wait_answer}
 use Rattle.mv_runscript.proofs.Seats.{given_back}
 use Rattle.mv_runscript.proofs.Served.{served_with}
@@ -10,14 +8,11 @@ use Rattle.mv_runscript.proofs.serving.wait_in.Goals as goal
 
 pub returns : goal.returns
 returns g c =
-    let config = c.args.station.now.config in
-    let ecbs = c.args.ecbs.now in
     let slots = c.truncate.new.self in
     let out = c.wait-outcome.new.out in
     let outcome = c.wait-outcome.result in
     let size : length out ≡ length slots.items = c.wait-outcome.auto.out ∙ ap length c.deref_mut.ensures.value in
-    served_with (2 * length ecbs) (wait config c.args.count ecbs) (answer_to (service.Wait c.args.count ecbs)) (wait_answer outcome out)
-    c.waited.result c.args.task.now c.wait-outcome.new.task
+    served_with
     (c.waited.ensures ∙ ap (λ s. done_or (λ found. answer.Waited (map slot_with found)) (wait_answer outcome s))
     (given_back slots.len out slots.items size slots.ok.0))
     c.wait-outcome.ensures.served

@@ -1,19 +1,15 @@
-use Rattle.std.proofs.Common.{◌≡◌, Some, Ok, Err, refl, sym, ap, ◌∙◌, subst, arith}
+use Rattle.std.proofs.Common.{◌≡◌, Some, Ok, Err, refl, sym, ap, subst, arith}
 use Rattle.mv_calls.specs.Pauses.{try_release}
 use Rattle.mv_calls.specs.Services as service
 use Rattle.mv_element.specs.Element.{reset}
 use Rattle.mv_machine.specs.declared.entry.Object.TheVariants.{Element}
 use Rattle.mv_machine.specs.declared.packing.WordState.TheVariants as state
-use Rattle.mv_machine.specs.Packing.{pack}
 use Rattle.mv_machine.proofs.Words.{packed_unpacks}
 use Rattle.mv_pause.specs.Answers.{reached}
 use Rattle.mv_pause.specs.Releasing.{HasNoPause, IsTried}
 use Rattle.mv_wait.specs.Run.{IsServed}
-use Rattle.mv_pause.specs.declared.releasing.ReleaseAnswer.TheVariants.{Early}
 use Rattle.mv_script.specs.declared.answer.Answer.TheVariants as answer
 use Rattle.mv_script.specs.declared.call.Call.TheVariants as call
-use Rattle.mv_script.specs.Answered.{answer_to}
-use Rattle.mv_script.specs.Costs.{reset_at}
 use Rattle.mv_runscript.specs.Served.{Serves}
 use Rattle.mv_runscript.proofs.Makes.{plain_makes, missed_makes}
 use Rattle.mv_runscript.proofs.Served.{served_with}
@@ -24,9 +20,7 @@ try_release-requires-clause-unpaused c =
     let token = c.args.token in
     let place = c.args.place in
     let low = c.requires.generation in
-    let word : c.pack-reset.result ≡ reset_at token.generation place =
-    c.pack-reset.ensures ∙ ap (λ s. pack place (state.Element s)) c.reset.ensures in
-    subst (HasNoPause token.element) (sym word) (record {
+    subst (HasNoPause token.element) (sym c.reset_at-reset.ensures) (record {
       place = place;
       state = reset token.generation;
       unpacks = packed_unpacks (Element token.element) place (state.Element (reset token.generation)) (omega arith, omega arith);
@@ -40,24 +34,16 @@ returns-in-Ok-Early c tokens =
     let code = c.args.code in
     let t = c.args.task.now in
     let u = c.try_release.new.task in
-    let word : c.pack-reset.result ≡ reset_at token.generation c.args.place =
-    c.pack-reset.ensures ∙ ap (λ s. pack c.args.place (state.Element s)) c.reset.ensures in
-    plain_makes config (call.TryRelease token c.args.place code) (call.TryRelease token c.args.place code) answer.Early tokens t u
-    refl refl refl
-    (subst (λ w. Serves config (service.TryRelease token w code) answer.Early t u) word
-    (served_with 1 (try_release token c.pack-reset.result code) (answer_to (service.TryRelease token c.pack-reset.result code))
-    (Ok (reached Early)) answer.Early t u refl
-    (subst (λ r. IsServed 1 (try_release token c.pack-reset.result code) (λ a. a ≡ Ok (reached r)) t u) c.in-Ok-Early.field-0-is
+    plain_makes (call.TryRelease token c.args.place code) refl refl refl
+    (subst (λ w. Serves config (service.TryRelease token w code) answer.Early t u) c.reset_at-reset.ensures
+    (served_with refl
+    (subst (λ r. IsServed 1 (try_release token c.reset_at-reset.result code) (λ a. a ≡ Ok (reached r)) t u) c.in-Ok-Early.field-0-is
     c.in-Ok-Early.ensures.served)))
 
 pub returns-in-Err-Moved : goal.returns-in-Err-Moved
 returns-in-Err-Moved c tokens =
-    let config = c.args.station.now.config in
     let token = c.args.token in
-    let t = c.args.task.now in
-    let u = c.try_release.new.task in
-    let word : c.pack-reset.result ≡ reset_at token.generation c.args.place =
-    c.pack-reset.ensures ∙ ap (λ s. pack c.args.place (state.Element s)) c.reset.ensures in
-    missed_makes config (call.TryRelease token c.args.place c.args.code) (Element token.element) c.pack-reset.result
-    (record { 0 = c.in-Err-Moved.word }) tokens t u (ap (λ w. Some (Element token.element, w)) (sym word)) c.requires.rest
-    (subst (λ e. IsTried token c.pack-reset.result c.args.code t (Err e) u) c.in-Err-Moved.field-0-is c.in-Err-Moved.ensures.causes)
+    missed_makes {moved = record { 0 = c.in-Err-Moved.word }} (ap (λ w. Some (Element token.element, w)) (sym c.reset_at-reset.ensures))
+    c.requires.rest
+    (subst (λ e. IsTried token c.reset_at-reset.result c.args.code c.args.task.now (Err e) c.try_release.new.task)
+    c.in-Err-Moved.field-0-is c.in-Err-Moved.ensures.causes)

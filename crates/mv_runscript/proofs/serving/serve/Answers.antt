@@ -1,0 +1,69 @@
+use Rattle.std.proofs.Common.{refl}
+use Rattle.mv_script.specs.declared.call.Call.TheVariants as call
+use Rattle.mv_runscript.proofs.Makes.{plain_makes}
+use Rattle.mv_runscript.proofs.Served.{served_with, served_post}
+use Rattle.mv_runscript.proofs.serving.serve.Goals as goal
+
+pub returns-in-Post : goal.returns-in-Post
+returns-in-Post g c =
+    plain_makes (call.Post c.in-Post.ecb c.in-Post.code) c.in-Post.is refl refl
+    (served_post c.posted.ensures c.post.ensures.served)
+
+pub returns-in-Clear : goal.returns-in-Clear
+returns-in-Clear g c =
+    plain_makes (call.Clear c.in-Clear.ecb) c.in-Clear.is refl refl
+    (served_with c.cleared.ensures c.clear.ensures.served)
+
+pub returns-in-Extend : goal.returns-in-Extend
+returns-in-Extend g c =
+    plain_makes (call.Extend c.in-Extend.ecb c.in-Extend.exit) c.in-Extend.is refl refl
+    (served_with c.extended.ensures c.extend.ensures.served)
+
+pub returns-in-Test : goal.returns-in-Test
+returns-in-Test g c = plain_makes (call.Test c.in-Test.ecb) c.in-Test.is refl refl (served_with refl c.test_ecb.ensures.served)
+
+pub returns-in-Read : goal.returns-in-Read
+returns-in-Read g c = plain_makes (call.Read c.in-Read.volume) c.in-Read.is refl refl (served_with refl c.read_volume.ensures.served)
+
+pub returns-in-Write : goal.returns-in-Write
+returns-in-Write g c =
+    plain_makes (call.Write c.in-Write.volume c.in-Write.number) c.in-Write.is refl refl
+    (served_with refl c.write_volume.ensures.served)
+
+pub returns-in-Alloc : goal.returns-in-Alloc
+returns-in-Alloc g c = plain_makes call.Alloc c.in-Alloc.is refl refl (served_with c.allocated.ensures c.allocate.ensures.served)
+
+pub returns-in-Pause : goal.returns-in-Pause
+returns-in-Pause g c =
+    plain_makes (call.Pause c.in-Pause.token) c.in-Pause.is refl refl
+    (served_with c.paused.ensures c.pause.ensures.served)
+
+pub returns-in-Release : goal.returns-in-Release
+returns-in-Release g c =
+    plain_makes (call.Release c.in-Release.token c.in-Release.code) c.in-Release.is refl refl
+    (served_with c.released.ensures c.release.ensures.served)
+
+pub returns-in-Transfer : goal.returns-in-Transfer
+returns-in-Transfer g c =
+    plain_makes (call.Transfer c.in-Transfer.current c.in-Transfer.target c.in-Transfer.code) c.in-Transfer.is refl refl
+    (served_with c.transferred.ensures c.transfer.ensures.served)
+
+pub returns-in-Dealloc : goal.returns-in-Dealloc
+returns-in-Dealloc g c =
+    plain_makes (call.Dealloc c.in-Dealloc.token) c.in-Dealloc.is refl refl
+    (served_with c.deallocated.ensures c.deallocate.ensures.served)
+
+pub returns-in-TestElement : goal.returns-in-TestElement
+returns-in-TestElement g c =
+    plain_makes (call.TestElement c.in-TestElement.element) c.in-TestElement.is refl refl
+    (served_with refl c.test_element.ensures.served)
+
+pub returns-in-Purge : goal.returns-in-Purge
+returns-in-Purge g c =
+    plain_makes (call.Purge c.in-Purge.requestor) c.in-Purge.is refl refl
+    (served_with c.purged.ensures c.purge.ensures.served)
+
+pub returns-in-EndTask : goal.returns-in-EndTask
+returns-in-EndTask g c =
+    plain_makes (call.EndTask c.in-EndTask.requestor c.in-EndTask.mother c.in-EndTask.code) c.in-EndTask.is refl refl
+    (served_with c.purged-in-EndTask.ensures c.end_of_task.ensures.served)
