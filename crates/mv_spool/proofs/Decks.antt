@@ -1,19 +1,21 @@
 -- Decks that are sound, job by job, and their configuration.
 use Rattle.std.proofs.Common.{◌≡◌, ℕ, zero, suc, ◌+◌, ◌-◌, ◌*◌, ◌<◌, ◌≤◌, List, [], ◌∷◌, ◌++◌, length, get_or, sym, ap, ◌∙◌}
-use Rattle.std.proofs.Common.{subst, arith}
+use Rattle.std.proofs.Common.{arith}
 use Rattle.std.specs.List.{AllByRecursion}
 use Rattle.std.proofs.lemmas.List.{length-append, length-map, get_or-map}
 use Rattle.mv_deck.specs.declared.deck.After.{After}
 use Rattle.mv_deck.specs.declared.deck.Job.{Job}
 use Rattle.mv_deck.specs.declared.deck.Step.{Step}
 use Rattle.mv_deck.specs.Deck.{JobData, job_data}
+use Rattle.mv_deck.specs.Operand.{most_after}
 use Rattle.mv_deck.specs.Sound.{IsSound, IsSoundJob, IsSoundAfter, AreSoundJobs, AreSoundSteps, HasGoodNumbers}
 use Rattle.mv_machine.specs.Reach.{reach, release_cost}
 use Rattle.mv_machine.specs.Setup.{Setup, element_owner}
 use Rattle.mv_plan.specs.Jobs.{job_at, no_job}
 use Rattle.mv_plan.specs.SpoolSetup.{spool_setup, entered, idle}
 use Rattle.mv_plan.proofs.deck.Setup.{facts}
-use Rattle.mv_spool.specs.Parts.{jobs_of}
+use Rattle.mv_spool.specs.Limits.{jobs_limit}
+use Rattle.mv_spool.specs.Parts.{HasInitiator, jobs_of}
 use Rattle.mv_spool.proofs.Reaches.{block_count, reach_alone, reach_done, release_cost_is}
 
 -- ---- jobs
@@ -22,7 +24,7 @@ pub job_count : (deck : List Job) → length (jobs_of deck) ≡ length deck
 job_count deck = length-map deck job_data
 
 -- codes can name them
-pub few_jobs : (deck : List Job) (i : ℕ) → IsSound (jobs_of deck) i → length deck ≤ 65535
+pub few_jobs : (deck : List Job) (i : ℕ) → IsSound (jobs_of deck) i → length deck ≤ jobs_limit
 few_jobs deck i sound = let light = sound.light in let n = job_count deck in omega arith
 
 -- the job of a number
@@ -39,27 +41,28 @@ sound_behind before (job ∷ jobs) (suc j) d sound lt =
     let count = rest.1 in
     let one = length-append before (job ∷ []) in (rest.0, omega arith, rest.2)
 
-sound_job : (deck : List Job) (i j : ℕ) (job : Job) → IsSound (jobs_of deck) i → j < length deck → get_or deck j job ≡ job
-    → (earlier : List JobData) × (length earlier ≡ j) × IsSoundJob earlier (job_data job)
-sound_job deck i j job sound lt is =
+-- and so is the job of a number
+sound_job : (deck : List Job) (i j : ℕ) → IsSound (jobs_of deck) i → j < length deck
+    → (earlier : List JobData) × (length earlier ≡ j) × IsSoundJob earlier (job_at (jobs_of deck) j)
+sound_job deck i j sound lt =
     let n = job_count deck in
     let at = sound_behind [] (jobs_of deck) j no_job sound.jobs_stand (omega arith) in
-    let count : length at.0 ≡ 0 + j = at.1 in
-    (at.0, omega arith, subst (λ (k : JobData). IsSoundJob at.0 k) (job_read deck j job lt is) at.2)
+    let count : length at.0 ≡ 0 + j = at.1 in (at.0, omega arith, at.2)
 
 good_numbers : (done steps : List Step) → AreSoundSteps done steps → AllByRecursion HasGoodNumbers steps
 good_numbers done [] sound = tt
 good_numbers done (step ∷ steps) sound = (sound.0.numbers, good_numbers (done ++ step ∷ []) steps sound.1)
 
 -- the numbers of its steps are in their ranges
-pub job_numbers : (deck : List Job) (i j : ℕ) (job : Job) → IsSound (jobs_of deck) i → j < length deck → get_or deck j job ≡ job
-    → AllByRecursion HasGoodNumbers job.steps.items
-job_numbers deck i j job sound lt is = let own = sound_job deck i j job sound lt is in good_numbers [] job.steps.items own.2.steps
+pub job_numbers : (deck : List Job) (i j : ℕ) → IsSound (jobs_of deck) i → j < length deck
+    → AllByRecursion HasGoodNumbers (job_at (jobs_of deck) j).steps
+job_numbers deck i j sound lt =
+    let own = sound_job deck i j sound lt in good_numbers [] (job_at (jobs_of deck) j).steps own.2.steps
 
--- it waits for at most eight jobs
-pub after_few : (deck : List Job) (i j : ℕ) (job : Job) → IsSound (jobs_of deck) i → j < length deck → get_or deck j job ≡ job
-    → length job.after.items ≤ 8
-after_few deck i j job sound lt is = let own = sound_job deck i j job sound lt is in own.2.few
+-- it waits for few jobs
+pub after_few : (deck : List Job) (i j : ℕ) → IsSound (jobs_of deck) i → j < length deck
+    → length (job_at (jobs_of deck) j).after ≤ most_after
+after_few deck i j sound lt = let own = sound_job deck i j sound lt in own.2.few
 
 each_earlier : (m n : ℕ) (parts : List After) → m ≤ n → AllByRecursion (IsSoundAfter m) parts
     → AllByRecursion (λ (part : After). part.job < n) parts
@@ -67,11 +70,11 @@ each_earlier m n [] le all = tt
 each_earlier m n (part ∷ parts) le all = (let lt = all.0.0 in omega arith, each_earlier m n parts le all.1)
 
 -- of the deck
-pub after_earlier : (deck : List Job) (i j : ℕ) (job : Job) → IsSound (jobs_of deck) i → j < length deck → get_or deck j job ≡ job
-    → AllByRecursion (λ (part : After). part.job < length deck) job.after.items
-after_earlier deck i j job sound lt is =
-    let own = sound_job deck i j job sound lt is in
-    let count = own.1 in each_earlier (length own.0) (length deck) job.after.items (omega arith) own.2.earlier
+pub after_earlier : (deck : List Job) (i j : ℕ) → IsSound (jobs_of deck) i → j < length deck
+    → AllByRecursion (λ (part : After). part.job < length deck) (job_at (jobs_of deck) j).after
+after_earlier deck i j sound lt =
+    let own = sound_job deck i j sound lt in
+    let count = own.1 in each_earlier (length own.0) (length deck) (job_at (jobs_of deck) j).after (omega arith) own.2.earlier
 
 -- ---- the configuration
 
@@ -81,6 +84,12 @@ module _ (deck : List Job) (i : ℕ) (c : Setup) (is : c ≡ spool_setup (jobs_o
       let count : length c.owners ≡ 4 * length (jobs_of deck) + i = ap (λ (s : Setup). length s.owners) is
       ∙ block_count (length (jobs_of deck)) i in
       let n = job_count deck in omega arith
+
+  -- there is each initiator
+  pub has_initiator : (k : ℕ) → k < i → HasInitiator c (length deck) k
+  has_initiator k lt =
+      let callers : c.callers ≡ i + 3 = ap (λ (s : Setup). s.callers) is in
+      (block_exists (4 * length deck + k) (omega arith), omega arith, ap (λ (s : Setup). s.elements_per_caller) is)
 
   -- a post that enters a job leads no further
   pub reach_entered : (j : ℕ) → j < length deck → reach c (entered j) ≡ 1

@@ -1,52 +1,44 @@
--- How the scheduler hands out one job, call by call. Used by dispatch, hand_over and dismiss.
-use Rattle.std.proofs.Common.{◌≡◌, ℕ, ◌+◌, Bool, List, [], ◌∷◌, map, Ok, Err, refl, sym, subst}
+-- How the scheduler hands out one job, call by call, and then all. Used by dispatch, hand_over, dismiss and schedule.
+use Rattle.std.proofs.Common.{◌≡◌, ℕ, ◌+◌, ◌-◌, ◌<◌, Bool, List, [], ◌∷◌, length, map, drop, Ok, Err, refl, sym, subst}
 use Rattle.std.specs.List.{range_with_len}
+use Rattle.std.proofs.lemmas.List.{drop_more}
 use Rattle.mv_board.specs.Faces.{CallerFace}
 use Rattle.mv_machine.specs.Setup.{Setup}
 use Rattle.mv_calls.specs.Pauses.{Reached, token_of, release}
-use Rattle.mv_calls.specs.Program.{Call, Done, Wrong, accepted, finished, wrong, unrefused}
+use Rattle.mv_calls.specs.Program.{Call, Done, Wrong, accepted, finished, followed, for_each, unrefused}
 use Rattle.mv_calls.specs.Refusal.{Refusal}
 use Rattle.mv_calls.specs.Waits.{clear, extend}
 use Rattle.mv_deck.specs.Deck.{JobData}
+use Rattle.mv_plan.specs.Jobs.{job_at, no_job}
 use Rattle.mv_plan.specs.SpoolSetup.{idle, done, entered, initiator}
-use Rattle.mv_plan.specs.SpoolTasks.{hand_over, dispatch, dismiss, code_of, ends_awaited, first_of}
+use Rattle.mv_plan.specs.SpoolTasks.{scheduling, hand_over, dispatch_all, dispatch, dismiss, code_of, ends_awaited, first_of}
 use Rattle.mv_wait.specs.Run.{IsServed}
 use Rattle.mv_spool.specs.Parts.{first, all_ends}
-use Rattle.mv_spool.specs.Ran.{Ran, Leads}
+use Rattle.mv_spool.specs.Ran.{Ran, RanOut, Leads}
 use Rattle.mv_spool.proofs.Parts.{leads_first, leads_unfound, ends_then}
-use Rattle.mv_spool.proofs.Runs.{ran_followed, ran_nothing, leads_all, leads_on, leads_astray, leads_wrong, served_as}
+use Rattle.mv_spool.proofs.Runs.{ran_followed, ran_last, leads_all, leads_on, leads_last, leads_astray, out_wrong, served_as}
 
 -- ---- an idle initiator is handed a code
 
-module _ (c : Setup) (n code i generation : ℕ) (t : CallerFace) where
-  abbrev released : Call (Unit {0})
-  released = accepted (release (token_of (initiator i) generation) code) (λ (reached : Reached). finished tt)
+module _ (c : Setup) (n code i generation : ℕ) where
+  abbrev released : ℕ → Call (Unit {0})
+  released word = accepted (release (token_of (initiator i) generation) code) (λ (reached : Reached). finished tt)
 
-  pub not_cleared : (why : Refusal) (u : CallerFace) → IsServed 1 (clear c (idle n i)) (λ a. a ≡ Err why) t u
+  pub not_cleared : {why : Refusal} {t u : CallerFace} → IsServed 1 (clear c (idle n i)) (λ a. a ≡ Err why) t u
       → Ran (hand_over c n code i generation) Wrong t u
-  not_cleared why u s =
-      let r = served_as 1 (clear c (idle n i)) (Err why) t u s in
-      ran_followed (clear c (idle n i)) (unrefused (λ (word : ℕ). released)) (Err why) Wrong t u u r
-      (ran_nothing wrong Wrong u refl r.quiet)
+  not_cleared s = ran_last (served_as s) (unrefused released) refl
 
-  module _ (word : ℕ) (u v : CallerFace) (s : IsServed 1 (clear c (idle n i)) (λ a. a ≡ Ok word) t u) where
-    pub handed : (reached : Reached) → IsServed 1 (release (token_of (initiator i) generation) code) (λ a. a ≡ Ok reached) u v
-        → Ran (hand_over c n code i generation) (Done tt) t v
-    handed reached x =
-        let r = served_as 1 (release (token_of (initiator i) generation) code) (Ok reached) u v x in
-        ran_followed (clear c (idle n i)) (unrefused (λ (word : ℕ). released)) (Ok word) (Done tt) t u v
-        (served_as 1 (clear c (idle n i)) (Ok word) t u s)
-        (ran_followed (release (token_of (initiator i) generation) code) (unrefused (λ (reached : Reached). finished tt)) (Ok reached)
-        (Done tt) u v v r (ran_nothing (finished tt) (Done tt) v refl r.quiet))
+  pub handed : {word : ℕ} {reached : Reached} {t u v : CallerFace} → IsServed 1 (clear c (idle n i)) (λ a. a ≡ Ok word) t u
+      → IsServed 1 (release (token_of (initiator i) generation) code) (λ a. a ≡ Ok reached) u v
+      → Ran (hand_over c n code i generation) (Done tt) t v
+  handed s x = ran_followed (served_as s) (unrefused released)
+      (ran_last (served_as x) (unrefused (λ (reached : Reached). finished tt)) refl)
 
-    pub not_handed : (why : Refusal) → IsServed 1 (release (token_of (initiator i) generation) code) (λ a. a ≡ Err why) u v
-        → Ran (hand_over c n code i generation) Wrong t v
-    not_handed why x =
-        let r = served_as 1 (release (token_of (initiator i) generation) code) (Err why) u v x in
-        ran_followed (clear c (idle n i)) (unrefused (λ (word : ℕ). released)) (Ok word) Wrong t u v
-        (served_as 1 (clear c (idle n i)) (Ok word) t u s)
-        (ran_followed (release (token_of (initiator i) generation) code) (unrefused (λ (reached : Reached). finished tt)) (Err why)
-        Wrong u v v r (ran_nothing wrong Wrong v refl r.quiet))
+  pub not_handed : {word : ℕ} {why : Refusal} {t u v : CallerFace} → IsServed 1 (clear c (idle n i)) (λ a. a ≡ Ok word) t u
+      → IsServed 1 (release (token_of (initiator i) generation) code) (λ a. a ≡ Err why) u v
+      → Ran (hand_over c n code i generation) Wrong t v
+  not_handed s x = ran_followed (served_as s) (unrefused released)
+      (ran_last (served_as x) (unrefused (λ (reached : Reached). finished tt)) refl)
 
 -- ---- one job
 
@@ -79,47 +71,76 @@ module _ (c : Setup) (n initiators j : ℕ) (job : JobData) (t : CallerFace) whe
   abbrev pub ChosenLeft : Bool → ℕ × ℕ → CallerFace → Type 0
   ChosenLeft skipped r u = Leads whole (handing skipped r.0 r.1) t u
 
-  pub has_entered : (r : ℕ × ℕ) (u : CallerFace) → Ran (first c (entered j ∷ [])) (Done r) t u → EnteredLeft u
-  has_entered r u x = leads_first whole c (entered j ∷ []) awaiting r t t u (leads_all whole t) x
+  pub has_entered : {r : ℕ × ℕ} {u : CallerFace} → Ran (first c (entered j ∷ [])) (Done r) t u → EnteredLeft u
+  has_entered x = leads_first c (entered j ∷ []) awaiting (leads_all whole t) x
 
-  pub not_entered : (u : CallerFace) → Ran (first c (entered j ∷ [])) Wrong t u → Ran whole Wrong t u
-  not_entered u x = leads_unfound whole c (entered j ∷ []) awaiting t t u (leads_all whole t) x
+  pub not_entered : {u : CallerFace} → Ran (first c (entered j ∷ [])) Wrong t u → Ran whole Wrong t u
+  not_entered x = leads_unfound c (entered j ∷ []) awaiting (leads_all whole t) x
 
-  module _ (u v : CallerFace) where
-    pub ends_known : (skipped : Bool) → EnteredLeft u → Ran (all_ends c n job.after) (Done skipped) u v → AwaitedLeft skipped v
-    ends_known skipped k x = leads_on whole (all_ends c n job.after) extending skipped t u v
-        (subst (λ call. Leads whole call t u) (sym (ends_then c n job.after extending)) k) x
+  awaited_then : {u : CallerFace} → EnteredLeft u → Leads whole (followed (all_ends c n job.after) extending) t u
+  awaited_then {u} k = subst (λ call. Leads whole call t u) (sym (ends_then c n job.after extending)) k
 
-    pub ends_unknown : EnteredLeft u → Ran (all_ends c n job.after) Wrong u v → Ran whole Wrong t v
-    ends_unknown k x = leads_astray whole (all_ends c n job.after) extending t u v
-        (subst (λ call. Leads whole call t u) (sym (ends_then c n job.after extending)) k) x
+  pub ends_known : {skipped : Bool} {u v : CallerFace} → EnteredLeft u → Ran (all_ends c n job.after) (Done skipped) u v
+      → AwaitedLeft skipped v
+  ends_known k x = leads_on extending (awaited_then k) x
 
-    pub has_extended : (skipped : Bool) → AwaitedLeft skipped u → IsServed 1 (extend c (done n j) (j + 1)) (λ a. a ≡ Ok tt) u v
+  pub ends_unknown : {u v : CallerFace} → EnteredLeft u → Ran (all_ends c n job.after) Wrong u v → Ran whole Wrong t v
+  ends_unknown k x = leads_astray extending (awaited_then k) x
+
+  module _ (skipped : Bool) where
+    abbrev choosing : Unit {0} → Call (Unit {0})
+    choosing linked = first_of c idles (handing skipped)
+
+    pub has_extended : {u v : CallerFace} → AwaitedLeft skipped u → IsServed 1 (extend c (done n j) (j + 1)) (λ a. a ≡ Ok tt) u v
         → ExtendedLeft skipped v
-    has_extended skipped k s = leads_on whole (extend c (done n j) (j + 1)) (unrefused (λ linked. first_of c idles (handing skipped)))
-        (Ok tt) t u v k (served_as 1 (extend c (done n j) (j + 1)) (Ok tt) u v s)
+    has_extended k s = leads_on (unrefused choosing) k (served_as s)
 
-    pub not_extended : (skipped : Bool) (why : Refusal) → AwaitedLeft skipped u
+    pub not_extended : {why : Refusal} {u v : CallerFace} → AwaitedLeft skipped u
         → IsServed 1 (extend c (done n j) (j + 1)) (λ a. a ≡ Err why) u v → Ran whole Wrong t v
-    not_extended skipped why k s =
-        let r = served_as 1 (extend c (done n j) (j + 1)) (Err why) u v s in
-        leads_wrong whole t v
-        (leads_on whole (extend c (done n j) (j + 1)) (unrefused (λ linked. first_of c idles (handing skipped))) (Err why) t u v k r)
-        r.quiet
+    not_extended k s = leads_last (unrefused choosing) k (served_as s) refl
 
-    pub has_chosen : (skipped : Bool) (r : ℕ × ℕ) → ExtendedLeft skipped u → Ran (first c idles) (Done r) u v → ChosenLeft skipped r v
-    has_chosen skipped r k x = leads_first whole c idles (handing skipped) r t u v k x
+    pub has_chosen : {r : ℕ × ℕ} {u v : CallerFace} → ExtendedLeft skipped u → Ran (first c idles) (Done r) u v
+        → ChosenLeft skipped r v
+    has_chosen k x = leads_first c idles (handing skipped) k x
 
-    pub not_chosen : (skipped : Bool) → ExtendedLeft skipped u → Ran (first c idles) Wrong u v → Ran whole Wrong t v
-    not_chosen skipped k x = leads_unfound whole c idles (handing skipped) t u v k x
+    pub not_chosen : {u v : CallerFace} → ExtendedLeft skipped u → Ran (first c idles) Wrong u v → Ran whole Wrong t v
+    not_chosen k x = leads_unfound c idles (handing skipped) k x
 
 -- ---- an initiator is dismissed
 
-module _ (c : Setup) (n i : ℕ) (t u : CallerFace) where
-  pub dismissing : (r : ℕ × ℕ) → Ran (first c (idle n i ∷ [])) (Done r) t u → Leads (dismiss c n i) (hand_over c n 0 i r.1) t u
-  dismissing r x = leads_first (dismiss c n i) c (idle n i ∷ []) (λ position generation. hand_over c n 0 i generation) r t t u
-      (leads_all (dismiss c n i) t) x
+module _ (c : Setup) (n i : ℕ) {t u : CallerFace} where
+  pub dismissing : {r : ℕ × ℕ} → Ran (first c (idle n i ∷ [])) (Done r) t u → Leads (dismiss c n i) (hand_over c n 0 i r.1) t u
+  dismissing x = leads_first c (idle n i ∷ []) (λ position generation. hand_over c n 0 i generation) (leads_all (dismiss c n i) t) x
 
   pub not_idle : Ran (first c (idle n i ∷ [])) Wrong t u → Ran (dismiss c n i) Wrong t u
-  not_idle x = leads_unfound (dismiss c n i) c (idle n i ∷ []) (λ position generation. hand_over c n 0 i generation) t t u
-      (leads_all (dismiss c n i) t) x
+  not_idle x = leads_unfound c (idle n i ∷ []) (λ position generation. hand_over c n 0 i generation) (leads_all (dismiss c n i) t) x
+
+-- ---- all jobs are handed out, and then the initiators are dismissed
+
+module _ (c : Setup) (deck : List JobData) (i : ℕ) (t : CallerFace) where
+  -- the end of the scheduler's work
+  abbrev dismissals : Call (List ℕ)
+  dismissals = for_each (range_with_len 0 i) (dismiss c (length deck)) (finished [])
+
+  -- what is left to do from job j on
+  abbrev pub JobsLeft : ℕ → CallerFace → Type 0
+  JobsLeft j u = Leads (scheduling c i deck) (dispatch_all c (length deck) i j (drop j deck) dismissals) t u
+
+  -- and from the dismissal of initiator m on
+  abbrev pub DismissalsLeft : ℕ → CallerFace → Type 0
+  DismissalsLeft m u = Leads (scheduling c i deck) (for_each (range_with_len m (i - m)) (dismiss c (length deck)) (finished [])) t u
+
+  -- what follows the dispatch of job j
+  abbrev jobs_then : ℕ → Unit {0} → Call (List ℕ)
+  jobs_then j dispatched = dispatch_all c (length deck) i (j + 1) (drop (j + 1) deck) dismissals
+
+  module _ (j : ℕ) {u : CallerFace} (lt : j < length deck) (left : JobsLeft j u) where
+    next_job : Leads (scheduling c i deck) (followed (dispatch c (length deck) i j (job_at deck j)) (jobs_then j)) t u
+    next_job = subst (λ js. Leads (scheduling c i deck) (dispatch_all c (length deck) i j js dismissals) t u)
+        (drop_more deck j no_job lt) left
+
+    pub job_dispatched : {v : CallerFace} → Ran (dispatch c (length deck) i j (job_at deck j)) (Done tt) u v → JobsLeft (j + 1) v
+    job_dispatched x = leads_on (jobs_then j) next_job x
+
+    pub not_dispatched : {v : CallerFace} → Ran (dispatch c (length deck) i j (job_at deck j)) Wrong u v → RanOut (scheduling c i deck) t v
+    not_dispatched x = out_wrong (leads_astray (jobs_then j) next_job x)

@@ -5,14 +5,14 @@ pub mod Parts
 -- the configuration, and sound decks
 pub mod Reaches
 pub mod Decks
--- loops over numbers and over a job's AFTER list
+-- calls for each number of a range; loops over numbers and over a job's AFTER list
 pub mod Ranges
--- dispatch, hand_over, dismiss
+-- dispatch, hand_over, dismiss, schedule
 pub mod Dispatching
 -- do_step, run_steps
 pub mod Steps
 -- initiate
-pub mod Turns
+pub mod Rounds
 -- work
 pub mod Tasks
 -- run_deck: from what each task has made to the run that they made together

@@ -1,10 +1,12 @@
--- Loops over numbers, and over the AFTER list of a job. Used by end_blocks, idle_blocks, some_above, await_ends and the loops of
--- the tasks.
+-- Calls for each number of a range, loops over numbers, and over the AFTER list of a job. Used by end_blocks, idle_blocks,
+-- some_above, await_ends and the loops of the tasks.
 use Rattle.std.proofs.Common.{◌≡◌, ℕ, zero, suc, ◌+◌, ◌-◌, ◌*◌, ◌<◌, ◌≤◌, ◌==◌, ◌||◌, Bool, true, false, List, [], ◌∷◌, length, map, take}
 use Rattle.std.proofs.Common.{drop}
-use Rattle.std.proofs.Common.{get_or, refl, ap, ◌∙◌, arith}
+use Rattle.std.proofs.Common.{get_or, refl, ap, ◌∙◌, subst, arith}
 use Rattle.std.specs.List.{AllByRecursion, range_with_len}
 use Rattle.std.proofs.lemmas.List.{drop_more, drop_all}
+use Rattle.mv_board.specs.Faces.{CallerFace}
+use Rattle.mv_calls.specs.Program.{Call, Done, Wrong, followed, for_each}
 use Rattle.mv_deck.specs.declared.deck.After.{After}
 use Rattle.mv_plan.specs.SpoolSetup.{idle}
 use Rattle.mv_plan.specs.SpoolTasks.{ends_of, some_end_above}
@@ -12,6 +14,8 @@ use Rattle.mv_wait.specs.Answers.{slot_of, slots_of}
 use Rattle.mv_wait.specs.declared.waiting.WaitSlot.{WaitSlot}
 use Rattle.mv_wait.specs.declared.waiting.WaitSlot.TheVariants.{Complete, Open}
 use Rattle.mv_spool.specs.Parts.{is_end_above}
+use Rattle.mv_spool.specs.Ran.{Ran, Leads}
+use Rattle.mv_spool.proofs.Runs.{leads_on, leads_astray}
 
 range_when : (a n m : ℕ) → n ≡ suc m → range_with_len a n ≡ a ∷ range_with_len (a + 1) m
 range_when a n m e = ap (λ k. range_with_len a k) e
@@ -22,6 +26,28 @@ range_next a n lt = range_when a (n - a) (n - (a + 1)) (omega arith)
 
 pub range_over : (a n : ℕ) → n ≤ a → range_with_len a (n - a) ≡ []
 range_over a n le = ap (λ k. range_with_len a k) (let e : n - a ≡ 0 = omega arith in e)
+
+-- ---- a call for each number of a range
+
+module _ {A B : Type 0} {whole : Call B} {t u : CallerFace} (f : ℕ → Call A) (last : Call B) (m n : ℕ)
+    (left : Leads whole (for_each (range_with_len m (n - m)) f last) t u) where
+  next_left : m < n → Leads whole (followed (f m) (λ a. for_each (range_with_len (m + 1) (n - (m + 1))) f last)) t u
+  next_left lt = subst (λ ms. Leads whole (for_each ms f last) t u) (range_next m n lt) left
+
+  -- that of the next number was done
+  pub next_done : {a : A} {v : CallerFace} → m < n → Ran (f m) (Done a) u v
+      → Leads whole (for_each (range_with_len (m + 1) (n - (m + 1))) f last) t v
+  next_done lt x = leads_on (λ a. for_each (range_with_len (m + 1) (n - (m + 1))) f last) (next_left lt) x
+
+  -- and went astray
+  pub next_astray : {v : CallerFace} → m < n → Ran (f m) Wrong u v → Ran whole Wrong t v
+  next_astray lt x = leads_astray (λ a. for_each (range_with_len (m + 1) (n - (m + 1))) f last) (next_left lt) x
+
+  -- no number is left
+  pub last_left : n ≤ m → Leads whole last t u
+  last_left le = subst (λ ms. Leads whole (for_each ms f last) t u) (range_over m n le) left
+
+-- ---- lists by their numbers
 
 -- the front of a list, number by number
 pub taken_is : (f : ℕ → ℕ) (a n : ℕ) (xs : List ℕ) → n ≤ length xs → ((k : ℕ) → k < n → get_or xs k 0 ≡ f (a + k))
@@ -91,6 +117,3 @@ module _ (after : List After) (slots : List WaitSlot) (k : ℕ) (d : After) (e :
 pub none_above : (after : List After) (slots : List WaitSlot) (k : ℕ) → length after ≤ k
     → some_end_above (drop k after) (slots_of (drop k slots)) ≡ false
 none_above after slots k le = ap (λ ps. some_end_above ps (slots_of (drop k slots))) (drop_all k after le)
-
-pub below_last : (turn n : ℕ) → turn ≤ n → (turn ≡ n → ⊥) → turn < n
-below_last turn n le other = omega arith

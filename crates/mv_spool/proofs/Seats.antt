@@ -73,7 +73,7 @@ module _ (deck : List JobData) (i n : ℕ) (b : BoardFace) (old new : List Seat)
   worked_in_order = in_order b 0 new (λ k d lt.
       let was = (ready k d (omega arith)).fresh in
       let ran = worked k d (omega arith) in (
-        still_of b (task_of (get_or old k d)) (task_of (get_or new k d)) was.board ran.ran.went.same,
+        still_of b was.board ran.ran.went.same,
         ran.ran.went.same.number ∙ was.number ∙ (let e : k ≡ 0 + k = omega arith in e),
       ))
 

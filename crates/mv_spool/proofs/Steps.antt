@@ -1,7 +1,7 @@
 -- The steps of a job, one by one. Used by do_step.
 use Rattle.std.proofs.Common.{◌≡◌, ℕ, ◌+◌, ◌^◌, ◌<◌, ◌≤◌, ◌==◌, nat_lt, Bool, true, false, List, ◌∷◌, length, get_or, set, Option}
 use Rattle.std.proofs.Common.{Some, None}
-use Rattle.std.proofs.Common.{option_map, Ok, Err, refl, sym, ap, ◌∙◌, subst, if◌then◌else◌, arith}
+use Rattle.std.proofs.Common.{option_map, Result, Ok, Err, refl, sym, ap, ◌∙◌, subst, if◌then◌else◌, arith}
 use Rattle.std.proofs.lemmas.Bool.{eq-eqb, eqb-true, lt-ltb, ltb-true}
 use Rattle.std.proofs.lemmas.List.{get_or-set_same, get_or-set_other, length-set}
 use Rattle.mv_board.specs.Faces.{CallerFace}
@@ -9,6 +9,7 @@ use Rattle.mv_latch.specs.declared.request.LatchForm.TheVariants.{Waiting}
 use Rattle.mv_latch.specs.declared.request.Mode.{Mode}
 use Rattle.mv_machine.specs.Setup.{Setup}
 use Rattle.mv_machine.specs.System.{with_at}
+use Rattle.mv_calls.specs.Keeping.{kept_of}
 use Rattle.mv_calls.specs.LatchCalls.{GrantedAs, PendingAs, obtain, release_latch}
 use Rattle.mv_calls.specs.Program.{Call, Done, Wrong, followed, accepted, unrefused, finished, wrong}
 use Rattle.mv_calls.specs.Refusal.{Refusal}
@@ -23,7 +24,7 @@ use Rattle.mv_wait.specs.Run.{IsServed}
 use Rattle.mv_spool.specs.declared.lost.Lost.{Lost}
 use Rattle.mv_spool.specs.Ran.{Ran}
 use Rattle.mv_spool.specs.Steps.{AreKept, DoesStep, requests_of}
-use Rattle.mv_spool.proofs.Runs.{ran_followed, ran_nothing, served_as}
+use Rattle.mv_spool.proofs.Runs.{ran_followed, ran_last, ran_nothing, served_as}
 
 -- the number of a request
 abbrev pub id_of : LatchToken → ℕ
@@ -60,6 +61,10 @@ still_kept tokens latch token kept low is = record {
   by_case k t at false e = kept.own k t
       (sym (get_or-set_other tokens latch k (Some token) None (λ q. absurd (cc (sym e ∙ eq-eqb k latch q)))) ∙ at)
 
+-- the task is lost
+abbrev pub lost : Result (Option ℕ) Lost
+lost = Err (record {})
+
 module _ (c : Setup) (r : ℕ) (old : List (Option LatchToken)) (t : CallerFace) where
   -- what is left, behind a USE
   abbrev used : ℕ → List Step → ℕ → Call ℕ
@@ -72,96 +77,76 @@ module _ (c : Setup) (r : ℕ) (old : List (Option LatchToken)) (t : CallerFace)
   pub prints : (text : Text) → DoesStep c r (step.Print text) (Ok None) old old t t
   prints text steps q v x = x
 
-  pub granted : (latch : ℕ) (mode : Mode) (token : LatchToken) (u : CallerFace) → AreKept old → latch ≤ 7
+  pub granted : (latch : ℕ) (mode : Mode) (token : LatchToken) {u : CallerFace} → AreKept old → latch ≤ 7
       → IsServed 2 (obtain c latch r mode Waiting) (λ a. a ≡ Ok (GrantedAs token.id)) t u
       → DoesStep c r (step.Use latch mode) (Ok None) old (set old latch (Some token)) t u
-  granted latch mode token u kept low x steps q v y =
+  granted latch mode token {u} kept low x steps q v y =
       let count = kept.count in
-      ran_followed (obtain c latch r mode Waiting) (unrefused (granted_as (used latch steps))) (Ok (GrantedAs token.id)) q t u v
-      (served_as 2 (obtain c latch r mode Waiting) (Ok (GrantedAs token.id)) t u x)
+      ran_followed (served_as x) (unrefused (granted_as (used latch steps)))
       (subst (λ reqs. Ran (run_steps c r reqs steps) q u v) (kept_with old latch token (omega arith)) y)
 
-  pub pending : (latch : ℕ) (mode : Mode) (id : ℕ) (lost : Lost) (u : CallerFace)
-      → IsServed 2 (obtain c latch r mode Waiting) (λ a. a ≡ Ok (PendingAs id)) t u
-      → DoesStep c r (step.Use latch mode) (Err lost) old old t u
-  pending latch mode id lost u x steps =
-      let y = served_as 2 (obtain c latch r mode Waiting) (Ok (PendingAs id)) t u x in
-      ran_followed (obtain c latch r mode Waiting) (unrefused (granted_as (used latch steps))) (Ok (PendingAs id)) Wrong t u u y
-      (ran_nothing wrong Wrong u refl y.quiet)
+  pub pending : (latch : ℕ) (mode : Mode) (id : ℕ) {u : CallerFace}
+      → IsServed 2 (obtain c latch r mode Waiting) (λ a. a ≡ Ok (PendingAs id)) t u → DoesStep c r (step.Use latch mode) lost old old t u
+  pending latch mode id x steps = ran_last (served_as x) (unrefused (granted_as (used latch steps))) refl
 
-  pub refused : (latch : ℕ) (mode : Mode) (why : Refusal) (lost : Lost) (u : CallerFace)
-      → IsServed 2 (obtain c latch r mode Waiting) (λ a. a ≡ Err why) t u → DoesStep c r (step.Use latch mode) (Err lost) old old t u
-  refused latch mode why lost u x steps =
-      let y = served_as 2 (obtain c latch r mode Waiting) (Err why) t u x in
-      ran_followed (obtain c latch r mode Waiting) (unrefused (granted_as (used latch steps))) (Err why) Wrong t u u y
-      (ran_nothing wrong Wrong u refl y.quiet)
+  pub refused : (latch : ℕ) (mode : Mode) (why : Refusal) {u : CallerFace}
+      → IsServed 2 (obtain c latch r mode Waiting) (λ a. a ≡ Err why) t u → DoesStep c r (step.Use latch mode) lost old old t u
+  refused latch mode why x steps = ran_last (served_as x) (unrefused (granted_as (used latch steps))) refl
 
-  pub unheld : (latch : ℕ) (lost : Lost) → get_or old latch None ≡ None → IsAtRest t.log
-      → DoesStep c r (step.Free latch) (Err lost) old old t t
-  unheld latch lost none quiet steps =
-      subst (λ o. Ran (freed c latch o (rest steps)) Wrong t t) (sym (ap (λ o. option_map id_of o) none))
-      (ran_nothing wrong Wrong t refl quiet)
+  pub unheld : (latch : ℕ) → get_or old latch None ≡ None → IsAtRest t.log → DoesStep c r (step.Free latch) lost old old t t
+  unheld latch none quiet steps =
+      subst (λ o. Ran (freed c latch o (rest steps)) Wrong t t) (sym (ap (λ o. option_map id_of o) none)) (ran_nothing wrong refl quiet)
 
-  freed_is : (latch : ℕ) (token : LatchToken) (steps : List Step) → get_or old latch None ≡ Some token
-      → run_steps c r (requests_of old) (step.Free latch ∷ steps) ≡ accepted (release_latch c latch token.id false) (λ granted. rest steps)
-  freed_is latch token steps held = ap (λ o. freed c latch (option_map id_of o) (rest steps)) held
+  module _ (latch : ℕ) (token : LatchToken) (held : get_or old latch None ≡ Some token) (own : token.latch ≡ latch) where
+    freed_is : (steps : List Step)
+        → run_steps c r (requests_of old) (step.Free latch ∷ steps)
+        ≡ accepted (release_latch c latch token.id false) (λ granted. rest steps)
+    freed_is steps = ap (λ o. freed c latch (option_map id_of o) (rest steps)) held
 
-  pub frees : (most latch n : ℕ) (token : LatchToken) (u : CallerFace) → get_or old latch None ≡ Some token → token.latch ≡ latch
-      → IsServed most (release_latch c token.latch token.id false) (λ a. a ≡ Ok n) t u
-      → DoesStep c r (step.Free latch) (Ok None) old old t u
-  frees most latch n token u held own x steps q v y =
-      subst (λ call. Ran call q t v) (sym (freed_is latch token steps held))
-      (ran_followed (release_latch c latch token.id false) (unrefused (λ granted. rest steps)) (Ok n) q t u v
-      (subst (λ l. Ran (release_latch c l token.id false) (Done (Ok n)) t u) own
-      (served_as most (release_latch c token.latch token.id false) (Ok n) t u x)) y)
+    released : {most : ℕ} {a : Result ℕ Refusal} {u : CallerFace}
+        → IsServed most (release_latch c token.latch token.id false) (λ b. b ≡ a) t u
+        → Ran (release_latch c latch token.id false) (Done a) t u
+    released {most} {a} {u} x = subst (λ l. Ran (release_latch c l token.id false) (Done a) t u) own (served_as x)
 
-  pub unfreed : (most latch : ℕ) (why : Refusal) (token : LatchToken) (lost : Lost) (u : CallerFace)
-      → get_or old latch None ≡ Some token → token.latch ≡ latch
-      → IsServed most (release_latch c token.latch token.id false) (λ a. a ≡ Err why) t u
-      → DoesStep c r (step.Free latch) (Err lost) old old t u
-  unfreed most latch why token lost u held own x steps =
-      let y = served_as most (release_latch c token.latch token.id false) (Err why) t u x in
-      subst (λ call. Ran call Wrong t u) (sym (freed_is latch token steps held))
-      (ran_followed (release_latch c latch token.id false) (unrefused (λ granted. rest steps)) (Err why) Wrong t u u
-      (subst (λ l. Ran (release_latch c l token.id false) (Done (Err why)) t u) own y) (ran_nothing wrong Wrong u refl y.quiet))
+    pub frees : {most n : ℕ} {u : CallerFace} → IsServed most (release_latch c token.latch token.id false) (λ a. a ≡ Ok n) t u
+        → DoesStep c r (step.Free latch) (Ok None) old old t u
+    frees x steps q v y = subst (λ call. Ran call q t v) (sym (freed_is steps))
+        (ran_followed (released x) (unrefused (λ (granted : ℕ). rest steps)) y)
 
-  -- what a COUNT does by whether the sum fits
-  counted_by : (volume amount n : ℕ) (steps : List Step) (b : Bool) → nat_lt (n + amount) (2 ^ 32) ≡ b
-      → counted volume amount (rest steps) n
-      ≡ (if b then followed (write_volume volume (n + amount)) (λ stored. rest steps) else wrong)
-  counted_by volume amount n steps b is =
-      ap (λ (b : Bool). if b then followed (write_volume volume (n + amount)) (λ stored. rest steps) else wrong) is
+    pub unfreed : {most : ℕ} {why : Refusal} {u : CallerFace}
+        → IsServed most (release_latch c token.latch token.id false) (λ a. a ≡ Err why) t u
+        → DoesStep c r (step.Free latch) lost old old t u
+    unfreed {most} {why} {u} x steps = subst (λ call. Ran call Wrong t u) (sym (freed_is steps))
+        (ran_last (released x) (unrefused (λ (granted : ℕ). rest steps)) refl)
 
-  pub counts : (volume amount n : ℕ) (u v : CallerFace) → n + amount < 2 ^ 32
-      → IsServed 1 (read_volume volume) (λ a. a ≡ n) t u → IsServed 1 (write_volume volume (n + amount)) (λ a. a ≡ tt) u v
-      → DoesStep c r (step.Count volume amount) (Ok None) old old t v
-  counts volume amount n u v fits x y steps q w z =
-      ran_followed (read_volume volume) (counted volume amount (rest steps)) n q t u w (served_as 1 (read_volume volume) n t u x)
-      (subst (λ call. Ran call q u w) (sym (counted_by volume amount n steps true (lt-ltb (n + amount) (2 ^ 32) fits)))
-      (ran_followed (write_volume volume (n + amount)) (λ stored. rest steps) tt q u v w
-      (served_as 1 (write_volume volume (n + amount)) tt u v y) z))
+  module _ (volume amount n : ℕ) {u : CallerFace} (read : IsServed 1 (read_volume volume) (λ a. a ≡ n) t u) where
+    -- what a COUNT does by whether the sum fits
+    counted_by : (steps : List Step) (b : Bool) → nat_lt (n + amount) (2 ^ 32) ≡ b → counted volume amount (rest steps) n
+        ≡ (if b then followed (write_volume volume (n + amount)) (λ stored. rest steps) else wrong)
+    counted_by steps b is =
+        ap (λ (b : Bool). if b then followed (write_volume volume (n + amount)) (λ stored. rest steps) else wrong) is
 
-  pub overflows : (volume amount n : ℕ) (lost : Lost) (u : CallerFace) → (n + amount < 2 ^ 32 → ⊥)
-      → IsServed 1 (read_volume volume) (λ a. a ≡ n) t u → DoesStep c r (step.Count volume amount) (Err lost) old old t u
-  overflows volume amount n lost u over x steps =
-      let y = served_as 1 (read_volume volume) n t u x in
-      ran_followed (read_volume volume) (counted volume amount (rest steps)) n Wrong t u u y
-      (subst (λ call. Ran call Wrong u u)
-      (sym (counted_by volume amount n steps false (not_below (nat_lt (n + amount) (2 ^ 32)) refl)))
-      (ran_nothing wrong Wrong u refl y.quiet)) where
-        not_below : (b : Bool) → nat_lt (n + amount) (2 ^ 32) ≡ b → nat_lt (n + amount) (2 ^ 32) ≡ false
-        not_below true is = absurd (over (ltb-true (n + amount) (2 ^ 32) is))
-        not_below false is = is
+    pub counts : {v : CallerFace} → n + amount < 2 ^ 32 → IsServed 1 (write_volume volume (n + amount)) (λ a. a ≡ tt) u v
+        → DoesStep c r (step.Count volume amount) (Ok None) old old t v
+    counts fits written steps q w z = ran_followed (served_as read) (counted volume amount (rest steps))
+        (subst (λ call. Ran call q u w) (sym (counted_by steps true (lt-ltb (n + amount) (2 ^ 32) fits)))
+        (ran_followed (served_as written) (λ stored. rest steps) z))
 
-  pub scans : (volume n m : ℕ) (u v : CallerFace) → IsServed 1 (read_volume volume) (λ a. a ≡ n) t u
+    pub overflows : (n + amount < 2 ^ 32 → ⊥) → DoesStep c r (step.Count volume amount) lost old old t u
+    overflows over steps = ran_last (served_as read) (counted volume amount (rest steps))
+        (ap (λ (call : Call ℕ). call (kept_of u.number u.log))
+        (counted_by steps false (not_below (nat_lt (n + amount) (2 ^ 32)) refl))) where
+          not_below : (b : Bool) → nat_lt (n + amount) (2 ^ 32) ≡ b → nat_lt (n + amount) (2 ^ 32) ≡ false
+          not_below true is = absurd (over (ltb-true (n + amount) (2 ^ 32) is))
+          not_below false is = is
+
+  pub scans : (volume : ℕ) {n m : ℕ} {u v : CallerFace} → IsServed 1 (read_volume volume) (λ a. a ≡ n) t u
       → IsServed 1 (read_volume volume) (λ a. a ≡ m) u v → DoesStep c r (step.Scan volume) (Ok None) old old t v
-  scans volume n m u v x y steps q w z =
-      ran_followed (read_volume volume) (λ once. followed (read_volume volume) (λ again. rest steps)) n q t u w
-      (served_as 1 (read_volume volume) n t u x)
-      (ran_followed (read_volume volume) (λ again. rest steps) m q u v w (served_as 1 (read_volume volume) m u v y) z)
+  scans volume x y steps q w z = ran_followed (served_as x) (λ once. followed (read_volume volume) (λ again. rest steps))
+      (ran_followed (served_as y) (λ again. rest steps) z)
 
   pub abends : (code : ℕ) → IsAtRest t.log → DoesStep c r (step.Abend code) (Ok (Some code)) old old t t
-  abends code quiet steps = ran_nothing (finished code) (Done code) t refl quiet
+  abends code quiet steps = ran_nothing (finished code) refl quiet
 
   pub returns : (code : ℕ) → IsAtRest t.log → DoesStep c r (step.Return code) (Ok (Some code)) old old t t
-  returns code quiet steps = ran_nothing (finished code) (Done code) t refl quiet
+  returns code quiet steps = ran_nothing (finished code) refl quiet

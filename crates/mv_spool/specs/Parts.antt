@@ -1,5 +1,5 @@
 -- Calls that are parts of the plan's tasks and have an answer of their own; and what the code's types say in the plan's words.
-use Rattle.std.specs.Prelude.{ℕ, ◌+◌, Bool, true, false, nat_lt, List, [], ◌∷◌, map, sum_by, Option, Some, None}
+use Rattle.std.specs.Prelude.{◌≡◌, ℕ, ◌+◌, ◌<◌, Bool, true, false, nat_lt, List, [], ◌∷◌, length, map, sum_by, Option, Some, None}
 use Rattle.mv_element.specs.declared.element.Token.{Token}
 use Rattle.mv_machine.specs.Setup.{Setup}
 use Rattle.mv_calls.specs.Pauses.{Gift, pause}
@@ -10,6 +10,7 @@ use Rattle.mv_deck.specs.declared.deck.After.{After}
 use Rattle.mv_deck.specs.declared.deck.Job.{Job}
 use Rattle.mv_deck.specs.Deck.{JobData, job_data}
 use Rattle.mv_deck.specs.Weight.{step_events}
+use Rattle.mv_plan.specs.SpoolSetup.{idle, initiator}
 use Rattle.mv_plan.specs.SpoolTasks.{Named, ends_awaited}
 use Rattle.mv_spool.specs.declared.finding.Found.{Found}
 use Rattle.mv_spool.specs.declared.running.Named as code
@@ -43,11 +44,17 @@ is_end_above part None = false
 abbrev pub all_ends : Setup → ℕ → List After → Call Bool
 all_ends c n parts = ends_awaited c n parts finished
 
--- ---- the turns of an initiator
+-- ---- initiators
+
+-- the configuration of n jobs has this initiator, its block, and its element
+abbrev pub HasInitiator : Setup → ℕ → ℕ → Type 0
+HasInitiator c n i = (idle n i < length c.owners) × (initiator i < c.callers) × (c.elements_per_caller ≡ 1)
+
+-- ---- the rounds of an initiator
 
 -- it says that it is idle, with the generation of its token, and pauses
 abbrev pub next_gift : Setup → ℕ → Token → Call Gift
-next_gift c idle token = followed (post c idle token.generation) (λ posted. accepted (pause c token) finished)
+next_gift c block token = followed (post c block token.generation) (λ posted. accepted (pause c token) finished)
 
 -- what a code named
 abbrev pub named_of : code.Named → Named

@@ -4,10 +4,15 @@ use Rattle.mv_board.specs.Faces.{CallerFace}
 use Rattle.mv_calls.specs.Program.{Done, Wrong}
 use Rattle.mv_deck.specs.declared.deck.Step.{Step}
 use Rattle.mv_latchset.specs.declared.token.LatchToken.{LatchToken}
+use Rattle.mv_machine.specs.Reach.{release_cost}
 use Rattle.mv_machine.specs.Setup.{Setup}
 use Rattle.mv_plan.specs.SpoolTasks.{run_steps}
 use Rattle.mv_spool.specs.declared.lost.Lost.{Lost}
 use Rattle.mv_spool.specs.Ran.{Leads, Ran}
+
+-- the configuration has the latches and volumes that steps may name, and a release makes one event
+abbrev pub BearsSteps : Setup → Type 0
+BearsSteps c = (c.latches ≡ 8) × (c.volumes ≡ 8) × (release_cost c ≡ 1)
 
 -- the numbers of the requests that a job last had at the latches
 abbrev pub requests_of : List (Option LatchToken) → ℕ → Option ℕ

@@ -107,7 +107,7 @@ pub(crate) fn initiate<R: Wait, G: Gate>(
     let Ok(mut token) = allocate(station, rt, task) else {
         return;
     };
-    for turn in 0..jobs + 1 {
+    for round in 0..jobs + 1 {
         let Ok(given) = next_given(rt, station, task, idle, token) else {
             return;
         };
@@ -120,7 +120,7 @@ pub(crate) fn initiate<R: Wait, G: Gate>(
             return;
         };
         // No run hands out more jobs than there are, nor one twice.
-        if turn == jobs {
+        if round == jobs {
             return;
         }
         if ran[named.job as usize] {

@@ -2,7 +2,6 @@
 
 ghost use Rattle.std.specs.Prelude.{◌≡◌, ◌<◌, ◌≤◌, ◌+◌, ◌*◌, length, sum_by, MatchResult, IfOk, IfSome, None};
 ghost use Rattle.std.specs.List.{AllByRecursion};
-ghost use Rattle.mv_machine.specs.Reach.{release_cost};
 ghost use Rattle.mv_board.specs.Faces.{IsOf};
 ghost use Rattle.mv_calls.specs.Program.{Done, Wrong};
 ghost use Rattle.mv_calls.specs.Rest.{IsAtRest};
@@ -16,7 +15,7 @@ ghost use Rattle.mv_plan.specs.SpoolTasks.{run_steps as steps_run, run_job as jo
 ghost use Rattle.mv_spool.specs.Limits.{jobs_limit};
 ghost use Rattle.mv_spool.specs.Parts.{jobs_of, named_of};
 ghost use Rattle.mv_spool.specs.Ran.{Ran, RanSome};
-ghost use Rattle.mv_spool.specs.Steps.{AreKept, DoesStep};
+ghost use Rattle.mv_spool.specs.Steps.{AreKept, BearsSteps, DoesStep};
 
 use crate::lost::Lost;
 use mv_deck::{Job, NOT_RUN, Step};
@@ -49,7 +48,7 @@ fn do_step<R: Wait>(
     step: &Step,
     requests: &mut [Option<LatchToken>],
 ) -> Result<Option<u32>, Lost>
-    requires config { (station.now.config.latches ≡ 8) × (station.now.config.volumes ≡ 8) × (release_cost station.now.config ≡ 1) }
+    requires config { BearsSteps station.now.config }
     requires task { IsOf station.now task.old }
     requires rest { IsAtRest task.old.log }
     requires left { step_events step.now ≤ task.old.left }
@@ -109,7 +108,7 @@ fn run_steps<R: Wait>(
     requestor: u64,
     steps: &[Step],
 ) -> Result<u32, Lost>
-    requires config { (station.now.config.latches ≡ 8) × (station.now.config.volumes ≡ 8) × (release_cost station.now.config ≡ 1) }
+    requires config { BearsSteps station.now.config }
     requires task { IsOf station.now task.old }
     requires rest { IsAtRest task.old.log }
     requires left { sum_by step_events steps.now ≤ task.old.left }
@@ -140,7 +139,7 @@ fn do_job<R: Wait>(
     job: &Job,
     skipped: bool,
 ) -> Result<u32, Lost>
-    requires config { (station.now.config.latches ≡ 8) × (station.now.config.volumes ≡ 8) × (release_cost station.now.config ≡ 1) }
+    requires config { BearsSteps station.now.config }
     requires task { IsOf station.now task.old }
     requires rest { IsAtRest task.old.log }
     requires left { sum_by step_events job.now.steps.items ≤ task.old.left }
@@ -181,7 +180,7 @@ pub(crate) fn run_job<R: Wait, G: Gate>(
 {
     let Named { job, skipped } = named;
     let who = task.number();
-    let requestor = u64::from(job) + 1;
+    let requestor = job as u64 + 1;
     gate.pass(rt, who, Point::Started(job));
     let Ok(end) = do_job(rt, station, task, requestor, &deck[job as usize], skipped) else {
         return Err(Lost);

@@ -6,14 +6,15 @@ ghost use Rattle.mv_element.specs.Table.{release_limit};
 ghost use Rattle.mv_board.specs.Faces.{IsOf};
 ghost use Rattle.mv_calls.specs.Program.{Done, Wrong};
 ghost use Rattle.mv_calls.specs.Rest.{IsAtRest};
+ghost use Rattle.mv_deck.specs.Operand.{most_after};
 ghost use Rattle.mv_deck.specs.Sound.{IsSound};
-ghost use Rattle.mv_deck.specs.Weight.{after_parts};
+ghost use Rattle.mv_deck.specs.Weight.{after_parts, most_initiators};
 ghost use Rattle.mv_plan.specs.Jobs.{job_at};
 ghost use Rattle.mv_plan.specs.SpoolSetup.{spool_setup, idle};
 ghost use Rattle.mv_plan.specs.SpoolTasks.{scheduling, hand_over as handed, dispatch as dispatched, dismiss as dismissed};
 ghost use Rattle.mv_plan.specs.SpoolTasks.{code_of, ends_of, some_end_above};
-ghost use Rattle.mv_spool.specs.Limits.{jobs_limit, most_initiators};
-ghost use Rattle.mv_spool.specs.Parts.{jobs_of, all_ends, is_end_above};
+ghost use Rattle.mv_spool.specs.Limits.{jobs_limit};
+ghost use Rattle.mv_spool.specs.Parts.{HasInitiator, jobs_of, all_ends, is_end_above};
 ghost use Rattle.mv_spool.specs.Ran.{Ran, RanOut};
 ghost use Rattle.mv_wait.specs.Answers.{slot_of, slots_of};
 
@@ -35,7 +36,7 @@ const MOST_INITIATORS: usize = 8;
 
 /// The scheduler's blocks with the ends of these jobs.
 fn end_blocks(jobs: u32, after: &[After]) -> [u32; MOST_AFTER]
-    requires jobs { (jobs ≤ jobs_limit) × (length after.now ≤ 8) }
+    requires jobs { (jobs ≤ jobs_limit) × (length after.now ≤ most_after) }
     requires earlier { AllByRecursion (λ part. part.job < jobs) after.now }
     ensures { take (length after.now) result ≡ ends_of jobs after.now }
 {
@@ -78,7 +79,7 @@ fn await_ends<R: Wait>(
     after: &[After],
 ) -> Result<bool, Lost>
     requires jobs { jobs ≤ jobs_limit }
-    requires few { length after.now ≤ 8 }
+    requires few { length after.now ≤ most_after }
     requires earlier { AllByRecursion (λ part. part.job < jobs) after.now }
     requires station { 4 * jobs ≤ length station.now.config.owners }
     requires task { IsOf station.now task.old }
@@ -113,8 +114,7 @@ fn hand_over<R: Wait>(
     generation: u32,
 ) -> Result<(), Lost>
     requires jobs { (jobs ≤ jobs_limit) × (initiator < most_initiators) × (code < release_limit) }
-    requires station { (4 * jobs + initiator < length station.now.config.owners) × (initiator + 2 < station.now.config.callers)
-        × (station.now.config.elements_per_caller ≡ 1) }
+    requires station { HasInitiator station.now.config jobs initiator }
     requires task { IsOf station.now task.old }
     requires rest { IsAtRest task.old.log }
     requires left { 2 ≤ task.old.left }
@@ -204,18 +204,8 @@ fn dispatch<R: Wait, G: Gate>(
     };
     gate.pass(rt, task.number(), Point::Dispatched(job));
     let code = job_code(job, skipped);
-    match hand_over(
-        rt,
-        station,
-        task,
-        jobs,
-        code,
-        found.position as u32,
-        found.code,
-    ) {
-        Ok(()) => Ok(()),
-        Err(_) => Err(Lost),
-    }
+    let initiator = found.position as u32;
+    hand_over(rt, station, task, jobs, code, initiator, found.code)
 }
 
 /// Tells an initiator that no job follows, once it is idle.
@@ -227,8 +217,7 @@ fn dismiss<R: Wait>(
     initiator: u32,
 ) -> Result<(), Lost>
     requires jobs { (jobs ≤ jobs_limit) × (initiator < most_initiators) }
-    requires station { (4 * jobs + initiator < length station.now.config.owners) × (initiator + 2 < station.now.config.callers)
-        × (station.now.config.elements_per_caller ≡ 1) }
+    requires station { HasInitiator station.now.config jobs initiator }
     requires task { IsOf station.now task.old }
     requires rest { IsAtRest task.old.log }
     requires left { 4 ≤ task.old.left }
@@ -241,10 +230,7 @@ fn dismiss<R: Wait>(
     let Ok(found) = first_of(rt, station, task, &[idle], &mut [WaitSlot::Open]) else {
         return Err(Lost);
     };
-    match hand_over(rt, station, task, jobs, NO_JOB, initiator, found.code) {
-        Ok(()) => Ok(()),
-        Err(_) => Err(Lost),
-    }
+    hand_over(rt, station, task, jobs, NO_JOB, initiator, found.code)
 }
 
 /// Hands out each job, in order, and then dismisses each initiator.
@@ -262,7 +248,8 @@ pub(crate) fn schedule<R: Wait, G: Gate>(
     requires station { station.now.config ≡ spool_setup (jobs_of deck.now) initiators }
     requires task { IsOf station.now task.old }
     requires rest { IsAtRest task.old.log }
-    requires left { 5 * length deck.now + 2 * length deck.now * initiators + 2 * after_parts (jobs_of deck.now) + 4 * initiators ≤ task.old.left }
+    requires left { 5 * length deck.now + 2 * length deck.now * initiators + 2 * after_parts (jobs_of deck.now) + 4 * initiators
+        ≤ task.old.left }
     ensures ran { RanOut (scheduling station.now.config initiators (jobs_of deck.now)) task.old task.new }
 {
     let jobs = deck.len() as u32;

@@ -3,7 +3,8 @@
 ghost use Rattle.std.specs.Prelude.{◌≡◌, ◌<◌, ◌≤◌, ◌+◌, ℕ, length, slice_index_or};
 ghost use Rattle.mv_deck.specs.Sound.{IsSound};
 ghost use Rattle.mv_plan.specs.SpoolSetup.{spool_setup};
-ghost use Rattle.mv_spool.specs.Limits.{jobs_limit, most_initiators};
+ghost use Rattle.mv_deck.specs.Weight.{most_initiators};
+ghost use Rattle.mv_spool.specs.Limits.{jobs_limit};
 ghost use Rattle.mv_spool.specs.Parts.{jobs_of};
 ghost use Rattle.mv_spool.specs.Seats.{IsReady, AreReady, HasWorked};
 

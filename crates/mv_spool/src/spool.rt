@@ -3,14 +3,16 @@
 ghost use Rattle.std.specs.Prelude.{◌≡◌, ◌<◌, ◌≤◌, ℕ, [], All, length, map, vec_capacity, IfOk};
 ghost use Rattle.std.specs.List.{AllByRecursion};
 ghost use Rattle.mv_deck.specs.Deck.{deck_data};
+ghost use Rattle.mv_deck.specs.Operand.{volume_count};
 ghost use Rattle.mv_deck.specs.Sound.{IsSound};
+ghost use Rattle.mv_deck.specs.Weight.{most_initiators};
 ghost use Rattle.mv_machine.specs.Legal.{after};
 ghost use Rattle.mv_machine.specs.Limits.{events_limit, highest_place};
 ghost use Rattle.mv_machine.specs.State.{system_of, Exists};
 ghost use Rattle.mv_plan.specs.SpoolRun.{IsRun};
 ghost use Rattle.mv_plan.specs.SpoolSetup.{spool_setup};
 ghost use Rattle.mv_report.specs.Outcome.{ends, lines, totals};
-ghost use Rattle.mv_spool.specs.Limits.{jobs_limit, most_initiators};
+ghost use Rattle.mv_spool.specs.Limits.{jobs_limit};
 ghost use Rattle.mv_spool.specs.Parts.{jobs_of};
 ghost use Rattle.mv_spool.specs.Seats.{IsSeat};
 
@@ -79,7 +81,7 @@ fn run_tasks<R: Threads + Wait + Sync, G: Gate + Sync>(
     ensures few { IfOk result (λ closed. length closed.journal.items ≤ events_limit) }
     ensures state { IfOk result (λ closed. system_of closed.state
         ≡ after (spool_setup (jobs_of deck.now) initiators) closed.journal.items) }
-    ensures volumes { IfOk result (λ closed. (v : ℕ) → v < 8 → Exists closed.state (Object.Volume v)) }
+    ensures volumes { IfOk result (λ closed. (v : ℕ) → v < volume_count → Exists closed.state (Object.Volume v)) }
 {
     let (station, tasks) = Station::open(alloc, config)?;
     let room = Vec::with_capacity(alloc, tasks.len())?;

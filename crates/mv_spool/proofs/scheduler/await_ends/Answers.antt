@@ -1,4 +1,4 @@
-use Rattle.std.proofs.Common.{◌*◌, ◌<◌, length, take, Ok, Err, sym, subst}
+use Rattle.std.proofs.Common.{◌<◌, length, take, Ok, Err, sym, subst}
 use Rattle.std.specs.List.{AllByRecursion}
 use Rattle.mv_calls.specs.Program.{Done}
 use Rattle.mv_calls.specs.Waits.{wait}
@@ -21,10 +21,9 @@ returns-in_default-clause-ran g c =
     let parts = c.args.after.now in
     let blocks = take (length parts) c.end_blocks-blocks.result in
     let why = wait_refused c.in_default.field-0 in
-    ends_refused config c.args.jobs parts why c.args.task.now c.wait.new.task (not_none (length parts) c.if-is_empty.ensures)
+    ends_refused config c.args.jobs parts why (not_none (length parts) c.if-is_empty.ensures)
     (subst (λ bs. Ran (wait config (length parts) bs) (Done (Err why)) c.args.task.now c.wait.new.task) c.end_blocks-blocks.ensures
-    (served_as (2 * length blocks) (wait config (length parts) blocks) (Err why) c.args.task.now c.wait.new.task
-    c.in_default.ensures.served))
+    (served_as c.in_default.ensures.served))
 
 pub returns-clause-ran : goal.returns-clause-ran
 returns-clause-ran g c =
@@ -33,6 +32,6 @@ returns-clause-ran g c =
     let blocks = take (length parts) c.end_blocks-blocks.result in
     let slots = slots_of c.wait.new.out in
     subst (λ b. Ran (all_ends config c.args.jobs parts) (Done b) c.args.task.now c.wait.new.task) (sym c.some_above.ensures)
-    (ends_found config c.args.jobs parts slots c.args.task.now c.wait.new.task (not_none (length parts) c.if-is_empty.ensures)
+    (ends_found config c.args.jobs parts slots (not_none (length parts) c.if-is_empty.ensures)
     (subst (λ bs. Ran (wait config (length parts) bs) (Done (Ok slots)) c.args.task.now c.wait.new.task) c.end_blocks-blocks.ensures
-    (served_as (2 * length blocks) (wait config (length parts) blocks) (Ok slots) c.args.task.now c.wait.new.task c.in-Ok.ensures.served)))
+    (served_as c.in-Ok.ensures.served)))

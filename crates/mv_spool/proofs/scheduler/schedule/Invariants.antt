@@ -1,12 +1,9 @@
-use Rattle.std.proofs.Common.{◌≤◌, ◌+◌, ◌-◌, ◌*◌, [], drop, length}
-use Rattle.std.specs.List.{range_with_len}
+use Rattle.std.proofs.Common.{◌≤◌, ◌+◌, ◌-◌, ◌*◌, drop, length}
 use Rattle.mv_board.specs.Faces.{IsOf}
-use Rattle.mv_calls.specs.Program.{for_each, finished}
 use Rattle.mv_calls.specs.Rest.{IsAtRest}
 use Rattle.mv_deck.specs.Weight.{after_parts}
-use Rattle.mv_plan.specs.SpoolTasks.{scheduling, dispatch_all, dismiss}
 use Rattle.mv_spool.specs.Parts.{jobs_of}
-use Rattle.mv_spool.specs.Ran.{Leads}
+use Rattle.mv_spool.proofs.Dispatching.{JobsLeft, DismissalsLeft}
 use Rattle.mv_spool.proofs.scheduler.schedule.Given as goal
 
 abbrev pub invariant-loop-job : goal.invariant-loop-job
@@ -15,9 +12,7 @@ invariant-loop-job g l = record {
   quiet : IsAtRest l.task.log;
   left : 5 * (length l.deck - l.job) + 2 * ((length l.deck - l.job) * l.initiators) + 2 * after_parts (drop l.job (jobs_of l.deck)) + 4
       * l.initiators ≤ l.task.left;
-  leads : Leads (scheduling l.station.config l.initiators (jobs_of l.deck))
-      (dispatch_all l.station.config (length (jobs_of l.deck)) l.initiators l.job (drop l.job (jobs_of l.deck))
-      (for_each (range_with_len 0 l.initiators) (dismiss l.station.config (length (jobs_of l.deck))) (finished []))) l.fn.task l.task;
+  leads : JobsLeft l.station.config (jobs_of l.deck) l.initiators l.fn.task l.job l.task;
 }
 
 abbrev pub invariant-loop-i : goal.invariant-loop-i
@@ -25,7 +20,5 @@ invariant-loop-i g l = record {
   board : IsOf l.station l.task;
   quiet : IsAtRest l.task.log;
   left : 4 * (l.initiators - l.i) ≤ l.task.left;
-  leads : Leads (scheduling l.station.config l.initiators (jobs_of l.deck))
-      (for_each (range_with_len l.i (l.initiators - l.i)) (dismiss l.station.config (length (jobs_of l.deck))) (finished [])) l.fn.task
-      l.task;
+  leads : DismissalsLeft l.station.config (jobs_of l.deck) l.initiators l.fn.task l.i l.task;
 }

@@ -2,7 +2,6 @@ use Rattle.std.proofs.Common.{◌≡◌, ◌+◌, ◌-◌, ◌*◌, [], ◌∷�
 use Rattle.std.specs.List.{range_with_len}
 use Rattle.mv_plan.specs.SpoolSetup.{end_for_writer}
 use Rattle.mv_plan.specs.SpoolTasks.{writing, ends_kept}
-use Rattle.mv_spool.specs.Parts.{pair_of}
 use Rattle.mv_spool.specs.Ran.{Leads}
 use Rattle.mv_spool.proofs.Decks.{block_exists}
 use Rattle.mv_spool.proofs.Parts.{leads_first, leads_unfound}
@@ -40,10 +39,8 @@ returns-in_default g c =
     let n = length c.args.deck.now in
     let job = c.loop-job.job in
     let leads = c.loop-job.invariant.leads in record {
-      ran = out_wrong (writing config n) c.args.task.now c.first_of.new.task
-          (leads_unfound (writing config n) config (end_for_writer n job ∷ [])
+      ran = out_wrong (leads_unfound config (end_for_writer n job ∷ [])
           (λ position end. ends_kept config n (leads.0 ++ end ∷ []) (range_with_len (job + 1) (n - (job + 1))))
-          c.args.task.now c.loop-job.task c.first_of.new.task
           (subst (λ js. Leads (writing config n) (ends_kept config n leads.0 js) c.args.task.now c.loop-job.task)
           (range_next job n c.loop-job-test.true) leads.1)
           c.in_default.ensures.ran);
@@ -61,14 +58,13 @@ loop-job-preserved g c =
     let lt = c.loop-job-test.true in
     let end = c.in-Ok.field-0.code in
     let ends = since.leads.0 in record {
-      board = still_of c.args.station.now c.loop-job.task c.first_of.new.task since.board ran.went.same;
+      board = still_of c.args.station.now since.board ran.went.same;
       quiet = ran.quiet;
       left = omega arith;
       leads = (
         ends ++ end ∷ [],
-        leads_first (writing config n) config (end_for_writer n job ∷ [])
+        leads_first config (end_for_writer n job ∷ [])
             (λ position end. ends_kept config n (ends ++ end ∷ []) (range_with_len (job + 1) (n - (job + 1))))
-            (pair_of c.in-Ok.field-0) c.args.task.now c.loop-job.task c.first_of.new.task
             (subst (λ js. Leads (writing config n) (ends_kept config n ends js) c.args.task.now c.loop-job.task)
             (range_next job n lt) since.leads.1) ran,
       );
@@ -79,8 +75,7 @@ returns g c =
     let config = c.args.station.now.config in
     let n = length c.args.deck.now in
     let since = c.loop-job.invariant in record {
-      ran = out_done (writing config n) since.leads.0 c.args.task.now c.loop-job.task
-          (leads_done (writing config n) since.leads.0 c.args.task.now c.loop-job.task
+      ran = out_done (leads_done
           (subst (λ js. Leads (writing config n) (ends_kept config n since.leads.0 js) c.args.task.now c.loop-job.task)
           (range_over c.loop-job.job n c.loop-job-test.false) since.leads.1) since.quiet);
     }
