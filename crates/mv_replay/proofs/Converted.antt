@@ -7,7 +7,7 @@ use Rattle.mv_entrytext.specs.declared.version.Version.{Version}
 use Rattle.mv_entrytext.specs.declared.version.Version.TheVariants.{One, Two}
 use Rattle.mv_entrytext.specs.Ranges.{highest_u32}
 use Rattle.mv_entrytext.specs.Fault.{HasJournal, AreCallsIn, journal_of}
-use Rattle.mv_entrytext.specs.Journal.{number_of, text_of, text1, journal_text}
+use Rattle.mv_entrytext.specs.Journal.{number_of, text_of, journal_text}
 use Rattle.mv_entrytext.specs.Lines.{Draft}
 use Rattle.mv_entrytext.proofs.CallNumbers.{calls_are_numbers}
 use Rattle.mv_entrytext.proofs.LinesAgain.{reads_back}

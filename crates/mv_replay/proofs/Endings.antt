@@ -1,6 +1,5 @@
 -- A text asks for one ending at most, and a replay has that one where nothing fails.
-use Rattle.std.proofs.Common.{◌≡◌, ℕ, ◌+◌, ◌≤◌, List, ◌∷◌, ◌++◌, length, Option, Some, None, refl, sym, ap, subst, ◌∙◌, arith, inl, inr}
-use Rattle.std.specs.Prelude.{IfSome}
+use Rattle.std.proofs.Common.{◌≡◌, ℕ, ◌+◌, List, length, Option, Some, None, refl, sym, ap, ◌∙◌, arith, inl, inr}
 use Rattle.mv_machine.specs.declared.entry.Entry.{Entry}
 use Rattle.mv_machine.specs.Setup.{Setup}
 use Rattle.mv_entrytext.specs.declared.fault.TextFault.{TextFault}
@@ -8,28 +7,35 @@ use Rattle.mv_entrytext.specs.Fault.{text_fault}
 use Rattle.mv_entrytext.proofs.LinesAgain.{no_fault, one_journal}
 use Rattle.mv_replay.specs.declared.status.ReplayStatus.{ReplayStatus}
 use Rattle.mv_replay.specs.declared.status.ReplayStatus.TheVariants.{Done, TooLong, ReadFailed, ReportFailed, NoMemory, Illegal, Text}
-use Rattle.mv_replay.specs.Judgement.{journal_limit, first_line, calls_in, AreRight, IsFirstWrong, IsLegalJournal, IsIllegalAt}
+use Rattle.mv_entrytext.specs.Journal.{first_line}
+use Rattle.mv_replay.specs.Judgement.{calls_in, AreRight, IsFirstWrong, IsLegalJournal, IsIllegalAt}
 use Rattle.mv_ending.specs.Ending.{EndsAs}
-use Rattle.mv_replay.specs.Outcome.{IsFound, Asks, InputOf}
+use Rattle.mv_ending.specs.Written.{Nothing}
+use Rattle.mv_replay.specs.Outcome.{IsFound, Asks, InputOf, Owes, Writes, extent_of}
 use Rattle.mv_replay.proofs.Converted.{right_calls}
+use Rattle.mv_replay.proofs.Reported.{read_before, unreported, not_unread}
 use Rattle.mv_replay.proofs.Wrong.{one_first, not_first}
 
 -- ---- what a text is found to be
 
+-- a legal journal has no fault
 pub legal_is_sound : (bytes : List ℕ) (count : ℕ) → IsLegalJournal bytes count → text_fault bytes ≡ None
 legal_is_sound bytes count l =
     ap text_fault l.text
     ∙ no_fault l.version l.setup l.entries (calls_in l.version l.setup l.entries) l.journal
     (right_calls l.version l.setup l.entries l.journal.count)
 
+-- nor has one with a first entry that is wrong
 pub illegal_is_sound : (bytes : List ℕ) (line : ℕ) → IsIllegalAt bytes line → text_fault bytes ≡ None
 illegal_is_sound bytes line i = ap text_fault i.text ∙ no_fault i.version i.setup i.entries i.calls i.journal i.numbers
 
+-- so neither has one
 not_faulty : (bytes : List ℕ) (f : TextFault) → text_fault bytes ≡ None → text_fault bytes ≡ Some f → ⊥
 not_faulty bytes f none some =
     let both : None ≡ Some f = sym none ∙ some in
     absurd cc
 
+-- and no text is both: in a legal journal no entry is wrong
 pub not_both : (bytes : List ℕ) (count line : ℕ) → IsLegalJournal bytes count → IsIllegalAt bytes line → ⊥
 not_both bytes count line l i =
     let ns = calls_in l.version l.setup l.entries in
@@ -39,6 +45,7 @@ not_both bytes count line l i =
     let other : AreRight i.version i.setup i.entries i.calls = rw (← same.0, ← same.1, ← same.2, ← same.3) right in
     not_first i.version i.setup i.entries i.calls i.index other i.first
 
+-- a text has one number of entries
 pub one_count : (bytes : List ℕ) (m n : ℕ) → IsLegalJournal bytes m → IsLegalJournal bytes n → m ≡ n
 one_count bytes m n k l =
     let same = one_journal k.version l.version k.setup l.setup k.entries l.entries (calls_in k.version k.setup k.entries)
@@ -46,6 +53,7 @@ one_count bytes m n k l =
     (right_calls l.version l.setup l.entries l.journal.count) (sym k.text ∙ l.text) in
     k.number ∙ ap (λ (es : List Entry). length es) same.2 ∙ sym l.number
 
+-- one line with its first wrong entry
 pub one_line : (bytes : List ℕ) (m n : ℕ) → IsIllegalAt bytes m → IsIllegalAt bytes n → m ≡ n
 one_line bytes m n i j =
     let same = one_journal i.version j.version i.setup j.setup i.entries j.entries i.calls j.calls i.journal i.numbers j.journal j.numbers
@@ -54,9 +62,11 @@ one_line bytes m n i j =
     let at : i.index ≡ j.index = one_first j.version j.setup j.entries j.calls i.index j.index first j.first in
     i.place ∙ ap (λ (c : Setup). first_line c + i.index) same.1 ∙ ap (λ (k : ℕ). first_line j.setup + k) at ∙ sym j.place
 
+-- and one first fault
 one_fault : (f g : TextFault) → Some f ≡ Some g → f ≡ g
 one_fault f g e = cc
 
+-- so it is found to be one thing
 pub one_finding : (bytes : List ℕ) (s t : ReplayStatus) → IsFound bytes s → IsFound bytes t → s ≡ t
 one_finding bytes TooLong t a b = absurd a
 one_finding bytes ReadFailed t a b = absurd a
@@ -75,14 +85,16 @@ one_finding bytes s t a b = absurd b
 
 -- ---- the ending that an input asks for
 
+-- nothing is both above the limit and within it
 pub one_ending : (bytes : List ℕ) (s t : ReplayStatus) → Asks bytes s → Asks bytes t → s ≡ t
 one_ending bytes TooLong TooLong a b = refl
 one_ending bytes TooLong t a b = absurd (omega (arith, b.0))
 one_ending bytes s TooLong a b = absurd (omega (arith, a.0))
 one_ending bytes s t a b = one_finding bytes s t a.1 b.1
 
--- ---- a replay has it, where the source did not fail, and the report did not where it was begun
+-- ---- a command has it, where the source did not fail, and the report did not where it was begun
 
+-- where the source tells its bytes
 ends_as : (bytes : List ℕ) (new : Option (List ℕ)) (s t : ReplayStatus) → InputOf s (Some bytes) new
     → (s ≡ ReadFailed → ⊥) → (s ≡ ReportFailed → t ≡ Done → ⊥) → Asks bytes t → EndsAs NoMemory s t
 ends_as bytes new Done t i read wrote a = inl (one_ending bytes Done t (i.0.short, i.1) a)
@@ -93,9 +105,21 @@ ends_as bytes new NoMemory t i read wrote a = inr refl
 ends_as bytes new (Illegal line) t i read wrote a = inl (one_ending bytes (Illegal line) t (i.0.short, i.1) a)
 ends_as bytes new (Text fault) t i read wrote a = inl (one_ending bytes (Text fault) t (i.0.short, i.1) a)
 
-pub owed : (s : ReplayStatus) (old new : Option (List ℕ)) (D R : Type 0) → InputOf s old new
-    → (s ≡ ReadFailed → D) → (s ≡ ReportFailed → R)
-    → (D → ⊥) → IfSome old (λ bytes. (t : ReplayStatus) → Asks bytes t → (t ≡ Done → R → ⊥) → EndsAs NoMemory s t)
+-- whether or not it does
+owed : (s : ReplayStatus) (old new : Option (List ℕ)) (D R : Type 0) → InputOf s old new
+    → (s ≡ ReadFailed → D) → (s ≡ ReportFailed → R) → Owes D R old s
 owed s None new D R input read report sound = tt
 owed s (Some bytes) new D R input read report sound =
     λ t a wrote. ends_as bytes new s t input (λ e. sound (read e)) (λ failed done. wrote done (report failed)) a
+
+-- where it ended before it reported
+pub owed_unread : (s : ReplayStatus) (old new : Option (List ℕ)) (D R : Type 0) → InputOf s old new
+    → (s ≡ ReadFailed → D) → extent_of s ≡ Nothing → Owes D R old s
+owed_unread s old new D R input read none = owed s old new D R input read (unreported R s none)
+
+-- and where it has read a legal journal, and has written so much of its report
+pub owed_written : (s : ReplayStatus) (old new report0 report1 : Option (List ℕ)) (report : List ℕ) (D R : Type 0)
+    → InputOf Done old new → Writes s report0 report1 report → (s ≡ ReportFailed → R) → Owes D R old s
+owed_written s old new report0 report1 report D R input wrote failed =
+    owed s old new D R (read_before s old new report0 report1 report input wrote)
+    (λ e. absurd (not_unread s report0 report1 report wrote e)) failed

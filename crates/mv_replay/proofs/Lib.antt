@@ -4,7 +4,10 @@ pub mod Lines
 pub mod Wrong
 -- convert_command, legal_lists_are_done
 pub mod Converted
--- what is reported
+-- how long a text is: clause within of legal_lists_are_done
+pub mod EventLengths
+pub mod Lengths
+-- write_report, and what a command reports
 pub mod Reported
 -- texts_ask_for_one_ending, and the ending that is owed
 pub mod Endings

@@ -1,34 +1,41 @@
 -- What a command has written is its report on the input, as far as it came.
-use Rattle.std.proofs.Common.{◌≡◌, ℕ, ◌<◌, List, length, take, Option, Some, None, sym, subst}
+use Rattle.std.proofs.Common.{◌≡◌, ℕ, ◌<◌, List, length, take, Option, Some, None, subst}
 use Rattle.std.specs.Prelude.{IfSome}
 use Rattle.mv_io.specs.Sink.{Appends}
-use Rattle.mv_ending.specs.Written.{AppendsFront, Extent, Nothing, PartOfReport}
+use Rattle.mv_ending.specs.Written.{AppendsFront, Nothing, PartOfReport}
 use Rattle.mv_replay.specs.declared.status.ReplayStatus.{ReplayStatus}
-use Rattle.mv_replay.specs.declared.status.ReplayStatus.TheVariants.{Done, ReportFailed}
-use Rattle.mv_replay.specs.Outcome.{ReportAfter, extent_of}
-
--- the whole of it
-pub reported : (Reports : List ℕ → List ℕ → Type 0) (input old new : Option (List ℕ)) (text report : List ℕ)
-    → IfSome input (λ bytes. text ≡ bytes) → Reports text report → Appends old new report → ReportAfter Reports Done input old new
-reported Reports None old new text report same says wrote = tt
-reported Reports (Some bytes) old new text report same says wrote =
-    (report, subst (λ (x : List ℕ). Reports x report) same says, wrote)
+use Rattle.mv_replay.specs.declared.status.ReplayStatus.TheVariants.{Done, ReadFailed, ReportFailed}
+use Rattle.mv_replay.specs.Outcome.{InputOf, ReportAfter, Writes, extent_of}
 
 -- a front of these bytes, and not all
-front_appended : (old new : Option (List ℕ)) (n : ℕ) (report : List ℕ) → n < length report → Appends old new (take n report)
+pub front_appended : (old new : Option (List ℕ)) (n : ℕ) (report : List ℕ) → n < length report → Appends old new (take n report)
     → AppendsFront old new report
 front_appended None new n report short wrote = tt
 front_appended (Some xs) new n report short wrote = (n, short, wrote)
 
--- a front of the report
-pub begun : (Reports : List ℕ → List ℕ → Type 0) (input old new : Option (List ℕ)) (n : ℕ) (text report : List ℕ)
-    → IfSome input (λ bytes. text ≡ bytes) → Reports text report → n < length report → Appends old new (take n report)
-    → ReportAfter Reports ReportFailed input old new
-begun Reports None old new n text report same says short wrote = tt
-begun Reports (Some bytes) old new n text report same says short wrote =
-    (report, subst (λ (x : List ℕ). Reports x report) same says, front_appended old new n report short wrote)
+-- what was written of the report on a text, which is the input where that is told
+pub reported : (Reports : List ℕ → List ℕ → Type 0) (s : ReplayStatus) (input old new : Option (List ℕ)) (text report : List ℕ)
+    → IfSome input (λ bytes. text ≡ bytes) → Reports text report → Writes s old new report → ReportAfter Reports s input old new
+reported Reports Done None old new text report same says wrote = tt
+reported Reports Done (Some bytes) old new text report same says wrote =
+    (report, subst (λ (x : List ℕ). Reports x report) same says, wrote)
+reported Reports ReportFailed None old new text report same says wrote = tt
+reported Reports ReportFailed (Some bytes) old new text report same says wrote =
+    (report, subst (λ (x : List ℕ). Reports x report) same says, wrote)
+reported Reports s input old new text report same says wrote = absurd wrote
 
--- a command that ended before it reported did not fail to report
+-- a command that wrote has read its input, and found it legal
+pub read_before : (s : ReplayStatus) (input left old new : Option (List ℕ)) (report : List ℕ) → InputOf Done input left
+    → Writes s old new report → InputOf s input left
+read_before Done input left old new report read wrote = read
+read_before ReportFailed input left old new report read wrote = read
+read_before s input left old new report read wrote = absurd wrote
+
+-- so it did not fail to read it
+pub not_unread : (s : ReplayStatus) (old new : Option (List ℕ)) (report : List ℕ) → Writes s old new report → s ≡ ReadFailed → ⊥
+not_unread s old new report wrote failed = subst (λ (x : ReplayStatus). Writes x old new report) failed wrote
+
+-- one that ended before it reported did not fail to report
 pub unreported : (R : Type 0) (s : ReplayStatus) → extent_of s ≡ Nothing → s ≡ ReportFailed → R
 unreported R s none failed =
     let both : PartOfReport ≡ Nothing = subst (λ (x : ReplayStatus). extent_of x ≡ Nothing) failed none in

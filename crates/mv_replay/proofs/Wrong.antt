@@ -8,20 +8,20 @@ use Rattle.std.proofs.Math.Seq.{take-append-add}
 use Rattle.std.proofs.lemmas.Option.{slice_get_within}
 use Rattle.mv_machine.specs.declared.entry.Entry.{Entry}
 use Rattle.mv_machine.specs.declared.replaying.Illegal.{Illegal}
-use Rattle.mv_machine.specs.Legal.{Legal, LegalFrom}
+use Rattle.mv_machine.specs.Legal.{Legal}
 use Rattle.mv_calls.specs.Numbers.{calls}
 use Rattle.mv_machine.specs.Replay.{IsFirstIllegal}
 use Rattle.mv_calls.specs.CallsReplay.{IsFirstBad, IsFirstNumber}
 use Rattle.mv_machine.specs.Setup.{Setup}
-use Rattle.mv_machine.specs.System.{System, opening}
+use Rattle.mv_machine.specs.System.{opening}
 use Rattle.mv_machine.proofs.Replays.{not_legal}
 use Rattle.mv_calls.proofs.call_numbers.Prefixes.{calls-take, legal_take, slice_get_front}
 use Rattle.mv_calls.proofs.call_numbers.Refused.{front_is_legal, front_is_within}
 use Rattle.mv_entrytext.specs.declared.version.Version.{Version}
 use Rattle.mv_entrytext.specs.declared.version.Version.TheVariants.{One, Two}
-use Rattle.mv_entrytext.specs.Journal.{number_of, text_of}
+use Rattle.mv_entrytext.specs.Journal.{first_line, number_of, text_of}
 use Rattle.mv_entrytext.specs.Fault.{HasJournal, AreCallsIn, IsTextIn}
-use Rattle.mv_replay.specs.Judgement.{calls_in, AreRight, IsFirstWrong, IsFirstIn, IsJudged, IsLegalText, IsIllegalAt, first_line}
+use Rattle.mv_replay.specs.Judgement.{calls_in, AreRight, IsFirstWrong, IsFirstIn, IsJudged, IsLegalText, IsIllegalAt}
 
 -- ---- a front of what is right is right
 

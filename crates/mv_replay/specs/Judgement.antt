@@ -7,7 +7,7 @@ use Rattle.mv_calls.specs.Numbers.{calls}
 use Rattle.mv_machine.specs.Setup.{Setup}
 use Rattle.mv_entrytext.specs.declared.version.Version.{Version}
 use Rattle.mv_entrytext.specs.declared.version.Version.TheVariants.{One, Two}
-use Rattle.mv_entrytext.specs.Journal.{number_of, text_of}
+use Rattle.mv_entrytext.specs.Journal.{number_of, first_line, text_of}
 use Rattle.mv_entrytext.specs.Fault.{HasJournal, AreCallsIn, text_fault}
 use Rattle.mv_replay.specs.declared.status.ReplayStatus.{ReplayStatus}
 use Rattle.mv_replay.specs.declared.status.ReplayStatus.TheVariants.{NoMemory, Illegal, Text}
@@ -43,10 +43,6 @@ pub record IsLegalJournal (bytes : List ℕ) (count : ℕ) : Type 0 where
   pub text : bytes ≡ text_of version setup entries (calls_in version setup entries)
   pub legal : Legal setup entries
   pub number : count ≡ length entries
-
--- the number of the line behind EVENTS, counted from 1
-abbrev pub first_line : Setup → ℕ
-first_line c = 8 + length c.budgets + length c.owners + length c.exits
 
 -- the entries before this place are right, and with the one there they are not: it is not the machine's next, or has another
 -- number

@@ -1,6 +1,7 @@
 -- What a replay and a conversion write, and what their streams hold after each way that they can end.
 use Rattle.std.specs.Prelude.{◌≡◌, ℕ, ◌<◌, ◌≤◌, List, ◌++◌, length, codes, decimal, Option, Some, IfSome}
 use Rattle.mv_io.specs.Sink.{Appends}
+use Rattle.mv_ending.specs.Ending.{EndsAs}
 use Rattle.mv_ending.specs.Input.{IsWhole, IsTooLong, IsCut, IsAllOrNothing}
 use Rattle.mv_ending.specs.Written.{AppendsFront, Extent, Nothing, PartOfReport, Everything}
 use Rattle.mv_entrytext.specs.Journal.{journal_text}
@@ -48,6 +49,12 @@ abbrev pub Asks : List ℕ → ReplayStatus → Type 0
 Asks bytes TooLong = journal_limit < length bytes
 Asks bytes status = (length bytes ≤ journal_limit) × IsFound bytes status
 
+-- the ending that is owed: where reading did not fail, and writing did not where there is a report, it is the one that the input
+-- asks for, or want of memory
+abbrev pub Owes : (read wrote : Type 0) → (input : Option (List ℕ)) → ReplayStatus → Type 0
+Owes read wrote input status = ¬ read → IfSome input (λ bytes. (wanted : ReplayStatus) → Asks bytes wanted
+    → (wanted ≡ Done → ¬ wrote) → EndsAs NoMemory status wanted)
+
 -- ---- the input, and what is left of it
 
 -- it was read to its end
@@ -74,6 +81,12 @@ ReportAfter Reports Done input old new =
 ReportAfter Reports ReportFailed input old new =
     IfSome input (λ bytes. (report : List ℕ) × Reports bytes report × AppendsFront old new report)
 ReportAfter Reports _ input old new = new ≡ old
+
+-- the writing of a report ends in one of two ways
+abbrev pub Writes : ReplayStatus → (old new : Option (List ℕ)) → (report : List ℕ) → Type 0
+Writes Done old new report = Appends old new report
+Writes ReportFailed old new report = AppendsFront old new report
+Writes _ old new report = ⊥
 
 -- how much of it was written
 abbrev pub extent_of : ReplayStatus → Extent

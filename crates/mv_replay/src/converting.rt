@@ -1,17 +1,17 @@
 //! The command `convert`: what is read, judged and written. Its clauses cite specs/Outcome.
 
-ghost use Rattle.std.specs.Prelude.{◌≡◌, ◌≤◌, IfSome, IfOk};
+ghost use Rattle.std.specs.Prelude.{◌≡◌, ◌≤◌, IfOk};
 ghost use Rattle.mv_io.specs.Fault.{Rose};
-ghost use Rattle.mv_ending.specs.Ending.{EndsAs};
 ghost use Rattle.mv_ending.specs.Written.{IfUnwritten};
 ghost use Rattle.mv_entrytext.specs.Journal.{journal_text};
 ghost use Rattle.mv_replay.specs.Judgement.{IsLegalText};
-ghost use Rattle.mv_replay.specs.Outcome.{IsConversion, Asks, InputOf, ReportAfter, extent_of};
+ghost use Rattle.mv_replay.specs.Outcome.{IsConversion, InputOf, Owes, ReportAfter, extent_of};
 
 use crate::reading::{LegalJournal, read_legal};
+use crate::reporting::write_report;
 use crate::status::ReplayStatus;
 use mv_entrytext::write_journal;
-use mv_io::{NoMemory, Sink, Source, write_all};
+use mv_io::{NoMemory, Sink, Source};
 use std::alloc::Global;
 
 // A legal journal's text in version 2. A text of that version is it already.
@@ -49,10 +49,8 @@ pub fn convert_command<D: Source, R: Sink>(
     ensures unwritten { IfUnwritten (extent_of result) (report.new ≡ report.old) }
 
     // How a conversion has to end, where its streams do not fail.
-    ensures owed { ¬ Rose (D.faults input.old) (D.faults input.new)
-        → IfSome (D.left input.old) (λ bytes. (wanted : ReplayStatus) → Asks bytes wanted
-        → (wanted ≡ ReplayStatus.Done → ¬ Rose (R.faults report.old) (R.faults report.new))
-        → EndsAs ReplayStatus.NoMemory result wanted) }
+    ensures owed { Owes (Rose (D.faults input.old) (D.faults input.new)) (Rose (R.faults report.old) (R.faults report.new))
+        (D.left input.old) result }
 
     // Counts of faults do not fall.
     ensures counts { (D.faults input.old ≤ D.faults input.new) × (R.faults report.old ≤ R.faults report.new) }
@@ -64,8 +62,5 @@ pub fn convert_command<D: Source, R: Sink>(
     let Ok(text) = second_version(alloc, legal) else {
         return ReplayStatus::NoMemory;
     };
-    match write_all(report, &text) {
-        Ok(()) => ReplayStatus::Done,
-        Err(_) => ReplayStatus::ReportFailed,
-    }
+    write_report(report, &text)
 }

@@ -57,7 +57,8 @@ fn first_wrong(alloc: Global, journal: &Journal) -> Result<Option<usize>, NoMemo
     requires few { length journal.now.entries.items < 2 ^ 32 }
     requires places { All (λ e. e.place ≤ highest_place) journal.now.entries.items }
     requires numbers { journal.now.version ≢ 1 → length journal.now.calls.items ≡ length journal.now.entries.items }
-    ensures { IfOk result (λ first. IsJudged journal.now.version journal.now.config journal.now.entries.items journal.now.calls.items first) }
+    ensures { IfOk result (λ first.
+        IsJudged journal.now.version journal.now.config journal.now.entries.items journal.now.calls.items first) }
 {
     if journal.version == 1 {
         return first_illegal(alloc, &journal.config, &journal.entries);

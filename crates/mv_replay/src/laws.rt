@@ -1,12 +1,13 @@
 //! What holds of the texts of journals, whoever judges them. Its clauses cite specs/Judgement and specs/Outcome.
 
-ghost use Rattle.std.specs.Prelude.{◌≡◌, ℕ, List, length};
+ghost use Rattle.std.specs.Prelude.{◌≡◌, ◌≤◌, ℕ, List, length};
 ghost use Rattle.mv_machine.specs.declared.entry.Entry.{Entry};
 ghost use Rattle.mv_machine.specs.Legal.{Legal};
+ghost use Rattle.mv_machine.specs.Limits.{events_limit};
 ghost use Rattle.mv_machine.specs.Setup.{Setup};
 ghost use Rattle.mv_entrytext.specs.Fault.{HasJournal};
 ghost use Rattle.mv_entrytext.specs.Journal.{text1, journal_text};
-ghost use Rattle.mv_replay.specs.Judgement.{IsLegalJournal};
+ghost use Rattle.mv_replay.specs.Judgement.{journal_limit, IsLegalJournal};
 ghost use Rattle.mv_replay.specs.Outcome.{converted, IsFound, Asks};
 ghost use Rattle.mv_replay.specs.declared.status.ReplayStatus.{ReplayStatus};
 
@@ -19,11 +20,14 @@ pub fn texts_ask_for_one_ending()
     ensures asked { (bytes : List ℕ) (s t : ReplayStatus) → Asks bytes s → Asks bytes t → s ≡ t }
 {}
 
-/// The texts of a legal list in both versions are legal journals, and both are converted to the second. So a replay and a
-/// conversion of either end well, where it is within the limit, no stream fails and memory is there.
+/// The texts of a legal list in both versions are legal journals, both are converted to the second, and where there are no
+/// more events than a run may have, both are within the limit. So a replay and a conversion of either end well, where it is
+/// within the limit, no stream fails and memory is there.
 pub fn legal_lists_are_done()
     ensures first { (c : Setup) (es : List Entry) → HasJournal c es → Legal c es → IsLegalJournal (text1 c es) (length es) }
     ensures second { (c : Setup) (es : List Entry) → HasJournal c es → Legal c es → IsLegalJournal (journal_text c es) (length es) }
     ensures converted { (c : Setup) (es : List Entry) → HasJournal c es → Legal c es
         → (converted (text1 c es) ≡ journal_text c es) × (converted (journal_text c es) ≡ journal_text c es) }
+    ensures within { (c : Setup) (es : List Entry) → HasJournal c es → length es ≤ events_limit
+        → (length (text1 c es) ≤ journal_limit) × (length (journal_text c es) ≤ journal_limit) }
 {}

@@ -8,6 +8,7 @@ mod judging;
 mod laws;
 mod reading;
 mod replaying;
+mod reporting;
 mod status;
 
 pub use converting::convert_command;

@@ -1,15 +1,15 @@
 //! The command `replay`: what is read, judged and written. Its clauses cite specs/Outcome.
 
-ghost use Rattle.std.specs.Prelude.{◌≡◌, ◌≤◌, IfSome};
+ghost use Rattle.std.specs.Prelude.{◌≡◌, ◌≤◌};
 ghost use Rattle.mv_io.specs.Fault.{Rose};
-ghost use Rattle.mv_ending.specs.Ending.{EndsAs};
 ghost use Rattle.mv_ending.specs.Written.{IfUnwritten};
-ghost use Rattle.mv_replay.specs.Outcome.{legal_text, IsReplayReport, Asks, InputOf, ReportAfter, extent_of};
+ghost use Rattle.mv_replay.specs.Outcome.{legal_text, IsReplayReport, InputOf, Owes, ReportAfter, extent_of};
 
 use crate::reading::read_legal;
+use crate::reporting::write_report;
 use crate::status::ReplayStatus;
 use mv_ending::Line;
-use mv_io::{Sink, Source, write_all};
+use mv_io::{Sink, Source};
 use std::alloc::Global;
 
 // The report on a legal journal.
@@ -60,10 +60,8 @@ pub fn replay_command<D: Source, R: Sink>(
     ensures unwritten { IfUnwritten (extent_of result) (report.new ≡ report.old) }
 
     // How a replay has to end, where its streams do not fail.
-    ensures owed { ¬ Rose (D.faults input.old) (D.faults input.new)
-        → IfSome (D.left input.old) (λ bytes. (wanted : ReplayStatus) → Asks bytes wanted
-        → (wanted ≡ ReplayStatus.Done → ¬ Rose (R.faults report.old) (R.faults report.new))
-        → EndsAs ReplayStatus.NoMemory result wanted) }
+    ensures owed { Owes (Rose (D.faults input.old) (D.faults input.new)) (Rose (R.faults report.old) (R.faults report.new))
+        (D.left input.old) result }
 
     // Counts of faults do not fall.
     ensures counts { (D.faults input.old ≤ D.faults input.new) × (R.faults report.old ≤ R.faults report.new) }
@@ -73,8 +71,5 @@ pub fn replay_command<D: Source, R: Sink>(
         Err(status) => return status,
     };
     let line = legal_line(legal.journal.entries.len() as u32);
-    match write_all(report, line.as_bytes()) {
-        Ok(()) => ReplayStatus::Done,
-        Err(_) => ReplayStatus::ReportFailed,
-    }
+    write_report(report, line.as_bytes())
 }

@@ -1,6 +1,7 @@
 -- The line of the first entry that is wrong is a number of four bytes.
 use Rattle.std.proofs.Common.{◌≤◌, ◌+◌, ℕ, Option, Some, ap, arith, subst}
-use Rattle.mv_replay.specs.Judgement.{journal_limit, first_line, IsJudged}
+use Rattle.mv_entrytext.specs.Journal.{first_line}
+use Rattle.mv_replay.specs.Judgement.{journal_limit, IsJudged}
 use Rattle.mv_replay.proofs.Lines.{line_fits}
 use Rattle.mv_replay.proofs.Wrong.{illegal_journal, judged_within}
 use Rattle.mv_replay.proofs.judging.judge.Goals as goal

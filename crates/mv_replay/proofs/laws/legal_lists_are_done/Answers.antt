@@ -1,7 +1,10 @@
--- A list that is legal has a legal text in each version, which reads back.
+-- A list that is legal has a legal text in each version, which reads back, and is within the limit where the list is.
+use Rattle.std.proofs.Common.{[]}
+use Rattle.mv_calls.specs.Numbers.{calls}
 use Rattle.mv_entrytext.specs.declared.version.Version.TheVariants.{One, Two}
 use Rattle.mv_entrytext.specs.Journal.{text1, journal_text}
-use Rattle.mv_replay.proofs.Converted.{text_is_legal, journal_is_legal, is_converted}
+use Rattle.mv_replay.proofs.Converted.{right_calls, text_is_legal, journal_is_legal, is_converted}
+use Rattle.mv_replay.proofs.Lengths.{text_fits}
 use Rattle.mv_replay.proofs.laws.legal_lists_are_done.Goals as goal
 
 pub returns-clause-first : goal.returns-clause-first
@@ -14,4 +17,10 @@ pub returns-clause-converted : goal.returns-clause-converted
 returns-clause-converted c = λ setup es h l. (
   is_converted 1 (text1 setup es) setup es (text_is_legal One setup es h l),
   is_converted 2 (journal_text setup es) setup es (text_is_legal Two setup es h l),
+)
+
+pub returns-clause-within : goal.returns-clause-within
+returns-clause-within c = λ setup es h few. (
+  text_fits One setup es [] h (right_calls One setup es h.count) few,
+  text_fits Two setup es (calls setup es) h (right_calls Two setup es h.count) few,
 )
