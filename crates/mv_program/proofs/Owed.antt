@@ -1,10 +1,8 @@
 -- An input asks a command for one ending at most, and a run has that one where nothing fails.
 use Rattle.std.proofs.Common.{◌≡◌, ℕ, true, List, Option, Some, None, refl, sym, ap, subst, ◌∙◌, arith, inl, inr}
 use Rattle.std.specs.Prelude.{IfSome, IsSomeAnd}
-use Rattle.mv_deck.specs.declared.fault.DeckFault.{DeckFault}
 use Rattle.mv_deck.specs.Fault.{first_fault}
 use Rattle.mv_ending.specs.Ending.{EndsAs}
-use Rattle.mv_script.specs.declared.fault.ScriptFault.{ScriptFault}
 use Rattle.mv_script.specs.Fault as scripts
 use Rattle.mv_replay.specs.declared.status.ReplayStatus.{ReplayStatus}
 use Rattle.mv_replay.specs.declared.status.ReplayStatus.TheVariants as replay
@@ -17,100 +15,82 @@ use Rattle.mv_program.specs.declared.status.Status.{Status}
 use Rattle.mv_program.specs.declared.status.Status.TheVariants.{Done, Words, Deck, TooLong, ReadFailed, ReportFailed}
 use Rattle.mv_program.specs.declared.status.Status.TheVariants.{JournalFailed, NoMemory, Illegal, Text}
 use Rattle.mv_program.specs.declared.status.Status.TheVariants.{Script}
-use Rattle.mv_program.specs.Program.{IsFound, DeckAsks, DeckOf, IsScriptFound, ScriptAsks, ScriptOf, EndsLoad, InputOf, Asks}
+use Rattle.mv_program.specs.Program.{IsFound, IsScriptFound, TextAsks, TextOf, DeckOf, ScriptOf, EndsLoad, InputOf, Asks}
 use Rattle.mv_program.specs.Program.{has_journal}
 use Rattle.mv_program.specs.Status.{replay_of}
 
--- ---- decks
+-- ---- decks and scripts
 
-apart : (n : ℕ) (bytes : List ℕ) (f : DeckFault) → first_fault bytes n ≡ None → first_fault bytes n ≡ Some f → ⊥
-apart n bytes f none some =
+-- what has a fault is not without one
+apart : {F : Type 0} (first : Option F) (f : F) → first ≡ None → first ≡ Some f → ⊥
+apart first f none some =
     let both : None ≡ Some f = sym none ∙ some in
     absurd cc
 
-one : (n : ℕ) (bytes : List ℕ) (f g : DeckFault) → first_fault bytes n ≡ Some f → first_fault bytes n ≡ Some g → Deck f ≡ Deck g
-one n bytes f g a b =
+-- and has one first fault
+one_fault : {F : Type 0} (first : Option F) (f g : F) → first ≡ Some f → first ≡ Some g → f ≡ g
+one_fault first f g a b =
     let both : Some f ≡ Some g = sym a ∙ b in
-    let same : f ≡ g = cc in
-    ap Deck same
+    cc
 
-one_finding : (n : ℕ) (bytes : List ℕ) (s t : Status) → IsFound n bytes s → IsFound n bytes t → s ≡ t
-one_finding n bytes Done Done a b = refl
-one_finding n bytes Done (Deck g) a b = absurd (apart n bytes g a b)
-one_finding n bytes (Deck f) Done a b = absurd (apart n bytes f b a)
-one_finding n bytes (Deck f) (Deck g) a b = one n bytes f g a b
-one_finding n bytes Done t a b = absurd b
-one_finding n bytes (Deck f) t a b = absurd b
-one_finding n bytes s t a b = absurd a
+-- so a deck is found to be one thing
+one_deck : (n : ℕ) (bytes : List ℕ) (s t : Status) → IsFound n bytes s → IsFound n bytes t → s ≡ t
+one_deck n bytes Done Done a b = refl
+one_deck n bytes Done (Deck g) a b = absurd (apart (first_fault bytes n) g a b)
+one_deck n bytes (Deck f) Done a b = absurd (apart (first_fault bytes n) f b a)
+one_deck n bytes (Deck f) (Deck g) a b = ap Deck (one_fault (first_fault bytes n) f g a b)
+one_deck n bytes Done t a b = absurd b
+one_deck n bytes (Deck f) t a b = absurd b
+one_deck n bytes s t a b = absurd a
 
-one_ending : (n : ℕ) (bytes : List ℕ) (s t : Status) → DeckAsks n bytes s → DeckAsks n bytes t → s ≡ t
-one_ending n bytes TooLong TooLong a b = refl
-one_ending n bytes TooLong t a b = absurd (omega (arith, b.0))
-one_ending n bytes s TooLong a b = absurd (omega (arith, a.0))
-one_ending n bytes s t a b = one_finding n bytes s t a.1 b.1
+-- and a script is
+one_script : (bytes : List ℕ) (s t : Status) → IsScriptFound bytes s → IsScriptFound bytes t → s ≡ t
+one_script bytes Done Done a b = refl
+one_script bytes Done (Script g) a b = absurd (apart (scripts.first_fault bytes) g a b)
+one_script bytes (Script f) Done a b = absurd (apart (scripts.first_fault bytes) f b a)
+one_script bytes (Script f) (Script g) a b = ap Script (one_fault (scripts.first_fault bytes) f g a b)
+one_script bytes Done t a b = absurd b
+one_script bytes (Script f) t a b = absurd b
+one_script bytes s t a b = absurd a
 
+-- of texts that are found to be one thing
+module _ (Found : List ℕ → Status → Type 0) (one : (bytes : List ℕ) (s t : Status) → Found bytes s → Found bytes t → s ≡ t) where
+  -- an input asks for one ending
+  one_ending : (bytes : List ℕ) (s t : Status) → TextAsks Found bytes s → TextAsks Found bytes t → s ≡ t
+  one_ending bytes TooLong TooLong a b = refl
+  one_ending bytes TooLong t a b = absurd (omega (arith, b.0))
+  one_ending bytes s TooLong a b = absurd (omega (arith, a.0))
+  one_ending bytes s t a b = one bytes s t a.1 b.1
+
+  -- and a command ends so, but for the faults
+  text_ends : (bytes : List ℕ) (new : Option (List ℕ)) (s t : Status) → TextOf Found s (Some bytes) new
+      → (s ≡ ReadFailed → ⊥) → (t ≡ Done → s ≡ ReportFailed → ⊥) → (t ≡ Done → s ≡ JournalFailed → ⊥)
+      → TextAsks Found bytes t → EndsAs NoMemory s t
+  text_ends bytes new Done t i read report journal a = inl (one_ending bytes Done t (i.read.short, i.is) a)
+  text_ends bytes new TooLong t i read report journal a = inl (one_ending bytes TooLong t i.long a)
+  text_ends bytes new ReadFailed t i read report journal a = absurd (read refl)
+  text_ends bytes new ReportFailed t i read report journal a =
+      absurd (report (sym (one_ending bytes Done t (i.read.short, i.is) a)) refl)
+  text_ends bytes new JournalFailed t i read report journal a =
+      absurd (journal (sym (one_ending bytes Done t (i.read.short, i.is) a)) refl)
+  text_ends bytes new NoMemory t i read report journal a = inr refl
+  text_ends bytes new s t i read report journal a = absurd i
+
+-- a deck's run ends as its input asks
 deck_ends : (n : ℕ) (bytes : List ℕ) (new : Option (List ℕ)) (s t : Status) → DeckOf n s (Some bytes) new
     → (s ≡ ReadFailed → ⊥) → (t ≡ Done → s ≡ ReportFailed → ⊥) → (t ≡ Done → s ≡ JournalFailed → ⊥)
-    → DeckAsks n bytes t → EndsAs NoMemory s t
-deck_ends n bytes new Done t i read report journal a = inl (one_ending n bytes Done t (i.read.short, i.is) a)
-deck_ends n bytes new Words t i read report journal a = absurd i
-deck_ends n bytes new (Deck f) t i read report journal a = inl (one_ending n bytes (Deck f) t (i.read.short, i.is) a)
-deck_ends n bytes new TooLong t i read report journal a = inl (one_ending n bytes TooLong t i.long a)
-deck_ends n bytes new ReadFailed t i read report journal a = absurd (read refl)
-deck_ends n bytes new ReportFailed t i read report journal a =
-    absurd (report (sym (one_ending n bytes Done t (i.read.short, i.is) a)) refl)
-deck_ends n bytes new JournalFailed t i read report journal a =
-    absurd (journal (sym (one_ending n bytes Done t (i.read.short, i.is) a)) refl)
-deck_ends n bytes new NoMemory t i read report journal a = inr refl
-deck_ends n bytes new (Illegal line) t i read report journal a = absurd i
-deck_ends n bytes new (Script f) t i read report journal a = absurd i
-deck_ends n bytes new (Text f) t i read report journal a = absurd i
+    → TextAsks (IsFound n) bytes t → EndsAs NoMemory s t
+deck_ends n bytes new (Deck f) t i read report journal a =
+    inl (one_ending (IsFound n) (one_deck n) bytes (Deck f) t (i.read.short, i.is) a)
+deck_ends n bytes new s t i read report journal a = text_ends (IsFound n) (one_deck n) bytes new s t i read report journal a
 
--- ---- scripts
-
-script_apart : (bytes : List ℕ) (f : ScriptFault) → scripts.first_fault bytes ≡ None → scripts.first_fault bytes ≡ Some f → ⊥
-script_apart bytes f none some =
-    let both : None ≡ Some f = sym none ∙ some in
-    absurd cc
-
-one_script : (bytes : List ℕ) (f g : ScriptFault) → scripts.first_fault bytes ≡ Some f → scripts.first_fault bytes ≡ Some g
-    → Script f ≡ Script g
-one_script bytes f g a b =
-    let both : Some f ≡ Some g = sym a ∙ b in
-    let same : f ≡ g = cc in
-    ap Script same
-
-one_script_finding : (bytes : List ℕ) (s t : Status) → IsScriptFound bytes s → IsScriptFound bytes t → s ≡ t
-one_script_finding bytes Done Done a b = refl
-one_script_finding bytes Done (Script g) a b = absurd (script_apart bytes g a b)
-one_script_finding bytes (Script f) Done a b = absurd (script_apart bytes f b a)
-one_script_finding bytes (Script f) (Script g) a b = one_script bytes f g a b
-one_script_finding bytes Done t a b = absurd b
-one_script_finding bytes (Script f) t a b = absurd b
-one_script_finding bytes s t a b = absurd a
-
-one_script_ending : (bytes : List ℕ) (s t : Status) → ScriptAsks bytes s → ScriptAsks bytes t → s ≡ t
-one_script_ending bytes TooLong TooLong a b = refl
-one_script_ending bytes TooLong t a b = absurd (omega (arith, b.0))
-one_script_ending bytes s TooLong a b = absurd (omega (arith, a.0))
-one_script_ending bytes s t a b = one_script_finding bytes s t a.1 b.1
-
+-- and a script's
 script_ends : (bytes : List ℕ) (new : Option (List ℕ)) (s t : Status) → ScriptOf s (Some bytes) new
     → (s ≡ ReadFailed → ⊥) → (t ≡ Done → s ≡ ReportFailed → ⊥) → (t ≡ Done → s ≡ JournalFailed → ⊥)
-    → ScriptAsks bytes t → EndsAs NoMemory s t
-script_ends bytes new Done t i read report journal a = inl (one_script_ending bytes Done t (i.read.short, i.is) a)
-script_ends bytes new Words t i read report journal a = absurd i
-script_ends bytes new (Deck f) t i read report journal a = absurd i
-script_ends bytes new TooLong t i read report journal a = inl (one_script_ending bytes TooLong t i.long a)
-script_ends bytes new ReadFailed t i read report journal a = absurd (read refl)
-script_ends bytes new ReportFailed t i read report journal a =
-    absurd (report (sym (one_script_ending bytes Done t (i.read.short, i.is) a)) refl)
-script_ends bytes new JournalFailed t i read report journal a =
-    absurd (journal (sym (one_script_ending bytes Done t (i.read.short, i.is) a)) refl)
-script_ends bytes new NoMemory t i read report journal a = inr refl
-script_ends bytes new (Script f) t i read report journal a = inl (one_script_ending bytes (Script f) t (i.read.short, i.is) a)
-script_ends bytes new (Illegal line) t i read report journal a = absurd i
-script_ends bytes new (Text f) t i read report journal a = absurd i
+    → TextAsks IsScriptFound bytes t → EndsAs NoMemory s t
+script_ends bytes new (Script f) t i read report journal a =
+    inl (one_ending IsScriptFound one_script bytes (Script f) t (i.read.short, i.is) a)
+script_ends bytes new s t i read report journal a = text_ends IsScriptFound one_script bytes new s t i read report journal a
 
 -- ---- journals
 
@@ -162,6 +142,7 @@ journal_ends bytes new (Text f) t i read report a = inl (one_judgement bytes (Te
 
 -- ---- loads
 
+-- a load ends as any input asks of it
 load_ends : (s t : Status) → EndsLoad s → (s ≡ ReportFailed → ⊥) → (s ≡ JournalFailed → ⊥) → t ≡ Done → EndsAs NoMemory s t
 load_ends Done t i report journal a = inl (sym a)
 load_ends ReportFailed t i report journal a = absurd (report refl)
@@ -175,6 +156,7 @@ load_never_reads s i e = subst (λ (k : Status). EndsLoad k) e i
 
 -- ---- every command
 
+-- a command ends as its input asks
 command_ends : (c : Command) (bytes : List ℕ) (new : Option (List ℕ)) (s t : Status) → InputOf (Some c) s (Some bytes) new
     → (s ≡ ReadFailed → ⊥) → (t ≡ Done → s ≡ ReportFailed → ⊥) → (t ≡ Done → has_journal c ≡ true → s ≡ JournalFailed → ⊥)
     → Asks c bytes t → EndsAs NoMemory s t
@@ -189,6 +171,7 @@ abbrev pub Owes : Status → Option (List ℕ) → Type 0 → Type 0 → Type 0 
 Owes s old D R K c = IfSome c (λ command. (D → ⊥) → IfSome old (λ bytes. (t : Status) → Asks command bytes t
     → (t ≡ Done → (R → ⊥) × (has_journal command ≡ true → K → ⊥)) → EndsAs NoMemory s t))
 
+-- so a run owes that, whether or not its words are a command and its source tells its bytes
 owed : (c : Option Command) (s : Status) (old new : Option (List ℕ)) (D R K : Type 0) → InputOf c s old new
     → (s ≡ ReadFailed → D) → (s ≡ ReportFailed → R) → (s ≡ JournalFailed → K) → Owes s old D R K c
 owed None s old new D R K input read report journal = tt
@@ -197,6 +180,7 @@ owed (Some c) s (Some bytes) new D R K input read report journal =
     λ sound t a wrote. command_ends c bytes new s t input (λ e. sound (read e))
     (λ done e. (wrote done).0 (report e)) (λ done has e. (wrote done).1 has (journal e)) a
 
+-- and by the words that are the command
 pub owed_for : (w c : Option Command) (s : Status) (old new : Option (List ℕ)) (D R K : Type 0) → w ≡ c → InputOf c s old new
     → (s ≡ ReadFailed → D) → (s ≡ ReportFailed → R) → (s ≡ JournalFailed → K) → Owes s old D R K w
 owed_for w c s old new D R K e input read report journal =

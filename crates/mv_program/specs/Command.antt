@@ -3,7 +3,7 @@ use Rattle.std.specs.Prelude.{ℕ, ◌+◌, ◌-◌, ◌≤◌, ◌&&◌, nat_lt
 use Rattle.std.specs.Str.{bytes_eq}
 use Rattle.mv_deck.specs.Load.{most_jobs}
 use Rattle.mv_line.specs.Number.{number_of, within}
-use Rattle.mv_spool.specs.Limits.{most_initiators}
+use Rattle.mv_deck.specs.Weight.{most_initiators}
 use Rattle.mv_program.specs.declared.command.Command.{Command}
 use Rattle.mv_program.specs.declared.command.Command.TheVariants.{Spool, Load, Script, Replay, Convert}
 

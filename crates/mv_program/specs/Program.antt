@@ -28,24 +28,22 @@ IsFound n input Done = first_fault input n ≡ None
 IsFound n input (Deck fault) = first_fault input n ≡ Some fault
 IsFound n input _ = ⊥
 
-abbrev pub DeckAsks : ℕ → List ℕ → Status → Type 0
-DeckAsks n input TooLong = deck_limit < length input
-DeckAsks n input status = (length input ≤ deck_limit) × IsFound n input status
-
 -- what a script is found to be
 abbrev pub IsScriptFound : List ℕ → Status → Type 0
 IsScriptFound input Done = scripts.first_fault input ≡ None
 IsScriptFound input (Script fault) = scripts.first_fault input ≡ Some fault
 IsScriptFound input _ = ⊥
 
-abbrev pub ScriptAsks : List ℕ → Status → Type 0
-ScriptAsks input TooLong = deck_limit < length input
-ScriptAsks input status = (length input ≤ deck_limit) × IsScriptFound input status
+-- what a text of either kind asks for, by what it is found to be
+abbrev pub TextAsks : (List ℕ → Status → Type 0) → List ℕ → Status → Type 0
+TextAsks Found input TooLong = deck_limit < length input
+TextAsks Found input status = (length input ≤ deck_limit) × Found input status
 
+-- what an input asks of each command
 abbrev pub Asks : Command → List ℕ → Status → Type 0
-Asks (Spool n) input status = DeckAsks n input status
+Asks (Spool n) input status = TextAsks (IsFound n) input status
 Asks (Load jobs n) input status = status ≡ Done
-Asks asked.Script input status = ScriptAsks input status
+Asks asked.Script input status = TextAsks IsScriptFound input status
 Asks Replay input status = IsSomeAnd (replay_of status) (λ s. replay.Asks input s)
 Asks Convert input status = IsSomeAnd (replay_of status) (λ s. replay.Asks input s)
 
@@ -70,6 +68,7 @@ pub record TellsReport (Reports : List ℕ → List ℕ → Type 0) (input repor
   pub reported : Reports input report
   pub none : journal ≡ []
 
+-- the texts that each command tells
 abbrev pub Tells : Command → (input report journal : List ℕ) → Type 0
 Tells (Spool n) input report journal = TellsRun n input report journal
 Tells (Load jobs n) input report journal = TellsLoad jobs n report journal
@@ -99,35 +98,30 @@ input_told command input = if reads_input command then input else Some []
 
 -- ---- the input, and what is left of it
 
--- a deck was read to its end, and is found to be that
-pub record IsDeck (n : ℕ) (input : List ℕ) (left : Option (List ℕ)) (found : Status) : Type 0 where
+-- a text was read to its end, and is found to be that
+pub record IsText (Found : List ℕ → Status → Type 0) (input : List ℕ) (left : Option (List ℕ)) (found : Status) : Type 0 where
   pub read : IsWhole deck_limit input left
-  pub is : IsFound n input found
+  pub is : Found input found
 
+-- the input of a command that reads a text whole, but for the faults of that
+abbrev pub TextOf : (List ℕ → Status → Type 0) → Status → Option (List ℕ) → Option (List ℕ) → Type 0
+TextOf Found Done old new = IfSome old (λ bytes. IsText Found bytes new Done)
+TextOf Found ReportFailed old new = IfSome old (λ bytes. IsText Found bytes new Done)
+TextOf Found JournalFailed old new = IfSome old (λ bytes. IsText Found bytes new Done)
+TextOf Found TooLong old new = IfSome old (λ bytes. IsTooLong deck_limit bytes new)
+TextOf Found ReadFailed old new = IfSome old (λ bytes. IsCut deck_limit bytes new)
+TextOf Found NoMemory old new = IsAllOrNothing deck_limit old new
+TextOf Found _ old new = ⊥
+
+-- that of a deck, with its faults
 abbrev pub DeckOf : ℕ → Status → Option (List ℕ) → Option (List ℕ) → Type 0
-DeckOf n Done old new = IfSome old (λ bytes. IsDeck n bytes new Done)
-DeckOf n ReportFailed old new = IfSome old (λ bytes. IsDeck n bytes new Done)
-DeckOf n JournalFailed old new = IfSome old (λ bytes. IsDeck n bytes new Done)
-DeckOf n (Deck fault) old new = IfSome old (λ bytes. IsDeck n bytes new (Deck fault))
-DeckOf n TooLong old new = IfSome old (λ bytes. IsTooLong deck_limit bytes new)
-DeckOf n ReadFailed old new = IfSome old (λ bytes. IsCut deck_limit bytes new)
-DeckOf n NoMemory old new = IsAllOrNothing deck_limit old new
-DeckOf n _ old new = ⊥
+DeckOf n (Deck fault) old new = IfSome old (λ bytes. IsText (IsFound n) bytes new (Deck fault))
+DeckOf n status old new = TextOf (IsFound n) status old new
 
--- a script was read to its end, and is found to be that
-pub record IsScript (input : List ℕ) (left : Option (List ℕ)) (found : Status) : Type 0 where
-  pub read : IsWhole deck_limit input left
-  pub is : IsScriptFound input found
-
+-- and of a script
 abbrev pub ScriptOf : Status → Option (List ℕ) → Option (List ℕ) → Type 0
-ScriptOf Done old new = IfSome old (λ bytes. IsScript bytes new Done)
-ScriptOf ReportFailed old new = IfSome old (λ bytes. IsScript bytes new Done)
-ScriptOf JournalFailed old new = IfSome old (λ bytes. IsScript bytes new Done)
-ScriptOf (Script fault) old new = IfSome old (λ bytes. IsScript bytes new (Script fault))
-ScriptOf TooLong old new = IfSome old (λ bytes. IsTooLong deck_limit bytes new)
-ScriptOf ReadFailed old new = IfSome old (λ bytes. IsCut deck_limit bytes new)
-ScriptOf NoMemory old new = IsAllOrNothing deck_limit old new
-ScriptOf _ old new = ⊥
+ScriptOf (Script fault) old new = IfSome old (λ bytes. IsText IsScriptFound bytes new (Script fault))
+ScriptOf status old new = TextOf IsScriptFound status old new
 
 -- a load reads nothing, so it ends as its deck asks, or for want of memory, or because a sink fails
 abbrev pub EndsLoad : Status → Type 0
@@ -137,6 +131,7 @@ EndsLoad JournalFailed = Unit {0}
 EndsLoad NoMemory = Unit {0}
 EndsLoad _ = ⊥
 
+-- what the input was, and what is left of it, by the command and the status
 abbrev pub InputOf : Option Command → Status → Option (List ℕ) → Option (List ℕ) → Type 0
 InputOf (Some (Spool n)) status old new = DeckOf n status old new
 InputOf (Some (Load jobs n)) status old new = EndsLoad status × (new ≡ old)

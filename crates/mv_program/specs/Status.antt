@@ -9,18 +9,19 @@ use Rattle.mv_program.specs.declared.status.Status.TheVariants.{Done, Words, Dec
 use Rattle.mv_program.specs.declared.status.Status.TheVariants.{JournalFailed, NoMemory, Illegal, Text}
 use Rattle.mv_program.specs.declared.status.Status.TheVariants.{Script}
 
-abbrev pub exit_of : Status → ℕ
-exit_of Done = 0
-exit_of Words = 2
-exit_of (Deck f) = 3
-exit_of TooLong = 4
-exit_of ReadFailed = 5
-exit_of ReportFailed = 6
-exit_of JournalFailed = 7
-exit_of NoMemory = 8
-exit_of (Script f) = 9
-exit_of (Illegal line) = 10
-exit_of (Text f) = 11
+-- the exit status of the process
+abbrev pub exit_status : Status → ℕ
+exit_status Done = 0
+exit_status Words = 2
+exit_status (Deck f) = 3
+exit_status TooLong = 4
+exit_status ReadFailed = 5
+exit_status ReportFailed = 6
+exit_status JournalFailed = 7
+exit_status NoMemory = 8
+exit_status (Script f) = 9
+exit_status (Illegal line) = 10
+exit_status (Text f) = 11
 
 -- what is told on the notes
 abbrev pub note_of : Status → Option Note

@@ -1,11 +1,12 @@
 -- The texts of the run of a deck: its report, and the journal that tells its history; and those of the run of a script: its answers,
 -- and the journal that tells its history.
-use Rattle.std.specs.Prelude.{◌≡◌, ℕ, List}
+use Rattle.std.specs.Prelude.{◌≡◌, ℕ, ◌≤◌, List, length}
 use Rattle.mv_deck.specs.Deck.{JobData, deck_of}
 use Rattle.mv_entrytext.specs.Fault.{HasJournal, journal_of}
 use Rattle.mv_entrytext.specs.Journal.{journal_text}
 use Rattle.mv_machine.specs.declared.entry.Entry.{Entry}
 use Rattle.mv_machine.specs.Legal.{Legal}
+use Rattle.mv_machine.specs.Limits.{events_limit}
 use Rattle.mv_machine.specs.Orderly.{IsOrderly, IsExact}
 use Rattle.mv_machine.specs.Setup.{Setup}
 use Rattle.mv_plan.specs.SpoolRun.{IsRun}
@@ -24,13 +25,15 @@ deck_limit = 1048576
 abbrev pub report_of : List ℕ → List ℕ
 report_of input = report (deck_of input)
 
--- a text tells one legal history: it is the text of this configuration and these events, which are read off it again
+-- a text tells one legal history: it is the text of this configuration and these events, which are read off it again and are no
+-- more than a run may have
 pub record TellsHistory (text : List ℕ) (setup : Setup) (events : List Entry) : Type 0 where
   pub written : HasJournal setup events
   pub kept : text ≡ journal_text setup events
   pub setup_read : (journal_of text).setup ≡ setup
   pub events_read : (journal_of text).entries ≡ events
   pub legal : Legal setup events
+  pub few : length events ≤ events_limit
 
 -- a text is the journal of a run of the deck by so many initiators: of a history in which each task has done its program, as it
 -- is asked of it, and nothing else was done. In each of them what was granted was granted in order, and each code that was

@@ -6,7 +6,7 @@ ghost use Rattle.mv_io.specs.Fault.{Rose};
 ghost use Rattle.mv_ending.specs.Ending.{EndsAs};
 ghost use Rattle.mv_ending.specs.Note.{NotesAfter};
 ghost use Rattle.mv_ending.specs.Written.{IfUnwritten, WroteOf};
-ghost use Rattle.mv_spool.specs.Limits.{most_initiators};
+ghost use Rattle.mv_deck.specs.Weight.{most_initiators};
 ghost use Rattle.mv_program.specs.Command.{command_of as command_by_words, AreInitiators, AreJobs};
 ghost use Rattle.mv_program.specs.Program.{Asks, EndsLoad, InputOf, TellsLoad, Told, extent_of, has_journal, reads_input, Writes};
 ghost use Rattle.mv_program.specs.Status.{note_of as note_by_status, replay_of};

@@ -1,7 +1,7 @@
 //! How a run ended.
 
 ghost use Rattle.std.specs.Prelude.{◌≡◌, Some};
-ghost use Rattle.mv_program.specs.Status.{exit_of, note_of as note_by_status, replay_of};
+ghost use Rattle.mv_program.specs.Status.{exit_status, note_of as note_by_status, replay_of};
 
 use mv_deck::DeckFault;
 use mv_ending::Note;
@@ -30,7 +30,7 @@ pub enum Status {
     NoMemory,
     /// The script has this fault, its first.
     Script(ScriptFault),
-    /// The journal is replayed up to this line, whose entry is the first that is not the machine's.
+    /// The entry on this line of the journal is the first that is not the machine's, or is not numbered as its call is.
     Illegal(u32),
     /// The text of the journal has this fault, its first.
     Text(TextFault),
@@ -39,7 +39,7 @@ pub enum Status {
 impl Status {
     /// The exit status of the process: 0 for `Done` alone. docs/FORMATS.md has them all.
     pub fn exit(&self) -> u8
-        ensures { result ≡ exit_of self.now }
+        ensures { result ≡ exit_status self.now }
     {
         match self {
             Status::Done => 0,

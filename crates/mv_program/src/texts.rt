@@ -7,7 +7,7 @@ ghost use Rattle.mv_deck.specs.Load.{load_text};
 ghost use Rattle.mv_deck.specs.Sound.{IsSound};
 ghost use Rattle.mv_report.specs.Outcome.{report};
 ghost use Rattle.mv_report.specs.Summary.{load_summary};
-ghost use Rattle.mv_spool.specs.Limits.{most_initiators};
+ghost use Rattle.mv_deck.specs.Weight.{most_initiators};
 ghost use Rattle.mv_program.specs.Command.{AreInitiators, AreJobs};
 ghost use Rattle.mv_script.specs.Fault as scripts;
 ghost use Rattle.mv_script.specs.Script.{script_data, script_of};

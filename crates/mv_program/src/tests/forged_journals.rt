@@ -1,7 +1,6 @@
 //! Journals that are cut, or say of one event what is not so. `replay` and `convert` refuse each at the line where it is.
 
 use super::*;
-use std::num::ParseIntError;
 
 // A task posts two of its blocks and waits for two of the three, and then looks at the third. The events stand on the lines 12 to 20.
 const WAIT: &str = "\
@@ -54,103 +53,107 @@ EVENTS
 END 9
 ";
 
+// What is said otherwise of each event of the first: that its place is one higher, or that its reply is another; and at the end a number
+// with a leading zero. Beside each stands the line on which it is refused.
+const FORGERIES: &str = "\
+10 ILLEGAL AT LINE 12|E0 0 POST 7 = POSTED|E0 1 POST 7 = POSTED
+10 ILLEGAL AT LINE 13|E2 0 POST 9 = POSTED|E2 1 POST 9 = POSTED
+10 ILLEGAL AT LINE 14|E0 1 ARM = COMPLETE 7|E0 2 ARM = COMPLETE 7
+10 ILLEGAL AT LINE 15|E1 0 ARM = ARMED|E1 1 ARM = ARMED
+10 ILLEGAL AT LINE 16|E2 1 ARM = COMPLETE 9|E2 2 ARM = COMPLETE 9
+10 ILLEGAL AT LINE 17|E0 2 SETTLE = COMPLETE 7|E0 3 SETTLE = COMPLETE 7
+10 ILLEGAL AT LINE 18|E1 1 SETTLE = OPEN|E1 2 SETTLE = OPEN
+10 ILLEGAL AT LINE 19|E2 2 SETTLE = COMPLETE 9|E2 3 SETTLE = COMPLETE 9
+10 ILLEGAL AT LINE 20|E1 2 TEST = WORD 0|E1 3 TEST = WORD 0
+10 ILLEGAL AT LINE 12|E0 0 POST 7 = POSTED|E0 0 POST 7 = WORD 1
+10 ILLEGAL AT LINE 13|E2 0 POST 9 = POSTED|E2 0 POST 9 = WORD 1
+10 ILLEGAL AT LINE 14|E0 1 ARM = COMPLETE 7|E0 1 ARM = WORD 1
+10 ILLEGAL AT LINE 15|E1 0 ARM = ARMED|E1 0 ARM = WORD 1
+10 ILLEGAL AT LINE 16|E2 1 ARM = COMPLETE 9|E2 1 ARM = WORD 1
+10 ILLEGAL AT LINE 17|E0 2 SETTLE = COMPLETE 7|E0 2 SETTLE = WORD 1
+10 ILLEGAL AT LINE 18|E1 1 SETTLE = OPEN|E1 1 SETTLE = WORD 1
+10 ILLEGAL AT LINE 19|E2 2 SETTLE = COMPLETE 9|E2 2 SETTLE = WORD 1
+10 ILLEGAL AT LINE 20|E1 2 TEST = WORD 0|E1 2 TEST = WORD 1
+11 JOURNAL LINE 21 KIND 2|END 9|END 09
+";
+
+// The number of its call is one higher.
+const MISNUMBERED: &str = "\
+10 ILLEGAL AT LINE 12|0.0 E0 0|0.1 E0 0
+10 ILLEGAL AT LINE 13|0.1 E2 0|0.2 E2 0
+10 ILLEGAL AT LINE 14|0.2 E0 1|0.3 E0 1
+10 ILLEGAL AT LINE 15|0.2 E1 0|0.3 E1 0
+10 ILLEGAL AT LINE 16|0.2 E2 1|0.3 E2 1
+10 ILLEGAL AT LINE 17|0.2 E0 2|0.3 E0 2
+10 ILLEGAL AT LINE 18|0.2 E1 1|0.3 E1 1
+10 ILLEGAL AT LINE 19|0.2 E2 2|0.3 E2 2
+10 ILLEGAL AT LINE 20|0.3 E1 2|0.4 E1 2
+";
+
 // A journal in version 1, without the numbers of calls.
-fn unnumbered(alloc: Global, journal: &str) -> Result<String, Fail> {
-    let mut text = String::new(alloc);
-    for line in journal.lines().skip(1) {
-        let old = match line.split_once('.') {
-            Some((caller, rest)) => {
-                let (_, event) = rest.split_once(' ').ok_or("no event")?;
-                format!(in alloc; "{caller} {event}\n")?
-            }
-            None => format!(in alloc; "{line}\n")?,
-        };
-        text.push_str(&old)?;
+fn unnumbered(alloc: Global, journal: &str) -> Result<String, AllocError> {
+    let mut text = journal.replace(alloc, "JOURNAL 2", "JOURNAL 1")?;
+    for number in [".0 ", ".1 ", ".2 ", ".3 "] {
+        text = text.replace(alloc, number, " ")?;
     }
-    Ok(format!(in alloc; "JOURNAL 1\n{text}")?)
-}
-
-// A journal is refused, with this note and nothing else written.
-fn assert_refused<X: Abort + AllocGlobal + Threads + Wait + Sync>(
-    rt: &X,
-    command: &str,
-    journal: &[u8],
-    status: Status,
-    note: &str,
-) -> Result<(), Fail> {
-    let mut on = streams_over(rt.alloc(), journal)?;
-    assert_eq!(rt; run(rt, command, &mut on)?, status, "{command}: {note}");
-    assert_written(rt, &on, b"", b"", note.as_bytes());
-    Ok(())
-}
-
-// A text that is cut before any of its bytes ends in the line of that byte.
-fn assert_cut<X: Abort + AllocGlobal + Threads + Wait + Sync>(
-    rt: &X,
-    journal: &[u8],
-) -> Result<(), Fail> {
-    let mut line: u32 = 1;
-    for (length, byte) in journal.iter().enumerate() {
-        let front = journal.get(..length).ok_or("a front")?;
-        let note = format!(in rt.alloc(); "JOURNAL LINE {line} KIND 5\n")?;
-        let fault = Status::Text(TextFault { line, kind: 5 });
-        assert_refused(rt, "replay", front, fault, &note)?;
-        if *byte == b'\n' {
-            line = line.saturating_add(1);
-        }
-    }
-    Ok(())
-}
-
-// What is said otherwise of an event.
-#[derive(Clone, Copy)]
-enum Forgery {
-    Place,
-    Reply,
-    Call,
-}
-
-// The next number.
-fn raised(number: &str) -> Result<u32, ParseIntError> {
-    Ok(number.parse::<u32>()?.saturating_add(1))
-}
-
-// An event's line with a place or a call's number that is one too high, or with another reply.
-fn forged(alloc: Global, event: &str, forgery: Forgery) -> Result<String, Fail> {
-    let (who, rest) = event.split_once(' ').ok_or("no object")?;
-    let (object, rest) = rest.split_once(' ').ok_or("no place")?;
-    let (place, rest) = rest.split_once(' ').ok_or("no operation")?;
-    let (operation, _) = rest.split_once(" = ").ok_or("no reply")?;
-    let text = match forgery {
-        Forgery::Place => {
-            let place = raised(place)?;
-            format!(in alloc; "{who} {object} {place} {rest}")?
-        }
-        Forgery::Reply => format!(in alloc; "{who} {object} {place} {operation} = WORD 1")?,
-        Forgery::Call => {
-            let (caller, call) = who.split_once('.').ok_or("no call")?;
-            let call = raised(call)?;
-            format!(in alloc; "{caller}.{call} {object} {place} {rest}")?
-        }
-    };
     Ok(text)
 }
 
-// Each event in turn is forged, and all others stay.
-fn assert_forgeries<X: Abort + AllocGlobal + Threads + Wait + Sync>(
+// Both commands on journals end with this exit, and with this note.
+fn assert_refused<X: Abort + AllocGlobal + Threads + Wait + Sync>(
     rt: &X,
     journal: &str,
-    forgery: Forgery,
+    exit: u8,
+    note: &str,
 ) -> Result<(), Fail> {
-    for (line, event) in (12..21).zip(journal.lines().skip(11)) {
-        let other = forged(rt.alloc(), event, forgery)?;
-        let text = journal.replace(rt.alloc(), event, &other)?;
-        let note = format!(in rt.alloc(); "ILLEGAL AT LINE {line}\n")?;
-        for command in ["replay", "convert"] {
-            assert_refused(rt, command, text.as_bytes(), Status::Illegal(line), &note)?;
-        }
+    assert_run(rt, "replay", journal, exit, note, "")?;
+    assert_run(rt, "convert", journal, exit, note, "")
+}
+
+// Each of these in turn is said of one event, and all others stay.
+fn assert_forged<X: Abort + AllocGlobal + Threads + Wait + Sync>(
+    rt: &X,
+    journal: &str,
+    forgeries: &str,
+) -> Result<(), Fail> {
+    for row in forgeries.lines() {
+        let (refused, said) = row.split_once('|').ok_or("no event")?;
+        let (event, other) = said.split_once('|').ok_or("no other")?;
+        let (exit, note) = refused.split_once(' ').ok_or("no note")?;
+        let forged = journal.replace(rt.alloc(), event, other)?;
+        let note = format!(in rt.alloc(); "{note}\n")?;
+        assert_refused(rt, &forged, exit.parse::<u8>()?, &note)?;
     }
     Ok(())
+}
+
+#[test]
+fn journals_that_are_forged(rt: HostRuntime) -> Result<(), Fail> {
+    let old = unnumbered(rt.alloc(), WAIT)?;
+    assert_forged(&rt, &old, FORGERIES)?;
+    assert_forged(&rt, WAIT, FORGERIES)?;
+    assert_forged(&rt, WAIT, MISNUMBERED)
+}
+
+// Both commands on a text that is cut before any of its bytes end in the line of that byte.
+fn assert_cut<X: Abort + AllocGlobal + Threads + Wait + Sync>(
+    rt: &X,
+    journal: &str,
+) -> Result<(), Fail> {
+    for length in 0..journal.len() {
+        let front = journal.get(..length).ok_or("a front")?;
+        let line = front.matches("\n").count().saturating_add(1);
+        let note = format!(in rt.alloc(); "JOURNAL LINE {line} KIND 5\n")?;
+        assert_refused(rt, front, 11, &note)?;
+    }
+    Ok(())
+}
+
+#[test]
+fn a_journal_cut_at_each_length(rt: HostRuntime) -> Result<(), Fail> {
+    let old = unnumbered(rt.alloc(), PAUSE)?;
+    assert_cut(&rt, &old)?;
+    assert_cut(&rt, PAUSE)
 }
 
 // A journal of nine events is legal, and is converted to this one.
@@ -159,13 +162,8 @@ fn assert_converted<X: Abort + AllocGlobal + Threads + Wait + Sync>(
     journal: &str,
     converted: &str,
 ) -> Result<(), Fail> {
-    let mut on = streams_over(rt.alloc(), journal.as_bytes())?;
-    assert_eq!(rt; run(rt, "replay", &mut on)?, Status::Done);
-    assert_written(rt, &on, b"LEGAL 9 EVENTS\n", b"", b"");
-    let mut again = streams_over(rt.alloc(), journal.as_bytes())?;
-    assert_eq!(rt; run(rt, "convert", &mut again)?, Status::Done);
-    assert_written(rt, &again, converted.as_bytes(), b"", b"");
-    Ok(())
+    assert_run(rt, "replay", journal, 0, "LEGAL 9 EVENTS\n", "")?;
+    assert_run(rt, "convert", journal, 0, converted, "")
 }
 
 #[test]
@@ -176,34 +174,4 @@ fn the_same_journal_in_both_versions(rt: HostRuntime) -> Result<(), Fail> {
         assert_converted(&rt, &old, journal)?;
     }
     Ok(())
-}
-
-#[test]
-fn a_journal_cut_at_each_length(rt: HostRuntime) -> Result<(), Fail> {
-    assert_cut(&rt, PAUSE.as_bytes())
-}
-
-#[test]
-fn a_journal_of_version_1_cut_at_each_length(rt: HostRuntime) -> Result<(), Fail> {
-    let old = unnumbered(rt.alloc(), PAUSE)?;
-    assert_cut(&rt, old.as_bytes())
-}
-
-#[test]
-fn a_place_that_is_one_too_high(rt: HostRuntime) -> Result<(), Fail> {
-    let old = unnumbered(rt.alloc(), WAIT)?;
-    assert_forgeries(&rt, WAIT, Forgery::Place)?;
-    assert_forgeries(&rt, &old, Forgery::Place)
-}
-
-#[test]
-fn another_reply(rt: HostRuntime) -> Result<(), Fail> {
-    let old = unnumbered(rt.alloc(), WAIT)?;
-    assert_forgeries(&rt, WAIT, Forgery::Reply)?;
-    assert_forgeries(&rt, &old, Forgery::Reply)
-}
-
-#[test]
-fn a_call_number_that_is_one_too_high(rt: HostRuntime) -> Result<(), Fail> {
-    assert_forgeries(&rt, WAIT, Forgery::Call)
 }

@@ -1,5 +1,5 @@
 -- The deck that was read is the one that the input states.
-use Rattle.std.proofs.Common.{ℕ, List, subst, sym}
+use Rattle.std.proofs.Common.{List, subst, sym}
 use Rattle.mv_deck.specs.Deck.{JobData}
 use Rattle.mv_deck.specs.Sound.{IsSound}
 use Rattle.mv_deck.proofs.Sounds.{sound}

@@ -1,8 +1,8 @@
 -- What the run of a load came to is what its summary and its journal tell.
-use Rattle.std.proofs.Common.{◌≡◌, ℕ, ◌<◌, ◌≤◌, ◌^◌, List, length, ap, sym, subst, ◌∙◌, arith}
+use Rattle.std.proofs.Common.{◌≡◌, ℕ, ◌≤◌, List, length, ap, sym, subst, ◌∙◌, arith}
 use Rattle.std.specs.Prelude.{All}
-use Rattle.mv_deck.specs.Deck.{JobData, deck_data, deck_of}
-use Rattle.mv_deck.specs.Load.{load_text, load_jobs}
+use Rattle.mv_deck.specs.Deck.{JobData, deck_data}
+use Rattle.mv_deck.specs.Load.{load_text}
 use Rattle.mv_deck.specs.Sound.{IsSound}
 use Rattle.mv_deck.proofs.LoadJobs.{count_of_jobs}
 use Rattle.mv_deck.proofs.Loads.{no_fault, stated_jobs}
@@ -16,7 +16,7 @@ use Rattle.mv_entrytext.specs.Journal.{journal_text}
 use Rattle.mv_plan.specs.SpoolSetup.{spool_setup}
 use Rattle.mv_report.specs.EndCode.{IsEndCode}
 use Rattle.mv_report.specs.Outcome.{ends, totals}
-use Rattle.mv_report.specs.Summary.{summary_of, summary_text, load_summary}
+use Rattle.mv_report.specs.Summary.{summary_of, summary_text}
 use Rattle.mv_report.proofs.Lengths.{one_end_per_job, eight_totals}
 use Rattle.mv_report.proofs.SoundDecks.{sound_ends}
 use Rattle.mv_program.specs.Texts.{IsJournalOfRun}
