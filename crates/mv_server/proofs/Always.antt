@@ -1,5 +1,5 @@
 -- What holds of each event that a program says, whatever is answered, holds of each entry that its call makes.
-use Rattle.std.proofs.Common.{◌≡◌, ℕ, zero, suc, ◌+◌, ◌≤◌, List, [], ◌∷◌, ◌++◌, length, Option, Some, None, Result, Ok}
+use Rattle.std.proofs.Common.{◌≡◌, ℕ, zero, suc, ◌+◌, ◌≤◌, ◌<◌, List, [], ◌∷◌, ◌++◌, length, Option, Some, None, Result, Ok}
 use Rattle.std.proofs.Common.{Bool, true, false, nat_le, refl, sym, ◌∙◌, subst, arith, if◌then◌else◌}
 use Rattle.std.specs.List.{AllByRecursion}
 use Rattle.mv_ecb.specs.declared.operation.EcbOp.TheVariants as ecb_op
@@ -21,7 +21,8 @@ use Rattle.mv_machine.specs.Setup.{Setup}
 use Rattle.mv_machine.proofs.Lists.{all_append}
 use Rattle.mv_board.specs.Faces.{BoardFace, CallerFace}
 use Rattle.mv_calls.specs.Keeping.{Kept, kept_of}
-use Rattle.mv_calls.specs.Pauses.{allocate, open_lowest, lowest_free, opened, pause, paused, resumed, release, released, is_others_token}
+use Rattle.mv_calls.specs.Pauses.{Gift, allocate, open_lowest, lowest_free, opened, pause, paused, resumed, release, released}
+use Rattle.mv_calls.specs.Pauses.{is_others_token}
 use Rattle.mv_calls.specs.Posts.{Posting, post, post_within, posting, posted_next, each_posted, targets_of}
 use Rattle.mv_calls.specs.Posts as came
 use Rattle.mv_calls.specs.Program.{Program, Do, Done, Early, Wrong, Call, Heard, Says, entries, on_ecb, on_element, unless_refused}
@@ -30,10 +31,10 @@ use Rattle.mv_calls.specs.Refusal as refusal
 use Rattle.mv_calls.specs.Waits.{wait, wait_refusal, refused_if, is_others_block, clear, the_word, arm_all, armed, settle_all, settled}
 use Rattle.mv_calls.specs.Waits.{enough, complete_count}
 use Rattle.mv_wait.specs.Run.{IsServed}
-use Rattle.mv_server.specs.Pool.{pool_setup, answer_at}
+use Rattle.mv_server.specs.Pool.{workers, pool_setup, answer_at}
 use Rattle.mv_server.proofs.Pool.{reach_one}
 use Rattle.mv_wait.proofs.OneBlock.{asked_is}
-use Rattle.mv_server.specs.Right.{IsRight, AreRight, IsReady, Keeps}
+use Rattle.mv_server.specs.Right.{IsRight, AreRight, IsReady, StaysReady}
 
 -- each event that the program may say is so
 abbrev pub Always : {A : Type 0} → (Object → Op → Type 0) → Program A → Type 0
@@ -70,27 +71,28 @@ served_few : {A : Type 0} (most : ℕ) (call : Call A) (Is : A → Type 0) (t u 
 served_few most call Is t u s = let few = s.made.few in let left = s.left in omega arith
 
 -- the same task, with fewer events left
-pub keeps_after : {A : Type 0} (b : BoardFace) (requests : List ℕ) (most : ℕ) (call : Call A) (Is : A → Type 0) (t u : CallerFace)
+pub stays_after : {A : Type 0} (b : BoardFace) (requests : List ℕ) (most : ℕ) (call : Call A) (Is : A → Type 0) (t u : CallerFace)
     → IsServed most call Is t u → IsReady b requests t → Always (IsRight requests) (call (kept_of t.number t.log))
-    → Keeps b requests most t u
-keeps_after b requests most call Is t u s r a = record {
+    → StaysReady b requests most t u
+stays_after b requests most call Is t u s r a = record {
   ready = ready_after b requests most call Is t u s r a;
   number = s.same.number;
   left = served_few most call Is t u s;
 }
 
 -- one call after another
-pub keeps_then : (b : BoardFace) (requests : List ℕ) (m n most : ℕ) (t u v : CallerFace) → Keeps b requests m t u → Keeps b requests n u v
-    → m + n ≤ most → Keeps b requests most t v
-keeps_then b requests m n most t u v first second le = record {
+pub stays_then : (b : BoardFace) (requests : List ℕ) (m n most : ℕ) (t u v : CallerFace)
+    → StaysReady b requests m t u → StaysReady b requests n u v
+    → m + n ≤ most → StaysReady b requests most t v
+stays_then b requests m n most t u v first second le = record {
   ready = second.ready;
   number = second.number ∙ first.number;
   left = (let i = first.left in let j = second.left in omega arith);
 }
 
-pub keeps_more : (b : BoardFace) (requests : List ℕ) (m most : ℕ) (t u : CallerFace) → Keeps b requests m t u → m ≤ most
-    → Keeps b requests most t u
-keeps_more b requests m most t u k le = record { ready = k.ready; number = k.number; left = (let i = k.left in omega arith) }
+pub stays_more : (b : BoardFace) (requests : List ℕ) (m most : ℕ) (t u : CallerFace) → StaysReady b requests m t u → m ≤ most
+    → StaysReady b requests most t u
+stays_more b requests m most t u k le = record { ready = k.ready; number = k.number; left = (let i = k.left in omega arith) }
 
 -- ---- the calls
 
@@ -195,11 +197,11 @@ always_post requests n e code kept right = always_within requests n (length (poo
 
 -- a post of an answer's block with the answer, or of another block
 pub told : (b : BoardFace) (requests : List ℕ) (e code : ℕ) (Is : Posting → Type 0) (t u : CallerFace)
-    → IsServed (reach b.config e) (post b.config e code) Is t u → IsReady b requests t → (3 ≤ e → code ≡ answer_at requests e)
-    → Keeps b requests 1 t u
+    → IsServed (reach b.config e) (post b.config e code) Is t u → IsReady b requests t → (workers ≤ e → code ≡ answer_at requests e)
+    → StaysReady b requests 1 t u
 told b requests e code Is t u s r right =
-    subst (λ k. Keeps b requests k t u) (reach_one b.config (length requests) e r.asked.config)
-    (keeps_after b requests (reach b.config e) (post b.config e code) Is t u s r
+    subst (λ k. StaysReady b requests k t u) (reach_one b.config (length requests) e r.asked.config)
+    (stays_after b requests (reach b.config e) (post b.config e code) Is t u s r
     (subst (λ (c : Setup). Always (IsRight requests) (post c e code (kept_of t.number t.log))) (sym r.asked.config)
     (always_post requests (length requests) e code (kept_of t.number t.log) right)))
 
@@ -229,6 +231,18 @@ always_pause requests c t kept =
       on element_reply.Parked = (tt, λ h. always_element (IsRight requests) h.entry.reply (resumed t.element) (λ x. last x))
       on (element_reply.Spent g) = tt
       on x = tt
+
+-- a round of a worker begins: it tells that it is idle, and pauses
+pub begun_round : (b : BoardFace) (requests : List ℕ) (most idle code : ℕ) (token : Token) (IsPosted : Posting → Type 0)
+    (IsPaused : Result Gift Refusal → Type 0) (t old mid new : CallerFace) → idle < workers
+    → IsServed (reach b.config idle) (post b.config idle code) IsPosted old mid → IsServed 2 (pause b.config token) IsPaused mid new
+    → StaysReady b requests most t old → StaysReady b requests (most + 3) t new
+begun_round b requests most idle code token IsPosted IsPaused t old mid new low posted paused since =
+    let told_idle = told b requests idle code IsPosted old mid posted since.ready (λ high. absurd (omega arith)) in
+    let given = stays_after b requests 2 (pause b.config token) IsPaused mid new paused told_idle.ready
+    (always_pause requests b.config token (kept_of mid.number mid.log)) in
+    stays_then b requests most 3 (most + 3) t old new since (stays_then b requests 1 2 3 old mid new told_idle given (omega arith))
+    (omega arith)
 
 pub always_release : (requests : List ℕ) (t : Token) (code : ℕ) (kept : Kept) → Always (IsRight requests) (release t code kept)
 always_release requests t code kept = (tt, λ h. always_element (IsRight requests) h.entry.reply released (λ x. on x)) where

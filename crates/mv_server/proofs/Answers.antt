@@ -20,13 +20,13 @@ use Rattle.mv_machine.specs.System.{System, opening}
 use Rattle.mv_machine.proofs.EntryRuns.{entry_of}
 use Rattle.mv_machine.proofs.Lists.{all_filter, all_at}
 use Rattle.mv_calls.proofs.Hearing.{of_own, of_other}
-use Rattle.mv_server.specs.Pool.{answer_at}
+use Rattle.mv_server.specs.Pool.{workers, answer_at}
 use Rattle.mv_server.specs.Right.{IsRight, AreRight, Finds}
 
 module _ (requests : List ℕ) where
   -- a block of an answer is complete with the answer, if it is
   abbrev HasIt : ℕ → EcbState → Type 0
-  HasIt n (Complete code) = 3 ≤ n → code ≡ answer_at requests n
+  HasIt n (Complete code) = workers ≤ n → code ≡ answer_at requests n
   HasIt n x = Unit {0}
 
   abbrev HaveThem : System → Type 0
@@ -51,7 +51,7 @@ module _ (requests : List ℕ) where
 
   -- who is told that it is complete is told the answer
   told_then : (n : ℕ) (op : EcbOp) (x : EcbState) (code : ℕ) → IsRight requests (Ecb n) (op_on.Ecb op) → HasIt n x
-      → (ecb_step op x).1 ≡ ecb_reply.Complete code → 3 ≤ n → code ≡ answer_at requests n
+      → (ecb_step op x).1 ≡ ecb_reply.Complete code → workers ≤ n → code ≡ answer_at requests n
   told_then n Arm Zero code r h e = absurd (cc e)
   told_then n Arm Waiting code r h e = absurd (cc e)
   told_then n Arm (Extended y) code r h e = absurd (cc e)
@@ -70,7 +70,7 @@ module _ (requests : List ℕ) where
 
   -- an entry that finds a block of an answer complete finds the answer
   abbrev IsTrue : Entry → Type 0
-  IsTrue e = (n code : ℕ) → e.object ≡ Ecb n → e.reply ≡ reply_of.Ecb (ecb_reply.Complete code) → 3 ≤ n → code ≡ answer_at requests n
+  IsTrue e = (n code : ℕ) → e.object ≡ Ecb n → e.reply ≡ reply_of.Ecb (ecb_reply.Complete code) → workers ≤ n → code ≡ answer_at requests n
 
   step : (c : Setup) (s : System) (k : ℕ) (o : Object) (p : ℕ) (op : Op) (r : Reply) → IsNext c s (entry_of k o p op r)
       → IsRight requests o op → HaveThem s → HaveThem (next s (entry_of k o p op r)) × IsTrue (entry_of k o p op r)
@@ -88,7 +88,7 @@ module _ (requests : List ℕ) where
         let same : m ≡ n = cc at in
         let is : (ecb_step op (s.ecb m).state).1 ≡ ecb_reply.Complete code = cc (sym reply_is ∙ found) in
         subst (λ j. code ≡ answer_at requests j) same
-        (told_then m op (s.ecb m).state code right (all m) is (subst (λ j. 3 ≤ j) (sym same) high))
+        (told_then m op (s.ecb m).state code right (all m) is (subst (λ j. workers ≤ j) (sym same) high))
   step c s k (Element m) p (op_on.Element op) r h right all = (all, λ n code at found high. absurd (cc at))
   step c s k (Volume m) p (op_on.Volume op) r h right all = (all, λ n code at found high. absurd (cc at))
   step c s k Latches p (op_on.Latch op) r h right all = (all, λ n code at found high. absurd (cc at))
@@ -114,7 +114,7 @@ module _ (requests : List ℕ) where
 
   -- what any caller found complete is the answer
   pub found_is_answer : (c : Setup) (es : List Entry) (k n code : ℕ) → Legal c es → AllByRecursion (λ e. e.caller < c.callers) es
-      → ((j : ℕ) → j < c.callers → AreRight requests (of j es)) → Finds (of k es) n code → 3 ≤ n → code ≡ answer_at requests n
+      → ((j : ℕ) → j < c.callers → AreRight requests (of j es)) → Finds (of k es) n code → workers ≤ n → code ≡ answer_at requests n
   found_is_answer c es k n code legal callers parts f high =
       let facts = all_true c (opening c) es legal (all_right c.callers es callers parts) (λ n. tt) in
       all_at IsTrue (of k es) f.entry (all_filter IsTrue (λ (e : Entry). e.caller == k) es facts) f.member n code f.object f.found high

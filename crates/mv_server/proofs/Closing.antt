@@ -12,7 +12,7 @@ use Rattle.mv_machine.specs.Legal.{Legal, of}
 use Rattle.mv_machine.specs.Setup.{Setup}
 use Rattle.mv_machine.specs.System.{opening}
 use Rattle.mv_calls.proofs.Interleaved.{callers_exist}
-use Rattle.mv_server.specs.Pool.{pool_setup, days_in}
+use Rattle.mv_server.specs.Pool.{workers, pool_setup, days_in}
 use Rattle.mv_server.specs.Right.{IsBack, AreDone, AreRight, Finds}
 use Rattle.mv_server.proofs.Answers.{found_is_answer}
 
@@ -38,13 +38,13 @@ back_append b requests k n [] t back is last =
 back_append b requests k n (x ∷ ts) t back is last = (back.0, back_append b requests (suc k) n ts t back.1 (omega arith) last)
 
 pub all_back : (b : BoardFace) (requests : List ℕ) (pool tasks : List CallerFace) (server : CallerFace) → AreDone b requests pool
-    → IsBack b requests 3 server → tasks ≡ pool ++ server ∷ [] → AreBack b requests 0 tasks
+    → IsBack b requests workers server → tasks ≡ pool ++ server ∷ [] → AreBack b requests 0 tasks
 all_back b requests pool tasks server done last is =
     subst (λ ts. AreBack b requests 0 ts) (sym is)
-    (back_append b requests 0 3 pool server
+    (back_append b requests 0 workers pool server
     (are_back b requests 0 pool
     (λ i d lt. subst (λ n. IsBack b requests n (get_or pool i d)) (let e : i ≡ 0 + i = omega arith in e) (done.back i d lt)))
-    (let size = done.count in let e : 0 + length pool ≡ 3 = omega arith in e) last)
+    (let size = done.count in let e : 0 + length pool ≡ workers = omega arith in e) last)
 
 -- they are in order
 pub back_in_order : (b : BoardFace) (requests : List ℕ) (k : ℕ) (ts : List CallerFace) → AreBack b requests k ts → AreInOrder b k ts
@@ -78,14 +78,14 @@ get_or_any (x ∷ xs) (suc i) a b lt = get_or_any xs i a b (omega arith)
 -- so what the server found are the answers
 pub answers_are : (b : BoardFace) (requests answers : List ℕ) (es : List Entry) (pool tasks : List CallerFace) (server : CallerFace)
     → b.config ≡ pool_setup (length requests) → Legal b.config es → AllByRecursion (IsIn b.config es) tasks → AreBack b requests 0 tasks
-    → tasks ≡ pool ++ server ∷ [] → length pool ≡ 3 → length answers ≡ length requests
-    → ((r : ℕ) → r < length requests → Finds server.log (3 + r) (get_or answers r 0))
+    → tasks ≡ pool ++ server ∷ [] → length pool ≡ workers → length answers ≡ length requests
+    → ((r : ℕ) → r < length requests → Finds server.log (workers + r) (get_or answers r 0))
     → answers ≡ map days_in requests
 answers_are b requests answers es pool tasks server is legal within back all size count finds =
     same_lists answers (map days_in requests) (count ∙ sym (length-map requests days_in)) (λ r d lt. one r d lt) where
-      four : (j : ℕ) → j < b.config.callers → AreRight requests (of j es)
-      four j lt =
-          let callers : b.config.callers ≡ 4 = ap (λ (s : Setup). s.callers) is in
+      each : (j : ℕ) → j < b.config.callers → AreRight requests (of j es)
+      each j lt =
+          let callers : b.config.callers ≡ workers + 1 = ap (λ (s : Setup). s.callers) is in
           let long = ap length all ∙ length-append pool (server ∷ []) in
           right_parts b requests b.config es 0 tasks back within j (omega arith) (omega arith)
 
@@ -95,27 +95,27 @@ answers_are b requests answers es pool tasks server is legal within back all siz
       one : (r : ℕ) (d : ℕ) → r < length answers → get_or answers r d ≡ get_or (map days_in requests) r d
       one r d lt =
           let low : r < length requests = omega arith in
-          let found : Finds (of server.number es) (3 + r) (get_or answers r 0) =
-          subst (λ log. Finds log (3 + r) (get_or answers r 0)) (sym own) (finds r low) in
-          let answer = found_is_answer requests b.config es server.number (3 + r) (get_or answers r 0) legal
-          (callers_exist b.config (opening b.config) es legal) four found (omega arith) in
+          let found : Finds (of server.number es) (workers + r) (get_or answers r 0) =
+          subst (λ log. Finds log (workers + r) (get_or answers r 0)) (sym own) (finds r low) in
+          let answer = found_is_answer requests b.config es server.number (workers + r) (get_or answers r 0) legal
+          (callers_exist b.config (opening b.config) es legal) each found (omega arith) in
           get_or_any answers r d 0 lt ∙ answer
-          ∙ ap (λ k. days_in (get_or requests k 0)) (let e : 3 + r - 3 ≡ r = omega arith in e)
+          ∙ ap (λ k. days_in (get_or requests k 0)) (let e : workers + r - workers ≡ r = omega arith in e)
           ∙ sym (get_or-map days_in requests r 0 d low)
 
 -- ---- one more answer
 
 pub found_more : (log : List Entry) (answers more : List ℕ) (a n : ℕ) → length answers ≡ n → more ≡ answers ++ a ∷ []
-    → ((r : ℕ) → r < n → Finds log (3 + r) (get_or answers r 0)) → Finds log (3 + n) a
-    → (r : ℕ) → r < n + 1 → Finds log (3 + r) (get_or more r 0)
+    → ((r : ℕ) → r < n → Finds log (workers + r) (get_or answers r 0)) → Finds log (workers + n) a
+    → (r : ℕ) → r < n + 1 → Finds log (workers + r) (get_or more r 0)
 found_more log answers more a n size is finds last r lt = by_number (eq-or-lt_of_le (let le : r ≤ n = omega arith in le)) where
-  by_number : (r ≡ n) ⊎ (r < n) → Finds log (3 + r) (get_or more r 0)
+  by_number : (r ≡ n) ⊎ (r < n) → Finds log (workers + r) (get_or more r 0)
   by_number (inl same) =
-      subst (λ k. Finds log (3 + k) (get_or more k 0)) (sym same)
-      (subst (λ code. Finds log (3 + n) code)
+      subst (λ k. Finds log (workers + k) (get_or more k 0)) (sym same)
+      (subst (λ code. Finds log (workers + n) code)
       (sym (ap (λ xs. get_or xs n 0) is ∙ ap (λ k. get_or (answers ++ a ∷ []) k 0) (sym size) ∙ get_or-append_seam answers a [] 0)) last)
   by_number (inr low) =
-      subst (λ code. Finds log (3 + r) code)
+      subst (λ code. Finds log (workers + r) code)
       (sym (ap (λ xs. get_or xs r 0) is ∙ get_or-append answers (a ∷ []) 0 r (let lt : r < length answers = omega arith in lt)))
       (finds r low)
 

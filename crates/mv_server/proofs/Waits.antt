@@ -21,7 +21,7 @@ use Rattle.mv_calls.specs.Waits.{wait, wait_refusal, is_others_block}
 use Rattle.mv_calls.proofs.Making.{kept_caller}
 use Rattle.mv_wait.specs.Run.{IsServed}
 use Rattle.mv_wait.proofs.OneBlock.{unrefused, waited_made}
-use Rattle.mv_server.specs.Pool.{pool_setup}
+use Rattle.mv_server.specs.Pool.{workers, pool_setup}
 use Rattle.mv_server.specs.Right.{IsRight, AreRight, Finds}
 
 -- ---- what is kept
@@ -47,15 +47,15 @@ plain_of : (requests : List ℕ) (k : ℕ) (log : List Entry) (e : ℕ) → AreR
 plain_of requests k log e right = plain_from requests (nothing_kept k) log e right refl
 
 -- all blocks are the server's
-own_block : (c : Setup) (n e k : ℕ) (log : List Entry) → c ≡ pool_setup n → e < 3 + n → k ≡ 3
+own_block : (c : Setup) (n e k : ℕ) (log : List Entry) → c ≡ pool_setup n → e < workers + n → k ≡ workers
     → is_others_block c (kept_of k log) e ≡ false
 own_block c n e k log is lt server =
     ap not (ap (λ j. owner_of c e == j) (kept_caller (nothing_kept k) log)
-    ∙ eq-eqb (owner_of c e) k (ap (λ (s : Setup). owner_of s e) is ∙ get_or-replicate (3 + n) e 3 0 lt ∙ sym server))
+    ∙ eq-eqb (owner_of c e) k (ap (λ (s : Setup). owner_of s e) is ∙ get_or-replicate (workers + n) e workers 0 lt ∙ sym server))
 
 -- ---- the wait
 
-pub unrefused_wait : (c : Setup) (requests : List ℕ) (n e k : ℕ) (log : List Entry) → c ≡ pool_setup n → e < 3 + n → k ≡ 3
+pub unrefused_wait : (c : Setup) (requests : List ℕ) (n e k : ℕ) (log : List Entry) → c ≡ pool_setup n → e < workers + n → k ≡ workers
     → AreRight requests log → wait_refusal c 1 (e ∷ []) (kept_of k log) ≡ None
 unrefused_wait c requests n e k log is lt server right =
     unrefused c e (kept_of k log) (own_block c n e k log is lt server) (plain_of requests k log e right)

@@ -1,25 +1,44 @@
 -- The configuration of a pool, and what its server is asked.
-use Rattle.std.specs.Prelude.{ℕ, ◌+◌, ◌*◌, ◌-◌, List, [], ◌∷◌, replicate, slice_index}
+use Rattle.std.specs.Prelude.{ℕ, ◌+◌, ◌*◌, ◌-◌, ◌^◌, List, [], ◌∷◌, ◌++◌, replicate, slice_index}
 use Rattle.mv_machine.specs.Setup.{Setup}
 
--- how many workers there are: callers 0 to 2. The server is caller 3
+-- how many workers there are: the callers from 0 on. The server is the caller behind them
 abbrev pub workers : ℕ
 workers = 3
 
--- For so many requests. All blocks are the server's: block w says that worker w is idle, and block 3 + r has the answer to request
--- r. A worker opens its element; in each turn, at most one for each request and one for the stop, it posts that it is idle, pauses,
--- and posts an answer.
--- The server waits on three blocks, clears one and releases, for each request and each worker; then it waits for each answer.
+-- how many requests there are at most
+abbrev pub requests_limit : ℕ
+requests_limit = 10000
+
+-- a request is a number of weeks below this, so that its answer is the code of a post
+abbrev pub weeks_limit : ℕ
+weeks_limit = 2 ^ 27
+
+-- how many events a worker may need for so many requests: it opens its element; in each round, at most one for each request and
+-- one for the stop, it posts that it is idle, pauses, and posts an answer
+abbrev pub worker_events : ℕ → ℕ
+worker_events n = 4 * n + 5
+
+-- how many events the server may need to hand out a code: two for each block that it waits on, a clear and a release
+abbrev pub hand_out_events : ℕ
+hand_out_events = 2 * workers + 2
+
+-- and for so many requests: it hands out each of them and the stop of each worker, and waits for each answer
+abbrev pub server_events : ℕ → ℕ
+server_events n = hand_out_events * (n + workers) + 2 * n
+
+-- For so many requests. All blocks are the server's: block w says that worker w is idle, and behind these is one for the answer to
+-- each request.
 abbrev pub pool_setup : ℕ → Setup
 pool_setup n = record {
-  callers = 4;
+  callers = workers + 1;
   elements_per_caller = 1;
   volumes = 1;
   latches = 1;
   quota = 1;
   posted_quota = 0;
-  budgets = (4 * n + 5) ∷ (4 * n + 5) ∷ (4 * n + 5) ∷ (10 * n + 24) ∷ [];
-  owners = replicate (3 + n) 3;
+  budgets = replicate workers (worker_events n) ++ server_events n ∷ [];
+  owners = replicate (workers + n) workers;
   exits = [];
 }
 
@@ -29,4 +48,4 @@ days_in weeks = 7 * weeks
 
 -- the answer that belongs in a block
 abbrev pub answer_at : List ℕ → ℕ → ℕ
-answer_at requests block = days_in (slice_index requests (block - 3))
+answer_at requests block = days_in (slice_index requests (block - workers))

@@ -1,5 +1,5 @@
 -- What each task of a pool keeps to, whatever the others do: a block of an answer is posted with nothing but that answer.
-use Rattle.std.specs.Prelude.{◌≡◌, ℕ, ◌+◌, ◌^◌, ◌<◌, ◌≤◌, List, length, slice_index_or}
+use Rattle.std.specs.Prelude.{◌≡◌, ℕ, ◌+◌, ◌<◌, ◌≤◌, List, length, slice_index_or}
 use Rattle.std.specs.List.{AllByRecursion, Contains}
 use Rattle.mv_ecb.specs.declared.operation.EcbOp.TheVariants.{Extend, Post}
 use Rattle.mv_ecb.specs.declared.operation.EcbReply.TheVariants.{Complete}
@@ -11,11 +11,11 @@ use Rattle.mv_machine.specs.declared.entry.Op.TheVariants as op_on
 use Rattle.mv_machine.specs.declared.entry.Reply.TheVariants as reply_of
 use Rattle.mv_board.specs.Faces.{BoardFace, CallerFace, IsOf, AreFresh}
 use Rattle.mv_calls.specs.Rest.{IsAtRest}
-use Rattle.mv_server.specs.Pool.{workers, pool_setup, answer_at}
+use Rattle.mv_server.specs.Pool.{workers, requests_limit, weeks_limit, pool_setup, answer_at}
 
 -- a post of a block of an answer has that answer, and no block is extended
 abbrev pub IsRight : List ℕ → Object → Op → Type 0
-IsRight requests (Ecb n) (op_on.Ecb (Post code)) = 3 ≤ n → code ≡ answer_at requests n
+IsRight requests (Ecb n) (op_on.Ecb (Post code)) = workers ≤ n → code ≡ answer_at requests n
 IsRight requests (Ecb n) (op_on.Ecb (Extend exit)) = ⊥
 IsRight requests object op = Unit {0}
 
@@ -28,8 +28,8 @@ AreRight requests es = AllByRecursion (λ e. IsRight requests e.object e.op) es
 -- the board is that of a pool for these requests, which are few and small
 pub record IsAsked (b : BoardFace) (requests : List ℕ) : Type 0 where
   pub config : b.config ≡ pool_setup (length requests)
-  pub few : length requests ≤ 10000
-  pub small : AllByRecursion (λ weeks. weeks < 2 ^ 27) requests
+  pub few : length requests ≤ requests_limit
+  pub small : AllByRecursion (λ weeks. weeks < weeks_limit) requests
 
 -- a task of this board is at rest, and has made right entries
 pub record IsReady (b : BoardFace) (requests : List ℕ) (t : CallerFace) : Type 0 where
@@ -44,18 +44,20 @@ pub record IsBack (b : BoardFace) (requests : List ℕ) (k : ℕ) (t : CallerFac
   pub number : t.number ≡ k
 
 -- the same task is ready again, after at most so many events
-pub record Keeps (b : BoardFace) (requests : List ℕ) (most : ℕ) (t u : CallerFace) : Type 0 where
+pub record StaysReady (b : BoardFace) (requests : List ℕ) (most : ℕ) (t u : CallerFace) : Type 0 where
   pub ready : IsReady b requests u
   pub number : u.number ≡ t.number
   pub left : t.left ≤ u.left + most
 
 -- ---- the workers, before and behind their work
 
+-- they are the workers' tasks, in order, before any event
 pub record AreNew (b : BoardFace) (requests : List ℕ) (ts : List CallerFace) : Type 0 where
   pub asked : IsAsked b requests
   pub count : length ts ≡ workers
   pub fresh : AreFresh b 0 ts
 
+-- they are the workers' tasks, in order, and each is at rest again
 pub record AreDone (b : BoardFace) (requests : List ℕ) (ts : List CallerFace) : Type 0 where
   pub count : length ts ≡ workers
   pub back : (k : ℕ) (d : CallerFace) → k < length ts → IsBack b requests k (slice_index_or ts k d)

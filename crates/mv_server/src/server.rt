@@ -1,14 +1,16 @@
 //! The server and its workers. Clauses cite `specs/Pool.antt` and `specs/Right.antt`.
 
-ghost use Rattle.std.specs.Prelude.{◌≡◌, ◌<◌, ◌≤◌, ◌+◌, ◌*◌, ◌^◌, ℕ, [], length, map, slice_index, slice_index_or, vec_capacity, IfOk, All};
+ghost use Rattle.std.specs.Prelude.{◌≡◌, ◌<◌, ◌≤◌, ◌+◌, ◌*◌, ℕ, [], length, map, slice_index, slice_index_or, vec_capacity, IfOk, All};
 ghost use Rattle.std.specs.List.{AllByRecursion};
 ghost use Rattle.std.specs.Thread.{IsSync};
 ghost use Rattle.mv_board.specs.Faces.{IsFresh, AreFresh};
+ghost use Rattle.mv_element.specs.Table.{release_limit};
 ghost use Rattle.mv_machine.specs.Config.{setup_of};
 ghost use Rattle.mv_machine.specs.Legal.{Legal};
 ghost use Rattle.mv_machine.specs.Limits.{highest_place};
-ghost use Rattle.mv_server.specs.Pool.{workers, pool_setup, days_in};
-ghost use Rattle.mv_server.specs.Right.{IsAsked, IsReady, IsBack, Keeps, AreNew, AreDone, Finds};
+ghost use Rattle.mv_server.specs.Pool.{workers, requests_limit, weeks_limit, worker_events, hand_out_events, server_events};
+ghost use Rattle.mv_server.specs.Pool.{pool_setup, days_in};
+ghost use Rattle.mv_server.specs.Right.{IsAsked, IsReady, IsBack, StaysReady, AreNew, AreDone, Finds};
 
 use mv_board::Closed;
 use mv_element::Token;
@@ -23,6 +25,9 @@ use std::thread::{self, Threads, join};
 /// How many workers there are. Worker w is caller w, its element is w, and block w says that it is idle. Behind these blocks there
 /// is one for the answer to each request.
 const WORKERS: u32 = 3;
+
+/// The blocks that say of each worker that it is idle.
+const IDLE: [u32; WORKERS as usize] = [0, 1, 2];
 
 /// The code that tells a worker that no request follows. Request r is handed out as r + 1.
 const STOP: u32 = 0;
@@ -40,21 +45,21 @@ pub struct Served {
 
 /// What the server is asked: how many days so many weeks have.
 pub fn answer_to(weeks: u32) -> u32
-    requires { weeks < 2 ^ 27 }
+    requires { weeks < weeks_limit }
     ensures { result ≡ days_in weeks }
 {
     7 * weeks
 }
 
-// The workers are callers 0 to 2, and the server, which waits on all blocks, is caller 3.
+// The workers are the callers from 0 on, and the server, which waits on all blocks, is the last.
 fn pool_config(alloc: Global, requests: u32) -> Result<Config, NoMemory>
-    requires few { requests ≤ 10000 }
+    requires few { requests ≤ requests_limit }
     ensures { IfOk result (λ config. setup_of config ≡ pool_setup requests) }
 {
     // A worker opens its element, and posts, pauses and posts, at most for each request and for the stop.
-    let worker = 4 * requests + 5;
-    // The server waits on three blocks, clears one and releases, for each request and each worker, and waits for each answer.
-    let server = 10 * requests + 24;
+    let mut budgets = vec![in alloc; 4 * requests + 5; WORKERS as usize]?;
+    // The server waits on the workers' blocks, clears one and releases, for each request and each worker, and waits for each answer.
+    budgets.push((2 * WORKERS + 2) * (requests + WORKERS) + 2 * requests)?;
     Ok(Config {
         callers: WORKERS + 1,
         elements_per_caller: 1,
@@ -62,7 +67,7 @@ fn pool_config(alloc: Global, requests: u32) -> Result<Config, NoMemory>
         latches: 1,
         quota: 1,
         posted_quota: 0,
-        budgets: vec![in alloc; worker, worker, worker, server]?,
+        budgets,
         owners: vec![in alloc; WORKERS; (WORKERS + requests) as usize]?,
         exits: Vec::new(alloc),
     })
@@ -70,7 +75,7 @@ fn pool_config(alloc: Global, requests: u32) -> Result<Config, NoMemory>
 
 // The same, checked: nothing refuses it.
 fn valid_config(alloc: Global, requests: u32) -> Result<ValidConfig, NoMemory>
-    requires few { requests ≤ 10000 }
+    requires few { requests ≤ requests_limit }
     ensures { IfOk result (λ config. config ≡ pool_setup requests) }
 {
     let config = pool_config(alloc, requests)?;
@@ -88,15 +93,15 @@ fn valid_config(alloc: Global, requests: u32) -> Result<ValidConfig, NoMemory>
 fn work<R: Wait>(rt: &R, station: &Station, task: &mut Task, requests: &[u32])
     requires ready { IsReady station.now requests.now task.old }
     requires number { task.old.number < workers }
-    requires left { 4 * length requests.now + 5 ≤ task.old.left }
-    ensures kept { Keeps station.now requests.now (4 * length requests.now + 5) task.old task.new }
+    requires left { worker_events (length requests.now) ≤ task.old.left }
+    ensures kept { StaysReady station.now requests.now (worker_events (length requests.now)) task.old task.new }
 {
     let count = requests.len() as u32;
     let idle = task.number();
     let Ok(mut token) = allocate(station, rt, task) else {
         return;
     };
-    for turn in 0..count + 1 {
+    for round in 0..count + 1 {
         station.post(rt, task, idle, token.generation);
         let Ok(given) = pause(station, rt, task, token) else {
             return;
@@ -114,12 +119,12 @@ fn work<R: Wait>(rt: &R, station: &Station, task: &mut Task, requests: &[u32])
 // Waits until a worker is idle, and hands this code to the first that is.
 fn hand_out<R: Wait>(rt: &R, station: &Station, task: &mut Task, requests: &[u32], code: u32)
     requires ready { IsReady station.now requests.now task.old }
-    requires code { code < 2 ^ 24 }
-    requires left { 8 ≤ task.old.left }
-    ensures kept { Keeps station.now requests.now 8 task.old task.new }
+    requires code { code < release_limit }
+    requires left { hand_out_events ≤ task.old.left }
+    ensures kept { StaysReady station.now requests.now hand_out_events task.old task.new }
 {
-    let mut found = [WaitSlot::Open, WaitSlot::Open, WaitSlot::Open];
-    let _ = station.wait(rt, task, 1, &[0, 1, 2], &mut found);
+    let mut found = [WaitSlot::Open; WORKERS as usize];
+    let _ = station.wait(rt, task, 1, &IDLE, &mut found);
     for worker in 0..WORKERS {
         if let WaitSlot::Complete(generation) = found[worker as usize] {
             // Cleared first: the worker may be idle again before the release returns.
@@ -143,11 +148,11 @@ fn await_answer<R: Wait>(
     block: u32,
 ) -> u32
     requires ready { IsBack station.now requests.now workers task.old }
-    requires block { block < 3 + length requests.now }
+    requires block { block < workers + length requests.now }
     requires left { 2 ≤ task.old.left }
     ensures finds { Finds task.new.log block result }
     ensures found { (n code : ℕ) → Finds task.old.log n code → Finds task.new.log n code }
-    ensures kept { Keeps station.now requests.now 2 task.old task.new }
+    ensures kept { StaysReady station.now requests.now 2 task.old task.new }
 {
     let mut found = [WaitSlot::Open];
     let Ok(()) = station.wait(rt, task, 1, &[block], &mut found) else {
@@ -168,11 +173,11 @@ fn serve<R: Wait>(
     mut answers: Vec<u32>,
 ) -> (Task, Vec<u32>)
     requires ready { IsBack station.now requests.now workers task }
-    requires left { 10 * length requests.now + 24 ≤ task.left }
+    requires left { server_events (length requests.now) ≤ task.left }
     requires room { (answers.items ≡ []) × (length requests.now ≤ vec_capacity answers) }
     ensures back { IsBack station.now requests.now workers result.0 }
     ensures count { length result.1.items ≡ length requests.now }
-    ensures finds { (r : ℕ) → r < length requests.now → Finds result.0.log (3 + r) (slice_index result.1.items r) }
+    ensures finds { (r : ℕ) → r < length requests.now → Finds result.0.log (workers + r) (slice_index result.1.items r) }
 {
     let count = requests.len() as u32;
     for request in 0..count {
@@ -224,19 +229,6 @@ fn worked<R: Threads + Wait + Sync>(
     pool
 }
 
-// The new tasks of the workers, and that of the server.
-fn pool_and_server(station: &Station, mut tasks: Vec<Task>) -> (Vec<Task>, Task)
-    requires count { length tasks.items ≡ workers + 1 }
-    requires fresh { AreFresh station.now 0 tasks.items }
-    ensures pool { (length result.0.items ≡ workers) × (workers < vec_capacity result.0) × AreFresh station.now 0 result.0.items }
-    ensures server { IsFresh station.now workers result.1 }
-{
-    let Some(server) = tasks.pop() else {
-        unreachable!()
-    };
-    (tasks, server)
-}
-
 // Has the workers and the server do their work, each on a thread of its own.
 fn run_tasks<R: Threads + Wait + Sync>(
     rt: &R,
@@ -252,7 +244,7 @@ fn run_tasks<R: Threads + Wait + Sync>(
     ensures pool { AreDone station.now requests.now result.0.items × (workers < vec_capacity result.0) }
     ensures server { IsBack station.now requests.now workers result.1.0 }
     ensures count { length result.1.1.items ≡ length requests.now }
-    ensures finds { (r : ℕ) → r < length requests.now → Finds result.1.0.log (3 + r) (slice_index result.1.1.items r) }
+    ensures finds { (r : ℕ) → r < length requests.now → Finds result.1.0.log (workers + r) (slice_index result.1.1.items r) }
 {
     join(
         rt,
@@ -274,17 +266,17 @@ pub fn serve_all<R: Threads + Wait + Sync>(
     alloc: Global,
     requests: &[u32],
 ) -> Result<Served, NoMemory>
-    requires few { length requests.now ≤ 10000 }
-    requires small { AllByRecursion (λ weeks. weeks < 2 ^ 27) requests.now }
+    requires few { length requests.now ≤ requests_limit }
+    requires small { AllByRecursion (λ weeks. weeks < weeks_limit) requests.now }
     ensures answers { IfOk result (λ served. served.answers.items ≡ map days_in requests.now) }
     ensures config { IfOk result (λ served. served.config ≡ pool_setup (length requests.now)) }
     ensures legal { IfOk result (λ served. Legal served.config served.journal.items) }
     ensures places { IfOk result (λ served. All (λ e. e.place ≤ highest_place) served.journal.items) }
 {
     let config = valid_config(alloc, requests.len() as u32)?;
-    let (station, tasks) = Station::open(alloc, config)?;
+    let (station, mut pool) = Station::open(alloc, config)?;
     let room = Vec::with_capacity(alloc, requests.len())?;
-    let (pool, server) = pool_and_server(&station, tasks);
+    let server = station.take_last(&mut pool);
     let (mut tasks, (server, answers)) = run_tasks(rt, &station, requests, pool, server, room);
     tasks.push_reserved(server);
     let Closed {

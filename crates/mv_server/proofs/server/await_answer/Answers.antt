@@ -6,7 +6,7 @@ use Rattle.mv_wait.specs.Answers.{slots_of}
 use Rattle.mv_wait.specs.declared.waiting.WaitSlot.TheVariants as slot
 use Rattle.mv_wait.proofs.OneBlock.{slot_is, found_open, found_code}
 use Rattle.mv_server.specs.Right.{Finds}
-use Rattle.mv_server.proofs.Always.{keeps_after, always_wait}
+use Rattle.mv_server.proofs.Always.{stays_after, always_wait}
 use Rattle.mv_server.proofs.Pool.{block_exists}
 use Rattle.mv_server.proofs.Waits.{unrefused_wait, found_made, still_found}
 use Rattle.mv_server.proofs.server.await_answer.Goals as goal
@@ -52,6 +52,6 @@ returns g c =
     c.in-Complete.is in record {
       finds = subst (λ n. Finds u.log block n) code found.2;
       found = λ n code f. still_found t.log u.log (entries served.made.events) n code served.made.longer.logged f;
-      kept = keeps_after c.args.station.now requests 2 (wait config 1 (block ∷ [])) (λ a. a ≡ Ok (slots_of out)) t u served
+      kept = stays_after c.args.station.now requests 2 (wait config 1 (block ∷ [])) (λ a. a ≡ Ok (slots_of out)) t u served
           since.ready (always_wait requests config 1 (block ∷ []) (kept_of t.number t.log));
     }

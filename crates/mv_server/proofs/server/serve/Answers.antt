@@ -1,5 +1,6 @@
 use Rattle.std.proofs.Common.{◌+◌, ◌∷◌, [], length, ap, ◌∙◌, arith}
 use Rattle.std.proofs.lemmas.List.{length-append}
+use Rattle.mv_server.specs.Pool.{workers}
 use Rattle.mv_server.proofs.Closing.{found_more}
 use Rattle.mv_server.proofs.server.serve.Goals as goal
 
@@ -20,5 +21,5 @@ loop-r-preserved g c =
       size = omega arith;
       room = (let r = since.room in let k = c.push_reserved.ensures.capacity in omega arith);
       finds = found_more call.new.task.log answers c.push_reserved.new.self.items call.result c.loop-r.r since.size more
-          (λ r low. call.ensures.found (3 + r) _ (since.finds r low)) call.ensures.finds;
+          (λ r low. call.ensures.found (workers + r) _ (since.finds r low)) call.ensures.finds;
     }
