@@ -54,6 +54,7 @@ takes_from n seen [] = []
 takes_from n seen (e ∷ es) =
     taken_with n seen e.object e.op ++ takes_from n (seen_with n seen e.object e.op e.reply) es
 
+-- what a history takes out of block n
 abbrev pub takes : ℕ → List Entry → List ℕ
 takes n es = takes_from n None es
 
@@ -62,5 +63,6 @@ abbrev pub part_from : ℕ → ℕ → List ℕ → List ℕ
 part_from s i [] = []
 part_from s i (x ∷ xs) = (if i % slots == s then x ∷ [] else []) ++ part_from s (i + 1) xs
 
+-- of items that go to the slots in turn, those of slot s
 abbrev pub part : ℕ → List ℕ → List ℕ
 part s xs = part_from s 0 xs

@@ -1,7 +1,8 @@
 //! The hand-over of items from one task to another. Clauses cite `specs/Setup.antt`, `specs/Ready.antt` and `specs/Slots.antt`.
 
-ghost use Rattle.std.specs.Prelude.{◌≡◌, ◌<◌, ◌≤◌, ◌+◌, ◌*◌, ◌^◌, [], length, vec_capacity, IfOk, All};
+ghost use Rattle.std.specs.Prelude.{◌≡◌, ◌<◌, ◌≤◌, ◌+◌, ◌*◌, [], length, vec_capacity, IfOk, All};
 ghost use Rattle.std.specs.List.{AllByRecursion};
+ghost use Rattle.mv_ecb.specs.Table.{code_limit};
 ghost use Rattle.mv_machine.specs.Legal.{Legal};
 ghost use Rattle.mv_machine.specs.Limits.{highest_place};
 ghost use Rattle.mv_handover.specs.Ready.{IsReady, IsNew, IsOwn, Put, Took, HasPut, HasTaken};
@@ -80,7 +81,7 @@ fn take<R: Wait>(rt: &R, station: &Station, task: &mut Task, ecb: u32) -> u32
 // Posts a block.
 fn put<R: Wait>(rt: &R, station: &Station, task: &mut Task, ecb: u32, code: u32)
     requires block { ecb < 8 }
-    requires code { code < 2 ^ 30 }
+    requires code { code < code_limit }
     requires ready { IsReady station.now task.old.number task.old }
     requires left { 1 ≤ task.old.left }
     ensures put { Put ecb code task.old task.new }
@@ -92,7 +93,7 @@ fn put<R: Wait>(rt: &R, station: &Station, task: &mut Task, ecb: u32, code: u32)
 // Puts each item into the next slot, once that is free.
 fn produce<R: Wait>(rt: &R, station: &Station, mut task: Task, items: &[u32]) -> Task
     requires new { IsNew station.now 0 task }
-    requires codes { AllByRecursion (λ x. x < 2 ^ 30) items.now }
+    requires codes { AllByRecursion (λ x. x < code_limit) items.now }
     requires left { 4 * length items.now ≤ task.left }
     ensures put { HasPut station.now items.now result }
 {
@@ -140,7 +141,7 @@ pub fn hand_over<R: Threads + Wait + Sync>(
     items: &[u32],
 ) -> Result<HandedOver, NoMemory>
     requires few { length items.now ≤ 65535 }
-    requires codes { AllByRecursion (λ x. x < 2 ^ 30) items.now }
+    requires codes { AllByRecursion (λ x. x < code_limit) items.now }
     ensures taken { IfOk result (λ handed. handed.taken.items ≡ items.now) }
     ensures config { IfOk result (λ handed. handed.config ≡ slots_setup (length items.now)) }
     ensures legal { IfOk result (λ handed. Legal handed.config handed.journal.items) }
