@@ -1,6 +1,5 @@
-//! What no clause says: that each call can be made with ample memory, what an exchange answers where the element is released, and two
-//! threads of which one wakes the other; and the hand-offs that `bench/run` times. Tables of calls with their answers are scripts, in
-//! mv_program.
+//! What no clause says: that each call can be made with ample memory, and two threads of which one wakes the other; an exchange, whose
+//! words scripts don't show; and the hand-offs that `bench/run` times. Tables of calls with their answers are scripts, in mv_program.
 
 ghost use Rattle.std.specs.Prelude.{◌≡◌, ◌<◌, ◌≤◌, IfOk};
 ghost use Rattle.mv_element.specs.Table.{release_limit};
@@ -20,20 +19,20 @@ use std::sync::Wait;
 use std::test::Fail;
 use std::thread::{Threads, join};
 
-// A new station with its two tasks, which have this budget, and of which each has its element in use.
+// A new station with its two tasks, which have this budget, and of which each has the first of its two elements in use.
 #[tactic(auto, using(mv_wait::proofs::Compose::served))]
 fn open_two<R: Abort + Wait>(
     rt: &R,
     alloc: Global,
     budget: u32,
 ) -> Result<(Station, Task, Task), Fail>
-    ensures elements { IfOk result (λ r. element_count r.0.config ≡ 2) }
+    ensures elements { IfOk result (λ r. element_count r.0.config ≡ 4) }
     ensures first { IfOk result (λ r. IsOf r.0 r.1 × IsAtRest r.1.log) }
     ensures second { IfOk result (λ r. IsOf r.0 r.2 × IsAtRest r.2.log) }
 {
     let config = Config {
         callers: 2,
-        elements_per_caller: 1,
+        elements_per_caller: 2,
         volumes: 1,
         latches: 1,
         quota: 1,
@@ -47,7 +46,7 @@ fn open_two<R: Abort + Wait>(
     let mut first = station.take_last(&mut tasks);
     assert!(rt; first.left() > 0 && second.left() > 0);
     assert_eq!(rt; allocate(&station, rt, &mut first), Ok(token(0, 0)));
-    assert_eq!(rt; allocate(&station, rt, &mut second), Ok(token(1, 0)));
+    assert_eq!(rt; allocate(&station, rt, &mut second), Ok(token(2, 0)));
     Ok((station, first, second))
 }
 
@@ -199,7 +198,7 @@ fn an_exchange_releases_where_the_word_is_the_one_expected(rt: HostRuntime) -> R
 fn pause_once<R: Abort + Wait>(rt: &R, station: &Station, mut task: Task)
     requires task { IsOf station.now task }
     requires rest { IsAtRest task.log }
-    requires elements { element_count station.now.config ≡ 2 }
+    requires elements { element_count station.now.config ≡ 4 }
 {
     take(rt, station, &mut task, 0, 0);
 }
@@ -208,7 +207,7 @@ fn pause_once<R: Abort + Wait>(rt: &R, station: &Station, mut task: Task)
 fn await_word<R: Abort + Wait>(rt: &R, station: &Station, task: &mut Task, word: u64)
     requires task { IsOf station.now task.old }
     requires rest { IsAtRest task.old.log }
-    requires elements { element_count station.now.config ≡ 2 }
+    requires elements { element_count station.now.config ≡ 4 }
     ensures task { IsOf station.now task.new }
     ensures rest { IsAtRest task.new.log }
 {
@@ -227,7 +226,7 @@ fn release_the_paused<R: Abort + Wait>(
 ) -> Result<ReleaseAnswer, ReleaseRefusal>
     requires task { IsOf station.now task }
     requires rest { IsAtRest task.log }
-    requires elements { element_count station.now.config ≡ 2 }
+    requires elements { element_count station.now.config ≡ 4 }
 {
     await_word(rt, station, &mut task, 2 * PLACE + PAUSED);
     hand(rt, station, &mut task, 0, 0)
@@ -249,11 +248,11 @@ fn a_pause_that_parked_is_woken(rt: HostRuntime) -> Result<(), Fail> {
 fn hand_over<R: Abort + Wait>(rt: &R, station: &Station, mut task: Task, times: u32) -> Task
     requires task { IsOf station.now task }
     requires rest { IsAtRest task.log }
-    requires elements { element_count station.now.config ≡ 2 }
+    requires elements { element_count station.now.config ≡ 4 }
     requires times { times ≤ highest_generation }
 {
     for generation in 0..times {
-        assert!(rt; hand(rt, station, &mut task, 1, generation).is_ok());
+        assert!(rt; hand(rt, station, &mut task, 2, generation).is_ok());
         take(rt, station, &mut task, 0, generation);
     }
     task
@@ -263,11 +262,11 @@ fn hand_over<R: Abort + Wait>(rt: &R, station: &Station, mut task: Task, times: 
 fn hand_back<R: Abort + Wait>(rt: &R, station: &Station, mut task: Task, times: u32) -> Task
     requires task { IsOf station.now task }
     requires rest { IsAtRest task.log }
-    requires elements { element_count station.now.config ≡ 2 }
+    requires elements { element_count station.now.config ≡ 4 }
     requires times { times ≤ highest_generation }
 {
     for generation in 0..times {
-        take(rt, station, &mut task, 1, generation);
+        take(rt, station, &mut task, 2, generation);
         assert!(rt; hand(rt, station, &mut task, 0, generation).is_ok());
     }
     task
@@ -276,26 +275,21 @@ fn hand_back<R: Abort + Wait>(rt: &R, station: &Station, mut task: Task, times: 
 // How often, there and back, on each of two stations: one has not the events for all. `bench/run` times it beside its twin.
 const ROUNDS: u32 = 50_000;
 
-// Two threads hand over to each other and back, each by an element of its own. How many events they had left.
-fn hand_to_and_fro<R: Abort + Wait + Threads + Sync>(
-    rt: &R,
-    alloc: Global,
-) -> Result<[u32; 2], Fail> {
+// Two threads hand over to each other and back, each by an element of its own.
+fn hand_to_and_fro<R: Abort + Wait + Threads + Sync>(rt: &R, alloc: Global) -> Result<(), Fail> {
     let (station, first, second) = open_two(rt, alloc, 3 * ROUNDS + 1)?;
-    let (first, second) = join(
+    join(
         rt,
         || hand_over(rt, &station, first, ROUNDS),
         || hand_back(rt, &station, second, ROUNDS),
     );
-    Ok([first.left(), second.left()])
+    Ok(())
 }
 
 #[test]
 fn two_threads_hand_over_and_back(rt: HostRuntime) -> Result<(), Fail> {
     for _ in 0..2 {
-        let [first, second] = hand_to_and_fro(&rt, rt.alloc())?;
-        // A release and a pause of at most two events, and the allocation.
-        assert!(rt; first <= ROUNDS && second <= ROUNDS);
+        hand_to_and_fro(&rt, rt.alloc())?;
     }
     Ok(())
 }

@@ -1,4 +1,5 @@
-//! Both commands on small journals: legal ones, and one for each way to end otherwise. Larger ones run through the program's top call.
+//! Both commands on small journals: legal ones, and one for each way to end otherwise but want of memory. Larger ones run through the
+//! program's top call.
 
 use super::*;
 use mv_entrytext::TextFault;

@@ -82,13 +82,14 @@ fn a_job_ends_and_then_its_task(rt: HostRuntime) -> Result<(), Fail> {
     take(&rt, &station, &mut task, 9);
     assert_may_end(&rt, &station, &task, 0);
     assert_eq!(rt; end_of_job(&station, &rt, &mut task, 9, 0, 12), ONE);
-    assert!(rt; task.left() > 0);
+    assert!(rt; task.left() > 1);
+    assert_eq!(rt; station.test_ecb(&mut task, 0), 1_073_741_836);
     assert!(rt; allocate(&station, &rt, &mut task).is_ok());
     take(&rt, &station, &mut task, 5);
     assert_may_end(&rt, &station, &task, 1);
     assert_eq!(rt; end_of_task(&station, &rt, &mut task, 5, Some(1), 7), ONE);
-    // An obtain, a purge and a post; then an opening, an obtain, a close, a purge and a post.
-    assert_eq!(rt; task.log().len(), 8);
+    // An obtain, a purge, a post and a test; then an opening, an obtain, a close, a purge and a post.
+    assert_eq!(rt; task.log().len(), 9);
     assert!(rt; task.left() > 0);
     assert_eq!(rt; station.test_ecb(&mut task, 1), 1_073_741_831);
     Ok(())

@@ -1,7 +1,7 @@
 //! What no clause says: that each call can be made with ample memory, how long a chain of exits may be, and two threads that hand over
 //! to each other; and what `bench/run` times. Tables of calls with their answers are scripts, in mv_program.
 
-ghost use Rattle.std.specs.Prelude.{◌≡◌, ◌<◌, ◌≤◌, ◌+◌, length, map, IfOk};
+ghost use Rattle.std.specs.Prelude.{◌≡◌, ◌<◌, ◌≤◌, length, map, IfOk};
 ghost use Rattle.mv_machine.specs.Config.{exit_of};
 ghost use Rattle.mv_calls.specs.Rest.{IsAtRest};
 ghost use Rattle.mv_board.specs.Faces.{IsFresh, IsOf};
@@ -68,11 +68,18 @@ fn open_one(alloc: Global, config: ValidConfig) -> Result<(Station, Task), Fail>
 fn each_call_of_one_event(rt: HostRuntime) -> Result<(), Fail> {
     let budgets = vec![in rt.alloc(); 10]?;
     let owners = vec![in rt.alloc(); 0, 0]?;
-    let config = setup(rt.alloc(), budgets, owners, Vec::new(rt.alloc()))?;
+    let exit = Exit {
+        source: 0,
+        targets: vec![in rt.alloc(); 1]?,
+    };
+    let exits = vec![in rt.alloc(); exit]?;
+    let config = setup(rt.alloc(), budgets, owners, exits)?;
     let (station, mut task) = open_one(rt.alloc(), config)?;
     station.write_volume(&rt, &mut task, 0, 9);
     assert_eq!(rt; station.read_volume(&mut task, 0), 9);
     assert_eq!(rt; station.test_ecb(&mut task, 0), 0);
+    assert_eq!(rt; station.extend(&rt, &mut task, 0, 1), Ok(()));
+    assert_eq!(rt; station.clear(&rt, &mut task, 0), Ok(2_147_483_649));
     assert_eq!(rt;
         station.try_post(&mut task, 1, 0, 5),
         Ok(PostAnswer::Posted)

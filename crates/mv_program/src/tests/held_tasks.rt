@@ -39,7 +39,7 @@ JOBS 2 ENDED 2 ABENDED 0 NOT RUN 0
 VOLUMES 12 0 0 0 0 0 0 0
 ";
 
-// Runs a deck while two points are held for a million turns at most: both are reached, neither hold runs out, and the report is this.
+// Runs a deck while two points are held for a million rounds at most: both are reached, neither hold runs out, and the report is this.
 // The journal has each of these pieces.
 fn assert_meets<X: Abort + AllocGlobal + Threads + Wait + Sync>(
     rt: &X,

@@ -23,6 +23,15 @@ END
 0 3 WAITED C7 O C9
 0 4 WORD 0
 --
+0.0 E0 0 POST 7 = POSTED
+0.1 E2 0 POST 9 = POSTED
+0.2 E0 1 ARM = COMPLETE 7
+0.2 E1 0 ARM = ARMED
+0.2 E2 1 ARM = COMPLETE 9
+0.2 E0 2 SETTLE = COMPLETE 7
+0.2 E1 1 SETTLE = OPEN
+0.2 E2 2 SETTLE = COMPLETE 9
+0.3 E1 2 TEST = WORD 0
 END 9
 ==
 script
@@ -48,6 +57,13 @@ END
 0 5 WORD 1073741832
 0 6 WORD 1073741827
 --
+0.0 E2 0 POST 3 = POSTED
+0.1 E0 0 EXTEND 1 = ARMED
+0.2 E0 1 POST 8 = WOKE 1
+0.2 E1 0 POST 8 = POSTED
+0.2 E2 1 POST 8 = ALREADY 3
+0.3 E1 1 TEST = WORD 1073741832
+0.4 E2 2 TEST = WORD 1073741827
 END 7
 ==
 script
@@ -249,6 +265,15 @@ END
 0 6 WORD 1073741825
 0 7 WORD 1073741824
 --
+0.0 L 0 OBTAIN 0 9 X C = GRANTED 0
+0.1 L 1 OBTAIN 0 9 S P0 = QUEUED 1
+0.2 L 2 OBTAIN 0 5 X P1 = QUEUED 2
+0.3 L 3 RELEASE 0 2 C = WAITING
+0.4 L 4 PURGE 9 = PURGED 2 1
+0.4 E0 0 POST 1 = POSTED
+0.4 E1 0 POST 0 = POSTED
+0.5 E0 1 TEST = WORD 1073741825
+0.6 E1 1 TEST = WORD 1073741824
 END 9
 ==
 script
@@ -287,7 +312,8 @@ END
 END 7
 ";
 
-// Calls on blocks and elements of others, and on blocks that are extended; and lists of a wait that are none.
+// Calls on blocks and elements of others, and on blocks that are extended; and lists of a wait that are none. Of two reasons to
+// refuse a call the first is told.
 const OTHERS: &str = "\
 script
 SCRIPT 2
@@ -296,6 +322,8 @@ ECB 1
 TASK
 WAIT 1 1
 WAIT 1 0 1
+WAIT 3 1 1
+WAIT 0 1 0 1
 CLEAR 1
 EXTEND 1 1
 OBTAIN 0 1 X ECB 1
@@ -305,9 +333,11 @@ END
 0
 0 1 NOTOWNER 0
 0 2 NOTOWNER 1
-0 3 NOTOWNER
-0 4 NOTOWNER
+0 3 TOOMANY
+0 4 DOUBLED 2
 0 5 NOTOWNER
+0 6 NOTOWNER
+0 7 NOTOWNER
 --
 END 0
 ==
@@ -333,10 +363,13 @@ script
 SCRIPT 1
 ECB 0
 ECB 0
+ECB 0
 EXIT 0 1
+EXIT 1 2
 TASK
 EXTEND 0 1
 EXTEND 0 1
+EXTEND 0 2
 WAIT 1 0
 EXTEND 1 1
 CLEAR 0
@@ -348,12 +381,13 @@ END
 0
 0 1 DONE
 0 2 EXTENDED
-0 3 EXTENDED 0
-0 4 BADEXIT
-0 5 WORD 2147483649
-0 6 POSTED
-0 7 COMPLETE 2
-0 8 WORD 0
+0 3 BADEXIT
+0 4 EXTENDED 0
+0 5 BADEXIT
+0 6 WORD 2147483649
+0 7 POSTED
+0 8 COMPLETE 2
+0 9 WORD 0
 --
 END 5
 ==
@@ -606,7 +640,7 @@ fn scripts_with_tokens_that_are_over(rt: HostRuntime) -> Result<(), Fail> {
 }
 
 #[test]
-fn scripts_that_use_up_their_quotas(rt: HostRuntime) -> Result<(), Fail> {
+fn scripts_with_requests_that_wait_and_are_too_many(rt: HostRuntime) -> Result<(), Fail> {
     assert_rows(&rt, REQUESTS)
 }
 
