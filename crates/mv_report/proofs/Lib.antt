@@ -6,9 +6,10 @@ pub mod Steps
 pub mod Totals
 -- ends_go_by_accepted_codes
 pub mod Ends
--- what a deck's own outcome is asked for, and what its report tells
+-- sound_decks_have_reports
 pub mod EndCodes
 pub mod SoundDecks
+-- reports_tell_the_ends
 pub mod Counts
 pub mod ReadBack
 -- worked rows

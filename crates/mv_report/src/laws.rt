@@ -1,10 +1,11 @@
-//! What the definitions of `specs/Outcome.antt` come to, in the words of those who write decks.
+//! What the definitions of `specs/Outcome.antt` and `specs/Report.antt` come to, in the words of those who write and read decks.
 
-ghost use Rattle.std.specs.Prelude.{◌≡◌, ℕ, ◌<◌, ◌≤◌, List, ◌∷◌, ◌++◌, length, map, slice_index, All};
+ghost use Rattle.std.specs.Prelude.{◌≡◌, ℕ, ◌<◌, ◌≤◌, ◌+◌, ◌⊎◌, List, ◌∷◌, ◌++◌, length, map, slice_index, count_by, All};
 ghost use Rattle.mv_deck.specs.Deck.{JobData};
 ghost use Rattle.mv_deck.specs.Sound.{IsSound};
-ghost use Rattle.mv_report.specs.EndCode.{IsEndCode};
+ghost use Rattle.mv_report.specs.EndCode.{IsEndCode, is_ended, is_abended, is_not_run, system_code, user_code};
 ghost use Rattle.mv_report.specs.Outcome.{ends, end_behind, totals, held_of};
+ghost use Rattle.mv_report.specs.Report.{outcome_text};
 
 /// A job that waits for earlier jobs ends by the ends of the whole deck: it is not run exactly where some part of its AFTER
 /// names a job whose end is above the code that the part accepts.
@@ -19,4 +20,13 @@ pub fn sound_decks_have_reports()
     ensures ends { (deck : List JobData) (initiators : ℕ) → IsSound deck initiators → All IsEndCode (ends deck) }
     ensures volumes { (deck : List JobData) (initiators : ℕ) → 1 ≤ initiators → IsSound deck initiators
         → map held_of (totals deck) ≡ totals deck }
+{}
+
+/// A job's line tells its end: no two ends have one line, where no user code stands behind a system code, which does not show. And
+/// the counts of a report count each job once.
+pub fn reports_tell_the_ends()
+    ensures apart { (a b : ℕ) → IsEndCode a → IsEndCode b
+        → (system_code a ≡ 0) ⊎ (user_code a ≡ 0) → (system_code b ≡ 0) ⊎ (user_code b ≡ 0)
+        → outcome_text a ≡ outcome_text b → a ≡ b }
+    ensures counts { (ends : List ℕ) → count_by is_ended ends + count_by is_abended ends + count_by is_not_run ends ≡ length ends }
 {}

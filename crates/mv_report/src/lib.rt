@@ -11,7 +11,7 @@ mod outcome;
 mod report;
 mod summary;
 
-pub use laws::{ends_go_by_accepted_codes, sound_decks_have_reports};
+pub use laws::{ends_go_by_accepted_codes, reports_tell_the_ends, sound_decks_have_reports};
 pub use lines::Lines;
 pub use outcome::{Outcome, outcome_of};
 pub use report::write_report;
