@@ -26,9 +26,9 @@ use Rattle.mv_wait.proofs.Compose.{runs_and_then}
 use Rattle.mv_wait.proofs.Runs.{entry_of, runs_none}
 use Rattle.mv_wait.proofs.Waits.{kept_one}
 use Rattle.mv_pause.specs.Answers.{gift_of, transfer_answer, transfer_refused, IsLow, IsLowRefusal}
-use Rattle.mv_pause.specs.Pausing.{pause_own, IsCurrent}
+use Rattle.mv_pause.specs.Pausing.{pause_own}
 use Rattle.mv_pause.specs.Replies.{HappenedOn, reply_to_release}
-use Rattle.mv_pause.specs.Transferring.{cost, pause_cost, target_refused, IsTransferCause}
+use Rattle.mv_pause.specs.Transferring.{pause_cost, target_refused, IsTransferCause}
 use Rattle.mv_pause.specs.declared.pausing.Given.{Given}
 use Rattle.mv_pause.specs.declared.releasing.ReleaseAnswer.{ReleaseAnswer}
 use Rattle.mv_pause.specs.declared.releasing.ReleaseAnswer.TheVariants as answer
@@ -37,6 +37,7 @@ use Rattle.mv_pause.specs.declared.releasing.ReleaseRefusal.TheVariants as relea
 use Rattle.mv_pause.specs.declared.transferring.TransferRefusal.{TransferRefusal}
 use Rattle.mv_pause.specs.declared.transferring.TransferRefusal.TheVariants as refused
 use Rattle.mv_pause.proofs.Served.{mine}
+use Rattle.mv_calls.specs.Services.{transfer_events}
 
 -- ---- the refusal without event
 
@@ -81,9 +82,6 @@ accepted_by false false generation carried b now e = absurd (cc e)
 pub accepted : (s : Setup) (token : Token) (kept : Kept) → transfer_refusal s (Some token) kept ≡ None
     → IsAccepted (is_others_token s kept token) (kept.in_use token.element) (kept.generation token.element) token.generation
 accepted s token kept e = accepted_by _ _ _ _ (kept.generation token.element == token.generation) refl e
-
-pub is_current : (s : Setup) (token : Token) (kept : Kept) → transfer_refusal s (Some token) kept ≡ None → IsCurrent kept token
-is_current s token kept e = let a = accepted s token kept e in record { used = a.in_use; generation = a.now }
 
 -- ---- a release changes nothing that is kept
 
@@ -176,7 +174,7 @@ target_is_released s current kept (Ok answer.Woke) e = refl
 target_is_released s current kept (Err (release_refusal.Spent now)) e = absurd (cc e)
 target_is_released s current kept (Err release_refusal.Already) e = absurd (cc e)
 
-pub cost_parts : (current : Option Token) → (cost current ≡ 1 + pause_cost current) × (1 ≤ cost current)
+pub cost_parts : (current : Option Token) → (transfer_events current ≡ 1 + pause_cost current) × (1 ≤ transfer_events current)
 cost_parts None = (refl, omega arith)
 cost_parts (Some t) = (refl, omega arith)
 

@@ -22,11 +22,6 @@ use Rattle.mv_pause.specs.declared.releasing.ReleaseRefusal.TheVariants as relea
 use Rattle.mv_pause.specs.declared.transferring.TransferRefusal.{TransferRefusal}
 use Rattle.mv_pause.specs.declared.transferring.TransferRefusal.TheVariants as refused
 
--- how many events a transfer may need
-abbrev pub cost : Option Token → ℕ
-cost None = 1
-cost (Some t) = 3
-
 -- and how many of them are its pause's
 abbrev pub pause_cost : Option Token → ℕ
 pause_cost None = 0

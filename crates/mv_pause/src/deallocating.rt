@@ -1,6 +1,6 @@
 //! The end of an element's use. Clauses cite the programs' `Pauses.antt`, and `specs/Answers.antt` and `specs/Deallocating.antt`.
 
-ghost use Rattle.std.specs.Prelude.{◌≡◌, ◌<◌, ◌≤◌, false, Ok, MatchResult};
+ghost use Rattle.std.specs.Prelude.{◌≡◌, ◌<◌, false, Ok, MatchResult};
 ghost use Rattle.mv_element.specs.declared.operation.ElementOp.TheVariants as element_op;
 ghost use Rattle.mv_element.specs.declared.operation.ElementReply.TheVariants as element_reply;
 ghost use Rattle.mv_machine.specs.Setup.{element_count};

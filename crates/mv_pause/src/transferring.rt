@@ -1,8 +1,7 @@
 //! A release and a pause in one call. Clauses cite the programs' `Pauses.antt`, and `specs/Answers.antt` and
 //! `specs/Transferring.antt`.
 
-ghost use Rattle.std.specs.Prelude.{◌≡◌, ◌<◌, ◌≤◌, ◌+◌, Option, Some, None, IfOk, IfSome, MatchResult, option_map};
-ghost use Rattle.mv_element.specs.declared.element.Token.{Token};
+ghost use Rattle.std.specs.Prelude.{◌≡◌, ◌<◌, ◌≤◌, ◌+◌, Some, None, IfOk, IfSome, MatchResult, option_map};
 ghost use Rattle.mv_element.specs.Table.{release_limit};
 ghost use Rattle.mv_machine.specs.Setup.{element_count};
 ghost use Rattle.mv_machine.specs.Limits.{highest_generation};
@@ -10,9 +9,10 @@ ghost use Rattle.mv_board.specs.Faces.{IsOf};
 ghost use Rattle.mv_calls.specs.Keeping.{kept_of};
 ghost use Rattle.mv_calls.specs.Pauses.{transfer, transfer_refusal};
 ghost use Rattle.mv_calls.specs.Rest.{IsAtRest};
+ghost use Rattle.mv_calls.specs.Services.{transfer_events};
 ghost use Rattle.mv_wait.specs.Run.{IsServed};
 ghost use Rattle.mv_pause.specs.Answers.{transfer_answer, transfer_refused, IsLow, IsLowRefusal};
-ghost use Rattle.mv_pause.specs.Transferring.{cost, target_refused, IsPausedBy, IsGivenTo, IsTransferCause};
+ghost use Rattle.mv_pause.specs.Transferring.{target_refused, IsPausedBy, IsGivenTo, IsTransferCause};
 
 use crate::owning::{is_others, wake_owner};
 use crate::pausing::{Given, pause_own};
@@ -58,8 +58,8 @@ pub fn transfer<R: Wait>(
     requires current { IfSome current (λ t. t.element < element_count station.now.config) }
     requires target { target.element < element_count station.now.config }
     requires code { code < release_limit }
-    requires left { cost current ≤ task.old.left }
-    ensures served { IsServed (cost current) (transfer station.now.config current target code)
+    requires left { transfer_events current ≤ task.old.left }
+    ensures served { IsServed (transfer_events current) (transfer station.now.config current target code)
         (λ a. a ≡ transfer_answer result) task.old task.new }
     ensures causes { MatchResult result
         (λ given. (transfer_refusal station.now.config current (kept_of task.old.number task.old.log) ≡ None)
@@ -131,7 +131,7 @@ fn pause_current<R: Wait>(
     requires rest { IsAtRest task.old.log }
     requires current { IfSome current (λ t. t.element < element_count station.now.config) }
     requires accepted { transfer_refusal station.now.config current (kept_of task.old.number task.old.log) ≡ None }
-    requires left { cost current ≤ task.old.left + 1 }
+    requires left { transfer_events current ≤ task.old.left + 1 }
     ensures paused { IsPausedBy station.now.config current result task.old task.new }
     ensures given { IsGivenTo current result task.new.log }
     ensures rest { IsAtRest task.new.log }

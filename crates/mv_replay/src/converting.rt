@@ -1,4 +1,4 @@
-//! The command `convert`: what is read, judged and written. Its clauses cite specs/Outcome.
+//! The command `convert`: what is read, judged and written. Its clauses cite specs/Outcome and specs/Judgement.
 
 ghost use Rattle.std.specs.Prelude.{◌≡◌, ◌≤◌, IfOk};
 ghost use Rattle.mv_io.specs.Fault.{Rose};
@@ -8,7 +8,7 @@ ghost use Rattle.mv_replay.specs.Judgement.{IsLegalText};
 ghost use Rattle.mv_replay.specs.Outcome.{IsConversion, InputOf, Owes, ReportAfter, extent_of};
 
 use crate::reading::{LegalJournal, read_legal};
-use crate::reporting::write_report;
+use crate::reporting::write_out;
 use crate::status::ReplayStatus;
 use mv_entrytext::write_journal;
 use mv_io::{NoMemory, Sink, Source};
@@ -62,5 +62,5 @@ pub fn convert_command<D: Source, R: Sink>(
     let Ok(text) = second_version(alloc, legal) else {
         return ReplayStatus::NoMemory;
     };
-    write_report(report, &text)
+    write_out(report, &text)
 }

@@ -6,7 +6,7 @@ ghost use Rattle.mv_ending.specs.Written.{IfUnwritten};
 ghost use Rattle.mv_replay.specs.Outcome.{legal_text, IsReplayReport, InputOf, Owes, ReportAfter, extent_of};
 
 use crate::reading::read_legal;
-use crate::reporting::write_report;
+use crate::reporting::write_out;
 use crate::status::ReplayStatus;
 use mv_ending::Line;
 use mv_io::{Sink, Source};
@@ -71,5 +71,5 @@ pub fn replay_command<D: Source, R: Sink>(
         Err(status) => return status,
     };
     let line = legal_line(legal.journal.entries.len() as u32);
-    write_report(report, line.as_bytes())
+    write_out(report, line.as_bytes())
 }

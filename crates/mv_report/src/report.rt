@@ -1,10 +1,11 @@
 //! The report, written from its first line to its last. `specs/Report.antt` says which bytes that is.
 
-ghost use Rattle.std.specs.Prelude.{◌≡◌, ◌^◌, ◌<◌, ◌≤◌, ◌++◌, length, All, count_by, decimal, OnOk, IfOk, vec_len};
+ghost use Rattle.std.specs.Prelude.{◌≡◌, ◌<◌, ◌≤◌, ◌++◌, length, All, count_by, decimal, OnOk, IfOk, vec_len};
 ghost use Rattle.mv_deck.specs.Deck.{deck_data};
 ghost use Rattle.mv_deck.specs.EndCode.{lowest_abend, not_run};
+ghost use Rattle.mv_deck.specs.Operand.{volume_count};
 ghost use Rattle.mv_report.specs.EndCode.{IsEndCode, is_ended, is_abended, is_not_run};
-ghost use Rattle.mv_report.specs.Report.{digit, abend_text, outcome_text, lines_text, job_text, jobs_text, counts_text};
+ghost use Rattle.mv_report.specs.Report.{digit, abend_text, outcome_text, lines_text, job_text, counts_text};
 ghost use Rattle.mv_report.specs.Report.{volumes_text, closing_text, report_text};
 
 use crate::end_code::{is_abended, is_ended, is_not_run};
@@ -172,7 +173,7 @@ pub fn write_report(
 ) -> Result<Vec<u8>, NoMemory>
     requires one_end_per_job { length ends.now ≡ vec_len deck.now.jobs }
     requires one_lines_per_job { length lines.now ≡ vec_len deck.now.jobs }
-    requires eight_volumes { length volumes.now ≡ 8 }
+    requires eight_volumes { length volumes.now ≡ volume_count }
     requires end_codes { All IsEndCode ends.now }
     ensures text { IfOk result (λ text.
         text.items ≡ report_text (deck_data deck.now) ends.now lines.now volumes.now) }

@@ -1,6 +1,7 @@
 //! The summary of a load. `specs/Summary.antt` says which bytes that is.
 
 ghost use Rattle.std.specs.Prelude.{◌≡◌, length, All, IfOk};
+ghost use Rattle.mv_deck.specs.Operand.{volume_count};
 ghost use Rattle.mv_report.specs.EndCode.{IsEndCode};
 ghost use Rattle.mv_report.specs.Summary.{summary_text};
 
@@ -23,7 +24,7 @@ pub fn write_summary(
     volumes: &[u32],
 ) -> Result<Vec<u8>, NoMemory>
     requires one_end_per_job { length ends.now ≡ jobs }
-    requires eight_volumes { length volumes.now ≡ 8 }
+    requires eight_volumes { length volumes.now ≡ volume_count }
     requires end_codes { All IsEndCode ends.now }
     ensures text { IfOk result (λ text. text.items ≡ summary_text jobs initiators ends.now volumes.now) }
 {

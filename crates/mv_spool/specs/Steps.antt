@@ -3,6 +3,7 @@ use Rattle.std.specs.Prelude.{◌≡◌, ℕ, List, ◌∷◌, length, slice_ind
 use Rattle.mv_board.specs.Faces.{CallerFace}
 use Rattle.mv_calls.specs.Program.{Done, Wrong}
 use Rattle.mv_deck.specs.declared.deck.Step.{Step}
+use Rattle.mv_deck.specs.Operand.{volume_count}
 use Rattle.mv_latchset.specs.declared.token.LatchToken.{LatchToken}
 use Rattle.mv_machine.specs.Reach.{release_cost}
 use Rattle.mv_machine.specs.Setup.{Setup}
@@ -12,7 +13,7 @@ use Rattle.mv_spool.specs.Ran.{Leads, Ran}
 
 -- the configuration has the latches and volumes that steps may name, and a release makes one event
 abbrev pub BearsSteps : Setup → Type 0
-BearsSteps c = (c.latches ≡ 8) × (c.volumes ≡ 8) × (release_cost c ≡ 1)
+BearsSteps c = (c.latches ≡ volume_count) × (c.volumes ≡ volume_count) × (release_cost c ≡ 1)
 
 -- the numbers of the requests that a job last had at the latches
 abbrev pub requests_of : List (Option LatchToken) → ℕ → Option ℕ
@@ -20,7 +21,7 @@ requests_of tokens latch = option_map (λ t. t.id) (slice_index_or tokens latch 
 
 -- there is room for each of eight latches, and each token is of its latch
 pub record AreKept (tokens : List (Option LatchToken)) : Type 0 where
-  pub count : length tokens ≡ 8
+  pub count : length tokens ≡ volume_count
   pub own : (latch : ℕ) (t : LatchToken) → slice_index_or tokens latch None ≡ Some t → t.latch ≡ latch
 
 -- One step was done, whatever steps follow it: they are what is left to do; or the job has ended with this code; or the task is

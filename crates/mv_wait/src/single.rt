@@ -1,8 +1,9 @@
 //! The calls of one event. Clauses cite the calls' `Waits.antt` and `Posts.antt`, and `specs/Run.antt`,
 //! `specs/Answers.antt` and `specs/Single.antt`.
 
-ghost use Rattle.std.specs.Prelude.{◌≡◌, ◌<◌, ◌≤◌, ◌==◌, length, option_map, MatchResult, None, true, false};
+ghost use Rattle.std.specs.Prelude.{◌≡◌, ◌<◌, ◌≤◌, length, option_map, MatchResult, None, true, false};
 ghost use Rattle.mv_ecb.specs.Table.{code_limit};
+ghost use Rattle.mv_machine.specs.Limits.{exits_limit};
 ghost use Rattle.mv_machine.specs.declared.entry.Object.TheVariants as object;
 ghost use Rattle.mv_board.specs.Faces.{IsOf, Missed};
 ghost use Rattle.mv_calls.specs.Keeping.{kept_of};
@@ -108,7 +109,7 @@ impl Station {
         requires task { IsOf self.now me.now }
         requires block { ecb < length self.now.config.owners }
         ensures refusal { option_map extend_refused result ≡ extend_refusal self.now.config ecb exit (kept_of me.now.number me.now.log) }
-        ensures few { result ≡ None → exit ≤ 32768 }
+        ensures few { result ≡ None → exit ≤ exits_limit }
     {
         if self.is_others_block(me, ecb) {
             return Some(ExtendRefusal::NotOwner);

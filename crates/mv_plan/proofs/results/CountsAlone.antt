@@ -13,7 +13,7 @@ use Rattle.mv_machine.specs.System.{System, opening}
 use Rattle.mv_machine.proofs.Standing.{mine}
 use Rattle.mv_plan.specs.HandingOut.{given_codes}
 use Rattle.mv_plan.specs.CountingAlone.{IsCountedBy, CountsStandAlone, ScansAreSteady}
-use Rattle.mv_plan.specs.Purging.{is_purge, is_obtain, purges, obtains, ArePurged}
+use Rattle.mv_plan.specs.Purging.{is_obtain, purges, obtains, ArePurged}
 use Rattle.mv_deck.specs.Deck.{JobData}
 use Rattle.mv_plan.proofs.deck.Plans.{IsPlanned}
 use Rattle.mv_report.specs.Outcome.{total}
@@ -42,6 +42,7 @@ use Rattle.mv_plan.proofs.volumes.Sums.{sum_to, sum_zero}
 use Rattle.mv_plan.proofs.walks.NoneLost.{NoneLost, none_lost_along, none_lost_at_end}
 use Rattle.mv_plan.proofs.volumes.Balance.{Balance, balance_start, balance_next}
 use Rattle.mv_plan.proofs.volumes.Totals.{GivenByEnds, adds_total}
+use Rattle.mv_machine.specs.Orderly.{purged_by}
 
 -- what a caller did last among some entries, if it did anything
 record LastOf (k : ℕ) (es : List Entry) : Type 0 where
@@ -228,20 +229,20 @@ module _ (deck : List JobData) (initiators : ℕ) (some : 1 ≤ initiators) (sou
       ap (λ b. if b then e ∷ obtains (j + 1) rest else obtains (j + 1) rest)
       (not_again j s t w.0 past e lt w.2 (always_now c deck initiators Counted s t past (e ∷ rest) a) p)
       ∙ no_more j (next s e) w.0 v (past ++ e ∷ []) rest lt w.3 (always_next c deck initiators Counted s t w.0 past e rest w.1 w.2 a)
-      (let m : length (purges (j + 1) (past ++ e ∷ [])) ≡ length (purges (j + 1) past) + one_if (is_purge (j + 1) e.op) = purges-push
+      (let m : length (purges (j + 1) (past ++ e ∷ [])) ≡ length (purges (j + 1) past) + one_if (purged_by (j + 1) e.op) = purges-push
       (j + 1) past e in omega arith)
 
   pub no_obtain_after : (j : ℕ) (front rest : List Entry) (e : Entry) → j < length deck → es ≡ front ++ e ∷ rest
-      → is_purge (j + 1) e.op ≡ true → obtains (j + 1) rest ≡ []
+      → purged_by (j + 1) e.op ≡ true → obtains (j + 1) rest ≡ []
   no_obtain_after j front rest e lt q is =
       no_more j (next (after_from (opening c) front) e) (parts.2).0 u (([] ++ front) ++ e ∷ []) rest lt (parts.2).3
       (always_next c deck initiators Counted (after_from (opening c) front) parts.0 (parts.2).0 ([] ++ front) e rest (parts.2).1
       (parts.2).2
       (always_rest c deck initiators Counted (opening c) (start_points deck initiators) parts.0 [] front (e ∷ rest) parts.1
       (subst (λ z. Always c deck initiators Counted (opening c) (start_points deck initiators) [] z) q counted)))
-      (let m : length (purges (j + 1) (front ++ e ∷ [])) ≡ length (purges (j + 1) front) + one_if (is_purge (j + 1) e.op) = purges-push
+      (let m : length (purges (j + 1) (front ++ e ∷ [])) ≡ length (purges (j + 1) front) + one_if (purged_by (j + 1) e.op) = purges-push
       (j + 1) front e in
-      let one : one_if (is_purge (j + 1) e.op) ≡ 1 = ap one_if is in omega arith) where
+      let one : one_if (purged_by (j + 1) e.op) ≡ 1 = ap one_if is in omega arith) where
         parts : (t : Points) × WalkTo c deck initiators (opening c) (start_points deck initiators) front t
             × WalkTo c deck initiators (after_from (opening c) front) t (e ∷ rest) u
         parts = walk-parts c deck initiators (opening c) (start_points deck initiators) u front (e ∷ rest)

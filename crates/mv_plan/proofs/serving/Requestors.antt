@@ -19,7 +19,7 @@ use Rattle.mv_machine.specs.Legal.{IsNext}
 use Rattle.mv_machine.specs.Setup.{Setup}
 use Rattle.mv_machine.specs.System.{System, with_at}
 use Rattle.mv_plan.specs.HandingOut.{gift_code, naming, given_codes}
-use Rattle.mv_plan.specs.Purging.{is_purge, is_obtain, purges}
+use Rattle.mv_plan.specs.Purging.{is_obtain, purges}
 use Rattle.mv_deck.specs.Deck.{JobData}
 use Rattle.mv_deck.specs.declared.deck.Step.{Step}
 use Rattle.mv_deck.specs.declared.deck.Step.TheVariants.{Print, Use, Free, Count, Scan, Abend, Return}
@@ -40,6 +40,7 @@ use Rattle.mv_plan.proofs.walks.NoneLost.{NoneLost, none_lost_before}
 use Rattle.mv_plan.proofs.points.Asks.{IsNoPause, no_gift, reader_no_pause, scheduler_no_pause, writer_no_pause}
 use Rattle.mv_plan.proofs.lists.Tables.{with_at-same, with_at-other}
 use Rattle.mv_plan.proofs.points.Views.{IsNotLost}
+use Rattle.mv_machine.specs.Orderly.{purged_by}
 
 -- ---- counts
 
@@ -60,9 +61,9 @@ abbrev pub names : ℕ → Reply → ℕ
 names j r = length (with_code (naming j (gift_code r)) [])
 
 pub purges-push : (r : ℕ) (past : List Entry) (e : Entry)
-    → length (purges r (past ++ e ∷ [])) ≡ length (purges r past) + one_if (is_purge r e.op)
-purges-push r past e = ap length (filter-append (λ x. is_purge r x.op) past (e ∷ []))
-    ∙ length-append (purges r past) (purges r (e ∷ [])) ∙ ap (λ k. length (purges r past) + k) (go (is_purge r e.op)) where
+    → length (purges r (past ++ e ∷ [])) ≡ length (purges r past) + one_if (purged_by r e.op)
+purges-push r past e = ap length (filter-append (λ x. purged_by r x.op) past (e ∷ []))
+    ∙ length-append (purges r past) (purges r (e ∷ [])) ∙ ap (λ k. length (purges r past) + k) (go (purged_by r e.op)) where
       go : (b : Bool) → length (if b then e ∷ [] else []) ≡ one_if b
       go true = refl
       go false = refl
@@ -187,7 +188,7 @@ module _ (j : ℕ) where
     to_gift w a e = omega arith
 
     abbrev WorkNext : ℕ → InitiatorAt → Reply → Type 0
-    WorkNext i x r = one_if (is_purge (j + 1) (initiator_asks (length deck) i x).1) + work j (initiator_goes deck x r) ≡ work j
+    WorkNext i x r = one_if (purged_by (j + 1) (initiator_asks (length deck) i x).1) + work j (initiator_goes deck x r) ≡ work j
         (At x) + names j r
 
     same_job : (k : ℕ) → one_if (k + 1 == j + 1) + 0 ≡ here j (Some k) + 0
@@ -270,7 +271,7 @@ works_start deck initiators n j lt = add (sum_to initiators (λ i. 0)) (sum_zero
 
 -- neither a purge nor an obtain
 abbrev pub IsNoRequest : Op → Type 0
-IsNoRequest op = (r : ℕ) → (is_purge r op ≡ false) × (is_obtain r op ≡ false)
+IsNoRequest op = (r : ℕ) → (purged_by r op ≡ false) × (is_obtain r op ≡ false)
 
 pub reader_no_request : (x : ReaderAt) → IsNoRequest (reader_asks x).1
 reader_no_request (Entering j more) r = (refl, refl)
@@ -291,9 +292,9 @@ module _ (c : Setup) (deck : List JobData) (initiators : ℕ) where
       → e.op ≡ op → IsNoPause o op → IsNoRequest op
       → WorkBalance deck initiators t past → WorkBalance deck initiators t (past ++ e ∷ [])
   works_same s t past e o op h same_o same_op free quiet w n j lt =
-      let a : length (purges (j + 1) (past ++ e ∷ [])) ≡ length (purges (j + 1) past) + one_if (is_purge (j + 1) e.op) =
+      let a : length (purges (j + 1) (past ++ e ∷ [])) ≡ length (purges (j + 1) past) + one_if (purged_by (j + 1) e.op) =
       purges-push (j + 1) past e in
-      let b : one_if (is_purge (j + 1) e.op) ≡ 0 = ap (λ z. one_if (is_purge (j + 1) z)) same_op ∙ ap one_if (quiet (j + 1)).0 in
+      let b : one_if (purged_by (j + 1) e.op) ≡ 0 = ap (λ z. one_if (purged_by (j + 1) z)) same_op ∙ ap one_if (quiet (j + 1)).0 in
       let d : length (given_codes j (past ++ e ∷ [])) ≡ length (given_codes j past) + names j e.reply = given-push j past e in
       let g : names j e.reply ≡ 0 = ap (λ slot. length (with_code (naming j slot) []))
       (no_gift s e.caller e.object e.op e.reply h.reply
@@ -333,9 +334,9 @@ module _ (c : Setup) (deck : List JobData) (initiators : ℕ) where
       (counts_up (length (purges (j + 1) past)) (length (purges (j + 1) (past ++ e ∷ [])))
       (sum_to initiators (λ m. work j (t.initiators m)))
       (sum_to initiators (λ m. work j (with_at t.initiators i (initiator_goes deck x e.reply) m)))
-      (work j (initiator_goes deck x e.reply)) (work j (At x)) (one_if (is_purge (j + 1) (initiator_asks (length deck) i x).1))
+      (work j (initiator_goes deck x e.reply)) (work j (At x)) (one_if (purged_by (j + 1) (initiator_asks (length deck) i x).1))
       (names j e.reply) (length (given_codes j past)) (length (given_codes j (past ++ e ∷ [])))
-      (purges-push (j + 1) past e ∙ ap (λ z. length (purges (j + 1) past) + one_if (is_purge (j + 1) z)) op)
+      (purges-push (j + 1) past e ∙ ap (λ z. length (purges (j + 1) past) + one_if (purged_by (j + 1) z)) op)
       (own_work j deck few below i x e.reply
       (subst IsNotLost (ap (λ z. z.initiators i) moved_to ∙ with_at-same t.initiators i (initiator_goes deck x e.reply))
       (n.at_initiator i lt)))

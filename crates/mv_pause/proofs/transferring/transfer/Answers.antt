@@ -12,12 +12,13 @@ use Rattle.mv_wait.proofs.Runs.{runs_then, runs_within}
 use Rattle.mv_wait.proofs.Steps.{element_runs, served_by, done_served}
 use Rattle.mv_pause.specs.Answers.{transfer_answer, transfer_refused}
 use Rattle.mv_pause.specs.Replies.{reply_to_release}
-use Rattle.mv_pause.specs.Transferring.{cost, pause_cost, target_refused}
+use Rattle.mv_pause.specs.Transferring.{pause_cost, target_refused}
 use Rattle.mv_pause.proofs.Answering.{says_released}
 use Rattle.mv_pause.proofs.Served.{rests_released}
 use Rattle.mv_pause.proofs.Transfers.{still_accepted, same_pause, refused_whole, accepted_whole, target_is_refused, target_is_released}
 use Rattle.mv_pause.proofs.Transfers.{cost_parts, target_cause, current_cause, target_is_low, transfer_is_low}
 use Rattle.mv_pause.proofs.transferring.transfer.Goals as goal
+use Rattle.mv_calls.specs.Services.{transfer_events}
 
 pub returns-in-Some : goal.returns-in-Some
 returns-in-Some g c =
@@ -25,7 +26,8 @@ returns-in-Some g c =
     let t = c.args.task.now in
     let why = transfer_refused c.in-Some.refusal in
     let is = sym c.refuses_transfer.ensures.refusal ∙ ap (λ z. option_map transfer_refused z) c.in-Some.is in record {
-      served = done_served (cost c.args.current) (transfer s c.args.current c.args.target c.args.code) (λ a. a ≡ Err why) t (Err why)
+      served = done_served (transfer_events c.args.current) (transfer s c.args.current c.args.target c.args.code)
+          (λ a. a ≡ Err why) t (Err why)
           (refused_whole s c.args.current c.args.target c.args.code (kept_of t.number t.log) why is) c.requires.rest refl;
       causes = current_cause s c.args.current c.args.target c.args.code t c.in-Some.refusal is;
       low = (c.in-Some.ensures.low, tt);
@@ -52,9 +54,10 @@ returns-in-Some-refuses_target g c =
     sym c.refuses_target.ensures ∙ ap (λ z. option_map transfer_refused z) c.in-Some-refuses_target.is in
     let h = subst (λ z. Happened t (Element n) (op_on.Element op) z u) c.released-answer.ensures c.event-reply.ensures.event in
     let p = Do (Element n) (op_on.Element op) (λ x. on_element x.entry.reply (transferred s c.args.current kept)) in record {
-      served = served_by (cost c.args.current) (transfer s c.args.current c.args.target c.args.code) (λ a. a ≡ Err why) t u p (Err why)
+      served = served_by (transfer_events c.args.current) (transfer s c.args.current c.args.target c.args.code)
+          (λ a. a ≡ Err why) t u p (Err why)
           (accepted_whole s c.args.current c.args.target c.args.code kept none)
-          (runs_within 1 (cost c.args.current) p (Done (Err why)) t u (cost_parts c.args.current).1
+          (runs_within 1 (transfer_events c.args.current) p (Done (Err why)) t u (cost_parts c.args.current).1
           (element_runs (transferred s c.args.current kept) (Done (Err why)) t u n op (reply_to_release r) h
           (target_is_refused s c.args.current kept r why is)))
           c.requires.rest (rests_released t u n (op_on.Element op) r h c.requires.rest) refl;
@@ -102,7 +105,8 @@ returns g c =
     let pause = pause_current s c.args.current kept in
     let paused = subst (λ q. Runs (pause_cost c.args.current) q (Done answer) u v)
     (same_pause s c.args.current t.number u.number t.log u.log h.1.same.number) c.pause_current.ensures.paused in record {
-      served = served_by (cost c.args.current) (transfer s c.args.current c.args.target c.args.code) (λ a. a ≡ answer) t v p answer
+      served = served_by (transfer_events c.args.current) (transfer s c.args.current c.args.target c.args.code)
+          (λ a. a ≡ answer) t v p answer
           (accepted_whole s c.args.current c.args.target c.args.code kept none)
           (subst (λ m. Runs m p (Done answer) t v) (sym (cost_parts c.args.current).0)
           (runs_then 1 (pause_cost c.args.current) p pause (Done answer) t u v

@@ -1,6 +1,6 @@
 -- What was not written whole is a front.
 use Rattle.mv_replay.proofs.Reported.{front_appended}
-use Rattle.mv_replay.proofs.reporting.write_report.Goals as goal
+use Rattle.mv_replay.proofs.reporting.write_out.Goals as goal
 
 pub returns-in-Err-clause-written : goal.returns-in-Err-clause-written
 returns-in-Err-clause-written g c =
