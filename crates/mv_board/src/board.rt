@@ -1,6 +1,7 @@
-//! The board: how it is opened, and its calls on objects.
+//! The board: how it is opened, and its calls on objects. Clauses cite `specs/Faces.antt`, and of its steps `specs/Steps.antt`,
+//! `specs/View.antt` and `specs/Words.antt`; what contracts see of it is `specs/Board.antt`, and its table keeps `specs/Rule.antt`.
 
-ghost use Rattle.std.specs.Prelude.{◌≡◌, ◌<◌, ◌++◌, ◌∷◌, [], true, length, IfOk, MatchResult, Some};
+ghost use Rattle.std.specs.Prelude.{◌≡◌, ◌<◌, ◌∷◌, [], true, length, IfOk, MatchResult, Some};
 ghost use Rattle.std.specs.List.{Contains};
 ghost use Rattle.mv_machine.specs.Kept.{allowed};
 ghost use Rattle.mv_machine.specs.Parts.{IsPossible};

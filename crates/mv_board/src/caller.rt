@@ -1,4 +1,4 @@
-//! A caller: the events that it made, and its seat at the table.
+//! A caller: the events that it made, and its seat at the table (`specs/Caller.antt`). Clauses cite `specs/Faces.antt`.
 
 ghost use Rattle.std.specs.Prelude.{◌≡◌, ◌<◌, ◌≤◌, ◌-◌, ◌++◌, ◌∷◌, [], vec_len, vec_capacity};
 ghost use Rattle.std.specs.List.{AllByRecursion};

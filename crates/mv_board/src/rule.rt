@@ -1,4 +1,4 @@
-//! The rule of the table, and what each kind of step tells.
+//! The rule of the table, `specs/Rule.antt`, and what each kind of step tells, `specs/Steps.antt` and `specs/Turn.antt`.
 
 use crate::item::Item;
 use crate::view::View;

@@ -1,6 +1,7 @@
-//! The latch set: a turn lends its lists to one caller at a time.
+//! The latch set: a turn lends its lists to one caller at a time. Clauses cite `specs/Turn.antt`, `specs/Faces.antt` and
+//! `specs/View.antt`.
 
-ghost use Rattle.std.specs.Prelude.{◌≡◌, ◌<◌, ◌++◌, ◌∷◌, [], true};
+ghost use Rattle.std.specs.Prelude.{◌≡◌, ◌<◌, ◌∷◌, [], true};
 ghost use Rattle.std.specs.List.{Contains};
 ghost use Rattle.mv_machine.specs.Kept.{allowed};
 ghost use Rattle.mv_machine.specs.Parts.{IsPossible};

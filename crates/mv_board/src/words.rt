@@ -1,4 +1,4 @@
-//! The words of the table, and what an operation makes of one.
+//! The words of the table, and what an operation makes of one: `specs/Words.antt` and `specs/Steps.antt`.
 
 ghost use Rattle.std.specs.Prelude.{◌≡◌, ℕ, Some};
 ghost use Rattle.mv_machine.specs.Elements.{extra as extra_of};

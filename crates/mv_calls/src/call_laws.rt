@@ -1,5 +1,5 @@
-//! What a log says of its last event, and how many events calls may need: the laws of specs/Behind.antt, specs/Replies.antt
-//! and specs/Exits.antt.
+//! What a log says of its last event, and how many events calls may need: the laws of specs/Behind.antt and specs/Exits.antt, and of
+//! the machine's specs/Replies.antt.
 ghost use Rattle.std.specs.Prelude.{◌≡◌, ◌<◌, ◌≤◌, ◌+◌, ◌++◌, ◌∷◌, ℕ, suc, true, List, [], length};
 ghost use Rattle.mv_ecb.specs.declared.operation.EcbOp.{EcbOp};
 ghost use Rattle.mv_ecb.specs.Table.{ecb_step};

@@ -92,7 +92,7 @@ fn check_numbers(
 /// let calls = number_calls(alloc, &config, &journal)?;
 /// let state = replay_calls(alloc, &config, &journal, &calls)?;
 /// ```
-#[tactic(auto, using(crate::proofs::call_numbers::Refused::front_is_legal, crate::proofs::call_numbers::Refused::front_is_within, crate::proofs::call_numbers::Refused::refused_in_front, crate::proofs::call_numbers::Refused::refused_in_all, crate::proofs::call_numbers::Refused::refused_there, crate::proofs::call_numbers::Refused::refused_is_wrong, crate::proofs::call_numbers::Refused::number_is_wrong))]
+#[tactic(auto, using(crate::proofs::call_numbers::Refused::refusals))]
 pub fn replay_calls(
     alloc: Global,
     config: &ValidConfig,

@@ -1,7 +1,7 @@
 //! What is counted of each caller while its entries are numbered. `specs/Numbers.antt` says what a number is, and
 //! `specs/Counters.antt` how contracts see a counter.
 
-ghost use Rattle.std.specs.Prelude.{◌≡◌, ◌++◌, ◌<◌, ◌-◌, ◌^◌, [], reverse, length, IfOk, IfSome};
+ghost use Rattle.std.specs.Prelude.{◌≡◌, ◌++◌, ◌<◌, ◌-◌, ◌^◌, reverse, IfOk};
 ghost use Rattle.mv_calls.specs.Posts.{targets_of};
 ghost use Rattle.mv_calls.specs.Counters.{numbering_of};
 ghost use Rattle.mv_machine.specs.Waking.{blocks_of};

@@ -1,5 +1,5 @@
-//! What a task knows by its own log of its latch requests and of the wakes that it is told, whatever others did: the laws of
-//! specs/Waking.antt and specs/Leaving.antt, and of the latch replies in specs/Replies.antt.
+//! What a task knows by its own log of its latch requests and of the wakes that it is told, whatever others did: the laws of the
+//! machine's specs/Waking.antt, specs/Leaving.antt and Replies.antt, in the words of specs/Behind.antt and specs/Rest.antt.
 ghost use Rattle.std.specs.Prelude.{◌≡◌, ◌↔◌, ◌⊎◌, ◌≤◌, ◌++◌, ◌∷◌, ℕ, true, Bool, List, []};
 ghost use Rattle.std.specs.List.{Contains};
 ghost use Rattle.mv_latch.specs.declared.operation.LatchOp.{LatchOp};

@@ -1,6 +1,6 @@
 //! Worked rows of call numbers.
 
-ghost use Rattle.std.specs.Prelude.{◌≡◌, ◌≤◌, length, IsTrue, All};
+ghost use Rattle.std.specs.Prelude.{◌≤◌, IsTrue, All};
 ghost use Rattle.mv_machine.specs.Limits.{highest_place};
 
 use super::*;

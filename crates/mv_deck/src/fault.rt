@@ -1,4 +1,4 @@
-//! Why a deck could not be read.
+//! Why a deck could not be read: `specs/Fault.antt`.
 
 ghost use Rattle.std.specs.Prelude.{◌≡◌};
 ghost use Rattle.mv_deck.specs.Fault.{kind_number};

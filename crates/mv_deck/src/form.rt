@@ -1,11 +1,10 @@
 //! The form of a line, by its words (`specs/Form.antt`, `specs/Statement.antt`).
 
-ghost use Rattle.std.specs.Prelude.{◌≡◌, ◌<◌, ◌^◌, List, ℕ, length, drop, map, option_map, IfOk};
-ghost use Rattle.std.specs.Borrow.{Bor};
+ghost use Rattle.std.specs.Prelude.{◌≡◌, drop, map, option_map, IfOk};
 ghost use Rattle.mv_deck.specs.Form.{stated, part_data, listed};
 ghost use Rattle.mv_line.specs.Line.{lines_of, without_first_spaces as from_first_field};
 ghost use Rattle.mv_line.specs.Field.{fields_of, one_of, two_of};
-ghost use Rattle.mv_deck.specs.Statement.{Statement, form_of as form_by_words, job_of as named, operation_of as unnamed};
+ghost use Rattle.mv_deck.specs.Statement.{form_of as form_by_words, job_of as named, operation_of as unnamed};
 ghost use Rattle.mv_deck.specs.Statement.{use_of as used, return_of as returns_by, part_of as cut, declared_by};
 ghost use Rattle.mv_deck.specs.Statement.{version_of as version_by_lines};
 

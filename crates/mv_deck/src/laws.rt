@@ -1,4 +1,5 @@
-//! What the first fault of a text is, by its lines alone, and what a text without fault states.
+//! What the first fault of a text is, by its lines alone, and what a text without fault states. Clauses cite `specs/Fault.antt`,
+//! `Faults.antt`, `Deck.antt`, `Sound.antt`, `Weight.antt` and `Load.antt`.
 
 ghost use Rattle.std.specs.Prelude.{◌≡◌, ◌<◌, ◌≤◌, ℕ, List, length, None, MatchOption};
 ghost use Rattle.mv_deck.specs.declared.fault.DeckFault.{DeckFault};

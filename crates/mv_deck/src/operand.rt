@@ -1,9 +1,7 @@
 //! What may stand in the places of names, numbers and codes (`specs/Operand.antt`).
 
-ghost use Rattle.std.specs.Prelude.{◌≡◌, ◌-◌, ◌≤◌, IfSome, Some, None, if◌then◌else◌};
+ghost use Rattle.std.specs.Prelude.{◌≡◌, ◌≤◌, IfSome, Some, None, if◌then◌else◌};
 ghost use Rattle.std.specs.List.{list_all};
-ghost use Rattle.mv_line.specs.Byte.{is_digit as shows_digit};
-ghost use Rattle.mv_line.specs.Number.{number_of, within as is_number_within};
 ghost use Rattle.mv_deck.specs.Operand.{highest_latch, is_name_start as starts_name, is_name_byte as stands_in_name};
 ghost use Rattle.mv_deck.specs.Operand.{is_name as names_job, is_hex as shows_hex, hex_value as value_of_hex, latch_of, amount_of};
 ghost use Rattle.mv_deck.specs.Operand.{code_of, mode_of, user_code_of, system_code_of, end_code_of};

@@ -1,4 +1,4 @@
-//! The parts of an AFTER list, before they name jobs.
+//! The parts of an AFTER list, before they name jobs (`specs/Form.antt`). Clauses cite `specs/Operand.antt` and `specs/Fault.antt`.
 
 ghost use Rattle.std.specs.Prelude.{◌≡◌, map, not, option_map};
 ghost use Rattle.std.specs.List.{list_any};

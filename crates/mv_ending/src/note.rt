@@ -1,4 +1,4 @@
-//! What is told on the notes.
+//! What is told on the notes: `specs/Note.antt`, and what stands there then, `specs/Written.antt`.
 
 ghost use Rattle.std.specs.Prelude.{◌≡◌, ◌≤◌, ◌⊎◌, length, None};
 ghost use Rattle.mv_io.specs.Fault.{Rose};

@@ -1,6 +1,6 @@
 //! The head of a journal, read to its end: `specs/Lines.antt`, `specs/Draft.antt` and `specs/Fault.antt`.
 
-ghost use Rattle.std.specs.Prelude.{◌≡◌, ◌≢◌, ◌<◌, ◌≤◌, ◌+◌, ◌-◌, ◌^◌, ℕ, List, [], true, Some, length, OnOk, MatchResult};
+ghost use Rattle.std.specs.Prelude.{◌≡◌, ◌≢◌, ◌<◌, ◌-◌, ◌^◌, [], true, Some, length, OnOk, MatchResult};
 ghost use Rattle.mv_machine.specs.Check.{IsValid};
 ghost use Rattle.mv_machine.specs.Config.{setup_of};
 ghost use Rattle.mv_entrytext.specs.Journal.{Events};

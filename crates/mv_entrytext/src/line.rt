@@ -1,8 +1,8 @@
 //! The lines of a journal, read one by one: `specs/Lines.antt`; what they say is `specs/Said.antt`.
 
-ghost use Rattle.std.specs.Prelude.{◌≡◌, ◌≤◌, ◌∷◌, [], ℕ, List, true, IfOk, option_map, length};
+ghost use Rattle.std.specs.Prelude.{◌≡◌, [], true, IfOk, option_map};
 ghost use Rattle.mv_machine.specs.Config.{exit_of};
-ghost use Rattle.mv_line.specs.Part.{parts_at, parts_left, left_of};
+ghost use Rattle.mv_line.specs.Part.{parts_at};
 ghost use Rattle.mv_entrytext.specs.Reading.{whole, any_u32};
 ghost use Rattle.mv_entrytext.specs.Lines.{AtVersion, AtBudgets, AtEntries, numbers, exit_from, exit_read, at_exits, at_owners};
 ghost use Rattle.mv_entrytext.specs.Lines.{count_line, next_line, line_read};

@@ -1,10 +1,10 @@
 //! The reader of journals, one pass over the bytes: `specs/Journal.antt`, `specs/Fault.antt` and `specs/Draft.antt`.
 
-ghost use Rattle.std.specs.Prelude.{◌≡◌, ◌<◌, ◌≤◌, ◌+◌, ◌-◌, ◌^◌, ◌∷◌, ℕ, List, [], true, Some, length, vec_len, IfOk, IfErr, OnOk};
+ghost use Rattle.std.specs.Prelude.{◌≡◌, ◌<◌, ◌-◌, ◌^◌, [], true, Some, length, IfOk, IfErr, OnOk};
 ghost use Rattle.std.specs.Prelude.{MatchResult};
 ghost use Rattle.mv_line.specs.Part.{parts_at};
-ghost use Rattle.mv_entrytext.specs.Lines.{AtEntries, AtEnd, line_read, with_call};
-ghost use Rattle.mv_entrytext.specs.Fault.{HasJournal, IsTextIn, TellsFirst, first_fault, text_fault};
+ghost use Rattle.mv_entrytext.specs.Lines.{AtEntries, line_read, with_call};
+ghost use Rattle.mv_entrytext.specs.Fault.{HasJournal, IsTextIn, TellsFirst, text_fault};
 ghost use Rattle.mv_entrytext.specs.Journal.{first_line};
 ghost use Rattle.mv_entrytext.specs.Said.{entry_said};
 ghost use Rattle.mv_entrytext.specs.Draft.{Tells, kind_of_form, kind_at_end};

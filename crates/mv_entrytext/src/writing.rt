@@ -1,13 +1,13 @@
 //! The journal, written from its first line to its last: `specs/Journal.antt`.
 
-ghost use Rattle.std.specs.Prelude.{◌≡◌, ◌≤◌, ◌<◌, ◌^◌, ◌++◌, List, ℕ, length, slice_get, All, map, OnOk, IfOk, codes, decimal};
+ghost use Rattle.std.specs.Prelude.{◌≡◌, ◌≤◌, ◌<◌, ◌^◌, ◌++◌, length, slice_get, All, map, OnOk, IfOk, codes, decimal};
 ghost use Rattle.std.specs.List.{flat_map};
 ghost use Rattle.mv_machine.specs.Config.{setup_of, exit_of};
 ghost use Rattle.mv_machine.specs.Legal.{Legal};
 ghost use Rattle.mv_machine.specs.Limits.{highest_place};
 ghost use Rattle.mv_entrytext.specs.EntryText.{IsInRange, IsTyped};
-ghost use Rattle.mv_entrytext.specs.Journal.{JournalOf, Callers, Elements, Volumes, Latches, Quota, Budget, Owner, ExitTo, Events};
-ghost use Rattle.mv_entrytext.specs.Journal.{EntryOf, End, line, entry_lines, counts_text, lists_text, head_text, text_of, text1};
+ghost use Rattle.mv_entrytext.specs.Journal.{JournalOf, Callers, Elements, Volumes, Latches, Quota, Budget, Owner, ExitTo};
+ghost use Rattle.mv_entrytext.specs.Journal.{EntryOf, line, entry_lines, counts_text, lists_text, head_text, text_of, text1};
 ghost use Rattle.mv_entrytext.specs.Journal.{journal_text};
 
 use crate::entry::push_entry;

@@ -1,4 +1,4 @@
-//! The hand-over of items from one task to another. Clauses cite `specs/Setup.antt`, `specs/Ready.antt` and `specs/Slots.antt`.
+//! The hand-over of items from one task to another. Clauses cite `specs/Setup.antt` and `specs/Ready.antt`.
 
 ghost use Rattle.std.specs.Prelude.{◌≡◌, ◌<◌, ◌≤◌, ◌+◌, ◌*◌, [], length, vec_capacity, IfOk, All};
 ghost use Rattle.std.specs.List.{AllByRecursion};

@@ -1,7 +1,7 @@
 //! Requests for latches. Clauses cite the calls' `LatchCalls.antt` and `Services.antt`, the tasks' `Run.antt`, and
 //! `specs/Answers.antt` and `specs/Obtaining.antt`.
 
-ghost use Rattle.std.specs.Prelude.{◌≡◌, ◌<◌, ◌≤◌, ℕ, not, true, length, option_map, None, IfSome, IfOk, MatchResult};
+ghost use Rattle.std.specs.Prelude.{◌≡◌, ◌<◌, ◌≤◌, ℕ, not, length, option_map, None, IfSome, IfOk, MatchResult};
 ghost use Rattle.mv_latch.specs.declared.operation.LatchOp.TheVariants.{Obtain};
 ghost use Rattle.mv_latch.specs.declared.request.Mode.{Mode};
 ghost use Rattle.mv_latch.specs.Request.{posted_ecb};
@@ -15,7 +15,6 @@ ghost use Rattle.mv_calls.specs.Services.{obtain_events};
 ghost use Rattle.mv_wait.specs.Run.{IsServed};
 ghost use Rattle.mv_latchset.specs.Answers.{obtain_answer, obtain_refused};
 ghost use Rattle.mv_latchset.specs.Obtaining.{IsObtainedBy, IsRefusedBy, IsOfLatch, IsSettled};
-ghost use Rattle.mv_latchset.specs.Token.{stands};
 
 use crate::replies::{Asked, asked_in, granted_in};
 use crate::token::{LatchToken, token_of};

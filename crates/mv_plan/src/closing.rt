@@ -1,7 +1,7 @@
 //! What a run came to, made of its closed history: the ends that it tells and the numbers that its volumes hold, in the words of
 //! `specs/Closing.antt`. Of a run they are the ends and the totals of its deck.
 
-ghost use Rattle.std.specs.Prelude.{◌≡◌, ◌<◌, ◌≤◌, ◌^◌, ℕ, IfOk, length, None, option_map};
+ghost use Rattle.std.specs.Prelude.{◌≡◌, ◌<◌, ◌≤◌, ◌^◌, ℕ, IfOk, option_map};
 ghost use Rattle.mv_deck.specs.Deck.{deck_data};
 ghost use Rattle.mv_deck.specs.Operand.{volume_count};
 ghost use Rattle.mv_deck.specs.Sound.{IsSound};

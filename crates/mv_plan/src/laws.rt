@@ -1,4 +1,5 @@
-//! What every history of the spool keeps to, and every run of it.
+//! What every history of the spool keeps to, and every run of it (`specs/SpoolRun.antt`): the words of each law stand in the module
+//! of specs/ that has its name, as `HandingOut.antt` of `runs_hand_out_each_job`.
 ghost use Rattle.std.specs.Prelude.{◌≡◌, ◌<◌, ◌≤◌, ◌+◌, ℕ, List};
 ghost use Rattle.mv_machine.specs.declared.entry.Entry.{Entry};
 ghost use Rattle.mv_machine.specs.Check.{IsValid};

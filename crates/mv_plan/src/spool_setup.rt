@@ -1,6 +1,6 @@
 //! The configuration of a run of a deck: the blocks, callers, exits and budgets of `specs/SpoolSetup.antt`.
 
-ghost use Rattle.std.specs.Prelude.{◌≡◌, ◌<◌, ◌≤◌, ◌+◌, ◌*◌, ◌^◌, ◌++◌, map, sum_by, length, replicate, IfOk};
+ghost use Rattle.std.specs.Prelude.{◌≡◌, ◌<◌, ◌≤◌, ◌^◌, map, sum_by, IfOk};
 ghost use Rattle.std.specs.List.{range_with_len};
 ghost use Rattle.mv_machine.specs.Config.{exit_of};
 ghost use Rattle.mv_deck.specs.Deck.{job_data, deck_data};

@@ -1,4 +1,4 @@
-//! How a run ended.
+//! How a run ended: `specs/Status.antt`.
 
 ghost use Rattle.std.specs.Prelude.{◌≡◌, Some};
 ghost use Rattle.mv_program.specs.Status.{exit_status, note_of as note_by_status, replay_of};

@@ -20,7 +20,7 @@ pub fn texts_ask_for_one_ending()
     ensures asked { (bytes : List ℕ) (s t : ReplayStatus) → Asks bytes s → Asks bytes t → s ≡ t }
 {}
 
-/// The texts of a legal list in both versions are legal journals, both are converted to the second, and where there are no
+/// Where a legal list has texts, those of both versions are legal journals, both are converted to the second, and where there are no
 /// more events than a run may have, both are within the limit. So a replay and a conversion of either end well, where it is
 /// within the limit, no stream fails and memory is there.
 pub fn legal_lists_are_done()

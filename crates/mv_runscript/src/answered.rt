@@ -1,7 +1,6 @@
 //! What the services answer, as the answers of calls (`specs/Answered.antt`, and the script's `Answered.antt`).
 
 ghost use Rattle.std.specs.Prelude.{◌≡◌, map};
-ghost use Rattle.mv_calls.specs.Waits as waits;
 ghost use Rattle.mv_latchset.specs.Answers.{obtain_answer, standing_as, release_answer as freed_answer, counts_of};
 ghost use Rattle.mv_pause.specs.Answers.{allocate_answer, pause_answer, release_answer, transfer_answer, deallocate_answer};
 ghost use Rattle.mv_wait.specs.Answers.{clear_answer, extend_answer, wait_answer};

@@ -1,6 +1,6 @@
 //! What each thread has: a task, and the room that its calls need. Clauses cite `specs/Seats.antt`.
 
-ghost use Rattle.std.specs.Prelude.{◌≡◌, ◌<◌, ◌≤◌, ◌+◌, [], length, count_by, slice_index_or, IfOk};
+ghost use Rattle.std.specs.Prelude.{◌≡◌, ◌<◌, [], length, count_by, slice_index_or, IfOk};
 ghost use Rattle.mv_script.specs.Sound.{IsSound};
 ghost use Rattle.mv_runscript.specs.Making.{HaveSlots, is_wait as is_wait_call};
 ghost use Rattle.mv_runscript.specs.Seats.{HasRoom, IsReady, AreReady, HasWorked, HaveWorked, script_with};

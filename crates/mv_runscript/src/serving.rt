@@ -1,6 +1,7 @@
-//! Calls that leave the requests of the task as they are: each is a service, and answers as it does (`specs/Making.antt`).
+//! Calls that leave the requests of the task as they are: each is a service, and answers as it does (`specs/Making.antt`,
+//! `specs/Served.antt`).
 
-ghost use Rattle.std.specs.Prelude.{◌≡◌, ◌<◌, ◌≤◌, ◌*◌, ℕ, false, length};
+ghost use Rattle.std.specs.Prelude.{◌≡◌, ◌<◌, ◌≤◌, ◌*◌, false, length};
 ghost use Rattle.std.specs.List.{AllByRecursion};
 ghost use Rattle.mv_machine.specs.Reach.{release_cost};
 ghost use Rattle.mv_board.specs.Faces.{IsOf};

@@ -1,9 +1,9 @@
 //! The text of a run's answers. The script's `AnswerText.antt` says which bytes that is.
 
-ghost use Rattle.std.specs.Prelude.{◌≡◌, ◌++◌, ◌+◌, ◌<◌, ◌≤◌, ◌^◌, codes, length, decimal, flat_map, OnOk, IfOk};
+ghost use Rattle.std.specs.Prelude.{◌≡◌, ◌++◌, codes, decimal, flat_map, OnOk, IfOk};
 ghost use Rattle.mv_script.specs.declared.answer.Answer.TheVariants as answer;
 ghost use Rattle.mv_script.specs.AnswerText.{slot_text, token_text, phase_text, answer_text, answer_line};
-ghost use Rattle.mv_script.specs.AnswerText.{task_lines, lines_from, answers_text};
+ghost use Rattle.mv_script.specs.AnswerText.{task_lines, answers_text};
 
 use crate::run::ScriptRun;
 use itoa::Buffer;

@@ -1,6 +1,6 @@
 //! The calls of a script, by their words (`specs/Statement.antt`).
 
-ghost use Rattle.std.specs.Prelude.{◌≡◌, ◌≤◌, ℕ};
+ghost use Rattle.std.specs.Prelude.{◌≡◌, ◌≤◌};
 ghost use Rattle.mv_line.specs.Field.{fields_of};
 ghost use Rattle.mv_script.specs.declared.call.Call.TheVariants as call;
 ghost use Rattle.mv_script.specs.Limits.{most_tasks};

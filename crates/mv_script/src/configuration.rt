@@ -1,6 +1,6 @@
 //! The configuration of a script (`specs/Costs.antt`).
 
-ghost use Rattle.std.specs.Prelude.{◌≡◌, ◌≤◌, map, replicate, IfOk};
+ghost use Rattle.std.specs.Prelude.{◌≡◌, map, replicate, IfOk};
 ghost use Rattle.mv_machine.specs.Check.{IsValid};
 ghost use Rattle.mv_machine.specs.Config.{exit_of, setup_of};
 ghost use Rattle.mv_script.specs.Costs.{script_setup};

@@ -1,4 +1,4 @@
-//! Why a script could not be read.
+//! Why a script could not be read: `specs/Fault.antt`.
 
 ghost use Rattle.std.specs.Prelude.{◌≡◌};
 ghost use Rattle.mv_script.specs.Fault.{kind_number};

@@ -1,4 +1,5 @@
-//! What the first fault of a text is, by its lines alone; what a text without fault states; and that costs suffice.
+//! What the first fault of a text is, by its lines alone; what a text without fault states; and that costs suffice. Clauses cite
+//! `specs/Fault.antt`, `Faults.antt`, `Script.antt`, `Sound.antt` and `Costs.antt`.
 
 ghost use Rattle.std.specs.Prelude.{◌≡◌, ◌≤◌, ℕ, List, None, MatchOption};
 ghost use Rattle.mv_machine.specs.Setup.{Setup};

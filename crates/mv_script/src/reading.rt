@@ -1,6 +1,7 @@
-//! The reader of scripts: one pass over the bytes (`specs/Reading.antt`).
+//! The reader of scripts: one pass over the bytes (`specs/Reading.antt`). What is read is `specs/Script.antt`, sound by
+//! `specs/Sound.antt`, or a fault of `specs/Fault.antt`.
 
-ghost use Rattle.std.specs.Prelude.{◌≡◌, ◌<◌, ◌≤◌, ◌-◌, ◌+◌, ◌^◌, ◌++◌, List, [], ◌∷◌, true, None, not, ◌||◌, nat_lt, is_some};
+ghost use Rattle.std.specs.Prelude.{◌≡◌, ◌<◌, ◌-◌, ◌^◌, ◌++◌, List, [], ◌∷◌, true, None, not, ◌||◌, nat_lt, is_some};
 ghost use Rattle.std.specs.Prelude.{length, count_by, MatchResult, IfOk, IfErr, OnOk};
 ghost use Rattle.mv_script.specs.declared.call.Call.{Call};
 ghost use Rattle.mv_script.specs.declared.statement.Statement.{Statement};

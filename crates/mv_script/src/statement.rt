@@ -1,6 +1,6 @@
 //! What a line of a script states, by its words (`specs/Statement.antt`, `specs/Misread.antt`).
 
-ghost use Rattle.std.specs.Prelude.{◌≡◌, ◌≤◌, List, ℕ, IfOk, Ok};
+ghost use Rattle.std.specs.Prelude.{◌≡◌, ◌≤◌, IfOk};
 ghost use Rattle.mv_line.specs.Field.{fields_of};
 ghost use Rattle.mv_script.specs.Limits.{most_tasks};
 ghost use Rattle.mv_script.specs.Misread.{IsReadAs};

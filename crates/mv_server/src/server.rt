@@ -1,9 +1,9 @@
 //! The server and its workers. Clauses cite `specs/Pool.antt` and `specs/Right.antt`.
 
-ghost use Rattle.std.specs.Prelude.{◌≡◌, ◌<◌, ◌≤◌, ◌+◌, ◌*◌, ℕ, [], length, map, slice_index, slice_index_or, vec_capacity, IfOk, All};
+ghost use Rattle.std.specs.Prelude.{◌≡◌, ◌<◌, ◌≤◌, ◌+◌, ℕ, [], length, map, slice_index, slice_index_or, vec_capacity, IfOk, All};
 ghost use Rattle.std.specs.List.{AllByRecursion};
 ghost use Rattle.std.specs.Thread.{IsSync};
-ghost use Rattle.mv_board.specs.Faces.{IsFresh, AreFresh};
+ghost use Rattle.mv_board.specs.Faces.{IsFresh};
 ghost use Rattle.mv_element.specs.Table.{release_limit};
 ghost use Rattle.mv_machine.specs.Config.{setup_of};
 ghost use Rattle.mv_machine.specs.Legal.{Legal};

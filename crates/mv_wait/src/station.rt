@@ -1,7 +1,7 @@
 //! The station: a board, and what wakes the tasks that wait. Clauses cite `specs/Station.antt`, `specs/Run.antt` and the
 //! board's `Faces.antt`.
 
-ghost use Rattle.std.specs.Prelude.{◌≡◌, ◌<◌, ◌≤◌, ◌+◌, [], ◌++◌, ◌∷◌, true, length, map, vec_len, vec_capacity, IfOk, MatchResult, List};
+ghost use Rattle.std.specs.Prelude.{◌≡◌, ◌<◌, ◌≤◌, ◌+◌, [], ◌++◌, ◌∷◌, true, length, map, vec_len, vec_capacity, IfOk, MatchResult};
 ghost use Rattle.std.specs.List.{Contains};
 ghost use Rattle.mv_machine.specs.Kept.{allowed};
 ghost use Rattle.mv_machine.specs.Limits.{events_limit, highest_generation};

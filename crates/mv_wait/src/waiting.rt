@@ -1,19 +1,18 @@
 //! Waits for events. Clauses cite the calls' `Waits.antt`, and `specs/Run.antt`, `specs/Answers.antt`,
 //! `specs/Waiting.antt` and `specs/Listed.antt`.
 
-ghost use Rattle.std.specs.Prelude.{◌≡◌, ◌<◌, ◌≤◌, ◌+◌, ◌*◌, ◌^◌, ◌==◌, not, ℕ, [], ◌∷◌, true, false, length, option_map, Some, None};
+ghost use Rattle.std.specs.Prelude.{◌≡◌, ◌<◌, ◌≤◌, ◌*◌, ◌^◌, ◌==◌, not, [], ◌∷◌, true, length, option_map, Some, None};
 ghost use Rattle.std.specs.Prelude.{IfOk, MatchResult};
 ghost use Rattle.std.specs.List.{AllByRecursion};
 ghost use Rattle.mv_machine.specs.Setup.{owner_of};
 ghost use Rattle.mv_board.specs.Faces.{IsOf};
 ghost use Rattle.mv_calls.specs.Keeping.{kept_of};
 ghost use Rattle.mv_calls.specs.Rest.{IsAtRest};
-ghost use Rattle.mv_calls.specs.Waits.{wait, wait_refusal, complete_count, doubled_at, refused_at, is_others_block, AreDistinct};
-ghost use Rattle.mv_calls.specs.Waits as program;
-ghost use Rattle.mv_calls.specs.Refusal.{Doubled, NotOwnerAt, ExtendedAt};
+ghost use Rattle.mv_calls.specs.Waits.{wait, wait_refusal, complete_count, doubled_at, refused_at, AreDistinct};
+ghost use Rattle.mv_calls.specs.Refusal.{Doubled, NotOwnerAt};
 ghost use Rattle.mv_wait.specs.Answers.{wait_answer, wait_refused, slots_of};
 ghost use Rattle.mv_wait.specs.Listed.{is_listed, listed_count};
-ghost use Rattle.mv_wait.specs.Run.{Went, Runs, IsServed};
+ghost use Rattle.mv_wait.specs.Run.{Went, IsServed};
 ghost use Rattle.mv_wait.specs.Waiting.{IsArmedFor, ArePlain, AreOwn, ArmsAll, SettlesEnough, IsSettled, IsComplete};
 
 use crate::pausing::Pauses;
