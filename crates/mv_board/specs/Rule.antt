@@ -1,7 +1,7 @@
 -- The one rule. At every moment, between any two steps of any threads, there is one legal history: the merge of the
 -- callers' logs that the views hold. The words and the lists of the latch set are what it leads to, and each view's parts
 -- are its callers' parts of it.
-use Rattle.std.specs.Prelude.{◌≡◌, ℕ, zero, suc, ◌+◌, ◌<◌, ◌≤◌, ◌==◌, Bool, true, false, ◌⊎◌, List, [], ◌∷◌, ◌++◌, length, slice_index}
+use Rattle.std.specs.Prelude.{◌≡◌, ℕ, zero, suc, ◌+◌, ◌<◌, ◌≤◌, ◌==◌, true, ◌⊎◌, List, [], ◌∷◌, ◌++◌, length, slice_index}
 use Rattle.std.specs.Prelude.{if◌then◌else◌}
 use Rattle.std.specs.List.{AllByRecursion}
 use mathlib.Core.Option.{Option, some}
@@ -12,10 +12,6 @@ use Rattle.mv_element.specs.Element.{is_released}
 use Rattle.mv_latch.specs.declared.request.Request.{Request}
 use Rattle.mv_machine.specs.declared.entry.Entry.{Entry}
 use Rattle.mv_machine.specs.declared.entry.Object.{Object}
-use Rattle.mv_machine.specs.declared.entry.Op.{Op}
-use Rattle.mv_machine.specs.declared.entry.Op.TheVariants as op_on
-use Rattle.mv_machine.specs.declared.entry.Reply.{Reply}
-use Rattle.mv_machine.specs.declared.entry.Reply.TheVariants as reply_of
 use Rattle.mv_machine.specs.Check.{IsValid}
 use Rattle.mv_machine.specs.Kept.{HasMade}
 use Rattle.mv_machine.specs.Legal.{Legal, after, of}

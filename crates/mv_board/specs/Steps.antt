@@ -1,5 +1,5 @@
 -- What each kind of step tells the seat that makes it.
-use Rattle.std.specs.Prelude.{◌≡◌, ◌≢◌, ℕ, ◌+◌, ◌<◌, ◌≤◌, ◌==◌, Bool, true, false, IsTrue, List, [], ◌∷◌, ◌++◌, length, Some, None}
+use Rattle.std.specs.Prelude.{◌≡◌, ◌≢◌, ℕ, ◌<◌, Bool, true, false, List, [], ◌++◌, length, Some, None}
 use Rattle.std.specs.Prelude as std
 use Rattle.std.specs.List.{AllByRecursion, Contains}
 use mathlib.Core.Option.{Option, none, some}

@@ -2,7 +2,7 @@
 use Rattle.std.proofs.Common.{◌≡◌, ◌↔◌, ◌⊎◌, ℕ, ◌<◌, ◌≤◌, Bool, true, false, not, ◌&&◌, List, [], ◌∷◌, ◌++◌, length, cond, inl, inr}
 use Rattle.std.proofs.Common.{refl, sym, ap, ◌∙◌, subst, arith, append_assoc}
 use Rattle.std.specs.List.{Contains, list_any}
-use Rattle.std.proofs.lemmas.Bool.{false≢true, eqb-true, eq-eqb, and_parts}
+use Rattle.std.proofs.lemmas.Bool.{false≢true, eqb-true, eq-eqb, and_parts, false_from_ne_true}
 use Rattle.std.proofs.Math.ListN.{get_or-map}
 use Rattle.mv_latch.specs.declared.operation.LatchOp.TheVariants.{Confirm, Release, Purge}
 use Rattle.mv_latch.specs.declared.operation.LatchReply.{LatchReply}
@@ -67,11 +67,6 @@ none_found c k t es l i any =
     let same : f.0 ≡ t.request = one_request c k t es f.0 l i (was_in test f.0 (list_at (after c es) t.latch) f.1) f.2 in
     not_requestor t.request.requestor f.0 (passes test f.0 (list_at (after c es) t.latch) f.1) (ap (λ (q : Request). q.requestor) same)
 
--- a test that does not hold
-is_false : (b : Bool) → (b ≡ true → ⊥) → b ≡ false
-is_false true f = absurd (f refl)
-is_false false f = refl
-
 -- a request that was purged is gone
 pub purged_is_gone : (c : Setup) (k : ℕ) (t : StandingRequest) (es : List Entry) → Legal c es → WasPurged k t es
     → IsGone k t.latch t.request.id (after c es)
@@ -89,7 +84,7 @@ purged_is_gone c k t es l w =
     subst (λ (s : System). IsGone k t.latch t.request.id s) (sym (after_longer c w.before w.purge))
     (ap (list_any (is_own k t.request.id)) (purge_moves
     (after c w.before) w.purge.caller w.purge.object w.purge.op t.request.requestor t.latch w.object w.op)
-    ∙ is_false (list_any (is_own k t.request.id) (purged t.request.requestor (list_at (after c w.before) t.latch)))
+    ∙ false_from_ne_true (list_any (is_own k t.request.id) (purged t.request.requestor (list_at (after c w.before) t.latch)))
     (none_found c k t w.before front w.stood)) in
     subst (λ (xs : List Entry). IsGone k t.latch t.request.id (after c xs)) (sym whole)
     (gone_stays c (w.before ++ w.purge ∷ []) w.later k t.latch t.request.id legal early gone)
@@ -110,7 +105,7 @@ gone_exactly c k t es l i = (gone_was_purged c k t es l i, purged_is_gone c k t 
 
 -- ---- so a confirm and a release of it are answered
 none_granted : (k id : ℕ) (qs : List Request) → list_any (is_own k id) qs ≡ false → list_any (is_own k id) (granted qs) ≡ false
-none_granted k id qs none = is_false (list_any (is_own k id) (granted qs)) (λ any. let f = found (is_own k id) (granted qs) any in
+none_granted k id qs none = false_from_ne_true (list_any (is_own k id) (granted qs)) (λ any. let f = found (is_own k id) (granted qs) any in
     false≢true (sym none ∙ finds (is_own k id) f.0 qs (in_granted f.0 qs f.1) f.2))
 
 -- a confirm finds a request gone exactly where it is in no list

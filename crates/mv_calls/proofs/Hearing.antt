@@ -1,5 +1,5 @@
 -- What a caller hears in a history, event by event: the entries of its own, each on the latch set with the wakes that it is
--- told. Used by Interleaved.
+-- told.
 use Rattle.std.proofs.Common.{◌≡◌, ℕ, ◌==◌, List, [], ◌∷◌, ◌++◌, if◌then◌else◌, inl, inr, refl, sym, ap, ◌∙◌}
 use Rattle.std.proofs.lemmas.Bool.{cases_eq, eq-eqb, ne_eqb}
 use Rattle.mv_latch.specs.declared.operation.Wake.{Wake}
@@ -8,7 +8,7 @@ use Rattle.mv_machine.specs.declared.entry.Object.{Object}
 use Rattle.mv_machine.specs.declared.entry.Object.TheVariants.{Latches}
 use Rattle.mv_machine.specs.declared.entry.Op.{Op}
 use Rattle.mv_machine.specs.declared.entry.Op.TheVariants as op_on
-use Rattle.mv_machine.specs.Legal.{next, after_from, of}
+use Rattle.mv_machine.specs.Legal.{next, of}
 use Rattle.mv_machine.specs.System.{System}
 use Rattle.mv_machine.specs.Told.{told_at, told_from}
 use Rattle.mv_calls.specs.Program.{Heard, noted, wakes_now, wakes_then}
@@ -67,16 +67,4 @@ noted_is s k (e ∷ es) =
           ∙ ap (λ t. noted (of k es) (t ++ told_from (next s e) k es)) (other_told s k e.caller e.object e.op other)
           ∙ noted_is (next s e) k es
           ∙ sym (heard_other s k e es other)
-    ]
-
--- what it hears of two lists
-pub heard_from-append : (s : System) (k : ℕ) (xs ys : List Entry)
-    → heard_from s k (xs ++ ys) ≡ heard_from s k xs ++ heard_from (after_from s xs) k ys
-heard_from-append s k [] ys = refl
-heard_from-append s k (x ∷ xs) ys =
-    elim (cases_eq x.caller k) [
-      | inl own ↦ heard_own s k x (xs ++ ys) own ∙ ap (λ hs. hearing s x ∷ hs) (heard_from-append (next s x) k xs ys)
-          ∙ ap (λ hs. hs ++ heard_from (after_from (next s x) xs) k ys) (sym (heard_own s k x xs own))
-      | inr other ↦ heard_other s k x (xs ++ ys) other ∙ heard_from-append (next s x) k xs ys
-          ∙ ap (λ hs. hs ++ heard_from (after_from (next s x) xs) k ys) (sym (heard_other s k x xs other))
     ]

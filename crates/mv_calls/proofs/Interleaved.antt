@@ -1,6 +1,6 @@
 -- Histories in which callers follow programs, gone through entry by entry with the programs that are left: from the definition,
 -- caller by caller, to a walk through the history, and back. Whoever proves laws of such histories begins here.
-use Rattle.std.proofs.Common.{◌≡◌, ℕ, ◌<◌, true, List, [], ◌∷◌, ◌++◌, Some, ◌⊎◌, inl, inr, refl, sym, ap, ◌∙◌, subst, arith}
+use Rattle.std.proofs.Common.{◌≡◌, ℕ, ◌<◌, true, List, [], ◌∷◌, Some, ◌⊎◌, inl, inr, refl, sym, ap, ◌∙◌, subst, arith}
 use Rattle.std.specs.List.{AllByRecursion}
 use Rattle.std.proofs.lemmas.Bool.{cases_eq, false≢true}
 use Rattle.mv_machine.specs.declared.entry.Entry.{Entry}
@@ -8,14 +8,13 @@ use Rattle.mv_machine.specs.declared.entry.Object.{Object}
 use Rattle.mv_machine.specs.declared.entry.Object.TheVariants.{Ecb, Element, Volume, Latches}
 use Rattle.mv_machine.specs.declared.entry.Op.{Op}
 use Rattle.mv_machine.specs.declared.entry.Op.TheVariants as op_on
-use Rattle.mv_machine.specs.Legal.{Legal, IsNext, next, after_from, LegalFrom}
+use Rattle.mv_machine.specs.Legal.{Legal, IsNext, next, LegalFrom}
 use Rattle.mv_machine.specs.Setup.{Setup}
 use Rattle.mv_machine.specs.System.{System, opening, admitted, with_at}
-use Rattle.mv_machine.proofs.Histories.{LegalFrom-front, with_at-same, with_at-other}
-use Rattle.mv_calls.specs.Program.{Program, Early, Heard, asks, heard, left, Says, IsDoneOn}
+use Rattle.mv_machine.proofs.Histories.{with_at-same, with_at-other}
+use Rattle.mv_calls.specs.Program.{Program, Heard, asks, heard, left, Says, IsDoneOn}
 use Rattle.mv_calls.specs.Runs.{heard_in, left_in, FollowPrograms, FinishPrograms}
-use Rattle.mv_calls.proofs.Hearing.{hearing, heard_from, noted_is, heard_own, heard_other, heard_from-append}
-use Rattle.mv_calls.proofs.Programs.{left-append, Says-front, left_early}
+use Rattle.mv_calls.proofs.Hearing.{hearing, heard_from, noted_is, heard_own, heard_other}
 
 -- the programs that are left after a list of entries
 abbrev pub programs_after : {A : Type 0} → System → (ℕ → Program A) → List Entry → ℕ → Program A
@@ -91,25 +90,6 @@ pub left_in_is : {A : Type 0} (c : Setup) (programs : ℕ → Program A) (es : L
 left_in_is c programs es k = ap (λ hs. left (programs k) hs) (noted_is (opening c) k es)
     ∙ sym (programs_after_is (opening c) programs es k)
 
--- such a history is legal
-pub FollowFrom-legal : {A : Type 0} (c : Setup) (s : System) (t : ℕ → Program A) (es : List Entry) → FollowFrom c s t es
-    → LegalFrom c s es
-FollowFrom-legal c s t [] f = tt
-FollowFrom-legal c s t (e ∷ es) f = (f.0, FollowFrom-legal c (next s e) (with_at t e.caller (heard (t e.caller) (hearing s e))) es f.2)
-
--- so is a front of it
-pub FollowFrom-front : {A : Type 0} (c : Setup) (s : System) (t : ℕ → Program A) (xs ys : List Entry) → FollowFrom c s t (xs ++ ys)
-    → FollowFrom c s t xs
-FollowFrom-front c s t [] ys f = tt
-FollowFrom-front c s t (x ∷ xs) ys f =
-    (f.0, f.1, FollowFrom-front c (next s x) (with_at t x.caller (heard (t x.caller) (hearing s x))) xs ys f.2)
-
--- and what is behind the front goes on from there
-pub FollowFrom-rest : {A : Type 0} (c : Setup) (s : System) (t : ℕ → Program A) (xs ys : List Entry) → FollowFrom c s t (xs ++ ys)
-    → FollowFrom c (after_from s xs) (programs_after s t xs) ys
-FollowFrom-rest c s t [] ys f = f
-FollowFrom-rest c s t (x ∷ xs) ys f = FollowFrom-rest c (next s x) (with_at t x.caller (heard (t x.caller) (hearing s x))) xs ys f.2
-
 -- ---- the caller of each entry of a legal list is one of the configuration's
 
 -- who makes an operation that is admitted is a caller
@@ -139,26 +119,3 @@ finish c programs es legal each = record {
   };
   done = λ k lt. ((each k lt).0, (each k lt).1.done);
 }
-
--- ---- a front of a history whose callers follow their programs
-
--- a program that is early on a front is early on the whole
-not_early : {A : Type 0} (p : Program A) (xs ys : List Heard) → Says p (xs ++ ys) → (left p (xs ++ ys) ≡ Early → ⊥) → left p xs ≡ Early
-    → ⊥
-not_early p xs ys says waits early = waits (left-append p xs ys ∙ ap (λ q. left q ys) early ∙ left_early ys)
-
--- a front of a history that follows follows
-pub follow_front : {A : Type 0} (c : Setup) (programs : ℕ → Program A) (xs ys : List Entry) → FollowPrograms c programs (xs ++ ys)
-    → FollowPrograms c programs xs
-follow_front c programs xs ys f = record {
-  legal = LegalFrom-front c (opening c) xs ys f.legal;
-  callers = callers_exist c (opening c) xs (LegalFrom-front c (opening c) xs ys f.legal);
-  says = λ k lt. Says-front (programs k) (heard_in c k xs) (heard_from (after_from (opening c) xs) k ys)
-      (subst (λ hs. Says (programs k) hs) (parts k) (f.says k lt));
-  waits = λ k lt. not_early (programs k) (heard_in c k xs) (heard_from (after_from (opening c) xs) k ys)
-      (subst (λ hs. Says (programs k) hs) (parts k) (f.says k lt))
-      (λ early. f.waits k lt (ap (λ hs. left (programs k) hs) (parts k) ∙ early));
-} where
-  parts : (k : ℕ) → heard_in c k (xs ++ ys) ≡ heard_in c k xs ++ heard_from (after_from (opening c) xs) k ys
-  parts k = noted_is (opening c) k (xs ++ ys) ∙ heard_from-append (opening c) k xs ys
-      ∙ ap (λ hs. hs ++ heard_from (after_from (opening c) xs) k ys) (sym (noted_is (opening c) k xs))

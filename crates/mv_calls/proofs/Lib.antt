@@ -6,7 +6,7 @@ pub mod Hearing
 pub mod Interleaved
 -- the program that a call is where it is not refused
 pub mod Unrefused
--- what a call is behind each reply, and the calls of one event: for the two laws below on all calls
+-- what a call is behind each reply, and the calls of one event: for calls_keep_to_their_events, posts_reach and number_calls
 pub mod Replies
 -- calls_keep_to_their_events
 pub mod Needs

@@ -1,6 +1,6 @@
 -- Calls that were made, one after the other: two that follow each other make one, and a whole task that was made is done on
 -- what it heard. For contracts of calls.
-use Rattle.std.proofs.Common.{◌≡◌, ℕ, List, [], ◌∷◌, ◌++◌, ◌+◌, ◌≤◌, length, Result, Ok, refl, sym, ap, ◌∙◌}
+use Rattle.std.proofs.Common.{◌≡◌, ℕ, List, [], ◌∷◌, ◌++◌, ◌+◌, ◌≤◌, length, refl, sym, ap, ◌∙◌}
 use Rattle.std.proofs.Common.{subst, arith, append_assoc, length-append}
 use Rattle.mv_latch.specs.declared.operation.Wake.{Wake}
 use Rattle.mv_machine.specs.declared.entry.Entry.{Entry}
@@ -10,9 +10,7 @@ use Rattle.mv_machine.specs.declared.entry.Op.{Op}
 use Rattle.mv_machine.specs.declared.entry.Op.TheVariants as op_on
 use Rattle.mv_calls.specs.Keeping.{Kept, kept_after, kept_from, kept_of, nothing_kept}
 use Rattle.mv_calls.specs.Made.{told_with, told_by, HasItsWakes, HaveTheirWakes, IsLongerBy, IsMade}
-use Rattle.mv_calls.specs.Program.{Call, Heard, IsDoneOn, entries, noted, wakes_now, wakes_then, and_then, followed, accepted}
-use Rattle.mv_calls.specs.Program.{unrefused}
-use Rattle.mv_calls.specs.Refusal.{Refusal}
+use Rattle.mv_calls.specs.Program.{Call, Heard, IsDoneOn, entries, noted, wakes_now, wakes_then, and_then, followed}
 use Rattle.mv_calls.specs.Rest.{OpenWaits, waits_after, waits_from}
 use Rattle.mv_calls.proofs.Programs.{followed_done, and_then_done}
 
@@ -93,12 +91,6 @@ made_followed i j call f k l m n t u v a b x y = record {
   rest = y.rest;
 }
 
--- the same where the first is not refused
-pub made_accepted : {A B : Type 0} (i j : ℕ) (call : Call (Result A Refusal)) (f : A → Call B) (k : ℕ) (l m n : List Entry)
-    (t u v : List (List Wake)) (a : A) (b : B)
-    → IsMade i call k l m t u (Ok a) → IsMade j (f a) k m n u v b → IsMade (i + j) (accepted call f) k l n t v b
-made_accepted i j call f k l m n t u v a b x y = made_followed i j call (unrefused f) k l m n t u v (Ok a) b x y
-
 -- A call that was made as the first part of a call, as the purge of an end of a job, and the rest of that call, as its post. The
 -- rest is the same, begun with what was kept before both.
 pub made_within : {A B : Type 0} (i j : ℕ) (call : Call A) (f : A → Call B) (k : ℕ) (l m n : List Entry)
@@ -115,12 +107,3 @@ made_within i j call f k l m n t u v a b same x y = record {
       (subst (λ p. IsDoneOn p y.events b) same y.done);
   rest = y.rest;
 }
-
--- a whole task that was made, from an empty log on, is done on its log with all that it was told
-pub made_whole : {A : Type 0} (most : ℕ) (call : Call A) (k : ℕ) (log : List Entry) (told : List (List Wake)) (a : A)
-    → IsMade most call k [] log [] told a
-    → IsDoneOn (call (nothing_kept k)) (noted log told) a
-made_whole most call k log told a m =
-    subst (λ es. IsDoneOn (call (nothing_kept k)) (noted es told) a) (sym m.longer.logged)
-    (subst (λ ws. IsDoneOn (call (nothing_kept k)) (noted (entries m.events) ws) a) (sym m.longer.told)
-    (subst (λ hs. IsDoneOn (call (nothing_kept k)) hs a) (sym (noted_again m.events m.longer.wakes)) m.done))

@@ -27,18 +27,16 @@ use Rattle.mv_machine.specs.Waking.{AreFairWakes, blocks_of}
 use Rattle.mv_calls.specs.Endings as endings
 use Rattle.mv_calls.specs.Keeping.{Kept}
 use Rattle.mv_calls.specs.LatchCalls as latches
-use Rattle.mv_calls.specs.LatchCalls.{Obtained, Standing, Counts}
+use Rattle.mv_calls.specs.LatchCalls.{Counts}
 use Rattle.mv_calls.specs.Made.{told_with, told_by, HasItsWakes, HaveTheirWakes}
 use Rattle.mv_calls.specs.Pauses as pauses
-use Rattle.mv_calls.specs.Pauses.{Gift, Reached}
 use Rattle.mv_calls.specs.Posts as posts
-use Rattle.mv_calls.specs.Posts.{Posting}
 use Rattle.mv_calls.specs.Program.{Program, Do, Done, Early, Wrong, Heard, Says, and_then, on_element}
 use Rattle.mv_calls.specs.Program.{entries}
 use Rattle.mv_calls.specs.Program.{on_latch, unless_refused}
 use Rattle.mv_calls.specs.Refusal.{Refusal}
 use Rattle.mv_calls.specs.Services as services
-use Rattle.mv_calls.specs.Services.{Service, Answer, program, most_events, transfer_events, obtain_events, mother_events}
+use Rattle.mv_calls.specs.Services.{Service, program, most_events, transfer_events, obtain_events, mother_events}
 use Rattle.mv_calls.specs.Waits as waits
 use Rattle.mv_machine.specs.declared.entry.Entry.{Entry}
 use Rattle.mv_machine.specs.declared.entry.Object.TheVariants.{Latches}

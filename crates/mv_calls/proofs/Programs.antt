@@ -1,13 +1,12 @@
--- Programs over lists of what was heard, and programs one after the other. Used by Making and Interleaved.
-use Rattle.std.proofs.Common.{◌≡◌, List, [], ◌∷◌, ◌++◌, Some, Result, Ok, refl, ap, ◌∙◌}
+-- Programs over lists of what was heard, and programs one after the other.
+use Rattle.std.proofs.Common.{◌≡◌, List, [], ◌∷◌, ◌++◌, Some, refl, ap, ◌∙◌}
 use Rattle.std.proofs.lemmas.Option.{some_pair_parts}
 use Rattle.mv_machine.specs.declared.entry.Object.{Object}
 use Rattle.mv_machine.specs.declared.entry.Op.{Op}
 use Rattle.mv_calls.specs.Keeping.{Kept, kept_after, kept_from}
 use Rattle.mv_calls.specs.Program.{Program, Do, Done, Early, Wrong, Heard, Call, asks, heard, left, Says, IsDoneOn, entries}
 use Rattle.mv_calls.specs.Program.{and_then}
-use Rattle.mv_calls.specs.Program.{going_on, followed, accepted, unrefused}
-use Rattle.mv_calls.specs.Refusal.{Refusal}
+use Rattle.mv_calls.specs.Program.{going_on, followed}
 
 -- what is left after two lists
 pub left-append : {A : Type 0} (p : Program A) (xs ys : List Heard) → left p (xs ++ ys) ≡ left (left p xs) ys
@@ -18,21 +17,6 @@ left-append p (x ∷ xs) ys = left-append (heard p x) xs ys
 pub Says-append : {A : Type 0} (p : Program A) (xs ys : List Heard) → Says p xs → Says (left p xs) ys → Says p (xs ++ ys)
 Says-append p [] ys s t = t
 Says-append p (x ∷ xs) ys s t = (s.0, Says-append (heard p x) xs ys s.1 t)
-
--- so it says the first
-pub Says-front : {A : Type 0} (p : Program A) (xs ys : List Heard) → Says p (xs ++ ys) → Says p xs
-Says-front p [] ys s = tt
-Says-front p (x ∷ xs) ys s = (s.0, Says-front (heard p x) xs ys s.1)
-
--- and what is left of it says the second
-pub Says-rest : {A : Type 0} (p : Program A) (xs ys : List Heard) → Says p (xs ++ ys) → Says (left p xs) ys
-Says-rest p [] ys s = s
-Says-rest p (x ∷ xs) ys s = Says-rest (heard p x) xs ys s.1
-
--- a program whose wait ended too soon says nothing more, and stays so
-pub left_early : {A : Type 0} (hs : List Heard) → left {A = A} Early hs ≡ Early
-left_early [] = refl
-left_early (h ∷ hs) = left_early hs
 
 -- ---- a program that was begun is followed by a call
 
@@ -83,11 +67,6 @@ followed_done call f kept xs ys a b d e = record {
   says = going_on_says kept (call kept) f xs ys a d.says d.done e.says;
   done = going_on_left kept (call kept) f xs ys a d.says d.done ∙ e.done;
 }
-
--- the same where the first is not refused
-pub accepted_done : {A B : Type 0} (call : Call (Result A Refusal)) (f : A → Call B) (kept : Kept) (xs ys : List Heard) (a : A) (b : B)
-    → IsDoneOn (call kept) xs (Ok a) → IsDoneOn (f a (kept_from kept (entries xs))) ys b → IsDoneOn (accepted call f kept) (xs ++ ys) b
-accepted_done call f kept xs ys a b d e = followed_done call (unrefused f) kept xs ys (Ok a) b d e
 
 -- ---- the same of two programs of one call
 

@@ -2,7 +2,7 @@
 use Rattle.std.proofs.Common.{◌≡◌, ◌⊎◌, ℕ, ◌+◌, ◌<◌, ◌≤◌, Bool, true, false, not, ◌&&◌, ◌||◌, List, [], ◌∷◌, ◌++◌, length, filter}
 use Rattle.std.proofs.Common.{map, set, cond, inl, inr, refl, sym, ap, ◌∙◌, subst, arith, append_assoc, append-nil}
 use Rattle.std.specs.List.{AllByRecursion, Contains, list_any}
-use Rattle.std.proofs.lemmas.Bool.{cases_eq, cases_Bool, false≢true, eqb-true, eq-eqb, ne_eqb, and_parts, or_left, or_right}
+use Rattle.std.proofs.lemmas.Bool.{cases_eq, cases_Bool, false≢true, eqb-true, eq-eqb, ne_eqb, and_parts, or_left, or_right, not-true}
 use Rattle.std.proofs.lemmas.List.{get_or-set_same, get_or-set_other}
 use Rattle.std.proofs.lemmas.List.Elements.{Contains-append_left, Contains-push, Contains-push_cases, All-contains}
 use Rattle.std.proofs.lemmas.List.Elements.{All-from_recursion, filter_passes, All-filter, All-contains_itself}
@@ -49,11 +49,6 @@ passes p y xs i = All-contains (λ x. p x ≡ true) (filter p xs) y (filter_pass
 -- what a filter left was in the list
 pub was_in : {A : Type 0} (p : A → Bool) (y : A) (xs : List A) → Contains (filter p xs) y → Contains xs y
 was_in p y xs i = All-contains (Contains xs) (filter p xs) y (All-filter p (Contains xs) xs (All-contains_itself xs)) i
-
--- a negation that holds
-pub not_true : (b : Bool) → not b ≡ true → b ≡ false
-not_true true e = sym e
-not_true false e = refl
 
 -- what a test finds
 abbrev pub Found : (Request → Bool) → List Request → Type 0
@@ -163,10 +158,6 @@ risen_after k place (Release latch id conditional) Gone ts is r = risen_less k p
 risen_after k place (Release latch id conditional) (Released n) ts is r = risen_less k place (place + 1) _ ts (omega arith) r
 risen_after k place (Purge requestor) (Purged a b) ts is r = risen_less k place (place + 1) _ ts (omega arith) r
 risen_after k place op y ts is r = risen_later k place (place + 1) ts (omega arith) r
-
--- along a legal list
-abbrev latch_place : System → ℕ
-latch_place s = s.latches.place
 
 -- so after each entry of the caller's own
 risen_own : (c : Setup) (s : System) (k : ℕ) (o : Object) (p : ℕ) (op : Op) (y : Reply) (ts : List StandingRequest)
@@ -310,7 +301,7 @@ module _ (W : Type 0) (k place : ℕ) (lists : List (List Request)) (ts : List S
   released latch id conditional lt true false i =
       replaced latch (without k id (list_of lists latch)) lt
       (λ same j. left_in (λ x. not (is_own k id x)) t.request (list_of lists latch)
-      (not_own latch id same (not_true (is_named latch id t) (passes (λ u. not (is_named latch id u)) t ts i))) j)
+      (not_own latch id same (not-true (is_named latch id t) (passes (λ u. not (is_named latch id u)) t ts i))) j)
       (was_in (λ u. not (is_named latch id u)) t ts i)
 
   purge_leaves : (requestor : ℕ) → Contains (less (is_for requestor) ts) t → There (map (purged requestor) lists)

@@ -2,7 +2,7 @@
 use Rattle.std.proofs.Common.{◌≡◌, ◌⊎◌, ℕ, ◌<◌, ◌==◌, Bool, true, false, not, ◌&&◌, List, [], ◌∷◌, ◌++◌, length, set, cond, inl, inr}
 use Rattle.std.proofs.Common.{refl, sym, ap, ◌∙◌, subst, arith, append-nil}
 use Rattle.std.specs.List.{Contains, list_any, list_all}
-use Rattle.std.proofs.lemmas.Bool.{cases_eq, cases_Bool, false≢true, true≢false, eqb-true, eq-eqb, ne_eqb, and_parts}
+use Rattle.std.proofs.lemmas.Bool.{cases_eq, cases_Bool, false≢true, true≢false, eqb-true, eq-eqb, ne_eqb, and_parts, not-true}
 use Rattle.std.proofs.lemmas.List.{get_or-set_same}
 use Rattle.std.proofs.lemmas.List.Elements.{Contains-push, Contains-push_cases}
 use Rattle.mv_latch.specs.declared.operation.LatchOp.{LatchOp}
@@ -43,7 +43,7 @@ use Rattle.mv_calls.specs.Rest.{OpenWaits, IsAtRest, no_waits, waits_after, wait
 use Rattle.mv_machine.specs.Leaving.{WasPurged, is_early_confirm, HasNoEarlyConfirm}
 use Rattle.mv_machine.proofs.Grants.{in_granted}
 use Rattle.mv_calls.proofs.Gone.{one_request, its_own, confirm_finds_granted, confirm_gone}
-use Rattle.mv_calls.proofs.Purged.{found, finds, passes, was_in, not_true, standing_own, standing_other, stands_below, stands_or_purged}
+use Rattle.mv_calls.proofs.Purged.{found, finds, passes, was_in, standing_own, standing_other, stands_below, stands_or_purged}
 use Rattle.mv_calls.proofs.Purged.{stood_at_confirm, stood_at_release}
 
 -- ---- tables of two numbers
@@ -137,13 +137,6 @@ module _ (k place : ℕ) (lists : List (List Request)) (ts : List StandingReques
       ⊎ Contains (granted (list_of (set lists latch (list_of lists latch ++ r ∷ [])) u.latch)) u.request) new
       (inr (rw (get_or-set_same lists latch (list_of lists latch ++ r ∷ []) [] lt) (granted_at_once (list_of lists latch) r g)))
 
-  queued_flag : (latch requestor id : ℕ) (mode : Mode) (form : LatchForm)
-      → (queued t.latch t.request.id ≡ true → queued_after queued (Obtain latch requestor mode form)
-      (Queued id) t.latch t.request.id ≡ true)
-  queued_flag latch requestor id mode form_of.Waiting is = set_true queued latch id t.latch t.request.id is
-  queued_flag latch requestor id mode form_of.Conditional is = is
-  queued_flag latch requestor id mode (form_of.Posted e) is = is
-
   new_flag : (latch requestor id : ℕ) (mode : Mode) (form : LatchForm) → form ≡ form_of.Waiting
       → queued_after queued (Obtain latch requestor mode form) (Queued id) latch id ≡ true
   new_flag latch requestor id mode form is = rw is (set_here queued latch id)
@@ -173,10 +166,6 @@ module _ (k place : ℕ) (lists : List (List Request)) (ts : List StandingReques
       ]
   obtained latch requestor mode form lt false false g q before i = before i
 
-  confirm_flag : (latch id : ℕ) (y : LatchReply) → queued_after queued (Confirm latch id) y t.latch t.request.id ≡ with_at queued latch
-      (with_at (queued latch) id false) t.latch t.request.id
-  confirm_flag latch id y = refl
-
   -- its own confirm
   confirmed_own : (latch id : ℕ) → (latch ≡ t.latch) → (id ≡ t.request.id) → (f : Table) → (b d : Bool)
       → list_any (is_own k id) (granted (list_of lists latch)) ≡ b
@@ -193,7 +182,7 @@ module _ (k place : ℕ) (lists : List (List Request)) (ts : List StandingReques
       absurd (true≢false (sym (rw (eq-eqb latch t.latch here, eq-eqb id t.request.id too) refl) ∙ not_early))
   confirmed_own latch id here too f false false any not_early i =
       absurd (true≢false (sym (rw (eq-eqb t.latch latch (sym here), eq-eqb t.request.id id (sym too)) refl)
-      ∙ not_true (is_named latch id t) (passes (λ u. not (is_named latch id u)) t ts i)))
+      ∙ not-true (is_named latch id t) (passes (λ u. not (is_named latch id u)) t ts i)))
 
   confirmed : (latch id : ℕ) → is_early_confirm t Latches (op_on.Latch (Confirm latch id))
       (reply_of.Latch (confirm_reply k id (list_of lists latch))) ≡ false

@@ -1,27 +1,16 @@
 -- Calls that are not refused: when a wait and an extend are not, and the program that each call is then. Whoever follows a
 -- program call by call rewrites with these.
-use Rattle.std.proofs.Common.{◌≡◌, ℕ, suc, ◌+◌, ◌<◌, ◌≤◌, ◌==◌, nat_lt, true, false, Bool, List, [], ◌∷◌, ◌++◌, length, Option, None, Ok}
-use Rattle.std.proofs.Common.{refl, sym, ap, arith}
+use Rattle.std.proofs.Common.{◌≡◌, ℕ, ◌+◌, ◌≤◌, ◌==◌, nat_lt, true, false, Bool, List, [], ◌∷◌, ◌++◌, length, Option, None}
+use Rattle.std.proofs.Common.{refl, sym, ap}
 use Rattle.std.specs.List.{AllByRecursion, list_any}
-use Rattle.std.proofs.lemmas.Bool.{eq-eqb, ne_eqb, lt-ltb, le-ltb}
-use Rattle.mv_ecb.specs.declared.operation.EcbOp.TheVariants as ecb_op
-use Rattle.mv_element.specs.declared.element.Token.{Token}
-use Rattle.mv_element.specs.declared.operation.ElementOp.TheVariants as element_op
-use Rattle.mv_latch.specs.declared.operation.LatchOp.TheVariants.{Obtain}
-use Rattle.mv_latch.specs.declared.request.LatchForm.TheVariants.{Waiting}
-use Rattle.mv_latch.specs.declared.request.Mode.{Mode}
-use Rattle.mv_machine.specs.declared.entry.Object.TheVariants.{Ecb, Element, Latches}
-use Rattle.mv_machine.specs.declared.entry.Op.TheVariants as op_on
+use Rattle.std.proofs.lemmas.Bool.{eq-eqb, ne_eqb, le-ltb}
 use Rattle.mv_machine.specs.Check.{or_else}
-use Rattle.mv_machine.specs.Setup.{Setup, owner_of, element_owner, is_exit_of}
+use Rattle.mv_machine.specs.Setup.{Setup, owner_of, is_exit_of}
 use Rattle.mv_calls.specs.Keeping.{Kept}
-use Rattle.mv_calls.specs.LatchCalls.{obtain, obtained}
-use Rattle.mv_calls.specs.Pauses.{pause, paused, deallocate, closed}
-use Rattle.mv_calls.specs.Posts.{post, post_within, posting, each_posted, posted_next}
-use Rattle.mv_calls.specs.Program.{Do, Done, on_ecb, on_element, on_latch, unless_refused}
+use Rattle.mv_calls.specs.Program.{unless_refused}
 use Rattle.mv_calls.specs.Refusal.{Refusal, TooMany, NotOwnerAt, ExtendedAt}
 use Rattle.mv_calls.specs.Waits.{refused_if, refused_at, doubled_at, is_others_block, wait_refusal, extend_refusal, wait, arm_all}
-use Rattle.mv_calls.specs.Waits.{settle_all, enough, clear, the_word, extend, extended, AreDistinct}
+use Rattle.mv_calls.specs.Waits.{settle_all, enough, AreDistinct}
 use Rattle.mv_machine.proofs.Lists.{all_push}
 
 -- none of four reasons holds
@@ -99,42 +88,3 @@ extend_unrefused c e exit kept free starts = rw (own_block c kept e free.own, st
 pub wait_is : (c : Setup) (count : ℕ) (es : List ℕ) (kept : Kept) → wait_refusal c count es kept ≡ None
     → wait c count es kept ≡ arm_all es (settle_all es [] (enough count))
 wait_is c count es kept none = ap (λ r. unless_refused r (arm_all es (settle_all es [] (enough count)))) none
-
--- over one block
-pub wait_for_one : (c : Setup) (e : ℕ) (kept : Kept) → IsFree c kept e
-    → wait c 1 (e ∷ []) kept ≡ arm_all (e ∷ []) (settle_all (e ∷ []) [] (enough 1))
-wait_for_one c e kept free = wait_is c 1 (e ∷ []) kept (wait_unrefused c 1 (e ∷ []) kept (omega arith) (tt, tt) (free, tt))
-
--- the caller's own block is cleared
-pub clear_is : (c : Setup) (e : ℕ) (kept : Kept) → owner_of c e ≡ kept.caller
-    → clear c e kept ≡ Do (Ecb e) (op_on.Ecb ecb_op.Clear) (λ h. on_ecb h.entry.reply (the_word (λ w. Done (Ok w))))
-clear_is c e kept own = rw (own_block c kept e own) refl
-
--- a free block is extended with an exit of its own
-pub extend_is : (c : Setup) (e exit : ℕ) (kept : Kept) → IsFree c kept e → is_exit_of c exit e ≡ true
-    → extend c e exit kept ≡ Do (Ecb e) (op_on.Ecb (ecb_op.Extend exit)) (λ h. on_ecb h.entry.reply extended)
-extend_is c e exit kept free starts = rw (own_block c kept e free.own, starts, free.plain) refl
-
--- a post, where there is a block at all
-pub post_is : (c : Setup) (e code depth : ℕ) (kept : Kept) → length c.owners ≡ suc depth
-    → post c e code kept ≡ Do (Ecb e) (op_on.Ecb (ecb_op.Post code))
-    (λ h. on_ecb h.entry.reply (posting (λ p. each_posted (post_within depth c code) (posted_next c p) p)))
-post_is c e code depth kept some = ap (λ d. post_within d c code e) some
-
--- a pause with an own element, and its return
-pub pause_is : (c : Setup) (t : Token) (kept : Kept) → element_owner c t.element ≡ kept.caller
-    → pause c t kept ≡ Do (Element t.element) (op_on.Element (element_op.Pause t.generation))
-    (λ h. on_element h.entry.reply (paused t.element t.generation))
-pause_is c t kept own = rw (eq-eqb (element_owner c t.element) kept.caller own) refl
-
--- and a deallocation
-pub deallocate_is : (c : Setup) (t : Token) (kept : Kept) → element_owner c t.element ≡ kept.caller
-    → deallocate c t kept ≡ Do (Element t.element) (op_on.Element (element_op.Close t.generation))
-    (λ h. on_element h.entry.reply closed)
-deallocate_is c t kept own = rw (eq-eqb (element_owner c t.element) kept.caller own) refl
-
--- an obtain of a latch that exists, in the Waiting form and within the quota
-pub obtain_is : (c : Setup) (latch requestor : ℕ) (mode : Mode) (kept : Kept) → latch < c.latches → length kept.requests < c.quota
-    → obtain c latch requestor mode Waiting kept ≡ Do Latches (op_on.Latch (Obtain latch requestor mode Waiting))
-    (λ h. on_latch h.entry.reply (obtained latch Waiting))
-obtain_is c latch requestor mode kept exists few = rw (lt-ltb latch c.latches exists, lt-ltb (length kept.requests) c.quota few) refl

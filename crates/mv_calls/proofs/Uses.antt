@@ -18,7 +18,7 @@ use Rattle.mv_machine.specs.Check.{IsValid}
 use Rattle.mv_machine.specs.Kept.{stands_with, standing_from, standing}
 use Rattle.mv_machine.specs.Legal.{IsNext, Legal, after, of}
 use Rattle.mv_machine.specs.Parts.{IsPossible}
-use Rattle.mv_machine.specs.Reach.{reach, release_cost, total}
+use Rattle.mv_machine.specs.Reach.{reach}
 use Rattle.mv_machine.specs.Setup.{Setup}
 use Rattle.mv_machine.specs.System.{System}
 use Rattle.mv_machine.specs.Told.{told, told_at}
@@ -29,13 +29,13 @@ use Rattle.mv_machine.proofs.Longer.{last_is_next, front_is_legal, legal_longer}
 use Rattle.mv_machine.proofs.OneHistory.{budgets_fit}
 use Rattle.mv_calls.specs.Exits.{NamesOwnExit, NameOwnExits}
 use Rattle.mv_calls.specs.Keeping.{Kept, kept_after, kept_from, kept_of, nothing_kept}
-use Rattle.mv_calls.specs.Posts.{post, wakes_posted}
-use Rattle.mv_calls.specs.Program.{Program, Heard, Says, entries}
+use Rattle.mv_calls.specs.Posts.{post}
+use Rattle.mv_calls.specs.Program.{Heard, Says, entries}
 use Rattle.mv_machine.specs.Replies.{NamesUpTo}
-use Rattle.mv_machine.specs.Waking.{IsFair, IsFairWake, AreFairWakes, blocks_of}
+use Rattle.mv_machine.specs.Waking.{IsFair, IsFairWake, AreFairWakes}
 use Rattle.mv_calls.proofs.Behind.{last_is_behind}
 use Rattle.mv_calls.proofs.Generations.{next_names}
-use Rattle.mv_calls.proofs.Posting.{exits_are_own, post_asks, wakes_ask}
+use Rattle.mv_calls.proofs.Posting.{exits_are_own, post_asks}
 use Rattle.mv_machine.proofs.Requests.{all_of_list, requests_kept}
 use Rattle.mv_calls.proofs.Making.{kept_caller}
 use Rattle.mv_calls.proofs.Wakes.{wakes_are_fair, few_wakes_post, wakes_cost}
@@ -157,18 +157,3 @@ posted_kept c es k l = (requests_kept c es l).quotas.posted k
 pub post_hears : (c : Setup) (code e : ℕ) (kept : Kept) (hs : List Heard) → reach c e ≤ 524287 → NameOwnExits c hs
     → Says (post c e code kept) hs → length hs ≤ reach c e
 post_hears c code e kept hs few names s = post_asks c code e kept few hs names s
-
--- the posts of some wakes hear of at most the sum of their reaches, and what comes behind them of what that asks
-pub wakes_hear : {A : Type 0} (c : Setup) (ws : List Wake) (kept : Kept) (last : Program A) (most : ℕ)
-    → ((hs : List Heard) → NameOwnExits c hs → Says last hs → length hs ≤ most)
-    → total (reach c) (blocks_of ws) ≤ 524287 → (hs : List Heard) → NameOwnExits c hs → Says (wakes_posted c ws kept last) hs
-    → length hs ≤ total (reach c) (blocks_of ws) + most
-wakes_hear c ws kept last most asks few hs names s = wakes_ask c ws kept last most asks few hs names s
-
--- a release, or a purge, with the posts of its wakes
-pub release_hears : {A : Type 0} (c : Setup) (ws : List Wake) (kept : Kept) (last : Program A) (most : ℕ) → AreFairWakes c ws
-    → release_cost c ≤ 524287 → ((hs : List Heard) → NameOwnExits c hs → Says last hs → length hs ≤ most)
-    → (hs : List Heard) → NameOwnExits c hs → Says (wakes_posted c ws kept last) hs → length hs + 1 ≤ release_cost c + most
-release_hears c ws kept last most fair exact asks hs names s =
-    let cost : total (reach c) (blocks_of ws) + 1 ≤ release_cost c = fair.cost exact in
-    omega (arith, cost, wakes_hear c ws kept last most asks (omega arith) hs names s)

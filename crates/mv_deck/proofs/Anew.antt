@@ -1,15 +1,14 @@
 -- What the plain search of the tests reads and makes anew at each line.
 use Rattle.std.proofs.Common.{◌≡◌, ℕ, zero, suc, ◌+◌, ◌*◌, ◌-◌, ◌<◌, ◌≤◌, Bool, true, false, not, cond, ◌||◌, List, [], ◌∷◌, ◌++◌, length}
-use Rattle.std.proofs.Common.{map, take, drop, fold, get_or, sum_by, Option, Some, None, refl, sym, ap, ◌∙◌, arith, add-one, length-drop}
+use Rattle.std.proofs.Common.{map, take, drop, get_or, sum_by, Option, Some, None, refl, sym, ap, ◌∙◌, arith, add-one, length-drop}
 use Rattle.std.proofs.Common.{append_assoc, is_none, option_map, ◌&&◌, ◌^◌}
 use Rattle.std.specs.Prelude.{option_to_list}
 use Rattle.std.specs.Borrow.{Bor}
 use Rattle.std.specs.List.{list_any, cons_option, position, position_from}
 use Rattle.std.proofs.lemmas.Grind.{common_steps}
-use Rattle.std.proofs.lemmas.List.{append-nil, take_all, map_more, map_push, take_more}
+use Rattle.std.proofs.lemmas.List.{append-nil, take_all, map_more, map_push}
 use Rattle.std.proofs.lemmas.List.Elements.{filter_map-append}
 use Rattle.std.proofs.lemmas.List.Folds.{list_any-append}
-use Rattle.std.proofs.lemmas.List.Sums.{fold_push}
 use Rattle.std.proofs.lemmas.Nat.{mul-le}
 use Rattle.std.proofs.lemmas.Iterator.Adapters.{position_from-zero}
 use Rattle.mv_deck.specs.declared.deck.Job.{Job}
@@ -39,16 +38,6 @@ use Rattle.mv_deck.proofs.Jobs.{stepped, last_steps-push, with_step-push, weight
 use Rattle.mv_deck.proofs.Passes.{version_in, one_line, first_of_line}
 
 -- ---- lists, element by element
-
--- a fold over one element more
-pub fold_more : {A B : Type 0} (f : B → A → B) (a : B) (xs : List A) (i : ℕ) (d : A) → i < length xs
-    → fold f a (take (i + 1) xs) ≡ f (fold f a (take i xs)) (get_or xs i d)
-fold_more f a xs i d lt = ap (fold f a) (take_more xs i d lt) ∙ fold_push f a (take i xs) (get_or xs i d)
-
--- the same over what a function makes of the elements
-pub fold_map_more : {A B C : Type 0} (f : B → C → B) (a : B) (g : A → C) (xs : List A) (i : ℕ) (d : A) → i < length xs
-    → fold f a (map g (take (i + 1) xs)) ≡ f (fold f a (map g (take i xs))) (g (get_or xs i d))
-fold_map_more f a g xs i d lt = ap (fold f a) (map_more g xs i d lt) ∙ fold_push f a (map g (take i xs)) (g (get_or xs i d))
 
 -- a test that no element passed, and the next one neither
 pub none_more : {A B : Type 0} (p : B → Bool) (g : A → B) (xs : List A) (i : ℕ) (d : A) → i < length xs

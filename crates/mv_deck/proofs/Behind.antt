@@ -12,7 +12,7 @@ use Rattle.mv_deck.specs.declared.form.Part.{Part}
 use Rattle.mv_deck.specs.declared.names.Names.{Names}
 use Rattle.mv_deck.specs.declared.form.Version.{Version}
 use Rattle.mv_deck.specs.declared.reading.Reading.{Reading}
-use Rattle.mv_deck.specs.Statement.{Statement, Null, DeckOf, JobOf, AfterPart}
+use Rattle.mv_deck.specs.Statement.{Statement, JobOf, AfterPart}
 use Rattle.mv_deck.specs.Deck.{JobData, job_data, jobs_of, jobs_behind, place_of, after_of, most_of, fresh_job, step_of, with_step}
 use Rattle.mv_deck.specs.Fault.{is_null, is_job}
 use Rattle.mv_deck.specs.Held.{held, latches, is_end}
@@ -56,36 +56,6 @@ stated_before p (t ∷ sts) e = grind arith
 -- the jobs behind one more statement
 pub jobs-push : (sts : List Statement) (s : Statement) → jobs_of (sts ++ s ∷ []) ≡ jobs_behind (jobs_of sts) s
 jobs-push sts s = fold_push jobs_behind [] sts s
-
--- ---- the null statement and DECK
-
--- the reader behind the null statement
-pub behind_null : (n : ℕ) (v : Version) (sts : List Statement) (r : Reading) → IsBehind n v sts r
-    → IsBehind n v (sts ++ Null ∷ []) (record r { stated = true; ended = true })
-behind_null n v sts r b = record {
-  initiators_are = b.initiators_are;
-  version = b.version;
-  jobs = b.jobs ∙ sym (jobs-push sts Null);
-  kept = subst (λ (x : List JobData). Keeps n x (record r { stated = true; ended = true })) (sym (jobs-push sts Null))
-      (record { named = b.kept.named; latched = b.kept.latched; closed = b.kept.closed; room = b.kept.room });
-  begun = b.begun ∙ sym (same_any is_job sts Null refl);
-  stated = sym (some_stated sts Null);
-  ended = sym (some_any is_null sts Null refl);
-}
-
--- the reader behind a DECK
-pub behind_deck : (n : ℕ) (v : Version) (sts : List Statement) (r : Reading) (word : List ℕ) → IsBehind n v sts r
-    → IsBehind n v (sts ++ DeckOf word ∷ []) (record r { stated = true })
-behind_deck n v sts r word b = record {
-  initiators_are = b.initiators_are;
-  version = b.version;
-  jobs = b.jobs ∙ sym (jobs-push sts (DeckOf word));
-  kept = subst (λ (x : List JobData). Keeps n x (record r { stated = true })) (sym (jobs-push sts (DeckOf word)))
-      (record { named = b.kept.named; latched = b.kept.latched; closed = b.kept.closed; room = b.kept.room });
-  begun = b.begun ∙ sym (same_any is_job sts (DeckOf word) refl);
-  stated = sym (some_stated sts (DeckOf word));
-  ended = b.ended ∙ sym (same_any is_null sts (DeckOf word) refl);
-}
 
 -- ---- a JOB
 

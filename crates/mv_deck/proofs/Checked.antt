@@ -30,10 +30,6 @@ or_true : (b : Bool) → (b || true) ≡ true
 or_true true = refl
 or_true false = refl
 
-or_false : (b : Bool) → (b || false) ≡ b
-or_false true = refl
-or_false false = refl
-
 module _ (name : List ℕ) (parts : List Part) where
   -- a JOB with this name and these parts
   abbrev pub job : Statement

@@ -8,14 +8,6 @@ use Rattle.mv_deck.specs.Load.{load_name, four_digits, waits, scans, abends, vol
 use Rattle.mv_deck.specs.Load.{print_line, last_line, job_lines, first_lines, ended, load_text}
 use Rattle.mv_deck.proofs.LoadText.{first_lines-more}
 
--- a line with its LF
-length-ended : (line : List ℕ) → length (ended line) ≡ length line + 1
-length-ended line = length-append line (codes "\n")
-
--- a number of one digit
-one_digit : (v : ℕ) → v < 10 → length (decimal v) ≡ 1
-one_digit v lt = ap length (decimal_digit v lt)
-
 scan_bytes : (i : ℕ) → length (flat_map ended (scan_lines i)) ≤ 10
 scan_bytes i = go (scans i) where
   go : (b : Bool) → length (flat_map ended (if b then (codes "// SCAN " ++ decimal (volume_of i)) ∷ [] else [])) ≤ 10

@@ -1,5 +1,5 @@
 -- Parts of AFTER lists, with and without where they lie in memory.
-use Rattle.std.proofs.Common.{◌≡◌, ℕ, zero, suc, ◌+◌, ◌<◌, ◌≤◌, Bool, false, ◌||◌, List, [], ◌∷◌, length, map, drop, refl, ap, ◌∙◌, arith}
+use Rattle.std.proofs.Common.{◌≡◌, ℕ, zero, suc, ◌+◌, ◌<◌, Bool, ◌||◌, List, [], ◌∷◌, length, map, drop, refl, ap, ◌∙◌, arith}
 use Rattle.std.proofs.Common.{bytes_eq}
 use Rattle.std.specs.List.{list_any}
 use Rattle.mv_deck.specs.declared.form.Part.{Part}
@@ -30,10 +30,3 @@ double_from (suc place) (p ∷ parts) lt =
   where
     same : (k : ℕ) → suc (k + 1) ≡ suc k + 1
     same k = omega arith
-
--- behind the last part no name stands twice
-pub double_none : (parts : List Part) (place : ℕ) → length parts ≤ place → has_double (map part_data (drop place parts)) ≡ false
-double_none [] zero le = refl
-double_none [] (suc place) le = refl
-double_none (p ∷ parts) zero le = absurd (omega arith)
-double_none (p ∷ parts) (suc place) le = double_none parts place (omega arith)

@@ -29,9 +29,6 @@ pub record IsAt (n : ℕ) (bytes rest : List ℕ) (number : ℕ) (r : Reading) :
   pub jobs : jobs_of (earlier ++ statements_of (version_in bytes) (lines_of rest)) ≡ deck_of bytes
   pub count : number + length rest ≤ length bytes + 1
 
-pub at_first : (n : ℕ) (bytes : List ℕ) (r : Reading) → IsBehind n (version_in bytes) [] r → IsAt n bytes bytes 1 r
-at_first n bytes r b = record { earlier = []; behind = b; first = refl; jobs = refl; count = omega arith }
-
 pub earlier_more : (earlier : List Statement) (o : Option Statement) (later : List Statement)
     → earlier ++ cons_option o later ≡ (earlier ++ option_to_list o) ++ later
 earlier_more earlier None later = ap (λ (x : List Statement). x ++ later) (sym (append-nil earlier))

@@ -40,6 +40,7 @@ use Rattle.mv_deck.proofs.Jobs.{stepped, last_steps-push, with_step-push}
 use Rattle.mv_deck.proofs.Steps.{is_step}
 use Rattle.mv_deck.proofs.Behind.{jobs-push, same_any}
 use Rattle.mv_deck.proofs.Passes.{version_in, one_line, earlier_more}
+use Rattle.std.proofs.lemmas.Bool.{or_parts, not-false}
 
 -- ---- one more step, and one more job
 
@@ -215,16 +216,6 @@ is_faultless n earlier jobs s none =
 
 -- ---- a faultless JOB
 
--- neither part holds
-first_false : (a b : Bool) → (a || b) ≡ false → (a ≡ false) × (b ≡ false)
-first_false true b e = absurd cc
-first_false false b e = (refl, e)
-
--- what is not false
-not_false : (b : Bool) → not b ≡ false → b ≡ true
-not_false true e = refl
-not_false false e = absurd cc
-
 -- no place at all
 no_place : (o : Option ℕ) → is_some o ≡ false → o ≡ None
 no_place None e = refl
@@ -251,8 +242,8 @@ others_apart : (jobs : List JobData) (p : AfterPart) (parts : List AfterPart) �
     → AllByRecursion (λ (other : After). ¬ (other.job ≡ (after_of jobs p).job)) (map (after_of jobs) parts)
 others_apart jobs p [] x known d = tt
 others_apart jobs p (q ∷ parts) x known d =
-    let k = first_false (is_none (place_of jobs q.name)) _ known in
-    let e = first_false (bytes_eq q.name p.name) _ d in
+    let k = or_parts (is_none (place_of jobs q.name)) _ known in
+    let e = or_parts (bytes_eq q.name p.name) _ d in
     (apart jobs p q x k.0 e.0, others_apart jobs p parts x k.1 e.1)
 
 -- no job is awaited twice
@@ -261,8 +252,8 @@ all_apart : (jobs : List JobData) (parts : List AfterPart)
     → AreDistinct (map (after_of jobs) parts)
 all_apart jobs [] known d = tt
 all_apart jobs (p ∷ parts) known d =
-    let k = first_false (is_none (place_of jobs p.name)) _ known in
-    let e = first_false (list_any (λ (q : AfterPart). bytes_eq q.name p.name) parts) _ d in
+    let k = or_parts (is_none (place_of jobs p.name)) _ known in
+    let e = or_parts (list_any (λ (q : AfterPart). bytes_eq q.name p.name) parts) _ d in
     (others_apart jobs p parts k.0 k.1 e.0, all_apart jobs parts k.1 e.1)
 
 -- accepted codes have their bound
@@ -292,8 +283,8 @@ all_earlier : (jobs : List JobData) (parts : List AfterPart)
     → AllByRecursion (IsSoundAfter (length jobs)) (map (after_of jobs) parts)
 all_earlier jobs [] known good = tt
 all_earlier jobs (p ∷ parts) known good =
-    let k = first_false (is_none (place_of jobs p.name)) _ known in
-    let g = first_false (accepts_no_code p.most) _ good in
+    let k = or_parts (is_none (place_of jobs p.name)) _ known in
+    let g = or_parts (accepts_no_code p.most) _ good in
     ((earlier_bound jobs p.name k.0, most_bound p.most g.0), all_earlier jobs parts k.1 g.1)
 
 -- at most eight are awaited
@@ -304,9 +295,9 @@ few_parts jobs parts e = let same : length (map (after_of jobs) parts) ≡ lengt
 sound_job : (n : ℕ) (earlier : List Statement) (jobs : List JobData) (name : List ℕ) (after : List AfterPart)
     → IsFaultless n earlier jobs (JobOf name after) → IsSoundJob jobs (fresh_job jobs name after)
 sound_job n earlier jobs name after f =
-    let crowd = first_false (has_double after) _ f.few in
+    let crowd = or_parts (has_double after) _ f.few in
     record {
-      named = not_false (is_name name) (first_false (not (is_name name)) _ f.name).0;
+      named = not-false (is_name name) (or_parts (not (is_name name)) _ f.name).0;
       new = no_place (place_of jobs name) f.new;
       few = few_parts jobs after crowd.1;
       distinct = all_apart jobs after f.known crowd.0;

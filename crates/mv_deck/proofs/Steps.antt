@@ -9,8 +9,7 @@ use Rattle.mv_deck.specs.Statement.{Statement, Null, DeckOf, JobOf, PrintOf, Use
 use Rattle.mv_deck.specs.Deck.{JobData, step_of, with_step, jobs_behind, last_steps}
 use Rattle.mv_deck.specs.Held.{is_out_of_order, lacks_latch, is_end}
 use Rattle.mv_deck.specs.Weight.{weight, heaviest}
-use Rattle.mv_deck.specs.Fault.{is_null, is_job, is_deck, has_bad_number, kinds_behind, when}
-use Rattle.mv_line.specs.Fault.{first_of_list}
+use Rattle.mv_deck.specs.Fault.{is_null, is_job, is_deck, kinds_behind, when}
 
 -- the kinds of fault of a step behind these jobs
 abbrev pub kinds_of_step : ℕ → Bool → List JobData → Step → List ℕ
@@ -58,17 +57,3 @@ is_step (CountOf volume amount) step e = by_form refl refl refl (λ jobs. rw e r
 is_step (ScanOf volume) step e = by_form refl refl refl (λ jobs. rw e refl) (λ n earlier jobs. rw e refl)
 is_step (AbendOf code) step e = by_form refl refl refl (λ jobs. rw e refl) (λ n earlier jobs. rw e refl)
 is_step (ReturnOf code) step e = by_form refl refl refl (λ jobs. rw e refl) (λ n earlier jobs. rw e refl)
-
--- a statement without a name has no lower fault than a bad number
-pub bad_number : (n : ℕ) (earlier : List Statement) (jobs : List JobData) (s : Statement) → is_job s ≡ false
-    → has_bad_number s ≡ true → first_of_list (kinds_behind n earlier jobs s) ≡ Some 8
-bad_number n earlier jobs Null j e = absurd cc
-bad_number n earlier jobs (DeckOf version) j e = rw e refl
-bad_number n earlier jobs (JobOf name after) j e = absurd cc
-bad_number n earlier jobs (PrintOf text) j e = absurd cc
-bad_number n earlier jobs (UseOf latch mode) j e = rw e refl
-bad_number n earlier jobs (FreeOf latch) j e = rw e refl
-bad_number n earlier jobs (CountOf volume amount) j e = rw e refl
-bad_number n earlier jobs (ScanOf volume) j e = rw e refl
-bad_number n earlier jobs (AbendOf code) j e = rw e refl
-bad_number n earlier jobs (ReturnOf code) j e = rw e refl

@@ -3,7 +3,7 @@ use Rattle.std.proofs.Common.{◌≡◌, ℕ, suc, ◌-◌, ◌<◌, ◌≤◌, 
 use Rattle.std.proofs.Common.{take, refl, ap, ◌∙◌, arith, append_assoc, leb}
 use Rattle.std.specs.Prelude.{flat_map}
 use Rattle.std.specs.List.{AllByRecursion, onto_first, suffix_len}
-use Rattle.std.proofs.lemmas.Bool.{and_parts, leb-true, ne_eqb}
+use Rattle.std.proofs.lemmas.Bool.{and_parts, leb-true, ne_eqb, not-true}
 use Rattle.std.proofs.lemmas.List.Sums.{suffix_len_is}
 use Rattle.std.proofs.Math.Seq.{take-length}
 use Rattle.mv_line.specs.Byte.{is_printable, is_space, has_foreign_byte}
@@ -53,15 +53,11 @@ filled (b ∷ bs) e = omega arith
 pub keeps_cr : (line : List ℕ) → is_tidy line ≡ true → without_cr line ≡ line
 keeps_cr line e = rw (no_control (last_of line) 13 (last_is line e).0 (omega arith)) refl
 
-no_is_false : (b : Bool) → not b ≡ true → b ≡ false
-no_is_false true e = absurd cc
-no_is_false false e = refl
-
 pub keeps_spaces : (line : List ℕ) → is_tidy line ≡ true → without_last_spaces line ≡ line
 keeps_spaces line e =
     let none : suffix_len is_space line ≡ length line - length line =
     suffix_len_is is_space line (length line) 0 (omega arith) (λ k le lt. absurd (omega arith))
-    (λ some. no_is_false (is_space (last_of line)) (last_is line e).1) in
+    (λ some. not-true (is_space (last_of line)) (last_is line e).1) in
     let all : length line - suffix_len is_space line ≡ length line = omega arith in
     ap (λ (n : ℕ). take n line) all ∙ take-length line
 

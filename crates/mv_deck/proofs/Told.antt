@@ -1,15 +1,14 @@
 -- The kinds of fault of a statement, by the answers to what is asked of it.
-use Rattle.std.proofs.Common.{◌≡◌, ℕ, ◌+◌, ◌<◌, Bool, true, false, not, ◌&&◌, ◌||◌, List, [], ◌++◌, length, Some, refl, ap, ◌∙◌, arith}
+use Rattle.std.proofs.Common.{◌≡◌, ℕ, ◌+◌, ◌<◌, Bool, true, false, not, ◌&&◌, List, [], Some, refl, arith}
 use Rattle.std.specs.Prelude.{nat_lt}
 use Rattle.std.specs.List.{list_any}
 use Rattle.mv_deck.specs.declared.deck.Step.{Step}
-use Rattle.mv_deck.specs.declared.fault.Kind.TheVariants.{Misplaced, BehindEnd, TooHeavy, LateDeck}
-use Rattle.mv_deck.specs.Statement.{Statement, Null, DeckOf, JobOf, AfterPart}
+use Rattle.mv_deck.specs.Statement.{Statement, Null, JobOf, AfterPart}
 use Rattle.mv_deck.specs.Deck.{JobData, last_steps, with_step}
 use Rattle.mv_deck.specs.Held.{is_end, is_out_of_order, lacks_latch}
 use Rattle.mv_deck.specs.Weight.{weight, heaviest}
 use Rattle.mv_deck.specs.Fault.{is_null, is_job, has_bad_name, has_bad_number, repeats_name, awaits_no_job, is_crowded, is_misplaced}
-use Rattle.mv_deck.specs.Fault.{is_too_heavy, kinds_behind, when}
+use Rattle.mv_deck.specs.Fault.{is_too_heavy, kinds_behind}
 use Rattle.mv_line.specs.Fault.{first_of_list}
 use Rattle.mv_deck.specs.Reading.{IsGoodJob}
 use Rattle.mv_deck.proofs.Steps.{kinds_of_step}
@@ -29,50 +28,10 @@ heavy room w added e lt = grind arith
 
 -- ---- the null statement
 
--- a second null statement
-pub null_misplaced : (n : ℕ) (earlier : List Statement) (jobs : List JobData) → list_any is_null earlier ≡ true
-    → first_of_list (kinds_behind n earlier jobs Null) ≡ Some 11
-null_misplaced n earlier jobs e = rw e refl
-
 -- the first one
 pub null_fine : (n : ℕ) (earlier : List Statement) (jobs : List JobData) → list_any is_null earlier ≡ false
     → nat_lt heaviest (weight jobs n) ≡ false → kinds_behind n earlier jobs Null ≡ []
 null_fine n earlier jobs e l = rw (e, l, and_false (not (list_any is_job earlier)), and_false (list_any is_end (last_steps jobs))) refl
-
--- ---- DECK, by: whether it is misplaced and whether its job has ended, whether the deck is too heavy, whether it is late
-
--- all kinds of a DECK with a good word
-abbrev deck_all : Bool → Bool → Bool → Bool → List ℕ
-deck_all misplaced ended weighs late =
-    when misplaced Misplaced
-    ++ (when ((ended && true) && not misplaced) BehindEnd
-    ++ (when (weighs && (not misplaced && not (ended && true))) TooHeavy ++ when (late && (not misplaced && not (ended && true))) LateDeck))
-
-module _ (n : ℕ) (earlier : List Statement) (jobs : List JobData) (word : List ℕ) (good : has_bad_number (DeckOf word) ≡ false) where
-  -- they are its kinds
-  deck_asked : kinds_behind n earlier jobs (DeckOf word) ≡ deck_all (list_any is_null earlier || (not (list_any is_job earlier) && false))
-      (list_any is_end (last_steps jobs)) (nat_lt heaviest (weight jobs n)) (nat_lt 0 (length earlier))
-  deck_asked = rw good refl
-
-  -- behind the null statement
-  pub deck_misplaced : list_any is_null earlier ≡ true → first_of_list (kinds_behind n earlier jobs (DeckOf word)) ≡ Some 11
-  deck_misplaced e = ap first_of_list deck_asked ∙ rw e refl
-
-  -- behind the end of a job
-  pub deck_behind_end : list_any is_null earlier ≡ false → list_any is_end (last_steps jobs) ≡ true
-      → first_of_list (kinds_behind n earlier jobs (DeckOf word)) ≡ Some 13
-  deck_behind_end e f = ap first_of_list deck_asked ∙ rw (e, and_false (not (list_any is_job earlier)), f) refl
-
-  -- behind another statement
-  pub deck_late : list_any is_null earlier ≡ false → list_any is_end (last_steps jobs) ≡ false
-      → nat_lt heaviest (weight jobs n) ≡ false → nat_lt 0 (length earlier) ≡ true
-      → first_of_list (kinds_behind n earlier jobs (DeckOf word)) ≡ Some 15
-  deck_late e f l s = ap first_of_list deck_asked ∙ rw (e, and_false (not (list_any is_job earlier)), f, l, s) refl
-
-  -- the first statement
-  pub deck_fine : list_any is_null earlier ≡ false → list_any is_end (last_steps jobs) ≡ false
-      → nat_lt heaviest (weight jobs n) ≡ false → nat_lt 0 (length earlier) ≡ false → kinds_behind n earlier jobs (DeckOf word) ≡ []
-  deck_fine e f l s = deck_asked ∙ rw (e, and_false (not (list_any is_job earlier)), f, l, s) refl
 
 -- ---- a JOB
 
@@ -131,32 +90,6 @@ module _ (n : ℕ) (earlier : List Statement) (jobs : List JobData) (name : List
 -- ---- a step
 
 module _ (n : ℕ) (jobs : List JobData) (step : Step) where
-  -- kind 11
-  pub step_outside : (misplaced : Bool) → misplaced ≡ true → first_of_list (kinds_of_step n misplaced jobs step) ≡ Some 11
-  step_outside misplaced m = rw (m, and_false (is_out_of_order (last_steps jobs) step), and_false (lacks_latch (last_steps jobs) step)) refl
-
-  -- kind 13
-  pub step_behind_end : (misplaced : Bool) → misplaced ≡ false → list_any is_end (last_steps jobs) ≡ true
-      → first_of_list (kinds_of_step n misplaced jobs step) ≡ Some 13
-  step_behind_end misplaced m e = rw (
-    m,
-    e,
-    and_false (is_out_of_order (last_steps jobs) step),
-    and_false
-        (lacks_latch (last_steps jobs) step),
-  ) refl
-
-  -- kind 9
-  pub step_out_of_order : (misplaced : Bool) → misplaced ≡ false → list_any is_end (last_steps jobs) ≡ false
-      → is_out_of_order (last_steps jobs) step ≡ true → first_of_list (kinds_of_step n misplaced jobs step) ≡ Some 9
-  step_out_of_order misplaced m e o = rw (m, e, o) refl
-
-  -- kind 10
-  pub step_not_held : (misplaced : Bool) → misplaced ≡ false → list_any is_end (last_steps jobs) ≡ false
-      → is_out_of_order (last_steps jobs) step ≡ false → lacks_latch (last_steps jobs) step ≡ true
-      → first_of_list (kinds_of_step n misplaced jobs step) ≡ Some 10
-  step_not_held misplaced m e o l = rw (m, e, o, l) refl
-
   -- kind 14
   pub step_heavy : (misplaced : Bool) → misplaced ≡ false → list_any is_end (last_steps jobs) ≡ false
       → is_out_of_order (last_steps jobs) step ≡ false → lacks_latch (last_steps jobs) step ≡ false

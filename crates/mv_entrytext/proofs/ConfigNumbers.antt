@@ -1,9 +1,9 @@
 -- The numbers of a valid configuration.
-use Rattle.std.proofs.Common.{◌≡◌, ℕ, ◌+◌, ◌≤◌, Bool, true, false, cond, leb, not, ◌||◌, Some, None, Option, List, [], ◌∷◌, length, sum}
-use Rattle.std.proofs.Common.{refl, sym, arith}
+use Rattle.std.proofs.Common.{◌≡◌, ℕ, ◌+◌, ◌≤◌, Bool, true, false, cond, leb, ◌||◌, Some, None, Option, List, [], ◌∷◌, length, sum}
+use Rattle.std.proofs.Common.{refl, arith}
 use Rattle.std.specs.List.{AllByRecursion, position_from, list_all, list_any}
 use Rattle.std.specs.Option.{option_map}
-use Rattle.std.proofs.lemmas.Bool.{leb-false, leb-true, and_parts, false≢true}
+use Rattle.std.proofs.lemmas.Bool.{leb-false, leb-true, and_parts, or_parts}
 use Rattle.std.proofs.lemmas.List.Sums.{sum_by-cons}
 use Rattle.mv_machine.specs.Setup.{Setup, SetupExit}
 use Rattle.mv_machine.specs.Check.{IsValid, first_limit, first_bad_owner, first_bad_exit, bad_budget, is_bad_exit, is_within, or_else}
@@ -66,27 +66,19 @@ owners_fit : (callers : ℕ) (os : List ℕ) → callers ≤ highest_u32 → All
 owners_fit callers [] le h = tt
 owners_fit callers (o ∷ os) le h = (omega (arith, leb-false callers o h.0), owners_fit callers os le h.1)
 
-or_false : (a b : Bool) → (a || b) ≡ false → (a ≡ false) × (b ≡ false)
-or_false false b e = (refl, e)
-or_false true b e = absurd (false≢true (sym e))
-
-not_false : (b : Bool) → not b ≡ false → b ≡ true
-not_false true e = refl
-not_false false e = absurd (false≢true (sym e))
-
 targets_fit : (ecbs source : ℕ) (ts : List ℕ) → ecbs ≤ highest_u32 → list_any (λ target. leb ecbs target || leb target source) ts ≡ false
     → AreU32 ts
 targets_fit ecbs source [] le h = tt
 targets_fit ecbs source (t ∷ ts) le h =
-    let o = or_false (leb ecbs t || leb t source) (list_any (λ target. leb ecbs target || leb target source) ts) h in
-    let p = or_false (leb ecbs t) (leb t source) o.0 in
+    let o = or_parts (leb ecbs t || leb t source) (list_any (λ target. leb ecbs target || leb target source) ts) h in
+    let p = or_parts (leb ecbs t) (leb t source) o.0 in
     (omega (arith, leb-false ecbs t p.0), targets_fit ecbs source ts le o.1)
 
 exits_fit : (ecbs : ℕ) (xs : List SetupExit) → ecbs ≤ highest_u32 → AllByRecursion (λ x. is_bad_exit ecbs x ≡ false) xs
     → list_all (λ x. is_within 1 8 (length x.targets)) xs ≡ true → AllByRecursion IsExit xs
 exits_fit ecbs [] le h w = tt
 exits_fit ecbs (x ∷ xs) le h w =
-    let o = or_false (leb ecbs x.source) (list_any (λ target. leb ecbs target || leb target x.source) x.targets) h.0 in
+    let o = or_parts (leb ecbs x.source) (list_any (λ target. leb ecbs target || leb target x.source) x.targets) h.0 in
     let b = and_parts (is_within 1 8 (length x.targets)) (list_all (λ x. is_within 1 8 (length x.targets)) xs) w in
     let n = and_parts (leb 1 (length x.targets)) (leb (length x.targets) 8) b.0 in (
       record {

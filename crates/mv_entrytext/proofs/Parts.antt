@@ -1,9 +1,9 @@
 -- The parts of a text, and which texts lack a byte.
 use Rattle.std.proofs.Common.{◌≡◌, ℕ, zero, suc, ◌+◌, ◌/◌, ◌%◌, ◌<◌, Bool, true, false}
-use Rattle.std.proofs.Common.{cond, eqb, not, List, [], ◌∷◌, ◌++◌, decimal, refl, sym, ◌∙◌, arith}
+use Rattle.std.proofs.Common.{cond, eqb, not, List, [], ◌∷◌, ◌++◌, decimal, refl, ◌∙◌, arith}
 use Rattle.std.specs.Fmt.{digits, digits_onto, digit_glyph}
 use Rattle.std.specs.List.{list_all, onto_first, join_with_byte}
-use Rattle.std.proofs.lemmas.Bool.{eq-eqb, ne_eqb, and_parts, lt-ltb}
+use Rattle.std.proofs.lemmas.Bool.{eq-eqb, ne_eqb, and_parts, lt-ltb, not-true}
 use Rattle.std.proofs.lemmas.List.Folds.{list_all-append}
 use Rattle.std.proofs.lemmas.List.Splits.{join_with_byte-slice_split}
 use Rattle.mv_line.specs.Part.{parts_at}
@@ -18,12 +18,8 @@ Lacks byte text = lacks byte text ≡ true
 pub Lacks-append : (byte : ℕ) (a b : List ℕ) → Lacks byte a → Lacks byte b → Lacks byte (a ++ b)
 Lacks-append byte a b p q = list_all-append (λ x. not (eqb x byte)) a b ∙ rw (p, q) refl
 
-not_true : (b : Bool) → not b ≡ true → b ≡ false
-not_true true e = sym e
-not_true false e = refl
-
 other_first : (byte b : ℕ) (text : List ℕ) → Lacks byte (b ∷ text) → (eqb b byte ≡ false) × Lacks byte text
-other_first byte b text h = let both = and_parts (not (eqb b byte)) (lacks byte text) h in (not_true (eqb b byte) both.0, both.1)
+other_first byte b text h = let both = and_parts (not (eqb b byte)) (lacks byte text) h in (not-true (eqb b byte) both.0, both.1)
 
 -- the first part ends before the byte
 pub parts_first : (byte : ℕ) (part rest : List ℕ) → Lacks byte part → parts_at byte (part ++ byte ∷ rest) ≡ part ∷ parts_at byte rest

@@ -19,7 +19,7 @@ use Rattle.mv_entrytext.specs.declared.version.Version.{Version}
 use Rattle.mv_entrytext.specs.Journal.{Line, JournalOf, Callers, Elements, Volumes, Latches, Quota, Budget, Owner, ExitTo, Events}
 use Rattle.mv_entrytext.specs.Journal.{EntryOf, End}
 use Rattle.mv_entrytext.specs.Lines.{Stage, AtVersion, AtCallers, AtElements, AtVolumes, AtLatches, AtQuota, AtBudgets, AtOwners}
-use Rattle.mv_entrytext.specs.Lines.{AtExits, AtEntries, AtEnd, count_line, next_line, line_read, Draft, blank, draft_with}
+use Rattle.mv_entrytext.specs.Lines.{AtExits, AtEntries, AtEnd, count_line, next_line, line_read, Draft, draft_with}
 use Rattle.mv_entrytext.specs.Fault.{TellsFirst, kind_said, kind_of, is_cut, fault_at, first_fault, text_fault, draft_of, journal_of}
 use Rattle.mv_entrytext.specs.Said.{entry_said}
 use Rattle.mv_entrytext.specs.Draft.{Tells, refusal_at, kind_of_form, draft_at, line_behind, IsAt, kind_at_end}
@@ -27,9 +27,6 @@ use Rattle.mv_entrytext.proofs.Parts.{first_part, joined_again}
 use Rattle.mv_entrytext.proofs.LinesTaken.{MayCome, line_taken}
 use Rattle.mv_entrytext.proofs.TextsTaken.{IsTextOf, is_read_whole}
 use Rattle.mv_entrytext.proofs.LinesAgain.{fault_passed, draft_passed, nothing_left, nothing_more}
-
-pub at_first : (bytes : List ℕ) → IsAt bytes bytes 1 blank
-at_first bytes = record { fault = refl; draft = refl; count = omega arith; line = refl }
 
 -- ---- a line is passed
 

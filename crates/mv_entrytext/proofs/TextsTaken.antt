@@ -3,7 +3,7 @@ use Rattle.std.proofs.Common.{◌≡◌, ℕ, ◌+◌, ◌≤◌, Bool, true, fa
 use Rattle.std.proofs.Common.{None, refl, sym, ap, subst, ◌∙◌, arith, append_assoc}
 use Rattle.std.specs.Prelude.{codes, is_some}
 use Rattle.std.specs.List.{flat_map, AllByRecursion, join_with_byte}
-use Rattle.std.proofs.lemmas.Bool.{eqb-true, false≢true, and_parts}
+use Rattle.std.proofs.lemmas.Bool.{eqb-true, false≢true, and_parts, not-false}
 use Rattle.std.proofs.lemmas.List.{append-nil, nil_from_length, flat_map_more}
 use Rattle.std.proofs.lemmas.List.Elements.{All-from_recursion}
 use Rattle.mv_machine.specs.declared.entry.Entry.{Entry}
@@ -270,13 +270,9 @@ not_cut : (b : Bool) (f : TextFault) → cond b (Some f) None ≡ None → b ≡
 not_cut true f e = absurd cc
 not_cut false f e = refl
 
-not_not : (b : Bool) → not b ≡ false → b ≡ true
-not_not true e = refl
-not_not false e = absurd (false≢true (sym e))
-
 is_over : (number : ℕ) (d : Draft) (last : List ℕ) → cond (is_cut d last) (Some (fault_at number Cut)) None ≡ None → IsOver d last
 is_over number d last e =
-    let both = and_parts (is_ended d.stage) (eqb (length last) 0) (not_not _ (not_cut (is_cut d last) (fault_at number Cut) e)) in
+    let both = and_parts (is_ended d.stage) (eqb (length last) 0) (not-false _ (not_cut (is_cut d last) (fault_at number Cut) e)) in
     record { stage = end_only d.stage both.0; nothing = nil_from_length last (eqb-true (length last) 0 both.1) }
 
 abbrev SoFarD : Draft → List ℕ → Type 0

@@ -1,7 +1,7 @@
 -- Operations on the latch set that a caller may make, and what an obtain that is not refused was asked.
 use Rattle.std.proofs.Common.{◌≡◌, ℕ, ◌<◌, nat_lt, Bool, true, false, not, List, Option, Some, None, refl, sym, ap, ◌∙◌}
 use Rattle.std.proofs.lemmas.Bool.{lt-ltb}
-use Rattle.mv_latch.specs.declared.operation.LatchOp.TheVariants.{Obtain, Confirm, Release, Purge}
+use Rattle.mv_latch.specs.declared.operation.LatchOp.TheVariants.{Obtain, Purge}
 use Rattle.mv_latch.specs.declared.request.LatchForm.{LatchForm}
 use Rattle.mv_latch.specs.declared.request.Mode.{Mode}
 use Rattle.mv_machine.specs.declared.entry.Entry.{Entry}
@@ -16,14 +16,6 @@ use Rattle.mv_calls.proofs.Making.{kept_caller}
 use Rattle.mv_calls.specs.LatchCalls.{obtain_refusal}
 use Rattle.mv_calls.specs.Refusal.{Refusal, BadLatch, NotOwner, Quota, NotNow, Purged}
 use Rattle.mv_calls.specs.Waits.{refused_if}
-
-pub may_confirm : (c : Setup) (k latch id : ℕ) (log : List Entry) → k < c.callers → latch < c.latches
-    → allowed c k log Latches (op_on.Latch (Confirm latch id)) ≡ true
-may_confirm c k latch id log lt there = rw (lt-ltb k c.callers lt, lt-ltb latch c.latches there) refl
-
-pub may_release : (c : Setup) (k latch id : ℕ) (conditional : Bool) (log : List Entry) → k < c.callers → latch < c.latches
-    → allowed c k log Latches (op_on.Latch (Release latch id conditional)) ≡ true
-may_release c k latch id conditional log lt there = rw (lt-ltb k c.callers lt, lt-ltb latch c.latches there) refl
 
 pub may_purge : (c : Setup) (k requestor : ℕ) (log : List Entry) → k < c.callers
     → allowed c k log Latches (op_on.Latch (Purge requestor)) ≡ true

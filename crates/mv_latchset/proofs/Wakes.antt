@@ -52,12 +52,6 @@ posts_then c ws kept last t u made =
 
 -- ---- one wake
 
--- a wake without a block posts nothing
-pub posts_none : (c : Setup) (w : Wake) (t : CallerFace) → w.ecb ≡ None → PostsWakes c (w ∷ []) t t
-posts_none c w t is = λ kept. subst
-    (λ e. Runs (total (reach c) (blocks_of (record w { ecb = e } ∷ []))) (wake_posted c e w.code kept all_posted) all_posted t t)
-    (sym is) (runs_none all_posted t)
-
 -- a wake with one posts it
 pub posts_one : (c : Setup) (w : Wake) (e : ℕ) (Is : Posting → Type 0) (t u : CallerFace) → w.ecb ≡ Some e
     → IsServed (reach c e) (post c e w.code) Is t u → PostsWakes c (w ∷ []) t u

@@ -56,9 +56,3 @@ pub next_element : (token : Token) (t u : CallerFace) (result : Result Given Pau
     → IfOk result (λ given. given.next.element ≡ token.element)
 next_element token t u (Ok given) is = is.element
 next_element token t u (Err why) is = tt
-
--- a pause with a current token is given its code
-pub given_or_spent : (token : Token) (t u : CallerFace) (result : Result Given PauseRefusal) (given : Given) → result ≡ Ok given
-    → MatchResult result (λ g. IsGiven token g u.log) (λ why. IsSpent token t why u) → IsGiven token given u.log
-given_or_spent token t u result given e is =
-    subst (λ r. MatchResult r (λ g. IsGiven token g u.log) (λ why. IsSpent token t why u)) e is

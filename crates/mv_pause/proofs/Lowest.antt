@@ -9,6 +9,7 @@ use Rattle.mv_machine.specs.Setup.{Setup}
 use Rattle.mv_calls.specs.Keeping.{kept_of, nothing_kept}
 use Rattle.mv_calls.specs.Pauses.{lowest_free}
 use Rattle.mv_calls.proofs.Making.{kept_caller}
+use Rattle.std.proofs.lemmas.Bool.{not-true}
 
 -- an element of caller k, by its place among the caller's
 pub own_place : (k m e i : ℕ) → k < m → i < e → k * e + i < m * e
@@ -66,13 +67,9 @@ found : (test : ℕ → Bool) (a n x : ℕ) → find test (range_with_len a n) �
 found test a zero x e = absurd (cc e)
 found test a (suc n) x e = found_step test a n x (test a) refl e (found test (a + 1) n x)
 
-not_true : (b : Bool) → not b ≡ true → b ≡ false
-not_true true e = sym e
-not_true false e = refl
-
 pub lowest_is_unused : (s : Setup) (k : ℕ) (log : List Entry) (n : ℕ) → lowest_free s (kept_of k log) ≡ Some n
     → (kept_of k log).in_use n ≡ false
 lowest_is_unused s k log n is =
-    not_true ((kept_of k log).in_use n)
+    not-true ((kept_of k log).in_use n)
     (found (λ x. not ((kept_of k log).in_use x)) (k * s.elements_per_caller) s.elements_per_caller n
     (lowest_by s k log k s.elements_per_caller refl refl ∙ is))

@@ -1,7 +1,7 @@
 -- Whose an element is, and what is open after an event on one.
-use Rattle.std.proofs.Common.{◌≡◌, ℕ, ◌==◌, Bool, true, false, cond, not, List, [], ◌∷◌, ◌++◌, Option, Some, None}
+use Rattle.std.proofs.Common.{◌≡◌, ℕ, ◌==◌, Bool, true, false, cond, List, [], ◌∷◌, ◌++◌, Option, Some, None}
 use Rattle.std.proofs.Common.{Result, Ok, Err, refl, sym, ap, ◌∙◌, subst}
-use Rattle.std.proofs.lemmas.Bool.{eq-eqb, eqb-true}
+use Rattle.std.proofs.lemmas.Bool.{eq-eqb, eqb-true, not-false}
 use Rattle.mv_element.specs.declared.element.Token.{Token}
 use Rattle.mv_element.specs.declared.operation.ElementOp.TheVariants as element_op
 use Rattle.mv_element.specs.declared.operation.ElementReply.TheVariants as element_reply
@@ -42,14 +42,10 @@ pub others : {A : Type 0} (c : Setup) (kept : Kept) (token : Token) (p : Program
     → unless_refused (refused_if (is_others_token c kept token) refusal.NotOwner) p ≡ Done (Err refusal.NotOwner)
 others c kept token p other = ap (λ b. unless_refused (refused_if b refusal.NotOwner) p) other
 
-not_false : (b : Bool) → not b ≡ false → b ≡ true
-not_false true e = refl
-not_false false e = sym e
-
 pub own_is : (c : Setup) (k : ℕ) (log : List Entry) (token : Token) → is_others_token c (kept_of k log) token ≡ false
     → element_owner c token.element ≡ k
 own_is c k log token is =
-    eqb-true (element_owner c token.element) (kept_of k log).caller (not_false (element_owner c token.element == (kept_of k log).caller) is)
+    eqb-true (element_owner c token.element) (kept_of k log).caller (not-false (element_owner c token.element == (kept_of k log).caller) is)
     ∙ kept_caller (nothing_kept k) log
 
 -- ---- what is open after an event

@@ -1,4 +1,4 @@
--- Proofs of the five laws of src/laws.rt, in the order in which to read them. The words:
+-- Proofs of the eight laws of src/laws.rt, in the order in which to read them. The words:
 --
 -- point    where a task stands in its program (points/Points): the event that it says there and, by the reply, the next point
 -- move     an entry of a history, with the step of its caller from point to point (walks/Walks)

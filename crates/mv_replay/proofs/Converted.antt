@@ -1,5 +1,5 @@
 -- What a legal text is in its version, and what it is converted to.
-use Rattle.std.proofs.Common.{◌≡◌, ℕ, ◌≤◌, List, length, refl, sym, ap, ◌∙◌, arith}
+use Rattle.std.proofs.Common.{◌≡◌, ℕ, ◌≤◌, List, length, refl, sym, ap, ◌∙◌}
 use Rattle.mv_machine.specs.declared.entry.Entry.{Entry}
 use Rattle.mv_machine.specs.Legal.{Legal}
 use Rattle.mv_machine.specs.Setup.{Setup}
@@ -57,11 +57,3 @@ is_conversion told bytes made c es t is = record {
   legal = journal_is_legal told bytes c es t;
   reported = is ∙ sym (is_converted told bytes c es t);
 }
-
--- a legal text of version 2 is that text itself
-pub second_is_whole : (told : ℕ) (bytes : List ℕ) (c : Setup) (es : List Entry) → told ≡ 2 → IsLegalText told bytes c es
-    → bytes ≡ journal_text c es
-second_is_whole told bytes c es two t = go t.version t.number t.text where
-  go : (v : Version) → told ≡ number_of v → bytes ≡ text_of v c es (calls_in v c es) → bytes ≡ journal_text c es
-  go One number text = absurd (omega arith)
-  go Two number text = text

@@ -7,7 +7,7 @@ pub mod Converted
 -- how long a text is: clause within of legal_lists_are_done
 pub mod EventLengths
 pub mod Lengths
--- write_report, and what a command reports
+-- write_out, and what a command reports
 pub mod Reported
 -- texts_ask_for_one_ending, and the ending that is owed
 pub mod Endings

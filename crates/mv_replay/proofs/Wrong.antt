@@ -1,6 +1,6 @@
 -- The first entry of a list that is not the machine's or has another call number.
 use Rattle.std.proofs.Common.{◌≡◌, ℕ, zero, suc, ◌+◌, ◌<◌, ◌≤◌, List, [], ◌∷◌, ◌++◌, length}
-use Rattle.std.proofs.Common.{take, slice_get, Option, Some, None, refl, sym, ap, subst, ◌∙◌}
+use Rattle.std.proofs.Common.{take, slice_get, Some, refl, sym, ap, subst, ◌∙◌}
 use Rattle.std.proofs.Common.{arith, inl, inr}
 use Rattle.std.proofs.lemmas.Bool.{cases_order}
 use Rattle.std.proofs.lemmas.List.{take-take}
@@ -19,9 +19,9 @@ use Rattle.mv_calls.proofs.call_numbers.Prefixes.{calls-take, legal_take, slice_
 use Rattle.mv_calls.proofs.call_numbers.Refused.{front_is_legal, front_is_within}
 use Rattle.mv_entrytext.specs.declared.version.Version.{Version}
 use Rattle.mv_entrytext.specs.declared.version.Version.TheVariants.{One, Two}
-use Rattle.mv_entrytext.specs.Journal.{first_line, number_of, text_of}
-use Rattle.mv_entrytext.specs.Fault.{HasJournal, AreCallsIn, IsTextIn}
-use Rattle.mv_replay.specs.Judgement.{calls_in, AreRight, IsFirstWrong, IsFirstIn, IsJudged, IsLegalText, IsIllegalAt}
+use Rattle.mv_entrytext.specs.Journal.{first_line}
+use Rattle.mv_entrytext.specs.Fault.{HasJournal, IsTextIn}
+use Rattle.mv_replay.specs.Judgement.{calls_in, AreRight, IsFirstWrong, IsJudged, IsIllegalAt}
 
 -- ---- a front of what is right is right
 
@@ -139,39 +139,6 @@ wrong_number c es ns i k machine same w =
     }
 
 -- ---- by the version of a journal
-
--- version 1
-pub judged_plain : (told : ℕ) (c : Setup) (es : List Entry) (ns : List ℕ) (first : Option ℕ) → told ≡ 1 → IsFirstIn One c es [] first
-    → IsJudged told c es ns first
-judged_plain told c es ns first one f One number calls = subst (λ (x : List ℕ). IsFirstIn One c es x first) (sym calls) f
-judged_plain told c es ns first one f Two number calls = absurd (omega arith)
-
--- version 2
-pub judged_numbered : (told : ℕ) (c : Setup) (es : List Entry) (ns : List ℕ) (first : Option ℕ) → (told ≡ 1 → ⊥)
-    → IsFirstIn Two c es ns first → IsJudged told c es ns first
-judged_numbered told c es ns first other f One number calls = absurd (other number)
-judged_numbered told c es ns first other f Two number calls = f
-
--- a journal that is not of version 1 has a number for each entry
-pub numbers_of_text : (told : ℕ) (bytes : List ℕ) (c : Setup) (es : List Entry) (ns : List ℕ) → IsTextIn told bytes c es ns → (told ≡ 1 → ⊥)
-    → length ns ≡ length es
-numbers_of_text told bytes c es ns t other = go t.version t.number t.calls where
-  go : (v : Version) → told ≡ number_of v → AreCallsIn v es ns → length ns ≡ length es
-  go One number calls = absurd (other number)
-  go Two number calls = calls.one_each
-
--- a legal journal
-pub legal_text : (told : ℕ) (bytes : List ℕ) (c : Setup) (es : List Entry) (ns : List ℕ) → HasJournal c es → IsTextIn told bytes c es ns
-    → IsJudged told c es ns None → IsLegalText told bytes c es
-legal_text told bytes c es ns h t judged =
-    let right : AreRight t.version c es ns = judged t.version t.number t.calls in
-    record {
-      version = t.version;
-      number = t.number;
-      journal = h;
-      text = t.text ∙ ap (λ (x : List ℕ). text_of t.version c es x) right.numbers;
-      legal = right.legal;
-    }
 
 -- and one that is not
 pub illegal_journal : (told : ℕ) (bytes : List ℕ) (c : Setup) (es : List Entry) (ns : List ℕ) (i line : ℕ) → HasJournal c es

@@ -1,5 +1,5 @@
--- A task that was new and has made its calls, in the history of all tasks: its program is done there, with its answers, and each word
--- that an answer shows was met there. Used by run_script.
+-- A task that was new and has made its calls, in the history of all tasks: its program is done there, with its answers, and
+-- each word that an answer shows was met there.
 use Rattle.std.proofs.Common.{◌≡◌, ℕ, ◌+◌, List, [], ◌∷◌, ◌++◌, length, take, Option, Some, None, refl, sym, ap}
 use Rattle.std.proofs.Common.{◌∙◌, subst, arith}
 use Rattle.std.specs.Prelude.{slice_get, option_and_then}

@@ -1,4 +1,4 @@
--- The request that an obtain got, behind those of the OBTAINs before. Used by ask.
+-- The request that an obtain got, behind those of the OBTAINs before.
 use Rattle.std.proofs.Common.{◌≡◌, ℕ, ◌<◌, Bool, true, false, List, [], ◌∷◌, ◌++◌, Option, Some, None, Result, Ok, Err, refl, sym, ap, ◌∙◌}
 use Rattle.std.proofs.Common.{subst, arith}
 use Rattle.std.specs.Prelude.{nat_lt, not, IfOk, MatchResult, option_map}

@@ -1,4 +1,4 @@
--- All calls of a task, one after the other: one more, what they come to, and one among them. Used by make_all and run_script.
+-- All calls of a task, one after the other: one more, what they come to, and one among them.
 use Rattle.std.proofs.Common.{◌≡◌, ℕ, zero, suc, ◌+◌, ◌<◌, List, [], ◌∷◌, ◌++◌, length, take, Option, Some, refl, sym, ap}
 use Rattle.std.proofs.Common.{◌∙◌, subst, arith, append_assoc, length-append}
 use Rattle.std.specs.Prelude.{slice_get, option_and_then}

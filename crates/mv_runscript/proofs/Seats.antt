@@ -1,9 +1,9 @@
--- Seats with new tasks, what their work comes to, and the run that they made together. Used by worked and run_tasks.
-use Rattle.std.proofs.Common.{◌≡◌, ℕ, zero, suc, ◌+◌, ◌<◌, List, [], ◌∷◌, ◌++◌, length, get_or, map, take, drop, Some}
+-- Seats with new tasks, what their work comes to, and the run that they made together.
+use Rattle.std.proofs.Common.{◌≡◌, ℕ, suc, ◌+◌, ◌<◌, List, [], ◌∷◌, ◌++◌, length, get_or, map, Some}
 use Rattle.std.proofs.Common.{refl, sym, ap, ◌∙◌, subst, arith, length-append, below_more}
 use Rattle.std.specs.Prelude.{slice_get, option_and_then}
 use Rattle.std.specs.List.{AllByRecursion, range_with_len}
-use Rattle.std.proofs.lemmas.List.{get_or-map, get_or_append_left, length-map, append-nil, drop_all, take_all}
+use Rattle.std.proofs.lemmas.List.{get_or-map, get_or_append_left, length-map}
 use Rattle.std.proofs.Math.Seq.{get_or-append_seam}
 use Rattle.std.proofs.lemmas.Option.{slice_get-get_or, unwrap_or-slice_get}
 use Rattle.mv_board.specs.Faces.{BoardFace, CallerFace, IsOf, IsFresh, AreFresh, AreInOrder, IsIn, IsSame}
@@ -22,7 +22,7 @@ use Rattle.mv_runscript.specs.declared.seat.Seat.{Seat}
 use Rattle.mv_runscript.specs.Making.{past_with, MakesCalls}
 use Rattle.mv_runscript.specs.Seats.{HasRoom, HaveRooms, AreReady, HaveWorked, script_with}
 use Rattle.mv_runscript.proofs.Histories.{task_done, task_met}
-use Rattle.mv_wait.proofs.Parts.{one_of}
+use Rattle.mv_wait.proofs.Parts.{one_of, fresh_at}
 use Rattle.mv_runscript.proofs.Lists.{is_mapped}
 use Rattle.mv_runscript.proofs.Paths.{path_went}
 use Rattle.mv_runscript.proofs.Scripts.{task_count}
@@ -32,14 +32,6 @@ task_of s = s.task
 
 abbrev pub answers_of : Seat → List Answer
 answers_of s = s.answers.items
-
-fresh_at : (b : BoardFace) (j k : ℕ) (tasks : List CallerFace) (d : CallerFace) → AreFresh b j tasks → k < length tasks
-    → IsFresh b (j + k) (get_or tasks k d)
-fresh_at b j k [] d all lt = absurd (omega arith)
-fresh_at b j zero (t ∷ tasks) d all lt = subst (λ n. IsFresh b n t) (let e : j ≡ j + 0 = omega arith in e) all.0
-fresh_at b j (suc k) (t ∷ tasks) d all lt =
-    subst (λ n. IsFresh b n (get_or tasks k d)) (let e : suc j + k ≡ j + suc k = omega arith in e)
-    (fresh_at b (suc j) k tasks d all.1 (omega arith))
 
 -- as many seats as tasks
 pub seat_count : (tasks : List CallerFace) (seats : List Seat) → map task_of seats ≡ tasks → length seats ≡ length tasks
@@ -180,9 +172,3 @@ module _ (b : BoardFace) (calls : List (List Call)) (old new : List Seat) (ready
           let e = ap (λ (ss : List Seat). length ss) is in
           let some = sound.some in absurd (omega arith)
       first (s ∷ seats) is = record { run = run_by s; answers = lists_by s }
-
--- what a slice of a list gave back, as the list has it
-pub given_back : {A : Type 0} (n : ℕ) (new old : List A) → length new ≡ length old → n ≡ length old
-    → take n (new ++ drop (length new) old) ≡ new
-given_back n new old same size =
-    ap (λ xs. take n (new ++ xs)) (drop_all (length new) old (omega arith)) ∙ ap (take n) (append-nil new) ∙ take_all n new (omega arith)

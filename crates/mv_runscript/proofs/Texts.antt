@@ -1,4 +1,4 @@
--- One more line, and the lines of one more task. Used by push_task and write_answers.
+-- One more line, and the lines of one more task.
 use Rattle.std.proofs.Common.{◌≡◌, ℕ, suc, ◌+◌, List, [], ◌∷◌, ◌++◌, length, sym, ap, ◌∙◌, arith, append_assoc}
 use Rattle.std.proofs.lemmas.List.{append-nil}
 use Rattle.mv_script.specs.declared.answer.Answer.{Answer}

@@ -20,13 +20,9 @@ use Rattle.mv_script.specs.Sound.{IsGoodStatement}
 use Rattle.mv_script.proofs.Progresses.{same_any, one_ecb, one_exit, one_task, one_call, the_end, sound_script, sound_ecb, sound_exit}
 use Rattle.mv_script.proofs.Progresses.{sound_task, sound_call, sound_end, same_cost, call_cost, without_tasks, is_positive}
 use Rattle.mv_script.proofs.Told.{fine}
+use Rattle.std.proofs.lemmas.Bool.{or_parts}
 
 -- ---- answers taken apart
-
--- neither of two
-pub neither : (a b : Bool) → (a || b) ≡ false → (a ≡ false) × (b ≡ false)
-neither false b e = (refl, e)
-neither true b e = absurd cc
 
 -- the first is true and the other is not
 pub only_first : (a b : Bool) → (not a || b) ≡ false → (a ≡ true) × (b ≡ false)
@@ -192,8 +188,8 @@ module _ (earlier : List Statement) (n : Notes) (b : Stands earlier n) where
       × Stands (earlier ++ statement.Ecb owner ∷ []) (record n { owners = n.owners ++ owner ∷ [] })
   taken_ecb owner order lt good =
       let a = only_first (has_script earlier) _ order in
-      let x = neither (has_exit earlier) _ a.1 in
-      let t = neither (has_task earlier) _ x.1 in
+      let x = or_parts (has_exit earlier) _ a.1 in
+      let t = or_parts (has_task earlier) _ x.1 in
       let count : length p.owners < most_ecbs = subst (λ (l : List ℕ). length l < most_ecbs) b.far.owners lt in
       taken (statement.Ecb owner) _ _ (one_ecb earlier owner)
       (headed (p.owners ++ owner ∷ []) (n.owners ++ owner ∷ []) p.exit p.exits n.exits t.0
@@ -209,7 +205,7 @@ module _ (earlier : List Statement) (n : Notes) (b : Stands earlier n) where
   taken_exit source targets order lt up good =
       let x : SetupExit = record { source = source; targets = targets } in
       let a = only_first (has_script earlier) _ order in
-      let t = neither (has_task earlier) _ a.1 in
+      let t = or_parts (has_task earlier) _ a.1 in
       let count : length p.exits < most_exits = subst (λ (l : List SetupExit). length l < most_exits) b.far.exits lt in
       taken (statement.Exit source targets) _ _ (one_exit earlier source targets)
       (headed p.owners n.owners true (p.exits ++ x ∷ []) (n.exits ++ x ∷ []) t.0
@@ -218,10 +214,6 @@ module _ (earlier : List Statement) (n : Notes) (b : Stands earlier n) where
       refl a.0 order (few most_exits (length (exits_of earlier)) count) up refl
 
   -- ---- a TASK
-
-  -- how many there are
-  pub task_number : (m : ℕ) → m ≡ length (n.finished ++ open_task (is_some n.costs) n.calls) → m ≡ length (tasks_of earlier)
-  task_number m e = e ∙ ap (λ (t : Bool). length (n.finished ++ open_task t n.calls)) b.far.begun ∙ ap length b.far.tasks
 
   -- the room that is left
   same_room : n.room + sum (budgets_in (with_statement p statement.Task)) ≡ events_limit

@@ -1,6 +1,5 @@
 -- What a line adds, by what of it counts.
-use Rattle.std.proofs.Common.{◌≡◌, ℕ, true, false, List, [], ◌++◌, length, Option, Some, None, Result, Ok, Err, refl, sym, ap}
-use Rattle.std.proofs.lemmas.List.{append-nil}
+use Rattle.std.proofs.Common.{◌≡◌, ℕ, false, List, [], ◌++◌, length, Option, Some, Result, Ok, Err, refl, sym, ap}
 use Rattle.std.proofs.Common.{subst, ◌∙◌, arith, MatchResult}
 use Rattle.std.specs.Prelude.{◌==◌, ◌<◌}
 use Rattle.mv_line.specs.Line.{shown, is_foreign, is_too_long}
@@ -18,9 +17,6 @@ use Rattle.mv_script.specs.Reading.{IsBehind, IsTaken, Tells, Notes, Stands}
 use Rattle.mv_script.specs.Script.{sizes_behind, with_line, added, task_count, owners_of}
 use Rattle.mv_script.specs.Statement.{line_states, text_states}
 use Rattle.mv_script.specs.Words.{Read}
-
-is_nothing : (n : ℕ) → n ≡ 0 → (n == 0) ≡ true
-is_nothing n e = grind arith
 
 is_something : (n : ℕ) → 0 < n → (n == 0) ≡ false
 is_something n lt = grind arith
@@ -45,25 +41,6 @@ sizes_are earlier n b m e =
 -- a line whose bytes are good, and what counts of it
 module _ (earlier : List Statement) (line text : List ℕ) (same : text ≡ shown line) (printable : is_foreign line ≡ false)
     (short : is_too_long line ≡ false) where
-  -- ---- an ignored line
-
-  none_stated : length text ≡ 0 → line_states (sizes_behind earlier) line ≡ None
-  none_stated e = rw (is_nothing (length (shown line)) (ap length (sym same) ∙ e)) refl
-
-  no_kinds : line_states (sizes_behind earlier) line ≡ None → kinds_of earlier line ≡ []
-  no_kinds e = rw (printable, short, e) refl
-
-  pub line_ignored : (r : Reading) → length text ≡ 0 → IsBehind earlier r
-      → (kinds_of earlier line ≡ []) × IsBehind (with_line earlier line) r
-  line_ignored r e b =
-      let none = none_stated e in (
-        no_kinds none,
-        subst (λ (l : List Statement). IsBehind l r)
-            (sym (ap (λ (o : Option (Read Statement)). earlier ++ added o) none ∙ append-nil earlier)) b,
-      )
-
-  -- ---- one that is not
-
   some_stated : 0 < length text → line_states (sizes_behind earlier) line ≡ Some (text_states (sizes_behind earlier) text)
   some_stated lt =
       rw (is_something (length (shown line)) (subst (λ (l : List ℕ). 0 < length l) same lt))

@@ -23,9 +23,6 @@ pub record IsAt (bytes rest : List ℕ) (number : ℕ) (r : Reading) : Type 0 wh
   pub statements : fold with_line earlier (lines_of rest) ≡ statements_of (lines_of bytes)
   pub count : number + length rest ≤ length bytes + 1
 
-pub at_first : (bytes : List ℕ) (r : Reading) → IsBehind [] r → IsAt bytes bytes 1 r
-at_first bytes r b = record { earlier = []; behind = b; first = refl; statements = refl; count = omega arith }
-
 -- a line without fault is passed
 pub one_line : (number : ℕ) (earlier : List Statement) (line : List ℕ) (lines : List (List ℕ)) → kinds_of earlier line ≡ []
     → faults_from number earlier (line ∷ lines) ≡ faults_from (number + 1) (with_line earlier line) lines

@@ -1,7 +1,7 @@
 -- Runs worked by hand: scripts with a history of their tasks, the program of each task done on its part of it, and the text of the
 -- answers, by computing them.
 use Rattle.std.proofs.Common.{◌≡◌, ℕ, zero, suc, ◌<◌, List, [], ◌∷◌, ◌++◌, Some, None, refl, subst, arith}
-use Rattle.std.specs.Prelude.{codes, true}
+use Rattle.std.specs.Prelude.{codes}
 use Rattle.std.specs.Fmt.{digits}
 use Rattle.mv_ecb.specs.Word.{Complete}
 use Rattle.mv_machine.specs.declared.entry.Entry.{Entry}

@@ -29,7 +29,8 @@ use Rattle.mv_script.proofs.Good.{read_well}
 use Rattle.mv_script.proofs.Passes.{one_line}
 use Rattle.mv_script.proofs.Progresses.{same_any, one_ecb, one_exit, one_task, one_call, the_end, sound_at_first, sound_script}
 use Rattle.mv_script.proofs.Progresses.{sound_ecb, sound_exit, sound_task, sound_call, sound_end, call_cost, is_positive}
-use Rattle.mv_script.proofs.Behind.{neither, only_first}
+use Rattle.mv_script.proofs.Behind.{only_first}
+use Rattle.std.proofs.lemmas.Bool.{or_parts}
 
 -- ---- what holds behind statements without fault
 
@@ -101,8 +102,8 @@ holds_more (r ∷ earlier) (statement.Script t) h g f = absurd (late (length ear
   late m e = absurd (grind arith)
 holds_more earlier (statement.Ecb owner) h g f =
     let a = only_first (has_script earlier) _ f.order in
-    let x = neither _ _ a.1 in
-    let t = neither _ _ x.1 in
+    let x = or_parts _ _ a.1 in
+    let t = or_parts _ _ x.1 in
     record {
       sound = subst IsSoundSoFar (sym (one_ecb earlier owner))
           (sound_ecb (progress_of earlier) h.sound owner x.0 t.0 (few most_ecbs (length (owners_of earlier)) f.count) g);
@@ -110,7 +111,7 @@ holds_more earlier (statement.Ecb owner) h g f =
     }
 holds_more earlier (statement.Exit source targets) h g f =
     let a = only_first (has_script earlier) _ f.order in
-    let t = neither _ _ a.1 in
+    let t = or_parts _ _ a.1 in
     record {
       sound = subst IsSoundSoFar (sym (one_exit earlier source targets))
           (sound_exit (progress_of earlier) h.sound source targets t.0 (few most_exits (length (exits_of earlier)) f.count)

@@ -51,9 +51,9 @@ has_bad_number (Some (Ok s)) = false
 has_bad_number (Some (Err misread.NoForm)) = false
 has_bad_number (Some (Err misread.BadNumber)) = true
 
--- ---- where a statement stands
+-- ---- where a statement stands: the four sorts of lines that others ask for
 
--- the five sorts of lines that others ask for
+-- a SCRIPT
 abbrev pub is_script : Statement → Bool
 is_script (statement.Script t) = true
 is_script _ = false

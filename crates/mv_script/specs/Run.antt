@@ -35,7 +35,7 @@ entries_before script moves es k i =
     taken (made_all script.setup (moves k) no_past (take i (calls_at script k)) (nothing_kept k)) (heard_in script.setup k es)
 
 -- In this history, call i of task k tried an object and met this word there. It is not the word that was expected, and the object
--- had it behind the entries of the task's earlier calls and before those of its later ones.
+-- had it behind the entries on it of the task's earlier calls, and before those of its later ones.
 pub record IsMet (script : ScriptData) (moves : Moves) (es : List Entry) (k i w : ℕ) : Type 0 where
   pub call : Call
   pub made : slice_get (calls_at script k) i ≡ Some call

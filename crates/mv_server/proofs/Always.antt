@@ -35,6 +35,7 @@ use Rattle.mv_server.specs.Pool.{workers, pool_setup, answer_at}
 use Rattle.mv_server.proofs.Pool.{reach_one}
 use Rattle.mv_wait.proofs.OneBlock.{asked_is}
 use Rattle.mv_server.specs.Right.{IsRight, AreRight, IsReady, StaysReady}
+use Rattle.mv_wait.proofs.Compose.{served_left}
 
 -- each event that the program may say is so
 abbrev pub Always : {A : Type 0} → (Object → Op → Type 0) → Program A → Type 0
@@ -66,10 +67,6 @@ ready_after b requests most call Is t u s r a = record {
       (always_says (IsRight requests) (call (kept_of t.number t.log)) s.made.events a s.made.done.says));
 }
 
-served_few : {A : Type 0} (most : ℕ) (call : Call A) (Is : A → Type 0) (t u : CallerFace) → IsServed most call Is t u
-    → t.left ≤ u.left + most
-served_few most call Is t u s = let few = s.made.few in let left = s.left in omega arith
-
 -- the same task, with fewer events left
 pub stays_after : {A : Type 0} (b : BoardFace) (requests : List ℕ) (most : ℕ) (call : Call A) (Is : A → Type 0) (t u : CallerFace)
     → IsServed most call Is t u → IsReady b requests t → Always (IsRight requests) (call (kept_of t.number t.log))
@@ -77,7 +74,7 @@ pub stays_after : {A : Type 0} (b : BoardFace) (requests : List ℕ) (most : ℕ
 stays_after b requests most call Is t u s r a = record {
   ready = ready_after b requests most call Is t u s r a;
   number = s.same.number;
-  left = served_few most call Is t u s;
+  left = served_left most call Is t u s;
 }
 
 -- one call after another

@@ -1,4 +1,4 @@
--- In a history of right entries a block of an answer is complete with nothing but that answer. Used by serve_all.
+-- In a history of right entries a block of an answer is complete with nothing but that answer.
 use Rattle.std.proofs.Common.{◌≡◌, ℕ, ◌<◌, ◌≤◌, ◌==◌, List, [], ◌∷◌, ◌⊎◌, inl, inr, refl, sym, ◌∙◌, subst}
 use Rattle.std.proofs.lemmas.Bool.{cases_eq, eq-eqb, ne_eqb, false≢true}
 use Rattle.std.specs.List.{AllByRecursion}

@@ -1,12 +1,12 @@
--- The tasks that came back, and the answers that the server found. Used by serve, worked and serve_all.
-use Rattle.std.proofs.Common.{◌≡◌, ℕ, zero, suc, ◌+◌, ◌-◌, ◌<◌, ◌≤◌, List, [], ◌∷◌, ◌++◌, length, map, get_or, take, drop, ◌⊎◌, inl, inr}
+-- The tasks that came back, and the answers that the server found.
+use Rattle.std.proofs.Common.{◌≡◌, ℕ, zero, suc, ◌+◌, ◌-◌, ◌<◌, ◌≤◌, List, [], ◌∷◌, ◌++◌, length, map, get_or, ◌⊎◌, inl, inr}
 use Rattle.std.proofs.Common.{refl, sym, ap, ◌∙◌, subst, arith}
-use Rattle.std.proofs.lemmas.List.{get_or-map, length-map, length-append, same_lists, append-nil, drop_all, take_all}
+use Rattle.std.proofs.lemmas.List.{get_or-map, length-map, length-append, same_lists}
 use Rattle.std.proofs.Math.ListN.{get_or-append}
 use Rattle.std.proofs.Math.Nat.{eq-or-lt_of_le}
 use Rattle.std.proofs.Math.Seq.{get_or-append_seam}
 use Rattle.std.specs.List.{AllByRecursion}
-use Rattle.mv_board.specs.Faces.{BoardFace, CallerFace, IsFresh, AreFresh, AreInOrder, IsIn}
+use Rattle.mv_board.specs.Faces.{BoardFace, CallerFace, AreInOrder, IsIn}
 use Rattle.mv_machine.specs.declared.entry.Entry.{Entry}
 use Rattle.mv_machine.specs.Legal.{Legal, of}
 use Rattle.mv_machine.specs.Setup.{Setup}
@@ -118,18 +118,3 @@ found_more log answers more a n size is finds last r lt = by_number (eq-or-lt_of
       subst (λ code. Finds log (workers + r) code)
       (sym (ap (λ xs. get_or xs r 0) is ∙ get_or-append answers (a ∷ []) 0 r (let lt : r < length answers = omega arith in lt)))
       (finds r low)
-
--- what a slice of a list gave back, as the list has it
-pub given_back : {A : Type 0} (n : ℕ) (new old : List A) → length new ≡ length old → n ≡ length old
-    → take n (new ++ drop (length new) old) ≡ new
-given_back n new old same size =
-    ap (λ xs. take n (new ++ xs)) (drop_all (length new) old (omega arith)) ∙ ap (take n) (append-nil new) ∙ take_all n new (omega arith)
-
--- a new task by its number
-pub fresh_at : (b : BoardFace) (j k : ℕ) (ts : List CallerFace) (d : CallerFace) → AreFresh b j ts → k < length ts
-    → IsFresh b (j + k) (get_or ts k d)
-fresh_at b j k [] d all lt = absurd (omega arith)
-fresh_at b j zero (t ∷ ts) d all lt = subst (λ n. IsFresh b n t) (let e : j ≡ j + 0 = omega arith in e) all.0
-fresh_at b j (suc k) (t ∷ ts) d all lt =
-    subst (λ n. IsFresh b n (get_or ts k d)) (let e : suc j + k ≡ j + suc k = omega arith in e)
-    (fresh_at b (suc j) k ts d all.1 (omega arith))

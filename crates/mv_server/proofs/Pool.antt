@@ -1,4 +1,4 @@
--- The configuration of a pool. Used by valid_config, work, hand_out and await_answer.
+-- The configuration of a pool.
 use Rattle.std.proofs.Common.{◌≡◌, ℕ, zero, suc, ◌+◌, ◌*◌, ◌<◌, ◌≤◌, nat_le, true, length, replicate, sum, None, Some, refl}
 use Rattle.std.proofs.Common.{sym, ap, ◌∙◌, ◌-◌, List, get_or, subst, arith, if◌then◌else◌}
 use Rattle.std.specs.List.{position_from}
@@ -9,7 +9,7 @@ use Rattle.std.proofs.lemmas.List.Sums.{sum_by_push}
 use Rattle.mv_machine.specs.Check.{IsValid, first_limit, first_bad_owner, first_bad_exit, bad_budget, keeps}
 use Rattle.mv_machine.specs.declared.config.ConfigLimit.TheVariants.{Callers, Budgets, Ecbs, Exits, Targets}
 use Rattle.mv_machine.specs.Reach.{reach, reach_within}
-use Rattle.mv_machine.specs.Setup.{Setup, element_count}
+use Rattle.mv_machine.specs.Setup.{Setup}
 use Rattle.mv_server.specs.Pool.{workers, requests_limit, worker_events, server_events, pool_setup, days_in, answer_at}
 
 pub block_exists : (c : Setup) (n e : ℕ) → c ≡ pool_setup n → e < workers + n → e < length c.owners
@@ -21,9 +21,6 @@ reach_one c n e is =
     ap (λ (s : Setup). reach s e) is
     ∙ ap (λ k. reach_within k (pool_setup n) e)
     (length-replicate (workers + n) workers ∙ (let more : workers + n ≡ suc (workers + n - 1) = omega arith in more))
-
-pub element_exists : (c : Setup) (n e : ℕ) → c ≡ pool_setup n → e < workers + 1 → e < element_count c
-element_exists c n e is lt = subst (λ (s : Setup). e < element_count s) (sym is) lt
 
 -- ---- nothing refuses it
 

@@ -1,4 +1,4 @@
--- The server's wait for one block: it is not refused, and its entries find the block complete. Used by await_answer.
+-- The server's wait for one block: it is not refused, and its entries find the block complete.
 use Rattle.std.proofs.Common.{◌≡◌, ℕ, ◌+◌, ◌<◌, ◌==◌, Bool, true, false, not, List, [], ◌∷◌, ◌++◌, Option, Some}
 use Rattle.std.proofs.Common.{None, Result, Ok, refl, sym, ap, ◌∙◌, subst, if◌then◌else◌}
 use Rattle.std.proofs.lemmas.Bool.{eq-eqb}

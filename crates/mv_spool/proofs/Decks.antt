@@ -14,7 +14,6 @@ use Rattle.mv_machine.specs.Setup.{Setup, element_owner}
 use Rattle.mv_plan.specs.Jobs.{job_at, no_job}
 use Rattle.mv_plan.specs.SpoolSetup.{spool_setup, entered, idle}
 use Rattle.mv_plan.proofs.deck.Setup.{facts}
-use Rattle.mv_spool.specs.Limits.{jobs_limit}
 use Rattle.mv_spool.specs.Parts.{HasInitiator, jobs_of}
 use Rattle.mv_spool.proofs.Reaches.{block_count, reach_alone, reach_done, release_cost_is}
 
@@ -22,10 +21,6 @@ use Rattle.mv_spool.proofs.Reaches.{block_count, reach_alone, reach_done, releas
 
 pub job_count : (deck : List Job) → length (jobs_of deck) ≡ length deck
 job_count deck = length-map deck job_data
-
--- codes can name them
-pub few_jobs : (deck : List Job) (i : ℕ) → IsSound (jobs_of deck) i → length deck ≤ jobs_limit
-few_jobs deck i sound = let light = sound.light in let n = job_count deck in omega arith
 
 -- the job of a number
 pub job_read : (deck : List Job) (j : ℕ) (job : Job) → j < length deck → get_or deck j job ≡ job → job_at (jobs_of deck) j ≡ job_data job
@@ -108,9 +103,6 @@ module _ (deck : List Job) (i : ℕ) (c : Setup) (is : c ≡ spool_setup (jobs_o
       let purge : release_cost c ≡ 1 = ap release_cost is ∙ release_cost_is (jobs_of deck) i in
       let post : reach c (length deck + j) ≡ 3 = ap (λ m. reach c (m + j)) (sym n) ∙ ap (λ s. reach s (length (jobs_of deck) + j)) is
       ∙ reach_done (jobs_of deck) i j (omega arith) in omega arith
-
-  pub release_cost_one : release_cost c ≡ 1
-  release_cost_one = ap release_cost is ∙ release_cost_is (jobs_of deck) i
 
   -- an element has its owner's number
   pub own_number : (e k : ℕ) → 0 < i → element_owner c e ≡ k → e ≡ k

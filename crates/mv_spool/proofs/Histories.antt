@@ -1,5 +1,5 @@
 -- The history that the tasks' logs are parts of is a run, where each task has made all events of its program. Used by run_deck.
-use Rattle.std.proofs.Common.{◌≡◌, ℕ, zero, suc, ◌+◌, ◌<◌, ◌≤◌, List, [], ◌∷◌, ◌++◌, length, get_or, refl, sym, ap, ◌∙◌, subst, arith}
+use Rattle.std.proofs.Common.{◌≡◌, ℕ, ◌+◌, ◌<◌, ◌≤◌, List, [], ◌++◌, length, get_or, refl, sym, ap, ◌∙◌, subst, arith}
 use Rattle.std.specs.List.{AllByRecursion}
 use Rattle.mv_board.specs.Faces.{BoardFace, CallerFace, IsFresh, IsIn}
 use Rattle.mv_machine.specs.declared.entry.Entry.{Entry}
@@ -20,6 +20,7 @@ use Rattle.mv_plan.specs.SpoolTasks.{task, task_program}
 use Rattle.mv_plan.proofs.deck.Planned.{planned}
 use Rattle.mv_plan.proofs.results.NoneWrong.{none_wrong}
 use Rattle.mv_spool.specs.Ran.{Ran, RanOut, IsOver}
+use Rattle.mv_wait.proofs.Parts.{one_of}
 
 -- a new task heard just the events that it made
 heard_of : {A : Type 0} (call : Call A) (q : Program A) (t u : CallerFace) (r : Ran call q t u) → t.log ≡ [] → t.told ≡ []
@@ -28,11 +29,6 @@ heard_of call q t u r log told =
     ap (λ es. noted es u.told) (r.went.logged ∙ ap (λ es. es ++ entries r.events) log)
     ∙ ap (λ ws. noted (entries r.events) ws) (r.went.told ∙ ap (λ ws. ws ++ told_by r.events) told)
     ∙ noted_again r.events r.went.wakes
-
-at_each : {A : Type 0} (P : A → Type 0) (xs : List A) (k : ℕ) (d : A) → AllByRecursion P xs → k < length xs → P (get_or xs k d)
-at_each P [] k d all lt = absurd (omega arith)
-at_each P (x ∷ xs) zero d all lt = all.0
-at_each P (x ∷ xs) (suc k) d all lt = at_each P xs k d all.1 (omega arith)
 
 -- a program that is over did not end too soon; and unless it went wrong it is done
 not_early : {A : Type 0} (q : Program A) → IsOver q → q ≡ Early → ⊥
@@ -60,7 +56,7 @@ module _ (deck : List JobData) (i : ℕ) (b : BoardFace) (es : List Entry) (task
   heard k lt =
       let w = worked k lt in
       let u = get_or tasks k d in
-      let part = at_each (IsIn (spool_setup deck i) es) tasks k d within (omega arith) in
+      let part = one_of (IsIn (spool_setup deck i) es) tasks k d within (omega arith) in
       let number : u.number ≡ k = w.ran.ran.went.same.number ∙ w.fresh.number in
       ap (λ n. heard_in (spool_setup deck i) n es) (sym number)
       ∙ ap (λ log. noted log (told_to (spool_setup deck i) u.number es)) part.logged

@@ -13,8 +13,6 @@ pub mod Dispatching
 pub mod Steps
 -- initiate
 pub mod Rounds
--- work
-pub mod Tasks
 -- run_deck: from what each task has made to the run that they made together
 pub mod Histories
 pub mod Seats

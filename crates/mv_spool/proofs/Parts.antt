@@ -18,7 +18,7 @@ use Rattle.mv_plan.specs.SpoolTasks.{first_of, lowest, ends_awaited, ends_of, so
 use Rattle.mv_wait.specs.Answers.{slot_of, slots_of, wait_answer}
 use Rattle.mv_wait.specs.declared.waiting.WaitRefusal.{WaitRefusal}
 use Rattle.mv_wait.specs.declared.waiting.WaitSlot.{WaitSlot}
-use Rattle.mv_wait.specs.declared.waiting.WaitSlot.TheVariants.{Complete, Open}
+use Rattle.mv_wait.specs.declared.waiting.WaitSlot.TheVariants.{Complete}
 use Rattle.mv_spool.specs.Parts.{first, lowest_complete, all_ends, next_gift}
 use Rattle.mv_spool.specs.Ran.{Ran, Leads}
 use Rattle.mv_spool.proofs.Runs.{ran_followed, ran_last, leads_on, leads_astray}
@@ -89,12 +89,6 @@ module _ (c : Setup) (blocks : List ℕ) (out : List WaitSlot) {t u : CallerFace
 pub found_here : (out : List WaitSlot) (p code : ℕ) (d : WaitSlot) → p < length out → get_or out p d ≡ Complete code
     → lowest_complete p (slots_of (drop p out)) ≡ finished (p, code)
 found_here out p code d lt is =
-    ap (λ xs. lowest_complete p (slots_of xs)) (drop_more out p d lt)
-    ∙ ap (λ s. lowest_complete p (slot_of s ∷ slots_of (drop (p + 1) out))) is
-
-pub found_next : (out : List WaitSlot) (p : ℕ) (d : WaitSlot) → p < length out → get_or out p d ≡ Open
-    → lowest_complete p (slots_of (drop p out)) ≡ lowest_complete (p + 1) (slots_of (drop (p + 1) out))
-found_next out p d lt is =
     ap (λ xs. lowest_complete p (slots_of xs)) (drop_more out p d lt)
     ∙ ap (λ s. lowest_complete p (slot_of s ∷ slots_of (drop (p + 1) out))) is
 

@@ -4,7 +4,7 @@ use Rattle.std.proofs.Common.{◌≡◌, ℕ, zero, suc, ◌+◌, ◌-◌, ◌*�
 use Rattle.std.proofs.Common.{drop}
 use Rattle.std.proofs.Common.{get_or, refl, ap, ◌∙◌, subst, arith}
 use Rattle.std.specs.List.{AllByRecursion, range_with_len}
-use Rattle.std.proofs.lemmas.List.{drop_more, drop_all}
+use Rattle.std.proofs.lemmas.List.{drop_more}
 use Rattle.mv_board.specs.Faces.{CallerFace}
 use Rattle.mv_calls.specs.Program.{Call, Done, Wrong, followed, for_each}
 use Rattle.mv_deck.specs.declared.deck.After.{After}
@@ -112,8 +112,3 @@ module _ (after : List After) (slots : List WaitSlot) (k : ℕ) (d : After) (e :
       → some_end_above (drop k after) (slots_of (drop k slots)) ≡ some_end_above (drop (k + 1) after) (slots_of (drop (k + 1) slots))
   some_later lt within is = next_above lt within
       ∙ ap (λ (b : Bool). b || some_end_above (drop (k + 1) after) (slots_of (drop (k + 1) slots))) is
-
--- none is left
-pub none_above : (after : List After) (slots : List WaitSlot) (k : ℕ) → length after ≤ k
-    → some_end_above (drop k after) (slots_of (drop k slots)) ≡ false
-none_above after slots k le = ap (λ ps. some_end_above ps (slots_of (drop k slots))) (drop_all k after le)

@@ -1,18 +1,15 @@
 -- Seats with new tasks, what their work comes to, and the tasks that leave them. Used by run_deck.
-use Rattle.std.proofs.Common.{◌≡◌, ℕ, zero, suc, ◌+◌, ◌<◌, ◌≤◌, List, [], ◌∷◌, ◌++◌, length, get_or, map, take, drop, Result, Ok, Err}
+use Rattle.std.proofs.Common.{◌≡◌, ℕ, zero, suc, ◌+◌, ◌<◌, ◌≤◌, List, [], ◌∷◌, length, get_or, map, Result, Ok, Err}
 use Rattle.std.proofs.Common.{sym, ap, ◌∙◌, subst, arith}
 use Rattle.std.specs.Prelude.{IfOk}
 use Rattle.std.specs.List.{AllByRecursion}
-use Rattle.std.proofs.lemmas.List.{get_or-map, length-map, append-nil, drop_all, take_all}
+use Rattle.std.proofs.lemmas.List.{get_or-map, length-map}
 use Rattle.mv_board.specs.Faces.{BoardFace, CallerFace, IsOf, IsFresh, AreFresh, AreInOrder, IsIn}
 use Rattle.mv_deck.specs.Deck.{JobData}
 use Rattle.mv_deck.specs.Sound.{IsSound}
 use Rattle.mv_machine.specs.declared.entry.Entry.{Entry}
-use Rattle.mv_machine.specs.declared.entry.Object.TheVariants.{Volume}
-use Rattle.mv_machine.specs.declared.state.State.{State}
 use Rattle.mv_machine.specs.Legal.{Legal}
 use Rattle.mv_machine.specs.Setup.{Setup}
-use Rattle.mv_machine.specs.State.{IsOpenedWith, Exists}
 use Rattle.mv_plan.specs.SpoolRun.{IsRun}
 use Rattle.mv_plan.specs.SpoolSetup.{spool_setup}
 use Rattle.mv_plan.specs.SpoolTasks.{task}
@@ -21,17 +18,10 @@ use Rattle.mv_spool.specs.Ran.{RanOut}
 use Rattle.mv_spool.specs.Seats.{IsSeat, AreReady, HasWorked}
 use Rattle.mv_spool.proofs.Histories.{IsWorked, is_run}
 use Rattle.mv_spool.proofs.Runs.{still_of}
+use Rattle.mv_wait.proofs.Parts.{fresh_at}
 
 abbrev pub task_of : Seat → CallerFace
 task_of s = s.task
-
-fresh_at : (b : BoardFace) (j k : ℕ) (tasks : List CallerFace) (d : CallerFace) → AreFresh b j tasks → k < length tasks
-    → IsFresh b (j + k) (get_or tasks k d)
-fresh_at b j k [] d all lt = absurd (omega arith)
-fresh_at b j zero (t ∷ tasks) d all lt = subst (λ n. IsFresh b n t) (let e : j ≡ j + 0 = omega arith in e) all.0
-fresh_at b j (suc k) (t ∷ tasks) d all lt =
-    subst (λ n. IsFresh b n (get_or tasks k d)) (let e : suc j + k ≡ j + suc k = omega arith in e)
-    (fresh_at b (suc j) k tasks d all.1 (omega arith))
 
 each_seat : (n k : ℕ) (seats : List Seat) (d : Seat) → AllByRecursion (IsSeat n) seats → k < length seats → IsSeat n (get_or seats k d)
 each_seat n k [] d all lt = absurd (omega arith)
@@ -104,21 +94,8 @@ run_of deck i n b old [] es ready count worked some sound size config legal with
 run_of deck i n b old (s ∷ new) es ready count worked some sound size config legal within =
     run_made deck i n b old (s ∷ new) ready count worked es s some sound size config legal within
 
--- the machine that is left has the volumes of the configuration
-pub volumes_exist : (c : Setup) (s : State) (deck : List JobData) (i : ℕ) → IsOpenedWith c s → c ≡ spool_setup deck i
-    → (v : ℕ) → v < 8 → Exists s (Volume v)
-volumes_exist c s deck i opened is v lt =
-    let count : c.volumes ≡ 8 = ap (λ (s : Setup). s.volumes) is in
-    let size = opened.volumes in omega arith
-
 -- what holds of a journal holds of the same journal in an answer
 pub still_so : {X E A : Type 0} (f : X → A) (P : A → Type 0) (a : A) (r : Result X E) → IfOk r (λ x. f x ≡ a) → P a
     → IfOk r (λ x. P (f x))
 still_so f P a (Ok x) same holds = subst P (sym same) holds
 still_so f P a (Err why) same holds = tt
-
--- what a slice of a list gave back, as the list has it
-pub given_back : {A : Type 0} (n : ℕ) (new old : List A) → length new ≡ length old → n ≡ length old
-    → take n (new ++ drop (length new) old) ≡ new
-given_back n new old same size =
-    ap (λ xs. take n (new ++ xs)) (drop_all (length new) old (omega arith)) ∙ ap (take n) (append-nil new) ∙ take_all n new (omega arith)

@@ -1,5 +1,5 @@
 -- The closes of a task's own elements, one after the other.
-use Rattle.std.proofs.Common.{◌≡◌, ◌≢◌, ℕ, zero, suc, ◌+◌, ◌-◌, ◌*◌, ◌<◌, ◌≤◌, ◌==◌, Bool, true, false, List, [], ◌∷◌, length, filter}
+use Rattle.std.proofs.Common.{◌≡◌, ◌≢◌, ℕ, zero, suc, ◌+◌, ◌-◌, ◌*◌, ◌<◌, ◌≤◌, Bool, true, false, List, [], ◌∷◌, length, filter}
 use Rattle.std.proofs.Common.{cond, not}
 use Rattle.std.proofs.Common.{refl, sym, ap, ◌∙◌, subst, arith}
 use Rattle.std.specs.List.{range_with_len}
@@ -27,11 +27,6 @@ use Rattle.mv_task.specs.Ending.{keeps, ClosesOne, ClosesAll, KeepsOthers}
 
 -- ---- one element
 
--- one that is not in use is left
-pub closes_unused : (n : ℕ) (t : CallerFace) → (keeps t).in_use n ≡ false → ClosesOne n t t
-closes_unused n t is = λ p.
-    subst (λ (b : Bool). Runs (length (cond b (n ∷ []) [])) (close_all (keeps t) (cond b (n ∷ []) []) p) p t t) (sym is) (runs_none p t)
-
 -- one that is, is closed with its generation
 pub closes_used : (n : ℕ) (t u : CallerFace) → (keeps t).in_use n ≡ true
     → Happened t (Element n) (op_on.Element (Close ((keeps t).generation n))) (reply_of.Element Closed) u → ClosesOne n t u
@@ -58,10 +53,6 @@ others_stay n g t u h = record {
   used = λ m other. ap (λ (k : Kept). k.in_use m) (kept_since n g t u h) ∙ rw other refl;
   generation = λ m other. ap (λ (k : Kept). k.generation m) (kept_since n g t u h) ∙ rw other refl;
 }
-
--- where nothing was done it is as before
-pub none_changed : (n : ℕ) (t : CallerFace) → KeepsOthers n t t
-none_changed n t = record { used = λ m other. refl; generation = λ m other. refl }
 
 -- ---- one after the other
 

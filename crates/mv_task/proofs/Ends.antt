@@ -1,5 +1,5 @@
 -- The ends of jobs and of tasks, as calls within a call. A purge and a post look at nothing that is kept.
-use Rattle.std.proofs.Common.{◌≡◌, ℕ, ◌+◌, ◌≤◌, List, [], ◌∷◌, length, Option, Some, None, refl, sym, ap, ◌∙◌, subst, arith}
+use Rattle.std.proofs.Common.{◌≡◌, ℕ, ◌+◌, ◌≤◌, List, [], ◌∷◌, length, Option, Some, None, refl, ap, ◌∙◌, subst, arith}
 use Rattle.mv_latch.specs.declared.operation.LatchOp.TheVariants.{Purge}
 use Rattle.mv_latch.specs.declared.operation.LatchReply.{LatchReply}
 use Rattle.mv_latch.specs.declared.operation.LatchReply.TheVariants.{Purged}
@@ -60,11 +60,6 @@ job_served c requestor e code Is IsPost t v u x y =
     (runs_within (reach c e + 0) (reach c e) last (Done x.answer) v u (omega arith)
     (post_within_call c e code 0 kept IsPost (Done x.answer) (Done x.answer) v u u y (runs_none (Done x.answer) u))))
     y.made.rest
-
--- what is left after the purge, for a post of so many events
-pub left_after : (c : Setup) (requestor most : ℕ) (Is : Counts → Type 0) (t v : CallerFace)
-    → IsServed (release_cost c) (purge c requestor) Is t v → release_cost c + most ≤ t.left → most ≤ v.left
-left_after c requestor most Is t v x le = let less = x.left in let few = x.made.few in omega arith
 
 -- ---- the end of a task
 

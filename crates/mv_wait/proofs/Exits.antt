@@ -1,7 +1,7 @@
 -- Exits: which a block can have, where they lead, and what they cost.
-use Rattle.std.proofs.Common.{◌≡◌, ℕ, zero, suc, ◌+◌, ◌-◌, ◌<◌, ◌≤◌, ◌==◌, nat_lt, Bool, true, false, List, [], ◌∷◌}
-use Rattle.std.proofs.Common.{◌++◌, length, map, cond, Option, Some, None, slice_get, refl, sym, ap, ◌∙◌, subst, arith}
-use Rattle.std.proofs.lemmas.Bool.{false≢true, eqb-true, and_parts}
+use Rattle.std.proofs.Common.{◌≡◌, ℕ, zero, suc, ◌+◌, ◌-◌, ◌<◌, ◌≤◌, nat_lt, true, List, [], ◌∷◌}
+use Rattle.std.proofs.Common.{◌++◌, length, slice_get, refl, sym, ap, subst, arith}
+use Rattle.std.proofs.lemmas.Bool.{eqb-true, and_parts}
 use Rattle.std.specs.List.{AllByRecursion}
 use Rattle.mv_ecb.specs.declared.operation.EcbOp.TheVariants.{Post}
 use Rattle.mv_ecb.specs.declared.operation.EcbReply.TheVariants as ecb_reply
@@ -11,7 +11,7 @@ use Rattle.mv_machine.specs.declared.entry.Reply.TheVariants as reply_of
 use Rattle.mv_machine.specs.Check.{IsValid}
 use Rattle.mv_machine.specs.Limits.{events_limit}
 use Rattle.mv_machine.specs.Parts.{IsPossible}
-use Rattle.mv_machine.specs.Reach.{exits_of, greatest, total, reach, reach_within}
+use Rattle.mv_machine.specs.Reach.{total, reach, reach_within}
 use Rattle.mv_machine.specs.Setup.{Setup, SetupExit, is_exit_of, starts_from}
 use Rattle.mv_machine.proofs.Chains.{all_at}
 use Rattle.mv_calls.proofs.Posting.{exits_are_own, greatest_member, starts}

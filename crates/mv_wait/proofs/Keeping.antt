@@ -19,10 +19,6 @@ use Rattle.mv_wait.specs.declared.keep.Keep.{Keep}
 use Rattle.mv_wait.specs.declared.keep.OwnElement.{OwnElement}
 use Rattle.mv_wait.specs.Keep.{Keeps, AreExtended, AreElements, AreHeld, in_use_after, element_after}
 
-either_same : {A : Type 0} (b : Bool) (a : A) → a ≡ cond b a a
-either_same true a = refl
-either_same false a = refl
-
 -- where the numbers are one, the value there is the same
 used_same : (used : ℕ → Bool) (n m : ℕ) → used m ≡ cond (m == n) (used n) (used m)
 used_same used n m = go (m == n) refl where

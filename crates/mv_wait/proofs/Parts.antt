@@ -1,9 +1,10 @@
 -- Small steps that several calls share.
-use Rattle.std.proofs.Common.{◌≡◌, ℕ, false, zero, suc, ◌<◌, List, [], ◌∷◌, length, get_or, sym, ap}
+use Rattle.std.proofs.Common.{◌≡◌, ℕ, false, zero, suc, ◌+◌, ◌<◌, List, [], ◌∷◌, ◌++◌, length, take, drop, get_or, sym, ap}
 use Rattle.std.proofs.Common.{◌∙◌, subst, arith}
+use Rattle.std.proofs.lemmas.List.{append-nil, drop_all, take_all}
 use Rattle.std.specs.List.{AllByRecursion}
 use Rattle.mv_machine.specs.Setup.{Setup}
-use Rattle.mv_board.specs.Faces.{BoardFace, CallerFace, IsOf, IsSame}
+use Rattle.mv_board.specs.Faces.{BoardFace, CallerFace, IsOf, IsFresh, AreFresh, IsSame}
 use Rattle.mv_wait.specs.Waiting.{AreOwn, ArePlain}
 use Rattle.mv_calls.specs.Keeping.{kept_of}
 use Rattle.mv_machine.specs.Setup.{owner_of}
@@ -39,3 +40,18 @@ same_view t r e = record {
   about = ap (λ (d : CallerFace). d.about) e;
   number = ap (λ (d : CallerFace). d.number) e;
 }
+
+-- a new task by its number
+pub fresh_at : (b : BoardFace) (j k : ℕ) (tasks : List CallerFace) (d : CallerFace) → AreFresh b j tasks → k < length tasks
+    → IsFresh b (j + k) (get_or tasks k d)
+fresh_at b j k [] d all lt = absurd (omega arith)
+fresh_at b j zero (t ∷ tasks) d all lt = subst (λ n. IsFresh b n t) (let e : j ≡ j + 0 = omega arith in e) all.0
+fresh_at b j (suc k) (t ∷ tasks) d all lt =
+    subst (λ n. IsFresh b n (get_or tasks k d)) (let e : suc j + k ≡ j + suc k = omega arith in e)
+    (fresh_at b (suc j) k tasks d all.1 (omega arith))
+
+-- what a slice of a list gave back, as the list has it
+pub given_back : {A : Type 0} (n : ℕ) (new old : List A) → length new ≡ length old → n ≡ length old
+    → take n (new ++ drop (length new) old) ≡ new
+given_back n new old same size =
+    ap (λ xs. take n (new ++ xs)) (drop_all (length new) old (omega arith)) ∙ ap (take n) (append-nil new) ∙ take_all n new (omega arith)

@@ -20,7 +20,7 @@ use Rattle.mv_machine.specs.Setup.{Setup, owner_of, is_exit_of}
 use Rattle.mv_board.specs.Faces.{CallerFace, Happened, Exchanged}
 use Rattle.mv_calls.specs.Keeping.{Kept, kept_of, nothing_kept}
 use Rattle.mv_calls.proofs.Making.{kept_caller}
-use Rattle.mv_calls.specs.Posts.{Posting, posting, try_post, expected_of, is_expected, same_post_reply, same_posting}
+use Rattle.mv_calls.specs.Posts.{Posting, posting, try_post, expected_of, is_expected, same_post_reply}
 use Rattle.mv_calls.specs.Posts as came
 use Rattle.mv_calls.specs.Program.{Program, Do, Done, Wrong, Heard, on_ecb, unless_refused}
 use Rattle.mv_calls.specs.Refusal.{Refusal}
@@ -48,11 +48,6 @@ own_is c e k log is = eqb-true (owner_of c e) k (go (owner_of c e == k) refl) wh
   go false q = absurd (false≢true (sym is ∙ (other ∙ ap not q)))
 
 -- ---- extend
-
-not_owner : (c : Setup) (e exit : ℕ) (kept : Kept) → is_others_block c kept e ≡ true → extend_refusal c e exit kept ≡ Some refusal.NotOwner
-not_owner c e exit kept p =
-    ap (λ b. or_else (refused_if b refusal.NotOwner)
-    (or_else (refused_if (not (is_exit_of c exit e)) refusal.BadExit) (refused_if (kept.extended e) refusal.Extended))) p
 
 pub extend_refusal_is : (c : Setup) (e exit : ℕ) (kept : Kept) (a b d : Bool) → is_others_block c kept e ≡ a → is_exit_of c exit e ≡ b
     → kept.extended e ≡ d

@@ -1,24 +1,18 @@
 -- Steps of a program: one event, and what is left of the program by its reply. Also after looks, and from steps to whole calls.
-use Rattle.std.proofs.Common.{◌≡◌, ℕ, ◌+◌, ◌==◌, false, not, List, [], ◌∷◌, Result, Err, refl, sym, ap, ◌∙◌, subst, arith}
-use Rattle.std.proofs.lemmas.Bool.{eq-eqb}
-use Rattle.mv_ecb.specs.declared.operation.EcbOp.{EcbOp}
-use Rattle.mv_ecb.specs.declared.operation.EcbReply.{EcbReply}
+use Rattle.std.proofs.Common.{◌≡◌, ℕ, ◌+◌, [], ◌∷◌, refl, sym, ap, ◌∙◌, subst, arith}
 use Rattle.mv_element.specs.declared.operation.ElementOp.{ElementOp}
 use Rattle.mv_element.specs.declared.operation.ElementReply.{ElementReply}
-use Rattle.mv_machine.specs.declared.entry.Entry.{Entry}
 use Rattle.mv_machine.specs.declared.entry.Object.{Object}
-use Rattle.mv_machine.specs.declared.entry.Object.TheVariants.{Ecb, Element}
+use Rattle.mv_machine.specs.declared.entry.Object.TheVariants.{Element}
 use Rattle.mv_machine.specs.declared.entry.Op.{Op}
 use Rattle.mv_machine.specs.declared.entry.Op.TheVariants as op_on
 use Rattle.mv_machine.specs.declared.entry.Reply.{Reply}
 use Rattle.mv_machine.specs.declared.entry.Reply.TheVariants as reply_of
 use Rattle.mv_board.specs.Faces.{CallerFace, Happened}
-use Rattle.mv_calls.specs.Keeping.{kept_of, nothing_kept}
-use Rattle.mv_calls.specs.Program.{Program, Do, Done, Call, Heard, on_ecb, on_element, unless_refused}
-use Rattle.mv_calls.specs.Refusal.{Refusal}
+use Rattle.mv_calls.specs.Keeping.{kept_of}
+use Rattle.mv_calls.specs.Program.{Program, Do, Done, Call, Heard, on_element}
 use Rattle.mv_calls.specs.Rest.{OpenWaits, AreNone, IsAtRest, no_waits, waits_from, waits_after}
-use Rattle.mv_calls.specs.Waits.{refused_if}
-use Rattle.mv_calls.proofs.Making.{kept_caller, waits_from-append}
+use Rattle.mv_calls.proofs.Making.{waits_from-append}
 use Rattle.mv_wait.specs.Run.{Went, Runs, IsServed}
 use Rattle.mv_wait.proofs.Runs.{IsWord, entry_of, runs_none, runs_then, runs_within, runs_look, runs_word, serves}
 
@@ -26,13 +20,6 @@ use Rattle.mv_wait.proofs.Runs.{IsWord, entry_of, runs_none, runs_then, runs_wit
 pub event_runs : {A : Type 0} (o : Object) (op : Op) (next : Heard → Program A) (q : Program A) (t u : CallerFace) (reply : Reply)
     → IsWord o → Happened t o op reply u → ((h : Heard) → h.entry.reply ≡ reply → next h ≡ q) → Runs 1 (Do o op next) q t u
 event_runs o op next q t u reply w h goes = runs_word (Do o op next) q t o op reply u w h refl goes
-
--- one on a block
-pub block_runs : {A : Type 0} (f : EcbReply → Program A) (q : Program A) (t u : CallerFace) (n : ℕ) (op : EcbOp) (r : EcbReply)
-    → Happened t (Ecb n) (op_on.Ecb op) (reply_of.Ecb r) u → f r ≡ q
-    → Runs 1 (Do (Ecb n) (op_on.Ecb op) (λ h. on_ecb h.entry.reply f)) q t u
-block_runs f q t u n op r h e =
-    event_runs (Ecb n) (op_on.Ecb op) (λ x. on_ecb x.entry.reply f) q t u (reply_of.Ecb r) tt h (λ x is. ap (λ z. on_ecb z f) is ∙ e)
 
 -- one on an element
 pub element_runs : {A : Type 0} (f : ElementReply → Program A) (q : Program A) (t u : CallerFace) (n : ℕ) (op : ElementOp)
@@ -63,16 +50,6 @@ pub done_served : {A : Type 0} (most : ℕ) (call : Call A) (Is : A → Type 0) 
 done_served most call Is t a e rest is =
     served_by most call Is t t (Done a) a e
     (runs_within 0 most (Done a) (Done a) t t (omega arith) (runs_none (Done a) t)) rest rest is
-
--- ---- whose an object is, where a call is refused for another caller's: by the number of its owner
-
-pub mine : {A : Type 0} (owner k : ℕ) (log : List Entry) (why : Refusal) (p : Program (Result A Refusal)) → owner ≡ k
-    → unless_refused (refused_if (not (owner == (kept_of k log).caller)) why) p ≡ p
-mine owner k log why p own = rw (eq-eqb owner (kept_of k log).caller (own ∙ sym (kept_caller (nothing_kept k) log))) refl
-
-pub others : {A : Type 0} (owner k : ℕ) (log : List Entry) (why : Refusal) (p : Program (Result A Refusal)) → (owner == k) ≡ false
-    → unless_refused (refused_if (not (owner == (kept_of k log).caller)) why) p ≡ Done (Err why)
-others owner k log why p other = rw (ap (λ j. owner == j) (kept_caller (nothing_kept k) log) ∙ other) refl
 
 -- ---- the waits that are open behind an event
 

@@ -1,7 +1,7 @@
 -- What a wait that is not refused has been asked.
-use Rattle.std.proofs.Common.{◌≡◌, ℕ, ◌+◌, ◌*◌, ◌<◌, ◌≤◌, ◌==◌, nat_lt, Bool, true, false, not, ◌||◌, List, [], ◌∷◌, ◌++◌}
+use Rattle.std.proofs.Common.{◌≡◌, ℕ, ◌+◌, ◌*◌, ◌<◌, ◌≤◌, ◌==◌, nat_lt, Bool, true, false, not, List, [], ◌∷◌, ◌++◌}
 use Rattle.std.proofs.Common.{length, cond, Option, Some, None, Ok, Err, refl, sym, ap, ◌∙◌, subst, arith}
-use Rattle.std.proofs.lemmas.Bool.{false≢true, eqb-true, eq-eqb, le-leb, le-ltb}
+use Rattle.std.proofs.lemmas.Bool.{false≢true, eqb-true, eq-eqb, le-leb, le-ltb, or_parts, not-false}
 use Rattle.std.specs.List.{AllByRecursion, list_any}
 use Rattle.mv_machine.specs.Check.{or_else}
 use Rattle.mv_machine.specs.Setup.{Setup, owner_of}
@@ -39,15 +39,11 @@ nowhere_back why test p [] e = tt
 nowhere_back why test p (x ∷ es) e =
     let one = one_nowhere why p (test x) (refused_at why test (p + 1) es) e in (one.0, nowhere_back why test (p + 1) es one.1)
 
-or_false : (a b : Bool) → (a || b) ≡ false → (a ≡ false) × (b ≡ false)
-or_false true b e = absurd (false≢true (sym e))
-or_false false b e = (refl, e)
-
 not_last : (before : List ℕ) (e m : ℕ) → list_any (λ b. b == m) (before ++ e ∷ []) ≡ false
     → (list_any (λ b. b == m) before ≡ false) × (m ≡ e → ⊥)
-not_last [] e m q = (refl, λ s. false≢true (sym (or_false (e == m) false q).0 ∙ eq-eqb e m (sym s)))
+not_last [] e m q = (refl, λ s. false≢true (sym (or_parts (e == m) false q).0 ∙ eq-eqb e m (sym s)))
 not_last (x ∷ before) e m q =
-    let one = or_false (x == m) (list_any (λ b. b == m) (before ++ e ∷ [])) q in
+    let one = or_parts (x == m) (list_any (λ b. b == m) (before ++ e ∷ [])) q in
     let rest = not_last before e m one.1 in (rw (one.0) rest.0, rest.1)
 
 all_apart : (before : List ℕ) (e : ℕ) (es : List ℕ) → AllByRecursion (λ m. list_any (λ b. b == m) (before ++ e ∷ []) ≡ false) es
@@ -65,10 +61,6 @@ undoubled before p (x ∷ es) e =
     let rest = undoubled (before ++ x ∷ []) (p + 1) es one.1 in
     let parts = all_apart before x es rest.0 in ((one.0, parts.0), (parts.1, rest.1))
 
-not_false : (b : Bool) → not b ≡ false → b ≡ true
-not_false true e = refl
-not_false false e = absurd (false≢true (sym e))
-
 -- what the parts of a wait that is not refused ask for
 pub record IsAccepted (c : Setup) (k : ℕ) (kept : Kept) (es : List ℕ) : Type 0 where
   pub distinct : AreDistinct es
@@ -78,7 +70,7 @@ pub record IsAccepted (c : Setup) (k : ℕ) (kept : Kept) (es : List ℕ) : Type
 all_own : (c : Setup) (kept : Kept) (es : List ℕ) → AllByRecursion (λ e. is_others_block c kept e ≡ false) es
     → AllByRecursion (λ e. owner_of c e ≡ kept.caller) es
 all_own c kept [] all = tt
-all_own c kept (e ∷ es) all = (eqb-true (owner_of c e) kept.caller (not_false (owner_of c e == kept.caller) all.0), all_own c kept es all.1)
+all_own c kept (e ∷ es) all = (eqb-true (owner_of c e) kept.caller (not-false (owner_of c e == kept.caller) all.0), all_own c kept es all.1)
 
 pub accepted_wait : (c : Setup) (k count : ℕ) (es : List ℕ) (kept : Kept) → wait_refusal c count es kept ≡ None → IsAccepted c k kept es
 accepted_wait c k count es kept e =

@@ -3,7 +3,7 @@ use Rattle.std.proofs.Common.{◌≡◌, ◌≢◌, ℕ, zero, suc, get_or, set,
 use Rattle.std.proofs.Common.{length, cond, take, drop, Some, Option, None, ◌⊎◌, inl, inr, refl, sym, ap, ◌∙◌, subst}
 use Rattle.std.proofs.Common.{arith}
 use Rattle.std.proofs.lemmas.List.{take_more_set}
-use Rattle.std.proofs.lemmas.Bool.{false≢true, eq-eqb, eqb-true, ne_eqb}
+use Rattle.std.proofs.lemmas.Bool.{false≢true, eq-eqb, eqb-true, ne_eqb, or_left}
 use Rattle.std.specs.List.{AllByRecursion, list_any, Contains}
 use Rattle.mv_ecb.specs.declared.operation.EcbOp.TheVariants.{Arm, Settle}
 use Rattle.mv_ecb.specs.declared.operation.EcbReply.TheVariants as ecb_reply
@@ -73,16 +73,13 @@ pub listed_contains : (ws : List Watch) (n : ℕ) → is_listed ws n ≡ true �
 listed_contains [] n e = absurd (false≢true e)
 listed_contains (w ∷ ws) n e = pick n w ws (is_block n w) refl e (listed_contains ws n)
 
-or_first : (a b : Bool) → a ≡ true → (a || b) ≡ true
-or_first a b e = rw e refl
-
 or_second : (a : Bool) → (a || true) ≡ true
 or_second true = refl
 or_second false = refl
 
 -- a watch more keeps what is listed, and lists its own block
 listed_still : (ws : List Watch) (w : Watch) (n : ℕ) → is_listed ws n ≡ true → is_listed (ws ++ w ∷ []) n ≡ true
-listed_still ws w n e = any-append (is_block n) ws (w ∷ []) ∙ or_first (is_listed ws n) (is_listed (w ∷ []) n) e
+listed_still ws w n e = any-append (is_block n) ws (w ∷ []) ∙ or_left (is_listed ws n) (is_listed (w ∷ []) n) e
 
 pub listed_new : (ws : List Watch) (n : ℕ) → is_listed (ws ++ watch.Ecb n ∷ []) n ≡ true
 listed_new ws n = any-append (is_block n) ws (watch.Ecb n ∷ [])

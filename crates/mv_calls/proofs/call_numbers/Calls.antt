@@ -21,7 +21,6 @@ use Rattle.mv_machine.specs.Setup.{Setup}
 use Rattle.mv_calls.specs.Keeping.{Kept}
 use Rattle.mv_calls.specs.LatchCalls as latches
 use Rattle.mv_calls.specs.Pauses as pauses
-use Rattle.mv_calls.specs.Pauses.{Gift}
 use Rattle.mv_calls.specs.Program.{Program, Do, Done, Early, Wrong, Heard, on_element, on_latch, unless_refused}
 use Rattle.mv_calls.specs.Refusal.{Refusal, NotOwner}
 use Rattle.mv_calls.specs.Waits as waits

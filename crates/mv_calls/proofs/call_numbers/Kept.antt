@@ -1,6 +1,6 @@
 -- What is kept of each caller, as it is read and written.
 use Rattle.std.proofs.Common.{◌≡◌, ℕ, ◌+◌, ◌<◌, ◌≤◌, ◌==◌, Bool, true, false, if◌then◌else◌, List, [], ◌∷◌, ◌++◌, length, map, set, get_or}
-use Rattle.std.proofs.Common.{replicate, drop, Option, Some, None, Result, Ok, Err, IfOk, subst, refl, sym, ap, ◌∙◌, arith}
+use Rattle.std.proofs.Common.{drop, Option, Some, None, Result, Ok, Err, IfOk, subst, refl, sym, ap, ◌∙◌, arith}
 use Rattle.std.proofs.lemmas.List.{map-set, length-map, get_or-map, drop_more, append_assoc}
 use Rattle.mv_latch.specs.declared.operation.Wake.{Wake}
 use Rattle.mv_machine.specs.declared.entry.Entry.{Entry}
@@ -13,7 +13,7 @@ use Rattle.mv_machine.specs.Legal.{IsNext, LegalFrom, next}
 use Rattle.mv_machine.specs.Setup.{Setup}
 use Rattle.mv_machine.specs.State.{table}
 use Rattle.mv_machine.specs.System.{System, admitted, wakes_after, with_at}
-use Rattle.mv_machine.proofs.Tables.{table-set, table-replicate}
+use Rattle.mv_machine.proofs.Tables.{table-set}
 use Rattle.mv_calls.specs.declared.counting.Counter.{Counter}
 use Rattle.mv_calls.specs.Counters.{numbering_of, counted}
 use Rattle.mv_calls.specs.Numbers.{Numbering, unnumbered, numbered, numbered_at, wakes_at, asked, kept_pending, continues, group_after}
@@ -28,10 +28,6 @@ counted-set xs n x lt =
 -- a counter that is read
 pub counted-read : (xs : List Counter) (n : ℕ) (x : Counter) → n < length xs → x ≡ get_or xs n x → counted xs n ≡ numbering_of x
 counted-read xs n x lt at = get_or-map numbering_of xs n x unnumbered lt ∙ ap numbering_of (sym at)
-
--- new counters
-pub counted-new : (xs : List Counter) (n : ℕ) → map numbering_of xs ≡ replicate n unnumbered → counted xs ≡ (λ k. unnumbered)
-counted-new xs n new = ap (λ ys. table (λ (t : Numbering). t) unnumbered ys) new ∙ table-replicate (λ (t : Numbering). t) unnumbered n
 
 -- the wakes are asked of events on the latch set alone
 asked_same : (c : Setup) (s : System) (shown : List Wake) (k : ℕ) (o : Object) (op : Op) (reply : Reply) → admitted c s k o op ≡ true
@@ -67,11 +63,6 @@ one_counted c s shown ws xs e old new n lt at told is =
 -- the entry at a place, and what is left behind it
 at_drop : (es : List Entry) (i : ℕ) (e : Entry) → i < length es → e ≡ get_or es i e → drop i es ≡ e ∷ drop (i + 1) es
 at_drop es i e lt at = drop_more es i e lt ∙ ap (λ x. x ∷ drop (i + 1) es) (sym at)
-
--- it is the machine's next
-pub round_next : (c : Setup) (s : System) (es : List Entry) (i : ℕ) (e : Entry) → i < length es → e ≡ get_or es i e
-    → LegalFrom c s (drop i es) → IsNext c s e
-round_next c s es i e lt at l = (subst (λ xs. LegalFrom c s xs) (at_drop es i e lt at) l).0
 
 -- what is left is legal behind it
 pub round_rest : (c : Setup) (s : System) (es : List Entry) (i : ℕ) (e : Entry) → i < length es → e ≡ get_or es i e

@@ -93,3 +93,7 @@ refused_is_wrong c es kept refusal.NoMemory w other l same = other refl
 pub number_is_wrong : (c : Setup) (es : List Entry) (kept : List ℕ) (r : CallsRefusal) → IsNumberRefused c es kept r
     → (r ≡ refusal.NoMemory → ⊥) → Legal c es → kept ≡ calls c es → ⊥
 number_is_wrong c es kept r w other l same = refused_is_wrong c es kept r (refused_in_all c es kept r w) other l same
+
+-- all that a refusal is told by
+pub ruleset refusals =
+    (front_is_legal, front_is_within, refused_in_front, refused_in_all, refused_there, refused_is_wrong, number_is_wrong)

@@ -1,6 +1,6 @@
 -- The configuration's facts in one record, Facts: who owns which block and element, which exits start where, and the quotas.
 -- All layers take these facts and do not look into the configuration again.
-use Rattle.std.proofs.Common.{◌≡◌, ℕ, zero, suc, ◌+◌, ◌-◌, ◌*◌, ◌/◌, ◌<◌, ◌≤◌, ◌==◌, nat_lt, ◌&&◌, true, List, [], ◌∷◌, ◌++◌, length, map}
+use Rattle.std.proofs.Common.{◌≡◌, ℕ, zero, suc, ◌+◌, ◌-◌, ◌*◌, ◌/◌, ◌<◌, ◌≤◌, nat_lt, ◌&&◌, true, List, [], ◌∷◌, ◌++◌, length, map}
 use Rattle.std.proofs.Common.{replicate, get_or, Some, refl, sym, ap, ◌∙◌, subst, append_assoc, arith}
 use Rattle.std.specs.Prelude.{slice_get}
 use Rattle.std.specs.List.{range_with_len}
@@ -126,14 +126,11 @@ exit_at n from zero j lt = elim lt [ ]
 exit_at n from (suc count) zero lt = ap (λ k. Some (end_exit n k)) (omega arith)
 exit_at n from (suc count) (suc j) lt = exit_at n (from + 1) count j (omega arith) ∙ ap (λ k. Some (end_exit n k)) (omega arith)
 
-same_number : (n : ℕ) → (n == n) ≡ true
-same_number n = eq-eqb n n refl
-
 exit_there : (n j : ℕ) (xs : List SetupExit) → slice_get xs j ≡ Some (end_exit n j)
     → (nat_lt 0 (j + 1) && starts_from (done n j) (slice_get xs (j + 1 - 1))) ≡ true
 exit_there n j xs e = ap (λ k. nat_lt 0 (j + 1) && starts_from (done n j) (slice_get xs k)) (less_one j)
     ∙ ap (λ x. nat_lt 0 (j + 1) && starts_from (done n j) x) e
-    ∙ rw (same_number (done n j), lt-ltb 0 (j + 1) (omega arith)) refl where
+    ∙ rw (eq-eqb (done n j) (done n j) refl, lt-ltb 0 (j + 1) (omega arith)) refl where
       less_one : (j : ℕ) → j + 1 - 1 ≡ j
       less_one j = omega arith
 

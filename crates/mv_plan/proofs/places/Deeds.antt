@@ -132,9 +132,6 @@ gift_did deck p q before code h h' r (closes g z at) none had was now given =
 gift_did deck p q before code h h' r (runs run lt is at of) none had was now given =
     started run lt (was ∙ ap (λ y. Some y) is) now none at (before_run q run at ∙ of ∙ sym had) (given ∙ ap (λ y. Some y) is)
 
-same_number : (g : ℕ) → (g == g) ≡ true
-same_number g = eq-eqb g g refl
-
 module _ (deck : List JobData) (o h : Option ℕ) where
   opened_did : (y : ElementState) (r : Reply) → r ≡ reply_of.Element (element_step element_op.Open y).1 → Row Starts o h y
       → IsNotLost (on_opened r (length deck))
@@ -147,26 +144,26 @@ module _ (deck : List JobData) (o h : Option ℕ) where
       → r ≡ reply_of.Element (element_step (element_op.Pause g) y).1 → Row (Offers g) o h y → IsNotLost (on_paused deck more before g r)
       → Deed (length deck) (At (Pausing more before g)) (on_paused deck more before g r) (code_held y)
       (code_held (element_step (element_op.Pause g) y).0) r
-  paused_did more before g y r e (offered a b q) = rw (e, q, same_number g) (λ f. went_on refl refl refl refl)
-  paused_did more before g y r e (taken a b q) = rw (e, q, same_number g) (λ f. went_on refl refl refl refl)
+  paused_did more before g y r e (offered a b q) = rw (e, q, eq-eqb g g refl) (λ f. went_on refl refl refl refl)
+  paused_did more before g y r e (taken a b q) = rw (e, q, eq-eqb g g refl) (λ f. went_on refl refl refl refl)
   paused_did more before g y r e (handed code a b q) =
-      rw (e, q, same_number g) (λ f. gift_did deck _ _ before code _ _ _
+      rw (e, q, eq-eqb g g refl) (λ f. gift_did deck _ _ before code _ _ _
       (given_is deck more before code (g + 1) f) refl refl refl refl refl)
 
   resumed_did : (more : ℕ) (before : List ℕ) (g : ℕ) (y : ElementState) (r : Reply)
       → r ≡ reply_of.Element (element_step (element_op.Resume g) y).1 → Row (Parks g) o h y → IsNotLost (on_resumed deck more before r)
       → Deed (length deck) (At (Resuming more before g)) (on_resumed deck more before r) (code_held y)
       (code_held (element_step (element_op.Resume g) y).0) r
-  resumed_did more before g y r e (offered a b q) = rw (e, q, same_number g) (λ f. absurd f)
-  resumed_did more before g y r e (taken a b q) = rw (e, q, same_number g) (λ f. absurd f)
+  resumed_did more before g y r e (offered a b q) = rw (e, q, eq-eqb g g refl) (λ f. absurd f)
+  resumed_did more before g y r e (taken a b q) = rw (e, q, eq-eqb g g refl) (λ f. absurd f)
   resumed_did more before g y r e (handed code a b q) =
-      rw (e, q, same_number g) (λ f. gift_did deck _ _ before code _ _ _
+      rw (e, q, eq-eqb g g refl) (λ f. gift_did deck _ _ before code _ _ _
       (given_is deck more before code (g + 1) f) refl refl refl refl refl)
 
   closed_did : (g : ℕ) (y : ElementState) (r : Reply) → r ≡ reply_of.Element (element_step (element_op.Close g) y).1
       → Row (Works g) o h y → IsNotLost (on_closed r)
       → Deed (length deck) (At (Closing g)) (on_closed r) (code_held y) (code_held (element_step (element_op.Close g) y).0) r
-  closed_did g y r e w = rw (e, w.2, same_number g) (λ f. went_on refl refl refl refl)
+  closed_did g y r e w = rw (e, w.2, eq-eqb g g refl) (λ f. went_on refl refl refl refl)
 
 run_did : (n : ℕ) (p q : Point InitiatorAt) (h h' : Option ℕ) (r : Reply) (run : Running) → run_of p ≡ Some run → GoesOn run q
     → IsNotLost q → h' ≡ h → gift_code r ≡ None → Deed n p q h h' r

@@ -1,5 +1,5 @@
 -- The ledger is kept by each move at which no task is lost.
-use Rattle.std.proofs.Common.{◌≡◌, ℕ, ◌+◌, ◌-◌, ◌*◌, ◌<◌, ◌≤◌, ◌==◌, Bool, true, if◌then◌else◌, List, length, Option, Some, None, ◌⊎◌}
+use Rattle.std.proofs.Common.{◌≡◌, ℕ, ◌+◌, ◌-◌, ◌*◌, ◌<◌, ◌≤◌, Bool, if◌then◌else◌, List, length, Option, Some, None, ◌⊎◌}
 use Rattle.std.proofs.Common.{inl, inr, refl, sym, ap, ◌∙◌, subst, arith}
 use Rattle.std.proofs.lemmas.Bool.{cases_eq, eq-eqb}
 use Rattle.mv_ecb.specs.declared.operation.EcbOp.TheVariants as ecb_op
@@ -66,19 +66,16 @@ has_stance (Finished answer) f e = cc e
 has_stance TooSoon f e = f
 has_stance Astray f e = f
 
-same_number : (g : ℕ) → (g == g) ≡ true
-same_number g = eq-eqb g g refl
-
 -- an element that the scheduler is to release holds no code, and the released one after it
 pub record Fresh (g code : ℕ) (x : ElementState) : Type 0 where
   pub before : code_held x ≡ None
   pub after : code_held (element_step (element_op.Release g code) x).0 ≡ Some code
 
 fresh_reset : (g m code : ℕ) (x : ElementState) → g ≡ m → x ≡ reset m → Fresh g code x
-fresh_reset g m code x e q = record { before = rw q refl; after = rw (q, e, same_number m) refl }
+fresh_reset g m code x e q = record { before = rw q refl; after = rw (q, e, eq-eqb m m refl) refl }
 
 fresh_paused : (g m code : ℕ) (x : ElementState) → g ≡ m → x ≡ paused m → Fresh g code x
-fresh_paused g m code x e q = record { before = rw q refl; after = rw (q, e, same_number m) refl }
+fresh_paused g m code x e q = record { before = rw q refl; after = rw (q, e, eq-eqb m m refl) refl }
 
 pub row_fresh : (st : Stance) (g code : ℕ) (o : Option ℕ) (x : ElementState) → (st ≡ Loses → ⊥) → Row st o (Some g) x → Fresh g code x
 row_fresh Starts g code o x d w = absurd (cc (w.1))
@@ -244,7 +241,7 @@ module _ (c : Setup) (deck : List JobData) (initiators : ℕ) (few : length deck
           subst (λ z. IsSchedulerAt deck initiators (At z)) is sound in
           let row : Row (stance (t.initiators i)) (offer_of n s i) (Some g) (element_of s i) =
           row_at _ _ _ _ _ _ _ _ refl refl
-          (sym (ap (λ z. hold_for i z) at' ∙ ap (λ b. if b then Some g else None) (same_number i))) refl (w.rows i sound'.0) in
+          (sym (ap (λ z. hold_for i z) at' ∙ ap (λ b. if b then Some g else None) (eq-eqb i i refl))) refl (w.rows i sound'.0) in
           subst (λ y. Then (entry_of scheduler p (scheduler_asks n y) r) (record t { scheduler = scheduler_goes n initiators y r }))
           (sym is)
           (releasing i g code p r sound'.0

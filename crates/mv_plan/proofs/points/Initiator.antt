@@ -25,14 +25,13 @@ use Rattle.mv_plan.specs.Jobs.{job_at}
 use Rattle.mv_plan.proofs.deck.Plans.{ArePlannedJobs}
 use Rattle.mv_calls.specs.Keeping.{Kept, nothing_kept}
 use Rattle.mv_calls.specs.LatchCalls.{obtain_refusal, obtained}
-use Rattle.mv_calls.specs.Pauses.{Gift, gift_of, token_of, allocate, lowest_free, own_elements, open_lowest, opened, pause, paused}
-use Rattle.mv_calls.specs.Pauses.{resumed, closed, deallocate}
+use Rattle.mv_calls.specs.Pauses.{gift_of, token_of, allocate, lowest_free, open_lowest, pause, paused}
+use Rattle.mv_calls.specs.Pauses.{closed, deallocate}
 use Rattle.mv_calls.specs.Pauses as pauses
 use Rattle.mv_calls.specs.Posts.{Woke, each_posted, posted_next, post_within, wakes_posted, wake_posted}
 use Rattle.mv_calls.specs.Program.{Program, Do, Done, Heard, asks, heard, and_then, going_on, unrefused, accepted, followed}
 use Rattle.mv_calls.specs.Program.{finished}
 use Rattle.mv_calls.specs.Program.{wrong, unless_refused, on_element, on_latch}
-use Rattle.mv_calls.specs.Refusal.{Refusal}
 use Rattle.mv_calls.specs.Refusal as refusal
 use Rattle.mv_plan.specs.SpoolSetup.{done, end_for_scheduler, end_for_writer, idle, initiator}
 use Rattle.mv_plan.specs.SpoolTasks.{Named, job_named, named_by, run_job, job_done, granted_as, freed, rounds}

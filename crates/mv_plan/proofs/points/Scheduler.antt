@@ -21,7 +21,6 @@ use Rattle.mv_calls.specs.Keeping.{Kept}
 use Rattle.mv_calls.specs.Pauses.{token_of, release, released}
 use Rattle.mv_calls.specs.Program.{Do, Done, Heard, asks, heard, going_on, unrefused, accepted, finished, unless_refused, on_ecb}
 use Rattle.mv_calls.specs.Program.{on_element}
-use Rattle.mv_calls.specs.Refusal.{Refusal}
 use Rattle.mv_calls.specs.Refusal as refusal
 use Rattle.mv_plan.specs.SpoolSetup.{entered, done, end_for_scheduler, idle, initiator}
 use Rattle.mv_plan.specs.SpoolTasks.{code_of, ends_of, some_end_above, ends_awaited, first_of, hand_over}

@@ -10,7 +10,7 @@ use Rattle.mv_machine.specs.declared.entry.Reply.TheVariants as reply_of
 use Rattle.mv_machine.specs.Legal.{IsNext, next, after}
 use Rattle.mv_machine.specs.Setup.{Setup}
 use Rattle.mv_machine.specs.System.{System, opening}
-use Rattle.mv_plan.specs.PostingEnds.{posts, post_codes, EndsArePosted, HasRightMark, PostsFirst}
+use Rattle.mv_plan.specs.PostingEnds.{posts, post_codes, EndsArePosted, HasRightMark}
 use Rattle.mv_deck.specs.Deck.{JobData}
 use Rattle.mv_plan.specs.Jobs.{end_of}
 use Rattle.mv_plan.proofs.deck.Plans.{IsPlanned}
@@ -150,12 +150,6 @@ module _ (deck : List JobData) (initiators : ℕ) (some : 1 ≤ initiators) (sou
   marks_are_right run =
       let st : Stood deck initiators some sound es = stood deck initiators some sound es run.follow in
       (ends_at run st (run_finished deck initiators some sound es run st)).traces.marked
-
-  -- no post of a run is answered Already
-  pub posts_are_first : IsRun deck initiators es → AllByRecursion PostsFirst es
-  posts_are_first run =
-      let st : Stood deck initiators some sound es = stood deck initiators some sound es run.follow in
-      (ends_at run st (run_finished deck initiators some sound es run st)).traces.first
 
   -- the ends that the writer keeps are the deck's
   pub writer_keeps : IsRun deck initiators es

@@ -328,9 +328,6 @@ module _ (deck : List JobData) (sound : ArePlannedJobs 0 deck) (small : length d
             (new j (is_skipped deck j) lt e))
       ]
 
-same_number : (g : ℕ) → (g == g) ≡ true
-same_number g = eq-eqb g g refl
-
 module _ (deck : List JobData) (o h : Option ℕ) where
   opened_foreseen : (y : ElementState) (r : Reply) → r ≡ reply_of.Element (element_step element_op.Open y).1 → Row Starts o h y
       → IsForeseen (on_opened r (length deck))
@@ -340,23 +337,23 @@ module _ (deck : List JobData) (o h : Option ℕ) where
       → r ≡ reply_of.Element (element_step (element_op.Pause g) y).1 → Row (Offers g) o h y
       → ((code : ℕ) → code_held y ≡ Some code → IsForeseen (given_at deck more before code (g + 1)))
       → IsForeseen (on_paused deck more before g r)
-  paused_foreseen more before g y r e (offered a b q) given = rw (e, q, same_number g) tt
-  paused_foreseen more before g y r e (taken a b q) given = rw (e, q, same_number g) tt
+  paused_foreseen more before g y r e (offered a b q) given = rw (e, q, eq-eqb g g refl) tt
+  paused_foreseen more before g y r e (taken a b q) given = rw (e, q, eq-eqb g g refl) tt
   paused_foreseen more before g y r e (handed code a b q) given = let f : IsForeseen (given_at deck more before code (g + 1)) =
-      given code (ap (λ z. code_held z) q) in rw (e, q, same_number g) f
+      given code (ap (λ z. code_held z) q) in rw (e, q, eq-eqb g g refl) f
 
   resumed_foreseen : (more : ℕ) (before : List ℕ) (g : ℕ) (y : ElementState) (r : Reply)
       → r ≡ reply_of.Element (element_step (element_op.Resume g) y).1 → Row (Parks g) o h y
       → ((code : ℕ) → code_held y ≡ Some code → IsForeseen (given_at deck more before code (g + 1)))
       → IsForeseen (on_resumed deck more before r)
-  resumed_foreseen more before g y r e (offered a b q) given = rw (e, q, same_number g) tt
-  resumed_foreseen more before g y r e (taken a b q) given = rw (e, q, same_number g) tt
+  resumed_foreseen more before g y r e (offered a b q) given = rw (e, q, eq-eqb g g refl) tt
+  resumed_foreseen more before g y r e (taken a b q) given = rw (e, q, eq-eqb g g refl) tt
   resumed_foreseen more before g y r e (handed code a b q) given = let f : IsForeseen (given_at deck more before code (g + 1)) =
-      given code (ap (λ z. code_held z) q) in rw (e, q, same_number g) f
+      given code (ap (λ z. code_held z) q) in rw (e, q, eq-eqb g g refl) f
 
   closed_foreseen : (g : ℕ) (y : ElementState) (r : Reply) → r ≡ reply_of.Element (element_step (element_op.Close g) y).1
       → Row (Works g) o h y → IsForeseen (on_closed r)
-  closed_foreseen g y r e w = rw (e, w.2, same_number g) tt
+  closed_foreseen g y r e w = rw (e, w.2, eq-eqb g g refl) tt
 
 -- the points of an initiator's rounds: those before, between and behind jobs, and the end of a job
 abbrev pub IsOfRounds : InitiatorAt → Type 0

@@ -1,12 +1,10 @@
 -- No task of the spool goes wrong: what stands of blocks, of elements and rounds, and of latches and volumes, put together by
 -- SafeWalks.
 use Rattle.std.proofs.Common.{◌≡◌, ℕ, ◌+◌, ◌<◌, ◌≤◌, List, length, refl, sym, ap, ◌∙◌, arith}
-use Rattle.std.specs.List.{AllByRecursion}
 use Rattle.mv_machine.specs.declared.entry.Entry.{Entry}
 use Rattle.mv_machine.specs.Legal.{IsNext, after}
 use Rattle.mv_machine.specs.Setup.{Setup}
 use Rattle.mv_machine.specs.System.{System}
-use Rattle.mv_plan.specs.PostingEnds.{HasRightMark, PostsFirst}
 use Rattle.mv_deck.specs.Deck.{JobData}
 use Rattle.mv_plan.proofs.deck.Plans.{IsPlanned}
 use Rattle.mv_calls.specs.Program.{Wrong}
@@ -128,10 +126,3 @@ module _ (deck : List JobData) (initiators : ℕ) where
     none_wrong es f k lt w =
         let st : Stood deck initiators some sound es = stood deck initiators some sound es f in
         not_wrong deck initiators some sound es st (following_is_safe es f st).0.now.none_lost k lt w
-
-    -- so the marks are right, and no post is answered Already, in every following history
-    pub following_marks : (es : List Entry) → Follows deck initiators es → AllByRecursion (HasRightMark deck) es
-    following_marks es f = (following_is_safe es f (stood deck initiators some sound es f)).1.0.traces.marked
-
-    pub following_posts : (es : List Entry) → Follows deck initiators es → AllByRecursion PostsFirst es
-    following_posts es f = (following_is_safe es f (stood deck initiators some sound es f)).1.0.traces.first

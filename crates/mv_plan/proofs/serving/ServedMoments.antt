@@ -1,25 +1,23 @@
 -- At each moment at which no task is lost that record holds, and no reply at a latch or a volume leads an initiator astray.
 use Rattle.std.proofs.Common.{◌≡◌, ℕ, ◌<◌, ◌≤◌, List, [], ◌∷◌, ◌++◌, length, Option, ap, arith}
 use Rattle.mv_machine.specs.declared.entry.Entry.{Entry}
-use Rattle.mv_machine.specs.Legal.{IsNext, next, after_from}
+use Rattle.mv_machine.specs.Legal.{IsNext, next}
 use Rattle.mv_machine.specs.Setup.{Setup}
-use Rattle.mv_machine.specs.System.{System, opening}
+use Rattle.mv_machine.specs.System.{System}
 use Rattle.mv_plan.specs.HandingOut.{released_codes, given_codes}
 use Rattle.mv_deck.specs.Deck.{JobData}
-use Rattle.mv_plan.proofs.deck.Plans.{IsPlanned, ArePlannedJobs}
+use Rattle.mv_plan.proofs.deck.Plans.{IsPlanned}
 use Rattle.mv_plan.specs.SpoolSetup.{initiator}
 use Rattle.mv_plan.specs.SpoolTasks.{not_to_run}
 use Rattle.mv_plan.proofs.latches.Exclusion.{places_apart}
 use Rattle.mv_plan.proofs.places.Places.{Place, Coming, Handed, Run, Over}
 use Rattle.mv_plan.proofs.serving.LatchCases.{IsServed}
 use Rattle.mv_plan.proofs.places.Ledger.{Ledger, Account, element_code}
-use Rattle.mv_plan.proofs.deck.Setup.{Facts}
 use Rattle.mv_plan.proofs.points.Points.{At, Astray, InitiatorAt, initiator_asks, initiator_goes}
 use Rattle.mv_plan.proofs.serving.Requestors.{NamedOnce}
-use Rattle.mv_plan.proofs.serving.Served.{Served, served_start, served_next, served_well}
-use Rattle.mv_plan.proofs.places.Moments.{Moment, walk_moments}
-use Rattle.mv_plan.proofs.walks.NoneLost.{NoneLost}
-use Rattle.mv_plan.proofs.walks.Walks.{Points, start_points, Move, WalkTo}
+use Rattle.mv_plan.proofs.serving.Served.{Served, served_next, served_well}
+use Rattle.mv_plan.proofs.places.Moments.{Moment}
+use Rattle.mv_plan.proofs.walks.Walks.{Points, Move}
 use Rattle.mv_plan.proofs.walks.Stands.{AreSound}
 
 -- by its place, a job was named once or not at all
@@ -54,10 +52,3 @@ module _ (c : Setup) (deck : List JobData) (initiators : ℕ) where
   served_foreseen s t past e i x some sound now w h on lt k at o op =
       served_well c deck initiators s t past e i x some sound (moment_sound s t past now) now.none_lost
       (ledger_once deck initiators s t past now.ledger) w h on lt k at o op
-
-  pub served_end : Facts c (length deck) initiators → ArePlannedJobs 0 deck → length deck ≤ not_to_run → (es : List Entry) (u : Points)
-      → WalkTo c deck initiators (opening c) (start_points deck initiators) es u → NoneLost initiators u
-      → Served deck initiators (after_from (opening c) es) u es
-  served_end facts sound few es u walk found =
-      (walk_moments c deck initiators facts sound few (λ s t past place. Served deck initiators s t past)
-      (λ s t v past e now on h m w. served_onward s t v past e few now h m w) (served_start c deck initiators) es u walk found).1

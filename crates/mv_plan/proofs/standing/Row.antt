@@ -170,29 +170,26 @@ module _ (o h : Option ℕ) where
       → Row (stance (on_opened r n)) o h (element_step element_op.Open y).0
   opened_row n y r e w = rw (e, w.2) (rounds_row (n + 1) [] 0 (reset 0) (w.0, w.1, refl))
 
-  same_number : (g : ℕ) → (g == g) ≡ true
-  same_number g = eq-eqb g g refl
-
   paused_row : (deck : List JobData) (more : ℕ) (before : List ℕ) (g : ℕ) (y : ElementState) (r : Reply)
       → r ≡ reply_of.Element (element_step (element_op.Pause g) y).1 → Row (Offers g) o h y
       → Row (stance (on_paused deck more before g r)) o h (element_step (element_op.Pause g) y).0
-  paused_row deck more before g y r e (offered a b q) = rw (e, q, same_number g) (offered a b refl)
-  paused_row deck more before g y r e (taken a b q) = rw (e, q, same_number g) (taken a b refl)
+  paused_row deck more before g y r e (offered a b q) = rw (e, q, eq-eqb g g refl) (offered a b refl)
+  paused_row deck more before g y r e (taken a b q) = rw (e, q, eq-eqb g g refl) (taken a b refl)
   paused_row deck more before g y r e (handed code a b q) =
-      rw (e, q, same_number g) (given_row deck more before code (g + 1) (reset (g + 1)) (a, b, refl))
+      rw (e, q, eq-eqb g g refl) (given_row deck more before code (g + 1) (reset (g + 1)) (a, b, refl))
 
   resumed_row : (deck : List JobData) (more : ℕ) (before : List ℕ) (g : ℕ) (y : ElementState) (r : Reply)
       → r ≡ reply_of.Element (element_step (element_op.Resume g) y).1 → Row (Parks g) o h y
       → Row (stance (on_resumed deck more before r)) o h (element_step (element_op.Resume g) y).0
-  resumed_row deck more before g y r e (offered a b q) = rw (e, q, same_number g) tt
-  resumed_row deck more before g y r e (taken a b q) = rw (e, q, same_number g) tt
+  resumed_row deck more before g y r e (offered a b q) = rw (e, q, eq-eqb g g refl) tt
+  resumed_row deck more before g y r e (taken a b q) = rw (e, q, eq-eqb g g refl) tt
   resumed_row deck more before g y r e (handed code a b q) =
-      rw (e, q, same_number g) (given_row deck more before code (g + 1) (reset (g + 1)) (a, b, refl))
+      rw (e, q, eq-eqb g g refl) (given_row deck more before code (g + 1) (reset (g + 1)) (a, b, refl))
 
   closed_row : (g : ℕ) (y : ElementState) (r : Reply) → r ≡ reply_of.Element (element_step (element_op.Close g) y).1
       → Row (Works g) o h y
       → Row (stance (on_closed r)) o h (element_step (element_op.Close g) y).0
-  closed_row g y r e w = rw (e, w.2, same_number g) (w.0, w.1, refl)
+  closed_row g y r e w = rw (e, w.2, eq-eqb g g refl) (w.0, w.1, refl)
 
 post_code : (g : ℕ) (v : EcbState) → code_in v ≡ None → code_in (ecb_step (ecb_op.Post g) v).0 ≡ Some g
 post_code g v e = grind arith

@@ -1,5 +1,5 @@
 -- All initiators' rows, with what the scheduler has found, are kept by each move.
-use Rattle.std.proofs.Common.{◌≡◌, ℕ, zero, suc, ◌+◌, ◌*◌, ◌<◌, ◌==◌, true, if◌then◌else◌, List, [], ◌∷◌}
+use Rattle.std.proofs.Common.{◌≡◌, ℕ, zero, suc, ◌+◌, ◌*◌, ◌<◌, if◌then◌else◌, List, [], ◌∷◌}
 use Rattle.std.proofs.Common.{length, Option, Some, None, ◌⊎◌, inl, inr, refl, sym, ap, ◌∙◌, subst, arith}
 use Rattle.std.proofs.lemmas.Bool.{cases_eq, eq-eqb, ne_eqb}
 use Rattle.mv_ecb.specs.declared.operation.EcbOp.TheVariants as ecb_op
@@ -58,9 +58,6 @@ row_cleared (Parks m) g x (handed code a b q) = absurd (cc a)
 row_cleared Ends g x w = absurd (cc (w.0))
 row_cleared Loses g x w = tt
 
-same_number : (g : ℕ) → (g == g) ≡ true
-same_number g = eq-eqb g g refl
-
 -- a release is accepted
 abbrev pub Accepts : ElementReply → Type 0
 Accepts element_reply.Early = Unit {0}
@@ -70,12 +67,12 @@ Accepts r = ⊥
 bare_early : (g m code : ℕ) (x : ElementState) → g ≡ m → x ≡ reset m
     → ((element_step (element_op.Release g code) x).0 ≡ prereleased m code)
     × ((element_step (element_op.Release g code) x).1 ≡ element_reply.Early)
-bare_early g m code x e q = rw (q, e, same_number m) (refl, refl)
+bare_early g m code x e q = rw (q, e, eq-eqb m m refl) (refl, refl)
 
 bare_woke : (g m code : ℕ) (x : ElementState) → g ≡ m → x ≡ paused m
     → ((element_step (element_op.Release g code) x).0 ≡ released m code)
     × ((element_step (element_op.Release g code) x).1 ≡ element_reply.Woke)
-bare_woke g m code x e q = rw (q, e, same_number m) (refl, refl)
+bare_woke g m code x e q = rw (q, e, eq-eqb m m refl) (refl, refl)
 
 accepts_early : (r : ElementReply) → r ≡ element_reply.Early → Accepts r
 accepts_early r e = rw e tt

@@ -1,6 +1,6 @@
 -- Moves with their entry written out, so that object, operation and reply compute by cases of the point: of_move for any
--- relation, by_moves for invariants; and the cells of blocks and elements after a move. Each invariant below is proved by one
--- of the two.
+-- relation, by_moves for invariants; and the cells of blocks and elements after a move. Each invariant of the later layers is
+-- proved by one of the two.
 use Rattle.std.proofs.Common.{refl, ◌≡◌, ℕ, ◌<◌, if◌then◌else◌, List, [], ◌∷◌, ◌++◌, length, ◌⊎◌, inl, inr, sym, ap, ◌∙◌, subst}
 use Rattle.std.proofs.lemmas.Bool.{cases_eq, eq-eqb, ne_eqb}
 use Rattle.mv_ecb.specs.declared.operation.EcbOp.{EcbOp}

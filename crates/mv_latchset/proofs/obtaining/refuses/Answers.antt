@@ -1,5 +1,5 @@
-use Rattle.std.proofs.Common.{◌≡◌, ◌<◌, Bool, true, false, not, refl, sym, ap, ◌∙◌, subst}
-use Rattle.std.proofs.lemmas.Bool.{lt-ltb}
+use Rattle.std.proofs.Common.{◌<◌, true, false, refl, sym, ap, ◌∙◌, subst}
+use Rattle.std.proofs.lemmas.Bool.{lt-ltb, not-false, not-true}
 use Rattle.mv_latch.specs.declared.operation.LatchOp.TheVariants.{Obtain}
 use Rattle.mv_machine.specs.Kept.{keeps_quotas}
 use Rattle.mv_machine.specs.Setup.{Setup}
@@ -7,15 +7,6 @@ use Rattle.mv_machine.specs.System.{posts_own_ecb}
 use Rattle.mv_calls.specs.Keeping.{kept_of}
 use Rattle.mv_latchset.proofs.Admits.{refusal_by}
 use Rattle.mv_latchset.proofs.obtaining.refuses.Goals as goal
-
--- what is no refusal is so, and what is one is not
-is_so : (b : Bool) → not b ≡ false → b ≡ true
-is_so true e = refl
-is_so false e = sym e
-
-is_not : (b : Bool) → not b ≡ true → b ≡ false
-is_not false e = refl
-is_not true e = sym e
 
 pub returns-then-posts_others_block-clause-refusal : goal.returns-then-posts_others_block-clause-refusal
 returns-then-posts_others_block-clause-refusal c = λ requestor mode.
@@ -25,7 +16,7 @@ returns-then-posts_others_block-clause-refusal c = λ requestor mode.
     sym (refusal_by s c.args.latch requestor mode c.args.form t.number t.log true false
     (keeps_quotas s (kept_of t.number t.log).requests c.args.form)
     (lt-ltb c.args.latch s.latches (subst (λ n. c.args.latch < n) latches c.if-latch-config.false))
-    (is_not (posts_own_ecb s t.number (Obtain c.args.latch requestor mode c.args.form))
+    (not-true (posts_own_ecb s t.number (Obtain c.args.latch requestor mode c.args.form))
     (sym (c.posts_others_block.ensures c.args.latch requestor mode) ∙ c.if-posts_others_block.true)) refl)
 
 pub returns-then-is_over_quota-clause-refusal : goal.returns-then-is_over_quota-clause-refusal
@@ -35,9 +26,9 @@ returns-then-is_over_quota-clause-refusal c = λ requestor mode.
     let latches = ap (λ (x : Setup). x.latches) (c.config-2.ensures.given ∙ c.config.ensures) in
     sym (refusal_by s c.args.latch requestor mode c.args.form t.number t.log true true false
     (lt-ltb c.args.latch s.latches (subst (λ n. c.args.latch < n) latches c.if-latch-config.false))
-    (is_so (posts_own_ecb s t.number (Obtain c.args.latch requestor mode c.args.form))
+    (not-false (posts_own_ecb s t.number (Obtain c.args.latch requestor mode c.args.form))
     (sym (c.posts_others_block.ensures c.args.latch requestor mode) ∙ c.if-posts_others_block.false))
-    (is_not (keeps_quotas s (kept_of t.number t.log).requests c.args.form)
+    (not-true (keeps_quotas s (kept_of t.number t.log).requests c.args.form)
     (sym c.is_over_quota.ensures.quotas ∙ c.if-is_over_quota.true)))
 
 pub returns-clause-refusal : goal.returns-clause-refusal
@@ -47,7 +38,7 @@ returns-clause-refusal c = λ requestor mode.
     let latches = ap (λ (x : Setup). x.latches) (c.config-2.ensures.given ∙ c.config.ensures) in
     sym (refusal_by s c.args.latch requestor mode c.args.form t.number t.log true true true
     (lt-ltb c.args.latch s.latches (subst (λ n. c.args.latch < n) latches c.if-latch-config.false))
-    (is_so (posts_own_ecb s t.number (Obtain c.args.latch requestor mode c.args.form))
+    (not-false (posts_own_ecb s t.number (Obtain c.args.latch requestor mode c.args.form))
     (sym (c.posts_others_block.ensures c.args.latch requestor mode) ∙ c.if-posts_others_block.false))
-    (is_so (keeps_quotas s (kept_of t.number t.log).requests c.args.form)
+    (not-false (keeps_quotas s (kept_of t.number t.log).requests c.args.form)
     (sym c.is_over_quota.ensures.quotas ∙ c.if-is_over_quota.false)))

@@ -1,7 +1,7 @@
 use Rattle.std.proofs.Common.{◌≡◌, ◌<◌, [], length, get_or, sym, ap, ◌∙◌, subst}
 use Rattle.mv_runscript.specs.Seats.{HasWorked}
-use Rattle.mv_runscript.proofs.Seats.{given_back}
 use Rattle.mv_runscript.proofs.seat.worked.Goals as goal
+use Rattle.mv_wait.proofs.Parts.{given_back}
 
 pub returns-clause-worked : goal.returns-clause-worked
 returns-clause-worked g c k d lt =

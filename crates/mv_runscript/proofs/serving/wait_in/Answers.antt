@@ -2,9 +2,9 @@ use Rattle.std.proofs.Common.{◌≡◌, length, map, ap, ◌∙◌}
 use Rattle.mv_script.specs.declared.answer.Answer.TheVariants as answer
 use Rattle.mv_script.specs.Answered.{done_or, slot_with}
 use Rattle.mv_wait.specs.Answers.{wait_answer}
-use Rattle.mv_runscript.proofs.Seats.{given_back}
 use Rattle.mv_runscript.proofs.Served.{served_with}
 use Rattle.mv_runscript.proofs.serving.wait_in.Goals as goal
+use Rattle.mv_wait.proofs.Parts.{given_back}
 
 pub returns : goal.returns
 returns g c =

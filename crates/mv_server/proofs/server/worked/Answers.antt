@@ -1,8 +1,8 @@
 use Rattle.std.proofs.Common.{◌≡◌, ◌+◌, ◌<◌, length, get_or, sym, ap, ◌∙◌, subst, arith}
 use Rattle.mv_server.specs.Right.{IsBack}
 use Rattle.mv_board.specs.Faces.{IsFresh}
-use Rattle.mv_server.proofs.Closing.{given_back, fresh_at}
 use Rattle.mv_server.proofs.server.worked.Goals as goal
+use Rattle.mv_wait.proofs.Parts.{given_back, fresh_at}
 
 pub work_all-requires-clause-fresh : goal.work_all-requires-clause-fresh
 work_all-requires-clause-fresh g c κs within k d lt =

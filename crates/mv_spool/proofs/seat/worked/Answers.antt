@@ -1,8 +1,8 @@
 use Rattle.std.proofs.Common.{◌≡◌, ◌<◌, length, get_or, sym, ap, ◌∙◌, subst}
 use Rattle.mv_spool.specs.Parts.{jobs_of}
 use Rattle.mv_spool.specs.Seats.{HasWorked}
-use Rattle.mv_spool.proofs.Seats.{given_back}
 use Rattle.mv_spool.proofs.seat.worked.Goals as goal
+use Rattle.mv_wait.proofs.Parts.{given_back}
 
 pub returns-clause-worked : goal.returns-clause-worked
 returns-clause-worked g c k d lt =

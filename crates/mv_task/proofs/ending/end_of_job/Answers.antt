@@ -1,5 +1,4 @@
-use Rattle.std.proofs.Common.{◌≡◌, ◌+◌, ◌≤◌}
-use Rattle.mv_machine.specs.Reach.{reach}
+use Rattle.std.proofs.Common.{◌≡◌}
 use Rattle.mv_latchset.specs.Answers.{counts_of}
 use Rattle.mv_wait.specs.Answers.{post_answer}
 use Rattle.mv_task.proofs.Ends.{job_served}

@@ -1,11 +1,10 @@
-use Rattle.std.proofs.Common.{◌≡◌, true, refl, sym, ap, ◌∙◌, subst}
+use Rattle.std.proofs.Common.{sym, ◌∙◌, subst}
 use Rattle.mv_element.specs.declared.operation.ElementOp.TheVariants.{Close}
 use Rattle.mv_element.specs.declared.operation.ElementReply.TheVariants.{Closed}
 use Rattle.mv_machine.specs.declared.entry.Object.TheVariants.{Element}
 use Rattle.mv_machine.specs.declared.entry.Op.TheVariants as op_on
 use Rattle.mv_machine.specs.declared.entry.Reply.TheVariants as reply_of
 use Rattle.mv_board.specs.Faces.{Happened}
-use Rattle.mv_task.specs.Ending.{keeps}
 use Rattle.mv_task.proofs.Closings.{closes_used, own_token, others_stay}
 use Rattle.mv_task.proofs.ending.give_back.Goals as goal
 

@@ -1,4 +1,4 @@
-use Rattle.std.proofs.Common.{◌≡◌, ◌+◌, ◌*◌, ◌/◌, ◌≤◌, List, ℕ, length, sym, ap, ◌∙◌, subst}
+use Rattle.std.proofs.Common.{◌+◌, ◌*◌, ◌/◌, ◌≤◌, List, ℕ, length, sym, ap, ◌∙◌, subst}
 use Rattle.mv_machine.specs.Setup.{Setup}
 use Rattle.mv_calls.specs.Program.{Wrong}
 use Rattle.mv_pause.proofs.Lowest.{own_owner}

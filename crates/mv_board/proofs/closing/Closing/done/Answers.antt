@@ -1,11 +1,9 @@
-use Rattle.std.proofs.Common.{◌≡◌, ◌≤◌, Bool, false, List, [], ◌∷◌, length, map, get_or, set, refl, sym, ap, ◌∙◌, subst, arith}
+use Rattle.std.proofs.Common.{◌≤◌, List, length, sym, ◌∙◌, subst}
 use Rattle.std.specs.List.{AllByRecursion}
 use Rattle.mv_machine.specs.declared.entry.Entry.{Entry}
 use Rattle.mv_machine.specs.Limits.{events_limit}
-use Rattle.mv_machine.specs.Merge.{merged}
 use Rattle.mv_machine.specs.Parts.{KeepsBudgets}
-use Rattle.mv_machine.specs.Setup.{Setup}
-use Rattle.mv_board.specs.Faces.{IsPartIn, log_of}
+use Rattle.mv_board.specs.Faces.{IsPartIn}
 use Rattle.mv_board.proofs.Closings.{one_history, merged_are, ended, few}
 use Rattle.mv_board.proofs.closing.Closing.done.Goals as goal
 

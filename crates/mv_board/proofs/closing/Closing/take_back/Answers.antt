@@ -1,9 +1,7 @@
-use Rattle.std.proofs.Common.{◌≡◌, ◌+◌, ◌≤◌, ◌++◌, ◌∷◌, List, [], length, map, None, Some, refl, sym, ap, ◌∙◌, subst, arith}
-use Rattle.std.proofs.lemmas.List.{length-map}
+use Rattle.std.proofs.Common.{◌≡◌, ◌++◌, ◌∷◌, List, [], length, map, None, Some, sym, ap, ◌∙◌, subst, arith}
 use Rattle.atomic_table.specs.Table.{Me}
 use Rattle.mv_machine.specs.declared.entry.Entry.{Entry}
 use Rattle.mv_board.specs.declared.item.Item.{Item}
-use Rattle.mv_board.specs.declared.view.Part.{Part}
 use Rattle.mv_board.specs.declared.view.View.{View}
 use Rattle.mv_board.specs.Closing.{IsSeatAt, held}
 use Rattle.mv_board.specs.Faces.{CallerFace, ClosingFace, AreNumbered, part_of, log_of}

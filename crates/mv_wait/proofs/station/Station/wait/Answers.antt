@@ -15,8 +15,6 @@ use Rattle.mv_wait.proofs.Parts.{still_of, same_view, plain_still}
 use Rattle.mv_wait.proofs.Runs.{same_then, went_log}
 use Rattle.mv_wait.proofs.Unrefusing.{accepted_wait, accepted_own, both_own, wait_served, wait_is_refused}
 use Rattle.mv_wait.proofs.station.Station.wait.Goals as goal
-use Rattle.mv_wait.proofs.station.Station.wait.Goals.{In-Some, In_default, After-arm_all-arg-1, After-arm_all, After-await_complete}
-use Rattle.mv_wait.proofs.station.Station.wait.Goals.{After-out-1}
 
 pub returns-in-Some-clause-served : goal.returns-in-Some-clause-served
 returns-in-Some-clause-served g c =
