@@ -1,5 +1,5 @@
 -- The fields of a text, parted by one or more spaces.
-use Rattle.std.specs.Prelude.{ℕ, Bool, true, List, [], ◌∷◌, Option, Some, None, if◌then◌else◌}
+use Rattle.std.specs.Prelude.{ℕ, Bool, true, ◌||◌, not, List, [], ◌∷◌, Option, Some, None, if◌then◌else◌}
 use Rattle.std.specs.List.{onto_first}
 use Rattle.mv_line.specs.Byte.{is_space}
 
@@ -15,6 +15,11 @@ fields_of (b ∷ bs) =
     if is_space b then fields_of bs
     else if ends_field bs then (b ∷ []) ∷ fields_of bs
     else onto_first b (fields_of bs)
+
+-- what stands behind the first field of a text, from the space that ends it on; nothing where there is no field
+abbrev pub behind_first_field : List ℕ → List ℕ
+behind_first_field [] = []
+behind_first_field (b ∷ bs) = if is_space b || not (ends_field bs) then behind_first_field bs else bs
 
 -- a field, and the fields behind it; an empty one is none
 abbrev pub starts_fields : List ℕ → List (List ℕ) → List (List ℕ)

@@ -9,6 +9,11 @@ abbrev pub lines_of : List ℕ → List (List ℕ)
 lines_of [] = []
 lines_of (b ∷ bs) = if b == 10 then [] ∷ lines_of bs else onto_first b (lines_of bs)
 
+-- what stands behind the first line of a text and its LF; nothing where there is no LF
+abbrev pub behind_first_line : List ℕ → List ℕ
+behind_first_line [] = []
+behind_first_line (b ∷ bs) = if b == 10 then bs else behind_first_line bs
+
 -- a line without the CR that stands right at its end, if one does
 abbrev pub without_cr : List ℕ → List ℕ
 without_cr line = if slice_index line (length line - 1) == 13 then take (length line - 1) line else line

@@ -2,14 +2,15 @@
 
 ghost use Rattle.std.specs.Prelude.{◌≡◌, List, ℕ, option_map};
 ghost use Rattle.std.specs.Borrow.{Bor};
-ghost use Rattle.mv_line.specs.Field.{fields_of, starts_fields, one_of, two_of};
+ghost use Rattle.mv_line.specs.Field.{fields_of, behind_first_field, starts_fields, one_of, two_of};
 
 use crate::byte::end_at;
 use crate::line::without_first_spaces;
 
 /// The first field of a text and what follows it; an empty field where there is none.
 pub fn split_field(text: &[u8]) -> (&[u8], &[u8])
-    ensures { fields_of text.now ≡ starts_fields result.0.now (fields_of result.1.now) }
+    ensures fields { fields_of text.now ≡ starts_fields result.0.now (fields_of result.1.now) }
+    ensures behind { result.1.now ≡ behind_first_field text.now }
 {
     let text = without_first_spaces(text);
     text.split_at(end_at(text, b' '))

@@ -1,7 +1,7 @@
 //! Lines of a text, and what of a line counts (`specs/Line.antt`).
 
 ghost use Rattle.std.specs.Prelude.{◌≡◌, ◌∷◌, ◌<◌, length};
-ghost use Rattle.mv_line.specs.Line.{lines_of, without_cr as text_without_cr, without_first_spaces as from_first_field};
+ghost use Rattle.mv_line.specs.Line.{lines_of, behind_first_line, without_cr as text_without_cr, without_first_spaces as from_first_field};
 ghost use Rattle.mv_line.specs.Line.{without_last_spaces as to_last_field, begins_with_space as begins_so};
 ghost use Rattle.mv_line.specs.Line.{shown as what_counts, is_foreign as has_foreign, is_too_long as exceeds_card};
 
@@ -14,6 +14,7 @@ pub const LONGEST_LINE: usize = 80;
 pub fn split_line(text: &[u8]) -> (&[u8], &[u8])
     requires { 0 < length text.now }
     ensures lines { lines_of text.now ≡ result.0.now ∷ lines_of result.1.now }
+    ensures behind { result.1.now ≡ behind_first_line text.now }
     ensures shorter { length result.1.now < length text.now }
 {
     let end = end_at(text, b'\n');
