@@ -1,5 +1,5 @@
 -- Worked rows of the definitions, by computing them.
-use Rattle.std.proofs.Common.{◌≡◌, ℕ, false, List, [], ◌∷◌, ◌++◌, take, drop, Some, None, refl}
+use Rattle.std.proofs.Common.{◌≡◌, ℕ, ◌≤◌, false, List, [], ◌∷◌, ◌++◌, take, drop, Some, None, refl, arith}
 use Rattle.mv_ecb.specs.Word.{Zero, Complete}
 use Rattle.mv_element.specs.Element.{prereleased}
 use Rattle.mv_machine.specs.declared.packing.WordState.TheVariants as word_state
@@ -10,7 +10,9 @@ use Rattle.mv_ecb.specs.declared.operation.EcbOp.{EcbOp}
 use Rattle.mv_ecb.specs.declared.operation.EcbOp.TheVariants as ecb_op
 use Rattle.mv_ecb.specs.declared.operation.EcbReply.{EcbReply}
 use Rattle.mv_ecb.specs.declared.operation.EcbReply.TheVariants as ecb_reply
+use Rattle.mv_element.specs.declared.operation.ElementOp.{ElementOp}
 use Rattle.mv_element.specs.declared.operation.ElementOp.TheVariants as element_op
+use Rattle.mv_element.specs.declared.operation.ElementReply.{ElementReply}
 use Rattle.mv_element.specs.declared.operation.ElementReply.TheVariants as element_reply
 use Rattle.mv_latch.specs.declared.operation.LatchOp.TheVariants.{Obtain, Release}
 use Rattle.mv_latch.specs.declared.operation.LatchReply.TheVariants.{Granted, Queued, Released}
@@ -24,8 +26,10 @@ use Rattle.mv_machine.specs.declared.entry.Reply.TheVariants as reply_of
 use Rattle.mv_machine.specs.declared.entry.VolumeOp.TheVariants.{Read, Write}
 use Rattle.mv_machine.specs.declared.entry.VolumeReply.TheVariants.{Value, Stored}
 use Rattle.mv_machine.specs.Check.{refusal_of}
+use Rattle.mv_machine.specs.Elements.{ElementEvent, element_events, givens, releases}
 use Rattle.mv_machine.specs.Legal.{Legal}
 use Rattle.mv_machine.specs.OnePost.{ecb_events, taken}
+use Rattle.mv_machine.specs.Orderly.{IsOrderly, IsExact}
 use Rattle.mv_machine.specs.Setup.{Setup}
 use Rattle.mv_machine.specs.System.{opening, answer, after_step}
 use Rattle.mv_machine.specs.Told.{told}
@@ -154,6 +158,52 @@ journal_is_legal = (
 told_of : told two 0 journal ≡ [] ∷ (record { caller = 1; id = 1; ecb = None; code = 0 } ∷ []) ∷ []
 unfolding journal
 told_of = refl
+
+-- ---- what the words on histories refuse
+
+abbrev on_element : ℕ → ElementOp → ElementReply → Entry
+on_element p op r = record { caller = 1; object = Element 1; place = p; op = op_on.Element op; reply = reply_of.Element r }
+
+abbrev event : ℕ → ElementOp → ElementReply → ElementEvent
+event p op r = record { caller = 1; place = p; op = op; reply = r }
+
+-- a release whose element is closed before a pause: its code reaches none
+abbrev lost_code : List Entry
+lost_code = on_element 0 element_op.Open (element_reply.Opened 0) ∷ on_element 1 (element_op.Release 0 5) element_reply.Early
+    ∷ on_element 2 (element_op.Close 0) element_reply.Closed ∷ []
+
+lost_code_is_legal : Legal two lost_code
+lost_code_is_legal = (
+  record { admits = refl; place = refl; reply = refl },
+  (record { admits = refl; place = refl; reply = refl }, (record { admits = refl; place = refl; reply = refl }, tt)),
+)
+
+lost_code_is_not_exact : ¬ IsExact lost_code
+lost_code_is_not_exact h =
+    let events = element_events 1 lost_code in
+    let released = event 1 (element_op.Release 0 5) element_reply.Early in
+    let given : givens 0 events ≡ 5 ∷ [] = h 1 0 5 (take 1 events) (drop 2 events) released refl refl in
+    absurd cc
+
+-- a pause that was given a code which nobody released
+abbrev unreleased : List Entry
+unreleased = on_element 0 element_op.Open (element_reply.Opened 0) ∷ on_element 1 (element_op.Pause 0) element_reply.Parked
+    ∷ on_element 2 (element_op.Resume 0) (element_reply.Given 5 1) ∷ []
+
+unreleased_is_not_orderly : ¬ IsOrderly two unreleased
+unreleased_is_not_orderly h =
+    let before = take 2 (element_events 1 unreleased) in
+    let resumed = event 2 (element_op.Resume 0) (element_reply.Given 5 1) in
+    let released : releases 0 before ≡ 5 ∷ [] = ((h.elements 1).reached 0 5 before [] resumed refl refl).0 in
+    absurd cc
+
+-- one release whose code two pauses were given
+abbrev given_twice : List Entry
+given_twice = on_element 0 element_op.Open (element_reply.Opened 0) ∷ on_element 1 (element_op.Release 0 5) element_reply.Early
+    ∷ on_element 2 (element_op.Pause 0) (element_reply.Given 5 1) ∷ on_element 3 (element_op.Pause 0) (element_reply.Given 5 1) ∷ []
+
+given_twice_is_not_orderly : ¬ IsOrderly two given_twice
+given_twice_is_not_orderly h = let few : 2 ≤ 1 = (h.elements 1).once 0 in omega arith
 
 -- ---- words
 
