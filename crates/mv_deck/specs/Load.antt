@@ -7,6 +7,7 @@ use Rattle.mv_deck.specs.declared.deck.Step.{Step}
 use Rattle.mv_deck.specs.declared.deck.Step.TheVariants.{Print, Use, Free, Count, Scan, Abend}
 use Rattle.mv_deck.specs.Deck.{JobData}
 use Rattle.mv_deck.specs.EndCode.{abended}
+use Rattle.mv_deck.specs.Operand.{volume_count}
 
 -- the most jobs of a load
 abbrev pub most_jobs : ℕ
@@ -16,7 +17,7 @@ most_jobs = 2000
 
 -- the volume that it counts in, and the latch that guards this
 abbrev pub volume_of : ℕ → ℕ
-volume_of i = i % 8
+volume_of i = i % volume_count
 
 -- what it counts
 abbrev pub counted_by : ℕ → ℕ

@@ -8,19 +8,22 @@ ghost use Rattle.mv_deck.specs.Held.{HasNumberInRange};
 ghost use Rattle.mv_deck.specs.Operand.{highest_latch};
 
 use crate::Step;
+use crate::operand::VOLUME_COUNT;
 use mv_latch::Mode;
 
 /// How each of the eight latches is held, if it is.
 #[derive(Clone, Copy, Drop)]
 pub(crate) struct Held {
-    modes: [Option<Mode>; 8],
+    modes: [Option<Mode>; VOLUME_COUNT],
 }
 
 impl Held {
     pub(crate) fn none() -> Self
         ensures { result.modes ≡ map (held []) latches }
     {
-        Held { modes: [None; 8] }
+        Held {
+            modes: [None; VOLUME_COUNT],
+        }
     }
 
     /// Whether a step uses a latch that is not above all that are held.

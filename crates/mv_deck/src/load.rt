@@ -5,6 +5,7 @@ ghost use Rattle.mv_deck.specs.Load.{most_jobs, volume_of, counted_by, digit_of,
 ghost use Rattle.mv_deck.specs.Load.{after_text, job_line, count_line, scan_lines, print_line, last_line, job_lines, ended};
 ghost use Rattle.mv_deck.specs.Load.{load_text};
 
+use crate::operand::VOLUME_COUNT;
 use itoa::Buffer;
 use mv_io::NoMemory;
 use std::alloc::Global;
@@ -54,7 +55,7 @@ fn push_job(out: &mut Vec<u8>, job: u32) -> Result<(), NoMemory>
 fn volume(job: u32) -> u32
     ensures { result ≡ volume_of job }
 {
-    job % 8
+    job % VOLUME_COUNT as u32
 }
 
 fn counted(job: u32) -> u32

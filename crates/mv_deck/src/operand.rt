@@ -10,14 +10,17 @@ use crate::end_code::{HIGHEST_CODE, LOWEST_ABEND, USER_CODES};
 use mv_latch::Mode;
 use mv_line::{digit, number_within};
 
+/// How many volumes there are, each guarded by the latch of its number.
+pub const VOLUME_COUNT: usize = 8;
+
 // The highest number of a latch, and of the volume that it guards.
-const HIGHEST_LATCH: u32 = 7;
+const HIGHEST_LATCH: u32 = VOLUME_COUNT as u32 - 1;
 
 // The highest amount of a COUNT.
 const HIGHEST_AMOUNT: u32 = 9999;
 
 /// How many jobs a job may wait for.
-pub(crate) const MOST_AFTER: usize = 8;
+pub const MOST_AFTER: usize = 8;
 
 fn is_name_start(byte: u8) -> bool
     ensures { result ≡ starts_name byte }

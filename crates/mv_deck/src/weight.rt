@@ -8,6 +8,9 @@ use crate::Step;
 /// A deck of more than this weight is not run.
 pub(crate) const HEAVIEST: u64 = 524_287;
 
+/// How many initiators may run a deck.
+pub const MOST_INITIATORS: u32 = 8;
+
 /// The events of a step at most.
 pub(crate) fn step_events(step: &Step) -> u64
     ensures events { result ≡ events_of_step step.now }

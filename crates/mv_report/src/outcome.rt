@@ -9,12 +9,9 @@ ghost use Rattle.mv_report.specs.Outcome.{lines, added_by, totals, held_of};
 
 use crate::lines::Lines;
 use itoa::Buffer;
-use mv_deck::{After, Deck, Job, NOT_RUN, Step, Text};
+use mv_deck::{After, Deck, Job, NOT_RUN, Step, Text, VOLUME_COUNT};
 use mv_io::NoMemory;
 use std::alloc::Global;
-
-/// How many volumes there are.
-const VOLUMES: usize = 8;
 
 /// What a deck comes to.
 #[derive(Debug, Drop)]
@@ -24,7 +21,7 @@ pub struct Outcome {
     /// The lines of each job. One that is not run has none.
     pub lines: Vec<Lines>,
     /// What each volume holds at the end.
-    pub volumes: [u32; VOLUMES],
+    pub volumes: [u32; VOLUME_COUNT],
 }
 
 /// What a deck comes to, job after job. A volume whose total is above `u32::MAX` holds `u32::MAX`; no deck that can be run has
@@ -47,7 +44,7 @@ pub fn outcome_of(alloc: Global, deck: &Deck) -> Result<Outcome, NoMemory>
 {
     let ends = ends_of(alloc, deck)?;
     let mut lines = Vec::with_capacity(alloc, deck.jobs.len())?;
-    let mut volumes = [0; VOLUMES];
+    let mut volumes = [0; VOLUME_COUNT];
     for (i, job) in deck.jobs.iter().enumerate() {
         let steps = steps_with(ends[i], &job.steps);
         lines.push(lines_of(alloc, steps)?)?;
@@ -170,7 +167,7 @@ fn lines_of(alloc: Global, steps: &[Step]) -> Result<Lines, NoMemory>
 }
 
 // Adds to each volume what some steps add to it.
-fn add_counts(volumes: &mut [u32; VOLUMES], steps: &[Step])
+fn add_counts(volumes: &mut [u32; VOLUME_COUNT], steps: &[Step])
     ensures { (volume : ℕ) → volume < volume_count
         → slice_index volumes.new volume ≡ held_of (slice_index volumes.old volume + added_by volume steps.now) }
 {
@@ -178,7 +175,7 @@ fn add_counts(volumes: &mut [u32; VOLUMES], steps: &[Step])
         match step {
             Step::Count(volume, amount) => {
                 let volume = *volume as usize;
-                if volume < VOLUMES {
+                if volume < VOLUME_COUNT {
                     volumes[volume] = volumes[volume].saturating_add(*amount);
                 }
             }
