@@ -1,21 +1,18 @@
 -- What a run says of the jobs' ends: each is posted once to each of the job's three blocks, and whoever waits for it finds it.
-use Rattle.std.specs.Prelude.{◌≡◌, ℕ, ◌+◌, ◌<◌, ◌==◌, Bool, List, [], ◌∷◌, length, map, Option, Some, None, ◌⊎◌, if◌then◌else◌}
+use Rattle.std.specs.Prelude.{◌≡◌, ℕ, ◌+◌, ◌<◌, ◌==◌, List, [], ◌∷◌, length, map, Option, Some, None, ◌⊎◌, if◌then◌else◌}
 use Rattle.std.specs.List.{AllByRecursion, filter_map}
 use Rattle.mv_ecb.specs.declared.operation.EcbOp.TheVariants as ecb_op
 use Rattle.mv_ecb.specs.declared.operation.EcbReply.TheVariants as ecb_reply
-use Rattle.mv_element.specs.declared.operation.ElementOp.TheVariants as element_op
 use Rattle.mv_machine.specs.declared.entry.Entry.{Entry}
 use Rattle.mv_machine.specs.declared.entry.Object.{Object}
-use Rattle.mv_machine.specs.declared.entry.Object.TheVariants.{Ecb, Element}
+use Rattle.mv_machine.specs.declared.entry.Object.TheVariants.{Ecb}
 use Rattle.mv_machine.specs.declared.entry.Op.{Op}
 use Rattle.mv_machine.specs.declared.entry.Op.TheVariants as op_on
 use Rattle.mv_machine.specs.declared.entry.Reply.{Reply}
 use Rattle.mv_machine.specs.declared.entry.Reply.TheVariants as reply_of
 use Rattle.mv_deck.specs.Deck.{JobData}
 use Rattle.mv_plan.specs.Jobs.{end_of}
-use Rattle.mv_deck.specs.EndCode.{not_run}
 use Rattle.mv_plan.specs.SpoolSetup.{done, end_for_scheduler, end_for_writer}
-use Rattle.mv_plan.specs.SpoolTasks.{code_of}
 
 -- a post of a block: its code, and what it was answered
 abbrev pub post_in : ℕ → Object → Op → Reply → Option (ℕ × Reply)
@@ -43,13 +40,3 @@ pub record EndsArePosted (deck : List JobData) (es : List Entry) : Type 0 where
   pub scheduler : (j : ℕ) → j < length deck → post_codes (end_for_scheduler (length deck) j) es ≡ end_of deck j ∷ []
   pub writer : (j : ℕ) → j < length deck → post_codes (end_for_writer (length deck) j) es ≡ end_of deck j ∷ []
   pub found : AllByRecursion (FindsEnd deck) es
-
--- a release of a job's code says that the job is not to be run exactly where its end is the not-run end
-abbrev pub HasRightMark : List JobData → Entry → Type 0
-HasRightMark deck e = (m g j : ℕ) (skipped : Bool) → j < length deck → e.object ≡ Element m
-    → e.op ≡ op_on.Element (element_op.Release g (code_of j skipped)) → skipped ≡ (end_of deck j == not_run)
-
--- no post finds its block complete
-abbrev pub PostsFirst : Entry → Type 0
-PostsFirst e = (b d code : ℕ) → e.object ≡ Ecb b → e.op ≡ op_on.Ecb (ecb_op.Post d)
-    → e.reply ≡ reply_of.Ecb (ecb_reply.Already code) → ⊥

@@ -1,6 +1,6 @@
 -- What the entries so far say of the blocks with the jobs' ends: the codes that were posted are those that the blocks hold.
-use Rattle.std.proofs.Common.{◌≡◌, ℕ, ◌+◌, ◌<◌, if◌then◌else◌, List, [], ◌∷◌, ◌++◌, length, map, Some, None, ◌⊎◌, inl, inr, refl, sym, ap}
-use Rattle.std.proofs.Common.{◌∙◌, subst, append-nil, arith}
+use Rattle.std.proofs.Common.{◌≡◌, ℕ, ◌+◌, ◌<◌, ◌==◌, if◌then◌else◌, Bool, List, [], ◌∷◌, ◌++◌, length, map, Some, None, ◌⊎◌, inl, inr}
+use Rattle.std.proofs.Common.{refl, sym, ap, ◌∙◌, subst, append-nil, arith}
 use Rattle.std.specs.List.{AllByRecursion}
 use Rattle.std.proofs.lemmas.Bool.{cases_eq, eq-eqb, ne_eqb}
 use Rattle.std.proofs.lemmas.List.Elements.{filter_map-append}
@@ -9,6 +9,7 @@ use Rattle.mv_ecb.specs.declared.operation.EcbOp.TheVariants as ecb_op
 use Rattle.mv_ecb.specs.declared.operation.EcbReply.TheVariants as ecb_reply
 use Rattle.mv_ecb.specs.Table.{ecb_step}
 use Rattle.mv_ecb.specs.Word.{EcbState, Zero, Waiting, Extended, Complete}
+use Rattle.mv_element.specs.declared.operation.ElementOp.TheVariants as element_op
 use Rattle.mv_machine.specs.declared.entry.Entry.{Entry}
 use Rattle.mv_machine.specs.declared.entry.Object.{Object}
 use Rattle.mv_machine.specs.declared.entry.Object.TheVariants.{Ecb, Element, Volume, Latches}
@@ -19,8 +20,9 @@ use Rattle.mv_machine.specs.declared.entry.Reply.TheVariants as reply_of
 use Rattle.mv_machine.specs.Legal.{IsNext}
 use Rattle.mv_machine.specs.Setup.{Setup}
 use Rattle.mv_machine.specs.System.{System, moved, opening}
-use Rattle.mv_plan.specs.PostingEnds.{post_in, posts, post_codes, FindsEnd, HasRightMark, PostsFirst}
+use Rattle.mv_plan.specs.PostingEnds.{post_in, posts, post_codes, FindsEnd}
 use Rattle.mv_deck.specs.Deck.{JobData}
+use Rattle.mv_deck.specs.EndCode.{not_run}
 use Rattle.mv_plan.specs.Jobs.{end_of}
 use Rattle.mv_plan.proofs.deck.Plans.{IsPlanned}
 use Rattle.mv_plan.specs.SpoolSetup.{done, end_for_scheduler, end_for_writer}
@@ -37,6 +39,16 @@ use Rattle.mv_machine.proofs.Lists.{all_push}
 abbrev pub code_list : EcbState → List ℕ
 code_list (Complete code) = code ∷ []
 code_list v = []
+
+-- a release of a job's code says that the job is not to be run exactly where its end is the not-run end
+abbrev pub HasRightMark : List JobData → Entry → Type 0
+HasRightMark deck e = (m g j : ℕ) (skipped : Bool) → j < length deck → e.object ≡ Element m
+    → e.op ≡ op_on.Element (element_op.Release g (code_of j skipped)) → skipped ≡ (end_of deck j == not_run)
+
+-- no post finds its block complete
+abbrev pub PostsFirst : Entry → Type 0
+PostsFirst e = (b d code : ℕ) → e.object ≡ Ecb b → e.op ≡ op_on.Ecb (ecb_op.Post d)
+    → e.reply ≡ reply_of.Ecb (ecb_reply.Already code) → ⊥
 
 pub record Traces (deck : List JobData) (s : System) (past : List Entry) : Type 0 where
   -- each block with a job's end was posted exactly where it is complete, and with that code

@@ -10,7 +10,7 @@ use Rattle.mv_machine.specs.declared.entry.Reply.TheVariants as reply_of
 use Rattle.mv_machine.specs.Legal.{IsNext, next, after}
 use Rattle.mv_machine.specs.Setup.{Setup}
 use Rattle.mv_machine.specs.System.{System, opening}
-use Rattle.mv_plan.specs.PostingEnds.{posts, post_codes, EndsArePosted, HasRightMark}
+use Rattle.mv_plan.specs.PostingEnds.{posts, post_codes, EndsArePosted}
 use Rattle.mv_deck.specs.Deck.{JobData}
 use Rattle.mv_plan.specs.Jobs.{end_of}
 use Rattle.mv_plan.proofs.deck.Plans.{IsPlanned}
@@ -30,7 +30,7 @@ use Rattle.mv_plan.proofs.deck.Setup.{Facts, facts}
 use Rattle.mv_plan.proofs.points.Programs.{program_at, writer_program}
 use Rattle.mv_plan.proofs.points.Points.{Point, At, Finished, SchedulerAt, InitiatorAt, Offering}
 use Rattle.mv_plan.proofs.ends.Posted.{Posted, posted_keeps, posted_first}
-use Rattle.mv_plan.proofs.ends.Traces.{Traces, code_list, traces_first}
+use Rattle.mv_plan.proofs.ends.Traces.{HasRightMark, Traces, code_list, traces_first}
 use Rattle.mv_plan.proofs.walks.Histories.{Stood, stood, AreFinished, run_finished}
 use Rattle.mv_plan.proofs.places.Moments.{Moment, walk_moments}
 use Rattle.mv_plan.proofs.walks.NoneLost.{NoneLost, none_lost_at_end}

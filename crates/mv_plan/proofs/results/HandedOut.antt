@@ -21,7 +21,7 @@ use Rattle.mv_machine.specs.declared.entry.Object.TheVariants.{Ecb, Element, Vol
 use Rattle.mv_machine.specs.declared.entry.Op.{Op}
 use Rattle.mv_machine.specs.Legal.{next, LegalFrom}
 use Rattle.mv_machine.specs.Setup.{Setup}
-use Rattle.mv_plan.specs.PostingEnds.{HasRightMark}
+use Rattle.mv_plan.proofs.ends.Traces.{HasRightMark}
 use Rattle.mv_plan.proofs.volumes.GivenCodes.{with_code}
 use Rattle.mv_element.specs.declared.operation.ElementOp.TheVariants as element_op
 use Rattle.mv_machine.specs.declared.entry.Op.TheVariants as op_on
