@@ -8,6 +8,7 @@ use Rattle.mv_machine.specs.declared.entry.Object.TheVariants.{Ecb}
 use Rattle.mv_machine.specs.declared.entry.Op.{Op}
 use Rattle.mv_machine.specs.declared.entry.Op.TheVariants as op_on
 use Rattle.mv_machine.specs.System.{System}
+use Rattle.mv_deck.specs.Operand.{volume_count}
 
 -- the job, of n, and its end, where an event is the POST of a job's done block
 abbrev pub told_end : ℕ → Object → Op → Option (ℕ × ℕ)
@@ -30,4 +31,4 @@ told_ends n es = told_from n (replicate n 0) es
 
 -- the numbers of the volumes
 abbrev pub numbers : System → List ℕ
-numbers s = map (λ v. (s.volume v).state) (range_with_len 0 8)
+numbers s = map (λ v. (s.volume v).state) (range_with_len 0 volume_count)

@@ -7,6 +7,10 @@ use Rattle.mv_deck.specs.Deck.{JobData}
 use Rattle.mv_deck.specs.Operand.{volume_count}
 use Rattle.mv_deck.specs.Weight.{after_parts, all_events}
 
+-- how many jobs the numbers of blocks are made for. A deck that can be run has fewer, by its weight
+abbrev pub jobs_limit : ℕ
+jobs_limit = 65535
+
 -- the blocks, where there are n jobs: a job was entered
 abbrev pub entered : ℕ → ℕ
 entered j = j
@@ -71,7 +75,7 @@ spool_setup deck initiators = record {
   elements_per_caller = 1;
   volumes = volume_count;
   latches = volume_count;
-  quota = 8;
+  quota = volume_count;
   posted_quota = 0;
   budgets = task_budgets deck initiators;
   owners = block_owners (length deck) initiators;

@@ -1,7 +1,7 @@
 //! What a run came to, made of its closed history: the ends that it tells and the numbers that its volumes hold, in the words of
 //! `specs/Closing.antt`. Of a run they are the ends and the totals of its deck.
 
-ghost use Rattle.std.specs.Prelude.{◌≡◌, ◌<◌, ◌≤◌, ◌^◌, ℕ, IfOk, option_map};
+ghost use Rattle.std.specs.Prelude.{◌≡◌, ◌<◌, ◌≤◌, ℕ, IfOk, option_map};
 ghost use Rattle.mv_deck.specs.Deck.{deck_data};
 ghost use Rattle.mv_deck.specs.Operand.{volume_count};
 ghost use Rattle.mv_deck.specs.Sound.{IsSound};
@@ -12,8 +12,7 @@ ghost use Rattle.mv_plan.specs.SpoolRun.{IsRun};
 ghost use Rattle.mv_plan.specs.SpoolSetup.{spool_setup};
 ghost use Rattle.mv_report.specs.Outcome.{ends as ends_of_deck, lines as lines_of_deck, totals};
 
-use crate::spool_setup::VOLUMES;
-use mv_deck::Deck;
+use mv_deck::{Deck, VOLUME_COUNT};
 use mv_ecb::EcbOp;
 use mv_io::NoMemory;
 use mv_machine::{Entry, Object, Op, State, ValidConfig};
@@ -44,7 +43,6 @@ struct ToldEnd {
 
 // The job whose end an event tells, and the end, where it is the POST of a job's done block.
 fn told_end(entry: &Entry, jobs: u32) -> Option<ToldEnd>
-    requires few { jobs < 2 ^ 28 }
     ensures { option_map (λ told. (told.job, told.end)) result ≡ end_told_by jobs entry.now.object entry.now.op }
 {
     let Object::Ecb(block) = entry.object else {
@@ -53,7 +51,7 @@ fn told_end(entry: &Entry, jobs: u32) -> Option<ToldEnd>
     let Op::Ecb(EcbOp::Post(end)) = entry.op else {
         return None;
     };
-    if block >= jobs && block < 2 * jobs {
+    if block >= jobs && block - jobs < jobs {
         Some(ToldEnd {
             job: block - jobs,
             end,
@@ -70,7 +68,6 @@ fn told_end(entry: &Entry, jobs: u32) -> Option<ToldEnd>
 ///
 /// `NoMemory` where there is no room for the ends.
 pub fn ends_of(alloc: Global, jobs: u32, journal: &[Entry]) -> Result<Vec<u32>, NoMemory>
-    requires few { jobs < 2 ^ 28 }
     ensures ends { IfOk result (λ ends. ends.items ≡ told_ends jobs journal.now) }
 {
     let mut ends = Vec::new(alloc);
@@ -92,8 +89,8 @@ pub fn volumes_of(alloc: Global, state: &State) -> Result<Vec<u32>, NoMemory>
     requires volumes { (volume : ℕ) → volume < volume_count → Exists state.now (Object.Volume volume) }
     ensures numbers { IfOk result (λ volumes. volumes.items ≡ numbers (system_of state.now)) }
 {
-    let mut volumes = Vec::with_capacity(alloc, VOLUMES as usize)?;
-    for volume in 0..VOLUMES {
+    let mut volumes = Vec::with_capacity(alloc, VOLUME_COUNT)?;
+    for volume in 0..VOLUME_COUNT as u32 {
         volumes.push(state.volume(volume))?;
     }
     Ok(volumes)

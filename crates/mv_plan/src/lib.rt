@@ -4,12 +4,17 @@
 
 mod closing;
 mod laws;
+mod numbers;
 mod spool_setup;
 
 pub use closing::{SpoolRun, ends_of, spool_run, volumes_of};
 pub use laws::{
     no_task_goes_wrong, runs_count_alone, runs_hand_out_each_job, runs_keep_the_ends,
     runs_post_each_end, runs_purge_each_job, spool_setups_are_valid, tasks_stay_within_budgets,
+};
+pub use numbers::{
+    FIRST_INITIATOR, READER, SCHEDULER, done, end_for_scheduler, end_for_writer, entered, idle,
+    initiator, writer,
 };
 pub use spool_setup::spool_config;
 

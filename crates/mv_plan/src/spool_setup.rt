@@ -7,21 +7,16 @@ ghost use Rattle.mv_deck.specs.Deck.{job_data, deck_data};
 ghost use Rattle.mv_deck.specs.Sound.{IsSound};
 ghost use Rattle.mv_deck.specs.Weight.{step_events as events_of_step, all_events as events_of_jobs, after_parts as parts_of_jobs};
 ghost use Rattle.mv_deck.specs.Weight.{heaviest, most_initiators, weight};
-ghost use Rattle.mv_plan.specs.SpoolSetup.{spool_setup, task_budgets, block_owners, end_exit};
+ghost use Rattle.mv_plan.specs.SpoolSetup.{jobs_limit, spool_setup, task_budgets, block_owners, end_exit};
 
-use mv_deck::{Deck, Job, Step};
+use crate::numbers::{SCHEDULER, done, end_for_scheduler, end_for_writer, writer};
+use mv_deck::{Deck, Job, Step, VOLUME_COUNT};
 use mv_io::NoMemory;
 use mv_machine::{CheckRefusal, Config, Exit, ValidConfig};
 use std::alloc::Global;
 
-// The scheduler's number. The reader's is 0, and the initiators' follow.
-const SCHEDULER: u32 = 1;
-
 // How many callers there are beside the initiators: the reader, the scheduler and the writer.
 const OTHER_TASKS: u32 = 3;
-
-// How many volumes there are, each with a latch; and how many latches a job may hold at once.
-pub(crate) const VOLUMES: u32 = 8;
 
 // At most how many events a step makes.
 fn step_events(step: &Step) -> u32
@@ -76,7 +71,7 @@ fn after_parts(jobs: &[Job]) -> u32
 // The budgets of the reader, the scheduler, each initiator and the writer.
 fn budgets_of(alloc: Global, deck: &Deck, initiators: u32) -> Result<Vec<u32>, NoMemory>
     requires light { weight (deck_data deck.now) initiators ≤ heaviest }
-    requires some { 1 ≤ initiators }
+    requires initiators { (1 ≤ initiators) × (initiators ≤ most_initiators) }
     ensures { IfOk result (λ budgets. budgets.items ≡ task_budgets (deck_data deck.now) initiators) }
 {
     let jobs = deck.jobs.len() as u32;
@@ -85,19 +80,19 @@ fn budgets_of(alloc: Global, deck: &Deck, initiators: u32) -> Result<Vec<u32>, N
     let mut budgets = Vec::with_capacity(alloc, (initiators + OTHER_TASKS) as usize)?;
     budgets.push(jobs)?;
     budgets.push(5 * jobs + 2 * jobs * initiators + 2 * parts + 4 * initiators)?;
-    budgets.resize(initiators as usize + 2, 5 + 7 * jobs + events)?;
+    budgets.resize(writer(initiators) as usize, 5 + 7 * jobs + events)?;
     budgets.push(2 * jobs)?;
     Ok(budgets)
 }
 
 // The owner of each block.
 fn owners_of(alloc: Global, jobs: u32, initiators: u32) -> Result<Vec<u32>, NoMemory>
-    requires few { jobs < 2 ^ 28 }
+    requires few { jobs ≤ jobs_limit }
     requires initiators { initiators ≤ most_initiators }
     ensures { IfOk result (λ owners. owners.items ≡ block_owners jobs initiators) }
 {
     let count = jobs as usize;
-    let writer = initiators + 2;
+    let writer = writer(initiators);
     let mut owners = Vec::with_capacity(alloc, 4 * count + initiators as usize)?;
     owners.resize(2 * count, SCHEDULER)?;
     for _ in 0..jobs {
@@ -110,15 +105,15 @@ fn owners_of(alloc: Global, jobs: u32, initiators: u32) -> Result<Vec<u32>, NoMe
 
 // The exit of each job's done block.
 fn exits_of(alloc: Global, jobs: u32) -> Result<Vec<Exit>, NoMemory>
-    requires few { jobs < 2 ^ 28 }
+    requires few { jobs ≤ jobs_limit }
     ensures { IfOk result (λ exits. map exit_of exits.items ≡ map (end_exit jobs) (range_with_len 0 jobs)) }
 {
     let mut exits = Vec::with_capacity(alloc, jobs as usize)?;
     for job in 0..jobs {
-        let first = 2 * jobs + 2 * job;
+        let ends = [end_for_scheduler(jobs, job), end_for_writer(jobs, job)];
         exits.push(Exit {
-            source: jobs + job,
-            targets: Vec::from_slice(alloc, &[first, first + 1])?,
+            source: done(jobs, job),
+            targets: Vec::from_slice(alloc, &ends)?,
         })?;
     }
     Ok(exits)
@@ -146,9 +141,10 @@ pub fn spool_config(alloc: Global, deck: &Deck, initiators: u32) -> Result<Valid
     let config = Config {
         callers: initiators + OTHER_TASKS,
         elements_per_caller: 1,
-        volumes: VOLUMES,
-        latches: VOLUMES,
-        quota: VOLUMES,
+        volumes: VOLUME_COUNT as u32,
+        latches: VOLUME_COUNT as u32,
+        // A job has at most one request at each latch.
+        quota: VOLUME_COUNT as u32,
         posted_quota: 0,
         budgets: budgets_of(alloc, deck, initiators)?,
         owners: owners_of(alloc, jobs, initiators)?,

@@ -6,6 +6,7 @@ use Rattle.mv_machine.specs.declared.entry.Entry.{Entry}
 use Rattle.mv_machine.specs.Legal.{after}
 use Rattle.mv_machine.specs.System.{System}
 use Rattle.mv_deck.specs.Deck.{JobData}
+use Rattle.mv_deck.specs.Operand.{volume_count}
 use Rattle.mv_deck.specs.Sound as deck
 use Rattle.mv_report.specs.Outcome.{ends, total, totals}
 use Rattle.mv_plan.specs.Closing.{told_ends, numbers}
@@ -42,4 +43,4 @@ module _ (jobs : List JobData) (initiators : ℕ) (some : 1 ≤ initiators) (sou
   volumes_made s made e same =
       e ∙ ap numbers same
       ∙ same_map (λ v. ((after (spool_setup jobs initiators) es).volume v).state) (total jobs)
-      (are_counted_alone jobs initiators some (planned jobs initiators sound) es run).totals (range_with_len 0 8)
+      (are_counted_alone jobs initiators some (planned jobs initiators sound) es run).totals (range_with_len 0 volume_count)
