@@ -18,6 +18,8 @@ pub mod Lowest
 pub mod Sounds
 -- the law that costs suffice
 pub mod Suffices
+-- the law on what tries answer
+pub mod Tries
 -- rows worked by hand: texts, and runs
 pub mod Rows
 pub mod RunRows

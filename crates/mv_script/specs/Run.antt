@@ -68,6 +68,10 @@ task_answers script moves es k = (past_in (left_in script.setup (task_program sc
 abbrev pub script_answers : ScriptData → Moves → List Entry → List (List Answer)
 script_answers script moves es = map (task_answers script moves es) (range_with_len 0 (length script.tasks))
 
+-- the answer of call i of task k
+abbrev pub answer_at : List (List Answer) → ℕ → ℕ → Option Answer
+answer_at answers k i = option_and_then (λ task. slice_get task i) (slice_get answers k)
+
 -- the word that an answer shows, if another one was met
 abbrev pub word_in : Answer → Option ℕ
 word_in (Moved w) = Some w
@@ -75,4 +79,9 @@ word_in _ = None
 
 -- the words that answers show
 abbrev pub moves_in : List (List Answer) → Moves
-moves_in answers k i = option_and_then word_in (option_and_then (λ task. slice_get task i) (slice_get answers k))
+moves_in answers k i = option_and_then word_in (answer_at answers k i)
+
+-- what a try answers: that another word was met, if one was, and this where the object had the word that it expected
+abbrev pub unless_moved : Option ℕ → Answer → Answer
+unless_moved None a = a
+unless_moved (Some w) a = Moved w

@@ -1,17 +1,24 @@
-//! What the first fault of a text is, by its lines alone; what a text without fault states; and that costs suffice. Clauses cite
-//! `specs/Fault.antt`, `Faults.antt`, `Script.antt`, `Sound.antt` and `Costs.antt`.
+//! What the first fault of a text is, by its lines alone; what a text without fault states; that costs suffice; and what
+//! tries answer. Clauses cite `specs/Fault.antt`, `Faults.antt`, `Script.antt`, `Sound.antt`,
+//! `Costs.antt` and `Run.antt`.
 
-ghost use Rattle.std.specs.Prelude.{◌≡◌, ◌≤◌, ℕ, List, None, MatchOption};
+ghost use Rattle.std.specs.Prelude.{◌≡◌, ◌≤◌, ℕ, List, Some, None, MatchOption, slice_get};
+ghost use Rattle.mv_element.specs.declared.element.Token.{Token};
+ghost use Rattle.mv_machine.specs.declared.entry.Entry.{Entry};
 ghost use Rattle.mv_machine.specs.Setup.{Setup};
 ghost use Rattle.mv_calls.specs.Keeping.{Kept};
 ghost use Rattle.mv_calls.specs.Services.{most_events};
+ghost use Rattle.mv_script.specs.declared.answer.Answer.TheVariants.{Posted, Early};
 ghost use Rattle.mv_script.specs.declared.call.Call.{Call};
+ghost use Rattle.mv_script.specs.declared.call.Call.TheVariants.{TryPost, TryRelease};
 ghost use Rattle.mv_script.specs.declared.fault.ScriptFault.{ScriptFault};
 ghost use Rattle.mv_script.specs.Costs.{Asked, cost, service_of};
 ghost use Rattle.mv_script.specs.Fault.{first_fault};
 ghost use Rattle.mv_script.specs.Faults.{HasFault, IsNoLater};
-ghost use Rattle.mv_script.specs.Script.{script_of};
+ghost use Rattle.mv_script.specs.Run.{IsScriptRun, answer_at, script_answers, unless_moved};
+ghost use Rattle.mv_script.specs.Script.{ScriptData, script_of};
 ghost use Rattle.mv_script.specs.Sound.{IsSound};
+ghost use Rattle.mv_script.specs.Tasks.{Moves, calls_at};
 
 /// The first fault is one that the text has, and no other comes before it by line and then by kind; there is none only
 /// where the text has no fault.
@@ -30,4 +37,15 @@ pub fn scripts_are_sound()
 /// A call needs no more events than it costs, whatever its task keeps of its log and whichever requests its OBTAINs got.
 pub fn costs_suffice()
     ensures { (c : Setup) (kept : Kept) (asked : ℕ → Asked) (d : Call) → most_events c kept (service_of asked d) ≤ cost c d }
+{}
+
+/// In any run of a sound script a TRYPOST posts a block that is zero, and a TRYRELEASE keeps a code for a pause to come, or each
+/// answers the word that was met, which is another one than it expected. Nothing else is answered.
+pub fn tries_are_done_or_moved()
+    ensures posts { (script : ScriptData) (moves : Moves) (es : List Entry) (k i ecb place code : ℕ)
+        → IsSound script → IsScriptRun script moves es → slice_get (calls_at script k) i ≡ Some (TryPost ecb place code)
+        → answer_at (script_answers script moves es) k i ≡ Some (unless_moved (moves k i) Posted) }
+    ensures releases { (script : ScriptData) (moves : Moves) (es : List Entry) (k i : ℕ) (token : Token) (place code : ℕ)
+        → IsSound script → IsScriptRun script moves es → slice_get (calls_at script k) i ≡ Some (TryRelease token place code)
+        → answer_at (script_answers script moves es) k i ≡ Some (unless_moved (moves k i) Early) }
 {}
