@@ -18,6 +18,10 @@ pub mod Lowest
 pub mod Sounds
 -- the law that costs suffice
 pub mod Suffices
+-- the law that the text of answers determines them
+pub mod NumbersBack
+pub mod AnswersBack
+pub mod TextsBack
 -- the law on what tries answer
 pub mod Tries
 -- rows worked by hand: texts, and runs

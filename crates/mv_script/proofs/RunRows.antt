@@ -194,3 +194,16 @@ woken_is_legal = legal_by (script_of woken).setup examples.post_wakes refl
 woken_answers : answers_in woken none_met examples.post_wakes ≡ codes "0 1 WAITED C3" ++ lf ++ codes "1 1 WOKE" ++ lf
 unfolding digits
 woken_answers = refl
+
+-- ---- what the text of answers tells apart, and what it does not
+
+-- a word alone, and the same word with numbers
+told_apart : answers_text ((answer.AlreadyReleased ∷ answer.AlreadyPosted 0 ∷ answer.Purged ∷ answer.PurgedCounts 0 0 ∷ []) ∷ [])
+    ≡ codes "0 1 ALREADY" ++ lf ++ codes "0 2 ALREADY 0" ++ lf ++ codes "0 3 PURGED" ++ lf ++ codes "0 4 PURGED 0 0" ++ lf
+unfolding digits
+told_apart = refl
+
+-- a task without calls has no line, so how many stand behind the last one with a call does not show
+no_calls_no_line : answers_text ([] ∷ (answer.Done ∷ []) ∷ [] ∷ []) ≡ codes "1 1 DONE" ++ lf
+unfolding digits
+no_calls_no_line = refl

@@ -1,5 +1,5 @@
--- The text of the answers: a line for each call, of all tasks in order.
-use Rattle.std.specs.Prelude.{ℕ, ◌+◌, ◌/◌, ◌%◌, ◌^◌, List, [], ◌∷◌, ◌++◌, flat_map, codes, decimal}
+-- The text of the answers: a line for each call, of all tasks in order; and which answers it tells apart.
+use Rattle.std.specs.Prelude.{ℕ, ◌+◌, ◌/◌, ◌%◌, ◌^◌, ◌<◌, List, [], ◌∷◌, ◌++◌, All, flat_map, length, codes, decimal}
 use Rattle.mv_element.specs.declared.element.Phase.{Phase}
 use Rattle.mv_element.specs.declared.element.Phase.TheVariants.{Free, Reset, Prereleased, Paused, Released}
 use Rattle.mv_element.specs.declared.element.Token.{Token}
@@ -85,3 +85,45 @@ lines_from task (answers ∷ tasks) = task_lines task 1 answers ++ lines_from (t
 -- the text of all answers
 abbrev pub answers_text : List (List Answer) → List ℕ
 answers_text tasks = lines_from 0 tasks
+
+-- ---- which answers it tells apart
+
+-- a number of at most eight bytes. Each number of an answer has no more by its type
+abbrev pub IsNumber : ℕ → Type 0
+IsNumber n = n < 2 ^ 64
+
+-- a block's code is one
+abbrev pub IsSlotInRange : WaitSlot → Type 0
+IsSlotInRange (slot.Complete code) = IsNumber code
+IsSlotInRange slot.Open = Unit {0}
+
+-- both numbers of a token are
+abbrev pub IsTokenInRange : Token → Type 0
+IsTokenInRange t = IsNumber t.element × IsNumber t.generation
+
+-- each number of an answer is
+abbrev pub IsInRange : Answer → Type 0
+IsInRange (answer.Waited slots) = All IsSlotInRange slots
+IsInRange (answer.Doubled position) = IsNumber position
+IsInRange (answer.NotOwnerAt position) = IsNumber position
+IsInRange (answer.ExtendedAt position) = IsNumber position
+IsInRange (answer.AlreadyPosted code) = IsNumber code
+IsInRange (answer.Moved word) = IsNumber word
+IsInRange (answer.Word word) = IsNumber word
+IsInRange (answer.Complete code) = IsNumber code
+IsInRange (answer.Value number) = IsNumber number
+IsInRange (answer.Token token) = IsTokenInRange token
+IsInRange (answer.Given code next) = IsNumber code × IsTokenInRange next
+IsInRange (answer.Spent generation) = IsNumber generation
+IsInRange (answer.TargetSpent generation) = IsNumber generation
+IsInRange (answer.State s) = IsNumber s.generation × IsNumber s.code
+IsInRange (answer.NotNow id) = IsNumber id
+IsInRange (answer.Released granted) = IsNumber granted
+IsInRange (answer.PurgedCounts removed granted) = IsNumber removed × IsNumber granted
+IsInRange _ = Unit {0}
+
+-- the tasks and the calls of each can be counted in such numbers, and each number of each answer is one
+pub record AreInRange (tasks : List (List Answer)) : Type 0 where
+  pub tasks_counted : IsNumber (length tasks)
+  pub calls_counted : All (λ answers. IsNumber (length answers)) tasks
+  pub answers : All (λ answers. All IsInRange answers) tasks

@@ -1,17 +1,19 @@
-//! What the first fault of a text is, by its lines alone; what a text without fault states; that costs suffice; and what
-//! tries answer. Clauses cite `specs/Fault.antt`, `Faults.antt`, `Script.antt`, `Sound.antt`,
-//! `Costs.antt` and `Run.antt`.
+//! What the first fault of a text is, by its lines alone; what a text without fault states; that costs suffice; what tries answer;
+//! and that the text of answers determines them. Clauses cite `specs/Fault.antt`, `Faults.antt`, `Script.antt`, `Sound.antt`,
+//! `Costs.antt`, `Run.antt` and `AnswerText.antt`.
 
-ghost use Rattle.std.specs.Prelude.{◌≡◌, ◌≤◌, ℕ, List, Some, None, MatchOption, slice_get};
+ghost use Rattle.std.specs.Prelude.{◌≡◌, ◌≤◌, ℕ, List, [], Some, None, MatchOption, length, slice_get, slice_index_or};
 ghost use Rattle.mv_element.specs.declared.element.Token.{Token};
 ghost use Rattle.mv_machine.specs.declared.entry.Entry.{Entry};
 ghost use Rattle.mv_machine.specs.Setup.{Setup};
 ghost use Rattle.mv_calls.specs.Keeping.{Kept};
 ghost use Rattle.mv_calls.specs.Services.{most_events};
+ghost use Rattle.mv_script.specs.declared.answer.Answer.{Answer};
 ghost use Rattle.mv_script.specs.declared.answer.Answer.TheVariants.{Posted, Early};
 ghost use Rattle.mv_script.specs.declared.call.Call.{Call};
 ghost use Rattle.mv_script.specs.declared.call.Call.TheVariants.{TryPost, TryRelease};
 ghost use Rattle.mv_script.specs.declared.fault.ScriptFault.{ScriptFault};
+ghost use Rattle.mv_script.specs.AnswerText.{AreInRange, answers_text};
 ghost use Rattle.mv_script.specs.Costs.{Asked, cost, service_of};
 ghost use Rattle.mv_script.specs.Fault.{first_fault};
 ghost use Rattle.mv_script.specs.Faults.{HasFault, IsNoLater};
@@ -48,4 +50,13 @@ pub fn tries_are_done_or_moved()
     ensures releases { (script : ScriptData) (moves : Moves) (es : List Entry) (k i : ℕ) (token : Token) (place code : ℕ)
         → IsSound script → IsScriptRun script moves es → slice_get (calls_at script k) i ≡ Some (TryRelease token place code)
         → answer_at (script_answers script moves es) k i ≡ Some (unless_moved (moves k i) Early) }
+{}
+
+/// The text of answers shows what was answered: one text means the same answers of each task, call by call. A task without calls
+/// has no line, so lists of as many tasks are one.
+pub fn text_determines_answers()
+    ensures each { (xs ys : List (List Answer)) → AreInRange xs → AreInRange ys → answers_text xs ≡ answers_text ys
+        → (k : ℕ) → slice_index_or xs k [] ≡ slice_index_or ys k [] }
+    ensures one { (xs ys : List (List Answer)) → AreInRange xs → AreInRange ys → length xs ≡ length ys
+        → answers_text xs ≡ answers_text ys → xs ≡ ys }
 {}

@@ -22,7 +22,10 @@ pub use answer::{Answer, AnswerList};
 pub use call::{Call, CallList};
 pub use configuration::copy_config;
 pub use fault::{ScriptFault, ScriptRefusal};
-pub use laws::{costs_suffice, first_fault_is_lowest, scripts_are_sound, tries_are_done_or_moved};
+pub use laws::{
+    costs_suffice, first_fault_is_lowest, scripts_are_sound, text_determines_answers,
+    tries_are_done_or_moved,
+};
 pub use numbers::{Numbers, Slots};
 pub use reading::read_script;
 pub use script::Script;
