@@ -1,9 +1,10 @@
-//! The text of a run's answers. The script's `AnswerText.antt` says which bytes that is.
+//! The text of a run's answers. The script's `AnswerText.antt` says which bytes that is, and which answers they tell apart.
 
-ghost use Rattle.std.specs.Prelude.{◌≡◌, ◌++◌, codes, decimal, flat_map, OnOk, IfOk};
+ghost use Rattle.std.specs.Prelude.{◌≡◌, ◌++◌, All, codes, decimal, flat_map, length, OnOk, IfOk};
 ghost use Rattle.mv_script.specs.declared.answer.Answer.TheVariants as answer;
 ghost use Rattle.mv_script.specs.AnswerText.{slot_text, token_text, phase_text, answer_text, answer_line};
 ghost use Rattle.mv_script.specs.AnswerText.{task_lines, answers_text};
+ghost use Rattle.mv_script.specs.AnswerText.{IsNumber, IsSlotInRange, IsTokenInRange, IsInRange, AreInRange};
 
 use crate::run::ScriptRun;
 use itoa::Buffer;
@@ -40,7 +41,8 @@ fn push_numbers(out: &mut Vec<u8>, words: &[u8], first: u64, second: u64) -> Res
 
 // Appends words and a token.
 fn push_token(out: &mut Vec<u8>, words: &[u8], token: Token) -> Result<(), NoMemory>
-    ensures { OnOk result (out.new.items ≡ out.old.items ++ (words.now ++ token_text token)) }
+    ensures text { OnOk result (out.new.items ≡ out.old.items ++ (words.now ++ token_text token)) }
+    ensures in_range { OnOk result (IsTokenInRange token) }
 {
     push_number(out, words, u64::from(token.element))?;
     push_number(out, b".", u64::from(token.generation))
@@ -48,7 +50,8 @@ fn push_token(out: &mut Vec<u8>, words: &[u8], token: Token) -> Result<(), NoMem
 
 // Appends how each block of a wait was found.
 fn push_slots(out: &mut Vec<u8>, slots: &[WaitSlot]) -> Result<(), NoMemory>
-    ensures { OnOk result (out.new.items ≡ out.old.items ++ flat_map slot_text slots.now) }
+    ensures text { OnOk result (out.new.items ≡ out.old.items ++ flat_map slot_text slots.now) }
+    ensures in_range { OnOk result (All IsSlotInRange slots.now) }
 {
     for slot in slots {
         push_slot(out, *slot)?;
@@ -57,7 +60,8 @@ fn push_slots(out: &mut Vec<u8>, slots: &[WaitSlot]) -> Result<(), NoMemory>
 }
 
 fn push_slot(out: &mut Vec<u8>, slot: WaitSlot) -> Result<(), NoMemory>
-    ensures { OnOk result (out.new.items ≡ out.old.items ++ slot_text slot) }
+    ensures text { OnOk result (out.new.items ≡ out.old.items ++ slot_text slot) }
+    ensures in_range { OnOk result (IsSlotInRange slot) }
 {
     match slot {
         WaitSlot::Complete(code) => push_number(out, b" C", u64::from(code)),
@@ -78,7 +82,8 @@ fn phase_word(phase: Phase) -> &'static [u8]
 }
 
 fn push_state(out: &mut Vec<u8>, state: ElementState) -> Result<(), NoMemory>
-    ensures { OnOk result (out.new.items ≡ out.old.items ++ answer_text (answer.State state)) }
+    ensures text { OnOk result (out.new.items ≡ out.old.items ++ answer_text (answer.State state)) }
+    ensures in_range { OnOk result (IsInRange (answer.State state)) }
 {
     push_number(out, b"STATE ", u64::from(state.generation))?;
     push_word(out, b" ")?;
@@ -88,7 +93,8 @@ fn push_state(out: &mut Vec<u8>, state: ElementState) -> Result<(), NoMemory>
 
 // Appends an answer.
 fn push_answer(out: &mut Vec<u8>, answer: &Answer) -> Result<(), NoMemory>
-    ensures { OnOk result (out.new.items ≡ out.old.items ++ answer_text answer.now) }
+    ensures text { OnOk result (out.new.items ≡ out.old.items ++ answer_text answer.now) }
+    ensures in_range { OnOk result (IsInRange answer.now) }
 {
     match answer {
         Answer::Waited(slots) => {
@@ -145,7 +151,8 @@ fn push_answer(out: &mut Vec<u8>, answer: &Answer) -> Result<(), NoMemory>
 
 // Appends the line of a call's answer: the task's number, the call's, and the answer.
 fn push_line(out: &mut Vec<u8>, task: u64, call: u64, answer: &Answer) -> Result<(), NoMemory>
-    ensures { OnOk result (out.new.items ≡ out.old.items ++ answer_line task call answer.now) }
+    ensures text { OnOk result (out.new.items ≡ out.old.items ++ answer_line task call answer.now) }
+    ensures in_range { OnOk result (IsInRange answer.now) }
 {
     push_numbers(out, b"", task, call)?;
     push_word(out, b" ")?;
@@ -155,7 +162,9 @@ fn push_line(out: &mut Vec<u8>, task: u64, call: u64, answer: &Answer) -> Result
 
 // Appends the lines of a task's answers.
 fn push_task(out: &mut Vec<u8>, task: u64, answers: &[Answer]) -> Result<(), NoMemory>
-    ensures { OnOk result (out.new.items ≡ out.old.items ++ task_lines task 1 answers.now) }
+    ensures text { OnOk result (out.new.items ≡ out.old.items ++ task_lines task 1 answers.now) }
+    ensures counted { OnOk result (IsNumber (length answers.now)) }
+    ensures in_range { OnOk result (All IsInRange answers.now) }
 {
     for (i, answer) in answers.iter().enumerate() {
         push_line(out, task, i as u64 + 1, answer)?;
@@ -169,7 +178,9 @@ fn push_task(out: &mut Vec<u8>, task: u64, answers: &[Answer]) -> Result<(), NoM
 ///
 /// `NoMemory` where there is not enough.
 pub fn write_answers(alloc: Global, run: &ScriptRun) -> Result<Vec<u8>, NoMemory>
-    ensures { IfOk result (λ bytes. bytes.items ≡ answers_text run.now.answers.items) }
+    ensures text { IfOk result (λ bytes. bytes.items ≡ answers_text run.now.answers.items) }
+    // So the text determines them.
+    ensures in_range { OnOk result (AreInRange run.now.answers.items) }
 {
     let mut out = Vec::new(alloc);
     for (task, list) in run.answers.iter().enumerate() {
