@@ -20,6 +20,7 @@ pub mod Peeks
 pub mod Waits
 pub mod Doubled
 pub mod Parts
+pub mod Unseen
 pub mod Unrefusing
 -- a wait for one block, for the programs above
 pub mod OneBlock

@@ -1,7 +1,7 @@
 -- What a wait that is not refused has been asked.
 use Rattle.std.proofs.Common.{◌≡◌, ℕ, ◌+◌, ◌*◌, ◌<◌, ◌≤◌, ◌==◌, nat_lt, Bool, true, false, not, List, [], ◌∷◌, ◌++◌}
 use Rattle.std.proofs.Common.{length, cond, Option, Some, None, Ok, Err, refl, sym, ap, ◌∙◌, subst, arith}
-use Rattle.std.proofs.lemmas.Bool.{false≢true, eqb-true, eq-eqb, le-leb, le-ltb, or_parts, not-false}
+use Rattle.std.proofs.lemmas.Bool.{false≢true, eqb-true, eq-eqb, le-leb, le-ltb, ltb-false, or_parts, not-false}
 use Rattle.std.specs.List.{AllByRecursion, list_any}
 use Rattle.mv_machine.specs.Check.{or_else}
 use Rattle.mv_machine.specs.Setup.{Setup, owner_of}
@@ -84,6 +84,18 @@ accepted_wait c k count es kept e =
       own = all_own c kept es (nowhere_back NotOwnerAt (is_others_block c kept) 0 es (first_none o x e2));
       plain = nowhere_back ExtendedAt kept.extended 0 es (second_none o x e2);
     }
+
+not_fewer : (n count : ℕ) (b : Bool) → nat_lt n count ≡ b → refused_if b TooMany ≡ None → count ≤ n
+not_fewer n count true is e = absurd (cc e)
+not_fewer n count false is e = ltb-false n count is
+
+-- there are as many blocks as are to be complete
+pub accepted_count : (c : Setup) (count : ℕ) (es : List ℕ) (kept : Kept) → wait_refusal c count es kept ≡ None → count ≤ length es
+accepted_count c count es kept e =
+    let a = refused_if (nat_lt (length es) count) TooMany in
+    let rest = or_else (doubled_at [] 0 es) (or_else (refused_at NotOwnerAt (is_others_block c kept) 0 es)
+    (refused_at ExtendedAt kept.extended 0 es)) in
+    not_fewer (length es) count (nat_lt (length es) count) refl (first_none a rest e)
 
 pub both_own : (c : Setup) (k : ℕ) (es : List ℕ) → AllByRecursion (λ e. e < length c.owners) es
     → AllByRecursion (λ e. owner_of c e ≡ k) es → AreOwn c k es

@@ -78,53 +78,18 @@ or_second true = refl
 or_second false = refl
 
 -- a watch more keeps what is listed, and lists its own block
-listed_still : (ws : List Watch) (w : Watch) (n : ℕ) → is_listed ws n ≡ true → is_listed (ws ++ w ∷ []) n ≡ true
+pub listed_still : (ws : List Watch) (w : Watch) (n : ℕ) → is_listed ws n ≡ true → is_listed (ws ++ w ∷ []) n ≡ true
 listed_still ws w n e = any-append (is_block n) ws (w ∷ []) ∙ or_left (is_listed ws n) (is_listed (w ∷ []) n) e
 
 pub listed_new : (ws : List Watch) (n : ℕ) → is_listed (ws ++ watch.Ecb n ∷ []) n ≡ true
 listed_new ws n = any-append (is_block n) ws (watch.Ecb n ∷ [])
     ∙ (ap (λ b. is_listed ws n || (b || false)) (eq-eqb n n refl) ∙ or_second (is_listed ws n))
 
-count_one : (ws : List Watch) (e : ℕ) (es : List ℕ) → listed_count ws (e ∷ es) ≡ cond (is_listed ws e) 1 0 + listed_count ws es
+pub count_one : (ws : List Watch) (e : ℕ) (es : List ℕ) → listed_count ws (e ∷ es) ≡ cond (is_listed ws e) 1 0 + listed_count ws es
 count_one ws e es = go (is_listed ws e) refl where
   go : (b : Bool) → is_listed ws e ≡ b → listed_count ws (e ∷ es) ≡ cond b 1 0 + listed_count ws es
   go true is = rw is (omega arith)
   go false is = rw is (omega arith)
-
-bit_le : (a b : Bool) → (a ≡ true → b ≡ true) → cond a 1 0 ≤ cond b 1 0
-bit_le true b f = rw (f refl) (omega arith)
-bit_le false b f = omega arith
-
-count_still : (ws : List Watch) (w : Watch) (es : List ℕ) → listed_count ws es ≤ listed_count (ws ++ w ∷ []) es
-count_still ws w [] = omega arith
-count_still ws w (e ∷ es) =
-    let rest = count_still ws w es in
-    let a = count_one ws e es in
-    let b = count_one (ws ++ w ∷ []) e es in
-    let first = bit_le (is_listed ws e) (is_listed (ws ++ w ∷ []) e) (listed_still ws w e) in
-    omega arith
-
-count_last : (ws : List Watch) (es : List ℕ) (e : ℕ) → listed_count ws (es ++ e ∷ []) ≡ listed_count ws es + cond (is_listed ws e) 1 0
-count_last ws [] e = let a = count_one ws e [] in omega arith
-count_last ws (x ∷ es) e =
-    let rest = count_last ws es e in
-    let a = count_one ws x es in
-    let b = count_one ws x (es ++ e ∷ []) in
-    omega arith
-
--- one look more: what it sees ready is listed
-pub look_counts : (ws : List Watch) (es : List ℕ) (e n : ℕ) (is : Bool) → n ≤ listed_count ws es
-    → n + cond is 1 0 ≤ listed_count (with_watch is (watch.Ecb e) ws) (es ++ e ∷ [])
-look_counts ws es e n true le =
-    let a : listed_count (with_watch true (watch.Ecb e) ws) (es ++ e ∷ []) ≡ listed_count (ws ++ watch.Ecb e ∷ []) es
-    + cond (is_listed (ws ++ watch.Ecb e ∷ []) e) 1 0 =
-    count_last (ws ++ watch.Ecb e ∷ []) es e in
-    let b = count_still ws (watch.Ecb e) es in
-    let c : cond {A = ℕ} (is_listed (ws ++ watch.Ecb e ∷ []) e) 1 0 ≡ 1 = ap (λ (b : Bool). cond {A = ℕ} b 1 0) (listed_new ws e) in
-    omega arith
-look_counts ws es e n false le =
-    let a : listed_count (with_watch false (watch.Ecb e) ws) (es ++ e ∷ []) ≡ listed_count ws es + cond (is_listed ws e) 1 0 =
-    count_last ws es e in omega arith
 
 -- ---- an event on a block takes its own watch off, and no other block's
 off_block : (ws : List Watch) (m e n : ℕ) (op : Op) → n ≢ e → (b : Bool) → (m == e) ≡ b → is_listed (off (Ecb e) op ws) n ≡ is_listed ws n

@@ -1,5 +1,5 @@
 -- The parts of a wait.
-use Rattle.std.specs.Prelude.{◌≡◌, ℕ, ◌<◌, ◌≤◌, ◌==◌, false, List, ◌++◌, length, Option, Result}
+use Rattle.std.specs.Prelude.{◌≡◌, ℕ, ◌<◌, ◌≤◌, ◌==◌, false, List, ◌++◌, length, get_or, Option, Result}
 use Rattle.std.specs.List.{AllByRecursion, list_any}
 use Rattle.mv_ecb.specs.declared.operation.EcbOp.TheVariants.{Settle}
 use Rattle.mv_ecb.specs.declared.operation.EcbReply.{EcbReply}
@@ -22,6 +22,10 @@ use Rattle.mv_wait.specs.Run.{Runs}
 -- the blocks exist, and are the caller's own
 abbrev pub AreOwn : Setup → ℕ → List ℕ → Type 0
 AreOwn c k es = AllByRecursion (λ e. (e < length c.owners) × (owner_of c e ≡ k)) es
+
+-- the same of the first n of them
+abbrev pub AreOwnUpTo : Setup → ℕ → List ℕ → ℕ → Type 0
+AreOwnUpTo c k es n = (j : ℕ) → j < n → (get_or es j 0 < length c.owners) × (owner_of c (get_or es j 0) ≡ k)
 
 -- none of them is extended, by the log
 abbrev pub ArePlain : CallerFace → List ℕ → Type 0

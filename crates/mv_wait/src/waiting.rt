@@ -1,7 +1,7 @@
 //! Waits for events. Clauses cite the calls' `Waits.antt`, and `specs/Run.antt`, `specs/Answers.antt`,
 //! `specs/Waiting.antt` and `specs/Listed.antt`.
 
-ghost use Rattle.std.specs.Prelude.{◌≡◌, ◌<◌, ◌≤◌, ◌*◌, ◌^◌, ◌==◌, not, [], ◌∷◌, true, length, option_map, Some, None};
+ghost use Rattle.std.specs.Prelude.{◌≡◌, ◌<◌, ◌≤◌, ◌*◌, ◌^◌, ◌==◌, not, [], ◌∷◌, true, length, take, option_map, Some, None};
 ghost use Rattle.std.specs.Prelude.{IfOk, MatchResult};
 ghost use Rattle.std.specs.List.{AllByRecursion};
 ghost use Rattle.mv_machine.specs.Setup.{owner_of};
@@ -11,9 +11,9 @@ ghost use Rattle.mv_calls.specs.Rest.{IsAtRest};
 ghost use Rattle.mv_calls.specs.Waits.{wait, wait_refusal, complete_count, doubled_at, refused_at, AreDistinct};
 ghost use Rattle.mv_calls.specs.Refusal.{Doubled, NotOwnerAt};
 ghost use Rattle.mv_wait.specs.Answers.{wait_answer, wait_refused, slots_of};
-ghost use Rattle.mv_wait.specs.Listed.{is_listed, listed_count};
+ghost use Rattle.mv_wait.specs.Listed.{is_listed, listed_count, AreSeenBut};
 ghost use Rattle.mv_wait.specs.Run.{Went, IsServed};
-ghost use Rattle.mv_wait.specs.Waiting.{IsArmedFor, ArePlain, AreOwn, ArmsAll, SettlesEnough, IsSettled, IsComplete};
+ghost use Rattle.mv_wait.specs.Waiting.{IsArmedFor, ArePlain, AreOwn, AreOwnUpTo, ArmsAll, SettlesEnough, IsSettled, IsComplete};
 
 use crate::pausing::Pauses;
 use crate::record::Record;
@@ -50,8 +50,11 @@ pub enum WaitRefusal {
 impl Station {
     /// Waits until at least `count` of these blocks are complete, and says of each whether it is, and with which code of 30 bits.
     /// `out` has a slot for each block. Two events a block, which must be left. It parks until enough blocks are complete, not at
-    /// all where they are so when it comes, and for ever where nobody posts them; each time it is woken it looks at all of them.
-    /// With the count 0 it only looks.
+    /// all where they are so when it comes, and for ever where nobody posts them. With the count 0 it only looks.
+    ///
+    /// It looks at each of n blocks until it has seen it complete, and each time at no more than it takes to know that its wait is not
+    /// over: n less the count, and one more, that are open. So a wait for all of them takes a look a block, and one for each time
+    /// that it is not over.
     ///
     /// # Errors
     ///
@@ -88,7 +91,14 @@ impl Station {
             return Err(refusal);
         }
         self.arm_all(rt, &mut task.record, ecbs);
-        self.await_complete(rt, &mut task.record, &task.pauses, count, ecbs);
+        self.await_complete(
+            rt,
+            &mut task.record,
+            &mut task.places,
+            &task.pauses,
+            count,
+            ecbs,
+        );
         self.settle_all(rt, &mut task.record, count, ecbs, out);
         Ok(())
     }
@@ -141,43 +151,70 @@ impl Station {
         }
     }
 
-    // Parks until `count` of the blocks are complete.
+    // Parks until `count` of the blocks are complete. Those that were not seen complete yet stand first in `places`. As long as it
+    // finds one more of these open than may stay open, the wait is not over, whatever the others are.
     fn await_complete<R: Wait>(
         &self,
         rt: &R,
         me: &mut Record,
+        places: &mut [u32],
         pauses: &Pauses,
         count: u32,
         ecbs: &[u32],
     )
         requires task { IsOf self.now me.old }
         requires own { AreOwn self.now.config me.old.number ecbs.now }
+        requires distinct { AreDistinct ecbs.now }
+        requires count { count ≤ length ecbs.now }
+        requires places { length places.old ≡ length self.now.config.owners }
         ensures went { Went [] me.old me.new }
         ensures listed { count ≤ listed_count me.new.ready ecbs.now }
+        ensures places { length places.new ≡ length places.old }
     {
+        let spare = ecbs.len() - count as usize;
+        let mut unseen = ecbs.len();
+        put_first(places, ecbs);
         let mut looks = 0;
         for _ in rt.forever() {
-            if self.count_complete(rt, me, ecbs) >= count as usize {
+            unseen = self.look_at_unseen(rt, me, places, unseen, spare, ecbs);
+            if unseen <= spare {
                 return;
             }
             looks = pauses.pause(rt, looks);
         }
     }
 
-    // How many of the blocks are complete, by a look at each.
-    fn count_complete<R: Wait>(&self, rt: &R, me: &mut Record, ecbs: &[u32]) -> usize
+    // Looks at the first of the blocks that were not seen complete, until one more than `spare` are found open, or no more than
+    // `spare` are left. The last of them takes the place of one that is complete. How many are left then.
+    fn look_at_unseen<R: Wait>(
+        &self,
+        rt: &R,
+        me: &mut Record,
+        places: &mut [u32],
+        mut unseen: usize,
+        spare: usize,
+        ecbs: &[u32],
+    ) -> usize
         requires task { IsOf self.now me.old }
-        requires own { AreOwn self.now.config me.old.number ecbs.now }
+        requires size { unseen ≤ length places.old }
+        requires own { AreOwnUpTo self.now.config me.old.number places.old unseen }
+        requires seen { AreSeenBut places.old unseen me.old.ready ecbs.now }
         ensures went { Went [] me.old me.new }
-        ensures listed { result ≤ listed_count me.new.ready ecbs.now }
+        ensures places { length places.new ≡ length places.old }
+        ensures size { result ≤ unseen }
+        ensures own { AreOwnUpTo self.now.config me.new.number places.new result }
+        ensures seen { AreSeenBut places.new result me.new.ready ecbs.now }
     {
-        let mut count = 0;
-        for ecb in ecbs {
-            if me.peek(rt, &self.board, Watch::Ecb(*ecb)) {
-                count += 1;
+        let mut open = 0;
+        while open <= spare && spare < unseen {
+            if me.peek(rt, &self.board, Watch::Ecb(places[open])) {
+                unseen -= 1;
+                places[open] = places[unseen];
+            } else {
+                open += 1;
             }
         }
-        count
+        unseen
     }
 
     // Settles each block, and puts down what is found. At least `count` are complete, since so many are listed.
@@ -236,6 +273,17 @@ fn doubled(places: &mut [u32], ecbs: &[u32]) -> Option<u32>
         places[ecb as usize] = p as u32;
     }
     None
+}
+
+// Puts these blocks first.
+fn put_first(places: &mut [u32], ecbs: &[u32])
+    requires size { length ecbs.now ≤ length places.old }
+    ensures size { length places.new ≡ length places.old }
+    ensures first { take (length ecbs.now) places.new ≡ ecbs.now }
+{
+    for p in 0..ecbs.len() {
+        places[p] = ecbs[p];
+    }
 }
 
 // The first position whose block is another caller's.

@@ -13,7 +13,7 @@ use Rattle.mv_wait.specs.Task.{blocks_in}
 use Rattle.mv_wait.specs.Waiting.{IsArmedFor}
 use Rattle.mv_wait.proofs.Parts.{still_of, same_view, plain_still}
 use Rattle.mv_wait.proofs.Runs.{same_then, went_log}
-use Rattle.mv_wait.proofs.Unrefusing.{accepted_wait, accepted_own, both_own, wait_served, wait_is_refused}
+use Rattle.mv_wait.proofs.Unrefusing.{accepted_wait, accepted_count, accepted_own, both_own, wait_served, wait_is_refused}
 use Rattle.mv_wait.proofs.station.Station.wait.Goals as goal
 
 pub returns-in-Some-clause-served : goal.returns-in-Some-clause-served
@@ -66,6 +66,10 @@ await_complete-requires g c =
       task = still_of c.args.self.now c.args.self.now c.args.task.now c.arm_all.new.me
           (same_then c.args.task.now r c.arm_all.new.me (same_view c.args.task.now r c.task.view_is) same) c.requires.task refl;
       own = accepted_own c.args.self.now.config r c.arm_all.new.me c.args.ecbs.now c.requires.blocks a same;
+      distinct = a.distinct;
+      count = accepted_count c.args.self.now.config c.args.count c.args.ecbs.now (kept_of r.number r.log) none;
+      places = c.deref_mut-2.ensures.len ∙ (c.task.invariant.places
+          ∙ ap blocks_in (ap (λ (d : CallerFace). d.about) c.task.view_is ∙ c.requires.task.1));
     }
 
 pub settle_all-requires : goal.settle_all-requires
