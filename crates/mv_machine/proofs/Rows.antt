@@ -1,11 +1,12 @@
 -- Worked rows of the definitions, by computing them.
-use Rattle.std.proofs.Common.{◌≡◌, ℕ, ◌≤◌, false, List, [], ◌∷◌, ◌++◌, take, drop, Some, None, refl, arith}
+use Rattle.std.proofs.Common.{◌≡◌, ℕ, ◌≤◌, false, List, [], ◌∷◌, ◌++◌, take, drop, Option, Some, None, refl, sym, ap, subst, arith}
 use Rattle.mv_ecb.specs.Word.{Zero, Complete}
 use Rattle.mv_element.specs.Element.{prereleased}
+use Rattle.mv_machine.specs.declared.packing.WordState.{WordState}
 use Rattle.mv_machine.specs.declared.packing.WordState.TheVariants as word_state
 use Rattle.mv_machine.specs.Merge.{merged}
-use Rattle.mv_machine.specs.Packing.{pack, unpack}
-use Rattle.mv_machine.specs.Parts.{parts}
+use Rattle.mv_machine.specs.Packing.{pack, unpack, state_at}
+use Rattle.mv_machine.specs.Parts.{parts, Had}
 use Rattle.mv_ecb.specs.declared.operation.EcbOp.{EcbOp}
 use Rattle.mv_ecb.specs.declared.operation.EcbOp.TheVariants as ecb_op
 use Rattle.mv_ecb.specs.declared.operation.EcbReply.{EcbReply}
@@ -27,7 +28,7 @@ use Rattle.mv_machine.specs.declared.entry.VolumeOp.TheVariants.{Read, Write}
 use Rattle.mv_machine.specs.declared.entry.VolumeReply.TheVariants.{Value, Stored}
 use Rattle.mv_machine.specs.Check.{refusal_of}
 use Rattle.mv_machine.specs.Elements.{ElementEvent, element_events, givens, releases}
-use Rattle.mv_machine.specs.Legal.{Legal}
+use Rattle.mv_machine.specs.Legal.{Legal, after}
 use Rattle.mv_machine.specs.OnePost.{ecb_events, taken}
 use Rattle.mv_machine.specs.Orderly.{IsOrderly, IsExact}
 use Rattle.mv_machine.specs.Setup.{Setup}
@@ -204,6 +205,36 @@ given_twice = on_element 0 element_op.Open (element_reply.Opened 0) ∷ on_eleme
 
 given_twice_is_not_orderly : ¬ IsOrderly two given_twice
 given_twice_is_not_orderly h = let few : 2 ≤ 1 = (h.elements 1).once 0 in omega arith
+
+-- what a word stands for is one place and one state
+read_as : (p q : ℕ) (s t : WordState) → ◌≡◌ {A = Option (ℕ × WordState)} (Some (p, s)) (Some (q, t)) → (p ≡ q) × (s ≡ t)
+read_as p q s t e =
+    let both : ◌≡◌ {A = ℕ × WordState} (p, s) (q, t) = cc in
+    (ap (λ (x : ℕ × WordState). x.0) both, ap (λ (x : ℕ × WordState). x.1) both)
+
+same_code : (a b : ℕ) → ◌≡◌ {A = Option WordState} (Some (word_state.Ecb (Complete a))) (Some (word_state.Ecb (Complete b))) → a ≡ b
+same_code a b e = cc
+
+-- one post, with code 7
+abbrev posted_once : List Entry
+posted_once = on_block 1 0 (ecb_op.Post 7) ecb_reply.Posted ∷ []
+
+-- the block was never complete with another code
+never_had : ¬ Had two posted_once 0 0 (Ecb 0) (pack 1 (word_state.Ecb (Complete 9)))
+never_had h =
+    let other = word_state.Ecb (Complete 9) in
+    let read = read_as 1 h.place other h.state h.unpacks in
+    let was : state_at (after two posted_once) (Ecb 0) ≡ Some other =
+    subst (λ p. state_at (after two (take p posted_once)) (Ecb 0) ≡ Some other) (sym read.0)
+    (subst (λ s. state_at (after two (take h.place posted_once)) (Ecb 0) ≡ Some s) (sym read.1) h.was) in
+    let codes = same_code 7 9 was in
+    omega (arith, codes)
+
+-- and behind its own post a caller does not find it zero any more
+only_before : ¬ Had two posted_once 1 1 (Ecb 0) (pack 0 (word_state.Ecb Zero))
+only_before h =
+    let read = read_as 0 h.place (word_state.Ecb Zero) h.state h.unpacks in
+    omega (arith, read.0, h.behind.0 refl)
 
 -- ---- words
 
