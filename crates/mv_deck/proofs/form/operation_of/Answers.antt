@@ -6,7 +6,7 @@ use Rattle.mv_deck.proofs.form.operation_of.Goals as goal
 pub returns-then-eq-2 : goal.returns-then-eq-2
 returns-then-eq-2 c =
     let op : List ℕ = c.split_field.result.0.now in
-    let e = chosen c.args.version c.args.rest.now op (fields_of c.split_field.result.1.now) c.split_field.ensures in
+    let e = chosen c.args.version c.args.rest.now op (fields_of c.split_field.result.1.now) c.split_field.ensures.fields in
     let t1 = compared op _ _ _ _ c.as_slice.ensures c.eq.ensures c.if-eq.false in
     let t2 = compared op _ _ _ _ c.as_slice-2.ensures c.eq-2.ensures c.if-eq-2.true in
     c.use_of.ensures c.args.version ∙ sym (e ∙ rw (t1, t2) refl)
@@ -14,7 +14,7 @@ returns-then-eq-2 c =
 pub returns-then-eq-7 : goal.returns-then-eq-7
 returns-then-eq-7 c =
     let op : List ℕ = c.split_field.result.0.now in
-    let e = chosen c.args.version c.args.rest.now op (fields_of c.split_field.result.1.now) c.split_field.ensures in
+    let e = chosen c.args.version c.args.rest.now op (fields_of c.split_field.result.1.now) c.split_field.ensures.fields in
     let t1 = compared op _ _ _ _ c.as_slice.ensures c.eq.ensures c.if-eq.false in
     let t2 = compared op _ _ _ _ c.as_slice-2.ensures c.eq-2.ensures c.if-eq-2.false in
     let t3 = compared op _ _ _ _ c.as_slice-3.ensures c.eq-3.ensures c.if-eq-3.false in
@@ -27,7 +27,7 @@ returns-then-eq-7 c =
 pub returns : goal.returns
 returns c =
     let op : List ℕ = c.split_field.result.0.now in
-    let e = chosen c.args.version c.args.rest.now op (fields_of c.split_field.result.1.now) c.split_field.ensures in
+    let e = chosen c.args.version c.args.rest.now op (fields_of c.split_field.result.1.now) c.split_field.ensures.fields in
     let t1 = compared op _ _ _ _ c.as_slice.ensures c.eq.ensures c.if-eq.false in
     let t2 = compared op _ _ _ _ c.as_slice-2.ensures c.eq-2.ensures c.if-eq-2.false in
     let t3 = compared op _ _ _ _ c.as_slice-3.ensures c.eq-3.ensures c.if-eq-3.false in
