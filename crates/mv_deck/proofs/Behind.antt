@@ -18,7 +18,7 @@ use Rattle.mv_deck.specs.Fault.{is_null, is_job}
 use Rattle.mv_deck.specs.Held.{held, latches, is_end}
 use Rattle.mv_deck.specs.Form.{part_data}
 use Rattle.mv_deck.specs.Names.{place_in, after_in}
-use Rattle.mv_deck.specs.Reading.{jobs_read, open_job, Keeps, IsBehind, IsGoodJob}
+use Rattle.mv_deck.specs.Reading.{HasFewJobs, jobs_read, open_job, Keeps, IsBehind, IsGoodJob}
 use Rattle.mv_deck.specs.Weight.{weight, heaviest, step_events}
 use Rattle.mv_deck.proofs.Jobs.{stepped, last_steps-push, with_step-push, place-push, place-step, ended-push, weight-push, weight-step}
 use Rattle.mv_deck.proofs.Steps.{is_step, is_outside}
@@ -234,15 +234,10 @@ new_name sts name after g = go (place_of (jobs_of sts) name) g.new where
   go None e = refl
   go (Some k) e = absurd cc
 
--- more jobs than the heaviest deck weighs are too heavy
-pub heavy_jobs : (n : ℕ) (jobs : List JobData) (r : Reading) → jobs_read r ≡ jobs → heaviest < length r.finished.items
-    → heaviest < weight jobs n
-heavy_jobs n jobs r e lt =
-    let count : length jobs ≡ length (map job_data r.finished.items) + length (open_job r.name r.after.items r.steps.items) = ap length
-    (sym e) ∙ length-append (map job_data r.finished.items) _ in
+-- each job weighs something, so a deck has no more of them than it may weigh
+pub few_jobs : (n : ℕ) (v : Version) (sts : List Statement) (r : Reading) → IsBehind n v sts r → HasFewJobs r
+few_jobs n v sts r b =
+    let count : length (jobs_of sts) ≡ length (map job_data r.finished.items) + length (open_job r.name r.after.items r.steps.items) =
+    ap length (sym b.jobs) ∙ length-append (map job_data r.finished.items) _ in
     let same : length (map job_data r.finished.items) ≡ length r.finished.items = length-map r.finished.items job_data in
-    omega (arith, count, same)
-
--- no deck is heavier than what is left of the heaviest
-pub beyond : (room w : ℕ) → room + w ≡ heaviest → ¬ (heaviest < w)
-beyond room w e lt = omega arith
+    omega (arith, count, same, b.kept.room)

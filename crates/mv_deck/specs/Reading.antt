@@ -1,5 +1,5 @@
 -- Where the reader of decks is: behind these statements.
-use Rattle.std.specs.Prelude.{◌≡◌, ℕ, ◌+◌, false, nat_lt, List, [], ◌∷◌, ◌++◌, length, map, Option, Some, None, is_some}
+use Rattle.std.specs.Prelude.{◌≡◌, ℕ, ◌+◌, ◌≤◌, false, nat_lt, List, [], ◌∷◌, ◌++◌, length, map, Option, Some, None, is_some}
 use Rattle.std.specs.List.{list_any}
 use Rattle.mv_deck.specs.declared.deck.After.{After}
 use Rattle.mv_deck.specs.declared.deck.Step.{Step}
@@ -27,6 +27,10 @@ open_job (Some name) after steps = record { name = name; after = after; steps = 
 -- the jobs that were read, the last one as far as it goes
 abbrev pub jobs_read : Reading → List JobData
 jobs_read r = map job_data r.finished.items ++ open_job r.name r.after.items r.steps.items
+
+-- there are no more finished jobs than a deck may weigh, so the place of each fits a `u32`
+abbrev pub HasFewJobs : Reading → Type 0
+HasFewJobs r = length r.finished.items ≤ heaviest
 
 -- what the reader keeps of these jobs beside themselves
 pub record Keeps (initiators : ℕ) (jobs : List JobData) (r : Reading) : Type 0 where

@@ -9,10 +9,10 @@ ghost use Rattle.mv_deck.specs.Fault.{first_fault, TellsFirst, kinds_of, kinds_o
 ghost use Rattle.mv_deck.specs.Form.{stated, part_data, listed};
 ghost use Rattle.mv_deck.specs.Held.{HasNumberInRange, held, latches, is_end as ends_by};
 ghost use Rattle.mv_deck.specs.Names.{place_in};
-ghost use Rattle.mv_deck.specs.Reading.{IsBehind, IsGoodJob, Tells, jobs_read, refusal_at};
+ghost use Rattle.mv_deck.specs.Reading.{HasFewJobs, IsBehind, IsGoodJob, Tells, jobs_read, refusal_at};
 ghost use Rattle.mv_deck.specs.Statement.{Statement, Null, DeckOf, JobOf, statement_of};
 ghost use Rattle.mv_deck.specs.Operand.{most_after};
-ghost use Rattle.mv_deck.specs.Weight.{heaviest, most_initiators};
+ghost use Rattle.mv_deck.specs.Weight.{most_initiators};
 
 use crate::fault::{Kind, LineRefusal};
 use crate::form::{Form, Part, Version, form_of, parts_of, version_of};
@@ -135,6 +135,7 @@ impl<'a> Reading<'a> {
 
     // Takes a line.
     fn take_line(&mut self, line: &'a [u8]) -> Result<(), LineRefusal>
+        requires { HasFewJobs self.now }
         ensures { (n : ℕ) (v : Version) (earlier : List Statement) → IsBehind n v earlier self.old
             → MatchResult result
             (λ _. (kinds_of n v earlier line.now ≡ []) × IsBehind n v (earlier ++ option_to_list (statement_of v line.now)) self.new)
@@ -158,6 +159,7 @@ impl<'a> Reading<'a> {
 
     // Takes a statement.
     fn take(&mut self, form: Form<'a>) -> Result<(), LineRefusal>
+        requires { HasFewJobs self.now }
         ensures { (n : ℕ) (v : Version) (earlier : List Statement) → IsBehind n v earlier self.old
             → MatchResult result
             (λ _. (kinds_of_statement n earlier (Some (stated v form.entry)) ≡ [])
@@ -239,6 +241,7 @@ impl<'a> Reading<'a> {
 
     // Takes a JOB of this name, after the jobs of this list.
     fn take_job(&mut self, name: &'a [u8], list: Option<&'a [u8]>) -> Result<(), LineRefusal>
+        requires { HasFewJobs self.now }
         ensures { (n : ℕ) (v : Version) (earlier : List Statement) → IsBehind n v earlier self.old
             → MatchResult result
             (λ _. (kinds_of_statement n earlier (Some (JobOf name.now (listed v list.entry))) ≡ [])
@@ -250,8 +253,7 @@ impl<'a> Reading<'a> {
             return Err(refusal);
         }
         let weight = 8 + 9 * self.initiators as u64 + 2 * parts.len() as u64;
-        // As many jobs as the deck may weigh are too heavy in any case, so each place fits a `u32`.
-        if weight > self.room || self.finished.len() as u64 > HEAVIEST {
+        if weight > self.room {
             return Err(LineRefusal::Has(Kind::TooHeavy));
         }
         self.begin(name, &parts)?;
@@ -295,7 +297,7 @@ impl<'a> Reading<'a> {
 
     // Begins a job.
     fn begin(&mut self, name: &'a [u8], parts: &[Part<'a>]) -> Result<(), AllocError>
-        requires { length self.now.finished.items ≤ heaviest }
+        requires { HasFewJobs self.now }
         ensures jobs { (jobs : List JobData) → ((q : List ℕ) → place_in self.old.names q ≡ place_of jobs q) → jobs_read self.old ≡ jobs
             → OnOk result (jobs_read self.new ≡ jobs ++ fresh_job jobs name.now (map part_data parts.now) ∷ []) }
         ensures names { (jobs : List JobData) → jobs_read self.old ≡ jobs

@@ -1,7 +1,13 @@
 use Rattle.std.proofs.Common.{◌≡◌, length, arith, rules, ◌∙◌}
 use Rattle.std.proofs.lemmas.Grind.{common_steps}
+use Rattle.mv_deck.proofs.Behind.{few_jobs}
 use Rattle.mv_deck.proofs.Passes.{at_next, tells_at, no_null_at_end, no_fault_at_end, deck_at_end}
 use Rattle.mv_deck.proofs.reading.read_deck.Goals as goal
+
+pub take_line-requires : goal.take_line-requires
+take_line-requires c =
+    let at = c.loop-rest.invariant in
+    few_jobs c.args.initiators _ at.earlier c.loop-rest.reading at.behind
 
 pub returns-in-Err-clause-fault : goal.returns-in-Err-clause-fault
 returns-in-Err-clause-fault c =

@@ -8,10 +8,8 @@ use Rattle.mv_deck.specs.Form.{part_data, listed}
 use Rattle.mv_deck.specs.Reading.{Tells, jobs_read}
 use Rattle.mv_deck.specs.Statement.{JobOf, AfterPart}
 use Rattle.mv_deck.specs.Weight.{weight, heaviest}
-use Rattle.mv_deck.proofs.Behind.{behind_job, job_weight, new_name, heavy_jobs, beyond}
+use Rattle.mv_deck.proofs.Behind.{behind_job, job_weight, new_name}
 use Rattle.mv_deck.proofs.Told.{job_heavy, job_fine, light, heavy}
-use Rattle.mv_deck.proofs.reading.Reading.take_job.Goals.{then-weight-self-via-then-weight-self}
-use Rattle.mv_deck.proofs.reading.Reading.take_job.Goals.{then-weight-self-via-else-weight-self+then-len-gt-HEAVIEST}
 use Rattle.mv_deck.proofs.reading.Reading.take_job.Goals as goal
 
 pub returns-in-Err : goal.returns-in-Err
@@ -30,13 +28,7 @@ returns-then-weight-self c = λ n v earlier b.
     let count : length parts ≡ c.len.result = length-map c.deref.result.now part_data ∙ c.deref.ensures.len ∙ sym c.len.ensures in
     let initiators : c.args.self.now.initiators ≡ n = b.initiators_are in
     let more : c.args.self.now.room < 8 + 9 * n + 2 * length parts =
-    elim c.then-weight-self.branch [
-      | then-weight-self-via-then-weight-self w ↦ omega (arith, w.if-weight-self.true, count, initiators)
-      | then-weight-self-via-else-weight-self+then-len-gt-HEAVIEST w ↦
-          let jobs = heavy_jobs n (jobs_of earlier) c.args.self.now b.jobs
-          (omega (arith, w.if-len-gt-HEAVIEST.true, w.len-else-weight-self.ensures)) in
-          absurd (beyond c.args.self.now.room (weight (jobs_of earlier) n) b.kept.room jobs)
-    ] in
+    omega (arith, c.if-weight-self.true, count, initiators) in
     let weighs : nat_lt heaviest (weight (jobs_of earlier ++ fresh_job (jobs_of earlier) c.args.name.now parts ∷ []) n) ≡ true =
     ap (λ x. nat_lt heaviest x) (job_weight n (jobs_of earlier) c.args.name.now parts) ∙ heavy c.args.self.now.room
     (weight (jobs_of earlier) n) (8 + 9 * n + 2 * length parts) b.kept.room more in
