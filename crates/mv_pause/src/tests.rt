@@ -14,10 +14,11 @@ use mv_element::{ElementState, Phase, Token};
 use mv_machine::{Config, Object, WordState, unpack};
 use mv_wait::{Station, Task};
 use std::alloc::Global;
+use std::hint;
 use std::process::Abort;
 use std::sync::Wait;
 use std::test::Fail;
-use std::thread::{Threads, join};
+use std::thread::{self, Threads, join};
 
 // A new station with its two tasks, which have this budget, and of which each has the first of its two elements in use.
 #[tactic(auto, using(mv_wait::proofs::Compose::served))]
@@ -51,7 +52,7 @@ fn open_two<R: Abort + Wait>(
 }
 
 fn token(element: u32, generation: u32) -> Token
-    ensures { result.element ≡ element }
+    ensures { (result.element ≡ element) × (result.generation ≡ generation) }
 {
     Token {
         element,
@@ -163,12 +164,10 @@ fn exchange(
 // What one more place adds to a word.
 const PLACE: u64 = 35_184_372_088_832;
 
-// The words of an element of generation 0: allocated; released with code 5; and paused with.
+// The words of an element of generation 0: allocated; and released with code 5.
 const RESET: u64 = 16_777_216;
 
 const RELEASED: u64 = 33_554_437;
-
-const PAUSED: u64 = 50_331_648;
 
 #[test]
 fn an_exchange_releases_where_the_word_is_the_one_expected(rt: HostRuntime) -> Result<(), Fail> {
@@ -203,22 +202,39 @@ fn pause_once<R: Abort + Wait>(rt: &R, station: &Station, mut task: Task)
     take(rt, station, &mut task, 0, 0);
 }
 
-// Looks at element 0 until it has this word.
-fn await_word<R: Abort + Wait>(rt: &R, station: &Station, task: &mut Task, word: u64)
+// Looks at an element until a task pauses in it.
+fn await_pause<R: Abort + Wait>(rt: &R, station: &Station, task: &mut Task, element: u32)
     requires task { IsOf station.now task.old }
     requires rest { IsAtRest task.old.log }
-    requires elements { element_count station.now.config ≡ 4 }
+    requires element { element < element_count station.now.config }
     ensures task { IsOf station.now task.new }
     ensures rest { IsAtRest task.new.log }
 {
     for _ in rt.forever() {
-        if station.look(task, Object::Element(0)) == word {
+        let word = station.look(task, Object::Element(element));
+        if is_paused(unpack(Object::Element(element), word)) {
             return;
         }
+        thread::yield_now();
     }
 }
 
-// Releases the pause of element 0, as soon as it is on at place 2.
+// Whether a task pauses in an element that has this word.
+fn is_paused(word: Option<(u32, WordState)>) -> bool {
+    match word {
+        Some((_, WordState::Element(state))) => state.phase == Phase::Paused,
+        _ => false,
+    }
+}
+
+// Takes twice as long as a task spins before it parks.
+fn linger() {
+    for _ in 0..4096u32 {
+        hint::spin_loop();
+    }
+}
+
+// Releases the pause of element 0, as soon as its task has parked.
 fn release_the_paused<R: Abort + Wait>(
     rt: &R,
     station: &Station,
@@ -228,7 +244,8 @@ fn release_the_paused<R: Abort + Wait>(
     requires rest { IsAtRest task.log }
     requires elements { element_count station.now.config ≡ 4 }
 {
-    await_word(rt, station, &mut task, 2 * PLACE + PAUSED);
+    await_pause(rt, station, &mut task, 0);
+    linger();
     hand(rt, station, &mut task, 0, 0)
 }
 
@@ -291,5 +308,87 @@ fn two_threads_hand_over_and_back(rt: HostRuntime) -> Result<(), Fail> {
     for _ in 0..2 {
         hand_to_and_fro(&rt, rt.alloc())?;
     }
+    Ok(())
+}
+
+// ---- two threads that transfer
+
+// A transfer to the other's pause, as soon as its task has parked, and back.
+#[tactic(auto, using(mv_wait::proofs::Compose::served))]
+fn hand_and_take<R: Abort + Wait>(
+    rt: &R,
+    station: &Station,
+    task: &mut Task,
+    own: Token,
+    other: Token,
+)
+    requires task { IsOf station.now task.old }
+    requires rest { IsAtRest task.old.log }
+    requires elements { (own.element < element_count station.now.config) × (other.element < element_count station.now.config) }
+    requires generation { own.generation < highest_generation }
+    ensures task { IsOf station.now task.new }
+    ensures rest { IsAtRest task.new.log }
+{
+    await_pause(rt, station, task, other.element);
+    linger();
+    assert!(rt; task.left() >= 3);
+    let answer = transfer(station, rt, task, Some(own), other, CODE);
+    let back = given(CODE, own.element, own.generation + 1);
+    assert_eq!(rt; answer, Ok(Some(back)));
+}
+
+// How often each of two tasks transfers to the other.
+const TRANSFERS: u32 = 2000;
+
+// Transfers from the own element to the other's, once with each of its generations. The own one is so far ahead.
+fn transfer_often<R: Abort + Wait>(
+    rt: &R,
+    station: &Station,
+    task: &mut Task,
+    own: u32,
+    ahead: u32,
+    other: u32,
+)
+    requires task { IsOf station.now task.old }
+    requires rest { IsAtRest task.old.log }
+    requires elements { (own < element_count station.now.config) × (other < element_count station.now.config) }
+    requires ahead { ahead ≤ 1 }
+    ensures task { IsOf station.now task.new }
+    ensures rest { IsAtRest task.new.log }
+{
+    for generation in 0..TRANSFERS {
+        let own = token(own, generation + ahead);
+        hand_and_take(rt, station, task, own, token(other, generation));
+    }
+}
+
+// Transfers first, and is the last to release.
+fn transfer_over<R: Abort + Wait>(rt: &R, station: &Station, mut task: Task)
+    requires task { IsOf station.now task }
+    requires rest { IsAtRest task.log }
+    requires elements { element_count station.now.config ≡ 4 }
+{
+    transfer_often(rt, station, &mut task, 0, 0, 2);
+    assert!(rt; hand(rt, station, &mut task, 2, TRANSFERS).is_ok());
+}
+
+// Pauses first.
+fn transfer_back<R: Abort + Wait>(rt: &R, station: &Station, mut task: Task)
+    requires task { IsOf station.now task }
+    requires rest { IsAtRest task.log }
+    requires elements { element_count station.now.config ≡ 4 }
+{
+    take(rt, station, &mut task, 2, 0);
+    transfer_often(rt, station, &mut task, 2, 1, 0);
+}
+
+#[test]
+fn a_transfer_wakes_whom_it_releases(rt: HostRuntime) -> Result<(), Fail> {
+    let (station, first, second) = open_two(&rt, rt.alloc(), 3 * TRANSFERS + 4)?;
+    join(
+        &rt,
+        || transfer_over(&rt, &station, first),
+        || transfer_back(&rt, &station, second),
+    );
     Ok(())
 }

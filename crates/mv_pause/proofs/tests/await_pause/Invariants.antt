@@ -1,6 +1,6 @@
 use Rattle.mv_board.specs.Faces.{IsOf}
 use Rattle.mv_calls.specs.Rest.{IsAtRest}
-use Rattle.mv_pause.proofs.tests.await_word.Given as goal
+use Rattle.mv_pause.proofs.tests.await_pause.Given as goal
 
 abbrev pub invariant-loop : goal.invariant-loop
 invariant-loop g l = record {
