@@ -1,5 +1,5 @@
-//! What no clause says: that each call can be made with ample memory, how long a chain of exits may be, and two threads that hand over
-//! to each other; and what `bench/run` times. Tables of calls with their answers are scripts, in mv_program.
+//! What no clause says: that each call can be made with ample memory, how long a chain of exits may be, two threads that hand over to
+//! each other, and whom a post wakes; and what `bench/run` times. Tables of calls with their answers are scripts, in mv_program.
 
 ghost use Rattle.std.specs.Prelude.{◌≡◌, ◌<◌, ◌≤◌, length, map, IfOk};
 ghost use Rattle.mv_machine.specs.Config.{exit_of};
@@ -11,10 +11,11 @@ use mv_board::Closed;
 use mv_ecb::{EcbOp, EcbReply};
 use mv_machine::{Config, Entry, Exit, Object, Op, Reply, ValidConfig};
 use std::alloc::Global;
+use std::hint;
 use std::process::Abort;
 use std::sync::Wait;
 use std::test::Fail;
-use std::thread::{Threads, join};
+use std::thread::{self, Threads, join};
 
 // Tasks with these budgets, these blocks and these exits.
 fn setup(
@@ -240,6 +241,73 @@ fn two_threads_hand_over_and_back(rt: HostRuntime) -> Result<(), Fail> {
     }
     Ok(())
 }
+
+// ---- two threads and an exit
+
+// Looks at block 1 until a task waits for it.
+fn await_arm<R: Abort + Wait>(rt: &R, station: &Station, task: &mut Task)
+    requires task { IsOf station.now task.old }
+    requires rest { IsAtRest task.old.log }
+    ensures task { IsOf station.now task.new }
+    ensures rest { IsAtRest task.new.log }
+{
+    assert_is_block(rt, station, 1);
+    for _ in rt.forever() {
+        // The wait bit.
+        if (station.look(task, Object::Ecb(1)) >> 31) % 2 == 1 {
+            return;
+        }
+        thread::yield_now();
+    }
+}
+
+// Takes twice as long as a task spins before it parks.
+fn linger() {
+    for _ in 0..4096u32 {
+        hint::spin_loop();
+    }
+}
+
+// Posts the own block 0, whose exit posts block 1, where the other task has parked for that, and waits for block 2.
+#[tactic(auto, using(crate::proofs::Compose::served))]
+fn post_by_exit<R: Abort + Wait>(rt: &R, station: &Station, mut task: Task, times: u32)
+    requires task { IsOf station.now task }
+    requires rest { IsAtRest task.log }
+{
+    for _ in 0..times {
+        assert_is_block(rt, station, 0);
+        assert!(rt; task.left() >= 2);
+        assert!(rt; station.extend(rt, &mut task, 0, 1).is_ok());
+        await_arm(rt, station, &mut task);
+        linger();
+        post(rt, station, &mut task, 0);
+        assert!(rt; task.left() > 0);
+        assert!(rt; station.clear(rt, &mut task, 0).is_ok());
+        take(rt, station, &mut task, 2);
+    }
+}
+
+#[test]
+fn a_post_wakes_whom_its_exit_posts(rt: HostRuntime) -> Result<(), Fail> {
+    let exit = Exit {
+        source: 0,
+        targets: vec![in rt.alloc(); 1]?,
+    };
+    let budgets = vec![in rt.alloc(); 700, 400]?;
+    let owners = vec![in rt.alloc(); 0, 1, 0]?;
+    let config = setup(rt.alloc(), budgets, owners, vec![in rt.alloc(); exit]?)?;
+    let (station, mut tasks) = Station::open(rt.alloc(), config)?;
+    let second = station.take_last(&mut tasks);
+    let first = station.take_last(&mut tasks);
+    join(
+        &rt,
+        || post_by_exit(&rt, &station, first, 100),
+        || hand_back(&rt, &station, second, 1, 2, 100),
+    );
+    Ok(())
+}
+
+// ---- one thread, and many events
 
 // What `bench/run` times: 500,000 events of posts and waits that nobody disputes.
 #[test]
