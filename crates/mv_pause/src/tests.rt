@@ -10,8 +10,8 @@ ghost use Rattle.mv_board.specs.Faces.{IsOf};
 ghost use Rattle.mv_pause.specs.Releasing.{HasNoPause};
 
 use super::*;
-use mv_element::{ElementState, Phase, Token};
-use mv_machine::{Config, Object, WordState, unpack};
+use mv_element::{ElementOp, ElementState, Phase, Token};
+use mv_machine::{Config, Object, Op, WordState, unpack};
 use mv_wait::{Station, Task};
 use std::alloc::Global;
 use std::hint;
@@ -261,6 +261,56 @@ fn a_pause_that_parked_is_woken(rt: HostRuntime) -> Result<(), Fail> {
     Ok(())
 }
 
+// A call of its own, made of a look and an exchange: releases a pause that is on. Whether there was one.
+fn release_paused(station: &Station, task: &mut Task, element: u32) -> bool
+    requires task { IsOf station.now task.old }
+    requires element { element < element_count station.now.config }
+    requires left { 0 < task.old.left }
+    ensures task { IsOf station.now task.new }
+{
+    let object = Object::Element(element);
+    let word = station.look(task, object);
+    let Some((_, WordState::Element(state))) = unpack(object, word) else {
+        return false;
+    };
+    if state.phase != Phase::Paused {
+        return false;
+    }
+    let op = Op::Element(ElementOp::Release(state.generation, CODE));
+    match station.try_event(task, object, op, word) {
+        Ok(_) => {
+            // The exchange has woken nobody: whose pause it ends is for this call to wake.
+            station.wake(element / station.config().config().elements_per_caller);
+            true
+        }
+        Err(_) => false,
+    }
+}
+
+// Releases the pause of element 0 by that call, as soon as its task has parked.
+fn release_by_exchange<R: Abort + Wait>(rt: &R, station: &Station, mut task: Task) -> bool
+    requires task { IsOf station.now task }
+    requires rest { IsAtRest task.log }
+    requires elements { element_count station.now.config ≡ 4 }
+{
+    await_pause(rt, station, &mut task, 0);
+    linger();
+    assert!(rt; task.left() > 0);
+    release_paused(station, &mut task, 0)
+}
+
+#[test]
+fn a_call_made_of_events_wakes_whom_it_releases(rt: HostRuntime) -> Result<(), Fail> {
+    let (station, first, second) = open_two(&rt, rt.alloc(), 20)?;
+    let (_paused, released) = join(
+        &rt,
+        || pause_once(&rt, &station, first),
+        || release_by_exchange(&rt, &station, second),
+    );
+    assert!(rt; released);
+    Ok(())
+}
+
 // Releases the other's pause and pauses, once with each generation.
 fn hand_over<R: Abort + Wait>(rt: &R, station: &Station, mut task: Task, times: u32) -> Task
     requires task { IsOf station.now task }
@@ -357,8 +407,8 @@ fn transfer_often<R: Abort + Wait>(
     ensures rest { IsAtRest task.new.log }
 {
     for generation in 0..TRANSFERS {
-        let own = token(own, generation + ahead);
-        hand_and_take(rt, station, task, own, token(other, generation));
+        let current = token(own, generation + ahead);
+        hand_and_take(rt, station, task, current, token(other, generation));
     }
 }
 

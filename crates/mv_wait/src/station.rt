@@ -86,6 +86,10 @@ impl Station {
 
     /// One event on an object, and its reply: what the calls are made of. It takes one event that must be left, and the operation
     /// must be one that the task may make by its own log. It does not park; on the latch set it waits for its turn.
+    ///
+    /// It wakes nobody, whatever its reply: a task that parks for what the event completes stays parked until the caller of this
+    /// wakes it by `wake`. Whom: at a post of a block or a release of an element that is answered Woke its owner, and on the latch
+    /// set those whom `Task::wakes` then names.
     pub fn event<R: Wait>(&self, rt: &R, task: &mut Task, object: Object, op: Op) -> Reply
         requires task { IsOf self.now task.old }
         requires left { 0 < task.old.left }
@@ -102,6 +106,8 @@ impl Station {
 
     /// One exchange of an object's word: a block's, an element's or a volume's. One event that must be left, which is taken only
     /// where the exchange was made. It never waits.
+    ///
+    /// It wakes nobody, whatever its reply: where that is Woke, the caller of this wakes the owner of the block or element by `wake`.
     ///
     /// # Errors
     ///
