@@ -4,11 +4,11 @@
 ghost use Rattle.std.specs.Prelude.{◌≡◌, ◌<◌, ◌≤◌, length, IfOk, IfSome};
 ghost use Rattle.mv_latch.specs.Request.{posted_ecb};
 ghost use Rattle.mv_calls.specs.Rest.{IsAtRest};
-ghost use Rattle.mv_board.specs.Faces.{AreFresh, IsOf};
+ghost use Rattle.mv_board.specs.Faces.{AreFresh, AreInOrder, IsOf};
 
 use super::*;
 use mv_latch::Mode;
-use mv_machine::Config;
+use mv_machine::{Config, replay};
 use mv_wait::{Station, Task, WaitSlot};
 use std::alloc::Global;
 use std::process::Abort;
@@ -20,6 +20,7 @@ use std::thread::{self, Threads, join};
 fn open(alloc: Global, budgets: Vec<u32>) -> Result<(Station, Vec<Task>), Fail>
     requires { (1 ≤ length budgets.items) × (length budgets.items ≤ 16) }
     ensures tasks { IfOk result (λ r. AreFresh r.0 0 r.1.items × (length r.1.items ≡ length budgets.items)) }
+    ensures callers { IfOk result (λ r. r.0.config.callers ≡ length budgets.items) }
     ensures latches { IfOk result (λ r. r.0.config.latches ≡ 8) }
     ensures block { IfOk result (λ r. length r.0.config.owners ≡ 1) }
 {
@@ -48,6 +49,7 @@ fn await_post<R: Abort + Wait>(rt: &R, station: &Station, task: &mut Task)
     requires block { length station.now.config.owners ≡ 1 }
     ensures task { IsOf station.now task.new }
     ensures rest { IsAtRest task.new.log }
+    ensures number { task.new.number ≡ task.old.number }
 {
     assert!(rt; task.left() >= 3);
     let waited = station.wait(rt, task, 1, &[0], &mut [WaitSlot::Open]);
@@ -71,6 +73,7 @@ fn take<R: Abort + Wait>(
     requires block { length station.now.config.owners ≡ 1 }
     ensures task { IsOf station.now task.new }
     ensures rest { IsAtRest task.new.log }
+    ensures number { task.new.number ≡ task.old.number }
     ensures latch { result.latch ≡ latch }
 {
     assert!(rt; task.left() >= 2);
@@ -92,6 +95,7 @@ fn give_back<R: Abort + Wait>(rt: &R, station: &Station, task: &mut Task, token:
     requires latch { token.latch < station.now.config.latches }
     ensures task { IsOf station.now task.new }
     ensures rest { IsAtRest task.new.log }
+    ensures number { task.new.number ≡ task.old.number }
 {
     assert!(rt; station.config().release_cost() <= task.left());
     assert!(rt; release_latch(station, rt, task, token, false).is_ok());
@@ -193,7 +197,7 @@ fn a_request_is_purged_while_its_task_waits(rt: HostRuntime) -> Result<(), Fail>
     Ok(())
 }
 
-// Takes latch 0 and gives it back, so many times. How many events it made.
+// Takes latch 0 and gives it back, so many times.
 fn take_often<R: Abort + Wait>(
     rt: &R,
     station: &Station,
@@ -201,18 +205,20 @@ fn take_often<R: Abort + Wait>(
     requestor: u64,
     form: Form,
     times: u32,
-) -> usize
+) -> Task
     requires task { IsOf station.now task }
     requires rest { IsAtRest task.log }
     requires form { IfSome (posted_ecb form) (λ e. e ≡ 0) }
     requires block { length station.now.config.owners ≡ 1 }
     requires latches { station.now.config.latches ≡ 8 }
+    ensures task { IsOf station.now result }
+    ensures number { result.number ≡ task.number }
 {
     for _ in 0..times {
         let token = take(rt, station, &mut task, 0, requestor, form);
         give_back(rt, station, &mut task, token);
     }
-    task.log().len()
+    task
 }
 
 // Two threads take one latch so many times, the second by requests of this form, and come to their end.
@@ -221,25 +227,29 @@ fn contend<R: Abort + Wait + Threads + Sync>(
     alloc: Global,
     form: Form,
     times: u32,
-) -> Result<(), Fail>
+) -> Result<(Station, Vec<Task>), Fail>
     requires form { IfSome (posted_ecb form) (λ e. e ≡ 0) }
     requires times { times ≤ 10000 }
+    ensures tasks { IfOk result (λ r. AreInOrder r.0 0 r.1.items × (length r.1.items ≡ r.0.config.callers)) }
 {
     let budget = 5 * times + 100;
     let (station, mut tasks) = open(alloc, vec![in alloc; budget, budget]?)?;
     let second = station.take_last(&mut tasks);
     let first = station.take_last(&mut tasks);
-    join(
+    let (first, second) = join(
         rt,
         || take_often(rt, &station, first, 1, Form::Waiting, times),
         || take_often(rt, &station, second, 2, form, times),
     );
-    Ok(())
+    Ok((station, vec![in alloc; first, second]?))
 }
 
 #[test]
 fn one_task_takes_a_latch_beside_one_that_is_posted_for_it(rt: HostRuntime) -> Result<(), Fail> {
-    contend(&rt, rt.alloc(), Form::Posted(0), 1000)
+    let (station, tasks) = contend(&rt, rt.alloc(), Form::Posted(0), 1000)?;
+    let closed = station.close(tasks);
+    replay(rt.alloc(), &closed.config, &closed.journal)?;
+    Ok(())
 }
 
 // ---- what bench/run times
@@ -248,12 +258,13 @@ fn one_task_takes_a_latch_beside_one_that_is_posted_for_it(rt: HostRuntime) -> R
 fn a_free_latch_is_taken_and_given_back(rt: HostRuntime) -> Result<(), Fail> {
     let (station, mut tasks) = open(rt.alloc(), vec![in rt.alloc(); 50_010]?)?;
     let task = station.take_last(&mut tasks);
-    let made = take_often(&rt, &station, task, 1, Form::Waiting, 25_000);
-    assert_eq!(rt; made, 50_000);
+    let task = take_often(&rt, &station, task, 1, Form::Waiting, 25_000);
+    assert_eq!(rt; task.log().len(), 50_000);
     Ok(())
 }
 
 #[test]
 fn two_threads_take_one_latch(rt: HostRuntime) -> Result<(), Fail> {
-    contend(&rt, rt.alloc(), Form::Waiting, 10_000)
+    contend(&rt, rt.alloc(), Form::Waiting, 10_000)?;
+    Ok(())
 }
