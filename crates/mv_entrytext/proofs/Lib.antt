@@ -3,6 +3,8 @@ pub mod Numbers
 pub mod Digits
 pub mod Fields
 pub mod Parts
+-- the table that digits are written by
+pub mod Pairs
 -- what is written is read again: the law `text_determines_journal`
 pub mod OneLine
 pub mod ConfigNumbers
