@@ -18,7 +18,7 @@ parts c =
     let l = c.split_field.result.0.now in
     let r = c.split_field-2.result.0.now in
     ap (obtain z)
-    (c.split_field.ensures ∙ ap (starts_fields l) (c.split_field-2.ensures ∙ ap (starts_fields r) c.split_field-3.ensures))
+    (c.split_field.ensures.fields ∙ ap (starts_fields l) (c.split_field-2.ensures.fields ∙ ap (starts_fields r) c.split_field-3.ensures.fields))
     ∙ by_words z l r c.split_field-3.result.0.now (fields_of c.split_field-3.result.1.now)
 
 pub returns-in-Ok : goal.returns-in-Ok
