@@ -1,8 +1,10 @@
 -- Rows worked by hand: what the definitions come to.
-use Rattle.std.proofs.Common.{◌≡◌, ℕ, List, [], ◌∷◌, ◌++◌, Some, None, refl}
+use Rattle.std.proofs.Common.{◌≡◌, ℕ, ◌<◌, false, List, [], ◌∷◌, ◌++◌, Some, None, refl, arith}
 use Rattle.std.specs.Prelude.{codes}
 use Rattle.std.specs.Fmt.{digits}
 use Rattle.mv_latch.specs.declared.request.Mode.TheVariants.{Shared, Exclusive}
+use Rattle.mv_deck.specs.declared.deck.After.{After}
+use Rattle.mv_deck.specs.declared.deck.Step.{Step}
 use Rattle.mv_deck.specs.declared.deck.Step.TheVariants.{Print, Use, Free, Count, Scan, Abend, Return}
 use Rattle.mv_deck.specs.declared.form.Version.TheVariants.{One, Two}
 use Rattle.mv_line.specs.Line.{lines_of, without_cr}
@@ -12,6 +14,8 @@ use Rattle.mv_deck.specs.Operand.{latch_of, amount_of, code_of, end_code_of}
 use Rattle.mv_deck.specs.Statement.{Null, JobOf, PrintOf, UseOf, CountOf, AbendOf, ReturnOf, form_of, statement_of, version_of}
 use Rattle.mv_deck.specs.Deck.{JobData, deck_of}
 use Rattle.mv_deck.specs.Fault.{first_fault, fault_at, faults_from}
+use Rattle.mv_deck.specs.Held.{lacks_latch}
+use Rattle.mv_deck.specs.Sound.{IsSound}
 use Rattle.mv_deck.specs.Weight.{weight}
 use Rattle.mv_deck.specs.Load.{job_lines, load_text, load_job, load_jobs}
 
@@ -236,6 +240,23 @@ an_ended_job = refl
 nothing : first_fault [] 1 ≡ Some (fault_at 1 12)
 unfolding faults_from
 nothing = refl
+
+-- ---- decks that are not sound, each of one job
+
+abbrev one_job : List After → List Step → List JobData
+one_job after steps = record { name = codes "A"; after = after; steps = steps } ∷ []
+
+-- a COUNT in a volume whose latch is not held
+unlatched_is_not_sound : ¬ IsSound (one_job [] (Count 0 1 ∷ [])) 1
+unlatched_is_not_sound h =
+    let held : lacks_latch [] (Count 0 1) ≡ false = h.jobs_stand.0.steps.0.latched in
+    absurd cc
+
+-- a job that waits for itself
+self_awaited_is_not_sound : ¬ IsSound (one_job (record { job = 0; most = 0 } ∷ []) []) 1
+self_awaited_is_not_sound h =
+    let earlier : 0 < 0 = h.jobs_stand.0.earlier.0.0 in
+    omega arith
 
 -- ---- loads
 
