@@ -1,5 +1,5 @@
 -- Rows worked by hand: what the definitions of a script's text come to.
-use Rattle.std.proofs.Common.{◌≡◌, ℕ, List, [], ◌∷◌, ◌++◌, Some, None, Ok, Err, refl}
+use Rattle.std.proofs.Common.{◌≡◌, ℕ, List, [], ◌∷◌, ◌++◌, Some, None, Ok, Err, refl, arith}
 use Rattle.std.specs.Prelude.{codes, true, false}
 use Rattle.mv_element.specs.declared.element.Token.{Token}
 use Rattle.mv_latch.specs.declared.request.LatchForm.TheVariants.{Waiting, Posted}
@@ -13,7 +13,8 @@ use Rattle.mv_script.specs.declared.words.Misread.TheVariants.{NoForm, BadNumber
 use Rattle.mv_script.specs.declared.operand.Sizes.{Sizes}
 use Rattle.mv_script.specs.Costs.{script_setup}
 use Rattle.mv_script.specs.Fault.{first_fault, fault_at, faults_from}
-use Rattle.mv_script.specs.Script.{script_of}
+use Rattle.mv_script.specs.Script.{ScriptData, script_of}
+use Rattle.mv_script.specs.Sound.{IsSound, IsObtainOf}
 use Rattle.mv_script.specs.Statement.{text_states}
 use Rattle.mv_script.specs.Words.{Read}
 
@@ -123,6 +124,15 @@ exits_script = refl
 exits_have_no_fault : first_fault exits ≡ None
 unfolding faults_from
 exits_have_no_fault = refl
+
+-- a script whose one task checks an OBTAIN that it did not make
+abbrev unasked : ScriptData
+unasked = record { setup = exits_setup; tasks = (call.Check 1 ∷ []) ∷ [] }
+
+unasked_is_not_sound : ¬ IsSound unasked
+unasked_is_not_sound h =
+    let made : IsObtainOf [] 1 = h.tasks.0.sound.0.obtain in
+    omega (arith, made.1)
 
 -- ---- first faults
 
