@@ -11,10 +11,10 @@ pub const READER: u32 = 0;
 /// The scheduler's.
 pub const SCHEDULER: u32 = 1;
 
-/// The lowest of an initiator.
+/// The first initiator's.
 pub const FIRST_INITIATOR: u32 = 2;
 
-/// The number of an initiator as a caller.
+/// The number of an initiator.
 pub fn initiator(index: u32) -> u32
     requires { index < most_initiators }
     ensures { result ≡ initiator index }
