@@ -8,14 +8,11 @@ ghost use Rattle.mv_runscript.specs.Seats.{HasRoom, IsReady, AreReady, HasWorked
 use crate::making::make_all;
 use mv_io::NoMemory;
 use mv_latchset::LatchToken;
-use mv_script::{Answer, Call, CallList, Slots};
+use mv_script::{Answer, Call, CallList, MOST_WAITED, Slots};
 use mv_wait::{Station, Task, WaitSlot};
 use std::alloc::Global;
 use std::sync::Wait;
 use std::thread::{self, Threads};
-
-/// How many blocks one WAIT may have.
-const MOST_WAITED: usize = 8;
 
 /// A task, what its calls answered so far, and the room for the rest.
 #[derive(Drop)]

@@ -26,6 +26,7 @@ pub use laws::{
     costs_suffice, first_fault_is_lowest, scripts_are_sound, text_determines_answers,
     tries_are_done_or_moved,
 };
+pub use limits::MOST_WAITED;
 pub use numbers::{Numbers, Slots};
 pub use reading::read_script;
 pub use script::Script;

@@ -16,7 +16,7 @@ pub(crate) const MOST_TARGETS: usize = 4;
 pub(crate) const MOST_CALLS: usize = 128;
 
 /// How many blocks a WAIT.
-pub(crate) const MOST_WAITED: usize = 8;
+pub const MOST_WAITED: usize = 8;
 
 /// The highest count of a WAIT.
 pub(crate) const HIGHEST_COUNT: u64 = 99;
