@@ -5,7 +5,7 @@ ghost use Rattle.std.specs.String.{string_bytes};
 ghost use Rattle.mv_program.specs.Command.{command_of as command_by_words, initiators_of as initiators_by_word, jobs_of};
 ghost use Rattle.mv_program.specs.Command.{load_of as load_by_numbers, IsRunnable, AreInitiators};
 
-use mv_deck::MOST_JOBS;
+use mv_deck::{MOST_INITIATORS, MOST_JOBS};
 use mv_line::number_within;
 
 /// What the program is to do.
@@ -29,7 +29,9 @@ fn initiators_of(word: &[u8]) -> Option<u32>
     ensures range { IfSome result AreInitiators }
 {
     match word {
-        [digit @ b'1'..=b'8'] => Some((*digit - b'0') as u32),
+        [digit] if b'0' < *digit && *digit <= b'0' + MOST_INITIATORS as u8 => {
+            Some((*digit - b'0') as u32)
+        }
         _ => None,
     }
 }
