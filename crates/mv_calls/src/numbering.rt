@@ -17,7 +17,7 @@ use mv_machine::{Entry, State, ValidConfig};
 use std::alloc::Global;
 
 // What is kept of each caller before its first entry.
-fn new_counters(alloc: Global, callers: u32) -> Result<Vec<Counter>, NoMemory>
+pub(crate) fn new_counters(alloc: Global, callers: u32) -> Result<Vec<Counter>, NoMemory>
     ensures callers { IfOk result (λ xs. length xs.items ≡ callers) }
     ensures start { IfOk result (λ xs. counted xs.items ≡ (λ _. unnumbered)) }
 {

@@ -12,7 +12,7 @@ use Rattle.mv_machine.specs.declared.entry.Reply.{Reply}
 use Rattle.mv_machine.specs.Legal.{IsNext, LegalFrom, next}
 use Rattle.mv_machine.specs.Setup.{Setup}
 use Rattle.mv_machine.specs.State.{table}
-use Rattle.mv_machine.specs.System.{System, admitted, wakes_after, with_at}
+use Rattle.mv_machine.specs.System.{System, admitted, after_step, wakes_after, with_at}
 use Rattle.mv_machine.proofs.Tables.{table-set}
 use Rattle.mv_calls.specs.declared.counting.Counter.{Counter}
 use Rattle.mv_calls.specs.Counters.{numbering_of, counted}
@@ -58,10 +58,14 @@ one_counted c s shown ws xs e old new n lt at told is =
           (counted xs e.caller).pending e.object e.op;
     }) (asked_same c s shown e.caller e.object e.op e.reply n.admits))))
 
+-- its step changes what it is on
+pub stepped : (c : Setup) (s : System) (e : Entry) → IsNext c s e → after_step c s e.caller e.object e.op ≡ next s e
+stepped c s e n = rw (n.admits) refl
+
 -- ---- a round of the loop
 
 -- the entry at a place, and what is left behind it
-at_drop : (es : List Entry) (i : ℕ) (e : Entry) → i < length es → e ≡ get_or es i e → drop i es ≡ e ∷ drop (i + 1) es
+pub at_drop : (es : List Entry) (i : ℕ) (e : Entry) → i < length es → e ≡ get_or es i e → drop i es ≡ e ∷ drop (i + 1) es
 at_drop es i e lt at = drop_more es i e lt ∙ ap (λ x. x ∷ drop (i + 1) es) (sym at)
 
 -- what is left is legal behind it

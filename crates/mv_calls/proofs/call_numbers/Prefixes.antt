@@ -47,10 +47,10 @@ slice_get_front xs i x at =
     (slice_get-get_or xs i x lt) ∙ at
 
 -- the first number that differs from those of the list differs from those of its front
-pub first_number : (c : Setup) (es : List Entry) (kept : List ℕ) (index k machine : ℕ) → Legal c es
+pub first_number : (c : Setup) (es : List Entry) (kept : List ℕ) (index k machine : ℕ) → Legal c (take (index + 1) es)
     → IsFirstOther kept (calls c es) index k machine → IsFirstNumber c es kept index k machine
 first_number c es kept index k machine l o = record {
-  legal = legal_take c (index + 1) es l;
+  legal = l;
   other = record {
     same = o.same ∙ sym (take-take index (index + 1) (calls c es) (omega arith)) ∙ ap (λ ns. take index ns)
         (sym (calls-take c (index + 1) es));
