@@ -12,7 +12,7 @@ use Rattle.mv_deck.specs.Sound.{IsSound, IsSoundJob, IsSoundAfter, AreSoundJobs,
 use Rattle.mv_machine.specs.Reach.{reach, release_cost}
 use Rattle.mv_machine.specs.Setup.{Setup, element_owner}
 use Rattle.mv_plan.specs.Jobs.{job_at, no_job}
-use Rattle.mv_plan.specs.SpoolSetup.{spool_setup, entered, idle}
+use Rattle.mv_plan.specs.SpoolSetup.{spool_setup, entered, done, idle}
 use Rattle.mv_plan.proofs.deck.Setup.{facts}
 use Rattle.mv_spool.specs.Parts.{HasInitiator, jobs_of}
 use Rattle.mv_spool.proofs.Reaches.{block_count, reach_alone, reach_done, release_cost_is}
@@ -87,9 +87,10 @@ module _ (deck : List Job) (i : ℕ) (c : Setup) (is : c ≡ spool_setup (jobs_o
       (block_exists (4 * length deck + k) (omega arith), omega arith, ap (λ (s : Setup). s.elements_per_caller) is)
 
   -- a post that enters a job leads no further
-  pub reach_entered : (j : ℕ) → j < length deck → reach c (entered j) ≡ 1
-  reach_entered j lt =
-      let n = job_count deck in ap (λ s. reach s j) is ∙ reach_alone (jobs_of deck) i j (omega arith) (λ m low q. omega arith)
+  pub reach_entered : (b j : ℕ) → b ≡ entered j → j < length deck → reach c b ≡ 1
+  reach_entered b j e lt =
+      let n = job_count deck in ap (reach c) e ∙ ap (λ s. reach s j) is
+      ∙ reach_alone (jobs_of deck) i j (omega arith) (λ m low q. omega arith)
 
   -- nor does one of an idle initiator
   pub reach_idle : (e : ℕ) → 4 * length deck ≤ e → 0 < i → reach c e ≡ 1
@@ -97,16 +98,16 @@ module _ (deck : List Job) (i : ℕ) (c : Setup) (is : c ≡ spool_setup (jobs_o
       let n = job_count deck in ap (λ s. reach s e) is ∙ reach_alone (jobs_of deck) i e (omega arith) (λ m low q. omega arith)
 
   -- the end of a job makes four events at most
-  pub end_cost : (j : ℕ) → j < length deck → release_cost c + reach c (length deck + j) ≡ 4
-  end_cost j lt =
+  pub end_cost : (b j : ℕ) → b ≡ done (length deck) j → j < length deck → release_cost c + reach c b ≡ 4
+  end_cost b j e lt =
       let n = job_count deck in
       let purge : release_cost c ≡ 1 = ap release_cost is ∙ release_cost_is (jobs_of deck) i in
-      let post : reach c (length deck + j) ≡ 3 = ap (λ m. reach c (m + j)) (sym n) ∙ ap (λ s. reach s (length (jobs_of deck) + j)) is
-      ∙ reach_done (jobs_of deck) i j (omega arith) in omega arith
+      let post : reach c b ≡ 3 = ap (reach c) e ∙ ap (λ m. reach c (m + j)) (sym n)
+      ∙ ap (λ s. reach s (length (jobs_of deck) + j)) is ∙ reach_done (jobs_of deck) i j (omega arith) in omega arith
 
   -- an element has its owner's number
   pub own_number : (e k : ℕ) → 0 < i → element_owner c e ≡ k → e ≡ k
   own_number e k some own = sym ((facts (jobs_of deck) i (omega arith)).element e) ∙ sym (ap (λ s. element_owner s e) is) ∙ own
 
-pub idle_is : (deck : List Job) (r k : ℕ) → r ≡ k → 4 * length deck + (r - 2) ≡ idle (length (jobs_of deck)) (k - 2)
-idle_is deck r k e = let n = job_count deck in omega arith
+pub idle_is : (deck : List Job) (b r k : ℕ) → b ≡ idle (length deck) (r - 2) → r ≡ k → b ≡ idle (length (jobs_of deck)) (k - 2)
+idle_is deck b r k is e = let n = job_count deck in omega arith

@@ -24,21 +24,28 @@ module _ (c : Setup) (n code i generation : ℕ) where
   abbrev released : ℕ → Call (Unit {0})
   released word = accepted (release (token_of (initiator i) generation) code) (λ (reached : Reached). finished tt)
 
-  pub not_cleared : {why : Refusal} {t u : CallerFace} → IsServed 1 (clear c (idle n i)) (λ a. a ≡ Err why) t u
+  pub not_cleared : {why : Refusal} {t u : CallerFace} (b : ℕ) → b ≡ idle n i → IsServed 1 (clear c b) (λ a. a ≡ Err why) t u
       → Ran (hand_over c n code i generation) Wrong t u
-  not_cleared s = ran_last (served_as s) (unrefused released) refl
+  not_cleared {why} {t} {u} b is s =
+      ran_last (subst (λ e. Ran (clear c e) (Done (Err why)) t u) is (served_as s)) (unrefused released) refl
 
-  pub handed : {word : ℕ} {reached : Reached} {t u v : CallerFace} → IsServed 1 (clear c (idle n i)) (λ a. a ≡ Ok word) t u
-      → IsServed 1 (release (token_of (initiator i) generation) code) (λ a. a ≡ Ok reached) u v
-      → Ran (hand_over c n code i generation) (Done tt) t v
-  handed s x = ran_followed (served_as s) (unrefused released)
-      (ran_last (served_as x) (unrefused (λ (reached : Reached). finished tt)) refl)
+  -- the block is the initiator's, and so is the element
+  module _ {word : ℕ} {t u : CallerFace} (b k : ℕ) (is : b ≡ idle n i) (own : k ≡ initiator i)
+      (s : IsServed 1 (clear c b) (λ a. a ≡ Ok word) t u) where
+    cleared : Ran (clear c (idle n i)) (Done (Ok word)) t u
+    cleared = subst (λ e. Ran (clear c e) (Done (Ok word)) t u) is (served_as s)
 
-  pub not_handed : {word : ℕ} {why : Refusal} {t u v : CallerFace} → IsServed 1 (clear c (idle n i)) (λ a. a ≡ Ok word) t u
-      → IsServed 1 (release (token_of (initiator i) generation) code) (λ a. a ≡ Err why) u v
-      → Ran (hand_over c n code i generation) Wrong t v
-  not_handed s x = ran_followed (served_as s) (unrefused released)
-      (ran_last (served_as x) (unrefused (λ (reached : Reached). finished tt)) refl)
+    pub handed : {reached : Reached} {v : CallerFace} → IsServed 1 (release (token_of k generation) code) (λ a. a ≡ Ok reached) u v
+        → Ran (hand_over c n code i generation) (Done tt) t v
+    handed {reached} {v} x = ran_followed cleared (unrefused released)
+        (ran_last (subst (λ e. Ran (release (token_of e generation) code) (Done (Ok reached)) u v) own (served_as x))
+        (unrefused (λ (reached : Reached). finished tt)) refl)
+
+    pub not_handed : {why : Refusal} {v : CallerFace} → IsServed 1 (release (token_of k generation) code) (λ a. a ≡ Err why) u v
+        → Ran (hand_over c n code i generation) Wrong t v
+    not_handed {why} {v} x = ran_followed cleared (unrefused released)
+        (ran_last (subst (λ e. Ran (release (token_of e generation) code) (Done (Err why)) u v) own (served_as x))
+        (unrefused (λ (reached : Reached). finished tt)) refl)
 
 -- ---- one job
 
@@ -71,11 +78,13 @@ module _ (c : Setup) (n initiators j : ℕ) (job : JobData) (t : CallerFace) whe
   abbrev pub ChosenLeft : Bool → ℕ × ℕ → CallerFace → Type 0
   ChosenLeft skipped r u = Leads whole (handing skipped r.0 r.1) t u
 
-  pub has_entered : {r : ℕ × ℕ} {u : CallerFace} → Ran (first c (entered j ∷ [])) (Done r) t u → EnteredLeft u
-  has_entered x = leads_first c (entered j ∷ []) awaiting (leads_all whole t) x
+  pub has_entered : {r : ℕ × ℕ} {u : CallerFace} (b : ℕ) → b ≡ entered j → Ran (first c (b ∷ [])) (Done r) t u → EnteredLeft u
+  has_entered {r} {u} b is x =
+      leads_first c (entered j ∷ []) awaiting (leads_all whole t) (subst (λ e. Ran (first c (e ∷ [])) (Done r) t u) is x)
 
-  pub not_entered : {u : CallerFace} → Ran (first c (entered j ∷ [])) Wrong t u → Ran whole Wrong t u
-  not_entered x = leads_unfound c (entered j ∷ []) awaiting (leads_all whole t) x
+  pub not_entered : {u : CallerFace} (b : ℕ) → b ≡ entered j → Ran (first c (b ∷ [])) Wrong t u → Ran whole Wrong t u
+  not_entered {u} b is x =
+      leads_unfound c (entered j ∷ []) awaiting (leads_all whole t) (subst (λ e. Ran (first c (e ∷ [])) Wrong t u) is x)
 
   awaited_then : {u : CallerFace} → EnteredLeft u → Leads whole (followed (all_ends c n job.after) extending) t u
   awaited_then {u} k = subst (λ call. Leads whole call t u) (sym (ends_then c n job.after extending)) k
@@ -91,13 +100,15 @@ module _ (c : Setup) (n initiators j : ℕ) (job : JobData) (t : CallerFace) whe
     abbrev choosing : Unit {0} → Call (Unit {0})
     choosing linked = first_of c idles (handing skipped)
 
-    pub has_extended : {u v : CallerFace} → AwaitedLeft skipped u → IsServed 1 (extend c (done n j) (j + 1)) (λ a. a ≡ Ok tt) u v
-        → ExtendedLeft skipped v
-    has_extended k s = leads_on (unrefused choosing) k (served_as s)
+    pub has_extended : {u v : CallerFace} (b : ℕ) → b ≡ done n j → AwaitedLeft skipped u
+        → IsServed 1 (extend c b (j + 1)) (λ a. a ≡ Ok tt) u v → ExtendedLeft skipped v
+    has_extended {u} {v} b is k s =
+        leads_on (unrefused choosing) k (subst (λ e. Ran (extend c e (j + 1)) (Done (Ok tt)) u v) is (served_as s))
 
-    pub not_extended : {why : Refusal} {u v : CallerFace} → AwaitedLeft skipped u
-        → IsServed 1 (extend c (done n j) (j + 1)) (λ a. a ≡ Err why) u v → Ran whole Wrong t v
-    not_extended k s = leads_last (unrefused choosing) k (served_as s) refl
+    pub not_extended : {why : Refusal} {u v : CallerFace} (b : ℕ) → b ≡ done n j → AwaitedLeft skipped u
+        → IsServed 1 (extend c b (j + 1)) (λ a. a ≡ Err why) u v → Ran whole Wrong t v
+    not_extended {why} {u} {v} b is k s =
+        leads_last (unrefused choosing) k (subst (λ e. Ran (extend c e (j + 1)) (Done (Err why)) u v) is (served_as s)) refl
 
     pub has_chosen : {r : ℕ × ℕ} {u v : CallerFace} → ExtendedLeft skipped u → Ran (first c idles) (Done r) u v
         → ChosenLeft skipped r v
@@ -108,12 +119,14 @@ module _ (c : Setup) (n initiators j : ℕ) (job : JobData) (t : CallerFace) whe
 
 -- ---- an initiator is dismissed
 
-module _ (c : Setup) (n i : ℕ) {t u : CallerFace} where
-  pub dismissing : {r : ℕ × ℕ} → Ran (first c (idle n i ∷ [])) (Done r) t u → Leads (dismiss c n i) (hand_over c n 0 i r.1) t u
-  dismissing x = leads_first c (idle n i ∷ []) (λ position generation. hand_over c n 0 i generation) (leads_all (dismiss c n i) t) x
+module _ (c : Setup) (n i : ℕ) {t u : CallerFace} (b : ℕ) (is : b ≡ idle n i) where
+  pub dismissing : {r : ℕ × ℕ} → Ran (first c (b ∷ [])) (Done r) t u → Leads (dismiss c n i) (hand_over c n 0 i r.1) t u
+  dismissing {r} x = leads_first c (idle n i ∷ []) (λ position generation. hand_over c n 0 i generation) (leads_all (dismiss c n i) t)
+      (subst (λ e. Ran (first c (e ∷ [])) (Done r) t u) is x)
 
-  pub not_idle : Ran (first c (idle n i ∷ [])) Wrong t u → Ran (dismiss c n i) Wrong t u
-  not_idle x = leads_unfound c (idle n i ∷ []) (λ position generation. hand_over c n 0 i generation) (leads_all (dismiss c n i) t) x
+  pub not_idle : Ran (first c (b ∷ [])) Wrong t u → Ran (dismiss c n i) Wrong t u
+  not_idle x = leads_unfound c (idle n i ∷ []) (λ position generation. hand_over c n 0 i generation) (leads_all (dismiss c n i) t)
+      (subst (λ e. Ran (first c (e ∷ [])) Wrong t u) is x)
 
 -- ---- all jobs are handed out, and then the initiators are dismissed
 

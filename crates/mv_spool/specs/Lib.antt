@@ -1,5 +1,3 @@
--- how many initiators and jobs there may be
-pub mod Limits
 -- calls that a task has run
 pub mod Ran
 -- calls that are parts of the plan's, and what the code's types say in its words

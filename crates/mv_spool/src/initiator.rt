@@ -6,14 +6,13 @@ ghost use Rattle.mv_board.specs.Faces.{IsOf};
 ghost use Rattle.mv_calls.specs.Program.{Done, Wrong};
 ghost use Rattle.mv_calls.specs.Rest.{IsAtRest};
 ghost use Rattle.mv_deck.specs.Sound.{IsSound};
-ghost use Rattle.mv_deck.specs.Weight.{all_events};
+ghost use Rattle.mv_deck.specs.Weight.{all_events, most_initiators};
 ghost use Rattle.mv_machine.specs.Limits.{highest_generation};
 ghost use Rattle.mv_machine.specs.Reach.{reach};
 ghost use Rattle.mv_machine.specs.Setup.{element_count};
 ghost use Rattle.mv_pause.specs.Answers.{gift_of};
-ghost use Rattle.mv_plan.specs.SpoolSetup.{spool_setup};
+ghost use Rattle.mv_plan.specs.SpoolSetup.{jobs_limit, spool_setup};
 ghost use Rattle.mv_plan.specs.SpoolTasks.{initiating, job_named as named_by};
-ghost use Rattle.mv_spool.specs.Limits.{jobs_limit};
 ghost use Rattle.mv_spool.specs.Parts.{jobs_of, named_of, next_gift};
 ghost use Rattle.mv_spool.specs.Ran.{Ran, RanOut};
 
@@ -22,12 +21,10 @@ use crate::running::{Named, run_job};
 use mv_deck::Job;
 use mv_element::Token;
 use mv_pause::{Given, allocate, deallocate, pause};
+use mv_plan::{FIRST_INITIATOR, idle};
 use mv_task::Gate;
 use mv_wait::{Station, Task};
 use std::sync::Wait;
-
-/// The lowest number of an initiator's task. The reader's is 0, and the scheduler's is 1.
-pub(crate) const FIRST_INITIATOR: u32 = 2;
 
 /// What is added to the code of a job that is not to be run.
 pub(crate) const NOT_TO_RUN: u32 = 1 << 23;
@@ -91,7 +88,7 @@ pub(crate) fn initiate<R: Wait, G: Gate>(
     gate: &G,
     ran: &mut [bool],
 )
-    requires few { length deck.now ≤ jobs_limit }
+    requires few { (length deck.now ≤ jobs_limit) × (initiators ≤ most_initiators) }
     requires sound { IsSound (jobs_of deck.now) initiators }
     requires station { station.now.config ≡ spool_setup (jobs_of deck.now) initiators }
     requires task { IsOf station.now task.old }
@@ -103,12 +100,12 @@ pub(crate) fn initiate<R: Wait, G: Gate>(
     ensures ran { RanOut (initiating station.now.config (jobs_of deck.now) (task.old.number - 2)) task.old task.new }
 {
     let jobs = deck.len() as u32;
-    let idle = 4 * jobs + (task.number() - FIRST_INITIATOR);
+    let block = idle(jobs, task.number() - FIRST_INITIATOR);
     let Ok(mut token) = allocate(station, rt, task) else {
         return;
     };
     for round in 0..jobs + 1 {
-        let Ok(given) = next_given(rt, station, task, idle, token) else {
+        let Ok(given) = next_given(rt, station, task, block, token) else {
             return;
         };
         token = given.next;

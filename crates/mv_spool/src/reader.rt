@@ -3,13 +3,13 @@
 ghost use Rattle.std.specs.Prelude.{◌≡◌, ◌≤◌, length};
 ghost use Rattle.mv_board.specs.Faces.{IsOf};
 ghost use Rattle.mv_calls.specs.Rest.{IsAtRest};
-ghost use Rattle.mv_plan.specs.SpoolSetup.{spool_setup};
+ghost use Rattle.mv_plan.specs.SpoolSetup.{jobs_limit, spool_setup};
 ghost use Rattle.mv_plan.specs.SpoolTasks.{reading};
-ghost use Rattle.mv_spool.specs.Limits.{jobs_limit};
 ghost use Rattle.mv_spool.specs.Parts.{jobs_of};
 ghost use Rattle.mv_spool.specs.Ran.{RanOut};
 
 use mv_deck::Job;
+use mv_plan::entered;
 use mv_task::{Gate, Point};
 use mv_wait::{Station, Task};
 use std::sync::Wait;
@@ -32,6 +32,6 @@ pub(crate) fn read<R: Wait, G: Gate>(
 {
     for job in 0..deck.len() as u32 {
         gate.pass(rt, task.number(), Point::Entered(job));
-        station.post(rt, task, job, 0);
+        station.post(rt, task, entered(job), 0);
     }
 }

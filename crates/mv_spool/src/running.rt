@@ -10,25 +10,22 @@ ghost use Rattle.mv_deck.specs.EndCode.{not_run};
 ghost use Rattle.mv_deck.specs.Sound.{IsSound, HasGoodNumbers};
 ghost use Rattle.mv_deck.specs.Weight.{step_events};
 ghost use Rattle.mv_plan.specs.Jobs.{job_at};
-ghost use Rattle.mv_plan.specs.SpoolSetup.{spool_setup};
+ghost use Rattle.mv_plan.specs.SpoolSetup.{jobs_limit, spool_setup};
 ghost use Rattle.mv_plan.specs.SpoolTasks.{run_steps as steps_run, run_job as job_run, job_done};
-ghost use Rattle.mv_spool.specs.Limits.{jobs_limit};
 ghost use Rattle.mv_spool.specs.Parts.{jobs_of, named_of};
 ghost use Rattle.mv_spool.specs.Ran.{Ran, RanSome};
 ghost use Rattle.mv_spool.specs.Steps.{AreKept, BearsSteps, DoesStep};
 
 use crate::lost::Lost;
-use mv_deck::{Job, NOT_RUN, Step};
+use mv_deck::{Job, NOT_RUN, Step, VOLUME_COUNT};
 use mv_latchset::{Form, LatchToken, Obtained, obtain, release_latch};
+use mv_plan::done;
 use mv_task::{Gate, Point, end_of_job};
 use mv_wait::{Station, Task};
 use std::sync::Wait;
 
 /// The end of a job that did all its steps.
 const ENDED: u32 = 0;
-
-/// How many latches there are.
-const LATCHES: usize = 8;
 
 /// A job that a scheduler's code names.
 #[derive(Clone, Copy, Debug)]
@@ -119,7 +116,7 @@ fn run_steps<R: Wait>(
     ensures few { task.old.left ≤ task.new.left + sum_by step_events steps.now }
     ensures end { IfOk result (λ end. end < not_run) }
 {
-    let mut requests: [Option<LatchToken>; LATCHES] = [None; LATCHES];
+    let mut requests: [Option<LatchToken>; VOLUME_COUNT] = [None; VOLUME_COUNT];
     for step in steps {
         match do_step(rt, station, task, requestor, step, &mut requests) {
             Ok(None) => {}
@@ -186,6 +183,7 @@ pub(crate) fn run_job<R: Wait, G: Gate>(
         return Err(Lost);
     };
     gate.pass(rt, who, Point::Ended(job));
-    end_of_job(station, rt, task, requestor, deck.len() as u32 + job, end);
+    let block = done(deck.len() as u32, job);
+    end_of_job(station, rt, task, requestor, block, end);
     Ok(())
 }

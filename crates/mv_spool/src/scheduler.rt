@@ -10,29 +10,23 @@ ghost use Rattle.mv_deck.specs.Operand.{most_after};
 ghost use Rattle.mv_deck.specs.Sound.{IsSound};
 ghost use Rattle.mv_deck.specs.Weight.{after_parts, most_initiators};
 ghost use Rattle.mv_plan.specs.Jobs.{job_at};
-ghost use Rattle.mv_plan.specs.SpoolSetup.{spool_setup, idle};
+ghost use Rattle.mv_plan.specs.SpoolSetup.{jobs_limit, spool_setup, idle};
 ghost use Rattle.mv_plan.specs.SpoolTasks.{scheduling, hand_over as handed, dispatch as dispatched, dismiss as dismissed};
 ghost use Rattle.mv_plan.specs.SpoolTasks.{code_of, ends_of, some_end_above};
-ghost use Rattle.mv_spool.specs.Limits.{jobs_limit};
 ghost use Rattle.mv_spool.specs.Parts.{HasInitiator, jobs_of, all_ends, is_end_above};
 ghost use Rattle.mv_spool.specs.Ran.{Ran, RanOut};
 ghost use Rattle.mv_wait.specs.Answers.{slot_of, slots_of};
 
 use crate::finding::first_of;
-use crate::initiator::{FIRST_INITIATOR, NO_JOB, NOT_TO_RUN};
+use crate::initiator::{NO_JOB, NOT_TO_RUN};
 use crate::lost::Lost;
-use mv_deck::{After, Job};
+use mv_deck::{After, Job, MOST_AFTER, MOST_INITIATORS};
 use mv_element::Token;
 use mv_pause::release;
+use mv_plan::{done, end_for_scheduler, entered, idle, initiator};
 use mv_task::{Gate, Point};
 use mv_wait::{Station, Task, WaitSlot};
 use std::sync::Wait;
-
-/// How many jobs a job waits for, at most.
-const MOST_AFTER: usize = 8;
-
-/// How many initiators there are, at most.
-const MOST_INITIATORS: usize = 8;
 
 /// The scheduler's blocks with the ends of these jobs.
 fn end_blocks(jobs: u32, after: &[After]) -> [u32; MOST_AFTER]
@@ -42,7 +36,7 @@ fn end_blocks(jobs: u32, after: &[After]) -> [u32; MOST_AFTER]
 {
     let mut blocks = [0; MOST_AFTER];
     for k in 0..after.len() {
-        blocks[k] = 2 * jobs + 2 * after[k].job;
+        blocks[k] = end_for_scheduler(jobs, after[k].job);
     }
     blocks
 }
@@ -110,24 +104,24 @@ fn hand_over<R: Wait>(
     task: &mut Task,
     jobs: u32,
     code: u32,
-    initiator: u32,
+    index: u32,
     generation: u32,
 ) -> Result<(), Lost>
-    requires jobs { (jobs ≤ jobs_limit) × (initiator < most_initiators) × (code < release_limit) }
-    requires station { HasInitiator station.now.config jobs initiator }
+    requires jobs { (jobs ≤ jobs_limit) × (index < most_initiators) × (code < release_limit) }
+    requires station { HasInitiator station.now.config jobs index }
     requires task { IsOf station.now task.old }
     requires rest { IsAtRest task.old.log }
     requires left { 2 ≤ task.old.left }
     ensures ran { MatchResult result
-        (λ _. Ran (handed station.now.config jobs code initiator generation) (Done tt) task.old task.new)
-        (λ _. Ran (handed station.now.config jobs code initiator generation) Wrong task.old task.new) }
+        (λ _. Ran (handed station.now.config jobs code index generation) (Done tt) task.old task.new)
+        (λ _. Ran (handed station.now.config jobs code index generation) Wrong task.old task.new) }
     ensures few { task.old.left ≤ task.new.left + 2 }
 {
-    let Ok(_) = station.clear(rt, task, 4 * jobs + initiator) else {
+    let Ok(_) = station.clear(rt, task, idle(jobs, index)) else {
         return Err(Lost);
     };
     let token = Token {
-        element: initiator + FIRST_INITIATOR,
+        element: initiator(index),
         generation,
     };
     match release(station, rt, task, token, code) {
@@ -150,13 +144,13 @@ fn job_code(job: u32, skipped: bool) -> u32
 }
 
 /// The blocks that initiators post when they are idle.
-fn idle_blocks(jobs: u32, initiators: u32) -> [u32; MOST_INITIATORS]
+fn idle_blocks(jobs: u32, initiators: u32) -> [u32; MOST_INITIATORS as usize]
     requires { (jobs ≤ jobs_limit) × (initiators ≤ most_initiators) }
     ensures { take initiators result ≡ map (idle jobs) (range_with_len 0 initiators) }
 {
-    let mut blocks = [0; MOST_INITIATORS];
+    let mut blocks = [0; MOST_INITIATORS as usize];
     for i in 0..initiators {
-        blocks[i as usize] = 4 * jobs + i;
+        blocks[i as usize] = idle(jobs, i);
     }
     blocks
 }
@@ -187,25 +181,25 @@ fn dispatch<R: Wait, G: Gate>(
     ensures few { task.old.left ≤ task.new.left + (5 + 2 * length (job_at (jobs_of deck.now) job).after + 2 * initiators) }
 {
     let jobs = deck.len() as u32;
-    let Ok(_) = first_of(rt, station, task, &[job], &mut [WaitSlot::Open]) else {
+    let Ok(_) = first_of(rt, station, task, &[entered(job)], &mut [WaitSlot::Open]) else {
         return Err(Lost);
     };
     let Ok(skipped) = await_ends(rt, station, task, jobs, &deck[job as usize].after) else {
         return Err(Lost);
     };
-    let Ok(()) = station.extend(rt, task, jobs + job, job + 1) else {
+    let Ok(()) = station.extend(rt, task, done(jobs, job), job + 1) else {
         return Err(Lost);
     };
-    let idle = idle_blocks(jobs, initiators);
-    let mut slots = [WaitSlot::Open; MOST_INITIATORS];
+    let blocks = idle_blocks(jobs, initiators);
+    let mut slots = [WaitSlot::Open; MOST_INITIATORS as usize];
     let count = initiators as usize;
-    let Ok(found) = first_of(rt, station, task, &idle[..count], &mut slots[..count]) else {
+    let Ok(found) = first_of(rt, station, task, &blocks[..count], &mut slots[..count]) else {
         return Err(Lost);
     };
     gate.pass(rt, task.number(), Point::Dispatched(job));
     let code = job_code(job, skipped);
-    let initiator = found.position as u32;
-    hand_over(rt, station, task, jobs, code, initiator, found.code)
+    let index = found.position as u32;
+    hand_over(rt, station, task, jobs, code, index, found.code)
 }
 
 /// Tells an initiator that no job follows, once it is idle.
@@ -214,23 +208,23 @@ fn dismiss<R: Wait>(
     station: &Station,
     task: &mut Task,
     jobs: u32,
-    initiator: u32,
+    index: u32,
 ) -> Result<(), Lost>
-    requires jobs { (jobs ≤ jobs_limit) × (initiator < most_initiators) }
-    requires station { HasInitiator station.now.config jobs initiator }
+    requires jobs { (jobs ≤ jobs_limit) × (index < most_initiators) }
+    requires station { HasInitiator station.now.config jobs index }
     requires task { IsOf station.now task.old }
     requires rest { IsAtRest task.old.log }
     requires left { 4 ≤ task.old.left }
     ensures ran { MatchResult result
-        (λ _. Ran (dismissed station.now.config jobs initiator) (Done tt) task.old task.new)
-        (λ _. Ran (dismissed station.now.config jobs initiator) Wrong task.old task.new) }
+        (λ _. Ran (dismissed station.now.config jobs index) (Done tt) task.old task.new)
+        (λ _. Ran (dismissed station.now.config jobs index) Wrong task.old task.new) }
     ensures few { task.old.left ≤ task.new.left + 4 }
 {
-    let idle = 4 * jobs + initiator;
-    let Ok(found) = first_of(rt, station, task, &[idle], &mut [WaitSlot::Open]) else {
+    let block = idle(jobs, index);
+    let Ok(found) = first_of(rt, station, task, &[block], &mut [WaitSlot::Open]) else {
         return Err(Lost);
     };
-    hand_over(rt, station, task, jobs, NO_JOB, initiator, found.code)
+    hand_over(rt, station, task, jobs, NO_JOB, index, found.code)
 }
 
 /// Hands out each job, in order, and then dismisses each initiator.

@@ -2,9 +2,8 @@
 
 ghost use Rattle.std.specs.Prelude.{◌≡◌, ◌<◌, ◌≤◌, ◌+◌, ℕ, length, slice_index_or};
 ghost use Rattle.mv_deck.specs.Sound.{IsSound};
-ghost use Rattle.mv_plan.specs.SpoolSetup.{spool_setup};
+ghost use Rattle.mv_plan.specs.SpoolSetup.{jobs_limit, spool_setup};
 ghost use Rattle.mv_deck.specs.Weight.{most_initiators};
-ghost use Rattle.mv_spool.specs.Limits.{jobs_limit};
 ghost use Rattle.mv_spool.specs.Parts.{jobs_of};
 ghost use Rattle.mv_spool.specs.Seats.{IsReady, AreReady, HasWorked};
 
@@ -13,16 +12,11 @@ use crate::reader::read;
 use crate::scheduler::schedule;
 use crate::writer::write;
 use mv_deck::Job;
+use mv_plan::{READER, SCHEDULER, writer};
 use mv_task::Gate;
 use mv_wait::{Station, Task};
 use std::sync::Wait;
 use std::thread::{self, Threads};
-
-/// The reader's number.
-const READER: u32 = 0;
-
-/// The scheduler's. The initiators follow, and then the writer.
-const SCHEDULER: u32 = 1;
 
 /// A task, with the room that its work needs.
 #[derive(Drop)]
@@ -54,7 +48,7 @@ fn work<R: Wait, G: Gate>(
         read(rt, station, task, deck, initiators, gate);
     } else if number == SCHEDULER {
         schedule(rt, station, task, deck, initiators, gate);
-    } else if number == initiators + 2 {
+    } else if number == writer(initiators) {
         write(rt, station, task, deck, initiators, gate);
     } else {
         initiate(rt, station, task, deck, initiators, gate, &mut seat.ran);

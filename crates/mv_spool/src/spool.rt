@@ -10,9 +10,8 @@ ghost use Rattle.mv_machine.specs.Legal.{after};
 ghost use Rattle.mv_machine.specs.Limits.{events_limit, highest_place};
 ghost use Rattle.mv_machine.specs.State.{system_of, Exists};
 ghost use Rattle.mv_plan.specs.SpoolRun.{IsRun};
-ghost use Rattle.mv_plan.specs.SpoolSetup.{spool_setup};
+ghost use Rattle.mv_plan.specs.SpoolSetup.{jobs_limit, spool_setup};
 ghost use Rattle.mv_report.specs.Outcome.{ends, lines, totals};
-ghost use Rattle.mv_spool.specs.Limits.{jobs_limit};
 ghost use Rattle.mv_spool.specs.Parts.{jobs_of};
 ghost use Rattle.mv_spool.specs.Seats.{IsSeat};
 

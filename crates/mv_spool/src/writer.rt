@@ -3,14 +3,14 @@
 ghost use Rattle.std.specs.Prelude.{◌≡◌, ◌≤◌, ◌*◌, length};
 ghost use Rattle.mv_board.specs.Faces.{IsOf};
 ghost use Rattle.mv_calls.specs.Rest.{IsAtRest};
-ghost use Rattle.mv_plan.specs.SpoolSetup.{spool_setup};
+ghost use Rattle.mv_plan.specs.SpoolSetup.{jobs_limit, spool_setup};
 ghost use Rattle.mv_plan.specs.SpoolTasks.{writing};
-ghost use Rattle.mv_spool.specs.Limits.{jobs_limit};
 ghost use Rattle.mv_spool.specs.Parts.{jobs_of};
 ghost use Rattle.mv_spool.specs.Ran.{RanOut};
 
 use crate::finding::first_of;
 use mv_deck::Job;
+use mv_plan::end_for_writer;
 use mv_task::{Gate, Point};
 use mv_wait::{Station, Task, WaitSlot};
 use std::sync::Wait;
@@ -33,7 +33,7 @@ pub(crate) fn write<R: Wait, G: Gate>(
 {
     let jobs = deck.len() as u32;
     for job in 0..jobs {
-        let end = 2 * jobs + 2 * job + 1;
+        let end = end_for_writer(jobs, job);
         let Ok(_) = first_of(rt, station, task, &[end], &mut [WaitSlot::Open]) else {
             return;
         };

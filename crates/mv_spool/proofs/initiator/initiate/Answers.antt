@@ -1,4 +1,4 @@
-use Rattle.std.proofs.Common.{◌≡◌, ℕ, ◌+◌, ◌-◌, ◌*◌, ◌<◌, ◌≤◌, false, true, List, length, Option, sym, ap, ◌∙◌, subst, arith}
+use Rattle.std.proofs.Common.{◌≡◌, ℕ, ◌-◌, ◌<◌, ◌≤◌, false, true, List, length, Option, sym, ap, ◌∙◌, subst, arith}
 use Rattle.std.proofs.lemmas.List.{length-set}
 use Rattle.mv_calls.specs.Program.{Done, Wrong}
 use Rattle.mv_deck.specs.declared.deck.Job.{Job}
@@ -23,7 +23,8 @@ left_by_code g c =
     let t = c.args.task.now in
     given config (jobs_of c.args.deck.now) (t.number - 2) t c.loop-round.invariant.leads
     (subst (λ e. Ran (next_gift config e c.loop-round.token) (Done (gift_of c.in-Ok-next_given.given)) c.loop-round.task
-    c.next_given.new.task) (idle_is c.args.deck.now c.number.result t.number c.number.ensures.number) c.in-Ok-next_given.ensures.ran)
+    c.next_given.new.task) (idle_is c.args.deck.now c.idle-block.result c.number.result t.number c.idle-block.ensures
+    c.number.ensures.number) c.in-Ok-next_given.ensures.ran)
 
 -- what a code names, as the plan has it
 named_so : (deck : List Job) (code : ℕ) (o : Option Named) → o ≡ job_named (length deck) code
@@ -68,10 +69,10 @@ next_given-requires-clause-block g c =
     let number = c.number.ensures.number in
     let low = c.requires.number.0 in
     let high = c.requires.number.1 in
-    let n = length c.args.deck.now in
+    let is = c.idle-block.ensures in
     let config = c.args.station.now.config in (
-      block_exists c.args.deck.now c.args.initiators config c.requires.station (4 * n + (c.number.result - 2)) (omega arith),
-      reach_idle c.args.deck.now c.args.initiators config c.requires.station (4 * n + (c.number.result - 2)) (omega arith) (omega arith),
+      block_exists c.args.deck.now c.args.initiators config c.requires.station c.idle-block.result (omega arith),
+      reach_idle c.args.deck.now c.args.initiators config c.requires.station c.idle-block.result (omega arith) (omega arith),
     )
 
 pub returns-in_default-next_given : goal.returns-in_default-next_given
@@ -80,7 +81,8 @@ returns-in_default-next_given g c =
     let t = c.args.task.now in record {
       ran = not_given config (jobs_of c.args.deck.now) (t.number - 2) t c.loop-round.invariant.leads
           (subst (λ e. Ran (next_gift config e c.loop-round.token) Wrong c.loop-round.task c.next_given.new.task)
-          (idle_is c.args.deck.now c.number.result t.number c.number.ensures.number) c.in_default-next_given.ensures.ran);
+          (idle_is c.args.deck.now c.idle-block.result c.number.result t.number c.idle-block.ensures c.number.ensures.number)
+          c.in_default-next_given.ensures.ran);
     }
 
 pub returns-then-given-eq-NO_JOB : goal.returns-then-given-eq-NO_JOB

@@ -1,7 +1,8 @@
-use Rattle.std.proofs.Common.{[], length, arith}
+use Rattle.std.proofs.Common.{[], length, subst, arith}
 use Rattle.mv_calls.specs.Posts.{post}
-use Rattle.mv_calls.specs.Program.{finished}
+use Rattle.mv_calls.specs.Program.{Done, finished}
 use Rattle.mv_plan.specs.SpoolSetup.{entered}
+use Rattle.mv_spool.specs.Ran.{Ran}
 use Rattle.mv_spool.proofs.Decks.{reach_entered}
 use Rattle.mv_spool.proofs.Ranges.{next_done, last_left}
 use Rattle.mv_spool.proofs.Runs.{leads_done, out_done, served_few, served_ran, still_of}
@@ -9,8 +10,8 @@ use Rattle.mv_spool.proofs.reader.read.Goals as goal
 
 pub post-requires-clause-left : goal.post-requires-clause-left
 post-requires-clause-left g c =
-    let one = reach_entered c.args.deck.now c.args.initiators c.args.station.now.config c.requires.station c.loop-job.job
-    c.loop-job-test.true in
+    let one = reach_entered c.args.deck.now c.args.initiators c.args.station.now.config c.requires.station c.entered.result
+    c.loop-job.job c.entered.ensures c.loop-job-test.true in
     let left = c.loop-job.invariant.left in
     let lt = c.loop-job-test.true in omega arith
 
@@ -20,14 +21,15 @@ loop-job-preserved g c =
     let job = c.loop-job.job in
     let since = c.loop-job.invariant in
     let served = c.post.ensures.served in
-    let one = reach_entered c.args.deck.now c.args.initiators config c.requires.station job c.loop-job-test.true in
+    let one = reach_entered c.args.deck.now c.args.initiators config c.requires.station c.entered.result job c.entered.ensures
+    c.loop-job-test.true in
     let few = served_few served in
     let left = since.left in record {
       board = still_of c.args.station.now since.board served.same;
       quiet = served.made.rest;
       left = omega arith;
       leads = next_done (λ j. post config (entered j) 0) (finished []) job (length c.args.deck.now) since.leads c.loop-job-test.true
-          (served_ran served);
+          (subst (λ e. Ran (post config e 0) (Done served.answer) c.loop-job.task c.post.new.task) c.entered.ensures (served_ran served));
     }
 
 pub returns : goal.returns

@@ -1,4 +1,4 @@
-use Rattle.std.proofs.Common.{◌≡◌, ◌+◌, length, sum_by, sym, ap, subst, arith}
+use Rattle.std.proofs.Common.{◌≡◌, ◌+◌, length, sum_by, sym, ap, ◌∙◌, subst, arith}
 use Rattle.std.specs.List.{AllByRecursion}
 use Rattle.mv_calls.specs.Endings.{end_of_job}
 use Rattle.mv_calls.specs.Program.{Done, Wrong}
@@ -41,7 +41,8 @@ pub end_of_job-requires-clause-left : goal.end_of_job-requires-clause-left
 end_of_job-requires-clause-left g c =
     let read = job_is g (goal.at.end_of_job-requires-clause-left g c).After-index-deck-job in
     let same = ap (λ (j : JobData). sum_by step_events j.steps) read in
-    let cost = end_cost c.args.deck.now c.args.initiators c.args.station.now.config c.requires.station c.args.named.job c.requires.job in
+    let cost = end_cost c.args.deck.now c.args.initiators c.args.station.now.config c.requires.station c.done-block.result
+    c.args.named.job c.done-block.ensures c.requires.job in
     let few = c.in-Ok.ensures.few in
     let left = c.requires.left in omega arith
 
@@ -59,14 +60,15 @@ returns-clause-ran g c =
       counts,
       ran_followed (subst (λ j. Ran (job_done config (job + 1) j c.args.named.skipped) (Done end) t u) (sym read) c.in-Ok.ensures.ran)
           (λ code. end_of_job config (job + 1) (done (length (jobs_of deck)) job) code)
-          (subst (λ n. Ran (end_of_job config (job + 1) (n + job) end) (Done counts) u v) (sym (job_count deck))
-          (served_as c.end_of_job.ensures.served)),
+          (subst (λ e. Ran (end_of_job config (job + 1) e end) (Done counts) u v)
+          (c.done-block.ensures ∙ ap (λ n. done n job) (sym (job_count deck))) (served_as c.end_of_job.ensures.served)),
     )
 
 pub returns-clause-few : goal.returns-clause-few
 returns-clause-few g c =
     let read = job_is g (goal.at.returns-clause-few g c).After-index-deck-job in
     let same = ap (λ (j : JobData). sum_by step_events j.steps) read in
-    let cost = end_cost c.args.deck.now c.args.initiators c.args.station.now.config c.requires.station c.args.named.job c.requires.job in
+    let cost = end_cost c.args.deck.now c.args.initiators c.args.station.now.config c.requires.station c.done-block.result
+    c.args.named.job c.done-block.ensures c.requires.job in
     let few = c.in-Ok.ensures.few in
     let more = served_few c.end_of_job.ensures.served in omega arith

@@ -38,7 +38,7 @@ awaited_left g c after =
     let i = c.args.initiators in
     let job = job_at (jobs_of c.args.deck.now) j in
     let t = c.args.task.now in
-    ends_known config n i j job t (has_entered config n i j job t c.in-Ok.ensures.ran)
+    ends_known config n i j job t (has_entered config n i j job t c.entered.result c.entered.ensures c.in-Ok.ensures.ran)
     (subst (λ parts. Ran (all_ends config n parts) (Done c.in-Ok-await_ends.skipped) c.first_of.new.task c.await_ends.new.task) after
     c.in-Ok-await_ends.ensures.ran)
 
@@ -49,12 +49,13 @@ extended_left : (g : bound.Over) (c : In-Ok-extend g) → AwaitedLeft c.args.sta
     (job_at (jobs_of c.args.deck.now) c.args.job) c.args.task.now c.in-Ok-await_ends.skipped c.extend.new.task
 extended_left g c left =
     has_extended c.args.station.now.config (length c.args.deck.now) c.args.initiators c.args.job
-    (job_at (jobs_of c.args.deck.now) c.args.job) c.args.task.now c.in-Ok-await_ends.skipped left c.in-Ok-extend.ensures.served
+    (job_at (jobs_of c.args.deck.now) c.args.job) c.args.task.now c.in-Ok-await_ends.skipped c.done.result c.done.ensures left
+    c.in-Ok-extend.ensures.served
 
 pub returns-in_default-clause-ran : goal.returns-in_default-clause-ran
 returns-in_default-clause-ran g c =
     not_entered c.args.station.now.config (length c.args.deck.now) c.args.initiators c.args.job
-    (job_at (jobs_of c.args.deck.now) c.args.job) c.args.task.now c.in_default.ensures.ran
+    (job_at (jobs_of c.args.deck.now) c.args.job) c.args.task.now c.entered.result c.entered.ensures c.in_default.ensures.ran
 
 pub await_ends-requires-clause-few : goal.await_ends-requires-clause-few
 await_ends-requires-clause-few g c =
@@ -82,7 +83,7 @@ returns-in_default-await_ends-clause-ran g c =
     let job = job_at (jobs_of c.args.deck.now) j in
     let t = c.args.task.now in
     let after = after_is g (goal.at.returns-in_default-await_ends-clause-ran g c).After-deref in
-    ends_unknown config n i j job t (has_entered config n i j job t c.in-Ok.ensures.ran)
+    ends_unknown config n i j job t (has_entered config n i j job t c.entered.result c.entered.ensures c.in-Ok.ensures.ran)
     (subst (λ parts. Ran (all_ends config n parts) Wrong c.first_of.new.task c.await_ends.new.task) after
     c.in_default-await_ends.ensures.ran)
 
@@ -90,8 +91,8 @@ pub returns-in_default-extend-clause-ran : goal.returns-in_default-extend-clause
 returns-in_default-extend-clause-ran g c =
     let at = goal.at.returns-in_default-extend-clause-ran g c in
     not_extended c.args.station.now.config (length c.args.deck.now) c.args.initiators c.args.job
-    (job_at (jobs_of c.args.deck.now) c.args.job) c.args.task.now c.in-Ok-await_ends.skipped
-    (awaited_left g at.In-Ok-await_ends (after_is g at.After-deref)) c.in_default-extend.ensures.served
+    (job_at (jobs_of c.args.deck.now) c.args.job) c.args.task.now c.in-Ok-await_ends.skipped c.done.result
+    c.done.ensures (awaited_left g at.In-Ok-await_ends (after_is g at.After-deref)) c.in_default-extend.ensures.served
 
 pub first_of-requires-2-clause-blocks : goal.first_of-requires-2-clause-blocks
 first_of-requires-2-clause-blocks g c =
@@ -100,7 +101,7 @@ first_of-requires-2-clause-blocks g c =
     let owners = length c.args.station.now.config.owners in
     let lt = c.requires.job in
     let last = block_exists c.args.deck.now i c.args.station.now.config c.requires.station (4 * n + i - 1) (omega arith) in
-    subst (λ bs. AllByRecursion (λ e. e < owners) bs) (sym c.idle_blocks-idle.ensures) (idle_exist n owners 0 i (omega arith))
+    subst (λ bs. AllByRecursion (λ e. e < owners) bs) (sym c.idle_blocks-blocks.ensures) (idle_exist n owners 0 i (omega arith))
 
 pub returns-in_default-first_of-clause-ran : goal.returns-in_default-first_of-clause-ran
 returns-in_default-first_of-clause-ran g c =
@@ -109,14 +110,14 @@ returns-in_default-first_of-clause-ran g c =
     not_chosen config (length c.args.deck.now) c.args.initiators c.args.job (job_at (jobs_of c.args.deck.now) c.args.job)
     c.args.task.now c.in-Ok-await_ends.skipped
     (extended_left g at.In-Ok-extend (awaited_left g at.In-Ok-await_ends (after_is g at.After-deref)))
-    (subst (λ bs. Ran (first config bs) Wrong c.extend.new.task c.first_of-2.new.task) c.idle_blocks-idle.ensures
+    (subst (λ bs. Ran (first config bs) Wrong c.extend.new.task c.first_of-2.new.task) c.idle_blocks-blocks.ensures
     c.in_default-first_of.ensures.ran)
 
 pub hand_over-requires-clause-station : goal.hand_over-requires-clause-station
 hand_over-requires-clause-station g c =
     let listed = c.in-Ok-first_of.ensures.listed in
     let n = length c.args.deck.now in
-    let count = ap (λ (bs : List ℕ). length bs) c.idle_blocks-idle.ensures ∙ length-map-range_with_len (idle n) 0 c.args.initiators in
+    let count = ap (λ (bs : List ℕ). length bs) c.idle_blocks-blocks.ensures ∙ length-map-range_with_len (idle n) 0 c.args.initiators in
     has_initiator c.args.deck.now c.args.initiators c.args.station.now.config c.requires.station c.in-Ok-first_of.found.position
     (omega arith)
 
@@ -132,7 +133,7 @@ returns-clause-ran g c =
     (has_chosen config n c.args.initiators c.args.job (job_at (jobs_of c.args.deck.now) c.args.job) c.args.task.now
     c.in-Ok-await_ends.skipped
     (extended_left g at.In-Ok-extend (awaited_left g at.In-Ok-await_ends (after_is g at.After-deref)))
-    (subst (λ bs. Ran (first config bs) (Done (pair_of found)) c.extend.new.task v) c.idle_blocks-idle.ensures
+    (subst (λ bs. Ran (first config bs) (Done (pair_of found)) c.extend.new.task v) c.idle_blocks-blocks.ensures
     c.in-Ok-first_of.ensures.ran))
     (subst (λ code. MatchResult c.hand_over.result (λ done. Ran (hand_over config n code found.position found.code) (Done tt) v w)
     (λ e. Ran (hand_over config n code found.position found.code) Wrong v w)) c.job_code-code.ensures.code c.hand_over.ensures.ran)

@@ -1,8 +1,10 @@
-use Rattle.std.proofs.Common.{◌≡◌, ◌+◌, ◌-◌, ◌*◌, [], ◌∷◌, ◌++◌, length, subst, arith}
+use Rattle.std.proofs.Common.{◌≡◌, ◌+◌, ◌-◌, [], ◌∷◌, ◌++◌, length, subst, arith}
 use Rattle.std.specs.List.{range_with_len}
+use Rattle.mv_calls.specs.Program.{Done, Wrong}
 use Rattle.mv_plan.specs.SpoolSetup.{end_for_writer}
 use Rattle.mv_plan.specs.SpoolTasks.{writing, ends_kept}
-use Rattle.mv_spool.specs.Ran.{Leads}
+use Rattle.mv_spool.specs.Parts.{first, pair_of}
+use Rattle.mv_spool.specs.Ran.{Ran, Leads}
 use Rattle.mv_spool.proofs.Decks.{block_exists}
 use Rattle.mv_spool.proofs.Parts.{leads_first, leads_unfound}
 use Rattle.mv_spool.proofs.Ranges.{range_next, range_over}
@@ -27,9 +29,10 @@ loop-job-init g c =
 
 pub first_of-requires-clause-blocks : goal.first_of-requires-clause-blocks
 first_of-requires-clause-blocks g c =
-    let lt = c.loop-job-test.true in (
-      block_exists c.args.deck.now c.args.initiators c.args.station.now.config c.requires.station
-          (2 * length c.args.deck.now + 2 * c.loop-job.job + 1) (omega arith),
+    let lt = c.loop-job-test.true in
+    let is = c.end_for_writer-end.ensures in (
+      block_exists c.args.deck.now c.args.initiators c.args.station.now.config c.requires.station c.end_for_writer-end.result
+          (omega arith),
       tt,
     )
 
@@ -43,7 +46,8 @@ returns-in_default g c =
           (λ position end. ends_kept config n (leads.0 ++ end ∷ []) (range_with_len (job + 1) (n - (job + 1))))
           (subst (λ js. Leads (writing config n) (ends_kept config n leads.0 js) c.args.task.now c.loop-job.task)
           (range_next job n c.loop-job-test.true) leads.1)
-          c.in_default.ensures.ran);
+          (subst (λ e. Ran (first config (e ∷ [])) Wrong c.loop-job.task c.first_of.new.task) c.end_for_writer-end.ensures
+          c.in_default.ensures.ran));
     }
 
 pub loop-job-preserved : goal.loop-job-preserved
@@ -66,7 +70,9 @@ loop-job-preserved g c =
         leads_first config (end_for_writer n job ∷ [])
             (λ position end. ends_kept config n (ends ++ end ∷ []) (range_with_len (job + 1) (n - (job + 1))))
             (subst (λ js. Leads (writing config n) (ends_kept config n ends js) c.args.task.now c.loop-job.task)
-            (range_next job n lt) since.leads.1) ran,
+            (range_next job n lt) since.leads.1)
+            (subst (λ e. Ran (first config (e ∷ [])) (Done (pair_of c.in-Ok.field-0)) c.loop-job.task c.first_of.new.task)
+            c.end_for_writer-end.ensures ran),
       );
     }
 
