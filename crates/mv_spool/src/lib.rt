@@ -13,6 +13,7 @@ mod seat;
 mod spool;
 mod writer;
 
+pub use mv_plan::SpoolRun;
 pub use spool::run_deck;
 
 #[cfg(test)]
