@@ -227,9 +227,9 @@ fn is_paused(word: Option<(u32, WordState)>) -> bool {
     }
 }
 
-// Takes twice as long as a task spins before it parks.
+// Takes longer than a task spins and yields before it parks.
 fn linger() {
-    for _ in 0..4096u32 {
+    for _ in 0..20_000u32 {
         hint::spin_loop();
     }
 }
