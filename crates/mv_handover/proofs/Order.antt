@@ -78,3 +78,29 @@ closed_in_order b es room mid tasks p q items taken legal none first second all 
     in_order b.config es items taken put.ready.config legal size
     (λ s lt. ap (posts s) own ∙ put.posts s lt) (λ s lt. ap (posts s) other ∙ took.posts s lt)
     (λ s lt. ap (takes s) other ∙ took.takes s lt)
+
+-- every entry is one of the two callers'
+two_callers : (c : Setup) (es : List Entry) → HasSlots c → Legal c es → AllByRecursion (λ e. e.caller < 2) es
+two_callers c es has legal =
+    subst (λ (k : Setup). AllByRecursion (λ e. e.caller < k.callers) es) has.1 (callers_exist c (opening c) es legal)
+
+-- the history posts each item to its slot, and nothing else to a slot
+pub closed_posted : (b : BoardFace) (es : List Entry) (room mid tasks : List CallerFace) (p q : CallerFace) (items taken : List ℕ)
+    → Legal b.config es → room ≡ [] → mid ≡ room ++ p ∷ [] → tasks ≡ mid ++ q ∷ [] → AllByRecursion (IsIn b.config es) tasks
+    → HasPut b items p → HasTaken b taken q → (s : ℕ) → s < slots → posts s es ≡ part s items
+closed_posted b es room mid tasks p q items taken legal none first second all put took s lt =
+    let both = both_in b.config es room mid tasks p q none first second all in
+    let own = part_is b.config es 0 p both.0 put.ready.number in
+    let other = part_is b.config es 1 q both.1 took.ready.number in
+    posts_of_first s es (two_callers b.config es put.ready.config legal) (ap (posts s) other ∙ took.posts s lt)
+    ∙ ap (posts s) own ∙ put.posts s lt
+
+-- and the consumer takes each of them out of its slot
+pub closed_taken : (b : BoardFace) (es : List Entry) (room mid tasks : List CallerFace) (p q : CallerFace) (items taken : List ℕ)
+    → Legal b.config es → room ≡ [] → mid ≡ room ++ p ∷ [] → tasks ≡ mid ++ q ∷ [] → AllByRecursion (IsIn b.config es) tasks
+    → length taken ≡ length items → HasPut b items p → HasTaken b taken q → (s : ℕ) → s < slots → takes s (of 1 es) ≡ part s items
+closed_taken b es room mid tasks p q items taken legal none first second all size put took s lt =
+    let both = both_in b.config es room mid tasks p q none first second all in
+    let other = part_is b.config es 1 q both.1 took.ready.number in
+    ap (takes s) other ∙ took.takes s lt
+    ∙ ap (part s) (closed_in_order b es room mid tasks p q items taken legal none first second all size put took)

@@ -1,12 +1,13 @@
 //! The hand-over of items from one task to another. Clauses cite `specs/Setup.antt` and `specs/Ready.antt`.
 
-ghost use Rattle.std.specs.Prelude.{◌≡◌, ◌<◌, ◌≤◌, ◌+◌, ◌*◌, [], length, vec_capacity, IfOk, All};
+ghost use Rattle.std.specs.Prelude.{◌≡◌, ℕ, ◌<◌, ◌≤◌, ◌+◌, ◌*◌, [], length, vec_capacity, IfOk, All};
 ghost use Rattle.std.specs.List.{AllByRecursion};
 ghost use Rattle.mv_ecb.specs.Table.{code_limit};
-ghost use Rattle.mv_machine.specs.Legal.{Legal};
+ghost use Rattle.mv_machine.specs.Legal.{Legal, of};
 ghost use Rattle.mv_machine.specs.Limits.{highest_place};
 ghost use Rattle.mv_handover.specs.Ready.{IsReady, IsNew, IsOwn, Put, Took, HasPut, HasTaken};
-ghost use Rattle.mv_handover.specs.Setup.{slots_setup};
+ghost use Rattle.mv_handover.specs.Setup.{slots, slots_setup};
+ghost use Rattle.mv_handover.specs.Slots.{posts, takes, part};
 
 use mv_board::Closed;
 use mv_io::NoMemory;
@@ -143,6 +144,8 @@ pub fn hand_over<R: Threads + Wait + Sync>(
     requires few { length items.now ≤ 65535 }
     requires codes { AllByRecursion (λ x. x < code_limit) items.now }
     ensures taken { IfOk result (λ handed. handed.taken.items ≡ items.now) }
+    ensures put { IfOk result (λ handed. (s : ℕ) → s < slots → posts s handed.journal.items ≡ part s items.now) }
+    ensures took { IfOk result (λ handed. (s : ℕ) → s < slots → takes s (of 1 handed.journal.items) ≡ part s items.now) }
     ensures config { IfOk result (λ handed. handed.config ≡ slots_setup (length items.now)) }
     ensures legal { IfOk result (λ handed. Legal handed.config handed.journal.items) }
     ensures places { IfOk result (λ handed. All (λ e. e.place ≤ highest_place) handed.journal.items) }
