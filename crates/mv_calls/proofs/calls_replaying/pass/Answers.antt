@@ -1,11 +1,11 @@
 -- An entry that is stepped and counted.
-use Rattle.std.proofs.Common.{◌≡◌, ◌<◌, ◌-◌, ◌^◌, Some, length, subst, sym, ap, ◌∙◌}
+use Rattle.std.proofs.Common.{◌≡◌, ◌<◌, ◌-◌, ◌^◌, length, subst, sym, ap, ◌∙◌}
 use Rattle.std.proofs.lemmas.List.{length-set}
 use Rattle.mv_machine.specs.Legal.{IsNext}
 use Rattle.mv_machine.specs.State.{system_of, wakes_of}
 use Rattle.mv_machine.proofs.Merged.{caller_there}
 use Rattle.mv_machine.proofs.Replays.{is_next}
-use Rattle.mv_calls.specs.Counters.{numbering_of, counted}
+use Rattle.mv_calls.specs.Counters.{counted}
 use Rattle.mv_calls.specs.Numbers.{Numbering, numbered, numbered_at}
 use Rattle.mv_calls.proofs.call_numbers.Kept.{counted-read, one_counted, stepped}
 use Rattle.mv_calls.proofs.calls_replaying.pass.Goals as goal
