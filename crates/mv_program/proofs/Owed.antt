@@ -1,5 +1,5 @@
 -- An input asks a command for one ending at most, and a run has that one where nothing fails.
-use Rattle.std.proofs.Common.{◌≡◌, ℕ, true, List, Option, Some, None, refl, sym, ap, subst, ◌∙◌, arith, inl, inr}
+use Rattle.std.proofs.Common.{◌≡◌, ℕ, true, List, [], Option, Some, None, refl, sym, ap, subst, ◌∙◌, arith, inl, inr}
 use Rattle.std.specs.Prelude.{IfSome, IsSomeAnd}
 use Rattle.mv_deck.specs.Fault.{first_fault}
 use Rattle.mv_ending.specs.Ending.{EndsAs}
@@ -16,7 +16,7 @@ use Rattle.mv_program.specs.declared.status.Status.TheVariants.{Done, Words, Dec
 use Rattle.mv_program.specs.declared.status.Status.TheVariants.{JournalFailed, NoMemory, Illegal, Text}
 use Rattle.mv_program.specs.declared.status.Status.TheVariants.{Script}
 use Rattle.mv_program.specs.Program.{IsFound, IsScriptFound, TextAsks, TextOf, DeckOf, ScriptOf, EndsLoad, InputOf, Asks}
-use Rattle.mv_program.specs.Program.{has_journal}
+use Rattle.mv_program.specs.Program.{has_journal, reads_input, input_told}
 use Rattle.mv_program.specs.Status.{replay_of}
 
 -- ---- decks and scripts
@@ -168,17 +168,33 @@ command_ends Convert bytes new s t i read report journal a = journal_ends bytes 
 
 -- The causes of failed streams, each by the status that it has.
 abbrev pub Owes : Status → Option (List ℕ) → Type 0 → Type 0 → Type 0 → Option Command → Type 0
-Owes s old D R K c = IfSome c (λ command. (D → ⊥) → IfSome old (λ bytes. (t : Status) → Asks command bytes t
+Owes s old D R K c = IfSome c (λ command. (reads_input command ≡ true → D → ⊥)
+    → IfSome (input_told command old) (λ bytes. (t : Status) → Asks command bytes t
     → (t ≡ Done → (R → ⊥) × (has_journal command ≡ true → K → ⊥)) → EndsAs NoMemory s t))
 
--- so a run owes that, whether or not its words are a command and its source tells its bytes
+-- so a run owes that of the input that it tells of, where its source told that
+owed_of : (c : Command) (s : Status) (told new : Option (List ℕ)) (D R K : Type 0) → InputOf (Some c) s told new
+    → (s ≡ ReadFailed → D) → (s ≡ ReportFailed → R) → (s ≡ JournalFailed → K) → (D → ⊥)
+    → IfSome told (λ bytes. (t : Status) → Asks c bytes t → (t ≡ Done → (R → ⊥) × (has_journal c ≡ true → K → ⊥)) → EndsAs NoMemory s t)
+owed_of c s None new D R K input read report journal sound = tt
+owed_of c s (Some bytes) new D R K input read report journal sound =
+    λ t a wrote. command_ends c bytes new s t input (λ e. sound (read e))
+    (λ done e. (wrote done).0 (report e)) (λ done has e. (wrote done).1 has (journal e)) a
+
+-- whether or not its words are a command, and a load whatever its source tells
 owed : (c : Option Command) (s : Status) (old new : Option (List ℕ)) (D R K : Type 0) → InputOf c s old new
     → (s ≡ ReadFailed → D) → (s ≡ ReportFailed → R) → (s ≡ JournalFailed → K) → Owes s old D R K c
 owed None s old new D R K input read report journal = tt
-owed (Some c) s None new D R K input read report journal = λ sound. tt
-owed (Some c) s (Some bytes) new D R K input read report journal =
-    λ sound t a wrote. command_ends c bytes new s t input (λ e. sound (read e))
-    (λ done e. (wrote done).0 (report e)) (λ done has e. (wrote done).1 has (journal e)) a
+owed (Some (Spool n)) s old new D R K input read report journal =
+    λ sound. owed_of (Spool n) s old new D R K input read report journal (sound refl)
+owed (Some (Load jobs n)) s old new D R K input read report journal =
+    λ sound. owed_of (Load jobs n) s (Some []) (Some []) ⊥ R K (input.0, refl) (load_never_reads s input.0) report journal (λ none. none)
+owed (Some asked.Script) s old new D R K input read report journal =
+    λ sound. owed_of asked.Script s old new D R K input read report journal (sound refl)
+owed (Some Replay) s old new D R K input read report journal =
+    λ sound. owed_of Replay s old new D R K input read report journal (sound refl)
+owed (Some Convert) s old new D R K input read report journal =
+    λ sound. owed_of Convert s old new D R K input read report journal (sound refl)
 
 -- and by the words that are the command
 pub owed_for : (w c : Option Command) (s : Status) (old new : Option (List ℕ)) (D R K : Type 0) → w ≡ c → InputOf c s old new

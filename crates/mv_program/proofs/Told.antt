@@ -2,15 +2,17 @@
 use Rattle.std.proofs.Common.{◌≡◌, ℕ, List, [], Option, Some, None, refl, sym, ap, subst, ◌∙◌, append-nil}
 use Rattle.std.specs.Prelude.{IfSome, IsSomeAnd}
 use Rattle.mv_io.specs.Sink.{Appends}
+use Rattle.mv_ending.specs.Note.{NotesAfter}
 use Rattle.mv_ending.specs.Written.{WroteOf}
 use Rattle.mv_replay.specs.Outcome.{ReportAfter}
+use Rattle.mv_replay.specs.Status as replay
 use Rattle.mv_program.specs.declared.command.Command.{Command}
 use Rattle.mv_program.specs.declared.status.Status.{Status}
 use Rattle.mv_program.specs.declared.status.Status.TheVariants.{Done, Words, Deck, TooLong, ReadFailed, ReportFailed}
 use Rattle.mv_program.specs.declared.status.Status.TheVariants.{JournalFailed, NoMemory, Illegal, Text}
 use Rattle.mv_program.specs.declared.status.Status.TheVariants.{Script}
 use Rattle.mv_program.specs.Program.{TellsReport, Told, Writes, extent_of}
-use Rattle.mv_program.specs.Status.{replay_of}
+use Rattle.mv_program.specs.Status.{note_of, replay_of}
 
 -- what holds of the command holds of the words that are it
 pub told_for : (w c : Option Command) (s : Status) (input report0 report1 journal0 journal1 : Option (List ℕ)) → w ≡ c
@@ -72,3 +74,18 @@ report_is_told Reports NoMemory input report0 report1 journal0 journal1 wrote ke
 report_is_told Reports (Illegal line) input report0 report1 journal0 journal1 wrote kept = (wrote, kept)
 report_is_told Reports (Script f) input report0 report1 journal0 journal1 wrote kept = absurd wrote
 report_is_told Reports (Text f) input report0 report1 journal0 journal1 wrote kept = (wrote, kept)
+
+-- and its line stands on the notes
+pub note_is_told : (s : Status) (before now : ℕ) (old new : Option (List ℕ))
+    → IsSomeAnd (replay_of s) (λ r. NotesAfter (replay.note_of r) before now old new) → NotesAfter (note_of s) before now old new
+note_is_told Done before now old new told = told
+note_is_told Words before now old new told = absurd told
+note_is_told (Deck f) before now old new told = absurd told
+note_is_told TooLong before now old new told = told
+note_is_told ReadFailed before now old new told = told
+note_is_told ReportFailed before now old new told = told
+note_is_told JournalFailed before now old new told = absurd told
+note_is_told NoMemory before now old new told = told
+note_is_told (Script f) before now old new told = absurd told
+note_is_told (Illegal line) before now old new told = told
+note_is_told (Text f) before now old new told = told

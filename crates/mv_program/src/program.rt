@@ -8,9 +8,11 @@ ghost use Rattle.mv_ending.specs.Note.{NotesAfter};
 ghost use Rattle.mv_ending.specs.Written.{IfUnwritten, WroteOf};
 ghost use Rattle.mv_deck.specs.Weight.{most_initiators};
 ghost use Rattle.mv_program.specs.Command.{command_of as command_by_words, AreInitiators, AreJobs};
-ghost use Rattle.mv_program.specs.Program.{Asks, EndsLoad, InputOf, TellsLoad, Told, extent_of, has_journal, reads_input, Writes};
+ghost use Rattle.mv_program.specs.Program.{Asks, EndsLoad, InputOf, TellsLoad, Told, extent_of, has_journal};
+ghost use Rattle.mv_program.specs.Program.{input_told, reads_input, Writes};
 ghost use Rattle.mv_program.specs.Status.{note_of as note_by_status, replay_of};
 ghost use Rattle.mv_replay.specs.Outcome.{IsReplayReport, IsConversion, ReportAfter};
+ghost use Rattle.mv_replay.specs.Status.{note_of as replay_note};
 
 use crate::command::{Command, command_of};
 use crate::status::{Status, note_of, status_of};
@@ -144,33 +146,51 @@ fn script<X: Threads + Wait + Sync, D: Source, R: Sink, K: Sink>(
 }
 
 // Judges the journal of the input.
-fn replay<D: Source, R: Sink>(alloc: Global, input: &mut D, report: &mut R) -> Status
+fn replay<D: Source, R: Sink, N: Sink>(
+    alloc: Global,
+    input: &mut D,
+    report: &mut R,
+    notes: &mut N,
+) -> Status
     ensures words { result ≢ Status.Words }
     ensures journal { result ≢ Status.JournalFailed }
     ensures input { InputOf (Some Command.Replay) result (D.left input.old) (D.left input.new) }
     ensures report { IsSomeAnd (replay_of result) (λ s.
         ReportAfter IsReplayReport s (D.left input.old) (R.taken report.old) (R.taken report.new)) }
+    ensures notes { IsSomeAnd (replay_of result) (λ s.
+        NotesAfter (replay_note s) (N.faults notes.old) (N.faults notes.new) (N.taken notes.old) (N.taken notes.new)) }
+    ensures quiet { result ≡ Status.Done → notes.new ≡ notes.old }
     ensures read_failed { result ≡ Status.ReadFailed → Rose (D.faults input.old) (D.faults input.new) }
     ensures report_failed { result ≡ Status.ReportFailed → Rose (R.faults report.old) (R.faults report.new) }
     ensures unwritten { IfUnwritten (extent_of result) (report.new ≡ report.old) }
-    ensures counts { (D.faults input.old ≤ D.faults input.new) × (R.faults report.old ≤ R.faults report.new) }
+    ensures counts { (D.faults input.old ≤ D.faults input.new) × (R.faults report.old ≤ R.faults report.new)
+        × (N.faults notes.old ≤ N.faults notes.new) }
 {
-    status_of(replay_command(alloc, input, report))
+    status_of(replay_command(alloc, input, report, notes))
 }
 
 // Judges the journal of the input, and writes it in version 2.
-fn convert<D: Source, R: Sink>(alloc: Global, input: &mut D, report: &mut R) -> Status
+fn convert<D: Source, R: Sink, N: Sink>(
+    alloc: Global,
+    input: &mut D,
+    report: &mut R,
+    notes: &mut N,
+) -> Status
     ensures words { result ≢ Status.Words }
     ensures journal { result ≢ Status.JournalFailed }
     ensures input { InputOf (Some Command.Convert) result (D.left input.old) (D.left input.new) }
     ensures report { IsSomeAnd (replay_of result) (λ s.
         ReportAfter IsConversion s (D.left input.old) (R.taken report.old) (R.taken report.new)) }
+    ensures notes { IsSomeAnd (replay_of result) (λ s.
+        NotesAfter (replay_note s) (N.faults notes.old) (N.faults notes.new) (N.taken notes.old) (N.taken notes.new)) }
+    ensures quiet { result ≡ Status.Done → notes.new ≡ notes.old }
     ensures read_failed { result ≡ Status.ReadFailed → Rose (D.faults input.old) (D.faults input.new) }
     ensures report_failed { result ≡ Status.ReportFailed → Rose (R.faults report.old) (R.faults report.new) }
     ensures unwritten { IfUnwritten (extent_of result) (report.new ≡ report.old) }
-    ensures counts { (D.faults input.old ≤ D.faults input.new) × (R.faults report.old ≤ R.faults report.new) }
+    ensures counts { (D.faults input.old ≤ D.faults input.new) × (R.faults report.old ≤ R.faults report.new)
+        × (N.faults notes.old ≤ N.faults notes.new) }
 {
-    status_of(convert_command(alloc, input, report))
+    status_of(convert_command(alloc, input, report, notes))
 }
 
 /// Runs a command: reads the input, and writes the report, and after it the journal where the command has one. What is
@@ -227,8 +247,8 @@ pub fn run_program<X: Threads + Wait + Sync, D: Source, R: Sink, K: Sink, N: Sin
 
     // How a run has to end: where no count rose that excuses it as its input asks, or for want of memory.
     ensures owed { IfSome (command_by_words (map string_bytes words.now)) (λ command.
-        ¬ Rose (D.faults input.old) (D.faults input.new)
-        → IfSome (D.left input.old) (λ bytes. (wanted : Status) → Asks command bytes wanted
+        (reads_input command ≡ true → ¬ Rose (D.faults input.old) (D.faults input.new))
+        → IfSome (input_told command (D.left input.old)) (λ bytes. (wanted : Status) → Asks command bytes wanted
         → (wanted ≡ Status.Done
         → (¬ Rose (R.faults report.old) (R.faults report.new))
         × (has_journal command ≡ true → ¬ Rose (K.faults journal.old) (K.faults journal.new)))
@@ -247,8 +267,9 @@ pub fn run_program<X: Threads + Wait + Sync, D: Source, R: Sink, K: Sink, N: Sin
             load(rt, alloc, jobs, initiators, report, journal, gate)
         }
         Some(Command::Script) => script(rt, alloc, input, report, journal),
-        Some(Command::Replay) => replay(alloc, input, report),
-        Some(Command::Convert) => convert(alloc, input, report),
+        // These two have told it themselves.
+        Some(Command::Replay) => return replay(alloc, input, report, notes),
+        Some(Command::Convert) => return convert(alloc, input, report, notes),
     };
     tell(notes, note_of(status));
     status

@@ -1,13 +1,15 @@
-//! The command `replay`: what is read, judged and written. Its clauses cite specs/Outcome.
+//! The command `replay`: what is read, judged and written. Its clauses cite specs/Outcome and specs/Status.
 
 ghost use Rattle.std.specs.Prelude.{◌≡◌, ◌≤◌};
 ghost use Rattle.mv_io.specs.Fault.{Rose};
+ghost use Rattle.mv_ending.specs.Note.{NotesAfter};
 ghost use Rattle.mv_ending.specs.Written.{IfUnwritten};
 ghost use Rattle.mv_replay.specs.Outcome.{legal_text, IsReplayReport, InputOf, Owes, ReportAfter, extent_of};
+ghost use Rattle.mv_replay.specs.Status.{note_of};
 
 use crate::reading::read_legal;
 use crate::reporting::write_out;
-use crate::status::ReplayStatus;
+use crate::status::{ReplayStatus, tell_status};
 use mv_ending::Line;
 use mv_io::{Sink, Source};
 use std::alloc::Global;
@@ -25,8 +27,8 @@ fn legal_line(count: u32) -> Line
 }
 
 /// Judges the journal on the input, of at most 67,108,864 bytes. Where it is the text of a journal whose entries are legal,
-/// and have in version 2 their call numbers, the report gains the line `LEGAL n EVENTS` with their number. What else a status
-/// has to tell is the caller's.
+/// and have in version 2 their call numbers, the report gains the line `LEGAL n EVENTS` with their number. Any other ending has
+/// its line on the notes, last of all; that they fail changes no status.
 ///
 /// The input is read whole before it is judged, and nothing is written before that is done. The budgets of the
 /// configuration are not asked. Time is linear in the text, but for the events on a latch set, each of which takes a
@@ -39,16 +41,17 @@ fn legal_line(count: u32) -> Line
 /// # Example
 ///
 /// ```
-/// match replay_command(alloc, &mut input, &mut report) {
+/// match replay_command(alloc, &mut input, &mut report, &mut notes) {
 ///     ReplayStatus::Done => { .. }
 ///     ReplayStatus::Illegal(line) => { .. }
 ///     other => { .. }
 /// }
 /// ```
-pub fn replay_command<D: Source, R: Sink>(
+pub fn replay_command<D: Source, R: Sink, N: Sink>(
     alloc: Global,
     input: &mut D,
     report: &mut R,
+    notes: &mut N,
 ) -> ReplayStatus
     // Why a replay ends as it does.
     ensures input { InputOf result (D.left input.old) (D.left input.new) }
@@ -59,17 +62,27 @@ pub fn replay_command<D: Source, R: Sink>(
     ensures report { ReportAfter IsReplayReport result (D.left input.old) (R.taken report.old) (R.taken report.new) }
     ensures unwritten { IfUnwritten (extent_of result) (report.new ≡ report.old) }
 
+    // What is told of it.
+    ensures notes { NotesAfter (note_of result) (N.faults notes.old) (N.faults notes.new) (N.taken notes.old) (N.taken notes.new) }
+    ensures quiet { result ≡ ReplayStatus.Done → notes.new ≡ notes.old }
+
     // How a replay has to end, where its streams do not fail.
     ensures owed { Owes (Rose (D.faults input.old) (D.faults input.new)) (Rose (R.faults report.old) (R.faults report.new))
         (D.left input.old) result }
 
     // Counts of faults do not fall.
-    ensures counts { (D.faults input.old ≤ D.faults input.new) × (R.faults report.old ≤ R.faults report.new) }
+    ensures counts { (D.faults input.old ≤ D.faults input.new) × (R.faults report.old ≤ R.faults report.new)
+        × (N.faults notes.old ≤ N.faults notes.new) }
 {
     let legal = match read_legal(alloc, input) {
         Ok(legal) => legal,
-        Err(status) => return status,
+        Err(status) => {
+            tell_status(notes, status);
+            return status;
+        }
     };
     let line = legal_line(legal.journal.entries.len() as u32);
-    write_out(report, line.as_bytes())
+    let status = write_out(report, line.as_bytes());
+    tell_status(notes, status);
+    status
 }

@@ -1,6 +1,12 @@
-//! How a replay ended. The definitions of specs/Outcome go by cases of it.
+//! How a replay ended, and what is told of it: specs/Status. The definitions of specs/Outcome go by cases of it.
 
+ghost use Rattle.std.specs.Prelude.{◌≡◌, ◌≤◌};
+ghost use Rattle.mv_ending.specs.Note.{NotesAfter};
+ghost use Rattle.mv_replay.specs.Status.{note_of as note_by_status};
+
+use mv_ending::{Note, tell};
 use mv_entrytext::TextFault;
+use mv_io::Sink;
 
 /// How a replay ended. Lines of the journal are counted from 1.
 #[derive(Clone, Copy, Debug, PartialEq, Eq)]
@@ -19,4 +25,30 @@ pub enum ReplayStatus {
     Illegal(u32),
     /// The text has this fault, its first.
     Text(TextFault),
+}
+
+fn note_of(status: ReplayStatus) -> Option<Note>
+    ensures { result ≡ note_by_status status }
+{
+    match status {
+        ReplayStatus::Done => None,
+        ReplayStatus::TooLong => Some(Note::InputTooLong),
+        ReplayStatus::ReadFailed => Some(Note::ReadFailed),
+        ReplayStatus::ReportFailed => Some(Note::ReportFailed),
+        ReplayStatus::NoMemory => Some(Note::NoMemory),
+        ReplayStatus::Illegal(line) => Some(Note::Illegal { line }),
+        ReplayStatus::Text(fault) => Some(Note::JournalFault {
+            line: fault.line,
+            kind: fault.kind,
+        }),
+    }
+}
+
+/// Tells on the notes how a command ended, where it did not end well.
+pub(crate) fn tell_status<N: Sink>(notes: &mut N, status: ReplayStatus)
+    ensures notes { NotesAfter (note_by_status status) (N.faults notes.old) (N.faults notes.new) (N.taken notes.old) (N.taken notes.new) }
+    ensures quiet { status ≡ ReplayStatus.Done → notes.new ≡ notes.old }
+    ensures count { N.faults notes.old ≤ N.faults notes.new }
+{
+    tell(notes, note_of(status));
 }

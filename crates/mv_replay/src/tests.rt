@@ -47,43 +47,48 @@ END 2
 struct Streams {
     input: MemSource,
     report: MemSink,
+    notes: MemSink,
 }
 
 fn streams_over(alloc: Global, journal: &[u8]) -> Result<Streams, NoMemory> {
     Ok(Streams {
         input: MemSource::new(alloc, journal, 1 << 20, &[])?,
         report: MemSink::new(alloc, 1000, &[])?,
+        notes: MemSink::new(alloc, 1000, &[])?,
     })
 }
 
-// A replay, or else a conversion, ends so and leaves this report.
+// A replay, or else a conversion, ends so and leaves this report and these notes.
 fn assert_ends(
     rt: &(impl Abort + AllocGlobal),
     replays: bool,
     on: &mut Streams,
     status: ReplayStatus,
     report: &str,
+    notes: &str,
 ) {
     let ended = if replays {
-        replay_command(rt.alloc(), &mut on.input, &mut on.report)
+        replay_command(rt.alloc(), &mut on.input, &mut on.report, &mut on.notes)
     } else {
-        convert_command(rt.alloc(), &mut on.input, &mut on.report)
+        convert_command(rt.alloc(), &mut on.input, &mut on.report, &mut on.notes)
     };
     assert_eq!(rt; ended, status);
     assert_eq!(rt; on.report.bytes(), report.as_bytes());
+    assert_eq!(rt; on.notes.bytes(), notes.as_bytes());
 }
 
-// Both commands on this journal end so, and leave these reports.
+// Both commands on this journal end so, and leave these reports and notes.
 fn assert_both(
     rt: &(impl Abort + AllocGlobal),
     journal: &str,
     status: ReplayStatus,
     replayed: &str,
     converted: &str,
+    notes: &str,
 ) -> Result<(), Fail> {
     for (replays, report) in [(true, replayed), (false, converted)] {
         let mut on = streams_over(rt.alloc(), journal.as_bytes())?;
-        assert_ends(rt, replays, &mut on, status, report);
+        assert_ends(rt, replays, &mut on, status, report, notes);
     }
     Ok(())
 }
@@ -91,8 +96,17 @@ fn assert_both(
 // The journal in version 2 is its own conversion.
 #[test]
 fn legal_journals(rt: HostRuntime) -> Result<(), Fail> {
-    assert_both(&rt, FIRST, ReplayStatus::Done, "LEGAL 2 EVENTS\n", SECOND)?;
-    assert_both(&rt, SECOND, ReplayStatus::Done, "LEGAL 2 EVENTS\n", SECOND)
+    for journal in [FIRST, SECOND] {
+        assert_both(
+            &rt,
+            journal,
+            ReplayStatus::Done,
+            "LEGAL 2 EVENTS\n",
+            SECOND,
+            "",
+        )?;
+    }
+    Ok(())
 }
 
 // Another reply, another call number, a number with a leading zero, and a text that ends behind the sixth byte of its line 12.
@@ -104,24 +118,33 @@ fn journals_that_are_refused(rt: HostRuntime) -> Result<(), Fail> {
             "228 = POSTED",
             "228 = WOKE 0",
             ReplayStatus::Illegal(12),
+            "ILLEGAL AT LINE 12\n",
         ),
-        (SECOND, "0.1 E1", "0.0 E1", ReplayStatus::Illegal(12)),
+        (
+            SECOND,
+            "0.1 E1",
+            "0.0 E1",
+            ReplayStatus::Illegal(12),
+            "ILLEGAL AT LINE 12\n",
+        ),
         (
             SECOND,
             "END 2",
             "END 02",
             ReplayStatus::Text(TextFault { line: 13, kind: 2 }),
+            "JOURNAL LINE 13 KIND 2\n",
         ),
         (
             FIRST,
             " POST 16777228 = POSTED\nEND 2\n",
             "",
             ReplayStatus::Text(TextFault { line: 12, kind: 5 }),
+            "JOURNAL LINE 12 KIND 5\n",
         ),
     ];
-    for (journal, piece, other, status) in table {
+    for (journal, piece, other, status, notes) in table {
         let journal = journal.replace(rt.alloc(), piece, other)?;
-        assert_both(&rt, &journal, status, "", "")?;
+        assert_both(&rt, &journal, status, "", "", notes)?;
     }
     Ok(())
 }
@@ -131,7 +154,8 @@ fn a_source_that_fails(rt: HostRuntime) -> Result<(), Fail> {
     for replays in [true, false] {
         let mut on = streams_over(rt.alloc(), b"")?;
         on.input = MemSource::new(rt.alloc(), FIRST.as_bytes(), 1, &[3])?;
-        assert_ends(&rt, replays, &mut on, ReplayStatus::ReadFailed, "");
+        let status = ReplayStatus::ReadFailed;
+        assert_ends(&rt, replays, &mut on, status, "", "READ FAILED\n");
     }
     Ok(())
 }
@@ -146,8 +170,19 @@ fn a_report_that_is_not_written(rt: HostRuntime) -> Result<(), Fail> {
     ] {
         let mut on = streams_over(rt.alloc(), FIRST.as_bytes())?;
         on.report = MemSink::new(rt.alloc(), room, &[fail])?;
-        assert_ends(&rt, replays, &mut on, ReplayStatus::ReportFailed, front);
+        let status = ReplayStatus::ReportFailed;
+        assert_ends(&rt, replays, &mut on, status, front, "REPORT FAILED\n");
     }
+    Ok(())
+}
+
+// Notes with room for four bytes hold a front, and the status is the same.
+#[test]
+fn notes_that_are_not_written(rt: HostRuntime) -> Result<(), Fail> {
+    let mut on = streams_over(rt.alloc(), b"")?;
+    on.notes = MemSink::new(rt.alloc(), 4, &[])?;
+    let status = ReplayStatus::Text(TextFault { line: 1, kind: 5 });
+    assert_ends(&rt, true, &mut on, status, "", "JOUR");
     Ok(())
 }
 
@@ -155,6 +190,7 @@ fn a_report_that_is_not_written(rt: HostRuntime) -> Result<(), Fail> {
 fn one_byte_more_than_the_limit(rt: HostRuntime) -> Result<(), Fail> {
     let bytes = vec![in rt.alloc(); b'\n'; 67_108_865]?;
     let mut on = streams_over(rt.alloc(), &bytes)?;
-    assert_ends(&rt, true, &mut on, ReplayStatus::TooLong, "");
+    let status = ReplayStatus::TooLong;
+    assert_ends(&rt, true, &mut on, status, "", "INPUT TOO LONG\n");
     Ok(())
 }

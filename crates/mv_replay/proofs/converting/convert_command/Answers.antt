@@ -17,21 +17,21 @@ returns-in-Err-clause-owed g c =
 -- one that was, and of whose report so much was written
 pub returns-clause-input : goal.returns-clause-input
 returns-clause-input g c =
-    read_before c.write_out.result (g.D.Source.left c.args.input.now) (g.D.Source.left c.read_legal.new.input)
-    (g.R.Sink.taken c.args.report.now) (g.R.Sink.taken c.write_out.new.report) c.deref.result.now
-    c.in-Ok.ensures.whole c.write_out.ensures.written
+    read_before c.write_out-status.result (g.D.Source.left c.args.input.now) (g.D.Source.left c.read_legal.new.input)
+    (g.R.Sink.taken c.args.report.now) (g.R.Sink.taken c.write_out-status.new.report) c.deref.result.now
+    c.in-Ok.ensures.whole c.write_out-status.ensures.written
 
 pub returns-clause-owed : goal.returns-clause-owed
 returns-clause-owed g c =
-    owed_written c.write_out.result (g.D.Source.left c.args.input.now) (g.D.Source.left c.read_legal.new.input)
-    (g.R.Sink.taken c.args.report.now) (g.R.Sink.taken c.write_out.new.report) c.deref.result.now _ _
-    c.in-Ok.ensures.whole c.write_out.ensures.written c.write_out.ensures.report_failed
+    owed_written c.write_out-status.result (g.D.Source.left c.args.input.now) (g.D.Source.left c.read_legal.new.input)
+    (g.R.Sink.taken c.args.report.now) (g.R.Sink.taken c.write_out-status.new.report) c.deref.result.now _ _
+    c.in-Ok.ensures.whole c.write_out-status.ensures.written c.write_out-status.ensures.report_failed
 
 pub returns-clause-report : goal.returns-clause-report
 returns-clause-report g c =
     let j = c.in-Ok.legal.journal in
     let text = c.in-Ok.legal.text.items in
-    reported IsConversion c.write_out.result (g.D.Source.left c.args.input.now) (g.R.Sink.taken c.args.report.now)
-    (g.R.Sink.taken c.write_out.new.report) text c.deref.result.now c.in-Ok.ensures.text
+    reported IsConversion c.write_out-status.result (g.D.Source.left c.args.input.now) (g.R.Sink.taken c.args.report.now)
+    (g.R.Sink.taken c.write_out-status.new.report) text c.deref.result.now c.in-Ok.ensures.text
     (is_conversion j.version text c.deref.result.now j.config j.entries.items c.in-Ok.ensures.legal
-    (c.deref.ensures.value ∙ c.in-Ok-second_version.ensures)) c.write_out.ensures.written
+    (c.deref.ensures.value ∙ c.in-Ok-second_version.ensures)) c.write_out-status.ensures.written

@@ -18,15 +18,15 @@ returns-in-Err-clause-owed g c =
 -- one that was, and of whose report so much was written
 pub returns-clause-input : goal.returns-clause-input
 returns-clause-input g c =
-    read_before c.write_out.result (g.D.Source.left c.args.input.now) (g.D.Source.left c.read_legal.new.input)
-    (g.R.Sink.taken c.args.report.now) (g.R.Sink.taken c.write_out.new.report) c.as_bytes.result.now
-    c.in-Ok.ensures.whole c.write_out.ensures.written
+    read_before c.write_out-status.result (g.D.Source.left c.args.input.now) (g.D.Source.left c.read_legal.new.input)
+    (g.R.Sink.taken c.args.report.now) (g.R.Sink.taken c.write_out-status.new.report) c.as_bytes.result.now
+    c.in-Ok.ensures.whole c.write_out-status.ensures.written
 
 pub returns-clause-owed : goal.returns-clause-owed
 returns-clause-owed g c =
-    owed_written c.write_out.result (g.D.Source.left c.args.input.now) (g.D.Source.left c.read_legal.new.input)
-    (g.R.Sink.taken c.args.report.now) (g.R.Sink.taken c.write_out.new.report) c.as_bytes.result.now _ _
-    c.in-Ok.ensures.whole c.write_out.ensures.written c.write_out.ensures.report_failed
+    owed_written c.write_out-status.result (g.D.Source.left c.args.input.now) (g.D.Source.left c.read_legal.new.input)
+    (g.R.Sink.taken c.args.report.now) (g.R.Sink.taken c.write_out-status.new.report) c.as_bytes.result.now _ _
+    c.in-Ok.ensures.whole c.write_out-status.ensures.written c.write_out-status.ensures.report_failed
 
 pub returns-clause-report : goal.returns-clause-report
 returns-clause-report g c =
@@ -40,5 +40,5 @@ returns-clause-report g c =
           (journal_is_legal j.version text j.config j.entries.items c.in-Ok.ensures.legal);
       reported = line;
     } in
-    reported IsReplayReport c.write_out.result (g.D.Source.left c.args.input.now) (g.R.Sink.taken c.args.report.now)
-    (g.R.Sink.taken c.write_out.new.report) text c.as_bytes.result.now c.in-Ok.ensures.text says c.write_out.ensures.written
+    reported IsReplayReport c.write_out-status.result (g.D.Source.left c.args.input.now) (g.R.Sink.taken c.args.report.now)
+    (g.R.Sink.taken c.write_out-status.new.report) text c.as_bytes.result.now c.in-Ok.ensures.text says c.write_out-status.ensures.written
