@@ -1,7 +1,8 @@
 //! What no clause says: that each call can be made with ample memory, how long a chain of exits may be, two threads that hand over to
 //! each other, and whom a post wakes; and what `bench/run` times. Tables of calls with their answers are scripts, in mv_program.
 
-ghost use Rattle.std.specs.Prelude.{◌≡◌, ◌<◌, ◌≤◌, length, map, IfOk};
+ghost use Rattle.std.specs.Prelude.{◌≡◌, ◌<◌, ◌≤◌, ◌^◌, length, map, IfOk};
+ghost use Rattle.std.specs.List.{AllByRecursion};
 ghost use Rattle.mv_machine.specs.Config.{exit_of};
 ghost use Rattle.mv_calls.specs.Rest.{IsAtRest};
 ghost use Rattle.mv_board.specs.Faces.{IsFresh, IsOf};
@@ -305,6 +306,91 @@ fn a_post_wakes_whom_its_exit_posts(rt: HostRuntime) -> Result<(), Fail> {
         || hand_back(&rt, &station, second, 1, 2, 100),
     );
     Ok(())
+}
+
+// ---- a wait for many blocks
+
+// The blocks before this one.
+fn first_blocks(
+    rt: &impl Abort,
+    alloc: Global,
+    station: &Station,
+    blocks: u32,
+) -> Result<Vec<u32>, Fail>
+    ensures { IfOk result (λ es. AllByRecursion (λ e. e < length station.now.config.owners) es.items) }
+{
+    let mut ecbs = Vec::new(alloc);
+    for ecb in 0..blocks {
+        assert_is_block(rt, station, ecb);
+        ecbs.push(ecb)?;
+    }
+    Ok(ecbs)
+}
+
+// Waits until all of the first blocks are complete.
+fn wait_for_all<R: Abort + Wait>(
+    rt: &R,
+    alloc: Global,
+    station: &Station,
+    mut task: Task,
+    blocks: u32,
+) -> Result<(), Fail>
+    requires task { IsOf station.now task }
+    requires rest { IsAtRest task.log }
+{
+    let ecbs = first_blocks(rt, alloc, station, blocks)?;
+    let mut out = vec![in alloc; WaitSlot::Open; ecbs.len()]?;
+    assert!(rt; out.len() == ecbs.len());
+    assert!(rt; task.left() as usize >= 2 * ecbs.len());
+    let waited = station.wait(rt, &mut task, blocks, &ecbs, &mut out);
+    assert!(rt; waited.is_ok());
+    Ok(())
+}
+
+// Posts each of the first blocks.
+#[tactic(auto, using(crate::proofs::Compose::served))]
+fn post_each<R: Abort + Wait>(rt: &R, station: &Station, mut task: Task, blocks: u32)
+    requires task { IsOf station.now task }
+    requires rest { IsAtRest task.log }
+{
+    for ecb in 0..blocks {
+        assert_is_block(rt, station, ecb);
+        assert!(rt; task.left() >= station.config().reach(ecb));
+        station.post(rt, &mut task, ecb, 5);
+    }
+}
+
+// One task waits for all of so many blocks, and another posts them one by one.
+fn wait_for_many<R: Abort + Wait + Threads + Sync>(
+    rt: &R,
+    alloc: Global,
+    blocks: u32,
+) -> Result<(), Fail>
+    requires { blocks < 2 ^ 16 }
+{
+    let budgets = vec![in alloc; 2 * blocks, blocks]?;
+    let owners = vec![in alloc; 0u32; blocks as usize]?;
+    let config = setup(alloc, budgets, owners, Vec::new(alloc))?;
+    let (station, mut tasks) = Station::open(alloc, config)?;
+    let second = station.take_last(&mut tasks);
+    let first = station.take_last(&mut tasks);
+    let (waited, ()) = join(
+        rt,
+        || wait_for_all(rt, alloc, &station, first, blocks),
+        || post_each(rt, &station, second, blocks),
+    );
+    waited
+}
+
+// `bench/run` times these two: the second is to take twice as long as the first.
+#[test]
+fn a_wait_for_five_thousand_blocks(rt: HostRuntime) -> Result<(), Fail> {
+    wait_for_many(&rt, rt.alloc(), 5_000)
+}
+
+#[test]
+fn a_wait_for_ten_thousand_blocks(rt: HostRuntime) -> Result<(), Fail> {
+    wait_for_many(&rt, rt.alloc(), 10_000)
 }
 
 // ---- one thread, and many events
