@@ -12,8 +12,8 @@ use Rattle.mv_machine.specs.Legal.{Legal, of}
 use Rattle.mv_machine.specs.Setup.{Setup}
 use Rattle.mv_machine.specs.System.{opening}
 use Rattle.mv_calls.proofs.Interleaved.{callers_exist}
-use Rattle.mv_server.specs.Pool.{workers, pool_setup, days_in}
-use Rattle.mv_server.specs.Right.{IsBack, AreDone, AreRight, Finds}
+use Rattle.mv_server.specs.Pool.{workers, pool_setup, days_in, answer_at}
+use Rattle.mv_server.specs.Right.{IsBack, AreDone, AreRight, Finds, IsPosted}
 use Rattle.mv_server.proofs.Answers.{found_is_answer}
 
 abbrev pub AreBack : BoardFace → List ℕ → ℕ → List CallerFace → Type 0
@@ -53,13 +53,13 @@ back_in_order b requests k (t ∷ ts) back = (back.0.ready.task, back.0.number, 
 
 -- and each caller's part of the history is right
 right_parts : (b : BoardFace) (requests : List ℕ) (c : Setup) (es : List Entry) (k : ℕ) (ts : List CallerFace) → AreBack b requests k ts
-    → AllByRecursion (IsIn c es) ts → (j : ℕ) → k ≤ j → j < k + length ts → AreRight requests (of j es)
+    → AllByRecursion (IsIn c es) ts → (j : ℕ) → k ≤ j → j < k + length ts → AreRight requests j (of j es)
 right_parts b requests c es k [] back within j low high = absurd (omega arith)
 right_parts b requests c es k (t ∷ ts) back within j low high = by_number (eq-or-lt_of_le low)
     (λ lt. right_parts b requests c es (suc k) ts back.1 within.1 j lt (omega arith)) where
-      by_number : (k ≡ j) ⊎ (k < j) → (k < j → AreRight requests (of j es)) → AreRight requests (of j es)
-      by_number (inl same) rest = subst (λ log. AreRight requests log)
-          (sym (ap (λ n. of n es) (sym (back.0.number ∙ same)) ∙ within.0.logged)) back.0.ready.right
+      by_number : (k ≡ j) ⊎ (k < j) → (k < j → AreRight requests j (of j es)) → AreRight requests j (of j es)
+      by_number (inl same) rest = subst (λ n. AreRight requests n (of n es)) (back.0.number ∙ same)
+          (subst (λ log. AreRight requests t.number log) (sym within.0.logged) back.0.ready.right)
       by_number (inr lt) rest = rest lt
 
 -- the last of some tasks
@@ -75,33 +75,39 @@ get_or_any [] i a b lt = absurd (omega arith)
 get_or_any (x ∷ xs) zero a b lt = refl
 get_or_any (x ∷ xs) (suc i) a b lt = get_or_any xs i a b (omega arith)
 
--- so what the server found are the answers
+-- so what the server found are the answers, and workers posted them
 pub answers_are : (b : BoardFace) (requests answers : List ℕ) (es : List Entry) (pool tasks : List CallerFace) (server : CallerFace)
-    → b.config ≡ pool_setup (length requests) → Legal b.config es → AllByRecursion (IsIn b.config es) tasks → AreBack b requests 0 tasks
-    → tasks ≡ pool ++ server ∷ [] → length pool ≡ workers → length answers ≡ length requests
+    → b.config ≡ pool_setup (length requests) → Legal b.config es → AllByRecursion (IsIn b.config es) tasks → AreDone b requests pool
+    → IsBack b requests workers server → tasks ≡ pool ++ server ∷ [] → length answers ≡ length requests
     → ((r : ℕ) → r < length requests → Finds server.log (workers + r) (get_or answers r 0))
-    → answers ≡ map days_in requests
-answers_are b requests answers es pool tasks server is legal within back all size count finds =
-    same_lists answers (map days_in requests) (count ∙ sym (length-map requests days_in)) (λ r d lt. one r d lt) where
-      each : (j : ℕ) → j < b.config.callers → AreRight requests (of j es)
-      each j lt =
-          let callers : b.config.callers ≡ workers + 1 = ap (λ (s : Setup). s.callers) is in
-          let long = ap length all ∙ length-append pool (server ∷ []) in
-          right_parts b requests b.config es 0 tasks back within j (omega arith) (omega arith)
+    → (answers ≡ map days_in requests) × ((r : ℕ) → r < length requests → IsPosted es (workers + r) (get_or answers r 0))
+answers_are b requests answers es pool tasks server is legal within done last all count finds = (
+  same_lists answers (map days_in requests) (count ∙ sym (length-map requests days_in)) (λ r d lt. one r d lt),
+  λ r low. (found r low).1,
+) where
+  each : (j : ℕ) → j < b.config.callers → AreRight requests j (of j es)
+  each j lt =
+      let callers : b.config.callers ≡ workers + 1 = ap (λ (s : Setup). s.callers) is in
+      let long = ap length all ∙ length-append pool (server ∷ []) in
+      let size = done.count in
+      right_parts b requests b.config es 0 tasks (all_back b requests pool tasks server done last all) within j (omega arith) (omega arith)
 
-      own : of server.number es ≡ server.log
-      own = (last_in b.config es pool tasks server all within).logged
+  own : of server.number es ≡ server.log
+  own = (last_in b.config es pool tasks server all within).logged
 
-      one : (r : ℕ) (d : ℕ) → r < length answers → get_or answers r d ≡ get_or (map days_in requests) r d
-      one r d lt =
-          let low : r < length requests = omega arith in
-          let found : Finds (of server.number es) (workers + r) (get_or answers r 0) =
-          subst (λ log. Finds log (workers + r) (get_or answers r 0)) (sym own) (finds r low) in
-          let answer = found_is_answer requests b.config es server.number (workers + r) (get_or answers r 0) legal
-          (callers_exist b.config (opening b.config) es legal) each found (omega arith) in
-          get_or_any answers r d 0 lt ∙ answer
-          ∙ ap (λ k. days_in (get_or requests k 0)) (let e : workers + r - workers ≡ r = omega arith in e)
-          ∙ sym (get_or-map days_in requests r 0 d low)
+  found : (r : ℕ) → r < length requests
+      → (get_or answers r 0 ≡ answer_at requests (workers + r)) × IsPosted es (workers + r) (get_or answers r 0)
+  found r low =
+      found_is_answer requests b.config es server.number (workers + r) (get_or answers r 0) legal
+      (callers_exist b.config (opening b.config) es legal) each
+      (subst (λ log. Finds log (workers + r) (get_or answers r 0)) (sym own) (finds r low)) (omega arith)
+
+  one : (r : ℕ) (d : ℕ) → r < length answers → get_or answers r d ≡ get_or (map days_in requests) r d
+  one r d lt =
+      let low : r < length requests = omega arith in
+      get_or_any answers r d 0 lt ∙ (found r low).0
+      ∙ ap (λ k. days_in (get_or requests k 0)) (let e : workers + r - workers ≡ r = omega arith in e)
+      ∙ sym (get_or-map days_in requests r 0 d low)
 
 -- ---- one more answer
 

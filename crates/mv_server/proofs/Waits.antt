@@ -30,21 +30,21 @@ with_false : (b was : Bool) → was ≡ false → (if b then false else was) ≡
 with_false true was q = refl
 with_false false was q = q
 
-plain_next : (requests : List ℕ) (held : ℕ → Bool) (o : Object) (op : Op) (r : Reply) (e : ℕ) → IsRight requests o op → held e ≡ false
-    → extended_with held o op r e ≡ false
-plain_next requests held (Ecb n) (op_on.Ecb (Extend x)) r e right plain = absurd right
-plain_next requests held (Ecb n) (op_on.Ecb Clear) r e right plain = with_false (e == n) (held e) plain
-plain_next requests held o op r e right plain = plain
+plain_next : (requests : List ℕ) (k : ℕ) (held : ℕ → Bool) (o : Object) (op : Op) (r : Reply) (e : ℕ) → IsRight requests k o op
+    → held e ≡ false → extended_with held o op r e ≡ false
+plain_next requests k held (Ecb n) (op_on.Ecb (Extend x)) r e right plain = absurd right
+plain_next requests k held (Ecb n) (op_on.Ecb Clear) r e right plain = with_false (e == n) (held e) plain
+plain_next requests k held o op r e right plain = plain
 
-plain_from : (requests : List ℕ) (kept : Kept) (log : List Entry) (e : ℕ) → AreRight requests log → kept.extended e ≡ false
+plain_from : (requests : List ℕ) (k : ℕ) (kept : Kept) (log : List Entry) (e : ℕ) → AreRight requests k log → kept.extended e ≡ false
     → (kept_from kept log).extended e ≡ false
-plain_from requests kept [] e right plain = plain
-plain_from requests kept (x ∷ log) e right plain = plain_from requests (kept_after kept x.object x.op x.reply) log e right.1
-    (plain_next requests kept.extended x.object x.op x.reply e right.0 plain)
+plain_from requests k kept [] e right plain = plain
+plain_from requests k kept (x ∷ log) e right plain = plain_from requests k (kept_after kept x.object x.op x.reply) log e right.1
+    (plain_next requests k kept.extended x.object x.op x.reply e right.0 plain)
 
 -- who made right entries holds no block extended
-plain_of : (requests : List ℕ) (k : ℕ) (log : List Entry) (e : ℕ) → AreRight requests log → (kept_of k log).extended e ≡ false
-plain_of requests k log e right = plain_from requests (nothing_kept k) log e right refl
+plain_of : (requests : List ℕ) (k : ℕ) (log : List Entry) (e : ℕ) → AreRight requests k log → (kept_of k log).extended e ≡ false
+plain_of requests k log e right = plain_from requests k (nothing_kept k) log e right refl
 
 -- all blocks are the server's
 own_block : (c : Setup) (n e k : ℕ) (log : List Entry) → c ≡ pool_setup n → e < workers + n → k ≡ workers
@@ -56,7 +56,7 @@ own_block c n e k log is lt server =
 -- ---- the wait
 
 pub unrefused_wait : (c : Setup) (requests : List ℕ) (n e k : ℕ) (log : List Entry) → c ≡ pool_setup n → e < workers + n → k ≡ workers
-    → AreRight requests log → wait_refusal c 1 (e ∷ []) (kept_of k log) ≡ None
+    → AreRight requests k log → wait_refusal c 1 (e ∷ []) (kept_of k log) ≡ None
 unrefused_wait c requests n e k log is lt server right =
     unrefused c e (kept_of k log) (own_block c n e k log is lt server) (plain_of requests k log e right)
 

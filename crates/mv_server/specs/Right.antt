@@ -1,27 +1,29 @@
--- What each task of a pool keeps to, whatever the others do: a block of an answer is posted with nothing but that answer.
+-- What each task of a pool keeps to, whatever the others do: a block of an answer is posted by a worker, and with nothing but that
+-- answer.
 use Rattle.std.specs.Prelude.{◌≡◌, ℕ, ◌+◌, ◌<◌, ◌≤◌, List, length, slice_index_or}
 use Rattle.std.specs.List.{AllByRecursion, Contains}
 use Rattle.mv_ecb.specs.declared.operation.EcbOp.TheVariants.{Extend, Post}
-use Rattle.mv_ecb.specs.declared.operation.EcbReply.TheVariants.{Complete}
+use Rattle.mv_ecb.specs.declared.operation.EcbReply.TheVariants.{Complete, Posted, Woke}
 use Rattle.mv_machine.specs.declared.entry.Entry.{Entry}
 use Rattle.mv_machine.specs.declared.entry.Object.{Object}
 use Rattle.mv_machine.specs.declared.entry.Object.TheVariants.{Ecb}
 use Rattle.mv_machine.specs.declared.entry.Op.{Op}
 use Rattle.mv_machine.specs.declared.entry.Op.TheVariants as op_on
+use Rattle.mv_machine.specs.declared.entry.Reply.{Reply}
 use Rattle.mv_machine.specs.declared.entry.Reply.TheVariants as reply_of
 use Rattle.mv_board.specs.Faces.{BoardFace, CallerFace, IsOf, AreFresh}
 use Rattle.mv_calls.specs.Rest.{IsAtRest}
 use Rattle.mv_server.specs.Pool.{workers, requests_limit, weeks_limit, pool_setup, answer_at}
 
--- a post of a block of an answer has that answer, and no block is extended
-abbrev pub IsRight : List ℕ → Object → Op → Type 0
-IsRight requests (Ecb n) (op_on.Ecb (Post code)) = workers ≤ n → code ≡ answer_at requests n
-IsRight requests (Ecb n) (op_on.Ecb (Extend exit)) = ⊥
-IsRight requests object op = Unit {0}
+-- caller k may do so: a post of a block of an answer is a worker's and has that answer, and no block is extended
+abbrev pub IsRight : List ℕ → ℕ → Object → Op → Type 0
+IsRight requests k (Ecb n) (op_on.Ecb (Post code)) = workers ≤ n → (k < workers) × (code ≡ answer_at requests n)
+IsRight requests k (Ecb n) (op_on.Ecb (Extend exit)) = ⊥
+IsRight requests k object op = Unit {0}
 
--- so each of these
-abbrev pub AreRight : List ℕ → List Entry → Type 0
-AreRight requests es = AllByRecursion (λ e. IsRight requests e.object e.op) es
+-- so each of these, which are its entries
+abbrev pub AreRight : List ℕ → ℕ → List Entry → Type 0
+AreRight requests k es = AllByRecursion (λ e. IsRight requests k e.object e.op) es
 
 -- ---- tasks between two calls
 
@@ -36,7 +38,7 @@ pub record IsReady (b : BoardFace) (requests : List ℕ) (t : CallerFace) : Type
   pub asked : IsAsked b requests
   pub task : IsOf b t
   pub rest : IsAtRest t.log
-  pub right : AreRight requests t.log
+  pub right : AreRight requests t.number t.log
 
 -- it is the task of this number
 pub record IsBack (b : BoardFace) (requests : List ℕ) (k : ℕ) (t : CallerFace) : Type 0 where
@@ -70,3 +72,18 @@ pub record Finds (es : List Entry) (block code : ℕ) : Type 0 where
   pub member : Contains es entry
   pub object : entry.object ≡ Ecb block
   pub found : entry.reply ≡ reply_of.Ecb (Complete code)
+
+-- a post that is told this is accepted: it completed its block
+abbrev pub IsAccepted : Reply → Type 0
+IsAccepted (reply_of.Ecb Posted) = Unit {0}
+IsAccepted (reply_of.Ecb (Woke exit)) = Unit {0}
+IsAccepted reply = ⊥
+
+-- one of these entries is a worker's post that completed the block with this code
+pub record IsPosted (es : List Entry) (block code : ℕ) : Type 0 where
+  pub entry : Entry
+  pub member : Contains es entry
+  pub worker : entry.caller < workers
+  pub object : entry.object ≡ Ecb block
+  pub post : entry.op ≡ op_on.Ecb (Post code)
+  pub accepted : IsAccepted entry.reply

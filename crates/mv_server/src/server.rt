@@ -10,7 +10,7 @@ ghost use Rattle.mv_machine.specs.Legal.{Legal};
 ghost use Rattle.mv_machine.specs.Limits.{highest_place};
 ghost use Rattle.mv_server.specs.Pool.{workers, requests_limit, weeks_limit, worker_events, hand_out_events, server_events};
 ghost use Rattle.mv_server.specs.Pool.{pool_setup, days_in};
-ghost use Rattle.mv_server.specs.Right.{IsAsked, IsReady, IsBack, StaysReady, AreNew, AreDone, Finds};
+ghost use Rattle.mv_server.specs.Right.{IsAsked, IsReady, IsBack, StaysReady, AreNew, AreDone, Finds, IsPosted};
 
 use mv_board::Closed;
 use mv_element::Token;
@@ -269,6 +269,8 @@ pub fn serve_all<R: Threads + Wait + Sync>(
     requires few { length requests.now ≤ requests_limit }
     requires small { AllByRecursion (λ weeks. weeks < weeks_limit) requests.now }
     ensures answers { IfOk result (λ served. served.answers.items ≡ map days_in requests.now) }
+    ensures posted { IfOk result (λ served. (r : ℕ) → r < length requests.now
+        → IsPosted served.journal.items (workers + r) (slice_index served.answers.items r)) }
     ensures config { IfOk result (λ served. served.config ≡ pool_setup (length requests.now)) }
     ensures legal { IfOk result (λ served. Legal served.config served.journal.items) }
     ensures places { IfOk result (λ served. All (λ e. e.place ≤ highest_place) served.journal.items) }

@@ -53,5 +53,5 @@ returns g c =
       finds = subst (λ n. Finds u.log block n) code found.2;
       found = λ n code f. still_found t.log u.log (entries served.made.events) n code served.made.longer.logged f;
       kept = stays_after c.args.station.now requests 2 (wait config 1 (block ∷ [])) (λ a. a ≡ Ok (slots_of out)) t u served
-          since.ready (always_wait requests config 1 (block ∷ []) (kept_of t.number t.log));
+          since.ready (always_wait requests t.number config 1 (block ∷ []) (kept_of t.number t.log));
     }

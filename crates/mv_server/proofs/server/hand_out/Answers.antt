@@ -16,7 +16,7 @@ loop-worker-init g c =
     let t = c.args.task.now in
     stays_after b c.args.requests.now (2 * workers) (wait b.config 1 (range_with_len 0 workers))
     (λ a. a ≡ wait_answer c.wait.result c.wait.new.out) t c.wait.new.task c.wait.ensures.served c.requires.ready
-    (always_wait c.args.requests.now b.config 1 (range_with_len 0 workers) (kept_of t.number t.log))
+    (always_wait c.args.requests.now t.number b.config 1 (range_with_len 0 workers) (kept_of t.number t.log))
 
 pub returns-in-Complete : goal.returns-in-Complete
 returns-in-Complete g c =
@@ -28,9 +28,9 @@ returns-in-Complete g c =
     let mid = c.clear.new.task in
     let new = c.release.new.task in
     let first = stays_after b requests 1 (clear b.config c.loop-worker.worker) (λ a. a ≡ clear_answer c.clear.result) old mid
-    c.clear.ensures.served since.ready (always_clear requests b.config c.loop-worker.worker (kept_of old.number old.log)) in
+    c.clear.ensures.served since.ready (always_clear requests old.number b.config c.loop-worker.worker (kept_of old.number old.log)) in
     let second = stays_after b requests 1 (release token c.args.code) (λ a. a ≡ release_answer c.release.result) mid new
-    c.release.ensures.served first.ready (always_release requests token c.args.code (kept_of mid.number mid.log)) in
+    c.release.ensures.served first.ready (always_release requests mid.number token c.args.code (kept_of mid.number mid.log)) in
     let both = stays_then b requests 1 1 2 old mid new first second (omega arith) in record {
       kept = stays_then b requests (2 * workers) 2 hand_out_events c.args.task.now old new since both (omega arith);
     }

@@ -13,14 +13,19 @@ close-config-requires-clause-order g c =
 
 pub returns-clause-answers : goal.returns-clause-answers
 returns-clause-answers g c =
-    let b = c.in_ok-station.station in
     let run = c.run_tasks-tasks in
-    let tasks = c.push_reserved.new.self.items in
-    answers_are b c.args.requests.now run.result.1.1.items c.close-config.result.journal.items run.result.0.items tasks run.result.1.0
-    run.ensures.server.ready.asked.config c.close-config.ensures.legal c.close-config.ensures.callers
-    (all_back b c.args.requests.now run.result.0.items tasks run.result.1.0 run.ensures.pool.0 run.ensures.server
-    c.push_reserved.ensures.items)
-    c.push_reserved.ensures.items run.ensures.pool.0.count run.ensures.count run.ensures.finds
+    let closed = c.close-config in
+    (answers_are c.in_ok-station.station c.args.requests.now run.result.1.1.items closed.result.journal.items run.result.0.items
+    c.push_reserved.new.self.items run.result.1.0 run.ensures.server.ready.asked.config closed.ensures.legal closed.ensures.callers
+    run.ensures.pool.0 run.ensures.server c.push_reserved.ensures.items run.ensures.count run.ensures.finds).0
+
+pub returns-clause-posted : goal.returns-clause-posted
+returns-clause-posted g c =
+    let run = c.run_tasks-tasks in
+    let closed = c.close-config in
+    (answers_are c.in_ok-station.station c.args.requests.now run.result.1.1.items closed.result.journal.items run.result.0.items
+    c.push_reserved.new.self.items run.result.1.0 run.ensures.server.ready.asked.config closed.ensures.legal closed.ensures.callers
+    run.ensures.pool.0 run.ensures.server c.push_reserved.ensures.items run.ensures.count run.ensures.finds).1
 
 pub returns-clause-places : goal.returns-clause-places
 returns-clause-places g c =

@@ -3,7 +3,7 @@ use Rattle.mv_machine.specs.Setup.{element_count}
 use Rattle.mv_calls.specs.Keeping.{kept_of}
 use Rattle.mv_calls.specs.Pauses.{allocate}
 use Rattle.mv_pause.specs.Answers.{allocate_answer}
-use Rattle.mv_server.specs.Pool.{worker_events}
+use Rattle.mv_server.specs.Pool.{workers, worker_events}
 use Rattle.mv_server.proofs.Always.{stays_after, stays_then, stays_more, told, begun_round, always_allocate}
 use Rattle.mv_server.proofs.Pool.{right_answer}
 use Rattle.mv_server.proofs.server.work.Goals as goal
@@ -14,7 +14,7 @@ loop-round-init g c =
     let requests = c.args.requests.now in
     let t = c.args.task.now in record {
       kept = stays_after b requests 1 (allocate b.config) (λ a. a ≡ allocate_answer c.allocate.result) t c.allocate.new.task
-          c.allocate.ensures.served c.requires.ready (always_allocate requests b.config (kept_of t.number t.log));
+          c.allocate.ensures.served c.requires.ready (always_allocate requests t.number b.config (kept_of t.number t.log));
       element = c.in-Ok.ensures.own.0;
       low = c.in-Ok.ensures.low;
     }
@@ -51,8 +51,9 @@ loop-round-preserved g c =
     let begun = begun_round b requests _ _ _ c.loop-round.token _ _ _ _ _ given
     (let n = c.number-idle.ensures.number in let lt = c.requires.number in omega arith) c.post.ensures.served c.pause.ensures.served
     since.kept in
+    let low : given.number < workers = (let n = begun.number in let lt = c.requires.number in omega arith) in
     let answered = told b requests _ _ _ given new c.post-in-loop-round.ensures.served begun.ready
-    (λ high. right_answer requests _ _ c.answer_to-answer.ensures) in record {
+    (λ high. (low, right_answer requests _ _ c.answer_to-answer.ensures)) in record {
       kept = stays_then b requests _ 1 (4 * (c.loop-round.round + 1) + 1) c.args.task.now given new begun answered (omega arith);
       element = subst (λ e. e < element_count b.config) (sym c.in-Ok-pause.ensures.next) since.element;
       low = c.in-Ok-pause.ensures.low.1;
