@@ -21,7 +21,7 @@ use Rattle.mv_machine.specs.Setup.{Setup}
 use Rattle.mv_machine.proofs.Lists.{all_append}
 use Rattle.mv_board.specs.Faces.{BoardFace, CallerFace}
 use Rattle.mv_calls.specs.Keeping.{Kept, kept_of}
-use Rattle.mv_calls.specs.Pauses.{Gift, allocate, open_lowest, lowest_free, opened, pause, paused, resumed, release, released}
+use Rattle.mv_calls.specs.Pauses.{Gift, Reached, allocate, open_lowest, lowest_free, opened, pause, paused, resumed, release, released}
 use Rattle.mv_calls.specs.Pauses.{is_others_token}
 use Rattle.mv_calls.specs.Posts.{Posting, post, post_within, posting, posted_next, each_posted, targets_of}
 use Rattle.mv_calls.specs.Posts as came
@@ -156,7 +156,7 @@ always_wait requests k c count es kept =
     (always_arm requests k es (settle_all es [] (enough count))
     (always_settle requests k es [] (enough count) (always_enough requests k count)))
 
-pub always_clear : (requests : List ℕ) (k : ℕ) (c : Setup) (e : ℕ) (kept : Kept) → Always (IsRight requests k) (clear c e kept)
+always_clear : (requests : List ℕ) (k : ℕ) (c : Setup) (e : ℕ) (kept : Kept) → Always (IsRight requests k) (clear c e kept)
 always_clear requests k c e kept =
     always_unless (IsRight requests k) (refused_if (is_others_block c kept e) refusal.NotOwner)
     (Do (Ecb e) (op_on.Ecb ecb_op.Clear) (λ h. on_ecb h.entry.reply (the_word (λ w. Done (Ok w)))))
@@ -243,7 +243,7 @@ begun_round b requests most idle code token IsPosted IsPaused t old mid new low 
     stays_then b requests most 3 (most + 3) t old new since (stays_then b requests 1 2 3 old mid new told_idle given (omega arith))
     (omega arith)
 
-pub always_release : (requests : List ℕ) (k : ℕ) (t : Token) (code : ℕ) (kept : Kept) → Always (IsRight requests k) (release t code kept)
+always_release : (requests : List ℕ) (k : ℕ) (t : Token) (code : ℕ) (kept : Kept) → Always (IsRight requests k) (release t code kept)
 always_release requests k t code kept = (tt, λ h. always_element (IsRight requests k) h.entry.reply released (λ x. on x)) where
   on : (x : ElementReply) → Always (IsRight requests k) (released x)
   on element_reply.Early = tt
@@ -251,3 +251,15 @@ always_release requests k t code kept = (tt, λ h. always_element (IsRight reque
   on (element_reply.Spent g) = tt
   on element_reply.Already = tt
   on x = tt
+
+-- the server hands out: it clears a block, and releases
+pub handed_out : (b : BoardFace) (requests : List ℕ) (most ecb code : ℕ) (token : Token) (IsCleared : Result ℕ Refusal → Type 0)
+    (IsReleased : Result Reached Refusal → Type 0) (t old mid new : CallerFace) → IsServed 1 (clear b.config ecb) IsCleared old mid
+    → IsServed 1 (release token code) IsReleased mid new → StaysReady b requests most t old → StaysReady b requests (most + 2) t new
+handed_out b requests most ecb code token IsCleared IsReleased t old mid new cleared released since =
+    let first = stays_after b requests 1 (clear b.config ecb) IsCleared old mid cleared since.ready
+    (always_clear requests old.number b.config ecb (kept_of old.number old.log)) in
+    let second = stays_after b requests 1 (release token code) IsReleased mid new released first.ready
+    (always_release requests mid.number token code (kept_of mid.number mid.log)) in
+    stays_then b requests most 2 (most + 2) t old new since (stays_then b requests 1 1 2 old mid new first second (omega arith))
+    (omega arith)

@@ -2,7 +2,9 @@
 mod Pool
 -- work, hand_out, await_answer: entries that are right
 mod Always
--- await_answer
+-- work: its token, and that no pause is refused
+mod Tokens
+-- await_answer, hand_out: no wait is refused
 mod Waits
 -- serve, worked, serve_all
 mod Answers

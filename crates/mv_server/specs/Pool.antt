@@ -19,9 +19,9 @@ weeks_limit = 2 ^ 27
 abbrev pub worker_events : ℕ → ℕ
 worker_events n = 4 * n + 5
 
--- how many events the server may need to hand out a code: two for each block that it waits on, a clear and a release
+-- how many events the server may need to hand out a code: for each worker two to wait on its block, a clear and a release
 abbrev pub hand_out_events : ℕ
-hand_out_events = 2 * workers + 2
+hand_out_events = 4 * workers
 
 -- and for so many requests: it hands out each of them and the stop of each worker, and waits for each answer
 abbrev pub server_events : ℕ → ℕ

@@ -58,8 +58,8 @@ fn pool_config(alloc: Global, requests: u32) -> Result<Config, NoMemory>
 {
     // A worker opens its element, and posts, pauses and posts, at most for each request and for the stop.
     let mut budgets = vec![in alloc; 4 * requests + 5; WORKERS as usize]?;
-    // The server waits on the workers' blocks, clears one and releases, for each request and each worker, and waits for each answer.
-    budgets.push((2 * WORKERS + 2) * (requests + WORKERS) + 2 * requests)?;
+    // The server waits on the workers' blocks, and clears and releases, for each request and each worker, and waits for each answer.
+    budgets.push(4 * WORKERS * (requests + WORKERS) + 2 * requests)?;
     Ok(Config {
         callers: WORKERS + 1,
         elements_per_caller: 1,
@@ -92,19 +92,22 @@ fn valid_config(alloc: Global, requests: u32) -> Result<ValidConfig, NoMemory>
 // told to stop.
 fn work<R: Wait>(rt: &R, station: &Station, task: &mut Task, requests: &[u32])
     requires ready { IsReady station.now requests.now task.old }
+    requires new { task.old.log ≡ [] }
     requires number { task.old.number < workers }
     requires left { worker_events (length requests.now) ≤ task.old.left }
     ensures kept { StaysReady station.now requests.now (worker_events (length requests.now)) task.old task.new }
 {
     let count = requests.len() as u32;
     let idle = task.number();
+    // The task is new, so its element is free.
     let Ok(mut token) = allocate(station, rt, task) else {
-        return;
+        unreachable!()
     };
     for round in 0..count + 1 {
         station.post(rt, task, idle, token.generation);
+        // The last token that a task was given is not refused.
         let Ok(given) = pause(station, rt, task, token) else {
-            return;
+            unreachable!()
         };
         if given.code == STOP || given.code > count {
             return;
@@ -116,25 +119,33 @@ fn work<R: Wait>(rt: &R, station: &Station, task: &mut Task, requests: &[u32])
     }
 }
 
-// Waits until a worker is idle, and hands this code to the first that is.
+// Waits until a worker is idle, and hands this code to the first that takes it.
 fn hand_out<R: Wait>(rt: &R, station: &Station, task: &mut Task, requests: &[u32], code: u32)
-    requires ready { IsReady station.now requests.now task.old }
+    requires ready { IsBack station.now requests.now workers task.old }
     requires code { code < release_limit }
     requires left { hand_out_events ≤ task.old.left }
     ensures kept { StaysReady station.now requests.now hand_out_events task.old task.new }
 {
     let mut found = [WaitSlot::Open; WORKERS as usize];
-    let _ = station.wait(rt, task, 1, &IDLE, &mut found);
+    // All of these blocks are the server's, and none is extended.
+    let Ok(()) = station.wait(rt, task, 1, &IDLE, &mut found) else {
+        unreachable!()
+    };
     for worker in 0..WORKERS {
         if let WaitSlot::Complete(generation) = found[worker as usize] {
             // Cleared first: the worker may be idle again before the release returns.
-            let _ = station.clear(rt, task, worker);
+            let Ok(_) = station.clear(rt, task, worker) else {
+                unreachable!()
+            };
             let token = Token {
                 element: worker,
                 generation,
             };
-            let _ = release(station, rt, task, token, code);
-            return;
+            // Whether this pause is over hangs on what the worker did, so no clause of the server's excludes that it is refused. Then
+            // the next that is idle has the code; where there is none, nobody has it, and the wait for its answer does not end.
+            if release(station, rt, task, token, code).is_ok() {
+                return;
+            }
         }
     }
 }
