@@ -2,8 +2,6 @@
 use Rattle.std.specs.Prelude.{◌≡◌, ◌≤◌, [], vec_capacity}
 use Rattle.mv_machine.specs.Check.{IsValid}
 use Rattle.mv_machine.specs.Room.{IsRoomFor}
-use Rattle.mv_machine.specs.State.{system_of, wakes_of, IsOpenedWith}
-use Rattle.mv_machine.specs.System.{opening}
 use Rattle.mv_board.specs.declared.board.Board.TheInside.{Inside}
 use Rattle.mv_board.specs.Faces.{BoardFace}
 use Rattle.mv_board.specs.Words.{word_count}
@@ -20,4 +18,3 @@ pub record IsOpen (b : Inside) : Type 0 where
   pub slots : b.table.shared.table_id.slots ≡ 1
   pub room : IsRoomFor b.config b.room
   pub logs : (b.logs.items ≡ []) × (b.config.callers ≤ vec_capacity b.logs)
-  pub state : (system_of b.state ≡ opening b.config) × (wakes_of b.state ≡ []) × IsOpenedWith b.config b.state

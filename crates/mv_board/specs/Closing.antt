@@ -4,8 +4,6 @@ use Rattle.atomic_table.specs.declared.shared.Seat.{Seat}
 use Rattle.atomic_table.specs.Seated.{TableId}
 use Rattle.mv_machine.specs.Check.{IsValid}
 use Rattle.mv_machine.specs.Room.{IsRoomFor}
-use Rattle.mv_machine.specs.State.{system_of, wakes_of, IsOpenedWith}
-use Rattle.mv_machine.specs.System.{opening}
 use Rattle.mv_board.specs.declared.closing.Closing.TheInside.{Inside}
 use Rattle.mv_board.specs.declared.item.Item.{Item}
 use Rattle.mv_board.specs.declared.view.Part.{Part}
@@ -27,7 +25,7 @@ abbrev pub IsSeatAt : TableId → Option (Seat Item View) → Type 0
 IsSeatAt t None = Unit {0}
 IsSeatAt t (Some seat) = seat.table_id ≡ t
 
--- The table is of the configuration, and the opening state and the room for the merge are there. The logs are those of the callers
+-- The table is of the configuration, and the room for the merge is there. The logs are those of the callers
 -- that came back, which are numbered from 0 on, and there is room for all of them.
 pub record IsClosing (b : Inside) : Type 0 where
   pub key : b.table.shared.key ≡ b.config
@@ -35,7 +33,6 @@ pub record IsClosing (b : Inside) : Type 0 where
   pub words : b.table.shared.table_id.words ≡ word_count b.config
   pub slots : b.table.shared.table_id.slots ≡ 1
   pub room : IsRoomFor b.config b.room
-  pub state : (system_of b.state ≡ opening b.config) × (wakes_of b.state ≡ []) × IsOpenedWith b.config b.state
   pub seat : IsSeatAt b.table.shared.table_id b.seat
   pub numbered : AreNumbered 0 (held b.seat)
   pub logs : b.logs.items ≡ map log_of (held b.seat)

@@ -23,7 +23,7 @@ use crate::words::{BEFORE_ECBS, PLACE, change, is_ready, test_of, word_number};
 use atomic_table::{Seat, Table};
 use crossbeam_utils::Backoff;
 use mv_io::NoMemory;
-use mv_machine::{Log, MergeRoom, Object, Op, Reply, State, ValidConfig};
+use mv_machine::{Log, MergeRoom, Object, Op, Reply, ValidConfig};
 use std::alloc::Global;
 use std::marker::Model;
 use std::sync::Wait;
@@ -34,10 +34,9 @@ use std::sync::Wait;
 pub struct Board {
     pub(crate) config: ValidConfig,
     pub(crate) table: Table<Item, View, ValidConfig, History, Global>,
-    // What `close` uses: room for the merge and for the callers' logs, and the opening state.
+    // What `close` uses: room for the merge and for the callers' logs.
     pub(crate) room: MergeRoom,
     pub(crate) logs: Vec<Log>,
-    pub(crate) state: State,
 }
 
 impl Model for Board {
@@ -79,13 +78,11 @@ impl Board {
         };
         let room = MergeRoom::new(alloc, &config)?;
         let logs = Vec::with_capacity(alloc, config.config().callers as usize)?;
-        let state = State::opening(alloc, &config)?;
         let board = Board {
             config,
             table,
             room,
             logs,
-            state,
         };
         let callers = board.seats(alloc, first)?;
         Ok((board, callers))

@@ -18,7 +18,7 @@ use crate::item::Item;
 use crate::rule::{History, Seats};
 use crate::view::View;
 use atomic_table::{Seat, Table};
-use mv_machine::{Entry, Log, MergeRoom, State, ValidConfig, merge};
+use mv_machine::{Entry, Log, MergeRoom, MergedLogs, State, ValidConfig, merge_to_state};
 use std::alloc::Global;
 use std::marker::Model;
 
@@ -69,14 +69,12 @@ impl Board {
             table,
             room,
             logs,
-            state,
         } = self;
         Closing {
             config,
             table,
             room,
             logs,
-            state,
             seat: None,
         }
     }
@@ -89,7 +87,6 @@ pub struct Closing {
     pub(crate) table: Table<Item, View, ValidConfig, History, Global>,
     pub(crate) room: MergeRoom,
     pub(crate) logs: Vec<Log>,
-    pub(crate) state: State,
     // Those of the callers that came back, joined.
     pub(crate) seat: Option<Seat<Item, View>>,
 }
@@ -148,35 +145,17 @@ impl Closing {
             table,
             room,
             logs,
-            mut state,
             seat,
         } = self;
         let Some(seat) = seat else { unreachable!() };
         let mut closed = table.close_with(seat);
         let _lists = closed.take(0);
         closed.free();
-        let journal = merge(&config, logs, room);
-        go_through(&mut state, &config, &journal);
+        let MergedLogs { journal, state } = merge_to_state(&config, logs, room);
         Closed {
             config,
             journal,
             state,
         }
-    }
-}
-
-// Takes the opening state through a legal list.
-fn go_through(state: &mut State, config: &ValidConfig, entries: &[Entry])
-    requires opened { IsOpenedWith config.now state.old }
-    requires opening { system_of state.old ≡ opening config.now }
-    requires unshown { wakes_of state.old ≡ [] }
-    requires legal { Legal config.now entries.now }
-    requires few { length entries.now ≤ events_limit }
-    ensures after { system_of state.new ≡ after config.now entries.now }
-    ensures wakes { wakes_of state.new ≡ last_wakes config.now entries.now }
-    ensures opened { IsOpenedWith config.now state.new }
-{
-    for entry in entries {
-        state.step(config, entry.caller, entry.object, entry.op);
     }
 }

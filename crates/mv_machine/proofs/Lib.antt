@@ -28,6 +28,7 @@ pub mod Picks
 pub mod Lefts
 pub mod Merged
 pub mod OneHistory
+pub mod MergeSteps
 -- what an entry is to one object, and the object's own run
 pub mod OneObject
 pub mod Subjects

@@ -94,17 +94,6 @@ pub on_logs : (c : Setup) (P : Object → Type 0) → ((o : Object) → IsObject
 on_logs c P all logs h =
     rw h.parts at (in_parts (λ e. P e.object) c.callers 0 h.history (on_objects c P all (opening c) h.history h.legal))
 
--- what every object that met one test meets too
-more_in : (P Q : Object → Type 0) → ((o : Object) → P o → Q o) → (es : List Entry) → AllByRecursion (λ e. P e.object) es
-    → AllByRecursion (λ e. Q e.object) es
-more_in P Q more [] a = tt
-more_in P Q more (e ∷ es) a = (more e.object a.0, more_in P Q more es a.1)
-
-pub more_kept : (P Q : Object → Type 0) → ((o : Object) → P o → Q o) → (logs : List (List Entry))
-    → AllByRecursion (λ log. AllByRecursion (λ e. P e.object) log) logs → AllByRecursion (λ log. AllByRecursion (λ e. Q e.object) log) logs
-more_kept P Q more [] a = tt
-more_kept P Q more (log ∷ logs) a = (more_in P Q more log a.0, more_kept P Q more logs a.1)
-
 pub logs_legal : (c : Setup) (logs : List (List Entry)) → AreOneHistory c logs → Legal c (merged logs)
 logs_legal c logs h = subst (λ z. Legal c (merged z)) h.parts (merged_legal c h.history h.legal)
 

@@ -83,7 +83,7 @@ pub last_wakes_from-append : (s : System) (shown : List Wake) (xs ys : List Entr
 last_wakes_from-append s shown [] ys = refl
 last_wakes_from-append s shown (x ∷ xs) ys = last_wakes_from-append (next s x) _ xs ys
 
-shown_is : (c : Setup) (s : System) (shown : List Wake) (k : ℕ) (o : Object) (op : Op) → admitted c s k o op ≡ true
+pub shown_is : (c : Setup) (s : System) (shown : List Wake) (k : ℕ) (o : Object) (op : Op) → admitted c s k o op ≡ true
     → wakes_after c s shown k o op ≡ shown_after s shown k o op
 shown_is c s shown k Latches (op_on.Latch op) ok = rw ok refl
 shown_is c s shown k o op ok = refl

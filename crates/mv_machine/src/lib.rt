@@ -25,7 +25,7 @@ pub use laws::{
     words_go_by_the_machine, words_stay_had,
 };
 pub use limits::{HIGHEST_GENERATION, HIGHEST_PLACE};
-pub use merging::{Log, MergeRoom, merge};
+pub use merging::{Log, MergeRoom, MergedLogs, merge, merge_to_state};
 pub use packing::{WordState, pack, state_apply, unpack};
 pub use replaying::{Illegal, ReplayRefusal, replay};
 pub use state::State;

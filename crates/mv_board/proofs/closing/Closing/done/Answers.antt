@@ -7,20 +7,14 @@ use Rattle.mv_board.specs.Faces.{IsPartIn}
 use Rattle.mv_board.proofs.Closings.{one_history, merged_are, ended, few}
 use Rattle.mv_board.proofs.closing.Closing.done.Goals as goal
 
-pub merge-journal-requires-clause-history : goal.merge-journal-requires-clause-history
-merge-journal-requires-clause-history c =
+pub merge_to_state-journal-requires-clause-history : goal.merge_to_state-journal-requires-clause-history
+merge_to_state-journal-requires-clause-history c =
     one_history c.self.inside c.self.invariant c.args.self c.self.view_is c.requires.all c.in-Some.seat c.in-Some.is _ _
     c.close_with-closed.ensures.values.2
 
-pub go_through-requires-clause-few : goal.go_through-requires-clause-few
-go_through-requires-clause-few c =
-    subst (λ (h : List Entry). length h ≤ events_limit) (sym (c.deref.ensures.value ∙ c.merge-journal.ensures.merged))
-    (few c.self.inside c.self.invariant c.args.self c.self.view_is c.requires.all c.in-Some.seat c.in-Some.is _ _
-    c.close_with-closed.ensures.values.2)
-
 pub returns-clause-few : goal.returns-clause-few
 returns-clause-few c =
-    subst (λ (h : List Entry). length h ≤ events_limit) (sym c.merge-journal.ensures.merged)
+    subst (λ (h : List Entry). length h ≤ events_limit) (sym c.merge_to_state-journal.ensures.merged)
     (few c.self.inside c.self.invariant c.args.self c.self.view_is c.requires.all c.in-Some.seat c.in-Some.is _ _
     c.close_with-closed.ensures.values.2)
 
@@ -28,17 +22,17 @@ pub returns-clause-budgets : goal.returns-clause-budgets
 returns-clause-budgets c =
     let end = ended c.self.inside c.self.invariant c.args.self c.self.view_is c.requires.all c.in-Some.seat c.in-Some.is _ _
     c.close_with-closed.ensures.values.2 in
-    subst (KeepsBudgets c.args.self.board.config) (sym c.merge-journal.ensures.merged) end.budgets
+    subst (KeepsBudgets c.args.self.board.config) (sym c.merge_to_state-journal.ensures.merged) end.budgets
 
 pub returns-clause-callers : goal.returns-clause-callers
 returns-clause-callers c =
     let end = ended c.self.inside c.self.invariant c.args.self c.self.view_is c.requires.all c.in-Some.seat c.in-Some.is _ _
     c.close_with-closed.ensures.values.2 in
     subst (λ (h : List Entry). AllByRecursion (IsPartIn c.args.self.board.config h) c.args.self.back)
-    (sym c.merge-journal.ensures.merged) end.parts
+    (sym c.merge_to_state-journal.ensures.merged) end.parts
 
 pub returns-clause-merged : goal.returns-clause-merged
 returns-clause-merged c =
-    c.merge-journal.ensures.merged
+    c.merge_to_state-journal.ensures.merged
     ∙ merged_are c.self.inside c.self.invariant c.args.self c.self.view_is c.requires.all c.in-Some.seat c.in-Some.is _ _
     c.close_with-closed.ensures.values.2

@@ -52,7 +52,6 @@ invariant_of-self c =
       words = i.words;
       slots = i.slots;
       room = i.room;
-      state = i.state;
       seat = both.0;
       numbered = subst (AreNumbered 0) (sym both.1) (numbered_more 0 (held s.seat) (part_of x) i.numbered (omega arith));
       logs =

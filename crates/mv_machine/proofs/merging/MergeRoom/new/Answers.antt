@@ -14,7 +14,8 @@ returns c =
       empty = c.in_ok-journal.ensures.items;
       room = omega (arith, budgets, c.in_ok-journal.ensures.capacity);
       few = budgets_kept c.args.config.now c.config-given.ensures.valid;
-      objects = c.in_ok-places.ensures.objects;
-      unmoved = c.in_ok-places.ensures.start;
+      opened = c.in_ok-state.ensures.opened;
+      opening = c.in_ok-state.ensures.system;
+      unshown = c.in_ok-state.ensures.wakes;
       logs = grind (arith, common_steps, given);
     }
