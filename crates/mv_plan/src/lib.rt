@@ -17,6 +17,3 @@ pub use numbers::{
     initiator, writer,
 };
 pub use spool_setup::spool_config;
-
-#[cfg(test)]
-mod tests;
