@@ -27,6 +27,8 @@ pub mod Purged
 pub mod Gone
 pub mod LatchReplies
 pub mod Queues
+-- holders_exclude, sections_are_undisturbed
+pub mod Sections
 -- posts_reach
 pub mod Posting
 -- the laws in the words of a caller's own log
@@ -39,4 +41,5 @@ pub mod Examples
 pub mod WaitRows
 pub mod PauseRows
 pub mod LatchRows
+pub mod SectionRows
 pub mod EndRows

@@ -83,7 +83,7 @@ all_shared (q ∷ qs) r a is = let first : shared_request q ≡ true = (and_part
     rw first (ap (λ z. q ∷ z) (all_shared qs r (and_parts _ _ a).1 is))
 
 -- a request that is granted as it comes is among the granted ones
-granted_at_once : (qs : List Request) (r : Request) → grants qs r ≡ true → Contains (granted (qs ++ r ∷ [])) r
+pub granted_at_once : (qs : List Request) (r : Request) → grants qs r ≡ true → Contains (granted (qs ++ r ∷ [])) r
 granted_at_once [] r g = elim (shared_request r) as (λ b. Contains (cond b (cond b (r ∷ []) []) (r ∷ [])) r) [
   | true ↦
       first_is_in r [] r refl

@@ -16,6 +16,7 @@ pub mod Services
 -- what a log says of the machine
 pub mod Behind
 pub mod Known
+pub mod Sections
 pub mod Exits
 -- to which call of its caller each entry belongs
 pub mod Numbers

@@ -9,6 +9,7 @@ mod counting;
 mod keeping_laws;
 mod latch_laws;
 mod numbering;
+mod section_laws;
 
 pub use call_laws::{
     calls_keep_to_their_events, generations_in_replies, last_event_is_the_machines, posts_reach,
@@ -20,6 +21,7 @@ pub use latch_laws::{
     wakes_are_in_range,
 };
 pub use numbering::number_calls;
+pub use section_laws::{holders_exclude, sections_are_undisturbed};
 
 #[cfg(test)]
 mod numbered_rows;

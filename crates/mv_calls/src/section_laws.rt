@@ -1,0 +1,44 @@
+//! Critical sections: the laws of specs/Sections.antt, for those who share something under a latch.
+
+ghost use Rattle.std.specs.Prelude.{◌≡◌, ◌≢◌, ◌++◌, ◌∷◌, ℕ, Bool, List, [], false};
+ghost use Rattle.std.specs.List.{AllByRecursion};
+ghost use Rattle.mv_latch.specs.declared.request.Mode.TheVariants.{Exclusive, Shared};
+ghost use Rattle.mv_machine.specs.declared.entry.Entry.{Entry};
+ghost use Rattle.mv_machine.specs.declared.entry.Object.{Object};
+ghost use Rattle.mv_machine.specs.declared.entry.Object.TheVariants.{Volume};
+ghost use Rattle.mv_machine.specs.declared.entry.Op.{Op};
+ghost use Rattle.mv_machine.specs.Kept.{StandingRequest};
+ghost use Rattle.mv_machine.specs.Leaving.{WasPurged, takes_out};
+ghost use Rattle.mv_machine.specs.Legal.{Legal, after};
+ghost use Rattle.mv_machine.specs.Owned.{IsGranted};
+ghost use Rattle.mv_machine.specs.Setup.{Setup};
+ghost use Rattle.mv_calls.specs.Sections.{IsHolder, IsSection, IsGuarded, AreOwn, HoldsAlone, is_write, tells_grant};
+
+/// Mutual exclusion. Who by its own entries holds a latch, and was purged by nobody, holds it, and so throughout its section; two
+/// that hold one latch at a moment, of which one holds it alone, are one; and while a caller holds a latch alone no other caller's
+/// request of it is told granted. A request was not purged where no other caller's entry takes it out.
+pub fn holders_exclude()
+    ensures holds { (c : Setup) (k : ℕ) (t : StandingRequest) (before inside : List Entry) → Legal c (before ++ inside)
+        → IsSection k t before inside → IsGranted k t.latch t.request.id (after c (before ++ inside)) }
+    ensures one { (c : Setup) (j k : ℕ) (t u : StandingRequest) (es : List Entry) → Legal c es → IsHolder j u es → IsHolder k t es
+        → u.latch ≡ t.latch → u.request.mode ≡ Exclusive → (j ≡ k) × (u.request ≡ t.request) }
+    ensures alone { (c : Setup) (k : ℕ) (t : StandingRequest) (before inside : List Entry) (e : Entry) (id : ℕ)
+        → Legal c (before ++ inside ++ e ∷ []) → IsSection k t before inside → t.request.mode ≡ Exclusive → e.caller ≢ k
+        → tells_grant t.latch id e.op e.reply ≡ false }
+    ensures kept { (k : ℕ) (t : StandingRequest) (es : List Entry)
+        → AllByRecursion (λ e. e.caller ≢ k → takes_out t e.caller e.object e.op ≡ false) es → ¬ WasPurged k t es }
+{}
+
+/// What a latch guards is left alone in a section of it. Where each event of some kind on an object is made by a caller that holds
+/// the latch alone, a section's caller makes all those that fall into the section; and where it shares the latch there are none.
+/// So the events of one section on such an object stand together, and a volume that is written under exclusive grants alone is
+/// the same throughout a section under a shared one.
+pub fn sections_are_undisturbed()
+    ensures own { (c : Setup) (k : ℕ) (t : StandingRequest) (kind : Op → Bool) (o : Object) (before inside : List Entry)
+        → Legal c (before ++ inside) → IsSection k t before inside → IsGuarded kind t.latch o (before ++ inside)
+        → AreOwn kind o k t inside }
+    ensures volume { (c : Setup) (k : ℕ) (t : StandingRequest) (n : ℕ) (before inside : List Entry)
+        → Legal c (before ++ inside) → IsSection k t before inside → t.request.mode ≡ Shared
+        → IsGuarded is_write t.latch (Volume n) (before ++ inside)
+        → ((after c (before ++ inside)).volume n).state ≡ ((after c before).volume n).state }
+{}
