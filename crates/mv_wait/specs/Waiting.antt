@@ -1,5 +1,5 @@
 -- The parts of a wait.
-use Rattle.std.specs.Prelude.{◌≡◌, ℕ, ◌<◌, ◌≤◌, ◌==◌, false, List, ◌++◌, length, get_or, Option, Result}
+use Rattle.std.specs.Prelude.{◌≡◌, ℕ, ◌<◌, ◌≤◌, ◌==◌, false, List, ◌++◌, length, get_or, Option, None, Result}
 use Rattle.std.specs.List.{AllByRecursion, list_any}
 use Rattle.mv_ecb.specs.declared.operation.EcbOp.TheVariants.{Settle}
 use Rattle.mv_ecb.specs.declared.operation.EcbReply.{EcbReply}
@@ -14,7 +14,7 @@ use Rattle.mv_calls.specs.Keeping.{kept_of}
 use Rattle.mv_calls.specs.Program.{Program}
 use Rattle.mv_calls.specs.Refusal.{Refusal}
 use Rattle.mv_calls.specs.Rest.{no_waits, waits_from}
-use Rattle.mv_calls.specs.Waits.{arm_all, settle_all, complete_count}
+use Rattle.mv_calls.specs.Waits.{arm_all, settle_all, complete_count, wait_refusal, AreDistinct}
 use Rattle.mv_wait.specs.declared.waiting.WaitSlot.{WaitSlot}
 use Rattle.mv_wait.specs.declared.waiting.WaitSlot.TheVariants as slot
 use Rattle.mv_wait.specs.Run.{Runs}
@@ -44,6 +44,15 @@ Waited = Result (List (Option ℕ)) Refusal
 -- each block was armed, whatever program follows
 abbrev pub ArmsAll : List ℕ → CallerFace → CallerFace → Type 0
 ArmsAll es t u = (p : Program Waited) → Runs (length es) (arm_all es p) p t u
+
+-- a wait was accepted, and each of its blocks was armed
+pub record IsArmed (c : Setup) (count : ℕ) (es : List ℕ) (t u : CallerFace) : Type 0 where
+  pub accepted : wait_refusal c count es (kept_of t.number t.log) ≡ None
+  pub arms : ArmsAll es t u
+  pub waits : IsArmedFor es u.log
+  pub own : AreOwn c u.number es
+  pub plain : ArePlain u es
+  pub distinct : AreDistinct es
 
 -- each block was settled with these slots, whatever program follows
 abbrev pub SettlesAll : List ℕ → List (Option ℕ) → CallerFace → CallerFace → Type 0

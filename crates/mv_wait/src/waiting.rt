@@ -13,7 +13,7 @@ ghost use Rattle.mv_calls.specs.Refusal.{Doubled, NotOwnerAt};
 ghost use Rattle.mv_wait.specs.Answers.{wait_answer, wait_refused, slots_of};
 ghost use Rattle.mv_wait.specs.Listed.{is_listed, listed_count, AreSeenBut};
 ghost use Rattle.mv_wait.specs.Run.{Went, IsServed};
-ghost use Rattle.mv_wait.specs.Waiting.{IsArmedFor, ArePlain, AreOwn, AreOwnUpTo, ArmsAll, SettlesEnough, IsSettled, IsComplete};
+ghost use Rattle.mv_wait.specs.Waiting.{IsArmed, IsArmedFor, ArePlain, AreOwn, AreOwnUpTo, ArmsAll, SettlesEnough, IsSettled, IsComplete};
 
 use crate::pausing::Pauses;
 use crate::record::Record;
@@ -87,10 +87,9 @@ impl Station {
             × (task.new ≡ task.old) × (out.new ≡ out.old)) }
         ensures enough { IfOk result (λ _. count ≤ complete_count (slots_of out.new)) }
     {
-        if let Some(refusal) = self.refuses_wait(&task.record, &mut task.places, count, ecbs) {
+        if let Err(refusal) = self.arm_wait(rt, task, count, ecbs) {
             return Err(refusal);
         }
-        self.arm_all(rt, &mut task.record, ecbs);
         self.await_complete(
             rt,
             &mut task.record,
@@ -99,8 +98,62 @@ impl Station {
             count,
             ecbs,
         );
-        self.settle_all(rt, &mut task.record, count, ecbs, out);
+        self.settle_wait(rt, task, count, ecbs, out);
         Ok(())
+    }
+
+    /// The beginning of a wait, for a call that does not park: each block is armed, unless the wait is refused. One event a block,
+    /// and as many are still to be left. Only `settle_wait` ends such a wait.
+    ///
+    /// # Errors
+    ///
+    /// Those of `wait`. Then no event is made.
+    pub fn arm_wait<R: Wait>(
+        &self,
+        rt: &R,
+        task: &mut Task,
+        count: u32,
+        ecbs: &[u32],
+    ) -> Result<(), WaitRefusal>
+        requires task { IsOf self.now task.old }
+        requires rest { IsAtRest task.old.log }
+        requires blocks { AllByRecursion (λ e. e < length self.now.config.owners) ecbs.now }
+        requires left { 2 * length ecbs.now ≤ task.old.left }
+        ensures armed { MatchResult result
+            (λ _. IsArmed self.now.config count ecbs.now task.old task.new)
+            (λ why. (wait_refusal self.now.config count ecbs.now (kept_of task.old.number task.old.log) ≡ Some (wait_refused why))
+            × (task.new ≡ task.old)) }
+    {
+        if let Some(refusal) = self.refuses_wait(&task.record, &mut task.places, count, ecbs) {
+            return Err(refusal);
+        }
+        self.arm_all(rt, &mut task.record, ecbs);
+        Ok(())
+    }
+
+    /// The end of a wait that `arm_wait` began, once at least `count` of its blocks were seen to be complete: each block is settled.
+    /// `out` has a slot for each. One event a block, which must be left.
+    pub fn settle_wait<R: Wait>(
+        &self,
+        rt: &R,
+        task: &mut Task,
+        count: u32,
+        ecbs: &[u32],
+        out: &mut [WaitSlot],
+    )
+        requires task { IsOf self.now task.old }
+        requires waits { IsArmedFor ecbs.now task.old.log }
+        requires own { AreOwn self.now.config task.old.number ecbs.now }
+        requires plain { ArePlain task.old ecbs.now }
+        requires distinct { AreDistinct ecbs.now }
+        requires listed { count ≤ listed_count task.old.ready ecbs.now }
+        requires out { length out.old ≡ length ecbs.now }
+        requires left { length ecbs.now ≤ task.old.left }
+        ensures settled { SettlesEnough count ecbs.now (slots_of out.new) task.old task.new }
+        ensures rest { IsAtRest task.new.log }
+        ensures size { length out.new ≡ length out.old }
+    {
+        self.settle_all(rt, &mut task.record, count, ecbs, out);
     }
 
     // Why a wait is refused, if it is.
