@@ -1,5 +1,6 @@
 -- What a pause was given.
-use Rattle.std.proofs.Common.{◌≡◌, ℕ, ◌+◌, false, Result, Ok, Err, refl, sym, ap, ◌∙◌, subst}
+use Rattle.std.proofs.Common.{◌≡◌, ℕ, ◌+◌, true, false, Result, Ok, Err, refl, sym, ap, ◌∙◌, subst}
+use Rattle.std.proofs.lemmas.Bool.{false≢true}
 use Rattle.std.specs.Prelude.{IfOk, MatchResult}
 use Rattle.mv_element.specs.declared.element.Token.{Token}
 use Rattle.mv_element.specs.declared.operation.ElementReply.TheVariants.{Given as GivenWith}
@@ -9,11 +10,16 @@ use Rattle.mv_machine.specs.declared.entry.Reply.TheVariants as reply_of
 use Rattle.mv_machine.specs.Setup.{Setup}
 use Rattle.mv_board.specs.Faces.{CallerFace, Happened}
 use Rattle.mv_calls.specs.Keeping.{kept_of}
-use Rattle.mv_calls.specs.Pauses.{Gift, is_others_token}
+use Rattle.mv_calls.specs.Pauses.{Gift, pause, is_others_token}
 use Rattle.mv_calls.specs.Pauses as program
+use Rattle.mv_calls.specs.Refusal as refusal
+use Rattle.mv_calls.specs.Rest.{IsAtRest}
 use Rattle.mv_wait.proofs.Runs.{entry_of}
+use Rattle.mv_wait.proofs.Steps.{served_by, done_served}
+use Rattle.mv_pause.specs.Answers.{pause_answer}
 use Rattle.mv_pause.specs.Answers.{gift_of}
-use Rattle.mv_pause.specs.Pausing.{WasGiven, IsGiven, IsSpent, IsPauseCause}
+use Rattle.mv_pause.specs.Pausing.{WasGiven, IsGiven, IsSpent, IsPauseCause, IsPausedOwn, IsPauseMade, pause_own}
+use Rattle.mv_pause.proofs.Served.{mine, others}
 use Rattle.mv_pause.specs.declared.pausing.Given.{Given}
 use Rattle.mv_pause.specs.declared.pausing.PauseRefusal.{PauseRefusal}
 use Rattle.mv_pause.specs.declared.pausing.PauseRefusal.TheVariants as refused
@@ -56,3 +62,29 @@ pub next_element : (token : Token) (t u : CallerFace) (result : Result Given Pau
     → IfOk result (λ given. given.next.element ≡ token.element)
 next_element token t u (Ok given) is = is.element
 next_element token t u (Err why) is = tt
+
+-- ---- a pause that was made
+
+pub made_own : (c : Setup) (token : Token) (t u : CallerFace) (result : Result Given PauseRefusal)
+    → is_others_token c (kept_of t.number t.log) token ≡ false → IsAtRest t.log → IsPausedOwn token t result u
+    → IsPauseMade c token t result u
+made_own c token t u result own rest p = record {
+  served = served_by 2 (pause c token) (λ a. a ≡ pause_answer result) t u (pause_own token) (pause_answer result)
+      (mine c (kept_of t.number t.log) token (pause_own token) own) p.runs rest p.rest refl;
+  causes = pause_cause c token t u result own p.answer;
+  next = next_element token t u result p.answer;
+  current = λ mine current. p.current current;
+  low = p.low;
+}
+
+-- one that was refused since the element is another caller's
+pub made_not : (c : Setup) (token : Token) (t : CallerFace) → is_others_token c (kept_of t.number t.log) token ≡ true → IsAtRest t.log
+    → IsPauseMade c token t (Err refused.NotOwner) t
+made_not c token t other rest = record {
+  served = done_served 2 (pause c token) (λ a. a ≡ Err refusal.NotOwner) t (Err refusal.NotOwner)
+      (others c (kept_of t.number t.log) token (pause_own token) other) rest refl;
+  causes = (other, refl);
+  next = tt;
+  current = λ own current. absurd (false≢true (sym own ∙ other));
+  low = (tt, tt);
+}

@@ -6,6 +6,7 @@ pub mod Served
 pub mod Lowest
 -- pauses
 pub mod Gifts
+pub mod Between
 -- a release by an exchange
 pub mod Tried
 -- transfers

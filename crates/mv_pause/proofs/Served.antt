@@ -1,5 +1,5 @@
 -- Whose an element is, and what is open after an event on one.
-use Rattle.std.proofs.Common.{◌≡◌, ℕ, ◌==◌, Bool, true, false, cond, List, [], ◌∷◌, ◌++◌, Option, Some, None}
+use Rattle.std.proofs.Common.{◌≡◌, ℕ, ◌==◌, Bool, true, false, not, cond, List, [], ◌∷◌, ◌++◌, Option, Some, None}
 use Rattle.std.proofs.Common.{Result, Ok, Err, refl, sym, ap, ◌∙◌, subst}
 use Rattle.std.proofs.lemmas.Bool.{eq-eqb, eqb-true, not-false}
 use Rattle.mv_element.specs.declared.element.Token.{Token}
@@ -47,6 +47,12 @@ pub own_is : (c : Setup) (k : ℕ) (log : List Entry) (token : Token) → is_oth
 own_is c k log token is =
     eqb-true (element_owner c token.element) (kept_of k log).caller (not-false (element_owner c token.element == (kept_of k log).caller) is)
     ∙ kept_caller (nothing_kept k) log
+
+-- a token of an own element is not another's
+pub is_mine : (c : Setup) (k : ℕ) (log : List Entry) (token : Token) → element_owner c token.element ≡ k
+    → is_others_token c (kept_of k log) token ≡ false
+is_mine c k log token own =
+    ap not (eq-eqb (element_owner c token.element) (kept_of k log).caller (own ∙ sym (kept_caller (nothing_kept k) log)))
 
 -- ---- what is open after an event
 

@@ -1,5 +1,5 @@
 -- The parts of a pause, and what it was given.
-use Rattle.std.specs.Prelude.{◌≡◌, ℕ, ◌+◌, true, false, List, [], ◌∷◌, ◌++◌, Result}
+use Rattle.std.specs.Prelude.{◌≡◌, ℕ, ◌+◌, ◌<◌, ◌≤◌, true, false, List, [], ◌∷◌, ◌++◌, Result, Ok, IfOk, MatchResult}
 use Rattle.mv_element.specs.declared.element.Token.{Token}
 use Rattle.mv_element.specs.declared.operation.ElementOp.TheVariants as element_op
 use Rattle.mv_element.specs.declared.operation.ElementReply.TheVariants as element_reply
@@ -7,12 +7,16 @@ use Rattle.mv_machine.specs.declared.entry.Entry.{Entry}
 use Rattle.mv_machine.specs.declared.entry.Object.TheVariants.{Element}
 use Rattle.mv_machine.specs.declared.entry.Op.TheVariants as op_on
 use Rattle.mv_machine.specs.declared.entry.Reply.TheVariants as reply_of
-use Rattle.mv_machine.specs.Setup.{Setup}
+use Rattle.mv_machine.specs.Limits.{highest_generation}
+use Rattle.mv_machine.specs.Setup.{Setup, element_count}
 use Rattle.mv_board.specs.Faces.{CallerFace}
 use Rattle.mv_calls.specs.Keeping.{Kept, kept_of}
-use Rattle.mv_calls.specs.Pauses.{Gift, paused, resumed, is_others_token}
-use Rattle.mv_calls.specs.Program.{Program, Do, on_element}
+use Rattle.mv_calls.specs.Pauses.{Gift, pause, paused, resumed, is_others_token}
+use Rattle.mv_calls.specs.Program.{Program, Do, Done, on_element}
 use Rattle.mv_calls.specs.Refusal.{Refusal}
+use Rattle.mv_calls.specs.Rest.{IsAtRest}
+use Rattle.mv_wait.specs.Run.{Went, Runs, IsServed}
+use Rattle.mv_pause.specs.Answers.{pause_answer, IsLow}
 use Rattle.mv_pause.specs.Replies.{HappenedOn}
 use Rattle.mv_pause.specs.declared.pausing.Given.{Given}
 use Rattle.mv_pause.specs.declared.pausing.PauseRefusal.{PauseRefusal}
@@ -57,3 +61,38 @@ IsPauseCause c token t refused.NotOwner u = (is_others_token c (kept_of t.number
 IsPauseCause c token t (refused.Spent now) u =
     (is_others_token c (kept_of t.number t.log) token ≡ false)
     × HappenedOn token t (element_op.Pause token.generation) (element_reply.Spent now) u
+
+-- ---- a pause by its parts
+
+-- a pause with a token of an own element was made: its program was run to its end with this answer, and the task is at rest
+pub record IsPausedOwn (token : Token) (t : CallerFace) (r : Result Given PauseRefusal) (u : CallerFace) : Type 0 where
+  pub runs : Runs 2 (pause_own token) (Done (pause_answer r)) t u
+  pub rest : IsAtRest u.log
+  pub current : IsCurrent (kept_of t.number t.log) token → (given : Given) × (r ≡ Ok given)
+  pub answer : MatchResult r (λ given. IsGiven token given u.log) (λ why. IsSpent token t why u)
+  pub low : IsLow (pause_answer r) × IfOk r (λ given. given.next.generation ≤ highest_generation)
+
+-- a pause was made: all that is said of its answer
+pub record IsPauseMade (c : Setup) (token : Token) (t : CallerFace) (r : Result Given PauseRefusal) (u : CallerFace) : Type 0 where
+  pub served : IsServed 2 (pause c token) (λ a. a ≡ pause_answer r) t u
+  pub causes : MatchResult r
+      (λ given. (is_others_token c (kept_of t.number t.log) token ≡ false) × IsGiven token given u.log)
+      (λ why. IsPauseCause c token t why u)
+  pub next : IfOk r (λ given. given.next.element ≡ token.element)
+  pub current : is_others_token c (kept_of t.number t.log) token ≡ false → IsCurrent (kept_of t.number t.log) token
+      → (given : Given) × (r ≡ Ok given)
+  pub low : IsLow (pause_answer r) × IfOk r (λ given. given.next.generation ≤ highest_generation)
+
+-- what a pause asks of its task
+pub record MayPause (c : Setup) (token : Token) (t : CallerFace) : Type 0 where
+  pub rest : IsAtRest t.log
+  pub element : token.element < element_count c
+  pub left : 2 ≤ t.left
+
+-- A pause with a token of an own element goes on: its one event since it began is the pause, which was answered Parked.
+pub record IsPausing (c : Setup) (token : Token) (t0 t : CallerFace) : Type 0 where
+  pub may : MayPause c token t0
+  pub own : is_others_token c (kept_of t0.number t0.log) token ≡ false
+  pub parked : CallerFace
+  pub event : HappenedOn token t0 (element_op.Pause token.generation) element_reply.Parked parked
+  pub since : Went [] parked t

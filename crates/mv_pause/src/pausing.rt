@@ -1,23 +1,21 @@
 //! Pauses. Clauses cite the programs' `Pauses.antt`, and `specs/Answers.antt` and `specs/Pausing.antt`.
 
-ghost use Rattle.std.specs.Prelude.{◌≡◌, ◌<◌, ◌≤◌, ◌+◌, false, Some, Ok, Err, IfOk, MatchResult};
-ghost use Rattle.mv_element.specs.declared.operation.ElementOp.TheVariants.{Resume};
-ghost use Rattle.mv_element.specs.declared.operation.ElementReply.TheVariants.{Given as GivenWith};
-ghost use Rattle.mv_machine.specs.Parked.{parked};
+ghost use Rattle.std.specs.Prelude.{◌≡◌, ◌<◌, ◌≤◌, false, Ok, IfOk, MatchOption, MatchResult};
+ghost use Rattle.std.specs.List.{Contains};
+ghost use Rattle.mv_element.specs.declared.operation.ElementOp.TheVariants.{Pause};
+ghost use Rattle.mv_element.specs.declared.operation.ElementReply.TheVariants.{Parked};
 ghost use Rattle.mv_machine.specs.Setup.{element_count, element_owner};
-ghost use Rattle.mv_machine.specs.declared.entry.Object.TheVariants as object;
-ghost use Rattle.mv_machine.specs.declared.entry.Op.TheVariants as op_on;
-ghost use Rattle.mv_machine.specs.declared.entry.Reply.TheVariants as reply_of;
 ghost use Rattle.mv_machine.specs.Limits.{highest_generation};
-ghost use Rattle.mv_board.specs.Faces.{IsOf};
+ghost use Rattle.mv_board.specs.Faces.{CallerFace, IsOf};
+ghost use Rattle.mv_board.specs.declared.watch.Watch.TheVariants as watch;
 ghost use Rattle.mv_calls.specs.Keeping.{kept_of};
 ghost use Rattle.mv_calls.specs.Pauses.{pause, is_others_token};
 ghost use Rattle.mv_calls.specs.Pauses as program;
-ghost use Rattle.mv_calls.specs.Program.{Done};
-ghost use Rattle.mv_calls.specs.Rest.{IsAtRest, no_waits, waits_from, waits_after};
-ghost use Rattle.mv_wait.specs.Run.{Runs, IsServed};
+ghost use Rattle.mv_calls.specs.Rest.{IsAtRest};
+ghost use Rattle.mv_wait.specs.Run.{IsServed};
 ghost use Rattle.mv_pause.specs.Answers.{gift_of, pause_answer, IsLow};
-ghost use Rattle.mv_pause.specs.Pausing.{pause_own, resume_own, IsCurrent, IsGiven, IsSpent, IsPauseCause, WasGiven};
+ghost use Rattle.mv_pause.specs.Pausing.{IsCurrent, IsGiven, IsPauseCause, IsPausedOwn, IsPauseMade, IsPausing, MayPause};
+ghost use Rattle.mv_pause.specs.Replies.{HappenedOn};
 
 use crate::owning::is_others;
 use crate::replies::{Begun, Gift, beginning, gift_in};
@@ -86,6 +84,42 @@ pub fn pause<R: Wait>(
     pause_own(station, rt, task, token)
 }
 
+/// The beginning of a pause, for a call that does not park: its first event. The answer of the pause, where it has one by then; none
+/// where the task is to wait. Then one event is still to be left, and only `end_pause` ends the pause.
+pub fn begin_pause<R: Wait>(
+    station: &Station,
+    rt: &R,
+    task: &mut Task,
+    token: Token,
+) -> Option<Result<Given, PauseRefusal>>
+    requires task { IsOf station.now task.old }
+    requires may { MayPause station.now.config token task.old }
+    ensures begun { MatchOption result
+        (IsPausing station.now.config token task.old task.new)
+        (λ r. IsPauseMade station.now.config token task.old r task.new) }
+{
+    if is_others(station, task, token) {
+        return Some(Err(PauseRefusal::NotOwner));
+    }
+    begin_own(station, rt, task, token)
+}
+
+/// The end of a pause that `begin_pause` began, once its element was seen to be released. One event.
+pub fn end_pause<R: Wait>(station: &Station, rt: &R, task: &mut Task, token: Token) -> Given
+    requires task { IsOf station.now task.old }
+    requires pausing { (t0 : CallerFace) × IsPausing station.now.config token t0 task.old }
+    requires ready { Contains task.old.ready (watch.Element token.element) }
+    ensures { (t0 : CallerFace) → IsPausing station.now.config token t0 task.old → IsPausedOwn token t0 (Ok result) task.new }
+{
+    let reply = station.event(
+        rt,
+        task,
+        Object::Element(token.element),
+        Op::Element(ElementOp::Resume(token.generation)),
+    );
+    with_token(token.element, gift_in(reply))
+}
+
 /// The same with a token of an own element. It is refused only where the token is over.
 pub(crate) fn pause_own<R: Wait>(
     station: &Station,
@@ -98,11 +132,30 @@ pub(crate) fn pause_own<R: Wait>(
     requires element { token.element < element_count station.now.config }
     requires own { element_owner station.now.config token.element ≡ task.old.number }
     requires left { 2 ≤ task.old.left }
-    ensures runs { Runs 2 (pause_own token) (Done (pause_answer result)) task.old task.new }
-    ensures rest { IsAtRest task.new.log }
-    ensures current { IsCurrent (kept_of task.old.number task.old.log) token → (given : Given) × (result ≡ Ok given) }
-    ensures answer { MatchResult result (λ given. IsGiven token given task.new.log) (λ why. IsSpent token task.old why task.new) }
-    ensures low { IsLow (pause_answer result) × IfOk result (λ given. given.next.generation ≤ highest_generation) }
+    ensures { IsPausedOwn token task.old result task.new }
+{
+    if let Some(over) = begin_own(station, rt, task, token) {
+        return over;
+    }
+    station.park_for(rt, task, Watch::Element(token.element));
+    Ok(end_pause(station, rt, task, token))
+}
+
+// Its first event: the answer of the pause, or none where the task is to wait.
+fn begin_own<R: Wait>(
+    station: &Station,
+    rt: &R,
+    task: &mut Task,
+    token: Token,
+) -> Option<Result<Given, PauseRefusal>>
+    requires task { IsOf station.now task.old }
+    requires rest { IsAtRest task.old.log }
+    requires own { element_owner station.now.config token.element ≡ task.old.number }
+    requires element { token.element < element_count station.now.config }
+    requires left { 2 ≤ task.old.left }
+    ensures { MatchOption result
+        (HappenedOn token task.old (Pause token.generation) Parked task.new)
+        (λ r. IsPausedOwn token task.old r task.new) }
 {
     let reply = station.event(
         rt,
@@ -111,34 +164,10 @@ pub(crate) fn pause_own<R: Wait>(
         Op::Element(ElementOp::Pause(token.generation)),
     );
     match beginning(reply) {
-        Begun::Given(gift) => Ok(with_token(token.element, gift)),
-        Begun::Spent(now) => Err(PauseRefusal::Spent(now)),
-        Begun::Parked => Ok(with_token(token.element, await_release(station, rt, task, token))),
+        Begun::Given(gift) => Some(Ok(with_token(token.element, gift))),
+        Begun::Spent(now) => Some(Err(PauseRefusal::Spent(now))),
+        Begun::Parked => None,
     }
-}
-
-// Parks until the token is released.
-fn await_release<R: Wait>(station: &Station, rt: &R, task: &mut Task, token: Token) -> Gift
-    requires task { IsOf station.now task.old }
-    requires element { token.element < element_count station.now.config }
-    requires own { element_owner station.now.config token.element ≡ task.old.number }
-    requires parked { parked token.element task.old.log ≡ Some token.generation }
-    requires left { 0 < task.old.left }
-    ensures runs { Runs 1 (resume_own token) (Done (Ok (program.gift_of token.element result.code result.next))) task.old task.new }
-    ensures waits { waits_from no_waits task.new.log
-        ≡ waits_after (waits_from no_waits task.old.log) (object.Element token.element) (op_on.Element (Resume token.generation))
-        (reply_of.Element (GivenWith result.code result.next)) }
-    ensures given { WasGiven token result.code task.new.log × (result.next ≡ token.generation + 1) }
-    ensures low { result.next ≤ highest_generation }
-{
-    station.park_for(rt, task, Watch::Element(token.element));
-    let reply = station.event(
-        rt,
-        task,
-        Object::Element(token.element),
-        Op::Element(ElementOp::Resume(token.generation)),
-    );
-    gift_in(reply)
 }
 
 // What a pause with this element answers.
