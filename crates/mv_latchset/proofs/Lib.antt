@@ -5,6 +5,7 @@ pub mod Stands
 pub mod Resting
 -- obtain
 pub mod Obtains
+pub mod Between
 -- check_latch
 pub mod Checks
 -- release_latch, purge

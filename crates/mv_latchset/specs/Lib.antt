@@ -5,3 +5,4 @@ pub mod Answers
 pub mod Obtaining
 pub mod Waking
 pub mod Releasing
+pub mod Polling

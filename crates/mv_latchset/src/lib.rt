@@ -13,7 +13,7 @@ mod waking;
 
 pub use checking::check_latch;
 pub use mv_latch::LatchForm as Form;
-pub use obtaining::{ObtainRefusal, Obtained, obtain};
+pub use obtaining::{Asking, ObtainRefusal, Obtained, begin_obtain, end_obtain, obtain};
 pub use purging::{Purged, purge};
 pub use releasing::{ReleaseLatchRefusal, release_latch};
 pub use token::{LatchToken, Standing};

@@ -2,19 +2,23 @@
 //! `specs/Answers.antt` and `specs/Obtaining.antt`.
 
 ghost use Rattle.std.specs.Prelude.{◌≡◌, ◌<◌, ◌≤◌, ℕ, not, length, option_map, None, IfSome, IfOk, MatchResult};
-ghost use Rattle.mv_latch.specs.declared.operation.LatchOp.TheVariants.{Obtain};
+ghost use Rattle.std.specs.List.{Contains};
+ghost use Rattle.mv_latch.specs.declared.operation.LatchOp.TheVariants.{Obtain, Confirm};
+ghost use Rattle.mv_latch.specs.declared.request.LatchForm.TheVariants.{Waiting};
 ghost use Rattle.mv_latch.specs.declared.request.Mode.{Mode};
 ghost use Rattle.mv_latch.specs.Request.{posted_ecb};
-ghost use Rattle.mv_machine.specs.Kept.{keeps_quotas, standing, HasMade};
+ghost use Rattle.mv_machine.specs.Kept.{keeps_quotas, standing};
 ghost use Rattle.mv_machine.specs.System.{posts_own_ecb};
-ghost use Rattle.mv_board.specs.Faces.{IsOf};
+ghost use Rattle.mv_board.specs.Faces.{CallerFace, IsOf};
+ghost use Rattle.mv_board.specs.declared.watch.Watch.TheVariants as watch;
 ghost use Rattle.mv_calls.specs.Keeping.{kept_of};
 ghost use Rattle.mv_calls.specs.LatchCalls.{obtain, obtain_refusal};
 ghost use Rattle.mv_calls.specs.Rest.{IsAtRest};
 ghost use Rattle.mv_calls.specs.Services.{obtain_events};
 ghost use Rattle.mv_wait.specs.Run.{IsServed};
 ghost use Rattle.mv_latchset.specs.Answers.{obtain_answer, obtain_refused};
-ghost use Rattle.mv_latchset.specs.Obtaining.{IsObtainedBy, IsRefusedBy, IsOfLatch, IsSettled};
+ghost use Rattle.mv_latchset.specs.Obtaining.{IsAnswered, IsObtainedBy, IsRefusedBy, IsOfLatch, settled_reply};
+ghost use Rattle.mv_latchset.specs.Polling.{IsObtaining, IsObtainMade, IsBegun};
 
 use crate::replies::{Asked, asked_in, granted_in};
 use crate::token::{LatchToken, token_of};
@@ -85,8 +89,44 @@ pub fn obtain<R: Wait>(
         (λ why. IsRefusedBy station.now.config latch requestor mode form task.old why task.new) }
     ensures latch { IfOk result (IsOfLatch latch) }
 {
+    match begin_obtain(station, rt, task, latch, requestor, mode, form) {
+        Asking::Over(answer) => answer,
+        Asking::Queued(id) => {
+            station.park_for(rt, task, Watch::Latch { latch, id });
+            end_obtain(station, rt, task, latch, id)
+        }
+    }
+}
+
+/// What an obtain has come to by its first event.
+#[derive(Clone, Copy, Debug, PartialEq, Eq)]
+pub enum Asking {
+    /// It is over, with this answer.
+    Over(Result<Obtained, ObtainRefusal>),
+    /// The request of this number is queued, and its task is to wait.
+    Queued(u32),
+}
+
+/// The beginning of an obtain, for a call that does not park: its first event. Where the request is queued for a task that is to
+/// wait, one event is still to be left, and only `end_obtain` ends the obtain.
+pub fn begin_obtain<R: Wait>(
+    station: &Station,
+    rt: &R,
+    task: &mut Task,
+    latch: u32,
+    requestor: u64,
+    mode: Mode,
+    form: LatchForm,
+) -> Asking
+    requires task { IsOf station.now task.old }
+    requires rest { IsAtRest task.old.log }
+    requires block { IfSome (posted_ecb form) (λ e. e < length station.now.config.owners) }
+    requires left { obtain_events form ≤ task.old.left }
+    ensures begun { IsBegun station.now.config latch requestor mode form task.old result task.new }
+    ensures returned { task.new.returned ≡ task.old.returned }
+{
     if let Some(refusal) = refuses(station, task, latch, form) {
-        return Err(refusal);
+        return Asking::Over(Err(refusal));
     }
     let reply = station.event(
         rt,
@@ -100,17 +140,54 @@ pub fn obtain<R: Wait>(
         }),
     );
     match asked_in(form, reply) {
-        Asked::Granted(id) => Ok(Obtained::Granted(token_of(task, latch, id))),
-        Asked::NotNow(id) => Err(ObtainRefusal::NotNow(id)),
-        Asked::Pending(id) => Ok(Obtained::Pending(token_of(task, latch, id))),
-        Asked::Queued(id) => {
-            if await_grant(station, rt, task, latch, id) {
-                Ok(Obtained::Granted(token_of(task, latch, id)))
-            } else {
-                Err(ObtainRefusal::Purged)
-            }
-        }
+        Asked::Granted(id) => Asking::Over(Ok(Obtained::Granted(token_of(task, latch, id)))),
+        Asked::NotNow(id) => Asking::Over(Err(ObtainRefusal::NotNow(id))),
+        Asked::Pending(id) => Asking::Over(Ok(Obtained::Pending(token_of(task, latch, id)))),
+        Asked::Queued(id) => Asking::Queued(id),
     }
+}
+
+/// The end of an obtain whose request `begin_obtain` queued, once the request was seen to be granted or gone. One event.
+///
+/// # Errors
+///
+/// `Purged` where it is gone.
+pub fn end_obtain<R: Wait>(
+    station: &Station,
+    rt: &R,
+    task: &mut Task,
+    latch: u32,
+    id: u32,
+) -> Result<Obtained, ObtainRefusal>
+    requires task { IsOf station.now task.old }
+    requires waiting { (requestor : ℕ) × (mode : Mode) × (t0 : CallerFace)
+        × IsObtaining station.now.config latch requestor mode id t0 task.old }
+    requires ready { Contains task.old.ready (watch.Latch latch id) }
+    ensures { (requestor : ℕ) (mode : Mode) (t0 : CallerFace) → IsObtaining station.now.config latch requestor mode id t0 task.old
+        → IsObtainMade station.now.config latch requestor mode Waiting t0 result task.new }
+{
+    if confirm(station, rt, task, latch, id) {
+        Ok(Obtained::Granted(token_of(task, latch, id)))
+    } else {
+        Err(ObtainRefusal::Purged)
+    }
+}
+
+// Whether a request that no longer waits is granted.
+fn confirm<R: Wait>(station: &Station, rt: &R, task: &mut Task, latch: u32, id: u32) -> bool
+    requires task { IsOf station.now task.old }
+    requires latch { latch < station.now.config.latches }
+    requires ready { Contains task.old.ready (watch.Latch latch id) }
+    requires left { 0 < task.old.left }
+    ensures { IsAnswered (Confirm latch id) (settled_reply id result) task.old task.new }
+{
+    let reply = station.event(
+        rt,
+        task,
+        Object::Latches,
+        Op::Latch(LatchOp::Confirm { latch, id }),
+    );
+    granted_in(reply)
 }
 
 // Why a request is refused before it is made, if it is.
@@ -158,22 +235,4 @@ fn is_over_quota(station: &Station, task: &Task, form: LatchForm) -> bool
         LatchForm::Posted(_) => task.standing_posted() >= config.posted_quota,
         LatchForm::Conditional | LatchForm::Waiting => false,
     }
-}
-
-// Waits until a request that was queued is granted or taken out, and says whether it was granted.
-fn await_grant<R: Wait>(station: &Station, rt: &R, task: &mut Task, latch: u32, id: u32) -> bool
-    requires task { IsOf station.now task.old }
-    requires latch { latch < station.now.config.latches }
-    requires made { HasMade latch id task.old.log }
-    requires left { 0 < task.old.left }
-    ensures settled { IsSettled latch id task.old result task.new }
-{
-    station.park_for(rt, task, Watch::Latch { latch, id });
-    let reply = station.event(
-        rt,
-        task,
-        Object::Latches,
-        Op::Latch(LatchOp::Confirm { latch, id }),
-    );
-    granted_in(reply)
 }
