@@ -9,5 +9,7 @@ pub mod Kept
 -- numbers that are another's
 pub mod Prefixes
 pub mod Refused
+-- an entry judged behind others
+pub mod Judged
 -- worked rows
 pub mod Rows

@@ -1,22 +1,16 @@
 -- What a list of entries with call numbers is refused for.
-use Rattle.std.specs.Prelude.{◌≡◌, ◌≢◌, ℕ, ◌+◌, ◌<◌, List, length, take, slice_get, Some}
+use Rattle.std.specs.Prelude.{◌≡◌, ◌≢◌, ℕ, ◌+◌, List, take, slice_get, Some}
 use Rattle.mv_machine.specs.declared.entry.Entry.{Entry}
 use Rattle.mv_machine.specs.declared.replaying.Illegal.{Illegal}
-use Rattle.mv_machine.specs.declared.state.State.{State}
-use Rattle.mv_machine.specs.Legal.{IsNext, Legal, next, after}
-use Rattle.mv_machine.specs.Limits.{highest_place}
+use Rattle.mv_machine.specs.Legal.{Legal}
 use Rattle.mv_machine.specs.Replay.{IsFirstIllegal}
 use Rattle.mv_machine.specs.Setup.{Setup}
-use Rattle.mv_machine.specs.State.{system_of, wakes_of, IsOpenedWith}
-use Rattle.mv_machine.specs.System.{System, opening, answer, place_of, wakes_after, with_at}
-use Rattle.mv_machine.specs.Told.{last_wakes}
+use Rattle.mv_machine.specs.System.{opening}
 use Rattle.mv_calls.specs.declared.calls_replaying.CallsRefusal.{CallsRefusal}
 use Rattle.mv_calls.specs.declared.calls_replaying.CallsRefusal.TheVariants as refusal
-use Rattle.mv_calls.specs.declared.calls_replaying.Wrong.{Wrong}
-use Rattle.mv_calls.specs.declared.calls_replaying.Wrong.TheVariants as wrong
-use Rattle.mv_calls.specs.declared.counting.Counter.{Counter}
-use Rattle.mv_calls.specs.Counters.{counted}
-use Rattle.mv_calls.specs.Numbers.{Numbering, numbered_at, calls}
+use Rattle.mv_calls.specs.declared.judge.Judge.{Judge}
+use Rattle.mv_calls.specs.Judge.{HasJudged}
+use Rattle.mv_calls.specs.Numbers.{calls}
 
 -- two lists are one up to a place, and have other numbers there
 pub record IsFirstOther (xs ys : List ℕ) (index x y : ℕ) : Type 0 where
@@ -47,30 +41,7 @@ IsIllegalRefused c es (refusal.Illegal i) = IsFirstIllegal c (opening c) es i
 IsIllegalRefused c es (refusal.Number index k machine) = ⊥
 IsIllegalRefused c es refusal.NoMemory = Unit {0}
 
--- ---- as the code goes through a list
-
--- one more entry is the machine's and has its call number, and this is what it leads to
-pub record IsPassed (c : Setup) (old new : State) (xs ys : List Counter) (e : Entry) (kept : ℕ) : Type 0 where
-  pub legal : IsNext c (system_of old) e
-  pub number : kept ≡ (numbered_at c (system_of old) (counted xs) e).group
-  pub state : system_of new ≡ next (system_of old) e
-  pub wakes : wakes_of new ≡ wakes_after c (system_of old) (wakes_of old) e.caller e.object e.op
-  pub opened : IsOpenedWith c new
-  pub counters : counted ys ≡ with_at (counted xs) e.caller (numbered_at c (system_of old) (counted xs) e)
-  pub callers : length ys ≡ c.callers
-
--- what is wrong with it
-abbrev pub IsWrong : Setup → System → (ℕ → Numbering) → Entry → ℕ → Wrong → Type 0
-IsWrong c s table e kept (wrong.Illegal machine) =
-    (machine ≡ answer c s e.caller e.object e.op) × (machine ≢ Some (e.place, e.reply))
-IsWrong c s table e kept wrong.Full = highest_place < place_of s e.object
-IsWrong c s table e kept (wrong.Number machine) = IsNext c s e × (machine ≡ (numbered_at c s table e).group) × (kept ≢ machine)
-IsWrong c s table e kept wrong.NoMemory = Unit {0}
-
--- all of them are passed, and the state is the one after them
-pub record IsReplayed (c : Setup) (es : List Entry) (kept : List ℕ) (s : State) : Type 0 where
-  pub legal : Legal c es
+-- all of them were judged, and have their numbers
+pub record IsReplayed (c : Setup) (es : List Entry) (kept : List ℕ) (j : Judge) : Type 0 where
+  pub judged : HasJudged c es j
   pub numbers : kept ≡ calls c es
-  pub state : system_of s ≡ after c es
-  pub wakes : wakes_of s ≡ last_wakes c es
-  pub opened : IsOpenedWith c s

@@ -22,4 +22,5 @@ pub mod Exits
 pub mod Numbers
 pub mod Counters
 pub mod OneCall
+pub mod Judge
 pub mod CallsReplay

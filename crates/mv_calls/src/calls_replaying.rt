@@ -1,24 +1,19 @@
 //! A list of entries is judged with its call numbers. `specs/CallsReplay.antt` says why one is refused.
 
-ghost use Rattle.std.specs.Prelude.{◌≡◌, ◌≢◌, ◌<◌, ◌≤◌, ◌-◌, ◌^◌, ◌↔◌, ℕ, [], All, Some, length, IfOk, OnOk, IfErr, IsTrue};
-ghost use Rattle.std.specs.Prelude.{MatchBool, MatchOption};
+ghost use Rattle.std.specs.Prelude.{◌≡◌, ◌≢◌, ◌<◌, ◌≤◌, ◌^◌, [], All, length, IfOk, OnOk, IfErr, MatchOption};
 ghost use Rattle.mv_machine.specs.Legal.{Legal, after};
 ghost use Rattle.mv_machine.specs.Limits.{highest_place};
 ghost use Rattle.mv_machine.specs.OnePost.{TakePosts};
 ghost use Rattle.mv_machine.specs.Orderly.{IsOrderly};
 ghost use Rattle.mv_machine.specs.State.{system_of, wakes_of, IsOpenedWith};
-ghost use Rattle.mv_machine.specs.System.{opening, place_of};
 ghost use Rattle.mv_machine.specs.Told.{last_wakes};
-ghost use Rattle.mv_calls.specs.CallsReplay.{IsPassed, IsWrong, IsReplayed, IsIllegalRefused, IsCallsRefused};
-ghost use Rattle.mv_calls.specs.Counters.{counted};
-ghost use Rattle.mv_calls.specs.Numbers.{unnumbered, calls as calls_of};
+ghost use Rattle.mv_calls.specs.CallsReplay.{IsReplayed, IsIllegalRefused, IsCallsRefused};
+ghost use Rattle.mv_calls.specs.Judge.{HasJudged};
+ghost use Rattle.mv_calls.specs.Numbers.{calls as calls_of};
 
-use crate::counting::Counter;
-use crate::numbering::new_counters;
+use crate::judge::{EntryRefusal, Judge};
 use mv_io::NoMemory;
-use mv_machine::{
-    Entry, HIGHEST_PLACE, Illegal, Object, ReplayRefusal, Reply, State, ValidConfig, replay,
-};
+use mv_machine::{Entry, Illegal, ReplayRefusal, State, ValidConfig, replay};
 use std::alloc::Global;
 
 /// Why a list of entries with call numbers was not replayed to its end.
@@ -49,64 +44,6 @@ impl From<NoMemory> for CallsRefusal {
     }
 }
 
-// What is wrong with an entry, by what stands before it.
-enum Wrong {
-    // It is not the machine's, which answers this.
-    Illegal(Option<(u32, Reply)>),
-    // Nor is one on an object that has had as many events as places count. The state is not to be asked for more.
-    Full,
-    // It has not this number, which is its call's.
-    Number(u32),
-    NoMemory,
-}
-
-// Whether an object has had as many events as the places of entries count.
-fn is_full(state: &State, object: Object) -> bool
-    ensures { MatchBool result (highest_place < place_of (system_of state.now) object)
-        (place_of (system_of state.now) object ≤ highest_place) }
-{
-    state.has(object) && state.place(object) > HIGHEST_PLACE
-}
-
-// Whether the machine's answer is that of the entry.
-fn is_answer(machine: Option<(u32, Reply)>, entry: &Entry) -> bool
-    ensures { IsTrue result ↔ (machine ≡ Some (entry.now.place, entry.now.reply)) }
-{
-    match machine {
-        Some((place, reply)) => place == entry.place && reply.is_same(entry.reply),
-        None => false,
-    }
-}
-
-// One more entry, with its call number: what is wrong with it. Where something is, it is not said what is left.
-fn pass(
-    config: &ValidConfig,
-    state: &mut State,
-    counters: &mut Vec<Counter>,
-    entry: &Entry,
-    call: u32,
-) -> Option<Wrong>
-    requires opened { IsOpenedWith config.now state.old }
-    requires callers { length counters.old.items ≡ config.now.callers }
-    requires low { (k : ℕ) → (counted counters.old.items k).group < 2 ^ 32 - 1 }
-    ensures { MatchOption result
-        (IsPassed config.now state.old state.new counters.old.items counters.new.items entry.now call)
-        (λ w. IsWrong config.now (system_of state.old) (counted counters.old.items) entry.now call w) }
-{
-    if is_full(state, entry.object) {
-        return Some(Wrong::Full);
-    }
-    let machine = state.step(config, entry.caller, entry.object, entry.op);
-    if !is_answer(machine, entry) {
-        return Some(Wrong::Illegal(machine));
-    }
-    match counters[entry.caller as usize].count(config, entry, state.wakes()) {
-        Ok(number) if number == call => None,
-        Ok(number) => Some(Wrong::Number(number)),
-        Err(NoMemory) => Some(Wrong::NoMemory),
-    }
-}
-
 // The refusal of a list that is known not to be legal.
 fn refuse(alloc: Global, config: &ValidConfig, entries: &[Entry]) -> CallsRefusal
     requires places { All (λ e. e.place ≤ highest_place) entries.now }
@@ -120,39 +57,34 @@ fn refuse(alloc: Global, config: &ValidConfig, entries: &[Entry]) -> CallsRefusa
     }
 }
 
-// Passes the entries from the opening on, as long as nothing is wrong with them.
+// Judges the entries from the first on, as long as each is the machine's and has its number.
 fn first_refusal(
     alloc: Global,
     config: &ValidConfig,
-    state: &mut State,
-    counters: &mut Vec<Counter>,
+    judge: &mut Judge,
     entries: &[Entry],
     calls: &[u32],
 ) -> Option<CallsRefusal>
-    requires opening { (system_of state.old ≡ opening config.now) × (wakes_of state.old ≡ []) × IsOpenedWith config.now state.old }
-    requires counters { (counted counters.old.items ≡ (λ _. unnumbered)) × (length counters.old.items ≡ config.now.callers) }
+    requires opened { HasJudged config.now [] judge.old }
     requires few { length entries.now < 2 ^ 32 }
     requires places { All (λ e. e.place ≤ highest_place) entries.now }
     requires numbers { length calls.now ≡ length entries.now }
-    ensures { MatchOption result (IsReplayed config.now entries.now calls.now state.new)
+    ensures { MatchOption result (IsReplayed config.now entries.now calls.now judge.new)
         (λ r. IsCallsRefused config.now entries.now calls.now r) }
 {
     for (index, entry) in entries.iter().enumerate() {
-        if let Some(wrong) = pass(config, state, counters, entry, calls[index]) {
-            return Some(match wrong {
-                Wrong::Illegal(machine) => CallsRefusal::Illegal(Illegal {
-                    index,
-                    kept: (entry.place, entry.reply),
-                    machine,
-                }),
-                Wrong::Full => refuse(alloc, config, &entries[..=index]),
-                Wrong::Number(machine) => CallsRefusal::Number {
-                    index,
-                    kept: calls[index],
-                    machine,
-                },
-                Wrong::NoMemory => CallsRefusal::NoMemory,
-            });
+        match judge.next(config, entry) {
+            Ok(machine) => {
+                if machine != calls[index] {
+                    return Some(CallsRefusal::Number {
+                        index,
+                        kept: calls[index],
+                        machine,
+                    });
+                }
+            }
+            Err(EntryRefusal::Illegal) => return Some(refuse(alloc, config, &entries[..=index])),
+            Err(EntryRefusal::NoMemory) => return Some(CallsRefusal::NoMemory),
         }
     }
     None
@@ -194,10 +126,9 @@ pub fn replay_calls(
     ensures not_both { IfErr result (λ r. r ≢ CallsRefusal.NoMemory
         → Legal config.now entries.now → calls.now ≡ calls_of config.now entries.now → ⊥) }
 {
-    let mut state = State::opening(alloc, config)?;
-    let mut counters = new_counters(alloc, config.config().callers)?;
-    match first_refusal(alloc, config, &mut state, &mut counters, entries, calls) {
+    let mut judge = Judge::open(alloc, config)?;
+    match first_refusal(alloc, config, &mut judge, entries, calls) {
         Some(refusal) => Err(refusal),
-        None => Ok(state),
+        None => Ok(judge.state()),
     }
 }

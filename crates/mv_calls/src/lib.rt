@@ -6,6 +6,7 @@
 mod call_laws;
 mod calls_replaying;
 mod counting;
+mod judge;
 mod keeping_laws;
 mod latch_laws;
 mod numbering;
@@ -15,6 +16,7 @@ pub use call_laws::{
     calls_keep_to_their_events, generations_in_replies, last_event_is_the_machines, posts_reach,
 };
 pub use calls_replaying::{CallsRefusal, replay_calls};
+pub use judge::{EntryRefusal, Judge};
 pub use keeping_laws::{keeping_agrees, own_blocks_answer, own_elements_answer};
 pub use latch_laws::{
     latches_answer, quotas_hold, requests_at_rest, requests_leave_by_purges, requests_stay,

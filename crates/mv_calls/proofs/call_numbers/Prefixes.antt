@@ -1,14 +1,13 @@
 -- The call numbers of the first entries are the first of the call numbers.
 use Rattle.std.proofs.Common.{◌≡◌, ℕ, zero, suc, ◌+◌, ◌<◌, List, [], ◌∷◌, length, take, drop, slice_get, Some, subst, refl, sym, ap, ◌∙◌}
 use Rattle.std.proofs.Common.{arith}
-use Rattle.std.proofs.lemmas.List.{take-take, take-append-drop, length-take-le, get_or-take}
+use Rattle.std.proofs.lemmas.List.{take-append-drop, length-take-le, get_or-take}
 use Rattle.std.proofs.lemmas.Option.{slice_get-get_or, slice_get_within}
 use Rattle.mv_machine.specs.declared.entry.Entry.{Entry}
 use Rattle.mv_machine.specs.Legal.{Legal, LegalFrom, next}
 use Rattle.mv_machine.specs.Setup.{Setup}
 use Rattle.mv_machine.specs.System.{System, opening, with_at}
 use Rattle.mv_machine.proofs.Histories.{LegalFrom-front}
-use Rattle.mv_calls.specs.CallsReplay.{IsFirstOther, IsFirstNumber}
 use Rattle.mv_calls.specs.Numbers.{Numbering, unnumbered, numbered_at, calls, calls_from}
 
 -- there is a number for each entry
@@ -45,17 +44,3 @@ slice_get_front xs i x at =
     let inside : i < length (take (i + 1) xs) = rw (length-take-le (i + 1) xs (omega arith)) (omega arith) in
     slice_get-get_or (take (i + 1) xs) i x inside ∙ ap (λ v. Some v) (get_or-take (i + 1) xs i x (omega arith)) ∙ sym
     (slice_get-get_or xs i x lt) ∙ at
-
--- the first number that differs from those of the list differs from those of its front
-pub first_number : (c : Setup) (es : List Entry) (kept : List ℕ) (index k machine : ℕ) → Legal c (take (index + 1) es)
-    → IsFirstOther kept (calls c es) index k machine → IsFirstNumber c es kept index k machine
-first_number c es kept index k machine l o = record {
-  legal = l;
-  other = record {
-    same = o.same ∙ sym (take-take index (index + 1) (calls c es) (omega arith)) ∙ ap (λ ns. take index ns)
-        (sym (calls-take c (index + 1) es));
-    one = o.one;
-    other = ap (λ ns. slice_get ns index) (calls-take c (index + 1) es) ∙ slice_get_front (calls c es) index machine o.other;
-    differs = o.differs;
-  };
-}

@@ -1,22 +1,22 @@
 -- Why a list with call numbers is refused, by its legal front.
-use Rattle.std.proofs.Common.{◌≡◌, ◌≢◌, ℕ, ◌+◌, ◌<◌, ◌≤◌, List, [], ◌∷◌, ◌++◌, length, take, drop, slice_get, get_or, Some, subst, refl}
+use Rattle.std.proofs.Common.{◌≡◌, ℕ, ◌+◌, ◌<◌, List, [], ◌∷◌, ◌++◌, length, take, drop, slice_get, get_or, Some, subst, refl}
 use Rattle.std.proofs.Common.{sym, ap, ◌∙◌, arith}
 use Rattle.std.proofs.lemmas.List.{take-take, take_more, take-append-drop, append_assoc, length-take-le, length-append}
 use Rattle.std.proofs.Math.Seq.{take-append_seam}
 use Rattle.std.proofs.lemmas.Option.{slice_get-get_or}
 use Rattle.mv_machine.specs.declared.entry.Entry.{Entry}
 use Rattle.mv_machine.specs.declared.replaying.Illegal.{Illegal}
-use Rattle.mv_machine.specs.Legal.{IsNext, Legal, LegalFrom, after_from}
-use Rattle.mv_machine.specs.Limits.{highest_place}
+use Rattle.mv_machine.specs.Legal.{Legal, LegalFrom}
 use Rattle.mv_machine.specs.Replay.{IsFirstIllegal}
 use Rattle.mv_machine.specs.Setup.{Setup}
-use Rattle.mv_machine.specs.System.{System, opening, place_of}
-use Rattle.mv_machine.proofs.Histories.{LegalFrom-rest}
+use Rattle.mv_machine.specs.System.{System, opening}
 use Rattle.mv_machine.proofs.Replays.{not_legal}
-use Rattle.mv_calls.proofs.call_numbers.Prefixes.{calls-take, slice_get_front}
+use Rattle.mv_calls.proofs.call_numbers.Prefixes.{calls-take, calls_length, slice_get_front}
 use Rattle.mv_calls.specs.declared.calls_replaying.CallsRefusal.{CallsRefusal}
 use Rattle.mv_calls.specs.declared.calls_replaying.CallsRefusal.TheVariants as refusal
-use Rattle.mv_calls.specs.CallsReplay.{IsFirstOther, IsIllegalRefused, IsCallsRefused}
+use Rattle.mv_calls.specs.CallsReplay.{IsFirstNumber, IsIllegalRefused, IsCallsRefused}
+use Rattle.mv_calls.specs.declared.judge.Judge.{Judge}
+use Rattle.mv_calls.specs.Judge.{HasJudged, IsJudgedNext}
 use Rattle.mv_calls.specs.Numbers.{calls}
 
 -- the front of a list before its first illegal entry
@@ -36,44 +36,55 @@ front_is_within c es i w =
     let n : i.index ≡ length w.before = w.index in
     grind arith
 
+-- one more entry than up to a place
+one_more : (es : List Entry) (i : ℕ) (e : Entry) → i < length es → e ≡ get_or es i e → take (i + 1) es ≡ take i es ++ e ∷ []
+one_more es i e lt at = take_more es i e lt ∙ ap (λ (x : Entry). take i es ++ x ∷ []) (sym at)
+
 -- what stands behind a list
 slice_get-seam : (xs : List ℕ) (y : ℕ) (ys : List ℕ) → slice_get (xs ++ y ∷ ys) (length xs) ≡ Some y
 slice_get-seam [] y ys = refl
 slice_get-seam (x ∷ xs) y ys = slice_get-seam xs y ys
 
--- ---- in the middle of the list, where the numbers up to here are those of the history, and the others follow so
+-- ---- in the middle of the list, whose entries up to here are judged
 
--- the numbers up to here are those of the entries up to here
-pub front_same : (c : Setup) (es : List Entry) (kept rest : List ℕ) (i : ℕ) → i ≤ length kept → calls c es ≡ take i kept ++ rest
-    → take i kept ≡ calls c (take i es)
-front_same c es kept rest i le is =
-    sym (calls-take c i es ∙ ap (λ ns. take i ns) is ∙ ap (λ n. take n (take i kept ++ rest)) (sym (length-take-le i kept le))
-    ∙ take-append_seam (take i kept) rest)
+-- one more of them
+pub judged_there : (c : Setup) (es : List Entry) (i : ℕ) (e : Entry) (j : Judge) → i < length es → e ≡ get_or es i e
+    → HasJudged c (take i es ++ e ∷ []) j → HasJudged c (take (i + 1) es) j
+judged_there c es i e j lt at h = subst (λ (xs : List Entry). HasJudged c xs j) (sym (one_more es i e lt at)) h
 
--- the number here is another's
-pub other_there : (c : Setup) (es : List Entry) (kept rest : List ℕ) (i machine : ℕ) → i < length kept
-    → calls c es ≡ take i kept ++ machine ∷ rest → get_or kept i 0 ≢ machine → IsFirstOther kept (calls c es) i (get_or kept i 0) machine
-other_there c es kept rest i machine lt is other =
-    let le : i ≤ length kept = omega arith in
+-- with its number
+pub number_there : (c : Setup) (es : List Entry) (kept : List ℕ) (i n : ℕ) (e : Entry) → i < length es → length kept ≡ length es
+    → e ≡ get_or es i e → take i kept ≡ calls c (take i es) → calls c (take i es ++ e ∷ []) ≡ calls c (take i es) ++ n ∷ []
+    → n ≡ get_or kept i 0 → take (i + 1) kept ≡ calls c (take (i + 1) es)
+number_there c es kept i n e lt long at same is here =
+    take_more kept i 0 (omega (arith, lt, long)) ∙ ap (λ ns. ns ++ get_or kept i 0 ∷ []) same
+    ∙ ap (λ (m : ℕ). calls c (take i es) ++ m ∷ []) (sym here) ∙ sym is ∙ ap (λ (xs : List Entry). calls c xs) (sym (one_more es i e lt at))
+
+-- or with another's
+pub other_there : (c : Setup) (es : List Entry) (kept : List ℕ) (i machine : ℕ) (e : Entry) (j : Judge) → i < length es
+    → length kept ≡ length es → e ≡ get_or es i e → take i kept ≡ calls c (take i es) → IsJudgedNext c (take i es) e machine j
+    → (machine ≡ get_or kept i 0 → ⊥) → IsFirstNumber c es kept i (get_or kept i 0) machine
+other_there c es kept i machine e j lt long at same next differs =
+    let front : List Entry = take i es in
+    let far : i ≡ length (calls c front) = sym (length-take-le i es (omega arith)) ∙ sym (calls_length c front) in
+    let all : calls c (take (i + 1) es) ≡ calls c front ++ machine ∷ [] =
+    ap (λ (xs : List Entry). calls c xs) (one_more es i e lt at) ∙ next.number in
     record {
-      same = front_same c es kept (machine ∷ rest) i le is ∙ calls-take c i es;
-      one = slice_get-get_or kept i 0 lt;
-      other = ap (λ ns. slice_get ns i) is ∙ ap (λ n. slice_get (take i kept ++ machine ∷ rest) n) (sym (length-take-le i kept le))
-          ∙ slice_get-seam (take i kept) machine rest;
-      differs = other;
+      legal = (judged_there c es i e j lt at next.judged).legal;
+      other = record {
+        same = same ∙ sym (take-append_seam (calls c front) (machine ∷ []))
+            ∙ ap (λ (n : ℕ). take n (calls c front ++ machine ∷ [])) (sym far) ∙ ap (λ (ns : List ℕ). take i ns) (sym all);
+        one = slice_get-get_or kept i 0 (omega (arith, lt, long));
+        other = ap (λ (ns : List ℕ). slice_get ns i) all ∙ ap (λ (n : ℕ). slice_get (calls c front ++ machine ∷ []) n) far
+            ∙ slice_get-seam (calls c front) machine [];
+        differs = λ is. differs (sym is);
+      };
     }
 
--- ---- an entry for which its object has no place
-
--- the list up to it is not legal
-pub full_front : (c : Setup) (s t : System) (es : List Entry) (i : ℕ) (e : Entry) → i < length es → t ≡ after_from s (take i es)
-    → e ≡ get_or es i e → e.place ≤ highest_place → highest_place < place_of t e.object → LegalFrom c s (take (i + 1) es) → ⊥
-full_front c s t es i e lt is at low full l =
-    let whole : LegalFrom c s (take i es ++ e ∷ []) =
-    subst (λ xs. LegalFrom c s xs) (take_more es i e lt ∙ ap (λ x. take i es ++ x ∷ []) (sym at)) l in
-    let next : IsNext c (after_from s (take i es)) e = (LegalFrom-rest c s (take i es) (e ∷ []) whole).0 in
-    let place : e.place ≡ place_of t e.object = next.place ∙ ap (λ u. place_of u e.object) (sym is) in
-    omega arith
+-- or it is not the machine's
+pub unfit_there : (c : Setup) (es : List Entry) (i : ℕ) (e : Entry) → i < length es → e ≡ get_or es i e
+    → (Legal c (take i es ++ e ∷ []) → ⊥) → Legal c (take (i + 1) es) → ⊥
+unfit_there c es i e lt at bad l = bad (subst (λ (xs : List Entry). Legal c xs) (one_more es i e lt at) l)
 
 -- the first illegal entry of a front is that of the list
 illegal_front : (c : Setup) (s : System) (es : List Entry) (n : ℕ) (i : Illegal) → IsFirstIllegal c s (take n es) i → IsFirstIllegal c s es i

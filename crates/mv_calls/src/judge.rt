@@ -1,0 +1,135 @@
+//! A list of entries, judged and numbered as it comes, entry by entry: `specs/Judge.antt` says what has been judged so far.
+
+ghost use Rattle.std.specs.Prelude.{◌≡◌, ◌<◌, ◌≤◌, ◌-◌, ◌^◌, ◌↔◌, ◌∷◌, ◌++◌, ℕ, List, [], Some, length, IfOk, IsTrue};
+ghost use Rattle.std.specs.Prelude.{MatchBool, MatchResult};
+ghost use Rattle.mv_machine.specs.declared.entry.Entry.{Entry as AnyEntry};
+ghost use Rattle.mv_machine.specs.Limits.{highest_place};
+ghost use Rattle.mv_machine.specs.Setup.{Setup as AnySetup};
+ghost use Rattle.mv_machine.specs.Legal.{after};
+ghost use Rattle.mv_machine.specs.State.{system_of, wakes_of, IsOpenedWith};
+ghost use Rattle.mv_machine.specs.System.{place_of};
+ghost use Rattle.mv_machine.specs.Told.{last_wakes};
+ghost use Rattle.mv_calls.specs.Counters.{counted};
+ghost use Rattle.mv_calls.specs.Judge.{HasJudged, IsPassed, IsJudgedNext, IsUnfit, IsUnfitNext};
+
+use crate::counting::Counter;
+use crate::numbering::new_counters;
+use mv_io::NoMemory;
+use mv_machine::{Entry, HIGHEST_PLACE, Object, Reply, State, ValidConfig};
+use std::alloc::Global;
+
+/// Why an entry was not judged to be the next of a legal list.
+#[derive(Clone, Copy, Debug, PartialEq, Eq)]
+pub enum EntryRefusal {
+    /// It is not the machine's next one.
+    Illegal,
+    /// There was no memory; it was not judged.
+    NoMemory,
+}
+
+/// A legal list of entries so far: the machine behind it, and what is counted of each caller. It keeps none of the entries.
+#[derive(Drop)]
+pub struct Judge {
+    state: State,
+    counters: Vec<Counter>,
+}
+
+// Whether an object has had as many events as the places of entries count.
+fn is_full(state: &State, object: Object) -> bool
+    ensures { MatchBool result (highest_place < place_of (system_of state.now) object)
+        (place_of (system_of state.now) object ≤ highest_place) }
+{
+    state.has(object) && state.place(object) > HIGHEST_PLACE
+}
+
+// Whether the machine's answer is that of the entry.
+fn is_answer(machine: Option<(u32, Reply)>, entry: &Entry) -> bool
+    ensures { IsTrue result ↔ (machine ≡ Some (entry.now.place, entry.now.reply)) }
+{
+    match machine {
+        Some((place, reply)) => place == entry.place && reply.is_same(entry.reply),
+        None => false,
+    }
+}
+
+// One more entry: the number of its call. Where it is refused, it is not said what is left.
+fn pass(
+    config: &ValidConfig,
+    state: &mut State,
+    counters: &mut Vec<Counter>,
+    entry: &Entry,
+) -> Result<u32, EntryRefusal>
+    requires opened { IsOpenedWith config.now state.old }
+    requires callers { length counters.old.items ≡ config.now.callers }
+    requires low { (k : ℕ) → (counted counters.old.items k).group < 2 ^ 32 - 1 }
+    requires place { entry.now.place ≤ highest_place }
+    ensures { MatchResult result
+        (λ n. IsPassed config.now state.old state.new counters.old.items counters.new.items entry.now n)
+        (λ r. IsUnfit config.now (system_of state.old) entry.now r) }
+{
+    // The machine is not asked behind the last place of an object. No entry has a place there.
+    if is_full(state, entry.object) {
+        return Err(EntryRefusal::Illegal);
+    }
+    let machine = state.step(config, entry.caller, entry.object, entry.op);
+    if !is_answer(machine, entry) {
+        return Err(EntryRefusal::Illegal);
+    }
+    match counters[entry.caller as usize].count(config, entry, state.wakes()) {
+        Ok(number) => Ok(number),
+        Err(NoMemory) => Err(EntryRefusal::NoMemory),
+    }
+}
+
+impl Judge {
+    /// Before the first entry.
+    ///
+    /// # Errors
+    ///
+    /// `NoMemory` where there is no room for the state and the counters.
+    pub fn open(alloc: Global, config: &ValidConfig) -> Result<Judge, NoMemory>
+        ensures { IfOk result (λ j. HasJudged config.now [] j) }
+    {
+        let state = State::opening(alloc, config)?;
+        let counters = new_counters(alloc, config.config().callers)?;
+        Ok(Judge { state, counters })
+    }
+
+    /// One more entry behind a legal list, of fewer than 2^32 - 1 entries: the number of its caller's call that it belongs to,
+    /// where it is the machine's next one. The budgets are not asked. It takes the time of a step of the machine.
+    ///
+    /// # Errors
+    ///
+    /// Those of `EntryRefusal`. What the judge says of any further entry is not said then.
+    ///
+    /// # Example
+    ///
+    /// ```
+    /// let mut judge = Judge::open(alloc, &config)?;
+    /// for entry in &journal {
+    ///     match judge.next(&config, entry) {
+    ///         Ok(call) => { .. }
+    ///         Err(EntryRefusal::Illegal) => { .. }
+    ///         Err(EntryRefusal::NoMemory) => { .. }
+    ///     }
+    /// }
+    /// ```
+    pub fn next(&mut self, config: &ValidConfig, entry: &Entry) -> Result<u32, EntryRefusal>
+        requires judged { (es : List AnyEntry) × HasJudged config.now es self.old × (length es < 2 ^ 32 - 1) }
+        requires place { entry.now.place ≤ highest_place }
+        ensures { (es : List AnyEntry) → HasJudged config.now es self.old → MatchResult result
+            (λ n. IsJudgedNext config.now es entry.now n self.new)
+            (λ r. IsUnfitNext config.now es entry.now r) }
+    {
+        pass(config, &mut self.state, &mut self.counters, entry)
+    }
+
+    /// The machine behind the list.
+    pub fn state(self) -> State
+        ensures after { (c : AnySetup) (es : List AnyEntry) → HasJudged c es self → system_of result ≡ after c es }
+        ensures wakes { (c : AnySetup) (es : List AnyEntry) → HasJudged c es self → wakes_of result ≡ last_wakes c es }
+        ensures opened { (c : AnySetup) (es : List AnyEntry) → HasJudged c es self → IsOpenedWith c result }
+    {
+        self.state
+    }
+}
