@@ -43,3 +43,9 @@ pub mod PauseRows
 pub mod LatchRows
 pub mod SectionRows
 pub mod EndRows
+pub mod EventRows
+-- Table::check
+pub mod Tables
+pub mod TableFacts
+-- what a task holds extended is on an exit: for waits for a table's slots
+pub mod ExtendedBlocks

@@ -1,7 +1,7 @@
 -- No call makes more events than it may need. The posts of exits and of wakes are counted in proofs/Posting; here the rest of each
 -- call is, reply by reply.
-use Rattle.std.proofs.Common.{Result, Ok, Err, cond, sym, ap, ◌∙◌, subst, arith, append_assoc}
-use Rattle.std.proofs.Common.{◌≡◌, ℕ, suc, ◌+◌, ◌*◌, ◌≤◌, Bool, true, List, [], ◌∷◌, ◌++◌, length, Option}
+use Rattle.std.proofs.Common.{Result, Ok, Err, cond, ◌<◌, nat_lt, ltb-true, refl, sym, ap, ◌∙◌, subst, arith, append_assoc}
+use Rattle.std.proofs.Common.{◌≡◌, ℕ, suc, ◌+◌, ◌*◌, ◌≤◌, Bool, true, false, List, [], ◌∷◌, ◌++◌, length, Option}
 use Rattle.std.proofs.Common.{Some, None}
 use Rattle.std.proofs.lemmas.Bool.{eq-eqb}
 use Rattle.std.proofs.lemmas.List.{append-nil, append_cancel_right}
@@ -16,6 +16,7 @@ use Rattle.mv_latch.specs.declared.operation.Wake.{Wake}
 use Rattle.mv_latch.specs.declared.request.LatchForm.TheVariants as form_of
 use Rattle.mv_latch.specs.declared.request.LatchForm.{LatchForm}
 use Rattle.mv_latch.specs.declared.request.Mode.{Mode}
+use Rattle.mv_latch.specs.declared.request.Mode.TheVariants.{Exclusive}
 use Rattle.mv_calls.specs.Exits.{NameOwnExits, HaveFairWakes}
 use Rattle.mv_machine.specs.Legal.{after}
 use Rattle.mv_machine.specs.Parts.{IsPossible}
@@ -33,10 +34,16 @@ use Rattle.mv_calls.specs.Pauses as pauses
 use Rattle.mv_calls.specs.Posts as posts
 use Rattle.mv_calls.specs.Program.{Program, Do, Done, Early, Wrong, Heard, Says, and_then, on_element}
 use Rattle.mv_calls.specs.Program.{entries}
-use Rattle.mv_calls.specs.Program.{on_latch, unless_refused}
+use Rattle.mv_calls.specs.Program.{on_latch, unless_refused, finished}
 use Rattle.mv_calls.specs.Refusal.{Refusal}
 use Rattle.mv_calls.specs.Services as services
-use Rattle.mv_calls.specs.Services.{Service, program, most_events, transfer_events, obtain_events, mother_events}
+use Rattle.mv_calls.specs.Services.{Service, program, most_events, transfer_events, obtain_events, mother_events, HasItsTable}
+use Rattle.mv_calls.specs.Table.{IsTableOf, IsSoundTable, has_exit, event_block, slot_block}
+use Rattle.mv_calls.specs.declared.table.Table.{Table}
+use Rattle.mv_calls.specs.Events as events
+use Rattle.mv_calls.specs.Refusal.{Broken, Strange}
+use Rattle.mv_calls.proofs.TableFacts.{checked_is_sound, reaches_itself}
+use Rattle.mv_calls.proofs.Posting.{follow_asks}
 use Rattle.mv_calls.specs.Waits as waits
 use Rattle.mv_machine.specs.declared.entry.Entry.{Entry}
 use Rattle.mv_machine.specs.declared.entry.Object.TheVariants.{Latches}
@@ -246,41 +253,140 @@ closes_ask P kept (m ∷ ns) n p few = wider P (suc (length ns + n)) _ _ (omega 
     (one_more P (length ns + n) _ _ _ (λ h is. by_close (Asks P (length ns + n)) (none_asks P (length ns + n)) _
     (closes_ask P kept ns n p few) h.entry.reply))
 
+-- ---- tables of events
+
+-- a release of a latch
+release_asks : (c : Setup) (latch id : ℕ) (conditional : Bool) (kept : Kept) → release_cost c ≤ 524287
+    → Asks (IsHeard c) (release_cost c) (latches.release_latch c latch id conditional kept)
+release_asks c latch id conditional kept low =
+    cost_asks c _ _ _ low (λ h fits. let_go_asks c conditional h.wakes kept h.entry.reply fits)
+
+-- a release, whatever it answers
+freed_asks : {A : Type 0} (c : Setup) (t : Table) (id : ℕ) (answer : A) (kept : Kept) → release_cost c ≤ 524287
+    → Asks (IsHeard c) (release_cost c) (events.freed c t id answer kept)
+freed_asks c t id answer kept low =
+    wider (IsHeard c) (release_cost c + 0) (release_cost c) _ (omega arith)
+    (follow_asks (IsHeard c) (release_cost c) 0 (latches.release_latch c t.latch id false) (λ released. finished answer) kept
+    (release_asks c t.latch id false kept low) (λ a now. none_asks (IsHeard c) 0 (Done answer) tt))
+
+-- a post of a block that is on no exit
+alone_asks : (c : Setup) (block code : ℕ) (kept : Kept) → has_exit c block ≡ false
+    → Asks (IsHeard c) 1 (posts.post c block code kept)
+alone_asks c block code kept none =
+    let one = reaches_itself c block none in
+    wider (IsHeard c) (reach c block) 1 _ one (by_exits c _ _ (post_asks c code block kept (omega arith)))
+
+-- an event that gets a position
+entered_asks : (c : Setup) (t : Table) (index id k : ℕ) (kept : Kept) → IsSoundTable c t → k < t.size → release_cost c ≤ 524287
+    → Asks (IsHeard c) (2 + release_cost c) (events.entered c t index id k kept)
+entered_asks c t index id k kept sound lt low =
+    wider (IsHeard c) (1 + (1 + release_cost c)) (2 + release_cost c) _ (omega arith)
+    (follow_asks (IsHeard c) 1 (1 + release_cost c) (waits.write_volume t.volume (k + 1)) _ kept
+    (once_asks (IsHeard c) _ (write_volume_once t.volume (k + 1) kept))
+    (λ stored now. follow_asks (IsHeard c) 1 (release_cost c) (posts.post c (slot_block t k) index) _ now
+    (alone_asks c (slot_block t k) index now (sound.alone k lt).1) (λ posting later. freed_asks c t id _ later low)))
+
+-- an event that was counted
+counted_asks : (c : Setup) (t : Table) (index id k : ℕ) (kept : Kept) → IsSoundTable c t → release_cost c ≤ 524287
+    → Asks (IsHeard c) (2 + release_cost c) (events.counted c t index id k kept)
+counted_asks c t index id k kept sound low = go (nat_lt k t.size) refl where
+  go : (b : Bool) → nat_lt k t.size ≡ b → Asks (IsHeard c) (2 + release_cost c)
+      (cond b (events.entered c t index id k) (events.freed c t id (Err (Broken k))) kept)
+  go true is = entered_asks c t index id k kept sound (ltb-true k t.size is) low
+  go false is = wider (IsHeard c) (release_cost c) (2 + release_cost c) _ (omega arith) (freed_asks c t id _ kept low)
+
+-- what follows the post of an event
+event_posted_asks : (c : Setup) (t : Table) (index id : ℕ) (p : posts.Posting) (kept : Kept) → IsSoundTable c t → release_cost c ≤ 524287
+    → Asks (IsHeard c) (3 + release_cost c) (events.event_posted c t index id p kept)
+event_posted_asks c t index id (posts.Already code) kept sound low =
+    wider (IsHeard c) (release_cost c) (3 + release_cost c) _ (omega arith) (freed_asks c t id _ kept low)
+event_posted_asks c t index id posts.Posted kept sound low =
+    wider (IsHeard c) (1 + (2 + release_cost c)) (3 + release_cost c) _ (omega arith)
+    (follow_asks (IsHeard c) 1 (2 + release_cost c) (waits.read_volume t.volume) (events.counted c t index id) kept
+    (once_asks (IsHeard c) _ (read_volume_once t.volume kept)) (λ k now. counted_asks c t index id k now sound low))
+event_posted_asks c t index id (posts.Woke x) kept sound low =
+    wider (IsHeard c) (1 + (2 + release_cost c)) (3 + release_cost c) _ (omega arith)
+    (follow_asks (IsHeard c) 1 (2 + release_cost c) (waits.read_volume t.volume) (events.counted c t index id) kept
+    (once_asks (IsHeard c) _ (read_volume_once t.volume kept)) (λ k now. counted_asks c t index id k now sound low))
+
+-- what follows the obtain
+with_latch_asks : (c : Setup) (t : Table) (index code : ℕ) (got : Result latches.Obtained Refusal) (kept : Kept) → IsSoundTable c t
+    → index < t.size → release_cost c ≤ 524287 → Asks (IsHeard c) (4 + release_cost c) (events.with_latch c t index code got kept)
+with_latch_asks c t index code (Ok (latches.GrantedAs id)) kept sound lt low =
+    wider (IsHeard c) (1 + (3 + release_cost c)) (4 + release_cost c) _ (omega arith)
+    (follow_asks (IsHeard c) 1 (3 + release_cost c) (posts.post c (event_block t index) code) (events.event_posted c t index id) kept
+    (alone_asks c (event_block t index) code kept (sound.alone index lt).0)
+    (λ p now. event_posted_asks c t index id p now sound low))
+with_latch_asks c t index code (Ok (latches.PendingAs id)) kept sound lt low = none_asks (IsHeard c) _ Wrong tt
+with_latch_asks c t index code (Err why) kept sound lt low = none_asks (IsHeard c) _ (Done (Err why)) tt
+
+-- a post of an event
+post_event_asks : (c : Setup) (t : Table) (index code : ℕ) (kept : Kept) → IsTableOf c t → index < t.size → 6 + release_cost c ≤ 524287
+    → Asks (IsHeard c) (6 + release_cost c) (events.post_event c t index code kept)
+post_event_asks c t index code kept checked lt low =
+    wider (IsHeard c) (2 + (4 + release_cost c)) (6 + release_cost c) _ (omega arith)
+    (follow_asks (IsHeard c) 2 (4 + release_cost c)
+    (latches.obtain c t.latch (events.event_requestor kept.caller) Exclusive form_of.Waiting) (events.with_latch c t index code) kept
+    (obtain_asks (IsHeard c) c t.latch (events.event_requestor kept.caller) Exclusive form_of.Waiting kept)
+    (λ got now. with_latch_asks c t index code got now (checked_is_sound c t checked) lt (omega arith)))
+
+-- what follows the wait for a slot
+slot_found_asks : (P : Heard → Type 0) (t : Table) (a : Result (List (Option ℕ)) Refusal) (kept : Kept)
+    → Asks P 1 (events.slot_found t a kept)
+slot_found_asks P t (Ok (Some index ∷ [])) kept = go (nat_lt index t.size) where
+  go : (b : Bool) → Asks P 1 (cond b (events.handed_out t index) (finished (Err (Strange index))) kept)
+  go true = wider P (1 + 0) 1 _ (omega arith)
+      (follow_asks P 1 0 (waits.test_ecb (event_block t index)) (λ word. finished (Ok (record { index = index; word = word }))) kept
+      (once_asks P _ (test_ecb_once (event_block t index) kept)) (λ word now. none_asks P 0 (Done _) tt))
+  go false = none_asks P 1 (Done _) tt
+slot_found_asks P t a kept = none_asks P 1 Wrong tt
+
+-- the next event
+next_event_asks : (P : Heard → Type 0) (c : Setup) (t : Table) (position : ℕ) (kept : Kept)
+    → Asks P 3 (events.next_event c t position kept)
+next_event_asks P c t position kept =
+    unless_asks P 3 (events.next_event_refusal t position kept) _
+    (wider P (2 + 1) 3 _ (omega arith)
+    (follow_asks P 2 1 (waits.wait c 1 (slot_block t position ∷ [])) (events.slot_found t) kept
+    (wait_asks P c 1 (slot_block t position ∷ []) kept) (λ a now. slot_found_asks P t a now)))
+
 -- ---- each call
 
 -- each call by its row
-call_asks : (c : Setup) (kept : Kept) (s : Service) → most_events c kept s ≤ 524287
+call_asks : (c : Setup) (kept : Kept) (s : Service) → HasItsTable c s → most_events c kept s ≤ 524287
     → Asks (IsHeard c) (most_events c kept s) (program c s kept)
-call_asks c kept (services.Wait count blocks) low = wait_asks (IsHeard c) c count blocks kept
-call_asks c kept (services.Post block code) low = by_exits c _ _ (post_asks c code block kept low)
-call_asks c kept (services.TryPost block expected code) low = once_asks (IsHeard c) _ (try_post_once block expected code kept)
-call_asks c kept (services.Clear block) low = once_asks (IsHeard c) _ (clear_once c block kept)
-call_asks c kept (services.Extend block exit) low = once_asks (IsHeard c) _ (extend_once c block exit kept)
-call_asks c kept (services.TestEcb block) low = once_asks (IsHeard c) _ (test_ecb_once block kept)
-call_asks c kept (services.ReadVolume volume) low = once_asks (IsHeard c) _ (read_volume_once volume kept)
-call_asks c kept (services.WriteVolume volume number) low = once_asks (IsHeard c) _ (write_volume_once volume number kept)
-call_asks c kept services.Allocate low = once_asks (IsHeard c) _ (allocate_once c kept)
-call_asks c kept (services.Pause token) low = pause_asks (IsHeard c) c token kept
-call_asks c kept (services.Release token code) low = once_asks (IsHeard c) _ (release_once token code kept)
-call_asks c kept (services.TryRelease token expected code) low = once_asks (IsHeard c) _ (try_release_once token expected code kept)
-call_asks c kept (services.Transfer current target code) low = transfer_asks (IsHeard c) c current target code kept
-call_asks c kept (services.Deallocate token) low = once_asks (IsHeard c) _ (deallocate_once c token kept)
-call_asks c kept (services.TestElement element) low = once_asks (IsHeard c) _ (test_element_once element kept)
-call_asks c kept (services.Obtain latch requestor mode form) low = obtain_asks (IsHeard c) c latch requestor mode form kept
-call_asks c kept (services.CheckLatch latch id) low = once_asks (IsHeard c) _ (check_latch_once latch id kept)
-call_asks c kept (services.ReleaseLatch latch id conditional) low =
+call_asks c kept (services.Wait count blocks) its low = wait_asks (IsHeard c) c count blocks kept
+call_asks c kept (services.Post block code) its low = by_exits c _ _ (post_asks c code block kept low)
+call_asks c kept (services.TryPost block expected code) its low = once_asks (IsHeard c) _ (try_post_once block expected code kept)
+call_asks c kept (services.Clear block) its low = once_asks (IsHeard c) _ (clear_once c block kept)
+call_asks c kept (services.Extend block exit) its low = once_asks (IsHeard c) _ (extend_once c block exit kept)
+call_asks c kept (services.TestEcb block) its low = once_asks (IsHeard c) _ (test_ecb_once block kept)
+call_asks c kept (services.ReadVolume volume) its low = once_asks (IsHeard c) _ (read_volume_once volume kept)
+call_asks c kept (services.WriteVolume volume number) its low = once_asks (IsHeard c) _ (write_volume_once volume number kept)
+call_asks c kept services.Allocate its low = once_asks (IsHeard c) _ (allocate_once c kept)
+call_asks c kept (services.Pause token) its low = pause_asks (IsHeard c) c token kept
+call_asks c kept (services.Release token code) its low = once_asks (IsHeard c) _ (release_once token code kept)
+call_asks c kept (services.TryRelease token expected code) its low = once_asks (IsHeard c) _ (try_release_once token expected code kept)
+call_asks c kept (services.Transfer current target code) its low = transfer_asks (IsHeard c) c current target code kept
+call_asks c kept (services.Deallocate token) its low = once_asks (IsHeard c) _ (deallocate_once c token kept)
+call_asks c kept (services.TestElement element) its low = once_asks (IsHeard c) _ (test_element_once element kept)
+call_asks c kept (services.Obtain latch requestor mode form) its low = obtain_asks (IsHeard c) c latch requestor mode form kept
+call_asks c kept (services.CheckLatch latch id) its low = once_asks (IsHeard c) _ (check_latch_once latch id kept)
+call_asks c kept (services.ReleaseLatch latch id conditional) its low =
     cost_asks c _ _ _ low (λ h fits. let_go_asks c conditional h.wakes kept h.entry.reply fits)
-call_asks c kept (services.Purge requestor) low = purge_asks c requestor kept low
-call_asks c kept (services.EndOfJob requestor block code) low = ending_asks c requestor (Some block) code kept (omega arith) (omega arith)
-call_asks c kept (services.EndOfTask requestor mother code) low =
+call_asks c kept (services.Purge requestor) its low = purge_asks c requestor kept low
+call_asks c kept (services.EndOfJob requestor block code) its low = ending_asks c requestor (Some block) code kept (omega arith) (omega arith)
+call_asks c kept (services.EndOfTask requestor mother code) its low =
     wider (IsHeard c) _ _ _ (omega arith)
     (closes_ask (IsHeard c) kept (endings.used_elements c kept) (release_cost c + mother_events c mother) _
     (ending_asks c requestor mother code kept (omega arith) (omega arith)))
+call_asks c kept (services.PostEvent table index code) its low = post_event_asks c table index code kept its.0 its.1 low
+call_asks c kept (services.NextEvent table position) its low = next_event_asks (IsHeard c) c table position kept
 
 -- as the law says it
-pub call_needs : (c : Setup) (kept : Kept) (s : Service) (hs : List Heard) → most_events c kept s ≤ 524287 → NameOwnExits c hs
-    → HaveFairWakes c hs → Says (program c s kept) hs → length hs ≤ most_events c kept s
-call_needs c kept s hs low own fair says = call_asks c kept s low hs (heard_of c hs own fair) says
+pub call_needs : (c : Setup) (kept : Kept) (s : Service) (hs : List Heard) → HasItsTable c s → most_events c kept s ≤ 524287
+    → NameOwnExits c hs → HaveFairWakes c hs → Says (program c s kept) hs → length hs ≤ most_events c kept s
+call_needs c kept s hs its low own fair says = call_asks c kept s its low hs (heard_of c hs own fair) says
 
 -- ---- in a log that is possible, what was heard is so
 
@@ -338,7 +444,7 @@ heard_is_fair c k log shown hs =
 
 -- so a call keeps to its events in such a log
 pub call_keeps : (c : Setup) (k : ℕ) (kept : Kept) (s : Service) (log : List Entry) (shown : List (List Wake)) (hs : List Heard)
-    → IsPossible c k (log ++ entries hs) (shown ++ told_by hs) → HaveTheirWakes hs → most_events c kept s ≤ 524287
+    → IsPossible c k (log ++ entries hs) (shown ++ told_by hs) → HaveTheirWakes hs → HasItsTable c s → most_events c kept s ≤ 524287
     → Says (program c s kept) hs → length hs ≤ most_events c kept s
-call_keeps c k kept s log shown hs p w low says =
-    call_needs c kept s hs low (call_exits c k log hs (shown ++ told_by hs) p) (heard_is_fair c k log shown hs p w) says
+call_keeps c k kept s log shown hs p w its low says =
+    call_needs c kept s hs its low (call_exits c k log hs (shown ++ told_by hs) p) (heard_is_fair c k log shown hs p w) says

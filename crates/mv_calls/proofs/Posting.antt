@@ -25,12 +25,12 @@ use Rattle.mv_machine.proofs.Lists.{all_front, all_back}
 use Rattle.mv_machine.proofs.EntryRuns.{entry_of}
 use Rattle.mv_machine.proofs.Reaches.{all_lead_up, reach_is}
 use Rattle.mv_calls.specs.Exits.{NamesOwnExit}
-use Rattle.mv_calls.specs.Keeping.{Kept}
+use Rattle.mv_calls.specs.Keeping.{Kept, kept_after}
 use Rattle.mv_calls.specs.Known.{BlockAgrees}
 use Rattle.mv_calls.specs.Posts.{Posting, posting, targets_at, targets_of, posted_next, each_posted, post_within, post}
 use Rattle.mv_calls.specs.Posts.{wake_posted, wakes_posted}
 use Rattle.mv_calls.specs.Posts as came
-use Rattle.mv_calls.specs.Program.{Program, Do, Done, Early, Wrong, Heard, asks, Says, and_then, on_ecb}
+use Rattle.mv_calls.specs.Program.{Program, Do, Done, Early, Wrong, Heard, Call, asks, Says, and_then, on_ecb, going_on, followed}
 use Rattle.mv_machine.specs.Waking.{blocks_of}
 use Rattle.mv_calls.proofs.Blocks.{block_agrees}
 use Rattle.mv_calls.proofs.Replies.{HasNoEvent}
@@ -127,6 +127,55 @@ both_ask P m n p f first later hs each s = elim (parts p f hs s) [
         sum,
         first r.front (all_front P r.front r.rest both) r.says,
         later r.answer r.rest
+            (all_back P r.front r.rest both) r.says_rest,
+      )
+]
+
+-- ---- a program and the call that follows it
+record PartsOn {A B : Type 0} (p : Program A) (f : A → Call B) (hs : List Heard) : Type 0 where
+  front : List Heard
+  rest : List Heard
+  answer : A
+  kept : Kept
+  whole : hs ≡ front ++ rest
+  says : Says p front
+  says_rest : Says (f answer kept) rest
+
+parts_on : {A B : Type 0} (kept : Kept) (p : Program A) (f : A → Call B) (hs : List Heard) → Says (going_on kept p f) hs
+    → Says p hs ⊎ PartsOn p f hs
+parts_on kept (Done a) f hs s =
+    inr (record { front = []; rest = hs; answer = a; kept = kept; whole = refl; says = tt; says_rest = s })
+parts_on kept (Do o op next) f [] s = inl tt
+parts_on kept (Do o op next) f (h ∷ hs) s = elim (parts_on (kept_after kept o op h.entry.reply) (next h) f hs s.1) [
+  | inl all ↦ inl (s.0, all)
+  | inr r ↦ inr (record {
+    front = h ∷ r.front;
+    rest = r.rest;
+    answer = r.answer;
+    kept = r.kept;
+    whole = ap (λ zs. h ∷ zs) r.whole;
+    says = (s.0, r.says);
+    says_rest = r.says_rest;
+  })
+]
+parts_on kept Early f [] s = inl tt
+parts_on kept Early f (h ∷ hs) s = absurd (cc s.0)
+parts_on kept Wrong f [] s = inl tt
+parts_on kept Wrong f (h ∷ hs) s = absurd (cc s.0)
+
+-- a call and the one that follows it ask together
+pub follow_asks : {A B : Type 0} (P : Heard → Type 0) (m n : ℕ) (call : Call A) (f : A → Call B) (kept : Kept) → Asks P m (call kept)
+    → ((a : A) (then : Kept) → Asks P n (f a then)) → Asks P (m + n) (followed call f kept)
+follow_asks P m n call f kept first later hs each s = elim (parts_on kept (call kept) f hs s) [
+  | inl all ↦ omega (arith, first hs each all)
+  | inr r ↦
+      let both : AllByRecursion P (r.front ++ r.rest) = subst (AllByRecursion P) r.whole each in
+      let sum : length hs ≡ length r.front + length r.rest = ap (λ (zs : List Heard). length zs) r.whole ∙ length-append r.front r.rest in
+      omega (
+        arith,
+        sum,
+        first r.front (all_front P r.front r.rest both) r.says,
+        later r.answer r.kept r.rest
             (all_back P r.front r.rest both) r.says_rest,
       )
 ]

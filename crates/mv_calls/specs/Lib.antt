@@ -12,6 +12,8 @@ pub mod Posts
 pub mod Pauses
 pub mod LatchCalls
 pub mod Endings
+pub mod Table
+pub mod Events
 pub mod Services
 -- what a log says of the machine
 pub mod Behind

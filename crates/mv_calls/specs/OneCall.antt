@@ -11,9 +11,9 @@ use Rattle.mv_calls.specs.Runs.{heard_in}
 use Rattle.mv_calls.specs.Numbers.{numbers_of}
 use Rattle.mv_calls.specs.Services.{Service, Answer, program, Wait, Post, TryPost, Clear, Extend, TestEcb, ReadVolume, WriteVolume}
 use Rattle.mv_calls.specs.Services.{Allocate, Pause, Release, TryRelease, Transfer, Deallocate, TestElement, Obtain, CheckLatch}
-use Rattle.mv_calls.specs.Services.{ReleaseLatch, Purge, EndOfJob, EndOfTask}
+use Rattle.mv_calls.specs.Services.{ReleaseLatch, Purge, EndOfJob, EndOfTask, PostEvent, NextEvent}
 
--- the calls, apart from the ends of jobs and tasks, which are made of other calls
+-- the calls, apart from the ends of jobs and tasks and the calls on tables of events, which are made of other calls
 abbrev pub IsSingle : Service → Type 0
 IsSingle (Wait count blocks) = Unit {0}
 IsSingle (Post block code) = Unit {0}
@@ -36,6 +36,8 @@ IsSingle (ReleaseLatch latch id conditional) = Unit {0}
 IsSingle (Purge requestor) = Unit {0}
 IsSingle (EndOfJob requestor block code) = ⊥
 IsSingle (EndOfTask requestor mother code) = ⊥
+IsSingle (PostEvent table index code) = ⊥
+IsSingle (NextEvent table position) = ⊥
 
 -- In a legal history a caller is at rest after these of its entries, and one call is done on those that follow.
 pub record IsOneCall (c : Setup) (k : ℕ) (es : List Entry) (old piece : List Heard) : Type 0 where

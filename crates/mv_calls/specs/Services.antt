@@ -1,5 +1,5 @@
 -- The calls of the services, each as a value: what it answers, what it does, and how many events it may need.
-use Rattle.std.specs.Prelude.{ℕ, ◌+◌, ◌*◌, Bool, List, length, Option, Some, None, Result}
+use Rattle.std.specs.Prelude.{ℕ, ◌+◌, ◌*◌, ◌<◌, Bool, List, length, Option, Some, None, Result}
 use Rattle.mv_element.specs.declared.element.ElementState.{ElementState}
 use Rattle.mv_element.specs.declared.element.Token.{Token}
 use Rattle.mv_latch.specs.declared.request.LatchForm.{LatchForm}
@@ -7,7 +7,10 @@ use Rattle.mv_latch.specs.declared.request.LatchForm.TheVariants as form_of
 use Rattle.mv_latch.specs.declared.request.Mode.{Mode}
 use Rattle.mv_machine.specs.Reach.{reach, release_cost}
 use Rattle.mv_machine.specs.Setup.{Setup}
+use Rattle.mv_calls.specs.declared.table.Table.{Table}
 use Rattle.mv_calls.specs.Endings as endings
+use Rattle.mv_calls.specs.Events as events
+use Rattle.mv_calls.specs.Events.{Entering, Finding}
 use Rattle.mv_calls.specs.Keeping.{Kept}
 use Rattle.mv_calls.specs.LatchCalls as latches
 use Rattle.mv_calls.specs.LatchCalls.{Obtained, Standing, Counts}
@@ -17,6 +20,7 @@ use Rattle.mv_calls.specs.Posts as posts
 use Rattle.mv_calls.specs.Posts.{Posting}
 use Rattle.mv_calls.specs.Program.{Call}
 use Rattle.mv_calls.specs.Refusal.{Refusal}
+use Rattle.mv_calls.specs.Table.{IsTableOf}
 use Rattle.mv_calls.specs.Waits as waits
 
 -- a call with its arguments
@@ -42,6 +46,8 @@ pub data Service : Type 0 where
   Purge : (requestor : ℕ) → Service
   EndOfJob : (requestor block code : ℕ) → Service
   EndOfTask : (requestor : ℕ) (mother : Option ℕ) (code : ℕ) → Service
+  PostEvent : (table : Table) (index code : ℕ) → Service
+  NextEvent : (table : Table) (position : ℕ) → Service
 
 -- what it answers
 abbrev pub Answer : Service → Type 0
@@ -66,6 +72,8 @@ Answer (ReleaseLatch latch id conditional) = Result ℕ Refusal
 Answer (Purge requestor) = Counts
 Answer (EndOfJob requestor block code) = Counts
 Answer (EndOfTask requestor mother code) = Counts
+Answer (PostEvent table index code) = Result Entering Refusal
+Answer (NextEvent table position) = Result Finding Refusal
 
 -- what it does
 abbrev pub program : Setup → (s : Service) → Call (Answer s)
@@ -90,6 +98,8 @@ program c (ReleaseLatch latch id conditional) = latches.release_latch c latch id
 program c (Purge requestor) = latches.purge c requestor
 program c (EndOfJob requestor block code) = endings.end_of_job c requestor block code
 program c (EndOfTask requestor mother code) = endings.end_of_task c requestor mother code
+program c (PostEvent table index code) = events.post_event c table index code
+program c (NextEvent table position) = events.next_event c table position
 
 -- ---- how many events it may need, by the configuration and what its task keeps
 
@@ -132,3 +142,11 @@ most_events c kept (Purge requestor) = release_cost c
 most_events c kept (EndOfJob requestor block code) = release_cost c + reach c block
 most_events c kept (EndOfTask requestor mother code) =
     length (endings.used_elements c kept) + release_cost c + mother_events c mother
+most_events c kept (PostEvent table index code) = 6 + release_cost c
+most_events c kept (NextEvent table position) = 3
+
+-- a call on a table of events has one that was checked against the configuration, and an event of it
+abbrev pub HasItsTable : Setup → Service → Type 0
+HasItsTable c (PostEvent table index code) = IsTableOf c table × (index < table.size)
+HasItsTable c (NextEvent table position) = IsTableOf c table
+HasItsTable c _ = Unit {0}

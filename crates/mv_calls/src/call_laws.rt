@@ -28,7 +28,7 @@ ghost use Rattle.mv_calls.specs.Keeping.{Kept};
 ghost use Rattle.mv_calls.specs.Made.{told_by, HaveTheirWakes};
 ghost use Rattle.mv_calls.specs.Posts.{post, targets_of};
 ghost use Rattle.mv_calls.specs.Program.{Heard, Says, entries};
-ghost use Rattle.mv_calls.specs.Services.{Service, program, most_events};
+ghost use Rattle.mv_calls.specs.Services.{Service, program, most_events, HasItsTable};
 
 /// The last entry of a possible log was the machine's next one, after a legal history of which the log before it is the
 /// caller's part. So its reply is of its operation's kind, and is what the table gives of the object's state; and an
@@ -71,12 +71,13 @@ pub fn posts_reach()
         → total (reach c) (targets_of c (suc x)) + 1 ≤ reach c e }
 {}
 
-/// Each call makes at most as many events as its row of the table says that it may need, where that is below 524,288: on events
-/// whose replies name own exits and whose wakes are fair; and so in a log that is possible, with what was told.
+/// Each call makes at most as many events as its row of the table says that it may need, where that is below 524,288 and a table of
+/// events that it names was checked: on events whose replies name own exits and whose wakes are fair; and so in a log that is
+/// possible, with what was told.
 pub fn calls_keep_to_their_events()
-    ensures few { (c : Setup) (kept : Kept) (s : Service) (hs : List Heard) → most_events c kept s ≤ events_limit → NameOwnExits c hs
-        → HaveFairWakes c hs → Says (program c s kept) hs → length hs ≤ most_events c kept s }
+    ensures few { (c : Setup) (kept : Kept) (s : Service) (hs : List Heard) → HasItsTable c s → most_events c kept s ≤ events_limit
+        → NameOwnExits c hs → HaveFairWakes c hs → Says (program c s kept) hs → length hs ≤ most_events c kept s }
     ensures possible { (c : Setup) (k : ℕ) (kept : Kept) (s : Service) (log : List Entry) (shown : List (List Wake)) (hs : List Heard)
-        → IsPossible c k (log ++ entries hs) (shown ++ told_by hs) → HaveTheirWakes hs → most_events c kept s ≤ events_limit
-        → Says (program c s kept) hs → length hs ≤ most_events c kept s }
+        → IsPossible c k (log ++ entries hs) (shown ++ told_by hs) → HaveTheirWakes hs → HasItsTable c s
+        → most_events c kept s ≤ events_limit → Says (program c s kept) hs → length hs ≤ most_events c kept s }
 {}

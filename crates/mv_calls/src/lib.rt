@@ -11,6 +11,7 @@ mod keeping_laws;
 mod latch_laws;
 mod numbering;
 mod section_laws;
+mod table;
 
 pub use call_laws::{
     calls_keep_to_their_events, generations_in_replies, last_event_is_the_machines, posts_reach,
@@ -24,6 +25,7 @@ pub use latch_laws::{
 };
 pub use numbering::number_calls;
 pub use section_laws::{holders_exclude, sections_are_undisturbed};
+pub use table::{TABLE_LIMIT, Table, TableRefusal, ValidTable};
 
 #[cfg(test)]
 mod numbered_rows;

@@ -55,6 +55,9 @@ refused_none (refusal.NotNow id) = refl
 refused_none refusal.Purged = refl
 refused_none refusal.Gone = refl
 refused_none refusal.StillWaiting = refl
+refused_none (refusal.Broken count) = refl
+refused_none refusal.Drained = refl
+refused_none (refusal.Strange index) = refl
 
 done_none : {A : Type 0} (f : A → Answer) → ((a : A) → word_in (f a) ≡ None) → (r : Result A Refusal) → word_in (done_or f r) ≡ None
 done_none f none (Ok a) = none a
@@ -104,6 +107,8 @@ no_word (service.ReleaseLatch latch id conditional) a = done_none _ (λ granted.
 no_word (service.Purge requestor) a = refl
 no_word (service.EndOfJob requestor block code) a = refl
 no_word (service.EndOfTask requestor mother code) a = refl
+no_word (service.PostEvent table index code) a = refl
+no_word (service.NextEvent table position) a = refl
 
 -- ---- only an OBTAIN adds a request
 

@@ -13,6 +13,10 @@ use Rattle.mv_wait.specs.declared.waiting.WaitSlot.TheVariants as slot
 use Rattle.mv_script.specs.declared.answer.Answer.{Answer}
 use Rattle.mv_script.specs.declared.answer.Answer.TheVariants as answer
 
+-- No call of a script is one on a table of events (`service_of` of Costs), so their answers and refusals never come: this stands there.
+abbrev pub never_asked : Answer
+never_asked = answer.Done
+
 -- each refusal has an answer of its own
 abbrev pub refused : Refusal → Answer
 refused refusal.TooMany = answer.TooMany
@@ -34,6 +38,9 @@ refused (refusal.NotNow id) = answer.NotNow id
 refused refusal.Purged = answer.Purged
 refused refusal.Gone = answer.Gone
 refused refusal.StillWaiting = answer.Waiting
+refused (refusal.Broken count) = never_asked
+refused refusal.Drained = never_asked
+refused (refusal.Strange index) = never_asked
 
 -- what was done, or why it was refused
 abbrev pub done_or : {A : Type 0} → (A → Answer) → Result A Refusal → Answer
@@ -103,3 +110,5 @@ answer_to (service.ReleaseLatch latch id conditional) a = done_or (λ granted. a
 answer_to (service.Purge requestor) a = purged a
 answer_to (service.EndOfJob requestor block code) a = purged a
 answer_to (service.EndOfTask requestor mother code) a = purged a
+answer_to (service.PostEvent table index code) a = never_asked
+answer_to (service.NextEvent table position) a = never_asked

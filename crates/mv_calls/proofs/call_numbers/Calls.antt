@@ -33,7 +33,7 @@ use Rattle.mv_calls.proofs.call_numbers.Stays.{wakes_stay}
 use Rattle.mv_calls.specs.Numbers.{Numbering, continues, group_after, is_arm, is_accepted, last_is, kept_pending}
 use Rattle.mv_calls.specs.Services.{Service, program, Wait, Post, TryPost, Clear, Extend, TestEcb, ReadVolume, WriteVolume}
 use Rattle.mv_calls.specs.Services.{Allocate, Pause, Release, TryRelease, Transfer, Deallocate, TestElement, Obtain, CheckLatch}
-use Rattle.mv_calls.specs.Services.{ReleaseLatch, Purge, EndOfJob, EndOfTask}
+use Rattle.mv_calls.specs.Services.{ReleaseLatch, Purge, EndOfJob, EndOfTask, PostEvent, NextEvent}
 use Rattle.mv_calls.specs.OneCall.{IsSingle}
 
 -- a program without event keeps it
@@ -247,3 +247,5 @@ begins c (ReleaseLatch latch id conditional) kept single = begins_release_latch 
 begins c (Purge requestor) kept single = begins_purge c requestor kept
 begins c (EndOfJob requestor block code) kept single = absurd single
 begins c (EndOfTask requestor mother code) kept single = absurd single
+begins c (PostEvent table index code) kept single = absurd single
+begins c (NextEvent table position) kept single = absurd single

@@ -1,0 +1,93 @@
+-- Tables of events: which tables a configuration can have.
+use Rattle.std.specs.Prelude.{◌≡◌, ℕ, ◌+◌, ◌==◌, ◌<◌, ◌≤◌, nat_lt, not, Bool, false, ◌&&◌, ◌||◌, List, ◌++◌, length, find, Option, Some, None}
+use Rattle.std.specs.Prelude.{option_map, if◌then◌else◌}
+use Rattle.std.specs.List.{list_any, range_with_len}
+use Rattle.mv_machine.specs.Check.{is_within, or_else}
+use Rattle.mv_machine.specs.Limits.{ecbs_limit}
+use Rattle.mv_machine.specs.Setup.{Setup, SetupExit, owner_of}
+use Rattle.mv_calls.specs.declared.table.Table.{Table}
+use Rattle.mv_calls.specs.declared.table.TableRefusal.{TableRefusal}
+use Rattle.mv_calls.specs.declared.table.TableRefusal.TheVariants.{BadSize, BadRange, NotOwner, BadLatch, BadVolume, HasExit}
+
+-- how many events a table may have
+abbrev pub table_limit : ℕ
+table_limit = 32
+
+-- the block of an event, by the event's index
+abbrev pub event_block : Table → ℕ → ℕ
+event_block t index = t.events + index
+
+-- the block of a slot, by its position
+abbrev pub slot_block : Table → ℕ → ℕ
+slot_block t position = t.slots + position
+
+-- the blocks of a table, rising
+abbrev pub blocks_of_table : Table → List ℕ
+blocks_of_table t =
+    if nat_lt t.events t.slots then range_with_len t.events t.size ++ range_with_len t.slots t.size
+    else range_with_len t.slots t.size ++ range_with_len t.events t.size
+
+-- whether a range of blocks passes those that there are
+abbrev pub passes : Setup → ℕ → ℕ → Bool
+passes c first size = nat_lt (length c.owners) (first + size)
+
+-- whether two ranges of this length have a block in common
+abbrev pub meet : ℕ → ℕ → ℕ → Bool
+meet first second size = nat_lt first (second + size) && nat_lt second (first + size)
+
+-- whether the ranges of a table are not what they must be
+abbrev pub is_bad_range : Setup → Table → Bool
+is_bad_range c t = passes c t.events t.size || passes c t.slots t.size || meet t.events t.slots t.size
+
+-- whether a block is the source or a target of an exit
+abbrev pub is_on_exit : SetupExit → ℕ → Bool
+is_on_exit x e = (x.source == e) || list_any (λ target. target == e) x.targets
+
+-- whether a block is on any exit
+abbrev pub has_exit : Setup → ℕ → Bool
+has_exit c e = list_any (λ x. is_on_exit x e) c.exits
+
+-- the lowest block of a table that is not its owner's
+abbrev pub first_of_others : Setup → Table → Option ℕ
+first_of_others c t = find (λ e. not (owner_of c e == t.owner)) (blocks_of_table t)
+
+-- the lowest block of a table that is on an exit
+abbrev pub first_with_exit : Setup → Table → Option ℕ
+first_with_exit c t = find (has_exit c) (blocks_of_table t)
+
+-- a refusal where a test holds
+abbrev pub table_refused_if : Bool → TableRefusal → Option TableRefusal
+table_refused_if b why = if b then Some why else None
+
+-- why a table is refused, if it is
+abbrev pub table_refusal : Setup → Table → Option TableRefusal
+table_refusal c t =
+    or_else (table_refused_if (not (is_within 1 table_limit t.size)) BadSize)
+    (or_else (table_refused_if (is_bad_range c t) BadRange)
+    (or_else (option_map (λ e. NotOwner e) (first_of_others c t))
+    (or_else (table_refused_if (not (nat_lt t.latch c.latches)) BadLatch)
+    (or_else (table_refused_if (not (nat_lt t.volume c.volumes)) BadVolume)
+    (option_map (λ e. HasExit e) (first_with_exit c t))))))
+
+-- a table that was checked against this configuration: nothing refuses it there
+abbrev pub IsTableOf : Setup → Table → Type 0
+IsTableOf c t = table_refusal c t ≡ None
+
+-- What such a table keeps to: it has 1 to 32 events and as many slots; their blocks are there, differ, and are the owner's; its
+-- latch and its volume are there; and no exit starts from its blocks or leads to them.
+pub record IsSoundTable (c : Setup) (t : Table) : Type 0 where
+  pub some : 1 ≤ t.size
+  pub few : t.size ≤ table_limit
+  pub events : t.events + t.size ≤ length c.owners
+  pub slots : t.slots + t.size ≤ length c.owners
+  pub apart : (i k : ℕ) → i < t.size → k < t.size → event_block t i ≡ slot_block t k → ⊥
+  pub owned : (i : ℕ) → i < t.size → (owner_of c (event_block t i) ≡ t.owner) × (owner_of c (slot_block t i) ≡ t.owner)
+  pub latch : t.latch < c.latches
+  pub volume : t.volume < c.volumes
+  pub alone : (i : ℕ) → i < t.size → (has_exit c (event_block t i) ≡ false) × (has_exit c (slot_block t i) ≡ false)
+
+-- whatever the configuration was, a checked table has few events, and its blocks are few enough to have numbers
+pub record IsSmallTable (t : Table) : Type 0 where
+  pub few : t.size ≤ table_limit
+  pub events : t.events + t.size ≤ ecbs_limit
+  pub slots : t.slots + t.size ≤ ecbs_limit

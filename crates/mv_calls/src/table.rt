@@ -1,0 +1,243 @@
+//! Tables of events, by specs/Table.antt: which blocks, latch and volume serve as one, and the check of that against a
+//! configuration.
+
+ghost use Rattle.std.specs.Prelude.{◌≡◌, ◌+◌, ◌≤◌, ◌==◌, ◌++◌, ◌⊎◌, not, length, find, IfOk, IfErr, OnOk, Some, None};
+ghost use Rattle.std.specs.List.{list_any, range_with_len};
+ghost use Rattle.mv_machine.specs.Config.{exit_of};
+ghost use Rattle.mv_machine.specs.Limits.{ecbs_limit};
+ghost use Rattle.mv_machine.specs.Setup.{owner_of};
+ghost use Rattle.mv_calls.specs.Table.{table_refusal, IsTableOf, IsSoundTable, is_bad_range, first_of_others, first_with_exit, blocks_of_table};
+ghost use Rattle.mv_calls.specs.Table.{is_on_exit, has_exit as block_has_exit};
+
+use mv_machine::{Exit, ValidConfig};
+use std::marker::Model;
+
+/// A table of events: blocks that complete once, and are handed out in the order of their completion. After the EVENTS service of
+/// the books; that it is made of blocks, a latch and a volume is this project's own.
+#[derive(Clone, Copy, Debug, PartialEq, Eq)]
+pub struct Table {
+    /// The caller that all its blocks belong to, and that takes the events.
+    pub owner: u32,
+    /// The latch that its posts are made under.
+    pub latch: u32,
+    /// The volume that counts the events that are complete.
+    pub volume: u32,
+    /// The block of event 0. Those of the others follow it.
+    pub events: u32,
+    /// The block of slot 0. Those of the others follow it. Slot k is posted with the index of the k-th event to complete.
+    pub slots: u32,
+    /// How many events, and how many slots, it has: 1 to 32.
+    pub size: u32,
+}
+
+/// Why a table is refused: the first of these that holds.
+#[derive(Clone, Copy, Debug, PartialEq, Eq)]
+pub enum TableRefusal {
+    /// The size is not 1 to 32.
+    BadSize,
+    /// The events or the slots pass the blocks that there are, or the two meet.
+    BadRange,
+    /// The lowest block of the table that is not its owner's.
+    NotOwner(u32),
+    /// There is no such latch.
+    BadLatch,
+    /// There is no such volume.
+    BadVolume,
+    /// The lowest block of the table that is the source or a target of an exit.
+    HasExit(u32),
+}
+
+/// How many events a table may have.
+pub const TABLE_LIMIT: u32 = 32;
+
+/// A table that was checked against a configuration, by `Table::check`. It does not change.
+#[derive(Debug, Drop)]
+pub struct ValidTable {
+    table: Table,
+}
+
+impl Model for ValidTable {
+    ghost use Rattle.mv_calls.specs.declared.table.Table.{Table};
+    ghost use Rattle.mv_calls.specs.Table.{IsSmallTable};
+
+    ghost Value = { Table };
+
+    ghost view = { λ a. a.table };
+
+    ghost invariant = { λ a. IsSmallTable a.table };
+}
+
+impl ValidTable {
+    ghost use Rattle.std.specs.Prelude.{◌<◌};
+    ghost use Rattle.mv_calls.specs.Table.{event_block, slot_block, table_limit};
+
+    /// The table that was checked.
+    pub fn table(&self) -> &Table
+        ensures { result.now ≡ self.now }
+    {
+        &self.table
+    }
+
+    /// The block of an event, by its index.
+    pub fn event_ecb(&self, index: u32) -> u32
+        requires { index < self.now.size }
+        ensures block { result ≡ event_block self.now index }
+        ensures few { self.now.size ≤ table_limit }
+    {
+        self.table.events + index
+    }
+
+    /// The block of a slot, by its position.
+    pub fn slot_ecb(&self, position: u32) -> u32
+        requires { position < self.now.size }
+        ensures block { result ≡ slot_block self.now position }
+        ensures few { self.now.size ≤ table_limit }
+    {
+        self.table.slots + position
+    }
+}
+
+impl Table {
+    /// Checks that a configuration has such a table: its size, its blocks and their owner, its latch and its volume, and that no
+    /// exit starts from its blocks or leads to them. It takes no memory; it goes through the exits once for each block.
+    ///
+    /// # Errors
+    ///
+    /// The first refusal that holds, in the order of `TableRefusal`.
+    ///
+    /// # Example
+    ///
+    /// ```
+    /// let table = given.check(station.config())?;
+    /// ```
+    pub fn check(self, config: &ValidConfig) -> Result<ValidTable, TableRefusal>
+        ensures ok { IfOk result (λ v. v ≡ self) }
+        ensures checked { OnOk result (IsTableOf config.now self) }
+        ensures sound { OnOk result (IsSoundTable config.now self) }
+        ensures refused { IfErr result (λ r. table_refusal config.now self ≡ Some r) }
+    {
+        match self.refusal(config) {
+            Some(refusal) => Err(refusal),
+            None => Ok(ValidTable { table: self }),
+        }
+    }
+
+    // Why the table is refused, if it is.
+    fn refusal(&self, config: &ValidConfig) -> Option<TableRefusal>
+        ensures refusal { result ≡ table_refusal config.now self.now }
+        ensures few { result ≡ None → length config.now.owners ≤ ecbs_limit }
+    {
+        if self.size < 1 || self.size > TABLE_LIMIT {
+            return Some(TableRefusal::BadSize);
+        }
+        if self.has_bad_range(config) {
+            return Some(TableRefusal::BadRange);
+        }
+        if let Some(ecb) = self.first_of_others(config) {
+            return Some(TableRefusal::NotOwner(ecb));
+        }
+        if self.latch >= config.config().latches {
+            return Some(TableRefusal::BadLatch);
+        }
+        if self.volume >= config.config().volumes {
+            return Some(TableRefusal::BadVolume);
+        }
+        if let Some(ecb) = self.first_with_exit(config) {
+            return Some(TableRefusal::HasExit(ecb));
+        }
+        None
+    }
+
+    // Whether the events or the slots pass the blocks that there are, or the two meet.
+    #[tactic(auto, using(crate::proofs::Tables::few_blocks))]
+    fn has_bad_range(&self, config: &ValidConfig) -> bool
+        ensures bad { result ≡ is_bad_range config.now self.now }
+        ensures few { length config.now.owners ≤ ecbs_limit }
+    {
+        let count = config.config().owners.len() as u64;
+        let events = u64::from(self.events);
+        let slots = u64::from(self.slots);
+        let size = u64::from(self.size);
+        count < events + size
+            || count < slots + size
+            || (events < slots + size && slots < events + size)
+    }
+
+    // The lowest block of the table that is not its owner's.
+    fn first_of_others(&self, config: &ValidConfig) -> Option<u32>
+        requires events { self.now.events + self.now.size ≤ length config.now.owners }
+        requires slots { self.now.slots + self.now.size ≤ length config.now.owners }
+        requires few { length config.now.owners ≤ ecbs_limit }
+        ensures { result ≡ first_of_others config.now self.now }
+    {
+        let (low, high) = self.ranges();
+        match other_in(config, self.owner, low, self.size) {
+            Some(ecb) => Some(ecb),
+            None => other_in(config, self.owner, high, self.size),
+        }
+    }
+
+    // The lowest block of the table that is on an exit.
+    fn first_with_exit(&self, config: &ValidConfig) -> Option<u32>
+        requires events { self.now.events + self.now.size ≤ length config.now.owners }
+        requires slots { self.now.slots + self.now.size ≤ length config.now.owners }
+        requires few { length config.now.owners ≤ ecbs_limit }
+        ensures { result ≡ first_with_exit config.now self.now }
+    {
+        let (low, high) = self.ranges();
+        match with_exit_in(config, low, self.size) {
+            Some(ecb) => Some(ecb),
+            None => with_exit_in(config, high, self.size),
+        }
+    }
+
+    // The first blocks of its two ranges, the lower first.
+    fn ranges(&self) -> (u32, u32)
+        ensures rising { blocks_of_table self.now ≡ range_with_len result.0 self.now.size ++ range_with_len result.1 self.now.size }
+        ensures which { ((result.0 ≡ self.now.events) × (result.1 ≡ self.now.slots)) ⊎ ((result.0 ≡ self.now.slots) × (result.1 ≡ self.now.events)) }
+    {
+        if self.events < self.slots {
+            (self.events, self.slots)
+        } else {
+            (self.slots, self.events)
+        }
+    }
+}
+
+// The lowest block of a range that is not this caller's.
+fn other_in(config: &ValidConfig, owner: u32, first: u32, size: u32) -> Option<u32>
+    requires exist { first + size ≤ length config.now.owners }
+    requires few { length config.now.owners ≤ ecbs_limit }
+    ensures { result ≡ find (λ e. not (owner_of config.now e == owner)) (range_with_len first size) }
+{
+    (first..first + size).find(|ecb| !config.owns_ecb(owner, *ecb))
+}
+
+// The lowest block of a range that is on an exit.
+fn with_exit_in(config: &ValidConfig, first: u32, size: u32) -> Option<u32>
+    requires { first + size ≤ ecbs_limit }
+    ensures { result ≡ find (block_has_exit config.now) (range_with_len first size) }
+{
+    (first..first + size).find(|ecb| has_exit(config, *ecb))
+}
+
+// Whether a block is the source or a target of an exit.
+fn has_exit(config: &ValidConfig, ecb: u32) -> bool
+    ensures { result ≡ block_has_exit config.now ecb }
+{
+    is_on_any(&config.config().exits, ecb)
+}
+
+// Whether a block is the source or a target of one of these exits.
+fn is_on_any(exits: &[Exit], ecb: u32) -> bool
+    ensures { result ≡ list_any (λ x. is_on_exit (exit_of x) ecb) exits.now }
+{
+    exits.iter().any(|exit| exit.source == ecb || has_target(&exit.targets, ecb))
+}
+
+// Whether a block is one of these targets.
+fn has_target(targets: &[u32], ecb: u32) -> bool
+    ensures { result ≡ list_any (λ target. target == ecb) targets.now }
+{
+    targets.iter().any(|target| *target == ecb)
+}
