@@ -1,5 +1,5 @@
 -- The generations that replies name, and those that are kept, are low.
-use Rattle.std.proofs.Common.{◌≡◌, ℕ, ◌≤◌, List, ap, ◌∙◌, subst, arith}
+use Rattle.std.proofs.Common.{◌≡◌, ℕ, ◌≤◌, true, List, [], ◌∷◌, ap, ◌∙◌, subst, arith}
 use Rattle.std.specs.List.{AllByRecursion}
 use Rattle.mv_latch.specs.declared.operation.Wake.{Wake}
 use Rattle.mv_machine.specs.Check.{IsValid}
@@ -16,6 +16,7 @@ use Rattle.mv_machine.proofs.OneHistory.{budgets_fit}
 use Rattle.mv_board.specs.Faces.{BoardFace, CallerFace, IsOf, Happened}
 use Rattle.mv_machine.specs.Replies.{NamesUpTo}
 use Rattle.mv_calls.specs.Keeping.{kept_of}
+use Rattle.mv_calls.specs.Table.{has_exit}
 use Rattle.mv_calls.proofs.Elements.{element_agrees}
 use Rattle.mv_calls.proofs.Uses.{possible_names}
 use Rattle.mv_wait.specs.declared.record.Record.TheInside.{Inside}
@@ -43,3 +44,10 @@ kept_low c k n log shown v p own =
     let same : ((after c p.history).element n).state.generation ≡ (kept_of k log).generation n =
     agrees.0 ∙ ap (λ es. (kept_of k es).generation n) p.logged in
     omega arith
+
+-- what a task holds extended is on an exit
+pub on_exit : (r : Inside) (t : CallerFace) (s : Setup) (e : ℕ) → r.caller ≡ t → IsRecorded r → t.about ≡ s ∷ []
+    → (kept_of t.number t.log).extended e ≡ true → has_exit s e ≡ true
+on_exit r t s e view inv about held =
+    let fits = (subst (AllByRecursion (Fits r.caller r.keep)) (ap (λ (d : CallerFace). d.about) view ∙ about) inv.fits).0 in
+    fits.exits e (ap (λ (d : CallerFace). (kept_of d.number d.log).extended e) view ∙ held)

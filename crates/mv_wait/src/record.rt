@@ -117,17 +117,19 @@ impl Record {
 }
 
 impl Record {
-    ghost use Rattle.std.specs.Prelude.{◌^◌, ◌∷◌, [], length, option_map};
+    ghost use Rattle.std.specs.Prelude.{◌^◌, ◌∷◌, [], length, option_map, slice_index, IfSome, IsTrue};
     ghost use Rattle.mv_machine.specs.Setup.{Setup};
     ghost use Rattle.std.specs.List.{AllByRecursion};
     ghost use Rattle.mv_calls.specs.Keeping.{kept_of};
     ghost use Rattle.mv_calls.specs.Refusal.{ExtendedAt};
+    ghost use Rattle.mv_calls.specs.Table.{has_exit};
     ghost use Rattle.mv_calls.specs.Waits.{refused_at};
 
     // Whether a block is extended.
     pub(crate) fn extended(&self, ecb: u32) -> bool
         requires { (s : Setup) × (self.now.about ≡ s ∷ []) × (ecb < length s.owners) }
-        ensures { result ≡ (kept_of self.now.number self.now.log).extended ecb }
+        ensures kept { result ≡ (kept_of self.now.number self.now.log).extended ecb }
+        ensures exit { (s : Setup) → self.now.about ≡ s ∷ [] → IsTrue result → has_exit s ecb ≡ true }
     {
         self.keep.extended[ecb as usize]
     }
@@ -136,7 +138,8 @@ impl Record {
     pub(crate) fn first_extended(&self, ecbs: &[u32]) -> Option<u32>
         requires few { length ecbs.now < 2 ^ 32 }
         requires blocks { (s : Setup) × (self.now.about ≡ s ∷ []) × AllByRecursion (λ e. e < length s.owners) ecbs.now }
-        ensures { option_map (λ p. ExtendedAt p) result ≡ refused_at ExtendedAt (kept_of self.now.number self.now.log).extended 0 ecbs.now }
+        ensures first { option_map (λ p. ExtendedAt p) result ≡ refused_at ExtendedAt (kept_of self.now.number self.now.log).extended 0 ecbs.now }
+        ensures exit { (s : Setup) → self.now.about ≡ s ∷ [] → IfSome result (λ p. has_exit s (slice_index ecbs.now p) ≡ true) }
     {
         for p in 0..ecbs.len() {
             if self.extended(ecbs[p]) {

@@ -2,7 +2,7 @@
 //! `specs/Waiting.antt` and `specs/Listed.antt`.
 
 ghost use Rattle.std.specs.Prelude.{◌≡◌, ◌<◌, ◌≤◌, ◌*◌, ◌^◌, ◌==◌, not, [], ◌∷◌, true, length, take, option_map, Some, None};
-ghost use Rattle.std.specs.Prelude.{IfOk, MatchResult};
+ghost use Rattle.std.specs.Prelude.{IfOk, IfErr, IfSome, MatchResult};
 ghost use Rattle.std.specs.List.{AllByRecursion};
 ghost use Rattle.mv_machine.specs.Setup.{owner_of};
 ghost use Rattle.mv_board.specs.Faces.{IsOf};
@@ -14,6 +14,7 @@ ghost use Rattle.mv_wait.specs.Answers.{wait_answer, wait_refused, slots_of};
 ghost use Rattle.mv_wait.specs.Listed.{is_listed, listed_count, AreSeenBut};
 ghost use Rattle.mv_wait.specs.Run.{Went, IsServed};
 ghost use Rattle.mv_wait.specs.Waiting.{IsArmed, IsArmedFor, ArePlain, AreOwn, AreOwnUpTo, ArmsAll, SettlesEnough, IsSettled, IsComplete};
+ghost use Rattle.mv_wait.specs.Waiting.{NamesBlockOnExit};
 
 use crate::pausing::Pauses;
 use crate::record::Record;
@@ -85,6 +86,7 @@ impl Station {
             (λ _. wait_refusal self.now.config count ecbs.now (kept_of task.old.number task.old.log) ≡ None)
             (λ why. (wait_refusal self.now.config count ecbs.now (kept_of task.old.number task.old.log) ≡ Some (wait_refused why))
             × (task.new ≡ task.old) × (out.new ≡ out.old)) }
+        ensures exit { IfErr result (NamesBlockOnExit self.now.config ecbs.now) }
         ensures enough { IfOk result (λ _. count ≤ complete_count (slots_of out.new)) }
     {
         if let Err(refusal) = self.arm_wait(rt, task, count, ecbs) {
@@ -123,6 +125,7 @@ impl Station {
             (λ _. IsArmed self.now.config count ecbs.now task.old task.new)
             (λ why. (wait_refusal self.now.config count ecbs.now (kept_of task.old.number task.old.log) ≡ Some (wait_refused why))
             × (task.new ≡ task.old)) }
+        ensures exit { IfErr result (NamesBlockOnExit self.now.config ecbs.now) }
     {
         if let Some(refusal) = self.refuses_wait(&task.record, &mut task.places, count, ecbs) {
             return Err(refusal);
@@ -169,6 +172,7 @@ impl Station {
         requires few { 2 * length ecbs.now ≤ me.now.left }
         requires places { length places.old ≡ length self.now.config.owners }
         ensures refusal { option_map wait_refused result ≡ wait_refusal self.now.config count ecbs.now (kept_of me.now.number me.now.log) }
+        ensures exit { IfSome result (NamesBlockOnExit self.now.config ecbs.now) }
         ensures places { length places.new ≡ length places.old }
     {
         let number = me.caller.number();

@@ -1,6 +1,7 @@
 use Rattle.std.proofs.Common.{◌≡◌, ◌*◌, ◌<◌, ◌≤◌, Bool, false, List, [], length, slice_get, slice_index_or, Some, refl}
 use Rattle.std.proofs.Common.{sym, ap, ◌∙◌, subst, arith}
 use Rattle.std.specs.List.{AllByRecursion}
+use Rattle.std.proofs.lemmas.Bool.{false≢true}
 use Rattle.std.proofs.lemmas.List.{length-replicate}
 use Rattle.mv_machine.specs.Kept.{standing}
 use Rattle.mv_machine.specs.Limits.{highest_generation}
@@ -44,6 +45,8 @@ invariant_of-result c =
       first = (λ i. c.number-2.ensures.number i * (given i).elements_per_caller);
       low = λ n own. subst (λ (log : List Entry). (kept_of c.args.caller.number log).generation n ≤ highest_generation)
           (sym c.requires.new) (omega arith);
+      exits = λ n held. absurd (false≢true
+          (sym (ap (λ (log : List Entry). (kept_of c.args.caller.number log).extended n) c.requires.new) ∙ held));
     } in record {
       kept = subst (λ (log : List Entry). Keeps (kept_of c.args.caller.number log) k) (sym c.requires.new) (record {
         extended = λ n lt. subst (λ (xs : List Bool). slice_index_or xs n false ≡ false) (sym blocks) (none_extended _ n);

@@ -1,8 +1,9 @@
-use Rattle.std.proofs.Common.{◌≡◌, ◌<◌, ℕ, zero, suc, Bool, false, List, get_or, length, ◌∷◌, [], ap, ◌∙◌, subst, arith}
+use Rattle.std.proofs.Common.{◌≡◌, ◌<◌, ℕ, zero, suc, Bool, false, List, get_or, length, ◌∷◌, [], sym, ap, ◌∙◌, subst, arith}
 use Rattle.std.specs.List.{AllByRecursion}
 use Rattle.mv_board.specs.Faces.{CallerFace}
 use Rattle.mv_calls.specs.Keeping.{kept_of}
 use Rattle.mv_wait.specs.Record.{Fits}
+use Rattle.mv_wait.proofs.Low.{on_exit}
 use Rattle.mv_wait.proofs.record.Record.extended.Goals as goal
 
 -- what was read, with any default
@@ -18,8 +19,8 @@ index-requires c =
     let size = fits.0.blocks in
     let lt = c.requires.2 in omega arith
 
-pub returns : goal.returns
-returns c =
+pub returns-clause-kept : goal.returns-clause-kept
+returns-clause-kept c =
     let about = ap (λ (d : CallerFace). d.about) c.self.view_is ∙ c.requires.1 in
     let fits = subst (AllByRecursion (Fits c.self.inside.caller c.self.inside.keep)) about c.self.invariant.fits in
     let size = fits.0.blocks in
@@ -28,3 +29,15 @@ returns c =
     get_or_read_at c.self.inside.keep.extended.items c.args.ecb c.index.result.now false below c.index.ensures
     ∙ (c.self.invariant.kept.extended c.args.ecb below
     ∙ ap (λ (d : CallerFace). (kept_of d.number d.log).extended c.args.ecb) c.self.view_is)
+
+pub returns-clause-exit : goal.returns-clause-exit
+returns-clause-exit c s about held =
+    let given = ap (λ (d : CallerFace). d.about) c.self.view_is ∙ c.requires.1 in
+    let fits = subst (AllByRecursion (Fits c.self.inside.caller c.self.inside.keep)) given c.self.invariant.fits in
+    let size = fits.0.blocks in
+    let lt = c.requires.2 in
+    let below : c.args.ecb < length c.self.inside.keep.extended.items = omega arith in
+    on_exit c.self.inside c.args.self.now s c.args.ecb c.self.view_is c.self.invariant about
+    (sym (get_or_read_at c.self.inside.keep.extended.items c.args.ecb c.index.result.now false below c.index.ensures
+    ∙ (c.self.invariant.kept.extended c.args.ecb below
+    ∙ ap (λ (d : CallerFace). (kept_of d.number d.log).extended c.args.ecb) c.self.view_is)) ∙ held)

@@ -14,15 +14,13 @@ use Rattle.mv_wait.proofs.Parts.{still_of}
 use Rattle.mv_wait.proofs.Unrefusing.{accepted_wait, accepted_own, both_own}
 use Rattle.mv_wait.proofs.station.Station.arm_wait.Goals as goal
 
-pub returns-in-Some : goal.returns-in-Some
-returns-in-Some g c = record {
-  armed = (
-    subst (λ (d : CallerFace). wait_refusal c.args.self.now.config c.args.count c.args.ecbs.now (kept_of d.number d.log)
-        ≡ Some (wait_refused c.in-Some.refusal)) c.task.view_is
-        (sym c.refuses_wait.ensures.refusal ∙ ap (λ o. option_map wait_refused o) c.in-Some.is),
-    c.task.view_is,
-  );
-}
+pub returns-in-Some-clause-armed : goal.returns-in-Some-clause-armed
+returns-in-Some-clause-armed g c = (
+  subst (λ (d : CallerFace). wait_refusal c.args.self.now.config c.args.count c.args.ecbs.now (kept_of d.number d.log)
+      ≡ Some (wait_refused c.in-Some.refusal)) c.task.view_is
+      (sym c.refuses_wait.ensures.refusal ∙ ap (λ o. option_map wait_refused o) c.in-Some.is),
+  c.task.view_is,
+)
 
 pub invariant_of-task : goal.invariant_of-task
 invariant_of-task g c = record {
@@ -64,21 +62,20 @@ invariant_of-task-2 g c =
       places = c.task.invariant.places ∙ sym (ap blocks_in run.went.same.about);
     }
 
-pub returns : goal.returns
-returns g c =
+pub returns-clause-armed : goal.returns-clause-armed
+returns-clause-armed g c =
     let r = c.task.inside.record in
     let u = c.arm_all.new.me in
     let none : wait_refusal c.args.self.now.config c.args.count c.args.ecbs.now (kept_of r.number r.log) ≡ None =
     sym c.refuses_wait.ensures.refusal ∙ ap (λ o. option_map wait_refused o) c.in_default.is in
-    let a = accepted_wait c.args.self.now.config r.number c.args.count c.args.ecbs.now (kept_of r.number r.log) none in record {
-      armed = subst (λ (d : CallerFace). IsArmed c.args.self.now.config c.args.count c.args.ecbs.now d u) c.task.view_is
-          (record {
-            accepted = none;
-            arms = c.arm_all.ensures.armed;
-            waits = c.arm_all.ensures.waits;
-            own = accepted_own c.args.self.now.config r u c.args.ecbs.now c.requires.blocks a
-                (c.arm_all.ensures.armed Wrong).went.same;
-            plain = c.arm_all.ensures.plain;
-            distinct = a.distinct;
-          });
-    }
+    let a = accepted_wait c.args.self.now.config r.number c.args.count c.args.ecbs.now (kept_of r.number r.log) none in
+    subst (λ (d : CallerFace). IsArmed c.args.self.now.config c.args.count c.args.ecbs.now d u) c.task.view_is
+    (record {
+      accepted = none;
+      arms = c.arm_all.ensures.armed;
+      waits = c.arm_all.ensures.waits;
+      own = accepted_own c.args.self.now.config r u c.args.ecbs.now c.requires.blocks a
+          (c.arm_all.ensures.armed Wrong).went.same;
+      plain = c.arm_all.ensures.plain;
+      distinct = a.distinct;
+    })

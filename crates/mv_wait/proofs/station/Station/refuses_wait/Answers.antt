@@ -36,7 +36,7 @@ returns-in-Some-first_extended-clause-refusal c =
     (sym (ap (λ o. option_map (λ p. Doubled p) o) c.in_default.is) ∙ c.doubled.ensures.first)
     (sym (ap (λ o. option_map (λ p. NotOwnerAt p) o) c.in_default-not_owned.is)
     ∙ (c.not_owned.ensures ∙ (λ i. refused_at NotOwnerAt (λ e. not (owner_of (config i) e == number i)) 0 c.args.ecbs.now)))
-    (sym (ap (λ o. option_map (λ p. ExtendedAt p) o) c.in-Some-first_extended.is) ∙ c.first_extended.ensures)
+    (sym (ap (λ o. option_map (λ p. ExtendedAt p) o) c.in-Some-first_extended.is) ∙ c.first_extended.ensures.first)
 
 pub returns-clause-refusal : goal.returns-clause-refusal
 returns-clause-refusal c =
@@ -47,4 +47,4 @@ returns-clause-refusal c =
     (sym (ap (λ o. option_map (λ p. Doubled p) o) c.in_default.is) ∙ c.doubled.ensures.first)
     (sym (ap (λ o. option_map (λ p. NotOwnerAt p) o) c.in_default-not_owned.is)
     ∙ (c.not_owned.ensures ∙ (λ i. refused_at NotOwnerAt (λ e. not (owner_of (config i) e == number i)) 0 c.args.ecbs.now)))
-    (sym (ap (λ o. option_map (λ p. ExtendedAt p) o) c.in_default-first_extended.is) ∙ c.first_extended.ensures)
+    (sym (ap (λ o. option_map (λ p. ExtendedAt p) o) c.in_default-first_extended.is) ∙ c.first_extended.ensures.first)
