@@ -1,11 +1,9 @@
 -- Services and calls that a task was served with, one after the other.
-use Rattle.std.proofs.Common.{◌≡◌, ℕ, ◌+◌, ◌≤◌, ◌++◌, sym, ap, ◌∙◌, subst, arith, length-append}
+use Rattle.std.proofs.Common.{◌≡◌, ℕ, ◌+◌, ◌≤◌, sym, ap, ◌∙◌, subst, arith}
 use Rattle.mv_board.specs.Faces.{CallerFace}
-use Rattle.mv_calls.specs.Keeping.{kept_from, kept_of, nothing_kept}
-use Rattle.mv_calls.specs.Program.{Program, Done, Call, Says, left, entries, followed, finished}
+use Rattle.mv_calls.specs.Keeping.{kept_of}
+use Rattle.mv_calls.specs.Program.{Program, Done, Call, followed, finished}
 use Rattle.mv_calls.specs.Rest.{IsAtRest}
-use Rattle.mv_calls.proofs.Making.{kept_from-append}
-use Rattle.mv_calls.proofs.Programs.{going_on_left, going_on_says}
 use Rattle.mv_wait.specs.Run.{Runs, IsServed}
 use Rattle.mv_calls.specs.Posts.{Posting}
 use Rattle.mv_script.specs.declared.answer.Answer.{Answer}
@@ -14,7 +12,8 @@ use Rattle.mv_wait.specs.declared.posting.PostAnswer.{PostAnswer}
 use Rattle.mv_wait.specs.Answers.{post_answer}
 use Rattle.mv_runscript.specs.Answered as answered
 use Rattle.mv_runscript.proofs.Answers.{posted_is}
-use Rattle.mv_wait.proofs.Runs.{runs_none, runs_within, went_then, serves, served_runs}
+use Rattle.mv_wait.proofs.Compose.{runs_followed}
+use Rattle.mv_wait.proofs.Runs.{runs_none, runs_within, serves, served_runs}
 
 -- more may be said of the answer, and more events allowed
 pub served_so : {A : Type 0} (most more : ℕ) (call : Call A) (Is As : A → Type 0) (t u : CallerFace) → most ≤ more
@@ -31,22 +30,6 @@ served_none call a Is t ends is quiet =
     (subst (λ q. Runs 0 (call (kept_of t.number t.log)) q t t) ends (runs_none (call (kept_of t.number t.log)) t)) quiet
 
 -- a call that was done, and what followed it
-runs_followed : {A B : Type 0} (i j : ℕ) (call : Call A) (f : A → Call B) (a : A) (q : Program B) (t u v : CallerFace)
-    → Runs i (call (kept_of t.number t.log)) (Done a) t u → Runs j (f a (kept_of u.number u.log)) q u v
-    → Runs (i + j) (followed call f (kept_of t.number t.log)) q t v
-runs_followed i j call f a q t u v x y = record {
-  events = x.events ++ y.events;
-  went = went_then x.events y.events t u v x.went y.went;
-  few = (let m = x.few in let n = y.few in let e = length-append x.events y.events in omega arith);
-  says = going_on_says (kept_of t.number t.log) (call (kept_of t.number t.log)) f x.events y.events a x.says x.rest
-      (subst (λ k. Says (f a k) y.events) then y.says);
-  rest = going_on_left (kept_of t.number t.log) (call (kept_of t.number t.log)) f x.events y.events a x.says x.rest
-      ∙ sym (ap (λ k. left (f a k) y.events) then) ∙ y.rest;
-} where
-  then : kept_of u.number u.log ≡ kept_from (kept_of t.number t.log) (entries x.events)
-  then = ap (λ k. kept_of k u.log) x.went.same.number ∙ ap (λ es. kept_of t.number es) x.went.logged
-      ∙ kept_from-append (nothing_kept t.number) t.log (entries x.events)
-
 pub served_followed : {A B : Type 0} (i j : ℕ) (call : Call A) (f : A → Call B) (a : A) (Is : B → Type 0) (t u v : CallerFace)
     → IsServed i call (λ b. b ≡ a) t u → IsServed j (f a) Is u v → IsServed (i + j) (followed call f) Is t v
 served_followed i j call f a Is t u v s r =

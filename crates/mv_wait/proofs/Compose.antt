@@ -1,13 +1,14 @@
--- Calls within calls.
-use Rattle.std.proofs.Common.{◌≡◌, ℕ, ◌+◌, ◌≤◌, ◌++◌, ◌∙◌, arith, length-append}
+-- Calls within calls, and calls one after the other.
+use Rattle.std.proofs.Common.{◌≡◌, ℕ, ◌+◌, ◌≤◌, ◌++◌, sym, ap, ◌∙◌, subst, arith, length-append}
 use Rattle.mv_board.specs.Faces.{BoardFace, CallerFace, IsOf}
 use Rattle.mv_machine.specs.Setup.{Setup}
 use Rattle.mv_machine.specs.Reach.{reach}
-use Rattle.mv_calls.specs.Keeping.{Kept}
+use Rattle.mv_calls.specs.Keeping.{Kept, kept_from, kept_of, nothing_kept}
 use Rattle.mv_calls.specs.Posts.{Posting, post, wake_posted}
-use Rattle.mv_calls.specs.Program.{Program, Done, Call, and_then}
+use Rattle.mv_calls.specs.Program.{Program, Done, Call, Says, and_then, left, entries, followed}
 use Rattle.mv_calls.specs.Rest.{IsAtRest}
-use Rattle.mv_calls.proofs.Programs.{and_then_says, and_then_left}
+use Rattle.mv_calls.proofs.Making.{kept_from-append}
+use Rattle.mv_calls.proofs.Programs.{and_then_says, and_then_left, going_on_left, going_on_says}
 use Rattle.std.specs.Prelude.{Some}
 use Rattle.mv_wait.specs.Run.{Runs, IsServed}
 use Rattle.mv_wait.proofs.Runs.{went_then, served_runs}
@@ -23,6 +24,23 @@ runs_and_then m n p f a q t u v x y = record {
   says = and_then_says p f x.events y.events a x.says x.rest y.says;
   rest = and_then_left p f x.events y.events a x.says x.rest ∙ y.rest;
 }
+
+-- a call that was run to its end, and what was run of the one that follows it
+pub runs_followed : {A B : Type 0} (i j : ℕ) (call : Call A) (f : A → Call B) (a : A) (q : Program B) (t u v : CallerFace)
+    → Runs i (call (kept_of t.number t.log)) (Done a) t u → Runs j (f a (kept_of u.number u.log)) q u v
+    → Runs (i + j) (followed call f (kept_of t.number t.log)) q t v
+runs_followed i j call f a q t u v x y = record {
+  events = x.events ++ y.events;
+  went = went_then x.events y.events t u v x.went y.went;
+  few = (let m = x.few in let n = y.few in let e = length-append x.events y.events in omega arith);
+  says = going_on_says (kept_of t.number t.log) (call (kept_of t.number t.log)) f x.events y.events a x.says x.rest
+      (subst (λ k. Says (f a k) y.events) then y.says);
+  rest = going_on_left (kept_of t.number t.log) (call (kept_of t.number t.log)) f x.events y.events a x.says x.rest
+      ∙ sym (ap (λ k. left (f a k) y.events) then) ∙ y.rest;
+} where
+  then : kept_of u.number u.log ≡ kept_from (kept_of t.number t.log) (entries x.events)
+  then = ap (λ k. kept_of k u.log) x.went.same.number ∙ ap (λ es. kept_of t.number es) x.went.logged
+      ∙ kept_from-append (nothing_kept t.number) t.log (entries x.events)
 
 -- a post that a wake or an end of a job asks for, and what follows it. The post looks at nothing that is kept
 pub post_within_call : {A : Type 0} (c : Setup) (e code n : ℕ) (kept : Kept) (Is : Posting → Type 0) (last q : Program A)
