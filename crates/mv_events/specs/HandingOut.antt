@@ -1,0 +1,34 @@
+-- Why the next event is handed out, or is not.
+use Rattle.std.specs.Prelude.{◌≡◌, ℕ, ◌<◌, ◌≤◌, [], ◌∷◌, Some, None, Result, Ok, Err}
+use Rattle.mv_machine.specs.Setup.{Setup}
+use Rattle.mv_board.specs.Faces.{CallerFace}
+use Rattle.mv_calls.specs.declared.table.Table.{Table}
+use Rattle.mv_calls.specs.Events.{next_event_refusal}
+use Rattle.mv_calls.specs.Refusal.{Refusal}
+use Rattle.mv_calls.specs.Refusal as refusal
+use Rattle.mv_calls.specs.Table.{event_block, slot_block}
+use Rattle.mv_calls.specs.Waits.{wait, test_ecb}
+use Rattle.mv_wait.specs.Run.{IsServed}
+use Rattle.mv_events.specs.declared.handing_out.Event.{Event}
+use Rattle.mv_events.specs.declared.handing_out.NextRefusal.{NextRefusal}
+use Rattle.mv_events.specs.declared.handing_out.NextRefusal.TheVariants as refused
+use Rattle.mv_events.specs.Entering.{keeps}
+
+-- the slot of this position was waited for, and has this code
+abbrev pub HasCode : Setup → Table → ℕ → ℕ → CallerFace → CallerFace → Type 0
+HasCode c t position index f g = IsServed 2 (wait c 1 (slot_block t position ∷ [])) (λ a. a ≡ Ok (Some index ∷ [])) f g
+
+-- refused before any event: nothing was done
+abbrev pub IsRefusedBefore : Table → ℕ → CallerFace → Refusal → CallerFace → Type 0
+IsRefusedBefore t position f why g = (next_event_refusal t position (keeps f) ≡ Some why) × (g ≡ f)
+
+-- The slot's code is the index of an event, whose block was then read; or it is none of the table's; or the call was refused before.
+abbrev pub IsHandedOut : Setup → Table → ℕ → CallerFace → Result Event NextRefusal → CallerFace → Type 0
+IsHandedOut c t position f (Ok event) g =
+    (next_event_refusal t position (keeps f) ≡ None) × (event.index < t.size)
+    × ((v : CallerFace) × HasCode c t position event.index f v
+    × IsServed 1 (test_ecb (event_block t event.index)) (λ a. a ≡ event.word) v g)
+IsHandedOut c t position f (Err refused.NotOwner) g = IsRefusedBefore t position f refusal.NotOwner g
+IsHandedOut c t position f (Err refused.Drained) g = IsRefusedBefore t position f refusal.Drained g
+IsHandedOut c t position f (Err (refused.Strange index)) g =
+    (next_event_refusal t position (keeps f) ≡ None) × (t.size ≤ index) × HasCode c t position index f g

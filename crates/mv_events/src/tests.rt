@@ -1,0 +1,443 @@
+//! What no clause says: that each call can be made with ample memory, what a table hands out, and three threads of which one waits
+//! for the events that the others post.
+
+ghost use Rattle.std.specs.Prelude.{◌≡◌, ◌<◌, ◌≤◌, length, IfOk};
+ghost use Rattle.std.specs.Thread.{IsSync};
+ghost use Rattle.mv_ecb.specs.Table.{code_limit};
+ghost use Rattle.mv_board.specs.Faces.{AreFresh, IsOf};
+ghost use Rattle.mv_calls.specs.Rest.{IsAtRest};
+ghost use Rattle.mv_calls.specs.Table.{IsSoundTable};
+
+use super::*;
+use mv_latch::Mode;
+use mv_latchset::{Form, LatchToken, Obtained, obtain, purge, release_latch};
+use mv_machine::{Config, Exit};
+use mv_wait::{Station, Task};
+use std::alloc::Global;
+use std::process::Abort;
+use std::sync::Wait;
+use std::test::Fail;
+use std::thread::{self, Threads, join};
+
+// Three events, and a slot for each, of task 0.
+const TABLE: Table = Table {
+    owner: 0,
+    latch: 0,
+    volume: 0,
+    events: 0,
+    slots: 3,
+    size: 3,
+};
+
+// A new station with one latch and one volume, six blocks of task 0 and one of the last task, from which an exit leads nowhere but up
+// to an eighth; and its tasks, which have these budgets and one request each.
+fn open(alloc: Global, budgets: Vec<u32>) -> Result<(Station, Vec<Task>), Fail>
+    requires { (1 ≤ length budgets.items) × (length budgets.items ≤ 16) }
+    ensures tasks { IfOk result (λ r. AreFresh r.0 0 r.1.items × (length r.1.items ≡ length budgets.items)) }
+    ensures latches { IfOk result (λ r. r.0.config.latches ≡ 1) }
+    ensures volumes { IfOk result (λ r. r.0.config.volumes ≡ 1) }
+    ensures blocks { IfOk result (λ r. length r.0.config.owners ≡ 8) }
+{
+    let callers = budgets.len() as u32;
+    let config = Config {
+        callers,
+        elements_per_caller: 1,
+        volumes: 1,
+        latches: 1,
+        quota: 1,
+        posted_quota: 0,
+        budgets,
+        owners: vec![in alloc; 0, 0, 0, 0, 0, 0, callers - 1, callers - 1]?,
+        exits: vec![in alloc;
+            Exit {
+                source: 6,
+                targets: vec![in alloc; 7]?
+            },
+        ]?,
+    };
+    Ok(Station::open(alloc, config.check(alloc)?)?)
+}
+
+// The table of a station's configuration.
+fn checked(rt: &impl Abort, station: &Station) -> ValidTable
+    ensures { IsSoundTable station.now.config result }
+{
+    match TABLE.check(station.config()) {
+        Ok(table) => table,
+        Err(_) => panic!(rt; "refused"),
+    }
+}
+
+// ---- the calls, of a task at rest that is asserted to have the events for them
+
+#[tactic(auto, using(mv_wait::proofs::Compose::served))]
+fn post<R: Abort + Wait>(
+    rt: &R,
+    station: &Station,
+    task: &mut Task,
+    table: &ValidTable,
+    index: u32,
+    code: u32,
+) -> Result<EventAnswer, PostEventRefusal>
+    requires task { IsOf station.now task.old }
+    requires rest { IsAtRest task.old.log }
+    requires table { IsSoundTable station.now.config table.now }
+    requires code { code < code_limit }
+    ensures task { IsOf station.now task.new }
+    ensures rest { IsAtRest task.new.log }
+{
+    assert!(rt; index < table.table().size);
+    let most = 6 + u64::from(station.config().release_cost());
+    assert!(rt; most <= u64::from(task.left()));
+    post_event(station, rt, task, table, index, code)
+}
+
+#[tactic(auto, using(mv_wait::proofs::Compose::served))]
+fn next<R: Abort + Wait>(
+    rt: &R,
+    station: &Station,
+    task: &mut Task,
+    table: &ValidTable,
+    position: u32,
+) -> Result<Event, NextRefusal>
+    requires task { IsOf station.now task.old }
+    requires rest { IsAtRest task.old.log }
+    requires table { IsSoundTable station.now.config table.now }
+    ensures task { IsOf station.now task.new }
+    ensures rest { IsAtRest task.new.log }
+{
+    assert!(rt; task.left() >= 3);
+    next_event(station, rt, task, table, position)
+}
+
+// Takes the table's latch for requestor 9.
+#[tactic(auto, using(mv_wait::proofs::Compose::served))]
+fn take<R: Abort + Wait>(rt: &R, station: &Station, task: &mut Task) -> LatchToken
+    requires task { IsOf station.now task.old }
+    requires rest { IsAtRest task.old.log }
+    ensures task { IsOf station.now task.new }
+    ensures rest { IsAtRest task.new.log }
+    ensures latch { result.latch ≡ 0 }
+{
+    assert!(rt; task.left() > 0);
+    match obtain(station, rt, task, 0, 9, Mode::Exclusive, Form::Conditional) {
+        Ok(Obtained::Granted(token)) => token,
+        _ => panic!(rt; "refused"),
+    }
+}
+
+// An event as the table hands it out.
+fn event(index: u32, word: u32) -> Result<Event, NextRefusal> {
+    Ok(Event { index, word })
+}
+
+// ---- one task
+
+#[test]
+fn events_come_in_the_order_of_their_completion(rt: HostRuntime) -> Result<(), Fail> {
+    let (station, mut tasks) = open(rt.alloc(), vec![in rt.alloc(); 100]?)?;
+    let mut task = station.take_last(&mut tasks);
+    let table = checked(&rt, &station);
+    let t = &mut task;
+    assert_eq!(rt;
+        post(&rt, &station, t, &table, 2, 7),
+        Ok(EventAnswer::Entered(0))
+    );
+    assert_eq!(rt;
+        post(&rt, &station, t, &table, 0, 9),
+        Ok(EventAnswer::Entered(1))
+    );
+    assert_eq!(rt;
+        post(&rt, &station, t, &table, 2, 1),
+        Ok(EventAnswer::Already(7))
+    );
+    assert_eq!(rt; next(&rt, &station, t, &table, 0), event(2, 1_073_741_831));
+    assert_eq!(rt; next(&rt, &station, t, &table, 1), event(0, 1_073_741_833));
+    assert_eq!(rt;
+        next(&rt, &station, t, &table, 3),
+        Err(NextRefusal::Drained)
+    );
+    assert_eq!(rt; t.log().len(), 21);
+    Ok(())
+}
+
+#[test]
+#[tactic(auto, using(mv_wait::proofs::Compose::served))]
+fn what_others_did_to_the_table_is_told(rt: HostRuntime) -> Result<(), Fail> {
+    let (station, mut tasks) = open(rt.alloc(), vec![in rt.alloc(); 100]?)?;
+    let mut task = station.take_last(&mut tasks);
+    let table = checked(&rt, &station);
+    assert!(rt; task.left() > 0);
+    station.write_volume(&rt, &mut task, 0, 3);
+    assert_eq!(rt;
+        post(&rt, &station, &mut task, &table, 1, 5),
+        Err(PostEventRefusal::Broken(3))
+    );
+    // The event is posted, and the latch is free again.
+    assert!(rt; task.left() > 0);
+    assert_eq!(rt; station.test_ecb(&mut task, 1), 1_073_741_829);
+    assert!(rt; task.left() > 0);
+    assert_eq!(rt; station.read_volume(&mut task, 0), 3);
+    assert_eq!(rt;
+        post(&rt, &station, &mut task, &table, 1, 6),
+        Ok(EventAnswer::Already(5))
+    );
+    assert!(rt; station.config().reach(3) <= task.left());
+    station.post(&rt, &mut task, 3, 40);
+    assert_eq!(rt;
+        next(&rt, &station, &mut task, &table, 0),
+        Err(NextRefusal::Strange(40))
+    );
+    Ok(())
+}
+
+// ---- two tasks
+
+#[test]
+fn refusals_without_an_event(rt: HostRuntime) -> Result<(), Fail> {
+    let (station, mut tasks) = open(rt.alloc(), vec![in rt.alloc(); 100, 100]?)?;
+    let mut other = station.take_last(&mut tasks);
+    let mut owner = station.take_last(&mut tasks);
+    let table = checked(&rt, &station);
+    assert_eq!(rt;
+        next(&rt, &station, &mut other, &table, 0),
+        Err(NextRefusal::NotOwner)
+    );
+    assert_eq!(rt;
+        next(&rt, &station, &mut other, &table, 3),
+        Err(NextRefusal::NotOwner)
+    );
+    assert_eq!(rt;
+        next(&rt, &station, &mut owner, &table, 3),
+        Err(NextRefusal::Drained)
+    );
+    take(&rt, &station, &mut other);
+    assert_eq!(rt;
+        post(&rt, &station, &mut other, &table, 0, 1),
+        Err(PostEventRefusal::Quota)
+    );
+    assert_eq!(rt; (owner.log().len(), other.log().len()), (0, 1));
+    Ok(())
+}
+
+// Holds the table's latch until a purge took out a request for it of task 1's posts of events, at most 200,000 times: whether one did.
+#[tactic(auto, using(mv_wait::proofs::Compose::served))]
+fn purge_often<R: Abort + Wait>(rt: &R, station: &Station, task: &mut Task) -> bool
+    requires task { IsOf station.now task.old }
+    requires rest { IsAtRest task.old.log }
+    ensures task { IsOf station.now task.new }
+    ensures rest { IsAtRest task.new.log }
+{
+    for _ in 0..200_000u32 {
+        assert!(rt; station.config().release_cost() <= task.left());
+        if purge(station, rt, task, 9_223_372_036_854_775_809).removed == 1 {
+            return true;
+        }
+        thread::yield_now();
+    }
+    false
+}
+
+#[test]
+fn a_post_is_purged_while_its_task_waits(rt: HostRuntime) -> Result<(), Fail> {
+    let (station, mut tasks) = open(rt.alloc(), vec![in rt.alloc(); 200_100, 100]?)?;
+    let mut poster = station.take_last(&mut tasks);
+    let mut holder = station.take_last(&mut tasks);
+    let table = checked(&rt, &station);
+    take(&rt, &station, &mut holder);
+    let (purged, answer) = join(
+        &rt,
+        || purge_often(&rt, &station, &mut holder),
+        || post(&rt, &station, &mut poster, &table, 0, 1),
+    );
+    assert!(rt; purged);
+    assert_eq!(rt; answer, Err(PostEventRefusal::Purged));
+    Ok(())
+}
+
+// Posts an event that was not complete: its position.
+fn position_of<R: Abort + Wait>(
+    rt: &R,
+    station: &Station,
+    task: &mut Task,
+    index: u32,
+    code: u32,
+) -> u32
+    requires task { IsOf station.now task.old }
+    requires rest { IsAtRest task.old.log }
+    requires code { code < code_limit }
+    ensures task { IsOf station.now task.new }
+    ensures rest { IsAtRest task.new.log }
+{
+    let table = checked(rt, station);
+    match post(rt, station, task, &table, index, code) {
+        Ok(EventAnswer::Entered(position)) => position,
+        _ => panic!(rt; "not entered"),
+    }
+}
+
+// Posts event 2, and then event 0: their positions.
+fn post_two<R: Abort + Wait>(rt: &R, station: &Station, mut task: Task) -> (u32, u32)
+    requires task { IsOf station.now task }
+    requires rest { IsAtRest task.log }
+{
+    let second = position_of(rt, station, &mut task, 2, 7);
+    let first = position_of(rt, station, &mut task, 0, 9);
+    (second, first)
+}
+
+// Posts event 1: its position.
+fn post_one<R: Abort + Wait>(rt: &R, station: &Station, mut task: Task) -> u32
+    requires task { IsOf station.now task }
+    requires rest { IsAtRest task.log }
+{
+    position_of(rt, station, &mut task, 1, 8)
+}
+
+// Two threads post all three events: the positions of the first thread's two, and of the other's.
+fn post_all<R: Abort + Wait + Threads + Sync>(
+    rt: &R,
+    station: &Station,
+    first: Task,
+    second: Task,
+) -> ((u32, u32), u32)
+    requires first { IsOf station.now first × IsAtRest first.log }
+    requires second { IsOf station.now second × IsAtRest second.log }
+{
+    join(
+        rt,
+        || post_two(rt, station, first),
+        || post_one(rt, station, second),
+    )
+}
+
+// The event at a position.
+fn event_at<R: Abort + Wait>(rt: &R, station: &Station, task: &mut Task, position: u32) -> Event
+    requires task { IsOf station.now task.old }
+    requires rest { IsAtRest task.old.log }
+    ensures task { IsOf station.now task.new }
+    ensures rest { IsAtRest task.new.log }
+{
+    let table = checked(rt, station);
+    match next(rt, station, task, &table, position) {
+        Ok(event) => event,
+        Err(_) => panic!(rt; "refused"),
+    }
+}
+
+// Takes all three events, from the last position on.
+fn take_all<R: Abort + Wait>(rt: &R, station: &Station, mut task: Task) -> (Event, Event, Event)
+    requires task { IsOf station.now task }
+    requires rest { IsAtRest task.log }
+{
+    let last = event_at(rt, station, &mut task, 2);
+    let middle = event_at(rt, station, &mut task, 1);
+    let first = event_at(rt, station, &mut task, 0);
+    (first, middle, last)
+}
+
+// Three threads: two post all three events, and one takes them.
+fn post_and_take<R: Abort + Wait + Threads + Sync>(
+    rt: &R,
+    station: &Station,
+    first: Task,
+    second: Task,
+    owner: Task,
+) -> (((u32, u32), u32), (Event, Event, Event))
+    requires first { IsOf station.now first × IsAtRest first.log }
+    requires second { IsOf station.now second × IsAtRest second.log }
+    requires owner { IsOf station.now owner × IsAtRest owner.log }
+{
+    join(
+        rt,
+        move || -> ((u32, u32), u32)
+            requires { IsSync R.row × (IsOf station.now first × IsAtRest first.log) × (IsOf station.now second × IsAtRest second.log) }
+        { post_all(rt, station, first, second) },
+        || take_all(rt, station, owner),
+    )
+}
+
+#[test]
+fn two_tasks_post_what_a_third_takes(rt: HostRuntime) -> Result<(), Fail> {
+    let (station, mut tasks) = open(rt.alloc(), vec![in rt.alloc(); 100, 100, 100]?)?;
+    let other = station.take_last(&mut tasks);
+    let poster = station.take_last(&mut tasks);
+    let owner = station.take_last(&mut tasks);
+    let ((two, one), taken) = post_and_take(&rt, &station, poster, other, owner);
+    // Whichever task came first, the events are in the order of their completion.
+    let (a, b, c) = (
+        Event {
+            index: 0,
+            word: 1_073_741_833,
+        },
+        Event {
+            index: 1,
+            word: 1_073_741_832,
+        },
+        Event {
+            index: 2,
+            word: 1_073_741_831,
+        },
+    );
+    let (positions, order) = match one {
+        0 => ((1, 2), (b, c, a)),
+        1 => ((0, 2), (c, b, a)),
+        _ => ((0, 1), (c, a, b)),
+    };
+    assert_eq!(rt; two, positions);
+    assert_eq!(rt; taken, order);
+    Ok(())
+}
+
+// ---- tables
+
+#[test]
+fn each_reason_to_refuse_a_table(rt: HostRuntime) -> Result<(), Fail> {
+    let (station, _) = open(rt.alloc(), vec![in rt.alloc(); 1, 1]?)?;
+    let config = station.config();
+    let rows = [
+        (Table { size: 0, ..TABLE }, TableRefusal::BadSize),
+        (Table { size: 33, ..TABLE }, TableRefusal::BadSize),
+        (Table { slots: 6, ..TABLE }, TableRefusal::BadRange),
+        (
+            Table {
+                events: 4_294_967_295,
+                ..TABLE
+            },
+            TableRefusal::BadRange,
+        ),
+        (Table { slots: 2, ..TABLE }, TableRefusal::BadRange),
+        (Table { owner: 1, ..TABLE }, TableRefusal::NotOwner(0)),
+        (
+            Table {
+                slots: 4,
+                latch: 1,
+                ..TABLE
+            },
+            TableRefusal::NotOwner(6),
+        ),
+        (
+            Table {
+                latch: 1,
+                volume: 1,
+                ..TABLE
+            },
+            TableRefusal::BadLatch,
+        ),
+        (Table { volume: 1, ..TABLE }, TableRefusal::BadVolume),
+        (
+            Table {
+                owner: 1,
+                events: 7,
+                slots: 6,
+                size: 1,
+                ..TABLE
+            },
+            TableRefusal::HasExit(6),
+        ),
+    ];
+    for (table, refusal) in rows {
+        assert_eq!(rt; table.check(config).err(), Some(refusal));
+    }
+    Ok(())
+}
