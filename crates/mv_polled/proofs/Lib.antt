@@ -1,0 +1,13 @@
+-- what holds at a stage of a call
+pub mod Stages
+-- looks at the blocks that a wait is for, and what a poll found
+pub mod Looks
+-- waits between two polls, and what was armed
+pub mod Arms
+pub mod Waits
+-- pauses between two polls
+pub mod Pauses
+-- obtains between two polls
+pub mod Obtains
+-- registering with sources
+pub mod Listening

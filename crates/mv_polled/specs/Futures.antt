@@ -1,0 +1,44 @@
+-- Futures of calls that are polled: what they ask, wait for and give.
+use Rattle.std.specs.Prelude.{◌≡◌, ℕ, ◌⊎◌, false, List, ◌∷◌, length, Result}
+use Rattle.futures.specs.declared.task.source.Source.{Source}
+use Rattle.futures.specs.declared.task.Poll.{Poll}
+use Rattle.futures.specs.declared.task.Poll.TheVariants.{Ready, Pending}
+use Rattle.mv_machine.specs.Setup.{Setup}
+use Rattle.mv_board.specs.declared.watch.Watch.{Watch}
+use Rattle.mv_board.specs.Faces.{BoardFace, CallerFace, IsOf}
+use Rattle.mv_pause.specs.declared.pausing.Given.{Given}
+use Rattle.mv_pause.specs.declared.pausing.PauseRefusal.{PauseRefusal}
+use Rattle.mv_wait.specs.Listed.{is_listed}
+use Rattle.mv_wait.specs.declared.waiting.WaitRefusal.{WaitRefusal}
+use Rattle.mv_polled.specs.Pausing.{PauseFace, IsPauseAt, IsPaused}
+use Rattle.mv_polled.specs.Waiting.{WaitFace, IsWaitAt, IsWaited}
+
+-- what holds of an answer of a future, and what holds where there is none yet
+abbrev pub MatchPoll : {A : Type 0} → Poll A → (A → Type 0) → Type 0 → Type 0
+MatchPoll (Ready a) P Q = P a
+MatchPoll Pending P Q = Q
+
+-- a wait may be polled by its future, which has a source for each block
+pub record MayPollWait (b : BoardFace) (t : CallerFace) (w : WaitFace) (sources : List Source) : Type 0 where
+  pub task : IsOf b t
+  pub stage : (t0 : CallerFace) × IsWaitAt b.config w t0 t
+  pub each : length sources ≡ length w.ecbs
+
+-- s is the source of a block whose watch is not listed
+abbrev pub NeedsBlock : List Watch → List ℕ → List Source → ℕ → Type 0
+NeedsBlock ready (e ∷ es) (x ∷ xs) s = ((is_listed ready e ≡ false) × (s ≡ x.id)) ⊎ NeedsBlock ready es xs s
+NeedsBlock ready es xs s = ⊥
+
+-- an answer that the wait's program gives on the entries since the first poll of its call
+abbrev pub GivesWait : Setup → CallerFace → WaitFace → Result (Unit {0}) WaitRefusal → Type 0
+GivesWait c t w r = (t0 : CallerFace) → IsWaitAt c w t0 t
+    → (v : WaitFace) × (u : CallerFace) × (v.count ≡ w.count) × (v.ecbs ≡ w.ecbs) × IsWaited c v r t0 u
+
+-- the same of a pause
+pub record MayPollPause (b : BoardFace) (t : CallerFace) (p : PauseFace) : Type 0 where
+  pub task : IsOf b t
+  pub stage : (t0 : CallerFace) × IsPauseAt b.config p t0 t
+
+abbrev pub GivesPause : Setup → CallerFace → PauseFace → Result Given PauseRefusal → Type 0
+GivesPause c t p r = (t0 : CallerFace) → IsPauseAt c p t0 t
+    → (q : PauseFace) × (u : CallerFace) × (q.token ≡ p.token) × IsPaused c q r t0 u

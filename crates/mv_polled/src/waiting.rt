@@ -1,0 +1,285 @@
+//! Waits that are polled. Clauses cite `specs/Waiting.antt`.
+
+ghost use Rattle.std.specs.Prelude.{◌≡◌, ℕ, false, ◌<◌, ◌≤◌, [], ◌∷◌, ◌++◌, if◌then◌else◌, map, length, vec_capacity, vec_len, IfOk, ⊤};
+ghost use Rattle.futures.specs.Task.{Hears, IsArmed, Keeps};
+ghost use Rattle.mv_board.specs.Faces.{CallerFace, IsOf, IsSame};
+ghost use Rattle.mv_board.specs.declared.watch.Watch.TheVariants as watch;
+ghost use Rattle.mv_calls.specs.Waits.{AreDistinct};
+ghost use Rattle.mv_wait.specs.Run.{Went};
+ghost use Rattle.mv_wait.specs.Waiting.{AreOwn};
+ghost use Rattle.mv_wait.specs.Listed.{listed_count};
+ghost use Rattle.mv_polled.specs.Futures.{NeedsBlock};
+ghost use Rattle.mv_polled.specs.Keys.{key_of};
+ghost use Rattle.mv_polled.specs.Turn.{MatchTurn};
+ghost use Rattle.mv_polled.specs.Waiting.{new_wait, unready, AreFoundOpen, StaysListed, IsWaitAt, IsWaiting, IsWaited, IsLeftWaiting};
+ghost use Rattle.mv_polled.specs.declared.turn.Stage.TheVariants.{Begun, Over};
+
+use crate::keys::key;
+use crate::turn::{Stage, Turn};
+use futures::task::{Context, Poll, Source, Waker};
+use mv_board::Watch;
+use mv_io::NoMemory;
+use mv_wait::{Station, Task, WaitRefusal, WaitSlot};
+use std::alloc::Global;
+use std::marker::Model;
+use std::sync::Wait;
+
+/// A wait until at least `count` of some blocks are complete, as `Station::wait` makes it, that is polled.
+#[derive(Drop)]
+pub struct WaitCall {
+    count: u32,
+    ecbs: Vec<u32>,
+    stage: Stage,
+    // The keys of the blocks that the last poll found not to be complete.
+    keys: Vec<u64>,
+    // A slot for each block, which is shown once the wait is done.
+    found: Vec<WaitSlot>,
+    // Where a future leaves a waker for each block.
+    wakers: Vec<Option<Waker>>,
+}
+
+impl Model for WaitCall {
+    ghost use Rattle.mv_polled.specs.Waiting.{WaitFace};
+    ghost use Rattle.mv_polled.specs.WaitCall.{wait_face, IsWaitCall};
+
+    ghost Value = { WaitFace };
+
+    ghost view = { wait_face };
+
+    ghost invariant = { IsWaitCall };
+}
+
+impl WaitCall {
+    /// A wait that was not polled. It takes all memory that its polls use.
+    ///
+    /// # Errors
+    ///
+    /// `NoMemory` where there is not enough.
+    pub fn new(alloc: Global, count: u32, ecbs: &[u32]) -> Result<WaitCall, NoMemory>
+        ensures { IfOk result (λ call. call ≡ new_wait count ecbs.now) }
+    {
+        Ok(WaitCall {
+            count,
+            ecbs: Vec::from_slice(alloc, ecbs)?,
+            stage: Stage::New,
+            keys: Vec::with_capacity(alloc, ecbs.len())?,
+            found: vec![in alloc; WaitSlot::Open; ecbs.len()]?,
+            wakers: no_wakers(alloc, ecbs.len())?,
+        })
+    }
+
+    /// Goes on with the wait as far as it can: it arms each block at its first poll, and settles each once enough are complete. It
+    /// makes events and loads, and never parks.
+    ///
+    /// The first poll needs what `Station::wait` needs of the task: that it is at rest, and two events a block. A later one needs
+    /// the same task, whose log is as the last poll left it. After an answer the task is at rest, and the call is not polled again.
+    pub fn poll<R: Wait>(
+        &mut self,
+        station: &Station,
+        rt: &R,
+        task: &mut Task,
+    ) -> Turn<Result<(), WaitRefusal>>
+        requires task { IsOf station.now task.old }
+        requires stage { (t0 : CallerFace) × IsWaitAt station.now.config self.old t0 task.old }
+        ensures task { IsSame task.old task.new }
+        ensures call { (self.new.count ≡ self.old.count) × (self.new.ecbs ≡ self.old.ecbs) }
+        ensures turn { (t0 : CallerFace) → IsWaitAt station.now.config self.old t0 task.old → MatchTurn result
+            (λ r. IsWaited station.now.config self.new r t0 task.new)
+            (IsLeftWaiting station.now.config self.new t0 task.old task.new) }
+    {
+        match self.stage {
+            Stage::New => {
+                if let Err(refusal) = station.arm_wait(rt, task, self.count, &self.ecbs) {
+                    self.refuse();
+                    return Turn::Ready(Err(refusal));
+                }
+                self.stage = Stage::Begun;
+                self.go_on(station, rt, task)
+            }
+            Stage::Begun => self.go_on(station, rt, task),
+            Stage::Over => unreachable!(),
+        }
+    }
+
+    // A wait that its first poll refused.
+    fn refuse(&mut self)
+        ensures { self.new ≡ record self.old { stage = Over; keys = []; slots = [] } }
+    {
+        self.stage = Stage::Over;
+        self.keys.clear();
+        self.found.clear();
+    }
+
+    // Looks at each block, and settles each once enough are complete.
+    pub(crate) fn go_on<R: Wait>(
+        &mut self,
+        station: &Station,
+        rt: &R,
+        task: &mut Task,
+    ) -> Turn<Result<(), WaitRefusal>>
+        requires task { IsOf station.now task.old }
+        requires stage { self.old.stage ≡ Begun }
+        requires waiting { (t0 : CallerFace) × IsWaiting station.now.config self.old.count self.old.ecbs t0 task.old }
+        ensures task { IsSame task.old task.new }
+        ensures call { (self.new.count ≡ self.old.count) × (self.new.ecbs ≡ self.old.ecbs) }
+        ensures stays { MatchTurn result (λ _. ⊤) (StaysListed task.old task.new) }
+        ensures turn { (t0 : CallerFace) → IsWaiting station.now.config self.old.count self.old.ecbs t0 task.old → MatchTurn result
+            (λ r. IsWaited station.now.config self.new r t0 task.new)
+            (IsLeftWaiting station.now.config self.new t0 task.old task.new) }
+    {
+        look_at(station, rt, task, &self.ecbs, &mut self.keys);
+        if self.ecbs.len() - self.keys.len() < self.count as usize {
+            return Turn::Pending;
+        }
+        self.keys.clear();
+        station.settle_wait(rt, task, self.count, &self.ecbs, &mut self.found);
+        self.stage = Stage::Over;
+        Turn::Ready(Ok(()))
+    }
+
+    /// The keys of the blocks that the last poll found not to be complete, in the order of the list. Before the first poll and after
+    /// an answer there are none.
+    pub fn keys(&self) -> &[u64]
+        ensures { result.now ≡ self.now.keys }
+    {
+        &self.keys
+    }
+
+    /// What was found of each block, once the wait is done; before, and after a refusal, nothing.
+    pub fn slots(&self) -> &[WaitSlot]
+        ensures { result.now ≡ self.now.slots }
+    {
+        match self.stage {
+            Stage::Over => &self.found,
+            Stage::New | Stage::Begun => &[],
+        }
+    }
+}
+
+// Looks at each block, and puts down the keys of those that are not complete.
+fn look_at<R: Wait>(station: &Station, rt: &R, task: &mut Task, ecbs: &[u32], keys: &mut Vec<u64>)
+    requires task { IsOf station.now task.old }
+    requires own { AreOwn station.now.config task.old.number ecbs.now }
+    requires distinct { AreDistinct ecbs.now }
+    requires room { length ecbs.now ≤ vec_capacity keys.old }
+    ensures went { Went [] task.old task.new }
+    ensures stays { StaysListed task.old task.new }
+    ensures found { AreFoundOpen ecbs.now task.old task.new }
+    ensures keys { keys.new.items ≡ map (λ e. key_of (watch.Ecb e)) (unready task.new.ready ecbs.now) }
+    ensures room { vec_capacity keys.new ≡ vec_capacity keys.old }
+{
+    keys.clear();
+    for ecb in ecbs {
+        let watch = Watch::Ecb(*ecb);
+        let is_ready = station.peek(rt, task, watch);
+        put_down(keys, watch, is_ready);
+    }
+}
+
+// Puts down the key of what is not ready.
+fn put_down(keys: &mut Vec<u64>, watch: Watch, is_ready: bool)
+    requires room { length keys.old.items < vec_capacity keys.old }
+    ensures keys { keys.new.items ≡ keys.old.items ++ (if is_ready then [] else key_of watch ∷ []) }
+    ensures room { vec_capacity keys.new ≡ vec_capacity keys.old }
+{
+    if !is_ready {
+        keys.push_reserved(key(watch));
+    }
+}
+
+// Places for so many wakers.
+fn no_wakers(alloc: Global, count: usize) -> Result<Vec<Option<Waker>>, NoMemory>
+    ensures { IfOk result (λ wakers. vec_len wakers ≡ count) }
+{
+    let mut wakers = Vec::with_capacity(alloc, count)?;
+    for _i in 0..count {
+        wakers.push_reserved(None);
+    }
+    Ok(wakers)
+}
+
+impl WaitCall {
+    // Looks at each block, and registers the polled task with the source of each that is not complete.
+    pub(crate) fn register<R: Wait>(
+        &mut self,
+        station: &Station,
+        rt: &R,
+        task: &mut Task,
+        sources: &[Source],
+        cx: &mut Context<'_>,
+    )
+        requires task { IsOf station.now task.old }
+        requires own { AreOwn station.now.config task.old.number self.old.ecbs }
+        requires distinct { AreDistinct self.old.ecbs }
+        requires sources { length sources.now ≡ length self.old.ecbs }
+        ensures same { self.new ≡ self.old }
+        ensures went { Went [] task.old task.new }
+        ensures stays { StaysListed task.old task.new }
+        ensures heard { (s : ℕ) → NeedsBlock task.new.ready self.old.ecbs sources.now s → Hears cx.new s }
+        ensures armed { listed_count task.new.ready self.old.ecbs < length self.old.ecbs → IsArmed cx.new }
+        ensures kept { Keeps cx.old cx.new }
+    {
+        register_all(station, rt, task, &self.ecbs, sources, &mut self.wakers, cx);
+    }
+
+    // Wakes the task that is registered with the source of this key.
+    pub(crate) fn ring(&mut self, rung: u64)
+        ensures { self.new ≡ self.old }
+    {
+        drop_wakers(&self.ecbs, &mut self.wakers, rung);
+    }
+}
+
+// Drops the waker of each block that has this key.
+fn drop_wakers(ecbs: &[u32], wakers: &mut [Option<Waker>], rung: u64)
+    requires { length wakers.old ≡ length ecbs.now }
+    ensures { length wakers.new ≡ length wakers.old }
+{
+    for i in 0..ecbs.len() {
+        if key(Watch::Ecb(ecbs[i])) == rung {
+            wakers[i] = None;
+        }
+    }
+}
+
+// Looks at each block, and registers with the source of each that is not complete. There is a source, and a place for a waker, for each.
+fn register_all<R: Wait>(
+    station: &Station,
+    rt: &R,
+    task: &mut Task,
+    ecbs: &[u32],
+    sources: &[Source],
+    wakers: &mut [Option<Waker>],
+    cx: &mut Context<'_>,
+)
+    requires task { IsOf station.now task.old }
+    requires own { AreOwn station.now.config task.old.number ecbs.now }
+    requires distinct { AreDistinct ecbs.now }
+    requires sources { length sources.now ≡ length ecbs.now }
+    requires wakers { length wakers.old ≡ length ecbs.now }
+    ensures went { Went [] task.old task.new }
+    ensures stays { StaysListed task.old task.new }
+    ensures heard { (s : ℕ) → NeedsBlock task.new.ready ecbs.now sources.now s → Hears cx.new s }
+    ensures armed { listed_count task.new.ready ecbs.now < length ecbs.now → IsArmed cx.new }
+    ensures kept { Keeps cx.old cx.new }
+{
+    for i in 0..ecbs.len() {
+        let is_ready = station.peek(rt, task, Watch::Ecb(ecbs[i]));
+        // A source has no size, so it is not indexed.
+        let Some(source) = sources.get(i) else {
+            unreachable!()
+        };
+        listen(source, &mut wakers[i], is_ready, cx);
+    }
+}
+
+// Registers with a source, unless what it stands for is ready.
+fn listen(source: &Source, slot: &mut Option<Waker>, is_ready: bool, cx: &mut Context<'_>)
+    ensures heard { is_ready ≡ false → Hears cx.new source.now.id }
+    ensures armed { is_ready ≡ false → IsArmed cx.new }
+    ensures kept { Keeps cx.old cx.new }
+{
+    if !is_ready {
+        let _registered: Poll<()> = cx.register(source, slot);
+    }
+}
