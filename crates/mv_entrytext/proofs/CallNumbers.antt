@@ -1,7 +1,7 @@
 -- Call numbers beside entries: one for each in version 2, and none in version 1.
 use Rattle.std.proofs.Common.{◌≡◌, ℕ, zero, suc, ◌+◌, ◌≤◌, List, [], ◌∷◌, ◌++◌, length, take, slice_get, Option, Some, None, cond, subst}
 use Rattle.std.proofs.Common.{refl, sym, ap, ◌∙◌, arith}
-use Rattle.std.specs.List.{AllByRecursion}
+use Rattle.std.specs.List.{AllByRecursion, flat_map}
 use Rattle.std.proofs.lemmas.List.{length-append}
 use Rattle.std.proofs.lemmas.List.Elements.{All-from_recursion, recursion_from_All}
 use Rattle.std.proofs.lemmas.Bool.{eq-eqb}
@@ -15,7 +15,7 @@ use Rattle.mv_calls.proofs.call_numbers.Prefixes.{calls_length}
 use Rattle.mv_entrytext.specs.declared.version.Version.{Version}
 use Rattle.mv_entrytext.specs.declared.version.Version.TheVariants.{One, Two}
 use Rattle.mv_entrytext.specs.Ranges.{highest_u32}
-use Rattle.mv_entrytext.specs.Journal.{Line, EntryOf, entry_lines}
+use Rattle.mv_entrytext.specs.Journal.{Line, EntryOf, End, line, entry_lines, head_text, text_of}
 use Rattle.mv_entrytext.specs.Lines.{with_call}
 use Rattle.mv_entrytext.specs.Fault.{AreCallNumbers, AreCallsIn}
 
@@ -71,7 +71,7 @@ plain_more [] e = refl
 plain_more (x ∷ es) e = ap (λ (ls : List Line). EntryOf None x ∷ ls) (plain_more es e)
 
 -- with a number for each
-numbered_more : (es : List Entry) (ns : List ℕ) (e : Entry) (n : ℕ) → length ns ≡ length es
+pub numbered_more : (es : List Entry) (ns : List ℕ) (e : Entry) (n : ℕ) → length ns ≡ length es
     → entry_lines (es ++ e ∷ []) (ns ++ n ∷ []) ≡ entry_lines es ns ++ EntryOf (Some n) e ∷ []
 numbered_more [] [] e n h = refl
 numbered_more [] (m ∷ ns) e n h = absurd (omega arith)
@@ -133,7 +133,7 @@ line_at (x ∷ es) [] (suc i) e call here there =
 line_at (x ∷ es) (n ∷ ns) (suc i) e call here there = ap (λ (ls : List Line). EntryOf (Some n) x ∷ ls) (line_at es ns i e call here there)
 
 -- the lines of all
-pub lines_all : (es : List Entry) (ns : List ℕ) (i : ℕ) → length es ≤ i → entry_lines (take i es) (take i ns) ≡ entry_lines es ns
+lines_all : (es : List Entry) (ns : List ℕ) (i : ℕ) → length es ≤ i → entry_lines (take i es) (take i ns) ≡ entry_lines es ns
 lines_all [] ns zero le = refl
 lines_all [] ns (suc i) le = refl
 lines_all (e ∷ es) ns zero le = absurd (omega arith)
@@ -141,3 +141,9 @@ lines_all (e ∷ es) [] (suc i) le =
     ap (λ (ls : List Line). EntryOf None e ∷ ls)
     (sym (ap (λ (ns : List ℕ). entry_lines (take i es) ns) (take_none i)) ∙ lines_all es [] i (omega arith))
 lines_all (e ∷ es) (n ∷ ns) (suc i) le = ap (λ (ls : List Line). EntryOf (Some n) e ∷ ls) (lines_all es ns i (omega arith))
+
+-- so the text is whole with them
+pub text_whole : (v : Version) (c : Setup) (es : List Entry) (ns : List ℕ) (i : ℕ) → length es ≤ i
+    → head_text v c ++ flat_map line (entry_lines (take i es) (take i ns)) ++ line (End (length es)) ≡ text_of v c es ns
+unfolding text_of
+text_whole v c es ns i le = ap (λ (ls : List Line). head_text v c ++ flat_map line ls ++ line (End (length es))) (lines_all es ns i le)

@@ -19,8 +19,9 @@ pub mod LinesTaken
 pub mod TextsTaken
 -- legal lists are in range: the law `legal_lists_have_texts`
 pub mod LegalRanges
--- the one pass of `read_head` and `read_journal`
+-- the one pass of `read_head` and of the reader of entries
 pub mod Heads
 pub mod Passes
+pub mod ReadOn
 -- worked rows
 pub mod Rows

@@ -11,3 +11,5 @@ pub mod Lines
 pub mod Fault
 pub mod Said
 pub mod Draft
+pub mod Reader
+pub mod Writer

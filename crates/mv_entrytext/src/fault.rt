@@ -3,7 +3,7 @@
 
 ghost use Rattle.std.specs.Prelude.{◌≡◌};
 ghost use Rattle.mv_entrytext.specs.Draft.{refusal_at};
-ghost use Rattle.mv_entrytext.specs.Fault.{kind_number};
+ghost use Rattle.mv_entrytext.specs.Fault.{fault_at, kind_number};
 
 /// A fault of a text: the number of its line, counted from 1, and the kind of fault that it has.
 ///
@@ -52,6 +52,16 @@ impl Kind {
             Kind::Cut => 5,
         }
     }
+
+    /// The fault of this line.
+    pub(crate) fn at(self, line: u32) -> TextFault
+        ensures { result ≡ fault_at line self }
+    {
+        TextFault {
+            line,
+            kind: self.number(),
+        }
+    }
 }
 
 /// Why a line was not taken.
@@ -68,10 +78,7 @@ impl LineRefusal {
         ensures { result ≡ refusal_at line self }
     {
         match self {
-            LineRefusal::Has(kind) => TextRefusal::Fault(TextFault {
-                line,
-                kind: kind.number(),
-            }),
+            LineRefusal::Has(kind) => TextRefusal::Fault(kind.at(line)),
             LineRefusal::NoMemory => TextRefusal::NoMemory,
         }
     }

@@ -12,6 +12,7 @@ mod latch;
 mod laws;
 mod line;
 mod number;
+mod reader;
 mod reading;
 mod version;
 mod volume;
@@ -19,9 +20,10 @@ mod writing;
 
 pub use fault::{TextFault, TextRefusal};
 pub use laws::{legal_lists_have_texts, text_determines_journal, texts_without_fault_are_journals};
+pub use reader::{EntryReader, OpenJournal, open_journal};
 pub use reading::{Journal, read_journal};
 pub use version::Version;
-pub use writing::{write_journal, write_old_journal};
+pub use writing::{JournalWriter, write_journal, write_old_journal};
 
 #[cfg(test)]
 mod faulty_texts;

@@ -1,14 +1,17 @@
 //! The journal, written from its first line to its last: `specs/Journal.antt`.
 
-ghost use Rattle.std.specs.Prelude.{◌≡◌, ◌≤◌, ◌<◌, ◌^◌, ◌++◌, length, slice_get, All, map, OnOk, IfOk, codes, decimal};
+ghost use Rattle.std.specs.Prelude.{◌≡◌, ◌≤◌, ◌<◌, ◌^◌, ◌++◌, ◌∷◌, [], List, length, slice_get, All, map, OnOk, IfOk, codes, decimal};
 ghost use Rattle.std.specs.List.{flat_map};
 ghost use Rattle.mv_machine.specs.Config.{setup_of, exit_of};
 ghost use Rattle.mv_machine.specs.Legal.{Legal};
 ghost use Rattle.mv_machine.specs.Limits.{highest_place};
+ghost use Rattle.mv_machine.specs.Setup.{Setup};
+ghost use Rattle.mv_entrytext.specs.declared.version.Version.{Version as AnyVersion};
 ghost use Rattle.mv_entrytext.specs.EntryText.{IsInRange, IsTyped};
 ghost use Rattle.mv_entrytext.specs.Journal.{JournalOf, Callers, Elements, Volumes, Latches, Quota, Budget, Owner, ExitTo};
-ghost use Rattle.mv_entrytext.specs.Journal.{EntryOf, line, entry_lines, counts_text, lists_text, head_text, text_of, text1};
+ghost use Rattle.mv_entrytext.specs.Journal.{Line, EntryOf, End, line, counts_text, lists_text, head_text, text_of, text1};
 ghost use Rattle.mv_entrytext.specs.Journal.{journal_text};
+ghost use Rattle.mv_entrytext.specs.Writer.{IsWrittenTo};
 
 use crate::entry::push_entry;
 use crate::number::{push_number, push_pair, push_wide, push_word};
@@ -169,19 +172,54 @@ fn call_at(calls: &[u32], index: usize) -> Option<u32>
     }
 }
 
-// The lines of entries, with the numbers of their calls, so far as there are any.
-fn push_entries(out: &mut Vec<u8>, entries: &[Entry], calls: &[u32]) -> Result<(), NoMemory>
-    ensures text { OnOk result (out.new.items ≡ out.old.items ++ flat_map line (entry_lines entries.now calls.now)) }
-    ensures typed { OnOk result (All IsTyped entries.now) }
-{
-    for (i, entry) in entries.iter().enumerate() {
-        push_entry_line(out, call_at(calls, i), entry)?;
+/// The text of a journal, written line by line, in one buffer that grows by doubling.
+#[derive(Drop)]
+pub struct JournalWriter {
+    out: Vec<u8>,
+}
+
+impl JournalWriter {
+    /// The head of a text in this version.
+    ///
+    /// # Errors
+    ///
+    /// `NoMemory`, as of the other two.
+    pub fn open(
+        alloc: Global,
+        version: Version,
+        config: &ValidConfig,
+    ) -> Result<JournalWriter, NoMemory>
+        ensures { IfOk result (λ w. IsWrittenTo version config.now [] w) }
+    {
+        let mut out = Vec::new(alloc);
+        push_head(&mut out, version, config.config())?;
+        Ok(JournalWriter { out })
     }
-    Ok(())
+
+    /// The line of an entry behind the others, with the number of its call, if it is to have one. Each number is one of its type,
+    /// and that is told.
+    pub fn push(&mut self, call: Option<u32>, entry: &Entry) -> Result<(), NoMemory>
+        ensures text { (v : AnyVersion) (c : Setup) (lines : List Line) → IsWrittenTo v c lines self.old
+            → OnOk result (IsWrittenTo v c (lines ++ EntryOf call entry.now ∷ []) self.new) }
+        ensures typed { OnOk result (IsTyped entry.now) }
+    {
+        push_entry_line(&mut self.out, call, entry)
+    }
+
+    /// The text, with the line that ends it behind the others and this number on it.
+    #[tactic(auto, unfolding(crate::specs::Journal::line))]
+    pub fn end(self, count: u64) -> Result<Vec<u8>, NoMemory>
+        ensures { (v : AnyVersion) (c : Setup) (lines : List Line) → IsWrittenTo v c lines self
+            → IfOk result (λ text. text.items ≡ head_text v c ++ flat_map line lines ++ line (End count)) }
+    {
+        let mut out = self.out;
+        push_wide(&mut out, b"END ", count)?;
+        push_word(&mut out, b"\n")?;
+        Ok(out)
+    }
 }
 
 // The whole text, in one of its versions.
-#[tactic(auto, unfolding(crate::specs::Journal::text_of, crate::specs::Journal::line))]
 fn write(
     alloc: Global,
     version: Version,
@@ -192,12 +230,12 @@ fn write(
     ensures text { IfOk result (λ text. text.items ≡ text_of version config.now entries.now calls.now) }
     ensures typed { OnOk result (All IsTyped entries.now) }
 {
-    let mut out = Vec::new(alloc);
-    push_head(&mut out, version, config.config())?;
-    push_entries(&mut out, entries, calls)?;
-    push_wide(&mut out, b"END ", entries.len() as u64)?;
-    push_word(&mut out, b"\n")?;
-    Ok(out)
+    let mut writer = JournalWriter::open(alloc, version, config)?;
+    for (i, entry) in entries.iter().enumerate() {
+        writer.push(call_at(calls, i), entry)?;
+    }
+    let text = writer.end(entries.len() as u64)?;
+    Ok(text)
 }
 
 /// The journal of a run: its configuration and its entries, in version 2 of the text, with the call numbers that the

@@ -3,7 +3,7 @@ use Rattle.std.proofs.lemmas.Bool.{eqb-true}
 use Rattle.std.proofs.lemmas.List.{nil_from_length}
 use Rattle.mv_line.specs.Part.{parts_left}
 use Rattle.mv_entrytext.proofs.Passes.{two_parts, only_part}
-use Rattle.mv_entrytext.proofs.reading.nothing_behind.Goals as goal
+use Rattle.mv_entrytext.proofs.reader.nothing_behind.Goals as goal
 
 pub returns-in_default-Some : goal.returns-in_default-Some
 returns-in_default-Some c =

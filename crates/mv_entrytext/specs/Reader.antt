@@ -1,0 +1,41 @@
+-- Where a reader of entries stands.
+use Rattle.std.specs.Prelude.{◌≡◌, ℕ, ◌<◌, ◌-◌, ◌^◌, List, [], ◌∷◌, ◌++◌, length, Option, Some, None}
+use Rattle.mv_machine.specs.declared.entry.Entry.{Entry}
+use Rattle.mv_machine.specs.Setup.{Setup}
+use Rattle.mv_entrytext.specs.declared.reader.EntryReader.{EntryReader}
+use Rattle.mv_entrytext.specs.declared.version.Version.{Version}
+use Rattle.mv_entrytext.specs.EntryText.{HasText}
+use Rattle.mv_entrytext.specs.Journal.{number_of}
+use Rattle.mv_entrytext.specs.Lines.{AtEntries, with_call}
+use Rattle.mv_entrytext.specs.Fault.{HasJournal, AreCallsIn, IsTextIn}
+use Rattle.mv_entrytext.specs.Draft.{IsAt, draft_at}
+
+-- how many bytes it has before it
+abbrev pub left_in : EntryReader → ℕ
+left_in r = length r.rest.now
+
+-- Of a text of this version it has read the head, which told this configuration, and the lines of these entries, with these call
+-- numbers: what is left decides as the whole does.
+pub record IsReadTo (v : Version) (bytes : List ℕ) (c : Setup) (es : List Entry) (ns : List ℕ) (r : EntryReader) : Type 0 where
+  pub version : r.version ≡ v
+  pub stands : IsAt bytes r.rest.now r.line (draft_at (AtEntries v) v c es ns)
+  pub count : r.count ≡ length es
+  pub calls : AreCallsIn v es ns
+  pub short : length bytes < 2 ^ 32 - 1
+
+-- one more entry is read behind them
+pub record IsReadNext (v : Version) (bytes : List ℕ) (c : Setup) (es : List Entry) (ns : List ℕ) (call : Option ℕ) (e : Entry)
+    (r : EntryReader) : Type 0 where
+  pub read : IsReadTo v bytes c (es ++ e ∷ []) (with_call call ns) r
+  pub ranges : HasText e
+
+-- or they are all, and the text is theirs
+pub record IsReadWhole (v : Version) (bytes : List ℕ) (c : Setup) (es : List Entry) (ns : List ℕ) (r : EntryReader) : Type 0 where
+  pub read : IsReadTo v bytes c es ns r
+  pub journal : HasJournal c es
+  pub text : IsTextIn (number_of v) bytes c es ns
+
+-- what is found next
+abbrev pub IsNextOf : Version → List ℕ → Setup → List Entry → List ℕ → Option (Option ℕ × Entry) → EntryReader → Type 0
+IsNextOf v bytes c es ns (Some x) r = IsReadNext v bytes c es ns x.0 x.1 r
+IsNextOf v bytes c es ns None r = IsReadWhole v bytes c es ns r

@@ -1,0 +1,11 @@
+-- What a writer of a journal has written.
+use Rattle.std.specs.Prelude.{◌≡◌, List, ◌++◌}
+use Rattle.std.specs.List.{flat_map}
+use Rattle.mv_machine.specs.Setup.{Setup}
+use Rattle.mv_entrytext.specs.declared.version.Version.{Version}
+use Rattle.mv_entrytext.specs.declared.writing.JournalWriter.{JournalWriter}
+use Rattle.mv_entrytext.specs.Journal.{Line, line, head_text}
+
+-- the head of a text, and these lines behind it
+abbrev pub IsWrittenTo : Version → Setup → List Line → JournalWriter → Type 0
+IsWrittenTo v c lines w = w.out.items ≡ head_text v c ++ flat_map line lines
