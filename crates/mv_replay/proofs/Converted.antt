@@ -1,5 +1,5 @@
 -- What a legal text is in its version, and what it is converted to.
-use Rattle.std.proofs.Common.{◌≡◌, ℕ, ◌≤◌, List, length, refl, sym, ap, ◌∙◌}
+use Rattle.std.proofs.Common.{◌≡◌, ℕ, ◌≤◌, List, length, refl, ap, ◌∙◌}
 use Rattle.mv_machine.specs.declared.entry.Entry.{Entry}
 use Rattle.mv_machine.specs.Legal.{Legal}
 use Rattle.mv_machine.specs.Setup.{Setup}
@@ -7,12 +7,12 @@ use Rattle.mv_entrytext.specs.declared.version.Version.{Version}
 use Rattle.mv_entrytext.specs.declared.version.Version.TheVariants.{One, Two}
 use Rattle.mv_entrytext.specs.Ranges.{highest_u32}
 use Rattle.mv_entrytext.specs.Fault.{HasJournal, AreCallsIn, journal_of}
-use Rattle.mv_entrytext.specs.Journal.{number_of, text_of, journal_text}
+use Rattle.mv_entrytext.specs.Journal.{text_of, journal_text}
 use Rattle.mv_entrytext.specs.Lines.{Draft}
 use Rattle.mv_entrytext.proofs.CallNumbers.{calls_are_numbers}
 use Rattle.mv_entrytext.proofs.LinesAgain.{reads_back}
-use Rattle.mv_replay.specs.Judgement.{calls_in, IsLegalText, IsLegalJournal}
-use Rattle.mv_replay.specs.Outcome.{converted, IsConversion}
+use Rattle.mv_replay.specs.Judgement.{calls_in, IsLegalJournal}
+use Rattle.mv_replay.specs.Outcome.{converted}
 
 -- the machine's numbers are such as a text may have
 pub right_calls : (v : Version) (c : Setup) (es : List Entry) → length es ≤ highest_u32 → AreCallsIn v es (calls_in v c es)
@@ -21,21 +21,9 @@ right_calls Two c es le = calls_are_numbers c es le
 
 -- a legal text in a version
 pub text_is_legal : (v : Version) (c : Setup) (es : List Entry) → HasJournal c es → Legal c es
-    → IsLegalText (number_of v) (text_of v c es (calls_in v c es)) c es
-text_is_legal v c es h l = record { version = v; number = refl; journal = h; text = refl; legal = l }
-
--- it is the journal of as many events as there are entries
-pub journal_is_legal : (told : ℕ) (bytes : List ℕ) (c : Setup) (es : List Entry) → IsLegalText told bytes c es
-    → IsLegalJournal bytes (length es)
-journal_is_legal told bytes c es t = record {
-  version = t.version;
-  setup = c;
-  entries = es;
-  journal = t.journal;
-  text = t.text;
-  legal = t.legal;
-  number = refl;
-}
+    → IsLegalJournal (text_of v c es (calls_in v c es)) (length es)
+text_is_legal v c es h l =
+    record { version = v; setup = c; entries = es; journal = h; text = refl; legal = l; number = refl }
 
 -- what is told of a configuration and entries is their text in version 2
 told_text : (d : Draft) (c : Setup) (es : List Entry) → d.setup ≡ c → d.entries ≡ es → journal_text d.setup d.entries ≡ journal_text c es
@@ -43,17 +31,8 @@ told_text d c es setup entries =
     ap (λ (x : Setup). journal_text x d.entries) setup ∙ ap (λ (x : List Entry). journal_text c x) entries
 
 -- so it is converted to the text of its configuration and entries in version 2
-pub is_converted : (told : ℕ) (bytes : List ℕ) (c : Setup) (es : List Entry) → IsLegalText told bytes c es
-    → converted bytes ≡ journal_text c es
-is_converted told bytes c es t =
-    let back = reads_back t.version c es (calls_in t.version c es) t.journal (right_calls t.version c es t.journal.count) in
-    ap converted t.text ∙ told_text (journal_of (text_of t.version c es (calls_in t.version c es))) c es back.1 back.2
-
--- and what is made of those is the conversion of the text
-pub is_conversion : (told : ℕ) (bytes made : List ℕ) (c : Setup) (es : List Entry) → IsLegalText told bytes c es
-    → made ≡ journal_text c es → IsConversion bytes made
-is_conversion told bytes made c es t is = record {
-  count = length es;
-  legal = journal_is_legal told bytes c es t;
-  reported = is ∙ sym (is_converted told bytes c es t);
-}
+pub is_converted : (v : Version) (bytes : List ℕ) (c : Setup) (es : List Entry) → HasJournal c es
+    → bytes ≡ text_of v c es (calls_in v c es) → converted bytes ≡ journal_text c es
+is_converted v bytes c es h text =
+    let back = reads_back v c es (calls_in v c es) h (right_calls v c es h.count) in
+    ap converted text ∙ told_text (journal_of (text_of v c es (calls_in v c es))) c es back.1 back.2

@@ -1,6 +1,6 @@
 -- How long a journal is: how many bytes each line has at most, and that the text of as many events as a run may have is within the
 -- limit.
-use Rattle.std.proofs.Common.{◌≡◌, ℕ, ◌*◌, ◌≤◌, None, Bool, true, List, [], ◌∷◌, ◌++◌, length, length-append, arith}
+use Rattle.std.proofs.Common.{◌≡◌, ℕ, suc, ◌*◌, ◌≤◌, None, Bool, true, List, [], ◌∷◌, ◌++◌, length, length-append, refl, ap, arith}
 use Rattle.std.proofs.lemmas.Bool.{leb-true, and_parts}
 use Rattle.std.proofs.lemmas.List.Elements.{recursion_from_All}
 use Rattle.std.specs.Prelude.{nat_le, Option, Some, IfSome, codes, decimal}
@@ -20,9 +20,14 @@ use Rattle.mv_entrytext.specs.Journal.{counts_text, lists_text, head_text, text_
 use Rattle.mv_entrytext.proofs.ConfigNumbers.{IsExit, HasNumbers, has_numbers}
 use Rattle.mv_replay.specs.Judgement.{journal_limit}
 use Rattle.mv_replay.proofs.EventLengths.{six_digits, ten_digits, event_short}
-use Rattle.mv_replay.proofs.Lines.{entry_line_each}
 
 -- ---- the lines of entries
+
+-- there is one for each
+entry_line_each : (es : List Entry) (ns : List ℕ) → length (entry_lines es ns) ≡ length es
+entry_line_each [] ns = refl
+entry_line_each (e ∷ es) [] = ap (λ (n : ℕ). suc n) (entry_line_each es [])
+entry_line_each (e ∷ es) (n ∷ ns) = ap (λ (n : ℕ). suc n) (entry_line_each es ns)
 
 -- where no element has more bytes than that, all together have no more than so many for each
 all_short : {A : Type 0} (P : A → Type 0) (f : A → List ℕ) (m : ℕ) (xs : List A) → ((x : A) → P x → length (f x) ≤ m)

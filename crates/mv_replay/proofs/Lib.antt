@@ -1,7 +1,6 @@
--- how many lines a text has
-pub mod Lines
--- the first entry that is wrong
+-- the first entry that is wrong, and how far a text has been judged
 pub mod Wrong
+pub mod Courses
 -- convert_command, legal_lists_are_done
 pub mod Converted
 -- how long a text is: clause within of legal_lists_are_done

@@ -1,10 +1,11 @@
 -- What a command has written is its report on the input, as far as it came.
-use Rattle.std.proofs.Common.{◌≡◌, ℕ, ◌<◌, List, length, take, Option, Some, None, subst}
+use Rattle.std.proofs.Common.{◌≡◌, ℕ, ◌<◌, ◌≤◌, List, [], length, take, Option, Some, None, subst}
 use Rattle.std.specs.Prelude.{IfSome}
 use Rattle.mv_io.specs.Sink.{Appends}
 use Rattle.mv_ending.specs.Written.{AppendsFront, Nothing, PartOfReport}
 use Rattle.mv_replay.specs.declared.status.ReplayStatus.{ReplayStatus}
 use Rattle.mv_replay.specs.declared.status.ReplayStatus.TheVariants.{Done, ReadFailed, ReportFailed}
+use Rattle.mv_replay.specs.Judgement.{journal_limit, IsLegalJournal}
 use Rattle.mv_replay.specs.Outcome.{InputOf, ReportAfter, Writes, extent_of}
 
 -- a front of these bytes, and not all
@@ -40,3 +41,20 @@ pub unreported : (R : Type 0) (s : ReplayStatus) → extent_of s ≡ Nothing →
 unreported R s none failed =
     let both : PartOfReport ≡ Nothing = subst (λ (x : ReplayStatus). extent_of x ≡ Nothing) failed none in
     absurd cc
+
+-- ---- the input, which was read to its end
+
+-- it is the text, where it is told
+pub told_text : (input left : Option (List ℕ)) (text : List ℕ) → IfSome input (λ xs. (text ≡ xs) × (left ≡ Some []))
+    → IfSome input (λ bytes. text ≡ bytes)
+told_text None left text h = tt
+told_text (Some bytes) left text h = h.0
+
+-- and a legal journal, where the text is one
+pub told_legal : (input left : Option (List ℕ)) (text : List ℕ) (count : ℕ) → length text ≤ journal_limit → IsLegalJournal text count
+    → IfSome input (λ xs. (text ≡ xs) × (left ≡ Some [])) → InputOf Done input left
+told_legal None left text count short l h = tt
+told_legal (Some bytes) left text count short l h = (
+  record { whole = h.1; short = subst (λ (x : List ℕ). length x ≤ journal_limit) h.0 short },
+  (count, subst (λ (x : List ℕ). IsLegalJournal x count) h.0 l),
+)

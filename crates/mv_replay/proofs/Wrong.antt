@@ -1,27 +1,18 @@
 -- The first entry of a list that is not the machine's or has another call number.
-use Rattle.std.proofs.Common.{◌≡◌, ℕ, zero, suc, ◌+◌, ◌<◌, ◌≤◌, List, [], ◌∷◌, ◌++◌, length}
-use Rattle.std.proofs.Common.{take, slice_get, Some, refl, sym, ap, subst, ◌∙◌}
-use Rattle.std.proofs.Common.{arith, inl, inr}
+use Rattle.std.proofs.Common.{◌≡◌, ℕ, zero, suc, ◌+◌, ◌<◌, ◌≤◌, List, [], ◌∷◌, ◌++◌, length, take, Option, Some, None}
+use Rattle.std.proofs.Common.{refl, sym, ap, ◌∙◌, arith, inl, inr}
 use Rattle.std.proofs.lemmas.Bool.{cases_order}
-use Rattle.std.proofs.lemmas.List.{take-take}
-use Rattle.std.proofs.Math.Seq.{take-append-add}
-use Rattle.std.proofs.lemmas.Option.{slice_get_within}
+use Rattle.std.proofs.lemmas.List.{take-take, take_at, take_all, length-append, same_from_push}
 use Rattle.mv_machine.specs.declared.entry.Entry.{Entry}
-use Rattle.mv_machine.specs.declared.replaying.Illegal.{Illegal}
 use Rattle.mv_machine.specs.Legal.{Legal}
-use Rattle.mv_calls.specs.Numbers.{calls}
-use Rattle.mv_machine.specs.Replay.{IsFirstIllegal}
-use Rattle.mv_calls.specs.CallsReplay.{IsFirstBad, IsFirstNumber}
 use Rattle.mv_machine.specs.Setup.{Setup}
-use Rattle.mv_machine.specs.System.{opening}
-use Rattle.mv_machine.proofs.Replays.{not_legal}
-use Rattle.mv_calls.proofs.call_numbers.Prefixes.{calls-take, legal_take, slice_get_front}
-use Rattle.mv_calls.proofs.call_numbers.Refused.{front_is_legal, front_is_within}
+use Rattle.mv_calls.specs.Numbers.{calls}
+use Rattle.mv_calls.proofs.call_numbers.Prefixes.{calls-take, legal_take}
 use Rattle.mv_entrytext.specs.declared.version.Version.{Version}
 use Rattle.mv_entrytext.specs.declared.version.Version.TheVariants.{One, Two}
-use Rattle.mv_entrytext.specs.Journal.{first_line}
-use Rattle.mv_entrytext.specs.Fault.{HasJournal, IsTextIn}
-use Rattle.mv_replay.specs.Judgement.{calls_in, AreRight, IsFirstWrong, IsJudged, IsIllegalAt}
+use Rattle.mv_entrytext.specs.Fault.{AreCallsIn}
+use Rattle.mv_entrytext.specs.Lines.{with_call}
+use Rattle.mv_replay.specs.Judgement.{calls_in, AreRight, IsFirstWrong}
 
 -- ---- a front of what is right is right
 
@@ -42,6 +33,10 @@ right_front v c es ns k r = record {
   legal = legal_take c k es r.legal;
   numbers = ap (λ (x : List ℕ). take k x) r.numbers ∙ sym (calls_in-take v c k es);
 }
+
+-- a number is one
+some_number : (k j : ℕ) → Some k ≡ Some j → j ≡ k
+some_number k j e = cc
 
 -- ---- there is one first
 
@@ -68,95 +63,88 @@ one_first v c es ns i j p q = elim (cases_order i j) [
 pub not_first : (v : Version) (c : Setup) (es : List Entry) (ns : List ℕ) (i : ℕ) → AreRight v c es ns → IsFirstWrong v c es ns i → ⊥
 not_first v c es ns i r w = w.bad (right_front v c es ns (suc i) r)
 
--- ---- what a replay found
+-- ---- one entry more
 
--- a legal list, in version 1
-pub right_plain : (c : Setup) (es : List Entry) → Legal c es → AreRight One c es []
-right_plain c es l = record { legal = l; numbers = refl }
+-- a front of a front
+front_same : {A : Type 0} (i n : ℕ) (xs ys : List A) → take n ys ≡ xs → i ≤ n → take i ys ≡ take i xs
+front_same {A = A} i n xs ys e le = sym (take-take i n ys le) ∙ ap (λ (x : List A). take i x) e
 
--- a legal list with its numbers, in version 2
-pub right_numbered : (c : Setup) (es : List Entry) (ns : List ℕ) → Legal c es → ns ≡ calls c es → AreRight Two c es ns
-right_numbered c es ns l n = record { legal = l; numbers = n }
+-- the entries before the last
+entries_front : (es : List Entry) (e : Entry) → take (length es) (es ++ e ∷ []) ≡ es
+entries_front es e = take_at es (e ∷ []) (length es) refl
 
--- with the illegal entry the front is not legal
-not_with : (c : Setup) (es : List Entry) (i : Illegal) → IsFirstIllegal c (opening c) es i → Legal c (take (suc i.index) es) → ⊥
-not_with c es i w l = not_legal c (opening c) (take (suc i.index) es) i there l where
-  one_more : suc i.index ≡ length w.before + 1
-  one_more = omega (arith, w.index)
+-- and their numbers
+numbers_front : (v : Version) (es : List Entry) (ns : List ℕ) (told : Option ℕ) (e : Entry) → AreCallsIn v es ns
+    → AreCallsIn v (es ++ e ∷ []) (with_call told ns) → take (length es) (with_call told ns) ≡ ns
+numbers_front One es ns told e before now =
+    ap (λ (x : List ℕ). take (length es) x) now ∙ take_none (length es) ∙ sym before
+numbers_front Two es ns None e before now = absurd (omega (arith, before.one_each, now.one_each, length-append es (e ∷ [])))
+numbers_front Two es ns (Some k) e before now = take_at ns (k ∷ []) (length es) before.one_each
 
-  front : take (suc i.index) es ≡ w.before ++ w.entry ∷ []
-  front = ap (λ n. take n es) one_more ∙ ap (λ (x : List Entry). take (length w.before + 1) x) w.split
-      ∙ take-append-add w.before (w.entry ∷ w.later) 1
+-- all numbers there are
+numbers_all : (v : Version) (es : List Entry) (ns : List ℕ) → AreCallsIn v es ns → (n : ℕ) → length es ≤ n → take n ns ≡ ns
+numbers_all One es ns h n le = ap (λ (x : List ℕ). take n x) h ∙ take_none n ∙ sym h
+numbers_all Two es ns h n le = take_all n ns (omega (arith, h.one_each, le))
 
-  there : IsFirstIllegal c (opening c) (take (suc i.index) es) i
-  there = record {
-    before = w.before;
-    entry = w.entry;
-    later = [];
-    split = front;
-    index = w.index;
-    legal = w.legal;
-    kept = w.kept;
-    machine = w.machine;
-    differs = w.differs;
-  }
-
--- the first entry that is not the machine's, in version 1
-pub wrong_plain : (c : Setup) (es : List Entry) (i : Illegal) → IsFirstIllegal c (opening c) es i → IsFirstWrong One c es [] i.index
-wrong_plain c es i w = record {
-  within = front_is_within c es i w;
-  good = record { legal = front_is_legal c es i w; numbers = take_none i.index };
-  bad = λ r. not_with c es i w r.legal;
-}
-
--- and in version 2, where the numbers before it are the machine's
-pub wrong_illegal : (c : Setup) (es : List Entry) (ns : List ℕ) (i : Illegal) → IsFirstBad c es ns i → IsFirstWrong Two c es ns i.index
-wrong_illegal c es ns i w = record {
-  within = front_is_within c es i w.illegal;
-  good = record { legal = front_is_legal c es i w.illegal; numbers = w.numbers };
-  bad = λ r. not_with c es i w.illegal r.legal;
-}
-
--- a number that is another's
-pub wrong_number : (c : Setup) (es : List Entry) (ns : List ℕ) (i k machine : ℕ) → length ns ≡ length es → IsFirstNumber c es ns i k machine
-    → IsFirstWrong Two c es ns i
-wrong_number c es ns i k machine same w =
-    let at : i < length ns = slice_get_within ns i k w.other.one in
-    let one_more : suc i ≡ i + 1 = omega arith in
-    let short : take i (take (i + 1) es) ≡ take i es = take-take i (i + 1) es (omega arith) in
+-- what is wrong stays so
+pub still_wrong : (v : Version) (c : Setup) (es : List Entry) (ns : List ℕ) (told : Option ℕ) (e : Entry) (i : ℕ) → AreCallsIn v es ns
+    → AreCallsIn v (es ++ e ∷ []) (with_call told ns) → IsFirstWrong v c es ns i → IsFirstWrong v c (es ++ e ∷ []) (with_call told ns) i
+still_wrong v c es ns told e i before now w =
+    let all : List Entry = es ++ e ∷ [] in
+    let numbers : List ℕ = with_call told ns in
+    let within : i < length es = w.within in
+    let front = entries_front es e in
+    let those = numbers_front v es ns told e before now in
     record {
-      within = omega arith;
-      good = record {
-        legal = subst (λ (x : List Entry). Legal c x) short (legal_take c i (take (i + 1) es) w.legal);
-        numbers = w.other.same ∙ sym (calls-take c i (take (i + 1) es)) ∙ ap (λ (x : List Entry). calls c x) short;
-      };
-      bad = λ r.
-          let numbers : take (i + 1) ns ≡ calls c (take (i + 1) es) =
-          subst (λ (n : ℕ). take n ns ≡ calls c (take n es)) one_more r.numbers in
-          let mine : slice_get (take (i + 1) ns) i ≡ Some k = slice_get_front ns i k w.other.one in
-          let both : Some k ≡ Some machine = sym mine ∙ ap (λ (x : List ℕ). slice_get x i) numbers ∙ w.other.other in
-          w.other.differs (cc both);
+      within = omega (arith, within, length-append es (e ∷ []));
+      good = rw (
+        front_same i (length es) es all front (omega (arith, within)),
+        front_same i (length es) ns numbers those (omega (arith, within)),
+      ) w.good;
+      bad = rw (
+        front_same (suc i) (length es) es all front (omega (arith, within)),
+        front_same (suc i) (length es) ns numbers those (omega (arith, within)),
+      ) w.bad;
     }
 
--- ---- by the version of a journal
+-- what is not right with one more is wrong there
+pub wrong_now : (v : Version) (c : Setup) (es : List Entry) (ns : List ℕ) (told : Option ℕ) (e : Entry) → AreCallsIn v es ns
+    → AreCallsIn v (es ++ e ∷ []) (with_call told ns) → AreRight v c es ns → (AreRight v c (es ++ e ∷ []) (with_call told ns) → ⊥)
+    → IsFirstWrong v c (es ++ e ∷ []) (with_call told ns) (length es)
+wrong_now v c es ns told e before now right other =
+    let all : List Entry = es ++ e ∷ [] in
+    let long : length all ≡ length es + 1 = length-append es (e ∷ []) in
+    record {
+      within = omega (arith, long);
+      good = rw (entries_front es e, numbers_front v es ns told e before now) right;
+      bad = rw (
+        take_all (suc (length es)) all (omega (arith, long)),
+        numbers_all v all (with_call told ns) now (suc (length es)) (omega (arith, long)),
+      ) other;
+    }
 
--- and one that is not
-pub illegal_journal : (told : ℕ) (bytes : List ℕ) (c : Setup) (es : List Entry) (ns : List ℕ) (i line : ℕ) → HasJournal c es
-    → IsTextIn told bytes c es ns → IsJudged told c es ns (Some i) → line ≡ first_line c + i → IsIllegalAt bytes line
-illegal_journal told bytes c es ns i line h t judged place = record {
-  version = t.version;
-  setup = c;
-  entries = es;
-  calls = ns;
-  journal = h;
-  numbers = t.calls;
-  text = t.text;
-  index = i;
-  first = judged t.version t.number t.calls;
-  place = place;
+-- an entry that is legal behind the others is right with its number
+pub right_now : (v : Version) (c : Setup) (es : List Entry) (ns : List ℕ) (told : Option ℕ) (e : Entry) (n : ℕ)
+    → AreCallsIn v (es ++ e ∷ []) (with_call told ns) → AreCallsIn v es ns → AreRight v c es ns → Legal c (es ++ e ∷ [])
+    → calls c (es ++ e ∷ []) ≡ calls c es ++ n ∷ [] → ((k : ℕ) → told ≡ Some k → k ≡ n)
+    → AreRight v c (es ++ e ∷ []) (with_call told ns)
+right_now One c es ns told e n now before right l number same = record { legal = l; numbers = now }
+right_now Two c es ns None e n now before right l number same =
+    absurd (omega (arith, before.one_each, now.one_each, length-append es (e ∷ [])))
+right_now Two c es ns (Some k) e n now before right l number same = record {
+  legal = l;
+  numbers = ap (λ (x : List ℕ). x ++ k ∷ []) right.numbers ∙ ap (λ (x : ℕ). calls c es ++ x ∷ []) (same k refl) ∙ sym number;
 }
 
--- the place of the first that is wrong is one of the list
-pub judged_within : (told : ℕ) (bytes : List ℕ) (c : Setup) (es : List Entry) (ns : List ℕ) (i : ℕ) → IsTextIn told bytes c es ns
-    → IsJudged told c es ns (Some i) → i < length es
-judged_within told bytes c es ns i t judged = (judged t.version t.number t.calls).within
+-- and with another it is not
+pub not_right : (v : Version) (c : Setup) (es : List Entry) (ns : List ℕ) (told : Option ℕ) (e : Entry) (n : ℕ)
+    → AreCallsIn v (es ++ e ∷ []) (with_call told ns) → AreCallsIn v es ns → calls c (es ++ e ∷ []) ≡ calls c es ++ n ∷ []
+    → (((k : ℕ) → told ≡ Some k → k ≡ n) → ⊥) → AreRight v c (es ++ e ∷ []) (with_call told ns) → ⊥
+not_right One c es ns None e n now before number other r = other (λ k is. absurd cc)
+not_right One c es ns (Some k) e n now before number other r =
+    absurd (omega (arith, ap (λ (x : List ℕ). length x) now, length-append ns (k ∷ [])))
+not_right Two c es ns None e n now before number other r =
+    absurd (omega (arith, before.one_each, now.one_each, length-append es (e ∷ [])))
+not_right Two c es ns (Some k) e n now before number other r =
+    let same = same_from_push ns (calls c es) k n (r.numbers ∙ number) in
+    other (λ j is. some_number k j is ∙ same.1)

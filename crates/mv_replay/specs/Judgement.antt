@@ -1,13 +1,13 @@
 -- What a text is: the journal of a legal history with its call numbers, or one with a first entry that is not the machine's or
 -- has another number, or no journal.
-use Rattle.std.specs.Prelude.{◌≡◌, ℕ, suc, ◌+◌, ◌<◌, List, [], take, length, Option, Some, None}
+use Rattle.std.specs.Prelude.{◌≡◌, ℕ, suc, ◌+◌, ◌<◌, List, [], take, length, Some}
 use Rattle.mv_machine.specs.declared.entry.Entry.{Entry}
 use Rattle.mv_machine.specs.Legal.{Legal}
 use Rattle.mv_calls.specs.Numbers.{calls}
 use Rattle.mv_machine.specs.Setup.{Setup}
 use Rattle.mv_entrytext.specs.declared.version.Version.{Version}
 use Rattle.mv_entrytext.specs.declared.version.Version.TheVariants.{One, Two}
-use Rattle.mv_entrytext.specs.Journal.{number_of, first_line, text_of}
+use Rattle.mv_entrytext.specs.Journal.{first_line, text_of}
 use Rattle.mv_entrytext.specs.Fault.{HasJournal, AreCallsIn, text_fault}
 use Rattle.mv_replay.specs.declared.status.ReplayStatus.{ReplayStatus}
 use Rattle.mv_replay.specs.declared.status.ReplayStatus.TheVariants.{NoMemory, Illegal, Text}
@@ -26,14 +26,6 @@ pub record AreRight (v : Version) (c : Setup) (es : List Entry) (ns : List ℕ) 
   pub legal : Legal c es
   pub numbers : ns ≡ calls_in v c es
 
--- the text, in the version of this number, of entries that are legal, with their call numbers
-pub record IsLegalText (told : ℕ) (bytes : List ℕ) (c : Setup) (es : List Entry) : Type 0 where
-  pub version : Version
-  pub number : told ≡ number_of version
-  pub journal : HasJournal c es
-  pub text : bytes ≡ text_of version c es (calls_in version c es)
-  pub legal : Legal c es
-
 -- the text of so many entries, which are legal, with their call numbers
 pub record IsLegalJournal (bytes : List ℕ) (count : ℕ) : Type 0 where
   pub version : Version
@@ -50,15 +42,6 @@ pub record IsFirstWrong (v : Version) (c : Setup) (es : List Entry) (ns : List �
   pub within : i < length es
   pub good : AreRight v c (take i es) (take i ns)
   pub bad : ¬ AreRight v c (take (suc i) es) (take (suc i) ns)
-
--- the first of them that is wrong, if there is one
-abbrev pub IsFirstIn : Version → Setup → List Entry → List ℕ → Option ℕ → Type 0
-IsFirstIn v c es ns None = AreRight v c es ns
-IsFirstIn v c es ns (Some i) = IsFirstWrong v c es ns i
-
--- that of a journal in the version of this number
-abbrev pub IsJudged : ℕ → Setup → List Entry → List ℕ → Option ℕ → Type 0
-IsJudged told c es ns first = (v : Version) → told ≡ number_of v → AreCallsIn v es ns → IsFirstIn v c es ns first
 
 -- the text of entries of which the one on this line is the first that is wrong
 pub record IsIllegalAt (bytes : List ℕ) (line : ℕ) : Type 0 where

@@ -1,3 +1,4 @@
 pub mod Judgement
+pub mod Course
 pub mod Status
 pub mod Outcome

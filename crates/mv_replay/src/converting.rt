@@ -1,39 +1,25 @@
-//! The command `convert`: what is read, judged and written. Its clauses cite specs/Outcome, specs/Judgement
-//! and specs/Status.
+//! The command `convert`: what is read, judged and written. Its clauses cite specs/Outcome and
+//! specs/Status.
 
-ghost use Rattle.std.specs.Prelude.{◌≡◌, ◌≤◌, IfOk};
+ghost use Rattle.std.specs.Prelude.{◌≡◌, ◌≤◌};
 ghost use Rattle.mv_io.specs.Fault.{Rose};
 ghost use Rattle.mv_ending.specs.Note.{NotesAfter};
 ghost use Rattle.mv_ending.specs.Written.{IfUnwritten};
-ghost use Rattle.mv_entrytext.specs.Journal.{journal_text};
-ghost use Rattle.mv_replay.specs.Judgement.{IsLegalText};
 ghost use Rattle.mv_replay.specs.Outcome.{IsConversion, InputOf, Owes, ReportAfter, extent_of};
 ghost use Rattle.mv_replay.specs.Status.{note_of};
 
-use crate::reading::{LegalJournal, read_legal};
+use crate::reading::read_legal;
 use crate::reporting::write_out;
 use crate::status::{ReplayStatus, tell_status};
-use mv_entrytext::write_journal;
-use mv_io::{NoMemory, Sink, Source};
+use mv_io::{Sink, Source};
 use std::alloc::Global;
-
-// A legal journal's text in version 2. A text of that version is it already.
-fn second_version(alloc: Global, legal: LegalJournal) -> Result<Vec<u8>, NoMemory>
-    requires { IsLegalText legal.journal.version legal.text.items legal.journal.config legal.journal.entries.items }
-    ensures { IfOk result (λ text. text.items ≡ journal_text legal.journal.config legal.journal.entries.items) }
-{
-    if legal.journal.version == 2 {
-        return Ok(legal.text);
-    }
-    write_journal(alloc, &legal.journal.config, &legal.journal.entries)
-}
 
 /// Judges the journal on the input as `replay_command` does, and where it is legal the report gains its text in version 2,
 /// with the call numbers that the machine's rules give; a legal text of that version is its own conversion. Any other ending has
 /// its line on the notes.
 ///
-/// The text is made in memory before it is written, in time linear in the text, but for the events on a latch set. It waits as
-/// long as its streams do, and for nothing else.
+/// The text is made in memory as the input is judged, before it is written, in time linear in the text, but for the events on a
+/// latch set. It waits as long as its streams do, and for nothing else.
 ///
 /// # Errors
 ///
@@ -65,17 +51,14 @@ pub fn convert_command<D: Source, R: Sink, N: Sink>(
     ensures counts { (D.faults input.old ≤ D.faults input.new) × (R.faults report.old ≤ R.faults report.new)
         × (N.faults notes.old ≤ N.faults notes.new) }
 {
-    let legal = match read_legal(alloc, input) {
+    let legal = match read_legal(alloc, input, true) {
         Ok(legal) => legal,
         Err(status) => {
             tell_status(notes, status);
             return status;
         }
     };
-    let Ok(text) = second_version(alloc, legal) else {
-        tell_status(notes, ReplayStatus::NoMemory);
-        return ReplayStatus::NoMemory;
-    };
+    let text = legal.conversion();
     let status = write_out(report, &text);
     tell_status(notes, status);
     status

@@ -1,85 +1,189 @@
-//! The judgement of a text. Its clauses cite specs/Judgement.
+//! The judgement of a text, line by line. Its clauses cite specs/Judgement and specs/Course.
 
-ghost use Rattle.std.specs.Prelude.{◌≡◌, ◌≢◌, ◌≤◌, ◌<◌, ◌^◌, [], All, length, IfOk, IfErr};
+ghost use Rattle.std.specs.Prelude.{◌≡◌, ◌≤◌, ◌<◌, ◌+◌, ◌-◌, ◌^◌, ◌∷◌, ◌++◌, [], true, ℕ, Bool, List, Some, length};
+ghost use Rattle.std.specs.Prelude.{IfOk, IfErr, OnOk, IsTrue, ◌↔◌, MatchResult, option_map};
+ghost use Rattle.mv_machine.specs.declared.entry.Entry.{Entry as AnyEntry};
 ghost use Rattle.mv_machine.specs.Limits.{highest_place};
-ghost use Rattle.mv_entrytext.specs.declared.version.Version.{Version};
-ghost use Rattle.mv_replay.specs.Judgement.{journal_limit, IsFirstIn, IsJudged, IsLegalText, IsRefused};
+ghost use Rattle.mv_machine.specs.Setup.{Setup};
+ghost use Rattle.mv_calls.specs.Numbers.{calls as calls_of};
+ghost use Rattle.mv_entrytext.specs.declared.version.Version.{Version as AnyVersion};
+ghost use Rattle.mv_entrytext.specs.Fault.{AreCallsIn, HasJournal, IsTextIn};
+ghost use Rattle.mv_entrytext.specs.Journal.{first_line, number_of};
+ghost use Rattle.mv_entrytext.specs.Lines.{with_call};
+ghost use Rattle.mv_replay.specs.Course.{is_copied, made_of, IsCopied, IsCourse, IsWhole};
+ghost use Rattle.mv_replay.specs.Judgement.{journal_limit, IsLegalJournal, IsRefused};
+ghost use Rattle.mv_replay.specs.Outcome.{converted};
 
 use crate::status::ReplayStatus;
-use mv_calls::{CallsRefusal, replay_calls};
-use mv_entrytext::{Journal, TextRefusal, read_journal};
+use mv_calls::{EntryRefusal, Judge};
+use mv_entrytext::{JournalWriter, OpenJournal, TextRefusal, Version, open_journal};
 use mv_io::NoMemory;
-use mv_machine::{Entry, ReplayRefusal, ValidConfig, replay};
+use mv_machine::{Entry, ValidConfig};
 use std::alloc::Global;
 
-// Where the first entry stands that is not the machine's, if there is one.
-#[tactic(auto, using(crate::proofs::Wrong::right_plain, crate::proofs::Wrong::wrong_plain))]
-fn first_illegal(
-    alloc: Global,
-    config: &ValidConfig,
-    entries: &[Entry],
-) -> Result<Option<usize>, NoMemory>
-    requires places { All (λ e. e.place ≤ highest_place) entries.now }
-    ensures { IfOk result (λ first. IsFirstIn Version.One config.now entries.now [] first) }
+/// What is kept of a legal text.
+#[derive(Drop)]
+pub(crate) struct Judged {
+    /// How many entries it has.
+    pub(crate) count: u32,
+    /// Its conversion, where one was asked for and the text is none itself.
+    pub(crate) second: Option<Vec<u8>>,
+}
+
+// How far a text has been judged. None of its entries is kept.
+#[derive(Drop)]
+struct Course {
+    config: ValidConfig,
+    judge: Judge,
+    // The line of the first entry that is wrong. Behind it the judge is not asked, and nothing is copied.
+    wrong: Option<u32>,
+    // The text in version 2 so far, where it is asked for.
+    copy: Option<JournalWriter>,
+}
+
+// Whether a conversion is not the text itself.
+fn copies(converts: bool, version: Version) -> bool
+    ensures { result ≡ is_copied converts version }
 {
-    match replay(alloc, config, entries) {
-        Ok(_) => Ok(None),
-        Err(ReplayRefusal::Illegal(illegal)) => Ok(Some(illegal.index)),
-        Err(ReplayRefusal::NoMemory) => Err(NoMemory),
+    match version {
+        Version::One => converts,
+        Version::Two => false,
     }
 }
 
-// Where the first entry stands that is not the machine's or has another call number, if there is one.
-#[tactic(auto, using(crate::proofs::Wrong::right_numbered, crate::proofs::Wrong::wrong_illegal, crate::proofs::Wrong::wrong_number))]
-fn first_misnumbered(
-    alloc: Global,
-    config: &ValidConfig,
-    entries: &[Entry],
-    calls: &[u32],
-) -> Result<Option<usize>, NoMemory>
-    requires few { length entries.now < 2 ^ 32 }
-    requires places { All (λ e. e.place ≤ highest_place) entries.now }
-    requires numbers { length calls.now ≡ length entries.now }
-    ensures { IfOk result (λ first. IsFirstIn Version.Two config.now entries.now calls.now first) }
+// Whether a call's number is the one that is told, if any is.
+fn is_told(told: Option<u32>, number: u32) -> bool
+    ensures { IsTrue result ↔ ((k : ℕ) → told ≡ Some k → k ≡ number) }
 {
-    let Err(refusal) = replay_calls(alloc, config, entries, calls) else {
-        return Ok(None);
-    };
-    match refusal {
-        CallsRefusal::Illegal(illegal) => Ok(Some(illegal.index)),
-        CallsRefusal::Number { index, .. } => Ok(Some(index)),
-        CallsRefusal::NoMemory => Err(NoMemory),
+    match told {
+        Some(call) => call == number,
+        None => true,
     }
 }
 
-// The same of a journal that was read, in its version.
-fn first_wrong(alloc: Global, journal: &Journal) -> Result<Option<usize>, NoMemory>
-    requires few { length journal.now.entries.items < 2 ^ 32 }
-    requires places { All (λ e. e.place ≤ highest_place) journal.now.entries.items }
-    requires numbers { journal.now.version ≢ 1 → length journal.now.calls.items ≡ length journal.now.entries.items }
-    ensures { IfOk result (λ first.
-        IsJudged journal.now.version journal.now.config journal.now.entries.items journal.now.calls.items first) }
+// The line of an entry behind the others, where they are copied.
+fn copy_line(copy: &mut Option<JournalWriter>, number: u32, entry: &Entry) -> Result<(), NoMemory>
+    ensures { (copied : Bool) (c : Setup) (es : List AnyEntry) → IsCopied copied c es copy.old
+        → calls_of c (es ++ entry.now ∷ []) ≡ calls_of c es ++ number ∷ []
+        → OnOk result (IsCopied copied c (es ++ entry.now ∷ []) copy.new) }
 {
-    if journal.version == 1 {
-        return first_illegal(alloc, &journal.config, &journal.entries);
+    match copy {
+        Some(writer) => writer.push(Some(number), entry),
+        None => Ok(()),
     }
-    first_misnumbered(alloc, &journal.config, &journal.entries, &journal.calls)
 }
 
-/// The journal of a text, where it is legal, or how the replay of any other text ends.
-pub(crate) fn judge(alloc: Global, bytes: &[u8]) -> Result<Journal, ReplayStatus>
+impl Course {
+    // Before the first entry.
+    fn open(alloc: Global, copied: bool, config: ValidConfig) -> Result<Course, NoMemory>
+        ensures config { IfOk result (λ x. x.config ≡ config) }
+        ensures course { IfOk result (λ x. (v : AnyVersion) → IsCourse v copied config [] [] x.wrong x.judge x.copy) }
+    {
+        let copy = if copied {
+            Some(JournalWriter::open(alloc, Version::Two, &config)?)
+        } else {
+            None
+        };
+        let judge = Judge::open(alloc, &config)?;
+        Ok(Course {
+            config,
+            judge,
+            wrong: None,
+            copy,
+        })
+    }
+
+    // The entry of this line, with the number of its call, if one is told.
+    fn take(&mut self, line: u32, told: Option<u32>, entry: &Entry) -> Result<(), NoMemory>
+        requires place { entry.now.place ≤ highest_place }
+        requires few { (v : AnyVersion) × (copied : Bool) × (es : List AnyEntry) × (ns : List ℕ)
+            × IsCourse v copied self.old.config es ns self.old.wrong self.old.judge self.old.copy × (length es < 2 ^ 32 - 1) }
+        ensures config { self.new.config ≡ self.old.config }
+        ensures course { (v : AnyVersion) (copied : Bool) (es : List AnyEntry) (ns : List ℕ)
+            → IsCourse v copied self.old.config es ns self.old.wrong self.old.judge self.old.copy
+            → AreCallsIn v es ns → AreCallsIn v (es ++ entry.now ∷ []) (with_call told ns)
+            → line ≡ first_line self.old.config + length es
+            → OnOk result (IsCourse v copied self.old.config (es ++ entry.now ∷ []) (with_call told ns)
+            self.new.wrong self.new.judge self.new.copy) }
+    {
+        if let Some(_) = self.wrong {
+            return Ok(());
+        }
+        match self.judge.next(&self.config, entry) {
+            Ok(number) => {
+                if is_told(told, number) {
+                    return copy_line(&mut self.copy, number, entry);
+                }
+                self.wrong = Some(line);
+                Ok(())
+            }
+            Err(EntryRefusal::Illegal) => {
+                self.wrong = Some(line);
+                Ok(())
+            }
+            Err(EntryRefusal::NoMemory) => Err(NoMemory),
+        }
+    }
+
+    // All entries of the text were taken, so many.
+    fn end(self, count: u32) -> Result<Judged, ReplayStatus>
+        ensures { (v : AnyVersion) (copied : Bool) (bytes : List ℕ) (c : Setup) (es : List AnyEntry) (ns : List ℕ)
+            → IsCourse v copied c es ns self.wrong self.judge self.copy → HasJournal c es → IsTextIn (number_of v) bytes c es ns
+            → count ≡ length es → MatchResult result
+            (λ j. IsWhole v copied bytes c es j.count (option_map (λ t. t.items) j.second))
+            (λ s. IsRefused bytes s) }
+    {
+        let Course { wrong, copy, .. } = self;
+        if let Some(line) = wrong {
+            return Err(ReplayStatus::Illegal(line));
+        }
+        match copy {
+            Some(writer) => match writer.end(u64::from(count)) {
+                Ok(text) => Ok(Judged {
+                    count,
+                    second: Some(text),
+                }),
+                Err(NoMemory) => Err(ReplayStatus::NoMemory),
+            },
+            None => Ok(Judged {
+                count,
+                second: None,
+            }),
+        }
+    }
+}
+
+/// What is kept of a text where it is legal, with its conversion if that is asked for, or how the replay of any other text ends. A
+/// fault of the text goes before an entry that is wrong, wherever it stands.
+pub(crate) fn judge(alloc: Global, bytes: &[u8], converts: bool) -> Result<Judged, ReplayStatus>
     requires { length bytes.now ≤ journal_limit }
-    ensures legal { IfOk result (λ j. IsLegalText j.version bytes.now j.config j.entries.items) }
+    ensures legal { IfOk result (λ j. IsLegalJournal bytes.now j.count) }
+    ensures converted { converts ≡ true
+        → IfOk result (λ j. made_of bytes.now (option_map (λ t. t.items) j.second) ≡ converted bytes.now) }
     ensures refused { IfErr result (λ status. IsRefused bytes.now status) }
 {
-    let journal = match read_journal(alloc, bytes) {
+    let OpenJournal {
+        version,
+        config,
+        entries: mut reader,
+    } = match open_journal(alloc, bytes) {
         Ok(journal) => journal,
         Err(TextRefusal::Fault(fault)) => return Err(ReplayStatus::Text(fault)),
         Err(TextRefusal::NoMemory) => return Err(ReplayStatus::NoMemory),
     };
-    match first_wrong(alloc, &journal) {
-        Ok(None) => Ok(journal),
-        Ok(Some(index)) => Err(ReplayStatus::Illegal(journal.first_line + index as u32)),
-        Err(NoMemory) => Err(ReplayStatus::NoMemory),
+    let Ok(mut course) = Course::open(alloc, copies(converts, version), config) else {
+        return Err(ReplayStatus::NoMemory);
+    };
+    'entries: loop {
+        let line = reader.line();
+        match reader.next() {
+            Ok(Some((call, entry))) => {
+                let Ok(()) = course.take(line, call, &entry) else {
+                    return Err(ReplayStatus::NoMemory);
+                };
+            }
+            Ok(None) => return course.end(reader.count()),
+            Err(fault) => return Err(ReplayStatus::Text(fault)),
+        }
     }
 }

@@ -1,33 +1,51 @@
-//! What both commands begin with: the input is read whole, and then judged. Its clauses cite specs/Judgement and specs/Outcome.
+//! What both commands begin with: the input is read whole, and then judged. Its clauses cite specs/Judgement,
+//! specs/Course and specs/Outcome.
 
-ghost use Rattle.std.specs.Prelude.{◌≡◌, ◌≤◌, Err, IfOk, IfErr, IfSome};
+ghost use Rattle.std.specs.Prelude.{◌≡◌, ◌≤◌, true, Err, IfOk, IfErr, IfSome, option_map};
 ghost use Rattle.mv_io.specs.Fault.{Rose};
 ghost use Rattle.mv_ending.specs.Written.{Nothing};
-ghost use Rattle.mv_replay.specs.Judgement.{IsLegalText};
-ghost use Rattle.mv_replay.specs.Outcome.{InputOf, extent_of};
+ghost use Rattle.mv_replay.specs.Course.{made_of};
+ghost use Rattle.mv_replay.specs.Judgement.{IsLegalJournal};
+ghost use Rattle.mv_replay.specs.Outcome.{converted, InputOf, extent_of};
 
-use crate::judging::judge;
+use crate::judging::{Judged, judge};
 use crate::status::ReplayStatus;
-use mv_entrytext::Journal;
 use mv_io::{ReadRefusal, Source, read_limited};
 use std::alloc::Global;
 
 /// The most bytes of a journal.
 const JOURNAL_LIMIT: usize = 67_108_864;
 
-/// A legal journal, and its text.
+/// The text of a legal journal, and what was kept of it.
 #[derive(Drop)]
-pub(crate) struct LegalJournal {
+pub(crate) struct LegalText {
     pub(crate) text: Vec<u8>,
-    pub(crate) journal: Journal,
+    pub(crate) judged: Judged,
 }
 
-/// The legal journal that is the input, or how a command on any other input ends, before it has reported.
+impl LegalText {
+    /// Its conversion, where one was asked for.
+    pub(crate) fn conversion(self) -> Vec<u8>
+        ensures { result.items ≡ made_of self.text.items (option_map (λ t. t.items) self.judged.second) }
+    {
+        let LegalText { text, judged } = self;
+        match judged.second {
+            Some(second) => second,
+            None => text,
+        }
+    }
+}
+
+/// The legal journal that is the input, with its conversion if that is asked for, or how a command on any other input ends, before
+/// it has reported.
 pub(crate) fn read_legal<D: Source>(
     alloc: Global,
     input: &mut D,
-) -> Result<LegalJournal, ReplayStatus>
-    ensures legal { IfOk result (λ l. IsLegalText l.journal.version l.text.items l.journal.config l.journal.entries.items) }
+    converts: bool,
+) -> Result<LegalText, ReplayStatus>
+    ensures legal { IfOk result (λ l. IsLegalJournal l.text.items l.judged.count) }
+    ensures converted { converts ≡ true
+        → IfOk result (λ l. made_of l.text.items (option_map (λ t. t.items) l.judged.second) ≡ converted l.text.items) }
     ensures text { IfOk result (λ l. IfSome (D.left input.old) (λ bytes. l.text.items ≡ bytes)) }
     ensures whole { IfOk result (λ _. InputOf ReplayStatus.Done (D.left input.old) (D.left input.new)) }
     ensures input { IfErr result (λ status. InputOf status (D.left input.old) (D.left input.new)) }
@@ -41,8 +59,8 @@ pub(crate) fn read_legal<D: Source>(
         Err(ReadRefusal::TooLong) => return Err(ReplayStatus::TooLong),
         Err(ReadRefusal::NoMemory) => return Err(ReplayStatus::NoMemory),
     };
-    match judge(alloc, &text) {
-        Ok(journal) => Ok(LegalJournal { text, journal }),
+    match judge(alloc, &text, converts) {
+        Ok(judged) => Ok(LegalText { text, judged }),
         Err(status) => Err(status),
     }
 }

@@ -30,7 +30,8 @@ fn legal_line(count: u32) -> Line
 /// and have in version 2 their call numbers, the report gains the line `LEGAL n EVENTS` with their number. Any other ending has
 /// its line on the notes, last of all; that they fail changes no status.
 ///
-/// The input is read whole before it is judged, and nothing is written before that is done. The budgets of the
+/// The input is read whole before it is judged, line by line; no list of its events is kept, and nothing is written before that is
+/// done. The budgets of the
 /// configuration are not asked. Time is linear in the text, but for the events on a latch set, each of which takes a
 /// small multiple of the requests that stand there. It waits as long as its streams do, and for nothing else.
 ///
@@ -74,14 +75,14 @@ pub fn replay_command<D: Source, R: Sink, N: Sink>(
     ensures counts { (D.faults input.old ≤ D.faults input.new) × (R.faults report.old ≤ R.faults report.new)
         × (N.faults notes.old ≤ N.faults notes.new) }
 {
-    let legal = match read_legal(alloc, input) {
+    let legal = match read_legal(alloc, input, false) {
         Ok(legal) => legal,
         Err(status) => {
             tell_status(notes, status);
             return status;
         }
     };
-    let line = legal_line(legal.journal.entries.len() as u32);
+    let line = legal_line(legal.judged.count);
     let status = write_out(report, line.as_bytes());
     tell_status(notes, status);
     status

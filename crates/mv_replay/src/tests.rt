@@ -109,7 +109,8 @@ fn legal_journals(rt: HostRuntime) -> Result<(), Fail> {
     Ok(())
 }
 
-// Another reply, another call number, a number with a leading zero, and a text that ends behind the sixth byte of its line 12.
+// Another reply; another call number; a number with a leading zero, behind an entry with another reply; and a text that ends behind
+// the sixth byte of its line 12.
 #[test]
 fn journals_that_are_refused(rt: HostRuntime) -> Result<(), Fail> {
     let table = [
@@ -129,8 +130,8 @@ fn journals_that_are_refused(rt: HostRuntime) -> Result<(), Fail> {
         ),
         (
             SECOND,
-            "END 2",
-            "END 02",
+            "POSTED\nEND 2",
+            "WOKE 0\nEND 02",
             ReplayStatus::Text(TextFault { line: 13, kind: 2 }),
             "JOURNAL LINE 13 KIND 2\n",
         ),

@@ -1,8 +1,7 @@
 -- What the input asks for, by what was read, and what was written of the report.
-use Rattle.std.proofs.Common.{◌∙◌, rules}
+use Rattle.std.proofs.Common.{◌∙◌, refl, rules}
 use Rattle.mv_io.specs.Fault.{Rose}
 use Rattle.mv_replay.specs.Outcome.{IsConversion}
-use Rattle.mv_replay.proofs.Converted.{is_conversion}
 use Rattle.mv_replay.proofs.Endings.{owed_unread, owed_written}
 use Rattle.mv_replay.proofs.Reported.{reported, read_before}
 use Rattle.mv_replay.proofs.converting.convert_command.Goals as goal
@@ -29,9 +28,11 @@ returns-clause-owed g c =
 
 pub returns-clause-report : goal.returns-clause-report
 returns-clause-report g c =
-    let j = c.in-Ok.legal.journal in
     let text = c.in-Ok.legal.text.items in
+    let says : IsConversion text c.deref.result.now = record {
+      count = c.in-Ok.legal.judged.count;
+      legal = c.in-Ok.ensures.legal;
+      reported = c.deref.ensures.value ∙ c.conversion-text.ensures ∙ c.in-Ok.ensures.converted refl;
+    } in
     reported IsConversion c.write_out-status.result (g.D.Source.left c.args.input.now) (g.R.Sink.taken c.args.report.now)
-    (g.R.Sink.taken c.write_out-status.new.report) text c.deref.result.now c.in-Ok.ensures.text
-    (is_conversion j.version text c.deref.result.now j.config j.entries.items c.in-Ok.ensures.legal
-    (c.deref.ensures.value ∙ c.in-Ok-second_version.ensures)) c.write_out-status.ensures.written
+    (g.R.Sink.taken c.write_out-status.new.report) text c.deref.result.now c.in-Ok.ensures.text says c.write_out-status.ensures.written

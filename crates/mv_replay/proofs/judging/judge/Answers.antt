@@ -1,28 +1,73 @@
--- The line of the first entry that is wrong is a number of four bytes.
-use Rattle.std.proofs.Common.{◌≤◌, ◌+◌, ℕ, Option, Some, ap, arith, subst}
-use Rattle.mv_entrytext.specs.Journal.{first_line}
-use Rattle.mv_replay.specs.Judgement.{journal_limit, IsJudged}
-use Rattle.mv_replay.proofs.Lines.{line_fits}
-use Rattle.mv_replay.proofs.Wrong.{illegal_journal, judged_within}
+-- The course is one entry further with each that is read.
+use Rattle.std.proofs.Common.{ℕ, ◌∷◌, ◌++◌, [], List, Option, sym, subst}
+use Rattle.mv_machine.specs.declared.entry.Entry.{Entry}
+use Rattle.mv_machine.specs.Setup.{Setup}
+use Rattle.mv_entrytext.specs.Lines.{with_call}
+use Rattle.mv_entrytext.specs.Reader.{IsReadTo, IsNextOf}
+use Rattle.mv_replay.specs.Course.{is_copied, IsCourse}
+use Rattle.mv_replay.proofs.Courses.{ended_legal, ended_converted, ended_refused}
 use Rattle.mv_replay.proofs.judging.judge.Goals as goal
 
-pub overflow_add-result : goal.overflow_add-result
-overflow_add-result c =
-    let bytes = c.args.bytes.now in
-    let j = c.in-Ok.journal in
-    let i = c.in-Ok-Some.index in
-    let first : IsJudged j.version j.config j.entries.items j.calls.items (Some i) =
-    subst (λ (o : Option ℕ). IsJudged j.version j.config j.entries.items j.calls.items o) c.in-Ok-Some.field-0-is c.in-Ok-Some.ensures in
-    let within = judged_within j.version bytes j.config j.entries.items j.calls.items i c.in-Ok.ensures.text first in
-    let fits : first_line j.config + i ≤ journal_limit =
-    line_fits j.version bytes j.config j.entries.items j.calls.items i c.requires c.in-Ok.ensures.text within in
-    omega (arith, c.in-Ok.ensures.first_line, fits)
+pub take-requires-clause-place : goal.take-requires-clause-place
+take-requires-clause-place c =
+    let w = c.entries.invariant in
+    (subst (λ (o : Option (Option ℕ × Entry)). IsNextOf w.0 c.args.bytes.now c.entries.course.config w.1 w.2 o c.next.new.self)
+    c.in-Ok-Some.field-0-is (c.in-Ok-Some.ensures.read w.0 c.args.bytes.now c.entries.course.config w.1 w.2 w.3)).ranges.0.place
 
-pub returns-in-Ok-Some-clause-refused : goal.returns-in-Ok-Some-clause-refused
-returns-in-Ok-Some-clause-refused c =
-    let j = c.in-Ok.journal in
-    let i = c.in-Ok-Some.index in
-    let first : IsJudged j.version j.config j.entries.items j.calls.items (Some i) =
-    subst (λ (o : Option ℕ). IsJudged j.version j.config j.entries.items j.calls.items o) c.in-Ok-Some.field-0-is c.in-Ok-Some.ensures in
-    illegal_journal j.version c.args.bytes.now j.config j.entries.items j.calls.items i (j.first_line + i) c.in-Ok.ensures.journal
-    c.in-Ok.ensures.text first (ap (λ (k : ℕ). k + i) c.in-Ok.ensures.first_line)
+pub entries-preserved : goal.entries-preserved
+entries-preserved c =
+    let bytes = c.args.bytes.now in
+    let config = c.entries.course.config in
+    let w = c.entries.invariant in
+    let es : List Entry = w.1 ++ c.in-Ok-Some.entry ∷ [] in
+    let ns : List ℕ = with_call c.in-Ok-Some.call w.2 in
+    let new = c.take.new.self in
+    let next =
+    subst (λ (o : Option (Option ℕ × Entry)). IsNextOf w.0 bytes config w.1 w.2 o c.next.new.self) c.in-Ok-Some.field-0-is
+    (c.in-Ok-Some.ensures.read w.0 bytes config w.1 w.2 w.3) in
+    let course =
+    c.in-Ok-take.ensures.course w.0 (is_copied c.args.converts w.0) w.1 w.2 w.4 w.3.calls next.read.calls
+    (c.line-line.ensures w.0 bytes config w.1 w.2 w.3) in (
+      w.0,
+      es,
+      ns,
+      subst (λ (s : Setup). IsReadTo w.0 bytes s es ns c.next.new.self) (sym c.take.ensures.config) next.read,
+      subst (λ (s : Setup). IsCourse w.0 (is_copied c.args.converts w.0) s es ns new.wrong new.judge new.copy) (sym c.take.ensures.config)
+          course,
+    )
+
+pub returns-in-Ok-None-clause-legal : goal.returns-in-Ok-None-clause-legal
+returns-in-Ok-None-clause-legal c =
+    let bytes = c.args.bytes.now in
+    let config = c.entries.course.config in
+    let w = c.entries.invariant in
+    let copied = is_copied c.args.converts w.0 in
+    let whole =
+    subst (λ (o : Option (Option ℕ × Entry)). IsNextOf w.0 bytes config w.1 w.2 o c.next.new.self) c.in-Ok-None.field-0-is
+    (c.in-Ok-None.ensures.read w.0 bytes config w.1 w.2 w.3) in
+    ended_legal w.0 copied bytes config w.1 c.end.result
+    (c.end.ensures w.0 copied bytes config w.1 w.2 w.4 whole.journal whole.text (c.count.ensures w.0 bytes config w.1 w.2 whole.read))
+
+pub returns-in-Ok-None-clause-converted : goal.returns-in-Ok-None-clause-converted
+returns-in-Ok-None-clause-converted c = λ asked.
+    let bytes = c.args.bytes.now in
+    let config = c.entries.course.config in
+    let w = c.entries.invariant in
+    let whole =
+    subst (λ (o : Option (Option ℕ × Entry)). IsNextOf w.0 bytes config w.1 w.2 o c.next.new.self) c.in-Ok-None.field-0-is
+    (c.in-Ok-None.ensures.read w.0 bytes config w.1 w.2 w.3) in
+    ended_converted w.0 c.args.converts bytes config w.1 c.end.result asked
+    (c.end.ensures w.0 (is_copied c.args.converts w.0) bytes config w.1 w.2 w.4 whole.journal whole.text
+    (c.count.ensures w.0 bytes config w.1 w.2 whole.read))
+
+pub returns-in-Ok-None-clause-refused : goal.returns-in-Ok-None-clause-refused
+returns-in-Ok-None-clause-refused c =
+    let bytes = c.args.bytes.now in
+    let config = c.entries.course.config in
+    let w = c.entries.invariant in
+    let copied = is_copied c.args.converts w.0 in
+    let whole =
+    subst (λ (o : Option (Option ℕ × Entry)). IsNextOf w.0 bytes config w.1 w.2 o c.next.new.self) c.in-Ok-None.field-0-is
+    (c.in-Ok-None.ensures.read w.0 bytes config w.1 w.2 w.3) in
+    ended_refused w.0 copied bytes config w.1 c.end.result
+    (c.end.ensures w.0 copied bytes config w.1 w.2 w.4 whole.journal whole.text (c.count.ensures w.0 bytes config w.1 w.2 whole.read))

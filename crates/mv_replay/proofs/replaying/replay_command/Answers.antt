@@ -1,9 +1,7 @@
 -- What the input asks for, by what was read, and what was written of the report.
-use Rattle.std.proofs.Common.{◌≡◌, ℕ, length, subst, rules}
+use Rattle.std.proofs.Common.{◌≡◌, rules}
 use Rattle.mv_io.specs.Fault.{Rose}
-use Rattle.mv_replay.specs.Judgement.{IsLegalJournal}
 use Rattle.mv_replay.specs.Outcome.{legal_text, IsReplayReport}
-use Rattle.mv_replay.proofs.Converted.{journal_is_legal}
 use Rattle.mv_replay.proofs.Endings.{owed_unread, owed_written}
 use Rattle.mv_replay.proofs.Reported.{reported, read_before}
 use Rattle.mv_replay.proofs.replaying.replay_command.Goals as goal
@@ -30,15 +28,9 @@ returns-clause-owed g c =
 
 pub returns-clause-report : goal.returns-clause-report
 returns-clause-report g c =
-    let j = c.in-Ok.legal.journal in
     let text = c.in-Ok.legal.text.items in
-    let count : length j.entries.items ≡ c.len.result = search rules in
-    let line : c.as_bytes.result.now ≡ legal_text c.len.result = search rules in
-    let says : IsReplayReport text c.as_bytes.result.now = record {
-      count = c.len.result;
-      legal = subst (λ (n : ℕ). IsLegalJournal text n) count
-          (journal_is_legal j.version text j.config j.entries.items c.in-Ok.ensures.legal);
-      reported = line;
-    } in
+    let count = c.in-Ok.legal.judged.count in
+    let line : c.as_bytes.result.now ≡ legal_text count = search rules in
+    let says : IsReplayReport text c.as_bytes.result.now = record { count = count; legal = c.in-Ok.ensures.legal; reported = line } in
     reported IsReplayReport c.write_out-status.result (g.D.Source.left c.args.input.now) (g.R.Sink.taken c.args.report.now)
     (g.R.Sink.taken c.write_out-status.new.report) text c.as_bytes.result.now c.in-Ok.ensures.text says c.write_out-status.ensures.written

@@ -1,0 +1,249 @@
+-- One entry further in the judgement of a text, and its end.
+use Rattle.std.proofs.Common.{◌≡◌, ℕ, ◌+◌, Bool, true, false, List, [], ◌∷◌, ◌++◌, length, Option, Some, None}
+use Rattle.std.proofs.Common.{Result, Ok, Err, subst, refl, sym, ap, ◌∙◌}
+use Rattle.std.specs.Prelude.{OnOk, IfOk, IfErr, MatchResult, option_map}
+use Rattle.std.specs.List.{flat_map}
+use Rattle.mv_machine.specs.declared.entry.Entry.{Entry}
+use Rattle.mv_machine.specs.Legal.{Legal}
+use Rattle.mv_machine.specs.Setup.{Setup}
+use Rattle.mv_calls.specs.declared.judge.Judge.{Judge}
+use Rattle.mv_calls.specs.Judge.{IsJudgedNext}
+use Rattle.mv_calls.specs.Numbers.{calls}
+use Rattle.mv_calls.proofs.call_numbers.Prefixes.{calls_length}
+use Rattle.mv_entrytext.specs.declared.version.Version.{Version}
+use Rattle.mv_entrytext.specs.declared.version.Version.TheVariants.{One, Two}
+use Rattle.mv_entrytext.specs.declared.writing.JournalWriter.{JournalWriter}
+use Rattle.mv_entrytext.specs.Fault.{AreCallsIn, HasJournal, IsTextIn}
+use Rattle.mv_entrytext.specs.Journal.{Line, EntryOf, End, line, first_line, entry_lines, head_text, journal_text, number_of, text_of}
+use Rattle.mv_entrytext.specs.Lines.{with_call}
+use Rattle.mv_entrytext.specs.Writer.{IsWrittenTo}
+use Rattle.mv_entrytext.proofs.CallNumbers.{numbered_more}
+use Rattle.mv_replay.specs.Course.{is_copied, made_of, IsCopied, IsRightTo, IsWrongAt, IsCourse, IsMade, IsWhole}
+use Rattle.mv_replay.specs.declared.judging.Judged.{Judged}
+use Rattle.mv_replay.specs.declared.status.ReplayStatus.{ReplayStatus}
+use Rattle.mv_replay.specs.Judgement.{calls_in, IsFirstWrong, IsLegalJournal, IsIllegalAt, IsRefused}
+use Rattle.mv_replay.specs.Outcome.{converted}
+use Rattle.mv_replay.proofs.Converted.{is_converted}
+use Rattle.mv_replay.proofs.Wrong.{still_wrong, wrong_now, right_now, not_right}
+
+-- ---- what is copied
+
+-- a writer is one
+one_writer : (x w : JournalWriter) → Some x ≡ Some w → x ≡ w
+one_writer x w e = cc
+
+-- the line of one more entry, with its number
+pub lines_now : (c : Setup) (es : List Entry) (e : Entry) (n : ℕ) → calls c (es ++ e ∷ []) ≡ calls c es ++ n ∷ []
+    → entry_lines (es ++ e ∷ []) (calls c (es ++ e ∷ [])) ≡ entry_lines es (calls c es) ++ EntryOf (Some n) e ∷ []
+lines_now c es e n number =
+    ap (λ (ns : List ℕ). entry_lines (es ++ e ∷ []) ns) number ∙ numbered_more es (calls c es) e n (calls_length c es)
+
+-- where it was written, it is copied
+pub copied_now : {A B : Type 0} (copied : Bool) (c : Setup) (es : List Entry) (e : Entry) (n : ℕ) (old : Option JournalWriter)
+    (w new : JournalWriter) (r : Result A B) → old ≡ Some w → IsCopied copied c es old → calls c (es ++ e ∷ []) ≡ calls c es ++ n ∷ []
+    → ((lines : List Line) → IsWrittenTo Two c lines w → OnOk r (IsWrittenTo Two c (lines ++ EntryOf (Some n) e ∷ []) new))
+    → OnOk r (IsCopied copied c (es ++ e ∷ []) (Some new))
+copied_now true c es e n None w new r is h number push = absurd h
+copied_now true c es e n (Some x) w new r is h number push =
+    subst (λ (ls : List Line). OnOk r (IsWrittenTo Two c ls new)) (sym (lines_now c es e n number))
+    (push (entry_lines es (calls c es))
+    (subst (λ (y : JournalWriter). IsWrittenTo Two c (entry_lines es (calls c es)) y) (one_writer x w is) h))
+copied_now false c es e n (Some x) w new r is h number push = absurd h
+copied_now false c es e n None w new r is h number push = absurd cc
+
+-- the copy is whole with its last line
+pub made_now : (copied : Bool) (c : Setup) (es : List Entry) (count : ℕ) (old : Option JournalWriter) (w : JournalWriter) (text : List ℕ)
+    → old ≡ Some w → IsCopied copied c es old → count ≡ length es
+    → ((lines : List Line) → IsWrittenTo Two c lines w → text ≡ head_text Two c ++ flat_map line lines ++ line (End count))
+    → IsMade copied c es (Some text)
+unfolding text_of
+made_now true c es count None w text is h number end = absurd h
+made_now true c es count (Some x) w text is h number end =
+    end (entry_lines es (calls c es))
+    (subst (λ (y : JournalWriter). IsWrittenTo Two c (entry_lines es (calls c es)) y) (one_writer x w is) h)
+    ∙ ap (λ (n : ℕ). head_text Two c ++ flat_map line (entry_lines es (calls c es)) ++ line (End n)) number
+made_now false c es count (Some x) w text is h number end = absurd h
+made_now false c es count None w text is h number end = absurd cc
+
+-- or there is none
+pub none_made : (copied : Bool) (c : Setup) (es : List Entry) (old : Option JournalWriter) → old ≡ None → IsCopied copied c es old
+    → IsMade copied c es None
+none_made true c es None is h = absurd h
+none_made true c es (Some x) is h = absurd cc
+none_made false c es None is h = tt
+none_made false c es (Some x) is h = absurd h
+
+-- ---- by the line that is wrong, if there is one
+
+-- there is none
+pub right_so : (v : Version) (copied : Bool) (c : Setup) (es : List Entry) (ns : List ℕ) (wrong : Option ℕ) (j : Judge)
+    (copy : Option JournalWriter) → wrong ≡ None → IsCourse v copied c es ns wrong j copy → IsRightTo v copied c es ns j copy
+right_so v copied c es ns None j copy is h = h
+right_so v copied c es ns (Some line) j copy is h = absurd cc
+
+pub so_right : (v : Version) (copied : Bool) (c : Setup) (es : List Entry) (ns : List ℕ) (wrong : Option ℕ) (j : Judge)
+    (copy : Option JournalWriter) → wrong ≡ None → IsRightTo v copied c es ns j copy → IsCourse v copied c es ns wrong j copy
+so_right v copied c es ns None j copy is h = h
+so_right v copied c es ns (Some line) j copy is h = absurd cc
+
+-- there is one
+pub wrong_so : (v : Version) (copied : Bool) (c : Setup) (es : List Entry) (ns : List ℕ) (wrong : Option ℕ) (line : ℕ) (j : Judge)
+    (copy : Option JournalWriter) → wrong ≡ Some line → IsCourse v copied c es ns wrong j copy → IsWrongAt v c es ns line
+wrong_so v copied c es ns wrong line j copy is h = subst (λ (o : Option ℕ). IsCourse v copied c es ns o j copy) is h
+
+-- ---- an entry more
+
+-- behind what is wrong
+pub wrong_still : (v : Version) (c : Setup) (es : List Entry) (ns : List ℕ) (told : Option ℕ) (e : Entry) (line : ℕ) → AreCallsIn v es ns
+    → AreCallsIn v (es ++ e ∷ []) (with_call told ns) → IsWrongAt v c es ns line → IsWrongAt v c (es ++ e ∷ []) (with_call told ns) line
+wrong_still v c es ns told e line before now w = record {
+  index = w.index;
+  first = still_wrong v c es ns told e w.index before now w.first;
+  place = w.place;
+}
+
+-- as the course has it
+pub course_still : (v : Version) (copied : Bool) (c : Setup) (es : List Entry) (ns : List ℕ) (told : Option ℕ) (e : Entry)
+    (wrong : Option ℕ) (line : ℕ) (j : Judge) (copy : Option JournalWriter) → wrong ≡ Some line
+    → IsCourse v copied c es ns wrong j copy → AreCallsIn v es ns → AreCallsIn v (es ++ e ∷ []) (with_call told ns)
+    → IsCourse v copied c (es ++ e ∷ []) (with_call told ns) wrong j copy
+course_still v copied c es ns told e None line j copy is h before now = absurd cc
+course_still v copied c es ns told e (Some l) line j copy is h before now = wrong_still v c es ns told e l before now h
+
+-- with another number than its call's
+pub wrong_by_number : (v : Version) (copied : Bool) (c : Setup) (es : List Entry) (ns : List ℕ) (told : Option ℕ) (e : Entry) (n line : ℕ)
+    (old new : Judge) (copy : Option JournalWriter) → IsRightTo v copied c es ns old copy → AreCallsIn v es ns
+    → AreCallsIn v (es ++ e ∷ []) (with_call told ns) → line ≡ first_line c + length es → IsJudgedNext c es e n new
+    → (((k : ℕ) → told ≡ Some k → k ≡ n) → ⊥) → IsWrongAt v c (es ++ e ∷ []) (with_call told ns) line
+wrong_by_number v copied c es ns told e n line old new copy h before now at next other = record {
+  index = length es;
+  first = wrong_now v c es ns told e before now h.right (not_right v c es ns told e n now before next.number other);
+  place = at;
+}
+
+-- not the machine's
+pub wrong_by_entry : (v : Version) (copied : Bool) (c : Setup) (es : List Entry) (ns : List ℕ) (told : Option ℕ) (e : Entry) (line : ℕ)
+    (old : Judge) (copy : Option JournalWriter) → IsRightTo v copied c es ns old copy → AreCallsIn v es ns
+    → AreCallsIn v (es ++ e ∷ []) (with_call told ns) → line ≡ first_line c + length es → (Legal c (es ++ e ∷ []) → ⊥)
+    → IsWrongAt v c (es ++ e ∷ []) (with_call told ns) line
+wrong_by_entry v copied c es ns told e line old copy h before now at other = record {
+  index = length es;
+  first = wrong_now v c es ns told e before now h.right (λ r. other r.legal);
+  place = at;
+}
+
+-- or right
+pub right_still : (v : Version) (copied : Bool) (c : Setup) (es : List Entry) (ns : List ℕ) (told : Option ℕ) (e : Entry) (n : ℕ)
+    (old new : Judge) (before_copy copy : Option JournalWriter) → IsRightTo v copied c es ns old before_copy → AreCallsIn v es ns
+    → AreCallsIn v (es ++ e ∷ []) (with_call told ns) → IsJudgedNext c es e n new → ((k : ℕ) → told ≡ Some k → k ≡ n)
+    → IsCopied copied c (es ++ e ∷ []) copy → IsRightTo v copied c (es ++ e ∷ []) (with_call told ns) new copy
+right_still v copied c es ns told e n old new before_copy copy h before now next same is = record {
+  right = right_now v c es ns told e n now before h.right next.judged.legal next.number same;
+  judged = next.judged;
+  copy_is = is;
+}
+
+-- where its line was written
+pub right_on : {A B : Type 0} (r : Result A B) (v : Version) (copied : Bool) (c : Setup) (es : List Entry) (ns : List ℕ)
+    (told : Option ℕ) (e : Entry) (n : ℕ) (wrong : Option ℕ) (old new : Judge) (before_copy copy : Option JournalWriter) → wrong ≡ None
+    → IsRightTo v copied c es ns old before_copy → AreCallsIn v es ns → AreCallsIn v (es ++ e ∷ []) (with_call told ns)
+    → IsJudgedNext c es e n new → ((k : ℕ) → told ≡ Some k → k ≡ n) → OnOk r (IsCopied copied c (es ++ e ∷ []) copy)
+    → OnOk r (IsCourse v copied c (es ++ e ∷ []) (with_call told ns) wrong new copy)
+right_on (Ok x) v copied c es ns told e n wrong old new before_copy copy none h before now next same is =
+    so_right v copied c (es ++ e ∷ []) (with_call told ns) wrong new copy none
+    (right_still v copied c es ns told e n old new before_copy copy h before now next same is)
+right_on (Err y) v copied c es ns told e n wrong old new before_copy copy none h before now next same is = tt
+
+-- ---- the end
+
+same_version : (v w : Version) → number_of v ≡ number_of w → v ≡ w
+same_version One One e = refl
+same_version One Two e = absurd cc
+same_version Two One e = absurd cc
+same_version Two Two e = refl
+
+-- with a wrong entry
+pub ends_wrong : (v : Version) (bytes : List ℕ) (c : Setup) (es : List Entry) (ns : List ℕ) (line : ℕ) → HasJournal c es
+    → IsTextIn (number_of v) bytes c es ns → IsWrongAt v c es ns line → IsIllegalAt bytes line
+ends_wrong v bytes c es ns line h t w =
+    let same = same_version v t.version t.number in
+    record {
+      version = t.version;
+      setup = c;
+      entries = es;
+      calls = ns;
+      journal = h;
+      numbers = t.calls;
+      text = t.text;
+      index = w.index;
+      first = subst (λ (x : Version). IsFirstWrong x c es ns w.index) same w.first;
+      place = w.place;
+    }
+
+-- without one
+pub ends_right : (v : Version) (copied : Bool) (bytes : List ℕ) (c : Setup) (es : List Entry) (ns : List ℕ) (count : ℕ) (j : Judge)
+    (copy : Option JournalWriter) (made : Option (List ℕ)) → IsRightTo v copied c es ns j copy → HasJournal c es
+    → IsTextIn (number_of v) bytes c es ns → count ≡ length es → IsMade copied c es made → IsWhole v copied bytes c es count made
+ends_right v copied bytes c es ns count j copy made h journal t number is =
+    let same = same_version v t.version t.number in
+    record {
+      journal = journal;
+      text = subst (λ (x : Version). bytes ≡ text_of x c es ns) (sym same) t.text
+          ∙ ap (λ (ms : List ℕ). text_of v c es ms) h.right.numbers;
+      legal = h.right.legal;
+      number = number;
+      made = is;
+    }
+
+-- so the text is a legal journal
+pub whole_is_legal : (v : Version) (copied : Bool) (bytes : List ℕ) (c : Setup) (es : List Entry) (count : ℕ) (made : Option (List ℕ))
+    → IsWhole v copied bytes c es count made → IsLegalJournal bytes count
+whole_is_legal v copied bytes c es count made w = record {
+  version = v;
+  setup = c;
+  entries = es;
+  journal = w.journal;
+  text = w.text;
+  legal = w.legal;
+  number = w.number;
+}
+
+made_so : (v : Version) (bytes : List ℕ) (c : Setup) (es : List Entry) (made : Option (List ℕ)) → bytes ≡ text_of v c es (calls_in v c es)
+    → IsMade (is_copied true v) c es made → made_of bytes made ≡ journal_text c es
+made_so One bytes c es (Some text) is m = m
+made_so One bytes c es None is m = absurd m
+made_so Two bytes c es (Some text) is m = absurd m
+made_so Two bytes c es None is m = is
+
+-- and its conversion is what was made of it
+pub whole_is_converted : (v : Version) (converts : Bool) (bytes : List ℕ) (c : Setup) (es : List Entry) (count : ℕ)
+    (made : Option (List ℕ)) → IsWhole v (is_copied converts v) bytes c es count made → converts ≡ true
+    → made_of bytes made ≡ converted bytes
+whole_is_converted v converts bytes c es count made w asked =
+    made_so v bytes c es made w.text (subst (λ (b : Bool). IsMade (is_copied b v) c es made) asked w.made)
+    ∙ sym (is_converted v bytes c es w.journal w.text)
+
+-- ---- as the judgement ends
+
+-- on a legal journal
+pub ended_legal : (v : Version) (copied : Bool) (bytes : List ℕ) (c : Setup) (es : List Entry) (r : Result Judged ReplayStatus)
+    → MatchResult r (λ j. IsWhole v copied bytes c es j.count (option_map (λ t. t.items) j.second)) (λ s. IsRefused bytes s)
+    → IfOk r (λ j. IsLegalJournal bytes j.count)
+ended_legal v copied bytes c es (Ok j) m = whole_is_legal v copied bytes c es j.count (option_map (λ t. t.items) j.second) m
+ended_legal v copied bytes c es (Err s) m = tt
+
+-- with its conversion
+pub ended_converted : (v : Version) (converts : Bool) (bytes : List ℕ) (c : Setup) (es : List Entry) (r : Result Judged ReplayStatus)
+    → converts ≡ true
+    → MatchResult r (λ j. IsWhole v (is_copied converts v) bytes c es j.count (option_map (λ t. t.items) j.second)) (λ s. IsRefused bytes s)
+    → IfOk r (λ j. made_of bytes (option_map (λ t. t.items) j.second) ≡ converted bytes)
+ended_converted v converts bytes c es (Ok j) asked m =
+    whole_is_converted v converts bytes c es j.count (option_map (λ t. t.items) j.second) m asked
+ended_converted v converts bytes c es (Err s) asked m = tt
+
+-- or on any other text
+pub ended_refused : (v : Version) (copied : Bool) (bytes : List ℕ) (c : Setup) (es : List Entry) (r : Result Judged ReplayStatus)
+    → MatchResult r (λ j. IsWhole v copied bytes c es j.count (option_map (λ t. t.items) j.second)) (λ s. IsRefused bytes s)
+    → IfErr r (λ s. IsRefused bytes s)
+ended_refused v copied bytes c es (Ok j) m = tt
+ended_refused v copied bytes c es (Err s) m = m

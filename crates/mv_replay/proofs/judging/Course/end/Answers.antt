@@ -1,0 +1,14 @@
+-- A copy has its last line, and the text is a legal journal.
+use Rattle.std.proofs.Common.{◌∙◌}
+use Rattle.mv_entrytext.specs.declared.version.Version.TheVariants.{Two}
+use Rattle.mv_replay.proofs.Courses.{right_so, made_now, ends_right}
+use Rattle.mv_replay.proofs.judging.Course.end.Goals as goal
+
+pub returns-in-Ok : goal.returns-in-Ok
+returns-in-Ok c = λ v copied bytes setup es ns h journal text number.
+    let x = c.args.self in
+    let right = right_so v copied setup es ns x.wrong x.judge x.copy c.in_default.is h in
+    ends_right v copied bytes setup es ns c.args.count x.judge x.copy _ right journal text number
+    (made_now copied setup es c.from.result x.copy c.in-Some-copy.writer c.in-Ok.text.items c.in-Some-copy.is right.copy_is
+    (c.from.ensures ∙ number)
+    (λ lines w. c.in-Ok.ensures Two setup lines w))

@@ -1,0 +1,68 @@
+-- How far a text has been judged, and what is made of it on the way.
+use Rattle.std.specs.Prelude.{◌≡◌, ℕ, ◌+◌, Bool, true, false, List, length, Option, Some, None}
+use Rattle.mv_machine.specs.declared.entry.Entry.{Entry}
+use Rattle.mv_machine.specs.Legal.{Legal}
+use Rattle.mv_machine.specs.Setup.{Setup}
+use Rattle.mv_calls.specs.declared.judge.Judge.{Judge}
+use Rattle.mv_calls.specs.Judge.{HasJudged}
+use Rattle.mv_calls.specs.Numbers.{calls}
+use Rattle.mv_entrytext.specs.declared.version.Version.{Version}
+use Rattle.mv_entrytext.specs.declared.version.Version.TheVariants.{One, Two}
+use Rattle.mv_entrytext.specs.declared.writing.JournalWriter.{JournalWriter}
+use Rattle.mv_entrytext.specs.Fault.{HasJournal}
+use Rattle.mv_entrytext.specs.Journal.{first_line, entry_lines, journal_text, text_of}
+use Rattle.mv_entrytext.specs.Writer.{IsWrittenTo}
+use Rattle.mv_replay.specs.Judgement.{calls_in, AreRight, IsFirstWrong}
+
+-- whether a text is copied in version 2, where conversions are asked for or not: one that is in version 2 is its own conversion
+abbrev pub is_copied : (converts : Bool) → Version → Bool
+is_copied converts One = converts
+is_copied converts Two = false
+
+-- the conversion: the copy, or else the text itself
+abbrev pub made_of : (text : List ℕ) → (copy : Option (List ℕ)) → List ℕ
+made_of text (Some copy) = copy
+made_of text None = text
+
+-- ---- in the middle of a text
+
+-- these entries are copied, or there is no copy
+abbrev pub IsCopied : Bool → Setup → List Entry → Option JournalWriter → Type 0
+IsCopied true c es (Some w) = IsWrittenTo Two c (entry_lines es (calls c es)) w
+IsCopied false c es None = Unit {0}
+IsCopied _ c es copy = ⊥
+
+-- these entries, with these call numbers, are right
+pub record IsRightTo (v : Version) (copied : Bool) (c : Setup) (es : List Entry) (ns : List ℕ) (j : Judge) (copy : Option JournalWriter)
+    : Type 0 where
+  pub right : AreRight v c es ns
+  pub judged : HasJudged c es j
+  pub copy_is : IsCopied copied c es copy
+
+-- or the first of them that is wrong stands on this line
+pub record IsWrongAt (v : Version) (c : Setup) (es : List Entry) (ns : List ℕ) (line : ℕ) : Type 0 where
+  pub index : ℕ
+  pub first : IsFirstWrong v c es ns index
+  pub place : line ≡ first_line c + index
+
+-- how far the text has been judged, by the line that is wrong, if there is one
+abbrev pub IsCourse : Version → Bool → Setup → List Entry → List ℕ → Option ℕ → Judge → Option JournalWriter → Type 0
+IsCourse v copied c es ns None j copy = IsRightTo v copied c es ns j copy
+IsCourse v copied c es ns (Some line) j copy = IsWrongAt v c es ns line
+
+-- ---- at its end
+
+-- the copy is whole, or there is none
+abbrev pub IsMade : Bool → Setup → List Entry → Option (List ℕ) → Type 0
+IsMade true c es (Some text) = text ≡ journal_text c es
+IsMade false c es None = Unit {0}
+IsMade _ c es copy = ⊥
+
+-- the text is a legal journal of so many entries, and this was made of it
+pub record IsWhole (v : Version) (copied : Bool) (bytes : List ℕ) (c : Setup) (es : List Entry) (count : ℕ) (copy : Option (List ℕ))
+    : Type 0 where
+  pub journal : HasJournal c es
+  pub text : bytes ≡ text_of v c es (calls_in v c es)
+  pub legal : Legal c es
+  pub number : count ≡ length es
+  pub made : IsMade copied c es copy
