@@ -26,6 +26,3 @@ pub use latch_laws::{
 pub use numbering::number_calls;
 pub use section_laws::{holders_exclude, sections_are_undisturbed};
 pub use table::{TABLE_LIMIT, Table, TableRefusal, ValidTable};
-
-#[cfg(test)]
-mod numbered_rows;

@@ -17,4 +17,6 @@ pub use replaying::replay_command;
 pub use status::ReplayStatus;
 
 #[cfg(test)]
+mod numbered_rows;
+#[cfg(test)]
 mod tests;

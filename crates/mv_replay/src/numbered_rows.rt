@@ -1,9 +1,10 @@
-//! Worked rows of call numbers.
+//! Worked rows of the call numbers of mv_calls: they stand here, where journals are judged by them, so that the proofs of mv_calls are
+//! checked once.
 
 ghost use Rattle.std.specs.Prelude.{◌≤◌, IsTrue, All};
 ghost use Rattle.mv_machine.specs.Limits.{highest_place};
 
-use super::*;
+use mv_calls::{CallsRefusal, number_calls, replay_calls};
 use mv_ecb::{EcbOp, EcbReply};
 use mv_element::{ElementOp, ElementReply};
 use mv_machine::{
