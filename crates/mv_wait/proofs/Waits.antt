@@ -16,7 +16,7 @@ use Rattle.mv_machine.specs.declared.entry.Entry.{Entry}
 use Rattle.mv_machine.specs.System.{with_at}
 use Rattle.mv_board.specs.declared.watch.Watch.{Watch}
 use Rattle.mv_board.specs.declared.watch.Watch.TheVariants as watch
-use Rattle.mv_board.specs.Faces.{CallerFace, HappenedAt, Happened, with_watch, is_complete_reply}
+use Rattle.mv_board.specs.Faces.{CallerFace, HappenedAt, Happened, is_complete_reply}
 use Rattle.mv_board.specs.View.{off}
 use Rattle.mv_calls.specs.Keeping.{Kept, kept_of, kept_after, nothing_kept}
 use Rattle.mv_calls.specs.Rest.{OpenWaits, no_waits, waits_from, waits_after, IsAtRest}

@@ -1,4 +1,4 @@
-use Rattle.std.proofs.Common.{◌<◌, sym, ap, ◌++◌, ◌∷◌, [], ◌∙◌, arith, length-set, get_or}
+use Rattle.std.proofs.Common.{sym, ap, ◌++◌, ◌∷◌, [], ◌∙◌, arith, length-set, get_or}
 use Rattle.std.proofs.lemmas.List.{take_more, take_more_set}
 use Rattle.mv_wait.proofs.waiting.put_first.Goals as goal
 

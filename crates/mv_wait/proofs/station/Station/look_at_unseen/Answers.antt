@@ -1,4 +1,4 @@
-use Rattle.std.proofs.Common.{◌≡◌, ◌-◌, ◌∙◌, ◌<◌, ◌≤◌, [], ◌∷◌, ◌++◌, length, get_or, set, refl, sym, ap, subst, arith, length-set}
+use Rattle.std.proofs.Common.{◌≡◌, ◌-◌, ◌∙◌, ◌<◌, ◌≤◌, [], ◌∷◌, ◌++◌, length, get_or, set, sym, ap, subst, arith, length-set}
 use Rattle.mv_machine.specs.declared.entry.Object.TheVariants.{Ecb}
 use Rattle.mv_machine.specs.Setup.{Setup, owner_of}
 use Rattle.mv_board.specs.declared.watch.Watch.TheVariants as watch
