@@ -1,75 +1,59 @@
 //! Whole reports to the byte, with ample memory.
 
+ghost use Rattle.std.specs.Prelude.{◌<◌, ◌-◌, ◌^◌, length};
+
 use super::*;
-use mv_deck::{After, Deck, Job, Name, Step, Text};
-use mv_latch::Mode;
+use mv_deck::{Deck, Text, read_deck};
 use std::alloc::{AllocError, Global};
 use std::process::Abort;
 use std::test::Fail;
 
-// A job, its AFTER parts as the places of jobs with the codes that they accept.
-fn job(
-    alloc: Global,
-    name: &str,
-    after: &[(u32, u32)],
-    steps: Vec<Step>,
-) -> Result<Job, AllocError> {
-    let mut parts = Vec::new(alloc);
-    for (job, most) in after {
-        parts.push(After {
-            job: *job,
-            most: *most,
-        })?;
-    }
-    Ok(Job {
-        name: Name {
-            bytes: Vec::from_slice(alloc, name.as_bytes())?,
-        },
-        after: parts,
-        steps,
-    })
+// The deck that a text states.
+fn deck_of(alloc: Global, text: &[u8]) -> Result<Deck, Fail>
+    requires { length text.now < 2 ^ 32 - 1 }
+{
+    Ok(read_deck(alloc, text, 1)?)
 }
 
-fn text(alloc: Global, text: &str) -> Result<Text, AllocError> {
-    Ok(Text {
-        bytes: Vec::from_slice(alloc, text.as_bytes())?,
-    })
-}
-
+// The lines of one job.
 fn lines(alloc: Global, texts: &[&str]) -> Result<Lines, AllocError> {
     let mut made = Vec::new(alloc);
-    for line in texts {
-        made.push(text(alloc, line)?)?;
+    for text in texts {
+        let bytes = Vec::from_slice(alloc, text.as_bytes())?;
+        made.push(Text { bytes })?;
     }
     Ok(Lines { texts: made })
 }
 
+// And of several.
+fn lines_of_all(alloc: Global, jobs: &[&[&str]]) -> Result<Vec<Lines>, AllocError> {
+    let mut made = Vec::new(alloc);
+    for texts in jobs {
+        made.push(lines(alloc, texts)?)?;
+    }
+    Ok(made)
+}
+
 #[test]
 fn each_way_to_end_has_its_line(rt: HostRuntime) -> Result<(), Fail> {
-    let alloc = rt.alloc();
-    let deck = Deck {
-        jobs: vec![in alloc;
-            job(alloc, "PAYROLL", &[], Vec::new(alloc))?,
-            job(alloc, "BACKUP", &[], Vec::new(alloc))?,
-            job(alloc, "VERIFY", &[], Vec::new(alloc))?,
-            job(alloc, "A", &[], Vec::new(alloc))?,
-            job(alloc, "$Z9", &[], Vec::new(alloc))?,
-            job(alloc, "LOAD", &[], Vec::new(alloc))?,
-            job(alloc, "B", &[], Vec::new(alloc))?,
-        ]?,
-    };
+    let jobs =
+        b"//PAYROLL JOB\n//BACKUP JOB\n//VERIFY JOB\n//A JOB\n//$Z9 JOB\n//LOAD JOB\n//B JOB\n//\n";
+    let deck = deck_of(rt.alloc(), jobs)?;
     let ends = [0, 17580032, 33554432, 16777216, 16781311, 4, 4095];
-    let lines = [
-        lines(alloc, &["| PAY RUN 7", "| DONE"])?,
-        lines(alloc, &["| COPYING"])?,
-        lines(alloc, &["| NEVER SHOWN"])?,
-        lines(alloc, &[])?,
-        lines(alloc, &["| "])?,
-        lines(alloc, &["| ROWS 9"])?,
-        lines(alloc, &[])?,
+    let table: [&[&str]; 7] = [
+        &["| PAY RUN 7", "| DONE"],
+        &["| COPYING"],
+        &["| NEVER SHOWN"],
+        &[],
+        &["| "],
+        &["| ROWS 9"],
+        &[],
     ];
+    let lines = lines_of_all(rt.alloc(), &table)?;
     let volumes = [12, 0, 0, 0, 0, 0, 700, 4294967295];
-    let report = write_report(alloc, &deck, &ends, &lines, &volumes)?;
+    assert!(rt; deck.jobs.len() == 7);
+    assert!(rt; lines.len() == 7);
+    let report = write_report(rt.alloc(), &deck, &ends, &lines, &volumes)?;
     assert_eq!(rt;
         report.as_slice(),
         b"JOB PAYROLL ENDED\n\
@@ -124,62 +108,40 @@ fn assert_outcome(
     assert_eq!(rt; expected.next().copied(), None);
 }
 
+// What a deck comes to, by its text.
+fn assert_comes_to<R: Abort>(
+    rt: &R,
+    alloc: Global,
+    deck: &[u8],
+    ends: &[u32],
+    lines: &[&[u8]],
+    volumes: [u32; 8],
+) -> Result<(), Fail>
+    requires { length deck.now < 2 ^ 32 - 1 }
+{
+    let deck = deck_of(alloc, deck)?;
+    assert_outcome(rt, &outcome_of(alloc, &deck)?, ends, lines, volumes);
+    Ok(())
+}
+
 // REPORT accepts the end of LOAD, and CLEAN does not.
 #[test]
 fn accepted_codes_let_a_job_run(rt: HostRuntime) -> Result<(), Fail> {
-    let alloc = rt.alloc();
-    let load = vec![in alloc; Step::Print(text(alloc, "ROWS 9")?), Step::Return(4)]?;
-    let report = vec![in alloc; Step::Print(text(alloc, "OK")?)]?;
-    let clean = vec![in alloc; Step::Print(text(alloc, "CLEANED")?)]?;
-    let deck = Deck {
-        jobs: vec![in alloc;
-            job(alloc, "LOAD", &[], load)?,
-            job(alloc, "REPORT", &[(0, 4)], report)?,
-            job(alloc, "CLEAN", &[(0, 0), (1, 8)], clean)?,
-        ]?,
-    };
-    let outcome = outcome_of(alloc, &deck)?;
-    assert_outcome(
-        &rt,
-        &outcome,
-        &[4, 0, 33554432],
-        &[b"| ROWS 9", b"| OK"],
-        [0; 8],
-    );
-    Ok(())
+    let deck =
+        b"// DECK 2\n//LOAD JOB\n// PRINT ROWS 9\n// RETURN 4\n//REPORT JOB AFTER=LOAD:4\n// PRINT OK\n\
+        //CLEAN JOB AFTER=LOAD,REPORT:8\n// PRINT CLEANED\n//\n";
+    let lines = [b"| ROWS 9".as_slice(), b"| OK".as_slice()];
+    assert_comes_to(&rt, rt.alloc(), deck, &[4, 0, 33554432], &lines, [0; 8])
 }
 
 // What a job counted before its ABEND stays, and a SCAN writes its line.
 #[test]
 fn counts_and_scans(rt: HostRuntime) -> Result<(), Fail> {
-    let alloc = rt.alloc();
-    let add = vec![in alloc;
-        Step::Use(1, Mode::Exclusive),
-        Step::Count(1, 5),
-        Step::Abend(17580032),
-    ]?;
-    let next = vec![in alloc;
-        Step::Use(1, Mode::Exclusive),
-        Step::Count(1, 7),
-        Step::Scan(1),
-        Step::Free(1),
-    ]?;
-    let deck = Deck {
-        jobs: vec![in alloc;
-            job(alloc, "ADD", &[], add)?,
-            job(alloc, "NEXT", &[], next)?,
-        ]?,
-    };
-    let outcome = outcome_of(alloc, &deck)?;
+    let deck = b"//ADD JOB\n// USE 1 X\n// COUNT 1 5\n// ABEND S0C4\n\
+        //NEXT JOB\n// USE 1 X\n// COUNT 1 7\n// SCAN 1\n// FREE 1\n//\n";
+    let lines = [b"| SCAN 1 STEADY".as_slice()];
     let volumes = [0, 12, 0, 0, 0, 0, 0, 0];
-    assert_outcome(
-        &rt,
-        &outcome,
-        &[17580032, 0],
-        &[b"| SCAN 1 STEADY"],
-        volumes,
-    );
-    Ok(())
+    assert_comes_to(&rt, rt.alloc(), deck, &[17580032, 0], &lines, volumes)
 }
 
 // A load of seven jobs, of which the last abends behind its COUNT.
