@@ -1,5 +1,7 @@
 -- The answers of services as answers of calls: none shows a word that was met elsewhere.
 use Rattle.std.proofs.Common.{◌≡◌, ℕ, List, [], ◌∷◌, map, Option, Some, None, Result, Ok, Err, false, refl, ap}
+use Rattle.mv_calls.specs.declared.table.Table.{Table}
+use Rattle.mv_calls.specs.Events.{Entering, EnteredAt, WasComplete}
 use Rattle.mv_calls.specs.LatchCalls.{Obtained, GrantedAs, PendingAs, Standing, Holds, Waits, IsOut}
 use Rattle.mv_calls.specs.Pauses.{Gift, Reached, CameEarly, WokeIt}
 use Rattle.mv_calls.specs.Posts.{Posting}
@@ -14,7 +16,8 @@ use Rattle.mv_wait.specs.Answers.{post_answer, slots_of}
 use Rattle.mv_script.specs.declared.answer.Answer.{Answer}
 use Rattle.mv_script.specs.declared.call.Call.{Call}
 use Rattle.mv_script.specs.declared.call.Call.TheVariants as call
-use Rattle.mv_script.specs.Answered.{refused, done_or, slot_with, posted, given, given_if_paused, reached, obtained, standing, answer_to}
+use Rattle.mv_script.specs.Answered.{refused, done_or, slot_with, posted, given, given_if_paused, reached, obtained, standing, entered}
+use Rattle.mv_script.specs.Answered.{found, answer_to}
 use Rattle.mv_script.specs.Costs.{Asked, service_of}
 use Rattle.mv_script.specs.Run.{word_in}
 use Rattle.mv_script.specs.Script.{is_obtain}
@@ -85,6 +88,10 @@ standing_none Holds = refl
 standing_none Waits = refl
 standing_none IsOut = refl
 
+entered_none : (e : Entering) → word_in (entered e) ≡ None
+entered_none (EnteredAt position) = refl
+entered_none (WasComplete code) = refl
+
 pub no_word : (s : Service) (a : service.Answer s) → word_in (answer_to s a) ≡ None
 no_word (service.Wait count blocks) a = done_none _ (λ slots. refl) a
 no_word (service.Post block code) a = posted_none a
@@ -107,30 +114,32 @@ no_word (service.ReleaseLatch latch id conditional) a = done_none _ (λ granted.
 no_word (service.Purge requestor) a = refl
 no_word (service.EndOfJob requestor block code) a = refl
 no_word (service.EndOfTask requestor mother code) a = refl
-no_word (service.PostEvent table index code) a = refl
-no_word (service.NextEvent table position) a = refl
+no_word (service.PostEvent table index code) a = done_none entered entered_none a
+no_word (service.NextEvent table position) a = done_none found (λ finding. refl) a
 
 -- ---- only an OBTAIN adds a request
 
-pub keeps_requests : (requests : List (Option Asked)) (asked : ℕ → Asked) (d : Call) (a : service.Answer (service_of asked d))
-    → is_obtain d ≡ false → requests_with requests (service_of asked d) a ≡ requests
-keeps_requests requests asked (call.Wait count ecbs) a other = refl
-keeps_requests requests asked (call.Post ecb code) a other = refl
-keeps_requests requests asked (call.TryPost ecb place code) a other = refl
-keeps_requests requests asked (call.Clear ecb) a other = refl
-keeps_requests requests asked (call.Extend ecb exit) a other = refl
-keeps_requests requests asked (call.Test ecb) a other = refl
-keeps_requests requests asked (call.Read volume) a other = refl
-keeps_requests requests asked (call.Write volume number) a other = refl
-keeps_requests requests asked call.Alloc a other = refl
-keeps_requests requests asked (call.Pause token) a other = refl
-keeps_requests requests asked (call.Release token code) a other = refl
-keeps_requests requests asked (call.TryRelease token place code) a other = refl
-keeps_requests requests asked (call.Transfer current target code) a other = refl
-keeps_requests requests asked (call.Dealloc token) a other = refl
-keeps_requests requests asked (call.TestElement element) a other = refl
-keeps_requests requests asked (call.Obtain latch requestor mode form) a other = absurd (cc other)
-keeps_requests requests asked (call.Check k) a other = refl
-keeps_requests requests asked (call.Free k conditional) a other = refl
-keeps_requests requests asked (call.Purge requestor) a other = refl
-keeps_requests requests asked (call.EndTask requestor mother code) a other = refl
+pub keeps_requests : (table : Table) (requests : List (Option Asked)) (asked : ℕ → Asked) (d : Call)
+    (a : service.Answer (service_of table asked d)) → is_obtain d ≡ false → requests_with requests (service_of table asked d) a ≡ requests
+keeps_requests table requests asked (call.Wait count ecbs) a other = refl
+keeps_requests table requests asked (call.Post ecb code) a other = refl
+keeps_requests table requests asked (call.TryPost ecb place code) a other = refl
+keeps_requests table requests asked (call.Clear ecb) a other = refl
+keeps_requests table requests asked (call.Extend ecb exit) a other = refl
+keeps_requests table requests asked (call.Test ecb) a other = refl
+keeps_requests table requests asked (call.Read volume) a other = refl
+keeps_requests table requests asked (call.Write volume number) a other = refl
+keeps_requests table requests asked call.Alloc a other = refl
+keeps_requests table requests asked (call.Pause token) a other = refl
+keeps_requests table requests asked (call.Release token code) a other = refl
+keeps_requests table requests asked (call.TryRelease token place code) a other = refl
+keeps_requests table requests asked (call.Transfer current target code) a other = refl
+keeps_requests table requests asked (call.Dealloc token) a other = refl
+keeps_requests table requests asked (call.TestElement element) a other = refl
+keeps_requests table requests asked (call.Obtain latch requestor mode form) a other = absurd (cc other)
+keeps_requests table requests asked (call.Check k) a other = refl
+keeps_requests table requests asked (call.Free k conditional) a other = refl
+keeps_requests table requests asked (call.Purge requestor) a other = refl
+keeps_requests table requests asked (call.EndTask requestor mother code) a other = refl
+keeps_requests table requests asked (call.PostEvent index code) a other = refl
+keeps_requests table requests asked (call.NextEvent position) a other = refl

@@ -23,7 +23,7 @@ use Rattle.mv_script.specs.declared.answer.Answer.{Answer}
 use Rattle.mv_script.specs.Costs.{costs_of}
 use Rattle.mv_script.specs.Run.{word_in, taken, entries_before, IsMet}
 use Rattle.mv_script.specs.Script.{ScriptData}
-use Rattle.mv_script.specs.Tasks.{Moves, no_past, made_all, calls_at, task_program}
+use Rattle.mv_script.specs.Tasks.{Moves, no_past, named_table, made_all, calls_at, task_program}
 use Rattle.mv_runscript.specs.Making.{past_with, MakesCalls}
 use Rattle.mv_runscript.proofs.Lists.{all_between, get_of_take}
 use Rattle.mv_runscript.proofs.Paths.{call_went, path_went, path_served, path_among}
@@ -48,7 +48,7 @@ some_met (Some a) w is = (a, refl, is)
 
 module _ (script : ScriptData) (moves : Moves) (es : List Entry) (k : ℕ) (answers : List Answer) (tokens : List (Option LatchToken))
     (t u : CallerFace) (number : t.number ≡ k) (log : t.log ≡ []) (told : t.told ≡ [])
-    (makes : MakesCalls script.setup (calls_at script k) answers [] tokens t u) (within : IsIn script.setup es u)
+    (makes : MakesCalls script.setup script.table (calls_at script k) answers [] tokens t u) (within : IsIn script.setup es u)
     (words : (j : ℕ) → moves k j ≡ option_and_then word_in (slice_get answers j)) where
   from_first : (j : ℕ) → moves k (0 + j) ≡ moves k j
   from_first j = ap (λ n. moves k n) (let e : 0 + j ≡ j = omega arith in e)
@@ -57,7 +57,7 @@ module _ (script : ScriptData) (moves : Moves) (es : List Entry) (k : ℕ) (answ
   quiet = subst IsAtRest (sym log) new_at_rest
 
   same_number : u.number ≡ k
-  same_number = (path_went script.setup (calls_at script k) answers [] tokens t u makes).1.same.number ∙ number
+  same_number = (path_went script.setup script.table (calls_at script k) answers [] tokens t u makes).1.same.number ∙ number
 
   heard_own : heard_in script.setup k es ≡ noted u.log u.told
   heard_own =
@@ -78,12 +78,14 @@ module _ (script : ScriptData) (moves : Moves) (es : List Entry) (k : ℕ) (answ
   -- its program is done with its answers
   pub task_done : IsDoneOn (task_program script moves k) (heard_in script.setup k es) (past_with answers tokens)
   task_done =
-      let s = path_served script.setup (moves k) (calls_at script k) answers [] [] tokens t u
+      let s = path_served script.setup script.table (moves k) (calls_at script k) answers [] [] tokens t u
       (λ j lt. from_first j ∙ words j) quiet makes in
       let runs = served_runs (costs_of script.setup (calls_at script k))
-      (made_all script.setup (moves k) (past_with [] []) (calls_at script k)) (λ past. past ≡ past_with answers tokens) t u s in
+      (made_all script.setup (named_table script.table) (moves k) (past_with [] []) (calls_at script k))
+      (λ past. past ≡ past_with answers tokens) t u s in
       subst (λ hs. IsDoneOn (task_program script moves k) hs (past_with answers tokens)) (sym (heard_went runs.events runs.went))
-      (subst (λ kept. IsDoneOn (made_all script.setup (moves k) no_past (calls_at script k) kept) runs.events (past_with answers tokens))
+      (subst (λ kept. IsDoneOn (made_all script.setup (named_table script.table) (moves k) no_past (calls_at script k) kept) runs.events
+      (past_with answers tokens))
       begun
       (record { says = runs.says; done = runs.rest ∙ ap (λ p. Done p) s.is }))
 
@@ -91,23 +93,27 @@ module _ (script : ScriptData) (moves : Moves) (es : List Entry) (k : ℕ) (answ
   pub task_met : (i w : ℕ) → moves k i ≡ Some w → IsMet script moves es k i w
   task_met i w is =
       let shown = some_met (slice_get answers i) w (sym (words i) ∙ is) in
-      let r = path_among script.setup (calls_at script k) answers [] tokens t u i shown.0 makes shown.1 in
+      let r = path_among script.setup script.table (calls_at script k) answers [] tokens t u i shown.0 makes shown.1 in
       let met = r.own.met w shown.2 in
-      let s = path_served script.setup (moves k) (take i (calls_at script k)) (take i answers) [] [] r.had t r.before
+      let s = path_served script.setup script.table (moves k) (take i (calls_at script k)) (take i answers) [] [] r.had t r.before
       (λ j lt. from_first j ∙ words j ∙ ap (λ o. option_and_then word_in o) (sym (get_of_take answers i j lt))) quiet r.first in
       let first = served_runs (costs_of script.setup (take i (calls_at script k)))
-      (made_all script.setup (moves k) (past_with [] []) (take i (calls_at script k))) (λ past. past ≡ past_with (take i answers) r.had)
+      (made_all script.setup (named_table script.table) (moves k) (past_with [] []) (take i (calls_at script k)))
+      (λ past. past ≡ past_with (take i answers) r.had)
       t r.before s in
-      let own = call_went script.setup r.call shown.0 r.had r.got r.before r.behind r.own in
+      let own = call_went script.setup script.table r.call shown.0 r.had r.got r.before r.behind r.own in
       let rest = went_then own.0 r.later r.before r.behind u own.1 r.went in
       let heard : heard_in script.setup k es ≡ first.events ++ (own.0 ++ r.later) =
       heard_went (first.events ++ (own.0 ++ r.later))
       (went_then first.events (own.0 ++ r.later) t r.before u first.went rest) in
       let entries_is : entries_before script moves es k i ≡ length first.events =
-      ap (λ hs. taken (made_all script.setup (moves k) no_past (take i (calls_at script k)) (nothing_kept k)) hs) heard
-      ∙ ap (λ kept. taken (made_all script.setup (moves k) no_past (take i (calls_at script k)) kept) (first.events ++ (own.0 ++ r.later)))
+      ap (λ hs. taken (made_all script.setup (named_table script.table) (moves k) no_past (take i (calls_at script k)) (nothing_kept k))
+      hs) heard
+      ∙ ap (λ kept. taken (made_all script.setup (named_table script.table) (moves k) no_past (take i (calls_at script k)) kept)
+      (first.events ++ (own.0 ++ r.later)))
       (sym begun)
-      ∙ taken_is (made_all script.setup (moves k) no_past (take i (calls_at script k)) (kept_of t.number t.log)) first.events
+      ∙ taken_is (made_all script.setup (named_table script.table) (moves k) no_past (take i (calls_at script k))
+      (kept_of t.number t.log)) first.events
       (own.0 ++ r.later) s.answer first.says first.rest in
       let after : length r.before.log ≡ length first.events =
       ap (λ (es : List Entry). length es) (first.went.logged ∙ ap (λ es. es ++ entries first.events) log)

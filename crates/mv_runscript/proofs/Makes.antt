@@ -13,6 +13,7 @@ use Rattle.mv_calls.specs.Services as service
 use Rattle.mv_latchset.specs.declared.token.LatchToken.{LatchToken}
 use Rattle.mv_machine.specs.declared.entry.Object.{Object}
 use Rattle.mv_machine.specs.Setup.{Setup}
+use Rattle.mv_calls.specs.declared.table.Table.{Table}
 use Rattle.mv_wait.specs.Run.{IsServed}
 use Rattle.mv_wait.proofs.Runs.{runs_none, runs_within, runs_look, went_look, serves}
 use Rattle.mv_script.specs.declared.answer.Answer.{Answer}
@@ -23,7 +24,7 @@ use Rattle.mv_script.specs.Costs.{Asked, service_of, cost}
 use Rattle.mv_script.specs.Fault.{obtain_meant}
 use Rattle.mv_script.specs.Run.{tried, word_in}
 use Rattle.mv_script.specs.Script.{is_obtain}
-use Rattle.mv_script.specs.Tasks.{Past, request_of, lacks_request, requests_with, served, made}
+use Rattle.mv_script.specs.Tasks.{Past, request_of, lacks_request, requests_with, served, named_table, made}
 use Rattle.mv_script.proofs.Suffices.{suffices}
 use Rattle.mv_runscript.specs.Making.{asked_by, requests_of, past_with, HasMet, MakesCall}
 use Rattle.mv_runscript.specs.Served.{Serves}
@@ -33,65 +34,66 @@ use Rattle.mv_runscript.proofs.Served.{served_so, served_none, served_then}
 -- ---- a call that is its service's
 
 -- the service that a call asks for, where the task's OBTAINs got these requests
-abbrev pub asks : Call → List (Option LatchToken) → Service
-asks d tokens = service_of (request_of (requests_of tokens)) d
+abbrev pub asks : Option Table → Call → List (Option LatchToken) → Service
+asks table d tokens = service_of (named_table table) (request_of (requests_of tokens)) d
 
 -- where it lacks no request
-unmoved : (c : Setup) (past : Past) (d : Call) → lacks_request past.requests (obtain_meant d) ≡ false
-    → made c None past d ≡ followed (service.program c (service_of (request_of past.requests) d))
-    (λ a. finished (served past (service_of (request_of past.requests) d) a))
-unmoved c past d has = rw has refl
+unmoved : (c : Setup) (table : Option Table) (past : Past) (d : Call) → lacks_request past.requests (obtain_meant d) ≡ false
+    → made c (named_table table) None past d ≡ followed (service.program c (service_of (named_table table) (request_of past.requests) d))
+    (λ a. finished (served past (service_of (named_table table) (request_of past.requests) d) a))
+unmoved c table past d has = rw has refl
 
 -- its service answered so, and left these requests
-makes : {c : Setup} {d : Call} {reply : Answer} {old new : List (Option LatchToken)} {t u : CallerFace}
-    {Is : service.Answer (asks d old) → Type 0}
+makes : {c : Setup} {table : Option Table} {d : Call} {reply : Answer} {old new : List (Option LatchToken)} {t u : CallerFace}
+    {Is : service.Answer (asks table d old) → Type 0}
     → lacks_request (requests_of old) (obtain_meant d) ≡ false
-    → (x : IsServed (most_events c (kept_of t.number t.log) (asks d old)) (service.program c (asks d old)) Is t u)
-    → answer_to (asks d old) x.answer ≡ reply
-    → requests_with (requests_of old) (asks d old) x.answer ≡ requests_of new → MakesCall c d reply old new t u
-makes {c} {d} {reply} {old} {new} {t} {u} {Is} has x is more = record {
-  served = λ answers. subst (λ m. IsServed (cost c d) (made c m (past_with answers old) d)
+    → (x : IsServed (most_events c (kept_of t.number t.log) (asks table d old)) (service.program c (asks table d old)) Is t u)
+    → answer_to (asks table d old) x.answer ≡ reply
+    → requests_with (requests_of old) (asks table d old) x.answer ≡ requests_of new → MakesCall c table d reply old new t u
+makes {c} {table} {d} {reply} {old} {new} {t} {u} {Is} has x is more = record {
+  served = λ answers. subst (λ m. IsServed (cost c d) (made c (named_table table) m (past_with answers old) d)
       (λ past. past ≡ past_with (answers ++ reply ∷ []) new) t u) (sym none)
       (subst (λ call. IsServed (cost c d) call (λ past. past ≡ past_with (answers ++ reply ∷ []) new) t u)
-      (sym (unmoved c (past_with answers old) d has))
-      (served_so (most_events c (kept_of t.number t.log) (asks d old)) (cost c d)
-      (followed (service.program c (asks d old)) (λ a. finished (served (past_with answers old) (asks d old) a)))
+      (sym (unmoved c table (past_with answers old) d has))
+      (served_so (most_events c (kept_of t.number t.log) (asks table d old)) (cost c d)
+      (followed (service.program c (asks table d old)) (λ a. finished (served (past_with answers old) (asks table d old) a)))
       (λ past. past ≡ past_with (answers ++ reply ∷ []) new) (λ past. past ≡ past_with (answers ++ reply ∷ []) new) t u
-      (suffices c (kept_of t.number t.log) (request_of (requests_of old)) d) (λ past same. same)
-      (served_then (most_events c (kept_of t.number t.log) (asks d old)) (service.program c (asks d old))
-      (served (past_with answers old) (asks d old)) Is
+      (suffices c (kept_of t.number t.log) (named_table table) (request_of (requests_of old)) d) (λ past same. same)
+      (served_then (most_events c (kept_of t.number t.log) (asks table d old)) (service.program c (asks table d old))
+      (served (past_with answers old) (asks table d old)) Is
       (λ past. past ≡ past_with (answers ++ reply ∷ []) new) t u x (behind answers))));
   met = λ w shown. absurd (cc (sym none ∙ shown));
 } where
   none : word_in reply ≡ None
-  none = ap word_in (sym is) ∙ no_word (asks d old) x.answer
+  none = ap word_in (sym is) ∙ no_word (asks table d old) x.answer
 
-  behind : (answers : List Answer) → served (past_with answers old) (asks d old) x.answer ≡ past_with (answers ++ reply ∷ []) new
+  behind : (answers : List Answer) → served (past_with answers old) (asks table d old) x.answer ≡ past_with (answers ++ reply ∷ []) new
   behind answers =
-      ap (λ b. record { answers = answers ++ b ∷ []; requests = requests_with (requests_of old) (asks d old) x.answer }) is
+      ap (λ b. record { answers = answers ++ b ∷ []; requests = requests_with (requests_of old) (asks table d old) x.answer }) is
       ∙ ap (λ rs. record { answers = answers ++ reply ∷ []; requests = rs }) more
 
 -- with an answer that is known
-pub known_makes : {c : Setup} {d : Call} {reply : Answer} {old new : List (Option LatchToken)} {t u : CallerFace}
-    {a : service.Answer (asks d old)}
-    → lacks_request (requests_of old) (obtain_meant d) ≡ false → reply ≡ answer_to (asks d old) a
-    → IsServed (most_events c (kept_of t.number t.log) (asks d old)) (service.program c (asks d old)) (λ b. b ≡ a) t u
-    → requests_with (requests_of old) (asks d old) a ≡ requests_of new → MakesCall c d reply old new t u
-known_makes {c} {d} {reply} {old} {new} {t} {u} {a} has is x more =
-    makes has x (ap (answer_to (asks d old)) x.is ∙ sym is) (ap (requests_with (requests_of old) (asks d old)) x.is ∙ more)
+pub known_makes : {c : Setup} {table : Option Table} {d : Call} {reply : Answer} {old new : List (Option LatchToken)} {t u : CallerFace}
+    {a : service.Answer (asks table d old)}
+    → lacks_request (requests_of old) (obtain_meant d) ≡ false → reply ≡ answer_to (asks table d old) a
+    → IsServed (most_events c (kept_of t.number t.log) (asks table d old)) (service.program c (asks table d old)) (λ b. b ≡ a) t u
+    → requests_with (requests_of old) (asks table d old) a ≡ requests_of new → MakesCall c table d reply old new t u
+known_makes {c} {table} {d} {reply} {old} {new} {t} {u} {a} has is x more =
+    makes has x (ap (answer_to (asks table d old)) x.is ∙ sym is) (ap (requests_with (requests_of old) (asks table d old)) x.is ∙ more)
 
 -- a call that is no OBTAIN and lacks none
-keeps : {c : Setup} {d : Call} {reply : Answer} {tokens : List (Option LatchToken)} {t u : CallerFace}
-    → lacks_request (requests_of tokens) (obtain_meant d) ≡ false → is_obtain d ≡ false → Serves c (asks d tokens) reply t u
-    → MakesCall c d reply tokens tokens t u
-keeps {c} {d} {reply} {tokens} {t} {u} has other x =
-    makes has x x.is (keeps_requests (requests_of tokens) (request_of (requests_of tokens)) d x.answer other)
+keeps : {c : Setup} {table : Option Table} {d : Call} {reply : Answer} {tokens : List (Option LatchToken)} {t u : CallerFace}
+    → lacks_request (requests_of tokens) (obtain_meant d) ≡ false → is_obtain d ≡ false → Serves c (asks table d tokens) reply t u
+    → MakesCall c table d reply tokens tokens t u
+keeps {c} {table} {d} {reply} {tokens} {t} {u} has other x =
+    makes has x x.is (keeps_requests (named_table table) (requests_of tokens) (request_of (requests_of tokens)) d x.answer other)
 
 -- a call that is no OBTAIN and means none
-pub plain_makes : {c : Setup} {e : Call} (d : Call) {reply : Answer} {tokens : List (Option LatchToken)} {t u : CallerFace} → e ≡ d
-    → is_obtain d ≡ false → obtain_meant d ≡ None → Serves c (asks d tokens) reply t u → MakesCall c e reply tokens tokens t u
-plain_makes {c} {e} d {reply} {tokens} {t} {u} same other none x =
-    subst (λ d. MakesCall c d reply tokens tokens t u) (sym same) (keeps (ap (lacks_request (requests_of tokens)) none) other x)
+pub plain_makes : {c : Setup} {table : Option Table} {e : Call} (d : Call) {reply : Answer} {tokens : List (Option LatchToken)}
+    {t u : CallerFace} → e ≡ d → is_obtain d ≡ false → obtain_meant d ≡ None → Serves c (asks table d tokens) reply t u → MakesCall c
+    table e reply tokens tokens t u
+plain_makes {c} {table} {e} d {reply} {tokens} {t} {u} same other none x =
+    subst (λ d. MakesCall c table d reply tokens tokens t u) (sym same) (keeps (ap (lacks_request (requests_of tokens)) none) other x)
 
 -- ---- a call that means an OBTAIN
 
@@ -101,7 +103,8 @@ request_is [] n = refl
 request_is (token ∷ tokens) zero = refl
 request_is (token ∷ tokens) (suc n) = request_is tokens n
 
-module _ (c : Setup) (d : Call) (k : ℕ) (tokens : List (Option LatchToken)) (t : CallerFace) (means : obtain_meant d ≡ Some k) where
+module _ (c : Setup) (table : Option Table) (d : Call) (k : ℕ) (tokens : List (Option LatchToken)) (t : CallerFace)
+    (means : obtain_meant d ≡ Some k) where
   -- what it is found to have got
   lacks_as : (got : Option LatchToken) → get_or tokens (k - 1) None ≡ got
       → lacks_request (requests_of tokens) (obtain_meant d) ≡ is_none (option_map asked_by got)
@@ -111,8 +114,8 @@ module _ (c : Setup) (d : Call) (k : ℕ) (tokens : List (Option LatchToken)) (t
 
   -- which got this request, of which a service is asked
   pub held_makes : (of : Asked → Service) (token : LatchToken) (reply : Answer) (u : CallerFace)
-      → asks d tokens ≡ of (request_of (requests_of tokens) k) → get_or tokens (k - 1) None ≡ Some token → is_obtain d ≡ false
-      → Serves c (of (asked_by token)) reply t u → MakesCall c d reply tokens tokens t u
+      → asks table d tokens ≡ of (request_of (requests_of tokens) k) → get_or tokens (k - 1) None ≡ Some token → is_obtain d ≡ false
+      → Serves c (of (asked_by token)) reply t u → MakesCall c table d reply tokens tokens t u
   held_makes of token reply u asked is other x =
       keeps (lacks_as (Some token) is) other (subst (λ s. Serves c s reply t u) (ap of (sym held) ∙ sym asked) x) where
         held : request_of (requests_of tokens) k ≡ asked_by token
@@ -120,27 +123,28 @@ module _ (c : Setup) (d : Call) (k : ℕ) (tokens : List (Option LatchToken)) (t
             (request_is tokens (k - 1) ∙ ap (λ o. option_map asked_by o) is)
 
   -- which got none
-  pub unheld_makes : get_or tokens (k - 1) None ≡ None → IsAtRest t.log → MakesCall c d answer.NoToken tokens tokens t t
+  pub unheld_makes : get_or tokens (k - 1) None ≡ None → IsAtRest t.log → MakesCall c table d answer.NoToken tokens tokens t t
   unheld_makes is quiet = record {
-    served = λ answers. served_so 0 (cost c d) (made c None (past_with answers tokens) d)
+    served = λ answers. served_so 0 (cost c d) (made c (named_table table) None (past_with answers tokens) d)
         (λ past. past ≡ past_with (answers ++ answer.NoToken ∷ []) tokens)
         (λ past. past ≡ past_with (answers ++ answer.NoToken ∷ []) tokens)
         t t (omega arith) (λ past same. same)
-        (served_none (made c None (past_with answers tokens) d) (past_with (answers ++ answer.NoToken ∷ []) tokens)
+        (served_none (made c (named_table table) None (past_with answers tokens) d) (past_with (answers ++ answer.NoToken ∷ []) tokens)
         (λ past. past ≡ past_with (answers ++ answer.NoToken ∷ []) tokens) t (ends answers) refl quiet);
     met = λ w is. absurd (cc is);
   } where
-    ends : (answers : List Answer) → made c None (past_with answers tokens) d (kept_of t.number t.log)
+    ends : (answers : List Answer) → made c (named_table table) None (past_with answers tokens) d (kept_of t.number t.log)
         ≡ program.Done (past_with (answers ++ answer.NoToken ∷ []) tokens)
     ends answers = rw (lacks_as None is) refl
 
 -- ---- a try that met another word
 
-pub missed_makes : {c : Setup} {d : Call} {o : Object} {expected : ℕ} {moved : Moved} {tokens : List (Option LatchToken)} {t u : CallerFace}
+pub missed_makes : {c : Setup} {table : Option Table} {d : Call} {o : Object} {expected : ℕ} {moved : Moved}
+    {tokens : List (Option LatchToken)} {t u : CallerFace}
     → tried d ≡ Some (o, expected) → IsAtRest t.log → Missed t o expected moved u
-    → MakesCall c d (answer.Moved moved.0) tokens tokens t u
-missed_makes {c} {d} {o} {expected} {moved} {tokens} {t} {u} tries quiet missed = record {
-  served = λ answers. serves (cost c d) (made c (Some moved.0) (past_with answers tokens) d)
+    → MakesCall c table d (answer.Moved moved.0) tokens tokens t u
+missed_makes {c} {table} {d} {o} {expected} {moved} {tokens} {t} {u} tries quiet missed = record {
+  served = λ answers. serves (cost c d) (made c (named_table table) (Some moved.0) (past_with answers tokens) d)
       (λ past. past ≡ past_with (answers ++ answer.Moved moved.0 ∷ []) tokens) t u
       (past_with (answers ++ answer.Moved moved.0 ∷ []) tokens) quiet refl
       (runs_within 0 (cost c d) (program.Done (past_with (answers ++ answer.Moved moved.0 ∷ []) tokens))

@@ -1,5 +1,5 @@
 -- Seats with new tasks, what their work comes to, and the run that they made together.
-use Rattle.std.proofs.Common.{◌≡◌, ℕ, suc, ◌+◌, ◌<◌, List, [], ◌∷◌, ◌++◌, length, get_or, map, Some}
+use Rattle.std.proofs.Common.{◌≡◌, ℕ, suc, ◌+◌, ◌<◌, List, [], ◌∷◌, ◌++◌, length, get_or, map, Option, Some}
 use Rattle.std.proofs.Common.{refl, sym, ap, ◌∙◌, subst, arith, length-append, below_more}
 use Rattle.std.specs.Prelude.{slice_get, option_and_then}
 use Rattle.std.specs.List.{AllByRecursion, range_with_len}
@@ -9,6 +9,7 @@ use Rattle.std.proofs.lemmas.Option.{slice_get-get_or, unwrap_or-slice_get}
 use Rattle.mv_board.specs.Faces.{BoardFace, CallerFace, IsOf, IsFresh, AreFresh, AreInOrder, IsIn, IsSame}
 use Rattle.mv_machine.specs.declared.entry.Entry.{Entry}
 use Rattle.mv_machine.specs.Legal.{Legal}
+use Rattle.mv_calls.specs.declared.table.Table.{Table}
 use Rattle.mv_calls.specs.Program.{IsDoneOn}
 use Rattle.mv_calls.specs.Runs.{heard_in}
 use Rattle.mv_calls.proofs.Interleaved.{finish}
@@ -79,11 +80,12 @@ pub record IsRunOf (script : ScriptData) (lists : List (List Answer)) (es : List
   pub run : IsScriptRun script (moves_in lists) es
   pub answers : lists ≡ script_answers script (moves_in lists) es
 
-module _ (b : BoardFace) (calls : List (List Call)) (old new : List Seat) (ready : AreReady b calls old) (count : length new ≡ length old)
-    (worked : HaveWorked b.config calls old new) where
+module _ (b : BoardFace) (table : Option Table) (calls : List (List Call)) (old new : List Seat) (ready : AreReady b calls old)
+    (count : length new ≡ length old)
+    (worked : HaveWorked b.config table calls old new) where
   went_at : (k : ℕ) (d : Seat) → k < length old → IsSame (task_of (get_or old k d)) (task_of (get_or new k d))
   went_at k d lt =
-      (path_went b.config (get_or calls k []) (answers_of (get_or new k d)) [] (get_or new k d).requests.items
+      (path_went b.config table (get_or calls k []) (answers_of (get_or new k d)) [] (get_or new k d).requests.items
       (task_of (get_or old k d)) (task_of (get_or new k d)) (worked k d lt)).1.same
 
   -- once they have worked they are the board's tasks, in order
@@ -95,10 +97,10 @@ module _ (b : BoardFace) (calls : List (List Call)) (old new : List Seat) (ready
         same.number ∙ was.number ∙ (let e : k ≡ 0 + k = omega arith in e),
       ))
 
-  module _ (es : List Entry) (sound : IsSound (script_with b.config calls)) (size : length old ≡ length calls)
+  module _ (es : List Entry) (sound : IsSound (script_with b.config table calls)) (size : length old ≡ length calls)
       (legal : Legal b.config es) (within : AllByRecursion (IsIn b.config es) (map task_of new)) where
     abbrev script : ScriptData
-    script = script_with b.config calls
+    script = script_with b.config table calls
 
     abbrev lists : List (List Answer)
     lists = map answers_of new
@@ -124,9 +126,9 @@ module _ (b : BoardFace) (calls : List (List Call)) (old new : List Seat) (ready
           subst (IsIn b.config es) (get_or-map task_of new k d (task_of d) (omega arith))
           (one_of (IsIn b.config es) (map task_of new) k (task_of d) within (omega arith))
 
-      makes_at : MakesCalls b.config (calls_at script k) (answers_of (get_or new k d)) [] (get_or new k d).requests.items
+      makes_at : MakesCalls b.config table (calls_at script k) (answers_of (get_or new k d)) [] (get_or new k d).requests.items
           (task_of (get_or old k d)) (task_of (get_or new k d))
-      makes_at = subst (λ cs. MakesCalls b.config cs (answers_of (get_or new k d)) [] (get_or new k d).requests.items
+      makes_at = subst (λ cs. MakesCalls b.config table cs (answers_of (get_or new k d)) [] (get_or new k d).requests.items
           (task_of (get_or old k d)) (task_of (get_or new k d))) (calls_are k) (worked k d lt)
 
       done_at : IsDoneOn (task_program script moves k) (heard_in b.config k es)
@@ -149,7 +151,7 @@ module _ (b : BoardFace) (calls : List (List Call)) (old new : List Seat) (ready
     run_by : Seat → IsScriptRun script moves es
     run_by d = record {
       finish = finish b.config (task_program script moves) es legal (λ k lt.
-          let n = task_count b.config calls sound in (_, done_at k d (omega arith)));
+          let n = task_count b.config table calls sound in (_, done_at k d (omega arith)));
       met = λ k i w lt is. met_at k d (omega arith) i w is;
     }
 

@@ -8,12 +8,13 @@ use Rattle.mv_board.specs.Faces.{BoardFace, CallerFace, IsOf}
 use Rattle.mv_calls.specs.Rest.{IsAtRest}
 use Rattle.mv_latchset.specs.declared.token.LatchToken.{LatchToken}
 use Rattle.mv_machine.specs.Setup.{Setup}
+use Rattle.mv_calls.specs.declared.table.Table.{Table}
 use Rattle.mv_wait.proofs.Compose.{still_served}
 use Rattle.mv_script.specs.declared.answer.Answer.{Answer}
 use Rattle.mv_script.specs.declared.call.Call.{Call}
 use Rattle.mv_script.specs.Costs.{cost, costs_of}
 use Rattle.mv_script.specs.Run.{word_in}
-use Rattle.mv_script.specs.Tasks.{made}
+use Rattle.mv_script.specs.Tasks.{named_table, made}
 use Rattle.mv_runscript.specs.Making.{past_with, MakesCall, MakesCalls}
 use Rattle.mv_runscript.proofs.Paths.{path_on}
 
@@ -39,16 +40,18 @@ module _ (calls : List Call) (i : ℕ) (d : Call) (lt : i < length calls) (is : 
   cost_more c = ap (costs_of c) dropped_more ∙ sum_by-cons (cost c) d (drop (i + 1) calls)
 
   -- the calls that were made
-  pub path_more : (c : Setup) (answers : List Answer) (a : Answer) (old between new : List (Option LatchToken)) (t u v : CallerFace)
-      → MakesCalls c (take i calls) answers old between t u → MakesCall c d a between new u v
-      → MakesCalls c (take (i + 1) calls) (answers ++ a ∷ []) old new t v
-  path_more c answers a old between new t u v p x =
-      subst (λ (cs : List Call). MakesCalls c cs (answers ++ a ∷ []) old new t v) (sym taken_more)
-      (path_on c (take i calls) d answers a old between new t u v p x)
+  pub path_more : (c : Setup) (table : Option Table) (answers : List Answer) (a : Answer) (old between new : List (Option LatchToken))
+      (t u v : CallerFace)
+      → MakesCalls c table (take i calls) answers old between t u → MakesCall c table d a between new u v
+      → MakesCalls c table (take (i + 1) calls) (answers ++ a ∷ []) old new t v
+  path_more c table answers a old between new t u v p x =
+      subst (λ (cs : List Call). MakesCalls c table cs (answers ++ a ∷ []) old new t v) (sym taken_more)
+      (path_on c table (take i calls) d answers a old between new t u v p x)
 
 -- ---- what a call leaves
 
-module _ (c : Setup) (d : Call) (a : Answer) (old new : List (Option LatchToken)) (t u : CallerFace) (x : MakesCall c d a old new t u) where
+module _ (c : Setup) (table : Option Table) (d : Call) (a : Answer) (old new : List (Option LatchToken)) (t u : CallerFace)
+    (x : MakesCall c table d a old new t u) where
   pub call_spends : t.left ≤ u.left + cost c d
   call_spends = let s = x.served [] in let few = s.made.few in let left = s.left in omega arith
 
@@ -57,4 +60,5 @@ module _ (c : Setup) (d : Call) (a : Answer) (old new : List (Option LatchToken)
 
   pub call_keeps_board : (b : BoardFace) → IsOf b t → IsOf b u
   call_keeps_board b of =
-      still_served b (cost c d) (made c (word_in a) (past_with [] old) d) (λ past. past ≡ past_with ([] ++ a ∷ []) new) t u (x.served []) of
+      still_served b (cost c d) (made c (named_table table) (word_in a) (past_with [] old) d)
+      (λ past. past ≡ past_with ([] ++ a ∷ []) new) t u (x.served []) of

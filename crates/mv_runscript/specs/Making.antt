@@ -9,6 +9,7 @@ use Rattle.mv_latchset.specs.declared.obtaining.ObtainRefusal.{ObtainRefusal}
 use Rattle.mv_latchset.specs.declared.token.LatchToken.{LatchToken}
 use Rattle.mv_machine.specs.declared.entry.Object.{Object}
 use Rattle.mv_machine.specs.Setup.{Setup}
+use Rattle.mv_calls.specs.declared.table.Table.{Table}
 use Rattle.mv_wait.specs.declared.waiting.WaitSlot.{WaitSlot}
 use Rattle.mv_wait.specs.Run.{IsServed}
 use Rattle.mv_script.specs.declared.answer.Answer.{Answer}
@@ -18,7 +19,7 @@ use Rattle.mv_script.specs.Costs.{Asked, cost}
 use Rattle.mv_script.specs.Limits.{elements_per_task, volumes, latches, most_waited}
 use Rattle.mv_script.specs.Run.{tried, word_in}
 use Rattle.mv_script.specs.Sound.{IfThere, HasGoodNumbers, IsSoundCall, AreSoundCalls}
-use Rattle.mv_script.specs.Tasks.{Past, made}
+use Rattle.mv_script.specs.Tasks.{Past, named_table, made}
 
 -- ---- what a task has behind some of its calls
 
@@ -44,19 +45,19 @@ past_with answers tokens = record { answers = answers; requests = requests_of to
 abbrev pub AreOfLatches : List (Option LatchToken) → Type 0
 AreOfLatches tokens = AllByRecursion (IfThere (λ (t : LatchToken). t.latch < latches)) tokens
 
--- ---- configurations of scripts, as far as calls ask for it
+-- ---- configurations and tables of scripts, as far as calls ask for it
 
--- the numbers of a call are in their ranges there
-abbrev pub AreGoodIn : Setup → Call → Type 0
-AreGoodIn c call = HasGoodNumbers (record { tasks = c.callers; ecbs = length c.owners }) call
+-- the numbers of a call are in their ranges there, where this is the script's table
+abbrev pub AreGoodIn : Setup → Option Table → Call → Type 0
+AreGoodIn c table call = HasGoodNumbers (record { tasks = c.callers; ecbs = length c.owners; table = table }) call
 
 -- a call may stand there behind these of its task
-abbrev pub IsSoundIn : Setup → List Call → Call → Type 0
-IsSoundIn c before call = IsSoundCall (record { tasks = c.callers; ecbs = length c.owners }) before call
+abbrev pub IsSoundIn : Setup → Option Table → List Call → Call → Type 0
+IsSoundIn c table before call = IsSoundCall (record { tasks = c.callers; ecbs = length c.owners; table = table }) before call
 
 -- and each of these behind those before it
-abbrev pub AreSoundIn : Setup → List Call → List Call → Type 0
-AreSoundIn c before calls = AreSoundCalls (record { tasks = c.callers; ecbs = length c.owners }) before calls
+abbrev pub AreSoundIn : Setup → Option Table → List Call → List Call → Type 0
+AreSoundIn c table before calls = AreSoundCalls (record { tasks = c.callers; ecbs = length c.owners; table = table }) before calls
 
 -- it has as many elements, volumes and latches as that of a script
 pub record IsForScripts (c : Setup) : Type 0 where
@@ -88,18 +89,19 @@ pub record HasMet (call : Call) (w : ℕ) (t u : CallerFace) : Type 0 where
 
 -- The call was made and answered so, whatever was answered before: it did what a call of a script's task does, and if it shows a
 -- word, then that one was met.
-pub record MakesCall (c : Setup) (call : Call) (answer : Answer) (old new : List (Option LatchToken)) (t u : CallerFace) : Type 0 where
+pub record MakesCall (c : Setup) (table : Option Table) (call : Call) (answer : Answer) (old new : List (Option LatchToken))
+    (t u : CallerFace) : Type 0 where
   pub served : (answers : List Answer)
-      → IsServed (cost c call) (made c (word_in answer) (past_with answers old) call)
+      → IsServed (cost c call) (made c (named_table table) (word_in answer) (past_with answers old) call)
       (λ past. past ≡ past_with (answers ++ answer ∷ []) new) t u
   pub met : (w : ℕ) → word_in answer ≡ Some w → HasMet call w t u
 
 -- ---- one after the other
 
 -- these calls were made in order, and each answered the one of these answers that stands in its place
-abbrev pub MakesCalls : Setup → List Call → List Answer → List (Option LatchToken) → List (Option LatchToken) → CallerFace → CallerFace
-    → Type 0
-MakesCalls c [] [] old new t u = (new ≡ old) × (u ≡ t)
-MakesCalls c (call ∷ calls) (answer ∷ answers) old new t u = (between : List (Option LatchToken)) × (v : CallerFace)
-    × MakesCall c call answer old between t v × MakesCalls c calls answers between new v u
-MakesCalls c _ _ old new t u = ⊥
+abbrev pub MakesCalls : Setup → Option Table → List Call → List Answer → List (Option LatchToken) → List (Option LatchToken)
+    → CallerFace → CallerFace → Type 0
+MakesCalls c table [] [] old new t u = (new ≡ old) × (u ≡ t)
+MakesCalls c table (call ∷ calls) (answer ∷ answers) old new t u = (between : List (Option LatchToken)) × (v : CallerFace)
+    × MakesCall c table call answer old between t v × MakesCalls c table calls answers between new v u
+MakesCalls c table _ _ old new t u = ⊥

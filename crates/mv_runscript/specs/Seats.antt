@@ -1,7 +1,8 @@
 -- What each thread has, and what its work comes to.
-use Rattle.std.specs.Prelude.{◌≡◌, ℕ, ◌<◌, ◌≤◌, List, [], length, count_by, vec_capacity, slice_index_or}
+use Rattle.std.specs.Prelude.{◌≡◌, ℕ, ◌<◌, ◌≤◌, List, [], length, count_by, vec_capacity, slice_index_or, Option}
 use Rattle.mv_board.specs.Faces.{BoardFace, IsFresh}
 use Rattle.mv_machine.specs.Setup.{Setup}
+use Rattle.mv_calls.specs.declared.table.Table.{Table}
 use Rattle.mv_script.specs.declared.call.Call.{Call}
 use Rattle.mv_script.specs.Script.{ScriptData}
 use Rattle.mv_runscript.specs.declared.seat.Seat.{Seat}
@@ -29,15 +30,15 @@ pub record IsReady (b : BoardFace) (calls : List Call) (k : ℕ) (s : Seat) : Ty
 abbrev pub AreReady : BoardFace → List (List Call) → List Seat → Type 0
 AreReady b tasks seats = (k : ℕ) (d : Seat) → k < length seats → IsReady b (slice_index_or tasks k []) k (slice_index_or seats k d)
 
--- a script with this configuration and these calls
-abbrev pub script_with : Setup → List (List Call) → ScriptData
-script_with c tasks = record { setup = c; tasks = tasks }
+-- a script with this configuration and table, and these calls
+abbrev pub script_with : Setup → Option Table → List (List Call) → ScriptData
+script_with c table tasks = record { setup = c; tasks = tasks; table = table }
 
 -- the seat's task has made these calls, and its answers are theirs
-abbrev pub HasWorked : Setup → List Call → Seat → Seat → Type 0
-HasWorked c calls old new = MakesCalls c calls new.answers.items [] new.requests.items old.task new.task
+abbrev pub HasWorked : Setup → Option Table → List Call → Seat → Seat → Type 0
+HasWorked c table calls old new = MakesCalls c table calls new.answers.items [] new.requests.items old.task new.task
 
 -- and that of each seat its own, in the order of the numbers
-abbrev pub HaveWorked : Setup → List (List Call) → List Seat → List Seat → Type 0
-HaveWorked c tasks old new = (k : ℕ) (d : Seat) → k < length old
-    → HasWorked c (slice_index_or tasks k []) (slice_index_or old k d) (slice_index_or new k d)
+abbrev pub HaveWorked : Setup → Option Table → List (List Call) → List Seat → List Seat → Type 0
+HaveWorked c table tasks old new = (k : ℕ) (d : Seat) → k < length old
+    → HasWorked c table (slice_index_or tasks k []) (slice_index_or old k d) (slice_index_or new k d)

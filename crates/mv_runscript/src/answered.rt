@@ -6,10 +6,12 @@ ghost use Rattle.mv_pause.specs.Answers.{allocate_answer, pause_answer, release_
 ghost use Rattle.mv_wait.specs.Answers.{clear_answer, extend_answer, wait_answer};
 ghost use Rattle.mv_script.specs.declared.answer.Answer.TheVariants as answer;
 ghost use Rattle.mv_script.specs.Answered.{done_or, given as given_as, given_if_paused, reached, obtained as obtained_as};
-ghost use Rattle.mv_script.specs.Answered.{purged as purged_as, slot_with, standing as standing_of};
+ghost use Rattle.mv_script.specs.Answered.{purged as purged_as, slot_with, standing as standing_of, entered as entered_as, found};
+ghost use Rattle.mv_events.specs.Answers.{entering_answer, next_answer};
 ghost use Rattle.mv_runscript.specs.Answered.{posted as posted_as};
 
 use mv_element::Token;
+use mv_events::{Event, EventAnswer, NextRefusal, PostEventRefusal};
 use mv_latchset::{ObtainRefusal, Obtained, Purged, ReleaseLatchRefusal, Standing};
 use mv_pause::{
     DeallocateRefusal, Given, NoElement, PauseRefusal, ReleaseAnswer, ReleaseRefusal,
@@ -167,6 +169,30 @@ pub(crate) fn freed(outcome: Result<u32, ReleaseLatchRefusal>) -> Answer
         Ok(granted) => Answer::Released(granted),
         Err(ReleaseLatchRefusal::Gone) => Answer::Gone,
         Err(ReleaseLatchRefusal::StillWaiting) => Answer::Waiting,
+    }
+}
+
+/// An EVPOST. A script's table is its calls' alone, so none is purged or finds its volume broken.
+pub(crate) fn entered(outcome: Result<EventAnswer, PostEventRefusal>) -> Answer
+    ensures { result ≡ done_or entered_as (entering_answer outcome) }
+{
+    match outcome {
+        Ok(EventAnswer::Entered(position)) => Answer::Entered(position),
+        Ok(EventAnswer::Already(code)) => Answer::AlreadyPosted(code),
+        Err(PostEventRefusal::Quota) => Answer::Quota,
+        Err(PostEventRefusal::Purged | PostEventRefusal::Broken(_)) => Answer::Purged,
+    }
+}
+
+/// An EVNEXT. Nor is a slot's code strange.
+pub(crate) fn handed_out(outcome: Result<Event, NextRefusal>) -> Answer
+    ensures { result ≡ done_or found (next_answer outcome) }
+{
+    match outcome {
+        Ok(Event { index, word }) => Answer::Event { index, word },
+        Err(NextRefusal::NotOwner) => Answer::NotOwner,
+        Err(NextRefusal::Drained) => Answer::Drained,
+        Err(NextRefusal::Strange(_)) => Answer::Purged,
     }
 }
 

@@ -1,8 +1,10 @@
 //! One call of a script, whichever it is (`specs/Making.antt`).
 
-ghost use Rattle.std.specs.Prelude.{◌≡◌, ◌<◌, ◌≤◌, ◌+◌, true, length, count_by, vec_capacity, IfSome, [], ◌∷◌};
+ghost use Rattle.std.specs.Prelude.{◌≡◌, ◌<◌, ◌≤◌, ◌+◌, true, length, count_by, vec_capacity, IfSome, [], ◌∷◌, Option};
 ghost use Rattle.mv_board.specs.Faces.{IsOf};
+ghost use Rattle.mv_calls.specs.declared.table.Table.{Table};
 ghost use Rattle.mv_calls.specs.Rest.{IsAtRest};
+ghost use Rattle.mv_calls.specs.Table.{IsSoundTable};
 ghost use Rattle.mv_script.specs.Costs.{cost};
 ghost use Rattle.mv_script.specs.Fault.{obtain_meant};
 ghost use Rattle.mv_script.specs.Script.{is_obtain};
@@ -14,6 +16,7 @@ ghost use Rattle.mv_runscript.specs.Making.{MakesCall, AreOfLatches, HaveSlots, 
 
 use crate::answered::obtained;
 use crate::serving::{serve, wait_in};
+use mv_calls::ValidTable;
 use mv_latch::{LatchForm, Mode};
 use mv_latchset::{LatchToken, ObtainRefusal, Obtained, obtain};
 use mv_script::{Answer, Call, Slots};
@@ -38,7 +41,7 @@ fn ask<R: Wait>(
     requires left { obtain_events form ≤ task.old.left }
     requires requests { AreOfLatches requests.old.items }
     requires room { length requests.old.items < vec_capacity requests.old }
-    ensures makes { MakesCall station.now.config (call.Obtain latch requestor mode form) result
+    ensures makes { (table : Option Table) → MakesCall station.now.config table (call.Obtain latch requestor mode form) result
         requests.old.items requests.new.items task.old task.new }
     ensures requests { AreOfLatches requests.new.items }
     ensures count { length requests.new.items ≡ length requests.old.items + 1 }
@@ -65,21 +68,23 @@ pub(crate) fn make<R: Wait>(
     rt: &R,
     station: &Station,
     task: &mut Task,
+    table: &Option<ValidTable>,
     call: &Call,
     requests: &mut Vec<Option<LatchToken>>,
     rooms: &mut Vec<Slots>,
 ) -> Answer
     requires config { IsForScripts station.now.config }
+    requires table { IfThere (IsSoundTable station.now.config) table.now }
     requires task { IsOf station.now task.old }
     requires rest { IsAtRest task.old.log }
     requires left { cost station.now.config call.now ≤ task.old.left }
-    requires numbers { AreGoodIn station.now.config call.now }
+    requires numbers { AreGoodIn station.now.config table.now call.now }
     requires obtain { IfThere (λ k. (1 ≤ k) × (k ≤ length requests.old.items)) (obtain_meant call.now) }
     requires requests { AreOfLatches requests.old.items }
     requires room { is_obtain call.now ≡ true → length requests.old.items < vec_capacity requests.old }
     requires slots { HaveSlots rooms.old.items }
     requires rooms { count_by is_wait (call.now ∷ []) ≤ length rooms.old.items }
-    ensures makes { MakesCall station.now.config call.now result requests.old.items requests.new.items task.old task.new }
+    ensures makes { MakesCall station.now.config table.now call.now result requests.old.items requests.new.items task.old task.new }
     ensures requests { AreOfLatches requests.new.items }
     ensures count { length requests.new.items ≡ length requests.old.items + count_by is_obtain (call.now ∷ []) }
     ensures capacity { vec_capacity requests.new ≡ vec_capacity requests.old }
@@ -101,6 +106,6 @@ pub(crate) fn make<R: Wait>(
         } => ask(
             rt, station, task, *latch, *requestor, *mode, *form, requests,
         ),
-        _ => serve(rt, station, task, call, requests),
+        _ => serve(rt, station, task, table, call, requests),
     }
 }

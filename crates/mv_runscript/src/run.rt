@@ -4,6 +4,7 @@ ghost use Rattle.std.specs.Prelude.{◌≡◌, ◌≤◌, [], All, length, map, 
 ghost use Rattle.mv_machine.specs.Check.{IsValid};
 ghost use Rattle.mv_machine.specs.Limits.{events_limit, highest_place};
 ghost use Rattle.mv_machine.specs.Orderly.{IsOrderly};
+ghost use Rattle.mv_script.specs.Events.{EventsAreHandedOut};
 ghost use Rattle.mv_script.specs.Run.{IsScriptRun, script_answers, moves_in};
 ghost use Rattle.mv_script.specs.Script.{script_data};
 ghost use Rattle.mv_script.specs.Sound.{IsSound};
@@ -11,6 +12,7 @@ ghost use Rattle.mv_runscript.specs.Seats.{HaveRooms, script_with};
 
 use crate::seat::{Seat, seat_of, worked};
 use mv_board::Closed;
+use mv_calls::ValidTable;
 use mv_io::NoMemory;
 use mv_machine::{Entry, ValidConfig};
 use mv_script::{AnswerList, CallList, Script, copy_config};
@@ -47,11 +49,13 @@ pub fn run_script<R: Threads + Wait + Sync>(
     ensures orderly { IfOk result (λ run. IsOrderly script.now.config run.journal.items) }
     ensures answers { IfOk result (λ run. run.answers.items
         ≡ script_answers (script_data script.now) (moves_in run.answers.items) run.journal.items) }
+    // Where the script has a table, its events are handed out once each, in the order of their completion.
+    ensures events { IfOk result (λ run. EventsAreHandedOut (script_data script.now) run.answers.items run.journal.items) }
     ensures few { IfOk result (λ run. length run.journal.items ≤ events_limit) }
     ensures places { IfOk result (λ run. All (λ e. e.place ≤ highest_place) run.journal.items) }
 {
     let config = copy_config(alloc, &script.config)?;
-    run_tasks(rt, alloc, config, &script.tasks)
+    run_tasks(rt, alloc, config, &script.table, &script.tasks)
 }
 
 // Opens a station of this configuration, has its tasks make their calls, and closes it.
@@ -59,14 +63,17 @@ fn run_tasks<R: Threads + Wait + Sync>(
     rt: &R,
     alloc: Global,
     config: ValidConfig,
+    table: &Option<ValidTable>,
     tasks: &[CallList],
 ) -> Result<ScriptRun, NoMemory>
-    requires sound { IsSound (script_with config tasks.now) }
+    requires sound { IsSound (script_with config table.now tasks.now) }
     ensures config { IfOk result (λ run. run.config ≡ config) }
-    ensures run { IfOk result (λ run. IsScriptRun (script_with config tasks.now) (moves_in run.answers.items) run.journal.items) }
+    ensures run { IfOk result (λ run. IsScriptRun (script_with config table.now tasks.now) (moves_in run.answers.items) run.journal.items) }
     ensures orderly { IfOk result (λ run. IsOrderly config run.journal.items) }
     ensures answers { IfOk result (λ run. run.answers.items
-        ≡ script_answers (script_with config tasks.now) (moves_in run.answers.items) run.journal.items) }
+        ≡ script_answers (script_with config table.now tasks.now) (moves_in run.answers.items) run.journal.items) }
+    ensures events { IfOk result (λ run. EventsAreHandedOut (script_with config table.now tasks.now)
+        run.answers.items run.journal.items) }
     ensures few { IfOk result (λ run. length run.journal.items ≤ events_limit) }
     ensures places { IfOk result (λ run. All (λ e. e.place ≤ highest_place) run.journal.items) }
 {
@@ -74,7 +81,7 @@ fn run_tasks<R: Threads + Wait + Sync>(
     let ended = Vec::with_capacity(alloc, tasks.len())?;
     let lists = Vec::with_capacity(alloc, tasks.len())?;
     let seats = seats_of(alloc, new, tasks)?;
-    let seats = worked(rt, &station, tasks, seats);
+    let seats = worked(rt, &station, table, tasks, seats);
     let (ended, answers) = parted(seats, ended, lists);
     let closed = station.close(ended);
     let Closed {

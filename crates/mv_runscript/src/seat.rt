@@ -6,6 +6,7 @@ ghost use Rattle.mv_runscript.specs.Making.{HaveSlots, is_wait as is_wait_call};
 ghost use Rattle.mv_runscript.specs.Seats.{HasRoom, IsReady, AreReady, HasWorked, HaveWorked, script_with};
 
 use crate::making::make_all;
+use mv_calls::ValidTable;
 use mv_io::NoMemory;
 use mv_latchset::LatchToken;
 use mv_script::{Answer, Call, CallList, MOST_WAITED, Slots};
@@ -65,47 +66,62 @@ fn is_wait(call: &Call) -> bool
 }
 
 /// Makes the calls of the task of this number.
-fn work<R: Wait>(rt: &R, station: &Station, tasks: &[CallList], number: usize, seat: &mut Seat)
-    requires sound { IsSound (script_with station.now.config tasks.now) }
+fn work<R: Wait>(
+    rt: &R,
+    station: &Station,
+    table: &Option<ValidTable>,
+    tasks: &[CallList],
+    number: usize,
+    seat: &mut Seat,
+)
+    requires sound { IsSound (script_with station.now.config table.now tasks.now) }
     requires number { number < length tasks.now }
     requires ready { IsReady station.now (slice_index_or tasks.now number []) number seat.old }
-    ensures worked { HasWorked station.now.config (slice_index_or tasks.now number []) seat.old seat.new }
+    ensures worked { HasWorked station.now.config table.now (slice_index_or tasks.now number []) seat.old seat.new }
 {
     let list = &tasks[number];
-    make_all(rt, station, &list.calls, seat);
+    make_all(rt, station, table, &list.calls, seat);
 }
 
 /// Does the work of the one seat of a chunk, whose number is the place where the chunk begins.
-fn work_one<R: Wait>(rt: &R, station: &Station, tasks: &[CallList], number: usize, one: &mut [Seat])
-    requires sound { IsSound (script_with station.now.config tasks.now) }
+fn work_one<R: Wait>(
+    rt: &R,
+    station: &Station,
+    table: &Option<ValidTable>,
+    tasks: &[CallList],
+    number: usize,
+    one: &mut [Seat],
+)
+    requires sound { IsSound (script_with station.now.config table.now tasks.now) }
     requires number { number < length tasks.now }
     requires one { length one.old ≡ 1 }
     requires ready { (d : _) → IsReady station.now (slice_index_or tasks.now number []) number (slice_index_or one.old 0 d) }
-    ensures worked { (d : _) → HasWorked station.now.config (slice_index_or tasks.now number [])
+    ensures worked { (d : _) → HasWorked station.now.config table.now (slice_index_or tasks.now number [])
         (slice_index_or one.old 0 d) (slice_index_or one.new 0 d) }
 {
-    work(rt, station, tasks, number, &mut one[0]);
+    work(rt, station, table, tasks, number, &mut one[0]);
 }
 
 /// Does the work of all seats, each on a thread of its own.
 fn work_all<R: Threads + Wait + Sync>(
     rt: &R,
     station: &Station,
+    table: &Option<ValidTable>,
     tasks: &[CallList],
     seats: &mut [Seat],
 )
-    requires sound { IsSound (script_with station.now.config tasks.now) }
+    requires sound { IsSound (script_with station.now.config table.now tasks.now) }
     requires count { length seats.old ≡ length tasks.now }
     requires ready { AreReady station.now tasks.now seats.old }
     ensures count { length seats.new ≡ length seats.old }
-    ensures worked { HaveWorked station.now.config tasks.now seats.old seats.new }
+    ensures worked { HaveWorked station.now.config table.now tasks.now seats.old seats.new }
 {
     let job = move |number: usize, one: &mut [Seat]|
-        requires { IsSound (script_with station.now.config tasks.now) × (number < length tasks.now) × (length one.now ≡ 1)
+        requires { IsSound (script_with station.now.config table.now tasks.now) × (number < length tasks.now) × (length one.now ≡ 1)
             × ((d : _) → IsReady station.now (slice_index_or tasks.now number []) number (slice_index_or one.now 0 d)) }
-        ensures { (d : _) → HasWorked station.entry.now.config (slice_index_or tasks.entry.now number [])
+        ensures { (d : _) → HasWorked station.entry.now.config table.entry.now (slice_index_or tasks.entry.now number [])
             (slice_index_or one.entry.now 0 d) (slice_index_or one.exit.now 0 d) }
-    { work_one(rt, station, tasks, number, one) };
+    { work_one(rt, station, table, tasks, number, one) };
     thread::for_each_chunk_mut(rt, seats, 1, &job);
 }
 
@@ -113,15 +129,16 @@ fn work_all<R: Threads + Wait + Sync>(
 pub(crate) fn worked<R: Threads + Wait + Sync>(
     rt: &R,
     station: &Station,
+    table: &Option<ValidTable>,
     tasks: &[CallList],
     mut seats: Vec<Seat>,
 ) -> Vec<Seat>
-    requires sound { IsSound (script_with station.now.config tasks.now) }
+    requires sound { IsSound (script_with station.now.config table.now tasks.now) }
     requires count { length seats.items ≡ length tasks.now }
     requires ready { AreReady station.now tasks.now seats.items }
     ensures count { length result.items ≡ length seats.items }
-    ensures worked { HaveWorked station.now.config tasks.now seats.items result.items }
+    ensures worked { HaveWorked station.now.config table.now tasks.now seats.items result.items }
 {
-    work_all(rt, station, tasks, &mut seats);
+    work_all(rt, station, table, tasks, &mut seats);
     seats
 }

@@ -1,25 +1,32 @@
 //! Calls that leave the requests of the task as they are: each is a service, and answers as it does (`specs/Making.antt`,
 //! `specs/Served.antt`).
 
-ghost use Rattle.std.specs.Prelude.{◌≡◌, ◌<◌, ◌≤◌, ◌*◌, false, length};
+ghost use Rattle.std.specs.Prelude.{◌≡◌, ◌<◌, ◌≤◌, ◌+◌, ◌*◌, false, length, Option};
 ghost use Rattle.std.specs.List.{AllByRecursion};
+ghost use Rattle.mv_ecb.specs.Table.{code_limit};
 ghost use Rattle.mv_machine.specs.Reach.{release_cost};
 ghost use Rattle.mv_board.specs.Faces.{IsOf};
 ghost use Rattle.mv_calls.specs.Rest.{IsAtRest};
+ghost use Rattle.mv_calls.specs.declared.table.Table.{Table};
 ghost use Rattle.mv_calls.specs.Services as service;
+ghost use Rattle.mv_calls.specs.Table.{IsSoundTable};
 ghost use Rattle.mv_script.specs.declared.call.Call.TheVariants as call;
 ghost use Rattle.mv_script.specs.Costs.{cost};
 ghost use Rattle.mv_script.specs.Fault.{obtain_meant};
+ghost use Rattle.mv_script.specs.Operand.{event_count, position_count};
 ghost use Rattle.mv_script.specs.Script.{is_obtain};
 ghost use Rattle.mv_script.specs.Sound.{IfThere};
+ghost use Rattle.mv_script.specs.Tasks.{named_table};
 ghost use Rattle.mv_runscript.specs.Making.{MakesCall, AreOfLatches, IsForScripts, is_wait, AreGoodIn};
 ghost use Rattle.mv_runscript.specs.Served.{Serves};
 
 use crate::answered::{
-    allocated, cleared, deallocated, extended, freed, paused, posted, purged, released, standing,
-    transferred, waited,
+    allocated, cleared, deallocated, entered, extended, freed, handed_out, paused, posted, purged,
+    released, standing, transferred, waited,
 };
 use crate::trying::{try_post, try_release_token};
+use mv_calls::ValidTable;
+use mv_events::{next_event, post_event};
 use mv_latchset::{LatchToken, check_latch, purge, release_latch};
 use mv_pause::{allocate, deallocate, pause, release, test_element, transfer};
 use mv_script::{Answer, Call, Slots};
@@ -54,18 +61,20 @@ pub(crate) fn serve<R: Wait>(
     rt: &R,
     station: &Station,
     task: &mut Task,
+    table: &Option<ValidTable>,
     call: &Call,
     requests: &[Option<LatchToken>],
 ) -> Answer
     requires config { IsForScripts station.now.config }
+    requires table { IfThere (IsSoundTable station.now.config) table.now }
     requires task { IsOf station.now task.old }
     requires rest { IsAtRest task.old.log }
     requires left { cost station.now.config call.now ≤ task.old.left }
-    requires numbers { AreGoodIn station.now.config call.now }
+    requires numbers { AreGoodIn station.now.config table.now call.now }
     requires obtain { IfThere (λ k. (1 ≤ k) × (k ≤ length requests.now)) (obtain_meant call.now) }
     requires requests { AreOfLatches requests.now }
     requires other { (is_wait call.now ≡ false) × (is_obtain call.now ≡ false) }
-    ensures { MakesCall station.now.config call.now result requests.now requests.now task.old task.new }
+    ensures { MakesCall station.now.config table.now call.now result requests.now requests.now task.old task.new }
 {
     match call {
         Call::Wait { .. } | Call::Obtain { .. } => unreachable!(),
@@ -103,6 +112,52 @@ pub(crate) fn serve<R: Wait>(
             mother,
             code,
         } => purged(end_of_task(station, rt, task, *requestor, *mother, *code)),
+        Call::PostEvent { index, code } => event_posted(rt, station, task, table, *index, *code),
+        Call::NextEvent(position) => event_taken(rt, station, task, table, *position),
+    }
+}
+
+/// EVPOST of an event of the script's table.
+fn event_posted<R: Wait>(
+    rt: &R,
+    station: &Station,
+    task: &mut Task,
+    table: &Option<ValidTable>,
+    index: u32,
+    code: u32,
+) -> Answer
+    requires table { IfThere (IsSoundTable station.now.config) table.now }
+    requires task { IsOf station.now task.old }
+    requires rest { IsAtRest task.old.log }
+    requires left { 6 + release_cost station.now.config ≤ task.old.left }
+    requires index { index < event_count table.now }
+    requires code { code < code_limit }
+    ensures { Serves station.now.config (service.PostEvent (named_table table.now) index code) result task.old task.new }
+{
+    match table {
+        Some(table) => entered(post_event(station, rt, task, table, index, code)),
+        None => unreachable!(),
+    }
+}
+
+/// EVNEXT of a position of the script's table.
+fn event_taken<R: Wait>(
+    rt: &R,
+    station: &Station,
+    task: &mut Task,
+    table: &Option<ValidTable>,
+    position: u32,
+) -> Answer
+    requires table { IfThere (IsSoundTable station.now.config) table.now }
+    requires task { IsOf station.now task.old }
+    requires rest { IsAtRest task.old.log }
+    requires left { 3 ≤ task.old.left }
+    requires position { position < position_count table.now }
+    ensures { Serves station.now.config (service.NextEvent (named_table table.now) position) result task.old task.new }
+{
+    match table {
+        Some(table) => handed_out(next_event(station, rt, task, table, position)),
+        None => unreachable!(),
     }
 }
 
@@ -120,7 +175,8 @@ fn check<R: Wait>(
     requires left { 0 < task.old.left }
     requires obtain { (1 ≤ obtain) × (obtain ≤ length requests.now) }
     requires requests { AreOfLatches requests.now }
-    ensures { MakesCall station.now.config (call.Check obtain) result requests.now requests.now task.old task.new }
+    ensures { (table : Option Table) → MakesCall station.now.config table (call.Check obtain) result
+        requests.now requests.now task.old task.new }
 {
     match requests[obtain as usize - 1] {
         Some(token) => standing(check_latch(station, rt, task, token)),
@@ -143,7 +199,8 @@ fn free<R: Wait>(
     requires left { release_cost station.now.config ≤ task.old.left }
     requires obtain { (1 ≤ obtain) × (obtain ≤ length requests.now) }
     requires requests { AreOfLatches requests.now }
-    ensures { MakesCall station.now.config (call.Free obtain conditional) result requests.now requests.now task.old task.new }
+    ensures { (table : Option Table) → MakesCall station.now.config table (call.Free obtain conditional) result
+        requests.now requests.now task.old task.new }
 {
     match requests[obtain as usize - 1] {
         Some(token) => freed(release_latch(station, rt, task, token, conditional)),

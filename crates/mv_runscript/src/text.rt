@@ -140,6 +140,11 @@ fn push_answer(out: &mut Vec<u8>, answer: &Answer) -> Result<(), NoMemory>
         Answer::Gone => push_word(out, b"GONE"),
         Answer::NoToken => push_word(out, b"NOTOKEN"),
         Answer::Released(granted) => push_number(out, b"RELEASED ", u64::from(*granted)),
+        Answer::Entered(position) => push_number(out, b"ENTERED ", u64::from(*position)),
+        Answer::Event { index, word } => {
+            push_numbers(out, b"EVENT ", u64::from(*index), u64::from(*word))
+        }
+        Answer::Drained => push_word(out, b"DRAINED"),
         Answer::PurgedCounts { removed, granted } => push_numbers(
             out,
             b"PURGED ",

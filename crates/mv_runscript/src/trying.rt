@@ -6,6 +6,7 @@ ghost use Rattle.mv_element.specs.Table.{release_limit};
 ghost use Rattle.mv_machine.specs.Limits.{highest_place, highest_generation};
 ghost use Rattle.mv_machine.specs.Setup.{element_count};
 ghost use Rattle.mv_board.specs.Faces.{IsOf};
+ghost use Rattle.mv_calls.specs.declared.table.Table.{Table};
 ghost use Rattle.mv_calls.specs.Rest.{IsAtRest};
 ghost use Rattle.mv_latchset.specs.declared.token.LatchToken.{LatchToken};
 ghost use Rattle.mv_script.specs.declared.call.Call.TheVariants as call;
@@ -35,7 +36,7 @@ pub(crate) fn try_post(
     requires place { place ≤ highest_place }
     requires code { code < code_limit }
     requires left { 0 < task.old.left }
-    ensures { (tokens : List (Option LatchToken)) → MakesCall station.now.config (call.TryPost ecb place code) result
+    ensures { (table : Option Table) (tokens : List (Option LatchToken)) → MakesCall station.now.config table (call.TryPost ecb place code) result
         tokens tokens task.old task.new }
 {
     let zero = zero_at(place);
@@ -61,7 +62,7 @@ pub(crate) fn try_release_token(
     requires place { place ≤ highest_place }
     requires code { code < release_limit }
     requires left { 0 < task.old.left }
-    ensures { (tokens : List (Option LatchToken)) → MakesCall station.now.config (call.TryRelease token place code) result
+    ensures { (table : Option Table) (tokens : List (Option LatchToken)) → MakesCall station.now.config table (call.TryRelease token place code) result
         tokens tokens task.old task.new }
 {
     let reset = reset_at(token.generation, place);

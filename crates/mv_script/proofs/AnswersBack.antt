@@ -184,6 +184,9 @@ words =
     ∷ (codes "GONE\n", Plain answer.Gone)
     ∷ (codes "NOTOKEN\n", Plain answer.NoToken)
     ∷ (codes "RELEASED ", one (λ n. answer.Released n))
+    ∷ (codes "ENTERED ", one (λ n. answer.Entered n))
+    ∷ (codes "EVENT ", two (λ m n. answer.Event m n))
+    ∷ (codes "DRAINED\n", Plain answer.Drained)
     ∷ (codes "PURGED ", two (λ m n. answer.PurgedCounts m n))
     ∷ []
 
@@ -288,5 +291,9 @@ again answer.Waiting rest h = refl
 again answer.Gone rest h = refl
 again answer.NoToken rest h = refl
 again (answer.Released n) rest h = ap (λ x. Some x) (one_again (λ n. answer.Released n) n rest h)
+again (answer.Entered n) rest h = ap (λ x. Some x) (one_again (λ n. answer.Entered n) n rest h)
+again (answer.Event m n) rest h =
+    ap (λ x. Some x) (two_again (λ m n. answer.Event m n) m n 32 rest h.0 h.1 (refl, refl))
+again answer.Drained rest h = refl
 again (answer.PurgedCounts m n) rest h =
     ap (λ x. Some x) (two_again (λ m n. answer.PurgedCounts m n) m n 32 rest h.0 h.1 (refl, refl))

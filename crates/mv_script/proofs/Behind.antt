@@ -6,18 +6,23 @@ use Rattle.std.proofs.lemmas.List.{append-nil, map-append}
 use Rattle.std.proofs.lemmas.List.Sums.{sum_by-append, sum_by_push}
 use Rattle.mv_machine.specs.Limits.{events_limit}
 use Rattle.mv_machine.specs.Setup.{Setup, SetupExit}
+use Rattle.mv_calls.specs.declared.table.Table.{Table}
+use Rattle.mv_calls.specs.Table.{IsTableOf}
 use Rattle.mv_script.specs.declared.call.Call.{Call}
 use Rattle.mv_script.specs.declared.statement.Statement.{Statement}
 use Rattle.mv_script.specs.declared.statement.Statement.TheVariants as statement
 use Rattle.mv_script.specs.Costs.{cost, costs_of, script_setup}
-use Rattle.mv_script.specs.Fault.{is_script, has_script, has_exit, has_task, has_end, is_out_of_order, leads_down}
+use Rattle.mv_script.specs.Fault.{is_script, has_script, has_exit, has_table, has_task, has_end, is_out_of_order, leads_down}
+use Rattle.mv_script.specs.Fault.{uses_table, is_bad_table}
 use Rattle.mv_script.specs.Fault.{is_too_costly, is_miscounted, lacks_obtain, kinds_behind, obtain_meant, is_no_obtain}
 use Rattle.mv_script.specs.Limits.{most_tasks, most_ecbs, most_exits, most_calls}
 use Rattle.mv_script.specs.Reading.{Progress, progress_of, with_statement, setup_in, budgets_in, IsSoundSoFar, Notes, open_task}
 use Rattle.mv_script.specs.Reading.{HasCosts, IsAsFar, Stands}
 use Rattle.mv_script.specs.Script.{task_count, owners_of, exits_of, tasks_of, with_call, last_task, budgets_of, sizes_behind, is_obtain}
 use Rattle.mv_script.specs.Sound.{IsGoodStatement}
-use Rattle.mv_script.proofs.Progresses.{same_any, one_ecb, one_exit, one_task, one_call, the_end, sound_script, sound_ecb, sound_exit}
+use Rattle.mv_script.specs.Table.{uses_any}
+use Rattle.mv_script.proofs.Progresses.{same_any, one_ecb, one_exit, one_table, one_task, one_call, the_end, sound_script, sound_ecb}
+use Rattle.mv_script.proofs.Progresses.{sound_exit, sound_table}
 use Rattle.mv_script.proofs.Progresses.{sound_task, sound_call, sound_end, same_cost, call_cost, without_tasks, is_positive}
 use Rattle.mv_script.proofs.Told.{fine}
 use Rattle.std.proofs.lemmas.Bool.{or_parts}
@@ -49,17 +54,24 @@ pub count_push : (calls : List Call) (c : Call)
     → count_by is_obtain (calls ++ c ∷ []) ≡ count_by is_obtain calls + count_by is_obtain (c ∷ [])
 count_push calls c = sum_by-append (λ (d : Call). cond (is_obtain d) 1 0) calls (c ∷ [])
 
+-- what is not there
+pub none_of : {A : Type 0} (o : Option A) → is_some o ≡ false → o ≡ None
+none_of None e = refl
+none_of (Some a) e = absurd (cc e)
+
 -- where no task has begun nothing costs
 none_costs : (o : Option Setup) (c : Setup) → is_some o ≡ false → HasCosts o c
 none_costs None c e = tt
 none_costs (Some d) c e = absurd cc
 
 -- notes by their parts
-abbrev of_parts : ℕ → List ℕ → List SetupExit → Option Setup → List (List Call) → List ℕ → List Call → ℕ → ℕ → ℕ → Bool → Notes
-of_parts stated owners exits costs finished budgets calls spent obtains room ended = record {
+abbrev of_parts : ℕ → List ℕ → List SetupExit → Option Table → Option Setup → List (List Call) → List ℕ → List Call → ℕ → ℕ → ℕ → Bool
+    → Notes
+of_parts stated owners exits table costs finished budgets calls spent obtains room ended = record {
   stated = stated;
   owners = owners;
   exits = exits;
+  table = table;
   costs = costs;
   finished = finished;
   budgets = budgets;
@@ -71,11 +83,11 @@ of_parts stated owners exits costs finished budgets calls spent obtains room end
 }
 
 -- notes that are the same in each part
-pub same_notes : {a b : ℕ} {c d : List ℕ} {e f : List SetupExit} {g h : Option Setup} {i j : List (List Call)} {k l : List ℕ}
-    {m n : List Call} {o p q r s t : ℕ} {u v : Bool}
-    → a ≡ b → c ≡ d → e ≡ f → g ≡ h → i ≡ j → k ≡ l → m ≡ n → o ≡ p → q ≡ r → s ≡ t → u ≡ v
-    → of_parts a c e g i k m o q s u ≡ of_parts b d f h j l n p r t v
-same_notes e1 e2 e3 e4 e5 e6 e7 e8 e9 e10 e11 = rw (e1, e2, e3, e4, e5, e6, e7, e8, e9, e10, e11) refl
+pub same_notes : {a b : ℕ} {c d : List ℕ} {e f : List SetupExit} {w x : Option Table} {g h : Option Setup} {i j : List (List Call)}
+    {k l : List ℕ} {m n : List Call} {o p q r s t : ℕ} {u v : Bool}
+    → a ≡ b → c ≡ d → e ≡ f → w ≡ x → g ≡ h → i ≡ j → k ≡ l → m ≡ n → o ≡ p → q ≡ r → s ≡ t → u ≡ v
+    → of_parts a c e w g i k m o q s u ≡ of_parts b d f x h j l n p r t v
+same_notes e1 e2 e3 e4 e5 e6 e7 e8 e9 e10 e11 e12 = rw (e1, e2, e3, e4, e5, e6, e7, e8, e9, e10, e11, e12) refl
 
 -- a configuration by its parts, with budgets of nothing
 same_setup : (a b : ℕ) (c d : List ℕ) (e f : List SetupExit) → a ≡ b → c ≡ d → e ≡ f
@@ -97,15 +109,25 @@ module _ (earlier : List Statement) (n : Notes) (b : Stands earlier n) where
   pub exit_is : nat_lt 0 (length n.exits) ≡ has_exit earlier
   exit_is = ap (λ (x : List SetupExit). nat_lt 0 (length x)) b.far.exits ∙ sym b.far.sound.exit
 
+  -- a TABLE
+  pub table_is : is_some n.table ≡ has_table earlier
+  table_is = ap is_some b.far.table
+
   -- whether an ECB is late
   pub late_ecb : (m owner : ℕ) → m ≡ length n.exits
-      → (not (nat_lt 0 n.stated) || (nat_lt 0 m || (is_some n.costs || n.ended))) ≡ is_out_of_order earlier (statement.Ecb owner)
-  late_ecb m owner e = rw (e, script_is, exit_is, b.far.begun, b.far.ended) refl
+      → (not (nat_lt 0 n.stated) || (nat_lt 0 m || (is_some n.table || (is_some n.costs || n.ended))))
+      ≡ is_out_of_order earlier (statement.Ecb owner)
+  late_ecb m owner e = rw (e, script_is, exit_is, table_is, b.far.begun, b.far.ended) refl
 
   -- an EXIT
   pub late_exit : (source : ℕ) (targets : List ℕ)
-      → (not (nat_lt 0 n.stated) || (is_some n.costs || n.ended)) ≡ is_out_of_order earlier (statement.Exit source targets)
-  late_exit source targets = rw (script_is, b.far.begun, b.far.ended) refl
+      → (not (nat_lt 0 n.stated) || (is_some n.table || (is_some n.costs || n.ended)))
+      ≡ is_out_of_order earlier (statement.Exit source targets)
+  late_exit source targets = rw (script_is, table_is, b.far.begun, b.far.ended) refl
+
+  -- a TABLE
+  pub late_table : (t : Table) → (not (nat_lt 0 n.stated) || (is_some n.costs || n.ended)) ≡ is_out_of_order earlier (statement.Table t)
+  late_table t = rw (script_is, b.far.begun, b.far.ended) refl
 
   -- a TASK
   pub late_task : (not (nat_lt 0 n.stated) || n.ended) ≡ is_out_of_order earlier statement.Task
@@ -126,8 +148,19 @@ module _ (earlier : List Statement) (n : Notes) (b : Stands earlier n) where
       same_setup n.stated p.stated owners p.owners exits p.exits b.far.stated (o ∙ b.far.owners) (x ∙ b.far.exits)
 
   -- where a line is in order, some tasks are stated
-  pub some_stated : (not (has_script earlier) || n.ended) ≡ false → 1 ≤ p.stated
-  some_stated e = is_positive p.stated (sym b.far.sound.script ∙ (only_first (has_script earlier) n.ended e).0)
+  pub some_stated : (late : Bool) → (not (has_script earlier) || late) ≡ false → 1 ≤ p.stated
+  some_stated late e = is_positive p.stated (sym b.far.sound.script ∙ (only_first (has_script earlier) late e).0)
+
+  -- what can be run does not cost too much
+  cheap : (m : ℕ) → m ≤ events_limit → nat_lt events_limit m ≡ false
+  cheap m le = grind arith
+
+  -- a TABLE costs nothing
+  pub cheap_table : (t : Table) → is_some n.table ≡ false → is_too_costly earlier (statement.Table t) ≡ false
+  cheap_table t first =
+      ap (λ (y : Progress). nat_lt events_limit (sum (budgets_in y)))
+      (one_table earlier t (none_of p.table (ap is_some (sym b.far.table) ∙ first)))
+      ∙ cheap (sum (budgets_in p)) b.far.sound.light
 
   -- SCRIPT stays the first
   still_first : (s : Statement) → is_script s ≡ false → has_script earlier ≡ true → has_script (earlier ++ s ∷ []) ≡ false
@@ -137,14 +170,13 @@ module _ (earlier : List Statement) (n : Notes) (b : Stands earlier n) where
   -- the statement has no fault, and the reader is behind it
   taken : (s : Statement) (q : Progress) (m : Notes) → progress_of (earlier ++ s ∷ []) ≡ q → IsAsFar q m → is_script s ≡ false
       → has_script earlier ≡ true → is_out_of_order earlier s ≡ false → is_miscounted earlier s ≡ false → leads_down s ≡ false
-      → lacks_obtain earlier s ≡ false → (kinds_behind earlier s ≡ []) × Stands (earlier ++ s ∷ []) m
-  taken s q m is far other script order many up meant = (
-    fine earlier s order many up meant (cheap (sum (budgets_of (earlier ++ s ∷ []))) (subst IsSoundSoFar (sym is) far.sound).light),
+      → lacks_obtain earlier s ≡ false → uses_table earlier s ≡ false → is_bad_table earlier s ≡ false
+      → (kinds_behind earlier s ≡ []) × Stands (earlier ++ s ∷ []) m
+  taken s q m is far other script order many up meant spares fits = (
+    fine earlier s order many up meant (cheap (sum (budgets_of (earlier ++ s ∷ []))) (subst IsSoundSoFar (sym is) far.sound).light)
+        spares fits,
     record { far = subst (λ (y : Progress). IsAsFar y m) (sym is) far; first = still_first s other script },
-  ) where
-    -- what can be run does not cost too much
-    cheap : (m : ℕ) → m ≤ events_limit → nat_lt events_limit m ≡ false
-    cheap m le = grind arith
+  )
 
   -- no task is finished where none has begun
   none_finished : p.task ≡ false → n.finished ≡ []
@@ -155,14 +187,16 @@ module _ (earlier : List Statement) (n : Notes) (b : Stands earlier n) where
   few : (k m : ℕ) → m < k → nat_le k m ≡ false
   few k m lt = grind arith
 
-  -- ---- an ECB, and an EXIT
+  -- ---- an ECB, an EXIT, and the TABLE
 
-  -- before the first TASK nothing costs yet, whichever blocks and exits there are
-  headed : (owners own : List ℕ) (exit : Bool) (exits ways : List SetupExit) → p.task ≡ false
-      → IsSoundSoFar (record p { owners = owners; exit = exit; exits = exits }) → own ≡ owners → ways ≡ exits
-      → IsAsFar (record p { owners = owners; exit = exit; exits = exits }) (record n { owners = own; exits = ways })
-  headed owners own exit exits ways task sound o x =
-      let q : Progress = record p { owners = owners; exit = exit; exits = exits } in
+  -- before the first TASK nothing costs yet, whichever blocks and exits there are, and whichever table
+  headed : (owners own : List ℕ) (exit : Bool) (exits ways : List SetupExit) (table given : Option Table) → p.task ≡ false
+      → IsSoundSoFar (record p { owners = owners; exit = exit; exits = exits; table = table }) → own ≡ owners → ways ≡ exits
+      → given ≡ table
+      → IsAsFar (record p { owners = owners; exit = exit; exits = exits; table = table })
+      (record n { owners = own; exits = ways; table = given })
+  headed owners own exit exits ways table given task sound o x t =
+      let q : Progress = record p { owners = owners; exit = exit; exits = exits; table = table } in
       let none : n.finished ≡ [] = none_finished task in
       let empty : n.calls ≡ [] = b.far.fresh task in
       let tasks : p.tasks ≡ [] = without_tasks p b.far.sound task in record {
@@ -170,6 +204,7 @@ module _ (earlier : List Statement) (n : Notes) (b : Stands earlier n) where
         stated = b.far.stated;
         owners = o;
         exits = x;
+        table = t;
         begun = b.far.begun;
         costs = none_costs n.costs (setup_in q (replicate q.stated 0)) (b.far.begun ∙ task);
         tasks = b.far.tasks;
@@ -189,12 +224,14 @@ module _ (earlier : List Statement) (n : Notes) (b : Stands earlier n) where
   taken_ecb owner order lt good =
       let a = only_first (has_script earlier) _ order in
       let x = or_parts (has_exit earlier) _ a.1 in
-      let t = or_parts (has_task earlier) _ x.1 in
+      let u = or_parts (has_table earlier) _ x.1 in
+      let t = or_parts (has_task earlier) _ u.1 in
       let count : length p.owners < most_ecbs = subst (λ (l : List ℕ). length l < most_ecbs) b.far.owners lt in
       taken (statement.Ecb owner) _ _ (one_ecb earlier owner)
-      (headed (p.owners ++ owner ∷ []) (n.owners ++ owner ∷ []) p.exit p.exits n.exits t.0
-      (sound_ecb p b.far.sound owner x.0 t.0 count good) (ap (λ (l : List ℕ). l ++ owner ∷ []) b.far.owners) b.far.exits)
-      refl a.0 order (few most_ecbs (length (owners_of earlier)) count) refl refl
+      (headed (p.owners ++ owner ∷ []) (n.owners ++ owner ∷ []) p.exit p.exits n.exits p.table n.table t.0
+      (sound_ecb p b.far.sound owner x.0 (none_of p.table u.0) t.0 count good) (ap (λ (l : List ℕ). l ++ owner ∷ []) b.far.owners)
+      b.far.exits b.far.table)
+      refl a.0 order (few most_ecbs (length (owners_of earlier)) count) refl refl refl refl
 
   pub taken_exit : (source : ℕ) (targets : List ℕ) → is_out_of_order earlier (statement.Exit source targets) ≡ false
       → length n.exits < most_exits → leads_down (statement.Exit source targets) ≡ false
@@ -205,13 +242,27 @@ module _ (earlier : List Statement) (n : Notes) (b : Stands earlier n) where
   taken_exit source targets order lt up good =
       let x : SetupExit = record { source = source; targets = targets } in
       let a = only_first (has_script earlier) _ order in
-      let t = or_parts (has_task earlier) _ a.1 in
+      let u = or_parts (has_table earlier) _ a.1 in
+      let t = or_parts (has_task earlier) _ u.1 in
       let count : length p.exits < most_exits = subst (λ (l : List SetupExit). length l < most_exits) b.far.exits lt in
       taken (statement.Exit source targets) _ _ (one_exit earlier source targets)
-      (headed p.owners n.owners true (p.exits ++ x ∷ []) (n.exits ++ x ∷ []) t.0
-      (sound_exit p b.far.sound source targets t.0 count good.0 good.1.0 good.1.1.0 good.1.1.1 up) b.far.owners
-      (ap (λ (l : List SetupExit). l ++ x ∷ []) b.far.exits))
-      refl a.0 order (few most_exits (length (exits_of earlier)) count) up refl
+      (headed p.owners n.owners true (p.exits ++ x ∷ []) (n.exits ++ x ∷ []) p.table n.table t.0
+      (sound_exit p b.far.sound source targets (none_of p.table u.0) t.0 count good.0 good.1.0 good.1.1.0 good.1.1.1 up) b.far.owners
+      (ap (λ (l : List SetupExit). l ++ x ∷ []) b.far.exits) b.far.table)
+      refl a.0 order (few most_exits (length (exits_of earlier)) count) up refl refl refl
+
+  pub taken_table : (t : Table) → is_out_of_order earlier (statement.Table t) ≡ false → is_some n.table ≡ false
+      → IsTableOf (setup_in p []) t
+      → (kinds_behind earlier (statement.Table t) ≡ [])
+      × Stands (earlier ++ statement.Table t ∷ []) (record n { table = Some t })
+  taken_table t order first is =
+      let a = only_first (has_script earlier) _ order in
+      let e = or_parts (has_task earlier) _ a.1 in
+      let none : has_table earlier ≡ false = sym table_is ∙ first in
+      taken (statement.Table t) _ _ (one_table earlier t (none_of p.table none))
+      (headed p.owners n.owners p.exit p.exits n.exits (Some t) (Some t) e.0 (sound_table p b.far.sound t e.0 is) b.far.owners
+      b.far.exits refl)
+      refl a.0 order none refl refl refl (ap is_some is)
 
   -- ---- a TASK
 
@@ -238,6 +289,7 @@ module _ (earlier : List Statement) (n : Notes) (b : Stands earlier n) where
         stated = b.far.stated;
         owners = b.far.owners;
         exits = b.far.exits;
+        table = b.far.table;
         begun = begun;
         costs = b.far.costs;
         tasks = ap (λ (l : List (List Call)). l ++ [] ∷ [])
@@ -249,7 +301,7 @@ module _ (earlier : List Statement) (n : Notes) (b : Stands earlier n) where
         obtains = refl;
         room = same_room;
         ended = b.far.ended;
-      }) refl a.0 order (few (task_count earlier) (length (tasks_of earlier)) lt) refl refl
+      }) refl a.0 order (few (task_count earlier) (length (tasks_of earlier)) lt) refl refl refl refl
 
   -- the first task
   pub first_task : (k : Setup) → is_out_of_order earlier statement.Task ≡ false → length (tasks_of earlier) < task_count earlier
@@ -266,6 +318,7 @@ module _ (earlier : List Statement) (n : Notes) (b : Stands earlier n) where
         stated = b.far.stated;
         owners = b.far.owners;
         exits = b.far.exits;
+        table = b.far.table;
         begun = refl;
         costs = same;
         tasks = rw (empty, finished, tasks) refl;
@@ -275,7 +328,7 @@ module _ (earlier : List Statement) (n : Notes) (b : Stands earlier n) where
         obtains = b.far.obtains;
         room = same_room;
         ended = b.far.ended;
-      }) refl a.0 order (few (task_count earlier) (length (tasks_of earlier)) lt) refl refl
+      }) refl a.0 order (few (task_count earlier) (length (tasks_of earlier)) lt) refl refl refl refl
 
   -- ---- the tasks, where one has begun
 
@@ -309,6 +362,16 @@ module _ (earlier : List Statement) (n : Notes) (b : Stands earlier n) where
 
   -- ---- a call
 
+  -- the kinds of a call that costs no more than there is room for
+  pub not_much : (c : Call) → is_some n.costs ≡ true → cost (setup_in p []) c ≤ n.room
+      → is_too_costly earlier (statement.Call c) ≡ false
+  not_much c begun le =
+      let e : sum (budgets_of (earlier ++ statement.Call c ∷ [])) ≡ sum (budgets_in p) + cost (setup_in p []) c =
+      ap (λ (y : Progress). sum (budgets_in y)) (one_call earlier c) ∙ call_cost p b.far.sound c (sym b.far.begun ∙ begun) in
+      ap (nat_lt events_limit) e ∙ low (sum (budgets_in p)) (cost (setup_in p []) c) n.room b.far.room le where
+        low : (m d room : ℕ) → room + m ≡ events_limit → d ≤ room → nat_lt events_limit (m + d) ≡ false
+        low m d room e le = grind arith
+
   -- the kinds of a call that costs too much
   pub too_much : (c : Call) → is_some n.costs ≡ true → n.room < cost (setup_in p []) c
       → is_too_costly earlier (statement.Call c) ≡ true
@@ -321,7 +384,7 @@ module _ (earlier : List Statement) (n : Notes) (b : Stands earlier n) where
 
   pub taken_call : (c : Call) (obtains : ℕ) → is_out_of_order earlier (statement.Call c) ≡ false → is_some n.costs ≡ true
       → length n.calls < most_calls → IsGoodStatement (sizes_behind earlier) (statement.Call c)
-      → is_no_obtain n.calls (obtain_meant c) ≡ false → cost (setup_in p []) c ≤ n.room
+      → is_no_obtain n.calls (obtain_meant c) ≡ false → cost (setup_in p []) c ≤ n.room → uses_any n.table c ≡ false
       → obtains ≡ n.obtains + count_by is_obtain (c ∷ [])
       → (kinds_behind earlier (statement.Call c) ≡ [])
       × Stands (earlier ++ statement.Call c ∷ []) (record n {
@@ -330,19 +393,21 @@ module _ (earlier : List Statement) (n : Notes) (b : Stands earlier n) where
         obtains = obtains;
         room = n.room - cost (setup_in p []) c;
       })
-  taken_call c obtains order begun lt good means le more =
+  taken_call c obtains order begun lt good means le spares more =
       let a = only_first (has_task earlier) _ order in
       let d : ℕ = cost (setup_in p []) c in
       let last : last_task p.tasks ≡ n.calls = last_calls begun in
       let count : length (last_task p.tasks) < most_calls = subst (λ (l : List Call). length l < most_calls) (sym last) lt in
       let meant : is_no_obtain (last_task p.tasks) (obtain_meant c) ≡ false =
       ap (λ (l : List Call). is_no_obtain l (obtain_meant c)) last ∙ means in
+      let spared : uses_any p.table c ≡ false = ap (λ (o : Option Table). uses_any o c) (sym b.far.table) ∙ spares in
       let total : sum (budgets_in (with_statement p (statement.Call c))) ≡ sum (budgets_in p) + d = call_cost p b.far.sound c a.0 in
       taken (statement.Call c) (with_statement p (statement.Call c)) _ (one_call earlier c) (record {
-        sound = sound_call p b.far.sound c a.0 a.1 count good meant (omega (arith, b.far.room, le));
+        sound = sound_call p b.far.sound c a.0 a.1 count good meant spared (omega (arith, b.far.room, le));
         stated = b.far.stated;
         owners = b.far.owners;
         exits = b.far.exits;
+        table = b.far.table;
         begun = b.far.begun;
         costs = b.far.costs;
         tasks = ap (λ (t : Bool). n.finished ++ open_task t (n.calls ++ c ∷ [])) a.0 ∙ sym (last_takes n.finished n.calls c)
@@ -353,7 +418,7 @@ module _ (earlier : List Statement) (n : Notes) (b : Stands earlier n) where
         obtains = more ∙ ap (λ (m : ℕ). m + count_by is_obtain (c ∷ [])) b.far.obtains ∙ sym (count_push n.calls c);
         room = omega (arith, total, b.far.room, le);
         ended = b.far.ended;
-      }) refl (begun_script a.0) order (few most_calls (length (last_task (tasks_of earlier))) count) refl meant
+      }) refl (begun_script a.0) order (few most_calls (length (last_task (tasks_of earlier))) count) refl meant spared refl
     where
       begun_script : has_task earlier ≡ true → has_script earlier ≡ true
       begun_script e =
@@ -373,6 +438,7 @@ module _ (earlier : List Statement) (n : Notes) (b : Stands earlier n) where
         stated = b.far.stated;
         owners = b.far.owners;
         exits = b.far.exits;
+        table = b.far.table;
         begun = b.far.begun;
         costs = b.far.costs;
         tasks = b.far.tasks;
@@ -382,7 +448,7 @@ module _ (earlier : List Statement) (n : Notes) (b : Stands earlier n) where
         obtains = b.far.obtains;
         room = b.far.room;
         ended = refl;
-      }) refl a.0 order (enough (task_count earlier) (length (tasks_of earlier)) le) refl refl
+      }) refl a.0 order (enough (task_count earlier) (length (tasks_of earlier)) le) refl refl refl refl
     where
       enough : (k m : ℕ) → k ≤ m → nat_lt m k ≡ false
       enough k m le = grind arith
@@ -399,6 +465,7 @@ taken_script [] n t b zero good = (
       stated = refl;
       owners = b.far.owners;
       exits = b.far.exits;
+      table = b.far.table;
       begun = b.far.begun;
       costs = none_costs n.costs _ b.far.begun;
       tasks = b.far.tasks;

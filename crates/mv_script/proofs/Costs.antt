@@ -72,6 +72,8 @@ module _ (k : ℕ) (owners : List ℕ) (exits : List SetupExit) (b c : List ℕ)
   cost_same (call.Purge requestor) = release_same
   cost_same (call.EndTask requestor None code) = ap (λ (n : ℕ). 4 + n + 0) release_same
   cost_same (call.EndTask requestor (Some e) code) = rw (release_same, reach_same e) refl
+  cost_same (call.PostEvent index code) = ap (λ (n : ℕ). 6 + n) release_same
+  cost_same (call.NextEvent position) = refl
 
   -- and all of a task
   pub costs_same : (calls : List Call) → costs_of one calls ≡ costs_of other calls

@@ -23,10 +23,11 @@ use Rattle.mv_script.specs.declared.words.Misread.TheVariants.{NoForm, BadNumber
 use Rattle.mv_script.specs.Limits.{most_tasks, most_targets, most_waited, highest_count, highest_latch, elements_per_task, volumes}
 use Rattle.mv_script.specs.Operand.{passed, number, below, task_count, task, ecb, element, volume, latch, count, ecb_code}
 use Rattle.mv_script.specs.Operand.{release_code, place, any_number, requestor, is_point, parted, token, or_hyphen, mode, conditional}
+use Rattle.mv_script.specs.Operand.{event, event_position, event_count, position_count}
 use Rattle.mv_script.specs.Sound.{IsEcb, IsElement, IsToken, IfThere, HasEcb, HasGoodNumbers, IsGoodStatement}
-use Rattle.mv_script.specs.Statement.{wait, form, obtain, latch_call, element_call, other_call, call_of, exit, stated, words_state}
-use Rattle.mv_script.specs.Statement.{text_states}
-use Rattle.mv_script.specs.Words.{Read, making, both, each, none, one, two, three}
+use Rattle.mv_script.specs.Statement.{wait, form, obtain, table_call, latch_call, element_call, other_call, call_of, exit, table, stated}
+use Rattle.mv_script.specs.Statement.{words_state, text_states}
+use Rattle.mv_script.specs.Words.{Read, making, both, each, none, one, two, three, led_by}
 
 -- so it is of what was read, where it was
 abbrev pub IfRead : {A : Type 0} → (A → Type 0) → Read A → Type 0
@@ -73,6 +74,13 @@ all_values {A = A} P f h (word ∷ words) =
     (λ (p : A × List A). (length (p.0 ∷ p.1) ≡ length (word ∷ words)) × AllByRecursion P (p.0 ∷ p.1)) (both (f word) (each f words))
     (λ p k. (omega (arith, k.1.0), (k.0, k.1.1)))
     (two_values P (λ xs. (length xs ≡ length words) × AllByRecursion P xs) (f word) (each f words) (h word) (all_values P f h words)))
+
+-- a word, and others behind it
+led_values : {A B : Type 0} (P : A → Type 0) (Q : B → Type 0) (f : List ℕ → Read A) (g : List (List ℕ) → Read B)
+    → ((word : List ℕ) → IfRead P (f word)) → ((words : List (List ℕ)) → IfRead Q (g words)) → (words : List (List ℕ))
+    → IfRead (λ (p : A × B). P p.0 × Q p.1) (led_by f g words)
+led_values P Q f g h k [] = tt
+led_values P Q f g h k (word ∷ words) = two_values P Q (f word) (g words) (h word) (k words)
 
 -- one word
 of_one : {A : Type 0} (P : A → Type 0) (f : List ℕ → Read A) → ((word : List ℕ) → IfRead P (f word)) → (words : List (List ℕ))
@@ -194,20 +202,27 @@ module _ (z : Sizes) where
         (each (ecb z) ecbs) (up_to highest_count n) (all_values (IsEcb z) (ecb z) (λ word. below_limit z.ecbs word) ecbs)))
 
   obtain_good : (words : List (List ℕ)) → IfRead Good (obtain z words)
-  obtain_good [] = tt
-  obtain_good (l ∷ []) = tt
-  obtain_good (l ∷ r ∷ []) = tt
-  obtain_good (l ∷ r ∷ m ∷ f) =
-      made Good (λ (p : ℕ × (ℕ × (Mode × LatchForm))). call.Obtain p.0 p.1.0 p.1.1.0 p.1.1.1)
-      (both (latch l) (both (requestor r) (both (mode m) (form z f))))
+  obtain_good words =
+      let all = led_by latch (led_by requestor (led_by mode (form z))) in
+      made Good (λ (p : ℕ × (ℕ × (Mode × LatchForm))). call.Obtain p.0 p.1.0 p.1.1.0 p.1.1.1) (all words)
       (less (λ (p : ℕ × (ℕ × (Mode × LatchForm))). (p.0 ≤ highest_latch) × (Unit {0} × (Unit {0} × HasEcb z p.1.1.1)))
-      (λ (p : ℕ × (ℕ × (Mode × LatchForm))). Good (call.Obtain p.0 p.1.0 p.1.1.0 p.1.1.1))
-      (both (latch l) (both (requestor r) (both (mode m) (form z f)))) (λ p h. (h.0, h.1.1.1))
-      (two_values (λ n. n ≤ highest_latch) (λ (p : ℕ × (Mode × LatchForm)). Unit {0} × (Unit {0} × HasEcb z p.1.1)) (latch l)
-      (both (requestor r) (both (mode m) (form z f))) (up_to highest_latch l)
-      (two_values (λ (n : ℕ). Unit {0}) (λ (p : Mode × LatchForm). Unit {0} × HasEcb z p.1) (requestor r) (both (mode m) (form z f))
-      (nothing (requestor r))
-      (two_values (λ (n : Mode). Unit {0}) (HasEcb z) (mode m) (form z f) (nothing (mode m)) (form_good f)))))
+      (λ (p : ℕ × (ℕ × (Mode × LatchForm))). Good (call.Obtain p.0 p.1.0 p.1.1.0 p.1.1.1)) (all words) (λ p h. (h.0, h.1.1.1))
+      (led_values (λ n. n ≤ highest_latch) (λ (p : ℕ × (Mode × LatchForm)). Unit {0} × (Unit {0} × HasEcb z p.1.1)) latch
+      (led_by requestor (led_by mode (form z))) (up_to highest_latch)
+      (led_values (λ (n : ℕ). Unit {0}) (λ (p : Mode × LatchForm). Unit {0} × HasEcb z p.1) requestor (led_by mode (form z))
+      (λ word. nothing (requestor word))
+      (led_values (λ (n : Mode). Unit {0}) (HasEcb z) mode (form z) (λ word. nothing (mode word)) form_good)) words))
+
+  table_good : (word : List ℕ) (words : List (List ℕ)) → IfRead Good (table_call z word words)
+  table_good word words =
+      chosen Good (bytes_eq word (codes "EVPOST")) (making (λ (p : ℕ × ℕ). call.PostEvent p.0 p.1) (two (event z) ecb_code words)) _
+      (made Good (λ (p : ℕ × ℕ). call.PostEvent p.0 p.1) (two (event z) ecb_code words)
+      (of_two (λ i. i < event_count z.table) (λ n. n < code_limit) (event z) ecb_code
+      (λ word. below_limit (event_count z.table) word) (λ word. below_limit code_limit word) words))
+      (chosen Good (bytes_eq word (codes "EVNEXT")) (making (λ k. call.NextEvent k) (one (event_position z) words)) (Err NoForm)
+      (made Good (λ k. call.NextEvent k) (one (event_position z) words)
+      (of_one (λ k. k < position_count z.table) (event_position z) (λ word. below_limit (position_count z.table) word) words))
+      tt)
 
   latch_good : (word : List ℕ) (words : List (List ℕ)) → IfRead Good (latch_call z word words)
   latch_good word words =
@@ -219,7 +234,7 @@ module _ (z : Sizes) where
       (chosen Good (bytes_eq word (codes "PURGE")) (making (λ r. call.Purge r) (one requestor words)) _
       (made Good (λ r. call.Purge r) (one requestor words) (nothing (one requestor words)))
       (chosen Good (bytes_eq word (codes "EOT"))
-      (making (λ (p : ℕ × (Option ℕ × ℕ)). call.EndTask p.0 p.1.0 p.1.1) (three requestor (or_hyphen (ecb z)) ecb_code words)) (Err NoForm)
+      (making (λ (p : ℕ × (Option ℕ × ℕ)). call.EndTask p.0 p.1.0 p.1.1) (three requestor (or_hyphen (ecb z)) ecb_code words)) _
       (made Good (λ (p : ℕ × (Option ℕ × ℕ)). call.EndTask p.0 p.1.0 p.1.1) (three requestor (or_hyphen (ecb z)) ecb_code words)
       (less (λ (p : ℕ × (Option ℕ × ℕ)). Unit {0} × (IfThere (IsEcb z) p.1.0 × (p.1.1 < code_limit)))
       (λ (p : ℕ × (Option ℕ × ℕ)). Good (call.EndTask p.0 p.1.0 p.1.1)) (three requestor (or_hyphen (ecb z)) ecb_code words)
@@ -227,7 +242,7 @@ module _ (z : Sizes) where
       (of_three (λ (n : ℕ). Unit {0}) (IfThere (IsEcb z)) (λ n. n < code_limit) requestor (or_hyphen (ecb z)) ecb_code
       (λ word. nothing (requestor word)) (λ word. hyphen_good (IsEcb z) (ecb z) (λ word. below_limit z.ecbs word) word)
       (λ word. below_limit code_limit word) words)))
-      tt))))
+      (table_good word words)))))
 
   element_good : (word : List ℕ) (words : List (List ℕ)) → IfRead Good (element_call z word words)
   element_good word words =
@@ -334,9 +349,11 @@ module _ (z : Sizes) where
       (made GoodLine (λ k. statement.Ecb k) (one (task z) words)
       (of_one (λ k. k < z.tasks) (task z) (λ word. below_limit z.tasks word) words))
       (chosen GoodLine (bytes_eq word (codes "EXIT")) (exit z words) _ (exit_good words)
+      (chosen GoodLine (bytes_eq word (codes "TABLE")) (making (λ t. statement.Table t) (table z words)) _
+      (made GoodLine (λ t. statement.Table t) (table z words) (nothing (table z words)))
       (chosen GoodLine (bytes_eq word (codes "TASK")) (none statement.Task words) _ (plain_good statement.Task tt words)
       (chosen GoodLine (bytes_eq word (codes "END")) (none statement.End words) _ (plain_good statement.End tt words)
-      (made GoodLine (λ c. statement.Call c) (call_of z word words) (call_good word words))))))
+      (made GoodLine (λ c. statement.Call c) (call_of z word words) (call_good word words)))))))
 
   words_good : (words : List (List ℕ)) → IfRead GoodLine (words_state z words)
   words_good [] = tt

@@ -2,7 +2,7 @@
 pub mod Operands
 pub mod Lists
 pub mod Fields
-pub mod Obtains
+pub mod Leading
 pub mod Good
 -- one more statement
 pub mod Progresses
@@ -24,6 +24,10 @@ pub mod AnswersBack
 pub mod TextsBack
 -- the law on what tries answer
 pub mod Tries
+-- the law on what the calls on a table are told
+pub mod Cutting
+pub mod Refusals
+pub mod HandedOut
 -- rows worked by hand: texts, and runs
 pub mod Rows
 pub mod RunRows

@@ -2,6 +2,7 @@
 use Rattle.std.proofs.Common.{◌≡◌, ℕ, false, List, [], ◌++◌, length, Option, Some, Result, Ok, Err, refl, sym, ap}
 use Rattle.std.proofs.Common.{subst, ◌∙◌, arith, MatchResult}
 use Rattle.std.specs.Prelude.{◌==◌, ◌<◌}
+use Rattle.mv_calls.specs.declared.table.Table.{Table}
 use Rattle.mv_line.specs.Line.{shown, is_foreign, is_too_long}
 use Rattle.mv_script.specs.declared.operand.Sizes.{Sizes}
 use Rattle.mv_script.specs.declared.fault.LineRefusal.{LineRefusal}
@@ -14,7 +15,7 @@ use Rattle.mv_script.specs.Fault.{kinds_of, kinds_behind}
 use Rattle.mv_line.specs.Fault.{first_of_list}
 use Rattle.mv_script.specs.Misread.{misread_refusal, IsReadAs}
 use Rattle.mv_script.specs.Reading.{IsBehind, IsTaken, Tells, Notes, Stands}
-use Rattle.mv_script.specs.Script.{sizes_behind, with_line, added, task_count, owners_of}
+use Rattle.mv_script.specs.Script.{sizes_behind, with_line, added, task_count, owners_of, table_of}
 use Rattle.mv_script.specs.Statement.{line_states, text_states}
 use Rattle.mv_script.specs.Words.{Read}
 
@@ -25,18 +26,19 @@ is_something n lt = grind arith
 pub some_text : (n : ℕ) → (n == 0) ≡ false → 0 < n
 some_text n e = grind arith
 
--- sizes by their numbers
-abbrev pub sizes : ℕ → ℕ → Sizes
-sizes tasks ecbs = record { tasks = tasks; ecbs = ecbs }
+-- sizes by their numbers and the table
+abbrev pub sizes : ℕ → ℕ → Option Table → Sizes
+sizes tasks ecbs table = record { tasks = tasks; ecbs = ecbs; table = table }
 
-same_sizes : (a b c d : ℕ) → a ≡ b → c ≡ d → sizes a c ≡ sizes b d
-same_sizes a b c d e f = rw (e, f) refl
+same_sizes : (a b c d : ℕ) (s t : Option Table) → a ≡ b → c ≡ d → s ≡ t → sizes a c s ≡ sizes b d t
+same_sizes a b c d s t e f g = rw (e, f, g) refl
 
 -- the sizes by which a line is read
-pub sizes_are : (earlier : List Statement) (n : Notes) → Stands earlier n → (m : ℕ) → m ≡ length n.owners
-    → sizes n.stated m ≡ sizes_behind earlier
-sizes_are earlier n b m e =
-    same_sizes n.stated (task_count earlier) m (length (owners_of earlier)) b.far.stated (e ∙ ap length b.far.owners)
+pub sizes_are : (earlier : List Statement) (n : Notes) → Stands earlier n → (m : ℕ) (t : Option Table) → m ≡ length n.owners
+    → t ≡ n.table → sizes n.stated m t ≡ sizes_behind earlier
+sizes_are earlier n b m t e f =
+    same_sizes n.stated (task_count earlier) m (length (owners_of earlier)) t (table_of earlier) b.far.stated (e ∙ ap length b.far.owners)
+    (f ∙ b.far.table)
 
 -- a line whose bytes are good, and what counts of it
 module _ (earlier : List Statement) (line text : List ℕ) (same : text ≡ shown line) (printable : is_foreign line ≡ false)

@@ -4,10 +4,10 @@ use Rattle.std.specs.Prelude.{MatchOption}
 use Rattle.mv_line.specs.Line.{lines_of, is_foreign, is_too_long}
 use Rattle.mv_line.proofs.Faults.{Rises, rises_when, rises_last, lowest_from}
 use Rattle.mv_script.specs.declared.fault.Kind.TheVariants.{ForeignByte, TooLong, NoForm, BadNumber, OutOfOrder, Miscounted, LeadsDown}
-use Rattle.mv_script.specs.declared.fault.Kind.TheVariants.{NoObtain, TooCostly}
+use Rattle.mv_script.specs.declared.fault.Kind.TheVariants.{NoObtain, TooCostly, UsesTable, BadTable}
 use Rattle.mv_script.specs.declared.fault.ScriptFault.{ScriptFault}
 use Rattle.mv_script.specs.declared.statement.Statement.{Statement}
-use Rattle.mv_script.specs.Fault.{has_no_form, has_bad_number, is_out_of_order, is_miscounted}
+use Rattle.mv_script.specs.Fault.{has_no_form, has_bad_number, is_out_of_order, is_miscounted, uses_table, is_bad_table}
 use Rattle.mv_script.specs.Fault.{leads_down, lacks_obtain, is_too_costly, kinds_of, kinds_of_statement, kinds_behind, kind_number}
 use Rattle.mv_script.specs.Fault.{line_rules, faults_from, fault_at, first_fault}
 use Rattle.mv_script.specs.Faults.{HasFault, IsNoLater}
@@ -23,7 +23,9 @@ behind_rises earlier s =
     (rises_when (is_miscounted earlier s && in_order) (kind_number Miscounted) 5 _ (omega arith)
     (rises_when (leads_down s && in_order) (kind_number LeadsDown) 6 _ (omega arith)
     (rises_when (lacks_obtain earlier s && in_order) (kind_number NoObtain) 7 _ (omega arith)
-    (rises_last (is_too_costly earlier s && in_order) (kind_number TooCostly) 8 (omega arith)))))
+    (rises_when (is_too_costly earlier s && in_order) (kind_number TooCostly) 8 _ (omega arith)
+    (rises_when (uses_table earlier s && in_order) (kind_number UsesTable) 10 _ (omega arith)
+    (rises_last (is_bad_table earlier s && in_order) (kind_number BadTable) 11 (omega arith)))))))
 
 -- the same, where a line has a statement
 statement_rises : (earlier : List Statement) (o : Option (Read Statement)) → Rises 4 (kinds_of_statement earlier o)

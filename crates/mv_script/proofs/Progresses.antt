@@ -9,8 +9,11 @@ use Rattle.std.proofs.lemmas.List.Folds.{list_any-append}
 use Rattle.std.proofs.lemmas.List.Sums.{fold_push, sum_by-append, sum_by-cons}
 use Rattle.mv_line.specs.Byte.{is_within}
 use Rattle.mv_machine.proofs.Lists.{all_append}
+use Rattle.mv_machine.specs.Check.{or_else}
 use Rattle.mv_machine.specs.Limits.{events_limit}
 use Rattle.mv_machine.specs.Setup.{Setup, SetupExit}
+use Rattle.mv_calls.specs.declared.table.Table.{Table}
+use Rattle.mv_calls.specs.Table.{IsTableOf}
 use Rattle.mv_script.specs.declared.call.Call.{Call}
 use Rattle.mv_script.specs.declared.statement.Statement.{Statement}
 use Rattle.mv_script.specs.declared.statement.Statement.TheVariants as statement
@@ -20,8 +23,9 @@ use Rattle.mv_script.specs.Fault.{is_script, is_exit, is_task, is_end, obtain_me
 use Rattle.mv_script.specs.Limits.{most_tasks, most_ecbs, most_exits, most_targets, most_calls}
 use Rattle.mv_script.specs.Reading.{Progress, progress_of, with_statement, sizes_in, setup_in, budgets_in, IsSoundSoFar}
 use Rattle.mv_script.specs.Script.{task_count, owner_in, owners_of, exit_in, exits_of, with_call, tasks_behind, tasks_of, last_task}
-use Rattle.mv_script.specs.Script.{is_obtain}
+use Rattle.mv_script.specs.Script.{is_obtain, table_in, table_of}
 use Rattle.mv_script.specs.Sound.{IsEcb, HasGoodNumbers, IsObtainOf, IfThere, IsSoundCall, AreSoundCalls, IsSoundTask, IsSoundExit}
+use Rattle.mv_script.specs.Table.{uses_any}
 
 -- ---- what one more statement adds
 
@@ -47,12 +51,14 @@ same_count : (earlier : List Statement) (s : Statement) → is_script s ≡ fals
 same_count [] (statement.Script t) e = absurd cc
 same_count [] (statement.Ecb owner) e = refl
 same_count [] (statement.Exit source targets) e = refl
+same_count [] (statement.Table t) e = refl
 same_count [] statement.Task e = refl
 same_count [] (statement.Call c) e = refl
 same_count [] statement.End e = refl
 same_count (statement.Script t ∷ earlier) s e = refl
 same_count (statement.Ecb owner ∷ earlier) s e = same_count earlier s e
 same_count (statement.Exit source targets ∷ earlier) s e = same_count earlier s e
+same_count (statement.Table t ∷ earlier) s e = same_count earlier s e
 same_count (statement.Task ∷ earlier) s e = same_count earlier s e
 same_count (statement.Call c ∷ earlier) s e = same_count earlier s e
 same_count (statement.End ∷ earlier) s e = same_count earlier s e
@@ -65,27 +71,44 @@ same_owners earlier s e = filter_map-append owner_in earlier (s ∷ []) ∙ rw e
 same_exits : (earlier : List Statement) (s : Statement) → exit_in s ≡ None → exits_of (earlier ++ s ∷ []) ≡ exits_of earlier
 same_exits earlier s e = filter_map-append exit_in earlier (s ∷ []) ∙ rw e (append-nil (exits_of earlier))
 
+-- no table
+same_table : (earlier : List Statement) (s : Statement) → table_in s ≡ None → table_of (earlier ++ s ∷ []) ≡ table_of earlier
+same_table [] s e = rw e refl
+same_table (r ∷ earlier) s e = ap (or_else (table_in r)) (same_table earlier s e)
+
+-- the first table
+new_table : (earlier : List Statement) (t : Table) → table_of earlier ≡ None → table_of (earlier ++ statement.Table t ∷ []) ≡ Some t
+new_table [] t e = refl
+new_table (r ∷ earlier) t e = go (table_in r) e (λ none. new_table earlier t none) where
+  go : (o : Option Table) → or_else o (table_of earlier) ≡ None
+      → (table_of earlier ≡ None → table_of (earlier ++ statement.Table t ∷ []) ≡ Some t)
+      → or_else o (table_of (earlier ++ statement.Table t ∷ [])) ≡ Some t
+  go None e more = more e
+  go (Some u) e more = absurd (cc e)
+
 -- the tasks behind one more statement
 tasks_push : (earlier : List Statement) (s : Statement) → tasks_of (earlier ++ s ∷ []) ≡ tasks_behind (tasks_of earlier) s
 tasks_push earlier s = fold_push tasks_behind [] earlier s
 
 -- a progress by its parts
-abbrev of_parts : Bool → ℕ → List ℕ → Bool → List SetupExit → Bool → List (List Call) → Bool → Progress
-of_parts script stated owners exit exits task tasks ended = record {
+abbrev of_parts : Bool → ℕ → List ℕ → Bool → List SetupExit → Option Table → Bool → List (List Call) → Bool → Progress
+of_parts script stated owners exit exits table task tasks ended = record {
   script = script;
   stated = stated;
   owners = owners;
   exit = exit;
   exits = exits;
+  table = table;
   task = task;
   tasks = tasks;
   ended = ended;
 }
 
 -- two that are the same in each part
-same_progress : {a b : Bool} {c d : ℕ} {e f : List ℕ} {g h : Bool} {i j : List SetupExit} {k l : Bool} {m n : List (List Call)} {o p : Bool}
-    → a ≡ b → c ≡ d → e ≡ f → g ≡ h → i ≡ j → k ≡ l → m ≡ n → o ≡ p → of_parts a c e g i k m o ≡ of_parts b d f h j l n p
-same_progress q r s t u v w x = rw (q, r, s, t, u, v, w, x) refl
+same_progress : {a b : Bool} {c d : ℕ} {e f : List ℕ} {g h : Bool} {i j : List SetupExit} {y z : Option Table} {k l : Bool}
+    {m n : List (List Call)} {o p : Bool}
+    → a ≡ b → c ≡ d → e ≡ f → g ≡ h → i ≡ j → y ≡ z → k ≡ l → m ≡ n → o ≡ p → of_parts a c e g i y k m o ≡ of_parts b d f h j z l n p
+same_progress q r s t u x v w y = rw (q, r, s, t, u, x, v, w, y) refl
 
 -- one more block
 pub one_ecb : (earlier : List Statement) (owner : ℕ)
@@ -93,7 +116,8 @@ pub one_ecb : (earlier : List Statement) (owner : ℕ)
 one_ecb earlier owner =
     let s : Statement = statement.Ecb owner in
     same_progress (same_any is_script earlier s refl) (same_count earlier s refl) (filter_map-append owner_in earlier (s ∷ []))
-    (same_any is_exit earlier s refl) (same_exits earlier s refl) (same_any is_task earlier s refl) (tasks_push earlier s)
+    (same_any is_exit earlier s refl) (same_exits earlier s refl) (same_table earlier s refl) (same_any is_task earlier s refl)
+    (tasks_push earlier s)
     (same_any is_end earlier s refl)
 
 -- one more exit
@@ -102,8 +126,18 @@ pub one_exit : (earlier : List Statement) (source : ℕ) (targets : List ℕ)
 one_exit earlier source targets =
     let s : Statement = statement.Exit source targets in
     same_progress (same_any is_script earlier s refl) (same_count earlier s refl) (same_owners earlier s refl)
-    (some_any is_exit earlier s refl) (filter_map-append exit_in earlier (s ∷ [])) (same_any is_task earlier s refl) (tasks_push earlier s)
+    (some_any is_exit earlier s refl) (filter_map-append exit_in earlier (s ∷ [])) (same_table earlier s refl)
+    (same_any is_task earlier s refl) (tasks_push earlier s)
     (same_any is_end earlier s refl)
+
+-- the table
+pub one_table : (earlier : List Statement) (t : Table) → table_of earlier ≡ None
+    → progress_of (earlier ++ statement.Table t ∷ []) ≡ with_statement (progress_of earlier) (statement.Table t)
+one_table earlier t none =
+    let s : Statement = statement.Table t in
+    same_progress (same_any is_script earlier s refl) (same_count earlier s refl) (same_owners earlier s refl)
+    (same_any is_exit earlier s refl) (same_exits earlier s refl) (new_table earlier t none) (same_any is_task earlier s refl)
+    (tasks_push earlier s) (same_any is_end earlier s refl)
 
 -- one more task
 pub one_task : (earlier : List Statement)
@@ -111,7 +145,8 @@ pub one_task : (earlier : List Statement)
 one_task earlier =
     let s : Statement = statement.Task in
     same_progress (same_any is_script earlier s refl) (same_count earlier s refl) (same_owners earlier s refl)
-    (same_any is_exit earlier s refl) (same_exits earlier s refl) (some_any is_task earlier s refl) (tasks_push earlier s)
+    (same_any is_exit earlier s refl) (same_exits earlier s refl) (same_table earlier s refl) (some_any is_task earlier s refl)
+    (tasks_push earlier s)
     (same_any is_end earlier s refl)
 
 -- one more call
@@ -120,7 +155,8 @@ pub one_call : (earlier : List Statement) (c : Call)
 one_call earlier c =
     let s : Statement = statement.Call c in
     same_progress (same_any is_script earlier s refl) (same_count earlier s refl) (same_owners earlier s refl)
-    (same_any is_exit earlier s refl) (same_exits earlier s refl) (same_any is_task earlier s refl) (tasks_push earlier s)
+    (same_any is_exit earlier s refl) (same_exits earlier s refl) (same_table earlier s refl) (same_any is_task earlier s refl)
+    (tasks_push earlier s)
     (same_any is_end earlier s refl)
 
 -- the end
@@ -129,7 +165,8 @@ pub the_end : (earlier : List Statement)
 the_end earlier =
     let s : Statement = statement.End in
     same_progress (same_any is_script earlier s refl) (same_count earlier s refl) (same_owners earlier s refl)
-    (same_any is_exit earlier s refl) (same_exits earlier s refl) (same_any is_task earlier s refl) (tasks_push earlier s)
+    (same_any is_exit earlier s refl) (same_exits earlier s refl) (same_table earlier s refl) (same_any is_task earlier s refl)
+    (tasks_push earlier s)
     (some_any is_end earlier s refl)
 
 -- ---- the last task, with one more call
@@ -198,7 +235,7 @@ pub is_positive : (n : ℕ) → nat_lt 0 n ≡ true → 1 ≤ n
 is_positive n e = grind arith
 
 -- before any line and behind SCRIPT: at most so many tasks are stated, and nothing else
-bare : (script : Bool) (t : ℕ) → t ≤ most_tasks → script ≡ nat_lt 0 t → IsSoundSoFar (of_parts script t [] false [] false [] false)
+bare : (script : Bool) (t : ℕ) → t ≤ most_tasks → script ≡ nat_lt 0 t → IsSoundSoFar (of_parts script t [] false [] None false [] false)
 bare script t few stated = record {
   few = few;
   script = stated;
@@ -207,6 +244,7 @@ bare script t few stated = record {
   few_exits = omega arith;
   exits = tt;
   exit = refl;
+  table = tt;
   few_tasks = omega arith;
   tasks = tt;
   task = refl;
@@ -226,9 +264,9 @@ module _ (p : Progress) (sound : IsSoundSoFar p) where
   without_tasks e = no_tasks (setup_in p []) p.tasks (sym sound.task ∙ e)
 
   -- behind an ECB
-  pub sound_ecb : (owner : ℕ) → p.exit ≡ false → p.task ≡ false → length p.owners < most_ecbs → owner < p.stated
+  pub sound_ecb : (owner : ℕ) → p.exit ≡ false → p.table ≡ None → p.task ≡ false → length p.owners < most_ecbs → owner < p.stated
       → IsSoundSoFar (with_statement p (statement.Ecb owner))
-  sound_ecb owner exit task lt good =
+  sound_ecb owner exit table task lt good =
       let tasks : p.tasks ≡ [] = without_tasks task in
       let exits : p.exits ≡ [] = no_exits p.exits (sym sound.exit ∙ exit) in
       let count : length (p.owners ++ owner ∷ []) ≡ length p.owners + 1 = length-append p.owners (owner ∷ []) in
@@ -241,6 +279,7 @@ module _ (p : Progress) (sound : IsSoundSoFar p) where
         exits = subst (λ (x : List SetupExit). AllByRecursion (IsSoundExit (sizes_in (with_statement p (statement.Ecb owner)))) x)
             (sym exits) tt;
         exit = sound.exit;
+        table = subst (λ (o : Option Table). IfThere (IsTableOf (setup_in (with_statement p (statement.Ecb owner)) [])) o) (sym table) tt;
         few_tasks = sound.few_tasks;
         tasks = subst (λ (x : List (List Call)). AllByRecursion (IsSoundTask (sizes_in (with_statement p (statement.Ecb owner)))) x)
             (sym tasks) tt;
@@ -251,11 +290,11 @@ module _ (p : Progress) (sound : IsSoundSoFar p) where
       }
 
   -- behind an EXIT
-  pub sound_exit : (source : ℕ) (targets : List ℕ) → p.task ≡ false → length p.exits < most_exits → IsEcb (sizes_in p) source
-      → 1 ≤ length targets → length targets ≤ most_targets → AllByRecursion (IsEcb (sizes_in p)) targets
+  pub sound_exit : (source : ℕ) (targets : List ℕ) → p.table ≡ None → p.task ≡ false → length p.exits < most_exits
+      → IsEcb (sizes_in p) source → 1 ≤ length targets → length targets ≤ most_targets → AllByRecursion (IsEcb (sizes_in p)) targets
       → list_any (λ target. nat_le target source) targets ≡ false
       → IsSoundSoFar (with_statement p (statement.Exit source targets))
-  sound_exit source targets task lt s some few all up =
+  sound_exit source targets table task lt s some few all up =
       let tasks : p.tasks ≡ [] = without_tasks task in
       let x : SetupExit = record { source = source; targets = targets } in
       let count : length (p.exits ++ x ∷ []) ≡ length p.exits + 1 = length-append p.exits (x ∷ []) in
@@ -268,6 +307,8 @@ module _ (p : Progress) (sound : IsSoundSoFar p) where
         few_exits = omega (arith, count, lt);
         exits = all_append (IsSoundExit (sizes_in p)) p.exits (x ∷ []) sound.exits (good, tt);
         exit = positive (length (p.exits ++ x ∷ [])) (omega (arith, count));
+        table = subst (λ (o : Option Table). IfThere (IsTableOf (setup_in (with_statement p (statement.Exit source targets)) [])) o)
+            (sym table) tt;
         few_tasks = sound.few_tasks;
         tasks = sound.tasks;
         task = sound.task;
@@ -290,6 +331,35 @@ module _ (p : Progress) (sound : IsSoundSoFar p) where
         rising ts h.1 (others t (list_any (λ target. nat_le target source) ts) e),
       )
 
+  -- behind a TABLE, which the configuration has
+  pub sound_table : (t : Table) → p.task ≡ false → IsTableOf (setup_in p []) t → IsSoundSoFar (with_statement p (statement.Table t))
+  sound_table t task is =
+      let q : Progress = with_statement p (statement.Table t) in
+      record {
+        few = sound.few;
+        script = sound.script;
+        few_ecbs = sound.few_ecbs;
+        owners = sound.owners;
+        few_exits = sound.few_exits;
+        exits = same_blocks p.exits sound.exits;
+        exit = sound.exit;
+        table = is;
+        few_tasks = sound.few_tasks;
+        tasks = subst (λ (x : List (List Call)). AllByRecursion (IsSoundTask (sizes_in q)) x) (sym (without_tasks task)) tt;
+        task = sound.task;
+        light = sound.light;
+        ended = sound.ended;
+      }
+    where
+      -- exits name blocks, and not the table
+      same_blocks : (exits : List SetupExit) → AllByRecursion (IsSoundExit (sizes_in p)) exits
+          → AllByRecursion (IsSoundExit (sizes_in (with_statement p (statement.Table t)))) exits
+      same_blocks [] h = tt
+      same_blocks (x ∷ exits) h = (
+        record { source = h.0.source; some = h.0.some; few = h.0.few; up = h.0.up },
+        same_blocks exits h.1,
+      )
+
   -- a task that has made no call costs nothing
   pub same_cost : sum (map (costs_of (setup_in p [])) (p.tasks ++ [] ∷ [])) ≡ sum (budgets_in p)
   same_cost =
@@ -309,6 +379,7 @@ module _ (p : Progress) (sound : IsSoundSoFar p) where
         few_exits = sound.few_exits;
         exits = sound.exits;
         exit = sound.exit;
+        table = sound.table;
         few_tasks = omega (arith, count, lt);
         tasks = all_append (IsSoundTask (sizes_in p)) p.tasks ([] ∷ []) sound.tasks (record { few = omega arith; sound = tt }, tt);
         task = positive (length (p.tasks ++ [] ∷ [])) (omega (arith, count));
@@ -332,9 +403,9 @@ module _ (p : Progress) (sound : IsSoundSoFar p) where
 
   -- behind a call
   pub sound_call : (c : Call) → p.task ≡ true → p.ended ≡ false → length (last_task p.tasks) < most_calls
-      → HasGoodNumbers (sizes_in p) c → is_no_obtain (last_task p.tasks) (obtain_meant c) ≡ false
+      → HasGoodNumbers (sizes_in p) c → is_no_obtain (last_task p.tasks) (obtain_meant c) ≡ false → uses_any p.table c ≡ false
       → sum (budgets_in p) + cost (setup_in p []) c ≤ events_limit → IsSoundSoFar (with_statement p (statement.Call c))
-  sound_call c task going lt good obtain light =
+  sound_call c task going lt good obtain spares light =
       let count : length (with_call p.tasks c) ≡ length p.tasks = same_length p.tasks c in
       record {
         few = sound.few;
@@ -344,9 +415,10 @@ module _ (p : Progress) (sound : IsSoundSoFar p) where
         few_exits = sound.few_exits;
         exits = sound.exits;
         exit = sound.exit;
+        table = sound.table;
         few_tasks = omega (arith, count, sound.few_tasks);
         tasks = tasks_more (sizes_in p) p.tasks c sound.tasks lt
-            (record { numbers = good; obtain = no_obtain (last_task p.tasks) (obtain_meant c) obtain });
+            (record { numbers = good; obtain = no_obtain (last_task p.tasks) (obtain_meant c) obtain; spares = spares });
         task = sound.task ∙ ap (λ (n : ℕ). nat_lt 0 n) (sym count);
         light = omega (arith, call_cost c task, light);
         ended = λ e. absurd (cc (going, e));
@@ -362,6 +434,7 @@ module _ (p : Progress) (sound : IsSoundSoFar p) where
     few_exits = sound.few_exits;
     exits = sound.exits;
     exit = sound.exit;
+    table = sound.table;
     few_tasks = sound.few_tasks;
     tasks = sound.tasks;
     task = sound.task;

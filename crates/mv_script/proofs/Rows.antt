@@ -13,6 +13,7 @@ use Rattle.mv_script.specs.declared.words.Misread.TheVariants.{NoForm, BadNumber
 use Rattle.mv_script.specs.declared.operand.Sizes.{Sizes}
 use Rattle.mv_script.specs.Costs.{script_setup}
 use Rattle.mv_script.specs.Fault.{first_fault, fault_at, faults_from}
+use Rattle.mv_script.specs.Operand.{table_with}
 use Rattle.mv_script.specs.Script.{ScriptData, script_of}
 use Rattle.mv_script.specs.Sound.{IsSound, IsObtainOf}
 use Rattle.mv_script.specs.Statement.{text_states}
@@ -23,7 +24,7 @@ lf = 10 ∷ []
 
 -- two tasks and three blocks
 abbrev some : Sizes
-some = record { tasks = 2; ecbs = 3 }
+some = record { tasks = 2; ecbs = 3; table = None }
 
 -- what a text states there
 abbrev states : List ℕ → Read Statement
@@ -90,6 +91,16 @@ an_exit = refl
 an_exit_without_a_target : states (codes "EXIT 0") ≡ Err NoForm
 an_exit_without_a_target = refl
 
+-- task 1's, with latch 9, volume 2, and one event
+a_table : states (codes "TABLE 1 9 2 0 1 1") ≡ Ok (statement.Table (table_with 1 9 2 0 1 1))
+a_table = refl
+
+a_table_of_five_words : states (codes "TABLE 1 100 2 0 1") ≡ Err NoForm
+a_table_of_five_words = refl
+
+an_event_without_a_table : states (codes "EVPOST 0 7") ≡ Err BadNumber
+an_event_without_a_table = refl
+
 no_tasks : states (codes "SCRIPT 0") ≡ Err BadNumber
 no_tasks = refl
 
@@ -117,7 +128,7 @@ exits_tasks =
 exits_setup : Setup
 exits_setup = script_setup 2 (0 ∷ 0 ∷ 1 ∷ []) (record { source = 0; targets = 1 ∷ 2 ∷ [] } ∷ []) (31 ∷ 32 ∷ [])
 
-exits_script : script_of exits ≡ record { setup = exits_setup; tasks = exits_tasks }
+exits_script : script_of exits ≡ record { setup = exits_setup; tasks = exits_tasks; table = None }
 unfolding exits_setup
 exits_script = refl
 
@@ -127,7 +138,7 @@ exits_have_no_fault = refl
 
 -- a script whose one task checks an OBTAIN that it did not make
 abbrev unasked : ScriptData
-unasked = record { setup = exits_setup; tasks = (call.Check 1 ∷ []) ∷ [] }
+unasked = record { setup = exits_setup; tasks = (call.Check 1 ∷ []) ∷ []; table = None }
 
 unasked_is_not_sound : ¬ IsSound unasked
 unasked_is_not_sound h =
@@ -171,6 +182,27 @@ a_second_end = refl
 a_late_block : first_fault (codes "SCRIPT 1" ++ lf ++ codes "TASK" ++ lf ++ codes "ECB 0") ≡ Some (fault_at 3 5)
 unfolding faults_from
 a_late_block = refl
+
+-- six blocks of the one task, and a table of them
+abbrev events : List ℕ → List ℕ
+events table =
+    codes "SCRIPT 1" ++ lf ++ codes "ECB 0" ++ lf ++ codes "ECB 0" ++ lf ++ codes "ECB 0" ++ lf ++ codes "ECB 0" ++ lf ++ codes "ECB 0" ++
+    lf
+    ++ codes "ECB 0" ++ lf ++ table ++ lf ++ codes "TASK" ++ lf
+
+-- three events in a row, and their slots behind them
+a_use_of_an_event : first_fault (events (codes "TABLE 0 0 0 0 3 3") ++ codes "POST 0 1") ≡ Some (fault_at 10 11)
+unfolding faults_from
+a_use_of_an_event = refl
+
+-- three slots from the last event on
+a_table_that_meets_itself : first_fault (events (codes "TABLE 0 0 0 0 2 3")) ≡ Some (fault_at 8 12)
+unfolding faults_from
+a_table_that_meets_itself = refl
+
+a_second_table : first_fault (events (codes "TABLE 0 0 0 0 3 3" ++ lf ++ codes "TABLE 0 0 0 0 2 3")) ≡ Some (fault_at 9 6)
+unfolding faults_from
+a_second_table = refl
 
 a_long_line_of_spaces : first_fault
     (codes "SCRIPT 1" ++ lf ++ codes "                                                                                 ")

@@ -5,21 +5,24 @@ use Rattle.std.proofs.Common.{None, Ok, Err, refl, sym, ap, subst, ◌∙◌, ar
 use Rattle.std.specs.Prelude.{nat_lt, nat_le, sum, fold}
 use Rattle.mv_line.specs.Line.{lines_of}
 use Rattle.mv_machine.specs.Limits.{events_limit}
+use Rattle.mv_calls.specs.Table.{table_refusal}
 use Rattle.mv_line.specs.Line.{shown, is_ignored, is_foreign, is_too_long}
 use Rattle.mv_script.specs.declared.fault.Kind.{Kind}
 use Rattle.mv_script.specs.declared.fault.Kind.TheVariants.{ForeignByte, TooLong, NoForm, BadNumber, OutOfOrder, Miscounted, LeadsDown}
-use Rattle.mv_script.specs.declared.fault.Kind.TheVariants.{NoObtain, TooCostly}
+use Rattle.mv_script.specs.declared.fault.Kind.TheVariants.{NoObtain, TooCostly, UsesTable, BadTable}
 use Rattle.mv_script.specs.declared.statement.Statement.{Statement}
 use Rattle.mv_script.specs.declared.statement.Statement.TheVariants as statement
 use Rattle.mv_script.specs.Costs.{costs_of}
 use Rattle.mv_script.specs.Fault.{has_script, has_task, has_end, is_script, is_out_of_order, is_miscounted, leads_down, lacks_obtain}
+use Rattle.mv_script.specs.Fault.{uses_table, is_bad_table}
 use Rattle.mv_script.specs.Fault.{is_too_costly, kinds_of, kinds_of_statement, kinds_behind, faults_from, fault_at, first_fault}
 use Rattle.mv_line.specs.Fault.{first_of_list}
 use Rattle.mv_line.proofs.Faults.{no_kinds, no_fault_at_end}
 use Rattle.mv_script.specs.Fault.{line_rules, when, has_no_form, has_bad_number}
 use Rattle.mv_script.specs.Limits.{most_ecbs, most_exits, most_calls}
 use Rattle.mv_script.specs.Reading.{progress_of, budgets_in, IsSoundSoFar}
-use Rattle.mv_script.specs.Script.{task_count, owners_of, exits_of, tasks_of, last_task, budgets_of, sizes_behind, added, with_line}
+use Rattle.mv_script.specs.Script.{task_count, owners_of, exits_of, table_of, tasks_of, last_task, budgets_of, sizes_behind, added}
+use Rattle.mv_script.specs.Script.{with_line}
 use Rattle.mv_script.specs.Script.{statements_of, script_in, script_of, setup_with}
 use Rattle.mv_script.specs.Sound.{IsSound, IsGoodStatement}
 use Rattle.mv_script.specs.Statement.{line_states, text_states}
@@ -27,9 +30,10 @@ use Rattle.mv_script.specs.Words.{Read}
 use Rattle.mv_script.proofs.Costs.{costs_same, map_same}
 use Rattle.mv_script.proofs.Good.{read_well}
 use Rattle.mv_script.proofs.Passes.{one_line}
-use Rattle.mv_script.proofs.Progresses.{same_any, one_ecb, one_exit, one_task, one_call, the_end, sound_at_first, sound_script}
+use Rattle.mv_script.proofs.Progresses.{same_any, one_ecb, one_exit, one_table, one_task, one_call, the_end, sound_at_first, sound_script}
+use Rattle.mv_script.proofs.Progresses.{sound_table}
 use Rattle.mv_script.proofs.Progresses.{sound_ecb, sound_exit, sound_task, sound_call, sound_end, call_cost, is_positive}
-use Rattle.mv_script.proofs.Behind.{only_first}
+use Rattle.mv_script.proofs.Behind.{only_first, none_of}
 use Rattle.std.proofs.lemmas.Bool.{or_parts}
 
 -- ---- what holds behind statements without fault
@@ -46,6 +50,8 @@ pub record IsFine (earlier : List Statement) (s : Statement) : Type 0 where
   pub up : leads_down s ≡ false
   pub obtain : lacks_obtain earlier s ≡ false
   pub cheap : is_too_costly earlier s ≡ false
+  pub spares : uses_table earlier s ≡ false
+  pub fits : is_bad_table earlier s ≡ false
 
 -- no kind in front, and none behind
 none_when : (b : Bool) (k : Kind) (kinds : List ℕ) → when b k ++ kinds ≡ [] → (b ≡ false) × (kinds ≡ [])
@@ -70,12 +76,16 @@ is_fine earlier s e =
     let m = none_when (is_miscounted earlier s && not (is_out_of_order earlier s)) Miscounted _ a.1 in
     let d = none_when (leads_down s && not (is_out_of_order earlier s)) LeadsDown _ m.1 in
     let o = none_when (lacks_obtain earlier s && not (is_out_of_order earlier s)) NoObtain _ d.1 in
+    let c = none_when (is_too_costly earlier s && not (is_out_of_order earlier s)) TooCostly _ o.1 in
+    let u = none_when (uses_table earlier s && not (is_out_of_order earlier s)) UsesTable _ c.1 in
     record {
       order = a.0;
       count = keeps (is_miscounted earlier s) m.0;
       up = keeps (leads_down s) d.0;
       obtain = keeps (lacks_obtain earlier s) o.0;
-      cheap = keeps (is_too_costly earlier s) (none_last _ TooCostly o.1);
+      cheap = keeps (is_too_costly earlier s) c.0;
+      spares = keeps (uses_table earlier s) u.0;
+      fits = keeps (is_bad_table earlier s) (none_last _ BadTable u.1);
     }
 
 -- ---- one more statement
@@ -103,20 +113,32 @@ holds_more (r ∷ earlier) (statement.Script t) h g f = absurd (late (length ear
 holds_more earlier (statement.Ecb owner) h g f =
     let a = only_first (has_script earlier) _ f.order in
     let x = or_parts _ _ a.1 in
-    let t = or_parts _ _ x.1 in
+    let u = or_parts _ _ x.1 in
+    let t = or_parts _ _ u.1 in
     record {
       sound = subst IsSoundSoFar (sym (one_ecb earlier owner))
-          (sound_ecb (progress_of earlier) h.sound owner x.0 t.0 (few most_ecbs (length (owners_of earlier)) f.count) g);
+          (sound_ecb (progress_of earlier) h.sound owner x.0 (none_of (table_of earlier) u.0) t.0
+          (few most_ecbs (length (owners_of earlier)) f.count) g);
       first = stays_first earlier (statement.Ecb owner) refl a.0;
     }
 holds_more earlier (statement.Exit source targets) h g f =
     let a = only_first (has_script earlier) _ f.order in
-    let t = or_parts _ _ a.1 in
+    let u = or_parts _ _ a.1 in
+    let t = or_parts _ _ u.1 in
     record {
       sound = subst IsSoundSoFar (sym (one_exit earlier source targets))
-          (sound_exit (progress_of earlier) h.sound source targets t.0 (few most_exits (length (exits_of earlier)) f.count)
+          (sound_exit (progress_of earlier) h.sound source targets (none_of (table_of earlier) u.0) t.0
+          (few most_exits (length (exits_of earlier)) f.count)
           g.0 g.1.0 g.1.1.0 g.1.1.1 f.up);
       first = stays_first earlier (statement.Exit source targets) refl a.0;
+    }
+holds_more earlier (statement.Table t) h g f =
+    let a = only_first (has_script earlier) _ f.order in
+    let e = or_parts _ _ a.1 in
+    record {
+      sound = subst IsSoundSoFar (sym (one_table earlier t (none_of (table_of earlier) f.count)))
+          (sound_table (progress_of earlier) h.sound t e.0 (none_of (table_refusal (setup_with earlier []) t) f.fits));
+      first = stays_first earlier (statement.Table t) refl a.0;
     }
 holds_more earlier statement.Task h g f =
     let a = only_first (has_script earlier) _ f.order in
@@ -133,7 +155,7 @@ holds_more earlier (statement.Call c) h g f =
     record {
       sound = subst IsSoundSoFar (sym (one_call earlier c))
           (sound_call (progress_of earlier) h.sound c a.0 a.1 (few most_calls (length (last_task (tasks_of earlier))) f.count) g f.obtain
-          (omega (arith, total, le)));
+          f.spares (omega (arith, total, le)));
       first = stays_first earlier (statement.Call c) refl
           (h.sound.script ∙ up (task_count earlier) (omega (arith, some, h.sound.few_tasks)));
     } where
@@ -217,6 +239,7 @@ whole statements h e =
       exits = rw same h.sound.exits;
       tasks = rw same h.sound.tasks;
       light = h.sound.light;
+      table = h.sound.table;
     } where
       begun : has_script statements ≡ true
       begun = go (has_script statements) refl where

@@ -3,6 +3,7 @@ use Rattle.std.proofs.Common.{◌≡◌, ℕ, zero, suc, ◌+◌, ◌*◌, ◌�
 use Rattle.std.specs.Prelude.{filter}
 use Rattle.std.specs.List.{range_with_len}
 use Rattle.mv_machine.specs.Setup.{Setup}
+use Rattle.mv_calls.specs.declared.table.Table.{Table}
 use Rattle.mv_calls.specs.Endings.{used_elements}
 use Rattle.mv_calls.specs.Keeping.{Kept}
 use Rattle.mv_calls.specs.Services.{most_events}
@@ -37,24 +38,26 @@ few_used c kept =
 same : (n : ℕ) → n ≤ n
 same n = omega arith
 
-pub suffices : (c : Setup) (kept : Kept) (asked : ℕ → Asked) (d : Call) → most_events c kept (service_of asked d) ≤ cost c d
-suffices c kept asked (call.Wait count ecbs) = same _
-suffices c kept asked (call.Post ecb code) = same _
-suffices c kept asked (call.TryPost ecb place code) = same _
-suffices c kept asked (call.Clear ecb) = same _
-suffices c kept asked (call.Extend ecb exit) = same _
-suffices c kept asked (call.Test ecb) = same _
-suffices c kept asked (call.Read volume) = same _
-suffices c kept asked (call.Write volume number) = same _
-suffices c kept asked call.Alloc = same _
-suffices c kept asked (call.Pause token) = same _
-suffices c kept asked (call.Release token code) = same _
-suffices c kept asked (call.TryRelease token place code) = same _
-suffices c kept asked (call.Transfer current target code) = same _
-suffices c kept asked (call.Dealloc token) = same _
-suffices c kept asked (call.TestElement element) = same _
-suffices c kept asked (call.Obtain latch requestor mode form) = same _
-suffices c kept asked (call.Check k) = same _
-suffices c kept asked (call.Free k conditional) = same _
-suffices c kept asked (call.Purge requestor) = same _
-suffices c kept asked (call.EndTask requestor mother code) = omega (arith, few_used c kept)
+pub suffices : (c : Setup) (kept : Kept) (t : Table) (asked : ℕ → Asked) (d : Call) → most_events c kept (service_of t asked d) ≤ cost c d
+suffices c kept t asked (call.Wait count ecbs) = same _
+suffices c kept t asked (call.Post ecb code) = same _
+suffices c kept t asked (call.TryPost ecb place code) = same _
+suffices c kept t asked (call.Clear ecb) = same _
+suffices c kept t asked (call.Extend ecb exit) = same _
+suffices c kept t asked (call.Test ecb) = same _
+suffices c kept t asked (call.Read volume) = same _
+suffices c kept t asked (call.Write volume number) = same _
+suffices c kept t asked call.Alloc = same _
+suffices c kept t asked (call.Pause token) = same _
+suffices c kept t asked (call.Release token code) = same _
+suffices c kept t asked (call.TryRelease token place code) = same _
+suffices c kept t asked (call.Transfer current target code) = same _
+suffices c kept t asked (call.Dealloc token) = same _
+suffices c kept t asked (call.TestElement element) = same _
+suffices c kept t asked (call.Obtain latch requestor mode form) = same _
+suffices c kept t asked (call.Check k) = same _
+suffices c kept t asked (call.Free k conditional) = same _
+suffices c kept t asked (call.Purge requestor) = same _
+suffices c kept t asked (call.EndTask requestor mother code) = omega (arith, few_used c kept)
+suffices c kept t asked (call.PostEvent index code) = same _
+suffices c kept t asked (call.NextEvent position) = same _

@@ -24,6 +24,7 @@ use Rattle.mv_machine.specs.declared.packing.WordState.TheVariants as state
 use Rattle.mv_machine.specs.Packing.{reply_in}
 use Rattle.mv_machine.specs.Setup.{Setup}
 use Rattle.mv_machine.proofs.Words.{packed_unpacks}
+use Rattle.mv_calls.specs.declared.table.Table.{Table}
 use Rattle.mv_calls.specs.Keeping.{Kept, kept_after, nothing_kept}
 use Rattle.mv_calls.specs.Pauses.{Reached, CameEarly, released, same_release_reply, try_release}
 use Rattle.mv_calls.specs.Posts.{Posting, posting, expected_of, is_expected, same_post_reply, try_post}
@@ -45,7 +46,8 @@ use Rattle.mv_script.specs.Fault.{obtain_meant}
 use Rattle.mv_script.specs.Run.{IsScriptRun, past_in, task_answers, script_answers, answer_at, unless_moved}
 use Rattle.mv_script.specs.Script.{ScriptData}
 use Rattle.mv_script.specs.Sound.{HasGoodNumbers, AreSoundCalls, IsSoundTask, IsSound, sizes_of}
-use Rattle.mv_script.specs.Tasks.{Past, Moves, no_past, lacks_request, request_of, answered, served, made, made_all, calls_at, task_program}
+use Rattle.mv_script.specs.Tasks.{Past, Moves, no_past, lacks_request, request_of, answered, served, made, made_all, calls_at, named_table}
+use Rattle.mv_script.specs.Tasks.{task_program}
 
 -- ---- programs that are done
 
@@ -146,13 +148,13 @@ release_answers t place code kept (h ∷ hs) a lt is =
 -- ---- one call of a task
 
 -- it answers one thing
-one_answer : (c : Setup) (m : Option ℕ) (past : Past) (d : Call) (kept : Kept) (hs : List Heard) (next : Past)
-    → left (made c m past d kept) hs ≡ Done next → (a : Answer) × (next.answers ≡ past.answers ++ a ∷ [])
-one_answer c (Some w) past d kept hs next e =
+one_answer : (c : Setup) (t : Table) (m : Option ℕ) (past : Past) (d : Call) (kept : Kept) (hs : List Heard) (next : Past)
+    → left (made c t m past d kept) hs ≡ Done next → (a : Answer) × (next.answers ≡ past.answers ++ a ∷ [])
+one_answer c t (Some w) past d kept hs next e =
     (answer.Moved w, ap (λ (p : Past). p.answers) (sym (done_is (answered past (answer.Moved w)) next hs e)))
-one_answer c None past d kept hs next e = go (lacks_request past.requests (obtain_meant d)) e where
+one_answer c t None past d kept hs next e = go (lacks_request past.requests (obtain_meant d)) e where
   s : Service
-  s = service_of (request_of past.requests) d
+  s = service_of t (request_of past.requests) d
 
   go : (b : Bool)
       → left ((if b then finished (answered past answer.NoToken)
@@ -164,12 +166,12 @@ one_answer c None past d kept hs next e = go (lacks_request past.requests (obtai
       (answer_to s r.answer, ap (λ (p : Past). p.answers) (sym (done_is (served past s r.answer) next r.later r.more)))
 
 -- a TRYPOST
-one_post : (c : Setup) (m : Option ℕ) (past : Past) (ecb place code : ℕ) (kept : Kept) (hs : List Heard) (next : Past)
-    → left (made c m past (call.TryPost ecb place code) kept) hs ≡ Done next
+one_post : (c : Setup) (t : Table) (m : Option ℕ) (past : Past) (ecb place code : ℕ) (kept : Kept) (hs : List Heard) (next : Past)
+    → left (made c t m past (call.TryPost ecb place code) kept) hs ≡ Done next
     → next.answers ≡ past.answers ++ unless_moved m answer.Posted ∷ []
-one_post c (Some w) past ecb place code kept hs next e =
+one_post c t (Some w) past ecb place code kept hs next e =
     ap (λ (p : Past). p.answers) (sym (done_is (answered past (answer.Moved w)) next hs e))
-one_post c None past ecb place code kept hs next e =
+one_post c t None past ecb place code kept hs next e =
     let s = service.TryPost ecb (zero_at place) code in
     let r = parts kept (service.program c s kept) (λ a. finished (served past s a)) hs next e in
     let is = post_answers ecb place code kept r.events r.answer r.done in
@@ -177,12 +179,13 @@ one_post c None past ecb place code kept hs next e =
     ∙ ap (λ (a : Posting). past.answers ++ answer_to s a ∷ []) is
 
 -- a TRYRELEASE
-one_release : (c : Setup) (m : Option ℕ) (past : Past) (t : Token) (place code : ℕ) (kept : Kept) (hs : List Heard) (next : Past)
-    → t.generation < generation_limit → left (made c m past (call.TryRelease t place code) kept) hs ≡ Done next
+one_release : (c : Setup) (table : Table) (m : Option ℕ) (past : Past) (t : Token) (place code : ℕ) (kept : Kept) (hs : List Heard)
+    (next : Past)
+    → t.generation < generation_limit → left (made c table m past (call.TryRelease t place code) kept) hs ≡ Done next
     → next.answers ≡ past.answers ++ unless_moved m answer.Early ∷ []
-one_release c (Some w) past t place code kept hs next lt e =
+one_release c table (Some w) past t place code kept hs next lt e =
     ap (λ (p : Past). p.answers) (sym (done_is (answered past (answer.Moved w)) next hs e))
-one_release c None past t place code kept hs next lt e =
+one_release c table None past t place code kept hs next lt e =
     let s = service.TryRelease t (reset_at t.generation place) code in
     let r = parts kept (service.program c s kept) (λ a. finished (served past s a)) hs next e in
     let is = release_answers t place code kept r.events r.answer lt r.done in
@@ -192,37 +195,38 @@ one_release c None past t place code kept hs next lt e =
 -- ---- a call among all of a task
 
 -- more calls answer more
-more_answers : (c : Setup) (moved : ℕ → Option ℕ) (past : Past) (calls : List Call) (kept : Kept) (hs : List Heard) (last : Past)
-    → left (made_all c moved past calls kept) hs ≡ Done last → (rest : List Answer) × (last.answers ≡ past.answers ++ rest)
-more_answers c moved past [] kept hs last e =
+more_answers : (c : Setup) (t : Table) (moved : ℕ → Option ℕ) (past : Past) (calls : List Call) (kept : Kept) (hs : List Heard)
+    (last : Past)
+    → left (made_all c t moved past calls kept) hs ≡ Done last → (rest : List Answer) × (last.answers ≡ past.answers ++ rest)
+more_answers c t moved past [] kept hs last e =
     ([], ap (λ (p : Past). p.answers) (sym (done_is past last hs e)) ∙ sym (append-nil past.answers))
-more_answers c moved past (d ∷ calls) kept hs last e =
-    let r = parts kept (made c (moved (length past.answers)) past d kept) (λ next. made_all c moved next calls) hs last e in
-    let one = one_answer c (moved (length past.answers)) past d kept r.events r.answer r.done in
-    let more = more_answers c moved r.answer calls r.kept r.later last r.more in (
+more_answers c t moved past (d ∷ calls) kept hs last e =
+    let r = parts kept (made c t (moved (length past.answers)) past d kept) (λ next. made_all c t moved next calls) hs last e in
+    let one = one_answer c t (moved (length past.answers)) past d kept r.events r.answer r.done in
+    let more = more_answers c t moved r.answer calls r.kept r.later last r.more in (
       one.0 ∷ more.0,
       more.1 ∙ ap (λ (xs : List Answer). xs ++ more.0) one.1 ∙ append_assoc past.answers (one.0 ∷ []) more.0,
     )
 
 -- the call at this place was made, behind as many others, and others behind it
-record IsMadeAt (c : Setup) (moved : ℕ → Option ℕ) (d : Call) (place : ℕ) (last : Past) : Type 0 where
+record IsMadeAt (c : Setup) (t : Table) (moved : ℕ → Option ℕ) (d : Call) (place : ℕ) (last : Past) : Type 0 where
   before : Past
   place_is : length before.answers ≡ place
   kept : Kept
   events : List Heard
   behind : Past
-  done : left (made c (moved place) before d kept) events ≡ Done behind
+  done : left (made c t (moved place) before d kept) events ≡ Done behind
   rest : List Answer
   all : last.answers ≡ behind.answers ++ rest
 
-made_at : (c : Setup) (moved : ℕ → Option ℕ) (past : Past) (calls : List Call) (kept : Kept) (hs : List Heard) (last : Past)
+made_at : (c : Setup) (t : Table) (moved : ℕ → Option ℕ) (past : Past) (calls : List Call) (kept : Kept) (hs : List Heard) (last : Past)
     (i n : ℕ) (d : Call)
-    → left (made_all c moved past calls kept) hs ≡ Done last → slice_get calls i ≡ Some d → length past.answers + i ≡ n
-    → IsMadeAt c moved d n last
-made_at c moved past [] kept hs last i n d e at place = absurd (cc at)
-made_at c moved past (x ∷ calls) kept hs last zero n d e at place =
-    let r = parts kept (made c (moved (length past.answers)) past x kept) (λ next. made_all c moved next calls) hs last e in
-    let more = more_answers c moved r.answer calls r.kept r.later last r.more in
+    → left (made_all c t moved past calls kept) hs ≡ Done last → slice_get calls i ≡ Some d → length past.answers + i ≡ n
+    → IsMadeAt c t moved d n last
+made_at c t moved past [] kept hs last i n d e at place = absurd (cc at)
+made_at c t moved past (x ∷ calls) kept hs last zero n d e at place =
+    let r = parts kept (made c t (moved (length past.answers)) past x kept) (λ next. made_all c t moved next calls) hs last e in
+    let more = more_answers c t moved r.answer calls r.kept r.later last r.more in
     let here : length past.answers ≡ n = omega arith in
     let same : x ≡ d = cc at in record {
       before = past;
@@ -230,17 +234,17 @@ made_at c moved past (x ∷ calls) kept hs last zero n d e at place =
       kept = kept;
       events = r.events;
       behind = r.answer;
-      done = subst (λ (y : Call). left (made c (moved n) past y kept) r.events ≡ Done r.answer) same
-          (subst (λ (m : ℕ). left (made c (moved m) past x kept) r.events ≡ Done r.answer) here r.done);
+      done = subst (λ (y : Call). left (made c t (moved n) past y kept) r.events ≡ Done r.answer) same
+          (subst (λ (m : ℕ). left (made c t (moved m) past x kept) r.events ≡ Done r.answer) here r.done);
       rest = more.0;
       all = more.1;
     }
-made_at c moved past (x ∷ calls) kept hs last (suc i) n d e at place =
-    let r = parts kept (made c (moved (length past.answers)) past x kept) (λ next. made_all c moved next calls) hs last e in
-    let one = one_answer c (moved (length past.answers)) past x kept r.events r.answer r.done in
+made_at c t moved past (x ∷ calls) kept hs last (suc i) n d e at place =
+    let r = parts kept (made c t (moved (length past.answers)) past x kept) (λ next. made_all c t moved next calls) hs last e in
+    let one = one_answer c t (moved (length past.answers)) past x kept r.events r.answer r.done in
     let longer : length r.answer.answers ≡ length past.answers + 1 =
     ap (λ (xs : List Answer). length xs) one.1 ∙ length-append past.answers (one.0 ∷ []) in
-    made_at c moved r.answer calls r.kept r.later last i n d r.more at (omega arith)
+    made_at c t moved r.answer calls r.kept r.later last i n d r.more at (omega arith)
 
 -- ---- in a run
 
@@ -256,7 +260,7 @@ call_good z before [] i d sound at = absurd (cc at)
 call_good z before (x ∷ calls) zero d sound at = let same : x ≡ d = cc at in subst (HasGoodNumbers z) same sound.0.numbers
 call_good z before (x ∷ calls) (suc i) d sound at = call_good z (before ++ x ∷ []) calls i d sound.1 at
 
-calls_good : (z : Sizes) (tasks : List (List Call)) (k : ℕ) → AllByRecursion (IsSoundTask z) tasks
+pub calls_good : (z : Sizes) (tasks : List (List Call)) (k : ℕ) → AllByRecursion (IsSoundTask z) tasks
     → AreSoundCalls z [] (unwrap_or (slice_get tasks k) [])
 calls_good z [] k sound = tt
 calls_good z (task ∷ tasks) zero sound = sound.0.sound
@@ -277,9 +281,10 @@ module _ (script : ScriptData) (moves : Moves) (es : List Entry) (k i : ℕ) (d 
   done = run.finish.done k (let n = ap (λ (s : Setup). s.callers) sound.setup in omega (arith, within, n))
 
   -- the call was made
-  call_made : IsMadeAt script.setup (moves k) d i done.0
+  call_made : IsMadeAt script.setup (named_table script.table) (moves k) d i done.0
   call_made =
-      made_at script.setup (moves k) no_past (calls_at script k) (nothing_kept k) (heard_in script.setup k es) done.0 i i d done.1 at
+      made_at script.setup (named_table script.table) (moves k) no_past (calls_at script k) (nothing_kept k) (heard_in script.setup k es)
+      done.0 i i d done.1 at
       (omega arith)
 
   answers_are : slice_get (script_answers script moves es) k ≡ Some done.0.answers
@@ -306,7 +311,7 @@ post_tried script moves es k i ecb place code sound run at =
     let d = call.TryPost ecb place code in
     let m = call_made script moves es k i d sound run at in
     answered_so script moves es k i d sound run at (unless_moved (moves k i) answer.Posted)
-    (one_post script.setup (moves k i) m.before ecb place code m.kept m.events m.behind m.done)
+    (one_post script.setup (named_table script.table) (moves k i) m.before ecb place code m.kept m.events m.behind m.done)
 
 pub release_tried : (script : ScriptData) (moves : Moves) (es : List Entry) (k i : ℕ) (token : Token) (place code : ℕ)
     → IsSound script → IsScriptRun script moves es → slice_get (calls_at script k) i ≡ Some (call.TryRelease token place code)
@@ -317,4 +322,5 @@ release_tried script moves es k i token place code sound run at =
     let z = sizes_of script in
     let good = call_good z [] (calls_at script k) i d (calls_good z script.tasks k sound.tasks) at in
     answered_so script moves es k i d sound run at (unless_moved (moves k i) answer.Early)
-    (one_release script.setup (moves k i) m.before token place code m.kept m.events m.behind (omega (arith, good.0.1)) m.done)
+    (one_release script.setup (named_table script.table) (moves k i) m.before token place code m.kept m.events m.behind
+    (omega (arith, good.0.1)) m.done)

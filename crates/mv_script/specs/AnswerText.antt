@@ -66,6 +66,9 @@ answer_text answer.Waiting = codes "WAITING"
 answer_text answer.Gone = codes "GONE"
 answer_text answer.NoToken = codes "NOTOKEN"
 answer_text (answer.Released granted) = word_and (codes "RELEASED") granted
+answer_text (answer.Entered position) = word_and (codes "ENTERED") position
+answer_text (answer.Event index word) = word_and (word_and (codes "EVENT") index) word
+answer_text answer.Drained = codes "DRAINED"
 answer_text (answer.PurgedCounts removed granted) = word_and (word_and (codes "PURGED") removed) granted
 
 -- a line: the task's number, counted from 0, the call's, counted from 1, and the answer
@@ -119,6 +122,8 @@ IsInRange (answer.TargetSpent generation) = IsNumber generation
 IsInRange (answer.State s) = IsNumber s.generation × IsNumber s.code
 IsInRange (answer.NotNow id) = IsNumber id
 IsInRange (answer.Released granted) = IsNumber granted
+IsInRange (answer.Entered position) = IsNumber position
+IsInRange (answer.Event index word) = IsNumber index × IsNumber word
 IsInRange (answer.PurgedCounts removed granted) = IsNumber removed × IsNumber granted
 IsInRange _ = Unit {0}
 

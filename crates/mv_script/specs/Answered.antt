@@ -1,5 +1,6 @@
 -- What a call of a script answers, by what the service answered.
 use Rattle.std.specs.Prelude.{ℕ, map, Option, Some, None, Result, Ok, Err}
+use Rattle.mv_calls.specs.Events.{Entering, EnteredAt, WasComplete, Finding}
 use Rattle.mv_calls.specs.LatchCalls.{Obtained, GrantedAs, PendingAs, Standing, Holds, Waits, IsOut, Counts}
 use Rattle.mv_calls.specs.Pauses.{Gift, Reached, CameEarly, WokeIt}
 use Rattle.mv_calls.specs.Posts.{Posting}
@@ -13,11 +14,9 @@ use Rattle.mv_wait.specs.declared.waiting.WaitSlot.TheVariants as slot
 use Rattle.mv_script.specs.declared.answer.Answer.{Answer}
 use Rattle.mv_script.specs.declared.answer.Answer.TheVariants as answer
 
--- No call of a script is one on a table of events (`service_of` of Costs), so their answers and refusals never come: this stands there.
-abbrev pub never_asked : Answer
-never_asked = answer.Done
-
--- each refusal has an answer of its own
+-- Each refusal has an answer of its own, but for the two that no call of a script is told: a post of an event finds no volume that
+-- counts too many, and no slot has a code that is no event's index (`EventsAreInOrder` of Events). They stand beside the purge of
+-- such a post, which does not come either.
 abbrev pub refused : Refusal → Answer
 refused refusal.TooMany = answer.TooMany
 refused (refusal.Doubled position) = answer.Doubled position
@@ -38,9 +37,9 @@ refused (refusal.NotNow id) = answer.NotNow id
 refused refusal.Purged = answer.Purged
 refused refusal.Gone = answer.Gone
 refused refusal.StillWaiting = answer.Waiting
-refused (refusal.Broken count) = never_asked
-refused refusal.Drained = never_asked
-refused (refusal.Strange index) = never_asked
+refused (refusal.Broken count) = answer.Purged
+refused refusal.Drained = answer.Drained
+refused (refusal.Strange index) = answer.Purged
 
 -- what was done, or why it was refused
 abbrev pub done_or : {A : Type 0} → (A → Answer) → Result A Refusal → Answer
@@ -87,6 +86,15 @@ standing IsOut = answer.Gone
 abbrev pub purged : Counts → Answer
 purged counts = answer.PurgedCounts counts.removed counts.granted
 
+-- a post of an event
+abbrev pub entered : Entering → Answer
+entered (EnteredAt position) = answer.Entered position
+entered (WasComplete code) = answer.AlreadyPosted code
+
+-- an event that was handed out
+abbrev pub found : Finding → Answer
+found finding = answer.Event finding.index finding.word
+
 -- the answer to each service
 abbrev pub answer_to : (s : Service) → service.Answer s → Answer
 answer_to (service.Wait count blocks) a = done_or (λ slots. answer.Waited (map slot_with slots)) a
@@ -110,5 +118,5 @@ answer_to (service.ReleaseLatch latch id conditional) a = done_or (λ granted. a
 answer_to (service.Purge requestor) a = purged a
 answer_to (service.EndOfJob requestor block code) a = purged a
 answer_to (service.EndOfTask requestor mother code) a = purged a
-answer_to (service.PostEvent table index code) a = never_asked
-answer_to (service.NextEvent table position) a = never_asked
+answer_to (service.PostEvent table index code) a = done_or entered a
+answer_to (service.NextEvent table position) a = done_or found a

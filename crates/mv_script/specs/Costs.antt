@@ -5,12 +5,14 @@ use Rattle.mv_element.specs.Element.{reset}
 use Rattle.mv_machine.specs.Packing.{pack}
 use Rattle.mv_machine.specs.declared.packing.WordState.TheVariants as state
 use Rattle.mv_machine.specs.Setup.{Setup, SetupExit}
+use Rattle.mv_calls.specs.declared.table.Table.{Table}
 use Rattle.mv_calls.specs.Keeping.{Kept, nothing_kept}
 use Rattle.mv_calls.specs.Services.{Service, most_events}
 use Rattle.mv_calls.specs.Services as service
 use Rattle.mv_script.specs.declared.call.Call.{Call}
 use Rattle.mv_script.specs.declared.call.Call.TheVariants as call
 use Rattle.mv_script.specs.Limits.{elements_per_task, volumes, latches, quota, posted_quota}
+use Rattle.mv_script.specs.Operand.{table_with}
 
 -- the configuration of a script with so many tasks, and with these blocks, exits and budgets
 abbrev pub script_setup : ℕ → List ℕ → List SetupExit → List ℕ → Setup
@@ -41,28 +43,30 @@ zero_at place = pack place (state.Ecb Zero)
 abbrev pub reset_at : ℕ → ℕ → ℕ
 reset_at generation place = pack place (state.Element (reset generation))
 
--- the service that a call asks for, where the task's OBTAINs, counted from 1, got these requests
-abbrev pub service_of : (ℕ → Asked) → Call → Service
-service_of asked (call.Wait count ecbs) = service.Wait count ecbs
-service_of asked (call.Post ecb code) = service.Post ecb code
-service_of asked (call.TryPost ecb place code) = service.TryPost ecb (zero_at place) code
-service_of asked (call.Clear ecb) = service.Clear ecb
-service_of asked (call.Extend ecb exit) = service.Extend ecb exit
-service_of asked (call.Test ecb) = service.TestEcb ecb
-service_of asked (call.Read volume) = service.ReadVolume volume
-service_of asked (call.Write volume number) = service.WriteVolume volume number
-service_of asked call.Alloc = service.Allocate
-service_of asked (call.Pause token) = service.Pause token
-service_of asked (call.Release token code) = service.Release token code
-service_of asked (call.TryRelease token place code) = service.TryRelease token (reset_at token.generation place) code
-service_of asked (call.Transfer current target code) = service.Transfer current target code
-service_of asked (call.Dealloc token) = service.Deallocate token
-service_of asked (call.TestElement element) = service.TestElement element
-service_of asked (call.Obtain latch requestor mode form) = service.Obtain latch requestor mode form
-service_of asked (call.Check k) = service.CheckLatch (asked k).latch (asked k).id
-service_of asked (call.Free k conditional) = service.ReleaseLatch (asked k).latch (asked k).id conditional
-service_of asked (call.Purge requestor) = service.Purge requestor
-service_of asked (call.EndTask requestor mother code) = service.EndOfTask requestor mother code
+-- the service that a call asks for, where this is the script's table, and the task's OBTAINs, counted from 1, got these requests
+abbrev pub service_of : Table → (ℕ → Asked) → Call → Service
+service_of t asked (call.Wait count ecbs) = service.Wait count ecbs
+service_of t asked (call.Post ecb code) = service.Post ecb code
+service_of t asked (call.TryPost ecb place code) = service.TryPost ecb (zero_at place) code
+service_of t asked (call.Clear ecb) = service.Clear ecb
+service_of t asked (call.Extend ecb exit) = service.Extend ecb exit
+service_of t asked (call.Test ecb) = service.TestEcb ecb
+service_of t asked (call.Read volume) = service.ReadVolume volume
+service_of t asked (call.Write volume number) = service.WriteVolume volume number
+service_of t asked call.Alloc = service.Allocate
+service_of t asked (call.Pause token) = service.Pause token
+service_of t asked (call.Release token code) = service.Release token code
+service_of t asked (call.TryRelease token place code) = service.TryRelease token (reset_at token.generation place) code
+service_of t asked (call.Transfer current target code) = service.Transfer current target code
+service_of t asked (call.Dealloc token) = service.Deallocate token
+service_of t asked (call.TestElement element) = service.TestElement element
+service_of t asked (call.Obtain latch requestor mode form) = service.Obtain latch requestor mode form
+service_of t asked (call.Check k) = service.CheckLatch (asked k).latch (asked k).id
+service_of t asked (call.Free k conditional) = service.ReleaseLatch (asked k).latch (asked k).id conditional
+service_of t asked (call.Purge requestor) = service.Purge requestor
+service_of t asked (call.EndTask requestor mother code) = service.EndOfTask requestor mother code
+service_of t asked (call.PostEvent index code) = service.PostEvent t index code
+service_of t asked (call.NextEvent position) = service.NextEvent t position
 
 -- ---- costs
 
@@ -70,13 +74,17 @@ service_of asked (call.EndTask requestor mother code) = service.EndOfTask reques
 abbrev pub nothing_asked : ℕ → Asked
 nothing_asked k = record { latch = 0; id = 0 }
 
+-- nor on which table there is
+abbrev pub no_table : Table
+no_table = table_with 0 0 0 0 0 0
+
 -- at its end a task may use all of its elements
 abbrev pub all_in_use : Kept
 all_in_use = record (nothing_kept 0) { in_use = λ n. true }
 
 -- how many events a call may need
 abbrev pub cost : Setup → Call → ℕ
-cost c call = most_events c all_in_use (service_of nothing_asked call)
+cost c call = most_events c all_in_use (service_of no_table nothing_asked call)
 
 -- how many events these calls may need together
 abbrev pub costs_of : Setup → List Call → ℕ

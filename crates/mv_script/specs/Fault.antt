@@ -1,16 +1,17 @@
 -- The faults of a text: one test for each kind of fault that a line can have, and which fault is the first.
 use Rattle.std.specs.Prelude.{◌≡◌, ℕ, Bool, true, false, ◌&&◌, ◌||◌, not, nat_le, nat_lt, List, [], ◌∷◌, ◌++◌, length, sum}
-use Rattle.std.specs.Prelude.{count_by, Option, Some, None, Ok, Err, if◌then◌else◌}
+use Rattle.std.specs.Prelude.{count_by, Option, Some, None, is_some, Ok, Err, if◌then◌else◌}
 use Rattle.std.specs.List.{list_any}
 use Rattle.mv_line.specs.Byte.{is_within}
 use Rattle.mv_line.specs.Line.{lines_of, is_foreign, is_too_long}
 use Rattle.mv_line.specs.Fault.{LineRules, faults_by_line, first_of_list}
 use Rattle.mv_machine.specs.Limits.{events_limit}
+use Rattle.mv_calls.specs.Table.{table_refusal}
 use Rattle.mv_script.specs.declared.call.Call.{Call}
 use Rattle.mv_script.specs.declared.call.Call.TheVariants as call
 use Rattle.mv_script.specs.declared.fault.Kind.{Kind}
 use Rattle.mv_script.specs.declared.fault.Kind.TheVariants.{ForeignByte, TooLong, NoForm, BadNumber, OutOfOrder, Miscounted, LeadsDown}
-use Rattle.mv_script.specs.declared.fault.Kind.TheVariants.{NoObtain, NoEnd, TooCostly}
+use Rattle.mv_script.specs.declared.fault.Kind.TheVariants.{NoObtain, NoEnd, TooCostly, UsesTable, BadTable}
 use Rattle.mv_script.specs.declared.fault.ScriptFault.{ScriptFault}
 use Rattle.mv_script.specs.declared.fault.ScriptRefusal.{ScriptRefusal}
 use Rattle.mv_script.specs.declared.fault.ScriptRefusal.TheVariants.{Fault, NoMemory}
@@ -18,8 +19,10 @@ use Rattle.mv_script.specs.declared.statement.Statement.{Statement}
 use Rattle.mv_script.specs.declared.statement.Statement.TheVariants as statement
 use Rattle.mv_script.specs.declared.words.Misread.TheVariants as misread
 use Rattle.mv_script.specs.Limits.{most_ecbs, most_exits, most_calls}
-use Rattle.mv_script.specs.Script.{task_count, owners_of, exits_of, tasks_of, last_task, is_obtain, budgets_of, sizes_behind, with_line}
+use Rattle.mv_script.specs.Script.{task_count, owners_of, exits_of, table_of, tasks_of, last_task, is_obtain, setup_with, budgets_of}
+use Rattle.mv_script.specs.Script.{sizes_behind, with_line}
 use Rattle.mv_script.specs.Statement.{line_states}
+use Rattle.mv_script.specs.Table.{uses_any}
 use Rattle.mv_script.specs.Words.{Read}
 
 -- the number of a kind
@@ -34,6 +37,8 @@ kind_number LeadsDown = 7
 kind_number NoObtain = 8
 kind_number NoEnd = 9
 kind_number TooCostly = 10
+kind_number UsesTable = 11
+kind_number BadTable = 12
 
 -- ---- faults of a line by itself
 
@@ -81,6 +86,10 @@ has_script earlier = list_any is_script earlier
 abbrev pub has_exit : List Statement → Bool
 has_exit earlier = list_any is_exit earlier
 
+-- a TABLE
+abbrev pub has_table : List Statement → Bool
+has_table earlier = is_some (table_of earlier)
+
 -- a TASK
 abbrev pub has_task : List Statement → Bool
 has_task earlier = list_any is_task earlier
@@ -89,23 +98,27 @@ has_task earlier = list_any is_task earlier
 abbrev pub has_end : List Statement → Bool
 has_end earlier = list_any is_end earlier
 
--- SCRIPT is the first of all, and stands once. Behind it come the ECBs, then the EXITs, then the tasks, each a TASK and its
--- calls, and then END, behind which nothing stands
+-- SCRIPT is the first of all, and stands once. Behind it come the ECBs, then the EXITs, then the TABLE, then the tasks, each a TASK
+-- and its calls, and then END, behind which nothing stands
 abbrev pub is_out_of_order : List Statement → Statement → Bool
 is_out_of_order earlier (statement.Script t) = nat_lt 0 (length earlier)
-is_out_of_order earlier (statement.Ecb owner) = not (has_script earlier) || (has_exit earlier || (has_task earlier || has_end earlier))
-is_out_of_order earlier (statement.Exit source targets) = not (has_script earlier) || (has_task earlier || has_end earlier)
+is_out_of_order earlier (statement.Ecb owner) =
+    not (has_script earlier) || (has_exit earlier || (has_table earlier || (has_task earlier || has_end earlier)))
+is_out_of_order earlier (statement.Exit source targets) =
+    not (has_script earlier) || (has_table earlier || (has_task earlier || has_end earlier))
+is_out_of_order earlier (statement.Table t) = not (has_script earlier) || (has_task earlier || has_end earlier)
 is_out_of_order earlier statement.Task = not (has_script earlier) || has_end earlier
 is_out_of_order earlier (statement.Call c) = not (has_task earlier) || has_end earlier
 is_out_of_order earlier statement.End = not (has_script earlier) || has_end earlier
 
 -- ---- what a statement asks of those before it
 
--- one more block, exit, task or call than there may be, or an END behind fewer tasks than are stated
+-- one more block, exit, table, task or call than there may be, or an END behind fewer tasks than are stated
 abbrev pub is_miscounted : List Statement → Statement → Bool
 is_miscounted earlier (statement.Script t) = false
 is_miscounted earlier (statement.Ecb owner) = nat_le most_ecbs (length (owners_of earlier))
 is_miscounted earlier (statement.Exit source targets) = nat_le most_exits (length (exits_of earlier))
+is_miscounted earlier (statement.Table t) = has_table earlier
 is_miscounted earlier statement.Task = nat_le (task_count earlier) (length (tasks_of earlier))
 is_miscounted earlier (statement.Call c) = nat_le most_calls (length (last_task (tasks_of earlier)))
 is_miscounted earlier statement.End = nat_lt (length (tasks_of earlier)) (task_count earlier)
@@ -115,6 +128,7 @@ abbrev pub leads_down : Statement → Bool
 leads_down (statement.Script t) = false
 leads_down (statement.Ecb owner) = false
 leads_down (statement.Exit source targets) = list_any (λ target. nat_le target source) targets
+leads_down (statement.Table t) = false
 leads_down statement.Task = false
 leads_down (statement.Call c) = false
 leads_down statement.End = false
@@ -135,6 +149,7 @@ abbrev pub lacks_obtain : List Statement → Statement → Bool
 lacks_obtain earlier (statement.Script t) = false
 lacks_obtain earlier (statement.Ecb owner) = false
 lacks_obtain earlier (statement.Exit source targets) = false
+lacks_obtain earlier (statement.Table t) = false
 lacks_obtain earlier statement.Task = false
 lacks_obtain earlier (statement.Call c) = is_no_obtain (last_task (tasks_of earlier)) (obtain_meant c)
 lacks_obtain earlier statement.End = false
@@ -142,6 +157,26 @@ lacks_obtain earlier statement.End = false
 -- the calls of a script with this statement may make more events than a run may have
 abbrev pub is_too_costly : List Statement → Statement → Bool
 is_too_costly earlier s = nat_lt events_limit (sum (budgets_of (earlier ++ s ∷ [])))
+
+-- a call but EVPOST and EVNEXT that uses what is the table's
+abbrev pub uses_table : List Statement → Statement → Bool
+uses_table earlier (statement.Script t) = false
+uses_table earlier (statement.Ecb owner) = false
+uses_table earlier (statement.Exit source targets) = false
+uses_table earlier (statement.Table t) = false
+uses_table earlier statement.Task = false
+uses_table earlier (statement.Call c) = uses_any (table_of earlier) c
+uses_table earlier statement.End = false
+
+-- a TABLE that the configuration cannot have
+abbrev pub is_bad_table : List Statement → Statement → Bool
+is_bad_table earlier (statement.Script t) = false
+is_bad_table earlier (statement.Ecb owner) = false
+is_bad_table earlier (statement.Exit source targets) = false
+is_bad_table earlier (statement.Table t) = is_some (table_refusal (setup_with earlier []) t)
+is_bad_table earlier statement.Task = false
+is_bad_table earlier (statement.Call c) = false
+is_bad_table earlier statement.End = false
 
 -- ---- all faults, and the first
 
@@ -157,7 +192,9 @@ kinds_behind earlier s =
     ++ (when (is_miscounted earlier s && in_order) Miscounted
     ++ (when (leads_down s && in_order) LeadsDown
     ++ (when (lacks_obtain earlier s && in_order) NoObtain
-    ++ when (is_too_costly earlier s && in_order) TooCostly)))
+    ++ (when (is_too_costly earlier s && in_order) TooCostly
+    ++ (when (uses_table earlier s && in_order) UsesTable
+    ++ when (is_bad_table earlier s && in_order) BadTable)))))
 
 -- the same for a line that may state nothing
 abbrev pub kinds_of_statement : List Statement → Option (Read Statement) → List ℕ

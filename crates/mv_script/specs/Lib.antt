@@ -4,6 +4,7 @@ pub mod Operand
 pub mod Statement
 pub mod Costs
 pub mod Script
+pub mod Table
 pub mod Misread
 pub mod Fault
 pub mod Answered
@@ -11,5 +12,6 @@ pub mod Tasks
 pub mod Run
 pub mod AnswerText
 pub mod Sound
+pub mod Events
 pub mod Reading
 pub mod Faults

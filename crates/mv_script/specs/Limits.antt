@@ -33,6 +33,14 @@ highest_count = 99
 abbrev pub highest_latch : ℕ
 highest_latch = 99
 
+-- the highest size of a table in its line: one that no table may have is its refusal, and the line's fault is that
+abbrev pub highest_size : ℕ
+highest_size = 99
+
+-- the highest position of an EVNEXT: one that the table does not have is a refusal, and no fault
+abbrev pub highest_position : ℕ
+highest_position = 99
+
 -- ---- what the configuration of every script has
 
 -- elements of each task

@@ -11,9 +11,10 @@ use Rattle.mv_latch.specs.declared.request.Mode.TheVariants.{Shared, Exclusive}
 use Rattle.mv_line.specs.Byte.{is_within}
 use Rattle.mv_line.specs.Number.{is_digits, number_of}
 use Rattle.mv_machine.specs.Limits.{highest_place, highest_generation}
+use Rattle.mv_calls.specs.declared.table.Table.{Table}
 use Rattle.mv_script.specs.declared.words.Misread.TheVariants.{NoForm, BadNumber}
 use Rattle.mv_script.specs.declared.operand.Sizes.{Sizes}
-use Rattle.mv_script.specs.Limits.{most_tasks, highest_count, highest_latch, elements_per_task, volumes}
+use Rattle.mv_script.specs.Limits.{most_tasks, highest_count, highest_latch, highest_size, highest_position, elements_per_task, volumes}
 use Rattle.mv_script.specs.Words.{Read, making, both}
 
 -- ---- numbers: a word that is none fits no form; a zero in front of others, or a number that does not pass the test, is bad
@@ -54,6 +55,33 @@ volume word = below volumes word
 -- a latch, which need not be there
 abbrev pub latch : List ℕ → Read ℕ
 latch word = below (highest_latch + 1) word
+
+-- how many events a table has, which need not be as many as a table may have
+abbrev pub table_size : List ℕ → Read ℕ
+table_size word = below (highest_size + 1) word
+
+-- a table by its numbers
+abbrev pub table_with : (owner latch volume events slots size : ℕ) → Table
+table_with owner latch volume events slots size =
+    record { owner = owner; latch = latch; volume = volume; events = events; slots = slots; size = size }
+
+-- how many events there are: none without a table
+abbrev pub event_count : Option Table → ℕ
+event_count None = 0
+event_count (Some t) = t.size
+
+-- how many positions may be named: none without a table, and with one also some that it does not have
+abbrev pub position_count : Option Table → ℕ
+position_count None = 0
+position_count (Some t) = highest_position + 1
+
+-- an event of the script's table
+abbrev pub event : Sizes → List ℕ → Read ℕ
+event z word = below (event_count z.table) word
+
+-- a position there
+abbrev pub event_position : Sizes → List ℕ → Read ℕ
+event_position z word = below (position_count z.table) word
 
 -- how many blocks of a WAIT are to be complete
 abbrev pub count : List ℕ → Read ℕ

@@ -5,6 +5,8 @@ use Rattle.std.specs.List.{AllByRecursion}
 use Rattle.mv_machine.specs.Config.{exit_of}
 use Rattle.mv_machine.specs.Limits.{events_limit}
 use Rattle.mv_machine.specs.Setup.{Setup, SetupExit}
+use Rattle.mv_calls.specs.declared.table.Table.{Table}
+use Rattle.mv_calls.specs.Table.{IsTableOf}
 use Rattle.mv_script.specs.declared.call.Call.{Call}
 use Rattle.mv_script.specs.declared.fault.LineRefusal.{LineRefusal}
 use Rattle.mv_script.specs.declared.fault.LineRefusal.TheVariants.{Has, NoMemory}
@@ -19,18 +21,19 @@ use Rattle.mv_script.specs.Costs.{script_setup, costs_of}
 use Rattle.mv_script.specs.Fault.{has_script, has_exit, has_task, has_end, kind_number, fault_at, kinds_behind}
 use Rattle.mv_line.specs.Fault.{first_of_list}
 use Rattle.mv_script.specs.Limits.{most_tasks, most_ecbs, most_exits}
-use Rattle.mv_script.specs.Script.{task_count, owners_of, exits_of, tasks_of, with_call, sizes_behind, is_obtain}
-use Rattle.mv_script.specs.Sound.{IsSoundExit, IsSoundTask, IsGoodStatement}
+use Rattle.mv_script.specs.Script.{task_count, owners_of, exits_of, table_of, tasks_of, with_call, sizes_behind, is_obtain}
+use Rattle.mv_script.specs.Sound.{IfThere, IsSoundExit, IsSoundTask, IsGoodStatement}
 
 -- ---- how far statements have come
 
--- what they state so far: how many tasks, the blocks and exits, the tasks with their calls; and which lines stand among them
+-- what they state so far: how many tasks, the blocks and exits, the table, the tasks with their calls; and which lines stand among them
 pub record Progress : Type 0 where
   pub script : Bool
   pub stated : ℕ
   pub owners : List ℕ
   pub exit : Bool
   pub exits : List SetupExit
+  pub table : Option Table
   pub task : Bool
   pub tasks : List (List Call)
   pub ended : Bool
@@ -43,6 +46,7 @@ progress_of statements = record {
   owners = owners_of statements;
   exit = has_exit statements;
   exits = exits_of statements;
+  table = table_of statements;
   task = has_task statements;
   tasks = tasks_of statements;
   ended = has_end statements;
@@ -54,13 +58,14 @@ with_statement p (statement.Script t) = record p { script = true; stated = t }
 with_statement p (statement.Ecb owner) = record p { owners = p.owners ++ owner ∷ [] }
 with_statement p (statement.Exit source targets) =
     record p { exit = true; exits = p.exits ++ record { source = source; targets = targets } ∷ [] }
+with_statement p (statement.Table t) = record p { table = Some t }
 with_statement p statement.Task = record p { task = true; tasks = p.tasks ++ [] ∷ [] }
 with_statement p (statement.Call c) = record p { tasks = with_call p.tasks c }
 with_statement p statement.End = record p { ended = true }
 
--- how many tasks and blocks there are that a line may name
+-- how many tasks and blocks there are that a line may name, and the table
 abbrev pub sizes_in : Progress → Sizes
-sizes_in p = record { tasks = p.stated; ecbs = length p.owners }
+sizes_in p = record { tasks = p.stated; ecbs = length p.owners; table = p.table }
 
 -- the configuration so far, with these budgets
 abbrev pub setup_in : Progress → List ℕ → Setup
@@ -79,6 +84,7 @@ pub record IsSoundSoFar (p : Progress) : Type 0 where
   pub few_exits : length p.exits ≤ most_exits
   pub exits : AllByRecursion (IsSoundExit (sizes_in p)) p.exits
   pub exit : p.exit ≡ nat_lt 0 (length p.exits)
+  pub table : IfThere (IsTableOf (setup_in p [])) p.table
   pub few_tasks : length p.tasks ≤ p.stated
   pub tasks : AllByRecursion (IsSoundTask (sizes_in p)) p.tasks
   pub task : p.task ≡ nat_lt 0 (length p.tasks)
@@ -92,6 +98,7 @@ pub record Notes : Type 0 where
   pub stated : ℕ
   pub owners : List ℕ
   pub exits : List SetupExit
+  pub table : Option Table
   pub costs : Option Setup
   pub finished : List (List Call)
   pub budgets : List ℕ
@@ -107,6 +114,7 @@ notes_of r = record {
   stated = r.stated;
   owners = r.owners.items;
   exits = map exit_of r.exits.items;
+  table = r.table;
   costs = r.costs;
   finished = r.finished.items;
   budgets = r.budgets.items;
@@ -133,6 +141,7 @@ pub record IsAsFar (p : Progress) (n : Notes) : Type 0 where
   pub stated : n.stated ≡ p.stated
   pub owners : n.owners ≡ p.owners
   pub exits : n.exits ≡ p.exits
+  pub table : n.table ≡ p.table
   pub begun : is_some n.costs ≡ p.task
   pub costs : HasCosts n.costs (setup_in p (replicate p.stated 0))
   pub tasks : n.finished ++ open_task p.task n.calls ≡ p.tasks

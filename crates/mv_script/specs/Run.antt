@@ -14,7 +14,7 @@ use Rattle.mv_script.specs.declared.call.Call.{Call}
 use Rattle.mv_script.specs.declared.call.Call.TheVariants as call
 use Rattle.mv_script.specs.Costs.{zero_at, reset_at}
 use Rattle.mv_script.specs.Script.{ScriptData}
-use Rattle.mv_script.specs.Tasks.{Past, no_past, made_all, calls_at, Moves, task_program}
+use Rattle.mv_script.specs.Tasks.{Past, no_past, made_all, named_table, calls_at, Moves, task_program}
 
 -- ---- words that were met
 
@@ -32,7 +32,8 @@ taken p hs = 0
 -- how many entries of a task's part of a history its first i calls made
 abbrev pub entries_before : ScriptData → Moves → List Entry → ℕ → ℕ → ℕ
 entries_before script moves es k i =
-    taken (made_all script.setup (moves k) no_past (take i (calls_at script k)) (nothing_kept k)) (heard_in script.setup k es)
+    taken (made_all script.setup (named_table script.table) (moves k) no_past (take i (calls_at script k)) (nothing_kept k))
+    (heard_in script.setup k es)
 
 -- In this history, call i of task k tried an object and met this word there. It is not the word that was expected, and the object
 -- had it behind the entries on it of the task's earlier calls, and before those of its later ones.

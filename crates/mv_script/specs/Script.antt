@@ -2,7 +2,9 @@
 use Rattle.std.specs.Prelude.{ℕ, Bool, true, false, List, [], ◌∷◌, ◌++◌, length, map, fold, filter_map, Option, Some, None}
 use Rattle.std.specs.Prelude.{Ok, Err}
 use Rattle.mv_line.specs.Line.{lines_of}
+use Rattle.mv_machine.specs.Check.{or_else}
 use Rattle.mv_machine.specs.Setup.{Setup, SetupExit}
+use Rattle.mv_calls.specs.declared.table.Table.{Table}
 use Rattle.mv_script.specs.declared.call.Call.{Call}
 use Rattle.mv_script.specs.declared.call.Call.TheVariants as call
 use Rattle.mv_script.specs.declared.script.Script.{Script}
@@ -13,14 +15,15 @@ use Rattle.mv_script.specs.Costs.{script_setup, costs_of}
 use Rattle.mv_script.specs.Statement.{line_states}
 use Rattle.mv_script.specs.Words.{Read}
 
--- a script without where it lies in memory: the configuration, and the calls of each task
+-- a script without where it lies in memory: the configuration, the calls of each task, and the table of events, if there is one
 pub record ScriptData : Type 0 where
   pub setup : Setup
   pub tasks : List (List Call)
+  pub table : Option Table
 
 -- a script without where it lies in memory
 abbrev pub script_data : Script → ScriptData
-script_data s = record { setup = s.config; tasks = s.tasks.items }
+script_data s = record { setup = s.config; tasks = s.tasks.items; table = s.table }
 
 -- ---- what statements come to
 
@@ -30,6 +33,7 @@ task_count [] = 0
 task_count (statement.Script t ∷ statements) = t
 task_count (statement.Ecb owner ∷ statements) = task_count statements
 task_count (statement.Exit source targets ∷ statements) = task_count statements
+task_count (statement.Table t ∷ statements) = task_count statements
 task_count (statement.Task ∷ statements) = task_count statements
 task_count (statement.Call c ∷ statements) = task_count statements
 task_count (statement.End ∷ statements) = task_count statements
@@ -39,6 +43,7 @@ abbrev pub owner_in : Statement → Option ℕ
 owner_in (statement.Script t) = None
 owner_in (statement.Ecb owner) = Some owner
 owner_in (statement.Exit source targets) = None
+owner_in (statement.Table t) = None
 owner_in statement.Task = None
 owner_in (statement.Call c) = None
 owner_in statement.End = None
@@ -52,6 +57,7 @@ abbrev pub exit_in : Statement → Option SetupExit
 exit_in (statement.Script t) = None
 exit_in (statement.Ecb owner) = None
 exit_in (statement.Exit source targets) = Some (record { source = source; targets = targets })
+exit_in (statement.Table t) = None
 exit_in statement.Task = None
 exit_in (statement.Call c) = None
 exit_in statement.End = None
@@ -59,6 +65,21 @@ exit_in statement.End = None
 -- all exits, in order
 abbrev pub exits_of : List Statement → List SetupExit
 exits_of statements = filter_map exit_in statements
+
+-- the table that a statement states
+abbrev pub table_in : Statement → Option Table
+table_in (statement.Script t) = None
+table_in (statement.Ecb owner) = None
+table_in (statement.Exit source targets) = None
+table_in (statement.Table t) = Some t
+table_in statement.Task = None
+table_in (statement.Call c) = None
+table_in statement.End = None
+
+-- the table: that of the first TABLE, if there is one
+abbrev pub table_of : List Statement → Option Table
+table_of [] = None
+table_of (s ∷ statements) = or_else (table_in s) (table_of statements)
 
 -- the tasks, of which the last one makes one more call
 abbrev pub with_call : List (List Call) → Call → List (List Call)
@@ -71,6 +92,7 @@ abbrev pub tasks_behind : List (List Call) → Statement → List (List Call)
 tasks_behind tasks (statement.Script t) = tasks
 tasks_behind tasks (statement.Ecb owner) = tasks
 tasks_behind tasks (statement.Exit source targets) = tasks
+tasks_behind tasks (statement.Table t) = tasks
 tasks_behind tasks statement.Task = tasks ++ [] ∷ []
 tasks_behind tasks (statement.Call c) = with_call tasks c
 tasks_behind tasks statement.End = tasks
@@ -100,13 +122,17 @@ budgets_of statements = map (costs_of (setup_with statements [])) (tasks_of stat
 
 -- the script that they state
 abbrev pub script_in : List Statement → ScriptData
-script_in statements = record { setup = setup_with statements (budgets_of statements); tasks = tasks_of statements }
+script_in statements = record {
+  setup = setup_with statements (budgets_of statements);
+  tasks = tasks_of statements;
+  table = table_of statements;
+}
 
 -- ---- the statements of lines
 
--- how many tasks and blocks there are that a line behind these statements may name
+-- how many tasks and blocks there are that a line behind these statements may name, and the table
 abbrev pub sizes_behind : List Statement → Sizes
-sizes_behind earlier = record { tasks = task_count earlier; ecbs = length (owners_of earlier) }
+sizes_behind earlier = record { tasks = task_count earlier; ecbs = length (owners_of earlier); table = table_of earlier }
 
 -- what a line adds
 abbrev pub added : Option (Read Statement) → List Statement

@@ -1,5 +1,5 @@
 -- Scripts that can be run.
-use Rattle.std.specs.Prelude.{◌≡◌, ℕ, ◌*◌, ◌<◌, ◌≤◌, List, [], ◌∷◌, ◌++◌, length, map, sum, count_by, Option, Some, None}
+use Rattle.std.specs.Prelude.{◌≡◌, ℕ, ◌*◌, ◌<◌, ◌≤◌, false, List, [], ◌∷◌, ◌++◌, length, map, sum, count_by, Option, Some, None}
 use Rattle.std.specs.List.{AllByRecursion}
 use Rattle.mv_ecb.specs.Table.{code_limit}
 use Rattle.mv_element.specs.declared.element.Token.{Token}
@@ -8,6 +8,7 @@ use Rattle.mv_latch.specs.declared.request.LatchForm.{LatchForm}
 use Rattle.mv_latch.specs.declared.request.LatchForm.TheVariants.{Conditional, Waiting, Posted}
 use Rattle.mv_machine.specs.Limits.{events_limit, highest_place, highest_generation}
 use Rattle.mv_machine.specs.Setup.{SetupExit}
+use Rattle.mv_calls.specs.Table.{IsTableOf}
 use Rattle.mv_script.specs.declared.call.Call.{Call}
 use Rattle.mv_script.specs.declared.call.Call.TheVariants as call
 use Rattle.mv_script.specs.declared.operand.Sizes.{Sizes}
@@ -17,7 +18,9 @@ use Rattle.mv_script.specs.Costs.{script_setup, costs_of}
 use Rattle.mv_script.specs.Fault.{obtain_meant}
 use Rattle.mv_script.specs.Limits.{most_tasks, most_ecbs, most_exits, most_targets, most_calls, most_waited, highest_count, highest_latch}
 use Rattle.mv_script.specs.Limits.{elements_per_task, volumes}
+use Rattle.mv_script.specs.Operand.{event_count, position_count}
 use Rattle.mv_script.specs.Script.{ScriptData, is_obtain}
+use Rattle.mv_script.specs.Table.{uses_any}
 
 -- ---- calls
 
@@ -44,7 +47,7 @@ HasEcb z Conditional = Unit {0}
 HasEcb z Waiting = Unit {0}
 HasEcb z (Posted e) = IsEcb z e
 
--- the numbers of a call are in their ranges, and name blocks, elements and volumes that there are
+-- the numbers of a call are in their ranges, and name blocks, elements, volumes and events that there are
 abbrev pub HasGoodNumbers : Sizes → Call → Type 0
 HasGoodNumbers z (call.Wait count ecbs) = (count ≤ highest_count) × ((length ecbs ≤ most_waited) × AllByRecursion (IsEcb z) ecbs)
 HasGoodNumbers z (call.Post ecb code) = IsEcb z ecb × (code < code_limit)
@@ -66,6 +69,8 @@ HasGoodNumbers z (call.Check k) = Unit {0}
 HasGoodNumbers z (call.Free k conditional) = Unit {0}
 HasGoodNumbers z (call.Purge requestor) = Unit {0}
 HasGoodNumbers z (call.EndTask requestor mother code) = IfThere (IsEcb z) mother × (code < code_limit)
+HasGoodNumbers z (call.PostEvent index code) = (index < event_count z.table) × (code < code_limit)
+HasGoodNumbers z (call.NextEvent position) = position < position_count z.table
 
 -- a number is that of an OBTAIN among these calls, counted from 1
 abbrev pub IsObtainOf : List Call → ℕ → Type 0
@@ -75,6 +80,7 @@ IsObtainOf before k = (1 ≤ k) × (k ≤ count_by is_obtain before)
 pub record IsSoundCall (z : Sizes) (before : List Call) (c : Call) : Type 0 where
   pub numbers : HasGoodNumbers z c
   pub obtain : IfThere (IsObtainOf before) (obtain_meant c)
+  pub spares : uses_any z.table c ≡ false
 
 -- each of these calls may stand behind those before it
 abbrev pub AreSoundCalls : Sizes → List Call → List Call → Type 0
@@ -94,6 +100,7 @@ IsGoodStatement z (statement.Script t) = (1 ≤ t) × (t ≤ most_tasks)
 IsGoodStatement z (statement.Ecb owner) = owner < z.tasks
 IsGoodStatement z (statement.Exit source targets) =
     IsEcb z source × ((1 ≤ length targets) × ((length targets ≤ most_targets) × AllByRecursion (IsEcb z) targets))
+IsGoodStatement z (statement.Table t) = Unit {0}
 IsGoodStatement z statement.Task = Unit {0}
 IsGoodStatement z (statement.Call c) = HasGoodNumbers z c
 IsGoodStatement z statement.End = Unit {0}
@@ -107,12 +114,13 @@ pub record IsSoundExit (z : Sizes) (x : SetupExit) : Type 0 where
   pub few : length x.targets ≤ most_targets
   pub up : AllByRecursion (λ target. IsEcb z target × (x.source < target)) x.targets
 
--- how many tasks and blocks a script has
+-- how many tasks and blocks a script has, and its table
 abbrev pub sizes_of : ScriptData → Sizes
-sizes_of script = record { tasks = length script.tasks; ecbs = length script.setup.owners }
+sizes_of script = record { tasks = length script.tasks; ecbs = length script.setup.owners; table = script.table }
 
 -- A script that can be run: one to eight tasks of at most 128 calls each; at most 64 blocks, each of a task, and at most 16 exits;
--- the configuration is that of a script, with what each task's calls cost as its budget; and the budgets are what a run may have.
+-- the configuration is that of a script, with what each task's calls cost as its budget; the budgets are what a run may have; and
+-- the table, if there is one, was checked against the configuration.
 pub record IsSound (script : ScriptData) : Type 0 where
   pub some : 1 ≤ length script.tasks
   pub few : length script.tasks ≤ most_tasks
@@ -124,3 +132,4 @@ pub record IsSound (script : ScriptData) : Type 0 where
   pub exits : AllByRecursion (IsSoundExit (sizes_of script)) script.setup.exits
   pub tasks : AllByRecursion (IsSoundTask (sizes_of script)) script.tasks
   pub light : sum script.setup.budgets ≤ events_limit
+  pub table : IfThere (IsTableOf script.setup) script.table

@@ -4,6 +4,7 @@ use Rattle.std.specs.Str.{bytes_eq}
 use Rattle.mv_latch.specs.declared.request.LatchForm.{LatchForm}
 use Rattle.mv_latch.specs.declared.request.LatchForm.TheVariants.{Conditional, Waiting, Posted}
 use Rattle.mv_latch.specs.declared.request.Mode.{Mode}
+use Rattle.mv_calls.specs.declared.table.Table.{Table}
 use Rattle.mv_line.specs.Byte.{is_within}
 use Rattle.mv_line.specs.Field.{fields_of}
 use Rattle.mv_line.specs.Line.{begins_with_space, shown, is_ignored}
@@ -15,8 +16,8 @@ use Rattle.mv_script.specs.declared.words.Misread.TheVariants.{NoForm}
 use Rattle.mv_script.specs.declared.operand.Sizes.{Sizes}
 use Rattle.mv_script.specs.Limits.{most_targets, most_waited}
 use Rattle.mv_script.specs.Operand.{task_count, task, ecb, volume, latch, count, ecb_code, release_code, place, any_number, requestor}
-use Rattle.mv_script.specs.Operand.{element, token, or_hyphen, mode, conditional}
-use Rattle.mv_script.specs.Words.{Read, making, both, each, none, one, two, three}
+use Rattle.mv_script.specs.Operand.{element, token, or_hyphen, mode, conditional, event, event_position, table_size, table_with}
+use Rattle.mv_script.specs.Words.{Read, making, both, each, none, one, two, three, led_by}
 
 -- ---- the calls: the word of each, and behind it what its words are read as
 
@@ -39,12 +40,16 @@ form z (word ∷ block ∷ other ∷ words) = Err NoForm
 
 -- a latch, a requestor, a mode and a form
 abbrev pub obtain : Sizes → List (List ℕ) → Read Call
-obtain z (l ∷ r ∷ m ∷ f) =
+obtain z words =
     making (λ (p : ℕ × (ℕ × (Mode × LatchForm))). call.Obtain p.0 p.1.0 p.1.1.0 p.1.1.1)
-    (both (latch l) (both (requestor r) (both (mode m) (form z f))))
-obtain z (l ∷ r ∷ []) = Err NoForm
-obtain z (l ∷ []) = Err NoForm
-obtain z [] = Err NoForm
+    (led_by latch (led_by requestor (led_by mode (form z))) words)
+
+-- on the table of events
+abbrev pub table_call : Sizes → List ℕ → List (List ℕ) → Read Call
+table_call z word words =
+    if bytes_eq word (codes "EVPOST") then making (λ p. call.PostEvent p.0 p.1) (two (event z) ecb_code words)
+    else if bytes_eq word (codes "EVNEXT") then making (λ k. call.NextEvent k) (one (event_position z) words)
+    else Err NoForm
 
 -- on latches, and the end of a task
 abbrev pub latch_call : Sizes → List ℕ → List (List ℕ) → Read Call
@@ -55,7 +60,7 @@ latch_call z word words =
     else if bytes_eq word (codes "PURGE") then making (λ r. call.Purge r) (one requestor words)
     else if bytes_eq word (codes "EOT") then
     making (λ p. call.EndTask p.0 p.1.0 p.1.1) (three requestor (or_hyphen (ecb z)) ecb_code words)
-    else Err NoForm
+    else table_call z word words
 
 -- on pause elements
 abbrev pub element_call : Sizes → List ℕ → List (List ℕ) → Read Call
@@ -97,12 +102,19 @@ exit z (source ∷ targets) =
     making (λ (p : ℕ × List ℕ). statement.Exit p.0 p.1) (both (ecb z source) (each (ecb z) targets))
     else Err NoForm
 
+-- a table: its owner, latch and volume, its first event and its first slot, and how many of each it has
+abbrev pub table : Sizes → List (List ℕ) → Read Table
+table z words =
+    making (λ (p : ℕ × (ℕ × (ℕ × (ℕ × (ℕ × ℕ))))). table_with p.0 p.1.0 p.1.1.0 p.1.1.1.0 p.1.1.1.1.0 p.1.1.1.1.1)
+    (led_by (task z) (led_by latch (led_by volume (three (ecb z) (ecb z) table_size))) words)
+
 -- a line by its first word
 abbrev pub stated : Sizes → List ℕ → List (List ℕ) → Read Statement
 stated z word words =
     if bytes_eq word (codes "SCRIPT") then making (λ t. statement.Script t) (one task_count words)
     else if bytes_eq word (codes "ECB") then making (λ k. statement.Ecb k) (one (task z) words)
     else if bytes_eq word (codes "EXIT") then exit z words
+    else if bytes_eq word (codes "TABLE") then making (λ t. statement.Table t) (table z words)
     else if bytes_eq word (codes "TASK") then none statement.Task words
     else if bytes_eq word (codes "END") then none statement.End words
     else making (λ c. statement.Call c) (call_of z word words)

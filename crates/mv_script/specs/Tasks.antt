@@ -2,6 +2,7 @@
 use Rattle.std.specs.Prelude.{ℕ, ◌-◌, Bool, false, List, [], ◌∷◌, ◌++◌, length, slice_get, Option, Some, None, is_none}
 use Rattle.std.specs.Prelude.{option_and_then, unwrap_or, Result, Ok, Err, if◌then◌else◌}
 use Rattle.mv_machine.specs.Setup.{Setup}
+use Rattle.mv_calls.specs.declared.table.Table.{Table}
 use Rattle.mv_calls.specs.Keeping.{nothing_kept}
 use Rattle.mv_calls.specs.LatchCalls.{Obtained, GrantedAs, PendingAs}
 use Rattle.mv_calls.specs.Program.{Program, followed, finished}
@@ -13,7 +14,7 @@ use Rattle.mv_script.specs.declared.answer.Answer.{Answer}
 use Rattle.mv_script.specs.declared.answer.Answer.TheVariants.{Moved, NoToken}
 use Rattle.mv_script.specs.declared.call.Call.{Call}
 use Rattle.mv_script.specs.Answered.{answer_to}
-use Rattle.mv_script.specs.Costs.{Asked, service_of}
+use Rattle.mv_script.specs.Costs.{Asked, service_of, no_table}
 use Rattle.mv_script.specs.Fault.{obtain_meant}
 use Rattle.mv_script.specs.Script.{ScriptData}
 
@@ -62,20 +63,24 @@ served past s a = record { answers = past.answers ++ answer_to s a ∷ []; reque
 
 -- A call. A try for which another word was met answers MOVED, and a CHECK or FREE whose OBTAIN got no request NOTOKEN: these two
 -- make no event. Any other call is its service's.
-abbrev pub made : Setup → Option ℕ → Past → Call → program.Call Past
-made c (Some w) past call = finished (answered past (Moved w))
-made c None past call =
+abbrev pub made : Setup → Table → Option ℕ → Past → Call → program.Call Past
+made c t (Some w) past call = finished (answered past (Moved w))
+made c t None past call =
     if lacks_request past.requests (obtain_meant call) then finished (answered past NoToken)
-    else followed (service.program c (service_of (request_of past.requests) call))
-    (λ a. finished (served past (service_of (request_of past.requests) call) a))
+    else followed (service.program c (service_of t (request_of past.requests) call))
+    (λ a. finished (served past (service_of t (request_of past.requests) call) a))
 
 -- ---- all calls of a task
 
 -- The calls of a task from here on, in order. `moved` says of each call, numbered from 0, whether another word was met, and which.
-abbrev pub made_all : Setup → (ℕ → Option ℕ) → Past → List Call → program.Call Past
-made_all c moved past [] = finished past
-made_all c moved past (call ∷ calls) =
-    followed (made c (moved (length past.answers)) past call) (λ next. made_all c moved next calls)
+abbrev pub made_all : Setup → Table → (ℕ → Option ℕ) → Past → List Call → program.Call Past
+made_all c t moved past [] = finished past
+made_all c t moved past (call ∷ calls) =
+    followed (made c t (moved (length past.answers)) past call) (λ next. made_all c t moved next calls)
+
+-- the table that calls on one name, of a script that may have none: then there are no such calls
+abbrev pub named_table : Option Table → Table
+named_table table = unwrap_or table no_table
 
 -- the calls of a task
 abbrev pub calls_at : ScriptData → ℕ → List Call
@@ -87,4 +92,4 @@ Moves = ℕ → ℕ → Option ℕ
 
 -- a task's program, before it has heard anything
 abbrev pub task_program : ScriptData → Moves → ℕ → Program Past
-task_program script moves k = made_all script.setup (moves k) no_past (calls_at script k) (nothing_kept k)
+task_program script moves k = made_all script.setup (named_table script.table) (moves k) no_past (calls_at script k) (nothing_kept k)

@@ -55,6 +55,11 @@ one f words = formed (option_map f (one_of words))
 abbrev pub two : {A B : Type 0} → (List ℕ → Read A) → (List ℕ → Read B) → List (List ℕ) → Read (A × B)
 two f g words = formed (option_map (λ p. both (f p.0) (g p.1)) (two_of words))
 
+-- a word, and what the words behind it are read as
+abbrev pub led_by : {A B : Type 0} → (List ℕ → Read A) → (List (List ℕ) → Read B) → List (List ℕ) → Read (A × B)
+led_by f g [] = Err NoForm
+led_by f g (word ∷ words) = both (f word) (g words)
+
 -- the fields of a list that has just three
 abbrev pub three_of : List (List ℕ) → Option (List ℕ × (List ℕ × List ℕ))
 three_of [] = None

@@ -45,6 +45,12 @@ pub enum Answer {
     Gone,
     /// The OBTAIN that is meant got no request.
     NoToken,
+    /// A post of an event: the event stands at this position of the table.
+    Entered(u32),
+    /// The event at a position: its index, and the word of its block.
+    Event { index: u32, word: u32 },
+    /// The table has no such position.
+    Drained,
     /// So many requests were granted by a release.
     Released(u32),
     /// So many requests were taken out by a purge, and so many others granted.

@@ -79,6 +79,13 @@ pub enum Call {
         mother: Option<u32>,
         code: u32,
     },
+    /// Posts an event of the script's table, by its index, under the table's latch.
+    PostEvent {
+        index: u32,
+        code: u32,
+    },
+    /// Waits for the event at a position of the table, 0 to 99, of which the table may not have all.
+    NextEvent(u32),
 }
 
 /// The calls of one task, in order: at most 128.

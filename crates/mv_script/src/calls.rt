@@ -9,14 +9,15 @@ ghost use Rattle.mv_script.specs.Operand as operand;
 ghost use Rattle.mv_script.specs.Misread.{IsReadAs};
 ghost use Rattle.mv_script.specs.Statement.{wait as wait_read, form as form_read, obtain as obtain_read};
 ghost use Rattle.mv_script.specs.Statement.{latch_call as latch_read, element_call as element_read, other_call as other_read};
+ghost use Rattle.mv_script.specs.Statement.{table_call as table_read};
 ghost use Rattle.mv_script.specs.Words.{making, one, two, three};
 
 use crate::call::Call;
 use crate::fault::{Kind, LineRefusal};
 use crate::limits::MOST_WAITED;
 use crate::operand::{
-    Sizes, any_number, conditional, count, ecb, ecb_code, ecb_or_none, element, latch, mode, place,
-    release_code, requestor, token, token_or_none, volume,
+    Sizes, any_number, conditional, count, ecb, ecb_code, ecb_or_none, element, event,
+    event_position, latch, mode, place, release_code, requestor, token, token_or_none, volume,
 };
 use crate::statement::ecbs;
 use crate::words::{Misread, both, field_count, no_field, one_word, three_words, two_words, worse};
@@ -100,7 +101,7 @@ fn element_call(sizes: Sizes, word: &[u8], words: &[u8]) -> Result<Call, Misread
     latch_call(sizes, word, words)
 }
 
-// A call on latches, or the end of a task.
+// A call on latches, the end of a task, or another call.
 fn latch_call(sizes: Sizes, word: &[u8], words: &[u8]) -> Result<Call, Misread>
     ensures { result ≡ latch_read sizes word.now (fields_of words.now) }
 {
@@ -118,6 +119,19 @@ fn latch_call(sizes: Sizes, word: &[u8], words: &[u8]) -> Result<Call, Misread>
     }
     if word == b"EOT".as_slice() {
         return end_task(sizes, words);
+    }
+    table_call(sizes, word, words)
+}
+
+// A call on the script's table.
+fn table_call(sizes: Sizes, word: &[u8], words: &[u8]) -> Result<Call, Misread>
+    ensures { result ≡ table_read sizes word.now (fields_of words.now) }
+{
+    if word == b"EVPOST".as_slice() {
+        return post_event(sizes, words);
+    }
+    if word == b"EVNEXT".as_slice() {
+        return Ok(Call::NextEvent(event_position(sizes, one_word(words)?)?));
     }
     Err(Misread::NoForm)
 }
@@ -296,4 +310,14 @@ fn end_task(sizes: Sizes, words: &[u8]) -> Result<Call, Misread>
         mother,
         code,
     })
+}
+
+// ---- words of the table
+
+fn post_event(sizes: Sizes, words: &[u8]) -> Result<Call, Misread>
+    ensures { result ≡ making (λ p. call.PostEvent p.0 p.1) (two (operand.event sizes) operand.ecb_code (fields_of words.now)) }
+{
+    let (event_word, code_word) = two_words(words)?;
+    let (index, code) = both(event(sizes, event_word), ecb_code(code_word))?;
+    Ok(Call::PostEvent { index, code })
 }

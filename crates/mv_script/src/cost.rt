@@ -1,6 +1,7 @@
 //! What a call may cost (`specs/Costs.antt`).
 
-ghost use Rattle.std.specs.Prelude.{◌≡◌, ◌<◌, ◌≤◌, length};
+ghost use Rattle.std.specs.Prelude.{◌≡◌, ◌<◌, ◌≤◌, length, Option};
+ghost use Rattle.mv_calls.specs.declared.table.Table.{Table};
 ghost use Rattle.mv_script.specs.Costs.{cost as cost_of};
 ghost use Rattle.mv_script.specs.Limits.{elements_per_task};
 ghost use Rattle.mv_script.specs.Sound.{HasGoodNumbers, IfThere};
@@ -15,7 +16,7 @@ use mv_machine::ValidConfig;
 /// How many events a call may need, in a configuration with these blocks and exits.
 pub(crate) fn cost(config: &ValidConfig, call: &Call) -> u32
     requires elements { config.now.elements_per_caller ≡ elements_per_task }
-    requires numbers { HasGoodNumbers (record { tasks = config.now.callers; ecbs = length config.now.owners }) call.now }
+    requires numbers { (table : Option Table) × HasGoodNumbers (record { tasks = config.now.callers; ecbs = length config.now.owners; table = table }) call.now }
     ensures { result ≡ cost_of config.now call.now }
 {
     match call {
@@ -39,6 +40,8 @@ pub(crate) fn cost(config: &ValidConfig, call: &Call) -> u32
         Call::EndTask { mother, .. } => {
             ELEMENTS_PER_TASK + config.release_cost() + mother_cost(config, *mother)
         }
+        Call::PostEvent { .. } => 6 + config.release_cost(),
+        Call::NextEvent(_) => 3,
     }
 }
 

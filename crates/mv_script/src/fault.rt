@@ -19,13 +19,15 @@ use std::alloc::{AllocError, AllocFailed};
 /// | 1 | a byte outside 32 to 126 |
 /// | 2 | more than 80 bytes |
 /// | 3 | none of the forms, by its words |
-/// | 4 | a number with a leading zero, out of its range, or of no block, task, volume or element |
-/// | 5 | out of the order SCRIPT, ECB, EXIT, tasks, END, or after END |
-/// | 6 | more tasks, calls, blocks or exits than allowed, or END with fewer TASK lines than stated |
+/// | 4 | a number with a leading zero, out of its range, or of no block, task, volume, element or event |
+/// | 5 | out of the order SCRIPT, ECB, EXIT, TABLE, tasks, END, or after END |
+/// | 6 | more tasks, calls, blocks, exits or tables than allowed, or END with fewer TASK lines than stated |
 /// | 7 | EXIT with a target that is not above its source |
 /// | 8 | CHECK or FREE with a number of no earlier OBTAIN of the task |
 /// | 9 | no END; the line is one more than the number of lines |
 /// | 10 | the costs of the calls so far pass 524,287 |
+/// | 11 | in a script with a table, another call that names one of its blocks (but TEST), writes its volume, obtains its latch, or names a requestor of 2^63 or more |
+/// | 12 | TABLE with a table that `Table::check` refuses |
 #[derive(Clone, Copy, Debug, PartialEq, Eq)]
 pub struct ScriptFault {
     pub line: u32,
@@ -78,6 +80,8 @@ pub(crate) enum Kind {
     NoObtain,
     NoEnd,
     TooCostly,
+    UsesTable,
+    BadTable,
 }
 
 impl Kind {
@@ -96,6 +100,8 @@ impl Kind {
             Kind::NoObtain => 8,
             Kind::NoEnd => 9,
             Kind::TooCostly => 10,
+            Kind::UsesTable => 11,
+            Kind::BadTable => 12,
         }
     }
 }

@@ -35,7 +35,7 @@ fn row_of(row: &[u8]) -> Option<(Option<ScriptFault>, &[u8])> {
         return None;
     };
     let line = number_within(1, 999, line)?;
-    let kind = number_within(0, 10, kind)?;
+    let kind = number_within(0, 12, kind)?;
     Some(((kind > 0).then_some(ScriptFault { line, kind }), text))
 }
 
@@ -88,7 +88,8 @@ const BEFORE_THE_SCRIPT: &[u8] = b"\
     1 4 TEST 0;\
     1 4 PAUSE 0.0;\
     1 4 TESTP 0;\
-    1 4 READ 8";
+    1 4 READ 8;\
+    1 4 TABLE 0 0 0 0 0 1";
 
 #[test]
 fn lines_before_the_script(rt: HostRuntime) -> Result<(), Fail> {
@@ -237,7 +238,12 @@ const NO_FORMS: &[u8] = b"\
     4 3 FREE 1 S;\
     4 3 EOT 1 -;\
     4 3 EOT - - 0;\
-    4 3 EVNEXT 0;\
+    4 3 EVNEXT;\
+    4 3 EVPOST 0;\
+    4 3 EVPOST 0 X;\
+    4 3 TABLE 0 0 0 0 0;\
+    4 3 TABLE 0 0 0 0 0 1 1;\
+    4 3 TABLE 1 100 8 1 1 X;\
     4 3 POST 01 X;\
     4 3 WAIT 01 0 X;\
     4 3 WAIT X 1;\
@@ -275,7 +281,15 @@ const BAD_NUMBERS: &[u8] = b"\
     4 4 OBTAIN 0 1 S ECB 1;\
     4 4 PURGE 99999999999999999999999999;\
     4 4 EOT 1 1 0;\
-    4 4 CHECK 4294967296";
+    4 4 CHECK 4294967296;\
+    4 4 EVPOST 0 0;\
+    4 4 EVNEXT 0;\
+    4 4 TABLE 1 0 0 0 0 1;\
+    4 4 TABLE 0 100 0 0 0 1;\
+    4 4 TABLE 0 0 8 0 0 1;\
+    4 4 TABLE 0 0 0 1 0 1;\
+    4 4 TABLE 0 0 0 0 1 1;\
+    4 4 TABLE 0 0 0 0 0 100";
 
 #[test]
 fn numbers_that_are_bad(rt: HostRuntime) -> Result<(), Fail> {
@@ -359,6 +373,8 @@ const COSTS: &[u8] = b"\
     32 4 TASK\nPOST 7 0\nPOST 8 0\nPOST 8 0\nREAD 8\nEND;\
     32 8 TASK\nPOST 7 0\nPOST 8 0\nPOST 8 0\nCHECK 1\nEND;\
     32 6 TASK\nPOST 7 0\nPOST 8 0\nPOST 8 0\nTASK\nEND;\
+    33 10 TABLE 0 0 0 0 3 3\nTASK\nPOST 7 0\nPOST 8 0\nPOST 8 0\nPOST 0 0;\
+    30 10 TABLE 0 0 0 0 3 3\nTASK\nEVPOST 0 0;\
     29 10 TASK\nPURGE 1\nEND;\
     30 10 TASK\nPOST 7 0\nEOT 1 - 0\nEND;\
     30 5 TASK\nEND\nPURGE 1";
@@ -377,4 +393,56 @@ fn too_many_calls_of_all_costs(rt: HostRuntime) -> Result<(), Fail> {
     let front = joined(rt.alloc(), CHAIN, posts, b"")?;
     let rows = b"1 0 END;157 6 READ 0;157 6 WAIT 0";
     check_times(&rt, rt.alloc(), &front, b"WAIT 0\n", 125, rows)
+}
+
+// Four blocks of task 0, and one of task 1. The lines are six.
+const BLOCKS: &[u8] = b"SCRIPT 2\nECB 0\nECB 0\nECB 0\nECB 0\nECB 1\n";
+
+// Tables where they may not stand, and each refusal of a table but that of a volume that there is not.
+const TABLES: &[u8] = b"\
+    7 12 TABLE 0 0 0 0 2 0;\
+    7 12 TABLE 0 0 0 0 2 33;\
+    7 12 TABLE 0 0 0 0 2 3;\
+    7 12 TABLE 0 0 0 0 1 2;\
+    7 12 TABLE 1 0 0 0 2 2;\
+    7 12 TABLE 0 0 0 1 3 2;\
+    7 12 TABLE 0 8 0 0 2 2;\
+    8 12 EXIT 0 4\nTABLE 0 0 0 0 2 2;\
+    8 6 TABLE 0 0 0 2 0 2\nTABLE 0 0 0 0 2 2;\
+    8 6 TABLE 0 0 0 2 0 2\nTABLE 0 0 0 0 2 0;\
+    8 5 TABLE 0 0 0 2 0 2\nECB 0;\
+    8 5 TABLE 0 0 0 2 0 2\nEXIT 0 1;\
+    8 5 TASK\nTABLE 0 0 0 0 2 0;\
+    9 5 TABLE 0 0 0 2 0 2\nTASK\nTABLE 0 0 0 2 0 2";
+
+#[test]
+fn tables(rt: HostRuntime) -> Result<(), Fail> {
+    check_rows(&rt, rt.alloc(), BLOCKS, TABLES, b"\nTASK\nTASK\nEND\n")
+}
+
+// Behind a table with latch 3 and volume 4, calls on it, and others that use what is the table's or not.
+const USES: &[u8] = b"\
+    9 4 EVPOST 2 0;\
+    9 4 EVPOST 0 1073741824;\
+    9 4 EVNEXT 100;\
+    9 11 WAIT 1 4 3;\
+    9 11 POST 0 1;\
+    9 11 TRYPOST 1 0 0;\
+    9 11 CLEAR 2;\
+    9 11 EXTEND 3 1;\
+    9 11 WRITE 4 0;\
+    9 11 OBTAIN 3 1 S COND;\
+    9 11 OBTAIN 0 9223372036854775808 S COND;\
+    9 11 OBTAIN 0 1 S ECB 3;\
+    9 11 PURGE 9223372036854775808;\
+    9 11 EOT 9223372036854775808 - 0;\
+    9 11 EOT 1 2 0;\
+    1 0 EVPOST 1 1073741823\nEVNEXT 99;\
+    1 0 WAIT 1 4\nPOST 4 0\nTEST 0\nREAD 4\nWRITE 3 0;\
+    1 0 OBTAIN 2 9223372036854775807 X ECB 4\nFREE 1 U\nPURGE 9223372036854775807\nEOT 0 4 0";
+
+#[test]
+fn uses_of_a_table(rt: HostRuntime) -> Result<(), Fail> {
+    let front = joined(rt.alloc(), BLOCKS, b"TABLE 0 3 4 0 2 2\nTASK\n", b"")?;
+    check_rows(&rt, rt.alloc(), &front, USES, b"\nTASK\nEND\n")
 }

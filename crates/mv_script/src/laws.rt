@@ -1,11 +1,12 @@
-//! What the first fault of a text is, by its lines alone; what a text without fault states; that costs suffice; what tries answer;
-//! and that the text of answers determines them. Clauses cite `specs/Fault.antt`, `Faults.antt`, `Script.antt`, `Sound.antt`,
-//! `Costs.antt`, `Run.antt` and `AnswerText.antt`.
+//! What the first fault of a text is, by its lines alone; what a text without fault states; that costs suffice; what tries answer, and
+//! the calls on a table of events; and that the text of answers determines them. Clauses cite `specs/Fault.antt`, `Faults.antt`,
+//! `Script.antt`, `Sound.antt`, `Costs.antt`, `Run.antt`, `Events.antt` and `AnswerText.antt`.
 
 ghost use Rattle.std.specs.Prelude.{◌≡◌, ◌≤◌, ℕ, List, [], Some, None, MatchOption, length, slice_get, slice_index_or};
 ghost use Rattle.mv_element.specs.declared.element.Token.{Token};
 ghost use Rattle.mv_machine.specs.declared.entry.Entry.{Entry};
 ghost use Rattle.mv_machine.specs.Setup.{Setup};
+ghost use Rattle.mv_calls.specs.declared.table.Table.{Table};
 ghost use Rattle.mv_calls.specs.Keeping.{Kept};
 ghost use Rattle.mv_calls.specs.Services.{most_events};
 ghost use Rattle.mv_script.specs.declared.answer.Answer.{Answer};
@@ -15,6 +16,7 @@ ghost use Rattle.mv_script.specs.declared.call.Call.TheVariants.{TryPost, TryRel
 ghost use Rattle.mv_script.specs.declared.fault.ScriptFault.{ScriptFault};
 ghost use Rattle.mv_script.specs.AnswerText.{AreInRange, answers_text};
 ghost use Rattle.mv_script.specs.Costs.{Asked, cost, service_of};
+ghost use Rattle.mv_script.specs.Events.{EventsAreHandedOut};
 ghost use Rattle.mv_script.specs.Fault.{first_fault};
 ghost use Rattle.mv_script.specs.Faults.{HasFault, IsNoLater};
 ghost use Rattle.mv_script.specs.Run.{IsScriptRun, answer_at, script_answers, unless_moved};
@@ -36,9 +38,10 @@ pub fn scripts_are_sound()
     ensures { (bytes : List ℕ) → first_fault bytes ≡ None → IsSound (script_of bytes) }
 {}
 
-/// A call needs no more events than it costs, whatever its task keeps of its log and whichever requests its OBTAINs got.
+/// A call needs no more events than it costs, whatever its task keeps of its log, whichever requests its OBTAINs got, and whichever
+/// table it names.
 pub fn costs_suffice()
-    ensures { (c : Setup) (kept : Kept) (asked : ℕ → Asked) (d : Call) → most_events c kept (service_of asked d) ≤ cost c d }
+    ensures { (c : Setup) (kept : Kept) (t : Table) (asked : ℕ → Asked) (d : Call) → most_events c kept (service_of t asked d) ≤ cost c d }
 {}
 
 /// In any run of a sound script a TRYPOST posts a block that is zero, and a TRYRELEASE keeps a code for a pause to come, or each
@@ -50,6 +53,14 @@ pub fn tries_are_done_or_moved()
     ensures releases { (script : ScriptData) (moves : Moves) (es : List Entry) (k i : ℕ) (token : Token) (place code : ℕ)
         → IsSound script → IsScriptRun script moves es → slice_get (calls_at script k) i ≡ Some (TryRelease token place code)
         → answer_at (script_answers script moves es) k i ≡ Some (unless_moved (moves k i) Early) }
+{}
+
+/// In any run of a sound script with a table, the table's events are handed out once each, in the order of their completion: a post of
+/// an event that is told a position completed the event there, and the next event at a position is the completion there, with its
+/// code. No such post is told that it was purged.
+pub fn events_are_handed_out()
+    ensures { (script : ScriptData) (moves : Moves) (es : List Entry) → IsSound script → IsScriptRun script moves es
+        → EventsAreHandedOut script (script_answers script moves es) es }
 {}
 
 /// The text of answers shows what was answered: one text means the same answers of each task, call by call. A task without calls

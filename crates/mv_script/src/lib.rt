@@ -16,6 +16,7 @@ mod operand;
 mod reading;
 mod script;
 mod statement;
+mod table;
 mod words;
 
 pub use answer::{Answer, AnswerList};
@@ -23,8 +24,8 @@ pub use call::{Call, CallList};
 pub use configuration::copy_config;
 pub use fault::{ScriptFault, ScriptRefusal};
 pub use laws::{
-    costs_suffice, first_fault_is_lowest, scripts_are_sound, text_determines_answers,
-    tries_are_done_or_moved,
+    costs_suffice, events_are_handed_out, first_fault_is_lowest, scripts_are_sound,
+    text_determines_answers, tries_are_done_or_moved,
 };
 pub use limits::MOST_WAITED;
 pub use numbers::{Numbers, Slots};

@@ -24,6 +24,11 @@ pub(crate) const HIGHEST_COUNT: u64 = 99;
 /// The highest number of a latch.
 pub(crate) const HIGHEST_LATCH: u64 = 99;
 
+/// The highest size of a table, and the highest position that an EVNEXT may name.
+pub(crate) const HIGHEST_SIZE: u64 = 99;
+
+pub(crate) const HIGHEST_POSITION: u64 = 99;
+
 /// How many elements each task has.
 pub(crate) const ELEMENTS_PER_TASK: u32 = 4;
 

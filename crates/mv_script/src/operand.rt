@@ -5,21 +5,27 @@ ghost use Rattle.mv_script.specs.Limits.{most_tasks};
 ghost use Rattle.mv_script.specs.Operand.{below as reads_below, task_count as reads_task_count, task as reads_task};
 ghost use Rattle.mv_script.specs.Operand.{ecb as reads_ecb, element as reads_element, volume as reads_volume};
 ghost use Rattle.mv_script.specs.Operand.{latch as reads_latch, count as reads_count, ecb_code as reads_ecb_code};
+ghost use Rattle.mv_script.specs.Operand.{table_size as reads_table_size, event as reads_event, event_position as reads_event_position};
 ghost use Rattle.mv_script.specs.Operand.{release_code as reads_release_code, place as reads_place};
 ghost use Rattle.mv_script.specs.Operand.{any_number as reads_any_number, requestor as reads_requestor, token as reads_token};
 ghost use Rattle.mv_script.specs.Operand.{or_hyphen, mode as reads_mode, conditional as reads_conditional};
 
-use crate::limits::{ELEMENTS_PER_TASK, HIGHEST_COUNT, HIGHEST_LATCH, MOST_TASKS, VOLUMES};
+use crate::limits::{
+    ELEMENTS_PER_TASK, HIGHEST_COUNT, HIGHEST_LATCH, HIGHEST_POSITION, HIGHEST_SIZE, MOST_TASKS,
+    VOLUMES,
+};
 use crate::words::{Misread, both};
+use mv_calls::Table;
 use mv_element::Token;
 use mv_latch::Mode;
 use mv_line::{first_place, is_digits, wide_number_within};
 
-/// How many tasks and event control blocks a script has so far: those that its lines may name.
+/// How many tasks and event control blocks a script has so far, and its table of events, if it has one: what its lines may name.
 #[derive(Clone, Copy)]
 pub(crate) struct Sizes {
     pub(crate) tasks: u32,
     pub(crate) ecbs: u32,
+    pub(crate) table: Option<Table>,
 }
 
 /// The eight bytes of a requestor, as a number.
@@ -97,6 +103,35 @@ pub(crate) fn latch(word: &[u8]) -> Result<u32, Misread>
     ensures { result ≡ reads_latch word.now }
 {
     below(HIGHEST_LATCH + 1, word)
+}
+
+/// How many events a table has, which need not be as many as a table may have.
+pub(crate) fn table_size(word: &[u8]) -> Result<u32, Misread>
+    ensures { result ≡ reads_table_size word.now }
+{
+    below(HIGHEST_SIZE + 1, word)
+}
+
+/// An event of the script's table: there is none without a table.
+pub(crate) fn event(sizes: Sizes, word: &[u8]) -> Result<u32, Misread>
+    ensures { result ≡ reads_event sizes word.now }
+{
+    let count = match sizes.table {
+        Some(table) => table.size,
+        None => 0,
+    };
+    below(u64::from(count), word)
+}
+
+/// A position there.
+pub(crate) fn event_position(sizes: Sizes, word: &[u8]) -> Result<u32, Misread>
+    ensures { result ≡ reads_event_position sizes word.now }
+{
+    let count = match sizes.table {
+        Some(_) => HIGHEST_POSITION + 1,
+        None => 0,
+    };
+    below(count, word)
 }
 
 /// How many blocks of a WAIT are to be complete.

@@ -20,6 +20,8 @@ use crate::numbers::Numbers;
 use crate::operand::Sizes;
 use crate::script::Script;
 use crate::statement::{Statement, statement_of};
+use crate::table::uses_any;
+use mv_calls::{Table, ValidTable};
 use mv_io::NoMemory;
 use mv_line::{is_foreign, is_too_long, shown, split_line};
 use mv_machine::{Exit, ValidConfig};
@@ -82,6 +84,8 @@ struct Reading {
     stated: u32,
     owners: Vec<u32>,
     exits: Vec<Exit>,
+    // The table of events, from TABLE on.
+    table: Option<ValidTable>,
     // What the calls cost by, from the first TASK on.
     costs: Option<ValidConfig>,
     // The tasks before the last one, and what their calls may cost.
@@ -106,6 +110,7 @@ impl Reading {
             stated: 0,
             owners: Vec::new(alloc),
             exits: Vec::new(alloc),
+            table: None,
             costs: None,
             finished: Vec::new(alloc),
             budgets: Vec::new(alloc),
@@ -137,6 +142,7 @@ impl Reading {
         let sizes = Sizes {
             tasks: self.stated,
             ecbs: self.owners.len() as u32,
+            table: self.stated_table(),
         };
         match statement_of(self.alloc, sizes, text) {
             Ok(statement) => self.take(statement),
@@ -154,6 +160,7 @@ impl Reading {
             Statement::Script(tasks) => self.take_script(tasks),
             Statement::Ecb(owner) => self.take_ecb(owner),
             Statement::Exit { source, targets } => self.take_exit(source, targets),
+            Statement::Table(table) => self.take_table(table),
             Statement::Task => self.take_task(),
             Statement::Call(call) => self.take_call(call),
             Statement::End => self.take_end(),
@@ -176,13 +183,25 @@ impl Reading {
     // Whether no ECB may stand here.
     fn is_late_for_ecbs(&self) -> bool
         ensures { result ≡ (not (nat_lt 0 self.now.stated)
-            || (nat_lt 0 (length self.now.exits.items) || (is_some self.now.costs || self.now.ended))) }
+            || (nat_lt 0 (length self.now.exits.items) || (is_some self.now.table || (is_some self.now.costs || self.now.ended)))) }
     {
-        self.stated == 0 || !self.exits.is_empty() || self.costs.is_some() || self.ended
+        self.stated == 0
+            || !self.exits.is_empty()
+            || self.table.is_some()
+            || self.costs.is_some()
+            || self.ended
     }
 
     // Whether no EXIT may stand here.
     fn is_late_for_exits(&self) -> bool
+        ensures { result ≡ (not (nat_lt 0 self.now.stated)
+            || (is_some self.now.table || (is_some self.now.costs || self.now.ended))) }
+    {
+        self.stated == 0 || self.table.is_some() || self.costs.is_some() || self.ended
+    }
+
+    // Whether no TABLE may stand here.
+    fn is_late_for_table(&self) -> bool
         ensures { result ≡ (not (nat_lt 0 self.now.stated) || (is_some self.now.costs || self.now.ended)) }
     {
         self.stated == 0 || self.costs.is_some() || self.ended
@@ -230,6 +249,38 @@ impl Reading {
         }
         self.exits.push(Exit { source, targets })?;
         Ok(())
+    }
+
+    // Takes a TABLE.
+    fn take_table(&mut self, table: Table) -> Result<(), LineRefusal>
+        requires { IsReady self.now (statement.Table table) }
+        ensures { (earlier : List Statement) → IsBehind earlier self.old → IsGoodStatement (sizes_behind earlier) (statement.Table table)
+            → IsTaken result earlier (statement.Table table) self.new }
+    {
+        if self.is_late_for_table() {
+            return Err(LineRefusal::Has(Kind::OutOfOrder));
+        }
+        if self.table.is_some() {
+            return Err(LineRefusal::Has(Kind::Miscounted));
+        }
+        let config = unbudgeted(self.alloc, self.stated, &self.owners, &self.exits)?;
+        match table.check(&config) {
+            Ok(table) => {
+                self.table = Some(table);
+                Ok(())
+            }
+            Err(_) => Err(LineRefusal::Has(Kind::BadTable)),
+        }
+    }
+
+    // The table of events so far, if there is one.
+    fn stated_table(&self) -> Option<Table>
+        ensures { result ≡ self.now.table }
+    {
+        match &self.table {
+            Some(table) => Some(*table.table()),
+            None => None,
+        }
     }
 
     // Takes a TASK.
@@ -288,6 +339,9 @@ impl Reading {
         if cost > self.room {
             return Err(LineRefusal::Has(Kind::TooCostly));
         }
+        if uses_any(self.stated_table(), &call) {
+            return Err(LineRefusal::Has(Kind::UsesTable));
+        }
         self.room -= cost;
         self.spent += cost;
         self.obtains += obtain_count(&call);
@@ -318,7 +372,7 @@ impl Reading {
         ensures fresh { OnOk result ((self.new.calls.items ≡ []) × ((self.new.spent ≡ 0) × (self.new.obtains ≡ 0))) }
         ensures rest { OnOk result ((self.new.stated ≡ self.old.stated) × ((self.new.owners ≡ self.old.owners)
             × ((self.new.exits ≡ self.old.exits) × ((self.new.costs ≡ self.old.costs)
-            × ((self.new.room ≡ self.old.room) × (self.new.ended ≡ self.old.ended)))))) }
+            × ((self.new.room ≡ self.old.room) × ((self.new.ended ≡ self.old.ended) × (self.new.table ≡ self.old.table))))))) }
     {
         let calls = std::mem::replace(&mut self.calls, Vec::new(self.alloc));
         self.finished.push(CallList { calls })?;
@@ -343,6 +397,7 @@ impl Reading {
                 self.budgets,
             )?,
             tasks: self.finished,
+            table: self.table,
         })
     }
 }

@@ -1,6 +1,7 @@
-//! A script: the configuration that its calls are made in, and the calls of each task.
+//! A script: the configuration that its calls are made in, the calls of each task, and the table of events.
 
 use crate::call::CallList;
+use mv_calls::ValidTable;
 use mv_machine::ValidConfig;
 
 /// A script that was read.
@@ -10,4 +11,6 @@ pub struct Script {
     pub config: ValidConfig,
     /// One list for each task, 1 to 8.
     pub tasks: Vec<CallList>,
+    /// The table of events that its calls name, if it has one.
+    pub table: Option<ValidTable>,
 }

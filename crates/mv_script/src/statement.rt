@@ -4,17 +4,18 @@ ghost use Rattle.std.specs.Prelude.{◌≡◌, ◌≤◌, IfOk};
 ghost use Rattle.mv_line.specs.Field.{fields_of};
 ghost use Rattle.mv_script.specs.Limits.{most_tasks};
 ghost use Rattle.mv_script.specs.Misread.{IsReadAs};
-ghost use Rattle.mv_script.specs.Statement.{exit as exit_read, stated, text_states};
-ghost use Rattle.mv_script.specs.Words.{each};
-ghost use Rattle.mv_script.specs.Operand.{ecb as ecb_read};
+ghost use Rattle.mv_script.specs.Statement.{exit as exit_read, table as table_read, stated, text_states};
+ghost use Rattle.mv_script.specs.Words.{each, three};
+ghost use Rattle.mv_script.specs.Operand.{ecb as ecb_read, table_size};
 
 use crate::call::Call;
 use crate::calls::{other_call, wait};
 use crate::fault::{Kind, LineRefusal};
 use crate::limits::MOST_TARGETS;
 use crate::numbers::Numbers;
-use crate::operand::{Sizes, ecb, task, task_count};
-use crate::words::{Misread, field_count, no_field, one_word, worse, worsened};
+use crate::operand::{Sizes, ecb, latch, table_size as read_table_size, task, task_count, volume};
+use crate::words::{Misread, both, field_count, no_field, one_word, three_words, worse, worsened};
+use mv_calls::Table;
 use mv_line::{begins_with_space, split_field};
 use std::alloc::{AllocError, Global};
 
@@ -27,6 +28,8 @@ pub(crate) enum Statement {
     Ecb(u32),
     /// There is an exit.
     Exit { source: u32, targets: Numbers },
+    /// There is a table of events.
+    Table(Table),
     /// A task begins.
     Task,
     /// The task makes a call.
@@ -68,6 +71,9 @@ fn line_of(alloc: Global, sizes: Sizes, word: &[u8], words: &[u8]) -> Result<Sta
     if word == b"EXIT".as_slice() {
         return exit(alloc, sizes, words);
     }
+    if word == b"TABLE".as_slice() {
+        return Ok(Statement::Table(table(sizes, words)?));
+    }
     if word == b"TASK".as_slice() {
         no_field(words)?;
         return Ok(Statement::Task);
@@ -97,6 +103,39 @@ fn exit(alloc: Global, sizes: Sizes, words: &[u8]) -> Result<Statement, LineRefu
         (Err(why), Ok(_)) => Err(why)?,
         (Err(why), Err(other)) => Err(worse(why, other))?,
     }
+}
+
+// Its owner, latch and volume; its first event, its first slot, and how many of each it has.
+fn table(sizes: Sizes, words: &[u8]) -> Result<Table, Misread>
+    ensures { result ≡ table_read sizes (fields_of words.now) }
+{
+    let (owner_word, rest) = split_field(words);
+    let (latch_word, rest) = split_field(rest);
+    let (volume_word, rest) = split_field(rest);
+    let blocks = table_blocks(sizes, rest);
+    let behind = both(latch(latch_word), both(volume(volume_word), blocks));
+    match both(task(sizes, owner_word), behind) {
+        Ok((owner, (latch, (volume, (events, (slots, size)))))) => Ok(Table {
+            owner,
+            latch,
+            volume,
+            events,
+            slots,
+            size,
+        }),
+        Err(why) => Err(why),
+    }
+}
+
+// The first event and the first slot of a table, and how many of each it has.
+fn table_blocks(sizes: Sizes, words: &[u8]) -> Result<(u32, (u32, u32)), Misread>
+    ensures { result ≡ three (ecb_read sizes) (ecb_read sizes) table_size (fields_of words.now) }
+{
+    let (events_word, (slots_word, size_word)) = three_words(words)?;
+    both(
+        ecb(sizes, events_word),
+        both(ecb(sizes, slots_word), read_table_size(size_word)),
+    )
 }
 
 /// Event control blocks of the script, one for each word.

@@ -107,13 +107,16 @@ const CALLS: &[u8] = b"\
     CHECK 1|Check(1);\
     FREE 1 C|Free { obtain: 1, conditional: true };\
     FREE 1 U|Free { obtain: 1, conditional: false };\
-    PURGE 18446744073709551615|Purge(18446744073709551615);\
+    PURGE 9223372036854775807|Purge(9223372036854775807);\
     EOT 1 - 2|EndTask { requestor: 1, mother: None, code: 2 };\
-    EOT 1 0 2|EndTask { requestor: 1, mother: Some(0), code: 2 }";
+    EOT 1 0 2|EndTask { requestor: 1, mother: Some(0), code: 2 };\
+    EVPOST 0 1|PostEvent { index: 0, code: 1 };\
+    EVNEXT 99|NextEvent(99)";
 
-// The script of a call behind an OBTAIN, with two blocks and eight elements.
+// The script of a call behind an OBTAIN, with two blocks and eight elements, and a table of one event.
 fn script_with(alloc: Global, call: &[u8]) -> Result<Vec<u8>, AllocError> {
-    let head = b"SCRIPT 2\nECB 0\nECB 1\nTASK\nOBTAIN 0 1 S COND\n";
+    let head =
+        b"SCRIPT 2\nECB 0\nECB 1\nECB 0\nECB 0\nTABLE 0 7 7 2 3 1\nTASK\nOBTAIN 0 1 S COND\n";
     let mut text = Vec::from_slice(alloc, head)?;
     text.extend_from_slice(call)?;
     text.extend_from_slice(b"\nTASK\nEND\n")?;

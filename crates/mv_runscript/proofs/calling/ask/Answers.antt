@@ -4,7 +4,7 @@ use Rattle.mv_runscript.proofs.Obtains.{requests_more, tokens_more, latch_low}
 use Rattle.mv_runscript.proofs.calling.ask.Goals as goal
 
 pub returns-clause-makes : goal.returns-clause-makes
-returns-clause-makes g c =
+returns-clause-makes g c table =
     known_makes refl c.obtained.ensures c.obtain-outcome.ensures.served
     (requests_more c.args.latch c.obtain-outcome.result c.request_in.result c.args.requests.now.items c.push_reserved.new.self.items
     c.obtain-outcome.ensures.latch c.request_in.ensures c.push_reserved.ensures.items)

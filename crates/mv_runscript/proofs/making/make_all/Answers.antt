@@ -13,8 +13,8 @@ pub make-answer-requires-clause-numbers : goal.make-answer-requires-clause-numbe
 make-answer-requires-clause-numbers g c =
     let config = c.args.station.now.config in
     let d = c.call-item.result in
-    subst (λ (x : Call). AreGoodIn config x) (sym c.call-item.is)
-    (sound_at config [] c.args.calls.now c.loop-call.call-index d c.requires.sound c.loop-call-test.true).numbers
+    subst (λ (x : Call). AreGoodIn config c.args.table.now x) (sym c.call-item.is)
+    (sound_at config c.args.table.now [] c.args.calls.now c.loop-call.call-index d c.requires.sound c.loop-call-test.true).numbers
 
 pub make-answer-requires-clause-obtain : goal.make-answer-requires-clause-obtain
 make-answer-requires-clause-obtain g c =
@@ -23,7 +23,7 @@ make-answer-requires-clause-obtain g c =
     subst (λ n. IfThere (λ k. (1 ≤ k) × (k ≤ n)) (obtain_meant d)) (sym c.loop-call.invariant.count)
     (subst (λ (x : Call). IfThere (λ k. (1 ≤ k) × (k ≤ count_by is_obtain (take c.loop-call.call-index c.args.calls.now))) (obtain_meant x))
     (sym c.call-item.is)
-    (sound_at config [] c.args.calls.now c.loop-call.call-index d c.requires.sound c.loop-call-test.true).obtain)
+    (sound_at config c.args.table.now [] c.args.calls.now c.loop-call.call-index d c.requires.sound c.loop-call-test.true).obtain)
 
 pub loop-call-preserved : goal.loop-call-preserved
 loop-call-preserved g c =
@@ -40,7 +40,7 @@ loop-call-preserved g c =
     let made = c.make-answer.ensures.makes in
     let lt = c.loop-call-test.true in
     let is = c.call-item.is in
-    let spends = call_spends config d a old new t u made in
+    let spends = call_spends config c.args.table.now d a old new t u made in
     let cost = cost_more calls i d lt is config in
     let counted = counted_more calls i d lt is is_obtain in
     let waits = left_more calls i d lt is is_wait in
@@ -56,8 +56,8 @@ loop-call-preserved g c =
     let pushed = c.push_reserved.ensures.capacity in
     let kept = c.make-answer.ensures.capacity in
     record {
-      board = call_keeps_board config d a old new t u made c.args.station.now since.board;
-      quiet = call_rests config d a old new t u made;
+      board = call_keeps_board config c.args.table.now d a old new t u made c.args.station.now since.board;
+      quiet = call_rests config c.args.table.now d a old new t u made;
       left = omega arith;
       requests = c.make-answer.ensures.requests;
       count = asked ∙ ap (λ n. n + count_by is_obtain (d ∷ [])) count ∙ sym counted;
@@ -66,7 +66,8 @@ loop-call-preserved g c =
       answer_room = omega arith;
       slots = c.make-answer.ensures.slots;
       rooms = omega arith;
-      makes = subst (λ answers. MakesCalls config (take (i + 1) calls) answers [] new c.args.seat.now.task u)
+      makes = subst (λ answers. MakesCalls config c.args.table.now (take (i + 1) calls) answers [] new c.args.seat.now.task u)
           (sym c.push_reserved.ensures.items)
-          (path_more calls i d lt is config c.loop-call.seat.answers.items a [] old new c.args.seat.now.task t u since.makes made);
+          (path_more calls i d lt is config c.args.table.now c.loop-call.seat.answers.items a [] old new c.args.seat.now.task t u
+          since.makes made);
     }

@@ -19,5 +19,6 @@ invariant-loop-call g l = record {
   answer_room : length l.calls ≤ vec_capacity l.seat.answers;
   slots : HaveSlots l.seat.rooms.items;
   rooms : count_by is_wait (drop l.call-index l.calls) ≤ length l.seat.rooms.items;
-  makes : MakesCalls l.station.config (take l.call-index l.calls) l.seat.answers.items [] l.seat.requests.items l.fn.seat.task l.seat.task;
+  makes : MakesCalls l.station.config l.table (take l.call-index l.calls) l.seat.answers.items [] l.seat.requests.items l.fn.seat.task
+      l.seat.task;
 }

@@ -16,7 +16,7 @@ returns-clause-worked g c k d lt =
     (let o = at.offset_in_chunk in let s = at.start_plus_offset in let m = at.argument_is.at_most_size in omega arith) in
     let was : get_or one 0 d ≡ get_or c.args.seats.now k d = ap (λ n. get_or one n d) (sym offset) ∙ at.old_element in
     let is : get_or after 0 d ≡ get_or new k d = ap (λ n. get_or after n d) (sym offset) ∙ at.new_element in
-    let made : HasWorked b.config (get_or tasks at.start []) (get_or one 0 d) (get_or after 0 d) = at.call d in
-    subst (λ s. HasWorked b.config (get_or tasks k []) s (get_or new k d)) was
-    (subst (λ s. HasWorked b.config (get_or tasks k []) (get_or one 0 d) s) is
-    (subst (λ n. HasWorked b.config (get_or tasks n []) (get_or one 0 d) (get_or after 0 d)) start made))
+    let made : HasWorked b.config c.args.table.now (get_or tasks at.start []) (get_or one 0 d) (get_or after 0 d) = at.call d in
+    subst (λ s. HasWorked b.config c.args.table.now (get_or tasks k []) s (get_or new k d)) was
+    (subst (λ s. HasWorked b.config c.args.table.now (get_or tasks k []) (get_or one 0 d) s) is
+    (subst (λ n. HasWorked b.config c.args.table.now (get_or tasks n []) (get_or one 0 d) (get_or after 0 d)) start made))

@@ -6,12 +6,14 @@ use Rattle.mv_runscript.proofs.Served.{served_with}
 use Rattle.mv_runscript.proofs.serving.free.Goals as goal
 
 pub returns-in-Some : goal.returns-in-Some
-returns-in-Some g c =
-    held_makes c.args.station.now.config (call.Free c.args.obtain c.args.conditional) c.args.obtain c.args.requests.now c.args.task.now
+returns-in-Some g c table =
+    held_makes c.args.station.now.config table (call.Free c.args.obtain c.args.conditional) c.args.obtain c.args.requests.now
+    c.args.task.now
     refl (λ a. service.ReleaseLatch a.latch a.id c.args.conditional) c.in-Some.token c.freed.result c.release_latch.new.task refl
     c.in-Some.is refl (served_with c.freed.ensures c.release_latch.ensures.served)
 
 pub returns-in-None : goal.returns-in-None
-returns-in-None g c =
-    unheld_makes c.args.station.now.config (call.Free c.args.obtain c.args.conditional) c.args.obtain c.args.requests.now c.args.task.now
+returns-in-None g c table =
+    unheld_makes c.args.station.now.config table (call.Free c.args.obtain c.args.conditional) c.args.obtain c.args.requests.now
+    c.args.task.now
     refl c.in-None.is c.requires.rest

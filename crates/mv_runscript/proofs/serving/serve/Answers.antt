@@ -67,3 +67,10 @@ pub returns-in-EndTask : goal.returns-in-EndTask
 returns-in-EndTask g c =
     plain_makes (call.EndTask c.in-EndTask.requestor c.in-EndTask.mother c.in-EndTask.code) c.in-EndTask.is refl refl
     (served_with c.purged-in-EndTask.ensures c.end_of_task.ensures.served)
+
+pub returns-in-PostEvent : goal.returns-in-PostEvent
+returns-in-PostEvent g c =
+    plain_makes (call.PostEvent c.in-PostEvent.index c.in-PostEvent.code) c.in-PostEvent.is refl refl c.event_posted.ensures
+
+pub returns-in-NextEvent : goal.returns-in-NextEvent
+returns-in-NextEvent g c = plain_makes (call.NextEvent c.in-NextEvent.position) c.in-NextEvent.is refl refl c.event_taken.ensures

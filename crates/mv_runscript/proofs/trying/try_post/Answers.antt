@@ -8,12 +8,12 @@ use Rattle.mv_runscript.proofs.Served.{served_post}
 use Rattle.mv_runscript.proofs.trying.try_post.Goals as goal
 
 pub returns-in-Ok : goal.returns-in-Ok
-returns-in-Ok c tokens =
+returns-in-Ok c table tokens =
     let config = c.args.station.now.config in
     plain_makes (call.TryPost c.args.ecb c.args.place c.args.code) refl refl refl
     (subst (λ w. Serves config (service.TryPost c.args.ecb w c.args.code) c.posted.result c.args.task.now c.try_post.new.task)
     c.zero_at-zero.ensures (served_post c.posted.ensures c.in-Ok.ensures.answer))
 
 pub returns-in-Err : goal.returns-in-Err
-returns-in-Err c tokens =
+returns-in-Err c table tokens =
     missed_makes (ap (λ w. Some (Ecb c.args.ecb, w)) (sym c.zero_at-zero.ensures)) c.requires.rest c.in-Err.ensures.answer

@@ -28,7 +28,7 @@ try_release-requires-clause-unpaused c =
     })
 
 pub returns-in-Ok-Early : goal.returns-in-Ok-Early
-returns-in-Ok-Early c tokens =
+returns-in-Ok-Early c table tokens =
     let config = c.args.station.now.config in
     let token = c.args.token in
     let code = c.args.code in
@@ -41,7 +41,7 @@ returns-in-Ok-Early c tokens =
     c.in-Ok-Early.ensures.served)))
 
 pub returns-in-Err-Moved : goal.returns-in-Err-Moved
-returns-in-Err-Moved c tokens =
+returns-in-Err-Moved c table tokens =
     let token = c.args.token in
     missed_makes {moved = record { 0 = c.in-Err-Moved.word }} (ap (λ w. Some (Element token.element, w)) (sym c.reset_at-reset.ensures))
     c.requires.rest

@@ -1,25 +1,32 @@
 -- The four words of an OBTAIN were read one behind the other.
-use Rattle.std.proofs.Common.{◌≡◌, ap, ◌∙◌, arith}
+use Rattle.std.proofs.Common.{◌≡◌, refl, ap, ◌∙◌, arith}
 use Rattle.std.proofs.lemmas.Grind.{common_steps}
+use Rattle.mv_latch.specs.declared.request.LatchForm.{LatchForm}
+use Rattle.mv_latch.specs.declared.request.Mode.{Mode}
 use Rattle.mv_line.specs.Field.{fields_of, starts_fields}
 use Rattle.mv_script.specs.Operand.{latch, requestor, mode}
-use Rattle.mv_script.specs.Statement.{form, obtain}
-use Rattle.mv_script.specs.Words.{making, both}
-use Rattle.mv_script.proofs.Obtains.{by_words, obtained}
+use Rattle.mv_script.specs.Statement.{form}
+use Rattle.mv_script.specs.Words.{Read, both, led_by}
+use Rattle.mv_script.proofs.Leading.{led}
 use Rattle.mv_script.proofs.calls.obtain.Goals.{After-split_field-3}
 use Rattle.mv_script.proofs.calls.obtain.Goals as goal
 
 parts : (c : After-split_field-3)
-    → obtain c.args.sizes (fields_of c.args.words.now)
-    ≡ making obtained (both (latch c.split_field.result.0.now) (both (requestor c.split_field-2.result.0.now)
-    (both (mode c.split_field-3.result.0.now) (form c.args.sizes (fields_of c.split_field-3.result.1.now)))))
+    → led_by latch (led_by requestor (led_by mode (form c.args.sizes))) (fields_of c.args.words.now)
+    ≡ both (latch c.split_field.result.0.now) (both (requestor c.split_field-2.result.0.now)
+    (both (mode c.split_field-3.result.0.now) (form c.args.sizes (fields_of c.split_field-3.result.1.now))))
 parts c =
     let z = c.args.sizes in
     let l = c.split_field.result.0.now in
     let r = c.split_field-2.result.0.now in
-    ap (obtain z)
-    (c.split_field.ensures.fields ∙ ap (starts_fields l) (c.split_field-2.ensures.fields ∙ ap (starts_fields r) c.split_field-3.ensures.fields))
-    ∙ by_words z l r c.split_field-3.result.0.now (fields_of c.split_field-3.result.1.now)
+    let m = c.split_field-3.result.0.now in
+    let f = fields_of c.split_field-3.result.1.now in
+    ap (led_by latch (led_by requestor (led_by mode (form z))))
+    (c.split_field.ensures.fields ∙ ap (starts_fields l) (c.split_field-2.ensures.fields ∙ ap (starts_fields r)
+    c.split_field-3.ensures.fields))
+    ∙ led latch (led_by requestor (led_by mode (form z))) l (starts_fields r (starts_fields m f)) refl
+    ∙ ap (both (latch l)) (led requestor (led_by mode (form z)) r (starts_fields m f) refl)
+    ∙ ap (λ (s : Read (Mode × LatchForm)). both (latch l) (both (requestor r) s)) (led mode (form z) m f refl)
 
 pub returns-in-Ok : goal.returns-in-Ok
 returns-in-Ok c = grind (arith, common_steps, parts (goal.at.returns-in-Ok c).After-split_field-3)

@@ -9,11 +9,11 @@ use Rattle.mv_script.specs.Script.{sizes_behind}
 use Rattle.mv_script.specs.Statement.{text_states}
 use Rattle.mv_script.proofs.Good.{read_well}
 use Rattle.mv_script.proofs.Lines.{line_taken, line_refused, some_text, sizes, sizes_are}
-use Rattle.mv_script.proofs.reading.Reading.take_line.Goals.{After-len, In-Ok}
+use Rattle.mv_script.proofs.reading.Reading.take_line.Goals.{After-stated_table, In-Ok}
 use Rattle.mv_script.proofs.reading.Reading.take_line.Goals as goal
 
 -- the line is neither foreign nor too long, and something of it counts
-counts : (c : After-len)
+counts : (c : After-stated_table)
     → (is_foreign c.args.line.now ≡ false) × (is_too_long c.args.line.now ≡ false) × (0 < length c.shown-text.result.now)
 counts c = (
   sym c.is_foreign.ensures ∙ c.if-is_foreign.false,
@@ -22,12 +22,13 @@ counts c = (
 )
 
 -- it is read by the sizes that the lines before it state
-sizes_so_far : (c : After-len) (earlier : List Statement) → IsBehind earlier c.args.self.now
-    → sizes c.args.self.now.stated c.len.result ≡ sizes_behind earlier
-sizes_so_far c earlier b = sizes_are earlier (notes_of c.args.self.now) b c.len.result (omega (arith, c.len.ensures))
+sizes_so_far : (c : After-stated_table) (earlier : List Statement) → IsBehind earlier c.args.self.now
+    → sizes c.args.self.now.stated c.len.result c.stated_table.result ≡ sizes_behind earlier
+sizes_so_far c earlier b =
+    sizes_are earlier (notes_of c.args.self.now) b c.len.result c.stated_table.result (omega (arith, c.len.ensures)) c.stated_table.ensures
 
 -- by these it states this
-states : (c : In-Ok) (z : Sizes) → sizes c.args.self.now.stated c.len.result ≡ z
+states : (c : In-Ok) (z : Sizes) → sizes c.args.self.now.stated c.len.result c.stated_table.result ≡ z
     → text_states z c.shown-text.result.now ≡ Ok c.in-Ok.statement
 states c z same = subst (λ (s : Sizes). text_states s c.shown-text.result.now ≡ Ok c.in-Ok.statement) same c.in-Ok.ensures
 
@@ -35,15 +36,15 @@ pub take-requires : goal.take-requires
 take-requires c =
     let earlier = c.requires.0 in
     let b = c.requires.1 in
-    let z = sizes_so_far (goal.at.take-requires c).After-len earlier b in
+    let z = sizes_so_far (goal.at.take-requires c).After-stated_table earlier b in
     let e = states (goal.at.take-requires c).In-Ok (sizes_behind earlier) z in
     (earlier, (b, read_well (sizes_behind earlier) c.shown-text.result.now c.in-Ok.statement e))
 
 pub returns-in-Ok : goal.returns-in-Ok
 returns-in-Ok c = λ earlier b.
     let text = c.shown-text.result.now in
-    let k = counts (goal.at.returns-in-Ok c).After-len in
-    let z = sizes_so_far (goal.at.returns-in-Ok c).After-len earlier b in
+    let k = counts (goal.at.returns-in-Ok c).After-stated_table in
+    let z = sizes_so_far (goal.at.returns-in-Ok c).After-stated_table earlier b in
     let e = states (goal.at.returns-in-Ok c).In-Ok (sizes_behind earlier) z in
     line_taken earlier c.args.line.now text c.shown-text.ensures k.0 k.1 c.in-Ok.statement k.2 e c.take.result _
     (c.take.ensures earlier b (read_well (sizes_behind earlier) text c.in-Ok.statement e))
@@ -51,7 +52,7 @@ returns-in-Ok c = λ earlier b.
 pub returns-in-Err : goal.returns-in-Err
 returns-in-Err c = λ earlier b.
     let text = c.shown-text.result.now in
-    let k = counts (goal.at.returns-in-Err c).After-len in
+    let k = counts (goal.at.returns-in-Err c).After-stated_table in
     line_refused earlier c.args.line.now text c.shown-text.ensures k.0 k.1 k.2 c.in-Err.refusal
     (subst (λ (s : Sizes). IsReadAs {A = Statement} (Err c.in-Err.refusal) (text_states s text))
-    (sizes_so_far (goal.at.returns-in-Err c).After-len earlier b) c.in-Err.ensures)
+    (sizes_so_far (goal.at.returns-in-Err c).After-stated_table earlier b) c.in-Err.ensures)

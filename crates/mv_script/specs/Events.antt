@@ -1,0 +1,61 @@
+-- What the calls on a script's table of events are told in a run: events are handed out once each, in the order of completion.
+use Rattle.std.specs.Prelude.{◌≡◌, ℕ, ◌+◌, ◌<◌, List, [], ◌∷◌, length, slice_get, slice_index_or, Some}
+use Rattle.std.specs.List.{Contains}
+use Rattle.mv_ecb.specs.Word.{completion_bit}
+use Rattle.mv_machine.specs.declared.entry.Entry.{Entry}
+use Rattle.mv_calls.specs.declared.table.Table.{Table}
+use Rattle.mv_eventlaws.specs.Completions.{Completion, completions}
+use Rattle.mv_eventlaws.specs.Discipline.{Deed}
+use Rattle.mv_eventlaws.specs.Order.{AreInOrder}
+use Rattle.mv_script.specs.declared.answer.Answer.{Answer}
+use Rattle.mv_script.specs.declared.answer.Answer.TheVariants as answer
+use Rattle.mv_script.specs.declared.call.Call.{Call}
+use Rattle.mv_script.specs.declared.call.Call.TheVariants as call
+use Rattle.mv_script.specs.Script.{ScriptData}
+use Rattle.mv_script.specs.Sound.{IfThere}
+use Rattle.mv_script.specs.Tasks.{calls_at}
+
+-- A post of an event, where these are the completions of the table's events: where it is told a position, its event is the completion
+-- there, with its code; where it is told a code, its event was complete with that. It may be refused for its quota, and is told nothing
+-- else.
+abbrev pub IsEntered : List Completion → (index code : ℕ) → Answer → Type 0
+IsEntered done index code (answer.Entered position) = slice_get done position ≡ Some (record { index = index; code = code })
+IsEntered done index code (answer.AlreadyPosted old) = Contains done (record { index = index; code = old })
+IsEntered done index code answer.Quota = Unit {0}
+IsEntered done index code a = ⊥
+
+-- The next event at a position: where one is told, it is the completion there, with the complete word of its code. It may be refused
+-- since the task is not the table's owner, or the table has no such position, and is told nothing else.
+abbrev pub IsHandedOut : List Completion → (position : ℕ) → Answer → Type 0
+IsHandedOut done position (answer.Event index word) =
+    (x : Completion) × (slice_get done position ≡ Some x) × (index ≡ x.index) × (word ≡ completion_bit + x.code)
+IsHandedOut done position answer.NotOwner = Unit {0}
+IsHandedOut done position answer.Drained = Unit {0}
+IsHandedOut done position a = ⊥
+
+-- what a call is told, if it is one on the table
+abbrev pub IsToldInOrder : List Completion → Call → Answer → Type 0
+IsToldInOrder done (call.PostEvent index code) a = IsEntered done index code a
+IsToldInOrder done (call.NextEvent position) a = IsHandedOut done position a
+IsToldInOrder done c a = Unit {0}
+
+-- each of a task's calls is told one thing
+abbrev pub AreToldInOrder : List Completion → List Call → List Answer → Type 0
+AreToldInOrder done [] [] = Unit {0}
+AreToldInOrder done (c ∷ calls) (a ∷ answers) = IsToldInOrder done c a × AreToldInOrder done calls answers
+AreToldInOrder done calls answers = ⊥
+
+-- the law on tables is told of a history without its calls
+abbrev pub no_deeds : ℕ → List Deed
+no_deeds k = []
+
+-- In a history of a script with this table, each call on it is told what the completions are; these are what its volume counts and its
+-- slots and events show, and stand in the order of the posts by which they came.
+pub record AreHandedOut (script : ScriptData) (answers : List (List Answer)) (es : List Entry) (t : Table) : Type 0 where
+  pub told : (k : ℕ) → k < length script.tasks
+      → AreToldInOrder (completions t es) (calls_at script k) (slice_index_or answers k [])
+  pub in_order : AreInOrder script.setup t no_deeds es
+
+-- the same where the script has a table
+abbrev pub EventsAreHandedOut : ScriptData → List (List Answer) → List Entry → Type 0
+EventsAreHandedOut script answers es = IfThere (AreHandedOut script answers es) script.table
