@@ -26,6 +26,7 @@ use Rattle.mv_plan.proofs.results.HandedOut.{are_handed_out}
 use Rattle.mv_deck.specs.Weight.{most_initiators}
 use Rattle.mv_script.specs.declared.answer.Answer.{Answer}
 use Rattle.mv_script.specs.AnswerText.{AreInRange, answers_text}
+use Rattle.mv_script.specs.Events.{EventsAreHandedOut}
 use Rattle.mv_script.specs.Run.{IsScriptRun, script_answers, moves_in}
 use Rattle.mv_script.specs.Script.{ScriptData}
 use Rattle.mv_machine.specs.Check.{IsValid}
@@ -68,8 +69,9 @@ journal_of_run deck n es text some few sound run most low typed kept =
 pub run_of_script : (script : ScriptData) (lists : List (List Answer)) (es : List Entry) (answers text : List ℕ)
     → IsValid script.setup → IsScriptRun script (moves_in lists) es → lists ≡ script_answers script (moves_in lists) es
     → length es ≤ events_limit → All (λ e. e.place ≤ highest_place) es → All IsTyped es
-    → answers ≡ answers_text lists → AreInRange lists → text ≡ journal_text script.setup es → IsRunOfScript script answers text
-run_of_script script lists es answers text valid run answered most low typed written in_range kept =
+    → answers ≡ answers_text lists → AreInRange lists → EventsAreHandedOut script lists es → text ≡ journal_text script.setup es
+    → IsRunOfScript script answers text
+run_of_script script lists es answers text valid run answered most low typed written in_range handed kept =
     let legal = run.finish.follow.legal in
     record {
       events = es;
@@ -80,6 +82,7 @@ run_of_script script lists es answers text valid run answered most low typed wri
       answered = answered;
       written = written;
       in_range = in_range;
+      events_handed_out = handed;
     }
 
 -- a text that tells a history is a legal journal, of as many events

@@ -14,6 +14,7 @@ use Rattle.mv_plan.specs.SpoolSetup.{spool_setup}
 use Rattle.mv_report.specs.Outcome.{report}
 use Rattle.mv_script.specs.declared.answer.Answer.{Answer}
 use Rattle.mv_script.specs.AnswerText.{AreInRange, answers_text}
+use Rattle.mv_script.specs.Events.{EventsAreHandedOut}
 use Rattle.mv_script.specs.Run.{IsScriptRun, script_answers, moves_in}
 use Rattle.mv_script.specs.Script.{ScriptData}
 
@@ -47,7 +48,8 @@ pub record IsJournalOfRun (deck : List JobData) (initiators : ℕ) (text : List 
 
 -- two texts are the answers and the journal of one run of the script: of a history in which each task has made its calls, as they are
 -- asked of it, and nothing else was done, and in which each word that an answer shows was met. The answers are those of that history
--- and of these words, and no others have their text
+-- and of these words, and no others have their text. Where the script has a table, its events were handed out once each, in the order of
+-- their completion
 pub record IsRunOfScript (script : ScriptData) (answers journal : List ℕ) : Type 0 where
   pub events : List Entry
   pub lists : List (List Answer)
@@ -57,3 +59,4 @@ pub record IsRunOfScript (script : ScriptData) (answers journal : List ℕ) : Ty
   pub answered : lists ≡ script_answers script (moves_in lists) events
   pub written : answers ≡ answers_text lists
   pub in_range : AreInRange lists
+  pub events_handed_out : EventsAreHandedOut script lists events

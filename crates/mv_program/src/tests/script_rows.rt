@@ -310,6 +310,34 @@ END
 0 4 WORD 1073741831
 --
 END 7
+==
+script
+SCRIPT 1
+ECB 0
+ECB 0
+ECB 0
+ECB 0
+ECB 0
+ECB 0
+TABLE 0 0 0 0 3 3
+TASK
+EVPOST 2 7
+EVPOST 0 9
+EVPOST 2 1
+EVNEXT 0
+EVNEXT 1
+EVNEXT 3
+END
+--
+0
+0 1 ENTERED 0
+0 2 ENTERED 1
+0 3 ALREADY 7
+0 4 EVENT 2 1073741831
+0 5 EVENT 0 1073741833
+0 6 DRAINED
+--
+END 21
 ";
 
 // Calls on blocks and elements of others, and on blocks that are extended; and lists of a wait that are none. Of two reasons to
@@ -404,6 +432,21 @@ END
 0 1 WAITED
 0 2 TOOMANY
 0 3 DOUBLED 1
+--
+END 0
+==
+script
+SCRIPT 2
+ECB 0
+ECB 0
+TABLE 0 0 0 0 1 1
+TASK
+TASK
+EVNEXT 0
+END
+--
+0
+1 1 NOTOWNER
 --
 END 0
 ";
@@ -575,6 +618,42 @@ END
 0 6 QUOTA
 --
 END 5
+==
+script
+SCRIPT 1
+ECB 0
+ECB 0
+TABLE 0 7 7 0 1 1
+TASK
+OBTAIN 0 1 S COND
+OBTAIN 0 1 S COND
+OBTAIN 0 1 S COND
+OBTAIN 0 1 S COND
+OBTAIN 0 1 S COND
+OBTAIN 0 1 S COND
+OBTAIN 0 1 S COND
+OBTAIN 0 1 S COND
+EVPOST 0 5
+FREE 8 U
+EVPOST 0 5
+EVNEXT 0
+END
+--
+0
+0 1 GRANTED
+0 2 GRANTED
+0 3 GRANTED
+0 4 GRANTED
+0 5 GRANTED
+0 6 GRANTED
+0 7 GRANTED
+0 8 GRANTED
+0 9 QUOTA
+0 10 RELEASED 0
+0 11 ENTERED 0
+0 12 EVENT 0 1073741829
+--
+END 18
 ";
 
 // Codes of posts and releases that are one too high, and others.
@@ -622,6 +701,37 @@ END
 --
 9
 SCRIPT LINE 3 KIND 7
+==
+script
+SCRIPT 1
+ECB 0
+ECB 0
+ECB 0
+ECB 0
+ECB 0
+ECB 0
+TABLE 0 0 0 0 3 3
+TASK
+POST 0 1
+END
+--
+9
+SCRIPT LINE 10 KIND 11
+==
+script
+SCRIPT 1
+ECB 0
+ECB 0
+ECB 0
+ECB 0
+ECB 0
+ECB 0
+TABLE 0 0 0 0 2 3
+TASK
+END
+--
+9
+SCRIPT LINE 8 KIND 12
 ";
 
 #[test]
@@ -714,5 +824,35 @@ fn one_of_sixteen_posts_is_taken(rt: HostRuntime) -> Result<(), Fail> {
     };
     assert_eq!(rt; answers.matches(" POSTED\n").count(), 1);
     assert_eq!(rt; answers.matches(told).count(), 15);
+    Ok(())
+}
+
+// The owner of a table takes the events that two other tasks post.
+const EVENTS_OF_TWO: &str = "\
+SCRIPT 3
+ECB 0
+ECB 0
+ECB 0
+ECB 0
+TABLE 0 0 0 0 2 2
+TASK
+EVNEXT 0
+EVNEXT 1
+TASK
+EVPOST 0 5
+TASK
+EVPOST 1 6
+END
+";
+
+#[test]
+fn events_come_in_the_order_of_their_completion(rt: HostRuntime) -> Result<(), Fail> {
+    let answers = answers_of(&rt, EVENTS_OF_TWO, " V0 0 READ = VALUE 0\n")?;
+    let told = if answers.ends_with("1 1 ENTERED 0\n2 1 ENTERED 1\n") {
+        "0 1 EVENT 0 1073741829\n0 2 EVENT 1 1073741830\n1 1 "
+    } else {
+        "0 1 EVENT 1 1073741830\n0 2 EVENT 0 1073741829\n1 1 "
+    };
+    assert!(rt; answers.starts_with(told));
     Ok(())
 }

@@ -31,7 +31,7 @@ returns g c =
     run_of_script (script_data c.args.script.now) c.in_ok-run.run'.answers.items es c.in_ok-report.report.items
     c.in_ok-journal.journal.items run.valid run.run run.answers (omega (arith, run.few)) run.places
     (subst (λ (xs : List Entry). All IsTyped xs) entries c.in_ok-journal.ensures.typed) c.in_ok-report.ensures.text
-    c.in_ok-report.ensures.in_range
+    c.in_ok-report.ensures.in_range run.events
     (c.in_ok-journal.ensures.text
     ∙ ap (λ (xs : List Entry). journal_text c.in_ok-run.run'.config xs) entries
     ∙ ap (λ (x : Setup). journal_text x es) run.config)
