@@ -1,8 +1,7 @@
-//! What no clause says: that each call can be made with ample memory, what a table hands out, and three threads of which one waits
-//! for the events that the others post.
+//! What no clause says: that each call can be made with ample memory, what a table hands out, and that a post whose request another
+//! task purges goes on. Posts and next events of tasks that wait for each other run as a script, in mv_program.
 
 ghost use Rattle.std.specs.Prelude.{◌≡◌, ◌<◌, ◌≤◌, length, IfOk};
-ghost use Rattle.std.specs.Thread.{IsSync};
 ghost use Rattle.mv_ecb.specs.Table.{code_limit};
 ghost use Rattle.mv_board.specs.Faces.{AreFresh, IsOf};
 ghost use Rattle.mv_calls.specs.Rest.{IsAtRest};
@@ -17,7 +16,7 @@ use std::alloc::Global;
 use std::process::Abort;
 use std::sync::Wait;
 use std::test::Fail;
-use std::thread::{self, Threads, join};
+use std::thread::{self, join};
 
 // Three events, and a slot for each, of task 0.
 const TABLE: Table = Table {
@@ -252,140 +251,6 @@ fn a_post_is_purged_while_its_task_waits(rt: HostRuntime) -> Result<(), Fail> {
     );
     assert!(rt; purged);
     assert_eq!(rt; answer, Err(PostEventRefusal::Purged));
-    Ok(())
-}
-
-// Posts an event that was not complete: its position.
-fn position_of<R: Abort + Wait>(
-    rt: &R,
-    station: &Station,
-    task: &mut Task,
-    index: u32,
-    code: u32,
-) -> u32
-    requires task { IsOf station.now task.old }
-    requires rest { IsAtRest task.old.log }
-    requires code { code < code_limit }
-    ensures task { IsOf station.now task.new }
-    ensures rest { IsAtRest task.new.log }
-{
-    let table = checked(rt, station);
-    match post(rt, station, task, &table, index, code) {
-        Ok(EventAnswer::Entered(position)) => position,
-        _ => panic!(rt; "not entered"),
-    }
-}
-
-// Posts event 2, and then event 0: their positions.
-fn post_two<R: Abort + Wait>(rt: &R, station: &Station, mut task: Task) -> (u32, u32)
-    requires task { IsOf station.now task }
-    requires rest { IsAtRest task.log }
-{
-    let second = position_of(rt, station, &mut task, 2, 7);
-    let first = position_of(rt, station, &mut task, 0, 9);
-    (second, first)
-}
-
-// Posts event 1: its position.
-fn post_one<R: Abort + Wait>(rt: &R, station: &Station, mut task: Task) -> u32
-    requires task { IsOf station.now task }
-    requires rest { IsAtRest task.log }
-{
-    position_of(rt, station, &mut task, 1, 8)
-}
-
-// Two threads post all three events: the positions of the first thread's two, and of the other's.
-fn post_all<R: Abort + Wait + Threads + Sync>(
-    rt: &R,
-    station: &Station,
-    first: Task,
-    second: Task,
-) -> ((u32, u32), u32)
-    requires first { IsOf station.now first × IsAtRest first.log }
-    requires second { IsOf station.now second × IsAtRest second.log }
-{
-    join(
-        rt,
-        || post_two(rt, station, first),
-        || post_one(rt, station, second),
-    )
-}
-
-// The event at a position.
-fn event_at<R: Abort + Wait>(rt: &R, station: &Station, task: &mut Task, position: u32) -> Event
-    requires task { IsOf station.now task.old }
-    requires rest { IsAtRest task.old.log }
-    ensures task { IsOf station.now task.new }
-    ensures rest { IsAtRest task.new.log }
-{
-    let table = checked(rt, station);
-    match next(rt, station, task, &table, position) {
-        Ok(event) => event,
-        Err(_) => panic!(rt; "refused"),
-    }
-}
-
-// Takes all three events, from the last position on.
-fn take_all<R: Abort + Wait>(rt: &R, station: &Station, mut task: Task) -> (Event, Event, Event)
-    requires task { IsOf station.now task }
-    requires rest { IsAtRest task.log }
-{
-    let last = event_at(rt, station, &mut task, 2);
-    let middle = event_at(rt, station, &mut task, 1);
-    let first = event_at(rt, station, &mut task, 0);
-    (first, middle, last)
-}
-
-// Three threads: two post all three events, and one takes them.
-fn post_and_take<R: Abort + Wait + Threads + Sync>(
-    rt: &R,
-    station: &Station,
-    first: Task,
-    second: Task,
-    owner: Task,
-) -> (((u32, u32), u32), (Event, Event, Event))
-    requires first { IsOf station.now first × IsAtRest first.log }
-    requires second { IsOf station.now second × IsAtRest second.log }
-    requires owner { IsOf station.now owner × IsAtRest owner.log }
-{
-    join(
-        rt,
-        move || -> ((u32, u32), u32)
-            requires { IsSync R.row × (IsOf station.now first × IsAtRest first.log) × (IsOf station.now second × IsAtRest second.log) }
-        { post_all(rt, station, first, second) },
-        || take_all(rt, station, owner),
-    )
-}
-
-#[test]
-fn two_tasks_post_what_a_third_takes(rt: HostRuntime) -> Result<(), Fail> {
-    let (station, mut tasks) = open(rt.alloc(), vec![in rt.alloc(); 100, 100, 100]?)?;
-    let other = station.take_last(&mut tasks);
-    let poster = station.take_last(&mut tasks);
-    let owner = station.take_last(&mut tasks);
-    let ((two, one), taken) = post_and_take(&rt, &station, poster, other, owner);
-    // Whichever task came first, the events are in the order of their completion.
-    let (a, b, c) = (
-        Event {
-            index: 0,
-            word: 1_073_741_833,
-        },
-        Event {
-            index: 1,
-            word: 1_073_741_832,
-        },
-        Event {
-            index: 2,
-            word: 1_073_741_831,
-        },
-    );
-    let (positions, order) = match one {
-        0 => ((1, 2), (b, c, a)),
-        1 => ((0, 2), (c, b, a)),
-        _ => ((0, 1), (c, a, b)),
-    };
-    assert_eq!(rt; two, positions);
-    assert_eq!(rt; taken, order);
     Ok(())
 }
 
