@@ -16,6 +16,7 @@ use std::thread::Threads;
 mod failing_streams;
 mod forged_journals;
 mod held_tasks;
+mod scheduled_scripts;
 mod script_rows;
 
 // One job ends, one abends, and one is not run, since it waited for the second to end well.

@@ -1,0 +1,101 @@
+//! Scripts whose tasks meet in an order that the schedule decides. What their answers can be was worked out by hand.
+
+use super::*;
+
+// The answers of a script whose tasks' order the schedule decides. Its journal has this piece.
+fn answers_of<X: Abort + AllocGlobal + Threads + Wait + Sync>(
+    rt: &X,
+    script: &str,
+    piece: &str,
+) -> Result<String, Fail> {
+    let mut on = streams_over(rt.alloc(), script.as_bytes())?;
+    assert_eq!(rt; run(rt, "script", &mut on)?, Status::Done);
+    assert_journal(rt, on.journal.bytes(), piece)?;
+    Ok(String::from_str(rt.alloc(), std::str::from_utf8(on.report.bytes())?)?)
+}
+
+// A task waits for a block that another posts.
+const ONE_WAITS: &str = "\
+SCRIPT 2
+ECB 0
+TASK
+WAIT 1 0
+TASK
+POST 0 3
+END
+";
+
+#[test]
+fn a_task_waits_for_another(rt: HostRuntime) -> Result<(), Fail> {
+    let answers = answers_of(&rt, ONE_WAITS, " E0 2 SETTLE = COMPLETE 3\n")?;
+    assert!(rt; answers.starts_with("0 1 WAITED C3\n1 1 "));
+    Ok(())
+}
+
+// Of sixteen posts of one block by two tasks one is taken, and each other is told its code.
+const POSTS_OF_ONE_BLOCK: &str = "\
+SCRIPT 2
+ECB 0
+TASK
+POST 0 1
+POST 0 2
+POST 0 3
+POST 0 4
+POST 0 5
+POST 0 6
+POST 0 7
+POST 0 8
+TASK
+POST 0 9
+POST 0 10
+POST 0 11
+POST 0 12
+POST 0 13
+POST 0 14
+POST 0 15
+POST 0 16
+END
+";
+
+#[test]
+fn one_of_sixteen_posts_is_taken(rt: HostRuntime) -> Result<(), Fail> {
+    let answers = answers_of(&rt, POSTS_OF_ONE_BLOCK, " = POSTED\n")?;
+    let told = if answers.starts_with("0 1 POSTED\n") {
+        " ALREADY 1\n"
+    } else {
+        " ALREADY 9\n"
+    };
+    assert_eq!(rt; answers.matches(" POSTED\n").count(), 1);
+    assert_eq!(rt; answers.matches(told).count(), 15);
+    Ok(())
+}
+
+// The owner of a table takes the events that two other tasks post.
+const EVENTS_OF_TWO: &str = "\
+SCRIPT 3
+ECB 0
+ECB 0
+ECB 0
+ECB 0
+TABLE 0 0 0 0 2 2
+TASK
+EVNEXT 0
+EVNEXT 1
+TASK
+EVPOST 0 5
+TASK
+EVPOST 1 6
+END
+";
+
+#[test]
+fn events_come_in_the_order_of_their_completion(rt: HostRuntime) -> Result<(), Fail> {
+    let answers = answers_of(&rt, EVENTS_OF_TWO, " V0 0 READ = VALUE 0\n")?;
+    let told = if answers.ends_with("1 1 ENTERED 0\n2 1 ENTERED 1\n") {
+        "0 1 EVENT 0 1073741829\n0 2 EVENT 1 1073741830\n1 1 "
+    } else {
+        "0 1 EVENT 1 1073741830\n0 2 EVENT 0 1073741829\n1 1 "
+    };
+    assert!(rt; answers.starts_with(told));
+    Ok(())
+}
