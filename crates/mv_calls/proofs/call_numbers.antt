@@ -6,10 +6,12 @@ pub mod OneCalls
 -- one number after the other
 pub mod Targets
 pub mod Kept
--- numbers that are another's
+-- the first numbers of a history
 pub mod Prefixes
-pub mod Refused
--- an entry judged behind others
+-- an entry counted, and judged, behind others
+pub mod Counted
 pub mod Judged
+-- numbers that are another's
+pub mod Refused
 -- worked rows
 pub mod Rows

@@ -1,7 +1,13 @@
--- How contracts see what the code keeps of each caller.
-use Rattle.std.specs.Prelude.{ℕ, List, map, reverse, slice_index_or}
+-- What has been counted of a list of entries, and what is counted of the next one.
+use Rattle.std.specs.Prelude.{◌≡◌, ℕ, List, [], ◌∷◌, ◌++◌, length, map, reverse, slice_index_or}
+use Rattle.mv_latch.specs.declared.operation.Wake.{Wake}
+use Rattle.mv_machine.specs.declared.entry.Entry.{Entry}
+use Rattle.mv_machine.specs.Legal.{Legal}
+use Rattle.mv_machine.specs.Setup.{Setup}
+use Rattle.mv_machine.specs.Told.{last_wakes}
+use Rattle.mv_calls.specs.declared.counters.CallCounters.{CallCounters}
 use Rattle.mv_calls.specs.declared.counting.Counter.{Counter}
-use Rattle.mv_calls.specs.Numbers.{Numbering, unnumbered}
+use Rattle.mv_calls.specs.Numbers.{Numbering, unnumbered, kept_after, calls}
 
 -- the pending blocks lie with the first on top
 abbrev pub numbering_of : Counter → Numbering
@@ -10,3 +16,19 @@ numbering_of x = record { group = x.group; pending = reverse x.pending.items; la
 -- what is kept of each caller
 abbrev pub counted : List Counter → ℕ → Numbering
 counted xs k = slice_index_or (map numbering_of xs) k unnumbered
+
+-- the counters stand behind these entries: of each caller is kept what its numbering keeps
+pub record HasCounted (c : Setup) (es : List Entry) (x : CallCounters) : Type 0 where
+  pub kept : counted x.counters.items ≡ kept_after c es
+  pub callers : length x.counters.items ≡ c.callers
+
+-- an entry may be counted next, with these wakes: it is legal behind the others, and the machine shows the wakes behind it
+pub record IsCountable (c : Setup) (es : List Entry) (e : Entry) (ws : List Wake) (x : CallCounters) : Type 0 where
+  pub counted : HasCounted c es x
+  pub legal : Legal c (es ++ e ∷ [])
+  pub wakes : ws ≡ last_wakes c (es ++ e ∷ [])
+
+-- it was counted, and has this call number
+pub record IsCountedNext (c : Setup) (es : List Entry) (e : Entry) (n : ℕ) (x : CallCounters) : Type 0 where
+  pub counted : HasCounted c (es ++ e ∷ []) x
+  pub number : calls c (es ++ e ∷ []) ≡ calls c es ++ n ∷ []

@@ -1,6 +1,6 @@
 //! A list of entries, judged and numbered as it comes, entry by entry: `specs/Judge.antt` says what has been judged so far.
 
-ghost use Rattle.std.specs.Prelude.{◌≡◌, ◌<◌, ◌≤◌, ◌-◌, ◌^◌, ◌↔◌, ◌∷◌, ◌++◌, ℕ, List, [], Some, length, IfOk, IsTrue};
+ghost use Rattle.std.specs.Prelude.{◌≡◌, ◌<◌, ◌≤◌, ◌-◌, ◌^◌, ◌↔◌, List, [], Some, length, IfOk, IsTrue};
 ghost use Rattle.std.specs.Prelude.{MatchBool, MatchResult};
 ghost use Rattle.mv_machine.specs.declared.entry.Entry.{Entry as AnyEntry};
 ghost use Rattle.mv_machine.specs.Limits.{highest_place};
@@ -9,11 +9,9 @@ ghost use Rattle.mv_machine.specs.Legal.{after};
 ghost use Rattle.mv_machine.specs.State.{system_of, wakes_of, IsOpenedWith};
 ghost use Rattle.mv_machine.specs.System.{place_of};
 ghost use Rattle.mv_machine.specs.Told.{last_wakes};
-ghost use Rattle.mv_calls.specs.Counters.{counted};
-ghost use Rattle.mv_calls.specs.Judge.{HasJudged, IsPassed, IsJudgedNext, IsUnfit, IsUnfitNext};
+ghost use Rattle.mv_calls.specs.Judge.{HasJudged, IsJudgedNext, IsUnfitNext};
 
-use crate::counting::Counter;
-use crate::numbering::new_counters;
+use crate::counters::CallCounters;
 use mv_io::NoMemory;
 use mv_machine::{Entry, HIGHEST_PLACE, Object, Reply, State, ValidConfig};
 use std::alloc::Global;
@@ -31,7 +29,7 @@ pub enum EntryRefusal {
 #[derive(Drop)]
 pub struct Judge {
     state: State,
-    counters: Vec<Counter>,
+    counters: CallCounters,
 }
 
 // Whether an object has had as many events as the places of entries count.
@@ -52,35 +50,6 @@ fn is_answer(machine: Option<(u32, Reply)>, entry: &Entry) -> bool
     }
 }
 
-// One more entry: the number of its call. Where it is refused, it is not said what is left.
-fn pass(
-    config: &ValidConfig,
-    state: &mut State,
-    counters: &mut Vec<Counter>,
-    entry: &Entry,
-) -> Result<u32, EntryRefusal>
-    requires opened { IsOpenedWith config.now state.old }
-    requires callers { length counters.old.items ≡ config.now.callers }
-    requires low { (k : ℕ) → (counted counters.old.items k).group < 2 ^ 32 - 1 }
-    requires place { entry.now.place ≤ highest_place }
-    ensures { MatchResult result
-        (λ n. IsPassed config.now state.old state.new counters.old.items counters.new.items entry.now n)
-        (λ r. IsUnfit config.now (system_of state.old) entry.now r) }
-{
-    // The machine is not asked behind the last place of an object. No entry has a place there.
-    if is_full(state, entry.object) {
-        return Err(EntryRefusal::Illegal);
-    }
-    let machine = state.step(config, entry.caller, entry.object, entry.op);
-    if !is_answer(machine, entry) {
-        return Err(EntryRefusal::Illegal);
-    }
-    match counters[entry.caller as usize].count(config, entry, state.wakes()) {
-        Ok(number) => Ok(number),
-        Err(NoMemory) => Err(EntryRefusal::NoMemory),
-    }
-}
-
 impl Judge {
     /// Before the first entry.
     ///
@@ -91,7 +60,7 @@ impl Judge {
         ensures { IfOk result (λ j. HasJudged config.now [] j) }
     {
         let state = State::opening(alloc, config)?;
-        let counters = new_counters(alloc, config.config().callers)?;
+        let counters = CallCounters::open(alloc, config)?;
         Ok(Judge { state, counters })
     }
 
@@ -121,7 +90,20 @@ impl Judge {
             (λ n. IsJudgedNext config.now es entry.now n self.new)
             (λ r. IsUnfitNext config.now es entry.now r) }
     {
-        pass(config, &mut self.state, &mut self.counters, entry)
+        // The machine is not asked behind the last place of an object. No entry has a place there.
+        if is_full(&self.state, entry.object) {
+            return Err(EntryRefusal::Illegal);
+        }
+        let machine = self
+            .state
+            .step(config, entry.caller, entry.object, entry.op);
+        if !is_answer(machine, entry) {
+            return Err(EntryRefusal::Illegal);
+        }
+        match self.counters.count(config, entry, self.state.wakes()) {
+            Ok(number) => Ok(number),
+            Err(NoMemory) => Err(EntryRefusal::NoMemory),
+        }
     }
 
     /// The machine behind the list.

@@ -5,6 +5,7 @@
 
 mod call_laws;
 mod calls_replaying;
+mod counters;
 mod counting;
 mod judge;
 mod keeping_laws;
@@ -17,6 +18,7 @@ pub use call_laws::{
     calls_keep_to_their_events, generations_in_replies, last_event_is_the_machines, posts_reach,
 };
 pub use calls_replaying::{CallsRefusal, replay_calls};
+pub use counters::CallCounters;
 pub use judge::{EntryRefusal, Judge};
 pub use keeping_laws::{keeping_agrees, own_blocks_answer, own_elements_answer};
 pub use latch_laws::{

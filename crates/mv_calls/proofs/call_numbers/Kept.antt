@@ -1,7 +1,7 @@
 -- What is kept of each caller, as it is read and written.
-use Rattle.std.proofs.Common.{◌≡◌, ℕ, ◌+◌, ◌<◌, ◌≤◌, ◌==◌, Bool, true, false, if◌then◌else◌, List, [], ◌∷◌, ◌++◌, length, map, set, get_or}
-use Rattle.std.proofs.Common.{drop, Option, Some, None, Result, Ok, Err, IfOk, subst, refl, sym, ap, ◌∙◌, arith}
-use Rattle.std.proofs.lemmas.List.{map-set, length-map, get_or-map, drop_more, append_assoc}
+use Rattle.std.proofs.Common.{◌≡◌, ℕ, ◌+◌, ◌<◌, ◌≤◌, ◌==◌, Bool, true, false, if◌then◌else◌, List, [], ◌++◌, length, map, set, get_or}
+use Rattle.std.proofs.Common.{Option, Some, None, refl, sym, ap, ◌∙◌, arith}
+use Rattle.std.proofs.lemmas.List.{map-set, length-map, get_or-map}
 use Rattle.mv_latch.specs.declared.operation.Wake.{Wake}
 use Rattle.mv_machine.specs.declared.entry.Entry.{Entry}
 use Rattle.mv_machine.specs.declared.entry.Object.{Object}
@@ -9,15 +9,14 @@ use Rattle.mv_machine.specs.declared.entry.Object.TheVariants.{Ecb, Element, Vol
 use Rattle.mv_machine.specs.declared.entry.Op.{Op}
 use Rattle.mv_machine.specs.declared.entry.Op.TheVariants as op_on
 use Rattle.mv_machine.specs.declared.entry.Reply.{Reply}
-use Rattle.mv_machine.specs.Legal.{IsNext, LegalFrom, next}
+use Rattle.mv_machine.specs.Legal.{IsNext}
 use Rattle.mv_machine.specs.Setup.{Setup}
 use Rattle.mv_machine.specs.State.{table}
-use Rattle.mv_machine.specs.System.{System, admitted, after_step, wakes_after, with_at}
+use Rattle.mv_machine.specs.System.{System, admitted, wakes_after, with_at}
 use Rattle.mv_machine.proofs.Tables.{table-set}
 use Rattle.mv_calls.specs.declared.counting.Counter.{Counter}
 use Rattle.mv_calls.specs.Counters.{numbering_of, counted}
 use Rattle.mv_calls.specs.Numbers.{Numbering, unnumbered, numbered, numbered_at, wakes_at, asked, kept_pending, continues, group_after}
-use Rattle.mv_calls.specs.Numbers.{calls_from}
 
 -- a counter that is written
 pub counted-set : (xs : List Counter) (n : ℕ) (x : Counter) → n < length xs → counted (set xs n x) ≡ with_at (counted xs) n (numbering_of x)
@@ -58,30 +57,7 @@ one_counted c s shown ws xs e old new n lt at told is =
           (counted xs e.caller).pending e.object e.op;
     }) (asked_same c s shown e.caller e.object e.op e.reply n.admits))))
 
--- its step changes what it is on
-pub stepped : (c : Setup) (s : System) (e : Entry) → IsNext c s e → after_step c s e.caller e.object e.op ≡ next s e
-stepped c s e n = rw (n.admits) refl
-
--- ---- a round of the loop
-
--- the entry at a place, and what is left behind it
-pub at_drop : (es : List Entry) (i : ℕ) (e : Entry) → i < length es → e ≡ get_or es i e → drop i es ≡ e ∷ drop (i + 1) es
-at_drop es i e lt at = drop_more es i e lt ∙ ap (λ x. x ∷ drop (i + 1) es) (sym at)
-
--- what is left is legal behind it
-pub round_rest : (c : Setup) (s : System) (es : List Entry) (i : ℕ) (e : Entry) → i < length es → e ≡ get_or es i e
-    → LegalFrom c s (drop i es) → LegalFrom c (next s e) (drop (i + 1) es)
-round_rest c s es i e lt at l = (subst (λ xs. LegalFrom c s xs) (at_drop es i e lt at) l).1
-
--- its number comes next
-pub round_numbers : (c : Setup) (s : System) (table : ℕ → Numbering) (es : List Entry) (i : ℕ) (e : Entry) (all ns : List ℕ)
-    → i < length es → e ≡ get_or es i e
-    → all ≡ ns ++ calls_from c s table (drop i es)
-    → all ≡ (ns ++ (numbered_at c s table e).group ∷ []) ++ calls_from c (next s e) (with_at table e.caller (numbered_at c s table e))
-    (drop (i + 1) es)
-round_numbers c s table es i e all ns lt at is = is ∙ ap (λ xs. ns ++ calls_from c s table xs) (at_drop es i e lt at) ∙ sym
-    (append_assoc ns ((numbered_at c s table e).group ∷ [])
-    (calls_from c (next s e) (with_at table e.caller (numbered_at c s table e)) (drop (i + 1) es)))
+-- ---- how high the numbers are
 
 -- a group number rises by one at most
 one_more : (last : Option Entry) (g : ℕ) (b : Bool) (i : ℕ) → g ≤ i → group_after last g b ≤ i + 1
@@ -100,8 +76,3 @@ pub round_low : (c : Setup) (s : System) (table : ℕ → Numbering) (e : Entry)
 round_low c s table e i low k = low_at (k == e.caller) (numbered_at c s table e) (table k) (i + 1)
     (one_more (table e.caller).last (table e.caller).group (continues (table e.caller) e.object e.op) i (low e.caller))
     (let l : (table k).group ≤ i = low k in omega arith)
-
--- what follows from what holds of an Ok
-pub ok_map : {X Y : Type 0} (r : Result X Y) (P Q : Type 0) → (P → Q) → IfOk r (λ x. P) → IfOk r (λ x. Q)
-ok_map (Ok x) P Q f p = f p
-ok_map (Err y) P Q f p = p

@@ -1,7 +1,7 @@
 -- The call numbers of the first entries are the first of the call numbers.
-use Rattle.std.proofs.Common.{◌≡◌, ℕ, zero, suc, ◌+◌, ◌<◌, List, [], ◌∷◌, length, take, drop, slice_get, Some, subst, refl, sym, ap, ◌∙◌}
+use Rattle.std.proofs.Common.{◌≡◌, ℕ, zero, suc, ◌+◌, ◌<◌, List, [], ◌∷◌, ◌++◌, length, take, drop, slice_get, get_or, Some, subst, refl, sym, ap, ◌∙◌}
 use Rattle.std.proofs.Common.{arith}
-use Rattle.std.proofs.lemmas.List.{take-append-drop, length-take-le, get_or-take}
+use Rattle.std.proofs.lemmas.List.{take-append-drop, take_more, length-take-le, get_or-take}
 use Rattle.std.proofs.lemmas.Option.{slice_get-get_or, slice_get_within}
 use Rattle.mv_machine.specs.declared.entry.Entry.{Entry}
 use Rattle.mv_machine.specs.Legal.{Legal, LegalFrom, next}
@@ -31,6 +31,10 @@ calls_from-take c s table (suc n) (e ∷ es) = ap (λ ns. (numbered_at c s table
 -- and so from the opening on
 pub calls-take : (c : Setup) (n : ℕ) (es : List Entry) → calls c (take n es) ≡ take n (calls c es)
 calls-take c n es = calls_from-take c (opening c) (λ k. unnumbered) n es
+
+-- one more entry than up to a place
+pub one_more : (es : List Entry) (i : ℕ) (e : Entry) → i < length es → e ≡ get_or es i e → take (i + 1) es ≡ take i es ++ e ∷ []
+one_more es i e lt at = take_more es i e lt ∙ ap (λ (x : Entry). take i es ++ x ∷ []) (sym at)
 
 -- a front of a legal list is legal
 pub legal_take : (c : Setup) (n : ℕ) (es : List Entry) → Legal c es → Legal c (take n es)

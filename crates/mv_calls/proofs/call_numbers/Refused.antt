@@ -11,12 +11,13 @@ use Rattle.mv_machine.specs.Replay.{IsFirstIllegal}
 use Rattle.mv_machine.specs.Setup.{Setup}
 use Rattle.mv_machine.specs.System.{System, opening}
 use Rattle.mv_machine.proofs.Replays.{not_legal}
-use Rattle.mv_calls.proofs.call_numbers.Prefixes.{calls-take, calls_length, slice_get_front}
+use Rattle.mv_calls.proofs.call_numbers.Judged.{judged_there}
+use Rattle.mv_calls.proofs.call_numbers.Prefixes.{calls-take, calls_length, one_more, slice_get_front}
 use Rattle.mv_calls.specs.declared.calls_replaying.CallsRefusal.{CallsRefusal}
 use Rattle.mv_calls.specs.declared.calls_replaying.CallsRefusal.TheVariants as refusal
 use Rattle.mv_calls.specs.CallsReplay.{IsFirstNumber, IsIllegalRefused, IsCallsRefused}
 use Rattle.mv_calls.specs.declared.judge.Judge.{Judge}
-use Rattle.mv_calls.specs.Judge.{HasJudged, IsJudgedNext}
+use Rattle.mv_calls.specs.Judge.{IsJudgedNext}
 use Rattle.mv_calls.specs.Numbers.{calls}
 
 -- the front of a list before its first illegal entry
@@ -36,10 +37,6 @@ front_is_within c es i w =
     let n : i.index ≡ length w.before = w.index in
     grind arith
 
--- one more entry than up to a place
-one_more : (es : List Entry) (i : ℕ) (e : Entry) → i < length es → e ≡ get_or es i e → take (i + 1) es ≡ take i es ++ e ∷ []
-one_more es i e lt at = take_more es i e lt ∙ ap (λ (x : Entry). take i es ++ x ∷ []) (sym at)
-
 -- what stands behind a list
 slice_get-seam : (xs : List ℕ) (y : ℕ) (ys : List ℕ) → slice_get (xs ++ y ∷ ys) (length xs) ≡ Some y
 slice_get-seam [] y ys = refl
@@ -47,12 +44,7 @@ slice_get-seam (x ∷ xs) y ys = slice_get-seam xs y ys
 
 -- ---- in the middle of the list, whose entries up to here are judged
 
--- one more of them
-pub judged_there : (c : Setup) (es : List Entry) (i : ℕ) (e : Entry) (j : Judge) → i < length es → e ≡ get_or es i e
-    → HasJudged c (take i es ++ e ∷ []) j → HasJudged c (take (i + 1) es) j
-judged_there c es i e j lt at h = subst (λ (xs : List Entry). HasJudged c xs j) (sym (one_more es i e lt at)) h
-
--- with its number
+-- one more has its number
 pub number_there : (c : Setup) (es : List Entry) (kept : List ℕ) (i n : ℕ) (e : Entry) → i < length es → length kept ≡ length es
     → e ≡ get_or es i e → take i kept ≡ calls c (take i es) → calls c (take i es ++ e ∷ []) ≡ calls c (take i es) ++ n ∷ []
     → n ≡ get_or kept i 0 → take (i + 1) kept ≡ calls c (take (i + 1) es)

@@ -3,7 +3,8 @@ use Rattle.std.proofs.Common.{◌≡◌, ◌<◌, ◌≤◌, length, take, get_o
 use Rattle.std.proofs.lemmas.List.{get_or_read, length-take-le}
 use Rattle.mv_calls.specs.declared.judge.EntryRefusal.{EntryRefusal}
 use Rattle.mv_calls.specs.Judge.{IsUnfitNext}
-use Rattle.mv_calls.proofs.call_numbers.Refused.{judged_there, number_there, other_there, unfit_there, refused_by_front}
+use Rattle.mv_calls.proofs.call_numbers.Judged.{judged_there}
+use Rattle.mv_calls.proofs.call_numbers.Refused.{number_there, other_there, unfit_there, refused_by_front}
 use Rattle.mv_calls.proofs.calls_replaying.first_refusal.Goals as goal
 
 pub next-requires-clause-judged : goal.next-requires-clause-judged

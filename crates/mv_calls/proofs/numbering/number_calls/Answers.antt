@@ -1,32 +1,24 @@
--- Entry after entry is counted.
-use Rattle.std.proofs.Common.{◌≡◌, ◌+◌, ◌<◌, ◌≤◌, ◌++◌, ℕ, [], length, drop, subst, refl, sym, ap, ◌∙◌, arith}
-use Rattle.std.proofs.lemmas.List.{get_or_read, append-nil, drop_all}
-use Rattle.mv_machine.specs.Legal.{LegalFrom, next}
-use Rattle.mv_machine.specs.State.{system_of}
-use Rattle.mv_machine.specs.System.{opening, with_at}
-use Rattle.mv_calls.specs.Counters.{counted}
-use Rattle.mv_calls.specs.Numbers.{unnumbered, numbered_at, calls, calls_from}
+-- Entry after entry is judged, and each is legal.
+use Rattle.std.proofs.Common.{◌≡◌, ◌<◌, length, take, get_or, subst, sym, ap, ◌∙◌, arith}
+use Rattle.std.proofs.lemmas.List.{get_or_read, take_all}
+use Rattle.mv_calls.specs.declared.judge.EntryRefusal.{EntryRefusal}
+use Rattle.mv_calls.specs.Judge.{IsUnfitNext}
+use Rattle.mv_calls.specs.Numbers.{calls}
 use Rattle.mv_calls.specs.OneCall.{HasOneNumber}
-use Rattle.mv_calls.proofs.call_numbers.Kept.{round_rest, round_numbers, round_low}
+use Rattle.mv_calls.proofs.call_numbers.Judged.{judged_there, legal_there, numbers_there}
 use Rattle.mv_calls.proofs.call_numbers.OneCalls.{one_number}
 use Rattle.mv_calls.proofs.numbering.number_calls.Goals as goal
 
-pub loop-entry-init : goal.loop-entry-init
-loop-entry-init c =
+pub unreachable-requires : goal.unreachable-requires
+unreachable-requires c =
     let config = c.args.config.now in
     let entries = c.args.entries.now in
-    let start : counted c.in_ok-counters.counters.items ≡ (λ k. unnumbered) = c.in_ok-counters.ensures.start in
-    let system : system_of c.in_ok-state.state ≡ opening config = c.in_ok-state.ensures.system in
-    record {
-      opened = c.in_ok-state.ensures.opened;
-      legal = subst (λ s. LegalFrom config s entries) (sym system) c.requires.legal;
-      numbers = ap (λ s. calls_from config s (λ k. unnumbered) entries) (sym system) ∙ ap
-          (λ t. calls_from config (system_of c.in_ok-state.state) t entries) (sym start)
-          ∙ ap (λ ns. ns ++ calls_from config (system_of c.in_ok-state.state) (counted c.in_ok-counters.counters.items) entries)
-          (sym c.new-numbers.ensures.items);
-      callers = c.in_ok-counters.ensures.callers ∙ ap (λ s. s.callers) c.config.ensures.given;
-      low = λ k. subst (λ t. (t k).group ≤ 0) (sym start) (omega arith);
-    }
+    let i = c.loop-entry.entry-index in
+    let e = c.entry-item.result in
+    let lt : i < length entries = omega arith in
+    subst (λ (r : EntryRefusal). IsUnfitNext config (take i entries) e r) c.in-Err-Illegal.field-0-is
+    (c.in-Err-Illegal.ensures (take i entries) c.loop-entry.invariant.judged)
+    (legal_there config entries i e lt (get_or_read entries i e lt c.entry-item.is e) c.requires.legal)
 
 pub loop-entry-preserved : goal.loop-entry-preserved
 loop-entry-preserved c =
@@ -34,31 +26,20 @@ loop-entry-preserved c =
     let entries = c.args.entries.now in
     let i = c.loop-entry.entry-index in
     let e = c.entry-item.result in
-    let before = system_of c.loop-entry.state in
-    let table = counted c.loop-entry.counters.items in
-    let known = c.loop-entry.invariant in
     let lt : i < length entries = omega arith in
-    let read = get_or_read entries i e lt c.entry-item.is e in
-    let system : system_of c.number_next.new.state ≡ next before e = c.number_next.ensures.state in
-    let counters : counted c.number_next.new.counters.items ≡ with_at table e.caller (numbered_at config before table e) =
-    c.in_ok-number.ensures.counters in
+    let read : e ≡ get_or entries i e = get_or_read entries i e lt c.entry-item.is e in
+    let next = c.in-Ok.ensures (take i entries) c.loop-entry.invariant.judged in
     record {
-      opened = c.number_next.ensures.opened;
-      legal = subst (λ s. LegalFrom config s (drop (i + 1) entries)) (sym system)
-          (round_rest config before entries i e lt read known.legal);
-      numbers = round_numbers config before table entries i e (calls config entries) c.loop-entry.numbers.items lt read known.numbers
-          ∙ rw (system, counters, c.in_ok-push.ensures.items, c.in_ok-number.ensures.number) refl;
-      callers = c.number_next.ensures.callers;
-      low = subst (λ t. (k : ℕ) → (t k).group ≤ i + 1) (sym counters) (round_low config before table e i known.low);
+      judged = judged_there config entries i e c.next.new.self lt read next.judged;
+      numbers = numbers_there config entries c.loop-entry.numbers.items i c.in-Ok.number e lt read c.loop-entry.invariant.numbers next.number
+          ∙ sym c.in_ok-push-in-Ok.ensures.items;
     }
 
 pub returns-clause-one_number : goal.returns-clause-one_number
 returns-clause-one_number c = λ k old piece call.
     let config = c.args.config.now in
     let entries = c.args.entries.now in
-    let known = c.loop-entry.invariant in
-    let none : drop c.loop-entry.entry-index entries ≡ [] = drop_all c.loop-entry.entry-index entries (omega arith) in
-    let all : calls config entries ≡ c.loop-entry.numbers.items = known.numbers ∙ ap
-    (λ es. c.loop-entry.numbers.items ++ calls_from config (system_of c.loop-entry.state)
-    (counted c.loop-entry.counters.items) es) none ∙ append-nil c.loop-entry.numbers.items in
+    let whole : take c.loop-entry.entry-index entries ≡ entries = take_all c.loop-entry.entry-index entries (omega arith) in
+    let all : calls config entries ≡ c.loop-entry.numbers.items =
+    ap (λ es. calls config es) (sym whole) ∙ c.loop-entry.invariant.numbers in
     subst (λ ns. HasOneNumber k entries ns old piece) all (one_number config k entries old piece call)

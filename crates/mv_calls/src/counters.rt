@@ -1,0 +1,75 @@
+//! What is counted of the callers of a legal list, entry by entry as it comes: `specs/Counters.antt` says what has been counted
+//! so far.
+
+ghost use Rattle.std.specs.Prelude.{◌≡◌, ◌<◌, ◌-◌, ◌^◌, [], List, length, IfOk};
+ghost use Rattle.mv_machine.specs.declared.entry.Entry.{Entry as AnyEntry};
+ghost use Rattle.mv_calls.specs.Counters.{counted, HasCounted, IsCountable, IsCountedNext};
+ghost use Rattle.mv_calls.specs.Numbers.{unnumbered};
+
+use crate::counting::Counter;
+use mv_io::NoMemory;
+use mv_latch::Wake;
+use mv_machine::{Entry, ValidConfig};
+use std::alloc::Global;
+
+/// The counters of the calls of all callers, behind a legal list of entries. Of the entries it keeps the last of each caller.
+#[derive(Drop)]
+pub struct CallCounters {
+    counters: Vec<Counter>,
+}
+
+// What is kept of each caller before its first entry.
+fn new_counters(alloc: Global, callers: u32) -> Result<Vec<Counter>, NoMemory>
+    ensures callers { IfOk result (λ xs. length xs.items ≡ callers) }
+    ensures start { IfOk result (λ xs. counted xs.items ≡ (λ _. unnumbered)) }
+{
+    let mut counters = Vec::new(alloc);
+    for _ in 0..callers {
+        counters.push(Counter::new(alloc))?;
+    }
+    Ok(counters)
+}
+
+impl CallCounters {
+    /// Before the first entry.
+    ///
+    /// # Errors
+    ///
+    /// `NoMemory` where there is no room for the counters.
+    pub fn open(alloc: Global, config: &ValidConfig) -> Result<CallCounters, NoMemory>
+        ensures { IfOk result (λ x. HasCounted config.now [] x) }
+    {
+        let counters = new_counters(alloc, config.config().callers)?;
+        Ok(CallCounters { counters })
+    }
+
+    /// One more entry of a legal list of fewer than 2^32 entries: the number of its caller's call that it belongs to. The wakes are
+    /// those that the machine shows behind it.
+    ///
+    /// # Errors
+    ///
+    /// `NoMemory` where there is no room for the posts that may follow. What is said of any further entry is not said then.
+    ///
+    /// # Example
+    ///
+    /// ```
+    /// let mut counters = CallCounters::open(alloc, &config)?;
+    /// for entry in &journal {
+    ///     state.step(&config, entry.caller, entry.object, entry.op);
+    ///     let call = counters.count(&config, entry, state.wakes())?;
+    ///     ..
+    /// }
+    /// ```
+    pub fn count(
+        &mut self,
+        config: &ValidConfig,
+        entry: &Entry,
+        wakes: &[Wake],
+    ) -> Result<u32, NoMemory>
+        requires countable { (es : List AnyEntry) × IsCountable config.now es entry.now wakes.now self.old × (length es < 2 ^ 32 - 1) }
+        ensures { (es : List AnyEntry) → IsCountable config.now es entry.now wakes.now self.old
+            → IfOk result (λ n. IsCountedNext config.now es entry.now n self.new) }
+    {
+        self.counters[entry.caller as usize].count(config, entry, wakes)
+    }
+}
