@@ -1,6 +1,6 @@
 -- What a deck means: how each job ends, which steps it does, the lines that these write, and what they leave in the volumes.
 -- The ends are read off the list of jobs in order; nothing here runs beside anything else.
-use Rattle.std.specs.Prelude.{ℕ, min, Bool, ◌==◌, nat_lt, if◌then◌else◌}
+use Rattle.std.specs.Prelude.{ℕ, min, Bool, true, ◌==◌, nat_lt, if◌then◌else◌}
 use Rattle.std.specs.Prelude.{List, [], ◌∷◌, ◌++◌, map, flat_map, sum_by, slice_index, codes, decimal}
 use Rattle.std.specs.List.{list_any}
 use Rattle.mv_deck.specs.declared.deck.After.{After}
@@ -74,13 +74,21 @@ steps_done deck = all_steps_with (ends deck) deck
 
 -- ---- what these write
 
--- the lines that a step writes
+-- the line that a PRINT writes
+abbrev pub print_line : List ℕ → List ℕ
+print_line text = codes "| " ++ text
+
+-- the line that a SCAN writes, by whether both reads of the volume told one number
+abbrev pub scan_line : ℕ → Bool → List ℕ
+scan_line volume steady = codes "| SCAN " ++ decimal volume ++ (if steady then codes " STEADY" else codes " UNSTEADY")
+
+-- the lines that a step writes. No run reads two numbers in a SCAN
 abbrev pub lines_of_step : Step → List (List ℕ)
-lines_of_step (Print text) = (codes "| " ++ text) ∷ []
+lines_of_step (Print text) = print_line text ∷ []
 lines_of_step (Use latch mode) = []
 lines_of_step (Free latch) = []
 lines_of_step (Count volume amount) = []
-lines_of_step (Scan volume) = (codes "| SCAN " ++ decimal volume ++ codes " STEADY") ∷ []
+lines_of_step (Scan volume) = scan_line volume true ∷ []
 lines_of_step (Abend code) = []
 lines_of_step (Return code) = []
 

@@ -12,7 +12,7 @@ mod report;
 mod summary;
 
 pub use laws::{ends_go_by_accepted_codes, reports_tell_the_ends, sound_decks_have_reports};
-pub use lines::Lines;
+pub use lines::{Lines, print_line, scan_line};
 pub use outcome::{Outcome, outcome_of};
 pub use report::write_report;
 pub use summary::write_summary;

@@ -1,15 +1,14 @@
 //! What the jobs of a deck do, one after another: how each ends, the lines that it writes, and what all of them leave in
 //! the volumes. The words are those of `specs/Outcome.antt`.
 
-ghost use Rattle.std.specs.Prelude.{◌≡◌, ℕ, ◌+◌, ◌<◌, ◌++◌, codes, decimal, map, slice_index, IfOk};
+ghost use Rattle.std.specs.Prelude.{◌≡◌, ℕ, ◌+◌, ◌<◌, map, slice_index, IfOk};
 ghost use Rattle.mv_deck.specs.Deck.{job_data, deck_data};
 ghost use Rattle.mv_deck.specs.Operand.{volume_count};
 ghost use Rattle.mv_report.specs.Outcome.{is_unaccepted, some_unaccepted, own_end, end_behind, ends, steps_with, lines_of_steps};
 ghost use Rattle.mv_report.specs.Outcome.{lines, added_by, totals, held_of};
 
-use crate::lines::Lines;
-use itoa::Buffer;
-use mv_deck::{After, Deck, Job, NOT_RUN, Step, Text, VOLUME_COUNT};
+use crate::lines::{Lines, print_line, scan_line};
+use mv_deck::{After, Deck, Job, NOT_RUN, Step, VOLUME_COUNT};
 use mv_io::NoMemory;
 use std::alloc::Global;
 
@@ -127,26 +126,6 @@ fn steps_with(end: u32, steps: &[Step]) -> &[Step]
     steps
 }
 
-// The line that a PRINT writes.
-fn printed(alloc: Global, text: &Text) -> Result<Text, NoMemory>
-    ensures { IfOk result (λ line. line ≡ codes "| " ++ text.now) }
-{
-    let mut bytes = Vec::with_capacity(alloc, 2 + text.bytes.len())?;
-    bytes.extend_from_slice(b"| ")?;
-    bytes.extend_from_slice(&text.bytes)?;
-    Ok(Text { bytes })
-}
-
-// The line that a SCAN writes.
-fn scanned(alloc: Global, volume: u32) -> Result<Text, NoMemory>
-    ensures { IfOk result (λ line. line ≡ codes "| SCAN " ++ decimal volume ++ codes " STEADY") }
-{
-    let mut bytes = Vec::from_slice(alloc, b"| SCAN ")?;
-    bytes.extend_from_slice(Buffer::new().format(volume).as_bytes())?;
-    bytes.extend_from_slice(b" STEADY")?;
-    Ok(Text { bytes })
-}
-
 // The lines that some steps write.
 fn lines_of(alloc: Global, steps: &[Step]) -> Result<Lines, NoMemory>
     ensures { IfOk result (λ lines. lines ≡ lines_of_steps steps.now) }
@@ -154,8 +133,8 @@ fn lines_of(alloc: Global, steps: &[Step]) -> Result<Lines, NoMemory>
     let mut texts = Vec::new(alloc);
     for step in steps {
         match step {
-            Step::Print(text) => texts.push(printed(alloc, text)?)?,
-            Step::Scan(volume) => texts.push(scanned(alloc, *volume)?)?,
+            Step::Print(text) => texts.push(print_line(alloc, text)?)?,
+            Step::Scan(volume) => texts.push(scan_line(alloc, *volume, true)?)?,
             Step::Use(_, _)
             | Step::Free(_)
             | Step::Count(_, _)
