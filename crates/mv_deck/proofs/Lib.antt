@@ -22,7 +22,5 @@ pub mod LoadJobs
 pub mod LoadStates
 pub mod LoadBytes
 pub mod Loads
--- the plain search of the tests
-pub mod Anew
 -- rows worked by hand
 pub mod Rows

@@ -14,8 +14,6 @@ mod load;
 mod names;
 mod operand;
 mod parts;
-#[cfg(test)]
-mod plain;
 mod reading;
 #[cfg(test)]
 mod tests;

@@ -1,583 +1,363 @@
-//! Decks by their texts: which are read, and the first fault of the others, beside the plain search. Expected values are worked
-//! out by hand.
+//! Decks by their texts: which are read, and the first fault of the others. Expected values are worked out by hand.
 
 use super::*;
-use crate::plain::plain_first_fault;
 use mv_latch::Mode;
 use std::alloc::{AllocError, Global};
 use std::process::Abort;
 use std::test::Fail;
 
-// A fault, by its line and its kind.
-fn told(line: u32, kind: u32) -> Option<DeckFault> {
-    Some(DeckFault { line, kind })
+// A deck behind its first fault, as line and kind, and a colon; `-` where it has none. A NUL parts two rows, and a row that begins
+// with `#` says what those behind it have in common.
+fn is_told(rt: &impl Abort, alloc: Global, row: &str) -> Result<(), Fail> {
+    let (fault, deck) = row.split_once(':').ok_or("no deck")?;
+    let text = deck.as_bytes();
+    assert!(rt; text.len() < 1000);
+    let told = match read_deck(alloc, text, 1) {
+        Ok(_) => format!(in alloc; "-")?,
+        Err(DeckRefusal::Fault(DeckFault { line, kind })) => format!(in alloc; "{line} {kind}")?,
+        Err(DeckRefusal::NoMemory) => return Err("no memory".into()),
+    };
+    assert_eq!(rt; told.as_str(), fault, "{deck}");
+    Ok(())
 }
 
-// Each row: a text, and its first fault by the rules, or none where it is accepted. The plain search tells the same.
-fn are_told(rt: &impl Abort, alloc: Global, rows: &[(&[u8], Option<DeckFault>)]) {
-    for (text, fault) in rows {
-        assert!(rt; text.len() < 1000);
-        let plain = plain_first_fault(alloc, text, 1).expect(rt, "no memory");
-        assert_eq!(rt; plain, *fault);
-        let read = match read_deck(alloc, text, 1) {
-            Ok(_) => None,
-            Err(DeckRefusal::Fault(fault)) => Some(fault),
-            Err(DeckRefusal::NoMemory) => told(0, 0),
-        };
-        assert_eq!(rt; read, *fault);
+fn are_told(rt: &impl Abort, alloc: Global, rows: &str) -> Result<(), Fail> {
+    for row in rows.split('\0') {
+        if !row.starts_with('#') {
+            is_told(rt, alloc, row)?;
+        }
     }
+    Ok(())
 }
 
 // Hard lines: how a text is cut, comments, and which of two faults is told.
+const LINES_AND_COMMENTS: &str = "\
+# no line; ignored lines alone\0\
+1 12:\0\
+3 12:\n\n\0\
+2 12://A JOB\0\
+2 12://A JOB\n\0\
+4 12://A JOB\n\n \0\
+# the null statement\0\
+-://\0\
+-://   \0\
+-://\n\0\
+-://\r\n\0\
+2 11://\n//\n\0\
+2 11://  \n//\0\
+1 3: //\n//\0\
+1 3:/ /\n//\0\
+# behind the null statement\0\
+-://\n \0\
+-://\n\r\0\
+-://\n\n \n\n\0\
+2 3://\n/\0\
+2 3://\nX\0\
+4 11://\n\n \n//\0\
+3 11://A JOB\n//\n//B JOB\0\
+2 11://\n// PRINT X\0\
+2 4://\n//9A JOB\0\
+2 8://\n// ABEND U12\0\
+4 11://A JOB\n// ABEND U0001\n//\n// PRINT X\0\
+2 11://\n// SCAN 0\0\
+# 80 and 81 bytes, with and without CR\0\
+-://A JOB\n// PRINT 12345678901234567890123456789012345678901234567890123456789012345678901\n//\0\
+-://A JOB\n// PRINT 12345678901234567890123456789012345678901234567890123456789012345678901\r\n//\0\
+2 2://A JOB\n// PRINT 123456789012345678901234567890123456789012345678901234567890123456789012\n//\0\
+2 2://A JOB\n// PRINT 123456789012345678901234567890123456789012345678901234567890123456789012\r\n//\0\
+2 1://A JOB\n// PRINT 12345678901234567890123456789012345678901234567890123456789012345678901\r\r\n//\0\
+-://A JOB\n                                                                                \n//\0\
+2 2://A JOB\n                                                                                 \n//\0\
+1 2:XXXXXXXXXXXXXXXXXXXXXXXXXXXXXXXXXXXXXXXXXXXXXXXXXXXXXXXXXXXXXXXXXXXXXXXXXXXXXXXXX\n//\0\
+# bytes that are not printable\0\
+1 1://A\r JOB\n//\0\
+2 1://A JOB\n\r\r\n//\0\
+2 1://A JOB\n// PRINT \x1f\n//\0\
+2 1://A JOB\n// PRINT \x7f\n//\0\
+2 1://A JOB\n// PRINT \u{80}\n//\0\
+2 1://A JOB\n//\tPRINT X\n//\0\
+2 1://A JOB\n \t \n//\0\
+-://A JOB\n// PRINT ~\n//\0\
+# forms that are none\0\
+-://* NOTE\n//\0\
+-://*\n//\0\
+-://* JOB\n//\0\
+1 3:// * NOTE\n//\0\
+1 3://A JOB X\n//\0\
+1 6://A JOB AFTER=B\n//\0\
+1 3://A\n//\0\
+1 3://9A\n//\0\
+1 3:// JOB\n//\0\
+1 3://JOB\n//\0\
+1 3://PRINT X\n//\0\
+1 3://A job\n//\0\
+2 3://A JOB\n// print X\n//\0\
+2 3://A JOB\n// PRINTX\n//\0\
+2 3://A JOB\n// ABEND\n//\0\
+2 3://A JOB\n// ABEND U0012 X\n//\0\
+2 3://A JOB\n/\n//\0\
+# comments\0\
+-://* 1\n\n//* 2\n//\n//* 3\0\
+-://**\n//\0\
+-://*A JOB\n//A JOB\n//\0\
+-://A JOB\n// ABEND U0001\n//* NOTE\n//\0\
+1 1://* \x1f\n//\0\
+-://*\r\n//\0\
+1 1://*\r\r\n//\0\
+-://*45678901234567890123456789012345678901234567890123456789012345678901234567890\n//\0\
+1 2://*456789012345678901234567890123456789012345678901234567890123456789012345678901\n//\0\
+1 3: //*\n//\0\
+1 3:/*\n//\0\
+# two faults: the lower line, then the lower kind\0\
+1 4://9A JOB\n//B JOB X\n//\0\
+3 3:\n  \n//A JOB X\n//\t\0\
+2 1://A JOB\n//\x1f\0\
+1 1:\x1fXXXXXXXXXXXXXXXXXXXXXXXXXXXXXXXXXXXXXXXXXXXXXXXXXXXXXXXXXXXXXXXXXXXXXXXXXXXXXXXXX\n//\0\
+1 11:// PRINT X\n// PRINT Y";
+
 #[test]
-fn lines_and_comments(rt: HostRuntime) {
-    let rows = [
-        // no line; ignored lines alone
-        (b"".as_slice(), told(1, 12)),
-        (b"\n\n".as_slice(), told(3, 12)),
-        (b"//A JOB".as_slice(), told(2, 12)),
-        (b"//A JOB\n".as_slice(), told(2, 12)),
-        (b"//A JOB\n\n ".as_slice(), told(4, 12)),
-        // the null statement
-        (b"//".as_slice(), None),
-        (b"//   ".as_slice(), None),
-        (b"//\n".as_slice(), None),
-        (b"//\r\n".as_slice(), None),
-        (b"//\n//\n".as_slice(), told(2, 11)),
-        (b"//  \n//".as_slice(), told(2, 11)),
-        (b" //\n//".as_slice(), told(1, 3)),
-        (b"/ /\n//".as_slice(), told(1, 3)),
-        // behind the null statement
-        (b"//\n ".as_slice(), None),
-        (b"//\n\r".as_slice(), None),
-        (b"//\n\n \n\n".as_slice(), None),
-        (b"//\n/".as_slice(), told(2, 3)),
-        (b"//\nX".as_slice(), told(2, 3)),
-        (b"//\n\n \n//".as_slice(), told(4, 11)),
-        (b"//A JOB\n//\n//B JOB".as_slice(), told(3, 11)),
-        (b"//\n// PRINT X".as_slice(), told(2, 11)),
-        (b"//\n//9A JOB".as_slice(), told(2, 4)),
-        (b"//\n// ABEND U12".as_slice(), told(2, 8)),
-        (
-            b"//A JOB\n// ABEND U0001\n//\n// PRINT X".as_slice(),
-            told(4, 11),
-        ),
-        (b"//\n// SCAN 0".as_slice(), told(2, 11)),
-        // 80 and 81 bytes, with and without CR
-        (
-            b"//A JOB\n// PRINT 12345678901234567890123456789012345678901234567890123456789012345678901\n//".as_slice(),
-            None,
-        ),
-        (
-            b"//A JOB\n// PRINT 12345678901234567890123456789012345678901234567890123456789012345678901\r\n//".as_slice(),
-            None,
-        ),
-        (
-            b"//A JOB\n// PRINT 123456789012345678901234567890123456789012345678901234567890123456789012\n//".as_slice(),
-            told(2, 2),
-        ),
-        (
-            b"//A JOB\n// PRINT 123456789012345678901234567890123456789012345678901234567890123456789012\r\n//".as_slice(),
-            told(2, 2),
-        ),
-        (
-            b"//A JOB\n// PRINT 12345678901234567890123456789012345678901234567890123456789012345678901\r\r\n//".as_slice(),
-            told(2, 1),
-        ),
-        (
-            b"//A JOB\n                                                                                \n//".as_slice(),
-            None,
-        ),
-        (
-            b"//A JOB\n                                                                                 \n//".as_slice(),
-            told(2, 2),
-        ),
-        (
-            b"XXXXXXXXXXXXXXXXXXXXXXXXXXXXXXXXXXXXXXXXXXXXXXXXXXXXXXXXXXXXXXXXXXXXXXXXXXXXXXXXX\n//".as_slice(),
-            told(1, 2),
-        ),
-        // bytes that are not printable
-        (b"//A\r JOB\n//".as_slice(), told(1, 1)),
-        (b"//A JOB\n\r\r\n//".as_slice(), told(2, 1)),
-        (b"//A JOB\n// PRINT \x1f\n//".as_slice(), told(2, 1)),
-        (b"//A JOB\n// PRINT \x7f\n//".as_slice(), told(2, 1)),
-        (b"//A JOB\n// PRINT \x80\n//".as_slice(), told(2, 1)),
-        (b"//A JOB\n//\tPRINT X\n//".as_slice(), told(2, 1)),
-        (b"//A JOB\n \t \n//".as_slice(), told(2, 1)),
-        (b"//A JOB\n// PRINT ~\n//".as_slice(), None),
-        // forms that are none
-        (b"//* NOTE\n//".as_slice(), None),
-        (b"//*\n//".as_slice(), None),
-        (b"//* JOB\n//".as_slice(), None),
-        (b"// * NOTE\n//".as_slice(), told(1, 3)),
-        (b"//A JOB X\n//".as_slice(), told(1, 3)),
-        (b"//A JOB AFTER=B\n//".as_slice(), told(1, 6)),
-        (b"//A\n//".as_slice(), told(1, 3)),
-        (b"//9A\n//".as_slice(), told(1, 3)),
-        (b"// JOB\n//".as_slice(), told(1, 3)),
-        (b"//JOB\n//".as_slice(), told(1, 3)),
-        (b"//PRINT X\n//".as_slice(), told(1, 3)),
-        (b"//A job\n//".as_slice(), told(1, 3)),
-        (b"//A JOB\n// print X\n//".as_slice(), told(2, 3)),
-        (b"//A JOB\n// PRINTX\n//".as_slice(), told(2, 3)),
-        (b"//A JOB\n// ABEND\n//".as_slice(), told(2, 3)),
-        (b"//A JOB\n// ABEND U0012 X\n//".as_slice(), told(2, 3)),
-        (b"//A JOB\n/\n//".as_slice(), told(2, 3)),
-        // comments
-        (b"//* 1\n\n//* 2\n//\n//* 3".as_slice(), None),
-        (b"//**\n//".as_slice(), None),
-        (b"//*A JOB\n//A JOB\n//".as_slice(), None),
-        (b"//A JOB\n// ABEND U0001\n//* NOTE\n//".as_slice(), None),
-        (b"//* \x1f\n//".as_slice(), told(1, 1)),
-        (b"//*\r\n//".as_slice(), None),
-        (b"//*\r\r\n//".as_slice(), told(1, 1)),
-        (
-            b"//*45678901234567890123456789012345678901234567890123456789012345678901234567890\n//".as_slice(),
-            None,
-        ),
-        (
-            b"//*456789012345678901234567890123456789012345678901234567890123456789012345678901\n//".as_slice(),
-            told(1, 2),
-        ),
-        (b" //*\n//".as_slice(), told(1, 3)),
-        (b"/*\n//".as_slice(), told(1, 3)),
-        // two faults: the lower line, then the lower kind
-        (b"//9A JOB\n//B JOB X\n//".as_slice(), told(1, 4)),
-        (b"\n  \n//A JOB X\n//\t".as_slice(), told(3, 3)),
-        (b"//A JOB\n//\x1f".as_slice(), told(2, 1)),
-        (
-            b"\x1fXXXXXXXXXXXXXXXXXXXXXXXXXXXXXXXXXXXXXXXXXXXXXXXXXXXXXXXXXXXXXXXXXXXXXXXXXXXXXXXXX\n//".as_slice(),
-            told(1, 1),
-        ),
-        (b"// PRINT X\n// PRINT Y".as_slice(), told(1, 11)),
-    ];
-    are_told(&rt, rt.alloc(), &rows);
+fn lines_and_comments(rt: HostRuntime) -> Result<(), Fail> {
+    are_told(&rt, rt.alloc(), LINES_AND_COMMENTS)
 }
 
 // Hard lines: JOB and AFTER.
+const JOBS_AND_THEIR_LISTS: &str = "\
+# AFTER: forms\0\
+2 3://A JOB\n//B JOB AFTER\n//\0\
+2 3://A JOB\n//B JOB AFTER= A\n//\0\
+2 3://A JOB\n//B JOB AFTER=A X\n//\0\
+2 3://A JOB\n//B JOB after=A\n//\0\
+2 3://A JOB\n//B JOB BEFORE=A\n//\0\
+1 3://B JOB X\n//\0\
+-://A JOB\n//B  JOB  AFTER=A \n//\0\
+# AFTER: names, version 1\0\
+2 4://A JOB\n//B JOB AFTER=\n//\0\
+2 4://A JOB\n//B JOB AFTER=A,\n//\0\
+2 4://A JOB\n//B JOB AFTER=,A\n//\0\
+3 4://A JOB\n//C JOB\n//B JOB AFTER=A,,C\n//\0\
+2 4://A JOB\n//B JOB AFTER=9A\n//\0\
+2 4://A JOB\n//B JOB AFTER=a\n//\0\
+2 4://A JOB\n//B JOB AFTER=A:4\n//\0\
+2 4://A JOB\n//B JOB AFTER=ABCDEFGHI\n//\0\
+2 4://A JOB\n//9B JOB AFTER=A\n//\0\
+# AFTER: earlier jobs\0\
+-://A JOB\n//B JOB AFTER=A\n//\0\
+2 6://A JOB\n//B JOB AFTER=B\n//\0\
+1 6://A JOB AFTER=A\0\
+2 6://A JOB\n//B JOB AFTER=C\n//C JOB\n//\0\
+2 6://A JOB\n//B JOB AFTER=A,C\n//C JOB\n//\0\
+-://A JOB\n//B JOB\n//C JOB AFTER=B,A\n//\0\
+# AFTER: a name twice, and more than eight\0\
+2 7://A JOB\n//B JOB AFTER=A,A\n//\0\
+3 7://A JOB\n//B JOB\n//C JOB AFTER=A,B,A\n//\0\
+-://A JOB\n//B JOB\n//C JOB\n//D JOB\n//E JOB\n//F JOB\n//G JOB\n//H JOB\n//Z JOB AFTER=A,B,C,D,E,F,G,H\n//\0\
+10 7://A JOB\n//B JOB\n//C JOB\n//D JOB\n//E JOB\n//F JOB\n//G JOB\n//H JOB\n//I JOB\n//Z JOB AFTER=A,B,C,D,E,F,G,H,I\n//\0\
+# lower kinds of one line go first\0\
+2 7://A JOB\n//Z JOB AFTER=A,A,A,A,A,A,A,A,A\n//\0\
+2 6://A JOB\n//Z JOB AFTER=A,B,A,A,A,A,A,A,A\n//\0\
+2 4://A JOB\n//Z JOB AFTER=A,b,A,A,A,A,A,A,A\n//\0\
+2 5://A JOB\n//A JOB AFTER=B\n//\0\
+2 5://A JOB\n//A JOB AFTER=A,A\n//\0\
+2 4://A JOB\n//A JOB AFTER=b\n//\0\
+2 3://A JOB\n//A JOB X\n//\0\
+# names of earlier jobs\0\
+3 5://A JOB\n//B JOB\n//A JOB\n//\0\
+-://A JOB\n//AA JOB\n//A@ JOB\n//\0\
+3 11://A JOB\n//\n//A JOB\0\
+3 11://A JOB\n//\n//B JOB AFTER=C\0\
+3 11://A JOB\n//\n//B JOB AFTER=A,A\0\
+3 4://A JOB\n//\n//B JOB AFTER=c\0\
+# names\0\
+-://ABCDEFGH JOB\n//\0\
+1 4://ABCDEFGHI JOB\n//\0\
+1 4://9A JOB\n//\0\
+-://@#$ JOB\n//\0\
+-://A9@#$Z09 JOB\n//\0\
+1 4://a JOB\n//\0\
+1 4:/// JOB\n//\0\
+1 4://A-B JOB\n//\0\
+-://JOB JOB\n//\0\
+-://A  JOB\n//\0\
+2 5://A JOB\n//A JOB\n//";
+
 #[test]
-fn jobs_and_their_lists(rt: HostRuntime) {
-    let rows = [
-        // AFTER: forms
-        (b"//A JOB\n//B JOB AFTER\n//".as_slice(), told(2, 3)),
-        (b"//A JOB\n//B JOB AFTER= A\n//".as_slice(), told(2, 3)),
-        (b"//A JOB\n//B JOB AFTER=A X\n//".as_slice(), told(2, 3)),
-        (b"//A JOB\n//B JOB after=A\n//".as_slice(), told(2, 3)),
-        (b"//A JOB\n//B JOB BEFORE=A\n//".as_slice(), told(2, 3)),
-        (b"//B JOB X\n//".as_slice(), told(1, 3)),
-        (b"//A JOB\n//B  JOB  AFTER=A \n//".as_slice(), None),
-        // AFTER: names, version 1
-        (b"//A JOB\n//B JOB AFTER=\n//".as_slice(), told(2, 4)),
-        (b"//A JOB\n//B JOB AFTER=A,\n//".as_slice(), told(2, 4)),
-        (b"//A JOB\n//B JOB AFTER=,A\n//".as_slice(), told(2, 4)),
-        (
-            b"//A JOB\n//C JOB\n//B JOB AFTER=A,,C\n//".as_slice(),
-            told(3, 4),
-        ),
-        (b"//A JOB\n//B JOB AFTER=9A\n//".as_slice(), told(2, 4)),
-        (b"//A JOB\n//B JOB AFTER=a\n//".as_slice(), told(2, 4)),
-        (b"//A JOB\n//B JOB AFTER=A:4\n//".as_slice(), told(2, 4)),
-        (
-            b"//A JOB\n//B JOB AFTER=ABCDEFGHI\n//".as_slice(),
-            told(2, 4),
-        ),
-        (b"//A JOB\n//9B JOB AFTER=A\n//".as_slice(), told(2, 4)),
-        // AFTER: earlier jobs
-        (b"//A JOB\n//B JOB AFTER=A\n//".as_slice(), None),
-        (b"//A JOB\n//B JOB AFTER=B\n//".as_slice(), told(2, 6)),
-        (b"//A JOB AFTER=A".as_slice(), told(1, 6)),
-        (
-            b"//A JOB\n//B JOB AFTER=C\n//C JOB\n//".as_slice(),
-            told(2, 6),
-        ),
-        (
-            b"//A JOB\n//B JOB AFTER=A,C\n//C JOB\n//".as_slice(),
-            told(2, 6),
-        ),
-        (b"//A JOB\n//B JOB\n//C JOB AFTER=B,A\n//".as_slice(), None),
-        // AFTER: a name twice, and more than eight
-        (b"//A JOB\n//B JOB AFTER=A,A\n//".as_slice(), told(2, 7)),
-        (
-            b"//A JOB\n//B JOB\n//C JOB AFTER=A,B,A\n//".as_slice(),
-            told(3, 7),
-        ),
-        (
-            b"//A JOB\n//B JOB\n//C JOB\n//D JOB\n//E JOB\n//F JOB\n//G JOB\n//H JOB\n//Z JOB AFTER=A,B,C,D,E,F,G,H\n//".as_slice(),
-            None,
-        ),
-        (
-            b"//A JOB\n//B JOB\n//C JOB\n//D JOB\n//E JOB\n//F JOB\n//G JOB\n//H JOB\n//I JOB\n//Z JOB AFTER=A,B,C,D,E,F,G,H,I\n//".as_slice(),
-            told(10, 7),
-        ),
-        // lower kinds of one line go first
-        (
-            b"//A JOB\n//Z JOB AFTER=A,A,A,A,A,A,A,A,A\n//".as_slice(),
-            told(2, 7),
-        ),
-        (
-            b"//A JOB\n//Z JOB AFTER=A,B,A,A,A,A,A,A,A\n//".as_slice(),
-            told(2, 6),
-        ),
-        (
-            b"//A JOB\n//Z JOB AFTER=A,b,A,A,A,A,A,A,A\n//".as_slice(),
-            told(2, 4),
-        ),
-        (b"//A JOB\n//A JOB AFTER=B\n//".as_slice(), told(2, 5)),
-        (b"//A JOB\n//A JOB AFTER=A,A\n//".as_slice(), told(2, 5)),
-        (b"//A JOB\n//A JOB AFTER=b\n//".as_slice(), told(2, 4)),
-        (b"//A JOB\n//A JOB X\n//".as_slice(), told(2, 3)),
-        // names of earlier jobs
-        (b"//A JOB\n//B JOB\n//A JOB\n//".as_slice(), told(3, 5)),
-        (b"//A JOB\n//AA JOB\n//A@ JOB\n//".as_slice(), None),
-        (b"//A JOB\n//\n//A JOB".as_slice(), told(3, 11)),
-        (b"//A JOB\n//\n//B JOB AFTER=C".as_slice(), told(3, 11)),
-        (b"//A JOB\n//\n//B JOB AFTER=A,A".as_slice(), told(3, 11)),
-        (b"//A JOB\n//\n//B JOB AFTER=c".as_slice(), told(3, 4)),
-        // names
-        (b"//ABCDEFGH JOB\n//".as_slice(), None),
-        (b"//ABCDEFGHI JOB\n//".as_slice(), told(1, 4)),
-        (b"//9A JOB\n//".as_slice(), told(1, 4)),
-        (b"//@#$ JOB\n//".as_slice(), None),
-        (b"//A9@#$Z09 JOB\n//".as_slice(), None),
-        (b"//a JOB\n//".as_slice(), told(1, 4)),
-        (b"/// JOB\n//".as_slice(), told(1, 4)),
-        (b"//A-B JOB\n//".as_slice(), told(1, 4)),
-        (b"//JOB JOB\n//".as_slice(), None),
-        (b"//A  JOB\n//".as_slice(), None),
-        (b"//A JOB\n//A JOB\n//".as_slice(), told(2, 5)),
-    ];
-    are_told(&rt, rt.alloc(), &rows);
+fn jobs_and_their_lists(rt: HostRuntime) -> Result<(), Fail> {
+    are_told(&rt, rt.alloc(), JOBS_AND_THEIR_LISTS)
 }
 
 // Hard lines: PRINT and ABEND.
+const TEXTS_AND_CODES: &str = "\
+# texts\0\
+-://A JOB\n// PRINT\n//\0\
+-://A JOB\n// PRINT \n//\0\
+-://A JOB\n//   PRINT   X\n//\0\
+# codes\0\
+-://A JOB\n// ABEND U0000\n//\0\
+-://A JOB\n// ABEND U4095\n//\0\
+2 8://A JOB\n// ABEND U4096\n//\0\
+2 8://A JOB\n// ABEND U9999\n//\0\
+2 8://A JOB\n// ABEND U12\n//\0\
+2 8://A JOB\n// ABEND U00012\n//\0\
+2 8://A JOB\n// ABEND U001A\n//\0\
+2 8://A JOB\n// ABEND 0012\n//\0\
+2 8://A JOB\n// ABEND u0012\n//\0\
+2 8://A JOB\n// ABEND U\n//\0\
+2 8://A JOB\n// ABEND S000\n//\0\
+-://A JOB\n// ABEND S001\n//\0\
+-://A JOB\n// ABEND SFFF\n//\0\
+2 8://A JOB\n// ABEND S0c4\n//\0\
+2 8://A JOB\n// ABEND S0G4\n//\0\
+2 8://A JOB\n// ABEND S0C\n//\0\
+2 8://A JOB\n// ABEND S00C4\n//\0\
+# statements out of place\0\
+1 11:// PRINT X\n//\0\
+1 11:// ABEND U0012\n//\0\
+1 8:// ABEND U12\n//\0\
+3 13://A JOB\n// ABEND U0012\n// PRINT X\n//\0\
+3 13://A JOB\n// ABEND U0012\n// ABEND U0012\n//\0\
+3 8://A JOB\n// ABEND U0012\n// ABEND U12\n//\0\
+4 13://A JOB\n// ABEND U0012\n\n// PRINT X\n//\0\
+-://A JOB\n// ABEND U0012\n//B JOB\n// PRINT X\n//";
+
 #[test]
-fn texts_and_codes(rt: HostRuntime) {
-    let rows = [
-        // texts
-        (b"//A JOB\n// PRINT\n//".as_slice(), None),
-        (b"//A JOB\n// PRINT \n//".as_slice(), None),
-        (b"//A JOB\n//   PRINT   X\n//".as_slice(), None),
-        // codes
-        (b"//A JOB\n// ABEND U0000\n//".as_slice(), None),
-        (b"//A JOB\n// ABEND U4095\n//".as_slice(), None),
-        (b"//A JOB\n// ABEND U4096\n//".as_slice(), told(2, 8)),
-        (b"//A JOB\n// ABEND U9999\n//".as_slice(), told(2, 8)),
-        (b"//A JOB\n// ABEND U12\n//".as_slice(), told(2, 8)),
-        (b"//A JOB\n// ABEND U00012\n//".as_slice(), told(2, 8)),
-        (b"//A JOB\n// ABEND U001A\n//".as_slice(), told(2, 8)),
-        (b"//A JOB\n// ABEND 0012\n//".as_slice(), told(2, 8)),
-        (b"//A JOB\n// ABEND u0012\n//".as_slice(), told(2, 8)),
-        (b"//A JOB\n// ABEND U\n//".as_slice(), told(2, 8)),
-        (b"//A JOB\n// ABEND S000\n//".as_slice(), told(2, 8)),
-        (b"//A JOB\n// ABEND S001\n//".as_slice(), None),
-        (b"//A JOB\n// ABEND SFFF\n//".as_slice(), None),
-        (b"//A JOB\n// ABEND S0c4\n//".as_slice(), told(2, 8)),
-        (b"//A JOB\n// ABEND S0G4\n//".as_slice(), told(2, 8)),
-        (b"//A JOB\n// ABEND S0C\n//".as_slice(), told(2, 8)),
-        (b"//A JOB\n// ABEND S00C4\n//".as_slice(), told(2, 8)),
-        // statements out of place
-        (b"// PRINT X\n//".as_slice(), told(1, 11)),
-        (b"// ABEND U0012\n//".as_slice(), told(1, 11)),
-        (b"// ABEND U12\n//".as_slice(), told(1, 8)),
-        (
-            b"//A JOB\n// ABEND U0012\n// PRINT X\n//".as_slice(),
-            told(3, 13),
-        ),
-        (
-            b"//A JOB\n// ABEND U0012\n// ABEND U0012\n//".as_slice(),
-            told(3, 13),
-        ),
-        (
-            b"//A JOB\n// ABEND U0012\n// ABEND U12\n//".as_slice(),
-            told(3, 8),
-        ),
-        (
-            b"//A JOB\n// ABEND U0012\n\n// PRINT X\n//".as_slice(),
-            told(4, 13),
-        ),
-        (
-            b"//A JOB\n// ABEND U0012\n//B JOB\n// PRINT X\n//".as_slice(),
-            None,
-        ),
-    ];
-    are_told(&rt, rt.alloc(), &rows);
+fn texts_and_codes(rt: HostRuntime) -> Result<(), Fail> {
+    are_told(&rt, rt.alloc(), TEXTS_AND_CODES)
 }
 
 // Hard lines: USE, FREE, COUNT and SCAN.
+const LATCHES_AND_AMOUNTS: &str = "\
+# USE, FREE, COUNT and SCAN: forms\0\
+2 3://A JOB\n// USE 0 Y\n//\0\
+2 3://A JOB\n// USE 0 s\n//\0\
+2 3://A JOB\n// USE 9 Y\n//\0\
+2 3://A JOB\n// USE S 0\n//\0\
+2 3://A JOB\n// USE 0\n//\0\
+2 3://A JOB\n// USE\n//\0\
+2 3://A JOB\n// USE 0 X X\n//\0\
+2 3://A JOB\n// USE 0 SX\n//\0\
+2 3://A JOB\n// use 0 S\n//\0\
+2 3://A JOB\n//USE 0 S\n//\0\
+2 3://A JOB\n// FREE\n//\0\
+2 3://A JOB\n// FREE 0 1\n//\0\
+2 3://A JOB\n// COUNT 0\n//\0\
+2 3://A JOB\n// COUNT 0 1 2\n//\0\
+2 3://A JOB\n// SCAN\n//\0\
+2 3://A JOB\n// SCAN 0 0\n//\0\
+-://A JOB\n//  USE  0  S \n//\0\
+# latches, volumes and amounts that are none\0\
+2 8://A JOB\n// USE 8 S\n//\0\
+2 8://A JOB\n// USE A S\n//\0\
+2 8://A JOB\n// USE 00 S\n//\0\
+2 8://A JOB\n// USE -1 S\n//\0\
+-://A JOB\n// USE 7 X\n//\0\
+2 8://A JOB\n// FREE 00\n//\0\
+2 8://A JOB\n// FREE 8\n//\0\
+2 8://A JOB\n// SCAN 8\n//\0\
+2 8://A JOB\n// COUNT 8 1\n//\0\
+3 8://A JOB\n// USE 0 X\n// COUNT 0 0\n//\0\
+3 8://A JOB\n// USE 0 X\n// COUNT 0 01\n//\0\
+3 8://A JOB\n// USE 0 X\n// COUNT 0 10000\n//\0\
+3 8://A JOB\n// USE 0 X\n// COUNT 0 +1\n//\0\
+3 8://A JOB\n// USE 0 X\n// COUNT 0 1A\n//\0\
+-://A JOB\n// USE 0 X\n// COUNT 0 1\n// COUNT 0 9999\n//\0\
+3 8://A JOB\n// USE 0 X\n// COUNT 0 99999999999999999999\n//\0\
+# the order of latches\0\
+-://A JOB\n// USE 0 S\n//\0\
+3 9://A JOB\n// USE 3 X\n// USE 1 S\n//\0\
+-://A JOB\n// USE 1 S\n// USE 3 X\n//\0\
+3 9://A JOB\n// USE 3 S\n// USE 3 S\n//\0\
+-://A JOB\n// USE 3 S\n// FREE 3\n// USE 3 X\n//\0\
+-://A JOB\n// USE 1 S\n// USE 3 S\n// FREE 3\n// USE 2 S\n//\0\
+5 9://A JOB\n// USE 1 S\n// USE 3 S\n// FREE 1\n// USE 2 S\n//\0\
+-://A JOB\n// USE 7 S\n//B JOB\n// USE 0 S\n//\0\
+# latches that are needed\0\
+2 10://A JOB\n// FREE 0\n//\0\
+4 10://A JOB\n// USE 0 S\n// FREE 0\n// FREE 0\n//\0\
+3 10://A JOB\n// USE 0 S\n// FREE 1\n//\0\
+2 10://A JOB\n// COUNT 0 1\n//\0\
+3 10://A JOB\n// USE 0 S\n// COUNT 0 1\n//\0\
+-://A JOB\n// USE 0 X\n// COUNT 0 1\n//\0\
+3 10://A JOB\n// USE 0 X\n// COUNT 1 1\n//\0\
+4 10://A JOB\n// USE 0 X\n// FREE 0\n// COUNT 0 1\n//\0\
+2 10://A JOB\n// SCAN 0\n//\0\
+-://A JOB\n// USE 0 S\n// SCAN 0\n//\0\
+-://A JOB\n// USE 0 X\n// SCAN 0\n//\0\
+4 10://A JOB\n// USE 0 X\n//B JOB\n// FREE 0\n//\0\
+# steps out of place\0\
+1 11:// USE 1 S\n//\0\
+1 8:// USE 9 S\n//\0\
+1 11:// FREE 0\n//\0\
+1 11:// COUNT 0 1\n//\0\
+2 11://* NOTE\n// SCAN 0\n//\0\
+2 11://\n// USE 0 S\0\
+3 13://A JOB\n// ABEND U0001\n// SCAN 0\n//\0\
+3 8://A JOB\n// ABEND U0001\n// USE 9 S\n//\0\
+4 13://A JOB\n// USE 3 S\n// ABEND U0001\n// USE 1 S\n//";
+
 #[test]
-fn latches_and_amounts(rt: HostRuntime) {
-    let rows = [
-        // USE, FREE, COUNT and SCAN: forms
-        (b"//A JOB\n// USE 0 Y\n//".as_slice(), told(2, 3)),
-        (b"//A JOB\n// USE 0 s\n//".as_slice(), told(2, 3)),
-        (b"//A JOB\n// USE 9 Y\n//".as_slice(), told(2, 3)),
-        (b"//A JOB\n// USE S 0\n//".as_slice(), told(2, 3)),
-        (b"//A JOB\n// USE 0\n//".as_slice(), told(2, 3)),
-        (b"//A JOB\n// USE\n//".as_slice(), told(2, 3)),
-        (b"//A JOB\n// USE 0 X X\n//".as_slice(), told(2, 3)),
-        (b"//A JOB\n// USE 0 SX\n//".as_slice(), told(2, 3)),
-        (b"//A JOB\n// use 0 S\n//".as_slice(), told(2, 3)),
-        (b"//A JOB\n//USE 0 S\n//".as_slice(), told(2, 3)),
-        (b"//A JOB\n// FREE\n//".as_slice(), told(2, 3)),
-        (b"//A JOB\n// FREE 0 1\n//".as_slice(), told(2, 3)),
-        (b"//A JOB\n// COUNT 0\n//".as_slice(), told(2, 3)),
-        (b"//A JOB\n// COUNT 0 1 2\n//".as_slice(), told(2, 3)),
-        (b"//A JOB\n// SCAN\n//".as_slice(), told(2, 3)),
-        (b"//A JOB\n// SCAN 0 0\n//".as_slice(), told(2, 3)),
-        (b"//A JOB\n//  USE  0  S \n//".as_slice(), None),
-        // latches, volumes and amounts that are none
-        (b"//A JOB\n// USE 8 S\n//".as_slice(), told(2, 8)),
-        (b"//A JOB\n// USE A S\n//".as_slice(), told(2, 8)),
-        (b"//A JOB\n// USE 00 S\n//".as_slice(), told(2, 8)),
-        (b"//A JOB\n// USE -1 S\n//".as_slice(), told(2, 8)),
-        (b"//A JOB\n// USE 7 X\n//".as_slice(), None),
-        (b"//A JOB\n// FREE 00\n//".as_slice(), told(2, 8)),
-        (b"//A JOB\n// FREE 8\n//".as_slice(), told(2, 8)),
-        (b"//A JOB\n// SCAN 8\n//".as_slice(), told(2, 8)),
-        (b"//A JOB\n// COUNT 8 1\n//".as_slice(), told(2, 8)),
-        (
-            b"//A JOB\n// USE 0 X\n// COUNT 0 0\n//".as_slice(),
-            told(3, 8),
-        ),
-        (
-            b"//A JOB\n// USE 0 X\n// COUNT 0 01\n//".as_slice(),
-            told(3, 8),
-        ),
-        (
-            b"//A JOB\n// USE 0 X\n// COUNT 0 10000\n//".as_slice(),
-            told(3, 8),
-        ),
-        (
-            b"//A JOB\n// USE 0 X\n// COUNT 0 +1\n//".as_slice(),
-            told(3, 8),
-        ),
-        (
-            b"//A JOB\n// USE 0 X\n// COUNT 0 1A\n//".as_slice(),
-            told(3, 8),
-        ),
-        (
-            b"//A JOB\n// USE 0 X\n// COUNT 0 1\n// COUNT 0 9999\n//".as_slice(),
-            None,
-        ),
-        (
-            b"//A JOB\n// USE 0 X\n// COUNT 0 99999999999999999999\n//".as_slice(),
-            told(3, 8),
-        ),
-        // the order of latches
-        (b"//A JOB\n// USE 0 S\n//".as_slice(), None),
-        (
-            b"//A JOB\n// USE 3 X\n// USE 1 S\n//".as_slice(),
-            told(3, 9),
-        ),
-        (b"//A JOB\n// USE 1 S\n// USE 3 X\n//".as_slice(), None),
-        (
-            b"//A JOB\n// USE 3 S\n// USE 3 S\n//".as_slice(),
-            told(3, 9),
-        ),
-        (
-            b"//A JOB\n// USE 3 S\n// FREE 3\n// USE 3 X\n//".as_slice(),
-            None,
-        ),
-        (
-            b"//A JOB\n// USE 1 S\n// USE 3 S\n// FREE 3\n// USE 2 S\n//".as_slice(),
-            None,
-        ),
-        (
-            b"//A JOB\n// USE 1 S\n// USE 3 S\n// FREE 1\n// USE 2 S\n//".as_slice(),
-            told(5, 9),
-        ),
-        (
-            b"//A JOB\n// USE 7 S\n//B JOB\n// USE 0 S\n//".as_slice(),
-            None,
-        ),
-        // latches that are needed
-        (b"//A JOB\n// FREE 0\n//".as_slice(), told(2, 10)),
-        (
-            b"//A JOB\n// USE 0 S\n// FREE 0\n// FREE 0\n//".as_slice(),
-            told(4, 10),
-        ),
-        (
-            b"//A JOB\n// USE 0 S\n// FREE 1\n//".as_slice(),
-            told(3, 10),
-        ),
-        (b"//A JOB\n// COUNT 0 1\n//".as_slice(), told(2, 10)),
-        (
-            b"//A JOB\n// USE 0 S\n// COUNT 0 1\n//".as_slice(),
-            told(3, 10),
-        ),
-        (b"//A JOB\n// USE 0 X\n// COUNT 0 1\n//".as_slice(), None),
-        (
-            b"//A JOB\n// USE 0 X\n// COUNT 1 1\n//".as_slice(),
-            told(3, 10),
-        ),
-        (
-            b"//A JOB\n// USE 0 X\n// FREE 0\n// COUNT 0 1\n//".as_slice(),
-            told(4, 10),
-        ),
-        (b"//A JOB\n// SCAN 0\n//".as_slice(), told(2, 10)),
-        (b"//A JOB\n// USE 0 S\n// SCAN 0\n//".as_slice(), None),
-        (b"//A JOB\n// USE 0 X\n// SCAN 0\n//".as_slice(), None),
-        (
-            b"//A JOB\n// USE 0 X\n//B JOB\n// FREE 0\n//".as_slice(),
-            told(4, 10),
-        ),
-        // steps out of place
-        (b"// USE 1 S\n//".as_slice(), told(1, 11)),
-        (b"// USE 9 S\n//".as_slice(), told(1, 8)),
-        (b"// FREE 0\n//".as_slice(), told(1, 11)),
-        (b"// COUNT 0 1\n//".as_slice(), told(1, 11)),
-        (b"//* NOTE\n// SCAN 0\n//".as_slice(), told(2, 11)),
-        (b"//\n// USE 0 S".as_slice(), told(2, 11)),
-        (
-            b"//A JOB\n// ABEND U0001\n// SCAN 0\n//".as_slice(),
-            told(3, 13),
-        ),
-        (
-            b"//A JOB\n// ABEND U0001\n// USE 9 S\n//".as_slice(),
-            told(3, 8),
-        ),
-        (
-            b"//A JOB\n// USE 3 S\n// ABEND U0001\n// USE 1 S\n//".as_slice(),
-            told(4, 13),
-        ),
-    ];
-    are_told(&rt, rt.alloc(), &rows);
+fn latches_and_amounts(rt: HostRuntime) -> Result<(), Fail> {
+    are_told(&rt, rt.alloc(), LATCHES_AND_AMOUNTS)
 }
 
 // Hard lines: DECK, RETURN and accepted codes.
+const VERSION_2: &str = "\
+# version 2: DECK\0\
+-:// DECK 2\n//\0\
+-://  DECK  2 \r\n//A JOB\n//\0\
+-://* NOTE\n\n// DECK 2\n//A JOB\n// RETURN 1\n//\0\
+1 8:// DECK 3\n//\0\
+1 8:// DECK 1\n//\0\
+1 8:// DECK 02\n//\0\
+1 8:// DECK TWO\n//\0\
+1 3:// DECK\n//\0\
+1 3:// DECK 2 2\n//\0\
+1 3:// deck 2\n//\0\
+1 3://DECK 2\n//\0\
+2 15://A JOB\n// DECK 2\n//\0\
+2 8://A JOB\n// DECK 3\n//\0\
+2 15:// DECK 2\n// DECK 2\n//\0\
+3 11:// DECK 2\n//\n// DECK 2\0\
+2 11://\n// DECK 2\0\
+3 13://A JOB\n// ABEND U0001\n// DECK 2\n//\0\
+2 11:// DECK 2\n// PRINT X\n//\0\
+2 12:// DECK 2\0\
+# version 2: RETURN\0\
+2 3://A JOB\n// RETURN 1\n//\0\
+1 3:// RETURN 1\n//\0\
+3 3://A JOB\n// ABEND U0001\n// RETURN 1\n//\0\
+-:// DECK 2\n//A JOB\n// RETURN 0\n//\0\
+-:// DECK 2\n//A JOB\n// RETURN 4095\n//\0\
+3 8:// DECK 2\n//A JOB\n// RETURN 4096\0\
+3 8:// DECK 2\n//A JOB\n// RETURN 04\n//\0\
+3 8:// DECK 2\n//A JOB\n// RETURN 00\n//\0\
+3 8:// DECK 2\n//A JOB\n// RETURN A\n//\0\
+3 8:// DECK 2\n//A JOB\n// RETURN -1\n//\0\
+3 3:// DECK 2\n//A JOB\n// RETURN\n//\0\
+3 3:// DECK 2\n//A JOB\n// RETURN 1 2\n//\0\
+2 11:// DECK 2\n// RETURN 1\n//\0\
+4 13:// DECK 2\n//A JOB\n// RETURN 1\n// PRINT X\n//\0\
+4 13:// DECK 2\n//A JOB\n// RETURN 1\n// RETURN 1\n//\0\
+4 13:// DECK 2\n//A JOB\n// RETURN 1\n// DECK 2\n//\0\
+-:// DECK 2\n//A JOB\n// RETURN 1\n//B JOB\n// PRINT X\n//\0\
+# version 2: accepted codes\0\
+-:// DECK 2\n//A JOB\n//B JOB AFTER=A:4\n//\0\
+-:// DECK 2\n//A JOB\n//B JOB AFTER=A\n//\0\
+-:// DECK 2\n//A JOB\n//B JOB AFTER=A:0\n//\0\
+-:// DECK 2\n//A JOB\n//B JOB AFTER=A:4095\n//\0\
+3 8:// DECK 2\n//A JOB\n//B JOB AFTER=A:4096\n//\0\
+3 8:// DECK 2\n//A JOB\n//B JOB AFTER=A:1:2\n//\0\
+3 8:// DECK 2\n//A JOB\n//B JOB AFTER=A:\n//\0\
+3 8:// DECK 2\n//A JOB\n//B JOB AFTER=A:04\n//\0\
+3 4:// DECK 2\n//A JOB\n//B JOB AFTER=:4\n//\0\
+3 4:// DECK 2\n//A JOB\n//B JOB AFTER=:\n//\0\
+3 4:// DECK 2\n//A JOB\n//B JOB AFTER=A:4,\n//\0\
+3 7:// DECK 2\n//A JOB\n//B JOB AFTER=A:1,A:2\n//\0\
+3 6:// DECK 2\n//A JOB\n//B JOB AFTER=C:9999\n//\0\
+4 8:// DECK 2\n//A JOB\n//\n//B JOB AFTER=A:9999";
+
 #[test]
-fn version_2(rt: HostRuntime) {
-    let rows = [
-        // version 2: DECK
-        (b"// DECK 2\n//".as_slice(), None),
-        (b"//  DECK  2 \r\n//A JOB\n//".as_slice(), None),
-        (
-            b"//* NOTE\n\n// DECK 2\n//A JOB\n// RETURN 1\n//".as_slice(),
-            None,
-        ),
-        (b"// DECK 3\n//".as_slice(), told(1, 8)),
-        (b"// DECK 1\n//".as_slice(), told(1, 8)),
-        (b"// DECK 02\n//".as_slice(), told(1, 8)),
-        (b"// DECK TWO\n//".as_slice(), told(1, 8)),
-        (b"// DECK\n//".as_slice(), told(1, 3)),
-        (b"// DECK 2 2\n//".as_slice(), told(1, 3)),
-        (b"// deck 2\n//".as_slice(), told(1, 3)),
-        (b"//DECK 2\n//".as_slice(), told(1, 3)),
-        (b"//A JOB\n// DECK 2\n//".as_slice(), told(2, 15)),
-        (b"//A JOB\n// DECK 3\n//".as_slice(), told(2, 8)),
-        (b"// DECK 2\n// DECK 2\n//".as_slice(), told(2, 15)),
-        (b"// DECK 2\n//\n// DECK 2".as_slice(), told(3, 11)),
-        (b"//\n// DECK 2".as_slice(), told(2, 11)),
-        (
-            b"//A JOB\n// ABEND U0001\n// DECK 2\n//".as_slice(),
-            told(3, 13),
-        ),
-        (b"// DECK 2\n// PRINT X\n//".as_slice(), told(2, 11)),
-        (b"// DECK 2".as_slice(), told(2, 12)),
-        // version 2: RETURN
-        (b"//A JOB\n// RETURN 1\n//".as_slice(), told(2, 3)),
-        (b"// RETURN 1\n//".as_slice(), told(1, 3)),
-        (
-            b"//A JOB\n// ABEND U0001\n// RETURN 1\n//".as_slice(),
-            told(3, 3),
-        ),
-        (b"// DECK 2\n//A JOB\n// RETURN 0\n//".as_slice(), None),
-        (b"// DECK 2\n//A JOB\n// RETURN 4095\n//".as_slice(), None),
-        (b"// DECK 2\n//A JOB\n// RETURN 4096".as_slice(), told(3, 8)),
-        (
-            b"// DECK 2\n//A JOB\n// RETURN 04\n//".as_slice(),
-            told(3, 8),
-        ),
-        (
-            b"// DECK 2\n//A JOB\n// RETURN 00\n//".as_slice(),
-            told(3, 8),
-        ),
-        (
-            b"// DECK 2\n//A JOB\n// RETURN A\n//".as_slice(),
-            told(3, 8),
-        ),
-        (
-            b"// DECK 2\n//A JOB\n// RETURN -1\n//".as_slice(),
-            told(3, 8),
-        ),
-        (b"// DECK 2\n//A JOB\n// RETURN\n//".as_slice(), told(3, 3)),
-        (
-            b"// DECK 2\n//A JOB\n// RETURN 1 2\n//".as_slice(),
-            told(3, 3),
-        ),
-        (b"// DECK 2\n// RETURN 1\n//".as_slice(), told(2, 11)),
-        (
-            b"// DECK 2\n//A JOB\n// RETURN 1\n// PRINT X\n//".as_slice(),
-            told(4, 13),
-        ),
-        (
-            b"// DECK 2\n//A JOB\n// RETURN 1\n// RETURN 1\n//".as_slice(),
-            told(4, 13),
-        ),
-        (
-            b"// DECK 2\n//A JOB\n// RETURN 1\n// DECK 2\n//".as_slice(),
-            told(4, 13),
-        ),
-        (
-            b"// DECK 2\n//A JOB\n// RETURN 1\n//B JOB\n// PRINT X\n//".as_slice(),
-            None,
-        ),
-        // version 2: accepted codes
-        (
-            b"// DECK 2\n//A JOB\n//B JOB AFTER=A:4\n//".as_slice(),
-            None,
-        ),
-        (b"// DECK 2\n//A JOB\n//B JOB AFTER=A\n//".as_slice(), None),
-        (
-            b"// DECK 2\n//A JOB\n//B JOB AFTER=A:0\n//".as_slice(),
-            None,
-        ),
-        (
-            b"// DECK 2\n//A JOB\n//B JOB AFTER=A:4095\n//".as_slice(),
-            None,
-        ),
-        (
-            b"// DECK 2\n//A JOB\n//B JOB AFTER=A:4096\n//".as_slice(),
-            told(3, 8),
-        ),
-        (
-            b"// DECK 2\n//A JOB\n//B JOB AFTER=A:1:2\n//".as_slice(),
-            told(3, 8),
-        ),
-        (
-            b"// DECK 2\n//A JOB\n//B JOB AFTER=A:\n//".as_slice(),
-            told(3, 8),
-        ),
-        (
-            b"// DECK 2\n//A JOB\n//B JOB AFTER=A:04\n//".as_slice(),
-            told(3, 8),
-        ),
-        (
-            b"// DECK 2\n//A JOB\n//B JOB AFTER=:4\n//".as_slice(),
-            told(3, 4),
-        ),
-        (
-            b"// DECK 2\n//A JOB\n//B JOB AFTER=:\n//".as_slice(),
-            told(3, 4),
-        ),
-        (
-            b"// DECK 2\n//A JOB\n//B JOB AFTER=A:4,\n//".as_slice(),
-            told(3, 4),
-        ),
-        (
-            b"// DECK 2\n//A JOB\n//B JOB AFTER=A:1,A:2\n//".as_slice(),
-            told(3, 7),
-        ),
-        (
-            b"// DECK 2\n//A JOB\n//B JOB AFTER=C:9999\n//".as_slice(),
-            told(3, 6),
-        ),
-        (
-            b"// DECK 2\n//A JOB\n//\n//B JOB AFTER=A:9999".as_slice(),
-            told(4, 8),
-        ),
-    ];
-    are_told(&rt, rt.alloc(), &rows);
+fn version_2(rt: HostRuntime) -> Result<(), Fail> {
+    are_told(&rt, rt.alloc(), VERSION_2)
 }
 
 #[test]
@@ -707,7 +487,7 @@ fn the_heaviest_deck(rt: HostRuntime) -> Result<(), Fail> {
     )?;
     assert!(rt; heavy.len() < 1_048_576);
     match read_deck(rt.alloc(), &heavy, 1) {
-        Err(DeckRefusal::Fault(fault)) => assert_eq!(rt; Some(fault), told(30_849, 14)),
+        Err(DeckRefusal::Fault(fault)) => assert_eq!(rt; (fault.line, fault.kind), (30_849, 14)),
         _ => assert!(rt; false),
     }
     Ok(())

@@ -42,6 +42,101 @@ EVENTS
 END 2
 ";
 
+// A post that runs an exit; a release and a pause behind it, as a transfer has them; and a pause behind a release that was refused.
+const CALLS: &str = "\
+JOURNAL 2
+CALLERS 2
+ELEMENTS 1
+VOLUMES 8
+LATCHES 8
+QUOTA 8 0
+BUDGET 5
+BUDGET 6
+ECB 1
+ECB 1
+ECB 1
+EXIT 0 1 2
+EVENTS
+1.0 E2 0 POST 3 = POSTED
+1.1 E0 0 EXTEND 1 = ARMED
+1.2 E0 1 POST 8 = WOKE 1
+1.2 E1 0 POST 8 = POSTED
+1.2 E2 1 POST 8 = ALREADY 3
+1.3 E1 1 TEST = WORD 1073741832
+0.0 P0 0 OPEN = OPENED 0
+0.1 P0 1 RELEASE 0 3 = EARLY
+0.1 P0 2 PAUSE 0 = GIVEN 3 1
+0.2 P0 3 RELEASE 0 4 = SPENT 1
+0.3 P0 4 PAUSE 1 = PARKED
+END 11
+";
+
+// Each reply that an object can give but NOTNOW behind a shared request: two callers, three blocks of callers 0, 0 and 1, and an exit
+// from block 0 to block 1. The events stand from line 14 on.
+const REPLIES: &str = "\
+JOURNAL 1
+CALLERS 2
+ELEMENTS 1
+VOLUMES 1
+LATCHES 1
+QUOTA 2 1
+BUDGET 30
+BUDGET 30
+ECB 0
+ECB 0
+ECB 1
+EXIT 0 1
+EVENTS
+0 E0 0 ARM = ARMED
+0 E0 1 ARM = WAITING
+0 E0 2 SETTLE = OPEN
+0 E0 3 EXTEND 1 = ARMED
+0 E0 4 ARM = LINKED 1
+1 E0 5 POST 5 = WOKE 1
+1 E0 6 POST 6 = ALREADY 5
+0 E0 7 ARM = COMPLETE 5
+1 E0 8 TEST = WORD 1073741829
+0 E0 9 CLEAR = WORD 1073741829
+1 E0 10 POST 7 = POSTED
+0 P1 0 RELEASE 0 7 = SPENT 0
+1 P1 1 OPEN = OPENED 0
+1 P1 2 OPEN = INUSE
+0 P1 3 RELEASE 0 7 = EARLY
+0 P1 4 RELEASE 0 8 = ALREADY
+1 P1 5 RESUME 0 = BUSY
+1 P1 6 PAUSE 0 = GIVEN 7 1
+1 P1 7 PAUSE 1 = PARKED
+1 P1 8 RESUME 1 = NOTYET
+0 P1 9 RELEASE 1 9 = WOKE
+0 P1 10 TEST = STATE 1 RELEASED 9
+1 P1 11 RESUME 1 = GIVEN 9 2
+1 P1 12 CLOSE 2 = CLOSED
+0 V0 0 READ = VALUE 0
+0 L 0 OBTAIN 0 9 X W = GRANTED 0
+1 V0 1 WRITE 3 = STORED
+1 L 1 OBTAIN 0 9 X C = NOTNOW 0
+1 L 2 OBTAIN 0 9 X P2 = QUEUED 2
+1 L 3 CONFIRM 0 2 = WAITING
+1 L 4 CONFIRM 0 0 = GONE
+0 V0 2 READ = VALUE 3
+0 L 5 RELEASE 0 0 U = RELEASED 1
+0 L 6 OBTAIN 0 9 X W = QUEUED 6
+1 L 7 PURGE 9 = PURGED 2 0
+END 35
+";
+
+// What the machine has no answer to behind those: no such caller, a block and an element of another, no exit of the block, no such
+// latch, a post to a block of another, a second request that is to be posted. A row has the line that is refused, and what stands
+// behind those events.
+const UNANSWERED: &str = "\
+49|2 V0 3 READ = VALUE 3|END 36
+49|1 E0 11 ARM = COMPLETE 7|END 36
+49|0 P1 13 OPEN = OPENED 2|END 36
+49|0 E0 11 EXTEND 2 = COMPLETE 7|END 36
+49|0 L 8 CONFIRM 1 0 = GONE|END 36
+49|0 L 8 OBTAIN 0 9 X P2 = GRANTED 8|END 36
+50|1 L 8 OBTAIN 0 9 X P2 = GRANTED 8|1 L 9 OBTAIN 0 9 X P2 = QUEUED 9|END 37";
+
 // Streams over memory, with room for what these commands write.
 #[derive(Drop)]
 struct Streams {
@@ -96,15 +191,69 @@ fn assert_both(
 // The journal in version 2 is its own conversion.
 #[test]
 fn legal_journals(rt: HostRuntime) -> Result<(), Fail> {
-    for journal in [FIRST, SECOND] {
-        assert_both(
-            &rt,
-            journal,
-            ReplayStatus::Done,
-            "LEGAL 2 EVENTS\n",
-            SECOND,
-            "",
-        )?;
+    let (two, eleven) = ("LEGAL 2 EVENTS\n", "LEGAL 11 EVENTS\n");
+    for (journal, replayed, converted) in [
+        (FIRST, two, SECOND),
+        (SECOND, two, SECOND),
+        (CALLS, eleven, CALLS),
+    ] {
+        assert_both(&rt, journal, ReplayStatus::Done, replayed, converted, "")?;
+    }
+    Ok(())
+}
+
+// The same text without the numbers of calls.
+fn unnumbered(alloc: Global, journal: &str) -> Result<String, Fail> {
+    let mut text = String::new(alloc);
+    for line in journal.lines() {
+        match line.split_once('.') {
+            Some((caller, rest)) => {
+                let (_, event) = rest.split_once(' ').ok_or("no event")?;
+                text.push_str(caller)?;
+                text.push_str(" ")?;
+                text.push_str(event)?;
+            }
+            None => text.push_str(line)?,
+        }
+        text.push_str("\n")?;
+    }
+    let text = text.replace(alloc, "JOURNAL 2", "JOURNAL 1")?;
+    Ok(text)
+}
+
+#[test]
+fn calls_are_numbered(rt: HostRuntime) -> Result<(), Fail> {
+    let text = unnumbered(rt.alloc(), CALLS)?;
+    assert_both(
+        &rt,
+        &text,
+        ReplayStatus::Done,
+        "LEGAL 11 EVENTS\n",
+        CALLS,
+        "",
+    )
+}
+
+#[test]
+fn each_reply_of_the_machine(rt: HostRuntime) -> Result<(), Fail> {
+    let mut on = streams_over(rt.alloc(), REPLIES.as_bytes())?;
+    assert_ends(
+        &rt,
+        true,
+        &mut on,
+        ReplayStatus::Done,
+        "LEGAL 35 EVENTS\n",
+        "",
+    );
+    for row in UNANSWERED.lines() {
+        let (line, events) = row.split_once('|').ok_or("no line")?;
+        let end = events.replace(rt.alloc(), "|", "\n")?;
+        let journal = REPLIES.replace(rt.alloc(), "END 35", end.as_str())?;
+        let notes = format!(in rt.alloc(); "ILLEGAL AT LINE {line}\n")?;
+        let mut on = streams_over(rt.alloc(), journal.as_bytes())?;
+        let ended = replay_command(rt.alloc(), &mut on.input, &mut on.report, &mut on.notes);
+        assert!(rt; matches!(ended, ReplayStatus::Illegal(_)));
+        assert_eq!(rt; on.notes.bytes(), notes.as_bytes());
     }
     Ok(())
 }
