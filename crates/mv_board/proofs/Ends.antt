@@ -1,19 +1,24 @@
 -- How a board ends: what the joined seats hold is one history, by the callers in their order.
-use Rattle.std.proofs.Common.{◌≡◌, ℕ, suc, ◌+◌, List, [], ◌∷◌, ◌++◌, length, map, refl, sym, ap, ◌∙◌, subst, arith}
+use Rattle.std.proofs.Common.{◌≡◌, ℕ, zero, suc, ◌+◌, ◌*◌, ◌^◌, ◌<◌, List, [], ◌∷◌, ◌++◌, length, get_or, map, refl, sym, ap, ◌∙◌}
+use Rattle.std.proofs.Common.{subst, arith}
 use Rattle.std.specs.List.{AllByRecursion}
 use mathlib.Core.Option.{some}
 use lib.ListN.{get_elem?}
 use Rattle.atomic_table.specs.Table.{Final, Seen}
 use Rattle.mv_machine.specs.declared.entry.Entry.{Entry}
-use Rattle.mv_machine.specs.Legal.{Legal, of}
+use Rattle.mv_machine.specs.declared.entry.Object.TheVariants.{Volume}
+use Rattle.mv_machine.specs.Legal.{Legal, after, of}
 use Rattle.mv_machine.specs.Merge.{merged, AreOneHistory}
+use Rattle.mv_machine.specs.Packing.{word_at}
 use Rattle.mv_machine.specs.Parts.{KeepsBudgets, parts_from, parts}
 use Rattle.mv_machine.specs.Setup.{Setup}
+use Rattle.mv_machine.proofs.Words.{numbers_after}
 use Rattle.mv_board.specs.declared.item.Item.{Item}
 use Rattle.mv_board.specs.declared.view.Part.{Part}
 use Rattle.mv_board.specs.declared.view.View.{View}
 use Rattle.mv_board.specs.Faces.{BoardFace, CallerFace, IsOf, AreInOrder, AreNumbered, IsPartIn, IsIn, part_of, log_of}
 use Rattle.mv_board.specs.Rule.{history_of, IsPart, Ruled}
+use Rattle.mv_board.specs.Words.{number_in}
 use Rattle.mv_board.proofs.Standing.{Table}
 use Rattle.mv_board.proofs.Views.{keeps_budgets, logs_parts}
 
@@ -64,6 +69,31 @@ closes c ws items id v all numbered f =
       record { history = h; legal = end.legal; budgets = end.budgets; parts = end.logs },
       subst (Ends c v.parts) (sym (merges c s r v.parts all numbered known)) end,
     )
+
+-- ---- the words of the volumes
+
+low_bits : (place n : ℕ) → n < 2 ^ 32 → number_in (place * 2 ^ 45 + n) ≡ n
+low_bits place n lt = omega arith
+
+-- a word that is there is the one that a read of the list gives
+pub word_read : (ws : List ℕ) (n w : ℕ) → get_elem? ws n ≡ some w → get_or ws n 0 ≡ w
+word_read [] n w e = cc
+word_read (x ∷ xs) zero w e = cc
+word_read (x ∷ xs) (suc n) w e = word_read xs n w e
+
+-- each volume's word has the number that the history leads it to
+pub words_held : (c : Setup) (ws : List ℕ) (items : List Item) (id : ℕ) (v : View) → length v.parts ≡ c.callers → AreNumbered 0 v.parts
+    → Final (Seen (Ruled c) id v) ws items
+    → (n : ℕ) → n < c.volumes → number_in (get_or ws n 0) ≡ ((after c (merged (map log_of v.parts))).volume n).state
+words_held c ws items id v all numbered f n there =
+    let s : Table = f.0 in
+    let r : Ruled c s = f.1.0 in
+    let h : List Entry = history_of c s.views in
+    let known : AllByRecursion (IsPart c h) v.parts = (r.logs.known id v f.1.1).parts in
+    let word : get_or s.words n 0 ≡ word_at (after c h) (Volume n) = r.words (Volume n) there in
+    ap (λ z. number_in (get_or z n 0)) (sym f.2)
+    ∙ (ap number_in word ∙ low_bits _ _ ((numbers_after c h r.legal).numbers n))
+    ∙ ap (λ es. ((after c es).volume n).state) (sym (merges c s r v.parts all numbered known))
 
 -- ---- the callers come back one after the other
 

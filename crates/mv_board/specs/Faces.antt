@@ -24,6 +24,7 @@ use Rattle.mv_machine.specs.Packing.{unpack, reply_in}
 use Rattle.mv_machine.specs.Legal.{of}
 use Rattle.mv_machine.specs.Parts.{IsBelow, Had}
 use Rattle.mv_machine.specs.Setup.{Setup, owner_of, element_owner, element_count}
+use Rattle.mv_machine.specs.System.{System}
 use Rattle.mv_machine.specs.Told.{told}
 use Rattle.mv_board.specs.declared.caller.Moved.{Moved}
 use Rattle.mv_board.specs.declared.view.Part.{Part}
@@ -247,3 +248,7 @@ pub record IsPartIn (c : Setup) (history : List Entry) (p : Part) : Type 0 where
 -- the same of a caller
 abbrev pub IsIn : Setup → List Entry → CallerFace → Type 0
 IsIn c history f = IsPartIn c history (part_of f)
+
+-- the numbers are those that the volumes of a configuration hold
+abbrev pub AreHeld : Setup → System → List ℕ → Type 0
+AreHeld c s numbers = (volume : ℕ) → volume < c.volumes → slice_index numbers volume ≡ (s.volume volume).state

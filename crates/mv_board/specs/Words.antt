@@ -1,6 +1,6 @@
 -- Which word of the table is which object's, and what an operation makes of a word.
-use Rattle.std.specs.Prelude.{ℕ, ◌+◌, ◌*◌, ◌-◌, ◌==◌, nat_le, nat_lt, Bool, true, ◌&&◌, length, Option, None, option_map, option_and_then}
-use Rattle.std.specs.Prelude.{if◌then◌else◌}
+use Rattle.std.specs.Prelude.{ℕ, ◌+◌, ◌*◌, ◌-◌, ◌%◌, ◌^◌, ◌==◌, nat_le, nat_lt, Bool, true, ◌&&◌, length, Option, None}
+use Rattle.std.specs.Prelude.{option_map, option_and_then, if◌then◌else◌}
 use Rattle.mv_machine.specs.declared.entry.Object.{Object}
 use Rattle.mv_machine.specs.declared.entry.Object.TheVariants.{Ecb, Element, Volume, Latches}
 use Rattle.mv_machine.specs.declared.entry.Op.{Op}
@@ -53,6 +53,10 @@ word_count c = first_ecb_word + length c.owners
 abbrev pub HasWord : Setup → Object → Type 0
 HasWord c Latches = ⊥
 HasWord c o = IsObjectOf c o
+
+-- the number that the word of a volume holds, below its place
+abbrev pub number_in : ℕ → ℕ
+number_in word = word % 2 ^ 32
 
 -- ---- an operation on a word
 

@@ -16,7 +16,7 @@ ghost use Rattle.mv_board.specs.View.{fresh_view, first_view, own};
 
 use crate::caller::{Caller, Events, Moved};
 use crate::item::{Item, Lists};
-use crate::rule::{Addition, Exchange, History, Look, Peek, Seats};
+use crate::rule::{Addition, Exchange, Look, OneHistory, Peek, Seats};
 use crate::view::View;
 use crate::watch::Watch;
 use crate::words::{BEFORE_ECBS, PLACE, change, is_ready, test_of, word_number};
@@ -33,8 +33,8 @@ use std::sync::Wait;
 #[derive(Drop)]
 pub struct Board {
     pub(crate) config: ValidConfig,
-    pub(crate) table: Table<Item, View, ValidConfig, History, Global>,
-    // What `close` uses: room for the merge and for the callers' logs.
+    pub(crate) table: Table<Item, View, ValidConfig, OneHistory, Global>,
+    // What `close` uses: room for the history and for the callers' logs.
     pub(crate) room: MergeRoom,
     pub(crate) logs: Vec<Log>,
 }

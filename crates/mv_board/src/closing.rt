@@ -7,50 +7,45 @@ ghost use Rattle.mv_machine.specs.Legal.{Legal, after};
 ghost use Rattle.mv_machine.specs.Limits.{events_limit};
 ghost use Rattle.mv_machine.specs.Merge.{merged as merged_logs};
 ghost use Rattle.mv_machine.specs.Parts.{KeepsBudgets};
-ghost use Rattle.mv_machine.specs.State.{system_of, wakes_of, IsOpenedWith};
-ghost use Rattle.mv_machine.specs.System.{opening};
-ghost use Rattle.mv_machine.specs.Told.{last_wakes};
-ghost use Rattle.mv_board.specs.Faces.{IsOf, AreInOrder, IsPartIn, IsIn, part_of, log_of};
+ghost use Rattle.mv_board.specs.Faces.{IsOf, AreInOrder, IsPartIn, IsIn, part_of, log_of, AreHeld};
 
 use crate::board::Board;
 use crate::caller::Caller;
 use crate::item::Item;
-use crate::rule::{History, Seats};
+use crate::rule::{OneHistory, Seats};
 use crate::view::View;
+use crate::words::number_in;
 use atomic_table::{Seat, Table};
-use mv_machine::{Entry, Log, MergeRoom, MergedLogs, State, ValidConfig, merge_to_state};
+use mv_machine::{History, Log, MergeRoom, ValidConfig};
 use std::alloc::Global;
 use std::marker::Model;
 
 /// What a board leaves.
 #[derive(Drop)]
 pub struct Closed {
-    /// The configuration that it was opened with.
-    pub config: ValidConfig,
-    /// All entries, as one legal history.
-    pub journal: Vec<Entry>,
-    /// Where the history leads: the state of each object.
-    pub state: State,
+    /// All entries, as one legal history, which has the configuration that the board was opened with. None is given yet.
+    pub history: History,
+    /// What each volume holds behind it, by the number of the volume. There are 8, and a configuration may have fewer.
+    pub volumes: [u32; 8],
 }
 
 impl Board {
-    /// Ends the board: takes its callers back, and merges their logs. It needs no memory, and never refuses.
+    /// Ends the board: takes its callers back, and makes one history of their logs. It needs no memory, and never refuses.
     ///
-    /// The journal is the merge of the logs: again and again the lowest caller whose next entry has its object's next place gives
-    /// it. Each caller's part of it is that caller's log, its told list is what the journal shows it, and each word that it met the
+    /// The history is the merge of the logs: again and again the lowest caller whose next entry has its object's next place gives
+    /// it. Each caller's part of it is that caller's log, its told list is what the history shows it, and each word that it met the
     /// object had, between the caller's events on that object before and behind it.
     pub fn close(self, callers: Vec<Caller>) -> Closed
         requires order { AreInOrder self 0 callers.items }
         requires all { length callers.items ≡ self.config.callers }
-        ensures config { result.config ≡ self.config }
-        ensures legal { Legal self.config result.journal.items }
-        ensures budgets { KeepsBudgets self.config result.journal.items }
-        ensures few { length result.journal.items ≤ events_limit }
-        ensures merged { result.journal.items ≡ merged_logs (map (λ f. f.log) callers.items) }
-        ensures callers { AllByRecursion (IsIn self.config result.journal.items) callers.items }
-        ensures state { system_of result.state ≡ after self.config result.journal.items }
-        ensures wakes { wakes_of result.state ≡ last_wakes self.config result.journal.items }
-        ensures opened { IsOpenedWith self.config result.state }
+        ensures config { result.history.config ≡ self.config }
+        ensures whole { result.history.past ≡ [] }
+        ensures legal { Legal self.config result.history.coming }
+        ensures budgets { KeepsBudgets self.config result.history.coming }
+        ensures few { length result.history.coming ≤ events_limit }
+        ensures merged { result.history.coming ≡ merged_logs (map (λ f. f.log) callers.items) }
+        ensures callers { AllByRecursion (IsIn self.config result.history.coming) callers.items }
+        ensures volumes { AreHeld self.config (after self.config result.history.coming) result.volumes }
     {
         let mut closing = self.closing();
         for caller in callers {
@@ -84,7 +79,7 @@ impl Board {
 #[derive(Drop)]
 pub struct Closing {
     pub(crate) config: ValidConfig,
-    pub(crate) table: Table<Item, View, ValidConfig, History, Global>,
+    pub(crate) table: Table<Item, View, ValidConfig, OneHistory, Global>,
     pub(crate) room: MergeRoom,
     pub(crate) logs: Vec<Log>,
     // Those of the callers that came back, joined.
@@ -127,18 +122,17 @@ impl Closing {
         });
     }
 
-    /// Merges the logs of all callers: what `Board::close` says. It needs no memory, and never refuses.
+    /// Makes one history of the logs of all callers: what `Board::close` says. It needs no memory, and never refuses.
     pub fn done(self) -> Closed
         requires all { length self.back ≡ self.board.config.callers }
-        ensures config { result.config ≡ self.board.config }
-        ensures legal { Legal self.board.config result.journal.items }
-        ensures budgets { KeepsBudgets self.board.config result.journal.items }
-        ensures few { length result.journal.items ≤ events_limit }
-        ensures merged { result.journal.items ≡ merged_logs (map log_of self.back) }
-        ensures callers { AllByRecursion (IsPartIn self.board.config result.journal.items) self.back }
-        ensures state { system_of result.state ≡ after self.board.config result.journal.items }
-        ensures wakes { wakes_of result.state ≡ last_wakes self.board.config result.journal.items }
-        ensures opened { IsOpenedWith self.board.config result.state }
+        ensures config { result.history.config ≡ self.board.config }
+        ensures whole { result.history.past ≡ [] }
+        ensures legal { Legal self.board.config result.history.coming }
+        ensures budgets { KeepsBudgets self.board.config result.history.coming }
+        ensures few { length result.history.coming ≤ events_limit }
+        ensures merged { result.history.coming ≡ merged_logs (map log_of self.back) }
+        ensures callers { AllByRecursion (IsPartIn self.board.config result.history.coming) self.back }
+        ensures volumes { AreHeld self.board.config (after self.board.config result.history.coming) result.volumes }
     {
         let Closing {
             config,
@@ -150,12 +144,14 @@ impl Closing {
         let Some(seat) = seat else { unreachable!() };
         let mut closed = table.close_with(seat);
         let _lists = closed.take(0);
+        let mut volumes = [0; 8];
+        for volume in 0..8 {
+            volumes[volume] = number_in(closed.word(volume));
+        }
         closed.free();
-        let MergedLogs { journal, state } = merge_to_state(&config, logs, room);
         Closed {
-            config,
-            journal,
-            state,
+            history: History::new(config, logs, room),
+            volumes,
         }
     }
 }

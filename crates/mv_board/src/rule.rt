@@ -6,9 +6,9 @@ use atomic_table::{Join, Play, Split, TableRule};
 use mv_machine::ValidConfig;
 
 /// At every moment the merge of the logs is a legal history, and the board is what it leads to.
-pub struct History;
+pub struct OneHistory;
 
-impl TableRule<Item, View, ValidConfig> for History {
+impl TableRule<Item, View, ValidConfig> for OneHistory {
     ghost use Rattle.mv_board.specs.Rule.{Ruled};
     ghost use Rattle.mv_board.specs.View.{first_view};
 

@@ -11,7 +11,7 @@ ghost use Rattle.mv_board.specs.Faces.{IsOf, IsFresh, AreFresh};
 use super::*;
 use mv_ecb::{EcbOp, EcbReply};
 use mv_latch::{LatchForm, LatchOp, LatchReply, Mode, Wake};
-use mv_machine::{Config, Entry, Object, Op, Reply, ValidConfig, replay};
+use mv_machine::{Config, Entry, Listed, Object, Op, Reply, ValidConfig, replay};
 use std::alloc::Global;
 use std::process::Abort;
 use std::sync::Wait;
@@ -77,14 +77,15 @@ fn open_two(alloc: Global, config: ValidConfig) -> Result<(Board, Caller, Caller
 }
 
 // The end of a board with two callers.
-fn close_two(alloc: Global, board: Board, first: Caller, second: Caller) -> Result<Closed, Fail>
+fn close_two(alloc: Global, board: Board, first: Caller, second: Caller) -> Result<Listed, Fail>
     requires two { board.config.callers ≡ 2 }
     requires first { IsOf board first × (first.number ≡ 0) }
     requires second { IsOf board second × (second.number ≡ 1) }
     ensures legal { IfOk result (λ e. Legal e.config e.journal.items) }
     ensures few { IfOk result (λ e. length e.journal.items ≤ events_limit) }
 {
-    Ok(board.close(vec![in alloc; first, second]?))
+    let closed = board.close(vec![in alloc; first, second]?);
+    Ok(closed.history.listed(alloc)?)
 }
 
 // A new board, with its three callers.
@@ -109,7 +110,7 @@ fn close_three(
     first: Caller,
     second: Caller,
     third: Caller,
-) -> Result<Closed, Fail>
+) -> Result<Listed, Fail>
     requires three { board.config.callers ≡ 3 }
     requires first { IsOf board first × (first.number ≡ 0) }
     requires second { IsOf board second × (second.number ≡ 1) }
@@ -117,7 +118,8 @@ fn close_three(
     ensures legal { IfOk result (λ e. Legal e.config e.journal.items) }
     ensures few { IfOk result (λ e. length e.journal.items ≤ events_limit) }
 {
-    Ok(board.close(vec![in alloc; first, second, third]?))
+    let closed = board.close(vec![in alloc; first, second, third]?);
+    Ok(closed.history.listed(alloc)?)
 }
 
 // ---- events on the block and on the first element, and looks at them
@@ -294,7 +296,7 @@ fn post_beside_tests<R: Abort + Wait + Threads + Sync>(
 }
 
 // Whether a journal is judged legal, and leads the block to the same place and word.
-fn is_replayed<R: Abort>(rt: &R, alloc: Global, closed: &Closed) -> bool
+fn is_replayed<R: Abort>(rt: &R, alloc: Global, closed: &Listed) -> bool
     requires legal { Legal closed.now.config closed.now.journal.items }
     requires few { length closed.now.journal.items ≤ events_limit }
 {

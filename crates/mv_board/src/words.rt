@@ -5,7 +5,8 @@ ghost use Rattle.mv_machine.specs.Elements.{extra as extra_of};
 ghost use Rattle.mv_machine.specs.Packing.{HasOpFields, unpack as unpack_of};
 ghost use Rattle.mv_machine.specs.declared.packing.WordState.{WordState as AnyState};
 ghost use Rattle.mv_board.specs.Steps.{is_ready as ready_in};
-ghost use Rattle.mv_board.specs.Words.{word_number as number_of, changed, fits as fits_place, test_of as test_on};
+ghost use Rattle.mv_board.specs.Words.{word_number as number_of, changed, fits as fits_place};
+ghost use Rattle.mv_board.specs.Words.{number_in as number_in_word, test_of as test_on};
 
 use mv_ecb::EcbOp;
 use mv_element::{ElementOp, Phase};
@@ -46,6 +47,13 @@ pub(crate) fn test_of(object: Object) -> Op
         Object::Element(_) => Op::Element(ElementOp::Test),
         Object::Volume(_) | Object::Latches => Op::Volume(VolumeOp::Read),
     }
+}
+
+/// The number that a volume's word holds.
+pub(crate) fn number_in(word: u64) -> u32
+    ensures { result ≡ number_in_word word }
+{
+    (word % (1 << 32)) as u32
 }
 
 // Twice the generation, and the events at least that the pause at hand has had, are at most the place.

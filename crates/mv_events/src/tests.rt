@@ -1,5 +1,5 @@
-//! What no clause says: that each call can be made with ample memory, what a table hands out, and that a post whose request another
-//! task purges goes on. Posts and next events of tasks that wait for each other run as a script, in mv_program.
+//! What no clause says: that a post whose request another task purges goes on. What tables hand out, and posts and next events of
+//! tasks that wait for each other, run as scripts, in mv_program.
 
 ghost use Rattle.std.specs.Prelude.{◌≡◌, ◌<◌, ◌≤◌, length, IfOk};
 ghost use Rattle.mv_ecb.specs.Table.{code_limit};
@@ -9,8 +9,8 @@ ghost use Rattle.mv_calls.specs.Table.{IsSoundTable};
 
 use super::*;
 use mv_latch::Mode;
-use mv_latchset::{Form, LatchToken, Obtained, obtain, purge, release_latch};
-use mv_machine::{Config, Exit};
+use mv_latchset::{Form, LatchToken, Obtained, obtain, purge};
+use mv_machine::Config;
 use mv_wait::{Station, Task};
 use std::alloc::Global;
 use std::process::Abort;
@@ -28,14 +28,13 @@ const TABLE: Table = Table {
     size: 3,
 };
 
-// A new station with one latch and one volume, six blocks of task 0 and one of the last task, from which an exit leads nowhere but up
-// to an eighth; and its tasks, which have these budgets and one request each.
+// A new station with one latch and one volume, and six blocks of task 0; and its tasks, which have these budgets and one request each.
 fn open(alloc: Global, budgets: Vec<u32>) -> Result<(Station, Vec<Task>), Fail>
     requires { (1 ≤ length budgets.items) × (length budgets.items ≤ 16) }
     ensures tasks { IfOk result (λ r. AreFresh r.0 0 r.1.items × (length r.1.items ≡ length budgets.items)) }
     ensures latches { IfOk result (λ r. r.0.config.latches ≡ 1) }
     ensures volumes { IfOk result (λ r. r.0.config.volumes ≡ 1) }
-    ensures blocks { IfOk result (λ r. length r.0.config.owners ≡ 8) }
+    ensures blocks { IfOk result (λ r. length r.0.config.owners ≡ 6) }
 {
     let callers = budgets.len() as u32;
     let config = Config {
@@ -46,13 +45,8 @@ fn open(alloc: Global, budgets: Vec<u32>) -> Result<(Station, Vec<Task>), Fail>
         quota: 1,
         posted_quota: 0,
         budgets,
-        owners: vec![in alloc; 0, 0, 0, 0, 0, 0, callers - 1, callers - 1]?,
-        exits: vec![in alloc;
-            Exit {
-                source: 6,
-                targets: vec![in alloc; 7]?
-            },
-        ]?,
+        owners: vec![in alloc; 0; 6]?,
+        exits: Vec::new(alloc),
     };
     Ok(Station::open(alloc, config.check(alloc)?)?)
 }
@@ -125,40 +119,7 @@ fn take<R: Abort + Wait>(rt: &R, station: &Station, task: &mut Task) -> LatchTok
     }
 }
 
-// An event as the table hands it out.
-fn event(index: u32, word: u32) -> Result<Event, NextRefusal> {
-    Ok(Event { index, word })
-}
-
 // ---- one task
-
-#[test]
-fn events_come_in_the_order_of_their_completion(rt: HostRuntime) -> Result<(), Fail> {
-    let (station, mut tasks) = open(rt.alloc(), vec![in rt.alloc(); 100]?)?;
-    let mut task = station.take_last(&mut tasks);
-    let table = checked(&rt, &station);
-    let t = &mut task;
-    assert_eq!(rt;
-        post(&rt, &station, t, &table, 2, 7),
-        Ok(EventAnswer::Entered(0))
-    );
-    assert_eq!(rt;
-        post(&rt, &station, t, &table, 0, 9),
-        Ok(EventAnswer::Entered(1))
-    );
-    assert_eq!(rt;
-        post(&rt, &station, t, &table, 2, 1),
-        Ok(EventAnswer::Already(7))
-    );
-    assert_eq!(rt; next(&rt, &station, t, &table, 0), event(2, 1_073_741_831));
-    assert_eq!(rt; next(&rt, &station, t, &table, 1), event(0, 1_073_741_833));
-    assert_eq!(rt;
-        next(&rt, &station, t, &table, 3),
-        Err(NextRefusal::Drained)
-    );
-    assert_eq!(rt; t.log().len(), 21);
-    Ok(())
-}
 
 #[test]
 #[tactic(auto, using(mv_wait::proofs::Compose::served))]
@@ -192,33 +153,6 @@ fn what_others_did_to_the_table_is_told(rt: HostRuntime) -> Result<(), Fail> {
 
 // ---- two tasks
 
-#[test]
-fn refusals_without_an_event(rt: HostRuntime) -> Result<(), Fail> {
-    let (station, mut tasks) = open(rt.alloc(), vec![in rt.alloc(); 100, 100]?)?;
-    let mut other = station.take_last(&mut tasks);
-    let mut owner = station.take_last(&mut tasks);
-    let table = checked(&rt, &station);
-    assert_eq!(rt;
-        next(&rt, &station, &mut other, &table, 0),
-        Err(NextRefusal::NotOwner)
-    );
-    assert_eq!(rt;
-        next(&rt, &station, &mut other, &table, 3),
-        Err(NextRefusal::NotOwner)
-    );
-    assert_eq!(rt;
-        next(&rt, &station, &mut owner, &table, 3),
-        Err(NextRefusal::Drained)
-    );
-    take(&rt, &station, &mut other);
-    assert_eq!(rt;
-        post(&rt, &station, &mut other, &table, 0, 1),
-        Err(PostEventRefusal::Quota)
-    );
-    assert_eq!(rt; (owner.log().len(), other.log().len()), (0, 1));
-    Ok(())
-}
-
 // Holds the table's latch until a purge took out a request for it of task 1's posts of events, at most 200,000 times: whether one did.
 #[tactic(auto, using(mv_wait::proofs::Compose::served))]
 fn purge_often<R: Abort + Wait>(rt: &R, station: &Station, task: &mut Task) -> bool
@@ -251,58 +185,5 @@ fn a_post_is_purged_while_its_task_waits(rt: HostRuntime) -> Result<(), Fail> {
     );
     assert!(rt; purged);
     assert_eq!(rt; answer, Err(PostEventRefusal::Purged));
-    Ok(())
-}
-
-// ---- tables
-
-#[test]
-fn each_reason_to_refuse_a_table(rt: HostRuntime) -> Result<(), Fail> {
-    let (station, _) = open(rt.alloc(), vec![in rt.alloc(); 1, 1]?)?;
-    let config = station.config();
-    let rows = [
-        (Table { size: 0, ..TABLE }, TableRefusal::BadSize),
-        (Table { size: 33, ..TABLE }, TableRefusal::BadSize),
-        (Table { slots: 6, ..TABLE }, TableRefusal::BadRange),
-        (
-            Table {
-                events: 4_294_967_295,
-                ..TABLE
-            },
-            TableRefusal::BadRange,
-        ),
-        (Table { slots: 2, ..TABLE }, TableRefusal::BadRange),
-        (Table { owner: 1, ..TABLE }, TableRefusal::NotOwner(0)),
-        (
-            Table {
-                slots: 4,
-                latch: 1,
-                ..TABLE
-            },
-            TableRefusal::NotOwner(6),
-        ),
-        (
-            Table {
-                latch: 1,
-                volume: 1,
-                ..TABLE
-            },
-            TableRefusal::BadLatch,
-        ),
-        (Table { volume: 1, ..TABLE }, TableRefusal::BadVolume),
-        (
-            Table {
-                owner: 1,
-                events: 7,
-                slots: 6,
-                size: 1,
-                ..TABLE
-            },
-            TableRefusal::HasExit(6),
-        ),
-    ];
-    for (table, refusal) in rows {
-        assert_eq!(rt; table.check(config).err(), Some(refusal));
-    }
     Ok(())
 }

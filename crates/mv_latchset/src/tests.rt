@@ -248,7 +248,8 @@ fn contend<R: Abort + Wait + Threads + Sync>(
 fn one_task_takes_a_latch_beside_one_that_is_posted_for_it(rt: HostRuntime) -> Result<(), Fail> {
     let (station, tasks) = contend(&rt, rt.alloc(), Form::Posted(0), 1000)?;
     let closed = station.close(tasks);
-    replay(rt.alloc(), &closed.config, &closed.journal)?;
+    let listed = closed.history.listed(rt.alloc())?;
+    replay(rt.alloc(), &listed.config, &listed.journal)?;
     Ok(())
 }
 

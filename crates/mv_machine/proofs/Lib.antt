@@ -17,18 +17,17 @@ pub mod Tables
 pub mod Writes
 -- replay
 pub mod Replays
--- the plain program of the tests
-pub mod Walks
 -- pack, unpack, and the laws on words
 pub mod Packings
 pub mod Words
 pub mod WordSteps
--- merge, and the law on merging
+-- History, and the law on merging
 pub mod Picks
 pub mod Lefts
 pub mod Merged
 pub mod OneHistory
 pub mod MergeSteps
+pub mod Gives
 -- what an entry is to one object, and the object's own run
 pub mod OneObject
 pub mod Subjects

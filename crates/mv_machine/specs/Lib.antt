@@ -15,6 +15,7 @@ pub mod Replay
 pub mod Packing
 pub mod Parts
 pub mod Merge
+pub mod History
 pub mod Room
 pub mod Kept
 pub mod Parked

@@ -25,7 +25,7 @@ pub use laws::{
     words_go_by_the_machine, words_stay_had,
 };
 pub use limits::{HIGHEST_GENERATION, HIGHEST_PLACE};
-pub use merging::{Log, MergeRoom, MergedLogs, merge, merge_to_state};
+pub use merging::{History, Listed, Log, MergeRoom};
 pub use packing::{WordState, pack, state_apply, unpack};
 pub use replaying::{Illegal, ReplayRefusal, replay};
 pub use state::State;
@@ -33,7 +33,5 @@ pub use valid::ValidConfig;
 
 #[cfg(test)]
 mod packed_words;
-#[cfg(test)]
-mod plain;
 #[cfg(test)]
 mod tests;

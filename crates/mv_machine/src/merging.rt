@@ -1,7 +1,8 @@
-//! The merge of the callers' logs into the one history that they are parts of, by specs/Merge.antt and specs/Room.antt.
+//! The callers' logs as the one history that they are parts of, by specs/Merge.antt, specs/History.antt and specs/Room.antt.
 
-ghost use Rattle.std.specs.Prelude.{◌≡◌, length, IfOk, MatchOption, None};
+ghost use Rattle.std.specs.Prelude.{◌≡◌, [], ◌++◌, length, IfOk, MatchOption, None};
 ghost use Rattle.std.specs.List.{AllByRecursion};
+ghost use Rattle.mv_machine.specs.History.{IsGiven};
 ghost use Rattle.mv_machine.specs.Legal.{Legal, after};
 ghost use Rattle.mv_machine.specs.Merge.{pick, merged as merged_logs, AreOneHistory};
 ghost use Rattle.mv_machine.specs.Parts.{parts};
@@ -32,18 +33,17 @@ impl Model for Log {
     ghost view = { λ l. l.entries.items };
 }
 
-/// The memory of a merge: with it `merge` takes none. It serves one merge.
+/// The memory of a history: with it `History::new` takes none. It serves one history.
 #[derive(Drop)]
 pub struct MergeRoom {
-    journal: Vec<Entry>,
-    // The machine behind what is merged, which has the place of each object's next entry.
+    // The machine before the first entry.
     state: State,
-    // How many entries of each log are merged.
+    // For each log how many of its entries were given: none.
     merged: Vec<usize>,
 }
 
 impl MergeRoom {
-    /// Room for all entries that the budgets allow.
+    /// Room for the history of a run of this configuration.
     ///
     /// # Errors
     ///
@@ -51,15 +51,9 @@ impl MergeRoom {
     pub fn new(alloc: Global, config: &ValidConfig) -> Result<MergeRoom, NoMemory>
         ensures { IfOk result (λ r. IsRoomFor config.now r) }
     {
-        let given = config.config();
-        let journal = Vec::with_capacity(alloc, given.budget_sum() as usize)?;
         let state = State::opening(alloc, config)?;
-        let merged = vec![in alloc; 0; given.callers as usize]?;
-        Ok(MergeRoom {
-            journal,
-            state,
-            merged,
-        })
+        let merged = vec![in alloc; 0; config.config().callers as usize]?;
+        Ok(MergeRoom { state, merged })
     }
 }
 
@@ -69,14 +63,6 @@ struct Picked<'a> {
     caller: usize,
     merged: usize,
     entry: &'a Entry,
-}
-
-/// What logs are merged to: their one history, and where it leads.
-#[derive(Drop)]
-pub struct MergedLogs {
-    pub journal: Vec<Entry>,
-    /// The state of each object behind the last entry.
-    pub state: State,
 }
 
 // The lowest caller whose next entry has its object's next place gives that entry.
@@ -101,41 +87,110 @@ fn ready<'a>(logs: &'a [Log], merged: &[usize], state: &State) -> Option<Picked<
     None
 }
 
-/// Puts the callers' entries into one order, as `merge` does, and takes the machine through them.
-pub fn merge_to_state(config: &ValidConfig, logs: Vec<Log>, room: MergeRoom) -> MergedLogs
-    requires history { AreOneHistory config.now logs.items }
-    requires room { IsRoomFor config.now room }
-    ensures merged { result.journal.items ≡ merged_logs logs.items }
-    ensures legal { Legal config.now result.journal.items }
-    ensures parts { parts config.now.callers result.journal.items ≡ logs.items }
-    ensures state { system_of result.state ≡ after config.now result.journal.items }
-    ensures wakes { wakes_of result.state ≡ last_wakes config.now result.journal.items }
-    ensures opened { IsOpenedWith config.now result.state }
-{
-    let MergeRoom {
-        mut journal,
-        mut state,
-        mut merged,
-    } = room;
-    while let Some(picked) = ready(&logs, &merged, &state) {
-        let entry = picked.entry;
-        merged[picked.caller] = picked.merged;
-        state.step(config, entry.caller, entry.object, entry.op);
-        journal.push_reserved(*entry);
-    }
-    MergedLogs { journal, state }
+/// The one history of some callers, kept as their logs: it gives the entries in their order, each once, and takes the machine
+/// through them. Again and again the lowest caller whose next entry has its object's next place gives that entry. It needs no
+/// memory; an entry costs at most a look at each log.
+#[derive(Drop)]
+pub struct History {
+    config: ValidConfig,
+    logs: Vec<Log>,
+    // The machine behind what was given, which has the place of each object's next entry.
+    state: State,
+    // How many entries of each log were given.
+    merged: Vec<usize>,
 }
 
-/// Puts the callers' entries into one order: again and again the lowest caller whose next entry has its object's next
-/// place gives that entry. It answers no want of memory, and always returns. There is one log for each caller, in the order of
-/// their numbers; each picked entry costs at most a look at each log.
-pub fn merge(config: &ValidConfig, logs: Vec<Log>, room: MergeRoom) -> Vec<Entry>
-    requires history { AreOneHistory config.now logs.items }
-    requires room { IsRoomFor config.now room }
-    ensures merged { result.items ≡ merged_logs logs.items }
-    ensures legal { Legal config.now result.items }
-    ensures parts { parts config.now.callers result.items ≡ logs.items }
-{
-    let MergedLogs { journal, .. } = merge_to_state(config, logs, room);
-    journal
+impl Model for History {
+    ghost use Rattle.mv_machine.specs.History.{HistoryFace};
+    ghost use Rattle.mv_machine.specs.Room.{history_of, IsHistory};
+
+    ghost Value = { HistoryFace };
+
+    ghost view = { history_of };
+
+    ghost invariant = { IsHistory };
+}
+
+/// A history as a list.
+#[derive(Drop)]
+pub struct Listed {
+    /// The configuration that it is of.
+    pub config: ValidConfig,
+    pub journal: Vec<Entry>,
+    /// The state of each object behind the last entry.
+    pub state: State,
+}
+
+impl History {
+    /// The history of which these logs are the callers' parts, in the order of their numbers. Nothing of it is given yet.
+    pub fn new(config: ValidConfig, logs: Vec<Log>, room: MergeRoom) -> History
+        requires history { AreOneHistory config logs.items }
+        requires room { IsRoomFor config room }
+        ensures config { result.config ≡ config }
+        ensures past { result.past ≡ [] }
+        ensures coming { result.coming ≡ merged_logs logs.items }
+        ensures legal { Legal config result.coming }
+        ensures parts { parts config.callers result.coming ≡ logs.items }
+    {
+        let MergeRoom { state, merged } = room;
+        History {
+            config,
+            logs,
+            state,
+            merged,
+        }
+    }
+
+    /// The configuration that it is of.
+    pub fn config(&self) -> &ValidConfig
+        ensures { result.now ≡ self.now.config }
+    {
+        &self.config
+    }
+
+    /// The machine behind the last entry that was given, with the wakes of the last event on the latch set.
+    pub fn state(&self) -> &State
+        ensures state { system_of result.now ≡ after self.now.config self.now.past }
+        ensures wakes { wakes_of result.now ≡ last_wakes self.now.config self.now.past }
+        ensures opened { IsOpenedWith self.now.config result.now }
+    {
+        &self.state
+    }
+
+    /// The next entry, which the machine then makes; nothing behind the last.
+    pub fn next(&mut self) -> Option<Entry>
+        ensures { MatchOption result ((self.old.coming ≡ []) × (self.new ≡ self.old)) (λ e. IsGiven self.old e self.new) }
+    {
+        let picked = ready(&self.logs, &self.merged, &self.state)?;
+        let entry = *picked.entry;
+        self.merged[picked.caller] = picked.merged;
+        self.state
+            .step(&self.config, entry.caller, entry.object, entry.op);
+        Some(entry)
+    }
+
+    /// What is still to come, as a list, and where it leads.
+    ///
+    /// # Errors
+    ///
+    /// `NoMemory` where there is none for the list; the history is dropped then.
+    pub fn listed(self, alloc: Global) -> Result<Listed, NoMemory>
+        ensures config { IfOk result (λ listed. listed.config ≡ self.config) }
+        ensures journal { IfOk result (λ listed. listed.journal.items ≡ self.coming) }
+        ensures state { IfOk result (λ listed. system_of listed.state ≡ after self.config (self.past ++ self.coming)) }
+        ensures wakes { IfOk result (λ listed. wakes_of listed.state ≡ last_wakes self.config (self.past ++ self.coming)) }
+        ensures opened { IfOk result (λ listed. IsOpenedWith self.config listed.state) }
+    {
+        let mut history = self;
+        let mut journal = Vec::new(alloc);
+        while let Some(entry) = history.next() {
+            journal.push(entry)?;
+        }
+        let History { config, state, .. } = history;
+        Ok(Listed {
+            config,
+            journal,
+            state,
+        })
+    }
 }

@@ -210,24 +210,21 @@ impl Station {
     ghost use Rattle.mv_machine.specs.Legal.{Legal, after};
     ghost use Rattle.mv_machine.specs.Merge.{merged as merged_logs};
     ghost use Rattle.mv_machine.specs.Parts.{KeepsBudgets};
-    ghost use Rattle.mv_machine.specs.State.{system_of, wakes_of, IsOpenedWith};
-    ghost use Rattle.mv_machine.specs.Told.{last_wakes};
-    ghost use Rattle.mv_board.specs.Faces.{AreInOrder, IsIn};
+    ghost use Rattle.mv_board.specs.Faces.{AreInOrder, IsIn, AreHeld};
 
-    /// Ends the station: takes back all its tasks, in the order of their numbers, and merges their logs into one legal history.
+    /// Ends the station: takes back all its tasks, in the order of their numbers, and makes one legal history of their logs.
     /// It takes no memory, never refuses, and does not wait: the tasks' threads must have ended.
     pub fn close(self, tasks: Vec<Task>) -> Closed
         requires order { AreInOrder self 0 tasks.items }
         requires all { length tasks.items ≡ self.config.callers }
-        ensures config { result.config ≡ self.config }
-        ensures legal { Legal self.config result.journal.items }
-        ensures budgets { KeepsBudgets self.config result.journal.items }
-        ensures few { length result.journal.items ≤ events_limit }
-        ensures merged { result.journal.items ≡ merged_logs (map (λ k. k.log) tasks.items) }
-        ensures callers { AllByRecursion (IsIn self.config result.journal.items) tasks.items }
-        ensures state { system_of result.state ≡ after self.config result.journal.items }
-        ensures wakes { wakes_of result.state ≡ last_wakes self.config result.journal.items }
-        ensures opened { IsOpenedWith self.config result.state }
+        ensures config { result.history.config ≡ self.config }
+        ensures whole { result.history.past ≡ [] }
+        ensures legal { Legal self.config result.history.coming }
+        ensures budgets { KeepsBudgets self.config result.history.coming }
+        ensures few { length result.history.coming ≤ events_limit }
+        ensures merged { result.history.coming ≡ merged_logs (map (λ k. k.log) tasks.items) }
+        ensures callers { AllByRecursion (IsIn self.config result.history.coming) tasks.items }
+        ensures volumes { AreHeld self.config (after self.config result.history.coming) result.volumes }
     {
         let Station { board, .. } = self;
         let mut closing = board.closing();

@@ -8,9 +8,8 @@ ghost use Rattle.mv_calls.specs.Rest.{IsAtRest};
 ghost use Rattle.mv_board.specs.Faces.{IsFresh, IsOf};
 
 use super::*;
-use mv_board::Closed;
 use mv_ecb::{EcbOp, EcbReply};
-use mv_machine::{Config, Entry, Exit, Object, Op, Reply, ValidConfig};
+use mv_machine::{Config, Entry, Exit, Listed, Object, Op, Reply, ValidConfig};
 use std::alloc::Global;
 use std::hint;
 use std::process::Abort;
@@ -220,7 +219,7 @@ const ROUNDS: u32 = 50_000;
 fn hand_to_and_fro<R: Abort + Wait + Threads + Sync>(
     rt: &R,
     alloc: Global,
-) -> Result<Closed, Fail> {
+) -> Result<Listed, Fail> {
     let budgets = vec![in alloc; 4 * ROUNDS, 4 * ROUNDS]?;
     let config = setup(alloc, budgets, vec![in alloc; 0, 1]?, Vec::new(alloc))?;
     let (station, mut tasks) = Station::open(alloc, config)?;
@@ -231,7 +230,8 @@ fn hand_to_and_fro<R: Abort + Wait + Threads + Sync>(
         || hand_over(rt, &station, first, 0, 1, ROUNDS),
         || hand_back(rt, &station, second, 1, 0, ROUNDS),
     );
-    Ok(station.close(vec![in alloc; first, second]?))
+    let closed = station.close(vec![in alloc; first, second]?);
+    Ok(closed.history.listed(alloc)?)
 }
 
 #[test]

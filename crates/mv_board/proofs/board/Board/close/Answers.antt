@@ -1,10 +1,11 @@
 use Rattle.std.proofs.Common.{◌≡◌, ◌+◌, List, [], ◌++◌, length, map, sym, ap, ◌∙◌, subst, arith, append-nil}
 use Rattle.std.proofs.lemmas.List.{nil_from_length}
 use Rattle.std.specs.Vec.Iter.{into_iter_items}
+use Rattle.mv_machine.specs.Legal.{after}
 use Rattle.mv_machine.specs.Merge.{merged}
 use Rattle.mv_machine.specs.Parts.{KeepsBudgets}
 use Rattle.std.specs.List.{AllByRecursion}
-use Rattle.mv_board.specs.Faces.{BoardFace, CallerFace, IsOf, IsPartIn, part_of}
+use Rattle.mv_board.specs.Faces.{BoardFace, CallerFace, IsOf, IsPartIn, AreHeld, part_of}
 use Rattle.mv_board.proofs.Ends.{next_left, each_in, logs_of_parts}
 use Rattle.mv_board.proofs.board.Board.close.Goals as goal
 
@@ -32,7 +33,7 @@ all_back c =
 
 pub returns-clause-budgets : goal.returns-clause-budgets
 returns-clause-budgets c =
-    subst (λ (b : BoardFace). KeepsBudgets b.config c.done.result.journal.items) c.loop-caller.invariant.board c.done.ensures.budgets
+    subst (λ (b : BoardFace). KeepsBudgets b.config c.done.result.history.coming) c.loop-caller.invariant.board c.done.ensures.budgets
 
 pub returns-clause-merged : goal.returns-clause-merged
 returns-clause-merged c =
@@ -43,7 +44,12 @@ returns-clause-merged c =
 pub returns-clause-callers : goal.returns-clause-callers
 returns-clause-callers c =
     let i = c.loop-caller.invariant in
-    let history = c.done.result.journal.items in
+    let history = c.done.result.history.coming in
     each_in c.args.self.config history c.args.callers.items
     (subst (AllByRecursion (IsPartIn c.args.self.config history)) (i.back ∙ ap (map part_of) (all_back c))
     (subst (λ (b : BoardFace). AllByRecursion (IsPartIn b.config history) c.loop-caller.closing.back) i.board c.done.ensures.callers))
+
+pub returns-clause-volumes : goal.returns-clause-volumes
+returns-clause-volumes c =
+    subst (λ (b : BoardFace). AreHeld b.config (after b.config c.done.result.history.coming) c.done.result.volumes)
+    c.loop-caller.invariant.board c.done.ensures.volumes

@@ -2,9 +2,10 @@ use Rattle.std.proofs.Common.{◌≡◌, List, [], ◌++◌, length, map, sym, a
 use Rattle.std.proofs.lemmas.List.{nil_from_length}
 use Rattle.std.specs.List.{AllByRecursion}
 use Rattle.std.specs.Vec.Iter.{into_iter_items}
+use Rattle.mv_machine.specs.Legal.{after}
 use Rattle.mv_machine.specs.Merge.{merged}
 use Rattle.mv_machine.specs.Parts.{KeepsBudgets}
-use Rattle.mv_board.specs.Faces.{BoardFace, CallerFace, AreInOrder, IsOf, IsPartIn, part_of}
+use Rattle.mv_board.specs.Faces.{BoardFace, CallerFace, AreInOrder, IsOf, IsPartIn, AreHeld, part_of}
 use Rattle.mv_board.proofs.Ends.{next_in_order, each_in, logs_of_parts}
 use Rattle.mv_wait.proofs.station.Station.close.Goals as goal
 
@@ -22,7 +23,7 @@ take_back-requires c =
     }
 
 pub returns-clause-budgets : goal.returns-clause-budgets
-returns-clause-budgets c = subst (λ (b : BoardFace). KeepsBudgets b.config c.done.result.journal.items) c.loop-task.invariant.board
+returns-clause-budgets c = subst (λ (b : BoardFace). KeepsBudgets b.config c.done.result.history.coming) c.loop-task.invariant.board
     c.done.ensures.budgets
 
 pub returns-clause-merged : goal.returns-clause-merged
@@ -43,7 +44,12 @@ returns-clause-callers c =
     (let gone = c.in-None.ensures.steps in let count = i.count in nil_from_length _ (omega arith)) in
     let all : c.loop-task.yielded ≡ c.args.tasks.items = sym (append-nil c.loop-task.yielded)
     ∙ (ap (λ xs. c.loop-task.yielded ++ xs) (sym none) ∙ i.yielded) in
-    each_in c.args.self.config c.done.result.journal.items c.args.tasks.items
-    (subst (λ ps. AllByRecursion (IsPartIn c.args.self.config c.done.result.journal.items) ps) (i.back ∙ ap (map part_of) all)
-    (subst (λ (b : BoardFace). AllByRecursion (IsPartIn b.config c.done.result.journal.items) c.loop-task.closing.back) i.board
+    each_in c.args.self.config c.done.result.history.coming c.args.tasks.items
+    (subst (λ ps. AllByRecursion (IsPartIn c.args.self.config c.done.result.history.coming) ps) (i.back ∙ ap (map part_of) all)
+    (subst (λ (b : BoardFace). AllByRecursion (IsPartIn b.config c.done.result.history.coming) c.loop-task.closing.back) i.board
     c.done.ensures.callers))
+
+pub returns-clause-volumes : goal.returns-clause-volumes
+returns-clause-volumes c =
+    subst (λ (b : BoardFace). AreHeld b.config (after b.config c.done.result.history.coming) c.done.result.volumes)
+    c.loop-task.invariant.board c.done.ensures.volumes

@@ -1,7 +1,0 @@
--- The word is the block's after the entries that were gone through.
-use Rattle.std.proofs.Common.{◌≡◌, take}
-use Rattle.mv_machine.specs.Legal.{after}
-use Rattle.mv_machine.proofs.plain.answer_of_ecb.Given as goal
-
-abbrev pub invariant-loop-entry : goal.invariant-loop-entry
-invariant-loop-entry l = l.word ≡ ((after l.config (take l.entry-index l.past)).ecb l.ecb).state

@@ -1,7 +1,0 @@
--- The number is the volume's after the entries that were gone through.
-use Rattle.std.proofs.Common.{◌≡◌, take}
-use Rattle.mv_machine.specs.Legal.{after}
-use Rattle.mv_machine.proofs.plain.answer_of_volume.Given as goal
-
-abbrev pub invariant-loop-entry : goal.invariant-loop-entry
-invariant-loop-entry l = l.number ≡ ((after l.config (take l.entry-index l.past)).volume l.volume).state

@@ -1,0 +1,16 @@
+-- How contracts see the one history of some callers, which is kept as their logs and gives its entries one by one.
+use Rattle.std.specs.Prelude.{◌≡◌, List, [], ◌∷◌, ◌++◌}
+use Rattle.mv_machine.specs.declared.entry.Entry.{Entry}
+use Rattle.mv_machine.specs.Setup.{Setup}
+
+-- its configuration, the entries that were given, and those that are still to come
+pub record HistoryFace : Type 0 where
+  pub config : Setup
+  pub past : List Entry
+  pub coming : List Entry
+
+-- the next entry was given
+pub record IsGiven (old : HistoryFace) (e : Entry) (new : HistoryFace) : Type 0 where
+  pub config : new.config ≡ old.config
+  pub past : new.past ≡ old.past ++ e ∷ []
+  pub coming : old.coming ≡ e ∷ new.coming
