@@ -1,7 +1,7 @@
 -- Call numbers beside entries: one for each in version 2, and none in version 1.
-use Rattle.std.proofs.Common.{◌≡◌, ℕ, zero, suc, ◌+◌, ◌≤◌, List, [], ◌∷◌, ◌++◌, length, take, slice_get, Option, Some, None, cond, subst}
+use Rattle.std.proofs.Common.{◌≡◌, ℕ, ◌+◌, ◌≤◌, List, [], ◌∷◌, ◌++◌, length, Option, Some, None, cond, subst}
 use Rattle.std.proofs.Common.{refl, sym, ap, ◌∙◌, arith}
-use Rattle.std.specs.List.{AllByRecursion, flat_map}
+use Rattle.std.specs.List.{AllByRecursion}
 use Rattle.std.proofs.lemmas.List.{length-append}
 use Rattle.std.proofs.lemmas.List.Elements.{All-from_recursion, recursion_from_All}
 use Rattle.std.proofs.lemmas.Bool.{eq-eqb}
@@ -15,7 +15,7 @@ use Rattle.mv_calls.proofs.call_numbers.Prefixes.{calls_length}
 use Rattle.mv_entrytext.specs.declared.version.Version.{Version}
 use Rattle.mv_entrytext.specs.declared.version.Version.TheVariants.{One, Two}
 use Rattle.mv_entrytext.specs.Ranges.{highest_u32}
-use Rattle.mv_entrytext.specs.Journal.{Line, EntryOf, End, line, entry_lines, head_text, text_of}
+use Rattle.mv_entrytext.specs.Journal.{Line, EntryOf, entry_lines}
 use Rattle.mv_entrytext.specs.Lines.{with_call}
 use Rattle.mv_entrytext.specs.Fault.{AreCallNumbers, AreCallsIn}
 
@@ -66,7 +66,7 @@ number_more Two es ns (Some n) e h m =
     (length-append ns (n ∷ []) ∙ ap (λ (k : ℕ). k + 1) h.0 ∙ sym (length-append es (e ∷ [])), all_more ns n h.1 m)
 
 -- without numbers
-plain_more : (es : List Entry) (e : Entry) → entry_lines (es ++ e ∷ []) [] ≡ entry_lines es [] ++ EntryOf None e ∷ []
+pub plain_more : (es : List Entry) (e : Entry) → entry_lines (es ++ e ∷ []) [] ≡ entry_lines es [] ++ EntryOf None e ∷ []
 plain_more [] e = refl
 plain_more (x ∷ es) e = ap (λ (ls : List Line). EntryOf None x ∷ ls) (plain_more es e)
 
@@ -106,44 +106,3 @@ calls_are_numbers c es le = record {
   each = All-from_recursion (λ n. n ≤ highest_u32) (calls c es)
       (calls_fit c (opening c) (λ k. unnumbered) es 0 (λ k. omega arith) (omega arith));
 }
-
--- ---- a line more is written
-
-some_entry : (x y : Entry) → Some x ≡ Some y → x ≡ y
-some_entry x y e = cc
-
-take_none : (i : ℕ) → take {A = ℕ} i [] ≡ []
-take_none zero = refl
-take_none (suc i) = refl
-
--- the line of the entry at a place stands behind those before it, with the number at that place, if there is one
-pub line_at : (es : List Entry) (ns : List ℕ) (i : ℕ) (e : Entry) (call : Option ℕ) → slice_get es i ≡ Some e → slice_get ns i ≡ call
-    → entry_lines (take (suc i) es) (take (suc i) ns) ≡ entry_lines (take i es) (take i ns) ++ EntryOf call e ∷ []
-line_at [] ns zero e call here there = absurd cc
-line_at [] ns (suc i) e call here there = absurd cc
-line_at (x ∷ es) [] zero e call here there =
-    ap (λ (o : Option ℕ). EntryOf o x ∷ []) there ∙ ap (λ (y : Entry). EntryOf call y ∷ []) (some_entry x e here)
-line_at (x ∷ es) (n ∷ ns) zero e call here there =
-    ap (λ (o : Option ℕ). EntryOf o x ∷ []) there ∙ ap (λ (y : Entry). EntryOf call y ∷ []) (some_entry x e here)
-line_at (x ∷ es) [] (suc i) e call here there =
-    let more : entry_lines (take (suc i) es) [] ≡ entry_lines (take i es) (take i []) ++ EntryOf call e ∷ [] =
-    line_at es [] i e call here there in
-    ap (λ (ls : List Line). EntryOf None x ∷ ls)
-    (more ∙ ap (λ (ns : List ℕ). entry_lines (take i es) ns ++ EntryOf call e ∷ []) (take_none i))
-line_at (x ∷ es) (n ∷ ns) (suc i) e call here there = ap (λ (ls : List Line). EntryOf (Some n) x ∷ ls) (line_at es ns i e call here there)
-
--- the lines of all
-lines_all : (es : List Entry) (ns : List ℕ) (i : ℕ) → length es ≤ i → entry_lines (take i es) (take i ns) ≡ entry_lines es ns
-lines_all [] ns zero le = refl
-lines_all [] ns (suc i) le = refl
-lines_all (e ∷ es) ns zero le = absurd (omega arith)
-lines_all (e ∷ es) [] (suc i) le =
-    ap (λ (ls : List Line). EntryOf None e ∷ ls)
-    (sym (ap (λ (ns : List ℕ). entry_lines (take i es) ns) (take_none i)) ∙ lines_all es [] i (omega arith))
-lines_all (e ∷ es) (n ∷ ns) (suc i) le = ap (λ (ls : List Line). EntryOf (Some n) e ∷ ls) (lines_all es ns i (omega arith))
-
--- so the text is whole with them
-pub text_whole : (v : Version) (c : Setup) (es : List Entry) (ns : List ℕ) (i : ℕ) → length es ≤ i
-    → head_text v c ++ flat_map line (entry_lines (take i es) (take i ns)) ++ line (End (length es)) ≡ text_of v c es ns
-unfolding text_of
-text_whole v c es ns i le = ap (λ (ls : List Line). head_text v c ++ flat_map line ls ++ line (End (length es))) (lines_all es ns i le)

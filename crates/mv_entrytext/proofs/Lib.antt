@@ -1,6 +1,7 @@
 -- numbers, digits, fields and the parts of a text
 pub mod Numbers
 pub mod Digits
+pub mod Leading
 pub mod Fields
 pub mod Parts
 -- the table that digits are written by
@@ -17,6 +18,8 @@ pub mod Taken
 pub mod KindsTaken
 pub mod LinesTaken
 pub mod TextsTaken
+-- entries that are numbered and written one by one
+pub mod OnePass
 -- legal lists are in range: the law `legal_lists_have_texts`
 pub mod LegalRanges
 -- the one pass of `read_head` and of the reader of entries

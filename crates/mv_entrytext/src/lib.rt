@@ -1,5 +1,5 @@
 //! The text of a journal: the configuration of a run and its entries as lines. A valid configuration and entries in range
-//! have one text: `write_journal` makes it, `read_journal` reads it back, and tells of any other text where its first
+//! have one text: `write_history` makes it, `read_journal` reads it back, and tells of any other text where its first
 //! fault is. `specs/Journal.antt` says which bytes are a journal's, `specs/Fault.antt` what is wrong with any others.
 #![tactic(auto)]
 
@@ -23,7 +23,7 @@ pub use laws::{legal_lists_have_texts, text_determines_journal, texts_without_fa
 pub use reader::{EntryReader, OpenJournal, open_journal};
 pub use reading::{Journal, read_journal};
 pub use version::Version;
-pub use writing::{JournalWriter, write_journal, write_old_journal};
+pub use writing::{JournalWriter, write_history, write_old_journal};
 
 #[cfg(test)]
 mod faulty_texts;

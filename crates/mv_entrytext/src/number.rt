@@ -1,8 +1,9 @@
 //! Numbers in a text: `specs/Reading.antt`.
 
 ghost use Rattle.std.specs.Prelude.{◌≡◌, ◌≤◌, ◌<◌, ◌+◌, ◌/◌, ◌%◌, [], ◌∷◌, ◌++◌, OnOk, IfSome, MatchOption, true, false};
-ghost use Rattle.std.specs.Prelude.{nat_eq, decimal, drop, length, vec_len, vec_capacity};
+ghost use Rattle.std.specs.Prelude.{◌^◌, nat_eq, decimal, drop, take, length, vec_len, vec_capacity};
 ghost use Rattle.std.specs.List.{starts_with};
+ghost use Rattle.mv_line.specs.Number.{is_number, number_of, value_behind, within};
 ghost use Rattle.mv_entrytext.specs.Words.{◌<+>◌};
 ghost use Rattle.mv_entrytext.specs.Reading.{seen, digit_count, number as number_at, any_u32, any_u64, parted};
 
@@ -177,14 +178,76 @@ fn number(strict: bool, low: u64, high: u64, text: &[u8]) -> Option<(u64, &[u8])
     ensures read { seen result ≡ number_at strict low high text.now }
     ensures bound { IfSome result (λ x. x.0 ≤ high) }
 {
-    let (digits, rest) = text.split_at(digit_count(text));
-    if digits.is_empty() {
+    let (count, shown) = shown_number(low, high, text);
+    if count == 0 {
         return None;
     }
-    match wide_number_within(low, high, digits) {
+    let rest = &text[count..];
+    match shown {
         Some(value) => Some((value, rest)),
         None if strict => None,
         None => Some((0, rest)),
+    }
+}
+
+// How many digits a text begins with, and the number that they show, if they show one within these bounds.
+fn shown_number(low: u64, high: u64, text: &[u8]) -> (usize, Option<u64>)
+    ensures count { result.0 ≡ digit_count text.now }
+    ensures within { result.0 ≤ length text.now }
+    ensures number { result.1 ≡ within low high (number_of (take (digit_count text.now) text.now)) }
+    ensures bound { IfSome result.1 (λ n. n ≤ high) }
+{
+    let (count, value) = leading_digits(text);
+    if value < SHORT {
+        return (count, short_number_within(low, high, text, count, value));
+    }
+    let count = digit_count(text);
+    (count, wide_number_within(low, high, &text[..count]))
+}
+
+// A number below this has at most 18 digits, and with one more behind it still eight bytes.
+const SHORT: u64 = 1_000_000_000_000_000_000;
+
+// How many digits a text begins with, and what they show, in one pass. Where that is not below `SHORT` there may be more of them.
+fn leading_digits(text: &[u8]) -> (usize, u64)
+    ensures within { result.0 ≤ length text.now }
+    ensures value { result.1 ≡ value_behind 0 (take result.0 text.now) }
+    ensures count { result.1 < 10 ^ 18 → result.0 ≡ digit_count text.now }
+{
+    let mut count = 0;
+    let mut value = 0;
+    while count < text.len() && value < SHORT && text[count].is_ascii_digit() {
+        value = value * 10 + u64::from(text[count] - b'0');
+        count += 1;
+    }
+    (count, value)
+}
+
+// What so many digits, all that a text begins with, show, where there is no zero in front of others and it is within these bounds.
+fn short_number_within(low: u64, high: u64, text: &[u8], count: usize, value: u64) -> Option<u64>
+    requires count { count ≡ digit_count text.now }
+    requires within { count ≤ length text.now }
+    requires value { value ≡ value_behind 0 (take count text.now) }
+    ensures number { result ≡ within low high (number_of (take (digit_count text.now) text.now)) }
+    ensures bound { IfSome result (λ n. n ≤ high) }
+{
+    if !has_plain_digits(text, count) {
+        return None;
+    }
+    (low <= value && value <= high).then_some(value)
+}
+
+// Whether so many digits, all that a text begins with, are one or more, and the first is no zero in front of others.
+#[tactic(auto, using(crate::proofs::Leading::digits_show))]
+fn has_plain_digits(text: &[u8], count: usize) -> bool
+    requires count { count ≡ digit_count text.now }
+    requires within { count ≤ length text.now }
+    ensures { result ≡ is_number (take count text.now) }
+{
+    match count {
+        0 => false,
+        1 => true,
+        _ => text[0] != b'0',
     }
 }
 

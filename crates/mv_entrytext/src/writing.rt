@@ -1,24 +1,23 @@
 //! The journal, written from its first line to its last: `specs/Journal.antt`.
 
-ghost use Rattle.std.specs.Prelude.{◌≡◌, ◌≤◌, ◌<◌, ◌^◌, ◌++◌, ◌∷◌, [], List, length, slice_get, All, map, OnOk, IfOk, codes, decimal};
+ghost use Rattle.std.specs.Prelude.{◌≡◌, ◌<◌, ◌^◌, ◌++◌, ◌∷◌, [], List, length, All, map, OnOk, IfOk, codes, decimal};
 ghost use Rattle.std.specs.List.{flat_map};
 ghost use Rattle.mv_machine.specs.Config.{setup_of, exit_of};
 ghost use Rattle.mv_machine.specs.Legal.{Legal};
-ghost use Rattle.mv_machine.specs.Limits.{highest_place};
 ghost use Rattle.mv_machine.specs.Setup.{Setup};
 ghost use Rattle.mv_entrytext.specs.declared.version.Version.{Version as AnyVersion};
 ghost use Rattle.mv_entrytext.specs.EntryText.{IsInRange, IsTyped};
 ghost use Rattle.mv_entrytext.specs.Journal.{JournalOf, Callers, Elements, Volumes, Latches, Quota, Budget, Owner, ExitTo};
-ghost use Rattle.mv_entrytext.specs.Journal.{Line, EntryOf, End, line, counts_text, lists_text, head_text, text_of, text1};
+ghost use Rattle.mv_entrytext.specs.Journal.{Line, EntryOf, End, line, counts_text, lists_text, head_text, text1};
 ghost use Rattle.mv_entrytext.specs.Journal.{journal_text};
 ghost use Rattle.mv_entrytext.specs.Writer.{IsWrittenTo};
 
 use crate::entry::push_entry;
 use crate::number::{push_number, push_pair, push_wide, push_word};
 use crate::version::Version;
-use mv_calls::number_calls;
+use mv_calls::CallCounters;
 use mv_io::NoMemory;
-use mv_machine::{Config, Entry, Exit, ValidConfig};
+use mv_machine::{Config, Entry, Exit, History, ValidConfig};
 use std::alloc::Global;
 
 // A word and a number on a line.
@@ -162,16 +161,6 @@ fn push_entry_line(out: &mut Vec<u8>, call: Option<u32>, entry: &Entry) -> Resul
     push_word(out, b"\n")
 }
 
-// The number at a place, if there is one.
-fn call_at(calls: &[u32], index: usize) -> Option<u32>
-    ensures { result ≡ slice_get calls.now index }
-{
-    match calls.get(index) {
-        Some(call) => Some(*call),
-        None => None,
-    }
-}
-
 /// The text of a journal, written line by line, in one buffer that grows by doubling.
 #[derive(Drop)]
 pub struct JournalWriter {
@@ -219,49 +208,35 @@ impl JournalWriter {
     }
 }
 
-// The whole text, in one of its versions.
-fn write(
-    alloc: Global,
-    version: Version,
-    config: &ValidConfig,
-    entries: &[Entry],
-    calls: &[u32],
-) -> Result<Vec<u8>, NoMemory>
-    ensures text { IfOk result (λ text. text.items ≡ text_of version config.now entries.now calls.now) }
-    ensures typed { OnOk result (All IsTyped entries.now) }
+/// The journal of a run: its configuration and its history, in version 2 of the text, with the call numbers that the machine's
+/// rules give. One pass: each entry is numbered and written as the history gives it, and no list is made of them.
+///
+/// The history is legal, so each operation and reply is of its object's kind, with numbers in the ranges of `docs/FORMATS.md`; what
+/// a number's type says already needs no condition, and is told. The only error is want of memory. The text is made in one buffer
+/// that grows by doubling, in time linear in its length.
+pub fn write_history(alloc: Global, history: History) -> Result<Vec<u8>, NoMemory>
+    requires whole { history.past ≡ [] }
+    requires legal { Legal history.config history.coming }
+    requires few { length history.coming < 2 ^ 32 }
+    ensures text { IfOk result (λ text. text.items ≡ journal_text history.config history.coming) }
+    // So these entries have a text that reads back.
+    ensures typed { OnOk result (All IsTyped history.coming) }
 {
-    let mut writer = JournalWriter::open(alloc, version, config)?;
-    for (i, entry) in entries.iter().enumerate() {
-        writer.push(call_at(calls, i), entry)?;
+    let mut history = history;
+    let mut writer = JournalWriter::open(alloc, Version::Two, history.config())?;
+    let mut counters = CallCounters::open(alloc, history.config())?;
+    let mut count = 0u64;
+    while let Some(entry) = history.next() {
+        let call = counters.count(history.config(), &entry, history.state().wakes())?;
+        writer.push(Some(call), &entry)?;
+        count += 1;
     }
-    let text = writer.end(entries.len() as u64)?;
+    let text = writer.end(count)?;
     Ok(text)
 }
 
-/// The journal of a run: its configuration and its entries, in version 2 of the text, with the call numbers that the
-/// machine's rules give.
-///
-/// The entries are a legal list, so each operation and reply is of its object's kind, with numbers in the ranges of
-/// `docs/FORMATS.md`; what a number's type says already needs no condition, and is told. The only error is want of
-/// memory. The text is made in one buffer that grows by doubling, in time linear in its length.
-pub fn write_journal(
-    alloc: Global,
-    config: &ValidConfig,
-    entries: &[Entry],
-) -> Result<Vec<u8>, NoMemory>
-    requires legal { Legal config.now entries.now }
-    requires few { length entries.now < 2 ^ 32 }
-    requires places { All (λ e. e.place ≤ highest_place) entries.now }
-    ensures text { IfOk result (λ text. text.items ≡ journal_text config.now entries.now) }
-    // So these entries have a text that reads back.
-    ensures typed { OnOk result (All IsTyped entries.now) }
-{
-    let calls = number_calls(alloc, config, entries)?;
-    write(alloc, Version::Two, config, entries, &calls)
-}
-
-/// The same in version 1 of the text, without call numbers; of any entries whose operations and replies are of their
-/// objects' kinds, with numbers in the ranges of `docs/FORMATS.md`.
+/// The journal of a configuration and entries in version 1 of the text, without call numbers; of any entries whose operations and
+/// replies are of their objects' kinds, with numbers in the ranges of `docs/FORMATS.md`.
 pub fn write_old_journal(
     alloc: Global,
     config: &ValidConfig,
@@ -271,5 +246,10 @@ pub fn write_old_journal(
     ensures text { IfOk result (λ text. text.items ≡ text1 config.now entries.now) }
     ensures typed { OnOk result (All IsTyped entries.now) }
 {
-    write(alloc, Version::One, config, entries, &[])
+    let mut writer = JournalWriter::open(alloc, Version::One, config)?;
+    for entry in entries {
+        writer.push(None, entry)?;
+    }
+    let text = writer.end(entries.len() as u64)?;
+    Ok(text)
 }
