@@ -11,3 +11,5 @@ pub mod Pauses
 pub mod Obtains
 -- registering with sources
 pub mod Listening
+-- tasks in a queue
+pub mod Queues

@@ -81,7 +81,7 @@ wait_begins c w x es t0 t u at new same here armed =
 
 -- a first poll that is refused
 pub refused_at_once : (c : Setup) (w f : WaitFace) (why : WaitRefusal) (t0 t u : CallerFace) → IsWaitAt c w t0 t → w.stage ≡ New
-    → f ≡ record { count = w.count; ecbs = w.ecbs; stage = Over; keys = []; slots = [] }
+    → f ≡ record { room = w.room; count = w.count; ecbs = w.ecbs; stage = Over; keys = []; slots = [] }
     → wait_refusal c w.count w.ecbs (kept_of t.number t.log) ≡ Some (wait_refused why) → u ≡ t → IsWaited c f (Err why) t0 u
 refused_at_once c w f why t0 t u at new is refusal same =
     let first = at_new w.stage ((t ≡ t0) × MayWait c w.ecbs t0) (IsWaiting c w.count w.ecbs t0 t) new at in
@@ -122,6 +122,6 @@ pub wait_goes_on : (c : Setup) (w : WaitFace) (t0 t u : CallerFace) → IsLeftWa
 wait_goes_on c w t0 t u l = subst (λ s. AtStage s ((u ≡ t0) × MayWait c w.ecbs t0) (IsWaiting c w.count w.ecbs t0 u)) (sym l.stage) l.waiting
 
 -- a new wait may be polled by a task that meets what it asks
-pub wait_may_begin : (c : Setup) (w : WaitFace) (count : ℕ) (es : List ℕ) (t : CallerFace) → w ≡ new_wait count es → MayWait c es t
+pub wait_may_begin : (c : Setup) (w : WaitFace) (room count : ℕ) (es : List ℕ) (t : CallerFace) → w ≡ new_wait room count es → MayWait c es t
     → (t0 : CallerFace) × IsWaitAt c w t0 t
-wait_may_begin c w count es t is may = (t, subst (λ (f : WaitFace). IsWaitAt c f t t) (sym is) (refl, may))
+wait_may_begin c w room count es t is may = (t, subst (λ (f : WaitFace). IsWaitAt c f t t) (sym is) (refl, may))

@@ -6,3 +6,4 @@ pub mod Pausing
 pub mod Obtaining
 pub mod Futures
 pub mod WaitCall
+pub mod Running

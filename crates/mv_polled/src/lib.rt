@@ -17,3 +17,8 @@ pub use pausing::PauseCall;
 pub use turn::{Stage, Turn};
 pub use wait_future::WaitFuture;
 pub use waiting::WaitCall;
+
+#[cfg(test)]
+mod ring_tests;
+#[cfg(test)]
+mod tests;

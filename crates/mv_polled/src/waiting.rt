@@ -27,6 +27,8 @@ use std::sync::Wait;
 /// A wait until at least `count` of some blocks are complete, as `Station::wait` makes it, that is polled.
 #[derive(Drop)]
 pub struct WaitCall {
+    // How many blocks there is room for.
+    room: usize,
     count: u32,
     ecbs: Vec<u32>,
     stage: Stage,
@@ -56,16 +58,43 @@ impl WaitCall {
     ///
     /// `NoMemory` where there is not enough.
     pub fn new(alloc: Global, count: u32, ecbs: &[u32]) -> Result<WaitCall, NoMemory>
-        ensures { IfOk result (λ call. call ≡ new_wait count ecbs.now) }
+        ensures { IfOk result (λ call. call ≡ new_wait (length ecbs.now) count ecbs.now) }
+    {
+        let mut call = WaitCall::with_room(alloc, ecbs.len())?;
+        call.renew(count, ecbs);
+        Ok(call)
+    }
+
+    /// A wait for no block, with room for so many.
+    ///
+    /// # Errors
+    ///
+    /// `NoMemory` where there is not enough.
+    pub fn with_room(alloc: Global, room: usize) -> Result<WaitCall, NoMemory>
+        ensures { IfOk result (λ call. call ≡ new_wait room 0 []) }
     {
         Ok(WaitCall {
-            count,
-            ecbs: Vec::from_slice(alloc, ecbs)?,
+            room,
+            count: 0,
+            ecbs: Vec::with_capacity(alloc, room)?,
             stage: Stage::New,
-            keys: Vec::with_capacity(alloc, ecbs.len())?,
-            found: vec![in alloc; WaitSlot::Open; ecbs.len()]?,
-            wakers: no_wakers(alloc, ecbs.len())?,
+            keys: Vec::with_capacity(alloc, room)?,
+            found: Vec::with_capacity(alloc, room)?,
+            wakers: Vec::with_capacity(alloc, room)?,
         })
+    }
+
+    /// A new wait in the room of this one, whatever became of this. It takes no memory.
+    pub fn renew(&mut self, count: u32, ecbs: &[u32])
+        requires { length ecbs.now ≤ self.old.room }
+        ensures { self.new ≡ new_wait self.old.room count ecbs.now }
+    {
+        self.count = count;
+        self.stage = Stage::New;
+        self.keys.clear();
+        put_blocks(&mut self.ecbs, ecbs);
+        put_slots(&mut self.found, ecbs.len());
+        put_places(&mut self.wakers, ecbs.len());
     }
 
     /// Goes on with the wait as far as it can: it arms each block at its first poll, and settles each once enough are complete. It
@@ -82,7 +111,7 @@ impl WaitCall {
         requires task { IsOf station.now task.old }
         requires stage { (t0 : CallerFace) × IsWaitAt station.now.config self.old t0 task.old }
         ensures task { IsSame task.old task.new }
-        ensures call { (self.new.count ≡ self.old.count) × (self.new.ecbs ≡ self.old.ecbs) }
+        ensures call { (self.new.count ≡ self.old.count) × (self.new.ecbs ≡ self.old.ecbs) × (self.new.room ≡ self.old.room) }
         ensures turn { (t0 : CallerFace) → IsWaitAt station.now.config self.old t0 task.old → MatchTurn result
             (λ r. IsWaited station.now.config self.new r t0 task.new)
             (IsLeftWaiting station.now.config self.new t0 task.old task.new) }
@@ -121,7 +150,7 @@ impl WaitCall {
         requires stage { self.old.stage ≡ Begun }
         requires waiting { (t0 : CallerFace) × IsWaiting station.now.config self.old.count self.old.ecbs t0 task.old }
         ensures task { IsSame task.old task.new }
-        ensures call { (self.new.count ≡ self.old.count) × (self.new.ecbs ≡ self.old.ecbs) }
+        ensures call { (self.new.count ≡ self.old.count) × (self.new.ecbs ≡ self.old.ecbs) × (self.new.room ≡ self.old.room) }
         ensures stays { MatchTurn result (λ _. ⊤) (StaysListed task.old task.new) }
         ensures turn { (t0 : CallerFace) → IsWaiting station.now.config self.old.count self.old.ecbs t0 task.old → MatchTurn result
             (λ r. IsWaited station.now.config self.new r t0 task.new)
@@ -187,15 +216,40 @@ fn put_down(keys: &mut Vec<u64>, watch: Watch, is_ready: bool)
     }
 }
 
-// Places for so many wakers.
-fn no_wakers(alloc: Global, count: usize) -> Result<Vec<Option<Waker>>, NoMemory>
-    ensures { IfOk result (λ wakers. vec_len wakers ≡ count) }
+// These blocks, in the room that there is.
+fn put_blocks(blocks: &mut Vec<u32>, ecbs: &[u32])
+    requires { length ecbs.now ≤ vec_capacity blocks.old }
+    ensures items { blocks.new.items ≡ ecbs.now }
+    ensures room { vec_capacity blocks.new ≡ vec_capacity blocks.old }
 {
-    let mut wakers = Vec::with_capacity(alloc, count)?;
+    blocks.clear();
+    for ecb in ecbs {
+        blocks.push_reserved(*ecb);
+    }
+}
+
+// So many slots, in the room that there is.
+fn put_slots(slots: &mut Vec<WaitSlot>, count: usize)
+    requires { count ≤ vec_capacity slots.old }
+    ensures size { length slots.new.items ≡ count }
+    ensures room { vec_capacity slots.new ≡ vec_capacity slots.old }
+{
+    slots.clear();
+    for _i in 0..count {
+        slots.push_reserved(WaitSlot::Open);
+    }
+}
+
+// Places for so many wakers, in the room that there is.
+fn put_places(wakers: &mut Vec<Option<Waker>>, count: usize)
+    requires { count ≤ vec_capacity wakers.old }
+    ensures size { vec_len wakers.new ≡ count }
+    ensures room { vec_capacity wakers.new ≡ vec_capacity wakers.old }
+{
+    wakers.clear();
     for _i in 0..count {
         wakers.push_reserved(None);
     }
-    Ok(wakers)
 }
 
 impl WaitCall {
