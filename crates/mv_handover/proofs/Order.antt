@@ -1,15 +1,16 @@
 -- What comes out is what went in, in order. Used by hand_over.
-use Rattle.std.proofs.Common.{◌≡◌, ℕ, ◌<◌, ◌≤◌, List, [], ◌∷◌, ◌++◌, length, ◌⊎◌, inl, inr, refl, sym, ap, ◌∙◌, subst, arith}
+use Rattle.std.proofs.Common.{◌≡◌, ℕ, ◌<◌, ◌≤◌, List, [], ◌∷◌, ◌++◌, Vec, Global, length, get_or, ◌⊎◌, inl, inr, refl, sym, ap, ◌∙◌, subst, arith}
 use Rattle.std.proofs.lemmas.Bool.{cases_eq}
 use Rattle.std.specs.List.{AllByRecursion}
 use Rattle.mv_machine.specs.declared.entry.Entry.{Entry}
 use Rattle.mv_machine.specs.Legal.{Legal, of}
 use Rattle.mv_machine.specs.Setup.{Setup, owner_of}
 use Rattle.mv_machine.specs.System.{opening}
-use Rattle.mv_board.specs.Faces.{BoardFace, CallerFace, IsIn}
+use Rattle.mv_attach.proofs.Back.{log_in, last_room, no_task}
+use Rattle.mv_board.specs.Faces.{BoardFace, CallerFace, AreInOrder, IsIn}
 use Rattle.mv_calls.proofs.Hearing.{of_own, of_other}
 use Rattle.mv_calls.proofs.Interleaved.{callers_exist}
-use Rattle.mv_handover.specs.Ready.{HasPut, HasTaken}
+use Rattle.mv_handover.specs.Ready.{HasPut, HasTaken, HasDone}
 use Rattle.mv_handover.specs.Setup.{slots, HasSlots}
 use Rattle.mv_handover.specs.Slots.{posts, takes, part}
 use Rattle.mv_handover.proofs.Blocks.{taken_were_posted}
@@ -57,24 +58,10 @@ in_order c es items taken has legal size put none took = same_parts 0 taken item
       (let a = parts_length s 0 taken items size in let b = ap length all in let d = ap length own in omega arith) in
       sym own ∙ within_same (takes s (of (owner_of c s) es)) (posts s es) within few ∙ all
 
--- two tasks that came back
-both_in : (c : Setup) (es : List Entry) (room mid tasks : List CallerFace) (p q : CallerFace) → room ≡ [] → mid ≡ room ++ p ∷ []
-    → tasks ≡ mid ++ q ∷ [] → AllByRecursion (IsIn c es) tasks → IsIn c es p × IsIn c es q
-both_in c es room mid tasks p q none first second all =
-    let two : tasks ≡ p ∷ q ∷ [] = second ∙ ap (λ ts. ts ++ q ∷ []) (first ∙ ap (λ ts. ts ++ p ∷ []) none) in
-    let both = subst (λ ts. AllByRecursion (IsIn c es) ts) two all in (both.0, both.1.0)
-
-part_is : (c : Setup) (es : List Entry) (k : ℕ) (t : CallerFace) → IsIn c es t → t.number ≡ k → of k es ≡ t.log
-part_is c es k t within number = ap (λ j. of j es) (sym number) ∙ within.logged
-
--- with what their logs say
-pub closed_in_order : (b : BoardFace) (es : List Entry) (room mid tasks : List CallerFace) (p q : CallerFace) (items taken : List ℕ)
-    → Legal b.config es → room ≡ [] → mid ≡ room ++ p ∷ [] → tasks ≡ mid ++ q ∷ [] → AllByRecursion (IsIn b.config es) tasks
-    → length taken ≡ length items → HasPut b items p → HasTaken b taken q → taken ≡ items
-closed_in_order b es room mid tasks p q items taken legal none first second all size put took =
-    let both = both_in b.config es room mid tasks p q none first second all in
-    let own = part_is b.config es 0 p both.0 put.ready.number in
-    let other = part_is b.config es 1 q both.1 took.ready.number in
+-- with what the logs of two tasks say that came back
+pub closed_in_order : (b : BoardFace) (es : List Entry) (p q : CallerFace) (items taken : List ℕ) → Legal b.config es → of 0 es ≡ p.log
+    → of 1 es ≡ q.log → length taken ≡ length items → HasPut b items p → HasTaken b taken q → taken ≡ items
+closed_in_order b es p q items taken legal own other size put took =
     in_order b.config es items taken put.ready.config legal size
     (λ s lt. ap (posts s) own ∙ put.posts s lt) (λ s lt. ap (posts s) other ∙ took.posts s lt)
     (λ s lt. ap (takes s) other ∙ took.takes s lt)
@@ -85,22 +72,44 @@ two_callers c es has legal =
     subst (λ (k : Setup). AllByRecursion (λ e. e.caller < k.callers) es) has.1 (callers_exist c (opening c) es legal)
 
 -- the history posts each item to its slot, and nothing else to a slot
-pub closed_posted : (b : BoardFace) (es : List Entry) (room mid tasks : List CallerFace) (p q : CallerFace) (items taken : List ℕ)
-    → Legal b.config es → room ≡ [] → mid ≡ room ++ p ∷ [] → tasks ≡ mid ++ q ∷ [] → AllByRecursion (IsIn b.config es) tasks
-    → HasPut b items p → HasTaken b taken q → (s : ℕ) → s < slots → posts s es ≡ part s items
-closed_posted b es room mid tasks p q items taken legal none first second all put took s lt =
-    let both = both_in b.config es room mid tasks p q none first second all in
-    let own = part_is b.config es 0 p both.0 put.ready.number in
-    let other = part_is b.config es 1 q both.1 took.ready.number in
+pub closed_posted : (b : BoardFace) (es : List Entry) (p q : CallerFace) (items taken : List ℕ) → Legal b.config es → of 0 es ≡ p.log
+    → of 1 es ≡ q.log → HasPut b items p → HasTaken b taken q → (s : ℕ) → s < slots → posts s es ≡ part s items
+closed_posted b es p q items taken legal own other put took s lt =
     posts_of_first s es (two_callers b.config es put.ready.config legal) (ap (posts s) other ∙ took.posts s lt)
     ∙ ap (posts s) own ∙ put.posts s lt
 
 -- and the consumer takes each of them out of its slot
-pub closed_taken : (b : BoardFace) (es : List Entry) (room mid tasks : List CallerFace) (p q : CallerFace) (items taken : List ℕ)
-    → Legal b.config es → room ≡ [] → mid ≡ room ++ p ∷ [] → tasks ≡ mid ++ q ∷ [] → AllByRecursion (IsIn b.config es) tasks
-    → length taken ≡ length items → HasPut b items p → HasTaken b taken q → (s : ℕ) → s < slots → takes s (of 1 es) ≡ part s items
-closed_taken b es room mid tasks p q items taken legal none first second all size put took s lt =
-    let both = both_in b.config es room mid tasks p q none first second all in
-    let other = part_is b.config es 1 q both.1 took.ready.number in
-    ap (takes s) other ∙ took.takes s lt
-    ∙ ap (part s) (closed_in_order b es room mid tasks p q items taken legal none first second all size put took)
+pub closed_taken : (b : BoardFace) (es : List Entry) (p q : CallerFace) (items taken : List ℕ) → Legal b.config es → of 0 es ≡ p.log
+    → of 1 es ≡ q.log → length taken ≡ length items → HasPut b items p → HasTaken b taken q → (s : ℕ) → s < slots
+    → takes s (of 1 es) ≡ part s items
+closed_taken b es p q items taken legal own other size put took s lt =
+    ap (takes s) other ∙ took.takes s lt ∙ ap (part s) (closed_in_order b es p q items taken legal own other size put took)
+
+-- what the two tasks say that came back, and where their logs stand in the history
+pub record Back (b : BoardFace) (es : List Entry) (items taken : List ℕ) : Type 0 where
+  pub producer : CallerFace
+  pub consumer : CallerFace
+  pub first : of 0 es ≡ producer.log
+  pub second : of 1 es ≡ consumer.log
+  pub count : length taken ≡ length items
+  pub put : HasPut b items producer
+  pub took : HasTaken b taken consumer
+
+pub both_back : (b : BoardFace) (es : List Entry) (items : List ℕ) (tasks : List CallerFace) (rooms rest : List (Vec ℕ Global))
+    (taken : Vec ℕ Global) → AreInOrder b 0 tasks → length tasks ≡ 2 → AllByRecursion (IsIn b.config es) tasks
+    → rooms ≡ rest ++ taken ∷ [] → length rooms ≡ 2
+    → ((k : ℕ) (s : Vec ℕ Global) (t : CallerFace) → k < 2 → HasDone b items k (get_or tasks k t) (get_or rooms k s).items)
+    → Back b es items taken.items
+both_back b es items tasks rooms rest taken order two within is count done =
+    let no = no_task b in
+    let last : get_or rooms 1 taken ≡ taken = last_room rooms rest taken 1 is count in
+    let one : HasDone b items 1 (get_or tasks 1 no) taken.items =
+    subst (λ (r : Vec ℕ Global). HasDone b items 1 (get_or tasks 1 no) r.items) last (done 1 taken no (omega arith)) in record {
+      producer = get_or tasks 0 no;
+      consumer = get_or tasks 1 no;
+      first = log_in b b.config es 0 tasks no order within (omega arith);
+      second = log_in b b.config es 1 tasks no order within (omega arith);
+      count = one.count refl;
+      put = (done 0 taken no (omega arith)).put refl;
+      took = one.took refl;
+    }

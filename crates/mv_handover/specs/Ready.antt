@@ -1,8 +1,11 @@
 -- How a task stands between two calls, what a call adds to its log, and what each task has done when it is back.
-use Rattle.std.specs.Prelude.{◌≡◌, ℕ, ◌+◌, ◌<◌, false, List, [], ◌∷◌, ◌++◌, length}
+use Rattle.std.specs.Prelude.{◌≡◌, ℕ, ◌+◌, ◌<◌, ◌≤◌, false, List, [], ◌∷◌, ◌++◌, length, slice_index_or, vec_capacity, Vec}
+use Rattle.std.specs.List.{AllByRecursion}
+use Rattle.std.proofs.Common.{Global}
 use Rattle.mv_ecb.specs.declared.operation.EcbOp.{EcbOp}
 use Rattle.mv_ecb.specs.declared.operation.EcbOp.TheVariants.{Arm, Settle, Clear, Post}
 use Rattle.mv_ecb.specs.declared.operation.EcbReply.TheVariants.{Complete}
+use Rattle.mv_ecb.specs.Table.{code_limit}
 use Rattle.mv_machine.specs.declared.entry.Entry.{Entry}
 use Rattle.mv_machine.specs.declared.entry.Object.TheVariants.{Ecb}
 use Rattle.mv_machine.specs.declared.entry.Op.TheVariants as op_on
@@ -11,7 +14,7 @@ use Rattle.mv_machine.specs.Setup.{owner_of}
 use Rattle.mv_board.specs.Faces.{BoardFace, CallerFace, IsOf}
 use Rattle.mv_calls.specs.Keeping.{kept_of}
 use Rattle.mv_calls.specs.Rest.{IsAtRest}
-use Rattle.mv_handover.specs.Setup.{slots, HasSlots}
+use Rattle.mv_handover.specs.Setup.{slots, slots_setup, HasSlots}
 use Rattle.mv_handover.specs.Slots.{posts, takes, part}
 
 -- it is task k of a hand-over on this board, is at rest, and holds no block extended
@@ -72,3 +75,26 @@ pub record HasTaken (b : BoardFace) (items : List ℕ) (t : CallerFace) : Type 0
   pub ready : IsReady b 1 t
   pub takes : (s : ℕ) → s < slots → takes s t.log ≡ part s items
   pub posts : (s : ℕ) → s < slots → posts s t.log ≡ []
+
+-- ---- the work of both
+
+-- the consumer's room has nothing in it, and takes so many items
+abbrev pub HasRoom : ℕ → Vec ℕ Global → Type 0
+HasRoom count room = (room.items ≡ []) × (count ≤ vec_capacity room)
+
+-- a room for each of the two, and the consumer's is large enough
+pub record AreRooms (count : ℕ) (rooms : Vec (Vec ℕ Global) Global) : Type 0 where
+  pub two : length rooms.items ≡ 2
+  pub room : (d : Vec ℕ Global) → HasRoom count (slice_index_or rooms.items 1 d)
+
+-- what the task of number k needs before it starts
+pub record CanStart (b : BoardFace) (items : List ℕ) (k : ℕ) (room : Vec ℕ Global) : Type 0 where
+  pub config : b.config ≡ slots_setup (length items)
+  pub codes : AllByRecursion (λ x. x < code_limit) items
+  pub space : k ≡ 1 → HasRoom (length items) room
+
+-- what it has done when it is back: the producer put all items, and the consumer took as many
+pub record HasDone (b : BoardFace) (items : List ℕ) (k : ℕ) (t : CallerFace) (taken : List ℕ) : Type 0 where
+  pub put : k ≡ 0 → HasPut b items t
+  pub took : k ≡ 1 → HasTaken b taken t
+  pub count : k ≡ 1 → length taken ≡ length items

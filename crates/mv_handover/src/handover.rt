@@ -5,20 +5,23 @@ ghost use Rattle.std.specs.List.{AllByRecursion};
 ghost use Rattle.mv_ecb.specs.Table.{code_limit};
 ghost use Rattle.mv_machine.specs.Legal.{Legal, of};
 ghost use Rattle.mv_machine.specs.Limits.{highest_place};
-ghost use Rattle.mv_handover.specs.Ready.{IsReady, IsNew, IsOwn, Put, Took, HasPut, HasTaken};
+ghost use Rattle.mv_handover.specs.Ready.{IsReady, IsNew, IsOwn, Put, Took, HasPut, HasTaken, CanStart, HasDone, AreRooms};
 ghost use Rattle.mv_handover.specs.Setup.{slots, slots_setup};
 ghost use Rattle.mv_handover.specs.Slots.{posts, takes, part};
 
-use mv_board::Closed;
+use mv_attach::{Work, run_tasks};
 use mv_io::NoMemory;
-use mv_machine::{CheckRefusal, Config, Entry, ValidConfig};
+use mv_machine::{CheckRefusal, Config, History, ValidConfig};
 use mv_wait::{Station, Task, WaitSlot};
 use std::alloc::Global;
 use std::sync::Wait;
-use std::thread::{Threads, join};
+use std::thread::Threads;
 
 /// How many items may lie between the two tasks.
 const SLOTS: usize = 4;
+
+/// The task that puts items in. The other takes them out.
+const PRODUCER: u32 = 0;
 
 /// The code that says that a slot is free.
 const FREE: u32 = 0;
@@ -28,10 +31,8 @@ const FREE: u32 = 0;
 pub struct HandedOver {
     /// What the second task took, in order.
     pub taken: Vec<u32>,
-    /// The configuration that it ran with.
-    pub config: ValidConfig,
-    /// All events, as one legal history.
-    pub journal: Vec<Entry>,
+    /// All events, as one legal history, with the configuration that it ran with.
+    pub history: History,
 }
 
 // Caller 0 puts items in, and caller 1 takes them out. Blocks 0 to 3 say that a slot is full, and 4 to 7 that it is free.
@@ -92,43 +93,67 @@ fn put<R: Wait>(rt: &R, station: &Station, task: &mut Task, ecb: u32, code: u32)
 }
 
 // Puts each item into the next slot, once that is free.
-fn produce<R: Wait>(rt: &R, station: &Station, mut task: Task, items: &[u32]) -> Task
-    requires new { IsNew station.now 0 task }
+fn produce<R: Wait>(rt: &R, station: &Station, task: &mut Task, items: &[u32])
+    requires new { IsNew station.now 0 task.old }
     requires codes { AllByRecursion (λ x. x < code_limit) items.now }
-    requires left { 4 * length items.now ≤ task.left }
-    ensures put { HasPut station.now items.now result }
+    requires left { 4 * length items.now ≤ task.old.left }
+    ensures put { HasPut station.now items.now task.new }
 {
     for i in 0..items.len() {
         let slot = (i % SLOTS) as u32;
-        take(rt, station, &mut task, SLOTS as u32 + slot);
-        put(rt, station, &mut task, slot, items[i]);
+        take(rt, station, task, SLOTS as u32 + slot);
+        put(rt, station, task, slot, items[i]);
     }
-    task
 }
 
 // Says that each slot is free; then takes so many items, each from the next slot, and frees that again.
-fn consume<R: Wait>(
-    rt: &R,
-    station: &Station,
-    mut task: Task,
-    count: usize,
-    mut taken: Vec<u32>,
-) -> (Task, Vec<u32>)
-    requires new { IsNew station.now 1 task }
-    requires left { 4 * count + 4 ≤ task.left }
-    requires room { (taken.items ≡ []) × (count ≤ vec_capacity taken) }
-    ensures count { length result.1.items ≡ count }
-    ensures took { HasTaken station.now result.1.items result.0 }
+fn consume<R: Wait>(rt: &R, station: &Station, task: &mut Task, count: usize, taken: &mut Vec<u32>)
+    requires new { IsNew station.now 1 task.old }
+    requires left { 4 * count + 4 ≤ task.old.left }
+    requires room { (taken.old.items ≡ []) × (count ≤ vec_capacity taken.old) }
+    ensures count { length taken.new.items ≡ count }
+    ensures took { HasTaken station.now taken.new.items task.new }
 {
     for slot in 0..SLOTS as u32 {
-        put(rt, station, &mut task, SLOTS as u32 + slot, FREE);
+        put(rt, station, task, SLOTS as u32 + slot, FREE);
     }
     for i in 0..count {
         let slot = (i % SLOTS) as u32;
-        taken.push_reserved(take(rt, station, &mut task, slot));
-        put(rt, station, &mut task, SLOTS as u32 + slot, FREE);
+        taken.push_reserved(take(rt, station, task, slot));
+        put(rt, station, task, SLOTS as u32 + slot, FREE);
     }
-    (task, taken)
+}
+
+// What the two tasks do.
+#[derive(Drop)]
+struct Handing<'a> {
+    items: &'a [u32],
+}
+
+impl Work for Handing<'_> {
+    type Room = Vec<u32>;
+
+    ghost can_start = { λ h b k room. CanStart b h.items.now k room };
+
+    ghost has_done = { λ h b k old t new. HasDone b h.items.now k t new.items };
+
+    fn work<R: Wait>(&self, rt: &R, station: &Station, task: &mut Task, taken: &mut Vec<u32>) {
+        if task.number() == PRODUCER {
+            produce(rt, station, task, self.items);
+        } else {
+            consume(rt, station, task, self.items.len(), taken);
+        }
+    }
+}
+
+// What the producer fills, which is nothing, and room for all that the consumer takes.
+fn rooms_for(alloc: Global, count: usize) -> Result<Vec<Vec<u32>>, NoMemory>
+    ensures { IfOk result (AreRooms count) }
+{
+    let mut rooms = Vec::with_capacity(alloc, 2)?;
+    rooms.push_reserved(Vec::new(alloc));
+    rooms.push_reserved(Vec::with_capacity(alloc, count)?);
+    Ok(rooms)
 }
 
 /// Hands these items over from one thread to another, each a number of 30 bits.
@@ -144,34 +169,24 @@ pub fn hand_over<R: Threads + Wait + Sync>(
     requires few { length items.now ≤ 65535 }
     requires codes { AllByRecursion (λ x. x < code_limit) items.now }
     ensures taken { IfOk result (λ handed. handed.taken.items ≡ items.now) }
-    ensures put { IfOk result (λ handed. (s : ℕ) → s < slots → posts s handed.journal.items ≡ part s items.now) }
-    ensures took { IfOk result (λ handed. (s : ℕ) → s < slots → takes s (of 1 handed.journal.items) ≡ part s items.now) }
-    ensures config { IfOk result (λ handed. handed.config ≡ slots_setup (length items.now)) }
-    ensures legal { IfOk result (λ handed. Legal handed.config handed.journal.items) }
-    ensures places { IfOk result (λ handed. All (λ e. e.place ≤ highest_place) handed.journal.items) }
+    ensures put { IfOk result (λ handed. (s : ℕ) → s < slots → posts s handed.history.coming ≡ part s items.now) }
+    ensures took { IfOk result (λ handed. (s : ℕ) → s < slots → takes s (of 1 handed.history.coming) ≡ part s items.now) }
+    ensures config { IfOk result (λ handed. handed.history.config ≡ slots_setup (length items.now)) }
+    ensures legal { IfOk result (λ handed. Legal handed.history.config handed.history.coming) }
+    ensures places { IfOk result (λ handed. All (λ e. e.place ≤ highest_place) handed.history.coming) }
 {
     let count = items.len();
     let config = configuration(alloc, count as u32)?;
-    let (station, mut tasks) = Station::open(alloc, config)?;
-    let room = Vec::with_capacity(alloc, count)?;
-    let (Some(consumer), Some(producer)) = (tasks.pop(), tasks.pop()) else {
+    let (station, tasks) = Station::open(alloc, config)?;
+    let rooms = rooms_for(alloc, count)?;
+    let work = Handing { items };
+    let (tasks, mut rooms) = run_tasks(rt, alloc, &station, &work, tasks, rooms)?;
+    let Some(taken) = rooms.pop() else {
         unreachable!()
     };
-    let (producer, (consumer, taken)) = join(
-        rt,
-        || produce(rt, &station, producer, items),
-        || consume(rt, &station, consumer, count, room),
-    );
-    tasks.push_reserved(producer);
-    tasks.push_reserved(consumer);
-    let Closed {
-        config,
-        journal,
-        ..
-    } = station.close(tasks);
+    let closed = station.close(tasks);
     Ok(HandedOver {
         taken,
-        config,
-        journal,
+        history: closed.history,
     })
 }

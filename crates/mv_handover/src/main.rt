@@ -13,13 +13,16 @@ const ITEMS: [u32; 10] = [3, 1, 4, 1, 5, 9, 2, 6, 5, 3];
 
 fn main(rt: HostRuntime) -> io::Result<()> {
     // The configuration is one that nothing refuses, so only memory can be wanting.
-    let Ok(handed) = hand_over(&rt, rt.alloc(), &ITEMS) else {
+    let Ok(HandedOver { taken, history }) = hand_over(&rt, rt.alloc(), &ITEMS) else {
         return Err(io::Error::from(ErrorKind::OutOfMemory));
     };
-    for item in &handed.taken {
+    for item in &taken {
         println!(rt; "TAKEN {item}")?;
     }
-    let legal = replay(rt.alloc(), &handed.config, &handed.journal).is_ok();
-    println!(rt; "{} EVENTS, LEGAL {legal}", handed.journal.len())?;
+    let Ok(listed) = history.listed(rt.alloc()) else {
+        return Err(io::Error::from(ErrorKind::OutOfMemory));
+    };
+    let legal = replay(rt.alloc(), &listed.config, &listed.journal).is_ok();
+    println!(rt; "{} EVENTS, LEGAL {legal}", listed.journal.len())?;
     Ok(())
 }

@@ -1,7 +1,6 @@
--- What holds of each event that a program says, whatever is answered, holds of each entry that its call makes.
+-- The calls of the pool's tasks make right entries, and leave their task ready.
 use Rattle.std.proofs.Common.{◌≡◌, ℕ, zero, suc, ◌+◌, ◌≤◌, ◌<◌, List, [], ◌∷◌, ◌++◌, length, Option, Some, None, Result, Ok}
 use Rattle.std.proofs.Common.{Bool, true, false, nat_le, refl, sym, ◌∙◌, subst, arith, if◌then◌else◌}
-use Rattle.std.specs.List.{AllByRecursion}
 use Rattle.mv_ecb.specs.declared.operation.EcbOp.TheVariants as ecb_op
 use Rattle.mv_ecb.specs.declared.operation.EcbReply.{EcbReply}
 use Rattle.mv_ecb.specs.declared.operation.EcbReply.TheVariants as ecb_reply
@@ -10,12 +9,8 @@ use Rattle.mv_element.specs.declared.operation.ElementOp.TheVariants as element_
 use Rattle.mv_element.specs.declared.operation.ElementReply.{ElementReply}
 use Rattle.mv_element.specs.declared.operation.ElementReply.TheVariants as element_reply
 use Rattle.mv_machine.specs.declared.entry.Entry.{Entry}
-use Rattle.mv_machine.specs.declared.entry.Object.{Object}
 use Rattle.mv_machine.specs.declared.entry.Object.TheVariants.{Ecb, Element}
-use Rattle.mv_machine.specs.declared.entry.Op.{Op}
 use Rattle.mv_machine.specs.declared.entry.Op.TheVariants as op_on
-use Rattle.mv_machine.specs.declared.entry.Reply.{Reply}
-use Rattle.mv_machine.specs.declared.entry.Reply.TheVariants as reply_of
 use Rattle.mv_machine.specs.Reach.{reach}
 use Rattle.mv_machine.specs.Setup.{Setup}
 use Rattle.mv_machine.proofs.Lists.{all_append}
@@ -25,7 +20,7 @@ use Rattle.mv_calls.specs.Pauses.{Gift, Reached, allocate, open_lowest, lowest_f
 use Rattle.mv_calls.specs.Pauses.{is_others_token}
 use Rattle.mv_calls.specs.Posts.{Posting, post, post_within, posting, posted_next, each_posted, targets_of}
 use Rattle.mv_calls.specs.Posts as came
-use Rattle.mv_calls.specs.Program.{Program, Do, Done, Early, Wrong, Call, Heard, Says, entries, on_ecb, on_element, unless_refused}
+use Rattle.mv_calls.specs.Program.{Program, Do, Done, Early, Call, entries, on_ecb, on_element}
 use Rattle.mv_calls.specs.Refusal.{Refusal}
 use Rattle.mv_calls.specs.Refusal as refusal
 use Rattle.mv_calls.specs.Waits.{wait, wait_refusal, refused_if, is_others_block, clear, the_word, arm_all, armed, settle_all, settled}
@@ -33,26 +28,9 @@ use Rattle.mv_calls.specs.Waits.{enough, complete_count}
 use Rattle.mv_wait.specs.Run.{IsServed}
 use Rattle.mv_server.specs.Pool.{workers, pool_setup, answer_at}
 use Rattle.mv_server.proofs.Pool.{reach_one}
-use Rattle.mv_wait.proofs.OneBlock.{asked_is}
+use Rattle.mv_attach.proofs.Always.{Always, always_says, always_ecb, always_element, always_unless}
 use Rattle.mv_server.specs.Right.{IsRight, AreRight, IsReady, StaysReady}
 use Rattle.mv_wait.proofs.Compose.{served_left}
-
--- each event that the program may say is so
-abbrev pub Always : {A : Type 0} → (Object → Op → Type 0) → Program A → Type 0
-Always P (Do o op next) = P o op × ((h : Heard) → Always P (next h))
-Always P (Done a) = Unit {0}
-Always P Early = Unit {0}
-Always P Wrong = Unit {0}
-
-always_says : {A : Type 0} (P : Object → Op → Type 0) (p : Program A) (hs : List Heard) → Always P p → Says p hs
-    → AllByRecursion (λ e. P e.object e.op) (entries hs)
-always_says P p [] a s = tt
-always_says P (Do o op next) (h ∷ hs) a s =
-    let is = asked_is o h.entry.object op h.entry.op s.0 in
-    (subst (λ x. P x h.entry.op) (sym is.0) (subst (λ x. P o x) (sym is.1) a.0), always_says P (next h) hs (a.1 h) s.1)
-always_says P (Done x) (h ∷ hs) a s = absurd (cc s.0)
-always_says P Early (h ∷ hs) a s = absurd (cc s.0)
-always_says P Wrong (h ∷ hs) a s = absurd (cc s.0)
 
 -- ---- a call that says right events leaves its task ready
 
@@ -94,21 +72,6 @@ pub stays_more : (b : BoardFace) (requests : List ℕ) (m most : ℕ) (t u : Cal
 stays_more b requests m most t u k le = record { ready = k.ready; number = k.number; left = (let i = k.left in omega arith) }
 
 -- ---- the calls
-
-always_ecb : {A : Type 0} (P : Object → Op → Type 0) (r : Reply) (f : EcbReply → Program A) → ((x : EcbReply) → Always P (f x))
-    → Always P (on_ecb r f)
-always_ecb P (reply_of.Ecb x) f a = a x
-always_ecb P r f a = tt
-
-always_element : {A : Type 0} (P : Object → Op → Type 0) (r : Reply) (f : ElementReply → Program A) → ((x : ElementReply) → Always P (f x))
-    → Always P (on_element r f)
-always_element P (reply_of.Element x) f a = a x
-always_element P r f a = tt
-
-always_unless : {A : Type 0} (P : Object → Op → Type 0) (why : Option Refusal) (p : Program (Result A Refusal)) → Always P p
-    → Always P (unless_refused why p)
-always_unless P None p a = a
-always_unless P (Some why) p a = tt
 
 always_armed : {A : Type 0} (requests : List ℕ) (k : ℕ) (p : Program A) → Always (IsRight requests k) p → (x : EcbReply)
     → Always (IsRight requests k) (armed p x)

@@ -1,6 +1,7 @@
 -- What each task of a pool keeps to, whatever the others do: a block of an answer is posted by a worker, and with nothing but that
 -- answer.
-use Rattle.std.specs.Prelude.{◌≡◌, ℕ, ◌+◌, ◌<◌, ◌≤◌, List, length, slice_index_or}
+use Rattle.std.specs.Prelude.{◌≡◌, ℕ, ◌+◌, ◌<◌, ◌≤◌, List, [], length, slice_index, vec_capacity, Vec}
+use Rattle.std.proofs.Common.{Global}
 use Rattle.std.specs.List.{AllByRecursion, Contains}
 use Rattle.mv_ecb.specs.declared.operation.EcbOp.TheVariants.{Extend, Post}
 use Rattle.mv_ecb.specs.declared.operation.EcbReply.TheVariants.{Complete, Posted, Woke}
@@ -11,7 +12,7 @@ use Rattle.mv_machine.specs.declared.entry.Op.{Op}
 use Rattle.mv_machine.specs.declared.entry.Op.TheVariants as op_on
 use Rattle.mv_machine.specs.declared.entry.Reply.{Reply}
 use Rattle.mv_machine.specs.declared.entry.Reply.TheVariants as reply_of
-use Rattle.mv_board.specs.Faces.{BoardFace, CallerFace, IsOf, AreFresh}
+use Rattle.mv_board.specs.Faces.{BoardFace, CallerFace, IsOf}
 use Rattle.mv_calls.specs.Rest.{IsAtRest}
 use Rattle.mv_server.specs.Pool.{workers, requests_limit, weeks_limit, pool_setup, answer_at}
 
@@ -51,19 +52,6 @@ pub record StaysReady (b : BoardFace) (requests : List ℕ) (most : ℕ) (t u : 
   pub number : u.number ≡ t.number
   pub left : t.left ≤ u.left + most
 
--- ---- the workers, before and behind their work
-
--- they are the workers' tasks, in order, before any event
-pub record AreNew (b : BoardFace) (requests : List ℕ) (ts : List CallerFace) : Type 0 where
-  pub asked : IsAsked b requests
-  pub count : length ts ≡ workers
-  pub fresh : AreFresh b 0 ts
-
--- they are the workers' tasks, in order, and each is at rest again
-pub record AreDone (b : BoardFace) (requests : List ℕ) (ts : List CallerFace) : Type 0 where
-  pub count : length ts ≡ workers
-  pub back : (k : ℕ) (d : CallerFace) → k < length ts → IsBack b requests k (slice_index_or ts k d)
-
 -- ---- answers
 
 -- one of these entries found the block complete with this code
@@ -87,3 +75,15 @@ pub record IsPosted (es : List Entry) (block code : ℕ) : Type 0 where
   pub object : entry.object ≡ Ecb block
   pub post : entry.op ≡ op_on.Ecb (Post code)
   pub accepted : IsAccepted entry.reply
+
+-- ---- the work of all
+
+-- there is nothing in it, and room for so many answers
+abbrev pub HasRoom : ℕ → Vec ℕ Global → Type 0
+HasRoom count room = (room.items ≡ []) × (count ≤ vec_capacity room)
+
+-- the task of this number is back, and the server has found each answer
+pub record HasDone (b : BoardFace) (requests : List ℕ) (k : ℕ) (t : CallerFace) (answers : List ℕ) : Type 0 where
+  pub back : IsBack b requests k t
+  pub count : k ≡ workers → length answers ≡ length requests
+  pub finds : k ≡ workers → (r : ℕ) → r < length requests → Finds t.log (workers + r) (slice_index answers r)

@@ -1,26 +1,24 @@
 //! The server and its workers. Clauses cite `specs/Pool.antt` and `specs/Right.antt`.
 
-ghost use Rattle.std.specs.Prelude.{◌≡◌, ◌<◌, ◌≤◌, ◌+◌, ℕ, [], length, map, slice_index, slice_index_or, vec_capacity, IfOk, All};
+ghost use Rattle.std.specs.Prelude.{◌≡◌, ◌<◌, ◌≤◌, ◌+◌, ℕ, [], length, map, slice_index, IfOk, All};
 ghost use Rattle.std.specs.List.{AllByRecursion};
-ghost use Rattle.std.specs.Thread.{IsSync};
-ghost use Rattle.mv_board.specs.Faces.{IsFresh};
 ghost use Rattle.mv_element.specs.Table.{release_limit};
 ghost use Rattle.mv_machine.specs.Config.{setup_of};
 ghost use Rattle.mv_machine.specs.Legal.{Legal};
 ghost use Rattle.mv_machine.specs.Limits.{highest_place};
 ghost use Rattle.mv_server.specs.Pool.{workers, requests_limit, weeks_limit, worker_events, hand_out_events, server_events};
 ghost use Rattle.mv_server.specs.Pool.{pool_setup, days_in};
-ghost use Rattle.mv_server.specs.Right.{IsAsked, IsReady, IsBack, StaysReady, AreNew, AreDone, Finds, IsPosted};
+ghost use Rattle.mv_server.specs.Right.{IsAsked, IsReady, IsBack, StaysReady, HasRoom, HasDone, Finds, IsPosted};
 
-use mv_board::Closed;
+use mv_attach::{Work, run_tasks};
 use mv_element::Token;
 use mv_io::NoMemory;
-use mv_machine::{CheckRefusal, Config, Entry, ValidConfig};
+use mv_machine::{CheckRefusal, Config, History, ValidConfig};
 use mv_pause::{allocate, pause, release};
 use mv_wait::{Station, Task, WaitSlot};
 use std::alloc::Global;
 use std::sync::Wait;
-use std::thread::{self, Threads, join};
+use std::thread::Threads;
 
 /// How many workers there are. Worker w is caller w, its element is w, and block w says that it is idle. Behind these blocks there
 /// is one for the answer to each request.
@@ -37,10 +35,8 @@ const STOP: u32 = 0;
 pub struct Served {
     /// The answer to each request.
     pub answers: Vec<u32>,
-    /// The configuration that they were answered with.
-    pub config: ValidConfig,
-    /// All events, as one legal history.
-    pub journal: Vec<Entry>,
+    /// All events, as one legal history, with the configuration that they were answered with.
+    pub history: History,
 }
 
 /// What the server is asked: how many days so many weeks have.
@@ -179,92 +175,60 @@ fn await_answer<R: Wait>(
 fn serve<R: Wait>(
     rt: &R,
     station: &Station,
-    mut task: Task,
+    task: &mut Task,
     requests: &[u32],
-    mut answers: Vec<u32>,
-) -> (Task, Vec<u32>)
-    requires ready { IsBack station.now requests.now workers task }
-    requires left { server_events (length requests.now) ≤ task.left }
-    requires room { (answers.items ≡ []) × (length requests.now ≤ vec_capacity answers) }
-    ensures back { IsBack station.now requests.now workers result.0 }
-    ensures count { length result.1.items ≡ length requests.now }
-    ensures finds { (r : ℕ) → r < length requests.now → Finds result.0.log (workers + r) (slice_index result.1.items r) }
+    answers: &mut Vec<u32>,
+)
+    requires ready { IsBack station.now requests.now workers task.old }
+    requires left { server_events (length requests.now) ≤ task.old.left }
+    requires room { HasRoom (length requests.now) answers.old }
+    ensures done { HasDone station.now requests.now workers task.new answers.new.items }
 {
     let count = requests.len() as u32;
     for request in 0..count {
-        hand_out(rt, station, &mut task, requests, request + 1);
+        hand_out(rt, station, task, requests, request + 1);
     }
     for worker in 0..WORKERS {
-        hand_out(rt, station, &mut task, requests, STOP);
+        hand_out(rt, station, task, requests, STOP);
     }
     for r in 0..count {
-        let answer = await_answer(rt, station, &mut task, requests, WORKERS + r);
+        let answer = await_answer(rt, station, task, requests, WORKERS + r);
         answers.push_reserved(answer);
     }
-    (task, answers)
 }
 
-// All workers, each on a thread of its own.
-fn work_all<R: Threads + Wait + Sync>(
-    rt: &R,
-    station: &Station,
-    requests: &[u32],
-    pool: &mut [Task],
-)
-    requires asked { IsAsked station.now requests.now }
-    requires count { length pool.old ≡ workers }
-    requires fresh { (k : ℕ) (d : _) → k < length pool.old → IsFresh station.now k (slice_index_or pool.old k d) }
-    ensures count { length pool.new ≡ length pool.old }
-    ensures back { (k : ℕ) (d : _) → k < length pool.old → IsBack station.now requests.now k (slice_index_or pool.new k d) }
-{
-    let job = move |number: usize, one: &mut [Task]|
-        requires { IsAsked station.now requests.now × (number < workers) × (length one.now ≡ 1)
-            × ((d : _) → IsFresh station.now number (slice_index_or one.now 0 d)) }
-        ensures { (d : _) → IsBack station.entry.now requests.entry.now number (slice_index_or one.exit.now 0 d) }
-    { work(rt, station, &mut one[0], requests) };
-    thread::for_each_chunk_mut(rt, pool, 1, &job);
+// What the tasks do: the workers answer, and the server, which is behind them, hands out these requests and finds the answers.
+#[derive(Drop)]
+struct Pool<'a> {
+    requests: &'a [u32],
 }
 
-// The workers that are handed over, back from their work.
-fn worked<R: Threads + Wait + Sync>(
-    rt: &R,
-    station: &Station,
-    requests: &[u32],
-    mut pool: Vec<Task>,
-) -> Vec<Task>
-    requires new { AreNew station.now requests.now pool.items }
-    ensures done { AreDone station.now requests.now result.items }
-    ensures room { vec_capacity result ≡ vec_capacity pool }
-{
-    work_all(rt, station, requests, &mut pool);
-    pool
+impl Work for Pool<'_> {
+    type Room = Vec<u32>;
+
+    ghost can_start = { λ pool b k room. IsAsked b pool.requests.now × (k ≡ workers → HasRoom (length pool.requests.now) room) };
+
+    ghost has_done = { λ pool b k old t new. HasDone b pool.requests.now k t new.items };
+
+    fn work<R: Wait>(&self, rt: &R, station: &Station, task: &mut Task, answers: &mut Vec<u32>) {
+        if task.number() == WORKERS {
+            serve(rt, station, task, self.requests, answers);
+        } else {
+            work(rt, station, task, self.requests);
+        }
+    }
 }
 
-// Has the workers and the server do their work, each on a thread of its own.
-fn run_tasks<R: Threads + Wait + Sync>(
-    rt: &R,
-    station: &Station,
-    requests: &[u32],
-    pool: Vec<Task>,
-    server: Task,
-    room: Vec<u32>,
-) -> (Vec<Task>, (Task, Vec<u32>))
-    requires pool { AreNew station.now requests.now pool.items × (workers < vec_capacity pool) }
-    requires server { IsFresh station.now workers server }
-    requires room { (room.items ≡ []) × (length requests.now ≤ vec_capacity room) }
-    ensures pool { AreDone station.now requests.now result.0.items × (workers < vec_capacity result.0) }
-    ensures server { IsBack station.now requests.now workers result.1.0 }
-    ensures count { length result.1.1.items ≡ length requests.now }
-    ensures finds { (r : ℕ) → r < length requests.now → Finds result.1.0.log (workers + r) (slice_index result.1.1.items r) }
+// An empty list for each task, with room for all answers: one of them is the server's.
+fn rooms_for(alloc: Global, requests: usize) -> Result<Vec<Vec<u32>>, NoMemory>
+    ensures count { IfOk result (λ rooms. length rooms.items ≡ workers + 1) }
+    ensures room { IfOk result (λ rooms. AllByRecursion (HasRoom requests) rooms.items) }
 {
-    join(
-        rt,
-        move || -> Vec<Task>
-            requires { IsSync R.row × AreNew station.now requests.now pool.items × (workers < vec_capacity pool) }
-            ensures { AreDone station.entry.now requests.entry.now result.items × (workers < vec_capacity result) }
-        { worked(rt, station, requests, pool) },
-        || serve(rt, station, server, requests, room),
-    )
+    let mut rooms = Vec::new(alloc);
+    for made in 0..WORKERS + 1 {
+        rooms.push(Vec::with_capacity(alloc, requests)?)?;
+    }
+    Ok(rooms)
 }
 
 /// Answers each of these requests, numbers of weeks below 2^27, by a pool of workers.
@@ -281,25 +245,25 @@ pub fn serve_all<R: Threads + Wait + Sync>(
     requires small { AllByRecursion (λ weeks. weeks < weeks_limit) requests.now }
     ensures answers { IfOk result (λ served. served.answers.items ≡ map days_in requests.now) }
     ensures posted { IfOk result (λ served. (r : ℕ) → r < length requests.now
-        → IsPosted served.journal.items (workers + r) (slice_index served.answers.items r)) }
-    ensures config { IfOk result (λ served. served.config ≡ pool_setup (length requests.now)) }
-    ensures legal { IfOk result (λ served. Legal served.config served.journal.items) }
-    ensures places { IfOk result (λ served. All (λ e. e.place ≤ highest_place) served.journal.items) }
+        → IsPosted served.history.coming (workers + r) (slice_index served.answers.items r)) }
+    ensures config { IfOk result (λ served. served.history.config ≡ pool_setup (length requests.now)) }
+    // None of them is given yet.
+    ensures whole { IfOk result (λ served. served.history.past ≡ []) }
+    ensures legal { IfOk result (λ served. Legal served.history.config served.history.coming) }
+    ensures places { IfOk result (λ served. All (λ e. e.place ≤ highest_place) served.history.coming) }
 {
     let config = valid_config(alloc, requests.len() as u32)?;
-    let (station, mut pool) = Station::open(alloc, config)?;
-    let room = Vec::with_capacity(alloc, requests.len())?;
-    let server = station.take_last(&mut pool);
-    let (mut tasks, (server, answers)) = run_tasks(rt, &station, requests, pool, server, room);
-    tasks.push_reserved(server);
-    let Closed {
-        config,
-        journal,
-        ..
-    } = station.close(tasks);
+    let (station, tasks) = Station::open(alloc, config)?;
+    let rooms = rooms_for(alloc, requests.len())?;
+    let pool = Pool { requests };
+    let (tasks, mut rooms) = run_tasks(rt, alloc, &station, &pool, tasks, rooms)?;
+    // The server is the last.
+    let Some(answers) = rooms.pop() else {
+        unreachable!()
+    };
+    let closed = station.close(tasks);
     Ok(Served {
         answers,
-        config,
-        journal,
+        history: closed.history,
     })
 }

@@ -1,32 +1,34 @@
+use Rattle.std.proofs.Common.{◌≡◌, ◌+◌, ap, ◌∙◌, arith}
+use Rattle.mv_machine.specs.Setup.{Setup}
 use Rattle.mv_machine.proofs.Longer.{entries_fit}
-use Rattle.mv_server.proofs.Closing.{all_back, back_in_order, answers_are}
+use Rattle.mv_server.specs.Pool.{workers}
+use Rattle.mv_server.proofs.Closing.{closed_answers}
 use Rattle.mv_server.proofs.server.serve_all.Goals as goal
-
-pub close-config-requires-clause-order : goal.close-config-requires-clause-order
-close-config-requires-clause-order g c =
-    let b = c.in_ok-station.station in
-    let run = c.run_tasks-tasks in
-    let tasks = c.push_reserved.new.self.items in
-    back_in_order b c.args.requests.now 0 tasks
-    (all_back b c.args.requests.now run.result.0.items tasks run.result.1.0 run.ensures.pool.0 run.ensures.server
-    c.push_reserved.ensures.items)
 
 pub returns-clause-answers : goal.returns-clause-answers
 returns-clause-answers g c =
-    let run = c.run_tasks-tasks in
-    let closed = c.close-config in
-    (answers_are c.in_ok-station.station c.args.requests.now run.result.1.1.items closed.result.journal.items run.result.0.items
-    c.push_reserved.new.self.items run.result.1.0 run.ensures.server.ready.asked.config closed.ensures.legal closed.ensures.callers
-    run.ensures.pool.0 run.ensures.server c.push_reserved.ensures.items run.ensures.count run.ensures.finds).0
+    let b = c.in_ok-station.station in
+    let back = c.in_ok-tasks.ensures in
+    let rooms = c.in_ok-rooms.ensures.count in
+    let count = back.rooms in
+    let config = c.in_ok-station.ensures.config ∙ c.in_ok-config.ensures in
+    let callers : b.config.callers ≡ workers + 1 = ap (λ (s : Setup). s.callers) config in
+    (closed_answers b c.args.requests.now c.close-closed.result.history.coming c.in_ok-tasks.tasks.items c.in_ok-tasks.rooms.items
+    c.pop.new.self.items c.in-Some.answers config c.close-closed.ensures.legal back.order (back.all ∙ callers)
+    c.close-closed.ensures.callers c.in-Some.ensures.items (count ∙ rooms) (λ k s t lt. back.done k s t (omega arith))).0
 
 pub returns-clause-posted : goal.returns-clause-posted
 returns-clause-posted g c =
-    let run = c.run_tasks-tasks in
-    let closed = c.close-config in
-    (answers_are c.in_ok-station.station c.args.requests.now run.result.1.1.items closed.result.journal.items run.result.0.items
-    c.push_reserved.new.self.items run.result.1.0 run.ensures.server.ready.asked.config closed.ensures.legal closed.ensures.callers
-    run.ensures.pool.0 run.ensures.server c.push_reserved.ensures.items run.ensures.count run.ensures.finds).1
+    let b = c.in_ok-station.station in
+    let back = c.in_ok-tasks.ensures in
+    let rooms = c.in_ok-rooms.ensures.count in
+    let count = back.rooms in
+    let config = c.in_ok-station.ensures.config ∙ c.in_ok-config.ensures in
+    let callers : b.config.callers ≡ workers + 1 = ap (λ (s : Setup). s.callers) config in
+    (closed_answers b c.args.requests.now c.close-closed.result.history.coming c.in_ok-tasks.tasks.items c.in_ok-tasks.rooms.items
+    c.pop.new.self.items c.in-Some.answers config c.close-closed.ensures.legal back.order (back.all ∙ callers)
+    c.close-closed.ensures.callers c.in-Some.ensures.items (count ∙ rooms) (λ k s t lt. back.done k s t (omega arith))).1
 
 pub returns-clause-places : goal.returns-clause-places
 returns-clause-places g c =
-    entries_fit c.in_ok-station.station.config c.close-config.result.journal.items c.close-config.ensures.legal c.close-config.ensures.few
+    entries_fit c.in_ok-station.station.config c.close-closed.result.history.coming c.close-closed.ensures.legal c.close-closed.ensures.few

@@ -1,0 +1,64 @@
+//! What the tasks of a station do, and the threads that they do it on. Clauses cite the board's `Faces.antt`.
+
+ghost use Rattle.std.specs.Prelude.{◌≡◌, ◌<◌, ℕ, length, slice_index_or, IfOk};
+ghost use Rattle.mv_board.specs.Faces.{BoardFace, CallerFace, IsFresh, AreFresh, AreInOrder, IsOf};
+
+use crate::seat::{parted, seated, work_all};
+use mv_io::NoMemory;
+use mv_wait::{Station, Task};
+use std::alloc::Global;
+use std::sync::Wait;
+use std::thread::Threads;
+
+/// What the tasks of a station do, each by its number.
+pub trait Work {
+    /// What a task has of its own beside its seat: the memory that its work fills, and what it gives back.
+    type Room: Send + Drop;
+
+    // what the task of a number needs of its room, and of the station
+    ghost can_start: { Self → BoardFace → ℕ → Self.Room → Type 0 };
+
+    // what it has done when it is back, with this room before and that one behind
+    ghost has_done: { Self → BoardFace → ℕ → Self.Room → CallerFace → Self.Room → Type 0 };
+
+    /// Does what the task of this number is to do. The task is new.
+    fn work<R: Wait>(&self, rt: &R, station: &Station, task: &mut Task, room: &mut Self::Room)
+        requires fresh { IsFresh station.now task.old.number task.old }
+        requires exists { task.old.number < station.now.config.callers }
+        requires start { can_start self.now station.now task.old.number room.old }
+        ensures task { IsOf station.now task.new }
+        ensures number { task.new.number ≡ task.old.number }
+        ensures done { has_done self.now station.now task.old.number room.old task.new room.new };
+}
+
+/// Has all tasks of a station do their work, each on a thread of its own, and gives them back in order, with their rooms. All
+/// memory is taken before the first of them starts.
+///
+/// # Errors
+///
+/// `NoMemory` where there is not enough, before the tasks start.
+pub fn run_tasks<R: Threads + Wait + Sync, W: Work + Sync>(
+    rt: &R,
+    alloc: Global,
+    station: &Station,
+    work: &W,
+    tasks: Vec<Task>,
+    rooms: Vec<W::Room>,
+) -> Result<(Vec<Task>, Vec<W::Room>), NoMemory>
+    requires fresh { AreFresh station.now 0 tasks.items }
+    requires all { length tasks.items ≡ station.now.config.callers }
+    requires rooms { length rooms.items ≡ length tasks.items }
+    requires start { (k : ℕ) (s : _) → k < length rooms.items → W.can_start work.now station.now k (slice_index_or rooms.items k s) }
+    ensures order { IfOk result (λ back. AreInOrder station.now 0 back.0.items) }
+    ensures all { IfOk result (λ back. length back.0.items ≡ station.now.config.callers) }
+    ensures rooms { IfOk result (λ back. length back.1.items ≡ length rooms.items) }
+    ensures done { IfOk result (λ back. (k : ℕ) (s : _) (t : _) → k < length rooms.items
+        → W.has_done work.now station.now k (slice_index_or rooms.items k s)
+        (slice_index_or back.0.items k t) (slice_index_or back.1.items k s)) }
+{
+    let tasks_back = Vec::with_capacity(alloc, tasks.len())?;
+    let rooms_back = Vec::with_capacity(alloc, rooms.len())?;
+    let mut seats = seated(alloc, tasks, rooms)?;
+    work_all(rt, station, work, &mut seats);
+    Ok(parted(seats, tasks_back, rooms_back))
+}

@@ -1,0 +1,75 @@
+//! A service that outlives its stations: a station has a budget of events for its life, so requests without a limit are answered
+//! in rounds, each on a station of its own. Clauses cite `specs/Pool.antt`.
+
+ghost use Rattle.std.specs.Prelude.{◌≡◌, ◌<◌, ◌≤◌, ◌++◌, length, map, IfOk, OnOk, All};
+ghost use Rattle.std.specs.List.{AllByRecursion};
+ghost use Rattle.mv_machine.specs.Legal.{Legal};
+ghost use Rattle.mv_machine.specs.Limits.{highest_place};
+ghost use Rattle.mv_server.specs.Pool.{requests_limit, weeks_limit, days_in};
+
+use crate::server::{Served, serve_all};
+use mv_io::NoMemory;
+use mv_machine::{Entry, ReplayRefusal, ValidConfig, replay};
+use std::alloc::Global;
+use std::sync::Wait;
+use std::thread::Threads;
+
+/// Answers each of these requests, however many there are, so many in a round: 1 to 10,000. Each round has a station that is opened
+/// for it and closed, and its history is judged before the next begins.
+///
+/// # Errors
+///
+/// `NoMemory` where there is not enough for a round.
+pub fn serve_in_rounds<R: Threads + Wait + Sync>(
+    rt: &R,
+    alloc: Global,
+    requests: &[u32],
+    round: usize,
+) -> Result<Vec<u32>, NoMemory>
+    requires some { 0 < round }
+    requires few { round ≤ requests_limit }
+    requires small { AllByRecursion (λ weeks. weeks < weeks_limit) requests.now }
+    ensures { IfOk result (λ answers. answers.items ≡ map days_in requests.now) }
+{
+    let mut answers = Vec::new(alloc);
+    let mut rest = requests;
+    while !rest.is_empty() {
+        let (now, later) = rest.split_at(round.min(rest.len()));
+        serve_round(rt, alloc, now, &mut answers)?;
+        rest = later;
+    }
+    Ok(answers)
+}
+
+// One round: what it answers is added to the answers so far, which are all that it leaves.
+fn serve_round<R: Threads + Wait + Sync>(
+    rt: &R,
+    alloc: Global,
+    requests: &[u32],
+    answers: &mut Vec<u32>,
+) -> Result<(), NoMemory>
+    requires few { length requests.now ≤ requests_limit }
+    requires small { AllByRecursion (λ weeks. weeks < weeks_limit) requests.now }
+    ensures { OnOk result (answers.new.items ≡ answers.old.items ++ map days_in requests.now) }
+{
+    let Served {
+        answers: more,
+        history,
+    } = serve_all(rt, alloc, requests)?;
+    let listed = history.listed(alloc)?;
+    judge(alloc, &listed.config, &listed.journal)?;
+    answers.extend_from_slice(&more)?;
+    Ok(())
+}
+
+// Judges the history of a round. It is proved to be legal, so nothing but memory can be wanting.
+fn judge(alloc: Global, config: &ValidConfig, journal: &[Entry]) -> Result<(), NoMemory>
+    requires legal { Legal config.now journal.now }
+    requires places { All (λ e. e.place ≤ highest_place) journal.now }
+{
+    match replay(alloc, config, journal) {
+        Ok(_) => Ok(()),
+        Err(ReplayRefusal::NoMemory) => Err(NoMemory),
+        Err(_) => unreachable!(),
+    }
+}
