@@ -1,0 +1,265 @@
+-- What the calls of the writer and of a reader leave of their task. Used by write_pair and read_pair.
+use Rattle.std.proofs.Common.{◌≡◌, ℕ, ◌+◌, ◌≤◌, ◌<◌, false, List, [], ◌∷◌, ◌++◌, length, get_or, Result, inl, inr, refl, sym, ap, ◌∙◌}
+use Rattle.std.proofs.Common.{subst, arith, append_assoc}
+use Rattle.std.proofs.lemmas.List.{append-nil}
+use Rattle.std.proofs.Common.{le_refl}
+use Rattle.std.proofs.lemmas.List.{get_or_default}
+use Rattle.std.specs.List.{AllByRecursion, Contains}
+use Rattle.mv_latch.specs.declared.operation.LatchOp.TheVariants.{Obtain, Confirm, Release}
+use Rattle.mv_latch.specs.declared.operation.LatchReply.{LatchReply}
+use Rattle.mv_latch.specs.declared.operation.LatchReply.TheVariants.{Granted, Queued, Gone}
+use Rattle.mv_latch.specs.declared.operation.LatchReply.TheVariants as latch_reply
+use Rattle.mv_latch.specs.declared.request.LatchForm.TheVariants.{Waiting}
+use Rattle.mv_latch.specs.declared.request.Mode.{Mode}
+use Rattle.mv_latch.specs.declared.request.Mode.TheVariants.{Exclusive, Shared}
+use Rattle.mv_latch.proofs.Members.{rest_is_in}
+use Rattle.mv_machine.specs.declared.entry.Entry.{Entry}
+use Rattle.mv_machine.specs.declared.entry.Object.{Object}
+use Rattle.mv_machine.specs.declared.entry.Object.TheVariants.{Volume, Latches}
+use Rattle.mv_machine.specs.declared.entry.Op.{Op}
+use Rattle.mv_machine.specs.declared.entry.Op.TheVariants as op_on
+use Rattle.mv_machine.specs.declared.entry.Reply.{Reply}
+use Rattle.mv_machine.specs.declared.entry.Reply.TheVariants as reply_of
+use Rattle.mv_machine.specs.declared.entry.VolumeOp.TheVariants.{Read, Write}
+use Rattle.mv_machine.specs.declared.entry.VolumeReply.TheVariants.{Value}
+use Rattle.mv_machine.specs.Reach.{release_cost}
+use Rattle.mv_machine.specs.Setup.{Setup}
+use Rattle.mv_machine.proofs.EntryRuns.{entry_of}
+use Rattle.mv_board.specs.Faces.{BoardFace, CallerFace}
+use Rattle.mv_calls.specs.Keeping.{Kept, kept_of}
+use Rattle.mv_calls.specs.LatchCalls.{Obtained, obtain, obtain_refusal, obtained, confirmed, release_latch, let_go}
+use Rattle.mv_calls.specs.Program.{Program, Do, Done, Call, Heard, on_latch, on_volume}
+use Rattle.mv_calls.specs.Refusal.{Refusal}
+use Rattle.mv_calls.specs.Waits.{read_volume, write_volume, the_value, stored}
+use Rattle.mv_wait.specs.Run.{IsServed}
+use Rattle.mv_wait.proofs.Compose.{still_served}
+use Rattle.mv_latchset.specs.declared.obtaining.Obtained.TheVariants as got
+use Rattle.mv_latchset.specs.declared.token.LatchToken.{LatchToken}
+use Rattle.mv_latchset.specs.Obtaining.{IsObtainedBy}
+use Rattle.mv_attach.proofs.Always.{Always, Grown, always_latch, always_unless, served_grown}
+use Rattle.mv_attach.proofs.Once.{Once, served_once, once_grown}
+use Rattle.mv_cache.specs.declared.cache.Pair.{Pair}
+use Rattle.mv_cache.specs.Setup.{cache_setup}
+use Rattle.mv_cache.specs.Whole.{HoldsLatch, value_from, pair_of, IsAllowed, AreAllowed, IsCareful, StaysWhole, IsWriting, IsReading}
+use Rattle.mv_cache.specs.Whole.{IsLonger, Reads, WasRead, first_pair}
+use Rattle.mv_cache.proofs.Logs.{IsCalm, allowed_more, whole_more, value-append, calm_pair, calm_are_allowed, calm_stays_whole}
+use Rattle.mv_cache.proofs.Logs.{still_holds, holds_at_once, holds_confirmed, asked_entry}
+
+-- ---- calls that are calm
+
+calm_obtain : (c : Setup) (requestor : ℕ) (mode : Mode) (kept : Kept) → Always IsCalm (obtain c 0 requestor mode Waiting kept)
+calm_obtain c requestor mode kept =
+    always_unless IsCalm (obtain_refusal c 0 requestor mode Waiting kept)
+    (Do Latches (op_on.Latch (Obtain 0 requestor mode Waiting)) (λ h. on_latch h.entry.reply (obtained 0 Waiting)))
+    (tt, λ h. always_latch IsCalm h.entry.reply (obtained 0 Waiting) (λ x. on x)) where
+      last : (id : ℕ) (x : LatchReply) → Always IsCalm (confirmed id x)
+      last id (latch_reply.Granted same) = tt
+      last id latch_reply.Waiting = tt
+      last id latch_reply.Gone = tt
+      last id x = tt
+
+      on : (x : LatchReply) → Always IsCalm (obtained 0 Waiting x)
+      on (latch_reply.Granted id) = tt
+      on (latch_reply.Queued id) = (tt, λ h. always_latch IsCalm h.entry.reply (confirmed id) (λ x. last id x))
+      on x = tt
+
+pub obtain_grown : (c : Setup) (requestor most : ℕ) (mode : Mode) (Is : Result Obtained Refusal → Type 0) (t u : CallerFace)
+    → IsServed most (obtain c 0 requestor mode Waiting) Is t u → Grown IsCalm t u
+obtain_grown c requestor most mode Is t u s =
+    served_grown IsCalm most (obtain c 0 requestor mode Waiting) Is t u s (calm_obtain c requestor mode (kept_of t.number t.log))
+
+pub release_grown : (c : Setup) (most latch id : ℕ) (Is : Result ℕ Refusal → Type 0) (t u : CallerFace)
+    → IsServed most (release_latch c latch id false) Is t u → most ≤ 1 → Grown IsCalm t u
+release_grown c most latch id Is t u s one =
+    let next : Heard → Program (Result ℕ Refusal) =
+    λ h. on_latch h.entry.reply (let_go c false h.wakes (kept_of t.number t.log)) in
+    once_grown IsCalm Latches (op_on.Latch (Release latch id false)) next s.answer t u
+    (served_once most (release_latch c latch id false) Is Latches (op_on.Latch (Release latch id false)) next t u s one refl) tt
+
+-- ---- the tasks behind them
+
+pub still_careful : {A : Type 0} (b : BoardFace) (most : ℕ) (call : Call A) (Is : A → Type 0) (t u : CallerFace)
+    → IsServed most call Is t u → Grown IsCalm t u → IsCareful b t → IsCareful b u
+still_careful b most call Is t u s g r = record {
+  config = r.config;
+  task = still_served b most call Is t u s r.task;
+  rest = s.made.rest;
+  allowed = subst (λ k. AreAllowed k [] u.log) (sym s.same.number)
+      (subst (AreAllowed t.number []) (sym g.logged) (calm_are_allowed t.number t.log g.more r.allowed g.each));
+}
+
+pub still_writing : {A : Type 0} (b : BoardFace) (pairs : List Pair) (most : ℕ) (call : Call A) (Is : A → Type 0) (t u : CallerFace)
+    → IsServed most call Is t u → Grown IsCalm t u → IsWriting b pairs t → IsWriting b pairs u
+still_writing b pairs most call Is t u s g r = record {
+  careful = still_careful b most call Is t u s g r.careful;
+  number = s.same.number ∙ r.number;
+  whole = subst (StaysWhole pairs []) (sym g.logged) (calm_stays_whole pairs t.log g.more r.whole r.written g.each);
+  written = subst (Contains (first_pair ∷ pairs)) (sym (ap pair_of g.logged ∙ calm_pair t.log g.more g.each)) r.written;
+}
+
+pub still_reading : {A : Type 0} (b : BoardFace) (most : ℕ) (call : Call A) (Is : A → Type 0) (t u : CallerFace)
+    → IsServed most call Is t u → Grown IsCalm t u → IsReading b t → IsReading b u
+still_reading b most call Is t u s g r = record {
+  careful = still_careful b most call Is t u s g r.careful;
+  other = λ zero_is. r.other (sym s.same.number ∙ zero_is);
+}
+
+pub is_longer : {A : Type 0} (most : ℕ) (call : Call A) (Is : A → Type 0) (t u : CallerFace)
+    → IsServed most call Is t u → Grown IsCalm t u → IsLonger t u
+is_longer most call Is t u s g = record { number = s.same.number; more = g.more; logged = g.logged }
+
+pub longer_then : (t u v : CallerFace) → IsLonger t u → IsLonger u v → IsLonger t v
+longer_then t u v a b = record {
+  number = b.number ∙ a.number;
+  more = a.more ++ b.more;
+  logged = b.logged ∙ ap (λ log. log ++ b.more) a.logged ∙ append_assoc t.log a.more b.more;
+}
+
+-- ---- who was granted holds the latch
+
+pub holds_granted : (mode : Mode) (requestor : ℕ) (t u : CallerFace) (token : LatchToken)
+    → IsObtainedBy (Obtain 0 requestor mode Waiting) 0 Waiting t (got.Granted token) u → HoldsLatch mode t.number u.log
+holds_granted mode requestor t u token (inl at_once) =
+    subst (HoldsLatch mode t.number) (sym at_once.1.logged) (holds_at_once t.number at_once.0 token.id mode requestor t.log)
+holds_granted mode requestor t u token (inr (form, q)) =
+    let queued = q.queued.1 in
+    let settled = q.settled in
+    let log : settled.awaited.log ≡ t.log ++ asked_entry t.number q.queued.0 mode requestor (reply_of.Latch (Queued token.id)) ∷ [] =
+    settled.waited.logged ∙ append-nil q.waiting.log ∙ queued.logged in
+    let number : settled.awaited.number ≡ t.number = settled.waited.same.number ∙ queued.same.number in
+    subst (HoldsLatch mode t.number)
+    (sym (settled.confirmed.1.logged
+    ∙ (λ i. log i ++ entry_of (number i) Latches settled.confirmed.0 (op_on.Latch (Confirm 0 token.id)) (reply_of.Latch (Granted token.id)) ∷ [])))
+    (holds_confirmed t.number q.queued.0 settled.confirmed.0 token.id mode requestor t.log)
+
+-- ---- the writer inside its section
+
+pub record IsInside (b : BoardFace) (pairs : List Pair) (t : CallerFace) : Type 0 where
+  pub careful : IsCareful b t
+  pub number : t.number ≡ 0
+  pub whole : StaysWhole pairs [] t.log
+  pub holds : HoldsLatch Exclusive 0 t.log
+
+pub enters : (b : BoardFace) (pairs : List Pair) (requestor : ℕ) (t u : CallerFace) (token : LatchToken) → IsWriting b pairs t
+    → IsWriting b pairs u
+    → IsObtainedBy (Obtain 0 requestor Exclusive Waiting) 0 Waiting t (got.Granted token) u → IsInside b pairs u
+enters b pairs requestor t u token before now by = record {
+  careful = now.careful;
+  number = now.number;
+  whole = now.whole;
+  holds = subst (λ k. HoldsLatch Exclusive k u.log) before.number (holds_granted Exclusive requestor t u token by);
+}
+
+may_write : (k n x : ℕ) (log : List Entry) (o : Object) (op : Op) → o ≡ Volume n → op ≡ op_on.Volume (Write x)
+    → (k ≡ 0) × HoldsLatch Exclusive k log → IsAllowed k log o op
+may_write k n x log o op at is both =
+    subst (λ p. IsAllowed k log p op) (sym at) (subst (λ p. IsAllowed k log (Volume n) p) (sym is) both)
+
+-- the entry of a write
+pub wrote : (n x : ℕ) (Is : Unit {0} → Type 0) (t u : CallerFace) → (s : IsServed 1 (write_volume n x) Is t u)
+    → Once (Volume n) (op_on.Volume (Write x)) (λ h. on_volume h.entry.reply stored) s.answer t u
+wrote n x Is t u s =
+    served_once 1 (write_volume n x) Is (Volume n) (op_on.Volume (Write x)) (λ h. on_volume h.entry.reply stored) t u s (omega arith) refl
+
+pub writes : (b : BoardFace) (pairs : List Pair) (n x : ℕ) (Is : Unit {0} → Type 0) (t u : CallerFace)
+    → IsServed 1 (write_volume n x) Is t u → IsInside b pairs t → IsInside b pairs u
+writes b pairs n x Is t u s r =
+    let one = wrote n x Is t u s in
+    let e = one.heard.entry in
+    let holds : HoldsLatch Exclusive 0 (t.log ++ e ∷ []) = still_holds Exclusive 0 n t.log e one.object r.holds in record {
+      careful = record {
+        config = r.careful.config;
+        task = still_served b 1 (write_volume n x) Is t u s r.careful.task;
+        rest = s.made.rest;
+        allowed = subst (λ k. AreAllowed k [] u.log) (sym s.same.number)
+            (subst (AreAllowed t.number []) (sym one.logged)
+            (allowed_more t.number [] t.log e r.careful.allowed
+            (may_write t.number n x t.log e.object e.op one.object one.makes
+            (r.number, subst (λ k. HoldsLatch Exclusive k t.log) (sym r.number) r.holds))));
+      };
+      number = s.same.number ∙ r.number;
+      whole = subst (StaysWhole pairs []) (sym one.logged) (whole_more pairs [] t.log e r.whole (inl holds));
+      holds = subst (HoldsLatch Exclusive 0) (sym one.logged) holds;
+    }
+
+-- what both writes leave is the pair
+pub both_written : (left right : ℕ) (Is Are : Unit {0} → Type 0) (t u v : CallerFace) → IsServed 1 (write_volume 0 left) Is t u
+    → IsServed 1 (write_volume 1 right) Are u v → pair_of v.log ≡ record { left = left; right = right }
+both_written left right Is Are t u v s w =
+    let first = wrote 0 left Is t u s in
+    let second = wrote 1 right Are u v w in
+    let e = first.heard.entry in
+    let f = second.heard.entry in
+    let log : v.log ≡ (t.log ++ e ∷ []) ++ f ∷ [] = second.logged ∙ ap (λ es. es ++ f ∷ []) first.logged in
+    let first_is : value_from 0 0 ((t.log ++ e ∷ []) ++ f ∷ []) ≡ left =
+    value-append 0 0 (t.log ++ e ∷ []) (f ∷ []) ∙ rw (second.object, second.makes) (value-append 0 0 t.log (e ∷ [])
+    ∙ rw (first.object, first.makes) refl) in
+    let second_is : value_from 1 0 ((t.log ++ e ∷ []) ++ f ∷ []) ≡ right =
+    value-append 1 0 (t.log ++ e ∷ []) (f ∷ []) ∙ rw (second.object, second.makes) refl in
+    ap pair_of log ∙ (λ i. record { left = first_is i; right = second_is i })
+
+-- its release
+pub leaves : {A : Type 0} (b : BoardFace) (pairs : List Pair) (pair : Pair) (most : ℕ) (call : Call A) (Is : A → Type 0)
+    (t u : CallerFace)
+    → IsServed most call Is t u → Grown IsCalm t u → IsInside b pairs t → pair_of t.log ≡ pair → Contains pairs pair → IsWriting b pairs u
+leaves b pairs pair most call Is t u s g r is member =
+    still_writing b pairs most call Is t u s g (record {
+      careful = r.careful;
+      number = r.number;
+      whole = r.whole;
+      written = subst (Contains (first_pair ∷ pairs)) (sym is) (rest_is_in first_pair pairs pair member);
+    })
+
+-- ---- a reader inside its section
+
+value_of : (r : Reply) (x : ℕ) → on_volume r the_value ≡ Done x → r ≡ reply_of.Volume (Value x)
+value_of (reply_of.Volume (Value n)) x e = let same : n ≡ x = cc e in ap (λ m. reply_of.Volume (Value m)) same
+value_of (reply_of.Volume r) x e = absurd (cc e)
+value_of r x e = absurd (cc e)
+
+pub record HasReadOne (n x : ℕ) (t u : CallerFace) : Type 0 where
+  pub entry : Entry
+  pub logged : u.log ≡ t.log ++ entry ∷ []
+  pub reads : Reads n x entry
+
+pub read_one : (n x : ℕ) (t u : CallerFace) → IsServed 1 (read_volume n) (λ a. a ≡ x) t u → HasReadOne n x t u
+read_one n x t u s =
+    let one = served_once 1 (read_volume n) (λ a. a ≡ x) (Volume n) (op_on.Volume Read) (λ h. on_volume h.entry.reply the_value) t u s
+    (omega arith) refl in record {
+      entry = one.heard.entry;
+      logged = one.logged;
+      reads = record { object = one.object; op = one.makes; reply = value_of one.heard.entry.reply x (one.done ∙ ap Done s.is) };
+    }
+
+pub read_grown : (n x : ℕ) (t u : CallerFace) → IsServed 1 (read_volume n) (λ a. a ≡ x) t u → Grown IsCalm t u
+read_grown n x t u s =
+    once_grown IsCalm (Volume n) (op_on.Volume Read) (λ h. on_volume h.entry.reply the_value) s.answer t u
+    (served_once 1 (read_volume n) (λ a. a ≡ x) (Volume n) (op_on.Volume Read) (λ h. on_volume h.entry.reply the_value) t u s (omega arith)
+    refl) tt
+
+-- what was read is still read behind more entries
+read_later : (t u : CallerFace) (pair : Pair) → IsLonger t u → WasRead t.number t.log pair → WasRead u.number u.log pair
+read_later t u pair l r = record {
+  before = r.before;
+  first = r.first;
+  second = r.second;
+  later = r.later ++ l.more;
+  split = l.logged ∙ ap (λ log. log ++ l.more) r.split ∙ append_assoc r.before (r.first ∷ r.second ∷ r.later) l.more;
+  holds = subst (λ k. HoldsLatch Shared k r.before) (sym l.number) r.holds;
+  left = r.left;
+  right = r.right;
+}
+
+pub all_read_later : (t u : CallerFace) (pairs : List Pair) → IsLonger t u → AllByRecursion (WasRead t.number t.log) pairs
+    → AllByRecursion (WasRead u.number u.log) pairs
+all_read_later t u [] l all = tt
+all_read_later t u (pair ∷ pairs) l all = (read_later t u pair l all.0, all_read_later t u pairs l all.1)
+
+-- ---- for both
+
+-- a release is one event
+pub cheap : (c : Setup) → (pairs reads : ℕ) × (c ≡ cache_setup pairs reads) → release_cost c ≤ 1
+cheap c has = subst (λ (s : Setup). release_cost s ≤ 1) (sym has.2) (le_refl 1)
+
+pub index_in : (pairs : List Pair) (n : ℕ) (d : Pair) → n < length pairs → Contains pairs (get_or pairs n d)
+index_in pairs n d lt = (n, lt, get_or_default pairs n (get_or pairs n d) d lt)

@@ -1,0 +1,10 @@
+use Rattle.std.proofs.Common.{◌≡◌, length}
+use Rattle.std.specs.List.{AllByRecursion}
+use Rattle.mv_cache.specs.Whole.{HasRoom}
+use Rattle.mv_cache.proofs.cache.rooms_for.Given as goal
+
+abbrev pub invariant-loop-made : goal.invariant-loop-made
+invariant-loop-made l = record {
+  count : length l.rooms.items ≡ l.made;
+  room : AllByRecursion (HasRoom l.reads) l.rooms.items;
+}

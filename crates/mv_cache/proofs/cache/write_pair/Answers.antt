@@ -1,0 +1,38 @@
+use Rattle.std.proofs.Common.{subst}
+use Rattle.mv_latch.specs.declared.request.Mode.TheVariants.{Exclusive}
+use Rattle.mv_latch.specs.declared.operation.LatchOp.TheVariants.{Obtain}
+use Rattle.mv_latch.specs.declared.request.LatchForm.TheVariants.{Waiting}
+use Rattle.mv_latchset.specs.Obtaining.{IsObtainedBy}
+use Rattle.mv_cache.specs.Whole.{IsWriting}
+use Rattle.mv_cache.proofs.Calls.{obtain_grown, release_grown, still_writing, enters, writes, both_written, leaves, cheap, index_in}
+use Rattle.mv_cache.proofs.cache.write_pair.Goals as goal
+
+pub returns-in_default-clause-ready : goal.returns-in_default-clause-ready
+returns-in_default-clause-ready g c =
+    let b = c.args.station.now in
+    let t = c.args.task.now in
+    let u = c.obtain.new.task in
+    let served = c.obtain.ensures.served in
+    still_writing b c.args.pairs.now _ _ _ t u served (obtain_grown b.config _ _ Exclusive _ t u served) c.requires.ready
+
+pub returns-clause-ready : goal.returns-clause-ready
+returns-clause-ready g c =
+    let b = c.args.station.now in
+    let pairs = c.args.pairs.now in
+    let t = c.args.task.now in
+    let u = c.obtain.new.task in
+    let v = c.write_volume.new.task in
+    let w = c.write_volume-2.new.task in
+    let x = c.release_latch.new.task in
+    let token = c.in-Granted.token in
+    let asked = c.obtain.ensures.served in
+    let first = c.write_volume.ensures.served in
+    let second = c.write_volume-2.ensures.served in
+    let released = c.release_latch.ensures.served in
+    let by = subst (λ o. IsObtainedBy (Obtain 0 _ Exclusive Waiting) 0 Waiting t o u) c.in-Granted.is c.in-Ok.ensures.causes.1 in
+    let after : IsWriting b pairs u =
+    still_writing b pairs _ _ _ t u asked (obtain_grown b.config _ _ Exclusive _ t u asked) c.requires.ready in
+    let inside = writes b pairs _ _ _ v w second (writes b pairs _ _ _ u v first (enters b pairs _ t u token c.requires.ready after by)) in
+    leaves b pairs _ _ _ _ w x released
+    (release_grown b.config _ _ _ _ w x released (cheap b.config c.requires.ready.careful.config)) inside
+    (both_written _ _ _ _ u v w first second) (index_in pairs c.args.number _ c.requires.number)

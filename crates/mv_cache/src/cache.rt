@@ -1,0 +1,215 @@
+//! The writer and the readers. Clauses cite `specs/Setup.antt` and `specs/Whole.antt`.
+
+ghost use Rattle.std.specs.Prelude.{◌≡◌, ◌<◌, ◌≤◌, ◌+◌, ◌*◌, ◌∷◌, ℕ, [], length, vec_capacity, slice_index_or, IfOk, IfSome, All};
+ghost use Rattle.std.specs.List.{AllByRecursion, Contains};
+ghost use Rattle.mv_board.specs.Faces.{IsFresh};
+ghost use Rattle.mv_machine.specs.Legal.{Legal};
+ghost use Rattle.mv_machine.specs.Limits.{highest_place};
+ghost use Rattle.mv_cache.specs.Setup.{pairs_limit, reads_limit, cache_setup};
+ghost use Rattle.mv_cache.specs.Whole.{IsSharing, IsWriting, IsReading, HasDone, HasRoom, WasRead, IsLonger, first_pair};
+
+use mv_attach::{Work, run_tasks};
+use mv_io::NoMemory;
+use mv_latch::{LatchForm, Mode};
+use mv_latchset::{Obtained, obtain, release_latch};
+use mv_machine::{CheckRefusal, Config, History, ValidConfig};
+use mv_wait::{Station, Task};
+use std::alloc::Global;
+use std::sync::Wait;
+use std::thread::Threads;
+
+/// Two numbers that belong together.
+#[derive(Clone, Copy, Debug, PartialEq, Eq)]
+pub struct Pair {
+    pub left: u32,
+    pub right: u32,
+}
+
+/// The pair that stands before the first is written.
+pub const FIRST: Pair = Pair { left: 0, right: 0 };
+
+/// The writer is caller 0, and the readers are those behind it.
+const WRITER: u32 = 0;
+
+/// How many readers there are.
+const READERS: u32 = 3;
+
+/// The latch, and the volumes that it guards: one has the left number, and one the right.
+const LATCH: u32 = 0;
+
+const LEFT: u32 = 0;
+
+const RIGHT: u32 = 1;
+
+/// What came of it.
+#[derive(Drop)]
+pub struct Shared {
+    /// What each task read, in order; the writer reads nothing.
+    pub read: Vec<Vec<Pair>>,
+    /// All events, as one legal history, with the configuration that it ran with.
+    pub history: History,
+}
+
+// For each pair, and for each read, a task obtains the latch, which is two events, has two on the volumes, and releases it.
+fn configuration(alloc: Global, pairs: u32, reads: u32) -> Result<ValidConfig, NoMemory>
+    requires pairs { pairs ≤ pairs_limit }
+    requires reads { reads ≤ reads_limit }
+    ensures { IfOk result (λ config. config ≡ cache_setup pairs reads) }
+{
+    let config = Config {
+        callers: READERS + 1,
+        elements_per_caller: 1,
+        volumes: 2,
+        latches: 1,
+        quota: 1,
+        posted_quota: 0,
+        budgets: vec![in alloc; 5 * pairs, 5 * reads, 5 * reads, 5 * reads]?,
+        owners: Vec::new(alloc),
+        exits: Vec::new(alloc),
+    };
+    match config.check(alloc) {
+        Ok(config) => Ok(config),
+        Err(CheckRefusal::NoMemory) => Err(NoMemory),
+        Err(_) => unreachable!(),
+    }
+}
+
+// Writes the pair of this number, under the latch alone.
+fn write_pair<R: Wait>(rt: &R, station: &Station, task: &mut Task, pairs: &[Pair], number: usize)
+    requires number { number < length pairs.now }
+    requires ready { IsWriting station.now pairs.now task.old }
+    requires left { 5 ≤ task.old.left }
+    ensures ready { IsWriting station.now pairs.now task.new }
+    ensures left { task.old.left ≤ task.new.left + 5 }
+{
+    let pair = pairs[number];
+    // No other refusal than that somebody purged the requestor, and nobody does.
+    let form = LatchForm::Waiting;
+    let mode = Mode::Exclusive;
+    let Ok(got) = obtain(station, rt, task, LATCH, WRITER as u64, mode, form) else {
+        return;
+    };
+    let Obtained::Granted(token) = got else {
+        return;
+    };
+    station.write_volume(rt, task, LEFT, pair.left);
+    station.write_volume(rt, task, RIGHT, pair.right);
+    let _ = release_latch(station, rt, task, token, false);
+}
+
+// Reads the pair, under the latch shared.
+fn read_pair<R: Wait>(rt: &R, station: &Station, task: &mut Task) -> Option<Pair>
+    requires ready { IsReading station.now task.old }
+    requires left { 5 ≤ task.old.left }
+    ensures read { IfSome result (WasRead task.new.number task.new.log) }
+    ensures ready { IsReading station.now task.new }
+    ensures longer { IsLonger task.old task.new }
+    ensures left { task.old.left ≤ task.new.left + 5 }
+{
+    let reader = u64::from(task.number());
+    let form = LatchForm::Waiting;
+    let mode = Mode::Shared;
+    let Ok(got) = obtain(station, rt, task, LATCH, reader, mode, form) else {
+        return None;
+    };
+    let Obtained::Granted(token) = got else {
+        return None;
+    };
+    let left = station.read_volume(task, LEFT);
+    let right = station.read_volume(task, RIGHT);
+    let _ = release_latch(station, rt, task, token, false);
+    Some(Pair { left, right })
+}
+
+// The writer: each pair in turn.
+fn write_all<R: Wait>(rt: &R, station: &Station, task: &mut Task, pairs: &[Pair])
+    requires ready { IsWriting station.now pairs.now task.old }
+    requires left { 5 * length pairs.now ≤ task.old.left }
+    ensures ready { IsWriting station.now pairs.now task.new }
+{
+    for number in 0..pairs.len() {
+        write_pair(rt, station, task, pairs, number);
+    }
+}
+
+// A reader: so many reads.
+fn read_all<R: Wait>(rt: &R, station: &Station, task: &mut Task, reads: u32, room: &mut Vec<Pair>)
+    requires ready { IsReading station.now task.old }
+    requires left { 5 * reads ≤ task.old.left }
+    requires room { (room.old.items ≡ []) × (reads ≤ vec_capacity room.old) }
+    ensures ready { IsReading station.now task.new }
+    ensures number { task.new.number ≡ task.old.number }
+    ensures read { AllByRecursion (WasRead task.new.number task.new.log) room.new.items }
+{
+    for made in 0..reads {
+        if let Some(pair) = read_pair(rt, station, task) {
+            room.push_reserved(pair);
+        }
+    }
+}
+
+// What the tasks do: the first of them writes these pairs, and the others read.
+#[derive(Drop)]
+struct Sharing<'a> {
+    pairs: &'a [Pair],
+    reads: u32,
+}
+
+impl Work for Sharing<'_> {
+    type Room = Vec<Pair>;
+
+    ghost can_start = { λ s b k room. IsSharing b s.pairs.now s.reads × HasRoom s.reads room };
+
+    ghost has_done = { λ s b k old t new. HasDone s.pairs.now k t new.items };
+
+    fn work<R: Wait>(&self, rt: &R, station: &Station, task: &mut Task, room: &mut Vec<Pair>) {
+        if task.number() == WRITER {
+            write_all(rt, station, task, self.pairs);
+        } else {
+            read_all(rt, station, task, self.reads, room);
+        }
+    }
+}
+
+// An empty list for each task, with room for what it reads.
+fn rooms_for(alloc: Global, reads: u32) -> Result<Vec<Vec<Pair>>, NoMemory>
+    ensures count { IfOk result (λ rooms. length rooms.items ≡ 4) }
+    ensures room { IfOk result (λ rooms. AllByRecursion (HasRoom reads) rooms.items) }
+{
+    let mut rooms = Vec::new(alloc);
+    for made in 0..READERS + 1 {
+        rooms.push(Vec::with_capacity(alloc, reads as usize)?)?;
+    }
+    Ok(rooms)
+}
+
+/// Has one task write these pairs, one after the other, while three others read so often each.
+///
+/// # Errors
+///
+/// `NoMemory` where there is not enough, before the tasks start.
+pub fn share<R: Threads + Wait + Sync>(
+    rt: &R,
+    alloc: Global,
+    pairs: &[Pair],
+    reads: u32,
+) -> Result<Shared, NoMemory>
+    requires pairs { length pairs.now ≤ pairs_limit }
+    requires reads { reads ≤ reads_limit }
+    // No read is torn: what was read was written as a pair, or is the first one.
+    ensures whole { IfOk result (λ shared. All (λ read. All (λ pair. Contains (first_pair ∷ pairs.now) pair) read.items) shared.read.items) }
+    ensures config { IfOk result (λ shared. shared.history.config ≡ cache_setup (length pairs.now) reads) }
+    ensures legal { IfOk result (λ shared. Legal shared.history.config shared.history.coming) }
+    ensures places { IfOk result (λ shared. All (λ e. e.place ≤ highest_place) shared.history.coming) }
+{
+    let config = configuration(alloc, pairs.len() as u32, reads)?;
+    let (station, tasks) = Station::open(alloc, config)?;
+    let rooms = rooms_for(alloc, reads)?;
+    let work = Sharing { pairs, reads };
+    let (tasks, read) = run_tasks(rt, alloc, &station, &work, tasks, rooms)?;
+    let closed = station.close(tasks);
+    Ok(Shared {
+        read,
+        history: closed.history,
+    })
+}

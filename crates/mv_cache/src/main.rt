@@ -1,0 +1,40 @@
+//! A pair of numbers in two volumes that tasks share under one latch: a writer, which holds it alone, and several readers, which
+//! share it. No reader sees the half of one pair and the half of another.
+#![tactic(auto)]
+
+mod cache;
+
+pub use cache::{Pair, Shared, share};
+use mv_machine::replay;
+use std::io::{self, ErrorKind};
+
+// What is written, one after the other.
+const PAIRS: [Pair; 4] = [
+    Pair { left: 3, right: 4 },
+    Pair { left: 5, right: 12 },
+    Pair { left: 8, right: 15 },
+    Pair { left: 7, right: 24 },
+];
+
+// How often each reader reads.
+const READS: u32 = 5;
+
+fn main(rt: HostRuntime) -> io::Result<()> {
+    // Nothing but memory can be wanting.
+    let Ok(Shared { read, history }) = share(&rt, rt.alloc(), &PAIRS, READS) else {
+        return Err(io::Error::from(ErrorKind::OutOfMemory));
+    };
+    // Which pairs a reader saw, the schedule decides: what is printed may not hang on it.
+    for pairs in &read {
+        let whole = pairs
+            .iter()
+            .all(|pair| *pair == cache::FIRST || PAIRS.contains(pair));
+        println!(rt; "{} PAIRS, WHOLE {whole}", pairs.len())?;
+    }
+    let Ok(listed) = history.listed(rt.alloc()) else {
+        return Err(io::Error::from(ErrorKind::OutOfMemory));
+    };
+    let legal = replay(rt.alloc(), &listed.config, &listed.journal).is_ok();
+    println!(rt; "LEGAL {legal}")?;
+    Ok(())
+}
