@@ -10,4 +10,3 @@ pub mod FewRounds
 pub mod Foreseen
 pub mod SafeWalks
 pub mod NoneWrong
-pub mod Told

@@ -10,5 +10,3 @@ pub mod HandingOut
 pub mod PostingEnds
 pub mod CountingAlone
 pub mod Purging
--- what a closed history tells
-pub mod Closing

@@ -2,12 +2,10 @@
 //! of every run.
 #![tactic(auto)]
 
-mod closing;
 mod laws;
 mod numbers;
 mod spool_setup;
 
-pub use closing::{SpoolRun, ends_of, spool_run, volumes_of};
 pub use laws::{
     no_task_goes_wrong, runs_count_alone, runs_hand_out_each_job, runs_keep_the_ends,
     runs_post_each_end, runs_purge_each_job, spool_setups_are_valid, tasks_stay_within_budgets,

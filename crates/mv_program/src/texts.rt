@@ -15,7 +15,7 @@ ghost use Rattle.mv_script.specs.Sound.{IsSound as IsSoundScript};
 ghost use Rattle.mv_program.specs.Texts.{report_of, IsJournalOfRun, IsRunOfScript, deck_limit};
 
 use mv_deck::{Deck, DeckRefusal, load_deck, read_deck};
-use mv_entrytext::write_journal;
+use mv_entrytext::write_history;
 use mv_io::NoMemory;
 use mv_report::{write_report, write_summary};
 use mv_runscript::{run_script, write_answers};
@@ -49,7 +49,7 @@ fn texts_of_deck<X: Threads + Wait + Sync, G: Gate + Sync>(
 {
     let run = run_deck(rt, alloc, deck, initiators, gate)?;
     let report = write_report(alloc, deck, &run.ends, &run.lines, &run.volumes)?;
-    let journal = write_journal(alloc, &run.config, &run.journal)?;
+    let journal = write_history(alloc, run.history)?;
     Ok(Texts { report, journal })
 }
 
@@ -106,7 +106,7 @@ pub(crate) fn texts_of_load<X: Threads + Wait + Sync, G: Gate + Sync>(
     let deck = deck_of_load(alloc, jobs, initiators)?;
     let run = run_deck(rt, alloc, &deck, initiators, gate)?;
     let report = write_summary(alloc, jobs, initiators, &run.ends, &run.volumes)?;
-    let journal = write_journal(alloc, &run.config, &run.journal)?;
+    let journal = write_history(alloc, run.history)?;
     Ok(Texts { report, journal })
 }
 
@@ -121,7 +121,7 @@ fn texts_of_run<X: Threads + Wait + Sync>(
 {
     let run = run_script(rt, alloc, script)?;
     let report = write_answers(alloc, &run)?;
-    let journal = write_journal(alloc, &run.config, &run.journal)?;
+    let journal = write_history(alloc, run.history)?;
     Ok(Texts { report, journal })
 }
 

@@ -11,10 +11,9 @@ ghost use Rattle.mv_script.specs.Sound.{IsSound};
 ghost use Rattle.mv_runscript.specs.Seats.{HaveRooms, script_with};
 
 use crate::seat::{Seat, seat_of, worked};
-use mv_board::Closed;
 use mv_calls::ValidTable;
 use mv_io::NoMemory;
-use mv_machine::{Entry, ValidConfig};
+use mv_machine::{History, ValidConfig};
 use mv_script::{AnswerList, CallList, Script, copy_config};
 use mv_wait::{Station, Task};
 use std::alloc::Global;
@@ -24,9 +23,8 @@ use std::thread::Threads;
 /// What a script came to: the history of its tasks' events, and what each of their calls answered.
 #[derive(Drop)]
 pub struct ScriptRun {
-    pub config: ValidConfig,
-    /// All events, in an order in which they may have happened.
-    pub journal: Vec<Entry>,
+    /// All events, in an order in which they may have happened, with the configuration of the script.
+    pub history: History,
     /// One list for each task, with one answer for each of its calls.
     pub answers: Vec<AnswerList>,
 }
@@ -43,16 +41,17 @@ pub fn run_script<R: Threads + Wait + Sync>(
     script: &Script,
 ) -> Result<ScriptRun, NoMemory>
     requires { IsSound (script_data script.now) }
-    ensures config { IfOk result (λ run. run.config ≡ script.now.config) }
+    ensures config { IfOk result (λ run. run.history.config ≡ script.now.config) }
+    ensures whole { IfOk result (λ run. run.history.past ≡ []) }
     ensures valid { OnOk result (IsValid script.now.config) }
-    ensures run { IfOk result (λ run. IsScriptRun (script_data script.now) (moves_in run.answers.items) run.journal.items) }
-    ensures orderly { IfOk result (λ run. IsOrderly script.now.config run.journal.items) }
+    ensures run { IfOk result (λ run. IsScriptRun (script_data script.now) (moves_in run.answers.items) run.history.coming) }
+    ensures orderly { IfOk result (λ run. IsOrderly script.now.config run.history.coming) }
     ensures answers { IfOk result (λ run. run.answers.items
-        ≡ script_answers (script_data script.now) (moves_in run.answers.items) run.journal.items) }
+        ≡ script_answers (script_data script.now) (moves_in run.answers.items) run.history.coming) }
     // Where the script has a table, its events are handed out once each, in the order of their completion.
-    ensures events { IfOk result (λ run. EventsAreHandedOut (script_data script.now) run.answers.items run.journal.items) }
-    ensures few { IfOk result (λ run. length run.journal.items ≤ events_limit) }
-    ensures places { IfOk result (λ run. All (λ e. e.place ≤ highest_place) run.journal.items) }
+    ensures events { IfOk result (λ run. EventsAreHandedOut (script_data script.now) run.answers.items run.history.coming) }
+    ensures few { IfOk result (λ run. length run.history.coming ≤ events_limit) }
+    ensures places { IfOk result (λ run. All (λ e. e.place ≤ highest_place) run.history.coming) }
 {
     let config = copy_config(alloc, &script.config)?;
     run_tasks(rt, alloc, config, &script.table, &script.tasks)
@@ -67,15 +66,17 @@ fn run_tasks<R: Threads + Wait + Sync>(
     tasks: &[CallList],
 ) -> Result<ScriptRun, NoMemory>
     requires sound { IsSound (script_with config table.now tasks.now) }
-    ensures config { IfOk result (λ run. run.config ≡ config) }
-    ensures run { IfOk result (λ run. IsScriptRun (script_with config table.now tasks.now) (moves_in run.answers.items) run.journal.items) }
-    ensures orderly { IfOk result (λ run. IsOrderly config run.journal.items) }
+    ensures config { IfOk result (λ run. run.history.config ≡ config) }
+    ensures whole { IfOk result (λ run. run.history.past ≡ []) }
+    ensures run { IfOk result (λ run. IsScriptRun (script_with config table.now tasks.now) (moves_in run.answers.items)
+        run.history.coming) }
+    ensures orderly { IfOk result (λ run. IsOrderly config run.history.coming) }
     ensures answers { IfOk result (λ run. run.answers.items
-        ≡ script_answers (script_with config table.now tasks.now) (moves_in run.answers.items) run.journal.items) }
+        ≡ script_answers (script_with config table.now tasks.now) (moves_in run.answers.items) run.history.coming) }
     ensures events { IfOk result (λ run. EventsAreHandedOut (script_with config table.now tasks.now)
-        run.answers.items run.journal.items) }
-    ensures few { IfOk result (λ run. length run.journal.items ≤ events_limit) }
-    ensures places { IfOk result (λ run. All (λ e. e.place ≤ highest_place) run.journal.items) }
+        run.answers.items run.history.coming) }
+    ensures few { IfOk result (λ run. length run.history.coming ≤ events_limit) }
+    ensures places { IfOk result (λ run. All (λ e. e.place ≤ highest_place) run.history.coming) }
 {
     let (station, new) = Station::open(alloc, config)?;
     let ended = Vec::with_capacity(alloc, tasks.len())?;
@@ -84,14 +85,8 @@ fn run_tasks<R: Threads + Wait + Sync>(
     let seats = worked(rt, &station, table, tasks, seats);
     let (ended, answers) = parted(seats, ended, lists);
     let closed = station.close(ended);
-    let Closed {
-        config,
-        journal,
-        ..
-    } = closed;
     Ok(ScriptRun {
-        config,
-        journal,
+        history: closed.history,
         answers,
     })
 }

@@ -37,8 +37,9 @@ fn assert_answers<R: Abort + Threads + Wait + Sync>(
     let run = run_script(rt, alloc, &script)?;
     let written = write_answers(alloc, &run)?;
     assert_eq!(rt; &written[..], answers);
-    assert_eq!(rt; run.journal.len(), events);
-    replay(alloc, &run.config, &run.journal)?;
+    let listed = run.history.listed(alloc)?;
+    assert_eq!(rt; listed.journal.len(), events);
+    replay(alloc, &listed.config, &listed.journal)?;
     Ok(())
 }
 
@@ -237,7 +238,8 @@ fn assert_pair<R: Abort + Threads + Wait + Sync>(rt: &R, alloc: Global) -> Resul
     let written = write_answers(alloc, &run)?;
     assert!(rt; written.starts_with(b"0 1 GRANTED\n0 2 "));
     assert!(rt; written.ends_with(b"1 3 GRANTED\n"));
-    replay(alloc, &run.config, &run.journal)?;
+    let listed = run.history.listed(alloc)?;
+    replay(alloc, &listed.config, &listed.journal)?;
     Ok(())
 }
 

@@ -1,26 +1,25 @@
 -- What each thread has, and what its work comes to.
-use Rattle.std.specs.Prelude.{◌≡◌, ℕ, ◌<◌, false, List, length, slice_index_or}
-use Rattle.std.specs.List.{AllByRecursion}
-use Rattle.mv_board.specs.Faces.{BoardFace, IsFresh}
+use Rattle.std.specs.Prelude.{ℕ, ◌<◌, List, length, slice_index_or}
+use Rattle.mv_board.specs.Faces.{BoardFace, IsFresh, IsSame}
 use Rattle.mv_deck.specs.Deck.{JobData}
-use Rattle.mv_plan.specs.SpoolTasks.{task}
+use Rattle.mv_plan.specs.SpoolSetup.{spool_setup}
 use Rattle.mv_spool.specs.declared.seat.Seat.{Seat}
-use Rattle.mv_spool.specs.Ran.{RanOut}
+use Rattle.mv_work.specs.Works.{HasWorked, IsNew}
 
--- a seat with room to note each of n jobs, of which none was given
-pub record IsSeat (n : ℕ) (s : Seat) : Type 0 where
-  pub none : AllByRecursion (λ b. b ≡ false) s.ran.items
-  pub room : length s.ran.items ≡ n
+-- the work is that of the seat's task, and was not begun
+abbrev pub IsSeat : List JobData → ℕ → Seat → Type 0
+IsSeat deck i s = IsNew deck i s.task.number s.work
 
--- whose task is new, and is that of number k
-pub record IsReady (b : BoardFace) (n k : ℕ) (s : Seat) : Type 0 where
+-- and the task is new, and of number k
+pub record IsReady (b : BoardFace) (deck : List JobData) (i k : ℕ) (s : Seat) : Type 0 where
   pub fresh : IsFresh b k s.task
-  pub seat : IsSeat n s
+  pub seat : IsSeat deck i s
 
 -- each seat is, in the order of the numbers
-abbrev pub AreReady : BoardFace → ℕ → List Seat → Type 0
-AreReady b n seats = (k : ℕ) (d : Seat) → k < length seats → IsReady b n k (slice_index_or seats k d)
+abbrev pub AreReady : BoardFace → List JobData → ℕ → List Seat → Type 0
+AreReady b deck i seats = (k : ℕ) (d : Seat) → k < length seats → IsReady b deck i k (slice_index_or seats k d)
 
--- the seat's task has done all that the task of number k does
-abbrev pub HasWorked : List JobData → ℕ → ℕ → Seat → Seat → Type 0
-HasWorked deck initiators k old new = RanOut (task deck initiators k) old.task new.task
+-- the seat's task, which was the old seat's, has made all its events, and the work has what it brings back
+pub record IsWorked (deck : List JobData) (i : ℕ) (old new : Seat) : Type 0 where
+  pub same : IsSame old.task new.task
+  pub worked : HasWorked (spool_setup deck i) deck i new.work old.task new.task

@@ -1,29 +1,23 @@
 //! What each thread has: a task, and the room that its work needs. Clauses cite `specs/Seats.antt`.
 
 ghost use Rattle.std.specs.Prelude.{◌≡◌, ◌<◌, ◌≤◌, ◌+◌, ℕ, length, slice_index_or};
-ghost use Rattle.mv_deck.specs.Sound.{IsSound};
-ghost use Rattle.mv_plan.specs.SpoolSetup.{jobs_limit, spool_setup};
-ghost use Rattle.mv_deck.specs.Weight.{most_initiators};
-ghost use Rattle.mv_spool.specs.Parts.{jobs_of};
-ghost use Rattle.mv_spool.specs.Seats.{IsReady, AreReady, HasWorked};
+ghost use Rattle.mv_work.specs.Parts.{jobs_of};
+ghost use Rattle.mv_work.specs.Waiting.{IsSpool};
+ghost use Rattle.mv_spool.specs.Seats.{AreReady, IsReady, IsWorked};
 
-use crate::initiator::initiate;
-use crate::reader::read;
-use crate::scheduler::schedule;
-use crate::writer::write;
+use crate::meeting::meet;
 use mv_deck::Job;
-use mv_plan::{READER, SCHEDULER, writer};
 use mv_task::Gate;
 use mv_wait::{Station, Task};
+use mv_work::Work;
 use std::sync::Wait;
 use std::thread::{self, Threads};
 
-/// A task, with the room that its work needs.
+/// A task, with its work.
 #[derive(Drop)]
 pub(crate) struct Seat {
     pub task: Task,
-    /// For an initiator: which jobs it was given.
-    pub ran: Vec<bool>,
+    pub work: Work,
 }
 
 /// Does what the task of this number is to do.
@@ -35,23 +29,24 @@ fn work<R: Wait, G: Gate>(
     gate: &G,
     seat: &mut Seat,
 )
-    requires deck { (length deck.now ≤ jobs_limit) × (initiators ≤ most_initiators) }
-    requires sound { IsSound (jobs_of deck.now) initiators }
-    requires station { station.now.config ≡ spool_setup (jobs_of deck.now) initiators }
+    requires spool { IsSpool station.now deck.now initiators }
     requires number { seat.old.task.number < initiators + 3 }
-    requires ready { IsReady station.now (length deck.now) seat.old.task.number seat.old }
-    ensures worked { HasWorked (jobs_of deck.now) initiators seat.old.task.number seat.old seat.new }
+    requires ready { IsReady station.now (jobs_of deck.now) initiators seat.old.task.number seat.old }
+    ensures worked { IsWorked (jobs_of deck.now) initiators seat.old seat.new }
 {
-    let task = &mut seat.task;
-    let number = task.number();
-    if number == READER {
-        read(rt, station, task, deck, initiators, gate);
-    } else if number == SCHEDULER {
-        schedule(rt, station, task, deck, initiators, gate);
-    } else if number == writer(initiators) {
-        write(rt, station, task, deck, initiators, gate);
-    } else {
-        initiate(rt, station, task, deck, initiators, gate, &mut seat.ran);
+    let mut needed = seat
+        .work
+        .begin(rt, station, &mut seat.task, deck, initiators, gate);
+    for _ in rt.forever() {
+        let Some(need) = needed else {
+            return;
+        };
+        let Ok(got) = meet(rt, station, &mut seat.task, need) else {
+            return;
+        };
+        needed = seat
+            .work
+            .go_on(rt, station, &mut seat.task, deck, initiators, gate, got);
     }
 }
 
@@ -65,13 +60,11 @@ fn work_one<R: Wait, G: Gate>(
     number: usize,
     one: &mut [Seat],
 )
-    requires deck { (length deck.now ≤ jobs_limit) × (initiators ≤ most_initiators) }
-    requires sound { IsSound (jobs_of deck.now) initiators }
-    requires station { station.now.config ≡ spool_setup (jobs_of deck.now) initiators }
+    requires spool { IsSpool station.now deck.now initiators }
     requires number { number < initiators + 3 }
     requires one { length one.old ≡ 1 }
-    requires ready { (d : _) → IsReady station.now (length deck.now) number (slice_index_or one.old 0 d) }
-    ensures worked { (d : _) → HasWorked (jobs_of deck.now) initiators number (slice_index_or one.old 0 d) (slice_index_or one.new 0 d) }
+    requires ready { (d : _) → IsReady station.now (jobs_of deck.now) initiators number (slice_index_or one.old 0 d) }
+    ensures worked { (d : _) → IsWorked (jobs_of deck.now) initiators (slice_index_or one.old 0 d) (slice_index_or one.new 0 d) }
 {
     work(rt, station, deck, initiators, gate, &mut one[0]);
 }
@@ -85,21 +78,18 @@ fn work_all<R: Threads + Wait + Sync, G: Gate + Sync>(
     gate: &G,
     seats: &mut [Seat],
 )
-    requires deck { (length deck.now ≤ jobs_limit) × (initiators ≤ most_initiators) }
-    requires sound { IsSound (jobs_of deck.now) initiators }
-    requires station { station.now.config ≡ spool_setup (jobs_of deck.now) initiators }
+    requires spool { IsSpool station.now deck.now initiators }
     requires count { length seats.old ≡ initiators + 3 }
-    requires ready { AreReady station.now (length deck.now) seats.old }
+    requires ready { AreReady station.now (jobs_of deck.now) initiators seats.old }
     ensures count { length seats.new ≡ length seats.old }
-    ensures worked { (k : ℕ) (d : _) → k < length seats.old → HasWorked (jobs_of deck.now) initiators k
+    ensures worked { (k : ℕ) (d : _) → k < length seats.old → IsWorked (jobs_of deck.now) initiators
         (slice_index_or seats.old k d) (slice_index_or seats.new k d) }
 {
     let job = move |number: usize, one: &mut [Seat]|
-        requires { (length deck.now ≤ jobs_limit) × (initiators ≤ most_initiators) × IsSound (jobs_of deck.now) initiators
-            × (station.now.config ≡ spool_setup (jobs_of deck.now) initiators)
+        requires { IsSpool station.now deck.now initiators
             × (number < initiators + 3) × (length one.now ≡ 1)
-            × ((d : _) → IsReady station.now (length deck.now) number (slice_index_or one.now 0 d)) }
-        ensures { (d : _) → HasWorked (jobs_of deck.entry.now) initiators number
+            × ((d : _) → IsReady station.now (jobs_of deck.now) initiators number (slice_index_or one.now 0 d)) }
+        ensures { (d : _) → IsWorked (jobs_of deck.entry.now) initiators
             (slice_index_or one.entry.now 0 d) (slice_index_or one.exit.now 0 d) }
     { work_one(rt, station, deck, initiators, gate, number, one) };
     thread::for_each_chunk_mut(rt, seats, 1, &job);
@@ -114,13 +104,11 @@ pub(crate) fn worked<R: Threads + Wait + Sync, G: Gate + Sync>(
     gate: &G,
     mut seats: Vec<Seat>,
 ) -> Vec<Seat>
-    requires deck { (length deck.now ≤ jobs_limit) × (initiators ≤ most_initiators) }
-    requires sound { IsSound (jobs_of deck.now) initiators }
-    requires station { station.now.config ≡ spool_setup (jobs_of deck.now) initiators }
+    requires spool { IsSpool station.now deck.now initiators }
     requires count { length seats.items ≡ initiators + 3 }
-    requires ready { AreReady station.now (length deck.now) seats.items }
+    requires ready { AreReady station.now (jobs_of deck.now) initiators seats.items }
     ensures count { length result.items ≡ length seats.items }
-    ensures worked { (k : ℕ) (d : _) → k < length seats.items → HasWorked (jobs_of deck.now) initiators k
+    ensures worked { (k : ℕ) (d : _) → k < length seats.items → IsWorked (jobs_of deck.now) initiators
         (slice_index_or seats.items k d) (slice_index_or result.items k d) }
 {
     work_all(rt, station, deck, initiators, gate, &mut seats);

@@ -2,64 +2,95 @@
 
 ghost use Rattle.std.specs.Prelude.{◌≡◌, ◌<◌, ◌≤◌, ℕ, [], All, length, map, vec_capacity, IfOk};
 ghost use Rattle.std.specs.List.{AllByRecursion};
+ghost use Rattle.mv_board.specs.Faces.{AreHeld};
+ghost use Rattle.mv_calls.specs.Program.{Done};
+ghost use Rattle.mv_calls.specs.Runs.{left_in};
 ghost use Rattle.mv_deck.specs.Deck.{deck_data};
-ghost use Rattle.mv_deck.specs.Operand.{volume_count};
 ghost use Rattle.mv_deck.specs.Sound.{IsSound};
 ghost use Rattle.mv_deck.specs.Weight.{most_initiators};
 ghost use Rattle.mv_machine.specs.Legal.{after};
 ghost use Rattle.mv_machine.specs.Limits.{events_limit, highest_place};
-ghost use Rattle.mv_machine.specs.State.{system_of, Exists};
 ghost use Rattle.mv_plan.specs.SpoolRun.{IsRun};
-ghost use Rattle.mv_plan.specs.SpoolSetup.{jobs_limit, spool_setup};
+ghost use Rattle.mv_plan.specs.SpoolSetup.{jobs_limit, spool_setup, writer};
+ghost use Rattle.mv_plan.specs.SpoolTasks.{task_program};
 ghost use Rattle.mv_report.specs.Outcome.{ends, lines, totals};
-ghost use Rattle.mv_spool.specs.Parts.{jobs_of};
+ghost use Rattle.mv_work.specs.Parts.{jobs_of};
+ghost use Rattle.mv_work.specs.Recording.{AreBrought, all_records, lines_recorded};
 ghost use Rattle.mv_spool.specs.Seats.{IsSeat};
 
 use crate::seat::{Seat, worked};
 use mv_board::Closed;
 use mv_deck::{Deck, Job};
 use mv_io::NoMemory;
-use mv_machine::{Object, ValidConfig};
-use mv_plan::{SpoolRun, spool_config, spool_run};
+use mv_machine::ValidConfig;
+use mv_plan::spool_config;
 use mv_task::Gate;
 use mv_wait::{Station, Task};
+use mv_work::{Brought, SpoolRun, Work, brought_by, spool_run};
 use std::alloc::Global;
 use std::sync::Wait;
 use std::thread::Threads;
 
-// A task with the room that its work needs.
-fn seat_of(alloc: Global, task: Task, jobs: usize) -> Result<Seat, NoMemory>
-    ensures { IfOk result (λ seat. IsSeat jobs seat × (seat.task ≡ task)) }
+// A task, with its work.
+fn seat_of(alloc: Global, task: Task, deck: &[Job], initiators: u32) -> Result<Seat, NoMemory>
+    requires { initiators ≤ most_initiators }
+    ensures { IfOk result (λ seat. IsSeat (jobs_of deck.now) initiators seat × (seat.task ≡ task)) }
 {
+    let number = task.number();
     Ok(Seat {
         task,
-        ran: vec![in alloc; false; jobs]?,
+        work: Work::new(alloc, deck, initiators, number)?,
     })
 }
 
-// The tasks, each with the room that its work needs.
-fn seats_of(alloc: Global, tasks: Vec<Task>, jobs: usize) -> Result<Vec<Seat>, NoMemory>
-    ensures seats { IfOk result (λ seats. AllByRecursion (IsSeat jobs) seats.items) }
+// The tasks, each with its work.
+fn seats_of(
+    alloc: Global,
+    tasks: Vec<Task>,
+    deck: &[Job],
+    initiators: u32,
+) -> Result<Vec<Seat>, NoMemory>
+    requires { initiators ≤ most_initiators }
+    ensures seats { IfOk result (λ seats. AllByRecursion (IsSeat (jobs_of deck.now) initiators) seats.items) }
     ensures tasks { IfOk result (λ seats. map (λ seat. seat.task) seats.items ≡ tasks.items) }
 {
     let mut seats = Vec::with_capacity(alloc, tasks.len())?;
     for task in tasks {
-        seats.push_reserved(seat_of(alloc, task, jobs)?);
+        seats.push_reserved(seat_of(alloc, task, deck, initiators)?);
     }
     Ok(seats)
 }
 
-// The tasks without their seats.
-fn tasks_of(seats: Vec<Seat>, room: Vec<Task>) -> Vec<Task>
-    requires { (room.items ≡ []) × (length seats.items ≤ vec_capacity room) }
-    ensures { result.items ≡ map (λ seat. seat.task) seats.items }
+// Room for what leaves the seats, once the tasks have worked.
+#[derive(Drop)]
+struct Room {
+    tasks: Vec<Task>,
+    works: Vec<Work>,
+}
+
+// The tasks and their works, each by itself.
+fn parted(seats: Vec<Seat>, room: Room) -> (Vec<Task>, Vec<Work>)
+    requires tasks { (room.tasks.items ≡ []) × (length seats.items ≤ vec_capacity room.tasks) }
+    requires works { (room.works.items ≡ []) × (length seats.items ≤ vec_capacity room.works) }
+    ensures tasks { result.0.items ≡ map (λ seat. seat.task) seats.items }
+    ensures works { result.1.items ≡ map (λ seat. seat.work) seats.items }
 {
-    let mut tasks = room;
+    let Room { tasks, works } = room;
+    let mut tasks = tasks;
+    let mut works = works;
     for seat in seats {
-        let Seat { task, .. } = seat;
+        let Seat { task, work } = seat;
         tasks.push_reserved(task);
+        works.push_reserved(work);
     }
-    tasks
+    (tasks, works)
+}
+
+// What a closed run left.
+#[derive(Drop)]
+struct Left {
+    closed: Closed,
+    brought: Brought,
 }
 
 // Opens a station of this configuration, has its tasks do their work, and closes it.
@@ -70,24 +101,35 @@ fn run_tasks<R: Threads + Wait + Sync, G: Gate + Sync>(
     deck: &[Job],
     initiators: u32,
     gate: &G,
-) -> Result<Closed, NoMemory>
+) -> Result<Left, NoMemory>
     requires some { 1 ≤ initiators }
     requires few { (initiators ≤ most_initiators) × (length deck.now ≤ jobs_limit) }
     requires sound { IsSound (jobs_of deck.now) initiators }
     requires config { config ≡ spool_setup (jobs_of deck.now) initiators }
-    ensures config { IfOk result (λ closed. closed.config ≡ config) }
-    ensures run { IfOk result (λ closed. IsRun (jobs_of deck.now) initiators closed.journal.items) }
-    ensures few { IfOk result (λ closed. length closed.journal.items ≤ events_limit) }
-    ensures state { IfOk result (λ closed. system_of closed.state
-        ≡ after (spool_setup (jobs_of deck.now) initiators) closed.journal.items) }
-    ensures volumes { IfOk result (λ closed. (v : ℕ) → v < volume_count → Exists closed.state (Object.Volume v)) }
+    ensures config { IfOk result (λ left. left.closed.history.config ≡ config) }
+    ensures whole { IfOk result (λ left. left.closed.history.past ≡ []) }
+    ensures run { IfOk result (λ left. IsRun (jobs_of deck.now) initiators left.closed.history.coming) }
+    ensures few { IfOk result (λ left. length left.closed.history.coming ≤ events_limit) }
+    ensures volumes { IfOk result (λ left. AreHeld (spool_setup (jobs_of deck.now) initiators)
+        (after (spool_setup (jobs_of deck.now) initiators) left.closed.history.coming) left.closed.volumes) }
+    ensures records { IfOk result (λ left. AreBrought (jobs_of deck.now) initiators left.closed.history.coming
+        (map (λ r. r.jobs) left.brought.records.items)) }
+    ensures ends { IfOk result (λ left. left_in (spool_setup (jobs_of deck.now) initiators) (task_program (jobs_of deck.now) initiators)
+        (writer initiators) left.closed.history.coming ≡ Done left.brought.ends.items) }
 {
     let (station, tasks) = Station::open(alloc, config)?;
-    let room = Vec::with_capacity(alloc, tasks.len())?;
-    let seats = seats_of(alloc, tasks, deck.len())?;
+    let count = tasks.len();
+    let room = Room {
+        tasks: Vec::with_capacity(alloc, count)?,
+        works: Vec::with_capacity(alloc, count)?,
+    };
+    let records = Vec::with_capacity(alloc, count)?;
+    let seats = seats_of(alloc, tasks, deck, initiators)?;
     let seats = worked(rt, &station, deck, initiators, gate, seats);
-    let closed = station.close(tasks_of(seats, room));
-    Ok(closed)
+    let (tasks, works) = parted(seats, room);
+    let closed = station.close(tasks);
+    let brought = brought_by(works, records);
+    Ok(Left { closed, brought })
 }
 
 /// Runs a deck by a reader, a scheduler, so many initiators and a writer, each on a thread of its own, and answers what it came
@@ -118,20 +160,22 @@ pub fn run_deck<R: Threads + Wait + Sync, G: Gate + Sync>(
     requires some { 1 ≤ initiators }
     requires few { initiators ≤ most_initiators }
     requires sound { IsSound (deck_data deck.now) initiators }
-    ensures config { IfOk result (λ run. run.config ≡ spool_setup (deck_data deck.now) initiators) }
-    ensures run { IfOk result (λ run. IsRun (deck_data deck.now) initiators run.journal.items) }
-    ensures few { IfOk result (λ run. length run.journal.items ≤ events_limit) }
-    ensures places { IfOk result (λ run. All (λ e. e.place ≤ highest_place) run.journal.items) }
+    ensures config { IfOk result (λ run. run.history.config ≡ spool_setup (deck_data deck.now) initiators) }
+    ensures whole { IfOk result (λ run. run.history.past ≡ []) }
+    ensures run { IfOk result (λ run. IsRun (deck_data deck.now) initiators run.history.coming) }
+    ensures few { IfOk result (λ run. length run.history.coming ≤ events_limit) }
+    ensures places { IfOk result (λ run. All (λ e. e.place ≤ highest_place) run.history.coming) }
+    ensures records { IfOk result (λ run. AreBrought (deck_data deck.now) initiators run.history.coming
+        (map (λ r. r.jobs) run.records.items)) }
+    ensures found { IfOk result (λ run. left_in (spool_setup (deck_data deck.now) initiators) (task_program (deck_data deck.now) initiators)
+        (writer initiators) run.history.coming ≡ Done run.ends.items) }
+    ensures noted { IfOk result (λ run. run.lines.items
+        ≡ lines_recorded (deck_data deck.now) (all_records (map (λ r. r.jobs) run.records.items))) }
     ensures ends { IfOk result (λ run. run.ends.items ≡ ends (deck_data deck.now)) }
     ensures lines { IfOk result (λ run. run.lines.items ≡ lines (deck_data deck.now)) }
     ensures volumes { IfOk result (λ run. run.volumes.items ≡ totals (deck_data deck.now)) }
 {
     let config = spool_config(alloc, deck, initiators)?;
-    let closed = run_tasks(rt, alloc, config, &deck.jobs, initiators, gate)?;
-    let Closed {
-        config,
-        journal,
-        state,
-    } = closed;
-    spool_run(alloc, deck, initiators, config, journal, &state)
+    let left = run_tasks(rt, alloc, config, &deck.jobs, initiators, gate)?;
+    spool_run(alloc, deck, initiators, left.closed, left.brought)
 }

@@ -3,13 +3,9 @@ use Rattle.std.proofs.Common.{◌≡◌, ℕ, ◌≤◌, List, length, ap, sym, 
 use Rattle.std.specs.Prelude.{All}
 use Rattle.std.proofs.lemmas.List.{length-map}
 use Rattle.mv_deck.specs.Deck.{deck_data, job_data}
-use Rattle.mv_machine.specs.declared.entry.Entry.{Entry}
 use Rattle.mv_machine.specs.Legal.{Legal}
-use Rattle.mv_machine.specs.Limits.{highest_place}
 use Rattle.mv_machine.specs.Setup.{Setup}
-use Rattle.mv_entrytext.specs.EntryText.{IsTyped}
 use Rattle.mv_entrytext.specs.Journal.{journal_text}
-use Rattle.mv_plan.specs.SpoolSetup.{spool_setup}
 use Rattle.mv_report.specs.EndCode.{IsEndCode}
 use Rattle.mv_report.specs.Outcome.{ends, lines, totals}
 use Rattle.mv_report.specs.Report.{report_text}
@@ -46,16 +42,13 @@ write_report-requires-clause-end_codes g c =
     (sound_ends (deck_data c.args.deck.now) c.args.initiators c.requires.sound)
 
 -- the history is legal, and short enough for its text
-pub write_journal-requires : goal.write_journal-requires
-write_journal-requires g c =
+pub write_history-requires : goal.write_history-requires
+write_history-requires g c =
     let run = c.in_ok-run.ensures in
-    let entries = c.deref-4.ensures.value in
     record {
-      legal = subst (λ (x : Setup). Legal x c.deref-4.result.now) (sym run.config)
-          (subst (λ (xs : List Entry). Legal (spool_setup (deck_data c.args.deck.now) c.args.initiators) xs) (sym entries)
-          run.run.follow.legal);
-      few = omega (arith, ap length entries, run.few);
-      places = subst (λ (xs : List Entry). All (λ e. e.place ≤ highest_place) xs) (sym entries) run.places;
+      whole = run.whole;
+      legal = subst (λ (x : Setup). Legal x c.in_ok-run.run'.history.coming) (sym run.config) run.run.follow.legal;
+      few = omega (arith, run.few);
     }
 
 pub returns-clause-report : goal.returns-clause-report
@@ -73,11 +66,7 @@ pub returns-clause-journal : goal.returns-clause-journal
 returns-clause-journal g c =
     let deck = deck_data c.args.deck.now in
     let run = c.in_ok-run.ensures in
-    let es = c.in_ok-run.run'.journal.items in
-    let entries = c.deref-4.ensures.value in
+    let es = c.in_ok-run.run'.history.coming in
     journal_of_run deck c.args.initiators es c.in_ok-journal.journal.items c.requires.some c.requires.few c.requires.sound run.run
-    (omega (arith, run.few)) run.places
-    (subst (λ (xs : List Entry). All IsTyped xs) entries c.in_ok-journal.ensures.typed)
-    (c.in_ok-journal.ensures.text
-    ∙ ap (λ (xs : List Entry). journal_text c.in_ok-run.run'.config xs) entries
-    ∙ ap (λ (x : Setup). journal_text x es) run.config)
+    (omega (arith, run.few)) run.places c.in_ok-journal.ensures.typed
+    (c.in_ok-journal.ensures.text ∙ ap (λ (x : Setup). journal_text x es) run.config)

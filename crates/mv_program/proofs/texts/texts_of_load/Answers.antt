@@ -7,13 +7,9 @@ use Rattle.mv_deck.specs.Sound.{IsSound}
 use Rattle.mv_deck.proofs.LoadJobs.{count_of_jobs}
 use Rattle.mv_deck.proofs.Loads.{no_fault, stated_jobs}
 use Rattle.mv_deck.proofs.Sounds.{sound}
-use Rattle.mv_machine.specs.declared.entry.Entry.{Entry}
 use Rattle.mv_machine.specs.Legal.{Legal}
-use Rattle.mv_machine.specs.Limits.{highest_place}
 use Rattle.mv_machine.specs.Setup.{Setup}
-use Rattle.mv_entrytext.specs.EntryText.{IsTyped}
 use Rattle.mv_entrytext.specs.Journal.{journal_text}
-use Rattle.mv_plan.specs.SpoolSetup.{spool_setup}
 use Rattle.mv_report.specs.EndCode.{IsEndCode}
 use Rattle.mv_report.specs.Outcome.{ends, totals}
 use Rattle.mv_report.specs.Summary.{summary_of, summary_text}
@@ -54,16 +50,13 @@ write_summary-requires-clause-end_codes g c =
     (no_fault c.args.jobs c.args.initiators c.requires.jobs.0 c.requires.jobs.1 c.requires.initiators.1))))
 
 -- the history is legal, and short enough for its text
-pub write_journal-requires : goal.write_journal-requires
-write_journal-requires g c =
+pub write_history-requires : goal.write_history-requires
+write_history-requires g c =
     let run = c.in_ok-run.ensures in
-    let entries = c.deref-3.ensures.value in
     record {
-      legal = subst (λ (x : Setup). Legal x c.deref-3.result.now) (sym run.config)
-          (subst (λ (xs : List Entry). Legal (spool_setup (deck_data c.in_ok-deck.deck) c.args.initiators) xs) (sym entries)
-          run.run.follow.legal);
-      few = omega (arith, ap length entries, run.few);
-      places = subst (λ (xs : List Entry). All (λ e. e.place ≤ highest_place) xs) (sym entries) run.places;
+      whole = run.whole;
+      legal = subst (λ (x : Setup). Legal x c.in_ok-run.run'.history.coming) (sym run.config) run.run.follow.legal;
+      few = omega (arith, run.few);
     }
 
 pub returns-clause-report : goal.returns-clause-report
@@ -80,16 +73,12 @@ pub returns-clause-run : goal.returns-clause-run
 returns-clause-run g c =
     let deck = deck_data c.in_ok-deck.deck in
     let run = c.in_ok-run.ensures in
-    let es = c.in_ok-run.run'.journal.items in
-    let entries = c.deref-3.ensures.value in
+    let es = c.in_ok-run.run'.history.coming in
     let is_sound : IsSound deck c.args.initiators =
     subst (λ (d : List JobData). IsSound d c.args.initiators) (sym c.in_ok-deck.ensures.deck)
     (sound (load_text c.args.jobs) c.args.initiators
     (no_fault c.args.jobs c.args.initiators c.requires.jobs.0 c.requires.jobs.1 c.requires.initiators.1)) in
     subst (λ (d : List JobData). IsJournalOfRun d c.args.initiators c.in_ok-journal.journal.items) c.in_ok-deck.ensures.deck
     (journal_of_run deck c.args.initiators es c.in_ok-journal.journal.items c.requires.initiators.0 c.requires.initiators.1 is_sound run.run
-    (omega (arith, run.few)) run.places
-    (subst (λ (xs : List Entry). All IsTyped xs) entries c.in_ok-journal.ensures.typed)
-    (c.in_ok-journal.ensures.text
-    ∙ ap (λ (xs : List Entry). journal_text c.in_ok-run.run'.config xs) entries
-    ∙ ap (λ (x : Setup). journal_text x es) run.config))
+    (omega (arith, run.few)) run.places c.in_ok-journal.ensures.typed
+    (c.in_ok-journal.ensures.text ∙ ap (λ (x : Setup). journal_text x es) run.config))

@@ -33,13 +33,13 @@ close-closed-requires-clause-order g c =
 -- the history that they made is a run, whose answers are theirs
 made : (g : _) (c : After-close-closed g) → AreReady c.in_ok-station.station c.args.tasks.now c.in_ok-seats.seats.items
     → IsRunOf (script_with c.args.config c.args.table.now c.args.tasks.now) c.parted-ended.result.1.items
-    c.close-closed.result.journal.items
+    c.close-closed.result.history.coming
 made g c ready =
     let b = c.in_ok-station.station in
     let calls = c.args.tasks.now in
     let old = c.in_ok-seats.seats.items in
     let new = c.worked-seats.result.items in
-    let es = c.close-closed.result.journal.items in
+    let es = c.close-closed.result.history.coming in
     let config = c.in_ok-station.ensures.config in
     let size : length old ≡ length calls = seat_count c.in_ok-station.new.items old c.in_ok-seats.ensures.tasks
     ∙ c.in_ok-station.ensures.count ∙ task_count c.args.config c.args.table.now calls c.requires.sound in
@@ -61,15 +61,15 @@ pub returns-clause-events : goal.returns-clause-events
 returns-clause-events g c =
     let m = made g (goal.at.returns-clause-events g c).After-close-closed (ready g (goal.at.returns-clause-events g c).In_ok-seats) in
     let script = script_with c.args.config c.args.table.now c.args.tasks.now in
-    let es = c.close-closed.result.journal.items in
+    let es = c.close-closed.result.history.coming in
     subst (λ lists. EventsAreHandedOut script lists es) (sym m.answers)
     (handed_out script (moves_in c.parted-ended.result.1.items) es c.requires.sound m.run)
 
 pub returns-clause-orderly : goal.returns-clause-orderly
 returns-clause-orderly g c =
-    let es = c.close-closed.result.journal.items in
+    let es = c.close-closed.result.history.coming in
     history_is_orderly c.args.config es (subst (λ (s : Setup). Legal s es) c.in_ok-station.ensures.config c.close-closed.ensures.legal)
 
 pub returns-clause-places : goal.returns-clause-places
 returns-clause-places g c =
-    entries_fit c.in_ok-station.station.config c.close-closed.result.journal.items c.close-closed.ensures.legal c.close-closed.ensures.few
+    entries_fit c.in_ok-station.station.config c.close-closed.result.history.coming c.close-closed.ensures.legal c.close-closed.ensures.few

@@ -1,6 +1,6 @@
 use Rattle.std.proofs.Common.{◌≡◌, ◌<◌, length, get_or, sym, ap, ◌∙◌, subst}
-use Rattle.mv_spool.specs.Parts.{jobs_of}
-use Rattle.mv_spool.specs.Seats.{HasWorked}
+use Rattle.mv_work.specs.Parts.{jobs_of}
+use Rattle.mv_spool.specs.Seats.{IsWorked}
 use Rattle.mv_spool.proofs.seat.worked.Goals as goal
 use Rattle.mv_wait.proofs.Parts.{given_back}
 
@@ -12,7 +12,7 @@ returns-clause-worked g c k d lt =
     let new = c.work_all.new.seats in
     let is = c.deref_mut.ensures.value in
     let count : length new ≡ length old = c.work_all.ensures.count ∙ ap length is in
-    let made = subst (λ xs. HasWorked deck i k (get_or xs k d) (get_or new k d)) is
+    let made = subst (λ xs. IsWorked deck i (get_or xs k d) (get_or new k d)) is
     (c.work_all.ensures.worked k d (subst (λ xs. k < length xs) (sym is) lt)) in
-    subst (λ xs. HasWorked deck i k (get_or old k d) (get_or xs k d))
+    subst (λ xs. IsWorked deck i (get_or old k d) (get_or xs k d))
     (sym (given_back c.args.seats.len new old count c.args.seats.ok.0)) made

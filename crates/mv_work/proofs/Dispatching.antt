@@ -1,0 +1,191 @@
+-- How the scheduler hands out the jobs, wait by wait.
+use Rattle.std.proofs.Common.{◌≡◌, ℕ, ◌+◌, ◌*◌, ◌-◌, ◌<◌, ◌≤◌, ◌==◌, zero, suc, Bool, true, false, List, [], ◌∷◌, length, map, drop, take, Option, Ok, Err, refl, sym, ap}
+use Rattle.std.proofs.Common.{◌∙◌, subst, arith}
+use Rattle.std.specs.List.{AllByRecursion, range_with_len}
+use Rattle.std.proofs.lemmas.Bool.{eqb-true}
+use Rattle.std.proofs.Math.Nat.{mul_assoc, suc-mul}
+use Rattle.std.proofs.lemmas.List.{drop_more, drop_all}
+use Rattle.std.proofs.lemmas.List.Sums.{sum_by-cons}
+use Rattle.mv_board.specs.Faces.{CallerFace}
+use Rattle.mv_machine.specs.Setup.{Setup}
+use Rattle.mv_calls.specs.Pauses.{Reached, token_of, release}
+use Rattle.mv_calls.specs.Program.{Call, Done, Wrong, accepted, finished, followed, for_each, unrefused, wrong}
+use Rattle.mv_calls.specs.Refusal.{Refusal}
+use Rattle.mv_calls.specs.Rest.{IsAtRest}
+use Rattle.mv_calls.specs.Waits.{clear, extend, wait}
+use Rattle.mv_deck.specs.declared.deck.After.{After}
+use Rattle.mv_deck.specs.Deck.{JobData}
+use Rattle.mv_deck.specs.Weight.{after_parts}
+use Rattle.mv_plan.specs.Jobs.{job_at, no_job}
+use Rattle.mv_plan.specs.SpoolSetup.{idle, done, entered, initiator}
+use Rattle.mv_plan.specs.SpoolTasks.{hand_over, dispatch_all, dismiss, code_of, ends_awaited, ends_of, some_end_above, lowest}
+use Rattle.mv_wait.specs.Run.{IsServed}
+use Rattle.mv_work.specs.declared.need.Blocks.{Blocks}
+use Rattle.mv_work.specs.declared.need.Need.TheVariants as need
+use Rattle.mv_work.specs.declared.stage.SchedulerStage.TheVariants as stage
+use Rattle.mv_work.specs.Needs.{need_call}
+use Rattle.mv_work.specs.Parts.{lowest_complete}
+use Rattle.mv_work.specs.Ran.{Ran, Leads}
+use Rattle.mv_work.specs.Scheduling.{scheduler_left, scheduler_due, jobs_from, jobs_due, dismissals_from, idles, first_idle, exit_set, entry_found}
+use Rattle.mv_work.specs.Scheduling.{AreBlocks, dismissal_found, then_jobs}
+use Rattle.mv_work.proofs.Calls.{accepted-assoc, blocks_asked, blocks_asked_in, found_in, none_in}
+use Rattle.mv_work.proofs.Ranges.{range_next, range_over}
+use Rattle.mv_work.proofs.Runs.{astray, ran_followed, ran_last, leads_on, leads_last, served_as}
+
+-- ---- an idle initiator is handed a code
+
+module _ (c : Setup) (n code i generation : ℕ) where
+  abbrev released : ℕ → Call (Unit {0})
+  released word = accepted (release (token_of (initiator i) generation) code) (λ (reached : Reached). finished tt)
+
+  pub not_cleared : {why : Refusal} {t u : CallerFace} (b : ℕ) → b ≡ idle n i → IsServed 1 (clear c b) (λ a. a ≡ Err why) t u
+      → Ran (hand_over c n code i generation) Wrong t u
+  not_cleared {why} {t} {u} b is s =
+      ran_last (subst (λ e. Ran (clear c e) (Done (Err why)) t u) is (served_as s)) (unrefused released) refl
+
+  -- the block is the initiator's, and so is the element
+  module _ {word : ℕ} {t u : CallerFace} (b k : ℕ) (is : b ≡ idle n i) (own : k ≡ initiator i)
+      (s : IsServed 1 (clear c b) (λ a. a ≡ Ok word) t u) where
+    cleared : Ran (clear c (idle n i)) (Done (Ok word)) t u
+    cleared = subst (λ e. Ran (clear c e) (Done (Ok word)) t u) is (served_as s)
+
+    pub handed : {reached : Reached} {v : CallerFace} → IsServed 1 (release (token_of k generation) code) (λ a. a ≡ Ok reached) u v
+        → Ran (hand_over c n code i generation) (Done tt) t v
+    handed {reached} {v} x = ran_followed cleared (unrefused released)
+        (ran_last (subst (λ e. Ran (release (token_of e generation) code) (Done (Ok reached)) u v) own (served_as x))
+        (unrefused (λ (reached : Reached). finished tt)) refl)
+
+    pub not_handed : {why : Refusal} {v : CallerFace} → IsServed 1 (release (token_of k generation) code) (λ a. a ≡ Err why) u v
+        → Ran (hand_over c n code i generation) Wrong t v
+    not_handed {why} {v} x = ran_followed cleared (unrefused released)
+        (ran_last (subst (λ e. Ran (release (token_of e generation) code) (Done (Err why)) u v) own (served_as x))
+        (unrefused (λ (reached : Reached). finished tt)) refl)
+
+-- ---- what is asked for
+
+-- one block
+pub one_is : (b : Blocks) {e : ℕ} → b.len ≡ 1 → take 1 b.of ≡ e ∷ [] → (f : ℕ) → e ≡ f → take b.len b.of ≡ f ∷ []
+one_is b len blocks f is = ap (λ k. take k b.of) len ∙ blocks ∙ ap (λ g. g ∷ []) is
+
+pub one_block : (c : Setup) (b : Blocks) (e : ℕ) → b.len ≡ 1 → length b.of ≡ 8 → take b.len b.of ≡ e ∷ [] → e < length c.owners
+    → AreBlocks c 1 (need.Blocks b)
+one_block c b e len room is lt =
+    (len, omega arith, room, subst (λ es. AllByRecursion (λ e. e < length c.owners) es) (sym is) (lt, tt))
+
+module _ (c : Setup) (deck : List JobData) (i : ℕ) (b : Blocks) where
+  -- the entry of a job
+  pub entry_asked : (j : ℕ) → j < length deck → take b.len b.of ≡ j ∷ [] → b.count ≡ 1
+      → jobs_from c deck i j ≡ followed (need_call c (need.Blocks b)) (scheduler_left c deck i (stage.Entry j))
+  entry_asked j lt is so =
+      ap (λ js. dispatch_all c (length deck) i j js (for_each (range_with_len 0 i) (dismiss c (length deck)) (finished [])))
+      (drop_more deck j no_job lt)
+      ∙ blocks_asked_in c b (j ∷ []) 1 is so (lowest (entry_found c deck i j) 0) (λ (handed : Unit {0}). jobs_from c deck i (j + 1))
+
+  -- the dismissal of an initiator
+  pub dismissal_asked : (m : ℕ) → m < i → take b.len b.of ≡ idle (length deck) m ∷ [] → b.count ≡ 1
+      → dismissals_from c deck i m ≡ followed (need_call c (need.Blocks b)) (scheduler_left c deck i (stage.Dismissal m))
+  dismissal_asked m lt is so =
+      ap (λ ms. for_each ms (dismiss c (length deck)) (finished [])) (range_next m i lt)
+      ∙ blocks_asked_in c b (idle (length deck) m ∷ []) 1 is so (lowest (dismissal_found c (length deck) m) 0)
+      (λ (handed : Unit {0}). dismissals_from c deck i (m + 1))
+
+  -- an initiator for a job
+  pub idle_asked : (j : ℕ) (skipped : Bool) → take b.len b.of ≡ idles (length deck) i → b.count ≡ 1
+      → followed (first_idle c deck i j skipped) (λ (handed : Unit {0}). jobs_from c deck i (j + 1))
+      ≡ followed (need_call c (need.Blocks b)) (scheduler_left c deck i (stage.Idle j skipped))
+  idle_asked j skipped is so =
+      blocks_asked_in c b (idles (length deck) i) 1 is so (lowest (hand_over c (length deck) (code_of j skipped)) 0)
+      (λ (handed : Unit {0}). jobs_from c deck i (j + 1))
+
+  -- the ends of the jobs that a job waits for
+  pub ends_asked : (j : ℕ) → 0 < length (job_at deck j).after → take b.len b.of ≡ ends_of (length deck) (job_at deck j).after
+      → b.count ≡ length (job_at deck j).after
+      → followed (ends_awaited c (length deck) (job_at deck j).after (exit_set c deck i j)) (λ (handed : Unit {0}). jobs_from c deck i (j + 1))
+      ≡ followed (need_call c (need.Blocks b)) (scheduler_left c deck i (stage.Ends j))
+  ends_asked j some is so =
+      ap (λ call. followed call (λ (handed : Unit {0}). jobs_from c deck i (j + 1))) (awaited (job_at deck j).after some)
+      ∙ blocks_asked_in c b (ends_of (length deck) (job_at deck j).after) (length (job_at deck j).after) is so
+      (λ slots. exit_set c deck i j (some_end_above (job_at deck j).after slots)) (λ (handed : Unit {0}). jobs_from c deck i (j + 1)) where
+        awaited : (parts : List After) → 0 < length parts
+            → ends_awaited c (length deck) parts (exit_set c deck i j)
+            ≡ accepted (wait c (length parts) (ends_of (length deck) parts)) (λ slots. exit_set c deck i j (some_end_above parts slots))
+        awaited [] some = absurd (omega arith)
+        awaited (part ∷ parts) some = refl
+
+-- behind the last job the initiators are dismissed
+pub jobs_over : (c : Setup) (deck : List JobData) (i j : ℕ) → length deck ≤ j → jobs_from c deck i j ≡ dismissals_from c deck i 0
+jobs_over c deck i j le =
+    ap (λ js. dispatch_all c (length deck) i j js (for_each (range_with_len 0 i) (dismiss c (length deck)) (finished []))) (drop_all j deck le)
+    ∙ ap (λ m. for_each (range_with_len 0 m) (dismiss c (length deck)) (finished [])) (let e : i ≡ i - 0 = omega arith in e)
+
+pub dismissals_over : (c : Setup) (deck : List JobData) (i m : ℕ) → i ≤ m → dismissals_from c deck i m ≡ finished []
+dismissals_over c deck i m le = ap (λ ms. for_each ms (dismiss c (length deck)) (finished [])) (range_over m i le)
+
+-- ---- the exit of a job
+
+module _ (c : Setup) (deck : List JobData) (i j : ℕ) (skipped : Bool) where
+  abbrev set_then : Unit {0} → Call (List ℕ)
+  set_then linked = followed (first_idle c deck i j skipped) (λ (handed : Unit {0}). jobs_from c deck i (j + 1))
+
+  set_first : {whole : Call (List ℕ)} {t u : CallerFace}
+      → Leads whole (followed (exit_set c deck i j skipped) (λ (handed : Unit {0}). jobs_from c deck i (j + 1))) t u
+      → Leads whole (accepted (extend c (done (length deck) j) (j + 1)) set_then) t u
+  set_first {whole} {t} {u} k = subst (λ call. Leads whole call t u)
+      (accepted-assoc (extend c (done (length deck) j) (j + 1)) (λ (linked : Unit {0}). first_idle c deck i j skipped)
+      (λ (handed : Unit {0}). jobs_from c deck i (j + 1))) k
+
+  -- it is set, and an initiator is waited for
+  pub exit_is_set : {whole : Call (List ℕ)} {t u v : CallerFace}
+      → Leads whole (followed (exit_set c deck i j skipped) (λ (handed : Unit {0}). jobs_from c deck i (j + 1))) t u
+      → IsServed 1 (extend c (done (length deck) j) (j + 1)) (λ a. a ≡ Ok tt) u v
+      → Leads whole (followed (first_idle c deck i j skipped) (λ (handed : Unit {0}). jobs_from c deck i (j + 1))) t v
+  exit_is_set k s = leads_on (unrefused set_then) (set_first k) (served_as s)
+
+  -- or that is refused
+  pub exit_refused : {why : Refusal} {whole : Call (List ℕ)} {t u v : CallerFace}
+      → Leads whole (followed (exit_set c deck i j skipped) (λ (handed : Unit {0}). jobs_from c deck i (j + 1))) t u
+      → IsServed 1 (extend c (done (length deck) j) (j + 1)) (λ a. a ≡ Err why) u v → Ran whole Wrong t v
+  exit_refused k s = leads_last (unrefused set_then) (set_first k) (served_as s) refl
+
+-- ---- what was found
+
+module _ {A B : Type 0} (slots : List (Option ℕ)) (f : ℕ → ℕ → Call A) (rest : A → Call B) where
+  -- nothing was: what was to follow is foreseen nowhere
+  pub lost_is : lowest_complete 0 slots ≡ wrong → followed (lowest f 0 slots) rest ≡ wrong
+  lost_is is = ap (λ call. followed call rest) (none_in f slots is)
+
+  -- this was
+  pub found_is : (r : ℕ × ℕ) → lowest_complete 0 slots ≡ finished r → followed (lowest f 0 slots) rest ≡ followed (f r.0 r.1) rest
+  found_is r is = ap (λ call. followed call rest) (found_in f slots r is)
+
+-- there is no job to wait for
+pub is_none : {A : Type 0} (xs : List A) → true ≡ (length xs == 0) → xs ≡ []
+is_none [] is = refl
+is_none (x ∷ xs) is = absurd (let e : length (x ∷ xs) ≡ 0 = eqb-true (length (x ∷ xs)) 0 (sym is) in omega arith)
+
+pub is_some : (n : ℕ) → false ≡ (n == 0) → 0 < n
+is_some zero is = absurd (cc is)
+is_some (suc n) is = omega arith
+
+-- ---- events
+
+-- those from a job on
+pub due_next : (deck : List JobData) (i j : ℕ) → j < length deck
+    → jobs_due deck i j ≡ 5 + 2 * length (job_at deck j).after + 2 * i + jobs_due deck i (j + 1)
+due_next deck i j lt =
+    let product : (length deck - j) * i ≡ (length deck - (j + 1)) * i + i =
+    ap (λ k. k * i) (let e : length deck - j ≡ suc (length deck - (j + 1)) = omega arith in e) ∙ suc-mul (length deck - (j + 1)) i in
+    let parts : after_parts (drop j deck) ≡ length (job_at deck j).after + after_parts (drop (j + 1) deck) =
+    ap after_parts (drop_more deck j no_job lt)
+    ∙ sum_by-cons (λ (job : JobData). length job.after) (job_at deck j) (drop (j + 1) deck) in omega arith
+
+-- behind the last, those of the dismissals
+pub due_over : (deck : List JobData) (i j : ℕ) → length deck ≤ j → 4 * (i - 0) ≤ jobs_due deck i j
+due_over deck i j le = omega arith
+
+-- of all jobs
+pub due_all : (deck : List JobData) (i : ℕ)
+    → jobs_due deck i 0 ≡ 5 * length deck + 2 * length deck * i + 2 * after_parts deck + 4 * i
+due_all deck i =
+    let size : (length deck - 0) * i ≡ length deck * i = ap (λ m. m * i) (let e : length deck - 0 ≡ length deck = omega arith in e) in
+    let twice : 2 * length deck * i ≡ 2 * (length deck * i) = mul_assoc 2 (length deck) i in omega arith

@@ -1,0 +1,60 @@
+-- From what was told to a task, and what it did then, to where it has come. Used by begin and go_on.
+use Rattle.std.proofs.Common.{◌≡◌, ℕ, ◌+◌, ◌-◌, ◌<◌, ◌≤◌, List, [], length, vec_capacity, Option, Some, None, sym, ap, ◌∙◌, subst, arith}
+use Rattle.mv_board.specs.Faces.{BoardFace, CallerFace, IsSame}
+use Rattle.mv_deck.specs.Deck.{JobData}
+use Rattle.mv_wait.proofs.Runs.{same_then}
+use Rattle.mv_work.specs.declared.initiator.Notes.{Notes}
+use Rattle.mv_work.specs.declared.need.Got.{Got}
+use Rattle.mv_work.specs.declared.need.Need.{Need}
+use Rattle.mv_work.specs.declared.stage.InitiatorStage.{InitiatorStage}
+use Rattle.mv_work.specs.declared.stage.SchedulerStage.{SchedulerStage}
+use Rattle.mv_work.specs.declared.stage.Stage.TheVariants as stage
+use Rattle.mv_work.specs.declared.work.Work.{Work}
+use Rattle.mv_work.specs.Initiating.{InitiatorComes, IsInitiatorNeed, initiator_left, initiator_stages}
+use Rattle.mv_work.specs.Needs.{answer_of}
+use Rattle.mv_work.specs.Noting.{initiating_noted}
+use Rattle.mv_work.specs.Ran.{Leads, RanOut}
+use Rattle.mv_work.specs.Scheduling.{scheduler_left}
+use Rattle.mv_work.specs.Waiting.{Comes}
+use Rattle.mv_work.specs.Works.{HasCome, HasWorked, ToldAt, WaitsAt, ends_found, records}
+use Rattle.mv_work.specs.Writing.{writer_left}
+use Rattle.mv_work.proofs.Meeting.{scheduler_worked, writer_worked, initiator_worked}
+use Rattle.mv_work.proofs.Runs.{leads_out}
+use Rattle.mv_work.proofs.Waits.{comes_on}
+
+module _ (b : BoardFace) (deck : List JobData) (i : ℕ) (w new : Work) {t u : CallerFace} (v : CallerFace) (g : Got) where
+  -- the scheduler was told its last
+  pub scheduler_over : (s : SchedulerStage) → ToldAt b deck i w (Some (stage.Scheduler s)) t g u
+      → IsSame u v × RanOut (scheduler_left b.config deck i s (answer_of g)) [] u v → HasCome b deck i new t None v
+  scheduler_over s told x =
+      (same_then t u v told.1.same x.0, scheduler_worked b.config deck i new told.0 (leads_out told.1.leads x.1))
+
+  -- and so was the writer
+  pub writer_over : (j : ℕ) → ToldAt b deck i w (Some (stage.Writer j)) t g u
+      → IsSame u v × RanOut (writer_left b.config (length deck) (ends_found w) j (answer_of g)) (ends_found new) u v
+      → HasCome b deck i new t None v
+  writer_over j told x =
+      (same_then t u v told.1.same x.0, writer_worked b.config deck i new told.0 (leads_out told.1.leads x.1))
+
+  -- an initiator was told something, and has come to its end or to its next wait
+  module _ (s : InitiatorStage) (told : ToldAt b deck i w (Some (stage.Initiator s)) t g u) (index : ℕ) (is : index ≡ u.number - 2) where
+    initiator_is : index ≡ told.0
+    initiator_is = let number = told.2 in let same = told.3.same.number in omega arith
+
+    initiator_on : (next : Option (InitiatorStage × Need))
+        → InitiatorComes b deck index new.notes (initiator_left b.config deck index w.notes s (answer_of g)) u next v
+        → InitiatorComes b deck told.0 new.notes (initiating_noted b.config deck told.0) t next v
+    initiator_on next x =
+        comes_on b (initiator_stages b.config deck told.0 new.notes) (IsInitiatorNeed deck told.0 new.notes) (records new) v next told.3.same
+        told.3.leads
+        (subst (λ me. InitiatorComes b deck me new.notes (initiator_left b.config deck me w.notes s (answer_of g)) u next v) initiator_is x)
+
+    pub initiator_over : InitiatorComes b deck index new.notes (initiator_left b.config deck index w.notes s (answer_of g)) u None v
+        → HasCome b deck i new t None v
+    initiator_over x =
+        let out = initiator_on None x in (out.0, initiator_worked b.config deck i new told.0 told.1 told.2 out.1)
+
+    pub initiator_next : (next : InitiatorStage) (n : Need)
+        → InitiatorComes b deck index new.notes (initiator_left b.config deck index w.notes s (answer_of g)) u (Some (next, n)) v
+        → WaitsAt b deck i new (Some (stage.Initiator next)) t n v
+    initiator_next next n x = (told.0, told.1, told.2, initiator_on (Some (next, n)) x)

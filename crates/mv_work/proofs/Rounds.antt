@@ -1,0 +1,224 @@
+-- The rounds of an initiator, wait by wait. Used by initiator.
+use Rattle.std.proofs.Common.{◌≡◌, ℕ, zero, suc, ◌+◌, ◌-◌, ◌<◌, ◌≤◌, ◌==◌, Bool, true, false, List, [], ◌∷◌, ◌++◌, length, get_or, set, map}
+use Rattle.std.proofs.Common.{sum_by, ◌||◌, Option, Some, None, Result, Ok, Err, refl, sym, ap, ◌∙◌, subst, if◌then◌else◌, arith}
+use Rattle.std.specs.List.{AllByRecursion, list_any}
+use Rattle.std.proofs.lemmas.Bool.{eq-eqb, ne_eqb, eqb-true}
+use Rattle.std.proofs.lemmas.List.{get_or-set_same, get_or-set_other, length-set}
+use Rattle.std.proofs.lemmas.List.Folds.{list_any-append}
+use Rattle.std.proofs.lemmas.List.Sums.{sum_by-cons}
+use Rattle.mv_board.specs.Faces.{CallerFace}
+use Rattle.mv_element.specs.declared.element.Token.{Token}
+use Rattle.mv_machine.specs.Setup.{Setup}
+use Rattle.mv_calls.specs.Endings.{end_of_job}
+use Rattle.mv_calls.specs.LatchCalls.{Counts}
+use Rattle.mv_calls.specs.Pauses.{Gift, allocate, deallocate, pause}
+use Rattle.mv_calls.specs.Posts.{Posting, post}
+use Rattle.mv_calls.specs.Program.{Call, Done, Wrong, accepted, finished, wrong, followed, unrefused}
+use Rattle.mv_calls.specs.Refusal.{Refusal}
+use Rattle.mv_calls.specs.Rest.{IsAtRest}
+use Rattle.mv_deck.specs.Deck.{JobData}
+use Rattle.mv_deck.specs.EndCode.{not_run}
+use Rattle.mv_deck.specs.Weight.{step_events, all_events}
+use Rattle.mv_plan.specs.Jobs.{job_at}
+use Rattle.mv_plan.specs.SpoolSetup.{idle, done}
+use Rattle.mv_plan.specs.SpoolTasks.{Named, named_by, job_named}
+use Rattle.mv_plan.proofs.points.InitiatorSound.{named_is}
+use Rattle.mv_wait.specs.Run.{IsServed}
+use Rattle.mv_work.specs.declared.initiator.Notes.{Notes}
+use Rattle.mv_work.specs.declared.need.Need.TheVariants as need
+use Rattle.mv_work.specs.declared.stage.InitiatorStage.TheVariants as stage
+use Rattle.mv_work.specs.Initiating.{AreGiven, IsAtJob, IsBetween, events_left, given_then, initiator_left, job_then, jobs_of_records, left_of}
+use Rattle.mv_work.specs.Initiating.{marks_left, rounds_after, steps_marks, steps_then}
+use Rattle.mv_work.specs.Needs.{need_call}
+use Rattle.mv_work.specs.Noting.{all_steps_noted, initiating_noted, job_noted, record_of, rounds_noted, steps_noted}
+use Rattle.mv_work.specs.Ran.{Ran, RanOut, Leads}
+use Rattle.mv_work.specs.Records.{JobRecord, Recorded}
+use Rattle.mv_work.proofs.Calls.{followed-assoc, pause_asked}
+use Rattle.mv_work.proofs.Runs.{leads_all, leads_on, ran_last, leads_last, leads_wrong, served_as, out_done, out_wrong}
+
+-- ---- what was not given yet
+
+pub left_all : (f : JobData → ℕ) (given : List Bool) (jobs : List JobData) → AllByRecursion (λ b. b ≡ false) given → length given ≡ length jobs
+    → left_of f given jobs ≡ sum_by f jobs
+left_all f [] [] none same = refl
+left_all f [] (job ∷ jobs) none same = absurd (cc same)
+left_all f (b ∷ given) [] none same = absurd (cc same)
+left_all f (false ∷ given) (job ∷ jobs) none same =
+    ap (λ n. f job + n) (left_all f given jobs none.1 (omega arith)) ∙ sym (sum_by-cons f job jobs)
+left_all f (true ∷ given) (job ∷ jobs) none same = absurd (cc none.0)
+
+-- one more was given
+pub left_less : (f : JobData → ℕ) (given : List Bool) (jobs : List JobData) (j : ℕ) (d : Bool) → j < length given → length given ≡ length jobs
+    → get_or given j d ≡ false
+    → left_of f (set given j true) jobs + f (job_at jobs j) ≡ left_of f given jobs
+left_less f [] jobs j d lt same is = absurd (omega arith)
+left_less f (b ∷ given) [] j d lt same is = absurd (cc same)
+left_less f (false ∷ given) (job ∷ jobs) zero d lt same is = omega arith
+left_less f (true ∷ given) (job ∷ jobs) zero d lt same is = absurd (cc is)
+left_less f (false ∷ given) (job ∷ jobs) (suc j) d lt same is =
+    let rest = left_less f given jobs j d (omega arith) (omega arith) is in omega arith
+left_less f (true ∷ given) (job ∷ jobs) (suc j) d lt same is = left_less f given jobs j d (omega arith) (omega arith) is
+
+-- ---- which jobs were given
+
+-- whether a job was, as it was read
+pub given_at : (given : List Bool) (j : ℕ) (d is : Bool) → j < length given → d ≡ get_or given j d → d ≡ is → get_or given j false ≡ is
+given_at [] j d is lt read so = absurd (omega arith)
+given_at (b ∷ given) zero d is lt read so = sym read ∙ so
+given_at (b ∷ given) (suc j) d is lt read so = given_at given j d is (omega arith) read so
+
+pub none_given : (given : List Bool) → AllByRecursion (λ b. b ≡ false) given → AreGiven [] given
+none_given given none = record { each = λ j lt. sym (all_false given j none) } where
+  all_false : (given : List Bool) (j : ℕ) → AllByRecursion (λ b. b ≡ false) given → get_or given j false ≡ false
+  all_false [] j none = refl
+  all_false (b ∷ given) zero none = none.0
+  all_false (b ∷ given) (suc j) none = all_false given j none.1
+
+-- one more
+pub one_given : (before : List ℕ) (given : List Bool) (job : ℕ) → AreGiven before given → job < length given
+    → AreGiven (before ++ job ∷ []) (set given job true)
+one_given before given job are lt =
+    record { each = λ j below. by_case j (let size = length-set given job true in omega arith) (job == j) refl } where
+      last : (a b : Bool) → (a || (b || false)) ≡ (if b then true else a)
+      last true true = refl
+      last true false = refl
+      last false true = refl
+      last false false = refl
+
+      by_case : (j : ℕ) → j < length given → (b : Bool) → (job == j) ≡ b
+          → list_any (λ m. m == j) (before ++ job ∷ []) ≡ get_or (set given job true) j false
+      by_case j below true is =
+          list_any-append (λ m. m == j) before (job ∷ []) ∙ last (list_any (λ m. m == j) before) (job == j)
+          ∙ ap (λ (b : Bool). if b then true else list_any (λ m. m == j) before) is
+          ∙ sym (subst (λ k. get_or (set given job true) k false ≡ true) (eqb-true job j is) (get_or-set_same given job true false lt))
+      by_case j below false is =
+          list_any-append (λ m. m == j) before (job ∷ []) ∙ last (list_any (λ m. m == j) before) (job == j)
+          ∙ ap (λ (b : Bool). if b then true else list_any (λ m. m == j) before) is
+          ∙ are.each j below ∙ sym (get_or-set_other given job j true false (λ q. absurd (cc (sym is ∙ eq-eqb job j (sym q)))))
+
+-- the jobs of one record more
+pub jobs_more : (records : List JobRecord) (r : JobRecord) → jobs_of_records (records ++ r ∷ []) ≡ jobs_of_records records ++ r.job ∷ []
+jobs_more [] r = refl
+jobs_more (x ∷ records) r = ap (λ js. x.job ∷ js) (jobs_more records r)
+
+-- ---- an initiator, in a round
+
+module _ (c : Setup) (deck : List JobData) (me round : ℕ) (notes : Notes) {whole : Call (List JobRecord)} {t : CallerFace} where
+  -- it told that it is idle
+  pub told_idle : (token : Token) {p : Posting} {u v : CallerFace}
+      → Leads whole (rounds_noted c deck me (suc (length deck - round)) notes.noted.jobs token) t u
+      → Ran (post c (idle (length deck) me) token.generation) (Done p) u v
+      → Leads whole (followed (need_call c (need.Pause token)) (initiator_left c deck me notes (stage.Pause round))) t v
+  told_idle token {p} {u} {v} k x =
+      subst (λ call. Leads whole call t v) (pause_asked c token (given_then c deck me (length deck - round) notes.noted.jobs))
+      (leads_on (λ (posted : Posting). accepted (pause c token) (given_then c deck me (length deck - round) notes.noted.jobs)) k x)
+
+module _ (c : Setup) (deck : List JobData) (me round : ℕ) (records : List JobRecord) {whole : Call (List JobRecord)} {t : CallerFace} where
+  module _ (gift : Gift) {u : CallerFace} (k : Leads whole (given_then c deck me (length deck - round) records gift) t u) where
+    -- by code 0 the element is given back
+    closing_left : gift.code ≡ 0 → Leads whole (accepted (deallocate c gift.next) (λ closed. finished records)) t u
+    closing_left is = subst (λ call. Leads whole call t u) last k where
+      last : given_then c deck me (length deck - round) records gift ≡ accepted (deallocate c gift.next) (λ closed. finished records)
+      last = rw (eq-eqb gift.code 0 is) refl
+
+    -- or that is refused
+    pub ended : (a : Result (Unit {0}) Refusal) {v : CallerFace} → gift.code ≡ 0
+        → IsServed 1 (deallocate c gift.next) (λ b. b ≡ a) u v → RanOut whole records t v
+    ended (Ok given_back) is s = out_done (leads_last (unrefused (λ (closed : Unit {0}). finished records)) (closing_left is) (served_as s) refl)
+    ended (Err why) is s = out_wrong records
+        (leads_last (unrefused (λ (closed : Unit {0}). finished records)) (closing_left is) (served_as s) refl)
+
+    module _ (other : gift.code ≡ 0 → ⊥) where
+      -- any other code may name a job
+      naming_left : (o : Option Named) → o ≡ job_named (length deck) gift.code → Leads whole
+          (named_by o (jobs_of_records records) (length deck - round) (job_then c deck me (length deck - round) records gift.next)) t u
+      naming_left o is = subst (λ call. Leads whole call t u)
+          (by_code ∙ ap (λ o. named_by o (jobs_of_records records) (length deck - round)
+          (job_then c deck me (length deck - round) records gift.next)) (sym is)) k where
+            by_code : given_then c deck me (length deck - round) records gift ≡ named_by (job_named (length deck) gift.code)
+                (jobs_of_records records) (length deck - round) (job_then c deck me (length deck - round) records gift.next)
+            by_code = rw (ne_eqb gift.code 0 other) refl
+
+      -- it names none
+      pub unnamed : None ≡ job_named (length deck) gift.code → IsAtRest u.log → Ran whole Wrong t u
+      unnamed none quiet = leads_wrong (naming_left None none) quiet
+
+      module _ {named : Named} (some : Some named ≡ job_named (length deck) gift.code) where
+        rounds_left : (m : ℕ) → length deck - round ≡ m
+            → Leads whole (named_by (Some named) (jobs_of_records records) m (job_then c deck me m records gift.next)) t u
+        rounds_left m is =
+            subst (λ m. Leads whole (named_by (Some named) (jobs_of_records records) m (job_then c deck me m records gift.next)) t u) is
+            (naming_left (Some named) some)
+
+        -- a job where no round is left for it
+        pub last_named : round ≡ length deck → IsAtRest u.log → Ran whole Wrong t u
+        last_named is quiet = leads_wrong (rounds_left 0 (omega arith)) quiet
+
+        -- the job is one of the deck
+        pub is_named : named.job < length deck
+        is_named = (named_is (length deck) gift.code named (sym some)).0
+
+        module _ (within : round < length deck) {given : List Bool} (are : AreGiven (jobs_of_records records) given)
+            (place : named.job < length given) where
+          named_left : (b : Bool) → get_or given named.job false ≡ b
+              → Leads whole (if b then wrong else job_then c deck me (rounds_after deck round) records gift.next named) t u
+          named_left b is = subst (λ call. Leads whole call t u)
+              (ap (λ (b : Bool). if b then wrong else job_then c deck me (rounds_after deck round) records gift.next named)
+              (are.each named.job place ∙ is))
+              (rounds_left (suc (length deck - (round + 1))) (omega arith))
+
+          -- a job that was given before
+          pub named_again : get_or given named.job false ≡ true → IsAtRest u.log → Ran whole Wrong t u
+          named_again is quiet = leads_wrong (named_left true is) quiet
+
+          -- a job that was not
+          pub named_now : get_or given named.job false ≡ false
+              → Leads whole (job_then c deck me (rounds_after deck round) records gift.next named) t u
+          named_now is = named_left false is
+
+-- ---- a job that was named
+
+module _ (c : Setup) (deck : List JobData) (me more job : ℕ) (records : List JobRecord) (next : Token) where
+  -- a job, once its steps are done
+  job_ends : (call : Call JobRecord)
+      → followed (followed call (λ r. followed (end_of_job c (job + 1) (done (length deck) job) r.end) (λ counts. finished r)))
+      (λ r. rounds_noted c deck me more (records ++ r ∷ []) next)
+      ≡ followed call (steps_then c deck me more records next job)
+  job_ends call =
+      followed-assoc call (λ r. followed (end_of_job c (job + 1) (done (length deck) job) r.end) (λ counts. finished r))
+      (λ r. rounds_noted c deck me more (records ++ r ∷ []) next)
+      ∙ ap (followed call) (λ i r. followed-assoc (end_of_job c (job + 1) (done (length deck) job) r.end) (λ counts. finished r)
+      (λ r. rounds_noted c deck me more (records ++ r ∷ []) next) i)
+
+  -- it is not to be run
+  pub job_skipped : (b : Bool) → b ≡ true → job_then c deck me more records next (record { job = job; skipped = b })
+      ≡ steps_then c deck me more records next job (record_of job not_run [])
+  job_skipped true is = job_ends (finished (record_of job not_run []))
+  job_skipped false is = absurd (cc is)
+
+  -- its steps are to be done
+  pub job_begun : (b : Bool) → b ≡ false → job_then c deck me more records next (record { job = job; skipped = b })
+      ≡ followed (steps_noted c job (λ latch. None) 0 [] (job_at deck job).steps) (steps_then c deck me more records next job)
+  job_begun true is = absurd (cc is)
+  job_begun false is = job_ends (steps_noted c job (λ latch. None) 0 [] (job_at deck job).steps)
+
+-- its end was posted, and the next round follows
+pub job_ended : (c : Setup) (deck : List JobData) (me more job : ℕ) (records : List JobRecord) (next : Token) (r : JobRecord)
+    {counts : Counts} {u v : CallerFace} → Ran (end_of_job c (job + 1) (done (length deck) job) r.end) (Done counts) u v
+    → Leads (steps_then c deck me more records next job r) (rounds_noted c deck me more (records ++ r ∷ []) next) u v
+job_ended c deck me more job records next r {counts} {u} {v} x =
+    leads_on (λ (counts : Counts). rounds_noted c deck me more (records ++ r ∷ []) next)
+    (leads_all (steps_then c deck me more records next job r) u) x
+
+-- ---- the beginning
+
+module _ (c : Setup) (deck : List JobData) (me : ℕ) {t u : CallerFace} where
+  -- the element is allocated, and the rounds follow
+  pub begun : {token : Token} → IsServed 1 (allocate c) (λ a. a ≡ Ok token) t u
+      → Leads (initiating_noted c deck me) (rounds_noted c deck me (suc (length deck - 0)) [] token) t u
+  begun {token} s = subst (λ k. Leads (initiating_noted c deck me) (rounds_noted c deck me k [] token) t u)
+      (let e : length deck + 1 ≡ suc (length deck - 0) = omega arith in e)
+      (leads_on (unrefused (rounds_noted c deck me (length deck + 1) [])) (leads_all (initiating_noted c deck me) t) (served_as s))
+
+  pub unbegun : {why : Refusal} → IsServed 1 (allocate c) (λ a. a ≡ Err why) t u → Ran (initiating_noted c deck me) Wrong t u
+  unbegun s = ran_last (served_as s) (unrefused (rounds_noted c deck me (length deck + 1) [])) refl

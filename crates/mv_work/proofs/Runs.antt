@@ -1,0 +1,157 @@
+-- A call that a task has run a part of: calls one after the other, and what is left to do.
+use Rattle.std.proofs.Common.{◌≡◌, ℕ, ◌+◌, ◌≤◌, List, [], ◌∷◌, ◌++◌, Result, Ok, Err, refl, sym, ap, ◌∙◌, subst, arith}
+use Rattle.mv_board.specs.Faces.{BoardFace, CallerFace, IsOf, IsSame}
+use Rattle.mv_calls.specs.Keeping.{Kept, kept_after, kept_from, kept_of, nothing_kept}
+use Rattle.mv_calls.specs.Program.{Program, Do, Done, Early, Wrong, Call, Heard, Says, left, entries, heard, going_on, followed, finished}
+use Rattle.mv_calls.specs.Program.{wrong}
+use Rattle.mv_calls.specs.Rest.{IsAtRest}
+use Rattle.mv_calls.proofs.Making.{kept_from-append}
+use Rattle.mv_calls.proofs.Programs.{going_on_left, going_on_says, one_on, same_says, left-append, Says-append}
+use Rattle.mv_wait.specs.Run.{IsServed}
+use Rattle.mv_wait.proofs.Runs.{served_runs, went_none, went_then}
+use Rattle.mv_work.specs.Ran.{Ran, RanOut, Leads}
+
+-- ---- what was served was run
+
+pub served_ran : {A : Type 0} {most : ℕ} {call : Call A} {Is : A → Type 0} {t u : CallerFace} (s : IsServed most call Is t u)
+    → Ran call (Done s.answer) t u
+served_ran {A} {most} {call} {Is} {t} {u} s =
+    let runs = served_runs most call Is t u s in
+    record { events = runs.events; went = runs.went; says = runs.says; leaves = runs.rest; quiet = s.made.rest }
+
+-- with an answer that is known
+pub served_as : {A : Type 0} {most : ℕ} {call : Call A} {a : A} {t u : CallerFace} → IsServed most call (λ b. b ≡ a) t u
+    → Ran call (Done a) t u
+served_as {A} {most} {call} {a} {t} {u} s = subst (λ b. Ran call (Done b) t u) s.is (served_ran s)
+
+-- it was of no more events than it may need
+pub served_few : {A : Type 0} {most : ℕ} {call : Call A} {Is : A → Type 0} {t u : CallerFace} → IsServed most call Is t u
+    → t.left ≤ u.left + most
+served_few s = let few = s.made.few in let left = s.left in omega arith
+
+-- the same task is of the same board
+pub still_of : (b : BoardFace) {t u : CallerFace} → IsOf b t → IsSame t u → IsOf b u
+still_of b of same = (same.table ∙ of.0, same.about ∙ of.1)
+
+-- ---- runs one after the other
+
+-- what the task keeps after a call
+kept_then : {A : Type 0} {call : Call A} {q : Program A} {t u : CallerFace} (r : Ran call q t u)
+    → kept_of u.number u.log ≡ kept_from (kept_of t.number t.log) (entries r.events)
+kept_then {A} {call} {q} {t} {u} r = ap (λ k. kept_of k u.log) r.went.same.number ∙ ap (λ es. kept_of t.number es) r.went.logged
+    ∙ kept_from-append (nothing_kept t.number) t.log (entries r.events)
+
+-- nothing was done
+pub ran_nothing : {A : Type 0} (call : Call A) {q : Program A} {t : CallerFace} → call (kept_of t.number t.log) ≡ q → IsAtRest t.log
+    → Ran call q t t
+ran_nothing call {q} {t} is quiet = record { events = []; went = went_none t; says = tt; leaves = is; quiet = quiet }
+
+-- a call that was done, and what followed it
+pub ran_followed : {A B : Type 0} {call : Call A} {a : A} {q : Program B} {t u v : CallerFace} → Ran call (Done a) t u
+    → (f : A → Call B) → Ran (f a) q u v → Ran (followed call f) q t v
+ran_followed {A} {B} {call} {a} {q} {t} {u} {v} x f y = record {
+  events = x.events ++ y.events;
+  went = went_then x.events y.events t u v x.went y.went;
+  says = going_on_says (kept_of t.number t.log) (call (kept_of t.number t.log)) f x.events y.events a x.says x.leaves
+      (subst (λ k. Says (f a k) y.events) (kept_then x) y.says);
+  leaves = going_on_left (kept_of t.number t.log) (call (kept_of t.number t.log)) f x.events y.events a x.says x.leaves
+      ∙ sym (ap (λ k. left (f a k) y.events) (kept_then x)) ∙ y.leaves;
+  quiet = y.quiet;
+}
+
+-- and where nothing did
+pub ran_last : {A B : Type 0} {call : Call A} {a : A} {q : Program B} {t u : CallerFace} → Ran call (Done a) t u → (f : A → Call B)
+    → f a (kept_of u.number u.log) ≡ q → Ran (followed call f) q t u
+ran_last {A} {B} {call} {a} x f is = ran_followed x f (ran_nothing (f a) is x.quiet)
+
+-- what is left of a program is left of it with whatever was to follow
+rest_on : {A B : Type 0} (kept : Kept) (p : Program A) (f : A → Call B) (xs : List Heard) (r : Program A) → Says p xs → left p xs ≡ r
+    → Says (going_on kept p f) xs × (left (going_on kept p f) xs ≡ going_on (kept_from kept (entries xs)) r f)
+rest_on kept p f [] r s d = (tt, ap (λ q. going_on kept q f) d)
+rest_on kept (Do o op next) f (x ∷ xs) r s d =
+    let rest = rest_on (kept_after kept x.entry.object x.entry.op x.entry.reply) (next x) f xs r s.1 d in
+    let one = one_on kept o op next f x s.0 in (
+      (
+        s.0,
+        same_says (heard (going_on kept (Do o op next) f) x)
+            (going_on (kept_after kept x.entry.object x.entry.op x.entry.reply) (next x) f) xs one rest.0,
+      ),
+      ap (λ q. left q xs) one ∙ rest.1,
+    )
+rest_on kept (Done b) f (x ∷ xs) r s d = absurd (cc s.0)
+rest_on kept Early f (x ∷ xs) r s d = absurd (cc s.0)
+rest_on kept Wrong f (x ∷ xs) r s d = absurd (cc s.0)
+
+-- a call that went wrong is wrong with whatever was to follow
+pub ran_astray : {A B : Type 0} {call : Call A} {t u : CallerFace} → Ran call Wrong t u → (f : A → Call B)
+    → Ran (followed call f) Wrong t u
+ran_astray {A} {B} {call} {t} {u} x f =
+    let on = rest_on (kept_of t.number t.log) (call (kept_of t.number t.log)) f x.events Wrong x.says x.leaves in
+    record { events = x.events; went = x.went; says = on.0; leaves = on.1; quiet = x.quiet }
+
+-- ---- what is left to do of a call
+
+pub leads_all : {A : Type 0} (whole : Call A) (t : CallerFace) → Leads whole whole t t
+leads_all whole t q v r = r
+
+-- the next call of the rest was done
+pub leads_on : {A B : Type 0} {whole : Call B} {call : Call A} {a : A} {t u v : CallerFace} (f : A → Call B)
+    → Leads whole (followed call f) t u → Ran call (Done a) u v → Leads whole (f a) t v
+leads_on f k x q w r = k q w (ran_followed x f r)
+
+-- and is the last of them
+pub leads_last : {A B : Type 0} {whole : Call B} {call : Call A} {a : A} {q : Program B} {t u v : CallerFace} (f : A → Call B)
+    → Leads whole (followed call f) t u → Ran call (Done a) u v → f a (kept_of v.number v.log) ≡ q → Ran whole q t v
+leads_last {A} {B} {whole} {call} {a} {q} {t} {u} {v} f k x is = k q v (ran_last x f is)
+
+-- and went astray
+pub leads_astray : {A B : Type 0} {whole : Call B} {call : Call A} {t u v : CallerFace} (f : A → Call B)
+    → Leads whole (followed call f) t u → Ran call Wrong u v → Ran whole Wrong t v
+leads_astray {A} {B} {whole} {call} {t} {u} {v} f k x = k Wrong v (ran_astray x f)
+
+-- nothing is left to do
+pub leads_done : {A : Type 0} {whole : Call A} {a : A} {t u : CallerFace} → Leads whole (finished a) t u → IsAtRest u.log
+    → Ran whole (Done a) t u
+leads_done {A} {whole} {a} {t} {u} k quiet = k (Done a) u (ran_nothing (finished a) refl quiet)
+
+-- what is left to do is foreseen nowhere
+pub leads_wrong : {A : Type 0} {whole : Call A} {t u : CallerFace} → Leads whole wrong t u → IsAtRest u.log → Ran whole Wrong t u
+leads_wrong {A} {whole} {t} {u} k quiet = k Wrong u (ran_nothing wrong refl quiet)
+
+-- the rest of the rest
+pub leads_then : {A : Type 0} {whole rest last : Call A} {t u v : CallerFace} → Leads whole rest t u → Leads rest last u v
+    → Leads whole last t v
+leads_then k l q w r = k q w (l q w r)
+
+-- a call was run up to this rest of it: so it was with whatever is to follow
+pub leads_under : {A B : Type 0} {call rest : Call A} {t u : CallerFace} (f : A → Call B) → Leads call rest t u → IsAtRest u.log
+    → Leads (followed call f) (followed rest f) t u
+leads_under {A} {B} {call} {rest} {t} {u} f k quiet q v y =
+    let x = k (rest (kept_of u.number u.log)) u (ran_nothing rest refl quiet) in
+    let on = rest_on (kept_of t.number t.log) (call (kept_of t.number t.log)) f x.events (rest (kept_of u.number u.log)) x.says x.leaves in
+    let is = on.1 ∙ sym (ap (λ kept. going_on kept (rest (kept_of u.number u.log)) f) (kept_then x)) in record {
+      events = x.events ++ y.events;
+      went = went_then x.events y.events t u v x.went y.went;
+      says = Says-append (followed call f (kept_of t.number t.log)) x.events y.events on.0
+          (subst (λ p. Says p y.events) (sym is) y.says);
+      leaves = left-append (followed call f (kept_of t.number t.log)) x.events y.events ∙ ap (λ p. left p y.events) is ∙ y.leaves;
+      quiet = y.quiet;
+    }
+
+-- ---- all events were made
+
+pub out_done : {A : Type 0} {call : Call A} {a : A} {t u : CallerFace} → Ran call (Done a) t u → RanOut call a t u
+out_done {A} {call} {a} r = record { last = Done a; over = refl; ran = r }
+
+pub out_wrong : {A : Type 0} {call : Call A} (a : A) {t u : CallerFace} → Ran call Wrong t u → RanOut call a t u
+out_wrong a r = record { last = Wrong; over = tt; ran = r }
+
+-- what is left to do was run out: so was the whole
+pub leads_out : {A : Type 0} {whole rest : Call A} {a : A} {t u v : CallerFace} → Leads whole rest t u → RanOut rest a u v
+    → RanOut whole a t v
+leads_out {A} {whole} {rest} {a} {t} {u} {v} k r = record { last = r.last; over = r.over; ran = k r.last v r.ran }
+
+-- what is left to do is foreseen nowhere
+pub astray : {A : Type 0} {whole rest : Call A} {t u : CallerFace} → Leads whole rest t u → rest ≡ wrong → IsAtRest u.log
+    → Ran whole Wrong t u
+astray {A} {whole} {rest} {t} {u} k is quiet = leads_wrong (subst (λ r. Leads whole r t u) is k) quiet

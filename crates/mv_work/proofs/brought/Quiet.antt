@@ -1,0 +1,214 @@
+-- Calls that neither pause nor resume: what they say of elements gives no code.
+use Rattle.std.proofs.Common.{◌≡◌, ℕ, zero, suc, false, List, [], ◌∷◌, length, Option, Some, None}
+use Rattle.std.proofs.Common.{Result, Ok, Err, refl, ap, ◌∙◌, subst}
+use Rattle.std.proofs.lemmas.Option.{some_pair_parts}
+use Rattle.mv_ecb.specs.declared.operation.EcbReply.{EcbReply}
+use Rattle.mv_ecb.specs.declared.operation.EcbReply.TheVariants as ecb_reply
+use Rattle.mv_element.specs.declared.element.Token.{Token}
+use Rattle.mv_element.specs.declared.operation.ElementReply.{ElementReply}
+use Rattle.mv_element.specs.declared.operation.ElementReply.TheVariants as element_reply
+use Rattle.mv_latch.specs.declared.operation.LatchReply.{LatchReply}
+use Rattle.mv_latch.specs.declared.operation.LatchReply.TheVariants as latch_reply
+use Rattle.mv_latch.specs.declared.operation.Wake.{Wake}
+use Rattle.mv_latch.specs.declared.request.LatchForm.TheVariants.{Waiting}
+use Rattle.mv_latch.specs.declared.request.Mode.{Mode}
+use Rattle.mv_element.specs.declared.operation.ElementOp.TheVariants as element_op
+use Rattle.mv_latch.specs.declared.operation.LatchOp.TheVariants as latch_op
+use Rattle.mv_machine.specs.declared.entry.Object.TheVariants.{Element, Latches}
+use Rattle.mv_machine.specs.declared.entry.Op.TheVariants as op_on
+use Rattle.mv_calls.specs.Refusal as refusal
+use Rattle.mv_calls.specs.Waits.{refused_if}
+use Rattle.mv_machine.specs.declared.entry.Reply.{Reply}
+use Rattle.mv_machine.specs.declared.entry.Reply.TheVariants as reply_of
+use Rattle.mv_machine.specs.declared.entry.VolumeReply.{VolumeReply}
+use Rattle.mv_machine.specs.declared.entry.VolumeReply.TheVariants as volume_reply
+use Rattle.mv_machine.specs.Setup.{Setup}
+use Rattle.mv_calls.specs.Endings.{end_of_job}
+use Rattle.mv_calls.specs.Keeping.{Kept, kept_after}
+use Rattle.mv_calls.specs.LatchCalls.{Obtained, obtain, obtain_refusal, obtained, confirmed, release_latch, let_go, purge, purged}
+use Rattle.mv_calls.specs.Pauses.{allocate, open_lowest, lowest_free, opened, deallocate, closed, is_others_token}
+use Rattle.mv_calls.specs.Posts.{Posting, Posted, Woke, Already, posting, posted_next, each_posted, post_within, post, wake_posted, wakes_posted}
+use Rattle.mv_calls.specs.Program.{Program, Do, Done, Early, Wrong, Heard, Call, Says, on_ecb, on_element, on_volume, on_latch}
+use Rattle.mv_calls.specs.Program.{and_then, unless_refused, going_on, unrefused, entries}
+use Rattle.mv_calls.specs.Refusal.{Refusal}
+use Rattle.mv_calls.specs.Waits.{read_volume, write_volume, the_value, stored}
+use Rattle.mv_plan.specs.HandingOut.{gift_code}
+use Rattle.mv_plan.proofs.points.Asks.{IsNoPause}
+use Rattle.mv_plan.proofs.volumes.GivenCodes.{with_code}
+use Rattle.mv_work.proofs.brought.Plain.{IsTruthful, codes_heard}
+
+-- no event that a program says is a pause or its return
+abbrev pub Quiet : {A : Type 0} → Program A → Type 0
+Quiet (Do o op next) = IsNoPause o op × ((h : Heard) → Quiet (next h))
+Quiet (Done a) = Unit {0}
+Quiet Early = Unit {0}
+Quiet Wrong = Unit {0}
+
+-- so no code is given in what was heard of it
+pub quiet_codes : {A : Type 0} (p : Program A) (hs : List Heard) → Quiet p → Says p hs → IsTruthful (entries hs) → codes_heard hs ≡ []
+quiet_codes p [] q s t = refl
+quiet_codes (Do o op next) (h ∷ hs) q s t =
+    let e : (o ≡ h.entry.object) × (op ≡ h.entry.op) = some_pair_parts o h.entry.object op h.entry.op s.0 in
+    let none : gift_code h.entry.reply ≡ None =
+    t.0 (subst (λ z. IsNoPause h.entry.object z) e.1 (subst (λ z. IsNoPause z op) e.0 q.0)) in
+    ap (λ slot. with_code slot (codes_heard hs)) none ∙ quiet_codes (next h) hs (q.1 h) s.1 t.1
+quiet_codes (Done a) (h ∷ hs) q s t = absurd (cc s.0)
+quiet_codes Early (h ∷ hs) q s t = absurd (cc s.0)
+quiet_codes Wrong (h ∷ hs) q s t = absurd (cc s.0)
+
+-- ---- programs one after the other
+
+pub quiet_going_on : {A B : Type 0} (kept : Kept) (p : Program A) (f : A → Call B) → Quiet p → ((a : A) (k : Kept) → Quiet (f a k))
+    → Quiet (going_on kept p f)
+quiet_going_on kept (Do o op next) f q each =
+    (q.0, λ h. quiet_going_on (kept_after kept o op h.entry.reply) (next h) f (q.1 h) each)
+quiet_going_on kept (Done a) f q each = each a kept
+quiet_going_on kept Early f q each = tt
+quiet_going_on kept Wrong f q each = tt
+
+quiet_and_then : {A B : Type 0} (p : Program A) (f : A → Program B) → Quiet p → ((a : A) → Quiet (f a)) → Quiet (and_then p f)
+quiet_and_then (Do o op next) f q each = (q.0, λ h. quiet_and_then (next h) f (q.1 h) each)
+quiet_and_then (Done a) f q each = each a
+quiet_and_then Early f q each = tt
+quiet_and_then Wrong f q each = tt
+
+quiet_unless : {A : Type 0} (why : Option Refusal) (p : Program (Result A Refusal)) → Quiet p → Quiet (unless_refused why p)
+quiet_unless None p q = q
+quiet_unless (Some why) p q = tt
+
+-- ---- by the kind of reply
+
+quiet_on_ecb : {A : Type 0} (r : Reply) (f : EcbReply → Program A) → ((x : EcbReply) → Quiet (f x)) → Quiet (on_ecb r f)
+quiet_on_ecb (reply_of.Ecb x) f each = each x
+quiet_on_ecb r f each = tt
+
+quiet_on_element : {A : Type 0} (r : Reply) (f : ElementReply → Program A) → ((x : ElementReply) → Quiet (f x))
+    → Quiet (on_element r f)
+quiet_on_element (reply_of.Element x) f each = each x
+quiet_on_element r f each = tt
+
+quiet_on_volume : {A : Type 0} (r : Reply) (f : VolumeReply → Program A) → ((x : VolumeReply) → Quiet (f x)) → Quiet (on_volume r f)
+quiet_on_volume (reply_of.Volume x) f each = each x
+quiet_on_volume r f each = tt
+
+quiet_on_latch : {A : Type 0} (r : Reply) (f : LatchReply → Program A) → ((x : LatchReply) → Quiet (f x)) → Quiet (on_latch r f)
+quiet_on_latch (reply_of.Latch x) f each = each x
+quiet_on_latch r f each = tt
+
+-- ---- posts
+
+each_quiet : (post : ℕ → Program Posting) (es : List ℕ) (answer : Posting) → ((e : ℕ) → Quiet (post e))
+    → Quiet (each_posted post es answer)
+each_quiet post [] answer each = tt
+each_quiet post (e ∷ es) answer each = quiet_and_then (post e) (λ p. each_posted post es answer) (each e)
+    (λ p. each_quiet post es answer each)
+
+by_posting : (f : Posting → Program Posting) → ((p : Posting) → Quiet (f p)) → (x : EcbReply) → Quiet (posting f x)
+by_posting f each ecb_reply.Posted = each Posted
+by_posting f each (ecb_reply.Woke x) = each (Woke x)
+by_posting f each (ecb_reply.Already code) = each (Already code)
+by_posting f each x = tt
+
+within_quiet : (depth : ℕ) (c : Setup) (code e : ℕ) → Quiet (post_within depth c code e)
+within_quiet zero c code e = tt
+within_quiet (suc depth) c code e = (
+  tt,
+  λ h. quiet_on_ecb h.entry.reply (posting (λ p. each_posted (post_within depth c code) (posted_next c p) p))
+      (by_posting (λ p. each_posted (post_within depth c code) (posted_next c p) p)
+      (λ p. each_quiet (post_within depth c code) (posted_next c p) p (λ e. within_quiet depth c code e))),
+)
+
+pub post_quiet : (c : Setup) (e code : ℕ) (kept : Kept) → Quiet (post c e code kept)
+post_quiet c e code kept = within_quiet (length c.owners) c code e
+
+wake_quiet : {A : Type 0} (c : Setup) (slot : Option ℕ) (code : ℕ) (kept : Kept) (last : Program A) → Quiet last
+    → Quiet (wake_posted c slot code kept last)
+wake_quiet c None code kept last q = q
+wake_quiet c (Some e) code kept last q = quiet_and_then (post c e code kept) (λ p. last) (post_quiet c e code kept) (λ p. q)
+
+wakes_quiet : {A : Type 0} (c : Setup) (ws : List Wake) (kept : Kept) (last : Program A) → Quiet last
+    → Quiet (wakes_posted c ws kept last)
+wakes_quiet c [] kept last q = q
+wakes_quiet c (w ∷ ws) kept last q = wake_quiet c w.ecb w.code kept _ (wakes_quiet c ws kept last q)
+
+-- ---- elements
+
+pub allocate_quiet : (c : Setup) (kept : Kept) → Quiet (allocate c kept)
+allocate_quiet c kept = go (lowest_free c kept) where
+  by_reply : (n : ℕ) (x : ElementReply) → Quiet (opened n x)
+  by_reply n (element_reply.Opened g) = tt
+  by_reply n x = tt
+
+  go : (slot : Option ℕ) → Quiet (open_lowest slot)
+  go None = tt
+  go (Some n) = (tt, λ h. quiet_on_element h.entry.reply (opened n) (by_reply n))
+
+pub deallocate_quiet : (c : Setup) (t : Token) (kept : Kept) → Quiet (deallocate c t kept)
+deallocate_quiet c t kept =
+    let p : Program (Result (Unit {0}) Refusal) =
+    Do (Element t.element) (op_on.Element (element_op.Close t.generation)) (λ h. on_element h.entry.reply closed) in
+    let q : Quiet p = (tt, λ h. quiet_on_element h.entry.reply closed by_reply) in
+    quiet_unless (refused_if (is_others_token c kept t) refusal.NotOwner) p q where
+      by_reply : (x : ElementReply) → Quiet (closed x)
+      by_reply element_reply.Closed = tt
+      by_reply (element_reply.Spent g) = tt
+      by_reply x = tt
+
+-- ---- volumes
+
+pub read_quiet : (v : ℕ) (kept : Kept) → Quiet (read_volume v kept)
+read_quiet v kept = (tt, λ h. quiet_on_volume h.entry.reply the_value by_reply) where
+  by_reply : (x : VolumeReply) → Quiet (the_value x)
+  by_reply (volume_reply.Value n) = tt
+  by_reply x = tt
+
+pub write_quiet : (v n : ℕ) (kept : Kept) → Quiet (write_volume v n kept)
+write_quiet v n kept = (tt, λ h. quiet_on_volume h.entry.reply stored by_reply) where
+  by_reply : (x : VolumeReply) → Quiet (stored x)
+  by_reply volume_reply.Stored = tt
+  by_reply x = tt
+
+-- ---- latches
+
+confirmed_quiet : (id : ℕ) (x : LatchReply) → Quiet (confirmed id x)
+confirmed_quiet id (latch_reply.Granted same) = tt
+confirmed_quiet id latch_reply.Waiting = tt
+confirmed_quiet id latch_reply.Gone = tt
+confirmed_quiet id x = tt
+
+pub obtain_quiet : (c : Setup) (latch requestor : ℕ) (mode : Mode) (kept : Kept) → Quiet (obtain c latch requestor mode Waiting kept)
+obtain_quiet c latch requestor mode kept =
+    let p : Program (Result Obtained Refusal) =
+    Do Latches (op_on.Latch (latch_op.Obtain latch requestor mode Waiting)) (λ h. on_latch h.entry.reply (obtained latch Waiting)) in
+    let q : Quiet p = (tt, λ h. quiet_on_latch h.entry.reply (obtained latch Waiting) by_reply) in
+    quiet_unless (obtain_refusal c latch requestor mode Waiting kept) p q where
+      by_reply : (x : LatchReply) → Quiet (obtained latch Waiting x)
+      by_reply (latch_reply.Granted id) = tt
+      by_reply (latch_reply.Queued id) = (tt, λ h. quiet_on_latch h.entry.reply (confirmed id) (confirmed_quiet id))
+      by_reply x = tt
+
+pub release_quiet : (c : Setup) (latch id : ℕ) (kept : Kept) → Quiet (release_latch c latch id false kept)
+release_quiet c latch id kept = (tt, λ h. quiet_on_latch h.entry.reply _ (by_reply h.wakes)) where
+  by_reply : (ws : List Wake) (x : LatchReply) → Quiet (let_go c false ws kept x)
+  by_reply ws (latch_reply.Released granted) = wakes_quiet c ws kept _ tt
+  by_reply ws latch_reply.Gone = tt
+  by_reply ws x = tt
+
+purge_quiet : (c : Setup) (requestor : ℕ) (kept : Kept) → Quiet (purge c requestor kept)
+purge_quiet c requestor kept = (tt, λ h. quiet_on_latch h.entry.reply _ (by_reply h.wakes)) where
+  by_reply : (ws : List Wake) (x : LatchReply) → Quiet (purged c ws kept x)
+  by_reply ws (latch_reply.Purged removed granted) = wakes_quiet c ws kept _ tt
+  by_reply ws x = tt
+
+pub end_quiet : (c : Setup) (requestor e code : ℕ) (kept : Kept) → Quiet (end_of_job c requestor e code kept)
+end_quiet c requestor e code kept = quiet_and_then (purge c requestor kept) _ (purge_quiet c requestor kept)
+    (λ counts. wake_quiet c (Some e) code kept (Done counts) tt)
+
+-- ---- calls that are not to be refused
+
+pub quiet_accepted : {A B : Type 0} (kept : Kept) (p : Program (Result A Refusal)) (f : A → Call B) → Quiet p
+    → ((a : A) (k : Kept) → Quiet (f a k)) → Quiet (going_on kept p (unrefused f))
+quiet_accepted {A} kept p f q each = quiet_going_on kept p (unrefused f) q go where
+  go : (r : Result A Refusal) (k : Kept) → Quiet (unrefused f r k)
+  go (Ok a) k = each a k
+  go (Err why) k = tt

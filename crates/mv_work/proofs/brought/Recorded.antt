@@ -1,0 +1,153 @@
+-- Of a run, what the initiators bring back is one right record of each job.
+use Rattle.std.proofs.Common.{◌≡◌, ℕ, suc, ◌+◌, ◌-◌, ◌<◌, ◌≤◌, ◌==◌, Bool, true, false, List, [], ◌∷◌, ◌++◌, length, map, filter}
+use Rattle.std.proofs.Common.{if◌then◌else◌, refl, sym, ap, ◌∙◌, subst, arith}
+use Rattle.std.specs.List.{AllByRecursion}
+use Rattle.std.proofs.lemmas.Bool.{ne_eqb}
+use Rattle.mv_machine.specs.declared.entry.Entry.{Entry}
+use Rattle.mv_machine.specs.Legal.{of}
+use Rattle.mv_machine.specs.Setup.{Setup}
+use Rattle.mv_machine.specs.System.{opening}
+use Rattle.mv_calls.specs.Keeping.{nothing_kept}
+use Rattle.mv_calls.specs.Program.{Heard, Says, entries}
+use Rattle.mv_calls.specs.Runs.{heard_in}
+use Rattle.mv_deck.specs.Deck.{JobData}
+use Rattle.mv_deck.specs.EndCode.{not_run}
+use Rattle.mv_report.specs.Outcome.{own_end, steps_with}
+use Rattle.mv_plan.specs.CountingAlone.{AreCountedAlone}
+use Rattle.mv_plan.specs.HandingOut.{AreHandedOut, right_code}
+use Rattle.mv_plan.specs.Jobs.{job_at, end_of}
+use Rattle.mv_plan.specs.SpoolRun.{IsRun}
+use Rattle.mv_plan.specs.SpoolSetup.{spool_setup, reader, scheduler, initiator, writer}
+use Rattle.mv_plan.specs.SpoolTasks.{task_program, reading, scheduling, writing, initiating}
+use Rattle.mv_plan.proofs.deck.Codes.{code_parts}
+use Rattle.mv_plan.proofs.deck.Ends.{few_jobs, skipped_ends, end_by_mark}
+use Rattle.mv_plan.proofs.deck.Plans.{IsPlanned}
+use Rattle.mv_plan.proofs.results.Exclusive.{are_counted_alone}
+use Rattle.mv_plan.proofs.results.HandedOut.{are_handed_out}
+use Rattle.mv_plan.proofs.volumes.GivenCodes.{codes_of}
+use Rattle.mv_plan.proofs.walks.Histories.{Stood, stood}
+use Rattle.mv_plan.proofs.walks.Walks.{start_points}
+use Rattle.mv_work.specs.Records.{JobRecord}
+use Rattle.mv_work.specs.Noting.{initiating_noted}
+use Rattle.mv_work.specs.Recording.{AreNotesOf, IsRecorded, AreRecorded, AreBrought, all_records}
+use Rattle.mv_work.proofs.brought.Alike.{alike_says_back}
+use Rattle.mv_work.proofs.brought.Forgetting.{NothingKept, initiating_alike}
+use Rattle.mv_work.proofs.brought.Histories.{GivesInitiators, entries_heard, own_plain, all_given}
+use Rattle.mv_work.proofs.brought.OneRecord.{OneAbout, list_at, one_record}
+use Rattle.mv_work.proofs.brought.Plain.{IsPlain}
+use Rattle.mv_work.proofs.brought.Rounds.{IsOwn, AreRounds, code_named, initiator_rounds}
+
+-- ---- the program of an initiator's number
+
+fourth : {A : Type 0} (a b d : Bool) (w x y z : A) → a ≡ false → b ≡ false → d ≡ false
+    → (if a then w else if b then x else if d then y else z) ≡ z
+fourth a b d w x y z p q r = rw (p, q, r) refl
+
+two_less : (i : ℕ) → i + 2 - 2 ≡ i
+two_less i = omega arith
+
+pub initiators_task : (deck : List JobData) (initiators i : ℕ) → i < initiators
+    → task_program deck initiators (initiator i) ≡ initiating (spool_setup deck initiators) deck i (nothing_kept (initiator i))
+initiators_task deck initiators i lt = ap (λ call. call (nothing_kept (initiator i)))
+    (fourth (initiator i == reader) (initiator i == scheduler) (initiator i == writer initiators)
+    (reading (spool_setup deck initiators) (length deck)) (scheduling (spool_setup deck initiators) initiators deck)
+    (writing (spool_setup deck initiators) (length deck)) (initiating (spool_setup deck initiators) deck (initiator i - 2))
+    (ne_eqb (initiator i) reader (λ q. absurd (omega arith))) (ne_eqb (initiator i) scheduler (λ q. absurd (omega arith)))
+    (ne_eqb (initiator i) (writer initiators) (λ q. absurd (omega arith))))
+    ∙ ap (λ m. initiating (spool_setup deck initiators) deck m (nothing_kept (initiator i))) (two_less i)
+
+-- ---- lists
+
+all_filtered : (P : JobRecord → Type 0) (p : JobRecord → Bool) (rs : List JobRecord) → AllByRecursion P rs → AllByRecursion P (filter p rs)
+all_filtered P p [] w = tt
+all_filtered P p (r ∷ rs) w = go (p r) refl (all_filtered P p rs w.1) where
+  go : (b : Bool) → p r ≡ b → AllByRecursion P (filter p rs) → AllByRecursion P (filter p (r ∷ rs))
+  go true e rest = rw e (w.0, rest)
+  go false e rest = rw e rest
+
+all_joined : (P : JobRecord → Type 0) (xs ys : List JobRecord) → AllByRecursion P xs → AllByRecursion P ys → AllByRecursion P (xs ++ ys)
+all_joined P [] ys v w = w
+all_joined P (x ∷ xs) ys v w = (v.0, all_joined P xs ys v.1 w)
+
+all_flat : (P : JobRecord → Type 0) (records : List (List JobRecord))
+    → ((i : ℕ) → i < length records → AllByRecursion P (list_at records i)) → AllByRecursion P (all_records records)
+all_flat P [] each = tt
+all_flat P (rs ∷ records) each =
+    all_joined P rs (all_records records) (each 0 (omega arith)) (all_flat P records (λ i lt. each (suc i) (omega arith)))
+
+all_known : (deck : List JobData) (rs : List JobRecord) → AllByRecursion (IsOwn deck) rs
+    → AllByRecursion (λ r. r.job < length deck) rs
+all_known deck [] w = tt
+all_known deck (r ∷ rs) w = (w.0.job, all_known deck rs w.1)
+
+-- ---- a run
+
+module _ (deck : List JobData) (initiators : ℕ) (some : 1 ≤ initiators) (planned : IsPlanned deck initiators) (es : List Entry)
+    (run : IsRun deck initiators es) (records : List (List JobRecord)) (brought : AreBrought deck initiators es records) where
+  abbrev c : Setup
+  c = spool_setup deck initiators
+
+  abbrev heard_by : ℕ → List Heard
+  heard_by i = heard_in c (initiator i) es
+
+  counted : AreCountedAlone deck initiators es
+  counted = are_counted_alone deck initiators some planned es run
+
+  handed : AreHandedOut deck initiators es
+  handed = are_handed_out deck initiators some planned es run
+
+  givers : AllByRecursion (GivesInitiators initiators) es
+  givers =
+      let st : Stood deck initiators some planned es = stood deck initiators some planned es run.follow in
+      all_given c deck initiators (opening c) (start_points deck initiators) es st.points st.walk
+
+  -- what each initiator brought
+  rounds_of : (i : ℕ) → i < initiators → AreRounds deck [] (list_at records i) (heard_by i)
+  rounds_of i lt =
+      let says : Says (initiating c deck i (nothing_kept (initiator i))) (heard_by i) =
+      subst (λ p. Says p (heard_by i)) (initiators_task deck initiators i lt) (run.follow.says (initiator i) (omega arith)) in
+      let noted : Says (initiating_noted c deck i (nothing_kept (initiator i))) (heard_by i) =
+      alike_says_back NothingKept (initiating_noted c deck i (nothing_kept (initiator i)))
+      (initiating c deck i (nothing_kept (initiator i))) (heard_by i) (initiating_alike c deck i (nothing_kept (initiator i))) says in
+      let plain : IsPlain (entries (heard_by i)) =
+      subst IsPlain (sym (entries_heard c (initiator i) es)) (own_plain c (opening c) (initiator i) es run.follow.legal counted.scans) in
+      initiator_rounds c deck planned.jobs i (list_at records i) (nothing_kept (initiator i)) (heard_by i) noted (brought.each i lt) plain
+
+  brought_by : (i : ℕ) → i < initiators → (codes_of (of (initiator i) es) ≡ map code_named (list_at records i) ++ 0 ∷ [])
+      × AllByRecursion (IsOwn deck) (list_at records i)
+  brought_by i lt =
+      let r : AreRounds deck [] (list_at records i) (heard_by i) = rounds_of i lt in (
+        ap codes_of (sym (entries_heard c (initiator i) es)) ∙ r.codes ∙ ap (λ rs. map code_named rs ++ 0 ∷ []) (sym r.is),
+        subst (λ rs. AllByRecursion (IsOwn deck) rs) (sym r.is) r.own,
+      )
+
+  all_own : AllByRecursion (IsOwn deck) (all_records records)
+  all_own = all_flat (IsOwn deck) records (λ i lt. (brought_by i (let n = brought.count in omega arith)).1)
+
+  -- the one record of a job
+  is_recorded : (j : ℕ) → j < length deck → IsRecorded deck (all_records records) j
+  is_recorded j lt =
+      let one : OneAbout j (right_code deck j) (all_records records) =
+      one_record deck initiators es records j (right_code deck j) (few_jobs deck initiators planned) lt (handed.jobs j lt).given givers
+      brought.count brought_by in
+      let found : AllByRecursion (IsOwn deck) (one.found ∷ []) =
+      subst (λ rs. AllByRecursion (IsOwn deck) rs) one.alone
+      (all_filtered (IsOwn deck) (λ r. r.job == j) (all_records records) all_own) in
+      let own : IsOwn deck one.found = found.0 in
+      let is : (one.found.job ≡ j) × ((one.found.end == not_run) ≡ (end_of deck j == not_run)) =
+      code_parts (length deck) one.found.job j (one.found.end == not_run) (end_of deck j == not_run) (few_jobs deck initiators planned)
+      own.job lt one.named in
+      let end : one.found.end ≡ end_of deck j =
+      own.end ∙ ap (λ b. if b then not_run else own_end (job_at deck one.found.job).steps) is.1
+      ∙ ap (λ k. if end_of deck j == not_run then not_run else own_end (job_at deck k).steps) is.0
+      ∙ end_by_mark deck j (end_of deck j == not_run) planned.jobs lt (sym (skipped_ends deck j planned.jobs lt)) in
+      record {
+        found = one.found;
+        alone = one.alone;
+        end = end;
+        notes = subst (λ k. AreNotesOf (steps_with (end_of deck j) (job_at deck k).steps) 0 one.found.notes) is.0
+            (subst (λ e. AreNotesOf (steps_with e (job_at deck one.found.job).steps) 0 one.found.notes) end own.notes);
+      }
+
+  pub are_recorded : AreRecorded deck (all_records records)
+  are_recorded = record { each = is_recorded; known = all_known deck (all_records records) all_own }

@@ -1,0 +1,34 @@
+-- What meets a need: whoever runs a task shows that its waits are so.
+use Rattle.std.specs.Prelude.{◌≡◌, ◌<◌, ◌≤◌, ◌+◌, length, take, Result, MatchResult}
+use Rattle.std.specs.List.{AllByRecursion}
+use Rattle.mv_board.specs.Faces.{CallerFace}
+use Rattle.mv_machine.specs.Limits.{highest_generation}
+use Rattle.mv_machine.specs.Setup.{Setup, element_count}
+use Rattle.mv_calls.specs.Program.{Done, Wrong}
+use Rattle.mv_work.specs.declared.lost.Lost.{Lost}
+use Rattle.mv_work.specs.declared.need.Got.{Got}
+use Rattle.mv_work.specs.declared.need.Got.TheVariants as got
+use Rattle.mv_work.specs.declared.need.Need.{Need}
+use Rattle.mv_work.specs.declared.need.Need.TheVariants as need
+use Rattle.mv_work.specs.Needs.{answer_of, need_call, need_events}
+use Rattle.mv_work.specs.Ran.{Ran}
+
+-- an answer to this need: as many slots as blocks, the next token of the same element, a request for the latch
+abbrev pub IsAnswerTo : Need → Got → Type 0
+IsAnswerTo (need.Blocks b) (got.Slots s) = s.len ≡ b.len
+IsAnswerTo (need.Pause token) (got.Given given) =
+    (given.next.element ≡ token.element) × (given.next.generation ≤ highest_generation)
+IsAnswerTo (need.Latch latch requestor mode) (got.Granted token) = token.latch ≡ latch
+IsAnswerTo n g = ⊥
+
+-- the call of the need was made: it was answered so; or it was refused, or answered as nothing foresees
+abbrev pub IsMet : Setup → Need → CallerFace → Result Got Lost → CallerFace → Type 0
+IsMet c n t r u = MatchResult r
+    (λ g. IsAnswerTo n g × Ran (need_call c n) (Done (answer_of g)) t u × (t.left ≤ u.left + need_events n))
+    (λ lost. Ran (need_call c n) Wrong t u)
+
+-- what a need asks of the configuration
+abbrev pub MayMeet : Setup → Need → Type 0
+MayMeet c (need.Blocks b) = (b.len ≤ 8) × (length b.of ≡ 8) × AllByRecursion (λ e. e < length c.owners) (take b.len b.of)
+MayMeet c (need.Pause token) = token.element < element_count c
+MayMeet c (need.Latch latch requestor mode) = Unit {0}

@@ -1,0 +1,55 @@
+-- What a task waits for, as a call; and what it is told then.
+use Rattle.std.specs.Prelude.{ℕ, ◌*◌, List, Option, take}
+use Rattle.mv_latch.specs.declared.request.LatchForm.TheVariants.{Waiting}
+use Rattle.mv_machine.specs.Setup.{Setup}
+use Rattle.mv_calls.specs.LatchCalls.{obtain}
+use Rattle.mv_calls.specs.Pauses.{Gift, pause}
+use Rattle.mv_calls.specs.Program.{Call, accepted, finished, wrong}
+use Rattle.mv_calls.specs.Waits.{wait}
+use Rattle.mv_pause.specs.Answers.{gift_of}
+use Rattle.mv_plan.specs.SpoolTasks.{granted_as}
+use Rattle.mv_wait.specs.Answers.{slots_of}
+use Rattle.mv_work.specs.declared.need.Need.{Need}
+use Rattle.mv_work.specs.declared.need.Need.TheVariants as need
+use Rattle.mv_work.specs.declared.need.Got.{Got}
+use Rattle.mv_work.specs.declared.need.Got.TheVariants as got
+
+-- what a wait tells: how its blocks were found, what a pause was given, or the number of a request that was granted
+pub data Answer : Type 0 where
+  Slots : (slots : List (Option ℕ)) → Answer
+  Gave : (gift : Gift) → Answer
+  Holds : (id : ℕ) → Answer
+
+-- the call that a need is. It is not to be refused
+abbrev pub need_call : Setup → Need → Call Answer
+need_call c (need.Blocks b) = accepted (wait c b.count (take b.len b.of)) (λ slots. finished (Slots slots))
+need_call c (need.Pause token) = accepted (pause c token) (λ gift. finished (Gave gift))
+need_call c (need.Latch latch requestor mode) =
+    accepted (obtain c latch requestor mode Waiting) (granted_as (λ id. finished (Holds id)))
+
+-- the events that it may need
+abbrev pub need_events : Need → ℕ
+need_events (need.Blocks b) = 2 * b.len
+need_events (need.Pause token) = 2
+need_events (need.Latch latch requestor mode) = 2
+
+-- what was told
+abbrev pub answer_of : Got → Answer
+answer_of (got.Slots s) = Slots (slots_of (take s.len s.of))
+answer_of (got.Given given) = Gave (gift_of given)
+answer_of (got.Granted token) = Holds token.id
+
+-- what follows how blocks were found; any other answer is foreseen nowhere
+abbrev pub on_slots : {A : Type 0} → (List (Option ℕ) → Call A) → Answer → Call A
+on_slots f (Slots slots) = f slots
+on_slots f answer = wrong
+
+-- what follows a gift
+abbrev pub on_gift : {A : Type 0} → (Gift → Call A) → Answer → Call A
+on_gift f (Gave gift) = f gift
+on_gift f answer = wrong
+
+-- what follows a grant
+abbrev pub on_grant : {A : Type 0} → (ℕ → Call A) → Answer → Call A
+on_grant f (Holds id) = f id
+on_grant f answer = wrong

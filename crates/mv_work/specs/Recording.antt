@@ -1,0 +1,87 @@
+-- What the records of all initiators come to. Of a run there is one of each job, and it is right; and records give lines.
+use Rattle.std.specs.Prelude.{◌≡◌, ℕ, ◌+◌, ◌<◌, ◌==◌, Bool, List, [], ◌∷◌, length, filter, flat_map, fold, replicate, set, Option, Some}
+use Rattle.std.specs.Prelude.{slice_get, slice_index_or}
+use Rattle.std.specs.List.{AllByRecursion}
+use Rattle.mv_machine.specs.declared.entry.Entry.{Entry}
+use Rattle.mv_calls.specs.Keeping.{nothing_kept}
+use Rattle.mv_calls.specs.Program.{Done, left}
+use Rattle.mv_calls.specs.Runs.{heard_in}
+use Rattle.mv_deck.specs.Deck.{JobData}
+use Rattle.mv_deck.specs.declared.deck.Step.{Step}
+use Rattle.mv_deck.specs.declared.deck.Step.TheVariants.{Print, Use, Free, Count, Scan, Abend, Return}
+use Rattle.mv_report.specs.Outcome.{print_line, scan_line, steps_with}
+use Rattle.mv_plan.specs.Jobs.{job_at, end_of}
+use Rattle.mv_plan.specs.SpoolSetup.{spool_setup, initiator}
+use Rattle.mv_work.specs.declared.records.Noted.{Noted}
+use Rattle.mv_work.specs.declared.records.Noted.TheVariants.{Printed, Scanned}
+use Rattle.mv_work.specs.Noting.{initiating_noted}
+use Rattle.mv_work.specs.Records.{JobRecord}
+
+-- ---- right records
+
+-- these are the notes of steps that were done, the first of which has this place: one for each PRINT, and one for each SCAN, which
+-- read one number twice
+abbrev pub AreNotesOf : List Step → ℕ → List Noted → Type 0
+AreNotesOf [] place notes = notes ≡ []
+AreNotesOf (Print text ∷ steps) place notes =
+    (rest : List Noted) × (notes ≡ Printed place ∷ rest) × AreNotesOf steps (place + 1) rest
+AreNotesOf (Use latch mode ∷ steps) place notes = AreNotesOf steps (place + 1) notes
+AreNotesOf (Free latch ∷ steps) place notes = AreNotesOf steps (place + 1) notes
+AreNotesOf (Count v amount ∷ steps) place notes = AreNotesOf steps (place + 1) notes
+AreNotesOf (Scan v ∷ steps) place notes =
+    (number : ℕ) × (rest : List Noted) × (notes ≡ Scanned place number number ∷ rest) × AreNotesOf steps (place + 1) rest
+AreNotesOf (Abend code ∷ steps) place notes = AreNotesOf steps (place + 1) notes
+AreNotesOf (Return code ∷ steps) place notes = AreNotesOf steps (place + 1) notes
+
+-- there is one record of the job, with its end, and notes of the steps that it does
+pub record IsRecorded (deck : List JobData) (records : List JobRecord) (j : ℕ) : Type 0 where
+  pub found : JobRecord
+  pub alone : filter (λ r. r.job == j) records ≡ found ∷ []
+  pub end : found.end ≡ end_of deck j
+  pub notes : AreNotesOf (steps_with (end_of deck j) (job_at deck j).steps) 0 found.notes
+
+-- so each job is recorded, and nothing else
+pub record AreRecorded (deck : List JobData) (records : List JobRecord) : Type 0 where
+  pub each : (j : ℕ) → j < length deck → IsRecorded deck records j
+  pub known : AllByRecursion (λ r. r.job < length deck) records
+
+-- each initiator's records are those that its task answers, by what it heard
+pub record AreBrought (deck : List JobData) (initiators : ℕ) (es : List Entry) (records : List (List JobRecord)) : Type 0 where
+  pub count : length records ≡ initiators
+  pub each : (i : ℕ) → i < initiators
+      → left (initiating_noted (spool_setup deck initiators) deck i (nothing_kept (initiator i)))
+      (heard_in (spool_setup deck initiators) (initiator i) es)
+      ≡ Done (slice_index_or records i [])
+
+-- the records of all initiators
+abbrev pub all_records : List (List JobRecord) → List JobRecord
+all_records records = flat_map (λ rs. rs) records
+
+-- ---- the lines that records give
+
+-- the line of a PRINT, where the step is one
+abbrev pub lines_printed : Option Step → List (List ℕ)
+lines_printed (Some (Print text)) = print_line text ∷ []
+lines_printed step = []
+
+-- that of a SCAN, where the step is one, by whether it read one number twice
+abbrev pub lines_scanned : Bool → Option Step → List (List ℕ)
+lines_scanned steady (Some (Scan v)) = scan_line v steady ∷ []
+lines_scanned steady step = []
+
+-- what is noted of one of these steps, as a line
+abbrev pub lines_of_note : List Step → Noted → List (List ℕ)
+lines_of_note steps (Printed place) = lines_printed (slice_get steps place)
+lines_of_note steps (Scanned place first second) = lines_scanned (first == second) (slice_get steps place)
+
+-- the lines of all that is noted
+abbrev pub lines_of_notes : List Step → List Noted → List (List ℕ)
+lines_of_notes steps notes = flat_map (lines_of_note steps) notes
+
+-- the lines of each job, with those of a record's job
+abbrev pub with_record : List JobData → List (List (List ℕ)) → JobRecord → List (List (List ℕ))
+with_record deck lines r = set lines r.job (lines_of_notes (job_at deck r.job).steps r.notes)
+
+-- the lines of each job by these records: a job without one has none
+abbrev pub lines_recorded : List JobData → List JobRecord → List (List (List ℕ))
+lines_recorded deck records = fold (with_record deck) (replicate (length deck) []) records

@@ -1,0 +1,65 @@
+-- A task that waits, one that was told what it waited for, and one that has come to its next wait. A stage says where a task waits:
+-- what is left to do behind the answer, and how many events that may need. What a task of the spool waits for fits its stage.
+use Rattle.std.specs.Prelude.{◌≡◌, ℕ, ◌+◌, ◌≤◌, List, length, Option, Some, None}
+use Rattle.mv_board.specs.Faces.{BoardFace, CallerFace, IsOf, IsSame}
+use Rattle.mv_calls.specs.Keeping.{Kept}
+use Rattle.mv_calls.specs.Program.{Call, Done, followed}
+use Rattle.mv_calls.specs.Rest.{IsAtRest}
+use Rattle.mv_deck.specs.declared.deck.Job.{Job}
+use Rattle.mv_deck.specs.Sound.{IsSound}
+use Rattle.mv_deck.specs.Weight.{most_initiators}
+use Rattle.mv_machine.specs.Setup.{Setup}
+use Rattle.mv_plan.specs.SpoolSetup.{jobs_limit, spool_setup}
+use Rattle.mv_work.specs.declared.need.Got.{Got}
+use Rattle.mv_work.specs.declared.need.Need.{Need}
+use Rattle.mv_work.specs.Needs.{Answer, answer_of, need_call, need_events}
+use Rattle.mv_work.specs.Parts.{jobs_of}
+use Rattle.mv_work.specs.Ran.{Leads, RanOut}
+
+-- the board is that of a deck which so many initiators can run
+pub record IsSpool (b : BoardFace) (deck : List Job) (i : ℕ) : Type 0 where
+  pub few : length deck ≤ jobs_limit
+  pub initiators : i ≤ most_initiators
+  pub sound : IsSound (jobs_of deck) i
+  pub config : b.config ≡ spool_setup (jobs_of deck) i
+
+-- a task of the board that is at rest, with so many events left
+pub record IsResting (b : BoardFace) (most : ℕ) (u : CallerFace) : Type 0 where
+  pub board : IsOf b u
+  pub quiet : IsAtRest u.log
+  pub left : most ≤ u.left
+
+-- what stages of one kind say
+pub record Stages (S A : Type 0) : Type 0 where
+  pub then : S → Answer → Call A
+  pub due : S → ℕ
+
+-- the task was t when this whole was begun, and now waits, at this stage, for what it needs
+pub record Waits {S A : Type 0} (b : BoardFace) (stages : Stages S A) (Fits : S → Need → Type 0) (whole : Call A) (t : CallerFace)
+    (s : S) (n : Need) (u : CallerFace) : Type 0 where
+  pub same : IsSame t u
+  pub rests : IsResting b (need_events n + stages.due s) u
+  pub fits : Fits s n
+  pub leads : Leads whole (followed (need_call b.config n) (stages.then s)) t u
+
+-- it was told this
+pub record Told {S A : Type 0} (b : BoardFace) (stages : Stages S A) (Answers : S → Got → Type 0) (whole : Call A) (t : CallerFace)
+    (s : S) (g : Got) (u : CallerFace) : Type 0 where
+  pub same : IsSame t u
+  pub rests : IsResting b (stages.due s) u
+  pub answers : Answers s g
+  pub leads : Leads whole (stages.then s (answer_of g)) t u
+
+-- it has come to its next wait, or has made all events of the whole, whose answer is this
+abbrev pub Comes : {S A : Type 0} → BoardFace → Stages S A → (S → Need → Type 0) → A → Call A → CallerFace → Option (S × Need)
+    → CallerFace → Type 0
+Comes b stages Fits a whole t (Some next) u = Waits b stages Fits whole t next.0 next.1 u
+Comes b stages Fits a whole t None u = IsSame t u × RanOut whole a t u
+
+-- This is what is left to do: the call of the need, and behind its answer what the stage says; where nothing is needed, nothing. It
+-- needs at most so many events.
+abbrev pub Asks : {S A : Type 0} → Setup → Stages S A → (S → Need → Type 0) → A → Call A → ℕ → Option (S × Need) → Type 0
+Asks c stages Fits a rest most (Some next) =
+    (rest ≡ followed (need_call c next.1) (stages.then next.0)) × Fits next.0 next.1
+    × (need_events next.1 + stages.due next.0 ≤ most)
+Asks c stages Fits a rest most None = (kept : Kept) → rest kept ≡ Done a

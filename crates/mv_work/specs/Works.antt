@@ -1,0 +1,74 @@
+-- The work of a task: where it waits, and what it comes to. Jobs and initiators are counted from 0; tasks have their numbers.
+use Rattle.std.specs.Prelude.{◌≡◌, ℕ, ◌+◌, ◌-◌, ◌*◌, ◌<◌, ◌≤◌, ◌==◌, false, List, [], length, vec_capacity, Option, Some, None, MatchBool}
+use Rattle.std.specs.List.{AllByRecursion}
+use Rattle.mv_board.specs.Faces.{BoardFace, CallerFace, IsSame}
+use Rattle.mv_machine.specs.Setup.{Setup}
+use Rattle.mv_deck.specs.Deck.{JobData}
+use Rattle.mv_plan.specs.SpoolSetup.{reader, scheduler, writer, initiator}
+use Rattle.mv_plan.specs.SpoolTasks.{reading, scheduling, writing}
+use Rattle.mv_work.specs.declared.need.Got.{Got}
+use Rattle.mv_work.specs.declared.need.Need.{Need}
+use Rattle.mv_work.specs.declared.stage.Stage.{Stage}
+use Rattle.mv_work.specs.declared.stage.Stage.TheVariants.{Scheduler, Initiator, Writer}
+use Rattle.mv_work.specs.declared.work.Work.{Work}
+use Rattle.mv_work.specs.Initiating.{IsInitiatorAnswer, IsInitiatorNeed, initiator_stages, marks_left}
+use Rattle.mv_work.specs.Noting.{initiating_noted}
+use Rattle.mv_work.specs.Ran.{RanOut}
+use Rattle.mv_work.specs.Records.{JobRecord}
+use Rattle.mv_work.specs.Scheduling.{IsSchedulerAnswer, IsSchedulerNeed, scheduler_stages}
+use Rattle.mv_work.specs.Waiting.{Told, Waits}
+use Rattle.mv_work.specs.Writing.{IsWriterAnswer, IsWriterNeed, writer_stages}
+
+-- the work of task k was not begun, and has the room that it needs
+pub record IsNew (deck : List JobData) (i k : ℕ) (w : Work) : Type 0 where
+  pub given : AllByRecursion (λ b. b ≡ false) w.notes.given.items
+  pub none : (w.notes.noted.jobs ≡ []) × (w.notes.noted.notes ≡ []) × (w.ends.items ≡ [])
+  pub size : 2 ≤ k → k < i + 2 → length w.notes.given.items ≡ length deck
+  pub room : 2 ≤ k → k < i + 2 → marks_left w.notes.given.items deck ≤ w.notes.noted.room
+  pub ends : k ≡ i + 2 → length deck ≤ vec_capacity w.ends
+
+-- what the task of number k brings back: the writer the ends, an initiator the records of the jobs that it ran
+abbrev pub records : Work → List JobRecord
+records w = w.notes.noted.jobs
+
+abbrev pub ends_found : Work → List ℕ
+ends_found w = w.ends.items
+
+-- All events of the task were made, which was t when it was new, and the work has what it brings back.
+abbrev pub HasWorked : Setup → List JobData → ℕ → Work → CallerFace → CallerFace → Type 0
+HasWorked c deck i w t u =
+    MatchBool (t.number == reader) (RanOut (reading c (length deck)) [] t u)
+    (MatchBool (t.number == scheduler) (RanOut (scheduling c i deck) [] t u)
+    (MatchBool (t.number == writer i) (RanOut (writing c (length deck)) (ends_found w) t u)
+    (RanOut (initiating_noted c deck (t.number - 2)) (records w) t u)))
+
+-- The task, which was t when it was new, waits for this.
+abbrev pub WaitsAt : BoardFace → List JobData → ℕ → Work → Option Stage → CallerFace → Need → CallerFace → Type 0
+WaitsAt b deck i w None t n u = ⊥
+WaitsAt b deck i w (Some (Scheduler s)) t n u = (t.number ≡ scheduler)
+    × Waits b (scheduler_stages b.config deck i) (IsSchedulerNeed b.config deck i) (scheduling b.config i deck) t s n u
+WaitsAt b deck i w (Some (Initiator s)) t n u = (me : ℕ) × (me < i) × (t.number ≡ initiator me)
+    × Waits b (initiator_stages b.config deck me w.notes) (IsInitiatorNeed deck me w.notes) (initiating_noted b.config deck me) t s n u
+WaitsAt b deck i w (Some (Writer j)) t n u = (t.number ≡ writer i)
+    × Waits b (writer_stages b.config (length deck) (ends_found w))
+    (IsWriterNeed b.config (length deck) (vec_capacity w.ends - length w.ends.items)) (writing b.config (length deck)) t j n u
+
+-- It was told this.
+abbrev pub ToldAt : BoardFace → List JobData → ℕ → Work → Option Stage → CallerFace → Got → CallerFace → Type 0
+ToldAt b deck i w None t g u = ⊥
+ToldAt b deck i w (Some (Scheduler s)) t g u = (t.number ≡ scheduler)
+    × Told b (scheduler_stages b.config deck i) (IsSchedulerAnswer deck i) (scheduling b.config i deck) t s g u
+ToldAt b deck i w (Some (Initiator s)) t g u = (me : ℕ) × (me < i) × (t.number ≡ initiator me)
+    × Told b (initiator_stages b.config deck me w.notes) (IsInitiatorAnswer deck me w.notes) (initiating_noted b.config deck me) t s g u
+ToldAt b deck i w (Some (Writer j)) t g u = (t.number ≡ writer i)
+    × Told b (writer_stages b.config (length deck) (ends_found w))
+    (IsWriterAnswer (length deck) (vec_capacity w.ends - length w.ends.items)) (writing b.config (length deck)) t j g u
+
+-- The task was t when it was new. It waits for what it needs, or needs nothing more and has worked.
+abbrev pub HasCome : BoardFace → List JobData → ℕ → Work → CallerFace → Option Need → CallerFace → Type 0
+HasCome b deck i w t (Some n) u = WaitsAt b deck i w w.stage t n u
+HasCome b deck i w t None u = IsSame t u × HasWorked b.config deck i w t u
+
+-- The task, which was t when it was new, was told what it waited for.
+abbrev pub WasTold : BoardFace → List JobData → ℕ → Work → CallerFace → Got → CallerFace → Type 0
+WasTold b deck i w t g u = ToldAt b deck i w w.stage t g u

@@ -1,0 +1,94 @@
+//! What a run came to, made of what its tasks brought back, and of what its board left. Clauses cite `specs/Recording.antt`.
+
+ghost use Rattle.std.specs.Prelude.{◌≡◌, ◌≤◌, [], map, slice_index, IfOk};
+ghost use Rattle.std.specs.List.{range_with_len};
+ghost use Rattle.mv_board.specs.Faces.{AreHeld};
+ghost use Rattle.mv_calls.specs.Program.{Done};
+ghost use Rattle.mv_calls.specs.Runs.{left_in};
+ghost use Rattle.mv_deck.specs.Deck.{deck_data};
+ghost use Rattle.mv_deck.specs.Operand.{volume_count};
+ghost use Rattle.mv_deck.specs.Sound.{IsSound};
+ghost use Rattle.mv_machine.specs.Legal.{after};
+ghost use Rattle.mv_plan.specs.SpoolRun.{IsRun};
+ghost use Rattle.mv_plan.specs.SpoolSetup.{spool_setup, writer};
+ghost use Rattle.mv_plan.specs.SpoolTasks.{task_program};
+ghost use Rattle.mv_report.specs.Outcome.{ends as ends_of_deck, lines as lines_of_deck, totals};
+ghost use Rattle.mv_work.specs.Recording.{AreBrought, all_records, lines_recorded as lines_of_records};
+
+use crate::bringing::Brought;
+use crate::records::InitiatorRecord;
+use crate::reporting::lines_recorded;
+use mv_board::Closed;
+use mv_deck::{Deck, VOLUME_COUNT};
+use mv_io::NoMemory;
+use mv_machine::History;
+use mv_report::Lines;
+use std::alloc::Global;
+
+/// What a run of a deck came to; what is said job by job stands in the order of the deck.
+#[derive(Drop)]
+pub struct SpoolRun {
+    /// Its events, in order, with the configuration that it ran with.
+    pub history: History,
+    /// What each initiator noted of the jobs that it ran.
+    pub records: Vec<InitiatorRecord>,
+    /// The end code of each job, as `write_report` takes them.
+    pub ends: Vec<u32>,
+    /// The lines of each job.
+    pub lines: Vec<Lines>,
+    /// What each volume held at the end.
+    pub volumes: Vec<u32>,
+}
+
+// The numbers of the eight volumes, as a list.
+fn volumes_of(alloc: Global, held: &[u32; 8]) -> Result<Vec<u32>, NoMemory>
+    ensures { IfOk result (λ volumes. volumes.items ≡ map (λ volume. slice_index held.now volume) (range_with_len 0 volume_count)) }
+{
+    let mut volumes = Vec::with_capacity(alloc, VOLUME_COUNT)?;
+    for volume in 0..VOLUME_COUNT {
+        volumes.push(held[volume])?;
+    }
+    Ok(volumes)
+}
+
+/// What a run of this deck came to, of what its board left and of what its tasks brought back: the
+/// ends are those that the writer waited for, and the lines are made of what the initiators noted. They are the deck's ends, lines
+/// and totals. Linear in the deck and in what was noted.
+///
+/// # Errors
+///
+/// `NoMemory` where there is no room for lines and volumes; what was handed over is dropped then.
+pub fn spool_run(
+    alloc: Global,
+    deck: &Deck,
+    initiators: u32,
+    closed: Closed,
+    brought: Brought,
+) -> Result<SpoolRun, NoMemory>
+    requires some { 1 ≤ initiators }
+    requires sound { IsSound (deck_data deck.now) initiators }
+    requires run { IsRun (deck_data deck.now) initiators closed.history.coming }
+    requires volumes { AreHeld (spool_setup (deck_data deck.now) initiators)
+        (after (spool_setup (deck_data deck.now) initiators) closed.history.coming) closed.volumes }
+    requires records { AreBrought (deck_data deck.now) initiators closed.history.coming (map (λ r. r.jobs) brought.records.items) }
+    requires ends { left_in (spool_setup (deck_data deck.now) initiators) (task_program (deck_data deck.now) initiators)
+        (writer initiators) closed.history.coming ≡ Done brought.ends.items }
+    ensures history { IfOk result (λ run. run.history ≡ closed.history) }
+    ensures records { IfOk result (λ run. run.records.items ≡ brought.records.items) }
+    ensures ends { IfOk result (λ run. run.ends.items ≡ ends_of_deck (deck_data deck.now)) }
+    ensures noted { IfOk result (λ run. run.lines.items
+        ≡ lines_of_records (deck_data deck.now) (all_records (map (λ r. r.jobs) brought.records.items))) }
+    ensures lines { IfOk result (λ run. run.lines.items ≡ lines_of_deck (deck_data deck.now)) }
+    ensures volumes { IfOk result (λ run. run.volumes.items ≡ totals (deck_data deck.now)) }
+{
+    let Brought { records, ends } = brought;
+    let lines = lines_recorded(alloc, deck, &records)?;
+    let volumes = volumes_of(alloc, &closed.volumes)?;
+    Ok(SpoolRun {
+        history: closed.history,
+        records,
+        ends,
+        lines,
+        volumes,
+    })
+}

@@ -1,0 +1,30 @@
+//! What a wait for the first of some blocks found. Clauses cite `specs/Parts.antt`.
+
+ghost use Rattle.std.specs.Prelude.{◌≡◌, ◌<◌, length, IfSome, MatchOption};
+ghost use Rattle.mv_calls.specs.Program.{finished, wrong};
+ghost use Rattle.mv_wait.specs.Answers.{slots_of};
+ghost use Rattle.mv_work.specs.Parts.{lowest_complete, pair_of};
+
+use mv_wait::WaitSlot;
+
+/// A block that was found complete.
+#[derive(Clone, Copy, Debug)]
+pub(crate) struct Found {
+    /// Its position in the list, from 0.
+    pub position: usize,
+    pub code: u32,
+}
+
+/// The lowest position that was found complete, with its code.
+pub(crate) fn first_in(slots: &[WaitSlot]) -> Option<Found>
+    ensures found { MatchOption result (lowest_complete 0 (slots_of slots.now) ≡ wrong)
+        (λ found. lowest_complete 0 (slots_of slots.now) ≡ finished (pair_of found)) }
+    ensures listed { IfSome result (λ found. found.position < length slots.now) }
+{
+    for position in 0..slots.len() {
+        if let WaitSlot::Complete(code) = slots[position] {
+            return Some(Found { position, code });
+        }
+    }
+    None
+}

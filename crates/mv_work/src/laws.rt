@@ -1,0 +1,39 @@
+//! What holds of the tasks that note, and of what the initiators of a run bring back (`specs/Noting.antt`, `Recording.antt`).
+
+ghost use Rattle.std.specs.Prelude.{◌≡◌, ◌≤◌, ◌↔◌, ℕ, List, []};
+ghost use Rattle.mv_calls.specs.Keeping.{Kept};
+ghost use Rattle.mv_calls.specs.Program.{Done, Heard, Says, left};
+ghost use Rattle.mv_deck.specs.Deck.{JobData};
+ghost use Rattle.mv_deck.specs.Sound.{IsSound};
+ghost use Rattle.mv_machine.specs.declared.entry.Entry.{Entry};
+ghost use Rattle.mv_machine.specs.Setup.{Setup};
+ghost use Rattle.mv_plan.specs.SpoolRun.{IsRun};
+ghost use Rattle.mv_plan.specs.SpoolTasks.{initiating};
+ghost use Rattle.mv_report.specs.Outcome.{lines};
+ghost use Rattle.mv_work.specs.Noting.{initiating_noted};
+ghost use Rattle.mv_work.specs.Recording.{AreBrought, AreRecorded, all_records, lines_recorded};
+ghost use Rattle.mv_work.specs.Records.{JobRecord};
+
+/// An initiator that notes makes the calls of the plan's initiator: it says the same events, and is done where the other is.
+pub fn initiators_note_what_they_do()
+    ensures says { (c : Setup) (deck : List JobData) (i : ℕ) (kept : Kept) (hs : List Heard)
+        → Says (initiating_noted c deck i kept) hs ↔ Says (initiating c deck i kept) hs }
+    ensures done { (c : Setup) (deck : List JobData) (i : ℕ) (kept : Kept) (hs : List Heard) (records : List JobRecord)
+        → left (initiating_noted c deck i kept) hs ≡ Done records → left (initiating c deck i kept) hs ≡ Done [] }
+    ensures records { (c : Setup) (deck : List JobData) (i : ℕ) (kept : Kept) (hs : List Heard) (answer : List ℕ)
+        → left (initiating c deck i kept) hs ≡ Done answer
+        → (records : List JobRecord) × (left (initiating_noted c deck i kept) hs ≡ Done records) }
+{}
+
+/// In each run the initiators bring back one record of each job: its end is the deck's, and what is noted are the PRINT and SCAN
+/// steps that the job did, each SCAN with one number twice.
+pub fn runs_record_each_job()
+    ensures { (deck : List JobData) (initiators : ℕ) (es : List Entry) (records : List (List JobRecord))
+        → 1 ≤ initiators → IsSound deck initiators → IsRun deck initiators es → AreBrought deck initiators es records
+        → AreRecorded deck (all_records records) }
+{}
+
+/// Right records give the lines that the deck means.
+pub fn records_give_the_lines()
+    ensures { (deck : List JobData) (records : List JobRecord) → AreRecorded deck records → lines_recorded deck records ≡ lines deck }
+{}

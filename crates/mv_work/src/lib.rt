@@ -1,0 +1,31 @@
+//! What each task of the spool does, from one wait to the next: what it makes of an answer, and what it then waits for; and what
+//! its initiators note of the jobs that they run. Whoever runs a task meets its needs one after the other, on a thread that parks
+//! or by polls. The calls are those of its program in `mv_plan`.
+#![tactic(auto)]
+
+mod bringing;
+mod closing;
+mod deciding;
+mod finding;
+mod initiator;
+mod laws;
+mod lost;
+mod need;
+mod parts;
+mod reader;
+mod records;
+mod reporting;
+mod running;
+mod scheduler;
+mod stage;
+mod work;
+mod writer;
+
+pub use bringing::{Brought, brought_by};
+pub use closing::{SpoolRun, spool_run};
+pub use laws::{initiators_note_what_they_do, records_give_the_lines, runs_record_each_job};
+pub use lost::Lost;
+pub use need::{Blocks, Got, MOST_BLOCKS, Need, Slots, slots_in};
+pub use records::{InitiatorRecord, Noted};
+pub use reporting::lines_recorded;
+pub use work::Work;

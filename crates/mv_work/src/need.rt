@@ -1,0 +1,76 @@
+//! What a task waits for, and what it is told. Clauses cite `specs/Needs.antt`.
+
+ghost use Rattle.std.specs.Prelude.{◌≡◌, ◌≤◌, [], ◌∷◌, take, length};
+
+use mv_element::Token;
+use mv_latch::Mode;
+use mv_latchset::LatchToken;
+use mv_pause::Given;
+use mv_wait::WaitSlot;
+
+/// How many blocks a task waits for at once, at most.
+pub const MOST_BLOCKS: usize = 8;
+
+/// Blocks to wait for: until so many of the first `len` are complete.
+#[derive(Clone, Copy, Debug)]
+pub struct Blocks {
+    pub count: u32,
+    pub len: usize,
+    pub of: [u32; MOST_BLOCKS],
+}
+
+/// What a task waits for. Its wait is not refused in any run.
+#[derive(Clone, Copy, Debug)]
+pub enum Need {
+    /// Some of these blocks are complete.
+    Blocks(Blocks),
+    /// A release of this token, whose pause begins.
+    Pause(Token),
+    /// This latch for this requestor, in this mode.
+    Latch(u32, u64, Mode),
+}
+
+/// How the first `len` blocks were found.
+#[derive(Clone, Copy, Debug)]
+pub struct Slots {
+    pub len: usize,
+    pub of: [WaitSlot; MOST_BLOCKS],
+}
+
+/// What a task is told once its need is met.
+#[derive(Clone, Copy, Debug)]
+pub enum Got {
+    Slots(Slots),
+    Given(Given),
+    Granted(LatchToken),
+}
+
+/// One block.
+pub(crate) fn one(block: u32) -> Blocks
+    ensures count { result.count ≡ 1 }
+    ensures len { result.len ≡ 1 }
+    ensures blocks { take 1 result.of ≡ block ∷ [] }
+    ensures room { length result.of ≡ 8 }
+{
+    Blocks {
+        count: 1,
+        len: 1,
+        of: [block, 0, 0, 0, 0, 0, 0, 0],
+    }
+}
+
+/// These slots, eight at most, to be told to a task.
+pub fn slots_in(slots: &[WaitSlot]) -> Slots
+    requires { length slots.now ≤ 8 }
+    ensures len { result.len ≡ length slots.now }
+    ensures slots { take (length slots.now) result.of ≡ slots.now }
+{
+    let mut of = [WaitSlot::Open; MOST_BLOCKS];
+    for k in 0..slots.len() {
+        of[k] = slots[k];
+    }
+    Slots {
+        len: slots.len(),
+        of,
+    }
+}

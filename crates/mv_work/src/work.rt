@@ -1,0 +1,151 @@
+//! The work of a task, wait by wait. Clauses cite `specs/Works.antt` and `specs/Waiting.antt`.
+
+ghost use Rattle.std.specs.Prelude.{◌≡◌, ◌<◌, ◌≤◌, ◌+◌, IfOk};
+ghost use Rattle.mv_board.specs.Faces.{CallerFace, IsFresh};
+ghost use Rattle.mv_deck.specs.Weight.{most_initiators};
+ghost use Rattle.mv_work.specs.Parts.{jobs_of};
+ghost use Rattle.mv_work.specs.Waiting.{IsSpool};
+ghost use Rattle.mv_work.specs.Works.{HasCome, IsNew, WasTold};
+
+use crate::initiator::{self, Notes, initiate};
+use crate::need::{Got, Need};
+use crate::reader::read;
+use crate::scheduler::{self, schedule};
+use crate::stage::Stage;
+use crate::writer::{on_end, write};
+use mv_deck::Job;
+use mv_io::NoMemory;
+use mv_plan::{FIRST_INITIATOR, READER, SCHEDULER, writer};
+use mv_task::Gate;
+use mv_wait::{Station, Task};
+use std::alloc::Global;
+use std::sync::Wait;
+
+/// Where a task stands in its work, with the room that the work needs.
+#[derive(Drop)]
+pub struct Work {
+    /// Where it waits, once it has begun.
+    pub(crate) stage: Option<Stage>,
+    /// What an initiator keeps.
+    pub(crate) notes: Notes,
+    /// The ends that the writer found.
+    pub(crate) ends: Vec<u32>,
+}
+
+impl Work {
+    /// The work of the task of this number, with all room that it needs.
+    ///
+    /// # Errors
+    ///
+    /// `NoMemory` where there is not enough.
+    pub fn new(alloc: Global, deck: &[Job], initiators: u32, number: u32) -> Result<Work, NoMemory>
+        requires few { initiators ≤ most_initiators }
+        ensures { IfOk result (λ work. IsNew (jobs_of deck.now) initiators number work) }
+    {
+        let initiates = FIRST_INITIATOR <= number && number < writer(initiators);
+        Ok(Work {
+            stage: None,
+            notes: Notes::with_room(alloc, if initiates { deck } else { &[] })?,
+            ends: Vec::with_capacity(
+                alloc,
+                if number == writer(initiators) {
+                    deck.len()
+                } else {
+                    0
+                },
+            )?,
+        })
+    }
+
+    /// Begins the work of the task, and answers what it waits for.
+    pub fn begin<R: Wait, G: Gate>(
+        &mut self,
+        rt: &R,
+        station: &Station,
+        task: &mut Task,
+        deck: &[Job],
+        initiators: u32,
+        gate: &G,
+    ) -> Option<Need>
+        requires spool { IsSpool station.now deck.now initiators }
+        requires number { task.old.number < initiators + 3 }
+        requires fresh { IsFresh station.now task.old.number task.old }
+        requires new { IsNew (jobs_of deck.now) initiators task.old.number self.old }
+        ensures { HasCome station.now (jobs_of deck.now) initiators self.new task.old result task.new }
+    {
+        let number = task.number();
+        if number == READER {
+            read(rt, station, task, deck, initiators, gate);
+            return None;
+        }
+        if number == SCHEDULER {
+            let (stage, need) = schedule(station, deck, initiators, 0)?;
+            self.stage = Some(Stage::Scheduler(stage));
+            return Some(need);
+        }
+        if number == writer(initiators) {
+            let (job, need) = write(station, deck, initiators, 0)?;
+            self.stage = Some(Stage::Writer(job));
+            return Some(need);
+        }
+        let index = number - FIRST_INITIATOR;
+        let (stage, need) = initiate(rt, station, task, deck, initiators, index, &self.notes)?;
+        self.stage = Some(Stage::Initiator(stage));
+        Some(need)
+    }
+
+    /// Goes on with the work of the task behind what it was told, and answers what it waits for next.
+    pub fn go_on<R: Wait, G: Gate>(
+        &mut self,
+        rt: &R,
+        station: &Station,
+        task: &mut Task,
+        deck: &[Job],
+        initiators: u32,
+        gate: &G,
+        got: Got,
+    ) -> Option<Need>
+        requires spool { IsSpool station.now deck.now initiators }
+        requires told { (t : CallerFace) × WasTold station.now (jobs_of deck.now) initiators self.old t got task.old }
+        ensures { (t : CallerFace) → WasTold station.now (jobs_of deck.now) initiators self.old t got task.old
+            → HasCome station.now (jobs_of deck.now) initiators self.new t result task.new }
+    {
+        let Some(waits) = self.stage else {
+            unreachable!()
+        };
+        match waits {
+            Stage::Scheduler(stage) => {
+                let Got::Slots(slots) = got else {
+                    unreachable!()
+                };
+                let found = &slots.of[..slots.len];
+                let (stage, need) = scheduler::go_on(
+                    rt, station, task, deck, initiators, gate, stage, found,
+                )?;
+                self.stage = Some(Stage::Scheduler(stage));
+                Some(need)
+            }
+            Stage::Initiator(stage) => {
+                let index = task.number() - FIRST_INITIATOR;
+                let notes = &mut self.notes;
+                let (stage, need) = initiator::go_on(
+                    rt, station, task, deck, initiators, gate, index, notes, stage, got,
+                )?;
+                self.stage = Some(Stage::Initiator(stage));
+                Some(need)
+            }
+            Stage::Writer(job) => {
+                let Got::Slots(slots) = got else {
+                    unreachable!()
+                };
+                let found = &slots.of[..slots.len];
+                let ends = &mut self.ends;
+                let (job, need) = on_end(
+                    rt, station, task, deck, initiators, gate, ends, job, found,
+                )?;
+                self.stage = Some(Stage::Writer(job));
+                Some(need)
+            }
+        }
+    }
+}
