@@ -1,5 +1,5 @@
 -- Decks that are sound, job by job, and their configuration.
-use Rattle.std.proofs.Common.{◌≡◌, ℕ, zero, suc, ◌+◌, ◌-◌, ◌*◌, ◌<◌, ◌≤◌, List, [], ◌∷◌, ◌++◌, length, get_or, replicate, refl, sym, ap, ◌∙◌}
+use Rattle.std.proofs.Common.{◌≡◌, ℕ, zero, suc, ◌+◌, ◌*◌, ◌<◌, ◌≤◌, List, [], ◌∷◌, ◌++◌, length, get_or, replicate, refl, sym, ap, ◌∙◌}
 use Rattle.std.proofs.Common.{arith}
 use Rattle.std.specs.List.{AllByRecursion}
 use Rattle.std.proofs.lemmas.List.{length-append, length-map, get_or-map}
@@ -13,7 +13,7 @@ use Rattle.mv_deck.specs.Weight.{all_events}
 use Rattle.mv_machine.specs.Reach.{reach, release_cost}
 use Rattle.mv_machine.specs.Setup.{Setup, element_owner}
 use Rattle.mv_plan.specs.Jobs.{job_at, no_job}
-use Rattle.mv_plan.specs.SpoolSetup.{spool_setup, task_budgets, entered, done, idle}
+use Rattle.mv_plan.specs.SpoolSetup.{spool_setup, task_budgets, entered, done}
 use Rattle.mv_plan.proofs.deck.Setup.{facts}
 use Rattle.mv_work.specs.Parts.{HasInitiator, jobs_of}
 use Rattle.mv_work.proofs.Reaches.{block_count, reach_alone, reach_done, release_cost_is}
@@ -109,9 +109,6 @@ module _ (deck : List Job) (i : ℕ) (c : Setup) (is : c ≡ spool_setup (jobs_o
   -- an element has its owner's number
   pub own_number : (e k : ℕ) → 0 < i → element_owner c e ≡ k → e ≡ k
   own_number e k some own = sym ((facts (jobs_of deck) i (omega arith)).element e) ∙ sym (ap (λ s. element_owner s e) is) ∙ own
-
-pub idle_is : (deck : List Job) (b r k : ℕ) → b ≡ idle (length deck) (r - 2) → r ≡ k → b ≡ idle (length (jobs_of deck)) (k - 2)
-idle_is deck b r k is e = let n = job_count deck in omega arith
 
 -- ---- budgets
 

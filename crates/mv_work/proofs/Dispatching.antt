@@ -1,5 +1,5 @@
 -- How the scheduler hands out the jobs, wait by wait.
-use Rattle.std.proofs.Common.{◌≡◌, ℕ, ◌+◌, ◌*◌, ◌-◌, ◌<◌, ◌≤◌, ◌==◌, zero, suc, Bool, true, false, List, [], ◌∷◌, length, map, drop, take, Option, Ok, Err, refl, sym, ap}
+use Rattle.std.proofs.Common.{◌≡◌, ℕ, ◌+◌, ◌*◌, ◌-◌, ◌<◌, ◌≤◌, ◌==◌, zero, suc, Bool, true, false, List, [], ◌∷◌, length, drop, take, Option, Ok, Err, refl, sym, ap}
 use Rattle.std.proofs.Common.{◌∙◌, subst, arith}
 use Rattle.std.specs.List.{AllByRecursion, range_with_len}
 use Rattle.std.proofs.lemmas.Bool.{eqb-true}
@@ -11,13 +11,12 @@ use Rattle.mv_machine.specs.Setup.{Setup}
 use Rattle.mv_calls.specs.Pauses.{Reached, token_of, release}
 use Rattle.mv_calls.specs.Program.{Call, Done, Wrong, accepted, finished, followed, for_each, unrefused, wrong}
 use Rattle.mv_calls.specs.Refusal.{Refusal}
-use Rattle.mv_calls.specs.Rest.{IsAtRest}
 use Rattle.mv_calls.specs.Waits.{clear, extend, wait}
 use Rattle.mv_deck.specs.declared.deck.After.{After}
 use Rattle.mv_deck.specs.Deck.{JobData}
 use Rattle.mv_deck.specs.Weight.{after_parts}
 use Rattle.mv_plan.specs.Jobs.{job_at, no_job}
-use Rattle.mv_plan.specs.SpoolSetup.{idle, done, entered, initiator}
+use Rattle.mv_plan.specs.SpoolSetup.{idle, done, initiator}
 use Rattle.mv_plan.specs.SpoolTasks.{hand_over, dispatch_all, dismiss, code_of, ends_awaited, ends_of, some_end_above, lowest}
 use Rattle.mv_wait.specs.Run.{IsServed}
 use Rattle.mv_work.specs.declared.need.Blocks.{Blocks}
@@ -26,11 +25,12 @@ use Rattle.mv_work.specs.declared.stage.SchedulerStage.TheVariants as stage
 use Rattle.mv_work.specs.Needs.{need_call}
 use Rattle.mv_work.specs.Parts.{lowest_complete}
 use Rattle.mv_work.specs.Ran.{Ran, Leads}
-use Rattle.mv_work.specs.Scheduling.{scheduler_left, scheduler_due, jobs_from, jobs_due, dismissals_from, idles, first_idle, exit_set, entry_found}
-use Rattle.mv_work.specs.Scheduling.{AreBlocks, dismissal_found, then_jobs}
-use Rattle.mv_work.proofs.Calls.{accepted-assoc, blocks_asked, blocks_asked_in, found_in, none_in}
+use Rattle.mv_work.specs.Scheduling.{scheduler_left, jobs_from, jobs_due, dismissals_from, idles, first_idle, exit_set, entry_found}
+use Rattle.mv_work.specs.Scheduling.{AreBlocks, dismissal_found}
+use Rattle.mv_work.proofs.Calls.{accepted-assoc, blocks_asked_in, found_in, none_in}
 use Rattle.mv_work.proofs.Ranges.{range_next, range_over}
-use Rattle.mv_work.proofs.Runs.{astray, ran_followed, ran_last, leads_on, leads_last, served_as}
+use Rattle.mv_work.proofs.Runs.{ran_followed, ran_last, leads_astray, leads_on, leads_last, served_as}
+use Rattle.mv_work.proofs.Waits.{leads_as}
 
 -- ---- an idle initiator is handed a code
 
@@ -157,6 +157,14 @@ module _ {A B : Type 0} (slots : List (Option ℕ)) (f : ℕ → ℕ → Call A)
   -- this was
   pub found_is : (r : ℕ × ℕ) → lowest_complete 0 slots ≡ finished r → followed (lowest f 0 slots) rest ≡ followed (f r.0 r.1) rest
   found_is r is = ap (λ call. followed call rest) (found_in f slots r is)
+
+  module _ {u v : CallerFace} (r : ℕ × ℕ) (is : lowest_complete 0 slots ≡ finished r) where
+    -- its call was made, or went astray
+    pub found_done : {a : A} → Ran (f r.0 r.1) (Done a) u v → Leads (followed (lowest f 0 slots) rest) (rest a) u v
+    found_done x = leads_on rest (leads_as u (found_is r is)) x
+
+    pub found_astray : Ran (f r.0 r.1) Wrong u v → Ran (followed (lowest f 0 slots) rest) Wrong u v
+    found_astray x = leads_astray rest (leads_as u (found_is r is)) x
 
 -- there is no job to wait for
 pub is_none : {A : Type 0} (xs : List A) → true ≡ (length xs == 0) → xs ≡ []

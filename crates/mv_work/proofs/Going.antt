@@ -1,22 +1,20 @@
 -- From what was told to a task, and what it did then, to where it has come. Used by begin and go_on.
-use Rattle.std.proofs.Common.{◌≡◌, ℕ, ◌+◌, ◌-◌, ◌<◌, ◌≤◌, List, [], length, vec_capacity, Option, Some, None, sym, ap, ◌∙◌, subst, arith}
+use Rattle.std.proofs.Common.{◌≡◌, ℕ, ◌-◌, List, [], length, Option, Some, None, subst, arith}
 use Rattle.mv_board.specs.Faces.{BoardFace, CallerFace, IsSame}
 use Rattle.mv_deck.specs.Deck.{JobData}
 use Rattle.mv_wait.proofs.Runs.{same_then}
-use Rattle.mv_work.specs.declared.initiator.Notes.{Notes}
 use Rattle.mv_work.specs.declared.need.Got.{Got}
 use Rattle.mv_work.specs.declared.need.Need.{Need}
 use Rattle.mv_work.specs.declared.stage.InitiatorStage.{InitiatorStage}
 use Rattle.mv_work.specs.declared.stage.SchedulerStage.{SchedulerStage}
 use Rattle.mv_work.specs.declared.stage.Stage.TheVariants as stage
 use Rattle.mv_work.specs.declared.work.Work.{Work}
-use Rattle.mv_work.specs.Initiating.{InitiatorComes, IsInitiatorNeed, initiator_left, initiator_stages}
+use Rattle.mv_work.specs.Initiating.{InitiatorComes, initiator_left}
 use Rattle.mv_work.specs.Needs.{answer_of}
 use Rattle.mv_work.specs.Noting.{initiating_noted}
-use Rattle.mv_work.specs.Ran.{Leads, RanOut}
+use Rattle.mv_work.specs.Ran.{RanOut}
 use Rattle.mv_work.specs.Scheduling.{scheduler_left}
-use Rattle.mv_work.specs.Waiting.{Comes}
-use Rattle.mv_work.specs.Works.{HasCome, HasWorked, ToldAt, WaitsAt, ends_found, records}
+use Rattle.mv_work.specs.Works.{HasCome, ToldAt, WaitsAt, ends_found}
 use Rattle.mv_work.specs.Writing.{writer_left}
 use Rattle.mv_work.proofs.Meeting.{scheduler_worked, writer_worked, initiator_worked}
 use Rattle.mv_work.proofs.Runs.{leads_out}
@@ -45,16 +43,14 @@ module _ (b : BoardFace) (deck : List JobData) (i : ℕ) (w new : Work) {t u : C
         → InitiatorComes b deck index new.notes (initiator_left b.config deck index w.notes s (answer_of g)) u next v
         → InitiatorComes b deck told.0 new.notes (initiating_noted b.config deck told.0) t next v
     initiator_on next x =
-        comes_on b (initiator_stages b.config deck told.0 new.notes) (IsInitiatorNeed deck told.0 new.notes) (records new) v next told.3.same
-        told.3.leads
-        (subst (λ me. InitiatorComes b deck me new.notes (initiator_left b.config deck me w.notes s (answer_of g)) u next v) initiator_is x)
+        comes_on told.3.same told.3.leads (subst (λ me. InitiatorComes b deck me new.notes (initiator_left b.config deck me w.notes s (answer_of g)) u next v) initiator_is x)
 
     pub initiator_over : InitiatorComes b deck index new.notes (initiator_left b.config deck index w.notes s (answer_of g)) u None v
         → HasCome b deck i new t None v
     initiator_over x =
-        let out = initiator_on None x in (out.0, initiator_worked b.config deck i new told.0 told.1 told.2 out.1)
+        let out = (initiator_on None x).come in (out.0, initiator_worked b.config deck i new told.0 told.1 told.2 out.1)
 
     pub initiator_next : (next : InitiatorStage) (n : Need)
         → InitiatorComes b deck index new.notes (initiator_left b.config deck index w.notes s (answer_of g)) u (Some (next, n)) v
         → WaitsAt b deck i new (Some (stage.Initiator next)) t n v
-    initiator_next next n x = (told.0, told.1, told.2, initiator_on (Some (next, n)) x)
+    initiator_next next n x = (told.0, told.1, told.2, (initiator_on (Some (next, n)) x).come)

@@ -116,31 +116,21 @@ plan_made deck i w t u made = go (t.number == reader) (t.number == scheduler) (t
 -- the writer's ends
 writer_made : (deck : List JobData) (i : ℕ) (w : Work) (t u : CallerFace) → t.number ≡ writer i → HasWorked (spool_setup deck i) deck i w t u
     → RanOut (writing (spool_setup deck i) (length deck)) (ends_found w) t u
-writer_made deck i w t u is made = go _ _ _ _ (t.number == reader) (t.number == scheduler) (t.number == writer i)
-    (ne_eqb t.number reader (omega arith)) (ne_eqb t.number scheduler (omega arith)) (eq-eqb t.number (writer i) is) made where
-      go : (R S W I : Type 0) (x y z : Bool) → x ≡ false → y ≡ false → z ≡ true → MatchBool x R (MatchBool y S (MatchBool z W I)) → W
-      go R S W I false false true a b c made = made
-      go R S W I true y z a b c made = absurd (cc a)
-      go R S W I false true z a b c made = absurd (cc b)
-      go R S W I false false false a b c made = absurd (cc c)
+writer_made deck i w t u is made =
+    rw (ne_eqb t.number reader (omega arith), ne_eqb t.number scheduler (omega arith), eq-eqb t.number (writer i) is) at made
 
 -- an initiator's records
 initiator_made : (deck : List JobData) (i m : ℕ) (w : Work) (t u : CallerFace) → t.number ≡ initiator m → m < i
     → HasWorked (spool_setup deck i) deck i w t u → RanOut (initiating_noted (spool_setup deck i) deck m) (records w) t u
 initiator_made deck i m w t u is lt made =
     subst (λ k. RanOut (initiating_noted (spool_setup deck i) deck k) (records w) t u) (let e : t.number - 2 ≡ m = omega arith in e)
-    (go _ _ _ _ (t.number == reader) (t.number == scheduler) (t.number == writer i) (ne_eqb t.number reader (omega arith)) (ne_eqb t.number scheduler (omega arith)) (ne_eqb t.number (writer i) (omega arith)) made) where
-      go : (R S W I : Type 0) (x y z : Bool) → x ≡ false → y ≡ false → z ≡ false → MatchBool x R (MatchBool y S (MatchBool z W I)) → I
-      go R S W I false false false a b c made = made
-      go R S W I true y z a b c made = absurd (cc a)
-      go R S W I false true z a b c made = absurd (cc b)
-      go R S W I false false true a b c made = absurd (cc c)
+    (rw (ne_eqb t.number reader (omega arith), ne_eqb t.number scheduler (omega arith), ne_eqb t.number (writer i) (omega arith)) at made)
 
 -- which task has these numbers
 writer_is : (deck : List JobData) (i : ℕ) → task deck i (writer i) ≡ writing (spool_setup deck i) (length deck)
 writer_is deck i = rw (ne_eqb (writer i) reader (λ e. omega arith), ne_eqb (writer i) scheduler (λ e. omega arith), eq-eqb (writer i) (writer i) refl) refl
 
-initiator_is : (deck : List JobData) (i m : ℕ) → m < i → task deck i (initiator m) ≡ initiating (spool_setup deck i) deck m
+pub initiator_is : (deck : List JobData) (i m : ℕ) → m < i → task deck i (initiator m) ≡ initiating (spool_setup deck i) deck m
 initiator_is deck i m lt =
     rw (
       ne_eqb (initiator m) reader (λ e. omega arith),

@@ -1,18 +1,18 @@
 -- From what a task waits for, and how that was met, to what it was told. For whoever runs tasks.
-use Rattle.std.proofs.Common.{◌≡◌, ℕ, ◌+◌, ◌-◌, ◌*◌, ◌<◌, ◌≤◌, List, [], length, take, Option, Some, None, Ok, Err, refl, sym, ap, ◌∙◌, subst, arith}
+use Rattle.std.proofs.Common.{◌≡◌, ℕ, ◌+◌, ◌-◌, ◌*◌, ◌<◌, ◌≤◌, List, [], length, take, Option, Some, None, Ok, Err, refl, sym, ◌∙◌, subst, arith}
 use Rattle.std.proofs.lemmas.Bool.{eq-eqb, ne_eqb}
 use Rattle.mv_board.specs.Faces.{BoardFace, CallerFace, IsSame}
 use Rattle.mv_machine.specs.Setup.{Setup, element_count}
 use Rattle.mv_calls.specs.LatchCalls.{GrantedAs, PendingAs, obtain}
 use Rattle.mv_calls.specs.Pauses.{Gift, pause}
-use Rattle.mv_calls.specs.Program.{Call, Done, Wrong, finished, unrefused}
+use Rattle.mv_calls.specs.Program.{Done, Wrong, finished, unrefused}
 use Rattle.mv_calls.specs.Refusal.{Refusal}
 use Rattle.mv_calls.specs.Waits.{wait}
 use Rattle.mv_deck.specs.Deck.{JobData}
 use Rattle.mv_element.specs.declared.element.Token.{Token}
 use Rattle.mv_latch.specs.declared.request.LatchForm.TheVariants.{Waiting}
 use Rattle.mv_latch.specs.declared.request.Mode.{Mode}
-use Rattle.mv_plan.specs.SpoolSetup.{spool_setup, initiator, scheduler, writer}
+use Rattle.mv_plan.specs.SpoolSetup.{spool_setup}
 use Rattle.mv_plan.specs.SpoolTasks.{granted_as, reading, scheduling, writing}
 use Rattle.mv_wait.proofs.Runs.{same_then}
 use Rattle.mv_wait.specs.Run.{IsServed}
@@ -24,20 +24,18 @@ use Rattle.mv_work.specs.declared.need.Need.TheVariants as need
 use Rattle.mv_work.specs.declared.initiator.Notes.{Notes}
 use Rattle.mv_work.specs.declared.stage.InitiatorStage.{InitiatorStage}
 use Rattle.mv_work.specs.declared.stage.InitiatorStage.TheVariants as at
-use Rattle.mv_work.specs.declared.stage.SchedulerStage.{SchedulerStage}
 use Rattle.mv_work.specs.declared.stage.Stage.{Stage}
 use Rattle.mv_work.specs.declared.stage.Stage.TheVariants as stage
 use Rattle.mv_work.specs.declared.work.Work.{Work}
 use Rattle.mv_work.specs.Initiating.{IsInitiatorAnswer, IsInitiatorNeed, initiator_stages}
 use Rattle.mv_work.specs.Meeting.{IsAnswerTo, MayMeet}
-use Rattle.mv_work.specs.Needs.{Answer, Slots, Gave, Holds, answer_of, need_call, need_events}
+use Rattle.mv_work.specs.Needs.{Slots, Gave, Holds, answer_of, need_call, need_events}
 use Rattle.mv_work.specs.Noting.{initiating_noted}
-use Rattle.mv_work.specs.Ran.{Ran, RanOut, Leads}
-use Rattle.mv_work.specs.Records.{JobRecord}
-use Rattle.mv_work.specs.Scheduling.{AreBlocks, AreSlots, IsSchedulerAnswer, IsSchedulerNeed, scheduler_stages}
-use Rattle.mv_work.specs.Waiting.{IsResting, Stages, Told, Waits}
+use Rattle.mv_work.specs.Ran.{Ran, RanOut}
+use Rattle.mv_work.specs.Scheduling.{AreBlocks, AreSlots, scheduler_stages}
+use Rattle.mv_work.specs.Waiting.{IsResting}
 use Rattle.mv_work.specs.Works.{HasCome, HasWorked, ToldAt, WaitsAt, WasTold, ends_found, records}
-use Rattle.mv_work.specs.Writing.{IsWriterAnswer, IsWriterNeed, writer_stages}
+use Rattle.mv_work.specs.Writing.{writer_stages}
 use Rattle.mv_work.proofs.Runs.{leads_astray, out_wrong, ran_last, served_as}
 use Rattle.mv_work.proofs.Waits.{rests_less, told_answer}
 
@@ -64,30 +62,22 @@ module _ (c : Setup) (deck : List JobData) (i : ℕ) (w : Work) {t u : CallerFac
 slots_are : (c : Setup) (count : ℕ) (n : Need) (g : Got) → IsAnswerTo n g → AreBlocks c count n → AreSlots count g
 slots_are c count (need.Blocks b) (got.Slots s) is fits =
     (is ∙ fits.0, (let e : s.len ≡ b.len = is in let few = fits.1 in omega arith))
-slots_are c count (need.Blocks b) (got.Given given) is fits = absurd is
-slots_are c count (need.Blocks b) (got.Granted token) is fits = absurd is
-slots_are c count (need.Pause token) g is fits = absurd fits
-slots_are c count (need.Latch latch requestor mode) g is fits = absurd fits
+slots_are c count (need.Blocks b) g is fits = absurd is
+slots_are c count n g is fits = absurd fits
 
 initiator_is : (deck : List JobData) (me : ℕ) (notes : Notes) (s : InitiatorStage) (n : Need) (g : Got) → IsAnswerTo n g
     → IsInitiatorNeed deck me notes s n → IsInitiatorAnswer deck me notes s g
 initiator_is deck me notes (at.Pause round) (need.Pause token) (got.Given given) is fits = (fits.0, (is.0 ∙ fits.1.0, is.1))
 initiator_is deck me notes (at.Latch r) (need.Latch latch requestor mode) (got.Granted token) is fits = (fits.0, is ∙ fits.1)
-initiator_is deck me notes (at.Pause round) (need.Pause token) (got.Slots s) is fits = absurd is
-initiator_is deck me notes (at.Pause round) (need.Pause token) (got.Granted t) is fits = absurd is
-initiator_is deck me notes (at.Latch r) (need.Latch latch requestor mode) (got.Slots s) is fits = absurd is
-initiator_is deck me notes (at.Latch r) (need.Latch latch requestor mode) (got.Given given) is fits = absurd is
-initiator_is deck me notes (at.Pause round) (need.Blocks b) g is fits = absurd fits
-initiator_is deck me notes (at.Pause round) (need.Latch latch requestor mode) g is fits = absurd fits
-initiator_is deck me notes (at.Latch r) (need.Blocks b) g is fits = absurd fits
-initiator_is deck me notes (at.Latch r) (need.Pause token) g is fits = absurd fits
+initiator_is deck me notes (at.Pause round) (need.Pause token) g is fits = absurd is
+initiator_is deck me notes (at.Latch r) (need.Latch latch requestor mode) g is fits = absurd is
+initiator_is deck me notes s n g is fits = absurd fits
 
 -- what is needed is there
 
 blocks_there : (c : Setup) (count : ℕ) (n : Need) → AreBlocks c count n → MayMeet c n
 blocks_there c count (need.Blocks bs) fits = (fits.1, fits.2, fits.3)
-blocks_there c count (need.Pause token) fits = absurd fits
-blocks_there c count (need.Latch latch requestor mode) fits = absurd fits
+blocks_there c count n fits = absurd fits
 
 own_there : (c : Setup) (deck : List JobData) (i : ℕ) (notes : Notes) (me : ℕ) (s : InitiatorStage) (n : Need) → c ≡ spool_setup deck i → me < i
     → IsInitiatorNeed deck me notes s n → MayMeet c n
@@ -95,10 +85,7 @@ own_there c deck i notes me (at.Pause round) (need.Pause token) is lt fits =
     subst (λ c. token.element < element_count c) (sym is)
     (let own = fits.1.0 in let one : (i + 3) * 1 ≡ i + 3 = omega arith in omega arith)
 own_there c deck i notes me (at.Latch r) (need.Latch latch requestor mode) is lt fits = tt
-own_there c deck i notes me (at.Pause round) (need.Blocks bs) is lt fits = absurd fits
-own_there c deck i notes me (at.Pause round) (need.Latch latch requestor mode) is lt fits = tt
-own_there c deck i notes me (at.Latch r) (need.Blocks bs) is lt fits = absurd fits
-own_there c deck i notes me (at.Latch r) (need.Pause token) is lt fits = absurd fits
+own_there c deck i notes me s n is lt fits = absurd fits
 
 module _ (b : BoardFace) (deck : List JobData) (i : ℕ) (w : Work) (t u : CallerFace) (n : Need) where
   told_at : {v : CallerFace} (o : Option Stage) (g : Got) → WaitsAt b deck i w o t n u → IsAnswerTo n g
@@ -106,21 +93,17 @@ module _ (b : BoardFace) (deck : List JobData) (i : ℕ) (w : Work) (t u : Calle
   told_at {v} None g at is x few = at
   told_at {v} (Some (stage.Scheduler s)) g at is x few = (
     at.0,
-    told_answer b (scheduler_stages b.config deck i) (IsSchedulerNeed b.config deck i) (IsSchedulerAnswer deck i) s n g
-        (λ fits. record { numbers = fits.numbers; slots = slots_are b.config _ n g is fits.blocks }) at.1 x few,
+    told_answer g (λ fits. record { numbers = fits.numbers; slots = slots_are b.config _ n g is fits.blocks }) at.1 x few,
   )
   told_at {v} (Some (stage.Initiator s)) g at is x few = (
     at.0,
     at.1,
     at.2,
-    told_answer b (initiator_stages b.config deck at.0 w.notes) (IsInitiatorNeed deck at.0 w.notes) (IsInitiatorAnswer deck at.0 w.notes)
-        s n g (initiator_is deck at.0 w.notes s n g is) at.3 x few,
+    told_answer g (initiator_is deck at.0 w.notes s n g is) at.3 x few,
   )
   told_at {v} (Some (stage.Writer j)) g at is x few = (
     at.0,
-    told_answer b (writer_stages b.config (length deck) (ends_found w)) (IsWriterNeed b.config (length deck) _)
-        (IsWriterAnswer (length deck) _) j n g
-        (λ fits. record { number = fits.number; room = fits.room; slot = slots_are b.config 1 n g is fits.block }) at.1 x few,
+    told_answer g (λ fits. record { number = fits.number; room = fits.room; slot = slots_are b.config 1 n g is fits.block }) at.1 x few,
   )
 
   -- the task was told an answer
@@ -155,17 +138,17 @@ module _ (b : BoardFace) (deck : List JobData) (i : ℕ) (w : Work) (t u : Calle
   ready_at None is at = absurd at
   ready_at (Some (stage.Scheduler s)) is at = (
     at.1.same,
-    rests_less b (need_events n + (scheduler_stages b.config deck i).due s) (need_events n) (omega arith) at.1.rests,
+    rests_less at.1.rests (omega arith),
     blocks_there b.config _ n at.1.fits.blocks,
   )
   ready_at (Some (stage.Initiator s)) is at = (
     at.3.same,
-    rests_less b (need_events n + (initiator_stages b.config deck at.0 w.notes).due s) (need_events n) (omega arith) at.3.rests,
+    rests_less at.3.rests (omega arith),
     own_there b.config deck i w.notes at.0 s n is at.1 at.3.fits,
   )
   ready_at (Some (stage.Writer j)) is at = (
     at.1.same,
-    rests_less b (need_events n + (writer_stages b.config (length deck) (ends_found w)).due j) (need_events n) (omega arith) at.1.rests,
+    rests_less at.1.rests (omega arith),
     blocks_there b.config 1 n at.1.fits.block,
   )
 

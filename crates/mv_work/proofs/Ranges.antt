@@ -1,12 +1,12 @@
 -- Calls for each number of a range, loops over numbers, and over the AFTER list of a job. Used by end_blocks, idle_blocks,
 -- some_above, await_ends and the loops of the tasks.
-use Rattle.std.proofs.Common.{◌≡◌, ℕ, zero, suc, ◌+◌, ◌-◌, ◌*◌, ◌<◌, ◌≤◌, ◌==◌, ◌||◌, Bool, true, false, List, [], ◌∷◌, length, map, take}
+use Rattle.std.proofs.Common.{◌≡◌, ℕ, zero, suc, ◌+◌, ◌-◌, ◌*◌, ◌<◌, ◌≤◌, ◌||◌, Bool, true, false, List, [], ◌∷◌, length, map, take}
 use Rattle.std.proofs.Common.{drop}
 use Rattle.std.proofs.Common.{get_or, refl, ap, ◌∙◌, subst, arith}
 use Rattle.std.specs.List.{AllByRecursion, range_with_len}
 use Rattle.std.proofs.lemmas.List.{drop_more}
 use Rattle.mv_board.specs.Faces.{CallerFace}
-use Rattle.mv_calls.specs.Program.{Call, Done, Wrong, followed, for_each}
+use Rattle.mv_calls.specs.Program.{Call, Done, followed, for_each}
 use Rattle.mv_deck.specs.declared.deck.After.{After}
 use Rattle.mv_plan.specs.SpoolSetup.{idle}
 use Rattle.mv_plan.specs.SpoolTasks.{ends_of, some_end_above}
@@ -15,7 +15,7 @@ use Rattle.mv_wait.specs.declared.waiting.WaitSlot.{WaitSlot}
 use Rattle.mv_wait.specs.declared.waiting.WaitSlot.TheVariants.{Complete, Open}
 use Rattle.mv_work.specs.Parts.{is_end_above}
 use Rattle.mv_work.specs.Ran.{Ran, Leads}
-use Rattle.mv_work.proofs.Runs.{leads_on, leads_astray}
+use Rattle.mv_work.proofs.Runs.{leads_on}
 
 range_when : (a n m : ℕ) → n ≡ suc m → range_with_len a n ≡ a ∷ range_with_len (a + 1) m
 range_when a n m e = ap (λ k. range_with_len a k) e
@@ -38,10 +38,6 @@ module _ {A B : Type 0} {whole : Call B} {t u : CallerFace} (f : ℕ → Call A)
   pub next_done : {a : A} {v : CallerFace} → m < n → Ran (f m) (Done a) u v
       → Leads whole (for_each (range_with_len (m + 1) (n - (m + 1))) f last) t v
   next_done lt x = leads_on (λ a. for_each (range_with_len (m + 1) (n - (m + 1))) f last) (next_left lt) x
-
-  -- and went astray
-  pub next_astray : {v : CallerFace} → m < n → Ran (f m) Wrong u v → Ran whole Wrong t v
-  next_astray lt x = leads_astray (λ a. for_each (range_with_len (m + 1) (n - (m + 1))) f last) (next_left lt) x
 
   -- no number is left
   pub last_left : n ≤ m → Leads whole last t u
@@ -80,10 +76,6 @@ pub ends_exist : (n owners : ℕ) (parts : List After) → 4 * n ≤ owners → 
     → AllByRecursion (λ e. e < owners) (ends_of n parts)
 ends_exist n owners [] le all = tt
 ends_exist n owners (part ∷ parts) le all = (let lt = all.0 in omega arith, ends_exist n owners parts le all.1)
-
-pub not_none : (n : ℕ) → false ≡ (n == 0) → 0 < n
-not_none zero is = absurd (cc is)
-not_none (suc n) is = omega arith
 
 -- one slot and its part are looked at
 pub one_above : (part : After) (parts : List After) (slot : WaitSlot) (slots : List WaitSlot)

@@ -1,5 +1,5 @@
 -- The rounds of an initiator, wait by wait. Used by initiator.
-use Rattle.std.proofs.Common.{◌≡◌, ℕ, zero, suc, ◌+◌, ◌-◌, ◌<◌, ◌≤◌, ◌==◌, Bool, true, false, List, [], ◌∷◌, ◌++◌, length, get_or, set, map}
+use Rattle.std.proofs.Common.{◌≡◌, ℕ, zero, suc, ◌+◌, ◌-◌, ◌<◌, ◌==◌, Bool, true, false, List, [], ◌∷◌, ◌++◌, length, get_or, set}
 use Rattle.std.proofs.Common.{sum_by, ◌||◌, Option, Some, None, Result, Ok, Err, refl, sym, ap, ◌∙◌, subst, if◌then◌else◌, arith}
 use Rattle.std.specs.List.{AllByRecursion, list_any}
 use Rattle.std.proofs.lemmas.Bool.{eq-eqb, ne_eqb, eqb-true}
@@ -15,26 +15,23 @@ use Rattle.mv_calls.specs.Pauses.{Gift, allocate, deallocate, pause}
 use Rattle.mv_calls.specs.Posts.{Posting, post}
 use Rattle.mv_calls.specs.Program.{Call, Done, Wrong, accepted, finished, wrong, followed, unrefused}
 use Rattle.mv_calls.specs.Refusal.{Refusal}
-use Rattle.mv_calls.specs.Rest.{IsAtRest}
 use Rattle.mv_deck.specs.Deck.{JobData}
 use Rattle.mv_deck.specs.EndCode.{not_run}
-use Rattle.mv_deck.specs.Weight.{step_events, all_events}
 use Rattle.mv_plan.specs.Jobs.{job_at}
 use Rattle.mv_plan.specs.SpoolSetup.{idle, done}
 use Rattle.mv_plan.specs.SpoolTasks.{Named, named_by, job_named}
-use Rattle.mv_plan.proofs.points.InitiatorSound.{named_is}
 use Rattle.mv_wait.specs.Run.{IsServed}
 use Rattle.mv_work.specs.declared.initiator.Notes.{Notes}
 use Rattle.mv_work.specs.declared.need.Need.TheVariants as need
 use Rattle.mv_work.specs.declared.stage.InitiatorStage.TheVariants as stage
-use Rattle.mv_work.specs.Initiating.{AreGiven, IsAtJob, IsBetween, events_left, given_then, initiator_left, job_then, jobs_of_records, left_of}
-use Rattle.mv_work.specs.Initiating.{marks_left, rounds_after, steps_marks, steps_then}
+use Rattle.mv_work.specs.Initiating.{AreGiven, given_then, initiator_left, job_then, jobs_of_records, left_of}
+use Rattle.mv_work.specs.Initiating.{rounds_after, steps_then}
 use Rattle.mv_work.specs.Needs.{need_call}
-use Rattle.mv_work.specs.Noting.{all_steps_noted, initiating_noted, job_noted, record_of, rounds_noted, steps_noted}
+use Rattle.mv_work.specs.Noting.{initiating_noted, record_of, rounds_noted, steps_noted}
 use Rattle.mv_work.specs.Ran.{Ran, RanOut, Leads}
-use Rattle.mv_work.specs.Records.{JobRecord, Recorded}
+use Rattle.mv_work.specs.Records.{JobRecord}
 use Rattle.mv_work.proofs.Calls.{followed-assoc, pause_asked}
-use Rattle.mv_work.proofs.Runs.{leads_all, leads_on, ran_last, leads_last, leads_wrong, served_as, out_done, out_wrong}
+use Rattle.mv_work.proofs.Runs.{leads_all, leads_on, ran_last, served_as, out_done, out_wrong}
 
 -- ---- what was not given yet
 
@@ -113,68 +110,51 @@ module _ (c : Setup) (deck : List JobData) (me round : ℕ) (notes : Notes) {who
       subst (λ call. Leads whole call t v) (pause_asked c token (given_then c deck me (length deck - round) notes.noted.jobs))
       (leads_on (λ (posted : Posting). accepted (pause c token) (given_then c deck me (length deck - round) notes.noted.jobs)) k x)
 
-module _ (c : Setup) (deck : List JobData) (me round : ℕ) (records : List JobRecord) {whole : Call (List JobRecord)} {t : CallerFace} where
-  module _ (gift : Gift) {u : CallerFace} (k : Leads whole (given_then c deck me (length deck - round) records gift) t u) where
-    -- by code 0 the element is given back
-    closing_left : gift.code ≡ 0 → Leads whole (accepted (deallocate c gift.next) (λ closed. finished records)) t u
-    closing_left is = subst (λ call. Leads whole call t u) last k where
-      last : given_then c deck me (length deck - round) records gift ≡ accepted (deallocate c gift.next) (λ closed. finished records)
-      last = rw (eq-eqb gift.code 0 is) refl
+-- what follows a gift
+module _ (c : Setup) (deck : List JobData) (me round : ℕ) (records : List JobRecord) (gift : Gift) where
+  abbrev whole : Call (List JobRecord)
+  whole = given_then c deck me (length deck - round) records gift
 
-    -- or that is refused
-    pub ended : (a : Result (Unit {0}) Refusal) {v : CallerFace} → gift.code ≡ 0
-        → IsServed 1 (deallocate c gift.next) (λ b. b ≡ a) u v → RanOut whole records t v
-    ended (Ok given_back) is s = out_done (leads_last (unrefused (λ (closed : Unit {0}). finished records)) (closing_left is) (served_as s) refl)
-    ended (Err why) is s = out_wrong records
-        (leads_last (unrefused (λ (closed : Unit {0}). finished records)) (closing_left is) (served_as s) refl)
+  -- by code 0 the element is given back, or that is refused
+  pub ended : {u v : CallerFace} (a : Result (Unit {0}) Refusal) → gift.code ≡ 0 → IsServed 1 (deallocate c gift.next) (λ b. b ≡ a) u v
+      → RanOut whole records u v
+  ended {u} {v} a is s = subst (λ call. RanOut call records u v) (sym closing) (go a s) where
+    closing : whole ≡ accepted (deallocate c gift.next) (λ closed. finished records)
+    closing = rw (eq-eqb gift.code 0 is) refl
 
-    module _ (other : gift.code ≡ 0 → ⊥) where
-      -- any other code may name a job
-      naming_left : (o : Option Named) → o ≡ job_named (length deck) gift.code → Leads whole
-          (named_by o (jobs_of_records records) (length deck - round) (job_then c deck me (length deck - round) records gift.next)) t u
-      naming_left o is = subst (λ call. Leads whole call t u)
-          (by_code ∙ ap (λ o. named_by o (jobs_of_records records) (length deck - round)
-          (job_then c deck me (length deck - round) records gift.next)) (sym is)) k where
-            by_code : given_then c deck me (length deck - round) records gift ≡ named_by (job_named (length deck) gift.code)
-                (jobs_of_records records) (length deck - round) (job_then c deck me (length deck - round) records gift.next)
-            by_code = rw (ne_eqb gift.code 0 other) refl
+    go : (a : Result (Unit {0}) Refusal) → IsServed 1 (deallocate c gift.next) (λ b. b ≡ a) u v
+        → RanOut (accepted (deallocate c gift.next) (λ closed. finished records)) records u v
+    go (Ok given_back) s = out_done (ran_last (served_as s) (unrefused (λ (closed : Unit {0}). finished records)) refl)
+    go (Err why) s = out_wrong records (ran_last (served_as s) (unrefused (λ (closed : Unit {0}). finished records)) refl)
 
-      -- it names none
-      pub unnamed : None ≡ job_named (length deck) gift.code → IsAtRest u.log → Ran whole Wrong t u
-      unnamed none quiet = leads_wrong (naming_left None none) quiet
+  -- any other code may name a job
+  module _ (other : gift.code ≡ 0 → ⊥) where
+    names : (o : Option Named) → o ≡ job_named (length deck) gift.code → (m : ℕ) → length deck - round ≡ m
+        → whole ≡ named_by o (jobs_of_records records) m (job_then c deck me m records gift.next)
+    names o is m left = by_code ∙ ap (λ m. named_by (job_named (length deck) gift.code) (jobs_of_records records) m
+        (job_then c deck me m records gift.next)) left
+        ∙ ap (λ o. named_by o (jobs_of_records records) m (job_then c deck me m records gift.next)) (sym is) where
+          by_code : whole ≡ named_by (job_named (length deck) gift.code) (jobs_of_records records) (length deck - round)
+              (job_then c deck me (length deck - round) records gift.next)
+          by_code = rw (ne_eqb gift.code 0 other) refl
 
-      module _ {named : Named} (some : Some named ≡ job_named (length deck) gift.code) where
-        rounds_left : (m : ℕ) → length deck - round ≡ m
-            → Leads whole (named_by (Some named) (jobs_of_records records) m (job_then c deck me m records gift.next)) t u
-        rounds_left m is =
-            subst (λ m. Leads whole (named_by (Some named) (jobs_of_records records) m (job_then c deck me m records gift.next)) t u) is
-            (naming_left (Some named) some)
+    -- it names none
+    pub unnamed : None ≡ job_named (length deck) gift.code → whole ≡ wrong
+    unnamed none = names None none (length deck - round) refl
 
-        -- a job where no round is left for it
-        pub last_named : round ≡ length deck → IsAtRest u.log → Ran whole Wrong t u
-        last_named is quiet = leads_wrong (rounds_left 0 (omega arith)) quiet
+    module _ {named : Named} (some : Some named ≡ job_named (length deck) gift.code) where
+      -- a job where no round is left for it
+      pub last_named : round ≡ length deck → whole ≡ wrong
+      last_named is = names (Some named) some 0 (omega arith)
 
-        -- the job is one of the deck
-        pub is_named : named.job < length deck
-        is_named = (named_is (length deck) gift.code named (sym some)).0
-
-        module _ (within : round < length deck) {given : List Bool} (are : AreGiven (jobs_of_records records) given)
-            (place : named.job < length given) where
-          named_left : (b : Bool) → get_or given named.job false ≡ b
-              → Leads whole (if b then wrong else job_then c deck me (rounds_after deck round) records gift.next named) t u
-          named_left b is = subst (λ call. Leads whole call t u)
-              (ap (λ (b : Bool). if b then wrong else job_then c deck me (rounds_after deck round) records gift.next named)
-              (are.each named.job place ∙ is))
-              (rounds_left (suc (length deck - (round + 1))) (omega arith))
-
-          -- a job that was given before
-          pub named_again : get_or given named.job false ≡ true → IsAtRest u.log → Ran whole Wrong t u
-          named_again is quiet = leads_wrong (named_left true is) quiet
-
-          -- a job that was not
-          pub named_now : get_or given named.job false ≡ false
-              → Leads whole (job_then c deck me (rounds_after deck round) records gift.next named) t u
-          named_now is = named_left false is
+      -- the job may have been given before
+      pub named_now : round < length deck → {given : List Bool} → AreGiven (jobs_of_records records) given → named.job < length given
+          → (b : Bool) → get_or given named.job false ≡ b
+          → whole ≡ (if b then wrong else job_then c deck me (rounds_after deck round) records gift.next named)
+      named_now within are place b is =
+          names (Some named) some (suc (length deck - (round + 1))) (omega arith)
+          ∙ ap (λ (b : Bool). if b then wrong else job_then c deck me (rounds_after deck round) records gift.next named)
+          (are.each named.job place ∙ is)
 
 -- ---- a job that was named
 

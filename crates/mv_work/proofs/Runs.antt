@@ -1,5 +1,5 @@
 -- A call that a task has run a part of: calls one after the other, and what is left to do.
-use Rattle.std.proofs.Common.{◌≡◌, ℕ, ◌+◌, ◌≤◌, List, [], ◌∷◌, ◌++◌, Result, Ok, Err, refl, sym, ap, ◌∙◌, subst, arith}
+use Rattle.std.proofs.Common.{◌≡◌, ℕ, ◌+◌, ◌≤◌, List, [], ◌∷◌, ◌++◌, refl, sym, ap, ◌∙◌, subst, arith}
 use Rattle.mv_board.specs.Faces.{BoardFace, CallerFace, IsOf, IsSame}
 use Rattle.mv_calls.specs.Keeping.{Kept, kept_after, kept_from, kept_of, nothing_kept}
 use Rattle.mv_calls.specs.Program.{Program, Do, Done, Early, Wrong, Call, Heard, Says, left, entries, heard, going_on, followed, finished}

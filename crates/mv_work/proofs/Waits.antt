@@ -1,112 +1,101 @@
 -- A task that comes to its next wait. Used by all that ask for something, and by begin and go_on.
-use Rattle.std.proofs.Common.{◌≡◌, ℕ, ◌+◌, ◌≤◌, List, Option, Some, None, Result, Ok, Err, refl, sym, ap, ◌∙◌, subst, arith}
-use Rattle.mv_board.specs.Faces.{BoardFace, CallerFace, IsOf, IsSame}
+use Rattle.std.proofs.Common.{◌≡◌, ℕ, ◌+◌, ◌≤◌, Option, Some, None, ap, ◌∙◌, subst, arith}
+use Rattle.mv_board.specs.Faces.{BoardFace, CallerFace, IsSame}
 use Rattle.mv_calls.specs.Keeping.{kept_of}
-use Rattle.mv_calls.specs.Program.{Call, Done, Wrong, followed, wrong}
+use Rattle.mv_calls.specs.Program.{Call, Done, Wrong, wrong}
 use Rattle.mv_calls.specs.Rest.{IsAtRest}
 use Rattle.mv_machine.specs.Setup.{Setup}
 use Rattle.mv_wait.proofs.Runs.{same_then, same_caller}
 use Rattle.mv_wait.specs.Run.{IsServed}
 use Rattle.mv_work.specs.declared.need.Got.{Got}
 use Rattle.mv_work.specs.declared.need.Need.{Need}
-use Rattle.mv_work.specs.Needs.{Answer, answer_of, need_call, need_events}
-use Rattle.mv_work.specs.Ran.{Ran, RanOut, Leads}
-use Rattle.mv_work.specs.Waiting.{Asks, Comes, IsResting, Stages, Told, Waits}
-use Rattle.mv_work.proofs.Runs.{astray, leads_all, leads_on, leads_out, leads_then, out_wrong, ran_nothing, served_few, still_of}
+use Rattle.mv_work.specs.Needs.{answer_of, need_call, need_events}
+use Rattle.mv_work.specs.Ran.{Ran, Leads}
+use Rattle.mv_work.specs.Waiting.{Asks, AsksFor, Comes, ComesTo, IsResting, Stages, Told, Waits}
+use Rattle.mv_work.proofs.Runs.{astray, leads_all, leads_on, leads_out, leads_then, out_done, out_wrong, ran_nothing, served_few, served_ran, still_of}
 
 -- a task at rest, with fewer events that it needs
-pub rests_less : (b : BoardFace) (most less : ℕ) {u : CallerFace} → less ≤ most → IsResting b most u → IsResting b less u
-rests_less b most less le r = record { board = r.board; quiet = r.quiet; left = (let left = r.left in omega arith) }
-
--- a call was served
-pub rests_then : {A : Type 0} {n : ℕ} {call : Call A} {Is : A → Type 0} {u v : CallerFace} (b : BoardFace) (most less : ℕ)
-    → IsServed n call Is u v → less + n ≤ most → IsResting b most u → IsResting b less v
-rests_then {A} {n} {call} {Is} {u} {v} b most less s le r = record {
-  board = still_of b r.board s.same;
-  quiet = s.made.rest;
-  left = (let left = r.left in let few = served_few s in omega arith);
-}
+pub rests_less : {b : BoardFace} {most less : ℕ} {u : CallerFace} → IsResting b most u → less ≤ most → IsResting b less u
+rests_less r le = record { board = r.board; quiet = r.quiet; left = (let left = r.left in omega arith) }
 
 -- a call was run, of so many events
-pub rests_ran : {A : Type 0} {call : Call A} {a : A} {u v : CallerFace} (b : BoardFace) (n most less : ℕ) → Ran call (Done a) u v
-    → u.left ≤ v.left + n → less + n ≤ most → IsResting b most u → IsResting b less v
-rests_ran {A} {call} {a} {u} {v} b n most less x few le r = record {
+pub rests_ran : {A : Type 0} {call : Call A} {a : A} {b : BoardFace} {most less : ℕ} {u v : CallerFace} (n : ℕ) → Ran call (Done a) u v
+    → u.left ≤ v.left + n → IsResting b most u → less + n ≤ most → IsResting b less v
+rests_ran {b = b} n x few r le = record {
   board = still_of b r.board x.went.same;
   quiet = x.quiet;
   left = (let left = r.left in omega arith);
 }
 
+-- a call was served
+pub rests_then : {A : Type 0} {n : ℕ} {call : Call A} {Is : A → Type 0} {b : BoardFace} {most less : ℕ} {u v : CallerFace}
+    → IsServed n call Is u v → IsResting b most u → less + n ≤ most → IsResting b less v
+rests_then {n = n} s r le = rests_ran n (served_ran s) (served_few s) r le
+
 -- what is left to do, by another name
 pub leads_as : {A : Type 0} {whole rest : Call A} (u : CallerFace) → whole ≡ rest → Leads whole rest u u
 leads_as {A} {whole} {rest} u is = subst (λ call. Leads whole call u u) is (leads_all whole u)
 
-module _ {S A : Type 0} (b : BoardFace) (stages : Stages S A) (Fits : S → Need → Type 0) (a : A) where
+module _ {S A : Type 0} {b : BoardFace} {stages : Stages S A} {Fits : S → Need → Type 0} {a : A} where
   -- what is left to do, asked for, is what the task comes to
-  pub asks_come : {rest whole : Call A} {t u : CallerFace} (most : ℕ) (next : Option (S × Need))
+  pub asks_come : {rest whole : Call A} {t u : CallerFace} {most : ℕ} {next : Option (S × Need)}
       → Asks b.config stages Fits a rest most next → IsSame t u → Leads whole rest t u → IsResting b most u
       → Comes b stages Fits a whole t next u
-  asks_come {rest} {whole} {t} {u} most (Some next) asks same leads rests = record {
-    same = same;
-    rests = rests_less b most (need_events next.1 + stages.due next.0) asks.2 rests;
-    fits = asks.1;
-    leads = subst (λ r. Leads whole r t u) asks.0 leads;
-  }
-  asks_come {rest} {whole} {t} {u} most None asks same leads rests = (
-    same,
-    record {
-      last = Done a;
-      over = refl;
-      ran = leads (Done a) u (ran_nothing rest (asks (kept_of u.number u.log)) rests.quiet);
-    },
-  )
+  asks_come {rest} {whole} {t} {u} {most} {next} asks same leads rests = record { come = go next asks.asks } where
+    go : (next : Option (S × Need)) → AsksFor b.config stages Fits a rest most next → ComesTo b stages Fits a whole t next u
+    go (Some next) asks = record {
+      same = same;
+      rests = rests_less rests asks.2;
+      fits = asks.1;
+      leads = subst (λ r. Leads whole r t u) asks.0 leads;
+    }
+    go None asks = (
+      same,
+      out_done (leads (Done a) u (ran_nothing rest (asks (kept_of u.number u.log)) rests.quiet)),
+    )
 
   -- with nothing done before
-  pub asks_first : (rest : Call A) {u : CallerFace} (most : ℕ) (next : Option (S × Need))
-      → Asks b.config stages Fits a rest most next → IsResting b most u → Comes b stages Fits a rest u next u
-  asks_first rest {u} most next asks rests = asks_come most next asks (same_caller u) (leads_all rest u) rests
+  pub asks_first : {rest : Call A} {u : CallerFace} {most : ℕ} {next : Option (S × Need)} → Asks b.config stages Fits a rest most next
+      → IsResting b most u → Comes b stages Fits a rest u next u
+  asks_first {rest} {u} asks rests = asks_come asks (same_caller u) (leads_all rest u) rests
 
   -- what was left to do has come to its next wait: so has the whole
-  pub comes_on : {rest whole : Call A} {t u : CallerFace} (v : CallerFace) (next : Option (S × Need)) → IsSame t u → Leads whole rest t u
+  pub comes_on : {rest whole : Call A} {t u v : CallerFace} {next : Option (S × Need)} → IsSame t u → Leads whole rest t u
       → Comes b stages Fits a rest u next v → Comes b stages Fits a whole t next v
-  comes_on {rest} {whole} {t} {u} v (Some next) same leads w = record {
-    same = same_then t u v same w.same;
-    rests = w.rests;
-    fits = w.fits;
-    leads = leads_then leads w.leads;
-  }
-  comes_on {rest} {whole} {t} {u} v None same leads w = (same_then t u v same w.0, leads_out leads w.1)
+  comes_on {rest} {whole} {t} {u} {v} {next} same leads w = record { come = go next w.come } where
+    go : (next : Option (S × Need)) → ComesTo b stages Fits a rest u next v → ComesTo b stages Fits a whole t next v
+    go (Some next) w = record { same = same_then t u v same w.same; rests = w.rests; fits = w.fits; leads = leads_then leads w.leads }
+    go None w = (same_then t u v same w.0, leads_out leads w.1)
 
   -- what is left to do, by another name
-  pub comes_as : {rest whole : Call A} (u v : CallerFace) (next : Option (S × Need)) → whole ≡ rest
+  pub comes_as : {rest whole : Call A} {u v : CallerFace} {next : Option (S × Need)} → whole ≡ rest
       → Comes b stages Fits a rest u next v → Comes b stages Fits a whole u next v
-  comes_as {rest} {whole} u v next is x = subst (λ call. Comes b stages Fits a call u next v) (sym is) x
-
-  -- it is foreseen nowhere
-  pub comes_nowhere : {whole : Call A} (u : CallerFace) → whole ≡ wrong → IsAtRest u.log → Comes b stages Fits a whole u None u
-  comes_nowhere {whole} u is quiet = (same_caller u, out_wrong a (astray (leads_all whole u) is quiet))
+  comes_as {rest} {whole} {u} is w = comes_on (same_caller u) (leads_as u is) w
 
   -- a call of it went astray
   pub comes_astray : {whole : Call A} {u v : CallerFace} → IsSame u v → Ran whole Wrong u v → Comes b stages Fits a whole u None v
-  comes_astray same x = (same, out_wrong a x)
+  comes_astray same x = record { come = (same, out_wrong a x) }
+
+  -- it is foreseen nowhere
+  pub comes_nowhere : {whole : Call A} (u : CallerFace) → whole ≡ wrong → IsAtRest u.log → Comes b stages Fits a whole u None u
+  comes_nowhere {whole} u is quiet = comes_astray (same_caller u) (astray (leads_all whole u) is quiet)
 
 -- what is asked for, by another name, and by no more events
-pub asks_as : {S A : Type 0} (c : Setup) (stages : Stages S A) (Fits : S → Need → Type 0) (a : A) {rest whole : Call A} (less most : ℕ)
-    (next : Option (S × Need)) → whole ≡ rest → less ≤ most → Asks c stages Fits a rest less next → Asks c stages Fits a whole most next
-asks_as c stages Fits a less most (Some next) is le asks = (is ∙ asks.0, asks.1, (let few = asks.2 in omega arith))
-asks_as c stages Fits a less most None is le asks = λ kept. ap (λ call. call kept) is ∙ asks kept
+pub asks_as : {S A : Type 0} {c : Setup} {stages : Stages S A} {Fits : S → Need → Type 0} {a : A} {rest whole : Call A} {less most : ℕ}
+    {next : Option (S × Need)} → whole ≡ rest → less ≤ most → Asks c stages Fits a rest less next → Asks c stages Fits a whole most next
+asks_as {S} {A} {c} {stages} {Fits} {a} {rest} {whole} {less} {most} {next} is le asks = record { asks = go next asks.asks } where
+  go : (next : Option (S × Need)) → AsksFor c stages Fits a rest less next → AsksFor c stages Fits a whole most next
+  go (Some next) asks = (is ∙ asks.0, asks.1, (let few = asks.2 in omega arith))
+  go None asks = λ kept. ap (λ call. call kept) is ∙ asks kept
 
 -- the task was told an answer
-pub told_answer : {S A : Type 0} (b : BoardFace) (stages : Stages S A) (Fits : S → Need → Type 0) (Answers : S → Got → Type 0)
-    {whole : Call A} {t u v : CallerFace} (s : S) (n : Need) (g : Got) → (Fits s n → Answers s g)
+pub told_answer : {S A : Type 0} {b : BoardFace} {stages : Stages S A} {Fits : S → Need → Type 0} {Answers : S → Got → Type 0}
+    {whole : Call A} {t u v : CallerFace} {s : S} {n : Need} (g : Got) → (Fits s n → Answers s g)
     → Waits b stages Fits whole t s n u → Ran (need_call b.config n) (Done (answer_of g)) u v → u.left ≤ v.left + need_events n
     → Told b stages Answers whole t s g v
-told_answer b stages Fits Answers {whole} {t} {u} {v} s n g is w x few = record {
+told_answer {stages = stages} {t = t} {u = u} {v = v} {s = s} {n = n} g is w x few = record {
   same = same_then t u v w.same x.went.same;
-  rests = record {
-    board = still_of b w.rests.board x.went.same;
-    quiet = x.quiet;
-    left = (let left = w.rests.left in omega arith);
-  };
+  rests = rests_ran (need_events n) x few w.rests (omega arith);
   answers = is w.fits;
   leads = leads_on (stages.then s) w.leads x;
 }

@@ -3,10 +3,9 @@
 -- programs that say the same; initiators_note_what_they_do
 pub mod Alike
 pub mod Forgetting
--- what is heard of a call that is followed by another; a caller's entries in a run; calls that pause nowhere
-pub mod Parts
-pub mod Plain
+-- calls that pause nowhere; what programs bring, by what their caller was told
 pub mod Quiet
+pub mod Brings
 -- what an initiator brings back by what it heard: of a job's steps, of its rounds
 pub mod StepNotes
 pub mod Rounds

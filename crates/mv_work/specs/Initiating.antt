@@ -1,6 +1,6 @@
 -- An initiator, wait by wait.
 use Rattle.std.specs.Prelude.{◌≡◌, ℕ, suc, ◌+◌, ◌-◌, ◌*◌, ◌==◌, ◌<◌, ◌≤◌, Bool, true, false, List, [], ◌∷◌, ◌++◌, length, map, drop}
-use Rattle.std.specs.Prelude.{Option, Some, None, sum_by, slice_index_or, if◌then◌else◌}
+use Rattle.std.specs.Prelude.{Option, Some, sum_by, slice_index_or, if◌then◌else◌}
 use Rattle.std.specs.List.{list_any}
 use Rattle.mv_board.specs.Faces.{BoardFace, CallerFace}
 use Rattle.mv_element.specs.declared.element.Token.{Token}

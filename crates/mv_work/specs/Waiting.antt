@@ -51,15 +51,23 @@ pub record Told {S A : Type 0} (b : BoardFace) (stages : Stages S A) (Answers : 
   pub leads : Leads whole (stages.then s (answer_of g)) t u
 
 -- it has come to its next wait, or has made all events of the whole, whose answer is this
-abbrev pub Comes : {S A : Type 0} → BoardFace → Stages S A → (S → Need → Type 0) → A → Call A → CallerFace → Option (S × Need)
+abbrev pub ComesTo : {S A : Type 0} → BoardFace → Stages S A → (S → Need → Type 0) → A → Call A → CallerFace → Option (S × Need)
     → CallerFace → Type 0
-Comes b stages Fits a whole t (Some next) u = Waits b stages Fits whole t next.0 next.1 u
-Comes b stages Fits a whole t None u = IsSame t u × RanOut whole a t u
+ComesTo b stages Fits a whole t (Some next) u = Waits b stages Fits whole t next.0 next.1 u
+ComesTo b stages Fits a whole t None u = IsSame t u × RanOut whole a t u
+
+pub record Comes {S A : Type 0} (b : BoardFace) (stages : Stages S A) (Fits : S → Need → Type 0) (a : A) (whole : Call A) (t : CallerFace)
+    (next : Option (S × Need)) (u : CallerFace) : Type 0 where
+  pub come : ComesTo b stages Fits a whole t next u
 
 -- This is what is left to do: the call of the need, and behind its answer what the stage says; where nothing is needed, nothing. It
 -- needs at most so many events.
-abbrev pub Asks : {S A : Type 0} → Setup → Stages S A → (S → Need → Type 0) → A → Call A → ℕ → Option (S × Need) → Type 0
-Asks c stages Fits a rest most (Some next) =
+abbrev pub AsksFor : {S A : Type 0} → Setup → Stages S A → (S → Need → Type 0) → A → Call A → ℕ → Option (S × Need) → Type 0
+AsksFor c stages Fits a rest most (Some next) =
     (rest ≡ followed (need_call c next.1) (stages.then next.0)) × Fits next.0 next.1
     × (need_events next.1 + stages.due next.0 ≤ most)
-Asks c stages Fits a rest most None = (kept : Kept) → rest kept ≡ Done a
+AsksFor c stages Fits a rest most None = (kept : Kept) → rest kept ≡ Done a
+
+pub record Asks {S A : Type 0} (c : Setup) (stages : Stages S A) (Fits : S → Need → Type 0) (a : A) (rest : Call A) (most : ℕ)
+    (next : Option (S × Need)) : Type 0 where
+  pub asks : AsksFor c stages Fits a rest most next

@@ -228,15 +228,7 @@ fn on_idle<R: Wait, G: Gate>(
     gate.pass(rt, task.number(), Point::Dispatched(job));
     let code = job_code(job, skipped);
     let index = found.position as u32;
-    let Ok(()) = hand_over(
-        rt,
-        station,
-        task,
-        deck.len() as u32,
-        code,
-        index,
-        found.code,
-    ) else {
+    let Ok(()) = hand_over(rt, station, task, deck, code, index, found.code) else {
         return None;
     };
     schedule(station, deck, initiators, job + 1)
@@ -247,22 +239,22 @@ fn hand_over<R: Wait>(
     rt: &R,
     station: &Station,
     task: &mut Task,
-    jobs: u32,
+    deck: &[Job],
     code: u32,
     index: u32,
     generation: u32,
 ) -> Result<(), Lost>
-    requires jobs { (jobs ≤ jobs_limit) × (index < most_initiators) × (code < release_limit) }
-    requires station { HasInitiator station.now.config jobs index }
+    requires jobs { (length deck.now ≤ jobs_limit) × (index < most_initiators) × (code < release_limit) }
+    requires station { HasInitiator station.now.config (length deck.now) index }
     requires task { IsOf station.now task.old }
     requires rest { IsAtRest task.old.log }
     requires left { 2 ≤ task.old.left }
     ensures ran { MatchResult result
-        (λ _. Ran (handed station.now.config jobs code index generation) (Done tt) task.old task.new)
-        (λ _. Ran (handed station.now.config jobs code index generation) Wrong task.old task.new) }
+        (λ _. Ran (handed station.now.config (length (jobs_of deck.now)) code index generation) (Done tt) task.old task.new)
+        (λ _. Ran (handed station.now.config (length (jobs_of deck.now)) code index generation) Wrong task.old task.new) }
     ensures few { task.old.left ≤ task.new.left + 2 }
 {
-    let Ok(_) = station.clear(rt, task, idle(jobs, index)) else {
+    let Ok(_) = station.clear(rt, task, idle(deck.len() as u32, index)) else {
         return Err(Lost);
     };
     let token = Token {
@@ -313,15 +305,7 @@ fn on_dismissal<R: Wait>(
         task.old result task.new }
 {
     let found = first_in(slots)?;
-    let Ok(()) = hand_over(
-        rt,
-        station,
-        task,
-        deck.len() as u32,
-        NO_JOB,
-        index,
-        found.code,
-    ) else {
+    let Ok(()) = hand_over(rt, station, task, deck, NO_JOB, index, found.code) else {
         return None;
     };
     dismiss(station, deck, initiators, index + 1)

@@ -1,8 +1,9 @@
 -- What a run gives for each initiator's own entries: they are plain, and codes are given to initiators alone.
-use Rattle.std.proofs.Common.{◌≡◌, ℕ, ◌<◌, List, [], ◌∷◌, ◌++◌, Some, None, inl, inr, ◌⊎◌, refl, sym, ap, ◌∙◌, subst}
+use Rattle.std.proofs.Common.{◌≡◌, ℕ, ◌<◌, ◌==◌, List, [], ◌∷◌, ◌++◌, Option, Some, None, inl, inr, ◌⊎◌, refl, sym, ap, ◌∙◌, subst}
 use Rattle.std.proofs.Common.{append_assoc}
 use Rattle.std.specs.List.{AllByRecursion}
 use Rattle.std.proofs.lemmas.Bool.{cases_eq}
+use Rattle.std.proofs.lemmas.List.Elements.{filter-append}
 use Rattle.mv_latch.specs.declared.operation.Wake.{Wake}
 use Rattle.mv_machine.specs.declared.entry.Entry.{Entry}
 use Rattle.mv_machine.specs.declared.entry.Object.{Object}
@@ -21,7 +22,7 @@ use Rattle.mv_plan.specs.SpoolSetup.{initiator}
 use Rattle.mv_plan.proofs.points.Asks.{IsNoPause, no_gift, reader_no_pause, scheduler_no_pause, writer_no_pause}
 use Rattle.mv_plan.proofs.points.Points.{reader_asks, scheduler_asks, writer_asks}
 use Rattle.mv_plan.proofs.walks.Walks.{Points, Move, WalkTo, reads, schedules, initiates, writes}
-use Rattle.mv_work.proofs.brought.Plain.{IsSteady, IsSteadyWith, IsTruthful, IsPlain}
+use Rattle.mv_work.proofs.brought.Brings.{ArePlain, Past, TellsTheSame, then_told}
 
 -- ---- a caller's entries
 
@@ -33,77 +34,51 @@ entries_noted (e ∷ es) told = ap (λ z. e ∷ z) (entries_noted es (wakes_then
 pub entries_heard : (c : Setup) (k : ℕ) (es : List Entry) → entries (heard_in c k es) ≡ of k es
 entries_heard c k es = entries_noted (of k es) (told c k es)
 
--- what holds of all holds of a caller's
-pub all_of : (P : Entry → Type 0) (k : ℕ) (es : List Entry) → AllByRecursion P es → AllByRecursion P (of k es)
-all_of P k [] w = tt
-all_of P k (e ∷ es) w = go (cases_eq e.caller k) (all_of P k es w.1) where
-  go : (e.caller ≡ k) ⊎ (e.caller ≡ k → ⊥) → AllByRecursion P (of k es) → AllByRecursion P (of k (e ∷ es))
-  go (inl own) rest = subst (λ l. AllByRecursion P l) (sym (of_own k e es own)) (w.0, rest)
-  go (inr other) rest = subst (λ l. AllByRecursion P l) (sym (of_other k e es other)) rest
+-- ---- each is plain
 
--- ---- what is no pause gives no code
+-- these entries end in one of the caller, and those of others behind it
+pub record LastOf (k : ℕ) (seen : List Entry) (once : Entry) : Type 0 where
+  pub before : List Entry
+  pub between : List Entry
+  pub all : seen ≡ before ++ once ∷ between
+  pub none : of k between ≡ []
+  pub own : once.caller ≡ k
 
-truthful : (c : Setup) (s : System) (es : List Entry) → LegalFrom c s es → IsTruthful es
-truthful c s [] l = tt
-truthful c s (e ∷ es) l = (λ free. no_gift s e.caller e.object e.op e.reply l.0.reply free, truthful c (next s e) es l.1)
+abbrev pub LastIs : ℕ → List Entry → Option Entry → Type 0
+LastIs k seen None = Unit {0}
+LastIs k seen (Some once) = LastOf k seen once
 
--- ---- scans
+module _ (c : Setup) (k : ℕ) (all : List Entry) (steady : ScansAreSteady all) where
+  tells_the_same : (seen es : List Entry) (e : Entry) (last : Option Entry) → all ≡ seen ++ e ∷ es → e.caller ≡ k → LastIs k seen last
+      → TellsTheSame last e
+  tells_the_same seen es e None split own l = tt
+  tells_the_same seen es e (Some once) split own l = λ v once_on once_op again_on again_op. steady l.before l.between es once e v
+      (split ∙ ap (λ z. z ++ e ∷ es) l.all ∙ append_assoc l.before (once ∷ l.between) (e ∷ es)) once_on once_op again_on again_op
+      (l.own ∙ sym own) (subst (λ n. of n l.between ≡ []) (sym own) l.none)
 
--- the first of a caller's entries
-record FirstOf (k : ℕ) (g : Entry) (es : List Entry) : Type 0 where
-  between : List Entry
-  rest : List Entry
-  all : es ≡ between ++ g ∷ rest
-  none : of k between ≡ []
-  own : g.caller ≡ k
+  -- another's entry is behind it
+  still_last : (seen : List Entry) (e : Entry) (last : Option Entry) → (e.caller ≡ k → ⊥) → LastIs k seen last → LastIs k (seen ++ e ∷ []) last
+  still_last seen e None other l = tt
+  still_last seen e (Some once) other l = record {
+    before = l.before;
+    between = l.between ++ e ∷ [];
+    all = ap (λ z. z ++ e ∷ []) l.all ∙ append_assoc l.before (once ∷ l.between) (e ∷ []);
+    none = filter-append (λ (x : Entry). x.caller == k) l.between (e ∷ []) ∙ ap (λ z. z ++ of k (e ∷ [])) l.none ∙ of_other k e [] other;
+    own = l.own;
+  }
 
-first_of : (k : ℕ) (es : List Entry) (g : Entry) (gs : List Entry) → of k es ≡ g ∷ gs → FirstOf k g es
-first_of k [] g gs e = absurd (cc e)
-first_of k (x ∷ es) g gs e = go (cases_eq x.caller k) (first_of k es g gs) where
-  go : (x.caller ≡ k) ⊎ (x.caller ≡ k → ⊥) → (of k es ≡ g ∷ gs → FirstOf k g es) → FirstOf k g (x ∷ es)
-  go (inl own) later =
-      let same : x ≡ g = cc (sym (of_own k x es own) ∙ e) in
-      record {
-        between = [];
-        rest = es;
-        all = ap (λ z. z ∷ es) same;
-        none = refl;
-        own = subst (λ (z : Entry). z.caller ≡ k) same own;
-      }
-  go (inr other) later =
-      let r : FirstOf k g es = later (sym (of_other k x es other) ∙ e) in
-      record {
-        between = x ∷ r.between;
-        rest = r.rest;
-        all = ap (λ z. x ∷ z) r.all;
-        none = of_other k x r.between other ∙ r.none;
-        own = r.own;
-      }
-
-module _ (k : ℕ) (all : List Entry) (steady : ScansAreSteady all) where
-  -- an entry and the caller's next
-  with_next : (seen es : List Entry) (e : Entry) (l : List Entry) → all ≡ seen ++ e ∷ es → e.caller ≡ k → of k es ≡ l
-      → IsSteadyWith e l
-  with_next seen es e [] split own q = tt
-  with_next seen es e (g ∷ gs) split own q =
-      let f : FirstOf k g es = first_of k es g gs q in
-      λ v once_on once_op again_on again_op. steady seen f.between f.rest e g v (split ∙ ap (λ z. seen ++ e ∷ z) f.all) once_on once_op
-      again_on again_op (own ∙ sym f.own) (subst (λ n. of n f.between ≡ []) (sym f.own) f.none)
-
-  steady_from : (seen es : List Entry) → all ≡ seen ++ es → IsSteady (of k es)
-  steady_from seen [] split = tt
-  steady_from seen (e ∷ es) split =
-      go (cases_eq e.caller k) (steady_from (seen ++ e ∷ []) es (split ∙ sym (append_assoc seen (e ∷ []) es))) where
-        go : (e.caller ≡ k) ⊎ (e.caller ≡ k → ⊥) → IsSteady (of k es) → IsSteady (of k (e ∷ es))
-        go (inl own) later = subst IsSteady (sym (of_own k e es own)) (with_next seen es e (of k es) split own refl, later)
-        go (inr other) later = subst IsSteady (sym (of_other k e es other)) later
-
--- a caller's entries in a legal history with steady scans
-pub own_plain : (c : Setup) (s : System) (k : ℕ) (es : List Entry) → LegalFrom c s es → ScansAreSteady es → IsPlain (of k es)
-own_plain c s k es legal steady = record {
-  steady = steady_from k es steady [] es refl;
-  truthful = all_of (λ e. IsNoPause e.object e.op → gift_code e.reply ≡ None) k es (truthful c s es legal);
-}
+  pub plain_from : (s : System) (seen es : List Entry) (p : Past) → all ≡ seen ++ es → LegalFrom c s es → LastIs k seen p.last
+      → ArePlain p (of k es)
+  plain_from s seen [] p split legal l = tt
+  plain_from s seen (e ∷ es) p split legal l = go (cases_eq e.caller k) (λ q behind. plain_from (next s e) (seen ++ e ∷ []) es q
+      (split ∙ sym (append_assoc seen (e ∷ []) es)) legal.1 behind) where
+        go : (e.caller ≡ k) ⊎ (e.caller ≡ k → ⊥) → ((q : Past) → LastIs k (seen ++ e ∷ []) q.last → ArePlain q (of k es))
+            → ArePlain p (of k (e ∷ es))
+        go (inl own) later = subst (λ l. ArePlain p l) (sym (of_own k e es own)) (
+          (λ free. no_gift s e.caller e.object e.op e.reply legal.0.reply free, tells_the_same seen es e p.last split own l),
+          later (then_told p e) (record { before = seen; between = []; all = refl; none = refl; own = own }),
+        )
+        go (inr other) later = subst (λ l. ArePlain p l) (sym (of_other k e es other)) (later p (still_last seen e p.last other l))
 
 -- ---- who is given a code
 

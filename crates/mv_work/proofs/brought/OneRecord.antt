@@ -3,7 +3,7 @@ use Rattle.std.proofs.Common.{◌≡◌, ℕ, zero, suc, ◌+◌, ◌<◌, ◌�
 use Rattle.std.proofs.Common.{flat_map, Option, Some, None, inl, inr, ◌⊎◌, refl, sym, ap, ◌∙◌, subst, append-nil, arith}
 use Rattle.std.specs.List.{AllByRecursion}
 use Rattle.std.proofs.lemmas.Bool.{cases_eq, eq-eqb, ne_eqb}
-use Rattle.std.proofs.lemmas.List.Elements.{filter-append, filter_map-append}
+use Rattle.std.proofs.lemmas.List.Elements.{filter-append}
 use Rattle.mv_machine.specs.declared.entry.Entry.{Entry}
 use Rattle.mv_machine.specs.Legal.{of}
 use Rattle.mv_calls.proofs.Hearing.{of_own, of_other}
@@ -16,7 +16,7 @@ use Rattle.mv_plan.proofs.deck.Codes.{naming_own, naming_other, naming_zero}
 use Rattle.mv_plan.proofs.volumes.GivenCodes.{with_code, codes_of}
 use Rattle.mv_work.specs.Records.{JobRecord}
 use Rattle.mv_work.proofs.brought.Histories.{GivesInitiators}
-use Rattle.mv_work.proofs.brought.Rounds.{code_named, IsOwn}
+use Rattle.mv_work.proofs.brought.Rounds.{AreRounds, IsOwn, code_named}
 
 -- ---- codes that name a job
 
@@ -66,103 +66,69 @@ codes_about deck j few lt (r ∷ records) own = go (cases_eq r.job j) (codes_abo
       (naming_other (length deck) j r.job (r.end == not_run) few lt own.0.job d)
       ∙ rest ∙ ap (map code_named) (sym (about_other j r records d))
 
--- ---- the one entry that gives a code of job j
+-- ---- the one initiator that is given a code of job j
 
-record OneGift (j code : ℕ) (es : List Entry) : Type 0 where
-  front : List Entry
-  event : Entry
-  rest : List Entry
-  all : es ≡ front ++ event ∷ rest
-  before : given_codes j front ≡ []
-  gave : naming j (gift_code event.reply) ≡ Some code
-  behind : given_codes j rest ≡ []
-
-one_gift : (j code : ℕ) (es : List Entry) → given_codes j es ≡ code ∷ [] → OneGift j code es
-one_gift j code [] e = absurd (cc e)
-one_gift j code (x ∷ es) e = go (naming j (gift_code x.reply)) refl (one_gift j code es) where
-  go : (slot : Option ℕ) → naming j (gift_code x.reply) ≡ slot → (given_codes j es ≡ code ∷ [] → OneGift j code es)
-      → OneGift j code (x ∷ es)
-  go None q later =
-      let r : OneGift j code es =
-      later (sym (given-step j x es ∙ ap (λ s. with_code s (given_codes j es)) q) ∙ e) in
-      record {
-        front = x ∷ r.front;
-        event = r.event;
-        rest = r.rest;
-        all = ap (λ z. x ∷ z) r.all;
-        before = given-step j x r.front ∙ ap (λ s. with_code s (given_codes j r.front)) q ∙ r.before;
-        gave = r.gave;
-        behind = r.behind;
-      }
-  go (Some n) q later =
-      let both : n ∷ given_codes j es ≡ code ∷ [] =
-      sym (given-step j x es ∙ ap (λ s. with_code s (given_codes j es)) q) ∙ e in
-      record {
-        front = [];
-        event = x;
-        rest = es;
-        all = refl;
-        before = refl;
-        gave = q ∙ ap (λ z. Some z) (let same : n ≡ code = cc both in same);
-        behind = (let none : given_codes j es ≡ [] = cc both in none);
-      }
+-- an entry that gives no code of the job gives its caller none
+silent : (j k : ℕ) (x : Entry) (es : List Entry) → naming j (gift_code x.reply) ≡ None
+    → given_codes j (of k (x ∷ es)) ≡ given_codes j (of k es)
+silent j k x es q = go (cases_eq x.caller k) where
+  go : (x.caller ≡ k) ⊎ (x.caller ≡ k → ⊥) → given_codes j (of k (x ∷ es)) ≡ given_codes j (of k es)
+  go (inl own) = ap (given_codes j) (of_own k x es own) ∙ given-step j x (of k es) ∙ ap (λ s. with_code s (given_codes j (of k es))) q
+  go (inr other) = ap (given_codes j) (of_other k x es other)
 
 -- a caller is given no code where nobody is
-given_none_of : (j k : ℕ) (es : List Entry) → given_codes j es ≡ [] → given_codes j (of k es) ≡ []
-given_none_of j k [] e = refl
-given_none_of j k (x ∷ es) e = go (naming j (gift_code x.reply)) refl (given_none_of j k es) where
-  nothing : naming j (gift_code x.reply) ≡ None → given_codes j (of k es) ≡ [] → (x.caller ≡ k) ⊎ (x.caller ≡ k → ⊥)
-      → given_codes j (of k (x ∷ es)) ≡ []
-  nothing q later (inl own) = ap (given_codes j) (of_own k x es own) ∙ given-step j x (of k es)
-      ∙ ap (λ s. with_code s (given_codes j (of k es))) q ∙ later
-  nothing q later (inr other) = ap (given_codes j) (of_other k x es other) ∙ later
-
+none_given : (j k : ℕ) (es : List Entry) → given_codes j es ≡ [] → given_codes j (of k es) ≡ []
+none_given j k [] e = refl
+none_given j k (x ∷ es) e = go (naming j (gift_code x.reply)) refl (none_given j k es) where
   go : (slot : Option ℕ) → naming j (gift_code x.reply) ≡ slot → (given_codes j es ≡ [] → given_codes j (of k es) ≡ [])
       → given_codes j (of k (x ∷ es)) ≡ []
   go (Some n) q later = absurd (cc (sym (given-step j x es ∙ ap (λ s. with_code s (given_codes j es)) q) ∙ e))
-  go None q later =
-      nothing q (later (sym (given-step j x es ∙ ap (λ s. with_code s (given_codes j es)) q) ∙ e)) (cases_eq x.caller k)
-
-of-append : (k : ℕ) (xs ys : List Entry) → of k (xs ++ ys) ≡ of k xs ++ of k ys
-of-append k xs ys = filter-append (λ e. e.caller == k) xs ys
-
-given-append : (j : ℕ) (xs ys : List Entry) → given_codes j (xs ++ ys) ≡ given_codes j xs ++ given_codes j ys
-given-append j xs ys = filter_map-append (λ e. naming j (gift_code e.reply)) xs ys
-
-module _ (j code : ℕ) (es : List Entry) (one : OneGift j code es) where
-  -- the caller's part in three
-  in_three : (k : ℕ) → given_codes j (of k es) ≡ given_codes j (of k (one.event ∷ one.rest))
-  in_three k =
-      ap (λ l. given_codes j (of k l)) one.all
-      ∙ ap (given_codes j) (of-append k one.front (one.event ∷ one.rest))
-      ∙ given-append j (of k one.front) (of k (one.event ∷ one.rest))
-      ∙ ap (λ z. z ++ given_codes j (of k (one.event ∷ one.rest))) (given_none_of j k one.front one.before)
-
-  given_own : given_codes j (of one.event.caller es) ≡ code ∷ []
-  given_own =
-      in_three one.event.caller
-      ∙ ap (given_codes j) (of_own one.event.caller one.event one.rest refl)
-      ∙ given-step j one.event (of one.event.caller one.rest)
-      ∙ ap (λ s. with_code s (given_codes j (of one.event.caller one.rest))) one.gave
-      ∙ ap (λ z. code ∷ z) (given_none_of j one.event.caller one.rest one.behind)
-
-  given_other : (k : ℕ) → (one.event.caller ≡ k → ⊥) → given_codes j (of k es) ≡ []
-  given_other k other =
-      in_three k ∙ ap (given_codes j) (of_other k one.event one.rest other) ∙ given_none_of j k one.rest one.behind
-
--- ---- the records of all
-
--- who gave the code is one of the initiators
-event_is : (initiators : ℕ) (es front rest : List Entry) (e : Entry) → es ≡ front ++ e ∷ rest
-    → AllByRecursion (GivesInitiators initiators) es → GivesInitiators initiators e
-event_is initiators es front rest e split all = go front (subst (λ l. AllByRecursion (GivesInitiators initiators) l) split all) where
-  go : (xs : List Entry) → AllByRecursion (GivesInitiators initiators) (xs ++ e ∷ rest) → GivesInitiators initiators e
-  go [] w = w.0
-  go (x ∷ xs) w = go xs w.1
+  go None q later = silent j k x es q ∙ later (sym (given-step j x es ∙ ap (λ s. with_code s (given_codes j es)) q) ∙ e)
 
 naming_some : (j : ℕ) (slot : Option ℕ) (code : ℕ) → naming j slot ≡ Some code → (n : ℕ) × (slot ≡ Some n)
 naming_some j None code e = absurd (cc e)
 naming_some j (Some n) code e = (n, refl)
+
+record OneGiven (initiators j code : ℕ) (es : List Entry) : Type 0 where
+  who : ℕ
+  low : who < initiators
+  here : given_codes j (of (initiator who) es) ≡ code ∷ []
+  others : (m : ℕ) → (who ≡ m → ⊥) → given_codes j (of (initiator m) es) ≡ []
+
+one_given : (initiators j code : ℕ) (es : List Entry) → given_codes j es ≡ code ∷ [] → AllByRecursion (GivesInitiators initiators) es
+    → OneGiven initiators j code es
+one_given initiators j code [] e all = absurd (cc e)
+one_given initiators j code (x ∷ es) e all = go (naming j (gift_code x.reply)) refl (one_given initiators j code es) where
+  go : (slot : Option ℕ) → naming j (gift_code x.reply) ≡ slot
+      → (given_codes j es ≡ code ∷ [] → AllByRecursion (GivesInitiators initiators) es → OneGiven initiators j code es)
+      → OneGiven initiators j code (x ∷ es)
+  go None q later =
+      let r : OneGiven initiators j code es = later (sym (given-step j x es ∙ ap (λ s. with_code s (given_codes j es)) q) ∙ e) all.1 in
+      record {
+        who = r.who;
+        low = r.low;
+        here = silent j (initiator r.who) x es q ∙ r.here;
+        others = λ m other. silent j (initiator m) x es q ∙ r.others m other;
+      }
+  go (Some n) q later =
+      let both : n ∷ given_codes j es ≡ code ∷ [] = sym (given-step j x es ∙ ap (λ s. with_code s (given_codes j es)) q) ∙ e in
+      let same : n ≡ code = cc both in
+      let none : given_codes j es ≡ [] = cc both in
+      let given : (n : ℕ) × (gift_code x.reply ≡ Some n) = naming_some j (gift_code x.reply) n q in
+      let i : (i : ℕ) × (i < initiators) × (x.caller ≡ initiator i) = all.0 given.0 given.1 in
+      record {
+        who = i.0;
+        low = i.1;
+        here = ap (given_codes j) (of_own (initiator i.0) x es i.2) ∙ given-step j x (of (initiator i.0) es)
+            ∙ ap (λ s. with_code s (given_codes j (of (initiator i.0) es))) q ∙ ap (λ z. n ∷ z) (none_given j (initiator i.0) es none)
+            ∙ ap (λ z. z ∷ []) same;
+        others = λ m other. ap (given_codes j) (of_other (initiator m) x es (λ q. other (two_less (sym i.2 ∙ q))))
+            ∙ none_given j (initiator m) es none;
+      } where
+        two_less : {a b : ℕ} → a + 2 ≡ b + 2 → a ≡ b
+        two_less e = omega arith
+
+-- ---- the records of all
 
 -- the list of a member
 abbrev pub list_at : List (List JobRecord) → ℕ → List JobRecord
@@ -211,22 +177,15 @@ none_coded (r ∷ rs) e = absurd (cc e)
 pub one_record : (deck : List JobData) (initiators : ℕ) (es : List Entry) (records : List (List JobRecord)) (j code : ℕ)
     → length deck ≤ not_to_run → j < length deck → given_codes j es ≡ code ∷ [] → AllByRecursion (GivesInitiators initiators) es
     → length records ≡ initiators
-    → ((i : ℕ) → i < initiators → (codes_of (of (initiator i) es) ≡ map code_named (list_at records i) ++ 0 ∷ [])
-    × AllByRecursion (IsOwn deck) (list_at records i))
+    → ((i : ℕ) → i < initiators → AreRounds deck (codes_of (of (initiator i) es)) (list_at records i))
     → OneAbout j code (flat_map (λ rs. rs) records)
 one_record deck initiators es records j code few lt given all count each = record {
   found = one.0;
-  alone = one_list j i.0 records (one.0 ∷ []) (let c = count in let l = i.1 in omega arith) one.1 others;
+  alone = one_list j given_to.who records (one.0 ∷ []) (let c = count in let l = given_to.low in omega arith) one.1 others;
   named = one.2;
 } where
-  gift : OneGift j code es
-  gift = one_gift j code es given
-
-  code_given : (n : ℕ) × (gift_code gift.event.reply ≡ Some n)
-  code_given = naming_some j (gift_code gift.event.reply) code gift.gave
-
-  i : (i : ℕ) × (i < initiators) × (gift.event.caller ≡ initiator i)
-  i = event_is initiators es gift.front gift.rest gift.event gift.all all code_given.0 code_given.1
+  given_to : OneGiven initiators j code es
+  given_to = one_given initiators j code es given all
 
   about_is : (m : ℕ) → m < initiators → map code_named (about j (list_at records m)) ≡ given_codes j (of (initiator m) es)
   about_is m less =
@@ -234,12 +193,9 @@ one_record deck initiators es records j code few lt given all count each = recor
       ∙ ap (named_codes j) (sym (each m less).0)
       ∙ sym (given_named j (of (initiator m) es))
 
-  one : (r : JobRecord) × (about j (list_at records i.0) ≡ r ∷ []) × (code_named r ≡ code)
-  one = one_coded code (about j (list_at records i.0))
-      (about_is i.0 i.1 ∙ subst (λ k. given_codes j (of k es) ≡ code ∷ []) i.2 (given_own j code es gift))
+  one : (r : JobRecord) × (about j (list_at records given_to.who) ≡ r ∷ []) × (code_named r ≡ code)
+  one = one_coded code (about j (list_at records given_to.who)) (about_is given_to.who given_to.low ∙ given_to.here)
 
-  others : (m : ℕ) → m < length records → (i.0 ≡ m → ⊥) → about j (list_at records m) ≡ []
-  others m less d = none_coded (about j (list_at records m))
-      (about_is m (let c = count in omega arith) ∙ given_other j code es gift (initiator m) (λ e. d (two_less (sym i.2 ∙ e)))) where
-        two_less : i.0 + 2 ≡ m + 2 → i.0 ≡ m
-        two_less e = omega arith
+  others : (m : ℕ) → m < length records → (given_to.who ≡ m → ⊥) → about j (list_at records m) ≡ []
+  others m less other = none_coded (about j (list_at records m))
+      (about_is m (let c = count in omega arith) ∙ given_to.others m other)

@@ -1,7 +1,6 @@
 -- Calls that neither pause nor resume: what they say of elements gives no code.
-use Rattle.std.proofs.Common.{◌≡◌, ℕ, zero, suc, false, List, [], ◌∷◌, length, Option, Some, None}
-use Rattle.std.proofs.Common.{Result, Ok, Err, refl, ap, ◌∙◌, subst}
-use Rattle.std.proofs.lemmas.Option.{some_pair_parts}
+use Rattle.std.proofs.Common.{ℕ, zero, suc, false, List, [], ◌∷◌, length, Option, Some, None}
+use Rattle.std.proofs.Common.{Result}
 use Rattle.mv_ecb.specs.declared.operation.EcbReply.{EcbReply}
 use Rattle.mv_ecb.specs.declared.operation.EcbReply.TheVariants as ecb_reply
 use Rattle.mv_element.specs.declared.element.Token.{Token}
@@ -24,18 +23,15 @@ use Rattle.mv_machine.specs.declared.entry.VolumeReply.{VolumeReply}
 use Rattle.mv_machine.specs.declared.entry.VolumeReply.TheVariants as volume_reply
 use Rattle.mv_machine.specs.Setup.{Setup}
 use Rattle.mv_calls.specs.Endings.{end_of_job}
-use Rattle.mv_calls.specs.Keeping.{Kept, kept_after}
+use Rattle.mv_calls.specs.Keeping.{Kept}
 use Rattle.mv_calls.specs.LatchCalls.{Obtained, obtain, obtain_refusal, obtained, confirmed, release_latch, let_go, purge, purged}
 use Rattle.mv_calls.specs.Pauses.{allocate, open_lowest, lowest_free, opened, deallocate, closed, is_others_token}
 use Rattle.mv_calls.specs.Posts.{Posting, Posted, Woke, Already, posting, posted_next, each_posted, post_within, post, wake_posted, wakes_posted}
-use Rattle.mv_calls.specs.Program.{Program, Do, Done, Early, Wrong, Heard, Call, Says, on_ecb, on_element, on_volume, on_latch}
-use Rattle.mv_calls.specs.Program.{and_then, unless_refused, going_on, unrefused, entries}
+use Rattle.mv_calls.specs.Program.{Program, Do, Done, Early, Wrong, Heard, on_ecb, on_element, on_volume, on_latch}
+use Rattle.mv_calls.specs.Program.{and_then, unless_refused}
 use Rattle.mv_calls.specs.Refusal.{Refusal}
-use Rattle.mv_calls.specs.Waits.{read_volume, write_volume, the_value, stored}
-use Rattle.mv_plan.specs.HandingOut.{gift_code}
+use Rattle.mv_calls.specs.Waits.{write_volume, stored}
 use Rattle.mv_plan.proofs.points.Asks.{IsNoPause}
-use Rattle.mv_plan.proofs.volumes.GivenCodes.{with_code}
-use Rattle.mv_work.proofs.brought.Plain.{IsTruthful, codes_heard}
 
 -- no event that a program says is a pause or its return
 abbrev pub Quiet : {A : Type 0} → Program A → Type 0
@@ -44,27 +40,7 @@ Quiet (Done a) = Unit {0}
 Quiet Early = Unit {0}
 Quiet Wrong = Unit {0}
 
--- so no code is given in what was heard of it
-pub quiet_codes : {A : Type 0} (p : Program A) (hs : List Heard) → Quiet p → Says p hs → IsTruthful (entries hs) → codes_heard hs ≡ []
-quiet_codes p [] q s t = refl
-quiet_codes (Do o op next) (h ∷ hs) q s t =
-    let e : (o ≡ h.entry.object) × (op ≡ h.entry.op) = some_pair_parts o h.entry.object op h.entry.op s.0 in
-    let none : gift_code h.entry.reply ≡ None =
-    t.0 (subst (λ z. IsNoPause h.entry.object z) e.1 (subst (λ z. IsNoPause z op) e.0 q.0)) in
-    ap (λ slot. with_code slot (codes_heard hs)) none ∙ quiet_codes (next h) hs (q.1 h) s.1 t.1
-quiet_codes (Done a) (h ∷ hs) q s t = absurd (cc s.0)
-quiet_codes Early (h ∷ hs) q s t = absurd (cc s.0)
-quiet_codes Wrong (h ∷ hs) q s t = absurd (cc s.0)
-
 -- ---- programs one after the other
-
-pub quiet_going_on : {A B : Type 0} (kept : Kept) (p : Program A) (f : A → Call B) → Quiet p → ((a : A) (k : Kept) → Quiet (f a k))
-    → Quiet (going_on kept p f)
-quiet_going_on kept (Do o op next) f q each =
-    (q.0, λ h. quiet_going_on (kept_after kept o op h.entry.reply) (next h) f (q.1 h) each)
-quiet_going_on kept (Done a) f q each = each a kept
-quiet_going_on kept Early f q each = tt
-quiet_going_on kept Wrong f q each = tt
 
 quiet_and_then : {A B : Type 0} (p : Program A) (f : A → Program B) → Quiet p → ((a : A) → Quiet (f a)) → Quiet (and_then p f)
 quiet_and_then (Do o op next) f q each = (q.0, λ h. quiet_and_then (next h) f (q.1 h) each)
@@ -156,12 +132,6 @@ deallocate_quiet c t kept =
 
 -- ---- volumes
 
-pub read_quiet : (v : ℕ) (kept : Kept) → Quiet (read_volume v kept)
-read_quiet v kept = (tt, λ h. quiet_on_volume h.entry.reply the_value by_reply) where
-  by_reply : (x : VolumeReply) → Quiet (the_value x)
-  by_reply (volume_reply.Value n) = tt
-  by_reply x = tt
-
 pub write_quiet : (v n : ℕ) (kept : Kept) → Quiet (write_volume v n kept)
 write_quiet v n kept = (tt, λ h. quiet_on_volume h.entry.reply stored by_reply) where
   by_reply : (x : VolumeReply) → Quiet (stored x)
@@ -203,12 +173,3 @@ purge_quiet c requestor kept = (tt, λ h. quiet_on_latch h.entry.reply _ (by_rep
 pub end_quiet : (c : Setup) (requestor e code : ℕ) (kept : Kept) → Quiet (end_of_job c requestor e code kept)
 end_quiet c requestor e code kept = quiet_and_then (purge c requestor kept) _ (purge_quiet c requestor kept)
     (λ counts. wake_quiet c (Some e) code kept (Done counts) tt)
-
--- ---- calls that are not to be refused
-
-pub quiet_accepted : {A B : Type 0} (kept : Kept) (p : Program (Result A Refusal)) (f : A → Call B) → Quiet p
-    → ((a : A) (k : Kept) → Quiet (f a k)) → Quiet (going_on kept p (unrefused f))
-quiet_accepted {A} kept p f q each = quiet_going_on kept p (unrefused f) q go where
-  go : (r : Result A Refusal) (k : Kept) → Quiet (unrefused f r k)
-  go (Ok a) k = each a k
-  go (Err why) k = tt

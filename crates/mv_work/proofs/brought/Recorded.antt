@@ -1,8 +1,7 @@
 -- Of a run, what the initiators bring back is one right record of each job.
-use Rattle.std.proofs.Common.{◌≡◌, ℕ, suc, ◌+◌, ◌-◌, ◌<◌, ◌≤◌, ◌==◌, Bool, true, false, List, [], ◌∷◌, ◌++◌, length, map, filter}
+use Rattle.std.proofs.Common.{◌≡◌, ℕ, suc, ◌<◌, ◌≤◌, ◌==◌, Bool, true, false, List, [], ◌∷◌, ◌++◌, length, filter}
 use Rattle.std.proofs.Common.{if◌then◌else◌, refl, sym, ap, ◌∙◌, subst, arith}
 use Rattle.std.specs.List.{AllByRecursion}
-use Rattle.std.proofs.lemmas.Bool.{ne_eqb}
 use Rattle.mv_machine.specs.declared.entry.Entry.{Entry}
 use Rattle.mv_machine.specs.Legal.{of}
 use Rattle.mv_machine.specs.Setup.{Setup}
@@ -17,8 +16,8 @@ use Rattle.mv_plan.specs.CountingAlone.{AreCountedAlone}
 use Rattle.mv_plan.specs.HandingOut.{AreHandedOut, right_code}
 use Rattle.mv_plan.specs.Jobs.{job_at, end_of}
 use Rattle.mv_plan.specs.SpoolRun.{IsRun}
-use Rattle.mv_plan.specs.SpoolSetup.{spool_setup, reader, scheduler, initiator, writer}
-use Rattle.mv_plan.specs.SpoolTasks.{task_program, reading, scheduling, writing, initiating}
+use Rattle.mv_plan.specs.SpoolSetup.{spool_setup, initiator}
+use Rattle.mv_plan.specs.SpoolTasks.{initiating}
 use Rattle.mv_plan.proofs.deck.Codes.{code_parts}
 use Rattle.mv_plan.proofs.deck.Ends.{few_jobs, skipped_ends, end_by_mark}
 use Rattle.mv_plan.proofs.deck.Plans.{IsPlanned}
@@ -30,31 +29,13 @@ use Rattle.mv_plan.proofs.walks.Walks.{start_points}
 use Rattle.mv_work.specs.Records.{JobRecord}
 use Rattle.mv_work.specs.Noting.{initiating_noted}
 use Rattle.mv_work.specs.Recording.{AreNotesOf, IsRecorded, AreRecorded, AreBrought, all_records}
+use Rattle.mv_work.proofs.Histories.{initiator_is}
 use Rattle.mv_work.proofs.brought.Alike.{alike_says_back}
 use Rattle.mv_work.proofs.brought.Forgetting.{NothingKept, initiating_alike}
-use Rattle.mv_work.proofs.brought.Histories.{GivesInitiators, entries_heard, own_plain, all_given}
+use Rattle.mv_work.proofs.brought.Histories.{GivesInitiators, entries_heard, plain_from, all_given}
 use Rattle.mv_work.proofs.brought.OneRecord.{OneAbout, list_at, one_record}
-use Rattle.mv_work.proofs.brought.Plain.{IsPlain}
-use Rattle.mv_work.proofs.brought.Rounds.{IsOwn, AreRounds, code_named, initiator_rounds}
-
--- ---- the program of an initiator's number
-
-fourth : {A : Type 0} (a b d : Bool) (w x y z : A) → a ≡ false → b ≡ false → d ≡ false
-    → (if a then w else if b then x else if d then y else z) ≡ z
-fourth a b d w x y z p q r = rw (p, q, r) refl
-
-two_less : (i : ℕ) → i + 2 - 2 ≡ i
-two_less i = omega arith
-
-pub initiators_task : (deck : List JobData) (initiators i : ℕ) → i < initiators
-    → task_program deck initiators (initiator i) ≡ initiating (spool_setup deck initiators) deck i (nothing_kept (initiator i))
-initiators_task deck initiators i lt = ap (λ call. call (nothing_kept (initiator i)))
-    (fourth (initiator i == reader) (initiator i == scheduler) (initiator i == writer initiators)
-    (reading (spool_setup deck initiators) (length deck)) (scheduling (spool_setup deck initiators) initiators deck)
-    (writing (spool_setup deck initiators) (length deck)) (initiating (spool_setup deck initiators) deck (initiator i - 2))
-    (ne_eqb (initiator i) reader (λ q. absurd (omega arith))) (ne_eqb (initiator i) scheduler (λ q. absurd (omega arith)))
-    (ne_eqb (initiator i) (writer initiators) (λ q. absurd (omega arith))))
-    ∙ ap (λ m. initiating (spool_setup deck initiators) deck m (nothing_kept (initiator i))) (two_less i)
+use Rattle.mv_work.proofs.brought.Brings.{ArePlain, nothing_told}
+use Rattle.mv_work.proofs.brought.Rounds.{IsOwn, AreRounds, initiator_rounds}
 
 -- ---- lists
 
@@ -102,34 +83,29 @@ module _ (deck : List JobData) (initiators : ℕ) (some : 1 ≤ initiators) (pla
       all_given c deck initiators (opening c) (start_points deck initiators) es st.points st.walk
 
   -- what each initiator brought
-  rounds_of : (i : ℕ) → i < initiators → AreRounds deck [] (list_at records i) (heard_by i)
+  rounds_of : (i : ℕ) → i < initiators → AreRounds deck (codes_of (of (initiator i) es)) (list_at records i)
   rounds_of i lt =
       let says : Says (initiating c deck i (nothing_kept (initiator i))) (heard_by i) =
-      subst (λ p. Says p (heard_by i)) (initiators_task deck initiators i lt) (run.follow.says (initiator i) (omega arith)) in
+      subst (λ call. Says (call (nothing_kept (initiator i))) (heard_by i)) (initiator_is deck initiators i lt)
+      (run.follow.says (initiator i) (omega arith)) in
       let noted : Says (initiating_noted c deck i (nothing_kept (initiator i))) (heard_by i) =
       alike_says_back NothingKept (initiating_noted c deck i (nothing_kept (initiator i)))
       (initiating c deck i (nothing_kept (initiator i))) (heard_by i) (initiating_alike c deck i (nothing_kept (initiator i))) says in
-      let plain : IsPlain (entries (heard_by i)) =
-      subst IsPlain (sym (entries_heard c (initiator i) es)) (own_plain c (opening c) (initiator i) es run.follow.legal counted.scans) in
-      initiator_rounds c deck planned.jobs i (list_at records i) (nothing_kept (initiator i)) (heard_by i) noted (brought.each i lt) plain
-
-  brought_by : (i : ℕ) → i < initiators → (codes_of (of (initiator i) es) ≡ map code_named (list_at records i) ++ 0 ∷ [])
-      × AllByRecursion (IsOwn deck) (list_at records i)
-  brought_by i lt =
-      let r : AreRounds deck [] (list_at records i) (heard_by i) = rounds_of i lt in (
-        ap codes_of (sym (entries_heard c (initiator i) es)) ∙ r.codes ∙ ap (λ rs. map code_named rs ++ 0 ∷ []) (sym r.is),
-        subst (λ rs. AllByRecursion (IsOwn deck) rs) (sym r.is) r.own,
-      )
+      let own : entries (heard_by i) ≡ of (initiator i) es = entries_heard c (initiator i) es in
+      subst (λ l. AreRounds deck (codes_of l) (list_at records i)) own
+      (initiator_rounds c deck i (list_at records i) (nothing_kept (initiator i)) (heard_by i) planned.jobs noted (brought.each i lt)
+      (subst (λ l. ArePlain nothing_told l) (sym own)
+      (plain_from c (initiator i) es counted.scans (opening c) [] es nothing_told refl run.follow.legal tt)))
 
   all_own : AllByRecursion (IsOwn deck) (all_records records)
-  all_own = all_flat (IsOwn deck) records (λ i lt. (brought_by i (let n = brought.count in omega arith)).1)
+  all_own = all_flat (IsOwn deck) records (λ i lt. (rounds_of i (let n = brought.count in omega arith)).1)
 
   -- the one record of a job
   is_recorded : (j : ℕ) → j < length deck → IsRecorded deck (all_records records) j
   is_recorded j lt =
       let one : OneAbout j (right_code deck j) (all_records records) =
       one_record deck initiators es records j (right_code deck j) (few_jobs deck initiators planned) lt (handed.jobs j lt).given givers
-      brought.count brought_by in
+      brought.count rounds_of in
       let found : AllByRecursion (IsOwn deck) (one.found ∷ []) =
       subst (λ rs. AllByRecursion (IsOwn deck) rs) one.alone
       (all_filtered (IsOwn deck) (λ r. r.job == j) (all_records records) all_own) in

@@ -1,9 +1,7 @@
-use Rattle.std.proofs.Common.{◌≡◌, ◌+◌, ◌*◌, ◌-◌, ◌<◌, ◌≤◌, List, [], suc, length, ap, ◌∙◌, sym, subst, arith}
+use Rattle.std.proofs.Common.{◌-◌, suc, length, ap, ◌∙◌, sym, subst, arith}
 use Rattle.mv_calls.specs.Posts.{post}
 use Rattle.mv_calls.specs.Program.{Done}
 use Rattle.mv_plan.specs.SpoolSetup.{idle}
-use Rattle.mv_work.specs.declared.stage.InitiatorStage.TheVariants as stage
-use Rattle.mv_work.specs.Initiating.{initiator_due, rounds_due}
 use Rattle.mv_work.specs.Noting.{rounds_noted}
 use Rattle.mv_work.specs.Parts.{jobs_of}
 use Rattle.mv_work.specs.Ran.{Ran}
@@ -15,8 +13,6 @@ use Rattle.mv_work.proofs.initiator.begin_round.Goals as goal
 
 pub post-requires-clause-block : goal.post-requires-clause-block
 post-requires-clause-block g c =
-    let lt = c.requires.index in
-    let e = c.idle.ensures in
     block_exists c.args.deck.now c.args.initiators c.args.station.now.config c.requires.spool.config c.idle.result (omega arith)
 
 pub post-requires-clause-code : goal.post-requires-clause-code
@@ -24,8 +20,6 @@ post-requires-clause-code g c = let low = c.requires.token.1 in omega arith
 
 pub post-requires-clause-left : goal.post-requires-clause-left
 post-requires-clause-left g c =
-    let lt = c.requires.index in
-    let e = c.idle.ensures in
     let one = reach_idle c.args.deck.now c.args.initiators c.args.station.now.config c.requires.spool.config c.idle.result (omega arith) (omega arith) in
     let left = c.requires.rests.left in omega arith
 
@@ -37,15 +31,15 @@ returns g c =
     let notes = c.args.notes.now in
     let served = c.post.ensures.served in
     let round = c.args.round in
-    let lt = c.requires.index in
     let e = c.idle.ensures in
     let one = reach_idle c.args.deck.now c.args.initiators config c.requires.spool.config c.idle.result (omega arith) (omega arith) in
     let block = c.idle.ensures ∙ ap (λ n. idle n me) (sym (job_count c.args.deck.now)) in record {
-      same = served.same;
-      rests = rests_then c.args.station.now (rounds_due deck notes.given.items round)
-          (2 + initiator_due deck notes.given.items (stage.Pause round)) served (omega arith) c.requires.rests;
-      fits = (c.requires.between, c.requires.token);
-      leads = told_idle config deck me round notes c.args.token
-          (leads_all (rounds_noted config deck me (suc (length deck - round)) notes.noted.jobs c.args.token) c.args.task.now)
-          (subst (λ e. Ran (post config e c.args.token.generation) (Done served.answer) c.args.task.now c.post.new.task) block (served_ran served));
+      come = record {
+        same = served.same;
+        rests = rests_then served c.requires.rests (omega arith);
+        fits = (c.requires.between, c.requires.token);
+        leads = told_idle config deck me round notes c.args.token
+            (leads_all (rounds_noted config deck me (suc (length deck - round)) notes.noted.jobs c.args.token) c.args.task.now)
+            (subst (λ e. Ran (post config e c.args.token.generation) (Done served.answer) c.args.task.now c.post.new.task) block (served_ran served));
+      };
     }

@@ -1,10 +1,9 @@
-use Rattle.std.proofs.Common.{◌≡◌, ℕ, suc, ◌+◌, ◌*◌, ◌-◌, ◌<◌, ◌≤◌, [], ◌∷◌, ◌++◌, List, length, refl, sym, ap, ◌∙◌, subst, arith}
+use Rattle.std.proofs.Common.{◌≡◌, ◌+◌, ◌-◌, sym, ap, ◌∙◌, subst, arith}
 use Rattle.mv_calls.specs.Endings.{end_of_job}
 use Rattle.mv_calls.specs.Program.{Done}
 use Rattle.mv_latchset.specs.Answers.{counts_of}
 use Rattle.mv_plan.specs.SpoolSetup.{done}
-use Rattle.mv_work.specs.Initiating.{AreGiven, IsInitiatorNeed, initiator_stages, jobs_of_records, rounds_after, rounds_due, steps_then}
-use Rattle.mv_work.specs.declared.initiator.Notes.{Notes}
+use Rattle.mv_work.specs.Initiating.{AreGiven, jobs_of_records, rounds_after, steps_then}
 use Rattle.mv_work.specs.Noting.{record_of, rounds_noted}
 use Rattle.mv_work.specs.Records.{Recorded}
 use Rattle.mv_work.specs.Parts.{jobs_of}
@@ -17,13 +16,11 @@ use Rattle.mv_work.proofs.initiator.end_job.Goals as goal
 
 pub done-block-requires : goal.done-block-requires
 done-block-requires g c =
-    let lt = c.requires.at.job in
     let count = job_count c.args.deck.now in
     (c.requires.spool.few, omega arith)
 
 pub end_of_job-requires-clause-left : goal.end_of_job-requires-clause-left
 end_of_job-requires-clause-left g c =
-    let lt = c.requires.at.job in
     let count = job_count c.args.deck.now in
     let cost = end_cost c.args.deck.now c.args.initiators c.args.station.now.config c.requires.spool.config c.done-block.result c.args.job
     c.done-block.ensures (omega arith) in
@@ -31,9 +28,7 @@ end_of_job-requires-clause-left g c =
 
 pub end_of_job-requires-clause-block : goal.end_of_job-requires-clause-block
 end_of_job-requires-clause-block g c =
-    let lt = c.requires.at.job in
     let count = job_count c.args.deck.now in
-    let e = c.done-block.ensures in
     block_exists c.args.deck.now c.args.initiators c.args.station.now.config c.requires.spool.config c.done-block.result (omega arith)
 
 pub begin_round-requires-clause-between : goal.begin_round-requires-clause-between
@@ -54,12 +49,10 @@ begin_round-requires-clause-between g c =
 
 pub begin_round-requires-clause-rests : goal.begin_round-requires-clause-rests
 begin_round-requires-clause-rests g c =
-    let lt = c.requires.at.job in
     let count = job_count c.args.deck.now in
     let cost = end_cost c.args.deck.now c.args.initiators c.args.station.now.config c.requires.spool.config c.done-block.result c.args.job
     c.done-block.ensures (omega arith) in
-    let due = rounds_due (jobs_of c.args.deck.now) c.args.notes.now.given.items (c.args.round + 1) in
-    rests_then c.args.station.now (4 + due) due c.end_of_job.ensures.served (omega arith) c.requires.rests
+    rests_then c.end_of_job.ensures.served c.requires.rests (omega arith)
 
 pub returns : goal.returns
 returns g c =
@@ -71,11 +64,8 @@ returns g c =
     let records = c.args.notes.now.noted.jobs in
     let r = record_of job c.args.end c.args.notes.now.noted.notes in
     let more = rounds_after deck c.args.round in
-    let new : Notes = record { given = c.args.notes.now.given; noted = c.end.new.self } in
     let block = c.done-block.ensures ∙ ap (λ n. done n job) (sym (job_count c.args.deck.now)) in
-    comes_on c.args.station.now (initiator_stages config deck me new) (IsInitiatorNeed deck me new) c.end.new.self.jobs
-    c.begin_round.new.task c.begin_round.result served.same
-    (subst (λ rs. Leads (steps_then config deck me more records c.args.next job r) (rounds_noted config deck me more rs c.args.next)
+    comes_on served.same (subst (λ rs. Leads (steps_then config deck me more records c.args.next job r) (rounds_noted config deck me more rs c.args.next)
     c.args.task.now c.end_of_job.new.task) (sym (ap (λ (r : Recorded). r.jobs) c.end.ensures.ended))
     (job_ended config deck me more job records c.args.next r
     (subst (λ e. Ran (end_of_job config (job + 1) e c.args.end) (Done (counts_of c.end_of_job.result)) c.args.task.now c.end_of_job.new.task)

@@ -1,4 +1,4 @@
-use Rattle.std.proofs.Common.{◌≡◌, ◌+◌, ◌≤◌, ◌∷◌, drop, get_or, sym, ap, ◌∙◌, arith}
+use Rattle.std.proofs.Common.{◌+◌, ◌∷◌, drop, sym, ap, ◌∙◌, arith}
 use Rattle.std.proofs.lemmas.List.{drop_all, drop_more}
 use Rattle.std.proofs.lemmas.List.Sums.{sum_by-cons}
 use Rattle.mv_work.specs.Initiating.{step_marks, steps_marks}
@@ -11,12 +11,9 @@ loop-k-preserved c =
     let next = c.index-steps-k.result in
     let marks = ap steps_marks (drop_more steps k next c.loop-k-test.true ∙ ap (λ s. s ∷ drop (k + 1) steps) (sym c.index-steps-k.is))
     ∙ sum_by-cons step_marks next (drop (k + 1) steps) in
-    let since = c.loop-k.invariant.sum in
     let few = c.loop-k.invariant.few in
-    let one = c.marks_of_step-marks.ensures.few in
     let is = c.marks_of_step-marks.ensures.marks in record { sum = omega arith; few = omega arith }
 
 pub returns : goal.returns
 returns c =
-    let since = c.loop-k.invariant.sum in
     let none = ap steps_marks (drop_all c.loop-k.k c.args.steps.now c.loop-k-test.false) in omega arith

@@ -1,5 +1,5 @@
-use Rattle.std.proofs.Common.{◌≡◌, ℕ, ◌+◌, ◌*◌, ◌-◌, ◌<◌, ◌≤◌, [], List, length, refl, sym, ap, ◌∙◌, subst, arith}
-use Rattle.mv_work.specs.Initiating.{IsInitiatorNeed, initiator_stages, rounds_after, rounds_due, steps_events, steps_then}
+use Rattle.std.proofs.Common.{[], sym, ap, ◌∙◌, arith}
+use Rattle.mv_work.specs.Initiating.{rounds_after, steps_then}
 use Rattle.mv_work.specs.Parts.{jobs_of}
 use Rattle.mv_work.specs.Noting.{record_of, steps_noted}
 use Rattle.mv_work.specs.Steps.{requests_of}
@@ -18,9 +18,7 @@ end_job-requires-clause-at g c =
 
 pub end_job-requires-clause-rests : goal.end_job-requires-clause-rests
 end_job-requires-clause-rests g c =
-    let deck = jobs_of c.args.deck.now in
-    let due = rounds_due deck c.args.notes.now.given.items (c.args.round + 1) in
-    rests_less c.args.station.now (steps_events (job_at deck c.args.named.job).steps + 4 + due) (4 + due) (omega arith) c.requires.rests
+    rests_less c.requires.rests (omega arith)
 
 pub returns-then-named : goal.returns-then-named
 returns-then-named g c =
@@ -29,9 +27,7 @@ returns-then-named g c =
     let me = c.args.index in
     let job = c.args.named.job in
     let records = c.args.notes.now.noted.jobs in
-    let new = c.end_job.new.notes in
-    comes_as c.args.station.now (initiator_stages config deck me new) (IsInitiatorNeed deck me new) new.noted.jobs c.args.task.now c.end_job.new.task c.end_job.result
-    (job_skipped config deck me (rounds_after deck c.args.round) job records c.args.next c.args.named.skipped c.if-named.true
+    comes_as (job_skipped config deck me (rounds_after deck c.args.round) job records c.args.next c.args.named.skipped c.if-named.true
     ∙ ap (λ notes. steps_then config deck me (rounds_after deck c.args.round) records c.args.next job (record_of job not_run notes))
     (sym c.requires.none)) c.end_job.ensures
 
@@ -45,11 +41,8 @@ returns g c =
     let me = c.args.index in
     let job = c.args.named.job in
     let records = c.args.notes.now.noted.jobs in
-    let new = c.run_on.new.notes in
     let tail = steps_then config deck me (rounds_after deck c.args.round) records c.args.next job in
-    comes_as c.args.station.now (initiator_stages config deck me new) (IsInitiatorNeed deck me new) new.noted.jobs c.args.task.now c.run_on.new.task c.run_on.result
-    (job_begun config deck me (rounds_after deck c.args.round) job records c.args.next c.args.named.skipped c.if-named.false
+    comes_as (job_begun config deck me (rounds_after deck c.args.round) job records c.args.next c.args.named.skipped c.if-named.false
     ∙ ap (λ requests. followed (steps_noted config job requests 0 [] (job_at deck job).steps) tail)
     (sym (no_requests no_tokens none_each))
-    ∙ ap (λ notes. followed (steps_noted config job (requests_of no_tokens) 0 notes (job_at deck job).steps) tail) (sym c.requires.none))
-    c.run_on.ensures
+    ∙ ap (λ notes. followed (steps_noted config job (requests_of no_tokens) 0 notes (job_at deck job).steps) tail) (sym c.requires.none)) c.run_on.ensures

@@ -3,7 +3,7 @@ use Rattle.mv_calls.specs.Posts.{post}
 use Rattle.mv_calls.specs.Program.{Done, finished}
 use Rattle.mv_plan.specs.SpoolSetup.{entered}
 use Rattle.mv_plan.specs.SpoolTasks.{reading}
-use Rattle.mv_wait.proofs.Runs.{same_caller, same_then}
+use Rattle.mv_wait.proofs.Runs.{same_then}
 use Rattle.mv_work.specs.Ran.{Ran, RanOut}
 use Rattle.mv_work.proofs.Decks.{job_count, reach_entered}
 use Rattle.mv_work.proofs.Ranges.{next_done, last_left}
@@ -14,7 +14,6 @@ pub post-requires-clause-left : goal.post-requires-clause-left
 post-requires-clause-left g c =
     let one = reach_entered c.args.deck.now c.args.initiators c.args.station.now.config c.requires.spool.config c.entered.result
     c.loop-job.job c.entered.ensures c.loop-job-test.true in
-    let left = c.loop-job.invariant.left in
     let lt = c.loop-job-test.true in omega arith
 
 pub loop-job-preserved : goal.loop-job-preserved

@@ -1,5 +1,5 @@
-use Rattle.std.proofs.Common.{◌≡◌, ℕ, List, Option, Some, set, length, sym, ap, ◌∙◌, subst, arith}
-use Rattle.mv_work.specs.Initiating.{IsInitiatorNeed, initiator_stages, steps_from}
+use Rattle.std.proofs.Common.{ℕ, Option, sym, ap, arith}
+use Rattle.mv_work.specs.Initiating.{steps_from}
 use Rattle.mv_work.specs.Parts.{jobs_of}
 use Rattle.mv_work.proofs.Steps.{kept_with, still_kept}
 use Rattle.mv_work.proofs.Waits.{comes_as}
@@ -19,9 +19,5 @@ returns g c =
     let deck = jobs_of c.args.deck.now in
     let me = c.args.index in
     let r = c.args.running in
-    let new = c.run_on.new.notes in
-    let count = c.requires.running.kept.count in
-    let low = c.requires.token.0 in
-    comes_as c.args.station.now (initiator_stages config deck me new) (IsInitiatorNeed deck me new) new.noted.jobs c.args.task.now c.run_on.new.task c.run_on.result
-    (ap (λ (requests : ℕ → Option ℕ). steps_from config deck me c.args.notes.now r r.step requests)
+    comes_as (ap (λ (requests : ℕ → Option ℕ). steps_from config deck me c.args.notes.now r r.step requests)
     (sym (kept_with r.requests r.latch c.args.token (omega arith)))) c.run_on.ensures

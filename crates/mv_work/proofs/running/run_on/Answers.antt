@@ -1,8 +1,8 @@
-use Rattle.std.proofs.Common.{◌≡◌, ℕ, ◌+◌, ◌-◌, ◌*◌, ◌<◌, ◌≤◌, [], ◌∷◌, ◌++◌, List, length, drop, get_or, Ok, sum_by, sym, ap, ◌∙◌, subst, refl, arith}
+use Rattle.std.proofs.Common.{◌≡◌, ℕ, ◌+◌, ◌<◌, [], ◌∷◌, ◌++◌, List, length, drop, get_or, Ok, sym, ap, ◌∙◌, subst, refl, arith}
 use Rattle.std.proofs.lemmas.List.{drop_more, drop_all}
 use Rattle.std.proofs.lemmas.List.Sums.{sum_by-cons}
-use Rattle.mv_board.specs.Faces.{CallerFace, IsSame}
-use Rattle.mv_calls.specs.Program.{Call, Done, Wrong, followed, finished}
+use Rattle.mv_board.specs.Faces.{CallerFace}
+use Rattle.mv_calls.specs.Program.{Call, followed}
 use Rattle.mv_deck.specs.declared.deck.Job.{Job}
 use Rattle.mv_deck.specs.declared.deck.Step.{Step}
 use Rattle.mv_deck.specs.declared.deck.Step.TheVariants.{Use}
@@ -12,24 +12,22 @@ use Rattle.mv_machine.specs.Reach.{release_cost}
 use Rattle.mv_machine.specs.Setup.{Setup}
 use Rattle.mv_plan.specs.Jobs.{job_at}
 use Rattle.mv_wait.proofs.Runs.{same_caller, same_then}
-use Rattle.mv_work.specs.declared.initiator.Notes.{Notes}
 use Rattle.mv_work.specs.declared.need.Need.TheVariants as need
 use Rattle.mv_work.specs.declared.stage.InitiatorStage.TheVariants as stage
 use Rattle.mv_work.specs.declared.stage.Running.{Running}
 use Rattle.mv_work.specs.Waiting.{Waits}
-use Rattle.mv_work.specs.Initiating.{AreGiven, IsAtJob, jobs_of_records, IsInitiatorNeed, IsOwn, initiator_due, initiator_stages, marks_left, rounds_after, rounds_due}
+use Rattle.mv_work.specs.Initiating.{AreGiven, jobs_of_records, IsInitiatorNeed, initiator_stages, rounds_after}
 use Rattle.mv_work.specs.Initiating.{step_marks, steps_events, steps_from, steps_marks, steps_then}
 use Rattle.mv_work.specs.Noting.{record_of, steps_noted}
 use Rattle.mv_work.specs.Parts.{jobs_of}
-use Rattle.mv_work.specs.Ran.{Leads, Ran}
+use Rattle.mv_work.specs.Ran.{Leads}
 use Rattle.mv_work.specs.Records.{JobRecord}
 use Rattle.mv_work.specs.Steps.{DoesStep, IsGoodDid, requests_of}
-use Rattle.mv_work.specs.declared.running.Did.TheVariants as did
 use Rattle.mv_work.proofs.Decks.{job_count, job_numbers}
 use Rattle.mv_work.proofs.Reaches.{release_cost_is}
-use Rattle.mv_work.proofs.Runs.{leads_all, leads_astray, leads_on, still_of}
+use Rattle.mv_work.proofs.Runs.{leads_all, leads_astray, leads_on}
 use Rattle.mv_work.proofs.Steps.{latch_needed, on_steps, one_at}
-use Rattle.mv_work.proofs.Waits.{comes_astray, comes_on, rests_less}
+use Rattle.mv_work.proofs.Waits.{comes_astray, comes_on}
 use Rattle.mv_work.proofs.running.run_on.Given as bound
 use Rattle.mv_work.proofs.running.run_on.Goals as goal
 use Rattle.mv_work.proofs.running.run_on.Goals.{After-do_step}
@@ -107,7 +105,6 @@ do_step-requires-clause-requests g c = c.requires.running.kept
 pub do_step-requires-clause-numbers : goal.do_step-requires-clause-numbers
 do_step-requires-clause-numbers g c =
     let count = job_count c.args.deck.now in
-    let lt = c.requires.running.at.job in
     let steps = (job_at (jobs_of c.args.deck.now) c.args.running.job).steps in
     let within : c.loop-place.place < length steps =
     subst (λ (steps : List Step). c.loop-place.place < length steps) c.steps_of-steps.ensures c.loop-place-test.true in
@@ -201,27 +198,17 @@ returns-in-Ok-Ended g c =
     let since = c.loop-place.invariant in
     let step = c.in-Ok-Ended.ensures in
     let u = c.do_step.new.task in
-    let new = c.end_job.new.notes in
     let now = c.do_step.new.noted in
     let does = subst (λ o. DoesStep config r.job r.requests c.loop-place.place c.loop-place.notes.noted.notes c.index-steps-place.result (Ok o)
     now.notes c.loop-place.task u) c.in-Ok-Ended.field-0-is step.does in
-    comes_on c.args.station.now (initiator_stages config deck me new) (IsInitiatorNeed deck me new) new.noted.jobs
-    c.end_job.new.task c.end_job.result (same_then c.args.task.now c.loop-place.task u since.same step.same)
-    (subst (λ records. Leads (steps_from config deck me c.args.notes.now r r.step (requests_of r.requests))
+    comes_on (same_then c.args.task.now c.loop-place.task u since.same step.same) (subst (λ records. Leads (steps_from config deck me c.args.notes.now r r.step (requests_of r.requests))
     (tail g at records (record_of r.job c.in-Ok-Ended.end now.notes)) c.args.task.now u) (sym (step.jobs ∙ since.jobs))
-    (leads_on (tail g at c.args.notes.now.noted.jobs) (so_far g at) (does (drop (c.loop-place.place + 1) (plan_steps g at)))))
-    c.end_job.ensures
+    (leads_on (tail g at c.args.notes.now.noted.jobs) (so_far g at) (does (drop (c.loop-place.place + 1) (plan_steps g at))))) c.end_job.ensures
 
 pub returns-in-Err : goal.returns-in-Err
 returns-in-Err g c =
     let at = (goal.at.returns-in-Err g c).After-do_step in
-    let config = c.args.station.now.config in
-    let deck = jobs_of c.args.deck.now in
-    let me = c.args.index in
-    let new : Notes = record { given = c.loop-place.notes.given; noted = c.do_step.new.noted } in
-    comes_astray c.args.station.now (initiator_stages config deck me new) (IsInitiatorNeed deck me new) new.noted.jobs
-    (same_then c.args.task.now c.loop-place.task c.do_step.new.task c.loop-place.invariant.same c.in-Err.ensures.same)
-    (leads_astray (tail g at c.args.notes.now.noted.jobs) (so_far g at)
+    comes_astray (same_then c.args.task.now c.loop-place.task c.do_step.new.task c.loop-place.invariant.same c.in-Err.ensures.same) (leads_astray (tail g at c.args.notes.now.noted.jobs) (so_far g at)
     (c.in-Err.ensures.does (drop (c.loop-place.place + 1) (plan_steps g at))))
 
 pub returns-in-Ok-Asks : goal.returns-in-Ok-Asks
@@ -254,39 +241,41 @@ returns-in-Ok-Asks g c =
     let room = since.room in
     let fewer = step.room in
     let was = c.requires.running in
-    subst (λ given. Waits c.args.station.now (initiator_stages config deck me (record { given = given; noted = now }))
-    (IsInitiatorNeed deck me (record { given = given; noted = now })) begun t (stage.Latch waits) (need.Latch latch (r.job + 1) mode) u)
-    (sym since.given)
-    (record {
-      same = same_then t c.loop-place.task u since.same step.same;
-      rests = record { board = step.board; quiet = step.rest; left = omega arith };
-      fits = (
-        (
-          record {
-            at = record {
-              round = was.at.round;
-              job = was.at.job;
-              size = was.at.size;
-              given = subst (λ js. AreGiven (js ++ r.job ∷ []) given.items) (ap jobs_of_records (sym jobs)) was.at.given;
-              room = omega arith;
-            };
-            next = was.next;
-            kept = was.kept;
-          },
-          subst IsGoodDid c.in-Ok-Asks.field-0-is step.end,
-        ),
-        refl,
-      );
-      leads = subst (λ call. Leads begun call t u) (latch_needed config deck me (record { given = given; noted = now }) waits place mode refl)
-          (subst (λ records. Leads begun (followed (steps_noted config r.job (requests_of r.requests) place now.notes (Use latch mode ∷ steps))
-          (tail g at records)) t u) (sym jobs)
-          (subst (λ notes. Leads begun (followed (steps_noted config r.job (requests_of r.requests) place notes (Use latch mode ∷ steps))
-          (tail g at c.args.notes.now.noted.jobs)) t u) (sym does.1)
-          (subst (λ v. Leads begun (followed (steps_noted config r.job (requests_of r.requests) place c.loop-place.notes.noted.notes
-          (Use latch mode ∷ steps)) (tail g at c.args.notes.now.noted.jobs)) t v) (sym does.2)
-          (subst (λ s. Leads begun (followed (steps_noted config r.job (requests_of r.requests) place c.loop-place.notes.noted.notes
-          (s ∷ steps)) (tail g at c.args.notes.now.noted.jobs)) t c.loop-place.task) does.0 (so_far g at)))));
-    })
+    record {
+      come = subst (λ given. Waits c.args.station.now (initiator_stages config deck me (record { given = given; noted = now }))
+          (IsInitiatorNeed deck me (record { given = given; noted = now })) begun t (stage.Latch waits) (need.Latch latch (r.job + 1) mode) u)
+          (sym since.given)
+          (record {
+            same = same_then t c.loop-place.task u since.same step.same;
+            rests = record { board = step.board; quiet = step.rest; left = omega arith };
+            fits = (
+              (
+                record {
+                  at = record {
+                    round = was.at.round;
+                    job = was.at.job;
+                    size = was.at.size;
+                    given = subst (λ js. AreGiven (js ++ r.job ∷ []) given.items) (ap jobs_of_records (sym jobs)) was.at.given;
+                    room = omega arith;
+                  };
+                  next = was.next;
+                  kept = was.kept;
+                },
+                subst IsGoodDid c.in-Ok-Asks.field-0-is step.end,
+              ),
+              refl,
+            );
+            leads = subst (λ call. Leads begun call t u) (latch_needed config deck me (record { given = given; noted = now }) waits place mode refl)
+                (subst (λ records. Leads begun (followed (steps_noted config r.job (requests_of r.requests) place now.notes (Use latch mode ∷ steps))
+                (tail g at records)) t u) (sym jobs)
+                (subst (λ notes. Leads begun (followed (steps_noted config r.job (requests_of r.requests) place notes (Use latch mode ∷ steps))
+                (tail g at c.args.notes.now.noted.jobs)) t u) (sym does.1)
+                (subst (λ v. Leads begun (followed (steps_noted config r.job (requests_of r.requests) place c.loop-place.notes.noted.notes
+                (Use latch mode ∷ steps)) (tail g at c.args.notes.now.noted.jobs)) t v) (sym does.2)
+                (subst (λ s. Leads begun (followed (steps_noted config r.job (requests_of r.requests) place c.loop-place.notes.noted.notes
+                (s ∷ steps)) (tail g at c.args.notes.now.noted.jobs)) t c.loop-place.task) does.0 (so_far g at)))));
+          });
+    }
 
 pub returns : goal.returns
 returns g c =
@@ -296,18 +285,14 @@ returns g c =
     let r = c.args.running in
     let since = c.loop-place.invariant in
     let u = c.loop-place.task in
-    let new = c.end_job-2.new.notes in
     let now = c.loop-place.notes.noted in
     let steps = (job_at deck r.job).steps in
     let more = rounds_after deck r.round in
     let begun = steps_from config deck me c.args.notes.now r r.step (requests_of r.requests) in
-    let over = c.loop-place-test.false in
     let size = ap (λ (steps : List Step). length steps) c.steps_of-steps.ensures in
     let last = steps_then config deck me more c.args.notes.now.noted.jobs r.next r.job in
     let left = on_steps last (leads_all begun c.args.task.now) since.leads since.rests.quiet in
-    comes_on c.args.station.now (initiator_stages config deck me new) (IsInitiatorNeed deck me new) new.noted.jobs
-    c.end_job-2.new.task c.end_job-2.result since.same
-    (subst (λ records. Leads begun (steps_then config deck me more records r.next r.job (record_of r.job 0 now.notes)) c.args.task.now u)
+    comes_on since.same (subst (λ records. Leads begun (steps_then config deck me more records r.next r.job (record_of r.job 0 now.notes)) c.args.task.now u)
     (sym since.jobs)
     (subst (λ ss. Leads begun (followed (steps_noted config r.job (requests_of r.requests) c.loop-place.place now.notes ss) last)
     c.args.task.now u) (drop_all c.loop-place.place steps (omega arith)) left)) c.end_job-2.ensures

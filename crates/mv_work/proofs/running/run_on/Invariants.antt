@@ -1,6 +1,5 @@
 use Rattle.std.proofs.Common.{◌≡◌, ◌≤◌, ◌+◌, drop}
 use Rattle.mv_board.specs.Faces.{IsSame}
-use Rattle.mv_deck.specs.Weight.{step_events}
 use Rattle.mv_plan.specs.Jobs.{job_at}
 use Rattle.mv_work.specs.Initiating.{marks_left, rounds_due, steps_events, steps_marks}
 use Rattle.mv_work.specs.Noting.{steps_noted}

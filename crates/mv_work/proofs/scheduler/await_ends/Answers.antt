@@ -1,4 +1,4 @@
-use Rattle.std.proofs.Common.{◌≡◌, ℕ, ◌+◌, ◌*◌, ◌-◌, ◌<◌, ◌≤◌, List, [], length, take, sym, ap, ◌∙◌, subst, arith, refl}
+use Rattle.std.proofs.Common.{◌≡◌, ◌*◌, ◌-◌, ◌<◌, ◌≤◌, List, length, take, sym, ap, ◌∙◌, subst, arith}
 use Rattle.std.specs.List.{AllByRecursion}
 use Rattle.mv_deck.specs.declared.deck.After.{After}
 use Rattle.mv_deck.specs.Operand.{most_after}
@@ -38,23 +38,24 @@ returns c =
     let n = length c.args.deck.now in
     let i = c.args.initiators in
     let count = job_count c.args.deck.now in
-    let lt = c.requires.job in
     let len = len_is at in
     let few : length (job_at (jobs_of c.args.deck.now) c.args.job).after ≤ most_after =
     after_few c.args.deck.now i c.args.job c.requires.spool.sound c.requires.job in
-    let last = block_exists c.args.deck.now i config c.requires.spool.config (4 * n - 1) (omega arith) in (
-      ends_asked config (jobs_of c.args.deck.now) i _ c.args.job c.requires.some (blocks_are at) len,
-      record {
-        numbers = omega arith;
-        blocks = (
-          len,
-          omega arith,
-          c.end_blocks.ensures.room,
-          subst (λ bs. AllByRecursion (λ e. e < length config.owners) bs) (sym c.end_blocks.ensures.blocks)
-              (ends_exist n (length config.owners) c.after_of-after.result.now (omega arith)
-              (subst (λ parts. AllByRecursion (λ (part : After). part.job < n) parts) (sym c.after_of-after.ensures)
-              (after_earlier c.args.deck.now i c.args.job c.requires.spool.sound c.requires.job))),
-        );
-      },
-      omega arith,
-    )
+    let last = block_exists c.args.deck.now i config c.requires.spool.config (4 * n - 1) (omega arith) in record {
+      asks = (
+        ends_asked config (jobs_of c.args.deck.now) i _ c.args.job c.requires.some (blocks_are at) len,
+        record {
+          numbers = omega arith;
+          blocks = (
+            len,
+            omega arith,
+            c.end_blocks.ensures.room,
+            subst (λ bs. AllByRecursion (λ e. e < length config.owners) bs) (sym c.end_blocks.ensures.blocks)
+                (ends_exist n (length config.owners) c.after_of-after.result.now (omega arith)
+                (subst (λ parts. AllByRecursion (λ (part : After). part.job < n) parts) (sym c.after_of-after.ensures)
+                (after_earlier c.args.deck.now i c.args.job c.requires.spool.sound c.requires.job))),
+          );
+        },
+        omega arith,
+      );
+    }

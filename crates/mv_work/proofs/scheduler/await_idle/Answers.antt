@@ -1,4 +1,4 @@
-use Rattle.std.proofs.Common.{◌≡◌, ℕ, ◌+◌, ◌*◌, ◌-◌, ◌<◌, List, [], length, map, take, sym, ap, ◌∙◌, subst, arith, refl}
+use Rattle.std.proofs.Common.{◌≡◌, ◌+◌, ◌*◌, ◌-◌, ◌<◌, length, map, take, sym, ap, ◌∙◌, subst, arith, refl}
 use Rattle.std.specs.List.{AllByRecursion, range_with_len}
 use Rattle.mv_plan.specs.SpoolSetup.{idle}
 use Rattle.mv_work.specs.Parts.{jobs_of}
@@ -14,20 +14,21 @@ returns c =
     let n = length c.args.deck.now in
     let i = c.args.initiators in
     let count = job_count c.args.deck.now in
-    let lt = c.requires.job in
     let blocks : take i c.idle_blocks.result ≡ idles (length (jobs_of c.args.deck.now)) i =
     c.idle_blocks.ensures.blocks ∙ ap (λ n. map (idle n) (range_with_len 0 i)) (sym count) in
-    let last = block_exists c.args.deck.now i config c.requires.spool.config (4 * n + i - 1) (omega arith) in (
-      idle_asked config (jobs_of c.args.deck.now) i _ c.args.job c.args.skipped blocks refl,
-      record {
-        numbers = omega arith;
-        blocks = (
-          refl,
-          (let few = c.requires.spool.initiators in omega arith),
-          c.idle_blocks.ensures.room,
-          subst (λ bs. AllByRecursion (λ e. e < length config.owners) bs) (sym c.idle_blocks.ensures.blocks)
-              (idle_exist n (length config.owners) 0 i (omega arith)),
-        );
-      },
-      omega arith,
-    )
+    let last = block_exists c.args.deck.now i config c.requires.spool.config (4 * n + i - 1) (omega arith) in record {
+      asks = (
+        idle_asked config (jobs_of c.args.deck.now) i _ c.args.job c.args.skipped blocks refl,
+        record {
+          numbers = omega arith;
+          blocks = (
+            refl,
+            (let few = c.requires.spool.initiators in omega arith),
+            c.idle_blocks.ensures.room,
+            subst (λ bs. AllByRecursion (λ e. e < length config.owners) bs) (sym c.idle_blocks.ensures.blocks)
+                (idle_exist n (length config.owners) 0 i (omega arith)),
+          );
+        },
+        omega arith,
+      );
+    }

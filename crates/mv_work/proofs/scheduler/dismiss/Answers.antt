@@ -1,5 +1,4 @@
-use Rattle.std.proofs.Common.{◌≡◌, ◌+◌, ◌*◌, ◌-◌, ◌<◌, ◌≤◌, List, [], length, ap, ◌∙◌, sym, arith}
-use Rattle.mv_calls.specs.Keeping.{Kept}
+use Rattle.std.proofs.Common.{◌+◌, ◌*◌, List, length, ap, ◌∙◌, sym, arith}
 use Rattle.mv_calls.specs.Program.{Call}
 use Rattle.mv_plan.specs.SpoolSetup.{idle}
 use Rattle.mv_work.specs.Parts.{jobs_of}
@@ -8,10 +7,10 @@ use Rattle.mv_work.proofs.Dispatching.{dismissal_asked, dismissals_over, one_blo
 use Rattle.mv_work.proofs.scheduler.dismiss.Goals as goal
 
 pub returns-then-index-initiators : goal.returns-then-index-initiators
-returns-then-index-initiators c kept =
-    let config = c.args.station.now.config in
-    ap (λ (call : Call (List _)). call kept)
-    (dismissals_over config (jobs_of c.args.deck.now) c.args.initiators c.args.index c.if-index-initiators.true)
+returns-then-index-initiators c = record {
+  asks = λ kept. ap (λ (call : Call (List _)). call kept)
+      (dismissals_over c.args.station.now.config (jobs_of c.args.deck.now) c.args.initiators c.args.index c.if-index-initiators.true);
+}
 
 pub returns : goal.returns
 returns c =
@@ -19,15 +18,16 @@ returns c =
     let deck = jobs_of c.args.deck.now in
     let i = c.args.initiators in
     let m = c.args.index in
-    let lt = c.if-index-initiators.false in
     let n = job_count c.args.deck.now in
     let exists = block_exists c.args.deck.now i config c.requires.spool.config (4 * length c.args.deck.now + m) (omega arith) in
     let block = c.idle.ensures ∙ ap (λ k. idle k m) (sym n) in
-    let blocks = one_is c.one.result c.one.ensures.len c.one.ensures.blocks (idle (length deck) m) block in (
-      dismissal_asked config deck i _ m (omega arith) blocks c.one.ensures.count,
-      record {
-        numbers = omega arith;
-        blocks = one_block config c.one.result (idle (length deck) m) c.one.ensures.len c.one.ensures.room blocks (omega arith);
-      },
-      (let len = c.one.ensures.len in omega arith),
-    )
+    let blocks = one_is c.one.result c.one.ensures.len c.one.ensures.blocks (idle (length deck) m) block in record {
+      asks = (
+        dismissal_asked config deck i _ m (omega arith) blocks c.one.ensures.count,
+        record {
+          numbers = omega arith;
+          blocks = one_block config c.one.result (idle (length deck) m) c.one.ensures.len c.one.ensures.room blocks (omega arith);
+        },
+        (let len = c.one.ensures.len in omega arith),
+      );
+    }

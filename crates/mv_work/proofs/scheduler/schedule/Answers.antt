@@ -1,7 +1,5 @@
-use Rattle.std.proofs.Common.{◌≡◌, ◌+◌, ◌*◌, ◌-◌, ◌<◌, ◌≤◌, List, [], length, refl, arith}
-use Rattle.mv_plan.specs.SpoolSetup.{entered}
+use Rattle.std.proofs.Common.{arith}
 use Rattle.mv_work.specs.Parts.{jobs_of}
-use Rattle.mv_work.specs.Scheduling.{IsSchedulerNeed, jobs_due, scheduler_stages}
 use Rattle.mv_work.proofs.Decks.{job_count, block_exists}
 use Rattle.mv_work.proofs.Dispatching.{due_next, due_over, entry_asked, jobs_over, one_block, one_is}
 use Rattle.mv_work.proofs.Waits.{asks_as}
@@ -12,10 +10,8 @@ returns-then-job-deck c =
     let config = c.args.station.now.config in
     let deck = jobs_of c.args.deck.now in
     let i = c.args.initiators in
-    let over = c.if-job-deck.true in
     let n = job_count c.args.deck.now in
-    asks_as config (scheduler_stages config deck i) (IsSchedulerNeed config deck i) [] (4 * (i - 0)) (jobs_due deck i c.args.job)
-    c.dismiss.result (jobs_over config deck i c.args.job (omega arith)) (due_over deck i c.args.job (omega arith)) c.dismiss.ensures
+    asks_as (jobs_over config deck i c.args.job (omega arith)) (due_over deck i c.args.job (omega arith)) c.dismiss.ensures
 
 pub returns : goal.returns
 returns c =
@@ -23,15 +19,16 @@ returns c =
     let deck = jobs_of c.args.deck.now in
     let i = c.args.initiators in
     let job = c.args.job in
-    let lt = c.if-job-deck.false in
     let n = job_count c.args.deck.now in
     let due = due_next deck i job (omega arith) in
-    let exists = block_exists c.args.deck.now i config c.requires.spool.config job (omega arith) in (
-      entry_asked config deck i _ job (omega arith) (one_is c.one.result c.one.ensures.len c.one.ensures.blocks job c.entered.ensures) c.one.ensures.count,
-      record {
-        numbers = omega arith;
-        blocks = one_block config c.one.result job c.one.ensures.len c.one.ensures.room
-            (one_is c.one.result c.one.ensures.len c.one.ensures.blocks job c.entered.ensures) exists;
-      },
-      (let len = c.one.ensures.len in omega arith),
-    )
+    let exists = block_exists c.args.deck.now i config c.requires.spool.config job (omega arith) in record {
+      asks = (
+        entry_asked config deck i _ job (omega arith) (one_is c.one.result c.one.ensures.len c.one.ensures.blocks job c.entered.ensures) c.one.ensures.count,
+        record {
+          numbers = omega arith;
+          blocks = one_block config c.one.result job c.one.ensures.len c.one.ensures.room
+              (one_is c.one.result c.one.ensures.len c.one.ensures.blocks job c.entered.ensures) exists;
+        },
+        (let len = c.one.ensures.len in omega arith),
+      );
+    }

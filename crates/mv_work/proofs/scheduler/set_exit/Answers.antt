@@ -1,11 +1,10 @@
-use Rattle.std.proofs.Common.{◌≡◌, ℕ, ◌+◌, ◌-◌, ◌*◌, ◌≤◌, List, [], length, Ok, Err, sym, ap, ◌∙◌, subst, arith}
+use Rattle.std.proofs.Common.{◌≡◌, ◌+◌, Ok, Err, sym, ap, ◌∙◌, subst, arith}
 use Rattle.mv_calls.specs.Waits.{extend}
 use Rattle.mv_plan.specs.SpoolSetup.{done}
 use Rattle.mv_wait.specs.Answers.{extend_refused}
 use Rattle.mv_wait.specs.Run.{IsServed}
-use Rattle.mv_work.specs.declared.stage.SchedulerStage.TheVariants as stage
 use Rattle.mv_work.specs.Parts.{jobs_of}
-use Rattle.mv_work.specs.Scheduling.{IsSchedulerNeed, exit_set, first_idle, scheduler_due, scheduler_stages, then_jobs}
+use Rattle.mv_work.specs.Scheduling.{exit_set, then_jobs}
 use Rattle.mv_work.proofs.Decks.{job_count}
 use Rattle.mv_work.proofs.Dispatching.{exit_is_set, exit_refused}
 use Rattle.mv_work.proofs.Runs.{leads_all}
@@ -19,8 +18,7 @@ returns-in_default g c =
     let i = c.args.initiators in
     let j = c.args.job in
     let block = c.done.ensures ∙ ap (λ n. done n j) (sym (job_count c.args.deck.now)) in
-    comes_astray c.args.station.now (scheduler_stages config deck i) (IsSchedulerNeed config deck i) [] c.in_default.ensures.served.same
-    (exit_refused config deck i j c.args.skipped
+    comes_astray c.in_default.ensures.served.same (exit_refused config deck i j c.args.skipped
     (leads_all (then_jobs config deck i j (exit_set config deck i j c.args.skipped)) c.args.task.now)
     (subst (λ e. IsServed 1 (extend config e (j + 1)) (λ a. a ≡ Err (extend_refused c.in_default.field-0)) c.args.task.now c.extend.new.task)
     block c.in_default.ensures.served))
@@ -33,10 +31,6 @@ returns g c =
     let j = c.args.job in
     let block = c.done.ensures ∙ ap (λ n. done n j) (sym (job_count c.args.deck.now)) in
     let served = c.in-Ok.ensures.served in
-    let most = 2 * i + scheduler_due deck i (stage.Idle j c.args.skipped) in
-    asks_come c.args.station.now (scheduler_stages config deck i) (IsSchedulerNeed config deck i) [] most c.await_idle.result
-    c.await_idle.ensures served.same
-    (exit_is_set config deck i j c.args.skipped
+    asks_come c.await_idle.ensures served.same (exit_is_set config deck i j c.args.skipped
     (leads_all (then_jobs config deck i j (exit_set config deck i j c.args.skipped)) c.args.task.now)
-    (subst (λ e. IsServed 1 (extend config e (j + 1)) (λ a. a ≡ Ok tt) c.args.task.now c.extend.new.task) block served))
-    (rests_then c.args.station.now (scheduler_due deck i (stage.Ends j)) most served (omega arith) c.requires.rests)
+    (subst (λ e. IsServed 1 (extend config e (j + 1)) (λ a. a ≡ Ok tt) c.args.task.now c.extend.new.task) block served)) (rests_then served c.requires.rests (omega arith))

@@ -1,11 +1,10 @@
-use Rattle.std.proofs.Common.{◌≡◌, ◌+◌, ◌*◌, ◌-◌, ◌<◌, ◌≤◌, ◌∷◌, [], ◌++◌, List, length, vec_capacity, ap, ◌∙◌, sym, arith}
+use Rattle.std.proofs.Common.{◌+◌, ◌-◌, ◌≤◌, ◌∷◌, [], List, length, vec_capacity, ap, ◌∙◌, sym, arith}
 use Rattle.std.proofs.lemmas.List.{length-append}
 use Rattle.mv_wait.specs.Answers.{slots_of}
 use Rattle.mv_work.specs.Parts.{jobs_of, pair_of}
-use Rattle.mv_work.specs.Writing.{IsWriterNeed, end_found, ends_from, writer_stages}
+use Rattle.mv_work.specs.Writing.{end_found, ends_from}
 use Rattle.mv_work.proofs.Calls.{found_in, none_in}
-use Rattle.mv_work.proofs.Decks.{job_count}
-use Rattle.mv_work.proofs.Waits.{asks_first, comes_as, comes_nowhere, rests_less}
+use Rattle.mv_work.proofs.Waits.{asks_first, comes_as, comes_nowhere}
 use Rattle.mv_work.proofs.writer.on_end.Goals as goal
 
 pub returns-in_err-found : goal.returns-in_err-found
@@ -14,8 +13,7 @@ returns-in_err-found g c =
     let n = length (jobs_of c.args.deck.now) in
     let ends = c.args.ends.now in
     rw c.from_residual.ensures (
-    comes_nowhere c.args.station.now (writer_stages config n ends.items) (IsWriterNeed config n (vec_capacity ends - length ends.items)) ends.items c.args.task.now
-    (none_in (end_found config n ends.items c.args.job) (slots_of c.args.slots.now) c.in_err-found.ensures.found) c.requires.rests.quiet)
+    comes_nowhere c.args.task.now (none_in (end_found config n ends.items c.args.job) (slots_of c.args.slots.now) c.in_err-found.ensures.found) c.requires.rests.quiet)
 
 pub returns : goal.returns
 returns g c =
@@ -24,14 +22,7 @@ returns g c =
     let old = c.args.ends.now in
     let new = c.push_reserved.new.self in
     let found = c.in_ok-found.found in
-    let Fits = IsWriterNeed config n (vec_capacity new - length new.items) in
     let one = ap (λ (ends : List _). length ends) c.push_reserved.ensures.items ∙ length-append old.items (found.code ∷ []) in
-    let same = c.push_reserved.ensures.capacity in
-    let was = c.requires.room in
     let room : length c.args.deck.now - (c.args.job + 1) ≤ vec_capacity new - length new.items = omega arith in
-    let rest = ends_from config n new.items (c.args.job + 1) in
-    comes_as c.args.station.now (writer_stages config n new.items) Fits new.items c.args.task.now c.args.task.now c.write.result
-    (found_in (end_found config n old.items c.args.job) (slots_of c.args.slots.now) (pair_of found) c.in_ok-found.ensures.found
-    ∙ ap (λ ends. ends_from config n ends (c.args.job + 1)) (sym c.push_reserved.ensures.items))
-    (asks_first c.args.station.now (writer_stages config n new.items) Fits new.items rest (2 * (length c.args.deck.now - (c.args.job + 1)))
-    c.write.result (c.write.ensures (vec_capacity new - length new.items) new.items room) c.requires.rests)
+    comes_as (found_in (end_found config n old.items c.args.job) (slots_of c.args.slots.now) (pair_of found) c.in_ok-found.ensures.found
+    ∙ ap (λ ends. ends_from config n ends (c.args.job + 1)) (sym c.push_reserved.ensures.items)) (asks_first (c.write.ensures (vec_capacity new - length new.items) new.items room) c.requires.rests)

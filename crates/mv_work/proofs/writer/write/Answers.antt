@@ -1,4 +1,4 @@
-use Rattle.std.proofs.Common.{◌≡◌, ◌+◌, ◌*◌, ◌-◌, ◌<◌, ◌≤◌, List, [], length, ap, ◌∙◌, sym, arith}
+use Rattle.std.proofs.Common.{◌+◌, ◌*◌, List, length, ap, ◌∙◌, sym, arith}
 use Rattle.mv_calls.specs.Program.{Call}
 use Rattle.mv_plan.specs.SpoolSetup.{end_for_writer}
 use Rattle.mv_work.specs.Parts.{jobs_of}
@@ -8,27 +8,29 @@ use Rattle.mv_work.proofs.Ends.{end_asked, ends_over}
 use Rattle.mv_work.proofs.writer.write.Goals as goal
 
 pub returns-then-job-jobs : goal.returns-then-job-jobs
-returns-then-job-jobs c room ends fits kept =
+returns-then-job-jobs c room ends fits =
     let n = job_count c.args.deck.now in
-    let over = c.if-job-jobs.true in
-    ap (λ (call : Call (List _)). call kept)
-    (ends_over c.args.station.now.config (length (jobs_of c.args.deck.now)) ends c.args.job (omega arith))
+    record {
+      asks = λ kept. ap (λ (call : Call (List _)). call kept)
+          (ends_over c.args.station.now.config (length (jobs_of c.args.deck.now)) ends c.args.job (omega arith));
+    }
 
 pub returns : goal.returns
 returns c room ends fits =
     let config = c.args.station.now.config in
     let m = length (jobs_of c.args.deck.now) in
     let job = c.args.job in
-    let lt = c.if-job-jobs.false in
     let n = job_count c.args.deck.now in
     let exists = block_exists c.args.deck.now c.args.initiators config c.requires.spool.config (2 * length c.args.deck.now + 2 * job + 1) (omega arith) in
     let block = c.end_for_writer.ensures ∙ ap (λ k. end_for_writer k job) (sym n) in
-    let blocks = one_is c.one.result c.one.ensures.len c.one.ensures.blocks (end_for_writer m job) block in (
-      end_asked config m ends c.one.result job (omega arith) blocks c.one.ensures.count,
-      record {
-        number = omega arith;
-        room = omega arith;
-        block = one_block config c.one.result (end_for_writer m job) c.one.ensures.len c.one.ensures.room blocks (omega arith);
-      },
-      (let len = c.one.ensures.len in omega arith),
-    )
+    let blocks = one_is c.one.result c.one.ensures.len c.one.ensures.blocks (end_for_writer m job) block in record {
+      asks = (
+        end_asked config m ends c.one.result job (omega arith) blocks c.one.ensures.count,
+        record {
+          number = omega arith;
+          room = omega arith;
+          block = one_block config c.one.result (end_for_writer m job) c.one.ensures.len c.one.ensures.room blocks (omega arith);
+        },
+        (let len = c.one.ensures.len in omega arith),
+      );
+    }

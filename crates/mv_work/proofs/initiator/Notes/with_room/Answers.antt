@@ -1,9 +1,7 @@
-use Rattle.std.proofs.Common.{rules, ◌≡◌, ◌+◌, ◌<◌, ◌≤◌, ◌∷◌, Bool, false, List, length, drop, get_or, sum_by, sym, ap, ◌∙◌, subst, arith}
-use Rattle.std.specs.List.{AllByRecursion}
+use Rattle.std.proofs.Common.{◌+◌, drop, sum_by, sym, ap, ◌∙◌, arith}
 use Rattle.std.proofs.lemmas.List.{drop_all, drop_more}
 use Rattle.std.proofs.lemmas.List.Sums.{sum_by-cons}
 use Rattle.mv_deck.specs.declared.deck.Job.{Job}
-use Rattle.mv_deck.specs.declared.deck.Step.{Step}
 use Rattle.mv_plan.specs.Jobs.{job_at, no_job}
 use Rattle.mv_work.specs.Initiating.{job_marks, steps_marks}
 use Rattle.mv_work.specs.Parts.{jobs_of}
@@ -23,9 +21,6 @@ loop-k-preserved c =
     let own = ap job_marks (job_read deck k job lt (sym c.index-deck-k.is)) in
     let steps = ap steps_marks c.deref.ensures.value in
     let same = ap (λ (j : Job). steps_marks j.steps.items) c.index-deck-k.is in
-    let marks = c.marks_of.ensures in
-    let one = c.in-Some.ensures in
-    let two = c.in-Some-checked_add.ensures in
     let since = c.loop-k.invariant in omega arith
 
 pub returns-clause-room : goal.returns-clause-room
@@ -35,8 +30,6 @@ returns-clause-room c =
     let none = c.in_ok-none_given.ensures.none in
     let size = c.in_ok-none_given.ensures.size in
     let count = job_count c.args.deck.now in
-    let over = c.loop-k-test.false in
     let all = left_all job_marks given jobs none (size ∙ sym count) in
     let last = ap (λ js. sum_by job_marks js) (drop_all c.loop-k.k jobs (omega arith)) in
-    let since = c.loop-k.invariant in
     let room = c.in_ok-with_room.ensures.room in omega arith

@@ -1,4 +1,4 @@
-use Rattle.std.proofs.Common.{◌≡◌, ◌+◌, ◌≤◌, drop, sum_by}
+use Rattle.std.proofs.Common.{◌≡◌, ◌+◌, drop, sum_by}
 use Rattle.mv_work.specs.Initiating.{job_marks}
 use Rattle.mv_work.specs.Parts.{jobs_of}
 use Rattle.mv_work.proofs.initiator.Notes.with_room.Given as goal

@@ -1,19 +1,17 @@
-use Rattle.std.proofs.Common.{rules, ◌≡◌, ℕ, ◌+◌, ◌-◌, ◌*◌, ◌≤◌, ◌<◌, [], List, length, get_or, vec_capacity, Option, Some, None, refl, sym, ap, ◌∙◌, subst, arith}
+use Rattle.std.proofs.Common.{rules, ℕ, ◌-◌, ◌*◌, ◌≤◌, List, length, get_or, vec_capacity, Option, Some, None, sym, ap, ◌∙◌, arith}
 use Rattle.mv_deck.specs.Deck.{JobData}
-use Rattle.mv_deck.specs.Weight.{all_events, after_parts}
 use Rattle.mv_machine.specs.Setup.{Setup}
-use Rattle.mv_work.specs.Initiating.{IsInitiatorNeed, initiator_stages, rounds_due, steps_events}
+use Rattle.mv_work.specs.Initiating.{steps_events}
 use Rattle.mv_work.specs.Parts.{jobs_of}
-use Rattle.mv_work.specs.Scheduling.{IsSchedulerNeed, jobs_due, jobs_from, scheduler_stages}
+use Rattle.mv_work.specs.Scheduling.{jobs_due}
 use Rattle.mv_work.specs.Writing.{IsWriterNeed, WriterComes, ends_from, writer_stages}
 use Rattle.mv_work.specs.Waiting.{Asks, IsResting}
 use Rattle.mv_work.specs.declared.need.Need.{Need}
 use Rattle.mv_plan.specs.SpoolTasks.{writing}
 use Rattle.mv_work.proofs.Ends.{ends_first}
 use Rattle.mv_work.proofs.Decks.{initiator_budget, job_count, writer_budget}
-use Rattle.mv_work.proofs.Dispatching.{due_all}
 use Rattle.mv_work.proofs.Meeting.{reader_worked, scheduler_worked, writer_worked, initiator_worked}
-use Rattle.mv_work.proofs.Rounds.{left_all, none_given}
+use Rattle.mv_work.proofs.Rounds.{left_all}
 use Rattle.mv_work.proofs.Waits.{asks_first, comes_as}
 use Rattle.mv_work.proofs.work.Work.begin.Given as bound
 use Rattle.mv_work.proofs.work.Work.begin.Goals as goal
@@ -32,8 +30,7 @@ returns-in_err-stage g c =
     let deck = jobs_of c.args.deck.now in
     let i = c.args.initiators in
     let rests : IsResting b (jobs_due deck i 0) c.args.task.now = search rules in
-    let out = asks_first b (scheduler_stages b.config deck i) (IsSchedulerNeed b.config deck i) [] (jobs_from b.config deck i 0) (jobs_due deck i 0)
-    None c.in_err-stage.ensures rests in
+    let out = (asks_first c.in_err-stage.ensures rests).come in
     rw c.from_residual.ensures
     (out.0, scheduler_worked b.config deck i c.args.self.now (sym c.number-number.ensures.number ∙ c.if-number-eq-SCHEDULER.true) out.1)
 
@@ -59,15 +56,12 @@ write_first g c next asks =
     ∙ writer_budget (jobs_of c.args.deck.now) c.args.initiators c.args.task.now.number number in
     let rests : IsResting b (2 * (length c.args.deck.now - 0)) c.args.task.now =
     record { board = c.requires.fresh.board; quiet = search rules; left = omega arith } in
-    comes_as b (writer_stages b.config n ends.items) (IsWriterNeed b.config n room) ends.items c.args.task.now c.args.task.now next
-    (sym (ends_first b.config n) ∙ ap (λ es. ends_from b.config n es 0) (sym none))
-    (asks_first b (writer_stages b.config n ends.items) (IsWriterNeed b.config n room) ends.items (ends_from b.config n ends.items 0)
-    (2 * (length c.args.deck.now - 0)) next (asks room ends.items (omega arith)) rests)
+    comes_as (sym (ends_first b.config n) ∙ ap (λ es. ends_from b.config n es 0) (sym none)) (asks_first (asks room ends.items (omega arith)) rests)
 
 pub returns-in_err-job : goal.returns-in_err-job
 returns-in_err-job g c =
     let b = c.args.station.now in
-    let out = write_first g (goal.at.returns-in_err-job g c).After-write None c.in_err-job.ensures in
+    let out = (write_first g (goal.at.returns-in_err-job g c).After-write None c.in_err-job.ensures).come in
     rw c.from_residual-in_err-job.ensures (
       out.0,
       writer_worked b.config (jobs_of c.args.deck.now) c.args.initiators c.args.self.now
@@ -77,7 +71,7 @@ returns-in_err-job g c =
 pub returns-then-number-writer : goal.returns-then-number-writer
 returns-then-number-writer g c = (
   sym c.number-number.ensures.number ∙ c.if-number-writer.true ∙ c.writer.ensures,
-  write_first g (goal.at.returns-then-number-writer g c).After-write (Some (c.in_ok-job.job, c.in_ok-job.need)) c.in_ok-job.ensures,
+  (write_first g (goal.at.returns-then-number-writer g c).After-write (Some (c.in_ok-job.job, c.in_ok-job.need)) c.in_ok-job.ensures).come,
 )
 
 pub initiate-requires-clause-rests : goal.initiate-requires-clause-rests
@@ -85,12 +79,6 @@ initiate-requires-clause-rests g c =
     let deck = jobs_of c.args.deck.now in
     let i = c.args.initiators in
     let count = job_count c.args.deck.now in
-    let number = c.number-number.ensures.number in
-    let reader = c.if-number-eq-READER.false in
-    let scheduler = c.if-number-eq-SCHEDULER.false in
-    let last = c.if-number-writer.false in
-    let writer = c.writer.ensures in
-    let most = c.requires.number in
     let given = c.args.self.now.notes.given.items in
     let size = c.requires.new.size (omega arith) (omega arith) in
     let all = left_all (λ (j : JobData). steps_events j.steps) given deck c.requires.new.given size in
@@ -101,13 +89,7 @@ initiate-requires-clause-rests g c =
 pub returns-in_err-stage-2 : goal.returns-in_err-stage-2
 returns-in_err-stage-2 g c =
     let b = c.args.station.now in
-    let number = c.number-number.ensures.number in
-    let reader = c.if-number-eq-READER.false in
-    let scheduler = c.if-number-eq-SCHEDULER.false in
-    let last = c.if-number-writer.false in
-    let writer = c.writer.ensures in
-    let most = c.requires.number in
-    let out = c.in_err-stage-2.ensures in
+    let out = c.in_err-stage-2.ensures.come in
     rw c.from_residual-in_err-stage-2.ensures (
       out.0,
       initiator_worked b.config (jobs_of c.args.deck.now) c.args.initiators c.args.self.now (c.number-number.result - 2) (omega arith)

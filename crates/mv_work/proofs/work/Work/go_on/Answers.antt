@@ -1,9 +1,8 @@
-use Rattle.std.proofs.Common.{◌≡◌, ◌-◌, Some, sym, ap, ◌∙◌, subst}
+use Rattle.std.proofs.Common.{◌-◌, Some, ap}
 use Rattle.mv_work.specs.declared.need.Got.TheVariants as got
 use Rattle.mv_work.specs.declared.stage.Stage.TheVariants as stage
 use Rattle.mv_work.specs.declared.work.Work.{Work}
 use Rattle.mv_work.specs.Parts.{jobs_of}
-use Rattle.mv_work.specs.Works.{ToldAt}
 use Rattle.mv_work.proofs.Going.{scheduler_over, writer_over, initiator_over, initiator_next}
 use Rattle.mv_work.proofs.work.Work.go_on.Goals as goal
 
@@ -13,13 +12,10 @@ returns-in_err-stage-in-Scheduler g c t told =
     let deck = jobs_of c.args.deck.now in
     let i = c.args.initiators in
     let w = c.args.self.now in
-    let u = c.args.task.now in
     let slots = got.Slots c.in-Slots.slots in
     let place = c.in-Scheduler.stage in
-    let at = subst (λ g. ToldAt b deck i w (Some (stage.Scheduler place)) t g u) c.in-Slots.is
-    (subst (λ s. ToldAt b deck i w (Some s) t c.args.got u) c.in-Scheduler.is
-    (subst (λ o. ToldAt b deck i w o t c.args.got u) c.in-Some.is told)) in
-    rw c.from_residual.ensures (scheduler_over b deck i w w c.go_on.new.task slots place at c.in_err-stage-in-Scheduler.ensures)
+    let at = rw (c.in-Some.is, c.in-Scheduler.is, c.in-Slots.is) at told in
+    rw c.from_residual.ensures (scheduler_over b deck i w w c.go_on.new.task slots place at c.in_err-stage-in-Scheduler.ensures.come)
 
 pub returns-in_err-job-in-Writer : goal.returns-in_err-job-in-Writer
 returns-in_err-job-in-Writer g c t told =
@@ -27,15 +23,12 @@ returns-in_err-job-in-Writer g c t told =
     let deck = jobs_of c.args.deck.now in
     let i = c.args.initiators in
     let w = c.args.self.now in
-    let u = c.args.task.now in
     let new : Work = record { stage = w.stage; notes = w.notes; ends = c.on_end.new.ends } in
     let slots = got.Slots c.in-Slots-got.slots in
     let job = c.in-Writer.job in
-    let at = subst (λ g. ToldAt b deck i w (Some (stage.Writer job)) t g u) c.in-Slots-got.is
-    (subst (λ s. ToldAt b deck i w (Some s) t c.args.got u) c.in-Writer.is
-    (subst (λ o. ToldAt b deck i w o t c.args.got u) c.in-Some.is told)) in
+    let at = rw (c.in-Some.is, c.in-Writer.is, c.in-Slots-got.is) at told in
     rw c.from_residual-in_err-job-in-Writer.ensures
-    (writer_over b deck i w new c.on_end.new.task slots job at c.in_err-job-in-Writer.ensures)
+    (writer_over b deck i w new c.on_end.new.task slots job at c.in_err-job-in-Writer.ensures.come)
 
 pub returns-in_err-stage-in-Initiator : goal.returns-in_err-stage-in-Initiator
 returns-in_err-stage-in-Initiator g c t told =
@@ -44,8 +37,7 @@ returns-in_err-stage-in-Initiator g c t told =
     let i = c.args.initiators in
     let w = c.args.self.now in
     let new : Work = record { stage = w.stage; notes = c.go_on-in-Initiator.new.notes; ends = w.ends } in
-    let at = subst (λ s. ToldAt b deck i w (Some s) t c.args.got c.args.task.now) c.in-Initiator.is
-    (subst (λ o. ToldAt b deck i w o t c.args.got c.args.task.now) c.in-Some.is told) in
+    let at = rw (c.in-Some.is, c.in-Initiator.is) at told in
     rw c.from_residual-in_err-stage-in-Initiator.ensures
     (initiator_over b deck i w new c.go_on-in-Initiator.new.task c.args.got c.in-Initiator.stage at (c.number-index.result - 2)
     (ap (λ n. n - 2) c.number-index.ensures.number) c.in_err-stage-in-Initiator.ensures)
@@ -58,7 +50,6 @@ returns-in_ok-stage-in-Initiator g c t told =
     let w = c.args.self.now in
     let next = c.in_ok-stage-in-Initiator.stage in
     let new : Work = record { stage = Some (stage.Initiator next); notes = c.go_on-in-Initiator.new.notes; ends = w.ends } in
-    let at = subst (λ s. ToldAt b deck i w (Some s) t c.args.got c.args.task.now) c.in-Initiator.is
-    (subst (λ o. ToldAt b deck i w o t c.args.got c.args.task.now) c.in-Some.is told) in
+    let at = rw (c.in-Some.is, c.in-Initiator.is) at told in
     initiator_next b deck i w new c.go_on-in-Initiator.new.task c.args.got c.in-Initiator.stage at (c.number-index.result - 2)
     (ap (λ n. n - 2) c.number-index.ensures.number) next c.in_ok-stage-in-Initiator.need c.in_ok-stage-in-Initiator.ensures
