@@ -15,6 +15,7 @@ use Rattle.mv_machine.specs.Setup.{Setup, element_owner}
 use Rattle.mv_plan.specs.Jobs.{job_at, no_job}
 use Rattle.mv_plan.specs.SpoolSetup.{spool_setup, task_budgets, entered, done}
 use Rattle.mv_plan.proofs.deck.Setup.{facts}
+use Rattle.mv_plan.proofs.lists.Lists.{all_map}
 use Rattle.mv_work.specs.Parts.{HasInitiator, jobs_of}
 use Rattle.mv_work.proofs.Reaches.{block_count, reach_alone, reach_done, release_cost_is}
 
@@ -60,17 +61,14 @@ pub after_few : (deck : List Job) (i j : ℕ) → IsSound (jobs_of deck) i → j
     → length (job_at (jobs_of deck) j).after ≤ most_after
 after_few deck i j sound lt = let own = sound_job deck i j sound lt in own.2.few
 
-each_earlier : (m n : ℕ) (parts : List After) → m ≤ n → AllByRecursion (IsSoundAfter m) parts
-    → AllByRecursion (λ (part : After). part.job < n) parts
-each_earlier m n [] le all = tt
-each_earlier m n (part ∷ parts) le all = (let lt = all.0.0 in omega arith, each_earlier m n parts le all.1)
-
 -- of the deck
 pub after_earlier : (deck : List Job) (i j : ℕ) → IsSound (jobs_of deck) i → j < length deck
     → AllByRecursion (λ (part : After). part.job < length deck) (job_at (jobs_of deck) j).after
 after_earlier deck i j sound lt =
     let own = sound_job deck i j sound lt in
-    let count = own.1 in each_earlier (length own.0) (length deck) (job_at (jobs_of deck) j).after (omega arith) own.2.earlier
+    let count = own.1 in
+    all_map (λ (part : After) (is : IsSoundAfter (length own.0) part). let less = is.0 in let few = count in omega arith)
+    (job_at (jobs_of deck) j).after own.2.earlier
 
 -- ---- the configuration
 

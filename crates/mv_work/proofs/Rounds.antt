@@ -3,7 +3,7 @@ use Rattle.std.proofs.Common.{◌≡◌, ℕ, zero, suc, ◌+◌, ◌-◌, ◌<�
 use Rattle.std.proofs.Common.{sum_by, ◌||◌, Option, Some, None, Result, Ok, Err, refl, sym, ap, ◌∙◌, subst, if◌then◌else◌, arith}
 use Rattle.std.specs.List.{AllByRecursion, list_any}
 use Rattle.std.proofs.lemmas.Bool.{eq-eqb, ne_eqb, eqb-true}
-use Rattle.std.proofs.lemmas.List.{get_or-set_same, get_or-set_other, length-set}
+use Rattle.std.proofs.lemmas.List.{get_or-set_same, get_or-set_other, length-set, map-append}
 use Rattle.std.proofs.lemmas.List.Folds.{list_any-append}
 use Rattle.std.proofs.lemmas.List.Sums.{sum_by-cons}
 use Rattle.mv_board.specs.Faces.{CallerFace}
@@ -17,6 +17,7 @@ use Rattle.mv_calls.specs.Program.{Call, Done, Wrong, accepted, finished, wrong,
 use Rattle.mv_calls.specs.Refusal.{Refusal}
 use Rattle.mv_deck.specs.Deck.{JobData}
 use Rattle.mv_deck.specs.EndCode.{not_run}
+use Rattle.mv_plan.proofs.lists.Lists.{all_get}
 use Rattle.mv_plan.specs.Jobs.{job_at}
 use Rattle.mv_plan.specs.SpoolSetup.{idle, done}
 use Rattle.mv_plan.specs.SpoolTasks.{Named, named_by, job_named}
@@ -65,11 +66,7 @@ given_at (b ∷ given) zero d is lt read so = sym read ∙ so
 given_at (b ∷ given) (suc j) d is lt read so = given_at given j d is (omega arith) read so
 
 pub none_given : (given : List Bool) → AllByRecursion (λ b. b ≡ false) given → AreGiven [] given
-none_given given none = record { each = λ j lt. sym (all_false given j none) } where
-  all_false : (given : List Bool) (j : ℕ) → AllByRecursion (λ b. b ≡ false) given → get_or given j false ≡ false
-  all_false [] j none = refl
-  all_false (b ∷ given) zero none = none.0
-  all_false (b ∷ given) (suc j) none = all_false given j none.1
+none_given given none = record { each = λ j lt. sym (all_get (λ b. b ≡ false) given j false none refl) }
 
 -- one more
 pub one_given : (before : List ℕ) (given : List Bool) (job : ℕ) → AreGiven before given → job < length given
@@ -95,8 +92,7 @@ one_given before given job are lt =
 
 -- the jobs of one record more
 pub jobs_more : (records : List JobRecord) (r : JobRecord) → jobs_of_records (records ++ r ∷ []) ≡ jobs_of_records records ++ r.job ∷ []
-jobs_more [] r = refl
-jobs_more (x ∷ records) r = ap (λ js. x.job ∷ js) (jobs_more records r)
+jobs_more records r = map-append (λ (r : JobRecord). r.job) records (r ∷ [])
 
 -- ---- an initiator, in a round
 

@@ -21,6 +21,7 @@ use Rattle.mv_deck.specs.declared.deck.Step.TheVariants as step
 use Rattle.mv_deck.specs.declared.deck.Text.{Text}
 use Rattle.mv_deck.specs.Deck.{JobData}
 use Rattle.mv_latchset.specs.declared.token.LatchToken.{LatchToken}
+use Rattle.mv_plan.proofs.lists.Lists.{all_get}
 use Rattle.mv_plan.specs.Jobs.{job_at}
 use Rattle.mv_plan.specs.SpoolTasks.{freed, counted, granted_as}
 use Rattle.mv_wait.specs.Run.{IsServed}
@@ -33,14 +34,14 @@ use Rattle.mv_work.specs.declared.running.Did.{Did}
 use Rattle.mv_work.specs.declared.running.Did.TheVariants as did
 use Rattle.mv_work.specs.declared.stage.InitiatorStage.TheVariants as stage
 use Rattle.mv_work.specs.declared.stage.Running.{Running}
-use Rattle.mv_work.specs.Initiating.{initiator_left, rounds_after, steps_then}
+use Rattle.mv_work.specs.Initiating.{AreGiven, IsAtJob, initiator_left, jobs_of_records, rounds_after, steps_from, steps_then}
 use Rattle.mv_work.specs.Needs.{need_call}
 use Rattle.mv_work.specs.Noting.{record_of, steps_noted}
 use Rattle.mv_work.specs.Ran.{Ran, Leads}
-use Rattle.mv_work.specs.Records.{JobRecord}
+use Rattle.mv_work.specs.Records.{JobRecord, Recorded}
 use Rattle.mv_work.specs.Steps.{AreKept, DoesStep, requests_of}
 use Rattle.mv_work.proofs.Calls.{latch_asked}
-use Rattle.mv_work.proofs.Runs.{leads_then, leads_under, ran_followed, ran_last, ran_nothing, served_as}
+use Rattle.mv_work.proofs.Runs.{leads_astray, leads_on, leads_then, leads_under, ran_followed, ran_last, ran_nothing, served_as}
 
 -- the number of a request
 abbrev pub id_of : LatchToken → ℕ
@@ -150,14 +151,9 @@ module _ (c : Setup) (job : ℕ) (tokens : List (Option LatchToken)) (place : �
   pub returns : (code : ℕ) → IsAtRest t.log → DoesStep c job tokens place notes (step.Return code) (Ok (did.Ended code)) notes t t
   returns code quiet steps = ran_nothing (finished (record_of job code notes)) refl quiet
 
-none_at : (tokens : List (Option LatchToken)) → AllByRecursion (λ o. o ≡ None) tokens → (latch : ℕ) → get_or tokens latch None ≡ None
-none_at [] all latch = refl
-none_at (o ∷ tokens) all zero = all.0
-none_at (o ∷ tokens) all (suc latch) = none_at tokens all.1 latch
-
 -- a job that has no request yet
 pub no_requests : (tokens : List (Option LatchToken)) → AllByRecursion (λ o. o ≡ None) tokens → requests_of tokens ≡ (λ (latch : ℕ). None)
-no_requests tokens all i latch = ap (λ o. option_map id_of o) (none_at tokens all latch) i
+no_requests tokens all i latch = ap (λ o. option_map id_of o) (all_get (λ o. o ≡ None) tokens latch None all refl) i
 
 -- the tokens of a job that begins
 abbrev pub no_tokens : List (Option LatchToken)
@@ -167,18 +163,12 @@ pub none_each : AllByRecursion (λ o. o ≡ None) no_tokens
 none_each = (refl, (refl, (refl, (refl, (refl, (refl, (refl, (refl, tt))))))))
 
 pub none_kept : AreKept no_tokens
-none_kept = record { count = refl; own = λ latch t at. absurd (cc (sym (none_at no_tokens none_each latch) ∙ at)) }
+none_kept = record { count = refl; own = λ latch t at. absurd (cc (sym (all_get (λ o. o ≡ None) no_tokens latch None none_each refl) ∙ at)) }
 
 -- ---- the steps of a job, with what follows them
 
--- steps were done: with what follows them it is what is left to do
-pub on_steps : {A B : Type 0} {whole : Call B} {call rest : Call A} {t u v : CallerFace} (f : A → Call B)
-    → Leads whole (followed call f) t u
-    → Leads call rest u v → IsAtRest v.log → Leads whole (followed rest f) t v
-on_steps f k l quiet = leads_then k (leads_under f l quiet)
-
 -- the next is a USE, whose latch is asked for
-pub latch_needed : (c : Setup) (deck : List JobData) (me : ℕ) (notes : Notes) (r : Running) (place : ℕ) (mode : Mode) → r.step ≡ place + 1
+latch_needed : (c : Setup) (deck : List JobData) (me : ℕ) (notes : Notes) (r : Running) (place : ℕ) (mode : Mode) → r.step ≡ place + 1
     → followed (steps_noted c r.job (requests_of r.requests) place notes.noted.notes
     (step.Use r.latch mode ∷ drop r.step (job_at deck r.job).steps))
     (steps_then c deck me (rounds_after deck r.round) notes.noted.jobs r.next r.job)
@@ -191,8 +181,57 @@ latch_needed c deck me notes r place mode is =
     (λ id. steps_noted c r.job (with_at (requests_of r.requests) r.latch (Some id)) r.step notes.noted.notes (drop r.step (job_at deck r.job).steps))
     (steps_then c deck me (rounds_after deck r.round) notes.noted.jobs r.next r.job)
 
--- a list at a place
-pub one_at : {A : Type 0} (P : A → Type 0) (xs : List A) (k : ℕ) (d : A) → AllByRecursion P xs → k < length xs → P (get_or xs k d)
-one_at P [] k d all lt = absurd (omega arith)
-one_at P (x ∷ xs) zero d all lt = all.0
-one_at P (x ∷ xs) (suc k) d all lt = one_at P xs k d all.1 (omega arith)
+module _ (c : Setup) (deck : List JobData) (me : ℕ) (r : Running) (place : ℕ) (next : Step)
+    (begins : drop place (job_at deck r.job).steps ≡ next ∷ drop (place + 1) (job_at deck r.job).steps) (old new : Notes)
+    (jobs : new.noted.jobs ≡ old.noted.jobs) {whole : Call (List JobRecord)} {t u : CallerFace}
+    (left : Leads whole (steps_from c deck me old r place (requests_of r.requests)) t u) where
+  -- the steps behind this one, the next of which stands in front of them, and what follows all
+  abbrev pub behind : List Step
+  behind = drop (place + 1) (job_at deck r.job).steps
+
+  abbrev pub steps_now : List Noted → List Step → Call JobRecord
+  steps_now notes steps = steps_noted c r.job (requests_of r.requests) place notes steps
+
+  abbrev pub tail : List JobRecord → JobRecord → Call (List JobRecord)
+  tail records = steps_then c deck me (rounds_after deck r.round) records r.next r.job
+
+  next_left : Leads whole (followed (steps_now old.noted.notes (next ∷ behind)) (tail new.noted.jobs)) t u
+  next_left = subst (λ records. Leads whole (followed (steps_now old.noted.notes (next ∷ behind)) (tail records)) t u) (sym jobs)
+      (subst (λ steps. Leads whole (followed (steps_now old.noted.notes steps) (tail old.noted.jobs)) t u) begins left)
+
+  -- the next was done
+  pub step_done : {v : CallerFace} → Leads (steps_now old.noted.notes (next ∷ behind))
+      (steps_noted c r.job (requests_of r.requests) (place + 1) new.noted.notes behind) u v → IsAtRest v.log
+      → Leads whole (steps_from c deck me new r (place + 1) (requests_of r.requests)) t v
+  step_done does quiet = leads_then next_left (leads_under (tail new.noted.jobs) does quiet)
+
+  -- it ended the job
+  pub step_ended : {v : CallerFace} (end : ℕ) → Ran (steps_now old.noted.notes (next ∷ behind)) (Done (record_of r.job end new.noted.notes)) u v
+      → Leads whole (tail new.noted.jobs (record_of r.job end new.noted.notes)) t v
+  step_ended end x = leads_on (tail new.noted.jobs) next_left x
+
+  -- the task is lost
+  pub step_lost : {v : CallerFace} → Ran (steps_now old.noted.notes (next ∷ behind)) Wrong u v → Ran whole Wrong t v
+  step_lost x = leads_astray (tail new.noted.jobs) next_left x
+
+  -- it is a USE, whose latch is asked for
+  pub step_asks : {v : CallerFace} (latch : ℕ) (mode : Mode) → next ≡ step.Use latch mode → new.noted.notes ≡ old.noted.notes → v ≡ u
+      → Leads whole (followed (need_call c (need.Latch latch (r.job + 1) mode))
+      (initiator_left c deck me new (stage.Latch (record r { step = place + 1; latch = latch })))) t v
+  step_asks {v} latch mode is same still =
+      subst (λ call. Leads whole call t v) (latch_needed c deck me new (record r { step = place + 1; latch = latch }) place mode refl)
+      (subst (λ w. Leads whole (followed (steps_now new.noted.notes (step.Use latch mode ∷ behind)) (tail new.noted.jobs)) t w) (sym still)
+      (subst (λ notes. Leads whole (followed (steps_now notes (step.Use latch mode ∷ behind)) (tail new.noted.jobs)) t u) (sym same)
+      (subst (λ s. Leads whole (followed (steps_now old.noted.notes (s ∷ behind)) (tail new.noted.jobs)) t u) is next_left)))
+
+-- a job that still runs, with what is noted now
+pub still_at : {deck : List JobData} {old : Notes} {round job marks : ℕ} (noted : Recorded) (less : ℕ) → noted.jobs ≡ old.noted.jobs
+    → less + old.noted.room ≤ noted.room + marks → IsAtJob deck old round job marks
+    → IsAtJob deck (record { given = old.given; noted = noted }) round job less
+still_at {old = old} {job = job} noted less jobs room at = record {
+  round = at.round;
+  job = at.job;
+  size = at.size;
+  given = subst (λ js. AreGiven (js ++ job ∷ []) old.given.items) (ap jobs_of_records (sym jobs)) at.given;
+  room = (let few = at.room in omega arith);
+}

@@ -23,48 +23,34 @@ use Rattle.mv_work.proofs.brought.OneRecord.{about, about_own, about_other}
 
 -- ---- the lines of right notes
 
-slice_get_middle : (seen : List Step) (step : Step) (steps : List Step) → slice_get (seen ++ step ∷ steps) (length seen) ≡ Some step
-slice_get_middle [] step steps = refl
-slice_get_middle (s ∷ seen) step steps = slice_get_middle seen step steps
-
-same_number : (n : ℕ) → (n == n) ≡ true
-same_number n = eq-eqb n n refl
-
-one_more : (all seen : List Step) (step : Step) (steps : List Step) → all ≡ seen ++ step ∷ steps → all ≡ (seen ++ step ∷ []) ++ steps
-one_more all seen step steps e = e ∙ sym (append_assoc seen (step ∷ []) steps)
-
-at_next : (seen : List Step) (step : Step) (steps : List Step) (notes : List Noted) → AreNotesOf (before_end steps) (length seen + 1) notes
-    → AreNotesOf (before_end steps) (length (seen ++ step ∷ [])) notes
-at_next seen step steps notes w = subst (λ n. AreNotesOf (before_end steps) n notes) (sym (length-append seen (step ∷ []))) w
-
--- of all steps, these are behind the ones seen
 module _ (all : List Step) where
-  notes_lines : (seen steps : List Step) (notes : List Noted) → all ≡ seen ++ steps → AreNotesOf (before_end steps) (length seen) notes
+  -- the steps from this place on
+  abbrev AreFrom : ℕ → List Step → Type 0
+  AreFrom place steps = (k : ℕ) → slice_get all (place + k) ≡ slice_get steps k
+
+  behind : (place : ℕ) (step : Step) (steps : List Step) → AreFrom place (step ∷ steps) → AreFrom (place + 1) steps
+  behind place step steps are k = ap (slice_get all) (let e : place + 1 + k ≡ place + suc k = omega arith in e) ∙ are (suc k)
+
+  here : (place : ℕ) (step : Step) (steps : List Step) → AreFrom place (step ∷ steps) → slice_get all place ≡ Some step
+  here place step steps are = ap (slice_get all) (let e : place ≡ place + 0 = omega arith in e) ∙ are 0
+
+  notes_lines : (place : ℕ) (steps : List Step) (notes : List Noted) → AreFrom place steps → AreNotesOf (before_end steps) place notes
       → lines_of_notes all notes ≡ lines_of_steps (before_end steps)
-  notes_lines seen [] notes split w = ap (lines_of_notes all) w
-  notes_lines seen (Print text ∷ steps) notes split w =
+  notes_lines place [] notes are w = ap (lines_of_notes all) w
+  notes_lines place (Print text ∷ steps) notes are w =
       ap (lines_of_notes all) w.1
-      ∙ ap (λ slot. lines_printed slot ++ lines_of_notes all w.0) (ap (λ l. slice_get l (length seen)) split
-      ∙ slice_get_middle seen (Print text) steps)
-      ∙ ap (λ ls. print_line text ∷ ls) (notes_lines (seen ++ Print text ∷ []) steps w.0 (one_more all seen (Print text) steps split)
-      (at_next seen (Print text) steps w.0 w.2))
-  notes_lines seen (Use latch mode ∷ steps) notes split w =
-      notes_lines (seen ++ Use latch mode ∷ []) steps notes (one_more all seen (Use latch mode) steps split)
-      (at_next seen (Use latch mode) steps notes w)
-  notes_lines seen (Free latch ∷ steps) notes split w =
-      notes_lines (seen ++ Free latch ∷ []) steps notes (one_more all seen (Free latch) steps split) (at_next seen (Free latch) steps notes w)
-  notes_lines seen (Count v amount ∷ steps) notes split w =
-      notes_lines (seen ++ Count v amount ∷ []) steps notes (one_more all seen (Count v amount) steps split)
-      (at_next seen (Count v amount) steps notes w)
-  notes_lines seen (Scan v ∷ steps) notes split w =
+      ∙ ap (λ slot. lines_printed slot ++ lines_of_notes all w.0) (here place (Print text) steps are)
+      ∙ ap (λ ls. print_line text ∷ ls) (notes_lines (place + 1) steps w.0 (behind place (Print text) steps are) w.2)
+  notes_lines place (Use latch mode ∷ steps) notes are w = notes_lines (place + 1) steps notes (behind place (Use latch mode) steps are) w
+  notes_lines place (Free latch ∷ steps) notes are w = notes_lines (place + 1) steps notes (behind place (Free latch) steps are) w
+  notes_lines place (Count v amount ∷ steps) notes are w = notes_lines (place + 1) steps notes (behind place (Count v amount) steps are) w
+  notes_lines place (Scan v ∷ steps) notes are w =
       ap (lines_of_notes all) w.2
-      ∙ ap (λ b. lines_scanned b (slice_get all (length seen)) ++ lines_of_notes all w.1) (same_number w.0)
-      ∙ ap (λ slot. lines_scanned true slot ++ lines_of_notes all w.1) (ap (λ l. slice_get l (length seen)) split
-      ∙ slice_get_middle seen (Scan v) steps)
-      ∙ ap (λ ls. scan_line v true ∷ ls) (notes_lines (seen ++ Scan v ∷ []) steps w.1 (one_more all seen (Scan v) steps split)
-      (at_next seen (Scan v) steps w.1 w.3))
-  notes_lines seen (Abend code ∷ steps) notes split w = ap (lines_of_notes all) w
-  notes_lines seen (Return code ∷ steps) notes split w = ap (lines_of_notes all) w
+      ∙ ap (λ b. lines_scanned b (slice_get all place) ++ lines_of_notes all w.1) (eq-eqb w.0 w.0 refl)
+      ∙ ap (λ slot. lines_scanned true slot ++ lines_of_notes all w.1) (here place (Scan v) steps are)
+      ∙ ap (λ ls. scan_line v true ∷ ls) (notes_lines (place + 1) steps w.1 (behind place (Scan v) steps are) w.3)
+  notes_lines place (Abend code ∷ steps) notes are w = ap (lines_of_notes all) w
+  notes_lines place (Return code ∷ steps) notes are w = ap (lines_of_notes all) w
 
 -- so of the steps that a job does
 steps_lines : (end : ℕ) (steps : List Step) (notes : List Noted) → AreNotesOf (steps_with end steps) 0 notes
@@ -73,7 +59,7 @@ steps_lines end steps notes w = go (is_not_run end) w where
   go : (b : Bool) → AreNotesOf (if b then [] else before_end steps) 0 notes
       → lines_of_notes steps notes ≡ lines_of_steps (if b then [] else before_end steps)
   go true w = ap (lines_of_notes steps) w
-  go false w = notes_lines steps [] steps notes refl w
+  go false w = notes_lines steps 0 steps notes (λ k. ap (slice_get steps) (let e : 0 + k ≡ k = omega arith in e)) w
 
 -- ---- the records of all jobs
 

@@ -52,25 +52,6 @@ quiet_unless : {A : Type 0} (why : Option Refusal) (p : Program (Result A Refusa
 quiet_unless None p q = q
 quiet_unless (Some why) p q = tt
 
--- ---- by the kind of reply
-
-quiet_on_ecb : {A : Type 0} (r : Reply) (f : EcbReply → Program A) → ((x : EcbReply) → Quiet (f x)) → Quiet (on_ecb r f)
-quiet_on_ecb (reply_of.Ecb x) f each = each x
-quiet_on_ecb r f each = tt
-
-quiet_on_element : {A : Type 0} (r : Reply) (f : ElementReply → Program A) → ((x : ElementReply) → Quiet (f x))
-    → Quiet (on_element r f)
-quiet_on_element (reply_of.Element x) f each = each x
-quiet_on_element r f each = tt
-
-quiet_on_volume : {A : Type 0} (r : Reply) (f : VolumeReply → Program A) → ((x : VolumeReply) → Quiet (f x)) → Quiet (on_volume r f)
-quiet_on_volume (reply_of.Volume x) f each = each x
-quiet_on_volume r f each = tt
-
-quiet_on_latch : {A : Type 0} (r : Reply) (f : LatchReply → Program A) → ((x : LatchReply) → Quiet (f x)) → Quiet (on_latch r f)
-quiet_on_latch (reply_of.Latch x) f each = each x
-quiet_on_latch r f each = tt
-
 -- ---- posts
 
 each_quiet : (post : ℕ → Program Posting) (es : List ℕ) (answer : Posting) → ((e : ℕ) → Quiet (post e))
@@ -79,19 +60,18 @@ each_quiet post [] answer each = tt
 each_quiet post (e ∷ es) answer each = quiet_and_then (post e) (λ p. each_posted post es answer) (each e)
     (λ p. each_quiet post es answer each)
 
-by_posting : (f : Posting → Program Posting) → ((p : Posting) → Quiet (f p)) → (x : EcbReply) → Quiet (posting f x)
-by_posting f each ecb_reply.Posted = each Posted
-by_posting f each (ecb_reply.Woke x) = each (Woke x)
-by_posting f each (ecb_reply.Already code) = each (Already code)
-by_posting f each x = tt
+by_posting : (f : Posting → Program Posting) → ((p : Posting) → Quiet (f p)) → (r : Reply) → Quiet (on_ecb r (posting f))
+by_posting f each (reply_of.Ecb ecb_reply.Posted) = each Posted
+by_posting f each (reply_of.Ecb (ecb_reply.Woke x)) = each (Woke x)
+by_posting f each (reply_of.Ecb (ecb_reply.Already code)) = each (Already code)
+by_posting f each r = tt
 
 within_quiet : (depth : ℕ) (c : Setup) (code e : ℕ) → Quiet (post_within depth c code e)
 within_quiet zero c code e = tt
 within_quiet (suc depth) c code e = (
   tt,
-  λ h. quiet_on_ecb h.entry.reply (posting (λ p. each_posted (post_within depth c code) (posted_next c p) p))
-      (by_posting (λ p. each_posted (post_within depth c code) (posted_next c p) p)
-      (λ p. each_quiet (post_within depth c code) (posted_next c p) p (λ e. within_quiet depth c code e))),
+  λ h. by_posting (λ p. each_posted (post_within depth c code) (posted_next c p) p)
+      (λ p. each_quiet (post_within depth c code) (posted_next c p) p (λ e. within_quiet depth c code e)) h.entry.reply,
 )
 
 pub post_quiet : (c : Setup) (e code : ℕ) (kept : Kept) → Quiet (post c e code kept)
@@ -111,64 +91,64 @@ wakes_quiet c (w ∷ ws) kept last q = wake_quiet c w.ecb w.code kept _ (wakes_q
 
 pub allocate_quiet : (c : Setup) (kept : Kept) → Quiet (allocate c kept)
 allocate_quiet c kept = go (lowest_free c kept) where
-  by_reply : (n : ℕ) (x : ElementReply) → Quiet (opened n x)
-  by_reply n (element_reply.Opened g) = tt
-  by_reply n x = tt
+  by_reply : (n : ℕ) (r : Reply) → Quiet (on_element r (opened n))
+  by_reply n (reply_of.Element (element_reply.Opened g)) = tt
+  by_reply n r = tt
 
   go : (slot : Option ℕ) → Quiet (open_lowest slot)
   go None = tt
-  go (Some n) = (tt, λ h. quiet_on_element h.entry.reply (opened n) (by_reply n))
+  go (Some n) = (tt, λ h. by_reply n h.entry.reply)
 
 pub deallocate_quiet : (c : Setup) (t : Token) (kept : Kept) → Quiet (deallocate c t kept)
 deallocate_quiet c t kept =
     let p : Program (Result (Unit {0}) Refusal) =
     Do (Element t.element) (op_on.Element (element_op.Close t.generation)) (λ h. on_element h.entry.reply closed) in
-    let q : Quiet p = (tt, λ h. quiet_on_element h.entry.reply closed by_reply) in
+    let q : Quiet p = (tt, λ h. by_reply h.entry.reply) in
     quiet_unless (refused_if (is_others_token c kept t) refusal.NotOwner) p q where
-      by_reply : (x : ElementReply) → Quiet (closed x)
-      by_reply element_reply.Closed = tt
-      by_reply (element_reply.Spent g) = tt
-      by_reply x = tt
+      by_reply : (r : Reply) → Quiet (on_element r closed)
+      by_reply (reply_of.Element element_reply.Closed) = tt
+      by_reply (reply_of.Element (element_reply.Spent g)) = tt
+      by_reply r = tt
 
 -- ---- volumes
 
 pub write_quiet : (v n : ℕ) (kept : Kept) → Quiet (write_volume v n kept)
-write_quiet v n kept = (tt, λ h. quiet_on_volume h.entry.reply stored by_reply) where
-  by_reply : (x : VolumeReply) → Quiet (stored x)
-  by_reply volume_reply.Stored = tt
-  by_reply x = tt
+write_quiet v n kept = (tt, λ h. by_reply h.entry.reply) where
+  by_reply : (r : Reply) → Quiet (on_volume r stored)
+  by_reply (reply_of.Volume volume_reply.Stored) = tt
+  by_reply r = tt
 
 -- ---- latches
 
-confirmed_quiet : (id : ℕ) (x : LatchReply) → Quiet (confirmed id x)
-confirmed_quiet id (latch_reply.Granted same) = tt
-confirmed_quiet id latch_reply.Waiting = tt
-confirmed_quiet id latch_reply.Gone = tt
-confirmed_quiet id x = tt
+confirmed_quiet : (id : ℕ) (r : Reply) → Quiet (on_latch r (confirmed id))
+confirmed_quiet id (reply_of.Latch (latch_reply.Granted same)) = tt
+confirmed_quiet id (reply_of.Latch latch_reply.Waiting) = tt
+confirmed_quiet id (reply_of.Latch latch_reply.Gone) = tt
+confirmed_quiet id r = tt
 
 pub obtain_quiet : (c : Setup) (latch requestor : ℕ) (mode : Mode) (kept : Kept) → Quiet (obtain c latch requestor mode Waiting kept)
 obtain_quiet c latch requestor mode kept =
     let p : Program (Result Obtained Refusal) =
     Do Latches (op_on.Latch (latch_op.Obtain latch requestor mode Waiting)) (λ h. on_latch h.entry.reply (obtained latch Waiting)) in
-    let q : Quiet p = (tt, λ h. quiet_on_latch h.entry.reply (obtained latch Waiting) by_reply) in
+    let q : Quiet p = (tt, λ h. by_reply h.entry.reply) in
     quiet_unless (obtain_refusal c latch requestor mode Waiting kept) p q where
-      by_reply : (x : LatchReply) → Quiet (obtained latch Waiting x)
-      by_reply (latch_reply.Granted id) = tt
-      by_reply (latch_reply.Queued id) = (tt, λ h. quiet_on_latch h.entry.reply (confirmed id) (confirmed_quiet id))
-      by_reply x = tt
+      by_reply : (r : Reply) → Quiet (on_latch r (obtained latch Waiting))
+      by_reply (reply_of.Latch (latch_reply.Granted id)) = tt
+      by_reply (reply_of.Latch (latch_reply.Queued id)) = (tt, λ h. confirmed_quiet id h.entry.reply)
+      by_reply r = tt
 
 pub release_quiet : (c : Setup) (latch id : ℕ) (kept : Kept) → Quiet (release_latch c latch id false kept)
-release_quiet c latch id kept = (tt, λ h. quiet_on_latch h.entry.reply _ (by_reply h.wakes)) where
-  by_reply : (ws : List Wake) (x : LatchReply) → Quiet (let_go c false ws kept x)
-  by_reply ws (latch_reply.Released granted) = wakes_quiet c ws kept _ tt
-  by_reply ws latch_reply.Gone = tt
-  by_reply ws x = tt
+release_quiet c latch id kept = (tt, λ h. by_reply h.wakes h.entry.reply) where
+  by_reply : (ws : List Wake) (r : Reply) → Quiet (on_latch r (let_go c false ws kept))
+  by_reply ws (reply_of.Latch (latch_reply.Released granted)) = wakes_quiet c ws kept _ tt
+  by_reply ws (reply_of.Latch latch_reply.Gone) = tt
+  by_reply ws r = tt
 
 purge_quiet : (c : Setup) (requestor : ℕ) (kept : Kept) → Quiet (purge c requestor kept)
-purge_quiet c requestor kept = (tt, λ h. quiet_on_latch h.entry.reply _ (by_reply h.wakes)) where
-  by_reply : (ws : List Wake) (x : LatchReply) → Quiet (purged c ws kept x)
-  by_reply ws (latch_reply.Purged removed granted) = wakes_quiet c ws kept _ tt
-  by_reply ws x = tt
+purge_quiet c requestor kept = (tt, λ h. by_reply h.wakes h.entry.reply) where
+  by_reply : (ws : List Wake) (r : Reply) → Quiet (on_latch r (purged c ws kept))
+  by_reply ws (reply_of.Latch (latch_reply.Purged removed granted)) = wakes_quiet c ws kept _ tt
+  by_reply ws r = tt
 
 pub end_quiet : (c : Setup) (requestor e code : ℕ) (kept : Kept) → Quiet (end_of_job c requestor e code kept)
 end_quiet c requestor e code kept = quiet_and_then (purge c requestor kept) _ (purge_quiet c requestor kept)

@@ -2,6 +2,7 @@
 use Rattle.std.proofs.Common.{◌≡◌, ℕ, suc, ◌<◌, ◌≤◌, ◌==◌, Bool, true, false, List, [], ◌∷◌, ◌++◌, length, filter}
 use Rattle.std.proofs.Common.{if◌then◌else◌, refl, sym, ap, ◌∙◌, subst, arith}
 use Rattle.std.specs.List.{AllByRecursion}
+use Rattle.mv_machine.proofs.Lists.{all_append, all_filter}
 use Rattle.mv_machine.specs.declared.entry.Entry.{Entry}
 use Rattle.mv_machine.specs.Legal.{of}
 use Rattle.mv_machine.specs.Setup.{Setup}
@@ -21,6 +22,7 @@ use Rattle.mv_plan.specs.SpoolTasks.{initiating}
 use Rattle.mv_plan.proofs.deck.Codes.{code_parts}
 use Rattle.mv_plan.proofs.deck.Ends.{few_jobs, skipped_ends, end_by_mark}
 use Rattle.mv_plan.proofs.deck.Plans.{IsPlanned}
+use Rattle.mv_plan.proofs.lists.Lists.{all_map}
 use Rattle.mv_plan.proofs.results.Exclusive.{are_counted_alone}
 use Rattle.mv_plan.proofs.results.HandedOut.{are_handed_out}
 use Rattle.mv_plan.proofs.volumes.GivenCodes.{codes_of}
@@ -39,27 +41,11 @@ use Rattle.mv_work.proofs.brought.Rounds.{IsOwn, AreRounds, initiator_rounds}
 
 -- ---- lists
 
-all_filtered : (P : JobRecord → Type 0) (p : JobRecord → Bool) (rs : List JobRecord) → AllByRecursion P rs → AllByRecursion P (filter p rs)
-all_filtered P p [] w = tt
-all_filtered P p (r ∷ rs) w = go (p r) refl (all_filtered P p rs w.1) where
-  go : (b : Bool) → p r ≡ b → AllByRecursion P (filter p rs) → AllByRecursion P (filter p (r ∷ rs))
-  go true e rest = rw e (w.0, rest)
-  go false e rest = rw e rest
-
-all_joined : (P : JobRecord → Type 0) (xs ys : List JobRecord) → AllByRecursion P xs → AllByRecursion P ys → AllByRecursion P (xs ++ ys)
-all_joined P [] ys v w = w
-all_joined P (x ∷ xs) ys v w = (v.0, all_joined P xs ys v.1 w)
-
 all_flat : (P : JobRecord → Type 0) (records : List (List JobRecord))
     → ((i : ℕ) → i < length records → AllByRecursion P (list_at records i)) → AllByRecursion P (all_records records)
 all_flat P [] each = tt
 all_flat P (rs ∷ records) each =
-    all_joined P rs (all_records records) (each 0 (omega arith)) (all_flat P records (λ i lt. each (suc i) (omega arith)))
-
-all_known : (deck : List JobData) (rs : List JobRecord) → AllByRecursion (IsOwn deck) rs
-    → AllByRecursion (λ r. r.job < length deck) rs
-all_known deck [] w = tt
-all_known deck (r ∷ rs) w = (w.0.job, all_known deck rs w.1)
+    all_append P rs (all_records records) (each 0 (omega arith)) (all_flat P records (λ i lt. each (suc i) (omega arith)))
 
 -- ---- a run
 
@@ -108,7 +94,7 @@ module _ (deck : List JobData) (initiators : ℕ) (some : 1 ≤ initiators) (pla
       brought.count rounds_of in
       let found : AllByRecursion (IsOwn deck) (one.found ∷ []) =
       subst (λ rs. AllByRecursion (IsOwn deck) rs) one.alone
-      (all_filtered (IsOwn deck) (λ r. r.job == j) (all_records records) all_own) in
+      (all_filter (IsOwn deck) (λ r. r.job == j) (all_records records) all_own) in
       let own : IsOwn deck one.found = found.0 in
       let is : (one.found.job ≡ j) × ((one.found.end == not_run) ≡ (end_of deck j == not_run)) =
       code_parts (length deck) one.found.job j (one.found.end == not_run) (end_of deck j == not_run) (few_jobs deck initiators planned)
@@ -126,4 +112,4 @@ module _ (deck : List JobData) (initiators : ℕ) (some : 1 ≤ initiators) (pla
       }
 
   pub are_recorded : AreRecorded deck (all_records records)
-  are_recorded = record { each = is_recorded; known = all_known deck (all_records records) all_own }
+  are_recorded = record { each = is_recorded; known = all_map (λ r own. own.job) (all_records records) all_own }
