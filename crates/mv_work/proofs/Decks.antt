@@ -3,6 +3,7 @@ use Rattle.std.proofs.Common.{◌≡◌, ℕ, zero, suc, ◌+◌, ◌*◌, ◌<�
 use Rattle.std.proofs.Common.{arith}
 use Rattle.std.specs.List.{AllByRecursion}
 use Rattle.std.proofs.lemmas.List.{length-append, length-map, get_or-map}
+use Rattle.mv_board.specs.Faces.{BoardFace}
 use Rattle.mv_deck.specs.declared.deck.After.{After}
 use Rattle.mv_deck.specs.declared.deck.Job.{Job}
 use Rattle.mv_deck.specs.declared.deck.Step.{Step}
@@ -17,6 +18,7 @@ use Rattle.mv_plan.specs.SpoolSetup.{spool_setup, task_budgets, entered, done}
 use Rattle.mv_plan.proofs.deck.Setup.{facts}
 use Rattle.mv_plan.proofs.lists.Lists.{all_map}
 use Rattle.mv_work.specs.Parts.{HasInitiator, jobs_of}
+use Rattle.mv_work.specs.Waiting.{IsSpool}
 use Rattle.mv_work.proofs.Reaches.{block_count, reach_alone, reach_done, release_cost_is}
 
 -- ---- jobs
@@ -72,41 +74,41 @@ after_earlier deck i j sound lt =
 
 -- ---- the configuration
 
-module _ (deck : List Job) (i : ℕ) (c : Setup) (is : c ≡ spool_setup (jobs_of deck) i) where
-  pub block_exists : (e : ℕ) → e < 4 * length deck + i → e < length c.owners
+module _ {face : BoardFace} {deck : List Job} {i : ℕ} (spool : IsSpool face deck i) where
+  pub block_exists : (e : ℕ) → e < 4 * length deck + i → e < length face.config.owners
   block_exists e lt =
-      let count : length c.owners ≡ 4 * length (jobs_of deck) + i = ap (λ (s : Setup). length s.owners) is
+      let count : length face.config.owners ≡ 4 * length (jobs_of deck) + i = ap (λ (s : Setup). length s.owners) spool.config
       ∙ block_count (length (jobs_of deck)) i in
       let n = job_count deck in omega arith
 
   -- there is each initiator
-  pub has_initiator : (k : ℕ) → k < i → HasInitiator c (length deck) k
+  pub has_initiator : (k : ℕ) → k < i → HasInitiator face.config (length deck) k
   has_initiator k lt =
-      let callers : c.callers ≡ i + 3 = ap (λ (s : Setup). s.callers) is in
-      (block_exists (4 * length deck + k) (omega arith), omega arith, ap (λ (s : Setup). s.elements_per_caller) is)
+      let callers : face.config.callers ≡ i + 3 = ap (λ (s : Setup). s.callers) spool.config in
+      (block_exists (4 * length deck + k) (omega arith), omega arith, ap (λ (s : Setup). s.elements_per_caller) spool.config)
 
   -- a post that enters a job leads no further
-  pub reach_entered : (b j : ℕ) → b ≡ entered j → j < length deck → reach c b ≡ 1
+  pub reach_entered : (b j : ℕ) → b ≡ entered j → j < length deck → reach face.config b ≡ 1
   reach_entered b j e lt =
-      let n = job_count deck in ap (reach c) e ∙ ap (λ s. reach s j) is
+      let n = job_count deck in ap (reach face.config) e ∙ ap (λ s. reach s j) spool.config
       ∙ reach_alone (jobs_of deck) i j (omega arith) (λ m low q. omega arith)
 
   -- nor does one of an idle initiator
-  pub reach_idle : (e : ℕ) → 4 * length deck ≤ e → 0 < i → reach c e ≡ 1
+  pub reach_idle : (e : ℕ) → 4 * length deck ≤ e → 0 < i → reach face.config e ≡ 1
   reach_idle e le some =
-      let n = job_count deck in ap (λ s. reach s e) is ∙ reach_alone (jobs_of deck) i e (omega arith) (λ m low q. omega arith)
+      let n = job_count deck in ap (λ s. reach s e) spool.config ∙ reach_alone (jobs_of deck) i e (omega arith) (λ m low q. omega arith)
 
   -- the end of a job makes four events at most
-  pub end_cost : (b j : ℕ) → b ≡ done (length deck) j → j < length deck → release_cost c + reach c b ≡ 4
+  pub end_cost : (b j : ℕ) → b ≡ done (length deck) j → j < length deck → release_cost face.config + reach face.config b ≡ 4
   end_cost b j e lt =
       let n = job_count deck in
-      let purge : release_cost c ≡ 1 = ap release_cost is ∙ release_cost_is (jobs_of deck) i in
-      let post : reach c b ≡ 3 = ap (reach c) e ∙ ap (λ m. reach c (m + j)) (sym n)
-      ∙ ap (λ s. reach s (length (jobs_of deck) + j)) is ∙ reach_done (jobs_of deck) i j (omega arith) in omega arith
+      let purge : release_cost face.config ≡ 1 = ap release_cost spool.config ∙ release_cost_is (jobs_of deck) i in
+      let post : reach face.config b ≡ 3 = ap (reach face.config) e ∙ ap (λ m. reach face.config (m + j)) (sym n)
+      ∙ ap (λ s. reach s (length (jobs_of deck) + j)) spool.config ∙ reach_done (jobs_of deck) i j (omega arith) in omega arith
 
   -- an element has its owner's number
-  pub own_number : (e k : ℕ) → 0 < i → element_owner c e ≡ k → e ≡ k
-  own_number e k some own = sym ((facts (jobs_of deck) i (omega arith)).element e) ∙ sym (ap (λ s. element_owner s e) is) ∙ own
+  pub own_number : (e k : ℕ) → 0 < i → element_owner face.config e ≡ k → e ≡ k
+  own_number e k some own = sym ((facts (jobs_of deck) i (omega arith)).element e) ∙ sym (ap (λ s. element_owner s e) spool.config) ∙ own
 
 -- ---- budgets
 

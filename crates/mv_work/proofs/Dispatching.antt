@@ -26,7 +26,7 @@ use Rattle.mv_work.specs.Needs.{need_call}
 use Rattle.mv_work.specs.Parts.{lowest_complete}
 use Rattle.mv_work.specs.Ran.{Ran, Leads}
 use Rattle.mv_work.specs.Scheduling.{scheduler_left, jobs_from, jobs_due, dismissals_from, idles, first_idle, exit_set, entry_found}
-use Rattle.mv_work.specs.Scheduling.{AreBlocks, dismissal_found}
+use Rattle.mv_work.specs.Scheduling.{AreBlocks, dismissal_found, then_jobs}
 use Rattle.mv_work.proofs.Calls.{accepted-assoc, blocks_asked_in, found_in, none_in}
 use Rattle.mv_work.proofs.Ranges.{range_next, range_over}
 use Rattle.mv_work.proofs.Runs.{ran_followed, ran_last, leads_astray, leads_on, leads_last, served_as}
@@ -124,28 +124,18 @@ dismissals_over c deck i m le = ap (λ ms. for_each ms (dismiss c (length deck))
 -- ---- the exit of a job
 
 module _ (c : Setup) (deck : List JobData) (i j : ℕ) (skipped : Bool) where
-  abbrev set_then : Unit {0} → Call (List ℕ)
-  set_then linked = followed (first_idle c deck i j skipped) (λ (handed : Unit {0}). jobs_from c deck i (j + 1))
+  abbrev pub set_then : Unit {0} → Call (List ℕ)
+  set_then linked = then_jobs c deck i j (first_idle c deck i j skipped)
 
-  set_first : {whole : Call (List ℕ)} {t u : CallerFace}
-      → Leads whole (followed (exit_set c deck i j skipped) (λ (handed : Unit {0}). jobs_from c deck i (j + 1))) t u
-      → Leads whole (accepted (extend c (done (length deck) j) (j + 1)) set_then) t u
-  set_first {whole} {t} {u} k = subst (λ call. Leads whole call t u)
-      (accepted-assoc (extend c (done (length deck) j) (j + 1)) (λ (linked : Unit {0}). first_idle c deck i j skipped)
-      (λ (handed : Unit {0}). jobs_from c deck i (j + 1))) k
-
-  -- it is set, and an initiator is waited for
-  pub exit_is_set : {whole : Call (List ℕ)} {t u v : CallerFace}
-      → Leads whole (followed (exit_set c deck i j skipped) (λ (handed : Unit {0}). jobs_from c deck i (j + 1))) t u
-      → IsServed 1 (extend c (done (length deck) j) (j + 1)) (λ a. a ≡ Ok tt) u v
-      → Leads whole (followed (first_idle c deck i j skipped) (λ (handed : Unit {0}). jobs_from c deck i (j + 1))) t v
-  exit_is_set k s = leads_on (unrefused set_then) (set_first k) (served_as s)
+  -- it is set, and then an initiator is waited for
+  pub exit_first : then_jobs c deck i j (exit_set c deck i j skipped) ≡ accepted (extend c (done (length deck) j) (j + 1)) set_then
+  exit_first = accepted-assoc (extend c (done (length deck) j) (j + 1)) (λ (linked : Unit {0}). first_idle c deck i j skipped)
+      (λ (handed : Unit {0}). jobs_from c deck i (j + 1))
 
   -- or that is refused
-  pub exit_refused : {why : Refusal} {whole : Call (List ℕ)} {t u v : CallerFace}
-      → Leads whole (followed (exit_set c deck i j skipped) (λ (handed : Unit {0}). jobs_from c deck i (j + 1))) t u
-      → IsServed 1 (extend c (done (length deck) j) (j + 1)) (λ a. a ≡ Err why) u v → Ran whole Wrong t v
-  exit_refused k s = leads_last (unrefused set_then) (set_first k) (served_as s) refl
+  pub exit_refused : {why : Refusal} {u v : CallerFace} → IsServed 1 (extend c (done (length deck) j) (j + 1)) (λ a. a ≡ Err why) u v
+      → Ran (accepted (extend c (done (length deck) j) (j + 1)) set_then) Wrong u v
+  exit_refused s = ran_last (served_as s) (unrefused set_then) refl
 
 -- ---- what was found
 

@@ -13,14 +13,14 @@ use Rattle.mv_work.proofs.initiator.begin_round.Goals as goal
 
 pub post-requires-clause-block : goal.post-requires-clause-block
 post-requires-clause-block g c =
-    block_exists c.args.deck.now c.args.initiators c.args.station.now.config c.requires.spool.config c.idle.result (omega arith)
+    block_exists c.requires.spool c.idle.result (omega arith)
 
 pub post-requires-clause-code : goal.post-requires-clause-code
 post-requires-clause-code g c = let low = c.requires.token.1 in omega arith
 
 pub post-requires-clause-left : goal.post-requires-clause-left
 post-requires-clause-left g c =
-    let one = reach_idle c.args.deck.now c.args.initiators c.args.station.now.config c.requires.spool.config c.idle.result (omega arith) (omega arith) in
+    let one = reach_idle c.requires.spool c.idle.result (omega arith) (omega arith) in
     let left = c.requires.rests.left in omega arith
 
 pub returns : goal.returns
@@ -32,7 +32,7 @@ returns g c =
     let served = c.post.ensures.served in
     let round = c.args.round in
     let e = c.idle.ensures in
-    let one = reach_idle c.args.deck.now c.args.initiators config c.requires.spool.config c.idle.result (omega arith) (omega arith) in
+    let one = reach_idle c.requires.spool c.idle.result (omega arith) (omega arith) in
     let block = c.idle.ensures ∙ ap (λ n. idle n me) (sym (job_count c.args.deck.now)) in record {
       come = record {
         same = served.same;

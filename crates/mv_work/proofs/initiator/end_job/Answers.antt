@@ -22,14 +22,14 @@ done-block-requires g c =
 pub end_of_job-requires-clause-left : goal.end_of_job-requires-clause-left
 end_of_job-requires-clause-left g c =
     let count = job_count c.args.deck.now in
-    let cost = end_cost c.args.deck.now c.args.initiators c.args.station.now.config c.requires.spool.config c.done-block.result c.args.job
+    let cost = end_cost c.requires.spool c.done-block.result c.args.job
     c.done-block.ensures (omega arith) in
     let left = c.requires.rests.left in omega arith
 
 pub end_of_job-requires-clause-block : goal.end_of_job-requires-clause-block
 end_of_job-requires-clause-block g c =
     let count = job_count c.args.deck.now in
-    block_exists c.args.deck.now c.args.initiators c.args.station.now.config c.requires.spool.config c.done-block.result (omega arith)
+    block_exists c.requires.spool c.done-block.result (omega arith)
 
 pub begin_round-requires-clause-between : goal.begin_round-requires-clause-between
 begin_round-requires-clause-between g c =
@@ -50,7 +50,7 @@ begin_round-requires-clause-between g c =
 pub begin_round-requires-clause-rests : goal.begin_round-requires-clause-rests
 begin_round-requires-clause-rests g c =
     let count = job_count c.args.deck.now in
-    let cost = end_cost c.args.deck.now c.args.initiators c.args.station.now.config c.requires.spool.config c.done-block.result c.args.job
+    let cost = end_cost c.requires.spool c.done-block.result c.args.job
     c.done-block.ensures (omega arith) in
     rests_then c.end_of_job.ensures.served c.requires.rests (omega arith)
 

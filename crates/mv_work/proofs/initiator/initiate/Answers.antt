@@ -16,7 +16,7 @@ returns-in_default g c =
 
 pub begin_round-requires-clause-token : goal.begin_round-requires-clause-token
 begin_round-requires-clause-token g c = (
-  own_number c.args.deck.now c.args.initiators c.args.station.now.config c.requires.spool.config c.in-Ok.token.element c.args.task.now.number
+  own_number c.requires.spool c.in-Ok.token.element c.args.task.now.number
       (let lt = c.requires.index in omega arith) c.in-Ok.ensures.own.1 ∙ c.requires.number,
   c.in-Ok.ensures.low,
 )

@@ -12,7 +12,7 @@ use Rattle.mv_work.proofs.reader.read.Goals as goal
 
 pub post-requires-clause-left : goal.post-requires-clause-left
 post-requires-clause-left g c =
-    let one = reach_entered c.args.deck.now c.args.initiators c.args.station.now.config c.requires.spool.config c.entered.result
+    let one = reach_entered c.requires.spool c.entered.result
     c.loop-job.job c.entered.ensures c.loop-job-test.true in
     let lt = c.loop-job-test.true in omega arith
 
@@ -22,7 +22,7 @@ loop-job-preserved g c =
     let job = c.loop-job.job in
     let since = c.loop-job.invariant in
     let served = c.post.ensures.served in
-    let one = reach_entered c.args.deck.now c.args.initiators config c.requires.spool.config c.entered.result job c.entered.ensures
+    let one = reach_entered c.requires.spool c.entered.result job c.entered.ensures
     c.loop-job-test.true in
     let few = served_few served in
     let left = since.left in record {

@@ -41,7 +41,7 @@ returns c =
     let len = len_is at in
     let few : length (job_at (jobs_of c.args.deck.now) c.args.job).after ≤ most_after =
     after_few c.args.deck.now i c.args.job c.requires.spool.sound c.requires.job in
-    let last = block_exists c.args.deck.now i config c.requires.spool.config (4 * n - 1) (omega arith) in record {
+    let last = block_exists c.requires.spool (4 * n - 1) (omega arith) in record {
       asks = (
         ends_asked config (jobs_of c.args.deck.now) i _ c.args.job c.requires.some (blocks_are at) len,
         record {

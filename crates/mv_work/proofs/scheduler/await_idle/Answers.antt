@@ -16,7 +16,7 @@ returns c =
     let count = job_count c.args.deck.now in
     let blocks : take i c.idle_blocks.result ≡ idles (length (jobs_of c.args.deck.now)) i =
     c.idle_blocks.ensures.blocks ∙ ap (λ n. map (idle n) (range_with_len 0 i)) (sym count) in
-    let last = block_exists c.args.deck.now i config c.requires.spool.config (4 * n + i - 1) (omega arith) in record {
+    let last = block_exists c.requires.spool (4 * n + i - 1) (omega arith) in record {
       asks = (
         idle_asked config (jobs_of c.args.deck.now) i _ c.args.job c.args.skipped blocks refl,
         record {

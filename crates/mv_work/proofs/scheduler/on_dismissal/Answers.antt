@@ -19,7 +19,7 @@ returns-in_err-found g c =
 
 pub hand_over-requires-clause-station : goal.hand_over-requires-clause-station
 hand_over-requires-clause-station g c =
-    has_initiator c.args.deck.now c.args.initiators c.args.station.now.config c.requires.spool.config c.args.index c.requires.index
+    has_initiator c.requires.spool c.args.index c.requires.index
 
 pub returns-in_default : goal.returns-in_default
 returns-in_default g c =

@@ -22,7 +22,7 @@ returns-in_err-found g c =
 pub hand_over-requires-clause-station : goal.hand_over-requires-clause-station
 hand_over-requires-clause-station g c =
     let listed = c.in_ok-found.ensures.listed in
-    has_initiator c.args.deck.now c.args.initiators c.args.station.now.config c.requires.spool.config c.in_ok-found.found.position (omega arith)
+    has_initiator c.requires.spool c.in_ok-found.found.position (omega arith)
 
 pub returns-in_default : goal.returns-in_default
 returns-in_default g c =

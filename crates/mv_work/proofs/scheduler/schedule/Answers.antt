@@ -7,10 +7,10 @@ use Rattle.mv_work.proofs.scheduler.schedule.Goals as goal
 
 pub returns-then-job-deck : goal.returns-then-job-deck
 returns-then-job-deck c =
+    let count = job_count c.args.deck.now in
     let config = c.args.station.now.config in
     let deck = jobs_of c.args.deck.now in
     let i = c.args.initiators in
-    let n = job_count c.args.deck.now in
     asks_as (jobs_over config deck i c.args.job (omega arith)) (due_over deck i c.args.job (omega arith)) c.dismiss.ensures
 
 pub returns : goal.returns
@@ -19,9 +19,9 @@ returns c =
     let deck = jobs_of c.args.deck.now in
     let i = c.args.initiators in
     let job = c.args.job in
-    let n = job_count c.args.deck.now in
-    let due = due_next deck i job (omega arith) in
-    let exists = block_exists c.args.deck.now i config c.requires.spool.config job (omega arith) in record {
+    let count = job_count c.args.deck.now in
+    let events = due_next deck i job (omega arith) in
+    let exists = block_exists c.requires.spool job (omega arith) in record {
       asks = (
         entry_asked config deck i _ job (omega arith) (one_is c.one.result c.one.ensures.len c.one.ensures.blocks job c.entered.ensures) c.one.ensures.count,
         record {

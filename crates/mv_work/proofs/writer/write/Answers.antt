@@ -9,7 +9,7 @@ use Rattle.mv_work.proofs.writer.write.Goals as goal
 
 pub returns-then-job-jobs : goal.returns-then-job-jobs
 returns-then-job-jobs c room ends fits =
-    let n = job_count c.args.deck.now in
+    let count = job_count c.args.deck.now in
     record {
       asks = λ kept. ap (λ (call : Call (List _)). call kept)
           (ends_over c.args.station.now.config (length (jobs_of c.args.deck.now)) ends c.args.job (omega arith));
@@ -21,7 +21,7 @@ returns c room ends fits =
     let m = length (jobs_of c.args.deck.now) in
     let job = c.args.job in
     let n = job_count c.args.deck.now in
-    let exists = block_exists c.args.deck.now c.args.initiators config c.requires.spool.config (2 * length c.args.deck.now + 2 * job + 1) (omega arith) in
+    let exists = block_exists c.requires.spool (2 * length c.args.deck.now + 2 * job + 1) (omega arith) in
     let block = c.end_for_writer.ensures ∙ ap (λ k. end_for_writer k job) (sym n) in
     let blocks = one_is c.one.result c.one.ensures.len c.one.ensures.blocks (end_for_writer m job) block in record {
       asks = (
