@@ -14,7 +14,7 @@ use Rattle.mv_deck.specs.Weight.{all_events}
 use Rattle.mv_machine.specs.Reach.{reach, release_cost}
 use Rattle.mv_machine.specs.Setup.{Setup, element_owner}
 use Rattle.mv_plan.specs.Jobs.{job_at, no_job}
-use Rattle.mv_plan.specs.SpoolSetup.{spool_setup, task_budgets, entered, done}
+use Rattle.mv_plan.specs.SpoolSetup.{task_budgets, entered, done}
 use Rattle.mv_plan.proofs.deck.Setup.{facts}
 use Rattle.mv_plan.proofs.lists.Lists.{all_map}
 use Rattle.mv_work.specs.Parts.{HasInitiator, jobs_of}

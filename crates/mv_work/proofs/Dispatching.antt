@@ -3,7 +3,7 @@ use Rattle.std.proofs.Common.{◌≡◌, ℕ, ◌+◌, ◌*◌, ◌-◌, ◌<◌
 use Rattle.std.proofs.Common.{◌∙◌, subst, arith}
 use Rattle.std.specs.List.{AllByRecursion, range_with_len}
 use Rattle.std.proofs.lemmas.Bool.{eqb-true}
-use Rattle.std.proofs.Math.Nat.{mul_assoc, suc-mul}
+use Rattle.std.proofs.Math.Nat.{suc-mul}
 use Rattle.std.proofs.lemmas.List.{drop_more, drop_all}
 use Rattle.std.proofs.lemmas.List.Sums.{sum_by-cons}
 use Rattle.mv_board.specs.Faces.{CallerFace}
@@ -29,7 +29,7 @@ use Rattle.mv_work.specs.Scheduling.{scheduler_left, jobs_from, jobs_due, dismis
 use Rattle.mv_work.specs.Scheduling.{AreBlocks, dismissal_found, then_jobs}
 use Rattle.mv_work.proofs.Calls.{accepted-assoc, blocks_asked_in, found_in, none_in}
 use Rattle.mv_work.proofs.Ranges.{range_next, range_over}
-use Rattle.mv_work.proofs.Runs.{ran_followed, ran_last, leads_astray, leads_on, leads_last, served_as}
+use Rattle.mv_work.proofs.Runs.{ran_followed, ran_last, leads_astray, leads_on, served_as}
 use Rattle.mv_work.proofs.Waits.{leads_as}
 
 -- ---- an idle initiator is handed a code
@@ -180,10 +180,3 @@ due_next deck i j lt =
 -- behind the last, those of the dismissals
 pub due_over : (deck : List JobData) (i j : ℕ) → length deck ≤ j → 4 * (i - 0) ≤ jobs_due deck i j
 due_over deck i j le = omega arith
-
--- of all jobs
-pub due_all : (deck : List JobData) (i : ℕ)
-    → jobs_due deck i 0 ≡ 5 * length deck + 2 * length deck * i + 2 * after_parts deck + 4 * i
-due_all deck i =
-    let size : (length deck - 0) * i ≡ length deck * i = ap (λ m. m * i) (let e : length deck - 0 ≡ length deck = omega arith in e) in
-    let twice : 2 * length deck * i ≡ 2 * (length deck * i) = mul_assoc 2 (length deck) i in omega arith

@@ -87,8 +87,8 @@ module _ (c : Setup) (deck : List JobData) (m : ℕ) (records : List JobRecord) 
       ran = record {
         events = r.ran.events;
         went = r.ran.went;
-        says = alike_says NothingKept (initiating_noted c deck m (kept_of t.number t.log)) (initiating c deck m (kept_of t.number t.log))
-            r.ran.events (initiating_alike c deck m (kept_of t.number t.log)) r.ran.says;
+        says = (alike_says NothingKept (initiating_noted c deck m (kept_of t.number t.log)) (initiating c deck m (kept_of t.number t.log))
+            r.ran.events (initiating_alike c deck m (kept_of t.number t.log))).0 r.ran.says;
         leaves = refl;
         quiet = r.ran.quiet;
       };

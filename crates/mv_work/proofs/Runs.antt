@@ -99,11 +99,6 @@ pub leads_on : {A B : Type 0} {whole : Call B} {call : Call A} {a : A} {t u v : 
     → Leads whole (followed call f) t u → Ran call (Done a) u v → Leads whole (f a) t v
 leads_on f k x q w r = k q w (ran_followed x f r)
 
--- and is the last of them
-pub leads_last : {A B : Type 0} {whole : Call B} {call : Call A} {a : A} {q : Program B} {t u v : CallerFace} (f : A → Call B)
-    → Leads whole (followed call f) t u → Ran call (Done a) u v → f a (kept_of v.number v.log) ≡ q → Ran whole q t v
-leads_last {A} {B} {whole} {call} {a} {q} {t} {u} {v} f k x is = k q v (ran_last x f is)
-
 -- and went astray
 pub leads_astray : {A B : Type 0} {whole : Call B} {call : Call A} {t u v : CallerFace} (f : A → Call B)
     → Leads whole (followed call f) t u → Ran call Wrong u v → Ran whole Wrong t v

@@ -88,17 +88,12 @@ alike_asks R Wrong Wrong w = refl
 alike_asks R p q w = absurd w
 
 -- they say the same
-pub alike_says : {A B : Type 0} (R : A → B → Type 0) (p : Program A) (q : Program B) (hs : List Heard) → Alike R p q → Says p hs
-    → Says q hs
-alike_says R p q [] w s = tt
-alike_says R p q (h ∷ hs) w s =
-    (sym (alike_asks R p q w) ∙ s.0, alike_says R (heard p h) (heard q h) hs (alike_heard R p q h w) s.1)
-
-pub alike_says_back : {A B : Type 0} (R : A → B → Type 0) (p : Program A) (q : Program B) (hs : List Heard) → Alike R p q → Says q hs
-    → Says p hs
-alike_says_back R p q [] w s = tt
-alike_says_back R p q (h ∷ hs) w s =
-    (alike_asks R p q w ∙ s.0, alike_says_back R (heard p h) (heard q h) hs (alike_heard R p q h w) s.1)
+pub alike_says : {A B : Type 0} (R : A → B → Type 0) (p : Program A) (q : Program B) (hs : List Heard) → Alike R p q
+    → (Says p hs → Says q hs) × (Says q hs → Says p hs)
+alike_says R p q [] w = (λ s. tt, λ s. tt)
+alike_says R p q (h ∷ hs) w =
+    let rest = alike_says R (heard p h) (heard q h) hs (alike_heard R p q h w) in
+    (λ s. (sym (alike_asks R p q w) ∙ s.0, rest.0 s.1), λ s. (alike_asks R p q w ∙ s.0, rest.1 s.1))
 
 -- where one is done, so is the other
 pub alike_done : {A B : Type 0} (R : A → B → Type 0) (p : Program A) (q : Program B) (a : A) → Alike R p q → p ≡ Done a

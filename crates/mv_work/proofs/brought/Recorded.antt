@@ -1,5 +1,5 @@
 -- Of a run, what the initiators bring back is one right record of each job.
-use Rattle.std.proofs.Common.{◌≡◌, ℕ, suc, ◌<◌, ◌≤◌, ◌==◌, Bool, true, false, List, [], ◌∷◌, ◌++◌, length, filter}
+use Rattle.std.proofs.Common.{◌≡◌, ℕ, suc, ◌<◌, ◌≤◌, ◌==◌, List, [], ◌∷◌, length}
 use Rattle.std.proofs.Common.{if◌then◌else◌, refl, sym, ap, ◌∙◌, subst, arith}
 use Rattle.std.specs.List.{AllByRecursion}
 use Rattle.mv_machine.proofs.Lists.{all_append, all_filter}
@@ -13,8 +13,7 @@ use Rattle.mv_calls.specs.Runs.{heard_in}
 use Rattle.mv_deck.specs.Deck.{JobData}
 use Rattle.mv_deck.specs.EndCode.{not_run}
 use Rattle.mv_report.specs.Outcome.{own_end, steps_with}
-use Rattle.mv_plan.specs.CountingAlone.{AreCountedAlone}
-use Rattle.mv_plan.specs.HandingOut.{AreHandedOut, right_code}
+use Rattle.mv_plan.specs.HandingOut.{right_code}
 use Rattle.mv_plan.specs.Jobs.{job_at, end_of}
 use Rattle.mv_plan.specs.SpoolRun.{IsRun}
 use Rattle.mv_plan.specs.SpoolSetup.{spool_setup, initiator}
@@ -32,7 +31,7 @@ use Rattle.mv_work.specs.Records.{JobRecord}
 use Rattle.mv_work.specs.Noting.{initiating_noted}
 use Rattle.mv_work.specs.Recording.{AreNotesOf, IsRecorded, AreRecorded, AreBrought, all_records}
 use Rattle.mv_work.proofs.Histories.{initiator_is}
-use Rattle.mv_work.proofs.brought.Alike.{alike_says_back}
+use Rattle.mv_work.proofs.brought.Alike.{alike_says}
 use Rattle.mv_work.proofs.brought.Forgetting.{NothingKept, initiating_alike}
 use Rattle.mv_work.proofs.brought.Histories.{GivesInitiators, entries_heard, plain_from, all_given}
 use Rattle.mv_work.proofs.brought.OneRecord.{OneAbout, list_at, one_record}
@@ -57,12 +56,6 @@ module _ (deck : List JobData) (initiators : ℕ) (some : 1 ≤ initiators) (pla
   abbrev heard_by : ℕ → List Heard
   heard_by i = heard_in c (initiator i) es
 
-  counted : AreCountedAlone deck initiators es
-  counted = are_counted_alone deck initiators some planned es run
-
-  handed : AreHandedOut deck initiators es
-  handed = are_handed_out deck initiators some planned es run
-
   givers : AllByRecursion (GivesInitiators initiators) es
   givers =
       let st : Stood deck initiators some planned es = stood deck initiators some planned es run.follow in
@@ -75,13 +68,13 @@ module _ (deck : List JobData) (initiators : ℕ) (some : 1 ≤ initiators) (pla
       subst (λ call. Says (call (nothing_kept (initiator i))) (heard_by i)) (initiator_is deck initiators i lt)
       (run.follow.says (initiator i) (omega arith)) in
       let noted : Says (initiating_noted c deck i (nothing_kept (initiator i))) (heard_by i) =
-      alike_says_back NothingKept (initiating_noted c deck i (nothing_kept (initiator i)))
-      (initiating c deck i (nothing_kept (initiator i))) (heard_by i) (initiating_alike c deck i (nothing_kept (initiator i))) says in
+      (alike_says NothingKept (initiating_noted c deck i (nothing_kept (initiator i)))
+      (initiating c deck i (nothing_kept (initiator i))) (heard_by i) (initiating_alike c deck i (nothing_kept (initiator i)))).1 says in
       let own : entries (heard_by i) ≡ of (initiator i) es = entries_heard c (initiator i) es in
       subst (λ l. AreRounds deck (codes_of l) (list_at records i)) own
       (initiator_rounds c deck i (list_at records i) (nothing_kept (initiator i)) (heard_by i) planned.jobs noted (brought.each i lt)
       (subst (λ l. ArePlain nothing_told l) (sym own)
-      (plain_from c (initiator i) es counted.scans (opening c) [] es nothing_told refl run.follow.legal tt)))
+      (plain_from c (initiator i) es (are_counted_alone deck initiators some planned es run).scans (opening c) [] es nothing_told refl run.follow.legal tt)))
 
   all_own : AllByRecursion (IsOwn deck) (all_records records)
   all_own = all_flat (IsOwn deck) records (λ i lt. (rounds_of i (let n = brought.count in omega arith)).1)
@@ -90,7 +83,7 @@ module _ (deck : List JobData) (initiators : ℕ) (some : 1 ≤ initiators) (pla
   is_recorded : (j : ℕ) → j < length deck → IsRecorded deck (all_records records) j
   is_recorded j lt =
       let one : OneAbout j (right_code deck j) (all_records records) =
-      one_record deck initiators es records j (right_code deck j) (few_jobs deck initiators planned) lt (handed.jobs j lt).given givers
+      one_record deck initiators es records j (right_code deck j) (few_jobs deck initiators planned) lt ((are_handed_out deck initiators some planned es run).jobs j lt).given givers
       brought.count rounds_of in
       let found : AllByRecursion (IsOwn deck) (one.found ∷ []) =
       subst (λ rs. AllByRecursion (IsOwn deck) rs) one.alone

@@ -1,11 +1,10 @@
-use Rattle.std.proofs.Common.{◌≡◌, ◌+◌, List, length, Ok, Err, sym, ap, ◌∙◌, subst, arith}
+use Rattle.std.proofs.Common.{◌≡◌, ◌+◌, length, Ok, Err, sym, ap, ◌∙◌, subst, arith}
 use Rattle.mv_calls.specs.Waits.{extend}
 use Rattle.mv_calls.specs.Program.{accepted, unrefused}
 use Rattle.mv_plan.specs.SpoolSetup.{done}
 use Rattle.mv_wait.specs.Answers.{extend_refused}
 use Rattle.mv_wait.specs.Run.{IsServed}
 use Rattle.mv_work.specs.Parts.{jobs_of}
-use Rattle.mv_work.specs.Scheduling.{exit_set, then_jobs}
 use Rattle.mv_work.proofs.Decks.{job_count}
 use Rattle.mv_work.proofs.Dispatching.{exit_first, exit_refused, set_then}
 use Rattle.mv_work.proofs.Runs.{leads_all, leads_on, served_as}
