@@ -56,6 +56,7 @@ abbrev pub ComesTo : {S A : Type 0} → BoardFace → Stages S A → (S → Need
 ComesTo b stages Fits a whole t (Some next) u = Waits b stages Fits whole t next.0 next.1 u
 ComesTo b stages Fits a whole t None u = IsSame t u × RanOut whole a t u
 
+-- the same as a record, so that lemmas find what they speak of
 pub record Comes {S A : Type 0} (b : BoardFace) (stages : Stages S A) (Fits : S → Need → Type 0) (a : A) (whole : Call A) (t : CallerFace)
     (next : Option (S × Need)) (u : CallerFace) : Type 0 where
   pub come : ComesTo b stages Fits a whole t next u
@@ -68,6 +69,7 @@ AsksFor c stages Fits a rest most (Some next) =
     × (need_events next.1 + stages.due next.0 ≤ most)
 AsksFor c stages Fits a rest most None = (kept : Kept) → rest kept ≡ Done a
 
+-- the same as a record
 pub record Asks {S A : Type 0} (c : Setup) (stages : Stages S A) (Fits : S → Need → Type 0) (a : A) (rest : Call A) (most : ℕ)
     (next : Option (S × Need)) : Type 0 where
   pub asks : AsksFor c stages Fits a rest most next
