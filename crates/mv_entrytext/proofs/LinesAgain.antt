@@ -157,7 +157,7 @@ caller_first k (Some m) more le =
     let d = first_digit (decimal k) n.0.0 n.0.1 in
     (d.0, (d.1 ++ 46 ∷ decimal m) ++ more, ap (λ (x : List ℕ). (x ++ 46 ∷ decimal m) ++ more) d.2, d.3)
 
-entry_line_read : (v : Version) (call : Option ℕ) (e : Entry) → HasText e → IsCallIn v call
+pub entry_line_read : (v : Version) (call : Option ℕ) (e : Entry) → HasText e → IsCallIn v call
     → line_read true (AtEntries v) (line_text (EntryOf call e)) ≡ Some (EntryOf call e)
 unfolding next_line count_line entry_text
 entry_line_read v call e h m =

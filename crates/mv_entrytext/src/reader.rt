@@ -1,11 +1,12 @@
 //! The reader of journals, one pass over the bytes, an entry at a time: `specs/Reader.antt` says where it stands, by
 //! `specs/Journal.antt`, `specs/Fault.antt` and `specs/Draft.antt`.
 
-ghost use Rattle.std.specs.Prelude.{◌≡◌, ◌+◌, ◌<◌, ◌-◌, ◌^◌, [], true, Some, ℕ, List, length, IfOk, IfSome, MatchResult};
+ghost use Rattle.std.specs.Prelude.{◌≡◌, ◌+◌, ◌<◌, ◌-◌, ◌^◌, [], ◌∷◌, true, Some, ℕ, List, length, IfOk, IfSome, MatchResult};
 ghost use Rattle.mv_line.specs.Part.{parts_at};
 ghost use Rattle.mv_machine.specs.declared.entry.Entry.{Entry as AnyEntry};
 ghost use Rattle.mv_machine.specs.Setup.{Setup};
 ghost use Rattle.mv_entrytext.specs.declared.version.Version.{Version as AnyVersion};
+ghost use Rattle.mv_entrytext.specs.EntryText.{entry_read};
 ghost use Rattle.mv_entrytext.specs.Lines.{AtEntries, line_read};
 ghost use Rattle.mv_entrytext.specs.Fault.{TellsFirst, text_fault};
 ghost use Rattle.mv_entrytext.specs.Journal.{first_line};
@@ -13,6 +14,7 @@ ghost use Rattle.mv_entrytext.specs.Said.{entry_said};
 ghost use Rattle.mv_entrytext.specs.Draft.{kind_of_form, kind_at_end};
 ghost use Rattle.mv_entrytext.specs.Reader.{left_in, IsReadTo, IsNextOf};
 
+use crate::entry::read_entry;
 use crate::fault::{Kind, TextFault, TextRefusal};
 use crate::head::read_head;
 use crate::line::{EntryLine, read_entry_line};
@@ -37,6 +39,18 @@ pub struct OpenJournal<'a> {
     pub version: Version,
     pub config: ValidConfig,
     pub entries: EntryReader<'a>,
+}
+
+// An entry at the front of a text, which ends in LF as its line does, and what stands behind the LF. Its end is where the entry's
+// is, and so no LF is looked for.
+fn entry_in_front(version: Version, text: &[u8]) -> Option<((Option<u32>, Entry), &[u8])>
+    ensures { IfSome result (λ x. entry_read true version text.now ≡ Some (x.0, 10 ∷ x.1.now)) }
+{
+    let (found, rest) = read_entry(true, version, text)?;
+    match rest {
+        [b'\n', behind @ ..] => Some((found, behind)),
+        _ => None,
+    }
 }
 
 // Reads a line behind the head, or says whether its form or a number in it is at fault.
@@ -124,6 +138,25 @@ impl EntryReader<'_> {
     /// }
     /// ```
     pub fn next(&mut self) -> Result<Option<(Option<u32>, Entry)>, TextFault>
+        requires read { (v : AnyVersion) × (bytes : List ℕ) × (c : Setup) × (es : List AnyEntry) × (ns : List ℕ)
+            × IsReadTo v bytes c es ns self.old }
+        ensures read { (v : AnyVersion) (bytes : List ℕ) (c : Setup) (es : List AnyEntry) (ns : List ℕ)
+            → IsReadTo v bytes c es ns self.old → MatchResult result
+            (λ found. IsNextOf v bytes c es ns found self.new)
+            (λ f. text_fault bytes ≡ Some f) }
+        ensures shorter { IfOk result (λ found. IfSome found (λ _. left_in self.new < left_in self.old)) }
+    {
+        if let Some((found, behind)) = entry_in_front(self.version, self.rest) {
+            self.rest = behind;
+            self.line += 1;
+            self.count += 1;
+            return Ok(Some(found));
+        }
+        self.next_line()
+    }
+
+    // The same by the whole line, of which it also finds what is wrong with it.
+    fn next_line(&mut self) -> Result<Option<(Option<u32>, Entry)>, TextFault>
         requires read { (v : AnyVersion) × (bytes : List ℕ) × (c : Setup) × (es : List AnyEntry) × (ns : List ℕ)
             × IsReadTo v bytes c es ns self.old }
         ensures read { (v : AnyVersion) (bytes : List ℕ) (c : Setup) (es : List AnyEntry) (ns : List ℕ)

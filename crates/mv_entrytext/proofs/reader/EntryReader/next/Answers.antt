@@ -1,32 +1,25 @@
--- Where the reader stands decides: what the next line says, or that it is cut off, or what stands behind END.
-use Rattle.std.proofs.Common.{◌≡◌, ◌∷◌, [], Some, subst, refl, sym, ◌∙◌, arith}
+-- An entry in front of the rest is the one on its first line.
+use Rattle.std.proofs.Common.{◌∷◌, ◌≡◌, true, Some, [], subst, refl, arith}
 use Rattle.std.proofs.lemmas.List.{length-append}
-use Rattle.mv_entrytext.specs.declared.fault.LineRefusal.TheVariants.{Has}
 use Rattle.mv_entrytext.specs.declared.version.Version.{Version}
-use Rattle.mv_entrytext.specs.Draft.{kind_of_form}
+use Rattle.mv_entrytext.specs.EntryText.{entry_read, entry_text}
 use Rattle.mv_entrytext.specs.Journal.{EntryOf}
-use Rattle.mv_entrytext.specs.Lines.{AtEntries}
-use Rattle.mv_entrytext.proofs.Passes.{line_split, at_next, at_form, at_cut, at_wrong_count, at_end, at_end_fault, at_over}
-use Rattle.mv_entrytext.proofs.ReadOn.{read_in, entry_taken}
+use Rattle.mv_entrytext.proofs.InFront.{says, shorter_behind, stands_before}
+use Rattle.mv_entrytext.proofs.Passes.{at_next}
+use Rattle.mv_entrytext.proofs.ReadOn.{entry_taken}
 use Rattle.mv_entrytext.proofs.reader.EntryReader.next.Goals as goal
 
-pub returns-in_default-clause-read : goal.returns-in_default-clause-read
-returns-in_default-clause-read c = λ v bytes setup es ns h.
-    rw c.at.ensures (at_cut h.stands c.split_part.ensures.parts c.in_default.is refl)
-
-pub returns-then-count-self-clause-read : goal.returns-then-count-self-clause-read
-returns-then-count-self-clause-read c = λ v bytes setup es ns h.
-    let here = line_split h.stands c.split_part.ensures.parts c.split_part.ensures.shorter c.in-Some.is in
-    let read = read_in v bytes setup es ns _ _ _ _ h c.in-Ok-End.ensures c.in-Ok-End.field-0-is in
-    rw c.at-then-count-self.ensures (at_wrong_count here read (λ e. c.if-count-self.true (sym e ∙ sym h.count)))
-
-pub returns-in-Ok-Entry-clause-read : goal.returns-in-Ok-Entry-clause-read
-returns-in-Ok-Entry-clause-read c = λ v bytes setup es ns h.
-    let call = c.in-Ok-Entry.call in
-    let e = c.in-Ok-Entry.entry in
-    let here = line_split h.stands c.split_part.ensures.parts c.split_part.ensures.shorter c.in-Some.is in
-    let read = read_in v bytes setup es ns _ _ _ _ h c.in-Ok-Entry.ensures c.in-Ok-Entry.field-0-is in
-    let taken = entry_taken v es ns _ call e h.calls read in
+pub returns-in-Some-clause-read : goal.returns-in-Some-clause-read
+returns-in-Some-clause-read c = λ v bytes setup es ns h.
+    let call = c.in-Some.found.0 in
+    let e = c.in-Some.found.1 in
+    let rest = c.args.self.now.rest.now in
+    let behind = c.in-Some.behind.now in
+    let front : entry_read true v rest ≡ Some ((call, e), 10 ∷ behind) =
+    subst (λ (w : Version). entry_read true w rest ≡ Some ((call, e), 10 ∷ behind)) h.version c.in-Some.ensures in
+    let here = stands_before v rest behind call e front bytes _ setup es ns h.stands in
+    let read = says v rest behind call e front in
+    let taken = entry_taken v es ns (entry_text call e) call e h.calls read in
     record {
       read = record {
         version = h.version;
@@ -38,28 +31,20 @@ returns-in-Ok-Entry-clause-read c = λ v bytes setup es ns h.
       ranges = taken.0;
     }
 
-pub returns-in-Ok-clause-read : goal.returns-in-Ok-clause-read
-returns-in-Ok-clause-read c = λ v bytes setup es ns h.
-    let here = line_split h.stands c.split_part.ensures.parts c.split_part.ensures.shorter c.in-Some.is in
-    let read = read_in v bytes setup es ns _ _ _ _ h c.in-Ok-End.ensures c.in-Ok-End.field-0-is in
-    let whole = at_over (at_end here read (sym h.count ∙ sym c.if-count-self.false)) c.in-Ok.ensures in
-    record {
-      read = h;
-      journal = whole.journal;
-      text = record { version = v; number = refl; calls = whole.calls; text = whole.text };
-    }
+pub returns-in-Some-clause-shorter : goal.returns-in-Some-clause-shorter
+returns-in-Some-clause-shorter c =
+    omega (
+      arith,
+      shorter_behind c.args.self.now.version c.args.self.now.rest.now c.in-Some.behind.now c.in-Some.found.0 c.in-Some.found.1
+          c.in-Some.ensures,
+    )
 
-pub returns-in-Err-nothing_behind-clause-read : goal.returns-in-Err-nothing_behind-clause-read
-returns-in-Err-nothing_behind-clause-read c = λ v bytes setup es ns h.
-    let here = line_split h.stands c.split_part.ensures.parts c.split_part.ensures.shorter c.in-Some.is in
-    let read = read_in v bytes setup es ns _ _ _ _ h c.in-Ok-End.ensures c.in-Ok-End.field-0-is in
-    rw c.at-in-Err-nothing_behind.ensures
-    (at_end_fault (at_end here read (sym h.count ∙ sym c.if-count-self.false)) (Has c.in-Err-nothing_behind.kind)
-    c.in-Err-nothing_behind.ensures)
-
-pub returns-in-Err-clause-read : goal.returns-in-Err-clause-read
-returns-in-Err-clause-read c = λ v bytes setup es ns h.
-    let here = line_split h.stands c.split_part.ensures.parts c.split_part.ensures.shorter c.in-Some.is in
-    let told =
-    subst (λ (w : Version). kind_of_form (AtEntries w) c.split_part.result.0.now ≡ Some c.in-Err.kind) h.version c.in-Err.ensures in
-    rw c.at-in-Err.ensures (at_form here (Has c.in-Err.kind) told)
+pub overflow_add-self : goal.overflow_add-self
+overflow_add-self c =
+    omega (
+      arith,
+      shorter_behind c.args.self.now.version c.args.self.now.rest.now c.in-Some.behind.now c.in-Some.found.0 c.in-Some.found.1
+          c.in-Some.ensures,
+      c.requires.read.5.stands.count,
+      c.requires.read.5.short,
+    )
