@@ -1,7 +1,8 @@
 -- The digits that a text begins with, and what they show, in one pass.
-use Rattle.std.proofs.Common.{◌≡◌, ℕ, suc, ◌+◌, ◌-◌, ◌*◌, ◌<◌, ◌==◌, true, not, List, [], ◌∷◌, ◌++◌, length, take, get_or}
-use Rattle.std.proofs.Common.{refl, ap, ◌∙◌, arith, inl, inr}
+use Rattle.std.proofs.Common.{◌≡◌, ℕ, suc, ◌+◌, ◌-◌, ◌*◌, ◌^◌, ◌<◌, ◌≤◌, ◌==◌, true, not, List, [], ◌∷◌, ◌++◌, length, take}
+use Rattle.std.proofs.Common.{get_or, refl, ap, ◌∙◌, arith, inl, inr}
 use Rattle.std.specs.List.{list_all}
+use Rattle.std.proofs.Math.Nat.{pow-le-pow_right}
 use Rattle.std.proofs.lemmas.Bool.{cases_Bool, and_parts}
 use Rattle.std.proofs.lemmas.List.{take_more, get_or-take}
 use Rattle.std.proofs.lemmas.List.Folds.{length-prefix_len}
@@ -20,6 +21,10 @@ pub value_there : (text : List ℕ) (i : ℕ) → i < length text
     → value_behind 0 (take (i + 1) text) ≡ 10 * value_behind 0 (take i text) + (get_or text i 0 - 48)
 value_there text i lt =
     ap (λ (ds : List ℕ). value_behind 0 ds) (take_more text i 0 lt) ∙ value_more 0 (take i text) (get_or text i 0)
+
+-- up to so many
+pub few_digits : (count : ℕ) → count ≤ 17 → 10 ^ count ≤ 10 ^ 17
+few_digits count few = pow-le-pow_right {n = 10} (omega arith) {i = count} {j = 17} few
 
 -- ---- whether they show a number
 

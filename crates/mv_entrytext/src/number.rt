@@ -1,7 +1,7 @@
 //! Numbers in a text: `specs/Reading.antt`.
 
 ghost use Rattle.std.specs.Prelude.{◌≡◌, ◌≤◌, ◌<◌, ◌+◌, ◌/◌, ◌%◌, [], ◌∷◌, ◌++◌, OnOk, IfSome, MatchOption, true, false};
-ghost use Rattle.std.specs.Prelude.{◌^◌, nat_eq, decimal, drop, take, length, vec_len, vec_capacity};
+ghost use Rattle.std.specs.Prelude.{nat_eq, Bool, Some, decimal, drop, take, length, vec_len, vec_capacity};
 ghost use Rattle.std.specs.List.{starts_with};
 ghost use Rattle.mv_line.specs.Number.{is_number, number_of, value_behind, within};
 ghost use Rattle.mv_entrytext.specs.Words.{◌<+>◌};
@@ -135,6 +135,7 @@ pub(crate) fn after<'a>(text: &'a [u8], word: &[u8]) -> Option<&'a [u8]>
 }
 
 /// A number of four bytes, within these bounds.
+#[inline(always)]
 pub(crate) fn number_u32(strict: bool, low: u32, high: u32, text: &[u8]) -> Option<(u32, &[u8])>
     ensures { seen result ≡ number_at strict low high text.now }
 {
@@ -143,6 +144,7 @@ pub(crate) fn number_u32(strict: bool, low: u32, high: u32, text: &[u8]) -> Opti
 }
 
 /// A number of four bytes.
+#[inline(always)]
 pub(crate) fn any_u32(strict: bool, text: &[u8]) -> Option<(u32, &[u8])>
     ensures { seen result ≡ any_u32 strict text.now }
 {
@@ -150,6 +152,7 @@ pub(crate) fn any_u32(strict: bool, text: &[u8]) -> Option<(u32, &[u8])>
 }
 
 /// A number of eight bytes.
+#[inline(always)]
 pub(crate) fn any_u64(strict: bool, text: &[u8]) -> Option<(u64, &[u8])>
     ensures { seen result ≡ any_u64 strict text.now }
 {
@@ -172,51 +175,66 @@ pub(crate) fn two_numbers(
 }
 
 /// A number within these bounds, with no leading zero. One that is spelled otherwise is refused by a strict reader, and
-/// taken for 0 by any other.
-#[tactic(auto, unfolding(crate::specs::Reading::number))]
+/// taken for 0 by any other. It is inlined up to the numbers that are as they should be, so that what they are stays in registers.
+#[inline(always)]
 fn number(strict: bool, low: u64, high: u64, text: &[u8]) -> Option<(u64, &[u8])>
     ensures read { seen result ≡ number_at strict low high text.now }
     ensures bound { IfSome result (λ x. x.0 ≤ high) }
 {
-    let (count, shown) = shown_number(low, high, text);
+    if let Some(found) = plain_number(low, high, text) {
+        return Some(found);
+    }
+    any_number(strict, low, high, text)
+}
+
+// A number within these bounds of fewer than `FEW` digits, with no leading zero. All readers take it so.
+#[inline(always)]
+#[tactic(auto, unfolding(crate::specs::Reading::number))]
+fn plain_number(low: u64, high: u64, text: &[u8]) -> Option<(u64, &[u8])>
+    ensures read { IfSome result (λ x. (strict : Bool) → number_at strict low high text.now ≡ Some (x.0, x.1.now)) }
+    ensures bound { IfSome result (λ x. x.0 ≤ high) }
+{
+    let (count, value) = leading_digits(text);
+    if count == 0 || count >= FEW {
+        return None;
+    }
+    let value = short_number_within(low, high, text, count, value)?;
+    Some((value, &text[count..]))
+}
+
+// A number however it is spelled.
+#[inline(never)]
+#[tactic(auto, unfolding(crate::specs::Reading::number))]
+fn any_number(strict: bool, low: u64, high: u64, text: &[u8]) -> Option<(u64, &[u8])>
+    ensures read { seen result ≡ number_at strict low high text.now }
+    ensures bound { IfSome result (λ x. x.0 ≤ high) }
+{
+    let count = digit_count(text);
     if count == 0 {
         return None;
     }
     let rest = &text[count..];
-    match shown {
+    match wide_number_within(low, high, &text[..count]) {
         Some(value) => Some((value, rest)),
         None if strict => None,
         None => Some((0, rest)),
     }
 }
 
-// How many digits a text begins with, and the number that they show, if they show one within these bounds.
-fn shown_number(low: u64, high: u64, text: &[u8]) -> (usize, Option<u64>)
-    ensures count { result.0 ≡ digit_count text.now }
-    ensures within { result.0 ≤ length text.now }
-    ensures number { result.1 ≡ within low high (number_of (take (digit_count text.now) text.now)) }
-    ensures bound { IfSome result.1 (λ n. n ≤ high) }
-{
-    let (count, value) = leading_digits(text);
-    if value < SHORT {
-        return (count, short_number_within(low, high, text, count, value));
-    }
-    let count = digit_count(text);
-    (count, wide_number_within(low, high, &text[..count]))
-}
+// What so many digits show fits eight bytes.
+const FEW: usize = 18;
 
-// A number below this has at most 18 digits, and with one more behind it still eight bytes.
-const SHORT: u64 = 1_000_000_000_000_000_000;
-
-// How many digits a text begins with, and what they show, in one pass. Where that is not below `SHORT` there may be more of them.
+// How many digits a text begins with, up to `FEW`, and what they show, in one pass. Where they are not fewer there may be more.
+#[inline(always)]
 fn leading_digits(text: &[u8]) -> (usize, u64)
     ensures within { result.0 ≤ length text.now }
     ensures value { result.1 ≡ value_behind 0 (take result.0 text.now) }
-    ensures count { result.1 < 10 ^ 18 → result.0 ≡ digit_count text.now }
+    ensures count { result.0 < 18 → result.0 ≡ digit_count text.now }
 {
+    let most = if text.len() < FEW { text.len() } else { FEW };
     let mut count = 0;
     let mut value = 0;
-    while count < text.len() && value < SHORT && text[count].is_ascii_digit() {
+    while count < most && text[count].is_ascii_digit() {
         value = value * 10 + u64::from(text[count] - b'0');
         count += 1;
     }
@@ -224,6 +242,7 @@ fn leading_digits(text: &[u8]) -> (usize, u64)
 }
 
 // What so many digits, all that a text begins with, show, where there is no zero in front of others and it is within these bounds.
+#[inline(always)]
 fn short_number_within(low: u64, high: u64, text: &[u8], count: usize, value: u64) -> Option<u64>
     requires count { count ≡ digit_count text.now }
     requires within { count ≤ length text.now }
@@ -238,6 +257,7 @@ fn short_number_within(low: u64, high: u64, text: &[u8], count: usize, value: u6
 }
 
 // Whether so many digits, all that a text begins with, are one or more, and the first is no zero in front of others.
+#[inline(always)]
 #[tactic(auto, using(crate::proofs::Leading::digits_show))]
 fn has_plain_digits(text: &[u8], count: usize) -> bool
     requires count { count ≡ digit_count text.now }
