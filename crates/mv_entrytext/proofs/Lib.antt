@@ -2,6 +2,7 @@
 pub mod Numbers
 pub mod Digits
 pub mod Leading
+pub mod Front
 pub mod Fields
 pub mod Parts
 -- the table that digits are written by

@@ -131,7 +131,30 @@ pub(crate) fn after<'a>(text: &'a [u8], word: &[u8]) -> Option<&'a [u8]>
     ensures { MatchOption result (starts_with nat_eq text.now word.now ≡ false)
         (λ rest. (starts_with nat_eq text.now word.now ≡ true) × (rest.now ≡ drop (length word.now) text.now)) }
 {
-    text.strip_prefix(word)
+    if begins_with(text, word) {
+        Some(&text[word.len()..])
+    } else {
+        None
+    }
+}
+
+// Whether a text begins with a word. Most words that are tried differ from the text in their first byte.
+#[inline(always)]
+fn begins_with(text: &[u8], word: &[u8]) -> bool
+    ensures word { result ≡ starts_with nat_eq text.now word.now }
+    ensures within { result ≡ true → length word.now ≤ length text.now }
+{
+    if text.len() < word.len() {
+        return false;
+    }
+    let mut count = 0;
+    while count < word.len() {
+        if text[count] != word[count] {
+            return false;
+        }
+        count += 1;
+    }
+    true
 }
 
 /// A number of four bytes, within these bounds.
