@@ -1,2 +1,2 @@
--- run_deck: what each seat has made, and the run that they made together
-pub mod Seats
+-- run_deck: the run that the tasks made together, and what they brought back
+pub mod Tasks

@@ -4,8 +4,8 @@
 #![tactic(auto)]
 
 mod meeting;
-mod seat;
 mod spool;
+mod working;
 
 pub use mv_work::SpoolRun;
 pub use spool::run_deck;

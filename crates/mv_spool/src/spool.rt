@@ -1,7 +1,6 @@
-//! The run of a deck. Clauses cite the plan's `SpoolRun.antt`, the report's `Outcome.antt` and `specs/Seats.antt`.
+//! The run of a deck. Clauses cite the plan's `SpoolRun.antt`, the report's `Outcome.antt` and the work's `Recording.antt`.
 
-ghost use Rattle.std.specs.Prelude.{◌≡◌, ◌<◌, ◌≤◌, ℕ, [], All, length, map, vec_capacity, IfOk};
-ghost use Rattle.std.specs.List.{AllByRecursion};
+ghost use Rattle.std.specs.Prelude.{◌≡◌, ◌<◌, ◌≤◌, ◌+◌, ℕ, [], All, length, map, slice_index_or, IfOk};
 ghost use Rattle.mv_board.specs.Faces.{AreHeld};
 ghost use Rattle.mv_calls.specs.Program.{Done};
 ghost use Rattle.mv_calls.specs.Runs.{left_in};
@@ -16,74 +15,35 @@ ghost use Rattle.mv_plan.specs.SpoolTasks.{task_program};
 ghost use Rattle.mv_report.specs.Outcome.{ends, lines, totals};
 ghost use Rattle.mv_work.specs.Parts.{jobs_of};
 ghost use Rattle.mv_work.specs.Recording.{AreBrought, all_records, lines_recorded};
-ghost use Rattle.mv_spool.specs.Seats.{IsSeat};
+ghost use Rattle.mv_work.specs.Works.{IsNew};
 
-use crate::seat::{Seat, worked};
+use crate::working::Working;
+use mv_attach::run_tasks;
 use mv_board::Closed;
 use mv_deck::{Deck, Job};
 use mv_io::NoMemory;
 use mv_machine::ValidConfig;
 use mv_plan::spool_config;
 use mv_task::Gate;
-use mv_wait::{Station, Task};
+use mv_wait::Station;
 use mv_work::{Brought, SpoolRun, Work, brought_by, spool_run};
 use std::alloc::Global;
 use std::sync::Wait;
 use std::thread::Threads;
 
-// A task, with its work.
-fn seat_of(alloc: Global, task: Task, deck: &[Job], initiators: u32) -> Result<Seat, NoMemory>
+// The work of each task, which was not begun.
+fn works_of(alloc: Global, deck: &[Job], initiators: u32) -> Result<Vec<Work>, NoMemory>
     requires { initiators ≤ most_initiators }
-    ensures { IfOk result (λ seat. IsSeat (jobs_of deck.now) initiators seat × (seat.task ≡ task)) }
+    ensures count { IfOk result (λ works. length works.items ≡ initiators + 3) }
+    ensures new { IfOk result (λ works. (k : ℕ) (d : _) → k < length works.items
+        → IsNew (jobs_of deck.now) initiators k (slice_index_or works.items k d)) }
 {
-    let number = task.number();
-    Ok(Seat {
-        task,
-        work: Work::new(alloc, deck, initiators, number)?,
-    })
-}
-
-// The tasks, each with its work.
-fn seats_of(
-    alloc: Global,
-    tasks: Vec<Task>,
-    deck: &[Job],
-    initiators: u32,
-) -> Result<Vec<Seat>, NoMemory>
-    requires { initiators ≤ most_initiators }
-    ensures seats { IfOk result (λ seats. AllByRecursion (IsSeat (jobs_of deck.now) initiators) seats.items) }
-    ensures tasks { IfOk result (λ seats. map (λ seat. seat.task) seats.items ≡ tasks.items) }
-{
-    let mut seats = Vec::with_capacity(alloc, tasks.len())?;
-    for task in tasks {
-        seats.push_reserved(seat_of(alloc, task, deck, initiators)?);
+    let tasks = initiators + 3;
+    let mut works = Vec::with_capacity(alloc, tasks as usize)?;
+    for number in 0..tasks {
+        works.push_reserved(Work::new(alloc, deck, initiators, number)?);
     }
-    Ok(seats)
-}
-
-// Room for what leaves the seats, once the tasks have worked.
-#[derive(Drop)]
-struct Room {
-    tasks: Vec<Task>,
-    works: Vec<Work>,
-}
-
-// The tasks and their works, each by itself.
-fn parted(seats: Vec<Seat>, room: Room) -> (Vec<Task>, Vec<Work>)
-    requires tasks { (room.tasks.items ≡ []) × (length seats.items ≤ vec_capacity room.tasks) }
-    requires works { (room.works.items ≡ []) × (length seats.items ≤ vec_capacity room.works) }
-    ensures tasks { result.0.items ≡ map (λ seat. seat.task) seats.items }
-    ensures works { result.1.items ≡ map (λ seat. seat.work) seats.items }
-{
-    let Room { tasks, works } = room;
-    let mut tasks = tasks;
-    let mut works = works;
-    for seat in seats {
-        let Seat { task, work } = seat;
-        tasks.push_reserved(task);
-        works.push_reserved(work);
-    }
-    (tasks, works)
+    Ok(works)
 }
 
 // What a closed run left.
@@ -94,7 +54,7 @@ struct Left {
 }
 
 // Opens a station of this configuration, has its tasks do their work, and closes it.
-fn run_tasks<R: Threads + Wait + Sync, G: Gate + Sync>(
+fn run_station<R: Threads + Wait + Sync, G: Gate + Sync>(
     rt: &R,
     alloc: Global,
     config: ValidConfig,
@@ -118,15 +78,14 @@ fn run_tasks<R: Threads + Wait + Sync, G: Gate + Sync>(
         (writer initiators) left.closed.history.coming ≡ Done left.brought.ends.items) }
 {
     let (station, tasks) = Station::open(alloc, config)?;
-    let count = tasks.len();
-    let room = Room {
-        tasks: Vec::with_capacity(alloc, count)?,
-        works: Vec::with_capacity(alloc, count)?,
+    let records = Vec::with_capacity(alloc, tasks.len())?;
+    let works = works_of(alloc, deck, initiators)?;
+    let working = Working {
+        deck,
+        initiators,
+        gate,
     };
-    let records = Vec::with_capacity(alloc, count)?;
-    let seats = seats_of(alloc, tasks, deck, initiators)?;
-    let seats = worked(rt, &station, deck, initiators, gate, seats);
-    let (tasks, works) = parted(seats, room);
+    let (tasks, works) = run_tasks(rt, alloc, &station, &working, tasks, works)?;
     let closed = station.close(tasks);
     let brought = brought_by(works, records);
     Ok(Left { closed, brought })
@@ -176,6 +135,6 @@ pub fn run_deck<R: Threads + Wait + Sync, G: Gate + Sync>(
     ensures volumes { IfOk result (λ run. run.volumes.items ≡ totals (deck_data deck.now)) }
 {
     let config = spool_config(alloc, deck, initiators)?;
-    let left = run_tasks(rt, alloc, config, &deck.jobs, initiators, gate)?;
+    let left = run_station(rt, alloc, config, &deck.jobs, initiators, gate)?;
     spool_run(alloc, deck, initiators, left.closed, left.brought)
 }

@@ -15,7 +15,7 @@ use Rattle.mv_plan.proofs.deck.Planned.{planned}
 use Rattle.mv_plan.proofs.results.EndsPosted.{writer_keeps}
 use Rattle.mv_work.specs.Parts.{jobs_of}
 use Rattle.mv_work.specs.Recording.{AreBrought, all_records, lines_recorded}
-use Rattle.mv_spool.proofs.Seats.{both_so, still_so}
+use Rattle.mv_spool.proofs.Tasks.{both_so, still_so}
 use Rattle.mv_spool.proofs.spool.run_deck.Goals as goal
 
 pub spool_run-requires-clause-run : goal.spool_run-requires-clause-run
@@ -96,4 +96,5 @@ returns-clause-noted g c =
     let rs = c.in_ok-left.left.brought.records.items in
     both_so (λ run. run.lines.items) (λ run. run.records.items)
     (λ ls rs. ls ≡ lines_recorded deck (all_records (map (λ r. r.jobs) rs)))
-    (lines_recorded deck (all_records (map (λ r. r.jobs) rs))) rs c.spool_run.result c.spool_run.ensures.noted c.spool_run.ensures.records refl
+    (lines_recorded deck (all_records (map (λ r. r.jobs) rs))) rs c.spool_run.result c.spool_run.ensures.noted c.spool_run.ensures.records
+    refl
