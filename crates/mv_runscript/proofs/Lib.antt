@@ -15,4 +15,4 @@ pub mod Histories
 pub mod Texts
 -- run_script
 pub mod Scripts
-pub mod Seats
+pub mod Tasks

@@ -9,7 +9,7 @@ use Rattle.mv_calls.specs.Table.{IsTableOf, IsSoundTable}
 use Rattle.mv_calls.proofs.TableFacts.{checked_is_sound}
 use Rattle.mv_script.specs.Sound.{IfThere, IsSound}
 use Rattle.mv_runscript.specs.Making.{IsSoundIn, AreSoundIn}
-use Rattle.mv_runscript.specs.Seats.{script_with}
+use Rattle.mv_runscript.specs.Rooms.{script_with}
 
 -- a call behind as many as its place
 pub sound_at : (c : Setup) (table : Option Table) (before calls : List Call) (i : ℕ) (d : Call) → AreSoundIn c table before calls → i <

@@ -2,7 +2,7 @@
 use Rattle.std.proofs.Common.{◌≡◌, ℕ, ◌+◌, ◌≤◌, sym, ap, ◌∙◌, subst, arith}
 use Rattle.mv_board.specs.Faces.{CallerFace}
 use Rattle.mv_calls.specs.Keeping.{kept_of}
-use Rattle.mv_calls.specs.Program.{Program, Done, Call, followed, finished}
+use Rattle.mv_calls.specs.Program.{Done, Call, followed, finished}
 use Rattle.mv_calls.specs.Rest.{IsAtRest}
 use Rattle.mv_wait.specs.Run.{Runs, IsServed}
 use Rattle.mv_calls.specs.Posts.{Posting}

@@ -3,5 +3,5 @@ pub mod Answered
 pub mod Served
 -- one call, and all calls of a task
 pub mod Making
--- what each thread has
-pub mod Seats
+-- what each task has of its own
+pub mod Rooms

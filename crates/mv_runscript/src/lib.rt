@@ -5,8 +5,8 @@
 mod answered;
 mod calling;
 mod making;
+mod room;
 mod run;
-mod seat;
 mod serving;
 mod text;
 mod trying;

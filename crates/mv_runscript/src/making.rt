@@ -1,48 +1,71 @@
-//! All calls of a task, one after the other (`specs/Making.antt`).
+//! All calls of a task, one after the other, on its thread. Clauses cite `specs/Making.antt` and `specs/Rooms.antt`.
 
-ghost use Rattle.std.specs.Prelude.{◌≤◌, []};
+ghost use Rattle.std.specs.Prelude.{◌≤◌, [], slice_index_or};
 ghost use Rattle.mv_board.specs.Faces.{IsOf};
 ghost use Rattle.mv_calls.specs.Rest.{IsAtRest};
 ghost use Rattle.mv_calls.specs.Table.{IsSoundTable};
 ghost use Rattle.mv_script.specs.Costs.{costs_of};
-ghost use Rattle.mv_script.specs.Sound.{IfThere};
-ghost use Rattle.mv_runscript.specs.Making.{IsForScripts, AreSoundIn};
-ghost use Rattle.mv_runscript.specs.Seats.{HasRoom, HasWorked};
+ghost use Rattle.mv_script.specs.Sound.{IfThere, IsSound};
+ghost use Rattle.mv_runscript.specs.Making.{IsForScripts, AreSoundIn, MakesCalls};
+ghost use Rattle.mv_runscript.specs.Rooms.{HasRoom, HasMade, script_with};
 
 use crate::calling::make;
-use crate::seat::Seat;
+use crate::room::Room;
+use mv_attach::Work;
 use mv_calls::ValidTable;
-use mv_script::Call;
-use mv_wait::Station;
+use mv_script::{Call, CallList};
+use mv_wait::{Station, Task};
 use std::sync::Wait;
 
-/// Makes these calls in order, and puts down what each answers.
-pub(crate) fn make_all<R: Wait>(
+/// What the tasks of a script do: each makes its own calls.
+#[derive(Drop)]
+pub(crate) struct Making<'a> {
+    pub table: &'a Option<ValidTable>,
+    pub tasks: &'a [CallList],
+}
+
+impl Work for Making<'_> {
+    type Room = Room;
+
+    ghost can_start = { λ m b k room. IsSound (script_with b.config m.table.now m.tasks.now)
+        × HasRoom (slice_index_or m.tasks.now k []) room };
+
+    ghost has_done = { λ m b k old t new. HasMade b m.table.now (slice_index_or m.tasks.now k []) k new t };
+
+    fn work<R: Wait>(&self, rt: &R, station: &Station, task: &mut Task, room: &mut Room) {
+        let list = &self.tasks[task.number() as usize];
+        make_all(rt, station, task, self.table, &list.calls, room);
+    }
+}
+
+// Makes these calls in order, and puts down what each answers.
+fn make_all<R: Wait>(
     rt: &R,
     station: &Station,
+    task: &mut Task,
     table: &Option<ValidTable>,
     calls: &[Call],
-    seat: &mut Seat,
+    room: &mut Room,
 )
     requires config { IsForScripts station.now.config }
     requires table { IfThere (IsSoundTable station.now.config) table.now }
     requires sound { AreSoundIn station.now.config table.now [] calls.now }
-    requires task { IsOf station.now seat.old.task }
-    requires rest { IsAtRest seat.old.task.log }
-    requires left { costs_of station.now.config calls.now ≤ seat.old.task.left }
-    requires room { HasRoom calls.now seat.old }
-    ensures { HasWorked station.now.config table.now calls.now seat.old seat.new }
+    requires task { IsOf station.now task.old }
+    requires rest { IsAtRest task.old.log }
+    requires left { costs_of station.now.config calls.now ≤ task.old.left }
+    requires room { HasRoom calls.now room.old }
+    ensures { MakesCalls station.now.config table.now calls.now room.new.answers.items [] room.new.requests.items task.old task.new }
 {
     for call in calls {
         let answer = make(
             rt,
             station,
-            &mut seat.task,
+            task,
             table,
             call,
-            &mut seat.requests,
-            &mut seat.rooms,
+            &mut room.requests,
+            &mut room.slots,
         );
-        seat.answers.push_reserved(answer);
+        room.answers.push_reserved(answer);
     }
 }

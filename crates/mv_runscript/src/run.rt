@@ -1,4 +1,4 @@
-//! The run of a script. Clauses cite the script's `Run.antt`, the machine's `Orderly.antt`, and `specs/Seats.antt`.
+//! The run of a script. Clauses cite the script's `Run.antt`, the machine's `Orderly.antt`, and `specs/Rooms.antt`.
 
 ghost use Rattle.std.specs.Prelude.{◌≡◌, ◌≤◌, [], All, length, map, vec_capacity, IfOk, OnOk};
 ghost use Rattle.mv_machine.specs.Check.{IsValid};
@@ -8,14 +8,16 @@ ghost use Rattle.mv_script.specs.Events.{EventsAreHandedOut};
 ghost use Rattle.mv_script.specs.Run.{IsScriptRun, script_answers, moves_in};
 ghost use Rattle.mv_script.specs.Script.{script_data};
 ghost use Rattle.mv_script.specs.Sound.{IsSound};
-ghost use Rattle.mv_runscript.specs.Seats.{HaveRooms, script_with};
+ghost use Rattle.mv_runscript.specs.Rooms.{script_with};
 
-use crate::seat::{Seat, seat_of, worked};
+use crate::making::Making;
+use crate::room::{Room, rooms_for};
+use mv_attach::run_tasks;
 use mv_calls::ValidTable;
 use mv_io::NoMemory;
 use mv_machine::{History, ValidConfig};
 use mv_script::{AnswerList, CallList, Script, copy_config};
-use mv_wait::{Station, Task};
+use mv_wait::Station;
 use std::alloc::Global;
 use std::sync::Wait;
 use std::thread::Threads;
@@ -54,11 +56,11 @@ pub fn run_script<R: Threads + Wait + Sync>(
     ensures places { IfOk result (λ run. All (λ e. e.place ≤ highest_place) run.history.coming) }
 {
     let config = copy_config(alloc, &script.config)?;
-    run_tasks(rt, alloc, config, &script.table, &script.tasks)
+    run_station(rt, alloc, config, &script.table, &script.tasks)
 }
 
 // Opens a station of this configuration, has its tasks make their calls, and closes it.
-fn run_tasks<R: Threads + Wait + Sync>(
+fn run_station<R: Threads + Wait + Sync>(
     rt: &R,
     alloc: Global,
     config: ValidConfig,
@@ -79,47 +81,26 @@ fn run_tasks<R: Threads + Wait + Sync>(
     ensures places { IfOk result (λ run. All (λ e. e.place ≤ highest_place) run.history.coming) }
 {
     let (station, new) = Station::open(alloc, config)?;
-    let ended = Vec::with_capacity(alloc, tasks.len())?;
     let lists = Vec::with_capacity(alloc, tasks.len())?;
-    let seats = seats_of(alloc, new, tasks)?;
-    let seats = worked(rt, &station, table, tasks, seats);
-    let (ended, answers) = parted(seats, ended, lists);
+    let rooms = rooms_for(alloc, tasks)?;
+    let making = Making { table, tasks };
+    let (ended, rooms) = run_tasks(rt, alloc, &station, &making, new, rooms)?;
     let closed = station.close(ended);
     Ok(ScriptRun {
         history: closed.history,
-        answers,
+        answers: lists_of(rooms, lists),
     })
 }
 
-// The tasks, each with the room that its calls need.
-fn seats_of(alloc: Global, new: Vec<Task>, tasks: &[CallList]) -> Result<Vec<Seat>, NoMemory>
-    requires { length new.items ≡ length tasks.now }
-    ensures tasks { IfOk result (λ seats. map (λ seat. seat.task) seats.items ≡ new.items) }
-    ensures rooms { IfOk result (λ seats. HaveRooms tasks.now seats.items) }
+// The answers of each task.
+fn lists_of(rooms: Vec<Room>, room: Vec<AnswerList>) -> Vec<AnswerList>
+    requires { (room.items ≡ []) × (length rooms.items ≤ vec_capacity room) }
+    ensures { result.items ≡ map (λ room. room.answers.items) rooms.items }
 {
-    let mut seats = Vec::with_capacity(alloc, new.len())?;
-    for task in new {
-        let list = &tasks[seats.len()];
-        seats.push_reserved(seat_of(alloc, task, &list.calls)?);
-    }
-    Ok(seats)
-}
-
-// The tasks without their seats, and the answers of each.
-fn parted(
-    seats: Vec<Seat>,
-    mut tasks: Vec<Task>,
-    mut lists: Vec<AnswerList>,
-) -> (Vec<Task>, Vec<AnswerList>)
-    requires tasks { (tasks.items ≡ []) × (length seats.items ≤ vec_capacity tasks) }
-    requires lists { (lists.items ≡ []) × (length seats.items ≤ vec_capacity lists) }
-    ensures tasks { result.0.items ≡ map (λ seat. seat.task) seats.items }
-    ensures answers { result.1.items ≡ map (λ seat. seat.answers.items) seats.items }
-{
-    for seat in seats {
-        let Seat { task, answers, .. } = seat;
-        tasks.push_reserved(task);
+    let mut lists = room;
+    for room in rooms {
+        let Room { answers, .. } = room;
         lists.push_reserved(AnswerList { answers });
     }
-    (tasks, lists)
+    lists
 }

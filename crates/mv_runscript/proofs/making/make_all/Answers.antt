@@ -33,9 +33,9 @@ loop-call-preserved g c =
     let d = c.call-item.result in
     let a = c.make-answer.result in
     let since = c.loop-call.invariant in
-    let old = c.loop-call.seat.requests.items in
+    let old = c.loop-call.room.requests.items in
     let new = c.make-answer.new.requests.items in
-    let t = c.loop-call.seat.task in
+    let t = c.loop-call.task in
     let u = c.make-answer.new.task in
     let made = c.make-answer.ensures.makes in
     let lt = c.loop-call-test.true in
@@ -62,12 +62,12 @@ loop-call-preserved g c =
       requests = c.make-answer.ensures.requests;
       count = asked ∙ ap (λ n. n + count_by is_obtain (d ∷ [])) count ∙ sym counted;
       request_room = omega arith;
-      answers = ap length c.push_reserved.ensures.items ∙ length-append c.loop-call.seat.answers.items (a ∷ []) ∙ ap (λ n. n + 1) size;
+      answers = ap length c.push_reserved.ensures.items ∙ length-append c.loop-call.room.answers.items (a ∷ []) ∙ ap (λ n. n + 1) size;
       answer_room = omega arith;
       slots = c.make-answer.ensures.slots;
       rooms = omega arith;
-      makes = subst (λ answers. MakesCalls config c.args.table.now (take (i + 1) calls) answers [] new c.args.seat.now.task u)
+      makes = subst (λ answers. MakesCalls config c.args.table.now (take (i + 1) calls) answers [] new c.args.task.now u)
           (sym c.push_reserved.ensures.items)
-          (path_more calls i d lt is config c.args.table.now c.loop-call.seat.answers.items a [] old new c.args.seat.now.task t u
+          (path_more calls i d lt is config c.args.table.now c.loop-call.room.answers.items a [] old new c.args.task.now t u
           since.makes made);
     }

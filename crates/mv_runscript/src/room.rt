@@ -1,0 +1,71 @@
+//! What each task has of its own: the room that its calls need, and what they answered. Clauses cite `specs/Rooms.antt`.
+
+ghost use Rattle.std.specs.Prelude.{◌≡◌, ◌<◌, ℕ, [], length, count_by, slice_index_or, IfOk};
+ghost use Rattle.mv_runscript.specs.Making.{HaveSlots, is_wait as is_wait_call};
+ghost use Rattle.mv_runscript.specs.Rooms.{HasRoom};
+
+use mv_io::NoMemory;
+use mv_latchset::LatchToken;
+use mv_script::{Answer, Call, CallList, MOST_WAITED, Slots};
+use mv_wait::WaitSlot;
+use std::alloc::Global;
+
+/// What a task's calls answered so far, and the room for the rest.
+#[derive(Drop)]
+pub(crate) struct Room {
+    pub answers: Vec<Answer>,
+    /// For each OBTAIN, the request that it got, if it got one.
+    pub requests: Vec<Option<LatchToken>>,
+    /// For each WAIT to come, its slots.
+    pub slots: Vec<Slots>,
+}
+
+/// The room of each task.
+pub(crate) fn rooms_for(alloc: Global, tasks: &[CallList]) -> Result<Vec<Room>, NoMemory>
+    ensures count { IfOk result (λ rooms. length rooms.items ≡ length tasks.now) }
+    ensures room { IfOk result (λ rooms. (k : ℕ) (d : _) → k < length rooms.items
+        → HasRoom (slice_index_or tasks.now k []) (slice_index_or rooms.items k d)) }
+{
+    let mut rooms = Vec::with_capacity(alloc, tasks.len())?;
+    for list in tasks {
+        rooms.push_reserved(room_for(alloc, &list.calls)?);
+    }
+    Ok(rooms)
+}
+
+// The room that these calls need.
+fn room_for(alloc: Global, calls: &[Call]) -> Result<Room, NoMemory>
+    ensures { IfOk result (λ room. HasRoom calls.now room) }
+{
+    Ok(Room {
+        answers: Vec::with_capacity(alloc, calls.len())?,
+        requests: Vec::with_capacity(alloc, calls.len())?,
+        slots: slots_for(alloc, count_waits(calls))?,
+    })
+}
+
+// Slots for each of so many WAITs.
+fn slots_for(alloc: Global, waits: usize) -> Result<Vec<Slots>, NoMemory>
+    ensures count { IfOk result (λ rooms. length rooms.items ≡ waits) }
+    ensures slots { IfOk result (λ rooms. HaveSlots rooms.items) }
+{
+    let mut rooms = Vec::new(alloc);
+    for made in 0..waits {
+        let slots = vec![in alloc; WaitSlot::Open; MOST_WAITED]?;
+        rooms.push(Slots { slots })?;
+    }
+    Ok(rooms)
+}
+
+// How many of these calls are WAITs.
+fn count_waits(calls: &[Call]) -> usize
+    ensures { result ≡ count_by is_wait_call calls.now }
+{
+    calls.iter().filter(|call| is_wait(call)).count()
+}
+
+fn is_wait(call: &Call) -> bool
+    ensures { result ≡ is_wait_call call.now }
+{
+    matches!(call, Call::Wait { .. })
+}
