@@ -1,5 +1,5 @@
-use Rattle.std.proofs.Common.{◌≡◌, ◌+◌, ◌<◌, ℕ, length, get_or, map, sym, ap, ◌∙◌, subst, arith}
-use Rattle.mv_board.specs.Faces.{IsOf, AreInOrder}
+use Rattle.std.proofs.Common.{◌≡◌, ◌+◌, length, map, sym, ap, ◌∙◌, subst, arith}
+use Rattle.mv_board.specs.Faces.{AreInOrder}
 use Rattle.mv_wait.proofs.Parts.{given_back}
 use Rattle.mv_attach.specs.declared.seat.Seat.{Seat}
 use Rattle.mv_attach.proofs.Seats.{fresh_seats, rooms_so, in_order, done_at}
