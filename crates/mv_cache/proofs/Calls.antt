@@ -6,9 +6,7 @@ use Rattle.std.proofs.Common.{le_refl}
 use Rattle.std.proofs.lemmas.List.{get_or_default}
 use Rattle.std.specs.List.{AllByRecursion, Contains}
 use Rattle.mv_latch.specs.declared.operation.LatchOp.TheVariants.{Obtain, Confirm, Release}
-use Rattle.mv_latch.specs.declared.operation.LatchReply.{LatchReply}
-use Rattle.mv_latch.specs.declared.operation.LatchReply.TheVariants.{Granted, Queued, Gone}
-use Rattle.mv_latch.specs.declared.operation.LatchReply.TheVariants as latch_reply
+use Rattle.mv_latch.specs.declared.operation.LatchReply.TheVariants.{Granted, Queued}
 use Rattle.mv_latch.specs.declared.request.LatchForm.TheVariants.{Waiting}
 use Rattle.mv_latch.specs.declared.request.Mode.{Mode}
 use Rattle.mv_latch.specs.declared.request.Mode.TheVariants.{Exclusive, Shared}
@@ -26,9 +24,9 @@ use Rattle.mv_machine.specs.Reach.{release_cost}
 use Rattle.mv_machine.specs.Setup.{Setup}
 use Rattle.mv_machine.proofs.EntryRuns.{entry_of}
 use Rattle.mv_board.specs.Faces.{BoardFace, CallerFace}
-use Rattle.mv_calls.specs.Keeping.{Kept, kept_of}
-use Rattle.mv_calls.specs.LatchCalls.{Obtained, obtain, obtain_refusal, obtained, confirmed, release_latch, let_go}
-use Rattle.mv_calls.specs.Program.{Program, Do, Done, Call, Heard, on_latch, on_volume}
+use Rattle.mv_calls.specs.Keeping.{kept_of}
+use Rattle.mv_calls.specs.LatchCalls.{Obtained, obtain, release_latch, let_go}
+use Rattle.mv_calls.specs.Program.{Program, Done, Call, Heard, on_latch, on_volume}
 use Rattle.mv_calls.specs.Refusal.{Refusal}
 use Rattle.mv_calls.specs.Waits.{read_volume, write_volume, the_value, stored}
 use Rattle.mv_wait.specs.Run.{IsServed}
@@ -36,8 +34,9 @@ use Rattle.mv_wait.proofs.Compose.{still_served}
 use Rattle.mv_latchset.specs.declared.obtaining.Obtained.TheVariants as got
 use Rattle.mv_latchset.specs.declared.token.LatchToken.{LatchToken}
 use Rattle.mv_latchset.specs.Obtaining.{IsObtainedBy}
-use Rattle.mv_attach.proofs.Always.{Always, Grown, always_latch, always_unless, served_grown}
+use Rattle.mv_attach.proofs.Always.{Grown, served_grown}
 use Rattle.mv_attach.proofs.Once.{Once, served_once, once_grown}
+use Rattle.mv_attach.proofs.Says.{always_obtain, always_read}
 use Rattle.mv_cache.specs.declared.cache.Pair.{Pair}
 use Rattle.mv_cache.specs.Setup.{cache_setup}
 use Rattle.mv_cache.specs.Whole.{HoldsLatch, value_from, pair_of, IsAllowed, AreAllowed, IsCareful, StaysWhole, IsWriting, IsReading}
@@ -47,26 +46,10 @@ use Rattle.mv_cache.proofs.Logs.{still_holds, holds_at_once, holds_confirmed, as
 
 -- ---- calls that are calm
 
-calm_obtain : (c : Setup) (requestor : ℕ) (mode : Mode) (kept : Kept) → Always IsCalm (obtain c 0 requestor mode Waiting kept)
-calm_obtain c requestor mode kept =
-    always_unless IsCalm (obtain_refusal c 0 requestor mode Waiting kept)
-    (Do Latches (op_on.Latch (Obtain 0 requestor mode Waiting)) (λ h. on_latch h.entry.reply (obtained 0 Waiting)))
-    (tt, λ h. always_latch IsCalm h.entry.reply (obtained 0 Waiting) (λ x. on x)) where
-      last : (id : ℕ) (x : LatchReply) → Always IsCalm (confirmed id x)
-      last id (latch_reply.Granted same) = tt
-      last id latch_reply.Waiting = tt
-      last id latch_reply.Gone = tt
-      last id x = tt
-
-      on : (x : LatchReply) → Always IsCalm (obtained 0 Waiting x)
-      on (latch_reply.Granted id) = tt
-      on (latch_reply.Queued id) = (tt, λ h. always_latch IsCalm h.entry.reply (confirmed id) (λ x. last id x))
-      on x = tt
-
 pub obtain_grown : (c : Setup) (requestor most : ℕ) (mode : Mode) (Is : Result Obtained Refusal → Type 0) (t u : CallerFace)
     → IsServed most (obtain c 0 requestor mode Waiting) Is t u → Grown IsCalm t u
-obtain_grown c requestor most mode Is t u s =
-    served_grown IsCalm most (obtain c 0 requestor mode Waiting) Is t u s (calm_obtain c requestor mode (kept_of t.number t.log))
+obtain_grown c requestor most mode Is t u s = served_grown IsCalm most (obtain c 0 requestor mode Waiting) Is t u s
+    (always_obtain IsCalm c 0 requestor mode (kept_of t.number t.log) tt (λ id. tt))
 
 pub release_grown : (c : Setup) (most latch id : ℕ) (Is : Result ℕ Refusal → Type 0) (t u : CallerFace)
     → IsServed most (release_latch c latch id false) Is t u → most ≤ 1 → Grown IsCalm t u
@@ -233,9 +216,7 @@ read_one n x t u s =
 
 pub read_grown : (n x : ℕ) (t u : CallerFace) → IsServed 1 (read_volume n) (λ a. a ≡ x) t u → Grown IsCalm t u
 read_grown n x t u s =
-    once_grown IsCalm (Volume n) (op_on.Volume Read) (λ h. on_volume h.entry.reply the_value) s.answer t u
-    (served_once 1 (read_volume n) (λ a. a ≡ x) (Volume n) (op_on.Volume Read) (λ h. on_volume h.entry.reply the_value) t u s (omega arith)
-    refl) tt
+    served_grown IsCalm 1 (read_volume n) (λ a. a ≡ x) t u s (always_read IsCalm n (kept_of t.number t.log) tt)
 
 -- what was read is still read behind more entries
 read_later : (t u : CallerFace) (pair : Pair) → IsLonger t u → WasRead t.number t.log pair → WasRead u.number u.log pair

@@ -1,5 +1,5 @@
 -- What a take and a put add to a task's log, and that the task is ready behind them. Used by take and put.
-use Rattle.std.proofs.Common.{◌≡◌, ℕ, ◌+◌, ◌≤◌, ◌==◌, Bool, true, false, not, List, [], ◌∷◌, ◌++◌, length, Result, Ok, refl, sym, ap}
+use Rattle.std.proofs.Common.{◌≡◌, ℕ, ◌+◌, ◌==◌, Bool, true, false, not, List, [], ◌∷◌, ◌++◌, Result, Ok, refl, ap}
 use Rattle.std.proofs.Common.{◌∙◌, arith, append_assoc, if◌then◌else◌}
 use Rattle.std.proofs.lemmas.Bool.{eq-eqb}
 use Rattle.mv_ecb.specs.declared.operation.EcbOp.TheVariants.{Clear, Post}
@@ -10,14 +10,15 @@ use Rattle.mv_machine.specs.Setup.{Setup, owner_of}
 use Rattle.mv_board.specs.Faces.{BoardFace, CallerFace, IsOf}
 use Rattle.mv_calls.specs.Keeping.{Kept, kept_from, kept_of, nothing_kept}
 use Rattle.mv_calls.specs.Posts.{Posting, post}
-use Rattle.mv_calls.specs.Program.{Program, Do, Done, Heard, Says, left, asks, entries, on_ecb, unless_refused}
+use Rattle.mv_calls.specs.Program.{Program, Do, Done, Heard, on_ecb, unless_refused}
 use Rattle.mv_calls.specs.Refusal.{Refusal}
 use Rattle.mv_calls.specs.Refusal as refusal
 use Rattle.mv_calls.specs.Rest.{IsAtRest}
 use Rattle.mv_calls.specs.Waits.{is_others_block, clear, the_word, refused_if}
 use Rattle.mv_calls.proofs.Making.{kept_from-append, kept_caller}
 use Rattle.mv_wait.specs.Run.{IsServed}
-use Rattle.mv_wait.proofs.OneBlock.{asked_is, Waited}
+use Rattle.mv_wait.proofs.OneBlock.{Waited}
+use Rattle.mv_attach.proofs.Once.{served_once}
 use Rattle.mv_handover.specs.Ready.{IsReady, Added, Put, Took}
 use Rattle.mv_handover.specs.Setup.{slots_setup}
 
@@ -45,22 +46,14 @@ still_ready b k t u es r task rest added keeps = record {
 
 -- ---- a post
 
-put_by : (n ecb code : ℕ) (a : Posting) (kept : Kept) (t u : CallerFace) (hs : List Heard) → Says (post (slots_setup n) ecb code kept) hs
-    → left (post (slots_setup n) ecb code kept) hs ≡ Done a → length hs ≤ 1 → u.number ≡ t.number → u.log ≡ t.log ++ entries hs
-    → u.left + length hs ≡ t.left → Put ecb code t u
-put_by n ecb code a kept t u [] says done few number logged spent = absurd (cc done)
-put_by n ecb code a kept t u (h ∷ []) says done few number logged spent = record {
-  entry = h.entry;
-  added = record { number = number; logged = logged; left = spent };
-  post = (
-      let is = asked_is (Ecb ecb) h.entry.object (op_on.Ecb (Post code)) h.entry.op says.0 in record { object = is.0; makes = is.1 });
-}
-put_by n ecb code a kept t u (h ∷ g ∷ hs) says done few number logged spent = absurd (omega arith)
-
 pub put_made : (n ecb code : ℕ) (Is : Posting → Type 0) (t u : CallerFace) → IsServed 1 (post (slots_setup n) ecb code) Is t u
     → Put ecb code t u
-put_made n ecb code Is t u s = put_by n ecb code s.answer (kept_of t.number t.log) t u s.made.events s.made.done.says s.made.done.done
-    s.made.few s.same.number s.made.longer.logged s.left
+put_made n ecb code Is t u s =
+    let one = served_once 1 (post (slots_setup n) ecb code) Is (Ecb ecb) (op_on.Ecb (Post code)) _ t u s (omega arith) refl in record {
+      entry = one.heard.entry;
+      added = record { number = s.same.number; logged = one.logged; left = one.left };
+      post = record { object = one.object; makes = one.makes };
+    }
 
 pub put_ready : (b : BoardFace) (k n ecb code : ℕ) (Is : Posting → Type 0) (t u : CallerFace)
     → IsServed 1 (post (slots_setup n) ecb code) Is t u → IsReady b k t → Put ecb code t u → IsReady b k u
@@ -68,57 +61,28 @@ put_ready b k n ecb code Is t u s r p =
     still_ready b k t u (p.entry ∷ []) r (s.same.table ∙ r.task.0, s.same.about ∙ r.task.1) s.made.rest p.added
     (λ held e plain. rw (p.post.object, p.post.makes) plain)
 
--- ---- a clear
-
-pub record Cleared (ecb : ℕ) (t u : CallerFace) : Type 0 where
-  pub entry : Entry
-  pub number : u.number ≡ t.number
-  pub logged : u.log ≡ t.log ++ entry ∷ []
-  pub left : u.left + 1 ≡ t.left
-  pub clear : (entry.object ≡ Ecb ecb) × (entry.op ≡ op_on.Ecb Clear)
-
-clear_is : (c : Setup) (ecb : ℕ) (kept : Kept) → is_others_block c kept ecb ≡ false
-    → clear c ecb kept ≡ Do (Ecb ecb) (op_on.Ecb Clear) (λ h. on_ecb h.entry.reply (the_word (λ w. Done (Ok w))))
-clear_is c ecb kept own =
-    ap (λ b. unless_refused (refused_if b refusal.NotOwner)
-    (Do (Ecb ecb) (op_on.Ecb Clear) (λ h. on_ecb h.entry.reply (the_word (λ w. Done (Ok w)))))) own
-
-cleared_by : (ecb : ℕ) (p : Program (Result ℕ Refusal)) (next : Heard → Program (Result ℕ Refusal)) (a : Result ℕ Refusal)
-    (t u : CallerFace) (hs : List Heard) → p ≡ Do (Ecb ecb) (op_on.Ecb Clear) next → Says p hs → left p hs ≡ Done a → length hs ≤ 1
-    → u.number ≡ t.number → u.log ≡ t.log ++ entries hs → u.left + length hs ≡ t.left → Cleared ecb t u
-cleared_by ecb p next a t u [] is says done few number logged spent = absurd (cc (sym is ∙ done))
-cleared_by ecb p next a t u (h ∷ []) is says done few number logged spent = record {
-  entry = h.entry;
-  number = number;
-  logged = logged;
-  left = spent;
-  clear = asked_is (Ecb ecb) h.entry.object (op_on.Ecb Clear) h.entry.op (ap asks (sym is) ∙ says.0);
-}
-cleared_by ecb p next a t u (h ∷ g ∷ hs) is says done few number logged spent = absurd (omega arith)
-
-pub cleared_made : (c : Setup) (ecb : ℕ) (Is : Result ℕ Refusal → Type 0) (t u : CallerFace) → IsServed 1 (clear c ecb) Is t u
-    → is_others_block c (kept_of t.number t.log) ecb ≡ false → Cleared ecb t u
-cleared_made c ecb Is t u s own = cleared_by ecb (clear c ecb (kept_of t.number t.log))
-    (λ h. on_ecb h.entry.reply (the_word (λ w. Done (Ok w)))) s.answer t u s.made.events
-    (clear_is c ecb (kept_of t.number t.log) own) s.made.done.says s.made.done.done s.made.few s.same.number s.made.longer.logged s.left
-
 -- ---- a take is a wait and a clear
 
-pub took_made : (ecb code : ℕ) (t u v : CallerFace) → Waited ecb code t u → Cleared ecb u v → Took ecb code t v
-took_made ecb code t u v w x = record {
-  first = w.first;
-  second = w.second;
-  third = x.entry;
-  added = record {
-    number = x.number ∙ w.number;
-    logged = x.logged ∙ ap (λ log. log ++ x.entry ∷ []) w.logged ∙ append_assoc t.log (w.first ∷ w.second ∷ []) (x.entry ∷ []);
-    left = (let i = x.left in let j = w.left in omega arith);
-  };
-  arm = record { object = w.arm.0; makes = w.arm.1 };
-  settle = record { object = w.settle.0; makes = w.settle.1 };
-  found = w.found;
-  clear = record { object = x.clear.0; makes = x.clear.1 };
-}
+pub took_made : (c : Setup) (ecb code : ℕ) (Is : Result ℕ Refusal → Type 0) (t u v : CallerFace) → Waited ecb code t u
+    → IsServed 1 (clear c ecb) Is u v → is_others_block c (kept_of u.number u.log) ecb ≡ false → Took ecb code t v
+took_made c ecb code Is t u v w s own =
+    let next : Heard → Program (Result ℕ Refusal) = λ h. on_ecb h.entry.reply (the_word (λ x. Done (Ok x))) in
+    let one = served_once 1 (clear c ecb) Is (Ecb ecb) (op_on.Ecb Clear) next u v s (omega arith)
+    (ap (λ b. unless_refused (refused_if b refusal.NotOwner) (Do (Ecb ecb) (op_on.Ecb Clear) next)) own) in
+    let third = one.heard.entry in record {
+      first = w.first;
+      second = w.second;
+      third = third;
+      added = record {
+        number = s.same.number ∙ w.number;
+        logged = one.logged ∙ ap (λ log. log ++ third ∷ []) w.logged ∙ append_assoc t.log (w.first ∷ w.second ∷ []) (third ∷ []);
+        left = (let i = one.left in let j = w.left in omega arith);
+      };
+      arm = record { object = w.arm.0; makes = w.arm.1 };
+      settle = record { object = w.settle.0; makes = w.settle.1 };
+      found = w.found;
+      clear = record { object = one.object; makes = one.makes };
+    }
 
 pub took_ready : (b : BoardFace) (k ecb code : ℕ) (t u : CallerFace) → IsReady b k t → IsOf b u → IsAtRest u.log → Took ecb code t u
     → IsReady b k u

@@ -40,18 +40,20 @@ posts_of_first n (e ∷ es) two none = by_caller (λ rest. posts_of_first n es t
       (sym (posts-append n (e ∷ []) (of 1 es)) ∙ ap (posts n) (sym (of_own 1 e es second)) ∙ none) in
       posts-append n (e ∷ []) es ∙ ap (λ xs. xs ++ posts n es) both.0 ∙ on both.1 ∙ ap (posts n) (sym (of_other 0 e es other))
 
+-- every entry is one of the two callers'
+two_callers : (c : Setup) (es : List Entry) → HasSlots c → Legal c es → AllByRecursion (λ e. e.caller < 2) es
+two_callers c es has legal =
+    subst (λ (k : Setup). AllByRecursion (λ e. e.caller < k.callers) es) has.1 (callers_exist c (opening c) es legal)
+
 -- a history in which one task put these items in and another took those out
 pub in_order : (c : Setup) (es : List Entry) (items taken : List ℕ) → HasSlots c → Legal c es → length taken ≡ length items
     → ((s : ℕ) → s < slots → posts s (of 0 es) ≡ part s items)
     → ((s : ℕ) → s < slots → posts s (of 1 es) ≡ [])
     → ((s : ℕ) → s < slots → takes s (of 1 es) ≡ part s taken) → taken ≡ items
 in_order c es items taken has legal size put none took = same_parts 0 taken items size (λ s lt. one s lt) where
-  two : AllByRecursion (λ e. e.caller < 2) es
-  two = subst (λ (k : Setup). AllByRecursion (λ e. e.caller < k.callers) es) has.1 (callers_exist c (opening c) es legal)
-
   one : (s : ℕ) → s < slots → part s taken ≡ part s items
   one s lt =
-      let all = posts_of_first s es two (none s lt) ∙ put s lt in
+      let all = posts_of_first s es (two_callers c es has legal) (none s lt) ∙ put s lt in
       let within = taken_were_posted c s es legal in
       let own : takes s (of (owner_of c s) es) ≡ part s taken = ap (λ k. takes s (of k es)) (full_owner c has s lt) ∙ took s lt in
       let few : length (posts s es) ≤ length (takes s (of (owner_of c s) es)) =
@@ -65,11 +67,6 @@ closed_in_order b es p q items taken legal own other size put took =
     in_order b.config es items taken put.ready.config legal size
     (λ s lt. ap (posts s) own ∙ put.posts s lt) (λ s lt. ap (posts s) other ∙ took.posts s lt)
     (λ s lt. ap (takes s) other ∙ took.takes s lt)
-
--- every entry is one of the two callers'
-two_callers : (c : Setup) (es : List Entry) → HasSlots c → Legal c es → AllByRecursion (λ e. e.caller < 2) es
-two_callers c es has legal =
-    subst (λ (k : Setup). AllByRecursion (λ e. e.caller < k.callers) es) has.1 (callers_exist c (opening c) es legal)
 
 -- the history posts each item to its slot, and nothing else to a slot
 pub closed_posted : (b : BoardFace) (es : List Entry) (p q : CallerFace) (items taken : List ℕ) → Legal b.config es → of 0 es ≡ p.log

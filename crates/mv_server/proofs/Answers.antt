@@ -1,5 +1,5 @@
 -- In a history of right entries a block of an answer is complete with nothing but that answer, which a worker posted.
-use Rattle.std.proofs.Common.{◌≡◌, ℕ, ◌<◌, ◌≤◌, ◌==◌, List, [], ◌∷◌, ◌⊎◌, inl, inr, refl, sym, ◌∙◌, subst}
+use Rattle.std.proofs.Common.{◌≡◌, ℕ, ◌<◌, ◌≤◌, List, [], ◌∷◌, ◌⊎◌, inl, inr, refl, sym, ◌∙◌, subst}
 use Rattle.std.proofs.lemmas.Bool.{cases_eq, eq-eqb, ne_eqb, false≢true}
 use Rattle.std.specs.List.{AllByRecursion, Contains}
 use Rattle.mv_ecb.specs.declared.operation.EcbOp.{EcbOp}
@@ -19,9 +19,9 @@ use Rattle.mv_machine.specs.Legal.{IsNext, LegalFrom, Legal, next, of}
 use Rattle.mv_machine.specs.Setup.{Setup}
 use Rattle.mv_machine.specs.System.{System, opening}
 use Rattle.mv_machine.proofs.EntryRuns.{entry_of}
-use Rattle.mv_machine.proofs.Lists.{all_filter, all_at}
+use Rattle.mv_machine.proofs.Lists.{all_at}
 use Rattle.mv_latch.proofs.Members.{first_is_in, rest_is_in}
-use Rattle.mv_calls.proofs.Hearing.{of_own, of_other}
+use Rattle.mv_attach.proofs.Entries.{all_entries, own_entry}
 use Rattle.mv_server.specs.Pool.{workers, answer_at}
 use Rattle.mv_server.specs.Right.{IsRight, AreRight, Finds, IsAccepted, IsPosted}
 
@@ -141,24 +141,11 @@ module _ (requests : List ℕ) (journal : List Entry) where
       let one = step c s e.caller e.object e.place e.op e.reply l.0 (within e (first_is_in e es e refl)) right.0 all in
       (one.1, all_true c (next s e) es l.1 (λ f i. within f (rest_is_in e es f i)) right.1 one.0)
 
-module _ (requests : List ℕ) where
-  -- the entries of callers that all make right entries are right
-  all_right : (m : ℕ) (es : List Entry) → AllByRecursion (λ e. e.caller < m) es
-      → ((k : ℕ) → k < m → AreRight requests k (of k es)) → AllRight requests es
-  all_right m [] callers parts = tt
-  all_right m (e ∷ es) callers parts = (
-    (subst (λ xs. AreRight requests e.caller xs) (of_own e.caller e es refl) (parts e.caller callers.0)).0,
-    all_right m es callers.1 (λ k lt. rest k lt (cases_eq e.caller k)),
-  ) where
-    rest : (k : ℕ) → k < m → (e.caller ≡ k) ⊎ (e.caller ≡ k → ⊥) → AreRight requests k (of k es)
-    rest k lt (inl own) = (subst (λ xs. AreRight requests k xs) (of_own k e es own) (parts k lt)).1
-    rest k lt (inr other) = subst (λ xs. AreRight requests k xs) (of_other k e es other) (parts k lt)
-
-  -- what any caller found complete is the answer, and a worker posted it
-  pub found_is_answer : (c : Setup) (es : List Entry) (k n code : ℕ) → Legal c es → AllByRecursion (λ e. e.caller < c.callers) es
-      → ((j : ℕ) → j < c.callers → AreRight requests j (of j es)) → Finds (of k es) n code → workers ≤ n
-      → (code ≡ answer_at requests n) × IsPosted es n code
-  found_is_answer c es k n code legal callers parts f high =
-      let facts = all_true requests es c (opening c) es legal (λ e i. i) (all_right c.callers es callers parts) (λ n. tt) in
-      all_at (IsTrue requests es) (of k es) f.entry (all_filter (IsTrue requests es) (λ (e : Entry). e.caller == k) es facts) f.member n
-      code f.object f.found high
+-- what any caller found complete is the answer, and a worker posted it
+pub found_is_answer : (requests : List ℕ) (c : Setup) (es : List Entry) (k n code : ℕ) → Legal c es
+    → ((j : ℕ) → j < c.callers → AreRight requests j (of j es)) → Finds (of k es) n code → workers ≤ n
+    → (code ≡ answer_at requests n) × IsPosted es n code
+found_is_answer requests c es k n code legal parts f high =
+    let right = all_entries (λ j e. IsRight requests j e.object e.op) c es legal parts in
+    let facts = all_true requests es c (opening c) es legal (λ e i. i) right (λ n. tt) in
+    all_at (IsTrue requests es) es f.entry facts (own_entry k es f.entry f.member) n code f.object f.found high

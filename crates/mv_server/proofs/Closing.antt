@@ -11,8 +11,6 @@ use Rattle.mv_board.specs.Faces.{BoardFace, CallerFace, AreInOrder, IsIn}
 use Rattle.mv_machine.specs.declared.entry.Entry.{Entry}
 use Rattle.mv_machine.specs.Legal.{Legal, of}
 use Rattle.mv_machine.specs.Setup.{Setup}
-use Rattle.mv_machine.specs.System.{opening}
-use Rattle.mv_calls.proofs.Interleaved.{callers_exist}
 use Rattle.mv_server.specs.Pool.{workers, pool_setup, days_in, answer_at}
 use Rattle.mv_server.specs.Right.{AreRight, HasDone, Finds, IsPosted}
 use Rattle.mv_server.proofs.Answers.{found_is_answer}
@@ -36,7 +34,7 @@ answers_are c requests answers es log is legal each own count finds = (
       → (get_or answers r 0 ≡ answer_at requests (workers + r)) × IsPosted es (workers + r) (get_or answers r 0)
   found r low =
       found_is_answer requests c es workers (workers + r) (get_or answers r 0) legal
-      (callers_exist c (opening c) es legal) (λ j lt. each j (subst (λ (s : Setup). j < s.callers) is lt))
+      (λ j lt. each j (subst (λ (s : Setup). j < s.callers) is lt))
       (subst (λ xs. Finds xs (workers + r) (get_or answers r 0)) (sym own) (finds r low)) (omega arith)
 
   one : (r : ℕ) (d : ℕ) → r < length answers → get_or answers r d ≡ get_or (map days_in requests) r d

@@ -5,7 +5,7 @@ use Rattle.mv_wait.specs.Answers.{slots_of}
 use Rattle.mv_wait.specs.declared.waiting.WaitSlot.TheVariants as slot
 use Rattle.mv_wait.proofs.OneBlock.{unrefused, waited_made, slot_is, found_open, found_code}
 use Rattle.mv_handover.specs.Ready.{Took}
-use Rattle.mv_handover.proofs.Calls.{cleared_made, took_made, took_ready, own_block}
+use Rattle.mv_handover.proofs.Calls.{took_made, took_ready, own_block}
 use Rattle.mv_handover.proofs.handover.take.Goals as goal
 
 pub wait-requires-clause-blocks : goal.wait-requires-clause-blocks
@@ -53,7 +53,7 @@ returns g c =
     let own = own_block b.config ecb u (c.requires.block.1 ∙ sym served.same.number) in
     let code = found_code out found.0 c.in-Complete.code (slot.Complete 0) (slot_is out served.answer found.0 served.is found.1)
     c.in-Complete.is in
-    let took = took_made ecb found.0 t u v found.2 (cleared_made b.config ecb (λ a. a ≡ Ok c.in-Ok-clear.field-0) u v cleared own) in
+    let took = took_made b.config ecb found.0 (λ a. a ≡ Ok c.in-Ok-clear.field-0) t u v found.2 cleared own in
     record {
       took = subst (λ n. Took ecb n t v) code took;
       ready = took_ready b t.number ecb found.0 t v c.requires.ready (

@@ -5,8 +5,9 @@ use Rattle.mv_calls.specs.Waits.{wait}
 use Rattle.mv_wait.specs.Answers.{slots_of}
 use Rattle.mv_wait.specs.declared.waiting.WaitSlot.TheVariants as slot
 use Rattle.mv_wait.proofs.OneBlock.{slot_is, found_open, found_code}
-use Rattle.mv_server.specs.Right.{Finds}
-use Rattle.mv_server.proofs.Always.{stays_after, always_wait}
+use Rattle.mv_attach.proofs.Says.{always_wait}
+use Rattle.mv_server.specs.Right.{IsRight, Finds}
+use Rattle.mv_server.proofs.Always.{stays_after}
 use Rattle.mv_server.proofs.Pool.{block_exists}
 use Rattle.mv_server.proofs.Waits.{unrefused_wait, found_made, still_found}
 use Rattle.mv_server.proofs.server.await_answer.Goals as goal
@@ -53,5 +54,5 @@ returns g c =
       finds = subst (λ n. Finds u.log block n) code found.2;
       found = λ n code f. still_found t.log u.log (entries served.made.events) n code served.made.longer.logged f;
       kept = stays_after c.args.station.now requests 2 (wait config 1 (block ∷ [])) (λ a. a ≡ Ok (slots_of out)) t u served
-          since.ready (always_wait requests t.number config 1 (block ∷ []) (kept_of t.number t.log));
+          since.ready (always_wait (IsRight requests t.number) config 1 (block ∷ []) (kept_of t.number t.log) (tt, tt) (tt, tt));
     }

@@ -3,9 +3,10 @@ use Rattle.std.specs.List.{range_with_len}
 use Rattle.mv_calls.specs.Keeping.{kept_of}
 use Rattle.mv_calls.specs.Waits.{wait}
 use Rattle.mv_wait.specs.Answers.{wait_answer}
+use Rattle.mv_attach.proofs.Says.{always_wait}
 use Rattle.mv_server.specs.Pool.{workers, hand_out_events}
-use Rattle.mv_server.specs.Right.{StaysReady}
-use Rattle.mv_server.proofs.Always.{stays_after, stays_more, handed_out, always_wait}
+use Rattle.mv_server.specs.Right.{IsRight, StaysReady}
+use Rattle.mv_server.proofs.Always.{stays_after, stays_more, handed_out}
 use Rattle.mv_server.proofs.Waits.{own_block, unrefused_idle}
 use Rattle.mv_server.proofs.server.hand_out.Goals as goal
 use Rattle.mv_server.proofs.server.hand_out.Goals.{in-Complete+in-Ok-clear+else-is_ok, in_default-found}
@@ -24,7 +25,8 @@ loop-worker-init g c =
     let t = c.args.task.now in
     stays_after b c.args.requests.now (2 * workers) (wait b.config 1 (range_with_len 0 workers))
     (λ a. a ≡ wait_answer c.wait.result c.wait.new.out) t c.wait.new.task c.wait.ensures.served c.requires.ready.ready
-    (always_wait c.args.requests.now t.number b.config 1 (range_with_len 0 workers) (kept_of t.number t.log))
+    (always_wait (IsRight c.args.requests.now t.number) b.config 1 (range_with_len 0 workers) (kept_of t.number t.log)
+    (tt, (tt, (tt, tt))) (tt, (tt, (tt, tt))))
 
 pub unreachable-requires-in_default-clear : goal.unreachable-requires-in_default-clear
 unreachable-requires-in_default-clear g c =

@@ -3,8 +3,10 @@ use Rattle.mv_machine.specs.Setup.{element_count}
 use Rattle.mv_calls.specs.Keeping.{kept_of}
 use Rattle.mv_calls.specs.Pauses.{allocate}
 use Rattle.mv_pause.specs.Answers.{allocate_answer}
+use Rattle.mv_attach.proofs.Says.{always_allocate}
 use Rattle.mv_server.specs.Pool.{workers, worker_events}
-use Rattle.mv_server.proofs.Always.{stays_after, stays_then, stays_more, told, begun_round, always_allocate}
+use Rattle.mv_server.specs.Right.{IsRight}
+use Rattle.mv_server.proofs.Always.{stays_after, stays_then, stays_more, told, begun_round}
 use Rattle.mv_server.proofs.Pool.{right_answer}
 use Rattle.mv_server.proofs.Tokens.{own_token, first_free, may_pause_first, may_pause_still, may_pause_next}
 use Rattle.mv_server.proofs.server.work.Goals as goal
@@ -22,7 +24,8 @@ loop-round-init g c =
     let requests = c.args.requests.now in
     let t = c.args.task.now in record {
       kept = stays_after b requests 1 (allocate b.config) (λ a. a ≡ allocate_answer c.allocate.result) t c.allocate.new.task
-          c.allocate.ensures.served c.requires.ready (always_allocate requests t.number b.config (kept_of t.number t.log));
+          c.allocate.ensures.served c.requires.ready
+          (always_allocate (IsRight requests t.number) b.config (kept_of t.number t.log) (λ n. tt));
       element = c.in-Ok.ensures.own.0;
       may = may_pause_first b.config c.in-Ok.token t c.allocate.new.task c.in-Ok.ensures.served c.in-Ok.ensures.causes
           c.in-Ok.ensures.own.1;
