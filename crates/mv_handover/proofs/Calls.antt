@@ -1,5 +1,5 @@
 -- What a take and a put add to a task's log, and that the task is ready behind them. Used by take and put.
-use Rattle.std.proofs.Common.{◌≡◌, ℕ, ◌+◌, ◌==◌, Bool, true, false, not, List, [], ◌∷◌, ◌++◌, Result, Ok, refl, ap}
+use Rattle.std.proofs.Common.{◌≡◌, ℕ, ◌==◌, Bool, true, false, not, List, [], ◌∷◌, ◌++◌, Result, Ok, refl, ap}
 use Rattle.std.proofs.Common.{◌∙◌, arith, append_assoc, if◌then◌else◌}
 use Rattle.std.proofs.lemmas.Bool.{eq-eqb}
 use Rattle.mv_ecb.specs.declared.operation.EcbOp.TheVariants.{Clear, Post}
