@@ -13,3 +13,9 @@ pub mod Obtains
 pub mod Listening
 -- tasks in a queue
 pub mod Queues
+-- the spool that is polled: the call of a need, from its first poll to its answer
+pub mod Calls
+-- a task that is polled, from one state to the next
+pub mod Polling
+-- from tasks that are all finished to the run that they made
+pub mod Running

@@ -1,24 +1,32 @@
 //! Waits, pauses and obtains that are polled: each makes its events as far as it can, and says whether its task has to be polled
-//! again. Nothing here parks.
+//! again. Nothing here parks. The spool's tasks run so too, all on one thread.
 #![tactic(auto)]
 
 mod keys;
+mod meeting;
 mod obtaining;
+mod order;
 mod pause_future;
 mod pausing;
+mod polled;
+mod spool;
 mod turn;
 mod wait_future;
 mod waiting;
 
 pub use keys::{key, rung};
 pub use obtaining::ObtainCall;
+pub use order::{Order, RoundOrder};
 pub use pause_future::PauseFuture;
 pub use pausing::PauseCall;
+pub use spool::run_polled;
 pub use turn::{Stage, Turn};
 pub use wait_future::WaitFuture;
 pub use waiting::WaitCall;
 
 #[cfg(test)]
 mod ring_tests;
+#[cfg(test)]
+mod spool_tests;
 #[cfg(test)]
 mod tests;

@@ -1,0 +1,81 @@
+-- The call of a need, from its first poll to its answer.
+use Rattle.std.proofs.Common.{◌≡◌, ℕ, ◌*◌, List, length, take, Option, Result, refl, sym, ap, subst, arith}
+use Rattle.std.proofs.lemmas.List.{length-take-le}
+use Rattle.mv_board.specs.Faces.{BoardFace, CallerFace}
+use Rattle.mv_calls.specs.LatchCalls.{Obtained, obtain}
+use Rattle.mv_calls.specs.Refusal.{Refusal}
+use Rattle.mv_calls.specs.Waits.{wait}
+use Rattle.mv_latch.specs.declared.request.LatchForm.TheVariants.{Waiting}
+use Rattle.mv_latch.specs.declared.request.Mode.{Mode}
+use Rattle.mv_machine.specs.Setup.{Setup}
+use Rattle.mv_polled.specs.Waiting.{WaitFace, IsWaitAt}
+use Rattle.mv_polled.specs.Pausing.{PauseFace, IsPauseAt}
+use Rattle.mv_polled.specs.Obtaining.{ObtainFace, IsObtainAt}
+use Rattle.mv_polled.specs.declared.meeting.Call.{Call}
+use Rattle.mv_polled.specs.declared.meeting.Call.TheVariants as call
+use Rattle.mv_polled.specs.declared.meeting.Meeting.{Meeting}
+use Rattle.mv_polled.specs.Meeting.{IsCallOf, IsMeeting, IsNeed, IsTaken, IsTakenUp}
+use Rattle.mv_wait.specs.Run.{IsServed}
+use Rattle.mv_work.specs.declared.need.Need.{Need}
+use Rattle.mv_work.specs.declared.need.Need.TheVariants as need
+use Rattle.mv_work.specs.Meeting.{MayMeet}
+use Rattle.mv_work.specs.Needs.{need_events}
+use Rattle.mv_work.specs.Waiting.{IsResting}
+
+-- a need that can be met fits a meeting
+pub need_fits : (c : Setup) (n : Need) → MayMeet c n → IsNeed n
+need_fits c (need.Blocks b) may = (may.0, may.1)
+need_fits c (need.Pause token) may = tt
+need_fits c (need.Latch latch requestor mode) may = tt
+
+taken_meets : (b : BoardFace) (n : Need) (k : Call) (w : WaitFace) (u : CallerFace) → IsResting b (need_events n) u → MayMeet b.config n
+    → IsTaken n k w → IsCallOf b.config n k w u u
+taken_meets b (need.Blocks bl) call.Wait w u rests may is =
+    let len : length (take bl.len bl.of) ≡ bl.len = length-take-le bl.len bl.of (let few = may.0 in let room = may.1 in omega arith) in
+    let left = rests.left in (
+      ap (λ (f : WaitFace). f.count) is,
+      ap (λ (f : WaitFace). f.ecbs) is,
+      may.0,
+      may.1,
+      subst (λ (f : WaitFace). IsWaitAt b.config f u u) (sym is)
+          (refl, record { rest = rests.quiet; blocks = may.2; left = omega arith }),
+    )
+taken_meets b (need.Pause token) (call.Pause p) w u rests may is = (
+  ap (λ (f : PauseFace). f.token) is,
+  subst (λ (f : PauseFace). IsPauseAt b.config f u u) (sym is) (refl, record { rest = rests.quiet; element = may; left = rests.left }),
+)
+taken_meets b (need.Latch latch requestor mode) (call.Obtain q) w u rests may is = (
+  ap (λ (f : ObtainFace). f.latch) is,
+  ap (λ (f : ObtainFace). f.requestor) is,
+  ap (λ (f : ObtainFace). f.mode) is,
+  subst (λ (f : ObtainFace). IsObtainAt b.config f u u) (sym is) (refl, record { rest = rests.quiet; left = rests.left }),
+)
+taken_meets b (need.Blocks bl) call.Nothing w u rests may is = absurd is
+taken_meets b (need.Blocks bl) (call.Pause p) w u rests may is = absurd is
+taken_meets b (need.Blocks bl) (call.Obtain q) w u rests may is = absurd is
+taken_meets b (need.Pause token) call.Nothing w u rests may is = absurd is
+taken_meets b (need.Pause token) call.Wait w u rests may is = absurd is
+taken_meets b (need.Pause token) (call.Obtain q) w u rests may is = absurd is
+taken_meets b (need.Latch latch requestor mode) call.Nothing w u rests may is = absurd is
+taken_meets b (need.Latch latch requestor mode) call.Wait w u rests may is = absurd is
+taken_meets b (need.Latch latch requestor mode) (call.Pause p) w u rests may is = absurd is
+
+-- the call of a need that was taken up may be polled for the first time
+pub new_meets : (b : BoardFace) (n : Need) (m : Meeting) (u : CallerFace) → IsResting b (need_events n) u → MayMeet b.config n
+    → IsTakenUp n m → IsMeeting b.config n m u u
+new_meets b n m u rests may is = taken_meets b n m.call m.wait u rests may is
+
+-- ---- calls that are the same
+
+pub wait_so : (c : Setup) {n m : ℕ} {es fs : List ℕ} (a : Result (List (Option ℕ)) Refusal) {t u : CallerFace} → n ≡ m → es ≡ fs
+    → IsServed (2 * length es) (wait c n es) (λ b. b ≡ a) t u → IsServed (2 * length fs) (wait c m fs) (λ b. b ≡ a) t u
+wait_so c {n} {m} {es} {fs} a {t} {u} is so x =
+    subst (λ gs. IsServed (2 * length gs) (wait c m gs) (λ b. b ≡ a) t u) so
+    (subst (λ k. IsServed (2 * length es) (wait c k es) (λ b. b ≡ a) t u) is x)
+
+pub obtain_so : (c : Setup) {l m r s : ℕ} {mode kind : Mode} (a : Result Obtained Refusal) {t u : CallerFace} → l ≡ m → r ≡ s → mode ≡ kind
+    → IsServed 2 (obtain c l r mode Waiting) (λ b. b ≡ a) t u → IsServed 2 (obtain c m s kind Waiting) (λ b. b ≡ a) t u
+obtain_so c {l} {m} {r} {s} {mode} {kind} a {t} {u} is so as_is x =
+    subst (λ k. IsServed 2 (obtain c m s k Waiting) (λ b. b ≡ a) t u) as_is
+    (subst (λ q. IsServed 2 (obtain c m q mode Waiting) (λ b. b ≡ a) t u) so
+    (subst (λ n. IsServed 2 (obtain c n r mode Waiting) (λ b. b ≡ a) t u) is x))

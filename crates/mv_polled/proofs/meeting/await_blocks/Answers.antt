@@ -1,0 +1,47 @@
+use Rattle.std.proofs.Common.{ℕ, List, length, take, Ok, Err, sym, ap, ◌∙◌, subst, arith}
+use Rattle.std.proofs.lemmas.List.{length-take-le}
+use Rattle.mv_calls.specs.Program.{Done}
+use Rattle.mv_work.specs.declared.need.Need.TheVariants as need
+use Rattle.mv_work.specs.Needs.{Slots, need_call}
+use Rattle.mv_work.specs.Ran.{Ran}
+use Rattle.mv_polled.specs.Waiting.{IsWaited}
+use Rattle.mv_wait.specs.Answers.{slots_of, wait_refused}
+use Rattle.mv_wait.specs.declared.waiting.WaitSlot.{WaitSlot}
+use Rattle.mv_work.proofs.Meeting.{blocks_met, blocks_unmet}
+use Rattle.mv_work.proofs.Runs.{served_few}
+use Rattle.mv_polled.proofs.Calls.{wait_so}
+use Rattle.mv_polled.proofs.meeting.await_blocks.Goals as goal
+
+pub returns-in-Ready-Ok-clause-turn : goal.returns-in-Ready-Ok-clause-turn
+returns-in-Ready-Ok-clause-turn g c b t does =
+    let config = c.args.station.now.config in
+    let u = c.poll.new.task in
+    let w = c.poll.new.self in
+    let call = c.poll.ensures.call in
+    let waited = subst (λ r. IsWaited config w r t u) c.in-Ready-Ok.field-0-is (c.in-Ready-Ok.ensures.turn t does.4) in
+    let es = call.1 ∙ does.1 in
+    let slots = c.slots.ensures in
+    let few = does.2 in
+    let room = does.3 in
+    let size = ap (λ (xs : List WaitSlot). length xs) slots ∙ waited.causes.2 ∙ ap (λ (xs : List ℕ). length xs) es
+    ∙ length-take-le b.len b.of (omega arith) in
+    let told = c.slots_in.ensures.slots in
+    let served = wait_so config (Ok (slots_of w.slots)) (call.0 ∙ does.0) es waited.served in
+    let fits = served_few served in
+    let len = length-take-le b.len b.of (omega arith) in (
+      c.slots_in.ensures.len ∙ size,
+      subst (λ (xs : List WaitSlot). Ran (need_call config (need.Blocks b)) (Done (Slots (slots_of xs))) t u)
+          (sym slots ∙ sym told ∙ ap (λ k. take k c.slots_in.result.of) (sym c.slots_in.ensures.len))
+          (blocks_met config b served),
+      omega arith,
+    )
+
+pub returns-in-Ready-Err-clause-turn : goal.returns-in-Ready-Err-clause-turn
+returns-in-Ready-Err-clause-turn g c b t does =
+    let config = c.args.station.now.config in
+    let u = c.poll.new.task in
+    let w = c.poll.new.self in
+    let call = c.poll.ensures.call in
+    let waited = subst (λ r. IsWaited config w r t u) c.in-Ready-Err.field-0-is (c.in-Ready-Err.ensures.turn t does.4) in
+    blocks_unmet config b
+    (wait_so config (Err (wait_refused c.in-Ready-Err.field-0-0)) (call.0 ∙ does.0) (call.1 ∙ does.1) waited.served)

@@ -1,0 +1,62 @@
+use Rattle.std.proofs.Common.{◌+◌, ◌<◌, sym, ap, ◌∙◌, subst}
+use Rattle.mv_board.specs.Faces.{CallerFace, IsFresh}
+use Rattle.mv_polled.proofs.Polling.{fits, new_stands, stands_next}
+use Rattle.mv_work.specs.declared.work.Work.{Work}
+use Rattle.mv_work.specs.Parts.{jobs_of}
+use Rattle.mv_work.specs.Works.{HasCome, IsNew}
+use Rattle.mv_polled.proofs.polled.Polled.begin.Goals as goal
+
+pub begin-need-requires-clause-number : goal.begin-need-requires-clause-number
+begin-need-requires-clause-number g c =
+    let p = c.requires.polled in
+    let i = c.args.initiators in
+    let s = new_stands c.args.station.now (jobs_of c.args.deck.now) i c.requires.spool.config p.0 c.args.self.now p.2 c.requires.new in
+    subst (λ m. m < i + 3) (sym (ap (λ (f : CallerFace). f.number) s.0 ∙ p.2.fresh.number)) p.1
+
+pub begin-need-requires-clause-fresh : goal.begin-need-requires-clause-fresh
+begin-need-requires-clause-fresh g c =
+    let p = c.requires.polled in
+    let b = c.args.station.now in
+    let t = c.args.self.now.task in
+    let s = new_stands b (jobs_of c.args.deck.now) c.args.initiators c.requires.spool.config p.0 c.args.self.now p.2 c.requires.new in
+    subst (λ m. IsFresh b m t) (sym (ap (λ (f : CallerFace). f.number) s.0 ∙ p.2.fresh.number))
+    (subst (λ f. IsFresh b p.0 f) (sym s.0) p.2.fresh)
+
+pub begin-need-requires-clause-new : goal.begin-need-requires-clause-new
+begin-need-requires-clause-new g c =
+    let p = c.requires.polled in
+    let deck = jobs_of c.args.deck.now in
+    let i = c.args.initiators in
+    let s = new_stands c.args.station.now deck i c.requires.spool.config p.0 c.args.self.now p.2 c.requires.new in
+    subst (λ m. IsNew deck i m c.args.self.now.work) (sym (ap (λ (f : CallerFace). f.number) s.0 ∙ p.2.fresh.number)) s.1
+
+pub take_up-requires-clause-room : goal.take_up-requires-clause-room
+take_up-requires-clause-room g c = c.requires.polled.2.room
+
+pub take_up-requires-clause-need : goal.take_up-requires-clause-need
+take_up-requires-clause-need g c =
+    fits c.args.station.now (jobs_of c.args.deck.now) c.args.initiators c.requires.spool.config c.begin-need.new.self c.begin-need.result
+    c.args.self.now.task c.begin-need.new.task c.begin-need.ensures
+
+pub returns : goal.returns
+returns g c = record {
+  polled = λ k lt old.
+      let b = c.args.station.now in
+      let deck = jobs_of c.args.deck.now in
+      let i = c.args.initiators in
+      let need = c.begin-need.result in
+      let u = c.begin-need.new.task in
+      let work = c.begin-need.new.self in
+      let p = c.take_up.new.self in
+      let same = c.take_up.ensures.same in
+      let was = new_stands b deck i c.requires.spool.config k c.args.self.now old c.requires.new in
+      let come = subst (λ (t : CallerFace). HasCome b deck i work t need u) was.0 c.begin-need.ensures in
+      let come_so = subst (λ (w : Work). HasCome b deck i w old.new need p.task) (sym same.1)
+      (subst (λ (f : CallerFace). HasCome b deck i work old.new need f) (sym same.0) come) in
+      record {
+        new = old.new;
+        fresh = old.fresh;
+        room = c.take_up.ensures.room;
+        stands = stands_next b deck i c.requires.spool.config k old.new p need come_so c.take_up.ensures.taken;
+      };
+}

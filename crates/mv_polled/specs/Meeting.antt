@@ -1,0 +1,59 @@
+-- The call of what a task waits for, polled. The task was u before the first poll, and is v.
+use Rattle.std.specs.Prelude.{◌≡◌, ℕ, ◌≤◌, length, take}
+use Rattle.mv_board.specs.Faces.{CallerFace}
+use Rattle.mv_element.specs.declared.element.Token.{Token}
+use Rattle.mv_latch.specs.declared.request.Mode.{Mode}
+use Rattle.mv_machine.specs.Setup.{Setup}
+use Rattle.mv_polled.specs.Waiting.{WaitFace, new_wait, IsWaitAt}
+use Rattle.mv_polled.specs.Pausing.{PauseFace, new_pause, IsPauseAt}
+use Rattle.mv_polled.specs.Obtaining.{ObtainFace, new_obtain, IsObtainAt}
+use Rattle.mv_polled.specs.declared.meeting.Call.{Call}
+use Rattle.mv_polled.specs.declared.meeting.Call.TheVariants as call
+use Rattle.mv_polled.specs.declared.meeting.Meeting.{Meeting}
+use Rattle.mv_work.specs.declared.need.Blocks.{Blocks}
+use Rattle.mv_work.specs.declared.need.Need.{Need}
+use Rattle.mv_work.specs.declared.need.Need.TheVariants as need
+
+-- there is room for a wait for eight blocks
+abbrev pub HasRoom : Meeting → Type 0
+HasRoom m = m.wait.room ≡ 8
+
+-- at most eight blocks are needed
+abbrev pub IsNeed : Need → Type 0
+IsNeed (need.Blocks b) = (b.len ≤ 8) × (length b.of ≡ 8)
+IsNeed (need.Pause token) = Unit {0}
+IsNeed (need.Latch latch requestor mode) = Unit {0}
+
+-- the call of the need was taken up, and not polled yet
+abbrev pub IsTaken : Need → Call → WaitFace → Type 0
+IsTaken (need.Blocks b) call.Wait w = w ≡ new_wait 8 b.count (take b.len b.of)
+IsTaken (need.Pause token) (call.Pause p) w = p ≡ new_pause token
+IsTaken (need.Latch latch requestor mode) (call.Obtain q) w = q ≡ new_obtain latch requestor mode
+IsTaken n c w = ⊥
+
+abbrev pub IsTakenUp : Need → Meeting → Type 0
+IsTakenUp n m = IsTaken n m.call m.wait
+
+-- a wait for these blocks may be polled
+abbrev pub IsWaitFor : Setup → Blocks → WaitFace → CallerFace → CallerFace → Type 0
+IsWaitFor c b w u v =
+    (w.count ≡ b.count) × (w.ecbs ≡ take b.len b.of) × (b.len ≤ 8) × (length b.of ≡ 8) × IsWaitAt c w u v
+
+-- a pause with this token
+abbrev pub IsPauseFor : Setup → Token → PauseFace → CallerFace → CallerFace → Type 0
+IsPauseFor c token p u v = (p.token ≡ token) × IsPauseAt c p u v
+
+-- an obtain of this latch
+abbrev pub IsObtainFor : Setup → ℕ → ℕ → Mode → ObtainFace → CallerFace → CallerFace → Type 0
+IsObtainFor c latch requestor mode q u v =
+    (q.latch ≡ latch) × (q.requestor ≡ requestor) × (q.mode ≡ mode) × IsObtainAt c q u v
+
+-- the call of the need may be polled
+abbrev pub IsCallOf : Setup → Need → Call → WaitFace → CallerFace → CallerFace → Type 0
+IsCallOf c (need.Blocks b) call.Wait w u v = IsWaitFor c b w u v
+IsCallOf c (need.Pause token) (call.Pause p) w u v = IsPauseFor c token p u v
+IsCallOf c (need.Latch latch requestor mode) (call.Obtain q) w u v = IsObtainFor c latch requestor mode q u v
+IsCallOf c n k w u v = ⊥
+
+abbrev pub IsMeeting : Setup → Need → Meeting → CallerFace → CallerFace → Type 0
+IsMeeting c n m u v = IsCallOf c n m.call m.wait u v

@@ -1,0 +1,64 @@
+-- A task that is polled, and that it makes what its program says. It is task k of a deck that i initiators run, and was t when it was
+-- new.
+use Rattle.std.specs.Prelude.{◌≡◌, ℕ, ◌<◌, Bool, true, false, not, List, filter, length, take, slice_index_or, Option, Some, None}
+use Rattle.mv_board.specs.Faces.{BoardFace, CallerFace, IsFresh, IsSame}
+use Rattle.mv_deck.specs.Deck.{JobData}
+use Rattle.mv_polled.specs.declared.meeting.Meeting.{Meeting}
+use Rattle.mv_polled.specs.declared.polled.Polled.{Polled}
+use Rattle.mv_polled.specs.declared.polled.State.{State}
+use Rattle.mv_polled.specs.declared.polled.State.TheVariants.{New, Waits, Finished}
+use Rattle.mv_polled.specs.Meeting.{HasRoom, IsMeeting, IsTakenUp}
+use Rattle.mv_work.specs.declared.need.Need.{Need}
+use Rattle.mv_work.specs.Works.{IsNew, HasCome}
+
+-- a task that waits in a call which it began as it was at u
+abbrev pub IsWaiting : BoardFace → List JobData → ℕ → CallerFace → Polled → Type 0
+IsWaiting b deck i t p = (n : Need) × (u : CallerFace) × HasCome b deck i p.work t (Some n) u × IsSame u p.task
+    × IsMeeting b.config n p.meeting u p.task
+
+-- what has come of the task
+abbrev pub Stands : BoardFace → List JobData → ℕ → ℕ → CallerFace → Polled → State → Type 0
+Stands b deck i k t p New = (p.task ≡ t) × IsNew deck i k p.work
+Stands b deck i k t p Waits = IsWaiting b deck i t p
+Stands b deck i k t p Finished = HasCome b deck i p.work t None p.task
+
+pub record IsPolled (b : BoardFace) (deck : List JobData) (i k : ℕ) (p : Polled) : Type 0 where
+  pub new : CallerFace
+  pub fresh : IsFresh b k new
+  pub room : HasRoom p.meeting
+  pub stands : Stands b deck i k new p p.state
+
+-- each task is polled, in the order of the numbers
+abbrev pub ArePolled : BoardFace → List JobData → ℕ → List Polled → Type 0
+ArePolled b deck i ps = (k : ℕ) (d : Polled) → k < length ps → IsPolled b deck i k (slice_index_or ps k d)
+
+-- it was not polled, and has the room that its work needs
+pub record IsUnpolled (deck : List JobData) (i : ℕ) (p : Polled) : Type 0 where
+  pub state : p.state ≡ New
+  pub work : IsNew deck i p.task.number p.work
+  pub room : HasRoom p.meeting
+
+-- what is needed next is taken up, or the task is finished
+abbrev pub HasTakenUp : Option Need → State → Meeting → Type 0
+HasTakenUp (Some n) s m = (s ≡ Waits) × IsTakenUp n m
+HasTakenUp None s m = s ≡ Finished
+
+-- it makes no more events
+abbrev pub is_over : State → Bool
+is_over New = false
+is_over Waits = false
+is_over Finished = true
+
+abbrev pub is_finished : Polled → Bool
+is_finished p = is_over p.state
+
+-- those that make events still, in the order of the numbers
+abbrev pub unfinished : List Polled → List Polled
+unfinished ps = filter (λ p. not (is_finished p)) ps
+
+-- the unfinished task of this number may have gone on, and no other has
+pub record IsPicked (number : ℕ) (old new : List Polled) : Type 0 where
+  pub place : ℕ
+  pub before : length (unfinished (take place old)) ≡ number
+  pub here : (d : Polled) → is_finished (slice_index_or old place d) ≡ false
+  pub others : (k : ℕ) (d : Polled) → (k ≡ place → ⊥) → slice_index_or new k d ≡ slice_index_or old k d

@@ -1,0 +1,159 @@
+//! The call of what a task waits for, polled. Clauses cite `specs/Meeting.antt`.
+
+ghost use Rattle.std.specs.Prelude.{◌≡◌, ◌≤◌, ℕ, length, IfOk};
+ghost use Rattle.mv_board.specs.Faces.{CallerFace, IsOf, IsSame};
+ghost use Rattle.mv_element.specs.declared.element.Token.{Token as TokenValue};
+ghost use Rattle.mv_latch.specs.declared.request.Mode.{Mode as ModeValue};
+ghost use Rattle.mv_polled.specs.Obtaining.{IsObtainAt};
+ghost use Rattle.mv_polled.specs.Pausing.{IsPauseAt};
+ghost use Rattle.mv_polled.specs.Turn.{MatchTurn};
+ghost use Rattle.mv_polled.specs.Waiting.{IsWaitAt};
+ghost use Rattle.mv_polled.specs.Meeting.{HasRoom, IsMeeting, IsNeed, IsTakenUp, IsWaitFor, IsPauseFor, IsObtainFor};
+ghost use Rattle.mv_work.specs.Meeting.{IsMet};
+ghost use Rattle.mv_work.specs.declared.need.Blocks.{Blocks as BlocksValue};
+ghost use Rattle.mv_work.specs.declared.need.Need.{Need as NeedValue};
+ghost use Rattle.mv_work.specs.declared.need.Need.TheVariants as need;
+
+use crate::{ObtainCall, PauseCall, Turn, WaitCall};
+use mv_io::NoMemory;
+use mv_latchset::Obtained;
+use mv_wait::{Station, Task};
+use mv_work::{Got, Lost, MOST_BLOCKS, Need, slots_in};
+use std::alloc::Global;
+use std::sync::Wait;
+
+/// Which call is polled.
+#[derive(Drop)]
+pub(crate) enum Call {
+    Nothing,
+    /// The wait that the meeting has room for.
+    Wait,
+    Pause(PauseCall),
+    Obtain(ObtainCall),
+}
+
+/// The call of what a task waits for, with the room of each wait that it may need.
+#[derive(Drop)]
+pub(crate) struct Meeting {
+    pub wait: WaitCall,
+    pub call: Call,
+}
+
+impl Meeting {
+    /// A meeting of nothing, with all memory that later ones use.
+    pub(crate) fn new(alloc: Global) -> Result<Meeting, NoMemory>
+        ensures { IfOk result HasRoom }
+    {
+        Ok(Meeting {
+            wait: WaitCall::with_room(alloc, MOST_BLOCKS)?,
+            call: Call::Nothing,
+        })
+    }
+
+    /// Takes up the call of this need, which is not polled yet.
+    pub(crate) fn take_up(&mut self, need: Need)
+        requires room { HasRoom self.old }
+        requires need { IsNeed need }
+        ensures room { HasRoom self.new }
+        ensures taken { IsTakenUp need self.new }
+    {
+        match need {
+            Need::Blocks(blocks) => {
+                self.wait.renew(blocks.count, &blocks.of[..blocks.len]);
+                self.call = Call::Wait;
+            }
+            Need::Pause(token) => self.call = Call::Pause(PauseCall::new(token)),
+            Need::Latch(latch, requestor, mode) => {
+                self.call = Call::Obtain(ObtainCall::new(latch, requestor, mode));
+            }
+        }
+    }
+
+    /// Polls the call: what the task is told once it has an answer, or that it is lost.
+    pub(crate) fn poll<R: Wait>(
+        &mut self,
+        rt: &R,
+        station: &Station,
+        task: &mut Task,
+    ) -> Turn<Result<Got, Lost>>
+        requires task { IsOf station.now task.old }
+        requires room { HasRoom self.old }
+        requires meeting { (n : NeedValue) × (t : CallerFace) × IsMeeting station.now.config n self.old t task.old }
+        ensures room { HasRoom self.new }
+        ensures same { IsSame task.old task.new }
+        ensures turn { (n : NeedValue) (t : CallerFace) → IsMeeting station.now.config n self.old t task.old → MatchTurn result
+            (λ r. IsMet station.now.config n t r task.new) (IsMeeting station.now.config n self.new t task.new) }
+    {
+        match &mut self.call {
+            Call::Wait => await_blocks(rt, station, task, &mut self.wait),
+            Call::Pause(call) => await_release(rt, station, task, call),
+            Call::Obtain(call) => await_grant(rt, station, task, call),
+            Call::Nothing => unreachable!(),
+        }
+    }
+}
+
+// Polls a wait of at most eight blocks.
+fn await_blocks<R: Wait>(
+    rt: &R,
+    station: &Station,
+    task: &mut Task,
+    call: &mut WaitCall,
+) -> Turn<Result<Got, Lost>>
+    requires task { IsOf station.now task.old }
+    requires stage { (t : CallerFace) × IsWaitAt station.now.config call.old t task.old }
+    requires few { length call.old.ecbs ≤ 8 }
+    ensures room { call.new.room ≡ call.old.room }
+    ensures same { IsSame task.old task.new }
+    ensures turn { (b : BlocksValue) (t : CallerFace) → IsWaitFor station.now.config b call.old t task.old → MatchTurn result
+        (λ r. IsMet station.now.config (need.Blocks b) t r task.new) (IsWaitFor station.now.config b call.new t task.new) }
+{
+    match call.poll(station, rt, task) {
+        Turn::Pending => Turn::Pending,
+        Turn::Ready(Ok(())) => Turn::Ready(Ok(Got::Slots(slots_in(call.slots())))),
+        Turn::Ready(Err(_)) => Turn::Ready(Err(Lost)),
+    }
+}
+
+// Polls a pause.
+fn await_release<R: Wait>(
+    rt: &R,
+    station: &Station,
+    task: &mut Task,
+    call: &mut PauseCall,
+) -> Turn<Result<Got, Lost>>
+    requires task { IsOf station.now task.old }
+    requires stage { (t : CallerFace) × IsPauseAt station.now.config call.old t task.old }
+    ensures same { IsSame task.old task.new }
+    ensures turn { (token : TokenValue) (t : CallerFace) → IsPauseFor station.now.config token call.old t task.old → MatchTurn result
+        (λ r. IsMet station.now.config (need.Pause token) t r task.new) (IsPauseFor station.now.config token call.new t task.new) }
+{
+    match call.poll(station, rt, task) {
+        Turn::Pending => Turn::Pending,
+        Turn::Ready(Ok(given)) => Turn::Ready(Ok(Got::Given(given))),
+        Turn::Ready(Err(_)) => Turn::Ready(Err(Lost)),
+    }
+}
+
+// Polls an obtain.
+fn await_grant<R: Wait>(
+    rt: &R,
+    station: &Station,
+    task: &mut Task,
+    call: &mut ObtainCall,
+) -> Turn<Result<Got, Lost>>
+    requires task { IsOf station.now task.old }
+    requires stage { (t : CallerFace) × IsObtainAt station.now.config call.old t task.old }
+    ensures same { IsSame task.old task.new }
+    ensures turn { (latch requestor : ℕ) (mode : ModeValue) (t : CallerFace)
+        → IsObtainFor station.now.config latch requestor mode call.old t task.old → MatchTurn result
+        (λ r. IsMet station.now.config (need.Latch latch requestor mode) t r task.new)
+        (IsObtainFor station.now.config latch requestor mode call.new t task.new) }
+{
+    match call.poll(station, rt, task) {
+        Turn::Pending => Turn::Pending,
+        Turn::Ready(Ok(Obtained::Granted(token))) => Turn::Ready(Ok(Got::Granted(token))),
+        Turn::Ready(Ok(Obtained::Pending(_))) => Turn::Ready(Err(Lost)),
+        Turn::Ready(Err(_)) => Turn::Ready(Err(Lost)),
+    }
+}

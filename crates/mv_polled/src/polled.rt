@@ -1,0 +1,150 @@
+//! A task that is polled. Clauses cite `specs/Polled.antt`.
+
+ghost use Rattle.std.specs.Prelude.{◌≡◌, ◌<◌, ◌≤◌, ◌+◌, ℕ, IfSome, IfOk};
+ghost use Rattle.mv_deck.specs.Weight.{most_initiators};
+ghost use Rattle.mv_polled.specs.Meeting.{HasRoom, IsNeed};
+ghost use Rattle.mv_polled.specs.Polled.{HasTakenUp, IsPolled, IsUnpolled, is_finished};
+ghost use Rattle.mv_polled.specs.declared.polled.State.TheVariants as state;
+ghost use Rattle.mv_work.specs.Parts.{jobs_of};
+ghost use Rattle.mv_work.specs.Waiting.{IsSpool};
+
+use crate::Turn;
+use crate::meeting::Meeting;
+use mv_deck::Job;
+use mv_io::NoMemory;
+use mv_task::OpenGate;
+use mv_wait::{Station, Task};
+use mv_work::{Need, Work};
+use std::alloc::Global;
+use std::sync::Wait;
+
+/// How far a task has come.
+#[derive(Clone, Copy)]
+pub(crate) enum State {
+    /// It was not polled.
+    New,
+    /// It waits in a call.
+    Waits,
+    /// It makes no more events.
+    Finished,
+}
+
+/// A task that is polled, with its work and the call that it waits in.
+#[derive(Drop)]
+pub(crate) struct Polled {
+    pub task: Task,
+    pub work: Work,
+    pub meeting: Meeting,
+    pub state: State,
+}
+
+impl Polled {
+    /// A task that was not polled, with all memory that its polls use.
+    pub(crate) fn new(
+        alloc: Global,
+        task: Task,
+        deck: &[Job],
+        initiators: u32,
+    ) -> Result<Polled, NoMemory>
+        requires few { initiators ≤ most_initiators }
+        ensures task { IfOk result (λ p. p.task ≡ task) }
+        ensures new { IfOk result (IsUnpolled (jobs_of deck.now) initiators) }
+    {
+        let work = Work::new(alloc, deck, initiators, task.number())?;
+        Ok(Polled {
+            task,
+            work,
+            meeting: Meeting::new(alloc)?,
+            state: State::New,
+        })
+    }
+
+    /// Whether the task makes no more events.
+    pub(crate) fn is_finished(&self) -> bool
+        ensures { result ≡ is_finished self.now }
+    {
+        matches!(self.state, State::Finished)
+    }
+
+    /// Goes on with the task as far as it can: until it waits for what is not so, or is finished. It takes no memory.
+    pub(crate) fn poll<R: Wait>(&mut self, rt: &R, station: &Station, deck: &[Job], initiators: u32)
+        requires spool { IsSpool station.now deck.now initiators }
+        requires polled { (k : ℕ) × (k < initiators + 3) × IsPolled station.now (jobs_of deck.now) initiators k self.old }
+        ensures polled { (k : ℕ) → k < initiators + 3 → IsPolled station.now (jobs_of deck.now) initiators k self.old
+            → IsPolled station.now (jobs_of deck.now) initiators k self.new }
+    {
+        for _ in rt.forever() {
+            match self.state {
+                State::New => self.begin(rt, station, deck, initiators),
+                State::Waits => {
+                    if !self.advance(rt, station, deck, initiators) {
+                        return;
+                    }
+                }
+                State::Finished => return,
+            }
+        }
+    }
+
+    // Begins the task, up to its first wait.
+    fn begin<R: Wait>(&mut self, rt: &R, station: &Station, deck: &[Job], initiators: u32)
+        requires spool { IsSpool station.now deck.now initiators }
+        requires polled { (k : ℕ) × (k < initiators + 3) × IsPolled station.now (jobs_of deck.now) initiators k self.old }
+        requires new { self.old.state ≡ state.New }
+        ensures polled { (k : ℕ) → k < initiators + 3 → IsPolled station.now (jobs_of deck.now) initiators k self.old
+            → IsPolled station.now (jobs_of deck.now) initiators k self.new }
+    {
+        let need = self
+            .work
+            .begin(rt, station, &mut self.task, deck, initiators, &OpenGate);
+        self.take_up(need);
+    }
+
+    // Polls the call that the task waits in, and goes on behind its answer up to the next wait: whether there was one.
+    fn advance<R: Wait>(&mut self, rt: &R, station: &Station, deck: &[Job], initiators: u32) -> bool
+        requires spool { IsSpool station.now deck.now initiators }
+        requires polled { (k : ℕ) × (k < initiators + 3) × IsPolled station.now (jobs_of deck.now) initiators k self.old }
+        requires waits { self.old.state ≡ state.Waits }
+        ensures polled { (k : ℕ) → k < initiators + 3 → IsPolled station.now (jobs_of deck.now) initiators k self.old
+            → IsPolled station.now (jobs_of deck.now) initiators k self.new }
+    {
+        match self.meeting.poll(rt, station, &mut self.task) {
+            Turn::Pending => false,
+            Turn::Ready(Err(_)) => {
+                self.state = State::Finished;
+                true
+            }
+            Turn::Ready(Ok(got)) => {
+                let work = &mut self.work;
+                let need = work.go_on(
+                    rt,
+                    station,
+                    &mut self.task,
+                    deck,
+                    initiators,
+                    &OpenGate,
+                    got,
+                );
+                self.take_up(need);
+                true
+            }
+        }
+    }
+
+    // Takes up the call of what the task waits for next.
+    fn take_up(&mut self, need: Option<Need>)
+        requires room { HasRoom self.old.meeting }
+        requires need { IfSome need IsNeed }
+        ensures same { (self.new.task ≡ self.old.task) × (self.new.work ≡ self.old.work) }
+        ensures room { HasRoom self.new.meeting }
+        ensures taken { HasTakenUp need self.new.state self.new.meeting }
+    {
+        match need {
+            Some(need) => {
+                self.meeting.take_up(need);
+                self.state = State::Waits;
+            }
+            None => self.state = State::Finished,
+        }
+    }
+}

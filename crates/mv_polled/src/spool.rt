@@ -1,0 +1,243 @@
+//! The polled run of a deck. Clauses cite the plan's `SpoolRun.antt`, the report's `Outcome.antt` and `specs/Polled.antt`.
+
+ghost use Rattle.std.specs.Prelude.{◌≡◌, ◌<◌, ◌≤◌, ◌+◌, ℕ, false, [], All, length, map, take, slice_index_or, vec_capacity, IfOk};
+ghost use Rattle.std.specs.List.{AllByRecursion};
+ghost use Rattle.mv_board.specs.Faces.{AreHeld};
+ghost use Rattle.mv_calls.specs.Program.{Done};
+ghost use Rattle.mv_calls.specs.Runs.{left_in};
+ghost use Rattle.mv_deck.specs.Deck.{deck_data};
+ghost use Rattle.mv_deck.specs.Sound.{IsSound};
+ghost use Rattle.mv_deck.specs.Weight.{most_initiators};
+ghost use Rattle.mv_machine.specs.Legal.{after};
+ghost use Rattle.mv_machine.specs.Limits.{events_limit, highest_place};
+ghost use Rattle.mv_plan.specs.SpoolRun.{IsRun};
+ghost use Rattle.mv_plan.specs.SpoolSetup.{jobs_limit, spool_setup, writer};
+ghost use Rattle.mv_plan.specs.SpoolTasks.{task_program};
+ghost use Rattle.mv_polled.specs.Polled.{ArePolled, IsPicked, IsUnpolled, is_finished, unfinished};
+ghost use Rattle.mv_polled.specs.declared.polled.Polled.{Polled as PolledValue};
+ghost use Rattle.mv_report.specs.Outcome.{ends, lines, totals};
+ghost use Rattle.mv_work.specs.Parts.{jobs_of};
+ghost use Rattle.mv_work.specs.Recording.{AreBrought, all_records, lines_recorded};
+ghost use Rattle.mv_work.specs.Waiting.{IsSpool};
+
+use crate::order::Order;
+use crate::polled::Polled;
+use mv_board::Closed;
+use mv_deck::{Deck, Job};
+use mv_io::NoMemory;
+use mv_machine::ValidConfig;
+use mv_plan::spool_config;
+use mv_wait::{Station, Task};
+use mv_work::{Brought, SpoolRun, Work, brought_by, spool_run};
+use std::alloc::Global;
+use std::sync::Wait;
+
+// The tasks, none of which was polled.
+fn all_polled(
+    alloc: Global,
+    tasks: Vec<Task>,
+    deck: &[Job],
+    initiators: u32,
+) -> Result<Vec<Polled>, NoMemory>
+    requires few { initiators ≤ most_initiators }
+    ensures new { IfOk result (λ ps. AllByRecursion (IsUnpolled (jobs_of deck.now) initiators) ps.items) }
+    ensures tasks { IfOk result (λ ps. map (λ p. p.task) ps.items ≡ tasks.items) }
+{
+    let mut polled = Vec::with_capacity(alloc, tasks.len())?;
+    for task in tasks {
+        polled.push_reserved(Polled::new(alloc, task, deck, initiators)?);
+    }
+    Ok(polled)
+}
+
+// Room for what leaves the tasks, once they are finished.
+#[derive(Drop)]
+struct Room {
+    tasks: Vec<Task>,
+    works: Vec<Work>,
+}
+
+// The tasks and their works, each by itself.
+fn parted(polled: Vec<Polled>, room: Room) -> (Vec<Task>, Vec<Work>)
+    requires tasks { (room.tasks.items ≡ []) × (length polled.items ≤ vec_capacity room.tasks) }
+    requires works { (room.works.items ≡ []) × (length polled.items ≤ vec_capacity room.works) }
+    ensures tasks { result.0.items ≡ map (λ p. p.task) polled.items }
+    ensures works { result.1.items ≡ map (λ p. p.work) polled.items }
+{
+    let Room { tasks, works } = room;
+    let mut tasks = tasks;
+    let mut works = works;
+    for one in polled {
+        let Polled { task, work, .. } = one;
+        tasks.push_reserved(task);
+        works.push_reserved(work);
+    }
+    (tasks, works)
+}
+
+// How many tasks are unfinished.
+fn count_unfinished(polled: &[Polled]) -> u32
+    requires few { length polled.now ≤ most_initiators + 3 }
+    ensures { result ≡ length (unfinished polled.now) }
+{
+    let mut count = 0;
+    for one in polled {
+        if !one.is_finished() {
+            count += 1;
+        }
+    }
+    count
+}
+
+// Where the unfinished task of this number stands, from 0.
+fn place_of(polled: &[Polled], number: u32) -> usize
+    requires some { number < length (unfinished polled.now) }
+    ensures place { result < length polled.now }
+    ensures number { length (unfinished (take result polled.now)) ≡ number }
+    ensures unfinished { (d : PolledValue) → is_finished (slice_index_or polled.now result d) ≡ false }
+{
+    let mut left = number;
+    for place in 0..polled.len() {
+        if !polled[place].is_finished() {
+            if left == 0 {
+                return place;
+            }
+            left -= 1;
+        }
+    }
+    unreachable!()
+}
+
+// Polls the unfinished task of this number, and no other.
+fn poll_picked<R: Wait>(
+    rt: &R,
+    station: &Station,
+    deck: &[Job],
+    initiators: u32,
+    number: u32,
+    tasks: &mut [Polled],
+)
+    requires spool { IsSpool station.now deck.now initiators }
+    requires some { number < length (unfinished tasks.old) }
+    requires count { length tasks.old ≡ initiators + 3 }
+    requires polled { ArePolled station.now (jobs_of deck.now) initiators tasks.old }
+    ensures count { length tasks.new ≡ initiators + 3 }
+    ensures polled { ArePolled station.now (jobs_of deck.now) initiators tasks.new }
+    ensures picked { IsPicked number tasks.old tasks.new }
+{
+    let place = place_of(tasks, number);
+    tasks[place].poll(rt, station, deck, initiators);
+}
+
+// Polls the tasks until all are finished.
+fn poll_all<R: Wait, O: Order>(
+    rt: &R,
+    station: &Station,
+    deck: &[Job],
+    initiators: u32,
+    order: &mut O,
+    mut tasks: Vec<Polled>,
+) -> Vec<Polled>
+    requires spool { IsSpool station.now deck.now initiators }
+    requires count { length tasks.items ≡ initiators + 3 }
+    requires polled { ArePolled station.now (jobs_of deck.now) initiators tasks.items }
+    ensures count { length result.items ≡ initiators + 3 }
+    ensures polled { ArePolled station.now (jobs_of deck.now) initiators result.items }
+    ensures finished { unfinished result.items ≡ [] }
+{
+    for _ in rt.forever() {
+        let unfinished = count_unfinished(&tasks);
+        if unfinished == 0 {
+            break;
+        }
+        let number = order.pick(unfinished);
+        poll_picked(rt, station, deck, initiators, number, &mut tasks);
+    }
+    tasks
+}
+
+// What a closed run left.
+#[derive(Drop)]
+struct Left {
+    closed: Closed,
+    brought: Brought,
+}
+
+// Opens a station of this configuration, has its tasks do their work, and closes it.
+fn run_tasks<R: Wait, O: Order>(
+    rt: &R,
+    alloc: Global,
+    config: ValidConfig,
+    deck: &[Job],
+    initiators: u32,
+    order: &mut O,
+) -> Result<Left, NoMemory>
+    requires some { 1 ≤ initiators }
+    requires few { (initiators ≤ most_initiators) × (length deck.now ≤ jobs_limit) }
+    requires sound { IsSound (jobs_of deck.now) initiators }
+    requires config { config ≡ spool_setup (jobs_of deck.now) initiators }
+    ensures config { IfOk result (λ left. left.closed.history.config ≡ config) }
+    ensures whole { IfOk result (λ left. left.closed.history.past ≡ []) }
+    ensures run { IfOk result (λ left. IsRun (jobs_of deck.now) initiators left.closed.history.coming) }
+    ensures few { IfOk result (λ left. length left.closed.history.coming ≤ events_limit) }
+    ensures volumes { IfOk result (λ left. AreHeld (spool_setup (jobs_of deck.now) initiators)
+        (after (spool_setup (jobs_of deck.now) initiators) left.closed.history.coming) left.closed.volumes) }
+    ensures records { IfOk result (λ left. AreBrought (jobs_of deck.now) initiators left.closed.history.coming
+        (map (λ r. r.jobs) left.brought.records.items)) }
+    ensures ends { IfOk result (λ left. left_in (spool_setup (jobs_of deck.now) initiators) (task_program (jobs_of deck.now) initiators)
+        (writer initiators) left.closed.history.coming ≡ Done left.brought.ends.items) }
+{
+    let (station, tasks) = Station::open(alloc, config)?;
+    let count = tasks.len();
+    let room = Room {
+        tasks: Vec::with_capacity(alloc, count)?,
+        works: Vec::with_capacity(alloc, count)?,
+    };
+    let records = Vec::with_capacity(alloc, count)?;
+    let polled = all_polled(alloc, tasks, deck, initiators)?;
+    let polled = poll_all(rt, &station, deck, initiators, order, polled);
+    let (tasks, works) = parted(polled, room);
+    let closed = station.close(tasks);
+    let brought = brought_by(works, records);
+    Ok(Left { closed, brought })
+}
+
+/// Runs a deck by a reader, a scheduler, so many initiators and a writer on this one thread, and answers what it came to. Again
+/// and again the one of the unfinished tasks that the order picks is polled: it goes on until it waits for what is not so, or is
+/// finished. All memory that the polls use is taken before the first. The deck is one that `read_deck` gave for as many initiators,
+/// 1 to 8.
+///
+/// It returns when all tasks have ended. Nothing says that they do: an order that never picks some task may keep it from that.
+///
+/// # Errors
+///
+/// `NoMemory` where there is not enough, before the first poll or after the last.
+pub fn run_polled<R: Wait, O: Order>(
+    rt: &R,
+    alloc: Global,
+    deck: &Deck,
+    initiators: u32,
+    order: &mut O,
+) -> Result<SpoolRun, NoMemory>
+    requires some { 1 ≤ initiators }
+    requires few { initiators ≤ most_initiators }
+    requires sound { IsSound (deck_data deck.now) initiators }
+    ensures config { IfOk result (λ run. run.history.config ≡ spool_setup (deck_data deck.now) initiators) }
+    ensures whole { IfOk result (λ run. run.history.past ≡ []) }
+    ensures run { IfOk result (λ run. IsRun (deck_data deck.now) initiators run.history.coming) }
+    ensures few { IfOk result (λ run. length run.history.coming ≤ events_limit) }
+    ensures places { IfOk result (λ run. All (λ e. e.place ≤ highest_place) run.history.coming) }
+    ensures records { IfOk result (λ run. AreBrought (deck_data deck.now) initiators run.history.coming
+        (map (λ r. r.jobs) run.records.items)) }
+    ensures found { IfOk result (λ run. left_in (spool_setup (deck_data deck.now) initiators) (task_program (deck_data deck.now) initiators)
+        (writer initiators) run.history.coming ≡ Done run.ends.items) }
+    ensures noted { IfOk result (λ run. run.lines.items
+        ≡ lines_recorded (deck_data deck.now) (all_records (map (λ r. r.jobs) run.records.items))) }
+    ensures ends { IfOk result (λ run. run.ends.items ≡ ends (deck_data deck.now)) }
+    ensures lines { IfOk result (λ run. run.lines.items ≡ lines (deck_data deck.now)) }
+    ensures volumes { IfOk result (λ run. run.volumes.items ≡ totals (deck_data deck.now)) }
+{
+    let config = spool_config(alloc, deck, initiators)?;
+    let left = run_tasks(rt, alloc, config, &deck.jobs, initiators, order)?;
+    spool_run(alloc, deck, initiators, left.closed, left.brought)
+}
