@@ -49,7 +49,7 @@ impl fmt::Display for Status {
     fn fmt(&self, f: &mut fmt::Formatter) -> fmt::Result {
         match *self {
             Status::Done => Ok(()),
-            Status::Words => f.write_str("USAGE: spool I, script, replay, convert, load N I\n"),
+            Status::Words => f.write_str("USAGE: spool I, script, replay, convert, load N I, polled I S\n"),
             Status::Deck(DeckFault { line, kind }) => writeln!(f, "DECK LINE {line} KIND {kind}"),
             Status::TooLong => f.write_str("INPUT TOO LONG\n"),
             Status::ReadFailed => f.write_str("READ FAILED\n"),

@@ -13,7 +13,7 @@ fault_text word line kind = word ++ codes "LINE " ++ decimal line ++ codes " KIN
 
 -- what is told on the notes, with LF
 abbrev pub note_text : Note → List ℕ
-note_text Usage = codes "USAGE: spool I, script, replay, convert, load N I\n"
+note_text Usage = codes "USAGE: spool I, script, replay, convert, load N I, polled I S\n"
 note_text (DeckFault line kind) = fault_text (codes "DECK ") line kind
 note_text InputTooLong = codes "INPUT TOO LONG\n"
 note_text ReadFailed = codes "READ FAILED\n"

@@ -79,7 +79,7 @@ pub fn tell<N: Sink>(notes: &mut N, note: Option<Note>)
     match note {
         Note::Usage => write_line(
             notes,
-            b"USAGE: spool I, script, replay, convert, load N I\n",
+            b"USAGE: spool I, script, replay, convert, load N I, polled I S\n",
         ),
         Note::DeckFault { line, kind } => write_line(
             notes,

@@ -10,7 +10,7 @@ fn each_note_has_its_line(rt: HostRuntime) -> Result<(), Fail> {
         (None, b"".as_slice()),
         (
             Some(Note::Usage),
-            b"USAGE: spool I, script, replay, convert, load N I\n".as_slice(),
+            b"USAGE: spool I, script, replay, convert, load N I, polled I S\n".as_slice(),
         ),
         (
             Some(Note::DeckFault { line: 4, kind: 13 }),

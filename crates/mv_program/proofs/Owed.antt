@@ -9,7 +9,7 @@ use Rattle.mv_replay.specs.declared.status.ReplayStatus.TheVariants as replay
 use Rattle.mv_replay.specs.Outcome as replays
 use Rattle.mv_replay.proofs.Endings as judged
 use Rattle.mv_program.specs.declared.command.Command.{Command}
-use Rattle.mv_program.specs.declared.command.Command.TheVariants.{Spool, Load, Replay, Convert}
+use Rattle.mv_program.specs.declared.command.Command.TheVariants.{Spool, Load, Replay, Convert, Polled}
 use Rattle.mv_program.specs.declared.command.Command.TheVariants as asked
 use Rattle.mv_program.specs.declared.status.Status.{Status}
 use Rattle.mv_program.specs.declared.status.Status.TheVariants.{Done, Words, Deck, TooLong, ReadFailed, ReportFailed}
@@ -165,6 +165,7 @@ command_ends (Load jobs n) bytes new s t i read report journal a = load_ends s t
 command_ends asked.Script bytes new s t i read report journal a = script_ends bytes new s t i read report (λ done. journal done refl) a
 command_ends Replay bytes new s t i read report journal a = journal_ends bytes new s t i read report a
 command_ends Convert bytes new s t i read report journal a = journal_ends bytes new s t i read report a
+command_ends (Polled n seed) bytes new s t i read report journal a = deck_ends n bytes new s t i read report (λ done. journal done refl) a
 
 -- The causes of failed streams, each by the status that it has.
 abbrev pub Owes : Status → Option (List ℕ) → Type 0 → Type 0 → Type 0 → Option Command → Type 0
@@ -195,6 +196,8 @@ owed (Some Replay) s old new D R K input read report journal =
     λ sound. owed_of Replay s old new D R K input read report journal (sound refl)
 owed (Some Convert) s old new D R K input read report journal =
     λ sound. owed_of Convert s old new D R K input read report journal (sound refl)
+owed (Some (Polled n seed)) s old new D R K input read report journal =
+    λ sound. owed_of (Polled n seed) s old new D R K input read report journal (sound refl)
 
 -- and by the words that are the command
 pub owed_for : (w c : Option Command) (s : Status) (old new : Option (List ℕ)) (D R K : Type 0) → w ≡ c → InputOf c s old new

@@ -5,7 +5,7 @@ use Rattle.mv_deck.specs.Load.{most_jobs}
 use Rattle.mv_line.specs.Number.{number_of, within}
 use Rattle.mv_deck.specs.Weight.{most_initiators}
 use Rattle.mv_program.specs.declared.command.Command.{Command}
-use Rattle.mv_program.specs.declared.command.Command.TheVariants.{Spool, Load, Script, Replay, Convert}
+use Rattle.mv_program.specs.declared.command.Command.TheVariants.{Spool, Load, Script, Replay, Convert, Polled}
 
 -- the digit 0 in ASCII
 abbrev pub digit_0 : ℕ
@@ -27,7 +27,22 @@ load_of None initiators = None
 load_of (Some jobs) None = None
 load_of (Some jobs) (Some initiators) = Some (Load jobs initiators)
 
--- `spool` and a number of initiators, `load` with a number of jobs and one of initiators, `script`, `replay` or `convert`, exactly
+-- the highest seed of a polled run
+abbrev pub highest_seed : ℕ
+highest_seed = 9999
+
+-- a seed: digits without a zero in front, up to 9999
+abbrev pub seed_of : List ℕ → Option ℕ
+seed_of word = within 0 highest_seed (number_of word)
+
+-- a polled run, where both numbers are there
+abbrev pub polled_of : Option ℕ → Option ℕ → Option Command
+polled_of None seed = None
+polled_of (Some initiators) None = None
+polled_of (Some initiators) (Some seed) = Some (Polled initiators seed)
+
+-- `spool` and a number of initiators, `load` with a number of jobs and one of initiators, `polled` with a number of initiators and a
+-- seed, `script`, `replay` or `convert`, exactly
 abbrev pub command_of : List (List ℕ) → Option Command
 command_of (word ∷ []) =
     if bytes_eq word (codes "script") then Some Script
@@ -36,8 +51,10 @@ command_of (word ∷ []) =
     else None
 command_of (word ∷ initiators ∷ []) =
     if bytes_eq word (codes "spool") then option_map Spool (initiators_of initiators) else None
-command_of (word ∷ jobs ∷ initiators ∷ []) =
-    if bytes_eq word (codes "load") then load_of (jobs_of jobs) (initiators_of initiators) else None
+command_of (word ∷ first ∷ second ∷ []) =
+    if bytes_eq word (codes "load") then load_of (jobs_of first) (initiators_of second)
+    else if bytes_eq word (codes "polled") then polled_of (initiators_of first) (seed_of second)
+    else None
 command_of _ = None
 
 -- a number of initiators is 1 to 8
@@ -55,3 +72,4 @@ IsRunnable (Load jobs n) = AreJobs jobs × AreInitiators n
 IsRunnable Script = Unit {0}
 IsRunnable Replay = Unit {0}
 IsRunnable Convert = Unit {0}
+IsRunnable (Polled n seed) = AreInitiators n

@@ -11,7 +11,7 @@ use Rattle.mv_report.specs.Summary.{load_summary}
 use Rattle.mv_script.specs.Fault as scripts
 use Rattle.mv_script.specs.Script.{script_of}
 use Rattle.mv_program.specs.declared.command.Command.{Command}
-use Rattle.mv_program.specs.declared.command.Command.TheVariants.{Spool, Load, Replay, Convert}
+use Rattle.mv_program.specs.declared.command.Command.TheVariants.{Spool, Load, Replay, Convert, Polled}
 use Rattle.mv_program.specs.declared.command.Command.TheVariants as asked
 use Rattle.mv_program.specs.declared.status.Status.{Status}
 use Rattle.mv_program.specs.declared.status.Status.TheVariants.{Done, Words, Deck, TooLong, ReadFailed, ReportFailed}
@@ -46,6 +46,7 @@ Asks (Load jobs n) input status = status ≡ Done
 Asks asked.Script input status = TextAsks IsScriptFound input status
 Asks Replay input status = IsSomeAnd (replay_of status) (λ s. replay.Asks input s)
 Asks Convert input status = IsSomeAnd (replay_of status) (λ s. replay.Asks input s)
+Asks (Polled n seed) input status = TextAsks (IsFound n) input status
 
 -- ---- the texts that a command tells of an input, where all goes well: its report and its journal
 
@@ -75,6 +76,7 @@ Tells (Load jobs n) input report journal = TellsLoad jobs n report journal
 Tells asked.Script input report journal = TellsScript input report journal
 Tells Replay input report journal = TellsReport replay.IsReplayReport input report journal
 Tells Convert input report journal = TellsReport replay.IsConversion input report journal
+Tells (Polled n seed) input report journal = TellsRun n input report journal
 
 -- whether it has a journal at all
 abbrev pub has_journal : Command → Bool
@@ -83,6 +85,7 @@ has_journal (Load jobs n) = true
 has_journal asked.Script = true
 has_journal Replay = false
 has_journal Convert = false
+has_journal (Polled n seed) = true
 
 -- whether it reads its input
 abbrev pub reads_input : Command → Bool
@@ -91,6 +94,7 @@ reads_input (Load jobs n) = false
 reads_input asked.Script = true
 reads_input Replay = true
 reads_input Convert = true
+reads_input (Polled n seed) = true
 
 -- the input of which it tells: of none, where it reads none
 abbrev pub input_told : Command → Option (List ℕ) → Option (List ℕ)
@@ -138,6 +142,7 @@ InputOf (Some (Load jobs n)) status old new = EndsLoad status × (new ≡ old)
 InputOf (Some asked.Script) status old new = ScriptOf status old new
 InputOf (Some Replay) status old new = IsSomeAnd (replay_of status) (λ s. replay.InputOf s old new)
 InputOf (Some Convert) status old new = IsSomeAnd (replay_of status) (λ s. replay.InputOf s old new)
+InputOf (Some (Polled n seed)) status old new = DeckOf n status old new
 InputOf None status old new = new ≡ old
 
 -- ---- the two texts

@@ -3,7 +3,8 @@
 ghost use Rattle.std.specs.Prelude.{◌≡◌, map, IfSome};
 ghost use Rattle.std.specs.String.{string_bytes};
 ghost use Rattle.mv_program.specs.Command.{command_of as command_by_words, initiators_of as initiators_by_word, jobs_of};
-ghost use Rattle.mv_program.specs.Command.{load_of as load_by_numbers, IsRunnable, AreInitiators};
+ghost use Rattle.mv_program.specs.Command.{load_of as load_by_numbers, polled_of as polled_by_numbers, seed_of};
+ghost use Rattle.mv_program.specs.Command.{IsRunnable, AreInitiators};
 
 use mv_deck::{MOST_INITIATORS, MOST_JOBS};
 use mv_line::number_within;
@@ -21,7 +22,12 @@ pub enum Command {
     Replay,
     /// Judge the journal of the input, and write it in version 2.
     Convert,
+    /// Run the deck of the input with this many initiators, 1 to 8, on one thread, in the round order of this seed, 0 to 9999.
+    Polled(u32, u32),
 }
+
+/// The highest seed of a polled run.
+const HIGHEST_SEED: u32 = 9999;
 
 // The number of initiators that a word is, where it is one.
 fn initiators_of(word: &[u8]) -> Option<u32>
@@ -46,6 +52,16 @@ fn load_of(jobs: &[u8], initiators: &[u8]) -> Option<Command>
     Some(Command::Load(jobs, initiators))
 }
 
+// The polled run of these numbers, of initiators and the seed, where both are such.
+fn polled_of(initiators: &[u8], seed: &[u8]) -> Option<Command>
+    ensures polled { result ≡ polled_by_numbers (initiators_by_word initiators.now) (seed_of seed.now) }
+    ensures runnable { IfSome result IsRunnable }
+{
+    let initiators = initiators_of(initiators)?;
+    let seed = number_within(0, HIGHEST_SEED, seed)?;
+    Some(Command::Polled(initiators, seed))
+}
+
 /// The command that the words are, where they are one.
 pub(crate) fn command_of(words: &[String]) -> Option<Command>
     ensures command { result ≡ command_by_words (map string_bytes words.now) }
@@ -60,6 +76,9 @@ pub(crate) fn command_of(words: &[String]) -> Option<Command>
         }
         [word, jobs, initiators] if word.as_str() == "load" => {
             load_of(jobs.as_bytes(), initiators.as_bytes())
+        }
+        [word, initiators, seed] if word.as_str() == "polled" => {
+            polled_of(initiators.as_bytes(), seed.as_bytes())
         }
         _ => None,
     }

@@ -16,7 +16,7 @@ ghost use Rattle.mv_replay.specs.Status.{note_of as replay_note};
 
 use crate::command::{Command, command_of};
 use crate::status::{Status, note_of, status_of};
-use crate::texts::{Texts, texts_of, texts_of_load, texts_of_script};
+use crate::texts::{Texts, Way, texts_of, texts_of_load, texts_of_script};
 use mv_deck::DeckRefusal;
 use mv_ending::tell;
 use mv_io::{NoMemory, ReadRefusal, Sink, Source, read_limited, write_all};
@@ -49,11 +49,12 @@ fn write_texts<R: Sink, K: Sink>(report: &mut R, journal: &mut K, texts: &Texts)
     Status::Done
 }
 
-// Runs the deck of the input with so many initiators.
+// Runs the deck of the input with so many initiators, this way.
 fn spool<X: Threads + Wait + Sync, D: Source, R: Sink, K: Sink, G: Gate + Sync>(
     rt: &X,
     alloc: Global,
     initiators: u32,
+    way: Way,
     input: &mut D,
     report: &mut R,
     journal: &mut K,
@@ -78,7 +79,7 @@ fn spool<X: Threads + Wait + Sync, D: Source, R: Sink, K: Sink, G: Gate + Sync>(
         Err(ReadRefusal::TooLong) => return Status::TooLong,
         Err(ReadRefusal::NoMemory) => return Status::NoMemory,
     };
-    match texts_of(rt, alloc, &deck, initiators, gate) {
+    match texts_of(rt, alloc, &deck, initiators, way, gate) {
         Ok(texts) => write_texts(report, journal, &texts),
         Err(DeckRefusal::Fault(fault)) => Status::Deck(fault),
         Err(DeckRefusal::NoMemory) => Status::NoMemory,
@@ -196,11 +197,12 @@ fn convert<D: Source, R: Sink, N: Sink>(
 /// Runs a command: reads the input, and writes the report, and after it the journal where the command has one. What is
 /// written is made in memory before. Last it tells on the notes how it ended, where it did not end well.
 ///
-/// The commands are `spool I` for I from 1 to 8, `load N I` for N from 1 to 2000, `script`, `replay` and `convert`. The words are those
-/// behind the program's name. Of the input no more than the command's limit and one byte is taken; `load` takes nothing of it.
+/// The commands are `spool I` for I from 1 to 8, `load N I` for N from 1 to 2000, `polled I S` for S from 0 to 9999, `script`, `replay`
+/// and `convert`. The words are those behind the program's name. Of the input no more than the command's limit and one byte is taken; `load` takes nothing of it.
 /// Nothing is read and no memory is taken where the words are no command. `spool` runs the deck of the input, and `load` a deck
 /// of N jobs, by I initiators beside a reader, a scheduler and a writer, each on a thread of its own, which have all ended before
-/// anything is written; they pass the gate at each point of each job. `script` runs the script of the input, each of its tasks on a
+/// anything is written; they pass the gate at each point of each job. `polled` runs the deck of the input as `spool` does, with all its
+/// tasks on this thread, polled in the round order of the seed S; it passes no gate. `script` runs the script of the input, each of its tasks on a
 /// thread of its own, and its report is the answers of their calls. The other commands start no thread.
 ///
 /// # Errors
@@ -261,7 +263,28 @@ pub fn run_program<X: Threads + Wait + Sync, D: Source, R: Sink, K: Sink, N: Sin
     let status = match command_of(words) {
         None => Status::Words,
         Some(Command::Spool(initiators)) => {
-            spool(rt, alloc, initiators, input, report, journal, gate)
+            spool(
+                rt,
+                alloc,
+                initiators,
+                Way::Threads,
+                input,
+                report,
+                journal,
+                gate,
+            )
+        }
+        Some(Command::Polled(initiators, seed)) => {
+            spool(
+                rt,
+                alloc,
+                initiators,
+                Way::Polled(seed),
+                input,
+                report,
+                journal,
+                gate,
+            )
         }
         Some(Command::Load(jobs, initiators)) => {
             load(rt, alloc, jobs, initiators, report, journal, gate)

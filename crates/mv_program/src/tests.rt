@@ -16,6 +16,7 @@ use std::thread::Threads;
 mod failing_streams;
 mod forged_journals;
 mod held_tasks;
+mod polled_runs;
 mod scheduled_scripts;
 mod script_rows;
 
@@ -196,9 +197,18 @@ load 01 1
 load 1 9
 load 1 0
 load 1 1 1
+polled
+polled 1
+polled 0 0
+polled 9 0
+polled 1 10000
+polled 1 00
+polled 1 -1
+polled 1 0 0
+POLLED 1 0
 ";
 
-const USAGE: &str = "USAGE: spool I, script, replay, convert, load N I\n";
+const USAGE: &str = "USAGE: spool I, script, replay, convert, load N I, polled I S\n";
 
 // Streams over memory, with room for what these runs write.
 #[derive(Drop)]

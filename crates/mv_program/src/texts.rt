@@ -1,11 +1,14 @@
 //! Both texts of a run, made in memory. Clauses cite specs/Texts and the report's `Outcome.antt`.
 
-ghost use Rattle.std.specs.Prelude.{◌≡◌, ◌≤◌, length, None, IfOk, IfErr};
+ghost use Rattle.std.specs.Prelude.{◌≡◌, ◌≤◌, [], All, length, None, IfOk, IfErr};
 ghost use Rattle.mv_deck.specs.Deck.{deck_data, deck_of};
 ghost use Rattle.mv_deck.specs.Fault.{first_fault, TellsFirst};
 ghost use Rattle.mv_deck.specs.Load.{load_text};
 ghost use Rattle.mv_deck.specs.Sound.{IsSound};
-ghost use Rattle.mv_report.specs.Outcome.{report};
+ghost use Rattle.mv_machine.specs.Limits.{events_limit, highest_place};
+ghost use Rattle.mv_plan.specs.SpoolRun.{IsRun};
+ghost use Rattle.mv_plan.specs.SpoolSetup.{spool_setup};
+ghost use Rattle.mv_report.specs.Outcome.{ends, lines, report, totals};
 ghost use Rattle.mv_report.specs.Summary.{load_summary};
 ghost use Rattle.mv_deck.specs.Weight.{most_initiators};
 ghost use Rattle.mv_program.specs.Command.{AreInitiators, AreJobs};
@@ -17,10 +20,11 @@ ghost use Rattle.mv_program.specs.Texts.{report_of, IsJournalOfRun, IsRunOfScrip
 use mv_deck::{Deck, DeckRefusal, load_deck, read_deck};
 use mv_entrytext::write_history;
 use mv_io::NoMemory;
+use mv_polled::{RoundOrder, run_polled};
 use mv_report::{write_report, write_summary};
 use mv_runscript::{run_script, write_answers};
 use mv_script::{Script, ScriptRefusal, read_script};
-use mv_spool::run_deck;
+use mv_spool::{SpoolRun, run_deck};
 use mv_task::Gate;
 use std::alloc::Global;
 use std::sync::Wait;
@@ -33,12 +37,52 @@ pub(crate) struct Texts {
     pub journal: Vec<u8>,
 }
 
+/// Where the tasks of a deck are run.
+#[derive(Clone, Copy)]
+pub(crate) enum Way {
+    /// Each on a thread of its own.
+    Threads,
+    /// All on the calling thread, polled in the round order of this seed.
+    Polled(u32),
+}
+
+// Runs the deck. The gate is for tasks on threads alone.
+fn run_of<X: Threads + Wait + Sync, G: Gate + Sync>(
+    rt: &X,
+    alloc: Global,
+    deck: &Deck,
+    initiators: u32,
+    way: Way,
+    gate: &G,
+) -> Result<SpoolRun, NoMemory>
+    requires some { 1 ≤ initiators }
+    requires few { initiators ≤ most_initiators }
+    requires sound { IsSound (deck_data deck.now) initiators }
+    ensures config { IfOk result (λ run. run.history.config ≡ spool_setup (deck_data deck.now) initiators) }
+    ensures whole { IfOk result (λ run. run.history.past ≡ []) }
+    ensures run { IfOk result (λ run. IsRun (deck_data deck.now) initiators run.history.coming) }
+    ensures few { IfOk result (λ run. length run.history.coming ≤ events_limit) }
+    ensures places { IfOk result (λ run. All (λ e. e.place ≤ highest_place) run.history.coming) }
+    ensures ends { IfOk result (λ run. run.ends.items ≡ ends (deck_data deck.now)) }
+    ensures lines { IfOk result (λ run. run.lines.items ≡ lines (deck_data deck.now)) }
+    ensures volumes { IfOk result (λ run. run.volumes.items ≡ totals (deck_data deck.now)) }
+{
+    match way {
+        Way::Threads => run_deck(rt, alloc, deck, initiators, gate),
+        Way::Polled(seed) => {
+            let mut order = RoundOrder::new(seed);
+            run_polled(rt, alloc, deck, initiators, &mut order)
+        }
+    }
+}
+
 // The texts of a run of this deck.
 fn texts_of_deck<X: Threads + Wait + Sync, G: Gate + Sync>(
     rt: &X,
     alloc: Global,
     deck: &Deck,
     initiators: u32,
+    way: Way,
     gate: &G,
 ) -> Result<Texts, NoMemory>
     requires some { 1 ≤ initiators }
@@ -47,7 +91,7 @@ fn texts_of_deck<X: Threads + Wait + Sync, G: Gate + Sync>(
     ensures report { IfOk result (λ texts. texts.report.items ≡ report (deck_data deck.now)) }
     ensures journal { IfOk result (λ texts. IsJournalOfRun (deck_data deck.now) initiators texts.journal.items) }
 {
-    let run = run_deck(rt, alloc, deck, initiators, gate)?;
+    let run = run_of(rt, alloc, deck, initiators, way, gate)?;
     let report = write_report(alloc, deck, &run.ends, &run.lines, &run.volumes)?;
     let journal = write_history(alloc, run.history)?;
     Ok(Texts { report, journal })
@@ -59,6 +103,7 @@ pub(crate) fn texts_of<X: Threads + Wait + Sync, G: Gate + Sync>(
     alloc: Global,
     input: &[u8],
     initiators: u32,
+    way: Way,
     gate: &G,
 ) -> Result<Texts, DeckRefusal>
     requires short { length input.now ≤ deck_limit }
@@ -69,7 +114,7 @@ pub(crate) fn texts_of<X: Threads + Wait + Sync, G: Gate + Sync>(
     ensures fault { IfErr result (λ refusal. TellsFirst refusal (first_fault input.now initiators)) }
 {
     let deck = read_deck(alloc, input, initiators)?;
-    match texts_of_deck(rt, alloc, &deck, initiators, gate) {
+    match texts_of_deck(rt, alloc, &deck, initiators, way, gate) {
         Ok(texts) => Ok(texts),
         Err(NoMemory) => Err(DeckRefusal::NoMemory),
     }

@@ -2,11 +2,11 @@
 use Rattle.std.proofs.Common.{Some, None, refl, sym, ap, ◌∙◌}
 use Rattle.mv_io.specs.Fault.{Rose}
 use Rattle.mv_replay.specs.Outcome.{IsReplayReport, IsConversion}
-use Rattle.mv_program.specs.declared.command.Command.TheVariants.{Spool, Load, Script, Replay, Convert}
+use Rattle.mv_program.specs.declared.command.Command.TheVariants.{Spool, Load, Script, Replay, Convert, Polled}
 use Rattle.mv_program.proofs.Owed.{owed_for, load_never_reads}
 use Rattle.mv_program.proofs.Told.{told_for, report_is_told, note_is_told}
 use Rattle.mv_program.proofs.program.run_program.Goals as goal
-use Rattle.mv_program.proofs.program.run_program.Goals.{in-None, in-Some-Spool, in-Some-Load, in-Some-Script}
+use Rattle.mv_program.proofs.program.run_program.Goals.{in-None, in-Some-Spool, in-Some-Polled, in-Some-Load, in-Some-Script}
 
 pub returns-clause-told : goal.returns-clause-told
 returns-clause-told g c =
@@ -24,6 +24,10 @@ returns-clause-told g c =
           told_for _ (Some (Spool w.in-Some-Spool.initiators)) made.status old report0 report1 journal0 journal1
           (sym c.command_of.ensures.command ∙ w.in-Some-Spool.is ∙ ap Some w.in-Some-Spool.field-0-is)
           (rw (sym w.status-is) at (rw (sym w.report-is) at (rw (sym w.journal-is) at w.spool-status.ensures.told)))
+      | in-Some-Polled w ↦
+          told_for _ (Some (Polled w.in-Some-Polled.initiators w.in-Some-Polled.seed)) made.status old report0 report1 journal0 journal1
+          (sym c.command_of.ensures.command ∙ w.in-Some-Polled.is ∙ ap Some w.in-Some-Polled.field-0-is)
+          (rw (sym w.status-is) at (rw (sym w.report-is) at (rw (sym w.journal-is) at w.spool-status-in-Some-Polled.ensures.told)))
       | in-Some-Load w ↦
           told_for _ (Some (Load w.in-Some-Load.jobs w.in-Some-Load.initiators)) made.status old report0 report1 journal0 journal1
           (sym c.command_of.ensures.command ∙ w.in-Some-Load.is ∙ ap Some w.in-Some-Load.field-0-is)
@@ -51,6 +55,14 @@ returns-clause-owed g c =
           let run = w.spool-status in
           owed_for _ (Some (Spool w.in-Some-Spool.initiators)) made.status old new read report journal
           (sym c.command_of.ensures.command ∙ w.in-Some-Spool.is ∙ ap Some w.in-Some-Spool.field-0-is)
+          (rw (sym w.status-is) at (rw (sym w.input-is) at run.ensures.input))
+          (rw (sym w.status-is) at (rw (sym w.input-is) at run.ensures.read_failed))
+          (rw (sym w.status-is) at (rw (sym w.report-is) at run.ensures.report_failed))
+          (rw (sym w.status-is) at (rw (sym w.journal-is) at run.ensures.journal_failed))
+      | in-Some-Polled w ↦
+          let run = w.spool-status-in-Some-Polled in
+          owed_for _ (Some (Polled w.in-Some-Polled.initiators w.in-Some-Polled.seed)) made.status old new read report journal
+          (sym c.command_of.ensures.command ∙ w.in-Some-Polled.is ∙ ap Some w.in-Some-Polled.field-0-is)
           (rw (sym w.status-is) at (rw (sym w.input-is) at run.ensures.input))
           (rw (sym w.status-is) at (rw (sym w.input-is) at run.ensures.read_failed))
           (rw (sym w.status-is) at (rw (sym w.report-is) at run.ensures.report_failed))

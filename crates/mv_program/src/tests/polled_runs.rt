@@ -1,0 +1,80 @@
+//! Decks whose tasks are polled: they come to what tasks on threads come to, and each run from one seed is the same.
+
+use super::*;
+use mv_deck::load_deck;
+
+const NO_JOB_REPORT: &str = "\
+JOBS 0 ENDED 0 ABENDED 0 NOT RUN 0
+VOLUMES 0 0 0 0 0 0 0 0
+";
+
+// One initiator and no job: in each round the scheduler is polled before the initiator. The reader and the writer have no event.
+const NO_JOB_JOURNAL: &str = "\
+JOURNAL 2
+CALLERS 4
+ELEMENTS 1
+VOLUMES 8
+LATCHES 8
+QUOTA 8 0
+BUDGET 0
+BUDGET 4
+BUDGET 5
+BUDGET 0
+ECB 1
+EVENTS
+2.0 P2 0 OPEN = OPENED 0
+2.1 E0 0 POST 0 = POSTED
+1.0 E0 1 ARM = COMPLETE 0
+1.0 E0 2 SETTLE = COMPLETE 0
+1.1 E0 3 CLEAR = WORD 1073741824
+2.2 P2 1 PAUSE 0 = PARKED
+1.2 P2 2 RELEASE 0 0 = WOKE
+2.2 P2 3 RESUME 0 = GIVEN 0 1
+2.3 P2 4 CLOSE 1 = CLOSED
+END 9
+";
+
+// Rows of decks, polled from the seed 5 on.
+fn polled(alloc: Global, rows: &str) -> Result<String, AllocError> {
+    let mut text = rows.replace(alloc, "spool 1\n", "polled 1 5\n")?;
+    text = text.replace(alloc, "spool 2\n", "polled 2 5\n")?;
+    text.replace(alloc, "spool 8\n", "polled 8 5\n")
+}
+
+#[test]
+fn decks_are_polled(rt: HostRuntime) -> Result<(), Fail> {
+    assert_run(
+        &rt,
+        "polled 2 0",
+        PAYROLL,
+        0,
+        PAYROLL_REPORT,
+        "= PURGED 0 0\n",
+    )?;
+    let decks = polled(rt.alloc(), DECKS)?;
+    assert_rows(&rt, decks.as_str())?;
+    let faulty = polled(rt.alloc(), FAULTY_DECKS)?;
+    assert_rows(&rt, faulty.as_str())
+}
+
+#[test]
+fn the_empty_deck_is_polled_in_one_order(rt: HostRuntime) -> Result<(), Fail> {
+    let mut on = streams_over(rt.alloc(), b"//\n")?;
+    assert_ends(&rt, "polled 1 0", &mut on, 0, NO_JOB_REPORT, "")?;
+    assert_eq!(rt; on.journal.bytes(), NO_JOB_JOURNAL.as_bytes());
+    Ok(())
+}
+
+#[test]
+fn each_run_from_a_seed_is_the_same(rt: HostRuntime) -> Result<(), Fail> {
+    let deck = load_deck(rt.alloc(), 40)?;
+    let mut first = streams_over(rt.alloc(), &deck)?;
+    assert_eq!(rt; run(&rt, "polled 4 7", &mut first)?, Status::Done);
+    for _ in 0..9 {
+        let mut again = streams_over(rt.alloc(), &deck)?;
+        assert_eq!(rt; run(&rt, "polled 4 7", &mut again)?, Status::Done);
+        assert_eq!(rt; again.report.bytes(), first.report.bytes());
+        assert_eq!(rt; again.journal.bytes(), first.journal.bytes());
+    }
+    assert_journal(&rt, first.journal.bytes(), "\nEVENTS\n")
+}
