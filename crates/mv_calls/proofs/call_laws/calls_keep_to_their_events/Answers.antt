@@ -1,4 +1,4 @@
--- The laws are the lemmas.
+-- Its clauses are lemmas of Needs.
 use Rattle.mv_calls.proofs.Needs.{call_needs, call_keeps}
 use Rattle.mv_calls.proofs.call_laws.calls_keep_to_their_events.Goals as goal
 

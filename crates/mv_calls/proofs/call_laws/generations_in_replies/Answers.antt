@@ -1,4 +1,4 @@
--- The laws are the lemmas.
+-- Its clauses are lemmas of Generations and Uses.
 use Rattle.mv_calls.proofs.Generations.{each_names}
 use Rattle.mv_calls.proofs.Uses.{possible_names}
 use Rattle.mv_calls.proofs.call_laws.generations_in_replies.Goals as goal

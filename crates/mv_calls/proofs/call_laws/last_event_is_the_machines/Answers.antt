@@ -1,4 +1,4 @@
--- The laws are the lemmas.
+-- Its clauses are lemmas of Behind and mv_machine's Replies.
 use Rattle.mv_calls.proofs.Behind.{last_is_behind, front_is_possible}
 use Rattle.mv_machine.proofs.Replies.{reply_is_of_kind, request_has_place, ecb_reply_is, element_reply_is, volume_reply_is, latch_reply_is}
 use Rattle.mv_calls.proofs.call_laws.last_event_is_the_machines.Goals as goal

@@ -1,4 +1,4 @@
--- The laws are the lemmas.
+-- Its clauses are lemmas of Posting and Uses.
 use Rattle.mv_calls.proofs.Posting.{exits_are_own, targets_add_up}
 use Rattle.mv_calls.proofs.Uses.{call_exits, post_hears}
 use Rattle.mv_calls.proofs.call_laws.posts_reach.Goals as goal

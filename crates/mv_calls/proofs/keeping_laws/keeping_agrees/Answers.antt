@@ -1,4 +1,4 @@
--- The laws are the lemmas.
+-- Its clauses are lemmas of AtRest, Blocks, Elements and Uses.
 use Rattle.mv_calls.proofs.AtRest.{extended_block, plain_block, no_wait_bit, element_at_rest}
 use Rattle.mv_calls.proofs.Blocks.{block_agrees}
 use Rattle.mv_calls.proofs.Elements.{element_agrees}

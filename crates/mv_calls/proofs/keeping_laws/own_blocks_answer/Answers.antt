@@ -1,4 +1,4 @@
--- The laws are the lemmas.
+-- Its clauses are lemmas of OwnBlocks.
 use Rattle.mv_calls.proofs.OwnBlocks.{arm_reply, extend_reply, settle_reply}
 use Rattle.mv_calls.proofs.keeping_laws.own_blocks_answer.Goals as goal
 

@@ -1,4 +1,4 @@
--- The laws are the lemmas.
+-- Its clauses are lemmas of OwnReplies.
 use Rattle.mv_calls.proofs.OwnReplies.{open_reply, pause_reply, resume_reply, close_reply, pause_is_not_busy, close_is_not_busy}
 use Rattle.mv_calls.proofs.OwnReplies.{resume_is_not_busy}
 use Rattle.mv_calls.proofs.keeping_laws.own_elements_answer.Goals as goal

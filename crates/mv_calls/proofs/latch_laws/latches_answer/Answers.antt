@@ -1,4 +1,4 @@
--- The laws are the lemmas.
+-- Its clauses are lemmas of Gone and LatchReplies.
 use Rattle.mv_machine.specs.Legal.{after}
 use Rattle.mv_calls.proofs.Gone.{confirm_finds_granted, confirm_finds_gone, release_finds_granted}
 use Rattle.mv_calls.proofs.LatchReplies.{latch_says, release_wakes}

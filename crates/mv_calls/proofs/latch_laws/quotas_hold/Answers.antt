@@ -1,4 +1,4 @@
--- The laws are the lemmas.
+-- Its clauses are lemmas of Uses.
 use Rattle.mv_calls.proofs.Uses.{all_kept, posted_kept, listed_is_fair}
 use Rattle.mv_calls.proofs.latch_laws.quotas_hold.Goals as goal
 

@@ -1,4 +1,4 @@
--- The laws are the lemmas.
+-- Its clauses are lemmas of Queues.
 use Rattle.mv_calls.proofs.Queues.{waits_in_queue, granted_at_rest, confirm_at_rest}
 use Rattle.mv_calls.proofs.latch_laws.requests_at_rest.Goals as goal
 

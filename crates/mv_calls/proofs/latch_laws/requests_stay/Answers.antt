@@ -1,4 +1,4 @@
--- The laws are the lemmas.
+-- Its clauses are lemmas of Gone and mv_machine's Grants.
 use Rattle.mv_calls.proofs.Gone.{granted_or_purged}
 use Rattle.mv_machine.proofs.Grants.{requests_stay}
 use Rattle.mv_calls.proofs.latch_laws.requests_stay.Goals as goal

@@ -1,4 +1,4 @@
--- The laws are the lemmas.
+-- Its clauses are lemmas of Uses.
 use Rattle.mv_calls.proofs.Uses.{wakes_of_next, wakes_heard}
 use Rattle.mv_calls.proofs.latch_laws.wakes_are_in_range.Goals as goal
 

@@ -1,4 +1,4 @@
--- The laws are the lemmas.
+-- Its clauses are lemmas of Sections.
 use Rattle.mv_calls.proofs.Sections.{section_holds, one_holder, none_beside, not_purged}
 use Rattle.mv_calls.proofs.section_laws.holders_exclude.Goals as goal
 

@@ -1,4 +1,4 @@
--- The laws are the lemmas.
+-- Its clauses are lemmas of Sections.
 use Rattle.mv_calls.proofs.Sections.{section_is_own, section_keeps_volume}
 use Rattle.mv_calls.proofs.section_laws.sections_are_undisturbed.Goals as goal
 

@@ -1,4 +1,4 @@
--- The laws are the lemmas.
+-- Its clauses are lemmas of LinesAgain.
 use Rattle.mv_entrytext.proofs.LinesAgain.{one_journal, reads_back}
 use Rattle.mv_entrytext.proofs.laws.text_determines_journal.Goals as goal
 

@@ -1,4 +1,4 @@
--- The laws are the lemmas.
+-- Its clauses are lemmas of Budgets, ElementRuns and Longer.
 use Rattle.mv_machine.proofs.Budgets.{places_fit, no_high_generation}
 use Rattle.mv_machine.proofs.ElementRuns.{generation_fits}
 use Rattle.mv_machine.proofs.Longer.{entries_fit}

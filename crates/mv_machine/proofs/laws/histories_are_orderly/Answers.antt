@@ -1,4 +1,4 @@
--- The law is the lemma.
+-- The law is history_is_orderly of Orderly.
 use Rattle.mv_machine.proofs.Orderly.{history_is_orderly}
 use Rattle.mv_machine.proofs.laws.histories_are_orderly.Goals as goal
 

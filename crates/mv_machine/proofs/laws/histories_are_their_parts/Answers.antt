@@ -1,4 +1,4 @@
--- The laws are the lemmas.
+-- Its clauses are lemmas of Objects and SameParts.
 use Rattle.mv_machine.specs.System.{opening}
 use Rattle.mv_machine.proofs.Objects.{told_by_part}
 use Rattle.mv_machine.proofs.SameParts.{legal_by_parts, after_by_part, same_legal, same_after, same_told}

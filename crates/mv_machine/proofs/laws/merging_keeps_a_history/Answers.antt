@@ -1,4 +1,4 @@
--- The laws are the lemmas.
+-- Its clauses are lemmas of Merged.
 use Rattle.mv_machine.proofs.Merged.{merged_legal, merged_callers, merged_objects, merged_told, merged_had, merged_after, each_pick}
 use Rattle.mv_machine.proofs.Merged.{total_parts}
 use Rattle.mv_machine.proofs.laws.merging_keeps_a_history.Goals as goal

@@ -1,4 +1,4 @@
--- The laws are the lemmas.
+-- Its clauses are lemmas of GrantRuns, Grants and Owners.
 use Rattle.mv_machine.proofs.GrantRuns.{granted_or_gone, gone_stays}
 use Rattle.mv_machine.proofs.Grants.{granted_stays}
 use Rattle.mv_machine.proofs.Owners.{owner_makes, complete_kept, generation_kept, free_kept, free_was, released_kept, prereleased_kept}

@@ -1,4 +1,4 @@
--- The laws are the lemmas.
+-- Its clauses are lemmas of Budgets.
 use Rattle.mv_machine.proofs.Budgets.{place_is_count, places_count}
 use Rattle.mv_machine.proofs.laws.places_count_entries.Goals as goal
 

@@ -1,4 +1,4 @@
--- The law is the lemma.
+-- The law is posts_are_taken_once of OnePost.
 use Rattle.mv_machine.proofs.OnePost.{posts_are_taken_once}
 use Rattle.mv_machine.proofs.laws.posts_complete_once.Goals as goal
 

@@ -1,4 +1,4 @@
--- The laws are the lemmas.
+-- Its clauses are lemmas of OneHistory and Words.
 use Rattle.mv_machine.proofs.OneHistory.{budgets_fit}
 use Rattle.mv_machine.proofs.Words.{reached_word, reached_unpack, reached_fields}
 use Rattle.mv_machine.proofs.laws.reached_states_have_words.Goals as goal

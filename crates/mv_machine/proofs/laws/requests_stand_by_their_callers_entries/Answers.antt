@@ -1,4 +1,4 @@
--- The laws are the lemmas.
+-- Its clauses are lemmas of Allowed, LatchNumbers, LatchRuns, StandingCounts and StandingRuns.
 use Rattle.mv_machine.proofs.Allowed.{allowed_is_admitted}
 use Rattle.mv_machine.proofs.LatchNumbers.{numbers_differ, numbers_ahead_are_new}
 use Rattle.mv_machine.proofs.LatchRuns.{numbers_rise, numbers_are_earlier}

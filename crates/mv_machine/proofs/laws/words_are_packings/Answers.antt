@@ -1,4 +1,4 @@
--- The laws are the lemmas.
+-- Its clauses are lemmas of Packings and Words.
 use Rattle.mv_machine.proofs.Packings.{packs_back}
 use Rattle.mv_machine.proofs.Words.{packed_unpacks}
 use Rattle.mv_machine.proofs.laws.words_are_packings.Goals as goal

@@ -1,4 +1,4 @@
--- The laws are the lemmas.
+-- Its clauses are lemmas of Objects and WordSteps.
 use Rattle.mv_machine.proofs.Objects.{elsewhere}
 use Rattle.mv_machine.proofs.WordSteps.{fields_admitted, reply_by_state, state_by_state, place_rises}
 use Rattle.mv_machine.proofs.laws.words_go_by_the_machine.Goals as goal

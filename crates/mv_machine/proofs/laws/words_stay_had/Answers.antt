@@ -1,4 +1,4 @@
--- The laws are the lemmas.
+-- Its clauses are lemmas of Longer.
 use Rattle.mv_machine.proofs.Longer.{had_now, had_longer}
 use Rattle.mv_machine.proofs.laws.words_stay_had.Goals as goal
 

@@ -1,4 +1,4 @@
--- The law is the lemma.
+-- The law is none_wrong of results/NoneWrong.
 use Rattle.mv_plan.proofs.deck.Planned.{planned}
 use Rattle.mv_plan.proofs.results.NoneWrong.{none_wrong}
 use Rattle.mv_plan.proofs.laws.no_task_goes_wrong.Goals as goal

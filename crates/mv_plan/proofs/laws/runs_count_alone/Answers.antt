@@ -1,4 +1,4 @@
--- The law is the lemma.
+-- The law is are_counted_alone of results/Exclusive.
 use Rattle.mv_plan.proofs.deck.Planned.{planned}
 use Rattle.mv_plan.proofs.results.Exclusive.{are_counted_alone}
 use Rattle.mv_plan.proofs.laws.runs_count_alone.Goals as goal

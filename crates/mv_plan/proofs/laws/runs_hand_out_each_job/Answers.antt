@@ -1,4 +1,4 @@
--- The law is the lemma.
+-- The law is are_handed_out of results/HandedOut.
 use Rattle.mv_plan.proofs.deck.Planned.{planned}
 use Rattle.mv_plan.proofs.results.HandedOut.{are_handed_out}
 use Rattle.mv_plan.proofs.laws.runs_hand_out_each_job.Goals as goal

@@ -1,4 +1,4 @@
--- The law is the lemma.
+-- The law is writer_keeps of results/EndsPosted.
 use Rattle.mv_plan.proofs.deck.Planned.{planned}
 use Rattle.mv_plan.proofs.results.EndsPosted.{writer_keeps}
 use Rattle.mv_plan.proofs.laws.runs_keep_the_ends.Goals as goal

@@ -1,4 +1,4 @@
--- The law is the lemma.
+-- The law is are_purged_once of results/Exclusive.
 use Rattle.mv_plan.proofs.deck.Planned.{planned}
 use Rattle.mv_plan.proofs.results.Exclusive.{are_purged_once}
 use Rattle.mv_plan.proofs.laws.runs_purge_each_job.Goals as goal

@@ -1,4 +1,4 @@
--- The law is the lemma.
+-- The law is within_budgets of budgets/Within.
 use Rattle.mv_plan.proofs.deck.Planned.{planned}
 use Rattle.mv_plan.proofs.budgets.Within.{within_budgets}
 use Rattle.mv_plan.proofs.laws.tasks_stay_within_budgets.Goals as goal

@@ -1,4 +1,4 @@
--- The law is the lemma.
+-- The law is right_lines of brought/Lines.
 use Rattle.mv_work.proofs.brought.Lines.{right_lines}
 use Rattle.mv_work.proofs.laws.records_give_the_lines.Goals as goal
 

@@ -1,4 +1,4 @@
--- The law is the lemma.
+-- The law is are_recorded of brought/Recorded.
 use Rattle.mv_plan.proofs.deck.Planned.{planned}
 use Rattle.mv_work.proofs.brought.Recorded.{are_recorded}
 use Rattle.mv_work.proofs.laws.runs_record_each_job.Goals as goal
