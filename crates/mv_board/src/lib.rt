@@ -1,6 +1,5 @@
-//! A board of shared objects: words that tasks change by single exchanges, and a latch set behind a turn. Whatever the
-//! threads do, at every moment there is one legal history of which each caller's log is its part: `specs/Rule.antt` says
-//! how it is read off the board, and every step is proved to keep it. `Board::close` hands it out.
+//! A board of shared objects, words that tasks change by single exchanges and a latch set behind a turn, of which at every moment
+//! one legal history has each caller's log as its part.
 #![tactic(auto)]
 
 mod board;

@@ -1,5 +1,5 @@
-//! A pair of numbers in two volumes that tasks share under one latch: a writer, which holds it alone, and several readers, which
-//! share it. No reader sees the half of one pair and the half of another.
+//! A pair of numbers in two volumes that tasks share under one latch: no reader sees the half of one pair and the half of
+//! another.
 #![tactic(auto)]
 
 mod cache;

@@ -1,6 +1,5 @@
-//! What each call of the services does, event by event, as a program of what its task hears; what a task keeps of its own log;
-//! and what it knows by that of the machine, whatever other tasks do. `number_calls` tells to which call of its caller each entry of
-//! a history belongs.
+//! What each call of the services does, event by event, and what a task that keeps its own log knows of the machine by it,
+//! whatever others do.
 #![tactic(auto)]
 
 mod call_laws;

@@ -1,6 +1,4 @@
-//! The deck: the text that names the jobs of a run, read into values.
-//! A text is cut into lines, each line is a statement by its words, and each rule that a line can break has a number.
-//! `read_deck` goes over the bytes once and answers the jobs that the text states, or the first fault.
+//! The deck: the text that names the jobs of a run, read into values, or its first fault.
 #![tactic(auto)]
 
 mod deck;

@@ -1,6 +1,4 @@
 //! Event control blocks, as one thread sees them: the fullword, the operations and what each does to it.
-//! An operation is a function from a word to a word and a reply, and that function is a table of cells.
-//! Who may make which operation, and in which order, is the business of the crates above.
 #![tactic(auto)]
 
 mod laws;

@@ -1,6 +1,4 @@
 //! Pause elements, as one thread sees them: an element's state, the operations and what each does to it.
-//! A token serves one pause: the operations that carry a generation are answered Spent once it is over.
-//! Whose element it is, and who is woken by a release, is the business of the crates above.
 #![tactic(auto)]
 
 mod element;

@@ -1,6 +1,5 @@
-//! The text of a journal: the configuration of a run and its entries as lines. A valid configuration and entries in range
-//! have one text: `write_history` makes it, `read_journal` reads it back, and tells of any other text where its first
-//! fault is. `specs/Journal.antt` says which bytes are a journal's, `specs/Fault.antt` what is wrong with any others.
+//! The text of a journal: the configuration of a run and its entries as lines, written and read back, and the first fault of any
+//! other text.
 #![tactic(auto)]
 
 mod ecb;

@@ -1,5 +1,5 @@
-//! A bounded hand-over: one task puts items into a few slots, and another takes them out. Each slot is an event control block
-//! that is posted with the item, beside one that says that the slot is free again. What comes out is what went in, in order.
+//! A bounded hand-over: one task puts items into a few slots, another takes them out, and what comes out is what went in, in
+//! order.
 #![tactic(auto)]
 
 mod handover;

@@ -1,7 +1,5 @@
-//! Byte streams that may fail: sources and sinks that count their faults, so that a contract can say
-//! that a failure was the stream's own. `read_limited` takes a whole input of bounded length, and
-//! `write_all` hands over a whole text. Streams in memory serve tests, and the standard ones wrap
-//! readers and writers of std.
+//! Byte streams that may fail: sources and sinks that count their faults, so that a contract can say that a failure was the
+//! stream's own.
 #![tactic(auto)]
 
 mod failed;

@@ -1,6 +1,4 @@
-//! Latch sets: lists of shared and exclusive requests, which are granted in the order of their arrival. A
-//! `LatchSet` takes one operation at a time, answers it, and lists who is to be told of a grant or of a
-//! purge. It takes the room for its lists when it is made; nothing here waits, posts or wakes anybody.
+//! Latch sets: lists of shared and exclusive requests, which are granted in the order of their arrival.
 #![tactic(auto)]
 
 mod latch_set;

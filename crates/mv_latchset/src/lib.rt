@@ -1,6 +1,5 @@
-//! The latch services on running tasks: requests for latches that are granted at once, waited for, or told by a post; their
-//! release, and the purge of a requestor. Each call makes the events of its program and no others, and after a release or a
-//! purge it posts the blocks of those that are granted, and wakes the tasks that wait.
+//! The latch services on running tasks: requests that are granted at once, waited for or told by a post, their release, and the
+//! purge of a requestor.
 #![tactic(auto)]
 
 mod checking;

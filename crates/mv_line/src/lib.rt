@@ -1,6 +1,4 @@
 //! Texts in lines and fields: how bytes are cut into lines, a line into fields, and which number digits show.
-//! Nothing is copied: each function answers a part of the text that it was given.
-//! What the fields mean, and what a reader says of a text that it can't take, is the business of the crates above.
 #![tactic(auto)]
 
 mod byte;

@@ -1,6 +1,5 @@
-//! The machine of one thread: a configuration, the state of all its objects, and the one step that an operation of
-//! a caller makes; a list of entries is legal where each entry in turn is what the step answers, and `replay` judges it.
-//! Every service above is held against these definitions. The laws say what holds of every legal history.
+//! The machine of one thread: a configuration, the state of all its objects, the one step that an operation of a caller makes,
+//! and what holds of every legal history.
 #![tactic(auto)]
 
 mod admission;

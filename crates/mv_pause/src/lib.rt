@@ -1,6 +1,4 @@
-//! Pauses of tasks. A task allocates a pause element, and pauses with the token that it is given until another task releases that
-//! token with a code; each token serves one pause, and the pause gives the next token. Each call makes the events of its program
-//! and no others, and says which of them its answer is.
+//! Pauses of tasks: a task pauses with a token until another releases it with a code, and each token serves one pause.
 #![tactic(auto)]
 
 mod allocating;

@@ -1,5 +1,4 @@
-//! The spool's tasks, which are calls of the services set one after the other; and the laws of every history of the spool and
-//! of every run.
+//! The spool's tasks, which are calls of the services set one after the other, and the laws of every run of them.
 #![tactic(auto)]
 
 mod laws;

@@ -1,5 +1,4 @@
-//! Waits, pauses and obtains that are polled: each makes its events as far as it can, and says whether its task has to be polled
-//! again. Nothing here parks. The spool's tasks run so too, all on one thread.
+//! Waits, pauses and obtains that are polled and never park, and the spool whose tasks are polled so, on one thread.
 #![tactic(auto)]
 
 mod keys;

@@ -1,6 +1,4 @@
-//! The program: what its words, its input and its three outputs have to do with each other.
-//! `run_program` does all of it over any streams, and its contract says what a run wrote and why it ended as it did.
-//! `main` hands the standard streams to it.
+//! The program: `run_program` does all of it over any streams, and `main` hands the standard streams to it.
 #![tactic(auto)]
 
 mod command;

@@ -1,6 +1,4 @@
-//! The commands on journals: is the text on the input the journal of a legal history of the one-thread machine?
-//! `replay_command` reports how many events were legal, `convert_command` the journal in version 2 of the text; both tell the
-//! line of the first entry that is not the machine's or has another call number, or the first fault of the text.
+//! The commands on journals: whether the input is the text of a legal history, and that history in version 2 of the text.
 #![tactic(auto)]
 
 mod converting;

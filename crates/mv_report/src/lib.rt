@@ -1,7 +1,5 @@
-//! The report on a deck that was run: what each job came to, the lines that it wrote, how many jobs ended each way,
-//! and what stands in the volumes. `specs/Report.antt` says which bytes that is for any ends, lines and volumes, and
-//! `write_report` makes exactly those bytes; `specs/Outcome.antt` says which ends, lines and volumes a deck has, and
-//! `outcome_of` makes those. `write_summary` makes the shorter text on a load of `specs/Summary.antt`.
+//! The report on a deck that was run: what each job came to and wrote, how many jobs ended each way, and what stands in the
+//! volumes.
 #![tactic(auto)]
 
 mod end_code;

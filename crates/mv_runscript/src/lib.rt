@@ -1,5 +1,4 @@
-//! Scripts that are run: each task makes its calls in order on a thread of its own, and what each call answered is kept. The history
-//! of their events is a run of the script, and the answers are those that each task's own part of it leads to.
+//! Scripts that are run: each task makes its calls in order on a thread of its own, and what each call answered is kept.
 #![tactic(auto)]
 
 mod answered;

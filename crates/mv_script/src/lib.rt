@@ -1,6 +1,5 @@
-//! Scripts: texts that state the calls of up to eight tasks, one call a line. `read_script` goes over the bytes once and answers the
-//! script that the text states, or the first fault. What the tasks of a script do, and what their calls answer in a history, is
-//! defined beside it.
+//! Scripts: texts that state the calls of up to eight tasks, read into values, or their first fault; and what those calls do and
+//! answer in a history.
 #![tactic(auto)]
 
 mod answer;

@@ -1,5 +1,4 @@
-//! A server with a pool of workers. A worker that is idle posts a block of the server's and pauses; the server waits for the first
-//! of them, hands a request to its worker by a release, and in the end has each answer from a block of the request's own.
+//! A server with a pool of workers: each request is handed to a worker that is idle, and answered by a block of its own.
 #![tactic(auto)]
 
 mod rounds;

@@ -1,5 +1,4 @@
-//! The ends of jobs and of tasks: what a job's requestor holds is purged before its end is posted, and a task that ends gives
-//! back its pause elements first. And the gate, at which a test holds the tasks of a run.
+//! The ends of jobs and of tasks, at which what they held is given back, and the gate at which a test holds the tasks of a run.
 #![tactic(auto)]
 
 mod ending;

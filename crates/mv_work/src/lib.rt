@@ -1,6 +1,5 @@
-//! What each task of the spool does, from one wait to the next: what it makes of an answer, and what it then waits for; and what
-//! its initiators note of the jobs that they run. Whoever runs a task meets its needs one after the other, on a thread that parks
-//! or by polls. The calls are those of its program in `mv_plan`.
+//! What each task of the spool does from one wait to the next, whoever meets its waits, and what its initiators note of the jobs
+//! that they run.
 #![tactic(auto)]
 
 mod bringing;
