@@ -1,5 +1,5 @@
 -- Worked rows of the definitions, by computing them.
-use Rattle.std.proofs.Common.{◌≡◌, ℕ, ◌≤◌, false, List, [], ◌∷◌, ◌++◌, take, drop, Option, Some, None, refl, sym, ap, subst, arith}
+use Rattle.std.proofs.Common.{◌≡◌, ℕ, ◌≤◌, false, List, [], ◌∷◌, ◌++◌, map, take, drop, Option, Some, None, refl, sym, ap, subst, arith}
 use Rattle.mv_ecb.specs.Word.{Zero, Complete}
 use Rattle.mv_element.specs.Element.{prereleased}
 use Rattle.mv_machine.specs.declared.packing.WordState.{WordState}
@@ -7,6 +7,7 @@ use Rattle.mv_machine.specs.declared.packing.WordState.TheVariants as word_state
 use Rattle.mv_machine.specs.Merge.{merged}
 use Rattle.mv_machine.specs.Packing.{pack, unpack, state_at}
 use Rattle.mv_machine.specs.Parts.{parts, Had}
+use Rattle.mv_machine.specs.Reach.{reach, release_cost}
 use Rattle.mv_ecb.specs.declared.operation.EcbOp.{EcbOp}
 use Rattle.mv_ecb.specs.declared.operation.EcbOp.TheVariants as ecb_op
 use Rattle.mv_ecb.specs.declared.operation.EcbReply.{EcbReply}
@@ -91,6 +92,28 @@ bad_exit = refl
 
 high_budget : refusal_of (record two { budgets = 524287 ∷ 1 ∷ [] }) ≡ Some (Budget 524288)
 high_budget = refl
+
+-- a chain of two exits, and two exits of block 3, one of which names its target twice
+abbrev chained : Setup
+chained = record {
+  callers = 2;
+  elements_per_caller = 1;
+  volumes = 1;
+  latches = 1;
+  quota = 2;
+  posted_quota = 1;
+  budgets = 3 ∷ 3 ∷ [];
+  owners = 0 ∷ 0 ∷ 0 ∷ 0 ∷ 0 ∷ 0 ∷ [];
+  exits =
+      record { source = 0; targets = 1 ∷ [] } ∷ record { source = 3; targets = 4 ∷ 4 ∷ [] } ∷ record { source = 1; targets = 2 ∷ [] }
+      ∷ record { source = 3; targets = 5 ∷ [] } ∷ [];
+}
+
+reach_by_exits : map (reach chained) (0 ∷ 1 ∷ 2 ∷ 3 ∷ 4 ∷ 5 ∷ []) ≡ 3 ∷ 2 ∷ 1 ∷ 3 ∷ 1 ∷ 1 ∷ []
+reach_by_exits = refl
+
+cost_by_the_greatest_reach : release_cost chained ≡ 7
+cost_by_the_greatest_reach = refl
 
 -- an entry of each kind of object, and a wait for a latch that is told of
 journal : List Entry

@@ -29,8 +29,3 @@ pub use packing::{WordState, pack, state_apply, unpack};
 pub use replaying::{Illegal, ReplayRefusal, replay};
 pub use state::State;
 pub use valid::ValidConfig;
-
-#[cfg(test)]
-mod packed_words;
-#[cfg(test)]
-mod tests;
