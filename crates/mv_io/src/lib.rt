@@ -17,6 +17,3 @@ pub use sink::Sink;
 pub use source::Source;
 pub use standard::{StdSink, StdSource};
 pub use writing::{Partial, write_all};
-
-#[cfg(test)]
-mod tests;
