@@ -6,6 +6,3 @@ mod note;
 
 pub use line::{LONGEST_LINE, Line};
 pub use note::{Note, tell};
-
-#[cfg(test)]
-mod tests;
