@@ -14,6 +14,3 @@ pub use lines::{Lines, print_line, scan_line};
 pub use outcome::{Outcome, outcome_of};
 pub use report::write_report;
 pub use summary::write_summary;
-
-#[cfg(test)]
-mod tests;
