@@ -13,8 +13,3 @@ pub use converting::convert_command;
 pub use laws::{legal_lists_are_done, texts_ask_for_one_ending};
 pub use replaying::replay_command;
 pub use status::ReplayStatus;
-
-#[cfg(test)]
-mod numbered_rows;
-#[cfg(test)]
-mod tests;
