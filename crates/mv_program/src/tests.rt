@@ -16,6 +16,7 @@ use std::thread::Threads;
 mod failing_streams;
 mod forged_journals;
 mod held_tasks;
+mod journal_rows;
 mod polled_runs;
 mod scheduled_scripts;
 mod script_rows;
@@ -94,6 +95,28 @@ JOBS 2 ENDED 2 ABENDED 0 NOT RUN 0
 VOLUMES 0 9999 0 0 0 0 0 0
 --
  WRITE 9999 = STORED
+==
+spool 1
+// DECK 2
+//A JOB
+// ABEND U0000
+//$Z9 JOB
+// ABEND U4095
+//B JOB
+// RETURN 4095
+//C JOB
+// ABEND SFFF
+//
+--
+0
+JOB A ABENDED U0000
+JOB $Z9 ABENDED U4095
+JOB B ENDED RC 4095
+JOB C ABENDED SFFF
+JOBS 4 ENDED 1 ABENDED 3 NOT RUN 0
+VOLUMES 0 0 0 0 0 0 0 0
+--
+EVENTS
 ==
 spool 1
 // DECK 2
@@ -339,16 +362,6 @@ fn assert_rows<X: Abort + AllocGlobal + Threads + Wait + Sync>(
 fn decks(rt: HostRuntime) -> Result<(), Fail> {
     assert_run(&rt, "spool 2", PAYROLL, 0, PAYROLL_REPORT, "= PURGED 0 0\n")?;
     assert_rows(&rt, DECKS)
-}
-
-// Four events of the scheduler and four of the initiator, or five where its pause parked.
-#[test]
-fn no_job(rt: HostRuntime) -> Result<(), Fail> {
-    let mut on = streams_over(rt.alloc(), b"//\n")?;
-    assert_eq!(rt; run(&rt, "spool 1", &mut on)?, Status::Done);
-    let journal = on.journal.bytes();
-    assert!(rt; has(journal, "\nEND 8\n") || has(journal, "\nEND 9\n"));
-    Ok(())
 }
 
 #[test]

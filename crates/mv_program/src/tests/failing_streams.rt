@@ -1,9 +1,12 @@
 //! Streams that fail at each of their calls, or take little at a time, and input that ends too early. Each row says what every
 //! sink holds in the end; the numbers of bytes and lines are counted by hand.
 
-ghost use Rattle.std.specs.Prelude.{◌≤◌};
+ghost use Rattle.std.specs.Prelude.{◌≤◌, IfOk};
 
 use super::*;
+use mv_io::{Partial, ReadRefusal, Sink, Source, StdSink, StdSource, write_all};
+use std::io;
+use std::io::{ErrorKind, Read, Write};
 
 // Each byte is a call of its own, and one more finds the end. After that no call is made.
 #[test]
@@ -21,102 +24,79 @@ fn a_source_that_fails_at_each_of_its_calls(rt: HostRuntime) -> Result<(), Fail>
     Ok(())
 }
 
-// The report can't be written whole: this front of it stands there, and no journal.
-fn assert_report_fails<X: Abort + AllocGlobal + Threads + Wait + Sync>(
+// A sink with so much room, that takes so many bytes a call, and fails at the call of this number.
+fn sink(alloc: Global, kind: [usize; 3]) -> Result<MemSink, NoMemory> {
+    MemSink::stepped(alloc, kind[0], kind[1].max(1), &[kind[2] as u64])
+}
+
+// Report and journal are written to such sinks. So many bytes of the report stand there in the end, and behind a whole one a front of the
+// journal, which is all that stands there of it, or a whole journal with this piece.
+fn assert_written<X: Abort + AllocGlobal + Threads + Wait + Sync>(
     rt: &X,
-    report: MemSink,
-    front: &str,
+    sinks: [[usize; 3]; 2],
+    exit: u8,
+    note: &str,
+    length: usize,
+    piece: &str,
 ) -> Result<(), Fail> {
     let mut on = streams_over(rt.alloc(), PAYROLL.as_bytes())?;
-    on.report = report;
-    assert_ends(rt, "spool 2", &mut on, 6, front, "REPORT FAILED\n")?;
-    assert_journal(rt, on.journal.bytes(), "")
+    on.report = sink(rt.alloc(), sinks[0])?;
+    on.journal = sink(rt.alloc(), sinks[1])?;
+    let report = PAYROLL_REPORT.get(..length).ok_or("a longer report")?;
+    assert_ends(rt, "spool 2", &mut on, exit, report, note)?;
+    if exit == 7 {
+        assert_eq!(rt; on.journal.bytes(), piece.as_bytes());
+        return Ok(());
+    }
+    assert_journal(rt, on.journal.bytes(), piece)
 }
+
+// A sink that has room for all, and fails at no call.
+const WIDE: [usize; 3] = [1 << 16, 1 << 16, 1 << 16];
 
 // The report has 150 bytes. A sink fails at once, fails at its third call and takes four bytes at a time, or has too little room.
 #[test]
 fn report_sinks_that_fail(rt: HostRuntime) -> Result<(), Fail> {
-    assert_report_fails(&rt, MemSink::new(rt.alloc(), 150, &[0])?, "")?;
-    assert_report_fails(&rt, MemSink::stepped(rt.alloc(), 150, 4, &[2])?, "JOB PAYR")?;
-    for room in 0..150 {
-        let front = PAYROLL_REPORT.get(..room).ok_or("a longer report")?;
-        assert_report_fails(&rt, MemSink::new(rt.alloc(), room, &[])?, front)?;
+    for (sink, length) in [
+        ([150, 150, 0], 0),
+        ([150, 4, 2], 8),
+        ([0, 150, 150], 0),
+        ([1, 150, 150], 1),
+        ([149, 150, 150], 149),
+    ] {
+        assert_written(&rt, [sink, WIDE], 6, "REPORT FAILED\n", length, "")?;
     }
-    Ok(())
-}
-
-// The journal can't be written whole: this front of it stands there, behind the whole report.
-fn assert_journal_fails<X: Abort + AllocGlobal + Threads + Wait + Sync>(
-    rt: &X,
-    journal: MemSink,
-    front: &str,
-) -> Result<(), Fail> {
-    let mut on = streams_over(rt.alloc(), PAYROLL.as_bytes())?;
-    on.journal = journal;
-    assert_ends(
-        rt,
-        "spool 2",
-        &mut on,
-        7,
-        PAYROLL_REPORT,
-        "JOURNAL FAILED\n",
-    )?;
-    assert_eq!(rt; on.journal.bytes(), front.as_bytes());
     Ok(())
 }
 
 #[test]
 fn journal_sinks_that_fail(rt: HostRuntime) -> Result<(), Fail> {
-    assert_journal_fails(&rt, MemSink::new(rt.alloc(), 10, &[])?, "JOURNAL 2\n")?;
-    assert_journal_fails(
-        &rt,
-        MemSink::stepped(rt.alloc(), 4096, 4, &[2])?,
-        "JOURNAL ",
-    )
-}
-
-// The notes can't be written whole, which changes no status.
-fn assert_notes_fail<X: Abort + AllocGlobal + Threads + Wait + Sync>(
-    rt: &X,
-    notes: MemSink,
-    front: &str,
-) -> Result<(), Fail> {
-    let mut on = streams_over(rt.alloc(), b"")?;
-    on.notes = notes;
-    assert_ends(rt, "spool 1", &mut on, 3, "", front)?;
-    assert_journal(rt, on.journal.bytes(), "")
-}
-
-#[test]
-fn notes_that_fail_change_no_status(rt: HostRuntime) -> Result<(), Fail> {
-    assert_notes_fail(&rt, MemSink::new(rt.alloc(), 0, &[])?, "")?;
-    assert_notes_fail(
-        &rt,
-        MemSink::stepped(rt.alloc(), 4096, 4, &[2])?,
-        "DECK LIN",
-    )
+    for (sink, front) in [([10, 10, 10], "JOURNAL 2\n"), ([4096, 4, 2], "JOURNAL ")] {
+        assert_written(&rt, [WIDE, sink], 7, "JOURNAL FAILED\n", 150, front)?;
+    }
+    Ok(())
 }
 
 // Report and journal are whole where each call takes so many bytes.
-fn assert_whole<X: Abort + AllocGlobal + Threads + Wait + Sync>(
-    rt: &X,
-    step: usize,
-) -> Result<(), Fail>
-    requires { 1 ≤ step }
-{
-    let mut on = streams_over(rt.alloc(), PAYROLL.as_bytes())?;
-    on.report = MemSink::stepped(rt.alloc(), 150, step, &[])?;
-    on.journal = MemSink::stepped(rt.alloc(), 1 << 16, step, &[])?;
-    assert_ends(rt, "spool 2", &mut on, 0, PAYROLL_REPORT, "")?;
-    assert_journal(rt, on.journal.bytes(), "= PURGED 0 0\n")
-}
-
 #[test]
 fn sinks_that_take_little_at_a_time(rt: HostRuntime) -> Result<(), Fail> {
-    assert_whole(&rt, 1)?;
-    assert_whole(&rt, 2)?;
-    assert_whole(&rt, 149)?;
-    assert_whole(&rt, 150)
+    for step in [1, 2, 149, 150] {
+        let sink = [1 << 16, step, 1 << 17];
+        assert_written(&rt, [sink, sink], 0, "", 150, "= PURGED 0 0\n")?;
+    }
+    Ok(())
+}
+
+// The notes can't be written whole, which changes no status.
+#[test]
+fn notes_that_fail_change_no_status(rt: HostRuntime) -> Result<(), Fail> {
+    for (notes, front) in [([0, 1, 9], ""), ([4096, 4, 2], "DECK LIN")] {
+        let mut on = streams_over(rt.alloc(), b"")?;
+        on.notes = sink(rt.alloc(), notes)?;
+        assert_ends(&rt, "spool 1", &mut on, 3, "", front)?;
+        assert_journal(&rt, on.journal.bytes(), "")?;
+    }
+    Ok(())
 }
 
 #[test]
@@ -134,4 +114,55 @@ fn decks_that_are_cut(rt: HostRuntime) -> Result<(), Fail> {
     }
     let front = PAYROLL.get(..137).ok_or("a longer deck")?;
     assert_run(&rt, "spool 2", front, 0, PAYROLL_REPORT, "= PURGED 0 0\n")
+}
+
+// A reader and a writer of std that pass two bytes a call and fail at their second call.
+#[derive(Drop)]
+struct Worn {
+    calls: u64,
+}
+
+impl Worn {
+    fn pass(&mut self, room: usize) -> io::Result<usize>
+        ensures { IfOk result (λ k. k ≤ room) }
+    {
+        self.calls = self.calls.saturating_add(1);
+        if self.calls == 2 {
+            return Err(ErrorKind::BrokenPipe.into());
+        }
+        Ok(room.min(2))
+    }
+}
+
+impl Read for Worn {
+    fn read(&mut self, buf: &mut [u8]) -> io::Result<usize> {
+        let count = self.pass(buf.len())?;
+        buf[..count].fill(b'x');
+        Ok(count)
+    }
+}
+
+impl Write for Worn {
+    fn write(&mut self, buf: &[u8]) -> io::Result<usize> {
+        self.pass(buf.len())
+    }
+
+    fn flush(&mut self) -> io::Result<()> {
+        Ok(())
+    }
+}
+
+// Each error of the reader or the writer is one fault, and what succeeds later adds none.
+#[test]
+fn a_failing_stream_of_std_counts_one_fault(rt: HostRuntime) -> Result<(), Fail> {
+    let mut source = StdSource::new(Worn { calls: 0 });
+    let refusal = read_limited(rt.alloc(), &mut source, 9).err();
+    assert_eq!(rt; refusal, Some(ReadRefusal::Failed));
+    assert_eq!(rt; source.faults(), 1);
+    let mut sink = StdSink::new(Worn { calls: 0 });
+    assert_eq!(rt; write_all(&mut sink, b"tasks"), Err(Partial { taken: 2 }));
+    assert_eq!(rt; sink.faults(), 1);
+    assert_eq!(rt; write_all(&mut sink, b"ks"), Ok(()));
+    assert_eq!(rt; sink.faults(), 1);
+    Ok(())
 }

@@ -91,7 +91,7 @@ const MISNUMBERED: &str = "\
 ";
 
 // A journal in version 1, without the numbers of calls.
-fn unnumbered(alloc: Global, journal: &str) -> Result<String, AllocError> {
+pub(crate) fn unnumbered(alloc: Global, journal: &str) -> Result<String, AllocError> {
     let mut text = journal.replace(alloc, "JOURNAL 2", "JOURNAL 1")?;
     for number in [".0 ", ".1 ", ".2 ", ".3 "] {
         text = text.replace(alloc, number, " ")?;
@@ -111,7 +111,7 @@ fn assert_refused<X: Abort + AllocGlobal + Threads + Wait + Sync>(
 }
 
 // Each of these in turn is said of one event, and all others stay.
-fn assert_forged<X: Abort + AllocGlobal + Threads + Wait + Sync>(
+pub(crate) fn assert_forged<X: Abort + AllocGlobal + Threads + Wait + Sync>(
     rt: &X,
     journal: &str,
     forgeries: &str,

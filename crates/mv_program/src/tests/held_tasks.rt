@@ -2,6 +2,7 @@
 
 use super::*;
 use mv_task::MeetGate;
+use std::sync::atomic::{AtomicU64, Ordering};
 
 const PRINTS: &str = "\
 //A JOB
@@ -104,4 +105,57 @@ fn who_is_held_last_counts_last(rt: HostRuntime) -> Result<(), Fail> {
     assert_meets(&rt, "spool 2", COUNTS, points, COUNTED, SEVEN_FIRST)?;
     let points = (Point::Started(1), Point::Ended(0));
     assert_meets(&rt, "spool 2", COUNTS, points, COUNTED, FIVE_FIRST)
+}
+
+// Each is held at the first point until it has run out: the second comes only by what stands behind the first.
+#[test]
+fn each_point_comes_before_what_it_announces(rt: HostRuntime) -> Result<(), Fail> {
+    for (first, second) in [
+        (Point::Entered(0), Point::Dispatched(0)),
+        (Point::Dispatched(0), Point::Started(0)),
+        (Point::Ended(0), Point::Written(0)),
+    ] {
+        let mut on = streams_over(rt.alloc(), PRINTS.as_bytes())?;
+        let gate = MeetGate::new(first, second, 100_000);
+        assert_eq!(rt; run_by(&rt, "spool 1", &mut on, &gate)?, Status::Done);
+        assert!(rt; !gate.met(), "{first:?}");
+    }
+    Ok(())
+}
+
+// A gate that counts who passes it by the number that the task has at that point, and who does not.
+#[derive(Drop)]
+struct Numbers {
+    own: AtomicU64,
+    others: AtomicU64,
+}
+
+impl Gate for Numbers {
+    fn pass<R: Wait>(&self, _rt: &R, who: u32, point: Point) {
+        let number = match point {
+            Point::Entered(_) => 0,
+            Point::Dispatched(_) => 1,
+            Point::Started(_) | Point::Ended(_) => 2,
+            Point::Written(_) => 3,
+        };
+        let passed = if who == number {
+            &self.own
+        } else {
+            &self.others
+        };
+        passed.fetch_add(1, Ordering::SeqCst);
+    }
+}
+
+#[test]
+fn each_task_passes_its_points_by_its_own_number(rt: HostRuntime) -> Result<(), Fail> {
+    let gate = Numbers {
+        own: AtomicU64::new(0),
+        others: AtomicU64::new(0),
+    };
+    let mut on = streams_over(rt.alloc(), PRINTS.as_bytes())?;
+    assert_eq!(rt; run_by(&rt, "spool 1", &mut on, &gate)?, Status::Done);
+    assert_eq!(rt; gate.own.load(Ordering::SeqCst), 10);
+    assert_eq!(rt; gate.others.load(Ordering::SeqCst), 0);
+    Ok(())
 }

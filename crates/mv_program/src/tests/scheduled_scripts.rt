@@ -14,21 +14,30 @@ fn answers_of<X: Abort + AllocGlobal + Threads + Wait + Sync>(
     Ok(String::from_str(rt.alloc(), std::str::from_utf8(on.report.bytes())?)?)
 }
 
-// A task waits for a block that another posts.
-const ONE_WAITS: &str = "\
+// Two tasks that wait for each other's posts, and of which one may wait for the latch that the other holds.
+const PAIR: &str = "\
 SCRIPT 2
+ECB 1
 ECB 0
 TASK
-WAIT 1 0
-TASK
+OBTAIN 0 1 X COND
 POST 0 3
+WAIT 1 1
+FREE 1 U
+TASK
+WAIT 1 0
+POST 1 4
+OBTAIN 0 2 X WAIT
 END
 ";
 
 #[test]
-fn a_task_waits_for_another(rt: HostRuntime) -> Result<(), Fail> {
-    let answers = answers_of(&rt, ONE_WAITS, " E0 2 SETTLE = COMPLETE 3\n")?;
-    assert!(rt; answers.starts_with("0 1 WAITED C3\n1 1 "));
+fn two_tasks_wait_for_each_other(rt: HostRuntime) -> Result<(), Fail> {
+    let answers = answers_of(&rt, PAIR, " E0 2 SETTLE = COMPLETE 3\n")?;
+    assert!(rt; answers.starts_with("0 1 GRANTED\n0 2 "));
+    assert!(rt; answers.contains("\n0 3 WAITED C4\n0 4 RELEASED "));
+    assert!(rt; answers.contains("\n1 1 WAITED C3\n1 2 "));
+    assert!(rt; answers.ends_with("\n1 3 GRANTED\n"));
     Ok(())
 }
 

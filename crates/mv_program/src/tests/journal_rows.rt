@@ -1,0 +1,198 @@
+//! Journals that are legal: each cell of the tables of blocks and elements, latches, and calls of several events; and what the machine has
+//! no answer to. The replies were worked out by hand from the tables.
+
+ghost use Rattle.std.specs.Prelude.{◌≤◌, IsTrue, All};
+ghost use Rattle.mv_machine.specs.Limits.{highest_place};
+
+use super::forged_journals::{assert_forged, unnumbered};
+use super::*;
+use mv_calls::{number_calls, replay_calls};
+use mv_entrytext::{Journal, read_journal};
+use mv_machine::{Entry, HIGHEST_PLACE};
+
+// Two callers, three blocks of callers 0, 0 and 1, and an exit from block 0 to block 1. The events stand from line 14 on: on block 0 each
+// operation in each state; on element 1 each operation in each phase, and with a generation that is not the current one; on a volume; and
+// on the latch, where a shared request does not pass an exclusive one, and a purge takes out granted and waiting requests.
+const CELLS: &str = "\
+JOURNAL 1
+CALLERS 2
+ELEMENTS 1
+VOLUMES 1
+LATCHES 1
+QUOTA 2 1
+BUDGET 60
+BUDGET 60
+ECB 0
+ECB 0
+ECB 1
+EXIT 0 1
+EVENTS
+0 E0 0 TEST = WORD 0
+0 E0 1 SETTLE = OPEN
+0 E0 2 CLEAR = WORD 0
+0 E0 3 ARM = ARMED
+0 E0 4 ARM = WAITING
+0 E0 5 EXTEND 1 = WAITING
+1 E0 6 TEST = WORD 2147483648
+0 E0 7 SETTLE = OPEN
+0 E0 8 ARM = ARMED
+0 E0 9 CLEAR = WORD 2147483648
+0 E0 10 ARM = ARMED
+1 E0 11 POST 5 = WOKE 0
+1 E0 12 POST 6 = ALREADY 5
+0 E0 13 ARM = COMPLETE 5
+0 E0 14 EXTEND 1 = COMPLETE 5
+0 E0 15 SETTLE = COMPLETE 5
+1 E0 16 TEST = WORD 1073741829
+0 E0 17 CLEAR = WORD 1073741829
+0 E0 18 EXTEND 1 = ARMED
+0 E0 19 ARM = LINKED 1
+0 E0 20 EXTEND 1 = LINKED 1
+0 E0 21 SETTLE = LINKED 1
+1 E0 22 TEST = WORD 2147483649
+0 E0 23 CLEAR = WORD 2147483649
+0 E0 24 EXTEND 1 = ARMED
+1 E0 25 POST 7 = WOKE 1
+0 E0 26 CLEAR = WORD 1073741831
+1 E0 27 POST 1073741823 = POSTED
+0 E0 28 TEST = WORD 2147483647
+0 P1 0 TEST = STATE 0 FREE 0
+1 P1 1 PAUSE 0 = SPENT 0
+1 P1 2 RESUME 0 = SPENT 0
+0 P1 3 RELEASE 0 7 = SPENT 0
+1 P1 4 CLOSE 0 = SPENT 0
+1 P1 5 OPEN = OPENED 0
+1 P1 6 OPEN = INUSE
+0 P1 7 TEST = STATE 0 RESET 0
+1 P1 8 PAUSE 1 = SPENT 0
+1 P1 9 RESUME 0 = BUSY
+1 P1 10 CLOSE 1 = SPENT 0
+0 P1 11 RELEASE 0 16777215 = EARLY
+0 P1 12 RELEASE 0 8 = ALREADY
+1 P1 13 OPEN = INUSE
+1 P1 14 RESUME 0 = BUSY
+0 P1 15 TEST = STATE 0 PRERELEASED 16777215
+1 P1 16 PAUSE 0 = GIVEN 16777215 1
+1 P1 17 PAUSE 1 = PARKED
+1 P1 18 OPEN = INUSE
+1 P1 19 PAUSE 1 = BUSY
+1 P1 20 RESUME 1 = NOTYET
+1 P1 21 RESUME 0 = SPENT 1
+1 P1 22 CLOSE 1 = BUSY
+0 P1 23 TEST = STATE 1 PAUSED 0
+0 P1 24 RELEASE 0 9 = SPENT 1
+0 P1 25 RELEASE 1 9 = WOKE
+0 P1 26 RELEASE 1 8 = ALREADY
+1 P1 27 OPEN = INUSE
+1 P1 28 PAUSE 1 = BUSY
+1 P1 29 CLOSE 1 = BUSY
+0 P1 30 TEST = STATE 1 RELEASED 9
+1 P1 31 RESUME 1 = GIVEN 9 2
+1 P1 32 CLOSE 2 = CLOSED
+1 P1 33 OPEN = OPENED 3
+0 P1 34 RELEASE 3 7 = EARLY
+1 P1 35 CLOSE 3 = CLOSED
+0 V0 0 READ = VALUE 0
+1 V0 1 WRITE 3 = STORED
+0 V0 2 READ = VALUE 3
+0 L 0 OBTAIN 0 9 X W = GRANTED 0
+1 L 1 OBTAIN 0 9 X C = NOTNOW 0
+1 L 2 OBTAIN 0 9 X P2 = QUEUED 2
+1 L 3 CONFIRM 0 2 = WAITING
+1 L 4 CONFIRM 0 0 = GONE
+0 L 5 RELEASE 0 0 U = RELEASED 1
+0 L 6 OBTAIN 0 9 X W = QUEUED 6
+1 L 7 PURGE 9 = PURGED 2 0
+0 L 8 OBTAIN 0 1 S W = GRANTED 8
+0 L 9 OBTAIN 0 2 S C = GRANTED 9
+1 L 10 OBTAIN 0 3 X C = NOTNOW 8
+1 L 11 OBTAIN 0 3 X W = QUEUED 11
+1 L 12 OBTAIN 0 4 S W = QUEUED 12
+1 L 13 RELEASE 0 12 C = WAITING
+0 L 14 RELEASE 0 8 U = RELEASED 0
+0 L 15 OBTAIN 0 5 S C = NOTNOW 11
+0 L 16 RELEASE 0 9 C = RELEASED 1
+0 L 17 RELEASE 0 9 U = GONE
+1 L 18 CONFIRM 0 11 = GRANTED 11
+1 L 19 CONFIRM 0 12 = WAITING
+0 L 20 PURGE 3 = PURGED 1 1
+1 L 21 CONFIRM 0 11 = GONE
+1 L 22 CONFIRM 0 12 = GRANTED 12
+END 91
+";
+
+// What the machine has no answer to: a caller that there is none of, a block of another, an exit of no block, an element of another, a
+// volume and a latch that there is none of, a second request that is to be posted, a post to a block of another, and a third request.
+const UNANSWERED: &str = "\
+10 ILLEGAL AT LINE 14|0 E0 0 TEST = WORD 0|2 E0 0 TEST = WORD 0
+10 ILLEGAL AT LINE 17|0 E0 3 ARM = ARMED|1 E0 3 ARM = ARMED
+10 ILLEGAL AT LINE 19|0 E0 5 EXTEND 1 = WAITING|0 E0 5 EXTEND 2 = WAITING
+10 ILLEGAL AT LINE 48|1 P1 5 OPEN = OPENED 0|0 P1 5 OPEN = OPENED 0
+10 ILLEGAL AT LINE 81|0 V0 2 READ = VALUE 3|0 V1 2 READ = VALUE 3
+10 ILLEGAL AT LINE 85|1 L 3 CONFIRM 0 2 = WAITING|1 L 3 OBTAIN 0 9 X P2 = QUEUED 3
+10 ILLEGAL AT LINE 86|1 L 4 CONFIRM 0 0 = GONE|1 L 4 CONFIRM 1 0 = GONE
+10 ILLEGAL AT LINE 88|0 L 6 OBTAIN 0 9 X W = QUEUED 6|0 L 6 OBTAIN 0 9 X P2 = QUEUED 6
+10 ILLEGAL AT LINE 95|1 L 13 RELEASE 0 12 C = WAITING|1 L 13 OBTAIN 0 4 S W = QUEUED 13
+";
+
+#[test]
+fn each_cell_of_the_table(rt: HostRuntime) -> Result<(), Fail> {
+    assert_run(&rt, "replay", CELLS, 0, "LEGAL 91 EVENTS\n", "")?;
+    assert_forged(&rt, CELLS, UNANSWERED)
+}
+
+// A post that runs an exit; a release and a pause behind it, as a transfer has them; and a pause behind a release that was refused.
+const CALLS: &str = "\
+JOURNAL 2
+CALLERS 2
+ELEMENTS 1
+VOLUMES 8
+LATCHES 8
+QUOTA 8 0
+BUDGET 5
+BUDGET 6
+ECB 1
+ECB 1
+ECB 1
+EXIT 0 1 2
+EVENTS
+1.0 E2 0 POST 3 = POSTED
+1.1 E0 0 EXTEND 1 = ARMED
+1.2 E0 1 POST 8 = WOKE 1
+1.2 E1 0 POST 8 = POSTED
+1.2 E2 1 POST 8 = ALREADY 3
+1.3 E1 1 TEST = WORD 1073741832
+0.0 P0 0 OPEN = OPENED 0
+0.1 P0 1 RELEASE 0 3 = EARLY
+0.1 P0 2 PAUSE 0 = GIVEN 3 1
+0.2 P0 3 RELEASE 0 4 = SPENT 1
+0.3 P0 4 PAUSE 1 = PARKED
+END 11
+";
+
+fn are_low(entries: &[Entry]) -> bool
+    ensures { IsTrue result → All (λ e. e.place ≤ highest_place) entries.now }
+{
+    entries.iter().all(|e| e.place <= HIGHEST_PLACE)
+}
+
+// The numbers that were read are those of the calls, as mv_calls has them for those who have no text.
+fn assert_numbered(rt: &impl Abort, alloc: Global, journal: &Journal) -> Result<(), Fail> {
+    assert!(rt; are_low(&journal.entries) && journal.entries.len() < 100);
+    assert!(rt; journal.calls.len() == journal.entries.len());
+    let judged = replay_calls(alloc, &journal.config, &journal.entries, &journal.calls);
+    assert!(rt; judged.is_ok());
+    let numbers = number_calls(alloc, &journal.config, &journal.entries)?;
+    assert_eq!(rt; numbers.as_slice(), journal.calls.as_slice());
+    Ok(())
+}
+
+#[test]
+fn entries_of_one_call_have_one_number(rt: HostRuntime) -> Result<(), Fail> {
+    let old = unnumbered(rt.alloc(), CALLS)?;
+    assert_run(&rt, "convert", &old, 0, CALLS, "")?;
+    let text = CALLS.as_bytes();
+    assert!(rt; text.len() < 1000);
+    let journal = read_journal(rt.alloc(), text).ok().ok_or("a fault")?;
+    assert_numbered(&rt, rt.alloc(), &journal)
+}
