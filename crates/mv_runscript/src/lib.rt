@@ -12,6 +12,3 @@ mod trying;
 
 pub use run::{ScriptRun, run_script};
 pub use text::write_answers;
-
-#[cfg(test)]
-mod tests;

@@ -7,6 +7,3 @@ mod working;
 
 pub use mv_work::SpoolRun;
 pub use spool::run_deck;
-
-#[cfg(test)]
-mod tests;
