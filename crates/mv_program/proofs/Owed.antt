@@ -151,7 +151,7 @@ load_ends NoMemory t i report journal a = inr refl
 load_ends s t i report journal a = absurd i
 
 -- it fails no source
-pub load_never_reads : (s : Status) → EndsLoad s → s ≡ ReadFailed → ⊥
+load_never_reads : (s : Status) → EndsLoad s → s ≡ ReadFailed → ⊥
 load_never_reads s i e = subst (λ (k : Status). EndsLoad k) e i
 
 -- ---- every command

@@ -1,17 +1,20 @@
 -- What the writing of both texts leaves, and what a command on a journal leaves, is what their commands tell; and a run goes by its words.
-use Rattle.std.proofs.Common.{◌≡◌, ℕ, List, [], Option, Some, None, refl, sym, ap, subst, ◌∙◌, append-nil}
+use Rattle.std.proofs.Common.{◌≡◌, ℕ, true, false, List, [], Option, Some, None, refl, sym, ap, subst, ◌∙◌, append-nil}
 use Rattle.std.specs.Prelude.{IfSome, IsSomeAnd}
 use Rattle.mv_io.specs.Sink.{Appends}
 use Rattle.mv_ending.specs.Note.{NotesAfter}
 use Rattle.mv_ending.specs.Written.{WroteOf}
 use Rattle.mv_replay.specs.Outcome.{ReportAfter}
+use Rattle.mv_replay.specs.Outcome as replays
 use Rattle.mv_replay.specs.Status as replay
 use Rattle.mv_program.specs.declared.command.Command.{Command}
+use Rattle.mv_program.specs.declared.command.Command.TheVariants.{Spool, Load, Replay, Convert, Polled}
+use Rattle.mv_program.specs.declared.command.Command.TheVariants as asked
 use Rattle.mv_program.specs.declared.status.Status.{Status}
 use Rattle.mv_program.specs.declared.status.Status.TheVariants.{Done, Words, Deck, TooLong, ReadFailed, ReportFailed}
 use Rattle.mv_program.specs.declared.status.Status.TheVariants.{JournalFailed, NoMemory, Illegal, Text}
 use Rattle.mv_program.specs.declared.status.Status.TheVariants.{Script}
-use Rattle.mv_program.specs.Program.{TellsReport, Told, Writes, extent_of}
+use Rattle.mv_program.specs.Program.{Tells, TellsReport, Told, Writes, extent_of, has_journal, reads_input, reports_of}
 use Rattle.mv_program.specs.Status.{note_of, replay_of}
 
 -- what holds of the command holds of the words that are it
@@ -29,7 +32,7 @@ of_input Tells None left items report journal read tells = tt
 of_input Tells (Some xs) left items report journal read tells = subst (λ (bytes : List ℕ). Tells bytes report journal) read.0 tells
 
 -- so much was written of them as the status says
-pub texts_are_told : (Tells : List ℕ → List ℕ → List ℕ → Type 0) (s : Status) (input report0 report1 journal0 journal1 : Option (List ℕ))
+texts_are_told : (Tells : List ℕ → List ℕ → List ℕ → Type 0) (s : Status) (input report0 report1 journal0 journal1 : Option (List ℕ))
     (report journal : List ℕ) → IfSome input (λ bytes. Tells bytes report journal)
     → Writes s report0 report1 journal0 journal1 report journal → WroteOf Tells (extent_of s) input report0 report1 journal0 journal1
 texts_are_told Tells Done None report0 report1 journal0 journal1 report journal tells wrote = tt
@@ -41,12 +44,28 @@ texts_are_told Tells JournalFailed (Some xs) report0 report1 journal0 journal1 r
 texts_are_told Tells s input report0 report1 journal0 journal1 report journal tells wrote = absurd wrote
 
 -- the same of an input that was read
-pub read_is_told : (Tells : List ℕ → List ℕ → List ℕ → Type 0) (s : Status) (input left report0 report1 journal0 journal1 : Option (List ℕ))
+read_is_told : (Tells : List ℕ → List ℕ → List ℕ → Type 0) (s : Status) (input left report0 report1 journal0 journal1 : Option (List ℕ))
     (items report journal : List ℕ) → IfSome input (λ xs. (items ≡ xs) × (left ≡ Some [])) → Tells items report journal
     → Writes s report0 report1 journal0 journal1 report journal → WroteOf Tells (extent_of s) input report0 report1 journal0 journal1
 read_is_told Tells s input left report0 report1 journal0 journal1 items report journal read tells wrote =
     texts_are_told Tells s input report0 report1 journal0 journal1 report journal
     (of_input Tells input left items report journal read tells) wrote
+
+-- and so of every command that writes a journal, whether or not it reads its input
+pub run_is_told : (c : Command) (s : Status) (input left report0 report1 journal0 journal1 : Option (List ℕ)) (text report journal : List ℕ)
+    → has_journal c ≡ true → (reads_input c ≡ true → IfSome input (λ xs. (text ≡ xs) × (left ≡ Some [])))
+    → Tells c text report journal → Writes s report0 report1 journal0 journal1 report journal
+    → Told (Some c) s input report0 report1 journal0 journal1
+run_is_told (Spool n) s input left report0 report1 journal0 journal1 text report journal runs read tells wrote =
+    read_is_told (Tells (Spool n)) s input left report0 report1 journal0 journal1 text report journal (read refl) tells wrote
+run_is_told (Polled n seed) s input left report0 report1 journal0 journal1 text report journal runs read tells wrote =
+    read_is_told (Tells (Polled n seed)) s input left report0 report1 journal0 journal1 text report journal (read refl) tells wrote
+run_is_told asked.Script s input left report0 report1 journal0 journal1 text report journal runs read tells wrote =
+    read_is_told (Tells asked.Script) s input left report0 report1 journal0 journal1 text report journal (read refl) tells wrote
+run_is_told (Load jobs n) s input left report0 report1 journal0 journal1 text report journal runs read tells wrote =
+    texts_are_told (Tells (Load jobs n)) s (Some []) report0 report1 journal0 journal1 report journal tells wrote
+run_is_told Replay s input left report0 report1 journal0 journal1 text report journal runs read tells wrote = absurd cc
+run_is_told Convert s input left report0 report1 journal0 journal1 text report journal runs read tells wrote = absurd cc
 
 -- ---- a command on a journal has none itself
 
@@ -56,7 +75,7 @@ nothing_more None new e = tt
 nothing_more (Some xs) new e = e ∙ ap Some (sym (append-nil xs))
 
 -- So much of a report of this kind was written, and no journal, as that status says.
-pub report_is_told : (Reports : List ℕ → List ℕ → Type 0) (s : Status) (input report0 report1 journal0 journal1 : Option (List ℕ))
+report_is_told : (Reports : List ℕ → List ℕ → Type 0) (s : Status) (input report0 report1 journal0 journal1 : Option (List ℕ))
     → IsSomeAnd (replay_of s) (λ r. ReportAfter Reports r input report0 report1) → journal1 ≡ journal0
     → WroteOf (TellsReport Reports) (extent_of s) input report0 report1 journal0 journal1
 report_is_told Reports Done None report0 report1 journal0 journal1 wrote kept = tt
@@ -74,6 +93,19 @@ report_is_told Reports NoMemory input report0 report1 journal0 journal1 wrote ke
 report_is_told Reports (Illegal line) input report0 report1 journal0 journal1 wrote kept = (wrote, kept)
 report_is_told Reports (Script f) input report0 report1 journal0 journal1 wrote kept = absurd wrote
 report_is_told Reports (Text f) input report0 report1 journal0 journal1 wrote kept = (wrote, kept)
+
+-- and so of each that judges one
+pub judge_is_told : (c : Command) (s : Status) (input report0 report1 journal0 journal1 : Option (List ℕ)) → has_journal c ≡ false
+    → IsSomeAnd (replay_of s) (λ r. ReportAfter (reports_of c) r input report0 report1) → journal1 ≡ journal0
+    → Told (Some c) s input report0 report1 journal0 journal1
+judge_is_told Replay s input report0 report1 journal0 journal1 judges wrote kept =
+    report_is_told replays.IsReplayReport s input report0 report1 journal0 journal1 wrote kept
+judge_is_told Convert s input report0 report1 journal0 journal1 judges wrote kept =
+    report_is_told replays.IsConversion s input report0 report1 journal0 journal1 wrote kept
+judge_is_told (Spool n) s input report0 report1 journal0 journal1 judges wrote kept = absurd cc
+judge_is_told (Polled n seed) s input report0 report1 journal0 journal1 judges wrote kept = absurd cc
+judge_is_told (Load jobs n) s input report0 report1 journal0 journal1 judges wrote kept = absurd cc
+judge_is_told asked.Script s input report0 report1 journal0 journal1 judges wrote kept = absurd cc
 
 -- and its line stands on the notes
 pub note_is_told : (s : Status) (before now : ℕ) (old new : Option (List ℕ))

@@ -69,6 +69,12 @@ pub record TellsReport (Reports : List ℕ → List ℕ → Type 0) (input repor
   pub reported : Reports input report
   pub none : journal ≡ []
 
+-- what a command that judges a journal reports
+abbrev pub reports_of : Command → List ℕ → List ℕ → Type 0
+reports_of Replay = replay.IsReplayReport
+reports_of Convert = replay.IsConversion
+reports_of _ = λ input report. ⊥
+
 -- the texts that each command tells
 abbrev pub Tells : Command → (input report journal : List ℕ) → Type 0
 Tells (Spool n) input report journal = TellsRun n input report journal
@@ -116,6 +122,21 @@ TextOf Found TooLong old new = IfSome old (λ bytes. IsTooLong deck_limit bytes 
 TextOf Found ReadFailed old new = IfSome old (λ bytes. IsCut deck_limit bytes new)
 TextOf Found NoMemory old new = IsAllOrNothing deck_limit old new
 TextOf Found _ old new = ⊥
+
+-- what such a text was where it was not read, by the status
+abbrev pub IsUnread : Status → Option (List ℕ) → Option (List ℕ) → Type 0
+IsUnread TooLong old new = IfSome old (λ bytes. IsTooLong deck_limit bytes new)
+IsUnread ReadFailed old new = IfSome old (λ bytes. IsCut deck_limit bytes new)
+IsUnread NoMemory old new = IsAllOrNothing deck_limit old new
+IsUnread _ old new = ⊥
+
+-- and where it was read, and the command has no texts to tell of it
+abbrev pub IsRefused : Command → List ℕ → Status → Type 0
+IsRefused (Spool n) input (Deck fault) = IsFound n input (Deck fault)
+IsRefused (Polled n seed) input (Deck fault) = IsFound n input (Deck fault)
+IsRefused asked.Script input (Script fault) = IsScriptFound input (Script fault)
+IsRefused command input NoMemory = Unit {0}
+IsRefused _ input _ = ⊥
 
 -- that of a deck, with its faults
 abbrev pub DeckOf : ℕ → Status → Option (List ℕ) → Option (List ℕ) → Type 0

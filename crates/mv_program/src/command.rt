@@ -5,6 +5,7 @@ ghost use Rattle.std.specs.String.{string_bytes};
 ghost use Rattle.mv_program.specs.Command.{command_of as command_by_words, initiators_of as initiators_by_word, jobs_of};
 ghost use Rattle.mv_program.specs.Command.{load_of as load_by_numbers, polled_of as polled_by_numbers, seed_of};
 ghost use Rattle.mv_program.specs.Command.{IsRunnable, AreInitiators};
+ghost use Rattle.mv_program.specs.Program.{has_journal, reads_input};
 
 use mv_deck::{MOST_INITIATORS, MOST_JOBS};
 use mv_line::number_within;
@@ -24,6 +25,33 @@ pub enum Command {
     Convert,
     /// Run the deck of the input with this many initiators, 1 to 8, on one thread, in the round order of this seed, 0 to 9999.
     Polled(u32, u32),
+}
+
+impl Command {
+    /// Whether it runs something, and has a journal to write.
+    pub(crate) fn has_journal(self) -> bool
+        ensures { result ≡ has_journal self }
+    {
+        match self {
+            Command::Replay | Command::Convert => false,
+            Command::Spool(_) | Command::Load(_, _) | Command::Script | Command::Polled(_, _) =>
+                true,
+        }
+    }
+
+    /// Whether it reads its input.
+    pub(crate) fn reads_input(self) -> bool
+        ensures { result ≡ reads_input self }
+    {
+        match self {
+            Command::Load(_, _) => false,
+            Command::Spool(_)
+            | Command::Script
+            | Command::Replay
+            | Command::Convert
+            | Command::Polled(_, _) => true,
+        }
+    }
 }
 
 /// The highest seed of a polled run.

@@ -4,6 +4,7 @@
 mod command;
 mod laws;
 mod program;
+mod running;
 mod status;
 mod texts;
 

@@ -1,5 +1,5 @@
 -- What the run of a load came to is what its summary and its journal tell.
-use Rattle.std.proofs.Common.{◌≡◌, ℕ, ◌≤◌, List, length, ap, sym, subst, ◌∙◌, arith}
+use Rattle.std.proofs.Common.{◌≡◌, ℕ, List, length, ap, sym, subst, ◌∙◌, arith}
 use Rattle.std.specs.Prelude.{All}
 use Rattle.mv_deck.specs.Deck.{JobData, deck_data}
 use Rattle.mv_deck.specs.Load.{load_text}

@@ -1,5 +1,5 @@
 -- What the run of a script came to is what its answers and its journal tell.
-use Rattle.std.proofs.Common.{◌≤◌, ap, sym, subst, ◌∙◌, arith}
+use Rattle.std.proofs.Common.{ap, sym, subst, ◌∙◌, arith}
 use Rattle.mv_machine.specs.Legal.{Legal}
 use Rattle.mv_machine.specs.Setup.{Setup}
 use Rattle.mv_entrytext.specs.Journal.{journal_text}

@@ -1,0 +1,121 @@
+//! A command that runs something: what it reads, and the writing of both texts that it tells. Clauses cite specs/Program and
+//! specs/Status.
+
+ghost use Rattle.std.specs.Prelude.{[], ◌≡◌, ◌≢◌, ◌≤◌, length, true, false, Some, IfOk, IfErr, IfSome};
+ghost use Rattle.mv_io.specs.Fault.{Rose};
+ghost use Rattle.mv_ending.specs.Written.{IfUnwritten};
+ghost use Rattle.mv_program.specs.Command.{IsRunnable};
+ghost use Rattle.mv_program.specs.Program.{Asks, InputOf, IsRefused, IsUnread, Tells, Told, Writes, extent_of, has_journal, reads_input};
+ghost use Rattle.mv_program.specs.Texts.{deck_limit};
+
+use crate::command::Command;
+use crate::status::Status;
+use crate::texts::{Texts, Way, texts_of, texts_of_load, texts_of_script};
+use mv_io::{Sink, Source, read_limited, write_all};
+use mv_task::Gate;
+use std::alloc::Global;
+use std::sync::Wait;
+use std::thread::Threads;
+
+/// The most bytes of a deck, and of a script.
+const DECK_LIMIT: usize = 1_048_576;
+
+// The text that a command reads, whole; an empty one where it reads nothing.
+fn read_text<D: Source>(alloc: Global, command: Command, input: &mut D) -> Result<Vec<u8>, Status>
+    ensures short { IfOk result (λ text. length text.items ≤ deck_limit) }
+    ensures whole { reads_input command ≡ true → IfOk result (λ text. IfSome (D.left input.old)
+        (λ bytes. (text.items ≡ bytes) × (D.left input.new ≡ Some []))) }
+    ensures unread { reads_input command ≡ false → input.new ≡ input.old }
+    ensures reads { IfErr result (λ _. reads_input command ≡ true) }
+    ensures refused { IfErr result (λ status. IsUnread status (D.left input.old) (D.left input.new)) }
+    ensures read_failed { IfErr result (λ status. status ≡ Status.ReadFailed → Rose (D.faults input.old) (D.faults input.new)) }
+    ensures count { D.faults input.old ≤ D.faults input.new }
+{
+    if !command.reads_input() {
+        return Ok(Vec::new(alloc));
+    }
+    let text = read_limited(alloc, input, DECK_LIMIT)?;
+    Ok(text)
+}
+
+// The texts that a command tells of the text that it read, or why it has none.
+fn texts_told<X: Threads + Wait + Sync, G: Gate + Sync>(
+    rt: &X,
+    alloc: Global,
+    command: Command,
+    text: &[u8],
+    gate: &G,
+) -> Result<Texts, Status>
+    requires runs { has_journal command ≡ true }
+    requires runnable { IsRunnable command }
+    requires short { length text.now ≤ deck_limit }
+    ensures told { IfOk result (λ texts. Tells command text.now texts.report.items texts.journal.items) }
+    ensures asked { IfOk result (λ _. Asks command text.now Status.Done) }
+    ensures refused { IfErr result (λ status. IsRefused command text.now status) }
+{
+    let texts = match command {
+        Command::Spool(initiators) => texts_of(rt, alloc, text, initiators, Way::Threads, gate)?,
+        Command::Polled(initiators, seed) => {
+            texts_of(rt, alloc, text, initiators, Way::Polled(seed), gate)?
+        }
+        Command::Load(jobs, initiators) => texts_of_load(rt, alloc, jobs, initiators, gate)?,
+        Command::Script => texts_of_script(rt, alloc, text)?,
+        // These run nothing.
+        Command::Replay | Command::Convert => unreachable!(),
+    };
+    Ok(texts)
+}
+
+// Writes the report, and then the journal.
+fn write_texts<R: Sink, K: Sink>(report: &mut R, journal: &mut K, texts: &Texts) -> Status
+    ensures written { Writes result (R.taken report.old) (R.taken report.new) (K.taken journal.old) (K.taken journal.new)
+        texts.now.report.items texts.now.journal.items }
+    ensures report_failed { result ≡ Status.ReportFailed → Rose (R.faults report.old) (R.faults report.new) }
+    ensures journal_failed { result ≡ Status.JournalFailed → Rose (K.faults journal.old) (K.faults journal.new) }
+    ensures no_journal { result ≡ Status.ReportFailed → journal.new ≡ journal.old }
+    ensures report_count { R.faults report.old ≤ R.faults report.new }
+    ensures journal_count { K.faults journal.old ≤ K.faults journal.new }
+{
+    if write_all(report, &texts.report).is_err() {
+        return Status::ReportFailed;
+    }
+    if write_all(journal, &texts.journal).is_err() {
+        return Status::JournalFailed;
+    }
+    Status::Done
+}
+
+/// Runs what a command asks, and writes its report and its journal. The words of the command are not asked again.
+pub(crate) fn run<X: Threads + Wait + Sync, D: Source, R: Sink, K: Sink, G: Gate + Sync>(
+    rt: &X,
+    alloc: Global,
+    command: Command,
+    input: &mut D,
+    report: &mut R,
+    journal: &mut K,
+    gate: &G,
+) -> Status
+    requires runs { has_journal command ≡ true }
+    requires runnable { IsRunnable command }
+    ensures words { result ≢ Status.Words }
+    ensures input { InputOf (Some command) result (D.left input.old) (D.left input.new) }
+    ensures told { Told (Some command) result (D.left input.old)
+        (R.taken report.old) (R.taken report.new) (K.taken journal.old) (K.taken journal.new) }
+    ensures read_failed { result ≡ Status.ReadFailed → Rose (D.faults input.old) (D.faults input.new) }
+    ensures report_failed { result ≡ Status.ReportFailed → Rose (R.faults report.old) (R.faults report.new) }
+    ensures journal_failed { result ≡ Status.JournalFailed → Rose (K.faults journal.old) (K.faults journal.new) }
+    ensures no_input { reads_input command ≡ false → input.new ≡ input.old }
+    ensures unwritten { IfUnwritten (extent_of result) ((report.new ≡ report.old) × (journal.new ≡ journal.old)) }
+    ensures no_journal { result ≡ Status.ReportFailed → journal.new ≡ journal.old }
+    ensures counts { (D.faults input.old ≤ D.faults input.new) × (R.faults report.old ≤ R.faults report.new)
+        × (K.faults journal.old ≤ K.faults journal.new) }
+{
+    let text = match read_text(alloc, command, input) {
+        Ok(text) => text,
+        Err(status) => return status,
+    };
+    match texts_told(rt, alloc, command, &text, gate) {
+        Ok(texts) => write_texts(report, journal, &texts),
+        Err(status) => status,
+    }
+}
