@@ -1,7 +1,7 @@
 -- The table of the numbers below 100 shows the two digits of each.
 use Rattle.std.proofs.Common.{◌≡◌, ℕ, ◌+◌, ◌*◌, ◌/◌, ◌%◌, ◌<◌, Bool, true, ◌&&◌, eqb, get_or, refl}
 use Rattle.std.proofs.lemmas.Bool.{agree_below_at, and_parts, eqb-true}
-use Rattle.mv_entrytext.specs.declared.number.TheConstants.{PAIRS}
+use Rattle.mv_entrytext.specs.declared.reserved.TheConstants.{PAIRS}
 
 abbrev shows : ℕ → Bool
 shows n = eqb (get_or PAIRS (n * 2) 0) (48 + n / 10) && eqb (get_or PAIRS (n * 2 + 1) 0) (48 + n % 10)

@@ -1,5 +1,6 @@
 pub mod Ranges
 pub mod Words
+pub mod Widths
 pub mod Reading
 pub mod EcbText
 pub mod ElementText

@@ -1,40 +1,49 @@
 //! Operations on event control blocks and their replies, as text: `specs/EcbText.antt`.
 
-ghost use Rattle.std.specs.Prelude.{◌≡◌, ◌++◌, OnOk};
+ghost use Rattle.std.specs.Prelude.{◌≡◌, ◌≤◌, ◌+◌, ◌++◌, vec_len, vec_capacity};
 ghost use Rattle.mv_entrytext.specs.EcbText.{ecb_op_text, ecb_reply_text, IsEcbReplyTyped, ecb_op, ecb_reply};
 ghost use Rattle.mv_entrytext.specs.Reading.{seen};
+ghost use Rattle.mv_entrytext.specs.Widths.{op_width, reply_width};
 
-use crate::number::{after, any_u32, number_u32, push_number, push_word};
+use crate::number::{after, any_u32, number_u32};
+use crate::reserved::{put_number, put_word};
 use mv_ecb::{EcbOp, EcbReply};
-use mv_io::NoMemory;
 
-pub(crate) fn push_ecb_op(out: &mut Vec<u8>, op: EcbOp) -> Result<(), NoMemory>
-    ensures { OnOk result (out.new.items ≡ out.old.items ++ ecb_op_text op) }
+#[inline(always)]
+pub(crate) fn put_ecb_op(out: &mut Vec<u8>, op: EcbOp)
+    requires room { vec_len out.old + op_width ≤ vec_capacity out.old }
+    ensures text { out.new.items ≡ out.old.items ++ ecb_op_text op }
+    ensures within { vec_len out.new ≤ vec_len out.old + op_width }
+    ensures capacity { vec_capacity out.new ≡ vec_capacity out.old }
 {
     match op {
-        EcbOp::Arm => push_word(out, b"ARM"),
-        EcbOp::Extend(exit) => push_number(out, b"EXTEND ", exit),
-        EcbOp::Settle => push_word(out, b"SETTLE"),
-        EcbOp::Clear => push_word(out, b"CLEAR"),
-        EcbOp::Post(code) => push_number(out, b"POST ", code),
-        EcbOp::Test => push_word(out, b"TEST"),
+        EcbOp::Arm => put_word(out, b"ARM"),
+        EcbOp::Extend(exit) => put_number(out, b"EXTEND ", exit),
+        EcbOp::Settle => put_word(out, b"SETTLE"),
+        EcbOp::Clear => put_word(out, b"CLEAR"),
+        EcbOp::Post(code) => put_number(out, b"POST ", code),
+        EcbOp::Test => put_word(out, b"TEST"),
     }
 }
 
-pub(crate) fn push_ecb_reply(out: &mut Vec<u8>, reply: EcbReply) -> Result<(), NoMemory>
-    ensures text { OnOk result (out.new.items ≡ out.old.items ++ ecb_reply_text reply) }
+#[inline(always)]
+pub(crate) fn put_ecb_reply(out: &mut Vec<u8>, reply: EcbReply)
+    requires room { vec_len out.old + reply_width ≤ vec_capacity out.old }
+    ensures text { out.new.items ≡ out.old.items ++ ecb_reply_text reply }
     ensures typed { IsEcbReplyTyped reply }
+    ensures within { vec_len out.new ≤ vec_len out.old + reply_width }
+    ensures capacity { vec_capacity out.new ≡ vec_capacity out.old }
 {
     match reply {
-        EcbReply::Armed => push_word(out, b"ARMED"),
-        EcbReply::Linked(exit) => push_number(out, b"LINKED ", exit),
-        EcbReply::Complete(code) => push_number(out, b"COMPLETE ", code),
-        EcbReply::Waiting => push_word(out, b"WAITING"),
-        EcbReply::Open => push_word(out, b"OPEN"),
-        EcbReply::Posted => push_word(out, b"POSTED"),
-        EcbReply::Woke(exit) => push_number(out, b"WOKE ", exit),
-        EcbReply::Already(code) => push_number(out, b"ALREADY ", code),
-        EcbReply::Word(word) => push_number(out, b"WORD ", word),
+        EcbReply::Armed => put_word(out, b"ARMED"),
+        EcbReply::Linked(exit) => put_number(out, b"LINKED ", exit),
+        EcbReply::Complete(code) => put_number(out, b"COMPLETE ", code),
+        EcbReply::Waiting => put_word(out, b"WAITING"),
+        EcbReply::Open => put_word(out, b"OPEN"),
+        EcbReply::Posted => put_word(out, b"POSTED"),
+        EcbReply::Woke(exit) => put_number(out, b"WOKE ", exit),
+        EcbReply::Already(code) => put_number(out, b"ALREADY ", code),
+        EcbReply::Word(word) => put_number(out, b"WORD ", word),
     }
 }
 

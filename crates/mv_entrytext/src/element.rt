@@ -1,66 +1,83 @@
 //! Operations on pause elements and their replies, as text: `specs/ElementText.antt`.
 
-ghost use Rattle.std.specs.Prelude.{◌≡◌, ◌++◌, OnOk};
+ghost use Rattle.std.specs.Prelude.{◌≡◌, ◌≤◌, ◌+◌, ◌++◌, vec_len, vec_capacity};
 ghost use Rattle.mv_entrytext.specs.ElementText.{phase_text, element_op_text, element_reply_text, IsElementOpTyped, phase, highest_kept};
 ghost use Rattle.mv_entrytext.specs.ElementText.{state_in, element_state, element_op, telling_reply, element_reply};
 ghost use Rattle.mv_entrytext.specs.Reading.{seen};
+ghost use Rattle.mv_entrytext.specs.Widths.{op_width, phase_width, reply_width};
 
-use crate::number::{after, any_u32, number_u32, push_number, push_pair, push_word, two_numbers};
+use crate::number::{after, any_u32, number_u32, two_numbers};
+use crate::reserved::{put_number, put_pair, put_word};
 use mv_element::{ElementOp, ElementReply, ElementState, Phase};
-use mv_io::NoMemory;
 use mv_machine::HIGHEST_GENERATION;
 
-fn push_phase(out: &mut Vec<u8>, phase: Phase) -> Result<(), NoMemory>
-    ensures { OnOk result (out.new.items ≡ out.old.items ++ phase_text phase) }
+#[inline(always)]
+fn put_phase(out: &mut Vec<u8>, phase: Phase)
+    requires room { vec_len out.old + phase_width ≤ vec_capacity out.old }
+    ensures text { out.new.items ≡ out.old.items ++ phase_text phase }
+    ensures within { vec_len out.new ≤ vec_len out.old + phase_width }
+    ensures capacity { vec_capacity out.new ≡ vec_capacity out.old }
 {
     match phase {
-        Phase::Free => push_word(out, b"FREE"),
-        Phase::Reset => push_word(out, b"RESET"),
-        Phase::Prereleased => push_word(out, b"PRERELEASED"),
-        Phase::Paused => push_word(out, b"PAUSED"),
-        Phase::Released => push_word(out, b"RELEASED"),
+        Phase::Free => put_word(out, b"FREE"),
+        Phase::Reset => put_word(out, b"RESET"),
+        Phase::Prereleased => put_word(out, b"PRERELEASED"),
+        Phase::Paused => put_word(out, b"PAUSED"),
+        Phase::Released => put_word(out, b"RELEASED"),
     }
 }
 
-fn push_state(out: &mut Vec<u8>, state: ElementState) -> Result<(), NoMemory>
-    ensures { OnOk result (out.new.items ≡ out.old.items ++ element_reply_text (ElementReply.State state)) }
+#[inline(always)]
+fn put_state(out: &mut Vec<u8>, state: ElementState)
+    requires room { vec_len out.old + reply_width ≤ vec_capacity out.old }
+    ensures text { out.new.items ≡ out.old.items ++ element_reply_text (ElementReply.State state) }
+    ensures within { vec_len out.new ≤ vec_len out.old + reply_width }
+    ensures capacity { vec_capacity out.new ≡ vec_capacity out.old }
 {
-    push_number(out, b"STATE ", state.generation)?;
-    push_word(out, b" ")?;
-    push_phase(out, state.phase)?;
-    push_number(out, b" ", state.code)
+    put_number(out, b"STATE ", state.generation);
+    put_word(out, b" ");
+    put_phase(out, state.phase);
+    put_number(out, b" ", state.code);
 }
 
-pub(crate) fn push_element_op(out: &mut Vec<u8>, op: ElementOp) -> Result<(), NoMemory>
-    ensures text { OnOk result (out.new.items ≡ out.old.items ++ element_op_text op) }
+#[inline(always)]
+pub(crate) fn put_element_op(out: &mut Vec<u8>, op: ElementOp)
+    requires room { vec_len out.old + op_width ≤ vec_capacity out.old }
+    ensures text { out.new.items ≡ out.old.items ++ element_op_text op }
     ensures typed { IsElementOpTyped op }
+    ensures within { vec_len out.new ≤ vec_len out.old + op_width }
+    ensures capacity { vec_capacity out.new ≡ vec_capacity out.old }
 {
     match op {
-        ElementOp::Open => push_word(out, b"OPEN"),
-        ElementOp::Pause(generation) => push_number(out, b"PAUSE ", generation),
-        ElementOp::Resume(generation) => push_number(out, b"RESUME ", generation),
-        ElementOp::Release(generation, code) => push_pair(out, b"RELEASE ", generation, code),
-        ElementOp::Close(generation) => push_number(out, b"CLOSE ", generation),
-        ElementOp::Test => push_word(out, b"TEST"),
+        ElementOp::Open => put_word(out, b"OPEN"),
+        ElementOp::Pause(generation) => put_number(out, b"PAUSE ", generation),
+        ElementOp::Resume(generation) => put_number(out, b"RESUME ", generation),
+        ElementOp::Release(generation, code) => put_pair(out, b"RELEASE ", generation, code),
+        ElementOp::Close(generation) => put_number(out, b"CLOSE ", generation),
+        ElementOp::Test => put_word(out, b"TEST"),
     }
 }
 
-pub(crate) fn push_element_reply(out: &mut Vec<u8>, reply: ElementReply) -> Result<(), NoMemory>
-    ensures { OnOk result (out.new.items ≡ out.old.items ++ element_reply_text reply) }
+#[inline(always)]
+pub(crate) fn put_element_reply(out: &mut Vec<u8>, reply: ElementReply)
+    requires room { vec_len out.old + reply_width ≤ vec_capacity out.old }
+    ensures text { out.new.items ≡ out.old.items ++ element_reply_text reply }
+    ensures within { vec_len out.new ≤ vec_len out.old + reply_width }
+    ensures capacity { vec_capacity out.new ≡ vec_capacity out.old }
 {
     match reply {
-        ElementReply::Opened(generation) => push_number(out, b"OPENED ", generation),
-        ElementReply::InUse => push_word(out, b"INUSE"),
-        ElementReply::Parked => push_word(out, b"PARKED"),
-        ElementReply::Given { code, next } => push_pair(out, b"GIVEN ", code, next),
-        ElementReply::Spent(generation) => push_number(out, b"SPENT ", generation),
-        ElementReply::Busy => push_word(out, b"BUSY"),
-        ElementReply::NotYet => push_word(out, b"NOTYET"),
-        ElementReply::Early => push_word(out, b"EARLY"),
-        ElementReply::Woke => push_word(out, b"WOKE"),
-        ElementReply::Already => push_word(out, b"ALREADY"),
-        ElementReply::Closed => push_word(out, b"CLOSED"),
-        ElementReply::State(state) => push_state(out, state),
+        ElementReply::Opened(generation) => put_number(out, b"OPENED ", generation),
+        ElementReply::InUse => put_word(out, b"INUSE"),
+        ElementReply::Parked => put_word(out, b"PARKED"),
+        ElementReply::Given { code, next } => put_pair(out, b"GIVEN ", code, next),
+        ElementReply::Spent(generation) => put_number(out, b"SPENT ", generation),
+        ElementReply::Busy => put_word(out, b"BUSY"),
+        ElementReply::NotYet => put_word(out, b"NOTYET"),
+        ElementReply::Early => put_word(out, b"EARLY"),
+        ElementReply::Woke => put_word(out, b"WOKE"),
+        ElementReply::Already => put_word(out, b"ALREADY"),
+        ElementReply::Closed => put_word(out, b"CLOSED"),
+        ElementReply::State(state) => put_state(out, state),
     }
 }
 

@@ -1,6 +1,6 @@
 //! Entries as text: `specs/EntryText.antt`.
 
-ghost use Rattle.std.specs.Prelude.{◌≡◌, ◌≤◌, ◌++◌, OnOk, codes, decimal};
+ghost use Rattle.std.specs.Prelude.{◌≡◌, ◌≤◌, ◌+◌, ◌++◌, codes, decimal, vec_len, vec_capacity};
 ghost use Rattle.mv_entrytext.specs.Ranges.{highest_u32};
 ghost use Rattle.mv_entrytext.specs.Words.{◌<+>◌};
 ghost use Rattle.mv_entrytext.specs.EcbText.{ecb_op, ecb_reply};
@@ -8,104 +8,129 @@ ghost use Rattle.mv_entrytext.specs.ElementText.{element_op, element_reply};
 ghost use Rattle.mv_entrytext.specs.VolumeText.{volume_op, volume_reply};
 ghost use Rattle.mv_entrytext.specs.LatchText.{latch_op, latch_reply};
 ghost use Rattle.mv_entrytext.specs.Reading.{seen};
+ghost use Rattle.mv_entrytext.specs.Widths.{caller_width, entry_width, event_width, front_width, object_width, op_width, reply_width};
 ghost use Rattle.mv_entrytext.specs.EntryText.{caller_text, caller_read, object_text, op_text, reply_text, entry_text, IsObjectTyped};
 ghost use Rattle.mv_entrytext.specs.EntryText.{IsOpTyped, IsReplyTyped, IsTyped, object_read, event, entry_on, entry_read};
 
-use crate::ecb::{push_ecb_op, push_ecb_reply, read_ecb_op, read_ecb_reply};
-use crate::element::{push_element_op, push_element_reply, read_element_op, read_element_reply};
-use crate::latch::{push_latch_op, push_latch_reply, read_latch_op, read_latch_reply};
-use crate::number::{after, any_u32, number_u32, push_number, push_word};
+use crate::ecb::{put_ecb_op, put_ecb_reply, read_ecb_op, read_ecb_reply};
+use crate::element::{put_element_op, put_element_reply, read_element_op, read_element_reply};
+use crate::latch::{put_latch_op, put_latch_reply, read_latch_op, read_latch_reply};
+use crate::number::{after, any_u32, number_u32};
+use crate::reserved::{put_number, put_word};
 use crate::version::Version;
-use crate::volume::{push_volume_op, push_volume_reply, read_volume_op, read_volume_reply};
+use crate::volume::{put_volume_op, put_volume_reply, read_volume_op, read_volume_reply};
 use mv_ecb::{EcbOp, EcbReply};
 use mv_element::{ElementOp, ElementReply};
-use mv_io::NoMemory;
 use mv_latch::{LatchOp, LatchReply};
 use mv_machine::{Entry, HIGHEST_PLACE, Object, Op, Reply, VolumeOp, VolumeReply};
 
-fn push_object(out: &mut Vec<u8>, object: Object) -> Result<(), NoMemory>
-    ensures text { OnOk result (out.new.items ≡ out.old.items ++ object_text object) }
+#[inline(always)]
+fn put_object(out: &mut Vec<u8>, object: Object)
+    requires room { vec_len out.old + object_width ≤ vec_capacity out.old }
+    ensures text { out.new.items ≡ out.old.items ++ object_text object }
     ensures typed { IsObjectTyped object }
+    ensures within { vec_len out.new ≤ vec_len out.old + object_width }
+    ensures capacity { vec_capacity out.new ≡ vec_capacity out.old }
 {
     match object {
-        Object::Ecb(n) => push_number(out, b"E", n),
-        Object::Element(n) => push_number(out, b"P", n),
-        Object::Volume(n) => push_number(out, b"V", n),
-        Object::Latches => push_word(out, b"L"),
+        Object::Ecb(n) => put_number(out, b"E", n),
+        Object::Element(n) => put_number(out, b"P", n),
+        Object::Volume(n) => put_number(out, b"V", n),
+        Object::Latches => put_word(out, b"L"),
     }
 }
 
-fn push_op(out: &mut Vec<u8>, op: Op) -> Result<(), NoMemory>
-    ensures text { OnOk result (out.new.items ≡ out.old.items ++ op_text op) }
-    ensures typed { OnOk result (IsOpTyped op) }
+#[inline(always)]
+fn put_op(out: &mut Vec<u8>, op: Op)
+    requires room { vec_len out.old + op_width ≤ vec_capacity out.old }
+    ensures text { out.new.items ≡ out.old.items ++ op_text op }
+    ensures typed { IsOpTyped op }
+    ensures within { vec_len out.new ≤ vec_len out.old + op_width }
+    ensures capacity { vec_capacity out.new ≡ vec_capacity out.old }
 {
     match op {
-        Op::Ecb(op) => push_ecb_op(out, op),
-        Op::Element(op) => push_element_op(out, op),
-        Op::Volume(op) => push_volume_op(out, op),
-        Op::Latch(op) => push_latch_op(out, op),
+        Op::Ecb(op) => put_ecb_op(out, op),
+        Op::Element(op) => put_element_op(out, op),
+        Op::Volume(op) => put_volume_op(out, op),
+        Op::Latch(op) => put_latch_op(out, op),
     }
 }
 
-fn push_reply(out: &mut Vec<u8>, reply: Reply) -> Result<(), NoMemory>
-    ensures text { OnOk result (out.new.items ≡ out.old.items ++ reply_text reply) }
+#[inline(always)]
+fn put_reply(out: &mut Vec<u8>, reply: Reply)
+    requires room { vec_len out.old + reply_width ≤ vec_capacity out.old }
+    ensures text { out.new.items ≡ out.old.items ++ reply_text reply }
     ensures typed { IsReplyTyped reply }
+    ensures within { vec_len out.new ≤ vec_len out.old + reply_width }
+    ensures capacity { vec_capacity out.new ≡ vec_capacity out.old }
 {
     match reply {
-        Reply::Ecb(reply) => push_ecb_reply(out, reply),
-        Reply::Element(reply) => push_element_reply(out, reply),
-        Reply::Volume(reply) => push_volume_reply(out, reply),
-        Reply::Latch(reply) => push_latch_reply(out, reply),
+        Reply::Ecb(reply) => put_ecb_reply(out, reply),
+        Reply::Element(reply) => put_element_reply(out, reply),
+        Reply::Volume(reply) => put_volume_reply(out, reply),
+        Reply::Latch(reply) => put_latch_reply(out, reply),
     }
 }
 
 // A caller, and the number of its call, if it is given.
-fn push_caller(out: &mut Vec<u8>, caller: u32, call: Option<u32>) -> Result<(), NoMemory>
-    ensures text { OnOk result (out.new.items ≡ out.old.items ++ caller_text caller call) }
-    ensures typed { OnOk result (caller ≤ highest_u32) }
+#[inline(always)]
+fn put_caller(out: &mut Vec<u8>, caller: u32, call: Option<u32>)
+    requires room { vec_len out.old + caller_width ≤ vec_capacity out.old }
+    ensures text { out.new.items ≡ out.old.items ++ caller_text caller call }
+    ensures typed { caller ≤ highest_u32 }
+    ensures within { vec_len out.new ≤ vec_len out.old + caller_width }
+    ensures capacity { vec_capacity out.new ≡ vec_capacity out.old }
 {
-    push_number(out, b"", caller)?;
+    put_number(out, b"", caller);
     match call {
-        Some(number) => push_number(out, b".", number),
-        None => Ok(()),
+        Some(number) => put_number(out, b".", number),
+        None => {}
     }
 }
 
 // Who, on which object, at which place.
-fn push_front(out: &mut Vec<u8>, call: Option<u32>, entry: &Entry) -> Result<(), NoMemory>
-    ensures text { OnOk result (out.new.items
-        ≡ out.old.items ++ (caller_text entry.now.caller call <+> object_text entry.now.object <+> decimal entry.now.place)) }
-    ensures typed { OnOk result ((entry.now.caller ≤ highest_u32) × IsObjectTyped entry.now.object) }
+#[inline(always)]
+fn put_front(out: &mut Vec<u8>, call: Option<u32>, entry: &Entry)
+    requires room { vec_len out.old + front_width ≤ vec_capacity out.old }
+    ensures text { out.new.items
+        ≡ out.old.items ++ (caller_text entry.now.caller call <+> object_text entry.now.object <+> decimal entry.now.place) }
+    ensures typed { (entry.now.caller ≤ highest_u32) × IsObjectTyped entry.now.object }
+    ensures within { vec_len out.new ≤ vec_len out.old + front_width }
+    ensures capacity { vec_capacity out.new ≡ vec_capacity out.old }
 {
-    push_caller(out, entry.caller, call)?;
-    push_word(out, b" ")?;
-    push_object(out, entry.object)?;
-    push_number(out, b" ", entry.place)
+    put_caller(out, entry.caller, call);
+    put_word(out, b" ");
+    put_object(out, entry.object);
+    put_number(out, b" ", entry.place);
 }
 
 // What was done, and the reply.
-fn push_event(out: &mut Vec<u8>, entry: &Entry) -> Result<(), NoMemory>
-    ensures text { OnOk result (out.new.items ≡ out.old.items ++ (op_text entry.now.op <+> codes "=" <+> reply_text entry.now.reply)) }
-    ensures typed { OnOk result (IsOpTyped entry.now.op × IsReplyTyped entry.now.reply) }
+#[inline(always)]
+fn put_event(out: &mut Vec<u8>, entry: &Entry)
+    requires room { vec_len out.old + event_width ≤ vec_capacity out.old }
+    ensures text { out.new.items ≡ out.old.items ++ (op_text entry.now.op <+> codes "=" <+> reply_text entry.now.reply) }
+    ensures typed { IsOpTyped entry.now.op × IsReplyTyped entry.now.reply }
+    ensures within { vec_len out.new ≤ vec_len out.old + event_width }
+    ensures capacity { vec_capacity out.new ≡ vec_capacity out.old }
 {
-    push_op(out, entry.op)?;
-    push_word(out, b" = ")?;
-    push_reply(out, entry.reply)
+    put_op(out, entry.op);
+    put_word(out, b" = ");
+    put_reply(out, entry.reply);
 }
 
 /// Appends an entry's line without its LF, with the number of its call, if it is given.
 #[tactic(auto, unfolding(crate::specs::EntryText::entry_text))]
-pub(crate) fn push_entry(
-    out: &mut Vec<u8>,
-    call: Option<u32>,
-    entry: &Entry,
-) -> Result<(), NoMemory>
-    ensures text { OnOk result (out.new.items ≡ out.old.items ++ entry_text call entry.now) }
-    ensures typed { OnOk result (IsTyped entry.now) }
+#[inline(always)]
+pub(crate) fn put_entry(out: &mut Vec<u8>, call: Option<u32>, entry: &Entry)
+    requires room { vec_len out.old + entry_width ≤ vec_capacity out.old }
+    ensures text { out.new.items ≡ out.old.items ++ entry_text call entry.now }
+    ensures typed { IsTyped entry.now }
+    ensures within { vec_len out.new ≤ vec_len out.old + entry_width }
+    ensures capacity { vec_capacity out.new ≡ vec_capacity out.old }
 {
-    push_front(out, call, entry)?;
-    push_word(out, b" ")?;
-    push_event(out, entry)
+    put_front(out, call, entry);
+    put_word(out, b" ");
+    put_event(out, entry);
 }
 
 #[tactic(auto, unfolding(crate::specs::EntryText::object_read, crate::specs::Reading::behind))]

@@ -1,68 +1,81 @@
 //! Operations on the latch set and their replies, as text: `specs/LatchText.antt`.
 
-ghost use Rattle.std.specs.Prelude.{◌≡◌, ◌++◌, OnOk};
+ghost use Rattle.std.specs.Prelude.{◌≡◌, ◌≤◌, ◌+◌, ◌++◌, vec_len, vec_capacity};
 ghost use Rattle.mv_entrytext.specs.LatchText.{mode_text, form_text, condition_text, latch_op_text, latch_reply_text, IsFormTyped};
 ghost use Rattle.mv_entrytext.specs.LatchText.{IsLatchOpTyped, IsLatchReplyTyped, mode_read, form_read, condition, obtain_rest, obtain};
 ghost use Rattle.mv_entrytext.specs.LatchText.{release, latch_op, latch_reply};
 ghost use Rattle.mv_entrytext.specs.Reading.{seen};
+ghost use Rattle.mv_entrytext.specs.Widths.{object_width, op_width, reply_width};
 
-use crate::number::{
-    after, any_u32, any_u64, push_number, push_pair, push_wide, push_word, two_numbers,
-};
-use mv_io::NoMemory;
+use crate::number::{after, any_u32, any_u64, two_numbers};
+use crate::reserved::{put_number, put_pair, put_wide, put_word};
 use mv_latch::{LatchForm, LatchOp, LatchReply, Mode};
 
-fn push_mode(out: &mut Vec<u8>, mode: Mode) -> Result<(), NoMemory>
-    ensures { OnOk result (out.new.items ≡ out.old.items ++ mode_text mode) }
+#[inline(always)]
+fn put_mode(out: &mut Vec<u8>, mode: Mode)
+    requires room { vec_len out.old + 1 ≤ vec_capacity out.old }
+    ensures text { out.new.items ≡ out.old.items ++ mode_text mode }
+    ensures within { vec_len out.new ≤ vec_len out.old + 1 }
+    ensures capacity { vec_capacity out.new ≡ vec_capacity out.old }
 {
     match mode {
-        Mode::Shared => push_word(out, b"S"),
-        Mode::Exclusive => push_word(out, b"X"),
+        Mode::Shared => put_word(out, b"S"),
+        Mode::Exclusive => put_word(out, b"X"),
     }
 }
 
-fn push_form(out: &mut Vec<u8>, form: LatchForm) -> Result<(), NoMemory>
-    ensures text { OnOk result (out.new.items ≡ out.old.items ++ form_text form) }
+#[inline(always)]
+fn put_form(out: &mut Vec<u8>, form: LatchForm)
+    requires room { vec_len out.old + object_width ≤ vec_capacity out.old }
+    ensures text { out.new.items ≡ out.old.items ++ form_text form }
     ensures typed { IsFormTyped form }
+    ensures within { vec_len out.new ≤ vec_len out.old + object_width }
+    ensures capacity { vec_capacity out.new ≡ vec_capacity out.old }
 {
     match form {
-        LatchForm::Conditional => push_word(out, b"C"),
-        LatchForm::Waiting => push_word(out, b"W"),
-        LatchForm::Posted(ecb) => push_number(out, b"P", ecb),
+        LatchForm::Conditional => put_word(out, b"C"),
+        LatchForm::Waiting => put_word(out, b"W"),
+        LatchForm::Posted(ecb) => put_number(out, b"P", ecb),
     }
 }
 
-fn push_condition(out: &mut Vec<u8>, conditional: bool) -> Result<(), NoMemory>
-    ensures { OnOk result (out.new.items ≡ out.old.items ++ condition_text conditional) }
+#[inline(always)]
+fn put_condition(out: &mut Vec<u8>, conditional: bool)
+    requires room { vec_len out.old + 1 ≤ vec_capacity out.old }
+    ensures text { out.new.items ≡ out.old.items ++ condition_text conditional }
+    ensures within { vec_len out.new ≤ vec_len out.old + 1 }
+    ensures capacity { vec_capacity out.new ≡ vec_capacity out.old }
 {
     if conditional {
-        push_word(out, b"C")
+        put_word(out, b"C");
     } else {
-        push_word(out, b"U")
+        put_word(out, b"U");
     }
 }
 
-fn push_obtain(
-    out: &mut Vec<u8>,
-    latch: u32,
-    requestor: u64,
-    mode: Mode,
-    form: LatchForm,
-) -> Result<(), NoMemory>
-    ensures text { OnOk result (out.new.items ≡ out.old.items ++ latch_op_text (LatchOp.Obtain latch requestor mode form)) }
-    ensures typed { OnOk result (IsFormTyped form) }
+#[inline(always)]
+fn put_obtain(out: &mut Vec<u8>, latch: u32, requestor: u64, mode: Mode, form: LatchForm)
+    requires room { vec_len out.old + op_width ≤ vec_capacity out.old }
+    ensures text { out.new.items ≡ out.old.items ++ latch_op_text (LatchOp.Obtain latch requestor mode form) }
+    ensures typed { IsFormTyped form }
+    ensures within { vec_len out.new ≤ vec_len out.old + op_width }
+    ensures capacity { vec_capacity out.new ≡ vec_capacity out.old }
 {
-    push_number(out, b"OBTAIN ", latch)?;
-    push_wide(out, b" ", requestor)?;
-    push_word(out, b" ")?;
-    push_mode(out, mode)?;
-    push_word(out, b" ")?;
-    push_form(out, form)
+    put_number(out, b"OBTAIN ", latch);
+    put_wide(out, b" ", requestor);
+    put_word(out, b" ");
+    put_mode(out, mode);
+    put_word(out, b" ");
+    put_form(out, form);
 }
 
-pub(crate) fn push_latch_op(out: &mut Vec<u8>, op: LatchOp) -> Result<(), NoMemory>
-    ensures text { OnOk result (out.new.items ≡ out.old.items ++ latch_op_text op) }
-    ensures typed { OnOk result (IsLatchOpTyped op) }
+#[inline(always)]
+pub(crate) fn put_latch_op(out: &mut Vec<u8>, op: LatchOp)
+    requires room { vec_len out.old + op_width ≤ vec_capacity out.old }
+    ensures text { out.new.items ≡ out.old.items ++ latch_op_text op }
+    ensures typed { IsLatchOpTyped op }
+    ensures within { vec_len out.new ≤ vec_len out.old + op_width }
+    ensures capacity { vec_capacity out.new ≡ vec_capacity out.old }
 {
     match op {
         LatchOp::Obtain {
@@ -70,33 +83,37 @@ pub(crate) fn push_latch_op(out: &mut Vec<u8>, op: LatchOp) -> Result<(), NoMemo
             requestor,
             mode,
             form,
-        } => push_obtain(out, latch, requestor, mode, form),
-        LatchOp::Confirm { latch, id } => push_pair(out, b"CONFIRM ", latch, id),
+        } => put_obtain(out, latch, requestor, mode, form),
+        LatchOp::Confirm { latch, id } => put_pair(out, b"CONFIRM ", latch, id),
         LatchOp::Release {
             latch,
             id,
             conditional,
         } => {
-            push_pair(out, b"RELEASE ", latch, id)?;
-            push_word(out, b" ")?;
-            push_condition(out, conditional)
+            put_pair(out, b"RELEASE ", latch, id);
+            put_word(out, b" ");
+            put_condition(out, conditional);
         }
-        LatchOp::Purge { requestor } => push_wide(out, b"PURGE ", requestor),
+        LatchOp::Purge { requestor } => put_wide(out, b"PURGE ", requestor),
     }
 }
 
-pub(crate) fn push_latch_reply(out: &mut Vec<u8>, reply: LatchReply) -> Result<(), NoMemory>
-    ensures text { OnOk result (out.new.items ≡ out.old.items ++ latch_reply_text reply) }
+#[inline(always)]
+pub(crate) fn put_latch_reply(out: &mut Vec<u8>, reply: LatchReply)
+    requires room { vec_len out.old + reply_width ≤ vec_capacity out.old }
+    ensures text { out.new.items ≡ out.old.items ++ latch_reply_text reply }
     ensures typed { IsLatchReplyTyped reply }
+    ensures within { vec_len out.new ≤ vec_len out.old + reply_width }
+    ensures capacity { vec_capacity out.new ≡ vec_capacity out.old }
 {
     match reply {
-        LatchReply::Granted(id) => push_number(out, b"GRANTED ", id),
-        LatchReply::Queued(id) => push_number(out, b"QUEUED ", id),
-        LatchReply::NotNow(id) => push_number(out, b"NOTNOW ", id),
-        LatchReply::Waiting => push_word(out, b"WAITING"),
-        LatchReply::Gone => push_word(out, b"GONE"),
-        LatchReply::Released { granted } => push_number(out, b"RELEASED ", granted),
-        LatchReply::Purged { removed, granted } => push_pair(out, b"PURGED ", removed, granted),
+        LatchReply::Granted(id) => put_number(out, b"GRANTED ", id),
+        LatchReply::Queued(id) => put_number(out, b"QUEUED ", id),
+        LatchReply::NotNow(id) => put_number(out, b"NOTNOW ", id),
+        LatchReply::Waiting => put_word(out, b"WAITING"),
+        LatchReply::Gone => put_word(out, b"GONE"),
+        LatchReply::Released { granted } => put_number(out, b"RELEASED ", granted),
+        LatchReply::Purged { removed, granted } => put_pair(out, b"PURGED ", removed, granted),
     }
 }
 

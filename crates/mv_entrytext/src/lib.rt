@@ -13,6 +13,7 @@ mod line;
 mod number;
 mod reader;
 mod reading;
+mod reserved;
 mod version;
 mod volume;
 mod writing;

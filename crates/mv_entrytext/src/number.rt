@@ -1,18 +1,17 @@
 //! Numbers in a text: `specs/Reading.antt`.
 
-ghost use Rattle.std.specs.Prelude.{◌≡◌, ◌≤◌, ◌<◌, ◌+◌, ◌/◌, ◌%◌, [], ◌∷◌, ◌++◌, OnOk, IfSome, MatchOption, true, false};
-ghost use Rattle.std.specs.Prelude.{nat_eq, Bool, Some, decimal, drop, take, length, vec_len, vec_capacity};
+ghost use Rattle.std.specs.Prelude.{◌≡◌, ◌≤◌, ◌<◌, ◌++◌, OnOk, IfSome, MatchOption, true, false};
+ghost use Rattle.std.specs.Prelude.{nat_eq, Bool, Some, decimal, drop, take, length};
 ghost use Rattle.std.specs.List.{starts_with};
 ghost use Rattle.mv_line.specs.Number.{is_number, number_of, value_behind, within};
 ghost use Rattle.mv_entrytext.specs.Words.{◌<+>◌};
 ghost use Rattle.mv_entrytext.specs.Reading.{seen, digit_count, number as number_at, any_u32, any_u64, parted};
 
-use itoa::Buffer;
+use crate::reserved::{NUMBER_WIDTH, put_digits};
 use mv_io::NoMemory;
 use mv_line::wide_number_within;
 
 /// Appends a word and a number behind it.
-#[inline(always)]
 pub(crate) fn push_number(out: &mut Vec<u8>, word: &[u8], number: u32) -> Result<(), NoMemory>
     ensures { OnOk result (out.new.items ≡ out.old.items ++ (word.now ++ decimal number)) }
 {
@@ -20,7 +19,6 @@ pub(crate) fn push_number(out: &mut Vec<u8>, word: &[u8], number: u32) -> Result
 }
 
 /// The same of a number of eight bytes.
-#[inline(always)]
 pub(crate) fn push_wide(out: &mut Vec<u8>, word: &[u8], number: u64) -> Result<(), NoMemory>
     ensures { OnOk result (out.new.items ≡ out.old.items ++ (word.now ++ decimal number)) }
 {
@@ -28,8 +26,7 @@ pub(crate) fn push_wide(out: &mut Vec<u8>, word: &[u8], number: u64) -> Result<(
     push_digits(out, number)
 }
 
-/// Appends a word. Each caller's word is a constant, and inlined it is stored as such, with no call that copies its bytes.
-#[inline(always)]
+/// Appends a word.
 pub(crate) fn push_word(out: &mut Vec<u8>, word: &[u8]) -> Result<(), NoMemory>
     ensures { OnOk result (out.new.items ≡ out.old.items ++ word.now) }
 {
@@ -37,81 +34,16 @@ pub(crate) fn push_word(out: &mut Vec<u8>, word: &[u8]) -> Result<(), NoMemory>
     Ok(())
 }
 
-// Appends a number. Those of up to eight digits, nearly all of a journal, are written in their place, and not copied there.
+// Appends a number. Its digits are told once, by `put_digits`.
 fn push_digits(out: &mut Vec<u8>, number: u64) -> Result<(), NoMemory>
     ensures { OnOk result (out.new.items ≡ out.old.items ++ decimal number) }
 {
-    if number < 10_000 {
-        out.reserve(4)?;
-        put_short(out, number);
-        return Ok(());
-    }
-    if number < 100_000_000 {
-        out.reserve(8)?;
-        put_short(out, number / 10_000);
-        put_pair(out, number % 10_000 / 100);
-        put_pair(out, number % 10_000 % 100);
-        return Ok(());
-    }
-    out.extend_from_slice(Buffer::new().format(number).as_bytes())?;
+    out.reserve(NUMBER_WIDTH)?;
+    put_digits(out, number);
     Ok(())
 }
 
-// A number of at most four digits, where there is room for so many.
-#[inline(always)]
-fn put_short(out: &mut Vec<u8>, number: u64)
-    requires short { number < 10000 }
-    requires room { vec_len out.old + 4 ≤ vec_capacity out.old }
-    ensures text { out.new.items ≡ out.old.items ++ decimal number }
-    ensures within { vec_len out.new ≤ vec_len out.old + 4 }
-    ensures capacity { vec_capacity out.new ≡ vec_capacity out.old }
-{
-    if number < 10 {
-        put_digit(out, number);
-    } else if number < 100 {
-        put_pair(out, number);
-    } else if number < 1000 {
-        put_digit(out, number / 100);
-        put_pair(out, number % 100);
-    } else {
-        put_pair(out, number / 100);
-        put_pair(out, number % 100);
-    }
-}
-
-// The two digits of each number below 100.
-static PAIRS: [u8; 200] =
-    *b"00010203040506070809101112131415161718192021222324252627282930313233343536373839404142434445464748495051525354555657585960616263646566676869707172737475767778798081828384858687888990919293949596979899";
-
-// Two digits, where there is room for them.
-#[inline(always)]
-fn put_pair(out: &mut Vec<u8>, pair: u64)
-    requires pair { pair < 100 }
-    requires room { vec_len out.old + 2 ≤ vec_capacity out.old }
-    ensures text { out.new.items ≡ out.old.items ++ ((48 + pair / 10) ∷ (48 + pair % 10) ∷ []) }
-    ensures within { vec_len out.new ≡ vec_len out.old + 2 }
-    ensures capacity { vec_capacity out.new ≡ vec_capacity out.old }
-{
-    let at = pair as usize * 2;
-    let (tens, ones) = (PAIRS[at], PAIRS[at + 1]);
-    out.push_reserved(tens);
-    out.push_reserved(ones);
-}
-
-// A digit, where there is room for it.
-#[inline(always)]
-fn put_digit(out: &mut Vec<u8>, digit: u64)
-    requires digit { digit < 10 }
-    requires room { vec_len out.old < vec_capacity out.old }
-    ensures text { out.new.items ≡ out.old.items ++ ((48 + digit) ∷ []) }
-    ensures within { vec_len out.new ≡ vec_len out.old + 1 }
-    ensures capacity { vec_capacity out.new ≡ vec_capacity out.old }
-{
-    out.push_reserved(b'0' + digit as u8);
-}
-
 /// Appends a word and two numbers behind it.
-#[inline(always)]
 pub(crate) fn push_pair(
     out: &mut Vec<u8>,
     word: &[u8],

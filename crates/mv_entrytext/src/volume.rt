@@ -1,31 +1,40 @@
 //! Operations on volumes and their replies, as text: `specs/VolumeText.antt`.
 
-ghost use Rattle.std.specs.Prelude.{◌≡◌, ◌++◌, OnOk};
+ghost use Rattle.std.specs.Prelude.{◌≡◌, ◌≤◌, ◌+◌, ◌++◌, vec_len, vec_capacity};
 ghost use Rattle.mv_entrytext.specs.VolumeText.{volume_op_text, volume_reply_text, IsVolumeOpTyped, IsVolumeReplyTyped, volume_op};
 ghost use Rattle.mv_entrytext.specs.VolumeText.{volume_reply};
 ghost use Rattle.mv_entrytext.specs.Reading.{seen};
+ghost use Rattle.mv_entrytext.specs.Widths.{op_width, reply_width};
 
-use crate::number::{after, any_u32, push_number, push_word};
-use mv_io::NoMemory;
+use crate::number::{after, any_u32};
+use crate::reserved::{put_number, put_word};
 use mv_machine::{VolumeOp, VolumeReply};
 
-pub(crate) fn push_volume_op(out: &mut Vec<u8>, op: VolumeOp) -> Result<(), NoMemory>
-    ensures text { OnOk result (out.new.items ≡ out.old.items ++ volume_op_text op) }
+#[inline(always)]
+pub(crate) fn put_volume_op(out: &mut Vec<u8>, op: VolumeOp)
+    requires room { vec_len out.old + op_width ≤ vec_capacity out.old }
+    ensures text { out.new.items ≡ out.old.items ++ volume_op_text op }
     ensures typed { IsVolumeOpTyped op }
+    ensures within { vec_len out.new ≤ vec_len out.old + op_width }
+    ensures capacity { vec_capacity out.new ≡ vec_capacity out.old }
 {
     match op {
-        VolumeOp::Read => push_word(out, b"READ"),
-        VolumeOp::Write(number) => push_number(out, b"WRITE ", number),
+        VolumeOp::Read => put_word(out, b"READ"),
+        VolumeOp::Write(number) => put_number(out, b"WRITE ", number),
     }
 }
 
-pub(crate) fn push_volume_reply(out: &mut Vec<u8>, reply: VolumeReply) -> Result<(), NoMemory>
-    ensures text { OnOk result (out.new.items ≡ out.old.items ++ volume_reply_text reply) }
+#[inline(always)]
+pub(crate) fn put_volume_reply(out: &mut Vec<u8>, reply: VolumeReply)
+    requires room { vec_len out.old + reply_width ≤ vec_capacity out.old }
+    ensures text { out.new.items ≡ out.old.items ++ volume_reply_text reply }
     ensures typed { IsVolumeReplyTyped reply }
+    ensures within { vec_len out.new ≤ vec_len out.old + reply_width }
+    ensures capacity { vec_capacity out.new ≡ vec_capacity out.old }
 {
     match reply {
-        VolumeReply::Value(number) => push_number(out, b"VALUE ", number),
-        VolumeReply::Stored => push_word(out, b"STORED"),
+        VolumeReply::Value(number) => put_number(out, b"VALUE ", number),
+        VolumeReply::Stored => put_word(out, b"STORED"),
     }
 }
 

@@ -1,6 +1,6 @@
 //! The journal, written from its first line to its last: `specs/Journal.antt`.
 
-ghost use Rattle.std.specs.Prelude.{◌≡◌, ◌<◌, ◌^◌, ◌++◌, ◌∷◌, [], List, length, All, map, OnOk, IfOk, codes, decimal};
+ghost use Rattle.std.specs.Prelude.{◌≡◌, ◌≤◌, ◌<◌, ◌+◌, ◌^◌, ◌++◌, ◌∷◌, [], List, length, All, map, OnOk, IfOk, codes, decimal, vec_len, vec_capacity};
 ghost use Rattle.std.specs.List.{flat_map};
 ghost use Rattle.mv_machine.specs.Config.{setup_of, exit_of};
 ghost use Rattle.mv_machine.specs.Legal.{Legal};
@@ -10,15 +10,18 @@ ghost use Rattle.mv_entrytext.specs.EntryText.{IsInRange, IsTyped};
 ghost use Rattle.mv_entrytext.specs.Journal.{JournalOf, Callers, Elements, Volumes, Latches, Quota, Budget, Owner, ExitTo};
 ghost use Rattle.mv_entrytext.specs.Journal.{Line, EntryOf, End, line, counts_text, lists_text, head_text, text1};
 ghost use Rattle.mv_entrytext.specs.Journal.{journal_text};
+ghost use Rattle.mv_entrytext.specs.Widths.{line_width};
 ghost use Rattle.mv_entrytext.specs.Writer.{IsWrittenTo};
 
-use crate::entry::push_entry;
+use crate::entry::put_entry;
 use crate::number::{push_number, push_pair, push_wide, push_word};
+use crate::reserved::{LINE_WIDTH, put_word};
 use crate::version::Version;
 use mv_calls::CallCounters;
 use mv_io::NoMemory;
 use mv_machine::{Config, Entry, Exit, History, ValidConfig};
 use std::alloc::Global;
+use std::mem::replace;
 
 // A word and a number on a line.
 fn push_line(out: &mut Vec<u8>, word: &[u8], number: u32) -> Result<(), NoMemory>
@@ -152,13 +155,29 @@ fn push_head(out: &mut Vec<u8>, version: Version, config: &Config) -> Result<(),
     push_word(out, b"EVENTS\n")
 }
 
+// The line of an entry, where there is room for it.
 #[tactic(auto, unfolding(crate::specs::Journal::line))]
+#[inline(always)]
+fn put_entry_line(out: &mut Vec<u8>, call: Option<u32>, entry: &Entry)
+    requires room { vec_len out.old + line_width ≤ vec_capacity out.old }
+    ensures text { out.new.items ≡ out.old.items ++ line (EntryOf call entry.now) }
+    ensures typed { IsTyped entry.now }
+{
+    put_entry(out, call, entry);
+    put_word(out, b"\n");
+}
+
 fn push_entry_line(out: &mut Vec<u8>, call: Option<u32>, entry: &Entry) -> Result<(), NoMemory>
     ensures text { OnOk result (out.new.items ≡ out.old.items ++ line (EntryOf call entry.now)) }
     ensures typed { OnOk result (IsTyped entry.now) }
 {
-    push_entry(out, call, entry)?;
-    push_word(out, b"\n")
+    out.reserve(LINE_WIDTH)?;
+    // It is taken out until the line is whole, so that its length stays in a register, and is not stored for each byte.
+    let alloc = *out.allocator();
+    let mut line = replace(out, Vec::new(alloc));
+    put_entry_line(&mut line, call, entry);
+    *out = line;
+    Ok(())
 }
 
 /// The text of a journal, written line by line, in one buffer that grows by doubling.

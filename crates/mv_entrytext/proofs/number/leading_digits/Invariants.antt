@@ -1,5 +1,5 @@
 -- The digits so far, and what they show.
-use Rattle.std.proofs.Common.{◌≡◌, ◌+◌, ◌-◌, ◌≤◌, ◌<◌, ◌^◌, length, drop, take}
+use Rattle.std.proofs.Common.{◌≡◌, ◌+◌, ◌-◌, ◌≤◌, ◌<◌, ◌^◌, drop, take}
 use Rattle.std.specs.List.{prefix_len}
 use Rattle.mv_line.specs.Byte.{is_digit}
 use Rattle.mv_line.specs.Number.{value_behind}

@@ -2,19 +2,19 @@
 use Rattle.std.proofs.Common.{◌/◌, arith, append_assoc}
 use Rattle.std.proofs.lemmas.Fmt.{decimal_digit}
 use Rattle.itoa.proofs.Decimal.{decimal_two, decimal_pair}
-use Rattle.mv_entrytext.proofs.number.put_short.Goals as goal
+use Rattle.mv_entrytext.proofs.reserved.put_short.Goals as goal
 
 pub returns-then-number-lt10-clause-text : goal.returns-then-number-lt10-clause-text
 returns-then-number-lt10-clause-text c = rw (c.put_digit.ensures.text, decimal_digit c.args.number c.if-number-lt10.true)
 
 pub returns-then-number-lt100-clause-text : goal.returns-then-number-lt100-clause-text
 returns-then-number-lt100-clause-text c =
-    rw (c.put_pair.ensures.text, decimal_two c.args.number c.if-number-lt10.false c.if-number-lt100.true)
+    rw (c.put_two.ensures.text, decimal_two c.args.number c.if-number-lt10.false c.if-number-lt100.true)
 
 pub returns-then-number-lt1000-clause-text : goal.returns-then-number-lt1000-clause-text
 returns-then-number-lt1000-clause-text c =
     rw (
-      c.put_pair-then-number-lt1000.ensures.text,
+      c.put_two-then-number-lt1000.ensures.text,
       c.put_digit-then-number-lt1000.ensures.text,
       decimal_pair c.args.number c.if-number-lt100.false (omega arith),
       decimal_digit (c.args.number / 100) (omega arith),
@@ -24,9 +24,7 @@ returns-then-number-lt1000-clause-text c =
 pub returns-else-number-lt1000-clause-text : goal.returns-else-number-lt1000-clause-text
 returns-else-number-lt1000-clause-text c =
     rw (
-      c.put_pair-else-number-lt1000-2.ensures.text,
-      c.put_pair-else-number-lt1000.ensures.text,
+      c.put_four.ensures.text,
       decimal_pair c.args.number c.if-number-lt100.false (omega arith),
       decimal_two (c.args.number / 100) (omega arith) (omega arith),
-      append_assoc,
     )

@@ -1,0 +1,169 @@
+//! Words and numbers, appended where there is room for them: `specs/Widths.antt`. Nothing is asked for each, and nothing refused.
+
+ghost use Rattle.std.specs.Prelude.{◌≡◌, ◌≤◌, ◌<◌, ◌+◌, ◌/◌, ◌%◌, [], ◌∷◌, ◌++◌, decimal, length, vec_len, vec_capacity};
+ghost use Rattle.mv_entrytext.specs.Words.{◌<+>◌};
+ghost use Rattle.mv_entrytext.specs.Widths.{number_width};
+
+use itoa::Buffer;
+use std::mem::replace;
+
+/// The digits of a number of eight bytes.
+pub(crate) const NUMBER_WIDTH: usize = 20;
+
+/// An entry's line with its LF takes no more bytes.
+pub(crate) const LINE_WIDTH: usize = 220;
+
+/// A word. Each caller's word is a constant, and inlined it is stored as such, several bytes at once.
+#[inline(always)]
+pub(crate) fn put_word(out: &mut Vec<u8>, word: &[u8])
+    requires room { vec_len out.old + length word.now ≤ vec_capacity out.old }
+    ensures text { out.new.items ≡ out.old.items ++ word.now }
+    ensures within { vec_len out.new ≡ vec_len out.old + length word.now }
+    ensures capacity { vec_capacity out.new ≡ vec_capacity out.old }
+{
+    for byte in word {
+        out.push_reserved(*byte);
+    }
+}
+
+/// A word and a number behind it.
+#[inline(always)]
+pub(crate) fn put_number(out: &mut Vec<u8>, word: &[u8], number: u32)
+    requires room { vec_len out.old + length word.now + number_width ≤ vec_capacity out.old }
+    ensures text { out.new.items ≡ out.old.items ++ (word.now ++ decimal number) }
+    ensures within { vec_len out.new ≤ vec_len out.old + length word.now + number_width }
+    ensures capacity { vec_capacity out.new ≡ vec_capacity out.old }
+{
+    put_wide(out, word, u64::from(number));
+}
+
+/// The same of a number of eight bytes.
+#[inline(always)]
+pub(crate) fn put_wide(out: &mut Vec<u8>, word: &[u8], number: u64)
+    requires room { vec_len out.old + length word.now + number_width ≤ vec_capacity out.old }
+    ensures text { out.new.items ≡ out.old.items ++ (word.now ++ decimal number) }
+    ensures within { vec_len out.new ≤ vec_len out.old + length word.now + number_width }
+    ensures capacity { vec_capacity out.new ≡ vec_capacity out.old }
+{
+    put_word(out, word);
+    put_digits(out, number);
+}
+
+/// A word and two numbers behind it.
+#[inline(always)]
+pub(crate) fn put_pair(out: &mut Vec<u8>, word: &[u8], first: u32, second: u32)
+    requires room { vec_len out.old + length word.now + number_width + 1 + number_width ≤ vec_capacity out.old }
+    ensures text { out.new.items ≡ out.old.items ++ (word.now ++ (decimal first <+> decimal second)) }
+    ensures within { vec_len out.new ≤ vec_len out.old + length word.now + number_width + 1 + number_width }
+    ensures capacity { vec_capacity out.new ≡ vec_capacity out.old }
+{
+    put_number(out, word, first);
+    put_number(out, b" ", second);
+}
+
+/// A number. Nearly all have up to eight digits, which are written two at a time.
+#[inline(always)]
+pub(crate) fn put_digits(out: &mut Vec<u8>, number: u64)
+    requires room { vec_len out.old + number_width ≤ vec_capacity out.old }
+    ensures text { out.new.items ≡ out.old.items ++ decimal number }
+    ensures within { vec_len out.new ≤ vec_len out.old + number_width }
+    ensures capacity { vec_capacity out.new ≡ vec_capacity out.old }
+{
+    if number < 10_000 {
+        put_short(out, number);
+    } else if number < 100_000_000 {
+        put_short(out, number / 10_000);
+        put_four(out, number % 10_000);
+    } else {
+        // It is handed over and back, so that at all other numbers its length stays in a register.
+        let alloc = *out.allocator();
+        *out = with_digits(replace(out, Vec::new(alloc)), number);
+    }
+}
+
+// A number of more digits.
+#[cold]
+#[inline(never)]
+fn with_digits(out: Vec<u8>, number: u64) -> Vec<u8>
+    requires long { 100000000 ≤ number }
+    requires room { vec_len out + number_width ≤ vec_capacity out }
+    ensures text { result.items ≡ out.items ++ decimal number }
+    ensures within { vec_len result ≤ vec_len out + number_width }
+    ensures capacity { vec_capacity result ≡ vec_capacity out }
+{
+    let mut out = out;
+    if number < 1_000_000_000_000 {
+        put_short(&mut out, number / 100_000_000);
+        put_four(&mut out, number / 10_000 % 10_000);
+        put_four(&mut out, number % 10_000);
+    } else {
+        put_word(&mut out, Buffer::new().format(number).as_bytes());
+    }
+    out
+}
+
+// A number of at most four digits.
+#[inline(always)]
+fn put_short(out: &mut Vec<u8>, number: u64)
+    requires short { number < 10000 }
+    requires room { vec_len out.old + 4 ≤ vec_capacity out.old }
+    ensures text { out.new.items ≡ out.old.items ++ decimal number }
+    ensures within { vec_len out.new ≤ vec_len out.old + 4 }
+    ensures capacity { vec_capacity out.new ≡ vec_capacity out.old }
+{
+    if number < 10 {
+        put_digit(out, number);
+    } else if number < 100 {
+        put_two(out, number);
+    } else if number < 1000 {
+        put_digit(out, number / 100);
+        put_two(out, number % 100);
+    } else {
+        put_four(out, number);
+    }
+}
+
+// Four digits.
+#[inline(always)]
+fn put_four(out: &mut Vec<u8>, number: u64)
+    requires four { number < 10000 }
+    requires room { vec_len out.old + 4 ≤ vec_capacity out.old }
+    ensures text { out.new.items ≡ out.old.items
+        ++ ((48 + number / 100 / 10) ∷ (48 + number / 100 % 10) ∷ (48 + number % 100 / 10) ∷ (48 + number % 100 % 10) ∷ []) }
+    ensures within { vec_len out.new ≡ vec_len out.old + 4 }
+    ensures capacity { vec_capacity out.new ≡ vec_capacity out.old }
+{
+    put_two(out, number / 100);
+    put_two(out, number % 100);
+}
+
+// The two digits of each number below 100.
+static PAIRS: [u8; 200] =
+    *b"00010203040506070809101112131415161718192021222324252627282930313233343536373839404142434445464748495051525354555657585960616263646566676869707172737475767778798081828384858687888990919293949596979899";
+
+// Two digits.
+#[inline(always)]
+fn put_two(out: &mut Vec<u8>, number: u64)
+    requires pair { number < 100 }
+    requires room { vec_len out.old + 2 ≤ vec_capacity out.old }
+    ensures text { out.new.items ≡ out.old.items ++ ((48 + number / 10) ∷ (48 + number % 10) ∷ []) }
+    ensures within { vec_len out.new ≡ vec_len out.old + 2 }
+    ensures capacity { vec_capacity out.new ≡ vec_capacity out.old }
+{
+    let at = number as usize * 2;
+    let (tens, ones) = (PAIRS[at], PAIRS[at + 1]);
+    out.push_reserved(tens);
+    out.push_reserved(ones);
+}
+
+// A digit.
+#[inline(always)]
+fn put_digit(out: &mut Vec<u8>, digit: u64)
+    requires digit { digit < 10 }
+    requires room { vec_len out.old < vec_capacity out.old }
+    ensures text { out.new.items ≡ out.old.items ++ ((48 + digit) ∷ []) }
+    ensures within { vec_len out.new ≡ vec_len out.old + 1 }
+    ensures capacity { vec_capacity out.new ≡ vec_capacity out.old }
+{
+    out.push_reserved(b'0' + digit as u8);
+}
