@@ -50,6 +50,7 @@ pub(crate) fn put_ecb_reply(out: &mut Vec<u8>, reply: EcbReply)
 /// The highest completion code, and the highest number of an exit: 30 bits.
 const HIGHEST_CODE: u32 = 1_073_741_823;
 
+#[inline(always)]
 #[tactic(auto, unfolding(crate::specs::EcbText::ecb_op, crate::specs::Reading::behind))]
 pub(crate) fn read_ecb_op(strict: bool, text: &[u8]) -> Option<(EcbOp, &[u8])>
     ensures { seen result ≡ ecb_op strict text.now }
@@ -77,6 +78,7 @@ pub(crate) fn read_ecb_op(strict: bool, text: &[u8]) -> Option<(EcbOp, &[u8])>
     None
 }
 
+#[inline(always)]
 #[tactic(auto, unfolding(crate::specs::EcbText::ecb_reply, crate::specs::Reading::behind))]
 pub(crate) fn read_ecb_reply(strict: bool, text: &[u8]) -> Option<(EcbReply, &[u8])>
     ensures { seen result ≡ ecb_reply strict text.now }

@@ -119,8 +119,8 @@ fn put_event(out: &mut Vec<u8>, entry: &Entry)
 }
 
 /// Appends an entry's line without its LF, with the number of its call, if it is given.
-#[tactic(auto, unfolding(crate::specs::EntryText::entry_text))]
 #[inline(always)]
+#[tactic(auto, unfolding(crate::specs::EntryText::entry_text))]
 pub(crate) fn put_entry(out: &mut Vec<u8>, call: Option<u32>, entry: &Entry)
     requires room { vec_len out.old + entry_width ≤ vec_capacity out.old }
     ensures text { out.new.items ≡ out.old.items ++ entry_text call entry.now }
@@ -156,6 +156,7 @@ fn read_object(strict: bool, text: &[u8]) -> Option<(Object, &[u8])>
 }
 
 // A place, an operation on an event control block, and its reply.
+#[inline(always)]
 #[tactic(auto, unfolding(crate::specs::Reading::parted_at, crate::specs::Reading::behind))]
 fn read_ecb_event(strict: bool, text: &[u8]) -> Option<((u32, (EcbOp, EcbReply)), &[u8])>
     ensures { seen result ≡ event strict (ecb_op strict) (ecb_reply strict) text.now }
@@ -168,6 +169,7 @@ fn read_ecb_event(strict: bool, text: &[u8]) -> Option<((u32, (EcbOp, EcbReply))
 }
 
 // The same on a pause element.
+#[inline(always)]
 #[tactic(auto, unfolding(crate::specs::Reading::parted_at, crate::specs::Reading::behind))]
 fn read_element_event(
     strict: bool,
@@ -183,6 +185,7 @@ fn read_element_event(
 }
 
 // The same on a volume.
+#[inline(always)]
 #[tactic(auto, unfolding(crate::specs::Reading::parted_at, crate::specs::Reading::behind))]
 fn read_volume_event(strict: bool, text: &[u8]) -> Option<((u32, (VolumeOp, VolumeReply)), &[u8])>
     ensures { seen result ≡ event strict (volume_op strict) (volume_reply strict) text.now }
@@ -195,6 +198,7 @@ fn read_volume_event(strict: bool, text: &[u8]) -> Option<((u32, (VolumeOp, Volu
 }
 
 // The same on the latch set.
+#[inline(always)]
 #[tactic(auto, unfolding(crate::specs::Reading::parted_at, crate::specs::Reading::behind))]
 fn read_latch_event(strict: bool, text: &[u8]) -> Option<((u32, (LatchOp, LatchReply)), &[u8])>
     ensures { seen result ≡ event strict (latch_op strict) (latch_reply strict) text.now }

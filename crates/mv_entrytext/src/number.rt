@@ -12,6 +12,7 @@ use mv_io::NoMemory;
 use mv_line::wide_number_within;
 
 /// Appends a word and a number behind it.
+#[inline(always)]
 pub(crate) fn push_number(out: &mut Vec<u8>, word: &[u8], number: u32) -> Result<(), NoMemory>
     ensures { OnOk result (out.new.items ≡ out.old.items ++ (word.now ++ decimal number)) }
 {
@@ -19,6 +20,7 @@ pub(crate) fn push_number(out: &mut Vec<u8>, word: &[u8], number: u32) -> Result
 }
 
 /// The same of a number of eight bytes.
+#[inline(always)]
 pub(crate) fn push_wide(out: &mut Vec<u8>, word: &[u8], number: u64) -> Result<(), NoMemory>
     ensures { OnOk result (out.new.items ≡ out.old.items ++ (word.now ++ decimal number)) }
 {
@@ -26,7 +28,8 @@ pub(crate) fn push_wide(out: &mut Vec<u8>, word: &[u8], number: u64) -> Result<(
     push_digits(out, number)
 }
 
-/// Appends a word.
+/// Appends a word. Each caller's word is a constant, and inlined it is stored as such, with no call that copies its bytes.
+#[inline(always)]
 pub(crate) fn push_word(out: &mut Vec<u8>, word: &[u8]) -> Result<(), NoMemory>
     ensures { OnOk result (out.new.items ≡ out.old.items ++ word.now) }
 {
@@ -44,6 +47,7 @@ fn push_digits(out: &mut Vec<u8>, number: u64) -> Result<(), NoMemory>
 }
 
 /// Appends a word and two numbers behind it.
+#[inline(always)]
 pub(crate) fn push_pair(
     out: &mut Vec<u8>,
     word: &[u8],

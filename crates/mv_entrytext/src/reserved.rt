@@ -75,13 +75,24 @@ pub(crate) fn put_digits(out: &mut Vec<u8>, number: u64)
         put_short(out, number / 10_000);
         put_four(out, number % 10_000);
     } else {
-        // It is handed over and back, so that at all other numbers its length stays in a register.
-        let alloc = *out.allocator();
-        *out = with_digits(replace(out, Vec::new(alloc)), number);
+        put_long(out, number);
     }
 }
 
-// A number of more digits.
+// A number of more digits. The text is handed over and back, so that at all other numbers its length stays in a register.
+#[inline(always)]
+fn put_long(out: &mut Vec<u8>, number: u64)
+    requires long { 100000000 ≤ number }
+    requires room { vec_len out.old + number_width ≤ vec_capacity out.old }
+    ensures text { out.new.items ≡ out.old.items ++ decimal number }
+    ensures within { vec_len out.new ≤ vec_len out.old + number_width }
+    ensures capacity { vec_capacity out.new ≡ vec_capacity out.old }
+{
+    let alloc = *out.allocator();
+    *out = with_digits(replace(out, Vec::new(alloc)), number);
+}
+
+// The same of a text that is given and returned.
 #[cold]
 #[inline(never)]
 fn with_digits(out: Vec<u8>, number: u64) -> Vec<u8>

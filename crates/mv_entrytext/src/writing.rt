@@ -156,8 +156,8 @@ fn push_head(out: &mut Vec<u8>, version: Version, config: &Config) -> Result<(),
 }
 
 // The line of an entry, where there is room for it.
-#[tactic(auto, unfolding(crate::specs::Journal::line))]
 #[inline(always)]
+#[tactic(auto, unfolding(crate::specs::Journal::line))]
 fn put_entry_line(out: &mut Vec<u8>, call: Option<u32>, entry: &Entry)
     requires room { vec_len out.old + line_width ≤ vec_capacity out.old }
     ensures text { out.new.items ≡ out.old.items ++ line (EntryOf call entry.now) }
