@@ -1,5 +1,5 @@
 -- The reader behind one more statement.
-use Rattle.std.proofs.Common.{◌≡◌, ℕ, ◌+◌, ◌*◌, ◌<◌, Bool, true, false, ◌||◌, List, [], ◌∷◌, ◌++◌, length, map, Option, Some, None, refl}
+use Rattle.std.proofs.Common.{◌≡◌, ℕ, ◌+◌, ◌*◌, Bool, true, false, ◌||◌, List, [], ◌∷◌, ◌++◌, length, map, Option, Some, None, refl}
 use Rattle.std.proofs.Common.{sym, ap, subst, ◌∙◌, arith, rules, length-append, bytes_eq, if◌then◌else◌}
 use Rattle.std.specs.Prelude.{IsSome, is_some, unwrap_or, nat_lt}
 use Rattle.std.specs.List.{list_any}

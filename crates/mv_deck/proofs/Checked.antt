@@ -4,11 +4,12 @@ use Rattle.std.proofs.Common.{is_none, ◌==◌, option_map, MatchResult, refl, 
 use Rattle.std.specs.Prelude.{option_to_list, nat_lt}
 use Rattle.std.specs.List.{list_any}
 use Rattle.std.proofs.lemmas.List.{length-map}
-use Rattle.mv_deck.specs.declared.fault.LineRefusal.{LineRefusal}
+use Rattle.mv_deck.specs.declared.fault.Kind.{Kind}
 use Rattle.mv_deck.specs.declared.form.Part.{Part}
 use Rattle.mv_deck.specs.declared.form.Version.{Version}
 use Rattle.mv_deck.specs.declared.names.Names.{Names}
 use Rattle.mv_deck.specs.declared.reading.Reading.{Reading}
+use Rattle.mv_line.specs.declared.fault.LineRefusal.{LineRefusal}
 use Rattle.mv_line.specs.Line.{shown, is_ignored, is_foreign, is_too_long}
 use Rattle.mv_deck.specs.Line.{is_comment}
 use Rattle.mv_deck.specs.Operand.{is_name}
@@ -101,13 +102,13 @@ is_shown n v earlier line text s same a b c d e =
     (ap (form_of v) (sym same) ∙ e)
 
 -- what became of a line or a statement of which these are the kinds and the statements
-abbrev pub Taken : {A : Type 0} → ℕ → Version → List Statement → List ℕ → List Statement → Reading → Result A LineRefusal → Type 0
+abbrev pub Taken : {A : Type 0} → ℕ → Version → List Statement → List ℕ → List Statement → Reading → Result A (LineRefusal Kind) → Type 0
 Taken n v earlier kinds statements next result = MatchResult result (λ _. (kinds ≡ []) × IsBehind n v (earlier ++ statements) next)
     (λ e. Tells e kinds)
 
 -- what becomes of a statement becomes of its line
 pub taken : {A : Type 0} (n : ℕ) (v : Version) (earlier : List Statement) (line : List ℕ) (s : Statement) (next : Reading)
-    (result : Result A LineRefusal)
+    (result : Result A (LineRefusal Kind))
     → IsStated n v earlier line s
     → Taken n v earlier (kinds_of_statement n earlier (Some s)) (s ∷ []) next result → Taken n v earlier (kinds_of n v earlier line)
     (option_to_list (statement_of v line)) next result

@@ -1,20 +1,20 @@
 -- The first of the faults that are listed is the lowest that a text has.
-use Rattle.std.proofs.Common.{ℕ, Bool, not, ◌&&◌, List, [], Option, Some, None, refl, arith}
+use Rattle.std.proofs.Common.{ℕ, Bool, not, ◌&&◌, List, [], Option, Some, None, arith}
 use Rattle.std.specs.Prelude.{MatchOption}
-use Rattle.mv_deck.specs.declared.fault.DeckFault.{DeckFault}
 use Rattle.mv_deck.specs.declared.fault.Kind.TheVariants.{ForeignByte, TooLong, NoForm, BadName, RepeatedName, UnknownAfter, CrowdedAfter}
 use Rattle.mv_deck.specs.declared.fault.Kind.TheVariants.{BadNumber, LatchOrder, LatchNotHeld, Misplaced, BehindEnd, TooHeavy}
 use Rattle.mv_deck.specs.declared.fault.Kind.TheVariants.{LateDeck}
 use Rattle.mv_deck.specs.declared.form.Version.{Version}
 use Rattle.mv_line.specs.Line.{lines_of, is_foreign, is_too_long}
+use Rattle.mv_line.specs.declared.fault.TextFault.{TextFault}
+use Rattle.mv_line.specs.Fault.{IsNoLater}
 use Rattle.mv_line.proofs.Faults.{Rises, rises_when, rises_last, lowest_from}
 use Rattle.mv_deck.specs.Statement.{Statement, statement_of}
 use Rattle.mv_deck.specs.Deck.{JobData, jobs_of}
 use Rattle.mv_deck.specs.Fault.{is_misplaced, is_behind_end, is_late_deck, is_too_heavy}
 use Rattle.mv_deck.specs.Fault.{has_no_form, has_bad_name, has_bad_number, repeats_name, awaits_no_job, is_crowded, uses_out_of_order}
-use Rattle.mv_deck.specs.Fault.{needs_latch, kinds_of, kinds_of_statement, kinds_behind, kind_number, faults_from, fault_at, first_fault}
-use Rattle.mv_deck.specs.Fault.{line_rules}
-use Rattle.mv_deck.specs.Faults.{HasFault, IsNoLater}
+use Rattle.mv_deck.specs.Fault.{needs_latch, kinds_of, kinds_of_statement, kinds_behind, kind_number, faults_from, first_fault}
+use Rattle.mv_deck.specs.Fault.{line_rules, HasFault}
 use Rattle.mv_deck.proofs.Passes.{version_in}
 
 -- the kinds of a statement behind others rise
@@ -47,9 +47,8 @@ line_rises n v earlier line =
     (rises_when (has_no_form v line) (kind_number NoForm) 2 _ (omega arith) (statement_rises n earlier (statement_of v line))))
 
 -- the law
-pub lowest : (bytes : List ℕ) (n : ℕ) → MatchOption (first_fault bytes n) ((f : DeckFault) → ¬ HasFault bytes n f)
-    (λ f. HasFault bytes n f × ((g : DeckFault) → HasFault bytes n g → IsNoLater f g))
+pub lowest : (bytes : List ℕ) (n : ℕ) → MatchOption (first_fault bytes n) ((f : TextFault) → ¬ HasFault bytes n f)
+    (λ f. HasFault bytes n f × ((g : TextFault) → HasFault bytes n g → IsNoLater f g))
 unfolding faults_from
 lowest bytes n =
-    lowest_from (line_rules n (version_in bytes)) fault_at (λ (f : DeckFault). f.line) (λ (f : DeckFault). f.kind)
-    (λ l k. refl) (λ l k. refl) (line_rises n (version_in bytes)) 1 [] (lines_of bytes)
+    lowest_from (line_rules n (version_in bytes)) (line_rises n (version_in bytes)) 1 [] (lines_of bytes)

@@ -13,7 +13,8 @@ use Rattle.mv_line.specs.Part.{parts_at}
 use Rattle.mv_deck.specs.Operand.{latch_of, amount_of, code_of, end_code_of}
 use Rattle.mv_deck.specs.Statement.{Null, JobOf, PrintOf, UseOf, CountOf, AbendOf, ReturnOf, form_of, statement_of, version_of}
 use Rattle.mv_deck.specs.Deck.{JobData, deck_of}
-use Rattle.mv_deck.specs.Fault.{first_fault, fault_at, faults_from}
+use Rattle.mv_line.specs.Fault.{fault_at}
+use Rattle.mv_deck.specs.Fault.{first_fault, faults_from}
 use Rattle.mv_deck.specs.Held.{lacks_latch}
 use Rattle.mv_deck.specs.Sound.{IsSound}
 use Rattle.mv_deck.specs.Weight.{weight}

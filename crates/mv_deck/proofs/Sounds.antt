@@ -28,7 +28,7 @@ use Rattle.mv_deck.specs.Deck.{last_steps}
 use Rattle.mv_deck.specs.Held.{is_out_of_order, lacks_latch, is_end}
 use Rattle.mv_line.specs.Line.{is_foreign, is_too_long}
 use Rattle.mv_deck.specs.Fault.{is_job, is_null, is_deck, when, has_no_form, kinds_of, kinds_of_statement}
-use Rattle.mv_deck.specs.Fault.{fault_at, faults_from, first_fault, kinds_behind, has_bad_name, has_bad_number}
+use Rattle.mv_deck.specs.Fault.{faults_from, first_fault, kinds_behind, has_bad_name, has_bad_number}
 use Rattle.mv_deck.specs.Fault.{line_rules}
 use Rattle.mv_line.specs.Fault.{first_of_list}
 use Rattle.mv_line.proofs.Faults.{no_kinds, no_fault_at_end}
@@ -519,10 +519,10 @@ sound_from n v number sts [] fine e =
     subst (λ (x : List Statement). IsSound (jobs_of x) n) (sym (append-nil sts))
     (record {
       jobs_stand = fine.jobs;
-      light = fine.light (some_before is_null sts (no_fault_at_end (line_rules n v) fault_at number sts e));
+      light = fine.light (some_before is_null sts (no_fault_at_end (line_rules n v) number sts e));
     })
 sound_from n v number sts (line ∷ lines) fine e =
-    let none = no_kinds (line_rules n v) fault_at number sts line lines e in
+    let none = no_kinds (line_rules n v) number sts line lines e in
     let next = fine_line n sts (statement_of v line) fine (stated_kinds n v sts line none) in
     subst (λ (x : List Statement). IsSound (jobs_of x) n) (sym (earlier_more sts (statement_of v line) (statements_of v lines)))
     (sound_from n v (number + 1) (sts ++ option_to_list (statement_of v line)) lines next

@@ -1,19 +1,18 @@
 -- The faults of a text: one test for each kind of fault that a line can have, and which fault is the first.
-use Rattle.std.specs.Prelude.{◌≡◌, ℕ, Bool, true, false, ◌&&◌, ◌||◌, not, nat_lt, List, [], ◌∷◌, ◌++◌, length, Option, Some}
+use Rattle.std.specs.Prelude.{ℕ, Bool, true, false, ◌&&◌, ◌||◌, not, nat_lt, List, [], ◌∷◌, ◌++◌, length, Option, Some}
 use Rattle.std.specs.Prelude.{None, is_none, is_some, option_to_list, codes, if◌then◌else◌}
 use Rattle.std.specs.List.{list_any}
 use Rattle.std.specs.Str.{bytes_eq}
 use Rattle.mv_deck.specs.declared.deck.Step.{Step}
-use Rattle.mv_deck.specs.declared.fault.DeckFault.{DeckFault}
-use Rattle.mv_deck.specs.declared.fault.DeckRefusal.{DeckRefusal}
-use Rattle.mv_deck.specs.declared.fault.DeckRefusal.TheVariants.{Fault, NoMemory}
 use Rattle.mv_deck.specs.declared.fault.Kind.{Kind}
 use Rattle.mv_deck.specs.declared.fault.Kind.TheVariants.{ForeignByte, TooLong, NoForm, BadName, RepeatedName, UnknownAfter, CrowdedAfter}
 use Rattle.mv_deck.specs.declared.fault.Kind.TheVariants.{BadNumber, LatchOrder, LatchNotHeld, Misplaced, NoNull, BehindEnd, TooHeavy}
 use Rattle.mv_deck.specs.declared.fault.Kind.TheVariants.{LateDeck}
 use Rattle.mv_deck.specs.declared.form.Version.{Version}
 use Rattle.mv_line.specs.Line.{lines_of, is_foreign, is_too_long}
-use Rattle.mv_line.specs.Fault.{LineRules, faults_by_line, first_of_list}
+use Rattle.mv_line.specs.declared.fault.TextFault.{TextFault}
+use Rattle.mv_line.specs.Fault.{LineRules, HasFaultAt, faults_by_line, first_of_list}
+pub use Rattle.mv_line.specs.Fault.{TellsFirst}
 use Rattle.mv_deck.specs.Line.{is_passed}
 use Rattle.mv_deck.specs.Operand.{is_name, code_of, most_after}
 use Rattle.mv_deck.specs.Statement.{Statement, Null, DeckOf, JobOf, PrintOf, UseOf, FreeOf, CountOf, ScanOf, AbendOf, ReturnOf, AfterPart}
@@ -46,20 +45,42 @@ kind_number LateDeck = 15
 abbrev pub has_no_form : Version → List ℕ → Bool
 has_no_form v line = not (is_passed line) && is_none (statement_of v line)
 
+-- ---- sorts of statements
+
+-- what is said of the null statement, of a DECK by its word, of a JOB by its name and its list, and of a step
+abbrev pub by_sort : Bool → (List ℕ → Bool) → (List ℕ → List AfterPart → Bool) → Bool → Statement → Bool
+by_sort null deck job step Null = null
+by_sort null deck job step (DeckOf version) = deck version
+by_sort null deck job step (JobOf name after) = job name after
+by_sort null deck job step (PrintOf text) = step
+by_sort null deck job step (UseOf latch mode) = step
+by_sort null deck job step (FreeOf latch) = step
+by_sort null deck job step (CountOf volume amount) = step
+by_sort null deck job step (ScanOf volume) = step
+by_sort null deck job step (AbendOf code) = step
+by_sort null deck job step (ReturnOf code) = step
+
+-- what is asked of a JOB alone
+abbrev pub is_job_that : (List ℕ → List AfterPart → Bool) → Statement → Bool
+is_job_that test s = by_sort false (λ version. false) test false s
+
+-- the null statement
+abbrev pub is_null : Statement → Bool
+is_null s = by_sort true (λ version. false) (λ name after. false) false s
+
+-- a DECK
+abbrev pub is_deck : Statement → Bool
+is_deck s = by_sort false (λ version. true) (λ name after. false) false s
+
+-- a JOB
+abbrev pub is_job : Statement → Bool
+is_job s = is_job_that (λ name after. true) s
+
 -- ---- faults of a statement by itself
 
 -- a job name, or one in an AFTER list, that is none
 abbrev pub has_bad_name : Statement → Bool
-has_bad_name Null = false
-has_bad_name (DeckOf version) = false
-has_bad_name (JobOf name after) = not (is_name name) || list_any (λ (p : AfterPart). not (is_name p.name)) after
-has_bad_name (PrintOf text) = false
-has_bad_name (UseOf latch mode) = false
-has_bad_name (FreeOf latch) = false
-has_bad_name (CountOf volume amount) = false
-has_bad_name (ScanOf volume) = false
-has_bad_name (AbendOf code) = false
-has_bad_name (ReturnOf code) = false
+has_bad_name s = is_job_that (λ name after. not (is_name name) || list_any (λ (p : AfterPart). not (is_name p.name)) after) s
 
 -- an accepted code that is none
 abbrev pub accepts_no_code : Option (List ℕ) → Bool
@@ -68,57 +89,11 @@ accepts_no_code (Some code) = is_none (code_of code)
 
 -- a number, an amount or a code that is none, or a version other than 2
 abbrev pub has_bad_number : Statement → Bool
-has_bad_number Null = false
-has_bad_number (DeckOf version) = not (bytes_eq version (codes "2"))
-has_bad_number (JobOf name after) = list_any (λ (p : AfterPart). accepts_no_code p.most) after
-has_bad_number (PrintOf text) = false
-has_bad_number (UseOf latch mode) = is_none (step_of (UseOf latch mode))
-has_bad_number (FreeOf latch) = is_none (step_of (FreeOf latch))
-has_bad_number (CountOf volume amount) = is_none (step_of (CountOf volume amount))
-has_bad_number (ScanOf volume) = is_none (step_of (ScanOf volume))
-has_bad_number (AbendOf code) = is_none (step_of (AbendOf code))
-has_bad_number (ReturnOf code) = is_none (step_of (ReturnOf code))
+has_bad_number s =
+    by_sort false (λ version. not (bytes_eq version (codes "2"))) (λ name after. list_any (λ (p : AfterPart). accepts_no_code p.most) after)
+    (is_none (step_of s)) s
 
 -- ---- where a statement stands
-
--- the null statement
-abbrev pub is_null : Statement → Bool
-is_null Null = true
-is_null (DeckOf version) = false
-is_null (JobOf name after) = false
-is_null (PrintOf text) = false
-is_null (UseOf latch mode) = false
-is_null (FreeOf latch) = false
-is_null (CountOf volume amount) = false
-is_null (ScanOf volume) = false
-is_null (AbendOf code) = false
-is_null (ReturnOf code) = false
-
--- a JOB
-abbrev pub is_job : Statement → Bool
-is_job Null = false
-is_job (DeckOf version) = false
-is_job (JobOf name after) = true
-is_job (PrintOf text) = false
-is_job (UseOf latch mode) = false
-is_job (FreeOf latch) = false
-is_job (CountOf volume amount) = false
-is_job (ScanOf volume) = false
-is_job (AbendOf code) = false
-is_job (ReturnOf code) = false
-
--- a DECK
-abbrev pub is_deck : Statement → Bool
-is_deck Null = false
-is_deck (DeckOf version) = true
-is_deck (JobOf name after) = false
-is_deck (PrintOf text) = false
-is_deck (UseOf latch mode) = false
-is_deck (FreeOf latch) = false
-is_deck (CountOf volume amount) = false
-is_deck (ScanOf volume) = false
-is_deck (AbendOf code) = false
-is_deck (ReturnOf code) = false
 
 -- before the first JOB and neither JOB, null nor DECK, or after the null statement
 abbrev pub is_misplaced : List Statement → Statement → Bool
@@ -136,29 +111,11 @@ is_late_deck earlier s = is_deck s && nat_lt 0 (length earlier)
 
 -- a job with the name of an earlier one
 abbrev pub repeats_name : List JobData → Statement → Bool
-repeats_name jobs Null = false
-repeats_name jobs (DeckOf version) = false
-repeats_name jobs (JobOf name after) = is_some (place_of jobs name)
-repeats_name jobs (PrintOf text) = false
-repeats_name jobs (UseOf latch mode) = false
-repeats_name jobs (FreeOf latch) = false
-repeats_name jobs (CountOf volume amount) = false
-repeats_name jobs (ScanOf volume) = false
-repeats_name jobs (AbendOf code) = false
-repeats_name jobs (ReturnOf code) = false
+repeats_name jobs s = is_job_that (λ name after. is_some (place_of jobs name)) s
 
 -- an AFTER list with the name of no earlier job
 abbrev pub awaits_no_job : List JobData → Statement → Bool
-awaits_no_job jobs Null = false
-awaits_no_job jobs (DeckOf version) = false
-awaits_no_job jobs (JobOf name after) = list_any (λ (p : AfterPart). is_none (place_of jobs p.name)) after
-awaits_no_job jobs (PrintOf text) = false
-awaits_no_job jobs (UseOf latch mode) = false
-awaits_no_job jobs (FreeOf latch) = false
-awaits_no_job jobs (CountOf volume amount) = false
-awaits_no_job jobs (ScanOf volume) = false
-awaits_no_job jobs (AbendOf code) = false
-awaits_no_job jobs (ReturnOf code) = false
+awaits_no_job jobs s = is_job_that (λ name after. list_any (λ (p : AfterPart). is_none (place_of jobs p.name)) after) s
 
 -- whether the name of the first of these parts stands again behind it
 abbrev pub repeats_first : List AfterPart → Bool
@@ -172,16 +129,7 @@ has_double (p ∷ parts) = repeats_first (p ∷ parts) || has_double parts
 
 -- an AFTER list with a name twice, or with more than eight
 abbrev pub is_crowded : Statement → Bool
-is_crowded Null = false
-is_crowded (DeckOf version) = false
-is_crowded (JobOf name after) = has_double after || nat_lt most_after (length after)
-is_crowded (PrintOf text) = false
-is_crowded (UseOf latch mode) = false
-is_crowded (FreeOf latch) = false
-is_crowded (CountOf volume amount) = false
-is_crowded (ScanOf volume) = false
-is_crowded (AbendOf code) = false
-is_crowded (ReturnOf code) = false
+is_crowded s = is_job_that (λ name after. has_double after || nat_lt most_after (length after)) s
 
 -- what a test says of the step that a statement is; where it is none, the test is not asked
 abbrev pub is_step_that : (Step → Bool) → Option Step → Bool
@@ -237,10 +185,6 @@ kinds_of initiators v earlier line =
     ++ (when (has_no_form v line) NoForm
     ++ kinds_of_statement initiators earlier (statement_of v line)))
 
--- the fault of this kind in the line of this number
-abbrev pub fault_at : ℕ → ℕ → DeckFault
-fault_at line kind = record { line = line; kind = kind }
-
 -- the rules of a deck's lines: it ends with the null statement
 abbrev pub line_rules : ℕ → Version → LineRules (List Statement)
 line_rules initiators v = record {
@@ -251,18 +195,18 @@ line_rules initiators v = record {
 }
 
 -- the faults of lines that are numbered from here on, behind the earlier statements: by line, and in a line by kind
-unfoldable pub faults_from : ℕ → Version → ℕ → List Statement → List (List ℕ) → List DeckFault
-faults_from initiators v number earlier lines = faults_by_line (line_rules initiators v) fault_at number earlier lines
+unfoldable pub faults_from : ℕ → Version → ℕ → List Statement → List (List ℕ) → List TextFault
+faults_from initiators v number earlier lines = faults_by_line (line_rules initiators v) number earlier lines
 
 -- the faults of a text for so many initiators
-abbrev pub faults_of : List ℕ → ℕ → List DeckFault
+abbrev pub faults_of : List ℕ → ℕ → List TextFault
 faults_of bytes initiators = faults_from initiators (version_of (lines_of bytes)) 1 [] (lines_of bytes)
 
 -- the fault with the lowest line, and there with the lowest kind
-abbrev pub first_fault : List ℕ → ℕ → Option DeckFault
+abbrev pub first_fault : List ℕ → ℕ → Option TextFault
 first_fault bytes initiators = first_of_list (faults_of bytes initiators)
 
--- a fault is told only where it is the first
-abbrev pub TellsFirst : DeckRefusal → Option DeckFault → Type 0
-TellsFirst (Fault f) first = first ≡ Some f
-TellsFirst NoMemory first = Unit {0}
+-- The line of this number has a fault of this kind: by what it is and the statements before it, or, behind the last
+-- line, for want of a null statement.
+abbrev pub HasFault : List ℕ → ℕ → TextFault → Type 0
+HasFault bytes initiators f = HasFaultAt (line_rules initiators (version_of (lines_of bytes))) 1 [] (lines_of bytes) f.line f.kind

@@ -7,7 +7,6 @@ pub mod Deck
 pub mod Held
 pub mod Weight
 pub mod Fault
-pub mod Faults
 pub mod Sound
 pub mod Load
 pub mod Names

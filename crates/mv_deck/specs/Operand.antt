@@ -27,6 +27,10 @@ highest_amount = 9999
 abbrev pub most_after : ℕ
 most_after = 8
 
+-- the most bytes of a name
+abbrev pub longest_name : ℕ
+longest_name = 8
+
 -- ---- names
 
 -- `A` to `Z`, `@`, `#`, `$`
@@ -40,7 +44,7 @@ is_name_byte b = is_name_start b || is_digit b
 -- one to eight bytes of a name, the first no digit
 abbrev pub is_name : List ℕ → Bool
 is_name [] = false
-is_name (b ∷ bs) = is_name_start b && list_all is_name_byte bs && nat_lt (length bs) 8
+is_name (b ∷ bs) = is_name_start b && list_all is_name_byte bs && nat_lt (length bs) longest_name
 
 -- ---- numbers
 

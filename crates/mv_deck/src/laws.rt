@@ -1,11 +1,11 @@
 //! What the first fault of a text is, by its lines alone, and what a text without fault states. Clauses cite `specs/Fault.antt`,
-//! `Faults.antt`, `Deck.antt`, `Sound.antt`, `Weight.antt` and `Load.antt`.
+//! `Deck.antt`, `Sound.antt`, `Weight.antt` and `Load.antt`.
 
 ghost use Rattle.std.specs.Prelude.{◌≡◌, ◌<◌, ◌≤◌, ℕ, List, length, None, MatchOption};
-ghost use Rattle.mv_deck.specs.declared.fault.DeckFault.{DeckFault};
+ghost use Rattle.mv_line.specs.declared.fault.TextFault.{TextFault as DeckFault};
+ghost use Rattle.mv_line.specs.Fault.{IsNoLater};
 ghost use Rattle.mv_deck.specs.Deck.{deck_of};
-ghost use Rattle.mv_deck.specs.Fault.{first_fault};
-ghost use Rattle.mv_deck.specs.Faults.{HasFault, IsNoLater};
+ghost use Rattle.mv_deck.specs.Fault.{HasFault, first_fault};
 ghost use Rattle.mv_deck.specs.Load.{most_jobs, load_text, load_jobs};
 ghost use Rattle.mv_deck.specs.Sound.{IsSound};
 ghost use Rattle.mv_deck.specs.Weight.{most_initiators, weight};

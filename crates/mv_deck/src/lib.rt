@@ -19,9 +19,10 @@ mod weight;
 
 pub use deck::{After, Deck, Job, Name, Step, Text};
 pub use end_code::{HIGHEST_CODE, LOWEST_ABEND, NOT_RUN, USER_CODES};
-pub use fault::{DeckFault, DeckRefusal};
+pub use fault::Kind;
 pub use laws::{decks_are_sound, first_fault_is_lowest, loads_can_be_run};
 pub use load::{MOST_JOBS, load_deck};
+pub use mv_line::{TextFault as DeckFault, TextRefusal as DeckRefusal};
 pub use operand::{MOST_AFTER, VOLUME_COUNT};
 pub use reading::read_deck;
 pub use weight::MOST_INITIATORS;

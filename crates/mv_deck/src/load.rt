@@ -6,8 +6,8 @@ ghost use Rattle.mv_deck.specs.Load.{after_text, job_line, count_line, scan_line
 ghost use Rattle.mv_deck.specs.Load.{load_text};
 
 use crate::operand::VOLUME_COUNT;
-use itoa::Buffer;
 use mv_io::NoMemory;
+use mv_line::push_number;
 use std::alloc::Global;
 
 /// The most jobs of a load.
@@ -89,7 +89,7 @@ fn push_after(out: &mut Vec<u8>, job: u32) -> Result<(), NoMemory>
 fn push_count(out: &mut Vec<u8>, job: u32) -> Result<(), NoMemory>
     ensures { OnOk result (out.new.items ≡ out.old.items ++ ended (count_line job)) }
 {
-    push_number(out, b"// COUNT ", volume(job))?;
+    push_number(out, b"// COUNT ", u64::from(volume(job)))?;
     push_line(out, b" ", counted(job), b"")?;
     Ok(())
 }
@@ -106,7 +106,7 @@ fn push_scan(out: &mut Vec<u8>, job: u32) -> Result<(), NoMemory>
 fn push_print(out: &mut Vec<u8>, job: u32) -> Result<(), NoMemory>
     ensures { OnOk result (out.new.items ≡ out.old.items ++ ended (print_line job)) }
 {
-    push_number(out, b"// PRINT WORK ", job)?;
+    push_number(out, b"// PRINT WORK ", u64::from(job))?;
     out.push(b'\n')?;
     Ok(())
 }
@@ -128,24 +128,16 @@ fn push_end(out: &mut Vec<u8>, job: u32) -> Result<(), NoMemory>
         out.extend_from_slice(&four_digits(job))?;
         return Ok(());
     }
-    push_number(out, b"// FREE ", volume(job))
+    push_number(out, b"// FREE ", u64::from(volume(job)))
 }
 
 // Appends a line with a number in it.
 fn push_line(out: &mut Vec<u8>, label: &[u8], number: u32, behind: &[u8]) -> Result<(), NoMemory>
     ensures { OnOk result (out.new.items ≡ out.old.items ++ ended (label.now ++ decimal number ++ behind.now)) }
 {
-    push_number(out, label, number)?;
+    push_number(out, label, u64::from(number))?;
     out.extend_from_slice(behind)?;
     out.push(b'\n')?;
-    Ok(())
-}
-
-fn push_number(out: &mut Vec<u8>, label: &[u8], number: u32) -> Result<(), NoMemory>
-    ensures { OnOk result (out.new.items ≡ out.old.items ++ (label.now ++ decimal number)) }
-{
-    out.extend_from_slice(label)?;
-    out.extend_from_slice(Buffer::new().format(number).as_bytes())?;
     Ok(())
 }
 

@@ -22,6 +22,9 @@ const HIGHEST_AMOUNT: u32 = 9999;
 /// How many jobs a job may wait for.
 pub const MOST_AFTER: usize = 8;
 
+// The most bytes of a name.
+const LONGEST_NAME: usize = 8;
+
 fn is_name_start(byte: u8) -> bool
     ensures { result ≡ starts_name byte }
 {
@@ -46,7 +49,9 @@ pub(crate) fn is_name(field: &[u8]) -> bool
 {
     match field {
         [] => false,
-        [first, rest @ ..] => is_name_start(*first) && are_name_bytes(rest) && rest.len() < 8,
+        [first, rest @ ..] => is_name_start(*first)
+            && are_name_bytes(rest)
+            && rest.len() < LONGEST_NAME,
     }
 }
 

@@ -5,16 +5,16 @@ ghost use Rattle.std.specs.Prelude.{◌≡◌, ◌<◌, ◌≤◌, ◌-◌, ◌+
 ghost use Rattle.std.specs.Prelude.{option_to_list, MatchResult, IfOk, IfErr, OnOk, IsSome, if◌then◌else◌};
 ghost use Rattle.std.specs.Str.{bytes_eq};
 ghost use Rattle.mv_deck.specs.Deck.{JobData, job_data, deck_data, deck_of, jobs_of, place_of, fresh_job, step_of};
-ghost use Rattle.mv_deck.specs.Fault.{first_fault, TellsFirst, kinds_of, kinds_of_statement};
+ghost use Rattle.mv_deck.specs.Fault.{first_fault, TellsFirst, kinds_of_statement, line_rules};
 ghost use Rattle.mv_deck.specs.Form.{stated, part_data, listed};
 ghost use Rattle.mv_deck.specs.Held.{HasNumberInRange, held, latches, is_end as ends_by};
 ghost use Rattle.mv_deck.specs.Names.{place_in};
-ghost use Rattle.mv_deck.specs.Reading.{HasFewJobs, IsBehind, IsGoodJob, Tells, jobs_read, refusal_at};
-ghost use Rattle.mv_deck.specs.Statement.{Statement, Null, DeckOf, JobOf, statement_of};
+ghost use Rattle.mv_deck.specs.Reading.{HasFewJobs, IsBehind, IsGoodJob, Tells, jobs_read};
+ghost use Rattle.mv_deck.specs.Statement.{Statement, Null, DeckOf, JobOf};
 ghost use Rattle.mv_deck.specs.Operand.{most_after};
 ghost use Rattle.mv_deck.specs.Weight.{most_initiators};
 
-use crate::fault::{Kind, LineRefusal};
+use crate::fault::Kind;
 use crate::form::{Form, Part, Version, form_of, parts_of, version_of};
 use crate::held::Held;
 use crate::line::is_comment;
@@ -22,8 +22,8 @@ use crate::names::Names;
 use crate::operand::{MOST_AFTER, amount, code, end_code, is_name, latch};
 use crate::parts::{has_bad_code, has_bad_name, has_double};
 use crate::weight::{HEAVIEST, step_events};
-use crate::{After, Deck, DeckFault, DeckRefusal, Job, Name, Step, Text};
-use mv_line::{is_foreign, is_too_long, shown, split_line};
+use crate::{After, Deck, DeckRefusal, Job, Name, Step, Text};
+use mv_line::{LineReader, LineRefusal, is_foreign, is_too_long, read_lines, shown};
 use std::alloc::{AllocError, Global};
 
 /// Reads a deck for a spool of so many initiators, 1 to 8.
@@ -56,33 +56,10 @@ pub fn read_deck(alloc: Global, bytes: &[u8], initiators: u32) -> Result<Deck, D
     ensures fault { IfErr result (λ e. TellsFirst e (first_fault bytes.now initiators)) }
 {
     let mut reading = Reading::new(alloc, initiators, version_of(bytes));
-    let mut rest = bytes;
-    let mut number = 1;
-    while !rest.is_empty() {
-        let (line, behind) = split_line(rest);
-        if let Err(refusal) = reading.take_line(line) {
-            return Err(refused(refusal, number));
-        }
-        rest = behind;
-        number += 1;
-    }
-    if !reading.ended {
-        return Err(refused(LineRefusal::Has(Kind::NoNull), number));
+    if let Err(refusal) = read_lines(&mut reading, bytes) {
+        return Err(refusal);
     }
     Ok(reading.deck()?)
-}
-
-// The refusal of a deck that has it at this line.
-fn refused(refusal: LineRefusal, line: u32) -> DeckRefusal
-    ensures { result ≡ refusal_at line refusal }
-{
-    match refusal {
-        LineRefusal::Has(kind) => DeckRefusal::Fault(DeckFault {
-            line,
-            kind: kind.number(),
-        }),
-        LineRefusal::NoMemory => DeckRefusal::NoMemory,
-    }
 }
 
 // What the lines so far have stated.
@@ -111,6 +88,41 @@ struct Reading<'a> {
     ended: bool,
 }
 
+impl<'a> LineReader<'a> for Reading<'a> {
+    ghost use Rattle.mv_deck.specs.declared.form.Version.{Version};
+
+    type Kind = Kind;
+
+    ghost Setting = { ℕ × Version };
+
+    ghost Said = { List Statement };
+
+    ghost rules = { λ s. line_rules s.0 s.1 };
+
+    ghost HasTaken = { λ s earlier r. IsBehind s.0 s.1 earlier r };
+
+    fn take_line(&mut self, line: &'a [u8]) -> Result<(), LineRefusal<Kind>> {
+        if is_foreign(line) {
+            return Err(LineRefusal::Has(Kind::ForeignByte));
+        }
+        if is_too_long(line) {
+            return Err(LineRefusal::Has(Kind::TooLong));
+        }
+        let text = shown(line);
+        if text.is_empty() || is_comment(text) {
+            return Ok(());
+        }
+        match form_of(self.version, text) {
+            None => Err(LineRefusal::Has(Kind::NoForm)),
+            Some(form) => self.take(form),
+        }
+    }
+
+    fn kind_at_end(&self) -> Option<Kind> {
+        if self.ended { None } else { Some(Kind::NoNull) }
+    }
+}
+
 impl<'a> Reading<'a> {
     fn new(alloc: Global, initiators: u32, version: Version) -> Self
         requires { initiators ≤ most_initiators }
@@ -133,32 +145,8 @@ impl<'a> Reading<'a> {
         }
     }
 
-    // Takes a line.
-    fn take_line(&mut self, line: &'a [u8]) -> Result<(), LineRefusal>
-        requires { HasFewJobs self.now }
-        ensures { (n : ℕ) (v : Version) (earlier : List Statement) → IsBehind n v earlier self.old
-            → MatchResult result
-            (λ _. (kinds_of n v earlier line.now ≡ []) × IsBehind n v (earlier ++ option_to_list (statement_of v line.now)) self.new)
-            (λ e. Tells e (kinds_of n v earlier line.now)) }
-    {
-        if is_foreign(line) {
-            return Err(LineRefusal::Has(Kind::ForeignByte));
-        }
-        if is_too_long(line) {
-            return Err(LineRefusal::Has(Kind::TooLong));
-        }
-        let text = shown(line);
-        if text.is_empty() || is_comment(text) {
-            return Ok(());
-        }
-        match form_of(self.version, text) {
-            None => Err(LineRefusal::Has(Kind::NoForm)),
-            Some(form) => self.take(form),
-        }
-    }
-
     // Takes a statement.
-    fn take(&mut self, form: Form<'a>) -> Result<(), LineRefusal>
+    fn take(&mut self, form: Form<'a>) -> Result<(), LineRefusal<Kind>>
         requires { HasFewJobs self.now }
         ensures { (n : ℕ) (v : Version) (earlier : List Statement) → IsBehind n v earlier self.old
             → MatchResult result
@@ -202,7 +190,7 @@ impl<'a> Reading<'a> {
     }
 
     // Takes the null statement.
-    fn take_null(&mut self) -> Result<(), LineRefusal>
+    fn take_null(&mut self) -> Result<(), LineRefusal<Kind>>
         ensures { (n : ℕ) (v : Version) (earlier : List Statement) → IsBehind n v earlier self.old
             → MatchResult result
             (λ _. (kinds_of_statement n earlier (Some Null) ≡ []) × IsBehind n v (earlier ++ Null ∷ []) self.new)
@@ -217,7 +205,7 @@ impl<'a> Reading<'a> {
     }
 
     // Takes a DECK with this word.
-    fn take_deck(&mut self, word: &[u8]) -> Result<(), LineRefusal>
+    fn take_deck(&mut self, word: &[u8]) -> Result<(), LineRefusal<Kind>>
         ensures { (n : ℕ) (v : Version) (earlier : List Statement) → IsBehind n v earlier self.old
             → MatchResult result
             (λ _. (kinds_of_statement n earlier (Some (DeckOf word.now)) ≡ []) × IsBehind n v (earlier ++ DeckOf word.now ∷ []) self.new)
@@ -240,7 +228,7 @@ impl<'a> Reading<'a> {
     }
 
     // Takes a JOB of this name, after the jobs of this list.
-    fn take_job(&mut self, name: &'a [u8], list: Option<&'a [u8]>) -> Result<(), LineRefusal>
+    fn take_job(&mut self, name: &'a [u8], list: Option<&'a [u8]>) -> Result<(), LineRefusal<Kind>>
         requires { HasFewJobs self.now }
         ensures { (n : ℕ) (v : Version) (earlier : List Statement) → IsBehind n v earlier self.old
             → MatchResult result
@@ -262,7 +250,7 @@ impl<'a> Reading<'a> {
     }
 
     // Tells the lowest kind of fault of a JOB, but for its weight.
-    fn check_job(&self, name: &'a [u8], parts: &[Part<'a>]) -> Result<(), LineRefusal>
+    fn check_job(&self, name: &'a [u8], parts: &[Part<'a>]) -> Result<(), LineRefusal<Kind>>
         ensures few { OnOk result (length parts.now ≤ most_after) }
         ensures kinds { (n : ℕ) (v : Version) (earlier : List Statement) → IsBehind n v earlier self.now
             → MatchResult result
@@ -324,7 +312,7 @@ impl<'a> Reading<'a> {
     }
 
     // Takes a step of the last job.
-    fn take_step(&mut self, step: Step) -> Result<(), LineRefusal>
+    fn take_step(&mut self, step: Step) -> Result<(), LineRefusal<Kind>>
         requires { HasNumberInRange step }
         ensures { (n : ℕ) (v : Version) (earlier : List Statement) (s : Statement) → IsBehind n v earlier self.old → step_of s ≡ Some step
             → MatchResult result

@@ -1,10 +1,10 @@
 -- The first of the faults that are listed is the lowest that a text has.
 use Rattle.std.proofs.Common.{◌≡◌, ℕ, zero, suc, ◌+◌, ◌<◌, ◌≤◌, ◌⊎◌, Bool, true, false, List, [], ◌∷◌, ◌++◌, length, map}
 use Rattle.std.proofs.Common.{Option, Some, None, refl, sym, ap, subst, inl, inr, ◌∙◌, arith}
-use Rattle.std.proofs.lemmas.List.{append-nil}
 use Rattle.std.specs.Prelude.{MatchOption, slice_index_or, fold, not, if◌then◌else◌}
 use Rattle.std.specs.List.{Contains}
-use Rattle.mv_line.specs.Fault.{LineRules, HasFaultAt, in_line, at_end, faults_by_line, first_of_list}
+use Rattle.mv_line.specs.declared.fault.TextFault.{TextFault}
+use Rattle.mv_line.specs.Fault.{LineRules, HasFaultAt, in_line, at_end, fault_at, faults_by_line, first_of_list, IsNoLater}
 
 -- ---- kinds that rise
 
@@ -40,29 +40,24 @@ least low (k ∷ kinds) r j c = go c.0 c.1 c.2 (λ d. least k kinds r.1 j d) whe
   go zero lt e ih = omega (arith, r.0, e)
   go (suc i) lt e ih = omega (arith, r.0, ih (i, omega (arith, lt), e))
 
--- ---- faults that have a line and a kind
+-- ---- the lowest fault
 
-module _ {Fault : Type 0} (line_of kind_of : Fault → ℕ) where
-  -- by line, and in a line by kind
-  abbrev IsNoLater : Fault → Fault → Type 0
-  IsNoLater f g = (line_of f < line_of g) ⊎ ((line_of f ≡ line_of g) × (kind_of f ≤ kind_of g))
+-- the option is the lowest that P holds of
+abbrev pub Lowest : Option TextFault → (TextFault → Type 0) → Type 0
+Lowest o P = MatchOption o ((f : TextFault) → ¬ P f) (λ f. P f × ((g : TextFault) → P g → IsNoLater f g))
 
-  -- the option is the lowest that P holds of
-  abbrev pub Lowest : Option Fault → (Fault → Type 0) → Type 0
-  Lowest o P = MatchOption o ((f : Fault) → ¬ P f) (λ f. P f × ((g : Fault) → P g → IsNoLater f g))
-
-  -- and that a test with the same answers holds of
-  pub lowest_same : (o : Option Fault) (P Q : Fault → Type 0) → ((f : Fault) → P f → Q f) → ((f : Fault) → Q f → P f) → Lowest o P
-      → Lowest o Q
-  lowest_same None P Q to from h = λ f q. h f (from f q)
-  lowest_same (Some f) P Q to from h = (to f h.0, λ g q. h.1 g (from g q))
+-- and that a test with the same answers holds of
+pub lowest_same : (o : Option TextFault) (P Q : TextFault → Type 0) → ((f : TextFault) → P f → Q f) → ((f : TextFault) → Q f → P f)
+    → Lowest o P → Lowest o Q
+lowest_same None P Q to from h = λ f q. h f (from f q)
+lowest_same (Some f) P Q to from h = (to f h.0, λ g q. h.1 g (from g q))
 
 -- ---- a text and its rules
 
-module _ {Said Fault : Type 0} (rules : LineRules Said) (fault_at : ℕ → ℕ → Fault) where
+module _ {Said : Type 0} (rules : LineRules Said) where
   -- its faults
-  abbrev faults : ℕ → Said → List (List ℕ) → List Fault
-  faults number said lines = faults_by_line rules fault_at number said lines
+  abbrev faults : ℕ → Said → List (List ℕ) → List TextFault
+  faults number said lines = faults_by_line rules number said lines
 
   -- a line that has no fault is passed
   pub line_passed : (number : ℕ) (said : Said) (line : List ℕ) (lines : List (List ℕ)) → rules.kinds_of said line ≡ []
@@ -93,6 +88,14 @@ module _ {Said Fault : Type 0} (rules : LineRules Said) (fault_at : ℕ → ℕ 
     go : (b : Bool) → rules.is_whole said ≡ b → rules.is_whole said ≡ true
     go true is = is
     go false is = absurd (cc (e, is))
+
+  -- where lines have no fault, what they have said is whole
+  pub whole_at_last : (number : ℕ) (said : Said) (lines : List (List ℕ)) → first_of_list (faults number said lines) ≡ None
+      → rules.is_whole (fold rules.with_line said lines) ≡ true
+  whole_at_last number said [] e = no_fault_at_end number said e
+  whole_at_last number said (line ∷ lines) e =
+      whole_at_last (number + 1) (rules.with_line said line) lines
+      (ap first_of_list (sym (line_passed number said line lines (no_kinds number said line lines e))) ∙ e)
 
   -- ---- the faults of the lines that are left
 
@@ -131,49 +134,45 @@ module _ {Said Fault : Type 0} (rules : LineRules Said) (fault_at : ℕ → ℕ 
 
   -- ---- the lowest of them
 
-  module _ (line_of kind_of : Fault → ℕ) (line_is : (n k : ℕ) → line_of (fault_at n k) ≡ n)
-      (kind_is : (n k : ℕ) → kind_of (fault_at n k) ≡ k) (rises : (said : Said) (line : List ℕ) → Rises 1 (rules.kinds_of said line)) where
+  module _ (rises : (said : Said) (line : List ℕ) → Rises 1 (rules.kinds_of said line)) where
     -- whether a fault is one of these
-    abbrev IsIn : ℕ → Said → List (List ℕ) → Fault → Type 0
-    IsIn number said lines f = FaultIn number said lines (line_of f) (kind_of f)
+    abbrev IsIn : ℕ → Said → List (List ℕ) → TextFault → Type 0
+    IsIn number said lines f = FaultIn number said lines f.line f.kind
 
     -- the lowest of them
-    abbrev IsLowest : Option Fault → ℕ → Said → List (List ℕ) → Type 0
-    IsLowest o number said lines = Lowest line_of kind_of o (IsIn number said lines)
+    abbrev IsLowest : Option TextFault → ℕ → Said → List (List ℕ) → Type 0
+    IsLowest o number said lines = Lowest o (IsIn number said lines)
 
     -- no earlier than one of this number and kind
-    abbrev IsBehind : ℕ → ℕ → Fault → Type 0
-    IsBehind number k g = IsNoLater line_of kind_of (fault_at number k) g
+    abbrev IsBehind : ℕ → ℕ → TextFault → Type 0
+    IsBehind number k g = IsNoLater (fault_at number k) g
 
     lowest_at_end : (number : ℕ) (said : Said) (b : Bool) → rules.is_whole said ≡ b
         → IsLowest (first_of_list (map (fault_at number) (if not b then rules.cut_short ∷ [] else []))) number said []
     lowest_at_end number said true e = none where
-      none : (f : Fault) → ¬ IsIn number said [] f
+      none : (f : TextFault) → ¬ IsIn number said [] f
       none f (in_line [] behind it n l c) = absurd cc
       none f (in_line (x ∷ before) behind it n l c) = absurd cc
       none f (at_end m l k) = absurd (cc (m, e))
-    lowest_at_end number said false e =
-        (at_end e (omega (arith, line_is number rules.cut_short)) (kind_is number rules.cut_short), all) where
-          all : (g : Fault) → IsIn number said [] g → IsBehind number rules.cut_short g
-          all g (in_line [] behind it n l c) = absurd cc
-          all g (in_line (x ∷ before) behind it n l c) = absurd cc
-          all g (at_end m l k) = inr (omega (arith, l, line_is number rules.cut_short), omega (arith, k, kind_is number rules.cut_short))
+    lowest_at_end number said false e = (at_end e (omega arith) refl, all) where
+      all : (g : TextFault) → IsIn number said [] g → IsBehind number rules.cut_short g
+      all g (in_line [] behind it n l c) = absurd cc
+      all g (in_line (x ∷ before) behind it n l c) = absurd cc
+      all g (at_end m l k) = inr (omega (arith, l), omega (arith, k))
 
     lowest_in_line : (number : ℕ) (said : Said) (line : List ℕ) (lines : List (List ℕ)) (k : ℕ) (kinds : List ℕ)
         → rules.kinds_of said line ≡ k ∷ kinds → IsLowest (Some (fault_at number k)) number said (line ∷ lines)
     lowest_in_line number said line lines k kinds e =
-        (has, λ g h. all g (here_or_later number said line lines (line_of g) (kind_of g) h)) where
+        (has, λ g h. all g (here_or_later number said line lines g.line g.kind h)) where
           has : IsIn number said (line ∷ lines) (fault_at number k)
-          has = in_line [] lines line refl (omega (arith, line_is number k))
-              (subst (λ (x : List ℕ). Contains x (kind_of (fault_at number k))) (sym e) (0, omega arith, sym (kind_is number k)))
+          has = in_line [] lines line refl (omega arith) (subst (λ (x : List ℕ). Contains x k) (sym e) (0, omega arith, refl))
 
-          all : (g : Fault) → HereOrLater number said line lines (line_of g) (kind_of g) → IsBehind number k g
+          all : (g : TextFault) → HereOrLater number said line lines g.line g.kind → IsBehind number k g
           all g (inl h) =
               let r : Rises 1 (k ∷ kinds) = subst (Rises 1) e (rises said line) in
-              let l = least k (k ∷ kinds) (omega arith, r.1) (kind_of g) (subst (λ (x : List ℕ). Contains x (kind_of g)) e h.1) in
-              inr (omega (arith, h.0, line_is number k), omega (arith, l, kind_is number k))
-          all g (inr h) =
-              inl (omega (arith, line_is number k, no_earlier (number + 1) (rules.with_line said line) lines (line_of g) (kind_of g) h))
+              let l = least k (k ∷ kinds) (omega arith, r.1) g.kind (subst (λ (x : List ℕ). Contains x g.kind) e h.1) in
+              inr (omega (arith, h.0), l)
+          all g (inr h) = inl (omega (arith, no_earlier (number + 1) (rules.with_line said line) lines g.line g.kind h))
 
     -- the first of the faults is the lowest
     pub lowest_from : (number : ℕ) (said : Said) (lines : List (List ℕ))
@@ -186,14 +185,14 @@ module _ {Said Fault : Type 0} (rules : LineRules Said) (fault_at : ℕ → ℕ 
               (rules.with_line said line) lines
               → IsLowest (first_of_list (faults number said (line ∷ lines))) number said (line ∷ lines)
           go [] e ih =
-              subst (λ (o : Option Fault). IsLowest o number said (line ∷ lines))
+              subst (λ (o : Option TextFault). IsLowest o number said (line ∷ lines))
               (sym (ap first_of_list (line_passed number said line lines e)))
-              (lowest_same line_of kind_of _ _ _ (λ f h. later number said line lines (line_of f) (kind_of f) h)
-              (λ f h. behind f (here_or_later number said line lines (line_of f) (kind_of f) h)) ih) where
-                behind : (f : Fault) → HereOrLater number said line lines (line_of f) (kind_of f)
+              (lowest_same _ _ _ (λ f h. later number said line lines f.line f.kind h)
+              (λ f h. behind f (here_or_later number said line lines f.line f.kind h)) ih) where
+                behind : (f : TextFault) → HereOrLater number said line lines f.line f.kind
                     → IsIn (number + 1) (rules.with_line said line) lines f
-                behind f (inl h) = absurd (no_element (kind_of f) (subst (λ (x : List ℕ). Contains x (kind_of f)) e h.1))
+                behind f (inl h) = absurd (no_element f.kind (subst (λ (x : List ℕ). Contains x f.kind) e h.1))
                 behind f (inr h) = h
           go (k ∷ kinds) e ih =
-              subst (λ (o : Option Fault). IsLowest o number said (line ∷ lines))
+              subst (λ (o : Option TextFault). IsLowest o number said (line ∷ lines))
               (sym (first_in_line number k said line lines (ap first_of_list e))) (lowest_in_line number said line lines k kinds e)

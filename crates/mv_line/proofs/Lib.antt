@@ -8,5 +8,7 @@ pub mod Fields
 pub mod Parts
 -- wide_number_within
 pub mod Numbers
--- texts whose faults are listed by line, in the crates above
+-- texts whose faults are listed by line, here and in the crates above
 pub mod Faults
+-- read_lines
+pub mod Passes

@@ -1,6 +1,13 @@
 -- The faults of a text, by line and in a line by kind, and the first of them. What may be wrong with a line is for each text to say.
-use Rattle.std.specs.Prelude.{◌≡◌, ℕ, ◌+◌, Bool, false, not, List, [], ◌∷◌, ◌++◌, length, map, fold, Option, Some, None, if◌then◌else◌}
+use Rattle.std.specs.Prelude.{◌≡◌, ℕ, ◌+◌, ◌<◌, ◌≤◌, ◌⊎◌, Bool, false, not, List, [], ◌∷◌, ◌++◌, length, map, fold, Option, Some, None}
+use Rattle.std.specs.Prelude.{if◌then◌else◌}
 use Rattle.std.specs.List.{Contains}
+use Rattle.mv_line.specs.declared.fault.LineRefusal.{LineRefusal}
+use Rattle.mv_line.specs.declared.fault.LineRefusal.TheVariants.{Has}
+use Rattle.mv_line.specs.declared.fault.LineRefusal.TheVariants as of_line
+use Rattle.mv_line.specs.declared.fault.TextFault.{TextFault}
+use Rattle.mv_line.specs.declared.fault.TextRefusal.{TextRefusal}
+use Rattle.mv_line.specs.declared.fault.TextRefusal.TheVariants.{Fault, NoMemory}
 
 -- The rules of a text: what its lines have said with one more; which kinds of fault a line has behind what was said before it, rising;
 -- when what was said is the whole of a text, and the kind of fault of a text that ends before that.
@@ -19,13 +26,42 @@ pub data HasFaultAt {Said : Type 0} (rules : LineRules Said) (from : ℕ) (said 
   at_end : rules.is_whole (fold rules.with_line said lines) ≡ false → number ≡ length lines + from → kind ≡ rules.cut_short
       → HasFaultAt rules from said lines number kind
 
--- All faults of such lines, by line, and in a line by kind. A fault is made of the number of its line and its kind.
-abbrev pub faults_by_line : {Said Fault : Type 0} → LineRules Said → (ℕ → ℕ → Fault) → ℕ → Said → List (List ℕ) → List Fault
-faults_by_line rules fault_at number said [] = map (fault_at number) (if not (rules.is_whole said) then rules.cut_short ∷ [] else [])
-faults_by_line rules fault_at number said (line ∷ lines) =
-    map (fault_at number) (rules.kinds_of said line) ++ faults_by_line rules fault_at (number + 1) (rules.with_line said line) lines
+-- the fault of this kind in the line of this number
+abbrev pub fault_at : ℕ → ℕ → TextFault
+fault_at line kind = record { line = line; kind = kind }
+
+-- by line, and in a line by kind
+abbrev pub IsNoLater : TextFault → TextFault → Type 0
+IsNoLater f g = (f.line < g.line) ⊎ ((f.line ≡ g.line) × (f.kind ≤ g.kind))
+
+-- all faults of lines that are numbered from here on, by line, and in a line by kind
+abbrev pub faults_by_line : {Said : Type 0} → LineRules Said → ℕ → Said → List (List ℕ) → List TextFault
+faults_by_line rules number said [] = map (fault_at number) (if not (rules.is_whole said) then rules.cut_short ∷ [] else [])
+faults_by_line rules number said (line ∷ lines) =
+    map (fault_at number) (rules.kinds_of said line) ++ faults_by_line rules (number + 1) (rules.with_line said line) lines
 
 -- the first of a list, if there is one
 abbrev pub first_of_list : {A : Type 0} → List A → Option A
 first_of_list [] = None
 first_of_list (x ∷ xs) = Some x
+
+-- the first fault of the lines of a text, behind what was said before them: the fault with the lowest line, and there with the lowest kind
+abbrev pub first_fault : {Said : Type 0} → LineRules Said → Said → List (List ℕ) → Option TextFault
+first_fault rules said lines = first_of_list (faults_by_line rules 1 said lines)
+
+-- ---- what is told
+
+-- the kind that is told of a line is the lowest of its kinds, which have these numbers
+abbrev pub Tells : {K : Type 0} → (K → ℕ) → LineRefusal K → List ℕ → Type 0
+Tells number_of (Has kind) kinds = first_of_list kinds ≡ Some (number_of kind)
+Tells number_of of_line.NoMemory kinds = Unit {0}
+
+-- the refusal of a text whose line of this number was not taken
+abbrev pub refusal_at : {K : Type 0} → (K → ℕ) → ℕ → LineRefusal K → TextRefusal
+refusal_at number_of line (Has kind) = Fault (fault_at line (number_of kind))
+refusal_at number_of line of_line.NoMemory = NoMemory
+
+-- a fault is told only where it is the first
+abbrev pub TellsFirst : TextRefusal → Option TextFault → Type 0
+TellsFirst (Fault f) first = first ≡ Some f
+TellsFirst NoMemory first = Unit {0}

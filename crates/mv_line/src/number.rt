@@ -1,9 +1,12 @@
 //! Numbers in decimal digits (`specs/Number.antt`).
 
-ghost use Rattle.std.specs.Prelude.{◌≡◌, ◌≤◌, ◌+◌, ◌-◌, ◌*◌, true, IfSome, SomeIff};
+ghost use Rattle.std.specs.Prelude.{◌≡◌, ◌≤◌, ◌+◌, ◌-◌, ◌*◌, ◌++◌, true, decimal, IfSome, OnOk, SomeIff};
 ghost use Rattle.std.specs.List.{list_all};
 ghost use Rattle.mv_line.specs.Byte.{is_digit as shows_digit};
 ghost use Rattle.mv_line.specs.Number.{is_digits as shows_digits, is_number as shows_number, number_of, within};
+
+use itoa::Buffer;
+use mv_io::NoMemory;
 
 /// The number that a text shows in one or more digits, without a zero in front of others, where it is within these. It may
 /// have any number of digits.
@@ -66,4 +69,13 @@ fn are_digits(text: &[u8]) -> bool
     ensures { result ≡ list_all shows_digit text.now }
 {
     text.iter().all(|b| b.is_ascii_digit())
+}
+
+/// Appends a label and a number.
+pub fn push_number(out: &mut Vec<u8>, label: &[u8], number: u64) -> Result<(), NoMemory>
+    ensures { OnOk result (out.new.items ≡ out.old.items ++ (label.now ++ decimal number)) }
+{
+    out.extend_from_slice(label)?;
+    out.extend_from_slice(Buffer::new().format(number).as_bytes())?;
+    Ok(())
 }

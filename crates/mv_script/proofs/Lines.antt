@@ -5,8 +5,9 @@ use Rattle.std.specs.Prelude.{◌==◌, ◌<◌}
 use Rattle.mv_calls.specs.declared.table.Table.{Table}
 use Rattle.mv_line.specs.Line.{shown, is_foreign, is_too_long}
 use Rattle.mv_script.specs.declared.operand.Sizes.{Sizes}
-use Rattle.mv_script.specs.declared.fault.LineRefusal.{LineRefusal}
-use Rattle.mv_script.specs.declared.fault.LineRefusal.TheVariants.{Has, NoMemory}
+use Rattle.mv_line.specs.declared.fault.LineRefusal.{LineRefusal}
+use Rattle.mv_line.specs.declared.fault.LineRefusal.TheVariants.{Has, NoMemory}
+use Rattle.mv_script.specs.declared.fault.Kind.{Kind}
 use Rattle.mv_script.specs.declared.reading.Reading.{Reading}
 use Rattle.mv_script.specs.declared.statement.Statement.{Statement}
 use Rattle.mv_script.specs.declared.words.Misread.{Misread}
@@ -58,7 +59,7 @@ module _ (earlier : List Statement) (line text : List ℕ) (same : text ≡ show
   bad_number e = rw (printable, short, e) refl
 
   pub line_taken : (s : Statement) → 0 < length text → text_states (sizes_behind earlier) text ≡ Ok s
-      → (result : Result (Unit {0}) LineRefusal) (r : Reading) → IsTaken result earlier s r
+      → (result : Result (Unit {0}) (LineRefusal Kind)) (r : Reading) → IsTaken result earlier s r
       → MatchResult result (λ (done : Unit {0}). (kinds_of earlier line ≡ []) × IsBehind (with_line earlier line) r)
       (λ e. Tells e (kinds_of earlier line))
   line_taken s lt e (Ok done) r h =
@@ -70,12 +71,12 @@ module _ (earlier : List Statement) (line text : List ℕ) (same : text ≡ show
       ap first_of_list (its_kinds s (some_stated lt ∙ ap (λ (o : Read Statement). Some o) e)) ∙ h
   line_taken s lt e (Err NoMemory) r h = tt
 
-  misread : (why : Misread) → line_states (sizes_behind earlier) line ≡ Some (Err why) → (e : LineRefusal) → e ≡ misread_refusal why
+  misread : (why : Misread) → line_states (sizes_behind earlier) line ≡ Some (Err why) → (e : LineRefusal Kind) → e ≡ misread_refusal why
       → Tells e (kinds_of earlier line)
-  misread NoForm is e same = subst (λ (x : LineRefusal). Tells x (kinds_of earlier line)) (sym same) (no_form is)
-  misread BadNumber is e same = subst (λ (x : LineRefusal). Tells x (kinds_of earlier line)) (sym same) (bad_number is)
+  misread NoForm is e same = subst (λ (x : LineRefusal Kind). Tells x (kinds_of earlier line)) (sym same) (no_form is)
+  misread BadNumber is e same = subst (λ (x : LineRefusal Kind). Tells x (kinds_of earlier line)) (sym same) (bad_number is)
 
-  pub line_refused : 0 < length text → (e : LineRefusal) → IsReadAs {A = Statement} (Err e) (text_states (sizes_behind earlier) text)
+  pub line_refused : 0 < length text → (e : LineRefusal Kind) → IsReadAs {A = Statement} (Err e) (text_states (sizes_behind earlier) text)
       → Tells e (kinds_of earlier line)
   line_refused lt NoMemory h = tt
   line_refused lt (Has k) h = go (text_states (sizes_behind earlier) text) refl h where

@@ -1,16 +1,16 @@
 -- The first of the faults that are listed is the lowest that a text has.
-use Rattle.std.proofs.Common.{ℕ, Bool, not, ◌&&◌, List, [], Option, Some, None, Ok, Err, refl, arith}
+use Rattle.std.proofs.Common.{ℕ, Bool, not, ◌&&◌, List, [], Option, Some, None, Ok, Err, arith}
 use Rattle.std.specs.Prelude.{MatchOption}
 use Rattle.mv_line.specs.Line.{lines_of, is_foreign, is_too_long}
+use Rattle.mv_line.specs.declared.fault.TextFault.{TextFault}
+use Rattle.mv_line.specs.Fault.{IsNoLater}
 use Rattle.mv_line.proofs.Faults.{Rises, rises_when, rises_last, lowest_from}
 use Rattle.mv_script.specs.declared.fault.Kind.TheVariants.{ForeignByte, TooLong, NoForm, BadNumber, OutOfOrder, Miscounted, LeadsDown}
 use Rattle.mv_script.specs.declared.fault.Kind.TheVariants.{NoObtain, TooCostly, UsesTable, BadTable}
-use Rattle.mv_script.specs.declared.fault.ScriptFault.{ScriptFault}
 use Rattle.mv_script.specs.declared.statement.Statement.{Statement}
 use Rattle.mv_script.specs.Fault.{has_no_form, has_bad_number, is_out_of_order, is_miscounted, uses_table, is_bad_table}
 use Rattle.mv_script.specs.Fault.{leads_down, lacks_obtain, is_too_costly, kinds_of, kinds_of_statement, kinds_behind, kind_number}
-use Rattle.mv_script.specs.Fault.{line_rules, faults_from, fault_at, first_fault}
-use Rattle.mv_script.specs.Faults.{HasFault, IsNoLater}
+use Rattle.mv_script.specs.Fault.{line_rules, faults_from, first_fault, HasFault}
 use Rattle.mv_script.specs.Script.{sizes_behind}
 use Rattle.mv_script.specs.Statement.{line_states}
 use Rattle.mv_script.specs.Words.{Read}
@@ -43,9 +43,8 @@ line_rises earlier line =
     (rises_when (has_bad_number states) (kind_number BadNumber) 3 _ (omega arith) (statement_rises earlier states))))
 
 -- the law
-pub lowest : (bytes : List ℕ) → MatchOption (first_fault bytes) ((f : ScriptFault) → ¬ HasFault bytes f)
-    (λ f. HasFault bytes f × ((g : ScriptFault) → HasFault bytes g → IsNoLater f g))
+pub lowest : (bytes : List ℕ) → MatchOption (first_fault bytes) ((f : TextFault) → ¬ HasFault bytes f)
+    (λ f. HasFault bytes f × ((g : TextFault) → HasFault bytes g → IsNoLater f g))
 unfolding faults_from
 lowest bytes =
-    lowest_from line_rules fault_at (λ (f : ScriptFault). f.line) (λ (f : ScriptFault). f.kind) (λ l k. refl) (λ l k. refl) line_rises
-    1 [] (lines_of bytes)
+    lowest_from line_rules line_rises 1 [] (lines_of bytes)

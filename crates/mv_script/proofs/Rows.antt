@@ -12,7 +12,8 @@ use Rattle.mv_script.specs.declared.statement.Statement.TheVariants as statement
 use Rattle.mv_script.specs.declared.words.Misread.TheVariants.{NoForm, BadNumber}
 use Rattle.mv_script.specs.declared.operand.Sizes.{Sizes}
 use Rattle.mv_script.specs.Costs.{script_setup}
-use Rattle.mv_script.specs.Fault.{first_fault, fault_at, faults_from}
+use Rattle.mv_line.specs.Fault.{fault_at}
+use Rattle.mv_script.specs.Fault.{first_fault, faults_from}
 use Rattle.mv_script.specs.Operand.{table_with}
 use Rattle.mv_script.specs.Script.{ScriptData, script_of}
 use Rattle.mv_script.specs.Sound.{IsSound, IsObtainOf}

@@ -15,7 +15,7 @@ use Rattle.mv_script.specs.declared.statement.Statement.TheVariants as statement
 use Rattle.mv_script.specs.Costs.{costs_of}
 use Rattle.mv_script.specs.Fault.{has_script, has_task, has_end, is_script, is_out_of_order, is_miscounted, leads_down, lacks_obtain}
 use Rattle.mv_script.specs.Fault.{uses_table, is_bad_table}
-use Rattle.mv_script.specs.Fault.{is_too_costly, kinds_of, kinds_of_statement, kinds_behind, faults_from, fault_at, first_fault}
+use Rattle.mv_script.specs.Fault.{is_too_costly, kinds_of, kinds_of_statement, kinds_behind, faults_from, first_fault}
 use Rattle.mv_line.specs.Fault.{first_of_list}
 use Rattle.mv_line.proofs.Faults.{no_kinds, no_fault_at_end}
 use Rattle.mv_script.specs.Fault.{line_rules, when, has_no_form, has_bad_number}
@@ -209,9 +209,9 @@ lines_hold : (number : ℕ) (earlier : List Statement) (lines : List (List ℕ))
     → first_of_list (faults_from number earlier lines) ≡ None
     → Holds (fold with_line earlier lines) × (has_end (fold with_line earlier lines) ≡ true)
 unfolding faults_from
-lines_hold number earlier [] h e = (h, no_fault_at_end line_rules fault_at number earlier e)
+lines_hold number earlier [] h e = (h, no_fault_at_end line_rules number earlier e)
 lines_hold number earlier (line ∷ lines) h e =
-    let none : kinds_of earlier line ≡ [] = no_kinds line_rules fault_at number earlier line lines e in
+    let none : kinds_of earlier line ≡ [] = no_kinds line_rules number earlier line lines e in
     lines_hold (number + 1) (with_line earlier line) lines (line_holds earlier line h none)
     (ap first_of_list (sym (one_line number earlier line lines none)) ∙ e)
 

@@ -1,10 +1,12 @@
 -- The faults of a text: one test for each kind of fault that a line can have, and which fault is the first.
-use Rattle.std.specs.Prelude.{◌≡◌, ℕ, Bool, true, false, ◌&&◌, ◌||◌, not, nat_le, nat_lt, List, [], ◌∷◌, ◌++◌, length, sum}
+use Rattle.std.specs.Prelude.{ℕ, Bool, true, false, ◌&&◌, ◌||◌, not, nat_le, nat_lt, List, [], ◌∷◌, ◌++◌, length, sum}
 use Rattle.std.specs.Prelude.{count_by, Option, Some, None, is_some, Ok, Err, if◌then◌else◌}
 use Rattle.std.specs.List.{list_any}
 use Rattle.mv_line.specs.Byte.{is_within}
 use Rattle.mv_line.specs.Line.{lines_of, is_foreign, is_too_long}
-use Rattle.mv_line.specs.Fault.{LineRules, faults_by_line, first_of_list}
+use Rattle.mv_line.specs.declared.fault.TextFault.{TextFault}
+use Rattle.mv_line.specs.Fault.{LineRules, HasFaultAt, faults_by_line, first_of_list}
+pub use Rattle.mv_line.specs.Fault.{TellsFirst}
 use Rattle.mv_machine.specs.Limits.{events_limit}
 use Rattle.mv_calls.specs.Table.{table_refusal}
 use Rattle.mv_script.specs.declared.call.Call.{Call}
@@ -12,9 +14,6 @@ use Rattle.mv_script.specs.declared.call.Call.TheVariants as call
 use Rattle.mv_script.specs.declared.fault.Kind.{Kind}
 use Rattle.mv_script.specs.declared.fault.Kind.TheVariants.{ForeignByte, TooLong, NoForm, BadNumber, OutOfOrder, Miscounted, LeadsDown}
 use Rattle.mv_script.specs.declared.fault.Kind.TheVariants.{NoObtain, NoEnd, TooCostly, UsesTable, BadTable}
-use Rattle.mv_script.specs.declared.fault.ScriptFault.{ScriptFault}
-use Rattle.mv_script.specs.declared.fault.ScriptRefusal.{ScriptRefusal}
-use Rattle.mv_script.specs.declared.fault.ScriptRefusal.TheVariants.{Fault, NoMemory}
 use Rattle.mv_script.specs.declared.statement.Statement.{Statement}
 use Rattle.mv_script.specs.declared.statement.Statement.TheVariants as statement
 use Rattle.mv_script.specs.declared.words.Misread.TheVariants as misread
@@ -212,27 +211,23 @@ kinds_of earlier line =
     ++ (when (has_bad_number states) BadNumber
     ++ kinds_of_statement earlier states)))
 
--- the fault of this kind in the line of this number
-abbrev pub fault_at : ℕ → ℕ → ScriptFault
-fault_at line kind = record { line = line; kind = kind }
-
 -- the rules of a script's lines: it ends with END
 abbrev pub line_rules : LineRules (List Statement)
 line_rules = record { with_line = with_line; kinds_of = kinds_of; is_whole = has_end; cut_short = kind_number NoEnd }
 
 -- the faults of lines that are numbered from here on, behind the earlier statements: by line, and in a line by kind
-unfoldable pub faults_from : ℕ → List Statement → List (List ℕ) → List ScriptFault
-faults_from number earlier lines = faults_by_line line_rules fault_at number earlier lines
+unfoldable pub faults_from : ℕ → List Statement → List (List ℕ) → List TextFault
+faults_from number earlier lines = faults_by_line line_rules number earlier lines
 
 -- the faults of a text
-abbrev pub faults_of : List ℕ → List ScriptFault
+abbrev pub faults_of : List ℕ → List TextFault
 faults_of bytes = faults_from 1 [] (lines_of bytes)
 
 -- the fault with the lowest line, and there with the lowest kind
-abbrev pub first_fault : List ℕ → Option ScriptFault
+abbrev pub first_fault : List ℕ → Option TextFault
 first_fault bytes = first_of_list (faults_of bytes)
 
--- a fault is told only where it is the first
-abbrev pub TellsFirst : ScriptRefusal → Option ScriptFault → Type 0
-TellsFirst (Fault f) first = first ≡ Some f
-TellsFirst NoMemory first = Unit {0}
+-- The line of this number has a fault of this kind: by what it is and the statements before it, or, behind the last line, for
+-- want of an END.
+abbrev pub HasFault : List ℕ → TextFault → Type 0
+HasFault bytes f = HasFaultAt line_rules 1 [] (lines_of bytes) f.line f.kind

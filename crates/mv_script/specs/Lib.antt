@@ -14,4 +14,3 @@ pub mod AnswerText
 pub mod Sound
 pub mod Events
 pub mod Reading
-pub mod Faults

@@ -8,18 +8,15 @@ use Rattle.mv_machine.specs.Setup.{Setup, SetupExit}
 use Rattle.mv_calls.specs.declared.table.Table.{Table}
 use Rattle.mv_calls.specs.Table.{IsTableOf}
 use Rattle.mv_script.specs.declared.call.Call.{Call}
-use Rattle.mv_script.specs.declared.fault.LineRefusal.{LineRefusal}
-use Rattle.mv_script.specs.declared.fault.LineRefusal.TheVariants.{Has, NoMemory}
-use Rattle.mv_script.specs.declared.fault.ScriptRefusal.{ScriptRefusal}
-use Rattle.mv_script.specs.declared.fault.ScriptRefusal.TheVariants.{Fault}
-use Rattle.mv_script.specs.declared.fault.ScriptRefusal.TheVariants as refusal
+use Rattle.mv_script.specs.declared.fault.Kind.{Kind}
 use Rattle.mv_script.specs.declared.operand.Sizes.{Sizes}
 use Rattle.mv_script.specs.declared.reading.Reading.{Reading}
 use Rattle.mv_script.specs.declared.statement.Statement.{Statement}
 use Rattle.mv_script.specs.declared.statement.Statement.TheVariants as statement
 use Rattle.mv_script.specs.Costs.{script_setup, costs_of}
-use Rattle.mv_script.specs.Fault.{has_script, has_exit, has_task, has_end, kind_number, fault_at, kinds_behind}
-use Rattle.mv_line.specs.Fault.{first_of_list}
+use Rattle.mv_script.specs.Fault.{has_script, has_exit, has_task, has_end, kind_number, kinds_behind}
+use Rattle.mv_line.specs.declared.fault.LineRefusal.{LineRefusal}
+use Rattle.mv_line.specs.Fault as lines
 use Rattle.mv_script.specs.Limits.{most_tasks, most_ecbs, most_exits}
 use Rattle.mv_script.specs.Script.{task_count, owners_of, exits_of, table_of, tasks_of, with_call, sizes_behind, is_obtain}
 use Rattle.mv_script.specs.Sound.{IfThere, IsSoundExit, IsSoundTask, IsGoodStatement}
@@ -162,20 +159,14 @@ abbrev pub IsBehind : List Statement → Reading → Type 0
 IsBehind statements r = Stands statements (notes_of r)
 
 -- the kind that is told is the lowest
-abbrev pub Tells : LineRefusal → List ℕ → Type 0
-Tells (Has kind) kinds = first_of_list kinds ≡ Some (kind_number kind)
-Tells NoMemory kinds = Unit {0}
+abbrev pub Tells : LineRefusal Kind → List ℕ → Type 0
+Tells refusal kinds = lines.Tells kind_number refusal kinds
 
 -- the reader is behind some statements, and this one names what they state
 abbrev pub IsReady : Reading → Statement → Type 0
 IsReady r s = (earlier : List Statement) × (IsBehind earlier r × IsGoodStatement (sizes_behind earlier) s)
 
 -- the statement has no fault and the reader is behind it, or the kind that is told is its lowest
-abbrev pub IsTaken : Result (Unit {0}) LineRefusal → List Statement → Statement → Reading → Type 0
+abbrev pub IsTaken : Result (Unit {0}) (LineRefusal Kind) → List Statement → Statement → Reading → Type 0
 IsTaken (Ok done) earlier s r = (kinds_behind earlier s ≡ []) × IsBehind (earlier ++ s ∷ []) r
 IsTaken (Err refusal) earlier s r = Tells refusal (kinds_behind earlier s)
-
--- the refusal of a script whose line of this number was not taken
-abbrev pub refusal_at : ℕ → LineRefusal → ScriptRefusal
-refusal_at line (Has kind) = Fault (fault_at line (kind_number kind))
-refusal_at line NoMemory = refusal.NoMemory

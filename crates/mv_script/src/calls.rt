@@ -13,7 +13,7 @@ ghost use Rattle.mv_script.specs.Statement.{table_call as table_read};
 ghost use Rattle.mv_script.specs.Words.{making, one, two, three};
 
 use crate::call::Call;
-use crate::fault::{Kind, LineRefusal};
+use crate::fault::Kind;
 use crate::limits::MOST_WAITED;
 use crate::operand::{
     Sizes, any_number, conditional, count, ecb, ecb_code, ecb_or_none, element, event,
@@ -23,11 +23,11 @@ use crate::statement::ecbs;
 use crate::words::{Misread, both, field_count, no_field, one_word, three_words, two_words, worse};
 use mv_element::Token;
 use mv_latch::LatchForm;
-use mv_line::split_field;
+use mv_line::{LineRefusal, split_field};
 use std::alloc::Global;
 
 /// A WAIT, by the words behind it: a count and up to eight blocks.
-pub(crate) fn wait(alloc: Global, sizes: Sizes, words: &[u8]) -> Result<Call, LineRefusal>
+pub(crate) fn wait(alloc: Global, sizes: Sizes, words: &[u8]) -> Result<Call, LineRefusal<Kind>>
     ensures { IsReadAs result (wait_read sizes (fields_of words.now)) }
 {
     let (count_word, rest) = split_field(words);

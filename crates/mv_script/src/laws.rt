@@ -1,8 +1,10 @@
 //! What the first fault of a text is, by its lines alone; what a text without fault states; that costs suffice; what tries answer, and
-//! the calls on a table of events; and that the text of answers determines them. Clauses cite `specs/Fault.antt`, `Faults.antt`,
+//! the calls on a table of events; and that the text of answers determines them. Clauses cite `specs/Fault.antt`,
 //! `Script.antt`, `Sound.antt`, `Costs.antt`, `Run.antt`, `Events.antt` and `AnswerText.antt`.
 
 ghost use Rattle.std.specs.Prelude.{◌≡◌, ◌≤◌, ℕ, List, [], Some, None, MatchOption, length, slice_get, slice_index_or};
+ghost use Rattle.mv_line.specs.declared.fault.TextFault.{TextFault as ScriptFault};
+ghost use Rattle.mv_line.specs.Fault.{IsNoLater};
 ghost use Rattle.mv_element.specs.declared.element.Token.{Token};
 ghost use Rattle.mv_machine.specs.declared.entry.Entry.{Entry};
 ghost use Rattle.mv_machine.specs.Setup.{Setup};
@@ -13,12 +15,10 @@ ghost use Rattle.mv_script.specs.declared.answer.Answer.{Answer};
 ghost use Rattle.mv_script.specs.declared.answer.Answer.TheVariants.{Posted, Early};
 ghost use Rattle.mv_script.specs.declared.call.Call.{Call};
 ghost use Rattle.mv_script.specs.declared.call.Call.TheVariants.{TryPost, TryRelease};
-ghost use Rattle.mv_script.specs.declared.fault.ScriptFault.{ScriptFault};
 ghost use Rattle.mv_script.specs.AnswerText.{AreInRange, answers_text};
 ghost use Rattle.mv_script.specs.Costs.{Asked, cost, service_of};
 ghost use Rattle.mv_script.specs.Events.{EventsAreHandedOut};
-ghost use Rattle.mv_script.specs.Fault.{first_fault};
-ghost use Rattle.mv_script.specs.Faults.{HasFault, IsNoLater};
+ghost use Rattle.mv_script.specs.Fault.{HasFault, first_fault};
 ghost use Rattle.mv_script.specs.Run.{IsScriptRun, answer_at, script_answers, unless_moved};
 ghost use Rattle.mv_script.specs.Script.{ScriptData, script_of};
 ghost use Rattle.mv_script.specs.Sound.{IsSound};

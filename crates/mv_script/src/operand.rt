@@ -16,9 +16,11 @@ use crate::limits::{
 };
 use crate::words::{Misread, both};
 use mv_calls::Table;
-use mv_element::Token;
+use mv_ecb::CODE_LIMIT;
+use mv_element::{RELEASE_LIMIT, Token};
 use mv_latch::Mode;
 use mv_line::{first_place, is_digits, wide_number_within};
+use mv_machine::{HIGHEST_GENERATION, HIGHEST_PLACE};
 
 /// How many tasks and event control blocks a script has so far, and its table of events, if it has one: what its lines may name.
 #[derive(Clone, Copy)]
@@ -145,21 +147,21 @@ pub(crate) fn count(word: &[u8]) -> Result<u32, Misread>
 pub(crate) fn ecb_code(word: &[u8]) -> Result<u32, Misread>
     ensures { result ≡ reads_ecb_code word.now }
 {
-    below(1 << 30, word)
+    below(u64::from(CODE_LIMIT), word)
 }
 
 /// A release code: 24 bits.
 pub(crate) fn release_code(word: &[u8]) -> Result<u32, Misread>
     ensures { result ≡ reads_release_code word.now }
 {
-    below(1 << 24, word)
+    below(u64::from(RELEASE_LIMIT), word)
 }
 
 /// How many events an object has had.
 pub(crate) fn place(word: &[u8]) -> Result<u32, Misread>
     ensures { result ≡ reads_place word.now }
 {
-    below(524_287, word)
+    below(u64::from(HIGHEST_PLACE) + 1, word)
 }
 
 /// The number of an exit or of an OBTAIN, or what a volume keeps: 32 bits.
@@ -179,7 +181,7 @@ pub(crate) fn token(sizes: Sizes, word: &[u8]) -> Result<Token, Misread>
     };
     let (element, generation) = both(
         element(sizes, &word[..point]),
-        below(262_143, &word[point + 1..]),
+        below(u64::from(HIGHEST_GENERATION), &word[point + 1..]),
     )?;
     Ok(Token {
         element,

@@ -6,15 +6,16 @@ ghost use Rattle.std.specs.Prelude.{length, count_by, MatchResult, IfOk, IfErr, 
 ghost use Rattle.mv_script.specs.declared.call.Call.{Call};
 ghost use Rattle.mv_script.specs.declared.statement.Statement.{Statement};
 ghost use Rattle.mv_script.specs.declared.statement.Statement.TheVariants as statement;
-ghost use Rattle.mv_script.specs.Fault.{first_fault, TellsFirst, kinds_of, leads_down, is_no_obtain, obtain_meant};
-ghost use Rattle.mv_script.specs.Reading.{IsBehind, IsReady, IsTaken, Tells, refusal_at};
-ghost use Rattle.mv_script.specs.Script.{script_data, script_of, script_in, with_line, tasks_of, sizes_behind, is_obtain};
+ghost use Rattle.mv_script.specs.Fault.{first_fault, TellsFirst, line_rules, leads_down, is_no_obtain, obtain_meant};
+ghost use Rattle.mv_script.specs.Reading.{IsBehind, IsReady, IsTaken};
+ghost use Rattle.mv_script.specs.Script.{script_data, script_of, script_in, tasks_of, sizes_behind, is_obtain};
 ghost use Rattle.mv_script.specs.Sound.{IsSound, IsGoodStatement};
 
+use crate::ScriptRefusal;
 use crate::call::{Call, CallList};
 use crate::configuration::{unbudgeted, with_budgets};
 use crate::cost::cost;
-use crate::fault::{Kind, LineRefusal, ScriptFault, ScriptRefusal};
+use crate::fault::Kind;
 use crate::limits::{EVENTS_LIMIT, MOST_CALLS, MOST_ECBS, MOST_EXITS};
 use crate::numbers::Numbers;
 use crate::operand::Sizes;
@@ -23,7 +24,7 @@ use crate::statement::{Statement, statement_of};
 use crate::table::uses_any;
 use mv_calls::{Table, ValidTable};
 use mv_io::NoMemory;
-use mv_line::{is_foreign, is_too_long, shown, split_line};
+use mv_line::{LineReader, LineRefusal, is_foreign, is_too_long, read_lines, shown};
 use mv_machine::{Exit, ValidConfig};
 use std::alloc::Global;
 
@@ -47,33 +48,10 @@ pub fn read_script(alloc: Global, bytes: &[u8]) -> Result<Script, ScriptRefusal>
     ensures fault { IfErr result (λ e. TellsFirst e (first_fault bytes.now)) }
 {
     let mut reading = Reading::new(alloc);
-    let mut rest = bytes;
-    let mut number = 1;
-    while !rest.is_empty() {
-        let (line, behind) = split_line(rest);
-        if let Err(refusal) = reading.take_line(line) {
-            return Err(refused(refusal, number));
-        }
-        rest = behind;
-        number += 1;
-    }
-    if !reading.ended {
-        return Err(refused(LineRefusal::Has(Kind::NoEnd), number));
+    if let Err(refusal) = read_lines(&mut reading, bytes) {
+        return Err(refusal);
     }
     Ok(reading.script()?)
-}
-
-// The refusal of a script that has it at this line.
-fn refused(refusal: LineRefusal, line: u32) -> ScriptRefusal
-    ensures { result ≡ refusal_at line refusal }
-{
-    match refusal {
-        LineRefusal::Has(kind) => ScriptRefusal::Fault(ScriptFault {
-            line,
-            kind: kind.number(),
-        }),
-        LineRefusal::NoMemory => ScriptRefusal::NoMemory,
-    }
 }
 
 // What the lines so far have stated.
@@ -101,34 +79,18 @@ struct Reading {
     ended: bool,
 }
 
-impl Reading {
-    fn new(alloc: Global) -> Self
-        ensures { IsBehind [] result }
-    {
-        Reading {
-            alloc,
-            stated: 0,
-            owners: Vec::new(alloc),
-            exits: Vec::new(alloc),
-            table: None,
-            costs: None,
-            finished: Vec::new(alloc),
-            budgets: Vec::new(alloc),
-            calls: Vec::new(alloc),
-            spent: 0,
-            obtains: 0,
-            room: EVENTS_LIMIT,
-            ended: false,
-        }
-    }
+impl<'a> LineReader<'a> for Reading {
+    ghost use Rattle.mv_script.specs.declared.statement.Statement.{Statement};
 
-    // Takes a line.
-    fn take_line(&mut self, line: &[u8]) -> Result<(), LineRefusal>
-        requires { (earlier : List Statement) × IsBehind earlier self.now }
-        ensures { (earlier : List Statement) → IsBehind earlier self.old
-            → MatchResult result (λ _. (kinds_of earlier line.now ≡ []) × IsBehind (with_line earlier line.now) self.new)
-            (λ e. Tells e (kinds_of earlier line.now)) }
-    {
+    type Kind = Kind;
+
+    ghost Said = { List Statement };
+
+    ghost rules = { λ _. line_rules };
+
+    ghost HasTaken = { λ _ earlier r. IsBehind earlier r };
+
+    fn take_line(&mut self, line: &'a [u8]) -> Result<(), LineRefusal<Kind>> {
         if is_foreign(line) {
             return Err(LineRefusal::Has(Kind::ForeignByte));
         }
@@ -150,8 +112,34 @@ impl Reading {
         }
     }
 
+    fn kind_at_end(&self) -> Option<Kind> {
+        if self.ended { None } else { Some(Kind::NoEnd) }
+    }
+}
+
+impl Reading {
+    fn new(alloc: Global) -> Self
+        ensures { IsBehind [] result }
+    {
+        Reading {
+            alloc,
+            stated: 0,
+            owners: Vec::new(alloc),
+            exits: Vec::new(alloc),
+            table: None,
+            costs: None,
+            finished: Vec::new(alloc),
+            budgets: Vec::new(alloc),
+            calls: Vec::new(alloc),
+            spent: 0,
+            obtains: 0,
+            room: EVENTS_LIMIT,
+            ended: false,
+        }
+    }
+
     // Takes a statement.
-    fn take(&mut self, statement: Statement) -> Result<(), LineRefusal>
+    fn take(&mut self, statement: Statement) -> Result<(), LineRefusal<Kind>>
         requires { IsReady self.now (statement) }
         ensures { (earlier : List Statement) → IsBehind earlier self.old → IsGoodStatement (sizes_behind earlier) (statement)
             → IsTaken result earlier (statement) self.new }
@@ -168,7 +156,7 @@ impl Reading {
     }
 
     // Takes a SCRIPT of so many tasks.
-    fn take_script(&mut self, tasks: u32) -> Result<(), LineRefusal>
+    fn take_script(&mut self, tasks: u32) -> Result<(), LineRefusal<Kind>>
         requires { IsReady self.now (statement.Script tasks) }
         ensures { (earlier : List Statement) → IsBehind earlier self.old → IsGoodStatement (sizes_behind earlier) (statement.Script tasks)
             → IsTaken result earlier (statement.Script tasks) self.new }
@@ -215,7 +203,7 @@ impl Reading {
     }
 
     // Takes an ECB of this task.
-    fn take_ecb(&mut self, owner: u32) -> Result<(), LineRefusal>
+    fn take_ecb(&mut self, owner: u32) -> Result<(), LineRefusal<Kind>>
         requires { IsReady self.now (statement.Ecb owner) }
         ensures { (earlier : List Statement) → IsBehind earlier self.old → IsGoodStatement (sizes_behind earlier) (statement.Ecb owner)
             → IsTaken result earlier (statement.Ecb owner) self.new }
@@ -231,7 +219,7 @@ impl Reading {
     }
 
     // Takes an EXIT.
-    fn take_exit(&mut self, source: u32, targets: Numbers) -> Result<(), LineRefusal>
+    fn take_exit(&mut self, source: u32, targets: Numbers) -> Result<(), LineRefusal<Kind>>
         requires { IsReady self.now (statement.Exit source targets) }
         ensures { (earlier : List Statement) → IsBehind earlier self.old
             → IsGoodStatement (sizes_behind earlier) (statement.Exit source targets)
@@ -252,7 +240,7 @@ impl Reading {
     }
 
     // Takes a TABLE.
-    fn take_table(&mut self, table: Table) -> Result<(), LineRefusal>
+    fn take_table(&mut self, table: Table) -> Result<(), LineRefusal<Kind>>
         requires { IsReady self.now (statement.Table table) }
         ensures { (earlier : List Statement) → IsBehind earlier self.old → IsGoodStatement (sizes_behind earlier) (statement.Table table)
             → IsTaken result earlier (statement.Table table) self.new }
@@ -284,7 +272,7 @@ impl Reading {
     }
 
     // Takes a TASK.
-    fn take_task(&mut self) -> Result<(), LineRefusal>
+    fn take_task(&mut self) -> Result<(), LineRefusal<Kind>>
         requires { IsReady self.now (statement.Task) }
         ensures { (earlier : List Statement) → IsBehind earlier self.old → IsGoodStatement (sizes_behind earlier) (statement.Task)
             → IsTaken result earlier (statement.Task) self.new }
@@ -318,7 +306,7 @@ impl Reading {
     }
 
     // Takes a call of the last task.
-    fn take_call(&mut self, call: Call) -> Result<(), LineRefusal>
+    fn take_call(&mut self, call: Call) -> Result<(), LineRefusal<Kind>>
         requires { IsReady self.now (statement.Call call) }
         ensures { (earlier : List Statement) → IsBehind earlier self.old → IsGoodStatement (sizes_behind earlier) (statement.Call call)
             → IsTaken result earlier (statement.Call call) self.new }
@@ -350,7 +338,7 @@ impl Reading {
     }
 
     // Takes the END.
-    fn take_end(&mut self) -> Result<(), LineRefusal>
+    fn take_end(&mut self) -> Result<(), LineRefusal<Kind>>
         requires { IsReady self.now (statement.End) }
         ensures { (earlier : List Statement) → IsBehind earlier self.old → IsGoodStatement (sizes_behind earlier) (statement.End)
             → IsTaken result earlier (statement.End) self.new }

@@ -10,13 +10,13 @@ ghost use Rattle.mv_script.specs.Operand.{ecb as ecb_read, table_size};
 
 use crate::call::Call;
 use crate::calls::{other_call, wait};
-use crate::fault::{Kind, LineRefusal};
+use crate::fault::Kind;
 use crate::limits::MOST_TARGETS;
 use crate::numbers::Numbers;
 use crate::operand::{Sizes, ecb, latch, table_size as read_table_size, task, task_count, volume};
 use crate::words::{Misread, both, field_count, no_field, one_word, three_words, worse, worsened};
 use mv_calls::Table;
-use mv_line::{begins_with_space, split_field};
+use mv_line::{LineRefusal, begins_with_space, split_field};
 use std::alloc::{AllocError, Global};
 
 /// What a line states.
@@ -43,7 +43,7 @@ pub(crate) fn statement_of(
     alloc: Global,
     sizes: Sizes,
     text: &[u8],
-) -> Result<Statement, LineRefusal>
+) -> Result<Statement, LineRefusal<Kind>>
     requires { sizes.tasks ≤ most_tasks }
     ensures { IsReadAs result (text_states sizes text.now) }
 {
@@ -58,7 +58,12 @@ pub(crate) fn statement_of(
 }
 
 // What a line with this first word states, by the words behind it.
-fn line_of(alloc: Global, sizes: Sizes, word: &[u8], words: &[u8]) -> Result<Statement, LineRefusal>
+fn line_of(
+    alloc: Global,
+    sizes: Sizes,
+    word: &[u8],
+    words: &[u8],
+) -> Result<Statement, LineRefusal<Kind>>
     requires { sizes.tasks ≤ most_tasks }
     ensures { IsReadAs result (stated sizes word.now (fields_of words.now)) }
 {
@@ -89,7 +94,7 @@ fn line_of(alloc: Global, sizes: Sizes, word: &[u8], words: &[u8]) -> Result<Sta
 }
 
 // A source, and one to four targets.
-fn exit(alloc: Global, sizes: Sizes, words: &[u8]) -> Result<Statement, LineRefusal>
+fn exit(alloc: Global, sizes: Sizes, words: &[u8]) -> Result<Statement, LineRefusal<Kind>>
     ensures { IsReadAs result (exit_read sizes (fields_of words.now)) }
 {
     let (source_word, rest) = split_field(words);

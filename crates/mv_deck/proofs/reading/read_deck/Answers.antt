@@ -1,41 +1,30 @@
-use Rattle.std.proofs.Common.{◌≡◌, length, arith, rules, ◌∙◌}
-use Rattle.std.proofs.lemmas.Grind.{common_steps}
-use Rattle.mv_deck.proofs.Behind.{few_jobs}
-use Rattle.mv_deck.proofs.Passes.{at_next, tells_at, no_null_at_end, no_fault_at_end, deck_at_end}
+use Rattle.std.proofs.Common.{[], refl, ap, subst, ◌∙◌}
+use Rattle.mv_line.specs.Line.{lines_of}
+use Rattle.mv_deck.specs.declared.form.Version.{Version}
+use Rattle.mv_deck.specs.Deck.{jobs_of}
+use Rattle.mv_deck.specs.Fault.{faults_from}
+use Rattle.mv_deck.specs.Reading.{IsBehind}
+use Rattle.mv_deck.proofs.Passes.{all_said, version_in}
+use Rattle.mv_deck.proofs.reading.read_deck.Goals.{After-new-reading}
 use Rattle.mv_deck.proofs.reading.read_deck.Goals as goal
 
-pub take_line-requires : goal.take_line-requires
-take_line-requires c =
-    let at = c.loop-rest.invariant in
-    few_jobs c.args.initiators _ at.earlier c.loop-rest.reading at.behind
+-- the reader begins behind no statement
+begins : (c : After-new-reading) → IsBehind c.args.initiators (version_in c.args.bytes.now) [] c.new-reading.result
+begins c = subst (λ (v : Version). IsBehind c.args.initiators v [] c.new-reading.result) c.version_of.ensures c.new-reading.ensures
+
+pub read_lines-requires : goal.read_lines-requires
+read_lines-requires c = λ lifetimes.
+    ((refl, tt), (c.requires.short, ((c.args.initiators, version_in c.args.bytes.now), [], begins (goal.at.read_lines-requires c).After-new-reading)))
 
 pub returns-in-Err-clause-fault : goal.returns-in-Err-clause-fault
+unfolding faults_from
 returns-in-Err-clause-fault c =
-    let at = c.loop-rest.invariant in
-    rw c.refused.ensures
-    (tells_at c.args.initiators c.args.bytes.now c.loop-rest.rest.now c.split_line.result.1.now c.split_line.result.0.now
-    c.loop-rest.number c.loop-rest.reading at c.split_line.ensures.lines c.in-Err.refusal
-    (c.in-Err.ensures c.args.initiators _ at.earlier at.behind))
-
-pub loop-rest-preserved : goal.loop-rest-preserved
-loop-rest-preserved c =
-    let at = c.loop-rest.invariant in
-    let t = c.in_default.ensures c.args.initiators _ at.earlier at.behind in
-    at_next c.args.initiators c.args.bytes.now c.loop-rest.rest.now _ _ c.loop-rest.number c.loop-rest.reading _ at
-    c.split_line.ensures.lines c.split_line.ensures.shorter t.0 t.1
-
-pub returns-then-not-reading-clause-fault : goal.returns-then-not-reading-clause-fault
-returns-then-not-reading-clause-fault c =
-    let empty : length c.loop-rest.rest.now ≡ 0 = grind (arith, common_steps) in
-    rw c.refused-then-not-reading.ensures
-    (no_null_at_end c.args.initiators c.args.bytes.now c.loop-rest.rest.now c.loop-rest.number c.loop-rest.reading c.loop-rest.invariant
-    empty (search rules))
+    c.in-Err.ensures (c.args.initiators, version_in c.args.bytes.now) [] (begins (goal.at.returns-in-Err-clause-fault c).After-new-reading)
 
 pub returns-clause-deck : goal.returns-clause-deck
+unfolding faults_from
 returns-clause-deck c =
-    let empty : length c.loop-rest.rest.now ≡ 0 = grind (arith, common_steps) in (
-      no_fault_at_end c.args.initiators c.args.bytes.now c.loop-rest.rest.now c.loop-rest.number c.loop-rest.reading c.loop-rest.invariant
-          empty (search rules),
-      c.in_ok-deck.ensures ∙ deck_at_end c.args.initiators c.args.bytes.now c.loop-rest.rest.now c.loop-rest.number c.loop-rest.reading
-          c.loop-rest.invariant empty,
-    )
+    let n = c.args.initiators in
+    let v = version_in c.args.bytes.now in
+    let read = c.in_default.ensures (n, v) [] (begins (goal.at.returns-clause-deck c).After-new-reading) in
+    (read.0, c.in_ok-deck.ensures ∙ read.1.jobs ∙ ap jobs_of (all_said n v [] (lines_of c.args.bytes.now)))

@@ -9,8 +9,8 @@ use Rattle.mv_script.specs.Script.{sizes_behind}
 use Rattle.mv_script.specs.Statement.{text_states}
 use Rattle.mv_script.proofs.Good.{read_well}
 use Rattle.mv_script.proofs.Lines.{line_taken, line_refused, some_text, sizes, sizes_are}
-use Rattle.mv_script.proofs.reading.Reading.take_line.Goals.{After-stated_table, In-Ok}
-use Rattle.mv_script.proofs.reading.Reading.take_line.Goals as goal
+use Rattle.mv_script.proofs.reading.ReadingLineReader.take_line.Goals.{After-stated_table, In-Ok}
+use Rattle.mv_script.proofs.reading.ReadingLineReader.take_line.Goals as goal
 
 -- the line is neither foreign nor too long, and something of it counts
 counts : (c : After-stated_table)
@@ -34,14 +34,14 @@ states c z same = subst (λ (s : Sizes). text_states s c.shown-text.result.now �
 
 pub take-requires : goal.take-requires
 take-requires c =
-    let earlier = c.requires.0 in
-    let b = c.requires.1 in
+    let earlier = c.requires.1 in
+    let b = c.requires.2 in
     let z = sizes_so_far (goal.at.take-requires c).After-stated_table earlier b in
     let e = states (goal.at.take-requires c).In-Ok (sizes_behind earlier) z in
     (earlier, (b, read_well (sizes_behind earlier) c.shown-text.result.now c.in-Ok.statement e))
 
 pub returns-in-Ok : goal.returns-in-Ok
-returns-in-Ok c = λ earlier b.
+returns-in-Ok c = λ setting earlier b.
     let text = c.shown-text.result.now in
     let k = counts (goal.at.returns-in-Ok c).After-stated_table in
     let z = sizes_so_far (goal.at.returns-in-Ok c).After-stated_table earlier b in
@@ -50,7 +50,7 @@ returns-in-Ok c = λ earlier b.
     (c.take.ensures earlier b (read_well (sizes_behind earlier) text c.in-Ok.statement e))
 
 pub returns-in-Err : goal.returns-in-Err
-returns-in-Err c = λ earlier b.
+returns-in-Err c = λ setting earlier b.
     let text = c.shown-text.result.now in
     let k = counts (goal.at.returns-in-Err c).After-stated_table in
     line_refused earlier c.args.line.now text c.shown-text.ensures k.0 k.1 k.2 c.in-Err.refusal
