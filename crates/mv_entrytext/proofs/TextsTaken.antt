@@ -13,7 +13,7 @@ use Rattle.mv_machine.specs.Setup.{Setup, SetupExit}
 use Rattle.mv_line.specs.Part.{parts_at}
 use Rattle.mv_entrytext.specs.declared.fault.Kind.{Kind}
 use Rattle.mv_entrytext.specs.declared.fault.Kind.TheVariants.{NoForm, BadNumber, BadConfig, WrongCount, Cut}
-use Rattle.mv_entrytext.specs.declared.fault.TextFault.{TextFault}
+use Rattle.mv_line.specs.declared.fault.TextFault.{TextFault}
 use Rattle.mv_entrytext.specs.declared.version.Version.{Version}
 use Rattle.mv_entrytext.specs.Ranges.{highest_u32}
 use Rattle.mv_entrytext.specs.EntryText.{HasText}

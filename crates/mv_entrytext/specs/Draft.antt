@@ -5,30 +5,22 @@ use Rattle.mv_machine.specs.Check.{refusal_of}
 use Rattle.mv_machine.specs.Config.{setup_of}
 use Rattle.mv_machine.specs.Setup.{Setup}
 use Rattle.mv_machine.specs.declared.entry.Entry.{Entry}
+use Rattle.mv_line.specs.declared.fault.LineRefusal.{LineRefusal}
+use Rattle.mv_line.specs.declared.fault.LineRefusal.TheVariants.{Has, NoMemory}
 use Rattle.mv_line.specs.Part.{parts_at}
 use Rattle.mv_entrytext.specs.declared.fault.Kind.{Kind}
 use Rattle.mv_entrytext.specs.declared.fault.Kind.TheVariants.{NoForm, BadNumber, BadConfig, Cut}
-use Rattle.mv_entrytext.specs.declared.fault.LineRefusal.{LineRefusal}
-use Rattle.mv_entrytext.specs.declared.fault.LineRefusal.TheVariants.{Has, NoMemory}
-use Rattle.mv_entrytext.specs.declared.fault.TextRefusal.{TextRefusal}
-use Rattle.mv_entrytext.specs.declared.fault.TextRefusal.TheVariants.{Fault}
-use Rattle.mv_entrytext.specs.declared.fault.TextRefusal.TheVariants as refusal
 use Rattle.mv_entrytext.specs.declared.head.HeadDraft.{HeadDraft}
 use Rattle.mv_entrytext.specs.declared.version.Version.{Version}
 use Rattle.mv_entrytext.specs.Lines.{Stage, AtVersion, AtCallers, AtElements, AtVolumes, AtLatches, AtQuota, AtBudgets, AtOwners}
 use Rattle.mv_entrytext.specs.Lines.{AtExits, AtEntries, AtEnd, Draft, line_read}
-use Rattle.mv_entrytext.specs.Fault.{fault_at, first_fault, text_fault, draft_of, journal_of}
+use Rattle.mv_entrytext.specs.Fault.{first_fault, text_fault, draft_of, journal_of}
 use Rattle.mv_entrytext.specs.Said.{stage_of}
 
 -- the kind that is told is the first
-abbrev pub Tells : LineRefusal → Option Kind → Type 0
+abbrev pub Tells : LineRefusal Kind → Option Kind → Type 0
 Tells (Has k) kind = kind ≡ Some k
 Tells NoMemory kind = Unit {0}
-
--- the refusal of a text whose line of this number was not taken
-abbrev pub refusal_at : ℕ → LineRefusal → TextRefusal
-refusal_at line (Has k) = Fault (fault_at line k)
-refusal_at line NoMemory = refusal.NoMemory
 
 -- the kind of a line by its form and its numbers alone
 abbrev pub kind_of_form : Stage → List ℕ → Option Kind

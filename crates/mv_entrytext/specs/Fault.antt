@@ -4,12 +4,12 @@ use Rattle.std.specs.Prelude.{None, is_some, if◌then◌else◌}
 use Rattle.mv_machine.specs.declared.entry.Entry.{Entry}
 use Rattle.mv_machine.specs.Check.{IsValid, refusal_of}
 use Rattle.mv_machine.specs.Setup.{Setup}
+use Rattle.mv_line.specs.declared.fault.TextFault.{TextFault}
+use Rattle.mv_line.specs.Fault as lines
+pub use Rattle.mv_line.specs.Fault.{TellsFirst}
 use Rattle.mv_line.specs.Part.{parts_at}
 use Rattle.mv_entrytext.specs.declared.fault.Kind.{Kind}
 use Rattle.mv_entrytext.specs.declared.fault.Kind.TheVariants.{NoForm, BadNumber, BadConfig, WrongCount, Cut}
-use Rattle.mv_entrytext.specs.declared.fault.TextFault.{TextFault}
-use Rattle.mv_entrytext.specs.declared.fault.TextRefusal.{TextRefusal}
-use Rattle.mv_entrytext.specs.declared.fault.TextRefusal.TheVariants.{Fault, NoMemory}
 use Rattle.mv_entrytext.specs.declared.version.Version.{Version}
 use Rattle.mv_entrytext.specs.declared.version.Version.TheVariants.{One, Two}
 use Rattle.mv_entrytext.specs.Ranges.{highest_u32}
@@ -75,7 +75,7 @@ is_cut d line = not (is_ended d.stage && length line == 0)
 
 -- a fault of this line, of this kind
 abbrev pub fault_at : ℕ → Kind → TextFault
-fault_at line kind = record { line = line; kind = kind_number kind }
+fault_at line kind = lines.fault_at line (kind_number kind)
 
 -- what the lines have said with this one
 abbrev pub draft_after : Draft → Option Line → Draft
@@ -97,11 +97,6 @@ first_fault number d (line ∷ more ∷ lines) =
 -- the first fault of a text, if it has one
 abbrev pub text_fault : List ℕ → Option TextFault
 text_fault bytes = first_fault 1 blank (parts_at 10 bytes)
-
--- a fault is told only where it is the first
-abbrev pub TellsFirst : TextRefusal → Option TextFault → Type 0
-TellsFirst (Fault f) first = first ≡ Some f
-TellsFirst NoMemory first = Unit {0}
 
 -- ---- what a text says
 

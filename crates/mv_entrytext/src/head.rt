@@ -9,11 +9,11 @@ ghost use Rattle.mv_entrytext.specs.Fault.{TellsFirst, text_fault};
 ghost use Rattle.mv_entrytext.specs.Said.{said, stage_of};
 ghost use Rattle.mv_entrytext.specs.Draft.{Tells, kind_of_form, kind_of_config, draft_at, head_seen, IsAt};
 
-use crate::fault::{Kind, LineRefusal, TextRefusal};
+use crate::fault::Kind;
 use crate::line::{Line, Stage, read_line};
 use crate::version::Version;
 use mv_io::NoMemory;
-use mv_line::split_part;
+use mv_line::{FaultKind, LineRefusal, TextRefusal, split_part};
 use mv_machine::{CheckRefusal, Config, ValidConfig};
 use std::alloc::Global;
 
@@ -96,7 +96,7 @@ impl HeadDraft {
 }
 
 // Reads a line as one that may come next, or says whether its form or a number in it is at fault.
-fn line_or_kind(alloc: Global, stage: Stage, text: &[u8]) -> Result<Line, LineRefusal>
+fn line_or_kind(alloc: Global, stage: Stage, text: &[u8]) -> Result<Line, LineRefusal<Kind>>
     ensures { MatchResult result
         (λ l. line_read true (stage_of stage) text.now ≡ Some (said l))
         (λ e. Tells e (kind_of_form (stage_of stage) text.now)) }
@@ -115,7 +115,7 @@ fn line_or_kind(alloc: Global, stage: Stage, text: &[u8]) -> Result<Line, LineRe
 }
 
 // The configuration of a head that has ended.
-fn checked(alloc: Global, config: Config) -> Result<ValidConfig, LineRefusal>
+fn checked(alloc: Global, config: Config) -> Result<ValidConfig, LineRefusal<Kind>>
     ensures { MatchResult result
         (λ v. (v ≡ setup_of config) × IsValid (setup_of config))
         (λ e. Tells e (kind_of_config (setup_of config))) }
@@ -149,7 +149,7 @@ pub(crate) fn read_head(alloc: Global, bytes: &[u8]) -> Result<Head<'_>, TextRef
     'lines: loop {
         let (text, behind) = split_part(rest, b'\n');
         let Some(behind) = behind else {
-            return Err(LineRefusal::Has(Kind::Cut).at(number));
+            return Err(TextRefusal::Fault(Kind::Cut.at(number)));
         };
         let line = match line_or_kind(alloc, draft.stage, text) {
             Ok(line) => line,

@@ -18,8 +18,9 @@ mod version;
 mod volume;
 mod writing;
 
-pub use fault::{TextFault, TextRefusal};
+pub use fault::Kind;
 pub use laws::{legal_lists_have_texts, text_determines_journal, texts_without_fault_are_journals};
+pub use mv_line::{TextFault, TextRefusal};
 pub use reader::{EntryReader, OpenJournal, open_journal};
 pub use reading::{Journal, read_journal};
 pub use version::Version;

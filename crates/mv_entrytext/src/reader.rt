@@ -15,11 +15,11 @@ ghost use Rattle.mv_entrytext.specs.Draft.{kind_of_form, kind_at_end};
 ghost use Rattle.mv_entrytext.specs.Reader.{left_in, IsReadTo, IsNextOf};
 
 use crate::entry::read_entry;
-use crate::fault::{Kind, TextFault, TextRefusal};
+use crate::fault::Kind;
 use crate::head::read_head;
 use crate::line::{EntryLine, read_entry_line};
 use crate::version::Version;
-use mv_line::split_part;
+use mv_line::{FaultKind, TextFault, TextRefusal, split_part};
 use mv_machine::{Entry, ValidConfig};
 use std::alloc::Global;
 

@@ -5,9 +5,9 @@ ghost use Rattle.mv_entrytext.specs.Lines.{with_call};
 ghost use Rattle.mv_entrytext.specs.Fault.{HasJournal, IsTextIn, TellsFirst, text_fault};
 ghost use Rattle.mv_entrytext.specs.Journal.{first_line};
 
-use crate::fault::TextRefusal;
 use crate::reader::{OpenJournal, open_journal};
 use mv_io::NoMemory;
+use mv_line::TextRefusal;
 use mv_machine::{Entry, ValidConfig};
 use std::alloc::Global;
 

@@ -1,7 +1,7 @@
 -- Where the reader stands decides: what the next line says, or that it is cut off, or what stands behind END.
 use Rattle.std.proofs.Common.{◌≡◌, ◌∷◌, [], Some, subst, refl, sym, ◌∙◌, arith}
 use Rattle.std.proofs.lemmas.List.{length-append}
-use Rattle.mv_entrytext.specs.declared.fault.LineRefusal.TheVariants.{Has}
+use Rattle.mv_line.specs.declared.fault.LineRefusal.TheVariants.{Has}
 use Rattle.mv_entrytext.specs.declared.version.Version.{Version}
 use Rattle.mv_entrytext.specs.Draft.{kind_of_form}
 use Rattle.mv_entrytext.specs.Journal.{EntryOf}
