@@ -3,9 +3,9 @@
 ghost use Rattle.std.specs.Prelude.{◌≡◌, IfOk};
 ghost use Rattle.mv_report.specs.Outcome.{print_line, scan_line};
 
-use itoa::Buffer;
 use mv_deck::Text;
 use mv_io::NoMemory;
+use mv_line::push_number;
 use std::alloc::Global;
 use std::marker::Model;
 
@@ -45,8 +45,8 @@ pub fn print_line(alloc: Global, text: &Text) -> Result<Text, NoMemory>
 pub fn scan_line(alloc: Global, volume: u32, steady: bool) -> Result<Text, NoMemory>
     ensures line { IfOk result (λ line. line ≡ scan_line volume steady) }
 {
-    let mut bytes = Vec::from_slice(alloc, b"| SCAN ")?;
-    bytes.extend_from_slice(Buffer::new().format(volume).as_bytes())?;
+    let mut bytes = Vec::new(alloc);
+    push_number(&mut bytes, b"| SCAN ", u64::from(volume))?;
     if steady {
         bytes.extend_from_slice(b" STEADY")?;
     } else {

@@ -1,6 +1,6 @@
 //! The report, written from its first line to its last. `specs/Report.antt` says which bytes that is.
 
-ghost use Rattle.std.specs.Prelude.{◌≡◌, ◌<◌, ◌≤◌, ◌++◌, length, All, count_by, decimal, OnOk, IfOk, vec_len};
+ghost use Rattle.std.specs.Prelude.{◌≡◌, ◌<◌, ◌≤◌, ◌++◌, length, All, count_by, OnOk, IfOk, vec_len};
 ghost use Rattle.mv_deck.specs.Deck.{deck_data};
 ghost use Rattle.mv_deck.specs.EndCode.{lowest_abend, not_run};
 ghost use Rattle.mv_deck.specs.Operand.{volume_count};
@@ -10,9 +10,9 @@ ghost use Rattle.mv_report.specs.Report.{volumes_text, closing_text, report_text
 
 use crate::end_code::{is_abended, is_ended, is_not_run};
 use crate::lines::Lines;
-use itoa::Buffer;
 use mv_deck::{Deck, HIGHEST_CODE, LOWEST_ABEND, NOT_RUN, Name, USER_CODES};
 use mv_io::NoMemory;
+use mv_line::push_number;
 use std::alloc::Global;
 
 const DIGITS: &[u8; 16] = b"0123456789ABCDEF";
@@ -22,15 +22,6 @@ fn digit(value: u32) -> u8
     ensures { result ≡ digit value }
 {
     DIGITS[value as usize]
-}
-
-/// Appends a label and a number.
-pub(crate) fn push_number(out: &mut Vec<u8>, label: &[u8], number: usize) -> Result<(), NoMemory>
-    ensures { OnOk result (out.new.items ≡ out.old.items ++ (label.now ++ decimal number)) }
-{
-    out.extend_from_slice(label)?;
-    out.extend_from_slice(Buffer::new().format(number).as_bytes())?;
-    Ok(())
 }
 
 fn push_abend(out: &mut Vec<u8>, end: u32) -> Result<(), NoMemory>
@@ -66,7 +57,7 @@ fn push_outcome(out: &mut Vec<u8>, end: u32) -> Result<(), NoMemory>
 {
     match end {
         0 => out.extend_from_slice(b"ENDED")?,
-        1..=HIGHEST_CODE => push_number(out, b"ENDED RC ", end as usize)?,
+        1..=HIGHEST_CODE => push_number(out, b"ENDED RC ", u64::from(end))?,
         NOT_RUN => out.extend_from_slice(b"NOT RUN")?,
         _ => {
             out.extend_from_slice(b"ABENDED ")?;
@@ -122,10 +113,10 @@ fn count_not_run(ends: &[u32]) -> usize
 fn push_counts(out: &mut Vec<u8>, jobs: usize, ends: &[u32]) -> Result<(), NoMemory>
     ensures { OnOk result (out.new.items ≡ out.old.items ++ counts_text jobs ends.now) }
 {
-    push_number(out, b"JOBS ", jobs)?;
-    push_number(out, b" ENDED ", count_ended(ends))?;
-    push_number(out, b" ABENDED ", count_abended(ends))?;
-    push_number(out, b" NOT RUN ", count_not_run(ends))?;
+    push_number(out, b"JOBS ", jobs as u64)?;
+    push_number(out, b" ENDED ", count_ended(ends) as u64)?;
+    push_number(out, b" ABENDED ", count_abended(ends) as u64)?;
+    push_number(out, b" NOT RUN ", count_not_run(ends) as u64)?;
     out.push(b'\n')?;
     Ok(())
 }
@@ -135,7 +126,7 @@ fn push_volumes(out: &mut Vec<u8>, volumes: &[u32]) -> Result<(), NoMemory>
 {
     out.extend_from_slice(b"VOLUMES")?;
     for volume in volumes {
-        push_number(out, b" ", *volume as usize)?;
+        push_number(out, b" ", u64::from(*volume))?;
     }
     out.push(b'\n')?;
     Ok(())

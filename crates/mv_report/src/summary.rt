@@ -5,8 +5,9 @@ ghost use Rattle.mv_deck.specs.Operand.{volume_count};
 ghost use Rattle.mv_report.specs.EndCode.{IsEndCode};
 ghost use Rattle.mv_report.specs.Summary.{summary_text};
 
-use crate::report::{push_closing, push_number};
+use crate::report::push_closing;
 use mv_io::NoMemory;
+use mv_line::push_number;
 use std::alloc::Global;
 
 /// The summary of a load whose jobs came to these ends on so many initiators, and which left this in the eight volumes.
@@ -29,8 +30,8 @@ pub fn write_summary(
     ensures text { IfOk result (λ text. text.items ≡ summary_text jobs initiators ends.now volumes.now) }
 {
     let mut out = Vec::new(alloc);
-    push_number(&mut out, b"LOAD ", jobs as usize)?;
-    push_number(&mut out, b" ", initiators as usize)?;
+    push_number(&mut out, b"LOAD ", u64::from(jobs))?;
+    push_number(&mut out, b" ", u64::from(initiators))?;
     out.push(b'\n')?;
     push_closing(&mut out, jobs as usize, ends, volumes)?;
     Ok(out)
