@@ -7,9 +7,9 @@ ghost use Rattle.mv_script.specs.AnswerText.{task_lines, answers_text};
 ghost use Rattle.mv_script.specs.AnswerText.{IsNumber, IsSlotInRange, IsTokenInRange, IsInRange, AreInRange};
 
 use crate::run::ScriptRun;
-use itoa::Buffer;
 use mv_element::{ElementState, Phase, Token};
 use mv_io::NoMemory;
+use mv_line::push_number;
 use mv_script::{Answer, AnswerList};
 use mv_wait::WaitSlot;
 use std::alloc::Global;
@@ -19,15 +19,6 @@ fn push_word(out: &mut Vec<u8>, word: &[u8]) -> Result<(), NoMemory>
     ensures { OnOk result (out.new.items ≡ out.old.items ++ word.now) }
 {
     out.extend_from_slice(word)?;
-    Ok(())
-}
-
-// Appends words and a number.
-fn push_number(out: &mut Vec<u8>, words: &[u8], number: u64) -> Result<(), NoMemory>
-    ensures { OnOk result (out.new.items ≡ out.old.items ++ (words.now ++ decimal number)) }
-{
-    out.extend_from_slice(words)?;
-    out.extend_from_slice(Buffer::new().format(number).as_bytes())?;
     Ok(())
 }
 
