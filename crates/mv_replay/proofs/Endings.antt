@@ -2,7 +2,7 @@
 use Rattle.std.proofs.Common.{◌≡◌, ℕ, ◌+◌, List, length, Option, Some, None, refl, sym, ap, ◌∙◌, arith, inl, inr}
 use Rattle.mv_machine.specs.declared.entry.Entry.{Entry}
 use Rattle.mv_machine.specs.Setup.{Setup}
-use Rattle.mv_entrytext.specs.declared.fault.TextFault.{TextFault}
+use Rattle.mv_line.specs.declared.fault.TextFault.{TextFault}
 use Rattle.mv_entrytext.specs.Fault.{text_fault}
 use Rattle.mv_entrytext.proofs.LinesAgain.{no_fault, one_journal}
 use Rattle.mv_replay.specs.declared.status.ReplayStatus.{ReplayStatus}
