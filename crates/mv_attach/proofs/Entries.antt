@@ -1,8 +1,15 @@
--- Of a legal history: what each caller's part keeps to all entries do, and what a pause was given was released, entry by entry.
-use Rattle.std.proofs.Common.{◌≡◌, ℕ, ◌+◌, ◌<◌, ◌==◌, List, [], ◌∷◌, ◌++◌, ◌⊎◌, inl, inr, Some, refl, sym, ap, ◌∙◌, subst, append_assoc}
+-- Of a legal history, entry by entry: what each caller's part keeps to all entries do, what a block was found complete with was posted,
+-- and what a pause was given was released.
+use Rattle.std.proofs.Common.{◌≡◌, ℕ, ◌+◌, ◌<◌, ◌==◌, List, [], ◌∷◌, ◌++◌, ◌⊎◌, inl, inr, Some, refl, sym, ap, ◌∙◌, subst, arith, append_assoc}
 use Rattle.std.proofs.lemmas.Bool.{cases_eq, eq-eqb, ne_eqb, false≢true}
 use Rattle.std.proofs.lemmas.List.Elements.{filter_map-append}
 use Rattle.std.specs.List.{AllByRecursion, Contains}
+use Rattle.mv_ecb.specs.declared.operation.EcbOp.{EcbOp}
+use Rattle.mv_ecb.specs.declared.operation.EcbOp.TheVariants.{Arm, Extend, Settle, Post, Test}
+use Rattle.mv_ecb.specs.declared.operation.EcbReply.{EcbReply}
+use Rattle.mv_ecb.specs.declared.operation.EcbReply.TheVariants as ecb_reply
+use Rattle.mv_ecb.specs.Table.{ecb_step}
+use Rattle.mv_ecb.specs.Word.{EcbState, Zero, Waiting, Extended, Complete}
 use Rattle.mv_element.specs.declared.operation.ElementOp.{ElementOp}
 use Rattle.mv_element.specs.declared.operation.ElementOp.TheVariants.{Release}
 use Rattle.mv_element.specs.declared.operation.ElementReply.{ElementReply}
@@ -10,7 +17,7 @@ use Rattle.mv_element.specs.declared.operation.ElementReply.TheVariants.{Given, 
 use Rattle.mv_latch.proofs.Members.{first_is_in, rest_is_in}
 use Rattle.mv_machine.specs.declared.entry.Entry.{Entry}
 use Rattle.mv_machine.specs.declared.entry.Object.{Object}
-use Rattle.mv_machine.specs.declared.entry.Object.TheVariants.{Element}
+use Rattle.mv_machine.specs.declared.entry.Object.TheVariants.{Ecb, Element, Volume, Latches}
 use Rattle.mv_machine.specs.declared.entry.Op.{Op}
 use Rattle.mv_machine.specs.declared.entry.Op.TheVariants as op_on
 use Rattle.mv_machine.specs.declared.entry.Reply.{Reply}
@@ -50,6 +57,95 @@ own_entry k es e member = all_at (λ x. Contains es x) (of k es) e
       each : (xs : List Entry) → ((x : Entry) → Contains xs x → Contains es x) → AllByRecursion (λ x. Contains es x) xs
       each [] within = tt
       each (x ∷ xs) within = (within x (first_is_in x xs x refl), each xs (λ y i. within y (rest_is_in x xs y i)))
+
+-- ---- what a block was found complete with
+
+-- a post that was told so completed its block
+abbrev pub IsAccepted : EcbReply → Type 0
+IsAccepted ecb_reply.Posted = Unit {0}
+IsAccepted (ecb_reply.Woke exit) = Unit {0}
+IsAccepted reply = ⊥
+
+-- one of these entries is a post that completed a block with this code
+pub record IsPosted (es : List Entry) (block code : ℕ) : Type 0 where
+  pub entry : Entry
+  pub member : Contains es entry
+  pub object : entry.object ≡ Ecb block
+  pub post : entry.op ≡ op_on.Ecb (Post code)
+  pub told : EcbReply
+  pub reply : entry.reply ≡ reply_of.Ecb told
+  pub accepted : IsAccepted told
+
+-- a block that is complete was so before, or is now posted
+complete_by : (op : EcbOp) (x : EcbState) (code : ℕ) → (ecb_step op x).0 ≡ Complete code
+    → (x ≡ Complete code) ⊎ ((op ≡ Post code) × IsAccepted (ecb_step op x).1)
+complete_by Arm (Complete d) code is = inl is
+complete_by (Extend y) (Complete d) code is = inl is
+complete_by Settle (Complete d) code is = inl is
+complete_by (Post d) Zero code is = inr (ap Post (cc is), tt)
+complete_by (Post d) Waiting code is = inr (ap Post (cc is), tt)
+complete_by (Post d) (Extended y) code is = inr (ap Post (cc is), tt)
+complete_by (Post d) (Complete e) code is = inl is
+complete_by Test x code is = inl is
+complete_by op x code is = absurd (cc is)
+
+-- who is told that it is complete is told its code
+told_by : (op : EcbOp) (x : EcbState) (code : ℕ) → (ecb_step op x).1 ≡ ecb_reply.Complete code → x ≡ Complete code
+told_by op x code is = grind arith
+
+module _ (journal : List Entry) where
+  -- each block that is complete was posted with its code
+  abbrev ArePosted : System → Type 0
+  ArePosted s = (n code : ℕ) → (s.ecb n).state ≡ Complete code → IsPosted journal n code
+
+  abbrev IsTrueFind : Entry → Type 0
+  IsTrueFind e = (n code : ℕ) → e.object ≡ Ecb n → e.reply ≡ reply_of.Ecb (ecb_reply.Complete code) → IsPosted journal n code
+
+  posted_next : (c : Setup) (s : System) (k : ℕ) (o : Object) (p : ℕ) (op : Op) (r : Reply) → IsNext c s (entry_of k o p op r)
+      → Contains journal (entry_of k o p op r) → ArePosted s
+      → ArePosted (next s (entry_of k o p op r)) × IsTrueFind (entry_of k o p op r)
+  posted_next c s k (Ecb m) p (op_on.Ecb op) r h member all = (λ n code is. then_at n code (cases_eq n m) is, found) where
+    reply_is : r ≡ reply_of.Ecb (ecb_step op (s.ecb m).state).1
+    reply_is = cc h.reply
+
+    then_at : (n code : ℕ) → (n ≡ m) ⊎ (n ≡ m → ⊥) → ((next s (entry_of k (Ecb m) p (op_on.Ecb op) r)).ecb n).state ≡ Complete code
+        → IsPosted journal n code
+    then_at n code (inl same) is = elim (complete_by op (s.ecb m).state code (rw (eq-eqb n m same) at is)) [
+      | inl was ↦ all n code (ap (λ j. (s.ecb j).state) same ∙ was)
+      | inr post ↦ record {
+        entry = entry_of k (Ecb m) p (op_on.Ecb op) r;
+        member = member;
+        object = ap Ecb (sym same);
+        post = ap op_on.Ecb post.0;
+        told = (ecb_step op (s.ecb m).state).1;
+        reply = reply_is;
+        accepted = post.1;
+      }
+    ]
+    then_at n code (inr other) is = all n code (rw (ne_eqb n m other) at is)
+
+    found : IsTrueFind (entry_of k (Ecb m) p (op_on.Ecb op) r)
+    found n code at is =
+        let same : m ≡ n = cc at in
+        let told : (ecb_step op (s.ecb m).state).1 ≡ ecb_reply.Complete code = cc (sym reply_is ∙ is) in
+        all n code (ap (λ j. (s.ecb j).state) (sym same) ∙ told_by op (s.ecb m).state code told)
+  posted_next c s k (Element m) p (op_on.Element op) r h member all = (all, λ n code at is. absurd (cc at))
+  posted_next c s k (Volume m) p (op_on.Volume op) r h member all = (all, λ n code at is. absurd (cc at))
+  posted_next c s k Latches p (op_on.Latch op) r h member all = (all, λ n code at is. absurd (cc at))
+  posted_next c s k o p op r h member all = absurd (false≢true h.admits)
+
+  all_posted : (c : Setup) (s : System) (es : List Entry) → LegalFrom c s es → ((e : Entry) → Contains es e → Contains journal e)
+      → ArePosted s → AllByRecursion IsTrueFind es
+  all_posted c s [] legal within all = tt
+  all_posted c s (e ∷ es) legal within all =
+      let one = posted_next c s e.caller e.object e.place e.op e.reply legal.0 (within e (first_is_in e es e refl)) all in
+      (one.1, all_posted c (next s e) es legal.1 (λ f i. within f (rest_is_in e es f i)) one.0)
+
+-- what an entry found a block complete with was posted, by an entry of the same history
+pub found_was_posted : (c : Setup) (es : List Entry) (e : Entry) (n code : ℕ) → Legal c es → Contains es e → e.object ≡ Ecb n
+    → e.reply ≡ reply_of.Ecb (ecb_reply.Complete code) → IsPosted es n code
+found_was_posted c es e n code legal member object reply =
+    all_at (IsTrueFind es) es e (all_posted es c (opening c) es legal (λ f i. i) (λ m d is. absurd (cc is))) member n code object reply
 
 -- ---- what a pause was given
 

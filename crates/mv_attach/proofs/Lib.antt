@@ -7,5 +7,5 @@ pub mod Says
 mod Seats
 -- a task's log in the history of a closed station
 pub mod Back
--- what holds of the entries of all callers, and what a pause was given
+-- what holds of the entries of all callers, what a block was found complete with, and what a pause was given
 pub mod Entries
