@@ -11,6 +11,7 @@ use Rattle.mv_machine.specs.declared.entry.Op.{Op}
 use Rattle.mv_machine.specs.declared.entry.Reply.{Reply}
 use Rattle.mv_machine.specs.declared.entry.Reply.TheVariants as reply_of
 use Rattle.mv_machine.specs.declared.entry.VolumeReply.{VolumeReply}
+use Rattle.mv_machine.proofs.Lists.{all_append}
 use Rattle.mv_board.specs.Faces.{CallerFace}
 use Rattle.mv_calls.specs.Keeping.{kept_of}
 use Rattle.mv_calls.specs.Program.{Program, Do, Done, Early, Wrong, Call, Heard, Says, entries, on_ecb, on_element, on_latch, on_volume}
@@ -49,6 +50,14 @@ served_grown P most call Is t u s a = record {
   logged = s.made.longer.logged;
   each = always_says P (call (kept_of t.number t.log)) s.made.events a s.made.done.says;
 }
+
+-- so what held of each entry of the log holds of each behind the call
+pub served_keeps : {A : Type 0} (P : Object → Op → Type 0) (most : ℕ) (call : Call A) (Is : A → Type 0) (t u : CallerFace)
+    → AllByRecursion (λ e. P e.object e.op) t.log → IsServed most call Is t u → Always P (call (kept_of t.number t.log))
+    → AllByRecursion (λ e. P e.object e.op) u.log
+served_keeps P most call Is t u held s a =
+    let grown = served_grown P most call Is t u s a in
+    subst (AllByRecursion (λ e. P e.object e.op)) (sym grown.logged) (all_append (λ e. P e.object e.op) t.log grown.more held grown.each)
 
 -- ---- programs by their parts
 

@@ -1,5 +1,5 @@
 -- The tasks that came back: each one's log is its part of the history of a station that was closed.
-use Rattle.std.proofs.Common.{◌≡◌, ℕ, zero, suc, ◌+◌, ◌<◌, List, [], ◌∷◌, ◌++◌, length, get_or, sym, ap, ◌∙◌, arith, length-append}
+use Rattle.std.proofs.Common.{◌≡◌, ℕ, zero, suc, ◌+◌, ◌<◌, List, [], ◌∷◌, ◌++◌, length, get_or, sym, ap, ◌∙◌, subst, arith, length-append}
 use Rattle.std.proofs.Math.Seq.{get_or-append_seam}
 use Rattle.std.specs.List.{AllByRecursion}
 use Rattle.mv_machine.specs.declared.entry.Entry.{Entry}
@@ -36,6 +36,15 @@ no_task b = record {
   returned = [];
   ready = [];
 }
+
+-- what each of n tasks has done by its log, and its room with it, it has done by its part of the history
+pub done_in : {S : Type 0} (P : ℕ → List Entry → S → Type 0) (b : BoardFace) (es : List Entry) (tasks : List CallerFace) (rooms : List S)
+    (n : ℕ) → AreInOrder b 0 tasks → length tasks ≡ b.config.callers → AllByRecursion (IsIn b.config es) tasks → n ≡ b.config.callers
+    → ((k : ℕ) (s : S) (t : CallerFace) → k < n → P k (get_or tasks k t).log (get_or rooms k s))
+    → (k : ℕ) (s : S) → k < b.config.callers → P k (of k es) (get_or rooms k s)
+done_in P b es tasks rooms n order all within each done k s lt =
+    subst (λ log. P k log (get_or rooms k s)) (sym (log_in b b.config es k tasks (no_task b) order within (omega arith)))
+    (done k s (no_task b) (omega arith))
 
 -- the room of the last task, which is taken from the list of all
 pub last_room : {S : Type 0} (rooms rest : List S) (room : S) (n : ℕ) → rooms ≡ rest ++ room ∷ [] → length rooms ≡ n + 1

@@ -1,0 +1,2 @@
+-- work, and complete
+mod Told

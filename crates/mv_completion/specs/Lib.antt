@@ -1,0 +1,2 @@
+-- the configuration, and what each task has done
+pub mod Told

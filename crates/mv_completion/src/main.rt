@@ -1,0 +1,16 @@
+//! A completion: one task waits for an event, another completes it with a code, and the first is told that code.
+#![tactic(auto)]
+
+mod completion;
+
+pub use completion::{Completed, complete};
+use std::io::{self, ErrorKind};
+
+fn main(rt: HostRuntime) -> io::Result<()> {
+    // Nothing but memory can be wanting.
+    let Ok(completed) = complete(&rt, rt.alloc(), 12) else {
+        return Err(io::Error::from(ErrorKind::OutOfMemory));
+    };
+    println!(rt; "{:?}", completed.found)?;
+    Ok(())
+}
