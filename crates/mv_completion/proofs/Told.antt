@@ -13,7 +13,8 @@ use Rattle.mv_attach.proofs.Entries.{all_entries, own_entry, found_was_posted}
 use Rattle.mv_completion.specs.Told.{IsTold, PostsIt, HasDone}
 
 -- the last entry of a new task's wait found the block complete
-pub told_by : (code : ℕ) (slot : WaitSlot) (t u : CallerFace) → t.log ≡ [] → slot ≡ Complete code → Waited 0 code t u → IsTold code slot u.log
+pub told_by : (code : ℕ) (slot : WaitSlot) (t u : CallerFace) → t.log ≡ [] → slot ≡ Complete code → Waited 0 code t u
+    → IsTold code slot u.log
 told_by code slot t u new is w = record {
   is = is;
   entry = w.second;
