@@ -3,11 +3,10 @@
 use Rattle.std.proofs.Common.{◌≡◌, ℕ, ◌+◌, ◌<◌, ◌==◌, List, [], ◌∷◌, ◌++◌, ◌⊎◌, inl, inr, Some, refl, sym, ap, ◌∙◌, subst, arith}
 use Rattle.std.proofs.Common.{append_assoc}
 use Rattle.std.proofs.lemmas.Bool.{cases_eq, eq-eqb, ne_eqb, false≢true}
-use Rattle.std.proofs.lemmas.List.Elements.{filter_map-append}
+use Rattle.std.proofs.lemmas.List.Elements.{Contains-append_right, filter_map-append}
 use Rattle.std.specs.List.{AllByRecursion, Contains}
 use Rattle.mv_ecb.specs.declared.operation.EcbOp.{EcbOp}
 use Rattle.mv_ecb.specs.declared.operation.EcbOp.TheVariants.{Arm, Extend, Settle, Post, Test}
-use Rattle.mv_ecb.specs.declared.operation.EcbReply.{EcbReply}
 use Rattle.mv_ecb.specs.declared.operation.EcbReply.TheVariants as ecb_reply
 use Rattle.mv_ecb.specs.Table.{ecb_step}
 use Rattle.mv_ecb.specs.Word.{EcbState, Zero, Waiting, Extended, Complete}
@@ -31,8 +30,11 @@ use Rattle.mv_machine.specs.System.{System, opening}
 use Rattle.mv_machine.proofs.EntryRuns.{entry_of}
 use Rattle.mv_machine.proofs.Lists.{all_at, all_filter, all_front}
 use Rattle.mv_machine.proofs.Orderly.{history_is_orderly}
+use Rattle.mv_board.specs.Faces.{CallerFace}
 use Rattle.mv_calls.proofs.Hearing.{of_own, of_other}
 use Rattle.mv_calls.proofs.Interleaved.{callers_exist}
+use Rattle.mv_wait.proofs.OneBlock.{Waited}
+use Rattle.mv_attach.specs.Entries.{Finds, IsAccepted, IsPosted}
 
 -- ---- what each caller's part keeps to
 
@@ -60,22 +62,6 @@ own_entry k es e member = all_at (λ x. Contains es x) (of k es) e
       each (x ∷ xs) within = (within x (first_is_in x xs x refl), each xs (λ y i. within y (rest_is_in x xs y i)))
 
 -- ---- what a block was found complete with
-
--- a post that was told so completed its block
-abbrev pub IsAccepted : EcbReply → Type 0
-IsAccepted ecb_reply.Posted = Unit {0}
-IsAccepted (ecb_reply.Woke exit) = Unit {0}
-IsAccepted reply = ⊥
-
--- one of these entries is a post that completed a block with this code
-pub record IsPosted (es : List Entry) (block code : ℕ) : Type 0 where
-  pub entry : Entry
-  pub member : Contains es entry
-  pub object : entry.object ≡ Ecb block
-  pub post : entry.op ≡ op_on.Ecb (Post code)
-  pub told : EcbReply
-  pub reply : entry.reply ≡ reply_of.Ecb told
-  pub accepted : IsAccepted told
 
 -- a block that is complete was so before, or is now posted
 complete_by : (op : EcbOp) (x : EcbState) (code : ℕ) → (ecb_step op x).0 ≡ Complete code
@@ -142,11 +128,22 @@ module _ (journal : List Entry) where
       let one = posted_next c s e.caller e.object e.place e.op e.reply legal.0 (within e (first_is_in e es e refl)) all in
       (one.1, all_posted c (next s e) es legal.1 (λ f i. within f (rest_is_in e es f i)) one.0)
 
--- what an entry found a block complete with was posted, by an entry of the same history
-pub found_was_posted : (c : Setup) (es : List Entry) (e : Entry) (n code : ℕ) → Legal c es → Contains es e → e.object ≡ Ecb n
-    → e.reply ≡ reply_of.Ecb (ecb_reply.Complete code) → IsPosted es n code
-found_was_posted c es e n code legal member object reply =
-    all_at (IsTrueFind es) es e (all_posted es c (opening c) es legal (λ f i. i) (λ m d is. absurd (cc is))) member n code object reply
+-- what an entry of one caller's part found a block complete with was posted, by an entry of the same history
+pub found_was_posted : (c : Setup) (es : List Entry) (k n code : ℕ) → Legal c es → Finds (of k es) n code → IsPosted es n code
+found_was_posted c es k n code legal f =
+    all_at (IsTrueFind es) es f.entry (all_posted es c (opening c) es legal (λ e i. i) (λ m d is. absurd (cc is)))
+    (own_entry k es f.entry f.member) n code f.object f.found
+
+-- a wait for one block found it so
+pub waited_finds : (ecb code : ℕ) (t u : CallerFace) → Waited ecb code t u → Finds u.log ecb code
+waited_finds ecb code t u w = record {
+  entry = w.second;
+  member = subst (λ es. Contains es w.second) (sym w.logged)
+      (Contains-append_right t.log (w.first ∷ w.second ∷ []) w.second
+      (rest_is_in w.first (w.second ∷ []) w.second (first_is_in w.second [] w.second refl)));
+  object = w.settle.0;
+  found = w.found;
+}
 
 -- ---- what a pause was given
 

@@ -1,0 +1,2 @@
+-- what a list of entries has of a block
+pub mod Entries

@@ -1,2 +1,2 @@
--- work, and complete
+-- complete
 mod Told

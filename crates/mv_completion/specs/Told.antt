@@ -1,15 +1,15 @@
 -- The configuration of a completion, and what each of its tasks has done.
 use Rattle.std.specs.Prelude.{◌≡◌, ℕ, List, [], ◌∷◌}
-use Rattle.std.specs.List.{AllByRecursion, Contains}
+use Rattle.std.specs.List.{AllByRecursion}
 use Rattle.mv_ecb.specs.declared.operation.EcbOp.TheVariants.{Post}
-use Rattle.mv_ecb.specs.declared.operation.EcbReply.TheVariants as ecb_reply
 use Rattle.mv_machine.specs.declared.entry.Entry.{Entry}
 use Rattle.mv_machine.specs.declared.entry.Object.{Object}
 use Rattle.mv_machine.specs.declared.entry.Object.TheVariants.{Ecb}
 use Rattle.mv_machine.specs.declared.entry.Op.{Op}
 use Rattle.mv_machine.specs.declared.entry.Op.TheVariants as op_on
-use Rattle.mv_machine.specs.declared.entry.Reply.TheVariants as reply_of
+use Rattle.mv_machine.specs.Legal.{of}
 use Rattle.mv_machine.specs.Setup.{Setup}
+use Rattle.mv_attach.specs.Entries.{Finds, IsPosted}
 use Rattle.mv_wait.specs.declared.waiting.WaitSlot.{WaitSlot}
 use Rattle.mv_wait.specs.declared.waiting.WaitSlot.TheVariants.{Complete}
 
@@ -27,13 +27,11 @@ completion_setup = record {
   exits = [];
 }
 
--- a slot has this code, and one of these entries found the block complete with it
+-- the slot has this code; caller 0's wait found the block complete with it, and a post completed the block with it
 pub record IsTold (code : ℕ) (slot : WaitSlot) (es : List Entry) : Type 0 where
   pub is : slot ≡ Complete code
-  pub entry : Entry
-  pub member : Contains es entry
-  pub object : entry.object ≡ Ecb 0
-  pub found : entry.reply ≡ reply_of.Ecb (ecb_reply.Complete code)
+  pub found : Finds (of 0 es) 0 code
+  pub posted : IsPosted es 0 code
 
 -- an operation posts no other code than this
 abbrev pub PostsIt : ℕ → Object → Op → Type 0
@@ -44,7 +42,7 @@ PostsIt code object op = Unit {0}
 abbrev pub PostIt : ℕ → List Entry → Type 0
 PostIt code es = AllByRecursion (λ e. PostsIt code e.object e.op) es
 
--- the task of number k is back: it posted no other code, and the waiter is told what its wait found
+-- the task of number k is back: it posted no other code, and the waiter's slot has what its wait found
 pub record HasDone (code k : ℕ) (log : List Entry) (slot : WaitSlot) : Type 0 where
   pub posts : PostIt code log
-  pub told : k ≡ 0 → (found : ℕ) × IsTold found slot log
+  pub told : k ≡ 0 → (found : ℕ) × (slot ≡ Complete found) × Finds log 0 found

@@ -2,7 +2,7 @@
 
 ghost use Rattle.std.specs.Prelude.{◌≡◌, ◌<◌, IfOk};
 ghost use Rattle.mv_ecb.specs.Table.{code_limit};
-ghost use Rattle.mv_machine.specs.Legal.{Legal, of};
+ghost use Rattle.mv_machine.specs.Legal.{Legal};
 ghost use Rattle.mv_completion.specs.Told.{completion_setup, IsTold, HasDone};
 
 use mv_attach::{Work, run_tasks};
@@ -88,8 +88,7 @@ pub fn complete<R: Threads + Wait + Sync>(
     code: u32,
 ) -> Result<Completed, NoMemory>
     requires code { code < code_limit }
-    // The waiter is told the code that was posted, which its wait found.
-    ensures told { IfOk result (λ completed. IsTold code completed.found (of 0 completed.history.coming)) }
+    ensures told { IfOk result (λ completed. IsTold code completed.found completed.history.coming) }
     ensures config { IfOk result (λ completed. completed.history.config ≡ completion_setup) }
     ensures legal { IfOk result (λ completed. Legal completed.history.config completed.history.coming) }
 {

@@ -1,5 +1,4 @@
 use Rattle.std.proofs.Common.{◌≡◌, length, sym, ap, ◌∙◌, subst, arith}
-use Rattle.mv_machine.specs.Legal.{of}
 use Rattle.mv_machine.specs.Setup.{Setup}
 use Rattle.mv_attach.proofs.Back.{done_in}
 use Rattle.mv_completion.specs.Told.{IsTold, HasDone}
@@ -17,5 +16,5 @@ returns-clause-told g c =
     let rooms = ap length c.in_ok-rooms.ensures.items in
     let two : b.config.callers ≡ 2 = ap (λ (s : Setup). s.callers) (c.in_ok-station.ensures.config ∙ c.in_ok-config.ensures) in
     let done = done_in (HasDone c.args.code) b es tasks slots _ back.order back.all closed.callers (omega arith) back.done in
-    subst (λ slot. IsTold c.args.code slot (of 0 es)) (sym c.index.ensures)
+    subst (λ slot. IsTold c.args.code slot es) (sym c.index.ensures)
     (told_code b.config es c.args.code slots c.index.result.now closed.legal (omega arith) (λ k lt. done k c.index.result.now lt))

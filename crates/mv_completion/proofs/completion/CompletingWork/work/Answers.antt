@@ -5,9 +5,9 @@ use Rattle.mv_wait.specs.declared.waiting.WaitSlot.{WaitSlot}
 use Rattle.mv_wait.specs.declared.waiting.WaitSlot.TheVariants.{Complete}
 use Rattle.mv_wait.proofs.OneBlock.{waited_made, slot_is}
 use Rattle.mv_attach.proofs.Always.{served_keeps}
+use Rattle.mv_attach.proofs.Entries.{waited_finds}
 use Rattle.mv_attach.proofs.Says.{always_wait, always_post}
 use Rattle.mv_completion.specs.Told.{PostsIt}
-use Rattle.mv_completion.proofs.Told.{told_by}
 use Rattle.mv_completion.proofs.completion.CompletingWork.work.Goals as goal
 
 pub returns-in-Ok-clause-done : goal.returns-in-Ok-clause-done
@@ -16,12 +16,12 @@ returns-in-Ok-clause-done g c =
     let P = PostsIt c.args.self.now.code in
     let t = c.args.task.now in
     let u = c.wait.new.task in
-    let new = c.requires.fresh.log in
     let served = c.in-Ok.ensures.served in
     let found = waited_made b.config 0 _ t u served c.in-Ok.ensures.causes in
     let slots = slot_is c.wait.new.out served.answer found.0 served.is found.1 in record {
-      posts = served_keeps P _ _ _ t u (rw new tt) served (always_wait P b.config 1 (0 ∷ []) (kept_of t.number t.log) (tt, tt) (tt, tt));
-      told = λ first. (found.0, told_by found.0 _ t u new (ap (λ (out : List WaitSlot). get_or out 0 (Complete 0)) slots) found.2);
+      posts = served_keeps P _ _ _ t u (rw c.requires.fresh.log tt) served
+          (always_wait P b.config 1 (0 ∷ []) (kept_of t.number t.log) (tt, tt) (tt, tt));
+      told = λ first. (found.0, ap (λ (out : List WaitSlot). get_or out 0 (Complete 0)) slots, waited_finds 0 found.0 t u found.2);
     }
 
 pub returns-else-number-eq-WAITER-clause-done : goal.returns-else-number-eq-WAITER-clause-done
