@@ -1,5 +1,5 @@
-//! What no clause says: that each call can be made with ample memory, the key of a token, and two threads of which one waits for what the
-//! other holds; and the rounds that `bench/run` times. Tables of calls with their answers are scripts, in mv_program.
+//! What no clause says: the key of a token, and two threads of which one waits for what the other holds; and the rounds that `bench/run`
+//! times. Tables of calls with their answers are scripts, in mv_program.
 
 ghost use Rattle.std.specs.Prelude.{◌≡◌, ◌<◌, ◌≤◌, length, IfOk, IfSome};
 ghost use Rattle.mv_latch.specs.Request.{posted_ecb};
@@ -118,11 +118,6 @@ fn a_token_has_the_key_of_its_record(rt: HostRuntime) -> Result<(), Fail> {
     assert_eq!(rt; task.key(first.id), None);
     assert_eq!(rt; task.key(second.id), Some(1));
     assert_eq!(rt; task.key(third.id), Some(0));
-    assert!(rt; task.left() > 0);
-    assert_eq!(rt;
-        check_latch(&station, &rt, &mut task, third),
-        Standing::Granted
-    );
     Ok(())
 }
 
