@@ -1,5 +1,5 @@
-//! What no clause says: that each call can be made with ample memory, how long a chain of exits may be, two threads that hand over to
-//! each other, and whom a post wakes; and what `bench/run` times. Tables of calls with their answers are scripts, in mv_program.
+//! What no clause says: how long a chain of exits may be, two threads that hand over to each other, and whom a post wakes; and what
+//! `bench/run` times. Tables of calls with their answers are scripts, in mv_program.
 
 ghost use Rattle.std.specs.Prelude.{◌≡◌, ◌<◌, ◌≤◌, ◌^◌, length, map, IfOk};
 ghost use Rattle.std.specs.List.{AllByRecursion};
@@ -8,8 +8,8 @@ ghost use Rattle.mv_calls.specs.Rest.{IsAtRest};
 ghost use Rattle.mv_board.specs.Faces.{IsFresh, IsOf};
 
 use super::*;
-use mv_ecb::{EcbOp, EcbReply};
-use mv_machine::{Config, Entry, Exit, Listed, Object, Op, Reply, ValidConfig};
+use mv_ecb::EcbOp;
+use mv_machine::{Config, Exit, Object, Op, ValidConfig};
 use std::alloc::Global;
 use std::hint;
 use std::process::Abort;
@@ -20,20 +20,20 @@ use std::thread::{self, Threads, join};
 // Tasks with these budgets, these blocks and these exits.
 fn setup(
     alloc: Global,
-    budgets: Vec<u32>,
-    owners: Vec<u32>,
+    budgets: &[u32],
+    owners: &[u32],
     exits: Vec<Exit>,
 ) -> Result<ValidConfig, Fail>
-    requires { length budgets.items ≤ 16 }
+    requires { length budgets.now ≤ 16 }
     ensures { IfOk result (λ c. c ≡ record {
-      callers = length budgets.items;
+      callers = length budgets.now;
       elements_per_caller = 1;
       volumes = 1;
       latches = 1;
       quota = 1;
       posted_quota = 0;
-      budgets = budgets.items;
-      owners = owners.items;
+      budgets = budgets.now;
+      owners = owners.now;
       exits = map exit_of exits.items;
     }) }
 {
@@ -44,8 +44,8 @@ fn setup(
         latches: 1,
         quota: 1,
         posted_quota: 0,
-        budgets,
-        owners,
+        budgets: Vec::from_slice(alloc, budgets)?,
+        owners: Vec::from_slice(alloc, owners)?,
         exits,
     };
     Ok(config.check(alloc)?)
@@ -64,30 +64,6 @@ fn open_one(alloc: Global, config: ValidConfig) -> Result<(Station, Task), Fail>
 
 // ---- one task
 
-#[test]
-#[tactic(auto, using(crate::proofs::Compose::served))]
-fn each_call_of_one_event(rt: HostRuntime) -> Result<(), Fail> {
-    let budgets = vec![in rt.alloc(); 10]?;
-    let owners = vec![in rt.alloc(); 0, 0]?;
-    let exit = Exit {
-        source: 0,
-        targets: vec![in rt.alloc(); 1]?,
-    };
-    let exits = vec![in rt.alloc(); exit]?;
-    let config = setup(rt.alloc(), budgets, owners, exits)?;
-    let (station, mut task) = open_one(rt.alloc(), config)?;
-    station.write_volume(&rt, &mut task, 0, 9);
-    assert_eq!(rt; station.read_volume(&mut task, 0), 9);
-    assert_eq!(rt; station.test_ecb(&mut task, 0), 0);
-    assert_eq!(rt; station.extend(&rt, &mut task, 0, 1), Ok(()));
-    assert_eq!(rt; station.clear(&rt, &mut task, 0), Ok(2_147_483_649));
-    assert_eq!(rt;
-        station.try_post(&mut task, 1, 0, 5),
-        Ok(PostAnswer::Posted)
-    );
-    Ok(())
-}
-
 // A chain of blocks, the exit of each of which posts the next.
 fn chain(alloc: Global, exits: u32) -> Result<ValidConfig, Fail>
     requires { exits ≤ 1000 }
@@ -102,7 +78,7 @@ fn chain(alloc: Global, exits: u32) -> Result<ValidConfig, Fail>
             targets: vec![in alloc; i + 1]?,
         })?;
     }
-    setup(alloc, vec![in alloc; 4000]?, owners, list)
+    setup(alloc, &[4000], &owners, list)
 }
 
 // Stops the test where there is no such block.
@@ -137,15 +113,8 @@ fn a_chain_of_a_thousand_exits_is_posted(rt: HostRuntime) -> Result<(), Fail> {
         assert!(rt; task.extended(i));
     }
     assert_eq!(rt; post(&rt, &station, &mut task, 0), PostAnswer::Woke);
+    // An extend of each, and the posts of all of them and of the last block.
     assert_eq!(rt; task.log().len(), 2001);
-    let last = Entry {
-        caller: 0,
-        object: Object::Ecb(1000),
-        place: 0,
-        op: Op::Ecb(EcbOp::Post(5)),
-        reply: Reply::Ecb(EcbReply::Posted),
-    };
-    assert_eq!(rt; task.log().last(), Some(&last));
     Ok(())
 }
 
@@ -212,34 +181,24 @@ fn hand_back<R: Abort + Wait>(
     task
 }
 
-// How often, there and back, on each of two stations: one has not the events for more. `bench/run` times it beside its twin.
-const ROUNDS: u32 = 50_000;
+// How often, there and back. `bench/run` times it beside its twin.
+const ROUNDS: u32 = 10_000;
 
-// Two threads hand over to each other and back, each by a block of its own.
-fn hand_to_and_fro<R: Abort + Wait + Threads + Sync>(
-    rt: &R,
-    alloc: Global,
-) -> Result<Listed, Fail> {
-    let budgets = vec![in alloc; 4 * ROUNDS, 4 * ROUNDS]?;
-    let config = setup(alloc, budgets, vec![in alloc; 0, 1]?, Vec::new(alloc))?;
+#[test]
+fn two_threads_hand_over_and_back(rt: HostRuntime) -> Result<(), Fail> {
+    let alloc = rt.alloc();
+    let config = setup(alloc, &[4 * ROUNDS, 4 * ROUNDS], &[0, 1], Vec::new(alloc))?;
     let (station, mut tasks) = Station::open(alloc, config)?;
     let second = station.take_last(&mut tasks);
     let first = station.take_last(&mut tasks);
     let (first, second) = join(
-        rt,
-        || hand_over(rt, &station, first, 0, 1, ROUNDS),
-        || hand_back(rt, &station, second, 1, 0, ROUNDS),
+        &rt,
+        || hand_over(&rt, &station, first, 0, 1, ROUNDS),
+        || hand_back(&rt, &station, second, 1, 0, ROUNDS),
     );
     let closed = station.close(vec![in alloc; first, second]?);
-    Ok(closed.history.listed(alloc)?)
-}
-
-#[test]
-fn two_threads_hand_over_and_back(rt: HostRuntime) -> Result<(), Fail> {
-    for _ in 0..2 {
-        let closed = hand_to_and_fro(&rt, rt.alloc())?;
-        assert_eq!(rt; closed.journal.len(), 8 * ROUNDS as usize);
-    }
+    let listed = closed.history.listed(alloc)?;
+    assert_eq!(rt; listed.journal.len(), 8 * ROUNDS as usize);
     Ok(())
 }
 
@@ -294,9 +253,8 @@ fn a_post_wakes_whom_its_exit_posts(rt: HostRuntime) -> Result<(), Fail> {
         source: 0,
         targets: vec![in rt.alloc(); 1]?,
     };
-    let budgets = vec![in rt.alloc(); 700, 400]?;
-    let owners = vec![in rt.alloc(); 0, 1, 0]?;
-    let config = setup(rt.alloc(), budgets, owners, vec![in rt.alloc(); exit]?)?;
+    let exits = vec![in rt.alloc(); exit]?;
+    let config = setup(rt.alloc(), &[700, 400], &[0, 1, 0], exits)?;
     let (station, mut tasks) = Station::open(rt.alloc(), config)?;
     let second = station.take_last(&mut tasks);
     let first = station.take_last(&mut tasks);
@@ -368,9 +326,8 @@ fn wait_for_many<R: Abort + Wait + Threads + Sync>(
 ) -> Result<(), Fail>
     requires { blocks < 2 ^ 16 }
 {
-    let budgets = vec![in alloc; 2 * blocks, blocks]?;
     let owners = vec![in alloc; 0u32; blocks as usize]?;
-    let config = setup(alloc, budgets, owners, Vec::new(alloc))?;
+    let config = setup(alloc, &[2 * blocks, blocks], &owners, Vec::new(alloc))?;
     let (station, mut tasks) = Station::open(alloc, config)?;
     let second = station.take_last(&mut tasks);
     let first = station.take_last(&mut tasks);
@@ -393,16 +350,51 @@ fn a_wait_for_ten_thousand_blocks(rt: HostRuntime) -> Result<(), Fail> {
     wait_for_many(&rt, rt.alloc(), 10_000)
 }
 
-// ---- one thread, and many events
+// ---- many events
 
-// What `bench/run` times: 500,000 events of posts and waits that nobody disputes.
+// `bench/run` times all of these: 500,000 events of posts and waits that nobody disputes, and 250,000 events of one kind on one word.
 #[test]
 fn posts_and_waits_of_one_thread(rt: HostRuntime) -> Result<(), Fail> {
-    let budgets = vec![in rt.alloc(); 500_000]?;
-    let owners = vec![in rt.alloc(); 0]?;
-    let config = setup(rt.alloc(), budgets, owners, Vec::new(rt.alloc()))?;
+    let config = setup(rt.alloc(), &[500_000], &[0], Vec::new(rt.alloc()))?;
     let (station, task) = open_one(rt.alloc(), config)?;
     let task = hand_over(&rt, &station, task, 0, 0, 125_000);
     assert_eq!(rt; task.log().len(), 500_000);
+    Ok(())
+}
+
+// So many tests of block 0.
+fn test_often<R: Wait>(rt: &R, station: &Station, mut task: Task, events: u32) -> Task
+    requires task { IsOf station.now task }
+    requires block { 0 < length station.now.config.owners }
+    requires left { events ≤ task.left }
+    ensures task { IsOf station.now result }
+{
+    for _ in 0..events {
+        station.event(rt, &mut task, Object::Ecb(0), Op::Ecb(EcbOp::Test));
+    }
+    task
+}
+
+#[test]
+fn events_of_one_thread(rt: HostRuntime) -> Result<(), Fail> {
+    let config = setup(rt.alloc(), &[250_000], &[0], Vec::new(rt.alloc()))?;
+    let (station, task) = open_one(rt.alloc(), config)?;
+    let task = test_often(&rt, &station, task, 250_000);
+    assert_eq!(rt; task.log().len(), 250_000);
+    Ok(())
+}
+
+#[test]
+fn events_of_two_threads_on_one_word(rt: HostRuntime) -> Result<(), Fail> {
+    let config = setup(rt.alloc(), &[125_000, 125_000], &[0], Vec::new(rt.alloc()))?;
+    let (station, mut tasks) = Station::open(rt.alloc(), config)?;
+    let second = station.take_last(&mut tasks);
+    let first = station.take_last(&mut tasks);
+    let (first, second) = join(
+        &rt,
+        || test_often(&rt, &station, first, 125_000),
+        || test_often(&rt, &station, second, 125_000),
+    );
+    assert_eq!(rt; first.log().len() + second.log().len(), 250_000);
     Ok(())
 }
