@@ -50,15 +50,7 @@ taken_meets b (need.Latch latch requestor mode) (call.Obtain q) w u rests may is
   ap (λ (f : ObtainFace). f.mode) is,
   subst (λ (f : ObtainFace). IsObtainAt b.config f u u) (sym is) (refl, record { rest = rests.quiet; left = rests.left }),
 )
-taken_meets b (need.Blocks bl) call.Nothing w u rests may is = absurd is
-taken_meets b (need.Blocks bl) (call.Pause p) w u rests may is = absurd is
-taken_meets b (need.Blocks bl) (call.Obtain q) w u rests may is = absurd is
-taken_meets b (need.Pause token) call.Nothing w u rests may is = absurd is
-taken_meets b (need.Pause token) call.Wait w u rests may is = absurd is
-taken_meets b (need.Pause token) (call.Obtain q) w u rests may is = absurd is
-taken_meets b (need.Latch latch requestor mode) call.Nothing w u rests may is = absurd is
-taken_meets b (need.Latch latch requestor mode) call.Wait w u rests may is = absurd is
-taken_meets b (need.Latch latch requestor mode) (call.Pause p) w u rests may is = absurd is
+taken_meets b n k w u rests may is = absurd is
 
 -- the call of a need that was taken up may be polled for the first time
 pub new_meets : (b : BoardFace) (n : Need) (m : Meeting) (u : CallerFace) → IsResting b (need_events n) u → MayMeet b.config n

@@ -39,6 +39,7 @@ pub record MayPollPause (b : BoardFace) (t : CallerFace) (p : PauseFace) : Type 
   pub task : IsOf b t
   pub stage : (t0 : CallerFace) × IsPauseAt b.config p t0 t
 
+-- and an answer that its program gives
 abbrev pub GivesPause : Setup → CallerFace → PauseFace → Result Given PauseRefusal → Type 0
 GivesPause c t p r = (t0 : CallerFace) → IsPauseAt c p t0 t
     → (q : PauseFace) × (u : CallerFace) × (q.token ≡ p.token) × IsPaused c q r t0 u

@@ -31,6 +31,7 @@ IsTaken (need.Pause token) (call.Pause p) w = p ≡ new_pause token
 IsTaken (need.Latch latch requestor mode) (call.Obtain q) w = q ≡ new_obtain latch requestor mode
 IsTaken n c w = ⊥
 
+-- the same of a meeting
 abbrev pub IsTakenUp : Need → Meeting → Type 0
 IsTakenUp n m = IsTaken n m.call m.wait
 
@@ -55,5 +56,6 @@ IsCallOf c (need.Pause token) (call.Pause p) w u v = IsPauseFor c token p u v
 IsCallOf c (need.Latch latch requestor mode) (call.Obtain q) w u v = IsObtainFor c latch requestor mode q u v
 IsCallOf c n k w u v = ⊥
 
+-- the same of a meeting
 abbrev pub IsMeeting : Setup → Need → Meeting → CallerFace → CallerFace → Type 0
 IsMeeting c n m u v = IsCallOf c n m.call m.wait u v

@@ -22,6 +22,7 @@ Stands b deck i k t p New = (p.task ≡ t) × IsNew deck i k p.work
 Stands b deck i k t p Waits = IsWaiting b deck i t p
 Stands b deck i k t p Finished = HasCome b deck i p.work t None p.task
 
+-- task k of the board, as it stands between two polls
 pub record IsPolled (b : BoardFace) (deck : List JobData) (i k : ℕ) (p : Polled) : Type 0 where
   pub new : CallerFace
   pub fresh : IsFresh b k new
@@ -49,6 +50,7 @@ is_over New = false
 is_over Waits = false
 is_over Finished = true
 
+-- the same of a task that is polled
 abbrev pub is_finished : Polled → Bool
 is_finished p = is_over p.state
 

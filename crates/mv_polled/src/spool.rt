@@ -2,13 +2,11 @@
 
 ghost use Rattle.std.specs.Prelude.{◌≡◌, ◌<◌, ◌≤◌, ◌+◌, ℕ, false, [], All, length, map, take, slice_index_or, vec_capacity, IfOk};
 ghost use Rattle.std.specs.List.{AllByRecursion};
-ghost use Rattle.mv_board.specs.Faces.{AreHeld};
 ghost use Rattle.mv_calls.specs.Program.{Done};
 ghost use Rattle.mv_calls.specs.Runs.{left_in};
 ghost use Rattle.mv_deck.specs.Deck.{deck_data};
 ghost use Rattle.mv_deck.specs.Sound.{IsSound};
 ghost use Rattle.mv_deck.specs.Weight.{most_initiators};
-ghost use Rattle.mv_machine.specs.Legal.{after};
 ghost use Rattle.mv_machine.specs.Limits.{events_limit, highest_place};
 ghost use Rattle.mv_plan.specs.SpoolRun.{IsRun};
 ghost use Rattle.mv_plan.specs.SpoolSetup.{jobs_limit, spool_setup, writer};
@@ -17,18 +15,17 @@ ghost use Rattle.mv_polled.specs.Polled.{ArePolled, IsPicked, IsUnpolled, is_fin
 ghost use Rattle.mv_polled.specs.declared.polled.Polled.{Polled as PolledValue};
 ghost use Rattle.mv_report.specs.Outcome.{ends, lines, totals};
 ghost use Rattle.mv_work.specs.Parts.{jobs_of};
-ghost use Rattle.mv_work.specs.Recording.{AreBrought, all_records, lines_recorded};
+ghost use Rattle.mv_work.specs.Recording.{AreBrought, IsLeft, all_records, lines_recorded};
 ghost use Rattle.mv_work.specs.Waiting.{IsSpool};
 
 use crate::order::Order;
 use crate::polled::Polled;
-use mv_board::Closed;
 use mv_deck::{Deck, Job};
 use mv_io::NoMemory;
 use mv_machine::ValidConfig;
 use mv_plan::spool_config;
 use mv_wait::{Station, Task};
-use mv_work::{Brought, SpoolRun, Work, brought_by, spool_run};
+use mv_work::{Brought, Left, SpoolRun, Work, brought_by, spool_run};
 use std::alloc::Global;
 use std::sync::Wait;
 
@@ -156,13 +153,6 @@ fn poll_all<R: Wait, O: Order>(
     tasks
 }
 
-// What a closed run left.
-#[derive(Drop)]
-struct Left {
-    closed: Closed,
-    brought: Brought,
-}
-
 // Opens a station of this configuration, has its tasks do their work, and closes it.
 fn run_tasks<R: Wait, O: Order>(
     rt: &R,
@@ -176,16 +166,7 @@ fn run_tasks<R: Wait, O: Order>(
     requires few { (initiators ≤ most_initiators) × (length deck.now ≤ jobs_limit) }
     requires sound { IsSound (jobs_of deck.now) initiators }
     requires config { config ≡ spool_setup (jobs_of deck.now) initiators }
-    ensures config { IfOk result (λ left. left.closed.history.config ≡ config) }
-    ensures whole { IfOk result (λ left. left.closed.history.past ≡ []) }
-    ensures run { IfOk result (λ left. IsRun (jobs_of deck.now) initiators left.closed.history.coming) }
-    ensures few { IfOk result (λ left. length left.closed.history.coming ≤ events_limit) }
-    ensures volumes { IfOk result (λ left. AreHeld (spool_setup (jobs_of deck.now) initiators)
-        (after (spool_setup (jobs_of deck.now) initiators) left.closed.history.coming) left.closed.volumes) }
-    ensures records { IfOk result (λ left. AreBrought (jobs_of deck.now) initiators left.closed.history.coming
-        (map (λ r. r.jobs) left.brought.records.items)) }
-    ensures ends { IfOk result (λ left. left_in (spool_setup (jobs_of deck.now) initiators) (task_program (jobs_of deck.now) initiators)
-        (writer initiators) left.closed.history.coming ≡ Done left.brought.ends.items) }
+    ensures left { IfOk result (λ left. IsLeft (jobs_of deck.now) initiators left.closed left.brought) }
 {
     let (station, tasks) = Station::open(alloc, config)?;
     let count = tasks.len();
@@ -198,7 +179,7 @@ fn run_tasks<R: Wait, O: Order>(
     let polled = poll_all(rt, &station, deck, initiators, order, polled);
     let (tasks, works) = parted(polled, room);
     let closed = station.close(tasks);
-    let brought = brought_by(works, records);
+    let brought: Brought = brought_by(works, records);
     Ok(Left { closed, brought })
 }
 

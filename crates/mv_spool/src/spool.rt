@@ -1,32 +1,29 @@
 //! The run of a deck. Clauses cite the plan's `SpoolRun.antt`, the report's `Outcome.antt` and the work's `Recording.antt`.
 
 ghost use Rattle.std.specs.Prelude.{◌≡◌, ◌<◌, ◌≤◌, ◌+◌, ℕ, [], All, length, map, slice_index_or, IfOk};
-ghost use Rattle.mv_board.specs.Faces.{AreHeld};
 ghost use Rattle.mv_calls.specs.Program.{Done};
 ghost use Rattle.mv_calls.specs.Runs.{left_in};
 ghost use Rattle.mv_deck.specs.Deck.{deck_data};
 ghost use Rattle.mv_deck.specs.Sound.{IsSound};
 ghost use Rattle.mv_deck.specs.Weight.{most_initiators};
-ghost use Rattle.mv_machine.specs.Legal.{after};
 ghost use Rattle.mv_machine.specs.Limits.{events_limit, highest_place};
 ghost use Rattle.mv_plan.specs.SpoolRun.{IsRun};
 ghost use Rattle.mv_plan.specs.SpoolSetup.{jobs_limit, spool_setup, writer};
 ghost use Rattle.mv_plan.specs.SpoolTasks.{task_program};
 ghost use Rattle.mv_report.specs.Outcome.{ends, lines, totals};
 ghost use Rattle.mv_work.specs.Parts.{jobs_of};
-ghost use Rattle.mv_work.specs.Recording.{AreBrought, all_records, lines_recorded};
+ghost use Rattle.mv_work.specs.Recording.{AreBrought, IsLeft, all_records, lines_recorded};
 ghost use Rattle.mv_work.specs.Works.{IsNew};
 
 use crate::working::Working;
 use mv_attach::run_tasks;
-use mv_board::Closed;
 use mv_deck::{Deck, Job};
 use mv_io::NoMemory;
 use mv_machine::ValidConfig;
 use mv_plan::spool_config;
 use mv_task::Gate;
 use mv_wait::Station;
-use mv_work::{Brought, SpoolRun, Work, brought_by, spool_run};
+use mv_work::{Left, SpoolRun, Work, brought_by, spool_run};
 use std::alloc::Global;
 use std::sync::Wait;
 use std::thread::Threads;
@@ -46,13 +43,6 @@ fn works_of(alloc: Global, deck: &[Job], initiators: u32) -> Result<Vec<Work>, N
     Ok(works)
 }
 
-// What a closed run left.
-#[derive(Drop)]
-struct Left {
-    closed: Closed,
-    brought: Brought,
-}
-
 // Opens a station of this configuration, has its tasks do their work, and closes it.
 fn run_station<R: Threads + Wait + Sync, G: Gate + Sync>(
     rt: &R,
@@ -66,16 +56,7 @@ fn run_station<R: Threads + Wait + Sync, G: Gate + Sync>(
     requires few { (initiators ≤ most_initiators) × (length deck.now ≤ jobs_limit) }
     requires sound { IsSound (jobs_of deck.now) initiators }
     requires config { config ≡ spool_setup (jobs_of deck.now) initiators }
-    ensures config { IfOk result (λ left. left.closed.history.config ≡ config) }
-    ensures whole { IfOk result (λ left. left.closed.history.past ≡ []) }
-    ensures run { IfOk result (λ left. IsRun (jobs_of deck.now) initiators left.closed.history.coming) }
-    ensures few { IfOk result (λ left. length left.closed.history.coming ≤ events_limit) }
-    ensures volumes { IfOk result (λ left. AreHeld (spool_setup (jobs_of deck.now) initiators)
-        (after (spool_setup (jobs_of deck.now) initiators) left.closed.history.coming) left.closed.volumes) }
-    ensures records { IfOk result (λ left. AreBrought (jobs_of deck.now) initiators left.closed.history.coming
-        (map (λ r. r.jobs) left.brought.records.items)) }
-    ensures ends { IfOk result (λ left. left_in (spool_setup (jobs_of deck.now) initiators) (task_program (jobs_of deck.now) initiators)
-        (writer initiators) left.closed.history.coming ≡ Done left.brought.ends.items) }
+    ensures left { IfOk result (λ left. IsLeft (jobs_of deck.now) initiators left.closed left.brought) }
 {
     let (station, tasks) = Station::open(alloc, config)?;
     let records = Vec::with_capacity(alloc, tasks.len())?;

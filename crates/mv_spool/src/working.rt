@@ -1,9 +1,8 @@
-//! What the tasks of a run do, each on its thread: its own work of the deck, wait by wait. Clauses cite `specs/Working.antt`.
+//! What the tasks of a run do, each on its thread: its own work of the deck, wait by wait. Clauses cite the work's `Works.antt`.
 
 ghost use Rattle.mv_work.specs.Parts.{jobs_of};
 ghost use Rattle.mv_work.specs.Waiting.{IsSpool};
-ghost use Rattle.mv_work.specs.Works.{IsNew};
-ghost use Rattle.mv_spool.specs.Working.{IsWorked};
+ghost use Rattle.mv_work.specs.Works.{IsNew, IsWorked};
 
 use crate::meeting::meet;
 use mv_deck::Job;

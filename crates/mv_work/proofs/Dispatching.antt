@@ -1,7 +1,7 @@
 -- How the scheduler hands out the jobs, wait by wait.
-use Rattle.std.proofs.Common.{◌≡◌, ℕ, ◌+◌, ◌*◌, ◌-◌, ◌<◌, ◌≤◌, ◌==◌, zero, suc, Bool, true, false, List, [], ◌∷◌, length, drop, take, Option, Ok, Err, refl, sym, ap}
+use Rattle.std.proofs.Common.{◌≡◌, ℕ, ◌+◌, ◌*◌, ◌-◌, ◌<◌, ◌≤◌, ◌==◌, zero, suc, Bool, true, false, List, [], ◌∷◌, length, drop, Option, Ok, Err, refl, sym, ap}
 use Rattle.std.proofs.Common.{◌∙◌, subst, arith}
-use Rattle.std.specs.List.{AllByRecursion, range_with_len}
+use Rattle.std.specs.List.{range_with_len}
 use Rattle.std.proofs.lemmas.Bool.{eqb-true}
 use Rattle.std.proofs.Math.Nat.{suc-mul}
 use Rattle.std.proofs.lemmas.List.{drop_more, drop_all}
@@ -22,90 +22,43 @@ use Rattle.mv_wait.specs.Run.{IsServed}
 use Rattle.mv_work.specs.declared.need.Blocks.{Blocks}
 use Rattle.mv_work.specs.declared.need.Need.TheVariants as need
 use Rattle.mv_work.specs.declared.stage.SchedulerStage.TheVariants as stage
-use Rattle.mv_work.specs.Needs.{need_call}
+use Rattle.mv_work.specs.Needs.{IsWaitFor, need_call}
 use Rattle.mv_work.specs.Parts.{lowest_complete}
 use Rattle.mv_work.specs.Ran.{Ran, Leads}
-use Rattle.mv_work.specs.Scheduling.{scheduler_left, jobs_from, jobs_due, dismissals_from, idles, first_idle, exit_set, entry_found}
-use Rattle.mv_work.specs.Scheduling.{AreBlocks, dismissal_found, then_jobs}
+use Rattle.mv_work.specs.Scheduling.{scheduler_left, jobs_from, jobs_due, dismissals_from, first_idle, exit_set, entry_found}
+use Rattle.mv_work.specs.Scheduling.{dismissal_found, then_jobs}
 use Rattle.mv_work.proofs.Calls.{accepted-assoc, blocks_asked_in, found_in, none_in}
 use Rattle.mv_work.proofs.Ranges.{range_next, range_over}
 use Rattle.mv_work.proofs.Runs.{ran_followed, ran_last, leads_astray, leads_on, served_as}
 use Rattle.mv_work.proofs.Waits.{leads_as}
 
--- ---- an idle initiator is handed a code
-
-module _ (c : Setup) (n code i generation : ℕ) where
-  abbrev released : ℕ → Call (Unit {0})
-  released word = accepted (release (token_of (initiator i) generation) code) (λ (reached : Reached). finished tt)
-
-  pub not_cleared : {why : Refusal} {t u : CallerFace} (b : ℕ) → b ≡ idle n i → IsServed 1 (clear c b) (λ a. a ≡ Err why) t u
-      → Ran (hand_over c n code i generation) Wrong t u
-  not_cleared {why} {t} {u} b is s =
-      ran_last (subst (λ e. Ran (clear c e) (Done (Err why)) t u) is (served_as s)) (unrefused released) refl
-
-  -- the block is the initiator's, and so is the element
-  module _ {word : ℕ} {t u : CallerFace} (b k : ℕ) (is : b ≡ idle n i) (own : k ≡ initiator i)
-      (s : IsServed 1 (clear c b) (λ a. a ≡ Ok word) t u) where
-    cleared : Ran (clear c (idle n i)) (Done (Ok word)) t u
-    cleared = subst (λ e. Ran (clear c e) (Done (Ok word)) t u) is (served_as s)
-
-    pub handed : {reached : Reached} {v : CallerFace} → IsServed 1 (release (token_of k generation) code) (λ a. a ≡ Ok reached) u v
-        → Ran (hand_over c n code i generation) (Done tt) t v
-    handed {reached} {v} x = ran_followed cleared (unrefused released)
-        (ran_last (subst (λ e. Ran (release (token_of e generation) code) (Done (Ok reached)) u v) own (served_as x))
-        (unrefused (λ (reached : Reached). finished tt)) refl)
-
-    pub not_handed : {why : Refusal} {v : CallerFace} → IsServed 1 (release (token_of k generation) code) (λ a. a ≡ Err why) u v
-        → Ran (hand_over c n code i generation) Wrong t v
-    not_handed {why} {v} x = ran_followed cleared (unrefused released)
-        (ran_last (subst (λ e. Ran (release (token_of e generation) code) (Done (Err why)) u v) own (served_as x))
-        (unrefused (λ (reached : Reached). finished tt)) refl)
-
 -- ---- what is asked for
 
--- one block
-pub one_is : (b : Blocks) {e : ℕ} → b.len ≡ 1 → take 1 b.of ≡ e ∷ [] → (f : ℕ) → e ≡ f → take b.len b.of ≡ f ∷ []
-one_is b len blocks f is = ap (λ k. take k b.of) len ∙ blocks ∙ ap (λ g. g ∷ []) is
-
-pub one_block : (c : Setup) (b : Blocks) (e : ℕ) → b.len ≡ 1 → length b.of ≡ 8 → take b.len b.of ≡ e ∷ [] → e < length c.owners
-    → AreBlocks c 1 (need.Blocks b)
-one_block c b e len room is lt =
-    (len, omega arith, room, subst (λ es. AllByRecursion (λ e. e < length c.owners) es) (sym is) (lt, tt))
-
-module _ (c : Setup) (deck : List JobData) (i : ℕ) (b : Blocks) where
+module _ (c : Setup) (deck : List JobData) (i : ℕ) {b : Blocks} where
   -- the entry of a job
-  pub entry_asked : (j : ℕ) → j < length deck → take b.len b.of ≡ j ∷ [] → b.count ≡ 1
+  pub entry_asked : (j : ℕ) → j < length deck → IsWaitFor 1 (j ∷ []) b
       → jobs_from c deck i j ≡ followed (need_call c (need.Blocks b)) (scheduler_left c deck i (stage.Entry j))
-  entry_asked j lt is so =
+  entry_asked j lt is =
       ap (λ js. dispatch_all c (length deck) i j js (for_each (range_with_len 0 i) (dismiss c (length deck)) (finished [])))
       (drop_more deck j no_job lt)
-      ∙ blocks_asked_in c b (j ∷ []) 1 is so (lowest (entry_found c deck i j) 0) (λ (handed : Unit {0}). jobs_from c deck i (j + 1))
+      ∙ blocks_asked_in c is (lowest (entry_found c deck i j) 0) (λ (handed : Unit {0}). jobs_from c deck i (j + 1))
 
   -- the dismissal of an initiator
-  pub dismissal_asked : (m : ℕ) → m < i → take b.len b.of ≡ idle (length deck) m ∷ [] → b.count ≡ 1
+  pub dismissal_asked : (m : ℕ) → m < i → IsWaitFor 1 (idle (length deck) m ∷ []) b
       → dismissals_from c deck i m ≡ followed (need_call c (need.Blocks b)) (scheduler_left c deck i (stage.Dismissal m))
-  dismissal_asked m lt is so =
+  dismissal_asked m lt is =
       ap (λ ms. for_each ms (dismiss c (length deck)) (finished [])) (range_next m i lt)
-      ∙ blocks_asked_in c b (idle (length deck) m ∷ []) 1 is so (lowest (dismissal_found c (length deck) m) 0)
-      (λ (handed : Unit {0}). dismissals_from c deck i (m + 1))
-
-  -- an initiator for a job
-  pub idle_asked : (j : ℕ) (skipped : Bool) → take b.len b.of ≡ idles (length deck) i → b.count ≡ 1
-      → followed (first_idle c deck i j skipped) (λ (handed : Unit {0}). jobs_from c deck i (j + 1))
-      ≡ followed (need_call c (need.Blocks b)) (scheduler_left c deck i (stage.Idle j skipped))
-  idle_asked j skipped is so =
-      blocks_asked_in c b (idles (length deck) i) 1 is so (lowest (hand_over c (length deck) (code_of j skipped)) 0)
-      (λ (handed : Unit {0}). jobs_from c deck i (j + 1))
+      ∙ blocks_asked_in c is (lowest (dismissal_found c (length deck) m) 0) (λ (handed : Unit {0}). dismissals_from c deck i (m + 1))
 
   -- the ends of the jobs that a job waits for
-  pub ends_asked : (j : ℕ) → 0 < length (job_at deck j).after → take b.len b.of ≡ ends_of (length deck) (job_at deck j).after
-      → b.count ≡ length (job_at deck j).after
+  pub ends_asked : (j : ℕ) → 0 < length (job_at deck j).after
+      → IsWaitFor (length (job_at deck j).after) (ends_of (length deck) (job_at deck j).after) b
       → followed (ends_awaited c (length deck) (job_at deck j).after (exit_set c deck i j)) (λ (handed : Unit {0}). jobs_from c deck i (j + 1))
       ≡ followed (need_call c (need.Blocks b)) (scheduler_left c deck i (stage.Ends j))
-  ends_asked j some is so =
+  ends_asked j some is =
       ap (λ call. followed call (λ (handed : Unit {0}). jobs_from c deck i (j + 1))) (awaited (job_at deck j).after some)
-      ∙ blocks_asked_in c b (ends_of (length deck) (job_at deck j).after) (length (job_at deck j).after) is so
-      (λ slots. exit_set c deck i j (some_end_above (job_at deck j).after slots)) (λ (handed : Unit {0}). jobs_from c deck i (j + 1)) where
+      ∙ blocks_asked_in c is (λ slots. exit_set c deck i j (some_end_above (job_at deck j).after slots))
+      (λ (handed : Unit {0}). jobs_from c deck i (j + 1)) where
         awaited : (parts : List After) → 0 < length parts
             → ends_awaited c (length deck) parts (exit_set c deck i j)
             ≡ accepted (wait c (length parts) (ends_of (length deck) parts)) (λ slots. exit_set c deck i j (some_end_above parts slots))
@@ -131,11 +84,6 @@ module _ (c : Setup) (deck : List JobData) (i j : ℕ) (skipped : Bool) where
   pub exit_first : then_jobs c deck i j (exit_set c deck i j skipped) ≡ accepted (extend c (done (length deck) j) (j + 1)) set_then
   exit_first = accepted-assoc (extend c (done (length deck) j) (j + 1)) (λ (linked : Unit {0}). first_idle c deck i j skipped)
       (λ (handed : Unit {0}). jobs_from c deck i (j + 1))
-
-  -- or that is refused
-  pub exit_refused : {why : Refusal} {u v : CallerFace} → IsServed 1 (extend c (done (length deck) j) (j + 1)) (λ a. a ≡ Err why) u v
-      → Ran (accepted (extend c (done (length deck) j) (j + 1)) set_then) Wrong u v
-  exit_refused s = ran_last (served_as s) (unrefused set_then) refl
 
 -- ---- what was found
 

@@ -1,8 +1,7 @@
 -- From what was told to a task, and what it did then, to where it has come. Used by begin and go_on.
 use Rattle.std.proofs.Common.{◌≡◌, ℕ, ◌-◌, List, [], length, Option, Some, None, subst, arith}
-use Rattle.mv_board.specs.Faces.{BoardFace, CallerFace, IsSame}
+use Rattle.mv_board.specs.Faces.{BoardFace, CallerFace}
 use Rattle.mv_deck.specs.Deck.{JobData}
-use Rattle.mv_wait.proofs.Runs.{same_then}
 use Rattle.mv_work.specs.declared.need.Got.{Got}
 use Rattle.mv_work.specs.declared.need.Need.{Need}
 use Rattle.mv_work.specs.declared.stage.InitiatorStage.{InitiatorStage}
@@ -23,16 +22,16 @@ use Rattle.mv_work.proofs.Waits.{comes_on}
 module _ (b : BoardFace) (deck : List JobData) (i : ℕ) (w new : Work) {t u : CallerFace} (v : CallerFace) (g : Got) where
   -- the scheduler was told its last
   pub scheduler_over : (s : SchedulerStage) → ToldAt b deck i w (Some (stage.Scheduler s)) t g u
-      → IsSame u v × RanOut (scheduler_left b.config deck i s (answer_of g)) [] u v → HasCome b deck i new t None v
+      → RanOut (scheduler_left b.config deck i s (answer_of g)) [] u v → HasCome b deck i new t None v
   scheduler_over s told x =
-      (same_then t u v told.1.same x.0, scheduler_worked b.config deck i new told.0 (leads_out told.1.leads x.1))
+      let out = leads_out told.1.leads x in (out.ran.went.same, scheduler_worked b.config deck i new told.0 out)
 
   -- and so was the writer
   pub writer_over : (j : ℕ) → ToldAt b deck i w (Some (stage.Writer j)) t g u
-      → IsSame u v × RanOut (writer_left b.config (length deck) (ends_found w) j (answer_of g)) (ends_found new) u v
+      → RanOut (writer_left b.config (length deck) (ends_found w) j (answer_of g)) (ends_found new) u v
       → HasCome b deck i new t None v
   writer_over j told x =
-      (same_then t u v told.1.same x.0, writer_worked b.config deck i new told.0 (leads_out told.1.leads x.1))
+      let out = leads_out told.1.leads x in (out.ran.went.same, writer_worked b.config deck i new told.0 out)
 
   -- an initiator was told something, and has come to its end or to its next wait
   module _ (s : InitiatorStage) (told : ToldAt b deck i w (Some (stage.Initiator s)) t g u) (index : ℕ) (is : index ≡ u.number - 2) where
@@ -43,12 +42,12 @@ module _ (b : BoardFace) (deck : List JobData) (i : ℕ) (w new : Work) {t u : C
         → InitiatorComes b deck index new.notes (initiator_left b.config deck index w.notes s (answer_of g)) u next v
         → InitiatorComes b deck told.0 new.notes (initiating_noted b.config deck told.0) t next v
     initiator_on next x =
-        comes_on told.3.same told.3.leads (subst (λ me. InitiatorComes b deck me new.notes (initiator_left b.config deck me w.notes s (answer_of g)) u next v) initiator_is x)
+        comes_on told.3.leads (subst (λ me. InitiatorComes b deck me new.notes (initiator_left b.config deck me w.notes s (answer_of g)) u next v) initiator_is x)
 
     pub initiator_over : InitiatorComes b deck index new.notes (initiator_left b.config deck index w.notes s (answer_of g)) u None v
         → HasCome b deck i new t None v
     initiator_over x =
-        let out = (initiator_on None x).come in (out.0, initiator_worked b.config deck i new told.0 told.1 told.2 out.1)
+        let out = (initiator_on None x).come in (out.ran.went.same, initiator_worked b.config deck i new told.0 told.1 told.2 out)
 
     pub initiator_next : (next : InitiatorStage) (n : Need)
         → InitiatorComes b deck index new.notes (initiator_left b.config deck index w.notes s (answer_of g)) u (Some (next, n)) v

@@ -1,14 +1,17 @@
 -- The history that the tasks' logs are parts of is a run, where each task has made all events of its program; and what the tasks
 -- bring back is what their parts of it say. For whoever runs tasks.
 use Rattle.std.proofs.Common.{◌≡◌, ℕ, ◌+◌, ◌-◌, ◌<◌, ◌≤◌, ◌==◌, Bool, true, false, List, [], ◌++◌, length, get_or, if◌then◌else◌, refl, sym, ap}
-use Rattle.std.proofs.Common.{◌∙◌, subst, arith}
+use Rattle.std.proofs.Common.{◌∷◌, ◌∙◌, drop, map, take, subst, arith}
 use Rattle.std.specs.Prelude.{MatchBool}
 use Rattle.std.proofs.lemmas.Bool.{eq-eqb, ne_eqb}
+use Rattle.std.proofs.lemmas.List.{get_or-drop, get_or-map, get_or-take, length-drop, length-map, length-take-le}
 use Rattle.std.specs.List.{AllByRecursion}
-use Rattle.mv_board.specs.Faces.{BoardFace, CallerFace, IsFresh, IsIn, IsSame}
+use Rattle.mv_board.specs.Faces.{AreHeld, BoardFace, CallerFace, IsIn}
+use Rattle.mv_board.specs.declared.closing.Closed.{Closed}
 use Rattle.mv_machine.specs.Setup.{Setup}
 use Rattle.mv_machine.specs.declared.entry.Entry.{Entry}
-use Rattle.mv_machine.specs.Legal.{Legal}
+use Rattle.mv_machine.specs.Legal.{Legal, after}
+use Rattle.mv_machine.specs.Limits.{events_limit}
 use Rattle.mv_machine.specs.System.{opening}
 use Rattle.mv_machine.specs.Told.{told as told_to}
 use Rattle.mv_calls.specs.Keeping.{kept_of, nothing_kept}
@@ -19,17 +22,19 @@ use Rattle.mv_calls.proofs.Interleaved.{callers_exist}
 use Rattle.mv_calls.proofs.Making.{noted_again}
 use Rattle.mv_deck.specs.Deck.{JobData}
 use Rattle.mv_deck.specs.Sound as deck_is
-use Rattle.mv_plan.specs.SpoolRun.{Follows, IsRun}
+use Rattle.mv_plan.specs.SpoolRun.{Follows}
 use Rattle.mv_plan.specs.SpoolSetup.{spool_setup, reader, scheduler, initiator, writer}
 use Rattle.mv_plan.specs.SpoolTasks.{task, task_program, reading, scheduling, writing, initiating}
 use Rattle.mv_plan.proofs.deck.Planned.{planned}
 use Rattle.mv_plan.proofs.results.NoneWrong.{none_wrong}
+use Rattle.mv_work.specs.declared.bringing.Brought.{Brought}
 use Rattle.mv_work.specs.declared.work.Work.{Work}
 use Rattle.mv_work.specs.Noting.{initiating_noted}
 use Rattle.mv_work.specs.Ran.{Ran, RanOut, IsOver}
+use Rattle.mv_work.specs.Recording.{IsLeft}
 use Rattle.mv_work.specs.Records.{JobRecord}
-use Rattle.mv_work.specs.Works.{HasWorked, ends_found, records}
-use Rattle.mv_work.proofs.brought.Alike.{Alike, alike_left, alike_says}
+use Rattle.mv_work.specs.Works.{AreWorked, HasWorked, IsWorked, ends_found, records}
+use Rattle.mv_work.proofs.brought.Alike.{Alike, alike_done_back, alike_left, alike_says}
 use Rattle.mv_work.proofs.brought.Forgetting.{NothingKept, initiating_alike}
 use Rattle.mv_wait.proofs.Parts.{one_of}
 
@@ -41,13 +46,7 @@ heard_of call q t u r log told =
     ∙ ap (λ ws. noted (entries r.events) ws) (r.went.told ∙ ap (λ ws. ws ++ told_by r.events) told)
     ∙ noted_again r.events r.went.wakes
 
--- a program that is over did not end too soon; and unless it went wrong it is done
-not_early : {A : Type 0} (a : A) (q : Program A) → IsOver a q → q ≡ Early → ⊥
-not_early a (Done b) over e = absurd (cc e)
-not_early a Wrong over e = absurd (cc e)
-not_early a (Do object op next) over e = over
-not_early a Early over e = over
-
+-- a program that is over is done, unless it went wrong
 is_done : {A : Type 0} (a : A) (q : Program A) → IsOver a q → (q ≡ Wrong → ⊥) → q ≡ Done a
 is_done a (Done b) over right = ap (λ x. Done x) over
 is_done a Wrong over right = absurd (right refl)
@@ -63,14 +62,6 @@ forget_over records Wrong Wrong over w = tt
 forget_over records (Do o op next) q over w = absurd over
 forget_over records Early q over w = absurd over
 forget_over records p q over w = absurd w
-
--- and went wrong where that did
-forget_wrong : (p : Program (List JobRecord)) (q : Program (List ℕ)) → p ≡ Wrong → Alike NothingKept p q → q ≡ Wrong
-forget_wrong Wrong Wrong is w = refl
-forget_wrong (Done a) q is w = absurd (cc is)
-forget_wrong (Do o op next) q is w = absurd (cc is)
-forget_wrong Early q is w = absurd (cc is)
-forget_wrong p q is w = absurd w
 
 module _ (c : Setup) (deck : List JobData) (m : ℕ) (records : List JobRecord) {t u : CallerFace} (r : RanOut (initiating_noted c deck m) records t u)
   where
@@ -96,28 +87,27 @@ module _ (c : Setup) (deck : List JobData) (m : ℕ) (records : List JobRecord) 
 
 -- ---- what a task of each number has made
 
+-- what the program of task k answers: the writer's the ends that it found
+abbrev answered : ℕ → ℕ → Work → List ℕ
+answered i k w = if k == reader then [] else if k == scheduler then [] else if k == writer i then ends_found w else []
+
 -- what the plan says of it
 plan_made : (deck : List JobData) (i : ℕ) (w : Work) (t u : CallerFace) → HasWorked (spool_setup deck i) deck i w t u
-    → (a : List ℕ) × RanOut (task deck i t.number) a t u
+    → RanOut (task deck i t.number) (answered i t.number w) t u
 plan_made deck i w t u made = go (t.number == reader) (t.number == scheduler) (t.number == writer i) made where
   go : (x y z : Bool) → MatchBool x (RanOut (reading (spool_setup deck i) (length deck)) [] t u)
       (MatchBool y (RanOut (scheduling (spool_setup deck i) i deck) [] t u)
       (MatchBool z (RanOut (writing (spool_setup deck i) (length deck)) (ends_found w) t u)
       (RanOut (initiating_noted (spool_setup deck i) deck (t.number - 2)) (records w) t u)))
-      → (a : List ℕ) × RanOut (if x then reading (spool_setup deck i) (length deck)
+      → RanOut (if x then reading (spool_setup deck i) (length deck)
       else if y then scheduling (spool_setup deck i) i deck
       else if z then writing (spool_setup deck i) (length deck)
-      else initiating (spool_setup deck i) deck (t.number - 2)) a t u
-  go true y z made = ([], made)
-  go false true z made = ([], made)
-  go false false true made = (ends_found w, made)
-  go false false false made = ([], forgets (spool_setup deck i) deck (t.number - 2) (records w) made)
-
--- the writer's ends
-writer_made : (deck : List JobData) (i : ℕ) (w : Work) (t u : CallerFace) → t.number ≡ writer i → HasWorked (spool_setup deck i) deck i w t u
-    → RanOut (writing (spool_setup deck i) (length deck)) (ends_found w) t u
-writer_made deck i w t u is made =
-    rw (ne_eqb t.number reader (omega arith), ne_eqb t.number scheduler (omega arith), eq-eqb t.number (writer i) is) at made
+      else initiating (spool_setup deck i) deck (t.number - 2))
+      (if x then [] else if y then [] else if z then ends_found w else []) t u
+  go true y z made = made
+  go false true z made = made
+  go false false true made = made
+  go false false false made = forgets (spool_setup deck i) deck (t.number - 2) (records w) made
 
 -- an initiator's records
 initiator_made : (deck : List JobData) (i m : ℕ) (w : Work) (t u : CallerFace) → t.number ≡ initiator m → m < i
@@ -126,10 +116,7 @@ initiator_made deck i m w t u is lt made =
     subst (λ k. RanOut (initiating_noted (spool_setup deck i) deck k) (records w) t u) (let e : t.number - 2 ≡ m = omega arith in e)
     (rw (ne_eqb t.number reader (omega arith), ne_eqb t.number scheduler (omega arith), ne_eqb t.number (writer i) (omega arith)) at made)
 
--- which task has these numbers
-writer_is : (deck : List JobData) (i : ℕ) → task deck i (writer i) ≡ writing (spool_setup deck i) (length deck)
-writer_is deck i = rw (ne_eqb (writer i) reader (λ e. omega arith), ne_eqb (writer i) scheduler (λ e. omega arith), eq-eqb (writer i) (writer i) refl) refl
-
+-- which task has an initiator's number
 pub initiator_is : (deck : List JobData) (i m : ℕ) → m < i → task deck i (initiator m) ≡ initiating (spool_setup deck i) deck m
 initiator_is deck i m lt =
     rw (
@@ -139,33 +126,63 @@ initiator_is deck i m lt =
     )
     (ap (initiating (spool_setup deck i) deck) (let e : initiator m - 2 ≡ m = omega arith in e))
 
--- a task that was new, of its number, and has made all its events
-pub record IsWorked (deck : List JobData) (i k : ℕ) (b : BoardFace) (w : Work) (u : CallerFace) : Type 0 where
-  pub before : CallerFace
-  pub fresh : IsFresh b k before
-  pub same : IsSame before u
-  pub made : HasWorked (spool_setup deck i) deck i w before u
+-- and what the writer's answers
+writer_answered : (i : ℕ) (w : Work) → answered i (writer i) w ≡ ends_found w
+writer_answered i w =
+    rw (ne_eqb (writer i) reader (λ e. omega arith), ne_eqb (writer i) scheduler (λ e. omega arith), eq-eqb (writer i) (writer i) refl) refl
 
-module _ (deck : List JobData) (i : ℕ) (b : BoardFace) (es : List Entry) (tasks : List CallerFace) (works : List Work) (d : CallerFace) (dw : Work)
-    (legal : Legal (spool_setup deck i) es) (within : AllByRecursion (IsIn (spool_setup deck i) es) tasks) (count : length tasks ≡ i + 3)
-    (worked : (k : ℕ) → k < i + 3 → IsWorked deck i k b (get_or works k dw) (get_or tasks k d)) where
+-- ---- all tasks
+
+-- a list that is not empty has a first
+pub first_of : {A : Type 0} (xs : List A) → 0 < length xs → A
+first_of [] some = absurd (omega arith)
+first_of (x ∷ xs) some = x
+
+module _ (deck : List JobData) (i : ℕ) (b : BoardFace) (works : List Work) (tasks : List CallerFace) (closed : Closed) (some : 1 ≤ i)
+    (sound : deck_is.IsSound deck i) (config : b.config ≡ spool_setup deck i) (legal : Legal b.config closed.history.coming)
+    (within : AllByRecursion (IsIn b.config closed.history.coming) tasks) (worked : AreWorked deck i b works tasks) where
+  abbrev es : List Entry
+  es = closed.history.coming
+
+  -- where none is to be read, the first is
+  first_work : Work
+  first_work = first_of works (let size = worked.works in omega arith)
+
+  first_task : CallerFace
+  first_task = first_of tasks (let size = worked.tasks in omega arith)
+
+  abbrev work : ℕ → Work
+  work k = get_or works k first_work
+
+  abbrev back : ℕ → CallerFace
+  back k = get_or tasks k first_task
+
+  one : (k : ℕ) → k < i + 3 → IsWorked deck i k b (work k) (back k)
+  one k lt = worked.each k first_work first_task lt
+
+  made : (k : ℕ) (lt : k < i + 3) → HasWorked (spool_setup deck i) deck i (work k) (one k lt).before (back k)
+  made k lt = subst (λ (c : Setup). HasWorked c deck i (work k) (one k lt).before (back k)) config (one k lt).come.1
+
+  part : (k : ℕ) → k < i + 3 → IsIn (spool_setup deck i) es (back k)
+  part k lt = subst (λ (c : Setup). IsIn c es (back k)) config
+      (one_of (IsIn b.config es) tasks k first_task within (let size = worked.tasks in omega arith))
+
   -- a call of the task of number k: it heard just the events that it made
-  module _ {A : Type 0} (call : Call A) (q : Program A) (k : ℕ) (lt : k < i + 3) (r : Ran call q (worked k lt).before (get_or tasks k d)) where
+  module _ {A : Type 0} (call : Call A) (q : Program A) (k : ℕ) (lt : k < i + 3) (r : Ran call q (one k lt).before (back k)) where
     heard : heard_in (spool_setup deck i) k es ≡ r.events
     heard =
-        let w = worked k lt in
-        let u = get_or tasks k d in
-        let part = one_of (IsIn (spool_setup deck i) es) tasks k d within (omega arith) in
-        let number : u.number ≡ k = w.same.number ∙ w.fresh.number in
+        let w = one k lt in
+        let u = back k in
+        let number : u.number ≡ k = w.come.0.number ∙ w.fresh.number in
         ap (λ n. heard_in (spool_setup deck i) n es) (sym number)
-        ∙ ap (λ log. noted log (told_to (spool_setup deck i) u.number es)) part.logged
-        ∙ ap (λ ws. noted u.log ws) part.told
+        ∙ ap (λ log. noted log (told_to (spool_setup deck i) u.number es)) (part k lt).logged
+        ∙ ap (λ ws. noted u.log ws) (part k lt).told
         ∙ heard_of call q w.before u r w.fresh.log w.fresh.told
 
     -- it began with nothing kept
-    begun : kept_of (worked k lt).before.number (worked k lt).before.log ≡ nothing_kept k
+    begun : kept_of (one k lt).before.number (one k lt).before.log ≡ nothing_kept k
     begun =
-        let w = worked k lt in ap (λ log. kept_of w.before.number log) w.fresh.log ∙ ap nothing_kept w.fresh.number
+        let w = one k lt in ap (λ log. kept_of w.before.number log) w.fresh.log ∙ ap nothing_kept w.fresh.number
 
     comes_to : left (call (nothing_kept k)) (heard_in (spool_setup deck i) k es) ≡ q
     comes_to = ap (λ hs. left (call (nothing_kept k)) hs) heard ∙ ap (λ kept. left (call kept) r.events) (sym begun) ∙ r.leaves
@@ -174,60 +191,70 @@ module _ (deck : List JobData) (i : ℕ) (b : BoardFace) (es : List Entry) (task
     says_so = subst (λ hs. Says (call (nothing_kept k)) hs) (sym heard) (subst (λ kept. Says (call kept) r.events) begun r.says)
 
   -- what the plan says of each task
-  planned_made : (k : ℕ) (lt : k < i + 3) → (a : List ℕ) × RanOut (task deck i k) a (worked k lt).before (get_or tasks k d)
-  planned_made k lt =
-      let w = worked k lt in
-      let made = plan_made deck i (get_or works k dw) w.before (get_or tasks k d) w.made in
-      (made.0, subst (λ n. RanOut (task deck i n) made.0 w.before (get_or tasks k d)) w.fresh.number made.1)
+  plan_of : (k : ℕ) (lt : k < i + 3) → RanOut (task deck i k) (answered i k (work k)) (one k lt).before (back k)
+  plan_of k lt =
+      let w = one k lt in
+      subst (λ n. RanOut (task deck i n) (answered i n (work k)) w.before (back k)) w.fresh.number
+      (plan_made deck i (work k) w.before (back k) (made k lt))
 
   follows : Follows deck i es
-  follows = record {
-    legal = legal;
-    callers = callers_exist (spool_setup deck i) (opening (spool_setup deck i)) es legal;
-    says = λ k lt. let made = planned_made k lt in says_so (task deck i k) made.1.last k lt made.1.ran;
-    waits = λ k lt early.
-        let made = planned_made k lt in
-        not_early made.0 made.1.last made.1.over (sym (comes_to (task deck i k) made.1.last k lt made.1.ran) ∙ early);
-  }
+  follows =
+      let own = subst (λ (c : Setup). Legal c es) config legal in record {
+        legal = own;
+        callers = callers_exist (spool_setup deck i) (opening (spool_setup deck i)) es own;
+        says = λ k lt. says_so (task deck i k) (plan_of k lt).last k lt (plan_of k lt).ran;
+        waits = λ k lt early.
+            subst (IsOver (answered i k (work k))) (sym (comes_to (task deck i k) (plan_of k lt).last k lt (plan_of k lt).ran) ∙ early)
+            (plan_of k lt).over;
+      }
 
-  module _ (some : 1 ≤ i) (sound : deck_is.IsSound deck i) where
-    right : (k : ℕ) → k < i + 3 → left_in (spool_setup deck i) (task_program deck i) k es ≡ Wrong → ⊥
-    right k lt wrong = none_wrong deck i some (planned deck i sound) es follows k lt wrong
+  -- since no task goes wrong, all are done
+  done_at : (k : ℕ) → k < i + 3 → left_in (spool_setup deck i) (task_program deck i) k es ≡ Done (answered i k (work k))
+  done_at k lt =
+      let comes = comes_to (task deck i k) (plan_of k lt).last k lt (plan_of k lt).ran in
+      comes ∙ is_done (answered i k (work k)) (plan_of k lt).last (plan_of k lt).over
+      (λ wrong. none_wrong deck i some (planned deck i sound) es follows k lt (comes ∙ wrong))
 
-    -- since no task goes wrong, all are done
-    pub is_run : IsRun deck i es
-    is_run = record {
-      follow = follows;
-      done = λ k lt.
-          let made = planned_made k lt in
-          let comes = comes_to (task deck i k) made.1.last k lt made.1.ran in
-          (made.0, comes ∙ is_done made.0 made.1.last made.1.over (λ wrong. right k lt (comes ∙ wrong)));
-    }
+  -- an initiator's part of the history says what it noted
+  records_said : (m : ℕ) → m < i → left (initiating_noted (spool_setup deck i) deck m (nothing_kept (initiator m)))
+      (heard_in (spool_setup deck i) (initiator m) es) ≡ Done (records (work (initiator m)))
+  records_said m low =
+      let c = spool_setup deck i in
+      let k = initiator m in
+      let lt : k < i + 3 = omega arith in
+      let w = one k lt in
+      let hs = heard_in c k es in
+      let kept = nothing_kept k in
+      let r = initiator_made deck i m (work k) w.before (back k) w.fresh.number low (made k lt) in
+      let comes = comes_to (initiating_noted c deck m) r.last k lt r.ran in
+      let plan = subst (λ call. left (call kept) hs ≡ Done (answered i k (work k))) (initiator_is deck i m low) (done_at k lt) in
+      let noted = alike_done_back NothingKept (left (initiating_noted c deck m kept) hs) (left (initiating c deck m kept) hs)
+      (answered i k (work k)) (alike_left NothingKept (initiating_noted c deck m kept) (initiating c deck m kept) hs
+      (initiating_alike c deck m kept)) plan in
+      noted.1 ∙ ap (λ rs. Done rs) (subst (IsOver (records (work k))) (sym comes ∙ noted.1) r.over)
 
-    -- the writer's part of the history says which ends it found
-    pub ends_said : left_in (spool_setup deck i) (task_program deck i) (writer i) es ≡ Done (ends_found (get_or works (writer i) dw))
-    ends_said =
-        let lt : writer i < i + 3 = omega arith in
-        let w = worked (writer i) lt in
-        let u = get_or tasks (writer i) d in
-        let ends = ends_found (get_or works (writer i) dw) in
-        let r = writer_made deck i (get_or works (writer i) dw) w.before u w.fresh.number w.made in
-        let own = subst (λ call. RanOut call ends w.before u) (sym (writer_is deck i)) r in
-        let comes = comes_to (task deck i (writer i)) own.last (writer i) lt own.ran in
-        comes ∙ is_done ends own.last own.over (λ wrong. right (writer i) lt (comes ∙ wrong))
-
-    -- and an initiator's, what it noted
-    pub records_said : (m : ℕ) → m < i → left (initiating_noted (spool_setup deck i) deck m (nothing_kept (initiator m)))
-        (heard_in (spool_setup deck i) (initiator m) es) ≡ Done (records (get_or works (initiator m) dw))
-    unfolding forgets
-    records_said m low =
-        let lt : initiator m < i + 3 = omega arith in
-        let w = worked (initiator m) lt in
-        let rs = records (get_or works (initiator m) dw) in
-        let r = initiator_made deck i m (get_or works (initiator m) dw) w.before (get_or tasks (initiator m) d) w.fresh.number low w.made in
-        let comes = comes_to (initiating_noted (spool_setup deck i) deck m) r.last (initiator m) lt r.ran in
-        let plan = forgets (spool_setup deck i) deck m rs r in
-        let own = subst (λ call. Ran call plan.last w.before (get_or tasks (initiator m) d)) (sym (initiator_is deck i m low)) plan.ran in
-        comes ∙ is_done rs r.last r.over (λ wrong. right (initiator m) lt
-        (comes_to (task deck i (initiator m)) plan.last (initiator m) lt own
-        ∙ forget_wrong r.last plan.last wrong (left_alike (spool_setup deck i) deck m rs r)))
+  -- so the history is a run, and what the tasks brought back is what their parts of it say
+  pub is_left : (brought : Brought) → closed.history.config ≡ b.config → closed.history.past ≡ [] → length es ≤ events_limit
+      → AreHeld b.config (after b.config es) closed.volumes
+      → map (λ r. r.jobs) brought.records.items ≡ drop 2 (map records (take (length works - 1) works))
+      → ((d : Work) → brought.ends.items ≡ ends_found (get_or works (length works - 1) d)) → IsLeft deck i closed brought
+  is_left brought own whole few held noted ends =
+      let size = worked.works in
+      let front : List Work = take (length works - 1) works in
+      let count : length front ≡ length works - 1 = length-take-le (length works - 1) works (omega arith) in record {
+        config = own ∙ config;
+        whole = whole;
+        run = record { follow = follows; done = λ k lt. (answered i k (work k), done_at k lt) };
+        few = few;
+        volumes = subst (λ (c : Setup). AreHeld c (after c es) closed.volumes) config held;
+        records = record {
+          count = ap (λ (rs : List (List JobRecord)). length rs) noted ∙ length-drop 2 (map records front) ∙ ap (λ n. n - 2) (length-map front records)
+              ∙ (let e : length front - 2 ≡ i = omega arith in e);
+          each = λ m lt. records_said m lt ∙ ap (λ (rs : List JobRecord). Done rs)
+              (sym (ap (λ (rs : List (List JobRecord)). get_or rs m []) noted ∙ get_or-drop 2 (map records front) m []
+              ∙ get_or-map records front (2 + m) first_work [] (omega arith) ∙ ap records (get_or-take (length works - 1) works (2 + m) first_work (omega arith))
+              ∙ ap (λ k. records (get_or works k first_work)) (let e : 2 + m ≡ initiator m = omega arith in e)));
+        };
+        ends = done_at (writer i) (omega arith) ∙ ap (λ (es : List ℕ). Done es) (writer_answered i (work (writer i))
+            ∙ sym (ends first_work ∙ ap (λ k. ends_found (get_or works k first_work)) (let e : length works - 1 ≡ writer i = omega arith in e)));
+      }

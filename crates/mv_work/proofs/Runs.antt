@@ -6,7 +6,7 @@ use Rattle.mv_calls.specs.Program.{Program, Do, Done, Early, Wrong, Call, Heard,
 use Rattle.mv_calls.specs.Program.{wrong}
 use Rattle.mv_calls.specs.Rest.{IsAtRest}
 use Rattle.mv_calls.proofs.Making.{kept_from-append}
-use Rattle.mv_calls.proofs.Programs.{going_on_left, going_on_says, one_on, same_says, left-append, Says-append}
+use Rattle.mv_calls.proofs.Programs.{one_on, same_says, left-append, Says-append}
 use Rattle.mv_wait.specs.Run.{IsServed}
 use Rattle.mv_wait.proofs.Runs.{served_runs, went_none, went_then}
 use Rattle.mv_work.specs.Ran.{Ran, RanOut, Leads}
@@ -46,24 +46,6 @@ pub ran_nothing : {A : Type 0} (call : Call A) {q : Program A} {t : CallerFace} 
     → Ran call q t t
 ran_nothing call {q} {t} is quiet = record { events = []; went = went_none t; says = tt; leaves = is; quiet = quiet }
 
--- a call that was done, and what followed it
-pub ran_followed : {A B : Type 0} {call : Call A} {a : A} {q : Program B} {t u v : CallerFace} → Ran call (Done a) t u
-    → (f : A → Call B) → Ran (f a) q u v → Ran (followed call f) q t v
-ran_followed {A} {B} {call} {a} {q} {t} {u} {v} x f y = record {
-  events = x.events ++ y.events;
-  went = went_then x.events y.events t u v x.went y.went;
-  says = going_on_says (kept_of t.number t.log) (call (kept_of t.number t.log)) f x.events y.events a x.says x.leaves
-      (subst (λ k. Says (f a k) y.events) (kept_then x) y.says);
-  leaves = going_on_left (kept_of t.number t.log) (call (kept_of t.number t.log)) f x.events y.events a x.says x.leaves
-      ∙ sym (ap (λ k. left (f a k) y.events) (kept_then x)) ∙ y.leaves;
-  quiet = y.quiet;
-}
-
--- and where nothing did
-pub ran_last : {A B : Type 0} {call : Call A} {a : A} {q : Program B} {t u : CallerFace} → Ran call (Done a) t u → (f : A → Call B)
-    → f a (kept_of u.number u.log) ≡ q → Ran (followed call f) q t u
-ran_last {A} {B} {call} {a} x f is = ran_followed x f (ran_nothing (f a) is x.quiet)
-
 -- what is left of a program is left of it with whatever was to follow
 rest_on : {A B : Type 0} (kept : Kept) (p : Program A) (f : A → Call B) (xs : List Heard) (r : Program A) → Says p xs → left p xs ≡ r
     → Says (going_on kept p f) xs × (left (going_on kept p f) xs ≡ going_on (kept_from kept (entries xs)) r f)
@@ -78,21 +60,45 @@ rest_on kept (Do o op next) f (x ∷ xs) r s d =
       ),
       ap (λ q. left q xs) one ∙ rest.1,
     )
-rest_on kept (Done b) f (x ∷ xs) r s d = absurd (cc s.0)
-rest_on kept Early f (x ∷ xs) r s d = absurd (cc s.0)
-rest_on kept Wrong f (x ∷ xs) r s d = absurd (cc s.0)
+rest_on kept p f (x ∷ xs) r s d = absurd (cc s.0)
+
+-- a call was run up to this program, and then what is to follow that
+ran_on : {A B : Type 0} {call : Call A} {p : Program A} {q : Program B} {t u v : CallerFace} → Ran call p t u → (f : A → Call B)
+    → (rest : Call B) → going_on (kept_of u.number u.log) p f ≡ rest (kept_of u.number u.log) → Ran rest q u v
+    → Ran (followed call f) q t v
+ran_on {call = call} {p = p} {t = t} x f rest so y =
+    let on = rest_on (kept_of t.number t.log) (call (kept_of t.number t.log)) f x.events p x.says x.leaves in
+    let is = on.1 ∙ sym (ap (λ kept. going_on kept p f) (kept_then x)) ∙ so in record {
+      events = x.events ++ y.events;
+      went = went_then x.events y.events t _ _ x.went y.went;
+      says = Says-append (followed call f (kept_of t.number t.log)) x.events y.events on.0 (subst (λ p. Says p y.events) (sym is) y.says);
+      leaves = left-append (followed call f (kept_of t.number t.log)) x.events y.events ∙ ap (λ p. left p y.events) is ∙ y.leaves;
+      quiet = y.quiet;
+    }
+
+-- a call that was done, and what followed it
+pub ran_followed : {A B : Type 0} {call : Call A} {a : A} {q : Program B} {t u v : CallerFace} → Ran call (Done a) t u
+    → (f : A → Call B) → Ran (f a) q u v → Ran (followed call f) q t v
+ran_followed {a = a} x f y = ran_on x f (f a) refl y
+
+-- and where nothing did
+pub ran_last : {A B : Type 0} {call : Call A} {a : A} {q : Program B} {t u : CallerFace} → Ran call (Done a) t u → (f : A → Call B)
+    → f a (kept_of u.number u.log) ≡ q → Ran (followed call f) q t u
+ran_last {A} {B} {call} {a} x f is = ran_followed x f (ran_nothing (f a) is x.quiet)
 
 -- a call that went wrong is wrong with whatever was to follow
 pub ran_astray : {A B : Type 0} {call : Call A} {t u : CallerFace} → Ran call Wrong t u → (f : A → Call B)
     → Ran (followed call f) Wrong t u
-ran_astray {A} {B} {call} {t} {u} x f =
-    let on = rest_on (kept_of t.number t.log) (call (kept_of t.number t.log)) f x.events Wrong x.says x.leaves in
-    record { events = x.events; went = x.went; says = on.0; leaves = on.1; quiet = x.quiet }
+ran_astray x f = ran_on x f wrong refl (ran_nothing wrong refl x.quiet)
 
 -- ---- what is left to do of a call
 
 pub leads_all : {A : Type 0} (whole : Call A) (t : CallerFace) → Leads whole whole t t
 leads_all whole t q v r = r
+
+-- the task is the same
+pub leads_same : {A : Type 0} {whole rest : Call A} {t u : CallerFace} → Leads whole rest t u → IsAtRest u.log → IsSame t u
+leads_same {rest = rest} {u = u} k quiet = (k (rest (kept_of u.number u.log)) u (ran_nothing rest refl quiet)).went.same
 
 -- the next call of the rest was done
 pub leads_on : {A B : Type 0} {whole : Call B} {call : Call A} {a : A} {t u v : CallerFace} (f : A → Call B)
@@ -109,10 +115,6 @@ pub leads_done : {A : Type 0} {whole : Call A} {a : A} {t u : CallerFace} → Le
     → Ran whole (Done a) t u
 leads_done {A} {whole} {a} {t} {u} k quiet = k (Done a) u (ran_nothing (finished a) refl quiet)
 
--- what is left to do is foreseen nowhere
-pub leads_wrong : {A : Type 0} {whole : Call A} {t u : CallerFace} → Leads whole wrong t u → IsAtRest u.log → Ran whole Wrong t u
-leads_wrong {A} {whole} {t} {u} k quiet = k Wrong u (ran_nothing wrong refl quiet)
-
 -- the rest of the rest
 pub leads_then : {A : Type 0} {whole rest last : Call A} {t u v : CallerFace} → Leads whole rest t u → Leads rest last u v
     → Leads whole last t v
@@ -121,17 +123,8 @@ leads_then k l q w r = k q w (l q w r)
 -- a call was run up to this rest of it: so it was with whatever is to follow
 pub leads_under : {A B : Type 0} {call rest : Call A} {t u : CallerFace} (f : A → Call B) → Leads call rest t u → IsAtRest u.log
     → Leads (followed call f) (followed rest f) t u
-leads_under {A} {B} {call} {rest} {t} {u} f k quiet q v y =
-    let x = k (rest (kept_of u.number u.log)) u (ran_nothing rest refl quiet) in
-    let on = rest_on (kept_of t.number t.log) (call (kept_of t.number t.log)) f x.events (rest (kept_of u.number u.log)) x.says x.leaves in
-    let is = on.1 ∙ sym (ap (λ kept. going_on kept (rest (kept_of u.number u.log)) f) (kept_then x)) in record {
-      events = x.events ++ y.events;
-      went = went_then x.events y.events t u v x.went y.went;
-      says = Says-append (followed call f (kept_of t.number t.log)) x.events y.events on.0
-          (subst (λ p. Says p y.events) (sym is) y.says);
-      leaves = left-append (followed call f (kept_of t.number t.log)) x.events y.events ∙ ap (λ p. left p y.events) is ∙ y.leaves;
-      quiet = y.quiet;
-    }
+leads_under {rest = rest} {u = u} f k quiet q v y =
+    ran_on (k (rest (kept_of u.number u.log)) u (ran_nothing rest refl quiet)) f (followed rest f) refl y
 
 -- ---- all events were made
 
@@ -149,4 +142,4 @@ leads_out {A} {whole} {rest} {a} {t} {u} {v} k r = record { last = r.last; over 
 -- what is left to do is foreseen nowhere
 pub astray : {A : Type 0} {whole rest : Call A} {t u : CallerFace} → Leads whole rest t u → rest ≡ wrong → IsAtRest u.log
     → Ran whole Wrong t u
-astray {A} {whole} {rest} {t} {u} k is quiet = leads_wrong (subst (λ r. Leads whole r t u) is k) quiet
+astray {rest = rest} {u = u} k is quiet = k Wrong u (ran_nothing rest (ap (λ call. call (kept_of u.number u.log)) is) quiet)

@@ -12,13 +12,12 @@ use Rattle.mv_machine.specs.Setup.{Setup}
 use Rattle.mv_machine.specs.System.{with_at}
 use Rattle.mv_calls.specs.Keeping.{kept_of}
 use Rattle.mv_calls.specs.LatchCalls.{obtain, release_latch}
-use Rattle.mv_calls.specs.Program.{Call, Done, Wrong, followed, accepted, unrefused, finished, wrong}
+use Rattle.mv_calls.specs.Program.{Call, Done, Wrong, followed, accepted, unrefused, wrong}
 use Rattle.mv_calls.specs.Refusal.{Refusal}
 use Rattle.mv_calls.specs.Rest.{IsAtRest}
 use Rattle.mv_calls.specs.Waits.{read_volume, write_volume}
 use Rattle.mv_deck.specs.declared.deck.Step.{Step}
 use Rattle.mv_deck.specs.declared.deck.Step.TheVariants as step
-use Rattle.mv_deck.specs.declared.deck.Text.{Text}
 use Rattle.mv_deck.specs.Deck.{JobData}
 use Rattle.mv_latchset.specs.declared.token.LatchToken.{LatchToken}
 use Rattle.mv_plan.proofs.lists.Lists.{all_get}
@@ -34,14 +33,14 @@ use Rattle.mv_work.specs.declared.running.Did.{Did}
 use Rattle.mv_work.specs.declared.running.Did.TheVariants as did
 use Rattle.mv_work.specs.declared.stage.InitiatorStage.TheVariants as stage
 use Rattle.mv_work.specs.declared.stage.Running.{Running}
-use Rattle.mv_work.specs.Initiating.{AreGiven, IsAtJob, initiator_left, jobs_of_records, rounds_after, steps_from, steps_then}
+use Rattle.mv_work.specs.Initiating.{AreGiven, IsAtJob, initiator_left, jobs_of_records, rounds_after, steps_then}
 use Rattle.mv_work.specs.Needs.{need_call}
-use Rattle.mv_work.specs.Noting.{record_of, steps_noted}
-use Rattle.mv_work.specs.Ran.{Ran, Leads}
+use Rattle.mv_work.specs.Noting.{steps_noted}
+use Rattle.mv_work.specs.Ran.{Ran}
 use Rattle.mv_work.specs.Records.{JobRecord, Recorded}
 use Rattle.mv_work.specs.Steps.{AreKept, DoesStep, requests_of}
 use Rattle.mv_work.proofs.Calls.{latch_asked}
-use Rattle.mv_work.proofs.Runs.{leads_astray, leads_on, leads_then, leads_under, ran_followed, ran_last, ran_nothing, served_as}
+use Rattle.mv_work.proofs.Runs.{ran_followed, ran_last, ran_nothing, served_as}
 
 -- the number of a request
 abbrev pub id_of : LatchToken → ℕ
@@ -86,9 +85,6 @@ module _ (c : Setup) (job : ℕ) (tokens : List (Option LatchToken)) (place : �
   -- what is left behind a step, where this is noted
   abbrev rest : List Noted → List Step → Call JobRecord
   rest after steps = steps_noted c job (requests_of tokens) (place + 1) after steps
-
-  pub prints : (text : Text) → DoesStep c job tokens place notes (step.Print text) (Ok did.Went) (notes ++ Printed place ∷ []) t t
-  prints text steps q v x = x
 
   pub unheld : (latch : ℕ) → get_or tokens latch None ≡ None → IsAtRest t.log
       → DoesStep c job tokens place notes (step.Free latch) lost notes t t
@@ -145,12 +141,6 @@ module _ (c : Setup) (job : ℕ) (tokens : List (Option LatchToken)) (place : �
       (λ once. followed (read_volume volume) (λ again. rest (notes ++ Scanned place once again ∷ []) steps))
       (ran_followed (served_as y) (λ again. rest (notes ++ Scanned place n again ∷ []) steps) z)
 
-  pub abends : (code : ℕ) → IsAtRest t.log → DoesStep c job tokens place notes (step.Abend code) (Ok (did.Ended code)) notes t t
-  abends code quiet steps = ran_nothing (finished (record_of job code notes)) refl quiet
-
-  pub returns : (code : ℕ) → IsAtRest t.log → DoesStep c job tokens place notes (step.Return code) (Ok (did.Ended code)) notes t t
-  returns code quiet steps = ran_nothing (finished (record_of job code notes)) refl quiet
-
 -- a job that has no request yet
 pub no_requests : (tokens : List (Option LatchToken)) → AllByRecursion (λ o. o ≡ None) tokens → requests_of tokens ≡ (λ (latch : ℕ). None)
 no_requests tokens all i latch = ap (λ o. option_map id_of o) (all_get (λ o. o ≡ None) tokens latch None all refl) i
@@ -168,7 +158,7 @@ none_kept = record { count = refl; own = λ latch t at. absurd (cc (sym (all_get
 -- ---- the steps of a job, with what follows them
 
 -- the next is a USE, whose latch is asked for
-latch_needed : (c : Setup) (deck : List JobData) (me : ℕ) (notes : Notes) (r : Running) (place : ℕ) (mode : Mode) → r.step ≡ place + 1
+pub latch_needed : (c : Setup) (deck : List JobData) (me : ℕ) (notes : Notes) (r : Running) (place : ℕ) (mode : Mode) → r.step ≡ place + 1
     → followed (steps_noted c r.job (requests_of r.requests) place notes.noted.notes
     (step.Use r.latch mode ∷ drop r.step (job_at deck r.job).steps))
     (steps_then c deck me (rounds_after deck r.round) notes.noted.jobs r.next r.job)
@@ -180,49 +170,6 @@ latch_needed c deck me notes r place mode is =
     ∙ latch_asked c r.latch (r.job + 1) mode
     (λ id. steps_noted c r.job (with_at (requests_of r.requests) r.latch (Some id)) r.step notes.noted.notes (drop r.step (job_at deck r.job).steps))
     (steps_then c deck me (rounds_after deck r.round) notes.noted.jobs r.next r.job)
-
-module _ (c : Setup) (deck : List JobData) (me : ℕ) (r : Running) (place : ℕ) (next : Step)
-    (begins : drop place (job_at deck r.job).steps ≡ next ∷ drop (place + 1) (job_at deck r.job).steps) (old new : Notes)
-    (jobs : new.noted.jobs ≡ old.noted.jobs) {whole : Call (List JobRecord)} {t u : CallerFace}
-    (left : Leads whole (steps_from c deck me old r place (requests_of r.requests)) t u) where
-  -- the steps behind this one, the next of which stands in front of them, and what follows all
-  abbrev pub behind : List Step
-  behind = drop (place + 1) (job_at deck r.job).steps
-
-  abbrev pub steps_now : List Noted → List Step → Call JobRecord
-  steps_now notes steps = steps_noted c r.job (requests_of r.requests) place notes steps
-
-  abbrev pub tail : List JobRecord → JobRecord → Call (List JobRecord)
-  tail records = steps_then c deck me (rounds_after deck r.round) records r.next r.job
-
-  next_left : Leads whole (followed (steps_now old.noted.notes (next ∷ behind)) (tail new.noted.jobs)) t u
-  next_left = subst (λ records. Leads whole (followed (steps_now old.noted.notes (next ∷ behind)) (tail records)) t u) (sym jobs)
-      (subst (λ steps. Leads whole (followed (steps_now old.noted.notes steps) (tail old.noted.jobs)) t u) begins left)
-
-  -- the next was done
-  pub step_done : {v : CallerFace} → Leads (steps_now old.noted.notes (next ∷ behind))
-      (steps_noted c r.job (requests_of r.requests) (place + 1) new.noted.notes behind) u v → IsAtRest v.log
-      → Leads whole (steps_from c deck me new r (place + 1) (requests_of r.requests)) t v
-  step_done does quiet = leads_then next_left (leads_under (tail new.noted.jobs) does quiet)
-
-  -- it ended the job
-  pub step_ended : {v : CallerFace} (end : ℕ) → Ran (steps_now old.noted.notes (next ∷ behind)) (Done (record_of r.job end new.noted.notes)) u v
-      → Leads whole (tail new.noted.jobs (record_of r.job end new.noted.notes)) t v
-  step_ended end x = leads_on (tail new.noted.jobs) next_left x
-
-  -- the task is lost
-  pub step_lost : {v : CallerFace} → Ran (steps_now old.noted.notes (next ∷ behind)) Wrong u v → Ran whole Wrong t v
-  step_lost x = leads_astray (tail new.noted.jobs) next_left x
-
-  -- it is a USE, whose latch is asked for
-  pub step_asks : {v : CallerFace} (latch : ℕ) (mode : Mode) → next ≡ step.Use latch mode → new.noted.notes ≡ old.noted.notes → v ≡ u
-      → Leads whole (followed (need_call c (need.Latch latch (r.job + 1) mode))
-      (initiator_left c deck me new (stage.Latch (record r { step = place + 1; latch = latch })))) t v
-  step_asks {v} latch mode is same still =
-      subst (λ call. Leads whole call t v) (latch_needed c deck me new (record r { step = place + 1; latch = latch }) place mode refl)
-      (subst (λ w. Leads whole (followed (steps_now new.noted.notes (step.Use latch mode ∷ behind)) (tail new.noted.jobs)) t w) (sym still)
-      (subst (λ notes. Leads whole (followed (steps_now notes (step.Use latch mode ∷ behind)) (tail new.noted.jobs)) t u) (sym same)
-      (subst (λ s. Leads whole (followed (steps_now old.noted.notes (s ∷ behind)) (tail new.noted.jobs)) t u) is next_left)))
 
 -- a job that still runs, with what is noted now
 pub still_at : {deck : List JobData} {old : Notes} {round job marks : ℕ} (noted : Recorded) (less : ℕ) → noted.jobs ≡ old.noted.jobs

@@ -1,18 +1,18 @@
 -- A task that comes to its next wait. Used by all that ask for something, and by begin and go_on.
 use Rattle.std.proofs.Common.{◌≡◌, ℕ, ◌+◌, ◌≤◌, Option, Some, None, ap, ◌∙◌, subst, arith}
-use Rattle.mv_board.specs.Faces.{BoardFace, CallerFace, IsSame}
+use Rattle.mv_board.specs.Faces.{BoardFace, CallerFace}
 use Rattle.mv_calls.specs.Keeping.{kept_of}
-use Rattle.mv_calls.specs.Program.{Call, Done, Wrong, wrong}
+use Rattle.mv_calls.specs.Program.{Call, Done, Wrong, followed, wrong}
 use Rattle.mv_calls.specs.Rest.{IsAtRest}
 use Rattle.mv_machine.specs.Setup.{Setup}
-use Rattle.mv_wait.proofs.Runs.{same_then, same_caller}
+use Rattle.mv_wait.proofs.Runs.{same_then}
 use Rattle.mv_wait.specs.Run.{IsServed}
 use Rattle.mv_work.specs.declared.need.Got.{Got}
 use Rattle.mv_work.specs.declared.need.Need.{Need}
 use Rattle.mv_work.specs.Needs.{answer_of, need_call, need_events}
 use Rattle.mv_work.specs.Ran.{Ran, Leads}
 use Rattle.mv_work.specs.Waiting.{Asks, AsksFor, Comes, ComesTo, IsResting, Stages, Told, Waits}
-use Rattle.mv_work.proofs.Runs.{astray, leads_all, leads_on, leads_out, leads_then, out_done, out_wrong, ran_nothing, served_few, served_ran, still_of}
+use Rattle.mv_work.proofs.Runs.{astray, leads_all, leads_on, leads_out, leads_same, leads_then, out_done, out_wrong, ran_nothing, served_few, served_ran, still_of}
 
 -- a task at rest, with fewer events that it needs
 pub rests_less : {b : BoardFace} {most less : ℕ} {u : CallerFace} → IsResting b most u → less ≤ most → IsResting b less u
@@ -39,46 +39,45 @@ leads_as {A} {whole} {rest} u is = subst (λ call. Leads whole call u u) is (lea
 module _ {S A : Type 0} {b : BoardFace} {stages : Stages S A} {Fits : S → Need → Type 0} {a : A} where
   -- what is left to do, asked for, is what the task comes to
   pub asks_come : {rest whole : Call A} {t u : CallerFace} {most : ℕ} {next : Option (S × Need)}
-      → Asks b.config stages Fits a rest most next → IsSame t u → Leads whole rest t u → IsResting b most u
+      → Asks b.config stages Fits a rest most next → Leads whole rest t u → IsResting b most u
       → Comes b stages Fits a whole t next u
-  asks_come {rest} {whole} {t} {u} {most} {next} asks same leads rests = record { come = go next asks.asks } where
+  asks_come {rest} {whole} {t} {u} {most} {next} asks leads rests = record { come = go next asks.asks } where
     go : (next : Option (S × Need)) → AsksFor b.config stages Fits a rest most next → ComesTo b stages Fits a whole t next u
     go (Some next) asks = record {
-      same = same;
+      same = leads_same leads rests.quiet;
       rests = rests_less rests asks.2;
       fits = asks.1;
       leads = subst (λ r. Leads whole r t u) asks.0 leads;
     }
-    go None asks = (
-      same,
-      out_done (leads (Done a) u (ran_nothing rest (asks (kept_of u.number u.log)) rests.quiet)),
-    )
+    go None asks = out_done (leads (Done a) u (ran_nothing rest (asks (kept_of u.number u.log)) rests.quiet))
 
   -- with nothing done before
   pub asks_first : {rest : Call A} {u : CallerFace} {most : ℕ} {next : Option (S × Need)} → Asks b.config stages Fits a rest most next
       → IsResting b most u → Comes b stages Fits a rest u next u
-  asks_first {rest} {u} asks rests = asks_come asks (same_caller u) (leads_all rest u) rests
+  asks_first {rest} {u} asks rests = asks_come asks (leads_all rest u) rests
 
   -- what was left to do has come to its next wait: so has the whole
-  pub comes_on : {rest whole : Call A} {t u v : CallerFace} {next : Option (S × Need)} → IsSame t u → Leads whole rest t u
+  pub comes_on : {rest whole : Call A} {t u v : CallerFace} {next : Option (S × Need)} → Leads whole rest t u
       → Comes b stages Fits a rest u next v → Comes b stages Fits a whole t next v
-  comes_on {rest} {whole} {t} {u} {v} {next} same leads w = record { come = go next w.come } where
+  comes_on {rest} {whole} {t} {u} {v} {next} leads w = record { come = go next w.come } where
     go : (next : Option (S × Need)) → ComesTo b stages Fits a rest u next v → ComesTo b stages Fits a whole t next v
-    go (Some next) w = record { same = same_then t u v same w.same; rests = w.rests; fits = w.fits; leads = leads_then leads w.leads }
-    go None w = (same_then t u v same w.0, leads_out leads w.1)
+    go (Some next) w =
+        let all : Leads whole (followed (need_call b.config next.1) (stages.then next.0)) t v = leads_then leads w.leads in
+        record { same = leads_same all w.rests.quiet; rests = w.rests; fits = w.fits; leads = all }
+    go None w = leads_out leads w
 
   -- what is left to do, by another name
   pub comes_as : {rest whole : Call A} {u v : CallerFace} {next : Option (S × Need)} → whole ≡ rest
       → Comes b stages Fits a rest u next v → Comes b stages Fits a whole u next v
-  comes_as {rest} {whole} {u} is w = comes_on (same_caller u) (leads_as u is) w
+  comes_as {rest} {whole} {u} is w = comes_on (leads_as u is) w
 
   -- a call of it went astray
-  pub comes_astray : {whole : Call A} {u v : CallerFace} → IsSame u v → Ran whole Wrong u v → Comes b stages Fits a whole u None v
-  comes_astray same x = record { come = (same, out_wrong a x) }
+  pub comes_astray : {whole : Call A} {u v : CallerFace} → Ran whole Wrong u v → Comes b stages Fits a whole u None v
+  comes_astray x = record { come = out_wrong a x }
 
   -- it is foreseen nowhere
   pub comes_nowhere : {whole : Call A} (u : CallerFace) → whole ≡ wrong → IsAtRest u.log → Comes b stages Fits a whole u None u
-  comes_nowhere {whole} u is quiet = comes_astray (same_caller u) (astray (leads_all whole u) is quiet)
+  comes_nowhere {whole} u is quiet = comes_astray (astray (leads_all whole u) is quiet)
 
 -- what is asked for, by another name, and by no more events
 pub asks_as : {S A : Type 0} {c : Setup} {stages : Stages S A} {Fits : S → Need → Type 0} {a : A} {rest whole : Call A} {less most : ℕ}

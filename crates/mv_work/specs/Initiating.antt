@@ -81,9 +81,11 @@ step_marks (Print text) = 1
 step_marks (Scan volume) = 1
 step_marks other = 0
 
+-- the marks of these steps
 abbrev pub steps_marks : List Step → ℕ
 steps_marks steps = sum_by step_marks steps
 
+-- the events that these steps may make
 abbrev pub steps_events : List Step → ℕ
 steps_events steps = sum_by step_events steps
 
@@ -101,6 +103,7 @@ events_left = left_of (λ job. steps_events job.steps)
 abbrev pub job_marks : JobData → ℕ
 job_marks job = steps_marks job.steps + 1
 
+-- the marks of the jobs that were not given yet
 abbrev pub marks_left : List Bool → List JobData → ℕ
 marks_left = left_of job_marks
 
@@ -114,6 +117,7 @@ initiator_due deck given (Pause round) = 1 + 7 * (length deck - round) + events_
 initiator_due deck given (Latch r) =
     steps_events (drop r.step (job_at deck r.job).steps) + 4 + rounds_due deck given (r.round + 1)
 
+-- what an initiator with these notes has left at each stage
 abbrev pub initiator_stages : Setup → List JobData → ℕ → Notes → Stages InitiatorStage (List JobRecord)
 initiator_stages c deck me notes =
     record { then = initiator_left c deck me notes; due = initiator_due deck notes.given.items }
@@ -150,6 +154,7 @@ pub record IsRunning (deck : List JobData) (me : ℕ) (notes : Notes) (r : Runni
   pub next : IsOwn me r.next
   pub kept : AreKept r.requests
 
+-- an initiator that waits at this stage
 abbrev pub IsInitiating : List JobData → ℕ → Notes → InitiatorStage → Type 0
 IsInitiating deck me notes (Pause round) = IsBetween deck notes round
 IsInitiating deck me notes (Latch r) = IsRunning deck me notes r × (r.latch ≤ 7)

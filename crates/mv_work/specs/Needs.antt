@@ -1,5 +1,5 @@
 -- What a task waits for, as a call; and what it is told then.
-use Rattle.std.specs.Prelude.{ℕ, ◌*◌, List, Option, take}
+use Rattle.std.specs.Prelude.{◌≡◌, ℕ, ◌*◌, List, Option, length, take}
 use Rattle.mv_latch.specs.declared.request.LatchForm.TheVariants.{Waiting}
 use Rattle.mv_machine.specs.Setup.{Setup}
 use Rattle.mv_calls.specs.LatchCalls.{obtain}
@@ -9,6 +9,7 @@ use Rattle.mv_calls.specs.Waits.{wait}
 use Rattle.mv_pause.specs.Answers.{gift_of}
 use Rattle.mv_plan.specs.SpoolTasks.{granted_as}
 use Rattle.mv_wait.specs.Answers.{slots_of}
+use Rattle.mv_work.specs.declared.need.Blocks.{Blocks}
 use Rattle.mv_work.specs.declared.need.Need.{Need}
 use Rattle.mv_work.specs.declared.need.Need.TheVariants as need
 use Rattle.mv_work.specs.declared.need.Got.{Got}
@@ -19,6 +20,13 @@ pub data Answer : Type 0 where
   Slots : (slots : List (Option ℕ)) → Answer
   Gave : (gift : Gift) → Answer
   Holds : (id : ℕ) → Answer
+
+-- to wait until so many of these blocks are complete
+pub record IsWaitFor (n : ℕ) (es : List ℕ) (b : Blocks) : Type 0 where
+  pub count : b.count ≡ n
+  pub len : b.len ≡ length es
+  pub blocks : take b.len b.of ≡ es
+  pub room : length b.of ≡ 8
 
 -- the call that a need is. It is not to be refused
 abbrev pub need_call : Setup → Need → Call Answer

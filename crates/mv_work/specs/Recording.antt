@@ -1,17 +1,24 @@
 -- What the records of all initiators come to. Of a run there is one of each job, and it is right; and records give lines.
-use Rattle.std.specs.Prelude.{◌≡◌, ℕ, ◌+◌, ◌<◌, ◌==◌, Bool, List, [], ◌∷◌, length, filter, flat_map, fold, replicate, set, Option, Some}
-use Rattle.std.specs.Prelude.{slice_get, slice_index_or}
+use Rattle.std.specs.Prelude.{◌≡◌, ℕ, ◌+◌, ◌<◌, ◌==◌, ◌≤◌, Bool, List, [], ◌∷◌, length, filter, flat_map, fold, map, replicate, set}
+use Rattle.std.specs.Prelude.{Option, Some, slice_get, slice_index_or}
 use Rattle.std.specs.List.{AllByRecursion}
+use Rattle.mv_board.specs.declared.closing.Closed.{Closed}
+use Rattle.mv_board.specs.Faces.{AreHeld}
 use Rattle.mv_machine.specs.declared.entry.Entry.{Entry}
+use Rattle.mv_machine.specs.Legal.{after}
+use Rattle.mv_machine.specs.Limits.{events_limit}
 use Rattle.mv_calls.specs.Keeping.{nothing_kept}
 use Rattle.mv_calls.specs.Program.{Done, left}
-use Rattle.mv_calls.specs.Runs.{heard_in}
+use Rattle.mv_calls.specs.Runs.{heard_in, left_in}
 use Rattle.mv_deck.specs.Deck.{JobData}
 use Rattle.mv_deck.specs.declared.deck.Step.{Step}
 use Rattle.mv_deck.specs.declared.deck.Step.TheVariants.{Print, Use, Free, Count, Scan, Abend, Return}
 use Rattle.mv_report.specs.Outcome.{print_line, scan_line, steps_with}
 use Rattle.mv_plan.specs.Jobs.{job_at, end_of}
-use Rattle.mv_plan.specs.SpoolSetup.{spool_setup, initiator}
+use Rattle.mv_plan.specs.SpoolRun.{IsRun}
+use Rattle.mv_plan.specs.SpoolSetup.{spool_setup, initiator, writer}
+use Rattle.mv_plan.specs.SpoolTasks.{task_program}
+use Rattle.mv_work.specs.declared.bringing.Brought.{Brought}
 use Rattle.mv_work.specs.declared.records.Noted.{Noted}
 use Rattle.mv_work.specs.declared.records.Noted.TheVariants.{Printed, Scanned}
 use Rattle.mv_work.specs.Noting.{initiating_noted}
@@ -56,6 +63,17 @@ pub record AreBrought (deck : List JobData) (initiators : ℕ) (es : List Entry)
 -- the records of all initiators
 abbrev pub all_records : List (List JobRecord) → List JobRecord
 all_records records = flat_map (λ rs. rs) records
+
+-- what a closed run of the deck left, and what its tasks brought back: what the initiators noted, and which ends the writer found
+pub record IsLeft (deck : List JobData) (initiators : ℕ) (closed : Closed) (brought : Brought) : Type 0 where
+  pub config : closed.history.config ≡ spool_setup deck initiators
+  pub whole : closed.history.past ≡ []
+  pub run : IsRun deck initiators closed.history.coming
+  pub few : length closed.history.coming ≤ events_limit
+  pub volumes : AreHeld (spool_setup deck initiators) (after (spool_setup deck initiators) closed.history.coming) closed.volumes
+  pub records : AreBrought deck initiators closed.history.coming (map (λ r. r.jobs) brought.records.items)
+  pub ends : left_in (spool_setup deck initiators) (task_program deck initiators) (writer initiators) closed.history.coming
+      ≡ Done brought.ends.items
 
 -- ---- the lines that records give
 

@@ -73,6 +73,7 @@ scheduler_due deck i (Ends j) = 3 + 2 * i + jobs_due deck i (j + 1)
 scheduler_due deck i (Idle j skipped) = 2 + jobs_due deck i (j + 1)
 scheduler_due deck i (Dismissal m) = 2 + 4 * (i - (m + 1))
 
+-- what the scheduler has left at each stage
 abbrev pub scheduler_stages : Setup → List JobData → ℕ → Stages SchedulerStage (List ℕ)
 scheduler_stages c deck i = record { then = scheduler_left c deck i; due = scheduler_due deck i }
 

@@ -54,7 +54,7 @@ pub record Told {S A : Type 0} (b : BoardFace) (stages : Stages S A) (Answers : 
 abbrev pub ComesTo : {S A : Type 0} → BoardFace → Stages S A → (S → Need → Type 0) → A → Call A → CallerFace → Option (S × Need)
     → CallerFace → Type 0
 ComesTo b stages Fits a whole t (Some next) u = Waits b stages Fits whole t next.0 next.1 u
-ComesTo b stages Fits a whole t None u = IsSame t u × RanOut whole a t u
+ComesTo b stages Fits a whole t None u = RanOut whole a t u
 
 -- the same as a record, so that lemmas find what they speak of
 pub record Comes {S A : Type 0} (b : BoardFace) (stages : Stages S A) (Fits : S → Need → Type 0) (a : A) (whole : Call A) (t : CallerFace)

@@ -1,7 +1,8 @@
 -- The work of a task: where it waits, and what it comes to. Jobs and initiators are counted from 0; tasks have their numbers.
 use Rattle.std.specs.Prelude.{◌≡◌, ℕ, ◌+◌, ◌-◌, ◌<◌, ◌≤◌, ◌==◌, false, List, [], length, vec_capacity, Option, Some, None, MatchBool}
+use Rattle.std.specs.Prelude.{slice_index_or}
 use Rattle.std.specs.List.{AllByRecursion}
-use Rattle.mv_board.specs.Faces.{BoardFace, CallerFace, IsSame}
+use Rattle.mv_board.specs.Faces.{BoardFace, CallerFace, IsFresh, IsSame}
 use Rattle.mv_machine.specs.Setup.{Setup}
 use Rattle.mv_deck.specs.Deck.{JobData}
 use Rattle.mv_plan.specs.SpoolSetup.{reader, scheduler, writer, initiator}
@@ -31,6 +32,7 @@ pub record IsNew (deck : List JobData) (i k : ℕ) (w : Work) : Type 0 where
 abbrev pub records : Work → List JobRecord
 records w = w.notes.noted.jobs
 
+-- the ends that the writer found
 abbrev pub ends_found : Work → List ℕ
 ends_found w = w.ends.items
 
@@ -72,3 +74,15 @@ HasCome b deck i w t None u = IsSame t u × HasWorked b.config deck i w t u
 -- The task, which was t when it was new, was told what it waited for.
 abbrev pub WasTold : BoardFace → List JobData → ℕ → Work → CallerFace → Got → CallerFace → Type 0
 WasTold b deck i w t g u = ToldAt b deck i w w.stage t g u
+
+-- Task k of the board was new once. It has made all its events, and the work has what it brings back.
+pub record IsWorked (deck : List JobData) (i k : ℕ) (b : BoardFace) (w : Work) (u : CallerFace) : Type 0 where
+  pub before : CallerFace
+  pub fresh : IsFresh b k before
+  pub come : HasCome b deck i w before None u
+
+-- So each task has, in the order of their numbers.
+pub record AreWorked (deck : List JobData) (i : ℕ) (b : BoardFace) (ws : List Work) (ts : List CallerFace) : Type 0 where
+  pub works : length ws ≡ i + 3
+  pub tasks : length ts ≡ i + 3
+  pub each : (k : ℕ) (w : Work) (t : CallerFace) → k < i + 3 → IsWorked deck i k b (slice_index_or ws k w) (slice_index_or ts k t)

@@ -23,6 +23,7 @@ end_found c n ends j position end = ends_from c n (ends ++ end ∷ []) (j + 1)
 abbrev pub writer_left : Setup → ℕ → List ℕ → ℕ → Answer → Call (List ℕ)
 writer_left c n ends j = on_slots (lowest (end_found c n ends j) 0)
 
+-- what the writer has left at each stage, where these ends were found
 abbrev pub writer_stages : Setup → ℕ → List ℕ → Stages ℕ (List ℕ)
 writer_stages c n ends = record { then = writer_left c n ends; due = λ j. 2 * (n - (j + 1)) }
 

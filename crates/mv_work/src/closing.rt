@@ -1,19 +1,18 @@
 //! What a run came to, made of what its tasks brought back, and of what its board left. Clauses cite `specs/Recording.antt`.
 
-ghost use Rattle.std.specs.Prelude.{◌≡◌, ◌≤◌, [], map, slice_index, IfOk};
+ghost use Rattle.std.specs.Prelude.{◌≡◌, ◌≤◌, [], All, length, map, slice_index, IfOk};
 ghost use Rattle.std.specs.List.{range_with_len};
-ghost use Rattle.mv_board.specs.Faces.{AreHeld};
 ghost use Rattle.mv_calls.specs.Program.{Done};
 ghost use Rattle.mv_calls.specs.Runs.{left_in};
 ghost use Rattle.mv_deck.specs.Deck.{deck_data};
 ghost use Rattle.mv_deck.specs.Operand.{volume_count};
 ghost use Rattle.mv_deck.specs.Sound.{IsSound};
-ghost use Rattle.mv_machine.specs.Legal.{after};
+ghost use Rattle.mv_machine.specs.Limits.{events_limit, highest_place};
 ghost use Rattle.mv_plan.specs.SpoolRun.{IsRun};
 ghost use Rattle.mv_plan.specs.SpoolSetup.{spool_setup, writer};
 ghost use Rattle.mv_plan.specs.SpoolTasks.{task_program};
 ghost use Rattle.mv_report.specs.Outcome.{ends as ends_of_deck, lines as lines_of_deck, totals};
-ghost use Rattle.mv_work.specs.Recording.{AreBrought, all_records, lines_recorded as lines_of_records};
+ghost use Rattle.mv_work.specs.Recording.{AreBrought, IsLeft, all_records, lines_recorded as lines_of_records};
 
 use crate::bringing::Brought;
 use crate::records::InitiatorRecord;
@@ -24,6 +23,14 @@ use mv_io::NoMemory;
 use mv_machine::History;
 use mv_report::Lines;
 use std::alloc::Global;
+
+/// What a closed run left.
+#[derive(Drop)]
+pub struct Left {
+    pub closed: Closed,
+    /// What its tasks brought back.
+    pub brought: Brought,
+}
 
 /// What a run of a deck came to; what is said job by job stands in the order of the deck.
 #[derive(Drop)]
@@ -67,17 +74,21 @@ pub fn spool_run(
 ) -> Result<SpoolRun, NoMemory>
     requires some { 1 ≤ initiators }
     requires sound { IsSound (deck_data deck.now) initiators }
-    requires run { IsRun (deck_data deck.now) initiators closed.history.coming }
-    requires volumes { AreHeld (spool_setup (deck_data deck.now) initiators)
-        (after (spool_setup (deck_data deck.now) initiators) closed.history.coming) closed.volumes }
-    requires records { AreBrought (deck_data deck.now) initiators closed.history.coming (map (λ r. r.jobs) brought.records.items) }
-    requires ends { left_in (spool_setup (deck_data deck.now) initiators) (task_program (deck_data deck.now) initiators)
-        (writer initiators) closed.history.coming ≡ Done brought.ends.items }
+    requires left { IsLeft (deck_data deck.now) initiators closed brought }
     ensures history { IfOk result (λ run. run.history ≡ closed.history) }
+    ensures config { IfOk result (λ run. run.history.config ≡ spool_setup (deck_data deck.now) initiators) }
+    ensures whole { IfOk result (λ run. run.history.past ≡ []) }
+    ensures run { IfOk result (λ run. IsRun (deck_data deck.now) initiators run.history.coming) }
+    ensures few { IfOk result (λ run. length run.history.coming ≤ events_limit) }
+    ensures places { IfOk result (λ run. All (λ e. e.place ≤ highest_place) run.history.coming) }
     ensures records { IfOk result (λ run. run.records.items ≡ brought.records.items) }
+    ensures brought { IfOk result (λ run. AreBrought (deck_data deck.now) initiators run.history.coming
+        (map (λ r. r.jobs) run.records.items)) }
+    ensures found { IfOk result (λ run. left_in (spool_setup (deck_data deck.now) initiators) (task_program (deck_data deck.now) initiators)
+        (writer initiators) run.history.coming ≡ Done run.ends.items) }
     ensures ends { IfOk result (λ run. run.ends.items ≡ ends_of_deck (deck_data deck.now)) }
     ensures noted { IfOk result (λ run. run.lines.items
-        ≡ lines_of_records (deck_data deck.now) (all_records (map (λ r. r.jobs) brought.records.items))) }
+        ≡ lines_of_records (deck_data deck.now) (all_records (map (λ r. r.jobs) run.records.items))) }
     ensures lines { IfOk result (λ run. run.lines.items ≡ lines_of_deck (deck_data deck.now)) }
     ensures volumes { IfOk result (λ run. run.volumes.items ≡ totals (deck_data deck.now)) }
 {

@@ -21,7 +21,7 @@ mod work;
 mod writer;
 
 pub use bringing::{Brought, brought_by};
-pub use closing::{SpoolRun, spool_run};
+pub use closing::{Left, SpoolRun, spool_run};
 pub use laws::{initiators_note_what_they_do, records_give_the_lines, runs_record_each_job};
 pub use lost::Lost;
 pub use need::{Blocks, Got, MOST_BLOCKS, Need, Slots, slots_in};

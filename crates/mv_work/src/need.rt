@@ -1,6 +1,7 @@
 //! What a task waits for, and what it is told. Clauses cite `specs/Needs.antt`.
 
 ghost use Rattle.std.specs.Prelude.{◌≡◌, ◌≤◌, [], ◌∷◌, take, length};
+ghost use Rattle.mv_work.specs.Needs.{IsWaitFor};
 
 use mv_element::Token;
 use mv_latch::Mode;
@@ -47,10 +48,7 @@ pub enum Got {
 
 /// One block.
 pub(crate) fn one(block: u32) -> Blocks
-    ensures count { result.count ≡ 1 }
-    ensures len { result.len ≡ 1 }
-    ensures blocks { take 1 result.of ≡ block ∷ [] }
-    ensures room { length result.of ≡ 8 }
+    ensures { IsWaitFor 1 (block ∷ []) result }
 {
     Blocks {
         count: 1,

@@ -1,7 +1,6 @@
 //! The reader. Clauses cite the plan's `SpoolTasks.antt`, and `specs/Ran.antt`.
 
 ghost use Rattle.std.specs.Prelude.{[], length};
-ghost use Rattle.mv_board.specs.Faces.{IsSame};
 ghost use Rattle.mv_plan.specs.SpoolTasks.{reading};
 ghost use Rattle.mv_work.specs.Parts.{jobs_of};
 ghost use Rattle.mv_work.specs.Ran.{RanOut};
@@ -24,8 +23,7 @@ pub(crate) fn read<R: Wait, G: Gate>(
 )
     requires spool { IsSpool station.now deck.now initiators }
     requires rests { IsResting station.now (length deck.now) task.old }
-    ensures ran { RanOut (reading station.now.config (length (jobs_of deck.now))) [] task.old task.new }
-    ensures same { IsSame task.old task.new }
+    ensures { RanOut (reading station.now.config (length (jobs_of deck.now))) [] task.old task.new }
 {
     for job in 0..deck.len() as u32 {
         gate.pass(rt, task.number(), Point::Entered(job));

@@ -8,7 +8,7 @@ ghost use Rattle.mv_calls.specs.Rest.{IsAtRest};
 ghost use Rattle.mv_deck.specs.Weight.{most_initiators};
 ghost use Rattle.mv_plan.specs.Jobs.{job_at};
 ghost use Rattle.mv_plan.specs.SpoolSetup.{jobs_limit};
-ghost use Rattle.mv_plan.specs.SpoolTasks.{hand_over as handed, ends_awaited};
+ghost use Rattle.mv_plan.specs.SpoolTasks.{hand_over as handed};
 ghost use Rattle.mv_wait.specs.Answers.{slots_of};
 ghost use Rattle.mv_work.specs.Needs.{Slots};
 ghost use Rattle.mv_work.specs.Parts.{HasInitiator, jobs_of};
@@ -101,28 +101,10 @@ fn on_entry<R: Wait>(
         task.old result task.new }
 {
     first_in(slots)?;
-    if after_of(deck, job).is_empty() {
+    let after = after_of(deck, job);
+    if after.is_empty() {
         return set_exit(rt, station, task, deck, initiators, job, false);
     }
-    await_ends(station, deck, initiators, job)
-}
-
-// Waits for the ends of the jobs that this job waits for.
-fn await_ends(
-    station: &Station,
-    deck: &[Job],
-    initiators: u32,
-    job: u32,
-) -> Option<(SchedulerStage, Need)>
-    requires spool { IsSpool station.now deck.now initiators }
-    requires job { job < length deck.now }
-    requires some { 0 < length (job_at (jobs_of deck.now) job).after }
-    ensures { SchedulerAsks station.now.config (jobs_of deck.now) initiators
-        (then_jobs station.now.config (jobs_of deck.now) initiators job (ends_awaited station.now.config (length (jobs_of deck.now))
-        (job_at (jobs_of deck.now) job).after (exit_set station.now.config (jobs_of deck.now) initiators job)))
-        (2 * length (job_at (jobs_of deck.now) job).after + scheduler_due (jobs_of deck.now) initiators (stage.Ends job)) result }
-{
-    let after = after_of(deck, job);
     Some((
         SchedulerStage::Ends(job),
         Need::Blocks(Blocks {
@@ -176,24 +158,6 @@ fn set_exit<R: Wait>(
     let Ok(()) = station.extend(rt, task, done(deck.len() as u32, job), job + 1) else {
         return None;
     };
-    await_idle(station, deck, initiators, job, skipped)
-}
-
-// Waits for an initiator that is idle, for this job.
-fn await_idle(
-    station: &Station,
-    deck: &[Job],
-    initiators: u32,
-    job: u32,
-    skipped: bool,
-) -> Option<(SchedulerStage, Need)>
-    requires spool { IsSpool station.now deck.now initiators }
-    requires job { job < length deck.now }
-    ensures { SchedulerAsks station.now.config (jobs_of deck.now) initiators
-        (then_jobs station.now.config (jobs_of deck.now) initiators job
-        (first_idle station.now.config (jobs_of deck.now) initiators job skipped))
-        (2 * initiators + scheduler_due (jobs_of deck.now) initiators (stage.Idle job skipped)) result }
-{
     Some((
         SchedulerStage::Idle(job, skipped),
         Need::Blocks(Blocks {

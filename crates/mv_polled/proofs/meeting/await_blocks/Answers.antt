@@ -1,4 +1,4 @@
-use Rattle.std.proofs.Common.{ℕ, List, length, take, Ok, Err, sym, ap, ◌∙◌, subst, arith}
+use Rattle.std.proofs.Common.{ℕ, List, length, take, Ok, Err, refl, sym, ap, ◌∙◌, subst, arith}
 use Rattle.std.proofs.lemmas.List.{length-take-le}
 use Rattle.mv_calls.specs.Program.{Done}
 use Rattle.mv_work.specs.declared.need.Need.TheVariants as need
@@ -7,7 +7,7 @@ use Rattle.mv_work.specs.Ran.{Ran}
 use Rattle.mv_polled.specs.Waiting.{IsWaited}
 use Rattle.mv_wait.specs.Answers.{slots_of, wait_refused}
 use Rattle.mv_wait.specs.declared.waiting.WaitSlot.{WaitSlot}
-use Rattle.mv_work.proofs.Meeting.{blocks_met, blocks_unmet}
+use Rattle.mv_work.proofs.Meeting.{met}
 use Rattle.mv_work.proofs.Runs.{served_few}
 use Rattle.mv_polled.proofs.Calls.{wait_so}
 use Rattle.mv_polled.proofs.meeting.await_blocks.Goals as goal
@@ -32,7 +32,7 @@ returns-in-Ready-Ok-clause-turn g c b t does =
       c.slots_in.ensures.len ∙ size,
       subst (λ (xs : List WaitSlot). Ran (need_call config (need.Blocks b)) (Done (Slots (slots_of xs))) t u)
           (sym slots ∙ sym told ∙ ap (λ k. take k c.slots_in.result.of) (sym c.slots_in.ensures.len))
-          (blocks_met config b served),
+          (met _ served refl),
       omega arith,
     )
 
@@ -43,5 +43,4 @@ returns-in-Ready-Err-clause-turn g c b t does =
     let w = c.poll.new.self in
     let call = c.poll.ensures.call in
     let waited = subst (λ r. IsWaited config w r t u) c.in-Ready-Err.field-0-is (c.in-Ready-Err.ensures.turn t does.4) in
-    blocks_unmet config b
-    (wait_so config (Err (wait_refused c.in-Ready-Err.field-0-0)) (call.0 ∙ does.0) (call.1 ∙ does.1) waited.served)
+    met _ (wait_so config (Err (wait_refused c.in-Ready-Err.field-0-0)) (call.0 ∙ does.0) (call.1 ∙ does.1) waited.served) refl

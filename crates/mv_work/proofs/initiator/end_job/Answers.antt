@@ -65,7 +65,7 @@ returns g c =
     let r = record_of job c.args.end c.args.notes.now.noted.notes in
     let more = rounds_after deck c.args.round in
     let block = c.done-block.ensures ∙ ap (λ n. done n job) (sym (job_count c.args.deck.now)) in
-    comes_on served.same (subst (λ rs. Leads (steps_then config deck me more records c.args.next job r) (rounds_noted config deck me more rs c.args.next)
+    comes_on (subst (λ rs. Leads (steps_then config deck me more records c.args.next job r) (rounds_noted config deck me more rs c.args.next)
     c.args.task.now c.end_of_job.new.task) (sym (ap (λ (r : Recorded). r.jobs) c.end.ensures.ended))
     (job_ended config deck me more job records c.args.next r
     (subst (λ e. Ran (end_of_job config (job + 1) e c.args.end) (Done (counts_of c.end_of_job.result)) c.args.task.now c.end_of_job.new.task)

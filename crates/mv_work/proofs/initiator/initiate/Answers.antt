@@ -12,7 +12,7 @@ pub returns-in_default : goal.returns-in_default
 returns-in_default g c =
     let config = c.args.station.now.config in
     let deck = jobs_of c.args.deck.now in
-    comes_astray c.in_default.ensures.served.same (unbegun config deck c.args.index c.in_default.ensures.served)
+    comes_astray (unbegun config deck c.args.index c.in_default.ensures.served)
 
 pub begin_round-requires-clause-token : goal.begin_round-requires-clause-token
 begin_round-requires-clause-token g c = (
@@ -31,5 +31,5 @@ returns g c =
     let deck = jobs_of c.args.deck.now in
     let me = c.args.index in
     let served = c.in-Ok.ensures.served in
-    comes_on served.same (subst (λ (records : List JobRecord). Leads (initiating_noted config deck me) (rounds_noted config deck me (suc (length deck - 0)) records c.in-Ok.token) c.args.task.now
+    comes_on (subst (λ (records : List JobRecord). Leads (initiating_noted config deck me) (rounds_noted config deck me (suc (length deck - 0)) records c.in-Ok.token) c.args.task.now
     c.allocate.new.task) (sym c.requires.none) (begun config deck me served)) c.begin_round.ensures

@@ -28,11 +28,8 @@ named_place deck number named is = (named_is (length deck) number (named_of name
 
 pub returns-then-given-eq-NO_JOB : goal.returns-then-given-eq-NO_JOB
 returns-then-given-eq-NO_JOB g c = record {
-  come = (
-    c.deallocate.ensures.served.same,
-    ended c.args.station.now.config (jobs_of c.args.deck.now) c.args.index c.args.round c.args.notes.now.noted.jobs (gift_of c.args.given)
-        (deallocate_answer c.deallocate.result) c.if-given-eq-NO_JOB.true c.deallocate.ensures.served,
-  );
+  come = ended c.args.station.now.config (jobs_of c.args.deck.now) c.args.index c.args.round c.args.notes.now.noted.jobs
+      (gift_of c.args.given) (deallocate_answer c.deallocate.result) c.if-given-eq-NO_JOB.true c.deallocate.ensures.served;
 }
 
 pub returns-in_err-named : goal.returns-in_err-named

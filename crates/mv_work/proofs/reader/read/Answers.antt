@@ -3,7 +3,6 @@ use Rattle.mv_calls.specs.Posts.{post}
 use Rattle.mv_calls.specs.Program.{Done, finished}
 use Rattle.mv_plan.specs.SpoolSetup.{entered}
 use Rattle.mv_plan.specs.SpoolTasks.{reading}
-use Rattle.mv_wait.proofs.Runs.{same_then}
 use Rattle.mv_work.specs.Ran.{Ran, RanOut}
 use Rattle.mv_work.proofs.Decks.{job_count, reach_entered}
 use Rattle.mv_work.proofs.Ranges.{next_done, last_left}
@@ -28,19 +27,15 @@ loop-job-preserved g c =
     let left = since.left in record {
       board = still_of c.args.station.now since.board served.same;
       quiet = served.made.rest;
-      same = same_then c.args.task.now c.loop-job.task c.post.new.task since.same served.same;
       left = omega arith;
       leads = next_done (λ j. post config (entered j) 0) (finished []) job (length c.args.deck.now) since.leads c.loop-job-test.true
           (subst (λ e. Ran (post config e 0) (Done served.answer) c.loop-job.task c.post.new.task) c.entered.ensures (served_ran served));
     }
 
-pub returns-clause-ran : goal.returns-clause-ran
-returns-clause-ran g c =
+pub returns : goal.returns
+returns g c =
     let config = c.args.station.now.config in
     let since = c.loop-job.invariant in
     subst (λ n. RanOut (reading config n) [] c.args.task.now c.loop-job.task) (sym (job_count c.args.deck.now))
     (out_done (leads_done (last_left (λ j. post config (entered j) 0) (finished []) c.loop-job.job (length c.args.deck.now)
     since.leads c.loop-job-test.false) since.quiet))
-
-pub returns-clause-same : goal.returns-clause-same
-returns-clause-same g c = c.loop-job.invariant.same

@@ -1,11 +1,13 @@
-use Rattle.std.proofs.Common.{◌≡◌, Ok, sym, ap, subst}
+use Rattle.std.proofs.Common.{◌≡◌, Ok, refl, sym, ap, subst}
+use Rattle.mv_calls.specs.Program.{finished}
 use Rattle.mv_calls.specs.Waits.{write_volume}
 use Rattle.mv_wait.specs.Run.{IsServed}
 use Rattle.mv_work.specs.declared.running.Did.TheVariants as did
+use Rattle.mv_work.specs.Noting.{record_of}
 use Rattle.mv_work.specs.Records.{Recorded}
 use Rattle.mv_work.specs.Steps.{DoesStep}
-use Rattle.mv_work.proofs.Steps.{prints, unheld, frees, unfreed, counts, overflows, scans, abends}
-use Rattle.mv_work.proofs.Steps as steps
+use Rattle.mv_work.proofs.Runs.{ran_nothing}
+use Rattle.mv_work.proofs.Steps.{unheld, frees, unfreed, counts, overflows, scans}
 use Rattle.mv_work.proofs.running.do_step.Goals as goal
 
 pub returns-in-Print-clause-does : goal.returns-in-Print-clause-does
@@ -13,7 +15,7 @@ returns-in-Print-clause-does g c =
     let a = c.args in
     subst (λ after. DoesStep a.station.now.config a.job a.requests.now a.place a.noted.now.notes a.step.now (Ok did.Went) after a.task.now
     a.task.now) (sym (ap (λ (r : Recorded). r.notes) c.note.ensures.noted))
-    (rw c.in-Print.is (prints a.station.now.config a.job a.requests.now a.place a.noted.now.notes a.task.now c.in-Print.field-0))
+    (rw c.in-Print.is (λ steps q v x. x))
 
 pub returns-in_default-clause-does : goal.returns-in_default-clause-does
 returns-in_default-clause-does g c =
@@ -62,10 +64,8 @@ returns-in-Scan-clause-does g c =
 
 pub returns-in-Abend-clause-does : goal.returns-in-Abend-clause-does
 returns-in-Abend-clause-does g c =
-    let a = c.args in
-    rw c.in-Abend.is (abends a.station.now.config a.job a.requests.now a.place a.noted.now.notes a.task.now c.in-Abend.code c.requires.rest)
+    rw c.in-Abend.is (λ steps. ran_nothing (finished (record_of c.args.job c.in-Abend.code c.args.noted.now.notes)) refl c.requires.rest)
 
 pub returns-in-Return-clause-does : goal.returns-in-Return-clause-does
 returns-in-Return-clause-does g c =
-    let a = c.args in
-    rw c.in-Return.is (steps.returns a.station.now.config a.job a.requests.now a.place a.noted.now.notes a.task.now c.in-Return.code c.requires.rest)
+    rw c.in-Return.is (λ steps. ran_nothing (finished (record_of c.args.job c.in-Return.code c.args.noted.now.notes)) refl c.requires.rest)

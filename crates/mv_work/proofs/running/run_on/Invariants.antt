@@ -1,5 +1,4 @@
 use Rattle.std.proofs.Common.{◌+◌, drop}
-use Rattle.mv_board.specs.Faces.{IsSame}
 use Rattle.mv_plan.specs.Jobs.{job_at}
 use Rattle.mv_work.specs.Initiating.{IsAtJob, rounds_due, steps_events, steps_from, steps_marks}
 use Rattle.mv_work.specs.Parts.{jobs_of}
@@ -10,7 +9,6 @@ use Rattle.mv_work.proofs.running.run_on.Given as goal
 
 abbrev pub invariant-loop-place : goal.invariant-loop-place
 invariant-loop-place g l = record {
-  same : IsSame l.fn.task l.task;
   rests : IsResting l.station (steps_events (drop l.place (job_at (jobs_of l.deck) l.fn.running.job).steps) + 4
       + rounds_due (jobs_of l.deck) l.notes.given.items (l.fn.running.round + 1)) l.task;
   at : IsAtJob (jobs_of l.deck) l.notes l.fn.running.round l.fn.running.job

@@ -1,9 +1,11 @@
-use Rattle.std.proofs.Common.{◌+◌, ◌*◌, List, length, ap, ◌∙◌, sym, arith}
+use Rattle.std.proofs.Common.{◌+◌, ◌*◌, List, [], ◌∷◌, length, ap, ◌∙◌, subst, sym, arith}
 use Rattle.mv_calls.specs.Program.{Call}
 use Rattle.mv_plan.specs.SpoolSetup.{idle}
+use Rattle.mv_work.specs.Needs.{IsWaitFor}
 use Rattle.mv_work.specs.Parts.{jobs_of}
+use Rattle.mv_work.proofs.Calls.{blocks_fit}
 use Rattle.mv_work.proofs.Decks.{job_count, block_exists}
-use Rattle.mv_work.proofs.Dispatching.{dismissal_asked, dismissals_over, one_block, one_is}
+use Rattle.mv_work.proofs.Dispatching.{dismissal_asked, dismissals_over}
 use Rattle.mv_work.proofs.scheduler.dismiss.Goals as goal
 
 pub returns-then-index-initiators : goal.returns-then-index-initiators
@@ -20,14 +22,10 @@ returns c =
     let m = c.args.index in
     let n = job_count c.args.deck.now in
     let exists = block_exists c.requires.spool (4 * length c.args.deck.now + m) (omega arith) in
-    let block = c.idle.ensures ∙ ap (λ k. idle k m) (sym n) in
-    let blocks = one_is c.one.result c.one.ensures.len c.one.ensures.blocks (idle (length deck) m) block in record {
+    let is = subst (λ e. IsWaitFor 1 (e ∷ []) c.one.result) (c.idle.ensures ∙ ap (λ k. idle k m) (sym n)) c.one.ensures in record {
       asks = (
-        dismissal_asked config deck i _ m (omega arith) blocks c.one.ensures.count,
-        record {
-          numbers = omega arith;
-          blocks = one_block config c.one.result (idle (length deck) m) c.one.ensures.len c.one.ensures.room blocks (omega arith);
-        },
-        (let len = c.one.ensures.len in omega arith),
+        dismissal_asked config deck i m (omega arith) is,
+        record { numbers = omega arith; blocks = blocks_fit config is is.len (let len = is.len in omega arith) (omega arith, tt) },
+        (let len = is.len in omega arith),
       );
     }

@@ -1,21 +1,29 @@
-use Rattle.std.proofs.Common.{◌+◌, ◌<◌, List, length, sym, ap, ◌∙◌, subst, arith}
+use Rattle.std.proofs.Common.{◌+◌, ◌*◌, ◌-◌, ◌<◌, ◌≤◌, List, Some, length, sym, ap, ◌∙◌, subst, arith}
+use Rattle.std.specs.List.{AllByRecursion}
+use Rattle.std.proofs.lemmas.List.{length-map}
 use Rattle.mv_deck.specs.declared.deck.After.{After}
-use Rattle.mv_plan.specs.SpoolTasks.{ends_awaited}
+use Rattle.mv_deck.specs.Operand.{most_after}
+use Rattle.mv_plan.specs.Jobs.{job_at}
+use Rattle.mv_plan.specs.SpoolSetup.{end_for_scheduler}
+use Rattle.mv_plan.specs.SpoolTasks.{ends_awaited, ends_of}
 use Rattle.mv_wait.specs.Answers.{slots_of}
-use Rattle.mv_work.specs.Parts.{jobs_of, pair_of}
-use Rattle.mv_work.specs.Scheduling.{entry_found, exit_set, jobs_from, then_jobs}
-use Rattle.mv_work.proofs.Dispatching.{found_is, lost_is, is_none, is_some}
+use Rattle.mv_work.specs.declared.need.Need.TheVariants as need
+use Rattle.mv_work.specs.declared.stage.SchedulerStage.TheVariants as stage
+use Rattle.mv_work.specs.Needs.{IsWaitFor}
+use Rattle.mv_work.specs.Parts.{jobs_of}
+use Rattle.mv_work.specs.Scheduling.{SchedulerAsks, entry_found, exit_set, scheduler_due, then_jobs}
+use Rattle.mv_work.proofs.Calls.{blocks_fit}
+use Rattle.mv_work.proofs.Decks.{after_earlier, after_few, block_exists, job_count}
+use Rattle.mv_work.proofs.Dispatching.{ends_asked, found_is, lost_is, is_none, is_some}
+use Rattle.mv_work.proofs.Ranges.{ends_exist}
 use Rattle.mv_work.proofs.Waits.{asks_first, comes_as, comes_nowhere, rests_less}
 use Rattle.mv_work.proofs.scheduler.on_entry.Goals as goal
 
 pub returns-in_err-first_in : goal.returns-in_err-first_in
 returns-in_err-first_in g c =
-    let config = c.args.station.now.config in
-    let deck = jobs_of c.args.deck.now in
-    let i = c.args.initiators in
-    rw c.from_residual.ensures (
-    comes_nowhere c.args.task.now (lost_is (slots_of c.args.slots.now) (entry_found config deck i c.args.job) (λ (handed : Unit {0}). jobs_from config deck i (c.args.job + 1))
-    c.in_err-first_in.ensures.found) c.requires.rests.quiet)
+    let found = entry_found c.args.station.now.config (jobs_of c.args.deck.now) c.args.initiators c.args.job in
+    rw c.from_residual.ensures
+    (comes_nowhere _ (lost_is (slots_of c.args.slots.now) found _ c.in_err-first_in.ensures.found) c.requires.rests.quiet)
 
 pub set_exit-requires-clause-rests : goal.set_exit-requires-clause-rests
 set_exit-requires-clause-rests g c =
@@ -26,20 +34,56 @@ returns-then-is_empty g c =
     let config = c.args.station.now.config in
     let deck = jobs_of c.args.deck.now in
     let i = c.args.initiators in
-    comes_as (found_is (slots_of c.args.slots.now) (entry_found config deck i c.args.job)
-    (λ (handed : Unit {0}). jobs_from config deck i (c.args.job + 1)) (pair_of c.in_ok-first_in.field-0) c.in_ok-first_in.ensures.found
+    comes_as (found_is (slots_of c.args.slots.now) (entry_found config deck i c.args.job) _ _ c.in_ok-first_in.ensures.found
     ∙ ap (λ (parts : List After). then_jobs config deck i c.args.job (ends_awaited config (length deck) parts (exit_set config deck i c.args.job)))
-    (sym c.after_of.ensures ∙ is_none c.after_of.result.now c.if-is_empty.ensures)) c.set_exit.ensures
+    (sym c.after_of-after.ensures ∙ is_none c.after_of-after.result.now c.if-is_empty.ensures)) c.set_exit.ensures
 
-pub await_ends-requires-clause-some : goal.await_ends-requires-clause-some
-await_ends-requires-clause-some g c =
-    subst (λ (parts : List After). 0 < length parts) c.after_of.ensures (is_some (length c.after_of.result.now) c.if-is_empty.ensures)
+pub end_blocks-requires-clause-jobs : goal.end_blocks-requires-clause-jobs
+end_blocks-requires-clause-jobs g c = (
+  c.requires.spool.few,
+  subst (λ (parts : List After). length parts ≤ most_after) (sym c.after_of-after.ensures)
+      (after_few c.args.deck.now c.args.initiators c.args.job c.requires.spool.sound c.requires.job),
+)
+
+pub end_blocks-requires-clause-earlier : goal.end_blocks-requires-clause-earlier
+end_blocks-requires-clause-earlier g c =
+    subst (λ parts. AllByRecursion (λ (part : After). part.job < length c.args.deck.now) parts) (sym c.after_of-after.ensures)
+    (after_earlier c.args.deck.now c.args.initiators c.args.job c.requires.spool.sound c.requires.job)
 
 pub returns : goal.returns
 returns g c =
     let config = c.args.station.now.config in
     let deck = jobs_of c.args.deck.now in
     let i = c.args.initiators in
-    comes_as (found_is (slots_of c.args.slots.now) (entry_found config deck i c.args.job)
-    (λ (handed : Unit {0}). jobs_from config deck i (c.args.job + 1)) (pair_of c.in_ok-first_in.field-0) c.in_ok-first_in.ensures.found)
-    (asks_first c.await_ends.ensures (rests_less c.requires.rests (omega arith)))
+    let j = c.args.job in
+    let sound = c.requires.spool.sound in
+    let n = length c.args.deck.now in
+    let count = job_count c.args.deck.now in
+    let after = (job_at deck j).after in
+    let read = c.after_of-after.result.now in
+    let few : length after ≤ most_after = after_few c.args.deck.now i j sound c.requires.job in
+    let some : 0 < length after = subst (λ (parts : List After). 0 < length parts) c.after_of-after.ensures (is_some (length read) c.if-is_empty.ensures) in
+    let size = ap (λ (parts : List After). length parts) c.after_of-after.ensures in
+    let last = block_exists c.requires.spool (4 * n - 1) (omega arith) in
+    let is : IsWaitFor (length after) (ends_of (length deck) after) (record { count = length read; len = length read; of = c.end_blocks.result }) = record {
+      count = size;
+      len = size ∙ sym (length-map after (λ (part : After). end_for_scheduler (length deck) part.job));
+      blocks = c.end_blocks.ensures.blocks ∙ ap (λ n. ends_of n read) (sym count) ∙ ap (ends_of (length deck)) c.after_of-after.ensures;
+      room = c.end_blocks.ensures.room;
+    } in
+    let asks : SchedulerAsks config deck i (then_jobs config deck i j (ends_awaited config (length deck) after (exit_set config deck i j)))
+    (2 * length after + scheduler_due deck i (stage.Ends j))
+    (Some (stage.Ends j, need.Blocks (record { count = length read; len = length read; of = c.end_blocks.result }))) = record {
+      asks = (
+        ends_asked config deck i j some is,
+        record {
+          numbers = omega arith;
+          blocks = blocks_fit config is size (omega arith)
+              (subst (λ m. AllByRecursion (λ e. e < length config.owners) (ends_of m after)) (sym count)
+              (ends_exist n (length config.owners) after (omega arith) (after_earlier c.args.deck.now i j sound c.requires.job)));
+        },
+        omega arith,
+      );
+    } in
+    comes_as (found_is (slots_of c.args.slots.now) (entry_found config deck i j) _ _ c.in_ok-first_in.ensures.found)
+    (asks_first asks (rests_less c.requires.rests (omega arith)))

@@ -1,7 +1,9 @@
-use Rattle.std.proofs.Common.{arith}
+use Rattle.std.proofs.Common.{[], ◌∷◌, subst, arith}
+use Rattle.mv_work.specs.Needs.{IsWaitFor}
 use Rattle.mv_work.specs.Parts.{jobs_of}
+use Rattle.mv_work.proofs.Calls.{blocks_fit}
 use Rattle.mv_work.proofs.Decks.{job_count, block_exists}
-use Rattle.mv_work.proofs.Dispatching.{due_next, due_over, entry_asked, jobs_over, one_block, one_is}
+use Rattle.mv_work.proofs.Dispatching.{due_next, due_over, entry_asked, jobs_over}
 use Rattle.mv_work.proofs.Waits.{asks_as}
 use Rattle.mv_work.proofs.scheduler.schedule.Goals as goal
 
@@ -21,14 +23,11 @@ returns c =
     let job = c.args.job in
     let count = job_count c.args.deck.now in
     let events = due_next deck i job (omega arith) in
-    let exists = block_exists c.requires.spool job (omega arith) in record {
+    let exists = block_exists c.requires.spool job (omega arith) in
+    let is = subst (λ e. IsWaitFor 1 (e ∷ []) c.one.result) c.entered.ensures c.one.ensures in record {
       asks = (
-        entry_asked config deck i _ job (omega arith) (one_is c.one.result c.one.ensures.len c.one.ensures.blocks job c.entered.ensures) c.one.ensures.count,
-        record {
-          numbers = omega arith;
-          blocks = one_block config c.one.result job c.one.ensures.len c.one.ensures.room
-              (one_is c.one.result c.one.ensures.len c.one.ensures.blocks job c.entered.ensures) exists;
-        },
-        (let len = c.one.ensures.len in omega arith),
+        entry_asked config deck i job (omega arith) is,
+        record { numbers = omega arith; blocks = blocks_fit config is is.len (let len = is.len in omega arith) (exists, tt) },
+        (let len = is.len in omega arith),
       );
     }

@@ -1,9 +1,10 @@
-use Rattle.std.proofs.Common.{◌+◌, ◌*◌, List, length, ap, ◌∙◌, sym, arith}
+use Rattle.std.proofs.Common.{◌+◌, ◌*◌, List, [], ◌∷◌, length, ap, ◌∙◌, subst, sym, arith}
 use Rattle.mv_calls.specs.Program.{Call}
 use Rattle.mv_plan.specs.SpoolSetup.{end_for_writer}
+use Rattle.mv_work.specs.Needs.{IsWaitFor}
 use Rattle.mv_work.specs.Parts.{jobs_of}
+use Rattle.mv_work.proofs.Calls.{blocks_fit}
 use Rattle.mv_work.proofs.Decks.{job_count, block_exists}
-use Rattle.mv_work.proofs.Dispatching.{one_block, one_is}
 use Rattle.mv_work.proofs.Ends.{end_asked, ends_over}
 use Rattle.mv_work.proofs.writer.write.Goals as goal
 
@@ -23,14 +24,10 @@ returns c room ends fits =
     let n = job_count c.args.deck.now in
     let exists = block_exists c.requires.spool (2 * length c.args.deck.now + 2 * job + 1) (omega arith) in
     let block = c.end_for_writer.ensures ∙ ap (λ k. end_for_writer k job) (sym n) in
-    let blocks = one_is c.one.result c.one.ensures.len c.one.ensures.blocks (end_for_writer m job) block in record {
+    let is = subst (λ e. IsWaitFor 1 (e ∷ []) c.one.result) block c.one.ensures in record {
       asks = (
-        end_asked config m ends c.one.result job (omega arith) blocks c.one.ensures.count,
-        record {
-          number = omega arith;
-          room = omega arith;
-          block = one_block config c.one.result (end_for_writer m job) c.one.ensures.len c.one.ensures.room blocks (omega arith);
-        },
-        (let len = c.one.ensures.len in omega arith),
+        end_asked config m ends job (omega arith) is,
+        record { number = omega arith; room = omega arith; block = blocks_fit config is is.len (let len = is.len in omega arith) (omega arith, tt) },
+        (let len = is.len in omega arith),
       );
     }

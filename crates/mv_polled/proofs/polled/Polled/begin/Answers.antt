@@ -1,7 +1,6 @@
 use Rattle.std.proofs.Common.{◌+◌, ◌<◌, sym, ap, ◌∙◌, subst}
 use Rattle.mv_board.specs.Faces.{CallerFace, IsFresh}
 use Rattle.mv_polled.proofs.Polling.{fits, new_stands, stands_next}
-use Rattle.mv_work.specs.declared.work.Work.{Work}
 use Rattle.mv_work.specs.Parts.{jobs_of}
 use Rattle.mv_work.specs.Works.{HasCome, IsNew}
 use Rattle.mv_polled.proofs.polled.Polled.begin.Goals as goal
@@ -44,19 +43,13 @@ returns g c = record {
       let b = c.args.station.now in
       let deck = jobs_of c.args.deck.now in
       let i = c.args.initiators in
-      let need = c.begin-need.result in
-      let u = c.begin-need.new.task in
-      let work = c.begin-need.new.self in
-      let p = c.take_up.new.self in
-      let same = c.take_up.ensures.same in
       let was = new_stands b deck i c.requires.spool.config k c.args.self.now old c.requires.new in
-      let come = subst (λ (t : CallerFace). HasCome b deck i work t need u) was.0 c.begin-need.ensures in
-      let come_so = subst (λ (w : Work). HasCome b deck i w old.new need p.task) (sym same.1)
-      (subst (λ (f : CallerFace). HasCome b deck i work old.new need f) (sym same.0) come) in
       record {
         new = old.new;
         fresh = old.fresh;
         room = c.take_up.ensures.room;
-        stands = stands_next b deck i c.requires.spool.config k old.new p need come_so c.take_up.ensures.taken;
+        stands = stands_next b deck i c.requires.spool.config k old.new c.take_up.new.self c.begin-need.result c.take_up.ensures.same
+            (subst (λ (t : CallerFace). HasCome b deck i c.begin-need.new.self t c.begin-need.result c.begin-need.new.task) was.0
+            c.begin-need.ensures) c.take_up.ensures.taken;
       };
 }

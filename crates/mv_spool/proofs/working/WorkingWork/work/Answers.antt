@@ -1,38 +1,33 @@
 use Rattle.std.proofs.Common.{◌≡◌, ℕ, List, Some, None, refl, subst}
 use Rattle.mv_board.specs.Faces.{BoardFace, CallerFace, IsFresh, IsOf}
 use Rattle.mv_deck.specs.Deck.{JobData}
-use Rattle.mv_machine.specs.Setup.{Setup}
-use Rattle.mv_plan.specs.SpoolSetup.{spool_setup}
 use Rattle.mv_wait.proofs.Parts.{still_of}
 use Rattle.mv_work.specs.declared.work.Work.{Work}
 use Rattle.mv_work.specs.Parts.{jobs_of}
-use Rattle.mv_work.specs.Works.{HasCome, HasWorked}
-use Rattle.mv_work.proofs.Meeting.{met_lost, met_told}
-use Rattle.mv_spool.specs.Working.{IsWorked}
+use Rattle.mv_work.specs.Works.{HasCome, IsWorked}
+use Rattle.mv_work.proofs.Meeting.{IsReady, waits_ready}
 use Rattle.mv_spool.proofs.working.WorkingWork.work.Given as bound
 use Rattle.mv_spool.proofs.working.WorkingWork.work.Goals as goal
 use Rattle.mv_spool.proofs.working.WorkingWork.work.Goals.{In-Some-needed}
 
 -- the task waits for what it needs
 waits : (g : bound.Over) (c : In-Some-needed g)
-    → HasCome c.args.station.now (jobs_of c.args.self.now.deck.now) c.args.self.now.initiators c.loop.room c.args.task.now
-    (Some c.in-Some-needed.need) c.loop.task
+    → IsReady c.args.station.now (jobs_of c.args.self.now.deck.now) c.args.self.now.initiators c.loop.room c.args.task.now
+    c.in-Some-needed.need c.loop.task c.loop.room.stage
 waits g c =
-    subst (λ n. HasCome c.args.station.now (jobs_of c.args.self.now.deck.now) c.args.self.now.initiators c.loop.room c.args.task.now n
-    c.loop.task) c.in-Some-needed.is c.loop.invariant
+    let b = c.args.station.now in
+    let deck = jobs_of c.args.self.now.deck.now in
+    let i = c.args.self.now.initiators in
+    waits_ready b deck i c.loop.room c.args.task.now c.in-Some-needed.need c.loop.task c.requires.start.0.config
+    (subst (λ n. HasCome b deck i c.loop.room c.args.task.now n c.loop.task) c.in-Some-needed.is c.loop.invariant)
 
 -- a task that needs nothing more is back
-back : (b : BoardFace) (deck : List JobData) (i : ℕ) (w : Work) (t u : CallerFace) → b.config ≡ spool_setup deck i → IsFresh b t.number t
-    → HasCome b deck i w t None u → IsOf b u × (u.number ≡ t.number) × IsWorked deck i t.number b w u
-back b deck i w t u config fresh come = (
+back : (b : BoardFace) (deck : List JobData) (i : ℕ) (w : Work) (t u : CallerFace) → IsFresh b t.number t → HasCome b deck i w t None u
+    → IsOf b u × (u.number ≡ t.number) × IsWorked deck i t.number b w u
+back b deck i w t u fresh come = (
   still_of b b t u come.0 fresh.board refl,
   come.0.number,
-  record {
-    before = t;
-    fresh = fresh;
-    same = come.0;
-    worked = subst (λ (s : Setup). HasWorked s deck i w t u) config come.1;
-  },
+  record { before = t; fresh = fresh; come = come },
 )
 
 pub returns-in_default : goal.returns-in_default
@@ -41,7 +36,7 @@ returns-in_default g c =
     let deck = jobs_of c.args.self.now.deck.now in
     let i = c.args.self.now.initiators in
     let t = c.args.task.now in
-    let is = back b deck i c.loop.room t c.loop.task c.requires.start.0.config c.requires.fresh
+    let is = back b deck i c.loop.room t c.loop.task c.requires.fresh
     (subst (λ n. HasCome b deck i c.loop.room t n c.loop.task) c.in_default.is c.loop.invariant) in
     record { task = is.0; number = is.1; done = is.2 }
 
@@ -51,22 +46,18 @@ returns-in_default-meet g c =
     let deck = jobs_of c.args.self.now.deck.now in
     let i = c.args.self.now.initiators in
     let t = c.args.task.now in
-    let is = back b deck i c.loop.room t c.meet.new.task c.requires.start.0.config c.requires.fresh
-    (met_lost b deck i c.loop.room t c.loop.task c.in-Some-needed.need
-    (waits g (goal.at.returns-in_default-meet g c).In-Some-needed) c.in_default-meet.ensures.met) in
+    let is = back b deck i c.loop.room t c.meet.new.task c.requires.fresh
+    ((waits g (goal.at.returns-in_default-meet g c).In-Some-needed).lost c.meet.new.task c.in_default-meet.ensures.met) in
     record { task = is.0; number = is.1; done = is.2 }
 
 pub go_on-needed-requires-clause-told : goal.go_on-needed-requires-clause-told
 go_on-needed-requires-clause-told g c =
-    let met = c.in-Ok.ensures.met in (
-      c.args.task.now,
-      met_told c.args.station.now (jobs_of c.args.self.now.deck.now) c.args.self.now.initiators c.loop.room c.args.task.now c.loop.task
-          c.in-Some-needed.need c.in-Ok.got (waits g (goal.at.go_on-needed-requires-clause-told g c).In-Some-needed) met.0 met.1 met.2,
-    )
+    let met = c.in-Ok.ensures.met in
+    let at = waits g (goal.at.go_on-needed-requires-clause-told g c).In-Some-needed in
+    (c.args.task.now, at.told c.in-Ok.got c.meet.new.task met.0 met.1 met.2)
 
 pub loop-preserved : goal.loop-preserved
 loop-preserved g c =
     let met = c.in-Ok.ensures.met in
-    c.go_on-needed.ensures c.args.task.now
-    (met_told c.args.station.now (jobs_of c.args.self.now.deck.now) c.args.self.now.initiators c.loop.room c.args.task.now c.loop.task
-    c.in-Some-needed.need c.in-Ok.got (waits g (goal.at.loop-preserved g c).In-Some-needed) met.0 met.1 met.2)
+    let at = waits g (goal.at.loop-preserved g c).In-Some-needed in
+    c.go_on-needed.ensures c.args.task.now (at.told c.in-Ok.got c.meet.new.task met.0 met.1 met.2)

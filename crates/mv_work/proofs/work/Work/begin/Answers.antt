@@ -19,9 +19,9 @@ use Rattle.mv_work.proofs.work.Work.begin.Goals.{After-write}
 
 pub returns-then-number-eq-READER : goal.returns-then-number-eq-READER
 returns-then-number-eq-READER g c = (
-  c.read.ensures.same,
+  c.read.ensures.ran.went.same,
   reader_worked c.args.station.now.config (jobs_of c.args.deck.now) c.args.initiators c.args.self.now
-      (sym c.number-number.ensures.number ∙ c.if-number-eq-READER.true) c.read.ensures.ran,
+      (sym c.number-number.ensures.number ∙ c.if-number-eq-READER.true) c.read.ensures,
 )
 
 pub returns-in_err-stage : goal.returns-in_err-stage
@@ -32,7 +32,7 @@ returns-in_err-stage g c =
     let rests : IsResting b (jobs_due deck i 0) c.args.task.now = search rules in
     let out = (asks_first c.in_err-stage.ensures rests).come in
     rw c.from_residual.ensures
-    (out.0, scheduler_worked b.config deck i c.args.self.now (sym c.number-number.ensures.number ∙ c.if-number-eq-SCHEDULER.true) out.1)
+    (out.ran.went.same, scheduler_worked b.config deck i c.args.self.now (sym c.number-number.ensures.number ∙ c.if-number-eq-SCHEDULER.true) out)
 
 -- a writer that is begun asks for the first end, if there is one
 write_first : (g : bound.Over) (c : After-write g) (next : Option (ℕ × Need))
@@ -63,9 +63,9 @@ returns-in_err-job g c =
     let b = c.args.station.now in
     let out = (write_first g (goal.at.returns-in_err-job g c).After-write None c.in_err-job.ensures).come in
     rw c.from_residual-in_err-job.ensures (
-      out.0,
+      out.ran.went.same,
       writer_worked b.config (jobs_of c.args.deck.now) c.args.initiators c.args.self.now
-          (sym c.number-number.ensures.number ∙ c.if-number-writer.true ∙ c.writer.ensures) out.1,
+          (sym c.number-number.ensures.number ∙ c.if-number-writer.true ∙ c.writer.ensures) out,
     )
 
 pub returns-then-number-writer : goal.returns-then-number-writer
@@ -91,7 +91,7 @@ returns-in_err-stage-2 g c =
     let b = c.args.station.now in
     let out = c.in_err-stage-2.ensures.come in
     rw c.from_residual-in_err-stage-2.ensures (
-      out.0,
+      out.ran.went.same,
       initiator_worked b.config (jobs_of c.args.deck.now) c.args.initiators c.args.self.now (c.number-number.result - 2) (omega arith)
-          (omega arith) out.1,
+          (omega arith) out,
     )
