@@ -1,6 +1,6 @@
 -- How the scheduler hands out the jobs, wait by wait.
-use Rattle.std.proofs.Common.{◌≡◌, ℕ, ◌+◌, ◌*◌, ◌-◌, ◌<◌, ◌≤◌, ◌==◌, zero, suc, Bool, true, false, List, [], ◌∷◌, length, drop, Option, Ok, Err, refl, sym, ap}
-use Rattle.std.proofs.Common.{◌∙◌, subst, arith}
+use Rattle.std.proofs.Common.{◌≡◌, ℕ, ◌+◌, ◌*◌, ◌-◌, ◌<◌, ◌≤◌, ◌==◌, zero, suc, Bool, true, false, List, [], ◌∷◌, length, drop, Option, refl, sym, ap}
+use Rattle.std.proofs.Common.{◌∙◌, arith}
 use Rattle.std.specs.List.{range_with_len}
 use Rattle.std.proofs.lemmas.Bool.{eqb-true}
 use Rattle.std.proofs.Math.Nat.{suc-mul}
@@ -8,17 +8,14 @@ use Rattle.std.proofs.lemmas.List.{drop_more, drop_all}
 use Rattle.std.proofs.lemmas.List.Sums.{sum_by-cons}
 use Rattle.mv_board.specs.Faces.{CallerFace}
 use Rattle.mv_machine.specs.Setup.{Setup}
-use Rattle.mv_calls.specs.Pauses.{Reached, token_of, release}
-use Rattle.mv_calls.specs.Program.{Call, Done, Wrong, accepted, finished, followed, for_each, unrefused, wrong}
-use Rattle.mv_calls.specs.Refusal.{Refusal}
-use Rattle.mv_calls.specs.Waits.{clear, extend, wait}
+use Rattle.mv_calls.specs.Program.{Call, Done, Wrong, accepted, finished, followed, for_each, wrong}
+use Rattle.mv_calls.specs.Waits.{extend, wait}
 use Rattle.mv_deck.specs.declared.deck.After.{After}
 use Rattle.mv_deck.specs.Deck.{JobData}
 use Rattle.mv_deck.specs.Weight.{after_parts}
 use Rattle.mv_plan.specs.Jobs.{job_at, no_job}
-use Rattle.mv_plan.specs.SpoolSetup.{idle, done, initiator}
-use Rattle.mv_plan.specs.SpoolTasks.{hand_over, dispatch_all, dismiss, code_of, ends_awaited, ends_of, some_end_above, lowest}
-use Rattle.mv_wait.specs.Run.{IsServed}
+use Rattle.mv_plan.specs.SpoolSetup.{idle, done}
+use Rattle.mv_plan.specs.SpoolTasks.{dispatch_all, dismiss, ends_awaited, ends_of, some_end_above, lowest}
 use Rattle.mv_work.specs.declared.need.Blocks.{Blocks}
 use Rattle.mv_work.specs.declared.need.Need.TheVariants as need
 use Rattle.mv_work.specs.declared.stage.SchedulerStage.TheVariants as stage
@@ -29,7 +26,7 @@ use Rattle.mv_work.specs.Scheduling.{scheduler_left, jobs_from, jobs_due, dismis
 use Rattle.mv_work.specs.Scheduling.{dismissal_found, then_jobs}
 use Rattle.mv_work.proofs.Calls.{accepted-assoc, blocks_asked_in, found_in, none_in}
 use Rattle.mv_work.proofs.Ranges.{range_next, range_over}
-use Rattle.mv_work.proofs.Runs.{ran_followed, ran_last, leads_astray, leads_on, served_as}
+use Rattle.mv_work.proofs.Runs.{leads_astray, leads_on}
 use Rattle.mv_work.proofs.Waits.{leads_as}
 
 -- ---- what is asked for

@@ -1,5 +1,5 @@
 -- From what a task waits for, and how that was met, to what it was told. For whoever runs tasks.
-use Rattle.std.proofs.Common.{◌≡◌, ℕ, ◌+◌, ◌-◌, ◌*◌, ◌<◌, ◌≤◌, List, [], length, Option, Some, None, Result, refl, sym, ◌∙◌, subst, arith}
+use Rattle.std.proofs.Common.{◌≡◌, ℕ, ◌+◌, ◌-◌, ◌*◌, ◌<◌, ◌≤◌, List, [], length, Option, Some, None, Result, sym, ◌∙◌, subst, arith}
 use Rattle.std.proofs.lemmas.Bool.{eq-eqb, ne_eqb}
 use Rattle.mv_board.specs.Faces.{BoardFace, CallerFace, IsSame}
 use Rattle.mv_machine.specs.Setup.{Setup, element_count}

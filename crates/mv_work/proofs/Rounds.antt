@@ -10,29 +10,23 @@ use Rattle.mv_board.specs.Faces.{CallerFace}
 use Rattle.mv_element.specs.declared.element.Token.{Token}
 use Rattle.mv_machine.specs.Setup.{Setup}
 use Rattle.mv_calls.specs.Endings.{end_of_job}
-use Rattle.mv_calls.specs.LatchCalls.{Counts}
-use Rattle.mv_calls.specs.Pauses.{Gift, allocate, deallocate, pause}
-use Rattle.mv_calls.specs.Posts.{Posting, post}
-use Rattle.mv_calls.specs.Program.{Call, Done, Wrong, accepted, finished, wrong, followed, unrefused}
+use Rattle.mv_calls.specs.Pauses.{Gift, deallocate}
+use Rattle.mv_calls.specs.Program.{Call, accepted, finished, wrong, followed, unrefused}
 use Rattle.mv_calls.specs.Refusal.{Refusal}
 use Rattle.mv_deck.specs.Deck.{JobData}
 use Rattle.mv_deck.specs.EndCode.{not_run}
 use Rattle.mv_plan.proofs.lists.Lists.{all_get}
 use Rattle.mv_plan.specs.Jobs.{job_at}
-use Rattle.mv_plan.specs.SpoolSetup.{idle, done}
+use Rattle.mv_plan.specs.SpoolSetup.{done}
 use Rattle.mv_plan.specs.SpoolTasks.{Named, named_by, job_named}
 use Rattle.mv_wait.specs.Run.{IsServed}
-use Rattle.mv_work.specs.declared.initiator.Notes.{Notes}
-use Rattle.mv_work.specs.declared.need.Need.TheVariants as need
-use Rattle.mv_work.specs.declared.stage.InitiatorStage.TheVariants as stage
-use Rattle.mv_work.specs.Initiating.{AreGiven, given_then, initiator_left, job_then, jobs_of_records, left_of}
+use Rattle.mv_work.specs.Initiating.{AreGiven, given_then, job_then, jobs_of_records, left_of}
 use Rattle.mv_work.specs.Initiating.{rounds_after, steps_then}
-use Rattle.mv_work.specs.Needs.{need_call}
-use Rattle.mv_work.specs.Noting.{initiating_noted, record_of, rounds_noted, steps_noted}
-use Rattle.mv_work.specs.Ran.{Ran, RanOut, Leads}
+use Rattle.mv_work.specs.Noting.{record_of, rounds_noted, steps_noted}
+use Rattle.mv_work.specs.Ran.{RanOut}
 use Rattle.mv_work.specs.Records.{JobRecord}
-use Rattle.mv_work.proofs.Calls.{followed-assoc, pause_asked}
-use Rattle.mv_work.proofs.Runs.{leads_all, leads_on, ran_last, served_as, out_done, out_wrong}
+use Rattle.mv_work.proofs.Calls.{followed-assoc}
+use Rattle.mv_work.proofs.Runs.{ran_last, served_as, out_done, out_wrong}
 
 -- ---- what was not given yet
 
@@ -95,16 +89,6 @@ pub jobs_more : (records : List JobRecord) (r : JobRecord) → jobs_of_records (
 jobs_more records r = map-append (λ (r : JobRecord). r.job) records (r ∷ [])
 
 -- ---- an initiator, in a round
-
-module _ (c : Setup) (deck : List JobData) (me round : ℕ) (notes : Notes) {whole : Call (List JobRecord)} {t : CallerFace} where
-  -- it told that it is idle
-  pub told_idle : (token : Token) {p : Posting} {u v : CallerFace}
-      → Leads whole (rounds_noted c deck me (suc (length deck - round)) notes.noted.jobs token) t u
-      → Ran (post c (idle (length deck) me) token.generation) (Done p) u v
-      → Leads whole (followed (need_call c (need.Pause token)) (initiator_left c deck me notes (stage.Pause round))) t v
-  told_idle token {p} {u} {v} k x =
-      subst (λ call. Leads whole call t v) (pause_asked c token (given_then c deck me (length deck - round) notes.noted.jobs))
-      (leads_on (λ (posted : Posting). accepted (pause c token) (given_then c deck me (length deck - round) notes.noted.jobs)) k x)
 
 -- what follows a gift
 module _ (c : Setup) (deck : List JobData) (me round : ℕ) (records : List JobRecord) (gift : Gift) where
@@ -177,24 +161,3 @@ module _ (c : Setup) (deck : List JobData) (me more job : ℕ) (records : List J
       ≡ followed (steps_noted c job (λ latch. None) 0 [] (job_at deck job).steps) (steps_then c deck me more records next job)
   job_begun true is = absurd (cc is)
   job_begun false is = job_ends (steps_noted c job (λ latch. None) 0 [] (job_at deck job).steps)
-
--- its end was posted, and the next round follows
-pub job_ended : (c : Setup) (deck : List JobData) (me more job : ℕ) (records : List JobRecord) (next : Token) (r : JobRecord)
-    {counts : Counts} {u v : CallerFace} → Ran (end_of_job c (job + 1) (done (length deck) job) r.end) (Done counts) u v
-    → Leads (steps_then c deck me more records next job r) (rounds_noted c deck me more (records ++ r ∷ []) next) u v
-job_ended c deck me more job records next r {counts} {u} {v} x =
-    leads_on (λ (counts : Counts). rounds_noted c deck me more (records ++ r ∷ []) next)
-    (leads_all (steps_then c deck me more records next job r) u) x
-
--- ---- the beginning
-
-module _ (c : Setup) (deck : List JobData) (me : ℕ) {t u : CallerFace} where
-  -- the element is allocated, and the rounds follow
-  pub begun : {token : Token} → IsServed 1 (allocate c) (λ a. a ≡ Ok token) t u
-      → Leads (initiating_noted c deck me) (rounds_noted c deck me (suc (length deck - 0)) [] token) t u
-  begun {token} s = subst (λ k. Leads (initiating_noted c deck me) (rounds_noted c deck me k [] token) t u)
-      (let e : length deck + 1 ≡ suc (length deck - 0) = omega arith in e)
-      (leads_on (unrefused (rounds_noted c deck me (length deck + 1) [])) (leads_all (initiating_noted c deck me) t) (served_as s))
-
-  pub unbegun : {why : Refusal} → IsServed 1 (allocate c) (λ a. a ≡ Err why) t u → Ran (initiating_noted c deck me) Wrong t u
-  unbegun s = ran_last (served_as s) (unrefused (rounds_noted c deck me (length deck + 1) [])) refl

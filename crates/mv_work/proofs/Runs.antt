@@ -2,7 +2,7 @@
 use Rattle.std.proofs.Common.{◌≡◌, ℕ, ◌+◌, ◌≤◌, List, [], ◌∷◌, ◌++◌, refl, sym, ap, ◌∙◌, subst, arith}
 use Rattle.mv_board.specs.Faces.{BoardFace, CallerFace, IsOf, IsSame}
 use Rattle.mv_calls.specs.Keeping.{Kept, kept_after, kept_from, kept_of, nothing_kept}
-use Rattle.mv_calls.specs.Program.{Program, Do, Done, Early, Wrong, Call, Heard, Says, left, entries, heard, going_on, followed, finished}
+use Rattle.mv_calls.specs.Program.{Program, Do, Done, Wrong, Call, Heard, Says, left, entries, heard, going_on, followed, finished}
 use Rattle.mv_calls.specs.Program.{wrong}
 use Rattle.mv_calls.specs.Rest.{IsAtRest}
 use Rattle.mv_calls.proofs.Making.{kept_from-append}

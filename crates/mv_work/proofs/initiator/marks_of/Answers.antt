@@ -1,5 +1,5 @@
 use Rattle.std.proofs.Common.{◌+◌, ◌∷◌, drop, sym, ap, ◌∙◌, arith}
-use Rattle.std.proofs.lemmas.List.{drop_all, drop_more}
+use Rattle.std.proofs.lemmas.List.{drop_more}
 use Rattle.std.proofs.lemmas.List.Sums.{sum_by-cons}
 use Rattle.mv_work.specs.Initiating.{step_marks, steps_marks}
 use Rattle.mv_work.proofs.initiator.marks_of.Goals as goal
@@ -13,7 +13,3 @@ loop-k-preserved c =
     ∙ sum_by-cons step_marks next (drop (k + 1) steps) in
     let few = c.loop-k.invariant.few in
     let is = c.marks_of_step-marks.ensures.marks in record { sum = omega arith; few = omega arith }
-
-pub returns : goal.returns
-returns c =
-    let none = ap steps_marks (drop_all c.loop-k.k c.args.steps.now c.loop-k-test.false) in omega arith

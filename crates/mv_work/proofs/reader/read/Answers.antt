@@ -1,9 +1,9 @@
 use Rattle.std.proofs.Common.{[], length, sym, subst, arith}
 use Rattle.mv_calls.specs.Posts.{post}
-use Rattle.mv_calls.specs.Program.{Done, finished}
+use Rattle.mv_calls.specs.Program.{finished}
 use Rattle.mv_plan.specs.SpoolSetup.{entered}
 use Rattle.mv_plan.specs.SpoolTasks.{reading}
-use Rattle.mv_work.specs.Ran.{Ran, RanOut}
+use Rattle.mv_work.specs.Ran.{RanOut}
 use Rattle.mv_work.proofs.Decks.{job_count, reach_entered}
 use Rattle.mv_work.proofs.Ranges.{next_done, last_left}
 use Rattle.mv_work.proofs.Runs.{leads_done, out_done, served_few, served_ran, still_of}
@@ -29,7 +29,7 @@ loop-job-preserved g c =
       quiet = served.made.rest;
       left = omega arith;
       leads = next_done (λ j. post config (entered j) 0) (finished []) job (length c.args.deck.now) since.leads c.loop-job-test.true
-          (subst (λ e. Ran (post config e 0) (Done served.answer) c.loop-job.task c.post.new.task) c.entered.ensures (served_ran served));
+          (served_ran (rw c.entered.ensures at served));
     }
 
 pub returns : goal.returns

@@ -2,10 +2,8 @@ use Rattle.std.proofs.Common.{◌≡◌, ℕ, ◌+◌, ◌<◌, ◌∷◌, List,
 use Rattle.std.proofs.lemmas.List.{drop_more, drop_all}
 use Rattle.std.proofs.lemmas.List.Sums.{sum_by-cons}
 use Rattle.mv_board.specs.Faces.{CallerFace}
-use Rattle.mv_calls.specs.Program.{Call, followed}
-use Rattle.mv_deck.specs.Deck.{JobData}
+use Rattle.mv_calls.specs.Program.{followed}
 use Rattle.mv_deck.specs.declared.deck.Step.{Step}
-use Rattle.mv_deck.specs.declared.deck.Step.TheVariants as a_step
 use Rattle.mv_deck.specs.Sound.{HasGoodNumbers}
 use Rattle.mv_deck.specs.Weight.{step_events}
 use Rattle.mv_machine.specs.Reach.{release_cost}
@@ -13,19 +11,16 @@ use Rattle.mv_machine.specs.Setup.{Setup}
 use Rattle.mv_plan.specs.Jobs.{job_at}
 use Rattle.mv_wait.proofs.Parts.{one_of}
 use Rattle.mv_wait.proofs.Runs.{same_then}
-use Rattle.mv_work.specs.declared.initiator.Notes.{Notes}
-use Rattle.mv_work.specs.declared.records.Noted.{Noted}
-use Rattle.mv_work.specs.declared.stage.Running.{Running}
 use Rattle.mv_work.specs.Initiating.{rounds_after, step_marks, steps_events, steps_from, steps_marks, steps_then}
 use Rattle.mv_work.specs.Noting.{steps_noted}
-use Rattle.mv_work.specs.Records.{JobRecord}
 use Rattle.mv_work.specs.Parts.{jobs_of}
 use Rattle.mv_work.specs.Ran.{Leads}
 use Rattle.mv_work.specs.Steps.{IsGoodDid, requests_of}
 use Rattle.mv_work.proofs.Decks.{job_count, job_numbers}
 use Rattle.mv_work.proofs.Reaches.{release_cost_is}
 use Rattle.mv_work.proofs.Runs.{leads_all, leads_astray, leads_on, leads_same, leads_then, leads_under}
-use Rattle.mv_work.proofs.Steps.{latch_needed, still_at}
+use Rattle.mv_work.proofs.Calls.{latch_asked}
+use Rattle.mv_work.proofs.Steps.{still_at}
 use Rattle.mv_work.proofs.Waits.{comes_astray, comes_on}
 use Rattle.mv_work.proofs.running.run_on.Given as bound
 use Rattle.mv_work.proofs.running.run_on.Goals as goal
@@ -49,54 +44,17 @@ next_is steps plan place next lt is at =
       marks = ap steps_marks begins ∙ sum_by-cons step_marks next (drop (place + 1) plan);
     }
 
--- the step that is done next, and those behind it, in the plan
-module _ (g : bound.Over) (c : After-do_step g) where
-  abbrev deck : List JobData
-  deck = jobs_of c.args.deck.now
+-- the steps of the job, in the plan
+abbrev plan : (g : bound.Over) (c : After-do_step g) → List Step
+plan g c = (job_at (jobs_of c.args.deck.now) c.args.running.job).steps
 
-  abbrev plan : List Step
-  plan = (job_at deck c.args.running.job).steps
-
-  abbrev behind : List Step
-  behind = drop (c.loop-place.place + 1) plan
-
-  is_next : IsNext plan c.loop-place.place c.index-steps-place.result
-  is_next = next_is c.steps_of-steps.result.now plan c.loop-place.place c.index-steps-place.result c.loop-place-test.true
-      c.steps_of-steps.ensures c.index-steps-place.is
-
-  -- what is noted behind it
-  abbrev noted : Notes
-  noted = record { given = c.loop-place.notes.given; noted = c.do_step.new.noted }
-
-  abbrev tail : JobRecord → Call (List JobRecord)
-  tail = steps_then c.args.station.now.config deck c.args.index (rounds_after deck c.args.running.round) noted.noted.jobs
-      c.args.running.next c.args.running.job
-
-  abbrev from : List Noted → List Step → Call JobRecord
-  from = steps_noted c.args.station.now.config c.args.running.job (requests_of c.args.running.requests) c.loop-place.place
-
-  -- all that was to be done, and what is left of it
-  abbrev IsLeft : Call (List JobRecord) → CallerFace → Type 0
-  IsLeft rest u = Leads (steps_from c.args.station.now.config deck c.args.index c.args.notes.now c.args.running c.args.running.step
-      (requests_of c.args.running.requests)) rest c.args.task.now u
-
-  next_left : noted.noted.jobs ≡ c.loop-place.notes.noted.jobs
-      → IsLeft (followed (from c.loop-place.notes.noted.notes (c.index-steps-place.result ∷ behind)) tail) c.loop-place.task
-  next_left jobs = subst (λ records. IsLeft (followed (from c.loop-place.notes.noted.notes (c.index-steps-place.result ∷ behind))
-      (steps_then c.args.station.now.config deck c.args.index (rounds_after deck c.args.running.round) records c.args.running.next
-      c.args.running.job)) c.loop-place.task) (sym jobs)
-      (subst (λ steps. IsLeft (followed (from c.loop-place.notes.noted.notes steps)
-      (steps_then c.args.station.now.config deck c.args.index (rounds_after deck c.args.running.round) c.loop-place.notes.noted.jobs
-      c.args.running.next c.args.running.job)) c.loop-place.task) is_next.begins c.loop-place.invariant.leads)
+is_next : (g : bound.Over) (c : After-do_step g) → IsNext (plan g c) c.loop-place.place c.index-steps-place.result
+is_next g c = next_is c.steps_of-steps.result.now (plan g c) c.loop-place.place c.index-steps-place.result c.loop-place-test.true
+    c.steps_of-steps.ensures c.index-steps-place.is
 
 pub loop-place-init : goal.loop-place-init
 loop-place-init g c =
-    let r = c.args.running in record {
-      rests = c.requires.rests;
-      at = c.requires.running.at;
-      leads = leads_all (steps_from c.args.station.now.config (jobs_of c.args.deck.now) c.args.index c.args.notes.now r r.step
-          (requests_of r.requests)) c.args.task.now;
-    }
+    record { rests = c.requires.rests; at = c.requires.running.at; leads = leads_all _ c.args.task.now }
 
 pub do_step-requires-clause-config : goal.do_step-requires-clause-config
 do_step-requires-clause-config g c =
@@ -105,15 +63,6 @@ do_step-requires-clause-config g c =
       ap (λ (s : Setup). s.volumes) is,
       ap release_cost is ∙ release_cost_is (jobs_of c.args.deck.now) c.args.initiators,
     )
-
-pub do_step-requires-clause-task : goal.do_step-requires-clause-task
-do_step-requires-clause-task g c = c.loop-place.invariant.rests.board
-
-pub do_step-requires-clause-rest : goal.do_step-requires-clause-rest
-do_step-requires-clause-rest g c = c.loop-place.invariant.rests.quiet
-
-pub do_step-requires-clause-requests : goal.do_step-requires-clause-requests
-do_step-requires-clause-requests g c = c.requires.running.kept
 
 pub do_step-requires-clause-numbers : goal.do_step-requires-clause-numbers
 do_step-requires-clause-numbers g c =
@@ -141,51 +90,48 @@ do_step-requires-clause-room g c =
 
 pub loop-place-preserved : goal.loop-place-preserved
 loop-place-preserved g c =
-    let after = (goal.at.loop-place-preserved g c).After-do_step in
-    let next = is_next g after in
+    let next = is_next g (goal.at.loop-place-preserved g c).After-do_step in
     let since = c.loop-place.invariant in
     let step = c.in-Ok-Went.ensures in
     let does = rw c.in-Ok-Went.field-0-is at step.does in record {
       rests = record { board = step.board; quiet = step.rest; left = (let left = since.rests.left in let few = step.few in omega arith) };
-      at = still_at c.do_step.new.noted (steps_marks (behind g after)) step.jobs (let few = step.room in omega arith) since.at;
-      leads = leads_then (next_left g after step.jobs) (leads_under (tail g after) (does (behind g after)) step.rest);
+      at = still_at c.do_step.new.noted _ step.jobs (let few = step.room in omega arith) since.at;
+      leads = rw step.jobs (leads_then (rw next.begins at since.leads) (leads_under _ (does _) step.rest));
     }
 
 pub returns-in-Ok-Ended : goal.returns-in-Ok-Ended
 returns-in-Ok-Ended g c =
-    let after = (goal.at.returns-in-Ok-Ended g c).After-do_step in
+    let next = is_next g (goal.at.returns-in-Ok-Ended g c).After-do_step in
     let step = c.in-Ok-Ended.ensures in
     let does = rw c.in-Ok-Ended.field-0-is at step.does in
-    comes_on (leads_on (tail g after) (next_left g after step.jobs) (does (behind g after))) c.end_job.ensures
+    comes_on (leads_on _ (rw next.begins at c.loop-place.invariant.leads) (does _)) (rw step.jobs at c.end_job.ensures)
 
 pub returns-in-Err : goal.returns-in-Err
 returns-in-Err g c =
-    let after = (goal.at.returns-in-Err g c).After-do_step in
-    let step = c.in-Err.ensures in
-    comes_astray (leads_astray (tail g after) (next_left g after step.jobs) (step.does (behind g after)))
+    let next = is_next g (goal.at.returns-in-Err g c).After-do_step in
+    comes_astray (leads_astray _ (rw next.begins at c.loop-place.invariant.leads) (c.in-Err.ensures.does _))
 
 pub returns-in-Ok-Asks : goal.returns-in-Ok-Asks
 returns-in-Ok-Asks g c =
-    let after = (goal.at.returns-in-Ok-Asks g c).After-do_step in
     let config = c.args.station.now.config in
-    let next = is_next g after in
+    let deck = jobs_of c.args.deck.now in
+    let r = c.args.running in
+    let next = is_next g (goal.at.returns-in-Ok-Asks g c).After-do_step in
     let since = c.loop-place.invariant in
     let step = c.in-Ok-Asks.ensures in
     let was = c.requires.running in
-    let latch = c.in-Ok-Asks.latch in
-    let mode = c.in-Ok-Asks.mode in
     let does = rw c.in-Ok-Asks.field-0-is at step.does in
     let costs = ap step_events does.0 in
     let same_left = ap (λ (u : CallerFace). u.left) does.2 in
     let left = since.rests.left in
-    let at : Running = record c.args.running { step = c.loop-place.place + 1; latch = latch } in record {
+    let all = rw (next.begins, does.0) at since.leads in record {
       come = record {
         same = same_then c.args.task.now c.loop-place.task c.do_step.new.task (leads_same since.leads since.rests.quiet) step.same;
         rests = record { board = step.board; quiet = step.rest; left = omega arith };
         fits = (
           (
             record {
-              at = still_at c.do_step.new.noted (steps_marks (behind g after)) step.jobs (let few = step.room in omega arith) since.at;
+              at = still_at c.do_step.new.noted _ step.jobs (let few = step.room in omega arith) since.at;
               next = was.next;
               kept = was.kept;
             },
@@ -193,14 +139,9 @@ returns-in-Ok-Asks g c =
           ),
           refl,
         );
-        leads = subst (λ call. IsLeft g after call c.do_step.new.task)
-            (latch_needed config (deck g after) c.args.index (noted g after) at c.loop-place.place mode refl)
-            (subst (λ u. IsLeft g after (followed (from g after c.do_step.new.noted.notes (a_step.Use latch mode ∷ behind g after)) (tail g after)) u)
-            (sym does.2)
-            (subst (λ notes. IsLeft g after (followed (from g after notes (a_step.Use latch mode ∷ behind g after)) (tail g after)) c.loop-place.task)
-            (sym does.1)
-            (subst (λ s. IsLeft g after (followed (from g after c.loop-place.notes.noted.notes (s ∷ behind g after)) (tail g after))
-            c.loop-place.task) does.0 (next_left g after step.jobs))));
+        leads = rw (does.2, does.1, step.jobs) (subst (λ call. Leads (steps_from config deck c.args.index c.args.notes.now r r.step
+            (requests_of r.requests)) call c.args.task.now c.loop-place.task)
+            (latch_asked config c.in-Ok-Asks.latch (r.job + 1) c.in-Ok-Asks.mode _ _) all);
       };
     }
 

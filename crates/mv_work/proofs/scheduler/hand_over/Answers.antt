@@ -1,4 +1,4 @@
-use Rattle.std.proofs.Common.{length, refl, sym, ap, ◌∙◌}
+use Rattle.std.proofs.Common.{refl, sym, ap, ◌∙◌}
 use Rattle.mv_plan.specs.SpoolSetup.{idle}
 use Rattle.mv_work.proofs.Decks.{job_count}
 use Rattle.mv_work.proofs.Runs.{ran_followed, ran_last, served_as}

@@ -25,10 +25,6 @@ returns-in_err-first_in g c =
     rw c.from_residual.ensures
     (comes_nowhere _ (lost_is (slots_of c.args.slots.now) found _ c.in_err-first_in.ensures.found) c.requires.rests.quiet)
 
-pub set_exit-requires-clause-rests : goal.set_exit-requires-clause-rests
-set_exit-requires-clause-rests g c =
-    rests_less c.requires.rests (omega arith)
-
 pub returns-then-is_empty : goal.returns-then-is_empty
 returns-then-is_empty g c =
     let config = c.args.station.now.config in
