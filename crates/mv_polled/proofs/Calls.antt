@@ -56,18 +56,3 @@ taken_meets b n k w u rests may is = absurd is
 pub new_meets : (b : BoardFace) (n : Need) (m : Meeting) (u : CallerFace) → IsResting b (need_events n) u → MayMeet b.config n
     → IsTakenUp n m → IsMeeting b.config n m u u
 new_meets b n m u rests may is = taken_meets b n m.call m.wait u rests may is
-
--- ---- calls that are the same
-
-pub wait_so : (c : Setup) {n m : ℕ} {es fs : List ℕ} (a : Result (List (Option ℕ)) Refusal) {t u : CallerFace} → n ≡ m → es ≡ fs
-    → IsServed (2 * length es) (wait c n es) (λ b. b ≡ a) t u → IsServed (2 * length fs) (wait c m fs) (λ b. b ≡ a) t u
-wait_so c {n} {m} {es} {fs} a {t} {u} is so x =
-    subst (λ gs. IsServed (2 * length gs) (wait c m gs) (λ b. b ≡ a) t u) so
-    (subst (λ k. IsServed (2 * length es) (wait c k es) (λ b. b ≡ a) t u) is x)
-
-pub obtain_so : (c : Setup) {l m r s : ℕ} {mode kind : Mode} (a : Result Obtained Refusal) {t u : CallerFace} → l ≡ m → r ≡ s → mode ≡ kind
-    → IsServed 2 (obtain c l r mode Waiting) (λ b. b ≡ a) t u → IsServed 2 (obtain c m s kind Waiting) (λ b. b ≡ a) t u
-obtain_so c {l} {m} {r} {s} {mode} {kind} a {t} {u} is so as_is x =
-    subst (λ k. IsServed 2 (obtain c m s k Waiting) (λ b. b ≡ a) t u) as_is
-    (subst (λ q. IsServed 2 (obtain c m q mode Waiting) (λ b. b ≡ a) t u) so
-    (subst (λ n. IsServed 2 (obtain c n r mode Waiting) (λ b. b ≡ a) t u) is x))

@@ -36,7 +36,8 @@ module _ (b : BoardFace) (deck : List JobData) (i : ℕ) (config : b.config ≡ 
   stands_next k t p need {w} {u} same come taken =
       go need taken (subst (λ (w : Work). HasCome b deck i w t need p.task) (sym same.1)
       (subst (λ (u : CallerFace). HasCome b deck i w t need u) (sym same.0) come)) where
-        go : (need : Option Need) → HasTakenUp need p.state p.meeting → HasCome b deck i p.work t need p.task → Stands b deck i k t p p.state
+        go : (need : Option Need) → HasTakenUp need p.state p.meeting → HasCome b deck i p.work t need p.task
+            → Stands b deck i k t p p.state
         go (Some n) taken come =
             let at = waits_ready b deck i p.work t n p.task config come in
             subst (Stands b deck i k t p) (sym taken.0)

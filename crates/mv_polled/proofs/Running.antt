@@ -103,6 +103,7 @@ module _ (deck : List JobData) (i : ℕ) (b : BoardFace) (ps : List Polled) (pol
           before = new;
           fresh = (polled k s within).fresh;
           come = subst (λ x. HasCome b deck i x new None (get_or (map task_of ps) k t)) (sym (get_or-map work_of ps k s w within))
-              (subst (λ u. HasCome b deck i (work_of (get_or ps k s)) new None u) (sym (get_or-map task_of ps k s t within)) (ended k s within));
+              (subst (λ u. HasCome b deck i (work_of (get_or ps k s)) new None u) (sym (get_or-map task_of ps k s t within))
+              (ended k s within));
         };
   }

@@ -1,6 +1,6 @@
 -- How the scheduler hands out the jobs, wait by wait.
-use Rattle.std.proofs.Common.{◌≡◌, ℕ, ◌+◌, ◌*◌, ◌-◌, ◌<◌, ◌≤◌, ◌==◌, zero, suc, Bool, true, false, List, [], ◌∷◌, length, drop, Option, refl, sym, ap}
-use Rattle.std.proofs.Common.{◌∙◌, arith}
+use Rattle.std.proofs.Common.{◌≡◌, ℕ, ◌+◌, ◌*◌, ◌-◌, ◌<◌, ◌≤◌, ◌==◌, zero, suc, Bool, true, false, List, [], ◌∷◌, length, drop, Option}
+use Rattle.std.proofs.Common.{refl, sym, ap, ◌∙◌, arith}
 use Rattle.std.specs.List.{range_with_len}
 use Rattle.std.proofs.lemmas.Bool.{eqb-true}
 use Rattle.std.proofs.Math.Nat.{suc-mul}
@@ -14,7 +14,7 @@ use Rattle.mv_deck.specs.declared.deck.After.{After}
 use Rattle.mv_deck.specs.Deck.{JobData}
 use Rattle.mv_deck.specs.Weight.{after_parts}
 use Rattle.mv_plan.specs.Jobs.{job_at, no_job}
-use Rattle.mv_plan.specs.SpoolSetup.{idle, done}
+use Rattle.mv_plan.specs.SpoolSetup.{done}
 use Rattle.mv_plan.specs.SpoolTasks.{dispatch_all, dismiss, ends_awaited, ends_of, some_end_above, lowest}
 use Rattle.mv_work.specs.declared.need.Blocks.{Blocks}
 use Rattle.mv_work.specs.declared.need.Need.TheVariants as need
@@ -22,65 +22,38 @@ use Rattle.mv_work.specs.declared.stage.SchedulerStage.TheVariants as stage
 use Rattle.mv_work.specs.Needs.{IsWaitFor, need_call}
 use Rattle.mv_work.specs.Parts.{lowest_complete}
 use Rattle.mv_work.specs.Ran.{Ran, Leads}
-use Rattle.mv_work.specs.Scheduling.{scheduler_left, jobs_from, jobs_due, dismissals_from, first_idle, exit_set, entry_found}
-use Rattle.mv_work.specs.Scheduling.{dismissal_found, then_jobs}
+use Rattle.mv_work.specs.Scheduling.{scheduler_left, jobs_from, jobs_due, dismissals_from, first_idle, exit_set}
+use Rattle.mv_work.specs.Scheduling.{then_jobs}
 use Rattle.mv_work.proofs.Calls.{accepted-assoc, blocks_asked_in, found_in, none_in}
-use Rattle.mv_work.proofs.Ranges.{range_next, range_over}
 use Rattle.mv_work.proofs.Runs.{leads_astray, leads_on}
 use Rattle.mv_work.proofs.Waits.{leads_as}
 
 -- ---- what is asked for
 
-module _ (c : Setup) (deck : List JobData) (i : ℕ) {b : Blocks} where
-  -- the entry of a job
-  pub entry_asked : (j : ℕ) → j < length deck → IsWaitFor 1 (j ∷ []) b
-      → jobs_from c deck i j ≡ followed (need_call c (need.Blocks b)) (scheduler_left c deck i (stage.Entry j))
-  entry_asked j lt is =
-      ap (λ js. dispatch_all c (length deck) i j js (for_each (range_with_len 0 i) (dismiss c (length deck)) (finished [])))
-      (drop_more deck j no_job lt)
-      ∙ blocks_asked_in c is (lowest (entry_found c deck i j) 0) (λ (handed : Unit {0}). jobs_from c deck i (j + 1))
-
-  -- the dismissal of an initiator
-  pub dismissal_asked : (m : ℕ) → m < i → IsWaitFor 1 (idle (length deck) m ∷ []) b
-      → dismissals_from c deck i m ≡ followed (need_call c (need.Blocks b)) (scheduler_left c deck i (stage.Dismissal m))
-  dismissal_asked m lt is =
-      ap (λ ms. for_each ms (dismiss c (length deck)) (finished [])) (range_next m i lt)
-      ∙ blocks_asked_in c is (lowest (dismissal_found c (length deck) m) 0) (λ (handed : Unit {0}). dismissals_from c deck i (m + 1))
-
-  -- the ends of the jobs that a job waits for
-  pub ends_asked : (j : ℕ) → 0 < length (job_at deck j).after
-      → IsWaitFor (length (job_at deck j).after) (ends_of (length deck) (job_at deck j).after) b
-      → followed (ends_awaited c (length deck) (job_at deck j).after (exit_set c deck i j)) (λ (handed : Unit {0}). jobs_from c deck i (j + 1))
-      ≡ followed (need_call c (need.Blocks b)) (scheduler_left c deck i (stage.Ends j))
-  ends_asked j some is =
-      ap (λ call. followed call (λ (handed : Unit {0}). jobs_from c deck i (j + 1))) (awaited (job_at deck j).after some)
-      ∙ blocks_asked_in c is (λ slots. exit_set c deck i j (some_end_above (job_at deck j).after slots))
-      (λ (handed : Unit {0}). jobs_from c deck i (j + 1)) where
-        awaited : (parts : List After) → 0 < length parts
-            → ends_awaited c (length deck) parts (exit_set c deck i j)
-            ≡ accepted (wait c (length parts) (ends_of (length deck) parts)) (λ slots. exit_set c deck i j (some_end_above parts slots))
-        awaited [] some = absurd (omega arith)
-        awaited (part ∷ parts) some = refl
+-- the ends of the jobs that a job waits for
+pub ends_asked : (c : Setup) (deck : List JobData) (i j : ℕ) {b : Blocks} → 0 < length (job_at deck j).after
+    → IsWaitFor (length (job_at deck j).after) (ends_of (length deck) (job_at deck j).after) b
+    → then_jobs c deck i j (ends_awaited c (length deck) (job_at deck j).after (exit_set c deck i j))
+    ≡ followed (need_call c (need.Blocks b)) (scheduler_left c deck i (stage.Ends j))
+ends_asked c deck i j some is = ap (then_jobs c deck i j) (awaited (job_at deck j).after some) ∙ blocks_asked_in c is _ _ where
+  awaited : (parts : List After) → 0 < length parts
+      → ends_awaited c (length deck) parts (exit_set c deck i j)
+      ≡ accepted (wait c (length parts) (ends_of (length deck) parts)) (λ slots. exit_set c deck i j (some_end_above parts slots))
+  awaited [] some = absurd (omega arith)
+  awaited (part ∷ parts) some = refl
 
 -- behind the last job the initiators are dismissed
 pub jobs_over : (c : Setup) (deck : List JobData) (i j : ℕ) → length deck ≤ j → jobs_from c deck i j ≡ dismissals_from c deck i 0
 jobs_over c deck i j le =
-    ap (λ js. dispatch_all c (length deck) i j js (for_each (range_with_len 0 i) (dismiss c (length deck)) (finished []))) (drop_all j deck le)
+    ap (λ js. dispatch_all c (length deck) i j js (for_each (range_with_len 0 i) (dismiss c (length deck)) (finished [])))
+    (drop_all j deck le)
     ∙ ap (λ m. for_each (range_with_len 0 m) (dismiss c (length deck)) (finished [])) (let e : i ≡ i - 0 = omega arith in e)
 
-pub dismissals_over : (c : Setup) (deck : List JobData) (i m : ℕ) → i ≤ m → dismissals_from c deck i m ≡ finished []
-dismissals_over c deck i m le = ap (λ ms. for_each ms (dismiss c (length deck)) (finished [])) (range_over m i le)
-
--- ---- the exit of a job
-
-module _ (c : Setup) (deck : List JobData) (i j : ℕ) (skipped : Bool) where
-  abbrev pub set_then : Unit {0} → Call (List ℕ)
-  set_then linked = then_jobs c deck i j (first_idle c deck i j skipped)
-
-  -- it is set, and then an initiator is waited for
-  pub exit_first : then_jobs c deck i j (exit_set c deck i j skipped) ≡ accepted (extend c (done (length deck) j) (j + 1)) set_then
-  exit_first = accepted-assoc (extend c (done (length deck) j) (j + 1)) (λ (linked : Unit {0}). first_idle c deck i j skipped)
-      (λ (handed : Unit {0}). jobs_from c deck i (j + 1))
+-- the exit of a job is set, and then an initiator is waited for
+pub exit_first : (c : Setup) (deck : List JobData) (i j : ℕ) (skipped : Bool) → then_jobs c deck i j (exit_set c deck i j skipped)
+    ≡ accepted (extend c (done (length deck) j) (j + 1)) (λ (linked : Unit {0}). then_jobs c deck i j (first_idle c deck i j skipped))
+exit_first c deck i j skipped = accepted-assoc (extend c (done (length deck) j) (j + 1))
+    (λ (linked : Unit {0}). first_idle c deck i j skipped) (λ (handed : Unit {0}). jobs_from c deck i (j + 1))
 
 -- ---- what was found
 

@@ -42,7 +42,8 @@ module _ (b : BoardFace) (deck : List JobData) (i : ℕ) (w new : Work) {t u : C
         → InitiatorComes b deck index new.notes (initiator_left b.config deck index w.notes s (answer_of g)) u next v
         → InitiatorComes b deck told.0 new.notes (initiating_noted b.config deck told.0) t next v
     initiator_on next x =
-        comes_on told.3.leads (subst (λ me. InitiatorComes b deck me new.notes (initiator_left b.config deck me w.notes s (answer_of g)) u next v) initiator_is x)
+        comes_on told.3.leads
+        (subst (λ me. InitiatorComes b deck me new.notes (initiator_left b.config deck me w.notes s (answer_of g)) u next v) initiator_is x)
 
     pub initiator_over : InitiatorComes b deck index new.notes (initiator_left b.config deck index w.notes s (answer_of g)) u None v
         → HasCome b deck i new t None v

@@ -1,7 +1,7 @@
 -- The history that the tasks' logs are parts of is a run, where each task has made all events of its program; and what the tasks
 -- bring back is what their parts of it say. For whoever runs tasks.
-use Rattle.std.proofs.Common.{◌≡◌, ℕ, ◌+◌, ◌-◌, ◌<◌, ◌≤◌, ◌==◌, Bool, true, false, List, [], ◌++◌, length, get_or, if◌then◌else◌, refl, sym, ap}
-use Rattle.std.proofs.Common.{◌∷◌, ◌∙◌, drop, map, take, subst, arith}
+use Rattle.std.proofs.Common.{◌≡◌, ℕ, ◌+◌, ◌-◌, ◌<◌, ◌≤◌, ◌==◌, Bool, true, false, List, [], ◌++◌, length, get_or, if◌then◌else◌, refl}
+use Rattle.std.proofs.Common.{sym, ap, ◌∷◌, ◌∙◌, drop, map, take, subst, arith}
 use Rattle.std.specs.Prelude.{MatchBool}
 use Rattle.std.proofs.lemmas.Bool.{eq-eqb, ne_eqb}
 use Rattle.std.proofs.lemmas.List.{get_or-drop, get_or-map, get_or-take, length-drop, length-map, length-take-le}
@@ -63,27 +63,27 @@ forget_over records (Do o op next) q over w = absurd over
 forget_over records Early q over w = absurd over
 forget_over records p q over w = absurd w
 
-module _ (c : Setup) (deck : List JobData) (m : ℕ) (records : List JobRecord) {t u : CallerFace} (r : RanOut (initiating_noted c deck m) records t u)
-  where
-    left_alike : Alike NothingKept r.last (left (initiating c deck m (kept_of t.number t.log)) r.ran.events)
-    left_alike =
-        subst (λ p. Alike NothingKept p (left (initiating c deck m (kept_of t.number t.log)) r.ran.events)) r.ran.leaves
-        (alike_left NothingKept (initiating_noted c deck m (kept_of t.number t.log)) (initiating c deck m (kept_of t.number t.log)) r.ran.events
-        (initiating_alike c deck m (kept_of t.number t.log)))
+module _ (c : Setup) (deck : List JobData) (m : ℕ) (records : List JobRecord) {t u : CallerFace}
+    (r : RanOut (initiating_noted c deck m) records t u) where
+  left_alike : Alike NothingKept r.last (left (initiating c deck m (kept_of t.number t.log)) r.ran.events)
+  left_alike =
+      subst (λ p. Alike NothingKept p (left (initiating c deck m (kept_of t.number t.log)) r.ran.events)) r.ran.leaves
+      (alike_left NothingKept (initiating_noted c deck m (kept_of t.number t.log)) (initiating c deck m (kept_of t.number t.log))
+      r.ran.events (initiating_alike c deck m (kept_of t.number t.log)))
 
-    pub forgets : RanOut (initiating c deck m) [] t u
-    forgets = record {
-      last = left (initiating c deck m (kept_of t.number t.log)) r.ran.events;
-      over = forget_over records r.last (left (initiating c deck m (kept_of t.number t.log)) r.ran.events) r.over left_alike;
-      ran = record {
-        events = r.ran.events;
-        went = r.ran.went;
-        says = (alike_says NothingKept (initiating_noted c deck m (kept_of t.number t.log)) (initiating c deck m (kept_of t.number t.log))
-            r.ran.events (initiating_alike c deck m (kept_of t.number t.log))).0 r.ran.says;
-        leaves = refl;
-        quiet = r.ran.quiet;
-      };
-    }
+  pub forgets : RanOut (initiating c deck m) [] t u
+  forgets = record {
+    last = left (initiating c deck m (kept_of t.number t.log)) r.ran.events;
+    over = forget_over records r.last (left (initiating c deck m (kept_of t.number t.log)) r.ran.events) r.over left_alike;
+    ran = record {
+      events = r.ran.events;
+      went = r.ran.went;
+      says = (alike_says NothingKept (initiating_noted c deck m (kept_of t.number t.log)) (initiating c deck m (kept_of t.number t.log))
+          r.ran.events (initiating_alike c deck m (kept_of t.number t.log))).0 r.ran.says;
+      leaves = refl;
+      quiet = r.ran.quiet;
+    };
+  }
 
 -- ---- what a task of each number has made
 
@@ -248,13 +248,15 @@ module _ (deck : List JobData) (i : ℕ) (b : BoardFace) (works : List Work) (ta
         few = few;
         volumes = subst (λ (c : Setup). AreHeld c (after c es) closed.volumes) config held;
         records = record {
-          count = ap (λ (rs : List (List JobRecord)). length rs) noted ∙ length-drop 2 (map records front) ∙ ap (λ n. n - 2) (length-map front records)
-              ∙ (let e : length front - 2 ≡ i = omega arith in e);
+          count = ap (λ (rs : List (List JobRecord)). length rs) noted ∙ length-drop 2 (map records front)
+              ∙ ap (λ n. n - 2) (length-map front records) ∙ (let e : length front - 2 ≡ i = omega arith in e);
           each = λ m lt. records_said m lt ∙ ap (λ (rs : List JobRecord). Done rs)
               (sym (ap (λ (rs : List (List JobRecord)). get_or rs m []) noted ∙ get_or-drop 2 (map records front) m []
-              ∙ get_or-map records front (2 + m) first_work [] (omega arith) ∙ ap records (get_or-take (length works - 1) works (2 + m) first_work (omega arith))
+              ∙ get_or-map records front (2 + m) first_work [] (omega arith)
+              ∙ ap records (get_or-take (length works - 1) works (2 + m) first_work (omega arith))
               ∙ ap (λ k. records (get_or works k first_work)) (let e : 2 + m ≡ initiator m = omega arith in e)));
         };
         ends = done_at (writer i) (omega arith) ∙ ap (λ (es : List ℕ). Done es) (writer_answered i (work (writer i))
-            ∙ sym (ends first_work ∙ ap (λ k. ends_found (get_or works k first_work)) (let e : length works - 1 ≡ writer i = omega arith in e)));
+            ∙ sym (ends first_work ∙ ap (λ k. ends_found (get_or works k first_work))
+            (let e : length works - 1 ≡ writer i = omega arith in e)));
       }

@@ -12,8 +12,6 @@ pub mod Ranges
 pub mod Marks
 -- the scheduler
 pub mod Dispatching
--- the writer
-pub mod Ends
 -- an initiator
 pub mod Steps
 pub mod Rounds

@@ -72,8 +72,8 @@ blocks_there : (c : Setup) (count : ℕ) (n : Need) → AreBlocks c count n → 
 blocks_there c count (need.Blocks bs) fits = (fits.1, fits.2, fits.3)
 blocks_there c count n fits = absurd fits
 
-own_there : (c : Setup) (deck : List JobData) (i : ℕ) (notes : Notes) (me : ℕ) (s : InitiatorStage) (n : Need) → c ≡ spool_setup deck i → me < i
-    → IsInitiatorNeed deck me notes s n → MayMeet c n
+own_there : (c : Setup) (deck : List JobData) (i : ℕ) (notes : Notes) (me : ℕ) (s : InitiatorStage) (n : Need) → c ≡ spool_setup deck i
+    → me < i → IsInitiatorNeed deck me notes s n → MayMeet c n
 own_there c deck i notes me (at.Pause round) (need.Pause token) is lt fits =
     subst (λ c. token.element < element_count c) (sym is)
     (let own = fits.1.0 in let one : (i + 3) * 1 ≡ i + 3 = omega arith in omega arith)
@@ -81,14 +81,14 @@ own_there c deck i notes me (at.Latch r) (need.Latch latch requestor mode) is lt
 own_there c deck i notes me s n is lt fits = absurd fits
 
 -- the call of what the task waits for may be made; behind an answer the task was told that, and otherwise it has worked
-pub record IsReady (b : BoardFace) (deck : List JobData) (i : ℕ) (w : Work) (t : CallerFace) (n : Need) (u : CallerFace) (o : Option Stage) : Type 0
-  where
-    pub same : IsSame t u
-    pub rests : IsResting b (need_events n) u
-    pub may : MayMeet b.config n
-    pub told : (g : Got) (v : CallerFace) → IsAnswerTo n g → Ran (need_call b.config n) (Done (answer_of g)) u v
-        → u.left ≤ v.left + need_events n → ToldAt b deck i w o t g v
-    pub lost : (v : CallerFace) → Ran (need_call b.config n) Wrong u v → HasCome b deck i w t None v
+pub record IsReady (b : BoardFace) (deck : List JobData) (i : ℕ) (w : Work) (t : CallerFace) (n : Need) (u : CallerFace)
+    (o : Option Stage) : Type 0 where
+  pub same : IsSame t u
+  pub rests : IsResting b (need_events n) u
+  pub may : MayMeet b.config n
+  pub told : (g : Got) (v : CallerFace) → IsAnswerTo n g → Ran (need_call b.config n) (Done (answer_of g)) u v
+      → u.left ≤ v.left + need_events n → ToldAt b deck i w o t g v
+  pub lost : (v : CallerFace) → Ran (need_call b.config n) Wrong u v → HasCome b deck i w t None v
 
 module _ (b : BoardFace) (deck : List JobData) (i : ℕ) (w : Work) (t : CallerFace) (n : Need) (u : CallerFace) where
   ready : {S A : Type 0} {stages : Stages S A} {Fits : S → Need → Type 0} {Answers : S → Got → Type 0} {whole : Call A} {s : S} (a : A)
@@ -125,6 +125,6 @@ module _ (b : BoardFace) (deck : List JobData) (i : ℕ) (w : Work) (t : CallerF
 -- ---- how the calls of the services meet needs
 
 -- a call that is not to be refused was served so: what is left is what follows the answer
-pub met : {A : Type 0} {most : ℕ} {call : Call (Result A Refusal)} {a : Result A Refusal} {q : Program Answer} {t u : CallerFace} (f : A → Call Answer)
-    → IsServed most call (λ b. b ≡ a) t u → unrefused f a (kept_of u.number u.log) ≡ q → Ran (accepted call f) q t u
+pub met : {A : Type 0} {most : ℕ} {call : Call (Result A Refusal)} {a : Result A Refusal} {q : Program Answer} {t u : CallerFace}
+    (f : A → Call Answer) → IsServed most call (λ b. b ≡ a) t u → unrefused f a (kept_of u.number u.log) ≡ q → Ran (accepted call f) q t u
 met f s is = ran_last (served_as s) (unrefused f) is

@@ -30,8 +30,8 @@ use Rattle.mv_work.proofs.Runs.{ran_last, served_as, out_done, out_wrong}
 
 -- ---- what was not given yet
 
-pub left_all : (f : JobData → ℕ) (given : List Bool) (jobs : List JobData) → AllByRecursion (λ b. b ≡ false) given → length given ≡ length jobs
-    → left_of f given jobs ≡ sum_by f jobs
+pub left_all : (f : JobData → ℕ) (given : List Bool) (jobs : List JobData) → AllByRecursion (λ b. b ≡ false) given
+    → length given ≡ length jobs → left_of f given jobs ≡ sum_by f jobs
 left_all f [] [] none same = refl
 left_all f [] (job ∷ jobs) none same = absurd (cc same)
 left_all f (b ∷ given) [] none same = absurd (cc same)
@@ -40,8 +40,8 @@ left_all f (false ∷ given) (job ∷ jobs) none same =
 left_all f (true ∷ given) (job ∷ jobs) none same = absurd (cc none.0)
 
 -- one more was given
-pub left_less : (f : JobData → ℕ) (given : List Bool) (jobs : List JobData) (j : ℕ) (d : Bool) → j < length given → length given ≡ length jobs
-    → get_or given j d ≡ false
+pub left_less : (f : JobData → ℕ) (given : List Bool) (jobs : List JobData) (j : ℕ) (d : Bool) → j < length given
+    → length given ≡ length jobs → get_or given j d ≡ false
     → left_of f (set given j true) jobs + f (job_at jobs j) ≡ left_of f given jobs
 left_less f [] jobs j d lt same is = absurd (omega arith)
 left_less f (b ∷ given) [] j d lt same is = absurd (cc same)

@@ -61,7 +61,10 @@ pub none_each : AllByRecursion (λ o. o ≡ None) no_tokens
 none_each = (refl, (refl, (refl, (refl, (refl, (refl, (refl, (refl, tt))))))))
 
 pub none_kept : AreKept no_tokens
-none_kept = record { count = refl; own = λ latch t at. absurd (cc (sym (all_get (λ o. o ≡ None) no_tokens latch None none_each refl) ∙ at)) }
+none_kept = record {
+  count = refl;
+  own = λ latch t at. absurd (cc (sym (all_get (λ o. o ≡ None) no_tokens latch None none_each refl) ∙ at));
+}
 
 -- a job that still runs, with what is noted now
 pub still_at : {deck : List JobData} {old : Notes} {round job marks : ℕ} (noted : Recorded) (less : ℕ) → noted.jobs ≡ old.noted.jobs

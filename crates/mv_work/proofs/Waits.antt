@@ -12,7 +12,8 @@ use Rattle.mv_work.specs.declared.need.Need.{Need}
 use Rattle.mv_work.specs.Needs.{answer_of, need_call, need_events}
 use Rattle.mv_work.specs.Ran.{Ran, Leads}
 use Rattle.mv_work.specs.Waiting.{Asks, AsksFor, Comes, ComesTo, IsResting, Stages, Told, Waits}
-use Rattle.mv_work.proofs.Runs.{astray, leads_all, leads_on, leads_out, leads_same, leads_then, out_done, out_wrong, ran_nothing, served_few, served_ran, still_of}
+use Rattle.mv_work.proofs.Runs.{astray, leads_all, leads_on, leads_out, leads_same, leads_then, out_done, out_wrong, ran_nothing}
+use Rattle.mv_work.proofs.Runs.{served_few, served_ran, still_of}
 
 -- a task at rest, with fewer events that it needs
 pub rests_less : {b : BoardFace} {most less : ℕ} {u : CallerFace} → IsResting b most u → less ≤ most → IsResting b less u

@@ -1,15 +1,13 @@
-use Rattle.std.proofs.Common.{ℕ, List, length, take, Ok, Err, refl, sym, ap, ◌∙◌, subst, arith}
+use Rattle.std.proofs.Common.{ℕ, List, length, take, refl, sym, ap, ◌∙◌, subst, arith}
 use Rattle.std.proofs.lemmas.List.{length-take-le}
 use Rattle.mv_calls.specs.Program.{Done}
 use Rattle.mv_work.specs.declared.need.Need.TheVariants as need
 use Rattle.mv_work.specs.Needs.{Slots, need_call}
 use Rattle.mv_work.specs.Ran.{Ran}
-use Rattle.mv_polled.specs.Waiting.{IsWaited}
-use Rattle.mv_wait.specs.Answers.{slots_of, wait_refused}
+use Rattle.mv_wait.specs.Answers.{slots_of}
 use Rattle.mv_wait.specs.declared.waiting.WaitSlot.{WaitSlot}
 use Rattle.mv_work.proofs.Meeting.{met}
 use Rattle.mv_work.proofs.Runs.{served_few}
-use Rattle.mv_polled.proofs.Calls.{wait_so}
 use Rattle.mv_polled.proofs.meeting.await_blocks.Goals as goal
 
 pub returns-in-Ready-Ok-clause-turn : goal.returns-in-Ready-Ok-clause-turn
@@ -18,7 +16,7 @@ returns-in-Ready-Ok-clause-turn g c b t does =
     let u = c.poll.new.task in
     let w = c.poll.new.self in
     let call = c.poll.ensures.call in
-    let waited = subst (λ r. IsWaited config w r t u) c.in-Ready-Ok.field-0-is (c.in-Ready-Ok.ensures.turn t does.4) in
+    let waited = rw c.in-Ready-Ok.field-0-is at c.in-Ready-Ok.ensures.turn t does.4 in
     let es = call.1 ∙ does.1 in
     let slots = c.slots.ensures in
     let few = does.2 in
@@ -26,7 +24,7 @@ returns-in-Ready-Ok-clause-turn g c b t does =
     let size = ap (λ (xs : List WaitSlot). length xs) slots ∙ waited.causes.2 ∙ ap (λ (xs : List ℕ). length xs) es
     ∙ length-take-le b.len b.of (omega arith) in
     let told = c.slots_in.ensures.slots in
-    let served = wait_so config (Ok (slots_of w.slots)) (call.0 ∙ does.0) es waited.served in
+    let served = rw (call.0 ∙ does.0, es) at waited.served in
     let fits = served_few served in
     let len = length-take-le b.len b.of (omega arith) in (
       c.slots_in.ensures.len ∙ size,
@@ -38,9 +36,6 @@ returns-in-Ready-Ok-clause-turn g c b t does =
 
 pub returns-in-Ready-Err-clause-turn : goal.returns-in-Ready-Err-clause-turn
 returns-in-Ready-Err-clause-turn g c b t does =
-    let config = c.args.station.now.config in
-    let u = c.poll.new.task in
-    let w = c.poll.new.self in
     let call = c.poll.ensures.call in
-    let waited = subst (λ r. IsWaited config w r t u) c.in-Ready-Err.field-0-is (c.in-Ready-Err.ensures.turn t does.4) in
-    met _ (wait_so config (Err (wait_refused c.in-Ready-Err.field-0-0)) (call.0 ∙ does.0) (call.1 ∙ does.1) waited.served) refl
+    let waited = rw c.in-Ready-Err.field-0-is at c.in-Ready-Err.ensures.turn t does.4 in
+    met _ (rw (call.0 ∙ does.0, call.1 ∙ does.1) at waited.served) refl

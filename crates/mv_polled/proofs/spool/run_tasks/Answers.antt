@@ -29,9 +29,8 @@ returns g c =
     let closed = c.close-closed.ensures in
     let brought = c.brought_by-brought.ensures in
     record {
-      left = is_left deck i b c.parted-tasks.result.1.items c.parted-tasks.result.0.items c.close-closed.result c.requires.some c.requires.sound
-          (c.in_ok-station.ensures.config ∙ c.requires.config) closed.legal closed.callers
-          (subst (λ ws. AreWorked deck i b ws c.parted-tasks.result.0.items) (sym parts.works)
-          (subst (AreWorked deck i b (map work_of ps)) (sym parts.tasks) (are_worked deck i b ps all.polled all.finished all.count)))
+      left = is_left deck i b c.parted-tasks.result.1.items c.parted-tasks.result.0.items c.close-closed.result c.requires.some
+          c.requires.sound (c.in_ok-station.ensures.config ∙ c.requires.config) closed.legal closed.callers
+          (rw (parts.works, parts.tasks) (are_worked deck i b ps all.polled all.finished all.count))
           c.brought_by-brought.result closed.config closed.whole closed.few closed.volumes brought.records brought.ends;
     }

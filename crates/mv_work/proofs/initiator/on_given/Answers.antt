@@ -35,8 +35,8 @@ returns-then-given-eq-NO_JOB g c = record {
 pub returns-in_err-named : goal.returns-in_err-named
 returns-in_err-named g c = rw c.from_residual.ensures (
     comes_nowhere c.args.task.now
-    (unnamed c.args.station.now.config (jobs_of c.args.deck.now) c.args.index c.args.round c.args.notes.now.noted.jobs (gift_of c.args.given)
-    c.if-given-eq-NO_JOB.false (named_so c.args.deck.now c.args.given.code _ c.in_err-named.ensures)) c.requires.rests.quiet)
+    (unnamed c.args.station.now.config (jobs_of c.args.deck.now) c.args.index c.args.round c.args.notes.now.noted.jobs
+    (gift_of c.args.given) c.if-given-eq-NO_JOB.false (named_so c.args.deck.now c.args.given.code _ c.in_err-named.ensures)) c.requires.rests.quiet)
 
 pub returns-then-round-jobs : goal.returns-then-round-jobs
 returns-then-round-jobs g c =

@@ -37,7 +37,8 @@ next_is : (steps plan : List Step) (place : ℕ) (next : Step) → place < lengt
 next_is steps plan place next lt is at =
     let within : place < length plan = subst (λ (l : List Step). place < length l) is lt in
     let begins : drop place plan ≡ next ∷ drop (place + 1) plan =
-    drop_more plan place next within ∙ ap (λ s. s ∷ drop (place + 1) plan) (ap (λ (l : List Step). get_or l place next) (sym is) ∙ sym at) in
+    drop_more plan place next within
+    ∙ ap (λ s. s ∷ drop (place + 1) plan) (ap (λ (l : List Step). get_or l place next) (sym is) ∙ sym at) in
     record {
       begins = begins;
       events = ap steps_events begins ∙ sum_by-cons step_events next (drop (place + 1) plan);

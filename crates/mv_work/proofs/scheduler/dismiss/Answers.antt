@@ -1,18 +1,15 @@
-use Rattle.std.proofs.Common.{◌+◌, ◌*◌, List, [], ◌∷◌, length, ap, ◌∙◌, subst, sym, arith}
-use Rattle.mv_calls.specs.Program.{Call}
+use Rattle.std.proofs.Common.{◌+◌, ◌*◌, [], ◌∷◌, length, ap, ◌∙◌, subst, refl, sym, arith}
 use Rattle.mv_plan.specs.SpoolSetup.{idle}
 use Rattle.mv_work.specs.Needs.{IsWaitFor}
 use Rattle.mv_work.specs.Parts.{jobs_of}
-use Rattle.mv_work.proofs.Calls.{blocks_fit}
+use Rattle.mv_work.proofs.Calls.{blocks_asked_in, blocks_fit}
 use Rattle.mv_work.proofs.Decks.{job_count, block_exists}
-use Rattle.mv_work.proofs.Dispatching.{dismissal_asked, dismissals_over}
+use Rattle.mv_work.proofs.Ranges.{range_next, range_over}
 use Rattle.mv_work.proofs.scheduler.dismiss.Goals as goal
 
 pub returns-then-index-initiators : goal.returns-then-index-initiators
-returns-then-index-initiators c = record {
-  asks = λ kept. ap (λ (call : Call (List _)). call kept)
-      (dismissals_over c.args.station.now.config (jobs_of c.args.deck.now) c.args.initiators c.args.index c.if-index-initiators.true);
-}
+returns-then-index-initiators c =
+    record { asks = λ kept. rw (range_over c.args.index c.args.initiators c.if-index-initiators.true) refl }
 
 pub returns : goal.returns
 returns c =
@@ -24,7 +21,7 @@ returns c =
     let exists = block_exists c.requires.spool (4 * length c.args.deck.now + m) (omega arith) in
     let is = subst (λ e. IsWaitFor 1 (e ∷ []) c.one.result) (c.idle.ensures ∙ ap (λ k. idle k m) (sym n)) c.one.ensures in record {
       asks = (
-        dismissal_asked config deck i m (omega arith) is,
+        rw (range_next m i (omega arith)) (blocks_asked_in config is _ _),
         record { numbers = omega arith; blocks = blocks_fit config is is.len (let len = is.len in omega arith) (omega arith, tt) },
         (let len = is.len in omega arith),
       );

@@ -7,6 +7,7 @@ use Rattle.mv_plan.specs.Jobs.{job_at}
 use Rattle.mv_plan.specs.SpoolSetup.{end_for_scheduler}
 use Rattle.mv_plan.specs.SpoolTasks.{ends_awaited, ends_of}
 use Rattle.mv_wait.specs.Answers.{slots_of}
+use Rattle.mv_work.specs.declared.need.Blocks.{Blocks}
 use Rattle.mv_work.specs.declared.need.Need.TheVariants as need
 use Rattle.mv_work.specs.declared.stage.SchedulerStage.TheVariants as stage
 use Rattle.mv_work.specs.Needs.{IsWaitFor}
@@ -31,8 +32,8 @@ returns-then-is_empty g c =
     let deck = jobs_of c.args.deck.now in
     let i = c.args.initiators in
     comes_as (found_is (slots_of c.args.slots.now) (entry_found config deck i c.args.job) _ _ c.in_ok-first_in.ensures.found
-    ∙ ap (λ (parts : List After). then_jobs config deck i c.args.job (ends_awaited config (length deck) parts (exit_set config deck i c.args.job)))
-    (sym c.after_of-after.ensures ∙ is_none c.after_of-after.result.now c.if-is_empty.ensures)) c.set_exit.ensures
+    ∙ ap (λ (parts : List After). then_jobs config deck i c.args.job (ends_awaited config (length deck) parts
+    (exit_set config deck i c.args.job))) (sym c.after_of-after.ensures ∙ is_none c.after_of-after.result.now c.if-is_empty.ensures)) c.set_exit.ensures
 
 pub end_blocks-requires-clause-jobs : goal.end_blocks-requires-clause-jobs
 end_blocks-requires-clause-jobs g c = (
@@ -58,10 +59,11 @@ returns g c =
     let after = (job_at deck j).after in
     let read = c.after_of-after.result.now in
     let few : length after ≤ most_after = after_few c.args.deck.now i j sound c.requires.job in
-    let some : 0 < length after = subst (λ (parts : List After). 0 < length parts) c.after_of-after.ensures (is_some (length read) c.if-is_empty.ensures) in
+    let some : 0 < length after = rw (← c.after_of-after.ensures) (is_some (length read) c.if-is_empty.ensures) in
     let size = ap (λ (parts : List After). length parts) c.after_of-after.ensures in
     let last = block_exists c.requires.spool (4 * n - 1) (omega arith) in
-    let is : IsWaitFor (length after) (ends_of (length deck) after) (record { count = length read; len = length read; of = c.end_blocks.result }) = record {
+    let blocks : Blocks = record { count = length read; len = length read; of = c.end_blocks.result } in
+    let is : IsWaitFor (length after) (ends_of (length deck) after) blocks = record {
       count = size;
       len = size ∙ sym (length-map after (λ (part : After). end_for_scheduler (length deck) part.job));
       blocks = c.end_blocks.ensures.blocks ∙ ap (λ n. ends_of n read) (sym count) ∙ ap (ends_of (length deck)) c.after_of-after.ensures;
@@ -69,7 +71,7 @@ returns g c =
     } in
     let asks : SchedulerAsks config deck i (then_jobs config deck i j (ends_awaited config (length deck) after (exit_set config deck i j)))
     (2 * length after + scheduler_due deck i (stage.Ends j))
-    (Some (stage.Ends j, need.Blocks (record { count = length read; len = length read; of = c.end_blocks.result }))) = record {
+    (Some (stage.Ends j, need.Blocks blocks)) = record {
       asks = (
         ends_asked config deck i j some is,
         record {

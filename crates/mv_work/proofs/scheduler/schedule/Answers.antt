@@ -1,9 +1,11 @@
 use Rattle.std.proofs.Common.{[], ◌∷◌, subst, arith}
+use Rattle.std.proofs.lemmas.List.{drop_more}
+use Rattle.mv_plan.specs.Jobs.{no_job}
 use Rattle.mv_work.specs.Needs.{IsWaitFor}
 use Rattle.mv_work.specs.Parts.{jobs_of}
-use Rattle.mv_work.proofs.Calls.{blocks_fit}
+use Rattle.mv_work.proofs.Calls.{blocks_asked_in, blocks_fit}
 use Rattle.mv_work.proofs.Decks.{job_count, block_exists}
-use Rattle.mv_work.proofs.Dispatching.{due_next, due_over, entry_asked, jobs_over}
+use Rattle.mv_work.proofs.Dispatching.{due_next, due_over, jobs_over}
 use Rattle.mv_work.proofs.Waits.{asks_as}
 use Rattle.mv_work.proofs.scheduler.schedule.Goals as goal
 
@@ -26,7 +28,7 @@ returns c =
     let exists = block_exists c.requires.spool job (omega arith) in
     let is = subst (λ e. IsWaitFor 1 (e ∷ []) c.one.result) c.entered.ensures c.one.ensures in record {
       asks = (
-        entry_asked config deck i job (omega arith) is,
+        rw (drop_more deck job no_job (omega arith)) (blocks_asked_in config is _ _),
         record { numbers = omega arith; blocks = blocks_fit config is is.len (let len = is.len in omega arith) (exists, tt) },
         (let len = is.len in omega arith),
       );

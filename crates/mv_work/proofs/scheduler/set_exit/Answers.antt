@@ -1,17 +1,15 @@
 use Rattle.std.proofs.Common.{◌+◌, ◌*◌, ◌-◌, ◌<◌, length, map, Some, refl, sym, ap, ◌∙◌, subst, arith}
 use Rattle.std.specs.List.{AllByRecursion, range_with_len}
 use Rattle.std.proofs.lemmas.List.FromFn.{length-map-range_with_len}
-use Rattle.mv_calls.specs.Program.{unrefused}
 use Rattle.mv_plan.specs.SpoolSetup.{done, idle}
-use Rattle.mv_plan.specs.SpoolTasks.{code_of, hand_over, lowest}
 use Rattle.mv_work.specs.declared.need.Need.TheVariants as need
 use Rattle.mv_work.specs.declared.stage.SchedulerStage.TheVariants as stage
 use Rattle.mv_work.specs.Needs.{IsWaitFor}
 use Rattle.mv_work.specs.Parts.{jobs_of}
-use Rattle.mv_work.specs.Scheduling.{SchedulerAsks, first_idle, idles, jobs_from, scheduler_due, then_jobs}
+use Rattle.mv_work.specs.Scheduling.{SchedulerAsks, first_idle, idles, scheduler_due, then_jobs}
 use Rattle.mv_work.proofs.Calls.{blocks_asked_in, blocks_fit}
 use Rattle.mv_work.proofs.Decks.{block_exists, job_count}
-use Rattle.mv_work.proofs.Dispatching.{exit_first, set_then}
+use Rattle.mv_work.proofs.Dispatching.{exit_first}
 use Rattle.mv_work.proofs.Ranges.{idle_exist}
 use Rattle.mv_work.proofs.Runs.{leads_all, leads_on, ran_last, served_as}
 use Rattle.mv_work.proofs.Waits.{asks_come, comes_as, comes_astray, rests_then}
@@ -33,7 +31,6 @@ returns g c =
     let count = job_count c.args.deck.now in
     let block = c.done.ensures ∙ ap (λ n. done n j) (sym count) in
     let served = c.in-Ok.ensures.served in
-    let rest = set_then config deck i j c.args.skipped in
     let last = block_exists c.requires.spool (4 * n + i - 1) (omega arith) in
     let is : IsWaitFor 1 (idles (length deck) i) (record { count = 1; len = i; of = c.idle_blocks.result }) = record {
       count = refl;
@@ -45,8 +42,7 @@ returns g c =
     (2 * i + scheduler_due deck i (stage.Idle j c.args.skipped))
     (Some (stage.Idle j c.args.skipped, need.Blocks (record { count = 1; len = i; of = c.idle_blocks.result }))) = record {
       asks = (
-        blocks_asked_in config is (lowest (hand_over config (length deck) (code_of j c.args.skipped)) 0)
-            (λ (handed : Unit {0}). jobs_from config deck i (j + 1)),
+        blocks_asked_in config is _ _,
         record {
           numbers = omega arith;
           blocks = blocks_fit config is refl (let few = c.requires.spool.initiators in omega arith)
@@ -57,5 +53,5 @@ returns g c =
       );
     } in
     comes_as (exit_first config deck i j c.args.skipped)
-    (asks_come asks (leads_on (unrefused rest) (leads_all _ c.args.task.now) (served_as (rw block at served)))
+    (asks_come asks (leads_on _ (leads_all _ c.args.task.now) (served_as (rw block at served)))
     (rests_then served c.requires.rests (omega arith)))

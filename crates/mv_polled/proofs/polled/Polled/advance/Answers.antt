@@ -54,11 +54,9 @@ pub returns-in-Ready-Err : goal.returns-in-Ready-Err
 returns-in-Ready-Err g c = record {
   polled = λ k lt old.
       let b = c.args.station.now in
-      let u = c.poll.new.task in
       let at = waits b (jobs_of c.args.deck.now) c.args.initiators c.requires.spool.config k c.args.self.now old c.requires.waits in
-      let met = subst (λ r. IsMet b.config at.need at.began r u) c.in-Ready-Err.field-0-is
-      (c.in-Ready-Err.ensures.turn at.need at.began at.meeting) in
-      record { new = old.new; fresh = old.fresh; room = c.poll.ensures.room; stands = at.ready.lost u met };
+      let met = rw c.in-Ready-Err.field-0-is at c.in-Ready-Err.ensures.turn at.need at.began at.meeting in
+      record { new = old.new; fresh = old.fresh; room = c.poll.ensures.room; stands = at.ready.lost c.poll.new.task met };
 }
 
 -- the task was told an answer
@@ -68,8 +66,7 @@ told : (g : bound.Over) (c : In-Ready-Ok g) (k : _)
 told g c k is =
     let b = c.args.station.now in
     let at = waits b (jobs_of c.args.deck.now) c.args.initiators c.requires.spool.config k c.args.self.now is c.requires.waits in
-    let met = subst (λ r. IsMet b.config at.need at.began r c.poll.new.task) c.in-Ready-Ok.field-0-is
-    (c.in-Ready-Ok.ensures.turn at.need at.began at.meeting) in
+    let met = rw c.in-Ready-Ok.field-0-is at c.in-Ready-Ok.ensures.turn at.need at.began at.meeting in
     at.ready.told c.in-Ready-Ok.got c.poll.new.task met.0 met.1 met.2
 
 pub go_on-need-requires-clause-told : goal.go_on-need-requires-clause-told

@@ -8,26 +8,20 @@ use Rattle.mv_polled.proofs.polled.Polled.begin.Goals as goal
 pub begin-need-requires-clause-number : goal.begin-need-requires-clause-number
 begin-need-requires-clause-number g c =
     let p = c.requires.polled in
-    let i = c.args.initiators in
-    let s = new_stands c.args.station.now (jobs_of c.args.deck.now) i c.requires.spool.config p.0 c.args.self.now p.2 c.requires.new in
-    subst (λ m. m < i + 3) (sym (ap (λ (f : CallerFace). f.number) s.0 ∙ p.2.fresh.number)) p.1
+    let s = new_stands c.args.station.now (jobs_of c.args.deck.now) c.args.initiators c.requires.spool.config p.0 c.args.self.now p.2
+    c.requires.new in rw (s.0, p.2.fresh.number) p.1
 
 pub begin-need-requires-clause-fresh : goal.begin-need-requires-clause-fresh
 begin-need-requires-clause-fresh g c =
     let p = c.requires.polled in
-    let b = c.args.station.now in
-    let t = c.args.self.now.task in
-    let s = new_stands b (jobs_of c.args.deck.now) c.args.initiators c.requires.spool.config p.0 c.args.self.now p.2 c.requires.new in
-    subst (λ m. IsFresh b m t) (sym (ap (λ (f : CallerFace). f.number) s.0 ∙ p.2.fresh.number))
-    (subst (λ f. IsFresh b p.0 f) (sym s.0) p.2.fresh)
+    let s = new_stands c.args.station.now (jobs_of c.args.deck.now) c.args.initiators c.requires.spool.config p.0 c.args.self.now p.2
+    c.requires.new in rw (s.0, p.2.fresh.number) p.2.fresh
 
 pub begin-need-requires-clause-new : goal.begin-need-requires-clause-new
 begin-need-requires-clause-new g c =
     let p = c.requires.polled in
-    let deck = jobs_of c.args.deck.now in
-    let i = c.args.initiators in
-    let s = new_stands c.args.station.now deck i c.requires.spool.config p.0 c.args.self.now p.2 c.requires.new in
-    subst (λ m. IsNew deck i m c.args.self.now.work) (sym (ap (λ (f : CallerFace). f.number) s.0 ∙ p.2.fresh.number)) s.1
+    let s = new_stands c.args.station.now (jobs_of c.args.deck.now) c.args.initiators c.requires.spool.config p.0 c.args.self.now p.2
+    c.requires.new in rw (s.0, p.2.fresh.number) s.1
 
 pub take_up-requires-clause-room : goal.take_up-requires-clause-room
 take_up-requires-clause-room g c = c.requires.polled.2.room

@@ -1,4 +1,5 @@
-use Rattle.std.proofs.Common.{rules, ℕ, ◌-◌, ◌*◌, ◌≤◌, List, length, get_or, vec_capacity, Option, Some, None, sym, ap, ◌∙◌, arith}
+use Rattle.std.proofs.Common.{rules, ◌≡◌, ℕ, ◌-◌, ◌*◌, ◌≤◌, List, [], length, get_or, vec_capacity, Option, Some, None, sym, ap, ◌∙◌, arith}
+use Rattle.std.specs.List.{range_with_len}
 use Rattle.mv_deck.specs.Deck.{JobData}
 use Rattle.mv_machine.specs.Setup.{Setup}
 use Rattle.mv_work.specs.Initiating.{steps_events}
@@ -7,8 +8,7 @@ use Rattle.mv_work.specs.Scheduling.{jobs_due}
 use Rattle.mv_work.specs.Writing.{IsWriterNeed, WriterComes, ends_from, writer_stages}
 use Rattle.mv_work.specs.Waiting.{Asks, IsResting}
 use Rattle.mv_work.specs.declared.need.Need.{Need}
-use Rattle.mv_plan.specs.SpoolTasks.{writing}
-use Rattle.mv_work.proofs.Ends.{ends_first}
+use Rattle.mv_plan.specs.SpoolTasks.{ends_kept, writing}
 use Rattle.mv_work.proofs.Decks.{initiator_budget, job_count, writer_budget}
 use Rattle.mv_work.proofs.Meeting.{reader_worked, scheduler_worked, writer_worked, initiator_worked}
 use Rattle.mv_work.proofs.Rounds.{left_all}
@@ -31,8 +31,15 @@ returns-in_err-stage g c =
     let i = c.args.initiators in
     let rests : IsResting b (jobs_due deck i 0) c.args.task.now = search rules in
     let out = (asks_first c.in_err-stage.ensures rests).come in
-    rw c.from_residual.ensures
-    (out.ran.went.same, scheduler_worked b.config deck i c.args.self.now (sym c.number-number.ensures.number ∙ c.if-number-eq-SCHEDULER.true) out)
+    rw c.from_residual.ensures (
+      out.ran.went.same,
+      scheduler_worked b.config deck i c.args.self.now
+          (sym c.number-number.ensures.number ∙ c.if-number-eq-SCHEDULER.true) out,
+    )
+
+-- the writer's ends from the first on are all
+ends_first : (c : Setup) (n : ℕ) → ends_from c n [] 0 ≡ writing c n
+ends_first c n = ap (λ m. ends_kept c n [] (range_with_len 0 m)) (let e : n - 0 ≡ n = omega arith in e)
 
 -- a writer that is begun asks for the first end, if there is one
 write_first : (g : bound.Over) (c : After-write g) (next : Option (ℕ × Need))
@@ -56,7 +63,8 @@ write_first g c next asks =
     ∙ writer_budget (jobs_of c.args.deck.now) c.args.initiators c.args.task.now.number number in
     let rests : IsResting b (2 * (length c.args.deck.now - 0)) c.args.task.now =
     record { board = c.requires.fresh.board; quiet = search rules; left = omega arith } in
-    comes_as (sym (ends_first b.config n) ∙ ap (λ es. ends_from b.config n es 0) (sym none)) (asks_first (asks room ends.items (omega arith)) rests)
+    comes_as (sym (ends_first b.config n) ∙ ap (λ es. ends_from b.config n es 0) (sym none))
+    (asks_first (asks room ends.items (omega arith)) rests)
 
 pub returns-in_err-job : goal.returns-in_err-job
 returns-in_err-job g c =
