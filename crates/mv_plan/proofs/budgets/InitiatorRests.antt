@@ -1,29 +1,28 @@
 -- How many events an initiator may still make, by its point: the events of each job that it was not named before, and those of
 -- the round in which it is; and that each event takes one of them. Used by Within.
-use Rattle.std.proofs.Common.{◌≡◌, ℕ, zero, suc, ◌+◌, ◌*◌, ◌<◌, ◌≤◌, ◌==◌, nat_le, nat_lt, ◌&&◌, ◌||◌, ◌^◌, Bool, true, false}
-use Rattle.std.proofs.Common.{if◌then◌else◌}
-use Rattle.std.proofs.Common.{List, [], ◌∷◌, ◌++◌, length, Option, Some, None, refl, ap, subst, arith, ◌-◌}
+use Rattle.std.proofs.Common.{◌≡◌, ℕ, zero, suc, ◌+◌, ◌*◌, ◌<◌, ◌≤◌, ◌==◌, nat_le, ◌&&◌, ◌||◌, Bool, true, false, if◌then◌else◌, List, []}
+use Rattle.std.proofs.Common.{◌∷◌, ◌++◌, length, Some, None, refl, ap, subst, arith, ◌-◌}
 use Rattle.std.specs.List.{list_any}
 use Rattle.std.proofs.lemmas.Bool.{eq-eqb, ne_eqb, and_parts, leb-true}
-use Rattle.mv_ecb.specs.declared.operation.EcbReply.TheVariants as ecb_reply
-use Rattle.mv_element.specs.declared.operation.ElementReply.TheVariants as element_reply
-use Rattle.mv_latch.specs.declared.operation.LatchReply.TheVariants as latch_reply
 use Rattle.mv_machine.specs.declared.entry.Reply.{Reply}
-use Rattle.mv_machine.specs.declared.entry.Reply.TheVariants as reply_of
-use Rattle.mv_machine.specs.declared.entry.VolumeReply.TheVariants as volume_reply
 use Rattle.mv_deck.specs.declared.deck.Step.{Step}
-use Rattle.mv_deck.specs.declared.deck.Step.TheVariants.{Print, Use, Free, Count, Scan, Abend, Return}
+use Rattle.mv_deck.specs.declared.deck.Step.TheVariants.{Print, Free}
 use Rattle.mv_deck.specs.Deck.{JobData}
 use Rattle.mv_plan.specs.Jobs.{job_at}
-use Rattle.mv_plan.proofs.deck.Events.{steps_events, all_events}
 use Rattle.mv_plan.specs.SpoolTasks.{Named, job_named, not_to_run}
-use Rattle.mv_plan.proofs.points.Points.{Point, At, Astray, Running, Hand, empty_hand, hand_with, hand_without, InitiatorAt, Opening}
+use Rattle.mv_element.specs.declared.operation.ElementReply.TheVariants as element_reply
+use Rattle.mv_latch.specs.declared.operation.LatchReply.TheVariants as latch_reply
+use Rattle.mv_machine.specs.declared.entry.Reply.TheVariants as reply_of
+use Rattle.mv_machine.specs.declared.entry.VolumeReply.TheVariants as volume_reply
+use Rattle.mv_plan.proofs.deck.Events.{steps_events, all_events}
+use Rattle.mv_plan.proofs.points.Points.{Point, At, Running, Hand, empty_hand, hand_with, hand_without, InitiatorAt, Opening}
 use Rattle.mv_plan.proofs.points.Points.{Offering, Pausing, Resuming, Obtaining, Confirming, Freeing, Reading, Writing, Scanning}
 use Rattle.mv_plan.proofs.points.Points.{Rescanning, Purging, EndingJob, EndingForScheduler, EndingForWriter, Closing, initiator_goes}
-use Rattle.mv_plan.proofs.points.Points.{rounds_from, rounds_after, freeing_at, steps_at, running, job_start, named_at, given_at}
-use Rattle.mv_plan.proofs.points.Points.{counting_at}
+use Rattle.mv_plan.proofs.points.Points.{rounds_from, rounds_after, freeing_at, steps_at, running, job_start, given_at}
+use Rattle.mv_plan.proofs.points.Points.{counting_at, InJob}
 use Rattle.mv_plan.proofs.points.PostsAndWaits.{on_posted_keeps}
 use Rattle.mv_plan.proofs.volumes.Sums.{sum_to, sum_front, sum_change}
+use Rattle.mv_plan.proofs.points.Lands.{freeing_lands, given_lands, counting_lands, ended_lands}
 
 -- ---- jobs that were not named before
 
@@ -110,17 +109,17 @@ module _ (deck : List JobData) where
   initiator_rest (At (Offering more before g)) = 4 + rounds_to_come deck before
   initiator_rest (At (Pausing more before g)) = 3 + rounds_to_come deck before
   initiator_rest (At (Resuming more before g)) = 2 + rounds_to_come deck before
-  initiator_rest (At (Obtaining run hand latch mode steps)) = 6 + (steps_events steps + behind_job run)
-  initiator_rest (At (Confirming run hand latch mode id steps)) = 5 + (steps_events steps + behind_job run)
-  initiator_rest (At (Freeing run hand latch id steps)) = 5 + (steps_events steps + behind_job run)
-  initiator_rest (At (Reading run hand volume amount steps)) = 6 + (steps_events steps + behind_job run)
-  initiator_rest (At (Writing run hand volume amount number steps)) = 5 + (steps_events steps + behind_job run)
-  initiator_rest (At (Scanning run hand volume steps)) = 6 + (steps_events steps + behind_job run)
-  initiator_rest (At (Rescanning run hand volume number steps)) = 5 + (steps_events steps + behind_job run)
-  initiator_rest (At (Purging run hand code)) = 4 + behind_job run
-  initiator_rest (At (EndingJob run code counts)) = 3 + behind_job run
-  initiator_rest (At (EndingForScheduler run code counts)) = 2 + behind_job run
-  initiator_rest (At (EndingForWriter run code counts)) = 1 + behind_job run
+  initiator_rest (At (InJob run (Obtaining hand latch mode steps))) = 6 + (steps_events steps + behind_job run)
+  initiator_rest (At (InJob run (Confirming hand latch mode id steps))) = 5 + (steps_events steps + behind_job run)
+  initiator_rest (At (InJob run (Freeing hand latch id steps))) = 5 + (steps_events steps + behind_job run)
+  initiator_rest (At (InJob run (Reading hand volume amount steps))) = 6 + (steps_events steps + behind_job run)
+  initiator_rest (At (InJob run (Writing hand volume amount number steps))) = 5 + (steps_events steps + behind_job run)
+  initiator_rest (At (InJob run (Scanning hand volume steps))) = 6 + (steps_events steps + behind_job run)
+  initiator_rest (At (InJob run (Rescanning hand volume number steps))) = 5 + (steps_events steps + behind_job run)
+  initiator_rest (At (InJob run (Purging hand code))) = 4 + behind_job run
+  initiator_rest (At (InJob run (EndingJob code counts))) = 3 + behind_job run
+  initiator_rest (At (InJob run (EndingForScheduler code counts))) = 2 + behind_job run
+  initiator_rest (At (InJob run (EndingForWriter code counts))) = 1 + behind_job run
   initiator_rest (At (Closing g)) = 1
   initiator_rest p = 0
 
@@ -129,27 +128,17 @@ module _ (deck : List JobData) where
   rounds_rest zero before g = omega arith
   rounds_rest (suc more) before g = omega arith
 
-  -- where a latch is to be freed
-  freeing_rest : (run : Running) (hand : Hand) (latch : ℕ) (slot : Option ℕ) (steps : List Step)
-      → initiator_rest (freeing_at run hand latch slot steps) ≤ 5 + (steps_events steps + behind_job run)
-  freeing_rest run hand latch None steps = omega arith
-  freeing_rest run hand latch (Some id) steps = omega arith
-
   -- where a job's steps are to be done
   steps_rest : (run : Running) (hand : Hand) (steps : List Step)
       → initiator_rest (steps_at run hand steps) ≤ 4 + (steps_events steps + behind_job run)
-  steps_rest run hand [] = omega arith
   steps_rest run hand (Print text ∷ steps) =
       let le : initiator_rest (steps_at run hand steps) ≤ 4 + (steps_events steps + behind_job run) = steps_rest run hand steps in
       omega arith
-  steps_rest run hand (Use latch mode ∷ steps) = omega arith
   steps_rest run hand (Free latch ∷ steps) =
       let le : initiator_rest (freeing_at run hand latch (hand.requests latch) steps) ≤ 5 + (steps_events steps + behind_job run) =
-      freeing_rest run hand latch (hand.requests latch) steps in omega arith
-  steps_rest run hand (Count volume amount ∷ steps) = omega arith
-  steps_rest run hand (Scan volume ∷ steps) = omega arith
-  steps_rest run hand (Abend code ∷ steps) = omega arith
-  steps_rest run hand (Return code ∷ steps) = omega arith
+      freeing_lands (λ p. initiator_rest p ≤ 5 + (steps_events steps + behind_job run)) (omega arith) run hand latch
+      (hand.requests latch) steps (λ id e. omega arith) in omega arith
+  steps_rest run hand steps = omega arith
 
   -- where a job begins
   start_rest : (skipped : Bool) (run : Running) (job : JobData)
@@ -157,42 +146,24 @@ module _ (deck : List JobData) where
   start_rest true run job = omega arith
   start_rest false run job = steps_rest run empty_hand job.steps
 
-  -- where a code names a job
-  named_rest : (slot : Option Named) (before : List ℕ) (more g : ℕ) → ((named : Named) → slot ≡ Some named → named.job < length deck)
-      → initiator_rest (named_at deck slot before more g) ≤ 1 + rounds_to_come deck before
-  named_rest None before more g below = omega arith
-  named_rest (Some named) before zero g below = omega arith
-  named_rest (Some named) before (suc more) g below = go (is_among named.job before) refl where
-    go : (b : Bool) → is_among named.job before ≡ b
-        → initiator_rest (if b then Astray else job_start named.skipped (running named before (suc more) g) (job_at deck named.job))
-        ≤ 1 + rounds_to_come deck before
-    go true e = omega arith
-    go false e =
-        let le : initiator_rest (job_start named.skipped (running named before (suc more) g) (job_at deck named.job))
-        ≤ 4 + (steps_events (job_at deck named.job).steps + behind_job (running named before (suc more) g)) =
-        start_rest named.skipped (running named before (suc more) g) (job_at deck named.job) in
-        let taken : rounds_to_come deck (before ++ named.job ∷ []) + round_events deck named.job ≡ rounds_to_come deck before =
-        round_taken deck before named.job (below named refl) e in omega arith
-
   -- where a code was given
   given_rest : (more : ℕ) (before : List ℕ) (code g : ℕ)
       → initiator_rest (given_at deck more before code g) ≤ 1 + rounds_to_come deck before
-  given_rest more before code g = elim (code == 0) as
-      (λ b. initiator_rest (if b then At (Closing g) else named_at deck (job_named (length deck) code) before more g)
-      ≤ 1 + rounds_to_come deck before) [
-        | true ↦ omega arith
-        | false ↦ named_rest (job_named (length deck) code) before more g (λ named e. named_below (length deck) code named e)
-      ]
+  given_rest more before code g =
+      given_lands (λ p. initiator_rest p ≤ 1 + rounds_to_come deck before) (omega arith) deck more before code g (λ z. omega arith)
+      (λ named left e t m.
+      let le : initiator_rest (job_start named.skipped (running named before (suc left) g) (job_at deck named.job))
+      ≤ 4 + (steps_events (job_at deck named.job).steps + behind_job (running named before (suc left) g)) =
+      start_rest named.skipped (running named before (suc left) g) (job_at deck named.job) in
+      let taken : rounds_to_come deck (before ++ named.job ∷ []) + round_events deck named.job ≡ rounds_to_come deck before =
+      round_taken deck before named.job (named_below (length deck) code named e) t in omega arith)
 
   -- where a number was read
   counting_rest : (run : Running) (hand : Hand) (volume amount : ℕ) (steps : List Step) (number : ℕ)
       → initiator_rest (counting_at run hand volume amount steps number) ≤ 5 + (steps_events steps + behind_job run)
-  counting_rest run hand volume amount steps number = elim (nat_lt (number + amount) (2 ^ 32)) as
-      (λ b. initiator_rest (if b then At (Writing run hand volume amount number steps) else Astray)
-      ≤ 5 + (steps_events steps + behind_job run)) [
-        | true ↦ omega arith
-        | false ↦ omega arith
-      ]
+  counting_rest run hand volume amount steps number =
+      counting_lands (λ p. initiator_rest p ≤ 5 + (steps_events steps + behind_job run)) (omega arith) run hand volume amount steps number
+      (omega arith)
 
   -- one less than enough
   paying : {a b : ℕ} (d : ℕ) → a ≤ b → suc b ≤ d → suc a ≤ d
@@ -205,57 +176,37 @@ module _ (deck : List JobData) where
   -- each event takes one
   pub initiator_pays : (x : InitiatorAt) (r : Reply) → suc (initiator_rest (initiator_goes deck x r)) ≤ initiator_rest (At x)
   initiator_pays Opening (reply_of.Element (element_reply.Opened g)) = paying _ (rounds_rest (length deck + 1) [] g) (omega arith)
-  initiator_pays Opening r = omega arith
   initiator_pays (Offering more before g) r =
       on_posted_keeps (λ p. suc (initiator_rest p) ≤ 4 + rounds_to_come deck before) (At (Pausing more before g)) r
       (omega arith) (omega arith)
   initiator_pays (Pausing more before g) (reply_of.Element (element_reply.Given code now)) =
       let le : initiator_rest (given_at deck more before code now) ≤ 1 + rounds_to_come deck before = given_rest more before code now in
       omega arith
-  initiator_pays (Pausing more before g) (reply_of.Element element_reply.Parked) = omega arith
-  initiator_pays (Pausing more before g) r = omega arith
   initiator_pays (Resuming more before g) (reply_of.Element (element_reply.Given code now)) =
       paying _ (given_rest more before code now) (omega arith)
-  initiator_pays (Resuming more before g) (reply_of.Element element_reply.NotYet) = omega arith
-  initiator_pays (Resuming more before g) r = omega arith
-  initiator_pays (Obtaining run hand latch mode steps) (reply_of.Latch (latch_reply.Granted id)) =
+  initiator_pays (InJob run (Obtaining hand latch mode steps)) (reply_of.Latch (latch_reply.Granted id)) =
       let le : initiator_rest (steps_at run (hand_with hand latch mode id) steps) ≤ 4 + (steps_events steps + behind_job run) =
       steps_rest run (hand_with hand latch mode id) steps in omega arith
-  initiator_pays (Obtaining run hand latch mode steps) (reply_of.Latch (latch_reply.Queued id)) = omega arith
-  initiator_pays (Obtaining run hand latch mode steps) r = omega arith
-  initiator_pays (Confirming run hand latch mode id steps) (reply_of.Latch (latch_reply.Granted same)) =
+  initiator_pays (InJob run (Confirming hand latch mode id steps)) (reply_of.Latch (latch_reply.Granted same)) =
       paying _ (steps_rest run (hand_with hand latch mode id) steps) (omega arith)
-  initiator_pays (Confirming run hand latch mode id steps) (reply_of.Latch latch_reply.Waiting) = omega arith
-  initiator_pays (Confirming run hand latch mode id steps) r = omega arith
-  initiator_pays (Freeing run hand latch id steps) (reply_of.Latch (latch_reply.Released granted)) =
+  initiator_pays (InJob run (Freeing hand latch id steps)) (reply_of.Latch (latch_reply.Released granted)) =
       paying _ (steps_rest run (hand_without hand latch) steps) (omega arith)
-  initiator_pays (Freeing run hand latch id steps) r = omega arith
-  initiator_pays (Reading run hand volume amount steps) (reply_of.Volume (volume_reply.Value number)) =
+  initiator_pays (InJob run (Reading hand volume amount steps)) (reply_of.Volume (volume_reply.Value number)) =
       paying _ (counting_rest run hand volume amount steps number) (omega arith)
-  initiator_pays (Reading run hand volume amount steps) r = omega arith
-  initiator_pays (Writing run hand volume amount number steps) (reply_of.Volume volume_reply.Stored) =
+  initiator_pays (InJob run (Writing hand volume amount number steps)) (reply_of.Volume volume_reply.Stored) =
       paying _ (steps_rest run hand steps) (omega arith)
-  initiator_pays (Writing run hand volume amount number steps) r = omega arith
-  initiator_pays (Scanning run hand volume steps) (reply_of.Volume (volume_reply.Value number)) = omega arith
-  initiator_pays (Scanning run hand volume steps) r = omega arith
-  initiator_pays (Rescanning run hand volume number steps) (reply_of.Volume (volume_reply.Value again)) =
+  initiator_pays (InJob run (Scanning hand volume steps)) (reply_of.Volume (volume_reply.Value number)) = omega arith
+  initiator_pays (InJob run (Rescanning hand volume number steps)) (reply_of.Volume (volume_reply.Value again)) =
       paying _ (steps_rest run hand steps) (omega arith)
-  initiator_pays (Rescanning run hand volume number steps) r = omega arith
-  initiator_pays (Purging run hand code) (reply_of.Latch (latch_reply.Purged removed granted)) = omega arith
-  initiator_pays (Purging run hand code) r = omega arith
-  initiator_pays (EndingJob run code counts) (reply_of.Ecb (ecb_reply.Woke (suc x))) = omega arith
-  initiator_pays (EndingJob run code counts) (reply_of.Ecb (ecb_reply.Woke zero)) =
-      let le : initiator_rest (rounds_after run) ≤ behind_job run = after_rest run in omega arith
-  initiator_pays (EndingJob run code counts) (reply_of.Ecb ecb_reply.Posted) =
-      let le : initiator_rest (rounds_after run) ≤ behind_job run = after_rest run in omega arith
-  initiator_pays (EndingJob run code counts) (reply_of.Ecb (ecb_reply.Already old)) =
-      let le : initiator_rest (rounds_after run) ≤ behind_job run = after_rest run in omega arith
-  initiator_pays (EndingJob run code counts) r = omega arith
-  initiator_pays (EndingForScheduler run code counts) r =
-      on_posted_keeps (λ p. suc (initiator_rest p) ≤ 2 + behind_job run) (At (EndingForWriter run code counts)) r
+  initiator_pays (InJob run (Purging hand code)) (reply_of.Latch (latch_reply.Purged removed granted)) = omega arith
+  initiator_pays (InJob run (EndingJob code counts)) r =
+      ended_lands (λ p. suc (initiator_rest p) ≤ 3 + behind_job run) (omega arith) run code counts r (omega arith)
+      (paying _ (after_rest run) (omega arith))
+  initiator_pays (InJob run (EndingForScheduler code counts)) r =
+      on_posted_keeps (λ p. suc (initiator_rest p) ≤ 2 + behind_job run) (At (InJob run (EndingForWriter code counts))) r
       (omega arith) (omega arith)
-  initiator_pays (EndingForWriter run code counts) r =
+  initiator_pays (InJob run (EndingForWriter code counts)) r =
       on_posted_keeps (λ p. suc (initiator_rest p) ≤ 1 + behind_job run) (rounds_after run) r
       (paying _ (after_rest run) (omega arith)) (omega arith)
   initiator_pays (Closing g) (reply_of.Element element_reply.Closed) = omega arith
-  initiator_pays (Closing g) r = omega arith
+  initiator_pays x r = omega arith

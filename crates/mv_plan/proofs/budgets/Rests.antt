@@ -1,25 +1,24 @@
 -- How many events the reader, the scheduler and the writer may still make, by their points; and that each event takes one of
 -- them. Used by Within.
-use Rattle.std.proofs.Common.{◌≡◌, ℕ, zero, suc, ◌+◌, ◌*◌, ◌≤◌, nat_le, true, false, cond, List, [], ◌∷◌, ◌++◌, length, Option, refl}
-use Rattle.std.proofs.Common.{arith}
+use Rattle.std.proofs.Common.{◌≡◌, ℕ, zero, suc, ◌+◌, ◌*◌, ◌≤◌, nat_le, true, false, cond, List, [], ◌∷◌, ◌++◌, length, Option, refl, arith}
 use Rattle.std.proofs.lemmas.List.{length-map}
 use Rattle.std.proofs.lemmas.List.FromFn.{length-map-range_with_len}
-use Rattle.mv_ecb.specs.declared.operation.EcbReply.TheVariants as ecb_reply
-use Rattle.mv_element.specs.declared.operation.ElementReply.TheVariants as element_reply
 use Rattle.mv_machine.specs.declared.entry.Reply.{Reply}
-use Rattle.mv_machine.specs.declared.entry.Reply.TheVariants as reply_of
 use Rattle.mv_deck.specs.declared.deck.After.{After}
 use Rattle.mv_deck.specs.declared.deck.Step.{Step}
 use Rattle.mv_deck.specs.Deck.{JobData}
 use Rattle.mv_calls.specs.Waits.{complete_count}
-use Rattle.mv_plan.proofs.deck.Events.{after_parts}
 use Rattle.mv_plan.specs.SpoolTasks.{ends_of}
 use Rattle.mv_plan.specs.SpoolSetup.{end_for_scheduler, idle}
+use Rattle.mv_ecb.specs.declared.operation.EcbReply.TheVariants as ecb_reply
+use Rattle.mv_element.specs.declared.operation.ElementReply.TheVariants as element_reply
+use Rattle.mv_machine.specs.declared.entry.Reply.TheVariants as reply_of
+use Rattle.mv_plan.proofs.deck.Events.{after_parts}
 use Rattle.mv_plan.proofs.points.Points.{Point, At, TooSoon, ReaderAt, Entering, entering_from, reader_goes, Arming, Settling, Stage}
 use Rattle.mv_plan.proofs.points.Points.{Dispatching, Dismissing, Awaited, ForEntry, ForEnds, ForIdle, ToDismiss, SchedulerAt, Waits}
-use Rattle.mv_plan.proofs.points.Points.{Extends, Clears, Releases, awaited_blocks, awaited_count, arming_first, ends_at}
-use Rattle.mv_plan.proofs.points.Points.{dismissing_from, stage_at, found_at, settling_from, arming_from, scheduler_goes, WriterAt}
-use Rattle.mv_plan.proofs.points.Points.{Keeping, writing_from, end_found, lowest_at, writer_goes}
+use Rattle.mv_plan.proofs.points.Points.{Extends, Clears, Releases, awaited_blocks, awaited_count, arming_first, ends_at, dismissing_from}
+use Rattle.mv_plan.proofs.points.Points.{stage_at, found_at, settling_from, arming_from, scheduler_goes, WriterAt, Keeping, writing_from}
+use Rattle.mv_plan.proofs.points.Points.{end_found, lowest_at, writer_goes}
 use Rattle.mv_plan.proofs.points.PostsAndWaits.{on_posted_keeps, on_armed_keeps, on_settled_keeps, lowest_keeps}
 
 -- ---- the reader: one event for each job
@@ -195,14 +194,12 @@ module _ (n initiators : ℕ) where
       first_rest (ForIdle j job jobs skipped) (awaited_blocks n initiators (ForIdle j job jobs skipped)) in
       let e : length (awaited_blocks n initiators (ForIdle j job jobs skipped)) ≡ initiators = blocks (ForIdle j job jobs skipped) in
       omega arith
-  scheduler_pays (Extends j job jobs skipped) r = omega arith
   scheduler_pays (Clears i g code after) (reply_of.Ecb (ecb_reply.Word w)) = omega arith
-  scheduler_pays (Clears i g code after) r = omega arith
   scheduler_pays (Releases i g code after) (reply_of.Element element_reply.Early) =
       let le : scheduler_rest (stage_at n initiators after) ≤ stage_rest after = stage_starts after in omega arith
   scheduler_pays (Releases i g code after) (reply_of.Element element_reply.Woke) =
       let le : scheduler_rest (stage_at n initiators after) ≤ stage_rest after = stage_starts after in omega arith
-  scheduler_pays (Releases i g code after) r = omega arith
+  scheduler_pays x r = omega arith
 
   -- all jobs together
   pub jobs_rest_is : (jobs : List JobData)

@@ -1,32 +1,32 @@
 -- No task makes more events than its budget: what it has made and what it may still make are no more than that, behind each
 -- entry of a walk.
-use Rattle.std.proofs.Common.{◌≡◌, ℕ, suc, ◌+◌, ◌*◌, ◌<◌, ◌≤◌, List, [], ◌∷◌, ◌++◌, length, slice_index, get_or, replicate}
-use Rattle.std.proofs.Common.{Some, ◌⊎◌, inl, inr, refl, sym, ap, ◌∙◌, subst, arith}
-use Rattle.std.proofs.lemmas.Bool.{cases_eq, eq-eqb, ne_eqb}
+use Rattle.std.proofs.Common.{◌≡◌, ℕ, suc, ◌+◌, ◌*◌, ◌<◌, ◌≤◌, List, [], ◌∷◌, ◌++◌, length, slice_index, get_or, replicate, Some, refl, sym}
+use Rattle.std.proofs.Common.{ap, ◌∙◌, subst, arith}
+use Rattle.std.proofs.lemmas.Bool.{eq-eqb, ne_eqb}
 use Rattle.std.proofs.lemmas.List.{get_or_append_left, get_or-replicate, length-append, length-replicate}
 use Rattle.std.proofs.Math.Seq.{get_or-append_seam}
-use Rattle.mv_ecb.specs.declared.operation.EcbReply.TheVariants as ecb_reply
 use Rattle.mv_machine.specs.declared.entry.Entry.{Entry}
 use Rattle.mv_machine.specs.declared.entry.Object.{Object}
 use Rattle.mv_machine.specs.declared.entry.Op.{Op}
 use Rattle.mv_machine.specs.declared.entry.Reply.{Reply}
-use Rattle.mv_machine.specs.declared.entry.Reply.TheVariants as reply_of
 use Rattle.mv_machine.specs.Legal.{of}
-use Rattle.mv_machine.specs.System.{with_at, opening}
+use Rattle.mv_machine.specs.System.{opening}
 use Rattle.mv_calls.specs.Program.{asks}
 use Rattle.mv_calls.specs.Runs.{left_in}
-use Rattle.mv_machine.proofs.Objects.{of-append}
 use Rattle.mv_deck.specs.Deck.{JobData}
-use Rattle.mv_plan.proofs.deck.Plans.{IsPlanned}
-use Rattle.mv_deck.specs.Weight.{after_parts, all_events}
-use Rattle.mv_plan.proofs.deck.Events as events
 use Rattle.mv_plan.specs.SpoolRun.{Follows}
 use Rattle.mv_plan.specs.SpoolSetup.{spool_setup, task_budgets, reader, scheduler, initiator, writer}
 use Rattle.mv_plan.specs.SpoolTasks.{task_program}
+use Rattle.mv_ecb.specs.declared.operation.EcbReply.TheVariants as ecb_reply
+use Rattle.mv_machine.specs.declared.entry.Reply.TheVariants as reply_of
+use Rattle.mv_machine.proofs.Objects.{of-append}
+use Rattle.mv_plan.proofs.deck.Plans.{IsPlanned}
+use Rattle.mv_deck.specs.Weight.{after_parts, all_events}
+use Rattle.mv_plan.proofs.deck.Events as events
 use Rattle.mv_plan.specs.StayingWithin.{IsWithinBudgets}
-use Rattle.mv_plan.proofs.lists.Tables.{with_at-same, with_at-other}
-use Rattle.mv_plan.proofs.points.Points.{At, Dispatching, stage_at, entering_from, reader_asks, reader_goes, scheduler_asks}
-use Rattle.mv_plan.proofs.points.Points.{scheduler_goes, writer_asks, writer_goes, writing_from, initiator_asks, initiator_goes}
+use Rattle.mv_plan.proofs.lists.Tables.{all_but}
+use Rattle.mv_plan.proofs.points.Points.{At, Dispatching, stage_at, entering_from, reader_asks, reader_goes, scheduler_asks, scheduler_goes}
+use Rattle.mv_plan.proofs.points.Points.{writer_asks, writer_goes, writing_from, initiator_asks, initiator_goes}
 use Rattle.mv_plan.proofs.points.Programs.{reader_program, scheduler_program, writer_program, initiator_program}
 use Rattle.mv_plan.proofs.points.ReaderAndWriter.{reader_says, writer_says}
 use Rattle.mv_plan.proofs.points.Scheduler.{scheduler_says}
@@ -129,23 +129,15 @@ module _ (deck : List JobData) (initiators : ℕ) where
   within_next t u past e (initiates i x less k at o op moved) w = subst (λ v. Within v (past ++ e ∷ [])) (sym moved) (record {
     by_reader = kept reader _ past e _ (λ q. absurd (omega arith)) w.by_reader;
     by_scheduler = kept scheduler _ past e _ (λ q. absurd (omega arith)) w.by_scheduler;
-    by_initiator = λ m lt. each m lt (cases_eq i m);
-    by_writer = kept (writer initiators) _ past e _ (λ q. absurd (omega arith)) w.by_writer;
-  }) where
-    each : (m : ℕ) → m < initiators → (i ≡ m) ⊎ (i ≡ m → ⊥)
-        → length (of (initiator m) (past ++ e ∷ [])) + initiator_rest deck (with_at t.initiators i (initiator_goes deck x e.reply) m)
-        ≤ initiator_budget
-    each m lt (inl same) = subst (λ m. length (of (initiator m) (past ++ e ∷ []))
-        + initiator_rest deck (with_at t.initiators i (initiator_goes deck x e.reply) m) ≤ initiator_budget) same
-        (subst (λ p. length (of (initiator i) (past ++ e ∷ [])) + initiator_rest deck p ≤ initiator_budget)
-        (sym (with_at-same t.initiators i (initiator_goes deck x e.reply)))
+    by_initiator = λ m lt. all_but (λ m p. length (of (initiator m) (past ++ e ∷ [])) + initiator_rest deck p ≤ initiator_budget)
+        t.initiators i (initiator_goes deck x e.reply) m
         (paid (initiator i) initiator_budget past e (initiator_rest deck (At x)) (initiator_rest deck (initiator_goes deck x e.reply)) k
         (initiator_pays deck x e.reply)
-        (subst (λ p. length (of (initiator i) past) + initiator_rest deck p ≤ initiator_budget) at (w.by_initiator i less))))
-    each m lt (inr other) = subst (λ p. length (of (initiator m) (past ++ e ∷ [])) + initiator_rest deck p ≤ initiator_budget)
-        (sym (with_at-other t.initiators i m (initiator_goes deck x e.reply) other))
-        (kept (initiator m) initiator_budget past e (initiator_rest deck (t.initiators m))
-        (λ q. other (let same : initiator i ≡ initiator m = sym k ∙ q in omega arith)) (w.by_initiator m lt))
+        (subst (λ p. length (of (initiator i) past) + initiator_rest deck p ≤ initiator_budget) at (w.by_initiator i less)))
+        (λ other. kept (initiator m) initiator_budget past e (initiator_rest deck (t.initiators m))
+        (λ q. other (let same : initiator i ≡ initiator m = sym k ∙ q in omega arith)) (w.by_initiator m lt));
+    by_writer = kept (writer initiators) _ past e _ (λ q. absurd (omega arith)) w.by_writer;
+  })
   within_next t u past e (writes x k at o op moved) w = subst (λ v. Within v (past ++ e ∷ [])) (sym moved) (record {
     by_reader = kept reader _ past e _ (λ q. absurd (omega arith)) w.by_reader;
     by_scheduler = kept scheduler _ past e _ (λ q. absurd (omega arith)) w.by_scheduler;

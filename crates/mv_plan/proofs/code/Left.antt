@@ -1,10 +1,10 @@
 -- Sums over what a loop has left of a list. Used by the sums of events and parts.
-use Rattle.std.proofs.Common.{◌≡◌, ℕ, zero, suc, ◌+◌, ◌<◌, List, [], ◌∷◌, length, drop, map, get_or, sum_by, ap, ◌∙◌, arith}
+use Rattle.std.proofs.Common.{◌≡◌, ℕ, zero, suc, ◌+◌, ◌<◌, List, [], ◌∷◌, length, map, get_or, ap, ◌∙◌, arith, drop, sum_by}
 use Rattle.std.proofs.lemmas.List.Sums.{sum_by-cons}
 use Rattle.mv_deck.specs.Deck.{JobData, job_data}
-use Rattle.mv_deck.specs.declared.deck.Job.{Job}
 use Rattle.mv_deck.specs.declared.deck.Step.{Step}
 use Rattle.mv_deck.specs.Weight.{step_events, all_events, after_parts}
+use Rattle.mv_deck.specs.declared.deck.Job.{Job}
 
 -- two ways to write a place
 next_place : (i : ℕ) → suc (i + 1) ≡ suc i + 1

@@ -1,26 +1,25 @@
 -- Sound decks: each job's end by the ends of the whole deck, which jobs are not to be run, and that jobs are few enough for
 -- codes to name them; the budgets of all tasks are the weight. Used by the layer of ends, by totals, and by all results.
 use Rattle.std.proofs.Common.{◌≡◌, ℕ, zero, suc, ◌+◌, ◌*◌, ◌<◌, ◌≤◌, List, [], ◌∷◌, ◌++◌, length, get_or, replicate, sum, if◌then◌else◌}
-use Rattle.std.proofs.Common.{refl, sym, ap, ◌∙◌, subst, arith, add-zero, zero-add, ◌==◌, Bool, true, false, cond}
+use Rattle.std.proofs.Common.{refl, sym, ap, ◌∙◌, subst, arith, zero-add, ◌==◌, Bool, true, false, cond, add-zero}
+use Rattle.std.proofs.lemmas.List.Sums.{sum_by-cons, sum_by_push}
+use Rattle.mv_deck.specs.Deck.{JobData}
+use Rattle.mv_deck.specs.declared.deck.Step.{Step}
+use Rattle.mv_deck.specs.declared.deck.Step.TheVariants.{Print, Use, Count, Scan, Abend, Return, Free}
+use Rattle.mv_plan.specs.Jobs.{no_job, job_at, end_of}
+use Rattle.mv_deck.specs.Weight.{weight, all_events, after_parts}
+use Rattle.mv_deck.specs.EndCode.{not_run}
+use Rattle.mv_report.specs.Outcome.{some_unaccepted, own_end, ends, end_behind}
+use Rattle.mv_plan.specs.SpoolTasks.{not_to_run}
+use Rattle.mv_plan.specs.SpoolSetup.{task_budgets}
+use Rattle.std.proofs.lemmas.Bool.{eq-eqb, ne_eqb}
 use Rattle.std.specs.Prelude.{All, take, drop}
 use Rattle.std.proofs.lemmas.List.{length-take-le, set-get_or, set_split}
 use Rattle.std.proofs.lemmas.List.Elements.{All-from_recursion}
 use Rattle.std.specs.List.{sum_by}
 use Rattle.std.proofs.lemmas.List.Folds.{sum_by-replicate}
-use Rattle.std.proofs.lemmas.List.Sums.{sum_by-cons, sum_by_push}
-use Rattle.mv_deck.specs.Deck.{JobData}
-use Rattle.mv_deck.specs.declared.deck.Step.{Step}
-use Rattle.mv_deck.specs.declared.deck.Step.TheVariants.{Print, Use, Free, Count, Scan, Abend, Return}
-use Rattle.mv_plan.specs.Jobs.{no_job, job_at, end_of}
-use Rattle.mv_plan.proofs.deck.Plans.{IsPlannedJob, ArePlannedJobs, IsPlanned, Held}
-use Rattle.mv_deck.specs.Weight.{weight, all_events, after_parts}
-use Rattle.mv_plan.proofs.deck.Plans.{ArePlannedSteps}
-use Rattle.mv_deck.specs.EndCode.{not_run}
-use Rattle.mv_report.specs.Outcome.{some_unaccepted, own_end, end_behind, ends}
+use Rattle.mv_plan.proofs.deck.Plans.{IsPlannedJob, ArePlannedJobs, IsPlanned, Held, ArePlannedSteps}
 use Rattle.mv_report.proofs.Ends.{ends_by_accepted_codes}
-use Rattle.mv_plan.specs.SpoolTasks.{not_to_run}
-use Rattle.mv_plan.specs.SpoolSetup.{task_budgets}
-use Rattle.std.proofs.lemmas.Bool.{eq-eqb, ne_eqb}
 
 -- the job of each number in a sound deck is sound
 pub sound_job : (from : ℕ) (jobs : List JobData) (j : ℕ) → ArePlannedJobs from jobs → j < length jobs

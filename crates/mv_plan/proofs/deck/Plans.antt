@@ -6,7 +6,7 @@ use Rattle.mv_latch.specs.declared.request.Mode.{Mode}
 use Rattle.mv_latch.specs.Request.{is_shared}
 use Rattle.mv_calls.specs.Waits.{AreDistinct}
 use Rattle.mv_deck.specs.declared.deck.Step.{Step}
-use Rattle.mv_deck.specs.declared.deck.Step.TheVariants.{Print, Use, Free, Count, Scan, Abend, Return}
+use Rattle.mv_deck.specs.declared.deck.Step.TheVariants.{Print, Use, Count, Scan, Abend, Return, Free}
 use Rattle.mv_deck.specs.Deck.{JobData}
 use Rattle.mv_deck.specs.Weight.{weight}
 

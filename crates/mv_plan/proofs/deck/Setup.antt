@@ -1,16 +1,16 @@
 -- The configuration's facts in one record, Facts: who owns which block and element, which exits start where, and the quotas.
 -- All layers take these facts and do not look into the configuration again.
-use Rattle.std.proofs.Common.{◌≡◌, ℕ, zero, suc, ◌+◌, ◌-◌, ◌*◌, ◌/◌, ◌<◌, ◌≤◌, nat_lt, ◌&&◌, true, List, [], ◌∷◌, ◌++◌, length, map}
-use Rattle.std.proofs.Common.{replicate, get_or, Some, refl, sym, ap, ◌∙◌, subst, append_assoc, arith}
-use Rattle.std.specs.Prelude.{slice_get}
+use Rattle.std.proofs.Common.{◌≡◌, ℕ, zero, suc, ◌+◌, ◌-◌, ◌*◌, ◌<◌, ◌≤◌, nat_lt, ◌&&◌, true, List, [], ◌∷◌, ◌++◌, length, map, replicate}
+use Rattle.std.proofs.Common.{get_or, Some, refl, sym, ap, ◌∙◌, subst, append_assoc, arith, ◌/◌}
 use Rattle.std.specs.List.{range_with_len}
-use Rattle.std.proofs.lemmas.Bool.{eq-eqb, eqb-true, lt-ltb, ltb-true, false≢true, and_parts}
-use Rattle.std.proofs.lemmas.List.{get_or-append-add, get_or_append_left, get_or-replicate, length-append, length-replicate}
-use Rattle.mv_machine.specs.Setup.{Setup, SetupExit, owner_of, is_exit_of, starts_from, element_owner}
+use Rattle.std.proofs.lemmas.Bool.{eq-eqb, eqb-true, lt-ltb, false≢true, and_parts, ltb-true}
+use Rattle.std.proofs.lemmas.List.{get_or_append_left, get_or-replicate, length-append, length-replicate, get_or-append-add}
+use Rattle.mv_machine.specs.Setup.{Setup, SetupExit, owner_of, is_exit_of, element_owner, starts_from}
 use Rattle.mv_deck.specs.Deck.{JobData}
+use Rattle.mv_plan.specs.SpoolSetup.{spool_setup, end_owners, block_owners, end_exit, entered, end_for_scheduler, end_for_writer, idle}
+use Rattle.mv_plan.specs.SpoolSetup.{scheduler, writer, done}
+use Rattle.std.specs.Prelude.{slice_get}
 use Rattle.mv_calls.specs.Posts.{targets_of, targets_at}
-use Rattle.mv_plan.specs.SpoolSetup.{spool_setup, end_owners, block_owners, end_exit, entered, done, end_for_scheduler, end_for_writer}
-use Rattle.mv_plan.specs.SpoolSetup.{idle, scheduler, writer}
 
 -- a configuration of the spool for n jobs
 pub record Facts (c : Setup) (n initiators : ℕ) : Type 0 where

@@ -2,16 +2,16 @@
 use Rattle.std.proofs.Common.{◌≡◌, ℕ, zero, suc, ◌+◌, ◌<◌, List, [], ◌∷◌, ◌++◌, length, map, ◌⊎◌, inl, inr, refl, sym, arith}
 use Rattle.std.specs.List.{range_with_len}
 use Rattle.mv_ecb.specs.declared.operation.EcbOp.{EcbOp}
-use Rattle.mv_ecb.specs.declared.operation.EcbOp.TheVariants as ecb_op
-use Rattle.mv_machine.specs.declared.entry.Op.TheVariants as op_on
 use Rattle.mv_deck.specs.Deck.{JobData}
 use Rattle.mv_deck.specs.declared.deck.After.{After}
-use Rattle.mv_plan.specs.SpoolSetup.{done, idle}
+use Rattle.mv_plan.specs.SpoolSetup.{idle, done}
 use Rattle.mv_plan.specs.SpoolTasks.{ends_of}
+use Rattle.mv_ecb.specs.declared.operation.EcbOp.TheVariants as ecb_op
+use Rattle.mv_machine.specs.declared.entry.Op.TheVariants as op_on
 use Rattle.mv_plan.proofs.points.Points.{ReaderAt, Entering, reader_asks, Awaited, ForEntry, ForEnds, ForIdle, ToDismiss, awaited_blocks}
-use Rattle.mv_plan.proofs.points.Points.{InitiatorAt, Opening, Offering, Pausing, Resuming, Obtaining, Confirming, Freeing, Reading}
-use Rattle.mv_plan.proofs.points.Points.{Writing, Scanning, Rescanning, Purging, EndingJob, EndingForScheduler, EndingForWriter, Closing}
-use Rattle.mv_plan.proofs.points.Points.{initiator_asks}
+use Rattle.mv_plan.proofs.points.Points.{InitiatorAt, Offering}
+use Rattle.mv_plan.proofs.points.Points.{EndingJob, EndingForScheduler, EndingForWriter}
+use Rattle.mv_plan.proofs.points.Points.{initiator_asks, InJob}
 use Rattle.mv_plan.proofs.points.SchedulerSound.{rest_below, IsAwaited}
 
 abbrev pub IsIn : ℕ → List ℕ → Type 0
@@ -50,19 +50,8 @@ module _ (deck : List JobData) (initiators : ℕ) where
   -- an initiator's only event on a block is a post
   pub initiator_ecb : (i : ℕ) (x : InitiatorAt) (op : EcbOp) → (initiator_asks (length deck) i x).1 ≡ op_on.Ecb op
       → (d : ℕ) × (op ≡ ecb_op.Post d)
-  initiator_ecb i Opening op e = absurd (cc e)
   initiator_ecb i (Offering more before g) op e = (g, sym (cc e))
-  initiator_ecb i (Pausing more before g) op e = absurd (cc e)
-  initiator_ecb i (Resuming more before g) op e = absurd (cc e)
-  initiator_ecb i (Obtaining run hand latch mode steps) op e = absurd (cc e)
-  initiator_ecb i (Confirming run hand latch mode id steps) op e = absurd (cc e)
-  initiator_ecb i (Freeing run hand latch id steps) op e = absurd (cc e)
-  initiator_ecb i (Reading run hand volume amount steps) op e = absurd (cc e)
-  initiator_ecb i (Writing run hand volume amount number steps) op e = absurd (cc e)
-  initiator_ecb i (Scanning run hand volume steps) op e = absurd (cc e)
-  initiator_ecb i (Rescanning run hand volume number steps) op e = absurd (cc e)
-  initiator_ecb i (Purging run hand code) op e = absurd (cc e)
-  initiator_ecb i (EndingJob run code counts) op e = (code, sym (cc e))
-  initiator_ecb i (EndingForScheduler run code counts) op e = (code, sym (cc e))
-  initiator_ecb i (EndingForWriter run code counts) op e = (code, sym (cc e))
-  initiator_ecb i (Closing g) op e = absurd (cc e)
+  initiator_ecb i (InJob run (EndingJob code counts)) op e = (code, sym (cc e))
+  initiator_ecb i (InJob run (EndingForScheduler code counts)) op e = (code, sym (cc e))
+  initiator_ecb i (InJob run (EndingForWriter code counts)) op e = (code, sym (cc e))
+  initiator_ecb i x op e = absurd (cc e)

@@ -1,19 +1,19 @@
 -- What the traces use of a moment, and how each caller's entry adds to them. Used by the result on ends.
 use Rattle.std.proofs.Common.{◌≡◌, ℕ, ◌+◌, ◌<◌, ◌≤◌, List, length, Some, ◌⊎◌, inl, inr, refl, sym, ap, ◌∙◌, subst, arith}
 use Rattle.std.proofs.lemmas.Bool.{cases_lt}
-use Rattle.mv_ecb.specs.declared.operation.EcbOp.TheVariants as ecb_op
 use Rattle.mv_ecb.specs.Word.{Extended}
 use Rattle.mv_machine.specs.declared.entry.Entry.{Entry}
 use Rattle.mv_machine.specs.declared.entry.Object.TheVariants.{Ecb}
-use Rattle.mv_machine.specs.declared.entry.Op.TheVariants as op_on
 use Rattle.mv_machine.specs.Setup.{Setup}
 use Rattle.mv_machine.specs.System.{System}
 use Rattle.mv_deck.specs.Deck.{JobData}
+use Rattle.mv_plan.specs.SpoolSetup.{idle, reader, scheduler, initiator, writer, done}
+use Rattle.mv_ecb.specs.declared.operation.EcbOp.TheVariants as ecb_op
+use Rattle.mv_machine.specs.declared.entry.Op.TheVariants as op_on
 use Rattle.mv_plan.proofs.deck.Plans.{IsPlanned}
-use Rattle.mv_plan.specs.SpoolSetup.{done, idle, reader, scheduler, initiator, writer}
 use Rattle.mv_plan.proofs.points.Points.{Point, At, Finished, TooSoon, Astray, ReaderAt, reader_asks, SchedulerAt, scheduler_asks}
 use Rattle.mv_plan.proofs.points.Points.{writer_asks, Running, InitiatorAt, Offering, EndingJob, EndingForScheduler, EndingForWriter}
-use Rattle.mv_plan.proofs.points.Points.{initiator_asks}
+use Rattle.mv_plan.proofs.points.Points.{initiator_asks, InJob}
 use Rattle.mv_plan.proofs.walks.Walks.{Points}
 use Rattle.mv_plan.proofs.points.ReaderAndWriter.{IsReaderAt}
 use Rattle.mv_plan.proofs.points.InitiatorSound.{IsInitiatorAt}
@@ -70,9 +70,9 @@ module _ (deck : List JobData) (initiators : ℕ) (sound : IsPlanned deck initia
   initiator_free s t i x m lt at b d o op = elim (post_by (length deck) i x b (ecb_op.Post d) o op) [
     | offers more before g is e ↦ subst (NotComplete s) (sym e)
         (subst (λ z. IsFreeToOffer (length deck) s i z) (at ∙ ap (λ z. At z) is) (m.offering i lt))
-    | ends_job run code counts is e ↦ subst (NotComplete s) (sym e) (stage (EndingJob run code counts) is)
-    | ends_scheduler run code counts is e ↦ subst (NotComplete s) (sym e) (stage (EndingForScheduler run code counts) is).0
-    | ends_writer run code counts is e ↦ subst (NotComplete s) (sym e) (stage (EndingForWriter run code counts) is).0
+    | ends_job run code counts is e ↦ subst (NotComplete s) (sym e) (stage (InJob run (EndingJob code counts)) is)
+    | ends_scheduler run code counts is e ↦ subst (NotComplete s) (sym e) (stage (InJob run (EndingForScheduler code counts)) is).0
+    | ends_writer run code counts is e ↦ subst (NotComplete s) (sym e) (stage (InJob run (EndingForWriter code counts)) is).0
   ] where
     stage : (y : InitiatorAt) → x ≡ y
         → ByStage (NotDone (length deck) s) (NotToScheduler (length deck) s) (NotToWriter (length deck) s) (At y)

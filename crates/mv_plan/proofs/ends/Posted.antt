@@ -1,53 +1,54 @@
 -- Which blocks were posted, in which order: a job's own block is extended from before its job is released until it is posted,
 -- and nothing is posted twice. Uses places only before the event.
-use Rattle.std.proofs.Common.{◌≡◌, ℕ, zero, suc, ◌+◌, ◌<◌, ◌≤◌, Bool, List, [], ◌∷◌, length, Some, ◌⊎◌, inl, inr, refl, sym, ap, ◌∙◌}
-use Rattle.std.proofs.Common.{subst, arith}
+use Rattle.std.proofs.Common.{◌≡◌, ℕ, zero, suc, ◌+◌, ◌<◌, ◌≤◌, Bool, List, [], ◌∷◌, length, Some, ◌⊎◌, inl, inr, refl, sym, ap, ◌∙◌, subst}
+use Rattle.std.proofs.Common.{arith}
 use Rattle.std.proofs.lemmas.Bool.{cases_eq}
-use Rattle.mv_ecb.specs.declared.operation.EcbOp.TheVariants as ecb_op
-use Rattle.mv_ecb.specs.declared.operation.EcbReply.TheVariants as ecb_reply
 use Rattle.mv_ecb.specs.Table.{ecb_step}
-use Rattle.mv_ecb.specs.Word.{EcbState, Zero, Waiting, Extended, Complete}
-use Rattle.mv_element.specs.declared.operation.ElementOp.TheVariants as element_op
-use Rattle.mv_element.specs.declared.operation.ElementReply.TheVariants as element_reply
+use Rattle.mv_ecb.specs.Word.{EcbState, Zero, Extended, Complete}
 use Rattle.mv_machine.specs.declared.entry.Entry.{Entry}
 use Rattle.mv_machine.specs.declared.entry.Object.{Object}
 use Rattle.mv_machine.specs.declared.entry.Object.TheVariants.{Ecb, Element}
 use Rattle.mv_machine.specs.declared.entry.Op.{Op}
-use Rattle.mv_machine.specs.declared.entry.Op.TheVariants as op_on
 use Rattle.mv_machine.specs.declared.entry.Reply.{Reply}
-use Rattle.mv_machine.specs.declared.entry.Reply.TheVariants as reply_of
 use Rattle.mv_machine.specs.Legal.{IsNext}
 use Rattle.mv_machine.specs.Setup.{Setup}
 use Rattle.mv_machine.specs.System.{System, moved, opening, with_at}
 use Rattle.mv_deck.specs.Deck.{JobData}
-use Rattle.mv_plan.specs.SpoolSetup.{entered, done, end_for_scheduler, end_for_writer, idle, initiator}
+use Rattle.mv_plan.specs.SpoolSetup.{entered, end_for_scheduler, end_for_writer, idle, initiator, done}
 use Rattle.mv_plan.specs.SpoolTasks.{code_of, not_to_run}
-use Rattle.mv_plan.proofs.points.Points.{Point, At, Finished, TooSoon, Astray, ReaderAt, Entering, reader_asks, reader_goes}
+use Rattle.mv_ecb.specs.declared.operation.EcbOp.TheVariants as ecb_op
+use Rattle.mv_ecb.specs.declared.operation.EcbReply.TheVariants as ecb_reply
+use Rattle.mv_element.specs.declared.operation.ElementOp.TheVariants as element_op
+use Rattle.mv_machine.specs.declared.entry.Op.TheVariants as op_on
+use Rattle.mv_machine.specs.declared.entry.Reply.TheVariants as reply_of
+use Rattle.mv_plan.proofs.points.Points.{Point, At, Finished, TooSoon, Astray, ReaderAt, Entering, reader_asks, reader_goes, rounds_after}
 use Rattle.mv_plan.proofs.points.Points.{entering_from, Arming, Settling, Stage, Dispatching, Dismissing, ForEntry, ForEnds, ForIdle}
 use Rattle.mv_plan.proofs.points.Points.{ToDismiss, SchedulerAt, Waits, Extends, Clears, Releases, awaited_blocks, scheduler_asks}
 use Rattle.mv_plan.proofs.points.Points.{scheduler_goes, stage_at, dismissing_from, WriterAt, Keeping, writer_asks, Running, InitiatorAt}
-use Rattle.mv_plan.proofs.points.Points.{Pausing, Resuming, EndingJob, EndingForScheduler, EndingForWriter, initiator_asks}
-use Rattle.mv_plan.proofs.points.Points.{initiator_goes}
+use Rattle.mv_plan.proofs.points.Points.{EndingJob, EndingForScheduler, EndingForWriter, initiator_asks, initiator_goes}
+use Rattle.mv_plan.proofs.points.Points.{InJob}
 use Rattle.mv_plan.proofs.points.PostsAndWaits.{on_posted_keeps}
 use Rattle.mv_plan.proofs.walks.Walks.{Points, start_points}
 use Rattle.mv_plan.proofs.points.ReaderAndWriter.{IsReaderAt, IsWriterAt}
 use Rattle.mv_plan.proofs.points.SchedulerSound.{rest_below, rest_count, IsStage, IsHanded, IsSchedulerAt, stage_extended, awaited_extended}
 use Rattle.mv_plan.proofs.points.InitiatorSound.{IsInitiatorAt, named_is}
 use Rattle.mv_plan.proofs.places.Places.{Places, Coming, Run}
-use Rattle.mv_plan.proofs.ends.Blocks.{HasEnd, done_has, scheduler_has, writer_has, entered_none, idle_none, paused_code, resumed_code}
+use Rattle.mv_plan.proofs.ends.Blocks.{HasEnd, done_has, scheduler_has, writer_has, entered_none, idle_none}
 use Rattle.mv_plan.proofs.walks.Stands.{Standing}
 use Rattle.mv_plan.proofs.ends.Complete.{IsComplete, NotComplete, BlockAfter, block_moved, moved_there, complete_moved, not_moved, is_moved}
 use Rattle.mv_plan.proofs.ends.Complete.{held_moved}
-use Rattle.mv_plan.proofs.points.Stages.{ByStage, Begins, stage_map, stage_goes}
+use Rattle.mv_plan.proofs.points.Stages.{ByStage, stage_map, stage_goes, NotEnding}
 use Rattle.mv_plan.proofs.ends.Awaited.{IsIn, in_seam, awaited_plain, initiator_ecb}
 use Rattle.mv_plan.proofs.points.SchedulerNext.{AllNext, goes_next, next_grows}
 use Rattle.mv_plan.proofs.deck.Codes.{code_parts, never_zero}
-use Rattle.mv_plan.proofs.ends.WhoPosts.{offers, ends_job, ends_scheduler, ends_writer, post_by, initiator_no_release, run_below}
-use Rattle.mv_plan.proofs.ends.WhoPosts.{posts_run, posts_no_entered, NotEnding, plain_posts, ended_stage, scheduler_stage, writer_stage}
-use Rattle.mv_plan.proofs.walks.Moves.{KeepsUnder, by_moves, entry_of, block, element, block_reply, element_reply, changed_there}
+use Rattle.mv_plan.proofs.ends.WhoPosts.{offers, ends_job, ends_scheduler, ends_writer, post_by, initiator_no_release, run_below, posts_run}
+use Rattle.mv_plan.proofs.ends.WhoPosts.{posts_no_entered, plain_posts}
+use Rattle.mv_plan.proofs.walks.Moves.{KeepsUnder, by_moves, entry_of, block, element, block_reply, changed_there}
 use Rattle.mv_plan.proofs.walks.Moves.{same_elsewhere}
-use Rattle.mv_machine.proofs.Histories.{with_at-same, with_at-other}
 use Rattle.mv_plan.proofs.points.Views.{code_held, run_of, next_job, next_in}
+use Rattle.mv_plan.proofs.lists.Tables.{all_but}
+use Rattle.mv_plan.proofs.points.Lands.{rounds_land, ended_lands}
+use Rattle.mv_plan.proofs.ends.RightCodes.{starts_held}
 
 -- how many of the done blocks the scheduler has extended at a point
 abbrev pub extended_at : ℕ → SchedulerAt → ℕ
@@ -111,19 +112,14 @@ HasPosted deck initiators s t past = Posted deck initiators s t
 
 pub scheduler_no_post : (n : ℕ) (x : SchedulerAt) (d : ℕ) → (scheduler_asks n x).1 ≡ op_on.Ecb (ecb_op.Post d) → ⊥
 scheduler_no_post n (Waits a (Arming e todo)) d q = cc q
-scheduler_no_post n (Waits a (Settling e todo found)) d q = cc q
-scheduler_no_post n (Extends k job jobs skipped) d q = cc q
-scheduler_no_post n (Clears i g code after) d q = cc q
-scheduler_no_post n (Releases i g code after) d q = cc q
+scheduler_no_post n x d q = cc q
 
 -- the scheduler clears idle blocks alone
 pub scheduler_clears : (n : ℕ) (x : SchedulerAt) (b : ℕ) → (scheduler_asks n x).0 ≡ Ecb b
     → (scheduler_asks n x).1 ≡ op_on.Ecb ecb_op.Clear → (i : ℕ) × (b ≡ idle n i)
 scheduler_clears n (Waits a (Arming e todo)) b o q = absurd (cc q)
-scheduler_clears n (Waits a (Settling e todo found)) b o q = absurd (cc q)
-scheduler_clears n (Extends k job jobs skipped) b o q = absurd (cc q)
 scheduler_clears n (Clears i g code after) b o q = (i, sym (cc o))
-scheduler_clears n (Releases i g code after) b o q = absurd (cc q)
+scheduler_clears n x b o q = absurd (cc q)
 
 pub writer_no_post : (x : WriterAt) (d : ℕ) → (writer_asks x).1 ≡ op_on.Ecb (ecb_op.Post d) → ⊥
 writer_no_post (Keeping k more kept (Arming e todo)) d q = cc q
@@ -137,48 +133,20 @@ pub clear_is_no_post : {d : ℕ} → ecb_op.Clear ≡ ecb_op.Post d → ⊥
 clear_is_no_post e = cc e
 
 posted_step : (d : ℕ) (v : EcbState) → (code : ℕ) × ((ecb_step (ecb_op.Post d) v).0 ≡ Complete code)
-posted_step d Zero = (d, refl)
-posted_step d Waiting = (d, refl)
-posted_step d (Extended y) = (d, refl)
 posted_step d (Complete c) = (c, refl)
+posted_step d y = (d, refl)
 
 posted_is : (s : System) (k : ℕ) (o : Object) (op : Op) (b d : ℕ) → o ≡ Ecb b → op ≡ op_on.Ecb (ecb_op.Post d)
     → IsComplete (moved s k o op) b
 posted_is s k o op b d e f = let c : (code : ℕ) × ((ecb_step (ecb_op.Post d) (block s b)).0 ≡ Complete code) = posted_step d (block s b) in
     (c.0, moved_there s k b o op (ecb_op.Post d) e f ∙ c.1)
 
--- a job that is given was in the initiator's element
-begins_plain : (deck : List JobData) (Q R S : ℕ → Type 0) (c : Setup) (s : System) (i : ℕ) (x : InitiatorAt) (p : ℕ) (r : Reply)
-    → NotEnding x → IsNext c s (entry_of (initiator i) p (initiator_asks (length deck) i x) r)
-    → ((j : ℕ) (skipped : Bool) → j < length deck → code_held (element s (initiator i)) ≡ Some (code_of j skipped) → Q j)
-    → Begins Q R S deck x r
-begins_plain deck Q R S c s i (Pausing more before g) p (reply_of.Element (element_reply.Given code now)) plain n held = λ named e.
-    let is : (named.job < length deck) × (code ≡ code_of named.job named.skipped) = named_is (length deck) code named e in
-    held named.job named.skipped is.0
-    (paused_code g (element s (initiator i)) code now
-    (cc (sym (element_reply c s (initiator i) (initiator i) (element_op.Pause g) p
-    (reply_of.Element (element_reply.Given code now)) n))) ∙ ap (λ z. Some z) is.1)
-begins_plain deck Q R S c s i (Resuming more before g) p (reply_of.Element (element_reply.Given code now)) plain n held = λ named e.
-    let is : (named.job < length deck) × (code ≡ code_of named.job named.skipped) = named_is (length deck) code named e in
-    held named.job named.skipped is.0
-    (resumed_code g (element s (initiator i)) code now
-    (cc (sym (element_reply c s (initiator i) (initiator i) (element_op.Resume g) p
-    (reply_of.Element (element_reply.Given code now)) n))) ∙ ap (λ z. Some z) is.1)
-begins_plain deck Q R S c s i (EndingJob run code counts) p r plain n held = absurd plain
-begins_plain deck Q R S c s i (EndingForScheduler run code counts) p r plain n held = absurd plain
-begins_plain deck Q R S c s i x p r plain n held = tt
-
 -- the job that is handed out next is not above those whose a job's done block is extended
 pub next_extended : (n : ℕ) (y : SchedulerAt) → next_job n (At y) ≤ extended_at n y
 next_extended n (Waits (ForEntry j job jobs) w) = omega arith
-next_extended n (Waits (ForEnds j job jobs) w) = omega arith
-next_extended n (Waits (ForIdle j job jobs skipped) w) = omega arith
-next_extended n (Waits (ToDismiss i more) w) = omega arith
-next_extended n (Extends j job jobs skipped) = omega arith
 next_extended n (Clears i g code (Dispatching j jobs)) = omega arith
-next_extended n (Clears i g code (Dismissing m more)) = omega arith
 next_extended n (Releases i g code (Dispatching j jobs)) = omega arith
-next_extended n (Releases i g code (Dismissing m more)) = omega arith
+next_extended n x = omega arith
 
 done_map : (n : ℕ) (s s' : System) (p : Point SchedulerAt) → ((m : ℕ) → next_job n p ≤ m → IsSplit n s m → IsSplit n s' m)
     → DoneBlocks n s p → DoneBlocks n s' p
@@ -267,42 +235,43 @@ module _ (deck : List JobData) (initiators : ℕ) where
     -- then where it posts no end
     own_plain : NotEnding x → EndStage (length deck) i_after (initiator_goes deck x r)
     own_plain plain = stage_goes (NotDone (length deck) i_after) (NotToScheduler (length deck) i_after)
-        (NotToWriter (length deck) i_after) deck x r
+        (NotToWriter (length deck) i_after) deck x r plain
         (stage_stays (length deck) s i_after (At x)
         (λ run e b has. (λ f. plain_end run.job b plain (job_below x run refl e) has f, still b)) (its_stage x refl))
-        (begins_plain deck (NotDone (length deck) i_after) (NotToScheduler (length deck) i_after)
-        (NotToWriter (length deck) i_after) c s i x p r plain next
-        (λ j skipped below held. plain_end j _ plain below (done_has refl) (h.handed i j skipped lt below held)))
+        (starts_held (λ run. NotDone (length deck) i_after run.job) deck c s i x p r next (λ code named before more g held e.
+        plain_end named.job _ plain (named_is (length deck) code named e).0 (done_has refl)
+        (h.handed i named.job named.skipped lt (named_is (length deck) code named e).0
+        (held ∙ ap (λ z. Some z) (named_is (length deck) code named e).1))))
+
+    after_job : (run : Running) → EndStage (length deck) i_after (rounds_after run)
+    after_job run = rounds_land (EndStage (length deck) i_after) tt run.more _ run.generation (λ left e. tt)
 
     -- and at each point
     own_stage : (y : InitiatorAt) → x ≡ y → EndStage (length deck) i_after (initiator_goes deck y r)
-    own_stage (EndingJob run code counts) is =
-        let free : NotDone (length deck) s run.job = its_stage (EndingJob run code counts) is in
+    own_stage (InJob run (EndingJob code counts)) is =
+        let free : NotDone (length deck) s run.job = its_stage (InJob run (EndingJob code counts)) is in
         let asked : asks ≡ (Ecb (done (length deck) run.job), op_on.Ecb (ecb_op.Post code)) =
         ap (λ z. initiator_asks (length deck) i z) is in
-        let job : run.job < length deck = job_below (EndingJob run code counts) run is refl in
+        let job : run.job < length deck = job_below (InJob run (EndingJob code counts)) run is refl in
         let order = (h.order run.job job).0 in
-        ended_stage (NotDone (length deck) i_after) (NotToScheduler (length deck) i_after)
-        (NotToWriter (length deck) i_after) deck run code counts r (
+        ended_lands (EndStage (length deck) i_after) tt run code counts r (
           posts_alone _ (end_for_scheduler (length deck) run.job) code asked (λ z. omega arith)
               (λ d e. let w : IsComplete s (done (length deck) run.job) = order (d, e) in free w.0 w.1),
           posts _ code asked,
-        )
-    own_stage (EndingForScheduler run code counts) is =
-        let free : NotToScheduler (length deck) s run.job = its_stage (EndingForScheduler run code counts) is in
+        ) (after_job run)
+    own_stage (InJob run (EndingForScheduler code counts)) is =
+        let free : NotToScheduler (length deck) s run.job = its_stage (InJob run (EndingForScheduler code counts)) is in
         let asked : asks ≡ (Ecb (end_for_scheduler (length deck) run.job), op_on.Ecb (ecb_op.Post code)) =
         ap (λ z. initiator_asks (length deck) i z) is in
-        let job : run.job < length deck = job_below (EndingForScheduler run code counts) run is refl in
+        let job : run.job < length deck = job_below (InJob run (EndingForScheduler code counts)) run is refl in
         let order = (h.order run.job job).1 in
-        scheduler_stage (NotDone (length deck) i_after) (NotToScheduler (length deck) i_after)
-        (NotToWriter (length deck) i_after) deck run code counts r (
+        on_posted_keeps (EndStage (length deck) i_after) (At (InJob run (EndingForWriter code counts))) r (
           posts_alone _ (end_for_writer (length deck) run.job) code asked (λ z. omega arith)
               (λ d e. let w : IsComplete s (end_for_scheduler (length deck) run.job) = order (d, e) in free.0 w.0 w.1),
           posts _ code asked,
-        )
-    own_stage (EndingForWriter run code counts) is =
-        writer_stage (NotDone (length deck) i_after) (NotToScheduler (length deck) i_after)
-        (NotToWriter (length deck) i_after) deck run code counts r
+        ) tt
+    own_stage (InJob run (EndingForWriter code counts)) is =
+        on_posted_keeps (EndStage (length deck) i_after) (rounds_after run) r (after_job run) tt
     own_stage y is = subst (λ z. EndStage (length deck) i_after (initiator_goes deck z r)) is (own_plain (subst NotEnding (sym is) tt))
 
     -- the order of its posts
@@ -310,10 +279,10 @@ module _ (deck : List JobData) (initiators : ℕ) where
         → asks.1 ≡ op_on.Ecb (ecb_op.Post code) → IsComplete s (done (length deck) j)
     for_scheduler j code below o op = elim (post_by (length deck) i x (end_for_scheduler (length deck) j) (ecb_op.Post code) o op) [
       | offers more before g is e ↦ absurd (omega arith)
-      | ends_job run d counts is e ↦ let job : run.job < length deck = job_below (EndingJob run d counts) run is refl in
+      | ends_job run d counts is e ↦ let job : run.job < length deck = job_below (InJob run (EndingJob d counts)) run is refl in
           absurd (omega arith)
       | ends_scheduler run d counts is e ↦
-          let free : NotToScheduler (length deck) s run.job = its_stage (EndingForScheduler run d counts) is in
+          let free : NotToScheduler (length deck) s run.job = its_stage (InJob run (EndingForScheduler d counts)) is in
           let same : run.job ≡ j = omega arith in subst (λ z. IsComplete s (done (length deck) z)) same free.1
       | ends_writer run d counts is e ↦ absurd (omega arith)
     ]
@@ -322,11 +291,11 @@ module _ (deck : List JobData) (initiators : ℕ) where
         → asks.1 ≡ op_on.Ecb (ecb_op.Post code) → IsComplete s (end_for_scheduler (length deck) j)
     for_writer j code below o op = elim (post_by (length deck) i x (end_for_writer (length deck) j) (ecb_op.Post code) o op) [
       | offers more before g is e ↦ absurd (omega arith)
-      | ends_job run d counts is e ↦ let job : run.job < length deck = job_below (EndingJob run d counts) run is refl in
+      | ends_job run d counts is e ↦ let job : run.job < length deck = job_below (InJob run (EndingJob d counts)) run is refl in
           absurd (omega arith)
       | ends_scheduler run d counts is e ↦ absurd (omega arith)
       | ends_writer run d counts is e ↦
-          let free : NotToWriter (length deck) s run.job = its_stage (EndingForWriter run d counts) is in
+          let free : NotToWriter (length deck) s run.job = its_stage (InJob run (EndingForWriter d counts)) is in
           let same : run.job ≡ j = omega arith in subst (λ z. IsComplete s (end_for_scheduler (length deck) z)) same free.1
     ]
 
@@ -383,12 +352,8 @@ module _ (deck : List JobData) (initiators : ℕ) where
                 (h.handed m j skipped lm below before)
             | inr w ↦ absurd (initiator_no_release (length deck) i x w.0 (code_of j skipped) w.2)
           ];
-      stages = λ m lm. elim (cases_eq m i) [
-        | inl same ↦ subst (λ z. EndStage (length deck) i_after z) (sym (with_at-same t.initiators i (initiator_goes deck x r) m same))
-            (own_stage x refl)
-        | inr other ↦ subst (λ z. EndStage (length deck) i_after z) (sym (with_at-other t.initiators i (initiator_goes deck x r) m other))
-            (others_stage m lm other)
-      ];
+      stages = λ m lm. all_but (λ m p. EndStage (length deck) i_after p) t.initiators i (initiator_goes deck x r) m (own_stage x refl)
+          (λ other. others_stage m lm (λ z. other (sym z)));
       order = order_after;
       blocks = done_map (length deck) s i_after t.scheduler split_after h.blocks;
     }
@@ -555,10 +520,8 @@ module _ (deck : List JobData) (initiators : ℕ) where
       → j < length deck → (scheduler_asks (length deck) x).1 ≡ op_on.Element (element_op.Release g (code_of j skipped))
       → next_job (length deck) (At x) ≤ j
   released_next (Waits a (Arming e todo)) g j skipped few s below op = absurd (cc op)
-  released_next (Waits a (Settling e todo found)) g j skipped few s below op = absurd (cc op)
-  released_next (Extends k job jobs b) g j skipped few s below op = absurd (cc op)
-  released_next (Clears i h code after) g j skipped few s below op = absurd (cc op)
   released_next (Releases i h code after) g j skipped few s below op = stage_released i code j skipped after few s.1 s.2 below (cc op)
+  released_next x g j skipped few s below op = absurd (cc op)
 
   dismissing_done : (v : System) (i more : ℕ) → IsSplit (length deck) v (length deck)
       → DoneBlocks (length deck) v (dismissing_from (length deck) i more)
@@ -651,9 +614,7 @@ module _ (deck : List JobData) (initiators : ℕ) where
         (scheduler_goes (length deck) initiators z r)) (sym is)
         (goes_next (length deck) initiators (λ p. DoneBlocks (length deck) (extended_now s 1 j) p) (Extends j job jobs skipped) r tt tt
         (λ v. extends_split s 1 j sp here))
-    blocks_after (Waits a w) is sp = plain_after (Waits a w) is (λ j job jobs skipped e. cc e) sp
-    blocks_after (Clears i g code after) is sp = plain_after (Clears i g code after) is (λ j job jobs skipped e. cc e) sp
-    blocks_after (Releases i g code after) is sp = plain_after (Releases i g code after) is (λ j job jobs skipped e. cc e) sp
+    blocks_after y is sp = plain_after y is (λ j job jobs skipped e. cc e) sp
 
     scheduler_posted : Posted deck initiators s_after (record t { scheduler = scheduler_goes (length deck) initiators x r })
     scheduler_posted = record {

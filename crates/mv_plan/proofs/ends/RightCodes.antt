@@ -4,42 +4,43 @@ use Rattle.std.proofs.Common.{◌≡◌, ℕ, zero, suc, ◌+◌, ◌<◌, List,
 use Rattle.std.proofs.Common.{sym, ap, ◌∙◌, subst, append-nil, append_assoc, arith}
 use Rattle.std.proofs.lemmas.List.{length-append}
 use Rattle.std.proofs.Math.Seq.{get_or-append_seam}
-use Rattle.mv_ecb.specs.declared.operation.EcbOp.TheVariants as ecb_op
-use Rattle.mv_ecb.specs.declared.operation.EcbReply.TheVariants as ecb_reply
 use Rattle.mv_ecb.specs.Word.{Complete}
-use Rattle.mv_element.specs.declared.operation.ElementOp.TheVariants as element_op
-use Rattle.mv_element.specs.declared.operation.ElementReply.TheVariants as element_reply
 use Rattle.mv_machine.specs.declared.entry.Entry.{Entry}
 use Rattle.mv_machine.specs.declared.entry.Object.{Object}
 use Rattle.mv_machine.specs.declared.entry.Object.TheVariants.{Ecb, Element}
 use Rattle.mv_machine.specs.declared.entry.Op.{Op}
-use Rattle.mv_machine.specs.declared.entry.Op.TheVariants as op_on
 use Rattle.mv_machine.specs.declared.entry.Reply.{Reply}
-use Rattle.mv_machine.specs.declared.entry.Reply.TheVariants as reply_of
 use Rattle.mv_machine.specs.Legal.{IsNext}
 use Rattle.mv_machine.specs.Setup.{Setup}
 use Rattle.mv_machine.specs.System.{System, moved, opening}
 use Rattle.mv_deck.specs.Deck.{JobData}
 use Rattle.mv_plan.specs.Jobs.{end_of}
-use Rattle.mv_plan.proofs.deck.Plans.{IsPlanned}
 use Rattle.mv_report.specs.Outcome.{ends}
 use Rattle.mv_plan.specs.SpoolSetup.{end_for_writer, initiator}
 use Rattle.mv_plan.specs.SpoolTasks.{Named, job_named, code_of}
+use Rattle.mv_report.proofs.Lengths.{one_end_per_job}
+use Rattle.mv_ecb.specs.declared.operation.EcbOp.TheVariants as ecb_op
+use Rattle.mv_ecb.specs.declared.operation.EcbReply.TheVariants as ecb_reply
+use Rattle.mv_element.specs.declared.operation.ElementOp.TheVariants as element_op
+use Rattle.mv_element.specs.declared.operation.ElementReply.TheVariants as element_reply
+use Rattle.mv_machine.specs.declared.entry.Op.TheVariants as op_on
+use Rattle.mv_machine.specs.declared.entry.Reply.TheVariants as reply_of
+use Rattle.mv_plan.proofs.deck.Plans.{IsPlanned}
 use Rattle.mv_plan.proofs.points.Points.{Point, At, Finished, ReaderAt, Entering, reader_asks, Arming, Settling, Dispatching, Dismissing}
-use Rattle.mv_plan.proofs.points.Points.{SchedulerAt, Waits, Extends, Clears, Releases, scheduler_asks, WriterAt, Keeping, writing_from}
-use Rattle.mv_plan.proofs.points.Points.{end_found, writer_asks, writer_goes, Running, InitiatorAt, Opening, Offering, Pausing, Resuming}
-use Rattle.mv_plan.proofs.points.Points.{Obtaining, Confirming, Freeing, Reading, Writing, Scanning, Rescanning, Purging, EndingJob}
-use Rattle.mv_plan.proofs.points.Points.{EndingForScheduler, EndingForWriter, Closing, initiator_asks, initiator_goes, stage_at}
+use Rattle.mv_plan.proofs.points.Points.{running, SchedulerAt, Waits, Releases, scheduler_asks, WriterAt, Keeping}
+use Rattle.mv_plan.proofs.points.Points.{writing_from, end_found, writer_asks, writer_goes, Running, InitiatorAt, Opening, Offering}
+use Rattle.mv_plan.proofs.points.Points.{Pausing, Resuming, Obtaining}
+use Rattle.mv_plan.proofs.points.Points.{EndingJob, EndingForScheduler, EndingForWriter, initiator_asks, initiator_goes, stage_at}
+use Rattle.mv_plan.proofs.points.Points.{InJob}
 use Rattle.mv_plan.proofs.points.PostsAndWaits.{on_armed_keeps}
 use Rattle.mv_plan.proofs.walks.Walks.{Points, start_points}
 use Rattle.mv_plan.proofs.points.ReaderAndWriter.{IsReaderAt, IsWriterAt}
 use Rattle.mv_plan.proofs.points.SchedulerSound.{IsSchedulerAt}
 use Rattle.mv_plan.proofs.points.InitiatorSound.{IsInitiatorAt, IsEnding, named_is}
 use Rattle.mv_plan.proofs.deck.Ends.{is_skipped, end_by_mark, few_jobs}
-use Rattle.mv_report.proofs.Lengths.{one_end_per_job}
 use Rattle.mv_plan.proofs.ends.Complete.{complete_moved, held_moved}
-use Rattle.mv_plan.proofs.ends.Blocks.{paused_code, resumed_code, settled_code, HasEnd, entered_none, idle_none}
-use Rattle.mv_plan.proofs.ends.Blocks.{scheduler_has, writer_has, done_one, scheduler_one, writer_one}
+use Rattle.mv_plan.proofs.ends.Blocks.{paused_code, resumed_code, settled_code, HasEnd, entered_none, idle_none, scheduler_has, writer_has}
+use Rattle.mv_plan.proofs.ends.Blocks.{done_one, scheduler_one, writer_one}
 use Rattle.mv_plan.proofs.ends.SchedulerMarks.{IsMarked, IsCodeFor, FindsEnds, scheduler_marks, dismissing_marked}
 use Rattle.mv_plan.proofs.points.RunningJob.{OfRun, Starts, runs_goes}
 use Rattle.mv_plan.proofs.walks.Stands.{HasStanding}
@@ -171,10 +172,7 @@ reader_posts deck (Entering k more) at m d a b j lt has =
 scheduler_posts : (deck : List JobData) (x : SchedulerAt)
     → PostsEnds deck (scheduler_asks (length deck) x).0 (scheduler_asks (length deck) x).1
 scheduler_posts deck (Waits a (Arming e todo)) m d p q j lt has = absurd (cc q)
-scheduler_posts deck (Waits a (Settling e todo found)) m d p q j lt has = absurd (cc q)
-scheduler_posts deck (Extends k job jobs skipped) m d p q j lt has = absurd (cc q)
-scheduler_posts deck (Clears i g code after) m d p q j lt has = absurd (cc q)
-scheduler_posts deck (Releases i g code after) m d p q j lt has = absurd (cc q)
+scheduler_posts deck x m d p q j lt has = absurd (cc q)
 
 writer_posts : (deck : List JobData) (x : WriterAt) → PostsEnds deck (writer_asks x).0 (writer_asks x).1
 writer_posts deck (Keeping k more kept (Arming e todo)) m d p q j lt has = absurd (cc q)
@@ -185,54 +183,45 @@ pub ending_is : (deck : List JobData) (initiators : ℕ) (run : Running) (code :
     → IsMarkedRun deck run → code ≡ end_of deck run.job
 ending_is deck initiators run code sound at f = at.end ∙ end_by_mark deck run.job run.skipped sound.jobs at.round.job f
 
+-- what holds of each job that a code in the initiator's element names, holds of the job that it is given
+pub starts_held : (Q : Running → Type 0) (deck : List JobData) (c : Setup) (s : System) (i : ℕ) (x : InitiatorAt) (p : ℕ) (r : Reply)
+    → IsNext c s (entry_of (initiator i) p (initiator_asks (length deck) i x) r)
+    → ((code : ℕ) (named : Named) (before : List ℕ) (more g : ℕ) → code_held (element s (initiator i)) ≡ Some code
+    → job_named (length deck) code ≡ Some named → Q (running named before more g)) → Starts Q deck x r
+starts_held Q deck c s i (Pausing more before g) p (reply_of.Element (element_reply.Given code now)) n h = λ named left e new more_is.
+    h code named before (suc left) now (paused_code g (element s (initiator i)) code now
+    (cc (sym (element_reply c s (initiator i) (initiator i) (element_op.Pause g) p
+    (reply_of.Element (element_reply.Given code now)) n)))) e
+starts_held Q deck c s i (Resuming more before g) p (reply_of.Element (element_reply.Given code now)) n h = λ named left e new more_is.
+    h code named before (suc left) now (resumed_code g (element s (initiator i)) code now
+    (cc (sym (element_reply c s (initiator i) (initiator i) (element_op.Resume g) p
+    (reply_of.Element (element_reply.Given code now)) n)))) e
+starts_held Q deck c s i x p r n h = tt
+
 module _ (deck : List JobData) (initiators : ℕ) (sound : IsPlanned deck initiators) where
   initiator_posts : (i : ℕ) (x : InitiatorAt) → IsInitiatorAt deck (At x) → OfRun (IsMarkedRun deck) (At x)
       → PostsEnds deck (initiator_asks (length deck) i x).0 (initiator_asks (length deck) i x).1
-  initiator_posts i Opening at f m d p q j lt has = absurd (cc p)
   initiator_posts i (Offering more before g) at f m d p q j lt has =
       absurd (idle_none (length deck) j i lt (subst (HasEnd (length deck) j) (cc p) has))
-  initiator_posts i (Pausing more before g) at f m d p q j lt has = absurd (cc p)
-  initiator_posts i (Resuming more before g) at f m d p q j lt has = absurd (cc p)
-  initiator_posts i (Obtaining run hand latch mode steps) at f m d p q j lt has = absurd (cc p)
-  initiator_posts i (Confirming run hand latch mode id steps) at f m d p q j lt has = absurd (cc p)
-  initiator_posts i (Freeing run hand latch id steps) at f m d p q j lt has = absurd (cc p)
-  initiator_posts i (Reading run hand volume amount steps) at f m d p q j lt has = absurd (cc p)
-  initiator_posts i (Writing run hand volume amount number steps) at f m d p q j lt has = absurd (cc p)
-  initiator_posts i (Scanning run hand volume steps) at f m d p q j lt has = absurd (cc p)
-  initiator_posts i (Rescanning run hand volume number steps) at f m d p q j lt has = absurd (cc p)
-  initiator_posts i (Purging run hand code) at f m d p q j lt has = absurd (cc p)
-  initiator_posts i (EndingJob run code counts) at f m d p q j lt has =
+  initiator_posts i (InJob run (EndingJob code counts)) at f m d p q j lt has =
       sym (cc q) ∙ ending_is deck initiators run code sound at (f run refl)
       ∙ ap (λ k. end_of deck k) (sym (done_one (length deck) j run.job lt at.round.job
       (subst (HasEnd (length deck) j) (sym (cc p)) has)))
-  initiator_posts i (EndingForScheduler run code counts) at f m d p q j lt has =
+  initiator_posts i (InJob run (EndingForScheduler code counts)) at f m d p q j lt has =
       sym (cc q) ∙ ending_is deck initiators run code sound at (f run refl)
       ∙ ap (λ k. end_of deck k) (sym (scheduler_one (length deck) j run.job lt at.round.job
       (subst (HasEnd (length deck) j) (sym (cc p)) has)))
-  initiator_posts i (EndingForWriter run code counts) at f m d p q j lt has =
+  initiator_posts i (InJob run (EndingForWriter code counts)) at f m d p q j lt has =
       sym (cc q) ∙ ending_is deck initiators run code sound at (f run refl)
       ∙ ap (λ k. end_of deck k) (sym (writer_one (length deck) j run.job lt at.round.job
       (subst (HasEnd (length deck) j) (sym (cc p)) has)))
-  initiator_posts i (Closing g) at f m d p q j lt has = absurd (cc p)
+  initiator_posts i x at f m d p q j lt has = absurd (cc p)
 
   pub initiator_releases : (i : ℕ) (x : InitiatorAt)
       → ReleasesCodes deck (initiator_asks (length deck) i x).0 (initiator_asks (length deck) i x).1
   initiator_releases i Opening m g d p q = absurd (cc q)
-  initiator_releases i (Offering more before h) m g d p q = absurd (cc q)
-  initiator_releases i (Pausing more before h) m g d p q = absurd (cc q)
-  initiator_releases i (Resuming more before h) m g d p q = absurd (cc q)
-  initiator_releases i (Obtaining run hand latch mode steps) m g d p q = absurd (cc q)
-  initiator_releases i (Confirming run hand latch mode id steps) m g d p q = absurd (cc q)
-  initiator_releases i (Freeing run hand latch id steps) m g d p q = absurd (cc q)
-  initiator_releases i (Reading run hand volume amount steps) m g d p q = absurd (cc q)
-  initiator_releases i (Writing run hand volume amount number steps) m g d p q = absurd (cc q)
-  initiator_releases i (Scanning run hand volume steps) m g d p q = absurd (cc q)
-  initiator_releases i (Rescanning run hand volume number steps) m g d p q = absurd (cc q)
-  initiator_releases i (Purging run hand code) m g d p q = absurd (cc q)
-  initiator_releases i (EndingJob run code counts) m g d p q = absurd (cc q)
-  initiator_releases i (EndingForScheduler run code counts) m g d p q = absurd (cc q)
-  initiator_releases i (EndingForWriter run code counts) m g d p q = absurd (cc q)
-  initiator_releases i (Closing h) m g d p q = absurd (cc q)
+  initiator_releases i (InJob run (Obtaining hand latch mode steps)) m g d p q = absurd (cc q)
+  initiator_releases i x m g d p q = absurd (cc q)
 
   code_for : (code : ℕ) (after : _) → IsCodeFor deck code after → IsCode deck code
   code_for code (Dispatching j jobs) f = inr (f.0, f.1, f.3)
@@ -241,10 +230,8 @@ module _ (deck : List JobData) (initiators : ℕ) (sound : IsPlanned deck initia
   pub scheduler_releases : (x : SchedulerAt) → IsMarked deck (At x)
       → ReleasesCodes deck (scheduler_asks (length deck) x).0 (scheduler_asks (length deck) x).1
   scheduler_releases (Waits a (Arming e todo)) f m g d p q = absurd (cc p)
-  scheduler_releases (Waits a (Settling e todo found)) f m g d p q = absurd (cc p)
-  scheduler_releases (Extends k job jobs skipped) f m g d p q = absurd (cc p)
-  scheduler_releases (Clears i h code after) f m g d p q = absurd (cc p)
   scheduler_releases (Releases i h code after) f m g d p q = subst (IsCode deck) (cc q) (code_for code after f)
+  scheduler_releases x f m g d p q = absurd (cc p)
 
   -- the job that a code names, and its mark
   pub given_mark : (code : ℕ) (named : Named) → IsCode deck code → job_named (length deck) code ≡ Some named
@@ -260,17 +247,8 @@ module _ (deck : List JobData) (initiators : ℕ) (sound : IsPlanned deck initia
   starts_marked : (c : Setup) (s : System) (i : ℕ) (x : InitiatorAt) (p : ℕ) (r : Reply)
       → IsNext c s (entry_of (initiator i) p (initiator_asks (length deck) i x) r) → HoldCodes deck s
       → Starts (IsMarkedRun deck) deck x r
-  starts_marked c s i (Pausing more before g) p (reply_of.Element (element_reply.Given code now)) n h = λ named left e new more_is.
-      given_mark code named (h (initiator i) code
-      (paused_code g (element s (initiator i)) code now
-      (cc (sym (element_reply c s (initiator i) (initiator i) (element_op.Pause g) p
-      (reply_of.Element (element_reply.Given code now)) n))))) e
-  starts_marked c s i (Resuming more before g) p (reply_of.Element (element_reply.Given code now)) n h = λ named left e new more_is.
-      given_mark code named (h (initiator i) code
-      (resumed_code g (element s (initiator i)) code now
-      (cc (sym (element_reply c s (initiator i) (initiator i) (element_op.Resume g) p
-      (reply_of.Element (element_reply.Given code now)) n))))) e
-  starts_marked c s i x p r n h = tt
+  starts_marked c s i x p r n h = starts_held (IsMarkedRun deck) deck c s i x p r n
+      (λ code named before more g held e. given_mark code named (h (initiator i) code held) e)
 
   finds_ends : (c : Setup) (s : System) (x : SchedulerAt) (k p : ℕ) (r : Reply)
       → IsNext c s (entry_of k p (scheduler_asks (length deck) x) r) → HoldEnds deck s → FindsEnds deck initiators x r

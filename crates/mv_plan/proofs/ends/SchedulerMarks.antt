@@ -1,27 +1,26 @@
 -- The scheduler marks each job as the deck says, where the ends that it reads are the deck's.
-use Rattle.std.proofs.Common.{◌≡◌, ℕ, zero, suc, ◌+◌, ◌<◌, ◌≤◌, nat_le, nat_lt, Bool, true, false, ◌||◌, cond, List, [], ◌∷◌, ◌++◌}
-use Rattle.std.proofs.Common.{length, get_or, Option, Some, None, refl, sym, ap, ◌∙◌, arith}
+use Rattle.std.proofs.Common.{◌≡◌, ℕ, zero, suc, ◌+◌, ◌<◌, ◌≤◌, nat_le, nat_lt, Bool, true, false, ◌||◌, cond, List, [], ◌∷◌, ◌++◌, length}
+use Rattle.std.proofs.Common.{get_or, Option, Some, None, refl, sym, ap, ◌∙◌, arith}
 use Rattle.std.specs.List.{AllByRecursion}
 use Rattle.std.proofs.lemmas.Bool.{leb-true}
 use Rattle.std.proofs.Math.Seq.{get_or-append_seam}
-use Rattle.mv_ecb.specs.declared.operation.EcbReply.TheVariants as ecb_reply
-use Rattle.mv_element.specs.declared.operation.ElementReply.TheVariants as element_reply
 use Rattle.mv_machine.specs.declared.entry.Reply.{Reply}
-use Rattle.mv_machine.specs.declared.entry.Reply.TheVariants as reply_of
 use Rattle.mv_deck.specs.Deck.{JobData}
 use Rattle.mv_deck.specs.declared.deck.After.{After}
 use Rattle.mv_deck.specs.declared.deck.Step.{Step}
-use Rattle.mv_report.specs.Outcome.{some_unaccepted}
+use Rattle.mv_report.specs.Outcome.{some_unaccepted, ends}
 use Rattle.mv_plan.specs.Jobs.{no_job, job_at, end_of}
-use Rattle.mv_plan.proofs.deck.Plans.{ArePlannedJobs}
-use Rattle.mv_report.specs.Outcome.{ends}
 use Rattle.mv_plan.specs.SpoolSetup.{end_for_scheduler}
 use Rattle.mv_plan.specs.SpoolTasks.{code_of, some_end_above, ends_of}
 use Rattle.mv_calls.specs.Waits.{complete_count}
-use Rattle.mv_plan.proofs.points.Points.{Point, At, TooSoon, WaitAt, Arming, Settling, Stage, Dispatching, Dismissing, Awaited}
-use Rattle.mv_plan.proofs.points.Points.{ForEntry, ForEnds, ForIdle, ToDismiss, SchedulerAt, Waits, Extends, Clears, Releases}
-use Rattle.mv_plan.proofs.points.Points.{awaited_blocks, awaited_count, scheduler_goes, arming_first, arming_from, settling_from}
-use Rattle.mv_plan.proofs.points.Points.{found_at, ends_at, dismissing_from, stage_at}
+use Rattle.mv_ecb.specs.declared.operation.EcbReply.TheVariants as ecb_reply
+use Rattle.mv_element.specs.declared.operation.ElementReply.TheVariants as element_reply
+use Rattle.mv_machine.specs.declared.entry.Reply.TheVariants as reply_of
+use Rattle.mv_plan.proofs.deck.Plans.{ArePlannedJobs}
+use Rattle.mv_plan.proofs.points.Points.{Point, At, TooSoon, WaitAt, Arming, Settling, Stage, Dispatching, Dismissing, Awaited, ForEntry}
+use Rattle.mv_plan.proofs.points.Points.{ForEnds, ForIdle, ToDismiss, SchedulerAt, Waits, Extends, Clears, Releases, awaited_blocks}
+use Rattle.mv_plan.proofs.points.Points.{awaited_count, scheduler_goes, arming_first, arming_from, settling_from, found_at, ends_at}
+use Rattle.mv_plan.proofs.points.Points.{dismissing_from, stage_at}
 use Rattle.mv_plan.proofs.points.PostsAndWaits.{on_armed_keeps, lowest_keeps}
 use Rattle.mv_plan.proofs.points.SchedulerSound.{IsRest, rest_below, rest_sound, IsAwaited, IsWaitAt, IsSchedulerAt}
 use Rattle.mv_plan.proofs.deck.Ends.{is_skipped}
@@ -197,12 +196,9 @@ module _ (deck : List JobData) (initiators : ℕ) where
       settling_marked a todo (found ++ Some code ∷ []) s.0 (one_settled a e todo found (Some code) sound s.0 s.1 f finds)
   scheduler_marks (Waits a (Settling e todo found)) (reply_of.Ecb ecb_reply.Open) sound s f finds =
       settling_marked a todo (found ++ None ∷ []) s.0 (one_settled a e todo found None sound s.0 s.1 f (λ k lt at. tt))
-  scheduler_marks (Waits a (Settling e todo found)) r sound s f finds = tt
   scheduler_marks (Extends j job jobs skipped) (reply_of.Ecb ecb_reply.Armed) sound s f finds =
       first_marked (ForIdle j job jobs skipped) (awaited_blocks (length deck) initiators (ForIdle j job jobs skipped)) f
-  scheduler_marks (Extends j job jobs skipped) r sound s f finds = tt
   scheduler_marks (Clears i g code after) (reply_of.Ecb (ecb_reply.Word w)) sound s f finds = f
-  scheduler_marks (Clears i g code after) r sound s f finds = tt
   scheduler_marks (Releases i g code after) (reply_of.Element element_reply.Early) sound s f finds = stage_marked after
   scheduler_marks (Releases i g code after) (reply_of.Element element_reply.Woke) sound s f finds = stage_marked after
-  scheduler_marks (Releases i g code after) r sound s f finds = tt
+  scheduler_marks x r sound s f finds = tt

@@ -5,35 +5,35 @@ use Rattle.std.specs.List.{AllByRecursion}
 use Rattle.std.proofs.lemmas.Bool.{cases_eq, eq-eqb, ne_eqb}
 use Rattle.std.proofs.lemmas.List.Elements.{filter_map-append}
 use Rattle.mv_ecb.specs.declared.operation.EcbOp.{EcbOp}
-use Rattle.mv_ecb.specs.declared.operation.EcbOp.TheVariants as ecb_op
-use Rattle.mv_ecb.specs.declared.operation.EcbReply.TheVariants as ecb_reply
 use Rattle.mv_ecb.specs.Table.{ecb_step}
-use Rattle.mv_ecb.specs.Word.{EcbState, Zero, Waiting, Extended, Complete}
-use Rattle.mv_element.specs.declared.operation.ElementOp.TheVariants as element_op
+use Rattle.mv_ecb.specs.Word.{EcbState, Zero, Extended, Complete}
 use Rattle.mv_machine.specs.declared.entry.Entry.{Entry}
 use Rattle.mv_machine.specs.declared.entry.Object.{Object}
-use Rattle.mv_machine.specs.declared.entry.Object.TheVariants.{Ecb, Element, Volume, Latches}
+use Rattle.mv_machine.specs.declared.entry.Object.TheVariants.{Ecb, Element}
 use Rattle.mv_machine.specs.declared.entry.Op.{Op}
-use Rattle.mv_machine.specs.declared.entry.Op.TheVariants as op_on
 use Rattle.mv_machine.specs.declared.entry.Reply.{Reply}
-use Rattle.mv_machine.specs.declared.entry.Reply.TheVariants as reply_of
 use Rattle.mv_machine.specs.Legal.{IsNext}
 use Rattle.mv_machine.specs.Setup.{Setup}
 use Rattle.mv_machine.specs.System.{System, moved, opening}
-use Rattle.mv_plan.specs.PostingEnds.{post_in, posts, post_codes, FindsEnd}
+use Rattle.mv_plan.specs.PostingEnds.{posts, post_codes, post_in, FindsEnd}
 use Rattle.mv_deck.specs.Deck.{JobData}
 use Rattle.mv_deck.specs.EndCode.{not_run}
 use Rattle.mv_plan.specs.Jobs.{end_of}
-use Rattle.mv_plan.proofs.deck.Plans.{IsPlanned}
-use Rattle.mv_plan.specs.SpoolSetup.{done, end_for_scheduler, end_for_writer}
+use Rattle.mv_plan.specs.SpoolSetup.{end_for_scheduler, end_for_writer, done}
 use Rattle.mv_plan.specs.SpoolTasks.{code_of}
+use Rattle.mv_machine.proofs.Lists.{all_push}
+use Rattle.mv_ecb.specs.declared.operation.EcbOp.TheVariants as ecb_op
+use Rattle.mv_ecb.specs.declared.operation.EcbReply.TheVariants as ecb_reply
+use Rattle.mv_element.specs.declared.operation.ElementOp.TheVariants as element_op
+use Rattle.mv_machine.specs.declared.entry.Op.TheVariants as op_on
+use Rattle.mv_machine.specs.declared.entry.Reply.TheVariants as reply_of
+use Rattle.mv_plan.proofs.deck.Plans.{IsPlanned}
 use Rattle.mv_plan.proofs.ends.Blocks.{HasEnd, scheduler_has, writer_has}
 use Rattle.mv_plan.proofs.deck.Ends.{is_skipped, skipped_ends, few_jobs}
 use Rattle.mv_plan.proofs.ends.RightCodes.{HoldEnds, ReleasesCodes}
 use Rattle.mv_plan.proofs.deck.Codes.{code_parts, never_zero}
 use Rattle.mv_plan.proofs.ends.Complete.{NotComplete, BlockAfter, block_moved, moved_there}
 use Rattle.mv_plan.proofs.walks.Moves.{entry_of, block, block_reply}
-use Rattle.mv_machine.proofs.Lists.{all_push}
 
 -- the codes that a block is complete with
 abbrev pub code_list : EcbState → List ℕ
@@ -73,16 +73,9 @@ post_case b (Ecb m) (op_on.Ecb (ecb_op.Post d)) r = elim (cases_eq m b) [
   | inr other ↦ inr (ap (λ z. if z then Some (d, r) else None) (ne_eqb m b other), λ e o op. other (cc o))
 ]
 post_case b (Ecb m) (op_on.Ecb ecb_op.Arm) r = inr (refl, λ d o op. cc op)
-post_case b (Ecb m) (op_on.Ecb (ecb_op.Extend x)) r = inr (refl, λ d o op. cc op)
-post_case b (Ecb m) (op_on.Ecb ecb_op.Settle) r = inr (refl, λ d o op. cc op)
-post_case b (Ecb m) (op_on.Ecb ecb_op.Clear) r = inr (refl, λ d o op. cc op)
-post_case b (Ecb m) (op_on.Ecb ecb_op.Test) r = inr (refl, λ d o op. cc op)
-post_case b (Ecb m) (op_on.Element op) r = inr (refl, λ d o e. cc e)
-post_case b (Ecb m) (op_on.Volume op) r = inr (refl, λ d o e. cc e)
-post_case b (Ecb m) (op_on.Latch op) r = inr (refl, λ d o e. cc e)
-post_case b (Element m) op r = inr (refl, λ d o e. cc o)
-post_case b (Volume m) op r = inr (refl, λ d o e. cc o)
-post_case b Latches op r = inr (refl, λ d o e. cc o)
+post_case b (Ecb m) (op_on.Ecb y) r = inr (refl, λ d o op. cc op)
+post_case b (Ecb m) y r = inr (refl, λ d o e. cc e)
+post_case b y op r = inr (refl, λ d o e. cc o)
 
 posts_none : (b k p : ℕ) (o : Object) (op : Op) (r : Reply) (past : List Entry) → post_in b o op r ≡ None
     → posts b (past ++ entry_of k p (o, op) r ∷ []) ≡ posts b past
@@ -101,34 +94,21 @@ map_push (q ∷ ps) p = ap (λ z. q.0 ∷ z) (map_push ps p)
 -- ---- tables
 
 no_code : (v : EcbState) → ((code : ℕ) → v ≡ Complete code → ⊥) → code_list v ≡ []
-no_code Zero f = refl
-no_code Waiting f = refl
-no_code (Extended y) f = refl
 no_code (Complete c) f = absurd (f c refl)
+no_code y f = refl
 
 posted_code : (d : ℕ) (v : EcbState) → ((code : ℕ) → v ≡ Complete code → ⊥) → code_list (ecb_step (ecb_op.Post d) v).0 ≡ d ∷ []
-posted_code d Zero f = refl
-posted_code d Waiting f = refl
-posted_code d (Extended y) f = refl
 posted_code d (Complete c) f = absurd (f c refl)
+posted_code d y f = refl
 
 kept_code : (op : EcbOp) (v : EcbState) → ((d : ℕ) → op ≡ ecb_op.Post d → ⊥) → (op ≡ ecb_op.Clear → ⊥)
     → code_list (ecb_step op v).0 ≡ code_list v
 kept_code ecb_op.Arm Zero f g = refl
-kept_code ecb_op.Arm Waiting f g = refl
-kept_code ecb_op.Arm (Extended y) f g = refl
-kept_code ecb_op.Arm (Complete c) f g = refl
 kept_code (ecb_op.Extend x) Zero f g = refl
-kept_code (ecb_op.Extend x) Waiting f g = refl
-kept_code (ecb_op.Extend x) (Extended y) f g = refl
-kept_code (ecb_op.Extend x) (Complete c) f g = refl
 kept_code ecb_op.Settle Zero f g = refl
-kept_code ecb_op.Settle Waiting f g = refl
-kept_code ecb_op.Settle (Extended y) f g = refl
-kept_code ecb_op.Settle (Complete c) f g = refl
 kept_code ecb_op.Clear v f g = absurd (g refl)
 kept_code (ecb_op.Post d) v f g = absurd (f d refl)
-kept_code ecb_op.Test v f g = refl
+kept_code y v f g = refl
 
 -- an answer Complete is of a complete block, and so is an answer Already
 complete_reply : (op : EcbOp) (v : EcbState) (code : ℕ) → (ecb_step op v).1 ≡ ecb_reply.Complete code → v ≡ Complete code
@@ -148,15 +128,8 @@ replied c s k b p o op r e n f g =
 ecb_kind : (c : Setup) (s : System) (k b p : ℕ) (o : Object) (op : Op) (r : Reply) → IsNext c s (entry_of k p (o, op) r) → o ≡ Ecb b
     → (e : EcbOp) × (op ≡ op_on.Ecb e)
 ecb_kind c s k b p o (op_on.Ecb e) r n f = (e, refl)
-ecb_kind c s k b p o (op_on.Element e) r n f = absurd (none (subst (λ z. IsNext c s (entry_of k p (z, op_on.Element e) r)) f n)) where
-  none : IsNext c s (entry_of k p (Ecb b, op_on.Element e) r) → ⊥
-  none m = cc m.reply
-ecb_kind c s k b p o (op_on.Volume e) r n f = absurd (none (subst (λ z. IsNext c s (entry_of k p (z, op_on.Volume e) r)) f n)) where
-  none : IsNext c s (entry_of k p (Ecb b, op_on.Volume e) r) → ⊥
-  none m = cc m.reply
-ecb_kind c s k b p o (op_on.Latch e) r n f = absurd (none (subst (λ z. IsNext c s (entry_of k p (z, op_on.Latch e) r)) f n)) where
-  none : IsNext c s (entry_of k p (Ecb b, op_on.Latch e) r) → ⊥
-  none m = cc m.reply
+ecb_kind c s k b p o op r n f = let m : IsNext c s (entry_of k p (Ecb b, op) r) = subst (λ z. IsNext c s (entry_of k p (z, op) r)) f n in
+    absurd (cc m.reply)
 
 -- ---- the step, for any event
 

@@ -4,14 +4,14 @@ use Rattle.std.proofs.Common.{◌≡◌, ℕ, zero, suc, ◌+◌, ◌<◌, List,
 use Rattle.std.proofs.lemmas.List.{length-append, length-replicate}
 use Rattle.mv_machine.specs.declared.entry.Entry.{Entry}
 use Rattle.mv_machine.specs.System.{opening}
-use Rattle.mv_calls.specs.Program.{IsDoneOn}
-use Rattle.mv_calls.specs.Runs.{heard_in}
-use Rattle.mv_calls.proofs.Computed.{answers, claims, legal_by}
-use Rattle.mv_calls.proofs.Interleaved.{finish}
+use Rattle.mv_calls.proofs.Computed.{legal_by, answers, claims}
 use Rattle.mv_deck.specs.Deck.{JobData}
 use Rattle.mv_plan.specs.SpoolSetup.{spool_setup}
 use Rattle.mv_plan.specs.SpoolTasks.{task_program}
 use Rattle.mv_plan.specs.SpoolRun.{IsRun}
+use Rattle.mv_calls.specs.Program.{IsDoneOn}
+use Rattle.mv_calls.specs.Runs.{heard_in}
+use Rattle.mv_calls.proofs.Interleaved.{finish}
 
 -- so of each of these, counted from 0
 abbrev Each : {A : Type 0} → (ℕ → A → Type 0) → List A → Type 0

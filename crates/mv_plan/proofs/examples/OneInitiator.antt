@@ -1,6 +1,13 @@
 -- Histories of small decks with one initiator are runs, by computing them: a check on the definitions.
 use Rattle.std.specs.Prelude.{codes}
 use Rattle.std.proofs.Common.{◌≡◌, false, List, [], ◌∷◌, refl}
+use Rattle.mv_latch.specs.declared.request.Mode.TheVariants.{Exclusive}
+use Rattle.mv_machine.specs.declared.entry.Entry.{Entry}
+use Rattle.mv_deck.specs.Deck.{JobData}
+use Rattle.mv_deck.specs.declared.deck.Step.TheVariants.{Use, Count, Abend, Free}
+use Rattle.mv_report.specs.Outcome.{ends}
+use Rattle.mv_plan.specs.SpoolRun.{IsRun}
+use Rattle.mv_calls.proofs.Computed.{made, at_block, at_element, at_volume, at_latches}
 use Rattle.mv_ecb.specs.declared.operation.EcbOp.TheVariants as ecb_op
 use Rattle.mv_ecb.specs.declared.operation.EcbReply.TheVariants as ecb_reply
 use Rattle.mv_element.specs.declared.operation.ElementOp.TheVariants as element_op
@@ -8,15 +15,8 @@ use Rattle.mv_element.specs.declared.operation.ElementReply.TheVariants as eleme
 use Rattle.mv_latch.specs.declared.operation.LatchOp.TheVariants as latch_op
 use Rattle.mv_latch.specs.declared.operation.LatchReply.TheVariants as latch_reply
 use Rattle.mv_latch.specs.declared.request.LatchForm.TheVariants.{Waiting}
-use Rattle.mv_latch.specs.declared.request.Mode.TheVariants.{Exclusive}
-use Rattle.mv_machine.specs.declared.entry.Entry.{Entry}
 use Rattle.mv_machine.specs.declared.entry.VolumeOp.TheVariants as volume_op
 use Rattle.mv_machine.specs.declared.entry.VolumeReply.TheVariants as volume_reply
-use Rattle.mv_deck.specs.Deck.{JobData}
-use Rattle.mv_deck.specs.declared.deck.Step.TheVariants.{Use, Free, Count, Abend}
-use Rattle.mv_report.specs.Outcome.{ends}
-use Rattle.mv_plan.specs.SpoolRun.{IsRun}
-use Rattle.mv_calls.proofs.Computed.{made, at_block, at_element, at_volume, at_latches}
 use Rattle.mv_plan.proofs.examples.Computed.{run_by}
 
 -- ---- the empty deck with one initiator

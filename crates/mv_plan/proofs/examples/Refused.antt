@@ -1,8 +1,19 @@
 -- Legal histories that are no runs: another end posted, the closing release left out, a volume read before its latch was granted,
 -- and a job released twice. Each is legal by computing it, and what its program says at the wrong entry is another event.
 use Rattle.std.specs.Prelude.{codes}
-use Rattle.std.proofs.Common.{◌≡◌, ℕ, ◌++◌, List, [], ◌∷◌, take, Some, None, refl, ap, arith}
+use Rattle.std.proofs.Common.{◌≡◌, ℕ, ◌++◌, List, [], ◌∷◌, Some, None, refl, ap, arith, take}
 use Rattle.std.proofs.lemmas.Option.{some_pair_parts}
+use Rattle.mv_latch.specs.declared.request.Mode.TheVariants.{Exclusive}
+use Rattle.mv_machine.specs.declared.entry.Entry.{Entry}
+use Rattle.mv_machine.specs.declared.entry.Object.{Object}
+use Rattle.mv_machine.specs.declared.entry.Object.TheVariants.{Ecb, Element, Volume, Latches}
+use Rattle.mv_machine.specs.declared.entry.Op.{Op}
+use Rattle.mv_calls.specs.Program.{asks}
+use Rattle.mv_calls.proofs.Computed.{legal_by, at_block, at_element, at_volume, at_latches}
+use Rattle.mv_deck.specs.declared.deck.Step.TheVariants.{Use, Count, Free}
+use Rattle.mv_deck.specs.Deck.{JobData}
+use Rattle.mv_plan.specs.SpoolRun.{Follows, IsRun}
+use Rattle.mv_plan.specs.SpoolSetup.{spool_setup}
 use Rattle.mv_ecb.specs.declared.operation.EcbOp.TheVariants as ecb_op
 use Rattle.mv_ecb.specs.declared.operation.EcbReply.TheVariants as ecb_reply
 use Rattle.mv_element.specs.declared.operation.ElementOp.TheVariants as element_op
@@ -10,21 +21,10 @@ use Rattle.mv_element.specs.declared.operation.ElementReply.TheVariants as eleme
 use Rattle.mv_latch.specs.declared.operation.LatchOp.TheVariants as latch_op
 use Rattle.mv_latch.specs.declared.operation.LatchReply.TheVariants as latch_reply
 use Rattle.mv_latch.specs.declared.request.LatchForm.TheVariants.{Waiting}
-use Rattle.mv_latch.specs.declared.request.Mode.TheVariants.{Exclusive}
-use Rattle.mv_machine.specs.declared.entry.Entry.{Entry}
-use Rattle.mv_machine.specs.declared.entry.Object.{Object}
-use Rattle.mv_machine.specs.declared.entry.Object.TheVariants.{Ecb, Element, Volume, Latches}
-use Rattle.mv_machine.specs.declared.entry.Op.{Op}
 use Rattle.mv_machine.specs.declared.entry.Op.TheVariants as op_on
 use Rattle.mv_machine.specs.declared.entry.VolumeOp.TheVariants as volume_op
 use Rattle.mv_machine.specs.declared.entry.VolumeReply.TheVariants as volume_reply
 use Rattle.mv_machine.specs.Legal.{Legal}
-use Rattle.mv_calls.specs.Program.{asks}
-use Rattle.mv_calls.proofs.Computed.{legal_by, at_block, at_element, at_volume, at_latches}
-use Rattle.mv_deck.specs.declared.deck.Step.TheVariants.{Use, Count, Free}
-use Rattle.mv_deck.specs.Deck.{JobData}
-use Rattle.mv_plan.specs.SpoolRun.{Follows, IsRun}
-use Rattle.mv_plan.specs.SpoolSetup.{spool_setup}
 use Rattle.mv_plan.proofs.examples.OneInitiator.{empty_deck, empty_journal, add_deck, add_journal}
 
 -- what a program says is the event that was made

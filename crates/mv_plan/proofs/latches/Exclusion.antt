@@ -7,36 +7,34 @@ use Rattle.mv_latch.specs.declared.request.Request.{Request}
 use Rattle.mv_latch.specs.Latch.{granted}
 use Rattle.mv_latch.specs.LatchSet.{list_of}
 use Rattle.mv_latch.specs.Request.{is_shared, shared_request}
-use Rattle.mv_latch.proofs.Holders.{alone}
 use Rattle.mv_latch.proofs.Members.{not_in_empty, first_or_rest}
 use Rattle.mv_machine.specs.System.{System}
 use Rattle.mv_deck.specs.Deck.{JobData}
-use Rattle.mv_plan.proofs.deck.Plans.{is_held, is_held_alone}
 use Rattle.mv_plan.specs.SpoolSetup.{initiator}
+use Rattle.mv_machine.proofs.Lists.{all_at}
+use Rattle.mv_latch.proofs.Holders.{alone}
+use Rattle.mv_plan.proofs.deck.Plans.{is_held, is_held_alone}
 use Rattle.mv_plan.proofs.latches.Asked.{finds, found, request_of}
 use Rattle.mv_plan.proofs.latches.HandMoves.{has_latch, works, Apart}
 use Rattle.mv_plan.proofs.latches.Hands.{grip, OwnsBy, Hands, Holds}
 use Rattle.mv_plan.proofs.points.InitiatorSound.{held_of, IsInitiatorAt}
 use Rattle.mv_plan.proofs.places.Places.{Places, Run}
-use Rattle.mv_plan.proofs.points.Points.{Point, At, Grant, Running, InitiatorAt, Obtaining, Confirming, Freeing, Reading, Writing}
-use Rattle.mv_plan.proofs.points.Points.{Scanning, Rescanning, Purging}
+use Rattle.mv_plan.proofs.points.Points.{Point, At, Grant, Running, InitiatorAt, Reading, Writing, Scanning}
+use Rattle.mv_plan.proofs.points.Points.{Rescanning, Purging, InJob}
 use Rattle.mv_plan.proofs.walks.Walks.{Points}
-use Rattle.mv_machine.proofs.Lists.{all_at}
 use Rattle.mv_plan.proofs.points.Views.{run_of}
 
--- the volume of a COUNT or SCAN
-abbrev pub touched : Point InitiatorAt → Option ℕ
-touched (At (Reading run hand volume amount steps)) = Some volume
-touched (At (Writing run hand volume amount number steps)) = Some volume
-touched (At (Scanning run hand volume steps)) = Some volume
-touched (At (Rescanning run hand volume number steps)) = Some volume
-touched p = None
-
--- that of a COUNT
+-- the volume of a COUNT
 abbrev pub counted_on : Point InitiatorAt → Option ℕ
-counted_on (At (Reading run hand volume amount steps)) = Some volume
-counted_on (At (Writing run hand volume amount number steps)) = Some volume
+counted_on (At (InJob run (Reading hand volume amount steps))) = Some volume
+counted_on (At (InJob run (Writing hand volume amount number steps))) = Some volume
 counted_on p = None
+
+-- that of a COUNT or SCAN
+abbrev pub touched : Point InitiatorAt → Option ℕ
+touched (At (InJob run (Scanning hand volume steps))) = Some volume
+touched (At (InJob run (Rescanning hand volume number steps))) = Some volume
+touched p = counted_on p
 
 has_alone : (latch : ℕ) (gs : List Grant)
     → list_any (is_held_alone latch) (held_of gs) ≡ list_any (λ g. (g.latch == latch) && not (is_shared g.mode)) gs
@@ -84,27 +82,22 @@ held_alone lists k job latch gs h e =
 some_none : {A : Type 0} (v : A) → None ≡ Some v → ⊥
 some_none v e = absurd (cc e)
 
-pub touch_holds : (deck : List JobData) (lists : List (List Request)) (k v : ℕ) (p : Point InitiatorAt) → touched p ≡ Some v
-    → IsInitiatorAt deck p → OwnsBy lists k (grip p) → HoldsLatch lists k v
-touch_holds deck lists k v (At (Reading run hand volume amount steps)) e a w =
-    let it : HoldsAlone lists k volume = held_alone lists k run.job volume hand.holding w.holds a.sound.3 in
-    subst (HoldsLatch lists k) (let q : volume ≡ v = cc e in q) (it.0, it.1, it.2)
-touch_holds deck lists k v (At (Writing run hand volume amount number steps)) e a w =
-    let it : HoldsAlone lists k volume = held_alone lists k run.job volume hand.holding w.holds a.sound.3 in
-    subst (HoldsLatch lists k) (let q : volume ≡ v = cc e in q) (it.0, it.1, it.2)
-touch_holds deck lists k v (At (Scanning run hand volume steps)) e a w =
-    subst (HoldsLatch lists k) (let q : volume ≡ v = cc e in q) (held_latch lists k run.job volume hand.holding w.holds a.sound.1)
-touch_holds deck lists k v (At (Rescanning run hand volume number steps)) e a w =
-    subst (HoldsLatch lists k) (let q : volume ≡ v = cc e in q) (held_latch lists k run.job volume hand.holding w.holds a.sound.1)
-touch_holds deck lists k v p e a w = absurd (some_none v e)
-
 pub count_holds : (deck : List JobData) (lists : List (List Request)) (k v : ℕ) (p : Point InitiatorAt) → counted_on p ≡ Some v
     → IsInitiatorAt deck p → OwnsBy lists k (grip p) → HoldsAlone lists k v
-count_holds deck lists k v (At (Reading run hand volume amount steps)) e a w =
+count_holds deck lists k v (At (InJob run (Reading hand volume amount steps))) e a w =
     subst (HoldsAlone lists k) (let q : volume ≡ v = cc e in q) (held_alone lists k run.job volume hand.holding w.holds a.sound.3)
-count_holds deck lists k v (At (Writing run hand volume amount number steps)) e a w =
+count_holds deck lists k v (At (InJob run (Writing hand volume amount number steps))) e a w =
     subst (HoldsAlone lists k) (let q : volume ≡ v = cc e in q) (held_alone lists k run.job volume hand.holding w.holds a.sound.3)
 count_holds deck lists k v p e a w = absurd (some_none v e)
+
+pub touch_holds : (deck : List JobData) (lists : List (List Request)) (k v : ℕ) (p : Point InitiatorAt) → touched p ≡ Some v
+    → IsInitiatorAt deck p → OwnsBy lists k (grip p) → HoldsLatch lists k v
+touch_holds deck lists k v (At (InJob run (Scanning hand volume steps))) e a w =
+    subst (HoldsLatch lists k) (let q : volume ≡ v = cc e in q) (held_latch lists k run.job volume hand.holding w.holds a.sound.1)
+touch_holds deck lists k v (At (InJob run (Rescanning hand volume number steps))) e a w =
+    subst (HoldsLatch lists k) (let q : volume ≡ v = cc e in q) (held_latch lists k run.job volume hand.holding w.holds a.sound.1)
+touch_holds deck lists k v p e a w =
+    let it : HoldsAlone lists k v = count_holds deck lists k v p e a w in (it.0, it.1, it.2)
 
 one_only : {X : Type 0} (xs : List X) (a b : X) → length xs ≡ 1 → Contains xs a → Contains xs b → a ≡ b
 one_only [] a b e i j = absurd (not_in_empty a i)
@@ -130,15 +123,9 @@ excludes deck initiators lists points i m v lt less w stand one two =
 
 -- ---- jobs in one place each are run by one initiator each
 
-works_run : (p : Point InitiatorAt) (job : ℕ) → works p ≡ Some job → (run : Running) × (run_of p ≡ Some run) × (run.job ≡ job)
-works_run (At (Obtaining run hand latch mode steps)) job e = (run, refl, cc e)
-works_run (At (Confirming run hand latch mode id steps)) job e = (run, refl, cc e)
-works_run (At (Freeing run hand latch id steps)) job e = (run, refl, cc e)
-works_run (At (Reading run hand volume amount steps)) job e = (run, refl, cc e)
-works_run (At (Writing run hand volume amount number steps)) job e = (run, refl, cc e)
-works_run (At (Scanning run hand volume steps)) job e = (run, refl, cc e)
-works_run (At (Rescanning run hand volume number steps)) job e = (run, refl, cc e)
-works_run (At (Purging run hand code)) job e = (run, refl, cc e)
+pub works_run : (p : Point InitiatorAt) (job : ℕ) → works p ≡ Some job → (run : Running) × (run_of p ≡ Some run) × (run.job ≡ job)
+works_run (At (InJob run (Purging hand code))) job e = (run, refl, cc e)
+works_run (At (InJob run w)) job e = (run, refl, cc e)
 works_run p job e = absurd (some_none job e)
 
 pub places_apart : (deck : List JobData) (initiators : ℕ) (s : System) (t : Points) → Places deck initiators s t

@@ -1,15 +1,10 @@
 -- Each move keeps the hands, where no two initiators run one job.
 use Rattle.std.proofs.Common.{◌≡◌, ℕ, zero, suc, ◌+◌, ◌<◌, ◌==◌, Bool, true, false, ◌||◌, if◌then◌else◌, List, [], ◌∷◌, length, replicate}
-use Rattle.std.proofs.Common.{Option, Some, None, ◌⊎◌, inl, inr, refl, sym, ap, ◌∙◌, subst, arith}
+use Rattle.std.proofs.Common.{Option, Some, None, refl, sym, ap, ◌∙◌, subst, arith}
 use Rattle.std.specs.List.{AllByRecursion, list_any}
-use Rattle.std.proofs.lemmas.Bool.{cases_eq, false≢true}
-use Rattle.mv_ecb.specs.declared.operation.EcbReply.TheVariants as ecb_reply
-use Rattle.mv_element.specs.declared.operation.ElementReply.TheVariants as element_reply
+use Rattle.std.proofs.lemmas.Bool.{false≢true}
 use Rattle.mv_latch.specs.declared.operation.LatchOp.{LatchOp}
-use Rattle.mv_latch.specs.declared.operation.LatchOp.TheVariants as latch_op
 use Rattle.mv_latch.specs.declared.operation.LatchReply.{LatchReply}
-use Rattle.mv_latch.specs.declared.operation.LatchReply.TheVariants as latch_reply
-use Rattle.mv_latch.specs.declared.request.LatchForm.TheVariants as form_of
 use Rattle.mv_latch.specs.declared.request.Request.{Request}
 use Rattle.mv_latch.specs.Latch.{grants}
 use Rattle.mv_latch.specs.LatchSet.{list_of, latch_step}
@@ -18,19 +13,23 @@ use Rattle.mv_machine.specs.declared.entry.Entry.{Entry}
 use Rattle.mv_machine.specs.declared.entry.Object.{Object}
 use Rattle.mv_machine.specs.declared.entry.Object.TheVariants.{Ecb, Element, Volume, Latches}
 use Rattle.mv_machine.specs.declared.entry.Op.{Op}
-use Rattle.mv_machine.specs.declared.entry.Op.TheVariants as op_on
 use Rattle.mv_machine.specs.declared.entry.Reply.{Reply}
-use Rattle.mv_machine.specs.declared.entry.Reply.TheVariants as reply_of
-use Rattle.mv_machine.specs.declared.entry.VolumeReply.TheVariants as volume_reply
 use Rattle.mv_machine.specs.Legal.{IsNext, next}
 use Rattle.mv_machine.specs.Setup.{Setup}
-use Rattle.mv_machine.specs.System.{System, moved, with_at}
-use Rattle.mv_machine.proofs.EntryRuns.{entry_of}
+use Rattle.mv_machine.specs.System.{System, moved}
 use Rattle.mv_machine.proofs.Standing.{mine}
-use Rattle.mv_machine.proofs.StandingRuns.{names_of}
 use Rattle.mv_deck.specs.Deck.{JobData}
-use Rattle.mv_plan.proofs.deck.Plans.{is_held}
 use Rattle.mv_plan.specs.SpoolSetup.{initiator}
+use Rattle.mv_element.specs.declared.operation.ElementReply.TheVariants as element_reply
+use Rattle.mv_latch.specs.declared.operation.LatchOp.TheVariants as latch_op
+use Rattle.mv_latch.specs.declared.operation.LatchReply.TheVariants as latch_reply
+use Rattle.mv_latch.specs.declared.request.LatchForm.TheVariants as form_of
+use Rattle.mv_machine.specs.declared.entry.Op.TheVariants as op_on
+use Rattle.mv_machine.specs.declared.entry.Reply.TheVariants as reply_of
+use Rattle.mv_machine.specs.declared.entry.VolumeReply.TheVariants as volume_reply
+use Rattle.mv_machine.proofs.EntryRuns.{entry_of}
+use Rattle.mv_machine.proofs.StandingRuns.{names_of}
+use Rattle.mv_plan.proofs.deck.Plans.{is_held}
 use Rattle.mv_plan.proofs.latches.Hands.{Grip, Lost, Idle, Works, grip, OwnsBy, IsKnown, Hands, SparesJob, other_owns, obtain_owns}
 use Rattle.mv_plan.proofs.latches.Hands.{obtain_holds, confirm_owns, free_stands, free_owns, purge_owns, rounds_own, steps_own, given_owns}
 use Rattle.mv_plan.proofs.latches.Hands.{counting_owns}
@@ -40,10 +39,11 @@ use Rattle.mv_plan.proofs.points.PostsAndWaits.{on_posted_keeps}
 use Rattle.mv_plan.proofs.points.Points.{Point, At, Grant, InitiatorAt, Opening, Offering, Pausing, Resuming, Obtaining, Confirming}
 use Rattle.mv_plan.proofs.points.Points.{Freeing, Reading, Writing, Scanning, Rescanning, Purging, EndingJob, EndingForScheduler}
 use Rattle.mv_plan.proofs.points.Points.{EndingForWriter, Closing, initiator_asks, initiator_goes, rounds_after, reader_asks}
-use Rattle.mv_plan.proofs.points.Points.{scheduler_asks, writer_asks}
+use Rattle.mv_plan.proofs.points.Points.{scheduler_asks, writer_asks, InJob}
 use Rattle.mv_plan.proofs.walks.Walks.{Points, Move, reads, schedules, initiates, writes}
-use Rattle.mv_plan.proofs.lists.Tables.{with_at-same, with_at-other}
+use Rattle.mv_plan.proofs.lists.Tables.{all_but}
 use Rattle.mv_plan.proofs.points.Asks.{IsSignal, reader_signals, scheduler_signals, writer_signals}
+use Rattle.mv_plan.proofs.points.Lands.{ended_lands}
 
 -- ---- replies of the latch set
 
@@ -77,18 +77,14 @@ module _ (c : Setup) (s : System) (deck : List JobData) (i : ℕ) where
       → OwnsBy (after_asks x) (initiator i) (grip (initiator_goes deck x r))
   own_next Opening p (reply_of.Element (element_reply.Opened g)) h a w =
       rounds_own s.latches.state (initiator i) (length deck + 1) [] g w
-  own_next Opening p r h a w = tt
   own_next (Offering more before g) p r h a w =
       on_posted_keeps (λ z. OwnsBy s.latches.state (initiator i) (grip z)) (At (Pausing more before g)) r w tt
   own_next (Pausing more before g) p (reply_of.Element (element_reply.Given code now)) h a w =
       given_owns s.latches.state (initiator i) deck more before code now w
   own_next (Pausing more before g) p (reply_of.Element element_reply.Parked) h a w = w
-  own_next (Pausing more before g) p r h a w = tt
   own_next (Resuming more before g) p (reply_of.Element (element_reply.Given code now)) h a w =
       given_owns s.latches.state (initiator i) deck more before code now w
-  own_next (Resuming more before g) p (reply_of.Element element_reply.NotYet) h a w = tt
-  own_next (Resuming more before g) p r h a w = tt
-  own_next (Obtaining run hand latch mode steps) p (reply_of.Latch (latch_reply.Granted id)) h a w =
+  own_next (InJob run (Obtaining hand latch mode steps)) p (reply_of.Latch (latch_reply.Granted id)) h a w =
       let lt : latch < length s.latches.state =
       names_of c s (initiator i) (latch_op.Obtain latch (run.job + 1) mode form_of.Waiting) h.admits in
       let e : (grants (list_of s.latches.state latch) (new_request (initiator i) s.latches.place (run.job + 1) mode) ≡ true)
@@ -96,65 +92,51 @@ module _ (c : Setup) (s : System) (deck : List JobData) (i : ℕ) where
       granted_reply _ s.latches.place id
       (latch_reply_is c s (initiator i) p (latch_op.Obtain latch (run.job + 1) mode form_of.Waiting) (latch_reply.Granted id) h
       ∙ obtained_reply (initiator i) s.latches.place latch (run.job + 1) mode s.latches.state) in
-      subst (λ n. OwnsBy (after_asks (Obtaining run hand latch mode steps)) (initiator i)
-      (grip (initiator_goes deck (Obtaining run hand latch mode steps) (reply_of.Latch (latch_reply.Granted n))))) e.1
-      (steps_own (after_asks (Obtaining run hand latch mode steps)) (initiator i) run _ steps
+      subst (λ n. OwnsBy (after_asks (InJob run (Obtaining hand latch mode steps))) (initiator i)
+      (grip (initiator_goes deck (InJob run (Obtaining hand latch mode steps)) (reply_of.Latch (latch_reply.Granted n))))) e.1
+      (steps_own (after_asks (InJob run (Obtaining hand latch mode steps))) (initiator i) run _ steps
       (obtain_holds (initiator i) s.latches.place run.job latch mode s.latches.state hand.holding lt e.0 w))
-  own_next (Obtaining run hand latch mode steps) p (reply_of.Latch (latch_reply.Queued id)) h a w =
+  own_next (InJob run (Obtaining hand latch mode steps)) p (reply_of.Latch (latch_reply.Queued id)) h a w =
       let lt : latch < length s.latches.state =
       names_of c s (initiator i) (latch_op.Obtain latch (run.job + 1) mode form_of.Waiting) h.admits in
       let e : s.latches.place ≡ id =
       queued_reply _ s.latches.place id
       (latch_reply_is c s (initiator i) p (latch_op.Obtain latch (run.job + 1) mode form_of.Waiting) (latch_reply.Queued id) h
       ∙ obtained_reply (initiator i) s.latches.place latch (run.job + 1) mode s.latches.state) in
-      subst (λ n. OwnsBy (after_asks (Obtaining run hand latch mode steps)) (initiator i)
-      (grip (initiator_goes deck (Obtaining run hand latch mode steps) (reply_of.Latch (latch_reply.Queued n))))) e
+      subst (λ n. OwnsBy (after_asks (InJob run (Obtaining hand latch mode steps))) (initiator i)
+      (grip (initiator_goes deck (InJob run (Obtaining hand latch mode steps)) (reply_of.Latch (latch_reply.Queued n))))) e
       (obtain_owns (initiator i) s.latches.place run.job latch mode s.latches.state hand.holding lt w)
-  own_next (Obtaining run hand latch mode steps) p r h a w = tt
-  own_next (Confirming run hand latch mode id steps) p (reply_of.Latch (latch_reply.Granted same)) h a w =
+  own_next (InJob run (Confirming hand latch mode id steps)) p (reply_of.Latch (latch_reply.Granted same)) h a w =
       steps_own s.latches.state (initiator i) run _ steps
       (confirm_owns s.latches.state (initiator i) run.job hand.holding (record { latch = latch; mode = mode; id = id }) a.sound.1
       (confirm_granted (initiator i) id same (list_of s.latches.state latch)
       (sym (latch_reply_is c s (initiator i) p (latch_op.Confirm latch id) (latch_reply.Granted same) h))) w)
-  own_next (Confirming run hand latch mode id steps) p (reply_of.Latch latch_reply.Waiting) h a w = tt
-  own_next (Confirming run hand latch mode id steps) p r h a w = tt
-  own_next (Freeing run hand latch id steps) p (reply_of.Latch (latch_reply.Released count)) h a w =
+  own_next (InJob run (Freeing hand latch id steps)) p (reply_of.Latch (latch_reply.Released count)) h a w =
       let lt : latch < length s.latches.state = names_of c s (initiator i) (latch_op.Release latch id false) h.admits in
       let there : list_any (is_own (initiator i) id) (list_of s.latches.state latch) ≡ true =
       free_stands s.latches.state (initiator i) run.job latch id hand.requests hand.holding w a.0.holds.last a.1
       (sym (has_latch latch hand.holding) ∙ a.0.sound.1) in
-      steps_own (after_asks (Freeing run hand latch id steps)) (initiator i) run _ steps
+      steps_own (after_asks (InJob run (Freeing hand latch id steps))) (initiator i) run _ steps
       (free_owns (initiator i) s.latches.place run.job latch id s.latches.state hand.holding hand.requests lt there a.0.holds.last a.1 w)
-  own_next (Freeing run hand latch id steps) p r h a w = tt
-  own_next (Reading run hand volume amount steps) p (reply_of.Volume (volume_reply.Value number)) h a w =
+  own_next (InJob run (Reading hand volume amount steps)) p (reply_of.Volume (volume_reply.Value number)) h a w =
       counting_owns s.latches.state (initiator i) run hand volume amount steps number w
-  own_next (Reading run hand volume amount steps) p r h a w = tt
-  own_next (Writing run hand volume amount number steps) p (reply_of.Volume volume_reply.Stored) h a w =
+  own_next (InJob run (Writing hand volume amount number steps)) p (reply_of.Volume volume_reply.Stored) h a w =
       steps_own s.latches.state (initiator i) run hand steps w
-  own_next (Writing run hand volume amount number steps) p r h a w = tt
-  own_next (Scanning run hand volume steps) p (reply_of.Volume (volume_reply.Value number)) h a w = w
-  own_next (Scanning run hand volume steps) p r h a w = tt
-  own_next (Rescanning run hand volume number steps) p (reply_of.Volume (volume_reply.Value again)) h a w =
+  own_next (InJob run (Scanning hand volume steps)) p (reply_of.Volume (volume_reply.Value number)) h a w = w
+  own_next (InJob run (Rescanning hand volume number steps)) p (reply_of.Volume (volume_reply.Value again)) h a w =
       steps_own s.latches.state (initiator i) run hand steps w
-  own_next (Rescanning run hand volume number steps) p r h a w = tt
-  own_next (Purging run hand code) p (reply_of.Latch (latch_reply.Purged removed count)) h a w =
+  own_next (InJob run (Purging hand code)) p (reply_of.Latch (latch_reply.Purged removed count)) h a w =
       purge_owns (initiator i) s.latches.place run.job s.latches.state hand.holding w
-  own_next (Purging run hand code) p r h a w = tt
-  own_next (EndingJob run code counts) p (reply_of.Ecb (ecb_reply.Woke (suc x))) h a w = w
-  own_next (EndingJob run code counts) p (reply_of.Ecb (ecb_reply.Woke zero)) h a w =
-      rounds_own s.latches.state (initiator i) run.more _ run.generation w
-  own_next (EndingJob run code counts) p (reply_of.Ecb ecb_reply.Posted) h a w =
-      rounds_own s.latches.state (initiator i) run.more _ run.generation w
-  own_next (EndingJob run code counts) p (reply_of.Ecb (ecb_reply.Already old)) h a w =
-      rounds_own s.latches.state (initiator i) run.more _ run.generation w
-  own_next (EndingJob run code counts) p r h a w = tt
-  own_next (EndingForScheduler run code counts) p r h a w =
-      on_posted_keeps (λ z. OwnsBy s.latches.state (initiator i) (grip z)) (At (EndingForWriter run code counts)) r w tt
-  own_next (EndingForWriter run code counts) p r h a w =
+  own_next (InJob run (EndingJob code counts)) p r h a w =
+      ended_lands (λ z. OwnsBy s.latches.state (initiator i) (grip z)) tt run code counts r w
+      (rounds_own s.latches.state (initiator i) run.more _ run.generation w)
+  own_next (InJob run (EndingForScheduler code counts)) p r h a w =
+      on_posted_keeps (λ z. OwnsBy s.latches.state (initiator i) (grip z)) (At (InJob run (EndingForWriter code counts))) r w tt
+  own_next (InJob run (EndingForWriter code counts)) p r h a w =
       on_posted_keeps (λ z. OwnsBy s.latches.state (initiator i) (grip z)) (rounds_after run) r
       (rounds_own s.latches.state (initiator i) run.more _ run.generation w) tt
   own_next (Closing g) p (reply_of.Element element_reply.Closed) h a w = w
-  own_next (Closing g) p r h a w = tt
+  own_next x p r h a w = tt
 
 -- ---- the others
 
@@ -215,7 +197,7 @@ spares_job job (Works other held more) n = λ q. n (ap (λ j. Some j) (same q)) 
 
 pub spares : (n i : ℕ) (x : InitiatorAt) (st : Grip) → ((job : ℕ) → works (At x) ≡ Some job → job_of st ≡ Some job → ⊥)
     → SparesOn (initiator_asks n i x).0 (initiator_asks n i x).1 st
-spares n i (Purging run hand code) st apart = spares_job run.job st (apart run.job refl)
+spares n i (InJob run (Purging hand code)) st apart = spares_job run.job st (apart run.job refl)
 spares n i x st apart = tt
 
 -- ---- one move
@@ -250,7 +232,8 @@ module _ (c : Setup) (deck : List JobData) (initiators : ℕ) where
       (hands_same s e t.initiators (writer_asks x).0 o (writer_signals x) w)
   hands_next s t u e h (initiates i x lt k at o op moved_to) stand apart w =
       subst (λ v. Hands initiators (next s e).latches.state v.initiators) (sym moved_to) (record {
-        owns = λ m less. each m less (cases_eq i m);
+        owns = λ m less. all_but (λ m p. OwnsBy (next s e).latches.state (initiator m) (grip p)) t.initiators i
+            (initiator_goes deck x e.reply) m there (elsewhere m less);
         known = known_next c s initiators e.caller e.object e.place e.op e.reply h (i, lt, k) w.known;
       }) where
         there : OwnsBy (next s e).latches.state (initiator i) (grip (initiator_goes deck x e.reply))
@@ -267,15 +250,6 @@ module _ (c : Setup) (deck : List JobData) (initiators : ℕ) where
             (initiator_asks (length deck) i x).1 k o op
             (spares (length deck) i x (grip (t.initiators m)) (λ job a b. other (apart i m job lt less (ap works at ∙ a) b))))
             (w.owns m less)
-
-        each : (m : ℕ) → m < initiators → (i ≡ m) ⊎ (i ≡ m → ⊥)
-            → OwnsBy (next s e).latches.state (initiator m) (grip (with_at t.initiators i (initiator_goes deck x e.reply) m))
-        each m less (inl same) = subst (λ m. OwnsBy (next s e).latches.state (initiator m)
-            (grip (with_at t.initiators i (initiator_goes deck x e.reply) m))) same
-            (subst (λ p. OwnsBy (next s e).latches.state (initiator i) (grip p))
-            (sym (with_at-same t.initiators i (initiator_goes deck x e.reply))) there)
-        each m less (inr other) = subst (λ p. OwnsBy (next s e).latches.state (initiator m) (grip p))
-            (sym (with_at-other t.initiators i m (initiator_goes deck x e.reply) other)) (elsewhere m less other)
 
 -- at the start
 no_list : (latches latch : ℕ) → list_of (replicate latches []) latch ≡ []

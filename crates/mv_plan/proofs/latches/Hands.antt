@@ -1,37 +1,38 @@
 -- The hands: at each latch an initiator's requests are exactly those of the job that it runs, and a latch that the job holds is
 -- granted to it. On lists and points alone; no machine stands here.
-use Rattle.std.proofs.Common.{◌≡◌, ℕ, zero, suc, ◌+◌, ◌<◌, ◌==◌, nat_lt, ◌^◌, Bool, true, false, not, ◌&&◌, if◌then◌else◌, List, [], ◌∷◌}
-use Rattle.std.proofs.Common.{◌++◌, length, filter, Option, Some, None, inl, inr, refl, sym, ap, ◌∙◌, subst, append-nil}
+use Rattle.std.proofs.Common.{◌≡◌, ℕ, zero, suc, ◌+◌, ◌<◌, ◌==◌, Bool, true, false, not, ◌&&◌, List, [], ◌∷◌, ◌++◌, length, filter, Option}
+use Rattle.std.proofs.Common.{Some, inl, inr, refl, sym, ap, ◌∙◌, subst, append-nil}
 use Rattle.std.specs.List.{AllByRecursion, Contains, list_any}
 use Rattle.std.proofs.lemmas.Bool.{eq-eqb, ne_eqb, eqb-true, cases_eq, false≢true}
 use Rattle.mv_latch.specs.declared.operation.LatchOp.{LatchOp}
-use Rattle.mv_latch.specs.declared.operation.LatchOp.TheVariants as latch_op
-use Rattle.mv_latch.specs.declared.request.LatchForm.TheVariants as form_of
 use Rattle.mv_latch.specs.declared.request.Mode.{Mode}
 use Rattle.mv_latch.specs.declared.request.Request.{Request}
 use Rattle.mv_latch.specs.Latch.{granted, grants}
 use Rattle.mv_latch.specs.LatchSet.{list_of, latch_step}
 use Rattle.mv_latch.specs.Request.{is_own, of_caller, of_requestor}
-use Rattle.mv_latch.proofs.Changes.{Changed, stays_granted, latch_changes}
 use Rattle.mv_latch.proofs.Members.{not_in_empty, first_or_rest}
 use Rattle.mv_machine.proofs.Standing.{mine, is_mine}
 use Rattle.mv_machine.proofs.StandingRuns.{NamesLatch}
 use Rattle.mv_deck.specs.Deck.{JobData}
 use Rattle.mv_deck.specs.declared.deck.Step.{Step}
-use Rattle.mv_deck.specs.declared.deck.Step.TheVariants.{Print, Use, Free, Count, Scan, Abend, Return}
+use Rattle.mv_deck.specs.declared.deck.Step.TheVariants.{Print, Free}
 use Rattle.mv_plan.specs.Jobs.{job_at}
 use Rattle.mv_plan.specs.SpoolSetup.{initiator}
-use Rattle.mv_plan.specs.SpoolTasks.{Named, job_named}
+use Rattle.mv_machine.proofs.Lists.{all_append, all_filter, all_at, all_front, all_back}
+use Rattle.mv_latch.specs.declared.operation.LatchOp.TheVariants as latch_op
+use Rattle.mv_latch.specs.declared.request.LatchForm.TheVariants as form_of
+use Rattle.mv_latch.proofs.Changes.{Changed, stays_granted, latch_changes}
 use Rattle.mv_plan.proofs.latches.Asked.{filter_none, in_filter, finds, found, request_of, asked, asked_push, asked_here, asked_there}
 use Rattle.mv_plan.proofs.latches.Asked.{asked_below, asked_freed, asked_kept, asked_named, asked_of, asked_all}
 use Rattle.mv_plan.proofs.points.InitiatorSound.{held_of}
 use Rattle.mv_plan.proofs.latches.Lists.{obtained_list, obtained_elsewhere, granted_new, released_list, released_elsewhere, purged_list}
 use Rattle.mv_plan.proofs.latches.Lists.{granted_in, mine_pushed, mine_without, mine_purged, Spares, mine_kept, AllAsked}
-use Rattle.mv_plan.proofs.points.Points.{Point, At, Finished, Astray, Grant, Running, Hand, empty_hand, without_latch, InitiatorAt}
-use Rattle.mv_plan.proofs.points.Points.{Obtaining, Confirming, Freeing, Reading, Writing, Scanning, Rescanning, Purging, Closing}
-use Rattle.mv_plan.proofs.points.Points.{rounds_from, freeing_at, steps_at, running, job_start, named_at, given_at, counting_at}
+use Rattle.mv_plan.proofs.points.Points.{Point, At, Finished, Grant, Running, Hand, empty_hand, without_latch, InitiatorAt, hand_at}
+use Rattle.mv_plan.proofs.points.Points.{EndingJob, EndingForScheduler, EndingForWriter, Confirming}
+use Rattle.mv_plan.proofs.points.Points.{rounds_from, steps_at, running, job_start}
+use Rattle.mv_plan.proofs.points.Points.{given_at, counting_at, InJob}
 use Rattle.mv_plan.proofs.lists.Lists.{all_map, all_join}
-use Rattle.mv_machine.proofs.Lists.{all_front, all_back, all_append, all_filter, all_at}
+use Rattle.mv_plan.proofs.points.Lands.{freeing_lands, given_lands, counting_lands}
 
 -- What an initiator's point says of its requests: nothing, where its program has ended too soon or gone astray; that there are
 -- none; or that its job holds these latches and asks for these as well.
@@ -41,14 +42,12 @@ pub data Grip : Type 0 where
   Works : (job : ℕ) (held more : List Grant) → Grip
 
 abbrev pub grip : Point InitiatorAt → Grip
-grip (At (Obtaining run hand latch mode steps)) = Works run.job hand.holding []
-grip (At (Confirming run hand latch mode id steps)) = Works run.job hand.holding (record { latch = latch; mode = mode; id = id } ∷ [])
-grip (At (Freeing run hand latch id steps)) = Works run.job hand.holding []
-grip (At (Reading run hand volume amount steps)) = Works run.job hand.holding []
-grip (At (Writing run hand volume amount number steps)) = Works run.job hand.holding []
-grip (At (Scanning run hand volume steps)) = Works run.job hand.holding []
-grip (At (Rescanning run hand volume number steps)) = Works run.job hand.holding []
-grip (At (Purging run hand code)) = Works run.job hand.holding []
+grip (At (InJob run (Confirming hand latch mode id steps))) =
+    Works run.job hand.holding (record { latch = latch; mode = mode; id = id } ∷ [])
+grip (At (InJob run (EndingJob code counts))) = Idle
+grip (At (InJob run (EndingForScheduler code counts))) = Idle
+grip (At (InJob run (EndingForWriter code counts))) = Idle
+grip (At (InJob run w)) = Works run.job (hand_at w).holding []
 grip (At x) = Idle
 grip (Finished answer) = Idle
 grip p = Lost
@@ -299,44 +298,20 @@ module _ (lists : List (List Request)) (k : ℕ) where
 
   pub steps_own : (run : Running) (hand : Hand) (steps : List Step) → Owns lists k run.job hand.holding []
       → OwnsAt (steps_at run hand steps)
-  steps_own run hand [] w = w
   steps_own run hand (Print text ∷ steps) w = steps_own run hand steps w
-  steps_own run hand (Use latch mode ∷ steps) w = w
-  steps_own run hand (Free latch ∷ steps) w = go (hand.requests latch) where
-    go : (slot : Option ℕ) → OwnsAt (freeing_at run hand latch slot steps)
-    go None = tt
-    go (Some id) = w
-  steps_own run hand (Count volume amount ∷ steps) w = w
-  steps_own run hand (Scan volume ∷ steps) w = w
-  steps_own run hand (Abend code ∷ steps) w = w
-  steps_own run hand (Return code ∷ steps) w = w
+  steps_own run hand (Free latch ∷ steps) w = freeing_lands OwnsAt tt run hand latch (hand.requests latch) steps (λ id e. w)
+  steps_own run hand steps w = w
 
   -- a job starts with no latch
   pub start_owns : (run : Running) (job : JobData) (skipped : Bool) → HasNone lists k → OwnsAt (job_start skipped run job)
   start_owns run job true w = record { listed = w; holds = tt }
   start_owns run job false w = steps_own run empty_hand job.steps (record { listed = w; holds = tt })
 
-  pub named_owns : (deck : List JobData) (slot : Option Named) (before : List ℕ) (more g : ℕ) → HasNone lists k
-      → OwnsAt (named_at deck slot before more g)
-  named_owns deck None before more g w = tt
-  named_owns deck (Some named) before zero g w = tt
-  named_owns deck (Some named) before (suc more) g w =
-      elim (list_any (λ j. j == named.job) before) as
-      (λ b. OwnsAt (if b then Astray else job_start named.skipped (running named before (suc more) g) (job_at deck named.job))) [
-        | true ↦ tt
-        | false ↦ start_owns (running named before (suc more) g) (job_at deck named.job) named.skipped w
-      ]
-
   pub given_owns : (deck : List JobData) (more : ℕ) (before : List ℕ) (code g : ℕ) → HasNone lists k
       → OwnsAt (given_at deck more before code g)
-  given_owns deck more before code g w =
-      elim (code == 0) as (λ b. OwnsAt (if b then At (Closing g) else named_at deck (job_named (length deck) code) before more g)) [
-        | true ↦ w
-        | false ↦ named_owns deck (job_named (length deck) code) before more g w
-      ]
+  given_owns deck more before code g w = given_lands OwnsAt tt deck more before code g (λ z. w)
+      (λ named left e t m. start_owns (running named before (suc left) g) (job_at deck named.job) named.skipped w)
 
   pub counting_owns : (run : Running) (hand : Hand) (volume amount : ℕ) (steps : List Step) (number : ℕ)
       → Owns lists k run.job hand.holding [] → OwnsAt (counting_at run hand volume amount steps number)
-  counting_owns run hand volume amount steps number w =
-      elim (nat_lt (number + amount) (2 ^ 32)) as
-      (λ b. OwnsAt (if b then At (Writing run hand volume amount number steps) else Astray)) [ true ↦ w | false ↦ tt ]
+  counting_owns run hand volume amount steps number w = counting_lands OwnsAt tt run hand volume amount steps number w

@@ -1,5 +1,5 @@
 -- What holds of each element of a list, and of lists that are made of it: beside the machine's lemmas on lists.
-use Rattle.std.proofs.Common.{ℕ, zero, suc, List, [], ◌∷◌, drop, set, get_or}
+use Rattle.std.proofs.Common.{ℕ, zero, suc, List, [], ◌∷◌, set, get_or, drop}
 use Rattle.std.specs.List.{AllByRecursion}
 
 -- what holds of each by another that does

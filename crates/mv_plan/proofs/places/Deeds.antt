@@ -1,39 +1,37 @@
 -- What an initiator's event does to what it runs and has run, and to the code in its element. Used by the ledger.
-use Rattle.std.proofs.Common.{◌≡◌, ℕ, zero, suc, ◌+◌, ◌<◌, ◌==◌, Bool, true, false, if◌then◌else◌, List, [], ◌∷◌, ◌++◌, length, Option}
-use Rattle.std.proofs.Common.{Some, None, inl, inr, refl, sym, ap, ◌∙◌, subst}
-use Rattle.std.specs.List.{list_any}
-use Rattle.std.proofs.lemmas.Bool.{eq-eqb, eqb-true}
-use Rattle.mv_ecb.specs.declared.operation.EcbOp.TheVariants as ecb_op
+use Rattle.std.proofs.Common.{◌≡◌, ℕ, zero, suc, ◌+◌, ◌<◌, List, [], ◌∷◌, ◌++◌, length, Option, Some, None, inl, inr, refl, sym, ap, ◌∙◌}
+use Rattle.std.proofs.Common.{subst}
+use Rattle.std.proofs.lemmas.Bool.{eq-eqb}
 use Rattle.mv_ecb.specs.Table.{ecb_step}
-use Rattle.mv_element.specs.declared.operation.ElementOp.TheVariants as element_op
 use Rattle.mv_element.specs.declared.element.ElementState.{ElementState}
 use Rattle.mv_element.specs.Table.{element_step}
 use Rattle.mv_machine.specs.declared.entry.Object.{Object}
-use Rattle.mv_machine.specs.declared.entry.Object.TheVariants.{Ecb, Element, Volume, Latches}
+use Rattle.mv_machine.specs.declared.entry.Object.TheVariants.{Element}
 use Rattle.mv_machine.specs.declared.entry.Op.{Op}
-use Rattle.mv_machine.specs.declared.entry.Op.TheVariants as op_on
 use Rattle.mv_machine.specs.declared.entry.Reply.{Reply}
-use Rattle.mv_machine.specs.declared.entry.Reply.TheVariants as reply_of
-use Rattle.mv_latch.specs.LatchSet.{latch_step}
-use Rattle.mv_machine.specs.System.{System, moved, reply_to, with_at, advanced, volume_step}
+use Rattle.mv_machine.specs.System.{System, moved, reply_to, with_at, advanced}
 use Rattle.mv_plan.specs.HandingOut.{gift_code}
 use Rattle.mv_deck.specs.Deck.{JobData}
 use Rattle.mv_plan.specs.Jobs.{job_at}
 use Rattle.mv_plan.specs.SpoolSetup.{initiator, idle}
-use Rattle.mv_plan.specs.SpoolTasks.{Named, job_named, code_of}
+use Rattle.mv_plan.specs.SpoolTasks.{Named, code_of}
+use Rattle.mv_ecb.specs.declared.operation.EcbOp.TheVariants as ecb_op
+use Rattle.mv_element.specs.declared.operation.ElementOp.TheVariants as element_op
+use Rattle.mv_machine.specs.declared.entry.Reply.TheVariants as reply_of
 use Rattle.mv_plan.proofs.standing.Row.{Starts, Works, Offers, Parks, offered, taken, handed, Row, RowAt, element_of}
 use Rattle.mv_plan.proofs.points.InitiatorSound.{IsInitiatorAt, named_is}
 use Rattle.mv_plan.proofs.points.PostsAndWaits.{on_posted_keeps}
-use Rattle.mv_plan.proofs.points.Points.{Point, At, Finished, TooSoon, Astray, SchedulerAt, Running, InitiatorAt, Opening, Offering}
-use Rattle.mv_plan.proofs.points.Points.{Pausing, Resuming, Obtaining, Confirming, Freeing, Reading, Writing, Scanning, Rescanning}
-use Rattle.mv_plan.proofs.points.Points.{Purging, EndingJob, EndingForScheduler, EndingForWriter, Closing, initiator_asks, initiator_goes}
-use Rattle.mv_plan.proofs.points.Points.{rounds_from, rounds_after, given_at, named_at, job_start, running, on_posted, on_opened, on_paused}
-use Rattle.mv_plan.proofs.points.Points.{on_resumed, on_closed}
+use Rattle.mv_plan.proofs.points.Points.{Point, At, SchedulerAt, Running, InitiatorAt, Opening, Offering}
+use Rattle.mv_plan.proofs.points.Points.{Pausing, Resuming}
+use Rattle.mv_plan.proofs.points.Points.{Closing, initiator_asks, initiator_goes}
+use Rattle.mv_plan.proofs.points.Points.{rounds_from, rounds_after, given_at, running, on_posted, on_opened, on_paused}
+use Rattle.mv_plan.proofs.points.Points.{on_resumed, on_closed, InJob}
 use Rattle.mv_plan.proofs.points.RunningJob.{RunsOn, start_run, GoesOn, same, done, lost, run_goes, run_asks, run_sound}
 use Rattle.mv_plan.proofs.walks.NoneLost.{SameTalk, same_talk}
 use Rattle.mv_plan.proofs.lists.Tables.{with_at-same}
 use Rattle.mv_plan.proofs.points.Views.{code_held, run_of, named_before, IsNotLost}
-use Rattle.mv_plan.proofs.points.Asks.{Elsewhere}
+use Rattle.mv_plan.proofs.points.Asks.{Elsewhere, no_gift, IsNoPause}
+use Rattle.mv_plan.proofs.points.Lands.{given_lands}
 
 -- From one point to another, with the code in the element before and after it.
 pub data Deed (n : ℕ) (p q : Point InitiatorAt) (h h' : Option ℕ) (r : Reply) : Type 0 where
@@ -49,37 +47,16 @@ pub data Deed (n : ℕ) (p q : Point InitiatorAt) (h h' : Option ℕ) (r : Reply
       → named_before q ≡ run.before ++ run.job ∷ [] → h' ≡ h → gift_code r ≡ None → Deed n p q h h' r
 
 pub before_run : (p : Point InitiatorAt) (run : Running) → run_of p ≡ Some run → named_before p ≡ run.before
-before_run (At Opening) run e = absurd (cc e)
-before_run (At (Offering more before g)) run e = absurd (cc e)
-before_run (At (Pausing more before g)) run e = absurd (cc e)
-before_run (At (Resuming more before g)) run e = absurd (cc e)
-before_run (At (Obtaining run' hand latch mode steps)) run e = ap (λ z. z.before) (let q : run' ≡ run = cc e in q)
-before_run (At (Confirming run' hand latch mode id steps)) run e = ap (λ z. z.before) (let q : run' ≡ run = cc e in q)
-before_run (At (Freeing run' hand latch id steps)) run e = ap (λ z. z.before) (let q : run' ≡ run = cc e in q)
-before_run (At (Reading run' hand volume amount steps)) run e = ap (λ z. z.before) (let q : run' ≡ run = cc e in q)
-before_run (At (Writing run' hand volume amount number steps)) run e = ap (λ z. z.before) (let q : run' ≡ run = cc e in q)
-before_run (At (Scanning run' hand volume steps)) run e = ap (λ z. z.before) (let q : run' ≡ run = cc e in q)
-before_run (At (Rescanning run' hand volume number steps)) run e = ap (λ z. z.before) (let q : run' ≡ run = cc e in q)
-before_run (At (Purging run' hand code)) run e = ap (λ z. z.before) (let q : run' ≡ run = cc e in q)
-before_run (At (EndingJob run' code counts)) run e = ap (λ z. z.before) (let q : run' ≡ run = cc e in q)
-before_run (At (EndingForScheduler run' code counts)) run e = ap (λ z. z.before) (let q : run' ≡ run = cc e in q)
-before_run (At (EndingForWriter run' code counts)) run e = ap (λ z. z.before) (let q : run' ≡ run = cc e in q)
-before_run (At (Closing g)) run e = absurd (cc e)
-before_run (Finished answer) run e = absurd (cc e)
-before_run TooSoon run e = absurd (cc e)
-before_run Astray run e = absurd (cc e)
+before_run (At (InJob run' w)) run e = ap (λ z. z.before) (let q : run' ≡ run = cc e in q)
+before_run p run e = absurd (cc e)
 
 -- no element answers elsewhere
 pub elsewhere_gave : (n : ℕ) (s : System) (k : ℕ) (o : Object) (op : Op) (r : Reply) → Elsewhere n o → Some r ≡ reply_to s k o op
     → gift_code r ≡ None
-elsewhere_gave n s k (Ecb b) (op_on.Ecb op) r low e = let q : r ≡ reply_of.Ecb (ecb_step op (s.ecb b).state).1 = cc e in
-    ap (λ z. gift_code z) q
-elsewhere_gave n s k (Element m) op r low e = absurd low
-elsewhere_gave n s k (Volume v) (op_on.Volume op) r low e = let q : r ≡ reply_of.Volume (volume_step op (s.volume v).state).1 = cc e in
-    ap (λ z. gift_code z) q
-elsewhere_gave n s k Latches (op_on.Latch op) r low e = let q : r ≡ reply_of.Latch (latch_step k s.latches.place op s.latches.state).1 =
-    cc e in ap (λ z. gift_code z) q
-elsewhere_gave n s k o op r low e = absurd (cc e)
+elsewhere_gave n s k o op r low e = no_gift s k o op r e (no_pause o op low) where
+  no_pause : (o : Object) (op : Op) → Elsewhere n o → IsNoPause o op
+  no_pause (Element m) op low = absurd low
+  no_pause o op low = tt
 
 rounds_found : (m : ℕ) (before : List ℕ) (g : ℕ) → IsNotLost (rounds_from m before g)
     → (run_of (rounds_from m before g) ≡ None) × (named_before (rounds_from m before g) ≡ before)
@@ -98,30 +75,13 @@ start_given : (deck : List JobData) (before : List ℕ) (code more g : ℕ) (nam
 start_given deck before code more g named lt e q (inl w) f = runs (running named before more g) lt e w refl
 start_given deck before code more g named lt e q (inr w) f = absurd (w f)
 
-named_given : (deck : List JobData) (code more : ℕ) (before : List ℕ) (g : ℕ) (slot : Option Named) → job_named (length deck) code ≡ slot
-    → IsNotLost (named_at deck slot before more g) → Given deck before code (named_at deck slot before more g)
-named_given deck code more before g None e f = absurd f
-named_given deck code zero before g (Some named) e f = absurd f
-named_given deck code (suc more) before g (Some named) e f = go (list_any (λ j. j == named.job) before) f where
-  is : (named.job < length deck) × (code ≡ code_of named.job named.skipped)
-  is = named_is (length deck) code named e
-
-  go : (b : Bool) → IsNotLost (if b then Astray else job_start named.skipped (running named before (suc more) g)
-      (job_at deck named.job))
-      → Given deck before code (if b then Astray else job_start named.skipped (running named before (suc more) g)
-      (job_at deck named.job))
-  go true f = absurd f
-  go false f = start_given deck before code (suc more) g named is.0 is.1 _
-      (start_run named.skipped (running named before (suc more) g) (job_at deck named.job)) f
-
 pub given_is : (deck : List JobData) (more : ℕ) (before : List ℕ) (code g : ℕ) → IsNotLost (given_at deck more before code g)
     → Given deck before code (given_at deck more before code g)
-given_is deck more before code g f = go (code == 0) refl f where
-  go : (b : Bool) → (code == 0) ≡ b
-      → IsNotLost (if b then At (Closing g) else named_at deck (job_named (length deck) code) before more g)
-      → Given deck before code (if b then At (Closing g) else named_at deck (job_named (length deck) code) before more g)
-  go true e f = closes g (eqb-true code 0 e) refl
-  go false e f = named_given deck code more before g (job_named (length deck) code) refl f
+given_is deck more before code g = given_lands (λ p. IsNotLost p → Given deck before code p) (λ f. absurd f) deck more before code g
+    (λ z f. closes g z refl)
+    (λ named left e t m f. start_given deck before code (suc left) g named (named_is (length deck) code named e).0
+    (named_is (length deck) code named e).1 _
+    (start_run named.skipped (running named before (suc left) g) (job_at deck named.job)) f)
 
 -- a gift's deed
 gift_did : (deck : List JobData) (p q : Point InitiatorAt) (before : List ℕ) (code : ℕ) (h h' : Option ℕ) (r : Reply)
@@ -217,20 +177,5 @@ module _ (deck : List JobData) (s : System) (q : Point SchedulerAt) (i : ℕ) wh
       on_element _ _ r _ (paused_did deck _ _ more before g (element_of s i) r (cc a) w f)
   initiator_did (Resuming more before g) r sound a w f =
       on_element _ _ r _ (resumed_did deck _ _ more before g (element_of s i) r (cc a) w f)
-  initiator_did (Obtaining run hand latch mode steps) r sound a w f =
-      runs_did (Obtaining run hand latch mode steps) r run refl sound a f
-  initiator_did (Confirming run hand latch mode id steps) r sound a w f =
-      runs_did (Confirming run hand latch mode id steps) r run refl sound a f
-  initiator_did (Freeing run hand latch id steps) r sound a w f = runs_did (Freeing run hand latch id steps) r run refl sound a f
-  initiator_did (Reading run hand volume amount steps) r sound a w f =
-      runs_did (Reading run hand volume amount steps) r run refl sound a f
-  initiator_did (Writing run hand volume amount number steps) r sound a w f =
-      runs_did (Writing run hand volume amount number steps) r run refl sound a f
-  initiator_did (Scanning run hand volume steps) r sound a w f = runs_did (Scanning run hand volume steps) r run refl sound a f
-  initiator_did (Rescanning run hand volume number steps) r sound a w f =
-      runs_did (Rescanning run hand volume number steps) r run refl sound a f
-  initiator_did (Purging run hand code) r sound a w f = runs_did (Purging run hand code) r run refl sound a f
-  initiator_did (EndingJob run code counts) r sound a w f = runs_did (EndingJob run code counts) r run refl sound a f
-  initiator_did (EndingForScheduler run code counts) r sound a w f = runs_did (EndingForScheduler run code counts) r run refl sound a f
-  initiator_did (EndingForWriter run code counts) r sound a w f = runs_did (EndingForWriter run code counts) r run refl sound a f
+  initiator_did (InJob run job) r sound a w f = runs_did (InJob run job) r run refl sound a f
   initiator_did (Closing g) r sound a w f = on_element _ _ r _ (closed_did deck _ _ g (element_of s i) r (cc a) w f)

@@ -13,8 +13,8 @@ use Rattle.mv_plan.proofs.deck.Codes.{code_parts, never_zero}
 use Rattle.mv_plan.proofs.standing.Row.{element_of}
 use Rattle.mv_plan.proofs.places.Places.{Place, Coming, Handed, Run, Over, Places, Goes, stays, released, started, ended}
 use Rattle.mv_plan.proofs.points.Points.{Running}
-use Rattle.mv_plan.proofs.places.Steps.{Placed, placed_same, placed_released, placed_dismissed, placed_left, placed_started}
-use Rattle.mv_plan.proofs.places.Steps.{placed_stopped, put_here, put_else}
+use Rattle.mv_plan.proofs.places.Steps.{Placed, placed_same, placed_released, placed_dismissed, placed_left, placed_started, placed_stopped}
+use Rattle.mv_plan.proofs.places.Steps.{put_here, put_else}
 use Rattle.mv_plan.proofs.walks.Walks.{Points}
 use Rattle.mv_plan.proofs.points.Views.{code_held, run_of, named_before, next_job}
 

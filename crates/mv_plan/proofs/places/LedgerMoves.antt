@@ -1,45 +1,45 @@
 -- The ledger is kept by each move at which no task is lost.
-use Rattle.std.proofs.Common.{◌≡◌, ℕ, ◌+◌, ◌-◌, ◌*◌, ◌<◌, ◌≤◌, Bool, if◌then◌else◌, List, length, Option, Some, None, ◌⊎◌}
-use Rattle.std.proofs.Common.{inl, inr, refl, sym, ap, ◌∙◌, subst, arith}
+use Rattle.std.proofs.Common.{◌≡◌, ℕ, ◌+◌, ◌-◌, ◌<◌, ◌≤◌, Bool, if◌then◌else◌, List, length, Option, Some, None, ◌⊎◌, inl, inr, refl, sym}
+use Rattle.std.proofs.Common.{ap, ◌∙◌, subst, arith}
 use Rattle.std.proofs.lemmas.Bool.{cases_eq, eq-eqb}
-use Rattle.mv_ecb.specs.declared.operation.EcbOp.TheVariants as ecb_op
-use Rattle.mv_ecb.specs.Table.{ecb_step}
-use Rattle.mv_element.specs.declared.operation.ElementOp.TheVariants as element_op
 use Rattle.mv_element.specs.declared.element.ElementState.{ElementState}
 use Rattle.mv_element.specs.Element.{reset, paused}
 use Rattle.mv_element.specs.Table.{element_step}
 use Rattle.mv_machine.specs.declared.entry.Entry.{Entry}
-use Rattle.mv_machine.specs.declared.entry.Object.TheVariants.{Element}
-use Rattle.mv_machine.specs.declared.entry.Op.TheVariants as op_on
+use Rattle.mv_machine.specs.declared.entry.Object.TheVariants.{Element, Ecb}
 use Rattle.mv_machine.specs.declared.entry.Reply.{Reply}
-use Rattle.mv_machine.specs.declared.entry.Reply.TheVariants as reply_of
 use Rattle.mv_machine.specs.Legal.{IsNext, next}
 use Rattle.mv_machine.specs.Setup.{Setup}
 use Rattle.mv_machine.specs.System.{System, moved, reply_to, with_at}
 use Rattle.mv_plan.specs.HandingOut.{release_code, gift_code}
 use Rattle.mv_deck.specs.Deck.{JobData}
 use Rattle.mv_calls.specs.Keeping.{Kept}
-use Rattle.mv_plan.specs.SpoolSetup.{reader, scheduler, initiator, writer, done}
+use Rattle.mv_plan.specs.SpoolSetup.{reader, scheduler, initiator, writer}
 use Rattle.mv_plan.specs.SpoolTasks.{code_of, not_to_run}
+use Rattle.mv_ecb.specs.declared.operation.EcbOp.TheVariants as ecb_op
+use Rattle.mv_element.specs.declared.operation.ElementOp.TheVariants as element_op
+use Rattle.mv_machine.specs.declared.entry.Op.TheVariants as op_on
+use Rattle.mv_machine.specs.declared.entry.Reply.TheVariants as reply_of
 use Rattle.mv_plan.proofs.points.ReaderAndWriter.{IsReaderAt, IsWriterAt}
 use Rattle.mv_plan.proofs.places.Deeds.{Deed, went_on, started, left, stopped, elsewhere_gave, initiator_did}
-use Rattle.mv_plan.proofs.standing.Row.{Stance, Starts, Works, Offers, Parks, Ends, Loses, stance, offered, taken, handed, Row, RowAt}
+use Rattle.mv_plan.proofs.standing.Row.{Stance, Offers, Parks, Loses, stance, offered, taken, handed, Row, RowAt}
 use Rattle.mv_plan.proofs.standing.Row.{hold_for, offer_of, element_of, row_at, Apart, apart}
 use Rattle.mv_plan.proofs.points.InitiatorSound.{IsInitiatorAt}
-use Rattle.mv_plan.proofs.places.Ledger.{element_code, runs_at, befores_at, Ledger, LedgerNext, quiet, releases, dismisses, leaves}
-use Rattle.mv_plan.proofs.places.Ledger.{starts, stops}
+use Rattle.mv_plan.proofs.places.Ledger.{element_code, runs_at, befores_at, Ledger, LedgerNext, quiet, releases, dismisses, leaves, starts}
+use Rattle.mv_plan.proofs.places.Ledger.{stops}
 use Rattle.mv_plan.proofs.points.SchedulerNext.{NoRelease, same_next, dispatched_next, dismissed_next, next_bound}
-use Rattle.mv_plan.proofs.points.Points.{Point, At, Finished, TooSoon, Astray, Stage, Dispatching, Dismissing, Arming, Settling}
-use Rattle.mv_plan.proofs.points.Points.{reader_asks, reader_goes, SchedulerAt, Waits, Extends, Clears, Releases, scheduler_asks}
-use Rattle.mv_plan.proofs.points.Points.{scheduler_goes, writer_asks, writer_goes, InitiatorAt, Opening, Offering, Pausing, Resuming}
-use Rattle.mv_plan.proofs.points.Points.{Obtaining, Confirming, Freeing, Reading, Writing, Scanning, Rescanning, Purging, EndingJob}
-use Rattle.mv_plan.proofs.points.Points.{EndingForScheduler, EndingForWriter, Closing, initiator_asks, initiator_goes}
+use Rattle.mv_plan.proofs.points.Points.{Point, At, TooSoon, Astray, Stage, Dispatching, Dismissing, Arming}
+use Rattle.mv_plan.proofs.points.Points.{reader_asks, reader_goes, SchedulerAt, Waits, Releases, scheduler_asks}
+use Rattle.mv_plan.proofs.points.Points.{scheduler_goes, writer_asks, writer_goes, InitiatorAt, Opening}
+use Rattle.mv_plan.proofs.points.Points.{Obtaining}
+use Rattle.mv_plan.proofs.points.Points.{initiator_asks, initiator_goes, InJob}
 use Rattle.mv_plan.proofs.points.SchedulerSound.{IsSchedulerAt, rest_count}
 use Rattle.mv_plan.proofs.standing.Rows.{Rows, reader_low, writer_low}
 use Rattle.mv_plan.proofs.walks.Stands.{Stand}
 use Rattle.mv_plan.proofs.walks.NoneLost.{NoneLost, SameTalk, same_talk}
 use Rattle.mv_plan.proofs.walks.Walks.{Points, Move}
-use Rattle.mv_plan.proofs.points.Asks.{no_release, release_gives, reader_plain, writer_plain, Elsewhere}
+use Rattle.mv_plan.proofs.points.Asks.{no_release, release_gives, reader_plain, writer_plain, Elsewhere, no_gift as gives_none}
+use Rattle.mv_plan.proofs.points.Asks.{scheduler_no_pause}
 use Rattle.mv_plan.proofs.walks.Moves.{entry_of, Each, of_move}
 use Rattle.mv_plan.proofs.lists.Tables.{with_at-same, with_at-other}
 use Rattle.mv_plan.proofs.points.Views.{code_held, run_of, named_before, next_job, IsNotLost}
@@ -47,24 +47,10 @@ use Rattle.mv_plan.proofs.points.Views.{code_held, run_of, named_before, next_jo
 -- a task that is not lost has a stance
 pub has_stance : (p : Point InitiatorAt) → IsNotLost p → stance p ≡ Loses → ⊥
 has_stance (At Opening) f e = cc e
-has_stance (At (Offering more before g)) f e = cc e
-has_stance (At (Pausing more before g)) f e = cc e
-has_stance (At (Resuming more before g)) f e = cc e
-has_stance (At (Obtaining run hand latch mode steps)) f e = cc e
-has_stance (At (Confirming run hand latch mode id steps)) f e = cc e
-has_stance (At (Freeing run hand latch id steps)) f e = cc e
-has_stance (At (Reading run hand volume amount steps)) f e = cc e
-has_stance (At (Writing run hand volume amount number steps)) f e = cc e
-has_stance (At (Scanning run hand volume steps)) f e = cc e
-has_stance (At (Rescanning run hand volume number steps)) f e = cc e
-has_stance (At (Purging run hand code)) f e = cc e
-has_stance (At (EndingJob run code counts)) f e = cc e
-has_stance (At (EndingForScheduler run code counts)) f e = cc e
-has_stance (At (EndingForWriter run code counts)) f e = cc e
-has_stance (At (Closing g)) f e = cc e
-has_stance (Finished answer) f e = cc e
+has_stance (At (InJob run (Obtaining hand latch mode steps))) f e = cc e
 has_stance TooSoon f e = f
 has_stance Astray f e = f
+has_stance p f e = cc e
 
 -- an element that the scheduler is to release holds no code, and the released one after it
 pub record Fresh (g code : ℕ) (x : ElementState) : Type 0 where
@@ -78,16 +64,14 @@ fresh_paused : (g m code : ℕ) (x : ElementState) → g ≡ m → x ≡ paused 
 fresh_paused g m code x e q = record { before = rw q refl; after = rw (q, e, eq-eqb m m refl) refl }
 
 pub row_fresh : (st : Stance) (g code : ℕ) (o : Option ℕ) (x : ElementState) → (st ≡ Loses → ⊥) → Row st o (Some g) x → Fresh g code x
-row_fresh Starts g code o x d w = absurd (cc (w.1))
-row_fresh (Works m) g code o x d w = absurd (cc (w.1))
 row_fresh (Offers m) g code o x d (offered a b q) = absurd (cc b)
 row_fresh (Offers m) g code o x d (taken a b q) = let e : g ≡ m = cc b in fresh_reset g m code x e q
 row_fresh (Offers m) g code o x d (handed c a b q) = absurd (cc b)
 row_fresh (Parks m) g code o x d (offered a b q) = absurd (cc b)
 row_fresh (Parks m) g code o x d (taken a b q) = let e : g ≡ m = cc b in fresh_paused g m code x e q
 row_fresh (Parks m) g code o x d (handed c a b q) = absurd (cc b)
-row_fresh Ends g code o x d w = absurd (cc (w.1))
 row_fresh Loses g code o x d w = absurd (d refl)
+row_fresh y g code o x d w = absurd (cc (w.1))
 
 gift_at : (r r' : Reply) → r ≡ r' → gift_code r' ≡ None → gift_code r ≡ None
 gift_at r r' e q = ap (λ z. gift_code z) e ∙ q
@@ -105,37 +89,18 @@ pub record IsQuiet (s z : System) (ask_code : Option ℕ) (r : Reply) : Type 0 w
 pub scheduler_quiet : (n : ℕ) (s : System) (x : SchedulerAt) (r : Reply) → NoRelease x
     → Some r ≡ reply_to s scheduler (scheduler_asks n x).0 (scheduler_asks n x).1
     → IsQuiet s (moved s scheduler (scheduler_asks n x).0 (scheduler_asks n x).1) (release_code (scheduler_asks n x).1) r
-scheduler_quiet n s (Waits a (Arming e todo)) r d q =
-    record {
-      element_codes_same = λ m. refl;
-      no_code = refl;
-      no_gift = gift_at r (reply_of.Ecb (ecb_step ecb_op.Arm (s.ecb e).state).1) (cc q) refl;
-    }
-scheduler_quiet n s (Waits a (Settling e todo found)) r d q =
-    record {
-      element_codes_same = λ m. refl;
-      no_code = refl;
-      no_gift = gift_at r (reply_of.Ecb (ecb_step ecb_op.Settle (s.ecb e).state).1) (cc q) refl;
-    }
-scheduler_quiet n s (Extends j job jobs skipped) r d q =
-    record {
-      element_codes_same = λ m. refl;
-      no_code = refl;
-      no_gift = gift_at r (reply_of.Ecb (ecb_step (ecb_op.Extend (j + 1)) (s.ecb (done n j)).state).1) (cc q) refl;
-    }
-scheduler_quiet n s (Clears i g code after) r d q =
-    record {
-      element_codes_same = λ m. refl;
-      no_code = refl;
-      no_gift = gift_at r (reply_of.Ecb (ecb_step ecb_op.Clear (s.ecb (4 * n + i)).state).1) (cc q) refl;
-    }
 scheduler_quiet n s (Releases i g code after) r d q = absurd d
+scheduler_quiet n s (Waits a (Arming e todo)) r d q =
+    record { element_codes_same = λ m. refl; no_code = refl; no_gift = gives_none s scheduler (Ecb e) (op_on.Ecb ecb_op.Arm) r q tt }
+scheduler_quiet n s x r d q = record {
+  element_codes_same = λ m. refl;
+  no_code = refl;
+  no_gift = gives_none s scheduler (scheduler_asks n x).0 (scheduler_asks n x).1 r q (scheduler_no_pause n x);
+}
 
 pub no_release_or : (x : SchedulerAt) → (NoRelease x) ⊎ ((i g code : ℕ) × (after : Stage) × (x ≡ Releases i g code after))
-no_release_or (Waits a w) = inl tt
-no_release_or (Extends j job jobs skipped) = inl tt
-no_release_or (Clears i g code after) = inl tt
 no_release_or (Releases i g code after) = inr (i, g, code, after, refl)
+no_release_or x = inl tt
 
 module _ (c : Setup) (deck : List JobData) (initiators : ℕ) (few : length deck ≤ not_to_run) (kept : ℕ → Kept) (past : List Entry) where
   abbrev n : ℕ

@@ -6,9 +6,9 @@ use Rattle.mv_machine.specs.Legal.{IsNext, next, after_from}
 use Rattle.mv_machine.specs.Setup.{Setup}
 use Rattle.mv_machine.specs.System.{System, opening}
 use Rattle.mv_deck.specs.Deck.{JobData}
-use Rattle.mv_plan.proofs.deck.Plans.{ArePlannedJobs}
 use Rattle.mv_calls.specs.Keeping.{Kept, nothing_kept}
 use Rattle.mv_plan.specs.SpoolTasks.{not_to_run}
+use Rattle.mv_plan.proofs.deck.Plans.{ArePlannedJobs}
 use Rattle.mv_plan.proofs.walks.Fits.{Fits, fits_opening, fits_next}
 use Rattle.mv_plan.proofs.places.Places.{Place, Coming, Goes}
 use Rattle.mv_plan.proofs.places.LedgerMoves.{ledger_next}

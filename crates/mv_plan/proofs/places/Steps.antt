@@ -7,10 +7,10 @@ use Rattle.std.proofs.lemmas.Option.{same_Some}
 use Rattle.std.proofs.lemmas.Bool.{cases_eq, cases_lt}
 use Rattle.mv_machine.specs.System.{with_at}
 use Rattle.mv_plan.specs.SpoolTasks.{code_of, not_to_run}
+use Rattle.mv_machine.proofs.Lists.{all_push}
 use Rattle.mv_plan.proofs.deck.Codes.{code_parts, never_zero}
 use Rattle.mv_plan.proofs.places.Places.{Place, Coming, Handed, Run, Over}
 use Rattle.mv_plan.proofs.points.Points.{Running}
-use Rattle.mv_machine.proofs.Lists.{all_push}
 use Rattle.mv_plan.proofs.lists.Tables.{with_at-same, with_at-other}
 
 -- the fields of Places, by tables

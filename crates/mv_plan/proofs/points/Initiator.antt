@@ -1,46 +1,44 @@
 -- An initiator's program goes from point to point. Used by Following.
 use Rattle.std.proofs.Common.{◌≡◌, ℕ, zero, suc, ◌+◌, ◌-◌, ◌*◌, ◌^◌, ◌<◌, ◌≤◌, ◌==◌, nat_lt, Bool, true, false, not, ◌&&◌, if◌then◌else◌}
-use Rattle.std.proofs.Common.{List, [], ◌∷◌, ◌++◌, length, find, Option, Some, None, Ok, refl, sym, ap, ◌∙◌, arith}
+use Rattle.std.proofs.Common.{List, [], ◌∷◌, ◌++◌, length, Option, Some, None, Ok, refl, sym, ap, ◌∙◌, arith, find}
 use Rattle.std.specs.List.{AllByRecursion, list_any, range_with_len}
 use Rattle.std.proofs.lemmas.Bool.{eq-eqb, lt-ltb}
+use Rattle.mv_latch.specs.declared.operation.Wake.{Wake}
+use Rattle.mv_latch.specs.declared.request.Mode.{Mode}
+use Rattle.mv_machine.specs.declared.entry.Object.TheVariants.{Element, Latches}
+use Rattle.mv_machine.specs.declared.entry.Reply.{Reply}
+use Rattle.mv_machine.specs.Setup.{Setup, element_owner}
+use Rattle.mv_deck.specs.Deck.{JobData}
+use Rattle.mv_deck.specs.declared.deck.Step.{Step}
+use Rattle.mv_deck.specs.declared.deck.Step.TheVariants.{Print, Use, Count, Scan, Free}
+use Rattle.mv_plan.specs.Jobs.{job_at}
+use Rattle.mv_calls.specs.Keeping.{Kept, nothing_kept}
+use Rattle.mv_calls.specs.LatchCalls.{obtained, obtain_refusal}
+use Rattle.mv_calls.specs.Pauses.{token_of, pause, closed, deallocate, gift_of, allocate, lowest_free, open_lowest, paused}
+use Rattle.mv_calls.specs.Posts.{Woke, each_posted, posted_next, post_within, wake_posted, wakes_posted}
+use Rattle.mv_calls.specs.Program.{Program, Do, Done, Heard, asks, heard, and_then, going_on, unrefused, accepted, followed, finished}
+use Rattle.mv_calls.specs.Program.{unless_refused, on_element, on_latch, wrong}
+use Rattle.mv_plan.specs.SpoolSetup.{end_for_scheduler, end_for_writer, idle, initiator, done}
+use Rattle.mv_plan.specs.SpoolTasks.{Named, job_named, named_by, run_job, granted_as, rounds, job_done, freed}
+use Rattle.mv_calls.specs.Waits.{refused_if, write_volume}
 use Rattle.mv_ecb.specs.declared.operation.EcbReply.TheVariants as ecb_reply
 use Rattle.mv_element.specs.declared.operation.ElementOp.TheVariants as element_op
 use Rattle.mv_element.specs.declared.operation.ElementReply.TheVariants as element_reply
 use Rattle.mv_latch.specs.declared.operation.LatchOp.TheVariants as latch_op
 use Rattle.mv_latch.specs.declared.operation.LatchReply.TheVariants as latch_reply
-use Rattle.mv_latch.specs.declared.operation.Wake.{Wake}
 use Rattle.mv_latch.specs.declared.request.LatchForm.TheVariants as form_of
-use Rattle.mv_latch.specs.declared.request.Mode.{Mode}
-use Rattle.mv_machine.specs.declared.entry.Object.TheVariants.{Element, Latches}
 use Rattle.mv_machine.specs.declared.entry.Op.TheVariants as op_on
-use Rattle.mv_machine.specs.declared.entry.Reply.{Reply}
 use Rattle.mv_machine.specs.declared.entry.Reply.TheVariants as reply_of
 use Rattle.mv_machine.specs.declared.entry.VolumeReply.TheVariants as volume_reply
 use Rattle.mv_machine.specs.Check.{or_else}
-use Rattle.mv_machine.specs.Setup.{Setup, element_owner}
-use Rattle.mv_deck.specs.Deck.{JobData}
-use Rattle.mv_deck.specs.declared.deck.Step.{Step}
-use Rattle.mv_deck.specs.declared.deck.Step.TheVariants.{Print, Use, Free, Count, Scan, Abend, Return}
-use Rattle.mv_plan.specs.Jobs.{job_at}
 use Rattle.mv_plan.proofs.deck.Plans.{ArePlannedJobs}
-use Rattle.mv_calls.specs.Keeping.{Kept, nothing_kept}
-use Rattle.mv_calls.specs.LatchCalls.{obtain_refusal, obtained}
-use Rattle.mv_calls.specs.Pauses.{gift_of, token_of, allocate, lowest_free, open_lowest, pause, paused}
-use Rattle.mv_calls.specs.Pauses.{closed, deallocate}
 use Rattle.mv_calls.specs.Pauses as pauses
-use Rattle.mv_calls.specs.Posts.{Woke, each_posted, posted_next, post_within, wakes_posted, wake_posted}
-use Rattle.mv_calls.specs.Program.{Program, Do, Done, Heard, asks, heard, and_then, going_on, unrefused, accepted, followed}
-use Rattle.mv_calls.specs.Program.{finished}
-use Rattle.mv_calls.specs.Program.{wrong, unless_refused, on_element, on_latch}
 use Rattle.mv_calls.specs.Refusal as refusal
-use Rattle.mv_plan.specs.SpoolSetup.{done, end_for_scheduler, end_for_writer, idle, initiator}
-use Rattle.mv_plan.specs.SpoolTasks.{Named, job_named, named_by, run_job, job_done, granted_as, freed, rounds}
-use Rattle.mv_calls.specs.Waits.{refused_if, write_volume}
 use Rattle.mv_plan.proofs.points.Points.{At, Astray, Grant, Running, Hand, empty_hand, hand_with, hand_without, InitiatorAt, Opening}
 use Rattle.mv_plan.proofs.points.Points.{Offering, Pausing, Resuming, Obtaining, Confirming, Freeing, Reading, Writing, Scanning}
 use Rattle.mv_plan.proofs.points.Points.{Rescanning, Purging, EndingJob, EndingForScheduler, EndingForWriter, Closing, initiator_asks}
 use Rattle.mv_plan.proofs.points.Points.{initiator_goes, rounds_from, rounds_after, freeing_at, steps_at, running, job_start, named_at}
-use Rattle.mv_plan.proofs.points.Points.{given_at}
+use Rattle.mv_plan.proofs.points.Points.{given_at, InJob}
 use Rattle.mv_plan.proofs.points.Programs.{program_at, posting_next, rounds_rest, given_rest, ending, stepping, steps_rest, obtained_rest}
 use Rattle.mv_plan.proofs.points.Programs.{initiator_program}
 use Rattle.mv_plan.proofs.points.PostsAndWaits.{post_is_now, IsPlainPost, posted_goes}
@@ -52,21 +50,8 @@ use Rattle.mv_plan.proofs.deck.Setup.{Facts}
 pub initiator_says : (c : Setup) (deck : List JobData) (i : ℕ) (kept : Kept) (x : InitiatorAt)
     → asks (initiator_program c deck i kept x) ≡ Some (initiator_asks (length deck) i x)
 initiator_says c deck i kept Opening = refl
-initiator_says c deck i kept (Offering more before g) = refl
-initiator_says c deck i kept (Pausing more before g) = refl
-initiator_says c deck i kept (Resuming more before g) = refl
-initiator_says c deck i kept (Obtaining run hand latch mode steps) = refl
-initiator_says c deck i kept (Confirming run hand latch mode id steps) = refl
-initiator_says c deck i kept (Freeing run hand latch id steps) = refl
-initiator_says c deck i kept (Reading run hand volume amount steps) = refl
-initiator_says c deck i kept (Writing run hand volume amount number steps) = refl
-initiator_says c deck i kept (Scanning run hand volume steps) = refl
-initiator_says c deck i kept (Rescanning run hand volume number steps) = refl
-initiator_says c deck i kept (Purging run hand code) = refl
-initiator_says c deck i kept (EndingJob run code counts) = refl
-initiator_says c deck i kept (EndingForScheduler run code counts) = refl
-initiator_says c deck i kept (EndingForWriter run code counts) = refl
-initiator_says c deck i kept (Closing g) = refl
+initiator_says c deck i kept (InJob run (Obtaining hand latch mode steps)) = refl
+initiator_says c deck i kept x = refl
 
 -- ---- what a reply must be for the points to be the program's: the machine gives no other
 -- none of these wakes posts a block
@@ -86,11 +71,11 @@ WokeAs j r = Unit {0}
 
 abbrev pub IsPlainReply : InitiatorAt → Reply → List Wake → Type 0
 IsPlainReply (Offering more before g) r ws = IsPlainPost r
-IsPlainReply (EndingForScheduler run code counts) r ws = IsPlainPost r
-IsPlainReply (EndingForWriter run code counts) r ws = IsPlainPost r
-IsPlainReply (EndingJob run code counts) r ws = WokeAs run.job r
-IsPlainReply (Freeing run hand latch id steps) r ws = PostNothing ws
-IsPlainReply (Purging run hand code) r ws = PostNothing ws
+IsPlainReply (InJob run (EndingForScheduler code counts)) r ws = IsPlainPost r
+IsPlainReply (InJob run (EndingForWriter code counts)) r ws = IsPlainPost r
+IsPlainReply (InJob run (EndingJob code counts)) r ws = WokeAs run.job r
+IsPlainReply (InJob run (Freeing hand latch id steps)) r ws = PostNothing ws
+IsPlainReply (InJob run (Purging hand code)) r ws = PostNothing ws
 IsPlainReply x r ws = Unit {0}
 
 module _ (c : Setup) (deck : List JobData) (initiators i : ℕ) (facts : Facts c (length deck) initiators)
@@ -98,6 +83,10 @@ module _ (c : Setup) (deck : List JobData) (initiators i : ℕ) (facts : Facts c
   some_blocks : 1 ≤ length c.owners
   some_blocks = let e : length c.owners ≡ 4 * length deck + initiators = facts.size in let s : 1 ≤ initiators = facts.some in
       omega arith
+
+  -- what is kept behind an event and its reply
+  abbrev kept_by : Kept → InitiatorAt → Reply → Kept
+  kept_by kept x r = keeps kept (initiator_asks (length deck) i x) r
 
   own_element : (kept : Kept) (g : ℕ) → kept.caller ≡ initiator i → pauses.is_others_token c kept (token_of (initiator i) g) ≡ false
   own_element kept g k = ap (λ b. not b) (eq-eqb (element_owner c (initiator i)) kept.caller (facts.element (initiator i) ∙ sym k))
@@ -156,7 +145,6 @@ module _ (c : Setup) (deck : List JobData) (initiators i : ℕ) (facts : Facts c
       → InitiatorKept i (standing_of (initiator i) run.job hand.holding) kept
       → stepping c deck i run kept (steps_rest c run hand steps kept) ≡ program_at (initiator_program c deck i kept)
       (steps_at run hand steps)
-  steps_enter run hand [] kept s k = refl
   steps_enter run hand (Print text ∷ steps) kept s k =
       steps_enter run hand steps kept
       (record { round = s.round; holds = s.holds; left = left_next deck run (Print text) steps tt s.left; sound = s.sound }) k
@@ -171,10 +159,7 @@ module _ (c : Setup) (deck : List JobData) (initiators i : ℕ) (facts : Facts c
         (initiator_program c deck i kept) (freeing_at run hand latch slot steps)
     go None = refl
     go (Some id) = refl
-  steps_enter run hand (Count volume amount ∷ steps) kept s k = refl
-  steps_enter run hand (Scan volume ∷ steps) kept s k = refl
-  steps_enter run hand (Abend code ∷ steps) kept s k = refl
-  steps_enter run hand (Return code ∷ steps) kept s k = refl
+  steps_enter run hand steps kept s k = refl
 
   start_enters : (named : Named) (skipped : Bool) (before : List ℕ) (more g : ℕ) (kept : Kept) → named.skipped ≡ skipped
       → named.job < length deck → list_any (λ j. j == named.job) before ≡ false
@@ -231,7 +216,7 @@ module _ (c : Setup) (deck : List JobData) (initiators i : ℕ) (facts : Facts c
   pub initiator_hears : (kept : Kept) (x : InitiatorAt) (h : Heard) → InitiatorStands deck i kept (At x)
       → IsPlainReply x h.entry.reply h.wakes
       → heard (initiator_program c deck i kept x) h ≡ program_at
-      (initiator_program c deck i (keeps kept (initiator_asks (length deck) i x) h.entry.reply))
+      (initiator_program c deck i (kept_by kept x h.entry.reply))
       (initiator_goes deck x h.entry.reply)
   initiator_hears kept x h s f = goes x h.entry.reply s f where
     ws : List Wake
@@ -242,130 +227,90 @@ module _ (c : Setup) (deck : List JobData) (initiators i : ℕ) (facts : Facts c
 
     goes : (x : InitiatorAt) (r : Reply) → InitiatorStands deck i kept (At x) → IsPlainReply x r h.wakes
         → heard (initiator_program c deck i kept x) (told r) ≡ program_at
-        (initiator_program c deck i (keeps kept (initiator_asks (length deck) i x) r)) (initiator_goes deck x r)
+        (initiator_program c deck i (kept_by kept x r)) (initiator_goes deck x r)
     goes Opening (reply_of.Element (element_reply.Opened g)) s f =
-        rounds_enter (length deck + 1) [] g
-        (keeps kept (initiator_asks (length deck) i Opening) (reply_of.Element (element_reply.Opened g)))
-    goes Opening r s f = refl
+        rounds_enter (length deck + 1) [] g (kept_by kept Opening (reply_of.Element (element_reply.Opened g)))
     goes (Offering more before g) r s f =
-        posted_goes c _ (λ p. going_on (keeps kept (initiator_asks (length deck) i (Offering more before g)) r) p
+        posted_goes c _ (λ p. going_on (kept_by kept (Offering more before g) r) p
         (λ posted. accepted (pause c (token_of (initiator i) g)) (given_rest c deck i more before)))
-        (initiator_program c deck i (keeps kept (initiator_asks (length deck) i (Offering more before g)) r))
-        (At (Pausing more before g)) r
-        (λ p. pause_enters more before g (keeps kept (initiator_asks (length deck) i (Offering more before g)) r) s.1.caller) refl f
+        (initiator_program c deck i (kept_by kept (Offering more before g) r)) (At (Pausing more before g)) r
+        (λ p. pause_enters more before g (kept_by kept (Offering more before g) r) s.1.caller) refl f
     goes (Pausing more before g) (reply_of.Element (element_reply.Given code now)) s f =
-        given_enters more before code now
-        (keeps kept (initiator_asks (length deck) i (Pausing more before g)) (reply_of.Element (element_reply.Given code now))) s.0
+        given_enters more before code now (kept_by kept (Pausing more before g) (reply_of.Element (element_reply.Given code now))) s.0
         (record { caller = s.1.caller; stand = s.1.stand })
-    goes (Pausing more before g) (reply_of.Element element_reply.Parked) s f = refl
-    goes (Pausing more before g) r s f = refl
     goes (Resuming more before g) (reply_of.Element (element_reply.Given code now)) s f =
-        given_enters more before code now
-        (keeps kept (initiator_asks (length deck) i (Resuming more before g)) (reply_of.Element (element_reply.Given code now))) s.0
+        given_enters more before code now (kept_by kept (Resuming more before g) (reply_of.Element (element_reply.Given code now))) s.0
         (record { caller = s.1.caller; stand = s.1.stand })
-    goes (Resuming more before g) (reply_of.Element element_reply.NotYet) s f = refl
-    goes (Resuming more before g) r s f = refl
-    goes (Obtaining run hand latch mode steps) (reply_of.Latch (latch_reply.Granted id)) s f =
-        steps_enter run (hand_with hand latch mode id) steps
-        (keeps kept (initiator_asks (length deck) i (Obtaining run hand latch mode steps))
+    goes (InJob run (Obtaining hand latch mode steps)) (reply_of.Latch (latch_reply.Granted id)) s f =
+        steps_enter run (hand_with hand latch mode id) steps (kept_by kept (InJob run (Obtaining hand latch mode steps))
         (reply_of.Latch (latch_reply.Granted id)))
         (obtained_stand deck run hand latch mode id steps s.0) (pushed_kept i kept run hand latch mode id s.1 refl refl)
-    goes (Obtaining run hand latch mode steps) (reply_of.Latch (latch_reply.Queued id)) s f = refl
-    goes (Obtaining run hand latch mode steps) r s f = refl
-    goes (Confirming run hand latch mode id steps) (reply_of.Latch (latch_reply.Granted same)) s f =
-        steps_enter run (hand_with hand latch mode id) steps
-        (keeps kept (initiator_asks (length deck) i (Confirming run hand latch mode id steps))
+    goes (InJob run (Confirming hand latch mode id steps)) (reply_of.Latch (latch_reply.Granted same)) s f =
+        steps_enter run (hand_with hand latch mode id) steps (kept_by kept (InJob run (Confirming hand latch mode id steps))
         (reply_of.Latch (latch_reply.Granted same)))
         (obtained_stand deck run hand latch mode id steps s.0) (record { caller = s.1.caller; stand = s.1.stand })
-    goes (Confirming run hand latch mode id steps) (reply_of.Latch latch_reply.Waiting) s f = refl
-    goes (Confirming run hand latch mode id steps) r s f = refl
-    goes (Freeing run hand latch id steps) (reply_of.Latch (latch_reply.Released granted)) s f =
-        ap (λ p. stepping c deck i run (keeps kept (initiator_asks (length deck) i (Freeing run hand latch id steps))
-        (reply_of.Latch (latch_reply.Released granted)))
-        (going_on (keeps kept (initiator_asks (length deck) i (Freeing run hand latch id steps))
+    goes (InJob run (Freeing hand latch id steps)) (reply_of.Latch (latch_reply.Released granted)) s f =
+        ap (λ p. stepping c deck i run (kept_by kept (InJob run (Freeing hand latch id steps))
+        (reply_of.Latch (latch_reply.Released granted))) (going_on (kept_by kept (InJob run (Freeing hand latch id steps))
         (reply_of.Latch (latch_reply.Released granted))) p (unrefused (λ granted. steps_rest c run hand steps))))
-        (nothing_posted c h.wakes kept (Done (Ok granted)) f)
-        ∙ steps_enter run (hand_without hand latch) steps
-        (keeps kept (initiator_asks (length deck) i (Freeing run hand latch id steps))
-        (reply_of.Latch (latch_reply.Released granted)))
+        (nothing_posted c h.wakes kept (Done (Ok granted)) f) ∙ steps_enter run (hand_without hand latch) steps
+        (kept_by kept (InJob run (Freeing hand latch id steps)) (reply_of.Latch (latch_reply.Released granted)))
         (freed_stand deck run hand latch steps s.0.0) (freed_kept i kept run hand latch id s.0.0.holds s.0.1 s.1 refl refl)
-    goes (Freeing run hand latch id steps) r s f = refl
-    goes (Reading run hand volume amount steps) (reply_of.Volume (volume_reply.Value number)) s f =
-        elim (nat_lt (number + amount) (2 ^ 32)) as
-        (λ b. stepping c deck i run (keeps kept (initiator_asks (length deck) i (Reading run hand volume amount steps))
+    goes (InJob run (Reading hand volume amount steps)) (reply_of.Volume (volume_reply.Value number)) s f =
+        elim (nat_lt (number + amount) (2 ^ 32)) as (λ b. stepping c deck i run (kept_by kept (InJob run (Reading hand volume amount steps))
         (reply_of.Volume (volume_reply.Value number)))
         ((if b then followed (write_volume volume (number + amount)) (λ stored. steps_rest c run hand steps) else wrong)
-        (keeps kept (initiator_asks (length deck) i (Reading run hand volume amount steps))
-        (reply_of.Volume (volume_reply.Value number))))
-        ≡ program_at (initiator_program c deck i
-        (keeps kept (initiator_asks (length deck) i (Reading run hand volume amount steps))
-        (reply_of.Volume (volume_reply.Value number)))) (if b then At (Writing run hand volume amount number steps) else Astray)) [
+        (kept_by kept (InJob run (Reading hand volume amount steps)) (reply_of.Volume (volume_reply.Value number))))
+        ≡ program_at (initiator_program c deck i (kept_by kept (InJob run (Reading hand volume amount steps))
+        (reply_of.Volume (volume_reply.Value number)))) (if b then At (InJob run (Writing hand volume amount number steps)) else Astray)) [
           | true ↦ refl
           | false ↦ refl
         ]
-    goes (Reading run hand volume amount steps) r s f = refl
-    goes (Writing run hand volume amount number steps) (reply_of.Volume volume_reply.Stored) s f =
-        steps_enter run hand steps (keeps kept (initiator_asks (length deck) i (Writing run hand volume amount number steps))
-        (reply_of.Volume volume_reply.Stored))
-        (record {
+    goes (InJob run (Writing hand volume amount number steps)) (reply_of.Volume volume_reply.Stored) s f =
+        steps_enter run hand steps (kept_by kept (InJob run (Writing hand volume amount number steps))
+        (reply_of.Volume volume_reply.Stored)) (record {
           round = s.0.round;
           holds = s.0.holds;
           left = left_next deck run (Count volume amount) steps tt s.0.left;
           sound = s.0.sound.4;
         }) (record { caller = s.1.caller; stand = s.1.stand })
-    goes (Writing run hand volume amount number steps) r s f = refl
-    goes (Scanning run hand volume steps) (reply_of.Volume (volume_reply.Value number)) s f = refl
-    goes (Scanning run hand volume steps) r s f = refl
-    goes (Rescanning run hand volume number steps) (reply_of.Volume (volume_reply.Value again)) s f =
-        steps_enter run hand steps (keeps kept (initiator_asks (length deck) i (Rescanning run hand volume number steps))
+    goes (InJob run (Scanning hand volume steps)) (reply_of.Volume (volume_reply.Value number)) s f = refl
+    goes (InJob run (Rescanning hand volume number steps)) (reply_of.Volume (volume_reply.Value again)) s f =
+        steps_enter run hand steps (kept_by kept (InJob run (Rescanning hand volume number steps))
         (reply_of.Volume (volume_reply.Value again)))
         (record { round = s.0.round; holds = s.0.holds; left = left_next deck run (Scan volume) steps tt s.0.left; sound = s.0.sound.2 })
         (record { caller = s.1.caller; stand = s.1.stand })
-    goes (Rescanning run hand volume number steps) r s f = refl
-    goes (Purging run hand code) (reply_of.Latch (latch_reply.Purged removed granted)) s f =
-        ap (λ p. ending c deck i run (keeps kept (initiator_asks (length deck) i (Purging run hand code))
-        (reply_of.Latch (latch_reply.Purged removed granted)))
+    goes (InJob run (Purging hand code)) (reply_of.Latch (latch_reply.Purged removed granted)) s f =
+        ap (λ p. ending c deck i run (kept_by kept (InJob run (Purging hand code)) (reply_of.Latch (latch_reply.Purged removed granted)))
         (and_then p (λ counts. wake_posted c (Some (done (length deck) run.job)) code kept (Done counts))))
         (nothing_posted c h.wakes kept (Done (record { removed = removed; granted = granted })) f)
-        ∙ ap (λ p. ending c deck i run (keeps kept (initiator_asks (length deck) i (Purging run hand code))
-        (reply_of.Latch (latch_reply.Purged removed granted)))
+        ∙ ap (λ p. ending c deck i run (kept_by kept (InJob run (Purging hand code)) (reply_of.Latch (latch_reply.Purged removed granted)))
         (and_then p (λ p. Done (record { removed = removed; granted = granted }))))
         (post_is_now c (done (length deck) run.job) code kept some_blocks)
-    goes (Purging run hand code) r s f = refl
-    goes (EndingJob run code counts) (reply_of.Ecb (ecb_reply.Woke (suc x))) s f =
-        ap (λ m. ending c deck i run (keeps kept (initiator_asks (length deck) i (EndingJob run code counts))
-        (reply_of.Ecb (ecb_reply.Woke (suc x))))
+    goes (InJob run (EndingJob code counts)) (reply_of.Ecb (ecb_reply.Woke (suc x))) s f =
+        ap (λ m. ending c deck i run (kept_by kept (InJob run (EndingJob code counts)) (reply_of.Ecb (ecb_reply.Woke (suc x))))
         (and_then (each_posted (post_within (length c.owners - 1) c code) (posted_next c (Woke m)) (Woke m)) (λ p. Done counts))) f
-        ∙ ap (λ es. ending c deck i run
-        (keeps kept (initiator_asks (length deck) i (EndingJob run code counts)) (reply_of.Ecb (ecb_reply.Woke (suc x))))
+        ∙ ap (λ es. ending c deck i run (kept_by kept (InJob run (EndingJob code counts)) (reply_of.Ecb (ecb_reply.Woke (suc x))))
         (and_then (each_posted (post_within (length c.owners - 1) c code) es (Woke (run.job + 1))) (λ p. Done counts)))
-        (facts.targets run.job s.0.round.job)
-        ∙ ap (λ d. ending c deck i run (keeps kept (initiator_asks (length deck) i (EndingJob run code counts))
-        (reply_of.Ecb (ecb_reply.Woke (suc x))))
-        (and_then (each_posted (post_within d c code)
+        (facts.targets run.job s.0.round.job) ∙ ap (λ d. ending c deck i run (kept_by kept (InJob run (EndingJob code counts))
+        (reply_of.Ecb (ecb_reply.Woke (suc x)))) (and_then (each_posted (post_within d c code)
         (end_for_scheduler (length deck) run.job ∷ end_for_writer (length deck) run.job ∷ []) (Woke (run.job + 1)))
         (λ p. Done counts))) (deeper run s.0.round.job)
-    goes (EndingJob run code counts) (reply_of.Ecb (ecb_reply.Woke zero)) s f =
-        rounds_after_enter run (keeps kept (initiator_asks (length deck) i (EndingJob run code counts))
-        (reply_of.Ecb (ecb_reply.Woke zero)))
-    goes (EndingJob run code counts) (reply_of.Ecb ecb_reply.Posted) s f =
-        rounds_after_enter run (keeps kept (initiator_asks (length deck) i (EndingJob run code counts)) (reply_of.Ecb ecb_reply.Posted))
-    goes (EndingJob run code counts) (reply_of.Ecb (ecb_reply.Already old)) s f =
-        rounds_after_enter run (keeps kept (initiator_asks (length deck) i (EndingJob run code counts))
-        (reply_of.Ecb (ecb_reply.Already old)))
-    goes (EndingJob run code counts) r s f = refl
-    goes (EndingForScheduler run code counts) r s f =
-        posted_goes c _ (λ p. ending c deck i run (keeps kept (initiator_asks (length deck) i (EndingForScheduler run code counts)) r)
+    goes (InJob run (EndingJob code counts)) (reply_of.Ecb (ecb_reply.Woke zero)) s f =
+        rounds_after_enter run (kept_by kept (InJob run (EndingJob code counts)) (reply_of.Ecb (ecb_reply.Woke zero)))
+    goes (InJob run (EndingJob code counts)) (reply_of.Ecb ecb_reply.Posted) s f =
+        rounds_after_enter run (kept_by kept (InJob run (EndingJob code counts)) (reply_of.Ecb ecb_reply.Posted))
+    goes (InJob run (EndingJob code counts)) (reply_of.Ecb (ecb_reply.Already old)) s f =
+        rounds_after_enter run (kept_by kept (InJob run (EndingJob code counts)) (reply_of.Ecb (ecb_reply.Already old)))
+    goes (InJob run (EndingForScheduler code counts)) r s f =
+        posted_goes c _ (λ p. ending c deck i run (kept_by kept (InJob run (EndingForScheduler code counts)) r)
         (and_then (and_then p (λ p. each_posted (posting_next c code) (end_for_writer (length deck) run.job ∷ []) (Woke (run.job + 1))))
-        (λ p. Done counts)))
-        (initiator_program c deck i (keeps kept (initiator_asks (length deck) i (EndingForScheduler run code counts)) r))
-        (At (EndingForWriter run code counts)) r
-        (λ p. refl) refl f
-    goes (EndingForWriter run code counts) r s f =
-        posted_goes c _ (λ p. ending c deck i run (keeps kept (initiator_asks (length deck) i (EndingForWriter run code counts)) r)
+        (λ p. Done counts))) (initiator_program c deck i (kept_by kept (InJob run (EndingForScheduler code counts)) r))
+        (At (InJob run (EndingForWriter code counts))) r (λ p. refl) refl f
+    goes (InJob run (EndingForWriter code counts)) r s f =
+        posted_goes c _ (λ p. ending c deck i run (kept_by kept (InJob run (EndingForWriter code counts)) r)
         (and_then (and_then p (λ p. each_posted (posting_next c code) [] (Woke (run.job + 1)))) (λ p. Done counts)))
-        (initiator_program c deck i (keeps kept (initiator_asks (length deck) i (EndingForWriter run code counts)) r))
-        (rounds_after run) r
-        (λ p. rounds_after_enter run (keeps kept (initiator_asks (length deck) i (EndingForWriter run code counts)) r)) refl f
+        (initiator_program c deck i (kept_by kept (InJob run (EndingForWriter code counts)) r)) (rounds_after run) r
+        (λ p. rounds_after_enter run (kept_by kept (InJob run (EndingForWriter code counts)) r)) refl f
     goes (Closing g) (reply_of.Element element_reply.Closed) s f = refl
-    goes (Closing g) r s f = refl
+    goes x r s f = refl

@@ -1,40 +1,39 @@
 -- Where an initiator may stand: its rounds, the steps that are left of its job, the latches in its hand, the code that it ends
 -- with; and what it keeps there. Kept by each of its steps, whatever the reply.
-use Rattle.std.proofs.Common.{◌≡◌, ℕ, zero, suc, ◌+◌, ◌-◌, ◌^◌, ◌<◌, ◌≤◌, ◌==◌, nat_le, nat_lt, Bool, true, false, not, ◌&&◌}
-use Rattle.std.proofs.Common.{if◌then◌else◌, List, [], ◌∷◌, ◌++◌, length, map, filter, Option, Some, None, refl, sym, ap, ◌∙◌, subst}
-use Rattle.std.proofs.Common.{append_assoc, arith}
+use Rattle.std.proofs.Common.{◌≡◌, ℕ, zero, suc, ◌+◌, ◌-◌, ◌<◌, ◌≤◌, ◌==◌, nat_le, Bool, true, false, not, ◌&&◌, if◌then◌else◌, List, []}
+use Rattle.std.proofs.Common.{◌∷◌, ◌++◌, length, map, filter, Option, Some, None, refl, sym, ap, ◌∙◌, subst, append_assoc, arith}
 use Rattle.std.specs.List.{AllByRecursion, list_any}
 use Rattle.std.proofs.lemmas.Bool.{eq-eqb, ne_eqb, eqb-true, leb-true, false≢true, and_parts}
 use Rattle.std.proofs.lemmas.List.{length-append}
-use Rattle.mv_ecb.specs.declared.operation.EcbReply.TheVariants as ecb_reply
-use Rattle.mv_element.specs.declared.operation.ElementReply.TheVariants as element_reply
-use Rattle.mv_latch.specs.declared.operation.LatchReply.TheVariants as latch_reply
-use Rattle.mv_latch.specs.declared.request.LatchForm.TheVariants as form_of
 use Rattle.mv_latch.specs.declared.request.Mode.{Mode}
 use Rattle.mv_machine.specs.declared.entry.Reply.{Reply}
-use Rattle.mv_machine.specs.declared.entry.Reply.TheVariants as reply_of
-use Rattle.mv_machine.specs.declared.entry.VolumeReply.TheVariants as volume_reply
-use Rattle.mv_machine.specs.Kept.{StandingRequest, is_named, is_for, less}
 use Rattle.mv_machine.specs.System.{with_at}
 use Rattle.mv_deck.specs.Deck.{JobData}
 use Rattle.mv_deck.specs.declared.deck.Step.{Step}
-use Rattle.mv_deck.specs.declared.deck.Step.TheVariants.{Print, Use, Free, Count, Scan, Abend, Return}
+use Rattle.mv_deck.specs.declared.deck.Step.TheVariants.{Print, Use, Count, Scan, Abend, Return, Free}
 use Rattle.mv_plan.specs.Jobs.{job_at}
-use Rattle.mv_plan.proofs.deck.Plans.{Held, is_held, ArePlannedSteps, ArePlannedJobs}
 use Rattle.mv_deck.specs.EndCode.{not_run}
 use Rattle.mv_report.specs.Outcome.{own_end}
 use Rattle.mv_calls.specs.Waits.{AreDistinct}
 use Rattle.mv_calls.specs.Keeping.{Kept, nothing_kept}
 use Rattle.mv_plan.specs.SpoolSetup.{initiator}
 use Rattle.mv_plan.specs.SpoolTasks.{Named, job_named, code_of, not_to_run}
-use Rattle.mv_plan.proofs.points.Points.{Point, At, Astray, Grant, Running, Hand, empty_hand, hand_with, without_latch, hand_without}
-use Rattle.mv_plan.proofs.points.Points.{InitiatorAt, Opening, Offering, Pausing, Resuming, Obtaining, Confirming, Freeing, Reading}
-use Rattle.mv_plan.proofs.points.Points.{Writing, Scanning, Rescanning, Purging, EndingJob, EndingForScheduler, EndingForWriter, Closing}
-use Rattle.mv_plan.proofs.points.Points.{initiator_asks, initiator_goes, rounds_from, rounds_after, freeing_at, steps_at, running}
-use Rattle.mv_plan.proofs.points.Points.{job_start, named_at, given_at, counting_at}
+use Rattle.mv_machine.proofs.Lists.{all_push}
+use Rattle.mv_element.specs.declared.operation.ElementReply.TheVariants as element_reply
+use Rattle.mv_latch.specs.declared.operation.LatchReply.TheVariants as latch_reply
+use Rattle.mv_latch.specs.declared.request.LatchForm.TheVariants as form_of
+use Rattle.mv_machine.specs.declared.entry.Reply.TheVariants as reply_of
+use Rattle.mv_machine.specs.declared.entry.VolumeReply.TheVariants as volume_reply
+use Rattle.mv_machine.specs.Kept.{StandingRequest, is_named, is_for, less}
+use Rattle.mv_plan.proofs.deck.Plans.{Held, is_held, ArePlannedSteps, ArePlannedJobs}
+use Rattle.mv_plan.proofs.points.Points.{Point, At, Grant, Running, Hand, empty_hand, hand_with, without_latch, hand_without}
+use Rattle.mv_plan.proofs.points.Points.{hand_at, InitiatorAt, Opening, Offering, Pausing, Resuming, Obtaining, Confirming, Freeing}
+use Rattle.mv_plan.proofs.points.Points.{Reading, Writing, Scanning, Rescanning, Purging, EndingJob, EndingForScheduler, EndingForWriter}
+use Rattle.mv_plan.proofs.points.Points.{Closing, initiator_asks, initiator_goes, rounds_after, steps_at, running}
+use Rattle.mv_plan.proofs.points.Points.{job_start, given_at, InJob}
 use Rattle.mv_plan.proofs.points.PostsAndWaits.{on_posted_keeps}
 use Rattle.mv_plan.proofs.points.ReaderAndWriter.{keeps}
-use Rattle.mv_machine.proofs.Lists.{all_push}
+use Rattle.mv_plan.proofs.points.Lands.{rounds_land, freeing_lands, given_lands, counting_lands, ended_lands}
 
 -- ---- rounds
 
@@ -97,18 +96,18 @@ IsInitiatorAt deck (At Opening) = Unit {0}
 IsInitiatorAt deck (At (Offering more before g)) = IsRound (length deck) more before
 IsInitiatorAt deck (At (Pausing more before g)) = IsRound (length deck) more before
 IsInitiatorAt deck (At (Resuming more before g)) = IsRound (length deck) more before
-IsInitiatorAt deck (At (Obtaining run hand latch mode steps)) = IsStepping deck run hand (Use latch mode ∷ steps)
-IsInitiatorAt deck (At (Confirming run hand latch mode id steps)) = IsStepping deck run hand (Use latch mode ∷ steps)
-IsInitiatorAt deck (At (Freeing run hand latch id steps)) =
+IsInitiatorAt deck (At (InJob run (Obtaining hand latch mode steps))) = IsStepping deck run hand (Use latch mode ∷ steps)
+IsInitiatorAt deck (At (InJob run (Confirming hand latch mode id steps))) = IsStepping deck run hand (Use latch mode ∷ steps)
+IsInitiatorAt deck (At (InJob run (Freeing hand latch id steps))) =
     IsStepping deck run hand (Free latch ∷ steps) × (hand.requests latch ≡ Some id)
-IsInitiatorAt deck (At (Reading run hand volume amount steps)) = IsStepping deck run hand (Count volume amount ∷ steps)
-IsInitiatorAt deck (At (Writing run hand volume amount number steps)) = IsStepping deck run hand (Count volume amount ∷ steps)
-IsInitiatorAt deck (At (Scanning run hand volume steps)) = IsStepping deck run hand (Scan volume ∷ steps)
-IsInitiatorAt deck (At (Rescanning run hand volume number steps)) = IsStepping deck run hand (Scan volume ∷ steps)
-IsInitiatorAt deck (At (Purging run hand code)) = IsEnding deck run code
-IsInitiatorAt deck (At (EndingJob run code counts)) = IsEnding deck run code
-IsInitiatorAt deck (At (EndingForScheduler run code counts)) = IsEnding deck run code
-IsInitiatorAt deck (At (EndingForWriter run code counts)) = IsEnding deck run code
+IsInitiatorAt deck (At (InJob run (Reading hand volume amount steps))) = IsStepping deck run hand (Count volume amount ∷ steps)
+IsInitiatorAt deck (At (InJob run (Writing hand volume amount number steps))) = IsStepping deck run hand (Count volume amount ∷ steps)
+IsInitiatorAt deck (At (InJob run (Scanning hand volume steps))) = IsStepping deck run hand (Scan volume ∷ steps)
+IsInitiatorAt deck (At (InJob run (Rescanning hand volume number steps))) = IsStepping deck run hand (Scan volume ∷ steps)
+IsInitiatorAt deck (At (InJob run (Purging hand code))) = IsEnding deck run code
+IsInitiatorAt deck (At (InJob run (EndingJob code counts))) = IsEnding deck run code
+IsInitiatorAt deck (At (InJob run (EndingForScheduler code counts))) = IsEnding deck run code
+IsInitiatorAt deck (At (InJob run (EndingForWriter code counts))) = IsEnding deck run code
 IsInitiatorAt deck p = Unit {0}
 
 -- ---- what it keeps
@@ -128,26 +127,10 @@ pub record InitiatorKept (i : ℕ) (requests : List StandingRequest) (kept : Kep
 
 abbrev pub InitiatorKeptAt : ℕ → Kept → Point InitiatorAt → Type 0
 InitiatorKeptAt i kept (At Opening) = kept ≡ nothing_kept (initiator i)
-InitiatorKeptAt i kept (At (Offering more before g)) = InitiatorKept i [] kept
-InitiatorKeptAt i kept (At (Pausing more before g)) = InitiatorKept i [] kept
-InitiatorKeptAt i kept (At (Resuming more before g)) = InitiatorKept i [] kept
-InitiatorKeptAt i kept (At (Obtaining run hand latch mode steps)) =
-    InitiatorKept i (standing_of (initiator i) run.job hand.holding) kept
-InitiatorKeptAt i kept (At (Confirming run hand latch mode id steps)) =
+InitiatorKeptAt i kept (At (InJob run (Confirming hand latch mode id steps))) =
     InitiatorKept i (standing_of (initiator i) run.job (hand_with hand latch mode id).holding) kept
-InitiatorKeptAt i kept (At (Freeing run hand latch id steps)) = InitiatorKept i (standing_of (initiator i) run.job hand.holding) kept
-InitiatorKeptAt i kept (At (Reading run hand volume amount steps)) =
-    InitiatorKept i (standing_of (initiator i) run.job hand.holding) kept
-InitiatorKeptAt i kept (At (Writing run hand volume amount number steps)) =
-    InitiatorKept i (standing_of (initiator i) run.job hand.holding) kept
-InitiatorKeptAt i kept (At (Scanning run hand volume steps)) = InitiatorKept i (standing_of (initiator i) run.job hand.holding) kept
-InitiatorKeptAt i kept (At (Rescanning run hand volume number steps)) =
-    InitiatorKept i (standing_of (initiator i) run.job hand.holding) kept
-InitiatorKeptAt i kept (At (Purging run hand code)) = InitiatorKept i (standing_of (initiator i) run.job hand.holding) kept
-InitiatorKeptAt i kept (At (EndingJob run code counts)) = InitiatorKept i [] kept
-InitiatorKeptAt i kept (At (EndingForScheduler run code counts)) = InitiatorKept i [] kept
-InitiatorKeptAt i kept (At (EndingForWriter run code counts)) = InitiatorKept i [] kept
-InitiatorKeptAt i kept (At (Closing g)) = InitiatorKept i [] kept
+InitiatorKeptAt i kept (At (InJob run w)) = InitiatorKept i (standing_of (initiator i) run.job (hand_at w).holding) kept
+InitiatorKeptAt i kept (At x) = InitiatorKept i [] kept
 InitiatorKeptAt i kept p = Unit {0}
 
 abbrev pub InitiatorStands : List JobData → ℕ → Kept → Point InitiatorAt → Type 0
@@ -184,13 +167,9 @@ named_is n code named e = first (nat_le 1 code && nat_le code n) refl e where
 
 pub own_end_left : (past steps : List Step) → AllByRecursion IsNoEnd past → own_end (past ++ steps) ≡ own_end steps
 own_end_left [] steps g = refl
-own_end_left (Print text ∷ past) steps g = own_end_left past steps g.1
-own_end_left (Use latch mode ∷ past) steps g = own_end_left past steps g.1
-own_end_left (Free latch ∷ past) steps g = own_end_left past steps g.1
-own_end_left (Count volume amount ∷ past) steps g = own_end_left past steps g.1
-own_end_left (Scan volume ∷ past) steps g = own_end_left past steps g.1
 own_end_left (Abend code ∷ past) steps g = absurd g.0
 own_end_left (Return code ∷ past) steps g = absurd g.0
+own_end_left (step ∷ past) steps g = own_end_left past steps g.1
 
 -- one step was done
 pub left_next : (deck : List JobData) (run : Running) (step : Step) (steps : List Step) → IsNoEnd step → AreLeft deck run (step ∷ steps)
@@ -382,17 +361,8 @@ round_next n more run e r = record {
 
 module _ (deck : List JobData) (i : ℕ) (sound : ArePlannedJobs 0 deck) (kept : Kept) where
   rounds_stand : (run : Running) → IsRunning (length deck) run → InitiatorKept i [] kept → InitiatorStands deck i kept (rounds_after run)
-  rounds_stand run r k = go run.more refl where
-    go : (m : ℕ) → run.more ≡ m → InitiatorStands deck i kept (rounds_from m (run.before ++ run.job ∷ []) run.generation)
-    go zero e = (tt, tt)
-    go (suc m) e = (round_next (length deck) m run e r, k)
-
-  freeing_stands : (run : Running) (hand : Hand) (latch : ℕ) (steps : List Step) (slot : Option ℕ) → hand.requests latch ≡ slot
-      → IsStepping deck run hand (Free latch ∷ steps)
-      → InitiatorKept i (standing_of (initiator i) run.job hand.holding) kept
-      → InitiatorStands deck i kept (freeing_at run hand latch slot steps)
-  freeing_stands run hand latch steps None e s k = (tt, tt)
-  freeing_stands run hand latch steps (Some id) e s k = ((s, e), k)
+  rounds_stand run r k = rounds_land (InitiatorStands deck i kept) (tt, tt) run.more (run.before ++ run.job ∷ []) run.generation
+      (λ m e. (round_next (length deck) m run e r, k))
 
   pub steps_stand : (run : Running) (hand : Hand) (steps : List Step) → IsStepping deck run hand steps
       → InitiatorKept i (standing_of (initiator i) run.job hand.holding) kept
@@ -405,12 +375,11 @@ module _ (deck : List JobData) (i : ℕ) (sound : ArePlannedJobs 0 deck) (kept :
         left = left_next deck run (Print text) steps tt s.left;
         sound = s.sound;
       }) k
-  steps_stand run hand (Use latch mode ∷ steps) s k = (s, k)
-  steps_stand run hand (Free latch ∷ steps) s k = freeing_stands run hand latch steps (hand.requests latch) refl s k
-  steps_stand run hand (Count volume amount ∷ steps) s k = (s, k)
-  steps_stand run hand (Scan volume ∷ steps) s k = (s, k)
+  steps_stand run hand (Free latch ∷ steps) s k =
+      freeing_lands (InitiatorStands deck i kept) (tt, tt) run hand latch (hand.requests latch) steps (λ id e. ((s, e), k))
   steps_stand run hand (Abend code ∷ steps) s k = (record { round = s.round; end = left_end deck run (Abend code ∷ steps) s.left }, k)
   steps_stand run hand (Return code ∷ steps) s k = (record { round = s.round; end = left_end deck run (Return code ∷ steps) s.left }, k)
+  steps_stand run hand (step ∷ steps) s k = (s, k)
 
   start_stands : (named : Named) (skipped : Bool) (before : List ℕ) (more g : ℕ) → named.skipped ≡ skipped → named.job < length deck
       → list_any (λ j. j == named.job) before ≡ false → IsRound (length deck) more before
@@ -430,37 +399,12 @@ module _ (deck : List JobData) (i : ℕ) (sound : ArePlannedJobs 0 deck) (kept :
         sound = job_sound named.job 0 deck sound lt;
       }) k
 
-  named_stands : (code more : ℕ) (before : List ℕ) (g : ℕ) (slot : Option Named) → job_named (length deck) code ≡ slot
-      → IsRound (length deck) more before → InitiatorKept i [] kept
-      → InitiatorStands deck i kept (named_at deck slot before more g)
-  named_stands code more before g None e round k = (tt, tt)
-  named_stands code zero before g (Some named) e round k = (tt, tt)
-  named_stands code (suc more) before g (Some named) e round k = go (list_any (λ j. j == named.job) before) refl where
-    go : (b : Bool) → list_any (λ j. j == named.job) before ≡ b
-        → InitiatorStands deck i kept (if b then Astray else job_start named.skipped (running named before (suc more) g)
-        (job_at deck named.job))
-    go true t = (tt, tt)
-    go false t = start_stands named named.skipped before (suc more) g refl (named_is (length deck) code named e).0 t round k
-
   given_stands : (more : ℕ) (before : List ℕ) (code g : ℕ) → IsRound (length deck) more before → InitiatorKept i [] kept
       → InitiatorStands deck i kept (given_at deck more before code g)
   given_stands more before code g round k =
-      elim (code == 0) as (λ b. InitiatorStands deck i kept
-      (if b then At (Closing g) else named_at deck (job_named (length deck) code) before more g)) [
-        | true ↦ (tt, k)
-        | false ↦ named_stands code more before g (job_named (length deck) code) refl round k
-      ]
-
-  counting_stands : (run : Running) (hand : Hand) (volume amount : ℕ) (steps : List Step) (number : ℕ)
-      → IsStepping deck run hand (Count volume amount ∷ steps)
-      → InitiatorKept i (standing_of (initiator i) run.job hand.holding) kept
-      → InitiatorStands deck i kept (counting_at run hand volume amount steps number)
-  counting_stands run hand volume amount steps number s k =
-      elim (nat_lt (number + amount) (2 ^ 32)) as
-      (λ b. InitiatorStands deck i kept (if b then At (Writing run hand volume amount number steps) else Astray)) [
-        | true ↦ (s, k)
-        | false ↦ (tt, tt)
-      ]
+      given_lands (InitiatorStands deck i kept) (tt, tt) deck more before code g (λ z. (tt, k))
+      (λ named left e t m. start_stands named named.skipped before (suc left) g refl (named_is (length deck) code named e).0 t
+      (subst (λ z. IsRound (length deck) z before) m round) k)
 
 -- what is kept of the requests changes by latch events alone
 pub obtained_stand : (deck : List JobData) (run : Running) (hand : Hand) (latch : ℕ) (mode : Mode) (id : ℕ) (steps : List Step)
@@ -525,16 +469,11 @@ freed_kept i kept run hand latch id h e k same fewer = record {
 pub initiator_stands : (deck : List JobData) (i : ℕ) (kept : Kept) (x : InitiatorAt) (r : Reply) → ArePlannedJobs 0 deck
     → InitiatorStands deck i kept (At x)
     → InitiatorStands deck i (keeps kept (initiator_asks (length deck) i x) r) (initiator_goes deck x r)
-initiator_stands deck i kept Opening (reply_of.Element (element_reply.Opened g)) sound s = go (length deck + 1) (omega arith) where
-  go : (m : ℕ) → m ≡ suc (length deck)
-      → InitiatorStands deck i (keeps kept (initiator_asks (length deck) i Opening) (reply_of.Element (element_reply.Opened g)))
-      (rounds_from m [] g)
-  go zero e = (tt, tt)
-  go (suc m) e = (
-    record { count = omega arith; below = tt; distinct = tt },
-    record { caller = ap (λ k. k.caller) s.1; stand = ap (λ k. k.requests) s.1 },
-  )
-initiator_stands deck i kept Opening r sound s = (tt, tt)
+initiator_stands deck i kept Opening (reply_of.Element (element_reply.Opened g)) sound s =
+    rounds_land (InitiatorStands deck i _) (tt, tt) (length deck + 1) [] g (λ left e. (
+      record { count = omega arith; below = tt; distinct = tt },
+      record { caller = ap (λ k. k.caller) s.1; stand = ap (λ k. k.requests) s.1 },
+    ))
 initiator_stands deck i kept (Offering more before g) r sound s =
     on_posted_keeps (InitiatorStands deck i (keeps kept (initiator_asks (length deck) i (Offering more before g)) r))
     (At (Pausing more before g)) r (s.0, record { caller = s.1.caller; stand = s.1.stand }) (tt, tt)
@@ -542,30 +481,24 @@ initiator_stands deck i kept (Pausing more before g) (reply_of.Element (element_
     given_stands deck i sound _ more before code now s.0 (record { caller = s.1.caller; stand = s.1.stand })
 initiator_stands deck i kept (Pausing more before g) (reply_of.Element element_reply.Parked) sound s =
     (s.0, record { caller = s.1.caller; stand = s.1.stand })
-initiator_stands deck i kept (Pausing more before g) r sound s = (tt, tt)
 initiator_stands deck i kept (Resuming more before g) (reply_of.Element (element_reply.Given code now)) sound s =
     given_stands deck i sound _ more before code now s.0 (record { caller = s.1.caller; stand = s.1.stand })
-initiator_stands deck i kept (Resuming more before g) (reply_of.Element element_reply.NotYet) sound s = (tt, tt)
-initiator_stands deck i kept (Resuming more before g) r sound s = (tt, tt)
-initiator_stands deck i kept (Obtaining run hand latch mode steps) (reply_of.Latch (latch_reply.Granted id)) sound s =
+initiator_stands deck i kept (InJob run (Obtaining hand latch mode steps)) (reply_of.Latch (latch_reply.Granted id)) sound s =
     steps_stand deck i sound _ run (hand_with hand latch mode id) steps (obtained_stand deck run hand latch mode id steps s.0)
     (pushed_kept i kept run hand latch mode id s.1 refl refl)
-initiator_stands deck i kept (Obtaining run hand latch mode steps) (reply_of.Latch (latch_reply.Queued id)) sound s =
+initiator_stands deck i kept (InJob run (Obtaining hand latch mode steps)) (reply_of.Latch (latch_reply.Queued id)) sound s =
     (s.0, pushed_kept i kept run hand latch mode id s.1 refl refl)
-initiator_stands deck i kept (Obtaining run hand latch mode steps) r sound s = (tt, tt)
-initiator_stands deck i kept (Confirming run hand latch mode id steps) (reply_of.Latch (latch_reply.Granted same)) sound s =
+initiator_stands deck i kept (InJob run (Confirming hand latch mode id steps)) (reply_of.Latch (latch_reply.Granted same)) sound s =
     steps_stand deck i sound _ run (hand_with hand latch mode id) steps (obtained_stand deck run hand latch mode id steps s.0)
     (record { caller = s.1.caller; stand = s.1.stand })
-initiator_stands deck i kept (Confirming run hand latch mode id steps) (reply_of.Latch latch_reply.Waiting) sound s = (tt, tt)
-initiator_stands deck i kept (Confirming run hand latch mode id steps) r sound s = (tt, tt)
-initiator_stands deck i kept (Freeing run hand latch id steps) (reply_of.Latch (latch_reply.Released granted)) sound s =
+initiator_stands deck i kept (InJob run (Confirming hand latch mode id steps)) (reply_of.Latch latch_reply.Waiting) sound s = (tt, tt)
+initiator_stands deck i kept (InJob run (Freeing hand latch id steps)) (reply_of.Latch (latch_reply.Released granted)) sound s =
     steps_stand deck i sound _ run (hand_without hand latch) steps (freed_stand deck run hand latch steps s.0.0)
     (freed_kept i kept run hand latch id s.0.0.holds s.0.1 s.1 refl refl)
-initiator_stands deck i kept (Freeing run hand latch id steps) r sound s = (tt, tt)
-initiator_stands deck i kept (Reading run hand volume amount steps) (reply_of.Volume (volume_reply.Value number)) sound s =
-    counting_stands deck i sound _ run hand volume amount steps number s.0 (record { caller = s.1.caller; stand = s.1.stand })
-initiator_stands deck i kept (Reading run hand volume amount steps) r sound s = (tt, tt)
-initiator_stands deck i kept (Writing run hand volume amount number steps) (reply_of.Volume volume_reply.Stored) sound s =
+initiator_stands deck i kept (InJob run (Reading hand volume amount steps)) (reply_of.Volume (volume_reply.Value number)) sound s =
+    counting_lands (InitiatorStands deck i _) (tt, tt) run hand volume amount steps number
+    (s.0, record { caller = s.1.caller; stand = s.1.stand })
+initiator_stands deck i kept (InJob run (Writing hand volume amount number steps)) (reply_of.Volume volume_reply.Stored) sound s =
     steps_stand deck i sound _ run hand steps
     (record {
       round = s.0.round;
@@ -573,16 +506,13 @@ initiator_stands deck i kept (Writing run hand volume amount number steps) (repl
       left = left_next deck run (Count volume amount) steps tt s.0.left;
       sound = s.0.sound.4;
     }) (record { caller = s.1.caller; stand = s.1.stand })
-initiator_stands deck i kept (Writing run hand volume amount number steps) r sound s = (tt, tt)
-initiator_stands deck i kept (Scanning run hand volume steps) (reply_of.Volume (volume_reply.Value number)) sound s =
+initiator_stands deck i kept (InJob run (Scanning hand volume steps)) (reply_of.Volume (volume_reply.Value number)) sound s =
     (s.0, record { caller = s.1.caller; stand = s.1.stand })
-initiator_stands deck i kept (Scanning run hand volume steps) r sound s = (tt, tt)
-initiator_stands deck i kept (Rescanning run hand volume number steps) (reply_of.Volume (volume_reply.Value again)) sound s =
+initiator_stands deck i kept (InJob run (Rescanning hand volume number steps)) (reply_of.Volume (volume_reply.Value again)) sound s =
     steps_stand deck i sound _ run hand steps
     (record { round = s.0.round; holds = s.0.holds; left = left_next deck run (Scan volume) steps tt s.0.left; sound = s.0.sound.2 })
     (record { caller = s.1.caller; stand = s.1.stand })
-initiator_stands deck i kept (Rescanning run hand volume number steps) r sound s = (tt, tt)
-initiator_stands deck i kept (Purging run hand code) (reply_of.Latch (latch_reply.Purged removed granted)) sound s = (
+initiator_stands deck i kept (InJob run (Purging hand code)) (reply_of.Latch (latch_reply.Purged removed granted)) sound s = (
   s.0,
   record {
     caller = s.1.caller;
@@ -590,21 +520,15 @@ initiator_stands deck i kept (Purging run hand code) (reply_of.Latch (latch_repl
         ∙ standing_purged (initiator i) run.job hand.holding;
   },
 )
-initiator_stands deck i kept (Purging run hand code) r sound s = (tt, tt)
-initiator_stands deck i kept (EndingJob run code counts) (reply_of.Ecb (ecb_reply.Woke (suc x))) sound s =
-    (s.0, record { caller = s.1.caller; stand = s.1.stand })
-initiator_stands deck i kept (EndingJob run code counts) (reply_of.Ecb (ecb_reply.Woke zero)) sound s =
-    rounds_stand deck i sound _ run s.0.round (record { caller = s.1.caller; stand = s.1.stand })
-initiator_stands deck i kept (EndingJob run code counts) (reply_of.Ecb ecb_reply.Posted) sound s =
-    rounds_stand deck i sound _ run s.0.round (record { caller = s.1.caller; stand = s.1.stand })
-initiator_stands deck i kept (EndingJob run code counts) (reply_of.Ecb (ecb_reply.Already old)) sound s =
-    rounds_stand deck i sound _ run s.0.round (record { caller = s.1.caller; stand = s.1.stand })
-initiator_stands deck i kept (EndingJob run code counts) r sound s = (tt, tt)
-initiator_stands deck i kept (EndingForScheduler run code counts) r sound s =
-    on_posted_keeps (InitiatorStands deck i (keeps kept (initiator_asks (length deck) i (EndingForScheduler run code counts)) r))
-    (At (EndingForWriter run code counts)) r (s.0, record { caller = s.1.caller; stand = s.1.stand }) (tt, tt)
-initiator_stands deck i kept (EndingForWriter run code counts) r sound s =
-    on_posted_keeps (InitiatorStands deck i (keeps kept (initiator_asks (length deck) i (EndingForWriter run code counts)) r))
+initiator_stands deck i kept (InJob run (EndingJob code counts)) r sound s =
+    ended_lands (InitiatorStands deck i (keeps kept (initiator_asks (length deck) i (InJob run (EndingJob code counts))) r)) (tt, tt)
+    run code counts r (s.0, record { caller = s.1.caller; stand = s.1.stand })
+    (rounds_stand deck i sound _ run s.0.round (record { caller = s.1.caller; stand = s.1.stand }))
+initiator_stands deck i kept (InJob run (EndingForScheduler code counts)) r sound s =
+    on_posted_keeps (InitiatorStands deck i (keeps kept (initiator_asks (length deck) i (InJob run (EndingForScheduler code counts))) r))
+    (At (InJob run (EndingForWriter code counts))) r (s.0, record { caller = s.1.caller; stand = s.1.stand }) (tt, tt)
+initiator_stands deck i kept (InJob run (EndingForWriter code counts)) r sound s =
+    on_posted_keeps (InitiatorStands deck i (keeps kept (initiator_asks (length deck) i (InJob run (EndingForWriter code counts))) r))
     (rounds_after run) r (rounds_stand deck i sound _ run s.0.round (record { caller = s.1.caller; stand = s.1.stand })) (tt, tt)
 initiator_stands deck i kept (Closing g) (reply_of.Element element_reply.Closed) sound s = (tt, tt)
-initiator_stands deck i kept (Closing g) r sound s = (tt, tt)
+initiator_stands deck i kept x r sound s = (tt, tt)

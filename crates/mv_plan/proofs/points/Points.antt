@@ -3,6 +3,21 @@
 use Rattle.std.proofs.Common.{ℕ, zero, suc, ◌+◌, ◌==◌, nat_le, nat_lt, Bool, true, false, not, List, [], ◌∷◌, ◌++◌, length, map, filter}
 use Rattle.std.proofs.Common.{Option, Some, None, if◌then◌else◌, ◌^◌}
 use Rattle.std.specs.List.{list_any, range_with_len}
+use Rattle.mv_latch.specs.declared.request.Mode.{Mode}
+use Rattle.mv_machine.specs.declared.entry.Object.{Object}
+use Rattle.mv_machine.specs.declared.entry.Object.TheVariants.{Ecb, Element, Volume, Latches}
+use Rattle.mv_machine.specs.declared.entry.Op.{Op}
+use Rattle.mv_machine.specs.declared.entry.Reply.{Reply}
+use Rattle.mv_machine.specs.System.{with_at}
+use Rattle.mv_deck.specs.Deck.{JobData}
+use Rattle.mv_deck.specs.declared.deck.Step.{Step}
+use Rattle.mv_deck.specs.declared.deck.Step.TheVariants.{Print, Use, Count, Scan, Abend, Return, Free}
+use Rattle.mv_plan.specs.Jobs.{job_at}
+use Rattle.mv_deck.specs.EndCode.{not_run}
+use Rattle.mv_calls.specs.LatchCalls.{Counts}
+use Rattle.mv_plan.specs.SpoolSetup.{entered, end_for_scheduler, end_for_writer, idle, initiator, done}
+use Rattle.mv_plan.specs.SpoolTasks.{Named, job_named, code_of, some_end_above, ends_of}
+use Rattle.mv_calls.specs.Waits.{complete_count}
 use Rattle.mv_ecb.specs.declared.operation.EcbOp.TheVariants as ecb_op
 use Rattle.mv_ecb.specs.declared.operation.EcbReply.TheVariants as ecb_reply
 use Rattle.mv_element.specs.declared.operation.ElementOp.TheVariants as element_op
@@ -10,25 +25,10 @@ use Rattle.mv_element.specs.declared.operation.ElementReply.TheVariants as eleme
 use Rattle.mv_latch.specs.declared.operation.LatchOp.TheVariants as latch_op
 use Rattle.mv_latch.specs.declared.operation.LatchReply.TheVariants as latch_reply
 use Rattle.mv_latch.specs.declared.request.LatchForm.TheVariants as form_of
-use Rattle.mv_latch.specs.declared.request.Mode.{Mode}
-use Rattle.mv_machine.specs.declared.entry.Object.{Object}
-use Rattle.mv_machine.specs.declared.entry.Object.TheVariants.{Ecb, Element, Volume, Latches}
-use Rattle.mv_machine.specs.declared.entry.Op.{Op}
 use Rattle.mv_machine.specs.declared.entry.Op.TheVariants as op_on
-use Rattle.mv_machine.specs.declared.entry.Reply.{Reply}
 use Rattle.mv_machine.specs.declared.entry.Reply.TheVariants as reply_of
 use Rattle.mv_machine.specs.declared.entry.VolumeOp.TheVariants as volume_op
 use Rattle.mv_machine.specs.declared.entry.VolumeReply.TheVariants as volume_reply
-use Rattle.mv_machine.specs.System.{with_at}
-use Rattle.mv_deck.specs.Deck.{JobData}
-use Rattle.mv_deck.specs.declared.deck.Step.{Step}
-use Rattle.mv_deck.specs.declared.deck.Step.TheVariants.{Print, Use, Free, Count, Scan, Abend, Return}
-use Rattle.mv_plan.specs.Jobs.{job_at}
-use Rattle.mv_deck.specs.EndCode.{not_run}
-use Rattle.mv_calls.specs.LatchCalls.{Counts}
-use Rattle.mv_plan.specs.SpoolSetup.{entered, done, end_for_scheduler, end_for_writer, idle, initiator}
-use Rattle.mv_plan.specs.SpoolTasks.{Named, job_named, code_of, some_end_above, ends_of}
-use Rattle.mv_calls.specs.Waits.{complete_count}
 
 -- a task is at a point of its program, or that has ended: with its answer, too soon, or by a reply that nothing foresees
 pub data Point (X : Type 0) : Type 0 where
@@ -253,25 +253,41 @@ without_latch latch hs = filter (λ g. not (g.latch == latch)) hs
 abbrev pub hand_without : Hand → ℕ → Hand
 hand_without hand latch = record { requests = hand.requests; holding = without_latch latch hand.holding }
 
+-- in a job
+pub data JobAt : Type 0 where
+  -- its steps, with those that follow
+  Obtaining : (hand : Hand) (latch : ℕ) (mode : Mode) (steps : List Step) → JobAt
+  Confirming : (hand : Hand) (latch : ℕ) (mode : Mode) (id : ℕ) (steps : List Step) → JobAt
+  Freeing : (hand : Hand) (latch id : ℕ) (steps : List Step) → JobAt
+  Reading : (hand : Hand) (volume amount : ℕ) (steps : List Step) → JobAt
+  Writing : (hand : Hand) (volume amount number : ℕ) (steps : List Step) → JobAt
+  Scanning : (hand : Hand) (volume : ℕ) (steps : List Step) → JobAt
+  Rescanning : (hand : Hand) (volume number : ℕ) (steps : List Step) → JobAt
+  -- its end with its code: the purge, the post of a done block, and the posts of its exit
+  Purging : (hand : Hand) (code : ℕ) → JobAt
+  EndingJob : (code : ℕ) (counts : Counts) → JobAt
+  EndingForScheduler : (code : ℕ) (counts : Counts) → JobAt
+  EndingForWriter : (code : ℕ) (counts : Counts) → JobAt
+
+-- what it has in hand there
+abbrev pub hand_at : JobAt → Hand
+hand_at (Obtaining hand latch mode steps) = hand
+hand_at (Confirming hand latch mode id steps) = hand
+hand_at (Freeing hand latch id steps) = hand
+hand_at (Reading hand volume amount steps) = hand
+hand_at (Writing hand volume amount number steps) = hand
+hand_at (Scanning hand volume steps) = hand
+hand_at (Rescanning hand volume number steps) = hand
+hand_at (Purging hand code) = hand
+hand_at w = empty_hand
+
 pub data InitiatorAt : Type 0 where
   Opening : InitiatorAt
   -- a round: so many rounds are left after it, these jobs were named before, and the element has generation g
   Offering : (more : ℕ) (before : List ℕ) (g : ℕ) → InitiatorAt
   Pausing : (more : ℕ) (before : List ℕ) (g : ℕ) → InitiatorAt
   Resuming : (more : ℕ) (before : List ℕ) (g : ℕ) → InitiatorAt
-  -- the steps of a job, with those that follow
-  Obtaining : (run : Running) (hand : Hand) (latch : ℕ) (mode : Mode) (steps : List Step) → InitiatorAt
-  Confirming : (run : Running) (hand : Hand) (latch : ℕ) (mode : Mode) (id : ℕ) (steps : List Step) → InitiatorAt
-  Freeing : (run : Running) (hand : Hand) (latch id : ℕ) (steps : List Step) → InitiatorAt
-  Reading : (run : Running) (hand : Hand) (volume amount : ℕ) (steps : List Step) → InitiatorAt
-  Writing : (run : Running) (hand : Hand) (volume amount number : ℕ) (steps : List Step) → InitiatorAt
-  Scanning : (run : Running) (hand : Hand) (volume : ℕ) (steps : List Step) → InitiatorAt
-  Rescanning : (run : Running) (hand : Hand) (volume number : ℕ) (steps : List Step) → InitiatorAt
-  -- the job's end with its code: the purge, the post of a done block, and the posts of its exit
-  Purging : (run : Running) (hand : Hand) (code : ℕ) → InitiatorAt
-  EndingJob : (run : Running) (code : ℕ) (counts : Counts) → InitiatorAt
-  EndingForScheduler : (run : Running) (code : ℕ) (counts : Counts) → InitiatorAt
-  EndingForWriter : (run : Running) (code : ℕ) (counts : Counts) → InitiatorAt
+  InJob : (run : Running) (w : JobAt) → InitiatorAt
   Closing : (g : ℕ) → InitiatorAt
 
 -- initiator i, where there are n jobs
@@ -280,18 +296,18 @@ initiator_asks n i Opening = (Element (initiator i), op_on.Element element_op.Op
 initiator_asks n i (Offering more before g) = (Ecb (idle n i), op_on.Ecb (ecb_op.Post g))
 initiator_asks n i (Pausing more before g) = (Element (initiator i), op_on.Element (element_op.Pause g))
 initiator_asks n i (Resuming more before g) = (Element (initiator i), op_on.Element (element_op.Resume g))
-initiator_asks n i (Obtaining run hand latch mode steps) =
+initiator_asks n i (InJob run (Obtaining hand latch mode steps)) =
     (Latches, op_on.Latch (latch_op.Obtain latch (run.job + 1) mode form_of.Waiting))
-initiator_asks n i (Confirming run hand latch mode id steps) = (Latches, op_on.Latch (latch_op.Confirm latch id))
-initiator_asks n i (Freeing run hand latch id steps) = (Latches, op_on.Latch (latch_op.Release latch id false))
-initiator_asks n i (Reading run hand volume amount steps) = (Volume volume, op_on.Volume volume_op.Read)
-initiator_asks n i (Writing run hand volume amount number steps) = (Volume volume, op_on.Volume (volume_op.Write (number + amount)))
-initiator_asks n i (Scanning run hand volume steps) = (Volume volume, op_on.Volume volume_op.Read)
-initiator_asks n i (Rescanning run hand volume number steps) = (Volume volume, op_on.Volume volume_op.Read)
-initiator_asks n i (Purging run hand code) = (Latches, op_on.Latch (latch_op.Purge (run.job + 1)))
-initiator_asks n i (EndingJob run code counts) = (Ecb (done n run.job), op_on.Ecb (ecb_op.Post code))
-initiator_asks n i (EndingForScheduler run code counts) = (Ecb (end_for_scheduler n run.job), op_on.Ecb (ecb_op.Post code))
-initiator_asks n i (EndingForWriter run code counts) = (Ecb (end_for_writer n run.job), op_on.Ecb (ecb_op.Post code))
+initiator_asks n i (InJob run (Confirming hand latch mode id steps)) = (Latches, op_on.Latch (latch_op.Confirm latch id))
+initiator_asks n i (InJob run (Freeing hand latch id steps)) = (Latches, op_on.Latch (latch_op.Release latch id false))
+initiator_asks n i (InJob run (Reading hand volume amount steps)) = (Volume volume, op_on.Volume volume_op.Read)
+initiator_asks n i (InJob run (Writing hand volume amount number steps)) = (Volume volume, op_on.Volume (volume_op.Write (number + amount)))
+initiator_asks n i (InJob run (Scanning hand volume steps)) = (Volume volume, op_on.Volume volume_op.Read)
+initiator_asks n i (InJob run (Rescanning hand volume number steps)) = (Volume volume, op_on.Volume volume_op.Read)
+initiator_asks n i (InJob run (Purging hand code)) = (Latches, op_on.Latch (latch_op.Purge (run.job + 1)))
+initiator_asks n i (InJob run (EndingJob code counts)) = (Ecb (done n run.job), op_on.Ecb (ecb_op.Post code))
+initiator_asks n i (InJob run (EndingForScheduler code counts)) = (Ecb (end_for_scheduler n run.job), op_on.Ecb (ecb_op.Post code))
+initiator_asks n i (InJob run (EndingForWriter code counts)) = (Ecb (end_for_writer n run.job), op_on.Ecb (ecb_op.Post code))
 initiator_asks n i (Closing g) = (Element (initiator i), op_on.Element (element_op.Close g))
 
 -- so many rounds are left
@@ -304,24 +320,24 @@ rounds_after run = rounds_from run.more (run.before ++ run.job ∷ []) run.gener
 
 abbrev pub freeing_at : Running → Hand → ℕ → Option ℕ → List Step → Point InitiatorAt
 freeing_at run hand latch None steps = Astray
-freeing_at run hand latch (Some id) steps = At (Freeing run hand latch id steps)
+freeing_at run hand latch (Some id) steps = At (InJob run (Freeing hand latch id steps))
 
 -- a job's steps
 abbrev pub steps_at : Running → Hand → List Step → Point InitiatorAt
-steps_at run hand [] = At (Purging run hand 0)
+steps_at run hand [] = At (InJob run (Purging hand 0))
 steps_at run hand (Print text ∷ steps) = steps_at run hand steps
-steps_at run hand (Use latch mode ∷ steps) = At (Obtaining run hand latch mode steps)
+steps_at run hand (Use latch mode ∷ steps) = At (InJob run (Obtaining hand latch mode steps))
 steps_at run hand (Free latch ∷ steps) = freeing_at run hand latch (hand.requests latch) steps
-steps_at run hand (Count volume amount ∷ steps) = At (Reading run hand volume amount steps)
-steps_at run hand (Scan volume ∷ steps) = At (Scanning run hand volume steps)
-steps_at run hand (Abend code ∷ steps) = At (Purging run hand code)
-steps_at run hand (Return code ∷ steps) = At (Purging run hand code)
+steps_at run hand (Count volume amount ∷ steps) = At (InJob run (Reading hand volume amount steps))
+steps_at run hand (Scan volume ∷ steps) = At (InJob run (Scanning hand volume steps))
+steps_at run hand (Abend code ∷ steps) = At (InJob run (Purging hand code))
+steps_at run hand (Return code ∷ steps) = At (InJob run (Purging hand code))
 
 abbrev pub running : Named → List ℕ → ℕ → ℕ → Running
 running named before more g = record { job = named.job; skipped = named.skipped; before = before; more = more; generation = g }
 
 abbrev pub job_start : Bool → Running → JobData → Point InitiatorAt
-job_start true run job = At (Purging run empty_hand not_run)
+job_start true run job = At (InJob run (Purging empty_hand not_run))
 job_start false run job = steps_at run empty_hand job.steps
 
 abbrev pub named_at : List JobData → Option Named → List ℕ → ℕ → ℕ → Point InitiatorAt
@@ -351,7 +367,7 @@ on_resumed deck more before r = Astray
 
 abbrev pub on_obtained : Running → Hand → ℕ → Mode → List Step → Reply → Point InitiatorAt
 on_obtained run hand latch mode steps (reply_of.Latch (latch_reply.Granted id)) = steps_at run (hand_with hand latch mode id) steps
-on_obtained run hand latch mode steps (reply_of.Latch (latch_reply.Queued id)) = At (Confirming run hand latch mode id steps)
+on_obtained run hand latch mode steps (reply_of.Latch (latch_reply.Queued id)) = At (InJob run (Confirming hand latch mode id steps))
 on_obtained run hand latch mode steps r = Astray
 
 abbrev pub on_confirmed : Running → Hand → ℕ → Mode → ℕ → List Step → Reply → Point InitiatorAt
@@ -370,7 +386,7 @@ on_value f r = Astray
 
 abbrev pub counting_at : Running → Hand → ℕ → ℕ → List Step → ℕ → Point InitiatorAt
 counting_at run hand volume amount steps number =
-    if nat_lt (number + amount) (2 ^ 32) then At (Writing run hand volume amount number steps) else Astray
+    if nat_lt (number + amount) (2 ^ 32) then At (InJob run (Writing hand volume amount number steps)) else Astray
 
 abbrev pub on_stored : Point InitiatorAt → Reply → Point InitiatorAt
 on_stored p (reply_of.Volume volume_reply.Stored) = p
@@ -378,12 +394,12 @@ on_stored p r = Astray
 
 abbrev pub on_purged : Running → ℕ → Reply → Point InitiatorAt
 on_purged run code (reply_of.Latch (latch_reply.Purged removed granted)) =
-    At (EndingJob run code (record { removed = removed; granted = granted }))
+    At (InJob run (EndingJob code (record { removed = removed; granted = granted })))
 on_purged run code r = Astray
 
 -- the post of a done block that starts its exit is followed by those of the exit
 abbrev pub on_ended : Running → ℕ → Counts → Reply → Point InitiatorAt
-on_ended run code counts (reply_of.Ecb (ecb_reply.Woke (suc x))) = At (EndingForScheduler run code counts)
+on_ended run code counts (reply_of.Ecb (ecb_reply.Woke (suc x))) = At (InJob run (EndingForScheduler code counts))
 on_ended run code counts r = on_posted (rounds_after run) r
 
 abbrev pub on_closed : Reply → Point InitiatorAt
@@ -395,15 +411,15 @@ initiator_goes deck Opening r = on_opened r (length deck)
 initiator_goes deck (Offering more before g) r = on_posted (At (Pausing more before g)) r
 initiator_goes deck (Pausing more before g) r = on_paused deck more before g r
 initiator_goes deck (Resuming more before g) r = on_resumed deck more before r
-initiator_goes deck (Obtaining run hand latch mode steps) r = on_obtained run hand latch mode steps r
-initiator_goes deck (Confirming run hand latch mode id steps) r = on_confirmed run hand latch mode id steps r
-initiator_goes deck (Freeing run hand latch id steps) r = on_freed run hand latch steps r
-initiator_goes deck (Reading run hand volume amount steps) r = on_value (counting_at run hand volume amount steps) r
-initiator_goes deck (Writing run hand volume amount number steps) r = on_stored (steps_at run hand steps) r
-initiator_goes deck (Scanning run hand volume steps) r = on_value (λ number. At (Rescanning run hand volume number steps)) r
-initiator_goes deck (Rescanning run hand volume number steps) r = on_value (λ again. steps_at run hand steps) r
-initiator_goes deck (Purging run hand code) r = on_purged run code r
-initiator_goes deck (EndingJob run code counts) r = on_ended run code counts r
-initiator_goes deck (EndingForScheduler run code counts) r = on_posted (At (EndingForWriter run code counts)) r
-initiator_goes deck (EndingForWriter run code counts) r = on_posted (rounds_after run) r
+initiator_goes deck (InJob run (Obtaining hand latch mode steps)) r = on_obtained run hand latch mode steps r
+initiator_goes deck (InJob run (Confirming hand latch mode id steps)) r = on_confirmed run hand latch mode id steps r
+initiator_goes deck (InJob run (Freeing hand latch id steps)) r = on_freed run hand latch steps r
+initiator_goes deck (InJob run (Reading hand volume amount steps)) r = on_value (counting_at run hand volume amount steps) r
+initiator_goes deck (InJob run (Writing hand volume amount number steps)) r = on_stored (steps_at run hand steps) r
+initiator_goes deck (InJob run (Scanning hand volume steps)) r = on_value (λ number. At (InJob run (Rescanning hand volume number steps))) r
+initiator_goes deck (InJob run (Rescanning hand volume number steps)) r = on_value (λ again. steps_at run hand steps) r
+initiator_goes deck (InJob run (Purging hand code)) r = on_purged run code r
+initiator_goes deck (InJob run (EndingJob code counts)) r = on_ended run code counts r
+initiator_goes deck (InJob run (EndingForScheduler code counts)) r = on_posted (At (InJob run (EndingForWriter code counts))) r
+initiator_goes deck (InJob run (EndingForWriter code counts)) r = on_posted (rounds_after run) r
 initiator_goes deck (Closing g) r = on_closed r

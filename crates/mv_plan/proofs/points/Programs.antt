@@ -2,36 +2,35 @@
 -- specs/SpoolTasks hang together.
 use Rattle.std.proofs.Common.{ℕ, suc, ◌+◌, ◌-◌, List, [], ◌∷◌, ◌++◌, length, map, false, Option, Some, Result, Ok, ◌==◌, if◌then◌else◌}
 use Rattle.std.specs.List.{range_with_len}
-use Rattle.mv_ecb.specs.declared.operation.EcbOp.TheVariants as ecb_op
-use Rattle.mv_element.specs.declared.operation.ElementOp.TheVariants as element_op
-use Rattle.mv_latch.specs.declared.operation.LatchOp.TheVariants as latch_op
-use Rattle.mv_latch.specs.declared.request.LatchForm.TheVariants as form_of
 use Rattle.mv_machine.specs.declared.entry.Object.TheVariants.{Ecb, Element, Volume, Latches}
-use Rattle.mv_machine.specs.declared.entry.Op.TheVariants as op_on
-use Rattle.mv_machine.specs.declared.entry.VolumeOp.TheVariants as volume_op
 use Rattle.mv_machine.specs.Setup.{Setup}
 use Rattle.mv_machine.specs.System.{with_at}
-use Rattle.mv_calls.specs.Endings.{end_of_job}
 use Rattle.mv_deck.specs.Deck.{JobData}
 use Rattle.mv_deck.specs.declared.deck.Step.{Step}
 use Rattle.mv_calls.specs.Keeping.{Kept}
 use Rattle.mv_calls.specs.LatchCalls.{Counts, obtained, confirmed, let_go, purged}
-use Rattle.mv_calls.specs.Pauses.{Gift, token_of, opened, paused, resumed, closed}
+use Rattle.mv_calls.specs.Pauses.{token_of, closed, release, deallocate, pause, Gift, opened, paused, resumed}
 use Rattle.mv_calls.specs.Posts.{Posting, Woke, post, post_within, each_posted, wake_posted}
-use Rattle.mv_calls.specs.Program.{Program, Do, Done, Early, Wrong, Call, and_then, going_on, unrefused, for_each, finished, on_ecb}
-use Rattle.mv_calls.specs.Program.{on_element, on_volume, on_latch}
+use Rattle.mv_calls.specs.Program.{Program, Do, Done, Early, Wrong, Call, and_then, going_on, unrefused, finished, on_ecb, on_element}
+use Rattle.mv_calls.specs.Program.{on_latch, followed, accepted, for_each, on_volume}
 use Rattle.mv_calls.specs.Refusal.{Refusal}
-use Rattle.mv_plan.specs.SpoolSetup.{entered, done, end_for_scheduler, end_for_writer, idle, initiator}
-use Rattle.mv_plan.specs.SpoolTasks.{lowest, some_end_above, ends_awaited, hand_over, code_of, dispatch_all, dismiss, granted_as, counted}
-use Rattle.mv_plan.specs.SpoolTasks.{run_steps, named_by, run_job, rounds, job_named, ends_kept, first_of}
-use Rattle.mv_calls.specs.Waits.{arm_all, settle_all, enough, the_word, extended, the_value, stored, extend, read_volume}
-use Rattle.mv_calls.specs.Pauses.{release, deallocate, pause}
-use Rattle.mv_calls.specs.Program.{followed, accepted}
+use Rattle.mv_plan.specs.SpoolSetup.{entered, end_for_scheduler, end_for_writer, idle, initiator, done}
+use Rattle.mv_plan.specs.SpoolTasks.{lowest, some_end_above, ends_awaited, hand_over, code_of, granted_as, named_by, run_job, rounds}
+use Rattle.mv_plan.specs.SpoolTasks.{job_named, first_of, dispatch_all, dismiss, counted, run_steps, ends_kept}
+use Rattle.mv_calls.specs.Waits.{arm_all, settle_all, enough, the_word, extended, extend, the_value, stored, read_volume}
+use Rattle.mv_ecb.specs.declared.operation.EcbOp.TheVariants as ecb_op
+use Rattle.mv_element.specs.declared.operation.ElementOp.TheVariants as element_op
+use Rattle.mv_latch.specs.declared.operation.LatchOp.TheVariants as latch_op
+use Rattle.mv_latch.specs.declared.request.LatchForm.TheVariants as form_of
+use Rattle.mv_machine.specs.declared.entry.Op.TheVariants as op_on
+use Rattle.mv_machine.specs.declared.entry.VolumeOp.TheVariants as volume_op
+use Rattle.mv_calls.specs.Endings.{end_of_job}
 use Rattle.mv_plan.proofs.points.Points.{Point, At, Finished, TooSoon, Astray, ReaderAt, Entering, WaitAt, Arming, Settling, Stage}
 use Rattle.mv_plan.proofs.points.Points.{Dispatching, Dismissing, Awaited, ForEntry, ForEnds, ForIdle, ToDismiss, SchedulerAt, Waits}
 use Rattle.mv_plan.proofs.points.Points.{Extends, Clears, Releases, awaited_blocks, awaited_count, WriterAt, Keeping, Running, Hand}
 use Rattle.mv_plan.proofs.points.Points.{InitiatorAt, Opening, Offering, Pausing, Resuming, Obtaining, Confirming, Freeing, Reading}
 use Rattle.mv_plan.proofs.points.Points.{Writing, Scanning, Rescanning, Purging, EndingJob, EndingForScheduler, EndingForWriter, Closing}
+use Rattle.mv_plan.proofs.points.Points.{InJob}
 
 -- a point's program, and those of programs that have ended
 abbrev pub program_at : {X : Type 0} → (X → Program (List ℕ)) → Point X → Program (List ℕ)
@@ -156,38 +155,38 @@ initiator_program c deck i kept (Pausing more before g) =
 initiator_program c deck i kept (Resuming more before g) =
     going_on kept (Do (Element (initiator i)) (op_on.Element (element_op.Resume g))
     (λ h. on_element h.entry.reply (resumed (initiator i)))) (unrefused (given_rest c deck i more before))
-initiator_program c deck i kept (Obtaining run hand latch mode steps) = stepping c deck i run kept (going_on kept
+initiator_program c deck i kept (InJob run (Obtaining hand latch mode steps)) = stepping c deck i run kept (going_on kept
     (Do Latches (op_on.Latch (latch_op.Obtain latch (run.job + 1) mode form_of.Waiting))
     (λ h. on_latch h.entry.reply (obtained latch form_of.Waiting)))
     (unrefused (granted_as (obtained_rest c run hand latch steps))))
-initiator_program c deck i kept (Confirming run hand latch mode id steps) = stepping c deck i run kept (going_on kept
+initiator_program c deck i kept (InJob run (Confirming hand latch mode id steps)) = stepping c deck i run kept (going_on kept
     (Do Latches (op_on.Latch (latch_op.Confirm latch id)) (λ h. on_latch h.entry.reply (confirmed id)))
     (unrefused (granted_as (obtained_rest c run hand latch steps))))
-initiator_program c deck i kept (Freeing run hand latch id steps) = stepping c deck i run kept (going_on kept
+initiator_program c deck i kept (InJob run (Freeing hand latch id steps)) = stepping c deck i run kept (going_on kept
     (Do Latches (op_on.Latch (latch_op.Release latch id false)) (λ h. on_latch h.entry.reply (let_go c false h.wakes kept)))
     (unrefused (λ granted. steps_rest c run hand steps)))
-initiator_program c deck i kept (Reading run hand volume amount steps) = stepping c deck i run kept (going_on kept
+initiator_program c deck i kept (InJob run (Reading hand volume amount steps)) = stepping c deck i run kept (going_on kept
     (Do (Volume volume) (op_on.Volume volume_op.Read) (λ h. on_volume h.entry.reply the_value))
     (counted volume amount (steps_rest c run hand steps)))
-initiator_program c deck i kept (Writing run hand volume amount number steps) = stepping c deck i run kept (going_on kept
+initiator_program c deck i kept (InJob run (Writing hand volume amount number steps)) = stepping c deck i run kept (going_on kept
     (Do (Volume volume) (op_on.Volume (volume_op.Write (number + amount))) (λ h. on_volume h.entry.reply stored))
     (λ stored. steps_rest c run hand steps))
-initiator_program c deck i kept (Scanning run hand volume steps) = stepping c deck i run kept (going_on kept
+initiator_program c deck i kept (InJob run (Scanning hand volume steps)) = stepping c deck i run kept (going_on kept
     (Do (Volume volume) (op_on.Volume volume_op.Read) (λ h. on_volume h.entry.reply the_value))
     (λ once. followed (read_volume volume) (λ again. steps_rest c run hand steps)))
-initiator_program c deck i kept (Rescanning run hand volume number steps) = stepping c deck i run kept (going_on kept
+initiator_program c deck i kept (InJob run (Rescanning hand volume number steps)) = stepping c deck i run kept (going_on kept
     (Do (Volume volume) (op_on.Volume volume_op.Read) (λ h. on_volume h.entry.reply the_value))
     (λ again. steps_rest c run hand steps))
-initiator_program c deck i kept (Purging run hand code) = ending c deck i run kept (and_then
+initiator_program c deck i kept (InJob run (Purging hand code)) = ending c deck i run kept (and_then
     (Do Latches (op_on.Latch (latch_op.Purge (run.job + 1))) (λ h. on_latch h.entry.reply (purged c h.wakes kept)))
     (λ counts. wake_posted c (Some (done (length deck) run.job)) code kept (Done counts)))
-initiator_program c deck i kept (EndingJob run code counts) =
+initiator_program c deck i kept (InJob run (EndingJob code counts)) =
     ending c deck i run kept (and_then (posting_now c (done (length deck) run.job) code) (λ p. Done counts))
-initiator_program c deck i kept (EndingForScheduler run code counts) = ending c deck i run kept (and_then (and_then
+initiator_program c deck i kept (InJob run (EndingForScheduler code counts)) = ending c deck i run kept (and_then (and_then
     (posting_next c code (end_for_scheduler (length deck) run.job))
     (λ p. each_posted (posting_next c code) (end_for_writer (length deck) run.job ∷ []) (Woke (run.job + 1))))
     (λ p. Done counts))
-initiator_program c deck i kept (EndingForWriter run code counts) = ending c deck i run kept (and_then (and_then
+initiator_program c deck i kept (InJob run (EndingForWriter code counts)) = ending c deck i run kept (and_then (and_then
     (posting_next c code (end_for_writer (length deck) run.job))
     (λ p. each_posted (posting_next c code) [] (Woke (run.job + 1))))
     (λ p. Done counts))

@@ -1,31 +1,31 @@
 -- The scheduler's program goes from point to point: at each it says the point's event, and a reply leads it on as it leads the
 -- point. Used by Following.
-use Rattle.std.proofs.Common.{◌≡◌, ℕ, zero, suc, ◌+◌, ◌<◌, ◌≤◌, Bool, false, List, [], ◌∷◌, ◌++◌, length, map, Option, Some, None, Ok}
-use Rattle.std.proofs.Common.{inl, inr, refl, sym, ap, ◌∙◌, subst, arith}
+use Rattle.std.proofs.Common.{◌≡◌, ℕ, zero, suc, ◌+◌, ◌<◌, ◌≤◌, Bool, false, List, [], ◌∷◌, ◌++◌, length, map, Option, Some, None, Ok, inl}
+use Rattle.std.proofs.Common.{inr, refl, sym, ap, ◌∙◌, subst, arith}
 use Rattle.std.specs.List.{AllByRecursion, range_with_len}
 use Rattle.std.proofs.lemmas.List.{length-append}
 use Rattle.std.proofs.lemmas.List.FromFn.{length-map-range_with_len}
-use Rattle.mv_ecb.specs.declared.operation.EcbOp.TheVariants as ecb_op
-use Rattle.mv_ecb.specs.declared.operation.EcbReply.TheVariants as ecb_reply
-use Rattle.mv_element.specs.declared.operation.ElementReply.TheVariants as element_reply
 use Rattle.mv_machine.specs.declared.entry.Object.TheVariants.{Ecb}
-use Rattle.mv_machine.specs.declared.entry.Op.TheVariants as op_on
 use Rattle.mv_machine.specs.declared.entry.Reply.{Reply}
-use Rattle.mv_machine.specs.declared.entry.Reply.TheVariants as reply_of
 use Rattle.mv_machine.specs.Setup.{Setup}
 use Rattle.mv_deck.specs.Deck.{JobData}
 use Rattle.mv_deck.specs.declared.deck.After.{After}
 use Rattle.mv_deck.specs.declared.deck.Step.{Step}
-use Rattle.mv_plan.proofs.deck.Plans.{IsPlannedJob, ArePlannedJobs}
 use Rattle.mv_calls.specs.Keeping.{Kept}
 use Rattle.mv_calls.specs.Pauses.{token_of, release, released}
 use Rattle.mv_calls.specs.Program.{Do, Done, Heard, asks, heard, going_on, unrefused, accepted, finished, unless_refused, on_ecb}
 use Rattle.mv_calls.specs.Program.{on_element}
-use Rattle.mv_calls.specs.Refusal as refusal
-use Rattle.mv_plan.specs.SpoolSetup.{entered, done, end_for_scheduler, idle, initiator}
+use Rattle.mv_plan.specs.SpoolSetup.{entered, end_for_scheduler, idle, initiator, done}
 use Rattle.mv_plan.specs.SpoolTasks.{code_of, ends_of, some_end_above, ends_awaited, first_of, hand_over}
-use Rattle.mv_calls.specs.Waits.{AreDistinct, wait, wait_refusal, extend, extended, the_word, refused_if, arm_all, settle_all}
-use Rattle.mv_calls.specs.Waits.{enough}
+use Rattle.mv_calls.specs.Waits.{AreDistinct, extend, extended, the_word, refused_if, arm_all, settle_all, enough, wait, wait_refusal}
+use Rattle.mv_calls.proofs.Unrefused.{wait_unrefused, IsFree, own_block, extend_unrefused}
+use Rattle.mv_ecb.specs.declared.operation.EcbOp.TheVariants as ecb_op
+use Rattle.mv_ecb.specs.declared.operation.EcbReply.TheVariants as ecb_reply
+use Rattle.mv_element.specs.declared.operation.ElementReply.TheVariants as element_reply
+use Rattle.mv_machine.specs.declared.entry.Op.TheVariants as op_on
+use Rattle.mv_machine.specs.declared.entry.Reply.TheVariants as reply_of
+use Rattle.mv_plan.proofs.deck.Plans.{IsPlannedJob, ArePlannedJobs}
+use Rattle.mv_calls.specs.Refusal as refusal
 use Rattle.mv_plan.proofs.points.Points.{At, Arming, Settling, Stage, Dispatching, Dismissing, Awaited, ForEntry, ForEnds, ForIdle}
 use Rattle.mv_plan.proofs.points.Points.{ToDismiss, SchedulerAt, Waits, Extends, Clears, Releases, awaited_blocks, awaited_count}
 use Rattle.mv_plan.proofs.points.Points.{scheduler_asks, scheduler_goes, arming_first, arming_from, settling_from, found_at, ends_at}
@@ -33,7 +33,6 @@ use Rattle.mv_plan.proofs.points.Points.{dismissing_from, stage_at}
 use Rattle.mv_plan.proofs.points.Programs.{program_at, dismissals, stage_call, staged, awaited_then, awaited_stage, scheduler_program}
 use Rattle.mv_plan.proofs.points.PostsAndWaits.{armed_goes, settled_goes, lowest_goes, enough_goes}
 use Rattle.mv_plan.proofs.points.ReaderAndWriter.{keeps}
-use Rattle.mv_calls.proofs.Unrefused.{IsFree, own_block, wait_unrefused, extend_unrefused}
 use Rattle.mv_plan.proofs.points.SchedulerSound.{IsRest, rest_count, rest_below, rest_sound, IsAwaited, IsStage, stage_extended}
 use Rattle.mv_plan.proofs.points.SchedulerSound.{awaited_extended, SchedulerKept, others_plain, SchedulerStands, extended_kept}
 use Rattle.mv_plan.proofs.deck.Setup.{Facts}
@@ -41,10 +40,7 @@ use Rattle.mv_plan.proofs.deck.Setup.{Facts}
 pub scheduler_says : (c : Setup) (n initiators : ℕ) (kept : Kept) (x : SchedulerAt)
     → asks (scheduler_program c n initiators kept x) ≡ Some (scheduler_asks n x)
 scheduler_says c n initiators kept (Waits a (Arming e todo)) = refl
-scheduler_says c n initiators kept (Waits a (Settling e todo found)) = refl
-scheduler_says c n initiators kept (Extends j job jobs skipped) = refl
-scheduler_says c n initiators kept (Clears i g code after) = refl
-scheduler_says c n initiators kept (Releases i g code after) = refl
+scheduler_says c n initiators kept x = refl
 
 -- the blocks with ends of different jobs are different
 ends_differ : (n : ℕ) (part : After) (parts : List After) → AllByRecursion (λ m. m ≡ part.job → ⊥) (map (λ p. p.job) parts)

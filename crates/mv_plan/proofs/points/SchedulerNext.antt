@@ -1,20 +1,20 @@
 -- Which points of the scheduler may follow one, as one lemma for any fact of points; and what follows: its errand stays but for
 -- a release, and the job that is next does not fall. Used by the ledger, the closings and the posts.
-use Rattle.std.proofs.Common.{◌≡◌, ℕ, zero, suc, ◌+◌, ◌<◌, ◌≤◌, nat_le, Bool, true, false, cond, List, [], ◌∷◌, ◌++◌, length, Option}
-use Rattle.std.proofs.Common.{refl, arith, ◌⊎◌, inl, inr, ap, ◌∙◌, ◌-◌}
-use Rattle.mv_ecb.specs.declared.operation.EcbReply.TheVariants as ecb_reply
-use Rattle.mv_element.specs.declared.operation.ElementReply.TheVariants as element_reply
+use Rattle.std.proofs.Common.{◌≡◌, ℕ, zero, suc, ◌+◌, ◌<◌, ◌≤◌, nat_le, Bool, true, false, cond, List, [], ◌∷◌, ◌++◌, length, Option, refl}
+use Rattle.std.proofs.Common.{arith, ◌⊎◌, inl, inr, ap, ◌∙◌, ◌-◌}
 use Rattle.mv_machine.specs.declared.entry.Reply.{Reply}
-use Rattle.mv_machine.specs.declared.entry.Reply.TheVariants as reply_of
 use Rattle.mv_deck.specs.Deck.{JobData}
 use Rattle.mv_deck.specs.declared.deck.After.{After}
 use Rattle.mv_deck.specs.declared.deck.Step.{Step}
 use Rattle.mv_plan.specs.SpoolTasks.{code_of, some_end_above}
 use Rattle.mv_calls.specs.Waits.{complete_count}
+use Rattle.mv_ecb.specs.declared.operation.EcbReply.TheVariants as ecb_reply
+use Rattle.mv_element.specs.declared.operation.ElementReply.TheVariants as element_reply
+use Rattle.mv_machine.specs.declared.entry.Reply.TheVariants as reply_of
 use Rattle.mv_plan.proofs.points.Points.{Point, At, TooSoon, Astray, WaitAt, Arming, Settling, Stage, Dispatching, Dismissing, Awaited}
 use Rattle.mv_plan.proofs.points.Points.{ForEntry, ForEnds, ForIdle, ToDismiss, SchedulerAt, Waits, Extends, Clears, Releases}
-use Rattle.mv_plan.proofs.points.Points.{awaited_blocks, awaited_count, scheduler_goes, arming_first, arming_from, settling_from}
-use Rattle.mv_plan.proofs.points.Points.{found_at, ends_at, dismissing_from, stage_at, Finished, on_released}
+use Rattle.mv_plan.proofs.points.Points.{awaited_blocks, awaited_count, scheduler_goes, arming_first, arming_from, settling_from, found_at}
+use Rattle.mv_plan.proofs.points.Points.{ends_at, dismissing_from, stage_at, on_released}
 use Rattle.mv_plan.proofs.points.PostsAndWaits.{on_armed_keeps, on_settled_keeps, lowest_keeps}
 use Rattle.mv_plan.proofs.points.SchedulerSound.{rest_below, rest_count, IsAwaited, IsStage, IsSchedulerAt}
 use Rattle.mv_plan.proofs.points.Views.{next_job, next_in, next_awaited, Errand, Dispatches, Dismisses, Rests, errand, next_of, IsNotLost}
@@ -54,9 +54,7 @@ module _ (n initiators : ℕ) (P : Point SchedulerAt → Type 0) where
 
   wait_next : (a : Awaited) (v w : WaitAt) → AllNext (Waits a v) → P (At (Waits a w))
   wait_next (ForEntry j job jobs) v w all = all.0 w
-  wait_next (ForEnds j job jobs) v w all = all.0 w
-  wait_next (ForIdle j job jobs skipped) v w all = all.0 w
-  wait_next (ToDismiss i more) v w all = all.0 w
+  wait_next a v w all = all.0 w
 
   settling_next : (a : Awaited) (v : WaitAt) (es : List ℕ) (found : List (Option ℕ)) → P Astray → P TooSoon → AllNext (Waits a v)
       → P (settling_from n a es found)
@@ -84,12 +82,10 @@ module _ (n initiators : ℕ) (P : Point SchedulerAt → Type 0) where
       (λ slot. settling_next a (Settling e todo found) todo (found ++ slot ∷ []) lost early all) lost
   goes_next (Extends j job jobs skipped) (reply_of.Ecb ecb_reply.Armed) lost early all =
       first_next (ForIdle j job jobs skipped) (awaited_blocks n initiators (ForIdle j job jobs skipped)) lost all
-  goes_next (Extends j job jobs skipped) r lost early all = lost
   goes_next (Clears i g code after) (reply_of.Ecb (ecb_reply.Word w)) lost early all = all
-  goes_next (Clears i g code after) r lost early all = lost
   goes_next (Releases i g code after) (reply_of.Element element_reply.Early) lost early all = all
   goes_next (Releases i g code after) (reply_of.Element element_reply.Woke) lost early all = all
-  goes_next (Releases i g code after) r lost early all = lost
+  goes_next x r lost early all = lost
 
 -- ---- the errand stays but for a release
 
@@ -229,6 +225,4 @@ next_grows deck initiators x r s =
 pub next_bound : (deck : List JobData) (initiators : ℕ) (p : Point SchedulerAt) → IsSchedulerAt deck initiators p
     → next_job (length deck) p ≤ length deck
 next_bound deck initiators (At x) s = next_below deck initiators x s
-next_bound deck initiators (Finished answer) s = omega arith
-next_bound deck initiators TooSoon s = omega arith
-next_bound deck initiators Astray s = omega arith
+next_bound deck initiators p s = omega arith

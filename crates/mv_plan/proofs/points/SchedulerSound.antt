@@ -3,26 +3,26 @@
 use Rattle.std.proofs.Common.{◌≡◌, ℕ, zero, suc, ◌+◌, ◌<◌, ◌≤◌, ◌==◌, nat_le, Bool, true, false, cond, if◌then◌else◌, List, [], ◌∷◌, ◌++◌}
 use Rattle.std.proofs.Common.{length, Option, Some, None, ◌⊎◌, inl, inr, refl, sym, ap, ◌∙◌, subst, append-nil, append_assoc, zero-add}
 use Rattle.std.proofs.Common.{arith}
-use Rattle.std.proofs.lemmas.Bool.{ne_eqb, cases_eq, false_from_ne_true, false≢true}
+use Rattle.std.proofs.lemmas.Bool.{ne_eqb, cases_eq, false≢true, false_from_ne_true}
 use Rattle.std.proofs.lemmas.List.{length-append}
 use Rattle.std.proofs.lemmas.List.FromFn.{length-map-range_with_len}
-use Rattle.mv_ecb.specs.declared.operation.EcbReply.TheVariants as ecb_reply
-use Rattle.mv_element.specs.declared.operation.ElementReply.TheVariants as element_reply
 use Rattle.mv_machine.specs.declared.entry.Reply.{Reply}
-use Rattle.mv_machine.specs.declared.entry.Reply.TheVariants as reply_of
 use Rattle.mv_machine.specs.System.{with_at}
 use Rattle.mv_deck.specs.Deck.{JobData}
 use Rattle.mv_deck.specs.declared.deck.After.{After}
 use Rattle.mv_deck.specs.declared.deck.Step.{Step}
-use Rattle.mv_plan.proofs.deck.Plans.{IsPlannedJob, ArePlannedJobs}
 use Rattle.mv_calls.specs.Keeping.{Kept}
-use Rattle.mv_plan.specs.SpoolSetup.{done, idle}
+use Rattle.mv_plan.specs.SpoolSetup.{idle, done}
 use Rattle.mv_plan.specs.SpoolTasks.{code_of}
 use Rattle.mv_calls.specs.Waits.{complete_count}
+use Rattle.mv_ecb.specs.declared.operation.EcbReply.TheVariants as ecb_reply
+use Rattle.mv_element.specs.declared.operation.ElementReply.TheVariants as element_reply
+use Rattle.mv_machine.specs.declared.entry.Reply.TheVariants as reply_of
+use Rattle.mv_plan.proofs.deck.Plans.{IsPlannedJob, ArePlannedJobs}
 use Rattle.mv_plan.proofs.points.Points.{Point, At, TooSoon, WaitAt, Arming, Settling, Stage, Dispatching, Dismissing, Awaited, ForEntry}
 use Rattle.mv_plan.proofs.points.Points.{ForEnds, ForIdle, ToDismiss, SchedulerAt, Waits, Extends, Clears, Releases, awaited_blocks}
-use Rattle.mv_plan.proofs.points.Points.{awaited_count, scheduler_asks, scheduler_goes, arming_first, arming_from, settling_from}
-use Rattle.mv_plan.proofs.points.Points.{found_at, ends_at, dismissing_from, stage_at, lowest_at}
+use Rattle.mv_plan.proofs.points.Points.{awaited_count, scheduler_asks, scheduler_goes, arming_first, arming_from, settling_from, found_at}
+use Rattle.mv_plan.proofs.points.Points.{ends_at, dismissing_from, stage_at, lowest_at}
 use Rattle.mv_plan.proofs.points.PostsAndWaits.{on_armed_keeps, on_settled_keeps}
 use Rattle.mv_plan.proofs.points.ReaderAndWriter.{keeps}
 
@@ -226,16 +226,14 @@ scheduler_stands deck initiators kept (Extends j job jobs skipped) (reply_of.Ecb
     first_stands deck initiators _ (ForIdle j job jobs skipped)
     (awaited_blocks (length deck) initiators (ForIdle j job jobs skipped)) s.0
     (extended_kept deck initiators kept j job jobs skipped s.1) refl
-scheduler_stands deck initiators kept (Extends j job jobs skipped) r s = (tt, tt)
 scheduler_stands deck initiators kept (Clears i g code after) (reply_of.Ecb (ecb_reply.Word w)) s =
     (s.0, record { caller = s.1.caller; within = λ e held. s.1.within e (before e held (e == idle (length deck) i) refl) }) where
       before : (e : ℕ) → with_at kept.extended (idle (length deck) i) false e ≡ true → (b : Bool) → (e == idle (length deck) i) ≡ b
           → kept.extended e ≡ true
       before e held true q = absurd (false≢true (sym (ap (λ b. if b then false else kept.extended e) q) ∙ held))
       before e held false q = sym (ap (λ b. if b then false else kept.extended e) q) ∙ held
-scheduler_stands deck initiators kept (Clears i g code after) r s = (tt, tt)
 scheduler_stands deck initiators kept (Releases i g code after) (reply_of.Element element_reply.Early) s =
     stage_stands deck initiators _ after s.0.1 (record { caller = s.1.caller; within = s.1.within })
 scheduler_stands deck initiators kept (Releases i g code after) (reply_of.Element element_reply.Woke) s =
     stage_stands deck initiators _ after s.0.1 (record { caller = s.1.caller; within = s.1.within })
-scheduler_stands deck initiators kept (Releases i g code after) r s = (tt, tt)
+scheduler_stands deck initiators kept x r s = (tt, tt)

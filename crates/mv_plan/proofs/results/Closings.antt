@@ -3,23 +3,24 @@ use Rattle.std.proofs.Common.{◌≡◌, ℕ, zero, suc, ◌+◌, ◌-◌, ◌<�
 use Rattle.std.proofs.Common.{None, ◌⊎◌, inl, inr, refl, sym, ap, ◌∙◌, subst, arith}
 use Rattle.std.specs.List.{AllByRecursion}
 use Rattle.std.proofs.lemmas.Bool.{cases_eq, cases_lt, eq-eqb, ne_eqb}
-use Rattle.mv_element.specs.declared.operation.ElementOp.TheVariants as element_op
-use Rattle.mv_element.specs.declared.operation.ElementReply.TheVariants as element_reply
 use Rattle.mv_machine.specs.declared.entry.Entry.{Entry}
 use Rattle.mv_machine.specs.declared.entry.Object.{Object}
 use Rattle.mv_machine.specs.declared.entry.Object.TheVariants.{Element}
 use Rattle.mv_machine.specs.declared.entry.Op.{Op}
-use Rattle.mv_machine.specs.declared.entry.Op.TheVariants as op_on
 use Rattle.mv_machine.specs.declared.entry.Reply.{Reply}
-use Rattle.mv_machine.specs.declared.entry.Reply.TheVariants as reply_of
 use Rattle.mv_machine.specs.Legal.{IsNext}
 use Rattle.mv_machine.specs.Setup.{Setup}
 use Rattle.mv_machine.specs.System.{System}
-use Rattle.mv_plan.specs.HandingOut.{release_code, is_closing, closings, IsRightRelease}
+use Rattle.mv_plan.specs.HandingOut.{release_code, closings, IsRightRelease, is_closing}
 use Rattle.mv_deck.specs.Deck.{JobData}
 use Rattle.mv_plan.specs.SpoolSetup.{scheduler, initiator}
 use Rattle.mv_plan.specs.SpoolTasks.{code_of}
 use Rattle.mv_calls.specs.Keeping.{Kept}
+use Rattle.mv_machine.proofs.Lists.{all_push}
+use Rattle.mv_element.specs.declared.operation.ElementOp.TheVariants as element_op
+use Rattle.mv_element.specs.declared.operation.ElementReply.TheVariants as element_reply
+use Rattle.mv_machine.specs.declared.entry.Op.TheVariants as op_on
+use Rattle.mv_machine.specs.declared.entry.Reply.TheVariants as reply_of
 use Rattle.mv_plan.proofs.points.SchedulerNext.{same_errand, after_dismissals, after_release, released_errand, release_accepted}
 use Rattle.mv_plan.proofs.deck.Codes.{never_zero}
 use Rattle.mv_plan.proofs.points.Points.{Point, At, Stage, Dispatching, Dismissing, SchedulerAt, Waits, Extends, Clears, Releases}
@@ -28,7 +29,6 @@ use Rattle.mv_plan.proofs.points.SchedulerSound.{IsSchedulerAt, rest_count}
 use Rattle.mv_plan.proofs.walks.Stands.{Stand}
 use Rattle.mv_plan.proofs.walks.NoneLost.{NoneLost}
 use Rattle.mv_plan.proofs.walks.Walks.{Points, Move}
-use Rattle.mv_machine.proofs.Lists.{all_push}
 use Rattle.mv_plan.proofs.points.Asks.{reader_plain, writer_plain, no_release, wait_no_release}
 use Rattle.mv_plan.proofs.walks.Moves.{entry_of, Each, of_move}
 use Rattle.mv_plan.proofs.points.Views.{Errand, Dispatches, Dismisses, Rests, errand, IsNotLost}

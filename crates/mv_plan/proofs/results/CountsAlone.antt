@@ -12,14 +12,15 @@ use Rattle.mv_machine.specs.Setup.{Setup}
 use Rattle.mv_machine.specs.System.{System, opening}
 use Rattle.mv_machine.proofs.Standing.{mine}
 use Rattle.mv_plan.specs.HandingOut.{given_codes}
-use Rattle.mv_plan.specs.CountingAlone.{IsCountedBy, CountsStandAlone, ScansAreSteady}
-use Rattle.mv_plan.specs.Purging.{is_obtain, purges, obtains, ArePurged}
+use Rattle.mv_plan.specs.Purging.{is_obtain, purges, ArePurged, obtains}
 use Rattle.mv_deck.specs.Deck.{JobData}
-use Rattle.mv_plan.proofs.deck.Plans.{IsPlanned}
 use Rattle.mv_report.specs.Outcome.{total}
 use Rattle.mv_calls.specs.Keeping.{Kept}
 use Rattle.mv_plan.specs.SpoolRun.{IsRun}
 use Rattle.mv_plan.specs.SpoolSetup.{initiator, spool_setup}
+use Rattle.mv_machine.specs.Orderly.{purged_by}
+use Rattle.mv_plan.specs.CountingAlone.{IsCountedBy, CountsStandAlone, ScansAreSteady}
+use Rattle.mv_plan.proofs.deck.Plans.{IsPlanned}
 use Rattle.mv_plan.proofs.walks.Always.{Always, always_now, always_next, always_rest, always_keeps}
 use Rattle.mv_plan.proofs.volumes.Alone.{RunApart, CountMoment, CountMoments, Mover, mover, quiet_point, always_stand, always_moment}
 use Rattle.mv_plan.proofs.deck.Ends.{few_jobs}
@@ -30,11 +31,9 @@ use Rattle.mv_plan.proofs.latches.HandMoves.{works}
 use Rattle.mv_plan.proofs.latches.Hands.{grip, OwnsBy, IsKnown}
 use Rattle.mv_plan.proofs.walks.OneWalk.{walk_rest}
 use Rattle.mv_plan.proofs.deck.Setup.{facts}
-use Rattle.mv_plan.proofs.points.Points.{At, Finished, InitiatorAt, Opening, Obtaining}
-use Rattle.mv_plan.proofs.points.Points.{initiator_asks}
+use Rattle.mv_plan.proofs.points.Points.{At, Finished, InitiatorAt, Opening, Obtaining, initiator_asks, InJob}
 use Rattle.mv_plan.proofs.serving.Requestors.{work, WorkBalance, works_start, works_next, NamedOnce, once_apart, unpurged, given_front}
-use Rattle.mv_plan.proofs.serving.Requestors.{reader_no_request, scheduler_no_request, writer_no_request, purges-push, one_if}
-use Rattle.mv_plan.proofs.serving.Requestors.{works_bound}
+use Rattle.mv_plan.proofs.serving.Requestors.{reader_no_request, scheduler_no_request, writer_no_request, purges-push, one_if, works_bound}
 use Rattle.mv_plan.proofs.walks.Histories.{Stood, stood, AreFinished, run_finished}
 use Rattle.mv_plan.proofs.walks.Stands.{Stand, AreSound}
 use Rattle.mv_plan.proofs.walks.Walks.{Points, start_points, Move, reads, schedules, initiates, writes, WalkTo, walk-parts}
@@ -42,7 +41,6 @@ use Rattle.mv_plan.proofs.volumes.Sums.{sum_to, sum_zero}
 use Rattle.mv_plan.proofs.walks.NoneLost.{NoneLost, none_lost_along, none_lost_at_end}
 use Rattle.mv_plan.proofs.volumes.Balance.{Balance, balance_start, balance_next}
 use Rattle.mv_plan.proofs.volumes.Totals.{GivenByEnds, adds_total}
-use Rattle.mv_machine.specs.Orderly.{purged_by}
 
 -- what a caller did last among some entries, if it did anything
 record LastOf (k : ℕ) (es : List Entry) : Type 0 where
@@ -195,7 +193,7 @@ module _ (deck : List JobData) (initiators : ℕ) (some : 1 ≤ initiators) (sou
 
   -- an obtain is made by who works on the job
   asks_obtain : (n i j : ℕ) (x : InitiatorAt) → is_obtain (j + 1) (initiator_asks n i x).1 ≡ true → works (At x) ≡ Some j
-  asks_obtain n i j (Obtaining run hand latch mode steps) e = ap (λ z. Some z) (same (eqb-true (run.job + 1) (j + 1) e)) where
+  asks_obtain n i j (InJob run (Obtaining hand latch mode steps)) e = ap (λ z. Some z) (same (eqb-true (run.job + 1) (j + 1) e)) where
     same : run.job + 1 ≡ j + 1 → run.job ≡ j
     same q = omega arith
   asks_obtain n i j x e = absurd (false≢true e)

@@ -3,7 +3,6 @@
 use Rattle.std.proofs.Common.{◌≡◌, ℕ, ◌-◌, ◌<◌, ◌≤◌, Bool, List, [], length, Some, None, inl, inr, refl, sym, ap, ◌∙◌, subst, arith, ◌∷◌}
 use Rattle.std.proofs.lemmas.Bool.{cases_lt}
 use Rattle.mv_element.specs.declared.element.ElementState.{ElementState}
-use Rattle.mv_element.specs.declared.element.Phase.TheVariants as phase
 use Rattle.mv_element.specs.Element.{reset}
 use Rattle.mv_machine.specs.declared.entry.Entry.{Entry}
 use Rattle.mv_machine.specs.Elements.{element_events}
@@ -12,11 +11,13 @@ use Rattle.mv_machine.specs.Setup.{Setup}
 use Rattle.mv_machine.specs.System.{System, opening}
 use Rattle.mv_plan.specs.HandingOut.{released_codes, given_codes, closings, IsRightRelease}
 use Rattle.mv_deck.specs.Deck.{JobData}
-use Rattle.mv_plan.proofs.deck.Plans.{IsPlanned}
-use Rattle.mv_machine.specs.Orderly.{IsExact}
 use Rattle.mv_plan.specs.SpoolRun.{IsRun}
 use Rattle.mv_plan.specs.SpoolSetup.{spool_setup, initiator}
 use Rattle.mv_plan.specs.SpoolTasks.{code_of}
+use Rattle.std.specs.List.{AllByRecursion}
+use Rattle.mv_element.specs.declared.element.Phase.TheVariants as phase
+use Rattle.mv_plan.proofs.deck.Plans.{IsPlanned}
+use Rattle.mv_machine.specs.Orderly.{IsExact}
 use Rattle.mv_plan.proofs.results.Closings.{Closes, dismissed_by, closes_next, closes_start}
 use Rattle.mv_plan.proofs.deck.Ends.{few_jobs}
 use Rattle.mv_plan.proofs.results.Exact.{AreExacting, ClosesNone, exacting_next, exact_end}
@@ -24,17 +25,16 @@ use Rattle.mv_plan.proofs.standing.Row.{RowAt, element_of}
 use Rattle.mv_plan.proofs.places.Places.{Place, Coming, Handed, Run, Over, Places}
 use Rattle.mv_plan.proofs.places.Ledger.{Account, element_code}
 use Rattle.mv_plan.proofs.deck.Setup.{facts}
-use Rattle.mv_plan.proofs.points.Points.{Point, At, Arming, Settling, ReaderAt, Entering, reader_asks, SchedulerAt, Waits, Extends}
-use Rattle.mv_plan.proofs.points.Points.{Clears, Releases, scheduler_asks, WriterAt, Keeping, writer_asks, Running, InitiatorAt, Opening}
-use Rattle.mv_plan.proofs.points.Points.{Offering, Pausing, Resuming, Obtaining, Confirming, Freeing, Reading, Writing, Scanning}
-use Rattle.mv_plan.proofs.points.Points.{Rescanning, Purging, EndingJob, EndingForScheduler, EndingForWriter, Closing, initiator_asks}
+use Rattle.mv_plan.proofs.points.Points.{Point, At, Arming, Settling, ReaderAt, Entering, reader_asks, SchedulerAt, Waits}
+use Rattle.mv_plan.proofs.points.Points.{scheduler_asks, WriterAt, Keeping, writer_asks, Running, InitiatorAt}
+use Rattle.mv_plan.proofs.points.Points.{Obtaining}
+use Rattle.mv_plan.proofs.points.Points.{Closing, initiator_asks, InJob}
 use Rattle.mv_plan.proofs.walks.Histories.{Stood, stood, AreFinished, run_finished}
 use Rattle.mv_plan.proofs.places.Moments.{Moment, walk_moments}
 use Rattle.mv_plan.proofs.standing.Rows.{Rows}
 use Rattle.mv_plan.proofs.walks.NoneLost.{none_lost_at_end}
 use Rattle.mv_plan.proofs.walks.Walks.{Points, Move}
 use Rattle.mv_plan.proofs.walks.Moves.{Each, of_move}
-use Rattle.std.specs.List.{AllByRecursion}
 use Rattle.mv_plan.proofs.points.Views.{code_held, run_of, next_job, errand}
 
 -- ---- what is shown
@@ -75,10 +75,7 @@ module _ (c : Setup) (deck : List JobData) (initiators : ℕ) where
 
     from_scheduler : (s : System) (x : SchedulerAt) → ClosesNone s (scheduler_asks n x).0 (scheduler_asks n x).1
     from_scheduler s (Waits a (Arming e todo)) = tt
-    from_scheduler s (Waits a (Settling e todo found)) = tt
-    from_scheduler s (Extends j job jobs skipped) = tt
-    from_scheduler s (Clears i g code after) = tt
-    from_scheduler s (Releases i g code after) = tt
+    from_scheduler s x = tt
 
     from_writer : (s : System) (x : WriterAt) → ClosesNone s (writer_asks x).0 (writer_asks x).1
     from_writer s (Keeping j more ends (Arming e todo)) = tt
@@ -86,22 +83,9 @@ module _ (c : Setup) (deck : List JobData) (initiators : ℕ) where
 
     from_initiator : (s : System) (q : Point SchedulerAt) (i : ℕ) (x : InitiatorAt) → RowAt n s q i (At x)
         → ClosesNone s (initiator_asks n i x).0 (initiator_asks n i x).1
-    from_initiator s q i Opening w = tt
-    from_initiator s q i (Offering more before g) w = tt
-    from_initiator s q i (Pausing more before g) w = tt
-    from_initiator s q i (Resuming more before g) w = tt
-    from_initiator s q i (Obtaining run hand latch mode steps) w = tt
-    from_initiator s q i (Confirming run hand latch mode id steps) w = tt
-    from_initiator s q i (Freeing run hand latch id steps) w = tt
-    from_initiator s q i (Reading run hand volume amount steps) w = tt
-    from_initiator s q i (Writing run hand volume amount number steps) w = tt
-    from_initiator s q i (Scanning run hand volume steps) w = tt
-    from_initiator s q i (Rescanning run hand volume number steps) w = tt
-    from_initiator s q i (Purging run hand code) w = tt
-    from_initiator s q i (EndingJob run code counts) w = tt
-    from_initiator s q i (EndingForScheduler run code counts) w = tt
-    from_initiator s q i (EndingForWriter run code counts) w = tt
+    from_initiator s q i (InJob run (Obtaining hand latch mode steps)) w = tt
     from_initiator s q i (Closing g) w = reset_none g (element_of s i) w.2
+    from_initiator s q i x w = tt
 
   pub closes_none : (s : System) (t u : Points) (e : Entry) → IsNext c s e → Move deck initiators t e u → Rows deck initiators s t
       → ClosesNone s e.object e.op

@@ -2,24 +2,24 @@
 -- the deck's, no post came second, and the writer has kept the deck's ends.
 use Rattle.std.proofs.Common.{◌≡◌, ℕ, ◌+◌, ◌<◌, ◌≤◌, List, [], ◌∷◌, ◌++◌, length, map, Some, None, refl, ap, ◌∙◌, subst}
 use Rattle.std.specs.List.{AllByRecursion}
-use Rattle.mv_ecb.specs.declared.operation.EcbReply.TheVariants as ecb_reply
 use Rattle.mv_ecb.specs.Word.{EcbState, Complete}
 use Rattle.mv_machine.specs.declared.entry.Entry.{Entry}
 use Rattle.mv_machine.specs.declared.entry.Reply.{Reply}
-use Rattle.mv_machine.specs.declared.entry.Reply.TheVariants as reply_of
 use Rattle.mv_machine.specs.Legal.{IsNext, next, after}
 use Rattle.mv_machine.specs.Setup.{Setup}
 use Rattle.mv_machine.specs.System.{System, opening}
 use Rattle.mv_plan.specs.PostingEnds.{posts, post_codes, EndsArePosted}
 use Rattle.mv_deck.specs.Deck.{JobData}
 use Rattle.mv_plan.specs.Jobs.{end_of}
-use Rattle.mv_plan.proofs.deck.Plans.{IsPlanned}
 use Rattle.mv_report.specs.Outcome.{ends}
 use Rattle.mv_calls.specs.Program.{Done}
 use Rattle.mv_calls.specs.Runs.{left_in}
 use Rattle.mv_plan.specs.SpoolRun.{IsRun}
-use Rattle.mv_plan.specs.SpoolSetup.{spool_setup, done, end_for_scheduler, end_for_writer, idle, writer}
+use Rattle.mv_plan.specs.SpoolSetup.{spool_setup, end_for_scheduler, end_for_writer, idle, writer, done}
 use Rattle.mv_plan.specs.SpoolTasks.{task_program}
+use Rattle.mv_ecb.specs.declared.operation.EcbReply.TheVariants as ecb_reply
+use Rattle.mv_machine.specs.declared.entry.Reply.TheVariants as reply_of
+use Rattle.mv_plan.proofs.deck.Plans.{IsPlanned}
 use Rattle.mv_plan.proofs.ends.Blocks.{HasEnd, done_has, scheduler_has, writer_has}
 use Rattle.mv_plan.proofs.deck.Ends.{few_jobs}
 use Rattle.mv_plan.proofs.ends.RightCodes.{Codes, KeepsEnds, codes_keep, codes_first}

@@ -1,33 +1,33 @@
 -- No reply leads the reader, the scheduler or the writer astray, nor an initiator in its rounds.
-use Rattle.std.proofs.Common.{◌≡◌, ℕ, zero, suc, ◌+◌, ◌<◌, ◌≤◌, ◌==◌, nat_le, Bool, true, false, IsTrue, cond, if◌then◌else◌, List, []}
-use Rattle.std.proofs.Common.{◌∷◌, ◌++◌, length, Option, Some, None, ◌⊎◌, inl, inr, refl, sym, ap, ◌∙◌, subst, arith}
+use Rattle.std.proofs.Common.{◌≡◌, ℕ, zero, suc, ◌+◌, ◌<◌, ◌≤◌, ◌==◌, nat_le, Bool, true, false, IsTrue, cond, if◌then◌else◌, List, [], ◌∷◌}
+use Rattle.std.proofs.Common.{◌++◌, length, Option, Some, None, ◌⊎◌, inl, inr, refl, sym, ap, ◌∙◌, subst, arith}
 use Rattle.std.specs.List.{AllByRecursion}
 use Rattle.std.proofs.lemmas.Bool.{eq-eqb, leb-true}
-use Rattle.mv_ecb.specs.declared.operation.EcbOp.TheVariants as ecb_op
-use Rattle.mv_ecb.specs.declared.operation.EcbReply.TheVariants as ecb_reply
 use Rattle.mv_ecb.specs.Table.{ecb_step}
-use Rattle.mv_ecb.specs.Word.{EcbState, Zero, Waiting, Extended, Complete, word_of}
-use Rattle.mv_element.specs.declared.operation.ElementOp.TheVariants as element_op
+use Rattle.mv_ecb.specs.Word.{EcbState, Zero, Extended, Complete, word_of, Waiting}
 use Rattle.mv_element.specs.declared.operation.ElementReply.{ElementReply}
-use Rattle.mv_element.specs.declared.operation.ElementReply.TheVariants as element_reply
 use Rattle.mv_element.specs.declared.element.ElementState.{ElementState}
 use Rattle.mv_element.specs.Table.{element_step}
-use Rattle.mv_latch.specs.declared.operation.LatchOp.TheVariants as latch_op
 use Rattle.mv_latch.specs.LatchSet.{latch_step}
 use Rattle.mv_machine.specs.declared.entry.Reply.{Reply}
-use Rattle.mv_machine.specs.declared.entry.Reply.TheVariants as reply_of
 use Rattle.mv_machine.specs.Setup.{Setup, owner_of}
 use Rattle.mv_machine.specs.System.{System, admitted, reply_to}
 use Rattle.mv_deck.specs.Deck.{JobData}
 use Rattle.mv_deck.specs.declared.deck.After.{After}
 use Rattle.mv_deck.specs.declared.deck.Step.{Step}
-use Rattle.mv_deck.specs.declared.deck.Step.TheVariants.{Print, Use, Free, Count, Scan, Abend, Return}
+use Rattle.mv_deck.specs.declared.deck.Step.TheVariants.{Print, Free}
 use Rattle.mv_plan.specs.Jobs.{job_at}
-use Rattle.mv_plan.proofs.deck.Plans.{ArePlannedSteps, ArePlannedJobs}
 use Rattle.mv_calls.specs.LatchCalls.{Counts}
-use Rattle.mv_plan.specs.SpoolSetup.{reader, scheduler, initiator, writer, entered, done, end_for_scheduler, end_for_writer, idle}
+use Rattle.mv_plan.specs.SpoolSetup.{reader, scheduler, initiator, writer, entered, end_for_scheduler, end_for_writer, idle, done}
 use Rattle.mv_plan.specs.SpoolTasks.{job_named, code_of, not_to_run}
 use Rattle.mv_calls.specs.Waits.{complete_count}
+use Rattle.mv_ecb.specs.declared.operation.EcbOp.TheVariants as ecb_op
+use Rattle.mv_ecb.specs.declared.operation.EcbReply.TheVariants as ecb_reply
+use Rattle.mv_element.specs.declared.operation.ElementOp.TheVariants as element_op
+use Rattle.mv_element.specs.declared.operation.ElementReply.TheVariants as element_reply
+use Rattle.mv_latch.specs.declared.operation.LatchOp.TheVariants as latch_op
+use Rattle.mv_machine.specs.declared.entry.Reply.TheVariants as reply_of
+use Rattle.mv_plan.proofs.deck.Plans.{ArePlannedSteps, ArePlannedJobs}
 use Rattle.mv_plan.proofs.standing.Arms.{In, in_middle, in_all, IsNoDone, awaited_no_done, SchedulerArms, WriterArms, arm_owner}
 use Rattle.mv_plan.proofs.points.ReaderAndWriter.{IsWriterAt}
 use Rattle.mv_plan.proofs.results.FewRounds.{fewer, none_found, not_found, code_named}
@@ -39,21 +39,21 @@ use Rattle.mv_plan.proofs.places.Places.{Place, Handed, Over}
 use Rattle.mv_plan.proofs.places.LedgerMoves.{has_stance}
 use Rattle.mv_plan.proofs.places.Ledger.{element_code}
 use Rattle.mv_plan.proofs.deck.Setup.{Facts}
-use Rattle.mv_plan.proofs.points.Points.{Point, At, Finished, TooSoon, Astray, Stage, Dispatching, Dismissing, Awaited, ForEntry, ForEnds}
-use Rattle.mv_plan.proofs.points.Points.{ForIdle, ToDismiss, Arming, Settling, ReaderAt, Entering, entering_from, reader_asks}
-use Rattle.mv_plan.proofs.points.Points.{reader_goes, SchedulerAt, Waits, Extends, Clears, Releases, awaited_blocks, awaited_count}
-use Rattle.mv_plan.proofs.points.Points.{scheduler_asks, scheduler_goes, arming_first, arming_from, settling_from, found_at, ends_at}
-use Rattle.mv_plan.proofs.points.Points.{dismissing_from, stage_at, lowest_at, on_posted, on_armed, on_settled, on_released, WriterAt}
-use Rattle.mv_plan.proofs.points.Points.{Keeping, writer_asks, writer_goes, writing_from, writer_arming, end_found, Hand, empty_hand}
-use Rattle.mv_plan.proofs.points.Points.{Running, running, InitiatorAt, Opening, Offering, Pausing, Resuming, Obtaining, Confirming}
-use Rattle.mv_plan.proofs.points.Points.{Freeing, Reading, Writing, Scanning, Rescanning, Purging, EndingJob, EndingForScheduler}
-use Rattle.mv_plan.proofs.points.Points.{EndingForWriter, Closing, initiator_asks, initiator_goes, rounds_from, rounds_after, freeing_at}
-use Rattle.mv_plan.proofs.points.Points.{steps_at, job_start, named_at, given_at, on_opened, on_paused, on_resumed, on_closed, on_ended}
+use Rattle.mv_plan.proofs.points.Points.{Point, At, TooSoon, Astray, Stage, Dispatching, Dismissing, Awaited, ForEntry, ForEnds}
+use Rattle.mv_plan.proofs.points.Points.{ForIdle, ToDismiss, Arming, Settling, ReaderAt, Entering, entering_from, reader_asks, reader_goes}
+use Rattle.mv_plan.proofs.points.Points.{SchedulerAt, Waits, Extends, Clears, Releases, awaited_blocks, awaited_count, scheduler_asks}
+use Rattle.mv_plan.proofs.points.Points.{scheduler_goes, arming_first, arming_from, settling_from, found_at, ends_at, dismissing_from}
+use Rattle.mv_plan.proofs.points.Points.{stage_at, lowest_at, on_posted, on_armed, on_settled, on_released, WriterAt, Keeping, writer_asks}
+use Rattle.mv_plan.proofs.points.Points.{writer_goes, writing_from, writer_arming, end_found, Hand, empty_hand, Running, running}
+use Rattle.mv_plan.proofs.points.Points.{InitiatorAt, Opening, Offering, Pausing, Resuming}
+use Rattle.mv_plan.proofs.points.Points.{Purging, EndingJob, EndingForScheduler, EndingForWriter, Closing}
+use Rattle.mv_plan.proofs.points.Points.{initiator_asks, initiator_goes, rounds_from, rounds_after, freeing_at, steps_at, job_start}
+use Rattle.mv_plan.proofs.points.Points.{named_at, given_at, on_opened, on_paused, on_resumed, on_closed, on_ended, InJob}
 use Rattle.mv_plan.proofs.points.SchedulerSound.{IsSchedulerAt}
 use Rattle.mv_plan.proofs.standing.Rows.{Accepts, row_accepts}
 use Rattle.mv_plan.proofs.ends.RightCodes.{IsCode}
 use Rattle.mv_plan.proofs.deck.Ends.{is_skipped}
-use Rattle.mv_plan.proofs.points.Views.{code_held, named_before, IsNotLost}
+use Rattle.mv_plan.proofs.points.Views.{code_held, named_before, IsNotLost, IsOfRounds}
 
 -- a task is not astray
 abbrev pub IsForeseen : {X : Type 0} → Point X → Type 0
@@ -65,9 +65,7 @@ IsForeseen p = Unit {0}
 post_foreseen : {X : Type 0} (p : Point X) (code : ℕ) (v : EcbState) (r : Reply) → r ≡ reply_of.Ecb (ecb_step (ecb_op.Post code) v).1
     → IsForeseen p → IsForeseen (on_posted p r)
 post_foreseen p code Zero r e w = rw e w
-post_foreseen p code Waiting r e w = rw e w
-post_foreseen p code (Extended y) r e w = rw e w
-post_foreseen p code (Complete old) r e w = rw e w
+post_foreseen p code y r e w = rw e w
 
 arm_foreseen : {X : Type 0} (p : Point X) (v : EcbState) (r : Reply) → r ≡ reply_of.Ecb (ecb_step ecb_op.Arm v).1 → (v ≡ Waiting → ⊥)
     → ((y : ℕ) → v ≡ Extended y → ⊥) → IsForeseen p → IsForeseen (on_armed p r)
@@ -252,22 +250,15 @@ module _ (c : Setup) (deck : List JobData) (initiators : ℕ) (facts : Facts c (
 pub steps_found : (run : Running) (hand : Hand) (steps : List Step)
     → AllByRecursion (λ g. hand.requests g.latch ≡ Some g.id) hand.holding → ArePlannedSteps (held_of hand.holding) steps
     → IsNotLost (steps_at run hand steps)
-steps_found run hand [] l s = tt
 steps_found run hand (Print text ∷ steps) l s = steps_found run hand steps l s
-steps_found run hand (Use latch mode ∷ steps) l s = tt
 steps_found run hand (Free latch ∷ steps) l s =
     let h : (id : ℕ) × (hand.requests latch ≡ Some id) = held_request hand.requests latch hand.holding l s.1 in
     subst (λ z. IsNotLost (freeing_at run hand latch z steps)) (sym h.1) tt
-steps_found run hand (Count volume amount ∷ steps) l s = tt
-steps_found run hand (Scan volume ∷ steps) l s = tt
-steps_found run hand (Abend code ∷ steps) l s = tt
-steps_found run hand (Return code ∷ steps) l s = tt
+steps_found run hand steps l s = tt
 
 pub foreseen_of : {X : Type 0} (p : Point X) → IsNotLost p → IsForeseen p
-foreseen_of (At x) f = tt
-foreseen_of (Finished answer) f = tt
-foreseen_of TooSoon f = tt
 foreseen_of Astray f = f
+foreseen_of p f = tt
 
 start_found : (deck : List JobData) (skipped : Bool) (run : Running) (j : ℕ) → ArePlannedJobs 0 deck → j < length deck
     → IsForeseen (job_start skipped run (job_at deck j))
@@ -291,11 +282,8 @@ after_foreseen n run r = rounds_foreseen run.more (run.before ++ run.job ∷ [])
 
 ended_foreseen : (run : Running) (code : ℕ) (counts : Counts) (v : EcbState) (r : Reply)
     → r ≡ reply_of.Ecb (ecb_step (ecb_op.Post code) v).1 → IsForeseen (rounds_after run) → IsForeseen (on_ended run code counts r)
-ended_foreseen run code counts Zero r e w = rw e w
-ended_foreseen run code counts Waiting r e w = rw e w
-ended_foreseen run code counts (Extended zero) r e w = rw e w
 ended_foreseen run code counts (Extended (suc y)) r e w = rw e tt
-ended_foreseen run code counts (Complete old) r e w = rw e w
+ended_foreseen run code counts y r e w = rw e w
 
 -- where a given code is right, and names no job that was named before
 module _ (deck : List JobData) (sound : ArePlannedJobs 0 deck) (small : length deck ≤ not_to_run) (before : List ℕ) (more : ℕ)
@@ -355,17 +343,6 @@ module _ (deck : List JobData) (o h : Option ℕ) where
       → Row (Works g) o h y → IsForeseen (on_closed r)
   closed_foreseen g y r e w = rw (e, w.2, eq-eqb g g refl) tt
 
--- the points of an initiator's rounds: those before, between and behind jobs, and the end of a job
-abbrev pub IsOfRounds : InitiatorAt → Type 0
-IsOfRounds (Obtaining run hand latch mode steps) = ⊥
-IsOfRounds (Confirming run hand latch mode id steps) = ⊥
-IsOfRounds (Freeing run hand latch id steps) = ⊥
-IsOfRounds (Reading run hand volume amount steps) = ⊥
-IsOfRounds (Writing run hand volume amount number steps) = ⊥
-IsOfRounds (Scanning run hand volume steps) = ⊥
-IsOfRounds (Rescanning run hand volume number steps) = ⊥
-IsOfRounds x = Unit {0}
-
 over_new : (place : ℕ → Place) (i j : ℕ) (before : List ℕ) → place j ≡ Handed i → AllByRecursion (λ k. place k ≡ Over) before
     → AllByRecursion (λ k. k ≡ j → ⊥) before
 over_new place i j [] at w = tt
@@ -394,21 +371,15 @@ module _ (deck : List JobData) (initiators : ℕ) (sound : ArePlannedJobs 0 deck
       paused_foreseen deck _ _ more before g (element_of s i) r (cc a) w (gift_foreseen more before g st over)
   initiator_foreseen (Resuming more before g) r d st over w a =
       resumed_foreseen deck _ _ more before g (element_of s i) r (cc a) w (gift_foreseen more before g st over)
-  initiator_foreseen (Obtaining run hand latch mode steps) r d st over w a = absurd d
-  initiator_foreseen (Confirming run hand latch mode id steps) r d st over w a = absurd d
-  initiator_foreseen (Freeing run hand latch id steps) r d st over w a = absurd d
-  initiator_foreseen (Reading run hand volume amount steps) r d st over w a = absurd d
-  initiator_foreseen (Writing run hand volume amount number steps) r d st over w a = absurd d
-  initiator_foreseen (Scanning run hand volume steps) r d st over w a = absurd d
-  initiator_foreseen (Rescanning run hand volume number steps) r d st over w a = absurd d
-  initiator_foreseen (Purging run hand code) r d st over w a =
-      subst (λ z. IsForeseen (initiator_goes deck (Purging run hand code) z))
+  initiator_foreseen (InJob run (Purging hand code)) r d st over w a =
+      subst (λ z. IsForeseen (initiator_goes deck (InJob run (Purging hand code)) z))
       (sym (let e : r ≡ reply_of.Latch
       (latch_step (initiator i) s.latches.place (latch_op.Purge (run.job + 1)) s.latches.state).1 = cc a in e)) tt
-  initiator_foreseen (EndingJob run code counts) r d st over w a =
+  initiator_foreseen (InJob run (EndingJob code counts)) r d st over w a =
       ended_foreseen run code counts (s.ecb (done size run.job)).state r (cc a) (after_foreseen size run st.round)
-  initiator_foreseen (EndingForScheduler run code counts) r d st over w a =
-      post_foreseen (At (EndingForWriter run code counts)) code (s.ecb (end_for_scheduler size run.job)).state r (cc a) tt
-  initiator_foreseen (EndingForWriter run code counts) r d st over w a =
+  initiator_foreseen (InJob run (EndingForScheduler code counts)) r d st over w a =
+      post_foreseen (At (InJob run (EndingForWriter code counts))) code (s.ecb (end_for_scheduler size run.job)).state r (cc a) tt
+  initiator_foreseen (InJob run (EndingForWriter code counts)) r d st over w a =
       post_foreseen (rounds_after run) code (s.ecb (end_for_writer size run.job)).state r (cc a) (after_foreseen size run st.round)
   initiator_foreseen (Closing g) r d st over w a = closed_foreseen deck _ _ g (element_of s i) r (cc a) w
+  initiator_foreseen (InJob run x) r d st over w a = absurd d

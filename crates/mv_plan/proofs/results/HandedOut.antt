@@ -1,26 +1,26 @@
 -- Each run hands out each job once, with its code: specs/HandingOut.
-use Rattle.std.proofs.Common.{◌≡◌, ℕ, ◌<◌, ◌≤◌, ◌==◌, List, [], ◌∷◌, length, ap, ◌∙◌, ◌||◌, Bool, true, false, if◌then◌else◌, Option}
-use Rattle.std.proofs.Common.{Some, None, refl, sym, subst}
+use Rattle.std.proofs.Common.{◌≡◌, ℕ, ◌<◌, ◌≤◌, ◌==◌, List, [], ◌∷◌, length, ap, ◌∙◌, ◌||◌, Bool, true, false, if◌then◌else◌, Option, Some}
+use Rattle.std.proofs.Common.{None, refl, sym, subst}
 use Rattle.mv_machine.specs.declared.entry.Entry.{Entry}
 use Rattle.mv_machine.specs.System.{opening, System, admitted}
-use Rattle.mv_plan.specs.HandingOut.{IsHandedOut, AreHandedOut, release_code, naming, released_codes}
+use Rattle.mv_plan.specs.HandingOut.{AreHandedOut, release_code, naming, released_codes, IsHandedOut}
 use Rattle.mv_deck.specs.Deck.{JobData}
 use Rattle.mv_plan.specs.Jobs.{end_of}
-use Rattle.mv_plan.proofs.deck.Plans.{IsPlanned}
 use Rattle.mv_deck.specs.EndCode.{not_run}
 use Rattle.mv_plan.specs.SpoolRun.{IsRun}
 use Rattle.mv_plan.specs.SpoolSetup.{spool_setup}
 use Rattle.mv_plan.specs.SpoolTasks.{code_of}
-use Rattle.mv_plan.proofs.results.Dispatched.{are_dispatched, all_free, is_exact, IsDispatched, AreDispatched}
-use Rattle.mv_plan.proofs.results.EndsPosted.{marks_are_right}
 use Rattle.std.specs.List.{AllByRecursion}
 use Rattle.std.proofs.lemmas.Bool.{false≢true}
 use Rattle.mv_element.specs.declared.operation.ElementOp.{ElementOp}
 use Rattle.mv_machine.specs.declared.entry.Object.{Object}
-use Rattle.mv_machine.specs.declared.entry.Object.TheVariants.{Ecb, Element, Volume, Latches}
+use Rattle.mv_machine.specs.declared.entry.Object.TheVariants.{Element}
 use Rattle.mv_machine.specs.declared.entry.Op.{Op}
 use Rattle.mv_machine.specs.Legal.{next, LegalFrom}
 use Rattle.mv_machine.specs.Setup.{Setup}
+use Rattle.mv_plan.proofs.deck.Plans.{IsPlanned}
+use Rattle.mv_plan.proofs.results.Dispatched.{are_dispatched, all_free, is_exact, IsDispatched, AreDispatched}
+use Rattle.mv_plan.proofs.results.EndsPosted.{marks_are_right}
 use Rattle.mv_plan.proofs.ends.Traces.{HasRightMark}
 use Rattle.mv_plan.proofs.volumes.GivenCodes.{with_code}
 use Rattle.mv_element.specs.declared.operation.ElementOp.TheVariants as element_op
@@ -30,9 +30,7 @@ use Rattle.mv_machine.specs.declared.entry.Op.TheVariants as op_on
 on_element : (c : Setup) (s : System) (k : ℕ) (o : Object) (op : ElementOp) → admitted c s k o (op_on.Element op) ≡ true
     → (m : ℕ) × (o ≡ Element m)
 on_element c s k (Element m) op a = (m, refl)
-on_element c s k (Ecb m) op a = absurd (false≢true a)
-on_element c s k (Volume m) op a = absurd (false≢true a)
-on_element c s k Latches op a = absurd (false≢true a)
+on_element c s k y op a = absurd (false≢true a)
 
 released-step : (j : ℕ) (e : Entry) (es : List Entry)
     → released_codes j (e ∷ es) ≡ with_code (naming j (release_code e.op)) (released_codes j es)

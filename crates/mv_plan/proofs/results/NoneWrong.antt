@@ -6,22 +6,20 @@ use Rattle.mv_machine.specs.Legal.{IsNext, after}
 use Rattle.mv_machine.specs.Setup.{Setup}
 use Rattle.mv_machine.specs.System.{System}
 use Rattle.mv_deck.specs.Deck.{JobData}
-use Rattle.mv_plan.proofs.deck.Plans.{IsPlanned}
 use Rattle.mv_calls.specs.Program.{Wrong}
 use Rattle.mv_calls.specs.Runs.{left_in}
 use Rattle.mv_plan.specs.SpoolRun.{Follows}
 use Rattle.mv_plan.specs.SpoolSetup.{spool_setup, scheduler, initiator}
 use Rattle.mv_plan.specs.SpoolTasks.{task_program}
+use Rattle.mv_plan.proofs.deck.Plans.{IsPlanned}
 use Rattle.mv_plan.proofs.ends.Posted.{extend_is_armed}
 use Rattle.mv_plan.proofs.deck.Ends.{few_jobs}
 use Rattle.mv_plan.proofs.results.EndsPosted.{Ends, ends_first, ends_next}
-use Rattle.mv_plan.proofs.results.Foreseen.{IsForeseen, IsOfRounds}
-use Rattle.mv_plan.proofs.serving.LatchCases.{IsServed}
+use Rattle.mv_plan.proofs.results.Foreseen.{IsForeseen}
 use Rattle.mv_plan.proofs.walks.Moves.{entry_next}
 use Rattle.mv_plan.proofs.deck.Setup.{facts}
-use Rattle.mv_plan.proofs.points.Points.{Point, At, Finished, TooSoon, Astray, SchedulerAt, Extends, scheduler_asks, InitiatorAt, Opening}
-use Rattle.mv_plan.proofs.points.Points.{Offering, Pausing, Resuming, Obtaining, Confirming, Freeing, Reading, Writing, Scanning}
-use Rattle.mv_plan.proofs.points.Points.{Rescanning, Purging, EndingJob, EndingForScheduler, EndingForWriter, Closing, initiator_asks}
+use Rattle.mv_plan.proofs.points.Points.{Point, At, Astray, SchedulerAt, Extends, scheduler_asks, InitiatorAt}
+use Rattle.mv_plan.proofs.points.Points.{initiator_asks}
 use Rattle.mv_plan.proofs.points.Points.{initiator_goes}
 use Rattle.mv_plan.proofs.results.SafeWalks.{Safe, OthersForeseen, walk_safe, not_wrong, none_lost_at_start}
 use Rattle.mv_plan.proofs.serving.Served.{Served, served_start}
@@ -30,38 +28,15 @@ use Rattle.mv_plan.proofs.walks.Histories.{Stood, stood, in_time}
 use Rattle.mv_plan.proofs.walks.Walks.{Points, Move, reads, schedules, initiates, writes}
 use Rattle.mv_plan.proofs.walks.Stands.{standing}
 
-served_of : (x : InitiatorAt) → (IsOfRounds x → ⊥) → IsServed x
-served_of Opening n = n tt
-served_of (Offering more before g) n = n tt
-served_of (Pausing more before g) n = n tt
-served_of (Resuming more before g) n = n tt
-served_of (Obtaining run hand latch mode steps) n = tt
-served_of (Confirming run hand latch mode id steps) n = tt
-served_of (Freeing run hand latch id steps) n = tt
-served_of (Reading run hand volume amount steps) n = tt
-served_of (Writing run hand volume amount number steps) n = tt
-served_of (Scanning run hand volume steps) n = tt
-served_of (Rescanning run hand volume number steps) n = tt
-served_of (Purging run hand code) n = tt
-served_of (EndingJob run code counts) n = n tt
-served_of (EndingForScheduler run code counts) n = n tt
-served_of (EndingForWriter run code counts) n = n tt
-served_of (Closing g) n = n tt
-
 foreseen_point : (p : Point InitiatorAt) → (p ≡ Astray → ⊥) → IsForeseen p
-foreseen_point (At x) n = tt
-foreseen_point (Finished answer) n = tt
-foreseen_point TooSoon n = tt
 foreseen_point Astray n = n refl
+foreseen_point p n = tt
 
 module _ (deck : List JobData) (initiators : ℕ) where
   -- the entry of a caller is what its point says
   initiator_asked : (t u : Points) (e : Entry) (i : ℕ) (x : InitiatorAt) → Move deck initiators t e u → i < initiators
       → e.caller ≡ initiator i → t.initiators i ≡ At x
       → (e.object ≡ (initiator_asks (length deck) i x).0) × (e.op ≡ (initiator_asks (length deck) i x).1)
-  initiator_asked t u e i x (reads y k at o op to) lt c given = absurd (omega arith)
-  initiator_asked t u e i x (schedules y k at o op to) lt c given = absurd (omega arith)
-  initiator_asked t u e i x (writes y k at o op to) lt c given = absurd (omega arith)
   initiator_asked t u e i x (initiates m y less k at o op to) lt c given =
       let same : m ≡ i = omega arith in
       let points : ◌≡◌ {A = Point InitiatorAt} (At y) (At x) = sym at ∙ ap (λ z. t.initiators z) same ∙ given in
@@ -70,17 +45,20 @@ module _ (deck : List JobData) (initiators : ℕ) where
         op
             ∙ ap (λ z. (initiator_asks (length deck) z y).1) same ∙ ap (λ z. (initiator_asks (length deck) i z).1) is,
       )
+  initiator_asked t u e i x (reads y k at o op to) lt c given = absurd (omega arith)
+  initiator_asked t u e i x (schedules y k at o op to) lt c given = absurd (omega arith)
+  initiator_asked t u e i x (writes y k at o op to) lt c given = absurd (omega arith)
 
   scheduler_asked : (t u : Points) (e : Entry) (x : SchedulerAt) → Move deck initiators t e u → e.caller ≡ scheduler
       → t.scheduler ≡ At x
       → (e.object ≡ (scheduler_asks (length deck) x).0) × (e.op ≡ (scheduler_asks (length deck) x).1)
-  scheduler_asked t u e x (reads y k at o op to) c given = absurd (omega arith)
-  scheduler_asked t u e x (initiates m y less k at o op to) c given = absurd (omega arith)
-  scheduler_asked t u e x (writes y k at o op to) c given = absurd (omega arith)
   scheduler_asked t u e x (schedules y k at o op to) c given =
       let points : ◌≡◌ {A = Point SchedulerAt} (At y) (At x) = sym at ∙ given in
       let is : y ≡ x = cc points in
       (o ∙ ap (λ z. (scheduler_asks (length deck) z).0) is, op ∙ ap (λ z. (scheduler_asks (length deck) z).1) is)
+  scheduler_asked t u e x (reads y k at o op to) c given = absurd (omega arith)
+  scheduler_asked t u e x (initiates m y less k at o op to) c given = absurd (omega arith)
+  scheduler_asked t u e x (writes y k at o op to) c given = absurd (omega arith)
 
   module _ (some : 1 ≤ initiators) (sound : IsPlanned deck initiators) where
     abbrev c : Setup
@@ -104,7 +82,7 @@ module _ (deck : List JobData) (initiators : ℕ) where
           let w : (e.object ≡ (initiator_asks (length deck) i x).0) × (e.op ≡ (initiator_asks (length deck) i x).1) =
           initiator_asked t u e i x m lt k at in
           foreseen_point (initiator_goes deck x e.reply)
-          (served_foreseen c deck initiators s t past e i x some sound safe.now h.1 n (served_of x other) lt k at w.0 w.1);
+          (served_foreseen c deck initiators s t past e i x some sound safe.now h.1 n other lt k at w.0 w.1);
     }
 
     -- no task of a following history is lost; and at its end the laws of ends and of latches hold

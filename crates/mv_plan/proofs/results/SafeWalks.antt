@@ -1,26 +1,26 @@
 -- A walk on which no wait ended too soon loses no task, where an invariant shows that the other replies lead nobody astray; and
 -- a task that is not lost is not wrong.
-use Rattle.std.proofs.Common.{◌≡◌, ℕ, zero, suc, ◌+◌, ◌-◌, ◌<◌, ◌≤◌, List, [], ◌∷◌, ◌++◌, length, ◌⊎◌, inl, inr, refl, sym, ap, ◌∙◌}
-use Rattle.std.proofs.Common.{subst, arith, Some}
+use Rattle.std.proofs.Common.{◌≡◌, ℕ, zero, suc, ◌+◌, ◌-◌, ◌<◌, ◌≤◌, List, [], ◌∷◌, ◌++◌, length, ◌⊎◌, inl, inr, refl, sym, ap, ◌∙◌, subst}
+use Rattle.std.proofs.Common.{arith, Some, Bool}
 use Rattle.std.specs.List.{AllByRecursion}
 use Rattle.std.proofs.lemmas.Bool.{cases_eq, cases_lt}
-use Rattle.mv_ecb.specs.declared.operation.EcbReply.TheVariants as ecb_reply
 use Rattle.mv_machine.specs.declared.entry.Entry.{Entry}
-use Rattle.mv_machine.specs.declared.entry.Reply.TheVariants as reply_of
 use Rattle.mv_machine.specs.Legal.{IsNext, next, after_from}
 use Rattle.mv_machine.specs.Setup.{Setup}
-use Rattle.mv_machine.specs.System.{System, opening, with_at}
+use Rattle.mv_machine.specs.System.{System, opening}
 use Rattle.mv_machine.specs.declared.entry.Reply.{Reply}
 use Rattle.mv_deck.specs.Deck.{JobData}
-use Rattle.mv_plan.proofs.deck.Plans.{ArePlannedJobs, IsPlanned}
 use Rattle.mv_calls.specs.Program.{Wrong}
 use Rattle.mv_calls.specs.Runs.{left_in}
 use Rattle.mv_plan.specs.SpoolSetup.{spool_setup, reader, scheduler, initiator, writer}
 use Rattle.mv_plan.specs.SpoolTasks.{not_to_run, task_program}
+use Rattle.mv_ecb.specs.declared.operation.EcbReply.TheVariants as ecb_reply
+use Rattle.mv_machine.specs.declared.entry.Reply.TheVariants as reply_of
+use Rattle.mv_plan.proofs.deck.Plans.{ArePlannedJobs, IsPlanned}
 use Rattle.mv_plan.proofs.standing.Arms.{Armed, armed_next, armed_start}
 use Rattle.mv_plan.proofs.points.ReaderAndWriter.{IsWriterAt, reader_says, writer_says}
-use Rattle.mv_plan.proofs.results.Foreseen.{IsForeseen, NoExtend, IsOfRounds, reader_foreseen, writer_foreseen, scheduler_foreseen}
-use Rattle.mv_plan.proofs.results.Foreseen.{extend_foreseen, initiator_foreseen, foreseen_of}
+use Rattle.mv_plan.proofs.results.Foreseen.{IsForeseen, NoExtend, reader_foreseen, writer_foreseen, scheduler_foreseen, extend_foreseen}
+use Rattle.mv_plan.proofs.results.Foreseen.{initiator_foreseen, foreseen_of}
 use Rattle.mv_plan.proofs.points.Initiator.{initiator_says}
 use Rattle.mv_plan.proofs.standing.Row.{RowAt}
 use Rattle.mv_plan.proofs.points.InitiatorSound.{IsInitiatorAt}
@@ -28,23 +28,21 @@ use Rattle.mv_plan.proofs.places.Places.{Place, Coming, Over}
 use Rattle.mv_plan.proofs.deck.Setup.{Facts}
 use Rattle.mv_plan.proofs.points.Programs.{reader_program, scheduler_program, writer_program, initiator_program}
 use Rattle.mv_plan.proofs.points.Points.{Point, At, Finished, TooSoon, Astray, Dispatching, stage_at, dismissing_from, entering_from}
-use Rattle.mv_plan.proofs.points.Points.{writing_from, reader_asks, SchedulerAt, Waits, Extends, Clears, Releases}
-use Rattle.mv_plan.proofs.points.Points.{scheduler_asks, scheduler_goes, writer_asks, InitiatorAt, Opening, Offering}
-use Rattle.mv_plan.proofs.points.Points.{Pausing, Resuming, Obtaining, Confirming, Freeing, Reading, Writing, Scanning, Rescanning}
-use Rattle.mv_plan.proofs.points.Points.{Purging, EndingJob, EndingForScheduler, EndingForWriter, Closing, initiator_asks, initiator_goes}
+use Rattle.mv_plan.proofs.points.Points.{writing_from, reader_asks, SchedulerAt, Extends, scheduler_asks}
+use Rattle.mv_plan.proofs.points.Points.{scheduler_goes, writer_asks, InitiatorAt}
+use Rattle.mv_plan.proofs.points.Points.{Purging, EndingJob}
+use Rattle.mv_plan.proofs.points.Points.{EndingForScheduler, EndingForWriter, initiator_asks, initiator_goes, InJob}
 use Rattle.mv_plan.proofs.points.Scheduler.{scheduler_says}
 use Rattle.mv_plan.proofs.points.SchedulerSound.{IsSchedulerAt}
 use Rattle.mv_plan.proofs.walks.Histories.{Stood, AreInTime, in_time, wrong_point}
 use Rattle.mv_plan.proofs.places.Moments.{Moment, Onward, onward, start_moment, ledger_start}
 use Rattle.mv_plan.proofs.walks.NoneLost.{NoneLost}
-use Rattle.mv_plan.proofs.walks.Walks.{Points, start_points, Move, WalkTo, walk_keeps, AllTasks}
-use Rattle.mv_plan.proofs.walks.Walks.{all_before}
-use Rattle.std.proofs.Common.{Bool}
+use Rattle.mv_plan.proofs.walks.Walks.{Points, start_points, Move, WalkTo, walk_keeps, AllTasks, all_before}
 use Rattle.mv_plan.proofs.walks.Moves.{entry_of, Each, of_move}
-use Rattle.mv_plan.proofs.lists.Tables.{with_at-same, with_at-other}
+use Rattle.mv_plan.proofs.lists.Tables.{all_but}
 use Rattle.mv_plan.proofs.ends.RightCodes.{IsCode}
 use Rattle.mv_plan.proofs.places.Ledger.{element_code}
-use Rattle.mv_plan.proofs.points.Views.{named_before, IsNotLost}
+use Rattle.mv_plan.proofs.points.Views.{named_before, IsNotLost, IsOfRounds}
 
 -- a wait that ended too soon stays so
 at_in_time : {X : Type 0} (x : X) (p : Point X) → p ≡ At x → p ≡ TooSoon → ⊥
@@ -74,29 +72,17 @@ none_lost_of initiators t w d = record {
 }
 
 of_rounds_or : (x : InitiatorAt) → (IsOfRounds x) ⊎ (IsOfRounds x → ⊥)
-of_rounds_or Opening = inl tt
-of_rounds_or (Offering more before g) = inl tt
-of_rounds_or (Pausing more before g) = inl tt
-of_rounds_or (Resuming more before g) = inl tt
-of_rounds_or (Obtaining run hand latch mode steps) = inr (λ z. z)
-of_rounds_or (Confirming run hand latch mode id steps) = inr (λ z. z)
-of_rounds_or (Freeing run hand latch id steps) = inr (λ z. z)
-of_rounds_or (Reading run hand volume amount steps) = inr (λ z. z)
-of_rounds_or (Writing run hand volume amount number steps) = inr (λ z. z)
-of_rounds_or (Scanning run hand volume steps) = inr (λ z. z)
-of_rounds_or (Rescanning run hand volume number steps) = inr (λ z. z)
-of_rounds_or (Purging run hand code) = inl tt
-of_rounds_or (EndingJob run code counts) = inl tt
-of_rounds_or (EndingForScheduler run code counts) = inl tt
-of_rounds_or (EndingForWriter run code counts) = inl tt
-of_rounds_or (Closing g) = inl tt
+of_rounds_or (InJob run (Purging hand code)) = inl tt
+of_rounds_or (InJob run (EndingJob code counts)) = inl tt
+of_rounds_or (InJob run (EndingForScheduler code counts)) = inl tt
+of_rounds_or (InJob run (EndingForWriter code counts)) = inl tt
+of_rounds_or (InJob run w) = inr (λ z. z)
+of_rounds_or x = inl tt
 
 extends_or : (x : SchedulerAt) → (NoExtend x)
     ⊎ ((j : ℕ) × (job : JobData) × (jobs : List JobData) × (skipped : Bool) × (x ≡ Extends j job jobs skipped))
-extends_or (Waits a w) = inl tt
 extends_or (Extends j job jobs skipped) = inr (j, job, jobs, skipped, refl)
-extends_or (Clears i g code after) = inl tt
-extends_or (Releases i g code after) = inl tt
+extends_or x = inl tt
 
 -- What the other laws show of an entry: a code in an element is 0 or a job's, the extend of a done block is answered Armed, and no
 -- reply to a job's step leads astray.
@@ -175,8 +161,8 @@ module _ (c : Setup) (deck : List JobData) (initiators : ℕ) (facts : Facts c (
           record {
             at_reader = foreseen_of t.reader w.now.none_lost.at_reader;
             at_scheduler = foreseen_of t.scheduler w.now.none_lost.at_scheduler;
-            at_initiator =
-                λ m less. each t i x r (initiated s t i x p r lt at nx w others) w.now.none_lost m less (cases_eq i m);
+            at_initiator = λ m less. all_but (λ m p. IsForeseen p) t.initiators i (initiator_goes deck x r) m
+                (initiated s t i x p r lt at nx w others) (λ other. foreseen_of (t.initiators m) (w.now.none_lost.at_initiator m less));
             at_writer =
                 foreseen_of t.writer w.now.none_lost.at_writer;
           };
@@ -187,15 +173,7 @@ module _ (c : Setup) (deck : List JobData) (initiators : ℕ) (facts : Facts c (
         at_writer = writer_foreseen c deck initiators facts s w.now.fits t.scheduler t.writer x r at w.arms.armed
             (subst (λ z. IsWriterAt n z) at w.now.stand.at_writer) nx.admits nx.reply;
       };
-    } where
-      each : (t : Points) (i : ℕ) (x : InitiatorAt) (r : Reply) → IsForeseen (initiator_goes deck x r) → NoneLost initiators t → (m : ℕ)
-          → m < initiators → (i ≡ m) ⊎ (i ≡ m → ⊥) → IsForeseen (with_at t.initiators i (initiator_goes deck x r) m)
-      each t i x r w f m less (inl same) =
-          subst (λ k. IsForeseen (with_at t.initiators i (initiator_goes deck x r) k)) same
-          (subst (λ z. IsForeseen z) (sym (with_at-same t.initiators i (initiator_goes deck x r))) w)
-      each t i x r w f m less (inr other) =
-          subst (λ z. IsForeseen z) (sym (with_at-other t.initiators i m (initiator_goes deck x r) other))
-          (foreseen_of (t.initiators m) (f.at_initiator m less))
+    }
 
   -- no task is astray behind a safe moment
   pub seen_next : (s : System) (t u : Points) (past : List Entry) (e : Entry) → IsNext c s e → Move deck initiators t e u

@@ -1,50 +1,38 @@
 -- No reply leads an initiator astray at a latch or a volume, where the hands are right and the sum is small.
-use Rattle.std.proofs.Common.{◌≡◌, ℕ, ◌+◌, ◌<◌, ◌^◌, nat_lt, Bool, true, false, if◌then◌else◌, List, [], ◌∷◌, Some, refl, sym, ap}
-use Rattle.std.proofs.Common.{◌∙◌, subst}
+use Rattle.std.proofs.Common.{◌≡◌, ℕ, ◌+◌, ◌<◌, ◌^◌, nat_lt, Bool, true, false, if◌then◌else◌, List, ◌∷◌, Some, refl, sym, ap, ◌∙◌, subst}
 use Rattle.std.specs.List.{list_any}
 use Rattle.std.proofs.lemmas.Bool.{lt-ltb, false≢true}
 use Rattle.mv_latch.specs.declared.operation.LatchOp.{LatchOp}
-use Rattle.mv_latch.specs.declared.operation.LatchOp.TheVariants as latch_op
-use Rattle.mv_latch.specs.declared.operation.LatchReply.TheVariants as latch_reply
-use Rattle.mv_latch.specs.declared.request.LatchForm.TheVariants as form_of
 use Rattle.mv_latch.specs.Latch.{grants, granted}
 use Rattle.mv_latch.specs.LatchSet.{list_of, latch_step}
 use Rattle.mv_latch.specs.Request.{is_own}
 use Rattle.mv_machine.specs.declared.entry.Object.TheVariants.{Volume, Latches}
-use Rattle.mv_machine.specs.declared.entry.Op.TheVariants as op_on
 use Rattle.mv_machine.specs.declared.entry.Reply.{Reply}
-use Rattle.mv_machine.specs.declared.entry.Reply.TheVariants as reply_of
-use Rattle.mv_machine.specs.declared.entry.VolumeOp.{VolumeOp}
-use Rattle.mv_machine.specs.declared.entry.VolumeOp.TheVariants as volume_op
 use Rattle.mv_machine.specs.Legal.{IsNext}
 use Rattle.mv_machine.specs.Setup.{Setup}
 use Rattle.mv_machine.specs.System.{System, volume_step}
-use Rattle.mv_machine.proofs.EntryRuns.{entry_of}
 use Rattle.mv_deck.specs.Deck.{JobData}
 use Rattle.mv_deck.specs.declared.deck.Step.{Step}
-use Rattle.mv_deck.specs.declared.deck.Step.TheVariants.{Print, Use, Free, Count, Scan, Abend, Return}
-use Rattle.mv_plan.proofs.deck.Plans.{ArePlannedSteps}
+use Rattle.mv_deck.specs.declared.deck.Step.TheVariants.{Print, Free}
 use Rattle.mv_plan.specs.SpoolSetup.{initiator}
+use Rattle.mv_latch.specs.declared.operation.LatchOp.TheVariants as latch_op
+use Rattle.mv_latch.specs.declared.operation.LatchReply.TheVariants as latch_reply
+use Rattle.mv_latch.specs.declared.request.LatchForm.TheVariants as form_of
+use Rattle.mv_machine.specs.declared.entry.Op.TheVariants as op_on
+use Rattle.mv_machine.specs.declared.entry.Reply.TheVariants as reply_of
+use Rattle.mv_machine.specs.declared.entry.VolumeOp.{VolumeOp}
+use Rattle.mv_machine.specs.declared.entry.VolumeOp.TheVariants as volume_op
+use Rattle.mv_machine.proofs.EntryRuns.{entry_of}
+use Rattle.mv_plan.proofs.deck.Plans.{ArePlannedSteps}
 use Rattle.mv_plan.proofs.latches.HandMoves.{has_latch}
 use Rattle.mv_plan.proofs.latches.Hands.{grip, OwnsBy, confirm_stands, free_stands}
 use Rattle.mv_plan.proofs.points.InitiatorSound.{held_of, IsHand, IsInitiatorAt, held_request, obtained_stand, freed_stand}
 use Rattle.mv_plan.proofs.latches.Lists.{new_request, obtained_reply, released_reply}
 use Rattle.mv_plan.proofs.points.Points.{Point, At, Astray, Running, Hand, hand_with, hand_without, InitiatorAt, Obtaining, Confirming}
-use Rattle.mv_plan.proofs.points.Points.{Freeing, Reading, Writing, Scanning, Rescanning, Purging, initiator_goes}
-use Rattle.mv_plan.proofs.points.Points.{freeing_at, steps_at}
+use Rattle.mv_plan.proofs.points.Points.{Freeing, Reading, Writing, Scanning, Rescanning, initiator_goes, freeing_at, steps_at}
+use Rattle.mv_plan.proofs.points.Points.{InJob}
 use Rattle.mv_plan.proofs.volumes.Dues.{NextAt}
-
--- an initiator's point at which it says an event on the latch set or on a volume
-abbrev pub IsServed : InitiatorAt → Type 0
-IsServed (Obtaining run hand latch mode steps) = Unit {0}
-IsServed (Confirming run hand latch mode id steps) = Unit {0}
-IsServed (Freeing run hand latch id steps) = Unit {0}
-IsServed (Reading run hand volume amount steps) = Unit {0}
-IsServed (Writing run hand volume amount number steps) = Unit {0}
-IsServed (Scanning run hand volume steps) = Unit {0}
-IsServed (Rescanning run hand volume number steps) = Unit {0}
-IsServed (Purging run hand code) = Unit {0}
-IsServed x = ⊥
+use Rattle.mv_plan.proofs.points.Views.{IsOfRounds}
 
 abbrev pub IsWell : Point InitiatorAt → Type 0
 IsWell p = p ≡ Astray → ⊥
@@ -52,18 +40,13 @@ IsWell p = p ≡ Astray → ⊥
 -- the steps of a sound job: what is freed is held, so that its request is known
 pub steps_well : (run : Running) (hand : Hand) (steps : List Step) → IsHand hand → ArePlannedSteps (held_of hand.holding) steps
     → IsWell (steps_at run hand steps)
-steps_well run hand [] h s e = absurd (cc e)
 steps_well run hand (Print text ∷ steps) h s e = steps_well run hand steps h s e
-steps_well run hand (Use latch mode ∷ steps) h s e = absurd (cc e)
 steps_well run hand (Free latch ∷ steps) h s e =
     let it : (id : ℕ) × (hand.requests latch ≡ Some id) = held_request hand.requests latch hand.holding h.last s.1 in
     known (subst (λ slot. freeing_at run hand latch slot steps ≡ Astray) it.1 e) where
-      known : {id : ℕ} → At (Freeing run hand latch id steps) ≡ Astray → ⊥
+      known : {id : ℕ} → At (InJob run (Freeing hand latch id steps)) ≡ Astray → ⊥
       known q = absurd (cc q)
-steps_well run hand (Count volume amount ∷ steps) h s e = absurd (cc e)
-steps_well run hand (Scan volume ∷ steps) h s e = absurd (cc e)
-steps_well run hand (Abend code ∷ steps) h s e = absurd (cc e)
-steps_well run hand (Return code ∷ steps) h s e = absurd (cc e)
+steps_well run hand steps h s e = absurd (cc e)
 
 module _ (c : Setup) (s : System) (deck : List JobData) (i : ℕ) where
   latch_says : (p : ℕ) (op : LatchOp) (r : Reply) → IsNext c s (entry_of (initiator i) Latches p (op_on.Latch op) r)
@@ -76,35 +59,35 @@ module _ (c : Setup) (s : System) (deck : List JobData) (i : ℕ) where
 
   -- No reply is unforeseen: an Obtain is granted or queued, a Confirm does not find its request gone, a Release lets it go; and
   -- where a COUNT's sum has 32 bits, it is written.
-  pub serves : (x : InitiatorAt) (p : ℕ) (r : Reply) → IsServed x → NextAt c s deck i x p r → IsInitiatorAt deck (At x)
+  pub serves : (x : InitiatorAt) (p : ℕ) (r : Reply) → (IsOfRounds x → ⊥) → NextAt c s deck i x p r → IsInitiatorAt deck (At x)
       → OwnsBy s.latches.state (initiator i) (grip (At x))
-      → ((run : Running) (hand : Hand) (volume amount : ℕ) (steps : List Step) → x ≡ Reading run hand volume amount steps
+      → ((run : Running) (hand : Hand) (volume amount : ℕ) (steps : List Step) → x ≡ InJob run (Reading hand volume amount steps)
       → (s.volume volume).state + amount < 2 ^ 32) → IsWell (initiator_goes deck x r)
-  serves (Obtaining run hand latch mode steps) p r on h a w small =
-      subst (λ y. IsWell (initiator_goes deck (Obtaining run hand latch mode steps) y))
+  serves (InJob run (Obtaining hand latch mode steps)) p r on h a w small =
+      subst (λ y. IsWell (initiator_goes deck (InJob run (Obtaining hand latch mode steps)) y))
       (sym (latch_says p (latch_op.Obtain latch (run.job + 1) mode form_of.Waiting) r h
       ∙ ap (λ y. reply_of.Latch y) (obtained_reply (initiator i) s.latches.place latch (run.job + 1) mode s.latches.state)))
       (go (grants (list_of s.latches.state latch) (new_request (initiator i) s.latches.place (run.job + 1) mode))) where
-        go : (b : Bool) → IsWell (initiator_goes deck (Obtaining run hand latch mode steps)
+        go : (b : Bool) → IsWell (initiator_goes deck (InJob run (Obtaining hand latch mode steps))
             (reply_of.Latch (if b then latch_reply.Granted s.latches.place else latch_reply.Queued s.latches.place)))
         go true e = steps_well run (hand_with hand latch mode s.latches.place) steps
             (obtained_stand deck run hand latch mode s.latches.place steps a).holds
             (obtained_stand deck run hand latch mode s.latches.place steps a).sound e
         go false e = absurd (cc e)
-  serves (Confirming run hand latch mode id steps) p r on h a w small =
-      subst (λ y. IsWell (initiator_goes deck (Confirming run hand latch mode id steps) y))
+  serves (InJob run (Confirming hand latch mode id steps)) p r on h a w small =
+      subst (λ y. IsWell (initiator_goes deck (InJob run (Confirming hand latch mode id steps)) y))
       (sym (latch_says p (latch_op.Confirm latch id) r h))
       (go (list_any (is_own (initiator i) id) (granted (list_of s.latches.state latch)))
       (list_any (is_own (initiator i) id) (list_of s.latches.state latch))
       (confirm_stands s.latches.state (initiator i) run.job hand.holding (record { latch = latch; mode = mode; id = id }) w)) where
         go : (b d : Bool) → d ≡ true → IsWell
-            (initiator_goes deck (Confirming run hand latch mode id steps)
+            (initiator_goes deck (InJob run (Confirming hand latch mode id steps))
             (reply_of.Latch (if b then latch_reply.Granted id else if d then latch_reply.Waiting else latch_reply.Gone)))
         go true d t e = steps_well run (hand_with hand latch mode id) steps (obtained_stand deck run hand latch mode id steps a).holds
             (obtained_stand deck run hand latch mode id steps a).sound e
         go false true t e = absurd (cc e)
         go false false t e = absurd (false≢true t)
-  serves (Freeing run hand latch id steps) p r on h a w small = λ e.
+  serves (InJob run (Freeing hand latch id steps)) p r on h a w small = λ e.
       let there : list_any (is_own (initiator i) id) (list_of s.latches.state latch) ≡ true =
       free_stands s.latches.state (initiator i) run.job latch id hand.requests hand.holding w a.0.holds.last a.1
       (sym (has_latch latch hand.holding) ∙ a.0.sound.1) in
@@ -113,27 +96,26 @@ module _ (c : Setup) (s : System) (deck : List JobData) (i : ℕ) where
       released_reply (initiator i) s.latches.place latch id s.latches.state there in
       steps_well run (hand_without hand latch) steps (freed_stand deck run hand latch steps a.0).holds
       (freed_stand deck run hand latch steps a.0).sound
-      (subst (λ y. initiator_goes deck (Freeing run hand latch id steps) y ≡ Astray)
+      (subst (λ y. initiator_goes deck (InJob run (Freeing hand latch id steps)) y ≡ Astray)
       (latch_says p (latch_op.Release latch id false) r h ∙ ap (λ y. reply_of.Latch y) it.1) e)
-  serves (Reading run hand volume amount steps) p r on h a w small =
-      subst (λ y. IsWell (initiator_goes deck (Reading run hand volume amount steps) y)) (sym (volume_says volume p volume_op.Read r h))
+  serves (InJob run (Reading hand volume amount steps)) p r on h a w small =
+      subst (λ y. IsWell (initiator_goes deck (InJob run (Reading hand volume amount steps)) y))
+      (sym (volume_says volume p volume_op.Read r h))
       (go (nat_lt ((s.volume volume).state + amount) (2 ^ 32))
       (lt-ltb ((s.volume volume).state + amount) (2 ^ 32) (small run hand volume amount steps refl))) where
-        go : (b : Bool) → b ≡ true → IsWell (if b then At (Writing run hand volume amount (s.volume volume).state steps) else Astray)
+        go : (b : Bool) → b ≡ true → IsWell (if b then At (InJob run (Writing hand volume amount (s.volume volume).state steps)) else
+            Astray)
         go true t e = absurd (cc e)
         go false t e = absurd (false≢true t)
-  serves (Writing run hand volume amount number steps) p r on h a w small =
-      subst (λ y. IsWell (initiator_goes deck (Writing run hand volume amount number steps) y))
+  serves (InJob run (Writing hand volume amount number steps)) p r on h a w small =
+      subst (λ y. IsWell (initiator_goes deck (InJob run (Writing hand volume amount number steps)) y))
       (sym (volume_says volume p (volume_op.Write (number + amount)) r h))
       (steps_well run hand steps a.holds a.sound.4)
-  serves (Scanning run hand volume steps) p r on h a w small =
-      subst (λ y. IsWell (initiator_goes deck (Scanning run hand volume steps) y)) (sym (volume_says volume p volume_op.Read r h))
+  serves (InJob run (Scanning hand volume steps)) p r on h a w small =
+      subst (λ y. IsWell (initiator_goes deck (InJob run (Scanning hand volume steps)) y)) (sym (volume_says volume p volume_op.Read r h))
       (λ e. absurd (cc e))
-  serves (Rescanning run hand volume number steps) p r on h a w small =
-      subst (λ y. IsWell (initiator_goes deck (Rescanning run hand volume number steps) y))
+  serves (InJob run (Rescanning hand volume number steps)) p r on h a w small =
+      subst (λ y. IsWell (initiator_goes deck (InJob run (Rescanning hand volume number steps)) y))
       (sym (volume_says volume p volume_op.Read r h))
       (steps_well run hand steps a.holds a.sound.2)
-  serves (Purging run hand code) p r on h a w small =
-      subst (λ y. IsWell (initiator_goes deck (Purging run hand code) y)) (sym (latch_says p (latch_op.Purge (run.job + 1)) r h))
-      (λ e. absurd (cc e))
-  serves x p r on h a w small = absurd on
+  serves x p r on h a w small = absurd (on tt)

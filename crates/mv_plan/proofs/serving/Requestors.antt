@@ -1,20 +1,14 @@
 -- How often a job's requestor is purged: as often as the job was named, but for who still works on it. So a job that is named
 -- once has one initiator, and none that works on it has purged it.
-use Rattle.std.proofs.Common.{◌≡◌, ℕ, zero, suc, ◌+◌, ◌^◌, ◌<◌, ◌≤◌, ◌==◌, ◌||◌, nat_lt, Bool, true, false, if◌then◌else◌, List, [], ◌∷◌}
-use Rattle.std.proofs.Common.{◌++◌, length, Option, Some, None, inl, inr, refl, sym, ap, ◌∙◌, subst, arith}
-use Rattle.std.specs.List.{list_any}
+use Rattle.std.proofs.Common.{◌≡◌, ℕ, zero, suc, ◌+◌, ◌<◌, ◌≤◌, ◌==◌, ◌||◌, Bool, true, false, if◌then◌else◌, List, [], ◌∷◌, ◌++◌, length}
+use Rattle.std.proofs.Common.{Option, Some, None, inl, inr, refl, sym, ap, ◌∙◌, subst, arith}
 use Rattle.std.proofs.lemmas.Bool.{cases_eq, eq-eqb, ne_eqb, eqb-true, or_left, or_right, false≢true}
 use Rattle.std.proofs.lemmas.List.{length-append}
 use Rattle.std.proofs.lemmas.List.Elements.{filter-append, filter_map-append}
-use Rattle.mv_ecb.specs.declared.operation.EcbReply.TheVariants as ecb_reply
-use Rattle.mv_element.specs.declared.operation.ElementReply.TheVariants as element_reply
-use Rattle.mv_latch.specs.declared.operation.LatchReply.TheVariants as latch_reply
 use Rattle.mv_machine.specs.declared.entry.Entry.{Entry}
 use Rattle.mv_machine.specs.declared.entry.Object.{Object}
 use Rattle.mv_machine.specs.declared.entry.Op.{Op}
 use Rattle.mv_machine.specs.declared.entry.Reply.{Reply}
-use Rattle.mv_machine.specs.declared.entry.Reply.TheVariants as reply_of
-use Rattle.mv_machine.specs.declared.entry.VolumeReply.TheVariants as volume_reply
 use Rattle.mv_machine.specs.Legal.{IsNext}
 use Rattle.mv_machine.specs.Setup.{Setup}
 use Rattle.mv_machine.specs.System.{System, with_at}
@@ -22,25 +16,33 @@ use Rattle.mv_plan.specs.HandingOut.{gift_code, naming, given_codes}
 use Rattle.mv_plan.specs.Purging.{is_obtain, purges}
 use Rattle.mv_deck.specs.Deck.{JobData}
 use Rattle.mv_deck.specs.declared.deck.Step.{Step}
-use Rattle.mv_deck.specs.declared.deck.Step.TheVariants.{Print, Use, Free, Count, Scan, Abend, Return}
+use Rattle.mv_deck.specs.declared.deck.Step.TheVariants.{Print, Free}
 use Rattle.mv_plan.specs.Jobs.{job_at}
-use Rattle.mv_plan.specs.SpoolTasks.{Named, job_named, code_of, not_to_run}
+use Rattle.mv_plan.specs.SpoolTasks.{code_of, not_to_run}
+use Rattle.mv_machine.specs.Orderly.{purged_by}
+use Rattle.mv_element.specs.declared.operation.ElementReply.TheVariants as element_reply
+use Rattle.mv_latch.specs.declared.operation.LatchReply.TheVariants as latch_reply
+use Rattle.mv_machine.specs.declared.entry.Reply.TheVariants as reply_of
+use Rattle.mv_machine.specs.declared.entry.VolumeReply.TheVariants as volume_reply
 use Rattle.mv_plan.proofs.volumes.GivenCodes.{with_code}
 use Rattle.mv_plan.proofs.latches.HandMoves.{Apart, works}
 use Rattle.mv_plan.proofs.points.InitiatorSound.{named_is, IsInitiatorAt}
-use Rattle.mv_plan.proofs.points.Points.{Point, At, Astray, Running, Hand, empty_hand, InitiatorAt, Opening, Offering, Pausing, Resuming}
-use Rattle.mv_plan.proofs.points.Points.{Obtaining, Confirming, Freeing, Reading, Writing, Scanning, Rescanning, Purging, EndingJob}
-use Rattle.mv_plan.proofs.points.Points.{EndingForScheduler, EndingForWriter, Closing, initiator_asks, initiator_goes, rounds_from}
-use Rattle.mv_plan.proofs.points.Points.{freeing_at, steps_at, running, job_start, named_at, given_at, ReaderAt, Entering, SchedulerAt}
-use Rattle.mv_plan.proofs.points.Points.{Waits, Extends, Clears, Releases, Arming, Settling, WriterAt, Keeping, reader_asks}
-use Rattle.mv_plan.proofs.points.Points.{scheduler_asks, writer_asks}
+use Rattle.mv_plan.proofs.points.Points.{Point, At, Running, Hand, empty_hand, InitiatorAt, Opening, Offering, Pausing, Resuming}
+use Rattle.mv_plan.proofs.points.Points.{rounds_after, Obtaining, Confirming, Freeing, Reading, Writing, Scanning, Rescanning, Purging}
+use Rattle.mv_plan.proofs.points.Points.{EndingJob, EndingForScheduler, EndingForWriter, Closing, initiator_asks, initiator_goes}
+use Rattle.mv_plan.proofs.points.Points.{rounds_from, steps_at, running, job_start, given_at, ReaderAt, Entering}
+use Rattle.mv_plan.proofs.points.Points.{SchedulerAt, Waits, Arming, Settling, WriterAt, Keeping, reader_asks}
+use Rattle.mv_plan.proofs.points.Points.{scheduler_asks, writer_asks, InJob}
 use Rattle.mv_plan.proofs.walks.Walks.{Points, start_points, Move, reads, schedules, initiates, writes}
 use Rattle.mv_plan.proofs.volumes.Sums.{sum_to, sum_zero, sum_member, sum_with_at, sum_change}
 use Rattle.mv_plan.proofs.walks.NoneLost.{NoneLost, none_lost_before}
 use Rattle.mv_plan.proofs.points.Asks.{IsNoPause, no_gift, reader_no_pause, scheduler_no_pause, writer_no_pause}
 use Rattle.mv_plan.proofs.lists.Tables.{with_at-same, with_at-other}
-use Rattle.mv_plan.proofs.points.Views.{IsNotLost}
-use Rattle.mv_machine.specs.Orderly.{purged_by}
+use Rattle.mv_plan.proofs.points.Views.{IsNotLost, run_of}
+use Rattle.mv_plan.proofs.points.Lands.{freeing_lands, given_lands, ended_lands, counting_lands}
+use Rattle.mv_plan.proofs.points.PostsAndWaits.{on_posted_keeps}
+use Rattle.mv_plan.proofs.latches.Exclusion.{works_run}
+use Rattle.mv_plan.proofs.ends.WhoPosts.{run_below}
 
 -- ---- counts
 
@@ -129,18 +131,11 @@ module _ (j : ℕ) where
 
   works_steps : (run : Running) (hand : Hand) (steps : List Step) → IsNotLost (steps_at run hand steps)
       → works (steps_at run hand steps) ≡ Some run.job
-  works_steps run hand [] n = refl
   works_steps run hand (Print text ∷ steps) n = works_steps run hand steps n
-  works_steps run hand (Use latch mode ∷ steps) n = refl
-  works_steps run hand (Free latch ∷ steps) n = go (hand.requests latch) n where
-    go : (slot : Option ℕ) → IsNotLost (freeing_at run hand latch slot steps)
-        → works (freeing_at run hand latch slot steps) ≡ Some run.job
-    go None n = absurd n
-    go (Some id) n = refl
-  works_steps run hand (Count volume amount ∷ steps) n = refl
-  works_steps run hand (Scan volume ∷ steps) n = refl
-  works_steps run hand (Abend code ∷ steps) n = refl
-  works_steps run hand (Return code ∷ steps) n = refl
+  works_steps run hand (Free latch ∷ steps) n =
+      freeing_lands (λ p. IsNotLost p → works p ≡ Some run.job) (λ n. absurd n) run hand latch (hand.requests latch) steps
+      (λ id e n. refl) n
+  works_steps run hand steps n = refl
 
   work_steps : (run : Running) (hand : Hand) (steps : List Step) → IsNotLost (steps_at run hand steps)
       → work j (steps_at run hand steps) ≡ here j (Some run.job)
@@ -152,31 +147,14 @@ module _ (j : ℕ) where
   work_start run job false n = work_steps run empty_hand job.steps n
 
   module _ (deck : List JobData) (few : length deck ≤ not_to_run) (below : j < length deck) where
-    work_named : (code : ℕ) (slot : Option Named) → job_named (length deck) code ≡ slot → (before : List ℕ) (more g : ℕ)
-        → IsNotLost (named_at deck slot before more g)
-        → work j (named_at deck slot before more g) ≡ length (with_code (naming j (Some code)) [])
-    work_named code None e before more g n = absurd n
-    work_named code (Some named) e before zero g n = absurd n
-    work_named code (Some named) e before (suc more) g n =
-        go (list_any (λ j. j == named.job) before) n
-        ∙ sym (names_is (length deck) j named.job named.skipped few below (named_is (length deck) code named e).0)
-        ∙ ap (λ z. length (with_code (naming j (Some z)) [])) (sym (named_is (length deck) code named e).1) where
-          go : (b : Bool) → IsNotLost (if b then Astray else job_start named.skipped (running named before (suc more) g)
-              (job_at deck named.job))
-              → work j (if b then Astray else job_start named.skipped (running named before (suc more) g) (job_at deck named.job))
-              ≡ here j (Some named.job)
-          go true n = absurd n
-          go false n = work_start (running named before (suc more) g) (job_at deck named.job) named.skipped n
-
     work_given : (more : ℕ) (before : List ℕ) (code g : ℕ) → IsNotLost (given_at deck more before code g)
         → work j (given_at deck more before code g) ≡ length (with_code (naming j (Some code)) [])
-    work_given more before code g = go (code == 0) refl where
-      go : (b : Bool) → (code == 0) ≡ b
-          → IsNotLost (if b then At (Closing g) else named_at deck (job_named (length deck) code) before more g)
-          → work j (if b then At (Closing g) else named_at deck (job_named (length deck) code) before more g) ≡ length
-          (with_code (naming j (Some code)) [])
-      go true e n = sym (ap (λ z. length (with_code (naming j (Some z)) [])) (eqb-true code 0 e) ∙ names_zero j)
-      go false e n = work_named code (job_named (length deck) code) refl before more g n
+    work_given more before code g =
+        given_lands (λ p. IsNotLost p → work j p ≡ length (with_code (naming j (Some code)) [])) (λ n. absurd n) deck more before code g
+        (λ z n. sym (ap (λ z. length (with_code (naming j (Some z)) [])) z ∙ names_zero j))
+        (λ named left e t m n. work_start (running named before (suc left) g) (job_at deck named.job) named.skipped n
+        ∙ sym (names_is (length deck) j named.job named.skipped few below (named_is (length deck) code named e).0)
+        ∙ ap (λ z. length (with_code (naming j (Some z)) [])) (sym (named_is (length deck) code named e).1))
 
     to_none : (w : ℕ) → w ≡ 0 → 0 + w ≡ 0 + 0
     to_none w e = omega arith
@@ -199,63 +177,42 @@ module _ (j : ℕ) where
 
     own_work : (i : ℕ) (x : InitiatorAt) (r : Reply) → IsNotLost (initiator_goes deck x r) → WorkNext i x r
     own_work i Opening (reply_of.Element (element_reply.Opened g)) n = to_none _ (work_rounds (length deck + 1) [] g)
-    own_work i Opening r n = absurd n
-    own_work i (Offering more before g) (reply_of.Ecb ecb_reply.Posted) n = refl
-    own_work i (Offering more before g) (reply_of.Ecb (ecb_reply.Woke x)) n = refl
-    own_work i (Offering more before g) (reply_of.Ecb (ecb_reply.Already code)) n = refl
-    own_work i (Offering more before g) r n = absurd n
+    own_work i (Offering more before g) (reply_of.Ecb y) n =
+        on_posted_keeps (λ q. IsNotLost q → 0 + work j q ≡ 0) (At (Pausing more before g)) (reply_of.Ecb y) (λ n. refl) (λ n. absurd n) n
     own_work i (Pausing more before g) (reply_of.Element (element_reply.Given code now)) n =
         to_gift _ _ (work_given more before code now n)
     own_work i (Pausing more before g) (reply_of.Element element_reply.Parked) n = refl
-    own_work i (Pausing more before g) r n = absurd n
     own_work i (Resuming more before g) (reply_of.Element (element_reply.Given code now)) n =
         to_gift _ _ (work_given more before code now n)
     own_work i (Resuming more before g) (reply_of.Element element_reply.NotYet) n = absurd n
-    own_work i (Resuming more before g) r n = absurd n
-    own_work i (Obtaining run hand latch mode steps) (reply_of.Latch (latch_reply.Granted id)) n =
+    own_work i (InJob run (Obtaining hand latch mode steps)) (reply_of.Latch (latch_reply.Granted id)) n =
         to_same _ _ (work_steps run _ steps n)
-    own_work i (Obtaining run hand latch mode steps) (reply_of.Latch (latch_reply.Queued id)) n = to_same _ _ refl
-    own_work i (Obtaining run hand latch mode steps) r n = absurd n
-    own_work i (Confirming run hand latch mode id steps) (reply_of.Latch (latch_reply.Granted same)) n =
+    own_work i (InJob run (Obtaining hand latch mode steps)) (reply_of.Latch (latch_reply.Queued id)) n = to_same _ _ refl
+    own_work i (InJob run (Confirming hand latch mode id steps)) (reply_of.Latch (latch_reply.Granted same)) n =
         to_same _ _ (work_steps run _ steps n)
-    own_work i (Confirming run hand latch mode id steps) (reply_of.Latch latch_reply.Waiting) n = absurd n
-    own_work i (Confirming run hand latch mode id steps) r n = absurd n
-    own_work i (Freeing run hand latch id steps) (reply_of.Latch (latch_reply.Released count)) n =
+    own_work i (InJob run (Confirming hand latch mode id steps)) (reply_of.Latch latch_reply.Waiting) n = absurd n
+    own_work i (InJob run (Freeing hand latch id steps)) (reply_of.Latch (latch_reply.Released count)) n =
         to_same _ _ (work_steps run _ steps n)
-    own_work i (Freeing run hand latch id steps) r n = absurd n
-    own_work i (Reading run hand volume amount steps) (reply_of.Volume (volume_reply.Value number)) n =
-        go (nat_lt (number + amount) (2 ^ 32)) n where
-          go : (b : Bool) → IsNotLost (if b then At (Writing run hand volume amount number steps) else Astray)
-              → 0 + work j (if b then At (Writing run hand volume amount number steps) else Astray) ≡ here j (Some run.job) + 0
-          go true n = to_same _ _ refl
-          go false n = absurd n
-    own_work i (Reading run hand volume amount steps) r n = absurd n
-    own_work i (Writing run hand volume amount number steps) (reply_of.Volume volume_reply.Stored) n =
+    own_work i (InJob run (Reading hand volume amount steps)) (reply_of.Volume (volume_reply.Value number)) n =
+        counting_lands (λ q. IsNotLost q → 0 + work j q ≡ here j (Some run.job) + 0) (λ n. absurd n) run hand volume amount steps number
+        (λ n. to_same _ _ refl) n
+    own_work i (InJob run (Writing hand volume amount number steps)) (reply_of.Volume volume_reply.Stored) n =
         to_same _ _ (work_steps run hand steps n)
-    own_work i (Writing run hand volume amount number steps) r n = absurd n
-    own_work i (Scanning run hand volume steps) (reply_of.Volume (volume_reply.Value number)) n = to_same _ _ refl
-    own_work i (Scanning run hand volume steps) r n = absurd n
-    own_work i (Rescanning run hand volume number steps) (reply_of.Volume (volume_reply.Value again)) n =
+    own_work i (InJob run (Scanning hand volume steps)) (reply_of.Volume (volume_reply.Value number)) n = to_same _ _ refl
+    own_work i (InJob run (Rescanning hand volume number steps)) (reply_of.Volume (volume_reply.Value again)) n =
         to_same _ _ (work_steps run hand steps n)
-    own_work i (Rescanning run hand volume number steps) r n = absurd n
-    own_work i (Purging run hand code) (reply_of.Latch (latch_reply.Purged removed count)) n = same_job run.job
-    own_work i (Purging run hand code) r n = absurd n
-    own_work i (EndingJob run code counts) (reply_of.Ecb (ecb_reply.Woke (suc x))) n = refl
-    own_work i (EndingJob run code counts) (reply_of.Ecb (ecb_reply.Woke zero)) n = to_none _ (work_rounds run.more _ run.generation)
-    own_work i (EndingJob run code counts) (reply_of.Ecb ecb_reply.Posted) n = to_none _ (work_rounds run.more _ run.generation)
-    own_work i (EndingJob run code counts) (reply_of.Ecb (ecb_reply.Already old)) n = to_none _ (work_rounds run.more _ run.generation)
-    own_work i (EndingJob run code counts) r n = absurd n
-    own_work i (EndingForScheduler run code counts) (reply_of.Ecb ecb_reply.Posted) n = refl
-    own_work i (EndingForScheduler run code counts) (reply_of.Ecb (ecb_reply.Woke x)) n = refl
-    own_work i (EndingForScheduler run code counts) (reply_of.Ecb (ecb_reply.Already old)) n = refl
-    own_work i (EndingForScheduler run code counts) r n = absurd n
-    own_work i (EndingForWriter run code counts) (reply_of.Ecb ecb_reply.Posted) n = to_none _ (work_rounds run.more _ run.generation)
-    own_work i (EndingForWriter run code counts) (reply_of.Ecb (ecb_reply.Woke x)) n = to_none _ (work_rounds run.more _ run.generation)
-    own_work i (EndingForWriter run code counts) (reply_of.Ecb (ecb_reply.Already old)) n =
-        to_none _ (work_rounds run.more _ run.generation)
-    own_work i (EndingForWriter run code counts) r n = absurd n
+    own_work i (InJob run (Purging hand code)) (reply_of.Latch (latch_reply.Purged removed count)) n = same_job run.job
+    own_work i (InJob run (EndingJob code counts)) (reply_of.Ecb y) n =
+        ended_lands (λ q. IsNotLost q → 0 + work j q ≡ 0 + 0) (λ n. absurd n) run code counts (reply_of.Ecb y) (λ n. refl)
+        (λ n. to_none _ (work_rounds run.more _ run.generation)) n
+    own_work i (InJob run (EndingForScheduler code counts)) (reply_of.Ecb y) n =
+        on_posted_keeps (λ q. IsNotLost q → 0 + work j q ≡ 0) (At (InJob run (EndingForWriter code counts))) (reply_of.Ecb y) (λ n. refl)
+        (λ n. absurd n) n
+    own_work i (InJob run (EndingForWriter code counts)) (reply_of.Ecb y) n =
+        on_posted_keeps (λ q. IsNotLost q → 0 + work j q ≡ 0 + 0) (rounds_after run) (reply_of.Ecb y)
+        (λ n. to_none _ (work_rounds run.more _ run.generation)) (λ n. absurd n) n
     own_work i (Closing g) (reply_of.Element element_reply.Closed) n = refl
-    own_work i (Closing g) r n = absurd n
+    own_work i x r n = absurd n
 
 -- ---- the balance
 
@@ -278,10 +235,7 @@ reader_no_request (Entering j more) r = (refl, refl)
 
 pub scheduler_no_request : (n : ℕ) (x : SchedulerAt) → IsNoRequest (scheduler_asks n x).1
 scheduler_no_request n (Waits a (Arming e todo)) r = (refl, refl)
-scheduler_no_request n (Waits a (Settling e todo slots)) r = (refl, refl)
-scheduler_no_request n (Extends j job jobs skipped) r = (refl, refl)
-scheduler_no_request n (Clears i g code after) r = (refl, refl)
-scheduler_no_request n (Releases i g code after) r = (refl, refl)
+scheduler_no_request n x r = (refl, refl)
 
 pub writer_no_request : (x : WriterAt) → IsNoRequest (writer_asks x).1
 writer_no_request (Keeping j more ends (Arming e todo)) r = (refl, refl)
@@ -396,19 +350,5 @@ unpurged deck initiators t past i j lt below a none w once =
 
 -- whoever works on a job, it is one of the deck's
 pub works_bound : (deck : List JobData) (p : Point InitiatorAt) (job : ℕ) → IsInitiatorAt deck p → works p ≡ Some job → job < length deck
-works_bound deck (At (Obtaining run hand latch mode steps)) job a e =
-    subst (λ j. j < length deck) (let q : run.job ≡ job = cc e in q) a.round.job
-works_bound deck (At (Confirming run hand latch mode id steps)) job a e =
-    subst (λ j. j < length deck) (let q : run.job ≡ job = cc e in q) a.round.job
-works_bound deck (At (Freeing run hand latch id steps)) job a e =
-    subst (λ j. j < length deck) (let q : run.job ≡ job = cc e in q) a.0.round.job
-works_bound deck (At (Reading run hand volume amount steps)) job a e =
-    subst (λ j. j < length deck) (let q : run.job ≡ job = cc e in q) a.round.job
-works_bound deck (At (Writing run hand volume amount number steps)) job a e =
-    subst (λ j. j < length deck) (let q : run.job ≡ job = cc e in q) a.round.job
-works_bound deck (At (Scanning run hand volume steps)) job a e =
-    subst (λ j. j < length deck) (let q : run.job ≡ job = cc e in q) a.round.job
-works_bound deck (At (Rescanning run hand volume number steps)) job a e =
-    subst (λ j. j < length deck) (let q : run.job ≡ job = cc e in q) a.round.job
-works_bound deck (At (Purging run hand code)) job a e = subst (λ j. j < length deck) (let q : run.job ≡ job = cc e in q) a.round.job
-works_bound deck p job a e = absurd (cc e)
+works_bound deck p job a e = let w : (run : Running) × (run_of p ≡ Some run) × (run.job ≡ job) = works_run p job e in
+    subst (λ j. j < length deck) w.2 (run_below deck p w.0 a w.1)

@@ -4,18 +4,18 @@ use Rattle.mv_machine.specs.declared.entry.Entry.{Entry}
 use Rattle.mv_machine.specs.Legal.{IsNext, next}
 use Rattle.mv_machine.specs.Setup.{Setup}
 use Rattle.mv_machine.specs.System.{System, opening}
-use Rattle.mv_machine.proofs.EntryRuns.{entry_of}
 use Rattle.mv_plan.specs.HandingOut.{given_codes}
 use Rattle.mv_deck.specs.Deck.{JobData}
-use Rattle.mv_plan.proofs.deck.Plans.{IsPlanned}
 use Rattle.mv_plan.specs.SpoolSetup.{initiator}
 use Rattle.mv_plan.specs.SpoolTasks.{code_of, not_to_run}
+use Rattle.mv_machine.proofs.EntryRuns.{entry_of}
+use Rattle.mv_plan.proofs.deck.Plans.{IsPlanned}
 use Rattle.mv_plan.proofs.volumes.Alone.{Latched, latched_next, latched_start}
 use Rattle.mv_plan.proofs.volumes.GivenCodes.{codes_of, count_of}
 use Rattle.mv_plan.proofs.latches.HandMoves.{Apart, of_entry}
 use Rattle.mv_plan.proofs.latches.Hands.{OwnsBy, grip}
 use Rattle.mv_plan.proofs.points.InitiatorSound.{IsInitiatorAt}
-use Rattle.mv_plan.proofs.serving.LatchCases.{IsServed, serves}
+use Rattle.mv_plan.proofs.serving.LatchCases.{serves}
 use Rattle.mv_plan.proofs.points.Points.{At, Astray, InitiatorAt, initiator_asks, initiator_goes}
 use Rattle.mv_plan.proofs.serving.Requestors.{WorkBalance, works_start, works_next, NamedOnce}
 use Rattle.mv_plan.proofs.walks.Walks.{Points, start_points, Move}
@@ -23,6 +23,7 @@ use Rattle.mv_plan.proofs.walks.NoneLost.{NoneLost}
 use Rattle.mv_plan.proofs.volumes.Balance.{Balance, balance_start, balance_next, OnceEach, count_small}
 use Rattle.mv_plan.proofs.volumes.Totals.{named_few}
 use Rattle.mv_plan.proofs.walks.Stands.{AreSound}
+use Rattle.mv_plan.proofs.points.Views.{IsOfRounds}
 
 -- The latch lists are as the initiators' points say, and each volume has what the jobs that were named add but for what is
 -- still to come; and a job was purged as often as it was named, but for who works on it.
@@ -56,7 +57,7 @@ once_each deck past once j lt =
 pub served_well : (c : Setup) (deck : List JobData) (initiators : ℕ) (s : System) (t : Points) (past : List Entry) (e : Entry) (i : ℕ)
     (x : InitiatorAt) → 1 ≤ initiators → IsPlanned deck initiators
     → AreSound deck initiators t → NoneLost initiators t → NamedOnce deck past → Served deck initiators s t past → IsNext c s e
-    → IsServed x → i < initiators → e.caller ≡ initiator i → t.initiators i ≡ At x
+    → (IsOfRounds x → ⊥) → i < initiators → e.caller ≡ initiator i → t.initiators i ≡ At x
     → e.object ≡ (initiator_asks (length deck) i x).0 → e.op ≡ (initiator_asks (length deck) i x).1
     → initiator_goes deck x e.reply ≡ Astray → ⊥
 served_well c deck initiators s t past e i x some sound are none once w h on lt k at o op =

@@ -6,12 +6,11 @@ use Rattle.mv_machine.specs.Setup.{Setup}
 use Rattle.mv_machine.specs.System.{System}
 use Rattle.mv_plan.specs.HandingOut.{released_codes, given_codes}
 use Rattle.mv_deck.specs.Deck.{JobData}
-use Rattle.mv_plan.proofs.deck.Plans.{IsPlanned}
 use Rattle.mv_plan.specs.SpoolSetup.{initiator}
 use Rattle.mv_plan.specs.SpoolTasks.{not_to_run}
+use Rattle.mv_plan.proofs.deck.Plans.{IsPlanned}
 use Rattle.mv_plan.proofs.latches.Exclusion.{places_apart}
 use Rattle.mv_plan.proofs.places.Places.{Place, Coming, Handed, Run, Over}
-use Rattle.mv_plan.proofs.serving.LatchCases.{IsServed}
 use Rattle.mv_plan.proofs.places.Ledger.{Ledger, Account, element_code}
 use Rattle.mv_plan.proofs.points.Points.{At, Astray, InitiatorAt, initiator_asks, initiator_goes}
 use Rattle.mv_plan.proofs.serving.Requestors.{NamedOnce}
@@ -19,6 +18,7 @@ use Rattle.mv_plan.proofs.serving.Served.{Served, served_next, served_well}
 use Rattle.mv_plan.proofs.places.Moments.{Moment}
 use Rattle.mv_plan.proofs.walks.Walks.{Points, Move}
 use Rattle.mv_plan.proofs.walks.Stands.{AreSound}
+use Rattle.mv_plan.proofs.points.Views.{IsOfRounds}
 
 -- by its place, a job was named once or not at all
 account_once : (held : ℕ → Option ℕ) (j : ℕ) (rel giv : List ℕ) (p : Place) → Account held j rel giv p → length giv ≤ 1
@@ -46,7 +46,8 @@ module _ (c : Setup) (deck : List JobData) (initiators : ℕ) where
   -- an initiator foresees each reply at latches and volumes
   pub served_foreseen : (s : System) (t : Points) (past : List Entry) (e : Entry) (i : ℕ) (x : InitiatorAt) → 1 ≤ initiators
       → IsPlanned deck initiators → Moment c deck initiators s t past
-      → Served deck initiators s t past → IsNext c s e → IsServed x → i < initiators → e.caller ≡ initiator i → t.initiators i ≡ At x
+      → Served deck initiators s t past → IsNext c s e → (IsOfRounds x → ⊥) → i < initiators → e.caller ≡ initiator i → t.initiators i ≡ At
+      x
       → e.object ≡ (initiator_asks (length deck) i x).0 → e.op ≡ (initiator_asks (length deck) i x).1
       → initiator_goes deck x e.reply ≡ Astray → ⊥
   served_foreseen s t past e i x some sound now w h on lt k at o op =

@@ -5,32 +5,32 @@ use Rattle.std.proofs.Common.{Some, None, ◌⊎◌, inl, inr, refl, sym, ap, �
 use Rattle.std.specs.List.{AllByRecursion, range_with_len}
 use Rattle.std.proofs.lemmas.Bool.{cases_eq, eqb-true, and_parts}
 use Rattle.mv_ecb.specs.declared.operation.EcbOp.{EcbOp}
-use Rattle.mv_ecb.specs.declared.operation.EcbOp.TheVariants as ecb_op
-use Rattle.mv_ecb.specs.declared.operation.EcbReply.TheVariants as ecb_reply
 use Rattle.mv_ecb.specs.Table.{ecb_step}
 use Rattle.mv_ecb.specs.Word.{EcbState, Waiting}
 use Rattle.mv_machine.specs.declared.entry.Entry.{Entry}
 use Rattle.mv_machine.specs.declared.entry.Object.{Object}
 use Rattle.mv_machine.specs.declared.entry.Object.TheVariants.{Ecb, Element, Volume, Latches}
 use Rattle.mv_machine.specs.declared.entry.Op.{Op}
-use Rattle.mv_machine.specs.declared.entry.Op.TheVariants as op_on
 use Rattle.mv_machine.specs.declared.entry.Reply.{Reply}
-use Rattle.mv_machine.specs.declared.entry.Reply.TheVariants as reply_of
 use Rattle.mv_machine.specs.Legal.{IsNext, next}
 use Rattle.mv_machine.specs.Setup.{Setup, owner_of}
 use Rattle.mv_machine.specs.System.{System, opening, admitted, ecb_admitted, moved, with_at, advanced}
 use Rattle.mv_deck.specs.Deck.{JobData}
 use Rattle.mv_deck.specs.declared.deck.After.{After}
-use Rattle.mv_plan.proofs.deck.Plans.{ArePlannedJobs}
 use Rattle.mv_calls.specs.Waits.{AreDistinct}
 use Rattle.mv_calls.specs.Keeping.{Kept}
-use Rattle.mv_plan.specs.SpoolSetup.{reader, scheduler, initiator, writer, done, end_for_writer, idle}
+use Rattle.mv_plan.specs.SpoolSetup.{reader, scheduler, initiator, writer, end_for_writer, idle}
 use Rattle.mv_plan.specs.SpoolTasks.{ends_of}
+use Rattle.mv_ecb.specs.declared.operation.EcbOp.TheVariants as ecb_op
+use Rattle.mv_ecb.specs.declared.operation.EcbReply.TheVariants as ecb_reply
+use Rattle.mv_machine.specs.declared.entry.Op.TheVariants as op_on
+use Rattle.mv_machine.specs.declared.entry.Reply.TheVariants as reply_of
+use Rattle.mv_plan.proofs.deck.Plans.{ArePlannedJobs}
 use Rattle.mv_plan.proofs.points.ReaderAndWriter.{IsWriterAt}
 use Rattle.mv_plan.proofs.points.PostsAndWaits.{on_armed_keeps}
 use Rattle.mv_plan.proofs.deck.Setup.{Facts}
 use Rattle.mv_plan.proofs.points.Points.{Point, At, Awaited, ForEntry, ForEnds, ForIdle, ToDismiss, WaitAt, Arming, Settling, ReaderAt}
-use Rattle.mv_plan.proofs.points.Points.{Entering, reader_asks, SchedulerAt, Waits, Extends, Clears, Releases, awaited_blocks}
+use Rattle.mv_plan.proofs.points.Points.{Entering, reader_asks, SchedulerAt, Waits, awaited_blocks}
 use Rattle.mv_plan.proofs.points.Points.{scheduler_asks, scheduler_goes, arming_from, settling_from, on_armed, WriterAt, Keeping}
 use Rattle.mv_plan.proofs.points.Points.{writer_asks, writer_goes, writer_arming, initiator_asks}
 use Rattle.mv_plan.proofs.points.SchedulerSound.{IsAwaited, IsSchedulerAt, rest_below, rest_sound}
@@ -120,11 +120,8 @@ pub record Armed (c : Setup) (n initiators : ℕ) (s : System) (t : Points) : Ty
 
 waiting_was : (op : EcbOp) (v : EcbState) → NoArm (op_on.Ecb op) → (ecb_step op v).0 ≡ Waiting → v ≡ Waiting
 waiting_was ecb_op.Arm v w e = absurd w
-waiting_was (ecb_op.Extend x) v w e = grind arith
-waiting_was ecb_op.Settle v w e = grind arith
-waiting_was ecb_op.Clear v w e = grind arith
-waiting_was (ecb_op.Post x) v w e = grind arith
 waiting_was ecb_op.Test v w e = e
+waiting_was y v w e = grind arith
 
 -- only an arm makes a block wait
 pub still_waiting : (s : System) (k : ℕ) (o : Object) (op : Op) (b : ℕ) → NoArm op → ((moved s k o op).ecb b).state ≡ Waiting
@@ -236,15 +233,8 @@ module _ (c : Setup) (deck : List JobData) (initiators : ℕ) (facts : Facts c (
         settle (reply_of.Ecb (ecb_reply.Complete code)) f i = settling_arms n initiators a todo (found ++ Some code ∷ []) b i
         settle (reply_of.Ecb ecb_reply.Open) f i = settling_arms n initiators a todo (found ++ None ∷ []) b i
         settle r f i = absurd f
-  scheduled s (Extends j job jobs skipped) r w st adm f armed b q =
-      other_side (At (Extends j job jobs skipped)) (scheduler_goes n initiators (Extends j job jobs skipped) r) w b (λ u. absurd u)
-      (armed b (still_waiting s scheduler (Ecb (done n j)) (op_on.Ecb (ecb_op.Extend (j + 1))) b tt q))
-  scheduled s (Clears i g code after) r w st adm f armed b q =
-      other_side (At (Clears i g code after)) (scheduler_goes n initiators (Clears i g code after) r) w b (λ u. absurd u)
-      (armed b (still_waiting s scheduler (Ecb (idle n i)) (op_on.Ecb ecb_op.Clear) b tt q))
-  scheduled s (Releases i g code after) r w st adm f armed b q =
-      other_side (At (Releases i g code after)) (scheduler_goes n initiators (Releases i g code after) r) w b (λ u. absurd u)
-      (armed b q)
+  scheduled s x r w st adm f armed b q = other_side (At x) (scheduler_goes n initiators x r) w b (λ u. absurd u)
+      (armed b (still_waiting s scheduler (scheduler_asks n x).0 (scheduler_asks n x).1 b tt q))
 
   -- the writer
   written : (s : System) (x : WriterAt) (r : Reply) (y : Point SchedulerAt) → IsWriterAt n (At x)

@@ -1,21 +1,16 @@
 -- What the scheduler has found at blocks stands in them until it clears them; so the block of an initiator that it chose still
 -- has the generation that was found. Used by the rows.
-use Rattle.std.proofs.Common.{◌≡◌, ℕ, zero, suc, ◌+◌, nat_le, true, false, cond, List, [], ◌∷◌, ◌++◌, length, map, Option, Some, None}
-use Rattle.std.proofs.Common.{inl, inr, refl, sym, ap, ◌∙◌, subst, arith}
+use Rattle.std.proofs.Common.{◌≡◌, ℕ, zero, suc, ◌+◌, nat_le, true, false, cond, List, [], ◌∷◌, ◌++◌, length, map, Option, Some, None, inl}
+use Rattle.std.proofs.Common.{inr, refl, sym, ap, ◌∙◌, subst, arith}
 use Rattle.std.specs.List.{range_with_len}
 use Rattle.std.proofs.lemmas.Bool.{cases_eq}
 use Rattle.mv_ecb.specs.declared.operation.EcbOp.{EcbOp}
-use Rattle.mv_ecb.specs.declared.operation.EcbOp.TheVariants as ecb_op
-use Rattle.mv_ecb.specs.declared.operation.EcbReply.TheVariants as ecb_reply
 use Rattle.mv_ecb.specs.Table.{ecb_step}
 use Rattle.mv_ecb.specs.Word.{EcbState, Complete}
-use Rattle.mv_element.specs.declared.operation.ElementReply.TheVariants as element_reply
 use Rattle.mv_machine.specs.declared.entry.Object.{Object}
 use Rattle.mv_machine.specs.declared.entry.Object.TheVariants.{Ecb, Element, Volume, Latches}
 use Rattle.mv_machine.specs.declared.entry.Op.{Op}
-use Rattle.mv_machine.specs.declared.entry.Op.TheVariants as op_on
 use Rattle.mv_machine.specs.declared.entry.Reply.{Reply}
-use Rattle.mv_machine.specs.declared.entry.Reply.TheVariants as reply_of
 use Rattle.mv_machine.specs.System.{System, Cell, moved, reply_to, with_at, advanced}
 use Rattle.mv_deck.specs.Deck.{JobData}
 use Rattle.mv_deck.specs.declared.deck.After.{After}
@@ -23,8 +18,13 @@ use Rattle.mv_deck.specs.declared.deck.Step.{Step}
 use Rattle.mv_plan.specs.SpoolSetup.{scheduler, idle}
 use Rattle.mv_plan.specs.SpoolTasks.{code_of}
 use Rattle.mv_calls.specs.Waits.{complete_count}
+use Rattle.mv_ecb.specs.declared.operation.EcbOp.TheVariants as ecb_op
+use Rattle.mv_ecb.specs.declared.operation.EcbReply.TheVariants as ecb_reply
+use Rattle.mv_element.specs.declared.operation.ElementReply.TheVariants as element_reply
+use Rattle.mv_machine.specs.declared.entry.Op.TheVariants as op_on
+use Rattle.mv_machine.specs.declared.entry.Reply.TheVariants as reply_of
 use Rattle.mv_plan.proofs.points.PostsAndWaits.{on_armed_keeps}
-use Rattle.mv_plan.proofs.points.Points.{Point, At, Finished, TooSoon, Astray, Stage, Dispatching, Dismissing, Awaited, ForEntry, ForEnds}
+use Rattle.mv_plan.proofs.points.Points.{Point, At, TooSoon, Astray, Stage, Dispatching, Dismissing, Awaited, ForEntry, ForEnds}
 use Rattle.mv_plan.proofs.points.Points.{ForIdle, ToDismiss, WaitAt, Arming, Settling, SchedulerAt, Waits, Extends, Clears, Releases}
 use Rattle.mv_plan.proofs.points.Points.{awaited_blocks, awaited_count, scheduler_asks, scheduler_goes, on_settled, arming_first}
 use Rattle.mv_plan.proofs.points.Points.{arming_from, settling_from, found_at, ends_at, dismissing_from, stage_at, lowest_at}
@@ -55,24 +55,17 @@ Finds n initiators f p = Unit {0}
 -- ---- complete blocks stay
 
 complete_kept : (op : EcbOp) (v : EcbState) (code : ℕ) → (op ≡ ecb_op.Clear → ⊥) → v ≡ Complete code → (ecb_step op v).0 ≡ Complete code
-complete_kept ecb_op.Arm v code d e = rw e refl
-complete_kept (ecb_op.Extend x) v code d e = rw e refl
-complete_kept ecb_op.Settle v code d e = rw e refl
 complete_kept ecb_op.Clear v code d e = absurd (d refl)
-complete_kept (ecb_op.Post x) v code d e = rw e refl
 complete_kept ecb_op.Test v code d e = e
+complete_kept y v code d e = rw e refl
 
 -- blocks that are complete in the first are so in the second, with the same codes
 abbrev pub Stay : Blocks → Blocks → Type 0
 Stay f g = (b code : ℕ) → (f b).state ≡ Complete code → (g b).state ≡ Complete code
 
 not_clear : (op : EcbOp) → NoClear (op_on.Ecb op) → op ≡ ecb_op.Clear → ⊥
-not_clear ecb_op.Arm w e = cc e
-not_clear (ecb_op.Extend x) w e = cc e
-not_clear ecb_op.Settle w e = cc e
 not_clear ecb_op.Clear w e = w
-not_clear (ecb_op.Post x) w e = cc e
-not_clear ecb_op.Test w e = cc e
+not_clear y w e = cc e
 
 pub stay_moved : (s : System) (k : ℕ) (o : Object) (op : Op) → NoClear op → Stay s.ecb (moved s k o op).ecb
 stay_moved s k (Ecb m) (op_on.Ecb op) w b code e =
@@ -97,14 +90,9 @@ slots_kept f g [] (slot ∷ found) stay w = w
 slots_kept f g (b ∷ bs) (slot ∷ found) stay w = (slot_kept f g b slot stay w.0, slots_kept f g bs found stay w.1)
 
 pub finds_kept : (n initiators : ℕ) (f g : Blocks) (p : Point SchedulerAt) → Stay f g → Finds n initiators f p → Finds n initiators g p
-finds_kept n initiators f g (At (Waits a (Arming e todo))) stay w = tt
 finds_kept n initiators f g (At (Waits a (Settling e todo found))) stay w = slots_kept f g (awaited_blocks n initiators a) found stay w
-finds_kept n initiators f g (At (Extends j job jobs skipped)) stay w = tt
 finds_kept n initiators f g (At (Clears i gen code after)) stay w = stay (idle n i) gen w
-finds_kept n initiators f g (At (Releases i gen code after)) stay w = tt
-finds_kept n initiators f g (Finished answer) stay w = tt
-finds_kept n initiators f g TooSoon stay w = tt
-finds_kept n initiators f g Astray stay w = tt
+finds_kept n initiators f g p stay w = tt
 
 -- ---- one block more was settled
 
@@ -215,11 +203,9 @@ module _ (n initiators : ℕ) (s : System) where
   finds_next (Extends j job jobs skipped) (reply_of.Ecb ecb_reply.Armed) sound q w =
       first_here n initiators (then_s (Extends j job jobs skipped)).ecb (ForIdle j job jobs skipped)
       (awaited_blocks n initiators (ForIdle j job jobs skipped))
-  finds_next (Extends j job jobs skipped) r sound q w = tt
   finds_next (Clears i g code after) (reply_of.Ecb (ecb_reply.Word z)) sound q w = tt
-  finds_next (Clears i g code after) r sound q w = tt
   finds_next (Releases i g code after) (reply_of.Element element_reply.Early) sound q w =
       stage_here n initiators (then_s (Releases i g code after)).ecb after
   finds_next (Releases i g code after) (reply_of.Element element_reply.Woke) sound q w =
       stage_here n initiators (then_s (Releases i g code after)).ecb after
-  finds_next (Releases i g code after) r sound q w = tt
+  finds_next x r sound q w = tt

@@ -1,36 +1,35 @@
 -- How an initiator, its block, its element and what the scheduler has of it fit together. An idle block's code is the
 -- generation with which its initiator goes on to pause; the scheduler releases only what it has cleared; and the element's
 -- generation is the point's. Used by all that looks at elements.
-use Rattle.std.proofs.Common.{◌≡◌, ℕ, zero, suc, ◌+◌, ◌==◌, true, false, if◌then◌else◌, List, [], ◌∷◌, ◌++◌, length, Option, Some, None}
-use Rattle.std.proofs.Common.{inl, inr, refl, sym, ap, ◌∙◌, arith}
-use Rattle.std.specs.List.{list_any}
+use Rattle.std.proofs.Common.{◌≡◌, ℕ, zero, suc, ◌+◌, ◌==◌, if◌then◌else◌, List, [], ◌∷◌, ◌++◌, length, Option, Some, None, inl, inr, refl}
+use Rattle.std.proofs.Common.{sym, ap, ◌∙◌, arith}
 use Rattle.std.proofs.lemmas.Bool.{eq-eqb}
-use Rattle.mv_ecb.specs.declared.operation.EcbOp.TheVariants as ecb_op
 use Rattle.mv_ecb.specs.Table.{ecb_step}
 use Rattle.mv_ecb.specs.Word.{EcbState, Complete}
-use Rattle.mv_element.specs.declared.operation.ElementOp.TheVariants as element_op
 use Rattle.mv_element.specs.declared.element.ElementState.{ElementState}
-use Rattle.mv_element.specs.declared.element.Phase.TheVariants as phase
 use Rattle.mv_element.specs.Element.{free, reset, prereleased, paused, released}
 use Rattle.mv_element.specs.Table.{element_step}
 use Rattle.mv_machine.specs.declared.entry.Reply.{Reply}
-use Rattle.mv_machine.specs.declared.entry.Reply.TheVariants as reply_of
 use Rattle.mv_machine.specs.System.{System, moved, reply_to, with_at, advanced}
 use Rattle.mv_deck.specs.Deck.{JobData}
 use Rattle.mv_plan.specs.Jobs.{job_at}
 use Rattle.mv_plan.specs.SpoolSetup.{initiator, idle}
-use Rattle.mv_plan.specs.SpoolTasks.{Named, job_named}
+use Rattle.mv_ecb.specs.declared.operation.EcbOp.TheVariants as ecb_op
+use Rattle.mv_element.specs.declared.operation.ElementOp.TheVariants as element_op
+use Rattle.mv_element.specs.declared.element.Phase.TheVariants as phase
+use Rattle.mv_machine.specs.declared.entry.Reply.TheVariants as reply_of
 use Rattle.mv_plan.proofs.points.InitiatorSound.{IsInitiatorAt}
 use Rattle.mv_plan.proofs.points.PostsAndWaits.{on_posted_keeps}
 use Rattle.mv_plan.proofs.points.Points.{Point, At, Finished, TooSoon, Astray, SchedulerAt, Releases, Running, InitiatorAt, Opening}
-use Rattle.mv_plan.proofs.points.Points.{Offering, Pausing, Resuming, Obtaining, Confirming, Freeing, Reading, Writing, Scanning}
-use Rattle.mv_plan.proofs.points.Points.{Rescanning, Purging, EndingJob, EndingForScheduler, EndingForWriter, Closing, initiator_asks}
-use Rattle.mv_plan.proofs.points.Points.{initiator_goes, rounds_from, given_at, named_at, job_start, running, on_opened, on_paused}
-use Rattle.mv_plan.proofs.points.Points.{on_resumed, on_closed}
+use Rattle.mv_plan.proofs.points.Points.{Offering, Pausing, Resuming}
+use Rattle.mv_plan.proofs.points.Points.{Closing, initiator_asks}
+use Rattle.mv_plan.proofs.points.Points.{initiator_goes, rounds_from, given_at, running, on_opened, on_paused}
+use Rattle.mv_plan.proofs.points.Points.{on_resumed, on_closed, InJob}
 use Rattle.mv_plan.proofs.points.RunningJob.{RunsOn, start_run, GoesOn, same, done, lost, run_goes, run_asks, run_sound}
 use Rattle.mv_plan.proofs.walks.NoneLost.{SameTalk, same_talk}
 use Rattle.mv_plan.proofs.lists.Tables.{with_at-same, with_at-other}
 use Rattle.mv_plan.proofs.points.Views.{run_of, IsNotLost}
+use Rattle.mv_plan.proofs.points.Lands.{given_lands}
 
 -- where an initiator stands, as far as its block and its element go
 pub data Stance : Type 0 where
@@ -93,25 +92,8 @@ RowAt n s q i p = Row (stance p) (offer_of n s i) (hold_for i q) (element_of s i
 -- ---- an initiator's own event
 
 stance_run : (p : Point InitiatorAt) (run : Running) → run_of p ≡ Some run → stance p ≡ Works run.generation
-stance_run (At Opening) run e = absurd (cc e)
-stance_run (At (Offering more before g)) run e = absurd (cc e)
-stance_run (At (Pausing more before g)) run e = absurd (cc e)
-stance_run (At (Resuming more before g)) run e = absurd (cc e)
-stance_run (At (Obtaining run' hand latch mode steps)) run e = ap (λ z. stance_in z) e
-stance_run (At (Confirming run' hand latch mode id steps)) run e = ap (λ z. stance_in z) e
-stance_run (At (Freeing run' hand latch id steps)) run e = ap (λ z. stance_in z) e
-stance_run (At (Reading run' hand volume amount steps)) run e = ap (λ z. stance_in z) e
-stance_run (At (Writing run' hand volume amount number steps)) run e = ap (λ z. stance_in z) e
-stance_run (At (Scanning run' hand volume steps)) run e = ap (λ z. stance_in z) e
-stance_run (At (Rescanning run' hand volume number steps)) run e = ap (λ z. stance_in z) e
-stance_run (At (Purging run' hand code)) run e = ap (λ z. stance_in z) e
-stance_run (At (EndingJob run' code counts)) run e = ap (λ z. stance_in z) e
-stance_run (At (EndingForScheduler run' code counts)) run e = ap (λ z. stance_in z) e
-stance_run (At (EndingForWriter run' code counts)) run e = ap (λ z. stance_in z) e
-stance_run (At (Closing g)) run e = absurd (cc e)
-stance_run (Finished answer) run e = absurd (cc e)
-stance_run TooSoon run e = absurd (cc e)
-stance_run Astray run e = absurd (cc e)
+stance_run (At (InJob run' w)) run e = ap (λ z. stance_in z) e
+stance_run p run e = absurd (cc e)
 
 stance_lost : (p : Point InitiatorAt) → (IsNotLost p → ⊥) → stance p ≡ Loses
 stance_lost (At x) f = absurd (f tt)
@@ -143,27 +125,11 @@ module _ (o h : Option ℕ) where
   goes_row p run x (done e) r = row_at _ _ o o h h x x (ap (λ z. stance z) e) refl refl refl
       (rounds_row run.more (run.before ++ run.job ∷ []) run.generation x r)
 
-  named_row : (deck : List JobData) (slot : Option Named) (more : ℕ) (before : List ℕ) (g : ℕ) (x : ElementState) → Row (Works g) o h x
-      → Row (stance (named_at deck slot before more g)) o h x
-  named_row deck None more before g x r = tt
-  named_row deck (Some named) zero before g x r = tt
-  named_row deck (Some named) (suc more) before g x r =
-      elim (list_any (λ j. j == named.job) before) as
-      (λ b. Row (stance (if b then Astray else job_start named.skipped (running named before (suc more) g)
-      (job_at deck named.job))) o h x) [
-        | true ↦ tt
-        | false ↦ run_row _ (running named before (suc more) g) x
-            (start_run named.skipped (running named before (suc more) g) (job_at deck named.job)) r
-      ]
-
   given_row : (deck : List JobData) (more : ℕ) (before : List ℕ) (code g : ℕ) (x : ElementState) → Row (Works g) o h x
       → Row (stance (given_at deck more before code g)) o h x
-  given_row deck more before code g x r =
-      elim (code == 0) as (λ b. Row (stance
-      (if b then At (Closing g) else named_at deck (job_named (length deck) code) before more g)) o h x) [
-        | true ↦ r
-        | false ↦ named_row deck (job_named (length deck) code) more before g x r
-      ]
+  given_row deck more before code g x r = given_lands (λ p. Row (stance p) o h x) tt deck more before code g (λ z. r)
+      (λ named left e t m. run_row _ (running named before (suc left) g) x
+      (start_run named.skipped (running named before (suc left) g) (job_at deck named.job)) r)
 
   -- the element's events, by its state
   opened_row : (n : ℕ) (y : ElementState) (r : Reply) → r ≡ reply_of.Element (element_step element_op.Open y).1 → Row Starts o h y
@@ -231,18 +197,7 @@ module _ (deck : List JobData) (s : System) (q : Point SchedulerAt) (i : ℕ) wh
       on_element (initiator_goes deck (Pausing more before g) r) _ _ _ (paused_row _ _ deck more before g (element_of s i) r (cc a) w)
   own_row (Resuming more before g) r sound a w =
       on_element (initiator_goes deck (Resuming more before g) r) _ _ _ (resumed_row _ _ deck more before g (element_of s i) r (cc a) w)
-  own_row (Obtaining run hand latch mode steps) r sound a w = runs_row (Obtaining run hand latch mode steps) r run refl sound w
-  own_row (Confirming run hand latch mode id steps) r sound a w = runs_row (Confirming run hand latch mode id steps) r run refl sound w
-  own_row (Freeing run hand latch id steps) r sound a w = runs_row (Freeing run hand latch id steps) r run refl sound w
-  own_row (Reading run hand volume amount steps) r sound a w = runs_row (Reading run hand volume amount steps) r run refl sound w
-  own_row (Writing run hand volume amount number steps) r sound a w =
-      runs_row (Writing run hand volume amount number steps) r run refl sound w
-  own_row (Scanning run hand volume steps) r sound a w = runs_row (Scanning run hand volume steps) r run refl sound w
-  own_row (Rescanning run hand volume number steps) r sound a w = runs_row (Rescanning run hand volume number steps) r run refl sound w
-  own_row (Purging run hand code) r sound a w = runs_row (Purging run hand code) r run refl sound w
-  own_row (EndingJob run code counts) r sound a w = runs_row (EndingJob run code counts) r run refl sound w
-  own_row (EndingForScheduler run code counts) r sound a w = runs_row (EndingForScheduler run code counts) r run refl sound w
-  own_row (EndingForWriter run code counts) r sound a w = runs_row (EndingForWriter run code counts) r run refl sound w
+  own_row (InJob run job) r sound a w = runs_row (InJob run job) r run refl sound w
   own_row (Closing g) r sound a w = on_element (initiator_goes deck (Closing g) r) _ _ _ (closed_row _ _ g (element_of s i) r (cc a) w)
 
   -- and the others' blocks and elements
@@ -266,15 +221,5 @@ module _ (deck : List JobData) (s : System) (q : Point SchedulerAt) (i : ℕ) wh
       record { elements = λ m d. with_at-other s.element (initiator i) m _ (λ z. d (sym z)); idles = λ m d. refl }
   apart (Resuming more before g) sound =
       record { elements = λ m d. with_at-other s.element (initiator i) m _ (λ z. d (sym z)); idles = λ m d. refl }
-  apart (Obtaining run hand latch mode steps) sound = apart_run (Obtaining run hand latch mode steps) run refl sound
-  apart (Confirming run hand latch mode id steps) sound = apart_run (Confirming run hand latch mode id steps) run refl sound
-  apart (Freeing run hand latch id steps) sound = apart_run (Freeing run hand latch id steps) run refl sound
-  apart (Reading run hand volume amount steps) sound = apart_run (Reading run hand volume amount steps) run refl sound
-  apart (Writing run hand volume amount number steps) sound = apart_run (Writing run hand volume amount number steps) run refl sound
-  apart (Scanning run hand volume steps) sound = apart_run (Scanning run hand volume steps) run refl sound
-  apart (Rescanning run hand volume number steps) sound = apart_run (Rescanning run hand volume number steps) run refl sound
-  apart (Purging run hand code) sound = apart_run (Purging run hand code) run refl sound
-  apart (EndingJob run code counts) sound = apart_run (EndingJob run code counts) run refl sound
-  apart (EndingForScheduler run code counts) sound = apart_run (EndingForScheduler run code counts) run refl sound
-  apart (EndingForWriter run code counts) sound = apart_run (EndingForWriter run code counts) run refl sound
+  apart (InJob run w) sound = apart_run (InJob run w) run refl sound
   apart (Closing g) sound = record { elements = λ m d. with_at-other s.element (initiator i) m _ (λ z. d (sym z)); idles = λ m d. refl }

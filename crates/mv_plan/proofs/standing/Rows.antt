@@ -1,45 +1,43 @@
 -- All initiators' rows, with what the scheduler has found, are kept by each move.
-use Rattle.std.proofs.Common.{◌≡◌, ℕ, zero, suc, ◌+◌, ◌*◌, ◌<◌, if◌then◌else◌, List, [], ◌∷◌}
-use Rattle.std.proofs.Common.{length, Option, Some, None, ◌⊎◌, inl, inr, refl, sym, ap, ◌∙◌, subst, arith}
+use Rattle.std.proofs.Common.{◌≡◌, ℕ, zero, suc, ◌+◌, ◌*◌, ◌<◌, if◌then◌else◌, List, [], ◌∷◌, length, Option, Some, None, ◌⊎◌, inl, inr}
+use Rattle.std.proofs.Common.{refl, sym, ap, ◌∙◌, subst, arith}
 use Rattle.std.proofs.lemmas.Bool.{cases_eq, eq-eqb, ne_eqb}
-use Rattle.mv_ecb.specs.declared.operation.EcbOp.TheVariants as ecb_op
-use Rattle.mv_ecb.specs.declared.operation.EcbReply.TheVariants as ecb_reply
 use Rattle.mv_ecb.specs.Table.{ecb_step}
 use Rattle.mv_ecb.specs.Word.{EcbState, Zero, Complete, word_of}
-use Rattle.mv_element.specs.declared.operation.ElementOp.TheVariants as element_op
 use Rattle.mv_element.specs.declared.operation.ElementReply.{ElementReply}
-use Rattle.mv_element.specs.declared.operation.ElementReply.TheVariants as element_reply
 use Rattle.mv_element.specs.declared.element.ElementState.{ElementState}
 use Rattle.mv_element.specs.Element.{free, reset, prereleased, paused, released}
 use Rattle.mv_element.specs.Table.{element_step}
 use Rattle.mv_machine.specs.declared.entry.Entry.{Entry}
 use Rattle.mv_machine.specs.declared.entry.Object.TheVariants.{Ecb}
-use Rattle.mv_machine.specs.declared.entry.Op.TheVariants as op_on
 use Rattle.mv_machine.specs.declared.entry.Reply.{Reply}
-use Rattle.mv_machine.specs.declared.entry.Reply.TheVariants as reply_of
 use Rattle.mv_machine.specs.Legal.{IsNext, next}
 use Rattle.mv_machine.specs.Setup.{Setup}
 use Rattle.mv_machine.specs.System.{System, opening, moved, reply_to, with_at, advanced}
 use Rattle.mv_deck.specs.Deck.{JobData}
 use Rattle.mv_calls.specs.Keeping.{Kept}
-use Rattle.mv_plan.specs.SpoolSetup.{reader, scheduler, initiator, writer, idle, done, end_for_writer}
+use Rattle.mv_plan.specs.SpoolSetup.{reader, scheduler, initiator, writer, idle, end_for_writer, done}
+use Rattle.mv_ecb.specs.declared.operation.EcbOp.TheVariants as ecb_op
+use Rattle.mv_ecb.specs.declared.operation.EcbReply.TheVariants as ecb_reply
+use Rattle.mv_element.specs.declared.operation.ElementOp.TheVariants as element_op
+use Rattle.mv_element.specs.declared.operation.ElementReply.TheVariants as element_reply
+use Rattle.mv_machine.specs.declared.entry.Op.TheVariants as op_on
+use Rattle.mv_machine.specs.declared.entry.Reply.TheVariants as reply_of
 use Rattle.mv_plan.proofs.points.ReaderAndWriter.{IsReaderAt, IsWriterAt}
-use Rattle.mv_plan.proofs.standing.Row.{Stance, Starts, Works, Offers, Parks, Ends, Loses, stance, code_in, offered, taken, handed, Row}
+use Rattle.mv_plan.proofs.standing.Row.{Stance, Offers, Parks, Loses, stance, code_in, offered, taken, handed, Row}
 use Rattle.mv_plan.proofs.standing.Row.{RowAt, hold_for, offer_of, element_of, row_at, own_row, Apart, apart}
 use Rattle.mv_plan.proofs.points.InitiatorSound.{IsInitiatorAt}
-use Rattle.mv_plan.proofs.points.Points.{Point, At, Stage, Dispatching, Dismissing, Awaited, ForEntry, ForEnds, ForIdle}
-use Rattle.mv_plan.proofs.points.Points.{ToDismiss, WaitAt, Arming, Settling, wait_asks, ReaderAt, Entering, reader_asks, reader_goes}
-use Rattle.mv_plan.proofs.points.Points.{SchedulerAt, Waits, Extends, Clears, Releases, awaited_blocks, scheduler_asks}
-use Rattle.mv_plan.proofs.points.Points.{scheduler_goes}
-use Rattle.mv_plan.proofs.points.Points.{dismissing_from, stage_at, WriterAt, Keeping, writer_asks, writer_goes}
-use Rattle.mv_plan.proofs.points.Points.{InitiatorAt, initiator_asks, initiator_goes}
+use Rattle.mv_plan.proofs.points.Points.{Point, At, Stage, Dispatching, Dismissing, Awaited, ForEntry, ForEnds, ForIdle, ToDismiss, WaitAt}
+use Rattle.mv_plan.proofs.points.Points.{Arming, Settling, wait_asks, ReaderAt, Entering, reader_asks, reader_goes, SchedulerAt, Waits}
+use Rattle.mv_plan.proofs.points.Points.{Extends, Clears, Releases, awaited_blocks, scheduler_asks, scheduler_goes, dismissing_from}
+use Rattle.mv_plan.proofs.points.Points.{stage_at, WriterAt, Keeping, writer_asks, writer_goes, InitiatorAt, initiator_asks, initiator_goes}
 use Rattle.mv_plan.proofs.standing.Finds.{Blocks, Finds, stay_moved, finds_kept, finds_next, stage_here}
 use Rattle.mv_plan.proofs.points.SchedulerSound.{IsSchedulerAt, IsWaitAt, rest_below}
 use Rattle.mv_plan.proofs.walks.Stands.{Stand}
 use Rattle.mv_plan.proofs.walks.NoneLost.{SameTalk, same_talk}
 use Rattle.mv_plan.proofs.walks.Walks.{Points, start_points, Move}
 use Rattle.mv_plan.proofs.walks.Moves.{entry_of, Each, of_move}
-use Rattle.mv_plan.proofs.lists.Tables.{with_at-same, with_at-other}
+use Rattle.mv_plan.proofs.lists.Tables.{with_at-same, with_at-other, all_but}
 use Rattle.mv_plan.proofs.points.Asks.{no_clear, writer_no_clear, NoClear, Elsewhere}
 use Rattle.mv_plan.proofs.points.SchedulerNext.{AllNext, goes_next}
 
@@ -47,16 +45,14 @@ use Rattle.mv_plan.proofs.points.SchedulerNext.{AllNext, goes_next}
 
 -- it clears the block of an initiator that it chose
 row_cleared : (st : Stance) (g : ℕ) (x : ElementState) → Row st (Some g) None x → Row st None (Some g) x
-row_cleared Starts g x w = absurd (cc (w.0))
-row_cleared (Works m) g x w = absurd (cc (w.0))
 row_cleared (Offers m) g x (offered a b q) = let e : m ≡ g = cc a in taken refl (ap (λ z. Some z) (sym e)) q
 row_cleared (Offers m) g x (taken a b q) = absurd (cc a)
 row_cleared (Offers m) g x (handed code a b q) = absurd (cc a)
 row_cleared (Parks m) g x (offered a b q) = let e : m ≡ g = cc a in taken refl (ap (λ z. Some z) (sym e)) q
 row_cleared (Parks m) g x (taken a b q) = absurd (cc a)
 row_cleared (Parks m) g x (handed code a b q) = absurd (cc a)
-row_cleared Ends g x w = absurd (cc (w.0))
 row_cleared Loses g x w = tt
+row_cleared y g x w = absurd (cc (w.0))
 
 -- a release is accepted
 abbrev pub Accepts : ElementReply → Type 0
@@ -83,29 +79,25 @@ accepts_woke r e = rw e tt
 -- the release of what it holds: its code is in the element
 pub row_released : (st : Stance) (g code : ℕ) (o : Option ℕ) (x : ElementState) → Row st o (Some g) x
     → Row st o None (element_step (element_op.Release g code) x).0
-row_released Starts g code o x w = absurd (cc (w.1))
-row_released (Works m) g code o x w = absurd (cc (w.1))
 row_released (Offers m) g code o x (offered a b q) = absurd (cc b)
 row_released (Offers m) g code o x (taken a b q) = let e : g ≡ m = cc b in handed code a refl (bare_early g m code x e q).0
 row_released (Offers m) g code o x (handed c a b q) = absurd (cc b)
 row_released (Parks m) g code o x (offered a b q) = absurd (cc b)
 row_released (Parks m) g code o x (taken a b q) = let e : g ≡ m = cc b in handed code a refl (bare_woke g m code x e q).0
 row_released (Parks m) g code o x (handed c a b q) = absurd (cc b)
-row_released Ends g code o x w = absurd (cc (w.1))
 row_released Loses g code o x w = tt
+row_released y g code o x w = absurd (cc (w.1))
 
 pub row_accepts : (st : Stance) (g code : ℕ) (o : Option ℕ) (x : ElementState) → (st ≡ Loses → ⊥) → Row st o (Some g) x
     → Accepts (element_step (element_op.Release g code) x).1
-row_accepts Starts g code o x d w = absurd (cc (w.1))
-row_accepts (Works m) g code o x d w = absurd (cc (w.1))
 row_accepts (Offers m) g code o x d (offered a b q) = absurd (cc b)
 row_accepts (Offers m) g code o x d (taken a b q) = let e : g ≡ m = cc b in accepts_early _ (bare_early g m code x e q).1
 row_accepts (Offers m) g code o x d (handed c a b q) = absurd (cc b)
 row_accepts (Parks m) g code o x d (offered a b q) = absurd (cc b)
 row_accepts (Parks m) g code o x d (taken a b q) = let e : g ≡ m = cc b in accepts_woke _ (bare_woke g m code x e q).1
 row_accepts (Parks m) g code o x d (handed c a b q) = absurd (cc b)
-row_accepts Ends g code o x d w = absurd (cc (w.1))
 row_accepts Loses g code o x d w = absurd (d refl)
+row_accepts y g code o x d w = absurd (cc (w.1))
 
 -- ---- points at which it holds nothing
 
@@ -321,7 +313,10 @@ module _ (c : Setup) (deck : List JobData) (initiators : ℕ) (kept : ℕ → Ke
         → Rows deck initiators s t → Rows deck initiators (next s (entry_of (initiator i) p (initiator_asks (length deck) i x) r))
         (record t { initiators = with_at t.initiators i (initiator_goes deck x r) })
     initiated s t i x p r lt at n sound w = record {
-      rows = λ m less. each m less (cases_eq i m);
+      rows = λ m less. all_but (λ m p. RowAt (length deck) then_s t.scheduler m p) t.initiators i (initiator_goes deck x r) m
+          (own_row deck s t.scheduler i x r sound n.reply (subst (λ q. RowAt (length deck) s t.scheduler i q) at (w.rows i lt)))
+          (λ other. row_moved (length deck) s then_s t.scheduler m (t.initiators m) (far.idles m (λ z. other (sym z)))
+          (far.elements (initiator m) (λ z. other (omega arith))) (w.rows m less));
       others = λ m d. ap (λ y. y.state) (far.elements m (λ z. d i lt z)) ∙ w.others m d;
       finds = finds_kept (length deck) initiators s.ecb then_s.ecb t.scheduler
           (stay_moved s (initiator i) (initiator_asks (length deck) i x).0 (initiator_asks (length deck) i x).1
@@ -332,17 +327,6 @@ module _ (c : Setup) (deck : List JobData) (initiators : ℕ) (kept : ℕ → Ke
 
       far : Apart deck s t.scheduler i then_s
       far = apart deck s t.scheduler i x sound
-
-      each : (m : ℕ) → m < initiators → (i ≡ m) ⊎ (i ≡ m → ⊥)
-          → RowAt (length deck) then_s t.scheduler m (with_at t.initiators i (initiator_goes deck x r) m)
-      each m less (inl same) = subst (λ m. RowAt (length deck) then_s t.scheduler m
-          (with_at t.initiators i (initiator_goes deck x r) m)) same
-          (subst (λ q. RowAt (length deck) then_s t.scheduler i q) (sym (with_at-same t.initiators i (initiator_goes deck x r)))
-          (own_row deck s t.scheduler i x r sound n.reply (subst (λ q. RowAt (length deck) s t.scheduler i q) at (w.rows i lt))))
-      each m less (inr other) = subst (λ q. RowAt (length deck) then_s t.scheduler m q)
-          (sym (with_at-other t.initiators i m (initiator_goes deck x r) other))
-          (row_moved (length deck) s then_s t.scheduler m (t.initiators m) (far.idles m (λ z. other (sym z)))
-          (far.elements (initiator m) (λ z. other (omega arith))) (w.rows m less))
 
   pub rows_next : (s : System) (t u : Points) (e : Entry) → Stand deck initiators kept t → IsNext c s e → Move deck initiators t e u
       → Rows deck initiators s t → Rows deck initiators (next s e) u

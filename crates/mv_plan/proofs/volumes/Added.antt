@@ -2,8 +2,8 @@
 use Rattle.std.proofs.Common.{◌≡◌, ℕ, ◌+◌, List, [], ◌∷◌, refl, ap, ◌∙◌}
 use Rattle.std.proofs.lemmas.List.Sums.{sum_by-cons}
 use Rattle.mv_deck.specs.declared.deck.Step.{Step}
-use Rattle.mv_report.specs.Outcome as outcome
 use Rattle.mv_report.specs.Outcome.{added}
+use Rattle.mv_report.specs.Outcome as outcome
 
 -- what these steps add
 abbrev pub added_by : ℕ → List Step → ℕ

@@ -1,26 +1,27 @@
 -- While an initiator is at a COUNT, no other's entry is on the volume; while it is at a SCAN, no other changes it.
 use Rattle.std.proofs.Common.{◌≡◌, ℕ, ◌<◌, ◌==◌, Bool, true, false, if◌then◌else◌, List, [], ◌∷◌, ◌++◌, length, Some, refl, sym, ap, ◌∙◌}
 use Rattle.std.proofs.Common.{subst}
-use Rattle.std.proofs.lemmas.Bool.{eq-eqb, eqb-true, false≢true}
+use Rattle.std.proofs.lemmas.Bool.{eq-eqb, false≢true}
 use Rattle.mv_machine.specs.declared.entry.Entry.{Entry}
 use Rattle.mv_machine.specs.declared.entry.Object.{Object}
 use Rattle.mv_machine.specs.declared.entry.Object.TheVariants.{Ecb, Element, Volume, Latches}
 use Rattle.mv_machine.specs.declared.entry.Op.{Op}
-use Rattle.mv_machine.specs.declared.entry.Op.TheVariants as op_on
-use Rattle.mv_machine.specs.declared.entry.VolumeOp.TheVariants as volume_op
 use Rattle.mv_machine.specs.Legal.{IsNext, next, after_from, of, «at», same_object}
 use Rattle.mv_machine.specs.Setup.{Setup}
 use Rattle.mv_machine.specs.System.{System, opening, moved}
 use Rattle.mv_deck.specs.Deck.{JobData}
-use Rattle.mv_plan.proofs.deck.Plans.{ArePlannedJobs}
 use Rattle.mv_calls.specs.Keeping.{Kept, nothing_kept}
 use Rattle.mv_plan.specs.SpoolSetup.{initiator}
+use Rattle.mv_machine.proofs.Objects.{same_is}
+use Rattle.mv_machine.specs.declared.entry.Op.TheVariants as op_on
+use Rattle.mv_machine.specs.declared.entry.VolumeOp.TheVariants as volume_op
+use Rattle.mv_plan.proofs.deck.Plans.{ArePlannedJobs}
 use Rattle.mv_plan.proofs.walks.Always.{Always, always_now, always_next, always_keeps, always_both, always_map}
 use Rattle.mv_plan.proofs.latches.Exclusion.{touched, counted_on, excludes}
 use Rattle.mv_plan.proofs.latches.HandMoves.{Apart, hands_next, hands_start}
 use Rattle.mv_plan.proofs.latches.Hands.{Hands}
 use Rattle.mv_plan.proofs.points.Points.{At, InitiatorAt, Reading, Writing, Scanning, Rescanning, initiator_asks, initiator_goes}
-use Rattle.mv_plan.proofs.points.Points.{reader_asks, scheduler_asks, writer_asks}
+use Rattle.mv_plan.proofs.points.Points.{reader_asks, scheduler_asks, writer_asks, InJob}
 use Rattle.mv_plan.proofs.deck.Setup.{Facts}
 use Rattle.mv_plan.proofs.walks.Stands.{Stand, kept_next, stand_start, stand_next, AreSound}
 use Rattle.mv_plan.proofs.walks.Walks.{Points, start_points, Move, reads, schedules, initiates, writes, WalkTo}
@@ -114,15 +115,15 @@ quiet_point c deck initiators i s t u (e ∷ es) w q =
 -- ---- events on volumes
 
 asks_volume : (n i v : ℕ) (x : InitiatorAt) → (initiator_asks n i x).0 ≡ Volume v → touched (At x) ≡ Some v
-asks_volume n i v (Reading run hand volume amount steps) e = ap (λ z. Some z) (let q : volume ≡ v = cc e in q)
-asks_volume n i v (Writing run hand volume amount number steps) e = ap (λ z. Some z) (let q : volume ≡ v = cc e in q)
-asks_volume n i v (Scanning run hand volume steps) e = ap (λ z. Some z) (let q : volume ≡ v = cc e in q)
-asks_volume n i v (Rescanning run hand volume number steps) e = ap (λ z. Some z) (let q : volume ≡ v = cc e in q)
+asks_volume n i v (InJob run (Reading hand volume amount steps)) e = ap (λ z. Some z) (let q : volume ≡ v = cc e in q)
+asks_volume n i v (InJob run (Writing hand volume amount number steps)) e = ap (λ z. Some z) (let q : volume ≡ v = cc e in q)
+asks_volume n i v (InJob run (Scanning hand volume steps)) e = ap (λ z. Some z) (let q : volume ≡ v = cc e in q)
+asks_volume n i v (InJob run (Rescanning hand volume number steps)) e = ap (λ z. Some z) (let q : volume ≡ v = cc e in q)
 asks_volume n i v x e = absurd (cc e)
 
 asks_write : (n i v m : ℕ) (x : InitiatorAt) → (initiator_asks n i x).0 ≡ Volume v
     → (initiator_asks n i x).1 ≡ op_on.Volume (volume_op.Write m) → counted_on (At x) ≡ Some v
-asks_write n i v m (Writing run hand volume amount number steps) e f = ap (λ z. Some z) (let q : volume ≡ v = cc e in q)
+asks_write n i v m (InJob run (Writing hand volume amount number steps)) e f = ap (λ z. Some z) (let q : volume ≡ v = cc e in q)
 asks_write n i v m x e f = absurd (cc f)
 
 no_volume : (o : Object) (v : ℕ) → IsSignal o → o ≡ Volume v → ⊥
@@ -165,10 +166,6 @@ pub mover_counts : (deck : List JobData) (initiators v n : ℕ) (t u : Points) (
 mover_counts deck initiators v n t u e m f g =
     ap counted_on m.stands ∙ asks_write (length deck) m.number v n m.point (sym m.object ∙ f) (sym m.op ∙ g)
 
-is_volume : (o : Object) (v : ℕ) → same_object o (Volume v) ≡ true → o ≡ Volume v
-is_volume (Volume a) v e = ap (λ z. Volume z) (eqb-true a v e)
-is_volume o v e = absurd (false≢true e)
-
 -- an event changes a volume's number only where it writes there
 pub number_kept : (s : System) (k : ℕ) (o : Object) (op : Op) (v : ℕ)
     → ((n : ℕ) → o ≡ Volume v → op ≡ op_on.Volume (volume_op.Write n) → ⊥) → ((moved s k o op).volume v).state ≡ (s.volume v).state
@@ -208,7 +205,7 @@ module _ (c : Setup) (deck : List JobData) (initiators : ℕ) where
 
         go : (b : Bool) → same_object e.object (Volume v) ≡ b → «at» (Volume v) es ≡ []
             → (if b then e ∷ «at» (Volume v) es else «at» (Volume v) es) ≡ []
-        go true f rest = absurd (none (is_volume e.object v f))
+        go true f rest = absurd (none (same_is e.object (Volume v) f))
         go false f rest = rest
 
   -- while one is at a COUNT or SCAN, no other changes the volume's number

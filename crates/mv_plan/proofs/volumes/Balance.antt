@@ -1,8 +1,7 @@
 -- The balance: what a volume has, and what is still due to it, is what the jobs that were named add. So a COUNT's sum has 32
 -- bits.
-use Rattle.std.proofs.Common.{suc-mul}
 use Rattle.std.proofs.Common.{◌≡◌, ℕ, zero, suc, ◌+◌, ◌*◌, ◌^◌, ◌<◌, ◌≤◌, ◌==◌, Bool, true, false, if◌then◌else◌, List, [], ◌∷◌, ◌++◌}
-use Rattle.std.proofs.Common.{length, None, refl, sym, ap, ◌∙◌, subst, append-nil, arith}
+use Rattle.std.proofs.Common.{length, None, refl, sym, ap, ◌∙◌, subst, append-nil, arith, suc-mul}
 use Rattle.std.proofs.lemmas.Bool.{eq-eqb}
 use Rattle.mv_machine.specs.declared.entry.Entry.{Entry}
 use Rattle.mv_machine.specs.declared.entry.Object.{Object}
@@ -10,22 +9,22 @@ use Rattle.mv_machine.specs.declared.entry.Op.{Op}
 use Rattle.mv_machine.specs.Legal.{IsNext, next}
 use Rattle.mv_machine.specs.Setup.{Setup}
 use Rattle.mv_machine.specs.System.{System, opening, moved, with_at}
-use Rattle.mv_machine.proofs.EntryRuns.{entry_of}
 use Rattle.mv_plan.specs.HandingOut.{gift_code}
 use Rattle.mv_deck.specs.Deck.{JobData}
 use Rattle.mv_deck.specs.declared.deck.Step.{Step}
-use Rattle.mv_deck.specs.declared.deck.Step.TheVariants.{Print, Use, Free, Count, Scan, Abend, Return}
+use Rattle.mv_deck.specs.declared.deck.Step.TheVariants.{Print, Use, Count, Scan, Free}
+use Rattle.mv_report.specs.Outcome.{before_end, added}
+use Rattle.mv_plan.specs.SpoolSetup.{initiator}
+use Rattle.mv_machine.proofs.EntryRuns.{entry_of}
 use Rattle.mv_plan.proofs.volumes.Added.{added_by}
 use Rattle.mv_plan.proofs.deck.Events.{steps_events, all_events, all_events_are}
 use Rattle.mv_deck.specs.Weight as heavy
 use Rattle.mv_plan.proofs.deck.Plans.{Held, ArePlannedSteps, ArePlannedJobs, IsPlanned}
-use Rattle.mv_report.specs.Outcome.{before_end, added}
-use Rattle.mv_plan.specs.SpoolSetup.{initiator}
 use Rattle.mv_plan.proofs.volumes.Dues.{due, gift_adds, own_due}
 use Rattle.mv_plan.proofs.volumes.GivenCodes.{with_code, codes_of, codes-push, count_of, full, adds_all, adds-append, adds_by_jobs}
 use Rattle.mv_plan.proofs.latches.HandMoves.{at_entry}
 use Rattle.mv_plan.proofs.points.Points.{At, Running, Hand, Opening, Reading, initiator_asks, initiator_goes, reader_asks, scheduler_asks}
-use Rattle.mv_plan.proofs.points.Points.{writer_asks}
+use Rattle.mv_plan.proofs.points.Points.{writer_asks, InJob}
 use Rattle.mv_plan.proofs.walks.NoneLost.{NoneLost, none_lost_before}
 use Rattle.mv_plan.proofs.walks.Walks.{Points, start_points, Move, reads, schedules, initiates, writes}
 use Rattle.mv_plan.proofs.volumes.Sums.{sum_to, sum_zero, sum_le, sum_member, sum_with_at, sum_front, times, times_once}
@@ -113,7 +112,6 @@ module _ (c : Setup) (deck : List JobData) (initiators : ℕ) where
 
 steps_bound : (v : ℕ) (steps : List Step) (held : List Held) → ArePlannedSteps held steps
     → 2 * added_by v (before_end steps) ≤ 9999 * steps_events steps
-steps_bound v [] held s = omega arith
 steps_bound v (Print text ∷ steps) held s = let r : 2 * added_by v (before_end steps) ≤ 9999 * steps_events steps =
     steps_bound v steps held s in omega arith
 steps_bound v (Use latch mode ∷ steps) held s = let r : 2 * added_by v (before_end steps) ≤ 9999 * steps_events steps =
@@ -128,8 +126,7 @@ steps_bound v (Count volume amount ∷ steps) held s =
       some false = omega arith
 steps_bound v (Scan volume ∷ steps) held s = let r : 2 * added_by v (before_end steps) ≤ 9999 * steps_events steps =
     steps_bound v steps held s.2 in omega arith
-steps_bound v (Abend code ∷ steps) held s = omega arith
-steps_bound v (Return code ∷ steps) held s = omega arith
+steps_bound v steps held s = omega arith
 
 fulls_bound : (v k : ℕ) (jobs : List JobData) → ArePlannedJobs k jobs → 2 * sum_to (length jobs) (full jobs v) ≤ 9999 * all_events jobs
 fulls_bound v k [] s = omega arith
@@ -166,7 +163,7 @@ pub count_small : (deck : List JobData) (initiators : ℕ) (s : System) (t : Poi
     (volume amount : ℕ) (steps : List Step)
     → 1 ≤ initiators → IsPlanned deck initiators → i < initiators → NoneLost initiators t → Balance deck initiators s t past
     → OnceEach deck (codes_of past)
-    → t.initiators i ≡ At (Reading run hand volume amount steps) → (s.volume volume).state + amount < 2 ^ 32
+    → t.initiators i ≡ At (InJob run (Reading hand volume amount steps)) → (s.volume volume).state + amount < 2 ^ 32
 count_small deck initiators s t past i run hand volume amount steps some sound lt none w once at =
     let a : (s.volume volume).state + sum_to initiators (λ m. due volume (t.initiators m)) ≡ adds_all deck volume (codes_of past) =
     w none volume in

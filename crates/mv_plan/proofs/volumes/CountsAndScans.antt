@@ -2,21 +2,21 @@
 use Rattle.std.proofs.Common.{◌≡◌, ℕ, ◌+◌, ◌<◌, List, [], ◌∷◌, ◌++◌, length, Some, refl, sym, ap, ◌∙◌, subst, arith}
 use Rattle.mv_machine.specs.declared.entry.Entry.{Entry}
 use Rattle.mv_machine.specs.declared.entry.Object.TheVariants.{Volume}
-use Rattle.mv_machine.specs.declared.entry.Op.TheVariants as op_on
-use Rattle.mv_machine.specs.declared.entry.Reply.TheVariants as reply_of
-use Rattle.mv_machine.specs.declared.entry.VolumeOp.TheVariants as volume_op
-use Rattle.mv_machine.specs.declared.entry.VolumeReply.TheVariants as volume_reply
 use Rattle.mv_machine.specs.Legal.{IsNext, next, after_from, of, «at»}
 use Rattle.mv_machine.specs.Setup.{Setup}
 use Rattle.mv_machine.specs.System.{System, reply_to}
 use Rattle.mv_deck.specs.Deck.{JobData}
 use Rattle.mv_deck.specs.declared.deck.Step.{Step}
 use Rattle.mv_plan.specs.SpoolSetup.{reader, scheduler, initiator, writer}
+use Rattle.mv_machine.specs.declared.entry.Op.TheVariants as op_on
+use Rattle.mv_machine.specs.declared.entry.Reply.TheVariants as reply_of
+use Rattle.mv_machine.specs.declared.entry.VolumeOp.TheVariants as volume_op
+use Rattle.mv_machine.specs.declared.entry.VolumeReply.TheVariants as volume_reply
 use Rattle.mv_plan.proofs.walks.Always.{Always, always_next, always_rest, always_front}
 use Rattle.mv_plan.proofs.volumes.Alone.{CountMoments, Mover, mover, mover_touches, mover_counts, quiet_point, alone_along, steady_along}
 use Rattle.mv_plan.proofs.volumes.Alone.{number_kept}
 use Rattle.mv_plan.proofs.latches.Exclusion.{touched, counted_on}
-use Rattle.mv_plan.proofs.points.Points.{At, Running, Hand, InitiatorAt, Reading, Writing, initiator_asks, initiator_goes}
+use Rattle.mv_plan.proofs.points.Points.{At, Running, Hand, InitiatorAt, Reading, Writing, initiator_asks, initiator_goes, InJob}
 use Rattle.mv_plan.proofs.walks.Walks.{Points, Move, reads, schedules, initiates, writes, WalkTo, walk-parts}
 use Rattle.mv_plan.proofs.volumes.Values.{LeadsTo, leads}
 use Rattle.mv_plan.proofs.lists.Tables.{with_at-same}
@@ -57,11 +57,11 @@ record IsWriting (x : InitiatorAt) (n : ℕ) : Type 0 where
   amount : ℕ
   number : ℕ
   steps : List Step
-  is : x ≡ Writing run hand volume amount number steps
+  is : x ≡ InJob run (Writing hand volume amount number steps)
   sum : n ≡ number + amount
 
 writing_point : (m i n : ℕ) (x : InitiatorAt) → (initiator_asks m i x).1 ≡ op_on.Volume (volume_op.Write n) → IsWriting x n
-writing_point m i n (Writing run hand volume amount number steps) e =
+writing_point m i n (InJob run (Writing hand volume amount number steps)) e =
     record { run = run; hand = hand; volume = volume; amount = amount; number = number; steps = steps; is = refl; sum = sym (cc e) }
 writing_point m i n x e = absurd (cc e)
 
@@ -152,7 +152,7 @@ module _ (c : Setup) (deck : List JobData) (initiators : ℕ) (s : System) (t u 
       m : Mover deck initiators here second.0 r
       m = own.0
 
-      led : (m.point ≡ Reading p.run p.hand p.volume p.amount p.steps) × (r.reply ≡ reply_of.Volume (volume_reply.Value p.number))
+      led : (m.point ≡ InJob p.run (Reading p.hand p.volume p.amount p.steps)) × (r.reply ≡ reply_of.Volume (volume_reply.Value p.number))
       led = subst (LeadsTo m.point r.reply) (sym m.goes ∙ ap (second.0).initiators own.1 ∙ sym still ∙ it.stands ∙ ap (λ x. At x) p.is)
           (leads deck m.point r.reply)
 

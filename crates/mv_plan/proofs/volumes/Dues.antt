@@ -1,46 +1,45 @@
 -- What the jobs that are run have still to add to a volume, and how an initiator's event pays it.
-use Rattle.std.proofs.Common.{◌≡◌, ℕ, zero, suc, ◌+◌, ◌==◌, ◌^◌, nat_lt, Bool, true, false, if◌then◌else◌, List, [], ◌∷◌, length, Option}
-use Rattle.std.proofs.Common.{Some, None, inl, inr, refl, sym, ap, ◌∙◌, subst, arith}
-use Rattle.std.specs.List.{list_any}
-use Rattle.std.proofs.lemmas.Bool.{cases_eq, eq-eqb, ne_eqb, eqb-true}
-use Rattle.mv_ecb.specs.declared.operation.EcbReply.TheVariants as ecb_reply
-use Rattle.mv_element.specs.declared.operation.ElementReply.TheVariants as element_reply
-use Rattle.mv_latch.specs.declared.operation.LatchReply.TheVariants as latch_reply
+use Rattle.std.proofs.Common.{◌≡◌, ℕ, zero, suc, ◌+◌, Bool, true, false, if◌then◌else◌, List, [], ◌∷◌, length, inl, inr, refl, sym, ap, ◌∙◌}
+use Rattle.std.proofs.Common.{subst, arith}
+use Rattle.std.proofs.lemmas.Bool.{cases_eq, eq-eqb, ne_eqb}
 use Rattle.mv_machine.specs.declared.entry.Reply.{Reply}
-use Rattle.mv_machine.specs.declared.entry.Reply.TheVariants as reply_of
-use Rattle.mv_machine.specs.declared.entry.VolumeReply.TheVariants as volume_reply
 use Rattle.mv_machine.specs.Setup.{Setup}
 use Rattle.mv_machine.specs.System.{System, with_at, advanced}
 use Rattle.mv_plan.specs.HandingOut.{gift_code}
 use Rattle.mv_deck.specs.Deck.{JobData}
 use Rattle.mv_deck.specs.declared.deck.Step.{Step}
-use Rattle.mv_deck.specs.declared.deck.Step.TheVariants.{Print, Use, Free, Count, Scan, Abend, Return}
-use Rattle.mv_plan.proofs.volumes.Added.{added_by}
+use Rattle.mv_deck.specs.declared.deck.Step.TheVariants.{Print, Use, Count, Scan, Free}
 use Rattle.mv_plan.specs.Jobs.{job_at}
 use Rattle.mv_report.specs.Outcome.{before_end, added}
-use Rattle.mv_plan.specs.SpoolTasks.{Named, job_named}
+use Rattle.mv_machine.specs.Legal.{IsNext}
+use Rattle.mv_plan.specs.SpoolSetup.{initiator}
+use Rattle.mv_element.specs.declared.operation.ElementReply.TheVariants as element_reply
+use Rattle.mv_latch.specs.declared.operation.LatchReply.TheVariants as latch_reply
+use Rattle.mv_machine.specs.declared.entry.Reply.TheVariants as reply_of
+use Rattle.mv_machine.specs.declared.entry.VolumeReply.TheVariants as volume_reply
+use Rattle.mv_plan.proofs.volumes.Added.{added_by}
 use Rattle.mv_plan.proofs.volumes.GivenCodes.{with_code, adds_if, adds_named, adds, adds_all, adds_high}
-use Rattle.mv_plan.proofs.points.Points.{Point, At, Astray, Running, Hand, empty_hand, InitiatorAt, Opening, Offering, Pausing, Resuming}
-use Rattle.mv_plan.proofs.points.Points.{Obtaining, Confirming, Freeing, Reading, Writing, Scanning, Rescanning, Purging, EndingJob}
-use Rattle.mv_plan.proofs.points.Points.{EndingForScheduler, EndingForWriter, Closing, initiator_goes, rounds_from, freeing_at, steps_at}
-use Rattle.mv_plan.proofs.points.Points.{running, job_start, named_at, given_at, initiator_asks}
+use Rattle.mv_plan.proofs.points.Points.{Point, At, Running, Hand, empty_hand, InitiatorAt, Opening, Offering, Pausing, Resuming}
+use Rattle.mv_plan.proofs.points.Points.{rounds_after, Obtaining, Confirming, Freeing, Reading, Writing, Scanning, Rescanning, Purging}
+use Rattle.mv_plan.proofs.points.Points.{EndingJob, EndingForScheduler, EndingForWriter, Closing, initiator_goes, rounds_from}
+use Rattle.mv_plan.proofs.points.Points.{steps_at, running, job_start, given_at, initiator_asks, InJob}
 use Rattle.mv_plan.proofs.volumes.Values.{ValueAt, read_keeps, write_same, write_other, volumes_asked}
 use Rattle.mv_plan.proofs.points.Views.{IsNotLost}
-use Rattle.mv_machine.specs.Legal.{IsNext}
 use Rattle.mv_machine.proofs.EntryRuns.{entry_of}
-use Rattle.mv_plan.specs.SpoolSetup.{initiator}
+use Rattle.mv_plan.proofs.points.Lands.{freeing_lands, given_lands, ended_lands, counting_lands}
+use Rattle.mv_plan.proofs.points.PostsAndWaits.{on_posted_keeps}
 
 -- ---- what is still to be added
 
 -- by the job that is run
 abbrev pub due : ℕ → Point InitiatorAt → ℕ
-due v (At (Obtaining run hand latch mode steps)) = added_by v (before_end steps)
-due v (At (Confirming run hand latch mode id steps)) = added_by v (before_end steps)
-due v (At (Freeing run hand latch id steps)) = added_by v (before_end steps)
-due v (At (Reading run hand volume amount steps)) = added v (Count volume amount) + added_by v (before_end steps)
-due v (At (Writing run hand volume amount number steps)) = added v (Count volume amount) + added_by v (before_end steps)
-due v (At (Scanning run hand volume steps)) = added_by v (before_end steps)
-due v (At (Rescanning run hand volume number steps)) = added_by v (before_end steps)
+due v (At (InJob run (Obtaining hand latch mode steps))) = added_by v (before_end steps)
+due v (At (InJob run (Confirming hand latch mode id steps))) = added_by v (before_end steps)
+due v (At (InJob run (Freeing hand latch id steps))) = added_by v (before_end steps)
+due v (At (InJob run (Reading hand volume amount steps))) = added v (Count volume amount) + added_by v (before_end steps)
+due v (At (InJob run (Writing hand volume amount number steps))) = added v (Count volume amount) + added_by v (before_end steps)
+due v (At (InJob run (Scanning hand volume steps))) = added_by v (before_end steps)
+due v (At (InJob run (Rescanning hand volume number steps))) = added_by v (before_end steps)
 due v p = 0
 
 -- what the job that a given code names adds
@@ -57,44 +56,25 @@ module _ (v : ℕ) where
 
   due_steps : (run : Running) (hand : Hand) (steps : List Step) → IsNotLost (steps_at run hand steps)
       → due v (steps_at run hand steps) ≡ added_by v (before_end steps)
-  due_steps run hand [] n = refl
   due_steps run hand (Print text ∷ steps) n = due_steps run hand steps n ∙ zero_plus (added_by v (before_end steps))
   due_steps run hand (Use latch mode ∷ steps) n = zero_plus (added_by v (before_end steps))
-  due_steps run hand (Free latch ∷ steps) n = go (hand.requests latch) n where
-    go : (slot : Option ℕ) → IsNotLost (freeing_at run hand latch slot steps)
-        → due v (freeing_at run hand latch slot steps) ≡ 0 + added_by v (before_end steps)
-    go None n = absurd n
-    go (Some id) n = zero_plus (added_by v (before_end steps))
-  due_steps run hand (Count volume amount ∷ steps) n = refl
+  due_steps run hand (Free latch ∷ steps) n =
+      freeing_lands (λ p. IsNotLost p → due v p ≡ 0 + added_by v (before_end steps)) (λ n. absurd n) run hand latch
+      (hand.requests latch) steps (λ id e n. zero_plus (added_by v (before_end steps))) n
   due_steps run hand (Scan volume ∷ steps) n = zero_plus (added_by v (before_end steps))
-  due_steps run hand (Abend code ∷ steps) n = refl
-  due_steps run hand (Return code ∷ steps) n = refl
+  due_steps run hand steps n = refl
 
   due_start : (deck : List JobData) (run : Running) (job : ℕ) (skipped : Bool) → IsNotLost (job_start skipped run (job_at deck job))
       → due v (job_start skipped run (job_at deck job)) ≡ adds_if deck v job skipped
   due_start deck run job true n = refl
   due_start deck run job false n = due_steps run empty_hand (job_at deck job).steps n
 
-  due_named : (deck : List JobData) (slot : Option Named) (before : List ℕ) (more g : ℕ) → IsNotLost (named_at deck slot before more g)
-      → due v (named_at deck slot before more g) ≡ adds_named deck v slot
-  due_named deck None before more g n = refl
-  due_named deck (Some named) before zero g n = absurd n
-  due_named deck (Some named) before (suc more) g n = go (list_any (λ j. j == named.job) before) n where
-    go : (b : Bool) → IsNotLost (if b then Astray else job_start named.skipped (running named before (suc more) g)
-        (job_at deck named.job))
-        → due v (if b then Astray else job_start named.skipped (running named before (suc more) g) (job_at deck named.job))
-        ≡ adds_if deck v named.job named.skipped
-    go true n = absurd n
-    go false n = due_start deck (running named before (suc more) g) named.job named.skipped n
-
   due_given : (deck : List JobData) (more : ℕ) (before : List ℕ) (code g : ℕ) → IsNotLost (given_at deck more before code g)
       → due v (given_at deck more before code g) ≡ adds deck v code
-  due_given deck more before code g = go (code == 0) refl where
-    go : (b : Bool) → (code == 0) ≡ b
-        → IsNotLost (if b then At (Closing g) else named_at deck (job_named (length deck) code) before more g)
-        → due v (if b then At (Closing g) else named_at deck (job_named (length deck) code) before more g) ≡ adds deck v code
-    go true e n = sym (ap (adds deck v) (eqb-true code 0 e) ∙ adds_high deck v 0 refl)
-    go false e n = due_named deck (job_named (length deck) code) before more g n
+  due_given deck more before code g =
+      given_lands (λ p. IsNotLost p → due v p ≡ adds deck v code) (λ n. absurd n) deck more before code g
+      (λ z n. sym (ap (adds deck v) z ∙ adds_high deck v 0 refl))
+      (λ named left e t m n. due_start deck (running named before (suc left) g) named.job named.skipped n ∙ sym (ap (adds_named deck v) e))
 
 -- ---- the initiator that moves
 
@@ -145,70 +125,48 @@ module _ (c : Setup) (s : System) (deck : List JobData) (i v : ℕ) where
       → IsNotLost (initiator_goes deck x r) → DueNext x r
   own_due Opening p (reply_of.Element (element_reply.Opened g)) h a n =
       to_zero (s.volume v).state _ (due_rounds v (length deck + 1) [] g)
-  own_due Opening p r h a n = absurd n
-  own_due (Offering more before g) p (reply_of.Ecb ecb_reply.Posted) h a n = plain_due (s.volume v).state 0
-  own_due (Offering more before g) p (reply_of.Ecb (ecb_reply.Woke x)) h a n = plain_due (s.volume v).state 0
-  own_due (Offering more before g) p (reply_of.Ecb (ecb_reply.Already code)) h a n = plain_due (s.volume v).state 0
-  own_due (Offering more before g) p r h a n = absurd n
+  own_due (Offering more before g) p (reply_of.Ecb y) h a n =
+      on_posted_keeps (λ q. IsNotLost q → (s.volume v).state + due v q ≡ (s.volume v).state + 0 + 0) (At (Pausing more before g))
+      (reply_of.Ecb y)
+      (λ n. plain_due (s.volume v).state 0) (λ n. absurd n) n
   own_due (Pausing more before g) p (reply_of.Element (element_reply.Given code now)) h a n =
       gift_due (s.volume v).state _ (adds deck v code) (due_given v deck more before code now n)
   own_due (Pausing more before g) p (reply_of.Element element_reply.Parked) h a n = plain_due (s.volume v).state 0
-  own_due (Pausing more before g) p r h a n = absurd n
   own_due (Resuming more before g) p (reply_of.Element (element_reply.Given code now)) h a n =
       gift_due (s.volume v).state _ (adds deck v code) (due_given v deck more before code now n)
   own_due (Resuming more before g) p (reply_of.Element element_reply.NotYet) h a n = absurd n
-  own_due (Resuming more before g) p r h a n = absurd n
-  own_due (Obtaining run hand latch mode steps) p (reply_of.Latch (latch_reply.Granted id)) h a n =
+  own_due (InJob run (Obtaining hand latch mode steps)) p (reply_of.Latch (latch_reply.Granted id)) h a n =
       same_due (s.volume v).state _ (added_by v (before_end steps)) (due_steps v run _ steps n)
-  own_due (Obtaining run hand latch mode steps) p (reply_of.Latch (latch_reply.Queued id)) h a n =
+  own_due (InJob run (Obtaining hand latch mode steps)) p (reply_of.Latch (latch_reply.Queued id)) h a n =
       plain_due (s.volume v).state (added_by v (before_end steps))
-  own_due (Obtaining run hand latch mode steps) p r h a n = absurd n
-  own_due (Confirming run hand latch mode id steps) p (reply_of.Latch (latch_reply.Granted same)) h a n =
+  own_due (InJob run (Confirming hand latch mode id steps)) p (reply_of.Latch (latch_reply.Granted same)) h a n =
       same_due (s.volume v).state _ (added_by v (before_end steps)) (due_steps v run _ steps n)
-  own_due (Confirming run hand latch mode id steps) p (reply_of.Latch latch_reply.Waiting) h a n = absurd n
-  own_due (Confirming run hand latch mode id steps) p r h a n = absurd n
-  own_due (Freeing run hand latch id steps) p (reply_of.Latch (latch_reply.Released count)) h a n =
+  own_due (InJob run (Confirming hand latch mode id steps)) p (reply_of.Latch latch_reply.Waiting) h a n = absurd n
+  own_due (InJob run (Freeing hand latch id steps)) p (reply_of.Latch (latch_reply.Released count)) h a n =
       same_due (s.volume v).state _ (added_by v (before_end steps)) (due_steps v run _ steps n)
-  own_due (Freeing run hand latch id steps) p r h a n = absurd n
-  own_due (Reading run hand volume amount steps) p (reply_of.Volume (volume_reply.Value number)) h a n =
-      go (nat_lt (number + amount) (2 ^ 32)) n where
-        go : (b : Bool) → IsNotLost (if b then At (Writing run hand volume amount number steps) else Astray)
-            → (with_at s.volume volume (advanced (s.volume volume) (s.volume volume).state) v).state + due v
-            (if b then At (Writing run hand volume amount number steps) else Astray) ≡ (s.volume v).state +
-            (added v (Count volume amount) + added_by v (before_end steps)) + 0
-        go true n = read_due _ (s.volume v).state _ (added v (Count volume amount) + added_by v (before_end steps))
-            (read_keeps s.volume volume v) refl
-        go false n = absurd n
-  own_due (Reading run hand volume amount steps) p r h a n = absurd n
-  own_due (Writing run hand volume amount number steps) p (reply_of.Volume volume_reply.Stored) h a n =
+  own_due (InJob run (Reading hand volume amount steps)) p (reply_of.Volume (volume_reply.Value number)) h a n =
+      counting_lands (λ q. IsNotLost q → (with_at s.volume volume (advanced (s.volume volume) (s.volume volume).state) v).state + due v q
+      ≡ (s.volume v).state + (added v (Count volume amount) + added_by v (before_end steps)) + 0) (λ n. absurd n) run hand volume amount
+      steps number
+      (λ n. read_due _ (s.volume v).state _ (added v (Count volume amount) + added_by v (before_end steps))
+      (read_keeps s.volume volume v) refl) n
+  own_due (InJob run (Writing hand volume amount number steps)) p (reply_of.Volume volume_reply.Stored) h a n =
       write_due volume amount number _ (added_by v (before_end steps)) a (due_steps v run hand steps n)
-  own_due (Writing run hand volume amount number steps) p r h a n = absurd n
-  own_due (Scanning run hand volume steps) p (reply_of.Volume (volume_reply.Value number)) h a n =
+  own_due (InJob run (Scanning hand volume steps)) p (reply_of.Volume (volume_reply.Value number)) h a n =
       read_due _ (s.volume v).state _ (added_by v (before_end steps)) (read_keeps s.volume volume v) refl
-  own_due (Scanning run hand volume steps) p r h a n = absurd n
-  own_due (Rescanning run hand volume number steps) p (reply_of.Volume (volume_reply.Value again)) h a n =
+  own_due (InJob run (Rescanning hand volume number steps)) p (reply_of.Volume (volume_reply.Value again)) h a n =
       read_due _ (s.volume v).state _ (added_by v (before_end steps)) (read_keeps s.volume volume v) (due_steps v run hand steps n)
-  own_due (Rescanning run hand volume number steps) p r h a n = absurd n
-  own_due (Purging run hand code) p (reply_of.Latch (latch_reply.Purged removed count)) h a n = plain_due (s.volume v).state 0
-  own_due (Purging run hand code) p r h a n = absurd n
-  own_due (EndingJob run code counts) p (reply_of.Ecb (ecb_reply.Woke (suc x))) h a n = plain_due (s.volume v).state 0
-  own_due (EndingJob run code counts) p (reply_of.Ecb (ecb_reply.Woke zero)) h a n =
-      to_zero (s.volume v).state _ (due_rounds v run.more _ run.generation)
-  own_due (EndingJob run code counts) p (reply_of.Ecb ecb_reply.Posted) h a n =
-      to_zero (s.volume v).state _ (due_rounds v run.more _ run.generation)
-  own_due (EndingJob run code counts) p (reply_of.Ecb (ecb_reply.Already old)) h a n =
-      to_zero (s.volume v).state _ (due_rounds v run.more _ run.generation)
-  own_due (EndingJob run code counts) p r h a n = absurd n
-  own_due (EndingForScheduler run code counts) p (reply_of.Ecb ecb_reply.Posted) h a n = plain_due (s.volume v).state 0
-  own_due (EndingForScheduler run code counts) p (reply_of.Ecb (ecb_reply.Woke x)) h a n = plain_due (s.volume v).state 0
-  own_due (EndingForScheduler run code counts) p (reply_of.Ecb (ecb_reply.Already old)) h a n = plain_due (s.volume v).state 0
-  own_due (EndingForScheduler run code counts) p r h a n = absurd n
-  own_due (EndingForWriter run code counts) p (reply_of.Ecb ecb_reply.Posted) h a n =
-      to_zero (s.volume v).state _ (due_rounds v run.more _ run.generation)
-  own_due (EndingForWriter run code counts) p (reply_of.Ecb (ecb_reply.Woke x)) h a n =
-      to_zero (s.volume v).state _ (due_rounds v run.more _ run.generation)
-  own_due (EndingForWriter run code counts) p (reply_of.Ecb (ecb_reply.Already old)) h a n =
-      to_zero (s.volume v).state _ (due_rounds v run.more _ run.generation)
-  own_due (EndingForWriter run code counts) p r h a n = absurd n
+  own_due (InJob run (Purging hand code)) p (reply_of.Latch (latch_reply.Purged removed count)) h a n = plain_due (s.volume v).state 0
+  own_due (InJob run (EndingJob code counts)) p (reply_of.Ecb y) h a n =
+      ended_lands (λ q. IsNotLost q → (s.volume v).state + due v q ≡ (s.volume v).state + 0 + 0) (λ n. absurd n) run code counts
+      (reply_of.Ecb y)
+      (λ n. plain_due (s.volume v).state 0) (λ n. to_zero (s.volume v).state _ (due_rounds v run.more _ run.generation)) n
+  own_due (InJob run (EndingForScheduler code counts)) p (reply_of.Ecb y) h a n =
+      on_posted_keeps (λ q. IsNotLost q → (s.volume v).state + due v q ≡ (s.volume v).state + 0 + 0)
+      (At (InJob run (EndingForWriter code counts)))
+      (reply_of.Ecb y) (λ n. plain_due (s.volume v).state 0) (λ n. absurd n) n
+  own_due (InJob run (EndingForWriter code counts)) p (reply_of.Ecb y) h a n =
+      on_posted_keeps (λ q. IsNotLost q → (s.volume v).state + due v q ≡ (s.volume v).state + 0 + 0) (rounds_after run) (reply_of.Ecb y)
+      (λ n. to_zero (s.volume v).state _ (due_rounds v run.more _ run.generation)) (λ n. absurd n) n
   own_due (Closing g) p (reply_of.Element element_reply.Closed) h a n = plain_due (s.volume v).state 0
-  own_due (Closing g) p r h a n = absurd n
+  own_due x p r h a n = absurd n

@@ -5,10 +5,10 @@ use Rattle.std.proofs.lemmas.Bool.{eq-eqb, ne_eqb, leb-true, le-leb, false≢tru
 use Rattle.mv_machine.specs.declared.entry.Entry.{Entry}
 use Rattle.mv_plan.specs.HandingOut.{gift_code}
 use Rattle.mv_deck.specs.Deck.{JobData}
-use Rattle.mv_plan.proofs.volumes.Added.{added_by}
 use Rattle.mv_plan.specs.Jobs.{job_at}
 use Rattle.mv_report.specs.Outcome.{before_end}
 use Rattle.mv_plan.specs.SpoolTasks.{Named, job_named, not_to_run}
+use Rattle.mv_plan.proofs.volumes.Added.{added_by}
 use Rattle.mv_plan.proofs.volumes.Sums.{sum_to, sum_ext, sum_zero, sum_change, times}
 
 -- ---- codes

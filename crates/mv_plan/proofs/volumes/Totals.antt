@@ -1,19 +1,19 @@
 -- The sum of what the named jobs add is the deck's total, where each job was named once and as its end says.
-use Rattle.std.proofs.Common.{◌≡◌, ℕ, suc, ◌+◌, ◌<◌, ◌≤◌, ◌==◌, ◌||◌, Bool, true, false, if◌then◌else◌, List, [], ◌∷◌, length}
-use Rattle.std.proofs.Common.{slice_index, sum_by, Option, Some, None, refl, sym, ap, ◌∙◌, arith}
+use Rattle.std.proofs.Common.{◌≡◌, ℕ, suc, ◌+◌, ◌<◌, ◌≤◌, ◌==◌, ◌||◌, Bool, true, false, if◌then◌else◌, List, [], ◌∷◌, length, slice_index}
+use Rattle.std.proofs.Common.{Option, Some, None, refl, sym, ap, ◌∙◌, arith, sum_by}
 use Rattle.std.proofs.lemmas.Bool.{eq-eqb, ne_eqb, eqb-true, or_left, or_right, false≢true}
 use Rattle.mv_machine.specs.declared.entry.Entry.{Entry}
 use Rattle.mv_plan.specs.HandingOut.{gift_code, naming, given_codes}
 use Rattle.mv_deck.specs.Deck.{JobData}
 use Rattle.std.proofs.lemmas.List.Sums.{sum_by-cons}
 use Rattle.mv_deck.specs.declared.deck.Step.{Step}
-use Rattle.mv_plan.proofs.volumes.Added.{added_by, added_by_is}
 use Rattle.mv_plan.specs.Jobs.{job_at, end_of}
 use Rattle.mv_deck.specs.EndCode.{not_run}
-use Rattle.mv_report.specs.Outcome as outcome
-use Rattle.mv_report.specs.Outcome.{before_end, ends, steps_with, all_steps_with, total}
+use Rattle.mv_report.specs.Outcome.{before_end, ends, total, steps_with, all_steps_with}
 use Rattle.mv_plan.specs.SpoolTasks.{code_of}
 use Rattle.mv_report.proofs.Lengths.{one_end_per_job}
+use Rattle.mv_plan.proofs.volumes.Added.{added_by, added_by_is}
+use Rattle.mv_report.specs.Outcome as outcome
 use Rattle.mv_plan.proofs.volumes.GivenCodes.{with_code, codes_of, count_of, full, adds_all, adds_by_jobs}
 use Rattle.mv_plan.proofs.volumes.Sums.{sum_to, sum_ext, sum_front, times}
 

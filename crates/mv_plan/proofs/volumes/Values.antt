@@ -1,43 +1,41 @@
 -- What volumes hold between the two events of a COUNT or SCAN: the number that was read.
-use Rattle.std.proofs.Common.{◌≡◌, ℕ, zero, suc, ◌+◌, ◌<◌, ◌==◌, ◌^◌, nat_lt, Bool, true, false, if◌then◌else◌, List, [], ◌∷◌, length}
-use Rattle.std.proofs.Common.{Option, Some, None, ◌⊎◌, inl, inr, refl, sym, ap, ◌∙◌, subst}
-use Rattle.std.specs.List.{list_any}
+use Rattle.std.proofs.Common.{◌≡◌, ℕ, zero, suc, ◌+◌, ◌<◌, Bool, true, false, List, [], ◌∷◌, length, Option, Some, inl, inr, refl, sym, ap}
+use Rattle.std.proofs.Common.{◌∙◌, subst}
 use Rattle.std.proofs.lemmas.Bool.{cases_eq}
-use Rattle.mv_ecb.specs.declared.operation.EcbReply.TheVariants as ecb_reply
-use Rattle.mv_element.specs.declared.operation.ElementReply.TheVariants as element_reply
-use Rattle.mv_latch.specs.declared.operation.LatchReply.TheVariants as latch_reply
 use Rattle.mv_machine.specs.declared.entry.Entry.{Entry}
 use Rattle.mv_machine.specs.declared.entry.Object.{Object}
 use Rattle.mv_machine.specs.declared.entry.Object.TheVariants.{Ecb, Element, Volume, Latches}
 use Rattle.mv_machine.specs.declared.entry.Op.{Op}
-use Rattle.mv_machine.specs.declared.entry.Op.TheVariants as op_on
 use Rattle.mv_machine.specs.declared.entry.Reply.{Reply}
-use Rattle.mv_machine.specs.declared.entry.Reply.TheVariants as reply_of
-use Rattle.mv_machine.specs.declared.entry.VolumeOp.TheVariants as volume_op
-use Rattle.mv_machine.specs.declared.entry.VolumeReply.TheVariants as volume_reply
 use Rattle.mv_machine.specs.Legal.{IsNext, next}
 use Rattle.mv_machine.specs.Setup.{Setup}
 use Rattle.mv_machine.specs.System.{Cell, System, moved, with_at, advanced}
-use Rattle.mv_machine.proofs.EntryRuns.{entry_of}
 use Rattle.mv_deck.specs.Deck.{JobData}
 use Rattle.mv_deck.specs.declared.deck.Step.{Step}
-use Rattle.mv_deck.specs.declared.deck.Step.TheVariants.{Print, Use, Free, Count, Scan, Abend, Return}
+use Rattle.mv_deck.specs.declared.deck.Step.TheVariants.{Print, Free}
 use Rattle.mv_plan.specs.Jobs.{job_at}
 use Rattle.mv_plan.specs.SpoolSetup.{initiator}
-use Rattle.mv_plan.specs.SpoolTasks.{Named, job_named}
+use Rattle.mv_element.specs.declared.operation.ElementReply.TheVariants as element_reply
+use Rattle.mv_latch.specs.declared.operation.LatchReply.TheVariants as latch_reply
+use Rattle.mv_machine.specs.declared.entry.Op.TheVariants as op_on
+use Rattle.mv_machine.specs.declared.entry.Reply.TheVariants as reply_of
+use Rattle.mv_machine.specs.declared.entry.VolumeOp.TheVariants as volume_op
+use Rattle.mv_machine.specs.declared.entry.VolumeReply.TheVariants as volume_reply
+use Rattle.mv_machine.proofs.EntryRuns.{entry_of}
 use Rattle.mv_plan.proofs.latches.Exclusion.{touched, counted_on, excludes}
 use Rattle.mv_plan.proofs.latches.HandMoves.{at_entry}
 use Rattle.mv_plan.proofs.latches.Hands.{Hands}
 use Rattle.mv_plan.proofs.points.InitiatorSound.{IsInitiatorAt}
 use Rattle.mv_plan.proofs.points.PostsAndWaits.{on_posted_keeps}
-use Rattle.mv_plan.proofs.points.Points.{Point, At, Astray, Running, Hand, empty_hand, InitiatorAt, Opening, Offering, Pausing, Resuming}
+use Rattle.mv_plan.proofs.points.Points.{Point, At, Running, Hand, empty_hand, InitiatorAt, Opening, Offering, Pausing, Resuming}
 use Rattle.mv_plan.proofs.points.Points.{Obtaining, Confirming, Freeing, Reading, Writing, Scanning, Rescanning, Purging, EndingJob}
 use Rattle.mv_plan.proofs.points.Points.{EndingForScheduler, EndingForWriter, Closing, initiator_asks, initiator_goes, rounds_from}
-use Rattle.mv_plan.proofs.points.Points.{rounds_after, freeing_at, steps_at, running, job_start, named_at, given_at, reader_asks}
-use Rattle.mv_plan.proofs.points.Points.{scheduler_asks, writer_asks}
+use Rattle.mv_plan.proofs.points.Points.{rounds_after, steps_at, running, job_start, given_at, reader_asks}
+use Rattle.mv_plan.proofs.points.Points.{scheduler_asks, writer_asks, InJob}
 use Rattle.mv_plan.proofs.walks.Walks.{Points, Move, reads, schedules, initiates, writes}
-use Rattle.mv_plan.proofs.lists.Tables.{with_at-same, with_at-other}
+use Rattle.mv_plan.proofs.lists.Tables.{with_at-same, with_at-other, all_but}
 use Rattle.mv_plan.proofs.points.Asks.{IsSignal, reader_signals, scheduler_signals, writer_signals}
+use Rattle.mv_plan.proofs.points.Lands.{freeing_lands, given_lands, counting_lands, ended_lands}
 
 -- ---- events elsewhere
 
@@ -78,8 +76,8 @@ value_is c s k v p number h =
 -- ---- the number that was read is still there
 
 abbrev pub ValueAt : Numbers → Point InitiatorAt → Type 0
-ValueAt f (At (Writing run hand volume amount number steps)) = (f volume).state ≡ number
-ValueAt f (At (Rescanning run hand volume number steps)) = (f volume).state ≡ number
+ValueAt f (At (InJob run (Writing hand volume amount number steps))) = (f volume).state ≡ number
+ValueAt f (At (InJob run (Rescanning hand volume number steps))) = (f volume).state ≡ number
 ValueAt f p = Unit {0}
 
 -- Where an initiator is to write what it read plus an amount, or to read a second time, the volume has the number that it read.
@@ -87,23 +85,24 @@ abbrev pub Values : ℕ → Numbers → (ℕ → Point InitiatorAt) → Type 0
 Values initiators f points = (i : ℕ) → i < initiators → ValueAt f (points i)
 
 value_read : (f : Numbers) (v : ℕ) (p : Point InitiatorAt) → ValueAt f p → ValueAt (with_at f v (advanced (f v) (f v).state)) p
-value_read f v (At (Writing run hand volume amount number steps)) w = read_keeps f v volume ∙ w
-value_read f v (At (Rescanning run hand volume number steps)) w = read_keeps f v volume ∙ w
+value_read f v (At (InJob run (Writing hand volume amount number steps))) w = read_keeps f v volume ∙ w
+value_read f v (At (InJob run (Rescanning hand volume number steps))) w = read_keeps f v volume ∙ w
 value_read f v p w = tt
 
 value_write : (f : Numbers) (v number : ℕ) (p : Point InitiatorAt) → (touched p ≡ Some v → ⊥) → ValueAt f p
     → ValueAt (with_at f v (advanced (f v) number)) p
-value_write f v new (At (Writing run hand volume amount number steps)) n w =
+value_write f v new (At (InJob run (Writing hand volume amount number steps))) n w =
     write_other f v volume new (λ e. n (ap (λ z. Some z) (sym e))) ∙ w
-value_write f v new (At (Rescanning run hand volume number steps)) n w = write_other f v volume new (λ e. n (ap (λ z. Some z) (sym e)))
+value_write f v new (At (InJob run (Rescanning hand volume number steps))) n w =
+    write_other f v volume new (λ e. n (ap (λ z. Some z) (sym e)))
     ∙ w
 value_write f v new p n w = tt
 
 -- ---- who leads to such a point
 
 abbrev pub IsPlain : Point InitiatorAt → Type 0
-IsPlain (At (Writing run hand volume amount number steps)) = ⊥
-IsPlain (At (Rescanning run hand volume number steps)) = ⊥
+IsPlain (At (InJob run (Writing hand volume amount number steps))) = ⊥
+IsPlain (At (InJob run (Rescanning hand volume number steps))) = ⊥
 IsPlain p = Unit {0}
 
 plain_rounds : (m : ℕ) (before : List ℕ) (g : ℕ) → IsPlain (rounds_from m before g)
@@ -111,102 +110,61 @@ plain_rounds zero before g = tt
 plain_rounds (suc m) before g = tt
 
 plain_steps : (run : Running) (hand : Hand) (steps : List Step) → IsPlain (steps_at run hand steps)
-plain_steps run hand [] = tt
 plain_steps run hand (Print text ∷ steps) = plain_steps run hand steps
-plain_steps run hand (Use latch mode ∷ steps) = tt
-plain_steps run hand (Free latch ∷ steps) = go (hand.requests latch) where
-  go : (slot : Option ℕ) → IsPlain (freeing_at run hand latch slot steps)
-  go None = tt
-  go (Some id) = tt
-plain_steps run hand (Count volume amount ∷ steps) = tt
-plain_steps run hand (Scan volume ∷ steps) = tt
-plain_steps run hand (Abend code ∷ steps) = tt
-plain_steps run hand (Return code ∷ steps) = tt
+plain_steps run hand (Free latch ∷ steps) = freeing_lands IsPlain tt run hand latch (hand.requests latch) steps (λ id e. tt)
+plain_steps run hand steps = tt
 
 plain_start : (run : Running) (job : JobData) (skipped : Bool) → IsPlain (job_start skipped run job)
 plain_start run job true = tt
 plain_start run job false = plain_steps run empty_hand job.steps
 
-plain_named : (deck : List JobData) (slot : Option Named) (before : List ℕ) (more g : ℕ) → IsPlain (named_at deck slot before more g)
-plain_named deck None before more g = tt
-plain_named deck (Some named) before zero g = tt
-plain_named deck (Some named) before (suc more) g =
-    elim (list_any (λ j. j == named.job) before) as
-    (λ b. IsPlain (if b then Astray else job_start named.skipped (running named before (suc more) g) (job_at deck named.job))) [
-      | true ↦ tt
-      | false ↦ plain_start (running named before (suc more) g) (job_at deck named.job) named.skipped
-    ]
-
 plain_given : (deck : List JobData) (more : ℕ) (before : List ℕ) (code g : ℕ) → IsPlain (given_at deck more before code g)
-plain_given deck more before code g =
-    elim (code == 0) as (λ b. IsPlain (if b then At (Closing g) else named_at deck (job_named (length deck) code) before more g)) [
-      | true ↦ tt
-      | false ↦ plain_named deck (job_named (length deck) code) before more g
-    ]
+plain_given deck more before code g = given_lands IsPlain tt deck more before code g (λ z. tt)
+    (λ named left e t m. plain_start (running named before (suc left) g) (job_at deck named.job) named.skipped)
 
 -- the write of a COUNT stands behind its read, and the second read of a SCAN behind its first
 abbrev pub LeadsTo : InitiatorAt → Reply → Point InitiatorAt → Type 0
-LeadsTo x r (At (Writing run hand volume amount number steps)) =
-    (x ≡ Reading run hand volume amount steps) × (r ≡ reply_of.Volume (volume_reply.Value number))
-LeadsTo x r (At (Rescanning run hand volume number steps)) =
-    (x ≡ Scanning run hand volume steps) × (r ≡ reply_of.Volume (volume_reply.Value number))
+LeadsTo x r (At (InJob run (Writing hand volume amount number steps))) =
+    (x ≡ InJob run (Reading hand volume amount steps)) × (r ≡ reply_of.Volume (volume_reply.Value number))
+LeadsTo x r (At (InJob run (Rescanning hand volume number steps))) =
+    (x ≡ InJob run (Scanning hand volume steps)) × (r ≡ reply_of.Volume (volume_reply.Value number))
 LeadsTo x r p = Unit {0}
 
 plain : (x : InitiatorAt) (r : Reply) (p : Point InitiatorAt) → IsPlain p → LeadsTo x r p
-plain x r (At (Writing run hand volume amount number steps)) w = absurd w
-plain x r (At (Rescanning run hand volume number steps)) w = absurd w
+plain x r (At (InJob run (Writing hand volume amount number steps))) w = absurd w
+plain x r (At (InJob run (Rescanning hand volume number steps))) w = absurd w
 plain x r p w = tt
 
 pub leads : (deck : List JobData) (x : InitiatorAt) (r : Reply) → LeadsTo x r (initiator_goes deck x r)
 leads deck Opening (reply_of.Element (element_reply.Opened g)) = plain _ _ _ (plain_rounds (length deck + 1) [] g)
-leads deck Opening r = tt
 leads deck (Offering more before g) r = on_posted_keeps (LeadsTo (Offering more before g) r) (At (Pausing more before g)) r tt tt
 leads deck (Pausing more before g) (reply_of.Element (element_reply.Given code now)) =
     plain _ _ _ (plain_given deck more before code now)
-leads deck (Pausing more before g) (reply_of.Element element_reply.Parked) = tt
-leads deck (Pausing more before g) r = tt
 leads deck (Resuming more before g) (reply_of.Element (element_reply.Given code now)) =
     plain _ _ _ (plain_given deck more before code now)
-leads deck (Resuming more before g) (reply_of.Element element_reply.NotYet) = tt
-leads deck (Resuming more before g) r = tt
-leads deck (Obtaining run hand latch mode steps) (reply_of.Latch (latch_reply.Granted id)) = plain _ _ _ (plain_steps run _ steps)
-leads deck (Obtaining run hand latch mode steps) (reply_of.Latch (latch_reply.Queued id)) = tt
-leads deck (Obtaining run hand latch mode steps) r = tt
-leads deck (Confirming run hand latch mode id steps) (reply_of.Latch (latch_reply.Granted same)) = plain _ _ _ (plain_steps run _ steps)
-leads deck (Confirming run hand latch mode id steps) (reply_of.Latch latch_reply.Waiting) = tt
-leads deck (Confirming run hand latch mode id steps) r = tt
-leads deck (Freeing run hand latch id steps) (reply_of.Latch (latch_reply.Released count)) = plain _ _ _ (plain_steps run _ steps)
-leads deck (Freeing run hand latch id steps) r = tt
-leads deck (Reading run hand volume amount steps) (reply_of.Volume (volume_reply.Value number)) =
-    elim (nat_lt (number + amount) (2 ^ 32)) as
-    (λ b. LeadsTo (Reading run hand volume amount steps) (reply_of.Volume (volume_reply.Value number))
-    (if b then At (Writing run hand volume amount number steps) else Astray)) [
-      | true ↦ (refl, refl)
-      | false ↦ tt
-    ]
-leads deck (Reading run hand volume amount steps) r = tt
-leads deck (Writing run hand volume amount number steps) (reply_of.Volume volume_reply.Stored) =
+leads deck (InJob run (Obtaining hand latch mode steps)) (reply_of.Latch (latch_reply.Granted id)) = plain _ _ _ (plain_steps run _ steps)
+leads deck (InJob run (Confirming hand latch mode id steps)) (reply_of.Latch (latch_reply.Granted same)) =
+    plain _ _ _ (plain_steps run _ steps)
+leads deck (InJob run (Freeing hand latch id steps)) (reply_of.Latch (latch_reply.Released count)) = plain _ _ _ (plain_steps run _ steps)
+leads deck (InJob run (Reading hand volume amount steps)) (reply_of.Volume (volume_reply.Value number)) =
+    counting_lands (LeadsTo (InJob run (Reading hand volume amount steps)) (reply_of.Volume (volume_reply.Value number))) tt
+    run hand volume amount steps number (refl, refl)
+leads deck (InJob run (Writing hand volume amount number steps)) (reply_of.Volume volume_reply.Stored) =
     plain _ _ _ (plain_steps run hand steps)
-leads deck (Writing run hand volume amount number steps) r = tt
-leads deck (Scanning run hand volume steps) (reply_of.Volume (volume_reply.Value number)) = (refl, refl)
-leads deck (Scanning run hand volume steps) r = tt
-leads deck (Rescanning run hand volume number steps) (reply_of.Volume (volume_reply.Value again)) =
+leads deck (InJob run (Scanning hand volume steps)) (reply_of.Volume (volume_reply.Value number)) = (refl, refl)
+leads deck (InJob run (Rescanning hand volume number steps)) (reply_of.Volume (volume_reply.Value again)) =
     plain _ _ _ (plain_steps run hand steps)
-leads deck (Rescanning run hand volume number steps) r = tt
-leads deck (Purging run hand code) (reply_of.Latch (latch_reply.Purged removed count)) = tt
-leads deck (Purging run hand code) r = tt
-leads deck (EndingJob run code counts) (reply_of.Ecb (ecb_reply.Woke (suc x))) = tt
-leads deck (EndingJob run code counts) (reply_of.Ecb (ecb_reply.Woke zero)) = plain _ _ _ (plain_rounds run.more _ run.generation)
-leads deck (EndingJob run code counts) (reply_of.Ecb ecb_reply.Posted) = plain _ _ _ (plain_rounds run.more _ run.generation)
-leads deck (EndingJob run code counts) (reply_of.Ecb (ecb_reply.Already old)) = plain _ _ _ (plain_rounds run.more _ run.generation)
-leads deck (EndingJob run code counts) r = tt
-leads deck (EndingForScheduler run code counts) r =
-    on_posted_keeps (LeadsTo (EndingForScheduler run code counts) r) (At (EndingForWriter run code counts)) r tt tt
-leads deck (EndingForWriter run code counts) r =
-    on_posted_keeps (LeadsTo (EndingForWriter run code counts) r) (rounds_after run) r
+leads deck (InJob run (Purging hand code)) (reply_of.Latch (latch_reply.Purged removed count)) = tt
+leads deck (InJob run (EndingJob code counts)) r =
+    ended_lands (LeadsTo (InJob run (EndingJob code counts)) r) tt run code counts r tt
+    (plain _ _ _ (plain_rounds run.more _ run.generation))
+leads deck (InJob run (EndingForScheduler code counts)) r =
+    on_posted_keeps (LeadsTo (InJob run (EndingForScheduler code counts)) r) (At (InJob run (EndingForWriter code counts))) r tt tt
+leads deck (InJob run (EndingForWriter code counts)) r =
+    on_posted_keeps (LeadsTo (InJob run (EndingForWriter code counts)) r) (rounds_after run) r
     (plain _ _ _ (plain_rounds run.more _ run.generation)) tt
 leads deck (Closing g) (reply_of.Element element_reply.Closed) = tt
-leads deck (Closing g) r = tt
+leads deck x r = tt
 
 module _ (c : Setup) (s : System) (deck : List JobData) (i : ℕ) where
   abbrev pub volumes_asked : InitiatorAt → Numbers
@@ -218,13 +176,13 @@ module _ (c : Setup) (s : System) (deck : List JobData) (i : ℕ) where
   -- a read keeps the number that it tells
   value_led : (x : InitiatorAt) (p : ℕ) (r : Reply) → IsNextAt x p r → (q : Point InitiatorAt) → LeadsTo x r q
       → ValueAt (volumes_asked x) q
-  value_led x p r h (At (Writing run hand volume amount number steps)) w =
-      subst (λ y. ValueAt (volumes_asked y) (At (Writing run hand volume amount number steps))) (sym w.0)
+  value_led x p r h (At (InJob run (Writing hand volume amount number steps))) w =
+      subst (λ y. ValueAt (volumes_asked y) (At (InJob run (Writing hand volume amount number steps)))) (sym w.0)
       (read_keeps s.volume volume volume
       ∙ value_is c s (initiator i) volume p number
       (subst (λ y. IsNextAt y p (reply_of.Volume (volume_reply.Value number))) w.0 (subst (IsNextAt x p) w.1 h)))
-  value_led x p r h (At (Rescanning run hand volume number steps)) w =
-      subst (λ y. ValueAt (volumes_asked y) (At (Rescanning run hand volume number steps))) (sym w.0)
+  value_led x p r h (At (InJob run (Rescanning hand volume number steps))) w =
+      subst (λ y. ValueAt (volumes_asked y) (At (InJob run (Rescanning hand volume number steps)))) (sym w.0)
       (read_keeps s.volume volume volume
       ∙ value_is c s (initiator i) volume p number
       (subst (λ y. IsNextAt y p (reply_of.Volume (volume_reply.Value number))) w.0 (subst (IsNextAt x p) w.1 h)))
@@ -236,10 +194,11 @@ module _ (c : Setup) (s : System) (deck : List JobData) (i : ℕ) where
   -- another initiator's number stays, unless this one writes where that one reads
   other_value : (x : InitiatorAt) (p : Point InitiatorAt) → ((v : ℕ) → counted_on (At x) ≡ Some v → touched p ≡ Some v → ⊥)
       → ValueAt s.volume p → ValueAt (volumes_asked x) p
-  other_value (Reading run hand volume amount steps) p n w = value_read s.volume volume p w
-  other_value (Writing run hand volume amount number steps) p n w = value_write s.volume volume (number + amount) p (n volume refl) w
-  other_value (Scanning run hand volume steps) p n w = value_read s.volume volume p w
-  other_value (Rescanning run hand volume number steps) p n w = value_read s.volume volume p w
+  other_value (InJob run (Reading hand volume amount steps)) p n w = value_read s.volume volume p w
+  other_value (InJob run (Writing hand volume amount number steps)) p n w =
+      value_write s.volume volume (number + amount) p (n volume refl) w
+  other_value (InJob run (Scanning hand volume steps)) p n w = value_read s.volume volume p w
+  other_value (InJob run (Rescanning hand volume number steps)) p n w = value_read s.volume volume p w
   other_value x p n w = w
 
 module _ (c : Setup) (deck : List JobData) (initiators : ℕ) where
@@ -261,7 +220,8 @@ module _ (c : Setup) (deck : List JobData) (initiators : ℕ) where
       subst (λ v. Values initiators (next s e).volume v.initiators) (sym moved_to)
       (values_same s e t.initiators (writer_asks x).0 o (writer_signals x) w)
   values_next s t u e h (initiates i x lt k at o op moved_to) stand hands w =
-      subst (λ v. Values initiators (next s e).volume v.initiators) (sym moved_to) (λ m less. each m less (cases_eq i m)) where
+      subst (λ v. Values initiators (next s e).volume v.initiators) (sym moved_to) (λ m less.
+      all_but (λ m p. ValueAt (next s e).volume p) t.initiators i (initiator_goes deck x e.reply) m there (elsewhere m less)) where
         there : ValueAt (next s e).volume (initiator_goes deck x e.reply)
         there = at_entry (λ j o op. IsNext c s (entry_of j o e.place op e.reply)
             → ValueAt (moved s j o op).volume (initiator_goes deck x e.reply))
@@ -274,10 +234,3 @@ module _ (c : Setup) (deck : List JobData) (initiators : ℕ) where
             (other_value c s deck i x (t.initiators m)
             (λ v a b. other (excludes deck initiators s.latches.state t.initiators i m v lt less hands stand (ap counted_on at ∙ a) b))
             (w m less))
-
-        each : (m : ℕ) → m < initiators → (i ≡ m) ⊎ (i ≡ m → ⊥)
-            → ValueAt (next s e).volume (with_at t.initiators i (initiator_goes deck x e.reply) m)
-        each m less (inl same) = subst (λ m. ValueAt (next s e).volume (with_at t.initiators i (initiator_goes deck x e.reply) m)) same
-            (subst (ValueAt (next s e).volume) (sym (with_at-same t.initiators i (initiator_goes deck x e.reply))) there)
-        each m less (inr other) = subst (ValueAt (next s e).volume)
-            (sym (with_at-other t.initiators i m (initiator_goes deck x e.reply) other)) (elsewhere m less other)

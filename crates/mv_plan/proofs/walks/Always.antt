@@ -5,8 +5,8 @@ use Rattle.mv_machine.specs.declared.entry.Entry.{Entry}
 use Rattle.mv_machine.specs.Legal.{IsNext, next, after_from}
 use Rattle.mv_machine.specs.Setup.{Setup}
 use Rattle.mv_machine.specs.System.{System}
-use Rattle.mv_machine.proofs.Histories.{after_from-append}
 use Rattle.mv_deck.specs.Deck.{JobData}
+use Rattle.mv_machine.proofs.Histories.{after_from-append}
 use Rattle.mv_plan.proofs.walks.Walks.{Points, Move, WalkTo, walk-append}
 
 module _ (c : Setup) (deck : List JobData) (initiators : ℕ) where

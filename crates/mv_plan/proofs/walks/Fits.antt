@@ -3,34 +3,34 @@
 use Rattle.std.proofs.Common.{◌≡◌, ℕ, zero, suc, nat_lt, Bool, true, false, not, ◌||◌, cond, if◌then◌else◌, List, [], ◌∷◌, ◌++◌, length}
 use Rattle.std.proofs.Common.{map, replicate, None, ◌⊎◌, inl, inr, refl, sym, ap, ◌∙◌, subst, arith}
 use Rattle.std.specs.List.{AllByRecursion, flat_map}
-use Rattle.std.proofs.lemmas.Bool.{cases_eq, eq-eqb, ne_eqb, le-ltb, false≢true, and_parts}
+use Rattle.std.proofs.lemmas.Bool.{cases_eq, eq-eqb, ne_eqb, false≢true, and_parts, le-ltb}
 use Rattle.mv_ecb.specs.declared.operation.EcbOp.{EcbOp}
-use Rattle.mv_ecb.specs.declared.operation.EcbOp.TheVariants as ecb_op
-use Rattle.mv_ecb.specs.declared.operation.EcbReply.TheVariants as ecb_reply
 use Rattle.mv_ecb.specs.Table.{ecb_step}
-use Rattle.mv_ecb.specs.Word.{EcbState, Zero, Waiting, Extended, Complete}
+use Rattle.mv_ecb.specs.Word.{EcbState, Zero, Extended}
 use Rattle.mv_latch.specs.declared.operation.LatchOp.{LatchOp}
-use Rattle.mv_latch.specs.declared.operation.LatchOp.TheVariants as latch_op
 use Rattle.mv_latch.specs.declared.operation.LatchReply.{LatchReply}
-use Rattle.mv_latch.specs.declared.operation.LatchReply.TheVariants as latch_reply
-use Rattle.mv_latch.specs.declared.request.LatchForm.{LatchForm}
-use Rattle.mv_latch.specs.declared.request.LatchForm.TheVariants as form_of
 use Rattle.mv_latch.specs.declared.request.Request.{Request}
-use Rattle.mv_latch.specs.Latch.{granted, shared_front, waiting, waiting_of, newly_granted, granted_by_purge, obtain_step, release_step}
-use Rattle.mv_latch.specs.Latch.{without, purged, blocker}
+use Rattle.mv_latch.specs.Latch.{granted, waiting, newly_granted, obtain_step, release_step, without, blocker, shared_front, waiting_of}
+use Rattle.mv_latch.specs.Latch.{granted_by_purge, purged}
 use Rattle.mv_latch.specs.LatchSet.{list_of, latch_step, latch_admitted, wakes}
-use Rattle.mv_latch.specs.Request.{posted_ecb, is_posted, shared_request, wake_of}
+use Rattle.mv_latch.specs.Request.{shared_request, posted_ecb, is_posted, wake_of}
 use Rattle.mv_machine.specs.declared.entry.Entry.{Entry}
 use Rattle.mv_machine.specs.declared.entry.Object.{Object}
 use Rattle.mv_machine.specs.declared.entry.Object.TheVariants.{Ecb, Element, Volume, Latches}
 use Rattle.mv_machine.specs.declared.entry.Op.{Op}
-use Rattle.mv_machine.specs.declared.entry.Op.TheVariants as op_on
 use Rattle.mv_machine.specs.Legal.{IsNext, next}
 use Rattle.mv_machine.specs.Setup.{Setup, is_exit_of}
-use Rattle.mv_machine.specs.System.{System, opening, admitted, ecb_admitted, latches_of, moved, with_at, advanced}
+use Rattle.mv_machine.specs.System.{System, opening, admitted, ecb_admitted, moved, with_at, advanced, latches_of}
+use Rattle.mv_machine.proofs.Lists.{all_append, all_filter}
+use Rattle.mv_ecb.specs.declared.operation.EcbOp.TheVariants as ecb_op
+use Rattle.mv_ecb.specs.declared.operation.EcbReply.TheVariants as ecb_reply
+use Rattle.mv_latch.specs.declared.operation.LatchOp.TheVariants as latch_op
+use Rattle.mv_latch.specs.declared.operation.LatchReply.TheVariants as latch_reply
+use Rattle.mv_latch.specs.declared.request.LatchForm.{LatchForm}
+use Rattle.mv_latch.specs.declared.request.LatchForm.TheVariants as form_of
+use Rattle.mv_machine.specs.declared.entry.Op.TheVariants as op_on
 use Rattle.mv_calls.proofs.Hearing.{wakes_at}
 use Rattle.mv_plan.proofs.points.Initiator.{PostNothing}
-use Rattle.mv_machine.proofs.Lists.{all_append, all_filter}
 use Rattle.mv_plan.proofs.lists.Lists.{all_drop, all_set, all_get}
 
 -- ---- requests that post nothing
@@ -133,25 +133,14 @@ wakes_unposted k (latch_op.Purge requestor) lists a =
 exit_step : (c : Setup) (k n : ℕ) (op : EcbOp) (v : EcbState) (x : ℕ) → ecb_admitted c k n op ≡ true
     → ((y : ℕ) → v ≡ Extended y → is_exit_of c y n ≡ true)
     → (ecb_step op v).0 ≡ Extended x → is_exit_of c x n ≡ true
-exit_step c k n ecb_op.Arm Zero x adm held e = absurd (cc e)
-exit_step c k n ecb_op.Arm Waiting x adm held e = absurd (cc e)
 exit_step c k n ecb_op.Arm (Extended y) x adm held e = held x e
-exit_step c k n ecb_op.Arm (Complete d) x adm held e = absurd (cc e)
 exit_step c k n (ecb_op.Extend z) Zero x adm held e =
     subst (λ m. is_exit_of c m n ≡ true) (let q : z ≡ x = cc e in q) (and_parts _ _ (and_parts _ _ adm).1).1
-exit_step c k n (ecb_op.Extend z) Waiting x adm held e = absurd (cc e)
 exit_step c k n (ecb_op.Extend z) (Extended y) x adm held e = held x e
-exit_step c k n (ecb_op.Extend z) (Complete d) x adm held e = absurd (cc e)
-exit_step c k n ecb_op.Settle Zero x adm held e = absurd (cc e)
-exit_step c k n ecb_op.Settle Waiting x adm held e = absurd (cc e)
 exit_step c k n ecb_op.Settle (Extended y) x adm held e = held x e
-exit_step c k n ecb_op.Settle (Complete d) x adm held e = absurd (cc e)
-exit_step c k n ecb_op.Clear v x adm held e = absurd (cc e)
 exit_step c k n (ecb_op.Post d) Zero x adm held e = absurd (cc e)
-exit_step c k n (ecb_op.Post d) Waiting x adm held e = absurd (cc e)
-exit_step c k n (ecb_op.Post d) (Extended y) x adm held e = absurd (cc e)
-exit_step c k n (ecb_op.Post d) (Complete b) x adm held e = absurd (cc e)
 exit_step c k n ecb_op.Test v x adm held e = held x e
+exit_step c k n y v x adm held e = absurd (cc e)
 
 -- ---- both, of the machine
 
@@ -195,7 +184,5 @@ pub fits_woke : (c : Setup) (s : System) (n code x : ℕ) → Fits c s
     → (ecb_step (ecb_op.Post code) (s.ecb n).state).1 ≡ ecb_reply.Woke (suc x) → is_exit_of c (suc x) n ≡ true
 fits_woke c s n code x f e = go (s.ecb n).state refl e where
   go : (v : EcbState) → (s.ecb n).state ≡ v → (ecb_step (ecb_op.Post code) v).1 ≡ ecb_reply.Woke (suc x) → is_exit_of c (suc x) n ≡ true
-  go Zero q e = absurd (cc e)
-  go Waiting q e = absurd (cc e)
   go (Extended y) q e = f.exits n (suc x) (q ∙ ap (λ m. Extended m) (let r : y ≡ suc x = cc e in r))
-  go (Complete d) q e = absurd (cc e)
+  go y q e = absurd (cc e)

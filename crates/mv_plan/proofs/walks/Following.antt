@@ -1,34 +1,34 @@
 -- A history that follows is a walk: the tasks' programs are what is left of them at the points. The bridge from the definition
 -- of a history, caller by caller, to walks.
-use Rattle.std.proofs.Common.{◌≡◌, ℕ, zero, suc, ◌+◌, ◌*◌, ◌<◌, ◌≤◌, true, List, [], ◌∷◌, length, Some, ◌⊎◌, inl, inr, refl, sym, ap, ◌∙◌}
-use Rattle.std.proofs.Common.{subst, arith}
+use Rattle.std.proofs.Common.{◌≡◌, ℕ, zero, suc, ◌+◌, ◌*◌, ◌<◌, ◌≤◌, true, List, [], ◌∷◌, length, Some, inl, inr, refl, sym, ap, ◌∙◌, subst}
+use Rattle.std.proofs.Common.{arith}
 use Rattle.std.specs.List.{AllByRecursion}
 use Rattle.std.proofs.lemmas.Bool.{cases_eq}
 use Rattle.std.proofs.lemmas.Option.{some_pair_parts}
-use Rattle.mv_ecb.specs.declared.operation.EcbOp.TheVariants as ecb_op
-use Rattle.mv_ecb.specs.declared.operation.EcbReply.TheVariants as ecb_reply
 use Rattle.mv_ecb.specs.Table.{ecb_step}
 use Rattle.mv_latch.specs.declared.operation.Wake.{Wake}
 use Rattle.mv_machine.specs.declared.entry.Entry.{Entry}
 use Rattle.mv_machine.specs.declared.entry.Object.{Object}
 use Rattle.mv_machine.specs.declared.entry.Object.TheVariants.{Ecb}
 use Rattle.mv_machine.specs.declared.entry.Op.{Op}
-use Rattle.mv_machine.specs.declared.entry.Op.TheVariants as op_on
 use Rattle.mv_machine.specs.declared.entry.Reply.{Reply}
-use Rattle.mv_machine.specs.declared.entry.Reply.TheVariants as reply_of
 use Rattle.mv_machine.specs.Legal.{IsNext, next}
 use Rattle.mv_machine.specs.Setup.{Setup, is_exit_of}
 use Rattle.mv_machine.specs.System.{System, reply_to, with_at}
 use Rattle.mv_deck.specs.Deck.{JobData}
-use Rattle.mv_plan.proofs.deck.Plans.{ArePlannedJobs}
 use Rattle.mv_calls.specs.Keeping.{Kept}
 use Rattle.mv_calls.specs.Program.{Program, asks, heard}
-use Rattle.mv_plan.specs.SpoolSetup.{entered, done, end_for_scheduler, end_for_writer, idle, reader, scheduler, initiator, writer}
-use Rattle.mv_plan.proofs.points.Points.{Point, At, Finished, TooSoon, Astray, ReaderAt, Entering, reader_asks, reader_goes, SchedulerAt}
-use Rattle.mv_plan.proofs.points.Points.{scheduler_asks, scheduler_goes, WriterAt, writer_asks, writer_goes, InitiatorAt, Opening}
-use Rattle.mv_plan.proofs.points.Points.{Offering, Pausing, Resuming, Obtaining, Confirming, Freeing, Reading, Writing, Scanning}
-use Rattle.mv_plan.proofs.points.Points.{Rescanning, Purging, EndingJob, EndingForScheduler, EndingForWriter, Closing, initiator_asks}
-use Rattle.mv_plan.proofs.points.Points.{initiator_goes}
+use Rattle.mv_plan.specs.SpoolSetup.{entered, end_for_scheduler, end_for_writer, idle, reader, scheduler, initiator, writer, done}
+use Rattle.mv_calls.proofs.Interleaved.{programs_after, FollowFrom}
+use Rattle.mv_ecb.specs.declared.operation.EcbOp.TheVariants as ecb_op
+use Rattle.mv_ecb.specs.declared.operation.EcbReply.TheVariants as ecb_reply
+use Rattle.mv_machine.specs.declared.entry.Op.TheVariants as op_on
+use Rattle.mv_machine.specs.declared.entry.Reply.TheVariants as reply_of
+use Rattle.mv_plan.proofs.deck.Plans.{ArePlannedJobs}
+use Rattle.mv_plan.proofs.points.Points.{Point, At, ReaderAt, Entering, reader_asks, reader_goes, SchedulerAt}
+use Rattle.mv_plan.proofs.points.Points.{scheduler_asks, scheduler_goes, WriterAt, writer_asks, writer_goes, InitiatorAt, Offering}
+use Rattle.mv_plan.proofs.points.Points.{Freeing, Purging}
+use Rattle.mv_plan.proofs.points.Points.{EndingJob, EndingForScheduler, EndingForWriter, initiator_asks, initiator_goes, InJob}
 use Rattle.mv_plan.proofs.points.Programs.{program_at, reader_program, scheduler_program, writer_program, initiator_program}
 use Rattle.mv_plan.proofs.points.PostsAndWaits.{IsPlainPost}
 use Rattle.mv_plan.proofs.points.ReaderAndWriter.{keeps, IsReaderAt, IsWriterAt, reader_says, reader_hears, writer_says, writer_hears}
@@ -36,13 +36,12 @@ use Rattle.mv_plan.proofs.walks.Fits.{Fits, fits_next, fits_wakes, fits_woke}
 use Rattle.mv_calls.proofs.Hearing.{hearing}
 use Rattle.mv_plan.proofs.points.Initiator.{IsPlainReply, WokeAs, PostNothing, initiator_says, initiator_hears}
 use Rattle.mv_plan.proofs.points.InitiatorSound.{InitiatorStands}
-use Rattle.mv_calls.proofs.Interleaved.{FollowFrom, programs_after}
 use Rattle.mv_plan.proofs.points.Scheduler.{scheduler_says, scheduler_hears}
 use Rattle.mv_plan.proofs.points.SchedulerSound.{SchedulerStands}
 use Rattle.mv_plan.proofs.deck.Setup.{Facts}
 use Rattle.mv_plan.proofs.walks.Stands.{Stand, stand_next, kept_next, kept_own, kept_other}
 use Rattle.mv_plan.proofs.walks.Walks.{Points, Move, reads, schedules, initiates, writes, WalkTo}
-use Rattle.mv_plan.proofs.lists.Tables.{with_at-same, with_at-other}
+use Rattle.mv_plan.proofs.lists.Tables.{with_at-same, with_at-other, all_but}
 
 -- what is left of each task's program is the program of its point
 pub record TasksAt (c : Setup) (deck : List JobData) (initiators : ℕ) (kept : ℕ → Kept) (t : Points)
@@ -60,9 +59,7 @@ pub at_point : {X : Type 0} (f : X → Program (List ℕ)) (ask : X → Object �
 at_point f ask says q (At x) o op e a =
     let b : ((ask x).0 ≡ o) × ((ask x).1 ≡ op) =
     some_pair_parts (ask x).0 o (ask x).1 op (sym (says x) ∙ ap (λ r. asks r) (sym e) ∙ a) in (x, refl, sym b.0, sym b.1)
-at_point f ask says q (Finished ends) o op e a = absurd (cc (sym (ap (λ r. asks r) e) ∙ a))
-at_point f ask says q TooSoon o op e a = absurd (cc (sym (ap (λ r. asks r) e) ∙ a))
-at_point f ask says q Astray o op e a = absurd (cc (sym (ap (λ r. asks r) e) ∙ a))
+at_point f ask says q p o op e a = absurd (cc (sym (ap (λ r. asks r) e) ∙ a))
 
 -- the machine's reply
 pub reply_is : (c : Setup) (s : System) (e : Entry) (ask : Object × Op) → IsNext c s e → e.object ≡ ask.0 → e.op ≡ ask.1
@@ -113,29 +110,20 @@ module _ (c : Setup) (deck : List JobData) (initiators : ℕ) (facts : Facts c (
       → Some r ≡ reply_to s k (initiator_asks (length deck) i x).0 (initiator_asks (length deck) i x).1 → IsPlainReply x r ws
   foreseen s i kept k (Offering more before g) r ws f st w e =
       plain_post c s k (idle (length deck) i) g r f (no_exit (idle (length deck) i) (λ j lt q. absurd (omega arith))) e
-  foreseen s i kept k (EndingForScheduler run code counts) r ws f st w e =
+  foreseen s i kept k (InJob run (EndingForScheduler code counts)) r ws f st w e =
       plain_post c s k (end_for_scheduler (length deck) run.job) code r f
       (no_exit (end_for_scheduler (length deck) run.job) (λ j lt q. absurd (omega arith))) e
-  foreseen s i kept k (EndingForWriter run code counts) r ws f st w e =
+  foreseen s i kept k (InJob run (EndingForWriter code counts)) r ws f st w e =
       plain_post c s k (end_for_writer (length deck) run.job) code r f
       (no_exit (end_for_writer (length deck) run.job) (λ j lt q. absurd (omega arith))) e
-  foreseen s i kept k (EndingJob run code counts) r ws f st w e = woke_as c s k (done (length deck) run.job) run.job code r f
+  foreseen s i kept k (InJob run (EndingJob code counts)) r ws f st w e = woke_as c s k (done (length deck) run.job) run.job code r f
       (λ x q. let r : (j : ℕ) × (j < length deck) × (x ≡ j + 1) × (done (length deck) run.job ≡ done (length deck) j) = facts.sources x
       (done (length deck) run.job) q in only x r.0 r.2 r.3) e where
         only : (x j : ℕ) → x ≡ j + 1 → done (length deck) run.job ≡ done (length deck) j → x ≡ run.job + 1
         only x j a b = omega arith
-  foreseen s i kept k (Freeing run hand latch id steps) r ws f st w e = w
-  foreseen s i kept k (Purging run hand code) r ws f st w e = w
-  foreseen s i kept k Opening r ws f st w e = tt
-  foreseen s i kept k (Pausing more before g) r ws f st w e = tt
-  foreseen s i kept k (Resuming more before g) r ws f st w e = tt
-  foreseen s i kept k (Obtaining run hand latch mode steps) r ws f st w e = tt
-  foreseen s i kept k (Confirming run hand latch mode id steps) r ws f st w e = tt
-  foreseen s i kept k (Reading run hand volume amount steps) r ws f st w e = tt
-  foreseen s i kept k (Writing run hand volume amount number steps) r ws f st w e = tt
-  foreseen s i kept k (Scanning run hand volume steps) r ws f st w e = tt
-  foreseen s i kept k (Rescanning run hand volume number steps) r ws f st w e = tt
-  foreseen s i kept k (Closing g) r ws f st w e = tt
+  foreseen s i kept k (InJob run (Freeing hand latch id steps)) r ws f st w e = w
+  foreseen s i kept k (InJob run (Purging hand code)) r ws f st w e = w
+  foreseen s i kept k x r ws f st w e = tt
 
   -- ---- the tables after an entry
   module _ (s : System) (kept : ℕ → Kept) (t : Points) (programs : ℕ → Program (List ℕ)) (e : Entry) where
@@ -223,7 +211,10 @@ module _ (c : Setup) (deck : List JobData) (initiators : ℕ) (facts : Facts c (
             (λ q. absurd (omega arith)) tasks.at_reader;
         at_scheduler = other_is s kept t programs e (scheduler_program c (length deck) initiators) (initiator i) scheduler t.scheduler k
             (λ q. absurd (omega arith)) tasks.at_scheduler;
-        at_initiator = λ m less. each m less (cases_eq i m);
+        at_initiator = λ m less. all_but (λ m p. with_at programs e.caller (heard (programs e.caller) (hearing s e)) (initiator m)
+            ≡ program_at (initiator_program c deck m (kept_next kept e (initiator m))) p) t.initiators i (initiator_goes deck a.0 e.reply)
+            m there (λ other. other_is s kept t programs e (initiator_program c deck m) (initiator i) (initiator m) (t.initiators m) k
+            (λ q. other (omega arith)) (tasks.at_initiator m less));
         at_writer = other_is s kept t programs e (writer_program c (length deck)) (initiator i) (writer initiators) t.writer k
             (λ q. absurd (omega arith)) tasks.at_writer;
       };
@@ -239,19 +230,6 @@ module _ (c : Setup) (deck : List JobData) (initiators : ℕ) (facts : Facts c (
           (initiator_hears c deck initiators i facts sound (kept (initiator i)) a.0 (hearing s e) stands
           (foreseen s i (kept (initiator i)) e.caller a.0 e.reply (hearing s e).wakes f stands (fits_wakes c s e.caller e.object e.op f)
           (reply_is c s e (initiator_asks (length deck) i a.0) n a.2 a.3)))
-
-      each : (m : ℕ) → m < initiators → (i ≡ m) ⊎ (i ≡ m → ⊥)
-          → with_at programs e.caller (heard (programs e.caller) (hearing s e)) (initiator m) ≡ program_at
-          (initiator_program c deck m (kept_next kept e (initiator m))) (with_at t.initiators i (initiator_goes deck a.0 e.reply) m)
-      each m less (inl same) = subst (λ m. with_at programs e.caller (heard (programs e.caller) (hearing s e))
-          (initiator m) ≡ program_at (initiator_program c deck m (kept_next kept e (initiator m)))
-          (with_at t.initiators i (initiator_goes deck a.0 e.reply) m)) same
-          (there ∙ ap (λ p. program_at (initiator_program c deck i (kept_next kept e (initiator i))) p)
-          (sym (with_at-same t.initiators i (initiator_goes deck a.0 e.reply))))
-      each m less (inr other) = other_is s kept t programs e (initiator_program c deck m) (initiator i) (initiator m) (t.initiators m) k
-          (λ q. other (omega arith)) (tasks.at_initiator m less)
-          ∙ ap (λ p. program_at (initiator_program c deck m (kept_next kept e (initiator m))) p)
-          (sym (with_at-other t.initiators i m (initiator_goes deck a.0 e.reply) other))
 
     by_writer : e.caller ≡ writer initiators → (x : WriterAt) × (t.writer ≡ At x) × (e.object ≡ (writer_asks x).0)
         × (e.op ≡ (writer_asks x).1) → Moved s kept t programs e

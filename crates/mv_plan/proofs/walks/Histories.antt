@@ -8,20 +8,20 @@ use Rattle.mv_machine.specs.declared.entry.Object.{Object}
 use Rattle.mv_machine.specs.declared.entry.Op.{Op}
 use Rattle.mv_machine.specs.System.{opening}
 use Rattle.mv_deck.specs.Deck.{JobData}
-use Rattle.mv_plan.proofs.deck.Plans.{IsPlanned}
 use Rattle.mv_calls.specs.Keeping.{Kept, nothing_kept}
 use Rattle.mv_calls.specs.Program.{Program, Done, Wrong, asks}
 use Rattle.mv_calls.specs.Runs.{left_in}
 use Rattle.mv_plan.specs.SpoolRun.{Follows, IsRun}
 use Rattle.mv_plan.specs.SpoolSetup.{spool_setup, reader, scheduler, initiator, writer}
 use Rattle.mv_plan.specs.SpoolTasks.{task_program, reading, scheduling, writing, initiating}
+use Rattle.mv_calls.proofs.Interleaved.{programs_after, follow_from, left_in_is}
+use Rattle.mv_plan.proofs.deck.Plans.{IsPlanned}
 use Rattle.mv_plan.proofs.points.Points.{Point, At, Finished, TooSoon, Astray, Dispatching, reader_asks, scheduler_asks, writer_asks}
 use Rattle.mv_plan.proofs.points.Points.{initiator_asks}
 use Rattle.mv_plan.proofs.points.Programs.{program_at, reader_program, scheduler_program, writer_program, initiator_program}
 use Rattle.mv_plan.proofs.points.ReaderAndWriter.{reader_enters, reader_says, writer_enters, writer_says}
 use Rattle.mv_plan.proofs.walks.Fits.{fits_opening}
 use Rattle.mv_plan.proofs.points.Initiator.{initiator_says, opening_enters}
-use Rattle.mv_calls.proofs.Interleaved.{follow_from, left_in_is, programs_after}
 use Rattle.mv_plan.proofs.points.Scheduler.{scheduler_says, stage_enters}
 use Rattle.mv_plan.proofs.points.SchedulerSound.{rest_all}
 use Rattle.mv_plan.proofs.deck.Setup.{facts}

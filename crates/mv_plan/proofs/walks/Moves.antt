@@ -13,14 +13,14 @@ use Rattle.mv_machine.specs.declared.entry.Entry.{Entry}
 use Rattle.mv_machine.specs.declared.entry.Object.{Object}
 use Rattle.mv_machine.specs.declared.entry.Object.TheVariants.{Ecb, Element}
 use Rattle.mv_machine.specs.declared.entry.Op.{Op}
-use Rattle.mv_machine.specs.declared.entry.Op.TheVariants as op_on
 use Rattle.mv_machine.specs.declared.entry.Reply.{Reply}
-use Rattle.mv_machine.specs.declared.entry.Reply.TheVariants as reply_of
 use Rattle.mv_machine.specs.Legal.{IsNext, next}
 use Rattle.mv_machine.specs.Setup.{Setup}
 use Rattle.mv_machine.specs.System.{System, Cell, moved, with_at, advanced}
 use Rattle.mv_deck.specs.Deck.{JobData}
 use Rattle.mv_plan.specs.SpoolSetup.{reader, scheduler, initiator, writer}
+use Rattle.mv_machine.specs.declared.entry.Op.TheVariants as op_on
+use Rattle.mv_machine.specs.declared.entry.Reply.TheVariants as reply_of
 use Rattle.mv_plan.proofs.points.Points.{At, ReaderAt, reader_asks, reader_goes, SchedulerAt, scheduler_asks, scheduler_goes, WriterAt}
 use Rattle.mv_plan.proofs.points.Points.{writer_asks, writer_goes, InitiatorAt, initiator_asks, initiator_goes}
 use Rattle.mv_plan.proofs.walks.Walks.{Points, Move, reads, schedules, initiates, writes}

@@ -1,15 +1,14 @@
 -- All points are sound, with what their tasks keep, at each moment of a walk. The first invariant; all others stand on it.
-use Rattle.std.proofs.Common.{◌≡◌, ℕ, ◌<◌, List, [], length, ◌⊎◌, inl, inr, refl, sym, ap, ◌∙◌, subst, arith}
-use Rattle.std.proofs.lemmas.Bool.{cases_eq}
+use Rattle.std.proofs.Common.{◌≡◌, ℕ, ◌<◌, List, [], length, refl, sym, ap, ◌∙◌, subst, arith}
 use Rattle.mv_machine.specs.declared.entry.Entry.{Entry}
 use Rattle.mv_machine.specs.declared.entry.Object.{Object}
 use Rattle.mv_machine.specs.declared.entry.Op.{Op}
 use Rattle.mv_machine.specs.Setup.{Setup}
 use Rattle.mv_machine.specs.System.{System, with_at}
 use Rattle.mv_deck.specs.Deck.{JobData}
-use Rattle.mv_plan.proofs.deck.Plans.{ArePlannedJobs}
 use Rattle.mv_calls.specs.Keeping.{Kept, kept_after, nothing_kept}
 use Rattle.mv_plan.specs.SpoolSetup.{reader, scheduler, initiator, writer}
+use Rattle.mv_plan.proofs.deck.Plans.{ArePlannedJobs}
 use Rattle.mv_plan.proofs.points.Points.{scheduler_asks, scheduler_goes, writer_asks, initiator_asks, initiator_goes, Dispatching}
 use Rattle.mv_plan.proofs.points.ReaderAndWriter.{keeps, IsReaderAt, reader_starts, reader_stands, WriterKept, IsWriterAt, writer_starts}
 use Rattle.mv_plan.proofs.points.ReaderAndWriter.{writer_kept_next, writer_stands}
@@ -17,7 +16,7 @@ use Rattle.mv_plan.proofs.points.InitiatorSound.{InitiatorStands, initiator_stan
 use Rattle.mv_plan.proofs.points.SchedulerSound.{SchedulerStands, scheduler_stands, stage_stands, rest_all, IsSchedulerAt}
 use Rattle.mv_plan.proofs.deck.Setup.{Facts}
 use Rattle.mv_plan.proofs.walks.Walks.{Points, start_points, Move, reads, schedules, initiates, writes}
-use Rattle.mv_plan.proofs.lists.Tables.{with_at-same, with_at-other}
+use Rattle.mv_plan.proofs.lists.Tables.{with_at-same, with_at-other, all_but}
 
 -- all points are sound, where the callers keep this
 pub record Stand (deck : List JobData) (initiators : ℕ) (kept : ℕ → Kept) (t : Points) : Type 0 where
@@ -102,7 +101,10 @@ module _ (c : Setup) (deck : List JobData) (initiators : ℕ) (facts : Facts c (
         at_reader = s.at_reader;
         at_scheduler = subst (λ z. SchedulerStands deck initiators z t.scheduler)
             (sym (kept_other kept e (initiator i) scheduler k (λ q. absurd (omega arith)))) s.at_scheduler;
-        at_initiator = λ m less. each m less (cases_eq i m);
+        at_initiator = λ m less. all_but (λ m p. InitiatorStands deck m (kept_next kept e (initiator m)) p) t.initiators i
+            (initiator_goes deck x e.reply) m there
+            (λ other. subst (λ z. InitiatorStands deck m z (t.initiators m))
+            (sym (kept_other kept e (initiator i) (initiator m) k (λ q. other (omega arith)))) (s.at_initiator m less));
         at_writer = s.at_writer;
         writer_kept = subst (λ z. WriterKept initiators z)
             (sym (kept_other kept e (initiator i) (writer initiators) k (λ q. absurd (omega arith)))) s.writer_kept;
@@ -112,17 +114,6 @@ module _ (c : Setup) (deck : List JobData) (initiators : ℕ) (facts : Facts c (
             (sym (kept_own kept e (initiator i) (initiator_asks (length deck) i x) k o op))
             (initiator_stands deck i (kept (initiator i)) x e.reply sound
             (subst (λ p. InitiatorStands deck i (kept (initiator i)) p) at (s.at_initiator i lt)))
-
-        each : (m : ℕ) → m < initiators → (i ≡ m) ⊎ (i ≡ m → ⊥)
-            → InitiatorStands deck m (kept_next kept e (initiator m)) (with_at t.initiators i (initiator_goes deck x e.reply) m)
-        each m less (inl same) = subst (λ m. InitiatorStands deck m (kept_next kept e (initiator m))
-            (with_at t.initiators i (initiator_goes deck x e.reply) m)) same
-            (subst (λ p. InitiatorStands deck i (kept_next kept e (initiator i)) p)
-            (sym (with_at-same t.initiators i (initiator_goes deck x e.reply))) there)
-        each m less (inr other) = subst (λ p. InitiatorStands deck m (kept_next kept e (initiator m)) p)
-            (sym (with_at-other t.initiators i m (initiator_goes deck x e.reply) other))
-            (subst (λ z. InitiatorStands deck m z (t.initiators m))
-            (sym (kept_other kept e (initiator i) (initiator m) k (λ q. other (omega arith)))) (s.at_initiator m less))
   stand_next kept t u e (writes x k at o op moved) s = subst (λ v. Stand deck initiators (kept_next kept e) v) (sym moved) (record {
     at_reader = s.at_reader;
     at_scheduler = subst (λ z. SchedulerStands deck initiators z t.scheduler)

@@ -7,10 +7,10 @@ use Rattle.mv_machine.specs.Setup.{Setup}
 use Rattle.mv_machine.specs.System.{System, with_at}
 use Rattle.mv_deck.specs.Deck.{JobData}
 use Rattle.mv_plan.specs.SpoolSetup.{reader, scheduler, initiator, writer}
+use Rattle.std.proofs.lemmas.Bool.{cases_eq}
 use Rattle.mv_plan.proofs.points.Points.{Point, At, ReaderAt, entering_from, reader_asks, reader_goes, Dispatching, SchedulerAt, stage_at}
 use Rattle.mv_plan.proofs.points.Points.{scheduler_asks, scheduler_goes, WriterAt, writing_from, writer_asks, writer_goes, InitiatorAt}
 use Rattle.mv_plan.proofs.points.Points.{Opening, initiator_asks, initiator_goes}
-use Rattle.std.proofs.lemmas.Bool.{cases_eq}
 use Rattle.mv_plan.proofs.lists.Tables.{with_at-other}
 
 -- where all tasks stand

@@ -1,0 +1,67 @@
+-- Where an initiator may land: what holds where it is astray, and at each point that may follow, holds of the one that does.
+use Rattle.std.proofs.Common.{◌≡◌, ℕ, zero, suc, ◌+◌, ◌^◌, ◌==◌, nat_lt, Bool, true, false, if◌then◌else◌, List, length, Option, Some, None}
+use Rattle.std.proofs.Common.{refl}
+use Rattle.std.proofs.lemmas.Bool.{eqb-true}
+use Rattle.mv_machine.specs.declared.entry.Reply.{Reply}
+use Rattle.mv_calls.specs.LatchCalls.{Counts}
+use Rattle.std.specs.List.{list_any}
+use Rattle.mv_deck.specs.Deck.{JobData}
+use Rattle.mv_deck.specs.declared.deck.Step.{Step}
+use Rattle.mv_plan.specs.Jobs.{job_at}
+use Rattle.mv_plan.specs.SpoolTasks.{Named, job_named}
+use Rattle.mv_ecb.specs.declared.operation.EcbReply.TheVariants as ecb_reply
+use Rattle.mv_machine.specs.declared.entry.Reply.TheVariants as reply_of
+use Rattle.mv_plan.proofs.points.Points.{Point, At, Astray, Running, Hand, InitiatorAt, InJob, Offering, Freeing, Writing, Closing}
+use Rattle.mv_plan.proofs.points.Points.{EndingForScheduler, on_ended, rounds_after, rounds_from, freeing_at, counting_at, running}
+use Rattle.mv_plan.proofs.points.Points.{job_start, named_at, given_at}
+
+module _ (P : Point InitiatorAt → Type 0) (lost : P Astray) where
+  -- a next round
+  pub rounds_land : (more : ℕ) (before : List ℕ) (g : ℕ) → ((left : ℕ) → more ≡ suc left → P (At (Offering left before g)))
+      → P (rounds_from more before g)
+  rounds_land zero before g next = lost
+  rounds_land (suc left) before g next = next left refl
+
+  -- a FREE
+  pub freeing_lands : (run : Running) (hand : Hand) (latch : ℕ) (slot : Option ℕ) (steps : List Step)
+      → ((id : ℕ) → slot ≡ Some id → P (At (InJob run (Freeing hand latch id steps)))) → P (freeing_at run hand latch slot steps)
+  freeing_lands run hand latch None steps next = lost
+  freeing_lands run hand latch (Some id) steps next = next id refl
+
+  -- a COUNT's write
+  pub counting_lands : (run : Running) (hand : Hand) (volume amount : ℕ) (steps : List Step) (number : ℕ)
+      → P (At (InJob run (Writing hand volume amount number steps))) → P (counting_at run hand volume amount steps number)
+  counting_lands run hand volume amount steps number next = elim (nat_lt (number + amount) (2 ^ 32)) as
+      (λ b. P (if b then At (InJob run (Writing hand volume amount number steps)) else Astray)) [ true ↦ next | false ↦ lost ]
+
+  -- behind the post of a done block, which starts its exit or not
+  pub ended_lands : (run : Running) (code : ℕ) (counts : Counts) (r : Reply) → P (At (InJob run (EndingForScheduler code counts)))
+      → P (rounds_after run) → P (on_ended run code counts r)
+  ended_lands run code counts (reply_of.Ecb (ecb_reply.Woke (suc x))) starts ends = starts
+  ended_lands run code counts (reply_of.Ecb (ecb_reply.Woke zero)) starts ends = ends
+  ended_lands run code counts (reply_of.Ecb ecb_reply.Posted) starts ends = ends
+  ended_lands run code counts (reply_of.Ecb (ecb_reply.Already old)) starts ends = ends
+  ended_lands run code counts r starts ends = lost
+
+  -- behind a code: the end of the rounds, or a job that it names
+  pub given_lands : (deck : List JobData) (more : ℕ) (before : List ℕ) (code g : ℕ) → (code ≡ 0 → P (At (Closing g)))
+      → ((named : Named) (left : ℕ) → job_named (length deck) code ≡ Some named → list_any (λ j. j == named.job) before ≡ false
+      → more ≡ suc left → P (job_start named.skipped (running named before (suc left) g) (job_at deck named.job)))
+      → P (given_at deck more before code g)
+  given_lands deck more before code g closes starts = given (code == 0) refl where
+    named_lands : (slot : Option Named) (more : ℕ)
+        → ((named : Named) (left : ℕ) → slot ≡ Some named → list_any (λ j. j == named.job) before ≡ false
+        → more ≡ suc left → P (job_start named.skipped (running named before (suc left) g) (job_at deck named.job)))
+        → P (named_at deck slot before more g)
+    named_lands None more starts = lost
+    named_lands (Some named) zero starts = lost
+    named_lands (Some named) (suc left) starts = go (list_any (λ j. j == named.job) before) refl where
+      go : (b : Bool) → list_any (λ j. j == named.job) before ≡ b
+          → P (if b then Astray else job_start named.skipped (running named before (suc left) g) (job_at deck named.job))
+      go true e = lost
+      go false e = starts named left refl e refl
+
+    given : (b : Bool) → (code == 0) ≡ b
+        → P (if b then At (Closing g) else named_at deck (job_named (length deck) code) before more g)
+    given true e = closes (eqb-true code 0 e)
+    given false e = named_lands (job_named (length deck) code) more starts
