@@ -16,6 +16,8 @@
 -- due      what a running job has still to add to a volume (volumes/Dues)
 -- sound    so as it may be, by the task's own steps alone; foreseen: not Astray, by what the others do
 
+-- the words of other crates, passed on
+pub mod Words
 -- lists and tables
 pub mod lists
 -- what decks and the configuration say

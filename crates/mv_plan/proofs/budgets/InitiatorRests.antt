@@ -1,25 +1,18 @@
 -- How many events an initiator may still make, by its point: the events of each job that it was not named before, and those of
 -- the round in which it is; and that each event takes one of them. Used by Within.
-use Rattle.std.proofs.Common.{◌≡◌, ℕ, zero, suc, ◌+◌, ◌*◌, ◌<◌, ◌≤◌, ◌==◌, nat_le, ◌&&◌, ◌||◌, Bool, true, false, if◌then◌else◌, List, []}
-use Rattle.std.proofs.Common.{◌∷◌, ◌++◌, length, Some, None, refl, ap, subst, arith, ◌-◌}
-use Rattle.std.specs.List.{list_any}
-use Rattle.std.proofs.lemmas.Bool.{eq-eqb, ne_eqb, and_parts, leb-true}
-use Rattle.mv_machine.specs.declared.entry.Reply.{Reply}
-use Rattle.mv_deck.specs.declared.deck.Step.{Step}
-use Rattle.mv_deck.specs.declared.deck.Step.TheVariants.{Print, Free}
-use Rattle.mv_deck.specs.Deck.{JobData}
-use Rattle.mv_plan.specs.Jobs.{job_at}
-use Rattle.mv_plan.specs.SpoolTasks.{Named, job_named, not_to_run}
+use Rattle.mv_plan.proofs.Words.{◌≡◌, ℕ, zero, suc, ◌+◌, ◌*◌, ◌<◌, ◌≤◌, ◌==◌, nat_le, ◌&&◌, ◌||◌, Bool, true, false, if◌then◌else◌, List}
+use Rattle.mv_plan.proofs.Words.{[], ◌∷◌, ◌++◌, length, Some, None, refl, ap, subst, arith, ◌-◌, list_any, eq-eqb, ne_eqb, and_parts}
+use Rattle.mv_plan.proofs.Words.{leb-true, Reply, Step, Print, JobData, job_at, Named, job_named, not_to_run}
+use Rattle.mv_deck.specs.declared.deck.Step.TheVariants.{Free}
 use Rattle.mv_element.specs.declared.operation.ElementReply.TheVariants as element_reply
 use Rattle.mv_latch.specs.declared.operation.LatchReply.TheVariants as latch_reply
 use Rattle.mv_machine.specs.declared.entry.Reply.TheVariants as reply_of
 use Rattle.mv_machine.specs.declared.entry.VolumeReply.TheVariants as volume_reply
 use Rattle.mv_plan.proofs.deck.Events.{steps_events, all_events}
-use Rattle.mv_plan.proofs.points.Points.{Point, At, Running, Hand, empty_hand, hand_with, hand_without, InitiatorAt, Opening}
-use Rattle.mv_plan.proofs.points.Points.{Offering, Pausing, Resuming, Obtaining, Confirming, Freeing, Reading, Writing, Scanning}
-use Rattle.mv_plan.proofs.points.Points.{Rescanning, Purging, EndingJob, EndingForScheduler, EndingForWriter, Closing, initiator_goes}
-use Rattle.mv_plan.proofs.points.Points.{rounds_from, rounds_after, freeing_at, steps_at, running, job_start, given_at}
-use Rattle.mv_plan.proofs.points.Points.{counting_at, InJob}
+use Rattle.mv_plan.proofs.points.Points.{Point, At, Running, Hand, empty_hand, hand_with, hand_without, InitiatorAt, Opening, Offering}
+use Rattle.mv_plan.proofs.points.Points.{Pausing, Resuming, Obtaining, Confirming, Freeing, Reading, Writing, Scanning, Rescanning, Purging}
+use Rattle.mv_plan.proofs.points.Points.{EndingJob, EndingForScheduler, EndingForWriter, Closing, initiator_goes, rounds_from, rounds_after}
+use Rattle.mv_plan.proofs.points.Points.{freeing_at, steps_at, running, job_start, given_at, counting_at, InJob}
 use Rattle.mv_plan.proofs.points.PostsAndWaits.{on_posted_keeps}
 use Rattle.mv_plan.proofs.volumes.Sums.{sum_to, sum_front, sum_change}
 use Rattle.mv_plan.proofs.points.Lands.{freeing_lands, given_lands, counting_lands, ended_lands}

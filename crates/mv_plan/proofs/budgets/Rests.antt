@@ -1,15 +1,8 @@
 -- How many events the reader, the scheduler and the writer may still make, by their points; and that each event takes one of
 -- them. Used by Within.
-use Rattle.std.proofs.Common.{◌≡◌, ℕ, zero, suc, ◌+◌, ◌*◌, ◌≤◌, nat_le, true, false, cond, List, [], ◌∷◌, ◌++◌, length, Option, refl, arith}
-use Rattle.std.proofs.lemmas.List.{length-map}
-use Rattle.std.proofs.lemmas.List.FromFn.{length-map-range_with_len}
-use Rattle.mv_machine.specs.declared.entry.Reply.{Reply}
-use Rattle.mv_deck.specs.declared.deck.After.{After}
-use Rattle.mv_deck.specs.declared.deck.Step.{Step}
-use Rattle.mv_deck.specs.Deck.{JobData}
-use Rattle.mv_calls.specs.Waits.{complete_count}
-use Rattle.mv_plan.specs.SpoolTasks.{ends_of}
-use Rattle.mv_plan.specs.SpoolSetup.{end_for_scheduler, idle}
+use Rattle.mv_plan.proofs.Words.{◌≡◌, ℕ, zero, suc, ◌+◌, ◌*◌, ◌≤◌, nat_le, true, false, cond, List, [], ◌∷◌, ◌++◌, length, Option, refl}
+use Rattle.mv_plan.proofs.Words.{arith, length-map, length-map-range_with_len, Reply, After, Step, JobData, complete_count, ends_of}
+use Rattle.mv_plan.proofs.Words.{end_for_scheduler, idle}
 use Rattle.mv_ecb.specs.declared.operation.EcbReply.TheVariants as ecb_reply
 use Rattle.mv_element.specs.declared.operation.ElementReply.TheVariants as element_reply
 use Rattle.mv_machine.specs.declared.entry.Reply.TheVariants as reply_of

@@ -1,22 +1,9 @@
 -- No task makes more events than its budget: what it has made and what it may still make are no more than that, behind each
 -- entry of a walk.
-use Rattle.std.proofs.Common.{◌≡◌, ℕ, suc, ◌+◌, ◌*◌, ◌<◌, ◌≤◌, List, [], ◌∷◌, ◌++◌, length, slice_index, get_or, replicate, Some, refl, sym}
-use Rattle.std.proofs.Common.{ap, ◌∙◌, subst, arith}
-use Rattle.std.proofs.lemmas.Bool.{eq-eqb, ne_eqb}
-use Rattle.std.proofs.lemmas.List.{get_or_append_left, get_or-replicate, length-append, length-replicate}
-use Rattle.std.proofs.Math.Seq.{get_or-append_seam}
-use Rattle.mv_machine.specs.declared.entry.Entry.{Entry}
-use Rattle.mv_machine.specs.declared.entry.Object.{Object}
-use Rattle.mv_machine.specs.declared.entry.Op.{Op}
-use Rattle.mv_machine.specs.declared.entry.Reply.{Reply}
-use Rattle.mv_machine.specs.Legal.{of}
-use Rattle.mv_machine.specs.System.{opening}
-use Rattle.mv_calls.specs.Program.{asks}
-use Rattle.mv_calls.specs.Runs.{left_in}
-use Rattle.mv_deck.specs.Deck.{JobData}
-use Rattle.mv_plan.specs.SpoolRun.{Follows}
-use Rattle.mv_plan.specs.SpoolSetup.{spool_setup, task_budgets, reader, scheduler, initiator, writer}
-use Rattle.mv_plan.specs.SpoolTasks.{task_program}
+use Rattle.mv_plan.proofs.Words.{◌≡◌, ℕ, suc, ◌+◌, ◌*◌, ◌<◌, ◌≤◌, List, [], ◌∷◌, ◌++◌, length, slice_index, get_or, replicate, Some, refl}
+use Rattle.mv_plan.proofs.Words.{sym, ap, ◌∙◌, subst, arith, eq-eqb, ne_eqb, get_or_append_left, get_or-replicate, length-append}
+use Rattle.mv_plan.proofs.Words.{length-replicate, get_or-append_seam, Entry, Object, Op, Reply, of, opening, asks, left_in, JobData}
+use Rattle.mv_plan.proofs.Words.{Follows, spool_setup, task_budgets, reader, scheduler, initiator, writer, task_program}
 use Rattle.mv_ecb.specs.declared.operation.EcbReply.TheVariants as ecb_reply
 use Rattle.mv_machine.specs.declared.entry.Reply.TheVariants as reply_of
 use Rattle.mv_machine.proofs.Objects.{of-append}

@@ -1,9 +1,8 @@
 -- Sums over what a loop has left of a list. Used by the sums of events and parts.
-use Rattle.std.proofs.Common.{◌≡◌, ℕ, zero, suc, ◌+◌, ◌<◌, List, [], ◌∷◌, length, map, get_or, ap, ◌∙◌, arith, drop, sum_by}
-use Rattle.std.proofs.lemmas.List.Sums.{sum_by-cons}
-use Rattle.mv_deck.specs.Deck.{JobData, job_data}
-use Rattle.mv_deck.specs.declared.deck.Step.{Step}
-use Rattle.mv_deck.specs.Weight.{step_events, all_events, after_parts}
+use Rattle.mv_plan.proofs.Words.{◌≡◌, ℕ, zero, suc, ◌+◌, ◌<◌, List, [], ◌∷◌, length, map, get_or, ap, ◌∙◌, arith, sum_by-cons, JobData}
+use Rattle.mv_plan.proofs.Words.{job_data, Step, step_events}
+use Rattle.std.proofs.Common.{drop, sum_by}
+use Rattle.mv_deck.specs.Weight.{all_events, after_parts}
 use Rattle.mv_deck.specs.declared.deck.Job.{Job}
 
 -- two ways to write a place

@@ -1,18 +1,14 @@
 -- Sound decks: each job's end by the ends of the whole deck, which jobs are not to be run, and that jobs are few enough for
 -- codes to name them; the budgets of all tasks are the weight. Used by the layer of ends, by totals, and by all results.
-use Rattle.std.proofs.Common.{◌≡◌, ℕ, zero, suc, ◌+◌, ◌*◌, ◌<◌, ◌≤◌, List, [], ◌∷◌, ◌++◌, length, get_or, replicate, sum, if◌then◌else◌}
-use Rattle.std.proofs.Common.{refl, sym, ap, ◌∙◌, subst, arith, zero-add, ◌==◌, Bool, true, false, cond, add-zero}
-use Rattle.std.proofs.lemmas.List.Sums.{sum_by-cons, sum_by_push}
-use Rattle.mv_deck.specs.Deck.{JobData}
-use Rattle.mv_deck.specs.declared.deck.Step.{Step}
-use Rattle.mv_deck.specs.declared.deck.Step.TheVariants.{Print, Use, Count, Scan, Abend, Return, Free}
-use Rattle.mv_plan.specs.Jobs.{no_job, job_at, end_of}
-use Rattle.mv_deck.specs.Weight.{weight, all_events, after_parts}
-use Rattle.mv_deck.specs.EndCode.{not_run}
-use Rattle.mv_report.specs.Outcome.{some_unaccepted, own_end, ends, end_behind}
-use Rattle.mv_plan.specs.SpoolTasks.{not_to_run}
-use Rattle.mv_plan.specs.SpoolSetup.{task_budgets}
-use Rattle.std.proofs.lemmas.Bool.{eq-eqb, ne_eqb}
+use Rattle.mv_plan.proofs.Words.{◌≡◌, ℕ, zero, suc, ◌+◌, ◌*◌, ◌<◌, ◌≤◌, List, [], ◌∷◌, ◌++◌, length, get_or, replicate, sum, if◌then◌else◌}
+use Rattle.mv_plan.proofs.Words.{refl, sym, ap, ◌∙◌, subst, arith, zero-add, ◌==◌, Bool, true, false, cond, sum_by-cons, JobData, Step}
+use Rattle.mv_plan.proofs.Words.{Print, Use, Count, Scan, Abend, Return, no_job, job_at, end_of, weight, not_run, some_unaccepted, own_end}
+use Rattle.mv_plan.proofs.Words.{ends, not_to_run, task_budgets, eq-eqb, ne_eqb}
+use Rattle.std.proofs.Common.{add-zero}
+use Rattle.std.proofs.lemmas.List.Sums.{sum_by_push}
+use Rattle.mv_deck.specs.declared.deck.Step.TheVariants.{Free}
+use Rattle.mv_deck.specs.Weight.{all_events, after_parts}
+use Rattle.mv_report.specs.Outcome.{end_behind}
 use Rattle.std.specs.Prelude.{All, take, drop}
 use Rattle.std.proofs.lemmas.List.{length-take-le, set-get_or, set_split}
 use Rattle.std.proofs.lemmas.List.Elements.{All-from_recursion}

@@ -1,10 +1,7 @@
 -- The events of the steps of jobs, job by job and step by step: the sums of the weight as recursions. Used by the budgets and by
 -- the sums of volumes.
-use Rattle.std.proofs.Common.{◌≡◌, ℕ, ◌+◌, List, [], ◌∷◌, length, refl, ap, ◌∙◌, sum_by}
-use Rattle.std.proofs.lemmas.List.Sums.{sum_by-cons}
-use Rattle.mv_deck.specs.declared.deck.Step.{Step}
-use Rattle.mv_deck.specs.Deck.{JobData}
-use Rattle.mv_deck.specs.Weight.{step_events}
+use Rattle.mv_plan.proofs.Words.{◌≡◌, ℕ, ◌+◌, List, [], ◌∷◌, length, refl, ap, ◌∙◌, sum_by-cons, Step, JobData, step_events}
+use Rattle.std.proofs.Common.{sum_by}
 use Rattle.mv_deck.specs.Weight as heavy
 
 -- the events of some steps

@@ -1,14 +1,9 @@
 -- Decks in the form in which running jobs meet them: with each step the latches that are held there. A deck that is sound is so
 -- (Planned).
-use Rattle.std.proofs.Common.{◌≡◌, ℕ, ◌+◌, ◌^◌, ◌<◌, ◌≤◌, ◌==◌, Bool, IsTrue, not, ◌&&◌, List, [], ◌∷◌, ◌++◌, length, map, filter}
-use Rattle.std.specs.List.{AllByRecursion, list_any}
-use Rattle.mv_latch.specs.declared.request.Mode.{Mode}
-use Rattle.mv_latch.specs.Request.{is_shared}
-use Rattle.mv_calls.specs.Waits.{AreDistinct}
-use Rattle.mv_deck.specs.declared.deck.Step.{Step}
-use Rattle.mv_deck.specs.declared.deck.Step.TheVariants.{Print, Use, Count, Scan, Abend, Return, Free}
-use Rattle.mv_deck.specs.Deck.{JobData}
-use Rattle.mv_deck.specs.Weight.{weight}
+use Rattle.mv_plan.proofs.Words.{◌≡◌, ℕ, ◌+◌, ◌^◌, ◌<◌, ◌≤◌, ◌==◌, Bool, IsTrue, not, ◌&&◌, List, [], ◌∷◌, ◌++◌, length, map, filter}
+use Rattle.mv_plan.proofs.Words.{AllByRecursion, list_any, Mode, is_shared, AreDistinct, Step, Print, Use, Count, Scan, Abend, Return}
+use Rattle.mv_plan.proofs.Words.{JobData, weight}
+use Rattle.mv_deck.specs.declared.deck.Step.TheVariants.{Free}
 
 -- a latch that a job holds, and how
 pub record Held : Type 0 where

@@ -1,14 +1,15 @@
 -- The configuration's facts in one record, Facts: who owns which block and element, which exits start where, and the quotas.
 -- All layers take these facts and do not look into the configuration again.
-use Rattle.std.proofs.Common.{◌≡◌, ℕ, zero, suc, ◌+◌, ◌-◌, ◌*◌, ◌<◌, ◌≤◌, nat_lt, ◌&&◌, true, List, [], ◌∷◌, ◌++◌, length, map, replicate}
-use Rattle.std.proofs.Common.{get_or, Some, refl, sym, ap, ◌∙◌, subst, append_assoc, arith, ◌/◌}
-use Rattle.std.specs.List.{range_with_len}
-use Rattle.std.proofs.lemmas.Bool.{eq-eqb, eqb-true, lt-ltb, false≢true, and_parts, ltb-true}
-use Rattle.std.proofs.lemmas.List.{get_or_append_left, get_or-replicate, length-append, length-replicate, get_or-append-add}
-use Rattle.mv_machine.specs.Setup.{Setup, SetupExit, owner_of, is_exit_of, element_owner, starts_from}
-use Rattle.mv_deck.specs.Deck.{JobData}
-use Rattle.mv_plan.specs.SpoolSetup.{spool_setup, end_owners, block_owners, end_exit, entered, end_for_scheduler, end_for_writer, idle}
-use Rattle.mv_plan.specs.SpoolSetup.{scheduler, writer, done}
+use Rattle.mv_plan.proofs.Words.{◌≡◌, ℕ, zero, suc, ◌+◌, ◌-◌, ◌*◌, ◌<◌, ◌≤◌, nat_lt, ◌&&◌, true, List, [], ◌∷◌, ◌++◌, length, map}
+use Rattle.mv_plan.proofs.Words.{replicate, get_or, Some, refl, sym, ap, ◌∙◌, subst, append_assoc, arith, range_with_len, eq-eqb, eqb-true}
+use Rattle.mv_plan.proofs.Words.{lt-ltb, false≢true, and_parts, get_or_append_left, get_or-replicate, length-append, length-replicate}
+use Rattle.mv_plan.proofs.Words.{Setup, SetupExit, owner_of, is_exit_of, element_owner, JobData, spool_setup, end_owners, block_owners}
+use Rattle.mv_plan.proofs.Words.{end_exit, entered, end_for_scheduler, end_for_writer, idle, scheduler, writer}
+use Rattle.std.proofs.Common.{◌/◌}
+use Rattle.std.proofs.lemmas.Bool.{ltb-true}
+use Rattle.std.proofs.lemmas.List.{get_or-append-add}
+use Rattle.mv_machine.specs.Setup.{starts_from}
+use Rattle.mv_plan.specs.SpoolSetup.{done}
 use Rattle.std.specs.Prelude.{slice_get}
 use Rattle.mv_calls.specs.Posts.{targets_of, targets_at}
 

@@ -1,16 +1,12 @@
 -- Nothing refuses the configuration of a sound deck.
-use Rattle.std.proofs.Common.{◌≡◌, ℕ, zero, suc, ◌+◌, ◌*◌, ◌<◌, ◌≤◌, nat_le, true, false, List, [], ◌∷◌, ◌++◌, length, map, sum, replicate}
-use Rattle.std.proofs.Common.{None, Some, refl, ap, ◌∙◌, arith, if◌then◌else◌}
-use Rattle.std.specs.List.{AllByRecursion, range_with_len, position_from, list_all}
-use Rattle.std.proofs.lemmas.Bool.{le-leb, lt-leb, eq-eqb}
-use Rattle.std.proofs.lemmas.List.{length-append, length-replicate}
-use Rattle.std.proofs.lemmas.List.FromFn.{length-map-range_with_len}
-use Rattle.mv_machine.specs.Setup.{Setup, SetupExit}
-use Rattle.mv_deck.specs.Deck.{JobData}
-use Rattle.mv_deck.specs.Weight.{weight, all_events, after_parts}
-use Rattle.mv_plan.specs.SpoolSetup.{spool_setup, task_budgets, block_owners, end_owners, end_exit, scheduler, writer, end_for_scheduler}
-use Rattle.mv_plan.specs.SpoolSetup.{end_for_writer, done}
-use Rattle.mv_machine.proofs.Lists.{all_append}
+use Rattle.mv_plan.proofs.Words.{◌≡◌, ℕ, zero, suc, ◌+◌, ◌*◌, ◌<◌, ◌≤◌, nat_le, true, false, List, [], ◌∷◌, ◌++◌, length, map, sum}
+use Rattle.mv_plan.proofs.Words.{replicate, None, Some, refl, ap, ◌∙◌, arith, if◌then◌else◌, AllByRecursion, range_with_len, le-leb, lt-leb}
+use Rattle.mv_plan.proofs.Words.{eq-eqb, length-append, length-replicate, length-map-range_with_len, Setup, SetupExit, JobData, weight}
+use Rattle.mv_plan.proofs.Words.{spool_setup, task_budgets, block_owners, end_owners, end_exit, scheduler, writer, end_for_scheduler}
+use Rattle.mv_plan.proofs.Words.{end_for_writer, all_append}
+use Rattle.std.specs.List.{position_from, list_all}
+use Rattle.mv_deck.specs.Weight.{all_events, after_parts}
+use Rattle.mv_plan.specs.SpoolSetup.{done}
 use Rattle.mv_machine.specs.Check.{IsValid, first_limit, first_bad_owner, first_bad_exit, bad_budget, is_bad_exit, is_within, keeps}
 use Rattle.mv_machine.specs.declared.config.ConfigLimit.TheVariants.{Callers, Budgets, Ecbs, Exits, Targets}
 use Rattle.mv_machine.proofs.Chains.{all_copies}

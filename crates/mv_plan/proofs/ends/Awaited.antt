@@ -1,17 +1,11 @@
 -- Which blocks the scheduler waits for: no job's own block is among them; and which events the others have on blocks.
-use Rattle.std.proofs.Common.{◌≡◌, ℕ, zero, suc, ◌+◌, ◌<◌, List, [], ◌∷◌, ◌++◌, length, map, ◌⊎◌, inl, inr, refl, sym, arith}
-use Rattle.std.specs.List.{range_with_len}
-use Rattle.mv_ecb.specs.declared.operation.EcbOp.{EcbOp}
-use Rattle.mv_deck.specs.Deck.{JobData}
-use Rattle.mv_deck.specs.declared.deck.After.{After}
-use Rattle.mv_plan.specs.SpoolSetup.{idle, done}
-use Rattle.mv_plan.specs.SpoolTasks.{ends_of}
+use Rattle.mv_plan.proofs.Words.{◌≡◌, ℕ, zero, suc, ◌+◌, ◌<◌, List, [], ◌∷◌, ◌++◌, length, map, ◌⊎◌, inl, inr, refl, sym, arith}
+use Rattle.mv_plan.proofs.Words.{range_with_len, EcbOp, JobData, After, idle, ends_of}
+use Rattle.mv_plan.specs.SpoolSetup.{done}
 use Rattle.mv_ecb.specs.declared.operation.EcbOp.TheVariants as ecb_op
 use Rattle.mv_machine.specs.declared.entry.Op.TheVariants as op_on
 use Rattle.mv_plan.proofs.points.Points.{ReaderAt, Entering, reader_asks, Awaited, ForEntry, ForEnds, ForIdle, ToDismiss, awaited_blocks}
-use Rattle.mv_plan.proofs.points.Points.{InitiatorAt, Offering}
-use Rattle.mv_plan.proofs.points.Points.{EndingJob, EndingForScheduler, EndingForWriter}
-use Rattle.mv_plan.proofs.points.Points.{initiator_asks, InJob}
+use Rattle.mv_plan.proofs.points.Points.{InitiatorAt, Offering, EndingJob, EndingForScheduler, EndingForWriter, initiator_asks, InJob}
 use Rattle.mv_plan.proofs.points.SchedulerSound.{rest_below, IsAwaited}
 
 abbrev pub IsIn : ℕ → List ℕ → Type 0

@@ -1,13 +1,7 @@
 -- What the traces use of a moment, and how each caller's entry adds to them. Used by the result on ends.
-use Rattle.std.proofs.Common.{◌≡◌, ℕ, ◌+◌, ◌<◌, ◌≤◌, List, length, Some, ◌⊎◌, inl, inr, refl, sym, ap, ◌∙◌, subst, arith}
-use Rattle.std.proofs.lemmas.Bool.{cases_lt}
-use Rattle.mv_ecb.specs.Word.{Extended}
-use Rattle.mv_machine.specs.declared.entry.Entry.{Entry}
-use Rattle.mv_machine.specs.declared.entry.Object.TheVariants.{Ecb}
-use Rattle.mv_machine.specs.Setup.{Setup}
-use Rattle.mv_machine.specs.System.{System}
-use Rattle.mv_deck.specs.Deck.{JobData}
-use Rattle.mv_plan.specs.SpoolSetup.{idle, reader, scheduler, initiator, writer, done}
+use Rattle.mv_plan.proofs.Words.{◌≡◌, ℕ, ◌+◌, ◌<◌, ◌≤◌, List, length, Some, ◌⊎◌, inl, inr, refl, sym, ap, ◌∙◌, subst, arith, cases_lt}
+use Rattle.mv_plan.proofs.Words.{Extended, Entry, Ecb, Setup, System, JobData, idle, reader, scheduler, initiator, writer}
+use Rattle.mv_plan.specs.SpoolSetup.{done}
 use Rattle.mv_ecb.specs.declared.operation.EcbOp.TheVariants as ecb_op
 use Rattle.mv_machine.specs.declared.entry.Op.TheVariants as op_on
 use Rattle.mv_plan.proofs.deck.Plans.{IsPlanned}

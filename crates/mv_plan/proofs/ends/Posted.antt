@@ -1,21 +1,10 @@
 -- Which blocks were posted, in which order: a job's own block is extended from before its job is released until it is posted,
 -- and nothing is posted twice. Uses places only before the event.
-use Rattle.std.proofs.Common.{◌≡◌, ℕ, zero, suc, ◌+◌, ◌<◌, ◌≤◌, Bool, List, [], ◌∷◌, length, Some, ◌⊎◌, inl, inr, refl, sym, ap, ◌∙◌, subst}
-use Rattle.std.proofs.Common.{arith}
-use Rattle.std.proofs.lemmas.Bool.{cases_eq}
-use Rattle.mv_ecb.specs.Table.{ecb_step}
-use Rattle.mv_ecb.specs.Word.{EcbState, Zero, Extended, Complete}
-use Rattle.mv_machine.specs.declared.entry.Entry.{Entry}
-use Rattle.mv_machine.specs.declared.entry.Object.{Object}
-use Rattle.mv_machine.specs.declared.entry.Object.TheVariants.{Ecb, Element}
-use Rattle.mv_machine.specs.declared.entry.Op.{Op}
-use Rattle.mv_machine.specs.declared.entry.Reply.{Reply}
-use Rattle.mv_machine.specs.Legal.{IsNext}
-use Rattle.mv_machine.specs.Setup.{Setup}
-use Rattle.mv_machine.specs.System.{System, moved, opening, with_at}
-use Rattle.mv_deck.specs.Deck.{JobData}
-use Rattle.mv_plan.specs.SpoolSetup.{entered, end_for_scheduler, end_for_writer, idle, initiator, done}
-use Rattle.mv_plan.specs.SpoolTasks.{code_of, not_to_run}
+use Rattle.mv_plan.proofs.Words.{◌≡◌, ℕ, zero, suc, ◌+◌, ◌<◌, ◌≤◌, Bool, List, [], ◌∷◌, length, Some, ◌⊎◌, inl, inr, refl, sym, ap, ◌∙◌}
+use Rattle.mv_plan.proofs.Words.{subst, arith, cases_eq, ecb_step, EcbState, Zero, Extended, Complete, Entry, Object, Ecb, Element, Op}
+use Rattle.mv_plan.proofs.Words.{Reply, IsNext, Setup, System, moved, opening, with_at, JobData, entered, end_for_scheduler, end_for_writer}
+use Rattle.mv_plan.proofs.Words.{idle, initiator, code_of, not_to_run}
+use Rattle.mv_plan.specs.SpoolSetup.{done}
 use Rattle.mv_ecb.specs.declared.operation.EcbOp.TheVariants as ecb_op
 use Rattle.mv_ecb.specs.declared.operation.EcbReply.TheVariants as ecb_reply
 use Rattle.mv_element.specs.declared.operation.ElementOp.TheVariants as element_op
@@ -25,8 +14,7 @@ use Rattle.mv_plan.proofs.points.Points.{Point, At, Finished, TooSoon, Astray, R
 use Rattle.mv_plan.proofs.points.Points.{entering_from, Arming, Settling, Stage, Dispatching, Dismissing, ForEntry, ForEnds, ForIdle}
 use Rattle.mv_plan.proofs.points.Points.{ToDismiss, SchedulerAt, Waits, Extends, Clears, Releases, awaited_blocks, scheduler_asks}
 use Rattle.mv_plan.proofs.points.Points.{scheduler_goes, stage_at, dismissing_from, WriterAt, Keeping, writer_asks, Running, InitiatorAt}
-use Rattle.mv_plan.proofs.points.Points.{EndingJob, EndingForScheduler, EndingForWriter, initiator_asks, initiator_goes}
-use Rattle.mv_plan.proofs.points.Points.{InJob}
+use Rattle.mv_plan.proofs.points.Points.{EndingJob, EndingForScheduler, EndingForWriter, initiator_asks, initiator_goes, InJob}
 use Rattle.mv_plan.proofs.points.PostsAndWaits.{on_posted_keeps}
 use Rattle.mv_plan.proofs.walks.Walks.{Points, start_points}
 use Rattle.mv_plan.proofs.points.ReaderAndWriter.{IsReaderAt, IsWriterAt}
@@ -43,8 +31,7 @@ use Rattle.mv_plan.proofs.points.SchedulerNext.{AllNext, goes_next, next_grows}
 use Rattle.mv_plan.proofs.deck.Codes.{code_parts, never_zero}
 use Rattle.mv_plan.proofs.ends.WhoPosts.{offers, ends_job, ends_scheduler, ends_writer, post_by, initiator_no_release, run_below, posts_run}
 use Rattle.mv_plan.proofs.ends.WhoPosts.{posts_no_entered, plain_posts}
-use Rattle.mv_plan.proofs.walks.Moves.{KeepsUnder, by_moves, entry_of, block, element, block_reply, changed_there}
-use Rattle.mv_plan.proofs.walks.Moves.{same_elsewhere}
+use Rattle.mv_plan.proofs.walks.Moves.{KeepsUnder, by_moves, entry_of, block, element, block_reply, changed_there, same_elsewhere}
 use Rattle.mv_plan.proofs.points.Views.{code_held, run_of, next_job, next_in}
 use Rattle.mv_plan.proofs.lists.Tables.{all_but}
 use Rattle.mv_plan.proofs.points.Lands.{rounds_land, ended_lands}

@@ -1,24 +1,9 @@
 -- The codes that pass between the tasks are the deck's: a block with a job's end holds that end, an element holds 0 or a job's
 -- code with the deck's mark, and the writer keeps the deck's ends. No induction over jobs: all blocks at once.
-use Rattle.std.proofs.Common.{◌≡◌, ℕ, zero, suc, ◌+◌, ◌<◌, List, [], ◌∷◌, ◌++◌, length, get_or, Option, Some, None, ◌⊎◌, inl, inr, refl}
-use Rattle.std.proofs.Common.{sym, ap, ◌∙◌, subst, append-nil, append_assoc, arith}
-use Rattle.std.proofs.lemmas.List.{length-append}
-use Rattle.std.proofs.Math.Seq.{get_or-append_seam}
-use Rattle.mv_ecb.specs.Word.{Complete}
-use Rattle.mv_machine.specs.declared.entry.Entry.{Entry}
-use Rattle.mv_machine.specs.declared.entry.Object.{Object}
-use Rattle.mv_machine.specs.declared.entry.Object.TheVariants.{Ecb, Element}
-use Rattle.mv_machine.specs.declared.entry.Op.{Op}
-use Rattle.mv_machine.specs.declared.entry.Reply.{Reply}
-use Rattle.mv_machine.specs.Legal.{IsNext}
-use Rattle.mv_machine.specs.Setup.{Setup}
-use Rattle.mv_machine.specs.System.{System, moved, opening}
-use Rattle.mv_deck.specs.Deck.{JobData}
-use Rattle.mv_plan.specs.Jobs.{end_of}
-use Rattle.mv_report.specs.Outcome.{ends}
-use Rattle.mv_plan.specs.SpoolSetup.{end_for_writer, initiator}
-use Rattle.mv_plan.specs.SpoolTasks.{Named, job_named, code_of}
-use Rattle.mv_report.proofs.Lengths.{one_end_per_job}
+use Rattle.mv_plan.proofs.Words.{◌≡◌, ℕ, zero, suc, ◌+◌, ◌<◌, List, [], ◌∷◌, ◌++◌, length, get_or, Option, Some, None, ◌⊎◌, inl, inr, refl}
+use Rattle.mv_plan.proofs.Words.{sym, ap, ◌∙◌, subst, append-nil, append_assoc, arith, length-append, get_or-append_seam, Complete, Entry}
+use Rattle.mv_plan.proofs.Words.{Object, Ecb, Element, Op, Reply, IsNext, Setup, System, moved, opening, JobData, end_of, ends}
+use Rattle.mv_plan.proofs.Words.{end_for_writer, initiator, Named, job_named, code_of, one_end_per_job}
 use Rattle.mv_ecb.specs.declared.operation.EcbOp.TheVariants as ecb_op
 use Rattle.mv_ecb.specs.declared.operation.EcbReply.TheVariants as ecb_reply
 use Rattle.mv_element.specs.declared.operation.ElementOp.TheVariants as element_op
@@ -27,11 +12,9 @@ use Rattle.mv_machine.specs.declared.entry.Op.TheVariants as op_on
 use Rattle.mv_machine.specs.declared.entry.Reply.TheVariants as reply_of
 use Rattle.mv_plan.proofs.deck.Plans.{IsPlanned}
 use Rattle.mv_plan.proofs.points.Points.{Point, At, Finished, ReaderAt, Entering, reader_asks, Arming, Settling, Dispatching, Dismissing}
-use Rattle.mv_plan.proofs.points.Points.{running, SchedulerAt, Waits, Releases, scheduler_asks, WriterAt, Keeping}
-use Rattle.mv_plan.proofs.points.Points.{writing_from, end_found, writer_asks, writer_goes, Running, InitiatorAt, Opening, Offering}
-use Rattle.mv_plan.proofs.points.Points.{Pausing, Resuming, Obtaining}
-use Rattle.mv_plan.proofs.points.Points.{EndingJob, EndingForScheduler, EndingForWriter, initiator_asks, initiator_goes, stage_at}
-use Rattle.mv_plan.proofs.points.Points.{InJob}
+use Rattle.mv_plan.proofs.points.Points.{running, SchedulerAt, Waits, Releases, scheduler_asks, WriterAt, Keeping, writing_from, end_found}
+use Rattle.mv_plan.proofs.points.Points.{writer_asks, writer_goes, Running, InitiatorAt, Opening, Offering, Pausing, Resuming, Obtaining}
+use Rattle.mv_plan.proofs.points.Points.{EndingJob, EndingForScheduler, EndingForWriter, initiator_asks, initiator_goes, stage_at, InJob}
 use Rattle.mv_plan.proofs.points.PostsAndWaits.{on_armed_keeps}
 use Rattle.mv_plan.proofs.walks.Walks.{Points, start_points}
 use Rattle.mv_plan.proofs.points.ReaderAndWriter.{IsReaderAt, IsWriterAt}

@@ -1,18 +1,8 @@
 -- The scheduler marks each job as the deck says, where the ends that it reads are the deck's.
-use Rattle.std.proofs.Common.{◌≡◌, ℕ, zero, suc, ◌+◌, ◌<◌, ◌≤◌, nat_le, nat_lt, Bool, true, false, ◌||◌, cond, List, [], ◌∷◌, ◌++◌, length}
-use Rattle.std.proofs.Common.{get_or, Option, Some, None, refl, sym, ap, ◌∙◌, arith}
-use Rattle.std.specs.List.{AllByRecursion}
-use Rattle.std.proofs.lemmas.Bool.{leb-true}
-use Rattle.std.proofs.Math.Seq.{get_or-append_seam}
-use Rattle.mv_machine.specs.declared.entry.Reply.{Reply}
-use Rattle.mv_deck.specs.Deck.{JobData}
-use Rattle.mv_deck.specs.declared.deck.After.{After}
-use Rattle.mv_deck.specs.declared.deck.Step.{Step}
-use Rattle.mv_report.specs.Outcome.{some_unaccepted, ends}
-use Rattle.mv_plan.specs.Jobs.{no_job, job_at, end_of}
-use Rattle.mv_plan.specs.SpoolSetup.{end_for_scheduler}
-use Rattle.mv_plan.specs.SpoolTasks.{code_of, some_end_above, ends_of}
-use Rattle.mv_calls.specs.Waits.{complete_count}
+use Rattle.mv_plan.proofs.Words.{◌≡◌, ℕ, zero, suc, ◌+◌, ◌<◌, ◌≤◌, nat_le, nat_lt, Bool, true, false, ◌||◌, cond, List, [], ◌∷◌, ◌++◌}
+use Rattle.mv_plan.proofs.Words.{length, get_or, Option, Some, None, refl, sym, ap, ◌∙◌, arith, AllByRecursion, leb-true}
+use Rattle.mv_plan.proofs.Words.{get_or-append_seam, Reply, JobData, After, Step, some_unaccepted, ends, no_job, job_at, end_of}
+use Rattle.mv_plan.proofs.Words.{end_for_scheduler, code_of, some_end_above, ends_of, complete_count}
 use Rattle.mv_ecb.specs.declared.operation.EcbReply.TheVariants as ecb_reply
 use Rattle.mv_element.specs.declared.operation.ElementReply.TheVariants as element_reply
 use Rattle.mv_machine.specs.declared.entry.Reply.TheVariants as reply_of

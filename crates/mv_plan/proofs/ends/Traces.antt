@@ -1,27 +1,11 @@
 -- What the entries so far say of the blocks with the jobs' ends: the codes that were posted are those that the blocks hold.
-use Rattle.std.proofs.Common.{◌≡◌, ℕ, ◌+◌, ◌<◌, ◌==◌, if◌then◌else◌, Bool, List, [], ◌∷◌, ◌++◌, length, map, Some, None, ◌⊎◌, inl, inr}
-use Rattle.std.proofs.Common.{refl, sym, ap, ◌∙◌, subst, append-nil, arith}
-use Rattle.std.specs.List.{AllByRecursion}
-use Rattle.std.proofs.lemmas.Bool.{cases_eq, eq-eqb, ne_eqb}
-use Rattle.std.proofs.lemmas.List.Elements.{filter_map-append}
-use Rattle.mv_ecb.specs.declared.operation.EcbOp.{EcbOp}
-use Rattle.mv_ecb.specs.Table.{ecb_step}
-use Rattle.mv_ecb.specs.Word.{EcbState, Zero, Extended, Complete}
-use Rattle.mv_machine.specs.declared.entry.Entry.{Entry}
-use Rattle.mv_machine.specs.declared.entry.Object.{Object}
-use Rattle.mv_machine.specs.declared.entry.Object.TheVariants.{Ecb, Element}
-use Rattle.mv_machine.specs.declared.entry.Op.{Op}
-use Rattle.mv_machine.specs.declared.entry.Reply.{Reply}
-use Rattle.mv_machine.specs.Legal.{IsNext}
-use Rattle.mv_machine.specs.Setup.{Setup}
-use Rattle.mv_machine.specs.System.{System, moved, opening}
-use Rattle.mv_plan.specs.PostingEnds.{posts, post_codes, post_in, FindsEnd}
-use Rattle.mv_deck.specs.Deck.{JobData}
-use Rattle.mv_deck.specs.EndCode.{not_run}
-use Rattle.mv_plan.specs.Jobs.{end_of}
-use Rattle.mv_plan.specs.SpoolSetup.{end_for_scheduler, end_for_writer, done}
-use Rattle.mv_plan.specs.SpoolTasks.{code_of}
-use Rattle.mv_machine.proofs.Lists.{all_push}
+use Rattle.mv_plan.proofs.Words.{◌≡◌, ℕ, ◌+◌, ◌<◌, ◌==◌, if◌then◌else◌, Bool, List, [], ◌∷◌, ◌++◌, length, map, Some, None, ◌⊎◌, inl, inr}
+use Rattle.mv_plan.proofs.Words.{refl, sym, ap, ◌∙◌, subst, append-nil, arith, AllByRecursion, cases_eq, eq-eqb, ne_eqb, filter_map-append}
+use Rattle.mv_plan.proofs.Words.{EcbOp, ecb_step, EcbState, Zero, Extended, Complete, Entry, Object, Ecb, Element, Op, Reply, IsNext, Setup}
+use Rattle.mv_plan.proofs.Words.{System, moved, opening, posts, post_codes, JobData, not_run, end_of, end_for_scheduler, end_for_writer}
+use Rattle.mv_plan.proofs.Words.{code_of, all_push}
+use Rattle.mv_plan.specs.PostingEnds.{post_in, FindsEnd}
+use Rattle.mv_plan.specs.SpoolSetup.{done}
 use Rattle.mv_ecb.specs.declared.operation.EcbOp.TheVariants as ecb_op
 use Rattle.mv_ecb.specs.declared.operation.EcbReply.TheVariants as ecb_reply
 use Rattle.mv_element.specs.declared.operation.ElementOp.TheVariants as element_op

@@ -1,16 +1,11 @@
 -- Which block an initiator posts at a point, and that who posts a job's end runs it.
-use Rattle.std.proofs.Common.{◌≡◌, ℕ, ◌<◌, List, length, Option, Some, refl, sym, ap, subst, arith}
-use Rattle.mv_ecb.specs.declared.operation.EcbOp.{EcbOp}
-use Rattle.mv_machine.specs.declared.entry.Object.TheVariants.{Ecb}
-use Rattle.mv_deck.specs.Deck.{JobData}
-use Rattle.mv_calls.specs.LatchCalls.{Counts}
-use Rattle.mv_plan.specs.SpoolSetup.{entered, end_for_scheduler, end_for_writer, idle, done}
+use Rattle.mv_plan.proofs.Words.{◌≡◌, ℕ, ◌<◌, List, length, Option, Some, refl, sym, ap, subst, arith, EcbOp, Ecb, JobData, Counts, entered}
+use Rattle.mv_plan.proofs.Words.{end_for_scheduler, end_for_writer, idle}
+use Rattle.mv_plan.specs.SpoolSetup.{done}
 use Rattle.mv_element.specs.declared.operation.ElementOp.TheVariants as element_op
 use Rattle.mv_machine.specs.declared.entry.Op.TheVariants as op_on
-use Rattle.mv_plan.proofs.points.Points.{Point, At, Running, InitiatorAt, Opening, Offering}
-use Rattle.mv_plan.proofs.points.Points.{Obtaining, Freeing, EndingJob}
-use Rattle.mv_plan.proofs.points.Points.{EndingForScheduler, EndingForWriter, initiator_asks}
-use Rattle.mv_plan.proofs.points.Points.{InJob}
+use Rattle.mv_plan.proofs.points.Points.{Point, At, Running, InitiatorAt, Opening, Offering, Obtaining, Freeing, EndingJob}
+use Rattle.mv_plan.proofs.points.Points.{EndingForScheduler, EndingForWriter, initiator_asks, InJob}
 use Rattle.mv_plan.proofs.points.InitiatorSound.{IsInitiatorAt}
 use Rattle.mv_plan.proofs.ends.Blocks.{HasEnd, idle_none, done_one, scheduler_one, writer_one}
 use Rattle.mv_plan.proofs.points.Stages.{NotEnding}

@@ -1,14 +1,8 @@
 -- That a list of entries is a run of a deck, by equations that compute: it is legal, and each task is done on its part of it. The
 -- writer keeps the ends, and the others keep none.
-use Rattle.std.proofs.Common.{◌≡◌, ℕ, zero, suc, ◌+◌, ◌<◌, List, [], ◌∷◌, ◌++◌, length, replicate, ◌∙◌, arith}
-use Rattle.std.proofs.lemmas.List.{length-append, length-replicate}
-use Rattle.mv_machine.specs.declared.entry.Entry.{Entry}
-use Rattle.mv_machine.specs.System.{opening}
-use Rattle.mv_calls.proofs.Computed.{legal_by, answers, claims}
-use Rattle.mv_deck.specs.Deck.{JobData}
-use Rattle.mv_plan.specs.SpoolSetup.{spool_setup}
-use Rattle.mv_plan.specs.SpoolTasks.{task_program}
-use Rattle.mv_plan.specs.SpoolRun.{IsRun}
+use Rattle.mv_plan.proofs.Words.{◌≡◌, ℕ, zero, suc, ◌+◌, ◌<◌, List, [], ◌∷◌, ◌++◌, length, replicate, ◌∙◌, arith, length-append}
+use Rattle.mv_plan.proofs.Words.{length-replicate, Entry, opening, legal_by, JobData, spool_setup, task_program, IsRun}
+use Rattle.mv_calls.proofs.Computed.{answers, claims}
 use Rattle.mv_calls.specs.Program.{IsDoneOn}
 use Rattle.mv_calls.specs.Runs.{heard_in}
 use Rattle.mv_calls.proofs.Interleaved.{finish}

@@ -1,10 +1,8 @@
 -- What the law of ends says of two runs, by computing it; and the law applied to one of them.
-use Rattle.std.proofs.Common.{◌≡◌, List, true, false, [], ◌∷◌, map, refl, arith}
-use Rattle.mv_plan.specs.PostingEnds.{posts, post_codes, EndsArePosted}
-use Rattle.std.specs.List.{list_any}
-use Rattle.mv_deck.specs.declared.deck.Step.{Step}
-use Rattle.mv_deck.specs.Held.{is_end, is_out_of_order, lacks_latch}
-use Rattle.mv_plan.specs.SpoolSetup.{end_for_scheduler, end_for_writer, done}
+use Rattle.mv_plan.proofs.Words.{◌≡◌, List, true, false, [], ◌∷◌, map, refl, arith, posts, post_codes, EndsArePosted, list_any, Step}
+use Rattle.mv_plan.proofs.Words.{is_end, end_for_scheduler, end_for_writer}
+use Rattle.mv_deck.specs.Held.{is_out_of_order, lacks_latch}
+use Rattle.mv_plan.specs.SpoolSetup.{done}
 use Rattle.mv_ecb.specs.declared.operation.EcbReply.TheVariants as ecb_reply
 use Rattle.mv_machine.specs.declared.entry.Reply.TheVariants as reply_of
 use Rattle.mv_deck.specs.Sound.{IsSound, IsSoundStep, HasGoodNumbers}

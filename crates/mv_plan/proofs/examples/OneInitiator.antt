@@ -1,13 +1,7 @@
 -- Histories of small decks with one initiator are runs, by computing them: a check on the definitions.
-use Rattle.std.specs.Prelude.{codes}
-use Rattle.std.proofs.Common.{◌≡◌, false, List, [], ◌∷◌, refl}
-use Rattle.mv_latch.specs.declared.request.Mode.TheVariants.{Exclusive}
-use Rattle.mv_machine.specs.declared.entry.Entry.{Entry}
-use Rattle.mv_deck.specs.Deck.{JobData}
-use Rattle.mv_deck.specs.declared.deck.Step.TheVariants.{Use, Count, Abend, Free}
-use Rattle.mv_report.specs.Outcome.{ends}
-use Rattle.mv_plan.specs.SpoolRun.{IsRun}
-use Rattle.mv_calls.proofs.Computed.{made, at_block, at_element, at_volume, at_latches}
+use Rattle.mv_plan.proofs.Words.{codes, ◌≡◌, false, List, [], ◌∷◌, refl, Exclusive, Entry, JobData, Use, Count, Abend, ends, IsRun, made}
+use Rattle.mv_plan.proofs.Words.{at_block, at_element, at_volume, at_latches}
+use Rattle.mv_deck.specs.declared.deck.Step.TheVariants.{Free}
 use Rattle.mv_ecb.specs.declared.operation.EcbOp.TheVariants as ecb_op
 use Rattle.mv_ecb.specs.declared.operation.EcbReply.TheVariants as ecb_reply
 use Rattle.mv_element.specs.declared.operation.ElementOp.TheVariants as element_op

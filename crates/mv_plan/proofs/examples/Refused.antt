@@ -1,19 +1,10 @@
 -- Legal histories that are no runs: another end posted, the closing release left out, a volume read before its latch was granted,
 -- and a job released twice. Each is legal by computing it, and what its program says at the wrong entry is another event.
-use Rattle.std.specs.Prelude.{codes}
-use Rattle.std.proofs.Common.{◌≡◌, ℕ, ◌++◌, List, [], ◌∷◌, Some, None, refl, ap, arith, take}
-use Rattle.std.proofs.lemmas.Option.{some_pair_parts}
-use Rattle.mv_latch.specs.declared.request.Mode.TheVariants.{Exclusive}
-use Rattle.mv_machine.specs.declared.entry.Entry.{Entry}
-use Rattle.mv_machine.specs.declared.entry.Object.{Object}
-use Rattle.mv_machine.specs.declared.entry.Object.TheVariants.{Ecb, Element, Volume, Latches}
-use Rattle.mv_machine.specs.declared.entry.Op.{Op}
-use Rattle.mv_calls.specs.Program.{asks}
-use Rattle.mv_calls.proofs.Computed.{legal_by, at_block, at_element, at_volume, at_latches}
-use Rattle.mv_deck.specs.declared.deck.Step.TheVariants.{Use, Count, Free}
-use Rattle.mv_deck.specs.Deck.{JobData}
-use Rattle.mv_plan.specs.SpoolRun.{Follows, IsRun}
-use Rattle.mv_plan.specs.SpoolSetup.{spool_setup}
+use Rattle.mv_plan.proofs.Words.{codes, ◌≡◌, ℕ, ◌++◌, List, [], ◌∷◌, Some, None, refl, ap, arith, some_pair_parts, Exclusive, Entry, Object}
+use Rattle.mv_plan.proofs.Words.{Ecb, Element, Volume, Latches, Op, asks, legal_by, at_block, at_element, at_volume, at_latches, Use, Count}
+use Rattle.mv_plan.proofs.Words.{JobData, Follows, IsRun, spool_setup}
+use Rattle.std.proofs.Common.{take}
+use Rattle.mv_deck.specs.declared.deck.Step.TheVariants.{Free}
 use Rattle.mv_ecb.specs.declared.operation.EcbOp.TheVariants as ecb_op
 use Rattle.mv_ecb.specs.declared.operation.EcbReply.TheVariants as ecb_reply
 use Rattle.mv_element.specs.declared.operation.ElementOp.TheVariants as element_op

@@ -1,14 +1,6 @@
 -- A history of a deck with a return code and accepted ends is a run, by computing it.
-use Rattle.std.specs.Prelude.{codes}
-use Rattle.std.proofs.Common.{◌≡◌, List, [], ◌∷◌, map, refl}
-use Rattle.std.specs.List.{range_with_len}
-use Rattle.mv_machine.specs.declared.entry.Entry.{Entry}
-use Rattle.mv_deck.specs.Deck.{JobData}
-use Rattle.mv_deck.specs.declared.deck.Step.TheVariants.{Print, Return}
-use Rattle.mv_deck.specs.Weight.{weight}
-use Rattle.mv_report.specs.Outcome.{ends, total}
-use Rattle.mv_plan.specs.SpoolRun.{IsRun}
-use Rattle.mv_calls.proofs.Computed.{made, at_block, at_element, at_latches}
+use Rattle.mv_plan.proofs.Words.{codes, ◌≡◌, List, [], ◌∷◌, map, refl, range_with_len, Entry, JobData, Print, Return, weight, ends, total}
+use Rattle.mv_plan.proofs.Words.{IsRun, made, at_block, at_element, at_latches}
 use Rattle.mv_ecb.specs.declared.operation.EcbOp.TheVariants as ecb_op
 use Rattle.mv_ecb.specs.declared.operation.EcbReply.TheVariants as ecb_reply
 use Rattle.mv_element.specs.declared.operation.ElementOp.TheVariants as element_op

@@ -1,13 +1,7 @@
 -- Histories of decks with two initiators are runs, by computing them; in one a request is queued, a purge grants it, and a job
 -- is not run.
-use Rattle.std.specs.Prelude.{codes}
-use Rattle.std.proofs.Common.{◌≡◌, List, [], ◌∷◌, refl}
-use Rattle.mv_machine.specs.declared.entry.Entry.{Entry}
-use Rattle.mv_deck.specs.Deck.{JobData}
-use Rattle.mv_deck.specs.declared.deck.Step.TheVariants.{Print, Abend}
-use Rattle.mv_report.specs.Outcome.{ends}
-use Rattle.mv_plan.specs.SpoolRun.{IsRun}
-use Rattle.mv_calls.proofs.Computed.{made, at_block, at_element, at_latches}
+use Rattle.mv_plan.proofs.Words.{codes, ◌≡◌, List, [], ◌∷◌, refl, Entry, JobData, Print, Abend, ends, IsRun, made, at_block, at_element}
+use Rattle.mv_plan.proofs.Words.{at_latches}
 use Rattle.mv_ecb.specs.declared.operation.EcbOp.TheVariants as ecb_op
 use Rattle.mv_ecb.specs.declared.operation.EcbReply.TheVariants as ecb_reply
 use Rattle.mv_element.specs.declared.operation.ElementOp.TheVariants as element_op

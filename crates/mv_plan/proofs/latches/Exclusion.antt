@@ -1,17 +1,7 @@
 -- Who touches a volume holds its latch, and who counts on it holds it alone; so no two initiators stand so at one volume.
-use Rattle.std.proofs.Common.{◌≡◌, ℕ, ◌<◌, ◌==◌, Bool, true, false, not, ◌&&◌, ◌||◌, List, [], ◌∷◌, length, Option, Some, None, inl, inr}
-use Rattle.std.proofs.Common.{refl, sym, ap, ◌∙◌, subst, arith}
-use Rattle.std.specs.List.{Contains, list_any}
-use Rattle.std.proofs.lemmas.Bool.{eqb-true, false≢true}
-use Rattle.mv_latch.specs.declared.request.Request.{Request}
-use Rattle.mv_latch.specs.Latch.{granted}
-use Rattle.mv_latch.specs.LatchSet.{list_of}
-use Rattle.mv_latch.specs.Request.{is_shared, shared_request}
-use Rattle.mv_latch.proofs.Members.{not_in_empty, first_or_rest}
-use Rattle.mv_machine.specs.System.{System}
-use Rattle.mv_deck.specs.Deck.{JobData}
-use Rattle.mv_plan.specs.SpoolSetup.{initiator}
-use Rattle.mv_machine.proofs.Lists.{all_at}
+use Rattle.mv_plan.proofs.Words.{◌≡◌, ℕ, ◌<◌, ◌==◌, Bool, true, false, not, ◌&&◌, ◌||◌, List, [], ◌∷◌, length, Option, Some, None, inl, inr}
+use Rattle.mv_plan.proofs.Words.{refl, sym, ap, ◌∙◌, subst, arith, Contains, list_any, eqb-true, false≢true, Request, granted, list_of}
+use Rattle.mv_plan.proofs.Words.{is_shared, shared_request, not_in_empty, first_or_rest, System, JobData, initiator, all_at}
 use Rattle.mv_latch.proofs.Holders.{alone}
 use Rattle.mv_plan.proofs.deck.Plans.{is_held, is_held_alone}
 use Rattle.mv_plan.proofs.latches.Asked.{finds, found, request_of}
@@ -19,8 +9,7 @@ use Rattle.mv_plan.proofs.latches.HandMoves.{has_latch, works, Apart}
 use Rattle.mv_plan.proofs.latches.Hands.{grip, OwnsBy, Hands, Holds}
 use Rattle.mv_plan.proofs.points.InitiatorSound.{held_of, IsInitiatorAt}
 use Rattle.mv_plan.proofs.places.Places.{Places, Run}
-use Rattle.mv_plan.proofs.points.Points.{Point, At, Grant, Running, InitiatorAt, Reading, Writing, Scanning}
-use Rattle.mv_plan.proofs.points.Points.{Rescanning, Purging, InJob}
+use Rattle.mv_plan.proofs.points.Points.{Point, At, Grant, Running, InitiatorAt, Reading, Writing, Scanning, Rescanning, Purging, InJob}
 use Rattle.mv_plan.proofs.walks.Walks.{Points}
 use Rattle.mv_plan.proofs.points.Views.{run_of}
 

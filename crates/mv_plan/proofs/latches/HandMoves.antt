@@ -1,25 +1,8 @@
 -- Each move keeps the hands, where no two initiators run one job.
-use Rattle.std.proofs.Common.{◌≡◌, ℕ, zero, suc, ◌+◌, ◌<◌, ◌==◌, Bool, true, false, ◌||◌, if◌then◌else◌, List, [], ◌∷◌, length, replicate}
-use Rattle.std.proofs.Common.{Option, Some, None, refl, sym, ap, ◌∙◌, subst, arith}
-use Rattle.std.specs.List.{AllByRecursion, list_any}
-use Rattle.std.proofs.lemmas.Bool.{false≢true}
-use Rattle.mv_latch.specs.declared.operation.LatchOp.{LatchOp}
-use Rattle.mv_latch.specs.declared.operation.LatchReply.{LatchReply}
-use Rattle.mv_latch.specs.declared.request.Request.{Request}
-use Rattle.mv_latch.specs.Latch.{grants}
-use Rattle.mv_latch.specs.LatchSet.{list_of, latch_step}
-use Rattle.mv_latch.specs.Request.{is_own}
-use Rattle.mv_machine.specs.declared.entry.Entry.{Entry}
-use Rattle.mv_machine.specs.declared.entry.Object.{Object}
-use Rattle.mv_machine.specs.declared.entry.Object.TheVariants.{Ecb, Element, Volume, Latches}
-use Rattle.mv_machine.specs.declared.entry.Op.{Op}
-use Rattle.mv_machine.specs.declared.entry.Reply.{Reply}
-use Rattle.mv_machine.specs.Legal.{IsNext, next}
-use Rattle.mv_machine.specs.Setup.{Setup}
-use Rattle.mv_machine.specs.System.{System, moved}
-use Rattle.mv_machine.proofs.Standing.{mine}
-use Rattle.mv_deck.specs.Deck.{JobData}
-use Rattle.mv_plan.specs.SpoolSetup.{initiator}
+use Rattle.mv_plan.proofs.Words.{◌≡◌, ℕ, zero, suc, ◌+◌, ◌<◌, ◌==◌, Bool, true, false, ◌||◌, if◌then◌else◌, List, [], ◌∷◌, length}
+use Rattle.mv_plan.proofs.Words.{replicate, Option, Some, None, refl, sym, ap, ◌∙◌, subst, arith, AllByRecursion, list_any, false≢true}
+use Rattle.mv_plan.proofs.Words.{LatchOp, LatchReply, Request, grants, list_of, latch_step, is_own, Entry, Object, Ecb, Element, Volume}
+use Rattle.mv_plan.proofs.Words.{Latches, Op, Reply, IsNext, next, Setup, System, moved, mine, JobData, initiator}
 use Rattle.mv_element.specs.declared.operation.ElementReply.TheVariants as element_reply
 use Rattle.mv_latch.specs.declared.operation.LatchOp.TheVariants as latch_op
 use Rattle.mv_latch.specs.declared.operation.LatchReply.TheVariants as latch_reply

@@ -1,24 +1,13 @@
 -- The hands: at each latch an initiator's requests are exactly those of the job that it runs, and a latch that the job holds is
 -- granted to it. On lists and points alone; no machine stands here.
-use Rattle.std.proofs.Common.{◌≡◌, ℕ, zero, suc, ◌+◌, ◌<◌, ◌==◌, Bool, true, false, not, ◌&&◌, List, [], ◌∷◌, ◌++◌, length, filter, Option}
-use Rattle.std.proofs.Common.{Some, inl, inr, refl, sym, ap, ◌∙◌, subst, append-nil}
-use Rattle.std.specs.List.{AllByRecursion, Contains, list_any}
-use Rattle.std.proofs.lemmas.Bool.{eq-eqb, ne_eqb, eqb-true, cases_eq, false≢true}
-use Rattle.mv_latch.specs.declared.operation.LatchOp.{LatchOp}
-use Rattle.mv_latch.specs.declared.request.Mode.{Mode}
-use Rattle.mv_latch.specs.declared.request.Request.{Request}
-use Rattle.mv_latch.specs.Latch.{granted, grants}
-use Rattle.mv_latch.specs.LatchSet.{list_of, latch_step}
-use Rattle.mv_latch.specs.Request.{is_own, of_caller, of_requestor}
-use Rattle.mv_latch.proofs.Members.{not_in_empty, first_or_rest}
-use Rattle.mv_machine.proofs.Standing.{mine, is_mine}
-use Rattle.mv_machine.proofs.StandingRuns.{NamesLatch}
-use Rattle.mv_deck.specs.Deck.{JobData}
-use Rattle.mv_deck.specs.declared.deck.Step.{Step}
-use Rattle.mv_deck.specs.declared.deck.Step.TheVariants.{Print, Free}
-use Rattle.mv_plan.specs.Jobs.{job_at}
-use Rattle.mv_plan.specs.SpoolSetup.{initiator}
-use Rattle.mv_machine.proofs.Lists.{all_append, all_filter, all_at, all_front, all_back}
+use Rattle.mv_plan.proofs.Words.{◌≡◌, ℕ, zero, suc, ◌+◌, ◌<◌, ◌==◌, Bool, true, false, not, ◌&&◌, List, [], ◌∷◌, ◌++◌, length, filter}
+use Rattle.mv_plan.proofs.Words.{Option, Some, inl, inr, refl, sym, ap, ◌∙◌, subst, append-nil, AllByRecursion, Contains, list_any, eq-eqb}
+use Rattle.mv_plan.proofs.Words.{ne_eqb, eqb-true, cases_eq, false≢true, LatchOp, Mode, Request, granted, grants, list_of, latch_step}
+use Rattle.mv_plan.proofs.Words.{is_own, of_caller, of_requestor, not_in_empty, first_or_rest, mine, NamesLatch, JobData, Step, Print}
+use Rattle.mv_plan.proofs.Words.{job_at, initiator, all_append, all_filter, all_at}
+use Rattle.mv_machine.proofs.Standing.{is_mine}
+use Rattle.mv_deck.specs.declared.deck.Step.TheVariants.{Free}
+use Rattle.mv_machine.proofs.Lists.{all_front, all_back}
 use Rattle.mv_latch.specs.declared.operation.LatchOp.TheVariants as latch_op
 use Rattle.mv_latch.specs.declared.request.LatchForm.TheVariants as form_of
 use Rattle.mv_latch.proofs.Changes.{Changed, stays_granted, latch_changes}
@@ -28,9 +17,8 @@ use Rattle.mv_plan.proofs.points.InitiatorSound.{held_of}
 use Rattle.mv_plan.proofs.latches.Lists.{obtained_list, obtained_elsewhere, granted_new, released_list, released_elsewhere, purged_list}
 use Rattle.mv_plan.proofs.latches.Lists.{granted_in, mine_pushed, mine_without, mine_purged, Spares, mine_kept, AllAsked}
 use Rattle.mv_plan.proofs.points.Points.{Point, At, Finished, Grant, Running, Hand, empty_hand, without_latch, InitiatorAt, hand_at}
-use Rattle.mv_plan.proofs.points.Points.{EndingJob, EndingForScheduler, EndingForWriter, Confirming}
-use Rattle.mv_plan.proofs.points.Points.{rounds_from, steps_at, running, job_start}
-use Rattle.mv_plan.proofs.points.Points.{given_at, counting_at, InJob}
+use Rattle.mv_plan.proofs.points.Points.{EndingJob, EndingForScheduler, EndingForWriter, Confirming, rounds_from, steps_at, running}
+use Rattle.mv_plan.proofs.points.Points.{job_start, given_at, counting_at, InJob}
 use Rattle.mv_plan.proofs.lists.Lists.{all_map, all_join}
 use Rattle.mv_plan.proofs.points.Lands.{freeing_lands, given_lands, counting_lands}
 

@@ -1,21 +1,13 @@
 -- What one event on the latch set does to the requests of each caller, on lists alone.
-use Rattle.std.proofs.Common.{◌≡◌, ℕ, zero, suc, ◌<◌, ◌==◌, Bool, true, false, not, ◌&&◌, cond, if◌then◌else◌, List, [], ◌∷◌, ◌++◌, length}
-use Rattle.std.proofs.Common.{map, filter, set, inl, inr, refl, sym, ap, ◌∙◌, subst}
-use Rattle.std.specs.List.{AllByRecursion, Contains, list_any}
-use Rattle.std.proofs.lemmas.Bool.{eq-eqb, ne_eqb, eqb-true, cases_eq, false≢true}
-use Rattle.std.proofs.lemmas.List.Elements.{filter-append, Contains-append_left, Contains-append_right}
-use Rattle.mv_latch.specs.declared.operation.LatchOp.{LatchOp}
-use Rattle.mv_latch.specs.declared.operation.LatchReply.{LatchReply}
-use Rattle.mv_latch.specs.declared.request.Mode.{Mode}
-use Rattle.mv_latch.specs.declared.request.Request.{Request}
-use Rattle.mv_latch.specs.Latch.{granted, waiting, grants, newly_granted, obtain_step, release_step, without, blocker, confirm_reply}
-use Rattle.mv_latch.specs.Latch.{purged}
-use Rattle.mv_latch.specs.LatchSet.{list_of, latch_step}
-use Rattle.mv_latch.specs.Request.{is_own, of_caller, of_requestor, queues}
-use Rattle.mv_latch.proofs.Members.{first_is_in}
-use Rattle.mv_machine.proofs.Standing.{mine, mine_not_pushed}
-use Rattle.mv_machine.proofs.StandingRuns.{NamesLatch}
-use Rattle.mv_machine.proofs.Lists.{all_append, all_filter}
+use Rattle.mv_plan.proofs.Words.{◌≡◌, ℕ, zero, suc, ◌<◌, ◌==◌, Bool, true, false, not, ◌&&◌, cond, if◌then◌else◌, List, [], ◌∷◌, ◌++◌}
+use Rattle.mv_plan.proofs.Words.{length, map, filter, set, inl, inr, refl, sym, ap, ◌∙◌, subst, AllByRecursion, Contains, list_any, eq-eqb}
+use Rattle.mv_plan.proofs.Words.{ne_eqb, eqb-true, cases_eq, false≢true, filter-append, LatchOp, LatchReply, Mode, Request, granted}
+use Rattle.mv_plan.proofs.Words.{waiting, grants, newly_granted, obtain_step, release_step, without, blocker, list_of, latch_step, is_own}
+use Rattle.mv_plan.proofs.Words.{of_caller, of_requestor, first_is_in, mine, NamesLatch, all_append, all_filter}
+use Rattle.std.proofs.lemmas.List.Elements.{Contains-append_left, Contains-append_right}
+use Rattle.mv_latch.specs.Latch.{confirm_reply, purged}
+use Rattle.mv_latch.specs.Request.{queues}
+use Rattle.mv_machine.proofs.Standing.{mine_not_pushed}
 use Rattle.mv_latch.specs.declared.operation.LatchOp.TheVariants as latch_op
 use Rattle.mv_latch.specs.declared.operation.LatchReply.TheVariants as latch_reply
 use Rattle.mv_latch.specs.declared.request.LatchForm.TheVariants as form_of

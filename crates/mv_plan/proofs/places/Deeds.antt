@@ -1,31 +1,16 @@
 -- What an initiator's event does to what it runs and has run, and to the code in its element. Used by the ledger.
-use Rattle.std.proofs.Common.{◌≡◌, ℕ, zero, suc, ◌+◌, ◌<◌, List, [], ◌∷◌, ◌++◌, length, Option, Some, None, inl, inr, refl, sym, ap, ◌∙◌}
-use Rattle.std.proofs.Common.{subst}
-use Rattle.std.proofs.lemmas.Bool.{eq-eqb}
-use Rattle.mv_ecb.specs.Table.{ecb_step}
-use Rattle.mv_element.specs.declared.element.ElementState.{ElementState}
-use Rattle.mv_element.specs.Table.{element_step}
-use Rattle.mv_machine.specs.declared.entry.Object.{Object}
-use Rattle.mv_machine.specs.declared.entry.Object.TheVariants.{Element}
-use Rattle.mv_machine.specs.declared.entry.Op.{Op}
-use Rattle.mv_machine.specs.declared.entry.Reply.{Reply}
-use Rattle.mv_machine.specs.System.{System, moved, reply_to, with_at, advanced}
-use Rattle.mv_plan.specs.HandingOut.{gift_code}
-use Rattle.mv_deck.specs.Deck.{JobData}
-use Rattle.mv_plan.specs.Jobs.{job_at}
-use Rattle.mv_plan.specs.SpoolSetup.{initiator, idle}
-use Rattle.mv_plan.specs.SpoolTasks.{Named, code_of}
+use Rattle.mv_plan.proofs.Words.{◌≡◌, ℕ, zero, suc, ◌+◌, ◌<◌, List, [], ◌∷◌, ◌++◌, length, Option, Some, None, inl, inr, refl, sym, ap, ◌∙◌}
+use Rattle.mv_plan.proofs.Words.{subst, eq-eqb, ecb_step, ElementState, element_step, Object, Element, Op, Reply, System, moved, reply_to}
+use Rattle.mv_plan.proofs.Words.{with_at, advanced, gift_code, JobData, job_at, initiator, idle, Named, code_of}
 use Rattle.mv_ecb.specs.declared.operation.EcbOp.TheVariants as ecb_op
 use Rattle.mv_element.specs.declared.operation.ElementOp.TheVariants as element_op
 use Rattle.mv_machine.specs.declared.entry.Reply.TheVariants as reply_of
 use Rattle.mv_plan.proofs.standing.Row.{Starts, Works, Offers, Parks, offered, taken, handed, Row, RowAt, element_of}
 use Rattle.mv_plan.proofs.points.InitiatorSound.{IsInitiatorAt, named_is}
 use Rattle.mv_plan.proofs.points.PostsAndWaits.{on_posted_keeps}
-use Rattle.mv_plan.proofs.points.Points.{Point, At, SchedulerAt, Running, InitiatorAt, Opening, Offering}
-use Rattle.mv_plan.proofs.points.Points.{Pausing, Resuming}
-use Rattle.mv_plan.proofs.points.Points.{Closing, initiator_asks, initiator_goes}
-use Rattle.mv_plan.proofs.points.Points.{rounds_from, rounds_after, given_at, running, on_posted, on_opened, on_paused}
-use Rattle.mv_plan.proofs.points.Points.{on_resumed, on_closed, InJob}
+use Rattle.mv_plan.proofs.points.Points.{Point, At, SchedulerAt, Running, InitiatorAt, Opening, Offering, Pausing, Resuming, Closing}
+use Rattle.mv_plan.proofs.points.Points.{initiator_asks, initiator_goes, rounds_from, rounds_after, given_at, running, on_posted, on_opened}
+use Rattle.mv_plan.proofs.points.Points.{on_paused, on_resumed, on_closed, InJob}
 use Rattle.mv_plan.proofs.points.RunningJob.{RunsOn, start_run, GoesOn, same, done, lost, run_goes, run_asks, run_sound}
 use Rattle.mv_plan.proofs.walks.NoneLost.{SameTalk, same_talk}
 use Rattle.mv_plan.proofs.lists.Tables.{with_at-same}

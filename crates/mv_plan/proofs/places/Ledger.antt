@@ -1,13 +1,7 @@
 -- The ledger: where each job is, with the account of the codes that name it, released and given so far; and its six steps.
-use Rattle.std.proofs.Common.{◌≡◌, ℕ, ◌+◌, ◌<◌, ◌≤◌, Bool, List, [], ◌∷◌, ◌++◌, length, Option, Some, None, ◌⊎◌, inl, inr, refl, sym, ap}
-use Rattle.std.proofs.Common.{◌∙◌, subst, arith}
-use Rattle.std.proofs.lemmas.Bool.{cases_eq}
-use Rattle.mv_machine.specs.declared.entry.Entry.{Entry}
-use Rattle.mv_machine.specs.System.{System, with_at}
-use Rattle.mv_plan.specs.HandingOut.{release_code, gift_code, naming, released_codes, given_codes}
-use Rattle.mv_deck.specs.Deck.{JobData}
-use Rattle.mv_plan.specs.SpoolTasks.{code_of, not_to_run}
-use Rattle.std.proofs.lemmas.Option.{same_Some}
+use Rattle.mv_plan.proofs.Words.{◌≡◌, ℕ, ◌+◌, ◌<◌, ◌≤◌, Bool, List, [], ◌∷◌, ◌++◌, length, Option, Some, None, ◌⊎◌, inl, inr, refl, sym, ap}
+use Rattle.mv_plan.proofs.Words.{◌∙◌, subst, arith, cases_eq, Entry, System, with_at, release_code, gift_code, naming, released_codes}
+use Rattle.mv_plan.proofs.Words.{given_codes, JobData, code_of, not_to_run, same_Some}
 use Rattle.mv_plan.proofs.deck.Codes.{naming_own, naming_other, naming_zero, released_none, released_some, given_none, given_some}
 use Rattle.mv_plan.proofs.deck.Codes.{code_parts, never_zero}
 use Rattle.mv_plan.proofs.standing.Row.{element_of}

@@ -1,38 +1,24 @@
 -- The ledger is kept by each move at which no task is lost.
-use Rattle.std.proofs.Common.{◌≡◌, ℕ, ◌+◌, ◌-◌, ◌<◌, ◌≤◌, Bool, if◌then◌else◌, List, length, Option, Some, None, ◌⊎◌, inl, inr, refl, sym}
-use Rattle.std.proofs.Common.{ap, ◌∙◌, subst, arith}
-use Rattle.std.proofs.lemmas.Bool.{cases_eq, eq-eqb}
-use Rattle.mv_element.specs.declared.element.ElementState.{ElementState}
-use Rattle.mv_element.specs.Element.{reset, paused}
-use Rattle.mv_element.specs.Table.{element_step}
-use Rattle.mv_machine.specs.declared.entry.Entry.{Entry}
-use Rattle.mv_machine.specs.declared.entry.Object.TheVariants.{Element, Ecb}
-use Rattle.mv_machine.specs.declared.entry.Reply.{Reply}
-use Rattle.mv_machine.specs.Legal.{IsNext, next}
-use Rattle.mv_machine.specs.Setup.{Setup}
-use Rattle.mv_machine.specs.System.{System, moved, reply_to, with_at}
-use Rattle.mv_plan.specs.HandingOut.{release_code, gift_code}
-use Rattle.mv_deck.specs.Deck.{JobData}
-use Rattle.mv_calls.specs.Keeping.{Kept}
-use Rattle.mv_plan.specs.SpoolSetup.{reader, scheduler, initiator, writer}
-use Rattle.mv_plan.specs.SpoolTasks.{code_of, not_to_run}
+use Rattle.mv_plan.proofs.Words.{◌≡◌, ℕ, ◌+◌, ◌-◌, ◌<◌, ◌≤◌, Bool, if◌then◌else◌, List, length, Option, Some, None, ◌⊎◌, inl, inr, refl}
+use Rattle.mv_plan.proofs.Words.{sym, ap, ◌∙◌, subst, arith, cases_eq, eq-eqb, ElementState, reset, element_step, Entry, Element, Ecb}
+use Rattle.mv_plan.proofs.Words.{Reply, IsNext, next, Setup, System, moved, reply_to, with_at, release_code, gift_code, JobData, Kept}
+use Rattle.mv_plan.proofs.Words.{reader, scheduler, initiator, writer, code_of, not_to_run}
+use Rattle.mv_element.specs.Element.{paused}
 use Rattle.mv_ecb.specs.declared.operation.EcbOp.TheVariants as ecb_op
 use Rattle.mv_element.specs.declared.operation.ElementOp.TheVariants as element_op
 use Rattle.mv_machine.specs.declared.entry.Op.TheVariants as op_on
 use Rattle.mv_machine.specs.declared.entry.Reply.TheVariants as reply_of
 use Rattle.mv_plan.proofs.points.ReaderAndWriter.{IsReaderAt, IsWriterAt}
 use Rattle.mv_plan.proofs.places.Deeds.{Deed, went_on, started, left, stopped, elsewhere_gave, initiator_did}
-use Rattle.mv_plan.proofs.standing.Row.{Stance, Offers, Parks, Loses, stance, offered, taken, handed, Row, RowAt}
-use Rattle.mv_plan.proofs.standing.Row.{hold_for, offer_of, element_of, row_at, Apart, apart}
+use Rattle.mv_plan.proofs.standing.Row.{Stance, Offers, Parks, Loses, stance, offered, taken, handed, Row, RowAt, hold_for, offer_of}
+use Rattle.mv_plan.proofs.standing.Row.{element_of, row_at, Apart, apart}
 use Rattle.mv_plan.proofs.points.InitiatorSound.{IsInitiatorAt}
 use Rattle.mv_plan.proofs.places.Ledger.{element_code, runs_at, befores_at, Ledger, LedgerNext, quiet, releases, dismisses, leaves, starts}
 use Rattle.mv_plan.proofs.places.Ledger.{stops}
 use Rattle.mv_plan.proofs.points.SchedulerNext.{NoRelease, same_next, dispatched_next, dismissed_next, next_bound}
-use Rattle.mv_plan.proofs.points.Points.{Point, At, TooSoon, Astray, Stage, Dispatching, Dismissing, Arming}
-use Rattle.mv_plan.proofs.points.Points.{reader_asks, reader_goes, SchedulerAt, Waits, Releases, scheduler_asks}
-use Rattle.mv_plan.proofs.points.Points.{scheduler_goes, writer_asks, writer_goes, InitiatorAt, Opening}
-use Rattle.mv_plan.proofs.points.Points.{Obtaining}
-use Rattle.mv_plan.proofs.points.Points.{initiator_asks, initiator_goes, InJob}
+use Rattle.mv_plan.proofs.points.Points.{Point, At, TooSoon, Astray, Stage, Dispatching, Dismissing, Arming, reader_asks, reader_goes}
+use Rattle.mv_plan.proofs.points.Points.{SchedulerAt, Waits, Releases, scheduler_asks, scheduler_goes, writer_asks, writer_goes}
+use Rattle.mv_plan.proofs.points.Points.{InitiatorAt, Opening, Obtaining, initiator_asks, initiator_goes, InJob}
 use Rattle.mv_plan.proofs.points.SchedulerSound.{IsSchedulerAt, rest_count}
 use Rattle.mv_plan.proofs.standing.Rows.{Rows, reader_low, writer_low}
 use Rattle.mv_plan.proofs.walks.Stands.{Stand}

@@ -1,13 +1,7 @@
 -- A moment: all that is known where no task is lost (kept, sound points, rows, ledger), and the induction that may use it.
 -- Results on runs are proved by walk_moments.
-use Rattle.std.proofs.Common.{◌≡◌, ℕ, zero, suc, ◌≤◌, List, [], ◌∷◌, ◌++◌, length, refl, arith}
-use Rattle.mv_machine.specs.declared.entry.Entry.{Entry}
-use Rattle.mv_machine.specs.Legal.{IsNext, next, after_from}
-use Rattle.mv_machine.specs.Setup.{Setup}
-use Rattle.mv_machine.specs.System.{System, opening}
-use Rattle.mv_deck.specs.Deck.{JobData}
-use Rattle.mv_calls.specs.Keeping.{Kept, nothing_kept}
-use Rattle.mv_plan.specs.SpoolTasks.{not_to_run}
+use Rattle.mv_plan.proofs.Words.{◌≡◌, ℕ, zero, suc, ◌≤◌, List, [], ◌∷◌, ◌++◌, length, refl, arith, Entry, IsNext, next, after_from, Setup}
+use Rattle.mv_plan.proofs.Words.{System, opening, JobData, Kept, nothing_kept, not_to_run}
 use Rattle.mv_plan.proofs.deck.Plans.{ArePlannedJobs}
 use Rattle.mv_plan.proofs.walks.Fits.{Fits, fits_opening, fits_next}
 use Rattle.mv_plan.proofs.places.Places.{Place, Coming, Goes}

@@ -1,11 +1,6 @@
 -- Where each job is: coming, handed to an initiator's element, run by an initiator, or over; as one function, with facts in
 -- both directions. Two initiators never have one job, since a job has one place.
-use Rattle.std.proofs.Common.{◌≡◌, ℕ, ◌<◌, ◌≤◌, Bool, List, length, Some}
-use Rattle.std.specs.List.{AllByRecursion}
-use Rattle.mv_machine.specs.System.{System}
-use Rattle.mv_deck.specs.Deck.{JobData}
-use Rattle.mv_plan.specs.SpoolSetup.{initiator}
-use Rattle.mv_plan.specs.SpoolTasks.{code_of}
+use Rattle.mv_plan.proofs.Words.{◌≡◌, ℕ, ◌<◌, ◌≤◌, Bool, List, length, Some, AllByRecursion, System, JobData, initiator, code_of}
 use Rattle.mv_plan.proofs.points.Points.{Running}
 use Rattle.mv_plan.proofs.walks.Walks.{Points}
 use Rattle.mv_plan.proofs.points.Views.{code_held, run_of, named_before, next_job}

@@ -1,13 +1,7 @@
 -- How the places of jobs go on, by tables alone: the codes in elements, what initiators run and have run, and the job that is
 -- next. No machine stands here. Used by the ledger.
-use Rattle.std.proofs.Common.{◌≡◌, ℕ, ◌+◌, ◌<◌, ◌≤◌, Bool, List, [], ◌∷◌, ◌++◌, Option, Some, None, ◌⊎◌, inl, inr, refl, sym, ap, ◌∙◌}
-use Rattle.std.proofs.Common.{subst, arith}
-use Rattle.std.specs.List.{AllByRecursion}
-use Rattle.std.proofs.lemmas.Option.{same_Some}
-use Rattle.std.proofs.lemmas.Bool.{cases_eq, cases_lt}
-use Rattle.mv_machine.specs.System.{with_at}
-use Rattle.mv_plan.specs.SpoolTasks.{code_of, not_to_run}
-use Rattle.mv_machine.proofs.Lists.{all_push}
+use Rattle.mv_plan.proofs.Words.{◌≡◌, ℕ, ◌+◌, ◌<◌, ◌≤◌, Bool, List, [], ◌∷◌, ◌++◌, Option, Some, None, ◌⊎◌, inl, inr, refl, sym, ap, ◌∙◌}
+use Rattle.mv_plan.proofs.Words.{subst, arith, AllByRecursion, same_Some, cases_eq, cases_lt, with_at, code_of, not_to_run, all_push}
 use Rattle.mv_plan.proofs.deck.Codes.{code_parts, never_zero}
 use Rattle.mv_plan.proofs.places.Places.{Place, Coming, Handed, Run, Over}
 use Rattle.mv_plan.proofs.points.Points.{Running}

@@ -1,26 +1,20 @@
 -- An initiator's program goes from point to point. Used by Following.
-use Rattle.std.proofs.Common.{◌≡◌, ℕ, zero, suc, ◌+◌, ◌-◌, ◌*◌, ◌^◌, ◌<◌, ◌≤◌, ◌==◌, nat_lt, Bool, true, false, not, ◌&&◌, if◌then◌else◌}
-use Rattle.std.proofs.Common.{List, [], ◌∷◌, ◌++◌, length, Option, Some, None, Ok, refl, sym, ap, ◌∙◌, arith, find}
-use Rattle.std.specs.List.{AllByRecursion, list_any, range_with_len}
-use Rattle.std.proofs.lemmas.Bool.{eq-eqb, lt-ltb}
-use Rattle.mv_latch.specs.declared.operation.Wake.{Wake}
-use Rattle.mv_latch.specs.declared.request.Mode.{Mode}
-use Rattle.mv_machine.specs.declared.entry.Object.TheVariants.{Element, Latches}
-use Rattle.mv_machine.specs.declared.entry.Reply.{Reply}
-use Rattle.mv_machine.specs.Setup.{Setup, element_owner}
-use Rattle.mv_deck.specs.Deck.{JobData}
-use Rattle.mv_deck.specs.declared.deck.Step.{Step}
-use Rattle.mv_deck.specs.declared.deck.Step.TheVariants.{Print, Use, Count, Scan, Free}
-use Rattle.mv_plan.specs.Jobs.{job_at}
-use Rattle.mv_calls.specs.Keeping.{Kept, nothing_kept}
-use Rattle.mv_calls.specs.LatchCalls.{obtained, obtain_refusal}
-use Rattle.mv_calls.specs.Pauses.{token_of, pause, closed, deallocate, gift_of, allocate, lowest_free, open_lowest, paused}
-use Rattle.mv_calls.specs.Posts.{Woke, each_posted, posted_next, post_within, wake_posted, wakes_posted}
-use Rattle.mv_calls.specs.Program.{Program, Do, Done, Heard, asks, heard, and_then, going_on, unrefused, accepted, followed, finished}
-use Rattle.mv_calls.specs.Program.{unless_refused, on_element, on_latch, wrong}
-use Rattle.mv_plan.specs.SpoolSetup.{end_for_scheduler, end_for_writer, idle, initiator, done}
-use Rattle.mv_plan.specs.SpoolTasks.{Named, job_named, named_by, run_job, granted_as, rounds, job_done, freed}
-use Rattle.mv_calls.specs.Waits.{refused_if, write_volume}
+use Rattle.mv_plan.proofs.Words.{◌≡◌, ℕ, zero, suc, ◌+◌, ◌-◌, ◌*◌, ◌^◌, ◌<◌, ◌≤◌, ◌==◌, nat_lt, Bool, true, false, not, ◌&&◌, if◌then◌else◌}
+use Rattle.mv_plan.proofs.Words.{List, [], ◌∷◌, ◌++◌, length, Option, Some, None, Ok, refl, sym, ap, ◌∙◌, arith, AllByRecursion, list_any}
+use Rattle.mv_plan.proofs.Words.{range_with_len, eq-eqb, lt-ltb, Wake, Mode, Element, Latches, Reply, Setup, element_owner, JobData, Step}
+use Rattle.mv_plan.proofs.Words.{Print, Use, Count, Scan, job_at, Kept, nothing_kept, obtained, token_of, pause, closed, deallocate, Woke}
+use Rattle.mv_plan.proofs.Words.{each_posted, posted_next, post_within, wake_posted, Program, Do, Done, Heard, asks, heard, and_then}
+use Rattle.mv_plan.proofs.Words.{going_on, unrefused, accepted, followed, finished, unless_refused, on_element, on_latch, end_for_scheduler}
+use Rattle.mv_plan.proofs.Words.{end_for_writer, idle, initiator, Named, job_named, named_by, run_job, granted_as, rounds, refused_if}
+use Rattle.std.proofs.Common.{find}
+use Rattle.mv_deck.specs.declared.deck.Step.TheVariants.{Free}
+use Rattle.mv_calls.specs.LatchCalls.{obtain_refusal}
+use Rattle.mv_calls.specs.Pauses.{gift_of, allocate, lowest_free, open_lowest, paused}
+use Rattle.mv_calls.specs.Posts.{wakes_posted}
+use Rattle.mv_calls.specs.Program.{wrong}
+use Rattle.mv_plan.specs.SpoolSetup.{done}
+use Rattle.mv_plan.specs.SpoolTasks.{job_done, freed}
+use Rattle.mv_calls.specs.Waits.{write_volume}
 use Rattle.mv_ecb.specs.declared.operation.EcbReply.TheVariants as ecb_reply
 use Rattle.mv_element.specs.declared.operation.ElementOp.TheVariants as element_op
 use Rattle.mv_element.specs.declared.operation.ElementReply.TheVariants as element_reply

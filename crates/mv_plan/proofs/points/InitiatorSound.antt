@@ -1,24 +1,11 @@
 -- Where an initiator may stand: its rounds, the steps that are left of its job, the latches in its hand, the code that it ends
 -- with; and what it keeps there. Kept by each of its steps, whatever the reply.
-use Rattle.std.proofs.Common.{◌≡◌, ℕ, zero, suc, ◌+◌, ◌-◌, ◌<◌, ◌≤◌, ◌==◌, nat_le, Bool, true, false, not, ◌&&◌, if◌then◌else◌, List, []}
-use Rattle.std.proofs.Common.{◌∷◌, ◌++◌, length, map, filter, Option, Some, None, refl, sym, ap, ◌∙◌, subst, append_assoc, arith}
-use Rattle.std.specs.List.{AllByRecursion, list_any}
-use Rattle.std.proofs.lemmas.Bool.{eq-eqb, ne_eqb, eqb-true, leb-true, false≢true, and_parts}
-use Rattle.std.proofs.lemmas.List.{length-append}
-use Rattle.mv_latch.specs.declared.request.Mode.{Mode}
-use Rattle.mv_machine.specs.declared.entry.Reply.{Reply}
-use Rattle.mv_machine.specs.System.{with_at}
-use Rattle.mv_deck.specs.Deck.{JobData}
-use Rattle.mv_deck.specs.declared.deck.Step.{Step}
-use Rattle.mv_deck.specs.declared.deck.Step.TheVariants.{Print, Use, Count, Scan, Abend, Return, Free}
-use Rattle.mv_plan.specs.Jobs.{job_at}
-use Rattle.mv_deck.specs.EndCode.{not_run}
-use Rattle.mv_report.specs.Outcome.{own_end}
-use Rattle.mv_calls.specs.Waits.{AreDistinct}
-use Rattle.mv_calls.specs.Keeping.{Kept, nothing_kept}
-use Rattle.mv_plan.specs.SpoolSetup.{initiator}
-use Rattle.mv_plan.specs.SpoolTasks.{Named, job_named, code_of, not_to_run}
-use Rattle.mv_machine.proofs.Lists.{all_push}
+use Rattle.mv_plan.proofs.Words.{◌≡◌, ℕ, zero, suc, ◌+◌, ◌-◌, ◌<◌, ◌≤◌, ◌==◌, nat_le, Bool, true, false, not, ◌&&◌, if◌then◌else◌, List, []}
+use Rattle.mv_plan.proofs.Words.{◌∷◌, ◌++◌, length, map, filter, Option, Some, None, refl, sym, ap, ◌∙◌, subst, append_assoc, arith}
+use Rattle.mv_plan.proofs.Words.{AllByRecursion, list_any, eq-eqb, ne_eqb, eqb-true, leb-true, false≢true, and_parts, length-append, Mode}
+use Rattle.mv_plan.proofs.Words.{Reply, with_at, JobData, Step, Print, Use, Count, Scan, Abend, Return, job_at, not_run, own_end}
+use Rattle.mv_plan.proofs.Words.{AreDistinct, Kept, nothing_kept, initiator, Named, job_named, code_of, not_to_run, all_push}
+use Rattle.mv_deck.specs.declared.deck.Step.TheVariants.{Free}
 use Rattle.mv_element.specs.declared.operation.ElementReply.TheVariants as element_reply
 use Rattle.mv_latch.specs.declared.operation.LatchReply.TheVariants as latch_reply
 use Rattle.mv_latch.specs.declared.request.LatchForm.TheVariants as form_of
@@ -26,11 +13,10 @@ use Rattle.mv_machine.specs.declared.entry.Reply.TheVariants as reply_of
 use Rattle.mv_machine.specs.declared.entry.VolumeReply.TheVariants as volume_reply
 use Rattle.mv_machine.specs.Kept.{StandingRequest, is_named, is_for, less}
 use Rattle.mv_plan.proofs.deck.Plans.{Held, is_held, ArePlannedSteps, ArePlannedJobs}
-use Rattle.mv_plan.proofs.points.Points.{Point, At, Grant, Running, Hand, empty_hand, hand_with, without_latch, hand_without}
-use Rattle.mv_plan.proofs.points.Points.{hand_at, InitiatorAt, Opening, Offering, Pausing, Resuming, Obtaining, Confirming, Freeing}
-use Rattle.mv_plan.proofs.points.Points.{Reading, Writing, Scanning, Rescanning, Purging, EndingJob, EndingForScheduler, EndingForWriter}
-use Rattle.mv_plan.proofs.points.Points.{Closing, initiator_asks, initiator_goes, rounds_after, steps_at, running}
-use Rattle.mv_plan.proofs.points.Points.{job_start, given_at, InJob}
+use Rattle.mv_plan.proofs.points.Points.{Point, At, Grant, Running, Hand, empty_hand, hand_with, without_latch, hand_without, hand_at}
+use Rattle.mv_plan.proofs.points.Points.{InitiatorAt, Opening, Offering, Pausing, Resuming, Obtaining, Confirming, Freeing, Reading}
+use Rattle.mv_plan.proofs.points.Points.{Writing, Scanning, Rescanning, Purging, EndingJob, EndingForScheduler, EndingForWriter, Closing}
+use Rattle.mv_plan.proofs.points.Points.{initiator_asks, initiator_goes, rounds_after, steps_at, running, job_start, given_at, InJob}
 use Rattle.mv_plan.proofs.points.PostsAndWaits.{on_posted_keeps}
 use Rattle.mv_plan.proofs.points.ReaderAndWriter.{keeps}
 use Rattle.mv_plan.proofs.points.Lands.{rounds_land, freeing_lands, given_lands, counting_lands, ended_lands}

@@ -1,14 +1,6 @@
 -- Where an initiator may land: what holds where it is astray, and at each point that may follow, holds of the one that does.
-use Rattle.std.proofs.Common.{◌≡◌, ℕ, zero, suc, ◌+◌, ◌^◌, ◌==◌, nat_lt, Bool, true, false, if◌then◌else◌, List, length, Option, Some, None}
-use Rattle.std.proofs.Common.{refl}
-use Rattle.std.proofs.lemmas.Bool.{eqb-true}
-use Rattle.mv_machine.specs.declared.entry.Reply.{Reply}
-use Rattle.mv_calls.specs.LatchCalls.{Counts}
-use Rattle.std.specs.List.{list_any}
-use Rattle.mv_deck.specs.Deck.{JobData}
-use Rattle.mv_deck.specs.declared.deck.Step.{Step}
-use Rattle.mv_plan.specs.Jobs.{job_at}
-use Rattle.mv_plan.specs.SpoolTasks.{Named, job_named}
+use Rattle.mv_plan.proofs.Words.{◌≡◌, ℕ, zero, suc, ◌+◌, ◌^◌, ◌==◌, nat_lt, Bool, true, false, if◌then◌else◌, List, length, Option, Some}
+use Rattle.mv_plan.proofs.Words.{None, refl, eqb-true, Reply, Counts, list_any, JobData, Step, job_at, Named, job_named}
 use Rattle.mv_ecb.specs.declared.operation.EcbReply.TheVariants as ecb_reply
 use Rattle.mv_machine.specs.declared.entry.Reply.TheVariants as reply_of
 use Rattle.mv_plan.proofs.points.Points.{Point, At, Astray, Running, Hand, InitiatorAt, InJob, Offering, Freeing, Writing, Closing}

@@ -1,23 +1,12 @@
 -- Where a task of the spool stands: the point of its program, the event that it says there, and the point that follows by the
 -- reply. Points of the four tasks are four data; both functions compute, so all later cases are cases of points and replies.
-use Rattle.std.proofs.Common.{ℕ, zero, suc, ◌+◌, ◌==◌, nat_le, nat_lt, Bool, true, false, not, List, [], ◌∷◌, ◌++◌, length, map, filter}
-use Rattle.std.proofs.Common.{Option, Some, None, if◌then◌else◌, ◌^◌}
-use Rattle.std.specs.List.{list_any, range_with_len}
-use Rattle.mv_latch.specs.declared.request.Mode.{Mode}
-use Rattle.mv_machine.specs.declared.entry.Object.{Object}
-use Rattle.mv_machine.specs.declared.entry.Object.TheVariants.{Ecb, Element, Volume, Latches}
-use Rattle.mv_machine.specs.declared.entry.Op.{Op}
-use Rattle.mv_machine.specs.declared.entry.Reply.{Reply}
-use Rattle.mv_machine.specs.System.{with_at}
-use Rattle.mv_deck.specs.Deck.{JobData}
-use Rattle.mv_deck.specs.declared.deck.Step.{Step}
-use Rattle.mv_deck.specs.declared.deck.Step.TheVariants.{Print, Use, Count, Scan, Abend, Return, Free}
-use Rattle.mv_plan.specs.Jobs.{job_at}
-use Rattle.mv_deck.specs.EndCode.{not_run}
-use Rattle.mv_calls.specs.LatchCalls.{Counts}
-use Rattle.mv_plan.specs.SpoolSetup.{entered, end_for_scheduler, end_for_writer, idle, initiator, done}
-use Rattle.mv_plan.specs.SpoolTasks.{Named, job_named, code_of, some_end_above, ends_of}
-use Rattle.mv_calls.specs.Waits.{complete_count}
+use Rattle.mv_plan.proofs.Words.{ℕ, zero, suc, ◌+◌, ◌==◌, nat_le, nat_lt, Bool, true, false, not, List, [], ◌∷◌, ◌++◌, length, map, filter}
+use Rattle.mv_plan.proofs.Words.{Option, Some, None, if◌then◌else◌, ◌^◌, list_any, range_with_len, Mode, Object, Ecb, Element, Volume}
+use Rattle.mv_plan.proofs.Words.{Latches, Op, Reply, with_at, JobData, Step, Print, Use, Count, Scan, Abend, Return, job_at, not_run}
+use Rattle.mv_plan.proofs.Words.{Counts, entered, end_for_scheduler, end_for_writer, idle, initiator, Named, job_named, code_of}
+use Rattle.mv_plan.proofs.Words.{some_end_above, ends_of, complete_count}
+use Rattle.mv_deck.specs.declared.deck.Step.TheVariants.{Free}
+use Rattle.mv_plan.specs.SpoolSetup.{done}
 use Rattle.mv_ecb.specs.declared.operation.EcbOp.TheVariants as ecb_op
 use Rattle.mv_ecb.specs.declared.operation.EcbReply.TheVariants as ecb_reply
 use Rattle.mv_element.specs.declared.operation.ElementOp.TheVariants as element_op

@@ -1,23 +1,18 @@
 -- The rest of a task's program at each of its points, for what the task keeps by then: how points and the programs of
 -- specs/SpoolTasks hang together.
-use Rattle.std.proofs.Common.{ℕ, suc, ◌+◌, ◌-◌, List, [], ◌∷◌, ◌++◌, length, map, false, Option, Some, Result, Ok, ◌==◌, if◌then◌else◌}
-use Rattle.std.specs.List.{range_with_len}
-use Rattle.mv_machine.specs.declared.entry.Object.TheVariants.{Ecb, Element, Volume, Latches}
-use Rattle.mv_machine.specs.Setup.{Setup}
-use Rattle.mv_machine.specs.System.{with_at}
-use Rattle.mv_deck.specs.Deck.{JobData}
-use Rattle.mv_deck.specs.declared.deck.Step.{Step}
-use Rattle.mv_calls.specs.Keeping.{Kept}
-use Rattle.mv_calls.specs.LatchCalls.{Counts, obtained, confirmed, let_go, purged}
-use Rattle.mv_calls.specs.Pauses.{token_of, closed, release, deallocate, pause, Gift, opened, paused, resumed}
-use Rattle.mv_calls.specs.Posts.{Posting, Woke, post, post_within, each_posted, wake_posted}
-use Rattle.mv_calls.specs.Program.{Program, Do, Done, Early, Wrong, Call, and_then, going_on, unrefused, finished, on_ecb, on_element}
-use Rattle.mv_calls.specs.Program.{on_latch, followed, accepted, for_each, on_volume}
-use Rattle.mv_calls.specs.Refusal.{Refusal}
-use Rattle.mv_plan.specs.SpoolSetup.{entered, end_for_scheduler, end_for_writer, idle, initiator, done}
-use Rattle.mv_plan.specs.SpoolTasks.{lowest, some_end_above, ends_awaited, hand_over, code_of, granted_as, named_by, run_job, rounds}
-use Rattle.mv_plan.specs.SpoolTasks.{job_named, first_of, dispatch_all, dismiss, counted, run_steps, ends_kept}
-use Rattle.mv_calls.specs.Waits.{arm_all, settle_all, enough, the_word, extended, extend, the_value, stored, read_volume}
+use Rattle.mv_plan.proofs.Words.{ℕ, suc, ◌+◌, ◌-◌, List, [], ◌∷◌, ◌++◌, length, map, false, Option, Some, Result, Ok, ◌==◌, if◌then◌else◌}
+use Rattle.mv_plan.proofs.Words.{range_with_len, Ecb, Element, Volume, Latches, Setup, with_at, JobData, Step, Kept, Counts, obtained}
+use Rattle.mv_plan.proofs.Words.{token_of, closed, release, deallocate, pause, Posting, Woke, post, post_within, each_posted, wake_posted}
+use Rattle.mv_plan.proofs.Words.{Program, Do, Done, Early, Wrong, Call, and_then, going_on, unrefused, finished, on_ecb, on_element}
+use Rattle.mv_plan.proofs.Words.{on_latch, followed, accepted, Refusal, entered, end_for_scheduler, end_for_writer, idle, initiator, lowest}
+use Rattle.mv_plan.proofs.Words.{some_end_above, ends_awaited, hand_over, code_of, granted_as, named_by, run_job, rounds, job_named}
+use Rattle.mv_plan.proofs.Words.{first_of, arm_all, settle_all, enough, the_word, extended, extend}
+use Rattle.mv_calls.specs.LatchCalls.{confirmed, let_go, purged}
+use Rattle.mv_calls.specs.Pauses.{Gift, opened, paused, resumed}
+use Rattle.mv_calls.specs.Program.{for_each, on_volume}
+use Rattle.mv_plan.specs.SpoolSetup.{done}
+use Rattle.mv_plan.specs.SpoolTasks.{dispatch_all, dismiss, counted, run_steps, ends_kept}
+use Rattle.mv_calls.specs.Waits.{the_value, stored, read_volume}
 use Rattle.mv_ecb.specs.declared.operation.EcbOp.TheVariants as ecb_op
 use Rattle.mv_element.specs.declared.operation.ElementOp.TheVariants as element_op
 use Rattle.mv_latch.specs.declared.operation.LatchOp.TheVariants as latch_op

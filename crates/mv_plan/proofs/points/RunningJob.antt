@@ -1,22 +1,17 @@
 -- An initiator that runs a job goes on with it, is done with it, or is lost; it touches no element and no initiator's block;
 -- and what holds of a job when it is started holds of it as long as it is run. Used by rows, deeds and right codes.
-use Rattle.std.proofs.Common.{◌≡◌, ℕ, zero, suc, ◌+◌, ◌<◌, Bool, true, false, List, [], ◌∷◌, length, Option, Some, None, ◌⊎◌, inl, inr}
-use Rattle.std.proofs.Common.{refl, sym, ap, ◌∙◌, subst, arith, ◌==◌, ◌++◌}
-use Rattle.mv_machine.specs.declared.entry.Reply.{Reply}
-use Rattle.mv_deck.specs.Deck.{JobData}
-use Rattle.mv_deck.specs.declared.deck.Step.{Step}
-use Rattle.mv_deck.specs.declared.deck.Step.TheVariants.{Print, Free}
-use Rattle.mv_plan.specs.Jobs.{job_at}
-use Rattle.std.specs.List.{list_any}
-use Rattle.mv_plan.specs.SpoolTasks.{Named, job_named}
+use Rattle.mv_plan.proofs.Words.{◌≡◌, ℕ, zero, suc, ◌+◌, ◌<◌, Bool, true, false, List, [], ◌∷◌, length, Option, Some, None, ◌⊎◌, inl, inr}
+use Rattle.mv_plan.proofs.Words.{refl, sym, ap, ◌∙◌, subst, arith, ◌==◌, ◌++◌, Reply, JobData, Step, Print, job_at, list_any, Named}
+use Rattle.mv_plan.proofs.Words.{job_named}
+use Rattle.mv_deck.specs.declared.deck.Step.TheVariants.{Free}
 use Rattle.mv_latch.specs.declared.operation.LatchReply.TheVariants as latch_reply
 use Rattle.mv_machine.specs.declared.entry.Reply.TheVariants as reply_of
 use Rattle.mv_machine.specs.declared.entry.VolumeReply.TheVariants as volume_reply
 use Rattle.mv_plan.proofs.points.Points.{Point, At, Astray, Running, Hand, InitiatorAt, Opening, Offering, Pausing, Resuming, Obtaining}
 use Rattle.mv_plan.proofs.points.Points.{Confirming, Freeing, Reading, Writing, Scanning, Rescanning, Purging, EndingJob}
 use Rattle.mv_plan.proofs.points.Points.{EndingForScheduler, EndingForWriter, Closing, initiator_asks, initiator_goes, freeing_at, steps_at}
-use Rattle.mv_plan.proofs.points.Points.{job_start, rounds_after, empty_hand, rounds_from, running, given_at, Finished, TooSoon}
-use Rattle.mv_plan.proofs.points.Points.{JobAt, InJob}
+use Rattle.mv_plan.proofs.points.Points.{job_start, rounds_after, empty_hand, rounds_from, running, given_at, Finished, TooSoon, JobAt}
+use Rattle.mv_plan.proofs.points.Points.{InJob}
 use Rattle.mv_plan.proofs.points.InitiatorSound.{IsRunning, IsInitiatorAt}
 use Rattle.mv_plan.proofs.points.PostsAndWaits.{on_posted_keeps}
 use Rattle.mv_element.specs.declared.operation.ElementReply.TheVariants as element_reply

@@ -1,24 +1,15 @@
 -- The scheduler's program goes from point to point: at each it says the point's event, and a reply leads it on as it leads the
 -- point. Used by Following.
-use Rattle.std.proofs.Common.{◌≡◌, ℕ, zero, suc, ◌+◌, ◌<◌, ◌≤◌, Bool, false, List, [], ◌∷◌, ◌++◌, length, map, Option, Some, None, Ok, inl}
-use Rattle.std.proofs.Common.{inr, refl, sym, ap, ◌∙◌, subst, arith}
-use Rattle.std.specs.List.{AllByRecursion, range_with_len}
-use Rattle.std.proofs.lemmas.List.{length-append}
-use Rattle.std.proofs.lemmas.List.FromFn.{length-map-range_with_len}
-use Rattle.mv_machine.specs.declared.entry.Object.TheVariants.{Ecb}
-use Rattle.mv_machine.specs.declared.entry.Reply.{Reply}
-use Rattle.mv_machine.specs.Setup.{Setup}
-use Rattle.mv_deck.specs.Deck.{JobData}
-use Rattle.mv_deck.specs.declared.deck.After.{After}
-use Rattle.mv_deck.specs.declared.deck.Step.{Step}
-use Rattle.mv_calls.specs.Keeping.{Kept}
-use Rattle.mv_calls.specs.Pauses.{token_of, release, released}
-use Rattle.mv_calls.specs.Program.{Do, Done, Heard, asks, heard, going_on, unrefused, accepted, finished, unless_refused, on_ecb}
-use Rattle.mv_calls.specs.Program.{on_element}
-use Rattle.mv_plan.specs.SpoolSetup.{entered, end_for_scheduler, idle, initiator, done}
-use Rattle.mv_plan.specs.SpoolTasks.{code_of, ends_of, some_end_above, ends_awaited, first_of, hand_over}
-use Rattle.mv_calls.specs.Waits.{AreDistinct, extend, extended, the_word, refused_if, arm_all, settle_all, enough, wait, wait_refusal}
-use Rattle.mv_calls.proofs.Unrefused.{wait_unrefused, IsFree, own_block, extend_unrefused}
+use Rattle.mv_plan.proofs.Words.{◌≡◌, ℕ, zero, suc, ◌+◌, ◌<◌, ◌≤◌, Bool, false, List, [], ◌∷◌, ◌++◌, length, map, Option, Some, None, Ok}
+use Rattle.mv_plan.proofs.Words.{inl, inr, refl, sym, ap, ◌∙◌, subst, arith, AllByRecursion, range_with_len, length-append}
+use Rattle.mv_plan.proofs.Words.{length-map-range_with_len, Ecb, Reply, Setup, JobData, After, Step, Kept, token_of, release, Do, Done}
+use Rattle.mv_plan.proofs.Words.{Heard, asks, heard, going_on, unrefused, accepted, finished, unless_refused, on_ecb, on_element, entered}
+use Rattle.mv_plan.proofs.Words.{end_for_scheduler, idle, initiator, code_of, ends_of, some_end_above, ends_awaited, first_of, hand_over}
+use Rattle.mv_plan.proofs.Words.{AreDistinct, extend, extended, the_word, refused_if, arm_all, settle_all, enough, wait_unrefused}
+use Rattle.mv_calls.specs.Pauses.{released}
+use Rattle.mv_plan.specs.SpoolSetup.{done}
+use Rattle.mv_calls.specs.Waits.{wait, wait_refusal}
+use Rattle.mv_calls.proofs.Unrefused.{IsFree, own_block, extend_unrefused}
 use Rattle.mv_ecb.specs.declared.operation.EcbOp.TheVariants as ecb_op
 use Rattle.mv_ecb.specs.declared.operation.EcbReply.TheVariants as ecb_reply
 use Rattle.mv_element.specs.declared.operation.ElementReply.TheVariants as element_reply

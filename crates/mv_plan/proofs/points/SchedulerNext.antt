@@ -1,13 +1,8 @@
 -- Which points of the scheduler may follow one, as one lemma for any fact of points; and what follows: its errand stays but for
 -- a release, and the job that is next does not fall. Used by the ledger, the closings and the posts.
-use Rattle.std.proofs.Common.{◌≡◌, ℕ, zero, suc, ◌+◌, ◌<◌, ◌≤◌, nat_le, Bool, true, false, cond, List, [], ◌∷◌, ◌++◌, length, Option, refl}
-use Rattle.std.proofs.Common.{arith, ◌⊎◌, inl, inr, ap, ◌∙◌, ◌-◌}
-use Rattle.mv_machine.specs.declared.entry.Reply.{Reply}
-use Rattle.mv_deck.specs.Deck.{JobData}
-use Rattle.mv_deck.specs.declared.deck.After.{After}
-use Rattle.mv_deck.specs.declared.deck.Step.{Step}
-use Rattle.mv_plan.specs.SpoolTasks.{code_of, some_end_above}
-use Rattle.mv_calls.specs.Waits.{complete_count}
+use Rattle.mv_plan.proofs.Words.{◌≡◌, ℕ, zero, suc, ◌+◌, ◌<◌, ◌≤◌, nat_le, Bool, true, false, cond, List, [], ◌∷◌, ◌++◌, length, Option}
+use Rattle.mv_plan.proofs.Words.{refl, arith, ◌⊎◌, inl, inr, ap, ◌∙◌, ◌-◌, Reply, JobData, After, Step, code_of, some_end_above}
+use Rattle.mv_plan.proofs.Words.{complete_count}
 use Rattle.mv_ecb.specs.declared.operation.EcbReply.TheVariants as ecb_reply
 use Rattle.mv_element.specs.declared.operation.ElementReply.TheVariants as element_reply
 use Rattle.mv_machine.specs.declared.entry.Reply.TheVariants as reply_of

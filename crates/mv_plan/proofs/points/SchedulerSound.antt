@@ -1,20 +1,11 @@
 -- Where the scheduler may stand: which jobs are left, which code it hands over; and what it keeps there. Kept by each of its
 -- steps, whatever the reply.
-use Rattle.std.proofs.Common.{◌≡◌, ℕ, zero, suc, ◌+◌, ◌<◌, ◌≤◌, ◌==◌, nat_le, Bool, true, false, cond, if◌then◌else◌, List, [], ◌∷◌, ◌++◌}
-use Rattle.std.proofs.Common.{length, Option, Some, None, ◌⊎◌, inl, inr, refl, sym, ap, ◌∙◌, subst, append-nil, append_assoc, zero-add}
-use Rattle.std.proofs.Common.{arith}
-use Rattle.std.proofs.lemmas.Bool.{ne_eqb, cases_eq, false≢true, false_from_ne_true}
-use Rattle.std.proofs.lemmas.List.{length-append}
-use Rattle.std.proofs.lemmas.List.FromFn.{length-map-range_with_len}
-use Rattle.mv_machine.specs.declared.entry.Reply.{Reply}
-use Rattle.mv_machine.specs.System.{with_at}
-use Rattle.mv_deck.specs.Deck.{JobData}
-use Rattle.mv_deck.specs.declared.deck.After.{After}
-use Rattle.mv_deck.specs.declared.deck.Step.{Step}
-use Rattle.mv_calls.specs.Keeping.{Kept}
-use Rattle.mv_plan.specs.SpoolSetup.{idle, done}
-use Rattle.mv_plan.specs.SpoolTasks.{code_of}
-use Rattle.mv_calls.specs.Waits.{complete_count}
+use Rattle.mv_plan.proofs.Words.{◌≡◌, ℕ, zero, suc, ◌+◌, ◌<◌, ◌≤◌, ◌==◌, nat_le, Bool, true, false, cond, if◌then◌else◌, List, [], ◌∷◌}
+use Rattle.mv_plan.proofs.Words.{◌++◌, length, Option, Some, None, ◌⊎◌, inl, inr, refl, sym, ap, ◌∙◌, subst, append-nil, append_assoc}
+use Rattle.mv_plan.proofs.Words.{zero-add, arith, ne_eqb, cases_eq, false≢true, length-append, length-map-range_with_len, Reply, with_at}
+use Rattle.mv_plan.proofs.Words.{JobData, After, Step, Kept, idle, code_of, complete_count}
+use Rattle.std.proofs.lemmas.Bool.{false_from_ne_true}
+use Rattle.mv_plan.specs.SpoolSetup.{done}
 use Rattle.mv_ecb.specs.declared.operation.EcbReply.TheVariants as ecb_reply
 use Rattle.mv_element.specs.declared.operation.ElementReply.TheVariants as element_reply
 use Rattle.mv_machine.specs.declared.entry.Reply.TheVariants as reply_of

@@ -1,22 +1,9 @@
 -- Each release is of a job or closes an initiator and is accepted, and each initiator is closed once.
-use Rattle.std.proofs.Common.{◌≡◌, ℕ, zero, suc, ◌+◌, ◌-◌, ◌<◌, ◌≤◌, ◌==◌, Bool, true, false, if◌then◌else◌, List, [], ◌∷◌, ◌++◌, length}
-use Rattle.std.proofs.Common.{None, ◌⊎◌, inl, inr, refl, sym, ap, ◌∙◌, subst, arith}
-use Rattle.std.specs.List.{AllByRecursion}
-use Rattle.std.proofs.lemmas.Bool.{cases_eq, cases_lt, eq-eqb, ne_eqb}
-use Rattle.mv_machine.specs.declared.entry.Entry.{Entry}
-use Rattle.mv_machine.specs.declared.entry.Object.{Object}
-use Rattle.mv_machine.specs.declared.entry.Object.TheVariants.{Element}
-use Rattle.mv_machine.specs.declared.entry.Op.{Op}
-use Rattle.mv_machine.specs.declared.entry.Reply.{Reply}
-use Rattle.mv_machine.specs.Legal.{IsNext}
-use Rattle.mv_machine.specs.Setup.{Setup}
-use Rattle.mv_machine.specs.System.{System}
-use Rattle.mv_plan.specs.HandingOut.{release_code, closings, IsRightRelease, is_closing}
-use Rattle.mv_deck.specs.Deck.{JobData}
-use Rattle.mv_plan.specs.SpoolSetup.{scheduler, initiator}
-use Rattle.mv_plan.specs.SpoolTasks.{code_of}
-use Rattle.mv_calls.specs.Keeping.{Kept}
-use Rattle.mv_machine.proofs.Lists.{all_push}
+use Rattle.mv_plan.proofs.Words.{◌≡◌, ℕ, zero, suc, ◌+◌, ◌-◌, ◌<◌, ◌≤◌, ◌==◌, Bool, true, false, if◌then◌else◌, List, [], ◌∷◌, ◌++◌, length}
+use Rattle.mv_plan.proofs.Words.{None, ◌⊎◌, inl, inr, refl, sym, ap, ◌∙◌, subst, arith, AllByRecursion, cases_eq, cases_lt, eq-eqb, ne_eqb}
+use Rattle.mv_plan.proofs.Words.{Entry, Object, Element, Op, Reply, IsNext, Setup, System, release_code, closings, IsRightRelease, JobData}
+use Rattle.mv_plan.proofs.Words.{scheduler, initiator, code_of, Kept, all_push}
+use Rattle.mv_plan.specs.HandingOut.{is_closing}
 use Rattle.mv_element.specs.declared.operation.ElementOp.TheVariants as element_op
 use Rattle.mv_element.specs.declared.operation.ElementReply.TheVariants as element_reply
 use Rattle.mv_machine.specs.declared.entry.Op.TheVariants as op_on

@@ -1,24 +1,10 @@
 -- Exclusion, steady scans, totals and purged requestors of a run, where each job was named once.
-use Rattle.std.proofs.Common.{◌≡◌, ℕ, suc, ◌+◌, ◌<◌, ◌≤◌, ◌==◌, Bool, true, false, if◌then◌else◌, List, [], ◌∷◌, ◌++◌, length, Some, ◌⊎◌}
-use Rattle.std.proofs.Common.{inl, inr, refl, sym, ap, ◌∙◌, subst, append-nil, append_assoc, arith}
-use Rattle.std.specs.List.{AllByRecursion}
-use Rattle.std.proofs.lemmas.Bool.{eq-eqb, eqb-true, false≢true}
-use Rattle.mv_latch.specs.declared.request.Request.{Request}
-use Rattle.mv_latch.specs.LatchSet.{list_of}
-use Rattle.mv_machine.specs.declared.entry.Entry.{Entry}
-use Rattle.mv_machine.specs.declared.entry.Object.TheVariants.{Volume}
-use Rattle.mv_machine.specs.Legal.{next, after, after_from, of, «at»}
-use Rattle.mv_machine.specs.Setup.{Setup}
-use Rattle.mv_machine.specs.System.{System, opening}
-use Rattle.mv_machine.proofs.Standing.{mine}
-use Rattle.mv_plan.specs.HandingOut.{given_codes}
-use Rattle.mv_plan.specs.Purging.{is_obtain, purges, ArePurged, obtains}
-use Rattle.mv_deck.specs.Deck.{JobData}
-use Rattle.mv_report.specs.Outcome.{total}
-use Rattle.mv_calls.specs.Keeping.{Kept}
-use Rattle.mv_plan.specs.SpoolRun.{IsRun}
-use Rattle.mv_plan.specs.SpoolSetup.{initiator, spool_setup}
-use Rattle.mv_machine.specs.Orderly.{purged_by}
+use Rattle.mv_plan.proofs.Words.{◌≡◌, ℕ, suc, ◌+◌, ◌<◌, ◌≤◌, ◌==◌, Bool, true, false, if◌then◌else◌, List, [], ◌∷◌, ◌++◌, length, Some, ◌⊎◌}
+use Rattle.mv_plan.proofs.Words.{inl, inr, refl, sym, ap, ◌∙◌, subst, append-nil, append_assoc, arith, AllByRecursion, eq-eqb, eqb-true}
+use Rattle.mv_plan.proofs.Words.{false≢true, Request, list_of, Entry, Volume, next, after, after_from, of, «at», Setup, System, opening}
+use Rattle.mv_plan.proofs.Words.{mine, given_codes, is_obtain, purges, ArePurged, JobData, total, Kept, IsRun, initiator, spool_setup}
+use Rattle.mv_plan.proofs.Words.{purged_by}
+use Rattle.mv_plan.specs.Purging.{obtains}
 use Rattle.mv_plan.specs.CountingAlone.{IsCountedBy, CountsStandAlone, ScansAreSteady}
 use Rattle.mv_plan.proofs.deck.Plans.{IsPlanned}
 use Rattle.mv_plan.proofs.walks.Always.{Always, always_now, always_next, always_rest, always_keeps}

@@ -1,20 +1,9 @@
 -- Behind a run each job was released once and given once, the other releases closed each initiator once, all were accepted and
 -- reached their pauses, and all elements are free. All but the marks of specs/HandingOut.
-use Rattle.std.proofs.Common.{◌≡◌, ℕ, ◌-◌, ◌<◌, ◌≤◌, Bool, List, [], length, Some, None, inl, inr, refl, sym, ap, ◌∙◌, subst, arith, ◌∷◌}
-use Rattle.std.proofs.lemmas.Bool.{cases_lt}
-use Rattle.mv_element.specs.declared.element.ElementState.{ElementState}
-use Rattle.mv_element.specs.Element.{reset}
-use Rattle.mv_machine.specs.declared.entry.Entry.{Entry}
-use Rattle.mv_machine.specs.Elements.{element_events}
-use Rattle.mv_machine.specs.Legal.{IsNext, after}
-use Rattle.mv_machine.specs.Setup.{Setup}
-use Rattle.mv_machine.specs.System.{System, opening}
-use Rattle.mv_plan.specs.HandingOut.{released_codes, given_codes, closings, IsRightRelease}
-use Rattle.mv_deck.specs.Deck.{JobData}
-use Rattle.mv_plan.specs.SpoolRun.{IsRun}
-use Rattle.mv_plan.specs.SpoolSetup.{spool_setup, initiator}
-use Rattle.mv_plan.specs.SpoolTasks.{code_of}
-use Rattle.std.specs.List.{AllByRecursion}
+use Rattle.mv_plan.proofs.Words.{◌≡◌, ℕ, ◌-◌, ◌<◌, ◌≤◌, Bool, List, [], length, Some, None, inl, inr, refl, sym, ap, ◌∙◌, subst, arith, ◌∷◌}
+use Rattle.mv_plan.proofs.Words.{cases_lt, ElementState, reset, Entry, element_events, IsNext, after, Setup, System, opening}
+use Rattle.mv_plan.proofs.Words.{released_codes, given_codes, closings, IsRightRelease, JobData, IsRun, spool_setup, initiator, code_of}
+use Rattle.mv_plan.proofs.Words.{AllByRecursion}
 use Rattle.mv_element.specs.declared.element.Phase.TheVariants as phase
 use Rattle.mv_plan.proofs.deck.Plans.{IsPlanned}
 use Rattle.mv_machine.specs.Orderly.{IsExact}
@@ -25,10 +14,8 @@ use Rattle.mv_plan.proofs.standing.Row.{RowAt, element_of}
 use Rattle.mv_plan.proofs.places.Places.{Place, Coming, Handed, Run, Over, Places}
 use Rattle.mv_plan.proofs.places.Ledger.{Account, element_code}
 use Rattle.mv_plan.proofs.deck.Setup.{facts}
-use Rattle.mv_plan.proofs.points.Points.{Point, At, Arming, Settling, ReaderAt, Entering, reader_asks, SchedulerAt, Waits}
-use Rattle.mv_plan.proofs.points.Points.{scheduler_asks, WriterAt, Keeping, writer_asks, Running, InitiatorAt}
-use Rattle.mv_plan.proofs.points.Points.{Obtaining}
-use Rattle.mv_plan.proofs.points.Points.{Closing, initiator_asks, InJob}
+use Rattle.mv_plan.proofs.points.Points.{Point, At, Arming, Settling, ReaderAt, Entering, reader_asks, SchedulerAt, Waits, scheduler_asks}
+use Rattle.mv_plan.proofs.points.Points.{WriterAt, Keeping, writer_asks, Running, InitiatorAt, Obtaining, Closing, initiator_asks, InJob}
 use Rattle.mv_plan.proofs.walks.Histories.{Stood, stood, AreFinished, run_finished}
 use Rattle.mv_plan.proofs.places.Moments.{Moment, walk_moments}
 use Rattle.mv_plan.proofs.standing.Rows.{Rows}

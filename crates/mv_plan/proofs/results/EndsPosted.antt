@@ -1,22 +1,10 @@
 -- Behind a run each job's end was posted once to each of its three blocks: specs/PostingEnds. The marks that were released are
 -- the deck's, no post came second, and the writer has kept the deck's ends.
-use Rattle.std.proofs.Common.{◌≡◌, ℕ, ◌+◌, ◌<◌, ◌≤◌, List, [], ◌∷◌, ◌++◌, length, map, Some, None, refl, ap, ◌∙◌, subst}
-use Rattle.std.specs.List.{AllByRecursion}
-use Rattle.mv_ecb.specs.Word.{EcbState, Complete}
-use Rattle.mv_machine.specs.declared.entry.Entry.{Entry}
-use Rattle.mv_machine.specs.declared.entry.Reply.{Reply}
-use Rattle.mv_machine.specs.Legal.{IsNext, next, after}
-use Rattle.mv_machine.specs.Setup.{Setup}
-use Rattle.mv_machine.specs.System.{System, opening}
-use Rattle.mv_plan.specs.PostingEnds.{posts, post_codes, EndsArePosted}
-use Rattle.mv_deck.specs.Deck.{JobData}
-use Rattle.mv_plan.specs.Jobs.{end_of}
-use Rattle.mv_report.specs.Outcome.{ends}
-use Rattle.mv_calls.specs.Program.{Done}
-use Rattle.mv_calls.specs.Runs.{left_in}
-use Rattle.mv_plan.specs.SpoolRun.{IsRun}
-use Rattle.mv_plan.specs.SpoolSetup.{spool_setup, end_for_scheduler, end_for_writer, idle, writer, done}
-use Rattle.mv_plan.specs.SpoolTasks.{task_program}
+use Rattle.mv_plan.proofs.Words.{◌≡◌, ℕ, ◌+◌, ◌<◌, ◌≤◌, List, [], ◌∷◌, ◌++◌, length, map, Some, None, refl, ap, ◌∙◌, subst, AllByRecursion}
+use Rattle.mv_plan.proofs.Words.{EcbState, Complete, Entry, Reply, IsNext, next, after, Setup, System, opening, posts, post_codes}
+use Rattle.mv_plan.proofs.Words.{EndsArePosted, JobData, end_of, ends, Done, left_in, IsRun, spool_setup, end_for_scheduler, end_for_writer}
+use Rattle.mv_plan.proofs.Words.{idle, writer, task_program}
+use Rattle.mv_plan.specs.SpoolSetup.{done}
 use Rattle.mv_ecb.specs.declared.operation.EcbReply.TheVariants as ecb_reply
 use Rattle.mv_machine.specs.declared.entry.Reply.TheVariants as reply_of
 use Rattle.mv_plan.proofs.deck.Plans.{IsPlanned}

@@ -1,10 +1,5 @@
 -- Each run counts alone and purges each job once: specs/CountingAlone and specs/Purging.
-use Rattle.std.proofs.Common.{◌≡◌, ℕ, ◌<◌, ◌≤◌, List, length, ap}
-use Rattle.mv_machine.specs.declared.entry.Entry.{Entry}
-use Rattle.mv_plan.specs.HandingOut.{given_codes, AreHandedOut}
-use Rattle.mv_plan.specs.Purging.{ArePurged}
-use Rattle.mv_deck.specs.Deck.{JobData}
-use Rattle.mv_plan.specs.SpoolRun.{IsRun}
+use Rattle.mv_plan.proofs.Words.{◌≡◌, ℕ, ◌<◌, ◌≤◌, List, length, ap, Entry, given_codes, AreHandedOut, ArePurged, JobData, IsRun}
 use Rattle.mv_plan.specs.CountingAlone.{AreCountedAlone}
 use Rattle.mv_plan.proofs.deck.Plans.{IsPlanned}
 use Rattle.mv_plan.proofs.results.CountsAlone.{counts_alone, scans_steady, totals_are, are_purged}

@@ -1,26 +1,13 @@
 -- No reply leads the reader, the scheduler or the writer astray, nor an initiator in its rounds.
-use Rattle.std.proofs.Common.{◌≡◌, ℕ, zero, suc, ◌+◌, ◌<◌, ◌≤◌, ◌==◌, nat_le, Bool, true, false, IsTrue, cond, if◌then◌else◌, List, [], ◌∷◌}
-use Rattle.std.proofs.Common.{◌++◌, length, Option, Some, None, ◌⊎◌, inl, inr, refl, sym, ap, ◌∙◌, subst, arith}
-use Rattle.std.specs.List.{AllByRecursion}
-use Rattle.std.proofs.lemmas.Bool.{eq-eqb, leb-true}
-use Rattle.mv_ecb.specs.Table.{ecb_step}
-use Rattle.mv_ecb.specs.Word.{EcbState, Zero, Extended, Complete, word_of, Waiting}
-use Rattle.mv_element.specs.declared.operation.ElementReply.{ElementReply}
-use Rattle.mv_element.specs.declared.element.ElementState.{ElementState}
-use Rattle.mv_element.specs.Table.{element_step}
-use Rattle.mv_latch.specs.LatchSet.{latch_step}
-use Rattle.mv_machine.specs.declared.entry.Reply.{Reply}
-use Rattle.mv_machine.specs.Setup.{Setup, owner_of}
-use Rattle.mv_machine.specs.System.{System, admitted, reply_to}
-use Rattle.mv_deck.specs.Deck.{JobData}
-use Rattle.mv_deck.specs.declared.deck.After.{After}
-use Rattle.mv_deck.specs.declared.deck.Step.{Step}
-use Rattle.mv_deck.specs.declared.deck.Step.TheVariants.{Print, Free}
-use Rattle.mv_plan.specs.Jobs.{job_at}
-use Rattle.mv_calls.specs.LatchCalls.{Counts}
-use Rattle.mv_plan.specs.SpoolSetup.{reader, scheduler, initiator, writer, entered, end_for_scheduler, end_for_writer, idle, done}
-use Rattle.mv_plan.specs.SpoolTasks.{job_named, code_of, not_to_run}
-use Rattle.mv_calls.specs.Waits.{complete_count}
+use Rattle.mv_plan.proofs.Words.{◌≡◌, ℕ, zero, suc, ◌+◌, ◌<◌, ◌≤◌, ◌==◌, nat_le, Bool, true, false, IsTrue, cond, if◌then◌else◌, List, []}
+use Rattle.mv_plan.proofs.Words.{◌∷◌, ◌++◌, length, Option, Some, None, ◌⊎◌, inl, inr, refl, sym, ap, ◌∙◌, subst, arith, AllByRecursion}
+use Rattle.mv_plan.proofs.Words.{eq-eqb, leb-true, ecb_step, EcbState, Zero, Extended, Complete, word_of, ElementReply, ElementState}
+use Rattle.mv_plan.proofs.Words.{element_step, latch_step, Reply, Setup, owner_of, System, admitted, reply_to, JobData, After, Step, Print}
+use Rattle.mv_plan.proofs.Words.{job_at, Counts, reader, scheduler, initiator, writer, entered, end_for_scheduler, end_for_writer, idle}
+use Rattle.mv_plan.proofs.Words.{job_named, code_of, not_to_run, complete_count}
+use Rattle.mv_ecb.specs.Word.{Waiting}
+use Rattle.mv_deck.specs.declared.deck.Step.TheVariants.{Free}
+use Rattle.mv_plan.specs.SpoolSetup.{done}
 use Rattle.mv_ecb.specs.declared.operation.EcbOp.TheVariants as ecb_op
 use Rattle.mv_ecb.specs.declared.operation.EcbReply.TheVariants as ecb_reply
 use Rattle.mv_element.specs.declared.operation.ElementOp.TheVariants as element_op
@@ -39,16 +26,16 @@ use Rattle.mv_plan.proofs.places.Places.{Place, Handed, Over}
 use Rattle.mv_plan.proofs.places.LedgerMoves.{has_stance}
 use Rattle.mv_plan.proofs.places.Ledger.{element_code}
 use Rattle.mv_plan.proofs.deck.Setup.{Facts}
-use Rattle.mv_plan.proofs.points.Points.{Point, At, TooSoon, Astray, Stage, Dispatching, Dismissing, Awaited, ForEntry, ForEnds}
-use Rattle.mv_plan.proofs.points.Points.{ForIdle, ToDismiss, Arming, Settling, ReaderAt, Entering, entering_from, reader_asks, reader_goes}
+use Rattle.mv_plan.proofs.points.Points.{Point, At, TooSoon, Astray, Stage, Dispatching, Dismissing, Awaited, ForEntry, ForEnds, ForIdle}
+use Rattle.mv_plan.proofs.points.Points.{ToDismiss, Arming, Settling, ReaderAt, Entering, entering_from, reader_asks, reader_goes}
 use Rattle.mv_plan.proofs.points.Points.{SchedulerAt, Waits, Extends, Clears, Releases, awaited_blocks, awaited_count, scheduler_asks}
 use Rattle.mv_plan.proofs.points.Points.{scheduler_goes, arming_first, arming_from, settling_from, found_at, ends_at, dismissing_from}
 use Rattle.mv_plan.proofs.points.Points.{stage_at, lowest_at, on_posted, on_armed, on_settled, on_released, WriterAt, Keeping, writer_asks}
 use Rattle.mv_plan.proofs.points.Points.{writer_goes, writing_from, writer_arming, end_found, Hand, empty_hand, Running, running}
-use Rattle.mv_plan.proofs.points.Points.{InitiatorAt, Opening, Offering, Pausing, Resuming}
-use Rattle.mv_plan.proofs.points.Points.{Purging, EndingJob, EndingForScheduler, EndingForWriter, Closing}
-use Rattle.mv_plan.proofs.points.Points.{initiator_asks, initiator_goes, rounds_from, rounds_after, freeing_at, steps_at, job_start}
-use Rattle.mv_plan.proofs.points.Points.{named_at, given_at, on_opened, on_paused, on_resumed, on_closed, on_ended, InJob}
+use Rattle.mv_plan.proofs.points.Points.{InitiatorAt, Opening, Offering, Pausing, Resuming, Purging, EndingJob, EndingForScheduler}
+use Rattle.mv_plan.proofs.points.Points.{EndingForWriter, Closing, initiator_asks, initiator_goes, rounds_from, rounds_after, freeing_at}
+use Rattle.mv_plan.proofs.points.Points.{steps_at, job_start, named_at, given_at, on_opened, on_paused, on_resumed, on_closed, on_ended}
+use Rattle.mv_plan.proofs.points.Points.{InJob}
 use Rattle.mv_plan.proofs.points.SchedulerSound.{IsSchedulerAt}
 use Rattle.mv_plan.proofs.standing.Rows.{Accepts, row_accepts}
 use Rattle.mv_plan.proofs.ends.RightCodes.{IsCode}

@@ -1,23 +1,10 @@
 -- Each run hands out each job once, with its code: specs/HandingOut.
-use Rattle.std.proofs.Common.{◌≡◌, ℕ, ◌<◌, ◌≤◌, ◌==◌, List, [], ◌∷◌, length, ap, ◌∙◌, ◌||◌, Bool, true, false, if◌then◌else◌, Option, Some}
-use Rattle.std.proofs.Common.{None, refl, sym, subst}
-use Rattle.mv_machine.specs.declared.entry.Entry.{Entry}
-use Rattle.mv_machine.specs.System.{opening, System, admitted}
-use Rattle.mv_plan.specs.HandingOut.{AreHandedOut, release_code, naming, released_codes, IsHandedOut}
-use Rattle.mv_deck.specs.Deck.{JobData}
-use Rattle.mv_plan.specs.Jobs.{end_of}
-use Rattle.mv_deck.specs.EndCode.{not_run}
-use Rattle.mv_plan.specs.SpoolRun.{IsRun}
-use Rattle.mv_plan.specs.SpoolSetup.{spool_setup}
-use Rattle.mv_plan.specs.SpoolTasks.{code_of}
-use Rattle.std.specs.List.{AllByRecursion}
-use Rattle.std.proofs.lemmas.Bool.{false≢true}
-use Rattle.mv_element.specs.declared.operation.ElementOp.{ElementOp}
-use Rattle.mv_machine.specs.declared.entry.Object.{Object}
-use Rattle.mv_machine.specs.declared.entry.Object.TheVariants.{Element}
-use Rattle.mv_machine.specs.declared.entry.Op.{Op}
-use Rattle.mv_machine.specs.Legal.{next, LegalFrom}
-use Rattle.mv_machine.specs.Setup.{Setup}
+use Rattle.mv_plan.proofs.Words.{◌≡◌, ℕ, ◌<◌, ◌≤◌, ◌==◌, List, [], ◌∷◌, length, ap, ◌∙◌, ◌||◌, Bool, true, false, if◌then◌else◌, Option}
+use Rattle.mv_plan.proofs.Words.{Some, None, refl, sym, subst, Entry, opening, System, admitted, AreHandedOut, release_code, naming}
+use Rattle.mv_plan.proofs.Words.{released_codes, JobData, end_of, not_run, IsRun, spool_setup, code_of, AllByRecursion, false≢true}
+use Rattle.mv_plan.proofs.Words.{ElementOp, Object, Element, Op, next, Setup}
+use Rattle.mv_plan.specs.HandingOut.{IsHandedOut}
+use Rattle.mv_machine.specs.Legal.{LegalFrom}
 use Rattle.mv_plan.proofs.deck.Plans.{IsPlanned}
 use Rattle.mv_plan.proofs.results.Dispatched.{are_dispatched, all_free, is_exact, IsDispatched, AreDispatched}
 use Rattle.mv_plan.proofs.results.EndsPosted.{marks_are_right}

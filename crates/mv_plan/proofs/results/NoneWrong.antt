@@ -1,16 +1,7 @@
 -- No task of the spool goes wrong: what stands of blocks, of elements and rounds, and of latches and volumes, put together by
 -- SafeWalks.
-use Rattle.std.proofs.Common.{◌≡◌, ℕ, ◌+◌, ◌<◌, ◌≤◌, List, length, refl, sym, ap, ◌∙◌, arith}
-use Rattle.mv_machine.specs.declared.entry.Entry.{Entry}
-use Rattle.mv_machine.specs.Legal.{IsNext, after}
-use Rattle.mv_machine.specs.Setup.{Setup}
-use Rattle.mv_machine.specs.System.{System}
-use Rattle.mv_deck.specs.Deck.{JobData}
-use Rattle.mv_calls.specs.Program.{Wrong}
-use Rattle.mv_calls.specs.Runs.{left_in}
-use Rattle.mv_plan.specs.SpoolRun.{Follows}
-use Rattle.mv_plan.specs.SpoolSetup.{spool_setup, scheduler, initiator}
-use Rattle.mv_plan.specs.SpoolTasks.{task_program}
+use Rattle.mv_plan.proofs.Words.{◌≡◌, ℕ, ◌+◌, ◌<◌, ◌≤◌, List, length, refl, sym, ap, ◌∙◌, arith, Entry, IsNext, after, Setup, System}
+use Rattle.mv_plan.proofs.Words.{JobData, Wrong, left_in, Follows, spool_setup, scheduler, initiator, task_program}
 use Rattle.mv_plan.proofs.deck.Plans.{IsPlanned}
 use Rattle.mv_plan.proofs.ends.Posted.{extend_is_armed}
 use Rattle.mv_plan.proofs.deck.Ends.{few_jobs}
@@ -18,8 +9,7 @@ use Rattle.mv_plan.proofs.results.EndsPosted.{Ends, ends_first, ends_next}
 use Rattle.mv_plan.proofs.results.Foreseen.{IsForeseen}
 use Rattle.mv_plan.proofs.walks.Moves.{entry_next}
 use Rattle.mv_plan.proofs.deck.Setup.{facts}
-use Rattle.mv_plan.proofs.points.Points.{Point, At, Astray, SchedulerAt, Extends, scheduler_asks, InitiatorAt}
-use Rattle.mv_plan.proofs.points.Points.{initiator_asks}
+use Rattle.mv_plan.proofs.points.Points.{Point, At, Astray, SchedulerAt, Extends, scheduler_asks, InitiatorAt, initiator_asks}
 use Rattle.mv_plan.proofs.points.Points.{initiator_goes}
 use Rattle.mv_plan.proofs.results.SafeWalks.{Safe, OthersForeseen, walk_safe, not_wrong, none_lost_at_start}
 use Rattle.mv_plan.proofs.serving.Served.{Served, served_start}

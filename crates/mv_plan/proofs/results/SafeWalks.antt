@@ -1,19 +1,9 @@
 -- A walk on which no wait ended too soon loses no task, where an invariant shows that the other replies lead nobody astray; and
 -- a task that is not lost is not wrong.
-use Rattle.std.proofs.Common.{◌≡◌, ℕ, zero, suc, ◌+◌, ◌-◌, ◌<◌, ◌≤◌, List, [], ◌∷◌, ◌++◌, length, ◌⊎◌, inl, inr, refl, sym, ap, ◌∙◌, subst}
-use Rattle.std.proofs.Common.{arith, Some, Bool}
-use Rattle.std.specs.List.{AllByRecursion}
-use Rattle.std.proofs.lemmas.Bool.{cases_eq, cases_lt}
-use Rattle.mv_machine.specs.declared.entry.Entry.{Entry}
-use Rattle.mv_machine.specs.Legal.{IsNext, next, after_from}
-use Rattle.mv_machine.specs.Setup.{Setup}
-use Rattle.mv_machine.specs.System.{System, opening}
-use Rattle.mv_machine.specs.declared.entry.Reply.{Reply}
-use Rattle.mv_deck.specs.Deck.{JobData}
-use Rattle.mv_calls.specs.Program.{Wrong}
-use Rattle.mv_calls.specs.Runs.{left_in}
-use Rattle.mv_plan.specs.SpoolSetup.{spool_setup, reader, scheduler, initiator, writer}
-use Rattle.mv_plan.specs.SpoolTasks.{not_to_run, task_program}
+use Rattle.mv_plan.proofs.Words.{◌≡◌, ℕ, zero, suc, ◌+◌, ◌-◌, ◌<◌, ◌≤◌, List, [], ◌∷◌, ◌++◌, length, ◌⊎◌, inl, inr, refl, sym, ap, ◌∙◌}
+use Rattle.mv_plan.proofs.Words.{subst, arith, Some, Bool, AllByRecursion, cases_eq, cases_lt, Entry, IsNext, next, after_from, Setup}
+use Rattle.mv_plan.proofs.Words.{System, opening, Reply, JobData, Wrong, left_in, spool_setup, reader, scheduler, initiator, writer}
+use Rattle.mv_plan.proofs.Words.{not_to_run, task_program}
 use Rattle.mv_ecb.specs.declared.operation.EcbReply.TheVariants as ecb_reply
 use Rattle.mv_machine.specs.declared.entry.Reply.TheVariants as reply_of
 use Rattle.mv_plan.proofs.deck.Plans.{ArePlannedJobs, IsPlanned}
@@ -28,10 +18,9 @@ use Rattle.mv_plan.proofs.places.Places.{Place, Coming, Over}
 use Rattle.mv_plan.proofs.deck.Setup.{Facts}
 use Rattle.mv_plan.proofs.points.Programs.{reader_program, scheduler_program, writer_program, initiator_program}
 use Rattle.mv_plan.proofs.points.Points.{Point, At, Finished, TooSoon, Astray, Dispatching, stage_at, dismissing_from, entering_from}
-use Rattle.mv_plan.proofs.points.Points.{writing_from, reader_asks, SchedulerAt, Extends, scheduler_asks}
-use Rattle.mv_plan.proofs.points.Points.{scheduler_goes, writer_asks, InitiatorAt}
-use Rattle.mv_plan.proofs.points.Points.{Purging, EndingJob}
-use Rattle.mv_plan.proofs.points.Points.{EndingForScheduler, EndingForWriter, initiator_asks, initiator_goes, InJob}
+use Rattle.mv_plan.proofs.points.Points.{writing_from, reader_asks, SchedulerAt, Extends, scheduler_asks, scheduler_goes, writer_asks}
+use Rattle.mv_plan.proofs.points.Points.{InitiatorAt, Purging, EndingJob, EndingForScheduler, EndingForWriter, initiator_asks}
+use Rattle.mv_plan.proofs.points.Points.{initiator_goes, InJob}
 use Rattle.mv_plan.proofs.points.Scheduler.{scheduler_says}
 use Rattle.mv_plan.proofs.points.SchedulerSound.{IsSchedulerAt}
 use Rattle.mv_plan.proofs.walks.Histories.{Stood, AreInTime, in_time, wrong_point}

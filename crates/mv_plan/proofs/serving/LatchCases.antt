@@ -1,20 +1,9 @@
 -- No reply leads an initiator astray at a latch or a volume, where the hands are right and the sum is small.
-use Rattle.std.proofs.Common.{◌≡◌, ℕ, ◌+◌, ◌<◌, ◌^◌, nat_lt, Bool, true, false, if◌then◌else◌, List, ◌∷◌, Some, refl, sym, ap, ◌∙◌, subst}
-use Rattle.std.specs.List.{list_any}
-use Rattle.std.proofs.lemmas.Bool.{lt-ltb, false≢true}
-use Rattle.mv_latch.specs.declared.operation.LatchOp.{LatchOp}
-use Rattle.mv_latch.specs.Latch.{grants, granted}
-use Rattle.mv_latch.specs.LatchSet.{list_of, latch_step}
-use Rattle.mv_latch.specs.Request.{is_own}
-use Rattle.mv_machine.specs.declared.entry.Object.TheVariants.{Volume, Latches}
-use Rattle.mv_machine.specs.declared.entry.Reply.{Reply}
-use Rattle.mv_machine.specs.Legal.{IsNext}
-use Rattle.mv_machine.specs.Setup.{Setup}
-use Rattle.mv_machine.specs.System.{System, volume_step}
-use Rattle.mv_deck.specs.Deck.{JobData}
-use Rattle.mv_deck.specs.declared.deck.Step.{Step}
-use Rattle.mv_deck.specs.declared.deck.Step.TheVariants.{Print, Free}
-use Rattle.mv_plan.specs.SpoolSetup.{initiator}
+use Rattle.mv_plan.proofs.Words.{◌≡◌, ℕ, ◌+◌, ◌<◌, ◌^◌, nat_lt, Bool, true, false, if◌then◌else◌, List, ◌∷◌, Some, refl, sym, ap, ◌∙◌}
+use Rattle.mv_plan.proofs.Words.{subst, list_any, lt-ltb, false≢true, LatchOp, grants, granted, list_of, latch_step, is_own, Volume}
+use Rattle.mv_plan.proofs.Words.{Latches, Reply, IsNext, Setup, System, JobData, Step, Print, initiator}
+use Rattle.mv_machine.specs.System.{volume_step}
+use Rattle.mv_deck.specs.declared.deck.Step.TheVariants.{Free}
 use Rattle.mv_latch.specs.declared.operation.LatchOp.TheVariants as latch_op
 use Rattle.mv_latch.specs.declared.operation.LatchReply.TheVariants as latch_reply
 use Rattle.mv_latch.specs.declared.request.LatchForm.TheVariants as form_of
@@ -29,8 +18,7 @@ use Rattle.mv_plan.proofs.latches.Hands.{grip, OwnsBy, confirm_stands, free_stan
 use Rattle.mv_plan.proofs.points.InitiatorSound.{held_of, IsHand, IsInitiatorAt, held_request, obtained_stand, freed_stand}
 use Rattle.mv_plan.proofs.latches.Lists.{new_request, obtained_reply, released_reply}
 use Rattle.mv_plan.proofs.points.Points.{Point, At, Astray, Running, Hand, hand_with, hand_without, InitiatorAt, Obtaining, Confirming}
-use Rattle.mv_plan.proofs.points.Points.{Freeing, Reading, Writing, Scanning, Rescanning, initiator_goes, freeing_at, steps_at}
-use Rattle.mv_plan.proofs.points.Points.{InJob}
+use Rattle.mv_plan.proofs.points.Points.{Freeing, Reading, Writing, Scanning, Rescanning, initiator_goes, freeing_at, steps_at, InJob}
 use Rattle.mv_plan.proofs.volumes.Dues.{NextAt}
 use Rattle.mv_plan.proofs.points.Views.{IsOfRounds}
 

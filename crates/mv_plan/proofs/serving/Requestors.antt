@@ -1,25 +1,11 @@
 -- How often a job's requestor is purged: as often as the job was named, but for who still works on it. So a job that is named
 -- once has one initiator, and none that works on it has purged it.
-use Rattle.std.proofs.Common.{◌≡◌, ℕ, zero, suc, ◌+◌, ◌<◌, ◌≤◌, ◌==◌, ◌||◌, Bool, true, false, if◌then◌else◌, List, [], ◌∷◌, ◌++◌, length}
-use Rattle.std.proofs.Common.{Option, Some, None, inl, inr, refl, sym, ap, ◌∙◌, subst, arith}
-use Rattle.std.proofs.lemmas.Bool.{cases_eq, eq-eqb, ne_eqb, eqb-true, or_left, or_right, false≢true}
-use Rattle.std.proofs.lemmas.List.{length-append}
-use Rattle.std.proofs.lemmas.List.Elements.{filter-append, filter_map-append}
-use Rattle.mv_machine.specs.declared.entry.Entry.{Entry}
-use Rattle.mv_machine.specs.declared.entry.Object.{Object}
-use Rattle.mv_machine.specs.declared.entry.Op.{Op}
-use Rattle.mv_machine.specs.declared.entry.Reply.{Reply}
-use Rattle.mv_machine.specs.Legal.{IsNext}
-use Rattle.mv_machine.specs.Setup.{Setup}
-use Rattle.mv_machine.specs.System.{System, with_at}
-use Rattle.mv_plan.specs.HandingOut.{gift_code, naming, given_codes}
-use Rattle.mv_plan.specs.Purging.{is_obtain, purges}
-use Rattle.mv_deck.specs.Deck.{JobData}
-use Rattle.mv_deck.specs.declared.deck.Step.{Step}
-use Rattle.mv_deck.specs.declared.deck.Step.TheVariants.{Print, Free}
-use Rattle.mv_plan.specs.Jobs.{job_at}
-use Rattle.mv_plan.specs.SpoolTasks.{code_of, not_to_run}
-use Rattle.mv_machine.specs.Orderly.{purged_by}
+use Rattle.mv_plan.proofs.Words.{◌≡◌, ℕ, zero, suc, ◌+◌, ◌<◌, ◌≤◌, ◌==◌, ◌||◌, Bool, true, false, if◌then◌else◌, List, [], ◌∷◌, ◌++◌}
+use Rattle.mv_plan.proofs.Words.{length, Option, Some, None, inl, inr, refl, sym, ap, ◌∙◌, subst, arith, cases_eq, eq-eqb, ne_eqb, eqb-true}
+use Rattle.mv_plan.proofs.Words.{or_left, or_right, false≢true, length-append, filter-append, filter_map-append, Entry, Object, Op, Reply}
+use Rattle.mv_plan.proofs.Words.{IsNext, Setup, System, with_at, gift_code, naming, given_codes, is_obtain, purges, JobData, Step, Print}
+use Rattle.mv_plan.proofs.Words.{job_at, code_of, not_to_run, purged_by}
+use Rattle.mv_deck.specs.declared.deck.Step.TheVariants.{Free}
 use Rattle.mv_element.specs.declared.operation.ElementReply.TheVariants as element_reply
 use Rattle.mv_latch.specs.declared.operation.LatchReply.TheVariants as latch_reply
 use Rattle.mv_machine.specs.declared.entry.Reply.TheVariants as reply_of
@@ -30,9 +16,8 @@ use Rattle.mv_plan.proofs.points.InitiatorSound.{named_is, IsInitiatorAt}
 use Rattle.mv_plan.proofs.points.Points.{Point, At, Running, Hand, empty_hand, InitiatorAt, Opening, Offering, Pausing, Resuming}
 use Rattle.mv_plan.proofs.points.Points.{rounds_after, Obtaining, Confirming, Freeing, Reading, Writing, Scanning, Rescanning, Purging}
 use Rattle.mv_plan.proofs.points.Points.{EndingJob, EndingForScheduler, EndingForWriter, Closing, initiator_asks, initiator_goes}
-use Rattle.mv_plan.proofs.points.Points.{rounds_from, steps_at, running, job_start, given_at, ReaderAt, Entering}
-use Rattle.mv_plan.proofs.points.Points.{SchedulerAt, Waits, Arming, Settling, WriterAt, Keeping, reader_asks}
-use Rattle.mv_plan.proofs.points.Points.{scheduler_asks, writer_asks, InJob}
+use Rattle.mv_plan.proofs.points.Points.{rounds_from, steps_at, running, job_start, given_at, ReaderAt, Entering, SchedulerAt, Waits}
+use Rattle.mv_plan.proofs.points.Points.{Arming, Settling, WriterAt, Keeping, reader_asks, scheduler_asks, writer_asks, InJob}
 use Rattle.mv_plan.proofs.walks.Walks.{Points, start_points, Move, reads, schedules, initiates, writes}
 use Rattle.mv_plan.proofs.volumes.Sums.{sum_to, sum_zero, sum_member, sum_with_at, sum_change}
 use Rattle.mv_plan.proofs.walks.NoneLost.{NoneLost, none_lost_before}

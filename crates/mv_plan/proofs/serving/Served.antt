@@ -1,13 +1,6 @@
 -- What is kept of latches, volumes and requestors at each moment, in one record.
-use Rattle.std.proofs.Common.{◌≡◌, ℕ, ◌+◌, ◌<◌, ◌≤◌, true, false, List, [], ◌∷◌, ◌++◌, length, ap, ◌∙◌, subst, arith}
-use Rattle.mv_machine.specs.declared.entry.Entry.{Entry}
-use Rattle.mv_machine.specs.Legal.{IsNext, next}
-use Rattle.mv_machine.specs.Setup.{Setup}
-use Rattle.mv_machine.specs.System.{System, opening}
-use Rattle.mv_plan.specs.HandingOut.{given_codes}
-use Rattle.mv_deck.specs.Deck.{JobData}
-use Rattle.mv_plan.specs.SpoolSetup.{initiator}
-use Rattle.mv_plan.specs.SpoolTasks.{code_of, not_to_run}
+use Rattle.mv_plan.proofs.Words.{◌≡◌, ℕ, ◌+◌, ◌<◌, ◌≤◌, true, false, List, [], ◌∷◌, ◌++◌, length, ap, ◌∙◌, subst, arith, Entry, IsNext}
+use Rattle.mv_plan.proofs.Words.{next, Setup, System, opening, given_codes, JobData, initiator, code_of, not_to_run}
 use Rattle.mv_machine.proofs.EntryRuns.{entry_of}
 use Rattle.mv_plan.proofs.deck.Plans.{IsPlanned}
 use Rattle.mv_plan.proofs.volumes.Alone.{Latched, latched_next, latched_start}

@@ -1,13 +1,6 @@
 -- At each moment at which no task is lost that record holds, and no reply at a latch or a volume leads an initiator astray.
-use Rattle.std.proofs.Common.{◌≡◌, ℕ, ◌<◌, ◌≤◌, List, [], ◌∷◌, ◌++◌, length, Option, ap, arith}
-use Rattle.mv_machine.specs.declared.entry.Entry.{Entry}
-use Rattle.mv_machine.specs.Legal.{IsNext, next}
-use Rattle.mv_machine.specs.Setup.{Setup}
-use Rattle.mv_machine.specs.System.{System}
-use Rattle.mv_plan.specs.HandingOut.{released_codes, given_codes}
-use Rattle.mv_deck.specs.Deck.{JobData}
-use Rattle.mv_plan.specs.SpoolSetup.{initiator}
-use Rattle.mv_plan.specs.SpoolTasks.{not_to_run}
+use Rattle.mv_plan.proofs.Words.{◌≡◌, ℕ, ◌<◌, ◌≤◌, List, [], ◌∷◌, ◌++◌, length, Option, ap, arith, Entry, IsNext, next, Setup, System}
+use Rattle.mv_plan.proofs.Words.{released_codes, given_codes, JobData, initiator, not_to_run}
 use Rattle.mv_plan.proofs.deck.Plans.{IsPlanned}
 use Rattle.mv_plan.proofs.latches.Exclusion.{places_apart}
 use Rattle.mv_plan.proofs.places.Places.{Place, Coming, Handed, Run, Over}

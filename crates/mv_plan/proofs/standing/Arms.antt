@@ -1,26 +1,11 @@
 -- A block is waiting only while its owner has it armed in the wait that it is in; so an arm finds it plain or complete. Used
 -- where no reply is to lead astray.
-use Rattle.std.proofs.Common.{◌≡◌, ℕ, zero, suc, ◌+◌, ◌*◌, ◌<◌, ◌≤◌, ◌==◌, nat_lt, ◌&&◌, IsTrue, List, [], ◌∷◌, ◌++◌, length, map, Option}
-use Rattle.std.proofs.Common.{Some, None, ◌⊎◌, inl, inr, refl, sym, ap, ◌∙◌, subst, arith}
-use Rattle.std.specs.List.{AllByRecursion, range_with_len}
-use Rattle.std.proofs.lemmas.Bool.{cases_eq, eqb-true, and_parts}
-use Rattle.mv_ecb.specs.declared.operation.EcbOp.{EcbOp}
-use Rattle.mv_ecb.specs.Table.{ecb_step}
-use Rattle.mv_ecb.specs.Word.{EcbState, Waiting}
-use Rattle.mv_machine.specs.declared.entry.Entry.{Entry}
-use Rattle.mv_machine.specs.declared.entry.Object.{Object}
-use Rattle.mv_machine.specs.declared.entry.Object.TheVariants.{Ecb, Element, Volume, Latches}
-use Rattle.mv_machine.specs.declared.entry.Op.{Op}
-use Rattle.mv_machine.specs.declared.entry.Reply.{Reply}
-use Rattle.mv_machine.specs.Legal.{IsNext, next}
-use Rattle.mv_machine.specs.Setup.{Setup, owner_of}
-use Rattle.mv_machine.specs.System.{System, opening, admitted, ecb_admitted, moved, with_at, advanced}
-use Rattle.mv_deck.specs.Deck.{JobData}
-use Rattle.mv_deck.specs.declared.deck.After.{After}
-use Rattle.mv_calls.specs.Waits.{AreDistinct}
-use Rattle.mv_calls.specs.Keeping.{Kept}
-use Rattle.mv_plan.specs.SpoolSetup.{reader, scheduler, initiator, writer, end_for_writer, idle}
-use Rattle.mv_plan.specs.SpoolTasks.{ends_of}
+use Rattle.mv_plan.proofs.Words.{◌≡◌, ℕ, zero, suc, ◌+◌, ◌*◌, ◌<◌, ◌≤◌, ◌==◌, nat_lt, ◌&&◌, IsTrue, List, [], ◌∷◌, ◌++◌, length, map}
+use Rattle.mv_plan.proofs.Words.{Option, Some, None, ◌⊎◌, inl, inr, refl, sym, ap, ◌∙◌, subst, arith, AllByRecursion, range_with_len}
+use Rattle.mv_plan.proofs.Words.{cases_eq, eqb-true, and_parts, EcbOp, ecb_step, EcbState, Entry, Object, Ecb, Element, Volume, Latches, Op}
+use Rattle.mv_plan.proofs.Words.{Reply, IsNext, next, Setup, owner_of, System, opening, admitted, ecb_admitted, moved, with_at, advanced}
+use Rattle.mv_plan.proofs.Words.{JobData, After, AreDistinct, Kept, reader, scheduler, initiator, writer, end_for_writer, idle, ends_of}
+use Rattle.mv_ecb.specs.Word.{Waiting}
 use Rattle.mv_ecb.specs.declared.operation.EcbOp.TheVariants as ecb_op
 use Rattle.mv_ecb.specs.declared.operation.EcbReply.TheVariants as ecb_reply
 use Rattle.mv_machine.specs.declared.entry.Op.TheVariants as op_on
@@ -30,9 +15,9 @@ use Rattle.mv_plan.proofs.points.ReaderAndWriter.{IsWriterAt}
 use Rattle.mv_plan.proofs.points.PostsAndWaits.{on_armed_keeps}
 use Rattle.mv_plan.proofs.deck.Setup.{Facts}
 use Rattle.mv_plan.proofs.points.Points.{Point, At, Awaited, ForEntry, ForEnds, ForIdle, ToDismiss, WaitAt, Arming, Settling, ReaderAt}
-use Rattle.mv_plan.proofs.points.Points.{Entering, reader_asks, SchedulerAt, Waits, awaited_blocks}
-use Rattle.mv_plan.proofs.points.Points.{scheduler_asks, scheduler_goes, arming_from, settling_from, on_armed, WriterAt, Keeping}
-use Rattle.mv_plan.proofs.points.Points.{writer_asks, writer_goes, writer_arming, initiator_asks}
+use Rattle.mv_plan.proofs.points.Points.{Entering, reader_asks, SchedulerAt, Waits, awaited_blocks, scheduler_asks, scheduler_goes}
+use Rattle.mv_plan.proofs.points.Points.{arming_from, settling_from, on_armed, WriterAt, Keeping, writer_asks, writer_goes, writer_arming}
+use Rattle.mv_plan.proofs.points.Points.{initiator_asks}
 use Rattle.mv_plan.proofs.points.SchedulerSound.{IsAwaited, IsSchedulerAt, rest_below, rest_sound}
 use Rattle.mv_plan.proofs.walks.Stands.{Stand}
 use Rattle.mv_plan.proofs.walks.NoneLost.{NoneLost}

@@ -1,33 +1,19 @@
 -- What the scheduler has found at blocks stands in them until it clears them; so the block of an initiator that it chose still
 -- has the generation that was found. Used by the rows.
-use Rattle.std.proofs.Common.{◌≡◌, ℕ, zero, suc, ◌+◌, nat_le, true, false, cond, List, [], ◌∷◌, ◌++◌, length, map, Option, Some, None, inl}
-use Rattle.std.proofs.Common.{inr, refl, sym, ap, ◌∙◌, subst, arith}
-use Rattle.std.specs.List.{range_with_len}
-use Rattle.std.proofs.lemmas.Bool.{cases_eq}
-use Rattle.mv_ecb.specs.declared.operation.EcbOp.{EcbOp}
-use Rattle.mv_ecb.specs.Table.{ecb_step}
-use Rattle.mv_ecb.specs.Word.{EcbState, Complete}
-use Rattle.mv_machine.specs.declared.entry.Object.{Object}
-use Rattle.mv_machine.specs.declared.entry.Object.TheVariants.{Ecb, Element, Volume, Latches}
-use Rattle.mv_machine.specs.declared.entry.Op.{Op}
-use Rattle.mv_machine.specs.declared.entry.Reply.{Reply}
-use Rattle.mv_machine.specs.System.{System, Cell, moved, reply_to, with_at, advanced}
-use Rattle.mv_deck.specs.Deck.{JobData}
-use Rattle.mv_deck.specs.declared.deck.After.{After}
-use Rattle.mv_deck.specs.declared.deck.Step.{Step}
-use Rattle.mv_plan.specs.SpoolSetup.{scheduler, idle}
-use Rattle.mv_plan.specs.SpoolTasks.{code_of}
-use Rattle.mv_calls.specs.Waits.{complete_count}
+use Rattle.mv_plan.proofs.Words.{◌≡◌, ℕ, zero, suc, ◌+◌, nat_le, true, false, cond, List, [], ◌∷◌, ◌++◌, length, map, Option, Some, None}
+use Rattle.mv_plan.proofs.Words.{inl, inr, refl, sym, ap, ◌∙◌, subst, arith, range_with_len, cases_eq, EcbOp, ecb_step, EcbState, Complete}
+use Rattle.mv_plan.proofs.Words.{Object, Ecb, Element, Volume, Latches, Op, Reply, System, Cell, moved, reply_to, with_at, advanced}
+use Rattle.mv_plan.proofs.Words.{JobData, After, Step, scheduler, idle, code_of, complete_count}
 use Rattle.mv_ecb.specs.declared.operation.EcbOp.TheVariants as ecb_op
 use Rattle.mv_ecb.specs.declared.operation.EcbReply.TheVariants as ecb_reply
 use Rattle.mv_element.specs.declared.operation.ElementReply.TheVariants as element_reply
 use Rattle.mv_machine.specs.declared.entry.Op.TheVariants as op_on
 use Rattle.mv_machine.specs.declared.entry.Reply.TheVariants as reply_of
 use Rattle.mv_plan.proofs.points.PostsAndWaits.{on_armed_keeps}
-use Rattle.mv_plan.proofs.points.Points.{Point, At, TooSoon, Astray, Stage, Dispatching, Dismissing, Awaited, ForEntry, ForEnds}
-use Rattle.mv_plan.proofs.points.Points.{ForIdle, ToDismiss, WaitAt, Arming, Settling, SchedulerAt, Waits, Extends, Clears, Releases}
-use Rattle.mv_plan.proofs.points.Points.{awaited_blocks, awaited_count, scheduler_asks, scheduler_goes, on_settled, arming_first}
-use Rattle.mv_plan.proofs.points.Points.{arming_from, settling_from, found_at, ends_at, dismissing_from, stage_at, lowest_at}
+use Rattle.mv_plan.proofs.points.Points.{Point, At, TooSoon, Astray, Stage, Dispatching, Dismissing, Awaited, ForEntry, ForEnds, ForIdle}
+use Rattle.mv_plan.proofs.points.Points.{ToDismiss, WaitAt, Arming, Settling, SchedulerAt, Waits, Extends, Clears, Releases, awaited_blocks}
+use Rattle.mv_plan.proofs.points.Points.{awaited_count, scheduler_asks, scheduler_goes, on_settled, arming_first, arming_from}
+use Rattle.mv_plan.proofs.points.Points.{settling_from, found_at, ends_at, dismissing_from, stage_at, lowest_at}
 use Rattle.mv_plan.proofs.points.SchedulerSound.{IsWaitAt}
 use Rattle.mv_plan.proofs.lists.Tables.{with_at-same, with_at-other}
 use Rattle.mv_plan.proofs.points.Asks.{NoClear}

@@ -1,19 +1,10 @@
 -- How an initiator, its block, its element and what the scheduler has of it fit together. An idle block's code is the
 -- generation with which its initiator goes on to pause; the scheduler releases only what it has cleared; and the element's
 -- generation is the point's. Used by all that looks at elements.
-use Rattle.std.proofs.Common.{◌≡◌, ℕ, zero, suc, ◌+◌, ◌==◌, if◌then◌else◌, List, [], ◌∷◌, ◌++◌, length, Option, Some, None, inl, inr, refl}
-use Rattle.std.proofs.Common.{sym, ap, ◌∙◌, arith}
-use Rattle.std.proofs.lemmas.Bool.{eq-eqb}
-use Rattle.mv_ecb.specs.Table.{ecb_step}
-use Rattle.mv_ecb.specs.Word.{EcbState, Complete}
-use Rattle.mv_element.specs.declared.element.ElementState.{ElementState}
-use Rattle.mv_element.specs.Element.{free, reset, prereleased, paused, released}
-use Rattle.mv_element.specs.Table.{element_step}
-use Rattle.mv_machine.specs.declared.entry.Reply.{Reply}
-use Rattle.mv_machine.specs.System.{System, moved, reply_to, with_at, advanced}
-use Rattle.mv_deck.specs.Deck.{JobData}
-use Rattle.mv_plan.specs.Jobs.{job_at}
-use Rattle.mv_plan.specs.SpoolSetup.{initiator, idle}
+use Rattle.mv_plan.proofs.Words.{◌≡◌, ℕ, zero, suc, ◌+◌, ◌==◌, if◌then◌else◌, List, [], ◌∷◌, ◌++◌, length, Option, Some, None, inl, inr}
+use Rattle.mv_plan.proofs.Words.{refl, sym, ap, ◌∙◌, arith, eq-eqb, ecb_step, EcbState, Complete, ElementState, free, reset, prereleased}
+use Rattle.mv_plan.proofs.Words.{element_step, Reply, System, moved, reply_to, with_at, advanced, JobData, job_at, initiator, idle}
+use Rattle.mv_element.specs.Element.{paused, released}
 use Rattle.mv_ecb.specs.declared.operation.EcbOp.TheVariants as ecb_op
 use Rattle.mv_element.specs.declared.operation.ElementOp.TheVariants as element_op
 use Rattle.mv_element.specs.declared.element.Phase.TheVariants as phase
@@ -21,10 +12,8 @@ use Rattle.mv_machine.specs.declared.entry.Reply.TheVariants as reply_of
 use Rattle.mv_plan.proofs.points.InitiatorSound.{IsInitiatorAt}
 use Rattle.mv_plan.proofs.points.PostsAndWaits.{on_posted_keeps}
 use Rattle.mv_plan.proofs.points.Points.{Point, At, Finished, TooSoon, Astray, SchedulerAt, Releases, Running, InitiatorAt, Opening}
-use Rattle.mv_plan.proofs.points.Points.{Offering, Pausing, Resuming}
-use Rattle.mv_plan.proofs.points.Points.{Closing, initiator_asks}
-use Rattle.mv_plan.proofs.points.Points.{initiator_goes, rounds_from, given_at, running, on_opened, on_paused}
-use Rattle.mv_plan.proofs.points.Points.{on_resumed, on_closed, InJob}
+use Rattle.mv_plan.proofs.points.Points.{Offering, Pausing, Resuming, Closing, initiator_asks, initiator_goes, rounds_from, given_at}
+use Rattle.mv_plan.proofs.points.Points.{running, on_opened, on_paused, on_resumed, on_closed, InJob}
 use Rattle.mv_plan.proofs.points.RunningJob.{RunsOn, start_run, GoesOn, same, done, lost, run_goes, run_asks, run_sound}
 use Rattle.mv_plan.proofs.walks.NoneLost.{SameTalk, same_talk}
 use Rattle.mv_plan.proofs.lists.Tables.{with_at-same, with_at-other}

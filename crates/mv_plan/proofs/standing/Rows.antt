@@ -1,22 +1,11 @@
 -- All initiators' rows, with what the scheduler has found, are kept by each move.
-use Rattle.std.proofs.Common.{◌≡◌, ℕ, zero, suc, ◌+◌, ◌*◌, ◌<◌, if◌then◌else◌, List, [], ◌∷◌, length, Option, Some, None, ◌⊎◌, inl, inr}
-use Rattle.std.proofs.Common.{refl, sym, ap, ◌∙◌, subst, arith}
-use Rattle.std.proofs.lemmas.Bool.{cases_eq, eq-eqb, ne_eqb}
-use Rattle.mv_ecb.specs.Table.{ecb_step}
-use Rattle.mv_ecb.specs.Word.{EcbState, Zero, Complete, word_of}
-use Rattle.mv_element.specs.declared.operation.ElementReply.{ElementReply}
-use Rattle.mv_element.specs.declared.element.ElementState.{ElementState}
-use Rattle.mv_element.specs.Element.{free, reset, prereleased, paused, released}
-use Rattle.mv_element.specs.Table.{element_step}
-use Rattle.mv_machine.specs.declared.entry.Entry.{Entry}
-use Rattle.mv_machine.specs.declared.entry.Object.TheVariants.{Ecb}
-use Rattle.mv_machine.specs.declared.entry.Reply.{Reply}
-use Rattle.mv_machine.specs.Legal.{IsNext, next}
-use Rattle.mv_machine.specs.Setup.{Setup}
-use Rattle.mv_machine.specs.System.{System, opening, moved, reply_to, with_at, advanced}
-use Rattle.mv_deck.specs.Deck.{JobData}
-use Rattle.mv_calls.specs.Keeping.{Kept}
-use Rattle.mv_plan.specs.SpoolSetup.{reader, scheduler, initiator, writer, idle, end_for_writer, done}
+use Rattle.mv_plan.proofs.Words.{◌≡◌, ℕ, zero, suc, ◌+◌, ◌*◌, ◌<◌, if◌then◌else◌, List, [], ◌∷◌, length, Option, Some, None, ◌⊎◌, inl, inr}
+use Rattle.mv_plan.proofs.Words.{refl, sym, ap, ◌∙◌, subst, arith, cases_eq, eq-eqb, ne_eqb, ecb_step, EcbState, Zero, Complete, word_of}
+use Rattle.mv_plan.proofs.Words.{ElementReply, ElementState, free, reset, prereleased, element_step, Entry, Ecb, Reply, IsNext, next, Setup}
+use Rattle.mv_plan.proofs.Words.{System, opening, moved, reply_to, with_at, advanced, JobData, Kept, reader, scheduler, initiator, writer}
+use Rattle.mv_plan.proofs.Words.{idle, end_for_writer}
+use Rattle.mv_element.specs.Element.{paused, released}
+use Rattle.mv_plan.specs.SpoolSetup.{done}
 use Rattle.mv_ecb.specs.declared.operation.EcbOp.TheVariants as ecb_op
 use Rattle.mv_ecb.specs.declared.operation.EcbReply.TheVariants as ecb_reply
 use Rattle.mv_element.specs.declared.operation.ElementOp.TheVariants as element_op
@@ -24,8 +13,8 @@ use Rattle.mv_element.specs.declared.operation.ElementReply.TheVariants as eleme
 use Rattle.mv_machine.specs.declared.entry.Op.TheVariants as op_on
 use Rattle.mv_machine.specs.declared.entry.Reply.TheVariants as reply_of
 use Rattle.mv_plan.proofs.points.ReaderAndWriter.{IsReaderAt, IsWriterAt}
-use Rattle.mv_plan.proofs.standing.Row.{Stance, Offers, Parks, Loses, stance, code_in, offered, taken, handed, Row}
-use Rattle.mv_plan.proofs.standing.Row.{RowAt, hold_for, offer_of, element_of, row_at, own_row, Apart, apart}
+use Rattle.mv_plan.proofs.standing.Row.{Stance, Offers, Parks, Loses, stance, code_in, offered, taken, handed, Row, RowAt, hold_for}
+use Rattle.mv_plan.proofs.standing.Row.{offer_of, element_of, row_at, own_row, Apart, apart}
 use Rattle.mv_plan.proofs.points.InitiatorSound.{IsInitiatorAt}
 use Rattle.mv_plan.proofs.points.Points.{Point, At, Stage, Dispatching, Dismissing, Awaited, ForEntry, ForEnds, ForIdle, ToDismiss, WaitAt}
 use Rattle.mv_plan.proofs.points.Points.{Arming, Settling, wait_asks, ReaderAt, Entering, reader_asks, reader_goes, SchedulerAt, Waits}

@@ -1,8 +1,5 @@
 -- What steps add to a volume, step by step: the sum of the report as a recursion, whose cases are those of a running job.
-use Rattle.std.proofs.Common.{◌≡◌, ℕ, ◌+◌, List, [], ◌∷◌, refl, ap, ◌∙◌}
-use Rattle.std.proofs.lemmas.List.Sums.{sum_by-cons}
-use Rattle.mv_deck.specs.declared.deck.Step.{Step}
-use Rattle.mv_report.specs.Outcome.{added}
+use Rattle.mv_plan.proofs.Words.{◌≡◌, ℕ, ◌+◌, List, [], ◌∷◌, refl, ap, ◌∙◌, sum_by-cons, Step, added}
 use Rattle.mv_report.specs.Outcome as outcome
 
 -- what these steps add

@@ -1,18 +1,8 @@
 -- While an initiator is at a COUNT, no other's entry is on the volume; while it is at a SCAN, no other changes it.
-use Rattle.std.proofs.Common.{◌≡◌, ℕ, ◌<◌, ◌==◌, Bool, true, false, if◌then◌else◌, List, [], ◌∷◌, ◌++◌, length, Some, refl, sym, ap, ◌∙◌}
-use Rattle.std.proofs.Common.{subst}
-use Rattle.std.proofs.lemmas.Bool.{eq-eqb, false≢true}
-use Rattle.mv_machine.specs.declared.entry.Entry.{Entry}
-use Rattle.mv_machine.specs.declared.entry.Object.{Object}
-use Rattle.mv_machine.specs.declared.entry.Object.TheVariants.{Ecb, Element, Volume, Latches}
-use Rattle.mv_machine.specs.declared.entry.Op.{Op}
-use Rattle.mv_machine.specs.Legal.{IsNext, next, after_from, of, «at», same_object}
-use Rattle.mv_machine.specs.Setup.{Setup}
-use Rattle.mv_machine.specs.System.{System, opening, moved}
-use Rattle.mv_deck.specs.Deck.{JobData}
-use Rattle.mv_calls.specs.Keeping.{Kept, nothing_kept}
-use Rattle.mv_plan.specs.SpoolSetup.{initiator}
-use Rattle.mv_machine.proofs.Objects.{same_is}
+use Rattle.mv_plan.proofs.Words.{◌≡◌, ℕ, ◌<◌, ◌==◌, Bool, true, false, if◌then◌else◌, List, [], ◌∷◌, ◌++◌, length, Some, refl, sym, ap, ◌∙◌}
+use Rattle.mv_plan.proofs.Words.{subst, eq-eqb, false≢true, Entry, Object, Ecb, Element, Volume, Latches, Op, IsNext, next, after_from, of}
+use Rattle.mv_plan.proofs.Words.{«at», Setup, System, opening, moved, JobData, Kept, nothing_kept, initiator, same_is}
+use Rattle.mv_machine.specs.Legal.{same_object}
 use Rattle.mv_machine.specs.declared.entry.Op.TheVariants as op_on
 use Rattle.mv_machine.specs.declared.entry.VolumeOp.TheVariants as volume_op
 use Rattle.mv_plan.proofs.deck.Plans.{ArePlannedJobs}

@@ -1,20 +1,11 @@
 -- The balance: what a volume has, and what is still due to it, is what the jobs that were named add. So a COUNT's sum has 32
 -- bits.
-use Rattle.std.proofs.Common.{◌≡◌, ℕ, zero, suc, ◌+◌, ◌*◌, ◌^◌, ◌<◌, ◌≤◌, ◌==◌, Bool, true, false, if◌then◌else◌, List, [], ◌∷◌, ◌++◌}
-use Rattle.std.proofs.Common.{length, None, refl, sym, ap, ◌∙◌, subst, append-nil, arith, suc-mul}
-use Rattle.std.proofs.lemmas.Bool.{eq-eqb}
-use Rattle.mv_machine.specs.declared.entry.Entry.{Entry}
-use Rattle.mv_machine.specs.declared.entry.Object.{Object}
-use Rattle.mv_machine.specs.declared.entry.Op.{Op}
-use Rattle.mv_machine.specs.Legal.{IsNext, next}
-use Rattle.mv_machine.specs.Setup.{Setup}
-use Rattle.mv_machine.specs.System.{System, opening, moved, with_at}
-use Rattle.mv_plan.specs.HandingOut.{gift_code}
-use Rattle.mv_deck.specs.Deck.{JobData}
-use Rattle.mv_deck.specs.declared.deck.Step.{Step}
-use Rattle.mv_deck.specs.declared.deck.Step.TheVariants.{Print, Use, Count, Scan, Free}
-use Rattle.mv_report.specs.Outcome.{before_end, added}
-use Rattle.mv_plan.specs.SpoolSetup.{initiator}
+use Rattle.mv_plan.proofs.Words.{◌≡◌, ℕ, zero, suc, ◌+◌, ◌*◌, ◌^◌, ◌<◌, ◌≤◌, ◌==◌, Bool, true, false, if◌then◌else◌, List, [], ◌∷◌, ◌++◌}
+use Rattle.mv_plan.proofs.Words.{length, None, refl, sym, ap, ◌∙◌, subst, append-nil, arith, eq-eqb, Entry, Object, Op, IsNext, next, Setup}
+use Rattle.mv_plan.proofs.Words.{System, opening, moved, with_at, gift_code, JobData, Step, Print, Use, Count, Scan, before_end, added}
+use Rattle.mv_plan.proofs.Words.{initiator}
+use Rattle.std.proofs.Common.{suc-mul}
+use Rattle.mv_deck.specs.declared.deck.Step.TheVariants.{Free}
 use Rattle.mv_machine.proofs.EntryRuns.{entry_of}
 use Rattle.mv_plan.proofs.volumes.Added.{added_by}
 use Rattle.mv_plan.proofs.deck.Events.{steps_events, all_events, all_events_are}

@@ -1,18 +1,8 @@
 -- What the jobs that are run have still to add to a volume, and how an initiator's event pays it.
-use Rattle.std.proofs.Common.{◌≡◌, ℕ, zero, suc, ◌+◌, Bool, true, false, if◌then◌else◌, List, [], ◌∷◌, length, inl, inr, refl, sym, ap, ◌∙◌}
-use Rattle.std.proofs.Common.{subst, arith}
-use Rattle.std.proofs.lemmas.Bool.{cases_eq, eq-eqb, ne_eqb}
-use Rattle.mv_machine.specs.declared.entry.Reply.{Reply}
-use Rattle.mv_machine.specs.Setup.{Setup}
-use Rattle.mv_machine.specs.System.{System, with_at, advanced}
-use Rattle.mv_plan.specs.HandingOut.{gift_code}
-use Rattle.mv_deck.specs.Deck.{JobData}
-use Rattle.mv_deck.specs.declared.deck.Step.{Step}
-use Rattle.mv_deck.specs.declared.deck.Step.TheVariants.{Print, Use, Count, Scan, Free}
-use Rattle.mv_plan.specs.Jobs.{job_at}
-use Rattle.mv_report.specs.Outcome.{before_end, added}
-use Rattle.mv_machine.specs.Legal.{IsNext}
-use Rattle.mv_plan.specs.SpoolSetup.{initiator}
+use Rattle.mv_plan.proofs.Words.{◌≡◌, ℕ, zero, suc, ◌+◌, Bool, true, false, if◌then◌else◌, List, [], ◌∷◌, length, inl, inr, refl, sym, ap}
+use Rattle.mv_plan.proofs.Words.{◌∙◌, subst, arith, cases_eq, eq-eqb, ne_eqb, Reply, Setup, System, with_at, advanced, gift_code, JobData}
+use Rattle.mv_plan.proofs.Words.{Step, Print, Use, Count, Scan, job_at, before_end, added, IsNext, initiator}
+use Rattle.mv_deck.specs.declared.deck.Step.TheVariants.{Free}
 use Rattle.mv_element.specs.declared.operation.ElementReply.TheVariants as element_reply
 use Rattle.mv_latch.specs.declared.operation.LatchReply.TheVariants as latch_reply
 use Rattle.mv_machine.specs.declared.entry.Reply.TheVariants as reply_of
@@ -21,8 +11,8 @@ use Rattle.mv_plan.proofs.volumes.Added.{added_by}
 use Rattle.mv_plan.proofs.volumes.GivenCodes.{with_code, adds_if, adds_named, adds, adds_all, adds_high}
 use Rattle.mv_plan.proofs.points.Points.{Point, At, Running, Hand, empty_hand, InitiatorAt, Opening, Offering, Pausing, Resuming}
 use Rattle.mv_plan.proofs.points.Points.{rounds_after, Obtaining, Confirming, Freeing, Reading, Writing, Scanning, Rescanning, Purging}
-use Rattle.mv_plan.proofs.points.Points.{EndingJob, EndingForScheduler, EndingForWriter, Closing, initiator_goes, rounds_from}
-use Rattle.mv_plan.proofs.points.Points.{steps_at, running, job_start, given_at, initiator_asks, InJob}
+use Rattle.mv_plan.proofs.points.Points.{EndingJob, EndingForScheduler, EndingForWriter, Closing, initiator_goes, rounds_from, steps_at}
+use Rattle.mv_plan.proofs.points.Points.{running, job_start, given_at, initiator_asks, InJob}
 use Rattle.mv_plan.proofs.volumes.Values.{ValueAt, read_keeps, write_same, write_other, volumes_asked}
 use Rattle.mv_plan.proofs.points.Views.{IsNotLost}
 use Rattle.mv_machine.proofs.EntryRuns.{entry_of}

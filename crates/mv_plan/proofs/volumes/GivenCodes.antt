@@ -1,13 +1,7 @@
 -- The codes that pauses are given in a history, and what the jobs that they name add to a volume.
-use Rattle.std.proofs.Common.{◌≡◌, ℕ, suc, ◌+◌, ◌-◌, ◌<◌, ◌≤◌, ◌==◌, nat_le, Bool, true, false, ◌&&◌, if◌then◌else◌, List, [], ◌∷◌, ◌++◌}
-use Rattle.std.proofs.Common.{length, Option, Some, None, refl, sym, ap, ◌∙◌, arith}
-use Rattle.std.proofs.lemmas.Bool.{eq-eqb, ne_eqb, leb-true, le-leb, false≢true, and_parts}
-use Rattle.mv_machine.specs.declared.entry.Entry.{Entry}
-use Rattle.mv_plan.specs.HandingOut.{gift_code}
-use Rattle.mv_deck.specs.Deck.{JobData}
-use Rattle.mv_plan.specs.Jobs.{job_at}
-use Rattle.mv_report.specs.Outcome.{before_end}
-use Rattle.mv_plan.specs.SpoolTasks.{Named, job_named, not_to_run}
+use Rattle.mv_plan.proofs.Words.{◌≡◌, ℕ, suc, ◌+◌, ◌-◌, ◌<◌, ◌≤◌, ◌==◌, nat_le, Bool, true, false, ◌&&◌, if◌then◌else◌, List, [], ◌∷◌, ◌++◌}
+use Rattle.mv_plan.proofs.Words.{length, Option, Some, None, refl, sym, ap, ◌∙◌, arith, eq-eqb, ne_eqb, leb-true, le-leb, false≢true}
+use Rattle.mv_plan.proofs.Words.{and_parts, Entry, gift_code, JobData, job_at, before_end, Named, job_named, not_to_run}
 use Rattle.mv_plan.proofs.volumes.Added.{added_by}
 use Rattle.mv_plan.proofs.volumes.Sums.{sum_to, sum_ext, sum_zero, sum_change, times}
 

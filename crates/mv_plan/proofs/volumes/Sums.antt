@@ -1,7 +1,5 @@
 -- Sums over the numbers below a bound, and what changes where one entry of a table does.
-use Rattle.std.proofs.Common.{◌≡◌, ℕ, zero, suc, ◌+◌, ◌<◌, ◌≤◌, inl, inr, refl, sym, ap, ◌∙◌, subst, arith}
-use Rattle.std.proofs.lemmas.Bool.{cases_eq}
-use Rattle.mv_machine.specs.System.{with_at}
+use Rattle.mv_plan.proofs.Words.{◌≡◌, ℕ, zero, suc, ◌+◌, ◌<◌, ◌≤◌, inl, inr, refl, sym, ap, ◌∙◌, subst, arith, cases_eq, with_at}
 use Rattle.mv_plan.proofs.lists.Tables.{with_at-same, with_at-other}
 
 abbrev pub sum_to : ℕ → (ℕ → ℕ) → ℕ

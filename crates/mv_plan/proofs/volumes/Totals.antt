@@ -1,17 +1,10 @@
 -- The sum of what the named jobs add is the deck's total, where each job was named once and as its end says.
-use Rattle.std.proofs.Common.{◌≡◌, ℕ, suc, ◌+◌, ◌<◌, ◌≤◌, ◌==◌, ◌||◌, Bool, true, false, if◌then◌else◌, List, [], ◌∷◌, length, slice_index}
-use Rattle.std.proofs.Common.{Option, Some, None, refl, sym, ap, ◌∙◌, arith, sum_by}
-use Rattle.std.proofs.lemmas.Bool.{eq-eqb, ne_eqb, eqb-true, or_left, or_right, false≢true}
-use Rattle.mv_machine.specs.declared.entry.Entry.{Entry}
-use Rattle.mv_plan.specs.HandingOut.{gift_code, naming, given_codes}
-use Rattle.mv_deck.specs.Deck.{JobData}
-use Rattle.std.proofs.lemmas.List.Sums.{sum_by-cons}
-use Rattle.mv_deck.specs.declared.deck.Step.{Step}
-use Rattle.mv_plan.specs.Jobs.{job_at, end_of}
-use Rattle.mv_deck.specs.EndCode.{not_run}
-use Rattle.mv_report.specs.Outcome.{before_end, ends, total, steps_with, all_steps_with}
-use Rattle.mv_plan.specs.SpoolTasks.{code_of}
-use Rattle.mv_report.proofs.Lengths.{one_end_per_job}
+use Rattle.mv_plan.proofs.Words.{◌≡◌, ℕ, suc, ◌+◌, ◌<◌, ◌≤◌, ◌==◌, ◌||◌, Bool, true, false, if◌then◌else◌, List, [], ◌∷◌, length}
+use Rattle.mv_plan.proofs.Words.{slice_index, Option, Some, None, refl, sym, ap, ◌∙◌, arith, eq-eqb, ne_eqb, eqb-true, or_left, or_right}
+use Rattle.mv_plan.proofs.Words.{false≢true, Entry, gift_code, naming, given_codes, JobData, sum_by-cons, Step, job_at, end_of, not_run}
+use Rattle.mv_plan.proofs.Words.{before_end, ends, total, code_of, one_end_per_job}
+use Rattle.std.proofs.Common.{sum_by}
+use Rattle.mv_report.specs.Outcome.{steps_with, all_steps_with}
 use Rattle.mv_plan.proofs.volumes.Added.{added_by, added_by_is}
 use Rattle.mv_report.specs.Outcome as outcome
 use Rattle.mv_plan.proofs.volumes.GivenCodes.{with_code, codes_of, count_of, full, adds_all, adds_by_jobs}

@@ -1,20 +1,8 @@
 -- What volumes hold between the two events of a COUNT or SCAN: the number that was read.
-use Rattle.std.proofs.Common.{◌≡◌, ℕ, zero, suc, ◌+◌, ◌<◌, Bool, true, false, List, [], ◌∷◌, length, Option, Some, inl, inr, refl, sym, ap}
-use Rattle.std.proofs.Common.{◌∙◌, subst}
-use Rattle.std.proofs.lemmas.Bool.{cases_eq}
-use Rattle.mv_machine.specs.declared.entry.Entry.{Entry}
-use Rattle.mv_machine.specs.declared.entry.Object.{Object}
-use Rattle.mv_machine.specs.declared.entry.Object.TheVariants.{Ecb, Element, Volume, Latches}
-use Rattle.mv_machine.specs.declared.entry.Op.{Op}
-use Rattle.mv_machine.specs.declared.entry.Reply.{Reply}
-use Rattle.mv_machine.specs.Legal.{IsNext, next}
-use Rattle.mv_machine.specs.Setup.{Setup}
-use Rattle.mv_machine.specs.System.{Cell, System, moved, with_at, advanced}
-use Rattle.mv_deck.specs.Deck.{JobData}
-use Rattle.mv_deck.specs.declared.deck.Step.{Step}
-use Rattle.mv_deck.specs.declared.deck.Step.TheVariants.{Print, Free}
-use Rattle.mv_plan.specs.Jobs.{job_at}
-use Rattle.mv_plan.specs.SpoolSetup.{initiator}
+use Rattle.mv_plan.proofs.Words.{◌≡◌, ℕ, zero, suc, ◌+◌, ◌<◌, Bool, true, false, List, [], ◌∷◌, length, Option, Some, inl, inr, refl, sym}
+use Rattle.mv_plan.proofs.Words.{ap, ◌∙◌, subst, cases_eq, Entry, Object, Ecb, Element, Volume, Latches, Op, Reply, IsNext, next, Setup}
+use Rattle.mv_plan.proofs.Words.{Cell, System, moved, with_at, advanced, JobData, Step, Print, job_at, initiator}
+use Rattle.mv_deck.specs.declared.deck.Step.TheVariants.{Free}
 use Rattle.mv_element.specs.declared.operation.ElementReply.TheVariants as element_reply
 use Rattle.mv_latch.specs.declared.operation.LatchReply.TheVariants as latch_reply
 use Rattle.mv_machine.specs.declared.entry.Op.TheVariants as op_on
@@ -27,11 +15,11 @@ use Rattle.mv_plan.proofs.latches.HandMoves.{at_entry}
 use Rattle.mv_plan.proofs.latches.Hands.{Hands}
 use Rattle.mv_plan.proofs.points.InitiatorSound.{IsInitiatorAt}
 use Rattle.mv_plan.proofs.points.PostsAndWaits.{on_posted_keeps}
-use Rattle.mv_plan.proofs.points.Points.{Point, At, Running, Hand, empty_hand, InitiatorAt, Opening, Offering, Pausing, Resuming}
-use Rattle.mv_plan.proofs.points.Points.{Obtaining, Confirming, Freeing, Reading, Writing, Scanning, Rescanning, Purging, EndingJob}
+use Rattle.mv_plan.proofs.points.Points.{Point, At, Running, Hand, empty_hand, InitiatorAt, Opening, Offering, Pausing, Resuming, Obtaining}
+use Rattle.mv_plan.proofs.points.Points.{Confirming, Freeing, Reading, Writing, Scanning, Rescanning, Purging, EndingJob}
 use Rattle.mv_plan.proofs.points.Points.{EndingForScheduler, EndingForWriter, Closing, initiator_asks, initiator_goes, rounds_from}
-use Rattle.mv_plan.proofs.points.Points.{rounds_after, steps_at, running, job_start, given_at, reader_asks}
-use Rattle.mv_plan.proofs.points.Points.{scheduler_asks, writer_asks, InJob}
+use Rattle.mv_plan.proofs.points.Points.{rounds_after, steps_at, running, job_start, given_at, reader_asks, scheduler_asks, writer_asks}
+use Rattle.mv_plan.proofs.points.Points.{InJob}
 use Rattle.mv_plan.proofs.walks.Walks.{Points, Move, reads, schedules, initiates, writes}
 use Rattle.mv_plan.proofs.lists.Tables.{with_at-same, with_at-other, all_but}
 use Rattle.mv_plan.proofs.points.Asks.{IsSignal, reader_signals, scheduler_signals, writer_signals}

@@ -1,11 +1,7 @@
 -- What holds at each moment of a walk, as a fact of the walk: for results that look at two entries and what stands between.
 -- Used by the layers of volumes and requestors.
-use Rattle.std.proofs.Common.{◌≡◌, ℕ, List, [], ◌∷◌, ◌++◌, refl, ap, ◌∙◌, sym, subst, append-nil, append_assoc}
-use Rattle.mv_machine.specs.declared.entry.Entry.{Entry}
-use Rattle.mv_machine.specs.Legal.{IsNext, next, after_from}
-use Rattle.mv_machine.specs.Setup.{Setup}
-use Rattle.mv_machine.specs.System.{System}
-use Rattle.mv_deck.specs.Deck.{JobData}
+use Rattle.mv_plan.proofs.Words.{◌≡◌, ℕ, List, [], ◌∷◌, ◌++◌, refl, ap, ◌∙◌, sym, subst, append-nil, append_assoc, Entry, IsNext, next}
+use Rattle.mv_plan.proofs.Words.{after_from, Setup, System, JobData}
 use Rattle.mv_machine.proofs.Histories.{after_from-append}
 use Rattle.mv_plan.proofs.walks.Walks.{Points, Move, WalkTo, walk-append}
 

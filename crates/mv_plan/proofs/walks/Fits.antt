@@ -1,27 +1,17 @@
 -- What holds of the machine after every legal list: a block is extended with an exit of its own; and where no request of the
 -- Posted form is allowed none stands, so that no wake posts a block.
-use Rattle.std.proofs.Common.{◌≡◌, ℕ, zero, suc, nat_lt, Bool, true, false, not, ◌||◌, cond, if◌then◌else◌, List, [], ◌∷◌, ◌++◌, length}
-use Rattle.std.proofs.Common.{map, replicate, None, ◌⊎◌, inl, inr, refl, sym, ap, ◌∙◌, subst, arith}
-use Rattle.std.specs.List.{AllByRecursion, flat_map}
-use Rattle.std.proofs.lemmas.Bool.{cases_eq, eq-eqb, ne_eqb, false≢true, and_parts, le-ltb}
-use Rattle.mv_ecb.specs.declared.operation.EcbOp.{EcbOp}
-use Rattle.mv_ecb.specs.Table.{ecb_step}
-use Rattle.mv_ecb.specs.Word.{EcbState, Zero, Extended}
-use Rattle.mv_latch.specs.declared.operation.LatchOp.{LatchOp}
-use Rattle.mv_latch.specs.declared.operation.LatchReply.{LatchReply}
-use Rattle.mv_latch.specs.declared.request.Request.{Request}
-use Rattle.mv_latch.specs.Latch.{granted, waiting, newly_granted, obtain_step, release_step, without, blocker, shared_front, waiting_of}
-use Rattle.mv_latch.specs.Latch.{granted_by_purge, purged}
-use Rattle.mv_latch.specs.LatchSet.{list_of, latch_step, latch_admitted, wakes}
-use Rattle.mv_latch.specs.Request.{shared_request, posted_ecb, is_posted, wake_of}
-use Rattle.mv_machine.specs.declared.entry.Entry.{Entry}
-use Rattle.mv_machine.specs.declared.entry.Object.{Object}
-use Rattle.mv_machine.specs.declared.entry.Object.TheVariants.{Ecb, Element, Volume, Latches}
-use Rattle.mv_machine.specs.declared.entry.Op.{Op}
-use Rattle.mv_machine.specs.Legal.{IsNext, next}
-use Rattle.mv_machine.specs.Setup.{Setup, is_exit_of}
-use Rattle.mv_machine.specs.System.{System, opening, admitted, ecb_admitted, moved, with_at, advanced, latches_of}
-use Rattle.mv_machine.proofs.Lists.{all_append, all_filter}
+use Rattle.mv_plan.proofs.Words.{◌≡◌, ℕ, zero, suc, nat_lt, Bool, true, false, not, ◌||◌, cond, if◌then◌else◌, List, [], ◌∷◌, ◌++◌, length}
+use Rattle.mv_plan.proofs.Words.{map, replicate, None, ◌⊎◌, inl, inr, refl, sym, ap, ◌∙◌, subst, arith, AllByRecursion, cases_eq, eq-eqb}
+use Rattle.mv_plan.proofs.Words.{ne_eqb, false≢true, and_parts, EcbOp, ecb_step, EcbState, Zero, Extended, LatchOp, LatchReply, Request}
+use Rattle.mv_plan.proofs.Words.{granted, waiting, newly_granted, obtain_step, release_step, without, blocker, list_of, latch_step}
+use Rattle.mv_plan.proofs.Words.{shared_request, Entry, Object, Ecb, Element, Volume, Latches, Op, IsNext, next, Setup, is_exit_of, System}
+use Rattle.mv_plan.proofs.Words.{opening, admitted, ecb_admitted, moved, with_at, advanced, all_append, all_filter}
+use Rattle.std.specs.List.{flat_map}
+use Rattle.std.proofs.lemmas.Bool.{le-ltb}
+use Rattle.mv_latch.specs.Latch.{shared_front, waiting_of, granted_by_purge, purged}
+use Rattle.mv_latch.specs.LatchSet.{latch_admitted, wakes}
+use Rattle.mv_latch.specs.Request.{posted_ecb, is_posted, wake_of}
+use Rattle.mv_machine.specs.System.{latches_of}
 use Rattle.mv_ecb.specs.declared.operation.EcbOp.TheVariants as ecb_op
 use Rattle.mv_ecb.specs.declared.operation.EcbReply.TheVariants as ecb_reply
 use Rattle.mv_latch.specs.declared.operation.LatchOp.TheVariants as latch_op

@@ -1,33 +1,18 @@
 -- A history that follows is a walk: the tasks' programs are what is left of them at the points. The bridge from the definition
 -- of a history, caller by caller, to walks.
-use Rattle.std.proofs.Common.{◌≡◌, ℕ, zero, suc, ◌+◌, ◌*◌, ◌<◌, ◌≤◌, true, List, [], ◌∷◌, length, Some, inl, inr, refl, sym, ap, ◌∙◌, subst}
-use Rattle.std.proofs.Common.{arith}
-use Rattle.std.specs.List.{AllByRecursion}
-use Rattle.std.proofs.lemmas.Bool.{cases_eq}
-use Rattle.std.proofs.lemmas.Option.{some_pair_parts}
-use Rattle.mv_ecb.specs.Table.{ecb_step}
-use Rattle.mv_latch.specs.declared.operation.Wake.{Wake}
-use Rattle.mv_machine.specs.declared.entry.Entry.{Entry}
-use Rattle.mv_machine.specs.declared.entry.Object.{Object}
-use Rattle.mv_machine.specs.declared.entry.Object.TheVariants.{Ecb}
-use Rattle.mv_machine.specs.declared.entry.Op.{Op}
-use Rattle.mv_machine.specs.declared.entry.Reply.{Reply}
-use Rattle.mv_machine.specs.Legal.{IsNext, next}
-use Rattle.mv_machine.specs.Setup.{Setup, is_exit_of}
-use Rattle.mv_machine.specs.System.{System, reply_to, with_at}
-use Rattle.mv_deck.specs.Deck.{JobData}
-use Rattle.mv_calls.specs.Keeping.{Kept}
-use Rattle.mv_calls.specs.Program.{Program, asks, heard}
-use Rattle.mv_plan.specs.SpoolSetup.{entered, end_for_scheduler, end_for_writer, idle, reader, scheduler, initiator, writer, done}
-use Rattle.mv_calls.proofs.Interleaved.{programs_after, FollowFrom}
+use Rattle.mv_plan.proofs.Words.{◌≡◌, ℕ, zero, suc, ◌+◌, ◌*◌, ◌<◌, ◌≤◌, true, List, [], ◌∷◌, length, Some, inl, inr, refl, sym, ap, ◌∙◌}
+use Rattle.mv_plan.proofs.Words.{subst, arith, AllByRecursion, cases_eq, some_pair_parts, ecb_step, Wake, Entry, Object, Ecb, Op, Reply}
+use Rattle.mv_plan.proofs.Words.{IsNext, next, Setup, is_exit_of, System, reply_to, with_at, JobData, Kept, Program, asks, heard, entered}
+use Rattle.mv_plan.proofs.Words.{end_for_scheduler, end_for_writer, idle, reader, scheduler, initiator, writer, programs_after}
+use Rattle.mv_plan.specs.SpoolSetup.{done}
+use Rattle.mv_calls.proofs.Interleaved.{FollowFrom}
 use Rattle.mv_ecb.specs.declared.operation.EcbOp.TheVariants as ecb_op
 use Rattle.mv_ecb.specs.declared.operation.EcbReply.TheVariants as ecb_reply
 use Rattle.mv_machine.specs.declared.entry.Op.TheVariants as op_on
 use Rattle.mv_machine.specs.declared.entry.Reply.TheVariants as reply_of
 use Rattle.mv_plan.proofs.deck.Plans.{ArePlannedJobs}
-use Rattle.mv_plan.proofs.points.Points.{Point, At, ReaderAt, Entering, reader_asks, reader_goes, SchedulerAt}
-use Rattle.mv_plan.proofs.points.Points.{scheduler_asks, scheduler_goes, WriterAt, writer_asks, writer_goes, InitiatorAt, Offering}
-use Rattle.mv_plan.proofs.points.Points.{Freeing, Purging}
+use Rattle.mv_plan.proofs.points.Points.{Point, At, ReaderAt, Entering, reader_asks, reader_goes, SchedulerAt, scheduler_asks}
+use Rattle.mv_plan.proofs.points.Points.{scheduler_goes, WriterAt, writer_asks, writer_goes, InitiatorAt, Offering, Freeing, Purging}
 use Rattle.mv_plan.proofs.points.Points.{EndingJob, EndingForScheduler, EndingForWriter, initiator_asks, initiator_goes, InJob}
 use Rattle.mv_plan.proofs.points.Programs.{program_at, reader_program, scheduler_program, writer_program, initiator_program}
 use Rattle.mv_plan.proofs.points.PostsAndWaits.{IsPlainPost}

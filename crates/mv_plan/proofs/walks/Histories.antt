@@ -1,20 +1,11 @@
 -- Each history that follows is a walk from the start, with sound points; where it is a run, all tasks have finished. The
 -- results begin here.
-use Rattle.std.proofs.Common.{◌≡◌, ℕ, ◌+◌, ◌*◌, ◌-◌, ◌<◌, ◌≤◌, ◌==◌, Bool, true, false, if◌then◌else◌, List, [], length, Some, refl, sym}
-use Rattle.std.proofs.Common.{ap, ◌∙◌, arith}
-use Rattle.std.proofs.lemmas.Bool.{eq-eqb, ne_eqb}
-use Rattle.mv_machine.specs.declared.entry.Entry.{Entry}
-use Rattle.mv_machine.specs.declared.entry.Object.{Object}
-use Rattle.mv_machine.specs.declared.entry.Op.{Op}
-use Rattle.mv_machine.specs.System.{opening}
-use Rattle.mv_deck.specs.Deck.{JobData}
-use Rattle.mv_calls.specs.Keeping.{Kept, nothing_kept}
-use Rattle.mv_calls.specs.Program.{Program, Done, Wrong, asks}
-use Rattle.mv_calls.specs.Runs.{left_in}
-use Rattle.mv_plan.specs.SpoolRun.{Follows, IsRun}
-use Rattle.mv_plan.specs.SpoolSetup.{spool_setup, reader, scheduler, initiator, writer}
-use Rattle.mv_plan.specs.SpoolTasks.{task_program, reading, scheduling, writing, initiating}
-use Rattle.mv_calls.proofs.Interleaved.{programs_after, follow_from, left_in_is}
+use Rattle.mv_plan.proofs.Words.{◌≡◌, ℕ, ◌+◌, ◌*◌, ◌-◌, ◌<◌, ◌≤◌, ◌==◌, Bool, true, false, if◌then◌else◌, List, [], length, Some, refl, sym}
+use Rattle.mv_plan.proofs.Words.{ap, ◌∙◌, arith, eq-eqb, ne_eqb, Entry, Object, Op, opening, JobData, Kept, nothing_kept, Program, Done}
+use Rattle.mv_plan.proofs.Words.{Wrong, asks, left_in, Follows, IsRun, spool_setup, reader, scheduler, initiator, writer, task_program}
+use Rattle.mv_plan.proofs.Words.{programs_after}
+use Rattle.mv_plan.specs.SpoolTasks.{reading, scheduling, writing, initiating}
+use Rattle.mv_calls.proofs.Interleaved.{follow_from, left_in_is}
 use Rattle.mv_plan.proofs.deck.Plans.{IsPlanned}
 use Rattle.mv_plan.proofs.points.Points.{Point, At, Finished, TooSoon, Astray, Dispatching, reader_asks, scheduler_asks, writer_asks}
 use Rattle.mv_plan.proofs.points.Points.{initiator_asks}

@@ -1,24 +1,10 @@
 -- Moves with their entry written out, so that object, operation and reply compute by cases of the point: of_move for any
 -- relation, by_moves for invariants; and the cells of blocks and elements after a move. Each invariant of the later layers is
 -- proved by one of the two.
-use Rattle.std.proofs.Common.{refl, ◌≡◌, ℕ, ◌<◌, if◌then◌else◌, List, [], ◌∷◌, ◌++◌, length, ◌⊎◌, inl, inr, sym, ap, ◌∙◌, subst}
-use Rattle.std.proofs.lemmas.Bool.{cases_eq, eq-eqb, ne_eqb}
-use Rattle.mv_ecb.specs.declared.operation.EcbOp.{EcbOp}
-use Rattle.mv_ecb.specs.Table.{ecb_step}
-use Rattle.mv_ecb.specs.Word.{EcbState}
-use Rattle.mv_element.specs.declared.element.ElementState.{ElementState}
-use Rattle.mv_element.specs.declared.operation.ElementOp.{ElementOp}
-use Rattle.mv_element.specs.Table.{element_step}
-use Rattle.mv_machine.specs.declared.entry.Entry.{Entry}
-use Rattle.mv_machine.specs.declared.entry.Object.{Object}
-use Rattle.mv_machine.specs.declared.entry.Object.TheVariants.{Ecb, Element}
-use Rattle.mv_machine.specs.declared.entry.Op.{Op}
-use Rattle.mv_machine.specs.declared.entry.Reply.{Reply}
-use Rattle.mv_machine.specs.Legal.{IsNext, next}
-use Rattle.mv_machine.specs.Setup.{Setup}
-use Rattle.mv_machine.specs.System.{System, Cell, moved, with_at, advanced}
-use Rattle.mv_deck.specs.Deck.{JobData}
-use Rattle.mv_plan.specs.SpoolSetup.{reader, scheduler, initiator, writer}
+use Rattle.mv_plan.proofs.Words.{refl, ◌≡◌, ℕ, ◌<◌, if◌then◌else◌, List, [], ◌∷◌, ◌++◌, length, ◌⊎◌, inl, inr, sym, ap, ◌∙◌, subst}
+use Rattle.mv_plan.proofs.Words.{cases_eq, eq-eqb, ne_eqb, EcbOp, ecb_step, EcbState, ElementState, ElementOp, element_step, Entry, Object}
+use Rattle.mv_plan.proofs.Words.{Ecb, Element, Op, Reply, IsNext, next, Setup, System, Cell, moved, with_at, advanced, JobData, reader}
+use Rattle.mv_plan.proofs.Words.{scheduler, initiator, writer}
 use Rattle.mv_machine.specs.declared.entry.Op.TheVariants as op_on
 use Rattle.mv_machine.specs.declared.entry.Reply.TheVariants as reply_of
 use Rattle.mv_plan.proofs.points.Points.{At, ReaderAt, reader_asks, reader_goes, SchedulerAt, scheduler_asks, scheduler_goes, WriterAt}

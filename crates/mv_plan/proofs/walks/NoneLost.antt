@@ -1,15 +1,7 @@
 -- A task is lost where it waited too soon or met a reply that nothing foresees. Whoever is lost stays lost; so where none is
 -- lost in the end, none was. And events that touch neither elements nor idle blocks.
-use Rattle.std.proofs.Common.{◌≡◌, ℕ, List, [], ◌∷◌, refl, sym, subst, arith}
-use Rattle.mv_machine.specs.declared.entry.Entry.{Entry}
-use Rattle.mv_machine.specs.declared.entry.Object.{Object}
-use Rattle.mv_machine.specs.declared.entry.Object.TheVariants.{Ecb, Element, Volume, Latches}
-use Rattle.mv_machine.specs.declared.entry.Op.{Op}
-use Rattle.mv_machine.specs.Legal.{next}
-use Rattle.mv_machine.specs.Setup.{Setup}
-use Rattle.mv_machine.specs.System.{System, moved}
-use Rattle.mv_deck.specs.Deck.{JobData}
-use Rattle.mv_plan.specs.SpoolSetup.{idle}
+use Rattle.mv_plan.proofs.Words.{◌≡◌, ℕ, List, [], ◌∷◌, refl, sym, subst, arith, Entry, Object, Ecb, Element, Volume, Latches, Op, next}
+use Rattle.mv_plan.proofs.Words.{Setup, System, moved, JobData, idle}
 use Rattle.mv_machine.specs.declared.entry.Op.TheVariants as op_on
 use Rattle.mv_plan.proofs.points.Points.{Point, At, Finished}
 use Rattle.mv_plan.proofs.walks.Histories.{AreFinished}

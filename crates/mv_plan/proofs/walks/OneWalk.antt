@@ -1,12 +1,7 @@
 -- From one state and one list of entries there is one walk; so what is known of a walk's end is known along it. Used by the
 -- result on counts.
-use Rattle.std.proofs.Common.{◌≡◌, ℕ, ◌<◌, List, [], ◌∷◌, ◌++◌, length, ap, ◌∙◌, sym, subst, arith}
-use Rattle.mv_machine.specs.declared.entry.Entry.{Entry}
-use Rattle.mv_machine.specs.Legal.{next, after_from}
-use Rattle.mv_machine.specs.Setup.{Setup}
-use Rattle.mv_machine.specs.System.{System, with_at}
-use Rattle.mv_deck.specs.Deck.{JobData}
-use Rattle.mv_plan.specs.SpoolSetup.{reader, scheduler, initiator, writer}
+use Rattle.mv_plan.proofs.Words.{◌≡◌, ℕ, ◌<◌, List, [], ◌∷◌, ◌++◌, length, ap, ◌∙◌, sym, subst, arith, Entry, next, after_from, Setup}
+use Rattle.mv_plan.proofs.Words.{System, with_at, JobData, reader, scheduler, initiator, writer}
 use Rattle.mv_plan.proofs.points.Points.{Point, At, reader_goes, scheduler_goes, writer_goes, initiator_goes}
 use Rattle.mv_plan.proofs.walks.Walks.{Points, Move, reads, schedules, initiates, writes, WalkTo, walk-parts}
 

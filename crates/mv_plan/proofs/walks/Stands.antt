@@ -1,13 +1,6 @@
 -- All points are sound, with what their tasks keep, at each moment of a walk. The first invariant; all others stand on it.
-use Rattle.std.proofs.Common.{◌≡◌, ℕ, ◌<◌, List, [], length, refl, sym, ap, ◌∙◌, subst, arith}
-use Rattle.mv_machine.specs.declared.entry.Entry.{Entry}
-use Rattle.mv_machine.specs.declared.entry.Object.{Object}
-use Rattle.mv_machine.specs.declared.entry.Op.{Op}
-use Rattle.mv_machine.specs.Setup.{Setup}
-use Rattle.mv_machine.specs.System.{System, with_at}
-use Rattle.mv_deck.specs.Deck.{JobData}
-use Rattle.mv_calls.specs.Keeping.{Kept, kept_after, nothing_kept}
-use Rattle.mv_plan.specs.SpoolSetup.{reader, scheduler, initiator, writer}
+use Rattle.mv_plan.proofs.Words.{◌≡◌, ℕ, ◌<◌, List, [], length, refl, sym, ap, ◌∙◌, subst, arith, Entry, Object, Op, Setup, System, with_at}
+use Rattle.mv_plan.proofs.Words.{JobData, Kept, kept_after, nothing_kept, reader, scheduler, initiator, writer}
 use Rattle.mv_plan.proofs.deck.Plans.{ArePlannedJobs}
 use Rattle.mv_plan.proofs.points.Points.{scheduler_asks, scheduler_goes, writer_asks, initiator_asks, initiator_goes, Dispatching}
 use Rattle.mv_plan.proofs.points.ReaderAndWriter.{keeps, IsReaderAt, reader_starts, reader_stands, WriterKept, IsWriterAt, writer_starts}

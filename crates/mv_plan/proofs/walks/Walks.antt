@@ -1,13 +1,8 @@
 -- Histories gone through entry by entry, with the points at which the tasks stand: moves, walks, and the bare induction over
 -- walks.
-use Rattle.std.proofs.Common.{◌≡◌, ℕ, ◌<◌, List, [], ◌∷◌, ◌++◌, length, refl, sym, subst, append-nil, append_assoc, ◌⊎◌, inl, inr, ap, ◌∙◌}
-use Rattle.mv_machine.specs.declared.entry.Entry.{Entry}
-use Rattle.mv_machine.specs.Legal.{IsNext, next, after_from}
-use Rattle.mv_machine.specs.Setup.{Setup}
-use Rattle.mv_machine.specs.System.{System, with_at}
-use Rattle.mv_deck.specs.Deck.{JobData}
-use Rattle.mv_plan.specs.SpoolSetup.{reader, scheduler, initiator, writer}
-use Rattle.std.proofs.lemmas.Bool.{cases_eq}
+use Rattle.mv_plan.proofs.Words.{◌≡◌, ℕ, ◌<◌, List, [], ◌∷◌, ◌++◌, length, refl, sym, subst, append-nil, append_assoc, ◌⊎◌, inl, inr, ap}
+use Rattle.mv_plan.proofs.Words.{◌∙◌, Entry, IsNext, next, after_from, Setup, System, with_at, JobData, reader, scheduler, initiator}
+use Rattle.mv_plan.proofs.Words.{writer, cases_eq}
 use Rattle.mv_plan.proofs.points.Points.{Point, At, ReaderAt, entering_from, reader_asks, reader_goes, Dispatching, SchedulerAt, stage_at}
 use Rattle.mv_plan.proofs.points.Points.{scheduler_asks, scheduler_goes, WriterAt, writing_from, writer_asks, writer_goes, InitiatorAt}
 use Rattle.mv_plan.proofs.points.Points.{Opening, initiator_asks, initiator_goes}

@@ -1,6 +1,6 @@
 -- The parts counted, and those of the jobs that are left.
-use Rattle.std.proofs.Common.{◌≡◌, ◌+◌, map, drop}
-use Rattle.mv_deck.specs.Deck.{job_data}
+use Rattle.mv_plan.proofs.Words.{◌≡◌, ◌+◌, map, job_data}
+use Rattle.std.proofs.Common.{drop}
 use Rattle.mv_deck.specs.Weight.{after_parts}
 use Rattle.mv_plan.proofs.spool_setup.after_parts.Given as goal
 

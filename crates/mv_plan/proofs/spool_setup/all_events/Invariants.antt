@@ -1,6 +1,6 @@
 -- The events counted, and those of the jobs that are left.
-use Rattle.std.proofs.Common.{◌≡◌, ◌+◌, map, drop}
-use Rattle.mv_deck.specs.Deck.{job_data}
+use Rattle.mv_plan.proofs.Words.{◌≡◌, ◌+◌, map, job_data}
+use Rattle.std.proofs.Common.{drop}
 use Rattle.mv_deck.specs.Weight.{all_events}
 use Rattle.mv_plan.proofs.spool_setup.all_events.Given as goal
 

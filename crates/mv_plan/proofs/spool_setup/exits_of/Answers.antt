@@ -1,6 +1,5 @@
 -- One more exit.
-use Rattle.std.proofs.Common.{[], ◌∷◌, ap, ◌∙◌}
-use Rattle.mv_plan.specs.SpoolSetup.{end_for_scheduler}
+use Rattle.mv_plan.proofs.Words.{[], ◌∷◌, ap, ◌∙◌, end_for_scheduler}
 use Rattle.mv_plan.proofs.code.Owners.{exits_more}
 use Rattle.mv_plan.proofs.spool_setup.exits_of.Goals as goal
 

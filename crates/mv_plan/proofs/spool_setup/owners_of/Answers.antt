@@ -1,5 +1,6 @@
 -- Two more owners, and in the end those of the idle blocks.
-use Rattle.std.proofs.Common.{◌+◌, ◌*◌, ap, ◌∙◌, arith, vec_len}
+use Rattle.mv_plan.proofs.Words.{◌+◌, ◌*◌, ap, ◌∙◌, arith}
+use Rattle.std.proofs.Common.{vec_len}
 use Rattle.mv_plan.proofs.code.Owners.{front_owners, owners_more, owners_all}
 use Rattle.mv_plan.proofs.spool_setup.owners_of.Goals as goal
 

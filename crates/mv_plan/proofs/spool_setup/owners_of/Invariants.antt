@@ -1,6 +1,5 @@
 -- The owners of the blocks so far.
-use Rattle.std.proofs.Common.{◌≡◌, ◌++◌, replicate}
-use Rattle.mv_plan.specs.SpoolSetup.{end_owners, scheduler}
+use Rattle.mv_plan.proofs.Words.{◌≡◌, ◌++◌, replicate, end_owners, scheduler}
 use Rattle.mv_plan.proofs.spool_setup.owners_of.Given as goal
 
 abbrev pub invariant-loop : goal.invariant-loop

@@ -1,7 +1,6 @@
 -- No rule refuses the configuration.
-use Rattle.std.proofs.Common.{◌≡◌, length, refl, sym, ◌∙◌, arith}
-use Rattle.std.proofs.lemmas.List.{length-map}
-use Rattle.mv_deck.specs.Deck.{job_data, deck_data}
+use Rattle.mv_plan.proofs.Words.{◌≡◌, length, refl, sym, ◌∙◌, arith, length-map, job_data}
+use Rattle.mv_deck.specs.Deck.{deck_data}
 use Rattle.mv_plan.proofs.deck.Valid.{not_refused}
 use Rattle.mv_plan.proofs.spool_setup.spool_config.Goals as goal
 
