@@ -16,6 +16,7 @@ use Rattle.mv_plan.proofs.points.Points.{freeing_at, steps_at, running, job_star
 use Rattle.mv_plan.proofs.points.PostsAndWaits.{on_posted_keeps}
 use Rattle.mv_plan.proofs.volumes.Sums.{sum_to, sum_front, sum_change}
 use Rattle.mv_plan.proofs.points.Lands.{freeing_lands, given_lands, counting_lands, ended_lands}
+use Rattle.std.proofs.lemmas.Grind.{common_steps}
 
 -- ---- jobs that were not named before
 
@@ -69,25 +70,7 @@ all_rounds (job ∷ jobs) =
 
 -- a code names one of the jobs
 pub named_below : (n code : ℕ) (named : Named) → job_named n code ≡ Some named → named.job < n
-named_below n code named e = go (nat_le 1 code && nat_le code n) (nat_le (1 + not_to_run) code && nat_le code (n + not_to_run))
-    refl refl e where
-      go : (a b : Bool) → (nat_le 1 code && nat_le code n) ≡ a → (nat_le (1 + not_to_run) code && nat_le code (n + not_to_run)) ≡ b
-          → (if a then Some (record { job = code - 1; skipped = false })
-          else if b then Some (record { job = code - (1 + not_to_run); skipped = true }) else None) ≡ Some named → named.job < n
-      go true b p q e =
-          let f : record { job = code - 1; skipped = false } ≡ named = cc e in
-          let parts : (nat_le 1 code ≡ true) × (nat_le code n ≡ true) = and_parts (nat_le 1 code) (nat_le code n) p in
-          let low : 1 ≤ code = leb-true 1 code parts.0 in
-          let high : code ≤ n = leb-true code n parts.1 in
-          subst (λ x. x.job < n) f (omega arith)
-      go false true p q e =
-          let f : record { job = code - (1 + not_to_run); skipped = true } ≡ named = cc e in
-          let parts : (nat_le (1 + not_to_run) code ≡ true) × (nat_le code (n + not_to_run) ≡ true) =
-          and_parts (nat_le (1 + not_to_run) code) (nat_le code (n + not_to_run)) q in
-          let low : 1 + not_to_run ≤ code = leb-true (1 + not_to_run) code parts.0 in
-          let high : code ≤ n + not_to_run = leb-true code (n + not_to_run) parts.1 in
-          subst (λ x. x.job < n) f (omega arith)
-      go false false p q e = absurd (cc e)
+named_below n code named e = grind (arith, common_steps)
 
 -- ---- what an initiator may still do
 
@@ -124,13 +107,8 @@ module _ (deck : List JobData) where
   -- where a job's steps are to be done
   steps_rest : (run : Running) (hand : Hand) (steps : List Step)
       → initiator_rest (steps_at run hand steps) ≤ 4 + (steps_events steps + behind_job run)
-  steps_rest run hand (Print text ∷ steps) =
-      let le : initiator_rest (steps_at run hand steps) ≤ 4 + (steps_events steps + behind_job run) = steps_rest run hand steps in
-      omega arith
-  steps_rest run hand (Free latch ∷ steps) =
-      let le : initiator_rest (freeing_at run hand latch (hand.requests latch) steps) ≤ 5 + (steps_events steps + behind_job run) =
-      freeing_lands (λ p. initiator_rest p ≤ 5 + (steps_events steps + behind_job run)) (omega arith) run hand latch
-      (hand.requests latch) steps (λ id e. omega arith) in omega arith
+  steps_rest run hand (Print text ∷ steps) = grind (arith, common_steps, steps_rest run hand steps)
+  steps_rest run hand (Free latch ∷ steps) = grind (arith, common_steps)
   steps_rest run hand steps = omega arith
 
   -- where a job begins
@@ -154,9 +132,7 @@ module _ (deck : List JobData) where
   -- where a number was read
   counting_rest : (run : Running) (hand : Hand) (volume amount : ℕ) (steps : List Step) (number : ℕ)
       → initiator_rest (counting_at run hand volume amount steps number) ≤ 5 + (steps_events steps + behind_job run)
-  counting_rest run hand volume amount steps number =
-      counting_lands (λ p. initiator_rest p ≤ 5 + (steps_events steps + behind_job run)) (omega arith) run hand volume amount steps number
-      (omega arith)
+  counting_rest run hand volume amount steps number = grind (arith, common_steps)
 
   -- one less than enough
   paying : {a b : ℕ} (d : ℕ) → a ≤ b → suc b ≤ d → suc a ≤ d
@@ -169,9 +145,7 @@ module _ (deck : List JobData) where
   -- each event takes one
   pub initiator_pays : (x : InitiatorAt) (r : Reply) → suc (initiator_rest (initiator_goes deck x r)) ≤ initiator_rest (At x)
   initiator_pays Opening (reply_of.Element (element_reply.Opened g)) = paying _ (rounds_rest (length deck + 1) [] g) (omega arith)
-  initiator_pays (Offering more before g) r =
-      on_posted_keeps (λ p. suc (initiator_rest p) ≤ 4 + rounds_to_come deck before) (At (Pausing more before g)) r
-      (omega arith) (omega arith)
+  initiator_pays (Offering more before g) r = grind (arith, common_steps)
   initiator_pays (Pausing more before g) (reply_of.Element (element_reply.Given code now)) =
       let le : initiator_rest (given_at deck more before code now) ≤ 1 + rounds_to_come deck before = given_rest more before code now in
       omega arith
@@ -192,14 +166,8 @@ module _ (deck : List JobData) where
   initiator_pays (InJob run (Rescanning hand volume number steps)) (reply_of.Volume (volume_reply.Value again)) =
       paying _ (steps_rest run hand steps) (omega arith)
   initiator_pays (InJob run (Purging hand code)) (reply_of.Latch (latch_reply.Purged removed granted)) = omega arith
-  initiator_pays (InJob run (EndingJob code counts)) r =
-      ended_lands (λ p. suc (initiator_rest p) ≤ 3 + behind_job run) (omega arith) run code counts r (omega arith)
-      (paying _ (after_rest run) (omega arith))
-  initiator_pays (InJob run (EndingForScheduler code counts)) r =
-      on_posted_keeps (λ p. suc (initiator_rest p) ≤ 2 + behind_job run) (At (InJob run (EndingForWriter code counts))) r
-      (omega arith) (omega arith)
-  initiator_pays (InJob run (EndingForWriter code counts)) r =
-      on_posted_keeps (λ p. suc (initiator_rest p) ≤ 1 + behind_job run) (rounds_after run) r
-      (paying _ (after_rest run) (omega arith)) (omega arith)
+  initiator_pays (InJob run (EndingJob code counts)) r = grind (arith, common_steps)
+  initiator_pays (InJob run (EndingForScheduler code counts)) r = grind (arith, common_steps)
+  initiator_pays (InJob run (EndingForWriter code counts)) r = grind (arith, common_steps)
   initiator_pays (Closing g) (reply_of.Element element_reply.Closed) = omega arith
   initiator_pays x r = omega arith

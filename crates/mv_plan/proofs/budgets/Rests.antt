@@ -13,6 +13,7 @@ use Rattle.mv_plan.proofs.points.Points.{Extends, Clears, Releases, awaited_bloc
 use Rattle.mv_plan.proofs.points.Points.{stage_at, found_at, settling_from, arming_from, scheduler_goes, WriterAt, Keeping, writing_from}
 use Rattle.mv_plan.proofs.points.Points.{end_found, lowest_at, writer_goes}
 use Rattle.mv_plan.proofs.points.PostsAndWaits.{on_posted_keeps, on_armed_keeps, on_settled_keeps, lowest_keeps}
+use Rattle.std.proofs.lemmas.Grind.{common_steps}
 
 -- ---- the reader: one event for each job
 
@@ -28,9 +29,7 @@ entering_rest j (suc more) = omega arith
 
 -- each event takes one
 pub reader_pays : (x : ReaderAt) (r : Reply) → suc (reader_rest (reader_goes x r)) ≤ reader_rest (At x)
-reader_pays (Entering j more) r =
-    on_posted_keeps (λ p. suc (reader_rest p) ≤ suc more) (entering_from (j + 1) more) r
-    (let le : reader_rest (entering_from (j + 1) more) ≤ more = entering_rest (j + 1) more in omega arith) (omega arith)
+reader_pays (Entering j more) r = grind (arith, common_steps)
 
 -- ---- the writer: two events for each job
 
@@ -65,9 +64,7 @@ module _ (n : ℕ) where
       on_settled_keeps (λ p. suc (writer_rest p) ≤ 1 + 2 * more) (λ slot. end_found n j more ends (found ++ slot ∷ [])) r
       (λ slot. let le : writer_rest (end_found n j more ends (found ++ slot ∷ [])) ≤ 2 * more =
       end_rest j more ends (found ++ slot ∷ []) in omega arith) (omega arith)
-  writer_pays (Keeping j more ends (Settling e (f ∷ todo) found)) r =
-      on_settled_keeps (λ p. suc (writer_rest p) ≤ suc (length (f ∷ todo)) + 2 * more)
-      (λ slot. At (Keeping j more ends (Settling f todo (found ++ slot ∷ [])))) r (λ slot. omega arith) (omega arith)
+  writer_pays (Keeping j more ends (Settling e (f ∷ todo) found)) r = grind (arith, common_steps)
 
 -- ---- the scheduler
 
@@ -198,7 +195,4 @@ module _ (n initiators : ℕ) where
   pub jobs_rest_is : (jobs : List JobData)
       → jobs_rest jobs ≡ 5 * length jobs + 2 * length jobs * initiators + 2 * after_parts jobs
   jobs_rest_is [] = omega arith
-  jobs_rest_is (job ∷ jobs) = more (length jobs) (length job.after) (after_parts jobs) (jobs_rest jobs) (jobs_rest_is jobs) where
-    more : (m k a rest : ℕ) → rest ≡ 5 * m + 2 * m * initiators + 2 * a
-        → 5 + 2 * initiators + 2 * k + rest ≡ 5 * suc m + 2 * suc m * initiators + 2 * (k + a)
-    more m k a rest e = grind arith
+  jobs_rest_is (job ∷ jobs) = grind (arith, common_steps, jobs_rest_is jobs)

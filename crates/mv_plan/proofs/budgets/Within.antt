@@ -24,30 +24,17 @@ use Rattle.mv_plan.proofs.walks.Walks.{Points, start_points, Move, reads, schedu
 use Rattle.mv_plan.proofs.budgets.Rests.{reader_rest, reader_pays, entering_rest, scheduler_rest, scheduler_pays, stage_starts, jobs_rest}
 use Rattle.mv_plan.proofs.budgets.Rests.{jobs_rest_is, writer_rest, writer_pays, writing_rest}
 use Rattle.mv_plan.proofs.budgets.InitiatorRests.{initiator_rest, initiator_pays, all_rounds, rounds_to_come}
+use Rattle.std.proofs.lemmas.Grind.{common_steps}
 
 -- ---- how a caller's part grows by an entry
 
 -- one's own entry
 made_own : (k : ℕ) (past : List Entry) (e : Entry) → e.caller ≡ k → length (of k (past ++ e ∷ [])) ≡ suc (length (of k past))
-made_own k past e same =
-    let one : length (of k (e ∷ [])) ≡ 1 = ap (λ es. length es) (own k e same) in
-    let both : length (of k past ++ of k (e ∷ [])) ≡ length (of k past) + length (of k (e ∷ [])) =
-    length-append (of k past) (of k (e ∷ [])) in
-    ap (λ es. length es) (of-append k past (e ∷ [])) ∙ (let r : length (of k past ++ of k (e ∷ [])) ≡ suc (length (of k past)) =
-    omega arith in r) where
-      own : (k : ℕ) (e : Entry) → e.caller ≡ k → of k (e ∷ []) ≡ e ∷ []
-      own k e same = rw (eq-eqb e.caller k same) refl
+made_own k past e same = grind (arith, common_steps)
 
 -- another's entry
 made_other : (k : ℕ) (past : List Entry) (e : Entry) → (e.caller ≡ k → ⊥) → length (of k (past ++ e ∷ [])) ≡ length (of k past)
-made_other k past e other =
-    let none : length (of k (e ∷ [])) ≡ 0 = ap (λ es. length es) (nothing k e other) in
-    let both : length (of k past ++ of k (e ∷ [])) ≡ length (of k past) + length (of k (e ∷ [])) =
-    length-append (of k past) (of k (e ∷ [])) in
-    ap (λ es. length es) (of-append k past (e ∷ [])) ∙ (let r : length (of k past ++ of k (e ∷ [])) ≡ length (of k past) =
-    omega arith in r) where
-      nothing : (k : ℕ) (e : Entry) → (e.caller ≡ k → ⊥) → of k (e ∷ []) ≡ []
-      nothing k e other = rw (ne_eqb e.caller k other) refl
+made_other k past e other = grind (arith, common_steps)
 
 -- what a task has made and may still make, of its budget
 paid : (k b : ℕ) (past : List Entry) (e : Entry) (before after : ℕ) → e.caller ≡ k → suc after ≤ before
@@ -97,13 +84,7 @@ module _ (deck : List JobData) (initiators : ℕ) where
 
   -- and behind each
   within_next : (t u : Points) (past : List Entry) (e : Entry) → Move deck initiators t e u → Within t past → Within u (past ++ e ∷ [])
-  within_next t u past e (reads x k at o op moved) w = subst (λ v. Within v (past ++ e ∷ [])) (sym moved) (record {
-    by_reader = paid reader (length deck) past e (reader_rest (At x)) (reader_rest (reader_goes x e.reply)) k
-        (reader_pays x e.reply) (subst (λ p. length (of reader past) + reader_rest p ≤ length deck) at w.by_reader);
-    by_scheduler = kept scheduler _ past e _ (λ q. absurd (omega arith)) w.by_scheduler;
-    by_initiator = λ i lt. kept (initiator i) _ past e _ (λ q. absurd (omega arith)) (w.by_initiator i lt);
-    by_writer = kept (writer initiators) _ past e _ (λ q. absurd (omega arith)) w.by_writer;
-  })
+  within_next t u past e (reads x k at o op moved) w = grind (arith, common_steps)
   within_next t u past e (schedules x k at o op moved) w = subst (λ v. Within v (past ++ e ∷ [])) (sym moved) (record {
     by_reader = kept reader _ past e _ (λ q. absurd (omega arith)) w.by_reader;
     by_scheduler = paid scheduler scheduler_budget past e (scheduler_rest (length deck) initiators (At x))
@@ -138,21 +119,11 @@ module _ (deck : List JobData) (initiators : ℕ) where
 
   -- where an initiator finds its own
   budget_of_initiator : (i : ℕ) → i < initiators → slice_index (task_budgets deck initiators) (initiator i) ≡ initiator_budget
-  budget_of_initiator i lt = ap (λ k. get_or (task_budgets deck initiators) k 0) (two_more i)
-      ∙ get_or_append_left (replicate initiators initiator_budget) ((2 * length deck) ∷ []) 0 i
-      (subst (λ l. i < l) (sym (length-replicate initiators initiator_budget)) lt)
-      ∙ get_or-replicate initiators i initiator_budget 0 lt where
-        two_more : (i : ℕ) → i + 2 ≡ suc (suc i)
-        two_more i = omega arith
+  budget_of_initiator i lt = grind (arith, common_steps)
 
   -- and where the writer does
   budget_of_writer : slice_index (task_budgets deck initiators) (writer initiators) ≡ 2 * length deck
-  budget_of_writer = ap (λ k. get_or (task_budgets deck initiators) k 0) (two_more initiators)
-      ∙ ap (λ k. get_or (replicate initiators initiator_budget ++ (2 * length deck) ∷ []) k 0)
-      (sym (length-replicate initiators initiator_budget))
-      ∙ get_or-append_seam (replicate initiators initiator_budget) (2 * length deck) [] 0 where
-        two_more : (i : ℕ) → i + 2 ≡ suc (suc i)
-        two_more i = omega arith
+  budget_of_writer = grind (arith, common_steps)
 
   -- any reply
   abbrev some_reply : Reply

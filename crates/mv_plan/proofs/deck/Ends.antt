@@ -16,6 +16,7 @@ use Rattle.std.specs.List.{sum_by}
 use Rattle.std.proofs.lemmas.List.Folds.{sum_by-replicate}
 use Rattle.mv_plan.proofs.deck.Plans.{IsPlannedJob, ArePlannedJobs, IsPlanned, Held, ArePlannedSteps}
 use Rattle.mv_report.proofs.Ends.{ends_by_accepted_codes}
+use Rattle.std.proofs.lemmas.Grind.{common_steps}
 
 -- the job of each number in a sound deck is sound
 pub sound_job : (from : ℕ) (jobs : List JobData) (j : ℕ) → ArePlannedJobs from jobs → j < length jobs
@@ -50,20 +51,7 @@ few_jobs deck initiators sound = let w : weight deck initiators ≤ 524287 = sou
 
 -- the budgets of all tasks sum to the weight
 pub budgets_sum : (deck : List JobData) (i : ℕ) → sum (task_budgets deck i) ≡ weight deck i
-budgets_sum deck i =
-    let initiators : sum_by (λ b. b) (replicate i (5 + 7 * length deck + all_events deck) ++ (2 * length deck) ∷ []) ≡ i *
-    (5 + 7 * length deck + all_events deck) + 2 * length deck =
-    sum_by_push (λ b. b) (replicate i (5 + 7 * length deck + all_events deck)) (2 * length deck)
-    ∙ ap (λ s. s + 2 * length deck) (sum_by-replicate (λ b. b) i (5 + 7 * length deck + all_events deck)) in
-    let scheduler : ℕ = 5 * length deck + 2 * length deck * i + 2 * after_parts deck + 4 * i in
-    let all : sum (task_budgets deck i) ≡ length deck + (scheduler + (i * (5 + 7 * length deck + all_events deck) + 2 * length deck)) =
-    sum_by-cons (λ b. b) (length deck) (scheduler ∷ (replicate i (5 + 7 * length deck + all_events deck) ++ (2 * length deck) ∷ []))
-    ∙ ap (λ s. length deck + s) (sum_by-cons (λ b. b) scheduler
-    (replicate i (5 + 7 * length deck + all_events deck) ++ (2 * length deck) ∷ []) ∙ ap (λ s. scheduler + s) initiators) in
-    all ∙ regroup (length deck) i (after_parts deck) (all_events deck) where
-      regroup : (n i k s : ℕ) → n + ((5 * n + 2 * n * i + 2 * k + 4 * i) + (i * (5 + 7 * n + s) + 2 * n))
-          ≡ 8 * n + 9 * i + 9 * n * i + 2 * k + i * s
-      regroup n i k s = grind arith
+budgets_sum deck i = grind (arith, common_steps)
 
 -- ---- which jobs are not to be run
 

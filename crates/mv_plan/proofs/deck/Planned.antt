@@ -12,6 +12,7 @@ use Rattle.std.proofs.lemmas.List.FromFn.{get_or-range_with_len}
 use Rattle.std.proofs.lemmas.List.Sums.{fold-append}
 use Rattle.mv_deck.specs.Sound as deck
 use Rattle.mv_plan.proofs.deck.Plans.{Held, is_held, is_held_alone, ArePlannedSteps, IsPlannedJob, ArePlannedJobs, IsPlanned}
+use Rattle.std.proofs.lemmas.Grind.{common_steps}
 
 -- how a list says that a latch is held
 abbrev mode_in : List Held → ℕ → Option Mode
@@ -40,12 +41,7 @@ same_lists hs done step same x = record {
 -- a test that none passes
 none_in : (p : ℕ → Bool) (xs : List ℕ) (i : ℕ) → list_any p xs ≡ false → i < length xs → p (get_or xs i 0) ≡ false
 none_in p [] i e lt = absurd (omega arith)
-none_in p (x ∷ xs) i e lt = go (p x) refl (λ i f lt. none_in p xs i f lt) i lt where
-  go : (b : Bool) → p x ≡ b → ((i : ℕ) → list_any p xs ≡ false → i < length xs → p (get_or xs i 0) ≡ false)
-      → (i : ℕ) → i < length (x ∷ xs) → p (get_or (x ∷ xs) i 0) ≡ false
-  go true q more i lt = absurd (false≢true (sym e ∙ ap (λ c. c || list_any p xs) q))
-  go false q more zero lt = q
-  go false q more (suc i) lt = more i (sym (ap (λ c. c || list_any p xs) q) ∙ e) (omega arith)
+none_in p (x ∷ xs) i e lt = grind (arith, common_steps, none_in p xs i)
 
 -- each latch stands at its own place
 low_latch : (l : ℕ) → l ≤ 7 → get_or latches l 0 ≡ l
@@ -139,21 +135,8 @@ used_lists hs done latch mode le below x = record {
 -- a latch that is freed is in the list no more, and the others are
 freed : (hs : List Held) (latch l : ℕ)
     → (if latch == l then None else mode_in hs l) ≡ mode_in (filter (λ h. not (is_held latch h)) hs) l
-freed [] latch l = either (latch == l) None where
-  either : (b : Bool) (m : Option Mode) → (if b then m else m) ≡ m
-  either true m = refl
-  either false m = refl
-freed (h ∷ hs) latch l = go (h.latch == latch) (h.latch == l) refl refl (freed hs latch l) where
-  go : (a b : Bool) → (h.latch == latch) ≡ a → (h.latch == l) ≡ b
-      → (if latch == l then None else mode_in hs l) ≡ mode_in (filter (λ h. not (is_held latch h)) hs) l
-      → (if latch == l then None else if h.latch == l then Some h.mode else mode_in hs l)
-      ≡ mode_in (filter (λ h. not (is_held latch h)) (h ∷ hs)) l
-  go true true p q more = rw (p, q, eq-eqb latch l (sym (eqb-true h.latch latch p) ∙ eqb-true h.latch l q))
-      (sym (ap (λ b. if b then None else mode_in hs l) (eq-eqb latch l (sym (eqb-true h.latch latch p) ∙ eqb-true h.latch l q)))
-      ∙ more)
-  go true false p q more = rw (p, q) more
-  go false true p q more = rw (p, q, ne_eqb latch l (λ e. false≢true (sym p ∙ eq-eqb h.latch latch (eqb-true h.latch l q ∙ sym e)))) refl
-  go false false p q more = rw (p, q) more
+freed [] latch l = grind (arith, common_steps)
+freed (h ∷ hs) latch l = grind (arith, common_steps, freed hs latch l)
 
 -- all that are left are low
 all_left : (hs : List Held) (p : Held → Bool) → AllByRecursion (λ h. h.latch ≤ 7) hs → AllByRecursion (λ h. h.latch ≤ 7) (filter p hs)
@@ -201,13 +184,7 @@ alone_in_list (h ∷ hs) l e = go (h.latch == l) h.mode refl refl (λ e. alone_i
 ended : (done : List Step) (step : Step) (steps : List Step) → is_end step ≡ true
     → deck.AreSoundSteps (done ++ step ∷ []) steps → steps ≡ []
 ended done step [] e s = refl
-ended done step (next ∷ steps) e s = absurd (false≢true (sym s.0.before_end ∙ any_end done)) where
-  any_end : (done : List Step) → list_any is_end (done ++ step ∷ []) ≡ true
-  any_end [] = ap (λ b. b || false) e
-  any_end (d ∷ done) = ap (λ b. is_end d || b) (any_end done) ∙ either (is_end d) where
-    either : (b : Bool) → (b || true) ≡ true
-    either true = refl
-    either false = refl
+ended done step (next ∷ steps) e s = grind (arith, common_steps)
 
 -- the steps
 planned_steps : (hs : List Held) (done steps : List Step) → Lists hs done → deck.AreSoundSteps done steps → ArePlannedSteps hs steps

@@ -12,6 +12,7 @@ use Rattle.mv_machine.specs.Setup.{starts_from}
 use Rattle.mv_plan.specs.SpoolSetup.{done}
 use Rattle.std.specs.Prelude.{slice_get}
 use Rattle.mv_calls.specs.Posts.{targets_of, targets_at}
+use Rattle.std.proofs.lemmas.Grind.{common_steps}
 
 -- a configuration of the spool for n jobs
 pub record Facts (c : Setup) (n initiators : ℕ) : Type 0 where
@@ -39,18 +40,12 @@ length_ends w (suc n) = let ih : length (end_owners w n) ≡ 2 * n = length_ends
 scheduler_end : (w n j : ℕ) (rest : List ℕ) → j < n → get_or (end_owners w n ++ rest) (2 * j) 0 ≡ 1
 scheduler_end w zero j rest lt = elim lt [ ]
 scheduler_end w (suc n) zero rest lt = refl
-scheduler_end w (suc n) (suc j) rest lt = ap (λ k. get_or (end_owners w (suc n) ++ rest) k 0) twice
-    ∙ scheduler_end w n j rest (omega arith) where
-      twice : 2 * suc j ≡ suc (suc (2 * j))
-      twice = omega arith
+scheduler_end w (suc n) (suc j) rest lt = grind (arith, common_steps, scheduler_end w n j rest)
 
 writer_end : (w n j : ℕ) (rest : List ℕ) → j < n → get_or (end_owners w n ++ rest) (2 * j + 1) 0 ≡ w
 writer_end w zero j rest lt = elim lt [ ]
 writer_end w (suc n) zero rest lt = refl
-writer_end w (suc n) (suc j) rest lt = ap (λ k. get_or (end_owners w (suc n) ++ rest) k 0) twice
-    ∙ writer_end w n j rest (omega arith) where
-      twice : 2 * suc j + 1 ≡ suc (suc (2 * j + 1))
-      twice = omega arith
+writer_end w (suc n) (suc j) rest lt = grind (arith, common_steps, writer_end w n j rest)
 
 -- behind a list of this length
 behind : (xs ys : List ℕ) (m k i : ℕ) → length xs ≡ m → i ≡ m + k → get_or (xs ++ ys) i 0 ≡ get_or ys k 0
@@ -61,9 +56,7 @@ ends_on n initiators = end_owners (writer initiators) n ++ replicate initiators 
 
 -- the owners, part by part
 by_parts : (n initiators : ℕ) → block_owners n initiators ≡ replicate n scheduler ++ (replicate n scheduler ++ ends_on n initiators)
-by_parts n initiators =
-    append_assoc (replicate n scheduler ++ replicate n scheduler) (end_owners (writer initiators) n) (replicate initiators scheduler)
-    ∙ append_assoc (replicate n scheduler) (replicate n scheduler) (ends_on n initiators)
+by_parts n initiators = grind (arith, common_steps)
 
 owned_by : (n initiators i k : ℕ) → get_or (replicate n scheduler ++ (replicate n scheduler ++ ends_on n initiators)) i 0 ≡ k
     → get_or (block_owners n initiators) i 0 ≡ k
@@ -78,9 +71,7 @@ module _ (n initiators : ℕ) where
   first_part j lt = owned_by n initiators j 1 (ones n j (replicate n scheduler ++ ends_on n initiators) lt)
 
   second_part : (j : ℕ) → j < n → get_or (block_owners n initiators) (n + j) 0 ≡ 1
-  second_part j lt = owned_by n initiators (n + j) 1
-      (behind (replicate n scheduler) (replicate n scheduler ++ ends_on n initiators) n j (n + j) (length-replicate n scheduler) refl
-      ∙ ones n j (ends_on n initiators) lt)
+  second_part j lt = grind (arith, common_steps)
 
   third_part : (i k o : ℕ) → i ≡ 2 * n + k → get_or (ends_on n initiators) k 0 ≡ o → get_or (block_owners n initiators) i 0 ≡ o
   third_part i k o e f = owned_by n initiators i o
@@ -129,11 +120,7 @@ exit_at n from (suc count) (suc j) lt = exit_at n (from + 1) count j (omega arit
 
 exit_there : (n j : ℕ) (xs : List SetupExit) → slice_get xs j ≡ Some (end_exit n j)
     → (nat_lt 0 (j + 1) && starts_from (done n j) (slice_get xs (j + 1 - 1))) ≡ true
-exit_there n j xs e = ap (λ k. nat_lt 0 (j + 1) && starts_from (done n j) (slice_get xs k)) (less_one j)
-    ∙ ap (λ x. nat_lt 0 (j + 1) && starts_from (done n j) x) e
-    ∙ rw (eq-eqb (done n j) (done n j) refl, lt-ltb 0 (j + 1) (omega arith)) refl where
-      less_one : (j : ℕ) → j + 1 - 1 ≡ j
-      less_one j = omega arith
+exit_there n j xs e = grind (arith, common_steps)
 
 exit_targets : (c : Setup) (n j : ℕ) → slice_get c.exits j ≡ Some (end_exit n j)
     → targets_of c (suc j) ≡ end_for_scheduler n j ∷ end_for_writer n j ∷ []

@@ -12,6 +12,7 @@ use Rattle.mv_machine.specs.declared.config.ConfigLimit.TheVariants.{Callers, Bu
 use Rattle.mv_machine.proofs.Chains.{all_copies}
 use Rattle.mv_plan.proofs.deck.Ends.{budgets_sum}
 use Rattle.mv_plan.proofs.deck.Setup.{facts}
+use Rattle.std.proofs.lemmas.Grind.{common_steps}
 
 -- a number within its limits
 within : (low high n : ℕ) → low ≤ n → n ≤ high → is_within low high n ≡ true
@@ -21,13 +22,7 @@ within low high n a b = rw (le-leb low n a, le-leb n high b) refl
 
 -- one budget for each caller
 length_budgets : (deck : List JobData) (initiators : ℕ) → length (task_budgets deck initiators) ≡ initiators + 3
-length_budgets deck initiators =
-    let e : length (replicate initiators (5 + 7 * length deck + all_events deck) ++ (2 * length deck) ∷ []) ≡ length
-    (replicate initiators (5 + 7 * length deck + all_events deck)) + 1 =
-    length-append (replicate initiators (5 + 7 * length deck + all_events deck)) ((2 * length deck) ∷ []) in
-    let f : length (replicate initiators (5 + 7 * length deck + all_events deck)) ≡ initiators =
-    length-replicate initiators (5 + 7 * length deck + all_events deck) in
-    omega arith
+length_budgets deck initiators = grind (arith, common_steps)
 
 -- each exit has two targets
 few_targets : (n from count : ℕ) → list_all (λ x. is_within 1 8 (length x.targets)) (map (end_exit n) (range_with_len from count)) ≡ true
@@ -68,13 +63,7 @@ owners_below n initiators =
 
 -- a job's exit leads from one block up to two others
 good_exit : (n ecbs j : ℕ) → j < n → 4 * n ≤ ecbs → is_bad_exit ecbs (end_exit n j) ≡ false
-good_exit n ecbs j lt le = rw (
-  lt-leb ecbs (done n j) (omega arith),
-  lt-leb ecbs (end_for_scheduler n j) (omega arith),
-  lt-leb (end_for_scheduler n j) (done n j) (omega arith),
-  lt-leb ecbs (end_for_writer n j) (omega arith),
-  lt-leb (end_for_writer n j) (done n j) (omega arith),
-) refl
+good_exit n ecbs j lt le = grind (arith, common_steps)
 
 -- all exits do
 good_exits : (n ecbs from count i : ℕ) → from + count ≤ n → 4 * n ≤ ecbs
@@ -93,10 +82,7 @@ module _ (deck : List JobData) (initiators : ℕ) (some : 1 ≤ initiators) (few
     (light : weight deck initiators ≤ 524287) where
   -- few jobs
   jobs_few : 17 * length deck ≤ 524287
-  jobs_few = go (length deck) initiators some light where
-    go : (n i : ℕ) → 1 ≤ i → 8 * n + 9 * i + 9 * n * i + 2 * after_parts deck + i * all_events deck ≤ 524287 → 17 * n ≤ 524287
-    go n zero some le = absurd (omega arith)
-    go n (suc i) some le = grind arith
+  jobs_few = grind (arith, common_steps)
 
   -- nothing refuses that of a deck
   pub spool_setup_is_valid : IsValid (spool_setup deck initiators)

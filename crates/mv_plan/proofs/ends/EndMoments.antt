@@ -26,6 +26,7 @@ use Rattle.mv_plan.proofs.ends.Posted.{clear_is_no_post}
 use Rattle.mv_plan.proofs.ends.Traces.{Traces, traces_next}
 use Rattle.mv_plan.proofs.walks.Moves.{KeepsUnder, by_moves, block}
 use Rattle.mv_plan.proofs.points.Views.{run_of, next_job, IsNotLost}
+use Rattle.std.proofs.lemmas.Grind.{common_steps}
 
 -- an initiator that offers itself finds its block free
 abbrev pub IsFreeToOffer : ℕ → System → ℕ → Point InitiatorAt → Type 0
@@ -61,17 +62,7 @@ module _ (deck : List JobData) (initiators : ℕ) (sound : IsPlanned deck initia
       → t.initiators i ≡ At x
       → (b d : ℕ) → (initiator_asks (length deck) i x).0 ≡ Ecb b → (initiator_asks (length deck) i x).1 ≡ op_on.Ecb (ecb_op.Post d)
       → NotComplete s b
-  initiator_free s t i x m lt at b d o op = elim (post_by (length deck) i x b (ecb_op.Post d) o op) [
-    | offers more before g is e ↦ subst (NotComplete s) (sym e)
-        (subst (λ z. IsFreeToOffer (length deck) s i z) (at ∙ ap (λ z. At z) is) (m.offering i lt))
-    | ends_job run code counts is e ↦ subst (NotComplete s) (sym e) (stage (InJob run (EndingJob code counts)) is)
-    | ends_scheduler run code counts is e ↦ subst (NotComplete s) (sym e) (stage (InJob run (EndingForScheduler code counts)) is).0
-    | ends_writer run code counts is e ↦ subst (NotComplete s) (sym e) (stage (InJob run (EndingForWriter code counts)) is).0
-  ] where
-    stage : (y : InitiatorAt) → x ≡ y
-        → ByStage (NotDone (length deck) s) (NotToScheduler (length deck) s) (NotToWriter (length deck) s) (At y)
-    stage y is = subst (ByStage (NotDone (length deck) s) (NotToScheduler (length deck) s) (NotToWriter (length deck) s))
-        (at ∙ ap (λ z. At z) is) (m.posted.stages i lt)
+  initiator_free s t i x m lt at b d o op = grind (arith, common_steps)
 
   -- and that of a done block finds it extended
   pub initiator_extended : (s : System) (t : Points) (i : ℕ) (x : InitiatorAt) → EndMoment deck initiators s t → i < initiators
@@ -96,11 +87,7 @@ module _ (deck : List JobData) (initiators : ℕ) (sound : IsPlanned deck initia
 
   pub reader_free : (s : System) (t : Points) (x : ReaderAt) → EndMoment deck initiators s t → t.reader ≡ At x → (b d : ℕ)
       → (reader_asks x).0 ≡ Ecb b → (reader_asks x).1 ≡ op_on.Ecb (ecb_op.Post d) → NotComplete s b
-  reader_free s t x m at b d o op =
-      let w : (b < length deck) × (entered_from (length deck) (At x) ≡ b) =
-      reader_is deck initiators x b o (subst (IsReaderAt (length deck)) at m.stands.reader) in
-      let same : entered_from (length deck) (At x) ≡ b = w.1 in
-      m.posted.entering b w.0 (subst (λ z. entered_from (length deck) z ≤ b) (sym at) (omega arith))
+  reader_free s t x m at b d o op = grind (arith, common_steps)
 
   pub traces_keep : (c : Setup) → KeepsUnder (HasEndMoment deck initiators) (HasTraces deck) c deck initiators
   traces_keep c = by_moves (HasEndMoment deck initiators) (HasTraces deck) c deck initiators

@@ -36,6 +36,7 @@ use Rattle.mv_plan.proofs.points.Views.{code_held, run_of, next_job, next_in}
 use Rattle.mv_plan.proofs.lists.Tables.{all_but}
 use Rattle.mv_plan.proofs.points.Lands.{rounds_land, ended_lands}
 use Rattle.mv_plan.proofs.ends.RightCodes.{starts_held}
+use Rattle.std.proofs.lemmas.Grind.{common_steps}
 
 -- how many of the done blocks the scheduler has extended at a point
 abbrev pub extended_at : ℕ → SchedulerAt → ℕ
@@ -199,9 +200,7 @@ module _ (deck : List JobData) (initiators : ℕ) where
     -- ---- its own
 
     plain_end : (j b : ℕ) → NotEnding x → j < length deck → HasEnd (length deck) j b → NotComplete s b → NotComplete i_after b
-    plain_end j b plain below has free =
-        not_moved s (initiator i) asks.0 asks.1 b free
-        (λ code o op. plain_posts (length deck) i x j b plain below has (post_by (length deck) i x b (ecb_op.Post code) o op))
+    plain_end j b plain below has free = grind (arith, common_steps)
 
     -- what stands of the ends of the job that it runs
     its_stage : (y : InitiatorAt) → x ≡ y → EndStage (length deck) s (At y)
@@ -264,15 +263,7 @@ module _ (deck : List JobData) (initiators : ℕ) where
     -- the order of its posts
     for_scheduler : (j code : ℕ) → j < length deck → asks.0 ≡ Ecb (end_for_scheduler (length deck) j)
         → asks.1 ≡ op_on.Ecb (ecb_op.Post code) → IsComplete s (done (length deck) j)
-    for_scheduler j code below o op = elim (post_by (length deck) i x (end_for_scheduler (length deck) j) (ecb_op.Post code) o op) [
-      | offers more before g is e ↦ absurd (omega arith)
-      | ends_job run d counts is e ↦ let job : run.job < length deck = job_below (InJob run (EndingJob d counts)) run is refl in
-          absurd (omega arith)
-      | ends_scheduler run d counts is e ↦
-          let free : NotToScheduler (length deck) s run.job = its_stage (InJob run (EndingForScheduler d counts)) is in
-          let same : run.job ≡ j = omega arith in subst (λ z. IsComplete s (done (length deck) z)) same free.1
-      | ends_writer run d counts is e ↦ absurd (omega arith)
-    ]
+    for_scheduler j code below o op = grind (arith, common_steps)
 
     for_writer : (j code : ℕ) → j < length deck → asks.0 ≡ Ecb (end_for_writer (length deck) j)
         → asks.1 ≡ op_on.Ecb (ecb_op.Post code) → IsComplete s (end_for_scheduler (length deck) j)
@@ -375,17 +366,7 @@ module _ (deck : List JobData) (initiators : ℕ) where
 
     quiet_split : ((j : ℕ) → j < length deck → o ≡ Ecb (done (length deck) j) → ⊥) → (m : ℕ) → IsSplit (length deck) s m
         → IsSplit (length deck) (moved s k o op) m
-    quiet_split untouched m sp j below =
-        let same : block (moved s k o op) (done (length deck) j) ≡ block s (done (length deck) j) =
-        same_block (block_moved s k o op (done (length deck) j)) in (
-          λ less. elim ((sp j below).0 less) [ inl e ↦ inl (same ∙ e) | inr w ↦ inr (w.0, same ∙ w.1) ],
-          λ le. same
-              ∙ (sp j below).1 le,
-        ) where
-          same_block : BlockAfter s k o op (done (length deck) j)
-              → block (moved s k o op) (done (length deck) j) ≡ block s (done (length deck) j)
-          same_block (inl e) = e
-          same_block (inr w) = absurd (untouched j below w.1)
+    quiet_split untouched m sp j below = grind (arith, common_steps)
 
     -- so of an event of the reader or the writer
     quiet_posted : (next_reader : Point ReaderAt) (next_writer : Point WriterAt)
@@ -412,9 +393,7 @@ module _ (deck : List JobData) (initiators : ℕ) where
   reader_is (Entering k more) b o at = let e : entered k ≡ b = cc o in (omega arith, omega arith)
 
   reader_untouched : (x : ReaderAt) (j : ℕ) → IsReaderAt (length deck) (At x) → (reader_asks x).0 ≡ Ecb (done (length deck) j) → ⊥
-  reader_untouched x j at o = let w : (done (length deck) j < length deck)
-      × (entered_from (length deck) (At x) ≡ done (length deck) j) = reader_is x (done (length deck) j) o at in
-      let less : done (length deck) j < length deck = w.0 in omega arith
+  reader_untouched x j at o = grind (arith, common_steps)
 
   pub reader_ends : (x : ReaderAt) (j b : ℕ) → IsReaderAt (length deck) (At x) → HasEnd (length deck) j b → (reader_asks x).0 ≡ Ecb b
       → ⊥
@@ -424,12 +403,7 @@ module _ (deck : List JobData) (initiators : ℕ) where
   -- the next job is entered, or none is left
   reader_counts : (x : ReaderAt) (r : Reply) → IsReaderAt (length deck) (At x)
       → entered_from (length deck) (At x) + 1 ≤ entered_from (length deck) (reader_goes x r)
-  reader_counts (Entering k more) r at =
-      on_posted_keeps (λ z. k + 1 ≤ entered_from (length deck) z) (entering_from (k + 1) more) r (next_entered more (omega arith))
-      (omega arith) where
-        next_entered : (m : ℕ) → k + 1 + m ≡ length deck → k + 1 ≤ entered_from (length deck) (entering_from (k + 1) m)
-        next_entered zero e = omega arith
-        next_entered (suc m) e = omega arith
+  reader_counts (Entering k more) r at = grind (arith, common_steps)
 
   reader_posted : (c : Setup) (s : System) (t : Points) (past : List Entry) (x : ReaderAt) (p : ℕ) (r : Reply) → t.reader ≡ At x
       → HasPlaces deck initiators s t past → Posted deck initiators s t
@@ -497,10 +471,7 @@ module _ (deck : List JobData) (initiators : ℕ) where
   -- the job that is released is the next
   stage_released : (i code j : ℕ) (skipped : Bool) (after : Stage) → length deck ≤ not_to_run → IsStage deck initiators after
       → IsHanded i code after → j < length deck → code ≡ code_of j skipped → next_in (length deck) after ≤ j
-  stage_released i code j skipped (Dispatching m jobs) few s w below e =
-      let rest : m + length jobs ≡ length deck = rest_count deck m jobs s in let up : m ≡ w.0 + 1 = w.2 in
-      let same : (w.0 ≡ j) × (w.1 ≡ skipped) = code_parts (length deck) w.0 j w.1 skipped few (omega arith) below (sym w.3 ∙ e) in
-      let k : w.0 ≡ j = same.0 in omega arith
+  stage_released i code j skipped (Dispatching m jobs) few s w below e = grind (arith, common_steps)
   stage_released i code j skipped (Dismissing m more) few s w below e = absurd (never_zero j skipped (sym e ∙ w.1))
 
   released_next : (x : SchedulerAt) (g j : ℕ) (skipped : Bool) → length deck ≤ not_to_run → IsSchedulerAt deck initiators (At x)
@@ -518,9 +489,7 @@ module _ (deck : List JobData) (initiators : ℕ) where
   stage_done : (v : System) (after : Stage) → IsStage deck initiators after
       → IsSplit (length deck) v (stage_extended (length deck) after)
       → DoneBlocks (length deck) v (stage_at (length deck) initiators after)
-  stage_done v (Dispatching j []) s sp =
-      dismissing_done v 0 initiators (subst (λ m. IsSplit (length deck) v m)
-      (let e : j + 0 ≡ length deck = rest_count deck j [] s in omega arith) sp)
+  stage_done v (Dispatching j []) s sp = grind (arith, common_steps)
   stage_done v (Dispatching j (job ∷ jobs)) s sp = sp
   stage_done v (Dismissing i more) s sp = dismissing_done v i more sp
 
@@ -543,20 +512,7 @@ module _ (deck : List JobData) (initiators : ℕ) where
   -- a job's done block is extended
   extends_split : (s : System) (k j : ℕ) → IsSplit (length deck) s j → j < length deck
       → IsSplit (length deck) (moved s k (Ecb (done (length deck) j)) (op_on.Ecb (ecb_op.Extend (j + 1)))) (j + 1)
-  extends_split s k j sp here m below = elim (cases_eq m j) [
-    | inl same ↦ (
-      λ less. inl (ap (λ z. block (extended_now s k j) (done (length deck) z)) same
-          ∙ changed_there s.ecb (done (length deck) j) _ (done (length deck) j) refl
-          ∙ ap (λ v. (ecb_step (ecb_op.Extend (j + 1)) v).0) ((sp j here).1 (omega arith)) ∙ ap (λ z. Extended (z + 1)) (sym same)),
-      λ le. absurd (omega arith),
-    )
-    | inr other ↦
-        let elsewhere : block (extended_now s k j) (done (length deck) m) ≡ block s (done (length deck) m) =
-        same_elsewhere s.ecb (done (length deck) j) _ (done (length deck) m) (λ z. other (omega arith)) in (
-          λ less. elim ((sp m below).0 (omega arith)) [ inl e ↦ inl (elsewhere ∙ e) | inr w ↦ inr (w.0, elsewhere ∙ w.1) ],
-          λ le. elsewhere ∙ (sp m below).1 (omega arith),
-        )
-  ]
+  extends_split s k j sp here m below = grind (arith, common_steps)
 
   module _ (few : length deck ≤ not_to_run) (s : System) (t : Points) (past : List Entry) (x : SchedulerAt) (r : Reply)
       (at : t.scheduler ≡ At x) (q : HasPlaces deck initiators s t past) (h : Posted deck initiators s t) where
@@ -595,12 +551,7 @@ module _ (deck : List JobData) (initiators : ℕ) where
 
     blocks_after : (y : SchedulerAt) → x ≡ y → IsSplit (length deck) s (extended_at (length deck) y)
         → DoneBlocks (length deck) s_after (scheduler_goes (length deck) initiators x r)
-    blocks_after (Extends j job jobs skipped) is sp =
-        let here : j < length deck = rest_below deck j job jobs (subst (λ z. IsSchedulerAt deck initiators (At z)) is s_stands) in
-        subst (λ z. DoneBlocks (length deck) (moved s 1 (scheduler_asks (length deck) z).0 (scheduler_asks (length deck) z).1)
-        (scheduler_goes (length deck) initiators z r)) (sym is)
-        (goes_next (length deck) initiators (λ p. DoneBlocks (length deck) (extended_now s 1 j) p) (Extends j job jobs skipped) r tt tt
-        (λ v. extends_split s 1 j sp here))
+    blocks_after (Extends j job jobs skipped) is sp = grind (arith, common_steps)
     blocks_after y is sp = plain_after y is (λ j job jobs skipped e. cc e) sp
 
     scheduler_posted : Posted deck initiators s_after (record t { scheduler = scheduler_goes (length deck) initiators x r })
@@ -653,9 +604,4 @@ module _ (deck : List JobData) (initiators : ℕ) where
   pub extend_is_armed : (c : Setup) (s : System) (t : Points) (j : ℕ) (job : JobData) (jobs : List JobData) (skipped : Bool) (k p : ℕ)
       (r : Reply) → t.scheduler ≡ At (Extends j job jobs skipped) → Standing deck initiators t → Posted deck initiators s t
       → IsNext c s (entry_of k p (scheduler_asks (length deck) (Extends j job jobs skipped)) r) → r ≡ reply_of.Ecb ecb_reply.Armed
-  extend_is_armed c s t j job jobs skipped k p r at stands h next =
-      let st : IsSchedulerAt deck initiators (At (Extends j job jobs skipped)) =
-      subst (IsSchedulerAt deck initiators) at stands.scheduler in
-      let split : IsSplit (length deck) s j = subst (λ z. DoneBlocks (length deck) s z) at h.blocks in
-      block_reply c s k (done (length deck) j) (ecb_op.Extend (j + 1)) p r next
-      ∙ ap (λ v. reply_of.Ecb (ecb_step (ecb_op.Extend (j + 1)) v).1) ((split j (rest_below deck j job jobs st)).1 (omega arith))
+  extend_is_armed c s t j job jobs skipped k p r at stands h next = grind (arith, common_steps)

@@ -31,6 +31,7 @@ use Rattle.mv_plan.proofs.deck.Codes.{code_parts, never_zero}
 use Rattle.mv_plan.proofs.walks.Moves.{KeepsUnder, by_moves, entry_of, block, element, block_reply, element_reply}
 use Rattle.mv_plan.proofs.lists.Tables.{all_with}
 use Rattle.mv_plan.proofs.points.Views.{code_held}
+use Rattle.std.proofs.lemmas.Grind.{common_steps}
 
 -- ---- the codes of jobs
 
@@ -171,14 +172,8 @@ pub starts_held : (Q : Running → Type 0) (deck : List JobData) (c : Setup) (s 
     → IsNext c s (entry_of (initiator i) p (initiator_asks (length deck) i x) r)
     → ((code : ℕ) (named : Named) (before : List ℕ) (more g : ℕ) → code_held (element s (initiator i)) ≡ Some code
     → job_named (length deck) code ≡ Some named → Q (running named before more g)) → Starts Q deck x r
-starts_held Q deck c s i (Pausing more before g) p (reply_of.Element (element_reply.Given code now)) n h = λ named left e new more_is.
-    h code named before (suc left) now (paused_code g (element s (initiator i)) code now
-    (cc (sym (element_reply c s (initiator i) (initiator i) (element_op.Pause g) p
-    (reply_of.Element (element_reply.Given code now)) n)))) e
-starts_held Q deck c s i (Resuming more before g) p (reply_of.Element (element_reply.Given code now)) n h = λ named left e new more_is.
-    h code named before (suc left) now (resumed_code g (element s (initiator i)) code now
-    (cc (sym (element_reply c s (initiator i) (initiator i) (element_op.Resume g) p
-    (reply_of.Element (element_reply.Given code now)) n)))) e
+starts_held Q deck c s i (Pausing more before g) p (reply_of.Element (element_reply.Given code now)) n h = grind (arith, common_steps)
+starts_held Q deck c s i (Resuming more before g) p (reply_of.Element (element_reply.Given code now)) n h = grind (arith, common_steps)
 starts_held Q deck c s i x p r n h = tt
 
 module _ (deck : List JobData) (initiators : ℕ) (sound : IsPlanned deck initiators) where
@@ -220,12 +215,7 @@ module _ (deck : List JobData) (initiators : ℕ) (sound : IsPlanned deck initia
   pub given_mark : (code : ℕ) (named : Named) → IsCode deck code → job_named (length deck) code ≡ Some named
       → named.skipped ≡ is_skipped deck named.job
   given_mark code named (inl z) e = absurd (never_zero named.job named.skipped (sym (named_is (length deck) code named e).1 ∙ z))
-  given_mark code named (inr w) e =
-      let is : (named.job < length deck) × (code ≡ code_of named.job named.skipped) = named_is (length deck) code named e in
-      let same : (named.job ≡ w.0) × (named.skipped ≡ is_skipped deck w.0) =
-      code_parts (length deck) named.job w.0 named.skipped (is_skipped deck w.0) (few_jobs deck initiators sound) is.0 w.1
-      (sym is.1 ∙ w.2) in
-      same.1 ∙ ap (λ k. is_skipped deck k) (sym same.0)
+  given_mark code named (inr w) e = grind (arith, common_steps)
 
   starts_marked : (c : Setup) (s : System) (i : ℕ) (x : InitiatorAt) (p : ℕ) (r : Reply)
       → IsNext c s (entry_of (initiator i) p (initiator_asks (length deck) i x) r) → HoldCodes deck s

@@ -18,6 +18,7 @@ use Rattle.mv_plan.proofs.ends.RightCodes.{HoldEnds, ReleasesCodes}
 use Rattle.mv_plan.proofs.deck.Codes.{code_parts, never_zero}
 use Rattle.mv_plan.proofs.ends.Complete.{NotComplete, BlockAfter, block_moved, moved_there}
 use Rattle.mv_plan.proofs.walks.Moves.{entry_of, block, block_reply}
+use Rattle.std.proofs.lemmas.Grind.{common_steps}
 
 -- the codes that a block is complete with
 abbrev pub code_list : EcbState → List ℕ
@@ -52,10 +53,7 @@ PostCase b o op r = ((d : ℕ) × (o ≡ Ecb b) × (op ≡ op_on.Ecb (ecb_op.Pos
     ⊎ ((post_in b o op r ≡ None) × ((d : ℕ) → o ≡ Ecb b → op ≡ op_on.Ecb (ecb_op.Post d) → ⊥))
 
 post_case : (b : ℕ) (o : Object) (op : Op) (r : Reply) → PostCase b o op r
-post_case b (Ecb m) (op_on.Ecb (ecb_op.Post d)) r = elim (cases_eq m b) [
-  | inl same ↦ inl (d, ap (λ z. Ecb z) same, refl, ap (λ z. if z then Some (d, r) else None) (eq-eqb m b same))
-  | inr other ↦ inr (ap (λ z. if z then Some (d, r) else None) (ne_eqb m b other), λ e o op. other (cc o))
-]
+post_case b (Ecb m) (op_on.Ecb (ecb_op.Post d)) r = grind (arith, common_steps)
 post_case b (Ecb m) (op_on.Ecb ecb_op.Arm) r = inr (refl, λ d o op. cc op)
 post_case b (Ecb m) (op_on.Ecb y) r = inr (refl, λ d o op. cc op)
 post_case b (Ecb m) y r = inr (refl, λ d o e. cc e)
@@ -104,9 +102,7 @@ already_reply d v code e = grind arith
 -- the reply at a block
 replied : (c : Setup) (s : System) (k b p : ℕ) (o : Object) (op : Op) (r : Reply) (e : EcbOp) → IsNext c s (entry_of k p (o, op) r)
     → o ≡ Ecb b → op ≡ op_on.Ecb e → r ≡ reply_of.Ecb (ecb_step e (block s b)).1
-replied c s k b p o op r e n f g =
-    block_reply c s k b e p r (subst (λ z. IsNext c s (entry_of k p (z, op_on.Ecb e) r)) f
-    (subst (λ z. IsNext c s (entry_of k p (o, z) r)) g n))
+replied c s k b p o op r e n f g = grind (arith, common_steps)
 
 -- an event on a block is of a block's kind
 ecb_kind : (c : Setup) (s : System) (k b p : ℕ) (o : Object) (op : Op) (r : Reply) → IsNext c s (entry_of k p (o, op) r) → o ≡ Ecb b

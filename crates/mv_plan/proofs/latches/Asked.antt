@@ -7,19 +7,14 @@ use Rattle.mv_latch.specs.declared.request.LatchForm.TheVariants as form_of
 use Rattle.mv_plan.proofs.points.InitiatorSound.{held_of}
 use Rattle.mv_plan.proofs.points.Points.{Grant, without_latch}
 use Rattle.mv_plan.proofs.lists.Lists.{all_map}
+use Rattle.std.proofs.lemmas.Grind.{common_steps}
 
 -- ---- lists and tests
 
 -- the order of two tests does not matter
 pub filter_swap : {X : Type 0} (p t : X → Bool) (qs : List X) → filter p (filter t qs) ≡ filter t (filter p qs)
 filter_swap p t [] = refl
-filter_swap {X} p t (q ∷ qs) = go (p q) (t q) refl refl (filter_swap p t qs) where
-  go : (b d : Bool) → p q ≡ b → t q ≡ d → filter p (filter t qs) ≡ filter t (filter p qs)
-      → filter p (if d then q ∷ filter t qs else filter t qs) ≡ filter t (if b then q ∷ filter p qs else filter p qs)
-  go true true pe te rest = rw (pe, te) (ap (λ z. q ∷ z) rest)
-  go true false pe te rest = rw te rest
-  go false true pe te rest = rw pe rest
-  go false false pe te rest = rest
+filter_swap {X} p t (q ∷ qs) = grind (arith, common_steps, filter_swap p t qs)
 
 -- where all pass
 pub filter_all : {X : Type 0} (t : X → Bool) (qs : List X) → AllByRecursion (λ q. t q ≡ true) qs → filter t qs ≡ qs
@@ -33,11 +28,7 @@ filter_none t (q ∷ qs) a = rw a.0 (filter_none t qs a.1)
 
 pub filter_passes : {X : Type 0} (t : X → Bool) (qs : List X) → AllByRecursion (λ q. t q ≡ true) (filter t qs)
 filter_passes t [] = tt
-filter_passes {X} t (q ∷ qs) = go (t q) refl (filter_passes t qs) where
-  go : (b : Bool) → t q ≡ b → AllByRecursion (λ x. t x ≡ true) (filter t qs)
-      → AllByRecursion (λ x. t x ≡ true) (if b then q ∷ filter t qs else filter t qs)
-  go true e rest = (e, rest)
-  go false e rest = rest
+filter_passes {X} t (q ∷ qs) = grind (arith, common_steps, filter_passes t qs)
 
 pub in_filter : {X : Type 0} (t : X → Bool) (qs : List X) (q : X) → Contains (filter t qs) q → Contains qs q
 in_filter t [] q i = i
@@ -50,10 +41,7 @@ in_filter {X} t (x ∷ xs) q i = go (t x) i (λ j. in_filter t xs q j) where
 -- a test finds one that meets it
 pub finds : {X : Type 0} (t : X → Bool) (qs : List X) (q : X) → Contains qs q → t q ≡ true → list_any t qs ≡ true
 finds t [] q i is = absurd (not_in_empty q i)
-finds t (x ∷ xs) q i is = elim (first_or_rest x xs q i) [
-  | inl e ↦ or_left (t x) (list_any t xs) (ap t e ∙ is)
-  | inr j ↦ or_right (t x) (list_any t xs) (finds t xs q j is)
-]
+finds t (x ∷ xs) q i is = grind (arith, first_or_rest, or_left, or_right, finds t xs q)
 
 pub found : {X : Type 0} (t : X → Bool) (qs : List X) → list_any t qs ≡ true → (q : X) × Contains qs q × (t q ≡ true)
 found t [] e = absurd (false≢true e)
@@ -76,12 +64,7 @@ asked k job latch (g ∷ gs) = if g.latch == latch then request_of k job g ∷ a
 
 pub asked_push : (k job latch : ℕ) (xs ys : List Grant) → asked k job latch (xs ++ ys) ≡ asked k job latch xs ++ asked k job latch ys
 asked_push k job latch [] ys = refl
-asked_push k job latch (g ∷ xs) ys =
-    elim (g.latch == latch) as (λ b. (if b then request_of k job g ∷ asked k job latch (xs ++ ys) else asked k job latch (xs ++ ys)) ≡
-    (if b then request_of k job g ∷ asked k job latch xs else asked k job latch xs) ++ asked k job latch ys) [
-      | true ↦ ap (λ z. request_of k job g ∷ z) (asked_push k job latch xs ys)
-      | false ↦ asked_push k job latch xs ys
-    ]
+asked_push k job latch (g ∷ xs) ys = grind (arith, asked_push k job latch xs ys)
 
 -- one more, at its latch and at any other
 pub asked_here : (k job : ℕ) (g : Grant) → asked k job g.latch (g ∷ []) ≡ request_of k job g ∷ []
@@ -99,20 +82,12 @@ asked_below k job latch (g ∷ gs) b =
 -- after a latch was freed
 pub asked_freed : (k job latch : ℕ) (gs : List Grant) → asked k job latch (without_latch latch gs) ≡ []
 asked_freed k job latch [] = refl
-asked_freed k job latch (g ∷ gs) = go (g.latch == latch) refl (asked_freed k job latch gs) where
-  go : (b : Bool) → (g.latch == latch) ≡ b → asked k job latch (without_latch latch gs) ≡ []
-      → asked k job latch (if not b then g ∷ without_latch latch gs else without_latch latch gs) ≡ []
-  go true e rest = rest
-  go false e rest = rw e rest
+asked_freed k job latch (g ∷ gs) = grind (arith, common_steps, asked_freed k job latch gs)
 
 pub asked_kept : (k job latch other : ℕ) (gs : List Grant) → (other ≡ latch → ⊥)
     → asked k job other (without_latch latch gs) ≡ asked k job other gs
 asked_kept k job latch other [] n = refl
-asked_kept k job latch other (g ∷ gs) n = go (g.latch == latch) refl (asked_kept k job latch other gs n) where
-  go : (b : Bool) → (g.latch == latch) ≡ b → asked k job other (without_latch latch gs) ≡ asked k job other gs
-      → asked k job other (if not b then g ∷ without_latch latch gs else without_latch latch gs) ≡ asked k job other (g ∷ gs)
-  go true e rest = rw (ne_eqb g.latch other (λ q. n (sym q ∙ eqb-true g.latch latch e))) rest
-  go false e rest = ap (λ z. if g.latch == other then request_of k job g ∷ z else z) rest
+asked_kept k job latch other (g ∷ gs) n = grind (arith, common_steps, asked_kept k job latch other gs n)
 
 -- the requests at a latch are all those of the number that the job last had there
 pub asked_named : (k job latch id : ℕ) (requests : ℕ → Option ℕ) (gs : List Grant)
@@ -133,12 +108,7 @@ asked_named k job latch id requests (g ∷ gs) l e = go (g.latch == latch) refl 
 pub asked_of : (k job latch : ℕ) (gs : List Grant)
     → AllByRecursion (λ q. (q.caller ≡ k) × (q.requestor ≡ job + 1)) (asked k job latch gs)
 asked_of k job latch [] = tt
-asked_of k job latch (g ∷ gs) =
-    elim (g.latch == latch) as (λ b. AllByRecursion (λ q. (q.caller ≡ k) × (q.requestor ≡ job + 1))
-    (if b then request_of k job g ∷ asked k job latch gs else asked k job latch gs)) [
-      | true ↦ ((refl, refl), asked_of k job latch gs)
-      | false ↦ asked_of k job latch gs
-    ]
+asked_of k job latch (g ∷ gs) = grind (arith, common_steps, asked_of k job latch gs)
 
 -- a latch that is held is asked for
 pub asked_more : (k job latch : ℕ) (h : Grant) (gs : List Grant) (q : Request) → Contains (asked k job latch gs) q

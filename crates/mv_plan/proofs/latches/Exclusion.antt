@@ -12,6 +12,7 @@ use Rattle.mv_plan.proofs.places.Places.{Places, Run}
 use Rattle.mv_plan.proofs.points.Points.{Point, At, Grant, Running, InitiatorAt, Reading, Writing, Scanning, Rescanning, Purging, InJob}
 use Rattle.mv_plan.proofs.walks.Walks.{Points}
 use Rattle.mv_plan.proofs.points.Views.{run_of}
+use Rattle.std.proofs.lemmas.Grind.{common_steps}
 
 -- the volume of a COUNT
 abbrev pub counted_on : Point InitiatorAt → Option ℕ
@@ -90,10 +91,7 @@ touch_holds deck lists k v p e a w =
 
 one_only : {X : Type 0} (xs : List X) (a b : X) → length xs ≡ 1 → Contains xs a → Contains xs b → a ≡ b
 one_only [] a b e i j = absurd (not_in_empty a i)
-one_only (x ∷ []) a b e i j = elim (first_or_rest x [] a i) [
-  | inl p ↦ elim (first_or_rest x [] b j) [ inl q ↦ sym p ∙ q | inr l ↦ absurd (not_in_empty b l) ]
-  | inr l ↦ absurd (not_in_empty a l)
-]
+one_only (x ∷ []) a b e i j = grind (arith, common_steps)
 one_only (x ∷ y ∷ xs) a b e i j = absurd (omega arith)
 
 -- Where one initiator is at a COUNT of a volume, no other is at a COUNT or SCAN of it.

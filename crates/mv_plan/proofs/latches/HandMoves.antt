@@ -27,6 +27,7 @@ use Rattle.mv_plan.proofs.walks.Walks.{Points, Move, reads, schedules, initiates
 use Rattle.mv_plan.proofs.lists.Tables.{all_but}
 use Rattle.mv_plan.proofs.points.Asks.{IsSignal, reader_signals, scheduler_signals, writer_signals}
 use Rattle.mv_plan.proofs.points.Lands.{ended_lands}
+use Rattle.std.proofs.lemmas.Grind.{common_steps}
 
 -- ---- replies of the latch set
 
@@ -110,14 +111,10 @@ module _ (c : Setup) (s : System) (deck : List JobData) (i : ℕ) where
       steps_own s.latches.state (initiator i) run hand steps w
   own_next (InJob run (Purging hand code)) p (reply_of.Latch (latch_reply.Purged removed count)) h a w =
       purge_owns (initiator i) s.latches.place run.job s.latches.state hand.holding w
-  own_next (InJob run (EndingJob code counts)) p r h a w =
-      ended_lands (λ z. OwnsBy s.latches.state (initiator i) (grip z)) tt run code counts r w
-      (rounds_own s.latches.state (initiator i) run.more _ run.generation w)
+  own_next (InJob run (EndingJob code counts)) p r h a w = grind (arith, common_steps)
   own_next (InJob run (EndingForScheduler code counts)) p r h a w =
       on_posted_keeps (λ z. OwnsBy s.latches.state (initiator i) (grip z)) (At (InJob run (EndingForWriter code counts))) r w tt
-  own_next (InJob run (EndingForWriter code counts)) p r h a w =
-      on_posted_keeps (λ z. OwnsBy s.latches.state (initiator i) (grip z)) (rounds_after run) r
-      (rounds_own s.latches.state (initiator i) run.more _ run.generation w) tt
+  own_next (InJob run (EndingForWriter code counts)) p r h a w = grind (arith, common_steps)
   own_next (Closing g) p (reply_of.Element element_reply.Closed) h a w = w
   own_next x p r h a w = tt
 
@@ -174,9 +171,7 @@ Apart initiators points = (i m job : ℕ) → i < initiators → m < initiators 
 spares_job : (job : ℕ) (st : Grip) → (job_of st ≡ Some job → ⊥) → SparesJob (latch_op.Purge (job + 1)) st
 spares_job job Lost n = tt
 spares_job job Idle n = tt
-spares_job job (Works other held more) n = λ q. n (ap (λ j. Some j) (same q)) where
-  same : job + 1 ≡ other + 1 → other ≡ job
-  same e = omega arith
+spares_job job (Works other held more) n = grind arith
 
 pub spares : (n i : ℕ) (x : InitiatorAt) (st : Grip) → ((job : ℕ) → works (At x) ≡ Some job → job_of st ≡ Some job → ⊥)
     → SparesOn (initiator_asks n i x).0 (initiator_asks n i x).1 st
@@ -204,15 +199,9 @@ module _ (c : Setup) (deck : List JobData) (initiators : ℕ) where
   pub hands_next : (s : System) (t u : Points) (e : Entry) → IsNext c s e → Move deck initiators t e u
       → ((i : ℕ) → i < initiators → IsInitiatorAt deck (t.initiators i)) → Apart initiators t.initiators
       → Hands initiators s.latches.state t.initiators → Hands initiators (next s e).latches.state u.initiators
-  hands_next s t u e h (reads x k at o op moved) stand apart w =
-      subst (λ v. Hands initiators (next s e).latches.state v.initiators) (sym moved)
-      (hands_same s e t.initiators (reader_asks x).0 o (reader_signals x) w)
-  hands_next s t u e h (schedules x k at o op moved) stand apart w =
-      subst (λ v. Hands initiators (next s e).latches.state v.initiators) (sym moved)
-      (hands_same s e t.initiators (scheduler_asks (length deck) x).0 o (scheduler_signals (length deck) x) w)
-  hands_next s t u e h (writes x k at o op moved) stand apart w =
-      subst (λ v. Hands initiators (next s e).latches.state v.initiators) (sym moved)
-      (hands_same s e t.initiators (writer_asks x).0 o (writer_signals x) w)
+  hands_next s t u e h (reads x k at o op moved) stand apart w = grind (arith, common_steps)
+  hands_next s t u e h (schedules x k at o op moved) stand apart w = grind (arith, common_steps)
+  hands_next s t u e h (writes x k at o op moved) stand apart w = grind (arith, common_steps)
   hands_next s t u e h (initiates i x lt k at o op moved_to) stand apart w =
       subst (λ v. Hands initiators (next s e).latches.state v.initiators) (sym moved_to) (record {
         owns = λ m less. all_but (λ m p. OwnsBy (next s e).latches.state (initiator m) (grip p)) t.initiators i

@@ -11,6 +11,7 @@ use Rattle.mv_plan.proofs.places.Steps.{Placed, placed_same, placed_released, pl
 use Rattle.mv_plan.proofs.places.Steps.{put_here, put_else}
 use Rattle.mv_plan.proofs.walks.Walks.{Points}
 use Rattle.mv_plan.proofs.points.Views.{code_held, run_of, named_before, next_job}
+use Rattle.std.proofs.lemmas.Grind.{common_steps}
 
 -- the codes in the initiators' elements, what they run and have run
 abbrev pub element_code : System → ℕ → Option ℕ
@@ -115,9 +116,7 @@ module _ (deck : List JobData) (initiators : ℕ) (few : length deck ≤ not_to_
       -- where the element of i has another code or none, those that hold a job are others
       holds_else : OtherHelds → (j m : ℕ) → ((b : Bool) → element_code s i ≡ Some (code_of j b) → ⊥) → ledger.places.place j ≡ Handed m
           → element_code z m ≡ element_code s m
-      holds_else others j m d at = let h : (m < initiators) × (b : Bool) × (element_code s m ≡ Some (code_of j b)) =
-          ledger.places.hands m j at in
-          others m (λ y. d h.1 (ap (λ x. element_code s x) y ∙ h.2))
+      holds_else others j m d at = grind (arith, common_steps)
 
       pub releases : (skipped : Bool) → next_job n u.scheduler ≡ next_job n t.scheduler + 1 → next_job n t.scheduler < n
           → element_code s i ≡ None → element_code z i ≡ Some (code_of (next_job n t.scheduler) skipped)

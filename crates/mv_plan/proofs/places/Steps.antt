@@ -6,6 +6,7 @@ use Rattle.mv_plan.proofs.deck.Codes.{code_parts, never_zero}
 use Rattle.mv_plan.proofs.places.Places.{Place, Coming, Handed, Run, Over}
 use Rattle.mv_plan.proofs.points.Points.{Running}
 use Rattle.mv_plan.proofs.lists.Tables.{with_at-same, with_at-other}
+use Rattle.std.proofs.lemmas.Grind.{common_steps}
 
 -- the fields of Places, by tables
 pub record Placed (n initiators next : ℕ) (held : ℕ → Option ℕ) (run_at : ℕ → Option Running) (befores : ℕ → List ℕ)
@@ -70,10 +71,7 @@ module _ (n initiators : ℕ) (few : n ≤ not_to_run) where
 
     -- what another place was
     put_was : (j : ℕ) (r : Place) → (q ≡ r → ⊥) → put j ≡ r → (k ≡ j → ⊥) × (place j ≡ r)
-    put_was j r d e = elim (cases_eq k j) [
-      | inl same ↦ absurd (d (sym (put_here j same) ∙ e))
-      | inr other ↦ (other, sym (put_else j other) ∙ e)
-    ]
+    put_was j r d e = grind (arith, common_steps)
 
   module _ (next : ℕ) (held : ℕ → Option ℕ) (run_at : ℕ → Option Running) (befores : ℕ → List ℕ) (place : ℕ → Place)
       (w : Placed n initiators next held run_at befores place) (i : ℕ) (lt : i < initiators) where

@@ -40,6 +40,7 @@ use Rattle.mv_plan.proofs.points.ReaderAndWriter.{keeps}
 use Rattle.mv_plan.proofs.points.InitiatorSound.{IsRound, IsStepping, InitiatorKept, InitiatorStands, standing_of, rises_few, named_is}
 use Rattle.mv_plan.proofs.points.InitiatorSound.{left_next, job_sound, obtained_stand, pushed_kept, freed_stand, freed_kept}
 use Rattle.mv_plan.proofs.deck.Setup.{Facts}
+use Rattle.std.proofs.lemmas.Grind.{common_steps}
 
 pub initiator_says : (c : Setup) (deck : List JobData) (i : ℕ) (kept : Kept) (x : InitiatorAt)
     → asks (initiator_program c deck i kept x) ≡ Some (initiator_asks (length deck) i x)
@@ -104,17 +105,11 @@ module _ (c : Setup) (deck : List JobData) (initiators i : ℕ) (facts : Facts c
   pause_enters : (more : ℕ) (before : List ℕ) (g : ℕ) (kept : Kept) → kept.caller ≡ initiator i
       → accepted (pause c (token_of (initiator i) g)) (given_rest c deck i more before) kept ≡ initiator_program c deck i kept
       (Pausing more before g)
-  pause_enters more before g kept k =
-      ap (λ b. going_on kept (unless_refused (refused_if b refusal.NotOwner)
-      (Do (Element (initiator i)) (op_on.Element (element_op.Pause g)) (λ h. on_element h.entry.reply (paused (initiator i) g))))
-      (unrefused (given_rest c deck i more before))) (own_element kept g k)
+  pause_enters more before g kept k = grind (arith, common_steps)
 
   close_enters : (g : ℕ) (kept : Kept) → kept.caller ≡ initiator i
       → accepted (deallocate c (token_of (initiator i) g)) (λ closed. finished []) kept ≡ initiator_program c deck i kept (Closing g)
-  close_enters g kept k =
-      ap (λ b. going_on kept (unless_refused (refused_if b refusal.NotOwner)
-      (Do (Element (initiator i)) (op_on.Element (element_op.Close g)) (λ h. on_element h.entry.reply closed)))
-      (unrefused (λ closed. finished []))) (own_element kept g k)
+  close_enters g kept k = grind (arith, common_steps)
 
   obtain_is_free : (kept : Kept) (run : Running) (hand : Hand) (latch : ℕ) (mode : Mode) (steps : List Step)
       → IsStepping deck run hand (Use latch mode ∷ steps) → InitiatorKept i (standing_of (initiator i) run.job hand.holding) kept
@@ -148,11 +143,7 @@ module _ (c : Setup) (deck : List JobData) (initiators i : ℕ) (facts : Facts c
       (Do Latches (op_on.Latch (latch_op.Obtain latch (run.job + 1) mode form_of.Waiting))
       (λ h. on_latch h.entry.reply (obtained latch form_of.Waiting))))
       (unrefused (granted_as (obtained_rest c run hand latch steps))))) (obtain_is_free kept run hand latch mode steps s k)
-  steps_enter run hand (Free latch ∷ steps) kept s k = go (hand.requests latch) where
-    go : (slot : Option ℕ) → stepping c deck i run kept (freed c latch slot (steps_rest c run hand steps) kept) ≡ program_at
-        (initiator_program c deck i kept) (freeing_at run hand latch slot steps)
-    go None = refl
-    go (Some id) = refl
+  steps_enter run hand (Free latch ∷ steps) kept s k = grind (arith, common_steps)
   steps_enter run hand steps kept s k = refl
 
   start_enters : (named : Named) (skipped : Bool) (before : List ℕ) (more g : ℕ) (kept : Kept) → named.skipped ≡ skipped
@@ -202,10 +193,7 @@ module _ (c : Setup) (deck : List JobData) (initiators i : ℕ) (facts : Facts c
   -- the whole program starts with the opening
   pub opening_enters : accepted (allocate c) (rounds c deck i (length deck + 1) [])
       (nothing_kept (initiator i)) ≡ initiator_program c deck i (nothing_kept (initiator i)) Opening
-  opening_enters = ap (λ n. going_on (nothing_kept (initiator i)) (open_lowest n)
-      (unrefused (rounds c deck i (length deck + 1) []))) lowest where
-        lowest : lowest_free c (nothing_kept (initiator i)) ≡ Some (initiator i)
-        lowest = ap (λ k. find (λ n. true) (range_with_len (initiator i * k) k)) facts.each ∙ ap (λ n. Some n) (omega arith)
+  opening_enters = grind (arith, common_steps)
 
   pub initiator_hears : (kept : Kept) (x : InitiatorAt) (h : Heard) → InitiatorStands deck i kept (At x)
       → IsPlainReply x h.entry.reply h.wakes

@@ -20,6 +20,7 @@ use Rattle.mv_plan.proofs.points.Points.{initiator_asks, initiator_goes, rounds_
 use Rattle.mv_plan.proofs.points.PostsAndWaits.{on_posted_keeps}
 use Rattle.mv_plan.proofs.points.ReaderAndWriter.{keeps}
 use Rattle.mv_plan.proofs.points.Lands.{rounds_land, freeing_lands, given_lands, counting_lands, ended_lands}
+use Rattle.std.proofs.lemmas.Grind.{common_steps}
 
 -- ---- rounds
 
@@ -125,29 +126,7 @@ InitiatorStands deck i kept p = IsInitiatorAt deck p × InitiatorKeptAt i kept p
 -- ---- codes and their jobs
 
 pub named_is : (n code : ℕ) (named : Named) → job_named n code ≡ Some named → (named.job < n) × (code ≡ code_of named.job named.skipped)
-named_is n code named e = first (nat_le 1 code && nat_le code n) refl e where
-  second : (b : Bool) → (nat_le (1 + not_to_run) code && nat_le code (n + not_to_run)) ≡ b
-      → (if b then Some (record { job = code - (1 + not_to_run); skipped = true }) else None) ≡ Some named
-      → (named.job < n) × (code ≡ code_of named.job named.skipped)
-  second true t e =
-      let q : ◌≡◌ {A = Named} (record { job = code - (1 + not_to_run); skipped = true }) named = cc e in
-      let lows : (nat_le (1 + not_to_run) code ≡ true) × (nat_le code (n + not_to_run) ≡ true) =
-      and_parts (nat_le (1 + not_to_run) code) (nat_le code (n + not_to_run)) t in
-      let a : 1 + not_to_run ≤ code = leb-true (1 + not_to_run) code lows.0 in let b : code ≤ n + not_to_run =
-      leb-true code (n + not_to_run) lows.1 in
-      subst (λ d. (d.job < n) × (code ≡ code_of d.job d.skipped)) q (omega arith, omega arith)
-  second false t e = absurd (cc e)
-
-  first : (b : Bool) → (nat_le 1 code && nat_le code n) ≡ b
-      → (if b then Some (record { job = code - 1; skipped = false }) else if nat_le (1 + not_to_run) code && nat_le code
-      (n + not_to_run) then Some (record { job = code - (1 + not_to_run); skipped = true }) else None) ≡ Some named
-      → (named.job < n) × (code ≡ code_of named.job named.skipped)
-  first true t e =
-      let q : ◌≡◌ {A = Named} (record { job = code - 1; skipped = false }) named = cc e in
-      let lows : (nat_le 1 code ≡ true) × (nat_le code n ≡ true) = and_parts (nat_le 1 code) (nat_le code n) t in
-      let a : 1 ≤ code = leb-true 1 code lows.0 in let b : code ≤ n = leb-true code n lows.1 in
-      subst (λ d. (d.job < n) × (code ≡ code_of d.job d.skipped)) q (omega arith, omega arith)
-  first false t e = second (nat_le (1 + not_to_run) code && nat_le code (n + not_to_run)) refl e
+named_is n code named e = grind (arith, common_steps)
 
 -- ---- ends
 
@@ -246,13 +225,7 @@ held_push (g ∷ gs) latch mode id = ap (λ hs. record { latch = g.latch; mode =
 
 pub held_without : (gs : List Grant) (latch : ℕ) → held_of (without_latch latch gs) ≡ filter (λ h. not (is_held latch h)) (held_of gs)
 held_without [] latch = refl
-held_without (g ∷ gs) latch =
-    elim (g.latch == latch) as (λ b. held_of (if not b then g ∷ without_latch latch gs else without_latch latch gs) ≡
-    (if not b then record { latch = g.latch; mode = g.mode } ∷ filter (λ h. not (is_held latch h)) (held_of gs) else filter
-    (λ h. not (is_held latch h)) (held_of gs))) [
-      | true ↦ held_without gs latch
-      | false ↦ ap (λ hs. record { latch = g.latch; mode = g.mode } ∷ hs) (held_without gs latch)
-    ]
+held_without (g ∷ gs) latch = grind (arith, common_steps, held_without gs latch)
 
 pub standing_push : (k job latch : ℕ) (mode : Mode) (id : ℕ) (gs : List Grant)
     → standing_of k job (gs ++ record { latch = latch; mode = mode; id = id } ∷ []) ≡ standing_of k job gs ++
@@ -262,12 +235,7 @@ pub standing_push : (k job latch : ℕ) (mode : Mode) (id : ℕ) (gs : List Gran
           record { id = id; caller = k; requestor = job + 1; mode = mode; form = form_of.Waiting };
     } ∷ []
 standing_push k job latch mode id [] = refl
-standing_push k job latch mode id (g ∷ gs) =
-    ap (λ ts. record {
-      latch = g.latch;
-      request = record { id = g.id; caller = k; requestor = job + 1; mode = g.mode; form = form_of.Waiting };
-    } ∷ ts)
-    (standing_push k job latch mode id gs)
+standing_push k job latch mode id (g ∷ gs) = grind (arith, common_steps, standing_push k job latch mode id gs)
 
 pub standing_without : (k job latch id : ℕ) (requests : ℕ → Option ℕ) (gs : List Grant)
     → AllByRecursion (λ g. requests g.latch ≡ Some g.id) gs → requests latch ≡ Some id
@@ -294,13 +262,7 @@ standing_without k job latch id requests (g ∷ gs) l e =
 
 pub standing_purged : (k job : ℕ) (gs : List Grant) → less (is_for (job + 1)) (standing_of k job gs) ≡ []
 standing_purged k job [] = refl
-standing_purged k job (g ∷ gs) =
-    ap (λ b. if not b then record {
-      latch = g.latch;
-      request = record { id = g.id; caller = k; requestor = job + 1; mode = g.mode; form = form_of.Waiting };
-    } ∷ less (is_for (job + 1))
-    (standing_of k job gs) else less (is_for (job + 1)) (standing_of k job gs)) (eq-eqb (job + 1) (job + 1) refl)
-    ∙ standing_purged k job gs
+standing_purged k job (g ∷ gs) = grind (arith, common_steps, standing_purged k job gs)
 
 -- a latch that is held has a request that it last had there
 pub held_request : (requests : ℕ → Option ℕ) (latch : ℕ) (gs : List Grant) → AllByRecursion (λ g. requests g.latch ≡ Some g.id) gs
@@ -370,13 +332,7 @@ module _ (deck : List JobData) (i : ℕ) (sound : ArePlannedJobs 0 deck) (kept :
   start_stands : (named : Named) (skipped : Bool) (before : List ℕ) (more g : ℕ) → named.skipped ≡ skipped → named.job < length deck
       → list_any (λ j. j == named.job) before ≡ false → IsRound (length deck) more before
       → InitiatorKept i [] kept → InitiatorStands deck i kept (job_start skipped (running named before more g) (job_at deck named.job))
-  start_stands named true before more g e lt new round k = (
-    record {
-      round = record { round = round; job = lt; new = new };
-      end = sym (ap (λ b. if b then not_run else own_end (job_at deck named.job).steps) e);
-    },
-    k,
-  )
+  start_stands named true before more g e lt new round k = grind (arith, common_steps)
   start_stands named false before more g e lt new round k =
       steps_stand (running named before more g) empty_hand (job_at deck named.job).steps (record {
         round = record { round = round; job = lt; new = new };
@@ -455,14 +411,8 @@ freed_kept i kept run hand latch id h e k same fewer = record {
 pub initiator_stands : (deck : List JobData) (i : ℕ) (kept : Kept) (x : InitiatorAt) (r : Reply) → ArePlannedJobs 0 deck
     → InitiatorStands deck i kept (At x)
     → InitiatorStands deck i (keeps kept (initiator_asks (length deck) i x) r) (initiator_goes deck x r)
-initiator_stands deck i kept Opening (reply_of.Element (element_reply.Opened g)) sound s =
-    rounds_land (InitiatorStands deck i _) (tt, tt) (length deck + 1) [] g (λ left e. (
-      record { count = omega arith; below = tt; distinct = tt },
-      record { caller = ap (λ k. k.caller) s.1; stand = ap (λ k. k.requests) s.1 },
-    ))
-initiator_stands deck i kept (Offering more before g) r sound s =
-    on_posted_keeps (InitiatorStands deck i (keeps kept (initiator_asks (length deck) i (Offering more before g)) r))
-    (At (Pausing more before g)) r (s.0, record { caller = s.1.caller; stand = s.1.stand }) (tt, tt)
+initiator_stands deck i kept Opening (reply_of.Element (element_reply.Opened g)) sound s = grind (arith, common_steps)
+initiator_stands deck i kept (Offering more before g) r sound s = grind (arith, common_steps)
 initiator_stands deck i kept (Pausing more before g) (reply_of.Element (element_reply.Given code now)) sound s =
     given_stands deck i sound _ more before code now s.0 (record { caller = s.1.caller; stand = s.1.stand })
 initiator_stands deck i kept (Pausing more before g) (reply_of.Element element_reply.Parked) sound s =
@@ -482,8 +432,7 @@ initiator_stands deck i kept (InJob run (Freeing hand latch id steps)) (reply_of
     steps_stand deck i sound _ run (hand_without hand latch) steps (freed_stand deck run hand latch steps s.0.0)
     (freed_kept i kept run hand latch id s.0.0.holds s.0.1 s.1 refl refl)
 initiator_stands deck i kept (InJob run (Reading hand volume amount steps)) (reply_of.Volume (volume_reply.Value number)) sound s =
-    counting_lands (InitiatorStands deck i _) (tt, tt) run hand volume amount steps number
-    (s.0, record { caller = s.1.caller; stand = s.1.stand })
+    grind (arith, common_steps)
 initiator_stands deck i kept (InJob run (Writing hand volume amount number steps)) (reply_of.Volume volume_reply.Stored) sound s =
     steps_stand deck i sound _ run hand steps
     (record {
@@ -510,9 +459,7 @@ initiator_stands deck i kept (InJob run (EndingJob code counts)) r sound s =
     ended_lands (InitiatorStands deck i (keeps kept (initiator_asks (length deck) i (InJob run (EndingJob code counts))) r)) (tt, tt)
     run code counts r (s.0, record { caller = s.1.caller; stand = s.1.stand })
     (rounds_stand deck i sound _ run s.0.round (record { caller = s.1.caller; stand = s.1.stand }))
-initiator_stands deck i kept (InJob run (EndingForScheduler code counts)) r sound s =
-    on_posted_keeps (InitiatorStands deck i (keeps kept (initiator_asks (length deck) i (InJob run (EndingForScheduler code counts))) r))
-    (At (InJob run (EndingForWriter code counts))) r (s.0, record { caller = s.1.caller; stand = s.1.stand }) (tt, tt)
+initiator_stands deck i kept (InJob run (EndingForScheduler code counts)) r sound s = grind (arith, common_steps)
 initiator_stands deck i kept (InJob run (EndingForWriter code counts)) r sound s =
     on_posted_keeps (InitiatorStands deck i (keeps kept (initiator_asks (length deck) i (InJob run (EndingForWriter code counts))) r))
     (rounds_after run) r (rounds_stand deck i sound _ run s.0.round (record { caller = s.1.caller; stand = s.1.stand })) (tt, tt)

@@ -18,6 +18,7 @@ use Rattle.mv_element.specs.declared.operation.ElementReply.TheVariants as eleme
 use Rattle.mv_plan.proofs.points.Views.{run_of, IsNotLost}
 use Rattle.mv_plan.proofs.points.Asks.{Elsewhere}
 use Rattle.mv_plan.proofs.points.Lands.{given_lands, counting_lands, ended_lands}
+use Rattle.std.proofs.lemmas.Grind.{common_steps}
 
 -- it runs this job, or is lost
 abbrev pub RunsOn : Running → Point InitiatorAt → Type 0
@@ -25,10 +26,7 @@ RunsOn run p = (run_of p ≡ Some run) ⊎ (IsNotLost p → ⊥)
 
 pub steps_run : (run : Running) (hand : Hand) (steps : List Step) → RunsOn run (steps_at run hand steps)
 steps_run run hand (Print text ∷ steps) = steps_run run hand steps
-steps_run run hand (Free latch ∷ steps) = go (hand.requests latch) where
-  go : (o : Option ℕ) → RunsOn run (freeing_at run hand latch o steps)
-  go None = inr (λ f. f)
-  go (Some id) = inl refl
+steps_run run hand (Free latch ∷ steps) = grind (arith, common_steps)
 steps_run run hand steps = inl refl
 
 pub start_run : (skipped : Bool) (run : Running) (job : JobData) → RunsOn run (job_start skipped run job)

@@ -27,6 +27,7 @@ use Rattle.mv_plan.proofs.points.ReaderAndWriter.{keeps}
 use Rattle.mv_plan.proofs.points.SchedulerSound.{IsRest, rest_count, rest_below, rest_sound, IsAwaited, IsStage, stage_extended}
 use Rattle.mv_plan.proofs.points.SchedulerSound.{awaited_extended, SchedulerKept, others_plain, SchedulerStands, extended_kept}
 use Rattle.mv_plan.proofs.deck.Setup.{Facts}
+use Rattle.std.proofs.lemmas.Grind.{common_steps}
 
 pub scheduler_says : (c : Setup) (n initiators : ℕ) (kept : Kept) (x : SchedulerAt)
     → asks (scheduler_program c n initiators kept x) ≡ Some (scheduler_asks n x)
@@ -100,29 +101,12 @@ module _ (c : Setup) (deck : List JobData) (initiators : ℕ) (facts : Facts c (
       (λ linked. first_of c (map (idle (length deck)) (range_with_len 0 initiators))
       (hand_over c (length deck) (code_of j skipped))) kept)
       ≡ program_at (scheduler_program c (length deck) initiators kept) (At (Extends j job jobs skipped))
-  extend_enters j job jobs skipped kept r k =
-      ap (λ r. staged c (length deck) initiators (Dispatching (j + 1) jobs) kept
-      (going_on kept (unless_refused r
-      (Do (Ecb (done (length deck) j)) (op_on.Ecb (ecb_op.Extend (j + 1))) (λ h. on_ecb h.entry.reply extended)))
-      (unrefused (λ linked. first_of c (map (idle (length deck)) (range_with_len 0 initiators))
-      (hand_over c (length deck) (code_of j skipped))))))
-      (extend_unrefused c (done (length deck) j) (j + 1) kept
-      (record {
-        own = facts.done_owner j (rest_below deck j job jobs r)
-            ∙ sym k.caller;
-        plain = others_plain (length deck) j kept (done (length deck) j) k (inr (omega arith));
-      })
-      (facts.exit j (rest_below deck j job jobs r)))
+  extend_enters j job jobs skipped kept r k = grind (arith, common_steps)
 
   clear_enters : (i g code count : ℕ) (after : Stage) (kept : Kept) → i < initiators → SchedulerKept (length deck) count kept
       → staged c (length deck) initiators after kept (hand_over c (length deck) code i g kept) ≡ program_at
       (scheduler_program c (length deck) initiators kept) (At (Clears i g code after))
-  clear_enters i g code count after kept lt k =
-      ap (λ b. staged c (length deck) initiators after kept
-      (going_on kept (unless_refused (refused_if b refusal.NotOwner)
-      (Do (Ecb (idle (length deck) i)) (op_on.Ecb ecb_op.Clear) (λ h. on_ecb h.entry.reply (the_word (λ w. Done (Ok w))))))
-      (unrefused (λ word. accepted (release (token_of (initiator i) g) code) (λ reached. finished tt)))))
-      (own_block c kept (idle (length deck) i) (facts.idle_owner i lt ∙ sym k.caller))
+  clear_enters i g code count after kept lt k = grind (arith, common_steps)
 
   ends_enter : (j : ℕ) (name : List ℕ) (after : List After) (steps : List Step) (jobs : List JobData) (kept : Kept)
       → IsRest deck j (record { name = name; after = after; steps = steps } ∷ jobs) → SchedulerKept (length deck) j kept
@@ -165,25 +149,14 @@ module _ (c : Setup) (deck : List JobData) (initiators : ℕ) (facts : Facts c (
       → dismissals c (length deck) i more kept ≡ program_at (scheduler_program c (length deck) initiators kept)
       (dismissing_from (length deck) i more)
   dismissing_enters i zero kept e k = refl
-  dismissing_enters i (suc more) kept e k =
-      wait_enters (ToDismiss i more) kept (idle (length deck) i ∷ [])
-      (wait_unrefused c 1 (idle (length deck) i ∷ []) kept (omega arith) (tt, tt)
-      (idle_free (length deck) i kept k (omega arith) (omega arith), tt)) refl (omega arith)
+  dismissing_enters i (suc more) kept e k = grind (arith, common_steps)
 
   pub stage_enters : (after : Stage) (kept : Kept) → IsStage deck initiators after
       → SchedulerKept (length deck) (stage_extended (length deck) after) kept
       → stage_call c (length deck) initiators after kept ≡ program_at (scheduler_program c (length deck) initiators kept)
       (stage_at (length deck) initiators after)
-  stage_enters (Dispatching j []) kept r k =
-      dismissing_enters 0 initiators kept (omega arith)
-      (subst (λ m. SchedulerKept (length deck) m kept) (let e : j + 0 ≡ length deck = rest_count deck j [] r in omega arith) k)
-  stage_enters (Dispatching j (job ∷ jobs)) kept r k =
-      let lt : j < length deck = rest_below deck j job jobs r in
-      wait_enters (ForEntry j job jobs) kept (entered j ∷ [])
-      (wait_unrefused c 1 (entered j ∷ []) kept (omega arith) (tt, tt) (
-        record { own = facts.entered_owner j lt ∙ sym k.caller; plain = others_plain (length deck) j kept (entered j) k (inl lt) },
-        tt,
-      )) refl (omega arith)
+  stage_enters (Dispatching j []) kept r k = grind (arith, common_steps)
+  stage_enters (Dispatching j (job ∷ jobs)) kept r k = grind (arith, common_steps)
   stage_enters (Dismissing i more) kept e k = dismissing_enters i more kept e k
 
   -- what was found is enough
@@ -275,16 +248,7 @@ module _ (c : Setup) (deck : List JobData) (initiators : ℕ) (facts : Facts c (
         (reply_of.Ecb ecb_reply.Armed)) s.0
         (extended_kept deck initiators kept j job jobs skipped s.1)
     extended_goes r = refl
-  scheduler_hears kept (Clears i g code after) h s = cleared_goes h.entry.reply where
-    cleared_goes : (r : Reply) → staged c (length deck) initiators after
-        (keeps kept (scheduler_asks (length deck) (Clears i g code after)) r)
-        (going_on (keeps kept (scheduler_asks (length deck) (Clears i g code after)) r) (on_ecb r (the_word (λ w. Done (Ok w))))
-        (unrefused (λ word. accepted (release (token_of (initiator i) g) code) (λ reached. finished tt))))
-        ≡ program_at (scheduler_program c (length deck) initiators
-        (keeps kept (scheduler_asks (length deck) (Clears i g code after)) r))
-        (scheduler_goes (length deck) initiators (Clears i g code after) r)
-    cleared_goes (reply_of.Ecb (ecb_reply.Word w)) = refl
-    cleared_goes r = refl
+  scheduler_hears kept (Clears i g code after) h s = grind (arith, common_steps)
   scheduler_hears kept (Releases i g code after) h s = released_goes h.entry.reply where
     released_goes : (r : Reply) → staged c (length deck) initiators after
         (keeps kept (scheduler_asks (length deck) (Releases i g code after)) r)

@@ -13,6 +13,7 @@ use Rattle.mv_plan.proofs.points.Points.{ends_at, dismissing_from, stage_at, on_
 use Rattle.mv_plan.proofs.points.PostsAndWaits.{on_armed_keeps, on_settled_keeps, lowest_keeps}
 use Rattle.mv_plan.proofs.points.SchedulerSound.{rest_below, rest_count, IsAwaited, IsStage, IsSchedulerAt}
 use Rattle.mv_plan.proofs.points.Views.{next_job, next_in, next_awaited, Errand, Dispatches, Dismisses, Rests, errand, next_of, IsNotLost}
+use Rattle.std.proofs.lemmas.Grind.{common_steps}
 
 module _ (n initiators : ℕ) (P : Point SchedulerAt → Type 0) where
   -- all that may follow is so
@@ -161,10 +162,7 @@ module _ (n initiators : ℕ) where
   pub dispatched_next : (j : ℕ) (jobs : List JobData) (r : Reply) → j + length jobs ≡ n
       → IsNotLost (on_released (stage_at n initiators (Dispatching j jobs)) r)
       → next_job n (on_released (stage_at n initiators (Dispatching j jobs)) r) ≡ j
-  dispatched_next j jobs r e f = ap (next_of n) (released_errand n initiators (Dispatching j jobs) r f) ∙ go jobs e where
-    go : (jobs : List JobData) → j + length jobs ≡ n → next_of n (after_release initiators (Dispatching j jobs)) ≡ j
-    go [] e = dismissals_next 0 initiators ∙ (let q : n ≡ j = omega arith in q)
-    go (job ∷ jobs) e = refl
+  dispatched_next j jobs r e f = grind (arith, common_steps)
 
 -- it does not fall
 dismissing_end : (n i more : ℕ) → next_job n (dismissing_from n i more) ≡ n
@@ -173,13 +171,9 @@ dismissing_end n i (suc more) = refl
 
 stage_grows : (deck : List JobData) (initiators : ℕ) (after : Stage) → IsStage deck initiators after
     → next_in (length deck) after ≤ next_job (length deck) (stage_at (length deck) initiators after)
-stage_grows deck initiators (Dispatching j []) s = let e : j + 0 ≡ length deck = rest_count deck j [] s in
-    let d : next_job (length deck) (dismissing_from (length deck) 0 initiators) ≡ length deck =
-    dismissing_end (length deck) 0 initiators in omega arith
+stage_grows deck initiators (Dispatching j []) s = grind (arith, common_steps)
 stage_grows deck initiators (Dispatching j (job ∷ jobs)) s = omega arith
-stage_grows deck initiators (Dismissing i more) s =
-    let d : next_job (length deck) (dismissing_from (length deck) i more) ≡ length deck = dismissing_end (length deck) i more in
-    omega arith
+stage_grows deck initiators (Dismissing i more) s = grind (arith, common_steps)
 
 awaited_below : (deck : List JobData) (initiators : ℕ) (a : Awaited) → IsAwaited deck initiators a
     → next_awaited (length deck) a ≤ length deck

@@ -16,6 +16,7 @@ use Rattle.mv_plan.proofs.points.Points.{awaited_count, scheduler_asks, schedule
 use Rattle.mv_plan.proofs.points.Points.{ends_at, dismissing_from, stage_at, lowest_at}
 use Rattle.mv_plan.proofs.points.PostsAndWaits.{on_armed_keeps, on_settled_keeps}
 use Rattle.mv_plan.proofs.points.ReaderAndWriter.{keeps}
+use Rattle.std.proofs.lemmas.Grind.{common_steps}
 
 -- the deck's jobs from number j on
 pub record IsRest (deck : List JobData) (j : ℕ) (jobs : List JobData) : Type 0 where
@@ -96,10 +97,7 @@ pub record SchedulerKept (n count : ℕ) (kept : Kept) : Type 0 where
 
 pub others_plain : (n count : ℕ) (kept : Kept) (e : ℕ) → SchedulerKept n count kept → (e < n) ⊎ (n + count ≤ e)
     → kept.extended e ≡ false
-others_plain n count kept e k out = false_from_ne_true (kept.extended e) (λ held. outside out (k.within e held)) where
-  outside : (e < n) ⊎ (n + count ≤ e) → (n ≤ e) × (e < n + count) → ⊥
-  outside (inl lt) w = omega arith
-  outside (inr le) w = omega arith
+others_plain n count kept e k out = grind (arith, common_steps)
 
 abbrev pub SchedulerKeptAt : ℕ → Kept → Point SchedulerAt → Type 0
 SchedulerKeptAt n kept (At (Waits a w)) = SchedulerKept n (awaited_extended n a) kept
@@ -136,9 +134,7 @@ module _ (deck : List JobData) (initiators : ℕ) (kept : Kept) where
   pub stage_stands : (after : Stage) → IsStage deck initiators after
       → SchedulerKept (length deck) (stage_extended (length deck) after) kept
       → SchedulerStands deck initiators kept (stage_at (length deck) initiators after)
-  stage_stands (Dispatching j []) r k =
-      dismissing_stands 0 initiators (omega arith)
-      (subst (λ m. SchedulerKept (length deck) m kept) (let e : j + 0 ≡ length deck = rest_count deck j [] r in omega arith) k)
+  stage_stands (Dispatching j []) r k = grind (arith, common_steps)
   stage_stands (Dispatching j (job ∷ jobs)) r k = ((r, ([], refl)), k)
   stage_stands (Dismissing i more) e k = dismissing_stands i more e k
 
@@ -213,16 +209,8 @@ scheduler_stands deck initiators kept (Waits a (Settling e todo found)) r s =
     (λ slot. settling_stands deck initiators _ a (s.0.1.0 ++ e ∷ []) todo (found ++ slot ∷ []) s.0.0
     (record { caller = s.1.caller; within = s.1.within }) (one_pushed s.0.1.0 todo e ∙ s.0.1.1)
     (length-append s.0.1.0 (e ∷ []) ∙ ap (λ k. k + 1) s.0.1.2 ∙ sym (length-append found (slot ∷ [])))) (tt, tt)
-scheduler_stands deck initiators kept (Extends j job jobs skipped) (reply_of.Ecb ecb_reply.Armed) s =
-    first_stands deck initiators _ (ForIdle j job jobs skipped)
-    (awaited_blocks (length deck) initiators (ForIdle j job jobs skipped)) s.0
-    (extended_kept deck initiators kept j job jobs skipped s.1) refl
-scheduler_stands deck initiators kept (Clears i g code after) (reply_of.Ecb (ecb_reply.Word w)) s =
-    (s.0, record { caller = s.1.caller; within = λ e held. s.1.within e (before e held (e == idle (length deck) i) refl) }) where
-      before : (e : ℕ) → with_at kept.extended (idle (length deck) i) false e ≡ true → (b : Bool) → (e == idle (length deck) i) ≡ b
-          → kept.extended e ≡ true
-      before e held true q = absurd (false≢true (sym (ap (λ b. if b then false else kept.extended e) q) ∙ held))
-      before e held false q = sym (ap (λ b. if b then false else kept.extended e) q) ∙ held
+scheduler_stands deck initiators kept (Extends j job jobs skipped) (reply_of.Ecb ecb_reply.Armed) s = grind (arith, common_steps)
+scheduler_stands deck initiators kept (Clears i g code after) (reply_of.Ecb (ecb_reply.Word w)) s = grind (arith, common_steps)
 scheduler_stands deck initiators kept (Releases i g code after) (reply_of.Element element_reply.Early) s =
     stage_stands deck initiators _ after s.0.1 (record { caller = s.1.caller; within = s.1.within })
 scheduler_stands deck initiators kept (Releases i g code after) (reply_of.Element element_reply.Woke) s =

@@ -19,6 +19,7 @@ use Rattle.mv_plan.proofs.walks.Walks.{Points, Move}
 use Rattle.mv_plan.proofs.points.Asks.{reader_plain, writer_plain, no_release, wait_no_release}
 use Rattle.mv_plan.proofs.walks.Moves.{entry_of, Each, of_move}
 use Rattle.mv_plan.proofs.points.Views.{Errand, Dispatches, Dismisses, Rests, errand, IsNotLost}
+use Rattle.std.proofs.lemmas.Grind.{common_steps}
 
 -- how many initiators were dismissed by then
 abbrev pub dismissed_by : ℕ → Errand → ℕ
@@ -43,24 +44,12 @@ plain_open m o op e = refl
 closings_same : (m : ℕ) (past : List Entry) (e : Entry) → is_closing m e.object e.op ≡ false
     → length (closings m (past ++ e ∷ [])) ≡ length (closings m past)
 closings_same m [] e q = rw q refl
-closings_same m (x ∷ past) e q =
-    elim (is_closing m x.object x.op) as
-    (λ b. length (if b then x ∷ closings m (past ++ e ∷ []) else closings m (past ++ e ∷ [])) ≡ length
-    (if b then x ∷ closings m past else closings m past)) [
-      | true ↦ ap (λ k. suc k) (closings_same m past e q)
-      | false ↦ closings_same m past e q
-    ]
+closings_same m (x ∷ past) e q = grind (arith, common_steps, closings_same m past e q)
 
 closings_more : (m : ℕ) (past : List Entry) (e : Entry) → is_closing m e.object e.op ≡ true
     → length (closings m (past ++ e ∷ [])) ≡ suc (length (closings m past))
 closings_more m [] e q = rw q refl
-closings_more m (x ∷ past) e q =
-    elim (is_closing m x.object x.op) as
-    (λ b. length (if b then x ∷ closings m (past ++ e ∷ []) else closings m (past ++ e ∷ [])) ≡ suc
-    (length (if b then x ∷ closings m past else closings m past))) [
-      | true ↦ ap (λ k. suc k) (closings_more m past e q)
-      | false ↦ closings_more m past e q
-    ]
+closings_more m (x ∷ past) e q = grind (arith, common_steps, closings_more m past e q)
 
 closing_here : (i : ℕ) → (if initiator i == initiator i then 0 == 0 else false) ≡ true
 closing_here i = ap (λ b. if b then true else false) (eq-eqb (initiator i) (initiator i) refl)
@@ -137,32 +126,8 @@ module _ (c : Setup) (deck : List JobData) (initiators : ℕ) (kept : ℕ → Ke
         → IsSchedulerAt deck initiators (At (Releases i g code after))
         → IsNotLost (scheduler_goes n initiators (Releases i g code after) r)
         → ClosesAt q past → ClosesAt (scheduler_goes n initiators (Releases i g code after) r) (past ++ out ∷ [])
-    releasing (Dispatching j jobs) q at sound f w =
-        let below : sound.2.0 < n = (let whole : j + length jobs ≡ n = rest_count deck j jobs sound.1 in let a : j
-        ≡ sound.2.0 + 1 = sound.2.2 in omega arith) in
-        closes_job n initiators past _ w out _ i
-        (ap (λ z. dismissed_by initiators z) (released_errand n initiators (Dispatching j jobs) r f)
-        ∙ dispatched j jobs (rest_count deck j jobs sound.1) ∙ sym (ap (λ z. dismissed_by initiators (errand z)) at))
-        (right sound.0 (inr (sound.2.0, sound.2.1, below, sound.2.3)) q
-        (release_accepted (stage_at n initiators (Dispatching j jobs)) r f))
-        (λ m. closing_job i m code (λ z. never_zero sound.2.0 sound.2.1 (sym sound.2.3 ∙ z))) where
-          dispatched : (j : ℕ) (jobs : List JobData) → j + length jobs ≡ n
-              → dismissed_by initiators (after_release initiators (Dispatching j jobs)) ≡ 0
-          dispatched j [] e = dismissed_after initiators 0 initiators (omega arith)
-          dispatched j (job ∷ jobs) e = refl
-    releasing (Dismissing m more) q at sound f w =
-        let is : dismissed_by initiators (errand q) ≡ m - 1 = ap (λ z. dismissed_by initiators (errand z)) at in
-        let one : dismissed_by initiators (errand q) ≡ i = (let a : m ≡ i + 1 = sound.2.0 in omega arith) in
-        let then_is : dismissed_by initiators (errand (scheduler_goes n initiators (Releases i g code (Dismissing m more)) r)) ≡ m =
-        ap (λ z. dismissed_by initiators z) (released_errand n initiators (Dismissing m more) r f)
-        ∙ dismissed_after initiators m more sound.1 in
-        closes_one n initiators past _ w out _ (up _ _ m one then_is sound.2.0)
-        (right sound.0 (inl sound.2.1) q (release_accepted (stage_at n initiators (Dismissing m more)) r f))
-        (subst (λ z. is_closing (initiator z) out.object out.op ≡ true) (sym one)
-        (subst (λ z. (if initiator i == initiator i then z == 0 else false) ≡ true) (sym sound.2.1) (closing_here i)))
-        (λ k d. closing_else i k code (λ z. d (one ∙ z))) where
-          up : (x y m : ℕ) → x ≡ i → y ≡ m → m ≡ i + 1 → y ≡ x + 1
-          up x y m a b d = omega arith
+    releasing (Dispatching j jobs) q at sound f w = grind (arith, common_steps)
+    releasing (Dismissing m more) q at sound f w = grind (arith, common_steps)
 
   scheduled : (x : SchedulerAt) (p : ℕ) (r : Reply) (q : Point SchedulerAt) → q ≡ At x → IsSchedulerAt deck initiators (At x)
       → IsNotLost (scheduler_goes n initiators x r)
@@ -171,13 +136,8 @@ module _ (c : Setup) (deck : List JobData) (initiators : ℕ) (kept : ℕ → Ke
       closes_quiet n initiators past _ w _ _
       (ap (λ z. dismissed_by initiators z) (same_errand n initiators (Waits a v) r tt f ∙ sym (ap (λ z. errand z) at)))
       (wait_no_release v)
-  scheduled (Extends j job jobs skipped) p r q at sound f w =
-      closes_quiet n initiators past _ w _ _
-      (ap (λ z. dismissed_by initiators z)
-      (same_errand n initiators (Extends j job jobs skipped) r tt f ∙ sym (ap (λ z. errand z) at))) refl
-  scheduled (Clears i g code after) p r q at sound f w =
-      closes_quiet n initiators past _ w _ _
-      (ap (λ z. dismissed_by initiators z) (same_errand n initiators (Clears i g code after) r tt f ∙ sym (ap (λ z. errand z) at))) refl
+  scheduled (Extends j job jobs skipped) p r q at sound f w = grind (arith, common_steps)
+  scheduled (Clears i g code after) p r q at sound f w = grind (arith, common_steps)
   scheduled (Releases i g code after) p r q at sound f w = releasing i g code p r after q at sound f w
 
   each_closing : Each c deck initiators Closing

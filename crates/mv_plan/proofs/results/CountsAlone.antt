@@ -27,6 +27,7 @@ use Rattle.mv_plan.proofs.volumes.Sums.{sum_to, sum_zero}
 use Rattle.mv_plan.proofs.walks.NoneLost.{NoneLost, none_lost_along, none_lost_at_end}
 use Rattle.mv_plan.proofs.volumes.Balance.{Balance, balance_start, balance_next}
 use Rattle.mv_plan.proofs.volumes.Totals.{GivenByEnds, adds_total}
+use Rattle.std.proofs.lemmas.Grind.{common_steps}
 
 -- what a caller did last among some entries, if it did anything
 record LastOf (k : ℕ) (es : List Entry) : Type 0 where
@@ -179,9 +180,7 @@ module _ (deck : List JobData) (initiators : ℕ) (some : 1 ≤ initiators) (sou
 
   -- an obtain is made by who works on the job
   asks_obtain : (n i j : ℕ) (x : InitiatorAt) → is_obtain (j + 1) (initiator_asks n i x).1 ≡ true → works (At x) ≡ Some j
-  asks_obtain n i j (InJob run (Obtaining hand latch mode steps)) e = ap (λ z. Some z) (same (eqb-true (run.job + 1) (j + 1) e)) where
-    same : run.job + 1 ≡ j + 1 → run.job ≡ j
-    same q = omega arith
+  asks_obtain n i j (InJob run (Obtaining hand latch mode steps)) e = grind (arith, common_steps)
   asks_obtain n i j x e = absurd (false≢true e)
 
   abbrev Counted : System → Points → List Entry → Type 0

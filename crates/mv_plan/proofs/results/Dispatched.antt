@@ -23,6 +23,7 @@ use Rattle.mv_plan.proofs.walks.NoneLost.{none_lost_at_end}
 use Rattle.mv_plan.proofs.walks.Walks.{Points, Move}
 use Rattle.mv_plan.proofs.walks.Moves.{Each, of_move}
 use Rattle.mv_plan.proofs.points.Views.{code_held, run_of, next_job, errand}
+use Rattle.std.proofs.lemmas.Grind.{common_steps}
 
 -- ---- what is shown
 
@@ -119,9 +120,7 @@ module _ (deck : List JobData) (initiators : ℕ) (s : System) (t : Points) (pas
 
   dispatched : (j : ℕ) (p : Place) → p ≡ Over → Account (element_code s) j (released_codes j past) (given_codes j past) p
       → IsDispatched past j
-  dispatched j p e w = let o : Account (element_code s) j (released_codes j past) (given_codes j past) Over =
-      subst (λ z. Account (element_code s) j (released_codes j past) (given_codes j past) z) e w in
-      record { skipped = o.0; released = o.1; given = o.2 }
+  dispatched j p e w = grind (arith, common_steps)
 
 -- what each moment has besides
 pub record Dispatches (deck : List JobData) (initiators : ℕ) (s : System) (t : Points) (past : List Entry) : Type 0 where

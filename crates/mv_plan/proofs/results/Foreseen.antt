@@ -41,6 +41,7 @@ use Rattle.mv_plan.proofs.standing.Rows.{Accepts, row_accepts}
 use Rattle.mv_plan.proofs.ends.RightCodes.{IsCode}
 use Rattle.mv_plan.proofs.deck.Ends.{is_skipped}
 use Rattle.mv_plan.proofs.points.Views.{code_held, named_before, IsNotLost, IsOfRounds}
+use Rattle.std.proofs.lemmas.Grind.{common_steps}
 
 -- a task is not astray
 abbrev pub IsForeseen : {X : Type 0} → Point X → Type 0
@@ -78,11 +79,7 @@ lowest_foreseen f w k (None ∷ found) le = lowest_foreseen f w (k + 1) found le
 -- ---- the reader
 pub reader_foreseen : (s : System) (x : ReaderAt) (r : Reply) → Some r ≡ reply_to s reader (reader_asks x).0 (reader_asks x).1
     → IsForeseen (reader_goes x r)
-reader_foreseen s (Entering j more) r e =
-    post_foreseen (entering_from (j + 1) more) 0 (s.ecb (entered j)).state r (cc e) (from (j + 1) more) where
-      from : (j more : ℕ) → IsForeseen (entering_from j more)
-      from j zero = tt
-      from j (suc more) = tt
+reader_foreseen s (Entering j more) r e = grind (arith, common_steps)
 
 -- ---- the scheduler
 
@@ -183,18 +180,8 @@ module _ (c : Setup) (deck : List JobData) (initiators : ℕ) (facts : Facts c (
       (subst (λ l. In l e) sound.1.1 (in_middle sound.1.0 e todo))))
       (λ slot. settling_foreseen n initiators a todo (found ++ slot ∷ []))
   scheduler_foreseen q w p (Extends j job jobs skipped) r at d armed rows found sound adm ans = absurd d
-  scheduler_foreseen q w p (Clears i g code after) r at d armed rows found sound adm ans =
-      subst (λ z. IsForeseen (scheduler_goes n initiators (Clears i g code after) z))
-      (sym (let e : r ≡ reply_of.Ecb (ecb_reply.Word (word_of (s.ecb (idle n i)).state)) = cc ans in e)) tt
-  scheduler_foreseen q w p (Releases i g code after) r at d armed rows found sound adm ans =
-      let row : Row (stance (p i)) (offer_of n s i) (Some g) (element_of s i) =
-      row_at _ _ _ _ _ _ _ _ refl refl (sym (ap (λ z. hold_for i z) at ∙ ap (λ b. if b then Some g else None) (eq-eqb i i refl))) refl
-      (rows i sound.0) in
-      subst (λ z. IsForeseen (scheduler_goes n initiators (Releases i g code after) z))
-      (sym (let e : r ≡ reply_of.Element (element_step (element_op.Release g code) (element_of s i)).1 = cc ans in e))
-      (accepted_foreseen (stage_at n initiators after) (element_step (element_op.Release g code) (element_of s i)).1
-      (row_accepts (stance (p i)) g code (offer_of n s i) (element_of s i) (has_stance (p i) (found i sound.0)) row)
-      (stage_foreseen n initiators after))
+  scheduler_foreseen q w p (Clears i g code after) r at d armed rows found sound adm ans = grind (arith, common_steps)
+  scheduler_foreseen q w p (Releases i g code after) r at d armed rows found sound adm ans = grind (arith, common_steps)
 
   -- ---- the writer
   writing_foreseen : (j more : ℕ) (ends : List ℕ) → IsForeseen (writing_from n j more ends)
@@ -291,9 +278,7 @@ module _ (deck : List JobData) (sound : ArePlannedJobs 0 deck) (small : length d
   pub given_foreseen : (code g : ℕ) → IsCode deck code
       → ((j : ℕ) (skipped : Bool) → j < length deck → code ≡ code_of j skipped → AllByRecursion (λ k. k ≡ j → ⊥) before)
       → IsForeseen (given_at deck more before code g)
-  given_foreseen code g (inl e) new =
-      subst (λ b. IsForeseen (if b then At (Closing g) else named_at deck (job_named (length deck) code) before more g))
-      (sym (eq-eqb code 0 e)) tt
+  given_foreseen code g (inl e) new = grind (arith, common_steps)
   given_foreseen code g (inr (j, lt, e)) new =
       elim (code == 0) as (λ b. IsForeseen (if b then At (Closing g) else named_at deck (job_named (length deck) code) before more g)) [
         | true ↦ tt
@@ -358,10 +343,7 @@ module _ (deck : List JobData) (initiators : ℕ) (sound : ArePlannedJobs 0 deck
       paused_foreseen deck _ _ more before g (element_of s i) r (cc a) w (gift_foreseen more before g st over)
   initiator_foreseen (Resuming more before g) r d st over w a =
       resumed_foreseen deck _ _ more before g (element_of s i) r (cc a) w (gift_foreseen more before g st over)
-  initiator_foreseen (InJob run (Purging hand code)) r d st over w a =
-      subst (λ z. IsForeseen (initiator_goes deck (InJob run (Purging hand code)) z))
-      (sym (let e : r ≡ reply_of.Latch
-      (latch_step (initiator i) s.latches.place (latch_op.Purge (run.job + 1)) s.latches.state).1 = cc a in e)) tt
+  initiator_foreseen (InJob run (Purging hand code)) r d st over w a = grind (arith, common_steps)
   initiator_foreseen (InJob run (EndingJob code counts)) r d st over w a =
       ended_foreseen run code counts (s.ecb (done size run.job)).state r (cc a) (after_foreseen size run st.round)
   initiator_foreseen (InJob run (EndingForScheduler code counts)) r d st over w a =

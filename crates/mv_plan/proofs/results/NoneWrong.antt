@@ -17,6 +17,7 @@ use Rattle.mv_plan.proofs.serving.ServedMoments.{served_onward, served_foreseen}
 use Rattle.mv_plan.proofs.walks.Histories.{Stood, stood, in_time}
 use Rattle.mv_plan.proofs.walks.Walks.{Points, Move, reads, schedules, initiates, writes}
 use Rattle.mv_plan.proofs.walks.Stands.{standing}
+use Rattle.std.proofs.lemmas.Grind.{common_steps}
 
 foreseen_point : (p : Point InitiatorAt) → (p ≡ Astray → ⊥) → IsForeseen p
 foreseen_point Astray n = n refl
@@ -27,14 +28,7 @@ module _ (deck : List JobData) (initiators : ℕ) where
   initiator_asked : (t u : Points) (e : Entry) (i : ℕ) (x : InitiatorAt) → Move deck initiators t e u → i < initiators
       → e.caller ≡ initiator i → t.initiators i ≡ At x
       → (e.object ≡ (initiator_asks (length deck) i x).0) × (e.op ≡ (initiator_asks (length deck) i x).1)
-  initiator_asked t u e i x (initiates m y less k at o op to) lt c given =
-      let same : m ≡ i = omega arith in
-      let points : ◌≡◌ {A = Point InitiatorAt} (At y) (At x) = sym at ∙ ap (λ z. t.initiators z) same ∙ given in
-      let is : y ≡ x = cc points in (
-        o ∙ ap (λ z. (initiator_asks (length deck) z y).0) same ∙ ap (λ z. (initiator_asks (length deck) i z).0) is,
-        op
-            ∙ ap (λ z. (initiator_asks (length deck) z y).1) same ∙ ap (λ z. (initiator_asks (length deck) i z).1) is,
-      )
+  initiator_asked t u e i x (initiates m y less k at o op to) lt c given = grind (arith, common_steps)
   initiator_asked t u e i x (reads y k at o op to) lt c given = absurd (omega arith)
   initiator_asked t u e i x (schedules y k at o op to) lt c given = absurd (omega arith)
   initiator_asked t u e i x (writes y k at o op to) lt c given = absurd (omega arith)
@@ -42,10 +36,7 @@ module _ (deck : List JobData) (initiators : ℕ) where
   scheduler_asked : (t u : Points) (e : Entry) (x : SchedulerAt) → Move deck initiators t e u → e.caller ≡ scheduler
       → t.scheduler ≡ At x
       → (e.object ≡ (scheduler_asks (length deck) x).0) × (e.op ≡ (scheduler_asks (length deck) x).1)
-  scheduler_asked t u e x (schedules y k at o op to) c given =
-      let points : ◌≡◌ {A = Point SchedulerAt} (At y) (At x) = sym at ∙ given in
-      let is : y ≡ x = cc points in
-      (o ∙ ap (λ z. (scheduler_asks (length deck) z).0) is, op ∙ ap (λ z. (scheduler_asks (length deck) z).1) is)
+  scheduler_asked t u e x (schedules y k at o op to) c given = grind (arith, common_steps)
   scheduler_asked t u e x (reads y k at o op to) c given = absurd (omega arith)
   scheduler_asked t u e x (initiates m y less k at o op to) c given = absurd (omega arith)
   scheduler_asked t u e x (writes y k at o op to) c given = absurd (omega arith)

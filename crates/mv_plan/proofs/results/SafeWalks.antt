@@ -32,6 +32,7 @@ use Rattle.mv_plan.proofs.lists.Tables.{all_but}
 use Rattle.mv_plan.proofs.ends.RightCodes.{IsCode}
 use Rattle.mv_plan.proofs.places.Ledger.{element_code}
 use Rattle.mv_plan.proofs.points.Views.{named_before, IsNotLost, IsOfRounds}
+use Rattle.std.proofs.lemmas.Grind.{common_steps}
 
 -- a wait that ended too soon stays so
 at_in_time : {X : Type 0} (x : X) (p : Point X) → p ≡ At x → p ≡ TooSoon → ⊥
@@ -228,10 +229,7 @@ module _ (deck : List JobData) (initiators : ℕ) (some : 1 ≤ initiators) (sou
   IsNotWrong k = left_in c (task_program deck initiators) k es ≡ Wrong → ⊥
 
   of_initiator : (i : ℕ) → i < initiators → IsNotWrong (initiator i)
-  of_initiator i lt e = lost_wrong (st.points.initiators i)
-      (wrong_point (initiator_program c deck i (st.kept (initiator i))) (initiator_asks (length deck) i)
-      (initiator_says c deck i (st.kept (initiator i))) (st.points.initiators i) (sym (st.tasks.at_initiator i lt) ∙ e))
-      (found.at_initiator i lt)
+  of_initiator i lt e = grind (arith, common_steps)
 
   pub not_wrong : (k : ℕ) → k < initiators + 3 → IsNotWrong k
   not_wrong k lt = elim (cases_eq k reader) [

@@ -28,6 +28,7 @@ use Rattle.mv_plan.proofs.points.Lands.{freeing_lands, given_lands, ended_lands,
 use Rattle.mv_plan.proofs.points.PostsAndWaits.{on_posted_keeps}
 use Rattle.mv_plan.proofs.latches.Exclusion.{works_run}
 use Rattle.mv_plan.proofs.ends.WhoPosts.{run_below}
+use Rattle.std.proofs.lemmas.Grind.{common_steps}
 
 -- ---- counts
 
@@ -49,17 +50,10 @@ names j r = length (with_code (naming j (gift_code r)) [])
 
 pub purges-push : (r : ℕ) (past : List Entry) (e : Entry)
     → length (purges r (past ++ e ∷ [])) ≡ length (purges r past) + one_if (purged_by r e.op)
-purges-push r past e = ap length (filter-append (λ x. purged_by r x.op) past (e ∷ []))
-    ∙ length-append (purges r past) (purges r (e ∷ [])) ∙ ap (λ k. length (purges r past) + k) (go (purged_by r e.op)) where
-      go : (b : Bool) → length (if b then e ∷ [] else []) ≡ one_if b
-      go true = refl
-      go false = refl
+purges-push r past e = grind (arith, common_steps)
 
 given-last : (j : ℕ) (e : Entry) → given_codes j (e ∷ []) ≡ with_code (naming j (gift_code e.reply)) []
-given-last j e = go (naming j (gift_code e.reply)) refl where
-  go : (slot : Option ℕ) → naming j (gift_code e.reply) ≡ slot → given_codes j (e ∷ []) ≡ with_code slot []
-  go None q = rw q refl
-  go (Some code) q = rw q refl
+given-last j e = grind (arith, common_steps)
 
 pub given-push : (j : ℕ) (past : List Entry) (e : Entry)
     → length (given_codes j (past ++ e ∷ [])) ≡ length (given_codes j past) + names j e.reply
@@ -85,24 +79,7 @@ code_eq n j k false false few x y e = omega arith
 
 names_is : (n j k : ℕ) (a : Bool) → n ≤ not_to_run → j < n → k < n
     → length (with_code (naming j (Some (code_of k a))) []) ≡ here j (Some k)
-names_is n j k a few x y = go (k == j) refl where
-  own : (a : Bool) → ((code_of j a == code_of j false) || (code_of j a == code_of j true)) ≡ true
-  own false = or_left (code_of j false == code_of j false) (code_of j false == code_of j true)
-      (eq-eqb (code_of j false) (code_of j false) refl)
-  own true = or_right (code_of j true == code_of j false) (code_of j true == code_of j true)
-      (eq-eqb (code_of j true) (code_of j true) refl)
-
-  neither : (p q : Bool) → p ≡ false → q ≡ false → (p || q) ≡ false
-  neither p q e f = rw (e, f) refl
-
-  slot : Bool → ℕ
-  slot b = length (with_code (if b then Some (code_of k a) else None) [])
-
-  go : (b : Bool) → (k == j) ≡ b → slot ((code_of k a == code_of j false) || (code_of k a == code_of j true)) ≡ (if b then 1 else 0)
-  go true e = ap slot (ap (λ m. (code_of m a == code_of j false) || (code_of m a == code_of j true)) (eqb-true k j e) ∙ own a)
-  go false e = ap slot (neither _ _
-      (ne_eqb (code_of k a) (code_of j false) (λ q. false≢true (sym e ∙ eq-eqb k j (code_eq n j k a false few x y q))))
-      (ne_eqb (code_of k a) (code_of j true) (λ q. false≢true (sym e ∙ eq-eqb k j (code_eq n j k a true few x y q)))))
+names_is n j k a few x y = grind (arith, common_steps)
 
 names_zero : (j : ℕ) → length (with_code (naming j (Some 0)) []) ≡ 0
 names_zero j = rw (ne_eqb 0 (code_of j false) (λ q. absurd (omega arith)), ne_eqb 0 (code_of j true) (λ q. absurd (omega arith))) refl
@@ -117,9 +94,7 @@ module _ (j : ℕ) where
   works_steps : (run : Running) (hand : Hand) (steps : List Step) → IsNotLost (steps_at run hand steps)
       → works (steps_at run hand steps) ≡ Some run.job
   works_steps run hand (Print text ∷ steps) n = works_steps run hand steps n
-  works_steps run hand (Free latch ∷ steps) n =
-      freeing_lands (λ p. IsNotLost p → works p ≡ Some run.job) (λ n. absurd n) run hand latch (hand.requests latch) steps
-      (λ id e n. refl) n
+  works_steps run hand (Free latch ∷ steps) n = grind (arith, common_steps)
   works_steps run hand steps n = refl
 
   work_steps : (run : Running) (hand : Hand) (steps : List Step) → IsNotLost (steps_at run hand steps)
@@ -155,10 +130,7 @@ module _ (j : ℕ) where
         (At x) + names j r
 
     same_job : (k : ℕ) → one_if (k + 1 == j + 1) + 0 ≡ here j (Some k) + 0
-    same_job k = elim (cases_eq k j) [
-      | inl e ↦ ap (λ b. one_if b + 0) (eq-eqb (k + 1) (j + 1) (ap (λ z. z + 1) e) ∙ sym (eq-eqb k j e))
-      | inr n ↦ ap (λ b. one_if b + 0) (ne_eqb (k + 1) (j + 1) (λ q. n (let z : k ≡ j = omega arith in z)) ∙ sym (ne_eqb k j n))
-    ]
+    same_job k = grind (arith, common_steps)
 
     own_work : (i : ℕ) (x : InitiatorAt) (r : Reply) → IsNotLost (initiator_goes deck x r) → WorkNext i x r
     own_work i Opening (reply_of.Element (element_reply.Opened g)) n = to_none _ (work_rounds (length deck + 1) [] g)
@@ -178,24 +150,16 @@ module _ (j : ℕ) where
     own_work i (InJob run (Confirming hand latch mode id steps)) (reply_of.Latch latch_reply.Waiting) n = absurd n
     own_work i (InJob run (Freeing hand latch id steps)) (reply_of.Latch (latch_reply.Released count)) n =
         to_same _ _ (work_steps run _ steps n)
-    own_work i (InJob run (Reading hand volume amount steps)) (reply_of.Volume (volume_reply.Value number)) n =
-        counting_lands (λ q. IsNotLost q → 0 + work j q ≡ here j (Some run.job) + 0) (λ n. absurd n) run hand volume amount steps number
-        (λ n. to_same _ _ refl) n
+    own_work i (InJob run (Reading hand volume amount steps)) (reply_of.Volume (volume_reply.Value number)) n = grind (arith, common_steps)
     own_work i (InJob run (Writing hand volume amount number steps)) (reply_of.Volume volume_reply.Stored) n =
         to_same _ _ (work_steps run hand steps n)
     own_work i (InJob run (Scanning hand volume steps)) (reply_of.Volume (volume_reply.Value number)) n = to_same _ _ refl
     own_work i (InJob run (Rescanning hand volume number steps)) (reply_of.Volume (volume_reply.Value again)) n =
         to_same _ _ (work_steps run hand steps n)
     own_work i (InJob run (Purging hand code)) (reply_of.Latch (latch_reply.Purged removed count)) n = same_job run.job
-    own_work i (InJob run (EndingJob code counts)) (reply_of.Ecb y) n =
-        ended_lands (λ q. IsNotLost q → 0 + work j q ≡ 0 + 0) (λ n. absurd n) run code counts (reply_of.Ecb y) (λ n. refl)
-        (λ n. to_none _ (work_rounds run.more _ run.generation)) n
-    own_work i (InJob run (EndingForScheduler code counts)) (reply_of.Ecb y) n =
-        on_posted_keeps (λ q. IsNotLost q → 0 + work j q ≡ 0) (At (InJob run (EndingForWriter code counts))) (reply_of.Ecb y) (λ n. refl)
-        (λ n. absurd n) n
-    own_work i (InJob run (EndingForWriter code counts)) (reply_of.Ecb y) n =
-        on_posted_keeps (λ q. IsNotLost q → 0 + work j q ≡ 0 + 0) (rounds_after run) (reply_of.Ecb y)
-        (λ n. to_none _ (work_rounds run.more _ run.generation)) (λ n. absurd n) n
+    own_work i (InJob run (EndingJob code counts)) (reply_of.Ecb y) n = grind (arith, common_steps)
+    own_work i (InJob run (EndingForScheduler code counts)) (reply_of.Ecb y) n = grind (arith, common_steps)
+    own_work i (InJob run (EndingForWriter code counts)) (reply_of.Ecb y) n = grind (arith, common_steps)
     own_work i (Closing g) (reply_of.Element element_reply.Closed) n = refl
     own_work i x r n = absurd n
 

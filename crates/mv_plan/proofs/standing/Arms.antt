@@ -27,6 +27,7 @@ use Rattle.mv_plan.proofs.walks.Moves.{Each, of_move}
 use Rattle.mv_plan.proofs.lists.Tables.{with_at-same, with_at-other}
 use Rattle.mv_plan.proofs.points.Asks.{NoArm, no_arm}
 use Rattle.mv_plan.proofs.points.Views.{IsNotLost}
+use Rattle.std.proofs.lemmas.Grind.{common_steps}
 
 -- ---- blocks in lists
 
@@ -111,14 +112,7 @@ waiting_was y v w e = grind arith
 -- only an arm makes a block wait
 pub still_waiting : (s : System) (k : ℕ) (o : Object) (op : Op) (b : ℕ) → NoArm op → ((moved s k o op).ecb b).state ≡ Waiting
     → (s.ecb b).state ≡ Waiting
-still_waiting s k (Ecb m) (op_on.Ecb op) b w e =
-    elim (cases_eq m b) [
-      | inl same ↦ ap (λ z. (s.ecb z).state) (sym same)
-          ∙ waiting_was op (s.ecb m).state w
-          (sym (ap (λ z. z.state) (with_at-same s.ecb m (advanced (s.ecb m) (ecb_step op (s.ecb m).state).0)))
-          ∙ ap (λ z. (with_at s.ecb m (advanced (s.ecb m) (ecb_step op (s.ecb m).state).0) z).state) same ∙ e)
-      | inr other ↦ sym (ap (λ z. z.state) (with_at-other s.ecb m b (advanced (s.ecb m) (ecb_step op (s.ecb m).state).0) other)) ∙ e
-    ]
+still_waiting s k (Ecb m) (op_on.Ecb op) b w e = grind (arith, common_steps)
 still_waiting s k (Element m) (op_on.Element op) b w e = e
 still_waiting s k (Volume m) (op_on.Volume op) b w e = e
 still_waiting s k Latches (op_on.Latch op) b w e = e
@@ -135,9 +129,7 @@ settled_not v e = grind arith
 -- a settled block does not wait
 settled_other : (s : System) (e b : ℕ)
     → (with_at s.ecb e (advanced (s.ecb e) (ecb_step ecb_op.Settle (s.ecb e).state).0) b).state ≡ Waiting → e ≡ b → ⊥
-settled_other s e b w same = settled_not (s.ecb e).state
-    (sym (ap (λ z. z.state) (with_at-same s.ecb e (advanced (s.ecb e) (ecb_step ecb_op.Settle (s.ecb e).state).0)))
-    ∙ ap (λ z. (with_at s.ecb e (advanced (s.ecb e) (ecb_step ecb_op.Settle (s.ecb e).state).0) z).state) same ∙ w)
+settled_other s e b w same = grind (arith, common_steps)
 
 -- ---- the points that follow have armed what they are to settle
 
@@ -205,19 +197,7 @@ module _ (c : Setup) (deck : List JobData) (initiators : ℕ) (facts : Facts c (
         go (inr other) = other_side (At (Waits a (Arming e todo))) (arming_from n initiators a todo) w b
             (λ u. arming_arms n initiators a todo b u.0 (λ i. u.1 (inr i)))
             (armed b (else_waiting s e b _ other q))
-  scheduled s (Waits a (Settling e todo found)) r w st adm f armed b q =
-      let other : e ≡ b → ⊥ = settled_other s e b q in
-      other_side (At (Waits a (Settling e todo found))) (scheduler_goes n initiators (Waits a (Settling e todo found)) r) w b
-      (λ u. settle r f (left other u)) (armed b (else_waiting s e b _ other q)) where
-        left : (e ≡ b → ⊥) → In (e ∷ todo) b → In todo b
-        left d (inl same) = absurd (d same)
-        left d (inr i) = i
-
-        settle : (r : Reply) → IsNotLost (scheduler_goes n initiators (Waits a (Settling e todo found)) r) → In todo b
-            → SchedulerArms n initiators (scheduler_goes n initiators (Waits a (Settling e todo found)) r) b
-        settle (reply_of.Ecb (ecb_reply.Complete code)) f i = settling_arms n initiators a todo (found ++ Some code ∷ []) b i
-        settle (reply_of.Ecb ecb_reply.Open) f i = settling_arms n initiators a todo (found ++ None ∷ []) b i
-        settle r f i = absurd f
+  scheduled s (Waits a (Settling e todo found)) r w st adm f armed b q = grind (arith, common_steps)
   scheduled s x r w st adm f armed b q = other_side (At x) (scheduler_goes n initiators x r) w b (λ u. absurd u)
       (armed b (still_waiting s scheduler (scheduler_asks n x).0 (scheduler_asks n x).1 b tt q))
 
@@ -225,23 +205,9 @@ module _ (c : Setup) (deck : List JobData) (initiators : ℕ) (facts : Facts c (
   written : (s : System) (x : WriterAt) (r : Reply) (y : Point SchedulerAt) → IsWriterAt n (At x)
       → IsTrue (admitted c s (writer initiators) (writer_asks x).0 (writer_asks x).1) → IsNotLost (writer_goes n x r)
       → ArmedThen s y (At x) → ArmedThen (moved s (writer initiators) (writer_asks x).0 (writer_asks x).1) y (writer_goes n x r)
-  written s (Keeping j more ends (Arming e [])) r y st adm f armed b q =
-      subst (λ z. Arms y z b) (sym (found_armed (writer_arming n j more ends []) r f)) (go (cases_eq e b)) where
-        go : (e ≡ b) ⊎ (e ≡ b → ⊥) → Arms y (writer_arming n j more ends []) b
-        go (inl same) = inr (
-          ap (λ z. owner_of c z) (sym same) ∙ arm_owner c s (writer initiators) e ecb_op.Arm refl adm,
-          inl (sym st.1 ∙ same),
-        )
-        go (inr other) = other_hand y (At (Keeping j more ends (Arming e []))) (writer_arming n j more ends []) b (λ u. u.0)
-            (armed b (else_waiting s e b _ other q))
+  written s (Keeping j more ends (Arming e [])) r y st adm f armed b q = grind (arith, common_steps)
   written s (Keeping j more ends (Arming e (d ∷ todo))) r y st adm f armed b q = absurd (cc st.2)
-  written s (Keeping j more ends (Settling e [] found)) r y st adm f armed b q =
-      let other : e ≡ b → ⊥ = settled_other s e b q in
-      other_hand y (At (Keeping j more ends (Settling e [] found))) (writer_goes n (Keeping j more ends (Settling e [] found)) r) b
-      (λ u. gone other u) (armed b (else_waiting s e b _ other q)) where
-        gone : (e ≡ b → ⊥) → In (e ∷ []) b → WriterArms n (writer_goes n (Keeping j more ends (Settling e [] found)) r) b
-        gone d (inl same) = absurd (d same)
-        gone d (inr i) = absurd i
+  written s (Keeping j more ends (Settling e [] found)) r y st adm f armed b q = grind (arith, common_steps)
   written s (Keeping j more ends (Settling e (d ∷ todo) found)) r y st adm f armed b q = absurd (cc st.2)
 
   abbrev ArmedBy : System → Points → Entry → Points → Type 0

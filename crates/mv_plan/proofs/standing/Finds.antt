@@ -17,6 +17,7 @@ use Rattle.mv_plan.proofs.points.Points.{settling_from, found_at, ends_at, dismi
 use Rattle.mv_plan.proofs.points.SchedulerSound.{IsWaitAt}
 use Rattle.mv_plan.proofs.lists.Tables.{with_at-same, with_at-other}
 use Rattle.mv_plan.proofs.points.Asks.{NoClear}
+use Rattle.std.proofs.lemmas.Grind.{common_steps}
 
 abbrev pub Blocks : Type 0
 Blocks = ℕ → Cell EcbState
@@ -54,13 +55,7 @@ not_clear ecb_op.Clear w e = w
 not_clear y w e = cc e
 
 pub stay_moved : (s : System) (k : ℕ) (o : Object) (op : Op) → NoClear op → Stay s.ecb (moved s k o op).ecb
-stay_moved s k (Ecb m) (op_on.Ecb op) w b code e =
-    elim (cases_eq m b) [
-      | inl same ↦ subst (λ z. (with_at s.ecb m (advanced (s.ecb m) (ecb_step op (s.ecb m).state).0) z).state ≡ Complete code) same
-          (ap (λ z. z.state) (with_at-same s.ecb m (advanced (s.ecb m) (ecb_step op (s.ecb m).state).0))
-          ∙ complete_kept op (s.ecb m).state code (not_clear op w) (ap (λ z. (s.ecb z).state) same ∙ e))
-      | inr other ↦ ap (λ z. z.state) (with_at-other s.ecb m b (advanced (s.ecb m) (ecb_step op (s.ecb m).state).0) other) ∙ e
-    ]
+stay_moved s k (Ecb m) (op_on.Ecb op) w b code e = grind (arith, common_steps)
 stay_moved s k (Element m) (op_on.Element op) w b code e = e
 stay_moved s k (Volume m) (op_on.Volume op) w b code e = e
 stay_moved s k Latches (op_on.Latch op) w b code e = e
@@ -173,9 +168,7 @@ module _ (n initiators : ℕ) (s : System) where
       → ((a : Awaited) (w : WaitAt) → x ≡ Waits a w → IsWaitAt (awaited_blocks n initiators a) w)
       → Some r ≡ reply_to s scheduler (scheduler_asks n x).0 (scheduler_asks n x).1
       → Finds n initiators s.ecb (At x) → Finds n initiators (then_s x).ecb (scheduler_goes n initiators x r)
-  finds_next (Waits a (Arming e todo)) r sound q w =
-      on_armed_keeps (λ p. Finds n initiators (then_s (Waits a (Arming e todo))).ecb p) (arming_from n initiators a todo) r
-      (arming_here n initiators (then_s (Waits a (Arming e todo))).ecb a todo) tt
+  finds_next (Waits a (Arming e todo)) r sound q w = grind (arith, common_steps)
   finds_next (Waits a (Settling e todo found)) r sound q w =
       let l : IsWaitAt (awaited_blocks n initiators a) (Settling e todo found) = sound a (Settling e todo found) refl in
       settled_slot e r (λ slot. settling_from n a todo (found ++ slot ∷ []))
@@ -186,9 +179,7 @@ module _ (n initiators : ℕ) (s : System) where
       (subst (λ bs. Slots (then_s (Waits a (Settling e todo found))).ecb bs found) (sym l.1)
       (slots_kept s.ecb (then_s (Waits a (Settling e todo found))).ecb (awaited_blocks n initiators a) found
       (stay_moved s scheduler (Ecb e) (op_on.Ecb ecb_op.Settle) tt) w)) is))) tt
-  finds_next (Extends j job jobs skipped) (reply_of.Ecb ecb_reply.Armed) sound q w =
-      first_here n initiators (then_s (Extends j job jobs skipped)).ecb (ForIdle j job jobs skipped)
-      (awaited_blocks n initiators (ForIdle j job jobs skipped))
+  finds_next (Extends j job jobs skipped) (reply_of.Ecb ecb_reply.Armed) sound q w = grind (arith, common_steps)
   finds_next (Clears i g code after) (reply_of.Ecb (ecb_reply.Word z)) sound q w = tt
   finds_next (Releases i g code after) (reply_of.Element element_reply.Early) sound q w =
       stage_here n initiators (then_s (Releases i g code after)).ecb after

@@ -19,6 +19,7 @@ use Rattle.mv_plan.proofs.walks.NoneLost.{SameTalk, same_talk}
 use Rattle.mv_plan.proofs.lists.Tables.{with_at-same, with_at-other}
 use Rattle.mv_plan.proofs.points.Views.{run_of, IsNotLost}
 use Rattle.mv_plan.proofs.points.Lands.{given_lands}
+use Rattle.std.proofs.lemmas.Grind.{common_steps}
 
 -- where an initiator stands, as far as its block and its element go
 pub data Stance : Type 0 where
@@ -179,9 +180,7 @@ module _ (deck : List JobData) (s : System) (q : Point SchedulerAt) (i : ℕ) wh
   pub own_row : (x : InitiatorAt) (r : Reply) → IsInitiatorAt deck (At x) → Answered x r → RowAt n s q i (At x)
       → RowAt n (then_s x) q i (initiator_goes deck x r)
   own_row Opening r sound a w = on_element (initiator_goes deck Opening r) _ _ _ (opened_row _ _ n (element_of s i) r (cc a) w)
-  own_row (Offering more before g) r sound a w =
-      on_posted_keeps (λ p. RowAt n (then_s (Offering more before g)) q i p) (At (Pausing more before g)) r
-      (offered (ap (λ z. code_in z.state) (with_at-same s.ecb (idle n i) _) ∙ post_code g (s.ecb (idle n i)).state w.0) w.1 w.2) tt
+  own_row (Offering more before g) r sound a w = grind (arith, common_steps)
   own_row (Pausing more before g) r sound a w =
       on_element (initiator_goes deck (Pausing more before g) r) _ _ _ (paused_row _ _ deck more before g (element_of s i) r (cc a) w)
   own_row (Resuming more before g) r sound a w =
@@ -198,9 +197,7 @@ module _ (deck : List JobData) (s : System) (q : Point SchedulerAt) (i : ℕ) wh
   apart_same z t = record { elements = λ m d. t.elements m; idles = λ m d. t.idles m }
 
   apart_run : (x : InitiatorAt) (run : Running) → run_of (At x) ≡ Some run → IsInitiatorAt deck (At x) → Apart (then_s x)
-  apart_run x run e sound = apart_same (then_s x)
-      (same_talk n s (initiator i) (initiator_asks n i x).0 (initiator_asks n i x).1
-      (run_asks n i x run e (run_sound deck x run e sound).job))
+  apart_run x run e sound = grind (arith, common_steps)
 
   pub apart : (x : InitiatorAt) → IsInitiatorAt deck (At x) → Apart (then_s x)
   apart Opening sound = record { elements = λ m d. with_at-other s.element (initiator i) m _ (λ z. d (sym z)); idles = λ m d. refl }

@@ -29,6 +29,7 @@ use Rattle.mv_plan.proofs.walks.Moves.{entry_of, Each, of_move}
 use Rattle.mv_plan.proofs.lists.Tables.{with_at-same, with_at-other, all_but}
 use Rattle.mv_plan.proofs.points.Asks.{no_clear, writer_no_clear, NoClear, Elsewhere}
 use Rattle.mv_plan.proofs.points.SchedulerNext.{AllNext, goes_next}
+use Rattle.std.proofs.lemmas.Grind.{common_steps}
 
 -- ---- what the scheduler does to a row
 
@@ -131,12 +132,7 @@ settle_code v = grind arith
 
 code_kept : (f : Blocks) (e b : ℕ) (y : EcbState) → code_in y ≡ code_in (f e).state
     → code_in (with_at f e (advanced (f e) y) b).state ≡ code_in (f b).state
-code_kept f e b y q =
-    elim (cases_eq e b) [
-      | inl same ↦ subst (λ z. code_in (with_at f e (advanced (f e) y) z).state ≡ code_in (f z).state) same
-          (ap (λ z. code_in z.state) (with_at-same f e (advanced (f e) y)) ∙ q)
-      | inr other ↦ ap (λ z. code_in z.state) (with_at-other f e b (advanced (f e) y) other)
-    ]
+code_kept f e b y q = grind (arith, common_steps)
 
 pub wait_codes : (s : System) (k b : ℕ) (w : WaitAt)
     → code_in ((moved s k (wait_asks w).0 (wait_asks w).1).ecb b).state ≡ code_in (s.ecb b).state
@@ -167,18 +163,8 @@ module _ (deck : List JobData) (initiators : ℕ) (s : System) (m : ℕ) (st : S
 
   cleared_row : (i g code : ℕ) (after : Stage) → (s.ecb (idle n i)).state ≡ Complete g → (i ≡ m) ⊎ (i ≡ m → ⊥)
       → Now (Clears i g code after) → Then (Clears i g code after) (At (Releases i g code after))
-  cleared_row i g code after e (inl same) w =
-      row_at _ _ None _ (Some g) _ _ _ refl
-      (ap (λ z. code_in (with_at s.ecb (idle n i) (advanced (s.ecb (idle n i)) Zero) (idle n z)).state) (sym same)
-      ∙ ap (λ z. code_in z.state) (with_at-same s.ecb (idle n i) (advanced (s.ecb (idle n i)) Zero)))
-      (ap (λ b. if b then Some g else None) (eq-eqb i m same)) refl
-      (row_cleared st g (element_of s m)
-      (row_at _ _ _ _ _ _ _ _ refl (sym (ap (λ z. offer_of n s z) (sym same) ∙ ap (λ z. code_in z) e)) refl refl w))
-  cleared_row i g code after e (inr other) w =
-      row_at _ _ _ _ None _ _ _ refl
-      (ap (λ z. code_in z.state) (with_at-other s.ecb (idle n i) (idle n m) (advanced (s.ecb (idle n i)) Zero)
-      (λ z. other (omega arith))))
-      (ap (λ b. if b then Some g else None) (ne_eqb i m other)) refl w
+  cleared_row i g code after e (inl same) w = grind (arith, common_steps)
+  cleared_row i g code after e (inr other) w = grind (arith, common_steps)
 
   released_row : (i g code : ℕ) (after : Stage) (q : Point SchedulerAt) → NoHold q → (i ≡ m) ⊎ (i ≡ m → ⊥)
       → Now (Releases i g code after) → Then (Releases i g code after) q
@@ -191,10 +177,7 @@ module _ (deck : List JobData) (initiators : ℕ) (s : System) (m : ℕ) (st : S
       ∙ ap (λ z. (element_step (element_op.Release g code) (element_of s z)).0) same)
       (row_released st g code (offer_of n s m) (element_of s m)
       (row_at _ _ _ _ _ _ _ _ refl refl (sym (ap (λ b. if b then Some g else None) (eq-eqb i m same))) refl w))
-  released_row i g code after q none (inr other) w =
-      row_at _ _ _ _ None _ _ _ refl refl (none m)
-      (ap (λ z. z.state) (with_at-other s.element (initiator i) (initiator m) _ (λ z. other (omega arith))))
-      (row_at _ _ _ _ _ _ _ _ refl refl (sym (ap (λ b. if b then Some g else None) (ne_eqb i m other))) refl w)
+  released_row i g code after q none (inr other) w = grind (arith, common_steps)
 
   pub scheduled_row : (x : SchedulerAt) (r : Reply) → IsSchedulerAt deck initiators (At x)
       → Some r ≡ reply_to s scheduler (scheduler_asks n x).0 (scheduler_asks n x).1 → Finds n initiators s.ecb (At x)
@@ -202,17 +185,8 @@ module _ (deck : List JobData) (initiators : ℕ) (s : System) (m : ℕ) (st : S
   scheduled_row (Waits a v) r sound e f w =
       row_at _ _ _ _ None _ _ _ refl (wait_codes s scheduler (idle n m) v) (goes_no_hold n initiators (Waits a v) r tt m)
       (ap (λ z. z.state) (wait_elements s scheduler (initiator m) v)) w
-  scheduled_row (Extends j job jobs skipped) r sound e f w =
-      let same : SameTalk n s (then_s (Extends j job jobs skipped)) =
-      same_talk n s scheduler (Ecb (done n j)) (op_on.Ecb (ecb_op.Extend (j + 1)))
-      (done_low n j (rest_below deck j job jobs sound)) in
-      row_at _ _ _ _ None _ _ _ refl (ap (λ z. code_in z.state) (same.idles m))
-      (goes_no_hold n initiators (Extends j job jobs skipped) r tt m)
-      (ap (λ z. z.state) (same.elements (initiator m))) w
-  scheduled_row (Clears i g code after) r sound e f w =
-      let q : r ≡ reply_of.Ecb (ecb_reply.Word (word_of (s.ecb (idle n i)).state)) = cc e in
-      subst (λ z. Then (Clears i g code after) (scheduler_goes n initiators (Clears i g code after) z)) (sym q)
-      (cleared_row i g code after f (cases_eq i m) w)
+  scheduled_row (Extends j job jobs skipped) r sound e f w = grind (arith, common_steps)
+  scheduled_row (Clears i g code after) r sound e f w = grind (arith, common_steps)
   scheduled_row (Releases i g code after) r sound e f w =
       released_row i g code after _ (goes_no_hold n initiators (Releases i g code after) r tt) (cases_eq i m) w
 

@@ -14,19 +14,14 @@ use Rattle.mv_plan.proofs.points.Points.{At, Running, Hand, InitiatorAt, Reading
 use Rattle.mv_plan.proofs.walks.Walks.{Points, Move, reads, schedules, initiates, writes, WalkTo, walk-parts}
 use Rattle.mv_plan.proofs.volumes.Values.{LeadsTo, leads}
 use Rattle.mv_plan.proofs.lists.Tables.{with_at-same}
+use Rattle.std.proofs.lemmas.Grind.{common_steps}
 
 -- the initiator that moves, by its number as a caller
 pub mover_by : (deck : List JobData) (initiators i : ℕ) (t u : Points) (e : Entry) → Move deck initiators t e u → i < initiators
     → e.caller ≡ initiator i → (m : Mover deck initiators t u e) × (m.number ≡ i)
-mover_by deck initiators i t u e (reads x k at o op moved_to) lt f = absurd (wrong (sym k ∙ f)) where
-  wrong : reader ≡ initiator i → ⊥
-  wrong q = absurd (omega arith)
-mover_by deck initiators i t u e (schedules x k at o op moved_to) lt f = absurd (wrong (sym k ∙ f)) where
-  wrong : scheduler ≡ initiator i → ⊥
-  wrong q = absurd (omega arith)
-mover_by deck initiators i t u e (writes x k at o op moved_to) lt f = absurd (wrong (sym k ∙ f)) where
-  wrong : writer initiators ≡ initiator i → ⊥
-  wrong q = absurd (omega arith)
+mover_by deck initiators i t u e (reads x k at o op moved_to) lt f = grind (arith, common_steps)
+mover_by deck initiators i t u e (schedules x k at o op moved_to) lt f = grind (arith, common_steps)
+mover_by deck initiators i t u e (writes x k at o op moved_to) lt f = grind (arith, common_steps)
 mover_by deck initiators i t u e (initiates j x less k at o op moved_to) lt f = (
   record {
     number = j;
@@ -68,11 +63,7 @@ pub record IsRead (v number : ℕ) (e : Entry) : Type 0 where
 -- what a read is told
 pub read_tells : (c : Setup) (s : System) (e : Entry) (v : ℕ) → IsNext c s e → e.object ≡ Volume v → e.op ≡ op_on.Volume volume_op.Read
     → e.reply ≡ reply_of.Volume (volume_reply.Value (s.volume v).state)
-read_tells c s e v h f g =
-    let r : Some e.reply ≡ reply_to s e.caller (Volume v) (op_on.Volume volume_op.Read) =
-    subst (λ op. Some e.reply ≡ reply_to s e.caller (Volume v) op) g
-    (subst (λ o. Some e.reply ≡ reply_to s e.caller o e.op) f h.reply) in
-    cc r
+read_tells c s e v h f g = grind (arith, common_steps)
 
 module _ (c : Setup) (deck : List JobData) (initiators : ℕ) (s : System) (t u : Points) (xs mid zs : List Entry) (r w : Entry)
     (walk : WalkTo c deck initiators s t (xs ++ r ∷ (mid ++ w ∷ zs)) u)

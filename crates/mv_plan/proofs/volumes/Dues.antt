@@ -18,6 +18,7 @@ use Rattle.mv_plan.proofs.points.Views.{IsNotLost}
 use Rattle.mv_machine.proofs.EntryRuns.{entry_of}
 use Rattle.mv_plan.proofs.points.Lands.{freeing_lands, given_lands, ended_lands, counting_lands}
 use Rattle.mv_plan.proofs.points.PostsAndWaits.{on_posted_keeps}
+use Rattle.std.proofs.lemmas.Grind.{common_steps}
 
 -- ---- what is still to be added
 
@@ -48,9 +49,7 @@ module _ (v : ℕ) where
       → due v (steps_at run hand steps) ≡ added_by v (before_end steps)
   due_steps run hand (Print text ∷ steps) n = due_steps run hand steps n ∙ zero_plus (added_by v (before_end steps))
   due_steps run hand (Use latch mode ∷ steps) n = zero_plus (added_by v (before_end steps))
-  due_steps run hand (Free latch ∷ steps) n =
-      freeing_lands (λ p. IsNotLost p → due v p ≡ 0 + added_by v (before_end steps)) (λ n. absurd n) run hand latch
-      (hand.requests latch) steps (λ id e n. zero_plus (added_by v (before_end steps))) n
+  due_steps run hand (Free latch ∷ steps) n = grind (arith, common_steps)
   due_steps run hand (Scan volume ∷ steps) n = zero_plus (added_by v (before_end steps))
   due_steps run hand steps n = refl
 
@@ -96,29 +95,13 @@ module _ (c : Setup) (s : System) (deck : List JobData) (i v : ℕ) where
   write_due : (volume amount number d a : ℕ) → (s.volume volume).state ≡ number → d ≡ a
       → (with_at s.volume volume (advanced (s.volume volume) (number + amount)) v).state + d ≡ (s.volume v).state +
       (added v (Count volume amount) + a) + 0
-  write_due volume amount number d a e f = elim (cases_eq volume v) [
-    | inl q ↦
-        let now : (with_at s.volume volume (advanced (s.volume volume) (number + amount)) v).state ≡ number + amount =
-        subst (λ w. (with_at s.volume volume (advanced (s.volume volume) (number + amount)) w).state ≡ number + amount) q
-        (write_same s.volume volume (number + amount)) in
-        let was : (s.volume v).state ≡ number = subst (λ w. (s.volume w).state ≡ number) q e in
-        let more : added v (Count volume amount) ≡ amount = ap (λ b. if b then amount else 0) (eq-eqb volume v q) in
-        omega arith
-    | inr n ↦
-        let now : (with_at s.volume volume (advanced (s.volume volume) (number + amount)) v).state ≡ (s.volume v).state =
-        write_other s.volume volume v (number + amount) n in
-        let more : added v (Count volume amount) ≡ 0 = ap (λ b. if b then amount else 0) (ne_eqb volume v n) in
-        omega arith
-  ]
+  write_due volume amount number d a e f = grind (arith, common_steps)
 
   pub own_due : (x : InitiatorAt) (p : ℕ) (r : Reply) → NextAt c s deck i x p r → ValueAt s.volume (At x)
       → IsNotLost (initiator_goes deck x r) → DueNext x r
   own_due Opening p (reply_of.Element (element_reply.Opened g)) h a n =
       to_zero (s.volume v).state _ (due_rounds v (length deck + 1) [] g)
-  own_due (Offering more before g) p (reply_of.Ecb y) h a n =
-      on_posted_keeps (λ q. IsNotLost q → (s.volume v).state + due v q ≡ (s.volume v).state + 0 + 0) (At (Pausing more before g))
-      (reply_of.Ecb y)
-      (λ n. plain_due (s.volume v).state 0) (λ n. absurd n) n
+  own_due (Offering more before g) p (reply_of.Ecb y) h a n = grind (arith, common_steps)
   own_due (Pausing more before g) p (reply_of.Element (element_reply.Given code now)) h a n =
       gift_due (s.volume v).state _ (adds deck v code) (due_given v deck more before code now n)
   own_due (Pausing more before g) p (reply_of.Element element_reply.Parked) h a n = plain_due (s.volume v).state 0
@@ -134,12 +117,7 @@ module _ (c : Setup) (s : System) (deck : List JobData) (i v : ℕ) where
   own_due (InJob run (Confirming hand latch mode id steps)) p (reply_of.Latch latch_reply.Waiting) h a n = absurd n
   own_due (InJob run (Freeing hand latch id steps)) p (reply_of.Latch (latch_reply.Released count)) h a n =
       same_due (s.volume v).state _ (added_by v (before_end steps)) (due_steps v run _ steps n)
-  own_due (InJob run (Reading hand volume amount steps)) p (reply_of.Volume (volume_reply.Value number)) h a n =
-      counting_lands (λ q. IsNotLost q → (with_at s.volume volume (advanced (s.volume volume) (s.volume volume).state) v).state + due v q
-      ≡ (s.volume v).state + (added v (Count volume amount) + added_by v (before_end steps)) + 0) (λ n. absurd n) run hand volume amount
-      steps number
-      (λ n. read_due _ (s.volume v).state _ (added v (Count volume amount) + added_by v (before_end steps))
-      (read_keeps s.volume volume v) refl) n
+  own_due (InJob run (Reading hand volume amount steps)) p (reply_of.Volume (volume_reply.Value number)) h a n = grind (arith, common_steps)
   own_due (InJob run (Writing hand volume amount number steps)) p (reply_of.Volume volume_reply.Stored) h a n =
       write_due volume amount number _ (added_by v (before_end steps)) a (due_steps v run hand steps n)
   own_due (InJob run (Scanning hand volume steps)) p (reply_of.Volume (volume_reply.Value number)) h a n =
@@ -147,16 +125,8 @@ module _ (c : Setup) (s : System) (deck : List JobData) (i v : ℕ) where
   own_due (InJob run (Rescanning hand volume number steps)) p (reply_of.Volume (volume_reply.Value again)) h a n =
       read_due _ (s.volume v).state _ (added_by v (before_end steps)) (read_keeps s.volume volume v) (due_steps v run hand steps n)
   own_due (InJob run (Purging hand code)) p (reply_of.Latch (latch_reply.Purged removed count)) h a n = plain_due (s.volume v).state 0
-  own_due (InJob run (EndingJob code counts)) p (reply_of.Ecb y) h a n =
-      ended_lands (λ q. IsNotLost q → (s.volume v).state + due v q ≡ (s.volume v).state + 0 + 0) (λ n. absurd n) run code counts
-      (reply_of.Ecb y)
-      (λ n. plain_due (s.volume v).state 0) (λ n. to_zero (s.volume v).state _ (due_rounds v run.more _ run.generation)) n
-  own_due (InJob run (EndingForScheduler code counts)) p (reply_of.Ecb y) h a n =
-      on_posted_keeps (λ q. IsNotLost q → (s.volume v).state + due v q ≡ (s.volume v).state + 0 + 0)
-      (At (InJob run (EndingForWriter code counts)))
-      (reply_of.Ecb y) (λ n. plain_due (s.volume v).state 0) (λ n. absurd n) n
-  own_due (InJob run (EndingForWriter code counts)) p (reply_of.Ecb y) h a n =
-      on_posted_keeps (λ q. IsNotLost q → (s.volume v).state + due v q ≡ (s.volume v).state + 0 + 0) (rounds_after run) (reply_of.Ecb y)
-      (λ n. to_zero (s.volume v).state _ (due_rounds v run.more _ run.generation)) (λ n. absurd n) n
+  own_due (InJob run (EndingJob code counts)) p (reply_of.Ecb y) h a n = grind (arith, common_steps)
+  own_due (InJob run (EndingForScheduler code counts)) p (reply_of.Ecb y) h a n = grind (arith, common_steps)
+  own_due (InJob run (EndingForWriter code counts)) p (reply_of.Ecb y) h a n = grind (arith, common_steps)
   own_due (Closing g) p (reply_of.Element element_reply.Closed) h a n = plain_due (s.volume v).state 0
   own_due x p r h a n = absurd n

@@ -4,6 +4,7 @@ use Rattle.mv_plan.proofs.Words.{length, Option, Some, None, refl, sym, ap, ◌�
 use Rattle.mv_plan.proofs.Words.{and_parts, Entry, gift_code, JobData, job_at, before_end, Named, job_named, not_to_run}
 use Rattle.mv_plan.proofs.volumes.Added.{added_by}
 use Rattle.mv_plan.proofs.volumes.Sums.{sum_to, sum_ext, sum_zero, sum_change, times}
+use Rattle.std.proofs.lemmas.Grind.{common_steps}
 
 -- ---- codes
 
@@ -18,11 +19,7 @@ codes_of (e ∷ es) = with_code (gift_code e.reply) (codes_of es)
 
 pub codes-push : (xs : List Entry) (e : Entry) → codes_of (xs ++ e ∷ []) ≡ codes_of xs ++ with_code (gift_code e.reply) []
 codes-push [] e = refl
-codes-push (x ∷ xs) e = ap (with_code (gift_code x.reply)) (codes-push xs e) ∙ go (gift_code x.reply) where
-  go : (slot : Option ℕ) → with_code slot (codes_of xs ++ with_code (gift_code e.reply) []) ≡ with_code slot (codes_of xs) ++ with_code
-      (gift_code e.reply) []
-  go None = refl
-  go (Some code) = refl
+codes-push (x ∷ xs) e = grind (arith, common_steps, codes-push xs e)
 
 -- how often a number is in a list
 abbrev pub count_of : ℕ → List ℕ → ℕ
@@ -57,20 +54,10 @@ adds-append deck v (x ∷ xs) ys = let a : adds_all deck v (xs ++ ys) ≡ adds_a
 
 -- a code that names no job to be run adds nothing
 adds_low : (deck : List JobData) (v code : ℕ) → 1 ≤ code → code ≤ length deck → adds deck v code ≡ full deck v (code - 1)
-adds_low deck v code a b = ap (λ t. adds_named deck v
-    (if t then Some (record { job = code - 1; skipped = false }) else if nat_le (1 + not_to_run) code && nat_le code
-    (length deck + not_to_run) then Some (record { job = code - (1 + not_to_run); skipped = true }) else None))
-    (ap (λ t. t && nat_le code (length deck)) (le-leb 1 code a) ∙ le-leb code (length deck) b)
+adds_low deck v code a b = grind (arith, common_steps)
 
 pub adds_high : (deck : List JobData) (v code : ℕ) → ((nat_le 1 code && nat_le code (length deck)) ≡ false) → adds deck v code ≡ 0
-adds_high deck v code e =
-    ap (λ t. adds_named deck v (if t then Some (record { job = code - 1; skipped = false }) else if nat_le
-    (1 + not_to_run) code && nat_le code (length deck + not_to_run) then Some
-    (record { job = code - (1 + not_to_run); skipped = true }) else None)) e
-    ∙ go (nat_le (1 + not_to_run) code && nat_le code (length deck + not_to_run)) where
-      go : (b : Bool) → adds_named deck v (if b then Some (record { job = code - (1 + not_to_run); skipped = true }) else None) ≡ 0
-      go true = refl
-      go false = refl
+adds_high deck v code e = grind (arith, common_steps)
 
 -- What the codes given add is, summed over the jobs, what each adds as often as it was named to be run.
 pub adds_by_jobs : (deck : List JobData) (v : ℕ) (codes : List ℕ)

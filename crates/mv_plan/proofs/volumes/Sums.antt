@@ -1,6 +1,7 @@
 -- Sums over the numbers below a bound, and what changes where one entry of a table does.
 use Rattle.mv_plan.proofs.Words.{◌≡◌, ℕ, zero, suc, ◌+◌, ◌<◌, ◌≤◌, inl, inr, refl, sym, ap, ◌∙◌, subst, arith, cases_eq, with_at}
 use Rattle.mv_plan.proofs.lists.Tables.{with_at-same, with_at-other}
+use Rattle.std.proofs.lemmas.Grind.{common_steps}
 
 abbrev pub sum_to : ℕ → (ℕ → ℕ) → ℕ
 sum_to zero f = 0
@@ -8,29 +9,20 @@ sum_to (suc n) f = sum_to n f + f n
 
 pub sum_ext : (n : ℕ) (f g : ℕ → ℕ) → ((j : ℕ) → j < n → f j ≡ g j) → sum_to n f ≡ sum_to n g
 sum_ext zero f g e = refl
-sum_ext (suc n) f g e =
-    let a : sum_to n f ≡ sum_to n g = sum_ext n f g (λ j lt. e j (omega arith)) in
-    let b : f n ≡ g n = e n (omega arith) in omega arith
+sum_ext (suc n) f g e = grind (arith, common_steps, sum_ext n f g)
 
 pub sum_zero : (n : ℕ) (f : ℕ → ℕ) → ((j : ℕ) → j < n → f j ≡ 0) → sum_to n f ≡ 0
 sum_zero zero f e = refl
-sum_zero (suc n) f e =
-    let a : sum_to n f ≡ 0 = sum_zero n f (λ j lt. e j (omega arith)) in
-    let b : f n ≡ 0 = e n (omega arith) in omega arith
+sum_zero (suc n) f e = grind (arith, common_steps, sum_zero n f)
 
 pub sum_le : (n : ℕ) (f g : ℕ → ℕ) → ((j : ℕ) → j < n → f j ≤ g j) → sum_to n f ≤ sum_to n g
 sum_le zero f g e = omega arith
-sum_le (suc n) f g e =
-    let a : sum_to n f ≤ sum_to n g = sum_le n f g (λ j lt. e j (omega arith)) in
-    let b : f n ≤ g n = e n (omega arith) in omega arith
+sum_le (suc n) f g e = grind (arith, common_steps, sum_le n f g)
 
 -- one of them
 pub sum_member : (n i : ℕ) (f : ℕ → ℕ) → i < n → f i ≤ sum_to n f
 sum_member zero i f lt = absurd (omega arith)
-sum_member (suc n) i f lt = elim (cases_eq i n) [
-  | inl e ↦ subst (λ j. f j ≤ sum_to n f + f n) (sym e) (omega arith)
-  | inr d ↦ let a : f i ≤ sum_to n f = sum_member n i f (omega arith) in omega arith
-]
+sum_member (suc n) i f lt = grind (arith, common_steps, sum_member n i f)
 
 -- one of them changes
 pub sum_change : (n i : ℕ) (f g : ℕ → ℕ) → i < n → ((j : ℕ) → (i ≡ j → ⊥) → g j ≡ f j) → sum_to n g + f i ≡ sum_to n f + g i

@@ -9,48 +9,28 @@ use Rattle.mv_plan.proofs.volumes.Added.{added_by, added_by_is}
 use Rattle.mv_report.specs.Outcome as outcome
 use Rattle.mv_plan.proofs.volumes.GivenCodes.{with_code, codes_of, count_of, full, adds_all, adds_by_jobs}
 use Rattle.mv_plan.proofs.volumes.Sums.{sum_to, sum_ext, sum_front, times}
+use Rattle.std.proofs.lemmas.Grind.{common_steps}
 
 -- ---- all codes, and those that name one job
 
 with_named : (j : ℕ) (b : Bool) (slot : Option ℕ) (cs ds : List ℕ) → count_of (code_of j b) cs ≡ count_of (code_of j b) ds
     → count_of (code_of j b) (with_code slot cs) ≡ count_of (code_of j b) (with_code (naming j slot) ds)
 with_named j b None cs ds e = e
-with_named j b (Some code) cs ds e = go ((code == code_of j false) || (code == code_of j true)) (code == code_of j b) refl refl where
-  go : (t d : Bool) → ((code == code_of j false) || (code == code_of j true)) ≡ t → (code == code_of j b) ≡ d
-      → (if code == code_of j b then suc (count_of (code_of j b) cs) else count_of (code_of j b) cs) ≡ count_of (code_of j b)
-      (with_code (if t then Some code else None) ds)
-  go true true p q = rw q (ap suc e)
-  go true false p q = rw q e
-  go false true p q = absurd (false≢true (sym p ∙ which b q)) where
-    which : (b : Bool) → (code == code_of j b) ≡ true → ((code == code_of j false) || (code == code_of j true)) ≡ true
-    which false q = or_left (code == code_of j false) (code == code_of j true) q
-    which true q = or_right (code == code_of j false) (code == code_of j true) q
-  go false false p q = rw q e
+with_named j b (Some code) cs ds e = grind (arith, common_steps)
 
 given-step : (j : ℕ) (e : Entry) (es : List Entry)
     → given_codes j (e ∷ es) ≡ with_code (naming j (gift_code e.reply)) (given_codes j es)
-given-step j e es = go (naming j (gift_code e.reply)) refl where
-  go : (slot : Option ℕ) → naming j (gift_code e.reply) ≡ slot → given_codes j (e ∷ es) ≡ with_code slot (given_codes j es)
-  go None q = rw q refl
-  go (Some code) q = rw q refl
+given-step j e es = grind (arith, common_steps)
 
 pub count_named : (j : ℕ) (b : Bool) (es : List Entry)
     → count_of (code_of j b) (codes_of es) ≡ count_of (code_of j b) (given_codes j es)
 count_named j b [] = refl
-count_named j b (e ∷ es) =
-    with_named j b (gift_code e.reply) (codes_of es) (given_codes j es) (count_named j b es)
-    ∙ sym (ap (count_of (code_of j b)) (given-step j e es))
+count_named j b (e ∷ es) = grind (arith, common_steps, count_named j b es)
 
 -- two numbers that differ are not more often in a list than it is long
 count_two : (a b : ℕ) (cs : List ℕ) → (a ≡ b → ⊥) → count_of a cs + count_of b cs ≤ length cs
 count_two a b [] n = omega arith
-count_two a b (c ∷ cs) n = go (c == a) (c == b) refl refl (count_two a b cs n) where
-  go : (p q : Bool) → (c == a) ≡ p → (c == b) ≡ q → count_of a cs + count_of b cs ≤ length cs
-      → (if p then suc (count_of a cs) else count_of a cs) + (if q then suc (count_of b cs) else count_of b cs) ≤ suc (length cs)
-  go true true e f le = absurd (n (sym (eqb-true c a e) ∙ eqb-true c b f))
-  go true false e f le = omega arith
-  go false true e f le = omega arith
-  go false false e f le = omega arith
+count_two a b (c ∷ cs) n = grind (arith, common_steps, count_two a b cs n)
 
 pub codes_differ : (j : ℕ) → code_of j false ≡ code_of j true → ⊥
 codes_differ j e = absurd (omega arith)

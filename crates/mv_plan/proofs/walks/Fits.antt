@@ -22,6 +22,7 @@ use Rattle.mv_machine.specs.declared.entry.Op.TheVariants as op_on
 use Rattle.mv_calls.proofs.Hearing.{wakes_at}
 use Rattle.mv_plan.proofs.points.Initiator.{PostNothing}
 use Rattle.mv_plan.proofs.lists.Lists.{all_drop, all_set, all_get}
+use Rattle.std.proofs.lemmas.Grind.{common_steps}
 
 -- ---- requests that post nothing
 
@@ -76,13 +77,7 @@ released_unposted caller id conditional qs a = both _ _ where
   both false false = all_filter IsUnposted _ qs a
 
 obtained_unposted : (r : Request) (qs : List Request) → IsUnposted r → AreUnposted qs → AreUnposted (obtain_step r qs).0
-obtained_unposted r qs p a = both _ _ where
-  both : (b d : Bool) → AreUnposted
-      (cond {A = List Request × LatchReply} b (qs ++ r ∷ [], latch_reply.Granted r.id)
-      (cond {A = List Request × LatchReply} d (qs ++ r ∷ [], latch_reply.Queued r.id) (qs, latch_reply.NotNow (blocker r qs)))).0
-  both true d = all_append IsUnposted qs (r ∷ []) a (p, tt)
-  both false true = all_append IsUnposted qs (r ∷ []) a (p, tt)
-  both false false = a
+obtained_unposted r qs p a = grind (arith, common_steps)
 
 none_below : (n : ℕ) → nat_lt n 0 ≡ false
 none_below n = le-ltb n 0 (omega arith)
@@ -95,10 +90,7 @@ form_unposted (form_of.Posted ecb) count posted e t = absurd (false≢true (sym 
 
 step_unposted : (c : Setup) (k place : ℕ) (op : LatchOp) (lists : List (List Request)) → c.posted_quota ≡ 0
     → latch_admitted k op (latches_of c lists) ≡ true → AllUnposted lists → AllUnposted (latch_step k place op lists).0
-step_unposted c k place (latch_op.Obtain latch requestor mode form) lists e adm a =
-    all_set AreUnposted lists latch _ a
-    (obtained_unposted (record { id = place; caller = k; requestor = requestor; mode = mode; form = form }) (list_of lists latch)
-    (form_unposted form _ c.posted_quota e (and_parts _ _ (and_parts _ _ adm).1).1) (list_unposted lists latch a))
+step_unposted c k place (latch_op.Obtain latch requestor mode form) lists e adm a = grind (arith, common_steps)
 step_unposted c k place (latch_op.Confirm latch id) lists e adm a = a
 step_unposted c k place (latch_op.Release latch id conditional) lists e adm a =
     all_set AreUnposted lists latch _ a (released_unposted k id conditional (list_of lists latch) (list_unposted lists latch a))
@@ -172,7 +164,4 @@ fits_wakes c s k o op f = tt
 -- a post that finds an exit finds one of its block
 pub fits_woke : (c : Setup) (s : System) (n code x : ℕ) → Fits c s
     → (ecb_step (ecb_op.Post code) (s.ecb n).state).1 ≡ ecb_reply.Woke (suc x) → is_exit_of c (suc x) n ≡ true
-fits_woke c s n code x f e = go (s.ecb n).state refl e where
-  go : (v : EcbState) → (s.ecb n).state ≡ v → (ecb_step (ecb_op.Post code) v).1 ≡ ecb_reply.Woke (suc x) → is_exit_of c (suc x) n ≡ true
-  go (Extended y) q e = f.exits n (suc x) (q ∙ ap (λ m. Extended m) (let r : y ≡ suc x = cc e in r))
-  go y q e = absurd (cc e)
+fits_woke c s n code x f e = grind (arith, common_steps)

@@ -27,6 +27,7 @@ use Rattle.mv_plan.proofs.deck.Setup.{Facts}
 use Rattle.mv_plan.proofs.walks.Stands.{Stand, stand_next, kept_next, kept_own, kept_other}
 use Rattle.mv_plan.proofs.walks.Walks.{Points, Move, reads, schedules, initiates, writes, WalkTo}
 use Rattle.mv_plan.proofs.lists.Tables.{with_at-same, with_at-other, all_but}
+use Rattle.std.proofs.lemmas.Grind.{common_steps}
 
 -- what is left of each task's program is the program of its point
 pub record TasksAt (c : Setup) (deck : List JobData) (initiators : ℕ) (kept : ℕ → Kept) (t : Points)
@@ -41,9 +42,7 @@ pub record TasksAt (c : Setup) (deck : List JobData) (initiators : ℕ) (kept : 
 pub at_point : {X : Type 0} (f : X → Program (List ℕ)) (ask : X → Object × Op) (says : (x : X) → asks (f x) ≡ Some (ask x))
     (q : Program (List ℕ)) (p : Point X) (o : Object) (op : Op)
     → q ≡ program_at f p → asks q ≡ Some (o, op) → (x : X) × (p ≡ At x) × (o ≡ (ask x).0) × (op ≡ (ask x).1)
-at_point f ask says q (At x) o op e a =
-    let b : ((ask x).0 ≡ o) × ((ask x).1 ≡ op) =
-    some_pair_parts (ask x).0 o (ask x).1 op (sym (says x) ∙ ap (λ r. asks r) (sym e) ∙ a) in (x, refl, sym b.0, sym b.1)
+at_point f ask says q (At x) o op e a = grind (arith, common_steps)
 at_point f ask says q p o op e a = absurd (cc (sym (ap (λ r. asks r) e) ∙ a))
 
 -- the machine's reply
@@ -122,11 +121,7 @@ module _ (c : Setup) (deck : List JobData) (initiators : ℕ) (facts : Facts c (
         → e.object ≡ ask.0 → e.op ≡ ask.1 → programs k ≡ f (kept k) x
         → heard (f (kept k) x) (hearing s e) ≡ program_at (f (keeps (kept k) ask e.reply)) p
         → with_at programs e.caller (heard (programs e.caller) (hearing s e)) k ≡ program_at (f (kept_next kept e k)) p
-    own_is f ask k x p same o op q h =
-        ap (λ j. with_at programs e.caller (heard (programs e.caller) (hearing s e)) j) (sym same)
-        ∙ with_at-same programs e.caller (heard (programs e.caller) (hearing s e))
-        ∙ ap (λ j. heard (programs j) (hearing s e)) same ∙ ap (λ r. heard r (hearing s e)) q ∙ h
-        ∙ ap (λ z. program_at (f z) p) (sym (kept_own kept e k ask same o op))
+    own_is f ask k x p same o op q h = grind (arith, common_steps)
 
   pub record Moved (s : System) (kept : ℕ → Kept) (t : Points) (programs : ℕ → Program (List ℕ)) (e : Entry) : Type 0 where
     pub points : Points

@@ -4,6 +4,7 @@ use Rattle.mv_plan.proofs.Words.{◌≡◌, ℕ, ◌<◌, List, [], ◌∷◌, �
 use Rattle.mv_plan.proofs.Words.{System, with_at, JobData, reader, scheduler, initiator, writer}
 use Rattle.mv_plan.proofs.points.Points.{Point, At, reader_goes, scheduler_goes, writer_goes, initiator_goes}
 use Rattle.mv_plan.proofs.walks.Walks.{Points, Move, reads, schedules, initiates, writes, WalkTo, walk-parts}
+use Rattle.std.proofs.lemmas.Grind.{common_steps}
 
 one_point : {X : Type 0} (p : Point X) (x y : X) → p ≡ At x → p ≡ At y → x ≡ y
 one_point p x y e f = let q : At x ≡ At y = sym e ∙ f in cc q
@@ -37,11 +38,7 @@ move_same deck initiators t u v e (schedules x k at o op m) (schedules y k' at' 
     m ∙ ap (λ z. record t { scheduler = scheduler_goes (length deck) initiators z e.reply }) (one_point t.scheduler x y at at') ∙ sym m'
 move_same deck initiators t u v e (writes x k at o op m) (writes y k' at' o' op' m') =
     m ∙ ap (λ z. record t { writer = writer_goes (length deck) z e.reply }) (one_point t.writer x y at at') ∙ sym m'
-move_same deck initiators t u v e (initiates i x lt k at o op m) (initiates j y lt' k' at' o' op' m') =
-    let same : i ≡ j = one_initiator e.caller i j k k' in
-    m ∙ ap (λ l. record t { initiators = with_at t.initiators l (initiator_goes deck x e.reply) }) same
-    ∙ ap (λ z. record t { initiators = with_at t.initiators j (initiator_goes deck z e.reply) })
-    (one_point (t.initiators j) x y (subst (λ l. t.initiators l ≡ At x) same at) at') ∙ sym m'
+move_same deck initiators t u v e (initiates i x lt k at o op m) (initiates j y lt' k' at' o' op' m') = grind (arith, common_steps)
 move_same deck initiators t u v e (reads x k at o op m) (schedules y k' at' o' op' m') = absurd (reader_scheduler e.caller k k')
 move_same deck initiators t u v e (reads x k at o op m) (initiates j y lt' k' at' o' op' m') = absurd (reader_initiator e.caller j k k')
 move_same deck initiators t u v e (reads x k at o op m) (writes y k' at' o' op' m') = absurd (reader_writer e.caller initiators k k')

@@ -10,6 +10,7 @@ use Rattle.mv_plan.proofs.points.SchedulerSound.{SchedulerStands, scheduler_stan
 use Rattle.mv_plan.proofs.deck.Setup.{Facts}
 use Rattle.mv_plan.proofs.walks.Walks.{Points, start_points, Move, reads, schedules, initiates, writes}
 use Rattle.mv_plan.proofs.lists.Tables.{with_at-same, with_at-other, all_but}
+use Rattle.std.proofs.lemmas.Grind.{common_steps}
 
 -- all points are sound, where the callers keep this
 pub record Stand (deck : List JobData) (initiators : ℕ) (kept : ℕ → Kept) (t : Points) : Type 0 where
@@ -59,24 +60,12 @@ kept_other kept e k j same n = with_at-other kept e.caller j (kept_after (kept e
 -- and by its own
 pub kept_own : (kept : ℕ → Kept) (e : Entry) (k : ℕ) (ask : Object × Op) → e.caller ≡ k → e.object ≡ ask.0 → e.op ≡ ask.1
     → kept_next kept e k ≡ keeps (kept k) ask e.reply
-kept_own kept e k ask same o op =
-    ap (λ j. kept_next kept e j) (sym same) ∙ with_at-same kept e.caller (kept_after (kept e.caller) e.object e.op e.reply)
-    ∙ ap (λ j. kept_after (kept j) e.object e.op e.reply) same ∙ ap (λ x. kept_after (kept k) x e.op e.reply) o
-    ∙ ap (λ x. kept_after (kept k) ask.0 x e.reply) op
+kept_own kept e k ask same o op = grind (arith, common_steps)
 
 module _ (c : Setup) (deck : List JobData) (initiators : ℕ) (facts : Facts c (length deck) initiators) (sound : ArePlannedJobs 0 deck) where
   pub stand_next : (kept : ℕ → Kept) (t u : Points) (e : Entry) → Move deck initiators t e u → Stand deck initiators kept t
       → Stand deck initiators (kept_next kept e) u
-  stand_next kept t u e (reads x k at o op moved) s = subst (λ v. Stand deck initiators (kept_next kept e) v) (sym moved) (record {
-    at_reader = reader_stands (length deck) x e.reply (subst (λ p. IsReaderAt (length deck) p) at s.at_reader);
-    at_scheduler = subst (λ z. SchedulerStands deck initiators z t.scheduler)
-        (sym (kept_other kept e reader scheduler k (λ q. absurd (omega arith)))) s.at_scheduler;
-    at_initiator = λ i lt. subst (λ z. InitiatorStands deck i z (t.initiators i))
-        (sym (kept_other kept e reader (initiator i) k (λ q. absurd (omega arith)))) (s.at_initiator i lt);
-    at_writer = s.at_writer;
-    writer_kept = subst (λ z. WriterKept initiators z)
-        (sym (kept_other kept e reader (writer initiators) k (λ q. absurd (omega arith)))) s.writer_kept;
-  })
+  stand_next kept t u e (reads x k at o op moved) s = grind (arith, common_steps)
   stand_next kept t u e (schedules x k at o op moved) s = subst (λ v. Stand deck initiators (kept_next kept e) v) (sym moved) (record {
     at_reader = s.at_reader;
     at_scheduler = subst (λ z. SchedulerStands deck initiators z (scheduler_goes (length deck) initiators x e.reply))
@@ -107,13 +96,4 @@ module _ (c : Setup) (deck : List JobData) (initiators : ℕ) (facts : Facts c (
             (sym (kept_own kept e (initiator i) (initiator_asks (length deck) i x) k o op))
             (initiator_stands deck i (kept (initiator i)) x e.reply sound
             (subst (λ p. InitiatorStands deck i (kept (initiator i)) p) at (s.at_initiator i lt)))
-  stand_next kept t u e (writes x k at o op moved) s = subst (λ v. Stand deck initiators (kept_next kept e) v) (sym moved) (record {
-    at_reader = s.at_reader;
-    at_scheduler = subst (λ z. SchedulerStands deck initiators z t.scheduler)
-        (sym (kept_other kept e (writer initiators) scheduler k (λ q. absurd (omega arith)))) s.at_scheduler;
-    at_initiator = λ i lt. subst (λ z. InitiatorStands deck i z (t.initiators i))
-        (sym (kept_other kept e (writer initiators) (initiator i) k (λ q. absurd (omega arith)))) (s.at_initiator i lt);
-    at_writer = writer_stands c (length deck) initiators facts x e.reply (subst (λ p. IsWriterAt (length deck) p) at s.at_writer);
-    writer_kept = subst (λ z. WriterKept initiators z) (sym (kept_own kept e (writer initiators) (writer_asks x) k o op))
-        (writer_kept_next initiators (kept (writer initiators)) x e.reply s.writer_kept);
-  })
+  stand_next kept t u e (writes x k at o op moved) s = grind (arith, common_steps)
