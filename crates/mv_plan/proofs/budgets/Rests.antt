@@ -60,10 +60,7 @@ module _ (n : ℕ) where
       on_armed_keeps (λ p. suc (writer_rest p) ≤ 1 + suc (2 * more)) _ r (omega arith) (omega arith)
   writer_pays (Keeping j more ends (Arming e (f ∷ todo))) r =
       on_armed_keeps (λ p. suc (writer_rest p) ≤ suc (length (f ∷ todo)) + suc (2 * more)) _ r (omega arith) (omega arith)
-  writer_pays (Keeping j more ends (Settling e [] found)) r =
-      on_settled_keeps (λ p. suc (writer_rest p) ≤ 1 + 2 * more) (λ slot. end_found n j more ends (found ++ slot ∷ [])) r
-      (λ slot. let le : writer_rest (end_found n j more ends (found ++ slot ∷ [])) ≤ 2 * more =
-      end_rest j more ends (found ++ slot ∷ []) in omega arith) (omega arith)
+  writer_pays (Keeping j more ends (Settling e [] found)) r = grind (arith, common_steps, on_settled_keeps, end_rest)
   writer_pays (Keeping j more ends (Settling e (f ∷ todo) found)) r = grind (arith, common_steps)
 
 -- ---- the scheduler
@@ -143,21 +140,13 @@ module _ (n initiators : ℕ) where
   -- where blocks are still to be settled
   settling_rest : (a : Awaited) (es : List ℕ) (found : List (Option ℕ))
       → scheduler_rest (settling_from n a es found) ≤ length es + behind_wait a
-  settling_rest a [] found = elim (nat_le (awaited_count a) (complete_count found)) as
-      (λ b. scheduler_rest (cond b (found_at n a found) TooSoon) ≤ 0 + behind_wait a) [
-        | true ↦ let le : scheduler_rest (found_at n a found) ≤ behind_wait a = found_rest a found in omega arith
-        | false ↦ omega arith
-      ]
+  settling_rest a [] found = grind (arith, common_steps, TooSoon, found_rest)
   settling_rest a (e ∷ es) found = omega arith
 
   -- where blocks are still to be armed
   arming_rest : (a : Awaited) (es : List ℕ)
       → scheduler_rest (arming_from n initiators a es) ≤ length es + (block_count a + behind_wait a)
-  arming_rest a [] =
-      let le : scheduler_rest (settling_from n a (awaited_blocks n initiators a) [])
-      ≤ length (awaited_blocks n initiators a) + behind_wait a =
-      settling_rest a (awaited_blocks n initiators a) [] in
-      let e : length (awaited_blocks n initiators a) ≡ block_count a = blocks a in omega arith
+  arming_rest a [] = grind (arith, common_steps, initiators, settling_rest, blocks)
   arming_rest a (e ∷ es) = omega arith
 
   -- where a wait begins
@@ -167,16 +156,8 @@ module _ (n initiators : ℕ) where
 
   -- each event takes one
   pub scheduler_pays : (x : SchedulerAt) (r : Reply) → suc (scheduler_rest (scheduler_goes n initiators x r)) ≤ scheduler_rest (At x)
-  scheduler_pays (Waits a (Arming e todo)) r =
-      on_armed_keeps (λ p. suc (scheduler_rest p) ≤ suc (length todo) + (block_count a + behind_wait a))
-      (arming_from n initiators a todo) r
-      (let le : scheduler_rest (arming_from n initiators a todo) ≤ length todo + (block_count a + behind_wait a) =
-      arming_rest a todo in omega arith) (omega arith)
-  scheduler_pays (Waits a (Settling e todo found)) r =
-      on_settled_keeps (λ p. suc (scheduler_rest p) ≤ suc (length todo) + behind_wait a)
-      (λ slot. settling_from n a todo (found ++ slot ∷ [])) r
-      (λ slot. let le : scheduler_rest (settling_from n a todo (found ++ slot ∷ [])) ≤ length todo + behind_wait a =
-      settling_rest a todo (found ++ slot ∷ []) in omega arith) (omega arith)
+  scheduler_pays (Waits a (Arming e todo)) r = grind (arith, common_steps, on_armed_keeps, initiators, arming_rest)
+  scheduler_pays (Waits a (Settling e todo found)) r = grind (arith, common_steps, on_settled_keeps, settling_rest)
   scheduler_pays (Extends j job jobs skipped) (reply_of.Ecb ecb_reply.Armed) =
       let le : scheduler_rest (arming_first (ForIdle j job jobs skipped) (awaited_blocks n initiators (ForIdle j job jobs skipped)))
       ≤ length (awaited_blocks n initiators (ForIdle j job jobs skipped))

@@ -8,6 +8,7 @@ use Rattle.mv_plan.specs.SpoolSetup.{done}
 use Rattle.std.proofs.lemmas.List.FromFn.{map-range_with_len_more}
 use Rattle.mv_machine.specs.declared.config.Exit.{Exit}
 use Rattle.mv_plan.proofs.deck.Setup.{length_ends}
+use Rattle.std.proofs.lemmas.Grind.{common_steps}
 
 -- one more job's two ends
 ends_more : (w n : ℕ) → end_owners w n ++ scheduler ∷ w ∷ [] ≡ end_owners w (suc n)
@@ -21,33 +22,17 @@ front_owners n w k = replicate n scheduler ++ replicate n scheduler ++ end_owner
 -- one more job's owners
 pub owners_more : (n w k : ℕ) (old mid new : List ℕ) → mid ≡ old ++ scheduler ∷ [] → new ≡ mid ++ w ∷ []
     → old ≡ front_owners n w k → new ≡ front_owners n w (k + 1)
-owners_more n w k old mid new e f g =
-    f ∙ ap (λ xs. xs ++ w ∷ []) e ∙ append_assoc old (scheduler ∷ []) (w ∷ [])
-    ∙ ap (λ xs. xs ++ scheduler ∷ w ∷ []) g
-    ∙ append_assoc (replicate n scheduler ++ replicate n scheduler) (end_owners w k) (scheduler ∷ w ∷ [])
-    ∙ ap (λ xs. replicate n scheduler ++ replicate n scheduler ++ xs) (ends_more w k)
-    ∙ ap (λ m. front_owners n w m) (let q : suc k ≡ k + 1 = omega arith in q)
+owners_more n w k old mid new e f g = grind (arith, common_steps, append_assoc, scheduler, ends_more)
 
 -- how many these are
 length_front : (n w k : ℕ) → length (front_owners n w k) ≡ 2 * n + 2 * k
-length_front n w k =
-    let a : length (front_owners n w k) ≡ length (replicate n scheduler ++ replicate n scheduler) + length (end_owners w k) =
-    length-append (replicate n scheduler ++ replicate n scheduler) (end_owners w k) in
-    let b : length (replicate n scheduler ++ replicate n scheduler) ≡ length (replicate n scheduler) + length (replicate n scheduler) =
-    length-append (replicate n scheduler) (replicate n scheduler) in
-    let d : length (replicate n scheduler) ≡ n = length-replicate n scheduler in
-    let e : length (end_owners w k) ≡ 2 * k = length_ends w k in omega arith
+length_front n w k = grind (arith, common_steps, scheduler, length-append, length-replicate, length_ends)
 
 -- and then the owners of the idle blocks
 pub owners_all : (n initiators k size m : ℕ) (old new : List ℕ) → new ≡ take size old ++ replicate (size - m) scheduler
     → m ≡ length old → size ≡ 4 * n + initiators → k ≡ n → old ≡ front_owners n (writer initiators) k
     → new ≡ block_owners n initiators
-owners_all n initiators k size m old new e f g h o =
-    let long : length old ≡ 2 * n + 2 * k = ap length o ∙ length_front n (writer initiators) k in
-    e ∙ ap (λ xs. xs ++ replicate (size - m) scheduler) (take_all size old (omega arith) ∙ o
-    ∙ ap (λ j. front_owners n (writer initiators) j) h)
-    ∙ ap (λ j. front_owners n (writer initiators) n ++ replicate j scheduler)
-    (let q : size - m ≡ initiators = omega arith in q)
+owners_all n initiators k size m old new e f g h o = grind (arith, common_steps, length_front, writer, scheduler, take_all)
 
 -- one more job's exit
 pub exits_more : (n j : ℕ) (old new : List Exit) (x : Exit) → new ≡ old ++ x ∷ []

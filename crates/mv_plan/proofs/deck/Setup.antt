@@ -74,10 +74,7 @@ module _ (n initiators : ℕ) where
   second_part j lt = grind (arith, common_steps)
 
   third_part : (i k o : ℕ) → i ≡ 2 * n + k → get_or (ends_on n initiators) k 0 ≡ o → get_or (block_owners n initiators) i 0 ≡ o
-  third_part i k o e f = owned_by n initiators i o
-      (behind (replicate n scheduler) (replicate n scheduler ++ ends_on n initiators) n (n + k) i (length-replicate n scheduler)
-      (omega arith)
-      ∙ behind (replicate n scheduler) (ends_on n initiators) n k (n + k) (length-replicate n scheduler) refl ∙ f)
+  third_part i k o e f = grind (arith, common_steps, owned_by, initiators, behind, scheduler, length-replicate)
 
   scheduler_part : (j : ℕ) → j < n → get_or (block_owners n initiators) (end_for_scheduler n j) 0 ≡ 1
   scheduler_part j lt = third_part (end_for_scheduler n j) (2 * j) 1 refl
@@ -88,10 +85,7 @@ module _ (n initiators : ℕ) where
       (writer_end (writer initiators) n j (replicate initiators scheduler) lt)
 
   idle_part : (i : ℕ) → i < initiators → get_or (block_owners n initiators) (idle n i) 0 ≡ 1
-  idle_part i lt = third_part (idle n i) (2 * n + i) 1 (omega arith)
-      (behind (end_owners (writer initiators) n) (replicate initiators scheduler) (2 * n) i (2 * n + i)
-      (length_ends (writer initiators) n) refl
-      ∙ get_or-replicate initiators i scheduler 0 lt)
+  idle_part i lt = grind (arith, common_steps, third_part, behind, writer, initiators, scheduler, length_ends, get_or-replicate)
 
   whole : length (block_owners n initiators) ≡ 4 * n + initiators
   whole =
@@ -142,12 +136,7 @@ source_at n m from (suc count) (suc j) e = let r : (j < count) × (m ≡ done n 
 
 exit_source : (n m x : ℕ) → (nat_lt 0 x && starts_from m (slice_get (map (end_exit n) (range_with_len 0 n)) (x - 1))) ≡ true
     → (j : ℕ) × (j < n) × (x ≡ j + 1) × (m ≡ done n j)
-exit_source n m x e =
-    let p : (nat_lt 0 x ≡ true) × (starts_from m (slice_get (map (end_exit n) (range_with_len 0 n)) (x - 1)) ≡ true) =
-    and_parts (nat_lt 0 x) (starts_from m (slice_get (map (end_exit n) (range_with_len 0 n)) (x - 1))) e in
-    let lt : 0 < x = ltb-true 0 x p.0 in
-    let r : (x - 1 < n) × (m ≡ done n (0 + (x - 1))) = source_at n m 0 n (x - 1) p.1 in
-    (x - 1, r.0, omega arith, let q : m ≡ done n (0 + (x - 1)) = r.1 in omega arith)
+exit_source n m x e = grind (arith, common_steps, and_parts, ltb-true, source_at)
 
 by_one : (m : ℕ) → m / 1 ≡ m
 by_one m = omega arith

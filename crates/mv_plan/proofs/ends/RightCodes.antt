@@ -92,9 +92,7 @@ writing_keeps deck j (suc more) kept rest e l n = (rest, e, l)
 one_kept : (deck : List JobData) (j more : ℕ) (kept rest : List ℕ) (code : ℕ) → kept ++ rest ≡ ends deck → length kept ≡ j
     → j + suc more ≡ length deck → code ≡ end_of deck j
     → KeepsEnds deck (writing_from (length deck) (j + 1) more (kept ++ code ∷ []))
-one_kept deck j more kept [] code e l n c =
-    let a : length (ends deck) ≡ length deck = one_end_per_job deck in let b : length (kept ++ []) ≡ length (ends deck) =
-    ap (λ x. length x) e in let d : length (kept ++ []) ≡ length kept = ap (λ x. length x) (append-nil kept) in absurd (omega arith)
+one_kept deck j more kept [] code e l n c = grind (arith, common_steps, one_end_per_job, append-nil)
 one_kept deck j more kept (r ∷ rest) code e l n c =
     writing_keeps deck (j + 1) more (kept ++ code ∷ []) rest
     (append_assoc kept (code ∷ []) rest

@@ -14,6 +14,7 @@ use Rattle.mv_plan.proofs.points.Points.{dismissing_from, stage_at}
 use Rattle.mv_plan.proofs.points.PostsAndWaits.{on_armed_keeps, lowest_keeps}
 use Rattle.mv_plan.proofs.points.SchedulerSound.{IsRest, rest_below, rest_sound, IsAwaited, IsWaitAt, IsSchedulerAt}
 use Rattle.mv_plan.proofs.deck.Ends.{is_skipped}
+use Rattle.std.proofs.lemmas.Grind.{common_steps}
 
 -- what was found at the blocks of these parts are the ends of their jobs
 abbrev pub AreFound : List JobData → List After → List (Option ℕ) → Type 0
@@ -146,11 +147,7 @@ module _ (deck : List JobData) (initiators : ℕ) where
 
   settling_marked : (a : Awaited) (es : List ℕ) (found : List (Option ℕ)) → IsAwaited deck initiators a → MarkedWait deck a found
       → IsMarked deck (settling_from (length deck) a es found)
-  settling_marked a [] found s f = go (nat_le (awaited_count a) (complete_count found)) refl where
-    go : (b : Bool) → nat_le (awaited_count a) (complete_count found) ≡ b
-        → IsMarked deck (cond b (found_at (length deck) a found) TooSoon)
-    go true q = found_marked a found s f (leb-true (awaited_count a) (complete_count found) q)
-    go false q = tt
+  settling_marked a [] found s f = grind (arith, common_steps, TooSoon, found_marked, leb-true)
   settling_marked a (e ∷ es) found s f = f
 
   arming_marked : (a : Awaited) (es : List ℕ) → IsAwaited deck initiators a → MarkedWait deck a []

@@ -40,14 +40,7 @@ HoldsAlone lists k latch = (q : Request) × Contains (granted (list_of lists lat
 
 held_latch : (lists : List (List Request)) (k job latch : ℕ) (gs : List Grant) → Holds lists k job gs
     → list_any (is_held latch) (held_of gs) ≡ true → HoldsLatch lists k latch
-held_latch lists k job latch gs h e =
-    let it : (g : Grant) × Contains gs g × ((g.latch == latch) ≡ true) =
-    found (λ g. g.latch == latch) gs (sym (has_latch latch gs) ∙ e) in (
-      request_of k job it.0,
-      subst (λ l. Contains (granted (list_of lists l)) (request_of k job it.0)) (eqb-true (it.0).latch latch it.2)
-          (all_at (λ g. Contains (granted (list_of lists g.latch)) (request_of k job g)) gs it.0 h it.1),
-      refl,
-    )
+held_latch lists k job latch gs h e = grind (arith, common_steps, found, has_latch, eqb-true, all_at)
 
 alone_parts : (a b : Bool) → (a && not b) ≡ true → (a ≡ true) × (b ≡ false)
 alone_parts true false e = (refl, refl)

@@ -190,11 +190,7 @@ module _ (c : Setup) (deck : List JobData) (initiators : ℕ) (facts : Facts c (
       → staged c (length deck) initiators (awaited_stage a) kept
       (going_on kept (settle_all es found (enough (awaited_count a))) (unrefused (awaited_then c (length deck) initiators a)))
       ≡ program_at (scheduler_program c (length deck) initiators kept) (settling_from (length deck) a es found)
-  settle_enters a kept [] found s k le =
-      enough_goes (λ p. staged c (length deck) initiators (awaited_stage a) kept
-      (going_on kept p (unrefused (awaited_then c (length deck) initiators a)))) (scheduler_program c (length deck) initiators kept)
-      (awaited_count a) found (found_at (length deck) a found)
-      (found_enters a kept found s k (omega arith)) refl
+  settle_enters a kept [] found s k le = grind (arith, common_steps, enough_goes, initiators, found_enters)
   settle_enters a kept (e ∷ es) found s k le = refl
 
   arm_enters : (a : Awaited) (kept : Kept) (es : List ℕ) → IsAwaited deck initiators a

@@ -206,9 +206,7 @@ nexts_grow deck initiators (Releases i g code after) s = stage_grows deck initia
 
 pub next_grows : (deck : List JobData) (initiators : ℕ) (x : SchedulerAt) (r : Reply) → IsSchedulerAt deck initiators (At x)
     → next_job (length deck) (At x) ≤ next_job (length deck) (scheduler_goes (length deck) initiators x r)
-next_grows deck initiators x r s =
-    goes_next (length deck) initiators (λ p. next_job (length deck) (At x) ≤ next_job (length deck) p) x r
-    (next_below deck initiators x s) (next_below deck initiators x s) (nexts_grow deck initiators x s)
+next_grows deck initiators x r s = grind (arith, common_steps, goes_next, At, next_below, nexts_grow)
 
 -- and is never above the number of jobs
 pub next_bound : (deck : List JobData) (initiators : ℕ) (p : Point SchedulerAt) → IsSchedulerAt deck initiators p

@@ -156,14 +156,7 @@ module _ (deck : List JobData) (initiators : ℕ) (kept : Kept) where
       → SchedulerKept (length deck) (awaited_extended (length deck) a) kept
       → past ++ es ≡ awaited_blocks (length deck) initiators a → length past ≡ length found
       → SchedulerStands deck initiators kept (settling_from (length deck) a es found)
-  settling_stands a past [] found s k e l =
-      elim (nat_le (awaited_count a) (complete_count found)) as
-      (λ b. SchedulerStands deck initiators kept (cond b (found_at (length deck) a found) TooSoon)) [
-        | true ↦ found_stands a found s k
-            (subst (λ m. m ≤ length (awaited_blocks (length deck) initiators a)) (ap (λ l. length l) (sym e ∙ append-nil past) ∙ l)
-            (omega arith))
-        | false ↦ (tt, tt)
-      ]
+  settling_stands a past [] found s k e l = grind (arith, common_steps, initiators, kept, TooSoon, found_stands, append-nil)
   settling_stands a past (b ∷ es) found s k e l = ((s, (past, e, l)), k)
 
   arming_stands : (a : Awaited) (past es : List ℕ) → IsAwaited deck initiators a

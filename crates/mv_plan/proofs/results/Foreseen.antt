@@ -99,10 +99,7 @@ module _ (n initiators : ℕ) where
       lowest_foreseen (λ p g. At (Clears i g 0 (Dismissing (i + 1) more))) (λ p code. tt) 0 found le
 
   settling_foreseen : (a : Awaited) (es : List ℕ) (found : List (Option ℕ)) → IsForeseen (settling_from n a es found)
-  settling_foreseen a [] found = go (nat_le (awaited_count a) (complete_count found)) refl where
-    go : (b : Bool) → nat_le (awaited_count a) (complete_count found) ≡ b → IsForeseen (cond b (found_at n a found) TooSoon)
-    go true e = found_foreseen a found (leb-true (awaited_count a) (complete_count found) e)
-    go false e = tt
+  settling_foreseen a [] found = grind (arith, common_steps, TooSoon, found_foreseen, leb-true)
   settling_foreseen a (e ∷ es) found = tt
 
   arming_foreseen : (a : Awaited) (es : List ℕ) → IsForeseen (arming_from n initiators a es)
@@ -189,12 +186,7 @@ module _ (c : Setup) (deck : List JobData) (initiators : ℕ) (facts : Facts c (
   writing_foreseen j (suc more) ends = tt
 
   end_foreseen : (j more : ℕ) (ends : List ℕ) (found : List (Option ℕ)) → IsForeseen (end_found n j more ends found)
-  end_foreseen j more ends found = go (nat_le 1 (complete_count found)) refl where
-    go : (b : Bool) → nat_le 1 (complete_count found) ≡ b
-        → IsForeseen (cond b (lowest_at (λ p end. writing_from n (j + 1) more (ends ++ end ∷ [])) 0 found) TooSoon)
-    go true e = lowest_foreseen (λ p end. writing_from n (j + 1) more (ends ++ end ∷ []))
-        (λ p end. writing_foreseen (j + 1) more (ends ++ end ∷ [])) 0 found (leb-true 1 (complete_count found) e)
-    go false e = tt
+  end_foreseen j more ends found = grind (arith, common_steps, TooSoon, lowest_foreseen, writing_foreseen, leb-true)
 
   writer_block : (j e : ℕ) → e ≡ end_for_writer n j → (y : ℕ) → (s.ecb e).state ≡ Extended y → ⊥
   writer_block j e is = plain_block c n initiators s e facts fits (inr (omega arith))
@@ -279,14 +271,7 @@ module _ (deck : List JobData) (sound : ArePlannedJobs 0 deck) (small : length d
       → ((j : ℕ) (skipped : Bool) → j < length deck → code ≡ code_of j skipped → AllByRecursion (λ k. k ≡ j → ⊥) before)
       → IsForeseen (given_at deck more before code g)
   given_foreseen code g (inl e) new = grind (arith, common_steps)
-  given_foreseen code g (inr (j, lt, e)) new =
-      elim (code == 0) as (λ b. IsForeseen (if b then At (Closing g) else named_at deck (job_named (length deck) code) before more g)) [
-        | true ↦ tt
-        | false ↦ subst (λ slot. IsForeseen (named_at deck slot before more g))
-            (sym (ap (λ z. job_named (length deck) z) e ∙ code_named (length deck) j (is_skipped deck j) small lt))
-            (named_foreseen more j (is_skipped deck j) g (left_for j lt (new j (is_skipped deck j) lt e)) lt
-            (new j (is_skipped deck j) lt e))
-      ]
+  given_foreseen code g (inr (j, lt, e)) new = grind (arith, common_steps, At, more, code_named, named_foreseen, left_for)
 
 module _ (deck : List JobData) (o h : Option ℕ) where
   opened_foreseen : (y : ElementState) (r : Reply) → r ≡ reply_of.Element (element_step element_op.Open y).1 → Row Starts o h y

@@ -17,6 +17,7 @@ use Rattle.mv_plan.proofs.volumes.Balance.{Balance, balance_start, balance_next,
 use Rattle.mv_plan.proofs.volumes.Totals.{named_few}
 use Rattle.mv_plan.proofs.walks.Stands.{AreSound}
 use Rattle.mv_plan.proofs.points.Views.{IsOfRounds}
+use Rattle.std.proofs.lemmas.Grind.{common_steps}
 
 -- The latch lists are as the initiators' points say, and each volume has what the jobs that were named add but for what is
 -- still to come; and a job was purged as often as it was named, but for who works on it.
@@ -41,10 +42,7 @@ served_next c deck initiators s t u past e few h m sound apart w = record {
 }
 
 once_each : (deck : List JobData) (past : List Entry) → NamedOnce deck past → OnceEach deck (codes_of past)
-once_each deck past once j lt =
-    let a : count_of (code_of j false) (codes_of past) + count_of (code_of j true) (codes_of past) ≤ length (given_codes j past) =
-    named_few j past in
-    let b : length (given_codes j past) ≤ 1 = once j lt in omega arith
+once_each deck past once j lt = grind (arith, common_steps, named_few)
 
 -- at such a point an initiator foresees each reply
 pub served_well : (c : Setup) (deck : List JobData) (initiators : ℕ) (s : System) (t : Points) (past : List Entry) (e : Entry) (i : ℕ)

@@ -122,11 +122,7 @@ module _ (n initiators : ℕ) (f : Blocks) where
 
   settling_here : (a : Awaited) (es : List ℕ) (found : List (Option ℕ)) → Slots f (awaited_blocks n initiators a) found
       → Here (settling_from n a es found)
-  settling_here a [] found w = elim (nat_le (awaited_count a) (complete_count found)) as
-      (λ b. Here (cond b (found_at n a found) TooSoon)) [
-        | true ↦ found_here a found w
-        | false ↦ tt
-      ]
+  settling_here a [] found w = grind (arith, common_steps, TooSoon, found_here)
   settling_here a (e ∷ es) found w = w
 
   arming_here : (a : Awaited) (es : List ℕ) → Here (arming_from n initiators a es)

@@ -168,15 +168,7 @@ module _ (deck : List JobData) (initiators : ℕ) (s : System) (m : ℕ) (st : S
 
   released_row : (i g code : ℕ) (after : Stage) (q : Point SchedulerAt) → NoHold q → (i ≡ m) ⊎ (i ≡ m → ⊥)
       → Now (Releases i g code after) → Then (Releases i g code after) q
-  released_row i g code after q none (inl same) w =
-      row_at _ _ _ _ None _ _ _ refl refl (none m)
-      (ap (λ z. (with_at s.element (initiator i)
-      (advanced (s.element (initiator i)) (element_step (element_op.Release g code) (s.element (initiator i)).state).0)
-      (initiator z)).state) (sym same)
-      ∙ ap (λ z. z.state) (with_at-same s.element (initiator i) _)
-      ∙ ap (λ z. (element_step (element_op.Release g code) (element_of s z)).0) same)
-      (row_released st g code (offer_of n s m) (element_of s m)
-      (row_at _ _ _ _ _ _ _ _ refl refl (sym (ap (λ b. if b then Some g else None) (eq-eqb i m same))) refl w))
+  released_row i g code after q none (inl same) w = grind (arith, common_steps, row_at, m, with_at-same, row_released, st, eq-eqb)
   released_row i g code after q none (inr other) w = grind (arith, common_steps)
 
   pub scheduled_row : (x : SchedulerAt) (r : Reply) → IsSchedulerAt deck initiators (At x)

@@ -27,14 +27,7 @@ sum_member (suc n) i f lt = grind (arith, common_steps, sum_member n i f)
 -- one of them changes
 pub sum_change : (n i : ℕ) (f g : ℕ → ℕ) → i < n → ((j : ℕ) → (i ≡ j → ⊥) → g j ≡ f j) → sum_to n g + f i ≡ sum_to n f + g i
 sum_change zero i f g lt e = absurd (omega arith)
-sum_change (suc n) i f g lt e = elim (cases_eq i n) [
-  | inl q ↦
-      let same : sum_to n g ≡ sum_to n f = sum_ext n g f (λ j less. e j (λ r. absurd (omega arith))) in
-      subst (λ j. (sum_to n g + g n) + f j ≡ (sum_to n f + f n) + g j) (sym q) (omega arith)
-  | inr d ↦
-      let a : sum_to n g + f i ≡ sum_to n f + g i = sum_change n i f g (omega arith) e in
-      let b : g n ≡ f n = e n d in omega arith
-]
+sum_change (suc n) i f g lt e = grind (arith, common_steps, cases_eq, sum_ext, sum_change n i f g)
 
 -- of what is so of each in a table, where one is changed
 pub sum_with_at : {A : Type 0} (n i : ℕ) (F : A → ℕ) (points : ℕ → A) (p : A) → i < n

@@ -41,10 +41,7 @@ front_unposted (q ∷ qs) a = elim (shared_request q) as (λ b. AreUnposted (if 
 
 granted_unposted : (qs : List Request) → AreUnposted qs → AreUnposted (granted qs)
 granted_unposted [] a = tt
-granted_unposted (q ∷ qs) a = elim (shared_request q) as (λ b. AreUnposted (if b then shared_front (q ∷ qs) else q ∷ [])) [
-  | true ↦ front_unposted (q ∷ qs) a
-  | false ↦ (a.0, tt)
-]
+granted_unposted (q ∷ qs) a = grind (arith, common_steps, front_unposted)
 
 abbrev pub AllUnposted : List (List Request) → Type 0
 AllUnposted lists = AllByRecursion AreUnposted lists
@@ -67,14 +64,7 @@ purged_unposted requestor (qs ∷ lists) a = (all_filter IsUnposted _ qs a.0, pu
 
 released_unposted : (caller id : ℕ) (conditional : Bool) (qs : List Request) → AreUnposted qs
     → AreUnposted (release_step caller id conditional qs).0
-released_unposted caller id conditional qs a = both _ _ where
-  both : (b d : Bool) → AreUnposted
-      (cond {A = List Request × LatchReply} b (qs, latch_reply.Gone)
-      (cond {A = List Request × LatchReply} d (qs, latch_reply.Waiting)
-      (without caller id qs, latch_reply.Released (length (newly_granted qs (without caller id qs)))))).0
-  both true d = a
-  both false true = a
-  both false false = all_filter IsUnposted _ qs a
+released_unposted caller id conditional qs a = grind (arith, common_steps, all_filter)
 
 obtained_unposted : (r : Request) (qs : List Request) → IsUnposted r → AreUnposted qs → AreUnposted (obtain_step r qs).0
 obtained_unposted r qs p a = grind (arith, common_steps)
@@ -100,15 +90,9 @@ wakes_unposted : (k : ℕ) (op : LatchOp) (lists : List (List Request)) → AllU
 wakes_unposted k (latch_op.Obtain latch requestor mode form) lists a = tt
 wakes_unposted k (latch_op.Confirm latch id) lists a = tt
 wakes_unposted k (latch_op.Release latch id conditional) lists a =
-    wakes_of_unposted 0 _ (all_filter IsUnposted _ (granted (release_step k id conditional (list_of lists latch)).0)
-    (granted_unposted _ (released_unposted k id conditional (list_of lists latch) (list_unposted lists latch a))))
+    grind (arith, common_steps, wakes_of_unposted, all_filter, granted_unposted, released_unposted, list_unposted)
 wakes_unposted k (latch_op.Purge requestor) lists a =
-    all_append (λ w. w.ecb ≡ None) (map (wake_of 1) (flat_map (waiting_of requestor) lists))
-    (map (wake_of 0) (flat_map (granted_by_purge requestor) lists))
-    (wakes_of_unposted 1 _ (all_flat (waiting_of requestor) lists
-    (λ qs b. all_filter IsUnposted _ (waiting qs) (all_drop IsUnposted (length (granted qs)) qs b)) a))
-    (wakes_of_unposted 0 _ (all_flat (granted_by_purge requestor) lists
-    (λ qs b. all_filter IsUnposted _ (granted (purged requestor qs)) (granted_unposted _ (all_filter IsUnposted _ qs b))) a))
+    grind (arith, common_steps, all_append, wakes_of_unposted, all_flat, all_filter, all_drop, granted_unposted)
 
 -- ---- exits
 

@@ -69,7 +69,4 @@ walk_same c deck initiators s t u v (e ∷ es) w z =
 pub walk_rest : (c : Setup) (deck : List JobData) (initiators : ℕ) (s : System) (t v u : Points) (xs ys : List Entry)
     → WalkTo c deck initiators s t (xs ++ ys) u → WalkTo c deck initiators s t xs v
     → WalkTo c deck initiators (after_from s xs) v ys u
-walk_rest c deck initiators s t v u xs ys w z =
-    let p : (m : Points) × WalkTo c deck initiators s t xs m × WalkTo c deck initiators (after_from s xs) m ys u =
-    walk-parts c deck initiators s t u xs ys w in
-    subst (λ m. WalkTo c deck initiators (after_from s xs) m ys u) (walk_same c deck initiators s t p.0 v xs p.1 z) p.2
+walk_rest c deck initiators s t v u xs ys w z = grind (arith, common_steps, walk-parts, walk_same)
