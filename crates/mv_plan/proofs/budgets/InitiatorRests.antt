@@ -1,8 +1,8 @@
 -- How many events an initiator may still make, by its point: the events of each job that it was not named before, and those of
 -- the round in which it is; and that each event takes one of them. Used by Within.
-use Rattle.mv_plan.proofs.Words.{◌≡◌, ℕ, zero, suc, ◌+◌, ◌*◌, ◌<◌, ◌≤◌, ◌==◌, nat_le, ◌&&◌, ◌||◌, Bool, true, false, if◌then◌else◌, List}
-use Rattle.mv_plan.proofs.Words.{[], ◌∷◌, ◌++◌, length, Some, None, refl, ap, subst, arith, ◌-◌, list_any, eq-eqb, ne_eqb, and_parts}
-use Rattle.mv_plan.proofs.Words.{leb-true, Reply, Step, Print, JobData, job_at, Named, job_named, not_to_run}
+use Rattle.mv_plan.proofs.Words.{◌≡◌, ℕ, zero, suc, ◌+◌, ◌*◌, ◌<◌, ◌≤◌, ◌==◌, ◌||◌, Bool, true, false, if◌then◌else◌, List}
+use Rattle.mv_plan.proofs.Words.{[], ◌∷◌, ◌++◌, length, Some, refl, ap, arith, list_any, eq-eqb, ne_eqb}
+use Rattle.mv_plan.proofs.Words.{Reply, Step, Print, JobData, job_at, Named, job_named}
 use Rattle.mv_deck.specs.declared.deck.Step.TheVariants.{Free}
 use Rattle.mv_element.specs.declared.operation.ElementReply.TheVariants as element_reply
 use Rattle.mv_latch.specs.declared.operation.LatchReply.TheVariants as latch_reply
@@ -11,11 +11,10 @@ use Rattle.mv_machine.specs.declared.entry.VolumeReply.TheVariants as volume_rep
 use Rattle.mv_plan.proofs.deck.Events.{steps_events, all_events}
 use Rattle.mv_plan.proofs.points.Points.{Point, At, Running, Hand, empty_hand, hand_with, hand_without, InitiatorAt, Opening, Offering}
 use Rattle.mv_plan.proofs.points.Points.{Pausing, Resuming, Obtaining, Confirming, Freeing, Reading, Writing, Scanning, Rescanning, Purging}
-use Rattle.mv_plan.proofs.points.Points.{EndingJob, EndingForScheduler, EndingForWriter, Closing, initiator_goes, rounds_from, rounds_after}
-use Rattle.mv_plan.proofs.points.Points.{freeing_at, steps_at, running, job_start, given_at, counting_at, InJob}
-use Rattle.mv_plan.proofs.points.PostsAndWaits.{on_posted_keeps}
+use Rattle.mv_plan.proofs.points.Points.{EndingJob, EndingForScheduler, EndingForWriter, Closing, initiator_goes, rounds_from}
+use Rattle.mv_plan.proofs.points.Points.{steps_at, running, job_start, given_at, counting_at, InJob}
 use Rattle.mv_plan.proofs.volumes.Sums.{sum_to, sum_front, sum_change}
-use Rattle.mv_plan.proofs.points.Lands.{freeing_lands, given_lands, counting_lands, ended_lands}
+use Rattle.mv_plan.proofs.points.Lands.{given_lands}
 use Rattle.std.proofs.lemmas.Grind.{common_steps}
 
 -- ---- jobs that were not named before
@@ -137,10 +136,6 @@ module _ (deck : List JobData) where
   -- one less than enough
   paying : {a b : ℕ} (d : ℕ) → a ≤ b → suc b ≤ d → suc a ≤ d
   paying d le enough = omega arith
-
-  -- behind a job
-  after_rest : (run : Running) → initiator_rest (rounds_after run) ≤ behind_job run
-  after_rest run = rounds_rest run.more (run.before ++ run.job ∷ []) run.generation
 
   -- each event takes one
   pub initiator_pays : (x : InitiatorAt) (r : Reply) → suc (initiator_rest (initiator_goes deck x r)) ≤ initiator_rest (At x)

@@ -9,10 +9,10 @@ use Rattle.mv_machine.specs.declared.entry.Reply.TheVariants as reply_of
 use Rattle.mv_plan.proofs.deck.Events.{after_parts}
 use Rattle.mv_plan.proofs.points.Points.{Point, At, TooSoon, ReaderAt, Entering, entering_from, reader_goes, Arming, Settling, Stage}
 use Rattle.mv_plan.proofs.points.Points.{Dispatching, Dismissing, Awaited, ForEntry, ForEnds, ForIdle, ToDismiss, SchedulerAt, Waits}
-use Rattle.mv_plan.proofs.points.Points.{Extends, Clears, Releases, awaited_blocks, awaited_count, arming_first, ends_at, dismissing_from}
+use Rattle.mv_plan.proofs.points.Points.{Extends, Clears, Releases, awaited_blocks, arming_first, ends_at, dismissing_from}
 use Rattle.mv_plan.proofs.points.Points.{stage_at, found_at, settling_from, arming_from, scheduler_goes, WriterAt, Keeping, writing_from}
 use Rattle.mv_plan.proofs.points.Points.{end_found, lowest_at, writer_goes}
-use Rattle.mv_plan.proofs.points.PostsAndWaits.{on_posted_keeps, on_armed_keeps, on_settled_keeps, lowest_keeps}
+use Rattle.mv_plan.proofs.points.PostsAndWaits.{on_armed_keeps, on_settled_keeps, lowest_keeps}
 use Rattle.std.proofs.lemmas.Grind.{common_steps}
 
 -- ---- the reader: one event for each job

@@ -1,12 +1,11 @@
 -- No task makes more events than its budget: what it has made and what it may still make are no more than that, behind each
 -- entry of a walk.
-use Rattle.mv_plan.proofs.Words.{◌≡◌, ℕ, suc, ◌+◌, ◌*◌, ◌<◌, ◌≤◌, List, [], ◌∷◌, ◌++◌, length, slice_index, get_or, replicate, Some, refl}
-use Rattle.mv_plan.proofs.Words.{sym, ap, ◌∙◌, subst, arith, eq-eqb, ne_eqb, get_or_append_left, get_or-replicate, length-append}
-use Rattle.mv_plan.proofs.Words.{length-replicate, get_or-append_seam, Entry, Object, Op, Reply, of, opening, asks, left_in, JobData}
+use Rattle.mv_plan.proofs.Words.{◌≡◌, ℕ, suc, ◌+◌, ◌*◌, ◌<◌, ◌≤◌, List, [], ◌∷◌, ◌++◌, length, slice_index, Some}
+use Rattle.mv_plan.proofs.Words.{sym, ◌∙◌, subst, arith}
+use Rattle.mv_plan.proofs.Words.{Entry, Object, Op, Reply, of, opening, asks, left_in, JobData}
 use Rattle.mv_plan.proofs.Words.{Follows, spool_setup, task_budgets, reader, scheduler, initiator, writer, task_program}
 use Rattle.mv_ecb.specs.declared.operation.EcbReply.TheVariants as ecb_reply
 use Rattle.mv_machine.specs.declared.entry.Reply.TheVariants as reply_of
-use Rattle.mv_machine.proofs.Objects.{of-append}
 use Rattle.mv_plan.proofs.deck.Plans.{IsPlanned}
 use Rattle.mv_deck.specs.Weight.{after_parts, all_events}
 use Rattle.mv_plan.proofs.deck.Events as events

@@ -1,19 +1,15 @@
 -- Sound decks: each job's end by the ends of the whole deck, which jobs are not to be run, and that jobs are few enough for
 -- codes to name them; the budgets of all tasks are the weight. Used by the layer of ends, by totals, and by all results.
-use Rattle.mv_plan.proofs.Words.{◌≡◌, ℕ, zero, suc, ◌+◌, ◌*◌, ◌<◌, ◌≤◌, List, [], ◌∷◌, ◌++◌, length, get_or, replicate, sum, if◌then◌else◌}
-use Rattle.mv_plan.proofs.Words.{refl, sym, ap, ◌∙◌, subst, arith, zero-add, ◌==◌, Bool, true, false, cond, sum_by-cons, JobData, Step}
+use Rattle.mv_plan.proofs.Words.{◌≡◌, ℕ, zero, suc, ◌+◌, ◌<◌, ◌≤◌, List, [], ◌∷◌, ◌++◌, length, get_or, sum, if◌then◌else◌}
+use Rattle.mv_plan.proofs.Words.{refl, sym, ap, ◌∙◌, subst, arith, zero-add, ◌==◌, Bool, true, false, cond, JobData, Step}
 use Rattle.mv_plan.proofs.Words.{Print, Use, Count, Scan, Abend, Return, no_job, job_at, end_of, weight, not_run, some_unaccepted, own_end}
 use Rattle.mv_plan.proofs.Words.{ends, not_to_run, task_budgets, eq-eqb, ne_eqb}
 use Rattle.std.proofs.Common.{add-zero}
-use Rattle.std.proofs.lemmas.List.Sums.{sum_by_push}
 use Rattle.mv_deck.specs.declared.deck.Step.TheVariants.{Free}
-use Rattle.mv_deck.specs.Weight.{all_events, after_parts}
 use Rattle.mv_report.specs.Outcome.{end_behind}
 use Rattle.std.specs.Prelude.{All, take, drop}
 use Rattle.std.proofs.lemmas.List.{length-take-le, set-get_or, set_split}
 use Rattle.std.proofs.lemmas.List.Elements.{All-from_recursion}
-use Rattle.std.specs.List.{sum_by}
-use Rattle.std.proofs.lemmas.List.Folds.{sum_by-replicate}
 use Rattle.mv_plan.proofs.deck.Plans.{IsPlannedJob, ArePlannedJobs, IsPlanned, Held, ArePlannedSteps}
 use Rattle.mv_report.proofs.Ends.{ends_by_accepted_codes}
 use Rattle.std.proofs.lemmas.Grind.{common_steps}

@@ -1,5 +1,5 @@
 -- A deck that is sound is so in the form in which running jobs meet it: what is held behind the steps done is held in a list.
-use Rattle.mv_plan.proofs.Words.{◌≡◌, ℕ, zero, suc, ◌+◌, ◌-◌, ◌<◌, ◌≤◌, ◌==◌, Bool, true, false, not, ◌||◌, IsTrue, List, [], ◌∷◌, ◌++◌}
+use Rattle.mv_plan.proofs.Words.{◌≡◌, ℕ, zero, suc, ◌+◌, ◌-◌, ◌<◌, ◌≤◌, ◌==◌, Bool, true, false, not, IsTrue, List, [], ◌∷◌, ◌++◌}
 use Rattle.mv_plan.proofs.Words.{length, map, filter, get_or, Option, Some, None, if◌then◌else◌, refl, sym, ap, ◌∙◌, subst, arith, inl, inr}
 use Rattle.mv_plan.proofs.Words.{AllByRecursion, list_any, eq-eqb, ne_eqb, eqb-true, false≢true, cases_lt, length-append, Mode, Exclusive}
 use Rattle.mv_plan.proofs.Words.{AreDistinct, After, Step, Print, Use, Count, Scan, Abend, Return, JobData, is_end}

@@ -1,12 +1,10 @@
 -- Nothing refuses the configuration of a sound deck.
 use Rattle.mv_plan.proofs.Words.{◌≡◌, ℕ, zero, suc, ◌+◌, ◌*◌, ◌<◌, ◌≤◌, nat_le, true, false, List, [], ◌∷◌, ◌++◌, length, map, sum}
 use Rattle.mv_plan.proofs.Words.{replicate, None, Some, refl, ap, ◌∙◌, arith, if◌then◌else◌, AllByRecursion, range_with_len, le-leb, lt-leb}
-use Rattle.mv_plan.proofs.Words.{eq-eqb, length-append, length-replicate, length-map-range_with_len, Setup, SetupExit, JobData, weight}
-use Rattle.mv_plan.proofs.Words.{spool_setup, task_budgets, block_owners, end_owners, end_exit, scheduler, writer, end_for_scheduler}
-use Rattle.mv_plan.proofs.Words.{end_for_writer, all_append}
+use Rattle.mv_plan.proofs.Words.{eq-eqb, length-map-range_with_len, Setup, SetupExit, JobData, weight}
+use Rattle.mv_plan.proofs.Words.{spool_setup, task_budgets, block_owners, end_owners, end_exit, scheduler, writer}
+use Rattle.mv_plan.proofs.Words.{all_append}
 use Rattle.std.specs.List.{position_from, list_all}
-use Rattle.mv_deck.specs.Weight.{all_events, after_parts}
-use Rattle.mv_plan.specs.SpoolSetup.{done}
 use Rattle.mv_machine.specs.Check.{IsValid, first_limit, first_bad_owner, first_bad_exit, bad_budget, is_bad_exit, is_within, keeps}
 use Rattle.mv_machine.specs.declared.config.ConfigLimit.TheVariants.{Callers, Budgets, Ecbs, Exits, Targets}
 use Rattle.mv_machine.proofs.Chains.{all_copies}

@@ -1,7 +1,7 @@
 -- Which blocks were posted, in which order: a job's own block is extended from before its job is released until it is posted,
 -- and nothing is posted twice. Uses places only before the event.
 use Rattle.mv_plan.proofs.Words.{◌≡◌, ℕ, zero, suc, ◌+◌, ◌<◌, ◌≤◌, Bool, List, [], ◌∷◌, length, Some, ◌⊎◌, inl, inr, refl, sym, ap, ◌∙◌}
-use Rattle.mv_plan.proofs.Words.{subst, arith, cases_eq, ecb_step, EcbState, Zero, Extended, Complete, Entry, Object, Ecb, Element, Op}
+use Rattle.mv_plan.proofs.Words.{subst, arith, ecb_step, EcbState, Zero, Extended, Complete, Entry, Object, Ecb, Element, Op}
 use Rattle.mv_plan.proofs.Words.{Reply, IsNext, Setup, System, moved, opening, with_at, JobData, entered, end_for_scheduler, end_for_writer}
 use Rattle.mv_plan.proofs.Words.{idle, initiator, code_of, not_to_run}
 use Rattle.mv_plan.specs.SpoolSetup.{done}
@@ -11,14 +11,14 @@ use Rattle.mv_element.specs.declared.operation.ElementOp.TheVariants as element_
 use Rattle.mv_machine.specs.declared.entry.Op.TheVariants as op_on
 use Rattle.mv_machine.specs.declared.entry.Reply.TheVariants as reply_of
 use Rattle.mv_plan.proofs.points.Points.{Point, At, Finished, TooSoon, Astray, ReaderAt, Entering, reader_asks, reader_goes, rounds_after}
-use Rattle.mv_plan.proofs.points.Points.{entering_from, Arming, Settling, Stage, Dispatching, Dismissing, ForEntry, ForEnds, ForIdle}
+use Rattle.mv_plan.proofs.points.Points.{Arming, Settling, Stage, Dispatching, Dismissing, ForEntry, ForEnds, ForIdle}
 use Rattle.mv_plan.proofs.points.Points.{ToDismiss, SchedulerAt, Waits, Extends, Clears, Releases, awaited_blocks, scheduler_asks}
 use Rattle.mv_plan.proofs.points.Points.{scheduler_goes, stage_at, dismissing_from, WriterAt, Keeping, writer_asks, Running, InitiatorAt}
 use Rattle.mv_plan.proofs.points.Points.{EndingJob, EndingForScheduler, EndingForWriter, initiator_asks, initiator_goes, InJob}
 use Rattle.mv_plan.proofs.points.PostsAndWaits.{on_posted_keeps}
 use Rattle.mv_plan.proofs.walks.Walks.{Points, start_points}
 use Rattle.mv_plan.proofs.points.ReaderAndWriter.{IsReaderAt, IsWriterAt}
-use Rattle.mv_plan.proofs.points.SchedulerSound.{rest_below, rest_count, IsStage, IsHanded, IsSchedulerAt, stage_extended, awaited_extended}
+use Rattle.mv_plan.proofs.points.SchedulerSound.{IsStage, IsHanded, IsSchedulerAt, stage_extended, awaited_extended}
 use Rattle.mv_plan.proofs.points.InitiatorSound.{IsInitiatorAt, named_is}
 use Rattle.mv_plan.proofs.places.Places.{Places, Coming, Run}
 use Rattle.mv_plan.proofs.ends.Blocks.{HasEnd, done_has, scheduler_has, writer_has, entered_none, idle_none}
@@ -28,10 +28,10 @@ use Rattle.mv_plan.proofs.ends.Complete.{held_moved}
 use Rattle.mv_plan.proofs.points.Stages.{ByStage, stage_map, stage_goes, NotEnding}
 use Rattle.mv_plan.proofs.ends.Awaited.{IsIn, in_seam, awaited_plain, initiator_ecb}
 use Rattle.mv_plan.proofs.points.SchedulerNext.{AllNext, goes_next, next_grows}
-use Rattle.mv_plan.proofs.deck.Codes.{code_parts, never_zero}
+use Rattle.mv_plan.proofs.deck.Codes.{never_zero}
 use Rattle.mv_plan.proofs.ends.WhoPosts.{offers, ends_job, ends_scheduler, ends_writer, post_by, initiator_no_release, run_below, posts_run}
-use Rattle.mv_plan.proofs.ends.WhoPosts.{posts_no_entered, plain_posts}
-use Rattle.mv_plan.proofs.walks.Moves.{KeepsUnder, by_moves, entry_of, block, element, block_reply, changed_there, same_elsewhere}
+use Rattle.mv_plan.proofs.ends.WhoPosts.{posts_no_entered}
+use Rattle.mv_plan.proofs.walks.Moves.{KeepsUnder, by_moves, entry_of, block, element}
 use Rattle.mv_plan.proofs.points.Views.{code_held, run_of, next_job, next_in}
 use Rattle.mv_plan.proofs.lists.Tables.{all_but}
 use Rattle.mv_plan.proofs.points.Lands.{rounds_land, ended_lands}
@@ -505,14 +505,6 @@ module _ (deck : List JobData) (initiators : ℕ) where
   nexts_done v (Extends j job jobs skipped) s ne sp = absurd (ne j job jobs skipped refl)
   nexts_done v (Clears i g code after) s ne sp = sp
   nexts_done v (Releases i g code after) s ne sp = stage_done v after s.1 sp
-
-  abbrev extended_now : System → ℕ → ℕ → System
-  extended_now s k j = moved s k (Ecb (done (length deck) j)) (op_on.Ecb (ecb_op.Extend (j + 1)))
-
-  -- a job's done block is extended
-  extends_split : (s : System) (k j : ℕ) → IsSplit (length deck) s j → j < length deck
-      → IsSplit (length deck) (moved s k (Ecb (done (length deck) j)) (op_on.Ecb (ecb_op.Extend (j + 1)))) (j + 1)
-  extends_split s k j sp here m below = grind (arith, common_steps)
 
   module _ (few : length deck ≤ not_to_run) (s : System) (t : Points) (past : List Entry) (x : SchedulerAt) (r : Reply)
       (at : t.scheduler ≡ At x) (q : HasPlaces deck initiators s t past) (h : Posted deck initiators s t) where

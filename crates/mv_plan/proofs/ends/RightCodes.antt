@@ -20,15 +20,15 @@ use Rattle.mv_plan.proofs.walks.Walks.{Points, start_points}
 use Rattle.mv_plan.proofs.points.ReaderAndWriter.{IsReaderAt, IsWriterAt}
 use Rattle.mv_plan.proofs.points.SchedulerSound.{IsSchedulerAt}
 use Rattle.mv_plan.proofs.points.InitiatorSound.{IsInitiatorAt, IsEnding, named_is}
-use Rattle.mv_plan.proofs.deck.Ends.{is_skipped, end_by_mark, few_jobs}
+use Rattle.mv_plan.proofs.deck.Ends.{is_skipped, end_by_mark}
 use Rattle.mv_plan.proofs.ends.Complete.{complete_moved, held_moved}
-use Rattle.mv_plan.proofs.ends.Blocks.{paused_code, resumed_code, settled_code, HasEnd, entered_none, idle_none, scheduler_has, writer_has}
+use Rattle.mv_plan.proofs.ends.Blocks.{settled_code, HasEnd, entered_none, idle_none, scheduler_has, writer_has}
 use Rattle.mv_plan.proofs.ends.Blocks.{done_one, scheduler_one, writer_one}
 use Rattle.mv_plan.proofs.ends.SchedulerMarks.{IsMarked, IsCodeFor, FindsEnds, scheduler_marks, dismissing_marked}
 use Rattle.mv_plan.proofs.points.RunningJob.{OfRun, Starts, runs_goes}
 use Rattle.mv_plan.proofs.walks.Stands.{HasStanding}
-use Rattle.mv_plan.proofs.deck.Codes.{code_parts, never_zero}
-use Rattle.mv_plan.proofs.walks.Moves.{KeepsUnder, by_moves, entry_of, block, element, block_reply, element_reply}
+use Rattle.mv_plan.proofs.deck.Codes.{never_zero}
+use Rattle.mv_plan.proofs.walks.Moves.{KeepsUnder, by_moves, entry_of, block, element, block_reply}
 use Rattle.mv_plan.proofs.lists.Tables.{all_with}
 use Rattle.mv_plan.proofs.points.Views.{code_held}
 use Rattle.std.proofs.lemmas.Grind.{common_steps}

@@ -1,5 +1,5 @@
 -- The scheduler marks each job as the deck says, where the ends that it reads are the deck's.
-use Rattle.mv_plan.proofs.Words.{◌≡◌, ℕ, zero, suc, ◌+◌, ◌<◌, ◌≤◌, nat_le, nat_lt, Bool, true, false, ◌||◌, cond, List, [], ◌∷◌, ◌++◌}
+use Rattle.mv_plan.proofs.Words.{◌≡◌, ℕ, zero, suc, ◌+◌, ◌<◌, ◌≤◌, nat_lt, ◌||◌, List, [], ◌∷◌, ◌++◌}
 use Rattle.mv_plan.proofs.Words.{length, get_or, Option, Some, None, refl, sym, ap, ◌∙◌, arith, AllByRecursion, leb-true}
 use Rattle.mv_plan.proofs.Words.{get_or-append_seam, Reply, JobData, After, Step, some_unaccepted, ends, no_job, job_at, end_of}
 use Rattle.mv_plan.proofs.Words.{end_for_scheduler, code_of, some_end_above, ends_of, complete_count}

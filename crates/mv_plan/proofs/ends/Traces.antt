@@ -1,6 +1,6 @@
 -- What the entries so far say of the blocks with the jobs' ends: the codes that were posted are those that the blocks hold.
-use Rattle.mv_plan.proofs.Words.{◌≡◌, ℕ, ◌+◌, ◌<◌, ◌==◌, if◌then◌else◌, Bool, List, [], ◌∷◌, ◌++◌, length, map, Some, None, ◌⊎◌, inl, inr}
-use Rattle.mv_plan.proofs.Words.{refl, sym, ap, ◌∙◌, subst, append-nil, arith, AllByRecursion, cases_eq, eq-eqb, ne_eqb, filter_map-append}
+use Rattle.mv_plan.proofs.Words.{◌≡◌, ℕ, ◌+◌, ◌<◌, ◌==◌, Bool, List, [], ◌∷◌, ◌++◌, length, map, Some, None, ◌⊎◌, inl, inr}
+use Rattle.mv_plan.proofs.Words.{refl, sym, ap, ◌∙◌, subst, append-nil, arith, AllByRecursion, filter_map-append}
 use Rattle.mv_plan.proofs.Words.{EcbOp, ecb_step, EcbState, Zero, Extended, Complete, Entry, Object, Ecb, Element, Op, Reply, IsNext, Setup}
 use Rattle.mv_plan.proofs.Words.{System, moved, opening, posts, post_codes, JobData, not_run, end_of, end_for_scheduler, end_for_writer}
 use Rattle.mv_plan.proofs.Words.{code_of, all_push}
@@ -17,7 +17,7 @@ use Rattle.mv_plan.proofs.deck.Ends.{is_skipped, skipped_ends, few_jobs}
 use Rattle.mv_plan.proofs.ends.RightCodes.{HoldEnds, ReleasesCodes}
 use Rattle.mv_plan.proofs.deck.Codes.{code_parts, never_zero}
 use Rattle.mv_plan.proofs.ends.Complete.{NotComplete, BlockAfter, block_moved, moved_there}
-use Rattle.mv_plan.proofs.walks.Moves.{entry_of, block, block_reply}
+use Rattle.mv_plan.proofs.walks.Moves.{entry_of, block}
 use Rattle.std.proofs.lemmas.Grind.{common_steps}
 
 -- the codes that a block is complete with

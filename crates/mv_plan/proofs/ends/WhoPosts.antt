@@ -8,7 +8,6 @@ use Rattle.mv_plan.proofs.points.Points.{Point, At, Running, InitiatorAt, Openin
 use Rattle.mv_plan.proofs.points.Points.{EndingForScheduler, EndingForWriter, initiator_asks, InJob}
 use Rattle.mv_plan.proofs.points.InitiatorSound.{IsInitiatorAt}
 use Rattle.mv_plan.proofs.ends.Blocks.{HasEnd, idle_none, done_one, scheduler_one, writer_one}
-use Rattle.mv_plan.proofs.points.Stages.{NotEnding}
 use Rattle.mv_plan.proofs.points.Views.{run_of}
 
 pub data PostBy (n i : ℕ) (x : InitiatorAt) (b : ℕ) : Type 0 where
@@ -73,10 +72,3 @@ posts_no_entered n i x j lt (offers more before g is e) = omega arith
 posts_no_entered n i x j lt (ends_job run code counts is e) = omega arith
 posts_no_entered n i x j lt (ends_scheduler run code counts is e) = omega arith
 posts_no_entered n i x j lt (ends_writer run code counts is e) = omega arith
-
--- a point that posts no end posts none of job j's blocks
-pub plain_posts : (n i : ℕ) (x : InitiatorAt) (j b : ℕ) → NotEnding x → j < n → HasEnd n j b → PostBy n i x b → ⊥
-plain_posts n i x j b plain lt has (offers more before g is e) = idle_none n j i lt (subst (HasEnd n j) e has)
-plain_posts n i x j b plain lt has (ends_job run code counts is e) = subst NotEnding is plain
-plain_posts n i x j b plain lt has (ends_scheduler run code counts is e) = subst NotEnding is plain
-plain_posts n i x j b plain lt has (ends_writer run code counts is e) = subst NotEnding is plain

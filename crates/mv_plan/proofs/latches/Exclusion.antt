@@ -1,7 +1,7 @@
 -- Who touches a volume holds its latch, and who counts on it holds it alone; so no two initiators stand so at one volume.
-use Rattle.mv_plan.proofs.Words.{◌≡◌, ℕ, ◌<◌, ◌==◌, Bool, true, false, not, ◌&&◌, ◌||◌, List, [], ◌∷◌, length, Option, Some, None, inl, inr}
+use Rattle.mv_plan.proofs.Words.{◌≡◌, ℕ, ◌<◌, ◌==◌, Bool, true, false, not, ◌&&◌, ◌||◌, List, [], ◌∷◌, length, Option, Some, None}
 use Rattle.mv_plan.proofs.Words.{refl, sym, ap, ◌∙◌, subst, arith, Contains, list_any, eqb-true, false≢true, Request, granted, list_of}
-use Rattle.mv_plan.proofs.Words.{is_shared, shared_request, not_in_empty, first_or_rest, System, JobData, initiator, all_at}
+use Rattle.mv_plan.proofs.Words.{is_shared, shared_request, not_in_empty, System, JobData, initiator, all_at}
 use Rattle.mv_latch.proofs.Holders.{alone}
 use Rattle.mv_plan.proofs.deck.Plans.{is_held, is_held_alone}
 use Rattle.mv_plan.proofs.latches.Asked.{finds, found, request_of}

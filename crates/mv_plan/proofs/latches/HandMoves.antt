@@ -21,12 +21,10 @@ use Rattle.mv_plan.proofs.latches.Lists.{new_request, obtained_reply, confirm_gr
 use Rattle.mv_plan.proofs.points.PostsAndWaits.{on_posted_keeps}
 use Rattle.mv_plan.proofs.points.Points.{Point, At, Grant, InitiatorAt, Opening, Offering, Pausing, Resuming, Obtaining, Confirming}
 use Rattle.mv_plan.proofs.points.Points.{Freeing, Reading, Writing, Scanning, Rescanning, Purging, EndingJob, EndingForScheduler}
-use Rattle.mv_plan.proofs.points.Points.{EndingForWriter, Closing, initiator_asks, initiator_goes, rounds_after, reader_asks}
-use Rattle.mv_plan.proofs.points.Points.{scheduler_asks, writer_asks, InJob}
+use Rattle.mv_plan.proofs.points.Points.{EndingForWriter, Closing, initiator_asks, initiator_goes}
+use Rattle.mv_plan.proofs.points.Points.{InJob}
 use Rattle.mv_plan.proofs.walks.Walks.{Points, Move, reads, schedules, initiates, writes}
 use Rattle.mv_plan.proofs.lists.Tables.{all_but}
-use Rattle.mv_plan.proofs.points.Asks.{IsSignal, reader_signals, scheduler_signals, writer_signals}
-use Rattle.mv_plan.proofs.points.Lands.{ended_lands}
 use Rattle.std.proofs.lemmas.Grind.{common_steps}
 
 -- ---- replies of the latch set
@@ -146,14 +144,6 @@ known_next c s initiators k (Element m) p (op_on.Element op) r h own w = w
 known_next c s initiators k (Volume m) p (op_on.Volume op) r h own w = w
 known_next c s initiators k o p op r h own w = absurd (false≢true h.admits)
 
--- an event elsewhere leaves the latch set as it is
-pub latches_same : (s : System) (k : ℕ) (o : Object) (op : Op) → IsSignal o → (moved s k o op).latches ≡ s.latches
-latches_same s k (Ecb n) (op_on.Ecb op) free = refl
-latches_same s k (Element n) (op_on.Element op) free = refl
-latches_same s k (Volume n) (op_on.Volume op) free = refl
-latches_same s k Latches op free = absurd free
-latches_same s k o op free = refl
-
 -- ---- where no two initiators run one job
 
 abbrev pub job_of : Grip → Option ℕ
@@ -191,11 +181,6 @@ pub of_entry : (P : ℕ → Object → Op → Type 0) (e : Entry) (k : ℕ) (o :
 of_entry P e k o op a b d p = subst (λ z. P k o z) d (subst (λ y. P k y e.op) b (subst (λ x. P x e.object e.op) a p))
 
 module _ (c : Setup) (deck : List JobData) (initiators : ℕ) where
-  hands_same : (s : System) (e : Entry) (points : ℕ → Point InitiatorAt) (o : Object) → e.object ≡ o → IsSignal o
-      → Hands initiators s.latches.state points → Hands initiators (next s e).latches.state points
-  hands_same s e points o same free w =
-      subst (λ l. Hands initiators l.state points) (sym (latches_same s e.caller e.object e.op (subst IsSignal (sym same) free))) w
-
   pub hands_next : (s : System) (t u : Points) (e : Entry) → IsNext c s e → Move deck initiators t e u
       → ((i : ℕ) → i < initiators → IsInitiatorAt deck (t.initiators i)) → Apart initiators t.initiators
       → Hands initiators s.latches.state t.initiators → Hands initiators (next s e).latches.state u.initiators

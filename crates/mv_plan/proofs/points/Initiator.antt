@@ -1,22 +1,20 @@
 -- An initiator's program goes from point to point. Used by Following.
 use Rattle.mv_plan.proofs.Words.{◌≡◌, ℕ, zero, suc, ◌+◌, ◌-◌, ◌*◌, ◌^◌, ◌<◌, ◌≤◌, ◌==◌, nat_lt, Bool, true, false, not, ◌&&◌, if◌then◌else◌}
-use Rattle.mv_plan.proofs.Words.{List, [], ◌∷◌, ◌++◌, length, Option, Some, None, Ok, refl, sym, ap, ◌∙◌, arith, AllByRecursion, list_any}
-use Rattle.mv_plan.proofs.Words.{range_with_len, eq-eqb, lt-ltb, Wake, Mode, Element, Latches, Reply, Setup, element_owner, JobData, Step}
-use Rattle.mv_plan.proofs.Words.{Print, Use, Count, Scan, job_at, Kept, nothing_kept, obtained, token_of, pause, closed, deallocate, Woke}
+use Rattle.mv_plan.proofs.Words.{List, [], ◌∷◌, ◌++◌, length, Option, Some, None, Ok, refl, ap, ◌∙◌, arith, AllByRecursion, list_any}
+use Rattle.mv_plan.proofs.Words.{lt-ltb, Wake, Mode, Latches, Reply, Setup, JobData, Step}
+use Rattle.mv_plan.proofs.Words.{Print, Use, Count, Scan, job_at, Kept, nothing_kept, obtained, token_of, pause, deallocate, Woke}
 use Rattle.mv_plan.proofs.Words.{each_posted, posted_next, post_within, wake_posted, Program, Do, Done, Heard, asks, heard, and_then}
-use Rattle.mv_plan.proofs.Words.{going_on, unrefused, accepted, followed, finished, unless_refused, on_element, on_latch, end_for_scheduler}
+use Rattle.mv_plan.proofs.Words.{going_on, unrefused, accepted, followed, finished, unless_refused, on_latch, end_for_scheduler}
 use Rattle.mv_plan.proofs.Words.{end_for_writer, idle, initiator, Named, job_named, named_by, run_job, granted_as, rounds, refused_if}
-use Rattle.std.proofs.Common.{find}
 use Rattle.mv_deck.specs.declared.deck.Step.TheVariants.{Free}
 use Rattle.mv_calls.specs.LatchCalls.{obtain_refusal}
-use Rattle.mv_calls.specs.Pauses.{gift_of, allocate, lowest_free, open_lowest, paused}
+use Rattle.mv_calls.specs.Pauses.{gift_of, allocate}
 use Rattle.mv_calls.specs.Posts.{wakes_posted}
 use Rattle.mv_calls.specs.Program.{wrong}
 use Rattle.mv_plan.specs.SpoolSetup.{done}
-use Rattle.mv_plan.specs.SpoolTasks.{job_done, freed}
+use Rattle.mv_plan.specs.SpoolTasks.{job_done}
 use Rattle.mv_calls.specs.Waits.{write_volume}
 use Rattle.mv_ecb.specs.declared.operation.EcbReply.TheVariants as ecb_reply
-use Rattle.mv_element.specs.declared.operation.ElementOp.TheVariants as element_op
 use Rattle.mv_element.specs.declared.operation.ElementReply.TheVariants as element_reply
 use Rattle.mv_latch.specs.declared.operation.LatchOp.TheVariants as latch_op
 use Rattle.mv_latch.specs.declared.operation.LatchReply.TheVariants as latch_reply
@@ -26,12 +24,11 @@ use Rattle.mv_machine.specs.declared.entry.Reply.TheVariants as reply_of
 use Rattle.mv_machine.specs.declared.entry.VolumeReply.TheVariants as volume_reply
 use Rattle.mv_machine.specs.Check.{or_else}
 use Rattle.mv_plan.proofs.deck.Plans.{ArePlannedJobs}
-use Rattle.mv_calls.specs.Pauses as pauses
 use Rattle.mv_calls.specs.Refusal as refusal
 use Rattle.mv_plan.proofs.points.Points.{At, Astray, Grant, Running, Hand, empty_hand, hand_with, hand_without, InitiatorAt, Opening}
 use Rattle.mv_plan.proofs.points.Points.{Offering, Pausing, Resuming, Obtaining, Confirming, Freeing, Reading, Writing, Scanning}
 use Rattle.mv_plan.proofs.points.Points.{Rescanning, Purging, EndingJob, EndingForScheduler, EndingForWriter, Closing, initiator_asks}
-use Rattle.mv_plan.proofs.points.Points.{initiator_goes, rounds_from, rounds_after, freeing_at, steps_at, running, job_start, named_at}
+use Rattle.mv_plan.proofs.points.Points.{initiator_goes, rounds_from, rounds_after, steps_at, running, job_start, named_at}
 use Rattle.mv_plan.proofs.points.Points.{given_at, InJob}
 use Rattle.mv_plan.proofs.points.Programs.{program_at, posting_next, rounds_rest, given_rest, ending, stepping, steps_rest, obtained_rest}
 use Rattle.mv_plan.proofs.points.Programs.{initiator_program}
@@ -82,9 +79,6 @@ module _ (c : Setup) (deck : List JobData) (initiators i : ℕ) (facts : Facts c
   -- what is kept behind an event and its reply
   abbrev kept_by : Kept → InitiatorAt → Reply → Kept
   kept_by kept x r = keeps kept (initiator_asks (length deck) i x) r
-
-  own_element : (kept : Kept) (g : ℕ) → kept.caller ≡ initiator i → pauses.is_others_token c kept (token_of (initiator i) g) ≡ false
-  own_element kept g k = ap (λ b. not b) (eq-eqb (element_owner c (initiator i)) kept.caller (facts.element (initiator i) ∙ sym k))
 
   rounds_enter : (more : ℕ) (before : List ℕ) (g : ℕ) (kept : Kept)
       → rounds_rest c deck i more before g kept ≡ program_at (initiator_program c deck i kept) (rounds_from more before g)

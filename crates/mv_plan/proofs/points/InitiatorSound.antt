@@ -1,10 +1,10 @@
 -- Where an initiator may stand: its rounds, the steps that are left of its job, the latches in its hand, the code that it ends
 -- with; and what it keeps there. Kept by each of its steps, whatever the reply.
-use Rattle.mv_plan.proofs.Words.{◌≡◌, ℕ, zero, suc, ◌+◌, ◌-◌, ◌<◌, ◌≤◌, ◌==◌, nat_le, Bool, true, false, not, ◌&&◌, if◌then◌else◌, List, []}
-use Rattle.mv_plan.proofs.Words.{◌∷◌, ◌++◌, length, map, filter, Option, Some, None, refl, sym, ap, ◌∙◌, subst, append_assoc, arith}
-use Rattle.mv_plan.proofs.Words.{AllByRecursion, list_any, eq-eqb, ne_eqb, eqb-true, leb-true, false≢true, and_parts, length-append, Mode}
+use Rattle.mv_plan.proofs.Words.{◌≡◌, ℕ, zero, suc, ◌+◌, ◌<◌, ◌≤◌, ◌==◌, Bool, true, false, not, ◌&&◌, if◌then◌else◌, List, []}
+use Rattle.mv_plan.proofs.Words.{◌∷◌, ◌++◌, length, map, filter, Option, Some, refl, sym, ap, ◌∙◌, subst, append_assoc, arith}
+use Rattle.mv_plan.proofs.Words.{AllByRecursion, list_any, eq-eqb, ne_eqb, eqb-true, false≢true, length-append, Mode}
 use Rattle.mv_plan.proofs.Words.{Reply, with_at, JobData, Step, Print, Use, Count, Scan, Abend, Return, job_at, not_run, own_end}
-use Rattle.mv_plan.proofs.Words.{AreDistinct, Kept, nothing_kept, initiator, Named, job_named, code_of, not_to_run, all_push}
+use Rattle.mv_plan.proofs.Words.{AreDistinct, Kept, nothing_kept, initiator, Named, job_named, code_of, all_push}
 use Rattle.mv_deck.specs.declared.deck.Step.TheVariants.{Free}
 use Rattle.mv_element.specs.declared.operation.ElementReply.TheVariants as element_reply
 use Rattle.mv_latch.specs.declared.operation.LatchReply.TheVariants as latch_reply
@@ -19,7 +19,7 @@ use Rattle.mv_plan.proofs.points.Points.{Writing, Scanning, Rescanning, Purging,
 use Rattle.mv_plan.proofs.points.Points.{initiator_asks, initiator_goes, rounds_after, steps_at, running, job_start, given_at, InJob}
 use Rattle.mv_plan.proofs.points.PostsAndWaits.{on_posted_keeps}
 use Rattle.mv_plan.proofs.points.ReaderAndWriter.{keeps}
-use Rattle.mv_plan.proofs.points.Lands.{rounds_land, freeing_lands, given_lands, counting_lands, ended_lands}
+use Rattle.mv_plan.proofs.points.Lands.{rounds_land, freeing_lands, given_lands, ended_lands}
 use Rattle.std.proofs.lemmas.Grind.{common_steps}
 
 -- ---- rounds

@@ -1,22 +1,19 @@
 -- The scheduler's program goes from point to point: at each it says the point's event, and a reply leads it on as it leads the
 -- point. Used by Following.
-use Rattle.mv_plan.proofs.Words.{◌≡◌, ℕ, zero, suc, ◌+◌, ◌<◌, ◌≤◌, Bool, false, List, [], ◌∷◌, ◌++◌, length, map, Option, Some, None, Ok}
-use Rattle.mv_plan.proofs.Words.{inl, inr, refl, sym, ap, ◌∙◌, subst, arith, AllByRecursion, range_with_len, length-append}
-use Rattle.mv_plan.proofs.Words.{length-map-range_with_len, Ecb, Reply, Setup, JobData, After, Step, Kept, token_of, release, Do, Done}
-use Rattle.mv_plan.proofs.Words.{Heard, asks, heard, going_on, unrefused, accepted, finished, unless_refused, on_ecb, on_element, entered}
-use Rattle.mv_plan.proofs.Words.{end_for_scheduler, idle, initiator, code_of, ends_of, some_end_above, ends_awaited, first_of, hand_over}
-use Rattle.mv_plan.proofs.Words.{AreDistinct, extend, extended, the_word, refused_if, arm_all, settle_all, enough, wait_unrefused}
+use Rattle.mv_plan.proofs.Words.{◌≡◌, ℕ, zero, suc, ◌+◌, ◌<◌, ◌≤◌, Bool, false, List, [], ◌∷◌, ◌++◌, length, map, Option, Some, None}
+use Rattle.mv_plan.proofs.Words.{inr, refl, sym, ap, ◌∙◌, arith, AllByRecursion, range_with_len, length-append}
+use Rattle.mv_plan.proofs.Words.{length-map-range_with_len, Reply, Setup, JobData, After, Step, Kept}
+use Rattle.mv_plan.proofs.Words.{Heard, asks, heard, going_on, unrefused, accepted, finished, unless_refused, on_ecb, on_element}
+use Rattle.mv_plan.proofs.Words.{end_for_scheduler, idle, code_of, ends_of, some_end_above, ends_awaited, first_of, hand_over}
+use Rattle.mv_plan.proofs.Words.{AreDistinct, extend, extended, arm_all, settle_all, enough, wait_unrefused}
 use Rattle.mv_calls.specs.Pauses.{released}
 use Rattle.mv_plan.specs.SpoolSetup.{done}
 use Rattle.mv_calls.specs.Waits.{wait, wait_refusal}
-use Rattle.mv_calls.proofs.Unrefused.{IsFree, own_block, extend_unrefused}
-use Rattle.mv_ecb.specs.declared.operation.EcbOp.TheVariants as ecb_op
+use Rattle.mv_calls.proofs.Unrefused.{IsFree}
 use Rattle.mv_ecb.specs.declared.operation.EcbReply.TheVariants as ecb_reply
 use Rattle.mv_element.specs.declared.operation.ElementReply.TheVariants as element_reply
-use Rattle.mv_machine.specs.declared.entry.Op.TheVariants as op_on
 use Rattle.mv_machine.specs.declared.entry.Reply.TheVariants as reply_of
 use Rattle.mv_plan.proofs.deck.Plans.{IsPlannedJob, ArePlannedJobs}
-use Rattle.mv_calls.specs.Refusal as refusal
 use Rattle.mv_plan.proofs.points.Points.{At, Arming, Settling, Stage, Dispatching, Dismissing, Awaited, ForEntry, ForEnds, ForIdle}
 use Rattle.mv_plan.proofs.points.Points.{ToDismiss, SchedulerAt, Waits, Extends, Clears, Releases, awaited_blocks, awaited_count}
 use Rattle.mv_plan.proofs.points.Points.{scheduler_asks, scheduler_goes, arming_first, arming_from, settling_from, found_at, ends_at}
@@ -24,7 +21,7 @@ use Rattle.mv_plan.proofs.points.Points.{dismissing_from, stage_at}
 use Rattle.mv_plan.proofs.points.Programs.{program_at, dismissals, stage_call, staged, awaited_then, awaited_stage, scheduler_program}
 use Rattle.mv_plan.proofs.points.PostsAndWaits.{armed_goes, settled_goes, lowest_goes, enough_goes}
 use Rattle.mv_plan.proofs.points.ReaderAndWriter.{keeps}
-use Rattle.mv_plan.proofs.points.SchedulerSound.{IsRest, rest_count, rest_below, rest_sound, IsAwaited, IsStage, stage_extended}
+use Rattle.mv_plan.proofs.points.SchedulerSound.{IsRest, rest_below, rest_sound, IsAwaited, IsStage, stage_extended}
 use Rattle.mv_plan.proofs.points.SchedulerSound.{awaited_extended, SchedulerKept, others_plain, SchedulerStands, extended_kept}
 use Rattle.mv_plan.proofs.deck.Setup.{Facts}
 use Rattle.std.proofs.lemmas.Grind.{common_steps}

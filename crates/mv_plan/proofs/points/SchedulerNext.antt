@@ -1,7 +1,7 @@
 -- Which points of the scheduler may follow one, as one lemma for any fact of points; and what follows: its errand stays but for
 -- a release, and the job that is next does not fall. Used by the ledger, the closings and the posts.
 use Rattle.mv_plan.proofs.Words.{◌≡◌, ℕ, zero, suc, ◌+◌, ◌<◌, ◌≤◌, nat_le, Bool, true, false, cond, List, [], ◌∷◌, ◌++◌, length, Option}
-use Rattle.mv_plan.proofs.Words.{refl, arith, ◌⊎◌, inl, inr, ap, ◌∙◌, ◌-◌, Reply, JobData, After, Step, code_of, some_end_above}
+use Rattle.mv_plan.proofs.Words.{refl, arith, ap, ◌∙◌, ◌-◌, Reply, JobData, After, Step, code_of, some_end_above}
 use Rattle.mv_plan.proofs.Words.{complete_count}
 use Rattle.mv_ecb.specs.declared.operation.EcbReply.TheVariants as ecb_reply
 use Rattle.mv_element.specs.declared.operation.ElementReply.TheVariants as element_reply
@@ -136,13 +136,6 @@ module _ (n initiators : ℕ) where
   released_errand after (reply_of.Element element_reply.Woke) f = stage_errand after
   released_errand after r f = absurd f
 
--- a release that is answered otherwise loses the scheduler
-pub release_accepted : (p : Point SchedulerAt) (r : Reply) → IsNotLost (on_released p r)
-    → (r ≡ reply_of.Element element_reply.Early) ⊎ (r ≡ reply_of.Element element_reply.Woke)
-release_accepted p (reply_of.Element element_reply.Early) f = inl refl
-release_accepted p (reply_of.Element element_reply.Woke) f = inr refl
-release_accepted p r f = absurd f
-
 -- ---- the job that is handed out next
 
 module _ (n initiators : ℕ) where
@@ -163,11 +156,6 @@ module _ (n initiators : ℕ) where
       → IsNotLost (on_released (stage_at n initiators (Dispatching j jobs)) r)
       → next_job n (on_released (stage_at n initiators (Dispatching j jobs)) r) ≡ j
   dispatched_next j jobs r e f = grind (arith, common_steps)
-
--- it does not fall
-dismissing_end : (n i more : ℕ) → next_job n (dismissing_from n i more) ≡ n
-dismissing_end n i zero = refl
-dismissing_end n i (suc more) = refl
 
 stage_grows : (deck : List JobData) (initiators : ℕ) (after : Stage) → IsStage deck initiators after
     → next_in (length deck) after ≤ next_job (length deck) (stage_at (length deck) initiators after)

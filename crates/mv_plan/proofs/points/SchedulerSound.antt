@@ -1,10 +1,9 @@
 -- Where the scheduler may stand: which jobs are left, which code it hands over; and what it keeps there. Kept by each of its
 -- steps, whatever the reply.
-use Rattle.mv_plan.proofs.Words.{◌≡◌, ℕ, zero, suc, ◌+◌, ◌<◌, ◌≤◌, ◌==◌, nat_le, Bool, true, false, cond, if◌then◌else◌, List, [], ◌∷◌}
+use Rattle.mv_plan.proofs.Words.{◌≡◌, ℕ, zero, suc, ◌+◌, ◌<◌, ◌≤◌, Bool, true, false, if◌then◌else◌, List, [], ◌∷◌}
 use Rattle.mv_plan.proofs.Words.{◌++◌, length, Option, Some, None, ◌⊎◌, inl, inr, refl, sym, ap, ◌∙◌, subst, append-nil, append_assoc}
-use Rattle.mv_plan.proofs.Words.{zero-add, arith, ne_eqb, cases_eq, false≢true, length-append, length-map-range_with_len, Reply, with_at}
-use Rattle.mv_plan.proofs.Words.{JobData, After, Step, Kept, idle, code_of, complete_count}
-use Rattle.std.proofs.lemmas.Bool.{false_from_ne_true}
+use Rattle.mv_plan.proofs.Words.{zero-add, arith, ne_eqb, cases_eq, length-append, length-map-range_with_len, Reply, with_at}
+use Rattle.mv_plan.proofs.Words.{JobData, After, Step, Kept, idle, code_of}
 use Rattle.mv_plan.specs.SpoolSetup.{done}
 use Rattle.mv_ecb.specs.declared.operation.EcbReply.TheVariants as ecb_reply
 use Rattle.mv_element.specs.declared.operation.ElementReply.TheVariants as element_reply
@@ -12,7 +11,7 @@ use Rattle.mv_machine.specs.declared.entry.Reply.TheVariants as reply_of
 use Rattle.mv_plan.proofs.deck.Plans.{IsPlannedJob, ArePlannedJobs}
 use Rattle.mv_plan.proofs.points.Points.{Point, At, TooSoon, WaitAt, Arming, Settling, Stage, Dispatching, Dismissing, Awaited, ForEntry}
 use Rattle.mv_plan.proofs.points.Points.{ForEnds, ForIdle, ToDismiss, SchedulerAt, Waits, Extends, Clears, Releases, awaited_blocks}
-use Rattle.mv_plan.proofs.points.Points.{awaited_count, scheduler_asks, scheduler_goes, arming_first, arming_from, settling_from, found_at}
+use Rattle.mv_plan.proofs.points.Points.{scheduler_asks, scheduler_goes, arming_from, settling_from, found_at}
 use Rattle.mv_plan.proofs.points.Points.{ends_at, dismissing_from, stage_at, lowest_at}
 use Rattle.mv_plan.proofs.points.PostsAndWaits.{on_armed_keeps, on_settled_keeps}
 use Rattle.mv_plan.proofs.points.ReaderAndWriter.{keeps}
@@ -165,12 +164,6 @@ module _ (deck : List JobData) (initiators : ℕ) (kept : Kept) where
       → SchedulerStands deck initiators kept (arming_from (length deck) initiators a es)
   arming_stands a past [] s k e = settling_stands a [] (awaited_blocks (length deck) initiators a) [] s k refl refl
   arming_stands a past (b ∷ es) s k e = ((s, (past, e)), k)
-
-  first_stands : (a : Awaited) (es : List ℕ) → IsAwaited deck initiators a
-      → SchedulerKept (length deck) (awaited_extended (length deck) a) kept
-      → es ≡ awaited_blocks (length deck) initiators a → SchedulerStands deck initiators kept (arming_first a es)
-  first_stands a [] s k e = (tt, tt)
-  first_stands a (b ∷ es) s k e = ((s, ([], e)), k)
 
 one_pushed : {X : Type 0} (xs ys : List X) (x : X) → (xs ++ x ∷ []) ++ ys ≡ xs ++ x ∷ ys
 one_pushed xs ys x = append_assoc xs (x ∷ []) ys

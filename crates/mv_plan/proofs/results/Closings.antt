@@ -1,18 +1,15 @@
 -- Each release is of a job or closes an initiator and is accepted, and each initiator is closed once.
-use Rattle.mv_plan.proofs.Words.{◌≡◌, ℕ, zero, suc, ◌+◌, ◌-◌, ◌<◌, ◌≤◌, ◌==◌, Bool, true, false, if◌then◌else◌, List, [], ◌∷◌, ◌++◌, length}
-use Rattle.mv_plan.proofs.Words.{None, ◌⊎◌, inl, inr, refl, sym, ap, ◌∙◌, subst, arith, AllByRecursion, cases_eq, cases_lt, eq-eqb, ne_eqb}
+use Rattle.mv_plan.proofs.Words.{◌≡◌, ℕ, zero, suc, ◌<◌, ◌≤◌, false, List, [], ◌∷◌, ◌++◌, length}
+use Rattle.mv_plan.proofs.Words.{None, refl, sym, ap, ◌∙◌, subst, arith, AllByRecursion}
 use Rattle.mv_plan.proofs.Words.{Entry, Object, Element, Op, Reply, IsNext, Setup, System, release_code, closings, IsRightRelease, JobData}
-use Rattle.mv_plan.proofs.Words.{scheduler, initiator, code_of, Kept, all_push}
+use Rattle.mv_plan.proofs.Words.{scheduler, initiator, Kept, all_push}
 use Rattle.mv_plan.specs.HandingOut.{is_closing}
 use Rattle.mv_element.specs.declared.operation.ElementOp.TheVariants as element_op
-use Rattle.mv_element.specs.declared.operation.ElementReply.TheVariants as element_reply
 use Rattle.mv_machine.specs.declared.entry.Op.TheVariants as op_on
-use Rattle.mv_machine.specs.declared.entry.Reply.TheVariants as reply_of
-use Rattle.mv_plan.proofs.points.SchedulerNext.{same_errand, after_dismissals, after_release, released_errand, release_accepted}
-use Rattle.mv_plan.proofs.deck.Codes.{never_zero}
+use Rattle.mv_plan.proofs.points.SchedulerNext.{same_errand}
 use Rattle.mv_plan.proofs.points.Points.{Point, At, Stage, Dispatching, Dismissing, SchedulerAt, Waits, Extends, Clears, Releases}
 use Rattle.mv_plan.proofs.points.Points.{scheduler_asks, scheduler_goes, stage_at, dismissing_from}
-use Rattle.mv_plan.proofs.points.SchedulerSound.{IsSchedulerAt, rest_count}
+use Rattle.mv_plan.proofs.points.SchedulerSound.{IsSchedulerAt}
 use Rattle.mv_plan.proofs.walks.Stands.{Stand}
 use Rattle.mv_plan.proofs.walks.NoneLost.{NoneLost}
 use Rattle.mv_plan.proofs.walks.Walks.{Points, Move}
@@ -46,21 +43,6 @@ closings_same : (m : ℕ) (past : List Entry) (e : Entry) → is_closing m e.obj
 closings_same m [] e q = rw q refl
 closings_same m (x ∷ past) e q = grind (arith, common_steps, closings_same m past e q)
 
-closings_more : (m : ℕ) (past : List Entry) (e : Entry) → is_closing m e.object e.op ≡ true
-    → length (closings m (past ++ e ∷ [])) ≡ suc (length (closings m past))
-closings_more m [] e q = rw q refl
-closings_more m (x ∷ past) e q = grind (arith, common_steps, closings_more m past e q)
-
-closing_here : (i : ℕ) → (if initiator i == initiator i then 0 == 0 else false) ≡ true
-closing_here i = ap (λ b. if b then true else false) (eq-eqb (initiator i) (initiator i) refl)
-
-closing_else : (i m code : ℕ) → (i ≡ m → ⊥) → (if initiator i == initiator m then code == 0 else false) ≡ false
-closing_else i m code d = ap (λ b. if b then code == 0 else false) (ne_eqb (initiator i) (initiator m) (λ z. d (omega arith)))
-
-closing_job : (i m code : ℕ) → (code ≡ 0 → ⊥) → (if initiator i == initiator m then code == 0 else false) ≡ false
-closing_job i m code d = elim (initiator i == initiator m) as
-    (λ b. (if b then code == 0 else false) ≡ false) [ true ↦ ne_eqb code 0 d | false ↦ refl ]
-
 module _ (n initiators : ℕ) (past : List Entry) (d : ℕ) (w : Closes n initiators past d) (e : Entry) where
   closes_quiet : (d' : ℕ) → d' ≡ d → release_code e.op ≡ None → Closes n initiators (past ++ e ∷ []) d'
   closes_quiet d' q none = record {
@@ -68,33 +50,6 @@ module _ (n initiators : ℕ) (past : List Entry) (d : ℕ) (w : Closes n initia
     closed = λ i lt. closings_same (initiator i) past e (plain_open (initiator i) e.object e.op none) ∙ w.closed i (omega arith);
     unclosed = λ i le. closings_same (initiator i) past e (plain_open (initiator i) e.object e.op none) ∙ w.unclosed i (omega arith);
   }
-
-  -- a job's release
-  closes_job : (d' i : ℕ) → d' ≡ d → IsRightRelease n initiators e.object e.op e.reply
-      → ((m : ℕ) → is_closing (initiator m) e.object e.op ≡ false) → Closes n initiators (past ++ e ∷ []) d'
-  closes_job d' i q right none = record {
-    releases = all_push _ past e w.releases right;
-    closed = λ m lt. closings_same (initiator m) past e (none m) ∙ w.closed m (omega arith);
-    unclosed = λ m le. closings_same (initiator m) past e (none m) ∙ w.unclosed m (omega arith);
-  }
-
-  -- the release that closes the next initiator
-  closes_one : (d' : ℕ) → d' ≡ d + 1 → IsRightRelease n initiators e.object e.op e.reply → is_closing (initiator d) e.object e.op ≡ true
-      → ((m : ℕ) → (d ≡ m → ⊥) → is_closing (initiator m) e.object e.op ≡ false) → Closes n initiators (past ++ e ∷ []) d'
-  closes_one d' q right one none = record {
-    releases = all_push _ past e w.releases right;
-    closed = λ m lt. close m (cases_eq d m) (omega arith);
-    unclosed = λ m le. closings_same (initiator m) past e (none m (λ z. absurd (omega arith))) ∙ w.unclosed m (omega arith);
-  } where
-    close : (m : ℕ) → (d ≡ m) ⊎ (d ≡ m → ⊥) → m ≤ d → length (closings (initiator m) (past ++ e ∷ [])) ≡ 1
-    close m (inl same) le = subst (λ z. length (closings (initiator z) (past ++ e ∷ [])) ≡ 1) same
-        (closings_more (initiator d) past e one ∙ ap (λ k. suc k) (w.unclosed d (omega arith)))
-    close m (inr other) le = closings_same (initiator m) past e (none m other)
-        ∙ w.closed m (elim (cases_lt m d) [ inl lt ↦ lt | inr ge ↦ absurd (other (omega arith)) ])
-
-dismissed_after : (initiators m more : ℕ) → m + more ≡ initiators → dismissed_by initiators (after_dismissals m more) ≡ m
-dismissed_after initiators m zero e = omega arith
-dismissed_after initiators m (suc more) e = refl
 
 module _ (c : Setup) (deck : List JobData) (initiators : ℕ) (kept : ℕ → Kept) (past : List Entry) where
   abbrev n : ℕ
@@ -116,11 +71,6 @@ module _ (c : Setup) (deck : List JobData) (initiators : ℕ) (kept : ℕ → Ke
       op = op_on.Element (element_op.Release g code);
       reply = r;
     }
-
-    right : i < initiators → ((code ≡ 0) ⊎ ((j : ℕ) × (skipped : Bool) × (j < n) × (code ≡ code_of j skipped)))
-        → (q : Point SchedulerAt) → (r ≡ reply_of.Element element_reply.Early) ⊎ (r ≡ reply_of.Element element_reply.Woke)
-        → IsRightRelease n initiators out.object out.op out.reply
-    right lt named q ok = ((i, lt, refl), named, ok)
 
     releasing : (after : Stage) (q : Point SchedulerAt) → q ≡ At (Releases i g code after)
         → IsSchedulerAt deck initiators (At (Releases i g code after))

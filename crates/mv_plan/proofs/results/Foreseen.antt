@@ -1,45 +1,40 @@
 -- No reply leads the reader, the scheduler or the writer astray, nor an initiator in its rounds.
-use Rattle.mv_plan.proofs.Words.{◌≡◌, ℕ, zero, suc, ◌+◌, ◌<◌, ◌≤◌, ◌==◌, nat_le, Bool, true, false, IsTrue, cond, if◌then◌else◌, List, []}
+use Rattle.mv_plan.proofs.Words.{◌≡◌, ℕ, zero, suc, ◌+◌, ◌<◌, ◌≤◌, Bool, true, false, IsTrue, if◌then◌else◌, List, []}
 use Rattle.mv_plan.proofs.Words.{◌∷◌, ◌++◌, length, Option, Some, None, ◌⊎◌, inl, inr, refl, sym, ap, ◌∙◌, subst, arith, AllByRecursion}
-use Rattle.mv_plan.proofs.Words.{eq-eqb, leb-true, ecb_step, EcbState, Zero, Extended, Complete, word_of, ElementReply, ElementState}
-use Rattle.mv_plan.proofs.Words.{element_step, latch_step, Reply, Setup, owner_of, System, admitted, reply_to, JobData, After, Step, Print}
-use Rattle.mv_plan.proofs.Words.{job_at, Counts, reader, scheduler, initiator, writer, entered, end_for_scheduler, end_for_writer, idle}
-use Rattle.mv_plan.proofs.Words.{job_named, code_of, not_to_run, complete_count}
+use Rattle.mv_plan.proofs.Words.{eq-eqb, leb-true, ecb_step, EcbState, Zero, Extended, Complete, ElementState}
+use Rattle.mv_plan.proofs.Words.{element_step, Reply, Setup, owner_of, System, admitted, reply_to, JobData, After, Step, Print}
+use Rattle.mv_plan.proofs.Words.{job_at, Counts, reader, scheduler, initiator, writer, end_for_scheduler, end_for_writer, idle}
+use Rattle.mv_plan.proofs.Words.{code_of, not_to_run, complete_count}
 use Rattle.mv_ecb.specs.Word.{Waiting}
 use Rattle.mv_deck.specs.declared.deck.Step.TheVariants.{Free}
 use Rattle.mv_plan.specs.SpoolSetup.{done}
 use Rattle.mv_ecb.specs.declared.operation.EcbOp.TheVariants as ecb_op
 use Rattle.mv_ecb.specs.declared.operation.EcbReply.TheVariants as ecb_reply
 use Rattle.mv_element.specs.declared.operation.ElementOp.TheVariants as element_op
-use Rattle.mv_element.specs.declared.operation.ElementReply.TheVariants as element_reply
-use Rattle.mv_latch.specs.declared.operation.LatchOp.TheVariants as latch_op
 use Rattle.mv_machine.specs.declared.entry.Reply.TheVariants as reply_of
 use Rattle.mv_plan.proofs.deck.Plans.{ArePlannedSteps, ArePlannedJobs}
 use Rattle.mv_plan.proofs.standing.Arms.{In, in_middle, in_all, IsNoDone, awaited_no_done, SchedulerArms, WriterArms, arm_owner}
 use Rattle.mv_plan.proofs.points.ReaderAndWriter.{IsWriterAt}
 use Rattle.mv_plan.proofs.results.FewRounds.{fewer, none_found, not_found, code_named}
 use Rattle.mv_plan.proofs.walks.Fits.{Fits}
-use Rattle.mv_plan.proofs.standing.Row.{Starts, Works, Offers, Parks, stance, offered, taken, handed, Row, RowAt, hold_for, offer_of}
-use Rattle.mv_plan.proofs.standing.Row.{element_of, row_at}
+use Rattle.mv_plan.proofs.standing.Row.{Starts, Works, Offers, Parks, offered, taken, handed, Row, RowAt}
+use Rattle.mv_plan.proofs.standing.Row.{element_of}
 use Rattle.mv_plan.proofs.points.InitiatorSound.{IsInitiatorAt, IsRound, IsRunning, held_of, held_request, job_sound}
 use Rattle.mv_plan.proofs.places.Places.{Place, Handed, Over}
-use Rattle.mv_plan.proofs.places.LedgerMoves.{has_stance}
 use Rattle.mv_plan.proofs.places.Ledger.{element_code}
 use Rattle.mv_plan.proofs.deck.Setup.{Facts}
-use Rattle.mv_plan.proofs.points.Points.{Point, At, TooSoon, Astray, Stage, Dispatching, Dismissing, Awaited, ForEntry, ForEnds, ForIdle}
-use Rattle.mv_plan.proofs.points.Points.{ToDismiss, Arming, Settling, ReaderAt, Entering, entering_from, reader_asks, reader_goes}
+use Rattle.mv_plan.proofs.points.Points.{Point, At, TooSoon, Astray, Dispatching, Dismissing, Awaited, ForEntry, ForEnds, ForIdle}
+use Rattle.mv_plan.proofs.points.Points.{ToDismiss, Arming, Settling, ReaderAt, Entering, reader_asks, reader_goes}
 use Rattle.mv_plan.proofs.points.Points.{SchedulerAt, Waits, Extends, Clears, Releases, awaited_blocks, awaited_count, scheduler_asks}
-use Rattle.mv_plan.proofs.points.Points.{scheduler_goes, arming_first, arming_from, settling_from, found_at, ends_at, dismissing_from}
-use Rattle.mv_plan.proofs.points.Points.{stage_at, lowest_at, on_posted, on_armed, on_settled, on_released, WriterAt, Keeping, writer_asks}
+use Rattle.mv_plan.proofs.points.Points.{scheduler_goes, arming_first, arming_from, settling_from, found_at, ends_at}
+use Rattle.mv_plan.proofs.points.Points.{lowest_at, on_posted, on_armed, on_settled, WriterAt, Keeping, writer_asks}
 use Rattle.mv_plan.proofs.points.Points.{writer_goes, writing_from, writer_arming, end_found, Hand, empty_hand, Running, running}
 use Rattle.mv_plan.proofs.points.Points.{InitiatorAt, Opening, Offering, Pausing, Resuming, Purging, EndingJob, EndingForScheduler}
 use Rattle.mv_plan.proofs.points.Points.{EndingForWriter, Closing, initiator_asks, initiator_goes, rounds_from, rounds_after, freeing_at}
 use Rattle.mv_plan.proofs.points.Points.{steps_at, job_start, named_at, given_at, on_opened, on_paused, on_resumed, on_closed, on_ended}
 use Rattle.mv_plan.proofs.points.Points.{InJob}
 use Rattle.mv_plan.proofs.points.SchedulerSound.{IsSchedulerAt}
-use Rattle.mv_plan.proofs.standing.Rows.{Accepts, row_accepts}
 use Rattle.mv_plan.proofs.ends.RightCodes.{IsCode}
-use Rattle.mv_plan.proofs.deck.Ends.{is_skipped}
 use Rattle.mv_plan.proofs.points.Views.{code_held, named_before, IsNotLost, IsOfRounds}
 use Rattle.std.proofs.lemmas.Grind.{common_steps}
 
@@ -106,15 +101,6 @@ module _ (n initiators : ℕ) where
   arming_foreseen a [] = settling_foreseen a (awaited_blocks n initiators a) []
   arming_foreseen a (e ∷ es) = tt
 
-  dismissing_foreseen : (m more : ℕ) → IsForeseen (dismissing_from n m more)
-  dismissing_foreseen m zero = tt
-  dismissing_foreseen m (suc more) = tt
-
-  stage_foreseen : (after : Stage) → IsForeseen (stage_at n initiators after)
-  stage_foreseen (Dispatching j []) = dismissing_foreseen 0 initiators
-  stage_foreseen (Dispatching j (job ∷ jobs)) = tt
-  stage_foreseen (Dismissing m more) = dismissing_foreseen m more
-
 first_foreseen : (n initiators j : ℕ) (job : JobData) (jobs : List JobData) (skipped : Bool) → 1 ≤ initiators
     → IsForeseen (arming_first (ForIdle j job jobs skipped) (awaited_blocks n initiators (ForIdle j job jobs skipped)))
 first_foreseen n zero j job jobs skipped some = absurd (omega arith)
@@ -124,12 +110,6 @@ first_foreseen n (suc initiators) j job jobs skipped some = tt
 pub extend_foreseen : (n initiators j : ℕ) (job : JobData) (jobs : List JobData) (skipped : Bool) → 1 ≤ initiators
     → IsForeseen (scheduler_goes n initiators (Extends j job jobs skipped) (reply_of.Ecb ecb_reply.Armed))
 extend_foreseen n initiators j job jobs skipped some = first_foreseen n initiators j job jobs skipped some
-
-accepted_foreseen : (p : Point SchedulerAt) (r : ElementReply) → Accepts r → IsForeseen p
-    → IsForeseen (on_released p (reply_of.Element r))
-accepted_foreseen p element_reply.Early a w = w
-accepted_foreseen p element_reply.Woke a w = w
-accepted_foreseen p r a w = absurd a
 
 -- whether a point is no extend
 abbrev pub NoExtend : SchedulerAt → Type 0

@@ -11,12 +11,11 @@ use Rattle.mv_plan.proofs.standing.Arms.{Armed, armed_next, armed_start}
 use Rattle.mv_plan.proofs.points.ReaderAndWriter.{IsWriterAt, reader_says, writer_says}
 use Rattle.mv_plan.proofs.results.Foreseen.{IsForeseen, NoExtend, reader_foreseen, writer_foreseen, scheduler_foreseen, extend_foreseen}
 use Rattle.mv_plan.proofs.results.Foreseen.{initiator_foreseen, foreseen_of}
-use Rattle.mv_plan.proofs.points.Initiator.{initiator_says}
 use Rattle.mv_plan.proofs.standing.Row.{RowAt}
 use Rattle.mv_plan.proofs.points.InitiatorSound.{IsInitiatorAt}
 use Rattle.mv_plan.proofs.places.Places.{Place, Coming, Over}
 use Rattle.mv_plan.proofs.deck.Setup.{Facts}
-use Rattle.mv_plan.proofs.points.Programs.{reader_program, scheduler_program, writer_program, initiator_program}
+use Rattle.mv_plan.proofs.points.Programs.{reader_program, scheduler_program, writer_program}
 use Rattle.mv_plan.proofs.points.Points.{Point, At, Finished, TooSoon, Astray, Dispatching, stage_at, dismissing_from, entering_from}
 use Rattle.mv_plan.proofs.points.Points.{writing_from, reader_asks, SchedulerAt, Extends, scheduler_asks, scheduler_goes, writer_asks}
 use Rattle.mv_plan.proofs.points.Points.{InitiatorAt, Purging, EndingJob, EndingForScheduler, EndingForWriter, initiator_asks}

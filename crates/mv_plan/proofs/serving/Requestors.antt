@@ -1,8 +1,8 @@
 -- How often a job's requestor is purged: as often as the job was named, but for who still works on it. So a job that is named
 -- once has one initiator, and none that works on it has purged it.
-use Rattle.mv_plan.proofs.Words.{◌≡◌, ℕ, zero, suc, ◌+◌, ◌<◌, ◌≤◌, ◌==◌, ◌||◌, Bool, true, false, if◌then◌else◌, List, [], ◌∷◌, ◌++◌}
-use Rattle.mv_plan.proofs.Words.{length, Option, Some, None, inl, inr, refl, sym, ap, ◌∙◌, subst, arith, cases_eq, eq-eqb, ne_eqb, eqb-true}
-use Rattle.mv_plan.proofs.Words.{or_left, or_right, false≢true, length-append, filter-append, filter_map-append, Entry, Object, Op, Reply}
+use Rattle.mv_plan.proofs.Words.{◌≡◌, ℕ, zero, suc, ◌+◌, ◌<◌, ◌≤◌, ◌==◌, Bool, true, false, if◌then◌else◌, List, [], ◌∷◌, ◌++◌}
+use Rattle.mv_plan.proofs.Words.{length, Option, Some, None, inl, inr, refl, sym, ap, ◌∙◌, subst, arith, cases_eq, eq-eqb, ne_eqb}
+use Rattle.mv_plan.proofs.Words.{length-append, filter_map-append, Entry, Object, Op, Reply}
 use Rattle.mv_plan.proofs.Words.{IsNext, Setup, System, with_at, gift_code, naming, given_codes, is_obtain, purges, JobData, Step, Print}
 use Rattle.mv_plan.proofs.Words.{job_at, code_of, not_to_run, purged_by}
 use Rattle.mv_deck.specs.declared.deck.Step.TheVariants.{Free}
@@ -14,7 +14,7 @@ use Rattle.mv_plan.proofs.volumes.GivenCodes.{with_code}
 use Rattle.mv_plan.proofs.latches.HandMoves.{Apart, works}
 use Rattle.mv_plan.proofs.points.InitiatorSound.{named_is, IsInitiatorAt}
 use Rattle.mv_plan.proofs.points.Points.{Point, At, Running, Hand, empty_hand, InitiatorAt, Opening, Offering, Pausing, Resuming}
-use Rattle.mv_plan.proofs.points.Points.{rounds_after, Obtaining, Confirming, Freeing, Reading, Writing, Scanning, Rescanning, Purging}
+use Rattle.mv_plan.proofs.points.Points.{Obtaining, Confirming, Freeing, Reading, Writing, Scanning, Rescanning, Purging}
 use Rattle.mv_plan.proofs.points.Points.{EndingJob, EndingForScheduler, EndingForWriter, Closing, initiator_asks, initiator_goes}
 use Rattle.mv_plan.proofs.points.Points.{rounds_from, steps_at, running, job_start, given_at, ReaderAt, Entering, SchedulerAt, Waits}
 use Rattle.mv_plan.proofs.points.Points.{Arming, Settling, WriterAt, Keeping, reader_asks, scheduler_asks, writer_asks, InJob}
@@ -24,7 +24,7 @@ use Rattle.mv_plan.proofs.walks.NoneLost.{NoneLost, none_lost_before}
 use Rattle.mv_plan.proofs.points.Asks.{IsNoPause, no_gift, reader_no_pause, scheduler_no_pause, writer_no_pause}
 use Rattle.mv_plan.proofs.lists.Tables.{with_at-same, with_at-other}
 use Rattle.mv_plan.proofs.points.Views.{IsNotLost, run_of}
-use Rattle.mv_plan.proofs.points.Lands.{freeing_lands, given_lands, ended_lands, counting_lands}
+use Rattle.mv_plan.proofs.points.Lands.{given_lands}
 use Rattle.mv_plan.proofs.points.PostsAndWaits.{on_posted_keeps}
 use Rattle.mv_plan.proofs.latches.Exclusion.{works_run}
 use Rattle.mv_plan.proofs.ends.WhoPosts.{run_below}
@@ -70,12 +70,6 @@ given_front j xs ys =
     omega arith
 
 -- ---- codes name jobs
-
-code_eq : (n j k : ℕ) (a b : Bool) → n ≤ not_to_run → j < n → k < n → code_of k a ≡ code_of j b → k ≡ j
-code_eq n j k true true few x y e = omega arith
-code_eq n j k true false few x y e = absurd (omega arith)
-code_eq n j k false true few x y e = absurd (omega arith)
-code_eq n j k false false few x y e = omega arith
 
 names_is : (n j k : ℕ) (a : Bool) → n ≤ not_to_run → j < n → k < n
     → length (with_code (naming j (Some (code_of k a))) []) ≡ here j (Some k)

@@ -1,10 +1,10 @@
 -- What is kept of latches, volumes and requestors at each moment, in one record.
-use Rattle.mv_plan.proofs.Words.{◌≡◌, ℕ, ◌+◌, ◌<◌, ◌≤◌, true, false, List, [], ◌∷◌, ◌++◌, length, ap, ◌∙◌, subst, arith, Entry, IsNext}
-use Rattle.mv_plan.proofs.Words.{next, Setup, System, opening, given_codes, JobData, initiator, code_of, not_to_run}
+use Rattle.mv_plan.proofs.Words.{◌≡◌, ℕ, ◌<◌, ◌≤◌, List, [], ◌∷◌, ◌++◌, length, ap, ◌∙◌, subst, arith, Entry, IsNext}
+use Rattle.mv_plan.proofs.Words.{next, Setup, System, opening, JobData, initiator, not_to_run}
 use Rattle.mv_machine.proofs.EntryRuns.{entry_of}
 use Rattle.mv_plan.proofs.deck.Plans.{IsPlanned}
 use Rattle.mv_plan.proofs.volumes.Alone.{Latched, latched_next, latched_start}
-use Rattle.mv_plan.proofs.volumes.GivenCodes.{codes_of, count_of}
+use Rattle.mv_plan.proofs.volumes.GivenCodes.{codes_of}
 use Rattle.mv_plan.proofs.latches.HandMoves.{Apart, of_entry}
 use Rattle.mv_plan.proofs.latches.Hands.{OwnsBy, grip}
 use Rattle.mv_plan.proofs.points.InitiatorSound.{IsInitiatorAt}

@@ -1,22 +1,20 @@
 -- A block is waiting only while its owner has it armed in the wait that it is in; so an arm finds it plain or complete. Used
 -- where no reply is to lead astray.
 use Rattle.mv_plan.proofs.Words.{◌≡◌, ℕ, zero, suc, ◌+◌, ◌*◌, ◌<◌, ◌≤◌, ◌==◌, nat_lt, ◌&&◌, IsTrue, List, [], ◌∷◌, ◌++◌, length, map}
-use Rattle.mv_plan.proofs.Words.{Option, Some, None, ◌⊎◌, inl, inr, refl, sym, ap, ◌∙◌, subst, arith, AllByRecursion, range_with_len}
-use Rattle.mv_plan.proofs.Words.{cases_eq, eqb-true, and_parts, EcbOp, ecb_step, EcbState, Entry, Object, Ecb, Element, Volume, Latches, Op}
+use Rattle.mv_plan.proofs.Words.{Option, ◌⊎◌, inl, inr, refl, sym, ap, ◌∙◌, subst, arith, AllByRecursion, range_with_len}
+use Rattle.mv_plan.proofs.Words.{cases_eq, eqb-true, and_parts, EcbOp, EcbState, Entry, Object, Ecb, Element, Volume, Latches, Op}
 use Rattle.mv_plan.proofs.Words.{Reply, IsNext, next, Setup, owner_of, System, opening, admitted, ecb_admitted, moved, with_at, advanced}
 use Rattle.mv_plan.proofs.Words.{JobData, After, AreDistinct, Kept, reader, scheduler, initiator, writer, end_for_writer, idle, ends_of}
 use Rattle.mv_ecb.specs.Word.{Waiting}
 use Rattle.mv_ecb.specs.declared.operation.EcbOp.TheVariants as ecb_op
-use Rattle.mv_ecb.specs.declared.operation.EcbReply.TheVariants as ecb_reply
 use Rattle.mv_machine.specs.declared.entry.Op.TheVariants as op_on
-use Rattle.mv_machine.specs.declared.entry.Reply.TheVariants as reply_of
 use Rattle.mv_plan.proofs.deck.Plans.{ArePlannedJobs}
 use Rattle.mv_plan.proofs.points.ReaderAndWriter.{IsWriterAt}
 use Rattle.mv_plan.proofs.points.PostsAndWaits.{on_armed_keeps}
 use Rattle.mv_plan.proofs.deck.Setup.{Facts}
 use Rattle.mv_plan.proofs.points.Points.{Point, At, Awaited, ForEntry, ForEnds, ForIdle, ToDismiss, WaitAt, Arming, Settling, ReaderAt}
 use Rattle.mv_plan.proofs.points.Points.{Entering, reader_asks, SchedulerAt, Waits, awaited_blocks, scheduler_asks, scheduler_goes}
-use Rattle.mv_plan.proofs.points.Points.{arming_from, settling_from, on_armed, WriterAt, Keeping, writer_asks, writer_goes, writer_arming}
+use Rattle.mv_plan.proofs.points.Points.{arming_from, settling_from, on_armed, WriterAt, Keeping, writer_asks, writer_goes}
 use Rattle.mv_plan.proofs.points.Points.{initiator_asks}
 use Rattle.mv_plan.proofs.points.SchedulerSound.{IsAwaited, IsSchedulerAt, rest_below, rest_sound}
 use Rattle.mv_plan.proofs.walks.Stands.{Stand}
@@ -24,7 +22,7 @@ use Rattle.mv_plan.proofs.walks.NoneLost.{NoneLost}
 use Rattle.mv_plan.proofs.walks.Walks.{Points, Move}
 use Rattle.mv_plan.proofs.points.Scheduler.{ends_distinct, idles_distinct}
 use Rattle.mv_plan.proofs.walks.Moves.{Each, of_move}
-use Rattle.mv_plan.proofs.lists.Tables.{with_at-same, with_at-other}
+use Rattle.mv_plan.proofs.lists.Tables.{with_at-other}
 use Rattle.mv_plan.proofs.points.Asks.{NoArm, no_arm}
 use Rattle.mv_plan.proofs.points.Views.{IsNotLost}
 use Rattle.std.proofs.lemmas.Grind.{common_steps}
@@ -104,11 +102,6 @@ pub record Armed (c : Setup) (n initiators : ℕ) (s : System) (t : Points) : Ty
 
 -- ---- tables
 
-waiting_was : (op : EcbOp) (v : EcbState) → NoArm (op_on.Ecb op) → (ecb_step op v).0 ≡ Waiting → v ≡ Waiting
-waiting_was ecb_op.Arm v w e = absurd w
-waiting_was ecb_op.Test v w e = e
-waiting_was y v w e = grind arith
-
 -- only an arm makes a block wait
 pub still_waiting : (s : System) (k : ℕ) (o : Object) (op : Op) (b : ℕ) → NoArm op → ((moved s k o op).ecb b).state ≡ Waiting
     → (s.ecb b).state ≡ Waiting
@@ -122,14 +115,6 @@ still_waiting s k o op b w e = e
 else_waiting : (s : System) (e b : ℕ) (y : EcbState) → (e ≡ b → ⊥) → (with_at s.ecb e (advanced (s.ecb e) y) b).state ≡ Waiting
     → (s.ecb b).state ≡ Waiting
 else_waiting s e b y d w = sym (ap (λ z. z.state) (with_at-other s.ecb e b (advanced (s.ecb e) y) d)) ∙ w
-
-settled_not : (v : EcbState) → (ecb_step ecb_op.Settle v).0 ≡ Waiting → ⊥
-settled_not v e = grind arith
-
--- a settled block does not wait
-settled_other : (s : System) (e b : ℕ)
-    → (with_at s.ecb e (advanced (s.ecb e) (ecb_step ecb_op.Settle (s.ecb e).state).0) b).state ≡ Waiting → e ≡ b → ⊥
-settled_other s e b w same = grind (arith, common_steps)
 
 -- ---- the points that follow have armed what they are to settle
 
@@ -168,11 +153,6 @@ module _ (c : Setup) (deck : List JobData) (initiators : ℕ) (facts : Facts c (
       → (SchedulerArms n initiators q b → SchedulerArms n initiators q' b) → Arms q w b → Arms q' w b
   other_side q q' w b f (inl x) = inl (x.0, f x.1)
   other_side q q' w b f (inr x) = inr x
-
-  other_hand : (q : Point SchedulerAt) (w w' : Point WriterAt) (b : ℕ) → (WriterArms n w b → WriterArms n w' b) → Arms q w b
-      → Arms q w' b
-  other_hand q w w' b f (inl x) = inl x
-  other_hand q w w' b f (inr x) = inr (x.0, f x.1)
 
   -- the scheduler
   scheduled : (s : System) (x : SchedulerAt) (r : Reply) (w : Point WriterAt) → IsSchedulerAt deck initiators (At x)

@@ -1,21 +1,20 @@
 -- What the scheduler has found at blocks stands in them until it clears them; so the block of an initiator that it chose still
 -- has the generation that was found. Used by the rows.
-use Rattle.mv_plan.proofs.Words.{◌≡◌, ℕ, zero, suc, ◌+◌, nat_le, true, false, cond, List, [], ◌∷◌, ◌++◌, length, map, Option, Some, None}
-use Rattle.mv_plan.proofs.Words.{inl, inr, refl, sym, ap, ◌∙◌, subst, arith, range_with_len, cases_eq, EcbOp, ecb_step, EcbState, Complete}
+use Rattle.mv_plan.proofs.Words.{◌≡◌, ℕ, zero, suc, ◌+◌, List, [], ◌∷◌, ◌++◌, length, map, Option, Some, None}
+use Rattle.mv_plan.proofs.Words.{refl, sym, ap, ◌∙◌, subst, arith, range_with_len, ecb_step, EcbState, Complete}
 use Rattle.mv_plan.proofs.Words.{Object, Ecb, Element, Volume, Latches, Op, Reply, System, Cell, moved, reply_to, with_at, advanced}
-use Rattle.mv_plan.proofs.Words.{JobData, After, Step, scheduler, idle, code_of, complete_count}
+use Rattle.mv_plan.proofs.Words.{JobData, After, Step, scheduler, idle, code_of}
 use Rattle.mv_ecb.specs.declared.operation.EcbOp.TheVariants as ecb_op
 use Rattle.mv_ecb.specs.declared.operation.EcbReply.TheVariants as ecb_reply
 use Rattle.mv_element.specs.declared.operation.ElementReply.TheVariants as element_reply
 use Rattle.mv_machine.specs.declared.entry.Op.TheVariants as op_on
 use Rattle.mv_machine.specs.declared.entry.Reply.TheVariants as reply_of
-use Rattle.mv_plan.proofs.points.PostsAndWaits.{on_armed_keeps}
 use Rattle.mv_plan.proofs.points.Points.{Point, At, TooSoon, Astray, Stage, Dispatching, Dismissing, Awaited, ForEntry, ForEnds, ForIdle}
 use Rattle.mv_plan.proofs.points.Points.{ToDismiss, WaitAt, Arming, Settling, SchedulerAt, Waits, Extends, Clears, Releases, awaited_blocks}
-use Rattle.mv_plan.proofs.points.Points.{awaited_count, scheduler_asks, scheduler_goes, on_settled, arming_first, arming_from}
+use Rattle.mv_plan.proofs.points.Points.{scheduler_asks, scheduler_goes, on_settled}
 use Rattle.mv_plan.proofs.points.Points.{settling_from, found_at, ends_at, dismissing_from, stage_at, lowest_at}
 use Rattle.mv_plan.proofs.points.SchedulerSound.{IsWaitAt}
-use Rattle.mv_plan.proofs.lists.Tables.{with_at-same, with_at-other}
+use Rattle.mv_plan.proofs.lists.Tables.{with_at-same}
 use Rattle.mv_plan.proofs.points.Asks.{NoClear}
 use Rattle.std.proofs.lemmas.Grind.{common_steps}
 
@@ -41,18 +40,9 @@ Finds n initiators f p = Unit {0}
 
 -- ---- complete blocks stay
 
-complete_kept : (op : EcbOp) (v : EcbState) (code : ℕ) → (op ≡ ecb_op.Clear → ⊥) → v ≡ Complete code → (ecb_step op v).0 ≡ Complete code
-complete_kept ecb_op.Clear v code d e = absurd (d refl)
-complete_kept ecb_op.Test v code d e = e
-complete_kept y v code d e = rw e refl
-
 -- blocks that are complete in the first are so in the second, with the same codes
 abbrev pub Stay : Blocks → Blocks → Type 0
 Stay f g = (b code : ℕ) → (f b).state ≡ Complete code → (g b).state ≡ Complete code
-
-not_clear : (op : EcbOp) → NoClear (op_on.Ecb op) → op ≡ ecb_op.Clear → ⊥
-not_clear ecb_op.Clear w e = w
-not_clear y w e = cc e
 
 pub stay_moved : (s : System) (k : ℕ) (o : Object) (op : Op) → NoClear op → Stay s.ecb (moved s k o op).ecb
 stay_moved s k (Ecb m) (op_on.Ecb op) w b code e = grind (arith, common_steps)
@@ -124,14 +114,6 @@ module _ (n initiators : ℕ) (f : Blocks) where
       → Here (settling_from n a es found)
   settling_here a [] found w = grind (arith, common_steps, TooSoon, found_here)
   settling_here a (e ∷ es) found w = w
-
-  arming_here : (a : Awaited) (es : List ℕ) → Here (arming_from n initiators a es)
-  arming_here a [] = settling_here a (awaited_blocks n initiators a) [] tt
-  arming_here a (e ∷ es) = tt
-
-  first_here : (a : Awaited) (es : List ℕ) → Here (arming_first a es)
-  first_here a [] = tt
-  first_here a (e ∷ es) = tt
 
   dismissing_here : (i more : ℕ) → Here (dismissing_from n i more)
   dismissing_here i zero = tt

@@ -2,15 +2,13 @@
 -- generation with which its initiator goes on to pause; the scheduler releases only what it has cleared; and the element's
 -- generation is the point's. Used by all that looks at elements.
 use Rattle.mv_plan.proofs.Words.{◌≡◌, ℕ, zero, suc, ◌+◌, ◌==◌, if◌then◌else◌, List, [], ◌∷◌, ◌++◌, length, Option, Some, None, inl, inr}
-use Rattle.mv_plan.proofs.Words.{refl, sym, ap, ◌∙◌, arith, eq-eqb, ecb_step, EcbState, Complete, ElementState, free, reset, prereleased}
+use Rattle.mv_plan.proofs.Words.{refl, sym, ap, arith, eq-eqb, EcbState, Complete, ElementState, free, reset, prereleased}
 use Rattle.mv_plan.proofs.Words.{element_step, Reply, System, moved, reply_to, with_at, advanced, JobData, job_at, initiator, idle}
 use Rattle.mv_element.specs.Element.{paused, released}
-use Rattle.mv_ecb.specs.declared.operation.EcbOp.TheVariants as ecb_op
 use Rattle.mv_element.specs.declared.operation.ElementOp.TheVariants as element_op
 use Rattle.mv_element.specs.declared.element.Phase.TheVariants as phase
 use Rattle.mv_machine.specs.declared.entry.Reply.TheVariants as reply_of
 use Rattle.mv_plan.proofs.points.InitiatorSound.{IsInitiatorAt}
-use Rattle.mv_plan.proofs.points.PostsAndWaits.{on_posted_keeps}
 use Rattle.mv_plan.proofs.points.Points.{Point, At, Finished, TooSoon, Astray, SchedulerAt, Releases, Running, InitiatorAt, Opening}
 use Rattle.mv_plan.proofs.points.Points.{Offering, Pausing, Resuming, Closing, initiator_asks, initiator_goes, rounds_from, given_at}
 use Rattle.mv_plan.proofs.points.Points.{running, on_opened, on_paused, on_resumed, on_closed, InJob}
@@ -147,9 +145,6 @@ module _ (o h : Option ℕ) where
       → Row (stance (on_closed r)) o h (element_step (element_op.Close g) y).0
   closed_row g y r e w = rw (e, w.2, eq-eqb g g refl) (w.0, w.1, refl)
 
-post_code : (g : ℕ) (v : EcbState) → code_in v ≡ None → code_in (ecb_step (ecb_op.Post g) v).0 ≡ Some g
-post_code g v e = grind arith
-
 module _ (deck : List JobData) (s : System) (q : Point SchedulerAt) (i : ℕ) where
   abbrev n : ℕ
   n = length deck
@@ -192,9 +187,6 @@ module _ (deck : List JobData) (s : System) (q : Point SchedulerAt) (i : ℕ) wh
   pub record Apart (z : System) : Type 0 where
     pub elements : (m : ℕ) → (m ≡ initiator i → ⊥) → z.element m ≡ s.element m
     pub idles : (m : ℕ) → (m ≡ i → ⊥) → z.ecb (idle n m) ≡ s.ecb (idle n m)
-
-  apart_same : (z : System) → SameTalk n s z → Apart z
-  apart_same z t = record { elements = λ m d. t.elements m; idles = λ m d. t.idles m }
 
   apart_run : (x : InitiatorAt) (run : Running) → run_of (At x) ≡ Some run → IsInitiatorAt deck (At x) → Apart (then_s x)
   apart_run x run e sound = grind (arith, common_steps)

@@ -1,17 +1,13 @@
 -- All initiators' rows, with what the scheduler has found, are kept by each move.
-use Rattle.mv_plan.proofs.Words.{◌≡◌, ℕ, zero, suc, ◌+◌, ◌*◌, ◌<◌, if◌then◌else◌, List, [], ◌∷◌, length, Option, Some, None, ◌⊎◌, inl, inr}
-use Rattle.mv_plan.proofs.Words.{refl, sym, ap, ◌∙◌, subst, arith, cases_eq, eq-eqb, ne_eqb, ecb_step, EcbState, Zero, Complete, word_of}
-use Rattle.mv_plan.proofs.Words.{ElementReply, ElementState, free, reset, prereleased, element_step, Entry, Ecb, Reply, IsNext, next, Setup}
+use Rattle.mv_plan.proofs.Words.{◌≡◌, ℕ, zero, suc, ◌+◌, ◌<◌, List, [], ◌∷◌, length, Option, Some, None, ◌⊎◌, inl, inr}
+use Rattle.mv_plan.proofs.Words.{refl, sym, ap, ◌∙◌, subst, arith, cases_eq, eq-eqb, ecb_step, EcbState}
+use Rattle.mv_plan.proofs.Words.{ElementState, free, reset, prereleased, element_step, Entry, Reply, IsNext, next, Setup}
 use Rattle.mv_plan.proofs.Words.{System, opening, moved, reply_to, with_at, advanced, JobData, Kept, reader, scheduler, initiator, writer}
 use Rattle.mv_plan.proofs.Words.{idle, end_for_writer}
 use Rattle.mv_element.specs.Element.{paused, released}
-use Rattle.mv_plan.specs.SpoolSetup.{done}
 use Rattle.mv_ecb.specs.declared.operation.EcbOp.TheVariants as ecb_op
-use Rattle.mv_ecb.specs.declared.operation.EcbReply.TheVariants as ecb_reply
 use Rattle.mv_element.specs.declared.operation.ElementOp.TheVariants as element_op
 use Rattle.mv_element.specs.declared.operation.ElementReply.TheVariants as element_reply
-use Rattle.mv_machine.specs.declared.entry.Op.TheVariants as op_on
-use Rattle.mv_machine.specs.declared.entry.Reply.TheVariants as reply_of
 use Rattle.mv_plan.proofs.points.ReaderAndWriter.{IsReaderAt, IsWriterAt}
 use Rattle.mv_plan.proofs.standing.Row.{Stance, Offers, Parks, Loses, stance, code_in, offered, taken, handed, Row, RowAt, hold_for}
 use Rattle.mv_plan.proofs.standing.Row.{offer_of, element_of, row_at, own_row, Apart, apart}
@@ -21,7 +17,7 @@ use Rattle.mv_plan.proofs.points.Points.{Arming, Settling, wait_asks, ReaderAt, 
 use Rattle.mv_plan.proofs.points.Points.{Extends, Clears, Releases, awaited_blocks, scheduler_asks, scheduler_goes, dismissing_from}
 use Rattle.mv_plan.proofs.points.Points.{stage_at, WriterAt, Keeping, writer_asks, writer_goes, InitiatorAt, initiator_asks, initiator_goes}
 use Rattle.mv_plan.proofs.standing.Finds.{Blocks, Finds, stay_moved, finds_kept, finds_next, stage_here}
-use Rattle.mv_plan.proofs.points.SchedulerSound.{IsSchedulerAt, IsWaitAt, rest_below}
+use Rattle.mv_plan.proofs.points.SchedulerSound.{IsSchedulerAt, IsWaitAt}
 use Rattle.mv_plan.proofs.walks.Stands.{Stand}
 use Rattle.mv_plan.proofs.walks.NoneLost.{SameTalk, same_talk}
 use Rattle.mv_plan.proofs.walks.Walks.{Points, start_points, Move}
@@ -33,23 +29,6 @@ use Rattle.std.proofs.lemmas.Grind.{common_steps}
 
 -- ---- what the scheduler does to a row
 
--- it clears the block of an initiator that it chose
-row_cleared : (st : Stance) (g : ℕ) (x : ElementState) → Row st (Some g) None x → Row st None (Some g) x
-row_cleared (Offers m) g x (offered a b q) = let e : m ≡ g = cc a in taken refl (ap (λ z. Some z) (sym e)) q
-row_cleared (Offers m) g x (taken a b q) = absurd (cc a)
-row_cleared (Offers m) g x (handed code a b q) = absurd (cc a)
-row_cleared (Parks m) g x (offered a b q) = let e : m ≡ g = cc a in taken refl (ap (λ z. Some z) (sym e)) q
-row_cleared (Parks m) g x (taken a b q) = absurd (cc a)
-row_cleared (Parks m) g x (handed code a b q) = absurd (cc a)
-row_cleared Loses g x w = tt
-row_cleared y g x w = absurd (cc (w.0))
-
--- a release is accepted
-abbrev pub Accepts : ElementReply → Type 0
-Accepts element_reply.Early = Unit {0}
-Accepts element_reply.Woke = Unit {0}
-Accepts r = ⊥
-
 bare_early : (g m code : ℕ) (x : ElementState) → g ≡ m → x ≡ reset m
     → ((element_step (element_op.Release g code) x).0 ≡ prereleased m code)
     × ((element_step (element_op.Release g code) x).1 ≡ element_reply.Early)
@@ -59,12 +38,6 @@ bare_woke : (g m code : ℕ) (x : ElementState) → g ≡ m → x ≡ paused m
     → ((element_step (element_op.Release g code) x).0 ≡ released m code)
     × ((element_step (element_op.Release g code) x).1 ≡ element_reply.Woke)
 bare_woke g m code x e q = rw (q, e, eq-eqb m m refl) (refl, refl)
-
-accepts_early : (r : ElementReply) → r ≡ element_reply.Early → Accepts r
-accepts_early r e = rw e tt
-
-accepts_woke : (r : ElementReply) → r ≡ element_reply.Woke → Accepts r
-accepts_woke r e = rw e tt
 
 -- the release of what it holds: its code is in the element
 pub row_released : (st : Stance) (g code : ℕ) (o : Option ℕ) (x : ElementState) → Row st o (Some g) x
@@ -77,17 +50,6 @@ row_released (Parks m) g code o x (taken a b q) = let e : g ≡ m = cc b in hand
 row_released (Parks m) g code o x (handed c a b q) = absurd (cc b)
 row_released Loses g code o x w = tt
 row_released y g code o x w = absurd (cc (w.1))
-
-pub row_accepts : (st : Stance) (g code : ℕ) (o : Option ℕ) (x : ElementState) → (st ≡ Loses → ⊥) → Row st o (Some g) x
-    → Accepts (element_step (element_op.Release g code) x).1
-row_accepts (Offers m) g code o x d (offered a b q) = absurd (cc b)
-row_accepts (Offers m) g code o x d (taken a b q) = let e : g ≡ m = cc b in accepts_early _ (bare_early g m code x e q).1
-row_accepts (Offers m) g code o x d (handed c a b q) = absurd (cc b)
-row_accepts (Parks m) g code o x d (offered a b q) = absurd (cc b)
-row_accepts (Parks m) g code o x d (taken a b q) = let e : g ≡ m = cc b in accepts_woke _ (bare_woke g m code x e q).1
-row_accepts (Parks m) g code o x d (handed c a b q) = absurd (cc b)
-row_accepts Loses g code o x d w = absurd (d refl)
-row_accepts y g code o x d w = absurd (cc (w.1))
 
 -- ---- points at which it holds nothing
 
@@ -143,9 +105,6 @@ wait_elements : (s : System) (k m : ℕ) (w : WaitAt) → (moved s k (wait_asks 
 wait_elements s k m (Arming e todo) = refl
 wait_elements s k m (Settling e todo found) = refl
 
-done_low : (n j : ℕ) → j < n → done n j < 4 * n
-done_low n j lt = omega arith
-
 -- ---- one row by the scheduler's event
 
 module _ (deck : List JobData) (initiators : ℕ) (s : System) (m : ℕ) (st : Stance) where
@@ -160,11 +119,6 @@ module _ (deck : List JobData) (initiators : ℕ) (s : System) (m : ℕ) (st : S
 
   abbrev Then : SchedulerAt → Point SchedulerAt → Type 0
   Then x q = Row st (offer_of n (then_s x) m) (hold_for m q) (element_of (then_s x) m)
-
-  cleared_row : (i g code : ℕ) (after : Stage) → (s.ecb (idle n i)).state ≡ Complete g → (i ≡ m) ⊎ (i ≡ m → ⊥)
-      → Now (Clears i g code after) → Then (Clears i g code after) (At (Releases i g code after))
-  cleared_row i g code after e (inl same) w = grind (arith, common_steps)
-  cleared_row i g code after e (inr other) w = grind (arith, common_steps)
 
   released_row : (i g code : ℕ) (after : Stage) (q : Point SchedulerAt) → NoHold q → (i ≡ m) ⊎ (i ≡ m → ⊥)
       → Now (Releases i g code after) → Then (Releases i g code after) q

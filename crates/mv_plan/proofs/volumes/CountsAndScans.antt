@@ -1,7 +1,6 @@
 -- On the entries of a walk: the read and the write of a COUNT, and the two reads of a SCAN.
-use Rattle.mv_plan.proofs.Words.{◌≡◌, ℕ, ◌+◌, ◌<◌, List, [], ◌∷◌, ◌++◌, length, Some, refl, sym, ap, ◌∙◌, subst, arith, Entry, Volume}
-use Rattle.mv_plan.proofs.Words.{IsNext, next, after_from, of, «at», Setup, System, reply_to, JobData, Step, reader, scheduler, initiator}
-use Rattle.mv_plan.proofs.Words.{writer}
+use Rattle.mv_plan.proofs.Words.{◌≡◌, ℕ, ◌+◌, ◌<◌, List, [], ◌∷◌, ◌++◌, length, refl, sym, ap, ◌∙◌, subst, arith, Entry, Volume}
+use Rattle.mv_plan.proofs.Words.{IsNext, next, after_from, of, «at», Setup, System, JobData, Step, initiator}
 use Rattle.mv_machine.specs.declared.entry.Op.TheVariants as op_on
 use Rattle.mv_machine.specs.declared.entry.Reply.TheVariants as reply_of
 use Rattle.mv_machine.specs.declared.entry.VolumeOp.TheVariants as volume_op

@@ -1,6 +1,6 @@
 -- What the jobs that are run have still to add to a volume, and how an initiator's event pays it.
-use Rattle.mv_plan.proofs.Words.{◌≡◌, ℕ, zero, suc, ◌+◌, Bool, true, false, if◌then◌else◌, List, [], ◌∷◌, length, inl, inr, refl, sym, ap}
-use Rattle.mv_plan.proofs.Words.{◌∙◌, subst, arith, cases_eq, eq-eqb, ne_eqb, Reply, Setup, System, with_at, advanced, gift_code, JobData}
+use Rattle.mv_plan.proofs.Words.{◌≡◌, ℕ, zero, suc, ◌+◌, Bool, true, false, List, [], ◌∷◌, length, refl, sym, ap}
+use Rattle.mv_plan.proofs.Words.{◌∙◌, arith, Reply, Setup, System, with_at, advanced, gift_code, JobData}
 use Rattle.mv_plan.proofs.Words.{Step, Print, Use, Count, Scan, job_at, before_end, added, IsNext, initiator}
 use Rattle.mv_deck.specs.declared.deck.Step.TheVariants.{Free}
 use Rattle.mv_element.specs.declared.operation.ElementReply.TheVariants as element_reply
@@ -10,14 +10,13 @@ use Rattle.mv_machine.specs.declared.entry.VolumeReply.TheVariants as volume_rep
 use Rattle.mv_plan.proofs.volumes.Added.{added_by}
 use Rattle.mv_plan.proofs.volumes.GivenCodes.{with_code, adds_if, adds_named, adds, adds_all, adds_high}
 use Rattle.mv_plan.proofs.points.Points.{Point, At, Running, Hand, empty_hand, InitiatorAt, Opening, Offering, Pausing, Resuming}
-use Rattle.mv_plan.proofs.points.Points.{rounds_after, Obtaining, Confirming, Freeing, Reading, Writing, Scanning, Rescanning, Purging}
+use Rattle.mv_plan.proofs.points.Points.{Obtaining, Confirming, Freeing, Reading, Writing, Scanning, Rescanning, Purging}
 use Rattle.mv_plan.proofs.points.Points.{EndingJob, EndingForScheduler, EndingForWriter, Closing, initiator_goes, rounds_from, steps_at}
 use Rattle.mv_plan.proofs.points.Points.{running, job_start, given_at, initiator_asks, InJob}
-use Rattle.mv_plan.proofs.volumes.Values.{ValueAt, read_keeps, write_same, write_other, volumes_asked}
+use Rattle.mv_plan.proofs.volumes.Values.{ValueAt, read_keeps, volumes_asked}
 use Rattle.mv_plan.proofs.points.Views.{IsNotLost}
 use Rattle.mv_machine.proofs.EntryRuns.{entry_of}
-use Rattle.mv_plan.proofs.points.Lands.{freeing_lands, given_lands, ended_lands, counting_lands}
-use Rattle.mv_plan.proofs.points.PostsAndWaits.{on_posted_keeps}
+use Rattle.mv_plan.proofs.points.Lands.{given_lands}
 use Rattle.std.proofs.lemmas.Grind.{common_steps}
 
 -- ---- what is still to be added

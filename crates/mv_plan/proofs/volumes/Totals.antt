@@ -1,26 +1,17 @@
 -- The sum of what the named jobs add is the deck's total, where each job was named once and as its end says.
-use Rattle.mv_plan.proofs.Words.{◌≡◌, ℕ, suc, ◌+◌, ◌<◌, ◌≤◌, ◌==◌, ◌||◌, Bool, true, false, if◌then◌else◌, List, [], ◌∷◌, length}
-use Rattle.mv_plan.proofs.Words.{slice_index, Option, Some, None, refl, sym, ap, ◌∙◌, arith, eq-eqb, ne_eqb, eqb-true, or_left, or_right}
-use Rattle.mv_plan.proofs.Words.{false≢true, Entry, gift_code, naming, given_codes, JobData, sum_by-cons, Step, job_at, end_of, not_run}
+use Rattle.mv_plan.proofs.Words.{◌≡◌, ℕ, suc, ◌+◌, ◌<◌, ◌≤◌, ◌==◌, Bool, true, false, if◌then◌else◌, List, [], ◌∷◌, length}
+use Rattle.mv_plan.proofs.Words.{slice_index, refl, sym, ap, ◌∙◌, arith, eq-eqb, ne_eqb}
+use Rattle.mv_plan.proofs.Words.{Entry, given_codes, JobData, sum_by-cons, Step, job_at, end_of, not_run}
 use Rattle.mv_plan.proofs.Words.{before_end, ends, total, code_of, one_end_per_job}
 use Rattle.std.proofs.Common.{sum_by}
 use Rattle.mv_report.specs.Outcome.{steps_with, all_steps_with}
 use Rattle.mv_plan.proofs.volumes.Added.{added_by, added_by_is}
 use Rattle.mv_report.specs.Outcome as outcome
-use Rattle.mv_plan.proofs.volumes.GivenCodes.{with_code, codes_of, count_of, full, adds_all, adds_by_jobs}
+use Rattle.mv_plan.proofs.volumes.GivenCodes.{codes_of, count_of, full, adds_all, adds_by_jobs}
 use Rattle.mv_plan.proofs.volumes.Sums.{sum_to, sum_ext, sum_front, times}
 use Rattle.std.proofs.lemmas.Grind.{common_steps}
 
 -- ---- all codes, and those that name one job
-
-with_named : (j : ℕ) (b : Bool) (slot : Option ℕ) (cs ds : List ℕ) → count_of (code_of j b) cs ≡ count_of (code_of j b) ds
-    → count_of (code_of j b) (with_code slot cs) ≡ count_of (code_of j b) (with_code (naming j slot) ds)
-with_named j b None cs ds e = e
-with_named j b (Some code) cs ds e = grind (arith, common_steps)
-
-given-step : (j : ℕ) (e : Entry) (es : List Entry)
-    → given_codes j (e ∷ es) ≡ with_code (naming j (gift_code e.reply)) (given_codes j es)
-given-step j e es = grind (arith, common_steps)
 
 pub count_named : (j : ℕ) (b : Bool) (es : List Entry)
     → count_of (code_of j b) (codes_of es) ≡ count_of (code_of j b) (given_codes j es)

@@ -50,9 +50,6 @@ read_keeps f v w = elim (cases_eq v w) [
 pub write_other : (f : Numbers) (v w number : ℕ) → (v ≡ w → ⊥) → (with_at f v (advanced (f v) number) w).state ≡ (f w).state
 write_other f v w number n = ap (λ z. z.state) (with_at-other f v w (advanced (f v) number) n)
 
-pub write_same : (f : Numbers) (v number : ℕ) → (with_at f v (advanced (f v) number) v).state ≡ number
-write_same f v number = ap (λ z. z.state) (with_at-same f v (advanced (f v) number))
-
 -- the reply to a read is the number
 pub value_is : (c : Setup) (s : System) (k v p number : ℕ)
     → IsNext c s (entry_of k (Volume v) p (op_on.Volume volume_op.Read) (reply_of.Volume (volume_reply.Value number)))

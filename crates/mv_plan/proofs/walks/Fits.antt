@@ -1,23 +1,19 @@
 -- What holds of the machine after every legal list: a block is extended with an exit of its own; and where no request of the
 -- Posted form is allowed none stands, so that no wake posts a block.
-use Rattle.mv_plan.proofs.Words.{◌≡◌, ℕ, zero, suc, nat_lt, Bool, true, false, not, ◌||◌, cond, if◌then◌else◌, List, [], ◌∷◌, ◌++◌, length}
-use Rattle.mv_plan.proofs.Words.{map, replicate, None, ◌⊎◌, inl, inr, refl, sym, ap, ◌∙◌, subst, arith, AllByRecursion, cases_eq, eq-eqb}
-use Rattle.mv_plan.proofs.Words.{ne_eqb, false≢true, and_parts, EcbOp, ecb_step, EcbState, Zero, Extended, LatchOp, LatchReply, Request}
-use Rattle.mv_plan.proofs.Words.{granted, waiting, newly_granted, obtain_step, release_step, without, blocker, list_of, latch_step}
+use Rattle.mv_plan.proofs.Words.{◌≡◌, ℕ, zero, suc, Bool, true, false, if◌then◌else◌, List, [], ◌∷◌}
+use Rattle.mv_plan.proofs.Words.{map, replicate, None, ◌⊎◌, inl, inr, sym, ap, ◌∙◌, subst, arith, AllByRecursion, cases_eq, eq-eqb}
+use Rattle.mv_plan.proofs.Words.{ne_eqb, false≢true, and_parts, EcbOp, ecb_step, EcbState, Zero, Extended, LatchOp, Request}
+use Rattle.mv_plan.proofs.Words.{granted, release_step, list_of, latch_step}
 use Rattle.mv_plan.proofs.Words.{shared_request, Entry, Object, Ecb, Element, Volume, Latches, Op, IsNext, next, Setup, is_exit_of, System}
 use Rattle.mv_plan.proofs.Words.{opening, admitted, ecb_admitted, moved, with_at, advanced, all_append, all_filter}
 use Rattle.std.specs.List.{flat_map}
-use Rattle.std.proofs.lemmas.Bool.{le-ltb}
-use Rattle.mv_latch.specs.Latch.{shared_front, waiting_of, granted_by_purge, purged}
+use Rattle.mv_latch.specs.Latch.{shared_front, purged}
 use Rattle.mv_latch.specs.LatchSet.{latch_admitted, wakes}
-use Rattle.mv_latch.specs.Request.{posted_ecb, is_posted, wake_of}
+use Rattle.mv_latch.specs.Request.{posted_ecb, wake_of}
 use Rattle.mv_machine.specs.System.{latches_of}
 use Rattle.mv_ecb.specs.declared.operation.EcbOp.TheVariants as ecb_op
 use Rattle.mv_ecb.specs.declared.operation.EcbReply.TheVariants as ecb_reply
 use Rattle.mv_latch.specs.declared.operation.LatchOp.TheVariants as latch_op
-use Rattle.mv_latch.specs.declared.operation.LatchReply.TheVariants as latch_reply
-use Rattle.mv_latch.specs.declared.request.LatchForm.{LatchForm}
-use Rattle.mv_latch.specs.declared.request.LatchForm.TheVariants as form_of
 use Rattle.mv_machine.specs.declared.entry.Op.TheVariants as op_on
 use Rattle.mv_calls.proofs.Hearing.{wakes_at}
 use Rattle.mv_plan.proofs.points.Initiator.{PostNothing}
@@ -65,18 +61,6 @@ purged_unposted requestor (qs ∷ lists) a = (all_filter IsUnposted _ qs a.0, pu
 released_unposted : (caller id : ℕ) (conditional : Bool) (qs : List Request) → AreUnposted qs
     → AreUnposted (release_step caller id conditional qs).0
 released_unposted caller id conditional qs a = grind (arith, common_steps, all_filter)
-
-obtained_unposted : (r : Request) (qs : List Request) → IsUnposted r → AreUnposted qs → AreUnposted (obtain_step r qs).0
-obtained_unposted r qs p a = grind (arith, common_steps)
-
-none_below : (n : ℕ) → nat_lt n 0 ≡ false
-none_below n = le-ltb n 0 (omega arith)
-
-form_unposted : (form : LatchForm) (count posted : ℕ) → posted ≡ 0 → (not (is_posted form) || nat_lt count posted) ≡ true
-    → posted_ecb form ≡ None
-form_unposted form_of.Conditional count posted e t = refl
-form_unposted form_of.Waiting count posted e t = refl
-form_unposted (form_of.Posted ecb) count posted e t = absurd (false≢true (sym (ap (λ p. nat_lt count p) e ∙ none_below count) ∙ t))
 
 step_unposted : (c : Setup) (k place : ℕ) (op : LatchOp) (lists : List (List Request)) → c.posted_quota ≡ 0
     → latch_admitted k op (latches_of c lists) ≡ true → AllUnposted lists → AllUnposted (latch_step k place op lists).0

@@ -1,9 +1,9 @@
 -- Moves with their entry written out, so that object, operation and reply compute by cases of the point: of_move for any
 -- relation, by_moves for invariants; and the cells of blocks and elements after a move. Each invariant of the later layers is
 -- proved by one of the two.
-use Rattle.mv_plan.proofs.Words.{refl, ◌≡◌, ℕ, ◌<◌, if◌then◌else◌, List, [], ◌∷◌, ◌++◌, length, ◌⊎◌, inl, inr, sym, ap, ◌∙◌, subst}
-use Rattle.mv_plan.proofs.Words.{cases_eq, eq-eqb, ne_eqb, EcbOp, ecb_step, EcbState, ElementState, ElementOp, element_step, Entry, Object}
-use Rattle.mv_plan.proofs.Words.{Ecb, Element, Op, Reply, IsNext, next, Setup, System, Cell, moved, with_at, advanced, JobData, reader}
+use Rattle.mv_plan.proofs.Words.{refl, ◌≡◌, ℕ, ◌<◌, List, [], ◌∷◌, ◌++◌, length, sym, subst}
+use Rattle.mv_plan.proofs.Words.{EcbOp, ecb_step, EcbState, ElementState, ElementOp, element_step, Entry, Object}
+use Rattle.mv_plan.proofs.Words.{Ecb, Element, Op, Reply, IsNext, next, Setup, System, moved, with_at, JobData, reader}
 use Rattle.mv_plan.proofs.Words.{scheduler, initiator, writer}
 use Rattle.mv_machine.specs.declared.entry.Op.TheVariants as op_on
 use Rattle.mv_machine.specs.declared.entry.Reply.TheVariants as reply_of
@@ -127,20 +127,3 @@ block_reply c s k m op p r n = cc n.reply
 pub element_reply : (c : Setup) (s : System) (k m : ℕ) (op : ElementOp) (p : ℕ) (r : Reply)
     → IsNext c s (entry_of k p (Element m, op_on.Element op) r) → r ≡ reply_of.Element (element_step op (element s m)).1
 element_reply c s k m op p r n = cc n.reply
-
--- a table of cells in which one was advanced
-module _ {A : Type 0} (f : ℕ → Cell A) (m : ℕ) (a : A) where
-  pub changed_there : (b : ℕ) → b ≡ m → (with_at f m (advanced (f m) a) b).state ≡ a
-  changed_there b e = ap (λ z. (if z then advanced (f m) a else f b).state) (eq-eqb b m e)
-
-  pub same_elsewhere : (b : ℕ) → (b ≡ m → ⊥) → (with_at f m (advanced (f m) a) b).state ≡ (f b).state
-  same_elsewhere b d = ap (λ z. (if z then advanced (f m) a else f b).state) (ne_eqb b m d)
-
--- so each cell after a step of one: it is that one, or as before
-pub advanced_at : {A : Type 0} (f : ℕ → Cell A) (m : ℕ) (step : A → A) (b : ℕ)
-    → ((b ≡ m) × ((with_at f m (advanced (f m) (step (f m).state)) b).state ≡ step (f b).state))
-    ⊎ ((with_at f m (advanced (f m) (step (f m).state)) b).state ≡ (f b).state)
-advanced_at f m step b = elim (cases_eq b m) [
-  | inl same ↦ inl (same, changed_there f m (step (f m).state) b same ∙ ap (λ z. step (f z).state) (sym same))
-  | inr other ↦ inr (same_elsewhere f m (step (f m).state) b other)
-]

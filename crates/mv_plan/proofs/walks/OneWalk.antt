@@ -1,8 +1,8 @@
 -- From one state and one list of entries there is one walk; so what is known of a walk's end is known along it. Used by the
 -- result on counts.
 use Rattle.mv_plan.proofs.Words.{◌≡◌, ℕ, ◌<◌, List, [], ◌∷◌, ◌++◌, length, ap, ◌∙◌, sym, subst, arith, Entry, next, after_from, Setup}
-use Rattle.mv_plan.proofs.Words.{System, with_at, JobData, reader, scheduler, initiator, writer}
-use Rattle.mv_plan.proofs.points.Points.{Point, At, reader_goes, scheduler_goes, writer_goes, initiator_goes}
+use Rattle.mv_plan.proofs.Words.{System, JobData, reader, scheduler, initiator, writer}
+use Rattle.mv_plan.proofs.points.Points.{Point, At, reader_goes, scheduler_goes, writer_goes}
 use Rattle.mv_plan.proofs.walks.Walks.{Points, Move, reads, schedules, initiates, writes, WalkTo, walk-parts}
 use Rattle.std.proofs.lemmas.Grind.{common_steps}
 
@@ -26,9 +26,6 @@ scheduler_writer k n e f = absurd (omega arith)
 
 initiator_writer : (k i n : ℕ) → i < n → k ≡ initiator i → k ≡ writer n → ⊥
 initiator_writer k i n lt e f = absurd (omega arith)
-
-one_initiator : (k i m : ℕ) → k ≡ initiator i → k ≡ initiator m → i ≡ m
-one_initiator k i m e f = omega arith
 
 pub move_same : (deck : List JobData) (initiators : ℕ) (t u v : Points) (e : Entry) → Move deck initiators t e u
     → Move deck initiators t e v → u ≡ v
