@@ -113,18 +113,13 @@ module _ (n initiators : ℕ) where
 
   -- where it begins a stage
   pub stage_starts : (after : Stage) → scheduler_rest (stage_at n initiators after) ≤ stage_rest after
-  stage_starts (Dispatching j []) =
-      let le : scheduler_rest (dismissing_from n 0 initiators) ≤ 4 * initiators = dismissing_rest 0 initiators in omega arith
-  stage_starts (Dispatching j (job ∷ jobs)) = omega arith
-  stage_starts (Dismissing i more) = dismissing_rest i more
+  stage_starts x = grind (arith, common_steps)
 
   -- where a job was entered
   ends_rest : (j : ℕ) (name : List ℕ) (after : List After) (steps : List Step) (jobs : List JobData)
       → scheduler_rest (ends_at n j (record { name = name; after = after; steps = steps }) jobs)
       ≤ 2 * length after + (3 + 2 * initiators + (jobs_rest jobs + 4 * initiators))
-  ends_rest j name [] steps jobs = omega arith
-  ends_rest j name (part ∷ parts) steps jobs =
-      let e : length (ends_of n parts) ≡ length parts = length-map parts (λ part. end_for_scheduler n part.job) in omega arith
+  ends_rest j name x steps jobs = grind (arith, common_steps)
 
   -- where a wait has found enough
   found_rest : (a : Awaited) (found : List (Option ℕ)) → scheduler_rest (found_at n a found) ≤ behind_wait a

@@ -7,6 +7,7 @@ use Rattle.mv_machine.specs.declared.entry.Op.TheVariants as op_on
 use Rattle.mv_plan.proofs.points.Points.{ReaderAt, Entering, reader_asks, Awaited, ForEntry, ForEnds, ForIdle, ToDismiss, awaited_blocks}
 use Rattle.mv_plan.proofs.points.Points.{InitiatorAt, Offering, EndingJob, EndingForScheduler, EndingForWriter, initiator_asks, InJob}
 use Rattle.mv_plan.proofs.points.SchedulerSound.{rest_below, IsAwaited}
+use Rattle.std.proofs.lemmas.Grind.{common_steps}
 
 abbrev pub IsIn : ℕ → List ℕ → Type 0
 IsIn b [] = ⊥
@@ -44,8 +45,4 @@ module _ (deck : List JobData) (initiators : ℕ) where
   -- an initiator's only event on a block is a post
   pub initiator_ecb : (i : ℕ) (x : InitiatorAt) (op : EcbOp) → (initiator_asks (length deck) i x).1 ≡ op_on.Ecb op
       → (d : ℕ) × (op ≡ ecb_op.Post d)
-  initiator_ecb i (Offering more before g) op e = (g, sym (cc e))
-  initiator_ecb i (InJob run (EndingJob code counts)) op e = (code, sym (cc e))
-  initiator_ecb i (InJob run (EndingForScheduler code counts)) op e = (code, sym (cc e))
-  initiator_ecb i (InJob run (EndingForWriter code counts)) op e = (code, sym (cc e))
-  initiator_ecb i x op e = absurd (cc e)
+  initiator_ecb i x op e = grind (arith, common_steps)

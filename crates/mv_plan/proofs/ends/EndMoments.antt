@@ -49,11 +49,7 @@ HasTraces deck s t past = Traces deck s past
 -- where the scheduler is not lost, a done block whose job is handed out is extended, or complete
 pub done_extended : (n : ℕ) (s : System) (p : Point SchedulerAt) (j : ℕ) → IsNotLost p → DoneBlocks n s p → j < n → j < next_job n p
     → (block s (done n j) ≡ Extended (j + 1)) ⊎ IsComplete s (done n j)
-done_extended n s (At y) j going h lt less = let up : next_job n (At y) ≤ extended_at n y = next_extended n y in
-    (h j lt).0 (omega arith)
-done_extended n s (Finished a) j going h lt less = (h j lt).0 lt
-done_extended n s TooSoon j going h lt less = absurd going
-done_extended n s Astray j going h lt less = absurd going
+done_extended n s x j going h lt less = grind (arith, common_steps)
 
 module _ (deck : List JobData) (initiators : ℕ) (sound : IsPlanned deck initiators) where
   -- an initiator's post finds its block not complete

@@ -105,9 +105,7 @@ scheduler_no_post n x d q = cc q
 -- the scheduler clears idle blocks alone
 pub scheduler_clears : (n : ℕ) (x : SchedulerAt) (b : ℕ) → (scheduler_asks n x).0 ≡ Ecb b
     → (scheduler_asks n x).1 ≡ op_on.Ecb ecb_op.Clear → (i : ℕ) × (b ≡ idle n i)
-scheduler_clears n (Waits a (Arming e todo)) b o q = absurd (cc q)
-scheduler_clears n (Clears i g code after) b o q = (i, sym (cc o))
-scheduler_clears n x b o q = absurd (cc q)
+scheduler_clears n x b o q = grind (arith, common_steps)
 
 pub writer_no_post : (x : WriterAt) (d : ℕ) → (writer_asks x).1 ≡ op_on.Ecb (ecb_op.Post d) → ⊥
 writer_no_post (Keeping k more kept (Arming e todo)) d q = cc q
@@ -131,10 +129,7 @@ posted_is s k o op b d e f = let c : (code : ℕ) × ((ecb_step (ecb_op.Post d) 
 
 -- the job that is handed out next is not above those whose a job's done block is extended
 pub next_extended : (n : ℕ) (y : SchedulerAt) → next_job n (At y) ≤ extended_at n y
-next_extended n (Waits (ForEntry j job jobs) w) = omega arith
-next_extended n (Clears i g code (Dispatching j jobs)) = omega arith
-next_extended n (Releases i g code (Dispatching j jobs)) = omega arith
-next_extended n x = omega arith
+next_extended n x = grind (arith, common_steps)
 
 done_map : (n : ℕ) (s s' : System) (p : Point SchedulerAt) → ((m : ℕ) → next_job n p ≤ m → IsSplit n s m → IsSplit n s' m)
     → DoneBlocks n s p → DoneBlocks n s' p
@@ -477,9 +472,7 @@ module _ (deck : List JobData) (initiators : ℕ) where
   released_next : (x : SchedulerAt) (g j : ℕ) (skipped : Bool) → length deck ≤ not_to_run → IsSchedulerAt deck initiators (At x)
       → j < length deck → (scheduler_asks (length deck) x).1 ≡ op_on.Element (element_op.Release g (code_of j skipped))
       → next_job (length deck) (At x) ≤ j
-  released_next (Waits a (Arming e todo)) g j skipped few s below op = absurd (cc op)
-  released_next (Releases i h code after) g j skipped few s below op = stage_released i code j skipped after few s.1 s.2 below (cc op)
-  released_next x g j skipped few s below op = absurd (cc op)
+  released_next x g j skipped few s below op = grind (arith, common_steps)
 
   dismissing_done : (v : System) (i more : ℕ) → IsSplit (length deck) v (length deck)
       → DoneBlocks (length deck) v (dismissing_from (length deck) i more)
@@ -489,22 +482,14 @@ module _ (deck : List JobData) (initiators : ℕ) where
   stage_done : (v : System) (after : Stage) → IsStage deck initiators after
       → IsSplit (length deck) v (stage_extended (length deck) after)
       → DoneBlocks (length deck) v (stage_at (length deck) initiators after)
-  stage_done v (Dispatching j []) s sp = grind (arith, common_steps)
-  stage_done v (Dispatching j (job ∷ jobs)) s sp = sp
-  stage_done v (Dismissing i more) s sp = dismissing_done v i more sp
+  stage_done v x s sp = grind (arith, common_steps)
 
   -- where no done block was touched, the next point has extended as many
   nexts_done : (v : System) (x : SchedulerAt) → IsSchedulerAt deck initiators (At x)
       → ((j : ℕ) (job : JobData) (jobs : List JobData) (skipped : Bool) → x ≡ Extends j job jobs skipped → ⊥)
       → IsSplit (length deck) v (extended_at (length deck) x)
       → AllNext (length deck) initiators (λ p. DoneBlocks (length deck) v p) x
-  nexts_done v (Waits (ForEntry j job jobs) w) s ne sp = (λ z. sp, λ z. sp, λ b. sp)
-  nexts_done v (Waits (ForEnds j job jobs) w) s ne sp = (λ z. sp, λ b. sp)
-  nexts_done v (Waits (ForIdle j job jobs skipped) w) s ne sp = (λ z. sp, λ i g. sp)
-  nexts_done v (Waits (ToDismiss i more) w) s ne sp = (λ z. sp, λ g. sp)
-  nexts_done v (Extends j job jobs skipped) s ne sp = absurd (ne j job jobs skipped refl)
-  nexts_done v (Clears i g code after) s ne sp = sp
-  nexts_done v (Releases i g code after) s ne sp = stage_done v after s.1 sp
+  nexts_done v x s ne sp = grind (arith, common_steps)
 
   module _ (few : length deck ≤ not_to_run) (s : System) (t : Points) (past : List Entry) (x : SchedulerAt) (r : Reply)
       (at : t.scheduler ≡ At x) (q : HasPlaces deck initiators s t past) (h : Posted deck initiators s t) where

@@ -78,9 +78,7 @@ KeepsEnds deck (Finished kept) = kept ≡ ends deck
 KeepsEnds deck p = Unit {0}
 
 none_left : (kept rest all : List ℕ) → kept ++ rest ≡ all → length kept ≡ length all → kept ≡ all
-none_left kept [] all e l = sym (append-nil kept) ∙ e
-none_left kept (r ∷ rest) all e l = let a : length (kept ++ r ∷ rest) ≡ length kept + length (r ∷ rest) =
-    length-append kept (r ∷ rest) in let b : length (kept ++ r ∷ rest) ≡ length all = ap (λ x. length x) e in absurd (omega arith)
+none_left kept x all e l = grind (arith, common_steps)
 
 writing_keeps : (deck : List JobData) (j more : ℕ) (kept rest : List ℕ) → kept ++ rest ≡ ends deck → length kept ≡ j
     → j + more ≡ length deck → KeepsEnds deck (writing_from (length deck) j more kept)
@@ -170,9 +168,7 @@ pub starts_held : (Q : Running → Type 0) (deck : List JobData) (c : Setup) (s 
     → IsNext c s (entry_of (initiator i) p (initiator_asks (length deck) i x) r)
     → ((code : ℕ) (named : Named) (before : List ℕ) (more g : ℕ) → code_held (element s (initiator i)) ≡ Some code
     → job_named (length deck) code ≡ Some named → Q (running named before more g)) → Starts Q deck x r
-starts_held Q deck c s i (Pausing more before g) p (reply_of.Element (element_reply.Given code now)) n h = grind (arith, common_steps)
-starts_held Q deck c s i (Resuming more before g) p (reply_of.Element (element_reply.Given code now)) n h = grind (arith, common_steps)
-starts_held Q deck c s i x p r n h = tt
+starts_held x deck c s i y p r n h = grind (arith, common_steps)
 
 module _ (deck : List JobData) (initiators : ℕ) (sound : IsPlanned deck initiators) where
   initiator_posts : (i : ℕ) (x : InitiatorAt) → IsInitiatorAt deck (At x) → OfRun (IsMarkedRun deck) (At x)
@@ -195,9 +191,7 @@ module _ (deck : List JobData) (initiators : ℕ) (sound : IsPlanned deck initia
 
   pub initiator_releases : (i : ℕ) (x : InitiatorAt)
       → ReleasesCodes deck (initiator_asks (length deck) i x).0 (initiator_asks (length deck) i x).1
-  initiator_releases i Opening m g d p q = absurd (cc q)
-  initiator_releases i (InJob run (Obtaining hand latch mode steps)) m g d p q = absurd (cc q)
-  initiator_releases i x m g d p q = absurd (cc q)
+  initiator_releases i x m g d p q = grind (arith, common_steps)
 
   code_for : (code : ℕ) (after : _) → IsCodeFor deck code after → IsCode deck code
   code_for code (Dispatching j jobs) f = inr (f.0, f.1, f.3)
@@ -205,9 +199,7 @@ module _ (deck : List JobData) (initiators : ℕ) (sound : IsPlanned deck initia
 
   pub scheduler_releases : (x : SchedulerAt) → IsMarked deck (At x)
       → ReleasesCodes deck (scheduler_asks (length deck) x).0 (scheduler_asks (length deck) x).1
-  scheduler_releases (Waits a (Arming e todo)) f m g d p q = absurd (cc p)
-  scheduler_releases (Releases i h code after) f m g d p q = subst (IsCode deck) (cc q) (code_for code after f)
-  scheduler_releases x f m g d p q = absurd (cc p)
+  scheduler_releases x f m g d p q = grind (arith, common_steps)
 
   -- the job that a code names, and its mark
   pub given_mark : (code : ℕ) (named : Named) → IsCode deck code → job_named (length deck) code ≡ Some named

@@ -129,9 +129,7 @@ module _ (deck : List JobData) (initiators : ℕ) where
   dismissing_marked i (suc more) = tt
 
   stage_marked : (after : Stage) → IsMarked deck (stage_at (length deck) initiators after)
-  stage_marked (Dispatching j []) = dismissing_marked 0 initiators
-  stage_marked (Dispatching j (job ∷ jobs)) = tt
-  stage_marked (Dismissing i more) = dismissing_marked i more
+  stage_marked x = grind (arith, common_steps)
 
   found_marked : (a : Awaited) (found : List (Option ℕ)) → IsAwaited deck initiators a → MarkedWait deck a found
       → awaited_count a ≤ complete_count found → IsMarked deck (found_at (length deck) a found)

@@ -53,11 +53,7 @@ PostCase b o op r = ((d : ℕ) × (o ≡ Ecb b) × (op ≡ op_on.Ecb (ecb_op.Pos
     ⊎ ((post_in b o op r ≡ None) × ((d : ℕ) → o ≡ Ecb b → op ≡ op_on.Ecb (ecb_op.Post d) → ⊥))
 
 post_case : (b : ℕ) (o : Object) (op : Op) (r : Reply) → PostCase b o op r
-post_case b (Ecb m) (op_on.Ecb (ecb_op.Post d)) r = grind (arith, common_steps)
-post_case b (Ecb m) (op_on.Ecb ecb_op.Arm) r = inr (refl, λ d o op. cc op)
-post_case b (Ecb m) (op_on.Ecb y) r = inr (refl, λ d o op. cc op)
-post_case b (Ecb m) y r = inr (refl, λ d o e. cc e)
-post_case b y op r = inr (refl, λ d o e. cc o)
+post_case b y op r = grind (arith, common_steps)
 
 posts_none : (b k p : ℕ) (o : Object) (op : Op) (r : Reply) (past : List Entry) → post_in b o op r ≡ None
     → posts b (past ++ entry_of k p (o, op) r ∷ []) ≡ posts b past
@@ -85,12 +81,7 @@ posted_code d y f = refl
 
 kept_code : (op : EcbOp) (v : EcbState) → ((d : ℕ) → op ≡ ecb_op.Post d → ⊥) → (op ≡ ecb_op.Clear → ⊥)
     → code_list (ecb_step op v).0 ≡ code_list v
-kept_code ecb_op.Arm Zero f g = refl
-kept_code (ecb_op.Extend x) Zero f g = refl
-kept_code ecb_op.Settle Zero f g = refl
-kept_code ecb_op.Clear v f g = absurd (g refl)
-kept_code (ecb_op.Post d) v f g = absurd (f d refl)
-kept_code y v f g = refl
+kept_code y v f g = grind (arith, common_steps)
 
 -- an answer Complete is of a complete block, and so is an answer Already
 complete_reply : (op : EcbOp) (v : EcbState) (code : ℕ) → (ecb_step op v).1 ≡ ecb_reply.Complete code → v ≡ Complete code
@@ -107,9 +98,7 @@ replied c s k b p o op r e n f g = grind (arith, common_steps)
 -- an event on a block is of a block's kind
 ecb_kind : (c : Setup) (s : System) (k b p : ℕ) (o : Object) (op : Op) (r : Reply) → IsNext c s (entry_of k p (o, op) r) → o ≡ Ecb b
     → (e : EcbOp) × (op ≡ op_on.Ecb e)
-ecb_kind c s k b p o (op_on.Ecb e) r n f = (e, refl)
-ecb_kind c s k b p o op r n f = let m : IsNext c s (entry_of k p (Ecb b, op) r) = subst (λ z. IsNext c s (entry_of k p (z, op) r)) f n in
-    absurd (cc m.reply)
+ecb_kind c s k b p o op r n f = grind (arith, common_steps)
 
 -- ---- the step, for any event
 

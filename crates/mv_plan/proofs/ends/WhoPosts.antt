@@ -9,6 +9,7 @@ use Rattle.mv_plan.proofs.points.Points.{EndingForScheduler, EndingForWriter, in
 use Rattle.mv_plan.proofs.points.InitiatorSound.{IsInitiatorAt}
 use Rattle.mv_plan.proofs.ends.Blocks.{HasEnd, idle_none, done_one, scheduler_one, writer_one}
 use Rattle.mv_plan.proofs.points.Views.{run_of}
+use Rattle.std.proofs.lemmas.Grind.{common_steps}
 
 pub data PostBy (n i : ℕ) (x : InitiatorAt) (b : ℕ) : Type 0 where
   offers : (more : ℕ) (before : List ℕ) (g : ℕ) → x ≡ Offering more before g → b ≡ idle n i → PostBy n i x b
@@ -28,9 +29,7 @@ post_by n i x b op o e = absurd (cc o)
 
 -- an initiator releases nothing
 pub initiator_no_release : (n i : ℕ) (x : InitiatorAt) (g d : ℕ) → (initiator_asks n i x).1 ≡ op_on.Element (element_op.Release g d) → ⊥
-initiator_no_release n i Opening g d e = cc e
-initiator_no_release n i (InJob run (Obtaining hand latch mode steps)) g d e = cc e
-initiator_no_release n i x g d e = cc e
+initiator_no_release n i x g d e = grind (arith, common_steps)
 
 below_same : (r run : Running) (n : ℕ) → ◌≡◌ {A = Option Running} (Some r) (Some run) → r.job < n → run.job < n
 below_same r run n e lt = let q : r ≡ run = cc e in subst (λ (z : Running). z.job < n) q lt
@@ -38,9 +37,7 @@ below_same r run n e lt = let q : r ≡ run = cc e in subst (λ (z : Running). z
 -- the job that is run is one of the deck's
 pub run_below : (deck : List JobData) (p : Point InitiatorAt) (run : Running) → IsInitiatorAt deck p → run_of p ≡ Some run
     → run.job < length deck
-run_below deck (At (InJob r (Freeing hand latch id steps))) run s e = below_same r run (length deck) e s.0.round.job
-run_below deck (At (InJob r w)) run s e = below_same r run (length deck) e s.round.job
-run_below deck p run s e = absurd (cc e)
+run_below deck p run s e = grind (arith, common_steps)
 
 -- an initiator that posts a block with job j's end runs that job
 pub posts_run : (deck : List JobData) (i : ℕ) (x : InitiatorAt) (j b : ℕ) → IsInitiatorAt deck (At x) → j < length deck
@@ -68,7 +65,4 @@ posts_run deck i x j b s lt has (ends_writer run code counts is e) = (
 )
 
 pub posts_no_entered : (n i : ℕ) (x : InitiatorAt) (j : ℕ) → j < n → PostBy n i x (entered j) → ⊥
-posts_no_entered n i x j lt (offers more before g is e) = omega arith
-posts_no_entered n i x j lt (ends_job run code counts is e) = omega arith
-posts_no_entered n i x j lt (ends_scheduler run code counts is e) = omega arith
-posts_no_entered n i x j lt (ends_writer run code counts is e) = omega arith
+posts_no_entered n i x j lt y = grind (arith, common_steps)

@@ -16,6 +16,7 @@ use Rattle.mv_plan.proofs.ends.Complete.{IsComplete, is_moved}
 use Rattle.mv_plan.proofs.ends.Awaited.{reader_ecb, initiator_ecb}
 use Rattle.mv_plan.proofs.ends.Posted.{scheduler_clears, writer_clears_none, clear_is_no_post}
 use Rattle.mv_plan.proofs.walks.Moves.{KeepsUnder, by_moves, entry_of, block, block_reply}
+use Rattle.std.proofs.lemmas.Grind.{common_steps}
 
 -- the ends of all jobs below are posted to the writer
 abbrev pub HasFound : ℕ → System → Point WriterAt → Type 0
@@ -61,9 +62,7 @@ module _ (deck : List JobData) (initiators : ℕ) where
   FindsIt s x r = Unit {0}
 
   finds_it : (c : Setup) (s : System) (x : WriterAt) (k p : ℕ) (r : Reply) → IsNext c s (entry_of k p (writer_asks x) r) → FindsIt s x r
-  finds_it c s (Keeping j more kept (Settling e todo found)) k p (reply_of.Ecb (ecb_reply.Complete code)) n =
-      (code, settled_code (block s e) code (cc (sym (block_reply c s k e ecb_op.Settle p (reply_of.Ecb (ecb_reply.Complete code)) n))))
-  finds_it c s x k p r n = tt
+  finds_it c s x k p r n = grind (arith, common_steps)
 
   own_found : (s s' : System) (x : WriterAt) (r : Reply) → IsWriterAt (length deck) (At x)
       → ((b : ℕ) → IsComplete s b → IsComplete s' b) → FindsIt s x r → HasFound (length deck) s (At x)

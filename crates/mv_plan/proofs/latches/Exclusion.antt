@@ -43,9 +43,7 @@ held_latch : (lists : List (List Request)) (k job latch : ℕ) (gs : List Grant)
 held_latch lists k job latch gs h e = grind (arith, common_steps, found, has_latch, eqb-true, all_at)
 
 alone_parts : (a b : Bool) → (a && not b) ≡ true → (a ≡ true) × (b ≡ false)
-alone_parts true false e = (refl, refl)
-alone_parts true true e = absurd (false≢true e)
-alone_parts false b e = absurd (false≢true e)
+alone_parts x b e = grind (arith, common_steps)
 
 held_alone : (lists : List (List Request)) (k job latch : ℕ) (gs : List Grant) → Holds lists k job gs
     → list_any (is_held_alone latch) (held_of gs) ≡ true → HoldsAlone lists k latch
@@ -83,9 +81,7 @@ touch_holds deck lists k v p e a w =
     let it : HoldsAlone lists k v = count_holds deck lists k v p e a w in (it.0, it.1, it.2)
 
 one_only : {X : Type 0} (xs : List X) (a b : X) → length xs ≡ 1 → Contains xs a → Contains xs b → a ≡ b
-one_only [] a b e i j = absurd (not_in_empty a i)
-one_only (x ∷ []) a b e i j = grind (arith, common_steps)
-one_only (x ∷ y ∷ xs) a b e i j = absurd (omega arith)
+one_only x a b e i j = grind (arith, common_steps)
 
 -- Where one initiator is at a COUNT of a volume, no other is at a COUNT or SCAN of it.
 pub excludes : (deck : List JobData) (initiators : ℕ) (lists : List (List Request)) (points : ℕ → Point InitiatorAt) (i m v : ℕ)
@@ -104,9 +100,7 @@ excludes deck initiators lists points i m v lt less w stand one two =
 -- ---- jobs in one place each are run by one initiator each
 
 pub works_run : (p : Point InitiatorAt) (job : ℕ) → works p ≡ Some job → (run : Running) × (run_of p ≡ Some run) × (run.job ≡ job)
-works_run (At (InJob run (Purging hand code))) job e = (run, refl, cc e)
-works_run (At (InJob run w)) job e = (run, refl, cc e)
-works_run p job e = absurd (some_none job e)
+works_run p job e = grind (arith, common_steps)
 
 pub places_apart : (deck : List JobData) (initiators : ℕ) (s : System) (t : Points) → Places deck initiators s t
     → Apart initiators t.initiators

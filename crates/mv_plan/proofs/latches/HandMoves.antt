@@ -159,9 +159,7 @@ Apart initiators points = (i m job : ℕ) → i < initiators → m < initiators 
     → i ≡ m
 
 spares_job : (job : ℕ) (st : Grip) → (job_of st ≡ Some job → ⊥) → SparesJob (latch_op.Purge (job + 1)) st
-spares_job job Lost n = tt
-spares_job job Idle n = tt
-spares_job job (Works other held more) n = grind arith
+spares_job job x n = grind (arith, common_steps)
 
 pub spares : (n i : ℕ) (x : InitiatorAt) (st : Grip) → ((job : ℕ) → works (At x) ≡ Some job → job_of st ≡ Some job → ⊥)
     → SparesOn (initiator_asks n i x).0 (initiator_asks n i x).1 st

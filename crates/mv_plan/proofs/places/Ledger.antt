@@ -42,10 +42,7 @@ placed_of deck initiators s t p =
 
 account_kept : (held held' : ℕ → Option ℕ) (j : ℕ) (rel giv rel' giv' : List ℕ) (p : Place) → rel' ≡ rel → giv' ≡ giv
     → ((m : ℕ) → p ≡ Handed m → held' m ≡ held m) → Account held j rel giv p → Account held' j rel' giv' p
-account_kept held held' j rel giv rel' giv' Coming a b h w = (a ∙ w.0, b ∙ w.1)
-account_kept held held' j rel giv rel' giv' (Handed i) a b h w = (w.0, h i refl ∙ w.1, a ∙ w.2, b ∙ w.3)
-account_kept held held' j rel giv rel' giv' (Run i) a b h w = (w.0, a ∙ w.1, b ∙ w.2)
-account_kept held held' j rel giv rel' giv' Over a b h w = (w.0, a ∙ w.1, b ∙ w.2)
+account_kept held held' j rel giv rel' giv' x a b h w = grind (arith, common_steps)
 
 account_at : (held : ℕ → Option ℕ) (j : ℕ) (rel giv : List ℕ) (p q : Place) → p ≡ q → Account held j rel giv p
     → Account held j rel giv q

@@ -29,14 +29,11 @@ use Rattle.mv_plan.proofs.points.Asks.{scheduler_no_pause}
 use Rattle.mv_plan.proofs.walks.Moves.{entry_of, Each, of_move}
 use Rattle.mv_plan.proofs.lists.Tables.{with_at-same, with_at-other}
 use Rattle.mv_plan.proofs.points.Views.{code_held, run_of, named_before, next_job, IsNotLost}
+use Rattle.std.proofs.lemmas.Grind.{common_steps}
 
 -- a task that is not lost has a stance
 pub has_stance : (p : Point InitiatorAt) → IsNotLost p → stance p ≡ Loses → ⊥
-has_stance (At Opening) f e = cc e
-has_stance (At (InJob run (Obtaining hand latch mode steps))) f e = cc e
-has_stance TooSoon f e = f
-has_stance Astray f e = f
-has_stance p f e = cc e
+has_stance p f e = grind (arith, common_steps)
 
 -- an element that the scheduler is to release holds no code, and the released one after it
 pub record Fresh (g code : ℕ) (x : ElementState) : Type 0 where
@@ -50,14 +47,7 @@ fresh_paused : (g m code : ℕ) (x : ElementState) → g ≡ m → x ≡ paused 
 fresh_paused g m code x e q = record { before = rw q refl; after = rw (q, e, eq-eqb m m refl) refl }
 
 pub row_fresh : (st : Stance) (g code : ℕ) (o : Option ℕ) (x : ElementState) → (st ≡ Loses → ⊥) → Row st o (Some g) x → Fresh g code x
-row_fresh (Offers m) g code o x d (offered a b q) = absurd (cc b)
-row_fresh (Offers m) g code o x d (taken a b q) = let e : g ≡ m = cc b in fresh_reset g m code x e q
-row_fresh (Offers m) g code o x d (handed c a b q) = absurd (cc b)
-row_fresh (Parks m) g code o x d (offered a b q) = absurd (cc b)
-row_fresh (Parks m) g code o x d (taken a b q) = let e : g ≡ m = cc b in fresh_paused g m code x e q
-row_fresh (Parks m) g code o x d (handed c a b q) = absurd (cc b)
-row_fresh Loses g code o x d w = absurd (d refl)
-row_fresh y g code o x d w = absurd (cc (w.1))
+row_fresh y g code o x d w = grind (arith, common_steps)
 
 gift_at : (r r' : Reply) → r ≡ r' → gift_code r' ≡ None → gift_code r ≡ None
 gift_at r r' e q = ap (λ z. gift_code z) e ∙ q
@@ -75,14 +65,7 @@ pub record IsQuiet (s z : System) (ask_code : Option ℕ) (r : Reply) : Type 0 w
 pub scheduler_quiet : (n : ℕ) (s : System) (x : SchedulerAt) (r : Reply) → NoRelease x
     → Some r ≡ reply_to s scheduler (scheduler_asks n x).0 (scheduler_asks n x).1
     → IsQuiet s (moved s scheduler (scheduler_asks n x).0 (scheduler_asks n x).1) (release_code (scheduler_asks n x).1) r
-scheduler_quiet n s (Releases i g code after) r d q = absurd d
-scheduler_quiet n s (Waits a (Arming e todo)) r d q =
-    record { element_codes_same = λ m. refl; no_code = refl; no_gift = gives_none s scheduler (Ecb e) (op_on.Ecb ecb_op.Arm) r q tt }
-scheduler_quiet n s x r d q = record {
-  element_codes_same = λ m. refl;
-  no_code = refl;
-  no_gift = gives_none s scheduler (scheduler_asks n x).0 (scheduler_asks n x).1 r q (scheduler_no_pause n x);
-}
+scheduler_quiet n s x r d q = grind (arith, common_steps)
 
 pub no_release_or : (x : SchedulerAt) → (NoRelease x) ⊎ ((i g code : ℕ) × (after : Stage) × (x ≡ Releases i g code after))
 no_release_or (Releases i g code after) = inr (i, g, code, after, refl)

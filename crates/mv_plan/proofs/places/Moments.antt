@@ -14,6 +14,7 @@ use Rattle.mv_plan.proofs.walks.Stands.{Stand, stand_start, stand_next, kept_nex
 use Rattle.mv_plan.proofs.walks.NoneLost.{NoneLost, none_lost_before}
 use Rattle.mv_plan.proofs.walks.Walks.{Points, start_points, Move, WalkTo, walk_keeps}
 use Rattle.mv_plan.proofs.points.Views.{next_job}
+use Rattle.std.proofs.lemmas.Grind.{common_steps}
 
 -- a moment: the machine fits; points are sound, with what callers keep; no task is lost; initiators, their blocks and elements
 -- fit together; and each job has one place
@@ -27,9 +28,7 @@ pub record Moment (c : Setup) (deck : List JobData) (initiators : ℕ) (s : Syst
 
 pub next_at_start : (deck : List JobData) (initiators : ℕ)
     → next_job (length deck) (stage_at (length deck) initiators (Dispatching 0 deck)) ≡ 0
-next_at_start [] zero = refl
-next_at_start [] (suc initiators) = refl
-next_at_start (job ∷ jobs) initiators = refl
+next_at_start x initiators = grind (arith, common_steps)
 
 unfoldable pub ledger_start : (c : Setup) (deck : List JobData) (initiators : ℕ)
     → Ledger deck initiators (opening c) (start_points deck initiators) []

@@ -76,21 +76,12 @@ run_goes deck x r run e = absurd (cc e)
 -- what it asks is elsewhere
 pub run_asks : (n i : ℕ) (x : InitiatorAt) (run : Running) → run_of (At x) ≡ Some run → run.job < n
     → Elsewhere n (initiator_asks n i x).0
-run_asks n i (InJob run' (EndingJob code counts)) run e lt =
-    let q : run'.job ≡ run.job = ap (λ z. z.job) (one_run run' run e) in omega arith
-run_asks n i (InJob run' (EndingForScheduler code counts)) run e lt = let q : run'.job ≡ run.job = ap (λ z. z.job) (one_run run' run e) in
-    omega arith
-run_asks n i (InJob run' (EndingForWriter code counts)) run e lt = let q : run'.job ≡ run.job = ap (λ z. z.job) (one_run run' run e) in
-    omega arith
-run_asks n i (InJob run' w) run e lt = tt
-run_asks n i x run e lt = absurd (cc e)
+run_asks n i x run e lt = grind (arith, common_steps)
 
 -- a running job is one of the deck's, and a sound round
 pub run_sound : (deck : List JobData) (x : InitiatorAt) (run : Running) → run_of (At x) ≡ Some run → IsInitiatorAt deck (At x)
     → IsRunning (length deck) run
-run_sound deck (InJob run' (Freeing hand latch id steps)) run e s = subst (λ z. IsRunning (length deck) z) (one_run run' run e) s.0.round
-run_sound deck (InJob run' w) run e s = subst (λ z. IsRunning (length deck) z) (one_run run' run e) s.round
-run_sound deck x run e s = absurd (cc e)
+run_sound deck x run e s = grind (arith, common_steps)
 
 -- ---- what holds of the job that is run
 
@@ -120,16 +111,10 @@ module _ (Q : Running → Type 0) where
   rounds_run (suc more) before g run e = no_run e
 
   lost_run : (p : Point InitiatorAt) → (IsNotLost p → ⊥) → OfRun Q p
-  lost_run (At x) n other e = absurd (n tt)
-  lost_run (Finished answer) n other e = absurd (n tt)
-  lost_run TooSoon n other e = no_run e
-  lost_run Astray n other e = no_run e
+  lost_run x n other e = grind (arith, common_steps)
 
   goes_on_run : (run : Running) (p : Point InitiatorAt) → Q run → GoesOn run p → OfRun Q p
-  goes_on_run run p q (same f) other e = is_run run other q (sym f ∙ e)
-  goes_on_run run p q (done f) other e =
-      subst (OfRun Q) (sym f) (rounds_run run.more (run.before ++ run.job ∷ []) run.generation) other e
-  goes_on_run run p q (lost n) other e = lost_run p n other e
+  goes_on_run run p q x other e = grind (arith, common_steps)
 
   none : OfRun Q Astray
   none other e = no_run e

@@ -152,9 +152,7 @@ module _ (c : Setup) (deck : List JobData) (initiators : ℕ) (facts : Facts c (
       → SchedulerKept (length deck) (stage_extended (length deck) after) kept
       → stage_call c (length deck) initiators after kept ≡ program_at (scheduler_program c (length deck) initiators kept)
       (stage_at (length deck) initiators after)
-  stage_enters (Dispatching j []) kept r k = grind (arith, common_steps)
-  stage_enters (Dispatching j (job ∷ jobs)) kept r k = grind (arith, common_steps)
-  stage_enters (Dismissing i more) kept e k = dismissing_enters i more kept e k
+  stage_enters x kept r k = grind (arith, common_steps)
 
   -- what was found is enough
   found_enters : (a : Awaited) (kept : Kept) (found : List (Option ℕ)) → IsAwaited deck initiators a

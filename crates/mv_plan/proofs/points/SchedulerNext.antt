@@ -109,13 +109,7 @@ module _ (n initiators : ℕ) where
   Same k p = IsNotLost p → errand p ≡ k
 
   all_same : (x : SchedulerAt) → NoRelease x → AllNext n initiators (Same (errand (At x))) x
-  all_same (Waits (ForEntry j job jobs) w) d = (λ v f. refl, λ v f. refl, λ b f. refl)
-  all_same (Waits (ForEnds j job jobs) w) d = (λ v f. refl, λ b f. refl)
-  all_same (Waits (ForIdle j job jobs skipped) w) d = (λ v f. refl, λ i g f. ap (λ z. Dispatches z) (less_one j))
-  all_same (Waits (ToDismiss i more) w) d = (λ v f. refl, λ g f. ap (λ z. Dismisses z) (less_one i))
-  all_same (Extends j job jobs skipped) d = λ v f. refl
-  all_same (Clears i g code after) d = λ f. refl
-  all_same (Releases i g code after) d = absurd d
+  all_same x d = grind (arith, common_steps)
 
   pub same_errand : (x : SchedulerAt) (r : Reply) → NoRelease x → IsNotLost (scheduler_goes n initiators x r)
       → errand (scheduler_goes n initiators x r) ≡ errand (At x)
@@ -126,15 +120,11 @@ module _ (n initiators : ℕ) where
   dismissing_errand m (suc more) = refl
 
   stage_errand : (after : Stage) → errand (stage_at n initiators after) ≡ after_release initiators after
-  stage_errand (Dispatching j []) = dismissing_errand 0 initiators
-  stage_errand (Dispatching j (job ∷ jobs)) = refl
-  stage_errand (Dismissing m more) = dismissing_errand m more
+  stage_errand x = grind (arith, common_steps)
 
   pub released_errand : (after : Stage) (r : Reply) → IsNotLost (on_released (stage_at n initiators after) r)
       → errand (on_released (stage_at n initiators after) r) ≡ after_release initiators after
-  released_errand after (reply_of.Element element_reply.Early) f = stage_errand after
-  released_errand after (reply_of.Element element_reply.Woke) f = stage_errand after
-  released_errand after r f = absurd f
+  released_errand after r f = grind (arith, common_steps)
 
 -- ---- the job that is handed out next
 
@@ -159,16 +149,11 @@ module _ (n initiators : ℕ) where
 
 stage_grows : (deck : List JobData) (initiators : ℕ) (after : Stage) → IsStage deck initiators after
     → next_in (length deck) after ≤ next_job (length deck) (stage_at (length deck) initiators after)
-stage_grows deck initiators (Dispatching j []) s = grind (arith, common_steps)
-stage_grows deck initiators (Dispatching j (job ∷ jobs)) s = omega arith
-stage_grows deck initiators (Dismissing i more) s = grind (arith, common_steps)
+stage_grows deck initiators x s = grind (arith, common_steps)
 
 awaited_below : (deck : List JobData) (initiators : ℕ) (a : Awaited) → IsAwaited deck initiators a
     → next_awaited (length deck) a ≤ length deck
-awaited_below deck initiators (ForEntry j job jobs) s = let lt : j < length deck = rest_below deck j job jobs s in omega arith
-awaited_below deck initiators (ForEnds j job jobs) s = let lt : j < length deck = rest_below deck j job jobs s in omega arith
-awaited_below deck initiators (ForIdle j job jobs skipped) s = let lt : j < length deck = rest_below deck j job jobs s in omega arith
-awaited_below deck initiators (ToDismiss i more) s = omega arith
+awaited_below deck initiators x s = grind (arith, common_steps)
 
 stage_below : (deck : List JobData) (initiators : ℕ) (after : Stage) → IsStage deck initiators after
     → next_in (length deck) after ≤ length deck
@@ -177,20 +162,11 @@ stage_below deck initiators (Dismissing i more) s = omega arith
 
 pub next_below : (deck : List JobData) (initiators : ℕ) (x : SchedulerAt) → IsSchedulerAt deck initiators (At x)
     → next_job (length deck) (At x) ≤ length deck
-next_below deck initiators (Waits a w) s = awaited_below deck initiators a s.0
-next_below deck initiators (Extends j job jobs skipped) s = let lt : j < length deck = rest_below deck j job jobs s in omega arith
-next_below deck initiators (Clears i g code after) s = stage_below deck initiators after s.1
-next_below deck initiators (Releases i g code after) s = stage_below deck initiators after s.1
+next_below deck initiators x s = grind (arith, common_steps)
 
 nexts_grow : (deck : List JobData) (initiators : ℕ) (x : SchedulerAt) → IsSchedulerAt deck initiators (At x)
     → AllNext (length deck) initiators (λ p. next_job (length deck) (At x) ≤ next_job (length deck) p) x
-nexts_grow deck initiators (Waits (ForEntry j job jobs) w) s = (λ v. omega arith, λ v. omega arith, λ b. omega arith)
-nexts_grow deck initiators (Waits (ForEnds j job jobs) w) s = (λ v. omega arith, λ b. omega arith)
-nexts_grow deck initiators (Waits (ForIdle j job jobs skipped) w) s = (λ v. omega arith, λ i g. omega arith)
-nexts_grow deck initiators (Waits (ToDismiss i more) w) s = (λ v. omega arith, λ g. omega arith)
-nexts_grow deck initiators (Extends j job jobs skipped) s = λ v. omega arith
-nexts_grow deck initiators (Clears i g code after) s = omega arith
-nexts_grow deck initiators (Releases i g code after) s = stage_grows deck initiators after s.1
+nexts_grow deck initiators x s = grind (arith, common_steps)
 
 pub next_grows : (deck : List JobData) (initiators : ℕ) (x : SchedulerAt) (r : Reply) → IsSchedulerAt deck initiators (At x)
     → next_job (length deck) (At x) ≤ next_job (length deck) (scheduler_goes (length deck) initiators x r)

@@ -133,9 +133,7 @@ module _ (deck : List JobData) (initiators : ℕ) (kept : Kept) where
   pub stage_stands : (after : Stage) → IsStage deck initiators after
       → SchedulerKept (length deck) (stage_extended (length deck) after) kept
       → SchedulerStands deck initiators kept (stage_at (length deck) initiators after)
-  stage_stands (Dispatching j []) r k = grind (arith, common_steps)
-  stage_stands (Dispatching j (job ∷ jobs)) r k = ((r, ([], refl)), k)
-  stage_stands (Dismissing i more) e k = dismissing_stands i more e k
+  stage_stands x r k = grind (arith, common_steps)
 
   found_stands : (a : Awaited) (found : List (Option ℕ)) → IsAwaited deck initiators a
       → SchedulerKept (length deck) (awaited_extended (length deck) a) kept

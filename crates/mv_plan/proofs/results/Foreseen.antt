@@ -52,17 +52,11 @@ post_foreseen p code y r e w = rw e w
 
 arm_foreseen : {X : Type 0} (p : Point X) (v : EcbState) (r : Reply) → r ≡ reply_of.Ecb (ecb_step ecb_op.Arm v).1 → (v ≡ Waiting → ⊥)
     → ((y : ℕ) → v ≡ Extended y → ⊥) → IsForeseen p → IsForeseen (on_armed p r)
-arm_foreseen p Zero r e a b w = rw e w
-arm_foreseen p Waiting r e a b w = absurd (a refl)
-arm_foreseen p (Extended y) r e a b w = absurd (b y refl)
-arm_foreseen p (Complete old) r e a b w = rw e w
+arm_foreseen p x r e a b w = grind (arith, common_steps)
 
 settle_foreseen : {X : Type 0} (f : Option ℕ → Point X) (v : EcbState) (r : Reply) → r ≡ reply_of.Ecb (ecb_step ecb_op.Settle v).1
     → ((y : ℕ) → v ≡ Extended y → ⊥) → ((slot : Option ℕ) → IsForeseen (f slot)) → IsForeseen (on_settled f r)
-settle_foreseen f Zero r e b w = rw e (w None)
-settle_foreseen f Waiting r e b w = rw e (w None)
-settle_foreseen f (Extended y) r e b w = absurd (b y refl)
-settle_foreseen f (Complete old) r e b w = rw e (w (Some old))
+settle_foreseen f x r e b w = grind (arith, common_steps)
 
 -- where one is complete, the lowest is found
 lowest_foreseen : {X : Type 0} (f : ℕ → ℕ → Point X) → ((p code : ℕ) → IsForeseen (f p code)) → (k : ℕ) (found : List (Option ℕ))
@@ -262,19 +256,13 @@ module _ (deck : List JobData) (o h : Option ℕ) where
       → r ≡ reply_of.Element (element_step (element_op.Pause g) y).1 → Row (Offers g) o h y
       → ((code : ℕ) → code_held y ≡ Some code → IsForeseen (given_at deck more before code (g + 1)))
       → IsForeseen (on_paused deck more before g r)
-  paused_foreseen more before g y r e (offered a b q) given = rw (e, q, eq-eqb g g refl) tt
-  paused_foreseen more before g y r e (taken a b q) given = rw (e, q, eq-eqb g g refl) tt
-  paused_foreseen more before g y r e (handed code a b q) given = let f : IsForeseen (given_at deck more before code (g + 1)) =
-      given code (ap (λ z. code_held z) q) in rw (e, q, eq-eqb g g refl) f
+  paused_foreseen more before g y r e x given = grind (arith, common_steps)
 
   resumed_foreseen : (more : ℕ) (before : List ℕ) (g : ℕ) (y : ElementState) (r : Reply)
       → r ≡ reply_of.Element (element_step (element_op.Resume g) y).1 → Row (Parks g) o h y
       → ((code : ℕ) → code_held y ≡ Some code → IsForeseen (given_at deck more before code (g + 1)))
       → IsForeseen (on_resumed deck more before r)
-  resumed_foreseen more before g y r e (offered a b q) given = rw (e, q, eq-eqb g g refl) tt
-  resumed_foreseen more before g y r e (taken a b q) given = rw (e, q, eq-eqb g g refl) tt
-  resumed_foreseen more before g y r e (handed code a b q) given = let f : IsForeseen (given_at deck more before code (g + 1)) =
-      given code (ap (λ z. code_held z) q) in rw (e, q, eq-eqb g g refl) f
+  resumed_foreseen more before g y r e x given = grind (arith, common_steps)
 
   closed_foreseen : (g : ℕ) (y : ElementState) (r : Reply) → r ≡ reply_of.Element (element_step (element_op.Close g) y).1
       → Row (Works g) o h y → IsForeseen (on_closed r)

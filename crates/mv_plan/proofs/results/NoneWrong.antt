@@ -28,18 +28,12 @@ module _ (deck : List JobData) (initiators : ℕ) where
   initiator_asked : (t u : Points) (e : Entry) (i : ℕ) (x : InitiatorAt) → Move deck initiators t e u → i < initiators
       → e.caller ≡ initiator i → t.initiators i ≡ At x
       → (e.object ≡ (initiator_asks (length deck) i x).0) × (e.op ≡ (initiator_asks (length deck) i x).1)
-  initiator_asked t u e i x (initiates m y less k at o op to) lt c given = grind (arith, common_steps)
-  initiator_asked t u e i x (reads y k at o op to) lt c given = absurd (omega arith)
-  initiator_asked t u e i x (schedules y k at o op to) lt c given = absurd (omega arith)
-  initiator_asked t u e i x (writes y k at o op to) lt c given = absurd (omega arith)
+  initiator_asked t u e i x y lt c given = grind (arith, common_steps)
 
   scheduler_asked : (t u : Points) (e : Entry) (x : SchedulerAt) → Move deck initiators t e u → e.caller ≡ scheduler
       → t.scheduler ≡ At x
       → (e.object ≡ (scheduler_asks (length deck) x).0) × (e.op ≡ (scheduler_asks (length deck) x).1)
-  scheduler_asked t u e x (schedules y k at o op to) c given = grind (arith, common_steps)
-  scheduler_asked t u e x (reads y k at o op to) c given = absurd (omega arith)
-  scheduler_asked t u e x (initiates m y less k at o op to) c given = absurd (omega arith)
-  scheduler_asked t u e x (writes y k at o op to) c given = absurd (omega arith)
+  scheduler_asked t u e x y c given = grind (arith, common_steps)
 
   module _ (some : 1 ≤ initiators) (sound : IsPlanned deck initiators) where
     abbrev c : Setup

@@ -47,10 +47,7 @@ abbrev pub AllForeseen : ℕ → Points → Type 0
 AllForeseen initiators t = AllTasks initiators (λ X p. IsForeseen p) t
 
 not_lost : {X : Type 0} (p : Point X) → IsForeseen p → (p ≡ TooSoon → ⊥) → IsNotLost p
-not_lost (At x) w d = tt
-not_lost (Finished answer) w d = tt
-not_lost TooSoon w d = d refl
-not_lost Astray w d = w
+not_lost x w d = grind (arith, common_steps)
 
 pub none_lost_of : (initiators : ℕ) (t : Points) → AllForeseen initiators t → AreInTime initiators t → NoneLost initiators t
 none_lost_of initiators t w d = record {
@@ -61,12 +58,7 @@ none_lost_of initiators t w d = record {
 }
 
 of_rounds_or : (x : InitiatorAt) → (IsOfRounds x) ⊎ (IsOfRounds x → ⊥)
-of_rounds_or (InJob run (Purging hand code)) = inl tt
-of_rounds_or (InJob run (EndingJob code counts)) = inl tt
-of_rounds_or (InJob run (EndingForScheduler code counts)) = inl tt
-of_rounds_or (InJob run (EndingForWriter code counts)) = inl tt
-of_rounds_or (InJob run w) = inr (λ z. z)
-of_rounds_or x = inl tt
+of_rounds_or x = grind (arith, common_steps)
 
 extends_or : (x : SchedulerAt) → (NoExtend x)
     ⊎ ((j : ℕ) × (job : JobData) × (jobs : List JobData) × (skipped : Bool) × (x ≡ Extends j job jobs skipped))

@@ -12,13 +12,11 @@ use Rattle.mv_plan.proofs.places.Moments.{Moment}
 use Rattle.mv_plan.proofs.walks.Walks.{Points, Move}
 use Rattle.mv_plan.proofs.walks.Stands.{AreSound}
 use Rattle.mv_plan.proofs.points.Views.{IsOfRounds}
+use Rattle.std.proofs.lemmas.Grind.{common_steps}
 
 -- by its place, a job was named once or not at all
 account_once : (held : ℕ → Option ℕ) (j : ℕ) (rel giv : List ℕ) (p : Place) → Account held j rel giv p → length giv ≤ 1
-account_once held j rel giv Coming w = let l : length giv ≡ 0 = ap length w.1 in omega arith
-account_once held j rel giv (Handed i) w = let l : length giv ≡ 0 = ap length w.3 in omega arith
-account_once held j rel giv (Run i) w = let l : length giv ≡ 1 = ap length w.2 in omega arith
-account_once held j rel giv Over w = let l : length giv ≡ 1 = ap length w.2 in omega arith
+account_once held j rel giv x w = grind (arith, common_steps)
 
 pub ledger_once : (deck : List JobData) (initiators : ℕ) (s : System) (t : Points) (past : List Entry) → Ledger deck initiators s t past
     → NamedOnce deck past

@@ -105,11 +105,7 @@ pub record Armed (c : Setup) (n initiators : ℕ) (s : System) (t : Points) : Ty
 -- only an arm makes a block wait
 pub still_waiting : (s : System) (k : ℕ) (o : Object) (op : Op) (b : ℕ) → NoArm op → ((moved s k o op).ecb b).state ≡ Waiting
     → (s.ecb b).state ≡ Waiting
-still_waiting s k (Ecb m) (op_on.Ecb op) b w e = grind (arith, common_steps)
-still_waiting s k (Element m) (op_on.Element op) b w e = e
-still_waiting s k (Volume m) (op_on.Volume op) b w e = e
-still_waiting s k Latches (op_on.Latch op) b w e = e
-still_waiting s k o op b w e = e
+still_waiting s k o op b w e = grind (arith, common_steps)
 
 -- at another block
 else_waiting : (s : System) (e b : ℕ) (y : EcbState) → (e ≡ b → ⊥) → (with_at s.ecb e (advanced (s.ecb e) y) b).state ≡ Waiting
@@ -185,10 +181,7 @@ module _ (c : Setup) (deck : List JobData) (initiators : ℕ) (facts : Facts c (
   written : (s : System) (x : WriterAt) (r : Reply) (y : Point SchedulerAt) → IsWriterAt n (At x)
       → IsTrue (admitted c s (writer initiators) (writer_asks x).0 (writer_asks x).1) → IsNotLost (writer_goes n x r)
       → ArmedThen s y (At x) → ArmedThen (moved s (writer initiators) (writer_asks x).0 (writer_asks x).1) y (writer_goes n x r)
-  written s (Keeping j more ends (Arming e [])) r y st adm f armed b q = grind (arith, common_steps)
-  written s (Keeping j more ends (Arming e (d ∷ todo))) r y st adm f armed b q = absurd (cc st.2)
-  written s (Keeping j more ends (Settling e [] found)) r y st adm f armed b q = grind (arith, common_steps)
-  written s (Keeping j more ends (Settling e (d ∷ todo) found)) r y st adm f armed b q = absurd (cc st.2)
+  written s x r y st adm f armed b q = grind (arith, common_steps)
 
   abbrev ArmedBy : System → Points → Entry → Points → Type 0
   ArmedBy s t e u = Stand deck initiators kept t → NoneLost initiators u → Armed c n initiators s t → Armed c n initiators (next s e) u

@@ -45,11 +45,7 @@ abbrev pub Stay : Blocks → Blocks → Type 0
 Stay f g = (b code : ℕ) → (f b).state ≡ Complete code → (g b).state ≡ Complete code
 
 pub stay_moved : (s : System) (k : ℕ) (o : Object) (op : Op) → NoClear op → Stay s.ecb (moved s k o op).ecb
-stay_moved s k (Ecb m) (op_on.Ecb op) w b code e = grind (arith, common_steps)
-stay_moved s k (Element m) (op_on.Element op) w b code e = e
-stay_moved s k (Volume m) (op_on.Volume op) w b code e = e
-stay_moved s k Latches (op_on.Latch op) w b code e = e
-stay_moved s k o op w b code e = e
+stay_moved s k o op w b code e = grind (arith, common_steps)
 
 slot_kept : (f g : Blocks) (b : ℕ) (slot : Option ℕ) → Stay f g → SlotIs (f b).state slot → SlotIs (g b).state slot
 slot_kept f g b None stay w = tt
@@ -120,9 +116,7 @@ module _ (n initiators : ℕ) (f : Blocks) where
   dismissing_here i (suc more) = tt
 
   pub stage_here : (after : Stage) → Here (stage_at n initiators after)
-  stage_here (Dispatching j []) = dismissing_here 0 initiators
-  stage_here (Dispatching j (job ∷ jobs)) = tt
-  stage_here (Dismissing i more) = dismissing_here i more
+  stage_here x = grind (arith, common_steps)
 
 settled_is : (v : EcbState) (code : ℕ) → (ecb_step ecb_op.Settle v).1 ≡ ecb_reply.Complete code
     → (ecb_step ecb_op.Settle v).0 ≡ Complete code
@@ -137,10 +131,7 @@ module _ (n initiators : ℕ) (s : System) where
       → r ≡ reply_of.Ecb (ecb_step ecb_op.Settle (s.ecb e).state).1
       → ((slot : Option ℕ) → SlotIs (with_at s.ecb e (advanced (s.ecb e) (ecb_step ecb_op.Settle (s.ecb e).state).0) e).state slot
       → P (f slot)) → P Astray → P (on_settled f r)
-  settled_slot e (reply_of.Ecb (ecb_reply.Complete code)) f P q each a =
-      each (Some code) (ap (λ z. z.state) (with_at-same s.ecb e _) ∙ settled_is (s.ecb e).state code (sym (cc q)))
-  settled_slot e (reply_of.Ecb ecb_reply.Open) f P q each a = each None tt
-  settled_slot e r f P q each a = a
+  settled_slot e r f x q each a = grind (arith, common_steps)
 
   pub finds_next : (x : SchedulerAt) (r : Reply)
       → ((a : Awaited) (w : WaitAt) → x ≡ Waits a w → IsWaitAt (awaited_blocks n initiators a) w)

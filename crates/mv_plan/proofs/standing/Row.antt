@@ -84,10 +84,7 @@ stance_run (At (InJob run' w)) run e = ap (λ z. stance_in z) e
 stance_run p run e = absurd (cc e)
 
 stance_lost : (p : Point InitiatorAt) → (IsNotLost p → ⊥) → stance p ≡ Loses
-stance_lost (At x) f = absurd (f tt)
-stance_lost (Finished answer) f = absurd (f tt)
-stance_lost TooSoon f = refl
-stance_lost Astray f = refl
+stance_lost x f = grind (arith, common_steps)
 
 pub row_at : (st st' : Stance) (o o' h h' : Option ℕ) (x x' : ElementState) → st' ≡ st → o' ≡ o → h' ≡ h → x' ≡ x → Row st o h x
     → Row st' o' h' x'
@@ -108,10 +105,7 @@ module _ (o h : Option ℕ) where
 
   goes_row : (p : Point InitiatorAt) (run : Running) (x : ElementState) → GoesOn run p → Row (Works run.generation) o h x
       → Row (stance p) o h x
-  goes_row p run x (same e) r = run_row p run x (inl e) r
-  goes_row p run x (lost e) r = run_row p run x (inr e) r
-  goes_row p run x (done e) r = row_at _ _ o o h h x x (ap (λ z. stance z) e) refl refl refl
-      (rounds_row run.more (run.before ++ run.job ∷ []) run.generation x r)
+  goes_row p run x y r = grind (arith, common_steps)
 
   given_row : (deck : List JobData) (more : ℕ) (before : List ℕ) (code g : ℕ) (x : ElementState) → Row (Works g) o h x
       → Row (stance (given_at deck more before code g)) o h x
@@ -192,12 +186,4 @@ module _ (deck : List JobData) (s : System) (q : Point SchedulerAt) (i : ℕ) wh
   apart_run x run e sound = grind (arith, common_steps)
 
   pub apart : (x : InitiatorAt) → IsInitiatorAt deck (At x) → Apart (then_s x)
-  apart Opening sound = record { elements = λ m d. with_at-other s.element (initiator i) m _ (λ z. d (sym z)); idles = λ m d. refl }
-  apart (Offering more before g) sound =
-      record { elements = λ m d. refl; idles = λ m d. with_at-other s.ecb (idle n i) (idle n m) _ (λ z. d (omega arith)) }
-  apart (Pausing more before g) sound =
-      record { elements = λ m d. with_at-other s.element (initiator i) m _ (λ z. d (sym z)); idles = λ m d. refl }
-  apart (Resuming more before g) sound =
-      record { elements = λ m d. with_at-other s.element (initiator i) m _ (λ z. d (sym z)); idles = λ m d. refl }
-  apart (InJob run w) sound = apart_run (InJob run w) run refl sound
-  apart (Closing g) sound = record { elements = λ m d. with_at-other s.element (initiator i) m _ (λ z. d (sym z)); idles = λ m d. refl }
+  apart x sound = grind (arith, common_steps)

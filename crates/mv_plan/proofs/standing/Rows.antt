@@ -67,18 +67,10 @@ module _ (n initiators : ℕ) where
   dismissing_no_hold m (suc more) = λ i. refl
 
   stage_no_hold : (after : Stage) → NoHold (stage_at n initiators after)
-  stage_no_hold (Dispatching j []) = dismissing_no_hold 0 initiators
-  stage_no_hold (Dispatching j (job ∷ jobs)) = λ i. refl
-  stage_no_hold (Dismissing m more) = dismissing_no_hold m more
+  stage_no_hold x = grind (arith, common_steps)
 
   nexts_no_hold : (x : SchedulerAt) → NoClears x → AllNext n initiators NoHold x
-  nexts_no_hold (Waits (ForEntry j job jobs) w) d = (λ v i. refl, λ v i. refl, λ b i. refl)
-  nexts_no_hold (Waits (ForEnds j job jobs) w) d = (λ v i. refl, λ b i. refl)
-  nexts_no_hold (Waits (ForIdle j job jobs skipped) w) d = (λ v i. refl, λ m g i. refl)
-  nexts_no_hold (Waits (ToDismiss m more) w) d = (λ v i. refl, λ g i. refl)
-  nexts_no_hold (Extends j job jobs skipped) d = λ v i. refl
-  nexts_no_hold (Clears m g code after) d = absurd d
-  nexts_no_hold (Releases m g code after) d = stage_no_hold after
+  nexts_no_hold x d = grind (arith, common_steps)
 
   -- nothing is held behind any other step
   goes_no_hold : (x : SchedulerAt) (r : Reply) → NoClears x → NoHold (scheduler_goes n initiators x r)
@@ -152,10 +144,7 @@ pub reader_low : (n : ℕ) (x : ReaderAt) → IsReaderAt n (At x) → Elsewhere 
 reader_low n (Entering j more) at = omega arith
 
 pub writer_low : (n : ℕ) (x : WriterAt) → IsWriterAt n (At x) → Elsewhere n (writer_asks x).0
-writer_low n (Keeping j more ends (Arming e todo)) at = let a : j + suc more ≡ n = at.0 in let b : e ≡ end_for_writer n j = at.1 in
-    omega arith
-writer_low n (Keeping j more ends (Settling e todo found)) at = let a : j + suc more ≡ n = at.0 in let b : e ≡ end_for_writer n j =
-    at.1 in omega arith
+writer_low n x at = grind (arith, common_steps)
 
 wait_sound : (deck : List JobData) (initiators : ℕ) (x : SchedulerAt) → IsSchedulerAt deck initiators (At x) → (a : Awaited) (w : WaitAt)
     → x ≡ Waits a w → IsWaitAt (awaited_blocks (length deck) initiators a) w

@@ -49,9 +49,7 @@ record IsWriting (x : InitiatorAt) (n : ℕ) : Type 0 where
   sum : n ≡ number + amount
 
 writing_point : (m i n : ℕ) (x : InitiatorAt) → (initiator_asks m i x).1 ≡ op_on.Volume (volume_op.Write n) → IsWriting x n
-writing_point m i n (InJob run (Writing hand volume amount number steps)) e =
-    record { run = run; hand = hand; volume = volume; amount = amount; number = number; steps = steps; is = refl; sum = sym (cc e) }
-writing_point m i n x e = absurd (cc e)
+writing_point m i n x e = grind (arith, common_steps)
 
 -- an entry that reads a volume and is told this number
 pub record IsRead (v number : ℕ) (e : Entry) : Type 0 where

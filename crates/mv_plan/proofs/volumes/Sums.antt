@@ -48,6 +48,4 @@ times zero x = 0
 times (suc n) x = x + times n x
 
 pub times_once : (n x : ℕ) → n ≤ 1 → times n x ≤ x
-times_once zero x le = omega arith
-times_once (suc zero) x le = omega arith
-times_once (suc (suc n)) x le = absurd (omega arith)
+times_once x y le = grind (arith, common_steps)

@@ -83,14 +83,7 @@ wakes_unposted k (latch_op.Purge requestor) lists a =
 exit_step : (c : Setup) (k n : ℕ) (op : EcbOp) (v : EcbState) (x : ℕ) → ecb_admitted c k n op ≡ true
     → ((y : ℕ) → v ≡ Extended y → is_exit_of c y n ≡ true)
     → (ecb_step op v).0 ≡ Extended x → is_exit_of c x n ≡ true
-exit_step c k n ecb_op.Arm (Extended y) x adm held e = held x e
-exit_step c k n (ecb_op.Extend z) Zero x adm held e =
-    subst (λ m. is_exit_of c m n ≡ true) (let q : z ≡ x = cc e in q) (and_parts _ _ (and_parts _ _ adm).1).1
-exit_step c k n (ecb_op.Extend z) (Extended y) x adm held e = held x e
-exit_step c k n ecb_op.Settle (Extended y) x adm held e = held x e
-exit_step c k n (ecb_op.Post d) Zero x adm held e = absurd (cc e)
-exit_step c k n ecb_op.Test v x adm held e = held x e
-exit_step c k n y v x adm held e = absurd (cc e)
+exit_step c k n y v x adm held e = grind (arith, common_steps)
 
 -- ---- both, of the machine
 

@@ -19,6 +19,7 @@ use Rattle.mv_plan.proofs.deck.Setup.{facts}
 use Rattle.mv_plan.proofs.walks.Following.{TasksAt, Walked, walk_from}
 use Rattle.mv_plan.proofs.walks.Stands.{Stand, stand_start}
 use Rattle.mv_plan.proofs.walks.Walks.{Points, start_points, WalkTo, AllTasks}
+use Rattle.std.proofs.lemmas.Grind.{common_steps}
 
 third : {A : Type 0} (a b d : Bool) (w x y z : A) → a ≡ false → b ≡ false → d ≡ true
     → (if a then w else if b then x else if d then y else z) ≡ y
@@ -104,18 +105,12 @@ module _ (deck : List JobData) (initiators : ℕ) (some : 1 ≤ initiators) (sou
 
 pub done_point : {X : Type 0} (f : X → Program (List ℕ)) (ask : X → Object × Op) (says : (x : X) → asks (f x) ≡ Some (ask x))
     (p : Point X) (a : List ℕ) → program_at f p ≡ Done a → p ≡ Finished a
-done_point f ask says (At x) a e = absurd (cc (sym (says x) ∙ ap (λ q. asks q) e))
-done_point f ask says (Finished b) a e = let q : b ≡ a = cc e in ap (λ c. Finished c) q
-done_point f ask says TooSoon a e = absurd (cc e)
-done_point f ask says Astray a e = absurd (cc e)
+done_point f ask says x a e = grind (arith, common_steps)
 
 -- a task that is not astray is not at a reply that nothing foresees
 pub wrong_point : {X : Type 0} (f : X → Program (List ℕ)) (ask : X → Object × Op) (says : (x : X) → asks (f x) ≡ Some (ask x))
     (p : Point X) → program_at f p ≡ Wrong → p ≡ Astray
-wrong_point f ask says (At x) e = absurd (cc (sym (says x) ∙ ap (λ q. asks q) e))
-wrong_point f ask says (Finished b) e = absurd (cc e)
-wrong_point f ask says TooSoon e = absurd (cc e)
-wrong_point f ask says Astray e = refl
+wrong_point f ask says x e = grind (arith, common_steps)
 
 -- all tasks stand at their ends
 abbrev pub AreFinished : ℕ → Points → Type 0

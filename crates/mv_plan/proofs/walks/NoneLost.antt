@@ -9,6 +9,7 @@ use Rattle.mv_plan.proofs.walks.Walks.{Points, Move, WalkTo, AllTasks, all_befor
 use Rattle.mv_plan.proofs.lists.Tables.{with_at-other}
 use Rattle.mv_plan.proofs.points.Views.{IsNotLost}
 use Rattle.mv_plan.proofs.points.Asks.{Elsewhere}
+use Rattle.std.proofs.lemmas.Grind.{common_steps}
 
 -- no task is lost
 abbrev pub NoneLost : ℕ → Points → Type 0
@@ -49,9 +50,4 @@ pub record SameTalk (n : ℕ) (s z : System) : Type 0 where
   pub idles : (i : ℕ) → z.ecb (idle n i) ≡ s.ecb (idle n i)
 
 pub same_talk : (n : ℕ) (s : System) (k : ℕ) (o : Object) (op : Op) → Elsewhere n o → SameTalk n s (moved s k o op)
-same_talk n s k (Ecb b) (op_on.Ecb op) low =
-    record { elements = λ m. refl; idles = λ i. with_at-other s.ecb b (idle n i) _ (λ q. absurd (omega arith)) }
-same_talk n s k (Element m) op low = absurd low
-same_talk n s k (Volume v) (op_on.Volume op) low = record { elements = λ m. refl; idles = λ i. refl }
-same_talk n s k Latches (op_on.Latch op) low = record { elements = λ m. refl; idles = λ i. refl }
-same_talk n s k o op low = record { elements = λ m. refl; idles = λ i. refl }
+same_talk n s k o op low = grind (arith, common_steps)

@@ -29,31 +29,7 @@ initiator_writer k i n lt e f = absurd (omega arith)
 
 pub move_same : (deck : List JobData) (initiators : ℕ) (t u v : Points) (e : Entry) → Move deck initiators t e u
     → Move deck initiators t e v → u ≡ v
-move_same deck initiators t u v e (reads x k at o op m) (reads y k' at' o' op' m') =
-    m ∙ ap (λ z. record t { reader = reader_goes z e.reply }) (one_point t.reader x y at at') ∙ sym m'
-move_same deck initiators t u v e (schedules x k at o op m) (schedules y k' at' o' op' m') =
-    m ∙ ap (λ z. record t { scheduler = scheduler_goes (length deck) initiators z e.reply }) (one_point t.scheduler x y at at') ∙ sym m'
-move_same deck initiators t u v e (writes x k at o op m) (writes y k' at' o' op' m') =
-    m ∙ ap (λ z. record t { writer = writer_goes (length deck) z e.reply }) (one_point t.writer x y at at') ∙ sym m'
-move_same deck initiators t u v e (initiates i x lt k at o op m) (initiates j y lt' k' at' o' op' m') = grind (arith, common_steps)
-move_same deck initiators t u v e (reads x k at o op m) (schedules y k' at' o' op' m') = absurd (reader_scheduler e.caller k k')
-move_same deck initiators t u v e (reads x k at o op m) (initiates j y lt' k' at' o' op' m') = absurd (reader_initiator e.caller j k k')
-move_same deck initiators t u v e (reads x k at o op m) (writes y k' at' o' op' m') = absurd (reader_writer e.caller initiators k k')
-move_same deck initiators t u v e (schedules x k at o op m) (reads y k' at' o' op' m') = absurd (reader_scheduler e.caller k' k)
-move_same deck initiators t u v e (schedules x k at o op m) (initiates j y lt' k' at' o' op' m') =
-    absurd (scheduler_initiator e.caller j k k')
-move_same deck initiators t u v e (schedules x k at o op m) (writes y k' at' o' op' m') =
-    absurd (scheduler_writer e.caller initiators k k')
-move_same deck initiators t u v e (initiates i x lt k at o op m) (reads y k' at' o' op' m') = absurd (reader_initiator e.caller i k' k)
-move_same deck initiators t u v e (initiates i x lt k at o op m) (schedules y k' at' o' op' m') =
-    absurd (scheduler_initiator e.caller i k' k)
-move_same deck initiators t u v e (initiates i x lt k at o op m) (writes y k' at' o' op' m') =
-    absurd (initiator_writer e.caller i initiators lt k k')
-move_same deck initiators t u v e (writes x k at o op m) (reads y k' at' o' op' m') = absurd (reader_writer e.caller initiators k' k)
-move_same deck initiators t u v e (writes x k at o op m) (schedules y k' at' o' op' m') =
-    absurd (scheduler_writer e.caller initiators k' k)
-move_same deck initiators t u v e (writes x k at o op m) (initiates j y lt' k' at' o' op' m') =
-    absurd (initiator_writer e.caller j initiators lt' k' k)
+move_same deck initiators t u v e x y = grind (arith, common_steps)
 
 pub walk_same : (c : Setup) (deck : List JobData) (initiators : ℕ) (s : System) (t u v : Points) (es : List Entry)
     → WalkTo c deck initiators s t es u → WalkTo c deck initiators s t es v → u ≡ v
