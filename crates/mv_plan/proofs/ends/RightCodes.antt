@@ -82,9 +82,7 @@ none_left kept x all e l = grind (arith, common_steps)
 
 writing_keeps : (deck : List JobData) (j more : ℕ) (kept rest : List ℕ) → kept ++ rest ≡ ends deck → length kept ≡ j
     → j + more ≡ length deck → KeepsEnds deck (writing_from (length deck) j more kept)
-writing_keeps deck j zero kept rest e l n =
-    none_left kept rest (ends deck) e (let a : length (ends deck) ≡ length deck = one_end_per_job deck in omega arith)
-writing_keeps deck j (suc more) kept rest e l n = (rest, e, l)
+writing_keeps deck j x kept rest e l n = grind (arith, common_steps, none_left, one_end_per_job)
 
 -- one more end is kept
 one_kept : (deck : List JobData) (j more : ℕ) (kept rest : List ℕ) (code : ℕ) → kept ++ rest ≡ ends deck → length kept ≡ j

@@ -121,18 +121,12 @@ module _ (o h : Option ℕ) where
   paused_row : (deck : List JobData) (more : ℕ) (before : List ℕ) (g : ℕ) (y : ElementState) (r : Reply)
       → r ≡ reply_of.Element (element_step (element_op.Pause g) y).1 → Row (Offers g) o h y
       → Row (stance (on_paused deck more before g r)) o h (element_step (element_op.Pause g) y).0
-  paused_row deck more before g y r e (offered a b q) = rw (e, q, eq-eqb g g refl) (offered a b refl)
-  paused_row deck more before g y r e (taken a b q) = rw (e, q, eq-eqb g g refl) (taken a b refl)
-  paused_row deck more before g y r e (handed code a b q) =
-      rw (e, q, eq-eqb g g refl) (given_row deck more before code (g + 1) (reset (g + 1)) (a, b, refl))
+  paused_row deck more before g y r e x = grind (arith, common_steps, eq-eqb, offered, taken, given_row)
 
   resumed_row : (deck : List JobData) (more : ℕ) (before : List ℕ) (g : ℕ) (y : ElementState) (r : Reply)
       → r ≡ reply_of.Element (element_step (element_op.Resume g) y).1 → Row (Parks g) o h y
       → Row (stance (on_resumed deck more before r)) o h (element_step (element_op.Resume g) y).0
-  resumed_row deck more before g y r e (offered a b q) = rw (e, q, eq-eqb g g refl) tt
-  resumed_row deck more before g y r e (taken a b q) = rw (e, q, eq-eqb g g refl) tt
-  resumed_row deck more before g y r e (handed code a b q) =
-      rw (e, q, eq-eqb g g refl) (given_row deck more before code (g + 1) (reset (g + 1)) (a, b, refl))
+  resumed_row deck more before g y r e x = grind (arith, common_steps, eq-eqb, given_row)
 
   closed_row : (g : ℕ) (y : ElementState) (r : Reply) → r ≡ reply_of.Element (element_step (element_op.Close g) y).1
       → Row (Works g) o h y

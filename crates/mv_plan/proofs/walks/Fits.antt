@@ -71,12 +71,8 @@ step_unposted c k place (latch_op.Release latch id conditional) lists e adm a =
 step_unposted c k place (latch_op.Purge requestor) lists e adm a = purged_unposted requestor lists a
 
 wakes_unposted : (k : ℕ) (op : LatchOp) (lists : List (List Request)) → AllUnposted lists → PostNothing (wakes k op lists)
-wakes_unposted k (latch_op.Obtain latch requestor mode form) lists a = tt
-wakes_unposted k (latch_op.Confirm latch id) lists a = tt
-wakes_unposted k (latch_op.Release latch id conditional) lists a =
-    grind (arith, common_steps, wakes_of_unposted, all_filter, granted_unposted, released_unposted, list_unposted)
-wakes_unposted k (latch_op.Purge requestor) lists a =
-    grind (arith, common_steps, all_append, wakes_of_unposted, all_flat, all_filter, all_drop, granted_unposted)
+wakes_unposted k x lists a =
+    grind (arith, common_steps, common_steps, wakes_of_unposted, all_filter, granted_unposted, released_unposted, list_unposted, all_append, all_flat, all_drop)
 
 -- ---- exits
 
