@@ -1,7 +1,7 @@
 -- How many events the reader, the scheduler and the writer may still make, by their points; and that each event takes one of
 -- them. Used by Within.
 use Rattle.mv_plan.proofs.Words.{◌≡◌, ℕ, zero, suc, ◌+◌, ◌*◌, ◌≤◌, nat_le, true, false, cond, List, [], ◌∷◌, ◌++◌, length, Option, refl}
-use Rattle.mv_plan.proofs.Words.{arith, length-map, length-map-range_with_len, Reply, After, Step, JobData, complete_count, ends_of}
+use Rattle.mv_plan.proofs.Words.{arith, length-map, length-map-range_with_len, Reply, After, Step, JobData, complete_count}
 use Rattle.mv_plan.proofs.Words.{end_for_scheduler, idle}
 use Rattle.mv_ecb.specs.declared.operation.EcbReply.TheVariants as ecb_reply
 use Rattle.mv_element.specs.declared.operation.ElementReply.TheVariants as element_reply
@@ -9,7 +9,7 @@ use Rattle.mv_machine.specs.declared.entry.Reply.TheVariants as reply_of
 use Rattle.mv_plan.proofs.deck.Events.{after_parts}
 use Rattle.mv_plan.proofs.points.Points.{Point, At, TooSoon, ReaderAt, Entering, entering_from, reader_goes, Arming, Settling, Stage}
 use Rattle.mv_plan.proofs.points.Points.{Dispatching, Dismissing, Awaited, ForEntry, ForEnds, ForIdle, ToDismiss, SchedulerAt, Waits}
-use Rattle.mv_plan.proofs.points.Points.{Extends, Clears, Releases, awaited_blocks, arming_first, ends_at, dismissing_from}
+use Rattle.mv_plan.proofs.points.Points.{Extends, Clears, Releases, awaited_blocks, arming_first, ends_at}
 use Rattle.mv_plan.proofs.points.Points.{stage_at, found_at, settling_from, arming_from, scheduler_goes, WriterAt, Keeping, writing_from}
 use Rattle.mv_plan.proofs.points.Points.{end_found, lowest_at, writer_goes}
 use Rattle.mv_plan.proofs.points.PostsAndWaits.{on_armed_keeps, on_settled_keeps, lowest_keeps}
@@ -105,11 +105,6 @@ module _ (n initiators : ℕ) where
   blocks (ForEnds j job jobs) = length-map job.after (λ part. end_for_scheduler n part.job)
   blocks (ForIdle j job jobs skipped) = length-map-range_with_len (idle n) 0 initiators
   blocks (ToDismiss i more) = refl
-
-  -- where it begins to dismiss
-  dismissing_rest : (i more : ℕ) → scheduler_rest (dismissing_from n i more) ≤ 4 * more
-  dismissing_rest i zero = omega arith
-  dismissing_rest i (suc more) = omega arith
 
   -- where it begins a stage
   pub stage_starts : (after : Stage) → scheduler_rest (stage_at n initiators after) ≤ stage_rest after

@@ -5,7 +5,7 @@ use Rattle.mv_plan.specs.SpoolSetup.{done}
 use Rattle.mv_ecb.specs.declared.operation.EcbOp.TheVariants as ecb_op
 use Rattle.mv_machine.specs.declared.entry.Op.TheVariants as op_on
 use Rattle.mv_plan.proofs.points.Points.{ReaderAt, Entering, reader_asks, Awaited, ForEntry, ForEnds, ForIdle, ToDismiss, awaited_blocks}
-use Rattle.mv_plan.proofs.points.Points.{InitiatorAt, Offering, EndingJob, EndingForScheduler, EndingForWriter, initiator_asks, InJob}
+use Rattle.mv_plan.proofs.points.Points.{InitiatorAt, initiator_asks}
 use Rattle.mv_plan.proofs.points.SchedulerSound.{rest_below, IsAwaited}
 use Rattle.std.proofs.lemmas.Grind.{common_steps}
 

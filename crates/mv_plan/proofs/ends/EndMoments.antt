@@ -5,7 +5,7 @@ use Rattle.mv_plan.specs.SpoolSetup.{done}
 use Rattle.mv_ecb.specs.declared.operation.EcbOp.TheVariants as ecb_op
 use Rattle.mv_machine.specs.declared.entry.Op.TheVariants as op_on
 use Rattle.mv_plan.proofs.deck.Plans.{IsPlanned}
-use Rattle.mv_plan.proofs.points.Points.{Point, At, Finished, TooSoon, Astray, ReaderAt, reader_asks, SchedulerAt, scheduler_asks}
+use Rattle.mv_plan.proofs.points.Points.{Point, At, ReaderAt, reader_asks, SchedulerAt, scheduler_asks}
 use Rattle.mv_plan.proofs.points.Points.{writer_asks, Running, InitiatorAt, Offering}
 use Rattle.mv_plan.proofs.points.Points.{initiator_asks}
 use Rattle.mv_plan.proofs.walks.Walks.{Points}
@@ -19,7 +19,7 @@ use Rattle.mv_plan.proofs.ends.Complete.{IsComplete, NotComplete}
 use Rattle.mv_plan.proofs.ends.Awaited.{initiator_ecb}
 use Rattle.mv_plan.proofs.ends.RightCodes.{Codes, reader_releases, scheduler_releases, initiator_releases, writer_releases}
 use Rattle.mv_plan.proofs.ends.WhoPosts.{post_by, posts_run}
-use Rattle.mv_plan.proofs.ends.Posted.{Posted, DoneBlocks, extended_at, next_extended}
+use Rattle.mv_plan.proofs.ends.Posted.{Posted, DoneBlocks}
 use Rattle.mv_plan.proofs.ends.Posted.{reader_ends, scheduler_no_post, scheduler_clears, writer_no_post, writer_clears_none}
 use Rattle.mv_plan.proofs.ends.Posted.{clear_is_no_post}
 use Rattle.mv_plan.proofs.ends.Traces.{Traces, traces_next}

@@ -11,14 +11,14 @@ use Rattle.mv_element.specs.declared.operation.ElementOp.TheVariants as element_
 use Rattle.mv_machine.specs.declared.entry.Op.TheVariants as op_on
 use Rattle.mv_machine.specs.declared.entry.Reply.TheVariants as reply_of
 use Rattle.mv_plan.proofs.points.Points.{Point, At, Finished, TooSoon, Astray, ReaderAt, Entering, reader_asks, reader_goes, rounds_after}
-use Rattle.mv_plan.proofs.points.Points.{Arming, Settling, Stage, Dispatching, Dismissing, ForEntry, ForEnds, ForIdle}
-use Rattle.mv_plan.proofs.points.Points.{ToDismiss, SchedulerAt, Waits, Extends, Clears, Releases, awaited_blocks, scheduler_asks}
+use Rattle.mv_plan.proofs.points.Points.{Arming, Settling, Dispatching}
+use Rattle.mv_plan.proofs.points.Points.{SchedulerAt, Waits, Extends, Clears, Releases, awaited_blocks, scheduler_asks}
 use Rattle.mv_plan.proofs.points.Points.{scheduler_goes, stage_at, dismissing_from, WriterAt, Keeping, writer_asks, Running, InitiatorAt}
 use Rattle.mv_plan.proofs.points.Points.{EndingJob, EndingForScheduler, EndingForWriter, initiator_asks, initiator_goes, InJob}
 use Rattle.mv_plan.proofs.points.PostsAndWaits.{on_posted_keeps}
 use Rattle.mv_plan.proofs.walks.Walks.{Points, start_points}
 use Rattle.mv_plan.proofs.points.ReaderAndWriter.{IsReaderAt, IsWriterAt}
-use Rattle.mv_plan.proofs.points.SchedulerSound.{IsStage, IsHanded, IsSchedulerAt, stage_extended, awaited_extended}
+use Rattle.mv_plan.proofs.points.SchedulerSound.{IsSchedulerAt, stage_extended, awaited_extended}
 use Rattle.mv_plan.proofs.points.InitiatorSound.{IsInitiatorAt, named_is}
 use Rattle.mv_plan.proofs.places.Places.{Places, Coming, Run}
 use Rattle.mv_plan.proofs.ends.Blocks.{HasEnd, done_has, scheduler_has, writer_has, entered_none, idle_none}
@@ -28,11 +28,10 @@ use Rattle.mv_plan.proofs.ends.Complete.{held_moved}
 use Rattle.mv_plan.proofs.points.Stages.{ByStage, stage_map, stage_goes, NotEnding}
 use Rattle.mv_plan.proofs.ends.Awaited.{IsIn, in_seam, awaited_plain, initiator_ecb}
 use Rattle.mv_plan.proofs.points.SchedulerNext.{AllNext, goes_next, next_grows}
-use Rattle.mv_plan.proofs.deck.Codes.{never_zero}
 use Rattle.mv_plan.proofs.ends.WhoPosts.{offers, ends_job, ends_scheduler, ends_writer, post_by, initiator_no_release, run_below, posts_run}
 use Rattle.mv_plan.proofs.ends.WhoPosts.{posts_no_entered}
 use Rattle.mv_plan.proofs.walks.Moves.{KeepsUnder, by_moves, entry_of, block, element}
-use Rattle.mv_plan.proofs.points.Views.{code_held, run_of, next_job, next_in}
+use Rattle.mv_plan.proofs.points.Views.{code_held, run_of, next_job}
 use Rattle.mv_plan.proofs.lists.Tables.{all_but}
 use Rattle.mv_plan.proofs.points.Lands.{rounds_land, ended_lands}
 use Rattle.mv_plan.proofs.ends.RightCodes.{starts_held}
@@ -463,12 +462,6 @@ module _ (deck : List JobData) (initiators : ℕ) where
       absurd (omega arith)
   scheduler_untouched (Releases i g code after) j s below o = absurd (cc o)
 
-  -- the job that is released is the next
-  stage_released : (i code j : ℕ) (skipped : Bool) (after : Stage) → length deck ≤ not_to_run → IsStage deck initiators after
-      → IsHanded i code after → j < length deck → code ≡ code_of j skipped → next_in (length deck) after ≤ j
-  stage_released i code j skipped (Dispatching m jobs) few s w below e = grind (arith, common_steps)
-  stage_released i code j skipped (Dismissing m more) few s w below e = absurd (never_zero j skipped (sym e ∙ w.1))
-
   released_next : (x : SchedulerAt) (g j : ℕ) (skipped : Bool) → length deck ≤ not_to_run → IsSchedulerAt deck initiators (At x)
       → j < length deck → (scheduler_asks (length deck) x).1 ≡ op_on.Element (element_op.Release g (code_of j skipped))
       → next_job (length deck) (At x) ≤ j
@@ -478,11 +471,6 @@ module _ (deck : List JobData) (initiators : ℕ) where
       → DoneBlocks (length deck) v (dismissing_from (length deck) i more)
   dismissing_done v i zero sp = sp
   dismissing_done v i (suc more) sp = sp
-
-  stage_done : (v : System) (after : Stage) → IsStage deck initiators after
-      → IsSplit (length deck) v (stage_extended (length deck) after)
-      → DoneBlocks (length deck) v (stage_at (length deck) initiators after)
-  stage_done v x s sp = grind (arith, common_steps)
 
   -- where no done block was touched, the next point has extended as many
   nexts_done : (v : System) (x : SchedulerAt) → IsSchedulerAt deck initiators (At x)

@@ -1,19 +1,18 @@
 -- The codes that pass between the tasks are the deck's: a block with a job's end holds that end, an element holds 0 or a job's
 -- code with the deck's mark, and the writer keeps the deck's ends. No induction over jobs: all blocks at once.
-use Rattle.mv_plan.proofs.Words.{◌≡◌, ℕ, zero, suc, ◌+◌, ◌<◌, List, [], ◌∷◌, ◌++◌, length, get_or, Option, Some, None, ◌⊎◌, inl, inr, refl}
+use Rattle.mv_plan.proofs.Words.{◌≡◌, ℕ, suc, ◌+◌, ◌<◌, List, [], ◌∷◌, ◌++◌, length, get_or, Option, Some, None, ◌⊎◌, inl, inr, refl}
 use Rattle.mv_plan.proofs.Words.{sym, ap, ◌∙◌, subst, append-nil, append_assoc, arith, length-append, get_or-append_seam, Complete, Entry}
 use Rattle.mv_plan.proofs.Words.{Object, Ecb, Element, Op, Reply, IsNext, Setup, System, moved, opening, JobData, end_of, ends}
 use Rattle.mv_plan.proofs.Words.{end_for_writer, initiator, Named, job_named, code_of, one_end_per_job}
 use Rattle.mv_ecb.specs.declared.operation.EcbOp.TheVariants as ecb_op
 use Rattle.mv_ecb.specs.declared.operation.EcbReply.TheVariants as ecb_reply
 use Rattle.mv_element.specs.declared.operation.ElementOp.TheVariants as element_op
-use Rattle.mv_element.specs.declared.operation.ElementReply.TheVariants as element_reply
 use Rattle.mv_machine.specs.declared.entry.Op.TheVariants as op_on
 use Rattle.mv_machine.specs.declared.entry.Reply.TheVariants as reply_of
 use Rattle.mv_plan.proofs.deck.Plans.{IsPlanned}
-use Rattle.mv_plan.proofs.points.Points.{Point, At, Finished, ReaderAt, Entering, reader_asks, Arming, Settling, Dispatching, Dismissing}
-use Rattle.mv_plan.proofs.points.Points.{running, SchedulerAt, Waits, Releases, scheduler_asks, WriterAt, Keeping, writing_from, end_found}
-use Rattle.mv_plan.proofs.points.Points.{writer_asks, writer_goes, Running, InitiatorAt, Opening, Offering, Pausing, Resuming, Obtaining}
+use Rattle.mv_plan.proofs.points.Points.{Point, At, Finished, ReaderAt, Entering, reader_asks, Arming, Settling, Dispatching}
+use Rattle.mv_plan.proofs.points.Points.{running, SchedulerAt, Waits, scheduler_asks, WriterAt, Keeping, writing_from, end_found}
+use Rattle.mv_plan.proofs.points.Points.{writer_asks, writer_goes, Running, InitiatorAt, Offering}
 use Rattle.mv_plan.proofs.points.Points.{EndingJob, EndingForScheduler, EndingForWriter, initiator_asks, initiator_goes, stage_at, InJob}
 use Rattle.mv_plan.proofs.points.PostsAndWaits.{on_armed_keeps}
 use Rattle.mv_plan.proofs.walks.Walks.{Points, start_points}
@@ -24,7 +23,7 @@ use Rattle.mv_plan.proofs.deck.Ends.{is_skipped, end_by_mark}
 use Rattle.mv_plan.proofs.ends.Complete.{complete_moved, held_moved}
 use Rattle.mv_plan.proofs.ends.Blocks.{settled_code, HasEnd, entered_none, idle_none, scheduler_has, writer_has}
 use Rattle.mv_plan.proofs.ends.Blocks.{done_one, scheduler_one, writer_one}
-use Rattle.mv_plan.proofs.ends.SchedulerMarks.{IsMarked, IsCodeFor, FindsEnds, scheduler_marks, dismissing_marked}
+use Rattle.mv_plan.proofs.ends.SchedulerMarks.{IsMarked, FindsEnds, scheduler_marks, dismissing_marked}
 use Rattle.mv_plan.proofs.points.RunningJob.{OfRun, Starts, runs_goes}
 use Rattle.mv_plan.proofs.walks.Stands.{HasStanding}
 use Rattle.mv_plan.proofs.deck.Codes.{never_zero}
@@ -190,10 +189,6 @@ module _ (deck : List JobData) (initiators : ℕ) (sound : IsPlanned deck initia
   pub initiator_releases : (i : ℕ) (x : InitiatorAt)
       → ReleasesCodes deck (initiator_asks (length deck) i x).0 (initiator_asks (length deck) i x).1
   initiator_releases i x m g d p q = grind (arith, common_steps)
-
-  code_for : (code : ℕ) (after : _) → IsCodeFor deck code after → IsCode deck code
-  code_for code (Dispatching j jobs) f = inr (f.0, f.1, f.3)
-  code_for code (Dismissing i more) f = inl f
 
   pub scheduler_releases : (x : SchedulerAt) → IsMarked deck (At x)
       → ReleasesCodes deck (scheduler_asks (length deck) x).0 (scheduler_asks (length deck) x).1

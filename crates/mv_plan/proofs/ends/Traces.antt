@@ -1,7 +1,7 @@
 -- What the entries so far say of the blocks with the jobs' ends: the codes that were posted are those that the blocks hold.
 use Rattle.mv_plan.proofs.Words.{◌≡◌, ℕ, ◌+◌, ◌<◌, ◌==◌, Bool, List, [], ◌∷◌, ◌++◌, length, map, Some, None, ◌⊎◌, inl, inr}
 use Rattle.mv_plan.proofs.Words.{refl, sym, ap, ◌∙◌, subst, append-nil, arith, AllByRecursion, filter_map-append}
-use Rattle.mv_plan.proofs.Words.{EcbOp, ecb_step, EcbState, Zero, Extended, Complete, Entry, Object, Ecb, Element, Op, Reply, IsNext, Setup}
+use Rattle.mv_plan.proofs.Words.{EcbOp, ecb_step, EcbState, Extended, Complete, Entry, Object, Ecb, Element, Op, Reply, IsNext, Setup}
 use Rattle.mv_plan.proofs.Words.{System, moved, opening, posts, post_codes, JobData, not_run, end_of, end_for_scheduler, end_for_writer}
 use Rattle.mv_plan.proofs.Words.{code_of, all_push}
 use Rattle.mv_plan.specs.PostingEnds.{post_in, FindsEnd}

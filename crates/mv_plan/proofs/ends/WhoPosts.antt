@@ -1,10 +1,10 @@
 -- Which block an initiator posts at a point, and that who posts a job's end runs it.
-use Rattle.mv_plan.proofs.Words.{◌≡◌, ℕ, ◌<◌, List, length, Option, Some, refl, sym, ap, subst, arith, EcbOp, Ecb, JobData, Counts, entered}
+use Rattle.mv_plan.proofs.Words.{◌≡◌, ℕ, ◌<◌, List, length, Some, refl, sym, ap, subst, arith, EcbOp, Ecb, JobData, Counts, entered}
 use Rattle.mv_plan.proofs.Words.{end_for_scheduler, end_for_writer, idle}
 use Rattle.mv_plan.specs.SpoolSetup.{done}
 use Rattle.mv_element.specs.declared.operation.ElementOp.TheVariants as element_op
 use Rattle.mv_machine.specs.declared.entry.Op.TheVariants as op_on
-use Rattle.mv_plan.proofs.points.Points.{Point, At, Running, InitiatorAt, Opening, Offering, Obtaining, Freeing, EndingJob}
+use Rattle.mv_plan.proofs.points.Points.{Point, At, Running, InitiatorAt, Offering, EndingJob}
 use Rattle.mv_plan.proofs.points.Points.{EndingForScheduler, EndingForWriter, initiator_asks, InJob}
 use Rattle.mv_plan.proofs.points.InitiatorSound.{IsInitiatorAt}
 use Rattle.mv_plan.proofs.ends.Blocks.{HasEnd, idle_none, done_one, scheduler_one, writer_one}
@@ -30,9 +30,6 @@ post_by n i x b op o e = absurd (cc o)
 -- an initiator releases nothing
 pub initiator_no_release : (n i : ℕ) (x : InitiatorAt) (g d : ℕ) → (initiator_asks n i x).1 ≡ op_on.Element (element_op.Release g d) → ⊥
 initiator_no_release n i x g d e = grind (arith, common_steps)
-
-below_same : (r run : Running) (n : ℕ) → ◌≡◌ {A = Option Running} (Some r) (Some run) → r.job < n → run.job < n
-below_same r run n e lt = let q : r ≡ run = cc e in subst (λ (z : Running). z.job < n) q lt
 
 -- the job that is run is one of the deck's
 pub run_below : (deck : List JobData) (p : Point InitiatorAt) (run : Running) → IsInitiatorAt deck p → run_of p ≡ Some run

@@ -1,5 +1,5 @@
 -- The writer has found the end of each job before the one that it waits for; so at its end all are posted.
-use Rattle.mv_plan.proofs.Words.{◌≡◌, ℕ, zero, suc, ◌+◌, ◌<◌, List, [], ◌∷◌, ◌++◌, length, Option, Some, None, inl, inr, sym, subst, arith}
+use Rattle.mv_plan.proofs.Words.{◌≡◌, ℕ, zero, suc, ◌+◌, ◌<◌, List, [], ◌∷◌, ◌++◌, length, Option, Some, None, inl, inr, subst, arith}
 use Rattle.mv_plan.proofs.Words.{cases_lt, Entry, Reply, IsNext, Setup, System, moved, opening, JobData, end_for_writer, idle, reader}
 use Rattle.mv_plan.proofs.Words.{scheduler, initiator, writer}
 use Rattle.mv_ecb.specs.declared.operation.EcbOp.TheVariants as ecb_op
@@ -10,12 +10,11 @@ use Rattle.mv_plan.proofs.points.Points.{writer_asks, writer_goes, reader_asks, 
 use Rattle.mv_plan.proofs.points.PostsAndWaits.{on_armed_keeps}
 use Rattle.mv_plan.proofs.walks.Walks.{Points, start_points}
 use Rattle.mv_plan.proofs.points.ReaderAndWriter.{IsWriterAt}
-use Rattle.mv_plan.proofs.ends.Blocks.{settled_code}
 use Rattle.mv_plan.proofs.walks.Stands.{HasStanding}
 use Rattle.mv_plan.proofs.ends.Complete.{IsComplete, is_moved}
 use Rattle.mv_plan.proofs.ends.Awaited.{reader_ecb, initiator_ecb}
 use Rattle.mv_plan.proofs.ends.Posted.{scheduler_clears, writer_clears_none, clear_is_no_post}
-use Rattle.mv_plan.proofs.walks.Moves.{KeepsUnder, by_moves, entry_of, block, block_reply}
+use Rattle.mv_plan.proofs.walks.Moves.{KeepsUnder, by_moves, entry_of}
 use Rattle.std.proofs.lemmas.Grind.{common_steps}
 
 -- the ends of all jobs below are posted to the writer

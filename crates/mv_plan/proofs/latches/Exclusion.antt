@@ -1,7 +1,7 @@
 -- Who touches a volume holds its latch, and who counts on it holds it alone; so no two initiators stand so at one volume.
 use Rattle.mv_plan.proofs.Words.{◌≡◌, ℕ, ◌<◌, ◌==◌, Bool, true, false, not, ◌&&◌, ◌||◌, List, [], ◌∷◌, length, Option, Some, None}
-use Rattle.mv_plan.proofs.Words.{refl, sym, ap, ◌∙◌, subst, arith, Contains, list_any, eqb-true, false≢true, Request, granted, list_of}
-use Rattle.mv_plan.proofs.Words.{is_shared, shared_request, not_in_empty, System, JobData, initiator, all_at}
+use Rattle.mv_plan.proofs.Words.{refl, sym, ap, ◌∙◌, subst, arith, Contains, list_any, eqb-true, Request, granted, list_of}
+use Rattle.mv_plan.proofs.Words.{is_shared, shared_request, System, JobData, initiator, all_at}
 use Rattle.mv_latch.proofs.Holders.{alone}
 use Rattle.mv_plan.proofs.deck.Plans.{is_held, is_held_alone}
 use Rattle.mv_plan.proofs.latches.Asked.{finds, found, request_of}
@@ -9,7 +9,7 @@ use Rattle.mv_plan.proofs.latches.HandMoves.{has_latch, works, Apart}
 use Rattle.mv_plan.proofs.latches.Hands.{grip, OwnsBy, Hands, Holds}
 use Rattle.mv_plan.proofs.points.InitiatorSound.{held_of, IsInitiatorAt}
 use Rattle.mv_plan.proofs.places.Places.{Places, Run}
-use Rattle.mv_plan.proofs.points.Points.{Point, At, Grant, Running, InitiatorAt, Reading, Writing, Scanning, Rescanning, Purging, InJob}
+use Rattle.mv_plan.proofs.points.Points.{Point, At, Grant, Running, InitiatorAt, Reading, Writing, Scanning, Rescanning, InJob}
 use Rattle.mv_plan.proofs.walks.Walks.{Points}
 use Rattle.mv_plan.proofs.points.Views.{run_of}
 use Rattle.std.proofs.lemmas.Grind.{common_steps}

@@ -13,7 +13,7 @@ use Rattle.mv_machine.specs.declared.entry.VolumeReply.TheVariants as volume_rep
 use Rattle.mv_machine.proofs.EntryRuns.{entry_of}
 use Rattle.mv_machine.proofs.StandingRuns.{names_of}
 use Rattle.mv_plan.proofs.deck.Plans.{is_held}
-use Rattle.mv_plan.proofs.latches.Hands.{Grip, Lost, Idle, Works, grip, OwnsBy, IsKnown, Hands, SparesJob, other_owns, obtain_owns}
+use Rattle.mv_plan.proofs.latches.Hands.{Grip, Works, grip, OwnsBy, IsKnown, Hands, SparesJob, other_owns, obtain_owns}
 use Rattle.mv_plan.proofs.latches.Hands.{obtain_holds, confirm_owns, free_stands, free_owns, purge_owns, rounds_own, steps_own, given_owns}
 use Rattle.mv_plan.proofs.latches.Hands.{counting_owns}
 use Rattle.mv_plan.proofs.points.InitiatorSound.{held_of, IsInitiatorAt}

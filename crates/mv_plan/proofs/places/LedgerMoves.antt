@@ -1,31 +1,28 @@
 -- The ledger is kept by each move at which no task is lost.
 use Rattle.mv_plan.proofs.Words.{◌≡◌, ℕ, ◌+◌, ◌-◌, ◌<◌, ◌≤◌, Bool, if◌then◌else◌, List, length, Option, Some, None, ◌⊎◌, inl, inr, refl}
-use Rattle.mv_plan.proofs.Words.{sym, ap, ◌∙◌, subst, arith, cases_eq, eq-eqb, ElementState, reset, element_step, Entry, Element, Ecb}
+use Rattle.mv_plan.proofs.Words.{sym, ap, ◌∙◌, subst, arith, cases_eq, eq-eqb, ElementState, element_step, Entry, Element}
 use Rattle.mv_plan.proofs.Words.{Reply, IsNext, next, Setup, System, moved, reply_to, with_at, release_code, gift_code, JobData, Kept}
 use Rattle.mv_plan.proofs.Words.{reader, scheduler, initiator, writer, code_of, not_to_run}
-use Rattle.mv_element.specs.Element.{paused}
-use Rattle.mv_ecb.specs.declared.operation.EcbOp.TheVariants as ecb_op
 use Rattle.mv_element.specs.declared.operation.ElementOp.TheVariants as element_op
 use Rattle.mv_machine.specs.declared.entry.Op.TheVariants as op_on
 use Rattle.mv_machine.specs.declared.entry.Reply.TheVariants as reply_of
 use Rattle.mv_plan.proofs.points.ReaderAndWriter.{IsReaderAt, IsWriterAt}
 use Rattle.mv_plan.proofs.places.Deeds.{Deed, went_on, started, left, stopped, elsewhere_gave, initiator_did}
-use Rattle.mv_plan.proofs.standing.Row.{Stance, Offers, Parks, Loses, stance, offered, taken, handed, Row, RowAt, hold_for, offer_of}
+use Rattle.mv_plan.proofs.standing.Row.{Stance, Loses, stance, Row, RowAt, hold_for, offer_of}
 use Rattle.mv_plan.proofs.standing.Row.{element_of, row_at, Apart, apart}
 use Rattle.mv_plan.proofs.points.InitiatorSound.{IsInitiatorAt}
 use Rattle.mv_plan.proofs.places.Ledger.{element_code, runs_at, befores_at, Ledger, LedgerNext, quiet, releases, dismisses, leaves, starts}
 use Rattle.mv_plan.proofs.places.Ledger.{stops}
 use Rattle.mv_plan.proofs.points.SchedulerNext.{NoRelease, same_next, dispatched_next, dismissed_next, next_bound}
-use Rattle.mv_plan.proofs.points.Points.{Point, At, TooSoon, Astray, Stage, Dispatching, Dismissing, Arming, reader_asks, reader_goes}
-use Rattle.mv_plan.proofs.points.Points.{SchedulerAt, Waits, Releases, scheduler_asks, scheduler_goes, writer_asks, writer_goes}
-use Rattle.mv_plan.proofs.points.Points.{InitiatorAt, Opening, Obtaining, initiator_asks, initiator_goes, InJob}
+use Rattle.mv_plan.proofs.points.Points.{Point, At, Stage, Dispatching, Dismissing, reader_asks, reader_goes}
+use Rattle.mv_plan.proofs.points.Points.{SchedulerAt, Releases, scheduler_asks, scheduler_goes, writer_asks, writer_goes}
+use Rattle.mv_plan.proofs.points.Points.{InitiatorAt, initiator_asks, initiator_goes}
 use Rattle.mv_plan.proofs.points.SchedulerSound.{IsSchedulerAt, rest_count}
 use Rattle.mv_plan.proofs.standing.Rows.{Rows, reader_low, writer_low}
 use Rattle.mv_plan.proofs.walks.Stands.{Stand}
 use Rattle.mv_plan.proofs.walks.NoneLost.{NoneLost, SameTalk, same_talk}
 use Rattle.mv_plan.proofs.walks.Walks.{Points, Move}
-use Rattle.mv_plan.proofs.points.Asks.{no_release, release_gives, reader_plain, writer_plain, Elsewhere, no_gift as gives_none}
-use Rattle.mv_plan.proofs.points.Asks.{scheduler_no_pause}
+use Rattle.mv_plan.proofs.points.Asks.{no_release, release_gives, reader_plain, writer_plain, Elsewhere}
 use Rattle.mv_plan.proofs.walks.Moves.{entry_of, Each, of_move}
 use Rattle.mv_plan.proofs.lists.Tables.{with_at-same, with_at-other}
 use Rattle.mv_plan.proofs.points.Views.{code_held, run_of, named_before, next_job, IsNotLost}
@@ -39,12 +36,6 @@ has_stance p f e = grind (arith, common_steps)
 pub record Fresh (g code : ℕ) (x : ElementState) : Type 0 where
   pub before : code_held x ≡ None
   pub after : code_held (element_step (element_op.Release g code) x).0 ≡ Some code
-
-fresh_reset : (g m code : ℕ) (x : ElementState) → g ≡ m → x ≡ reset m → Fresh g code x
-fresh_reset g m code x e q = record { before = rw q refl; after = rw (q, e, eq-eqb m m refl) refl }
-
-fresh_paused : (g m code : ℕ) (x : ElementState) → g ≡ m → x ≡ paused m → Fresh g code x
-fresh_paused g m code x e q = record { before = rw q refl; after = rw (q, e, eq-eqb m m refl) refl }
 
 pub row_fresh : (st : Stance) (g code : ℕ) (o : Option ℕ) (x : ElementState) → (st ≡ Loses → ⊥) → Row st o (Some g) x → Fresh g code x
 row_fresh y g code o x d w = grind (arith, common_steps)

@@ -1,6 +1,6 @@
 -- A moment: all that is known where no task is lost (kept, sound points, rows, ledger), and the induction that may use it.
 -- Results on runs are proved by walk_moments.
-use Rattle.mv_plan.proofs.Words.{◌≡◌, ℕ, zero, suc, ◌≤◌, List, [], ◌∷◌, ◌++◌, length, refl, arith, Entry, IsNext, next, after_from, Setup}
+use Rattle.mv_plan.proofs.Words.{◌≡◌, ℕ, ◌≤◌, List, [], ◌∷◌, ◌++◌, length, refl, arith, Entry, IsNext, next, after_from, Setup}
 use Rattle.mv_plan.proofs.Words.{System, opening, JobData, Kept, nothing_kept, not_to_run}
 use Rattle.mv_plan.proofs.deck.Plans.{ArePlannedJobs}
 use Rattle.mv_plan.proofs.walks.Fits.{Fits, fits_opening, fits_next}

@@ -1,7 +1,7 @@
 -- An initiator that runs a job goes on with it, is done with it, or is lost; it touches no element and no initiator's block;
 -- and what holds of a job when it is started holds of it as long as it is run. Used by rows, deeds and right codes.
 use Rattle.mv_plan.proofs.Words.{◌≡◌, ℕ, zero, suc, ◌+◌, ◌<◌, Bool, true, false, List, [], ◌∷◌, length, Option, Some, None, ◌⊎◌, inl, inr}
-use Rattle.mv_plan.proofs.Words.{refl, sym, ap, ◌∙◌, subst, arith, ◌==◌, ◌++◌, Reply, JobData, Step, Print, job_at, list_any, Named}
+use Rattle.mv_plan.proofs.Words.{refl, subst, arith, ◌==◌, Reply, JobData, Step, Print, job_at, list_any, Named}
 use Rattle.mv_plan.proofs.Words.{job_named}
 use Rattle.mv_deck.specs.declared.deck.Step.TheVariants.{Free}
 use Rattle.mv_latch.specs.declared.operation.LatchReply.TheVariants as latch_reply
@@ -10,7 +10,7 @@ use Rattle.mv_machine.specs.declared.entry.VolumeReply.TheVariants as volume_rep
 use Rattle.mv_plan.proofs.points.Points.{Point, At, Astray, Running, Hand, InitiatorAt, Opening, Offering, Pausing, Resuming, Obtaining}
 use Rattle.mv_plan.proofs.points.Points.{Confirming, Freeing, Reading, Writing, Scanning, Rescanning, Purging, EndingJob}
 use Rattle.mv_plan.proofs.points.Points.{EndingForScheduler, EndingForWriter, Closing, initiator_asks, initiator_goes, steps_at}
-use Rattle.mv_plan.proofs.points.Points.{job_start, rounds_after, empty_hand, rounds_from, running, given_at, Finished, TooSoon, JobAt}
+use Rattle.mv_plan.proofs.points.Points.{job_start, rounds_after, empty_hand, rounds_from, running, given_at, JobAt}
 use Rattle.mv_plan.proofs.points.Points.{InJob}
 use Rattle.mv_plan.proofs.points.InitiatorSound.{IsRunning, IsInitiatorAt}
 use Rattle.mv_plan.proofs.points.PostsAndWaits.{on_posted_keeps}
@@ -103,15 +103,9 @@ module _ (Q : Running → Type 0) where
   no_run : {run : Running} → ◌≡◌ {A = Option Running} None (Some run) → Q run
   no_run e = absurd (cc e)
 
-  is_run : (run other : Running) → Q run → ◌≡◌ {A = Option Running} (Some run) (Some other) → Q other
-  is_run run other q e = subst Q (cc e) q
-
   rounds_run : (more : ℕ) (before : List ℕ) (g : ℕ) → OfRun Q (rounds_from more before g)
   rounds_run zero before g run e = no_run e
   rounds_run (suc more) before g run e = no_run e
-
-  lost_run : (p : Point InitiatorAt) → (IsNotLost p → ⊥) → OfRun Q p
-  lost_run x n other e = grind (arith, common_steps)
 
   goes_on_run : (run : Running) (p : Point InitiatorAt) → Q run → GoesOn run p → OfRun Q p
   goes_on_run run p q x other e = grind (arith, common_steps)

@@ -17,8 +17,8 @@ use Rattle.mv_plan.proofs.deck.Plans.{IsPlannedJob, ArePlannedJobs}
 use Rattle.mv_plan.proofs.points.Points.{At, Arming, Settling, Stage, Dispatching, Dismissing, Awaited, ForEntry, ForEnds, ForIdle}
 use Rattle.mv_plan.proofs.points.Points.{ToDismiss, SchedulerAt, Waits, Extends, Clears, Releases, awaited_blocks, awaited_count}
 use Rattle.mv_plan.proofs.points.Points.{scheduler_asks, scheduler_goes, arming_first, arming_from, settling_from, found_at, ends_at}
-use Rattle.mv_plan.proofs.points.Points.{dismissing_from, stage_at}
-use Rattle.mv_plan.proofs.points.Programs.{program_at, dismissals, stage_call, staged, awaited_then, awaited_stage, scheduler_program}
+use Rattle.mv_plan.proofs.points.Points.{stage_at}
+use Rattle.mv_plan.proofs.points.Programs.{program_at, stage_call, staged, awaited_then, awaited_stage, scheduler_program}
 use Rattle.mv_plan.proofs.points.PostsAndWaits.{armed_goes, settled_goes, lowest_goes, enough_goes}
 use Rattle.mv_plan.proofs.points.ReaderAndWriter.{keeps}
 use Rattle.mv_plan.proofs.points.SchedulerSound.{IsRest, rest_below, rest_sound, IsAwaited, IsStage, stage_extended}
@@ -141,12 +141,6 @@ module _ (c : Setup) (deck : List JobData) (initiators : ℕ) (facts : Facts c (
       (wait_unrefused c 1 (map (idle (length deck)) (range_with_len 0 initiators)) kept (omega arith)
       (idles_distinct (length deck) 0 initiators) (idles_free (j + 1) 0 initiators kept k (omega arith) (omega arith))) refl
       (omega arith)
-
-  dismissing_enters : (i more : ℕ) (kept : Kept) → i + more ≡ initiators → SchedulerKept (length deck) (length deck) kept
-      → dismissals c (length deck) i more kept ≡ program_at (scheduler_program c (length deck) initiators kept)
-      (dismissing_from (length deck) i more)
-  dismissing_enters i zero kept e k = refl
-  dismissing_enters i (suc more) kept e k = grind (arith, common_steps)
 
   pub stage_enters : (after : Stage) (kept : Kept) → IsStage deck initiators after
       → SchedulerKept (length deck) (stage_extended (length deck) after) kept

@@ -1,7 +1,7 @@
 -- Which points of the scheduler may follow one, as one lemma for any fact of points; and what follows: its errand stays but for
 -- a release, and the job that is next does not fall. Used by the ledger, the closings and the posts.
-use Rattle.mv_plan.proofs.Words.{◌≡◌, ℕ, zero, suc, ◌+◌, ◌<◌, ◌≤◌, nat_le, Bool, true, false, cond, List, [], ◌∷◌, ◌++◌, length, Option}
-use Rattle.mv_plan.proofs.Words.{refl, arith, ap, ◌∙◌, ◌-◌, Reply, JobData, After, Step, code_of, some_end_above}
+use Rattle.mv_plan.proofs.Words.{◌≡◌, ℕ, zero, suc, ◌+◌, ◌≤◌, nat_le, Bool, true, false, cond, List, [], ◌∷◌, ◌++◌, length, Option}
+use Rattle.mv_plan.proofs.Words.{refl, arith, ap, ◌∙◌, Reply, JobData, After, Step, code_of, some_end_above}
 use Rattle.mv_plan.proofs.Words.{complete_count}
 use Rattle.mv_ecb.specs.declared.operation.EcbReply.TheVariants as ecb_reply
 use Rattle.mv_element.specs.declared.operation.ElementReply.TheVariants as element_reply
@@ -9,10 +9,10 @@ use Rattle.mv_machine.specs.declared.entry.Reply.TheVariants as reply_of
 use Rattle.mv_plan.proofs.points.Points.{Point, At, TooSoon, Astray, WaitAt, Arming, Settling, Stage, Dispatching, Dismissing, Awaited}
 use Rattle.mv_plan.proofs.points.Points.{ForEntry, ForEnds, ForIdle, ToDismiss, SchedulerAt, Waits, Extends, Clears, Releases}
 use Rattle.mv_plan.proofs.points.Points.{awaited_blocks, awaited_count, scheduler_goes, arming_first, arming_from, settling_from, found_at}
-use Rattle.mv_plan.proofs.points.Points.{ends_at, dismissing_from, stage_at, on_released}
+use Rattle.mv_plan.proofs.points.Points.{ends_at, stage_at, on_released}
 use Rattle.mv_plan.proofs.points.PostsAndWaits.{on_armed_keeps, on_settled_keeps, lowest_keeps}
-use Rattle.mv_plan.proofs.points.SchedulerSound.{rest_below, rest_count, IsAwaited, IsStage, IsSchedulerAt}
-use Rattle.mv_plan.proofs.points.Views.{next_job, next_in, next_awaited, Errand, Dispatches, Dismisses, Rests, errand, next_of, IsNotLost}
+use Rattle.mv_plan.proofs.points.SchedulerSound.{IsSchedulerAt}
+use Rattle.mv_plan.proofs.points.Views.{next_job, Errand, Dispatches, Dismisses, Rests, errand, next_of, IsNotLost}
 use Rattle.std.proofs.lemmas.Grind.{common_steps}
 
 module _ (n initiators : ℕ) (P : Point SchedulerAt → Type 0) where
@@ -90,9 +90,6 @@ abbrev pub NoRelease : SchedulerAt → Type 0
 NoRelease (Releases i g code after) = ⊥
 NoRelease x = Unit {0}
 
-less_one : (k : ℕ) → k + 1 - 1 ≡ k
-less_one k = omega arith
-
 -- the errand behind a release
 abbrev pub after_dismissals : ℕ → ℕ → Errand
 after_dismissals m zero = Rests
@@ -114,13 +111,6 @@ module _ (n initiators : ℕ) where
   pub same_errand : (x : SchedulerAt) (r : Reply) → NoRelease x → IsNotLost (scheduler_goes n initiators x r)
       → errand (scheduler_goes n initiators x r) ≡ errand (At x)
   same_errand x r d f = goes_next n initiators (Same (errand (At x))) x r (λ f. absurd f) (λ f. absurd f) (all_same x d) f
-
-  dismissing_errand : (m more : ℕ) → errand (dismissing_from n m more) ≡ after_dismissals m more
-  dismissing_errand m zero = refl
-  dismissing_errand m (suc more) = refl
-
-  stage_errand : (after : Stage) → errand (stage_at n initiators after) ≡ after_release initiators after
-  stage_errand x = grind (arith, common_steps)
 
   pub released_errand : (after : Stage) (r : Reply) → IsNotLost (on_released (stage_at n initiators after) r)
       → errand (on_released (stage_at n initiators after) r) ≡ after_release initiators after
@@ -146,19 +136,6 @@ module _ (n initiators : ℕ) where
       → IsNotLost (on_released (stage_at n initiators (Dispatching j jobs)) r)
       → next_job n (on_released (stage_at n initiators (Dispatching j jobs)) r) ≡ j
   dispatched_next j jobs r e f = grind (arith, common_steps)
-
-stage_grows : (deck : List JobData) (initiators : ℕ) (after : Stage) → IsStage deck initiators after
-    → next_in (length deck) after ≤ next_job (length deck) (stage_at (length deck) initiators after)
-stage_grows deck initiators x s = grind (arith, common_steps)
-
-awaited_below : (deck : List JobData) (initiators : ℕ) (a : Awaited) → IsAwaited deck initiators a
-    → next_awaited (length deck) a ≤ length deck
-awaited_below deck initiators x s = grind (arith, common_steps)
-
-stage_below : (deck : List JobData) (initiators : ℕ) (after : Stage) → IsStage deck initiators after
-    → next_in (length deck) after ≤ length deck
-stage_below deck initiators (Dispatching j jobs) s = let e : j + length jobs ≡ length deck = rest_count deck j jobs s in omega arith
-stage_below deck initiators (Dismissing i more) s = omega arith
 
 pub next_below : (deck : List JobData) (initiators : ℕ) (x : SchedulerAt) → IsSchedulerAt deck initiators (At x)
     → next_job (length deck) (At x) ≤ length deck

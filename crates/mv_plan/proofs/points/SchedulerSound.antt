@@ -1,6 +1,6 @@
 -- Where the scheduler may stand: which jobs are left, which code it hands over; and what it keeps there. Kept by each of its
 -- steps, whatever the reply.
-use Rattle.mv_plan.proofs.Words.{◌≡◌, ℕ, zero, suc, ◌+◌, ◌<◌, ◌≤◌, Bool, true, false, if◌then◌else◌, List, [], ◌∷◌}
+use Rattle.mv_plan.proofs.Words.{◌≡◌, ℕ, suc, ◌+◌, ◌<◌, ◌≤◌, Bool, true, false, if◌then◌else◌, List, [], ◌∷◌}
 use Rattle.mv_plan.proofs.Words.{◌++◌, length, Option, Some, None, ◌⊎◌, inl, inr, refl, sym, ap, ◌∙◌, subst, append-nil, append_assoc}
 use Rattle.mv_plan.proofs.Words.{zero-add, arith, ne_eqb, cases_eq, length-append, length-map-range_with_len, Reply, with_at}
 use Rattle.mv_plan.proofs.Words.{JobData, After, Step, Kept, idle, code_of}
@@ -12,7 +12,7 @@ use Rattle.mv_plan.proofs.deck.Plans.{IsPlannedJob, ArePlannedJobs}
 use Rattle.mv_plan.proofs.points.Points.{Point, At, TooSoon, WaitAt, Arming, Settling, Stage, Dispatching, Dismissing, Awaited, ForEntry}
 use Rattle.mv_plan.proofs.points.Points.{ForEnds, ForIdle, ToDismiss, SchedulerAt, Waits, Extends, Clears, Releases, awaited_blocks}
 use Rattle.mv_plan.proofs.points.Points.{scheduler_asks, scheduler_goes, arming_from, settling_from, found_at}
-use Rattle.mv_plan.proofs.points.Points.{ends_at, dismissing_from, stage_at, lowest_at}
+use Rattle.mv_plan.proofs.points.Points.{ends_at, stage_at, lowest_at}
 use Rattle.mv_plan.proofs.points.PostsAndWaits.{on_armed_keeps, on_settled_keeps}
 use Rattle.mv_plan.proofs.points.ReaderAndWriter.{keeps}
 use Rattle.std.proofs.lemmas.Grind.{common_steps}
@@ -124,11 +124,6 @@ module _ (deck : List JobData) (initiators : ℕ) (kept : Kept) where
       → SchedulerStands deck initiators kept (ends_at (length deck) j (record { name = name; after = after; steps = steps }) jobs)
   ends_stands j name [] steps jobs r k = (r, k)
   ends_stands j name (part ∷ parts) steps jobs r k = ((r, ([], refl)), k)
-
-  dismissing_stands : (i more : ℕ) → i + more ≡ initiators → SchedulerKept (length deck) (length deck) kept
-      → SchedulerStands deck initiators kept (dismissing_from (length deck) i more)
-  dismissing_stands i zero e k = (tt, tt)
-  dismissing_stands i (suc more) e k = ((e, ([], refl)), k)
 
   pub stage_stands : (after : Stage) → IsStage deck initiators after
       → SchedulerKept (length deck) (stage_extended (length deck) after) kept

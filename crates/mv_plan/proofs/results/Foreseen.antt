@@ -1,7 +1,7 @@
 -- No reply leads the reader, the scheduler or the writer astray, nor an initiator in its rounds.
 use Rattle.mv_plan.proofs.Words.{◌≡◌, ℕ, zero, suc, ◌+◌, ◌<◌, ◌≤◌, Bool, true, false, IsTrue, if◌then◌else◌, List, []}
 use Rattle.mv_plan.proofs.Words.{◌∷◌, ◌++◌, length, Option, Some, None, ◌⊎◌, inl, inr, refl, sym, ap, ◌∙◌, subst, arith, AllByRecursion}
-use Rattle.mv_plan.proofs.Words.{eq-eqb, leb-true, ecb_step, EcbState, Zero, Extended, Complete, ElementState}
+use Rattle.mv_plan.proofs.Words.{eq-eqb, leb-true, ecb_step, EcbState, Zero, Extended, ElementState}
 use Rattle.mv_plan.proofs.Words.{element_step, Reply, Setup, owner_of, System, admitted, reply_to, JobData, After, Step, Print}
 use Rattle.mv_plan.proofs.Words.{job_at, Counts, reader, scheduler, initiator, writer, end_for_scheduler, end_for_writer, idle}
 use Rattle.mv_plan.proofs.Words.{code_of, not_to_run, complete_count}
@@ -17,7 +17,7 @@ use Rattle.mv_plan.proofs.standing.Arms.{In, in_middle, in_all, IsNoDone, awaite
 use Rattle.mv_plan.proofs.points.ReaderAndWriter.{IsWriterAt}
 use Rattle.mv_plan.proofs.results.FewRounds.{fewer, none_found, not_found, code_named}
 use Rattle.mv_plan.proofs.walks.Fits.{Fits}
-use Rattle.mv_plan.proofs.standing.Row.{Starts, Works, Offers, Parks, offered, taken, handed, Row, RowAt}
+use Rattle.mv_plan.proofs.standing.Row.{Starts, Works, Offers, Parks, Row, RowAt}
 use Rattle.mv_plan.proofs.standing.Row.{element_of}
 use Rattle.mv_plan.proofs.points.InitiatorSound.{IsInitiatorAt, IsRound, IsRunning, held_of, held_request, job_sound}
 use Rattle.mv_plan.proofs.places.Places.{Place, Handed, Over}

@@ -15,7 +15,7 @@ use Rattle.mv_plan.proofs.results.SafeWalks.{Safe, OthersForeseen, walk_safe, no
 use Rattle.mv_plan.proofs.serving.Served.{Served, served_start}
 use Rattle.mv_plan.proofs.serving.ServedMoments.{served_onward, served_foreseen}
 use Rattle.mv_plan.proofs.walks.Histories.{Stood, stood, in_time}
-use Rattle.mv_plan.proofs.walks.Walks.{Points, Move, reads, schedules, initiates, writes}
+use Rattle.mv_plan.proofs.walks.Walks.{Points, Move}
 use Rattle.mv_plan.proofs.walks.Stands.{standing}
 use Rattle.std.proofs.lemmas.Grind.{common_steps}
 

@@ -16,10 +16,10 @@ use Rattle.mv_plan.proofs.points.InitiatorSound.{IsInitiatorAt}
 use Rattle.mv_plan.proofs.places.Places.{Place, Coming, Over}
 use Rattle.mv_plan.proofs.deck.Setup.{Facts}
 use Rattle.mv_plan.proofs.points.Programs.{reader_program, scheduler_program, writer_program}
-use Rattle.mv_plan.proofs.points.Points.{Point, At, Finished, TooSoon, Astray, Dispatching, stage_at, dismissing_from, entering_from}
+use Rattle.mv_plan.proofs.points.Points.{Point, At, TooSoon, Astray, Dispatching, stage_at, dismissing_from, entering_from}
 use Rattle.mv_plan.proofs.points.Points.{writing_from, reader_asks, SchedulerAt, Extends, scheduler_asks, scheduler_goes, writer_asks}
-use Rattle.mv_plan.proofs.points.Points.{InitiatorAt, Purging, EndingJob, EndingForScheduler, EndingForWriter, initiator_asks}
-use Rattle.mv_plan.proofs.points.Points.{initiator_goes, InJob}
+use Rattle.mv_plan.proofs.points.Points.{InitiatorAt, initiator_asks}
+use Rattle.mv_plan.proofs.points.Points.{initiator_goes}
 use Rattle.mv_plan.proofs.points.Scheduler.{scheduler_says}
 use Rattle.mv_plan.proofs.points.SchedulerSound.{IsSchedulerAt}
 use Rattle.mv_plan.proofs.walks.Histories.{Stood, AreInTime, in_time, wrong_point}

@@ -1,9 +1,9 @@
 -- At each moment at which no task is lost that record holds, and no reply at a latch or a volume leads an initiator astray.
-use Rattle.mv_plan.proofs.Words.{◌≡◌, ℕ, ◌<◌, ◌≤◌, List, [], ◌∷◌, ◌++◌, length, Option, ap, arith, Entry, IsNext, next, Setup, System}
+use Rattle.mv_plan.proofs.Words.{◌≡◌, ℕ, ◌<◌, ◌≤◌, List, [], ◌∷◌, ◌++◌, length, Option, arith, Entry, IsNext, next, Setup, System}
 use Rattle.mv_plan.proofs.Words.{released_codes, given_codes, JobData, initiator, not_to_run}
 use Rattle.mv_plan.proofs.deck.Plans.{IsPlanned}
 use Rattle.mv_plan.proofs.latches.Exclusion.{places_apart}
-use Rattle.mv_plan.proofs.places.Places.{Place, Coming, Handed, Run, Over}
+use Rattle.mv_plan.proofs.places.Places.{Place}
 use Rattle.mv_plan.proofs.places.Ledger.{Ledger, Account, element_code}
 use Rattle.mv_plan.proofs.points.Points.{At, Astray, InitiatorAt, initiator_asks, initiator_goes}
 use Rattle.mv_plan.proofs.serving.Requestors.{NamedOnce}

@@ -2,7 +2,7 @@
 -- where no reply is to lead astray.
 use Rattle.mv_plan.proofs.Words.{◌≡◌, ℕ, zero, suc, ◌+◌, ◌*◌, ◌<◌, ◌≤◌, ◌==◌, nat_lt, ◌&&◌, IsTrue, List, [], ◌∷◌, ◌++◌, length, map}
 use Rattle.mv_plan.proofs.Words.{Option, ◌⊎◌, inl, inr, refl, sym, ap, ◌∙◌, subst, arith, AllByRecursion, range_with_len}
-use Rattle.mv_plan.proofs.Words.{cases_eq, eqb-true, and_parts, EcbOp, EcbState, Entry, Object, Ecb, Element, Volume, Latches, Op}
+use Rattle.mv_plan.proofs.Words.{cases_eq, eqb-true, and_parts, EcbOp, EcbState, Entry, Object, Ecb, Op}
 use Rattle.mv_plan.proofs.Words.{Reply, IsNext, next, Setup, owner_of, System, opening, admitted, ecb_admitted, moved, with_at, advanced}
 use Rattle.mv_plan.proofs.Words.{JobData, After, AreDistinct, Kept, reader, scheduler, initiator, writer, end_for_writer, idle, ends_of}
 use Rattle.mv_ecb.specs.Word.{Waiting}

@@ -1,8 +1,8 @@
 -- What the scheduler has found at blocks stands in them until it clears them; so the block of an initiator that it chose still
 -- has the generation that was found. Used by the rows.
 use Rattle.mv_plan.proofs.Words.{◌≡◌, ℕ, zero, suc, ◌+◌, List, [], ◌∷◌, ◌++◌, length, map, Option, Some, None}
-use Rattle.mv_plan.proofs.Words.{refl, sym, ap, ◌∙◌, subst, arith, range_with_len, ecb_step, EcbState, Complete}
-use Rattle.mv_plan.proofs.Words.{Object, Ecb, Element, Volume, Latches, Op, Reply, System, Cell, moved, reply_to, with_at, advanced}
+use Rattle.mv_plan.proofs.Words.{refl, sym, subst, arith, range_with_len, ecb_step, EcbState, Complete}
+use Rattle.mv_plan.proofs.Words.{Object, Ecb, Op, Reply, System, Cell, moved, reply_to, with_at, advanced}
 use Rattle.mv_plan.proofs.Words.{JobData, After, Step, scheduler, idle, code_of}
 use Rattle.mv_ecb.specs.declared.operation.EcbOp.TheVariants as ecb_op
 use Rattle.mv_ecb.specs.declared.operation.EcbReply.TheVariants as ecb_reply
@@ -12,9 +12,8 @@ use Rattle.mv_machine.specs.declared.entry.Reply.TheVariants as reply_of
 use Rattle.mv_plan.proofs.points.Points.{Point, At, TooSoon, Astray, Stage, Dispatching, Dismissing, Awaited, ForEntry, ForEnds, ForIdle}
 use Rattle.mv_plan.proofs.points.Points.{ToDismiss, WaitAt, Arming, Settling, SchedulerAt, Waits, Extends, Clears, Releases, awaited_blocks}
 use Rattle.mv_plan.proofs.points.Points.{scheduler_asks, scheduler_goes, on_settled}
-use Rattle.mv_plan.proofs.points.Points.{settling_from, found_at, ends_at, dismissing_from, stage_at, lowest_at}
+use Rattle.mv_plan.proofs.points.Points.{settling_from, found_at, ends_at, stage_at, lowest_at}
 use Rattle.mv_plan.proofs.points.SchedulerSound.{IsWaitAt}
-use Rattle.mv_plan.proofs.lists.Tables.{with_at-same}
 use Rattle.mv_plan.proofs.points.Asks.{NoClear}
 use Rattle.std.proofs.lemmas.Grind.{common_steps}
 
@@ -111,16 +110,8 @@ module _ (n initiators : ℕ) (f : Blocks) where
   settling_here a [] found w = grind (arith, common_steps, TooSoon, found_here)
   settling_here a (e ∷ es) found w = w
 
-  dismissing_here : (i more : ℕ) → Here (dismissing_from n i more)
-  dismissing_here i zero = tt
-  dismissing_here i (suc more) = tt
-
   pub stage_here : (after : Stage) → Here (stage_at n initiators after)
   stage_here x = grind (arith, common_steps)
-
-settled_is : (v : EcbState) (code : ℕ) → (ecb_step ecb_op.Settle v).1 ≡ ecb_reply.Complete code
-    → (ecb_step ecb_op.Settle v).0 ≡ Complete code
-settled_is v code e = grind arith
 
 -- ---- the scheduler's own event
 module _ (n initiators : ℕ) (s : System) where

@@ -1,7 +1,7 @@
 -- How an initiator, its block, its element and what the scheduler has of it fit together. An idle block's code is the
 -- generation with which its initiator goes on to pause; the scheduler releases only what it has cleared; and the element's
 -- generation is the point's. Used by all that looks at elements.
-use Rattle.mv_plan.proofs.Words.{◌≡◌, ℕ, zero, suc, ◌+◌, ◌==◌, if◌then◌else◌, List, [], ◌∷◌, ◌++◌, length, Option, Some, None, inl, inr}
+use Rattle.mv_plan.proofs.Words.{◌≡◌, ℕ, zero, suc, ◌+◌, ◌==◌, if◌then◌else◌, List, [], length, Option, Some, None, inl, inr}
 use Rattle.mv_plan.proofs.Words.{refl, sym, ap, arith, eq-eqb, EcbState, Complete, ElementState, free, reset, prereleased}
 use Rattle.mv_plan.proofs.Words.{element_step, Reply, System, moved, reply_to, with_at, advanced, JobData, job_at, initiator, idle}
 use Rattle.mv_element.specs.Element.{paused, released}
@@ -9,12 +9,12 @@ use Rattle.mv_element.specs.declared.operation.ElementOp.TheVariants as element_
 use Rattle.mv_element.specs.declared.element.Phase.TheVariants as phase
 use Rattle.mv_machine.specs.declared.entry.Reply.TheVariants as reply_of
 use Rattle.mv_plan.proofs.points.InitiatorSound.{IsInitiatorAt}
-use Rattle.mv_plan.proofs.points.Points.{Point, At, Finished, TooSoon, Astray, SchedulerAt, Releases, Running, InitiatorAt, Opening}
+use Rattle.mv_plan.proofs.points.Points.{Point, At, Finished, SchedulerAt, Releases, Running, InitiatorAt, Opening}
 use Rattle.mv_plan.proofs.points.Points.{Offering, Pausing, Resuming, Closing, initiator_asks, initiator_goes, rounds_from, given_at}
 use Rattle.mv_plan.proofs.points.Points.{running, on_opened, on_paused, on_resumed, on_closed, InJob}
-use Rattle.mv_plan.proofs.points.RunningJob.{RunsOn, start_run, GoesOn, same, done, lost, run_goes, run_asks, run_sound}
+use Rattle.mv_plan.proofs.points.RunningJob.{RunsOn, start_run, GoesOn, run_goes, run_asks, run_sound}
 use Rattle.mv_plan.proofs.walks.NoneLost.{SameTalk, same_talk}
-use Rattle.mv_plan.proofs.lists.Tables.{with_at-same, with_at-other}
+use Rattle.mv_plan.proofs.lists.Tables.{with_at-same}
 use Rattle.mv_plan.proofs.points.Views.{run_of, IsNotLost}
 use Rattle.mv_plan.proofs.points.Lands.{given_lands}
 use Rattle.std.proofs.lemmas.Grind.{common_steps}
@@ -175,9 +175,6 @@ module _ (deck : List JobData) (s : System) (q : Point SchedulerAt) (i : ℕ) wh
   pub record Apart (z : System) : Type 0 where
     pub elements : (m : ℕ) → (m ≡ initiator i → ⊥) → z.element m ≡ s.element m
     pub idles : (m : ℕ) → (m ≡ i → ⊥) → z.ecb (idle n m) ≡ s.ecb (idle n m)
-
-  apart_run : (x : InitiatorAt) (run : Running) → run_of (At x) ≡ Some run → IsInitiatorAt deck (At x) → Apart (then_s x)
-  apart_run x run e sound = grind (arith, common_steps)
 
   pub apart : (x : InitiatorAt) → IsInitiatorAt deck (At x) → Apart (then_s x)
   apart x sound = grind (arith, common_steps)

@@ -1,9 +1,9 @@
 -- All initiators' rows, with what the scheduler has found, are kept by each move.
-use Rattle.mv_plan.proofs.Words.{◌≡◌, ℕ, zero, suc, ◌+◌, ◌<◌, List, [], ◌∷◌, length, Option, Some, None, ◌⊎◌, inl, inr}
+use Rattle.mv_plan.proofs.Words.{◌≡◌, ℕ, ◌<◌, List, length, Option, Some, None, ◌⊎◌, inl, inr}
 use Rattle.mv_plan.proofs.Words.{refl, sym, ap, ◌∙◌, subst, arith, cases_eq, eq-eqb, ecb_step, EcbState}
 use Rattle.mv_plan.proofs.Words.{ElementState, free, reset, prereleased, element_step, Entry, Reply, IsNext, next, Setup}
 use Rattle.mv_plan.proofs.Words.{System, opening, moved, reply_to, with_at, advanced, JobData, Kept, reader, scheduler, initiator, writer}
-use Rattle.mv_plan.proofs.Words.{idle, end_for_writer}
+use Rattle.mv_plan.proofs.Words.{idle}
 use Rattle.mv_element.specs.Element.{paused, released}
 use Rattle.mv_ecb.specs.declared.operation.EcbOp.TheVariants as ecb_op
 use Rattle.mv_element.specs.declared.operation.ElementOp.TheVariants as element_op
@@ -12,10 +12,10 @@ use Rattle.mv_plan.proofs.points.ReaderAndWriter.{IsReaderAt, IsWriterAt}
 use Rattle.mv_plan.proofs.standing.Row.{Stance, Offers, Parks, Loses, stance, code_in, offered, taken, handed, Row, RowAt, hold_for}
 use Rattle.mv_plan.proofs.standing.Row.{offer_of, element_of, row_at, own_row, Apart, apart}
 use Rattle.mv_plan.proofs.points.InitiatorSound.{IsInitiatorAt}
-use Rattle.mv_plan.proofs.points.Points.{Point, At, Stage, Dispatching, Dismissing, Awaited, ForEntry, ForEnds, ForIdle, ToDismiss, WaitAt}
+use Rattle.mv_plan.proofs.points.Points.{Point, At, Stage, Dispatching, Awaited, WaitAt}
 use Rattle.mv_plan.proofs.points.Points.{Arming, Settling, wait_asks, ReaderAt, Entering, reader_asks, reader_goes, SchedulerAt, Waits}
-use Rattle.mv_plan.proofs.points.Points.{Extends, Clears, Releases, awaited_blocks, scheduler_asks, scheduler_goes, dismissing_from}
-use Rattle.mv_plan.proofs.points.Points.{stage_at, WriterAt, Keeping, writer_asks, writer_goes, InitiatorAt, initiator_asks, initiator_goes}
+use Rattle.mv_plan.proofs.points.Points.{Extends, Clears, Releases, awaited_blocks, scheduler_asks, scheduler_goes}
+use Rattle.mv_plan.proofs.points.Points.{stage_at, WriterAt, writer_asks, writer_goes, InitiatorAt, initiator_asks, initiator_goes}
 use Rattle.mv_plan.proofs.standing.Finds.{Blocks, Finds, stay_moved, finds_kept, finds_next, stage_here}
 use Rattle.mv_plan.proofs.points.SchedulerSound.{IsSchedulerAt, IsWaitAt}
 use Rattle.mv_plan.proofs.walks.Stands.{Stand}
@@ -62,10 +62,6 @@ NoClears (Clears i g code after) = ⊥
 NoClears x = Unit {0}
 
 module _ (n initiators : ℕ) where
-  dismissing_no_hold : (m more : ℕ) → NoHold (dismissing_from n m more)
-  dismissing_no_hold m zero = λ i. refl
-  dismissing_no_hold m (suc more) = λ i. refl
-
   stage_no_hold : (after : Stage) → NoHold (stage_at n initiators after)
   stage_no_hold x = grind (arith, common_steps)
 

@@ -1,5 +1,5 @@
 -- On the entries of a walk: the read and the write of a COUNT, and the two reads of a SCAN.
-use Rattle.mv_plan.proofs.Words.{◌≡◌, ℕ, ◌+◌, ◌<◌, List, [], ◌∷◌, ◌++◌, length, refl, sym, ap, ◌∙◌, subst, arith, Entry, Volume}
+use Rattle.mv_plan.proofs.Words.{◌≡◌, ℕ, ◌+◌, ◌<◌, List, [], ◌∷◌, ◌++◌, length, sym, ap, ◌∙◌, subst, arith, Entry, Volume}
 use Rattle.mv_plan.proofs.Words.{IsNext, next, after_from, of, «at», Setup, System, JobData, Step, initiator}
 use Rattle.mv_machine.specs.declared.entry.Op.TheVariants as op_on
 use Rattle.mv_machine.specs.declared.entry.Reply.TheVariants as reply_of

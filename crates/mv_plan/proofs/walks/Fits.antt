@@ -2,7 +2,7 @@
 -- Posted form is allowed none stands, so that no wake posts a block.
 use Rattle.mv_plan.proofs.Words.{◌≡◌, ℕ, zero, suc, Bool, true, false, if◌then◌else◌, List, [], ◌∷◌}
 use Rattle.mv_plan.proofs.Words.{map, replicate, None, ◌⊎◌, inl, inr, sym, ap, ◌∙◌, subst, arith, AllByRecursion, cases_eq, eq-eqb}
-use Rattle.mv_plan.proofs.Words.{ne_eqb, false≢true, and_parts, EcbOp, ecb_step, EcbState, Zero, Extended, LatchOp, Request}
+use Rattle.mv_plan.proofs.Words.{ne_eqb, false≢true, and_parts, EcbOp, ecb_step, EcbState, Extended, LatchOp, Request}
 use Rattle.mv_plan.proofs.Words.{granted, release_step, list_of, latch_step}
 use Rattle.mv_plan.proofs.Words.{shared_request, Entry, Object, Ecb, Element, Volume, Latches, Op, IsNext, next, Setup, is_exit_of, System}
 use Rattle.mv_plan.proofs.Words.{opening, admitted, ecb_admitted, moved, with_at, advanced, all_append, all_filter}

@@ -7,7 +7,7 @@ use Rattle.mv_plan.proofs.Words.{programs_after}
 use Rattle.mv_plan.specs.SpoolTasks.{reading, scheduling, writing, initiating}
 use Rattle.mv_calls.proofs.Interleaved.{follow_from, left_in_is}
 use Rattle.mv_plan.proofs.deck.Plans.{IsPlanned}
-use Rattle.mv_plan.proofs.points.Points.{Point, At, Finished, TooSoon, Astray, Dispatching, reader_asks, scheduler_asks, writer_asks}
+use Rattle.mv_plan.proofs.points.Points.{Point, Finished, TooSoon, Astray, Dispatching, reader_asks, scheduler_asks, writer_asks}
 use Rattle.mv_plan.proofs.points.Points.{initiator_asks}
 use Rattle.mv_plan.proofs.points.Programs.{program_at, reader_program, scheduler_program, writer_program, initiator_program}
 use Rattle.mv_plan.proofs.points.ReaderAndWriter.{reader_enters, reader_says, writer_enters, writer_says}

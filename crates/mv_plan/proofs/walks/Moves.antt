@@ -2,8 +2,8 @@
 -- relation, by_moves for invariants; and the cells of blocks and elements after a move. Each invariant of the later layers is
 -- proved by one of the two.
 use Rattle.mv_plan.proofs.Words.{refl, ◌≡◌, ℕ, ◌<◌, List, [], ◌∷◌, ◌++◌, length, sym, subst}
-use Rattle.mv_plan.proofs.Words.{EcbOp, ecb_step, EcbState, ElementState, ElementOp, element_step, Entry, Object}
-use Rattle.mv_plan.proofs.Words.{Ecb, Element, Op, Reply, IsNext, next, Setup, System, moved, with_at, JobData, reader}
+use Rattle.mv_plan.proofs.Words.{EcbOp, ecb_step, EcbState, ElementState, Entry, Object}
+use Rattle.mv_plan.proofs.Words.{Ecb, Op, Reply, IsNext, next, Setup, System, moved, with_at, JobData, reader}
 use Rattle.mv_plan.proofs.Words.{scheduler, initiator, writer}
 use Rattle.mv_machine.specs.declared.entry.Op.TheVariants as op_on
 use Rattle.mv_machine.specs.declared.entry.Reply.TheVariants as reply_of
@@ -123,7 +123,3 @@ element s m = (s.element m).state
 pub block_reply : (c : Setup) (s : System) (k m : ℕ) (op : EcbOp) (p : ℕ) (r : Reply)
     → IsNext c s (entry_of k p (Ecb m, op_on.Ecb op) r) → r ≡ reply_of.Ecb (ecb_step op (block s m)).1
 block_reply c s k m op p r n = cc n.reply
-
-pub element_reply : (c : Setup) (s : System) (k m : ℕ) (op : ElementOp) (p : ℕ) (r : Reply)
-    → IsNext c s (entry_of k p (Element m, op_on.Element op) r) → r ≡ reply_of.Element (element_step op (element s m)).1
-element_reply c s k m op p r n = cc n.reply

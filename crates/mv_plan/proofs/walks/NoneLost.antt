@@ -1,12 +1,10 @@
 -- A task is lost where it waited too soon or met a reply that nothing foresees. Whoever is lost stays lost; so where none is
 -- lost in the end, none was. And events that touch neither elements nor idle blocks.
-use Rattle.mv_plan.proofs.Words.{◌≡◌, ℕ, List, [], ◌∷◌, refl, sym, subst, arith, Entry, Object, Ecb, Element, Volume, Latches, Op, next}
+use Rattle.mv_plan.proofs.Words.{◌≡◌, ℕ, List, [], ◌∷◌, sym, subst, arith, Entry, Object, Op, next}
 use Rattle.mv_plan.proofs.Words.{Setup, System, moved, JobData, idle}
-use Rattle.mv_machine.specs.declared.entry.Op.TheVariants as op_on
 use Rattle.mv_plan.proofs.points.Points.{Point, At, Finished}
 use Rattle.mv_plan.proofs.walks.Histories.{AreFinished}
 use Rattle.mv_plan.proofs.walks.Walks.{Points, Move, WalkTo, AllTasks, all_before}
-use Rattle.mv_plan.proofs.lists.Tables.{with_at-other}
 use Rattle.mv_plan.proofs.points.Views.{IsNotLost}
 use Rattle.mv_plan.proofs.points.Asks.{Elsewhere}
 use Rattle.std.proofs.lemmas.Grind.{common_steps}
