@@ -153,8 +153,7 @@ module _ (deck : List JobData) where
       paying _ (steps_rest run (hand_with hand latch mode id) steps) (omega arith)
   initiator_pays (InJob run (Freeing hand latch id steps)) (reply_of.Latch (latch_reply.Released granted)) =
       paying _ (steps_rest run (hand_without hand latch) steps) (omega arith)
-  initiator_pays (InJob run (Reading hand volume amount steps)) (reply_of.Volume (volume_reply.Value number)) =
-      paying _ (counting_rest run hand volume amount steps number) (omega arith)
+  initiator_pays (InJob run (Reading hand volume amount steps)) (reply_of.Volume (volume_reply.Value number)) = grind (arith, common_steps)
   initiator_pays (InJob run (Writing hand volume amount number steps)) (reply_of.Volume volume_reply.Stored) =
       paying _ (steps_rest run hand steps) (omega arith)
   initiator_pays (InJob run (Scanning hand volume steps)) (reply_of.Volume (volume_reply.Value number)) = omega arith

@@ -56,10 +56,8 @@ module _ (n : ℕ) where
 
   -- each event takes one
   pub writer_pays : (x : WriterAt) (r : Reply) → suc (writer_rest (writer_goes n x r)) ≤ writer_rest (At x)
-  writer_pays (Keeping j more ends (Arming e [])) r =
-      on_armed_keeps (λ p. suc (writer_rest p) ≤ 1 + suc (2 * more)) _ r (omega arith) (omega arith)
-  writer_pays (Keeping j more ends (Arming e (f ∷ todo))) r =
-      on_armed_keeps (λ p. suc (writer_rest p) ≤ suc (length (f ∷ todo)) + suc (2 * more)) _ r (omega arith) (omega arith)
+  writer_pays (Keeping j more ends (Arming e [])) r = grind (arith, common_steps)
+  writer_pays (Keeping j more ends (Arming e (f ∷ todo))) r = grind (arith, common_steps)
   writer_pays (Keeping j more ends (Settling e [] found)) r = grind (arith, common_steps, on_settled_keeps, end_rest)
   writer_pays (Keeping j more ends (Settling e (f ∷ todo) found)) r = grind (arith, common_steps)
 
@@ -156,10 +154,8 @@ module _ (n initiators : ℕ) where
       let e : length (awaited_blocks n initiators (ForIdle j job jobs skipped)) ≡ initiators = blocks (ForIdle j job jobs skipped) in
       omega arith
   scheduler_pays (Clears i g code after) (reply_of.Ecb (ecb_reply.Word w)) = omega arith
-  scheduler_pays (Releases i g code after) (reply_of.Element element_reply.Early) =
-      let le : scheduler_rest (stage_at n initiators after) ≤ stage_rest after = stage_starts after in omega arith
-  scheduler_pays (Releases i g code after) (reply_of.Element element_reply.Woke) =
-      let le : scheduler_rest (stage_at n initiators after) ≤ stage_rest after = stage_starts after in omega arith
+  scheduler_pays (Releases i g code after) (reply_of.Element element_reply.Early) = grind (arith, common_steps)
+  scheduler_pays (Releases i g code after) (reply_of.Element element_reply.Woke) = grind (arith, common_steps)
   scheduler_pays x r = omega arith
 
   -- all jobs together

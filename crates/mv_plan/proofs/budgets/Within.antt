@@ -38,14 +38,12 @@ made_other k past e other = grind (arith, common_steps)
 -- what a task has made and may still make, of its budget
 paid : (k b : ℕ) (past : List Entry) (e : Entry) (before after : ℕ) → e.caller ≡ k → suc after ≤ before
     → length (of k past) + before ≤ b → length (of k (past ++ e ∷ [])) + after ≤ b
-paid k b past e before after same pays le =
-    let m : length (of k (past ++ e ∷ [])) ≡ suc (length (of k past)) = made_own k past e same in omega arith
+paid k b past e before after same pays le = grind (arith, common_steps)
 
 -- an entry of another caller takes nothing
 kept : (k b : ℕ) (past : List Entry) (e : Entry) (rest : ℕ) → (e.caller ≡ k → ⊥)
     → length (of k past) + rest ≤ b → length (of k (past ++ e ∷ [])) + rest ≤ b
-kept k b past e rest other le =
-    let m : length (of k (past ++ e ∷ [])) ≡ length (of k past) = made_other k past e other in omega arith
+kept k b past e rest other le = grind (arith, common_steps)
 
 module _ (deck : List JobData) (initiators : ℕ) where
   -- the budgets, task by task

@@ -52,8 +52,7 @@ length_left : (xs : List ℕ) (n m : ℕ) → m < length xs → n ≤ m → m - 
 length_left xs zero m lt le = omega arith
 length_left [] (suc n) m lt le = absurd (omega arith)
 length_left (x ∷ xs) (suc n) zero lt le = absurd (omega arith)
-length_left (x ∷ xs) (suc n) (suc m) lt le = subst (λ k. k < length (drop n xs)) (let e : m - n ≡ suc m - suc n = omega arith in e)
-    (length_left xs n m (omega arith) (omega arith))
+length_left (x ∷ xs) (suc n) (suc m) lt le = grind (arith, common_steps, length_left xs n m)
 
 -- a latch that is held is below one that is used in order
 below_used : (done : List Step) (latch l : ℕ) (mode : Mode) → holds_from done latch ≡ false → held done l ≡ Some mode → l ≤ 7 → l < latch
@@ -189,8 +188,7 @@ ended done step (next ∷ steps) e s = grind (arith, common_steps)
 -- the steps
 planned_steps : (hs : List Held) (done steps : List Step) → Lists hs done → deck.AreSoundSteps done steps → ArePlannedSteps hs steps
 planned_steps hs done [] x s = tt
-planned_steps hs done (Print text ∷ steps) x s =
-    planned_steps hs (done ++ Print text ∷ []) steps (same_lists hs done (Print text) (λ l m. refl) x) s.1
+planned_steps hs done (Print text ∷ steps) x s = grind (arith, common_steps, planned_steps hs (done ++ Print text ∷ []) steps)
 planned_steps hs done (Use latch mode ∷ steps) x s = (
   s.0.numbers,
   below,

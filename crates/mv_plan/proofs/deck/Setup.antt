@@ -63,8 +63,7 @@ owned_by : (n initiators i k : ℕ) → get_or (replicate n scheduler ++ (replic
 owned_by n initiators i k e = ap (λ os. get_or os i 0) (by_parts n initiators) ∙ e
 
 ones : (n j : ℕ) (rest : List ℕ) → j < n → get_or (replicate n scheduler ++ rest) j 0 ≡ 1
-ones n j rest lt = get_or_append_left (replicate n scheduler) rest 0 j (subst (λ l. j < l) (sym (length-replicate n scheduler)) lt)
-    ∙ get_or-replicate n j scheduler 0 lt
+ones n j rest lt = grind (arith, common_steps)
 
 module _ (n initiators : ℕ) where
   first_part : (j : ℕ) → j < n → get_or (block_owners n initiators) j 0 ≡ 1
@@ -131,8 +130,7 @@ source_at : (n m from count j : ℕ) → starts_from m (slice_get (map (end_exit
     → (j < count) × (m ≡ done n (from + j))
 source_at n m from zero j e = absurd (false≢true e)
 source_at n m from (suc count) zero e = (omega arith, let q : done n from ≡ m = eqb-true (done n from) m e in omega arith)
-source_at n m from (suc count) (suc j) e = let r : (j < count) × (m ≡ done n (from + 1 + j)) = source_at n m (from + 1) count j e in
-    (let lt : j < count = r.0 in omega arith, let q : m ≡ done n (from + 1 + j) = r.1 in omega arith)
+source_at n m from (suc count) (suc j) e = grind (arith, common_steps, source_at n m (from + 1) count j e)
 
 exit_source : (n m x : ℕ) → (nat_lt 0 x && starts_from m (slice_get (map (end_exit n) (range_with_len 0 n)) (x - 1))) ≡ true
     → (j : ℕ) × (j < n) × (x ≡ j + 1) × (m ≡ done n j)

@@ -67,8 +67,7 @@ good_exit n ecbs j lt le = grind (arith, common_steps)
 good_exits : (n ecbs from count i : ℕ) → from + count ≤ n → 4 * n ≤ ecbs
     → position_from (is_bad_exit ecbs) i (map (end_exit n) (range_with_len from count)) ≡ None
 good_exits n ecbs from zero i le big = refl
-good_exits n ecbs from (suc count) i le big =
-    rw (good_exit n ecbs from (omega arith) big) (good_exits n ecbs (from + 1) count (i + 1) (omega arith) big)
+good_exits n ecbs from (suc count) i le big = grind (arith, common_steps, good_exits n ecbs (from + 1) count (i + 1))
 
 -- ---- all of them
 

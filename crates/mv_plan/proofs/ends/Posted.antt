@@ -180,8 +180,7 @@ module _ (deck : List JobData) (initiators : ℕ) where
         (λ code o op. other (own_end_posted j b code below has o op))
 
     still : (b : ℕ) → IsComplete s b → IsComplete i_after b
-    still b w = is_moved s (initiator i) asks.0 asks.1 b w
-        (λ o op. clear_is_no_post (initiator_ecb deck initiators i x ecb_op.Clear op).1)
+    still b w = grind (arith, common_steps)
 
     -- the others' jobs
     others_stage : (m : ℕ) → m < initiators → (m ≡ i → ⊥) → EndStage (length deck) i_after (t.initiators m)
@@ -209,8 +208,7 @@ module _ (deck : List JobData) (initiators : ℕ) where
     posts b code e = posted_is s (initiator i) asks.0 asks.1 b code (ap (λ z. z.0) e) (ap (λ z. z.1) e)
 
     posts_alone : (m b code : ℕ) → asks ≡ (Ecb m, op_on.Ecb (ecb_op.Post code)) → (m ≡ b → ⊥) → NotComplete s b → NotComplete i_after b
-    posts_alone m b code e apart free = not_moved s (initiator i) asks.0 asks.1 b free
-        (λ d o op. apart (let z : Ecb m ≡ Ecb b = sym (ap (λ z. z.0) e) ∙ o in cc z))
+    posts_alone m b code e apart free = grind (arith, common_steps)
 
     -- then where it posts no end
     own_plain : NotEnding x → EndStage (length deck) i_after (initiator_goes deck x r)
@@ -250,8 +248,7 @@ module _ (deck : List JobData) (initiators : ℕ) where
               (λ d e. let w : IsComplete s (end_for_scheduler (length deck) run.job) = order (d, e) in free.0 w.0 w.1),
           posts _ code asked,
         ) tt
-    own_stage (InJob run (EndingForWriter code counts)) is =
-        on_posted_keeps (EndStage (length deck) i_after) (rounds_after run) r (after_job run) tt
+    own_stage (InJob run (EndingForWriter code counts)) is = grind (arith, common_steps)
     own_stage y is = subst (λ z. EndStage (length deck) i_after (initiator_goes deck z r)) is (own_plain (subst NotEnding (sym is) tt))
 
     -- the order of its posts
@@ -391,8 +388,7 @@ module _ (deck : List JobData) (initiators : ℕ) where
 
   pub reader_ends : (x : ReaderAt) (j b : ℕ) → IsReaderAt (length deck) (At x) → HasEnd (length deck) j b → (reader_asks x).0 ≡ Ecb b
       → ⊥
-  reader_ends x j b at has o = let w : (b < length deck) × (entered_from (length deck) (At x) ≡ b) = reader_is x b o at in
-      entered_none (length deck) j b w.0 has
+  reader_ends x j b at has o = grind (arith, common_steps)
 
   -- the next job is entered, or none is left
   reader_counts : (x : ReaderAt) (r : Reply) → IsReaderAt (length deck) (At x)
@@ -458,8 +454,7 @@ module _ (deck : List JobData) (initiators : ℕ) where
       (subst (λ z. IsIn z (awaited_blocks (length deck) initiators a)) (cc o) (subst (IsIn e) s.1.1 (in_seam e s.1.0 todo))) refl)
   scheduler_untouched (Extends k job jobs skipped) j s below o = let e : done (length deck) k ≡ done (length deck) j = cc o in
       let same : k ≡ j = omega arith in (job, jobs, skipped, ap (λ z. Extends z job jobs skipped) same)
-  scheduler_untouched (Clears i g code after) j s below o = let e : idle (length deck) i ≡ done (length deck) j = cc o in
-      absurd (omega arith)
+  scheduler_untouched (Clears i g code after) j s below o = grind (arith, common_steps)
   scheduler_untouched (Releases i g code after) j s below o = absurd (cc o)
 
   released_next : (x : SchedulerAt) (g j : ℕ) (skipped : Bool) → length deck ≤ not_to_run → IsSchedulerAt deck initiators (At x)
@@ -496,12 +491,10 @@ module _ (deck : List JobData) (initiators : ℕ) where
 
     s_no_clear : (j b : ℕ) → j < length deck → HasEnd (length deck) j b → s_asks.0 ≡ Ecb b
         → s_asks.1 ≡ op_on.Ecb ecb_op.Clear → ⊥
-    s_no_clear j b below has o op = let w : (i : ℕ) × (b ≡ idle (length deck) i) = scheduler_clears (length deck) x b o op in
-        idle_none (length deck) j w.0 below (subst (HasEnd (length deck) j) w.1 has)
+    s_no_clear j b below has o op = grind (arith, common_steps)
 
     free_still : (j : ℕ) → j < length deck → NotDone (length deck) s j → NotDone (length deck) s_after j
-    free_still j below f = quiet_free s t 1 s_asks.0
-        s_asks.1 h s_no_post s_no_clear j _ below (done_has refl) f
+    free_still j below f = grind (arith, common_steps)
 
     plain_after : (y : SchedulerAt) → x ≡ y
         → ((j : ℕ) (job : JobData) (jobs : List JobData) (skipped : Bool) → y ≡ Extends j job jobs skipped → ⊥)

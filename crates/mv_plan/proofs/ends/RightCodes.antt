@@ -113,13 +113,11 @@ open_keeps deck j more kept (f ∷ found) none = absurd (cc none)
 
 pub writer_kept : (deck : List JobData) (x : WriterAt) (r : Reply) → IsWriterAt (length deck) (At x) → KeepsEnds deck (At x)
     → WriterFindsEnd deck x r → KeepsEnds deck (writer_goes (length deck) x r)
-writer_kept deck (Keeping j more kept (Arming e [])) r at k finds =
-    on_armed_keeps (KeepsEnds deck) (At (Keeping j more kept (Settling (end_for_writer (length deck) j) [] []))) r k tt
+writer_kept deck (Keeping j more kept (Arming e [])) r at k finds = grind (arith, common_steps)
 writer_kept deck (Keeping j more kept (Arming e (f ∷ todo))) r at k finds = absurd (cc at.2)
 writer_kept deck (Keeping j more kept (Settling e [] found)) (reply_of.Ecb (ecb_reply.Complete code)) at k finds =
     settled_keeps deck j more kept k.0 code found k.1 k.2 at.0 at.3 finds
-writer_kept deck (Keeping j more kept (Settling e [] found)) (reply_of.Ecb ecb_reply.Open) at k finds =
-    open_keeps deck j more kept found at.3
+writer_kept deck (Keeping j more kept (Settling e [] found)) (reply_of.Ecb ecb_reply.Open) at k finds = grind (arith, common_steps)
 writer_kept deck (Keeping j more kept (Settling e [] found)) r at k finds = tt
 writer_kept deck (Keeping j more kept (Settling e (f ∷ todo) found)) r at k finds = absurd (cc at.2)
 
@@ -143,8 +141,7 @@ HasCodes deck initiators s t past = Codes deck initiators s t
 -- ---- what each caller's events post and release
 
 reader_posts : (deck : List JobData) (x : ReaderAt) → IsReaderAt (length deck) (At x) → PostsEnds deck (reader_asks x).0 (reader_asks x).1
-reader_posts deck (Entering k more) at m d a b j lt has =
-    absurd (entered_none (length deck) j k (omega arith) (subst (HasEnd (length deck) j) (cc a) has))
+reader_posts deck (Entering k more) at m d a b j lt has = grind (arith, common_steps)
 
 scheduler_posts : (deck : List JobData) (x : SchedulerAt)
     → PostsEnds deck (scheduler_asks (length deck) x).0 (scheduler_asks (length deck) x).1
@@ -170,8 +167,7 @@ starts_held x deck c s i y p r n h = grind (arith, common_steps)
 module _ (deck : List JobData) (initiators : ℕ) (sound : IsPlanned deck initiators) where
   initiator_posts : (i : ℕ) (x : InitiatorAt) → IsInitiatorAt deck (At x) → OfRun (IsMarkedRun deck) (At x)
       → PostsEnds deck (initiator_asks (length deck) i x).0 (initiator_asks (length deck) i x).1
-  initiator_posts i (Offering more before g) at f m d p q j lt has =
-      absurd (idle_none (length deck) j i lt (subst (HasEnd (length deck) j) (cc p) has))
+  initiator_posts i (Offering more before g) at f m d p q j lt has = grind (arith, common_steps)
   initiator_posts i (InJob run (EndingJob code counts)) at f m d p q j lt has =
       sym (cc q) ∙ ending_is deck initiators run code sound at (f run refl)
       ∙ ap (λ k. end_of deck k) (sym (done_one (length deck) j run.job lt at.round.job

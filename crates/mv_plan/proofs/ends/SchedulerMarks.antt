@@ -52,8 +52,7 @@ none_more : (deck : List JobData) (parts : List After) (found : List (Option ℕ
 none_more deck parts [] f = omega arith
 none_more deck (part ∷ parts) (Some code ∷ found) f = let le : complete_count found ≤ length parts = none_more deck parts found f.1 in
     omega arith
-none_more deck (part ∷ parts) (None ∷ found) f = let le : complete_count found ≤ length parts = none_more deck parts found f in
-    omega arith
+none_more deck (part ∷ parts) (None ∷ found) f = grind (arith, common_steps, none_more deck parts found f)
 none_more deck [] (slot ∷ found) f = absurd f
 
 -- where all ends were found, one is above what is accepted exactly where the deck says so
@@ -85,8 +84,7 @@ pub found_push : (deck : List JobData) (n : ℕ) (parts : List After) (past : Li
     → ((k : ℕ) → k < n → e ≡ end_for_scheduler n k → IsRight slot (end_of deck k)) → AreFound deck parts (found ++ slot ∷ [])
 found_push deck n [] [] e todo found slot at count below f right = absurd (cc at)
 found_push deck n [] (p ∷ past) e todo found slot at count below f right = absurd (cc at)
-found_push deck n (part ∷ parts) [] e todo [] slot at count below f right =
-    found_one deck part parts slot (right part.job below.0 (cc at))
+found_push deck n (part ∷ parts) [] e todo [] slot at count below f right = grind (arith, common_steps)
 found_push deck n (part ∷ parts) [] e todo (s ∷ found) slot at count below f right = absurd (omega arith)
 found_push deck n (part ∷ parts) (p ∷ past) e todo [] slot at count below f right = absurd (omega arith)
 found_push deck n (part ∷ parts) (p ∷ past) e todo (Some code ∷ found) slot at count below f right =
@@ -97,8 +95,7 @@ found_push deck n (part ∷ parts) (p ∷ past) e todo (None ∷ found) slot at 
 -- ---- the deck's rest
 
 pub rest_job : (deck : List JobData) (j : ℕ) (job : JobData) (jobs : List JobData) → IsRest deck j (job ∷ jobs) → job_at deck j ≡ job
-rest_job deck j job jobs r = ap (λ d. get_or d j no_job) (sym r.whole) ∙ ap (λ k. get_or (r.front ++ job ∷ jobs) k no_job) (sym r.count)
-    ∙ get_or-append_seam r.front job jobs no_job
+rest_job deck j job jobs r = grind (arith, common_steps)
 
 rest_skipped : (deck : List JobData) (j : ℕ) (job : JobData) (jobs : List JobData) → IsRest deck j (job ∷ jobs)
     → some_unaccepted (ends deck) job.after ≡ is_skipped deck j
@@ -175,14 +172,12 @@ module _ (deck : List JobData) (initiators : ℕ) where
 
   pub scheduler_marks : (x : SchedulerAt) (r : Reply) → ArePlannedJobs 0 deck → IsSchedulerAt deck initiators (At x)
       → IsMarked deck (At x) → FindsEnds x r → IsMarked deck (scheduler_goes (length deck) initiators x r)
-  scheduler_marks (Waits a (Arming e todo)) r sound s f finds =
-      on_armed_keeps (IsMarked deck) (arming_from (length deck) initiators a todo) r (arming_marked a todo s.0 f) tt
+  scheduler_marks (Waits a (Arming e todo)) r sound s f finds = grind (arith, common_steps)
   scheduler_marks (Waits a (Settling e todo found)) (reply_of.Ecb (ecb_reply.Complete code)) sound s f finds =
       settling_marked a todo (found ++ Some code ∷ []) s.0 (one_settled a e todo found (Some code) sound s.0 s.1 f finds)
   scheduler_marks (Waits a (Settling e todo found)) (reply_of.Ecb ecb_reply.Open) sound s f finds =
       settling_marked a todo (found ++ None ∷ []) s.0 (one_settled a e todo found None sound s.0 s.1 f (λ k lt at. tt))
-  scheduler_marks (Extends j job jobs skipped) (reply_of.Ecb ecb_reply.Armed) sound s f finds =
-      first_marked (ForIdle j job jobs skipped) (awaited_blocks (length deck) initiators (ForIdle j job jobs skipped)) f
+  scheduler_marks (Extends j job jobs skipped) (reply_of.Ecb ecb_reply.Armed) sound s f finds = grind (arith, common_steps)
   scheduler_marks (Clears i g code after) (reply_of.Ecb (ecb_reply.Word w)) sound s f finds = f
   scheduler_marks (Releases i g code after) (reply_of.Element element_reply.Early) sound s f finds = stage_marked after
   scheduler_marks (Releases i g code after) (reply_of.Element element_reply.Woke) sound s f finds = stage_marked after

@@ -155,8 +155,7 @@ module _ (deck : List JobData) (initiators : ℕ) (sound : IsPlanned deck initia
   ]
 
   first_next : PostsFirst e
-  first_next b d code f g q = free b d f g code
-      (already_reply d (block s b) code (cc (sym (replied c s k b p o op r (ecb_op.Post d) next f g) ∙ q)))
+  first_next b d code f g q = grind (arith, common_steps)
 
   pub traces_next : Traces deck (moved s k o op) (past ++ e ∷ [])
   traces_next = record {

@@ -40,8 +40,7 @@ run_below deck p run s e = grind (arith, common_steps)
 pub posts_run : (deck : List JobData) (i : ℕ) (x : InitiatorAt) (j b : ℕ) → IsInitiatorAt deck (At x) → j < length deck
     → HasEnd (length deck) j b → PostBy (length deck) i x b
     → (run : Running) × (run_of (At x) ≡ Some run) × (run.job ≡ j)
-posts_run deck i x j b s lt has (offers more before g is e) =
-    absurd (idle_none (length deck) j i lt (subst (HasEnd (length deck) j) e has))
+posts_run deck i x j b s lt has (offers more before g is e) = grind (arith, common_steps)
 posts_run deck i x j b s lt has (ends_job run code counts is e) = (
   run,
   ap (λ z. run_of (At z)) is,

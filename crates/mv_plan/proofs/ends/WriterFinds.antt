@@ -72,8 +72,7 @@ module _ (deck : List JobData) (initiators : ℕ) where
   own_found s s' (Keeping j more kept (Arming e (b ∷ todo))) r at f it h = absurd (cc at.2)
   own_found s s' (Keeping j more kept (Settling e [] found)) (reply_of.Ecb (ecb_reply.Complete code)) at f it h =
       settled_found (length deck) j more s' kept code found at.3 at.0 (f _ (subst (IsComplete s) at.1 it)) (λ k lt. f _ (h k lt))
-  own_found s s' (Keeping j more kept (Settling e [] found)) (reply_of.Ecb ecb_reply.Open) at f it h =
-      open_found (length deck) j more s' kept found at.3
+  own_found s s' (Keeping j more kept (Settling e [] found)) (reply_of.Ecb ecb_reply.Open) at f it h = grind (arith, common_steps)
   own_found s s' (Keeping j more kept (Settling e [] found)) r at f it h = tt
   own_found s s' (Keeping j more kept (Settling e (b ∷ todo) found)) r at f it h = absurd (cc at.2)
 

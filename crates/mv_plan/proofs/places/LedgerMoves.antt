@@ -103,8 +103,7 @@ module _ (c : Setup) (deck : List JobData) (initiators : ℕ) (few : length deck
       Gifts = Some r ≡ reply_to s scheduler (Element (initiator i)) (op_on.Element (element_op.Release g code))
 
       no_gift : Gifts → gift_code r ≡ None
-      no_gift q = gift_at r (reply_of.Element (element_step (element_op.Release g code) (element_of s i)).1) (cc q)
-          (release_gives g code (element_of s i))
+      no_gift q = grind (arith, common_steps)
 
       -- it hands out a job
       dispatches : (j k : ℕ) (jobs : List JobData) (skipped : Bool) → j ≡ k + 1 → code ≡ code_of k skipped → j + length jobs ≡ n

@@ -71,8 +71,7 @@ IsPlainReply x r ws = Unit {0}
 module _ (c : Setup) (deck : List JobData) (initiators i : ℕ) (facts : Facts c (length deck) initiators)
     (sound : ArePlannedJobs 0 deck) where
   some_blocks : 1 ≤ length c.owners
-  some_blocks = let e : length c.owners ≡ 4 * length deck + initiators = facts.size in let s : 1 ≤ initiators = facts.some in
-      omega arith
+  some_blocks = grind (arith, common_steps)
 
   -- what is kept behind an event and its reply
   abbrev kept_by : Kept → InitiatorAt → Reply → Kept

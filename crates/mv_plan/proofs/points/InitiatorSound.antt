@@ -323,8 +323,7 @@ module _ (deck : List JobData) (i : ℕ) (sound : ArePlannedJobs 0 deck) (kept :
         left = left_next deck run (Print text) steps tt s.left;
         sound = s.sound;
       }) k
-  steps_stand run hand (Free latch ∷ steps) s k =
-      freeing_lands (InitiatorStands deck i kept) (tt, tt) run hand latch (hand.requests latch) steps (λ id e. ((s, e), k))
+  steps_stand run hand (Free latch ∷ steps) s k = grind (arith, common_steps)
   steps_stand run hand (Abend code ∷ steps) s k = (record { round = s.round; end = left_end deck run (Abend code ∷ steps) s.left }, k)
   steps_stand run hand (Return code ∷ steps) s k = (record { round = s.round; end = left_end deck run (Return code ∷ steps) s.left }, k)
   steps_stand run hand (step ∷ steps) s k = (s, k)
@@ -415,8 +414,7 @@ initiator_stands deck i kept Opening (reply_of.Element (element_reply.Opened g))
 initiator_stands deck i kept (Offering more before g) r sound s = grind (arith, common_steps)
 initiator_stands deck i kept (Pausing more before g) (reply_of.Element (element_reply.Given code now)) sound s =
     given_stands deck i sound _ more before code now s.0 (record { caller = s.1.caller; stand = s.1.stand })
-initiator_stands deck i kept (Pausing more before g) (reply_of.Element element_reply.Parked) sound s =
-    (s.0, record { caller = s.1.caller; stand = s.1.stand })
+initiator_stands deck i kept (Pausing more before g) (reply_of.Element element_reply.Parked) sound s = grind (arith, common_steps)
 initiator_stands deck i kept (Resuming more before g) (reply_of.Element (element_reply.Given code now)) sound s =
     given_stands deck i sound _ more before code now s.0 (record { caller = s.1.caller; stand = s.1.stand })
 initiator_stands deck i kept (InJob run (Obtaining hand latch mode steps)) (reply_of.Latch (latch_reply.Granted id)) sound s =

@@ -73,8 +73,7 @@ module _ (c : Setup) (deck : List JobData) (initiators : ℕ) (facts : Facts c (
   idles_free : (count from more : ℕ) (kept : Kept) → SchedulerKept (length deck) count kept → count ≤ length deck
       → from + more ≤ initiators → AllByRecursion (IsFree c kept) (map (idle (length deck)) (range_with_len from more))
   idles_free count from zero kept k le lt = tt
-  idles_free count from (suc more) kept k le lt =
-      (idle_free count from kept k le (omega arith), idles_free count (from + 1) more kept k le (omega arith))
+  idles_free count from (suc more) kept k le lt = grind (arith, common_steps, idles_free count (from + 1) more kept k le)
 
   -- a wait that is not refused begins at its first block
   wait_enters : (a : Awaited) (kept : Kept) (bs : List ℕ) → wait_refusal c (awaited_count a) bs kept ≡ None

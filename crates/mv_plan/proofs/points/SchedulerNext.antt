@@ -71,13 +71,11 @@ module _ (n initiators : ℕ) (P : Point SchedulerAt → Type 0) where
   first_next a (e ∷ es) lost all = all _
 
   pub goes_next : (x : SchedulerAt) (r : Reply) → P Astray → P TooSoon → AllNext x → P (scheduler_goes n initiators x r)
-  goes_next (Waits a (Arming e todo)) r lost early all =
-      on_armed_keeps P (arming_from n initiators a todo) r (arming_next a (Arming e todo) todo lost early all) lost
+  goes_next (Waits a (Arming e todo)) r lost early all = grind (arith, common_steps)
   goes_next (Waits a (Settling e todo found)) r lost early all =
       on_settled_keeps P (λ slot. settling_from n a todo (found ++ slot ∷ [])) r
       (λ slot. settling_next a (Settling e todo found) todo (found ++ slot ∷ []) lost early all) lost
-  goes_next (Extends j job jobs skipped) (reply_of.Ecb ecb_reply.Armed) lost early all =
-      first_next (ForIdle j job jobs skipped) (awaited_blocks n initiators (ForIdle j job jobs skipped)) lost all
+  goes_next (Extends j job jobs skipped) (reply_of.Ecb ecb_reply.Armed) lost early all = grind (arith, common_steps)
   goes_next (Clears i g code after) (reply_of.Ecb (ecb_reply.Word w)) lost early all = all
   goes_next (Releases i g code after) (reply_of.Element element_reply.Early) lost early all = all
   goes_next (Releases i g code after) (reply_of.Element element_reply.Woke) lost early all = all

@@ -192,8 +192,7 @@ module _ (deck : List JobData) (initiators : ℕ) (some : 1 ≤ initiators) (sou
   not_again : (j : ℕ) (s : System) (t v : Points) (past : List Entry) (e : Entry) → j < length deck → Move deck initiators t e v
       → Counted s t past → 1 ≤ length (purges (j + 1) past) → is_obtain (j + 1) e.op ≡ false
   not_again j s t v past e lt (reads x k at o op moved_to) w p = ap (is_obtain (j + 1)) op ∙ (reader_no_request x (j + 1)).1
-  not_again j s t v past e lt (schedules x k at o op moved_to) w p =
-      ap (is_obtain (j + 1)) op ∙ (scheduler_no_request (length deck) x (j + 1)).1
+  not_again j s t v past e lt (schedules x k at o op moved_to) w p = grind (arith, common_steps)
   not_again j s t v past e lt (writes x k at o op moved_to) w p = ap (is_obtain (j + 1)) op ∙ (writer_no_request x (j + 1)).1
   not_again j s t v past e lt (initiates i x less k at o op moved_to) w p = go (is_obtain (j + 1) e.op) refl where
     go : (b : Bool) → is_obtain (j + 1) e.op ≡ b → b ≡ false

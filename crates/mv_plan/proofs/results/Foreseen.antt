@@ -290,8 +290,7 @@ module _ (deck : List JobData) (initiators : ℕ) (sound : ArePlannedJobs 0 deck
       → AllByRecursion (λ k. place k ≡ Over) (named_before (At x)) → RowAt size s q i (At x)
       → Some r ≡ reply_to s (initiator i) (initiator_asks size i x).0 (initiator_asks size i x).1 → IsForeseen (initiator_goes deck x r)
   initiator_foreseen Opening r d st over w a = opened_foreseen deck _ _ (element_of s i) r (cc a) w
-  initiator_foreseen (Offering more before g) r d st over w a =
-      post_foreseen (At (Pausing more before g)) g (s.ecb (idle size i)).state r (cc a) tt
+  initiator_foreseen (Offering more before g) r d st over w a = grind (arith, common_steps)
   initiator_foreseen (Pausing more before g) r d st over w a =
       paused_foreseen deck _ _ more before g (element_of s i) r (cc a) w (gift_foreseen more before g st over)
   initiator_foreseen (Resuming more before g) r d st over w a =
@@ -299,8 +298,7 @@ module _ (deck : List JobData) (initiators : ℕ) (sound : ArePlannedJobs 0 deck
   initiator_foreseen (InJob run (Purging hand code)) r d st over w a = grind (arith, common_steps)
   initiator_foreseen (InJob run (EndingJob code counts)) r d st over w a =
       ended_foreseen run code counts (s.ecb (done size run.job)).state r (cc a) (after_foreseen size run st.round)
-  initiator_foreseen (InJob run (EndingForScheduler code counts)) r d st over w a =
-      post_foreseen (At (InJob run (EndingForWriter code counts))) code (s.ecb (end_for_scheduler size run.job)).state r (cc a) tt
+  initiator_foreseen (InJob run (EndingForScheduler code counts)) r d st over w a = grind (arith, common_steps)
   initiator_foreseen (InJob run (EndingForWriter code counts)) r d st over w a =
       post_foreseen (rounds_after run) code (s.ecb (end_for_writer size run.job)).state r (cc a) (after_foreseen size run st.round)
   initiator_foreseen (Closing g) r d st over w a = closed_foreseen deck _ _ g (element_of s i) r (cc a) w

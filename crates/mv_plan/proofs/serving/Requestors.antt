@@ -128,8 +128,7 @@ module _ (j : ℕ) where
 
     own_work : (i : ℕ) (x : InitiatorAt) (r : Reply) → IsNotLost (initiator_goes deck x r) → WorkNext i x r
     own_work i Opening (reply_of.Element (element_reply.Opened g)) n = to_none _ (work_rounds (length deck + 1) [] g)
-    own_work i (Offering more before g) (reply_of.Ecb y) n =
-        on_posted_keeps (λ q. IsNotLost q → 0 + work j q ≡ 0) (At (Pausing more before g)) (reply_of.Ecb y) (λ n. refl) (λ n. absurd n) n
+    own_work i (Offering more before g) (reply_of.Ecb y) n = grind (arith, common_steps)
     own_work i (Pausing more before g) (reply_of.Element (element_reply.Given code now)) n =
         to_gift _ _ (work_given more before code now n)
     own_work i (Pausing more before g) (reply_of.Element element_reply.Parked) n = refl
@@ -293,5 +292,4 @@ unpurged deck initiators t past i j lt below a none w once =
 
 -- whoever works on a job, it is one of the deck's
 pub works_bound : (deck : List JobData) (p : Point InitiatorAt) (job : ℕ) → IsInitiatorAt deck p → works p ≡ Some job → job < length deck
-works_bound deck p job a e = let w : (run : Running) × (run_of p ≡ Some run) × (run.job ≡ job) = works_run p job e in
-    subst (λ j. j < length deck) w.2 (run_below deck p w.0 a w.1)
+works_bound deck p job a e = grind (arith, common_steps)

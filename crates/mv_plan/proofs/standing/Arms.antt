@@ -130,8 +130,7 @@ found_armed p r f = on_armed_keeps (λ z. IsNotLost z → z ≡ p) p r (λ g. re
 -- an arm is made by the owner
 pub arm_owner : (c : Setup) (s : System) (k e : ℕ) (op : EcbOp) → (ecb_admitted c k e op ≡ (owner_of c e == k))
     → IsTrue (admitted c s k (Ecb e) (op_on.Ecb op)) → owner_of c e ≡ k
-arm_owner c s k e op q adm = eqb-true (owner_of c e) k
-    (sym q ∙ (and_parts (nat_lt k c.callers && nat_lt e (length c.owners)) (ecb_admitted c k e op) adm).1)
+arm_owner c s k e op q adm = grind (arith, common_steps)
 
 module _ (c : Setup) (deck : List JobData) (initiators : ℕ) (facts : Facts c (length deck) initiators) (sound : ArePlannedJobs 0 deck)
     (kept : ℕ → Kept) where
@@ -174,8 +173,7 @@ module _ (c : Setup) (deck : List JobData) (initiators : ℕ) (facts : Facts c (
             (λ u. arming_arms n initiators a todo b u.0 (λ i. u.1 (inr i)))
             (armed b (else_waiting s e b _ other q))
   scheduled s (Waits a (Settling e todo found)) r w st adm f armed b q = grind (arith, common_steps)
-  scheduled s x r w st adm f armed b q = other_side (At x) (scheduler_goes n initiators x r) w b (λ u. absurd u)
-      (armed b (still_waiting s scheduler (scheduler_asks n x).0 (scheduler_asks n x).1 b tt q))
+  scheduled s x r w st adm f armed b q = grind (arith, common_steps)
 
   -- the writer
   written : (s : System) (x : WriterAt) (r : Reply) (y : Point SchedulerAt) → IsWriterAt n (At x)

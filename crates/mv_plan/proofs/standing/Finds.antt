@@ -141,8 +141,6 @@ module _ (n initiators : ℕ) (s : System) where
       (stay_moved s scheduler (Ecb e) (op_on.Ecb ecb_op.Settle) tt) w)) is))) tt
   finds_next (Extends j job jobs skipped) (reply_of.Ecb ecb_reply.Armed) sound q w = grind (arith, common_steps)
   finds_next (Clears i g code after) (reply_of.Ecb (ecb_reply.Word z)) sound q w = tt
-  finds_next (Releases i g code after) (reply_of.Element element_reply.Early) sound q w =
-      stage_here n initiators (then_s (Releases i g code after)).ecb after
-  finds_next (Releases i g code after) (reply_of.Element element_reply.Woke) sound q w =
-      stage_here n initiators (then_s (Releases i g code after)).ecb after
+  finds_next (Releases i g code after) (reply_of.Element element_reply.Early) sound q w = grind (arith, common_steps)
+  finds_next (Releases i g code after) (reply_of.Element element_reply.Woke) sound q w = grind (arith, common_steps)
   finds_next x r sound q w = tt

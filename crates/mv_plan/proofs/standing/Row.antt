@@ -146,8 +146,7 @@ module _ (deck : List JobData) (s : System) (q : Point SchedulerAt) (i : ℕ) wh
   -- its own event keeps its row
   on_element : (p : Point InitiatorAt) (o : Option ℕ) (h : Option ℕ) (y : ElementState) → Row (stance p) o h y
       → Row (stance p) o h (with_at s.element (initiator i) (advanced (s.element (initiator i)) y) (initiator i)).state
-  on_element p o h y w = row_at _ _ o o h h y _ refl refl refl
-      (ap (λ z. z.state) (with_at-same s.element (initiator i) (advanced (s.element (initiator i)) y))) w
+  on_element p o h y w = grind (arith, common_steps)
 
   runs_row : (x : InitiatorAt) (r : Reply) (run : Running) → run_of (At x) ≡ Some run → IsInitiatorAt deck (At x) → RowAt n s q i (At x)
       → RowAt n (then_s x) q i (initiator_goes deck x r)

@@ -24,6 +24,7 @@ use Rattle.mv_plan.proofs.points.Asks.{IsNoPause, no_gift, reader_no_pause, sche
 use Rattle.mv_plan.proofs.points.Asks.{scheduler_signals, writer_signals}
 use Rattle.mv_plan.proofs.lists.Tables.{with_at-same}
 use Rattle.mv_plan.proofs.points.Views.{IsNotLost}
+use Rattle.std.proofs.lemmas.Grind.{common_steps}
 
 -- ---- the balance
 
@@ -103,12 +104,9 @@ module _ (c : Setup) (deck : List JobData) (initiators : ℕ) where
 
 steps_bound : (v : ℕ) (steps : List Step) (held : List Held) → ArePlannedSteps held steps
     → 2 * added_by v (before_end steps) ≤ 9999 * steps_events steps
-steps_bound v (Print text ∷ steps) held s = let r : 2 * added_by v (before_end steps) ≤ 9999 * steps_events steps =
-    steps_bound v steps held s in omega arith
-steps_bound v (Use latch mode ∷ steps) held s = let r : 2 * added_by v (before_end steps) ≤ 9999 * steps_events steps =
-    steps_bound v steps _ s.2 in omega arith
-steps_bound v (Free latch ∷ steps) held s = let r : 2 * added_by v (before_end steps) ≤ 9999 * steps_events steps =
-    steps_bound v steps _ s.2 in omega arith
+steps_bound v (Print text ∷ steps) held s = grind (arith, common_steps, steps_bound v steps held s)
+steps_bound v (Use latch mode ∷ steps) held s = grind (arith, common_steps, steps_bound v steps)
+steps_bound v (Free latch ∷ steps) held s = grind (arith, common_steps, steps_bound v steps)
 steps_bound v (Count volume amount ∷ steps) held s =
     let r : 2 * added_by v (before_end steps) ≤ 9999 * steps_events steps = steps_bound v steps held s.4 in
     let a : added v (Count volume amount) ≤ 9999 = some (volume == v) in omega arith where

@@ -49,8 +49,7 @@ adds_all deck v (code ∷ codes) = adds deck v code + adds_all deck v codes
 
 pub adds-append : (deck : List JobData) (v : ℕ) (xs ys : List ℕ) → adds_all deck v (xs ++ ys) ≡ adds_all deck v xs + adds_all deck v ys
 adds-append deck v [] ys = omega arith
-adds-append deck v (x ∷ xs) ys = let a : adds_all deck v (xs ++ ys) ≡ adds_all deck v xs + adds_all deck v ys =
-    adds-append deck v xs ys in omega arith
+adds-append deck v (x ∷ xs) ys = grind (arith, common_steps, adds-append deck v xs ys)
 
 -- a code that names no job to be run adds nothing
 adds_low : (deck : List JobData) (v code : ℕ) → 1 ≤ code → code ≤ length deck → adds deck v code ≡ full deck v (code - 1)

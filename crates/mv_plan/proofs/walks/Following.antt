@@ -114,8 +114,7 @@ module _ (c : Setup) (deck : List JobData) (initiators : ℕ) (facts : Facts c (
     other_is : {X : Type 0} (f : Kept → X → Program (List ℕ)) (k j : ℕ) (p : Point X) → e.caller ≡ k → (k ≡ j → ⊥)
         → programs j ≡ program_at (f (kept j)) p
         → with_at programs e.caller (heard (programs e.caller) (hearing s e)) j ≡ program_at (f (kept_next kept e j)) p
-    other_is f k j p same n q = with_at-other programs e.caller j (heard (programs e.caller) (hearing s e)) (λ r. n (sym same ∙ r)) ∙ q
-        ∙ ap (λ z. program_at (f z) p) (sym (kept_other kept e k j same n))
+    other_is f k j p same n q = grind (arith, common_steps)
 
     own_is : {X : Type 0} (f : Kept → X → Program (List ℕ)) (ask : Object × Op) (k : ℕ) (x : X) (p : Point X) → e.caller ≡ k
         → e.object ≡ ask.0 → e.op ≡ ask.1 → programs k ≡ f (kept k) x
