@@ -106,9 +106,8 @@ module _ (deck : List JobData) where
   -- where a job's steps are to be done
   steps_rest : (run : Running) (hand : Hand) (steps : List Step)
       → initiator_rest (steps_at run hand steps) ≤ 4 + (steps_events steps + behind_job run)
-  steps_rest run hand (Print text ∷ steps) = grind (arith, common_steps, steps_rest run hand steps)
-  steps_rest run hand (Free latch ∷ steps) = grind (arith, common_steps)
-  steps_rest run hand steps = omega arith
+  steps_rest run hand [] = grind (arith, common_steps)
+  steps_rest run hand (first ∷ steps) = grind (arith, common_steps, steps_rest run hand steps)
 
   -- where a job begins
   start_rest : (skipped : Bool) (run : Running) (job : JobData)

@@ -57,14 +57,8 @@ is_skipped deck j = some_unaccepted (ends deck) (job_at deck j).after
 
 -- what a job's steps end with is below the end of a job that is not run
 pub own_end_below : (steps : List Step) (held : List Held) → ArePlannedSteps held steps → own_end steps < not_run
-own_end_below [] held s = omega arith
-own_end_below (Print text ∷ steps) held s = own_end_below steps held s
-own_end_below (Use latch mode ∷ steps) held s = own_end_below steps _ s.2
-own_end_below (Free latch ∷ steps) held s = own_end_below steps _ s.2
-own_end_below (Count volume amount ∷ steps) held s = own_end_below steps held s.4
-own_end_below (Scan volume ∷ steps) held s = own_end_below steps held s.2
-own_end_below (Abend code ∷ steps) held s = s.1
-own_end_below (Return code ∷ steps) held s = let le : code ≤ 4095 = s.0 in omega arith
+own_end_below [] held s = grind (arith, common_steps)
+own_end_below (first ∷ steps) held s = grind (arith, common_steps, own_end_below steps)
 
 -- a job is not to be run exactly where its end is the not-run end
 pub skipped_ends : (deck : List JobData) (j : ℕ) → ArePlannedJobs 0 deck → j < length deck → is_skipped deck j ≡ (end_of deck j == not_run)

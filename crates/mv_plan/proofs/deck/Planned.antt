@@ -49,10 +49,8 @@ low_latch l le = get_or-range_with_len 0 8 l 0 (omega arith) ∙ (let e : 0 + l 
 
 -- how many are left behind a place
 length_left : (xs : List ℕ) (n m : ℕ) → m < length xs → n ≤ m → m - n < length (drop n xs)
-length_left xs zero m lt le = omega arith
-length_left [] (suc n) m lt le = absurd (omega arith)
-length_left (x ∷ xs) (suc n) zero lt le = absurd (omega arith)
-length_left (x ∷ xs) (suc n) (suc m) lt le = grind (arith, common_steps, length_left xs n m)
+length_left [] x m lt le = grind (arith, common_steps)
+length_left (first ∷ xs) x m lt le = grind (arith, common_steps, length_left xs)
 
 -- a latch that is held is below one that is used in order
 below_used : (done : List Step) (latch l : ℕ) (mode : Mode) → holds_from done latch ≡ false → held done l ≡ Some mode → l ≤ 7 → l < latch
@@ -92,26 +90,14 @@ all_below done latch order (h ∷ hs) low is =
 
 -- behind a USE
 none_below : (hs : List Held) (latch : ℕ) → AllByRecursion (λ h. h.latch < latch) hs → mode_in hs latch ≡ None
-none_below [] latch below = refl
-none_below (h ∷ hs) latch below =
-    ap (λ b. if b then Some h.mode else mode_in hs latch)
-    (ne_eqb h.latch latch (λ e. let lt : h.latch < latch = below.0 in absurd (omega arith))) ∙ none_below hs latch below.1
+none_below [] latch below = grind (arith, common_steps)
+none_below (h ∷ hs) latch below = grind (arith, common_steps, none_below hs)
 
 -- a latch that is pushed is held, and the others as they were
 pushed : (hs : List Held) (latch : ℕ) (mode : Mode) (l : ℕ) → mode_in hs latch ≡ None
     → (if latch == l then Some mode else mode_in hs l) ≡ mode_in (hs ++ record { latch = latch; mode = mode } ∷ []) l
-pushed [] latch mode l none = refl
-pushed (h ∷ hs) latch mode l none = go (h.latch == latch) (h.latch == l) refl refl (λ e. pushed hs latch mode l e) none where
-  go : (a b : Bool) → (h.latch == latch) ≡ a → (h.latch == l) ≡ b
-      → (mode_in hs latch ≡ None → (if latch == l then Some mode else mode_in hs l)
-      ≡ mode_in (hs ++ record { latch = latch; mode = mode } ∷ []) l)
-      → (if a then Some h.mode else mode_in hs latch) ≡ None
-      → (if latch == l then Some mode else if b then Some h.mode else mode_in hs l)
-      ≡ (if b then Some h.mode else mode_in (hs ++ record { latch = latch; mode = mode } ∷ []) l)
-  go true b p q more e = absurd (cc e)
-  go false true p q more e = ap (λ b. if b then Some mode else Some h.mode)
-      (ne_eqb latch l (λ r. absurd (false≢true (sym p ∙ eq-eqb h.latch latch (eqb-true h.latch l q ∙ sym r)))))
-  go false false p q more e = more e
+pushed [] latch mode l none = grind (arith, common_steps)
+pushed (h ∷ hs) latch mode l none = grind (arith, common_steps, pushed hs)
 
 -- all are low with one more
 all_pushed : (hs : List Held) (latch : ℕ) (mode : Mode) → latch ≤ 7 → AllByRecursion (λ h. h.latch ≤ 7) hs
@@ -139,11 +125,8 @@ freed (h ∷ hs) latch l = grind (arith, common_steps, freed hs latch l)
 
 -- all that are left are low
 all_left : (hs : List Held) (p : Held → Bool) → AllByRecursion (λ h. h.latch ≤ 7) hs → AllByRecursion (λ h. h.latch ≤ 7) (filter p hs)
-all_left [] p low = tt
-all_left (h ∷ hs) p low = elim (p h) as (λ b. AllByRecursion (λ h. h.latch ≤ 7) (if b then h ∷ filter p hs else filter p hs)) [
-  | true ↦ (low.0, all_left hs p low.1)
-  | false ↦ all_left hs p low.1
-]
+all_left [] p low = grind (arith, common_steps)
+all_left (h ∷ hs) p low = grind (arith, common_steps, all_left hs)
 
 -- the list behind a FREE
 freed_lists : (hs : List Held) (done : List Step) (latch : ℕ) → Lists hs done
@@ -157,25 +140,13 @@ freed_lists hs done latch x = record {
 
 -- a latch that is held is in the list
 in_list : (hs : List Held) (l : ℕ) → is_none (mode_in hs l) ≡ false → IsTrue (list_any (is_held l) hs)
-in_list [] l e = absurd (false≢true (sym e))
-in_list (h ∷ hs) l e = go (h.latch == l) refl (λ e. in_list hs l e) e where
-  go : (b : Bool) → (h.latch == l) ≡ b → (is_none (mode_in hs l) ≡ false → IsTrue (list_any (is_held l) hs))
-      → is_none (if b then Some h.mode else mode_in hs l) ≡ false
-      → IsTrue (list_any (is_held l) (h ∷ hs))
-  go true p more e = rw p refl
-  go false p more e = rw p (more e)
+in_list [] l e = grind (arith, common_steps)
+in_list (h ∷ hs) l e = grind (arith, common_steps, in_list hs)
 
 -- and is so exclusively
 alone_in_list : (hs : List Held) (l : ℕ) → not (is_exclusive (mode_in hs l)) ≡ false → IsTrue (list_any (is_held_alone l) hs)
-alone_in_list [] l e = absurd (false≢true (sym e))
-alone_in_list (h ∷ hs) l e = go (h.latch == l) h.mode refl refl (λ e. alone_in_list hs l e) e where
-  go : (b : Bool) (m : Mode) → (h.latch == l) ≡ b → h.mode ≡ m
-      → (not (is_exclusive (mode_in hs l)) ≡ false → IsTrue (list_any (is_held_alone l) hs))
-      → not (is_exclusive (if b then Some h.mode else mode_in hs l)) ≡ false
-      → IsTrue (list_any (is_held_alone l) (h ∷ hs))
-  go true Exclusive p q more e = rw (p, q) refl
-  go true Shared p q more e = absurd (false≢true (sym e ∙ ap (λ m. not (is_exclusive (Some m))) q))
-  go false m p q more e = rw p (more e)
+alone_in_list [] l e = grind (arith, common_steps)
+alone_in_list (h ∷ hs) l e = grind (arith, common_steps, alone_in_list hs)
 
 -- ---- steps
 

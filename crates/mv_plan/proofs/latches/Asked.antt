@@ -75,9 +75,8 @@ asked_there k job latch g n = rw (ne_eqb g.latch latch n) refl
 
 -- none where all latches are lower
 pub asked_below : (k job latch : ℕ) (gs : List Grant) → AllByRecursion (λ h. h.latch < latch) (held_of gs) → asked k job latch gs ≡ []
-asked_below k job latch [] b = refl
-asked_below k job latch (g ∷ gs) b =
-    rw (ne_eqb g.latch latch (λ q. let lt : g.latch < latch = b.0 in absurd (omega arith))) (asked_below k job latch gs b.1)
+asked_below k job latch [] b = grind (arith, common_steps)
+asked_below k job latch (g ∷ gs) b = grind (arith, common_steps, asked_below k job latch gs)
 
 -- after a latch was freed
 pub asked_freed : (k job latch : ℕ) (gs : List Grant) → asked k job latch (without_latch latch gs) ≡ []
@@ -93,16 +92,8 @@ asked_kept k job latch other (g ∷ gs) n = grind (arith, common_steps, asked_ke
 pub asked_named : (k job latch id : ℕ) (requests : ℕ → Option ℕ) (gs : List Grant)
     → AllByRecursion (λ g. requests g.latch ≡ Some g.id) gs → requests latch ≡ Some id
     → AllByRecursion (λ q. not (is_own k id q) ≡ false) (asked k job latch gs)
-asked_named k job latch id requests [] l e = tt
-asked_named k job latch id requests (g ∷ gs) l e = go (g.latch == latch) refl (asked_named k job latch id requests gs l.1 e) where
-  go : (b : Bool) → (g.latch == latch) ≡ b → AllByRecursion (λ q. not (is_own k id q) ≡ false) (asked k job latch gs)
-      → AllByRecursion (λ q. not (is_own k id q) ≡ false)
-      (if b then request_of k job g ∷ asked k job latch gs else asked k job latch gs)
-  go true t rest =
-      let same : requests latch ≡ Some g.id = subst (λ m. requests m ≡ Some g.id) (eqb-true g.latch latch t) l.0 in
-      let ids : g.id ≡ id = cc (same, e) in
-      (rw (eq-eqb g.id id ids, eq-eqb k k refl) refl, rest)
-  go false t rest = rest
+asked_named k job latch id requests [] l e = grind (arith, common_steps)
+asked_named k job latch id requests (g ∷ gs) l e = grind (arith, common_steps, asked_named k job latch id requests gs)
 
 -- they are the job's, and the caller's
 pub asked_of : (k job latch : ℕ) (gs : List Grant)

@@ -205,9 +205,8 @@ module _ (c : Setup) (deck : List JobData) (initiators : ℕ) where
 
 -- at the start
 no_list : (latches latch : ℕ) → list_of (replicate latches []) latch ≡ []
-no_list zero latch = refl
-no_list (suc latches) zero = refl
-no_list (suc latches) (suc latch) = no_list latches latch
+no_list zero latch = grind (arith, common_steps)
+no_list (suc latches) latch = grind (arith, common_steps, no_list latches)
 
 pub hands_start : (latches initiators : ℕ) → Hands initiators (replicate latches []) (λ i. At Opening)
 hands_start latches initiators = record {

@@ -131,10 +131,8 @@ named_is n code named e = grind (arith, common_steps)
 -- ---- ends
 
 pub own_end_left : (past steps : List Step) → AllByRecursion IsNoEnd past → own_end (past ++ steps) ≡ own_end steps
-own_end_left [] steps g = refl
-own_end_left (Abend code ∷ past) steps g = absurd g.0
-own_end_left (Return code ∷ past) steps g = absurd g.0
-own_end_left (step ∷ past) steps g = own_end_left past steps g.1
+own_end_left [] steps g = grind (arith, common_steps)
+own_end_left (step ∷ past) steps g = grind (arith, common_steps, own_end_left past)
 
 -- one step was done
 pub left_next : (deck : List JobData) (run : Running) (step : Step) (steps : List Step) → IsNoEnd step → AreLeft deck run (step ∷ steps)
@@ -187,22 +185,13 @@ last_push : (requests : ℕ → Option ℕ) (latch : ℕ) (mode : Mode) (id : �
     → AllByRecursion (λ g. requests g.latch ≡ Some g.id) gs → AllByRecursion (λ h. h.latch < latch) (held_of gs)
     → AllByRecursion (λ g. with_at requests latch (Some id) g.latch ≡ Some g.id)
     (gs ++ record { latch = latch; mode = mode; id = id } ∷ [])
-last_push requests latch mode id [] l b = (ap (λ t. if t then Some id else requests latch) (eq-eqb latch latch refl), tt)
-last_push requests latch mode id (g ∷ gs) l b = (
-  ap (λ t. if t then Some id else requests g.latch) (ne_eqb g.latch latch (λ q. let lt : g.latch < latch = b.0 in absurd (omega arith)))
-      ∙ l.0,
-  last_push requests latch mode id gs l.1 b.1,
-)
+last_push requests latch mode id [] l b = grind (arith, common_steps)
+last_push requests latch mode id (g ∷ gs) l b = grind (arith, common_steps, last_push requests latch mode id gs)
 
 last_without : (requests : ℕ → Option ℕ) (latch : ℕ) (gs : List Grant) → AllByRecursion (λ g. requests g.latch ≡ Some g.id) gs
     → AllByRecursion (λ g. requests g.latch ≡ Some g.id) (without_latch latch gs)
-last_without requests latch [] l = tt
-last_without requests latch (g ∷ gs) l =
-    elim (g.latch == latch) as (λ b. AllByRecursion (λ g. requests g.latch ≡ Some g.id)
-    (if not b then g ∷ without_latch latch gs else without_latch latch gs)) [
-      | true ↦ last_without requests latch gs l.1
-      | false ↦ (l.0, last_without requests latch gs l.1)
-    ]
+last_without requests latch [] l = grind (arith, common_steps)
+last_without requests latch (g ∷ gs) l = grind (arith, common_steps, last_without requests latch gs)
 
 pub hand_push : (hand : Hand) (latch : ℕ) (mode : Mode) (id : ℕ) → IsHand hand
     → AllByRecursion (λ h. h.latch < latch) (held_of hand.holding) → IsHand (hand_with hand latch mode id)
@@ -240,25 +229,8 @@ standing_push k job latch mode id (g ∷ gs) = grind (arith, common_steps, stand
 pub standing_without : (k job latch id : ℕ) (requests : ℕ → Option ℕ) (gs : List Grant)
     → AllByRecursion (λ g. requests g.latch ≡ Some g.id) gs → requests latch ≡ Some id
     → less (is_named latch id) (standing_of k job gs) ≡ standing_of k job (without_latch latch gs)
-standing_without k job latch id requests [] l e = refl
-standing_without k job latch id requests (g ∷ gs) l e =
-    go (g.latch == latch) refl (standing_without k job latch id requests gs l.1 e) where
-      here : StandingRequest
-      here = record {
-        latch = g.latch;
-        request = record { id = g.id; caller = k; requestor = job + 1; mode = g.mode; form = form_of.Waiting };
-      }
-
-      go : (b : Bool) → (g.latch == latch) ≡ b
-          → less (is_named latch id) (standing_of k job gs) ≡ standing_of k job (without_latch latch gs)
-          → (if not ((g.latch == latch) && (g.id == id)) then here ∷ less (is_named latch id) (standing_of k job gs) else less
-          (is_named latch id) (standing_of k job gs))
-          ≡ standing_of k job (if not (g.latch == latch) then g ∷ without_latch latch gs else without_latch latch gs)
-      go true t rest =
-          let same : requests latch ≡ Some g.id = subst (λ m. requests m ≡ Some g.id) (eqb-true g.latch latch t) l.0 in
-          let ids : g.id ≡ id = cc (same, e) in
-          rw (t, eq-eqb g.id id ids) rest
-      go false t rest = rw t (ap (λ ts. here ∷ ts) rest)
+standing_without k job latch id requests [] l e = grind (arith, common_steps)
+standing_without k job latch id requests (g ∷ gs) l e = grind (arith, common_steps, standing_without k job latch id requests gs)
 
 pub standing_purged : (k job : ℕ) (gs : List Grant) → less (is_for (job + 1)) (standing_of k job gs) ≡ []
 standing_purged k job [] = refl
@@ -292,12 +264,8 @@ differs_push [] m job d n = (n, tt)
 differs_push (k ∷ ks) m job d n = (d.0, differs_push ks m job d.1 n)
 
 distinct_push : (ks : List ℕ) (job : ℕ) → AreDistinct ks → list_any (λ j. j == job) ks ≡ false → AreDistinct (ks ++ job ∷ [])
-distinct_push [] job d n = (tt, tt)
-distinct_push (k ∷ ks) job d n = go (k == job) refl (λ t. distinct_push ks job d.1 t) where
-  go : (b : Bool) → (k == job) ≡ b → (list_any (λ j. j == job) ks ≡ false → AreDistinct (ks ++ job ∷ []))
-      → AreDistinct (k ∷ (ks ++ job ∷ []))
-  go true e rest = absurd (false≢true (sym (rw e at n)))
-  go false e rest = (differs_push ks k job d.0 (λ q. absurd (false≢true (sym e ∙ eq-eqb k job (sym q)))), rest (rw e at n))
+distinct_push [] job d n = grind (arith, common_steps)
+distinct_push (k ∷ ks) job d n = grind (arith, common_steps, distinct_push ks)
 
 pub round_next : (n more : ℕ) (run : Running) → run.more ≡ suc more → IsRunning n run → IsRound n more (run.before ++ run.job ∷ [])
 round_next n more run e r = record {

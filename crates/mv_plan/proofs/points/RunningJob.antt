@@ -25,9 +25,8 @@ abbrev pub RunsOn : Running → Point InitiatorAt → Type 0
 RunsOn run p = (run_of p ≡ Some run) ⊎ (IsNotLost p → ⊥)
 
 pub steps_run : (run : Running) (hand : Hand) (steps : List Step) → RunsOn run (steps_at run hand steps)
-steps_run run hand (Print text ∷ steps) = steps_run run hand steps
-steps_run run hand (Free latch ∷ steps) = grind (arith, common_steps)
-steps_run run hand steps = inl refl
+steps_run run hand [] = grind (arith, common_steps)
+steps_run run hand (first ∷ steps) = grind (arith, common_steps, steps_run run hand steps)
 
 pub start_run : (skipped : Bool) (run : Running) (job : JobData) → RunsOn run (job_start skipped run job)
 start_run true run job = inl refl

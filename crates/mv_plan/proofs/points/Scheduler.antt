@@ -52,14 +52,8 @@ idles_distinct n from (suc count) = (idles_differ n from (from + 1) count (omega
 module _ (c : Setup) (deck : List JobData) (initiators : ℕ) (facts : Facts c (length deck) initiators) (sound : ArePlannedJobs 0 deck) where
   ends_free : (count j : ℕ) (kept : Kept) (parts : List After) → SchedulerKept (length deck) count kept → count ≤ length deck
       → j ≤ length deck → AllByRecursion (λ p. p.job < j) parts → AllByRecursion (IsFree c kept) (ends_of (length deck) parts)
-  ends_free count j kept [] k le lt below = tt
-  ends_free count j kept (part ∷ parts) k le lt below = (
-    record {
-      own = facts.scheduler_owner part.job (omega arith) ∙ sym k.caller;
-      plain = others_plain (length deck) count kept (end_for_scheduler (length deck) part.job) k (inr (omega arith));
-    },
-    ends_free count j kept parts k le lt below.1,
-  )
+  ends_free count j kept [] k le lt below = grind (arith, common_steps)
+  ends_free count j kept (part ∷ parts) k le lt below = grind (arith, common_steps, ends_free count j kept parts)
 
   idle_free : (count i : ℕ) (kept : Kept) → SchedulerKept (length deck) count kept → count ≤ length deck → i < initiators
       → IsFree c kept (idle (length deck) i)

@@ -87,9 +87,8 @@ module _ (j : ℕ) where
 
   works_steps : (run : Running) (hand : Hand) (steps : List Step) → IsNotLost (steps_at run hand steps)
       → works (steps_at run hand steps) ≡ Some run.job
-  works_steps run hand (Print text ∷ steps) n = works_steps run hand steps n
-  works_steps run hand (Free latch ∷ steps) n = grind (arith, common_steps)
-  works_steps run hand steps n = refl
+  works_steps run hand [] n = grind (arith, common_steps)
+  works_steps run hand (first ∷ steps) n = grind (arith, common_steps, works_steps run hand steps)
 
   work_steps : (run : Running) (hand : Hand) (steps : List Step) → IsNotLost (steps_at run hand steps)
       → work j (steps_at run hand steps) ≡ here j (Some run.job)

@@ -42,14 +42,12 @@ distinct_rest [] rest d = d
 distinct_rest (x ∷ past) rest d = distinct_rest past rest d.1
 
 not_in : (e : ℕ) (todo : List ℕ) → AllByRecursion (λ m. m ≡ e → ⊥) todo → In todo e → ⊥
-not_in e [] d i = i
-not_in e (x ∷ todo) d (inl same) = d.0 same
-not_in e (x ∷ todo) d (inr i) = not_in e todo d.1 i
+not_in e [] d i = grind (arith, common_steps)
+not_in e (x ∷ todo) d i = grind (arith, common_steps, not_in e todo)
 
 pub in_all : (P : ℕ → Type 0) (bs : List ℕ) (b : ℕ) → AllByRecursion P bs → In bs b → P b
-in_all P [] b w i = absurd i
-in_all P (x ∷ bs) b w (inl same) = subst (λ z. P z) same w.0
-in_all P (x ∷ bs) b w (inr i) = in_all P bs b w.1 i
+in_all x [] b w i = grind (arith, common_steps)
+in_all x (first ∷ bs) b w i = grind (arith, common_steps, in_all x bs)
 
 -- ---- the blocks of a wait are different, and none is a done block
 

@@ -104,18 +104,8 @@ module _ (c : Setup) (deck : List JobData) (initiators : ℕ) where
 
 steps_bound : (v : ℕ) (steps : List Step) (held : List Held) → ArePlannedSteps held steps
     → 2 * added_by v (before_end steps) ≤ 9999 * steps_events steps
-steps_bound v (Print text ∷ steps) held s = grind (arith, common_steps, steps_bound v steps held s)
-steps_bound v (Use latch mode ∷ steps) held s = grind (arith, common_steps, steps_bound v steps)
-steps_bound v (Free latch ∷ steps) held s = grind (arith, common_steps, steps_bound v steps)
-steps_bound v (Count volume amount ∷ steps) held s =
-    let r : 2 * added_by v (before_end steps) ≤ 9999 * steps_events steps = steps_bound v steps held s.4 in
-    let a : added v (Count volume amount) ≤ 9999 = some (volume == v) in omega arith where
-      some : (b : Bool) → (if b then amount else 0) ≤ 9999
-      some true = s.2
-      some false = omega arith
-steps_bound v (Scan volume ∷ steps) held s = let r : 2 * added_by v (before_end steps) ≤ 9999 * steps_events steps =
-    steps_bound v steps held s.2 in omega arith
-steps_bound v steps held s = omega arith
+steps_bound v [] held s = grind (arith, common_steps)
+steps_bound v (first ∷ steps) held s = grind (arith, common_steps, steps_bound v steps)
 
 fulls_bound : (v k : ℕ) (jobs : List JobData) → ArePlannedJobs k jobs → 2 * sum_to (length jobs) (full jobs v) ≤ 9999 * all_events jobs
 fulls_bound v k [] s = omega arith

@@ -46,11 +46,8 @@ module _ (v : ℕ) where
 
   due_steps : (run : Running) (hand : Hand) (steps : List Step) → IsNotLost (steps_at run hand steps)
       → due v (steps_at run hand steps) ≡ added_by v (before_end steps)
-  due_steps run hand (Print text ∷ steps) n = due_steps run hand steps n ∙ zero_plus (added_by v (before_end steps))
-  due_steps run hand (Use latch mode ∷ steps) n = zero_plus (added_by v (before_end steps))
-  due_steps run hand (Free latch ∷ steps) n = grind (arith, common_steps)
-  due_steps run hand (Scan volume ∷ steps) n = zero_plus (added_by v (before_end steps))
-  due_steps run hand steps n = refl
+  due_steps run hand [] n = grind (arith, common_steps)
+  due_steps run hand (first ∷ steps) n = grind (arith, common_steps, due_steps run hand steps)
 
   due_start : (deck : List JobData) (run : Running) (job : ℕ) (skipped : Bool) → IsNotLost (job_start skipped run (job_at deck job))
       → due v (job_start skipped run (job_at deck job)) ≡ adds_if deck v job skipped

@@ -29,11 +29,8 @@ abbrev pub AreUnposted : List Request → Type 0
 AreUnposted qs = AllByRecursion IsUnposted qs
 
 front_unposted : (qs : List Request) → AreUnposted qs → AreUnposted (shared_front qs)
-front_unposted [] a = tt
-front_unposted (q ∷ qs) a = elim (shared_request q) as (λ b. AreUnposted (if b then q ∷ shared_front qs else [])) [
-  | true ↦ (a.0, front_unposted qs a.1)
-  | false ↦ tt
-]
+front_unposted [] a = grind (arith, common_steps)
+front_unposted (q ∷ qs) a = grind (arith, common_steps, front_unposted qs)
 
 granted_unposted : (qs : List Request) → AreUnposted qs → AreUnposted (granted qs)
 granted_unposted [] a = tt
