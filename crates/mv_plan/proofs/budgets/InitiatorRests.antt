@@ -49,8 +49,7 @@ round_taken deck before j lt new =
       own [] = rw (eq-eqb j j refl) refl
       own (b ∷ before) = rw (own before) (either (b == j)) where
         either : (c : Bool) → (c || true) ≡ true
-        either true = refl
-        either false = refl
+        either x = grind (arith, common_steps)
 
       same : (before : List ℕ) (m : ℕ) → (j ≡ m → ⊥) → is_among m (before ++ j ∷ []) ≡ is_among m before
       same [] m d = rw (ne_eqb j m d) refl
@@ -100,8 +99,7 @@ module _ (deck : List JobData) where
 
   -- where a round begins
   rounds_rest : (more : ℕ) (before : List ℕ) (g : ℕ) → initiator_rest (rounds_from more before g) ≤ 4 + rounds_to_come deck before
-  rounds_rest zero before g = omega arith
-  rounds_rest (suc more) before g = omega arith
+  rounds_rest x before g = grind (arith, common_steps)
 
   -- where a job's steps are to be done
   steps_rest : (run : Running) (hand : Hand) (steps : List Step)

@@ -24,8 +24,7 @@ reader_rest p = 0
 
 -- where it begins
 pub entering_rest : (j more : ℕ) → reader_rest (entering_from j more) ≤ more
-entering_rest j zero = omega arith
-entering_rest j (suc more) = omega arith
+entering_rest j x = grind (arith, common_steps)
 
 -- each event takes one
 pub reader_pays : (x : ReaderAt) (r : Reply) → suc (reader_rest (reader_goes x r)) ≤ reader_rest (At x)
@@ -42,8 +41,7 @@ writer_rest p = 0
 module _ (n : ℕ) where
   -- where it begins with a job
   pub writing_rest : (j more : ℕ) (ends : List ℕ) → writer_rest (writing_from n j more ends) ≤ 2 * more
-  writing_rest j zero ends = omega arith
-  writing_rest j (suc more) ends = omega arith
+  writing_rest j x ends = grind (arith, common_steps)
 
   -- where it has found an end, or ended too soon
   end_rest : (j more : ℕ) (ends : List ℕ) (found : List (Option ℕ)) → writer_rest (end_found n j more ends found) ≤ 2 * more
@@ -139,8 +137,7 @@ module _ (n initiators : ℕ) where
 
   -- where a wait begins
   first_rest : (a : Awaited) (es : List ℕ) → scheduler_rest (arming_first a es) ≤ length es + (block_count a + behind_wait a)
-  first_rest a [] = omega arith
-  first_rest a (e ∷ es) = omega arith
+  first_rest a x = grind (arith, common_steps)
 
   -- each event takes one
   pub scheduler_pays : (x : SchedulerAt) (r : Reply) → suc (scheduler_rest (scheduler_goes n initiators x r)) ≤ scheduler_rest (At x)

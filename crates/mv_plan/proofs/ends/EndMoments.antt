@@ -77,8 +77,7 @@ module _ (deck : List JobData) (initiators : ℕ) (sound : IsPlanned deck initia
       ] where
         handed : m.places.place j ≡ Run i → (j < next_job (length deck) t.scheduler) ⊎ (next_job (length deck) t.scheduler ≤ j)
             → j < next_job (length deck) t.scheduler
-        handed run (inl less) = less
-        handed run (inr le) = absurd (cc (run, m.places.coming j le))
+        handed run x = grind (arith, common_steps)
 
   pub reader_free : (s : System) (t : Points) (x : ReaderAt) → EndMoment deck initiators s t → t.reader ≡ At x → (b d : ℕ)
       → (reader_asks x).0 ≡ Ecb b → (reader_asks x).1 ≡ op_on.Ecb (ecb_op.Post d) → NotComplete s b

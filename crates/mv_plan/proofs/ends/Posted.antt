@@ -98,8 +98,7 @@ HasPosted deck initiators s t past = Posted deck initiators s t
 -- ---- what each caller's events leave
 
 pub scheduler_no_post : (n : ℕ) (x : SchedulerAt) (d : ℕ) → (scheduler_asks n x).1 ≡ op_on.Ecb (ecb_op.Post d) → ⊥
-scheduler_no_post n (Waits a (Arming e todo)) d q = cc q
-scheduler_no_post n x d q = cc q
+scheduler_no_post n x d q = grind (arith, common_steps)
 
 -- the scheduler clears idle blocks alone
 pub scheduler_clears : (n : ℕ) (x : SchedulerAt) (b : ℕ) → (scheduler_asks n x).0 ≡ Ecb b
@@ -107,12 +106,10 @@ pub scheduler_clears : (n : ℕ) (x : SchedulerAt) (b : ℕ) → (scheduler_asks
 scheduler_clears n x b o q = grind (arith, common_steps)
 
 pub writer_no_post : (x : WriterAt) (d : ℕ) → (writer_asks x).1 ≡ op_on.Ecb (ecb_op.Post d) → ⊥
-writer_no_post (Keeping k more kept (Arming e todo)) d q = cc q
-writer_no_post (Keeping k more kept (Settling e todo found)) d q = cc q
+writer_no_post x d q = grind (arith, common_steps)
 
 pub writer_clears_none : (x : WriterAt) → (writer_asks x).1 ≡ op_on.Ecb ecb_op.Clear → ⊥
-writer_clears_none (Keeping k more kept (Arming e todo)) q = cc q
-writer_clears_none (Keeping k more kept (Settling e todo found)) q = cc q
+writer_clears_none x q = grind (arith, common_steps)
 
 pub clear_is_no_post : {d : ℕ} → ecb_op.Clear ≡ ecb_op.Post d → ⊥
 clear_is_no_post e = cc e
@@ -295,11 +292,7 @@ module _ (deck : List JobData) (initiators : ℕ) where
     ) where
       extended_after : Moved j → (block s (done (length deck) j) ≡ Extended (j + 1)) ⊎ IsComplete s (done (length deck) j)
           → (block i_after (done (length deck) j) ≡ Extended (j + 1)) ⊎ IsComplete i_after (done (length deck) j)
-      extended_after (inl same) (inl e) = inl (same ∙ e)
-      extended_after (inl same) (inr w) = inr (w.0, same ∙ w.1)
-      extended_after (inr w) was = let post : (d : ℕ) × (w.0 ≡ ecb_op.Post d) = initiator_ecb deck initiators i x w.0 w.2 in
-          inr (posted_is s (initiator i) asks.0 asks.1
-          (done (length deck) j) post.0 w.1 (w.2 ∙ ap (λ z. op_on.Ecb z) post.1))
+      extended_after x was = grind (arith, common_steps)
 
       zero_after : Moved j → m ≤ j → block i_after (done (length deck) j) ≡ Zero
       zero_after (inl same) le = same ∙ (sp j below).1 le
@@ -421,12 +414,10 @@ module _ (deck : List JobData) (initiators : ℕ) where
 
   pub writer_is : (x : WriterAt) (b : ℕ) → (writer_asks x).0 ≡ Ecb b → IsWriterAt (length deck) (At x)
       → (j : ℕ) × (b ≡ end_for_writer (length deck) j)
-  writer_is (Keeping j more kept (Arming e todo)) b o at = (j, sym (cc o) ∙ at.1)
-  writer_is (Keeping j more kept (Settling e todo found)) b o at = (j, sym (cc o) ∙ at.1)
+  writer_is x b o at = grind (arith, common_steps)
 
   writer_element : (x : WriterAt) (m : ℕ) → (writer_asks x).0 ≡ Element m → ⊥
-  writer_element (Keeping j more kept (Arming e todo)) m o = cc o
-  writer_element (Keeping j more kept (Settling e todo found)) m o = cc o
+  writer_element x m o = grind (arith, common_steps)
 
   writer_posted : (s : System) (t : Points) (past : List Entry) (x : WriterAt) (k : ℕ) (v : Point WriterAt) → t.writer ≡ At x
       → HasPlaces deck initiators s t past → Posted deck initiators s t
@@ -464,8 +455,7 @@ module _ (deck : List JobData) (initiators : ℕ) where
 
   dismissing_done : (v : System) (i more : ℕ) → IsSplit (length deck) v (length deck)
       → DoneBlocks (length deck) v (dismissing_from (length deck) i more)
-  dismissing_done v i zero sp = sp
-  dismissing_done v i (suc more) sp = sp
+  dismissing_done v i x sp = grind (arith, common_steps)
 
   -- where no done block was touched, the next point has extended as many
   nexts_done : (v : System) (x : SchedulerAt) → IsSchedulerAt deck initiators (At x)
@@ -541,8 +531,7 @@ module _ (deck : List JobData) (initiators : ℕ) where
 
   stage_first : (c : Setup) (jobs : List JobData) → IsSplit (length deck) (opening c) 0 → length jobs ≡ length deck
       → DoneBlocks (length deck) (opening c) (stage_at (length deck) initiators (Dispatching 0 jobs))
-  stage_first c [] sp e = dismissing_done (opening c) 0 initiators (subst (λ m. IsSplit (length deck) (opening c) m) e sp)
-  stage_first c (job ∷ jobs) sp e = sp
+  stage_first c x sp e = grind (arith, common_steps)
 
   pub posted_first : (c : Setup) → Posted deck initiators (opening c) (start_points deck initiators)
   posted_first c = record {

@@ -108,8 +108,7 @@ settled_keeps deck j more kept rest code (f ∷ found) e l n none c = absurd (cc
 
 open_keeps : (deck : List JobData) (j more : ℕ) (kept : List ℕ) (found : List (Option ℕ)) → found ≡ []
     → KeepsEnds deck (end_found (length deck) j more kept (found ++ None ∷ []))
-open_keeps deck j more kept [] none = tt
-open_keeps deck j more kept (f ∷ found) none = absurd (cc none)
+open_keeps deck j more kept x none = grind (arith, common_steps)
 
 pub writer_kept : (deck : List JobData) (x : WriterAt) (r : Reply) → IsWriterAt (length deck) (At x) → KeepsEnds deck (At x)
     → WriterFindsEnd deck x r → KeepsEnds deck (writer_goes (length deck) x r)
@@ -145,12 +144,10 @@ reader_posts deck (Entering k more) at m d a b j lt has = grind (arith, common_s
 
 scheduler_posts : (deck : List JobData) (x : SchedulerAt)
     → PostsEnds deck (scheduler_asks (length deck) x).0 (scheduler_asks (length deck) x).1
-scheduler_posts deck (Waits a (Arming e todo)) m d p q j lt has = absurd (cc q)
-scheduler_posts deck x m d p q j lt has = absurd (cc q)
+scheduler_posts deck x m d p q j lt has = grind (arith, common_steps)
 
 writer_posts : (deck : List JobData) (x : WriterAt) → PostsEnds deck (writer_asks x).0 (writer_asks x).1
-writer_posts deck (Keeping k more kept (Arming e todo)) m d p q j lt has = absurd (cc q)
-writer_posts deck (Keeping k more kept (Settling e todo found)) m d p q j lt has = absurd (cc q)
+writer_posts deck x m d p q j lt has = grind (arith, common_steps)
 
 -- the code with which an initiator ends its job is the job's end
 pub ending_is : (deck : List JobData) (initiators : ℕ) (run : Running) (code : ℕ) → IsPlanned deck initiators → IsEnding deck run code
@@ -193,8 +190,7 @@ module _ (deck : List JobData) (initiators : ℕ) (sound : IsPlanned deck initia
   -- the job that a code names, and its mark
   pub given_mark : (code : ℕ) (named : Named) → IsCode deck code → job_named (length deck) code ≡ Some named
       → named.skipped ≡ is_skipped deck named.job
-  given_mark code named (inl z) e = absurd (never_zero named.job named.skipped (sym (named_is (length deck) code named e).1 ∙ z))
-  given_mark code named (inr w) e = grind (arith, common_steps)
+  given_mark code named x e = grind (arith, common_steps)
 
   starts_marked : (c : Setup) (s : System) (i : ℕ) (x : InitiatorAt) (p : ℕ) (r : Reply)
       → IsNext c s (entry_of (initiator i) p (initiator_asks (length deck) i x) r) → HoldCodes deck s
@@ -220,8 +216,7 @@ module _ (deck : List JobData) (initiators : ℕ) (sound : IsPlanned deck initia
   reader_releases (Entering k more) m g d p q = absurd (cc p)
 
   pub writer_releases : (x : WriterAt) → ReleasesCodes deck (writer_asks x).0 (writer_asks x).1
-  writer_releases (Keeping k more kept (Arming e todo)) m g d p q = absurd (cc p)
-  writer_releases (Keeping k more kept (Settling e todo found)) m g d p q = absurd (cc p)
+  writer_releases x m g d p q = grind (arith, common_steps)
 
   pub codes_keep : (c : Setup) → KeepsUnder (HasStanding deck initiators) (HasCodes deck initiators) c deck initiators
   codes_keep c = by_moves (HasStanding deck initiators) (HasCodes deck initiators) c deck initiators
@@ -265,8 +260,7 @@ module _ (deck : List JobData) (initiators : ℕ) (sound : IsPlanned deck initia
       })
 
   stage_first : (jobs : List JobData) → IsMarked deck (stage_at (length deck) initiators (Dispatching 0 jobs))
-  stage_first [] = dismissing_marked deck initiators 0 initiators
-  stage_first (job ∷ jobs) = tt
+  stage_first x = grind (arith, common_steps)
 
   pub codes_first : (c : Setup) → Codes deck initiators (opening c) (start_points deck initiators)
   codes_first c = record {

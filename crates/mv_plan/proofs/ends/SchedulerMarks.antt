@@ -73,8 +73,7 @@ IsRight None end = Unit {0}
 
 found_one : (deck : List JobData) (part : After) (parts : List After) (slot : Option ℕ) → IsRight slot (end_of deck part.job)
     → AreFound deck (part ∷ parts) (slot ∷ [])
-found_one deck part parts (Some code) r = (r, tt)
-found_one deck part parts None r = tt
+found_one deck part parts x r = grind (arith, common_steps)
 
 -- one more was settled
 pub found_push : (deck : List JobData) (n : ℕ) (parts : List After) (past : List ℕ) (e : ℕ) (todo : List ℕ) (found : List (Option ℕ))
@@ -118,12 +117,10 @@ module _ (deck : List JobData) (initiators : ℕ) where
   ends_marked : (j : ℕ) (name : List ℕ) (after : List After) (steps : List Step) (jobs : List JobData)
       → IsRest deck j (record { name = name; after = after; steps = steps } ∷ jobs)
       → IsMarked deck (ends_at (length deck) j (record { name = name; after = after; steps = steps }) jobs)
-  ends_marked j name [] steps jobs r = rest_skipped deck j (record { name = name; after = []; steps = steps }) jobs r
-  ends_marked j name (part ∷ parts) steps jobs r = tt
+  ends_marked j name x steps jobs r = grind (arith, common_steps)
 
   pub dismissing_marked : (i more : ℕ) → IsMarked deck (dismissing_from (length deck) i more)
-  dismissing_marked i zero = tt
-  dismissing_marked i (suc more) = tt
+  dismissing_marked i x = grind (arith, common_steps)
 
   stage_marked : (after : Stage) → IsMarked deck (stage_at (length deck) initiators after)
   stage_marked x = grind (arith, common_steps)
@@ -147,12 +144,10 @@ module _ (deck : List JobData) (initiators : ℕ) where
 
   arming_marked : (a : Awaited) (es : List ℕ) → IsAwaited deck initiators a → MarkedWait deck a []
       → IsMarked deck (arming_from (length deck) initiators a es)
-  arming_marked a [] s f = settling_marked a (awaited_blocks (length deck) initiators a) [] s f
-  arming_marked a (e ∷ es) s f = f
+  arming_marked a x s f = grind (arith, common_steps)
 
   first_marked : (a : Awaited) (es : List ℕ) → MarkedWait deck a [] → IsMarked deck (arming_first a es)
-  first_marked a [] f = tt
-  first_marked a (e ∷ es) f = f
+  first_marked a x f = grind (arith, common_steps)
 
   one_settled : (a : Awaited) (e : ℕ) (todo : List ℕ) (found : List (Option ℕ)) (slot : Option ℕ) → ArePlannedJobs 0 deck
       → IsAwaited deck initiators a → IsWaitAt (awaited_blocks (length deck) initiators a) (Settling e todo found)

@@ -72,12 +72,10 @@ map_push (q ∷ ps) p = ap (λ z. q.0 ∷ z) (map_push ps p)
 -- ---- tables
 
 no_code : (v : EcbState) → ((code : ℕ) → v ≡ Complete code → ⊥) → code_list v ≡ []
-no_code (Complete c) f = absurd (f c refl)
-no_code y f = refl
+no_code y f = grind (arith, common_steps)
 
 posted_code : (d : ℕ) (v : EcbState) → ((code : ℕ) → v ≡ Complete code → ⊥) → code_list (ecb_step (ecb_op.Post d) v).0 ≡ d ∷ []
-posted_code d (Complete c) f = absurd (f c refl)
-posted_code d y f = refl
+posted_code d y f = grind (arith, common_steps)
 
 kept_code : (op : EcbOp) (v : EcbState) → ((d : ℕ) → op ≡ ecb_op.Post d → ⊥) → (op ≡ ecb_op.Clear → ⊥)
     → code_list (ecb_step op v).0 ≡ code_list v

@@ -28,8 +28,7 @@ WriterHas deck s t past = HasFound (length deck) s t.writer
 
 writing_found : (n j more : ℕ) (s : System) (kept : List ℕ) → j + more ≡ n → ((k : ℕ) → k < j → IsComplete s (end_for_writer n k))
     → HasFound n s (writing_from n j more kept)
-writing_found n j zero s kept e h = λ k lt. h k (omega arith)
-writing_found n j (suc more) s kept e h = h
+writing_found n j x s kept e h = grind (arith, common_steps)
 
 one_more : (n j : ℕ) (s : System) → IsComplete s (end_for_writer n j) → ((k : ℕ) → k < j → IsComplete s (end_for_writer n k)) → (k : ℕ)
     → k < j + 1 → IsComplete s (end_for_writer n k)
@@ -49,8 +48,7 @@ settled_found n j more s kept code (f ∷ found) none e last h = absurd (cc none
 
 open_found : (n j more : ℕ) (s : System) (kept : List ℕ) (found : List (Option ℕ)) → found ≡ []
     → HasFound n s (end_found n j more kept (found ++ None ∷ []))
-open_found n j more s kept [] none = tt
-open_found n j more s kept (f ∷ found) none = absurd (cc none)
+open_found n j more s kept x none = grind (arith, common_steps)
 
 idle_elsewhere : (n i k : ℕ) → k < n → end_for_writer n k ≡ idle n i → ⊥
 idle_elsewhere n i k lt e = omega arith

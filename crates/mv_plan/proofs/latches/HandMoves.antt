@@ -35,13 +35,11 @@ latch_reply_is c s k p op y h = cc h.reply
 
 granted_reply : (b : Bool) (place id : ℕ) → latch_reply.Granted id ≡ (if b then latch_reply.Granted place else latch_reply.Queued place)
     → (b ≡ true) × (place ≡ id)
-granted_reply true place id e = (refl, cc e)
-granted_reply false place id e = absurd (cc e)
+granted_reply x place id e = grind (arith, common_steps)
 
 queued_reply : (b : Bool) (place id : ℕ) → latch_reply.Queued id ≡ (if b then latch_reply.Granted place else latch_reply.Queued place)
     → place ≡ id
-queued_reply true place id e = absurd (cc e)
-queued_reply false place id e = cc e
+queued_reply x place id e = grind (arith, common_steps)
 
 pub has_latch : (latch : ℕ) (gs : List Grant) → list_any (is_held latch) (held_of gs) ≡ list_any (λ g. g.latch == latch) gs
 has_latch latch [] = refl

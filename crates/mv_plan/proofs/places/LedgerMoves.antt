@@ -59,8 +59,7 @@ pub scheduler_quiet : (n : ℕ) (s : System) (x : SchedulerAt) (r : Reply) → N
 scheduler_quiet n s x r d q = grind (arith, common_steps)
 
 pub no_release_or : (x : SchedulerAt) → (NoRelease x) ⊎ ((i g code : ℕ) × (after : Stage) × (x ≡ Releases i g code after))
-no_release_or (Releases i g code after) = inr (i, g, code, after, refl)
-no_release_or x = inl tt
+no_release_or x = grind (arith, common_steps)
 
 module _ (c : Setup) (deck : List JobData) (initiators : ℕ) (few : length deck ≤ not_to_run) (kept : ℕ → Kept) (past : List Entry) where
   abbrev n : ℕ

@@ -39,8 +39,7 @@ pub data GoesOn (run : Running) (p : Point InitiatorAt) : Type 0 where
   lost : (IsNotLost p → ⊥) → GoesOn run p
 
 on_run : (run : Running) (p : Point InitiatorAt) → RunsOn run p → GoesOn run p
-on_run run p (inl e) = same e
-on_run run p (inr e) = lost e
+on_run run p x = grind (arith, common_steps)
 
 one_run : (run run' : Running) → Some run ≡ Some run' → run ≡ run'
 one_run run run' e = cc e
@@ -100,8 +99,7 @@ module _ (Q : Running → Type 0) where
   no_run e = absurd (cc e)
 
   rounds_run : (more : ℕ) (before : List ℕ) (g : ℕ) → OfRun Q (rounds_from more before g)
-  rounds_run zero before g run e = no_run e
-  rounds_run (suc more) before g run e = no_run e
+  rounds_run x before g run e = grind (arith, common_steps)
 
   goes_on_run : (run : Running) (p : Point InitiatorAt) → Q run → GoesOn run p → OfRun Q p
   goes_on_run run p q x other e = grind (arith, common_steps)

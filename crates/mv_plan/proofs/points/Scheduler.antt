@@ -28,8 +28,7 @@ use Rattle.std.proofs.lemmas.Grind.{common_steps}
 
 pub scheduler_says : (c : Setup) (n initiators : ℕ) (kept : Kept) (x : SchedulerAt)
     → asks (scheduler_program c n initiators kept x) ≡ Some (scheduler_asks n x)
-scheduler_says c n initiators kept (Waits a (Arming e todo)) = refl
-scheduler_says c n initiators kept x = refl
+scheduler_says c n initiators kept x = grind (arith, common_steps)
 
 -- the blocks with ends of different jobs are different
 ends_differ : (n : ℕ) (part : After) (parts : List After) → AllByRecursion (λ m. m ≡ part.job → ⊥) (map (λ p. p.job) parts)

@@ -36,8 +36,7 @@ module _ (n initiators : ℕ) (P : Point SchedulerAt → Type 0) where
       → ((v : WaitAt) → P (At (Waits (ForEnds j (record { name = name; after = after; steps = steps }) jobs) v)))
       → ((b : Bool) → P (At (Extends j (record { name = name; after = after; steps = steps }) jobs b)))
       → P (ends_at n j (record { name = name; after = after; steps = steps }) jobs)
-  ends_next j name [] steps jobs w e = e false
-  ends_next j name (part ∷ parts) steps jobs w e = w _
+  ends_next j name x steps jobs w e = grind (arith, common_steps)
 
   found_next : (a : Awaited) (v : WaitAt) (found : List (Option ℕ)) → P Astray → AllNext (Waits a v) → P (found_at n a found)
   found_next (ForEntry j job jobs) v found lost all =
@@ -49,8 +48,7 @@ module _ (n initiators : ℕ) (P : Point SchedulerAt → Type 0) where
       lowest_keeps P (λ p g. At (Clears i g 0 (Dismissing (i + 1) more))) 0 found (λ p g. all.1 g) lost
 
   wait_next : (a : Awaited) (v w : WaitAt) → AllNext (Waits a v) → P (At (Waits a w))
-  wait_next (ForEntry j job jobs) v w all = all.0 w
-  wait_next a v w all = all.0 w
+  wait_next a v w all = grind (arith, common_steps)
 
   settling_next : (a : Awaited) (v : WaitAt) (es : List ℕ) (found : List (Option ℕ)) → P Astray → P TooSoon → AllNext (Waits a v)
       → P (settling_from n a es found)
@@ -63,12 +61,10 @@ module _ (n initiators : ℕ) (P : Point SchedulerAt → Type 0) where
 
   arming_next : (a : Awaited) (v : WaitAt) (es : List ℕ) → P Astray → P TooSoon → AllNext (Waits a v)
       → P (arming_from n initiators a es)
-  arming_next a v [] lost early all = settling_next a v (awaited_blocks n initiators a) [] lost early all
-  arming_next a v (e ∷ es) lost early all = wait_next a v _ all
+  arming_next a v x lost early all = grind (arith, common_steps)
 
   first_next : (a : Awaited) (es : List ℕ) → P Astray → ((v : WaitAt) → P (At (Waits a v))) → P (arming_first a es)
-  first_next a [] lost all = lost
-  first_next a (e ∷ es) lost all = all _
+  first_next a x lost all = grind (arith, common_steps)
 
   pub goes_next : (x : SchedulerAt) (r : Reply) → P Astray → P TooSoon → AllNext x → P (scheduler_goes n initiators x r)
   goes_next (Waits a (Arming e todo)) r lost early all = grind (arith, common_steps)
@@ -122,8 +118,7 @@ module _ (n initiators : ℕ) where
   same_next x r d f = ap (next_of n) (same_errand n initiators x r d f)
 
   dismissals_next : (m more : ℕ) → next_of n (after_dismissals m more) ≡ n
-  dismissals_next m zero = refl
-  dismissals_next m (suc more) = refl
+  dismissals_next m x = grind (arith, common_steps)
 
   -- behind a release
   pub dismissed_next : (m more : ℕ) (r : Reply) → IsNotLost (on_released (stage_at n initiators (Dismissing m more)) r)
@@ -150,5 +145,4 @@ next_grows deck initiators x r s = grind (arith, common_steps, goes_next, At, ne
 -- and is never above the number of jobs
 pub next_bound : (deck : List JobData) (initiators : ℕ) (p : Point SchedulerAt) → IsSchedulerAt deck initiators p
     → next_job (length deck) p ≤ length deck
-next_bound deck initiators (At x) s = next_below deck initiators x s
-next_bound deck initiators p s = omega arith
+next_bound deck initiators p s = grind (arith, common_steps)

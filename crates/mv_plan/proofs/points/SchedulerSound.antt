@@ -122,8 +122,7 @@ module _ (deck : List JobData) (initiators : ℕ) (kept : Kept) where
   ends_stands : (j : ℕ) (name : List ℕ) (after : List After) (steps : List Step) (jobs : List JobData)
       → IsRest deck j (record { name = name; after = after; steps = steps } ∷ jobs) → SchedulerKept (length deck) j kept
       → SchedulerStands deck initiators kept (ends_at (length deck) j (record { name = name; after = after; steps = steps }) jobs)
-  ends_stands j name [] steps jobs r k = (r, k)
-  ends_stands j name (part ∷ parts) steps jobs r k = ((r, ([], refl)), k)
+  ends_stands j name x steps jobs r k = grind (arith, common_steps)
 
   pub stage_stands : (after : Stage) → IsStage deck initiators after
       → SchedulerKept (length deck) (stage_extended (length deck) after) kept
@@ -155,8 +154,7 @@ module _ (deck : List JobData) (initiators : ℕ) (kept : Kept) where
       → SchedulerKept (length deck) (awaited_extended (length deck) a) kept
       → past ++ es ≡ awaited_blocks (length deck) initiators a
       → SchedulerStands deck initiators kept (arming_from (length deck) initiators a es)
-  arming_stands a past [] s k e = settling_stands a [] (awaited_blocks (length deck) initiators a) [] s k refl refl
-  arming_stands a past (b ∷ es) s k e = ((s, (past, e)), k)
+  arming_stands a past x s k e = grind (arith, common_steps)
 
 one_pushed : {X : Type 0} (xs ys : List X) (x : X) → (xs ++ x ∷ []) ++ ys ≡ xs ++ x ∷ ys
 one_pushed xs ys x = append_assoc xs (x ∷ []) ys
@@ -169,10 +167,7 @@ extended_kept deck initiators kept j job jobs skipped s =
     record { caller = s.caller; within = λ e held. extended_more e held (cases_eq e (done (length deck) j)) } where
       extended_more : (e : ℕ) → with_at kept.extended (done (length deck) j) true e ≡ true
           → (e ≡ done (length deck) j) ⊎ (e ≡ done (length deck) j → ⊥) → (length deck ≤ e) × (e < length deck + (j + 1))
-      extended_more e held (inl same) = (omega arith, omega arith)
-      extended_more e held (inr other) = let w : (length deck ≤ e) × (e < length deck + j) =
-          s.within e (sym (ap (λ b. if b then true else kept.extended e) (ne_eqb e (done (length deck) j) other)) ∙ held) in
-          (w.0, omega arith)
+      extended_more e held x = grind (arith, common_steps)
 
 pub scheduler_stands : (deck : List JobData) (initiators : ℕ) (kept : Kept) (x : SchedulerAt) (r : Reply)
     → SchedulerStands deck initiators kept (At x)

@@ -31,12 +31,10 @@ pub record Closes (n initiators : ℕ) (past : List Entry) (dismissed : ℕ) : T
   pub unclosed : (i : ℕ) → dismissed ≤ i → length (closings (initiator i) past) ≡ 0
 
 plain_right : (n initiators : ℕ) (o : Object) (op : Op) (r : Reply) → release_code op ≡ None → IsRightRelease n initiators o op r
-plain_right n initiators (Element m) (op_on.Element (element_op.Release g code)) r e = absurd (cc e)
-plain_right n initiators o op r e = tt
+plain_right n initiators o op r e = grind (arith, common_steps)
 
 plain_open : (m : ℕ) (o : Object) (op : Op) → release_code op ≡ None → is_closing m o op ≡ false
-plain_open m (Element k) (op_on.Element (element_op.Release g code)) e = absurd (cc e)
-plain_open m o op e = refl
+plain_open m o op e = grind (arith, common_steps)
 
 closings_same : (m : ℕ) (past : List Entry) (e : Entry) → is_closing m e.object e.op ≡ false
     → length (closings m (past ++ e ∷ [])) ≡ length (closings m past)
@@ -76,8 +74,7 @@ module _ (c : Setup) (deck : List JobData) (initiators : ℕ) (kept : ℕ → Ke
         → IsSchedulerAt deck initiators (At (Releases i g code after))
         → IsNotLost (scheduler_goes n initiators (Releases i g code after) r)
         → ClosesAt q past → ClosesAt (scheduler_goes n initiators (Releases i g code after) r) (past ++ out ∷ [])
-    releasing (Dispatching j jobs) q at sound f w = grind (arith, common_steps)
-    releasing (Dismissing m more) q at sound f w = grind (arith, common_steps)
+    releasing x q at sound f w = grind (arith, common_steps)
 
   scheduled : (x : SchedulerAt) (p : ℕ) (r : Reply) (q : Point SchedulerAt) → q ≡ At x → IsSchedulerAt deck initiators (At x)
       → IsNotLost (scheduler_goes n initiators x r)
@@ -108,9 +105,7 @@ pub closes_start : (deck : List JobData) (initiators : ℕ)
     → Closes (length deck) initiators [] (dismissed_by initiators (errand (stage_at (length deck) initiators (Dispatching 0 deck))))
 closes_start deck initiators = record { releases = tt; closed = λ i lt. absurd (none deck i lt); unclosed = λ i le. refl } where
   dismissals : (n more : ℕ) → dismissed_by more (errand (dismissing_from n 0 more)) ≡ 0
-  dismissals n zero = refl
-  dismissals n (suc more) = refl
+  dismissals n x = grind (arith, common_steps)
 
   none : (deck : List JobData) (i : ℕ) → i < dismissed_by initiators (errand (stage_at (length deck) initiators (Dispatching 0 deck))) → ⊥
-  none [] i lt = let z : dismissed_by initiators (errand (dismissing_from 0 0 initiators)) ≡ 0 = dismissals 0 initiators in omega arith
-  none (job ∷ jobs) i lt = omega arith
+  none x i lt = grind (arith, common_steps)

@@ -180,8 +180,7 @@ module _ (deck : List JobData) (initiators : ℕ) (some : 1 ≤ initiators) (sou
 
   -- an obtain is made by who works on the job
   asks_obtain : (n i j : ℕ) (x : InitiatorAt) → is_obtain (j + 1) (initiator_asks n i x).1 ≡ true → works (At x) ≡ Some j
-  asks_obtain n i j (InJob run (Obtaining hand latch mode steps)) e = grind (arith, common_steps)
-  asks_obtain n i j x e = absurd (false≢true e)
+  asks_obtain n i j x e = grind (arith, common_steps)
 
   abbrev Counted : System → Points → List Entry → Type 0
   Counted s t past = (AreSound deck initiators t × NoneLost initiators t) × (WorkBalance deck initiators t past × NamedOnce deck past)

@@ -62,18 +62,14 @@ module _ (c : Setup) (deck : List JobData) (initiators : ℕ) where
     from_reader s (Entering j more) = tt
 
     from_scheduler : (s : System) (x : SchedulerAt) → ClosesNone s (scheduler_asks n x).0 (scheduler_asks n x).1
-    from_scheduler s (Waits a (Arming e todo)) = tt
-    from_scheduler s x = tt
+    from_scheduler s x = grind (arith, common_steps)
 
     from_writer : (s : System) (x : WriterAt) → ClosesNone s (writer_asks x).0 (writer_asks x).1
-    from_writer s (Keeping j more ends (Arming e todo)) = tt
-    from_writer s (Keeping j more ends (Settling e todo found)) = tt
+    from_writer s x = grind (arith, common_steps)
 
     from_initiator : (s : System) (q : Point SchedulerAt) (i : ℕ) (x : InitiatorAt) → RowAt n s q i (At x)
         → ClosesNone s (initiator_asks n i x).0 (initiator_asks n i x).1
-    from_initiator s q i (InJob run (Obtaining hand latch mode steps)) w = tt
-    from_initiator s q i (Closing g) w = reset_none g (element_of s i) w.2
-    from_initiator s q i x w = tt
+    from_initiator s q i x w = grind (arith, common_steps)
 
   pub closes_none : (s : System) (t u : Points) (e : Entry) → IsNext c s e → Move deck initiators t e u → Rows deck initiators s t
       → ClosesNone s e.object e.op

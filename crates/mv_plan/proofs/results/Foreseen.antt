@@ -47,8 +47,7 @@ IsForeseen p = Unit {0}
 
 post_foreseen : {X : Type 0} (p : Point X) (code : ℕ) (v : EcbState) (r : Reply) → r ≡ reply_of.Ecb (ecb_step (ecb_op.Post code) v).1
     → IsForeseen p → IsForeseen (on_posted p r)
-post_foreseen p code Zero r e w = rw e w
-post_foreseen p code y r e w = rw e w
+post_foreseen p code y r e w = grind (arith, common_steps)
 
 arm_foreseen : {X : Type 0} (p : Point X) (v : EcbState) (r : Reply) → r ≡ reply_of.Ecb (ecb_step ecb_op.Arm v).1 → (v ≡ Waiting → ⊥)
     → ((y : ℕ) → v ≡ Extended y → ⊥) → IsForeseen p → IsForeseen (on_armed p r)
@@ -75,8 +74,7 @@ reader_foreseen s (Entering j more) r e = grind (arith, common_steps)
 module _ (n initiators : ℕ) where
   ends_foreseen : (j : ℕ) (name : List ℕ) (after : List After) (steps : List Step) (jobs : List JobData)
       → IsForeseen (ends_at n j (record { name = name; after = after; steps = steps }) jobs)
-  ends_foreseen j name [] steps jobs = tt
-  ends_foreseen j name (part ∷ parts) steps jobs = tt
+  ends_foreseen j name x steps jobs = grind (arith, common_steps)
 
   found_foreseen : (a : Awaited) (found : List (Option ℕ)) → awaited_count a ≤ complete_count found → IsForeseen (found_at n a found)
   found_foreseen (ForEntry j job jobs) found le =
@@ -92,13 +90,11 @@ module _ (n initiators : ℕ) where
   settling_foreseen a (e ∷ es) found = tt
 
   arming_foreseen : (a : Awaited) (es : List ℕ) → IsForeseen (arming_from n initiators a es)
-  arming_foreseen a [] = settling_foreseen a (awaited_blocks n initiators a) []
-  arming_foreseen a (e ∷ es) = tt
+  arming_foreseen a x = grind (arith, common_steps)
 
 first_foreseen : (n initiators j : ℕ) (job : JobData) (jobs : List JobData) (skipped : Bool) → 1 ≤ initiators
     → IsForeseen (arming_first (ForIdle j job jobs skipped) (awaited_blocks n initiators (ForIdle j job jobs skipped)))
-first_foreseen n zero j job jobs skipped some = absurd (omega arith)
-first_foreseen n (suc initiators) j job jobs skipped some = tt
+first_foreseen n x j job jobs skipped some = grind (arith, common_steps)
 
 -- an extend that is answered Armed
 pub extend_foreseen : (n initiators j : ℕ) (job : JobData) (jobs : List JobData) (skipped : Bool) → 1 ≤ initiators
@@ -156,8 +152,7 @@ module _ (c : Setup) (deck : List JobData) (initiators : ℕ) (facts : Facts c (
 
   -- ---- the writer
   writing_foreseen : (j more : ℕ) (ends : List ℕ) → IsForeseen (writing_from n j more ends)
-  writing_foreseen j zero ends = tt
-  writing_foreseen j (suc more) ends = tt
+  writing_foreseen j x ends = grind (arith, common_steps)
 
   end_foreseen : (j more : ℕ) (ends : List ℕ) (found : List (Option ℕ)) → IsForeseen (end_found n j more ends found)
   end_foreseen j more ends found = grind (arith, common_steps, TooSoon, lowest_foreseen, writing_foreseen, leb-true)
@@ -197,8 +192,7 @@ steps_found run hand (Free latch ∷ steps) l s =
 steps_found run hand steps l s = tt
 
 pub foreseen_of : {X : Type 0} (p : Point X) → IsNotLost p → IsForeseen p
-foreseen_of Astray f = f
-foreseen_of p f = tt
+foreseen_of p f = grind (arith, common_steps)
 
 start_found : (deck : List JobData) (skipped : Bool) (run : Running) (j : ℕ) → ArePlannedJobs 0 deck → j < length deck
     → IsForeseen (job_start skipped run (job_at deck j))
@@ -207,8 +201,7 @@ start_found deck false run j sound lt =
     foreseen_of _ (steps_found run empty_hand (job_at deck j).steps tt (job_sound j 0 deck sound lt))
 
 rounds_foreseen : (m : ℕ) (before : List ℕ) (g : ℕ) → 1 ≤ m → IsForeseen (rounds_from m before g)
-rounds_foreseen zero before g le = absurd (omega arith)
-rounds_foreseen (suc m) before g le = tt
+rounds_foreseen x before g le = grind (arith, common_steps)
 
 -- a running job leaves a round for what follows
 pub round_left : (n : ℕ) (run : Running) → IsRunning n run → 1 ≤ run.more
@@ -222,8 +215,7 @@ after_foreseen n run r = rounds_foreseen run.more (run.before ++ run.job ∷ [])
 
 ended_foreseen : (run : Running) (code : ℕ) (counts : Counts) (v : EcbState) (r : Reply)
     → r ≡ reply_of.Ecb (ecb_step (ecb_op.Post code) v).1 → IsForeseen (rounds_after run) → IsForeseen (on_ended run code counts r)
-ended_foreseen run code counts (Extended (suc y)) r e w = rw e tt
-ended_foreseen run code counts y r e w = rw e w
+ended_foreseen run code counts y r e w = grind (arith, common_steps)
 
 -- where a given code is right, and names no job that was named before
 module _ (deck : List JobData) (sound : ArePlannedJobs 0 deck) (small : length deck ≤ not_to_run) (before : List ℕ) (more : ℕ)

@@ -20,8 +20,7 @@ use Rattle.mv_plan.proofs.walks.Stands.{standing}
 use Rattle.std.proofs.lemmas.Grind.{common_steps}
 
 foreseen_point : (p : Point InitiatorAt) → (p ≡ Astray → ⊥) → IsForeseen p
-foreseen_point Astray n = n refl
-foreseen_point p n = tt
+foreseen_point p n = grind (arith, common_steps)
 
 module _ (deck : List JobData) (initiators : ℕ) where
   -- the entry of a caller is what its point says

@@ -62,8 +62,7 @@ of_rounds_or x = grind (arith, common_steps)
 
 extends_or : (x : SchedulerAt) → (NoExtend x)
     ⊎ ((j : ℕ) × (job : JobData) × (jobs : List JobData) × (skipped : Bool) × (x ≡ Extends j job jobs skipped))
-extends_or (Extends j job jobs skipped) = inr (j, job, jobs, skipped, refl)
-extends_or x = inl tt
+extends_or x = grind (arith, common_steps)
 
 -- What the other laws show of an entry: a code in an element is 0 or a job's, the extend of a done block is answered Armed, and no
 -- reply to a job's step leads astray.
@@ -262,20 +261,16 @@ module _ (deck : List JobData) (initiators : ℕ) (some : 1 ≤ initiators) (sou
 -- ---- at the start
 
 start_reader : (j more : ℕ) → IsNotLost (entering_from j more)
-start_reader j zero = tt
-start_reader j (suc more) = tt
+start_reader j x = grind (arith, common_steps)
 
 start_dismissing : (n m more : ℕ) → IsNotLost (dismissing_from n m more)
-start_dismissing n m zero = tt
-start_dismissing n m (suc more) = tt
+start_dismissing n m x = grind (arith, common_steps)
 
 start_scheduler : (n initiators : ℕ) (deck : List JobData) → IsNotLost (stage_at n initiators (Dispatching 0 deck))
-start_scheduler n initiators [] = start_dismissing n 0 initiators
-start_scheduler n initiators (job ∷ jobs) = tt
+start_scheduler n initiators x = grind (arith, common_steps)
 
 start_writer : (n more : ℕ) → IsNotLost (writing_from n 0 more [])
-start_writer n zero = tt
-start_writer n (suc more) = tt
+start_writer n x = grind (arith, common_steps)
 
 pub none_lost_at_start : (deck : List JobData) (initiators : ℕ) → NoneLost initiators (start_points deck initiators)
 none_lost_at_start deck initiators = record {

@@ -82,8 +82,7 @@ names_zero j = rw (ne_eqb 0 (code_of j false) (λ q. absurd (omega arith)), ne_e
 
 module _ (j : ℕ) where
   work_rounds : (m : ℕ) (before : List ℕ) (g : ℕ) → work j (rounds_from m before g) ≡ 0
-  work_rounds zero before g = refl
-  work_rounds (suc m) before g = refl
+  work_rounds x before g = grind (arith, common_steps)
 
   works_steps : (run : Running) (hand : Hand) (steps : List Step) → IsNotLost (steps_at run hand steps)
       → works (steps_at run hand steps) ≡ Some run.job
@@ -175,12 +174,10 @@ pub reader_no_request : (x : ReaderAt) → IsNoRequest (reader_asks x).1
 reader_no_request (Entering j more) r = (refl, refl)
 
 pub scheduler_no_request : (n : ℕ) (x : SchedulerAt) → IsNoRequest (scheduler_asks n x).1
-scheduler_no_request n (Waits a (Arming e todo)) r = (refl, refl)
-scheduler_no_request n x r = (refl, refl)
+scheduler_no_request n x r = grind (arith, common_steps)
 
 pub writer_no_request : (x : WriterAt) → IsNoRequest (writer_asks x).1
-writer_no_request (Keeping j more ends (Arming e todo)) r = (refl, refl)
-writer_no_request (Keeping j more ends (Settling e todo slots)) r = (refl, refl)
+writer_no_request x r = grind (arith, common_steps)
 
 module _ (c : Setup) (deck : List JobData) (initiators : ℕ) where
   works_same : (s : System) (t : Points) (past : List Entry) (e : Entry) (o : Object) (op : Op) → IsNext c s e → e.object ≡ o

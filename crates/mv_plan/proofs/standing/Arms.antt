@@ -114,13 +114,11 @@ else_waiting s e b y d w = sym (ap (λ z. z.state) (with_at-other s.ecb e b (adv
 
 settling_arms : (n initiators : ℕ) (a : Awaited) (es : List ℕ) (found : List (Option ℕ)) (b : ℕ) → In es b
     → SchedulerArms n initiators (settling_from n a es found) b
-settling_arms n initiators a [] found b i = absurd i
-settling_arms n initiators a (e ∷ es) found b i = i
+settling_arms n initiators a x found b i = grind (arith, common_steps)
 
 arming_arms : (n initiators : ℕ) (a : Awaited) (todo : List ℕ) (b : ℕ) → In (awaited_blocks n initiators a) b → (In todo b → ⊥)
     → SchedulerArms n initiators (arming_from n initiators a todo) b
-arming_arms n initiators a [] b i d = settling_arms n initiators a (awaited_blocks n initiators a) [] b i
-arming_arms n initiators a (e ∷ es) b i d = (i, d)
+arming_arms n initiators a x b i d = grind (arith, common_steps)
 
 found_armed : {X : Type 0} (p : Point X) (r : Reply) → IsNotLost (on_armed p r) → on_armed p r ≡ p
 found_armed p r f = on_armed_keeps (λ z. IsNotLost z → z ≡ p) p r (λ g. refl) (λ g. absurd g) f
@@ -144,8 +142,7 @@ module _ (c : Setup) (deck : List JobData) (initiators : ℕ) (facts : Facts c (
 
   other_side : (q q' : Point SchedulerAt) (w : Point WriterAt) (b : ℕ)
       → (SchedulerArms n initiators q b → SchedulerArms n initiators q' b) → Arms q w b → Arms q' w b
-  other_side q q' w b f (inl x) = inl (x.0, f x.1)
-  other_side q q' w b f (inr x) = inr x
+  other_side q q' w b f x = grind (arith, common_steps)
 
   -- the scheduler
   scheduled : (s : System) (x : SchedulerAt) (r : Reply) (w : Point WriterAt) → IsSchedulerAt deck initiators (At x)
@@ -170,7 +167,6 @@ module _ (c : Setup) (deck : List JobData) (initiators : ℕ) (facts : Facts c (
         go (inr other) = other_side (At (Waits a (Arming e todo))) (arming_from n initiators a todo) w b
             (λ u. arming_arms n initiators a todo b u.0 (λ i. u.1 (inr i)))
             (armed b (else_waiting s e b _ other q))
-  scheduled s (Waits a (Settling e todo found)) r w st adm f armed b q = grind (arith, common_steps)
   scheduled s x r w st adm f armed b q = grind (arith, common_steps)
 
   -- the writer

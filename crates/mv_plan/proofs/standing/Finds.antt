@@ -47,8 +47,7 @@ pub stay_moved : (s : System) (k : ℕ) (o : Object) (op : Op) → NoClear op �
 stay_moved s k o op w b code e = grind (arith, common_steps)
 
 slot_kept : (f g : Blocks) (b : ℕ) (slot : Option ℕ) → Stay f g → SlotIs (f b).state slot → SlotIs (g b).state slot
-slot_kept f g b None stay w = tt
-slot_kept f g b (Some code) stay w = stay b code w
+slot_kept f g b x stay w = grind (arith, common_steps)
 
 pub slots_kept : (f g : Blocks) (bs : List ℕ) (found : List (Option ℕ)) → Stay f g → Slots f bs found → Slots g bs found
 slots_kept f g bs [] stay w = tt
@@ -96,8 +95,7 @@ module _ (n initiators : ℕ) (f : Blocks) where
 
   ends_here : (j : ℕ) (name : List ℕ) (after : List After) (steps : List Step) (jobs : List JobData)
       → Here (ends_at n j (record { name = name; after = after; steps = steps }) jobs)
-  ends_here j name [] steps jobs = tt
-  ends_here j name (part ∷ parts) steps jobs = tt
+  ends_here j name x steps jobs = grind (arith, common_steps)
 
   found_here : (a : Awaited) (found : List (Option ℕ)) → Slots f (awaited_blocks n initiators a) found → Here (found_at n a found)
   found_here (ForEntry j job jobs) found w = lowest_plain (ends_at n j job jobs) 0 found (ends_here j job.name job.after job.steps jobs)

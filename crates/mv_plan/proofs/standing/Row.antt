@@ -80,8 +80,7 @@ RowAt n s q i p = Row (stance p) (offer_of n s i) (hold_for i q) (element_of s i
 -- ---- an initiator's own event
 
 stance_run : (p : Point InitiatorAt) (run : Running) → run_of p ≡ Some run → stance p ≡ Works run.generation
-stance_run (At (InJob run' w)) run e = ap (λ z. stance_in z) e
-stance_run p run e = absurd (cc e)
+stance_run p run e = grind (arith, common_steps)
 
 stance_lost : (p : Point InitiatorAt) → (IsNotLost p → ⊥) → stance p ≡ Loses
 stance_lost x f = grind (arith, common_steps)
@@ -95,13 +94,11 @@ row_lost st o h x e = rw e tt
 
 module _ (o h : Option ℕ) where
   rounds_row : (m : ℕ) (before : List ℕ) (g : ℕ) (x : ElementState) → Row (Works g) o h x → Row (stance (rounds_from m before g)) o h x
-  rounds_row zero before g x r = tt
-  rounds_row (suc m) before g x r = r
+  rounds_row x before g y r = grind (arith, common_steps)
 
   run_row : (p : Point InitiatorAt) (run : Running) (x : ElementState) → RunsOn run p → Row (Works run.generation) o h x
       → Row (stance p) o h x
-  run_row p run x (inl e) r = row_at _ _ o o h h x x (stance_run p run e) refl refl refl r
-  run_row p run x (inr e) r = row_lost (stance p) o h x (stance_lost p e)
+  run_row p run x y r = grind (arith, common_steps)
 
   goes_row : (p : Point InitiatorAt) (run : Running) (x : ElementState) → GoesOn run p → Row (Works run.generation) o h x
       → Row (stance p) o h x

@@ -86,12 +86,10 @@ code_kept f e b y q = grind (arith, common_steps)
 
 pub wait_codes : (s : System) (k b : ℕ) (w : WaitAt)
     → code_in ((moved s k (wait_asks w).0 (wait_asks w).1).ecb b).state ≡ code_in (s.ecb b).state
-wait_codes s k b (Arming e todo) = code_kept s.ecb e b _ (arm_code (s.ecb e).state)
-wait_codes s k b (Settling e todo found) = code_kept s.ecb e b _ (settle_code (s.ecb e).state)
+wait_codes s k b x = grind (arith, common_steps)
 
 wait_elements : (s : System) (k m : ℕ) (w : WaitAt) → (moved s k (wait_asks w).0 (wait_asks w).1).element m ≡ s.element m
-wait_elements s k m (Arming e todo) = refl
-wait_elements s k m (Settling e todo found) = refl
+wait_elements s k m x = grind (arith, common_steps)
 
 -- ---- one row by the scheduler's event
 

@@ -41,8 +41,7 @@ zero_plus n = omega arith
 
 module _ (v : ℕ) where
   due_rounds : (m : ℕ) (before : List ℕ) (g : ℕ) → due v (rounds_from m before g) ≡ 0
-  due_rounds zero before g = refl
-  due_rounds (suc m) before g = refl
+  due_rounds x before g = grind (arith, common_steps)
 
   due_steps : (run : Running) (hand : Hand) (steps : List Step) → IsNotLost (steps_at run hand steps)
       → due v (steps_at run hand steps) ≡ added_by v (before_end steps)

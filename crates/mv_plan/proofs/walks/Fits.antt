@@ -96,11 +96,7 @@ fits_moved : (c : Setup) (s : System) (k : ℕ) (o : Object) (op : Op) → c.pos
 fits_moved c s k (Ecb m) (op_on.Ecb op) z adm f = record { exits = λ n x e. go n x e (cases_eq n m); plain = f.plain } where
   go : (n x : ℕ) → (with_at s.ecb m (advanced (s.ecb m) (ecb_step op (s.ecb m).state).0) n).state ≡ Extended x → (n ≡ m) ⊎ (n ≡ m → ⊥)
       → is_exit_of c x n ≡ true
-  go n x e (inl same) = subst (λ j. is_exit_of c x j ≡ true) (sym same)
-      (exit_step c k m op (s.ecb m).state x (and_parts _ _ adm).1 (λ y q. f.exits m y q)
-      (sym (ap (λ b. (if b then advanced (s.ecb m) (ecb_step op (s.ecb m).state).0 else s.ecb n).state) (eq-eqb n m same)) ∙ e))
-  go n x e (inr other) = f.exits n x
-      (sym (ap (λ b. (if b then advanced (s.ecb m) (ecb_step op (s.ecb m).state).0 else s.ecb n).state) (ne_eqb n m other)) ∙ e)
+  go n x e y = grind (arith, common_steps)
 fits_moved c s k (Element m) (op_on.Element op) z adm f = record { exits = f.exits; plain = f.plain }
 fits_moved c s k (Volume m) (op_on.Volume op) z adm f = record { exits = f.exits; plain = f.plain }
 fits_moved c s k Latches (op_on.Latch op) z adm f =

@@ -42,8 +42,7 @@ pub record TasksAt (c : Setup) (deck : List JobData) (initiators : ℕ) (kept : 
 pub at_point : {X : Type 0} (f : X → Program (List ℕ)) (ask : X → Object × Op) (says : (x : X) → asks (f x) ≡ Some (ask x))
     (q : Program (List ℕ)) (p : Point X) (o : Object) (op : Op)
     → q ≡ program_at f p → asks q ≡ Some (o, op) → (x : X) × (p ≡ At x) × (o ≡ (ask x).0) × (op ≡ (ask x).1)
-at_point f ask says q (At x) o op e a = grind (arith, common_steps)
-at_point f ask says q p o op e a = absurd (cc (sym (ap (λ r. asks r) e) ∙ a))
+at_point f ask says q p o op e a = grind (arith, common_steps)
 
 -- the machine's reply
 pub reply_is : (c : Setup) (s : System) (e : Entry) (ask : Object × Op) → IsNext c s e → e.object ≡ ask.0 → e.op ≡ ask.1
