@@ -1,9 +1,8 @@
 -- How many events an initiator may still make, by its point: the events of each job that it was not named before, and those of
 -- the round in which it is; and that each event takes one of them. Used by Within.
-use Rattle.mv_plan.proofs.Words.{◌≡◌, ℕ, zero, suc, ◌+◌, ◌*◌, ◌<◌, ◌≤◌, ◌==◌, ◌||◌, Bool, true, false, if◌then◌else◌, List}
+use Rattle.mv_plan.proofs.Words.{◌≡◌, ℕ, suc, ◌+◌, ◌*◌, ◌<◌, ◌≤◌, ◌==◌, ◌||◌, Bool, true, false, if◌then◌else◌, List}
 use Rattle.mv_plan.proofs.Words.{[], ◌∷◌, ◌++◌, length, Some, refl, ap, arith, list_any, eq-eqb, ne_eqb}
-use Rattle.mv_plan.proofs.Words.{Reply, Step, Print, JobData, job_at, Named, job_named}
-use Rattle.mv_deck.specs.declared.deck.Step.TheVariants.{Free}
+use Rattle.mv_plan.proofs.Words.{Reply, Step, JobData, job_at, Named, job_named}
 use Rattle.mv_element.specs.declared.operation.ElementReply.TheVariants as element_reply
 use Rattle.mv_latch.specs.declared.operation.LatchReply.TheVariants as latch_reply
 use Rattle.mv_machine.specs.declared.entry.Reply.TheVariants as reply_of
@@ -12,7 +11,7 @@ use Rattle.mv_plan.proofs.deck.Events.{steps_events, all_events}
 use Rattle.mv_plan.proofs.points.Points.{Point, At, Running, Hand, empty_hand, hand_with, hand_without, InitiatorAt, Opening, Offering}
 use Rattle.mv_plan.proofs.points.Points.{Pausing, Resuming, Obtaining, Confirming, Freeing, Reading, Writing, Scanning, Rescanning, Purging}
 use Rattle.mv_plan.proofs.points.Points.{EndingJob, EndingForScheduler, EndingForWriter, Closing, initiator_goes, rounds_from}
-use Rattle.mv_plan.proofs.points.Points.{steps_at, running, job_start, given_at, counting_at, InJob}
+use Rattle.mv_plan.proofs.points.Points.{steps_at, running, job_start, given_at, InJob}
 use Rattle.mv_plan.proofs.volumes.Sums.{sum_to, sum_front, sum_change}
 use Rattle.mv_plan.proofs.points.Lands.{given_lands}
 use Rattle.std.proofs.lemmas.Grind.{common_steps}
@@ -124,11 +123,6 @@ module _ (deck : List JobData) where
       start_rest named.skipped (running named before (suc left) g) (job_at deck named.job) in
       let taken : rounds_to_come deck (before ++ named.job ∷ []) + round_events deck named.job ≡ rounds_to_come deck before =
       round_taken deck before named.job (named_below (length deck) code named e) t in omega arith)
-
-  -- where a number was read
-  counting_rest : (run : Running) (hand : Hand) (volume amount : ℕ) (steps : List Step) (number : ℕ)
-      → initiator_rest (counting_at run hand volume amount steps number) ≤ 5 + (steps_events steps + behind_job run)
-  counting_rest run hand volume amount steps number = grind (arith, common_steps)
 
   -- one less than enough
   paying : {a b : ℕ} (d : ℕ) → a ≤ b → suc b ≤ d → suc a ≤ d

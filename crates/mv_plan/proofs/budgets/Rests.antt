@@ -1,6 +1,6 @@
 -- How many events the reader, the scheduler and the writer may still make, by their points; and that each event takes one of
 -- them. Used by Within.
-use Rattle.mv_plan.proofs.Words.{◌≡◌, ℕ, zero, suc, ◌+◌, ◌*◌, ◌≤◌, nat_le, true, false, cond, List, [], ◌∷◌, ◌++◌, length, Option, refl}
+use Rattle.mv_plan.proofs.Words.{◌≡◌, ℕ, suc, ◌+◌, ◌*◌, ◌≤◌, nat_le, true, false, cond, List, [], ◌∷◌, ◌++◌, length, Option, refl}
 use Rattle.mv_plan.proofs.Words.{arith, length-map, length-map-range_with_len, Reply, After, Step, JobData, complete_count}
 use Rattle.mv_plan.proofs.Words.{end_for_scheduler, idle}
 use Rattle.mv_ecb.specs.declared.operation.EcbReply.TheVariants as ecb_reply

@@ -27,14 +27,6 @@ use Rattle.std.proofs.lemmas.Grind.{common_steps}
 
 -- ---- how a caller's part grows by an entry
 
--- one's own entry
-made_own : (k : ℕ) (past : List Entry) (e : Entry) → e.caller ≡ k → length (of k (past ++ e ∷ [])) ≡ suc (length (of k past))
-made_own k past e same = grind (arith, common_steps)
-
--- another's entry
-made_other : (k : ℕ) (past : List Entry) (e : Entry) → (e.caller ≡ k → ⊥) → length (of k (past ++ e ∷ [])) ≡ length (of k past)
-made_other k past e other = grind (arith, common_steps)
-
 -- what a task has made and may still make, of its budget
 paid : (k b : ℕ) (past : List Entry) (e : Entry) (before after : ℕ) → e.caller ≡ k → suc after ≤ before
     → length (of k past) + before ≤ b → length (of k (past ++ e ∷ [])) + after ≤ b

@@ -2,10 +2,9 @@
 -- codes to name them; the budgets of all tasks are the weight. Used by the layer of ends, by totals, and by all results.
 use Rattle.mv_plan.proofs.Words.{◌≡◌, ℕ, zero, suc, ◌+◌, ◌<◌, ◌≤◌, List, [], ◌∷◌, ◌++◌, length, get_or, sum, if◌then◌else◌}
 use Rattle.mv_plan.proofs.Words.{refl, sym, ap, ◌∙◌, subst, arith, zero-add, ◌==◌, Bool, true, false, cond, JobData, Step}
-use Rattle.mv_plan.proofs.Words.{Print, Use, Count, Scan, Abend, Return, no_job, job_at, end_of, weight, not_run, some_unaccepted, own_end}
+use Rattle.mv_plan.proofs.Words.{no_job, job_at, end_of, weight, not_run, some_unaccepted, own_end}
 use Rattle.mv_plan.proofs.Words.{ends, not_to_run, task_budgets, eq-eqb, ne_eqb}
 use Rattle.std.proofs.Common.{add-zero}
-use Rattle.mv_deck.specs.declared.deck.Step.TheVariants.{Free}
 use Rattle.mv_report.specs.Outcome.{end_behind}
 use Rattle.std.specs.Prelude.{All, take, drop}
 use Rattle.std.proofs.lemmas.List.{length-take-le, set-get_or, set_split}

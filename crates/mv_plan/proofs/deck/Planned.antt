@@ -1,11 +1,10 @@
 -- A deck that is sound is so in the form in which running jobs meet it: what is held behind the steps done is held in a list.
-use Rattle.mv_plan.proofs.Words.{◌≡◌, ℕ, zero, suc, ◌+◌, ◌-◌, ◌<◌, ◌≤◌, ◌==◌, Bool, true, false, not, IsTrue, List, [], ◌∷◌, ◌++◌}
+use Rattle.mv_plan.proofs.Words.{◌≡◌, ℕ, ◌+◌, ◌-◌, ◌<◌, ◌≤◌, ◌==◌, Bool, true, false, not, IsTrue, List, [], ◌∷◌, ◌++◌}
 use Rattle.mv_plan.proofs.Words.{length, map, filter, get_or, Option, Some, None, if◌then◌else◌, refl, sym, ap, ◌∙◌, subst, arith, inl, inr}
-use Rattle.mv_plan.proofs.Words.{AllByRecursion, list_any, eq-eqb, ne_eqb, eqb-true, false≢true, cases_lt, length-append, Mode, Exclusive}
+use Rattle.mv_plan.proofs.Words.{AllByRecursion, list_any, eq-eqb, false≢true, cases_lt, length-append, Mode}
 use Rattle.mv_plan.proofs.Words.{AreDistinct, After, Step, Print, Use, Count, Scan, Abend, Return, JobData, is_end}
 use Rattle.std.proofs.Common.{drop, is_some, is_none}
 use Rattle.std.proofs.lemmas.List.{get_or-drop}
-use Rattle.mv_latch.specs.declared.request.Mode.TheVariants.{Shared}
 use Rattle.mv_deck.specs.declared.deck.Step.TheVariants.{Free}
 use Rattle.mv_deck.specs.Held.{held, held_behind, holds_from, latches, is_exclusive}
 use Rattle.std.proofs.lemmas.List.FromFn.{get_or-range_with_len}

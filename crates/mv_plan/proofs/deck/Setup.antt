@@ -1,8 +1,8 @@
 -- The configuration's facts in one record, Facts: who owns which block and element, which exits start where, and the quotas.
 -- All layers take these facts and do not look into the configuration again.
 use Rattle.mv_plan.proofs.Words.{◌≡◌, ℕ, zero, suc, ◌+◌, ◌-◌, ◌*◌, ◌<◌, ◌≤◌, nat_lt, ◌&&◌, true, List, [], ◌∷◌, ◌++◌, length, map}
-use Rattle.mv_plan.proofs.Words.{replicate, get_or, Some, refl, sym, ap, ◌∙◌, subst, arith, range_with_len, eqb-true}
-use Rattle.mv_plan.proofs.Words.{false≢true, and_parts, get_or_append_left, get_or-replicate, length-append, length-replicate}
+use Rattle.mv_plan.proofs.Words.{replicate, get_or, Some, refl, sym, ap, ◌∙◌, arith, range_with_len, eqb-true}
+use Rattle.mv_plan.proofs.Words.{false≢true, and_parts, get_or-replicate, length-append, length-replicate}
 use Rattle.mv_plan.proofs.Words.{Setup, SetupExit, owner_of, is_exit_of, element_owner, JobData, spool_setup, end_owners, block_owners}
 use Rattle.mv_plan.proofs.Words.{end_exit, entered, end_for_scheduler, end_for_writer, idle, scheduler, writer}
 use Rattle.std.proofs.Common.{◌/◌}

@@ -1,5 +1,5 @@
 -- Nothing refuses the configuration of a sound deck.
-use Rattle.mv_plan.proofs.Words.{◌≡◌, ℕ, zero, suc, ◌+◌, ◌*◌, ◌<◌, ◌≤◌, nat_le, true, false, List, [], ◌∷◌, ◌++◌, length, map, sum}
+use Rattle.mv_plan.proofs.Words.{◌≡◌, ℕ, zero, suc, ◌+◌, ◌*◌, ◌<◌, ◌≤◌, nat_le, true, List, [], ◌∷◌, ◌++◌, length, map, sum}
 use Rattle.mv_plan.proofs.Words.{replicate, None, Some, refl, ap, ◌∙◌, arith, if◌then◌else◌, AllByRecursion, range_with_len, le-leb, lt-leb}
 use Rattle.mv_plan.proofs.Words.{eq-eqb, length-map-range_with_len, Setup, SetupExit, JobData, weight}
 use Rattle.mv_plan.proofs.Words.{spool_setup, task_budgets, block_owners, end_owners, end_exit, scheduler, writer}
@@ -58,10 +58,6 @@ owners_below n initiators =
       ones k = all_copies (λ o. o < initiators + 3) k scheduler (omega arith)
 
 -- ---- exits
-
--- a job's exit leads from one block up to two others
-good_exit : (n ecbs j : ℕ) → j < n → 4 * n ≤ ecbs → is_bad_exit ecbs (end_exit n j) ≡ false
-good_exit n ecbs j lt le = grind (arith, common_steps)
 
 -- all exits do
 good_exits : (n ecbs from count i : ℕ) → from + count ≤ n → 4 * n ≤ ecbs

@@ -1,6 +1,6 @@
 -- Which blocks were posted, in which order: a job's own block is extended from before its job is released until it is posted,
 -- and nothing is posted twice. Uses places only before the event.
-use Rattle.mv_plan.proofs.Words.{◌≡◌, ℕ, zero, suc, ◌+◌, ◌<◌, ◌≤◌, Bool, List, [], ◌∷◌, length, Some, ◌⊎◌, inl, inr, refl, sym, ap, ◌∙◌}
+use Rattle.mv_plan.proofs.Words.{◌≡◌, ℕ, ◌+◌, ◌<◌, ◌≤◌, Bool, List, length, Some, ◌⊎◌, inl, inr, refl, sym, ap, ◌∙◌}
 use Rattle.mv_plan.proofs.Words.{subst, arith, ecb_step, EcbState, Zero, Extended, Complete, Entry, Object, Ecb, Element, Op}
 use Rattle.mv_plan.proofs.Words.{Reply, IsNext, Setup, System, moved, opening, with_at, JobData, entered, end_for_scheduler, end_for_writer}
 use Rattle.mv_plan.proofs.Words.{idle, initiator, code_of, not_to_run}
@@ -13,7 +13,7 @@ use Rattle.mv_machine.specs.declared.entry.Reply.TheVariants as reply_of
 use Rattle.mv_plan.proofs.points.Points.{Point, At, Finished, TooSoon, Astray, ReaderAt, Entering, reader_asks, reader_goes, rounds_after}
 use Rattle.mv_plan.proofs.points.Points.{Arming, Settling, Dispatching}
 use Rattle.mv_plan.proofs.points.Points.{SchedulerAt, Waits, Extends, Clears, Releases, awaited_blocks, scheduler_asks}
-use Rattle.mv_plan.proofs.points.Points.{scheduler_goes, stage_at, dismissing_from, WriterAt, Keeping, writer_asks, Running, InitiatorAt}
+use Rattle.mv_plan.proofs.points.Points.{scheduler_goes, stage_at, WriterAt, writer_asks, Running, InitiatorAt}
 use Rattle.mv_plan.proofs.points.Points.{EndingJob, EndingForScheduler, EndingForWriter, initiator_asks, initiator_goes, InJob}
 use Rattle.mv_plan.proofs.points.PostsAndWaits.{on_posted_keeps}
 use Rattle.mv_plan.proofs.walks.Walks.{Points, start_points}
@@ -21,7 +21,7 @@ use Rattle.mv_plan.proofs.points.ReaderAndWriter.{IsReaderAt, IsWriterAt}
 use Rattle.mv_plan.proofs.points.SchedulerSound.{IsSchedulerAt, stage_extended, awaited_extended}
 use Rattle.mv_plan.proofs.points.InitiatorSound.{IsInitiatorAt, named_is}
 use Rattle.mv_plan.proofs.places.Places.{Places, Coming, Run}
-use Rattle.mv_plan.proofs.ends.Blocks.{HasEnd, done_has, scheduler_has, writer_has, entered_none, idle_none}
+use Rattle.mv_plan.proofs.ends.Blocks.{HasEnd, done_has, scheduler_has, writer_has}
 use Rattle.mv_plan.proofs.walks.Stands.{Standing}
 use Rattle.mv_plan.proofs.ends.Complete.{IsComplete, NotComplete, BlockAfter, block_moved, moved_there, complete_moved, not_moved, is_moved}
 use Rattle.mv_plan.proofs.ends.Complete.{held_moved}
@@ -452,10 +452,6 @@ module _ (deck : List JobData) (initiators : ℕ) where
       → j < length deck → (scheduler_asks (length deck) x).1 ≡ op_on.Element (element_op.Release g (code_of j skipped))
       → next_job (length deck) (At x) ≤ j
   released_next x g j skipped few s below op = grind (arith, common_steps)
-
-  dismissing_done : (v : System) (i more : ℕ) → IsSplit (length deck) v (length deck)
-      → DoneBlocks (length deck) v (dismissing_from (length deck) i more)
-  dismissing_done v i x sp = grind (arith, common_steps)
 
   -- where no done block was touched, the next point has extended as many
   nexts_done : (v : System) (x : SchedulerAt) → IsSchedulerAt deck initiators (At x)

@@ -1,9 +1,9 @@
 -- The codes that pass between the tasks are the deck's: a block with a job's end holds that end, an element holds 0 or a job's
 -- code with the deck's mark, and the writer keeps the deck's ends. No induction over jobs: all blocks at once.
-use Rattle.mv_plan.proofs.Words.{◌≡◌, ℕ, suc, ◌+◌, ◌<◌, List, [], ◌∷◌, ◌++◌, length, get_or, Option, Some, None, ◌⊎◌, inl, inr, refl}
+use Rattle.mv_plan.proofs.Words.{◌≡◌, ℕ, suc, ◌+◌, ◌<◌, List, [], ◌∷◌, ◌++◌, length, get_or, Option, Some, ◌⊎◌, inl, inr, refl}
 use Rattle.mv_plan.proofs.Words.{sym, ap, ◌∙◌, subst, append-nil, append_assoc, arith, length-append, get_or-append_seam, Complete, Entry}
 use Rattle.mv_plan.proofs.Words.{Object, Ecb, Element, Op, Reply, IsNext, Setup, System, moved, opening, JobData, end_of, ends}
-use Rattle.mv_plan.proofs.Words.{end_for_writer, initiator, Named, job_named, code_of, one_end_per_job}
+use Rattle.mv_plan.proofs.Words.{initiator, Named, job_named, code_of, one_end_per_job}
 use Rattle.mv_ecb.specs.declared.operation.EcbOp.TheVariants as ecb_op
 use Rattle.mv_ecb.specs.declared.operation.EcbReply.TheVariants as ecb_reply
 use Rattle.mv_element.specs.declared.operation.ElementOp.TheVariants as element_op
@@ -14,19 +14,17 @@ use Rattle.mv_plan.proofs.points.Points.{Point, At, Finished, ReaderAt, Entering
 use Rattle.mv_plan.proofs.points.Points.{running, SchedulerAt, Waits, scheduler_asks, WriterAt, Keeping, writing_from, end_found}
 use Rattle.mv_plan.proofs.points.Points.{writer_asks, writer_goes, Running, InitiatorAt, Offering}
 use Rattle.mv_plan.proofs.points.Points.{EndingJob, EndingForScheduler, EndingForWriter, initiator_asks, initiator_goes, stage_at, InJob}
-use Rattle.mv_plan.proofs.points.PostsAndWaits.{on_armed_keeps}
 use Rattle.mv_plan.proofs.walks.Walks.{Points, start_points}
 use Rattle.mv_plan.proofs.points.ReaderAndWriter.{IsReaderAt, IsWriterAt}
 use Rattle.mv_plan.proofs.points.SchedulerSound.{IsSchedulerAt}
-use Rattle.mv_plan.proofs.points.InitiatorSound.{IsInitiatorAt, IsEnding, named_is}
+use Rattle.mv_plan.proofs.points.InitiatorSound.{IsInitiatorAt, IsEnding}
 use Rattle.mv_plan.proofs.deck.Ends.{is_skipped, end_by_mark}
 use Rattle.mv_plan.proofs.ends.Complete.{complete_moved, held_moved}
-use Rattle.mv_plan.proofs.ends.Blocks.{settled_code, HasEnd, entered_none, idle_none, scheduler_has, writer_has}
+use Rattle.mv_plan.proofs.ends.Blocks.{settled_code, HasEnd, scheduler_has, writer_has}
 use Rattle.mv_plan.proofs.ends.Blocks.{done_one, scheduler_one, writer_one}
-use Rattle.mv_plan.proofs.ends.SchedulerMarks.{IsMarked, FindsEnds, scheduler_marks, dismissing_marked}
+use Rattle.mv_plan.proofs.ends.SchedulerMarks.{IsMarked, FindsEnds, scheduler_marks}
 use Rattle.mv_plan.proofs.points.RunningJob.{OfRun, Starts, runs_goes}
 use Rattle.mv_plan.proofs.walks.Stands.{HasStanding}
-use Rattle.mv_plan.proofs.deck.Codes.{never_zero}
 use Rattle.mv_plan.proofs.walks.Moves.{KeepsUnder, by_moves, entry_of, block, element, block_reply}
 use Rattle.mv_plan.proofs.lists.Tables.{all_with}
 use Rattle.mv_plan.proofs.points.Views.{code_held}
@@ -105,10 +103,6 @@ settled_keeps : (deck : List JobData) (j more : ℕ) (kept rest : List ℕ) (cod
     → KeepsEnds deck (end_found (length deck) j more kept (found ++ Some code ∷ []))
 settled_keeps deck j more kept rest code [] e l n none c = one_kept deck j more kept rest code e l n c
 settled_keeps deck j more kept rest code (f ∷ found) e l n none c = absurd (cc none)
-
-open_keeps : (deck : List JobData) (j more : ℕ) (kept : List ℕ) (found : List (Option ℕ)) → found ≡ []
-    → KeepsEnds deck (end_found (length deck) j more kept (found ++ None ∷ []))
-open_keeps deck j more kept x none = grind (arith, common_steps)
 
 pub writer_kept : (deck : List JobData) (x : WriterAt) (r : Reply) → IsWriterAt (length deck) (At x) → KeepsEnds deck (At x)
     → WriterFindsEnd deck x r → KeepsEnds deck (writer_goes (length deck) x r)

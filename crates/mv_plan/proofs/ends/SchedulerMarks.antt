@@ -1,7 +1,7 @@
 -- The scheduler marks each job as the deck says, where the ends that it reads are the deck's.
-use Rattle.mv_plan.proofs.Words.{◌≡◌, ℕ, zero, suc, ◌+◌, ◌<◌, ◌≤◌, nat_lt, ◌||◌, List, [], ◌∷◌, ◌++◌}
-use Rattle.mv_plan.proofs.Words.{length, get_or, Option, Some, None, refl, sym, ap, ◌∙◌, arith, AllByRecursion, leb-true}
-use Rattle.mv_plan.proofs.Words.{get_or-append_seam, Reply, JobData, After, Step, some_unaccepted, ends, no_job, job_at, end_of}
+use Rattle.mv_plan.proofs.Words.{◌≡◌, ℕ, ◌+◌, ◌<◌, ◌≤◌, nat_lt, ◌||◌, List, [], ◌∷◌, ◌++◌}
+use Rattle.mv_plan.proofs.Words.{length, Option, Some, None, refl, sym, ap, ◌∙◌, arith, AllByRecursion, leb-true}
+use Rattle.mv_plan.proofs.Words.{Reply, JobData, After, Step, some_unaccepted, ends, job_at, end_of}
 use Rattle.mv_plan.proofs.Words.{end_for_scheduler, code_of, some_end_above, ends_of, complete_count}
 use Rattle.mv_ecb.specs.declared.operation.EcbReply.TheVariants as ecb_reply
 use Rattle.mv_element.specs.declared.operation.ElementReply.TheVariants as element_reply
@@ -9,9 +9,9 @@ use Rattle.mv_machine.specs.declared.entry.Reply.TheVariants as reply_of
 use Rattle.mv_plan.proofs.deck.Plans.{ArePlannedJobs}
 use Rattle.mv_plan.proofs.points.Points.{Point, At, TooSoon, WaitAt, Arming, Settling, Stage, Dispatching, Dismissing, Awaited, ForEntry}
 use Rattle.mv_plan.proofs.points.Points.{ForEnds, ForIdle, ToDismiss, SchedulerAt, Waits, Extends, Clears, Releases, awaited_blocks}
-use Rattle.mv_plan.proofs.points.Points.{awaited_count, scheduler_goes, arming_first, arming_from, settling_from, found_at, ends_at}
-use Rattle.mv_plan.proofs.points.Points.{dismissing_from, stage_at}
-use Rattle.mv_plan.proofs.points.PostsAndWaits.{on_armed_keeps, lowest_keeps}
+use Rattle.mv_plan.proofs.points.Points.{awaited_count, scheduler_goes, settling_from, found_at, ends_at}
+use Rattle.mv_plan.proofs.points.Points.{stage_at}
+use Rattle.mv_plan.proofs.points.PostsAndWaits.{lowest_keeps}
 use Rattle.mv_plan.proofs.points.SchedulerSound.{IsRest, rest_below, rest_sound, IsAwaited, IsWaitAt, IsSchedulerAt}
 use Rattle.mv_plan.proofs.deck.Ends.{is_skipped}
 use Rattle.std.proofs.lemmas.Grind.{common_steps}
@@ -71,10 +71,6 @@ abbrev pub IsRight : Option ℕ → ℕ → Type 0
 IsRight (Some code) end = code ≡ end
 IsRight None end = Unit {0}
 
-found_one : (deck : List JobData) (part : After) (parts : List After) (slot : Option ℕ) → IsRight slot (end_of deck part.job)
-    → AreFound deck (part ∷ parts) (slot ∷ [])
-found_one deck part parts x r = grind (arith, common_steps)
-
 -- one more was settled
 pub found_push : (deck : List JobData) (n : ℕ) (parts : List After) (past : List ℕ) (e : ℕ) (todo : List ℕ) (found : List (Option ℕ))
     (slot : Option ℕ)
@@ -119,9 +115,6 @@ module _ (deck : List JobData) (initiators : ℕ) where
       → IsMarked deck (ends_at (length deck) j (record { name = name; after = after; steps = steps }) jobs)
   ends_marked j name x steps jobs r = grind (arith, common_steps)
 
-  pub dismissing_marked : (i more : ℕ) → IsMarked deck (dismissing_from (length deck) i more)
-  dismissing_marked i x = grind (arith, common_steps)
-
   stage_marked : (after : Stage) → IsMarked deck (stage_at (length deck) initiators after)
   stage_marked x = grind (arith, common_steps)
 
@@ -141,13 +134,6 @@ module _ (deck : List JobData) (initiators : ℕ) where
       → IsMarked deck (settling_from (length deck) a es found)
   settling_marked a [] found s f = grind (arith, common_steps, TooSoon, found_marked, leb-true)
   settling_marked a (e ∷ es) found s f = f
-
-  arming_marked : (a : Awaited) (es : List ℕ) → IsAwaited deck initiators a → MarkedWait deck a []
-      → IsMarked deck (arming_from (length deck) initiators a es)
-  arming_marked a x s f = grind (arith, common_steps)
-
-  first_marked : (a : Awaited) (es : List ℕ) → MarkedWait deck a [] → IsMarked deck (arming_first a es)
-  first_marked a x f = grind (arith, common_steps)
 
   one_settled : (a : Awaited) (e : ℕ) (todo : List ℕ) (found : List (Option ℕ)) (slot : Option ℕ) → ArePlannedJobs 0 deck
       → IsAwaited deck initiators a → IsWaitAt (awaited_blocks (length deck) initiators a) (Settling e todo found)

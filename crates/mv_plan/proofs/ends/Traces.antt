@@ -85,9 +85,6 @@ kept_code y v f g = grind (arith, common_steps)
 complete_reply : (op : EcbOp) (v : EcbState) (code : ℕ) → (ecb_step op v).1 ≡ ecb_reply.Complete code → v ≡ Complete code
 complete_reply op v code e = grind arith
 
-already_reply : (d : ℕ) (v : EcbState) (code : ℕ) → (ecb_step (ecb_op.Post d) v).1 ≡ ecb_reply.Already code → v ≡ Complete code
-already_reply d v code e = grind arith
-
 -- the reply at a block
 replied : (c : Setup) (s : System) (k b p : ℕ) (o : Object) (op : Op) (r : Reply) (e : EcbOp) → IsNext c s (entry_of k p (o, op) r)
     → o ≡ Ecb b → op ≡ op_on.Ecb e → r ≡ reply_of.Ecb (ecb_step e (block s b)).1

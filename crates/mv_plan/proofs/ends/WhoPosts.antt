@@ -7,7 +7,7 @@ use Rattle.mv_machine.specs.declared.entry.Op.TheVariants as op_on
 use Rattle.mv_plan.proofs.points.Points.{Point, At, Running, InitiatorAt, Offering, EndingJob}
 use Rattle.mv_plan.proofs.points.Points.{EndingForScheduler, EndingForWriter, initiator_asks, InJob}
 use Rattle.mv_plan.proofs.points.InitiatorSound.{IsInitiatorAt}
-use Rattle.mv_plan.proofs.ends.Blocks.{HasEnd, idle_none, done_one, scheduler_one, writer_one}
+use Rattle.mv_plan.proofs.ends.Blocks.{HasEnd, done_one, scheduler_one, writer_one}
 use Rattle.mv_plan.proofs.points.Views.{run_of}
 use Rattle.std.proofs.lemmas.Grind.{common_steps}
 

@@ -1,5 +1,5 @@
 -- The writer has found the end of each job before the one that it waits for; so at its end all are posted.
-use Rattle.mv_plan.proofs.Words.{◌≡◌, ℕ, zero, suc, ◌+◌, ◌<◌, List, [], ◌∷◌, ◌++◌, length, Option, Some, None, inl, inr, subst, arith}
+use Rattle.mv_plan.proofs.Words.{◌≡◌, ℕ, suc, ◌+◌, ◌<◌, List, [], ◌∷◌, ◌++◌, length, Option, Some, inl, inr, subst, arith}
 use Rattle.mv_plan.proofs.Words.{cases_lt, Entry, Reply, IsNext, Setup, System, moved, opening, JobData, end_for_writer, idle, reader}
 use Rattle.mv_plan.proofs.Words.{scheduler, initiator, writer}
 use Rattle.mv_ecb.specs.declared.operation.EcbOp.TheVariants as ecb_op
@@ -45,10 +45,6 @@ settled_found : (n j more : ℕ) (s : System) (kept : List ℕ) (code : ℕ) (fo
 settled_found n j more s kept code [] none e last h =
     writing_found n (j + 1) more s (kept ++ code ∷ []) (omega arith) (one_more n j s last h)
 settled_found n j more s kept code (f ∷ found) none e last h = absurd (cc none)
-
-open_found : (n j more : ℕ) (s : System) (kept : List ℕ) (found : List (Option ℕ)) → found ≡ []
-    → HasFound n s (end_found n j more kept (found ++ None ∷ []))
-open_found n j more s kept x none = grind (arith, common_steps)
 
 idle_elsewhere : (n i k : ℕ) → k < n → end_for_writer n k ≡ idle n i → ⊥
 idle_elsewhere n i k lt e = omega arith

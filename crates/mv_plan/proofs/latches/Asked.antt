@@ -1,7 +1,7 @@
 -- The requests of a running job at one latch, as a list computed from the latches that it holds or waits for.
 use Rattle.mv_plan.proofs.Words.{◌≡◌, ℕ, ◌+◌, ◌<◌, ◌==◌, Bool, true, false, not, ◌||◌, if◌then◌else◌, List, [], ◌∷◌, ◌++◌, filter, Option}
-use Rattle.mv_plan.proofs.Words.{Some, inl, inr, refl, ap, subst, arith, AllByRecursion, Contains, list_any, eq-eqb, ne_eqb}
-use Rattle.mv_plan.proofs.Words.{eqb-true, false≢true, or_left, or_right, Request, is_own, not_in_empty, first_or_rest, first_is_in}
+use Rattle.mv_plan.proofs.Words.{Some, inl, inr, refl, ap, arith, AllByRecursion, Contains, list_any, eq-eqb, ne_eqb}
+use Rattle.mv_plan.proofs.Words.{false≢true, or_left, or_right, Request, is_own, not_in_empty, first_or_rest, first_is_in}
 use Rattle.mv_latch.proofs.Members.{rest_is_in}
 use Rattle.mv_latch.specs.declared.request.LatchForm.TheVariants as form_of
 use Rattle.mv_plan.proofs.points.InitiatorSound.{held_of}

@@ -14,11 +14,10 @@ use Rattle.mv_machine.proofs.EntryRuns.{entry_of}
 use Rattle.mv_machine.proofs.StandingRuns.{names_of}
 use Rattle.mv_plan.proofs.deck.Plans.{is_held}
 use Rattle.mv_plan.proofs.latches.Hands.{Grip, Works, grip, OwnsBy, IsKnown, Hands, SparesJob, other_owns, obtain_owns}
-use Rattle.mv_plan.proofs.latches.Hands.{obtain_holds, confirm_owns, free_stands, free_owns, purge_owns, rounds_own, steps_own, given_owns}
+use Rattle.mv_plan.proofs.latches.Hands.{obtain_holds, confirm_owns, free_stands, free_owns, purge_owns, steps_own, given_owns}
 use Rattle.mv_plan.proofs.latches.Hands.{counting_owns}
 use Rattle.mv_plan.proofs.points.InitiatorSound.{held_of, IsInitiatorAt}
 use Rattle.mv_plan.proofs.latches.Lists.{new_request, obtained_reply, confirm_granted, all_asked, AllAsked}
-use Rattle.mv_plan.proofs.points.PostsAndWaits.{on_posted_keeps}
 use Rattle.mv_plan.proofs.points.Points.{Point, At, Grant, InitiatorAt, Opening, Offering, Pausing, Resuming, Obtaining, Confirming}
 use Rattle.mv_plan.proofs.points.Points.{Freeing, Reading, Writing, Scanning, Rescanning, Purging, EndingJob, EndingForScheduler}
 use Rattle.mv_plan.proofs.points.Points.{EndingForWriter, Closing, initiator_asks, initiator_goes}

@@ -1,6 +1,6 @@
 -- The hands: at each latch an initiator's requests are exactly those of the job that it runs, and a latch that the job holds is
 -- granted to it. On lists and points alone; no machine stands here.
-use Rattle.mv_plan.proofs.Words.{◌≡◌, ℕ, zero, suc, ◌+◌, ◌<◌, ◌==◌, Bool, true, false, not, ◌&&◌, List, [], ◌∷◌, ◌++◌, length, filter}
+use Rattle.mv_plan.proofs.Words.{◌≡◌, ℕ, suc, ◌+◌, ◌<◌, ◌==◌, Bool, true, false, not, ◌&&◌, List, [], ◌∷◌, ◌++◌, length, filter}
 use Rattle.mv_plan.proofs.Words.{Option, Some, inl, inr, refl, sym, ap, ◌∙◌, subst, append-nil, AllByRecursion, Contains, list_any, eq-eqb}
 use Rattle.mv_plan.proofs.Words.{ne_eqb, eqb-true, cases_eq, false≢true, LatchOp, Mode, Request, granted, grants, list_of, latch_step}
 use Rattle.mv_plan.proofs.Words.{is_own, of_caller, of_requestor, not_in_empty, first_or_rest, mine, NamesLatch, JobData, Step, Print}
@@ -17,7 +17,7 @@ use Rattle.mv_plan.proofs.points.InitiatorSound.{held_of}
 use Rattle.mv_plan.proofs.latches.Lists.{obtained_list, obtained_elsewhere, granted_new, released_list, released_elsewhere, purged_list}
 use Rattle.mv_plan.proofs.latches.Lists.{granted_in, mine_pushed, mine_without, mine_purged, Spares, mine_kept, AllAsked}
 use Rattle.mv_plan.proofs.points.Points.{Point, At, Finished, Grant, Running, Hand, empty_hand, without_latch, InitiatorAt, hand_at}
-use Rattle.mv_plan.proofs.points.Points.{EndingJob, EndingForScheduler, EndingForWriter, Confirming, rounds_from, steps_at, running}
+use Rattle.mv_plan.proofs.points.Points.{EndingJob, EndingForScheduler, EndingForWriter, Confirming, steps_at, running}
 use Rattle.mv_plan.proofs.points.Points.{job_start, given_at, counting_at, InJob}
 use Rattle.mv_plan.proofs.lists.Lists.{all_map, all_join}
 use Rattle.mv_plan.proofs.points.Lands.{freeing_lands, given_lands, counting_lands}
@@ -279,10 +279,6 @@ purge_owns k place job lists held w = λ latch.
 module _ (lists : List (List Request)) (k : ℕ) where
   abbrev OwnsAt : Point InitiatorAt → Type 0
   OwnsAt p = OwnsBy lists k (grip p)
-
-  pub rounds_own : (m : ℕ) (before : List ℕ) (g : ℕ) → HasNone lists k → OwnsAt (rounds_from m before g)
-  rounds_own zero before g w = tt
-  rounds_own (suc m) before g w = w
 
   pub steps_own : (run : Running) (hand : Hand) (steps : List Step) → Owns lists k run.job hand.holding []
       → OwnsAt (steps_at run hand steps)

@@ -5,7 +5,6 @@ use Rattle.mv_plan.proofs.Words.{Reply, IsNext, next, Setup, System, moved, repl
 use Rattle.mv_plan.proofs.Words.{reader, scheduler, initiator, writer, code_of, not_to_run}
 use Rattle.mv_element.specs.declared.operation.ElementOp.TheVariants as element_op
 use Rattle.mv_machine.specs.declared.entry.Op.TheVariants as op_on
-use Rattle.mv_machine.specs.declared.entry.Reply.TheVariants as reply_of
 use Rattle.mv_plan.proofs.points.ReaderAndWriter.{IsReaderAt, IsWriterAt}
 use Rattle.mv_plan.proofs.places.Deeds.{Deed, went_on, started, left, stopped, elsewhere_gave, initiator_did}
 use Rattle.mv_plan.proofs.standing.Row.{Stance, Loses, stance, Row, RowAt, hold_for, offer_of}
@@ -22,7 +21,7 @@ use Rattle.mv_plan.proofs.standing.Rows.{Rows, reader_low, writer_low}
 use Rattle.mv_plan.proofs.walks.Stands.{Stand}
 use Rattle.mv_plan.proofs.walks.NoneLost.{NoneLost, SameTalk, same_talk}
 use Rattle.mv_plan.proofs.walks.Walks.{Points, Move}
-use Rattle.mv_plan.proofs.points.Asks.{no_release, release_gives, reader_plain, writer_plain, Elsewhere}
+use Rattle.mv_plan.proofs.points.Asks.{no_release, reader_plain, writer_plain, Elsewhere}
 use Rattle.mv_plan.proofs.walks.Moves.{entry_of, Each, of_move}
 use Rattle.mv_plan.proofs.lists.Tables.{with_at-same, with_at-other}
 use Rattle.mv_plan.proofs.points.Views.{code_held, run_of, named_before, next_job, IsNotLost}
@@ -39,9 +38,6 @@ pub record Fresh (g code : ℕ) (x : ElementState) : Type 0 where
 
 pub row_fresh : (st : Stance) (g code : ℕ) (o : Option ℕ) (x : ElementState) → (st ≡ Loses → ⊥) → Row st o (Some g) x → Fresh g code x
 row_fresh y g code o x d w = grind (arith, common_steps)
-
-gift_at : (r r' : Reply) → r ≡ r' → gift_code r' ≡ None → gift_code r ≡ None
-gift_at r r' e q = ap (λ z. gift_code z) e ∙ q
 
 -- two tables that agree at one place and elsewhere
 everywhere : {A : Type 0} (f g : ℕ → A) (i : ℕ) → f i ≡ g i → ((m : ℕ) → (i ≡ m → ⊥) → f m ≡ g m) → (m : ℕ) → f m ≡ g m

@@ -1,8 +1,8 @@
 -- Where an initiator may stand: its rounds, the steps that are left of its job, the latches in its hand, the code that it ends
 -- with; and what it keeps there. Kept by each of its steps, whatever the reply.
-use Rattle.mv_plan.proofs.Words.{◌≡◌, ℕ, zero, suc, ◌+◌, ◌<◌, ◌≤◌, ◌==◌, Bool, true, false, not, ◌&&◌, if◌then◌else◌, List, []}
+use Rattle.mv_plan.proofs.Words.{◌≡◌, ℕ, zero, suc, ◌+◌, ◌<◌, ◌≤◌, ◌==◌, Bool, true, false, not, if◌then◌else◌, List, []}
 use Rattle.mv_plan.proofs.Words.{◌∷◌, ◌++◌, length, map, filter, Option, Some, refl, sym, ap, ◌∙◌, subst, append_assoc, arith}
-use Rattle.mv_plan.proofs.Words.{AllByRecursion, list_any, eq-eqb, ne_eqb, eqb-true, false≢true, length-append, Mode}
+use Rattle.mv_plan.proofs.Words.{AllByRecursion, list_any, eqb-true, false≢true, length-append, Mode}
 use Rattle.mv_plan.proofs.Words.{Reply, with_at, JobData, Step, Print, Use, Count, Scan, Abend, Return, job_at, not_run, own_end}
 use Rattle.mv_plan.proofs.Words.{AreDistinct, Kept, nothing_kept, initiator, Named, job_named, code_of, all_push}
 use Rattle.mv_deck.specs.declared.deck.Step.TheVariants.{Free}
@@ -19,7 +19,7 @@ use Rattle.mv_plan.proofs.points.Points.{Writing, Scanning, Rescanning, Purging,
 use Rattle.mv_plan.proofs.points.Points.{initiator_asks, initiator_goes, rounds_after, steps_at, running, job_start, given_at, InJob}
 use Rattle.mv_plan.proofs.points.PostsAndWaits.{on_posted_keeps}
 use Rattle.mv_plan.proofs.points.ReaderAndWriter.{keeps}
-use Rattle.mv_plan.proofs.points.Lands.{rounds_land, freeing_lands, given_lands, ended_lands}
+use Rattle.mv_plan.proofs.points.Lands.{rounds_land, given_lands, ended_lands}
 use Rattle.std.proofs.lemmas.Grind.{common_steps}
 
 -- ---- rounds
@@ -257,11 +257,6 @@ before_below : (n : ℕ) (before : List ℕ) (job : ℕ) → AllByRecursion (λ 
     → AllByRecursion (λ j. j < n) (before ++ job ∷ [])
 before_below n [] job b lt = (lt, tt)
 before_below n (k ∷ before) job b lt = (b.0, before_below n before job b.1 lt)
-
-differs_push : (ks : List ℕ) (m job : ℕ) → AllByRecursion (λ j. j ≡ m → ⊥) ks → (job ≡ m → ⊥)
-    → AllByRecursion (λ j. j ≡ m → ⊥) (ks ++ job ∷ [])
-differs_push [] m job d n = (n, tt)
-differs_push (k ∷ ks) m job d n = (d.0, differs_push ks m job d.1 n)
 
 distinct_push : (ks : List ℕ) (job : ℕ) → AreDistinct ks → list_any (λ j. j == job) ks ≡ false → AreDistinct (ks ++ job ∷ [])
 distinct_push [] job d n = grind (arith, common_steps)

@@ -1,9 +1,8 @@
 -- An initiator that runs a job goes on with it, is done with it, or is lost; it touches no element and no initiator's block;
 -- and what holds of a job when it is started holds of it as long as it is run. Used by rows, deeds and right codes.
-use Rattle.mv_plan.proofs.Words.{◌≡◌, ℕ, zero, suc, ◌+◌, ◌<◌, Bool, true, false, List, [], ◌∷◌, length, Option, Some, None, ◌⊎◌, inl, inr}
-use Rattle.mv_plan.proofs.Words.{refl, subst, arith, ◌==◌, Reply, JobData, Step, Print, job_at, list_any, Named}
+use Rattle.mv_plan.proofs.Words.{◌≡◌, ℕ, suc, ◌+◌, ◌<◌, Bool, true, false, List, [], ◌∷◌, length, Option, Some, None, ◌⊎◌, inl}
+use Rattle.mv_plan.proofs.Words.{refl, subst, arith, ◌==◌, Reply, JobData, Step, job_at, list_any, Named}
 use Rattle.mv_plan.proofs.Words.{job_named}
-use Rattle.mv_deck.specs.declared.deck.Step.TheVariants.{Free}
 use Rattle.mv_latch.specs.declared.operation.LatchReply.TheVariants as latch_reply
 use Rattle.mv_machine.specs.declared.entry.Reply.TheVariants as reply_of
 use Rattle.mv_machine.specs.declared.entry.VolumeReply.TheVariants as volume_reply
@@ -17,7 +16,7 @@ use Rattle.mv_plan.proofs.points.PostsAndWaits.{on_posted_keeps}
 use Rattle.mv_element.specs.declared.operation.ElementReply.TheVariants as element_reply
 use Rattle.mv_plan.proofs.points.Views.{run_of, IsNotLost}
 use Rattle.mv_plan.proofs.points.Asks.{Elsewhere}
-use Rattle.mv_plan.proofs.points.Lands.{given_lands, counting_lands, ended_lands}
+use Rattle.mv_plan.proofs.points.Lands.{given_lands, ended_lands}
 use Rattle.std.proofs.lemmas.Grind.{common_steps}
 
 -- it runs this job, or is lost

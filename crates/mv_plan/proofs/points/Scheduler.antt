@@ -1,7 +1,7 @@
 -- The scheduler's program goes from point to point: at each it says the point's event, and a reply leads it on as it leads the
 -- point. Used by Following.
 use Rattle.mv_plan.proofs.Words.{◌≡◌, ℕ, zero, suc, ◌+◌, ◌<◌, ◌≤◌, Bool, false, List, [], ◌∷◌, ◌++◌, length, map, Option, Some, None}
-use Rattle.mv_plan.proofs.Words.{inr, refl, sym, ap, ◌∙◌, arith, AllByRecursion, range_with_len, length-append}
+use Rattle.mv_plan.proofs.Words.{refl, ap, ◌∙◌, arith, AllByRecursion, range_with_len, length-append}
 use Rattle.mv_plan.proofs.Words.{length-map-range_with_len, Reply, Setup, JobData, After, Step, Kept}
 use Rattle.mv_plan.proofs.Words.{Heard, asks, heard, going_on, unrefused, accepted, finished, unless_refused, on_ecb, on_element}
 use Rattle.mv_plan.proofs.Words.{end_for_scheduler, idle, code_of, ends_of, some_end_above, ends_awaited, first_of, hand_over}
@@ -22,7 +22,7 @@ use Rattle.mv_plan.proofs.points.Programs.{program_at, stage_call, staged, await
 use Rattle.mv_plan.proofs.points.PostsAndWaits.{armed_goes, settled_goes, lowest_goes, enough_goes}
 use Rattle.mv_plan.proofs.points.ReaderAndWriter.{keeps}
 use Rattle.mv_plan.proofs.points.SchedulerSound.{IsRest, rest_below, rest_sound, IsAwaited, IsStage, stage_extended}
-use Rattle.mv_plan.proofs.points.SchedulerSound.{awaited_extended, SchedulerKept, others_plain, SchedulerStands, extended_kept}
+use Rattle.mv_plan.proofs.points.SchedulerSound.{awaited_extended, SchedulerKept, SchedulerStands, extended_kept}
 use Rattle.mv_plan.proofs.deck.Setup.{Facts}
 use Rattle.std.proofs.lemmas.Grind.{common_steps}
 
@@ -53,15 +53,6 @@ module _ (c : Setup) (deck : List JobData) (initiators : ℕ) (facts : Facts c (
       → j ≤ length deck → AllByRecursion (λ p. p.job < j) parts → AllByRecursion (IsFree c kept) (ends_of (length deck) parts)
   ends_free count j kept [] k le lt below = grind (arith, common_steps)
   ends_free count j kept (part ∷ parts) k le lt below = grind (arith, common_steps, ends_free count j kept parts)
-
-  idle_free : (count i : ℕ) (kept : Kept) → SchedulerKept (length deck) count kept → count ≤ length deck → i < initiators
-      → IsFree c kept (idle (length deck) i)
-  idle_free count i kept k le lt =
-      record {
-        own = facts.idle_owner i lt
-            ∙ sym k.caller;
-        plain = others_plain (length deck) count kept (idle (length deck) i) k (inr (omega arith));
-      }
 
   idles_free : (count from more : ℕ) (kept : Kept) → SchedulerKept (length deck) count kept → count ≤ length deck
       → from + more ≤ initiators → AllByRecursion (IsFree c kept) (map (idle (length deck)) (range_with_len from more))

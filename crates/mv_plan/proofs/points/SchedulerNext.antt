@@ -1,16 +1,16 @@
 -- Which points of the scheduler may follow one, as one lemma for any fact of points; and what follows: its errand stays but for
 -- a release, and the job that is next does not fall. Used by the ledger, the closings and the posts.
 use Rattle.mv_plan.proofs.Words.{◌≡◌, ℕ, zero, suc, ◌+◌, ◌≤◌, nat_le, Bool, true, false, cond, List, [], ◌∷◌, ◌++◌, length, Option}
-use Rattle.mv_plan.proofs.Words.{refl, arith, ap, ◌∙◌, Reply, JobData, After, Step, code_of, some_end_above}
+use Rattle.mv_plan.proofs.Words.{arith, ap, ◌∙◌, Reply, JobData, After, Step, code_of, some_end_above}
 use Rattle.mv_plan.proofs.Words.{complete_count}
 use Rattle.mv_ecb.specs.declared.operation.EcbReply.TheVariants as ecb_reply
 use Rattle.mv_element.specs.declared.operation.ElementReply.TheVariants as element_reply
 use Rattle.mv_machine.specs.declared.entry.Reply.TheVariants as reply_of
 use Rattle.mv_plan.proofs.points.Points.{Point, At, TooSoon, Astray, WaitAt, Arming, Settling, Stage, Dispatching, Dismissing, Awaited}
 use Rattle.mv_plan.proofs.points.Points.{ForEntry, ForEnds, ForIdle, ToDismiss, SchedulerAt, Waits, Extends, Clears, Releases}
-use Rattle.mv_plan.proofs.points.Points.{awaited_blocks, awaited_count, scheduler_goes, arming_first, arming_from, settling_from, found_at}
+use Rattle.mv_plan.proofs.points.Points.{awaited_count, scheduler_goes, settling_from, found_at}
 use Rattle.mv_plan.proofs.points.Points.{ends_at, stage_at, on_released}
-use Rattle.mv_plan.proofs.points.PostsAndWaits.{on_armed_keeps, on_settled_keeps, lowest_keeps}
+use Rattle.mv_plan.proofs.points.PostsAndWaits.{on_settled_keeps, lowest_keeps}
 use Rattle.mv_plan.proofs.points.SchedulerSound.{IsSchedulerAt}
 use Rattle.mv_plan.proofs.points.Views.{next_job, Errand, Dispatches, Dismisses, Rests, errand, next_of, IsNotLost}
 use Rattle.std.proofs.lemmas.Grind.{common_steps}
@@ -58,13 +58,6 @@ module _ (n initiators : ℕ) (P : Point SchedulerAt → Type 0) where
         | false ↦ early
       ]
   settling_next a v (e ∷ es) found lost early all = wait_next a v _ all
-
-  arming_next : (a : Awaited) (v : WaitAt) (es : List ℕ) → P Astray → P TooSoon → AllNext (Waits a v)
-      → P (arming_from n initiators a es)
-  arming_next a v x lost early all = grind (arith, common_steps)
-
-  first_next : (a : Awaited) (es : List ℕ) → P Astray → ((v : WaitAt) → P (At (Waits a v))) → P (arming_first a es)
-  first_next a x lost all = grind (arith, common_steps)
 
   pub goes_next : (x : SchedulerAt) (r : Reply) → P Astray → P TooSoon → AllNext x → P (scheduler_goes n initiators x r)
   goes_next (Waits a (Arming e todo)) r lost early all = grind (arith, common_steps)

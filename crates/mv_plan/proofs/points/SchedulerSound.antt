@@ -1,8 +1,8 @@
 -- Where the scheduler may stand: which jobs are left, which code it hands over; and what it keeps there. Kept by each of its
 -- steps, whatever the reply.
-use Rattle.mv_plan.proofs.Words.{◌≡◌, ℕ, suc, ◌+◌, ◌<◌, ◌≤◌, Bool, true, false, if◌then◌else◌, List, [], ◌∷◌}
-use Rattle.mv_plan.proofs.Words.{◌++◌, length, Option, Some, None, ◌⊎◌, inl, inr, refl, sym, ap, ◌∙◌, subst, append-nil, append_assoc}
-use Rattle.mv_plan.proofs.Words.{zero-add, arith, ne_eqb, cases_eq, length-append, length-map-range_with_len, Reply, with_at}
+use Rattle.mv_plan.proofs.Words.{◌≡◌, ℕ, suc, ◌+◌, ◌<◌, ◌≤◌, Bool, true, List, [], ◌∷◌}
+use Rattle.mv_plan.proofs.Words.{◌++◌, length, Option, Some, None, ◌⊎◌, refl, sym, ap, ◌∙◌, subst, append-nil, append_assoc}
+use Rattle.mv_plan.proofs.Words.{zero-add, arith, cases_eq, length-append, length-map-range_with_len, Reply, with_at}
 use Rattle.mv_plan.proofs.Words.{JobData, After, Step, Kept, idle, code_of}
 use Rattle.mv_plan.specs.SpoolSetup.{done}
 use Rattle.mv_ecb.specs.declared.operation.EcbReply.TheVariants as ecb_reply
@@ -93,10 +93,6 @@ awaited_extended n (ToDismiss i more) = n
 pub record SchedulerKept (n count : ℕ) (kept : Kept) : Type 0 where
   pub caller : kept.caller ≡ 1
   pub within : (e : ℕ) → kept.extended e ≡ true → (n ≤ e) × (e < n + count)
-
-pub others_plain : (n count : ℕ) (kept : Kept) (e : ℕ) → SchedulerKept n count kept → (e < n) ⊎ (n + count ≤ e)
-    → kept.extended e ≡ false
-others_plain n count kept e k out = grind (arith, common_steps)
 
 abbrev pub SchedulerKeptAt : ℕ → Kept → Point SchedulerAt → Type 0
 SchedulerKeptAt n kept (At (Waits a w)) = SchedulerKept n (awaited_extended n a) kept

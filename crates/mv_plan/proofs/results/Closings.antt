@@ -1,5 +1,5 @@
 -- Each release is of a job or closes an initiator and is accepted, and each initiator is closed once.
-use Rattle.mv_plan.proofs.Words.{◌≡◌, ℕ, zero, suc, ◌<◌, ◌≤◌, false, List, [], ◌∷◌, ◌++◌, length}
+use Rattle.mv_plan.proofs.Words.{◌≡◌, ℕ, ◌<◌, ◌≤◌, false, List, [], ◌∷◌, ◌++◌, length}
 use Rattle.mv_plan.proofs.Words.{None, refl, sym, ap, ◌∙◌, subst, arith, AllByRecursion}
 use Rattle.mv_plan.proofs.Words.{Entry, Object, Element, Op, Reply, IsNext, Setup, System, release_code, closings, IsRightRelease, JobData}
 use Rattle.mv_plan.proofs.Words.{scheduler, initiator, Kept, all_push}
@@ -7,7 +7,7 @@ use Rattle.mv_plan.specs.HandingOut.{is_closing}
 use Rattle.mv_element.specs.declared.operation.ElementOp.TheVariants as element_op
 use Rattle.mv_machine.specs.declared.entry.Op.TheVariants as op_on
 use Rattle.mv_plan.proofs.points.SchedulerNext.{same_errand}
-use Rattle.mv_plan.proofs.points.Points.{Point, At, Stage, Dispatching, Dismissing, SchedulerAt, Waits, Extends, Clears, Releases}
+use Rattle.mv_plan.proofs.points.Points.{Point, At, Stage, Dispatching, SchedulerAt, Waits, Extends, Clears, Releases}
 use Rattle.mv_plan.proofs.points.Points.{scheduler_asks, scheduler_goes, stage_at, dismissing_from}
 use Rattle.mv_plan.proofs.points.SchedulerSound.{IsSchedulerAt}
 use Rattle.mv_plan.proofs.walks.Stands.{Stand}

@@ -1,7 +1,7 @@
 -- Exclusion, steady scans, totals and purged requestors of a run, where each job was named once.
 use Rattle.mv_plan.proofs.Words.{◌≡◌, ℕ, suc, ◌+◌, ◌<◌, ◌≤◌, ◌==◌, Bool, true, false, if◌then◌else◌, List, [], ◌∷◌, ◌++◌, length, Some, ◌⊎◌}
 use Rattle.mv_plan.proofs.Words.{inl, inr, refl, sym, ap, ◌∙◌, subst, append-nil, append_assoc, arith, AllByRecursion, eq-eqb, eqb-true}
-use Rattle.mv_plan.proofs.Words.{false≢true, Request, list_of, Entry, Volume, next, after, after_from, of, «at», Setup, System, opening}
+use Rattle.mv_plan.proofs.Words.{Request, list_of, Entry, Volume, next, after, after_from, of, «at», Setup, System, opening}
 use Rattle.mv_plan.proofs.Words.{mine, given_codes, is_obtain, purges, ArePurged, JobData, total, Kept, IsRun, initiator, spool_setup}
 use Rattle.mv_plan.proofs.Words.{purged_by}
 use Rattle.mv_plan.specs.Purging.{obtains}
@@ -17,9 +17,9 @@ use Rattle.mv_plan.proofs.latches.HandMoves.{works}
 use Rattle.mv_plan.proofs.latches.Hands.{grip, OwnsBy, IsKnown}
 use Rattle.mv_plan.proofs.walks.OneWalk.{walk_rest}
 use Rattle.mv_plan.proofs.deck.Setup.{facts}
-use Rattle.mv_plan.proofs.points.Points.{At, Finished, InitiatorAt, Opening, Obtaining, initiator_asks, InJob}
+use Rattle.mv_plan.proofs.points.Points.{At, Finished, InitiatorAt, Opening, initiator_asks}
 use Rattle.mv_plan.proofs.serving.Requestors.{work, WorkBalance, works_start, works_next, NamedOnce, once_apart, unpurged, given_front}
-use Rattle.mv_plan.proofs.serving.Requestors.{reader_no_request, scheduler_no_request, writer_no_request, purges-push, one_if, works_bound}
+use Rattle.mv_plan.proofs.serving.Requestors.{reader_no_request, writer_no_request, purges-push, one_if, works_bound}
 use Rattle.mv_plan.proofs.walks.Histories.{Stood, stood, AreFinished, run_finished}
 use Rattle.mv_plan.proofs.walks.Stands.{Stand, AreSound}
 use Rattle.mv_plan.proofs.walks.Walks.{Points, start_points, Move, reads, schedules, initiates, writes, WalkTo, walk-parts}

@@ -1,7 +1,7 @@
 -- Behind a run each job was released once and given once, the other releases closed each initiator once, all were accepted and
 -- reached their pauses, and all elements are free. All but the marks of specs/HandingOut.
 use Rattle.mv_plan.proofs.Words.{◌≡◌, ℕ, ◌-◌, ◌<◌, ◌≤◌, Bool, List, [], length, Some, None, inl, inr, refl, sym, ap, ◌∙◌, subst, arith, ◌∷◌}
-use Rattle.mv_plan.proofs.Words.{cases_lt, ElementState, reset, Entry, element_events, IsNext, after, Setup, System, opening}
+use Rattle.mv_plan.proofs.Words.{cases_lt, ElementState, Entry, element_events, IsNext, after, Setup, System, opening}
 use Rattle.mv_plan.proofs.Words.{released_codes, given_codes, closings, IsRightRelease, JobData, IsRun, spool_setup, initiator, code_of}
 use Rattle.mv_plan.proofs.Words.{AllByRecursion}
 use Rattle.mv_element.specs.declared.element.Phase.TheVariants as phase
@@ -14,8 +14,8 @@ use Rattle.mv_plan.proofs.standing.Row.{RowAt, element_of}
 use Rattle.mv_plan.proofs.places.Places.{Place, Coming, Handed, Run, Over, Places}
 use Rattle.mv_plan.proofs.places.Ledger.{Account, element_code}
 use Rattle.mv_plan.proofs.deck.Setup.{facts}
-use Rattle.mv_plan.proofs.points.Points.{Point, At, Arming, Settling, ReaderAt, Entering, reader_asks, SchedulerAt, Waits, scheduler_asks}
-use Rattle.mv_plan.proofs.points.Points.{WriterAt, Keeping, writer_asks, Running, InitiatorAt, Obtaining, Closing, initiator_asks, InJob}
+use Rattle.mv_plan.proofs.points.Points.{Point, At, ReaderAt, Entering, reader_asks, SchedulerAt, scheduler_asks}
+use Rattle.mv_plan.proofs.points.Points.{WriterAt, writer_asks, Running, InitiatorAt, initiator_asks}
 use Rattle.mv_plan.proofs.walks.Histories.{Stood, stood, AreFinished, run_finished}
 use Rattle.mv_plan.proofs.places.Moments.{Moment, walk_moments}
 use Rattle.mv_plan.proofs.standing.Rows.{Rows}
@@ -40,9 +40,6 @@ pub record AreDispatched (deck : List JobData) (initiators : ℕ) (es : List Ent
   pub closing : (i : ℕ) → i < initiators → length (closings (initiator i) es) ≡ 1
 
 -- ---- an element is closed while it holds no code
-
-reset_none : (g : ℕ) (x : ElementState) → x ≡ reset g → code_held x ≡ None
-reset_none g x e = rw e refl
 
 module _ (c : Setup) (deck : List JobData) (initiators : ℕ) where
   abbrev n : ℕ

@@ -1,9 +1,9 @@
 -- No reply leads the reader, the scheduler or the writer astray, nor an initiator in its rounds.
 use Rattle.mv_plan.proofs.Words.{◌≡◌, ℕ, zero, suc, ◌+◌, ◌<◌, ◌≤◌, Bool, true, false, IsTrue, if◌then◌else◌, List, []}
 use Rattle.mv_plan.proofs.Words.{◌∷◌, ◌++◌, length, Option, Some, None, ◌⊎◌, inl, inr, refl, sym, ap, ◌∙◌, subst, arith, AllByRecursion}
-use Rattle.mv_plan.proofs.Words.{eq-eqb, leb-true, ecb_step, EcbState, Zero, Extended, ElementState}
+use Rattle.mv_plan.proofs.Words.{eq-eqb, leb-true, ecb_step, EcbState, Extended, ElementState}
 use Rattle.mv_plan.proofs.Words.{element_step, Reply, Setup, owner_of, System, admitted, reply_to, JobData, After, Step, Print}
-use Rattle.mv_plan.proofs.Words.{job_at, Counts, reader, scheduler, initiator, writer, end_for_scheduler, end_for_writer, idle}
+use Rattle.mv_plan.proofs.Words.{job_at, Counts, reader, scheduler, initiator, writer, end_for_writer}
 use Rattle.mv_plan.proofs.Words.{code_of, not_to_run, complete_count}
 use Rattle.mv_ecb.specs.Word.{Waiting}
 use Rattle.mv_deck.specs.declared.deck.Step.TheVariants.{Free}

@@ -1,6 +1,6 @@
 -- No task of the spool goes wrong: what stands of blocks, of elements and rounds, and of latches and volumes, put together by
 -- SafeWalks.
-use Rattle.mv_plan.proofs.Words.{◌≡◌, ℕ, ◌+◌, ◌<◌, ◌≤◌, List, length, refl, arith, Entry, IsNext, after, Setup, System}
+use Rattle.mv_plan.proofs.Words.{◌≡◌, ℕ, ◌+◌, ◌<◌, ◌≤◌, List, length, arith, Entry, IsNext, after, Setup, System}
 use Rattle.mv_plan.proofs.Words.{JobData, Wrong, left_in, Follows, spool_setup, scheduler, initiator, task_program}
 use Rattle.mv_plan.proofs.deck.Plans.{IsPlanned}
 use Rattle.mv_plan.proofs.ends.Posted.{extend_is_armed}

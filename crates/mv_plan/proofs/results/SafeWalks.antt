@@ -1,6 +1,6 @@
 -- A walk on which no wait ended too soon loses no task, where an invariant shows that the other replies lead nobody astray; and
 -- a task that is not lost is not wrong.
-use Rattle.mv_plan.proofs.Words.{◌≡◌, ℕ, zero, suc, ◌+◌, ◌-◌, ◌<◌, ◌≤◌, List, [], ◌∷◌, ◌++◌, length, ◌⊎◌, inl, inr, refl, sym, ap, ◌∙◌}
+use Rattle.mv_plan.proofs.Words.{◌≡◌, ℕ, ◌+◌, ◌-◌, ◌<◌, ◌≤◌, List, [], ◌∷◌, ◌++◌, length, ◌⊎◌, inl, inr, refl, sym, ap, ◌∙◌}
 use Rattle.mv_plan.proofs.Words.{subst, arith, Some, Bool, AllByRecursion, cases_eq, cases_lt, Entry, IsNext, next, after_from, Setup}
 use Rattle.mv_plan.proofs.Words.{System, opening, Reply, JobData, Wrong, left_in, spool_setup, reader, scheduler, initiator, writer}
 use Rattle.mv_plan.proofs.Words.{not_to_run, task_program}
@@ -16,7 +16,7 @@ use Rattle.mv_plan.proofs.points.InitiatorSound.{IsInitiatorAt}
 use Rattle.mv_plan.proofs.places.Places.{Place, Coming, Over}
 use Rattle.mv_plan.proofs.deck.Setup.{Facts}
 use Rattle.mv_plan.proofs.points.Programs.{reader_program, scheduler_program, writer_program}
-use Rattle.mv_plan.proofs.points.Points.{Point, At, TooSoon, Astray, Dispatching, stage_at, dismissing_from, entering_from}
+use Rattle.mv_plan.proofs.points.Points.{Point, At, TooSoon, Astray, Dispatching, stage_at, entering_from}
 use Rattle.mv_plan.proofs.points.Points.{writing_from, reader_asks, SchedulerAt, Extends, scheduler_asks, scheduler_goes, writer_asks}
 use Rattle.mv_plan.proofs.points.Points.{InitiatorAt, initiator_asks}
 use Rattle.mv_plan.proofs.points.Points.{initiator_goes}
@@ -262,9 +262,6 @@ module _ (deck : List JobData) (initiators : ℕ) (some : 1 ≤ initiators) (sou
 
 start_reader : (j more : ℕ) → IsNotLost (entering_from j more)
 start_reader j x = grind (arith, common_steps)
-
-start_dismissing : (n m more : ℕ) → IsNotLost (dismissing_from n m more)
-start_dismissing n m x = grind (arith, common_steps)
 
 start_scheduler : (n initiators : ℕ) (deck : List JobData) → IsNotLost (stage_at n initiators (Dispatching 0 deck))
 start_scheduler n initiators x = grind (arith, common_steps)

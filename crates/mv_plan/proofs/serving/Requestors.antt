@@ -1,11 +1,10 @@
 -- How often a job's requestor is purged: as often as the job was named, but for who still works on it. So a job that is named
 -- once has one initiator, and none that works on it has purged it.
-use Rattle.mv_plan.proofs.Words.{◌≡◌, ℕ, zero, suc, ◌+◌, ◌<◌, ◌≤◌, ◌==◌, Bool, true, false, if◌then◌else◌, List, [], ◌∷◌, ◌++◌}
+use Rattle.mv_plan.proofs.Words.{◌≡◌, ℕ, suc, ◌+◌, ◌<◌, ◌≤◌, ◌==◌, Bool, true, false, if◌then◌else◌, List, [], ◌∷◌, ◌++◌}
 use Rattle.mv_plan.proofs.Words.{length, Option, Some, None, inl, inr, refl, sym, ap, ◌∙◌, subst, arith, cases_eq, eq-eqb, ne_eqb}
 use Rattle.mv_plan.proofs.Words.{length-append, filter_map-append, Entry, Object, Op, Reply}
-use Rattle.mv_plan.proofs.Words.{IsNext, Setup, System, with_at, gift_code, naming, given_codes, is_obtain, purges, JobData, Step, Print}
+use Rattle.mv_plan.proofs.Words.{IsNext, Setup, System, with_at, gift_code, naming, given_codes, is_obtain, purges, JobData, Step}
 use Rattle.mv_plan.proofs.Words.{job_at, code_of, not_to_run, purged_by}
-use Rattle.mv_deck.specs.declared.deck.Step.TheVariants.{Free}
 use Rattle.mv_element.specs.declared.operation.ElementReply.TheVariants as element_reply
 use Rattle.mv_latch.specs.declared.operation.LatchReply.TheVariants as latch_reply
 use Rattle.mv_machine.specs.declared.entry.Reply.TheVariants as reply_of
@@ -16,18 +15,15 @@ use Rattle.mv_plan.proofs.points.InitiatorSound.{named_is, IsInitiatorAt}
 use Rattle.mv_plan.proofs.points.Points.{Point, At, Running, Hand, empty_hand, InitiatorAt, Opening, Offering, Pausing, Resuming}
 use Rattle.mv_plan.proofs.points.Points.{Obtaining, Confirming, Freeing, Reading, Writing, Scanning, Rescanning, Purging}
 use Rattle.mv_plan.proofs.points.Points.{EndingJob, EndingForScheduler, EndingForWriter, Closing, initiator_asks, initiator_goes}
-use Rattle.mv_plan.proofs.points.Points.{rounds_from, steps_at, running, job_start, given_at, ReaderAt, Entering, SchedulerAt, Waits}
-use Rattle.mv_plan.proofs.points.Points.{Arming, Settling, WriterAt, Keeping, reader_asks, scheduler_asks, writer_asks, InJob}
+use Rattle.mv_plan.proofs.points.Points.{rounds_from, steps_at, running, job_start, given_at, ReaderAt, Entering, SchedulerAt}
+use Rattle.mv_plan.proofs.points.Points.{WriterAt, reader_asks, scheduler_asks, writer_asks, InJob}
 use Rattle.mv_plan.proofs.walks.Walks.{Points, start_points, Move, reads, schedules, initiates, writes}
 use Rattle.mv_plan.proofs.volumes.Sums.{sum_to, sum_zero, sum_member, sum_with_at, sum_change}
 use Rattle.mv_plan.proofs.walks.NoneLost.{NoneLost, none_lost_before}
 use Rattle.mv_plan.proofs.points.Asks.{IsNoPause, no_gift, reader_no_pause, scheduler_no_pause, writer_no_pause}
 use Rattle.mv_plan.proofs.lists.Tables.{with_at-same, with_at-other}
-use Rattle.mv_plan.proofs.points.Views.{IsNotLost, run_of}
+use Rattle.mv_plan.proofs.points.Views.{IsNotLost}
 use Rattle.mv_plan.proofs.points.Lands.{given_lands}
-use Rattle.mv_plan.proofs.points.PostsAndWaits.{on_posted_keeps}
-use Rattle.mv_plan.proofs.latches.Exclusion.{works_run}
-use Rattle.mv_plan.proofs.ends.WhoPosts.{run_below}
 use Rattle.std.proofs.lemmas.Grind.{common_steps}
 
 -- ---- counts

@@ -1,8 +1,8 @@
 -- A block is waiting only while its owner has it armed in the wait that it is in; so an arm finds it plain or complete. Used
 -- where no reply is to lead astray.
-use Rattle.mv_plan.proofs.Words.{◌≡◌, ℕ, zero, suc, ◌+◌, ◌*◌, ◌<◌, ◌≤◌, ◌==◌, nat_lt, ◌&&◌, IsTrue, List, [], ◌∷◌, ◌++◌, length, map}
-use Rattle.mv_plan.proofs.Words.{Option, ◌⊎◌, inl, inr, refl, sym, ap, ◌∙◌, subst, arith, AllByRecursion, range_with_len}
-use Rattle.mv_plan.proofs.Words.{cases_eq, eqb-true, and_parts, EcbOp, EcbState, Entry, Object, Ecb, Op}
+use Rattle.mv_plan.proofs.Words.{◌≡◌, ℕ, zero, suc, ◌+◌, ◌*◌, ◌<◌, ◌≤◌, ◌==◌, IsTrue, List, [], ◌∷◌, ◌++◌, length, map}
+use Rattle.mv_plan.proofs.Words.{◌⊎◌, inl, inr, refl, sym, ap, ◌∙◌, subst, arith, AllByRecursion, range_with_len}
+use Rattle.mv_plan.proofs.Words.{cases_eq, EcbOp, EcbState, Entry, Object, Ecb, Op}
 use Rattle.mv_plan.proofs.Words.{Reply, IsNext, next, Setup, owner_of, System, opening, admitted, ecb_admitted, moved, with_at, advanced}
 use Rattle.mv_plan.proofs.Words.{JobData, After, AreDistinct, Kept, reader, scheduler, initiator, writer, end_for_writer, idle, ends_of}
 use Rattle.mv_ecb.specs.Word.{Waiting}
@@ -14,7 +14,7 @@ use Rattle.mv_plan.proofs.points.PostsAndWaits.{on_armed_keeps}
 use Rattle.mv_plan.proofs.deck.Setup.{Facts}
 use Rattle.mv_plan.proofs.points.Points.{Point, At, Awaited, ForEntry, ForEnds, ForIdle, ToDismiss, WaitAt, Arming, Settling, ReaderAt}
 use Rattle.mv_plan.proofs.points.Points.{Entering, reader_asks, SchedulerAt, Waits, awaited_blocks, scheduler_asks, scheduler_goes}
-use Rattle.mv_plan.proofs.points.Points.{arming_from, settling_from, on_armed, WriterAt, Keeping, writer_asks, writer_goes}
+use Rattle.mv_plan.proofs.points.Points.{arming_from, on_armed, WriterAt, Keeping, writer_asks, writer_goes}
 use Rattle.mv_plan.proofs.points.Points.{initiator_asks}
 use Rattle.mv_plan.proofs.points.SchedulerSound.{IsAwaited, IsSchedulerAt, rest_below, rest_sound}
 use Rattle.mv_plan.proofs.walks.Stands.{Stand}
@@ -111,10 +111,6 @@ else_waiting : (s : System) (e b : ℕ) (y : EcbState) → (e ≡ b → ⊥) →
 else_waiting s e b y d w = sym (ap (λ z. z.state) (with_at-other s.ecb e b (advanced (s.ecb e) y) d)) ∙ w
 
 -- ---- the points that follow have armed what they are to settle
-
-settling_arms : (n initiators : ℕ) (a : Awaited) (es : List ℕ) (found : List (Option ℕ)) (b : ℕ) → In es b
-    → SchedulerArms n initiators (settling_from n a es found) b
-settling_arms n initiators a x found b i = grind (arith, common_steps)
 
 arming_arms : (n initiators : ℕ) (a : Awaited) (todo : List ℕ) (b : ℕ) → In (awaited_blocks n initiators a) b → (In todo b → ⊥)
     → SchedulerArms n initiators (arming_from n initiators a todo) b

@@ -1,7 +1,7 @@
 -- How an initiator, its block, its element and what the scheduler has of it fit together. An idle block's code is the
 -- generation with which its initiator goes on to pause; the scheduler releases only what it has cleared; and the element's
 -- generation is the point's. Used by all that looks at elements.
-use Rattle.mv_plan.proofs.Words.{◌≡◌, ℕ, zero, suc, ◌+◌, ◌==◌, if◌then◌else◌, List, [], length, Option, Some, None, inl, inr}
+use Rattle.mv_plan.proofs.Words.{◌≡◌, ℕ, suc, ◌+◌, ◌==◌, if◌then◌else◌, List, [], length, Option, Some, None}
 use Rattle.mv_plan.proofs.Words.{refl, sym, ap, arith, eq-eqb, EcbState, Complete, ElementState, free, reset, prereleased}
 use Rattle.mv_plan.proofs.Words.{element_step, Reply, System, moved, reply_to, with_at, advanced, JobData, job_at, initiator, idle}
 use Rattle.mv_element.specs.Element.{paused, released}
@@ -14,8 +14,7 @@ use Rattle.mv_plan.proofs.points.Points.{Offering, Pausing, Resuming, Closing, i
 use Rattle.mv_plan.proofs.points.Points.{running, on_opened, on_paused, on_resumed, on_closed, InJob}
 use Rattle.mv_plan.proofs.points.RunningJob.{RunsOn, start_run, GoesOn, run_goes, run_asks, run_sound}
 use Rattle.mv_plan.proofs.walks.NoneLost.{SameTalk, same_talk}
-use Rattle.mv_plan.proofs.lists.Tables.{with_at-same}
-use Rattle.mv_plan.proofs.points.Views.{run_of, IsNotLost}
+use Rattle.mv_plan.proofs.points.Views.{run_of}
 use Rattle.mv_plan.proofs.points.Lands.{given_lands}
 use Rattle.std.proofs.lemmas.Grind.{common_steps}
 
@@ -82,15 +81,9 @@ RowAt n s q i p = Row (stance p) (offer_of n s i) (hold_for i q) (element_of s i
 stance_run : (p : Point InitiatorAt) (run : Running) → run_of p ≡ Some run → stance p ≡ Works run.generation
 stance_run p run e = grind (arith, common_steps)
 
-stance_lost : (p : Point InitiatorAt) → (IsNotLost p → ⊥) → stance p ≡ Loses
-stance_lost x f = grind (arith, common_steps)
-
 pub row_at : (st st' : Stance) (o o' h h' : Option ℕ) (x x' : ElementState) → st' ≡ st → o' ≡ o → h' ≡ h → x' ≡ x → Row st o h x
     → Row st' o' h' x'
 row_at st st' o o' h h' x x' a b d e r = rw (a, b, d, e) r
-
-row_lost : (st : Stance) (o h : Option ℕ) (x : ElementState) → st ≡ Loses → Row st o h x
-row_lost st o h x e = rw e tt
 
 module _ (o h : Option ℕ) where
   rounds_row : (m : ℕ) (before : List ℕ) (g : ℕ) (x : ElementState) → Row (Works g) o h x → Row (stance (rounds_from m before g)) o h x

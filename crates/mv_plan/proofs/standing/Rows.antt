@@ -1,11 +1,10 @@
 -- All initiators' rows, with what the scheduler has found, are kept by each move.
 use Rattle.mv_plan.proofs.Words.{◌≡◌, ℕ, ◌<◌, List, length, Option, Some, None, ◌⊎◌, inl, inr}
-use Rattle.mv_plan.proofs.Words.{refl, sym, ap, ◌∙◌, subst, arith, cases_eq, eq-eqb, ecb_step, EcbState}
+use Rattle.mv_plan.proofs.Words.{refl, sym, ap, ◌∙◌, subst, arith, cases_eq, eq-eqb}
 use Rattle.mv_plan.proofs.Words.{ElementState, free, reset, prereleased, element_step, Entry, Reply, IsNext, next, Setup}
-use Rattle.mv_plan.proofs.Words.{System, opening, moved, reply_to, with_at, advanced, JobData, Kept, reader, scheduler, initiator, writer}
+use Rattle.mv_plan.proofs.Words.{System, opening, moved, reply_to, with_at, JobData, Kept, reader, scheduler, initiator, writer}
 use Rattle.mv_plan.proofs.Words.{idle}
 use Rattle.mv_element.specs.Element.{paused, released}
-use Rattle.mv_ecb.specs.declared.operation.EcbOp.TheVariants as ecb_op
 use Rattle.mv_element.specs.declared.operation.ElementOp.TheVariants as element_op
 use Rattle.mv_element.specs.declared.operation.ElementReply.TheVariants as element_reply
 use Rattle.mv_plan.proofs.points.ReaderAndWriter.{IsReaderAt, IsWriterAt}
@@ -13,10 +12,10 @@ use Rattle.mv_plan.proofs.standing.Row.{Stance, Offers, Parks, Loses, stance, co
 use Rattle.mv_plan.proofs.standing.Row.{offer_of, element_of, row_at, own_row, Apart, apart}
 use Rattle.mv_plan.proofs.points.InitiatorSound.{IsInitiatorAt}
 use Rattle.mv_plan.proofs.points.Points.{Point, At, Stage, Dispatching, Awaited, WaitAt}
-use Rattle.mv_plan.proofs.points.Points.{Arming, Settling, wait_asks, ReaderAt, Entering, reader_asks, reader_goes, SchedulerAt, Waits}
+use Rattle.mv_plan.proofs.points.Points.{wait_asks, ReaderAt, Entering, reader_asks, reader_goes, SchedulerAt, Waits}
 use Rattle.mv_plan.proofs.points.Points.{Extends, Clears, Releases, awaited_blocks, scheduler_asks, scheduler_goes}
 use Rattle.mv_plan.proofs.points.Points.{stage_at, WriterAt, writer_asks, writer_goes, InitiatorAt, initiator_asks, initiator_goes}
-use Rattle.mv_plan.proofs.standing.Finds.{Blocks, Finds, stay_moved, finds_kept, finds_next, stage_here}
+use Rattle.mv_plan.proofs.standing.Finds.{Finds, stay_moved, finds_kept, finds_next, stage_here}
 use Rattle.mv_plan.proofs.points.SchedulerSound.{IsSchedulerAt, IsWaitAt}
 use Rattle.mv_plan.proofs.walks.Stands.{Stand}
 use Rattle.mv_plan.proofs.walks.NoneLost.{SameTalk, same_talk}
@@ -73,16 +72,6 @@ module _ (n initiators : ℕ) where
   goes_no_hold x r d = goes_next n initiators NoHold x r (λ i. refl) (λ i. refl) (nexts_no_hold x d)
 
 -- ---- a wait keeps the codes of blocks
-
-arm_code : (v : EcbState) → code_in (ecb_step ecb_op.Arm v).0 ≡ code_in v
-arm_code v = grind arith
-
-settle_code : (v : EcbState) → code_in (ecb_step ecb_op.Settle v).0 ≡ code_in v
-settle_code v = grind arith
-
-code_kept : (f : Blocks) (e b : ℕ) (y : EcbState) → code_in y ≡ code_in (f e).state
-    → code_in (with_at f e (advanced (f e) y) b).state ≡ code_in (f b).state
-code_kept f e b y q = grind (arith, common_steps)
 
 pub wait_codes : (s : System) (k b : ℕ) (w : WaitAt)
     → code_in ((moved s k (wait_asks w).0 (wait_asks w).1).ecb b).state ≡ code_in (s.ecb b).state

@@ -1,11 +1,10 @@
 -- The balance: what a volume has, and what is still due to it, is what the jobs that were named add. So a COUNT's sum has 32
 -- bits.
-use Rattle.mv_plan.proofs.Words.{◌≡◌, ℕ, zero, suc, ◌+◌, ◌*◌, ◌^◌, ◌<◌, ◌≤◌, ◌==◌, Bool, true, false, if◌then◌else◌, List, [], ◌∷◌, ◌++◌}
+use Rattle.mv_plan.proofs.Words.{◌≡◌, ℕ, zero, suc, ◌+◌, ◌*◌, ◌^◌, ◌<◌, ◌≤◌, if◌then◌else◌, List, [], ◌∷◌, ◌++◌}
 use Rattle.mv_plan.proofs.Words.{length, None, refl, sym, ap, ◌∙◌, subst, append-nil, arith, eq-eqb, Entry, Object, Op, IsNext, next, Setup}
-use Rattle.mv_plan.proofs.Words.{System, opening, moved, with_at, gift_code, JobData, Step, Print, Use, Count, Scan, before_end, added}
+use Rattle.mv_plan.proofs.Words.{System, opening, moved, with_at, gift_code, JobData, Step, Count, before_end, added}
 use Rattle.mv_plan.proofs.Words.{initiator}
 use Rattle.std.proofs.Common.{suc-mul}
-use Rattle.mv_deck.specs.declared.deck.Step.TheVariants.{Free}
 use Rattle.mv_machine.proofs.EntryRuns.{entry_of}
 use Rattle.mv_plan.proofs.volumes.Added.{added_by}
 use Rattle.mv_plan.proofs.deck.Events.{steps_events, all_events, all_events_are}

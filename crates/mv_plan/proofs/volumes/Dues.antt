@@ -1,8 +1,7 @@
 -- What the jobs that are run have still to add to a volume, and how an initiator's event pays it.
-use Rattle.mv_plan.proofs.Words.{◌≡◌, ℕ, zero, suc, ◌+◌, Bool, true, false, List, [], ◌∷◌, length, refl, sym, ap}
+use Rattle.mv_plan.proofs.Words.{◌≡◌, ℕ, suc, ◌+◌, Bool, true, false, List, [], ◌∷◌, length, refl, sym, ap}
 use Rattle.mv_plan.proofs.Words.{◌∙◌, arith, Reply, Setup, System, with_at, advanced, gift_code, JobData}
-use Rattle.mv_plan.proofs.Words.{Step, Print, Use, Count, Scan, job_at, before_end, added, IsNext, initiator}
-use Rattle.mv_deck.specs.declared.deck.Step.TheVariants.{Free}
+use Rattle.mv_plan.proofs.Words.{Step, Count, job_at, before_end, added, IsNext, initiator}
 use Rattle.mv_element.specs.declared.operation.ElementReply.TheVariants as element_reply
 use Rattle.mv_latch.specs.declared.operation.LatchReply.TheVariants as latch_reply
 use Rattle.mv_machine.specs.declared.entry.Reply.TheVariants as reply_of
@@ -11,7 +10,7 @@ use Rattle.mv_plan.proofs.volumes.Added.{added_by}
 use Rattle.mv_plan.proofs.volumes.GivenCodes.{with_code, adds_if, adds_named, adds, adds_all, adds_high}
 use Rattle.mv_plan.proofs.points.Points.{Point, At, Running, Hand, empty_hand, InitiatorAt, Opening, Offering, Pausing, Resuming}
 use Rattle.mv_plan.proofs.points.Points.{Obtaining, Confirming, Freeing, Reading, Writing, Scanning, Rescanning, Purging}
-use Rattle.mv_plan.proofs.points.Points.{EndingJob, EndingForScheduler, EndingForWriter, Closing, initiator_goes, rounds_from, steps_at}
+use Rattle.mv_plan.proofs.points.Points.{EndingJob, EndingForScheduler, EndingForWriter, Closing, initiator_goes, steps_at}
 use Rattle.mv_plan.proofs.points.Points.{running, job_start, given_at, initiator_asks, InJob}
 use Rattle.mv_plan.proofs.volumes.Values.{ValueAt, read_keeps, volumes_asked}
 use Rattle.mv_plan.proofs.points.Views.{IsNotLost}
@@ -36,13 +35,7 @@ due v p = 0
 abbrev pub gift_adds : List JobData → ℕ → Reply → ℕ
 gift_adds deck v r = adds_all deck v (with_code (gift_code r) [])
 
-zero_plus : (n : ℕ) → n ≡ 0 + n
-zero_plus n = omega arith
-
 module _ (v : ℕ) where
-  due_rounds : (m : ℕ) (before : List ℕ) (g : ℕ) → due v (rounds_from m before g) ≡ 0
-  due_rounds x before g = grind (arith, common_steps)
-
   due_steps : (run : Running) (hand : Hand) (steps : List Step) → IsNotLost (steps_at run hand steps)
       → due v (steps_at run hand steps) ≡ added_by v (before_end steps)
   due_steps run hand [] n = grind (arith, common_steps)
@@ -77,9 +70,6 @@ module _ (c : Setup) (s : System) (deck : List JobData) (i v : ℕ) where
 
   gift_due : (N d a : ℕ) → d ≡ a → N + d ≡ N + 0 + (a + 0)
   gift_due N d a e = omega arith
-
-  to_zero : (N d : ℕ) → d ≡ 0 → N + d ≡ N + 0 + 0
-  to_zero N d e = omega arith
 
   same_due : (N d a : ℕ) → d ≡ a → N + d ≡ N + a + 0
   same_due N d a e = omega arith

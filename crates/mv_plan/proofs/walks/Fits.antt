@@ -1,11 +1,11 @@
 -- What holds of the machine after every legal list: a block is extended with an exit of its own; and where no request of the
 -- Posted form is allowed none stands, so that no wake posts a block.
-use Rattle.mv_plan.proofs.Words.{◌≡◌, ℕ, zero, suc, Bool, true, false, if◌then◌else◌, List, [], ◌∷◌}
-use Rattle.mv_plan.proofs.Words.{map, replicate, None, ◌⊎◌, inl, inr, sym, ap, ◌∙◌, subst, arith, AllByRecursion, cases_eq, eq-eqb}
-use Rattle.mv_plan.proofs.Words.{ne_eqb, false≢true, and_parts, EcbOp, ecb_step, EcbState, Extended, LatchOp, Request}
+use Rattle.mv_plan.proofs.Words.{◌≡◌, ℕ, zero, suc, Bool, true, List, [], ◌∷◌}
+use Rattle.mv_plan.proofs.Words.{map, replicate, None, ◌⊎◌, arith, AllByRecursion, cases_eq}
+use Rattle.mv_plan.proofs.Words.{false≢true, and_parts, ecb_step, Extended, LatchOp, Request}
 use Rattle.mv_plan.proofs.Words.{granted, release_step, list_of, latch_step}
-use Rattle.mv_plan.proofs.Words.{shared_request, Entry, Object, Ecb, Element, Volume, Latches, Op, IsNext, next, Setup, is_exit_of, System}
-use Rattle.mv_plan.proofs.Words.{opening, admitted, ecb_admitted, moved, with_at, advanced, all_append, all_filter}
+use Rattle.mv_plan.proofs.Words.{Entry, Object, Ecb, Element, Volume, Latches, Op, IsNext, next, Setup, is_exit_of, System}
+use Rattle.mv_plan.proofs.Words.{opening, admitted, moved, with_at, advanced, all_append, all_filter}
 use Rattle.std.specs.List.{flat_map}
 use Rattle.mv_latch.specs.Latch.{shared_front, purged}
 use Rattle.mv_latch.specs.LatchSet.{latch_admitted, wakes}
@@ -72,11 +72,6 @@ wakes_unposted k x lists a =
     grind (arith, common_steps, common_steps, wakes_of_unposted, all_filter, granted_unposted, released_unposted, list_unposted, all_append, all_flat, all_drop)
 
 -- ---- exits
-
-exit_step : (c : Setup) (k n : ℕ) (op : EcbOp) (v : EcbState) (x : ℕ) → ecb_admitted c k n op ≡ true
-    → ((y : ℕ) → v ≡ Extended y → is_exit_of c y n ≡ true)
-    → (ecb_step op v).0 ≡ Extended x → is_exit_of c x n ≡ true
-exit_step c k n y v x adm held e = grind (arith, common_steps)
 
 -- ---- both, of the machine
 

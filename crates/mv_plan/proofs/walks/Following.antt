@@ -1,6 +1,6 @@
 -- A history that follows is a walk: the tasks' programs are what is left of them at the points. The bridge from the definition
 -- of a history, caller by caller, to walks.
-use Rattle.mv_plan.proofs.Words.{◌≡◌, ℕ, zero, suc, ◌+◌, ◌*◌, ◌<◌, ◌≤◌, true, List, [], ◌∷◌, length, Some, inl, inr, refl, sym, ap, ◌∙◌}
+use Rattle.mv_plan.proofs.Words.{◌≡◌, ℕ, zero, suc, ◌+◌, ◌*◌, ◌<◌, ◌≤◌, true, List, [], ◌∷◌, length, Some, inl, inr, refl, ap, ◌∙◌}
 use Rattle.mv_plan.proofs.Words.{subst, arith, AllByRecursion, cases_eq, ecb_step, Wake, Entry, Object, Ecb, Op, Reply}
 use Rattle.mv_plan.proofs.Words.{IsNext, next, Setup, is_exit_of, System, reply_to, with_at, JobData, Kept, Program, asks, heard, entered}
 use Rattle.mv_plan.proofs.Words.{end_for_scheduler, end_for_writer, idle, reader, scheduler, initiator, writer, programs_after}
@@ -24,9 +24,9 @@ use Rattle.mv_plan.proofs.points.InitiatorSound.{InitiatorStands}
 use Rattle.mv_plan.proofs.points.Scheduler.{scheduler_says, scheduler_hears}
 use Rattle.mv_plan.proofs.points.SchedulerSound.{SchedulerStands}
 use Rattle.mv_plan.proofs.deck.Setup.{Facts}
-use Rattle.mv_plan.proofs.walks.Stands.{Stand, stand_next, kept_next, kept_other}
+use Rattle.mv_plan.proofs.walks.Stands.{Stand, stand_next, kept_next}
 use Rattle.mv_plan.proofs.walks.Walks.{Points, Move, reads, schedules, initiates, writes, WalkTo}
-use Rattle.mv_plan.proofs.lists.Tables.{with_at-other, all_but}
+use Rattle.mv_plan.proofs.lists.Tables.{all_but}
 use Rattle.std.proofs.lemmas.Grind.{common_steps}
 
 -- what is left of each task's program is the program of its point
