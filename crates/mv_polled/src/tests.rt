@@ -1,10 +1,12 @@
-//! What no clause says: that a future registers and does not yield, or is over at once; and what the executor of `ring_tests` is made of.
+//! What no clause says: that each call can be polled with ample memory, that a future registers and does not yield, and rows that were
+//! worked out by hand.
 
 ghost use Rattle.std.specs.Prelude.{◌≡◌, ◌<◌, ◌≤◌, ◌*◌, true, false, length, IfOk, MatchOption};
 ghost use Rattle.std.specs.List.{AllByRecursion};
 ghost use Rattle.mv_machine.specs.Setup.{element_count};
 ghost use Rattle.mv_calls.specs.Rest.{IsAtRest};
 ghost use Rattle.mv_board.specs.Faces.{CallerFace, IsOf, AreFresh};
+ghost use Rattle.mv_polled.specs.Obtaining.{IsObtainAt};
 ghost use Rattle.mv_polled.specs.Pausing.{IsPauseAt};
 ghost use Rattle.mv_polled.specs.Waiting.{IsWaitAt};
 
@@ -12,10 +14,13 @@ use super::*;
 use futures::executor::block_on;
 use futures::task::Source;
 use futures::test::MockTask;
-use mv_element::Token;
-use mv_machine::Config;
+use mv_ecb::EcbOp;
+use mv_element::{ElementOp, Token};
+use mv_latch::Mode;
+use mv_latchset::{LatchToken, Obtained, release_latch};
+use mv_machine::{Config, Op};
 use mv_pause::{Given, allocate, release};
-use mv_wait::{Station, Task};
+use mv_wait::{Station, Task, WaitSlot};
 use std::alloc::{AllocGlobal, Global};
 use std::process::Abort;
 use std::random::RandomSource;
@@ -45,6 +50,15 @@ pub(crate) fn open(alloc: Global, owners: Vec<u32>) -> Result<(Station, Vec<Task
         exits: Vec::new(alloc),
     };
     Ok(Station::open(alloc, config.check(alloc)?)?)
+}
+
+// Each entry of a task is of this operation, and rings this key.
+fn assert_made<R: Abort>(rt: &R, task: &Task, made: &[(Op, Option<u64>)]) {
+    let log = task.log();
+    assert_eq!(rt; log.len(), made.len());
+    for (entry, made) in log.iter().zip(made) {
+        assert_eq!(rt; (entry.op, rung(entry)), *made);
+    }
 }
 
 // ---- waits
@@ -98,6 +112,51 @@ pub(crate) fn is_over<R: Wait>(
         Turn::Ready(_) => true,
         Turn::Pending => false,
     }
+}
+
+// A wait for two of three blocks, of which one is posted before its first poll and one behind it.
+fn wait_for_two<R: Abort + Wait>(
+    rt: &R,
+    station: &Station,
+    waiter: &mut Task,
+    poster: &mut Task,
+    call: &mut WaitCall,
+)
+    requires waiter { IsOf station.now waiter.old }
+    requires poster { IsOf station.now poster.old }
+    requires rest { IsAtRest poster.old.log }
+    requires blocks { length station.now.config.owners ≡ 3 }
+    requires stage { (t0 : CallerFace) × IsWaitAt station.now.config call.old t0 waiter.old }
+{
+    post(rt, station, poster, 0, 5);
+    assert!(rt; !is_over(rt, station, waiter, call));
+    assert_eq!(rt; call.keys(), [1, 2].as_slice());
+    assert_eq!(rt; (call.slots().len(), waiter.log().len()), (0, 3));
+    post(rt, station, poster, 2, 7);
+    assert!(rt; is_over(rt, station, waiter, call));
+    let found = [WaitSlot::Complete(5), WaitSlot::Open, WaitSlot::Complete(7)];
+    assert_eq!(rt; call.slots(), found.as_slice());
+    assert_eq!(rt; call.keys().len(), 0);
+}
+
+#[test]
+fn a_wait_for_two_of_three(rt: HostRuntime) -> Result<(), Fail> {
+    let owners = vec![in rt.alloc(); 7; 3]?;
+    let (station, mut tasks) = open(rt.alloc(), owners)?;
+    let mut waiter = station.take_last(&mut tasks);
+    let mut poster = station.take_last(&mut tasks);
+    assert!(rt; waiter.left() >= 6);
+    let mut call = a_wait(rt.alloc(), &station, &waiter, 2, &[0, 1, 2])?;
+    wait_for_two(&rt, &station, &mut waiter, &mut poster, &mut call);
+    let posts = [
+        (Op::Ecb(EcbOp::Post(5)), Some(0)),
+        (Op::Ecb(EcbOp::Post(7)), Some(2)),
+    ];
+    assert_made(&rt, &poster, &posts);
+    let arm = (Op::Ecb(EcbOp::Arm), None);
+    let settle = (Op::Ecb(EcbOp::Settle), None);
+    assert_made(&rt, &waiter, &[arm, arm, arm, settle, settle, settle]);
+    Ok(())
 }
 
 // ---- pauses
@@ -163,6 +222,119 @@ pub(crate) fn release_to<R: Abort + Wait>(
 {
     assert!(rt; token.element < 8 && code < 10 && task.left() > 0);
     assert!(rt; release(station, rt, task, token, code).is_ok());
+}
+
+// A pause whose token is released behind its first poll.
+fn pause_for_nine<R: Abort + Wait>(
+    rt: &R,
+    station: &Station,
+    first: &mut Task,
+    second: &mut Task,
+    call: &mut PauseCall,
+)
+    requires first { IsOf station.now first.old }
+    requires second { IsOf station.now second.old }
+    requires rest { IsAtRest second.old.log }
+    requires elements { element_count station.now.config ≡ 8 }
+    requires stage { (t0 : CallerFace) × IsPauseAt station.now.config call.old t0 first.old }
+{
+    assert!(rt; given(rt, station, first, call).is_none());
+    assert_eq!(rt; call.key(), ELEMENT);
+    release_to(rt, station, second, token(7, 0), 9);
+    let next = token(7, 1);
+    assert_eq!(rt;
+        given(rt, station, first, call),
+        Some(Given { code: 9, next })
+    );
+}
+
+#[test]
+fn a_pause_goes_on_once_it_is_released(rt: HostRuntime) -> Result<(), Fail> {
+    let (station, mut tasks) = open(rt.alloc(), Vec::new(rt.alloc()))?;
+    let mut first = station.take_last(&mut tasks);
+    let mut second = station.take_last(&mut tasks);
+    let mut call = a_pause(&rt, &station, &mut first);
+    pause_for_nine(&rt, &station, &mut first, &mut second, &mut call);
+    let made = [
+        (Op::Element(ElementOp::Open), None),
+        (Op::Element(ElementOp::Pause(0)), None),
+        (Op::Element(ElementOp::Resume(0)), None),
+    ];
+    assert_made(&rt, &first, &made);
+    let woke = (Op::Element(ElementOp::Release(0, 9)), Some(ELEMENT));
+    assert_made(&rt, &second, &[woke]);
+    Ok(())
+}
+
+// ---- obtains
+
+// A request for the latch that this task may poll.
+fn an_obtain(station: &Station, task: &Task) -> ObtainCall
+    requires rest { IsAtRest task.now.log }
+    requires left { 2 ≤ task.now.left }
+    ensures { (t0 : CallerFace) × IsObtainAt station.now.config result t0 task.now }
+{
+    let _config = station.config();
+    ObtainCall::new(0, 1 + u64::from(task.number()), Mode::Exclusive)
+}
+
+// The latch, once it is granted.
+fn granted<R: Abort + Wait>(
+    rt: &R,
+    station: &Station,
+    task: &mut Task,
+    call: &mut ObtainCall,
+) -> Option<LatchToken>
+    requires task { IsOf station.now task.old }
+    requires stage { (t0 : CallerFace) × IsObtainAt station.now.config call.old t0 task.old }
+    ensures task { IsOf station.now task.new }
+    ensures stage { MatchOption result ((t0 : CallerFace) × IsObtainAt station.now.config call.new t0 task.new)
+        (λ _. IsAtRest task.new.log) }
+{
+    match call.poll(station, rt, task) {
+        Turn::Ready(Ok(Obtained::Granted(token))) => Some(token),
+        Turn::Ready(_) => panic!(rt; "it is not granted"),
+        Turn::Pending => None,
+    }
+}
+
+// An obtain of one task behind that of another, which gives the latch back behind the second poll.
+fn obtain_behind<R: Abort + Wait>(
+    rt: &R,
+    station: &Station,
+    first: &mut Task,
+    second: &mut Task,
+    mut holding: ObtainCall,
+    mut waiting: ObtainCall,
+)
+    requires first { IsOf station.now first.old }
+    requires second { IsOf station.now second.old }
+    requires latches { station.now.config.latches ≡ 1 }
+    requires holding { (t0 : CallerFace) × IsObtainAt station.now.config holding t0 first.old }
+    requires waiting { (t0 : CallerFace) × IsObtainAt station.now.config waiting t0 second.old }
+{
+    let Some(held) = granted(rt, station, first, &mut holding) else {
+        panic!(rt; "the latch is not free")
+    };
+    assert!(rt; granted(rt, station, second, &mut waiting).is_none());
+    assert!(rt; granted(rt, station, second, &mut waiting).is_none());
+    assert_eq!(rt; second.log().len(), 1);
+    assert!(rt; held.latch == 0 && first.left() >= station.config().release_cost());
+    assert!(rt; release_latch(station, rt, first, held, false).is_ok());
+    assert!(rt; granted(rt, station, second, &mut waiting).is_some());
+    assert_eq!(rt; second.log().len(), 2);
+}
+
+#[test]
+fn an_obtain_goes_on_once_it_is_granted(rt: HostRuntime) -> Result<(), Fail> {
+    let (station, mut tasks) = open(rt.alloc(), Vec::new(rt.alloc()))?;
+    let mut first = station.take_last(&mut tasks);
+    let mut second = station.take_last(&mut tasks);
+    assert!(rt; first.left() >= 2 && second.left() >= 2);
+    let holding = an_obtain(&station, &first);
+    let waiting = an_obtain(&station, &second);
+    obtain_behind(&rt, &station, &mut first, &mut second, holding, waiting);
+    Ok(())
 }
 
 // ---- futures
