@@ -84,7 +84,6 @@ pub(crate) fn put_element_reply(out: &mut Vec<u8>, reply: ElementReply)
 /// The highest release code: three bytes.
 const HIGHEST_RELEASE_CODE: u32 = 16_777_215;
 
-#[inline(always)]
 #[tactic(auto, unfolding(crate::specs::ElementText::element_op, crate::specs::Reading::behind))]
 pub(crate) fn read_element_op(strict: bool, text: &[u8]) -> Option<(ElementOp, &[u8])>
     ensures { seen result ≡ element_op strict text.now }
@@ -200,7 +199,6 @@ fn read_telling_reply(strict: bool, text: &[u8]) -> Option<(ElementReply, &[u8])
     None
 }
 
-#[inline(always)]
 #[tactic(auto, unfolding(crate::specs::ElementText::element_reply, crate::specs::Reading::behind))]
 pub(crate) fn read_element_reply(strict: bool, text: &[u8]) -> Option<(ElementReply, &[u8])>
     ensures { seen result ≡ element_reply strict text.now }

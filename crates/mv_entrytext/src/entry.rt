@@ -169,7 +169,6 @@ fn read_ecb_event(strict: bool, text: &[u8]) -> Option<((u32, (EcbOp, EcbReply))
 }
 
 // The same on a pause element.
-#[inline(always)]
 #[tactic(auto, unfolding(crate::specs::Reading::parted_at, crate::specs::Reading::behind))]
 fn read_element_event(
     strict: bool,
@@ -185,7 +184,6 @@ fn read_element_event(
 }
 
 // The same on a volume.
-#[inline(always)]
 #[tactic(auto, unfolding(crate::specs::Reading::parted_at, crate::specs::Reading::behind))]
 fn read_volume_event(strict: bool, text: &[u8]) -> Option<((u32, (VolumeOp, VolumeReply)), &[u8])>
     ensures { seen result ≡ event strict (volume_op strict) (volume_reply strict) text.now }
@@ -198,7 +196,6 @@ fn read_volume_event(strict: bool, text: &[u8]) -> Option<((u32, (VolumeOp, Volu
 }
 
 // The same on the latch set.
-#[inline(always)]
 #[tactic(auto, unfolding(crate::specs::Reading::parted_at, crate::specs::Reading::behind))]
 fn read_latch_event(strict: bool, text: &[u8]) -> Option<((u32, (LatchOp, LatchReply)), &[u8])>
     ensures { seen result ≡ event strict (latch_op strict) (latch_reply strict) text.now }

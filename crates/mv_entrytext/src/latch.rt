@@ -201,7 +201,6 @@ fn read_release(strict: bool, text: &[u8]) -> Option<(LatchOp, &[u8])>
     Some((op, rest))
 }
 
-#[inline(always)]
 #[tactic(auto, unfolding(crate::specs::LatchText::latch_op, crate::specs::Reading::behind))]
 pub(crate) fn read_latch_op(strict: bool, text: &[u8]) -> Option<(LatchOp, &[u8])>
     ensures { seen result ≡ latch_op strict text.now }
@@ -223,7 +222,6 @@ pub(crate) fn read_latch_op(strict: bool, text: &[u8]) -> Option<(LatchOp, &[u8]
     None
 }
 
-#[inline(always)]
 #[tactic(auto, unfolding(crate::specs::LatchText::latch_reply, crate::specs::Reading::behind))]
 pub(crate) fn read_latch_reply(strict: bool, text: &[u8]) -> Option<(LatchReply, &[u8])>
     ensures { seen result ≡ latch_reply strict text.now }

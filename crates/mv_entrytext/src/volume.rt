@@ -38,7 +38,6 @@ pub(crate) fn put_volume_reply(out: &mut Vec<u8>, reply: VolumeReply)
     }
 }
 
-#[inline(always)]
 #[tactic(auto, unfolding(crate::specs::VolumeText::volume_op, crate::specs::Reading::behind))]
 pub(crate) fn read_volume_op(strict: bool, text: &[u8]) -> Option<(VolumeOp, &[u8])>
     ensures { seen result ≡ volume_op strict text.now }
@@ -53,7 +52,6 @@ pub(crate) fn read_volume_op(strict: bool, text: &[u8]) -> Option<(VolumeOp, &[u
     None
 }
 
-#[inline(always)]
 #[tactic(auto, unfolding(crate::specs::VolumeText::volume_reply, crate::specs::Reading::behind))]
 pub(crate) fn read_volume_reply(strict: bool, text: &[u8]) -> Option<(VolumeReply, &[u8])>
     ensures { seen result ≡ volume_reply strict text.now }

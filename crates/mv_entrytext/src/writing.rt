@@ -10,12 +10,12 @@ ghost use Rattle.mv_entrytext.specs.EntryText.{IsInRange, IsTyped};
 ghost use Rattle.mv_entrytext.specs.Journal.{JournalOf, Callers, Elements, Volumes, Latches, Quota, Budget, Owner, ExitTo};
 ghost use Rattle.mv_entrytext.specs.Journal.{Line, EntryOf, End, line, counts_text, lists_text, head_text, text1};
 ghost use Rattle.mv_entrytext.specs.Journal.{journal_text};
-ghost use Rattle.mv_entrytext.specs.Widths.{line_width};
+ghost use Rattle.mv_entrytext.specs.Widths.{line_width, number_width};
 ghost use Rattle.mv_entrytext.specs.Writer.{IsWrittenTo};
 
 use crate::entry::put_entry;
 use crate::number::{push_number, push_pair, push_wide, push_word};
-use crate::reserved::{LINE_WIDTH, put_word};
+use crate::reserved::{LINE_WIDTH, put_number, put_word};
 use crate::version::Version;
 use mv_calls::CallCounters;
 use mv_io::NoMemory;
@@ -23,12 +23,29 @@ use mv_machine::{Config, Entry, Exit, History, ValidConfig};
 use std::alloc::Global;
 use std::mem::replace;
 
+// The text so far, with room for a line. It is taken out until the line is whole, so that its length stays in a register, and is
+// not stored for each byte.
+#[inline(always)]
+fn open_line(out: &mut Vec<u8>) -> Result<Vec<u8>, NoMemory>
+    ensures text { IfOk result (λ text. text.items ≡ out.old.items) }
+    ensures room { IfOk result (λ text. vec_len text + line_width ≤ vec_capacity text) }
+{
+    out.reserve(LINE_WIDTH)?;
+    let alloc = *out.allocator();
+    Ok(replace(out, Vec::new(alloc)))
+}
+
 // A word and a number on a line.
+#[inline(always)]
 fn push_line(out: &mut Vec<u8>, word: &[u8], number: u32) -> Result<(), NoMemory>
+    requires short { length word.now + number_width < line_width }
     ensures { OnOk result (out.new.items ≡ out.old.items ++ ((word.now ++ decimal number) ++ codes "\n")) }
 {
-    push_number(out, word, number)?;
-    push_word(out, b"\n")
+    let mut text = open_line(out)?;
+    put_number(&mut text, word, number);
+    put_word(&mut text, b"\n");
+    *out = text;
+    Ok(())
 }
 
 // The first line.
@@ -171,12 +188,9 @@ fn push_entry_line(out: &mut Vec<u8>, call: Option<u32>, entry: &Entry) -> Resul
     ensures text { OnOk result (out.new.items ≡ out.old.items ++ line (EntryOf call entry.now)) }
     ensures typed { OnOk result (IsTyped entry.now) }
 {
-    out.reserve(LINE_WIDTH)?;
-    // It is taken out until the line is whole, so that its length stays in a register, and is not stored for each byte.
-    let alloc = *out.allocator();
-    let mut line = replace(out, Vec::new(alloc));
-    put_entry_line(&mut line, call, entry);
-    *out = line;
+    let mut text = open_line(out)?;
+    put_entry_line(&mut text, call, entry);
+    *out = text;
     Ok(())
 }
 
