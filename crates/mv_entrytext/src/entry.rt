@@ -155,7 +155,8 @@ fn read_object(strict: bool, text: &[u8]) -> Option<(Object, &[u8])>
     None
 }
 
-// A place, an operation on an event control block, and its reply.
+// A place, an operation on an event control block, and its reply. Most entries of a run are of these, so what reads them is
+// inlined.
 #[inline(always)]
 #[tactic(auto, unfolding(crate::specs::Reading::parted_at, crate::specs::Reading::behind))]
 fn read_ecb_event(strict: bool, text: &[u8]) -> Option<((u32, (EcbOp, EcbReply)), &[u8])>
