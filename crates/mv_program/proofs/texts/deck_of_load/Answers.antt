@@ -1,8 +1,8 @@
 -- A load is short, and has no fault.
 use Rattle.std.proofs.Common.{◌≡◌, ℕ, List, Some, None, length, ap, sym, subst, ◌∙◌, arith}
-use Rattle.mv_deck.specs.declared.fault.DeckFault.{DeckFault}
-use Rattle.mv_deck.specs.declared.fault.DeckRefusal.{DeckRefusal}
-use Rattle.mv_deck.specs.declared.fault.DeckRefusal.TheVariants.{Fault}
+use Rattle.mv_line.specs.declared.fault.TextFault.{TextFault}
+use Rattle.mv_line.specs.declared.fault.TextRefusal.{TextRefusal}
+use Rattle.mv_line.specs.declared.fault.TextRefusal.TheVariants.{Fault}
 use Rattle.mv_deck.specs.Fault.{first_fault, TellsFirst}
 use Rattle.mv_deck.specs.Load.{load_text}
 use Rattle.mv_deck.proofs.LoadBytes.{load_bytes}
@@ -10,7 +10,7 @@ use Rattle.mv_deck.proofs.Loads.{no_fault}
 use Rattle.mv_program.proofs.texts.deck_of_load.Goals as goal
 
 -- of a text without fault none is told
-none_is_told : (text : List ℕ) (n : ℕ) (f : DeckFault) → first_fault text n ≡ None → TellsFirst (Fault f) (first_fault text n) → ⊥
+none_is_told : (text : List ℕ) (n : ℕ) (f : TextFault) → first_fault text n ≡ None → TellsFirst (Fault f) (first_fault text n) → ⊥
 none_is_told text n f none told =
     let both : None ≡ Some f = sym none ∙ told in
     absurd cc
@@ -25,5 +25,5 @@ unreachable-requires c =
     let same : c.deref.result.now ≡ load_text c.args.jobs = c.deref.ensures.value ∙ c.in_ok-text.ensures.text in
     none_is_told (load_text c.args.jobs) n c.in-Err-Fault.field-0-0
     (no_fault c.args.jobs n c.requires.jobs.0 c.requires.jobs.1 c.requires.initiators.1)
-    (subst (λ (r : DeckRefusal). TellsFirst r (first_fault (load_text c.args.jobs) n)) c.in-Err-Fault.field-0-is
+    (subst (λ (r : TextRefusal). TellsFirst r (first_fault (load_text c.args.jobs) n)) c.in-Err-Fault.field-0-is
     (subst (λ (bytes : List ℕ). TellsFirst c.in-Err-Fault.field-0 (first_fault bytes n)) same c.in-Err-Fault.ensures.fault))
