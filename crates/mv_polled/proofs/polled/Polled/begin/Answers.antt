@@ -14,8 +14,10 @@ begin-need-requires-clause-number g c =
 pub begin-need-requires-clause-fresh : goal.begin-need-requires-clause-fresh
 begin-need-requires-clause-fresh g c =
     let p = c.requires.polled in
-    let s = new_stands c.args.station.now (jobs_of c.args.deck.now) c.args.initiators c.requires.spool.config p.0 c.args.self.now p.2
-    c.requires.new in rw (s.0, p.2.fresh.number) p.2.fresh
+    let b = c.args.station.now in
+    let s = new_stands b (jobs_of c.args.deck.now) c.args.initiators c.requires.spool.config p.0 c.args.self.now p.2 c.requires.new in
+    subst (λ (t : CallerFace). IsFresh b t.number t) (sym s.0)
+    (subst (λ m. IsFresh b m p.2.new) (sym p.2.fresh.number) p.2.fresh)
 
 pub begin-need-requires-clause-new : goal.begin-need-requires-clause-new
 begin-need-requires-clause-new g c =
