@@ -14,6 +14,7 @@ use Rattle.mv_plan.proofs.points.Points.{stage_at, found_at, settling_from, armi
 use Rattle.mv_plan.proofs.points.Points.{end_found, lowest_at, writer_goes}
 use Rattle.mv_plan.proofs.points.PostsAndWaits.{on_armed_keeps, on_settled_keeps, lowest_keeps}
 use Rattle.std.proofs.lemmas.Grind.{common_steps}
+use Rattle.std.proofs.Common.{rules}
 
 -- ---- the reader: one event for each job
 
@@ -143,13 +144,7 @@ module _ (n initiators : ℕ) where
   pub scheduler_pays : (x : SchedulerAt) (r : Reply) → suc (scheduler_rest (scheduler_goes n initiators x r)) ≤ scheduler_rest (At x)
   scheduler_pays (Waits a (Arming e todo)) r = grind (arith, common_steps, on_armed_keeps, initiators, arming_rest)
   scheduler_pays (Waits a (Settling e todo found)) r = grind (arith, common_steps, on_settled_keeps, settling_rest)
-  scheduler_pays (Extends j job jobs skipped) (reply_of.Ecb ecb_reply.Armed) =
-      let le : scheduler_rest (arming_first (ForIdle j job jobs skipped) (awaited_blocks n initiators (ForIdle j job jobs skipped)))
-      ≤ length (awaited_blocks n initiators (ForIdle j job jobs skipped))
-      + (initiators + behind_wait (ForIdle j job jobs skipped)) =
-      first_rest (ForIdle j job jobs skipped) (awaited_blocks n initiators (ForIdle j job jobs skipped)) in
-      let e : length (awaited_blocks n initiators (ForIdle j job jobs skipped)) ≡ initiators = blocks (ForIdle j job jobs skipped) in
-      omega arith
+  scheduler_pays (Extends j job jobs skipped) (reply_of.Ecb ecb_reply.Armed) = search (rules, ForIdle, initiators, first_rest, blocks)
   scheduler_pays (Clears i g code after) (reply_of.Ecb (ecb_reply.Word w)) = omega arith
   scheduler_pays (Releases i g code after) (reply_of.Element element_reply.Early) = grind (arith, common_steps)
   scheduler_pays (Releases i g code after) (reply_of.Element element_reply.Woke) = grind (arith, common_steps)

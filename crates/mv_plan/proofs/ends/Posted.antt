@@ -36,6 +36,7 @@ use Rattle.mv_plan.proofs.lists.Tables.{all_but}
 use Rattle.mv_plan.proofs.points.Lands.{rounds_land, ended_lands}
 use Rattle.mv_plan.proofs.ends.RightCodes.{starts_held}
 use Rattle.std.proofs.lemmas.Grind.{common_steps}
+use Rattle.std.proofs.Common.{rules}
 
 -- how many of the done blocks the scheduler has extended at a point
 abbrev pub extended_at : ℕ → SchedulerAt → ℕ
@@ -172,9 +173,7 @@ module _ (deck : List JobData) (initiators : ℕ) where
 
     others_end : (j b : ℕ) → j < length deck → HasEnd (length deck) j b → (q.1.place j ≡ Run i → ⊥) → NotComplete s b
         → NotComplete i_after b
-    others_end j b below has other free =
-        not_moved s (initiator i) asks.0 asks.1 b free
-        (λ code o op. other (own_end_posted j b code below has o op))
+    others_end j b below has other free = search (rules, not_moved, own_end_posted)
 
     still : (b : ℕ) → IsComplete s b → IsComplete i_after b
     still b w = grind (arith, common_steps)
@@ -332,9 +331,7 @@ module _ (deck : List JobData) (initiators : ℕ) where
     quiet_still j b below has w = is_moved s k o op b w (no_clear j b below has)
 
     quiet_stage : (p : Point InitiatorAt) → IsInitiatorAt deck p → EndStage (length deck) s p → EndStage (length deck) (moved s k o op) p
-    quiet_stage p at = stage_stays (length deck) s (moved s k o op) p
-        (λ run e b has. let job : run.job < length deck = run_below deck p run at e in
-        (quiet_free run.job b job has, quiet_still run.job b job has))
+    quiet_stage p at = search (rules, stage_stays, k, op, run_below, quiet_free, quiet_still)
 
     quiet_was : (j b : ℕ) → j < length deck → HasEnd (length deck) j b → IsComplete (moved s k o op) b → IsComplete s b
     quiet_was j b below has w = elim (complete_moved s k o op b w.0 w.1) [
@@ -519,11 +516,7 @@ module _ (deck : List JobData) (initiators : ℕ) where
 
   pub posted_keeps : (c : Setup) → length deck ≤ not_to_run
       → KeepsUnder (HasPlaces deck initiators) (HasPosted deck initiators) c deck initiators
-  posted_keeps c few = by_moves (HasPlaces deck initiators) (HasPosted deck initiators) c deck initiators
-      (λ s t past x p r at n q h. reader_posted c s t past x p r at q h)
-      (λ s t past x p r at n q h. scheduler_posted few s t past x r at q h)
-      (λ s t past i x p r lt at n q h. initiator_posted c s t past i x p r lt at n q h)
-      (λ s t past x p r at n q h. writer_posted s t past x _ _ at q h)
+  posted_keeps c few = search (rules, by_moves, initiators, reader_posted, scheduler_posted, initiator_posted, writer_posted)
 
   stage_first : (c : Setup) (jobs : List JobData) → IsSplit (length deck) (opening c) 0 → length jobs ≡ length deck
       → DoneBlocks (length deck) (opening c) (stage_at (length deck) initiators (Dispatching 0 jobs))

@@ -21,6 +21,7 @@ use Rattle.mv_plan.proofs.points.Points.{EndingJob, EndingForScheduler, EndingFo
 use Rattle.mv_plan.proofs.points.Points.{job_start, given_at, counting_at, InJob}
 use Rattle.mv_plan.proofs.lists.Lists.{all_map, all_join}
 use Rattle.mv_plan.proofs.points.Lands.{freeing_lands, given_lands, counting_lands}
+use Rattle.std.proofs.Common.{rules}
 
 -- What an initiator's point says of its requests: nothing, where its program has ended too soon or gone astray; that there are
 -- none; or that its job holds these latches and asks for these as well.
@@ -268,11 +269,7 @@ module _ (k place job latch id : ℕ) (lists : List (List Request)) (held : List
 -- a purge takes out all of the job's
 pub purge_owns : (k place job : ℕ) (lists : List (List Request)) (held : List Grant) → Owns lists k job held []
     → HasNone (latch_step k place (latch_op.Purge (job + 1)) lists).0 k
-purge_owns k place job lists held w = λ latch.
-    ap (mine k) (purged_list (job + 1) lists latch) ∙ mine_purged k (job + 1) (list_of lists latch)
-    ∙ ap (λ z. filter (λ q. not (of_requestor (job + 1) q)) z) (listed_plain lists k job held w latch)
-    ∙ filter_none (λ q. not (of_requestor (job + 1) q)) (asked k job latch held)
-    (all_map (λ q e. ap not (eq-eqb q.requestor (job + 1) e.1)) (asked k job latch held) (asked_of k job latch held))
+purge_owns k place job lists held w = search (rules, mine, purged_list, mine_purged, listed_plain, filter_none, all_map, eq-eqb, asked_of)
 
 -- ---- the initiator's next point
 

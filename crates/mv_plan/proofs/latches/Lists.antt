@@ -16,6 +16,7 @@ use Rattle.mv_latch.proofs.Holders.{granted_at_end}
 use Rattle.mv_latch.proofs.Splits.{granted_split}
 use Rattle.mv_plan.proofs.latches.Asked.{filter_swap, filter_all, filter_passes}
 use Rattle.mv_plan.proofs.lists.Lists.{all_map}
+use Rattle.std.proofs.Common.{rules}
 
 -- ---- the lists after an event
 
@@ -36,9 +37,7 @@ obtain_is r qs e = go (grants qs r) (queues r.form) e where
 pub obtained_list : (k place latch requestor : ℕ) (mode : Mode) (lists : List (List Request)) → latch < length lists
     → list_of (latch_step k place (latch_op.Obtain latch requestor mode form_of.Waiting) lists).0 latch
     ≡ list_of lists latch ++ new_request k place requestor mode ∷ []
-obtained_list k place latch requestor mode lists lt =
-    list_replaced lists latch (obtain_step (new_request k place requestor mode) (list_of lists latch)).0 lt
-    ∙ ap (λ z. z.0) (obtain_is (new_request k place requestor mode) (list_of lists latch) refl)
+obtained_list k place latch requestor mode lists lt = search (rules, list_replaced, obtain_is)
 
 pub obtained_elsewhere : (k place latch requestor other : ℕ) (mode : Mode) (lists : List (List Request)) → (other ≡ latch → ⊥)
     → list_of (latch_step k place (latch_op.Obtain latch requestor mode form_of.Waiting) lists).0 other ≡ list_of lists other
@@ -62,12 +61,7 @@ granted_new r qs e = subst (λ z. Contains z r) (sym (granted_at_end qs r e))
 pub released_list : (k place latch id : ℕ) (lists : List (List Request)) → latch < length lists
     → list_any (is_own k id) (list_of lists latch) ≡ true
     → list_of (latch_step k place (latch_op.Release latch id false) lists).0 latch ≡ without k id (list_of lists latch)
-released_list k place latch id lists lt e =
-    list_replaced lists latch (release_step k id false (list_of lists latch)).0 lt
-    ∙ ap (λ b. (cond {A = List Request × LatchReply} (not b) (list_of lists latch, latch_reply.Gone) (
-      without k id (list_of lists latch),
-      latch_reply.Released (length (newly_granted (list_of lists latch) (without k id (list_of lists latch)))),
-    )).0) e
+released_list k place latch id lists lt e = search (rules, list_replaced)
 
 pub released_elsewhere : (k place latch id other : ℕ) (lists : List (List Request)) → (other ≡ latch → ⊥)
     → list_of (latch_step k place (latch_op.Release latch id false) lists).0 other ≡ list_of lists other
@@ -94,12 +88,7 @@ purged_list requestor (qs ∷ lists) (suc latch) = purged_list requestor lists l
 
 pub confirm_granted : (k id same : ℕ) (qs : List Request) → confirm_reply k id qs ≡ latch_reply.Granted same
     → list_any (is_own k id) (granted qs) ≡ true
-confirm_granted k id same qs = go (list_any (is_own k id) (granted qs)) (list_any (is_own k id) qs) where
-  go : (b d : Bool) → cond b (latch_reply.Granted id) (cond d latch_reply.Waiting latch_reply.Gone) ≡ latch_reply.Granted same
-      → b ≡ true
-  go true d q = refl
-  go false true q = absurd (cc q)
-  go false false q = absurd (cc q)
+confirm_granted k id same qs = search rules
 
 -- ---- one caller's requests in a list
 
@@ -123,9 +112,7 @@ other_own k j id q n e = go (q.id == id) (q.caller == j) refl where
   go false d f = refl
 
 pub mine_other_without : (k j id : ℕ) (qs : List Request) → (k ≡ j → ⊥) → mine k (without j id qs) ≡ mine k qs
-mine_other_without k j id qs n = filter_swap (of_caller k) (λ q. not (is_own j id q)) qs
-    ∙ filter_all (λ q. not (is_own j id q)) (mine k qs)
-    (all_map (λ q e. other_own k j id q n e) (mine k qs) (filter_passes (of_caller k) qs))
+mine_other_without k j id qs n = search (rules, filter_swap, filter_all, mine, all_map, other_own, filter_passes)
 
 pub mine_purged : (k requestor : ℕ) (qs : List Request)
     → mine k (purged requestor qs) ≡ filter (λ q. not (of_requestor requestor q)) (mine k qs)
@@ -177,9 +164,7 @@ mine_kept k j place (latch_op.Release at id conditional) lists n lt sp latch = e
   here = either_same k qs (not (list_any (is_own j id) qs)) (qs, latch_reply.Gone) _ refl
       (either_same k qs (conditional && not (list_any (is_own j id) (granted qs))) (qs, latch_reply.Waiting)
       (without j id qs, latch_reply.Released (length (newly_granted qs (without j id qs)))) refl (mine_other_without k j id qs n))
-mine_kept k j place (latch_op.Purge requestor) lists n lt sp latch =
-    ap (mine k) (purged_list requestor lists latch) ∙ mine_purged k requestor (list_of lists latch)
-    ∙ filter_all (λ q. not (of_requestor requestor q)) (mine k (list_of lists latch)) (sp latch)
+mine_kept k j place (latch_op.Purge requestor) lists n lt sp latch = search (rules, mine, purged_list, mine_purged, filter_all)
 
 -- ---- what is so of all requests
 
@@ -214,14 +199,5 @@ all_asked P k place (latch_op.Obtain at requestor mode form) lists lt f a =
       more : AllByRecursion P (list_of lists at ++ r ∷ [])
       more = all_append P (list_of lists at) (r ∷ []) (a at) (f r refl, tt)
 all_asked P k place (latch_op.Confirm at id) lists lt f a = a
-all_asked P k place (latch_op.Release at id conditional) lists lt f a =
-    set_all P lists at (release_step k id conditional (list_of lists at)).0 lt a
-    (either_all P (not (list_any (is_own k id) qs)) (qs, latch_reply.Gone) _ (a at)
-    (either_all P (conditional && not (list_any (is_own k id) (granted qs))) (qs, latch_reply.Waiting)
-    (without k id qs, latch_reply.Released (length (newly_granted qs (without k id qs)))) (a at)
-    (all_filter P (λ q. not (is_own k id q)) qs (a at)))) where
-      qs : List Request
-      qs = list_of lists at
-all_asked P k place (latch_op.Purge requestor) lists lt f a = λ latch.
-    subst (AllByRecursion P) (sym (purged_list requestor lists latch))
-    (all_filter P (λ q. not (of_requestor requestor q)) (list_of lists latch) (a latch))
+all_asked P k place (latch_op.Release at id conditional) lists lt f a = search (rules, set_all, either_all, all_filter)
+all_asked P k place (latch_op.Purge requestor) lists lt f a = search (rules, purged_list, all_filter)

@@ -1,15 +1,14 @@
 -- What an initiator's event does to what it runs and has run, and to the code in its element. Used by the ledger.
 use Rattle.mv_plan.proofs.Words.{◌≡◌, ℕ, zero, suc, ◌+◌, ◌<◌, List, [], ◌∷◌, ◌++◌, length, Option, Some, None, inl, inr, refl, sym, ap, ◌∙◌}
-use Rattle.mv_plan.proofs.Words.{subst, eq-eqb, ecb_step, ElementState, element_step, Object, Element, Op, Reply, System, moved, reply_to}
-use Rattle.mv_plan.proofs.Words.{with_at, advanced, gift_code, JobData, job_at, initiator, idle, Named, code_of}
-use Rattle.mv_ecb.specs.declared.operation.EcbOp.TheVariants as ecb_op
+use Rattle.mv_plan.proofs.Words.{subst, eq-eqb, ElementState, element_step, Object, Element, Op, Reply, System, moved, reply_to}
+use Rattle.mv_plan.proofs.Words.{with_at, advanced, gift_code, JobData, job_at, initiator, Named, code_of}
 use Rattle.mv_element.specs.declared.operation.ElementOp.TheVariants as element_op
 use Rattle.mv_machine.specs.declared.entry.Reply.TheVariants as reply_of
 use Rattle.mv_plan.proofs.standing.Row.{Starts, Works, Offers, Parks, offered, taken, handed, Row, RowAt, element_of}
 use Rattle.mv_plan.proofs.points.InitiatorSound.{IsInitiatorAt, named_is}
 use Rattle.mv_plan.proofs.points.PostsAndWaits.{on_posted_keeps}
 use Rattle.mv_plan.proofs.points.Points.{Point, At, SchedulerAt, Running, InitiatorAt, Opening, Offering, Pausing, Resuming, Closing}
-use Rattle.mv_plan.proofs.points.Points.{initiator_asks, initiator_goes, rounds_from, rounds_after, given_at, running, on_posted, on_opened}
+use Rattle.mv_plan.proofs.points.Points.{initiator_asks, initiator_goes, rounds_from, rounds_after, given_at, running, on_opened}
 use Rattle.mv_plan.proofs.points.Points.{on_paused, on_resumed, on_closed, InJob}
 use Rattle.mv_plan.proofs.points.RunningJob.{RunsOn, start_run, GoesOn, same, done, lost, run_goes, run_asks, run_sound}
 use Rattle.mv_plan.proofs.walks.NoneLost.{SameTalk, same_talk}
@@ -17,6 +16,7 @@ use Rattle.mv_plan.proofs.lists.Tables.{with_at-same}
 use Rattle.mv_plan.proofs.points.Views.{code_held, run_of, named_before, IsNotLost}
 use Rattle.mv_plan.proofs.points.Asks.{Elsewhere, no_gift, IsNoPause}
 use Rattle.mv_plan.proofs.points.Lands.{given_lands}
+use Rattle.std.proofs.Common.{rules}
 
 -- From one point to another, with the code in the element before and after it.
 pub data Deed (n : ℕ) (p q : Point InitiatorAt) (h h' : Option ℕ) (r : Reply) : Type 0 where
@@ -81,9 +81,7 @@ module _ (deck : List JobData) (o h : Option ℕ) where
   opened_did : (y : ElementState) (r : Reply) → r ≡ reply_of.Element (element_step element_op.Open y).1 → Row Starts o h y
       → IsNotLost (on_opened r (length deck))
       → Deed (length deck) (At Opening) (on_opened r (length deck)) (code_held y) (code_held (element_step element_op.Open y).0) r
-  opened_did y r e w = rw (e, w.2)
-      (λ f. let t : (run_of (rounds_from (length deck + 1) [] 0) ≡ None)
-      × (named_before (rounds_from (length deck + 1) [] 0) ≡ []) = rounds_found (length deck + 1) [] 0 f in went_on t.0 t.1 refl refl)
+  opened_did y r e w = search (rules, rounds_found, went_on)
 
   paused_did : (more : ℕ) (before : List ℕ) (g : ℕ) (y : ElementState) (r : Reply)
       → r ≡ reply_of.Element (element_step (element_op.Pause g) y).1 → Row (Offers g) o h y → IsNotLost (on_paused deck more before g r)
@@ -152,12 +150,7 @@ module _ (deck : List JobData) (s : System) (q : Point SchedulerAt) (i : ℕ) wh
       → Some r ≡ reply_to s (initiator i) (initiator_asks n i x).0 (initiator_asks n i x).1 → RowAt n s q i (At x)
       → IsNotLost (initiator_goes deck x r) → DidAt x r
   initiator_did Opening r sound a w f = on_element _ _ r _ (opened_did deck _ _ (element_of s i) r (cc a) w f)
-  initiator_did (Offering more before g) r sound a w f =
-      let to : on_posted (At (Pausing more before g)) r ≡ At (Pausing more before g) =
-      on_posted_keeps (λ z. IsNotLost z → z ≡ At (Pausing more before g)) (At (Pausing more before g)) r (λ g. refl)
-      (λ g. absurd g) f in
-      let is : r ≡ reply_of.Ecb (ecb_step (ecb_op.Post g) (s.ecb (idle n i)).state).1 = cc a in
-      went_on (ap (λ z. run_of z) to) (ap (λ z. named_before z) to) refl (ap (λ z. gift_code z) is)
+  initiator_did (Offering more before g) r sound a w f = search (rules, At, Pausing, on_posted_keeps, went_on)
   initiator_did (Pausing more before g) r sound a w f =
       on_element _ _ r _ (paused_did deck _ _ more before g (element_of s i) r (cc a) w f)
   initiator_did (Resuming more before g) r sound a w f =

@@ -5,7 +5,7 @@ use Rattle.mv_plan.proofs.Words.{lt-ltb, Wake, Mode, Latches, Reply, Setup, JobD
 use Rattle.mv_plan.proofs.Words.{Print, Use, Count, Scan, job_at, Kept, nothing_kept, obtained, token_of, pause, deallocate, Woke}
 use Rattle.mv_plan.proofs.Words.{each_posted, posted_next, post_within, wake_posted, Program, Do, Done, Heard, asks, heard, and_then}
 use Rattle.mv_plan.proofs.Words.{going_on, unrefused, accepted, followed, finished, unless_refused, on_latch, end_for_scheduler}
-use Rattle.mv_plan.proofs.Words.{end_for_writer, idle, initiator, Named, job_named, named_by, run_job, granted_as, rounds, refused_if}
+use Rattle.mv_plan.proofs.Words.{end_for_writer, initiator, Named, job_named, named_by, run_job, granted_as, rounds, refused_if}
 use Rattle.mv_deck.specs.declared.deck.Step.TheVariants.{Free}
 use Rattle.mv_calls.specs.LatchCalls.{obtain_refusal}
 use Rattle.mv_calls.specs.Pauses.{gift_of, allocate}
@@ -38,6 +38,7 @@ use Rattle.mv_plan.proofs.points.InitiatorSound.{IsRound, IsStepping, InitiatorK
 use Rattle.mv_plan.proofs.points.InitiatorSound.{left_next, job_sound, obtained_stand, pushed_kept, freed_stand, freed_kept}
 use Rattle.mv_plan.proofs.deck.Setup.{Facts}
 use Rattle.std.proofs.lemmas.Grind.{common_steps}
+use Rattle.std.proofs.Common.{rules}
 
 pub initiator_says : (c : Setup) (deck : List JobData) (i : ℕ) (kept : Kept) (x : InitiatorAt)
     → asks (initiator_program c deck i kept x) ≡ Some (initiator_asks (length deck) i x)
@@ -80,9 +81,7 @@ module _ (c : Setup) (deck : List JobData) (initiators i : ℕ) (facts : Facts c
   rounds_enter : (more : ℕ) (before : List ℕ) (g : ℕ) (kept : Kept)
       → rounds_rest c deck i more before g kept ≡ program_at (initiator_program c deck i kept) (rounds_from more before g)
   rounds_enter zero before g kept = refl
-  rounds_enter (suc more) before g kept =
-      ap (λ p. going_on kept p (λ posted. accepted (pause c (token_of (initiator i) g)) (given_rest c deck i more before)))
-      (post_is_now c (idle (length deck) i) g kept some_blocks)
+  rounds_enter (suc more) before g kept = search (rules, post_is_now, some_blocks)
 
   rounds_after_enter : (run : Running) (kept : Kept)
       → rounds_rest c deck i run.more (run.before ++ run.job ∷ []) run.generation kept ≡ program_at (initiator_program c deck i kept)

@@ -21,6 +21,7 @@ use Rattle.mv_plan.proofs.points.PostsAndWaits.{on_posted_keeps}
 use Rattle.mv_plan.proofs.points.ReaderAndWriter.{keeps}
 use Rattle.mv_plan.proofs.points.Lands.{rounds_land, given_lands, ended_lands}
 use Rattle.std.proofs.lemmas.Grind.{common_steps}
+use Rattle.std.proofs.Common.{rules}
 
 -- ---- rounds
 
@@ -381,8 +382,7 @@ initiator_stands deck i kept (Pausing more before g) (reply_of.Element element_r
 initiator_stands deck i kept (Resuming more before g) (reply_of.Element (element_reply.Given code now)) sound s =
     given_stands deck i sound _ more before code now s.0 (record { caller = s.1.caller; stand = s.1.stand })
 initiator_stands deck i kept (InJob run (Obtaining hand latch mode steps)) (reply_of.Latch (latch_reply.Granted id)) sound s =
-    steps_stand deck i sound _ run (hand_with hand latch mode id) steps (obtained_stand deck run hand latch mode id steps s.0)
-    (pushed_kept i kept run hand latch mode id s.1 refl refl)
+    search (rules, steps_stand, obtained_stand, pushed_kept)
 initiator_stands deck i kept (InJob run (Obtaining hand latch mode steps)) (reply_of.Latch (latch_reply.Queued id)) sound s =
     (s.0, pushed_kept i kept run hand latch mode id s.1 refl refl)
 initiator_stands deck i kept (InJob run (Confirming hand latch mode id steps)) (reply_of.Latch (latch_reply.Granted same)) sound s =

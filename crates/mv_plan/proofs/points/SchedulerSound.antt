@@ -3,7 +3,7 @@
 use Rattle.mv_plan.proofs.Words.{◌≡◌, ℕ, suc, ◌+◌, ◌<◌, ◌≤◌, Bool, true, List, [], ◌∷◌}
 use Rattle.mv_plan.proofs.Words.{◌++◌, length, Option, Some, None, ◌⊎◌, refl, sym, ap, ◌∙◌, subst, append-nil, append_assoc}
 use Rattle.mv_plan.proofs.Words.{zero-add, arith, cases_eq, length-append, length-map-range_with_len, Reply, with_at}
-use Rattle.mv_plan.proofs.Words.{JobData, After, Step, Kept, idle, code_of}
+use Rattle.mv_plan.proofs.Words.{JobData, After, Step, Kept, code_of}
 use Rattle.mv_plan.specs.SpoolSetup.{done}
 use Rattle.mv_ecb.specs.declared.operation.EcbReply.TheVariants as ecb_reply
 use Rattle.mv_element.specs.declared.operation.ElementReply.TheVariants as element_reply
@@ -16,6 +16,7 @@ use Rattle.mv_plan.proofs.points.Points.{ends_at, stage_at, lowest_at}
 use Rattle.mv_plan.proofs.points.PostsAndWaits.{on_armed_keeps, on_settled_keeps}
 use Rattle.mv_plan.proofs.points.ReaderAndWriter.{keeps}
 use Rattle.std.proofs.lemmas.Grind.{common_steps}
+use Rattle.std.proofs.Common.{rules}
 
 -- the deck's jobs from number j on
 pub record IsRest (deck : List JobData) (j : ℕ) (jobs : List JobData) : Type 0 where
@@ -132,10 +133,7 @@ module _ (deck : List JobData) (initiators : ℕ) (kept : Kept) where
   found_stands (ForEntry j job jobs) found r k le =
       lowest_stands _ 0 (length found) found (omega arith) (λ i code lt. ends_stands j job.name job.after job.steps jobs r k)
   found_stands (ForEnds j job jobs) found r k le = (r, k)
-  found_stands (ForIdle j job jobs skipped) found r k le = lowest_stands _ 0 initiators found
-      (let l : length (awaited_blocks (length deck) initiators (ForIdle j job jobs skipped)) ≡ initiators = length-map-range_with_len
-      (idle (length deck)) 0 initiators in omega arith)
-      (λ i g lt. ((lt, rest_next deck j job jobs r, (j, skipped, refl, refl)), k))
+  found_stands (ForIdle j job jobs skipped) found r k le = search (rules, lowest_stands, initiators, length-map-range_with_len, rest_next)
   found_stands (ToDismiss i more) found e k le =
       lowest_stands _ 0 (length found) found (omega arith) (λ p g lt. ((omega arith, omega arith, (refl, refl)), k))
 

@@ -1,5 +1,5 @@
 -- Each run hands out each job once, with its code: specs/HandingOut.
-use Rattle.mv_plan.proofs.Words.{◌≡◌, ℕ, ◌<◌, ◌≤◌, ◌==◌, List, [], ◌∷◌, length, ap, ◌∙◌, ◌||◌, Bool, true, false, if◌then◌else◌, Option}
+use Rattle.mv_plan.proofs.Words.{◌≡◌, ℕ, ◌<◌, ◌≤◌, ◌==◌, List, [], ◌∷◌, length, ap, ◌∙◌, Bool, true, Option}
 use Rattle.mv_plan.proofs.Words.{Some, None, refl, sym, subst, Entry, opening, System, admitted, AreHandedOut, release_code, naming}
 use Rattle.mv_plan.proofs.Words.{released_codes, JobData, end_of, not_run, IsRun, spool_setup, code_of, AllByRecursion, false≢true}
 use Rattle.mv_plan.proofs.Words.{ElementOp, Object, Element, Op, next, Setup}
@@ -12,6 +12,7 @@ use Rattle.mv_plan.proofs.ends.Traces.{HasRightMark}
 use Rattle.mv_plan.proofs.volumes.GivenCodes.{with_code}
 use Rattle.mv_element.specs.declared.operation.ElementOp.TheVariants as element_op
 use Rattle.mv_machine.specs.declared.entry.Op.TheVariants as op_on
+use Rattle.std.proofs.Common.{rules}
 
 -- an element's operation is made on an element
 on_element : (c : Setup) (s : System) (k : ℕ) (o : Object) (op : ElementOp) → admitted c s k o (op_on.Element op) ≡ true
@@ -28,10 +29,7 @@ released-step j e es = go (naming j (release_code e.op)) refl where
 
 naming_same : (j : ℕ) (slot : Option ℕ) (code : ℕ) → naming j slot ≡ Some code → slot ≡ Some code
 naming_same j None code e = absurd (cc e)
-naming_same j (Some d) code e = go ((d == code_of j false) || (d == code_of j true)) e where
-  go : (b : Bool) → (if b then Some d else None) ≡ Some code → Some d ≡ Some code
-  go true q = q
-  go false q = absurd (cc q)
+naming_same j (Some d) code e = search rules
 
 release_is : (op : Op) (code : ℕ) → release_code op ≡ Some code → (g : ℕ) × (op ≡ op_on.Element (element_op.Release g code))
 release_is (op_on.Element (element_op.Release g d)) code e =

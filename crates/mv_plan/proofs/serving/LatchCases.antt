@@ -21,6 +21,7 @@ use Rattle.mv_plan.proofs.points.Points.{Point, At, Astray, Running, Hand, hand_
 use Rattle.mv_plan.proofs.points.Points.{Freeing, Reading, Writing, Scanning, Rescanning, initiator_goes, freeing_at, steps_at, InJob}
 use Rattle.mv_plan.proofs.volumes.Dues.{NextAt}
 use Rattle.mv_plan.proofs.points.Views.{IsOfRounds}
+use Rattle.std.proofs.Common.{rules}
 
 abbrev pub IsWell : Point InitiatorAt → Type 0
 IsWell p = p ≡ Astray → ⊥
@@ -99,9 +100,7 @@ module _ (c : Setup) (s : System) (deck : List JobData) (i : ℕ) where
       subst (λ y. IsWell (initiator_goes deck (InJob run (Writing hand volume amount number steps)) y))
       (sym (volume_says volume p (volume_op.Write (number + amount)) r h))
       (steps_well run hand steps a.holds a.sound.4)
-  serves (InJob run (Scanning hand volume steps)) p r on h a w small =
-      subst (λ y. IsWell (initiator_goes deck (InJob run (Scanning hand volume steps)) y)) (sym (volume_says volume p volume_op.Read r h))
-      (λ e. absurd (cc e))
+  serves (InJob run (Scanning hand volume steps)) p r on h a w small = search (rules, volume_says)
   serves (InJob run (Rescanning hand volume number steps)) p r on h a w small =
       subst (λ y. IsWell (initiator_goes deck (InJob run (Rescanning hand volume number steps)) y))
       (sym (volume_says volume p volume_op.Read r h))

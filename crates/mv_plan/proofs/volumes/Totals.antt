@@ -10,6 +10,7 @@ use Rattle.mv_report.specs.Outcome as outcome
 use Rattle.mv_plan.proofs.volumes.GivenCodes.{codes_of, count_of, full, adds_all, adds_by_jobs}
 use Rattle.mv_plan.proofs.volumes.Sums.{sum_to, sum_ext, sum_front, times}
 use Rattle.std.proofs.lemmas.Grind.{common_steps}
+use Rattle.std.proofs.Common.{rules}
 
 -- ---- all codes, and those that name one job
 
@@ -29,12 +30,7 @@ codes_differ j e = absurd (omega arith)
 -- how often a job was named
 pub named_few : (j : ℕ) (es : List Entry)
     → count_of (code_of j false) (codes_of es) + count_of (code_of j true) (codes_of es) ≤ length (given_codes j es)
-named_few j es =
-    let a : count_of (code_of j false) (codes_of es) ≡ count_of (code_of j false) (given_codes j es) = count_named j false es in
-    let b : count_of (code_of j true) (codes_of es) ≡ count_of (code_of j true) (given_codes j es) = count_named j true es in
-    let d : count_of (code_of j false) (given_codes j es) + count_of (code_of j true) (given_codes j es) ≤ length (given_codes j es) =
-    count_two (code_of j false) (code_of j true) (given_codes j es) (codes_differ j) in
-    omega arith
+named_few j es = search (rules, count_named, count_two, codes_differ)
 
 count_self : (n : ℕ) → count_of n (n ∷ []) ≡ 1
 count_self n = rw (eq-eqb n n refl) refl

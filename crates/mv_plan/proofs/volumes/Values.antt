@@ -1,5 +1,5 @@
 -- What volumes hold between the two events of a COUNT or SCAN: the number that was read.
-use Rattle.mv_plan.proofs.Words.{◌≡◌, ℕ, zero, suc, ◌+◌, ◌<◌, Bool, true, false, List, [], ◌∷◌, length, Option, Some, inl, inr, refl, sym}
+use Rattle.mv_plan.proofs.Words.{◌≡◌, ℕ, zero, suc, ◌+◌, ◌<◌, Bool, true, false, List, [], ◌∷◌, length, Option, Some, refl, sym}
 use Rattle.mv_plan.proofs.Words.{ap, ◌∙◌, subst, cases_eq, Entry, Object, Ecb, Element, Volume, Latches, Op, Reply, IsNext, next, Setup}
 use Rattle.mv_plan.proofs.Words.{Cell, System, moved, with_at, advanced, JobData, Step, Print, job_at, initiator}
 use Rattle.mv_deck.specs.declared.deck.Step.TheVariants.{Free}
@@ -24,6 +24,7 @@ use Rattle.mv_plan.proofs.walks.Walks.{Points, Move, reads, schedules, initiates
 use Rattle.mv_plan.proofs.lists.Tables.{with_at-same, with_at-other, all_but}
 use Rattle.mv_plan.proofs.points.Asks.{IsSignal, reader_signals, scheduler_signals, writer_signals}
 use Rattle.mv_plan.proofs.points.Lands.{freeing_lands, given_lands, counting_lands, ended_lands}
+use Rattle.std.proofs.Common.{rules}
 
 -- ---- events elsewhere
 
@@ -41,11 +42,7 @@ Numbers = ℕ → Cell ℕ
 
 -- a read leaves each number
 pub read_keeps : (f : Numbers) (v w : ℕ) → (with_at f v (advanced (f v) (f v).state) w).state ≡ (f w).state
-read_keeps f v w = elim (cases_eq v w) [
-  | inl e ↦ subst (λ z. (with_at f v (advanced (f v) (f v).state) z).state ≡ (f z).state) e
-      (ap (λ z. z.state) (with_at-same f v (advanced (f v) (f v).state)))
-  | inr n ↦ ap (λ z. z.state) (with_at-other f v w (advanced (f v) (f v).state) n)
-]
+read_keeps f v w = search (rules, cases_eq, with_at-same, with_at-other)
 
 pub write_other : (f : Numbers) (v w number : ℕ) → (v ≡ w → ⊥) → (with_at f v (advanced (f v) number) w).state ≡ (f w).state
 write_other f v w number n = ap (λ z. z.state) (with_at-other f v w (advanced (f v) number) n)
@@ -78,9 +75,7 @@ value_write : (f : Numbers) (v number : ℕ) (p : Point InitiatorAt) → (touche
     → ValueAt (with_at f v (advanced (f v) number)) p
 value_write f v new (At (InJob run (Writing hand volume amount number steps))) n w =
     write_other f v volume new (λ e. n (ap (λ z. Some z) (sym e))) ∙ w
-value_write f v new (At (InJob run (Rescanning hand volume number steps))) n w =
-    write_other f v volume new (λ e. n (ap (λ z. Some z) (sym e)))
-    ∙ w
+value_write f v new (At (InJob run (Rescanning hand volume number steps))) n w = search (rules, write_other)
 value_write f v new p n w = tt
 
 -- ---- who leads to such a point
@@ -131,9 +126,7 @@ leads deck (InJob run (Obtaining hand latch mode steps)) (reply_of.Latch (latch_
 leads deck (InJob run (Confirming hand latch mode id steps)) (reply_of.Latch (latch_reply.Granted same)) =
     plain _ _ _ (plain_steps run _ steps)
 leads deck (InJob run (Freeing hand latch id steps)) (reply_of.Latch (latch_reply.Released count)) = plain _ _ _ (plain_steps run _ steps)
-leads deck (InJob run (Reading hand volume amount steps)) (reply_of.Volume (volume_reply.Value number)) =
-    counting_lands (LeadsTo (InJob run (Reading hand volume amount steps)) (reply_of.Volume (volume_reply.Value number))) tt
-    run hand volume amount steps number (refl, refl)
+leads deck (InJob run (Reading hand volume amount steps)) (reply_of.Volume (volume_reply.Value number)) = search (rules, counting_lands)
 leads deck (InJob run (Writing hand volume amount number steps)) (reply_of.Volume volume_reply.Stored) =
     plain _ _ _ (plain_steps run hand steps)
 leads deck (InJob run (Scanning hand volume steps)) (reply_of.Volume (volume_reply.Value number)) = (refl, refl)
@@ -161,16 +154,8 @@ module _ (c : Setup) (s : System) (deck : List JobData) (i : ℕ) where
   -- a read keeps the number that it tells
   value_led : (x : InitiatorAt) (p : ℕ) (r : Reply) → IsNextAt x p r → (q : Point InitiatorAt) → LeadsTo x r q
       → ValueAt (volumes_asked x) q
-  value_led x p r h (At (InJob run (Writing hand volume amount number steps))) w =
-      subst (λ y. ValueAt (volumes_asked y) (At (InJob run (Writing hand volume amount number steps)))) (sym w.0)
-      (read_keeps s.volume volume volume
-      ∙ value_is c s (initiator i) volume p number
-      (subst (λ y. IsNextAt y p (reply_of.Volume (volume_reply.Value number))) w.0 (subst (IsNextAt x p) w.1 h)))
-  value_led x p r h (At (InJob run (Rescanning hand volume number steps))) w =
-      subst (λ y. ValueAt (volumes_asked y) (At (InJob run (Rescanning hand volume number steps)))) (sym w.0)
-      (read_keeps s.volume volume volume
-      ∙ value_is c s (initiator i) volume p number
-      (subst (λ y. IsNextAt y p (reply_of.Volume (volume_reply.Value number))) w.0 (subst (IsNextAt x p) w.1 h)))
+  value_led x p r h (At (InJob run (Writing hand volume amount number steps))) w = search (rules, read_keeps, value_is)
+  value_led x p r h (At (InJob run (Rescanning hand volume number steps))) w = search (rules, read_keeps, value_is)
   value_led x p r h q w = tt
 
   own_value : (x : InitiatorAt) (p : ℕ) (r : Reply) → IsNextAt x p r → ValueAt (volumes_asked x) (initiator_goes deck x r)
