@@ -15,6 +15,7 @@ use Rattle.mv_plan.proofs.points.Points.{end_found, lowest_at, writer_goes}
 use Rattle.mv_plan.proofs.points.PostsAndWaits.{on_armed_keeps, on_settled_keeps, lowest_keeps}
 use Rattle.std.proofs.lemmas.Grind.{common_steps}
 use Rattle.std.proofs.Common.{rules}
+use Rattle.std.proofs.Common.{rules}
 
 -- ---- the reader: one event for each job
 
@@ -55,10 +56,7 @@ module _ (n : ℕ) where
 
   -- each event takes one
   pub writer_pays : (x : WriterAt) (r : Reply) → suc (writer_rest (writer_goes n x r)) ≤ writer_rest (At x)
-  writer_pays (Keeping j more ends (Arming e [])) r = grind (arith, common_steps)
-  writer_pays (Keeping j more ends (Arming e (f ∷ todo))) r = grind (arith, common_steps)
-  writer_pays (Keeping j more ends (Settling e [] found)) r = grind (arith, common_steps, on_settled_keeps, end_rest)
-  writer_pays (Keeping j more ends (Settling e (f ∷ todo) found)) r = grind (arith, common_steps)
+  writer_pays x r = search (rules, on_settled_keeps, end_rest)
 
 -- ---- the scheduler
 

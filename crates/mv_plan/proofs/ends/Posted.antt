@@ -37,6 +37,7 @@ use Rattle.mv_plan.proofs.points.Lands.{rounds_land, ended_lands}
 use Rattle.mv_plan.proofs.ends.RightCodes.{starts_held}
 use Rattle.std.proofs.lemmas.Grind.{common_steps}
 use Rattle.std.proofs.Common.{rules}
+use Rattle.std.proofs.Common.{rules}
 
 -- how many of the done blocks the scheduler has extended at a point
 abbrev pub extended_at : ℕ → SchedulerAt → ℕ

@@ -22,6 +22,7 @@ use Rattle.mv_plan.proofs.points.Points.{job_start, given_at, counting_at, InJob
 use Rattle.mv_plan.proofs.lists.Lists.{all_map, all_join}
 use Rattle.mv_plan.proofs.points.Lands.{freeing_lands, given_lands, counting_lands}
 use Rattle.std.proofs.Common.{rules}
+use Rattle.std.proofs.Common.{rules}
 
 -- What an initiator's point says of its requests: nothing, where its program has ended too soon or gone astray; that there are
 -- none; or that its job holds these latches and asks for these as well.
@@ -99,9 +100,7 @@ SparesJob (latch_op.Purge requestor) (Works job held more) = requestor ≡ job +
 SparesJob op st = Unit {0}
 
 spares_idle : (k : ℕ) (lists : List (List Request)) (op : LatchOp) → HasNone lists k → Spares k lists op
-spares_idle k lists (latch_op.Purge requestor) w =
-    λ latch. subst (AllByRecursion (λ q. not (of_requestor requestor q) ≡ true)) (sym (w latch)) tt
-spares_idle k lists op w = tt
+spares_idle k lists op w = search rules
 
 spares_works : (k job : ℕ) (held more : List Grant) (lists : List (List Request)) (op : LatchOp) → SparesJob op (Works job held more)
     → Owns lists k job held more → Spares k lists op

@@ -17,6 +17,7 @@ use Rattle.mv_latch.proofs.Splits.{granted_split}
 use Rattle.mv_plan.proofs.latches.Asked.{filter_swap, filter_all, filter_passes}
 use Rattle.mv_plan.proofs.lists.Lists.{all_map}
 use Rattle.std.proofs.Common.{rules}
+use Rattle.std.proofs.Common.{rules}
 
 -- ---- the lists after an event
 

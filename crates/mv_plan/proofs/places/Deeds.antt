@@ -17,6 +17,7 @@ use Rattle.mv_plan.proofs.points.Views.{code_held, run_of, named_before, IsNotLo
 use Rattle.mv_plan.proofs.points.Asks.{Elsewhere, no_gift, IsNoPause}
 use Rattle.mv_plan.proofs.points.Lands.{given_lands}
 use Rattle.std.proofs.Common.{rules}
+use Rattle.std.proofs.Common.{rules}
 
 -- From one point to another, with the code in the element before and after it.
 pub data Deed (n : ℕ) (p q : Point InitiatorAt) (h h' : Option ℕ) (r : Reply) : Type 0 where

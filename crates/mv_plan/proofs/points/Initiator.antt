@@ -39,6 +39,7 @@ use Rattle.mv_plan.proofs.points.InitiatorSound.{left_next, job_sound, obtained_
 use Rattle.mv_plan.proofs.deck.Setup.{Facts}
 use Rattle.std.proofs.lemmas.Grind.{common_steps}
 use Rattle.std.proofs.Common.{rules}
+use Rattle.std.proofs.Common.{rules}
 
 pub initiator_says : (c : Setup) (deck : List JobData) (i : ℕ) (kept : Kept) (x : InitiatorAt)
     → asks (initiator_program c deck i kept x) ≡ Some (initiator_asks (length deck) i x)

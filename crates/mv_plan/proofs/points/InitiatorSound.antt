@@ -22,6 +22,7 @@ use Rattle.mv_plan.proofs.points.ReaderAndWriter.{keeps}
 use Rattle.mv_plan.proofs.points.Lands.{rounds_land, given_lands, ended_lands}
 use Rattle.std.proofs.lemmas.Grind.{common_steps}
 use Rattle.std.proofs.Common.{rules}
+use Rattle.std.proofs.Common.{rules}
 
 -- ---- rounds
 

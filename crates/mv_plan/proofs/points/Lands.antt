@@ -1,11 +1,10 @@
 -- Where an initiator may land: what holds where it is astray, and at each point that may follow, holds of the one that does.
 use Rattle.mv_plan.proofs.Words.{◌≡◌, ℕ, zero, suc, ◌+◌, ◌^◌, ◌==◌, nat_lt, Bool, true, false, if◌then◌else◌, List, length, Option, Some}
 use Rattle.mv_plan.proofs.Words.{None, refl, eqb-true, Reply, Counts, list_any, JobData, Step, job_at, Named, job_named}
-use Rattle.mv_ecb.specs.declared.operation.EcbReply.TheVariants as ecb_reply
-use Rattle.mv_machine.specs.declared.entry.Reply.TheVariants as reply_of
 use Rattle.mv_plan.proofs.points.Points.{Point, At, Astray, Running, Hand, InitiatorAt, InJob, Offering, Freeing, Writing, Closing}
 use Rattle.mv_plan.proofs.points.Points.{EndingForScheduler, on_ended, rounds_after, rounds_from, freeing_at, counting_at, running}
 use Rattle.mv_plan.proofs.points.Points.{job_start, named_at, given_at}
+use Rattle.std.proofs.Common.{rules}
 
 module _ (P : Point InitiatorAt → Type 0) (lost : P Astray) where
   -- a next round
@@ -29,11 +28,7 @@ module _ (P : Point InitiatorAt → Type 0) (lost : P Astray) where
   -- behind the post of a done block, which starts its exit or not
   pub ended_lands : (run : Running) (code : ℕ) (counts : Counts) (r : Reply) → P (At (InJob run (EndingForScheduler code counts)))
       → P (rounds_after run) → P (on_ended run code counts r)
-  ended_lands run code counts (reply_of.Ecb (ecb_reply.Woke (suc x))) starts ends = starts
-  ended_lands run code counts (reply_of.Ecb (ecb_reply.Woke zero)) starts ends = ends
-  ended_lands run code counts (reply_of.Ecb ecb_reply.Posted) starts ends = ends
-  ended_lands run code counts (reply_of.Ecb (ecb_reply.Already old)) starts ends = ends
-  ended_lands run code counts r starts ends = lost
+  ended_lands run code counts r starts ends = search rules
 
   -- behind a code: the end of the rounds, or a job that it names
   pub given_lands : (deck : List JobData) (more : ℕ) (before : List ℕ) (code g : ℕ) → (code ≡ 0 → P (At (Closing g)))

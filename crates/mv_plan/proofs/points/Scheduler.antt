@@ -1,9 +1,9 @@
 -- The scheduler's program goes from point to point: at each it says the point's event, and a reply leads it on as it leads the
 -- point. Used by Following.
 use Rattle.mv_plan.proofs.Words.{◌≡◌, ℕ, zero, suc, ◌+◌, ◌<◌, ◌≤◌, Bool, false, List, [], ◌∷◌, ◌++◌, length, map, Option, Some, None}
-use Rattle.mv_plan.proofs.Words.{refl, ap, ◌∙◌, arith, AllByRecursion, range_with_len, length-append}
+use Rattle.mv_plan.proofs.Words.{refl, ap, arith, AllByRecursion, range_with_len, length-append}
 use Rattle.mv_plan.proofs.Words.{length-map-range_with_len, Reply, Setup, JobData, After, Step, Kept}
-use Rattle.mv_plan.proofs.Words.{Heard, asks, heard, going_on, unrefused, accepted, finished, unless_refused, on_ecb, on_element}
+use Rattle.mv_plan.proofs.Words.{Heard, asks, heard, going_on, unrefused, accepted, finished, on_ecb, on_element}
 use Rattle.mv_plan.proofs.Words.{end_for_scheduler, idle, code_of, ends_of, some_end_above, ends_awaited, first_of, hand_over}
 use Rattle.mv_plan.proofs.Words.{AreDistinct, extend, extended, arm_all, settle_all, enough, wait_unrefused}
 use Rattle.mv_calls.specs.Pauses.{released}
@@ -25,6 +25,7 @@ use Rattle.mv_plan.proofs.points.SchedulerSound.{IsRest, rest_below, rest_sound,
 use Rattle.mv_plan.proofs.points.SchedulerSound.{awaited_extended, SchedulerKept, SchedulerStands, extended_kept}
 use Rattle.mv_plan.proofs.deck.Setup.{Facts}
 use Rattle.std.proofs.lemmas.Grind.{common_steps}
+use Rattle.std.proofs.Common.{rules}
 
 pub scheduler_says : (c : Setup) (n initiators : ℕ) (kept : Kept) (x : SchedulerAt)
     → asks (scheduler_program c n initiators kept x) ≡ Some (scheduler_asks n x)
@@ -65,14 +66,7 @@ module _ (c : Setup) (deck : List JobData) (initiators : ℕ) (facts : Facts c (
       → staged c (length deck) initiators (awaited_stage a) kept
       (accepted (wait c (awaited_count a) bs) (awaited_then c (length deck) initiators a) kept)
       ≡ program_at (scheduler_program c (length deck) initiators kept) (arming_first a bs)
-  wait_enters a kept [] free same some = absurd (omega arith)
-  wait_enters a kept (e ∷ es) free same some =
-      ap (λ r. staged c (length deck) initiators (awaited_stage a) kept
-      (going_on kept (unless_refused r (arm_all (e ∷ es) (settle_all (e ∷ es) [] (enough (awaited_count a)))))
-      (unrefused (awaited_then c (length deck) initiators a)))) free
-      ∙ ap (λ bs. staged c (length deck) initiators (awaited_stage a) kept
-      (going_on kept (arm_all (e ∷ es) (settle_all bs [] (enough (awaited_count a))))
-      (unrefused (awaited_then c (length deck) initiators a)))) same
+  wait_enters a kept x free same some = search rules
 
   extend_enters : (j : ℕ) (job : JobData) (jobs : List JobData) (skipped : Bool) (kept : Kept) → IsRest deck j (job ∷ jobs)
       → SchedulerKept (length deck) j kept

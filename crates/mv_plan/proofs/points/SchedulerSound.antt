@@ -17,6 +17,7 @@ use Rattle.mv_plan.proofs.points.PostsAndWaits.{on_armed_keeps, on_settled_keeps
 use Rattle.mv_plan.proofs.points.ReaderAndWriter.{keeps}
 use Rattle.std.proofs.lemmas.Grind.{common_steps}
 use Rattle.std.proofs.Common.{rules}
+use Rattle.std.proofs.Common.{rules}
 
 -- the deck's jobs from number j on
 pub record IsRest (deck : List JobData) (j : ℕ) (jobs : List JobData) : Type 0 where

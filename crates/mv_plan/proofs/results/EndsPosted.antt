@@ -1,9 +1,9 @@
 -- Behind a run each job's end was posted once to each of its three blocks: specs/PostingEnds. The marks that were released are
 -- the deck's, no post came second, and the writer has kept the deck's ends.
-use Rattle.mv_plan.proofs.Words.{◌≡◌, ℕ, ◌+◌, ◌<◌, ◌≤◌, List, [], ◌∷◌, ◌++◌, length, map, Some, None, refl, ap, ◌∙◌, subst, AllByRecursion}
+use Rattle.mv_plan.proofs.Words.{◌≡◌, ℕ, ◌+◌, ◌<◌, ◌≤◌, List, [], ◌∷◌, ◌++◌, length, map, refl, ap, ◌∙◌, subst, AllByRecursion}
 use Rattle.mv_plan.proofs.Words.{EcbState, Complete, Entry, Reply, IsNext, next, after, Setup, System, opening, posts, post_codes}
 use Rattle.mv_plan.proofs.Words.{EndsArePosted, JobData, end_of, ends, Done, left_in, IsRun, spool_setup, end_for_scheduler, end_for_writer}
-use Rattle.mv_plan.proofs.Words.{idle, writer, task_program}
+use Rattle.mv_plan.proofs.Words.{writer, task_program}
 use Rattle.mv_plan.specs.SpoolSetup.{done}
 use Rattle.mv_ecb.specs.declared.operation.EcbReply.TheVariants as ecb_reply
 use Rattle.mv_machine.specs.declared.entry.Reply.TheVariants as reply_of
@@ -12,11 +12,11 @@ use Rattle.mv_plan.proofs.ends.Blocks.{HasEnd, done_has, scheduler_has, writer_h
 use Rattle.mv_plan.proofs.deck.Ends.{few_jobs}
 use Rattle.mv_plan.proofs.ends.RightCodes.{Codes, KeepsEnds, codes_keep, codes_first}
 use Rattle.mv_plan.proofs.ends.EndMoments.{EndMoment, IsFreeToOffer, traces_keep}
-use Rattle.mv_plan.proofs.standing.Row.{RowAt, code_in}
+use Rattle.mv_plan.proofs.standing.Row.{RowAt}
 use Rattle.mv_plan.proofs.ends.Complete.{IsComplete}
 use Rattle.mv_plan.proofs.deck.Setup.{Facts, facts}
 use Rattle.mv_plan.proofs.points.Programs.{program_at, writer_program}
-use Rattle.mv_plan.proofs.points.Points.{Point, At, Finished, SchedulerAt, InitiatorAt, Offering}
+use Rattle.mv_plan.proofs.points.Points.{Point, Finished, SchedulerAt, InitiatorAt}
 use Rattle.mv_plan.proofs.ends.Posted.{Posted, posted_keeps, posted_first}
 use Rattle.mv_plan.proofs.ends.Traces.{HasRightMark, Traces, code_list, traces_first}
 use Rattle.mv_plan.proofs.walks.Histories.{Stood, stood, AreFinished, run_finished}
@@ -25,6 +25,7 @@ use Rattle.mv_plan.proofs.walks.NoneLost.{NoneLost, none_lost_at_end}
 use Rattle.mv_plan.proofs.walks.Walks.{Points, start_points, Move}
 use Rattle.mv_plan.proofs.walks.Stands.{Standing, standing}
 use Rattle.mv_plan.proofs.ends.WriterFinds.{WriterHas, HasFound, writer_has_keeps, writer_has_first}
+use Rattle.std.proofs.Common.{rules}
 
 -- what is kept about ends and blocks from moment to moment
 pub record Ends (c : Setup) (deck : List JobData) (initiators : ℕ) (s : System) (t : Points) (past : List Entry) : Type 0 where
@@ -44,9 +45,7 @@ ends_first c deck initiators sound = record {
 
 -- an initiator that offers itself finds its block free
 row_offers : (n : ℕ) (s : System) (q : Point SchedulerAt) (i : ℕ) (p : Point InitiatorAt) → RowAt n s q i p → IsFreeToOffer n s i p
-row_offers n s q i (At (Offering more before g)) w = λ code e. let none : code_in (s.ecb (idle n i)).state ≡ None = w.0 in
-    let some : code_in (s.ecb (idle n i)).state ≡ Some code = ap (λ v. code_in v) e in cc (none, some)
-row_offers n s q i p w = tt
+row_offers n s q i p w = search rules
 
 pub end_moment : (c : Setup) (deck : List JobData) (initiators : ℕ) (s : System) (t : Points) (past : List Entry)
     → Moment c deck initiators s t past → Ends c deck initiators s t past → EndMoment deck initiators s t

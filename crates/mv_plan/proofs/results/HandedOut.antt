@@ -13,6 +13,7 @@ use Rattle.mv_plan.proofs.volumes.GivenCodes.{with_code}
 use Rattle.mv_element.specs.declared.operation.ElementOp.TheVariants as element_op
 use Rattle.mv_machine.specs.declared.entry.Op.TheVariants as op_on
 use Rattle.std.proofs.Common.{rules}
+use Rattle.std.proofs.Common.{rules}
 
 -- an element's operation is made on an element
 on_element : (c : Setup) (s : System) (k : ℕ) (o : Object) (op : ElementOp) → admitted c s k o (op_on.Element op) ≡ true

@@ -22,6 +22,7 @@ use Rattle.mv_plan.proofs.points.Points.{Freeing, Reading, Writing, Scanning, Re
 use Rattle.mv_plan.proofs.volumes.Dues.{NextAt}
 use Rattle.mv_plan.proofs.points.Views.{IsOfRounds}
 use Rattle.std.proofs.Common.{rules}
+use Rattle.std.proofs.Common.{rules}
 
 abbrev pub IsWell : Point InitiatorAt → Type 0
 IsWell p = p ≡ Astray → ⊥

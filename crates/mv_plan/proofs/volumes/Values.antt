@@ -1,6 +1,6 @@
 -- What volumes hold between the two events of a COUNT or SCAN: the number that was read.
 use Rattle.mv_plan.proofs.Words.{◌≡◌, ℕ, zero, suc, ◌+◌, ◌<◌, Bool, true, false, List, [], ◌∷◌, length, Option, Some, refl, sym}
-use Rattle.mv_plan.proofs.Words.{ap, ◌∙◌, subst, cases_eq, Entry, Object, Ecb, Element, Volume, Latches, Op, Reply, IsNext, next, Setup}
+use Rattle.mv_plan.proofs.Words.{ap, ◌∙◌, subst, cases_eq, Entry, Object, Volume, Op, Reply, IsNext, next, Setup}
 use Rattle.mv_plan.proofs.Words.{Cell, System, moved, with_at, advanced, JobData, Step, Print, job_at, initiator}
 use Rattle.mv_deck.specs.declared.deck.Step.TheVariants.{Free}
 use Rattle.mv_element.specs.declared.operation.ElementReply.TheVariants as element_reply
@@ -25,15 +25,12 @@ use Rattle.mv_plan.proofs.lists.Tables.{with_at-same, with_at-other, all_but}
 use Rattle.mv_plan.proofs.points.Asks.{IsSignal, reader_signals, scheduler_signals, writer_signals}
 use Rattle.mv_plan.proofs.points.Lands.{freeing_lands, given_lands, counting_lands, ended_lands}
 use Rattle.std.proofs.Common.{rules}
+use Rattle.std.proofs.Common.{rules}
 
 -- ---- events elsewhere
 
 pub volumes_same : (s : System) (k : ℕ) (o : Object) (op : Op) → IsSignal o → (moved s k o op).volume ≡ s.volume
-volumes_same s k (Ecb n) (op_on.Ecb op) free = refl
-volumes_same s k (Element n) (op_on.Element op) free = refl
-volumes_same s k Latches op free = absurd free
-volumes_same s k (Volume v) op free = absurd free
-volumes_same s k o op free = refl
+volumes_same s k o op free = search rules
 
 -- ---- reading and writing
 
@@ -111,9 +108,7 @@ LeadsTo x r (At (InJob run (Rescanning hand volume number steps))) =
 LeadsTo x r p = Unit {0}
 
 plain : (x : InitiatorAt) (r : Reply) (p : Point InitiatorAt) → IsPlain p → LeadsTo x r p
-plain x r (At (InJob run (Writing hand volume amount number steps))) w = absurd w
-plain x r (At (InJob run (Rescanning hand volume number steps))) w = absurd w
-plain x r p w = tt
+plain x r p w = search rules
 
 pub leads : (deck : List JobData) (x : InitiatorAt) (r : Reply) → LeadsTo x r (initiator_goes deck x r)
 leads deck Opening (reply_of.Element (element_reply.Opened g)) = plain _ _ _ (plain_rounds (length deck + 1) [] g)
@@ -154,9 +149,7 @@ module _ (c : Setup) (s : System) (deck : List JobData) (i : ℕ) where
   -- a read keeps the number that it tells
   value_led : (x : InitiatorAt) (p : ℕ) (r : Reply) → IsNextAt x p r → (q : Point InitiatorAt) → LeadsTo x r q
       → ValueAt (volumes_asked x) q
-  value_led x p r h (At (InJob run (Writing hand volume amount number steps))) w = search (rules, read_keeps, value_is)
-  value_led x p r h (At (InJob run (Rescanning hand volume number steps))) w = search (rules, read_keeps, value_is)
-  value_led x p r h q w = tt
+  value_led x p r h q w = search (rules, read_keeps, value_is)
 
   own_value : (x : InitiatorAt) (p : ℕ) (r : Reply) → IsNextAt x p r → ValueAt (volumes_asked x) (initiator_goes deck x r)
   own_value x p r h = value_led x p r h (initiator_goes deck x r) (leads deck x r)
