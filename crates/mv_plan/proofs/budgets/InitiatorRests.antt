@@ -131,7 +131,6 @@ module _ (deck : List JobData) where
   -- each event takes one
   pub initiator_pays : (x : InitiatorAt) (r : Reply) → suc (initiator_rest (initiator_goes deck x r)) ≤ initiator_rest (At x)
   initiator_pays Opening (reply_of.Element (element_reply.Opened g)) = paying _ (rounds_rest (length deck + 1) [] g) (omega arith)
-  initiator_pays (Offering more before g) r = grind (arith, common_steps)
   initiator_pays (Pausing more before g) (reply_of.Element (element_reply.Given code now)) =
       let le : initiator_rest (given_at deck more before code now) ≤ 1 + rounds_to_come deck before = given_rest more before code now in
       omega arith
@@ -144,15 +143,8 @@ module _ (deck : List JobData) where
       paying _ (steps_rest run (hand_with hand latch mode id) steps) (omega arith)
   initiator_pays (InJob run (Freeing hand latch id steps)) (reply_of.Latch (latch_reply.Released granted)) =
       paying _ (steps_rest run (hand_without hand latch) steps) (omega arith)
-  initiator_pays (InJob run (Reading hand volume amount steps)) (reply_of.Volume (volume_reply.Value number)) = grind (arith, common_steps)
   initiator_pays (InJob run (Writing hand volume amount number steps)) (reply_of.Volume volume_reply.Stored) =
       paying _ (steps_rest run hand steps) (omega arith)
-  initiator_pays (InJob run (Scanning hand volume steps)) (reply_of.Volume (volume_reply.Value number)) = omega arith
   initiator_pays (InJob run (Rescanning hand volume number steps)) (reply_of.Volume (volume_reply.Value again)) =
       paying _ (steps_rest run hand steps) (omega arith)
-  initiator_pays (InJob run (Purging hand code)) (reply_of.Latch (latch_reply.Purged removed granted)) = omega arith
-  initiator_pays (InJob run (EndingJob code counts)) r = grind (arith, common_steps)
-  initiator_pays (InJob run (EndingForScheduler code counts)) r = grind (arith, common_steps)
-  initiator_pays (InJob run (EndingForWriter code counts)) r = grind (arith, common_steps)
-  initiator_pays (Closing g) (reply_of.Element element_reply.Closed) = omega arith
-  initiator_pays x r = omega arith
+  initiator_pays x r = grind (arith, common_steps)

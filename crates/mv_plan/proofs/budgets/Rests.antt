@@ -143,10 +143,7 @@ module _ (n initiators : ℕ) where
   scheduler_pays (Waits a (Arming e todo)) r = grind (arith, common_steps, on_armed_keeps, initiators, arming_rest)
   scheduler_pays (Waits a (Settling e todo found)) r = grind (arith, common_steps, on_settled_keeps, settling_rest)
   scheduler_pays (Extends j job jobs skipped) (reply_of.Ecb ecb_reply.Armed) = search (rules, ForIdle, initiators, first_rest, blocks)
-  scheduler_pays (Clears i g code after) (reply_of.Ecb (ecb_reply.Word w)) = omega arith
-  scheduler_pays (Releases i g code after) (reply_of.Element element_reply.Early) = grind (arith, common_steps)
-  scheduler_pays (Releases i g code after) (reply_of.Element element_reply.Woke) = grind (arith, common_steps)
-  scheduler_pays x r = omega arith
+  scheduler_pays x r = grind (arith, common_steps)
 
   -- all jobs together
   pub jobs_rest_is : (jobs : List JobData)

@@ -106,13 +106,11 @@ settled_keeps deck j more kept rest code (f ∷ found) e l n none c = absurd (cc
 
 pub writer_kept : (deck : List JobData) (x : WriterAt) (r : Reply) → IsWriterAt (length deck) (At x) → KeepsEnds deck (At x)
     → WriterFindsEnd deck x r → KeepsEnds deck (writer_goes (length deck) x r)
-writer_kept deck (Keeping j more kept (Arming e [])) r at k finds = grind (arith, common_steps)
 writer_kept deck (Keeping j more kept (Arming e (f ∷ todo))) r at k finds = absurd (cc at.2)
 writer_kept deck (Keeping j more kept (Settling e [] found)) (reply_of.Ecb (ecb_reply.Complete code)) at k finds =
     settled_keeps deck j more kept k.0 code found k.1 k.2 at.0 at.3 finds
-writer_kept deck (Keeping j more kept (Settling e [] found)) (reply_of.Ecb ecb_reply.Open) at k finds = grind (arith, common_steps)
-writer_kept deck (Keeping j more kept (Settling e [] found)) r at k finds = tt
 writer_kept deck (Keeping j more kept (Settling e (f ∷ todo) found)) r at k finds = absurd (cc at.2)
+writer_kept deck x r at k finds = grind (arith, common_steps)
 
 -- ---- the invariant
 

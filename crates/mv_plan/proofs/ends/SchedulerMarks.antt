@@ -153,13 +153,11 @@ module _ (deck : List JobData) (initiators : ℕ) where
 
   pub scheduler_marks : (x : SchedulerAt) (r : Reply) → ArePlannedJobs 0 deck → IsSchedulerAt deck initiators (At x)
       → IsMarked deck (At x) → FindsEnds x r → IsMarked deck (scheduler_goes (length deck) initiators x r)
-  scheduler_marks (Waits a (Arming e todo)) r sound s f finds = grind (arith, common_steps)
   scheduler_marks (Waits a (Settling e todo found)) (reply_of.Ecb (ecb_reply.Complete code)) sound s f finds =
       settling_marked a todo (found ++ Some code ∷ []) s.0 (one_settled a e todo found (Some code) sound s.0 s.1 f finds)
   scheduler_marks (Waits a (Settling e todo found)) (reply_of.Ecb ecb_reply.Open) sound s f finds =
       settling_marked a todo (found ++ None ∷ []) s.0 (one_settled a e todo found None sound s.0 s.1 f (λ k lt at. tt))
-  scheduler_marks (Extends j job jobs skipped) (reply_of.Ecb ecb_reply.Armed) sound s f finds = grind (arith, common_steps)
   scheduler_marks (Clears i g code after) (reply_of.Ecb (ecb_reply.Word w)) sound s f finds = f
   scheduler_marks (Releases i g code after) (reply_of.Element element_reply.Early) sound s f finds = stage_marked after
   scheduler_marks (Releases i g code after) (reply_of.Element element_reply.Woke) sound s f finds = stage_marked after
-  scheduler_marks x r sound s f finds = tt
+  scheduler_marks x r sound s f finds = grind (arith, common_steps)

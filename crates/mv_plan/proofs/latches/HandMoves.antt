@@ -54,8 +54,6 @@ module _ (c : Setup) (s : System) (deck : List JobData) (i : ℕ) where
       → IsNext c s (entry_of (initiator i) (initiator_asks (length deck) i x).0 p (initiator_asks (length deck) i x).1 r)
       → IsInitiatorAt deck (At x) → OwnsBy s.latches.state (initiator i) (grip (At x))
       → OwnsBy (after_asks x) (initiator i) (grip (initiator_goes deck x r))
-  own_next Opening p (reply_of.Element (element_reply.Opened g)) h a w = grind (arith, common_steps)
-  own_next (Offering more before g) p r h a w = grind (arith, common_steps)
   own_next (Pausing more before g) p (reply_of.Element (element_reply.Given code now)) h a w =
       given_owns s.latches.state (initiator i) deck more before code now w
   own_next (Pausing more before g) p (reply_of.Element element_reply.Parked) h a w = w
@@ -104,11 +102,8 @@ module _ (c : Setup) (s : System) (deck : List JobData) (i : ℕ) where
       steps_own s.latches.state (initiator i) run hand steps w
   own_next (InJob run (Purging hand code)) p (reply_of.Latch (latch_reply.Purged removed count)) h a w =
       purge_owns (initiator i) s.latches.place run.job s.latches.state hand.holding w
-  own_next (InJob run (EndingJob code counts)) p r h a w = grind (arith, common_steps)
-  own_next (InJob run (EndingForScheduler code counts)) p r h a w = grind (arith, common_steps)
-  own_next (InJob run (EndingForWriter code counts)) p r h a w = grind (arith, common_steps)
   own_next (Closing g) p (reply_of.Element element_reply.Closed) h a w = w
-  own_next x p r h a w = tt
+  own_next x p r h a w = grind (arith, common_steps)
 
 -- ---- the others
 

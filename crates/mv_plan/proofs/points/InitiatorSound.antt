@@ -375,11 +375,8 @@ freed_kept i kept run hand latch id h e k same fewer = record {
 pub initiator_stands : (deck : List JobData) (i : ℕ) (kept : Kept) (x : InitiatorAt) (r : Reply) → ArePlannedJobs 0 deck
     → InitiatorStands deck i kept (At x)
     → InitiatorStands deck i (keeps kept (initiator_asks (length deck) i x) r) (initiator_goes deck x r)
-initiator_stands deck i kept Opening (reply_of.Element (element_reply.Opened g)) sound s = grind (arith, common_steps)
-initiator_stands deck i kept (Offering more before g) r sound s = grind (arith, common_steps)
 initiator_stands deck i kept (Pausing more before g) (reply_of.Element (element_reply.Given code now)) sound s =
     given_stands deck i sound _ more before code now s.0 (record { caller = s.1.caller; stand = s.1.stand })
-initiator_stands deck i kept (Pausing more before g) (reply_of.Element element_reply.Parked) sound s = grind (arith, common_steps)
 initiator_stands deck i kept (Resuming more before g) (reply_of.Element (element_reply.Given code now)) sound s =
     given_stands deck i sound _ more before code now s.0 (record { caller = s.1.caller; stand = s.1.stand })
 initiator_stands deck i kept (InJob run (Obtaining hand latch mode steps)) (reply_of.Latch (latch_reply.Granted id)) sound s =
@@ -389,12 +386,9 @@ initiator_stands deck i kept (InJob run (Obtaining hand latch mode steps)) (repl
 initiator_stands deck i kept (InJob run (Confirming hand latch mode id steps)) (reply_of.Latch (latch_reply.Granted same)) sound s =
     steps_stand deck i sound _ run (hand_with hand latch mode id) steps (obtained_stand deck run hand latch mode id steps s.0)
     (record { caller = s.1.caller; stand = s.1.stand })
-initiator_stands deck i kept (InJob run (Confirming hand latch mode id steps)) (reply_of.Latch latch_reply.Waiting) sound s = (tt, tt)
 initiator_stands deck i kept (InJob run (Freeing hand latch id steps)) (reply_of.Latch (latch_reply.Released granted)) sound s =
     steps_stand deck i sound _ run (hand_without hand latch) steps (freed_stand deck run hand latch steps s.0.0)
     (freed_kept i kept run hand latch id s.0.0.holds s.0.1 s.1 refl refl)
-initiator_stands deck i kept (InJob run (Reading hand volume amount steps)) (reply_of.Volume (volume_reply.Value number)) sound s =
-    grind (arith, common_steps)
 initiator_stands deck i kept (InJob run (Writing hand volume amount number steps)) (reply_of.Volume volume_reply.Stored) sound s =
     steps_stand deck i sound _ run hand steps
     (record {
@@ -421,9 +415,7 @@ initiator_stands deck i kept (InJob run (EndingJob code counts)) r sound s =
     ended_lands (InitiatorStands deck i (keeps kept (initiator_asks (length deck) i (InJob run (EndingJob code counts))) r)) (tt, tt)
     run code counts r (s.0, record { caller = s.1.caller; stand = s.1.stand })
     (rounds_stand deck i sound _ run s.0.round (record { caller = s.1.caller; stand = s.1.stand }))
-initiator_stands deck i kept (InJob run (EndingForScheduler code counts)) r sound s = grind (arith, common_steps)
 initiator_stands deck i kept (InJob run (EndingForWriter code counts)) r sound s =
     on_posted_keeps (InitiatorStands deck i (keeps kept (initiator_asks (length deck) i (InJob run (EndingForWriter code counts))) r))
     (rounds_after run) r (rounds_stand deck i sound _ run s.0.round (record { caller = s.1.caller; stand = s.1.stand })) (tt, tt)
-initiator_stands deck i kept (Closing g) (reply_of.Element element_reply.Closed) sound s = (tt, tt)
-initiator_stands deck i kept x r sound s = (tt, tt)
+initiator_stands deck i kept x r sound s = grind (arith, common_steps)

@@ -50,16 +50,13 @@ job_goes deck run (Confirming hand latch mode id steps) (reply_of.Latch (latch_r
     on_run run _ (steps_run run _ steps)
 job_goes deck run (Confirming hand latch mode id steps) (reply_of.Latch latch_reply.Waiting) = lost (λ f. f)
 job_goes deck run (Freeing hand latch id steps) (reply_of.Latch (latch_reply.Released granted)) = on_run run _ (steps_run run _ steps)
-job_goes deck run (Reading hand volume amount steps) (reply_of.Volume (volume_reply.Value number)) = grind (arith, common_steps)
 job_goes deck run (Writing hand volume amount number steps) (reply_of.Volume volume_reply.Stored) = on_run run _ (steps_run run _ steps)
 job_goes deck run (Scanning hand volume steps) (reply_of.Volume (volume_reply.Value number)) = same refl
 job_goes deck run (Rescanning hand volume number steps) (reply_of.Volume (volume_reply.Value again)) =
     on_run run _ (steps_run run _ steps)
 job_goes deck run (Purging hand code) (reply_of.Latch (latch_reply.Purged removed granted)) = same refl
 job_goes deck run (EndingJob code counts) r = ended_lands (GoesOn run) (lost (λ f. f)) run code counts r (same refl) (done refl)
-job_goes deck run (EndingForScheduler code counts) r = grind (arith, common_steps)
-job_goes deck run (EndingForWriter code counts) r = grind (arith, common_steps)
-job_goes deck run w r = lost (λ f. f)
+job_goes deck run w r = grind (arith, common_steps)
 
 pub run_goes : (deck : List JobData) (x : InitiatorAt) (r : Reply) (run : Running) → run_of (At x) ≡ Some run
     → GoesOn run (initiator_goes deck x r)

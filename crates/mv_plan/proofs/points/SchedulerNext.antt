@@ -60,15 +60,13 @@ module _ (n initiators : ℕ) (P : Point SchedulerAt → Type 0) where
   settling_next a v (e ∷ es) found lost early all = wait_next a v _ all
 
   pub goes_next : (x : SchedulerAt) (r : Reply) → P Astray → P TooSoon → AllNext x → P (scheduler_goes n initiators x r)
-  goes_next (Waits a (Arming e todo)) r lost early all = grind (arith, common_steps)
   goes_next (Waits a (Settling e todo found)) r lost early all =
       on_settled_keeps P (λ slot. settling_from n a todo (found ++ slot ∷ [])) r
       (λ slot. settling_next a (Settling e todo found) todo (found ++ slot ∷ []) lost early all) lost
-  goes_next (Extends j job jobs skipped) (reply_of.Ecb ecb_reply.Armed) lost early all = grind (arith, common_steps)
   goes_next (Clears i g code after) (reply_of.Ecb (ecb_reply.Word w)) lost early all = all
   goes_next (Releases i g code after) (reply_of.Element element_reply.Early) lost early all = all
   goes_next (Releases i g code after) (reply_of.Element element_reply.Woke) lost early all = all
-  goes_next x r lost early all = lost
+  goes_next x r lost early all = grind (arith, common_steps)
 
 -- ---- the errand stays but for a release
 

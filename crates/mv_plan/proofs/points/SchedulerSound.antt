@@ -178,8 +178,4 @@ scheduler_stands deck initiators kept (Waits a (Settling e todo found)) r s =
     (λ slot. settling_stands deck initiators _ a (s.0.1.0 ++ e ∷ []) todo (found ++ slot ∷ []) s.0.0
     (record { caller = s.1.caller; within = s.1.within }) (one_pushed s.0.1.0 todo e ∙ s.0.1.1)
     (length-append s.0.1.0 (e ∷ []) ∙ ap (λ k. k + 1) s.0.1.2 ∙ sym (length-append found (slot ∷ [])))) (tt, tt)
-scheduler_stands deck initiators kept (Extends j job jobs skipped) (reply_of.Ecb ecb_reply.Armed) s = grind (arith, common_steps)
-scheduler_stands deck initiators kept (Clears i g code after) (reply_of.Ecb (ecb_reply.Word w)) s = grind (arith, common_steps)
-scheduler_stands deck initiators kept (Releases i g code after) (reply_of.Element element_reply.Early) s = grind (arith, common_steps)
-scheduler_stands deck initiators kept (Releases i g code after) (reply_of.Element element_reply.Woke) s = grind (arith, common_steps)
-scheduler_stands deck initiators kept x r s = (tt, tt)
+scheduler_stands deck initiators kept x r s = grind (arith, common_steps)

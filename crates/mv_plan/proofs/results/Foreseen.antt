@@ -146,9 +146,7 @@ module _ (c : Setup) (deck : List JobData) (initiators : ℕ) (facts : Facts c (
       (in_all (IsNoDone n) (awaited_blocks n initiators a) e (awaited_no_done deck initiators a sound.0)
       (subst (λ l. In l e) sound.1.1 (in_middle sound.1.0 e todo))))
       (λ slot. settling_foreseen n initiators a todo (found ++ slot ∷ []))
-  scheduler_foreseen q w p (Extends j job jobs skipped) r at d armed rows found sound adm ans = absurd d
-  scheduler_foreseen q w p (Clears i g code after) r at d armed rows found sound adm ans = grind (arith, common_steps)
-  scheduler_foreseen q w p (Releases i g code after) r at d armed rows found sound adm ans = grind (arith, common_steps)
+  scheduler_foreseen q w p x r at d armed rows found sound adm ans = grind (arith, common_steps)
 
   -- ---- the writer
   writing_foreseen : (j more : ℕ) (ends : List ℕ) → IsForeseen (writing_from n j more ends)
@@ -282,16 +280,13 @@ module _ (deck : List JobData) (initiators : ℕ) (sound : ArePlannedJobs 0 deck
       → AllByRecursion (λ k. place k ≡ Over) (named_before (At x)) → RowAt size s q i (At x)
       → Some r ≡ reply_to s (initiator i) (initiator_asks size i x).0 (initiator_asks size i x).1 → IsForeseen (initiator_goes deck x r)
   initiator_foreseen Opening r d st over w a = opened_foreseen deck _ _ (element_of s i) r (cc a) w
-  initiator_foreseen (Offering more before g) r d st over w a = grind (arith, common_steps)
   initiator_foreseen (Pausing more before g) r d st over w a =
       paused_foreseen deck _ _ more before g (element_of s i) r (cc a) w (gift_foreseen more before g st over)
   initiator_foreseen (Resuming more before g) r d st over w a =
       resumed_foreseen deck _ _ more before g (element_of s i) r (cc a) w (gift_foreseen more before g st over)
-  initiator_foreseen (InJob run (Purging hand code)) r d st over w a = grind (arith, common_steps)
   initiator_foreseen (InJob run (EndingJob code counts)) r d st over w a =
       ended_foreseen run code counts (s.ecb (done size run.job)).state r (cc a) (after_foreseen size run st.round)
-  initiator_foreseen (InJob run (EndingForScheduler code counts)) r d st over w a = grind (arith, common_steps)
   initiator_foreseen (InJob run (EndingForWriter code counts)) r d st over w a =
       post_foreseen (rounds_after run) code (s.ecb (end_for_writer size run.job)).state r (cc a) (after_foreseen size run st.round)
   initiator_foreseen (Closing g) r d st over w a = closed_foreseen deck _ _ g (element_of s i) r (cc a) w
-  initiator_foreseen (InJob run x) r d st over w a = absurd d
+  initiator_foreseen x r d st over w a = grind (arith, common_steps)

@@ -122,33 +122,24 @@ module _ (j : ℕ) where
 
     own_work : (i : ℕ) (x : InitiatorAt) (r : Reply) → IsNotLost (initiator_goes deck x r) → WorkNext i x r
     own_work i Opening (reply_of.Element (element_reply.Opened g)) n = to_none _ (work_rounds (length deck + 1) [] g)
-    own_work i (Offering more before g) (reply_of.Ecb y) n = grind (arith, common_steps)
     own_work i (Pausing more before g) (reply_of.Element (element_reply.Given code now)) n =
         to_gift _ _ (work_given more before code now n)
-    own_work i (Pausing more before g) (reply_of.Element element_reply.Parked) n = refl
     own_work i (Resuming more before g) (reply_of.Element (element_reply.Given code now)) n =
         to_gift _ _ (work_given more before code now n)
-    own_work i (Resuming more before g) (reply_of.Element element_reply.NotYet) n = absurd n
     own_work i (InJob run (Obtaining hand latch mode steps)) (reply_of.Latch (latch_reply.Granted id)) n =
         to_same _ _ (work_steps run _ steps n)
     own_work i (InJob run (Obtaining hand latch mode steps)) (reply_of.Latch (latch_reply.Queued id)) n = to_same _ _ refl
     own_work i (InJob run (Confirming hand latch mode id steps)) (reply_of.Latch (latch_reply.Granted same)) n =
         to_same _ _ (work_steps run _ steps n)
-    own_work i (InJob run (Confirming hand latch mode id steps)) (reply_of.Latch latch_reply.Waiting) n = absurd n
     own_work i (InJob run (Freeing hand latch id steps)) (reply_of.Latch (latch_reply.Released count)) n =
         to_same _ _ (work_steps run _ steps n)
-    own_work i (InJob run (Reading hand volume amount steps)) (reply_of.Volume (volume_reply.Value number)) n = grind (arith, common_steps)
     own_work i (InJob run (Writing hand volume amount number steps)) (reply_of.Volume volume_reply.Stored) n =
         to_same _ _ (work_steps run hand steps n)
     own_work i (InJob run (Scanning hand volume steps)) (reply_of.Volume (volume_reply.Value number)) n = to_same _ _ refl
     own_work i (InJob run (Rescanning hand volume number steps)) (reply_of.Volume (volume_reply.Value again)) n =
         to_same _ _ (work_steps run hand steps n)
     own_work i (InJob run (Purging hand code)) (reply_of.Latch (latch_reply.Purged removed count)) n = same_job run.job
-    own_work i (InJob run (EndingJob code counts)) (reply_of.Ecb y) n = grind (arith, common_steps)
-    own_work i (InJob run (EndingForScheduler code counts)) (reply_of.Ecb y) n = grind (arith, common_steps)
-    own_work i (InJob run (EndingForWriter code counts)) (reply_of.Ecb y) n = grind (arith, common_steps)
-    own_work i (Closing g) (reply_of.Element element_reply.Closed) n = refl
-    own_work i x r n = absurd n
+    own_work i x r n = grind (arith, common_steps)
 
 -- ---- the balance
 

@@ -126,7 +126,6 @@ module _ (n initiators : ℕ) (s : System) where
       → ((a : Awaited) (w : WaitAt) → x ≡ Waits a w → IsWaitAt (awaited_blocks n initiators a) w)
       → Some r ≡ reply_to s scheduler (scheduler_asks n x).0 (scheduler_asks n x).1
       → Finds n initiators s.ecb (At x) → Finds n initiators (then_s x).ecb (scheduler_goes n initiators x r)
-  finds_next (Waits a (Arming e todo)) r sound q w = grind (arith, common_steps)
   finds_next (Waits a (Settling e todo found)) r sound q w =
       let l : IsWaitAt (awaited_blocks n initiators a) (Settling e todo found) = sound a (Settling e todo found) refl in
       settled_slot e r (λ slot. settling_from n a todo (found ++ slot ∷ []))
@@ -137,8 +136,4 @@ module _ (n initiators : ℕ) (s : System) where
       (subst (λ bs. Slots (then_s (Waits a (Settling e todo found))).ecb bs found) (sym l.1)
       (slots_kept s.ecb (then_s (Waits a (Settling e todo found))).ecb (awaited_blocks n initiators a) found
       (stay_moved s scheduler (Ecb e) (op_on.Ecb ecb_op.Settle) tt) w)) is))) tt
-  finds_next (Extends j job jobs skipped) (reply_of.Ecb ecb_reply.Armed) sound q w = grind (arith, common_steps)
-  finds_next (Clears i g code after) (reply_of.Ecb (ecb_reply.Word z)) sound q w = tt
-  finds_next (Releases i g code after) (reply_of.Element element_reply.Early) sound q w = grind (arith, common_steps)
-  finds_next (Releases i g code after) (reply_of.Element element_reply.Woke) sound q w = grind (arith, common_steps)
-  finds_next x r sound q w = tt
+  finds_next x r sound q w = grind (arith, common_steps)

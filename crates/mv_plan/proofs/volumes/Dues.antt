@@ -84,31 +84,21 @@ module _ (c : Setup) (s : System) (deck : List JobData) (i v : ℕ) where
 
   pub own_due : (x : InitiatorAt) (p : ℕ) (r : Reply) → NextAt c s deck i x p r → ValueAt s.volume (At x)
       → IsNotLost (initiator_goes deck x r) → DueNext x r
-  own_due Opening p (reply_of.Element (element_reply.Opened g)) h a n = grind (arith, common_steps)
-  own_due (Offering more before g) p (reply_of.Ecb y) h a n = grind (arith, common_steps)
   own_due (Pausing more before g) p (reply_of.Element (element_reply.Given code now)) h a n =
       gift_due (s.volume v).state _ (adds deck v code) (due_given v deck more before code now n)
   own_due (Pausing more before g) p (reply_of.Element element_reply.Parked) h a n = plain_due (s.volume v).state 0
   own_due (Resuming more before g) p (reply_of.Element (element_reply.Given code now)) h a n =
       gift_due (s.volume v).state _ (adds deck v code) (due_given v deck more before code now n)
-  own_due (Resuming more before g) p (reply_of.Element element_reply.NotYet) h a n = absurd n
   own_due (InJob run (Obtaining hand latch mode steps)) p (reply_of.Latch (latch_reply.Granted id)) h a n =
       same_due (s.volume v).state _ (added_by v (before_end steps)) (due_steps v run _ steps n)
-  own_due (InJob run (Obtaining hand latch mode steps)) p (reply_of.Latch (latch_reply.Queued id)) h a n = grind (arith, common_steps)
   own_due (InJob run (Confirming hand latch mode id steps)) p (reply_of.Latch (latch_reply.Granted same)) h a n =
       same_due (s.volume v).state _ (added_by v (before_end steps)) (due_steps v run _ steps n)
-  own_due (InJob run (Confirming hand latch mode id steps)) p (reply_of.Latch latch_reply.Waiting) h a n = absurd n
   own_due (InJob run (Freeing hand latch id steps)) p (reply_of.Latch (latch_reply.Released count)) h a n =
       same_due (s.volume v).state _ (added_by v (before_end steps)) (due_steps v run _ steps n)
-  own_due (InJob run (Reading hand volume amount steps)) p (reply_of.Volume (volume_reply.Value number)) h a n = grind (arith, common_steps)
   own_due (InJob run (Writing hand volume amount number steps)) p (reply_of.Volume volume_reply.Stored) h a n =
       write_due volume amount number _ (added_by v (before_end steps)) a (due_steps v run hand steps n)
-  own_due (InJob run (Scanning hand volume steps)) p (reply_of.Volume (volume_reply.Value number)) h a n = grind (arith, common_steps)
   own_due (InJob run (Rescanning hand volume number steps)) p (reply_of.Volume (volume_reply.Value again)) h a n =
       read_due _ (s.volume v).state _ (added_by v (before_end steps)) (read_keeps s.volume volume v) (due_steps v run hand steps n)
   own_due (InJob run (Purging hand code)) p (reply_of.Latch (latch_reply.Purged removed count)) h a n = plain_due (s.volume v).state 0
-  own_due (InJob run (EndingJob code counts)) p (reply_of.Ecb y) h a n = grind (arith, common_steps)
-  own_due (InJob run (EndingForScheduler code counts)) p (reply_of.Ecb y) h a n = grind (arith, common_steps)
-  own_due (InJob run (EndingForWriter code counts)) p (reply_of.Ecb y) h a n = grind (arith, common_steps)
   own_due (Closing g) p (reply_of.Element element_reply.Closed) h a n = plain_due (s.volume v).state 0
-  own_due x p r h a n = absurd n
+  own_due x p r h a n = grind (arith, common_steps)
