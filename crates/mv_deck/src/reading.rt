@@ -1,5 +1,4 @@
-//! The reader of decks: one pass over the bytes (`specs/Reading.antt`). What is read is `specs/Deck.antt`, or a fault of
-//! `specs/Fault.antt`.
+//! The reader of decks, line by line (`specs/Reading.antt`). What is read is `specs/Deck.antt`, or a fault of `specs/Fault.antt`.
 
 ghost use Rattle.std.specs.Prelude.{◌≡◌, ◌<◌, ◌≤◌, ◌-◌, ◌+◌, ◌^◌, ◌++◌, List, [], ◌∷◌, ℕ, true, false, map, Some, length};
 ghost use Rattle.std.specs.Prelude.{option_to_list, MatchResult, IfOk, IfErr, OnOk, IsSome, if◌then◌else◌};

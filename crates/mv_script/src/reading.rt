@@ -1,4 +1,4 @@
-//! The reader of scripts: one pass over the bytes (`specs/Reading.antt`). What is read is `specs/Script.antt`, sound by
+//! The reader of scripts, line by line (`specs/Reading.antt`). What is read is `specs/Script.antt`, sound by
 //! `specs/Sound.antt`, or a fault of `specs/Fault.antt`.
 
 ghost use Rattle.std.specs.Prelude.{◌≡◌, ◌<◌, ◌-◌, ◌^◌, ◌++◌, List, [], ◌∷◌, true, None, not, ◌||◌, nat_lt, is_some};
