@@ -1,10 +1,10 @@
 -- The steps of a job, one by one. Used by do_step and run_on.
-use Rattle.std.proofs.Common.{◌≡◌, ℕ, ◌+◌, ◌<◌, ◌≤◌, ◌==◌, Bool, true, false, List, [], ◌∷◌, ◌++◌, length, get_or}
+use Rattle.std.proofs.Common.{◌≡◌, ℕ, ◌+◌, ◌<◌, ◌≤◌, ◌==◌, Bool, true, false, List, [], ◌∷◌, ◌++◌, length}
 use Rattle.std.proofs.Common.{set, Option, Some, None}
 use Rattle.std.proofs.Common.{option_map, refl, sym, ap, ◌∙◌, subst, if◌then◌else◌, arith}
 use Rattle.std.specs.List.{AllByRecursion}
 use Rattle.std.proofs.lemmas.Bool.{eq-eqb, eqb-true}
-use Rattle.std.proofs.lemmas.List.{get_or-set_same, get_or-set_other, length-set}
+use Rattle.std.proofs.lemmas.List.{get_or-set_same, get_or-set_other}
 use Rattle.mv_machine.specs.System.{with_at}
 use Rattle.mv_deck.specs.Deck.{JobData}
 use Rattle.mv_latchset.specs.declared.token.LatchToken.{LatchToken}
@@ -12,7 +12,7 @@ use Rattle.mv_plan.proofs.lists.Lists.{all_get}
 use Rattle.mv_work.specs.declared.initiator.Notes.{Notes}
 use Rattle.mv_work.specs.Initiating.{AreGiven, IsAtJob, jobs_of_records}
 use Rattle.mv_work.specs.Records.{Recorded}
-use Rattle.mv_work.specs.Steps.{AreKept, requests_of}
+use Rattle.mv_work.specs.Steps.{requests_of}
 
 -- the number of a request
 abbrev pub id_of : LatchToken → ℕ
@@ -32,23 +32,6 @@ kept_with tokens latch token lt i k = by_case (k == latch) refl i where
       ap (λ o. option_map id_of o) (get_or-set_other tokens latch k (Some token) None (λ q. absurd (cc (sym is ∙ eq-eqb k latch q))))
       ∙ sym (ap (λ (b : Bool). if b then Some token.id else requests_of tokens k) is)
 
-pub still_kept : (tokens : List (Option LatchToken)) (latch : ℕ) (token : LatchToken) → AreKept tokens → latch ≤ 7
-    → token.latch ≡ latch → AreKept (set tokens latch (Some token))
-still_kept tokens latch token kept low is = record {
-  count = length-set tokens latch (Some token) ∙ kept.count;
-  own = λ k t at. by_case k t at (k == latch) refl;
-} where
-  by_case : (k : ℕ) (t : LatchToken) → get_or (set tokens latch (Some token)) k None ≡ Some t → (b : Bool) → (k == latch) ≡ b
-      → t.latch ≡ k
-  by_case k t at true e =
-      let same : k ≡ latch = eqb-true k latch e in
-      let count = kept.count in
-      let q : ◌≡◌ {A = Option LatchToken} (Some token) (Some t) = sym (get_or-set_same tokens latch (Some token) None (omega arith))
-      ∙ sym (ap (λ m. get_or (set tokens latch (Some token)) m None) same) ∙ at in
-      let p : token ≡ t = cc q in sym (ap (λ (x : LatchToken). x.latch) p) ∙ is ∙ sym same
-  by_case k t at false e = kept.own k t
-      (sym (get_or-set_other tokens latch k (Some token) None (λ q. absurd (cc (sym e ∙ eq-eqb k latch q)))) ∙ at)
-
 -- a job that has no request yet
 pub no_requests : (tokens : List (Option LatchToken)) → AllByRecursion (λ o. o ≡ None) tokens → requests_of tokens ≡ (λ (latch : ℕ). None)
 no_requests tokens all i latch = ap (λ o. option_map id_of o) (all_get (λ o. o ≡ None) tokens latch None all refl) i
@@ -59,12 +42,6 @@ no_tokens = None ∷ None ∷ None ∷ None ∷ None ∷ None ∷ None ∷ None 
 
 pub none_each : AllByRecursion (λ o. o ≡ None) no_tokens
 none_each = (refl, (refl, (refl, (refl, (refl, (refl, (refl, (refl, tt))))))))
-
-pub none_kept : AreKept no_tokens
-none_kept = record {
-  count = refl;
-  own = λ latch t at. absurd (cc (sym (all_get (λ o. o ≡ None) no_tokens latch None none_each refl) ∙ at));
-}
 
 -- a job that still runs, with what is noted now
 pub still_at : {deck : List JobData} {old : Notes} {round job marks : ℕ} (noted : Recorded) (less : ℕ) → noted.jobs ≡ old.noted.jobs

@@ -1,21 +1,13 @@
-use Rattle.std.proofs.Common.{◌≡◌, ◌+◌, ◌-◌, suc, [], length, refl, ◌∙◌, subst, arith}
+use Rattle.std.proofs.Common.{◌≡◌, ◌+◌, ◌-◌, suc, [], length, refl, subst, arith}
 use Rattle.mv_work.specs.Noting.{initiating_noted, rounds_noted}
 use Rattle.mv_work.specs.Parts.{jobs_of}
 use Rattle.mv_work.specs.Ran.{Leads}
-use Rattle.mv_work.proofs.Decks.{own_number}
 use Rattle.mv_work.proofs.Runs.{leads_all, leads_on, ran_last, served_as}
 use Rattle.mv_work.proofs.Waits.{comes_astray, comes_on}
 use Rattle.mv_work.proofs.initiator.initiate.Goals as goal
 
 pub returns-in_default : goal.returns-in_default
 returns-in_default g c = comes_astray (ran_last (served_as c.in_default.ensures.served) _ refl)
-
-pub begin_round-requires-clause-token : goal.begin_round-requires-clause-token
-begin_round-requires-clause-token g c = (
-  own_number c.requires.spool c.in-Ok.token.element c.args.task.now.number
-      (let lt = c.requires.index in omega arith) c.in-Ok.ensures.own.1 ∙ c.requires.number,
-  c.in-Ok.ensures.low,
-)
 
 pub returns : goal.returns
 returns g c =

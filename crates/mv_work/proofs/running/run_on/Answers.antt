@@ -18,7 +18,7 @@ use Rattle.mv_work.specs.Ran.{Leads}
 use Rattle.mv_work.specs.Steps.{IsGoodDid, requests_of}
 use Rattle.mv_work.proofs.Decks.{job_count, job_numbers}
 use Rattle.mv_work.proofs.Reaches.{release_cost_is}
-use Rattle.mv_work.proofs.Runs.{leads_all, leads_astray, leads_on, leads_same, leads_then, leads_under}
+use Rattle.mv_work.proofs.Runs.{leads_astray, leads_on, leads_same, leads_then, leads_under}
 use Rattle.mv_work.proofs.Calls.{latch_asked}
 use Rattle.mv_work.proofs.Steps.{still_at}
 use Rattle.mv_work.proofs.Waits.{comes_astray, comes_on}
@@ -52,10 +52,6 @@ plan g c = (job_at (jobs_of c.args.deck.now) c.args.running.job).steps
 is_next : (g : bound.Over) (c : After-do_step g) → IsNext (plan g c) c.loop-place.place c.index-steps-place.result
 is_next g c = next_is c.steps_of-steps.result.now (plan g c) c.loop-place.place c.index-steps-place.result c.loop-place-test.true
     c.steps_of-steps.ensures c.index-steps-place.is
-
-pub loop-place-init : goal.loop-place-init
-loop-place-init g c =
-    record { rests = c.requires.rests; at = c.requires.running.at; leads = leads_all _ c.args.task.now }
 
 pub do_step-requires-clause-config : goal.do_step-requires-clause-config
 do_step-requires-clause-config g c =
