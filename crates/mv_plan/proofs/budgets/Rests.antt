@@ -4,7 +4,6 @@ use Rattle.mv_plan.proofs.Words.{◌≡◌, ℕ, suc, ◌+◌, ◌*◌, ◌≤�
 use Rattle.mv_plan.proofs.Words.{arith, length-map, length-map-range_with_len, Reply, After, Step, JobData, complete_count}
 use Rattle.mv_plan.proofs.Words.{end_for_scheduler, idle}
 use Rattle.mv_ecb.specs.declared.operation.EcbReply.TheVariants as ecb_reply
-use Rattle.mv_element.specs.declared.operation.ElementReply.TheVariants as element_reply
 use Rattle.mv_machine.specs.declared.entry.Reply.TheVariants as reply_of
 use Rattle.mv_plan.proofs.deck.Events.{after_parts}
 use Rattle.mv_plan.proofs.points.Points.{Point, At, TooSoon, ReaderAt, Entering, entering_from, reader_goes, Arming, Settling, Stage}

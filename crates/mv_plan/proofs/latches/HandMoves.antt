@@ -18,9 +18,9 @@ use Rattle.mv_plan.proofs.latches.Hands.{obtain_holds, confirm_owns, free_stands
 use Rattle.mv_plan.proofs.latches.Hands.{counting_owns}
 use Rattle.mv_plan.proofs.points.InitiatorSound.{held_of, IsInitiatorAt}
 use Rattle.mv_plan.proofs.latches.Lists.{new_request, obtained_reply, confirm_granted, all_asked, AllAsked}
-use Rattle.mv_plan.proofs.points.Points.{Point, At, Grant, InitiatorAt, Opening, Offering, Pausing, Resuming, Obtaining, Confirming}
-use Rattle.mv_plan.proofs.points.Points.{Freeing, Reading, Writing, Scanning, Rescanning, Purging, EndingJob, EndingForScheduler}
-use Rattle.mv_plan.proofs.points.Points.{EndingForWriter, Closing, initiator_asks, initiator_goes}
+use Rattle.mv_plan.proofs.points.Points.{Point, At, Grant, InitiatorAt, Opening, Pausing, Resuming, Obtaining, Confirming}
+use Rattle.mv_plan.proofs.points.Points.{Freeing, Reading, Writing, Scanning, Rescanning, Purging}
+use Rattle.mv_plan.proofs.points.Points.{Closing, initiator_asks, initiator_goes}
 use Rattle.mv_plan.proofs.points.Points.{InJob}
 use Rattle.mv_plan.proofs.walks.Walks.{Points, Move, reads, schedules, initiates, writes}
 use Rattle.mv_plan.proofs.lists.Tables.{all_but}

@@ -15,7 +15,7 @@ use Rattle.mv_machine.specs.Kept.{StandingRequest, is_named, is_for, less}
 use Rattle.mv_plan.proofs.deck.Plans.{Held, is_held, ArePlannedSteps, ArePlannedJobs}
 use Rattle.mv_plan.proofs.points.Points.{Point, At, Grant, Running, Hand, empty_hand, hand_with, without_latch, hand_without, hand_at}
 use Rattle.mv_plan.proofs.points.Points.{InitiatorAt, Opening, Offering, Pausing, Resuming, Obtaining, Confirming, Freeing, Reading}
-use Rattle.mv_plan.proofs.points.Points.{Writing, Scanning, Rescanning, Purging, EndingJob, EndingForScheduler, EndingForWriter, Closing}
+use Rattle.mv_plan.proofs.points.Points.{Writing, Scanning, Rescanning, Purging, EndingJob, EndingForScheduler, EndingForWriter}
 use Rattle.mv_plan.proofs.points.Points.{initiator_asks, initiator_goes, rounds_after, steps_at, running, job_start, given_at, InJob}
 use Rattle.mv_plan.proofs.points.PostsAndWaits.{on_posted_keeps}
 use Rattle.mv_plan.proofs.points.ReaderAndWriter.{keeps}

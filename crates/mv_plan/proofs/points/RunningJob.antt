@@ -7,8 +7,8 @@ use Rattle.mv_latch.specs.declared.operation.LatchReply.TheVariants as latch_rep
 use Rattle.mv_machine.specs.declared.entry.Reply.TheVariants as reply_of
 use Rattle.mv_machine.specs.declared.entry.VolumeReply.TheVariants as volume_reply
 use Rattle.mv_plan.proofs.points.Points.{Point, At, Astray, Running, Hand, InitiatorAt, Opening, Offering, Pausing, Resuming, Obtaining}
-use Rattle.mv_plan.proofs.points.Points.{Confirming, Freeing, Reading, Writing, Scanning, Rescanning, Purging, EndingJob}
-use Rattle.mv_plan.proofs.points.Points.{EndingForScheduler, EndingForWriter, Closing, initiator_asks, initiator_goes, steps_at}
+use Rattle.mv_plan.proofs.points.Points.{Confirming, Freeing, Writing, Scanning, Rescanning, Purging, EndingJob}
+use Rattle.mv_plan.proofs.points.Points.{Closing, initiator_asks, initiator_goes, steps_at}
 use Rattle.mv_plan.proofs.points.Points.{job_start, rounds_after, empty_hand, rounds_from, running, given_at, JobAt}
 use Rattle.mv_plan.proofs.points.Points.{InJob}
 use Rattle.mv_plan.proofs.points.InitiatorSound.{IsRunning, IsInitiatorAt}

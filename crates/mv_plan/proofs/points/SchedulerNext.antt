@@ -6,7 +6,7 @@ use Rattle.mv_plan.proofs.Words.{complete_count}
 use Rattle.mv_ecb.specs.declared.operation.EcbReply.TheVariants as ecb_reply
 use Rattle.mv_element.specs.declared.operation.ElementReply.TheVariants as element_reply
 use Rattle.mv_machine.specs.declared.entry.Reply.TheVariants as reply_of
-use Rattle.mv_plan.proofs.points.Points.{Point, At, TooSoon, Astray, WaitAt, Arming, Settling, Stage, Dispatching, Dismissing, Awaited}
+use Rattle.mv_plan.proofs.points.Points.{Point, At, TooSoon, Astray, WaitAt, Settling, Stage, Dispatching, Dismissing, Awaited}
 use Rattle.mv_plan.proofs.points.Points.{ForEntry, ForEnds, ForIdle, ToDismiss, SchedulerAt, Waits, Extends, Clears, Releases}
 use Rattle.mv_plan.proofs.points.Points.{awaited_count, scheduler_goes, settling_from, found_at}
 use Rattle.mv_plan.proofs.points.Points.{ends_at, stage_at, on_released}

@@ -6,7 +6,6 @@ use Rattle.mv_plan.proofs.Words.{zero-add, arith, cases_eq, length-append, lengt
 use Rattle.mv_plan.proofs.Words.{JobData, After, Step, Kept, code_of}
 use Rattle.mv_plan.specs.SpoolSetup.{done}
 use Rattle.mv_ecb.specs.declared.operation.EcbReply.TheVariants as ecb_reply
-use Rattle.mv_element.specs.declared.operation.ElementReply.TheVariants as element_reply
 use Rattle.mv_machine.specs.declared.entry.Reply.TheVariants as reply_of
 use Rattle.mv_plan.proofs.deck.Plans.{IsPlannedJob, ArePlannedJobs}
 use Rattle.mv_plan.proofs.points.Points.{Point, At, TooSoon, WaitAt, Arming, Settling, Stage, Dispatching, Dismissing, Awaited, ForEntry}

@@ -25,11 +25,11 @@ use Rattle.mv_plan.proofs.places.Ledger.{element_code}
 use Rattle.mv_plan.proofs.deck.Setup.{Facts}
 use Rattle.mv_plan.proofs.points.Points.{Point, At, TooSoon, Astray, Dispatching, Dismissing, Awaited, ForEntry, ForEnds, ForIdle}
 use Rattle.mv_plan.proofs.points.Points.{ToDismiss, Arming, Settling, ReaderAt, Entering, reader_asks, reader_goes}
-use Rattle.mv_plan.proofs.points.Points.{SchedulerAt, Waits, Extends, Clears, Releases, awaited_blocks, awaited_count, scheduler_asks}
+use Rattle.mv_plan.proofs.points.Points.{SchedulerAt, Waits, Extends, Clears, awaited_blocks, awaited_count, scheduler_asks}
 use Rattle.mv_plan.proofs.points.Points.{scheduler_goes, arming_first, arming_from, settling_from, found_at, ends_at}
 use Rattle.mv_plan.proofs.points.Points.{lowest_at, on_posted, on_armed, on_settled, WriterAt, Keeping, writer_asks}
 use Rattle.mv_plan.proofs.points.Points.{writer_goes, writing_from, writer_arming, end_found, Hand, empty_hand, Running, running}
-use Rattle.mv_plan.proofs.points.Points.{InitiatorAt, Opening, Offering, Pausing, Resuming, Purging, EndingJob, EndingForScheduler}
+use Rattle.mv_plan.proofs.points.Points.{InitiatorAt, Opening, Pausing, Resuming, EndingJob}
 use Rattle.mv_plan.proofs.points.Points.{EndingForWriter, Closing, initiator_asks, initiator_goes, rounds_from, rounds_after, freeing_at}
 use Rattle.mv_plan.proofs.points.Points.{steps_at, job_start, named_at, given_at, on_opened, on_paused, on_resumed, on_closed, on_ended}
 use Rattle.mv_plan.proofs.points.Points.{InJob}

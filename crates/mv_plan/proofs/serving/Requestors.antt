@@ -12,9 +12,9 @@ use Rattle.mv_machine.specs.declared.entry.VolumeReply.TheVariants as volume_rep
 use Rattle.mv_plan.proofs.volumes.GivenCodes.{with_code}
 use Rattle.mv_plan.proofs.latches.HandMoves.{Apart, works}
 use Rattle.mv_plan.proofs.points.InitiatorSound.{named_is, IsInitiatorAt}
-use Rattle.mv_plan.proofs.points.Points.{Point, At, Running, Hand, empty_hand, InitiatorAt, Opening, Offering, Pausing, Resuming}
-use Rattle.mv_plan.proofs.points.Points.{Obtaining, Confirming, Freeing, Reading, Writing, Scanning, Rescanning, Purging}
-use Rattle.mv_plan.proofs.points.Points.{EndingJob, EndingForScheduler, EndingForWriter, Closing, initiator_asks, initiator_goes}
+use Rattle.mv_plan.proofs.points.Points.{Point, At, Running, Hand, empty_hand, InitiatorAt, Opening, Pausing, Resuming}
+use Rattle.mv_plan.proofs.points.Points.{Obtaining, Confirming, Freeing, Writing, Scanning, Rescanning, Purging}
+use Rattle.mv_plan.proofs.points.Points.{initiator_asks, initiator_goes}
 use Rattle.mv_plan.proofs.points.Points.{rounds_from, steps_at, running, job_start, given_at, ReaderAt, Entering, SchedulerAt}
 use Rattle.mv_plan.proofs.points.Points.{WriterAt, reader_asks, scheduler_asks, writer_asks, InJob}
 use Rattle.mv_plan.proofs.walks.Walks.{Points, start_points, Move, reads, schedules, initiates, writes}

@@ -5,12 +5,10 @@ use Rattle.mv_plan.proofs.Words.{refl, sym, subst, arith, range_with_len, ecb_st
 use Rattle.mv_plan.proofs.Words.{Object, Ecb, Op, Reply, System, Cell, moved, reply_to, with_at, advanced}
 use Rattle.mv_plan.proofs.Words.{JobData, After, Step, scheduler, idle, code_of}
 use Rattle.mv_ecb.specs.declared.operation.EcbOp.TheVariants as ecb_op
-use Rattle.mv_ecb.specs.declared.operation.EcbReply.TheVariants as ecb_reply
-use Rattle.mv_element.specs.declared.operation.ElementReply.TheVariants as element_reply
 use Rattle.mv_machine.specs.declared.entry.Op.TheVariants as op_on
 use Rattle.mv_machine.specs.declared.entry.Reply.TheVariants as reply_of
 use Rattle.mv_plan.proofs.points.Points.{Point, At, TooSoon, Astray, Stage, Dispatching, Dismissing, Awaited, ForEntry, ForEnds, ForIdle}
-use Rattle.mv_plan.proofs.points.Points.{ToDismiss, WaitAt, Arming, Settling, SchedulerAt, Waits, Extends, Clears, Releases, awaited_blocks}
+use Rattle.mv_plan.proofs.points.Points.{ToDismiss, WaitAt, Settling, SchedulerAt, Waits, Clears, awaited_blocks}
 use Rattle.mv_plan.proofs.points.Points.{scheduler_asks, scheduler_goes, on_settled}
 use Rattle.mv_plan.proofs.points.Points.{settling_from, found_at, ends_at, stage_at, lowest_at}
 use Rattle.mv_plan.proofs.points.SchedulerSound.{IsWaitAt}

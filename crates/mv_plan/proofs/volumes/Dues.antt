@@ -8,9 +8,9 @@ use Rattle.mv_machine.specs.declared.entry.Reply.TheVariants as reply_of
 use Rattle.mv_machine.specs.declared.entry.VolumeReply.TheVariants as volume_reply
 use Rattle.mv_plan.proofs.volumes.Added.{added_by}
 use Rattle.mv_plan.proofs.volumes.GivenCodes.{with_code, adds_if, adds_named, adds, adds_all, adds_high}
-use Rattle.mv_plan.proofs.points.Points.{Point, At, Running, Hand, empty_hand, InitiatorAt, Opening, Offering, Pausing, Resuming}
+use Rattle.mv_plan.proofs.points.Points.{Point, At, Running, Hand, empty_hand, InitiatorAt, Pausing, Resuming}
 use Rattle.mv_plan.proofs.points.Points.{Obtaining, Confirming, Freeing, Reading, Writing, Scanning, Rescanning, Purging}
-use Rattle.mv_plan.proofs.points.Points.{EndingJob, EndingForScheduler, EndingForWriter, Closing, initiator_goes, steps_at}
+use Rattle.mv_plan.proofs.points.Points.{Closing, initiator_goes, steps_at}
 use Rattle.mv_plan.proofs.points.Points.{running, job_start, given_at, initiator_asks, InJob}
 use Rattle.mv_plan.proofs.volumes.Values.{ValueAt, read_keeps, volumes_asked}
 use Rattle.mv_plan.proofs.points.Views.{IsNotLost}

@@ -69,7 +69,18 @@ step_unposted c k place (latch_op.Purge requestor) lists e adm a = purged_unpost
 
 wakes_unposted : (k : ℕ) (op : LatchOp) (lists : List (List Request)) → AllUnposted lists → PostNothing (wakes k op lists)
 wakes_unposted k x lists a =
-    grind (arith, common_steps, wakes_of_unposted, all_filter, granted_unposted, released_unposted, list_unposted, all_append, all_flat, all_drop)
+    grind (
+      arith,
+      common_steps,
+      wakes_of_unposted,
+      all_filter,
+      granted_unposted,
+      released_unposted,
+      list_unposted,
+      all_append,
+      all_flat,
+      all_drop,
+    )
 
 -- ---- exits
 
