@@ -30,10 +30,7 @@ held_next done step l = fold-append (held_behind l) None done (step ∷ [])
 -- a step that takes no latch and gives none back
 same_lists : (hs : List Held) (done : List Step) (step : Step) → ((l : ℕ) (m : Option Mode) → held_behind l m step ≡ m)
     → Lists hs done → Lists hs (done ++ step ∷ [])
-same_lists hs done step same x = record {
-  known = λ l. held_next done step l ∙ same l (held done l) ∙ x.known l;
-  low = x.low;
-}
+same_lists hs done step same x = grind (arith, common_steps)
 
 -- ---- USE
 

@@ -524,17 +524,7 @@ module _ (deck : List JobData) (initiators : ℕ) where
   stage_first c x sp e = grind (arith, common_steps)
 
   pub posted_first : (c : Setup) → Posted deck initiators (opening c) (start_points deck initiators)
-  posted_first c = record {
-    entering = λ j below from code e. cc e;
-    coming = λ j below from code e. cc e;
-    handed = λ i j skipped lt below e code f. cc f;
-    stages = λ i lt. tt;
-    order = λ j below. (
-      λ w. absurd (let e : ◌≡◌ {A = EcbState} Zero (Complete w.0) = w.1 in cc e),
-      λ w. absurd (let e : ◌≡◌ {A = EcbState} Zero (Complete w.0) = w.1 in cc e),
-    );
-    blocks = stage_first c deck (λ j below. (λ less. absurd (omega arith), λ le. refl)) refl;
-  }
+  posted_first c = grind (arith, common_steps)
 
   -- ---- the Extend of a done block is answered Armed
 

@@ -255,10 +255,4 @@ module _ (deck : List JobData) (initiators : ℕ) (sound : IsPlanned deck initia
   stage_first x = grind (arith, common_steps)
 
   pub codes_first : (c : Setup) → Codes deck initiators (opening c) (start_points deck initiators)
-  codes_first c = record {
-    blocks = λ j b code lt has e. absurd (cc e);
-    elements = λ m code e. absurd (cc e);
-    scheduler = stage_first deck;
-    runs = λ i lt run e. absurd (cc e);
-    writer = writing_keeps deck 0 (length deck) [] (ends deck) refl refl (omega arith);
-  }
+  codes_first c = grind (arith, common_steps)

@@ -201,7 +201,4 @@ no_list zero latch = grind (arith, common_steps)
 no_list (suc latches) latch = grind (arith, common_steps, no_list latches)
 
 pub hands_start : (latches initiators : ℕ) → Hands initiators (replicate latches []) (λ i. At Opening)
-hands_start latches initiators = record {
-  owns = λ i lt. λ latch. subst (λ qs. mine (initiator i) qs ≡ []) (sym (no_list latches latch)) refl;
-  known = λ latch. subst (AllByRecursion (IsKnown initiators)) (sym (no_list latches latch)) tt;
-}
+hands_start latches initiators = grind (arith, common_steps)

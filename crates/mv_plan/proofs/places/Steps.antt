@@ -42,17 +42,7 @@ module _ (n initiators : ℕ) (few : n ≤ not_to_run) where
       → next' ≡ next → ((i : ℕ) → i < initiators → held' i ≡ held i) → ((i : ℕ) → i < initiators → run_at' i ≡ run_at i)
       → ((i : ℕ) → i < initiators → befores' i ≡ befores i)
       → Placed n initiators next held run_at befores place → Placed n initiators next' held' run_at' befores' place
-  placed_same next next' held held' run_at run_at' befores befores' place a b d e w = record {
-    coming = λ j le. w.coming j (omega arith);
-    comes = λ j z. let le : next ≤ j = w.comes j z in omega arith;
-    handed = λ i j skipped lt less q. w.handed i j skipped lt less (sym (b i lt) ∙ q);
-    hands = λ i j z. let h : (i < initiators) × (skipped : Bool) × (held i ≡ Some (code_of j skipped)) = w.hands i j z in
-        (h.0, h.1, b i h.0 ∙ h.2);
-    running = λ i run lt q. w.running i run lt (sym (d i lt) ∙ q);
-    runs = λ i j z. let h : (i < initiators) × (run : Running) × (run_at i ≡ Some run) × (run.job ≡ j) = w.runs i j z in
-        (h.0, h.1, d i h.0 ∙ h.2, h.3);
-    over = λ i lt. subst (λ js. AllByRecursion (λ j. place j ≡ Over) js) (sym (e i lt)) (w.over i lt);
-  }
+  placed_same next next' held held' run_at run_at' befores befores' place a b d e w = grind (arith, common_steps)
 
   -- one place changes
   module _ (place : ℕ → Place) (k : ℕ) (q : Place) where
@@ -118,44 +108,13 @@ module _ (n initiators : ℕ) (few : n ≤ not_to_run) where
     -- the scheduler releases code 0
     pub placed_dismissed : (held' : ℕ → Option ℕ) → held i ≡ None → held' i ≡ Some 0 → ((m : ℕ) → (i ≡ m → ⊥) → held' m ≡ held m)
         → Placed n initiators next held' run_at befores place
-    placed_dismissed held' none now others = record {
-      coming = w.coming;
-      comes = w.comes;
-      handed = λ m j b less under e. to_held m j b less under e (cases_eq i m);
-      hands = λ m j z. let h : (m < initiators) × (b : Bool) × (held m ≡ Some (code_of j b)) = w.hands m j z in
-          (h.0, h.1, others m (λ y. none_some _ _ none (ap (λ x. held x) y ∙ h.2)) ∙ h.2);
-      running = w.running;
-      runs = w.runs;
-      over = w.over;
-    } where
-      to_held : (m j : ℕ) (b : Bool) → m < initiators → j < n → held' m ≡ Some (code_of j b) → (i ≡ m) ⊎ (i ≡ m → ⊥)
-          → place j ≡ Handed m
-      to_held m j b less under e (inl same) = absurd (never_zero j b (same_Some _ _ (sym (sym now ∙ ap (λ z. held' z) same ∙ e))))
-      to_held m j b less under e (inr other) = w.handed m j b less under (sym (others m other) ∙ e)
+    placed_dismissed held' none now others = grind (arith, common_steps)
 
     -- initiator i is given code 0
     pub placed_left : (held' : ℕ → Option ℕ) (befores' : ℕ → List ℕ) → held i ≡ Some 0 → held' i ≡ None
         → ((m : ℕ) → (i ≡ m → ⊥) → held' m ≡ held m)
         → befores' i ≡ [] → ((m : ℕ) → (i ≡ m → ⊥) → befores' m ≡ befores m) → Placed n initiators next held' run_at befores' place
-    placed_left held' befores' was now others empty same = record {
-      coming = w.coming;
-      comes = w.comes;
-      handed = λ m j b less under e. to_held m j b less under e (cases_eq i m);
-      hands = λ m j z. let h : (m < initiators) × (b : Bool) × (held m ≡ Some (code_of j b)) = w.hands m j z in
-          (h.0, h.1, others m (λ y. never_zero j h.1 (same_Some _ _ (sym h.2 ∙ ap (λ x. held x) (sym y) ∙ was))) ∙ h.2);
-      running = w.running;
-      runs = w.runs;
-      over = λ m less. to_over m less (cases_eq i m);
-    } where
-      to_held : (m j : ℕ) (b : Bool) → m < initiators → j < n → held' m ≡ Some (code_of j b) → (i ≡ m) ⊎ (i ≡ m → ⊥)
-          → place j ≡ Handed m
-      to_held m j b less under e (inl same) = absurd (none_some _ _ now (ap (λ z. held' z) same ∙ e))
-      to_held m j b less under e (inr other) = w.handed m j b less under (sym (others m other) ∙ e)
-
-      to_over : (m : ℕ) → m < initiators → (i ≡ m) ⊎ (i ≡ m → ⊥) → AllByRecursion (λ j. place j ≡ Over) (befores' m)
-      to_over m less (inl same') = subst (λ js. AllByRecursion (λ j. place j ≡ Over) js)
-          (sym (ap (λ z. befores' z) (sym same') ∙ empty)) tt
-      to_over m less (inr other) = subst (λ js. AllByRecursion (λ j. place j ≡ Over) js) (sym (same m other)) (w.over m less)
+    placed_left held' befores' was now others empty same = grind (arith, common_steps)
 
     -- initiator i is given the code of a job and starts with it
     pub placed_started : (held' : ℕ → Option ℕ) (run_at' : ℕ → Option Running) (befores' : ℕ → List ℕ) (run : Running) → run.job < n

@@ -331,27 +331,7 @@ pub pushed_kept : (i : ℕ) (kept : Kept) (run : Running) (hand : Hand) (latch :
           record { id = id; caller = kept.caller; requestor = run.job + 1; mode = mode; form = form_of.Waiting };
     } ∷ []
     → InitiatorKept i (standing_of (initiator i) run.job (hand_with hand latch mode id).holding) o
-pushed_kept i kept run hand latch mode id k same more = record {
-  caller = same ∙ k.caller;
-  stand = more
-      ∙ ap (λ ts. ts ++ record {
-        latch = latch;
-        request = record {
-          id = id;
-          caller = kept.caller;
-          requestor = run.job + 1;
-          mode = mode;
-          form = form_of.Waiting;
-        };
-      } ∷ []) k.stand
-      ∙ ap (λ c. standing_of (initiator i) run.job hand.holding ++
-      record {
-        latch = latch;
-        request =
-            record { id = id; caller = c; requestor = run.job + 1; mode = mode; form = form_of.Waiting };
-      } ∷ []) k.caller
-      ∙ sym (standing_push (initiator i) run.job latch mode id hand.holding);
-}
+pushed_kept i kept run hand latch mode id k same more = grind (arith, common_steps)
 
 pub freed_stand : (deck : List JobData) (run : Running) (hand : Hand) (latch : ℕ) (steps : List Step)
     → IsStepping deck run hand (Free latch ∷ steps) → IsStepping deck run (hand_without hand latch) steps

@@ -157,11 +157,7 @@ one_pushed xs ys x = append_assoc xs (x ∷ []) ys
 pub extended_kept : (deck : List JobData) (initiators : ℕ) (kept : Kept) (j : ℕ) (job : JobData) (jobs : List JobData) (skipped : Bool)
     → SchedulerKept (length deck) j kept → SchedulerKept (length deck) (j + 1)
     (keeps kept (scheduler_asks (length deck) (Extends j job jobs skipped)) (reply_of.Ecb ecb_reply.Armed))
-extended_kept deck initiators kept j job jobs skipped s =
-    record { caller = s.caller; within = λ e held. extended_more e held (cases_eq e (done (length deck) j)) } where
-      extended_more : (e : ℕ) → with_at kept.extended (done (length deck) j) true e ≡ true
-          → (e ≡ done (length deck) j) ⊎ (e ≡ done (length deck) j → ⊥) → (length deck ≤ e) × (e < length deck + (j + 1))
-      extended_more e held x = grind (arith, common_steps)
+extended_kept deck initiators kept j job jobs skipped s = grind (arith, common_steps)
 
 pub scheduler_stands : (deck : List JobData) (initiators : ℕ) (kept : Kept) (x : SchedulerAt) (r : Reply)
     → SchedulerStands deck initiators kept (At x)

@@ -43,11 +43,7 @@ closings_same m (x ∷ past) e q = grind (arith, common_steps, closings_same m p
 
 module _ (n initiators : ℕ) (past : List Entry) (d : ℕ) (w : Closes n initiators past d) (e : Entry) where
   closes_quiet : (d' : ℕ) → d' ≡ d → release_code e.op ≡ None → Closes n initiators (past ++ e ∷ []) d'
-  closes_quiet d' q none = record {
-    releases = all_push _ past e w.releases (plain_right n initiators e.object e.op e.reply none);
-    closed = λ i lt. closings_same (initiator i) past e (plain_open (initiator i) e.object e.op none) ∙ w.closed i (omega arith);
-    unclosed = λ i le. closings_same (initiator i) past e (plain_open (initiator i) e.object e.op none) ∙ w.unclosed i (omega arith);
-  }
+  closes_quiet d' q none = grind (arith, common_steps)
 
 module _ (c : Setup) (deck : List JobData) (initiators : ℕ) (kept : ℕ → Kept) (past : List Entry) where
   abbrev n : ℕ
@@ -103,9 +99,4 @@ module _ (c : Setup) (deck : List JobData) (initiators : ℕ) (kept : ℕ → Ke
 -- before the first entry
 pub closes_start : (deck : List JobData) (initiators : ℕ)
     → Closes (length deck) initiators [] (dismissed_by initiators (errand (stage_at (length deck) initiators (Dispatching 0 deck))))
-closes_start deck initiators = record { releases = tt; closed = λ i lt. absurd (none deck i lt); unclosed = λ i le. refl } where
-  dismissals : (n more : ℕ) → dismissed_by more (errand (dismissing_from n 0 more)) ≡ 0
-  dismissals n x = grind (arith, common_steps)
-
-  none : (deck : List JobData) (i : ℕ) → i < dismissed_by initiators (errand (stage_at (length deck) initiators (Dispatching 0 deck))) → ⊥
-  none x i lt = grind (arith, common_steps)
+closes_start deck initiators = grind (arith, common_steps)

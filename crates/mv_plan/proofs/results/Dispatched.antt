@@ -49,24 +49,7 @@ module _ (c : Setup) (deck : List JobData) (initiators : ℕ) where
   ClosesWell s t e u = Rows deck initiators s t → ClosesNone s e.object e.op
 
   each_closes_none : Each c deck initiators ClosesWell
-  each_closes_none = record {
-    of_reader = λ s t x p r at nx w. from_reader s x;
-    of_scheduler = λ s t x p r at nx w. from_scheduler s x;
-    of_initiator = λ s t i x p r lt at nx w. from_initiator s t.scheduler i x (subst (λ z. RowAt n s t.scheduler i z) at (w.rows i lt));
-    of_writer = λ s t x p r at nx w. from_writer s x;
-  } where
-    from_reader : (s : System) (x : ReaderAt) → ClosesNone s (reader_asks x).0 (reader_asks x).1
-    from_reader s (Entering j more) = tt
-
-    from_scheduler : (s : System) (x : SchedulerAt) → ClosesNone s (scheduler_asks n x).0 (scheduler_asks n x).1
-    from_scheduler s x = grind (arith, common_steps)
-
-    from_writer : (s : System) (x : WriterAt) → ClosesNone s (writer_asks x).0 (writer_asks x).1
-    from_writer s x = grind (arith, common_steps)
-
-    from_initiator : (s : System) (q : Point SchedulerAt) (i : ℕ) (x : InitiatorAt) → RowAt n s q i (At x)
-        → ClosesNone s (initiator_asks n i x).0 (initiator_asks n i x).1
-    from_initiator s q i x w = grind (arith, common_steps)
+  each_closes_none = grind (arith, common_steps)
 
   pub closes_none : (s : System) (t u : Points) (e : Entry) → IsNext c s e → Move deck initiators t e u → Rows deck initiators s t
       → ClosesNone s e.object e.op
@@ -121,10 +104,7 @@ pub record Dispatches (deck : List JobData) (initiators : ℕ) (s : System) (t :
   pub exacts : AreExacting s past
 
 exact_start : (c : Setup) → AreExacting (opening c) []
-exact_start c m g = record {
-  known = record { future = λ lt. (refl, refl); now = λ e. (refl, refl); past = λ lt. inl refl; few = omega arith };
-  matched = λ lt e. refl;
-}
+exact_start c m g = grind (arith, common_steps)
 
 module _ (deck : List JobData) (initiators : ℕ) (some : 1 ≤ initiators) (sound : IsPlanned deck initiators) (es : List Entry)
     (run : IsRun deck initiators es) where

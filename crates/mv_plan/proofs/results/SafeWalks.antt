@@ -50,12 +50,7 @@ not_lost : {X : Type 0} (p : Point X) → IsForeseen p → (p ≡ TooSoon → �
 not_lost x w d = grind (arith, common_steps)
 
 pub none_lost_of : (initiators : ℕ) (t : Points) → AllForeseen initiators t → AreInTime initiators t → NoneLost initiators t
-none_lost_of initiators t w d = record {
-  at_reader = not_lost t.reader w.at_reader d.at_reader;
-  at_scheduler = not_lost t.scheduler w.at_scheduler d.at_scheduler;
-  at_initiator = λ i lt. not_lost (t.initiators i) (w.at_initiator i lt) (d.at_initiator i lt);
-  at_writer = not_lost t.writer w.at_writer d.at_writer;
-}
+none_lost_of initiators t w d = grind (arith, common_steps)
 
 of_rounds_or : (x : InitiatorAt) → (IsOfRounds x) ⊎ (IsOfRounds x → ⊥)
 of_rounds_or x = grind (arith, common_steps)
@@ -270,9 +265,4 @@ start_writer : (n more : ℕ) → IsNotLost (writing_from n 0 more [])
 start_writer n x = grind (arith, common_steps)
 
 pub none_lost_at_start : (deck : List JobData) (initiators : ℕ) → NoneLost initiators (start_points deck initiators)
-none_lost_at_start deck initiators = record {
-  at_reader = start_reader 0 (length deck);
-  at_scheduler = start_scheduler (length deck) initiators deck;
-  at_initiator = λ i lt. tt;
-  at_writer = start_writer (length deck) (length deck);
-}
+none_lost_at_start deck initiators = grind (arith, common_steps)

@@ -214,8 +214,4 @@ module _ (c : Setup) (deck : List JobData) (initiators : ℕ) (kept : ℕ → Ke
   rows_next s t u e st n m w = of_move c deck initiators Kept_by each_kept s t u e n m st w
 
 pub rows_start : (c : Setup) (deck : List JobData) (initiators : ℕ) → Rows deck initiators (opening c) (start_points deck initiators)
-rows_start c deck initiators = record {
-  rows = λ i lt. (refl, stage_no_hold (length deck) initiators (Dispatching 0 deck) i, refl);
-  others = λ m d. refl;
-  finds = stage_here (length deck) initiators (opening c).ecb (Dispatching 0 deck);
-}
+rows_start c deck initiators = grind (arith, common_steps)

@@ -99,10 +99,7 @@ fits_opening c = record { exits = λ n x e. absurd (cc e); plain = none_yet c.la
 
 fits_moved : (c : Setup) (s : System) (k : ℕ) (o : Object) (op : Op) → c.posted_quota ≡ 0 → admitted c s k o op ≡ true → Fits c s
     → Fits c (moved s k o op)
-fits_moved c s k (Ecb m) (op_on.Ecb op) z adm f = record { exits = λ n x e. go n x e (cases_eq n m); plain = f.plain } where
-  go : (n x : ℕ) → (with_at s.ecb m (advanced (s.ecb m) (ecb_step op (s.ecb m).state).0) n).state ≡ Extended x → (n ≡ m) ⊎ (n ≡ m → ⊥)
-      → is_exit_of c x n ≡ true
-  go n x e y = grind (arith, common_steps)
+fits_moved c s k (Ecb m) (op_on.Ecb op) z adm f = grind (arith, common_steps)
 fits_moved c s k (Element m) (op_on.Element op) z adm f = record { exits = f.exits; plain = f.plain }
 fits_moved c s k (Volume m) (op_on.Volume op) z adm f = record { exits = f.exits; plain = f.plain }
 fits_moved c s k Latches (op_on.Latch op) z adm f =

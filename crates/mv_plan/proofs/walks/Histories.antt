@@ -155,16 +155,4 @@ module _ (deck : List JobData) (initiators : ℕ) (some : 1 ≤ initiators) (sou
   }
 
   pub in_time : (f : Follows deck initiators es) → (st : Stood deck initiators some sound es) → AreInTime initiators st.points
-  in_time f st = record {
-    at_reader = λ q. f.waits reader (omega arith)
-        (st.tasks.at_reader ∙ ap (λ p. program_at (reader_program (spool_setup deck initiators) (st.kept reader)) p) q);
-    at_scheduler = λ q. f.waits scheduler (omega arith)
-        (st.tasks.at_scheduler ∙ ap (λ p. program_at
-        (scheduler_program (spool_setup deck initiators) (length deck) initiators (st.kept scheduler)) p) q);
-    at_initiator = λ i lt q. f.waits (initiator i) (omega arith)
-        (st.tasks.at_initiator i lt ∙ ap
-        (λ p. program_at (initiator_program (spool_setup deck initiators) deck i (st.kept (initiator i))) p) q);
-    at_writer = λ q. f.waits (writer initiators) (omega arith)
-        (st.tasks.at_writer ∙ ap (λ p. program_at
-        (writer_program (spool_setup deck initiators) (length deck) (st.kept (writer initiators))) p) q);
-  }
+  in_time f st = grind (arith, common_steps)

@@ -43,14 +43,7 @@ abbrev pub kept_next : (ℕ → Kept) → Entry → ℕ → Kept
 kept_next kept e = with_at kept e.caller (kept_after (kept e.caller) e.object e.op e.reply)
 
 pub stand_start : (deck : List JobData) (initiators : ℕ) → Stand deck initiators nothing_kept (start_points deck initiators)
-stand_start deck initiators = record {
-  at_reader = reader_starts (length deck) 0 (length deck) (omega arith);
-  at_scheduler = stage_stands deck initiators (nothing_kept scheduler) (Dispatching 0 deck) (rest_all deck)
-      (record { caller = refl; within = λ e held. absurd (cc held) });
-  at_initiator = λ i lt. (tt, refl);
-  at_writer = writer_starts (length deck) 0 (length deck) [] (omega arith);
-  writer_kept = record { caller = refl; plain = λ e. refl };
-}
+stand_start deck initiators = grind (arith, common_steps)
 
 -- what is kept by another caller
 pub kept_other : (kept : ℕ → Kept) (e : Entry) (k j : ℕ) → e.caller ≡ k → (k ≡ j → ⊥) → kept_next kept e j ≡ kept j
