@@ -11,9 +11,9 @@ use Rattle.mv_element.specs.declared.operation.ElementOp.TheVariants as element_
 use Rattle.mv_machine.specs.declared.entry.Op.TheVariants as op_on
 use Rattle.mv_machine.specs.declared.entry.Reply.TheVariants as reply_of
 use Rattle.mv_plan.proofs.points.Points.{Point, At, Finished, TooSoon, Astray, ReaderAt, Entering, reader_asks, reader_goes, rounds_after}
-use Rattle.mv_plan.proofs.points.Points.{Arming, Settling, Dispatching}
+use Rattle.mv_plan.proofs.points.Points.{Arming, Settling}
 use Rattle.mv_plan.proofs.points.Points.{SchedulerAt, Waits, Extends, Clears, Releases, awaited_blocks, scheduler_asks}
-use Rattle.mv_plan.proofs.points.Points.{scheduler_goes, stage_at, WriterAt, writer_asks, Running, InitiatorAt}
+use Rattle.mv_plan.proofs.points.Points.{scheduler_goes, WriterAt, writer_asks, Running, InitiatorAt}
 use Rattle.mv_plan.proofs.points.Points.{EndingJob, EndingForScheduler, EndingForWriter, initiator_asks, initiator_goes, InJob}
 use Rattle.mv_plan.proofs.points.PostsAndWaits.{on_posted_keeps}
 use Rattle.mv_plan.proofs.walks.Walks.{Points, start_points}
@@ -518,10 +518,6 @@ module _ (deck : List JobData) (initiators : ℕ) where
   pub posted_keeps : (c : Setup) → length deck ≤ not_to_run
       → KeepsUnder (HasPlaces deck initiators) (HasPosted deck initiators) c deck initiators
   posted_keeps c few = search (rules, by_moves, initiators, reader_posted, scheduler_posted, initiator_posted, writer_posted)
-
-  stage_first : (c : Setup) (jobs : List JobData) → IsSplit (length deck) (opening c) 0 → length jobs ≡ length deck
-      → DoneBlocks (length deck) (opening c) (stage_at (length deck) initiators (Dispatching 0 jobs))
-  stage_first c x sp e = grind (arith, common_steps)
 
   pub posted_first : (c : Setup) → Posted deck initiators (opening c) (start_points deck initiators)
   posted_first c = grind (arith, common_steps)

@@ -10,10 +10,10 @@ use Rattle.mv_element.specs.declared.operation.ElementOp.TheVariants as element_
 use Rattle.mv_machine.specs.declared.entry.Op.TheVariants as op_on
 use Rattle.mv_machine.specs.declared.entry.Reply.TheVariants as reply_of
 use Rattle.mv_plan.proofs.deck.Plans.{IsPlanned}
-use Rattle.mv_plan.proofs.points.Points.{Point, At, Finished, ReaderAt, Entering, reader_asks, Arming, Settling, Dispatching}
+use Rattle.mv_plan.proofs.points.Points.{Point, At, Finished, ReaderAt, Entering, reader_asks, Arming, Settling}
 use Rattle.mv_plan.proofs.points.Points.{running, SchedulerAt, Waits, scheduler_asks, WriterAt, Keeping, writing_from, end_found}
 use Rattle.mv_plan.proofs.points.Points.{writer_asks, writer_goes, Running, InitiatorAt, Offering}
-use Rattle.mv_plan.proofs.points.Points.{EndingJob, EndingForScheduler, EndingForWriter, initiator_asks, initiator_goes, stage_at, InJob}
+use Rattle.mv_plan.proofs.points.Points.{EndingJob, EndingForScheduler, EndingForWriter, initiator_asks, initiator_goes, InJob}
 use Rattle.mv_plan.proofs.walks.Walks.{Points, start_points}
 use Rattle.mv_plan.proofs.points.ReaderAndWriter.{IsReaderAt, IsWriterAt}
 use Rattle.mv_plan.proofs.points.SchedulerSound.{IsSchedulerAt}
@@ -250,9 +250,6 @@ module _ (deck : List JobData) (initiators : ℕ) (sound : IsPlanned deck initia
         writer = writer_kept deck x r (subst (IsWriterAt (length deck)) at q.writer) (subst (KeepsEnds deck) at h.writer)
             (finds_end c s x _ p r n (subst (IsWriterAt (length deck)) at q.writer) h.blocks);
       })
-
-  stage_first : (jobs : List JobData) → IsMarked deck (stage_at (length deck) initiators (Dispatching 0 jobs))
-  stage_first x = grind (arith, common_steps)
 
   pub codes_first : (c : Setup) → Codes deck initiators (opening c) (start_points deck initiators)
   codes_first c = grind (arith, common_steps)

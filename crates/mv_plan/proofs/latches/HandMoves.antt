@@ -1,8 +1,8 @@
 -- Each move keeps the hands, where no two initiators run one job.
-use Rattle.mv_plan.proofs.Words.{◌≡◌, ℕ, zero, suc, ◌+◌, ◌<◌, ◌==◌, Bool, true, false, ◌||◌, if◌then◌else◌, List, [], ◌∷◌, length}
-use Rattle.mv_plan.proofs.Words.{replicate, Option, Some, None, refl, sym, ap, ◌∙◌, subst, arith, AllByRecursion, list_any, false≢true}
+use Rattle.mv_plan.proofs.Words.{◌≡◌, ℕ, ◌+◌, ◌<◌, ◌==◌, Bool, true, false, ◌||◌, if◌then◌else◌, List, [], ◌∷◌, length}
+use Rattle.mv_plan.proofs.Words.{replicate, Option, Some, None, refl, sym, ap, ◌∙◌, subst, arith, list_any, false≢true}
 use Rattle.mv_plan.proofs.Words.{LatchOp, LatchReply, Request, grants, list_of, latch_step, is_own, Entry, Object, Ecb, Element, Volume}
-use Rattle.mv_plan.proofs.Words.{Latches, Op, Reply, IsNext, next, Setup, System, moved, mine, JobData, initiator}
+use Rattle.mv_plan.proofs.Words.{Latches, Op, Reply, IsNext, next, Setup, System, moved, JobData, initiator}
 use Rattle.mv_element.specs.declared.operation.ElementReply.TheVariants as element_reply
 use Rattle.mv_latch.specs.declared.operation.LatchOp.TheVariants as latch_op
 use Rattle.mv_latch.specs.declared.operation.LatchReply.TheVariants as latch_reply
@@ -194,11 +194,6 @@ module _ (c : Setup) (deck : List JobData) (initiators : ℕ) where
             (initiator_asks (length deck) i x).1 k o op
             (spares (length deck) i x (grip (t.initiators m)) (λ job a b. other (apart i m job lt less (ap works at ∙ a) b))))
             (w.owns m less)
-
--- at the start
-no_list : (latches latch : ℕ) → list_of (replicate latches []) latch ≡ []
-no_list zero latch = grind (arith, common_steps)
-no_list (suc latches) latch = grind (arith, common_steps, no_list latches)
 
 pub hands_start : (latches initiators : ℕ) → Hands initiators (replicate latches []) (λ i. At Opening)
 hands_start latches initiators = grind (arith, common_steps)

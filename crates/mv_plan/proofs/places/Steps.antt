@@ -2,7 +2,7 @@
 -- next. No machine stands here. Used by the ledger.
 use Rattle.mv_plan.proofs.Words.{◌≡◌, ℕ, ◌+◌, ◌<◌, ◌≤◌, Bool, List, [], ◌∷◌, ◌++◌, Option, Some, None, ◌⊎◌, inl, inr, refl, sym, ap, ◌∙◌}
 use Rattle.mv_plan.proofs.Words.{subst, arith, AllByRecursion, same_Some, cases_eq, cases_lt, with_at, code_of, not_to_run, all_push}
-use Rattle.mv_plan.proofs.deck.Codes.{code_parts, never_zero}
+use Rattle.mv_plan.proofs.deck.Codes.{code_parts}
 use Rattle.mv_plan.proofs.places.Places.{Place, Coming, Handed, Run, Over}
 use Rattle.mv_plan.proofs.points.Points.{Running}
 use Rattle.mv_plan.proofs.lists.Tables.{with_at-same, with_at-other}

@@ -218,16 +218,6 @@ pub held_without : (gs : List Grant) (latch : ℕ) → held_of (without_latch la
 held_without [] latch = refl
 held_without (g ∷ gs) latch = grind (arith, common_steps, held_without gs latch)
 
-pub standing_push : (k job latch : ℕ) (mode : Mode) (id : ℕ) (gs : List Grant)
-    → standing_of k job (gs ++ record { latch = latch; mode = mode; id = id } ∷ []) ≡ standing_of k job gs ++
-    record {
-      latch = latch;
-      request =
-          record { id = id; caller = k; requestor = job + 1; mode = mode; form = form_of.Waiting };
-    } ∷ []
-standing_push k job latch mode id [] = refl
-standing_push k job latch mode id (g ∷ gs) = grind (arith, common_steps, standing_push k job latch mode id gs)
-
 pub standing_without : (k job latch id : ℕ) (requests : ℕ → Option ℕ) (gs : List Grant)
     → AllByRecursion (λ g. requests g.latch ≡ Some g.id) gs → requests latch ≡ Some id
     → less (is_named latch id) (standing_of k job gs) ≡ standing_of k job (without_latch latch gs)

@@ -1,17 +1,16 @@
 -- Where the scheduler may stand: which jobs are left, which code it hands over; and what it keeps there. Kept by each of its
 -- steps, whatever the reply.
 use Rattle.mv_plan.proofs.Words.{◌≡◌, ℕ, suc, ◌+◌, ◌<◌, ◌≤◌, Bool, true, List, [], ◌∷◌}
-use Rattle.mv_plan.proofs.Words.{◌++◌, length, Option, Some, None, ◌⊎◌, refl, sym, ap, ◌∙◌, subst, append-nil, append_assoc}
-use Rattle.mv_plan.proofs.Words.{zero-add, arith, cases_eq, length-append, length-map-range_with_len, Reply, with_at}
+use Rattle.mv_plan.proofs.Words.{◌++◌, length, Option, Some, None, refl, sym, ap, ◌∙◌, subst, append-nil, append_assoc}
+use Rattle.mv_plan.proofs.Words.{zero-add, arith, length-append, length-map-range_with_len, Reply}
 use Rattle.mv_plan.proofs.Words.{JobData, After, Step, Kept, code_of}
-use Rattle.mv_plan.specs.SpoolSetup.{done}
 use Rattle.mv_ecb.specs.declared.operation.EcbReply.TheVariants as ecb_reply
 use Rattle.mv_machine.specs.declared.entry.Reply.TheVariants as reply_of
 use Rattle.mv_plan.proofs.deck.Plans.{IsPlannedJob, ArePlannedJobs}
 use Rattle.mv_plan.proofs.points.Points.{Point, At, TooSoon, WaitAt, Arming, Settling, Stage, Dispatching, Dismissing, Awaited, ForEntry}
 use Rattle.mv_plan.proofs.points.Points.{ForEnds, ForIdle, ToDismiss, SchedulerAt, Waits, Extends, Clears, Releases, awaited_blocks}
 use Rattle.mv_plan.proofs.points.Points.{scheduler_asks, scheduler_goes, arming_from, settling_from, found_at}
-use Rattle.mv_plan.proofs.points.Points.{ends_at, stage_at, lowest_at}
+use Rattle.mv_plan.proofs.points.Points.{ends_at, lowest_at}
 use Rattle.mv_plan.proofs.points.PostsAndWaits.{on_armed_keeps, on_settled_keeps}
 use Rattle.mv_plan.proofs.points.ReaderAndWriter.{keeps}
 use Rattle.std.proofs.lemmas.Grind.{common_steps}
@@ -120,11 +119,6 @@ module _ (deck : List JobData) (initiators : ℕ) (kept : Kept) where
       → IsRest deck j (record { name = name; after = after; steps = steps } ∷ jobs) → SchedulerKept (length deck) j kept
       → SchedulerStands deck initiators kept (ends_at (length deck) j (record { name = name; after = after; steps = steps }) jobs)
   ends_stands j name x steps jobs r k = grind (arith, common_steps)
-
-  pub stage_stands : (after : Stage) → IsStage deck initiators after
-      → SchedulerKept (length deck) (stage_extended (length deck) after) kept
-      → SchedulerStands deck initiators kept (stage_at (length deck) initiators after)
-  stage_stands x r k = grind (arith, common_steps)
 
   found_stands : (a : Awaited) (found : List (Option ℕ)) → IsAwaited deck initiators a
       → SchedulerKept (length deck) (awaited_extended (length deck) a) kept

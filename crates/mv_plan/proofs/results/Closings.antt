@@ -1,14 +1,13 @@
 -- Each release is of a job or closes an initiator and is accepted, and each initiator is closed once.
-use Rattle.mv_plan.proofs.Words.{◌≡◌, ℕ, ◌<◌, ◌≤◌, false, List, [], ◌∷◌, ◌++◌, length}
+use Rattle.mv_plan.proofs.Words.{◌≡◌, ℕ, ◌<◌, ◌≤◌, List, [], ◌∷◌, ◌++◌, length}
 use Rattle.mv_plan.proofs.Words.{None, refl, sym, ap, ◌∙◌, subst, arith, AllByRecursion}
-use Rattle.mv_plan.proofs.Words.{Entry, Object, Element, Op, Reply, IsNext, Setup, System, release_code, closings, IsRightRelease, JobData}
-use Rattle.mv_plan.proofs.Words.{scheduler, initiator, Kept, all_push}
-use Rattle.mv_plan.specs.HandingOut.{is_closing}
+use Rattle.mv_plan.proofs.Words.{Entry, Element, Reply, IsNext, Setup, System, release_code, closings, IsRightRelease, JobData}
+use Rattle.mv_plan.proofs.Words.{scheduler, initiator, Kept}
 use Rattle.mv_element.specs.declared.operation.ElementOp.TheVariants as element_op
 use Rattle.mv_machine.specs.declared.entry.Op.TheVariants as op_on
 use Rattle.mv_plan.proofs.points.SchedulerNext.{same_errand}
 use Rattle.mv_plan.proofs.points.Points.{Point, At, Stage, Dispatching, SchedulerAt, Waits, Extends, Clears, Releases}
-use Rattle.mv_plan.proofs.points.Points.{scheduler_asks, scheduler_goes, stage_at, dismissing_from}
+use Rattle.mv_plan.proofs.points.Points.{scheduler_asks, scheduler_goes, stage_at}
 use Rattle.mv_plan.proofs.points.SchedulerSound.{IsSchedulerAt}
 use Rattle.mv_plan.proofs.walks.Stands.{Stand}
 use Rattle.mv_plan.proofs.walks.NoneLost.{NoneLost}
@@ -29,17 +28,6 @@ pub record Closes (n initiators : ℕ) (past : List Entry) (dismissed : ℕ) : T
   pub releases : AllByRecursion (λ e. IsRightRelease n initiators e.object e.op e.reply) past
   pub closed : (i : ℕ) → i < dismissed → length (closings (initiator i) past) ≡ 1
   pub unclosed : (i : ℕ) → dismissed ≤ i → length (closings (initiator i) past) ≡ 0
-
-plain_right : (n initiators : ℕ) (o : Object) (op : Op) (r : Reply) → release_code op ≡ None → IsRightRelease n initiators o op r
-plain_right n initiators o op r e = grind (arith, common_steps)
-
-plain_open : (m : ℕ) (o : Object) (op : Op) → release_code op ≡ None → is_closing m o op ≡ false
-plain_open m o op e = grind (arith, common_steps)
-
-closings_same : (m : ℕ) (past : List Entry) (e : Entry) → is_closing m e.object e.op ≡ false
-    → length (closings m (past ++ e ∷ [])) ≡ length (closings m past)
-closings_same m [] e q = rw q refl
-closings_same m (x ∷ past) e q = grind (arith, common_steps, closings_same m past e q)
 
 module _ (n initiators : ℕ) (past : List Entry) (d : ℕ) (w : Closes n initiators past d) (e : Entry) where
   closes_quiet : (d' : ℕ) → d' ≡ d → release_code e.op ≡ None → Closes n initiators (past ++ e ∷ []) d'

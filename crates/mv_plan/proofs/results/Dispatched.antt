@@ -14,8 +14,7 @@ use Rattle.mv_plan.proofs.standing.Row.{RowAt, element_of}
 use Rattle.mv_plan.proofs.places.Places.{Place, Coming, Handed, Run, Over, Places}
 use Rattle.mv_plan.proofs.places.Ledger.{Account, element_code}
 use Rattle.mv_plan.proofs.deck.Setup.{facts}
-use Rattle.mv_plan.proofs.points.Points.{Point, At, ReaderAt, Entering, reader_asks, SchedulerAt, scheduler_asks}
-use Rattle.mv_plan.proofs.points.Points.{WriterAt, writer_asks, Running, InitiatorAt, initiator_asks}
+use Rattle.mv_plan.proofs.points.Points.{Running}
 use Rattle.mv_plan.proofs.walks.Histories.{Stood, stood, AreFinished, run_finished}
 use Rattle.mv_plan.proofs.places.Moments.{Moment, walk_moments}
 use Rattle.mv_plan.proofs.standing.Rows.{Rows}
@@ -42,9 +41,6 @@ pub record AreDispatched (deck : List JobData) (initiators : ℕ) (es : List Ent
 -- ---- an element is closed while it holds no code
 
 module _ (c : Setup) (deck : List JobData) (initiators : ℕ) where
-  abbrev n : ℕ
-  n = length deck
-
   abbrev ClosesWell : System → Points → Entry → Points → Type 0
   ClosesWell s t e u = Rows deck initiators s t → ClosesNone s e.object e.op
 

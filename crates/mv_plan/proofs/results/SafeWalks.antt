@@ -16,8 +16,8 @@ use Rattle.mv_plan.proofs.points.InitiatorSound.{IsInitiatorAt}
 use Rattle.mv_plan.proofs.places.Places.{Place, Coming, Over}
 use Rattle.mv_plan.proofs.deck.Setup.{Facts}
 use Rattle.mv_plan.proofs.points.Programs.{reader_program, scheduler_program, writer_program}
-use Rattle.mv_plan.proofs.points.Points.{Point, At, TooSoon, Astray, Dispatching, stage_at, entering_from}
-use Rattle.mv_plan.proofs.points.Points.{writing_from, reader_asks, SchedulerAt, Extends, scheduler_asks, scheduler_goes, writer_asks}
+use Rattle.mv_plan.proofs.points.Points.{Point, At, TooSoon, Astray}
+use Rattle.mv_plan.proofs.points.Points.{reader_asks, SchedulerAt, Extends, scheduler_asks, scheduler_goes, writer_asks}
 use Rattle.mv_plan.proofs.points.Points.{InitiatorAt, initiator_asks}
 use Rattle.mv_plan.proofs.points.Points.{initiator_goes}
 use Rattle.mv_plan.proofs.points.Scheduler.{scheduler_says}
@@ -45,9 +45,6 @@ in_time_before deck initiators t u e m f =
 -- no task is astray
 abbrev pub AllForeseen : ℕ → Points → Type 0
 AllForeseen initiators t = AllTasks initiators (λ X p. IsForeseen p) t
-
-not_lost : {X : Type 0} (p : Point X) → IsForeseen p → (p ≡ TooSoon → ⊥) → IsNotLost p
-not_lost x w d = grind (arith, common_steps)
 
 pub none_lost_of : (initiators : ℕ) (t : Points) → AllForeseen initiators t → AreInTime initiators t → NoneLost initiators t
 none_lost_of initiators t w d = grind (arith, common_steps)
@@ -254,15 +251,6 @@ module _ (deck : List JobData) (initiators : ℕ) (some : 1 ≤ initiators) (sou
     ]
 
 -- ---- at the start
-
-start_reader : (j more : ℕ) → IsNotLost (entering_from j more)
-start_reader j x = grind (arith, common_steps)
-
-start_scheduler : (n initiators : ℕ) (deck : List JobData) → IsNotLost (stage_at n initiators (Dispatching 0 deck))
-start_scheduler n initiators x = grind (arith, common_steps)
-
-start_writer : (n more : ℕ) → IsNotLost (writing_from n 0 more [])
-start_writer n x = grind (arith, common_steps)
 
 pub none_lost_at_start : (deck : List JobData) (initiators : ℕ) → NoneLost initiators (start_points deck initiators)
 none_lost_at_start deck initiators = grind (arith, common_steps)

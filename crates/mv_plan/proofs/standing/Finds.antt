@@ -10,7 +10,7 @@ use Rattle.mv_machine.specs.declared.entry.Reply.TheVariants as reply_of
 use Rattle.mv_plan.proofs.points.Points.{Point, At, TooSoon, Astray, Stage, Dispatching, Dismissing, Awaited, ForEntry, ForEnds, ForIdle}
 use Rattle.mv_plan.proofs.points.Points.{ToDismiss, WaitAt, Settling, SchedulerAt, Waits, Clears, awaited_blocks}
 use Rattle.mv_plan.proofs.points.Points.{scheduler_asks, scheduler_goes, on_settled}
-use Rattle.mv_plan.proofs.points.Points.{settling_from, found_at, ends_at, stage_at, lowest_at}
+use Rattle.mv_plan.proofs.points.Points.{settling_from, found_at, ends_at, lowest_at}
 use Rattle.mv_plan.proofs.points.SchedulerSound.{IsWaitAt}
 use Rattle.mv_plan.proofs.points.Asks.{NoClear}
 use Rattle.std.proofs.lemmas.Grind.{common_steps}
@@ -105,9 +105,6 @@ module _ (n initiators : ℕ) (f : Blocks) where
       → Here (settling_from n a es found)
   settling_here a [] found w = grind (arith, common_steps, TooSoon, found_here)
   settling_here a (e ∷ es) found w = w
-
-  pub stage_here : (after : Stage) → Here (stage_at n initiators after)
-  stage_here x = grind (arith, common_steps)
 
 -- ---- the scheduler's own event
 module _ (n initiators : ℕ) (s : System) where

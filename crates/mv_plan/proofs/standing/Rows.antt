@@ -11,11 +11,11 @@ use Rattle.mv_plan.proofs.points.ReaderAndWriter.{IsReaderAt, IsWriterAt}
 use Rattle.mv_plan.proofs.standing.Row.{Stance, Offers, Parks, Loses, stance, code_in, offered, taken, handed, Row, RowAt, hold_for}
 use Rattle.mv_plan.proofs.standing.Row.{offer_of, element_of, row_at, own_row, Apart, apart}
 use Rattle.mv_plan.proofs.points.InitiatorSound.{IsInitiatorAt}
-use Rattle.mv_plan.proofs.points.Points.{Point, At, Stage, Dispatching, Awaited, WaitAt}
+use Rattle.mv_plan.proofs.points.Points.{Point, At, Stage, Awaited, WaitAt}
 use Rattle.mv_plan.proofs.points.Points.{wait_asks, ReaderAt, Entering, reader_asks, reader_goes, SchedulerAt, Waits}
 use Rattle.mv_plan.proofs.points.Points.{Extends, Clears, Releases, awaited_blocks, scheduler_asks, scheduler_goes}
-use Rattle.mv_plan.proofs.points.Points.{stage_at, WriterAt, writer_asks, writer_goes, InitiatorAt, initiator_asks, initiator_goes}
-use Rattle.mv_plan.proofs.standing.Finds.{Finds, stay_moved, finds_kept, finds_next, stage_here}
+use Rattle.mv_plan.proofs.points.Points.{WriterAt, writer_asks, writer_goes, InitiatorAt, initiator_asks, initiator_goes}
+use Rattle.mv_plan.proofs.standing.Finds.{Finds, stay_moved, finds_kept, finds_next}
 use Rattle.mv_plan.proofs.points.SchedulerSound.{IsSchedulerAt, IsWaitAt}
 use Rattle.mv_plan.proofs.walks.Stands.{Stand}
 use Rattle.mv_plan.proofs.walks.NoneLost.{SameTalk, same_talk}
@@ -61,9 +61,6 @@ NoClears (Clears i g code after) = ⊥
 NoClears x = Unit {0}
 
 module _ (n initiators : ℕ) where
-  stage_no_hold : (after : Stage) → NoHold (stage_at n initiators after)
-  stage_no_hold x = grind (arith, common_steps)
-
   nexts_no_hold : (x : SchedulerAt) → NoClears x → AllNext n initiators NoHold x
   nexts_no_hold x d = grind (arith, common_steps)
 

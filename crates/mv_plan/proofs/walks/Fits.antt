@@ -1,11 +1,11 @@
 -- What holds of the machine after every legal list: a block is extended with an exit of its own; and where no request of the
 -- Posted form is allowed none stands, so that no wake posts a block.
 use Rattle.mv_plan.proofs.Words.{◌≡◌, ℕ, zero, suc, Bool, true, List, [], ◌∷◌}
-use Rattle.mv_plan.proofs.Words.{map, replicate, None, ◌⊎◌, arith, AllByRecursion, cases_eq}
+use Rattle.mv_plan.proofs.Words.{map, replicate, None, arith, AllByRecursion}
 use Rattle.mv_plan.proofs.Words.{false≢true, and_parts, ecb_step, Extended, LatchOp, Request}
 use Rattle.mv_plan.proofs.Words.{granted, release_step, list_of, latch_step}
 use Rattle.mv_plan.proofs.Words.{Entry, Object, Ecb, Element, Volume, Latches, Op, IsNext, next, Setup, is_exit_of, System}
-use Rattle.mv_plan.proofs.Words.{opening, admitted, moved, with_at, advanced, all_append, all_filter}
+use Rattle.mv_plan.proofs.Words.{opening, admitted, moved, all_append, all_filter}
 use Rattle.std.specs.List.{flat_map}
 use Rattle.mv_latch.specs.Latch.{shared_front, purged}
 use Rattle.mv_latch.specs.LatchSet.{latch_admitted, wakes}

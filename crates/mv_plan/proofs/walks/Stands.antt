@@ -1,11 +1,11 @@
 -- All points are sound, with what their tasks keep, at each moment of a walk. The first invariant; all others stand on it.
-use Rattle.mv_plan.proofs.Words.{◌≡◌, ℕ, ◌<◌, List, [], length, refl, sym, ◌∙◌, subst, arith, Entry, Object, Op, Setup, System, with_at}
+use Rattle.mv_plan.proofs.Words.{◌≡◌, ℕ, ◌<◌, List, length, sym, ◌∙◌, subst, arith, Entry, Object, Op, Setup, System, with_at}
 use Rattle.mv_plan.proofs.Words.{JobData, Kept, kept_after, nothing_kept, scheduler, initiator, writer}
 use Rattle.mv_plan.proofs.deck.Plans.{ArePlannedJobs}
-use Rattle.mv_plan.proofs.points.Points.{scheduler_asks, scheduler_goes, initiator_asks, initiator_goes, Dispatching}
-use Rattle.mv_plan.proofs.points.ReaderAndWriter.{keeps, IsReaderAt, reader_starts, WriterKept, IsWriterAt, writer_starts}
+use Rattle.mv_plan.proofs.points.Points.{scheduler_asks, scheduler_goes, initiator_asks, initiator_goes}
+use Rattle.mv_plan.proofs.points.ReaderAndWriter.{keeps, IsReaderAt, WriterKept, IsWriterAt}
 use Rattle.mv_plan.proofs.points.InitiatorSound.{InitiatorStands, initiator_stands, IsInitiatorAt}
-use Rattle.mv_plan.proofs.points.SchedulerSound.{SchedulerStands, scheduler_stands, stage_stands, rest_all, IsSchedulerAt}
+use Rattle.mv_plan.proofs.points.SchedulerSound.{SchedulerStands, scheduler_stands, IsSchedulerAt}
 use Rattle.mv_plan.proofs.deck.Setup.{Facts}
 use Rattle.mv_plan.proofs.walks.Walks.{Points, start_points, Move, reads, schedules, initiates, writes}
 use Rattle.mv_plan.proofs.lists.Tables.{with_at-other, all_but}
