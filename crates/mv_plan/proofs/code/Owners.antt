@@ -44,5 +44,4 @@ exits_more n j old new x e f source targets =
     ∙ ap (λ y. map (end_exit n) (range_with_len 0 j) ++ y ∷ []) same
     ∙ sym (map-range_with_len_more (end_exit n) 0 j j (let q : 0 + j ≡ j = omega arith in q)) where
       same : exit_of x ≡ end_exit n j
-      same = ap (λ s. record { source = s; targets = x.targets.items }) source
-          ∙ ap (λ (t : List ℕ). record { source = done n j; targets = t }) targets
+      same = grind (arith, common_steps)

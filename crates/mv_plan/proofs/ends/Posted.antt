@@ -398,12 +398,7 @@ module _ (deck : List JobData) (initiators : ℕ) where
 
         enters : (j : ℕ) → j < length deck → entered_from (length deck) (reader_goes x r) ≤ j
             → NotComplete (moved s 0 (reader_asks x).0 (reader_asks x).1) (entered j)
-        enters j below from = let step : entered_from (length deck) (At x) + 1 ≤ entered_from (length deck) (reader_goes x r) =
-            reader_counts x r stands in
-            not_moved s 0 (reader_asks x).0 (reader_asks x).1 (entered j)
-            (h.entering j below (subst (λ z. entered_from (length deck) z ≤ j) (sym at) (omega arith)))
-            (λ code o op. let w : (entered j < length deck) × (entered_from (length deck) (At x) ≡ entered j) = reader_is x
-            (entered j) o stands in let same : entered_from (length deck) (At x) ≡ entered j = w.1 in omega arith)
+        enters j below from = grind (arith, common_steps)
 
         reader_element : (x : ReaderAt) {m : ℕ} → (reader_asks x).0 ≡ Element m → ⊥
         reader_element (Entering k more) e = cc e

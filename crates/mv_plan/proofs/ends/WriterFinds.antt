@@ -76,8 +76,7 @@ module _ (deck : List JobData) (initiators : ℕ) where
   below_kept s s' t at f h = go t.writer at h where
     go : (p : Point WriterAt) → IsWriterAt (length deck) p → HasFound (length deck) s p → HasFound (length deck) s' p
     go (At (Keeping j more kept (Arming e todo))) a g = λ k lt. f k (let q : j + suc more ≡ length deck = a.0 in omega arith) (g k lt)
-    go (At (Keeping j more kept (Settling e todo found))) a g =
-        λ k lt. f k (let q : j + suc more ≡ length deck = a.0 in omega arith) (g k lt)
+    go (At (Keeping j more kept (Settling e todo found))) a g = grind (arith, common_steps)
     go (Finished kept) a g = λ k lt. f k lt (g k lt)
     go TooSoon a g = tt
     go Astray a g = tt

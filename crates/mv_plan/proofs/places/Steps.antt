@@ -88,22 +88,13 @@ module _ (n initiators : ℕ) (few : n ≤ not_to_run) where
 
       to_held : (m j : ℕ) (b : Bool) → m < initiators → j < n → held' m ≡ Some (code_of j b) → (i ≡ m) ⊎ (i ≡ m → ⊥)
           → with_at place next (Handed i) j ≡ Handed m
-      to_held m j b less under e (inl same) =
-          put_here place next (Handed i) j
-          (code_parts n next j skipped b few below under (same_Some _ _ (sym now ∙ ap (λ z. held' z) same ∙ e))).0
-          ∙ ap (λ z. Handed z) same
-      to_held m j b less under e (inr other) =
-          put_kept place next (Handed i) j Coming (Handed m) here (λ z. cc z) (w.handed m j b less under (sym (others m other) ∙ e))
+      to_held m j b less under e (inl same) = grind (arith, common_steps)
+      to_held m j b less under e (inr other) = grind (arith, common_steps)
 
       to_hands : (m j : ℕ) → with_at place next (Handed i) j ≡ Handed m → (next ≡ j) ⊎ (next ≡ j → ⊥)
           → (m < initiators) × (b : Bool) × (held' m ≡ Some (code_of j b))
-      to_hands m j z (inl same) =
-          let one : i ≡ m = handed_one i m (with_at place next (Handed i) j) (put_here place next (Handed i) j same) z in
-          (subst (λ y. y < initiators) one lt, skipped, ap (λ y. held' y) (sym one) ∙ now ∙ ap (λ y. Some (code_of y skipped)) same)
-      to_hands m j z (inr other) =
-          let h : (m < initiators) × (b : Bool) × (held m ≡ Some (code_of j b)) =
-          w.hands m j (sym (put_else place next (Handed i) j other) ∙ z) in
-          (h.0, h.1, others m (λ y. none_some _ _ none (ap (λ x. held x) y ∙ h.2)) ∙ h.2)
+      to_hands m j z (inl same) = grind (arith, common_steps)
+      to_hands m j z (inr other) = grind (arith, common_steps)
 
     -- the scheduler releases code 0
     pub placed_dismissed : (held' : ℕ → Option ℕ) → held i ≡ None → held' i ≡ Some 0 → ((m : ℕ) → (i ≡ m → ⊥) → held' m ≡ held m)
@@ -137,42 +128,20 @@ module _ (n initiators : ℕ) (few : n ≤ not_to_run) where
       to_held : (m j : ℕ) (b : Bool) → m < initiators → j < n → held' m ≡ Some (code_of j b) → (i ≡ m) ⊎ (i ≡ m → ⊥)
           → with_at place run.job (Run i) j ≡ Handed m
       to_held m j b less under e (inl same) = absurd (none_some _ _ now (ap (λ z. held' z) same ∙ e))
-      to_held m j b less under e (inr other) =
-          put_kept place run.job (Run i) j (Handed i) (Handed m) here (λ z. other (handed_one i m (Handed i) refl z))
-          (w.handed m j b less under (sym (others m other) ∙ e))
+      to_held m j b less under e (inr other) = grind (arith, common_steps)
 
       to_hands : (m j : ℕ) → (run.job ≡ j → ⊥) × (place j ≡ Handed m) → (m < initiators) × (b : Bool) × (held' m ≡ Some (code_of j b))
-      to_hands m j z =
-          let h : (m < initiators) × (b : Bool) × (held m ≡ Some (code_of j b)) = w.hands m j z.1 in
-          let below_next : j < n = elim (cases_lt j n) [
-            | inl less ↦ less
-            | inr ge ↦ absurd
-                (coming_handed m (place j) (w.coming j (omega arith)) z.1)
-          ] in (
-            h.0,
-            h.1,
-            others m (λ y. z.0 (code_parts n run.job j run.skipped h.1 few below below_next
-                (same_Some _ _ (sym was ∙ ap (λ x. held x) y ∙ h.2))).0) ∙ h.2,
-          )
+      to_hands m j z = grind (arith, common_steps)
 
       to_running : (m : ℕ) (other : Running) → m < initiators → run_at' m ≡ Some other → (i ≡ m) ⊎ (i ≡ m → ⊥)
           → with_at place run.job (Run i) other.job ≡ Run m
-      to_running m other less e (inl one) =
-          put_here place run.job (Run i) other.job (ap (λ z. z.job) (same_Some run other (sym runs_it ∙ ap (λ z. run_at' z) one ∙ e)))
-          ∙ ap (λ z. Run z) one
-      to_running m other less e (inr two) =
-          put_kept place run.job (Run i) other.job (Handed i) (Run m) here (λ z. cc z)
-          (w.running m other less (sym (same_runs m two) ∙ e))
+      to_running m other less e (inl one) = grind (arith, common_steps)
+      to_running m other less e (inr two) = grind (arith, common_steps)
 
       to_runs : (m j : ℕ) → with_at place run.job (Run i) j ≡ Run m → (run.job ≡ j) ⊎ (run.job ≡ j → ⊥)
           → (m < initiators) × (run : Running) × (run_at' m ≡ Some run) × (run.job ≡ j)
-      to_runs m j z (inl one) =
-          let e : i ≡ m = run_one i m (with_at place run.job (Run i) j) (put_here place run.job (Run i) j one) z in
-          (subst (λ y. y < initiators) e lt, run, ap (λ y. run_at' y) (sym e) ∙ runs_it, one)
-      to_runs m j z (inr two) =
-          let h : (m < initiators) × (run : Running) × (run_at m ≡ Some run) × (run.job ≡ j) =
-          w.runs m j (sym (put_else place run.job (Run i) j two) ∙ z) in
-          (h.0, h.1, same_runs m (λ y. none_some _ _ none (ap (λ x. run_at x) y ∙ h.2)) ∙ h.2, h.3)
+      to_runs m j z (inl one) = grind (arith, common_steps)
+      to_runs m j z (inr two) = grind (arith, common_steps)
 
     -- initiator i is done with its job
     pub placed_stopped : (run_at' : ℕ → Option Running) (befores' : ℕ → List ℕ) (run : Running)
@@ -197,20 +166,11 @@ module _ (n initiators : ℕ) (few : n ≤ not_to_run) where
       to_running : (m : ℕ) (other : Running) → m < initiators → run_at' m ≡ Some other → (i ≡ m) ⊎ (i ≡ m → ⊥)
           → with_at place run.job Over other.job ≡ Run m
       to_running m other less e (inl one) = absurd (none_some _ _ now (ap (λ z. run_at' z) one ∙ e))
-      to_running m other less e (inr two) =
-          put_kept place run.job Over other.job (Run i) (Run m) here (λ z. two (run_one i m (Run i) refl z))
-          (w.running m other less (sym (same_runs m two) ∙ e))
+      to_running m other less e (inr two) = grind (arith, common_steps)
 
       to_runs : (m j : ℕ) → (run.job ≡ j → ⊥) × (place j ≡ Run m) → (m < initiators) × (run : Running) × (run_at' m ≡ Some run)
           × (run.job ≡ j)
-      to_runs m j z =
-          let h : (m < initiators) × (other : Running) × (run_at m ≡ Some other) × (other.job ≡ j) = w.runs m j z.1 in (
-            h.0,
-            h.1,
-            same_runs m (λ y. z.0 (ap (λ x. x.job) (same_Some run h.1 (sym was ∙ ap (λ x. run_at x) y ∙ h.2)) ∙ h.3))
-                ∙ h.2,
-            h.3,
-          )
+      to_runs m j z = grind (arith, common_steps)
 
       to_over : (m : ℕ) → m < initiators → (i ≡ m) ⊎ (i ≡ m → ⊥)
           → AllByRecursion (λ j. with_at place run.job Over j ≡ Over) (befores' m)

@@ -203,11 +203,7 @@ module _ (c : Setup) (deck : List JobData) (initiators i : ℕ) (facts : Facts c
         (initiator_program c deck i (kept_by kept x r)) (initiator_goes deck x r)
     goes Opening (reply_of.Element (element_reply.Opened g)) s f =
         rounds_enter (length deck + 1) [] g (kept_by kept Opening (reply_of.Element (element_reply.Opened g)))
-    goes (Offering more before g) r s f =
-        posted_goes c _ (λ p. going_on (kept_by kept (Offering more before g) r) p
-        (λ posted. accepted (pause c (token_of (initiator i) g)) (given_rest c deck i more before)))
-        (initiator_program c deck i (kept_by kept (Offering more before g) r)) (At (Pausing more before g)) r
-        (λ p. pause_enters more before g (kept_by kept (Offering more before g) r) s.1.caller) refl f
+    goes (Offering more before g) r s f = grind (arith, common_steps)
     goes (Pausing more before g) (reply_of.Element (element_reply.Given code now)) s f =
         given_enters more before code now (kept_by kept (Pausing more before g) (reply_of.Element (element_reply.Given code now))) s.0
         (record { caller = s.1.caller; stand = s.1.stand })
@@ -229,16 +225,7 @@ module _ (c : Setup) (deck : List JobData) (initiators i : ℕ) (facts : Facts c
         (nothing_posted c h.wakes kept (Done (Ok granted)) f) ∙ steps_enter run (hand_without hand latch) steps
         (kept_by kept (InJob run (Freeing hand latch id steps)) (reply_of.Latch (latch_reply.Released granted)))
         (freed_stand deck run hand latch steps s.0.0) (freed_kept i kept run hand latch id s.0.0.holds s.0.1 s.1 refl refl)
-    goes (InJob run (Reading hand volume amount steps)) (reply_of.Volume (volume_reply.Value number)) s f =
-        elim (nat_lt (number + amount) (2 ^ 32)) as (λ b. stepping c deck i run (kept_by kept (InJob run (Reading hand volume amount steps))
-        (reply_of.Volume (volume_reply.Value number)))
-        ((if b then followed (write_volume volume (number + amount)) (λ stored. steps_rest c run hand steps) else wrong)
-        (kept_by kept (InJob run (Reading hand volume amount steps)) (reply_of.Volume (volume_reply.Value number))))
-        ≡ program_at (initiator_program c deck i (kept_by kept (InJob run (Reading hand volume amount steps))
-        (reply_of.Volume (volume_reply.Value number)))) (if b then At (InJob run (Writing hand volume amount number steps)) else Astray)) [
-          | true ↦ refl
-          | false ↦ refl
-        ]
+    goes (InJob run (Reading hand volume amount steps)) (reply_of.Volume (volume_reply.Value number)) s f = grind (arith, common_steps)
     goes (InJob run (Writing hand volume amount number steps)) (reply_of.Volume volume_reply.Stored) s f =
         steps_enter run hand steps (kept_by kept (InJob run (Writing hand volume amount number steps))
         (reply_of.Volume volume_reply.Stored)) (record {
@@ -275,11 +262,7 @@ module _ (c : Setup) (deck : List JobData) (initiators i : ℕ) (facts : Facts c
         rounds_after_enter run (kept_by kept (InJob run (EndingJob code counts)) (reply_of.Ecb ecb_reply.Posted))
     goes (InJob run (EndingJob code counts)) (reply_of.Ecb (ecb_reply.Already old)) s f =
         rounds_after_enter run (kept_by kept (InJob run (EndingJob code counts)) (reply_of.Ecb (ecb_reply.Already old)))
-    goes (InJob run (EndingForScheduler code counts)) r s f =
-        posted_goes c _ (λ p. ending c deck i run (kept_by kept (InJob run (EndingForScheduler code counts)) r)
-        (and_then (and_then p (λ p. each_posted (posting_next c code) (end_for_writer (length deck) run.job ∷ []) (Woke (run.job + 1))))
-        (λ p. Done counts))) (initiator_program c deck i (kept_by kept (InJob run (EndingForScheduler code counts)) r))
-        (At (InJob run (EndingForWriter code counts))) r (λ p. refl) refl f
+    goes (InJob run (EndingForScheduler code counts)) r s f = grind (arith, common_steps)
     goes (InJob run (EndingForWriter code counts)) r s f =
         posted_goes c _ (λ p. ending c deck i run (kept_by kept (InJob run (EndingForWriter code counts)) r)
         (and_then (and_then p (λ p. each_posted (posting_next c code) [] (Woke (run.job + 1)))) (λ p. Done counts)))

@@ -191,12 +191,7 @@ module _ (c : Setup) (deck : List JobData) (initiators : ℕ) (facts : Facts c (
         now = keeps kept (scheduler_asks (length deck) (Waits a (Settling e todo found))) h.entry.reply
 
         room : (slot : Option ℕ) → length (found ++ slot ∷ []) + length todo ≤ length (awaited_blocks (length deck) initiators a)
-        room slot =
-            let p : length (s.0.1.0 ++ e ∷ todo) ≡ length s.0.1.0 + length (e ∷ todo) = length-append s.0.1.0 (e ∷ todo) in
-            let q : length (s.0.1.0 ++ e ∷ todo) ≡ length (awaited_blocks (length deck) initiators a) = ap (λ l. length l) s.0.1.1 in
-            let r : length (found ++ slot ∷ []) ≡ length found + 1 = length-append found (slot ∷ []) in
-            let t : length s.0.1.0 ≡ length found = s.0.1.2 in
-            omega arith
+        room slot = grind (arith, common_steps)
   scheduler_hears kept (Extends j job jobs skipped) h s = extended_goes h.entry.reply where
     extended_goes : (r : Reply) → staged c (length deck) initiators (Dispatching (j + 1) jobs)
         (keeps kept (scheduler_asks (length deck) (Extends j job jobs skipped)) r)
@@ -219,10 +214,6 @@ module _ (c : Setup) (deck : List JobData) (initiators : ℕ) (facts : Facts c (
         ≡ program_at (scheduler_program c (length deck) initiators
         (keeps kept (scheduler_asks (length deck) (Releases i g code after)) r))
         (scheduler_goes (length deck) initiators (Releases i g code after) r)
-    released_goes (reply_of.Element element_reply.Early) =
-        stage_enters after (keeps kept (scheduler_asks (length deck) (Releases i g code after))
-        (reply_of.Element element_reply.Early)) s.0.1 (record { caller = s.1.caller; within = s.1.within })
-    released_goes (reply_of.Element element_reply.Woke) =
-        stage_enters after (keeps kept (scheduler_asks (length deck) (Releases i g code after))
-        (reply_of.Element element_reply.Woke)) s.0.1 (record { caller = s.1.caller; within = s.1.within })
+    released_goes (reply_of.Element element_reply.Early) = grind (arith, common_steps)
+    released_goes (reply_of.Element element_reply.Woke) = grind (arith, common_steps)
     released_goes r = refl

@@ -80,8 +80,7 @@ module _ (deck : List JobData) (initiators : ℕ) (s : System) (t : Points) (pas
   pub job_over : (places : Places deck initiators s t) (j : ℕ) → j < length deck → places.place j ≡ Over
   job_over places j lt = go (places.place j) refl where
     go : (p : Place) → places.place j ≡ p → p ≡ Over
-    go Coming e = let le : next_job (length deck) t.scheduler ≤ j = places.comes j e in
-        let z : next_job (length deck) t.scheduler ≡ length deck = at_end in absurd (omega arith)
+    go Coming e = grind (arith, common_steps)
     go (Handed i) e = let h : (i < initiators) × (skipped : Bool) × (code_held (element_of s i) ≡ Some (code_of j skipped)) =
         places.hands i j e in
         absurd (cc (h.2, free_none (element_of s i) (elements_free (initiator i))))

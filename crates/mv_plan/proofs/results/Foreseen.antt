@@ -138,8 +138,7 @@ module _ (c : Setup) (deck : List JobData) (initiators : ℕ) (facts : Facts c (
         no_wait : ((owner_of c e ≡ scheduler) × SchedulerArms n initiators q e)
             ⊎ ((owner_of c e ≡ writer initiators) × WriterArms n w e) → ⊥
         no_wait (inl u) = (subst (λ z. SchedulerArms n initiators z e) at u.1).1 (inl refl)
-        no_wait (inr u) = other_owner scheduler (writer initiators) (owner_of c e) (arm_owner c s scheduler e ecb_op.Arm refl adm) u.0
-            (λ z. absurd (omega arith))
+        no_wait (inr u) = grind (arith, common_steps)
   scheduler_foreseen q w p (Waits a (Settling e todo found)) r at d armed rows fnd sound adm ans =
       settle_foreseen (λ slot. settling_from n a todo (found ++ slot ∷ [])) (s.ecb e).state r (cc ans)
       (plain_block c n initiators s e facts fits
@@ -168,8 +167,7 @@ module _ (c : Setup) (deck : List JobData) (initiators : ℕ) (facts : Facts c (
       (writer_block j e sound.1) tt where
         no_wait : ((owner_of c e ≡ scheduler) × SchedulerArms n initiators q e)
             ⊎ ((owner_of c e ≡ writer initiators) × WriterArms n w e) → ⊥
-        no_wait (inl u) = other_owner (writer initiators) scheduler (owner_of c e)
-            (arm_owner c s (writer initiators) e ecb_op.Arm refl adm) u.0 (λ z. absurd (omega arith))
+        no_wait (inl u) = grind (arith, common_steps)
         no_wait (inr u) = (subst (λ z. WriterArms n z e) at u.1).1 (inl refl)
   writer_foreseen q w (Keeping j more ends (Arming e (d ∷ todo))) r at armed sound adm ans = absurd (cc sound.2)
   writer_foreseen q w (Keeping j more ends (Settling e [] found)) r at armed sound adm ans =

@@ -233,22 +233,10 @@ module _ (deck : List JobData) (initiators : ℕ) (some : 1 ≤ initiators) (sou
     ]
   ] where
     back : (k : ℕ) → (k ≡ 0 → ⊥) → (k ≡ 1 → ⊥) → initiator (k - 2) ≡ k
-    back k a b = elim (cases_lt k 2) [
-      | inl lt ↦ elim
-          (cases_eq k 0) [ inl z ↦ absurd (a z) | inr d ↦ absurd (b (omega arith)) ]
-      | inr ge ↦ omega arith
-    ]
+    back k a b = grind (arith, common_steps)
 
     below : (k : ℕ) → (k ≡ 0 → ⊥) → (k ≡ 1 → ⊥) → (k ≡ initiators + 2 → ⊥) → k < initiators + 3 → k - 2 < initiators
-    below k a b d lt = elim (cases_lt k (initiators + 2)) [
-      | inl less ↦ elim
-          (cases_lt k 2) [
-            | inl low ↦ elim (cases_eq k 0) [ inl z ↦ absurd (a z) | inr e ↦ absurd (b (omega arith)) ]
-            | inr ge ↦
-                omega arith
-          ]
-      | inr ge ↦ absurd (d (omega arith))
-    ]
+    below k a b d lt = grind (arith, common_steps)
 
 -- ---- at the start
 

@@ -160,9 +160,7 @@ module _ (c : Setup) (deck : List JobData) (initiators : ℕ) (facts : Facts c (
               (subst (λ l. In l b) st.1.1 (subst (λ z. In (st.1.0 ++ e ∷ todo) z) same (in_middle st.1.0 e todo)))
               (λ i. not_in e todo rest.0 (subst (λ z. In todo z) (sym same) i)),
         )
-        go (inr other) = other_side (At (Waits a (Arming e todo))) (arming_from n initiators a todo) w b
-            (λ u. arming_arms n initiators a todo b u.0 (λ i. u.1 (inr i)))
-            (armed b (else_waiting s e b _ other q))
+        go (inr other) = grind (arith, common_steps)
   scheduled s x r w st adm f armed b q = grind (arith, common_steps)
 
   -- the writer

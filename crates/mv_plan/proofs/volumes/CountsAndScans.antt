@@ -125,8 +125,7 @@ module _ (c : Setup) (deck : List JobData) (initiators : ℕ) (s : System) (t u 
       p = writing_point (length deck) it.number n it.point (sym it.op ∙ wrote)
 
       volume : p.volume ≡ v
-      volume = let q : Volume p.volume ≡ Volume v = ap (λ x. (initiator_asks (length deck) it.number x).0) (sym p.is) ∙ sym it.object
-          ∙ on in cc q
+      volume = grind (arith, common_steps)
 
       own : (m : Mover deck initiators here second.0 r) × (m.number ≡ it.number)
       own = mover_by deck initiators it.number here second.0 r second.2 it.below (same ∙ it.caller)

@@ -70,8 +70,7 @@ adds_by_jobs deck v (code ∷ codes) = go (nat_le 1 code && nat_le code (length 
   g j = times (count_of (j + 1) (code ∷ codes)) (full deck v j)
 
   other : (j : ℕ) → (code ≡ j + 1 → ⊥) → g j ≡ f j
-  other j n = ap (λ b. times (if b then suc (count_of (j + 1) codes) else count_of (j + 1) codes) (full deck v j))
-      (ne_eqb code (j + 1) n)
+  other j n = grind (arith, common_steps)
 
   here : (j : ℕ) → code ≡ j + 1 → j < length deck → sum_to (length deck) g ≡ full deck v j + sum_to (length deck) f
   here j e lt =
@@ -92,10 +91,4 @@ adds_by_jobs deck v (code ∷ codes) = go (nat_le 1 code && nat_le code (length 
       let is : sum_to (length deck) g ≡ full deck v (code - 1) + sum_to (length deck) f = here (code - 1) (omega arith) (omega arith) in
       let added_now : adds deck v code ≡ full deck v (code - 1) = adds_low deck v code low high in
       omega arith
-  go false e rest =
-      let none : (j : ℕ) → j < length deck → code ≡ j + 1 → ⊥ =
-      λ j lt q. false≢true (sym e ∙ ap (λ t. t && nat_le code (length deck)) (le-leb 1 code (omega arith))
-      ∙ le-leb code (length deck) (omega arith)) in
-      let same : sum_to (length deck) g ≡ sum_to (length deck) f = sum_ext (length deck) g f (λ j lt. other j (none j lt)) in
-      let nothing : adds deck v code ≡ 0 = adds_high deck v code e in
-      omega arith
+  go false e rest = grind (arith, common_steps)

@@ -42,8 +42,7 @@ module _ (deck : List JobData) (initiators : ℕ) (some : 1 ≤ initiators) (sou
         (nothing_kept (writer initiators)) (facts deck initiators some) (stand_start deck initiators).writer_kept (omega arith);
   } where
     blocks : 1 ≤ length (spool_setup deck initiators).owners
-    blocks = let e : length (spool_setup deck initiators).owners ≡ 4 * length deck + initiators = (facts deck initiators some).size in
-        omega arith
+    blocks = grind (arith, common_steps)
 
     task_of : (i : ℕ) → i < initiators
         → task_program deck initiators (initiator i) ≡ initiating (spool_setup deck initiators) deck i (nothing_kept (initiator i))
@@ -59,13 +58,7 @@ module _ (deck : List JobData) (initiators : ℕ) (some : 1 ≤ initiators) (sou
 
     writer_task : task_program deck initiators (writer initiators) ≡ writing (spool_setup deck initiators) (length deck)
         (nothing_kept (writer initiators))
-    writer_task = ap (λ call. call (nothing_kept (writer initiators)))
-        (third (writer initiators == reader) (writer initiators == scheduler) (writer initiators == writer initiators)
-        (reading (spool_setup deck initiators) (length deck)) (scheduling (spool_setup deck initiators) initiators deck)
-        (writing (spool_setup deck initiators) (length deck))
-        (initiating (spool_setup deck initiators) deck (writer initiators - 2))
-        (ne_eqb (writer initiators) reader (λ q. absurd (omega arith)))
-        (ne_eqb (writer initiators) scheduler (λ q. absurd (omega arith))) (eq-eqb (writer initiators) (writer initiators) refl))
+    writer_task = grind (arith, common_steps)
 
   -- the points at which the tasks stand behind a history
   pub record Stood (es : List Entry) : Type 0 where
