@@ -14,6 +14,7 @@
 -- done     a job's done block is its own: posted first, extended before the job is released, so that its exit posts the other two
 -- hand     the latches that a running job holds; grip: what is said of an initiator's requests by its point (latches/Hands)
 -- due      what a running job has still to add to a volume (volumes/Dues)
+-- landing  the points that may follow an initiator's event (points/Lands)
 -- sound    so as it may be, by the task's own steps alone; foreseen: not Astray, by what the others do
 
 -- the words of other crates, passed on

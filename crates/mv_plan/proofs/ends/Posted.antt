@@ -370,21 +370,12 @@ module _ (deck : List JobData) (initiators : ℕ) where
 
   -- ---- the reader
 
-  pub reader_is : (x : ReaderAt) (b : ℕ) → (reader_asks x).0 ≡ Ecb b → IsReaderAt (length deck) (At x)
-      → (b < length deck) × (entered_from (length deck) (At x) ≡ b)
-  reader_is (Entering k more) b o at = let e : entered k ≡ b = cc o in (omega arith, omega arith)
-
   reader_untouched : (x : ReaderAt) (j : ℕ) → IsReaderAt (length deck) (At x) → (reader_asks x).0 ≡ Ecb (done (length deck) j) → ⊥
   reader_untouched x j at o = grind (arith, common_steps)
 
   pub reader_ends : (x : ReaderAt) (j b : ℕ) → IsReaderAt (length deck) (At x) → HasEnd (length deck) j b → (reader_asks x).0 ≡ Ecb b
       → ⊥
   reader_ends x j b at has o = grind (arith, common_steps)
-
-  -- the next job is entered, or none is left
-  reader_counts : (x : ReaderAt) (r : Reply) → IsReaderAt (length deck) (At x)
-      → entered_from (length deck) (At x) + 1 ≤ entered_from (length deck) (reader_goes x r)
-  reader_counts (Entering k more) r at = grind (arith, common_steps)
 
   reader_posted : (c : Setup) (s : System) (t : Points) (past : List Entry) (x : ReaderAt) (p : ℕ) (r : Reply) → t.reader ≡ At x
       → HasPlaces deck initiators s t past → Posted deck initiators s t

@@ -1,8 +1,7 @@
 -- How the places of jobs go on, by tables alone: the codes in elements, what initiators run and have run, and the job that is
 -- next. No machine stands here. Used by the ledger.
 use Rattle.mv_plan.proofs.Words.{◌≡◌, ℕ, ◌+◌, ◌<◌, ◌≤◌, Bool, List, [], ◌∷◌, ◌++◌, Option, Some, None, ◌⊎◌, inl, inr, refl, sym, ap, ◌∙◌}
-use Rattle.mv_plan.proofs.Words.{subst, arith, AllByRecursion, same_Some, cases_eq, cases_lt, with_at, code_of, not_to_run, all_push}
-use Rattle.mv_plan.proofs.deck.Codes.{code_parts}
+use Rattle.mv_plan.proofs.Words.{subst, arith, AllByRecursion, cases_eq, cases_lt, with_at, code_of, not_to_run, all_push}
 use Rattle.mv_plan.proofs.places.Places.{Place, Coming, Handed, Run, Over}
 use Rattle.mv_plan.proofs.points.Points.{Running}
 use Rattle.mv_plan.proofs.lists.Tables.{with_at-same, with_at-other}
@@ -18,15 +17,6 @@ pub record Placed (n initiators next : ℕ) (held : ℕ → Option ℕ) (run_at 
   pub running : (i : ℕ) (run : Running) → i < initiators → run_at i ≡ Some run → place run.job ≡ Run i
   pub runs : (i j : ℕ) → place j ≡ Run i → (i < initiators) × (run : Running) × (run_at i ≡ Some run) × (run.job ≡ j)
   pub over : (i : ℕ) → i < initiators → AllByRecursion (λ j. place j ≡ Over) (befores i)
-
-coming_handed : (i : ℕ) (p : Place) → p ≡ Coming → p ≡ Handed i → ⊥
-coming_handed i p a b = cc (a, b)
-
-handed_one : (i m : ℕ) (p : Place) → p ≡ Handed i → p ≡ Handed m → i ≡ m
-handed_one i m p a b = cc (a, b)
-
-run_one : (i m : ℕ) (p : Place) → p ≡ Run i → p ≡ Run m → i ≡ m
-run_one i m p a b = cc (a, b)
 
 none_some : {A : Type 0} (o : Option A) (a : A) → o ≡ None → o ≡ Some a → ⊥
 none_some o a x y = cc (x, y)

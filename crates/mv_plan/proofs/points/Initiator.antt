@@ -1,8 +1,8 @@
 -- An initiator's program goes from point to point. Used by Following.
-use Rattle.mv_plan.proofs.Words.{◌≡◌, ℕ, zero, suc, ◌+◌, ◌-◌, ◌*◌, ◌^◌, ◌<◌, ◌≤◌, ◌==◌, nat_lt, Bool, true, false, not, ◌&&◌, if◌then◌else◌}
+use Rattle.mv_plan.proofs.Words.{◌≡◌, ℕ, zero, suc, ◌+◌, ◌-◌, ◌*◌, ◌<◌, ◌≤◌, ◌==◌, nat_lt, Bool, true, false, not, ◌&&◌, if◌then◌else◌}
 use Rattle.mv_plan.proofs.Words.{List, [], ◌∷◌, ◌++◌, length, Option, Some, None, Ok, refl, ap, ◌∙◌, arith, AllByRecursion, list_any}
 use Rattle.mv_plan.proofs.Words.{lt-ltb, Wake, Mode, Latches, Reply, Setup, JobData, Step}
-use Rattle.mv_plan.proofs.Words.{Print, Use, Count, Scan, job_at, Kept, nothing_kept, obtained, token_of, pause, deallocate, Woke}
+use Rattle.mv_plan.proofs.Words.{Print, Use, Count, Scan, job_at, Kept, nothing_kept, obtained, token_of, deallocate, Woke}
 use Rattle.mv_plan.proofs.Words.{each_posted, posted_next, post_within, wake_posted, Program, Do, Done, Heard, asks, heard, and_then}
 use Rattle.mv_plan.proofs.Words.{going_on, unrefused, accepted, followed, finished, unless_refused, on_latch, end_for_scheduler}
 use Rattle.mv_plan.proofs.Words.{end_for_writer, initiator, Named, job_named, named_by, run_job, granted_as, rounds, refused_if}
@@ -13,7 +13,6 @@ use Rattle.mv_calls.specs.Posts.{wakes_posted}
 use Rattle.mv_calls.specs.Program.{wrong}
 use Rattle.mv_plan.specs.SpoolSetup.{done}
 use Rattle.mv_plan.specs.SpoolTasks.{job_done}
-use Rattle.mv_calls.specs.Waits.{write_volume}
 use Rattle.mv_ecb.specs.declared.operation.EcbReply.TheVariants as ecb_reply
 use Rattle.mv_element.specs.declared.operation.ElementReply.TheVariants as element_reply
 use Rattle.mv_latch.specs.declared.operation.LatchOp.TheVariants as latch_op
@@ -92,11 +91,6 @@ module _ (c : Setup) (deck : List JobData) (initiators i : ℕ) (facts : Facts c
   -- an exit's posts are one deeper than its source's
   deeper : (run : Running) → run.job < length deck → length c.owners - 1 ≡ suc (length c.owners - 2)
   deeper run lt = let e : length c.owners ≡ 4 * length deck + initiators = facts.size in omega arith
-
-  pause_enters : (more : ℕ) (before : List ℕ) (g : ℕ) (kept : Kept) → kept.caller ≡ initiator i
-      → accepted (pause c (token_of (initiator i) g)) (given_rest c deck i more before) kept ≡ initiator_program c deck i kept
-      (Pausing more before g)
-  pause_enters more before g kept k = grind (arith, common_steps)
 
   close_enters : (g : ℕ) (kept : Kept) → kept.caller ≡ initiator i
       → accepted (deallocate c (token_of (initiator i) g)) (λ closed. finished []) kept ≡ initiator_program c deck i kept (Closing g)

@@ -1,7 +1,7 @@
 -- The scheduler's program goes from point to point: at each it says the point's event, and a reply leads it on as it leads the
 -- point. Used by Following.
 use Rattle.mv_plan.proofs.Words.{◌≡◌, ℕ, zero, suc, ◌+◌, ◌<◌, ◌≤◌, Bool, false, List, [], ◌∷◌, ◌++◌, length, map, Option, Some, None}
-use Rattle.mv_plan.proofs.Words.{refl, ap, arith, AllByRecursion, range_with_len, length-append}
+use Rattle.mv_plan.proofs.Words.{refl, arith, AllByRecursion, range_with_len}
 use Rattle.mv_plan.proofs.Words.{length-map-range_with_len, Reply, Setup, JobData, After, Step, Kept}
 use Rattle.mv_plan.proofs.Words.{Heard, asks, heard, going_on, unrefused, accepted, finished, on_ecb, on_element}
 use Rattle.mv_plan.proofs.Words.{end_for_scheduler, idle, code_of, ends_of, some_end_above, ends_awaited, first_of, hand_over}

@@ -21,7 +21,7 @@ use Rattle.mv_plan.proofs.standing.Rows.{Rows}
 use Rattle.mv_plan.proofs.walks.NoneLost.{none_lost_at_end}
 use Rattle.mv_plan.proofs.walks.Walks.{Points, Move}
 use Rattle.mv_plan.proofs.walks.Moves.{Each, of_move}
-use Rattle.mv_plan.proofs.points.Views.{code_held, run_of, next_job, errand}
+use Rattle.mv_plan.proofs.points.Views.{code_held, run_of, errand}
 use Rattle.std.proofs.lemmas.Grind.{common_steps}
 
 -- ---- what is shown
@@ -72,9 +72,6 @@ module _ (deck : List JobData) (initiators : ℕ) (s : System) (t : Points) (pas
 
     own : (i : ℕ) → i < initiators → (element_of s i).phase ≡ phase.Free
     own i lt = (subst (λ p. RowAt (length deck) s t.scheduler i p) (finished.at_initiator i lt).1 (rows.rows i lt)).2
-
-  at_end : next_job (length deck) t.scheduler ≡ length deck
-  at_end = ap (λ z. next_job (length deck) z) finished.at_scheduler.1
 
   -- each job is over
   pub job_over : (places : Places deck initiators s t) (j : ℕ) → j < length deck → places.place j ≡ Over

@@ -13,7 +13,7 @@ use Rattle.mv_ecb.specs.declared.operation.EcbReply.TheVariants as ecb_reply
 use Rattle.mv_element.specs.declared.operation.ElementOp.TheVariants as element_op
 use Rattle.mv_machine.specs.declared.entry.Reply.TheVariants as reply_of
 use Rattle.mv_plan.proofs.deck.Plans.{ArePlannedSteps, ArePlannedJobs}
-use Rattle.mv_plan.proofs.standing.Arms.{In, in_middle, in_all, IsNoDone, awaited_no_done, SchedulerArms, WriterArms, arm_owner}
+use Rattle.mv_plan.proofs.standing.Arms.{In, in_middle, in_all, IsNoDone, awaited_no_done, SchedulerArms, WriterArms}
 use Rattle.mv_plan.proofs.points.ReaderAndWriter.{IsWriterAt}
 use Rattle.mv_plan.proofs.results.FewRounds.{fewer, none_found, not_found, code_named}
 use Rattle.mv_plan.proofs.walks.Fits.{Fits}
@@ -117,9 +117,6 @@ plain_block c n initiators s e facts fits (inr high) y q = let z : (j : ℕ) × 
 module _ (c : Setup) (deck : List JobData) (initiators : ℕ) (facts : Facts c (length deck) initiators) (s : System) (fits : Fits c s) where
   abbrev n : ℕ
   n = length deck
-
-  other_owner : (owner_k owner_m o : ℕ) → o ≡ owner_k → o ≡ owner_m → (owner_k ≡ owner_m → ⊥) → ⊥
-  other_owner k m o a b d = d (sym a ∙ b)
 
   pub scheduler_foreseen : (t_scheduler : Point SchedulerAt) (t_writer : Point WriterAt) (initiator_at : ℕ → Point InitiatorAt)
       (x : SchedulerAt) (r : Reply) → t_scheduler ≡ At x → NoExtend x

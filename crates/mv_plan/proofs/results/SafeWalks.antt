@@ -1,7 +1,7 @@
 -- A walk on which no wait ended too soon loses no task, where an invariant shows that the other replies lead nobody astray; and
 -- a task that is not lost is not wrong.
 use Rattle.mv_plan.proofs.Words.{◌≡◌, ℕ, ◌+◌, ◌-◌, ◌<◌, ◌≤◌, List, [], ◌∷◌, ◌++◌, length, ◌⊎◌, inl, inr, refl, sym, ap, ◌∙◌}
-use Rattle.mv_plan.proofs.Words.{subst, arith, Some, Bool, AllByRecursion, cases_eq, cases_lt, Entry, IsNext, next, after_from, Setup}
+use Rattle.mv_plan.proofs.Words.{subst, arith, Some, Bool, AllByRecursion, cases_eq, Entry, IsNext, next, after_from, Setup}
 use Rattle.mv_plan.proofs.Words.{System, opening, Reply, JobData, Wrong, left_in, spool_setup, reader, scheduler, initiator, writer}
 use Rattle.mv_plan.proofs.Words.{not_to_run, task_program}
 use Rattle.mv_ecb.specs.declared.operation.EcbReply.TheVariants as ecb_reply

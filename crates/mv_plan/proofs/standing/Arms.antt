@@ -2,8 +2,8 @@
 -- where no reply is to lead astray.
 use Rattle.mv_plan.proofs.Words.{◌≡◌, ℕ, zero, suc, ◌+◌, ◌*◌, ◌<◌, ◌≤◌, ◌==◌, IsTrue, List, [], ◌∷◌, ◌++◌, length, map}
 use Rattle.mv_plan.proofs.Words.{◌⊎◌, inl, inr, refl, sym, ap, ◌∙◌, subst, arith, AllByRecursion, range_with_len}
-use Rattle.mv_plan.proofs.Words.{cases_eq, EcbOp, EcbState, Entry, Object, Ecb, Op}
-use Rattle.mv_plan.proofs.Words.{Reply, IsNext, next, Setup, owner_of, System, opening, admitted, ecb_admitted, moved, with_at, advanced}
+use Rattle.mv_plan.proofs.Words.{cases_eq, EcbOp, Entry, Object, Ecb, Op}
+use Rattle.mv_plan.proofs.Words.{Reply, IsNext, next, Setup, owner_of, System, opening, admitted, ecb_admitted, moved}
 use Rattle.mv_plan.proofs.Words.{JobData, After, AreDistinct, Kept, reader, scheduler, initiator, writer, end_for_writer, idle, ends_of}
 use Rattle.mv_ecb.specs.Word.{Waiting}
 use Rattle.mv_ecb.specs.declared.operation.EcbOp.TheVariants as ecb_op
@@ -22,7 +22,6 @@ use Rattle.mv_plan.proofs.walks.NoneLost.{NoneLost}
 use Rattle.mv_plan.proofs.walks.Walks.{Points, Move}
 use Rattle.mv_plan.proofs.points.Scheduler.{ends_distinct, idles_distinct}
 use Rattle.mv_plan.proofs.walks.Moves.{Each, of_move}
-use Rattle.mv_plan.proofs.lists.Tables.{with_at-other}
 use Rattle.mv_plan.proofs.points.Asks.{NoArm, no_arm}
 use Rattle.mv_plan.proofs.points.Views.{IsNotLost}
 use Rattle.std.proofs.lemmas.Grind.{common_steps}
@@ -105,11 +104,6 @@ pub still_waiting : (s : System) (k : ℕ) (o : Object) (op : Op) (b : ℕ) → 
     → (s.ecb b).state ≡ Waiting
 still_waiting s k o op b w e = grind (arith, common_steps)
 
--- at another block
-else_waiting : (s : System) (e b : ℕ) (y : EcbState) → (e ≡ b → ⊥) → (with_at s.ecb e (advanced (s.ecb e) y) b).state ≡ Waiting
-    → (s.ecb b).state ≡ Waiting
-else_waiting s e b y d w = sym (ap (λ z. z.state) (with_at-other s.ecb e b (advanced (s.ecb e) y) d)) ∙ w
-
 -- ---- the points that follow have armed what they are to settle
 
 arming_arms : (n initiators : ℕ) (a : Awaited) (todo : List ℕ) (b : ℕ) → In (awaited_blocks n initiators a) b → (In todo b → ⊥)
@@ -135,10 +129,6 @@ module _ (c : Setup) (deck : List JobData) (initiators : ℕ) (facts : Facts c (
 
   abbrev ArmedThen : System → Point SchedulerAt → Point WriterAt → Type 0
   ArmedThen s q w = (b : ℕ) → (s.ecb b).state ≡ Waiting → Arms q w b
-
-  other_side : (q q' : Point SchedulerAt) (w : Point WriterAt) (b : ℕ)
-      → (SchedulerArms n initiators q b → SchedulerArms n initiators q' b) → Arms q w b → Arms q' w b
-  other_side q q' w b f x = grind (arith, common_steps)
 
   -- the scheduler
   scheduled : (s : System) (x : SchedulerAt) (r : Reply) (w : Point WriterAt) → IsSchedulerAt deck initiators (At x)

@@ -1,9 +1,9 @@
 -- The codes that pauses are given in a history, and what the jobs that they name add to a volume.
 use Rattle.mv_plan.proofs.Words.{◌≡◌, ℕ, suc, ◌+◌, ◌-◌, ◌<◌, ◌≤◌, ◌==◌, nat_le, Bool, true, false, ◌&&◌, if◌then◌else◌, List, [], ◌∷◌, ◌++◌}
-use Rattle.mv_plan.proofs.Words.{length, Option, Some, None, refl, sym, ap, ◌∙◌, arith, eq-eqb, ne_eqb, leb-true, le-leb, false≢true}
+use Rattle.mv_plan.proofs.Words.{length, Option, Some, None, refl, sym, ap, ◌∙◌, arith, eq-eqb, leb-true}
 use Rattle.mv_plan.proofs.Words.{and_parts, Entry, gift_code, JobData, job_at, before_end, Named, job_named}
 use Rattle.mv_plan.proofs.volumes.Added.{added_by}
-use Rattle.mv_plan.proofs.volumes.Sums.{sum_to, sum_ext, sum_zero, sum_change, times}
+use Rattle.mv_plan.proofs.volumes.Sums.{sum_to, sum_zero, sum_change, times}
 use Rattle.std.proofs.lemmas.Grind.{common_steps}
 
 -- ---- codes

@@ -1,7 +1,7 @@
 -- Each history that follows is a walk from the start, with sound points; where it is a run, all tasks have finished. The
 -- results begin here.
-use Rattle.mv_plan.proofs.Words.{◌≡◌, ℕ, ◌+◌, ◌*◌, ◌-◌, ◌<◌, ◌≤◌, ◌==◌, Bool, true, false, if◌then◌else◌, List, [], length, Some, refl, sym}
-use Rattle.mv_plan.proofs.Words.{ap, ◌∙◌, arith, eq-eqb, ne_eqb, Entry, Object, Op, opening, JobData, Kept, nothing_kept, Program, Done}
+use Rattle.mv_plan.proofs.Words.{◌≡◌, ℕ, ◌+◌, ◌-◌, ◌<◌, ◌≤◌, ◌==◌, Bool, false, if◌then◌else◌, List, [], length, Some, refl, sym}
+use Rattle.mv_plan.proofs.Words.{ap, ◌∙◌, arith, ne_eqb, Entry, Object, Op, opening, JobData, Kept, nothing_kept, Program, Done}
 use Rattle.mv_plan.proofs.Words.{Wrong, asks, left_in, Follows, IsRun, spool_setup, reader, scheduler, initiator, writer, task_program}
 use Rattle.mv_plan.proofs.Words.{programs_after}
 use Rattle.mv_plan.specs.SpoolTasks.{reading, scheduling, writing, initiating}
@@ -20,10 +20,6 @@ use Rattle.mv_plan.proofs.walks.Following.{TasksAt, Walked, walk_from}
 use Rattle.mv_plan.proofs.walks.Stands.{Stand, stand_start}
 use Rattle.mv_plan.proofs.walks.Walks.{Points, start_points, WalkTo, AllTasks}
 use Rattle.std.proofs.lemmas.Grind.{common_steps}
-
-third : {A : Type 0} (a b d : Bool) (w x y z : A) → a ≡ false → b ≡ false → d ≡ true
-    → (if a then w else if b then x else if d then y else z) ≡ y
-third a b d w x y z p q r = rw (p, q, r) refl
 
 fourth : {A : Type 0} (a b d : Bool) (w x y z : A) → a ≡ false → b ≡ false → d ≡ false
     → (if a then w else if b then x else if d then y else z) ≡ z
