@@ -130,13 +130,26 @@ IsUnread ReadFailed old new = IfSome old (λ bytes. IsCut deck_limit bytes new)
 IsUnread NoMemory old new = IsAllOrNothing deck_limit old new
 IsUnread _ old new = ⊥
 
--- and where it was read, and the command has no texts to tell of it
+-- how a deck that was read is refused: for its fault, or for want of memory
+abbrev pub IsRefusedDeck : ℕ → List ℕ → Status → Type 0
+IsRefusedDeck n input (Deck fault) = IsFound n input (Deck fault)
+IsRefusedDeck n input NoMemory = Unit {0}
+IsRefusedDeck n input _ = ⊥
+
+-- and a script
+abbrev pub IsRefusedScript : List ℕ → Status → Type 0
+IsRefusedScript input (Script fault) = IsScriptFound input (Script fault)
+IsRefusedScript input NoMemory = Unit {0}
+IsRefusedScript input _ = ⊥
+
+-- and what each command reads that runs something
 abbrev pub IsRefused : Command → List ℕ → Status → Type 0
-IsRefused (Spool n) input (Deck fault) = IsFound n input (Deck fault)
-IsRefused (Polled n seed) input (Deck fault) = IsFound n input (Deck fault)
-IsRefused asked.Script input (Script fault) = IsScriptFound input (Script fault)
-IsRefused command input NoMemory = Unit {0}
-IsRefused _ input _ = ⊥
+IsRefused (Spool n) input status = IsRefusedDeck n input status
+IsRefused (Polled n seed) input status = IsRefusedDeck n input status
+IsRefused asked.Script input status = IsRefusedScript input status
+IsRefused (Load jobs n) input status = status ≡ NoMemory
+IsRefused Replay input status = ⊥
+IsRefused Convert input status = ⊥
 
 -- that of a deck, with its faults
 abbrev pub DeckOf : ℕ → Status → Option (List ℕ) → Option (List ℕ) → Type 0

@@ -1,15 +1,11 @@
 -- The exit status of each way that a run can end, and what is told of it.
 use Rattle.std.specs.Prelude.{ℕ, Option, Some, None}
-use Rattle.mv_deck.specs.declared.fault.DeckRefusal.{DeckRefusal}
-use Rattle.mv_deck.specs.declared.fault.DeckRefusal.TheVariants as deck
 use Rattle.mv_ending.specs.declared.note.Note.{Note}
 use Rattle.mv_ending.specs.declared.note.Note.TheVariants as note
 use Rattle.mv_io.specs.declared.reading.ReadRefusal.{ReadRefusal}
 use Rattle.mv_io.specs.declared.reading.ReadRefusal.TheVariants as reading
 use Rattle.mv_replay.specs.declared.status.ReplayStatus.{ReplayStatus}
 use Rattle.mv_replay.specs.declared.status.ReplayStatus.TheVariants as replay
-use Rattle.mv_script.specs.declared.fault.ScriptRefusal.{ScriptRefusal}
-use Rattle.mv_script.specs.declared.fault.ScriptRefusal.TheVariants as script
 use Rattle.mv_program.specs.declared.status.Status.{Status}
 use Rattle.mv_program.specs.declared.status.Status.TheVariants.{Done, Words, Deck, TooLong, ReadFailed, ReportFailed}
 use Rattle.mv_program.specs.declared.status.Status.TheVariants.{JournalFailed, NoMemory, Illegal, Text}
@@ -59,13 +55,3 @@ abbrev pub of_read : ReadRefusal → Status
 of_read reading.Failed = ReadFailed
 of_read reading.TooLong = TooLong
 of_read reading.NoMemory = NoMemory
-
--- that of a deck that was not taken
-abbrev pub of_deck : DeckRefusal → Status
-of_deck (deck.Fault fault) = Deck fault
-of_deck deck.NoMemory = NoMemory
-
--- and of a script
-abbrev pub of_script : ScriptRefusal → Status
-of_script (script.Fault fault) = Script fault
-of_script script.NoMemory = NoMemory

@@ -1,15 +1,15 @@
 //! How a run ended: `specs/Status.antt`.
 
 ghost use Rattle.std.specs.Prelude.{◌≡◌, Some};
-ghost use Rattle.mv_program.specs.Status.{exit_status, note_of as note_by_status, of_deck, of_read, of_script, replay_of};
+ghost use Rattle.mv_program.specs.Status.{exit_status, note_of as note_by_status, of_read, replay_of};
 ghost use Rattle.mv_program.specs.declared.status.Status.TheVariants.{NoMemory as no_memory};
 
-use mv_deck::{DeckFault, DeckRefusal};
+use mv_deck::DeckFault;
 use mv_ending::Note;
 use mv_entrytext::TextFault;
 use mv_io::{NoMemory, ReadRefusal};
 use mv_replay::ReplayStatus;
-use mv_script::{ScriptFault, ScriptRefusal};
+use mv_script::ScriptFault;
 
 /// How a run ended.
 #[derive(Clone, Copy, Debug, PartialEq, Eq)]
@@ -67,28 +67,6 @@ impl From<ReadRefusal> for Status {
             ReadRefusal::Failed => Status::ReadFailed,
             ReadRefusal::TooLong => Status::TooLong,
             ReadRefusal::NoMemory => Status::NoMemory,
-        }
-    }
-}
-
-impl From<DeckRefusal> for Status {
-    ghost from_gives = { λ refusal status. status ≡ of_deck refusal };
-
-    fn from(refusal: DeckRefusal) -> Self {
-        match refusal {
-            DeckRefusal::Fault(fault) => Status::Deck(fault),
-            DeckRefusal::NoMemory => Status::NoMemory,
-        }
-    }
-}
-
-impl From<ScriptRefusal> for Status {
-    ghost from_gives = { λ refusal status. status ≡ of_script refusal };
-
-    fn from(refusal: ScriptRefusal) -> Self {
-        match refusal {
-            ScriptRefusal::Fault(fault) => Status::Script(fault),
-            ScriptRefusal::NoMemory => Status::NoMemory,
         }
     }
 }

@@ -2,7 +2,7 @@
 
 ghost use Rattle.std.specs.Prelude.{◌≡◌, ◌≤◌, [], All, length, None, IfOk, IfErr};
 ghost use Rattle.mv_deck.specs.Deck.{deck_data, deck_of};
-ghost use Rattle.mv_deck.specs.Fault.{first_fault, TellsFirst};
+ghost use Rattle.mv_deck.specs.Fault.{first_fault};
 ghost use Rattle.mv_deck.specs.Load.{load_text};
 ghost use Rattle.mv_deck.specs.Sound.{IsSound};
 ghost use Rattle.mv_machine.specs.Limits.{events_limit, highest_place};
@@ -15,15 +15,18 @@ ghost use Rattle.mv_program.specs.Command.{AreInitiators, AreJobs};
 ghost use Rattle.mv_script.specs.Fault as scripts;
 ghost use Rattle.mv_script.specs.Script.{script_data, script_of};
 ghost use Rattle.mv_script.specs.Sound.{IsSound as IsSoundScript};
+ghost use Rattle.mv_program.specs.Program.{IsRefusedDeck, IsRefusedScript};
 ghost use Rattle.mv_program.specs.Texts.{report_of, IsJournalOfRun, IsRunOfScript, deck_limit};
 
-use mv_deck::{Deck, DeckRefusal, load_deck, read_deck};
+use crate::status::Status;
+use mv_deck::{Deck, load_deck, read_deck};
 use mv_entrytext::write_history;
 use mv_io::NoMemory;
+use mv_line::TextRefusal;
 use mv_polled::{RoundOrder, run_polled};
 use mv_report::{write_report, write_summary};
 use mv_runscript::{run_script, write_answers};
-use mv_script::{Script, ScriptRefusal, read_script};
+use mv_script::{Script, read_script};
 use mv_spool::{SpoolRun, run_deck};
 use mv_task::Gate;
 use std::alloc::Global;
@@ -105,19 +108,21 @@ pub(crate) fn texts_of<X: Threads + Wait + Sync, G: Gate + Sync>(
     initiators: u32,
     way: Way,
     gate: &G,
-) -> Result<Texts, DeckRefusal>
+) -> Result<Texts, Status>
     requires short { length input.now ≤ deck_limit }
     requires initiators { (1 ≤ initiators) × (initiators ≤ most_initiators) }
     ensures sound { IfOk result (λ _. first_fault input.now initiators ≡ None) }
     ensures report { IfOk result (λ texts. texts.report.items ≡ report_of input.now) }
     ensures run { IfOk result (λ texts. IsJournalOfRun (deck_of input.now) initiators texts.journal.items) }
-    ensures fault { IfErr result (λ refusal. TellsFirst refusal (first_fault input.now initiators)) }
+    ensures refused { IfErr result (λ status. IsRefusedDeck initiators input.now status) }
 {
-    let deck = read_deck(alloc, input, initiators)?;
-    match texts_of_deck(rt, alloc, &deck, initiators, way, gate) {
-        Ok(texts) => Ok(texts),
-        Err(NoMemory) => Err(DeckRefusal::NoMemory),
-    }
+    let deck = match read_deck(alloc, input, initiators) {
+        Ok(deck) => deck,
+        Err(TextRefusal::Fault(fault)) => return Err(Status::Deck(fault)),
+        Err(TextRefusal::NoMemory) => return Err(Status::NoMemory),
+    };
+    let texts = texts_of_deck(rt, alloc, &deck, initiators, way, gate)?;
+    Ok(texts)
 }
 
 // The deck of a load.
@@ -129,9 +134,9 @@ fn deck_of_load(alloc: Global, jobs: u32, initiators: u32) -> Result<Deck, NoMem
     let text = load_deck(alloc, jobs)?;
     match read_deck(alloc, &text, initiators) {
         Ok(deck) => Ok(deck),
-        Err(DeckRefusal::NoMemory) => Err(NoMemory),
+        Err(TextRefusal::NoMemory) => Err(NoMemory),
         // A load has no fault.
-        Err(DeckRefusal::Fault(_)) => unreachable!(),
+        Err(TextRefusal::Fault(_)) => unreachable!(),
     }
 }
 
@@ -175,15 +180,17 @@ pub(crate) fn texts_of_script<X: Threads + Wait + Sync>(
     rt: &X,
     alloc: Global,
     input: &[u8],
-) -> Result<Texts, ScriptRefusal>
+) -> Result<Texts, Status>
     requires short { length input.now ≤ deck_limit }
     ensures sound { IfOk result (λ _. scripts.first_fault input.now ≡ None) }
     ensures run { IfOk result (λ texts. IsRunOfScript (script_of input.now) texts.report.items texts.journal.items) }
-    ensures fault { IfErr result (λ refusal. scripts.TellsFirst refusal (scripts.first_fault input.now)) }
+    ensures refused { IfErr result (λ status. IsRefusedScript input.now status) }
 {
-    let script = read_script(alloc, input)?;
-    match texts_of_run(rt, alloc, &script) {
-        Ok(texts) => Ok(texts),
-        Err(NoMemory) => Err(ScriptRefusal::NoMemory),
-    }
+    let script = match read_script(alloc, input) {
+        Ok(script) => script,
+        Err(TextRefusal::Fault(fault)) => return Err(Status::Script(fault)),
+        Err(TextRefusal::NoMemory) => return Err(Status::NoMemory),
+    };
+    let texts = texts_of_run(rt, alloc, &script)?;
+    Ok(texts)
 }

@@ -8,10 +8,10 @@ use Rattle.mv_program.proofs.texts.texts_of.Goals as goal
 
 pub texts_of_deck-requires-clause-sound : goal.texts_of_deck-requires-clause-sound
 texts_of_deck-requires-clause-sound g c = λ κs live.
-    subst (λ (d : List JobData). IsSound d c.args.initiators) (sym c.in_ok-deck.ensures.deck.1)
-    (sound c.args.input.now c.args.initiators c.in_ok-deck.ensures.deck.0)
+    subst (λ (d : List JobData). IsSound d c.args.initiators) (sym c.in-Ok.ensures.deck.1)
+    (sound c.args.input.now c.args.initiators c.in-Ok.ensures.deck.0)
 
-pub returns-in-Ok-clause-run : goal.returns-in-Ok-clause-run
-returns-in-Ok-clause-run g c =
-    subst (λ (d : List JobData). IsJournalOfRun d c.args.initiators c.in-Ok.texts.journal.items)
-    c.in_ok-deck.ensures.deck.1 c.in-Ok.ensures.journal
+pub returns-clause-run : goal.returns-clause-run
+returns-clause-run g c =
+    subst (λ (d : List JobData). IsJournalOfRun d c.args.initiators c.in_ok-texts.texts.journal.items)
+    c.in-Ok.ensures.deck.1 c.in_ok-texts.ensures.journal
