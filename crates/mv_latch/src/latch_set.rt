@@ -260,3 +260,6 @@ impl LatchSet {
         Some(self.step(caller, id, op, wakes))
     }
 }
+
+#[cfg(test)]
+mod tests;

@@ -25,6 +25,7 @@ fn read_text<D: Source>(alloc: Global, command: Command, input: &mut D) -> Resul
     ensures short { IfOk result (λ text. length text.items ≤ deck_limit) }
     ensures whole { reads_input command ≡ true → IfOk result (λ text. IfSome (D.left input.old)
         (λ bytes. (text.items ≡ bytes) × (D.left input.new ≡ Some []))) }
+    ensures none { reads_input command ≡ false → IfOk result (λ text. text.items ≡ []) }
     ensures unread { reads_input command ≡ false → input.new ≡ input.old }
     ensures reads { IfErr result (λ _. reads_input command ≡ true) }
     ensures refused { IfErr result (λ status. IsUnread status (D.left input.old) (D.left input.new)) }

@@ -364,6 +364,16 @@ fn decks(rt: HostRuntime) -> Result<(), Fail> {
     assert_rows(&rt, DECKS)
 }
 
+// Four events of the scheduler and four of the initiator, or five where its pause parked.
+#[test]
+fn no_job(rt: HostRuntime) -> Result<(), Fail> {
+    let mut on = streams_over(rt.alloc(), b"//\n")?;
+    assert_eq!(rt; run(&rt, "spool 1", &mut on)?, Status::Done);
+    let journal = on.journal.bytes();
+    assert!(rt; has(journal, "\nEND 8\n") || has(journal, "\nEND 9\n"));
+    Ok(())
+}
+
 #[test]
 fn decks_with_a_fault(rt: HostRuntime) -> Result<(), Fail> {
     assert_rows(&rt, FAULTY_DECKS)

@@ -352,7 +352,7 @@ fn a_wait_for_ten_thousand_blocks(rt: HostRuntime) -> Result<(), Fail> {
 
 // ---- many events
 
-// `bench/run` times all of these: 500,000 events of posts and waits that nobody disputes, and 250,000 events of one kind on one word.
+// `bench/run` times it: 500,000 events that nobody disputes.
 #[test]
 fn posts_and_waits_of_one_thread(rt: HostRuntime) -> Result<(), Fail> {
     let config = setup(rt.alloc(), &[500_000], &[0], Vec::new(rt.alloc()))?;

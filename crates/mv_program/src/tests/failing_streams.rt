@@ -25,8 +25,8 @@ fn a_source_that_fails_at_each_of_its_calls(rt: HostRuntime) -> Result<(), Fail>
 }
 
 // A sink with so much room, that takes so many bytes a call, and fails at the call of this number.
-fn sink(alloc: Global, kind: [usize; 3]) -> Result<MemSink, NoMemory> {
-    MemSink::stepped(alloc, kind[0], kind[1].max(1), &[kind[2] as u64])
+fn sink(alloc: Global, [room, step, call]: [usize; 3]) -> Result<MemSink, NoMemory> {
+    MemSink::stepped(alloc, room, step.max(1), &[call as u64])
 }
 
 // Report and journal are written to such sinks. So many bytes of the report stand there in the end, and behind a whole one a front of the
@@ -57,14 +57,12 @@ const WIDE: [usize; 3] = [1 << 16, 1 << 16, 1 << 16];
 // The report has 150 bytes. A sink fails at once, fails at its third call and takes four bytes at a time, or has too little room.
 #[test]
 fn report_sinks_that_fail(rt: HostRuntime) -> Result<(), Fail> {
-    for (sink, length) in [
-        ([150, 150, 0], 0),
-        ([150, 4, 2], 8),
-        ([0, 150, 150], 0),
-        ([1, 150, 150], 1),
-        ([149, 150, 150], 149),
-    ] {
+    for (sink, length) in [([150, 150, 0], 0), ([150, 4, 2], 8)] {
         assert_written(&rt, [sink, WIDE], 6, "REPORT FAILED\n", length, "")?;
+    }
+    for room in 0..150 {
+        let sink = [room, 150, 150];
+        assert_written(&rt, [sink, WIDE], 6, "REPORT FAILED\n", room, "")?;
     }
     Ok(())
 }
@@ -77,12 +75,12 @@ fn journal_sinks_that_fail(rt: HostRuntime) -> Result<(), Fail> {
     Ok(())
 }
 
-// Report and journal are whole where each call takes so many bytes.
+// Report and journal are whole where each call takes so many bytes, and the report's sink has just the room.
 #[test]
 fn sinks_that_take_little_at_a_time(rt: HostRuntime) -> Result<(), Fail> {
     for step in [1, 2, 149, 150] {
-        let sink = [1 << 16, step, 1 << 17];
-        assert_written(&rt, [sink, sink], 0, "", 150, "= PURGED 0 0\n")?;
+        let sinks = [[150, step, 1 << 17], [1 << 16, step, 1 << 17]];
+        assert_written(&rt, sinks, 0, "", 150, "= PURGED 0 0\n")?;
     }
     Ok(())
 }

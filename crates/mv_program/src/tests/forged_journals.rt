@@ -53,6 +53,34 @@ EVENTS
 END 9
 ";
 
+// Two posts by one caller.
+const POSTS: &str = "\
+JOURNAL 1
+CALLERS 1
+ELEMENTS 1
+VOLUMES 8
+LATCHES 8
+QUOTA 8 0
+BUDGET 2
+ECB 0
+ECB 0
+EVENTS
+0 E0 0 POST 0 = POSTED
+0 E1 0 POST 16777228 = POSTED
+END 2
+";
+
+const FORGED_POSTS: &str = "\
+10 ILLEGAL AT LINE 12|POST 16777228 = POSTED|POST 16777228 = WOKE 0
+11 JOURNAL LINE 13 KIND 2|END 2|END 02
+";
+
+// What is said otherwise of the second: that its task opens its element in another call, and what its pause is given.
+const FORGED_PAUSE: &str = "\
+10 ILLEGAL AT LINE 14|2.0 P2 0|2.1 P2 0
+10 ILLEGAL AT LINE 20|GIVEN 0 1|GIVEN 5 1
+";
+
 // What is said otherwise of each event of the first: that its place is one higher, or that its reply is another; and at the end a number
 // with a leading zero. Beside each stands the line on which it is refused.
 const FORGERIES: &str = "\
@@ -132,7 +160,10 @@ fn journals_that_are_forged(rt: HostRuntime) -> Result<(), Fail> {
     let old = unnumbered(rt.alloc(), WAIT)?;
     assert_forged(&rt, &old, FORGERIES)?;
     assert_forged(&rt, WAIT, FORGERIES)?;
-    assert_forged(&rt, WAIT, MISNUMBERED)
+    assert_forged(&rt, WAIT, MISNUMBERED)?;
+    assert_forged(&rt, PAUSE, FORGED_PAUSE)?;
+    assert_run(&rt, "replay", POSTS, 0, "LEGAL 2 EVENTS\n", "")?;
+    assert_forged(&rt, POSTS, FORGED_POSTS)
 }
 
 // Both commands on a text that is cut before any of its bytes end in the line of that byte.

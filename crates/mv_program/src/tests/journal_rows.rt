@@ -8,7 +8,7 @@ use super::forged_journals::{assert_forged, unnumbered};
 use super::*;
 use mv_calls::{number_calls, replay_calls};
 use mv_entrytext::{Journal, read_journal};
-use mv_machine::{Entry, HIGHEST_PLACE};
+use mv_machine::{CheckRefusal, Config, Entry, Exit, HIGHEST_PLACE};
 
 // Two callers, three blocks of callers 0, 0 and 1, and an exit from block 0 to block 1. The events stand from line 14 on: on block 0 each
 // operation in each state; on element 1 each operation in each phase, and with a generation that is not the current one; on a volume; and
@@ -195,4 +195,48 @@ fn entries_of_one_call_have_one_number(rt: HostRuntime) -> Result<(), Fail> {
     assert!(rt; text.len() < 1000);
     let journal = read_journal(rt.alloc(), text).ok().ok_or("a fault")?;
     assert_numbered(&rt, rt.alloc(), &journal)
+}
+
+// ---- configurations
+
+// One caller and two blocks of its own.
+fn one_caller(alloc: Global) -> Result<Config, AllocError> {
+    Ok(Config {
+        callers: 1,
+        elements_per_caller: 1,
+        volumes: 1,
+        latches: 1,
+        quota: 1,
+        posted_quota: 0,
+        budgets: vec![in alloc; 1]?,
+        owners: vec![in alloc; 0, 0]?,
+        exits: Vec::new(alloc),
+    })
+}
+
+fn refusal(alloc: Global, config: Config) -> Option<CheckRefusal> {
+    config.check(alloc).err()
+}
+
+// An exit that posts its own source, budgets that are one event too many, and a block of a caller that is not there.
+#[test]
+fn refused_configurations(rt: HostRuntime) -> Result<(), Fail> {
+    let mut config = one_caller(rt.alloc())?;
+    config.exits.push(Exit {
+        source: 1,
+        targets: vec![in rt.alloc(); 1]?,
+    })?;
+    assert_eq!(rt; refusal(rt.alloc(), config), Some(CheckRefusal::BadExit(1)));
+    let mut config = one_caller(rt.alloc())?;
+    config.callers = 2;
+    config.budgets = vec![in rt.alloc(); 524_287, 1]?;
+    let many = refusal(rt.alloc(), config);
+    assert_eq!(rt; many, Some(CheckRefusal::Budget(524_288)));
+    let mut config = one_caller(rt.alloc())?;
+    config.owners = vec![in rt.alloc(); 0, 1]?;
+    assert_eq!(rt;
+        refusal(rt.alloc(), config),
+        Some(CheckRefusal::BadOwner(1))
+    );
+    Ok(())
 }

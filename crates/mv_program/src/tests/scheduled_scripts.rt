@@ -41,6 +41,24 @@ fn two_tasks_wait_for_each_other(rt: HostRuntime) -> Result<(), Fail> {
     Ok(())
 }
 
+// A task waits for a block that another posts.
+const ONE_WAITS: &str = "\
+SCRIPT 2
+ECB 0
+TASK
+WAIT 1 0
+TASK
+POST 0 3
+END
+";
+
+#[test]
+fn a_task_waits_for_another(rt: HostRuntime) -> Result<(), Fail> {
+    let answers = answers_of(&rt, ONE_WAITS, " E0 2 SETTLE = COMPLETE 3\n")?;
+    assert!(rt; answers.starts_with("0 1 WAITED C3\n1 1 "));
+    Ok(())
+}
+
 // Of sixteen posts of one block by two tasks one is taken, and each other is told its code.
 const POSTS_OF_ONE_BLOCK: &str = "\
 SCRIPT 2
@@ -55,14 +73,14 @@ POST 0 6
 POST 0 7
 POST 0 8
 TASK
-POST 0 9
-POST 0 10
 POST 0 11
 POST 0 12
 POST 0 13
 POST 0 14
 POST 0 15
 POST 0 16
+POST 0 17
+POST 0 18
 END
 ";
 
@@ -72,7 +90,7 @@ fn one_of_sixteen_posts_is_taken(rt: HostRuntime) -> Result<(), Fail> {
     let told = if answers.starts_with("0 1 POSTED\n") {
         " ALREADY 1\n"
     } else {
-        " ALREADY 9\n"
+        " ALREADY 11\n"
     };
     assert_eq!(rt; answers.matches(" POSTED\n").count(), 1);
     assert_eq!(rt; answers.matches(told).count(), 15);
