@@ -22,12 +22,12 @@ use Rattle.mv_machine.specs.declared.entry.Op.TheVariants as op_on
 use Rattle.mv_machine.specs.declared.entry.VolumeOp.TheVariants as volume_op
 use Rattle.mv_machine.specs.declared.entry.VolumeReply.{VolumeReply}
 use Rattle.mv_machine.specs.declared.entry.VolumeReply.TheVariants as volume_reply
-use Rattle.mv_machine.specs.Setup.{Setup}
+use Rattle.mv_machine.specs.Setup.{Setup, targets_of}
 use Rattle.mv_calls.specs.Keeping.{Kept}
 use Rattle.mv_calls.specs.LatchCalls.{obtain, obtain_refusal, obtained, confirmed}
 use Rattle.mv_calls.specs.Pauses.{allocate, open_lowest, lowest_free, opened, pause, paused, resumed, release, released}
 use Rattle.mv_calls.specs.Pauses.{is_others_token}
-use Rattle.mv_calls.specs.Posts.{Posting, post, post_within, posting, posted_next, each_posted, targets_of}
+use Rattle.mv_calls.specs.Posts.{Posting, post, post_within, posting, posted_next, each_posted}
 use Rattle.mv_calls.specs.Posts as came
 use Rattle.mv_calls.specs.Program.{Program, Do, Done, Early, on_ecb, on_element, on_latch}
 use Rattle.mv_calls.specs.Refusal.{Refusal}

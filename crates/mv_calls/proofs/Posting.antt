@@ -20,14 +20,14 @@ use Rattle.mv_machine.specs.declared.entry.Reply.TheVariants as reply_of
 use Rattle.mv_machine.specs.Legal.{IsNext, Legal, after}
 use Rattle.mv_machine.specs.Check.{IsValid}
 use Rattle.mv_machine.specs.Reach.{exits_of, greatest, total, reach, reach_within}
-use Rattle.mv_machine.specs.Setup.{Setup, SetupExit, owner_of, is_exit_of, starts_from}
+use Rattle.mv_machine.specs.Setup.{Setup, SetupExit, owner_of, is_exit_of, starts_from, targets_at, targets_of}
 use Rattle.mv_machine.proofs.Lists.{all_front, all_back}
 use Rattle.mv_machine.proofs.EntryRuns.{entry_of}
 use Rattle.mv_machine.proofs.Reaches.{all_lead_up, reach_is}
 use Rattle.mv_calls.specs.Exits.{NamesOwnExit}
 use Rattle.mv_calls.specs.Keeping.{Kept, kept_after}
 use Rattle.mv_calls.specs.Known.{BlockAgrees}
-use Rattle.mv_calls.specs.Posts.{Posting, posting, targets_at, targets_of, posted_next, each_posted, post_within, post}
+use Rattle.mv_calls.specs.Posts.{Posting, posting, posted_next, each_posted, post_within, post}
 use Rattle.mv_calls.specs.Posts.{wake_posted, wakes_posted}
 use Rattle.mv_calls.specs.Posts as came
 use Rattle.mv_calls.specs.Program.{Program, Do, Done, Early, Wrong, Heard, Call, asks, Says, and_then, on_ecb, going_on, followed}

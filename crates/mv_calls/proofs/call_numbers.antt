@@ -4,7 +4,6 @@ pub mod Calls
 pub mod Folds
 pub mod OneCalls
 -- one number after the other
-pub mod Targets
 pub mod Kept
 -- the first numbers of a history
 pub mod Prefixes

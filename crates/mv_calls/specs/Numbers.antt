@@ -18,17 +18,18 @@ use Rattle.mv_machine.specs.declared.entry.Op.TheVariants as op_on
 use Rattle.mv_machine.specs.declared.entry.Reply.{Reply}
 use Rattle.mv_machine.specs.declared.entry.Reply.TheVariants as reply_of
 use Rattle.mv_machine.specs.Legal.{next}
-use Rattle.mv_machine.specs.Setup.{Setup}
+use Rattle.mv_machine.specs.Setup.{Setup, targets_of}
 use Rattle.mv_machine.specs.System.{System, opening, with_at}
 use Rattle.mv_machine.specs.Waking.{blocks_of}
-use Rattle.mv_calls.specs.Posts.{targets_of}
+use Rattle.mv_calls.specs.declared.counting.Last.{Last}
+use Rattle.mv_calls.specs.declared.counting.Last.TheVariants.{Armed, Accepted, Queued, Other}
 
 -- what is kept of a caller: the number of its last group of entries, the blocks whose posts may still follow in that
--- group, and its last entry
+-- group, and what its last entry leaves to the next
 pub record Numbering : Type 0 where
   pub group : ℕ
   pub pending : List ℕ
-  pub last : Option Entry
+  pub last : Option Last
 
 -- before its first entry
 abbrev pub unnumbered : Numbering
@@ -36,26 +37,29 @@ unnumbered = record { group = 0; pending = []; last = None }
 
 -- ---- which entries continue the group
 
--- whether an operation begins to wait on a block
-abbrev pub is_arm : Op → Bool
-is_arm (op_on.Ecb ecb_op.Arm) = true
-is_arm op = false
+-- what an entry leaves to its caller's next: that it began to wait on a block; that its release of an element was accepted; that
+-- its request was queued, for which its task waits
+abbrev pub last_of : Op → Reply → Last
+last_of (op_on.Ecb ecb_op.Arm) reply = Armed
+last_of (op_on.Element (element_op.Release g code)) (reply_of.Element element_reply.Early) = Accepted
+last_of (op_on.Element (element_op.Release g code)) (reply_of.Element element_reply.Woke) = Accepted
+last_of (op_on.Latch (latch_op.Obtain latch requestor mode form_of.Waiting)) (reply_of.Latch (latch_reply.Queued id)) = Queued
+last_of op reply = Other
 
--- whether a request was queued for which its task waits
-abbrev pub is_queued : Op → Reply → Bool
-is_queued (op_on.Latch (latch_op.Obtain latch requestor mode form_of.Waiting)) (reply_of.Latch (latch_reply.Queued id)) = true
-is_queued op reply = false
+-- whether the last entry began to wait on a block
+abbrev pub is_armed : Option Last → Bool
+is_armed (Some Armed) = true
+is_armed last = false
 
--- whether a release of an element was accepted
-abbrev pub is_accepted : Op → Reply → Bool
-is_accepted (op_on.Element (element_op.Release g code)) (reply_of.Element element_reply.Early) = true
-is_accepted (op_on.Element (element_op.Release g code)) (reply_of.Element element_reply.Woke) = true
-is_accepted op reply = false
+-- whether it was an accepted release of an element
+abbrev pub is_accepted : Option Last → Bool
+is_accepted (Some Accepted) = true
+is_accepted last = false
 
--- whether the last entry meets a test
-abbrev pub last_is : (Op → Reply → Bool) → Option Entry → Bool
-last_is test None = false
-last_is test (Some e) = test e.op e.reply
+-- whether it was a request that was queued
+abbrev pub is_queued : Option Last → Bool
+is_queued (Some Queued) = true
+is_queued last = false
 
 -- whether a block is the first of these
 abbrev pub is_first : ℕ → List ℕ → Bool
@@ -66,18 +70,18 @@ is_first e (p ∷ ps) = e == p
 -- pause after an accepted release; a post of the first pending block. Nothing else does
 abbrev pub continues : Numbering → Object → Op → Bool
 continues t (Ecb e) (op_on.Ecb ecb_op.Settle) = true
-continues t (Ecb e) (op_on.Ecb ecb_op.Arm) = last_is (λ op reply. is_arm op) t.last
+continues t (Ecb e) (op_on.Ecb ecb_op.Arm) = is_armed t.last
 continues t (Ecb e) (op_on.Ecb (ecb_op.Post code)) = is_first e t.pending
 continues t (Element n) (op_on.Element (element_op.Resume g)) = true
-continues t (Element n) (op_on.Element (element_op.Pause g)) = last_is is_accepted t.last
-continues t Latches (op_on.Latch (latch_op.Confirm latch id)) = last_is is_queued t.last
+continues t (Element n) (op_on.Element (element_op.Pause g)) = is_accepted t.last
+continues t Latches (op_on.Latch (latch_op.Confirm latch id)) = is_queued t.last
 continues t object op = false
 
 -- the first entry of a caller is of group 0, whatever it is; a later one that does not continue opens the next
-abbrev pub group_after : Option Entry → ℕ → Bool → ℕ
+abbrev pub group_after : Option Last → ℕ → Bool → ℕ
 group_after None g continued = g
-group_after (Some e) g true = g
-group_after (Some e) g false = g + 1
+group_after (Some last) g true = g
+group_after (Some last) g false = g + 1
 
 -- ---- which posts may follow
 
@@ -104,7 +108,7 @@ abbrev pub numbered : Setup → Numbering → Entry → List Wake → Numbering
 numbered c t e ws = record {
   group = group_after t.last t.group (continues t e.object e.op);
   pending = asked c e.object e.op e.reply ws ++ kept_pending t.pending e.object e.op;
-  last = Some e;
+  last = Some (last_of e.op e.reply);
 }
 
 -- ---- a history

@@ -1,6 +1,6 @@
 -- Posts of event control blocks: each with the posts of its exit, and these with theirs.
 use Rattle.std.specs.Prelude.{ℕ, suc, zero, ◌==◌, Bool, true, false, ◌&&◌, List, [], ◌∷◌, length, Option, Some, None, option_map}
-use Rattle.std.specs.Prelude.{option_and_then, slice_get, if◌then◌else◌}
+use Rattle.std.specs.Prelude.{option_and_then, if◌then◌else◌}
 use Rattle.mv_ecb.specs.declared.operation.EcbOp.TheVariants as ecb_op
 use Rattle.mv_ecb.specs.declared.operation.EcbReply.{EcbReply}
 use Rattle.mv_ecb.specs.declared.operation.EcbReply.TheVariants as ecb_reply
@@ -12,7 +12,7 @@ use Rattle.mv_machine.specs.declared.entry.Op.TheVariants as op_on
 use Rattle.mv_machine.specs.declared.entry.Reply.{Reply}
 use Rattle.mv_machine.specs.declared.entry.Reply.TheVariants as reply_of
 use Rattle.mv_machine.specs.Packing.{unpack, reply_in}
-use Rattle.mv_machine.specs.Setup.{Setup, SetupExit}
+use Rattle.mv_machine.specs.Setup.{Setup, targets_of}
 use Rattle.mv_calls.specs.Keeping.{Kept}
 use Rattle.mv_calls.specs.Program.{Program, Do, Done, Wrong, Call, and_then, on_ecb}
 
@@ -29,16 +29,6 @@ posting f ecb_reply.Posted = f Posted
 posting f (ecb_reply.Woke x) = f (Woke x)
 posting f (ecb_reply.Already c) = f (Already c)
 posting f reply = Wrong
-
--- the targets of an exit, if there is one
-abbrev pub targets_at : Option SetupExit → List ℕ
-targets_at None = []
-targets_at (Some x) = x.targets
-
--- the targets of an exit, which is counted from 1. Exit 0 is none
-abbrev pub targets_of : Setup → ℕ → List ℕ
-targets_of c zero = []
-targets_of c (suc x) = targets_at (slice_get c.exits x)
 
 -- the blocks that are posted after a first post
 abbrev pub posted_next : Setup → Posting → List ℕ

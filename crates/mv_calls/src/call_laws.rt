@@ -21,12 +21,12 @@ ghost use Rattle.mv_machine.specs.Limits.{events_limit, highest_generation};
 ghost use Rattle.mv_machine.specs.Parts.{IsPossible};
 ghost use Rattle.mv_machine.specs.Reach.{reach, total};
 ghost use Rattle.mv_machine.specs.Replies.{IsOfKind, HasPlaceAsNumber, NamesUpTo};
-ghost use Rattle.mv_machine.specs.Setup.{Setup, is_exit_of};
+ghost use Rattle.mv_machine.specs.Setup.{Setup, is_exit_of, targets_of};
 ghost use Rattle.mv_machine.specs.System.{System, volume_step};
 ghost use Rattle.mv_machine.specs.Told.{told};
 ghost use Rattle.mv_calls.specs.Keeping.{Kept};
 ghost use Rattle.mv_calls.specs.Made.{told_by, HaveTheirWakes};
-ghost use Rattle.mv_calls.specs.Posts.{post, targets_of};
+ghost use Rattle.mv_calls.specs.Posts.{post};
 ghost use Rattle.mv_calls.specs.Program.{Heard, Says, entries};
 ghost use Rattle.mv_calls.specs.Services.{Service, program, most_events, HasItsTable};
 

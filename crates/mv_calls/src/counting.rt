@@ -2,11 +2,10 @@
 //! `specs/Counters.antt` how contracts see a counter.
 
 ghost use Rattle.std.specs.Prelude.{◌≡◌, ◌++◌, ◌<◌, ◌-◌, ◌^◌, reverse, IfOk};
-ghost use Rattle.mv_calls.specs.Posts.{targets_of};
 ghost use Rattle.mv_calls.specs.Counters.{numbering_of};
 ghost use Rattle.mv_machine.specs.Waking.{blocks_of};
 ghost use Rattle.mv_calls.specs.Numbers.{unnumbered, asked, kept_pending, numbered};
-ghost use Rattle.mv_calls.specs.Numbers.{is_queued as is_queued_of, is_accepted as is_accepted_of, continues as continues_of};
+ghost use Rattle.mv_calls.specs.Numbers.{last_of, continues as continues_of};
 
 use mv_ecb::{EcbOp, EcbReply};
 use mv_element::{ElementOp, ElementReply};
@@ -15,20 +14,34 @@ use mv_latch::{LatchForm, LatchOp, LatchReply, Wake};
 use mv_machine::{Entry, Object, Op, Reply, ValidConfig};
 use std::alloc::Global;
 
+// What the last entry of a caller leaves to its next: a wait may go on to arm, a transfer to pause, an obtain to confirm.
+#[derive(Clone, Copy)]
+pub(crate) enum Last {
+    Armed,
+    Accepted,
+    Queued,
+    Other,
+}
+
 // What is kept of a caller: the number of its last group of entries, the blocks whose posts may still follow in that
-// group, of which the next lies on top, and its last entry.
+// group, of which the next lies on top, and what its last entry leaves.
 #[derive(Drop)]
 pub(crate) struct Counter {
     group: u32,
     pending: Vec<u32>,
-    last: Option<Entry>,
+    last: Option<Last>,
 }
 
-// Whether a request was queued for which its task waits.
-fn is_queued(entry: &Entry) -> bool
-    ensures { result ≡ is_queued_of entry.now.op entry.now.reply }
+// What an entry leaves to the next: an arm, an accepted release of an element, a queued request for which its task waits.
+fn last_of(entry: &Entry) -> Last
+    ensures { result ≡ last_of entry.now.op entry.now.reply }
 {
     match (entry.op, entry.reply) {
+        (Op::Ecb(EcbOp::Arm), _) => Last::Armed,
+        (Op::Element(ElementOp::Release(_, _)), Reply::Element(ElementReply::Early)) =>
+            Last::Accepted,
+        (Op::Element(ElementOp::Release(_, _)), Reply::Element(ElementReply::Woke)) =>
+            Last::Accepted,
         (
             Op::Latch(
                 LatchOp::Obtain {
@@ -37,19 +50,8 @@ fn is_queued(entry: &Entry) -> bool
                 },
             ),
             Reply::Latch(LatchReply::Queued(_)),
-        ) => true,
-        _ => false,
-    }
-}
-
-// Whether a release of an element was accepted.
-fn is_accepted(entry: &Entry) -> bool
-    ensures { result ≡ is_accepted_of entry.now.op entry.now.reply }
-{
-    match (entry.op, entry.reply) {
-        (Op::Element(ElementOp::Release(_, _)), Reply::Element(ElementReply::Early)) => true,
-        (Op::Element(ElementOp::Release(_, _)), Reply::Element(ElementReply::Woke)) => true,
-        _ => false,
+        ) => Last::Queued,
+        _ => Last::Other,
     }
 }
 
@@ -79,20 +81,6 @@ fn push_wakes(stack: &mut Vec<u32>, wakes: &[Wake]) -> Result<(), NoMemory>
     Ok(())
 }
 
-// Puts the targets of an exit on top. Exit 0 has none.
-#[tactic(auto, using(crate::proofs::call_numbers::Targets::targets_found, crate::proofs::call_numbers::Targets::targets_missing))]
-fn push_targets(stack: &mut Vec<u32>, config: &ValidConfig, exit: u32) -> Result<(), NoMemory>
-    ensures { IfOk result (λ _. reverse stack.new.items ≡ targets_of config.now exit ++ reverse stack.old.items) }
-{
-    if exit == 0 {
-        return Ok(());
-    }
-    match config.config().exits.get(exit as usize - 1) {
-        Some(found) => push_blocks(stack, &found.targets),
-        None => Ok(()),
-    }
-}
-
 impl Counter {
     // Before the first entry.
     pub(crate) fn new(alloc: Global) -> Counter
@@ -111,25 +99,22 @@ impl Counter {
     {
         match (object, op) {
             (Object::Ecb(_), Op::Ecb(EcbOp::Settle)) => true,
-            (Object::Ecb(_), Op::Ecb(EcbOp::Arm)) => match &self.last {
-                Some(last) => match last.op {
-                    Op::Ecb(EcbOp::Arm) => true,
-                    _ => false,
-                },
-                None => false,
+            (Object::Ecb(_), Op::Ecb(EcbOp::Arm)) => match self.last {
+                Some(Last::Armed) => true,
+                _ => false,
             },
             (Object::Ecb(ecb), Op::Ecb(EcbOp::Post(_))) => match self.pending.last() {
                 Some(first) => ecb == *first,
                 None => false,
             },
             (Object::Element(_), Op::Element(ElementOp::Resume(_))) => true,
-            (Object::Element(_), Op::Element(ElementOp::Pause(_))) => match &self.last {
-                Some(last) => is_accepted(last),
-                None => false,
+            (Object::Element(_), Op::Element(ElementOp::Pause(_))) => match self.last {
+                Some(Last::Accepted) => true,
+                _ => false,
             },
-            (Object::Latches, Op::Latch(LatchOp::Confirm { .. })) => match &self.last {
-                Some(last) => is_queued(last),
-                None => false,
+            (Object::Latches, Op::Latch(LatchOp::Confirm { .. })) => match self.last {
+                Some(Last::Queued) => true,
+                _ => false,
             },
             _ => false,
         }
@@ -160,7 +145,10 @@ impl Counter {
     {
         match (entry.object, entry.op) {
             (Object::Ecb(_), Op::Ecb(EcbOp::Post(_))) => match entry.reply {
-                Reply::Ecb(EcbReply::Woke(exit)) => push_targets(&mut self.pending, config, exit),
+                Reply::Ecb(EcbReply::Woke(exit)) => push_blocks(
+                    &mut self.pending,
+                    config.targets(exit),
+                ),
                 _ => Ok(()),
             },
             (Object::Latches, Op::Latch(LatchOp::Release { .. })) => match entry.reply {
@@ -192,7 +180,7 @@ impl Counter {
         }
         self.keep(entry.object, entry.op);
         self.ask(config, entry, wakes)?;
-        self.last = Some(*entry);
+        self.last = Some(last_of(entry));
         Ok(self.group)
     }
 }

@@ -12,6 +12,8 @@ pub mod Budgets
 -- Config::check, ValidConfig::of: exits, their chains and their reaches
 pub mod Reaches
 pub mod Chains
+-- ValidConfig::targets
+pub mod Targets
 -- State::opening, State::step
 pub mod Tables
 pub mod Writes

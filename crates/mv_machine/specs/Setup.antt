@@ -1,6 +1,6 @@
 -- What a configuration says.
-use Rattle.std.specs.Prelude.{ℕ, ◌==◌, ◌-◌, ◌*◌, ◌/◌, ◌<◌, nat_lt, Bool, false, ◌&&◌, List, length, Option, Some, None, slice_get}
-use Rattle.std.specs.Prelude.{slice_index}
+use Rattle.std.specs.Prelude.{ℕ, zero, suc, ◌==◌, ◌-◌, ◌*◌, ◌/◌, ◌<◌, nat_lt, Bool, false, ◌&&◌, List, [], length, Option, Some, None}
+use Rattle.std.specs.Prelude.{slice_get, slice_index}
 use Rattle.mv_machine.specs.declared.entry.Object.{Object}
 use Rattle.mv_machine.specs.declared.entry.Object.TheVariants.{Ecb, Element, Volume, Latches}
 
@@ -48,3 +48,13 @@ starts_from ecb (Some x) = x.source == ecb
 -- whether this block is the source of the exit of this number, counted from 1
 abbrev pub is_exit_of : Setup → ℕ → ℕ → Bool
 is_exit_of c exit ecb = nat_lt 0 exit && starts_from ecb (slice_get c.exits (exit - 1))
+
+-- the targets of an exit, if there is one
+abbrev pub targets_at : Option SetupExit → List ℕ
+targets_at None = []
+targets_at (Some x) = x.targets
+
+-- the targets of an exit, which is counted from 1. Exit 0 is none
+abbrev pub targets_of : Setup → ℕ → List ℕ
+targets_of c zero = []
+targets_of c (suc x) = targets_at (slice_get c.exits x)

@@ -5,7 +5,7 @@ ghost use Rattle.std.specs.Prelude.{◌≡◌, ◌<◌, ◌≤◌, ◌*◌, ◌=
 ghost use Rattle.mv_latch.specs.LatchSet.{opened};
 ghost use Rattle.mv_machine.specs.Limits.{exits_limit};
 ghost use Rattle.mv_machine.specs.Reach.{reach, release_cost};
-ghost use Rattle.mv_machine.specs.Setup.{Setup, is_exit_of, owner_of, element_owner, element_count};
+ghost use Rattle.mv_machine.specs.Setup.{Setup, is_exit_of, targets_of, owner_of, element_owner, element_count};
 
 use crate::config::Config;
 use crate::reaching::{reaches_of, release_cost_of};
@@ -120,19 +120,34 @@ impl ValidConfig {
         volume < self.config.volumes
     }
 
+    /// The caller that waits on an event control block.
+    pub fn ecb_owner(&self, ecb: u32) -> u32
+        requires exists { ecb < length self.now.owners }
+        ensures owner { result ≡ owner_of self.now ecb }
+    {
+        self.config.owners[ecb as usize]
+    }
+
     /// Whether an event control block is this caller's.
     pub fn owns_ecb(&self, caller: u32, ecb: u32) -> bool
         requires exists { ecb < length self.now.owners }
         ensures owned { result ≡ (owner_of self.now ecb == caller) }
     {
-        self.config.owners[ecb as usize] == caller
+        self.ecb_owner(ecb) == caller
+    }
+
+    /// The caller whose an element is; of one that is not there, no caller.
+    pub fn element_owner(&self, element: u32) -> u32
+        ensures owner { result ≡ element_owner self.now element }
+    {
+        element / self.config.elements_per_caller
     }
 
     /// Whether an element is this caller's.
     pub fn owns_element(&self, caller: u32, element: u32) -> bool
         ensures owned { result ≡ (element_owner self.now element == caller) }
     {
-        element / self.config.elements_per_caller == caller
+        self.element_owner(element) == caller
     }
 
     /// Whether there is an exit of this number, counted from 1, and it starts from this block.
@@ -146,6 +161,20 @@ impl ValidConfig {
         match self.config.exits.get(exit as usize - 1) {
             Some(found) => found.source == ecb,
             None => false,
+        }
+    }
+
+    /// The blocks that an exit posts, in their order. Exits are counted from 1; one that is not there has none.
+    #[tactic(auto, using(crate::proofs::Targets::targets_found, crate::proofs::Targets::targets_missing))]
+    pub fn targets(&self, exit: u32) -> &[u32]
+        ensures targets { result.now ≡ targets_of self.now exit }
+    {
+        if exit == 0 {
+            return &[];
+        }
+        match self.config.exits.get(exit as usize - 1) {
+            Some(found) => &found.targets,
+            None => &[],
         }
     }
 

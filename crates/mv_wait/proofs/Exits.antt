@@ -12,12 +12,12 @@ use Rattle.mv_machine.specs.Check.{IsValid}
 use Rattle.mv_machine.specs.Limits.{events_limit}
 use Rattle.mv_machine.specs.Parts.{IsPossible}
 use Rattle.mv_machine.specs.Reach.{total, reach, reach_within}
-use Rattle.mv_machine.specs.Setup.{Setup, SetupExit, is_exit_of, starts_from}
+use Rattle.mv_machine.specs.Setup.{Setup, SetupExit, is_exit_of, starts_from, targets_of, targets_at}
 use Rattle.mv_machine.proofs.Chains.{all_at}
 use Rattle.mv_calls.proofs.Posting.{exits_are_own, greatest_member, starts}
 use Rattle.mv_machine.proofs.Reaches.{all_lead_up, next_reach, LeadsUp}
 use Rattle.mv_board.specs.Faces.{CallerFace, Happened}
-use Rattle.mv_calls.specs.Posts.{Posting, posted_next, targets_of, targets_at}
+use Rattle.mv_calls.specs.Posts.{Posting, posted_next}
 use Rattle.mv_calls.specs.Posts as came
 use Rattle.mv_wait.specs.Posted.{Leads, exit_run, reply_to_post}
 use Rattle.mv_wait.proofs.Answering.{made_behind}

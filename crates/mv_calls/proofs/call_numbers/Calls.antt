@@ -30,7 +30,7 @@ use Rattle.mv_calls.proofs.Replies.{allocate_once, release_once, try_release_onc
 use Rattle.mv_calls.proofs.Replies.{obtain_once}
 use Rattle.mv_calls.proofs.call_numbers.Stays.{event, then_numbered, StaysTo, Anything, stays_then, group_kept, Begins, begins_post}
 use Rattle.mv_calls.proofs.call_numbers.Stays.{wakes_stay}
-use Rattle.mv_calls.specs.Numbers.{Numbering, continues, group_after, is_arm, is_accepted, last_is, kept_pending}
+use Rattle.mv_calls.specs.Numbers.{Numbering, continues, group_after, is_armed, is_accepted, kept_pending}
 use Rattle.mv_calls.specs.Services.{Service, program, Wait, Post, TryPost, Clear, Extend, TestEcb, ReadVolume, WriteVolume}
 use Rattle.mv_calls.specs.Services.{Allocate, Pause, Release, TryRelease, Transfer, Deallocate, TestElement, Obtain, CheckLatch}
 use Rattle.mv_calls.specs.Services.{ReleaseLatch, Purge, EndOfJob, EndOfTask, PostEvent, NextEvent}
@@ -80,7 +80,7 @@ settles_stay c (e ∷ es) found f t g = λ k place reply ws. (
 )
 
 -- the arms of a wait behind its first
-arms_stay : {A : Type 0} (c : Setup) (es : List ℕ) (p : Program A) (t : Numbering) → last_is (λ op reply. is_arm op) t.last ≡ true
+arms_stay : {A : Type 0} (c : Setup) (es : List ℕ) (p : Program A) (t : Numbering) → is_armed t.last ≡ true
     → ((u : Numbering) → StaysTo c Anything u p) → StaysTo c Anything t (waits.arm_all es p)
 arms_stay c [] p t a g = g t
 arms_stay c (e ∷ es) p t a g = λ k place reply ws. (
@@ -128,7 +128,7 @@ begins_pause c token kept = not_refused c (waits.refused_if (pauses.is_others_to
     (λ t k place reply ws. paused_stays c _ token.element token.generation reply)
 
 -- behind an accepted release, which is the last entry, a pause continues
-accepted_pauses : (c : Setup) (token : Token) (kept : Kept) (t : Numbering) → last_is is_accepted t.last ≡ true
+accepted_pauses : (c : Setup) (token : Token) (kept : Kept) (t : Numbering) → is_accepted t.last ≡ true
     → StaysTo c Anything t (pauses.pause c token kept)
 accepted_pauses c token kept t a = unless (waits.refused_if (pauses.is_others_token c kept token) NotOwner) where
   first : StaysTo c Anything t (Do (Element token.element) (op_on.Element (element_op.Pause token.generation))
@@ -145,7 +145,7 @@ accepted_pauses c token kept t a = unless (waits.refused_if (pauses.is_others_to
   unless (Some why) = tt
 
 -- and so does that of a transfer, if it has one
-current_stays : (c : Setup) (current : Option Token) (kept : Kept) (t : Numbering) → last_is is_accepted t.last ≡ true
+current_stays : (c : Setup) (current : Option Token) (kept : Kept) (t : Numbering) → is_accepted t.last ≡ true
     → StaysTo c Anything t (pauses.pause_current c current kept)
 current_stays c None kept t a = tt
 current_stays c (Some token) kept t a = stays_then c Anything Anything t (pauses.pause c token kept) pauses.gave

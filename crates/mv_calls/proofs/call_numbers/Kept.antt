@@ -16,6 +16,7 @@ use Rattle.mv_machine.specs.System.{System, admitted, wakes_after, with_at}
 use Rattle.mv_machine.proofs.Tables.{table-set}
 use Rattle.mv_calls.specs.declared.counting.Counter.{Counter}
 use Rattle.mv_calls.specs.Counters.{numbering_of, counted}
+use Rattle.mv_calls.specs.declared.counting.Last.{Last}
 use Rattle.mv_calls.specs.Numbers.{Numbering, unnumbered, numbered, numbered_at, wakes_at, asked, kept_pending, continues, group_after}
 
 -- a counter that is written
@@ -60,7 +61,7 @@ one_counted c s shown ws xs e old new n lt at told is =
 -- ---- how high the numbers are
 
 -- a group number rises by one at most
-one_more : (last : Option Entry) (g : ℕ) (b : Bool) (i : ℕ) → g ≤ i → group_after last g b ≤ i + 1
+one_more : (last : Option Last) (g : ℕ) (b : Bool) (i : ℕ) → g ≤ i → group_after last g b ≤ i + 1
 one_more None g b i le = omega arith
 one_more (Some e) g true i le = omega arith
 one_more (Some e) g false i le = omega arith

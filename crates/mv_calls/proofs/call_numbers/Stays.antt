@@ -4,18 +4,18 @@ use Rattle.std.proofs.lemmas.Bool.{eq-eqb}
 use Rattle.mv_ecb.specs.declared.operation.EcbOp.TheVariants as ecb_op
 use Rattle.mv_ecb.specs.declared.operation.EcbReply.TheVariants as ecb_reply
 use Rattle.mv_latch.specs.declared.operation.Wake.{Wake}
-use Rattle.mv_machine.specs.declared.entry.Entry.{Entry}
 use Rattle.mv_machine.specs.declared.entry.Object.{Object}
 use Rattle.mv_machine.specs.declared.entry.Object.TheVariants.{Ecb}
 use Rattle.mv_machine.specs.declared.entry.Op.{Op}
 use Rattle.mv_machine.specs.declared.entry.Op.TheVariants as op_on
 use Rattle.mv_machine.specs.declared.entry.Reply.{Reply}
 use Rattle.mv_machine.specs.declared.entry.Reply.TheVariants as reply_of
-use Rattle.mv_machine.specs.Setup.{Setup}
+use Rattle.mv_machine.specs.Setup.{Setup, targets_of}
 use Rattle.mv_calls.specs.Keeping.{Kept}
-use Rattle.mv_calls.specs.Posts.{Posting, Woke, posting, posted_next, targets_of, each_posted, post_within, wake_posted}
+use Rattle.mv_calls.specs.Posts.{Posting, Woke, posting, posted_next, each_posted, post_within, wake_posted}
 use Rattle.mv_calls.specs.Posts.{wakes_posted}
 use Rattle.mv_calls.specs.Program.{Program, Do, Done, Early, Wrong, Heard, and_then, on_ecb}
+use Rattle.mv_calls.specs.declared.counting.Last.{Last}
 use Rattle.mv_calls.specs.Numbers.{Numbering, numbered, group_after, continues, kept_pending}
 use Rattle.mv_machine.specs.Waking.{blocks_of}
 
@@ -64,7 +64,7 @@ stays_weaker c Q R t Early s g = tt
 stays_weaker c Q R t Wrong s g = tt
 
 -- what continues keeps the group
-pub group_kept : (last : Option Entry) (g : ℕ) → group_after last g true ≡ g
+pub group_kept : (last : Option Last) (g : ℕ) → group_after last g true ≡ g
 group_kept None g = refl
 group_kept (Some e) g = refl
 

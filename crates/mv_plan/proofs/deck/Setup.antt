@@ -8,10 +8,9 @@ use Rattle.mv_plan.proofs.Words.{end_exit, entered, end_for_scheduler, end_for_w
 use Rattle.std.proofs.Common.{◌/◌}
 use Rattle.std.proofs.lemmas.Bool.{ltb-true}
 use Rattle.std.proofs.lemmas.List.{get_or-append-add}
-use Rattle.mv_machine.specs.Setup.{starts_from}
+use Rattle.mv_machine.specs.Setup.{starts_from, targets_of, targets_at}
 use Rattle.mv_plan.specs.SpoolSetup.{done}
 use Rattle.std.specs.Prelude.{slice_get}
-use Rattle.mv_calls.specs.Posts.{targets_of, targets_at}
 use Rattle.std.proofs.lemmas.Grind.{common_steps}
 
 -- a configuration of the spool for n jobs

@@ -2,10 +2,9 @@ use Rattle.std.proofs.Common.{◌≡◌, ◌≤◌, ◌<◌, ◌-◌, map, lengt
 use Rattle.std.proofs.lemmas.Option.{slice_get_past}
 use Rattle.std.proofs.lemmas.List.{length-map}
 use Rattle.std.proofs.lemmas.Bool.Decides.{nat_tests}
-use Rattle.mv_machine.specs.Setup.{Setup}
+use Rattle.mv_machine.specs.Setup.{Setup, targets_at}
 use Rattle.mv_machine.specs.Config.{exit_of}
 use Rattle.mv_machine.proofs.Chains.{found}
-use Rattle.mv_calls.specs.Posts.{targets_at}
 use Rattle.mv_wait.proofs.Exits.{targets_is}
 use Rattle.mv_wait.proofs.posting.targets.Goals as goal
 

@@ -4,14 +4,14 @@ use Rattle.std.specs.List.{AllByRecursion}
 use Rattle.std.proofs.lemmas.List.{length-reverse}
 use Rattle.mv_machine.specs.Check.{IsValid}
 use Rattle.mv_machine.specs.Reach.{reach, total}
-use Rattle.mv_machine.specs.Setup.{Setup}
+use Rattle.mv_machine.specs.Setup.{Setup, targets_of}
 use Rattle.mv_ecb.specs.declared.operation.EcbOp.TheVariants.{Post}
 use Rattle.mv_machine.specs.declared.entry.Object.TheVariants.{Ecb}
 use Rattle.mv_machine.specs.declared.entry.Op.TheVariants as op_on
 use Rattle.mv_machine.specs.declared.entry.Reply.{Reply}
 use Rattle.mv_machine.specs.declared.entry.Reply.TheVariants as reply_of
 use Rattle.mv_board.specs.Faces.{BoardFace, Happened}
-use Rattle.mv_calls.specs.Posts.{targets_of, posted_next}
+use Rattle.mv_calls.specs.Posts.{posted_next}
 use Rattle.mv_wait.specs.Posted.{PostedOne, reply_to_post, posting_of}
 use Rattle.mv_wait.proofs.Admits.{may_post}
 use Rattle.mv_wait.proofs.Answering.{says_posted}

@@ -4,8 +4,7 @@ use Rattle.std.proofs.lemmas.Option.{slice_get-map}
 use Rattle.mv_machine.specs.declared.config.Config.{Config}
 use Rattle.mv_machine.specs.declared.config.Exit.{Exit}
 use Rattle.mv_machine.specs.Config.{setup_of, exit_of}
-use Rattle.mv_machine.specs.Setup.{Setup}
-use Rattle.mv_calls.specs.Posts.{targets_of, targets_at}
+use Rattle.mv_machine.specs.Setup.{Setup, targets_of, targets_at}
 
 -- exits are counted from 1
 counted : (c : Setup) (x : ℕ) → (x ≡ 0 → ⊥) → targets_of c x ≡ targets_at (slice_get c.exits (x - 1))
