@@ -15,13 +15,16 @@ use crate::judge::{EntryRefusal, Judge};
 use mv_io::NoMemory;
 use mv_machine::{Entry, Illegal, ReplayRefusal, State, ValidConfig, replay};
 use std::alloc::Global;
+use thiserror::Error;
 
 /// Why a list of entries with call numbers was not replayed to its end.
-#[derive(Clone, Copy, Debug, PartialEq, Eq)]
+#[derive(Clone, Copy, Debug, PartialEq, Eq, Error)]
 pub enum CallsRefusal {
     /// The list is not legal, and the entries before this one have their numbers.
+    #[error("{0}")]
     Illegal(Illegal),
     /// The first entry that has not its call number.
+    #[error("entry {index} has the call number {kept}, and not {machine}")]
     Number {
         /// Counted from 0.
         index: usize,
@@ -31,6 +34,7 @@ pub enum CallsRefusal {
         machine: u32,
     },
     /// There was no memory; the list was not judged.
+    #[error("there is not enough memory for the machine")]
     NoMemory,
 }
 

@@ -11,6 +11,7 @@ ghost use Rattle.mv_calls.specs.Table.{is_on_exit, has_exit as block_has_exit};
 
 use mv_machine::{Exit, ValidConfig};
 use std::marker::Model;
+use thiserror::Error;
 
 /// A table of events: blocks that complete once, and are handed out in the order of their completion. After the EVENTS service of
 /// the books; that it is made of blocks, a latch and a volume is this project's own.
@@ -31,19 +32,25 @@ pub struct Table {
 }
 
 /// Why a table is refused: the first of these that holds.
-#[derive(Clone, Copy, Debug, PartialEq, Eq)]
+#[derive(Clone, Copy, Debug, PartialEq, Eq, Error)]
 pub enum TableRefusal {
     /// The size is not 1 to 32.
+    #[error("a table has 1 to 32 events")]
     BadSize,
     /// The events or the slots pass the blocks that there are, or the two meet.
+    #[error("the events or the slots are not blocks of their own")]
     BadRange,
     /// The lowest block of the table that is not its owner's.
+    #[error("block {0} is not the table's owner's")]
     NotOwner(u32),
     /// There is no such latch.
+    #[error("there is no such latch")]
     BadLatch,
     /// There is no such volume.
+    #[error("there is no such volume")]
     BadVolume,
     /// The lowest block of the table that is the source or a target of an exit.
+    #[error("block {0} is the source or a target of an exit")]
     HasExit(u32),
 }
 

@@ -1,13 +1,16 @@
 //! What a failure of a stream, and want of memory, answer.
 
 use std::alloc::{AllocError, AllocFailed};
+use thiserror::Error;
 
 /// A stream failed. Its count of faults says that it was the stream. The cause is not told, and a later call may go through.
-#[derive(Clone, Copy, Debug, PartialEq, Eq)]
+#[derive(Clone, Copy, Debug, PartialEq, Eq, Error)]
+#[error("the stream failed")]
 pub struct Failed;
 
 /// There was no memory. A later call may find some.
-#[derive(Clone, Copy, Debug, PartialEq, Eq)]
+#[derive(Clone, Copy, Debug, PartialEq, Eq, Error)]
+#[error("there is not enough memory")]
 pub struct NoMemory;
 
 impl From<AllocError> for NoMemory {

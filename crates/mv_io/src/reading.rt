@@ -8,15 +8,19 @@ ghost use Rattle.mv_io.specs.declared.reading.ReadRefusal.TheVariants.{NoMemory 
 
 use crate::{Failed, Source};
 use std::alloc::{AllocError, Global};
+use thiserror::Error;
 
 /// Why an input was not read.
-#[derive(Clone, Copy, Debug, PartialEq, Eq)]
+#[derive(Clone, Copy, Debug, PartialEq, Eq, Error)]
 pub enum ReadRefusal {
     /// The source failed. What was taken off it before is lost.
+    #[error("the input failed")]
     Failed,
     /// The input has more bytes than the limit, of which so many and one were taken off.
+    #[error("the input is too long")]
     TooLong,
     /// There was no memory for the limit and one byte. Nothing was read.
+    #[error("there is not enough memory for the input")]
     NoMemory,
 }
 

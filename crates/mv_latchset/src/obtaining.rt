@@ -27,6 +27,7 @@ use mv_latch::{LatchForm, LatchOp, Mode};
 use mv_machine::{Object, Op};
 use mv_wait::{Station, Task};
 use std::sync::Wait;
+use thiserror::Error;
 
 /// What an obtain came to.
 #[derive(Clone, Copy, Debug, PartialEq, Eq)]
@@ -38,17 +39,22 @@ pub enum Obtained {
 }
 
 /// Why an obtain was refused.
-#[derive(Clone, Copy, Debug, PartialEq, Eq)]
+#[derive(Clone, Copy, Debug, PartialEq, Eq, Error)]
 pub enum ObtainRefusal {
     /// There is no such latch.
+    #[error("there is no such latch")]
     BadLatch,
     /// The block that is to be posted is another caller's.
+    #[error("the block to be posted is another caller's")]
     NotOwner,
     /// As many requests of the task stand as may.
+    #[error("as many requests of the task stand as may")]
     Quota,
     /// The request of this number stands in the way, and nothing was queued.
+    #[error("request {0} stands in the way")]
     NotNow(u32),
     /// The request was queued, and another task's purge took it out.
+    #[error("the request was purged")]
     Purged,
 }
 

@@ -17,13 +17,16 @@ use mv_latch::LatchOp;
 use mv_machine::{Object, Op};
 use mv_wait::{Station, Task};
 use std::sync::Wait;
+use thiserror::Error;
 
 /// Why a release was refused.
-#[derive(Clone, Copy, Debug, PartialEq, Eq)]
+#[derive(Clone, Copy, Debug, PartialEq, Eq, Error)]
 pub enum ReleaseLatchRefusal {
     /// The latch has no such request of the task.
+    #[error("the latch has no such request of the task")]
     Gone,
     /// The request waits, and the release was conditional: it was left.
+    #[error("the request waits, and was left")]
     StillWaiting,
 }
 

@@ -7,11 +7,13 @@ ghost use Rattle.mv_line.specs.declared.fault.TextRefusal.TheVariants as of_text
 
 use mv_io::NoMemory;
 use std::alloc::{AllocError, AllocFailed};
+use thiserror::Error;
 
 /// What is wrong with a text: the number of a line, counted from 1, and that of the kind of fault that it has.
 ///
 /// Lines that are ignored are counted too. The kinds are this project's own, and each sort of texts has its own.
-#[derive(Clone, Copy, Debug, PartialEq, Eq)]
+#[derive(Clone, Copy, Debug, PartialEq, Eq, Error)]
+#[error("line {line} has a fault of kind {kind}")]
 pub struct TextFault {
     pub line: u32,
     /// As `FaultKind::number` tells it.
@@ -19,11 +21,13 @@ pub struct TextFault {
 }
 
 /// Why a text was not read.
-#[derive(Clone, Copy, Debug, PartialEq, Eq)]
+#[derive(Clone, Copy, Debug, PartialEq, Eq, Error)]
 pub enum TextRefusal {
     /// The first fault of the text: that of the lowest line, and there of the lowest kind.
+    #[error("{0}")]
     Fault(TextFault),
     /// There was no memory for what the text states; it may have a fault or none.
+    #[error("there is not enough memory for the text")]
     NoMemory,
 }
 

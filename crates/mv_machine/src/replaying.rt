@@ -17,9 +17,11 @@ use crate::state::State;
 use crate::valid::ValidConfig;
 use mv_io::NoMemory;
 use std::alloc::Global;
+use thiserror::Error;
 
 /// The first entry that is not the machine's.
-#[derive(Clone, Copy, Debug, PartialEq, Eq)]
+#[derive(Clone, Copy, Debug, PartialEq, Eq, Error)]
+#[error("entry {index} is not the machine's next")]
 pub struct Illegal {
     /// Counted from 0.
     pub index: usize,
@@ -30,11 +32,13 @@ pub struct Illegal {
 }
 
 /// Why a list of entries was not replayed to its end.
-#[derive(Clone, Copy, Debug, PartialEq, Eq)]
+#[derive(Clone, Copy, Debug, PartialEq, Eq, Error)]
 pub enum ReplayRefusal {
     /// The list is not legal.
+    #[error("{0}")]
     Illegal(Illegal),
     /// There was no memory for the opening state; the list was not judged.
+    #[error("there is not enough memory for the machine")]
     NoMemory,
 }
 

@@ -20,13 +20,16 @@ use mv_element::{ElementOp, Token};
 use mv_machine::{Object, Op};
 use mv_wait::{Station, Task};
 use std::sync::Wait;
+use thiserror::Error;
 
 /// Why an element was not given back.
-#[derive(Clone, Copy, Debug, PartialEq, Eq)]
+#[derive(Clone, Copy, Debug, PartialEq, Eq, Error)]
 pub enum DeallocateRefusal {
     /// The element is another caller's.
+    #[error("the element is another caller's")]
     NotOwner,
     /// The token is over; this is the element's generation.
+    #[error("the token is spent; the element's generation is {0}")]
     Spent(u32),
 }
 

@@ -24,6 +24,7 @@ use mv_element::{ElementOp, Token};
 use mv_machine::{Object, Op};
 use mv_wait::{Station, Task};
 use std::sync::Wait;
+use thiserror::Error;
 
 /// What a pause gives: the code that it was released with, and the token of the next pause.
 #[derive(Clone, Copy, Debug, PartialEq, Eq)]
@@ -34,11 +35,13 @@ pub struct Given {
 }
 
 /// Why a pause was refused.
-#[derive(Clone, Copy, Debug, PartialEq, Eq)]
+#[derive(Clone, Copy, Debug, PartialEq, Eq, Error)]
 pub enum PauseRefusal {
     /// The element is another caller's.
+    #[error("the element is another caller's")]
     NotOwner,
     /// The token is over; this is the element's generation.
+    #[error("the token is spent; the element's generation is {0}")]
     Spent(u32),
 }
 

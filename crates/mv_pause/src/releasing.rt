@@ -19,6 +19,7 @@ use mv_element::{ElementOp, Token};
 use mv_machine::{Object, Op};
 use mv_wait::{Station, Task};
 use std::sync::Wait;
+use thiserror::Error;
 
 /// What a release came to.
 #[derive(Clone, Copy, Debug, PartialEq, Eq)]
@@ -30,22 +31,27 @@ pub enum ReleaseAnswer {
 }
 
 /// Why a release was refused.
-#[derive(Clone, Copy, Debug, PartialEq, Eq)]
+#[derive(Clone, Copy, Debug, PartialEq, Eq, Error)]
 pub enum ReleaseRefusal {
     /// The token is over; this is the element's generation.
+    #[error("the token is spent; the element's generation is {0}")]
     Spent(u32),
     /// The token was released before.
+    #[error("the token was released before")]
     Already,
 }
 
 /// Why a release by an exchange was refused.
-#[derive(Clone, Copy, Debug, PartialEq, Eq)]
+#[derive(Clone, Copy, Debug, PartialEq, Eq, Error)]
 pub enum TryReleaseRefusal {
     /// The word found was this one, and not the one expected. No event was made.
+    #[error("the element's word is {0}, and not the one expected")]
     Moved(u64),
     /// The token is over; this is the element's generation.
+    #[error("the token is spent; the element's generation is {0}")]
     Spent(u32),
     /// The token was released before.
+    #[error("the token was released before")]
     Already,
 }
 

@@ -22,17 +22,22 @@ use mv_element::{ElementOp, Token};
 use mv_machine::{Object, Op};
 use mv_wait::{Station, Task};
 use std::sync::Wait;
+use thiserror::Error;
 
 /// Why a transfer was refused. Then nobody was released, and the task did not pause.
-#[derive(Clone, Copy, Debug, PartialEq, Eq)]
+#[derive(Clone, Copy, Debug, PartialEq, Eq, Error)]
 pub enum TransferRefusal {
     /// The current token is of another caller's element.
+    #[error("the current token is of another caller's element")]
     NotOwner,
     /// The current token is over, or its element is not in use; this is the element's generation.
+    #[error("the current token is spent; its element's generation is {0}")]
     Spent(u32),
     /// The target is over; this is the element's generation.
+    #[error("the target is spent; its element's generation is {0}")]
     TargetSpent(u32),
     /// The target was released before.
+    #[error("the target was released before")]
     TargetAlready,
 }
 

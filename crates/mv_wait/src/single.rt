@@ -23,21 +23,26 @@ use mv_board::Moved;
 use mv_ecb::EcbOp;
 use mv_machine::{Object, Op, VolumeOp};
 use std::sync::Wait;
+use thiserror::Error;
 
 /// The block or element is another caller's.
 #[derive(Clone, Copy, Debug, PartialEq, Eq)]
 pub struct NotOwner;
 
 /// Why a block was not extended.
-#[derive(Clone, Copy, Debug, PartialEq, Eq)]
+#[derive(Clone, Copy, Debug, PartialEq, Eq, Error)]
 pub enum ExtendRefusal {
     /// The block is another caller's.
+    #[error("the block is another caller's")]
     NotOwner,
     /// No exit of that number starts from the block.
+    #[error("no exit of that number starts from the block")]
     BadExit,
     /// The block is extended.
+    #[error("the block is extended")]
     Extended,
     /// The block is complete, with this code.
+    #[error("the block is complete, with code {0}")]
     Complete(u32),
 }
 

@@ -25,6 +25,7 @@ use mv_board::Watch;
 use mv_ecb::EcbOp;
 use mv_machine::{Object, Op, ValidConfig};
 use std::sync::Wait;
+use thiserror::Error;
 
 /// How a block of a wait was found.
 #[derive(Clone, Copy, Debug, PartialEq, Eq)]
@@ -36,15 +37,19 @@ pub enum WaitSlot {
 }
 
 /// Why a wait was refused. Positions count from 0.
-#[derive(Clone, Copy, Debug, PartialEq, Eq)]
+#[derive(Clone, Copy, Debug, PartialEq, Eq, Error)]
 pub enum WaitRefusal {
     /// The list is shorter than the count.
+    #[error("the list is shorter than the count")]
     TooMany,
     /// The block at this position stands earlier in the list.
+    #[error("the block at position {0} stands earlier in the list")]
     Doubled(u32),
     /// The block at this position is another caller's.
+    #[error("the block at position {0} is another caller's")]
     NotOwner(u32),
     /// The block at this position is extended.
+    #[error("the block at position {0} is extended")]
     Extended(u32),
 }
 
