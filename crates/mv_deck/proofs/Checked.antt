@@ -19,7 +19,7 @@ use Rattle.mv_deck.specs.Deck.{JobData, place_of}
 use Rattle.mv_deck.specs.Fault.{has_bad_name, has_bad_number, awaits_no_job, accepts_no_code, is_crowded, has_double, kinds_of}
 use Rattle.mv_deck.specs.Fault.{kinds_of_statement}
 use Rattle.mv_deck.specs.Names.{place_in}
-use Rattle.mv_deck.specs.Reading.{IsBehind, Tells}
+use Rattle.mv_deck.specs.Reading.{IsBehind, TellsLowest}
 use Rattle.mv_deck.proofs.Mapped.{any-map}
 
 -- tests that agree on each element agree on a list
@@ -104,7 +104,7 @@ is_shown n v earlier line text s same a b c d e =
 -- what became of a line or a statement of which these are the kinds and the statements
 abbrev pub Taken : {A : Type 0} → ℕ → Version → List Statement → List ℕ → List Statement → Reading → Result A (LineRefusal Kind) → Type 0
 Taken n v earlier kinds statements next result = MatchResult result (λ _. (kinds ≡ []) × IsBehind n v (earlier ++ statements) next)
-    (λ e. Tells e kinds)
+    (λ e. TellsLowest e kinds)
 
 -- what becomes of a statement becomes of its line
 pub taken : {A : Type 0} (n : ℕ) (v : Version) (earlier : List Statement) (line : List ℕ) (s : Statement) (next : Reading)

@@ -47,8 +47,8 @@ pub record IsBehind (initiators : ℕ) (v : Version) (statements : List Statemen
   pub ended : r.ended ≡ list_any is_null statements
 
 -- the kind that is told is the lowest
-abbrev pub Tells : LineRefusal Kind → List ℕ → Type 0
-Tells refusal kinds = lines.Tells kind_number refusal kinds
+abbrev pub TellsLowest : LineRefusal Kind → List ℕ → Type 0
+TellsLowest refusal kinds = lines.Tells kind_number refusal kinds
 
 -- what a statement has no fault of, but for those of the job that it stands in and for the weight
 pub record IsGoodJob (earlier : List Statement) (jobs : List JobData) (s : Statement) : Type 0 where

@@ -8,7 +8,7 @@ ghost use Rattle.mv_deck.specs.Fault.{first_fault, TellsFirst, kinds_of_statemen
 ghost use Rattle.mv_deck.specs.Form.{stated, part_data, listed};
 ghost use Rattle.mv_deck.specs.Held.{HasNumberInRange, held, latches, is_end as ends_by};
 ghost use Rattle.mv_deck.specs.Names.{place_in};
-ghost use Rattle.mv_deck.specs.Reading.{HasFewJobs, IsBehind, IsGoodJob, Tells, jobs_read};
+ghost use Rattle.mv_deck.specs.Reading.{HasFewJobs, IsBehind, IsGoodJob, TellsLowest, jobs_read};
 ghost use Rattle.mv_deck.specs.Statement.{Statement, Null, DeckOf, JobOf};
 ghost use Rattle.mv_deck.specs.Operand.{most_after};
 ghost use Rattle.mv_deck.specs.Weight.{most_initiators};
@@ -151,7 +151,7 @@ impl<'a> Reading<'a> {
             → MatchResult result
             (λ _. (kinds_of_statement n earlier (Some (stated v form.entry)) ≡ [])
             × IsBehind n v (earlier ++ stated v form.entry ∷ []) self.new)
-            (λ e. Tells e (kinds_of_statement n earlier (Some (stated v form.entry)))) }
+            (λ e. TellsLowest e (kinds_of_statement n earlier (Some (stated v form.entry)))) }
     {
         match form {
             Form::Null => self.take_null(),
@@ -193,7 +193,7 @@ impl<'a> Reading<'a> {
         ensures { (n : ℕ) (v : Version) (earlier : List Statement) → IsBehind n v earlier self.old
             → MatchResult result
             (λ _. (kinds_of_statement n earlier (Some Null) ≡ []) × IsBehind n v (earlier ++ Null ∷ []) self.new)
-            (λ e. Tells e (kinds_of_statement n earlier (Some Null))) }
+            (λ e. TellsLowest e (kinds_of_statement n earlier (Some Null))) }
     {
         if self.ended {
             return Err(LineRefusal::Has(Kind::Misplaced));
@@ -208,7 +208,7 @@ impl<'a> Reading<'a> {
         ensures { (n : ℕ) (v : Version) (earlier : List Statement) → IsBehind n v earlier self.old
             → MatchResult result
             (λ _. (kinds_of_statement n earlier (Some (DeckOf word.now)) ≡ []) × IsBehind n v (earlier ++ DeckOf word.now ∷ []) self.new)
-            (λ e. Tells e (kinds_of_statement n earlier (Some (DeckOf word.now)))) }
+            (λ e. TellsLowest e (kinds_of_statement n earlier (Some (DeckOf word.now)))) }
     {
         if word != b"2".as_slice() {
             return Err(LineRefusal::Has(Kind::BadNumber));
@@ -233,7 +233,7 @@ impl<'a> Reading<'a> {
             → MatchResult result
             (λ _. (kinds_of_statement n earlier (Some (JobOf name.now (listed v list.entry))) ≡ [])
             × IsBehind n v (earlier ++ JobOf name.now (listed v list.entry) ∷ []) self.new)
-            (λ e. Tells e (kinds_of_statement n earlier (Some (JobOf name.now (listed v list.entry))))) }
+            (λ e. TellsLowest e (kinds_of_statement n earlier (Some (JobOf name.now (listed v list.entry))))) }
     {
         let parts = parts_of(self.alloc, self.version, list)?;
         if let Err(refusal) = self.check_job(name, &parts) {
@@ -248,13 +248,13 @@ impl<'a> Reading<'a> {
         Ok(())
     }
 
-    // Tells the lowest kind of fault of a JOB, but for its weight.
+    // TellsLowest the lowest kind of fault of a JOB, but for its weight.
     fn check_job(&self, name: &'a [u8], parts: &[Part<'a>]) -> Result<(), LineRefusal<Kind>>
         ensures few { OnOk result (length parts.now ≤ most_after) }
         ensures kinds { (n : ℕ) (v : Version) (earlier : List Statement) → IsBehind n v earlier self.now
             → MatchResult result
             (λ _. IsGoodJob earlier (jobs_of earlier) (JobOf name.now (map part_data parts.now)))
-            (λ e. Tells e (kinds_of_statement n earlier (Some (JobOf name.now (map part_data parts.now))))) }
+            (λ e. TellsLowest e (kinds_of_statement n earlier (Some (JobOf name.now (map part_data parts.now))))) }
     {
         if !is_name(name) || has_bad_name(parts) {
             return Err(LineRefusal::Has(Kind::BadName));
@@ -316,7 +316,7 @@ impl<'a> Reading<'a> {
         ensures { (n : ℕ) (v : Version) (earlier : List Statement) (s : Statement) → IsBehind n v earlier self.old → step_of s ≡ Some step
             → MatchResult result
             (λ _. (kinds_of_statement n earlier (Some s) ≡ []) × IsBehind n v (earlier ++ s ∷ []) self.new)
-            (λ e. Tells e (kinds_of_statement n earlier (Some s))) }
+            (λ e. TellsLowest e (kinds_of_statement n earlier (Some s))) }
     {
         if self.ended || self.name.is_none() {
             return Err(LineRefusal::Has(Kind::Misplaced));

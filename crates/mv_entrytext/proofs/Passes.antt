@@ -23,7 +23,7 @@ use Rattle.mv_entrytext.specs.Lines.{Stage, AtVersion, AtCallers, AtElements, At
 use Rattle.mv_entrytext.specs.Lines.{AtExits, AtEntries, AtEnd, count_line, next_line, line_read, Draft, draft_with}
 use Rattle.mv_entrytext.specs.Fault.{TellsFirst, kind_number, kind_said, kind_of, is_cut, fault_at, first_fault, text_fault, draft_of, journal_of}
 use Rattle.mv_entrytext.specs.Said.{entry_said}
-use Rattle.mv_entrytext.specs.Draft.{Tells, kind_of_form, draft_at, line_behind, IsAt, kind_at_end}
+use Rattle.mv_entrytext.specs.Draft.{TellsKind, kind_of_form, draft_at, line_behind, IsAt, kind_at_end}
 use Rattle.mv_entrytext.proofs.Parts.{first_part, joined_again}
 use Rattle.mv_entrytext.proofs.LinesTaken.{MayCome, line_taken}
 use Rattle.mv_entrytext.proofs.TextsTaken.{IsTextOf, is_read_whole}
@@ -92,7 +92,7 @@ unfolding first_fault
 fault_here number k d text more lines e = rw e refl
 
 pub at_kind : {bytes rest behind text : List ℕ} {number : ℕ} {d : Draft} → IsAtLine bytes rest number d text behind
-    → (e : LineRefusal Kind) → Tells e (kind_of d text) → TellsFirst (refusal_at kind_number number e) (text_fault bytes)
+    → (e : LineRefusal Kind) → TellsKind e (kind_of d text) → TellsFirst (refusal_at kind_number number e) (text_fault bytes)
 at_kind {behind = behind} {text = text} {number = number} {d = d} here (Has k) told =
     let p = first_part 10 behind in
     sym here.at.fault ∙ ap (first_fault number d) (here.shape ∙ ap (λ (x : List (List ℕ)). text ∷ x) p.2)
@@ -100,7 +100,7 @@ at_kind {behind = behind} {text = text} {number = number} {d = d} here (Has k) t
 at_kind here NoMemory told = tt
 
 -- the form alone is at fault
-form_tells : (d : Draft) (text : List ℕ) (e : LineRefusal Kind) → Tells e (kind_of_form d.stage text) → Tells e (kind_of d text)
+form_tells : (d : Draft) (text : List ℕ) (e : LineRefusal Kind) → TellsKind e (kind_of_form d.stage text) → TellsKind e (kind_of d text)
 form_tells d text (Has k) told =
     go (is_some (line_read true d.stage text)) (is_some (line_read false d.stage text)) (kind_said d (line_read true d.stage text)) told
   where
@@ -113,7 +113,7 @@ form_tells d text (Has k) told =
 form_tells d text NoMemory told = tt
 
 pub at_form : {bytes rest behind text : List ℕ} {number : ℕ} {d : Draft} → IsAtLine bytes rest number d text behind
-    → (e : LineRefusal Kind) → Tells e (kind_of_form d.stage text) → TellsFirst (refusal_at kind_number number e) (text_fault bytes)
+    → (e : LineRefusal Kind) → TellsKind e (kind_of_form d.stage text) → TellsFirst (refusal_at kind_number number e) (text_fault bytes)
 at_form {text = text} {d = d} here e told = at_kind here e (form_tells d text e told)
 
 -- what a line says is at fault
@@ -121,10 +121,10 @@ said_tells : (d : Draft) (text : List ℕ) (l : Line) → line_read true d.stage
 said_tells d text l read = rw read refl
 
 pub at_said : {bytes rest behind text : List ℕ} {number : ℕ} {d : Draft} (l : Line) → IsAtLine bytes rest number d text behind
-    → line_read true d.stage text ≡ Some l → (e : LineRefusal Kind) → Tells e (kind_said d (Some l))
+    → line_read true d.stage text ≡ Some l → (e : LineRefusal Kind) → TellsKind e (kind_said d (Some l))
     → TellsFirst (refusal_at kind_number number e) (text_fault bytes)
 at_said {text = text} {d = d} l here read e told =
-    at_kind here e (subst (λ (k : Option Kind). Tells e k) (sym (said_tells d text l read)) told)
+    at_kind here e (subst (λ (k : Option Kind). TellsKind e k) (sym (said_tells d text l read)) told)
 
 -- the text ends in this line
 cut_here : (number : ℕ) (d : Draft) (last : List ℕ) → is_cut d last ≡ true
@@ -161,7 +161,7 @@ no_form_at_end : (v : Version) (c : Setup) (es : List Entry) (ns text : List ℕ
 no_form_at_end v c es ns text = rw (nothing_comes true text, nothing_comes false text) refl
 
 end_kinds : (number : ℕ) (v : Version) (c : Setup) (es : List Entry) (ns p : List ℕ) (qs : List (List ℕ)) (e : LineRefusal Kind)
-    → Tells e (kind_at_end (p ∷ qs)) → TellsFirst (refusal_at kind_number number e) (first_fault number (draft_at AtEnd v c es ns) (p ∷ qs))
+    → TellsKind e (kind_at_end (p ∷ qs)) → TellsFirst (refusal_at kind_number number e) (first_fault number (draft_at AtEnd v c es ns) (p ∷ qs))
 unfolding first_fault
 end_kinds number v c es ns p [] (Has k) told = go (eqb (length p) 0) told where
   go : (t : Bool) → cond {A = Option Kind} t None (Some Cut) ≡ Some k
@@ -174,11 +174,11 @@ end_kinds number v c es ns p (q ∷ qs) (Has k) told =
 end_kinds number v c es ns p qs NoMemory told = tt
 
 pub at_end_fault : {bytes rest : List ℕ} {number : ℕ} {v : Version} {c : Setup} {es : List Entry} {ns : List ℕ}
-    → IsAt bytes rest number (draft_at AtEnd v c es ns) → (e : LineRefusal Kind) → Tells e (kind_at_end (parts_at 10 rest))
+    → IsAt bytes rest number (draft_at AtEnd v c es ns) → (e : LineRefusal Kind) → TellsKind e (kind_at_end (parts_at 10 rest))
     → TellsFirst (refusal_at kind_number number e) (text_fault bytes)
 at_end_fault {rest = rest} {number = number} {v = v} {c = c} {es = es} {ns = ns} at e told =
     let p = first_part 10 rest in
-    let there = end_kinds number v c es ns p.0 p.1 e (subst (λ (x : List (List ℕ)). Tells e (kind_at_end x)) p.2 told) in
+    let there = end_kinds number v c es ns p.0 p.1 e (subst (λ (x : List (List ℕ)). TellsKind e (kind_at_end x)) p.2 told) in
     subst (λ (o : Option TextFault). TellsFirst (refusal_at kind_number number e) o)
     (ap (first_fault number (draft_at AtEnd v c es ns)) (sym p.2) ∙ at.fault) there
 

@@ -18,9 +18,9 @@ use Rattle.mv_entrytext.specs.Fault.{first_fault, text_fault, draft_of, journal_
 use Rattle.mv_entrytext.specs.Said.{stage_of}
 
 -- the kind that is told is the first
-abbrev pub Tells : LineRefusal Kind → Option Kind → Type 0
-Tells (Has k) kind = kind ≡ Some k
-Tells NoMemory kind = Unit {0}
+abbrev pub TellsKind : LineRefusal Kind → Option Kind → Type 0
+TellsKind (Has k) kind = kind ≡ Some k
+TellsKind NoMemory kind = Unit {0}
 
 -- the kind of a line by its form and its numbers alone
 abbrev pub kind_of_form : Stage → List ℕ → Option Kind

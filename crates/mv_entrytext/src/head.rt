@@ -7,7 +7,7 @@ ghost use Rattle.mv_entrytext.specs.Journal.{Events};
 ghost use Rattle.mv_entrytext.specs.Lines.{AtEntries, blank, draft_with, line_read};
 ghost use Rattle.mv_entrytext.specs.Fault.{TellsFirst, text_fault};
 ghost use Rattle.mv_entrytext.specs.Said.{said, stage_of};
-ghost use Rattle.mv_entrytext.specs.Draft.{Tells, kind_of_form, kind_of_config, draft_at, head_seen, IsAt};
+ghost use Rattle.mv_entrytext.specs.Draft.{TellsKind, kind_of_form, kind_of_config, draft_at, head_seen, IsAt};
 
 use crate::fault::Kind;
 use crate::line::{Line, Stage, read_line};
@@ -99,7 +99,7 @@ impl HeadDraft {
 fn line_or_kind(alloc: Global, stage: Stage, text: &[u8]) -> Result<Line, LineRefusal<Kind>>
     ensures { MatchResult result
         (λ l. line_read true (stage_of stage) text.now ≡ Some (said l))
-        (λ e. Tells e (kind_of_form (stage_of stage) text.now)) }
+        (λ e. TellsKind e (kind_of_form (stage_of stage) text.now)) }
 {
     let Ok(strict) = read_line(alloc, true, stage, text) else {
         return Err(LineRefusal::NoMemory);
@@ -118,7 +118,7 @@ fn line_or_kind(alloc: Global, stage: Stage, text: &[u8]) -> Result<Line, LineRe
 fn checked(alloc: Global, config: Config) -> Result<ValidConfig, LineRefusal<Kind>>
     ensures { MatchResult result
         (λ v. (v ≡ setup_of config) × IsValid (setup_of config))
-        (λ e. Tells e (kind_of_config (setup_of config))) }
+        (λ e. TellsKind e (kind_of_config (setup_of config))) }
 {
     match config.check(alloc) {
         Ok(valid) => Ok(valid),

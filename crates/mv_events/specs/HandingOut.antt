@@ -19,8 +19,8 @@ abbrev pub HasCode : Setup → Table → ℕ → ℕ → CallerFace → CallerFa
 HasCode c t position index f g = IsServed 2 (wait c 1 (slot_block t position ∷ [])) (λ a. a ≡ Ok (Some index ∷ [])) f g
 
 -- refused before any event: nothing was done
-abbrev pub IsRefusedBefore : Table → ℕ → CallerFace → Refusal → CallerFace → Type 0
-IsRefusedBefore t position f why g = (next_event_refusal t position (keeps f) ≡ Some why) × (g ≡ f)
+abbrev pub IsNextRefused : Table → ℕ → CallerFace → Refusal → CallerFace → Type 0
+IsNextRefused t position f why g = (next_event_refusal t position (keeps f) ≡ Some why) × (g ≡ f)
 
 -- The slot's code is the index of an event, whose block was then read; or it is none of the table's; or the call was refused before.
 abbrev pub IsHandedOut : Setup → Table → ℕ → CallerFace → Result Event NextRefusal → CallerFace → Type 0
@@ -28,7 +28,7 @@ IsHandedOut c t position f (Ok event) g =
     (next_event_refusal t position (keeps f) ≡ None) × (event.index < t.size)
     × ((v : CallerFace) × HasCode c t position event.index f v
     × IsServed 1 (test_ecb (event_block t event.index)) (λ a. a ≡ event.word) v g)
-IsHandedOut c t position f (Err refused.NotOwner) g = IsRefusedBefore t position f refusal.NotOwner g
-IsHandedOut c t position f (Err refused.Drained) g = IsRefusedBefore t position f refusal.Drained g
+IsHandedOut c t position f (Err refused.NotOwner) g = IsNextRefused t position f refusal.NotOwner g
+IsHandedOut c t position f (Err refused.Drained) g = IsNextRefused t position f refusal.Drained g
 IsHandedOut c t position f (Err (refused.Strange index)) g =
     (next_event_refusal t position (keeps f) ≡ None) × (t.size ≤ index) × HasCode c t position index f g

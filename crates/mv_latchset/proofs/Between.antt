@@ -16,7 +16,7 @@ use Rattle.mv_calls.specs.Rest.{IsAtRest}
 use Rattle.mv_calls.specs.Services.{obtain_events}
 use Rattle.mv_wait.specs.Run.{Went}
 use Rattle.mv_wait.proofs.Runs.{same_then, went_log, went_none, went_then}
-use Rattle.mv_latchset.specs.Obtaining.{IsAnswered, IsSettled, IsQueuedAndSettled, settled_reply}
+use Rattle.mv_latchset.specs.Obtaining.{IsAnswered, IsRequestSettled, IsQueuedAndSettled, settled_reply}
 use Rattle.mv_latchset.specs.Polling.{IsObtaining, IsObtainMade}
 use Rattle.mv_latchset.specs.Token.{stands}
 use Rattle.mv_latchset.specs.declared.obtaining.ObtainRefusal.TheVariants as refused
@@ -71,7 +71,7 @@ module _ (c : Setup) (latch requestor : ℕ) (mode : Mode) (id : ℕ) (t0 t : Ca
   }
 
   settles : (granted : Bool) (u : CallerFace) → IsAnswered (Confirm latch id) (settled_reply id granted) t u
-      → IsSettled latch id p.queued granted u
+      → IsRequestSettled latch id p.queued granted u
   settles granted u h = record { awaited = t; waited = p.since; confirmed = h }
 
   all_settled : (granted : Bool) (u : CallerFace) → IsAnswered (Confirm latch id) (settled_reply id granted) t u

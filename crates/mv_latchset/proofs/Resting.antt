@@ -15,7 +15,7 @@ use Rattle.mv_board.specs.Faces.{CallerFace}
 use Rattle.mv_calls.specs.Rest.{OpenWaits, AreNone, IsAtRest, waits_after, open_waits}
 use Rattle.mv_wait.proofs.Runs.{went_log}
 use Rattle.mv_wait.proofs.Steps.{waits_one, still_at_rest}
-use Rattle.mv_latchset.specs.Obtaining.{IsAnswered, IsSettled, settled_reply}
+use Rattle.mv_latchset.specs.Obtaining.{IsAnswered, IsRequestSettled, settled_reply}
 
 -- ---- events that open no wait
 
@@ -108,7 +108,7 @@ confirm_rests t u latch id r h rest =
 
 -- and after the confirm of a request that was queued and waited for
 pub settled_rests : (t v u : CallerFace) (latch requestor : ℕ) (mode : Mode) (id : ℕ) (granted : Bool)
-    → IsAnswered (Obtain latch requestor mode form_of.Waiting) (Queued id) t v → IsSettled latch id v granted u → IsAtRest t.log
+    → IsAnswered (Obtain latch requestor mode form_of.Waiting) (Queued id) t v → IsRequestSettled latch id v granted u → IsAtRest t.log
     → IsAtRest u.log
 settled_rests t v u latch requestor mode id granted h s rest =
     subst AreNone (sym (waits_one s.awaited u Latches (op_on.Latch (Confirm latch id))

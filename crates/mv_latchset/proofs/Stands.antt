@@ -17,7 +17,7 @@ use Rattle.mv_board.proofs.Acting.{made_more}
 use Rattle.mv_calls.specs.Keeping.{Kept, kept_of}
 use Rattle.mv_wait.proofs.Runs.{entry_of, went_log}
 use Rattle.mv_wait.proofs.Waits.{kept_one}
-use Rattle.mv_latchset.specs.Obtaining.{IsAnswered, IsSettled}
+use Rattle.mv_latchset.specs.Obtaining.{IsAnswered, IsRequestSettled}
 use Rattle.mv_latchset.specs.Token.{stands}
 
 -- what is kept of requests after the event
@@ -55,7 +55,7 @@ queued_is_made t u latch requestor mode form id h =
     (rw (eq-eqb latch latch refl, eq-eqb id id refl) refl))
 
 -- one that its confirm finds granted stands as before
-pub settled_stands : (t u : CallerFace) (latch id : ℕ) → IsSettled latch id t true u → stands t id ≡ true → stands u id ≡ true
+pub settled_stands : (t u : CallerFace) (latch id : ℕ) → IsRequestSettled latch id t true u → stands t id ≡ true → stands u id ≡ true
 settled_stands t u latch id s is =
     let v = s.awaited in
     ap (list_any (λ r. r.request.id == id)) (requests_after v u (Confirm latch id) (Granted id) s.confirmed)

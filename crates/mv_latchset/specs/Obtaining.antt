@@ -32,7 +32,7 @@ settled_reply id true = latch_reply.Granted id
 settled_reply id false = latch_reply.Gone
 
 -- the task waited without an event, and then its confirm found the request granted, or gone
-pub record IsSettled (latch id : ℕ) (t : CallerFace) (granted : Bool) (u : CallerFace) : Type 0 where
+pub record IsRequestSettled (latch id : ℕ) (t : CallerFace) (granted : Bool) (u : CallerFace) : Type 0 where
   pub awaited : CallerFace
   pub waited : Went [] t awaited
   pub confirmed : IsAnswered (latch_op.Confirm latch id) (settled_reply id granted) awaited u
@@ -41,7 +41,7 @@ pub record IsSettled (latch id : ℕ) (t : CallerFace) (granted : Bool) (u : Cal
 pub record IsQueuedAndSettled (op : LatchOp) (latch id : ℕ) (t : CallerFace) (granted : Bool) (u : CallerFace) : Type 0 where
   pub waiting : CallerFace
   pub queued : IsAnswered op (latch_reply.Queued id) t waiting
-  pub settled : IsSettled latch id waiting granted u
+  pub settled : IsRequestSettled latch id waiting granted u
 
 -- Granted is the obtain's own reply, or in the Waiting form that of its confirm; Pending is the Posted form's Queued
 abbrev pub IsObtainedBy : LatchOp → ℕ → LatchForm → CallerFace → Obtained → CallerFace → Type 0
@@ -51,8 +51,8 @@ IsObtainedBy op latch form t (obtained.Granted token) u =
 IsObtainedBy op latch form t (obtained.Pending token) u = IsPosted form × IsAnswered op (latch_reply.Queued token.id) t u
 
 -- refused before its event: nothing was done
-abbrev pub IsRefusedBefore : Setup → ℕ → ℕ → Mode → LatchForm → CallerFace → ObtainRefusal → CallerFace → Type 0
-IsRefusedBefore c latch requestor mode form t why u =
+abbrev pub IsObtainRefused : Setup → ℕ → ℕ → Mode → LatchForm → CallerFace → ObtainRefusal → CallerFace → Type 0
+IsObtainRefused c latch requestor mode form t why u =
     (obtain_refusal c latch requestor mode form (kept_of t.number t.log) ≡ Some (obtain_refused why)) × (u ≡ t)
 
 -- why an obtain was refused: before its event, by its reply, or since it was gone at its confirm
@@ -63,9 +63,9 @@ IsRefusedBy c latch requestor mode form t (refused.NotNow id) u =
 IsRefusedBy c latch requestor mode form t refused.Purged u =
     (obtain_refusal c latch requestor mode form (kept_of t.number t.log) ≡ None) × (form ≡ form_of.Waiting)
     × ((id : ℕ) × IsQueuedAndSettled (latch_op.Obtain latch requestor mode form) latch id t false u)
-IsRefusedBy c latch requestor mode form t refused.BadLatch u = IsRefusedBefore c latch requestor mode form t refused.BadLatch u
-IsRefusedBy c latch requestor mode form t refused.NotOwner u = IsRefusedBefore c latch requestor mode form t refused.NotOwner u
-IsRefusedBy c latch requestor mode form t refused.Quota u = IsRefusedBefore c latch requestor mode form t refused.Quota u
+IsRefusedBy c latch requestor mode form t refused.BadLatch u = IsObtainRefused c latch requestor mode form t refused.BadLatch u
+IsRefusedBy c latch requestor mode form t refused.NotOwner u = IsObtainRefused c latch requestor mode form t refused.NotOwner u
+IsRefusedBy c latch requestor mode form t refused.Quota u = IsObtainRefused c latch requestor mode form t refused.Quota u
 
 -- the token names this latch
 abbrev pub IsOfLatch : ℕ → Obtained → Type 0

@@ -45,14 +45,14 @@ target_refused (Err (release_refusal.Spent now)) = Some (refusal.TargetSpent now
 target_refused (Err release_refusal.Already) = Some refusal.TargetAlready
 
 -- the current token is not the caller's to pause with, and nothing was done
-abbrev pub IsRefusedBefore : Setup → Option Token → CallerFace → TransferRefusal → CallerFace → Type 0
-IsRefusedBefore c current t why u = (transfer_refusal c current (kept_of t.number t.log) ≡ Some (transfer_refused why)) × (u ≡ t)
+abbrev pub IsTransferRefused : Setup → Option Token → CallerFace → TransferRefusal → CallerFace → Type 0
+IsTransferRefused c current t why u = (transfer_refusal c current (kept_of t.number t.log) ≡ Some (transfer_refused why)) × (u ≡ t)
 
 -- Why a transfer was refused: no event was made, or the one that was made is a release of the target that was not accepted. So nobody
 -- was released, and the caller did not pause.
 abbrev pub IsTransferCause : Setup → Option Token → Token → ℕ → CallerFace → TransferRefusal → CallerFace → Type 0
-IsTransferCause c current target code t refused.NotOwner u = IsRefusedBefore c current t refused.NotOwner u
-IsTransferCause c current target code t (refused.Spent now) u = IsRefusedBefore c current t (refused.Spent now) u
+IsTransferCause c current target code t refused.NotOwner u = IsTransferRefused c current t refused.NotOwner u
+IsTransferCause c current target code t (refused.Spent now) u = IsTransferRefused c current t (refused.Spent now) u
 IsTransferCause c current target code t (refused.TargetSpent now) u =
     (transfer_refusal c current (kept_of t.number t.log) ≡ None)
     × HappenedOn target t (Release target.generation code) (element_reply.Spent now) u

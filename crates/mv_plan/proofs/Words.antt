@@ -20,7 +20,7 @@ pub use Rattle.mv_calls.specs.Keeping.{Kept, nothing_kept, kept_after}
 pub use Rattle.mv_plan.specs.SpoolSetup.{initiator, reader, scheduler, writer, idle, end_owners, block_owners, end_exit, end_for_scheduler}
 pub use Rattle.mv_plan.specs.SpoolSetup.{end_for_writer, task_budgets, spool_setup, entered}
 pub use Rattle.mv_machine.proofs.Objects.{same_is}
-pub use Rattle.mv_plan.specs.HandingOut.{gift_code, naming, given_codes, release_code, released_codes, closings, IsRightRelease}
+pub use Rattle.mv_plan.specs.HandingOut.{gift_code, naming, given_codes, released_code, released_codes, closings, IsRightRelease}
 pub use Rattle.mv_plan.specs.HandingOut.{AreHandedOut}
 pub use Rattle.mv_deck.specs.declared.deck.Step.TheVariants.{Print, Use, Count, Scan, Abend, Return}
 pub use Rattle.mv_machine.specs.declared.entry.Reply.{Reply}

@@ -1,4 +1,4 @@
 -- How many events each task may make.
 pub mod Rests
-pub mod InitiatorRests
+pub mod InitiatorBudgets
 pub mod Within

@@ -22,9 +22,9 @@ use Rattle.mv_machine.specs.Legal.{after}
 use Rattle.mv_machine.specs.Orderly.{IsExact}
 
 -- the code of a Release on an element
-abbrev pub release_code : Op → Option ℕ
-release_code (op_on.Element (Release generation code)) = Some code
-release_code op = None
+abbrev pub released_code : Op → Option ℕ
+released_code (op_on.Element (Release generation code)) = Some code
+released_code op = None
 
 -- the code that a pause was given
 abbrev pub gift_code : Reply → Option ℕ
@@ -38,7 +38,7 @@ naming j (Some code) = if (code == code_of j false) || (code == code_of j true) 
 
 -- the codes that name job j, of the Releases and of the gifts
 abbrev pub released_codes : ℕ → List Entry → List ℕ
-released_codes j es = filter_map (λ e. naming j (release_code e.op)) es
+released_codes j es = filter_map (λ e. naming j (released_code e.op)) es
 
 -- and of the gifts
 abbrev pub given_codes : ℕ → List Entry → List ℕ

@@ -14,7 +14,7 @@ use Rattle.mv_program.specs.declared.status.Status.{Status}
 use Rattle.mv_program.specs.declared.status.Status.TheVariants.{Done, Words, Deck, TooLong, ReadFailed, ReportFailed}
 use Rattle.mv_program.specs.declared.status.Status.TheVariants.{JournalFailed, NoMemory, Illegal, Text}
 use Rattle.mv_program.specs.declared.status.Status.TheVariants.{Script}
-use Rattle.mv_program.specs.Program.{Tells, TellsReport, Told, Writes, extent_of, has_journal, reads_input, reports_of}
+use Rattle.mv_program.specs.Program.{TellsTexts, TellsReport, Told, Writes, extent_of, has_journal, reads_input, reports_of}
 use Rattle.mv_program.specs.Status.{note_of, replay_of}
 
 -- what holds of the command holds of the words that are it
@@ -26,44 +26,44 @@ told_for w c s input report0 report1 journal0 journal1 e told =
 -- ---- a command that writes both texts
 
 -- texts that are told of the bytes that were read are told of the input
-of_input : (Tells : List ℕ → List ℕ → List ℕ → Type 0) (input left : Option (List ℕ)) (items report journal : List ℕ)
-    → IfSome input (λ xs. (items ≡ xs) × (left ≡ Some [])) → Tells items report journal → IfSome input (λ xs. Tells xs report journal)
-of_input Tells None left items report journal read tells = tt
-of_input Tells (Some xs) left items report journal read tells = subst (λ (bytes : List ℕ). Tells bytes report journal) read.0 tells
+of_input : (TellsTexts : List ℕ → List ℕ → List ℕ → Type 0) (input left : Option (List ℕ)) (items report journal : List ℕ)
+    → IfSome input (λ xs. (items ≡ xs) × (left ≡ Some [])) → TellsTexts items report journal → IfSome input (λ xs. TellsTexts xs report journal)
+of_input TellsTexts None left items report journal read tells = tt
+of_input TellsTexts (Some xs) left items report journal read tells = subst (λ (bytes : List ℕ). TellsTexts bytes report journal) read.0 tells
 
 -- so much was written of them as the status says
-texts_are_told : (Tells : List ℕ → List ℕ → List ℕ → Type 0) (s : Status) (input report0 report1 journal0 journal1 : Option (List ℕ))
-    (report journal : List ℕ) → IfSome input (λ bytes. Tells bytes report journal)
-    → Writes s report0 report1 journal0 journal1 report journal → WroteOf Tells (extent_of s) input report0 report1 journal0 journal1
-texts_are_told Tells Done None report0 report1 journal0 journal1 report journal tells wrote = tt
-texts_are_told Tells Done (Some xs) report0 report1 journal0 journal1 report journal tells wrote = (report, journal, tells, wrote)
-texts_are_told Tells ReportFailed None report0 report1 journal0 journal1 report journal tells wrote = tt
-texts_are_told Tells ReportFailed (Some xs) report0 report1 journal0 journal1 report journal tells wrote = (report, journal, tells, wrote)
-texts_are_told Tells JournalFailed None report0 report1 journal0 journal1 report journal tells wrote = tt
-texts_are_told Tells JournalFailed (Some xs) report0 report1 journal0 journal1 report journal tells wrote = (report, journal, tells, wrote)
-texts_are_told Tells s input report0 report1 journal0 journal1 report journal tells wrote = absurd wrote
+texts_are_told : (TellsTexts : List ℕ → List ℕ → List ℕ → Type 0) (s : Status) (input report0 report1 journal0 journal1 : Option (List ℕ))
+    (report journal : List ℕ) → IfSome input (λ bytes. TellsTexts bytes report journal)
+    → Writes s report0 report1 journal0 journal1 report journal → WroteOf TellsTexts (extent_of s) input report0 report1 journal0 journal1
+texts_are_told TellsTexts Done None report0 report1 journal0 journal1 report journal tells wrote = tt
+texts_are_told TellsTexts Done (Some xs) report0 report1 journal0 journal1 report journal tells wrote = (report, journal, tells, wrote)
+texts_are_told TellsTexts ReportFailed None report0 report1 journal0 journal1 report journal tells wrote = tt
+texts_are_told TellsTexts ReportFailed (Some xs) report0 report1 journal0 journal1 report journal tells wrote = (report, journal, tells, wrote)
+texts_are_told TellsTexts JournalFailed None report0 report1 journal0 journal1 report journal tells wrote = tt
+texts_are_told TellsTexts JournalFailed (Some xs) report0 report1 journal0 journal1 report journal tells wrote = (report, journal, tells, wrote)
+texts_are_told TellsTexts s input report0 report1 journal0 journal1 report journal tells wrote = absurd wrote
 
 -- the same of an input that was read
-read_is_told : (Tells : List ℕ → List ℕ → List ℕ → Type 0) (s : Status) (input left report0 report1 journal0 journal1 : Option (List ℕ))
-    (items report journal : List ℕ) → IfSome input (λ xs. (items ≡ xs) × (left ≡ Some [])) → Tells items report journal
-    → Writes s report0 report1 journal0 journal1 report journal → WroteOf Tells (extent_of s) input report0 report1 journal0 journal1
-read_is_told Tells s input left report0 report1 journal0 journal1 items report journal read tells wrote =
-    texts_are_told Tells s input report0 report1 journal0 journal1 report journal
-    (of_input Tells input left items report journal read tells) wrote
+read_is_told : (TellsTexts : List ℕ → List ℕ → List ℕ → Type 0) (s : Status) (input left report0 report1 journal0 journal1 : Option (List ℕ))
+    (items report journal : List ℕ) → IfSome input (λ xs. (items ≡ xs) × (left ≡ Some [])) → TellsTexts items report journal
+    → Writes s report0 report1 journal0 journal1 report journal → WroteOf TellsTexts (extent_of s) input report0 report1 journal0 journal1
+read_is_told TellsTexts s input left report0 report1 journal0 journal1 items report journal read tells wrote =
+    texts_are_told TellsTexts s input report0 report1 journal0 journal1 report journal
+    (of_input TellsTexts input left items report journal read tells) wrote
 
 -- and so of every command that writes a journal, whether or not it reads its input
 pub run_is_told : (c : Command) (s : Status) (input left report0 report1 journal0 journal1 : Option (List ℕ)) (text report journal : List ℕ)
     → has_journal c ≡ true → (reads_input c ≡ true → IfSome input (λ xs. (text ≡ xs) × (left ≡ Some [])))
-    → Tells c text report journal → Writes s report0 report1 journal0 journal1 report journal
+    → TellsTexts c text report journal → Writes s report0 report1 journal0 journal1 report journal
     → Told (Some c) s input report0 report1 journal0 journal1
 run_is_told (Spool n) s input left report0 report1 journal0 journal1 text report journal runs read tells wrote =
-    read_is_told (Tells (Spool n)) s input left report0 report1 journal0 journal1 text report journal (read refl) tells wrote
+    read_is_told (TellsTexts (Spool n)) s input left report0 report1 journal0 journal1 text report journal (read refl) tells wrote
 run_is_told (Polled n seed) s input left report0 report1 journal0 journal1 text report journal runs read tells wrote =
-    read_is_told (Tells (Polled n seed)) s input left report0 report1 journal0 journal1 text report journal (read refl) tells wrote
+    read_is_told (TellsTexts (Polled n seed)) s input left report0 report1 journal0 journal1 text report journal (read refl) tells wrote
 run_is_told asked.Script s input left report0 report1 journal0 journal1 text report journal runs read tells wrote =
-    read_is_told (Tells asked.Script) s input left report0 report1 journal0 journal1 text report journal (read refl) tells wrote
+    read_is_told (TellsTexts asked.Script) s input left report0 report1 journal0 journal1 text report journal (read refl) tells wrote
 run_is_told (Load jobs n) s input left report0 report1 journal0 journal1 text report journal runs read tells wrote =
-    texts_are_told (Tells (Load jobs n)) s (Some []) report0 report1 journal0 journal1 report journal tells wrote
+    texts_are_told (TellsTexts (Load jobs n)) s (Some []) report0 report1 journal0 journal1 report journal tells wrote
 run_is_told Replay s input left report0 report1 journal0 journal1 text report journal runs read tells wrote = absurd cc
 run_is_told Convert s input left report0 report1 journal0 journal1 text report journal runs read tells wrote = absurd cc
 

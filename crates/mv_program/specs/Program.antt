@@ -76,13 +76,13 @@ reports_of Convert = replay.IsConversion
 reports_of _ = λ input report. ⊥
 
 -- the texts that each command tells
-abbrev pub Tells : Command → (input report journal : List ℕ) → Type 0
-Tells (Spool n) input report journal = TellsRun n input report journal
-Tells (Load jobs n) input report journal = TellsLoad jobs n report journal
-Tells asked.Script input report journal = TellsScript input report journal
-Tells Replay input report journal = TellsReport replay.IsReplayReport input report journal
-Tells Convert input report journal = TellsReport replay.IsConversion input report journal
-Tells (Polled n seed) input report journal = TellsRun n input report journal
+abbrev pub TellsTexts : Command → (input report journal : List ℕ) → Type 0
+TellsTexts (Spool n) input report journal = TellsRun n input report journal
+TellsTexts (Load jobs n) input report journal = TellsLoad jobs n report journal
+TellsTexts asked.Script input report journal = TellsScript input report journal
+TellsTexts Replay input report journal = TellsReport replay.IsReplayReport input report journal
+TellsTexts Convert input report journal = TellsReport replay.IsConversion input report journal
+TellsTexts (Polled n seed) input report journal = TellsRun n input report journal
 
 -- whether it has a journal at all
 abbrev pub has_journal : Command → Bool
@@ -198,7 +198,7 @@ extent_of (Text fault) = Nothing
 -- what the sinks hold: so much of texts that the command tells of the input
 abbrev pub Told : Option Command → Status → (input report0 report1 journal0 journal1 : Option (List ℕ)) → Type 0
 Told (Some command) status input report0 report1 journal0 journal1 =
-    WroteOf (Tells command) (extent_of status) (input_told command input) report0 report1 journal0 journal1
+    WroteOf (TellsTexts command) (extent_of status) (input_told command input) report0 report1 journal0 journal1
 Told None status input report0 report1 journal0 journal1 = (report1 ≡ report0) × (journal1 ≡ journal0)
 
 -- the writing of both texts, the report first, ends in one of three ways

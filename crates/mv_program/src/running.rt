@@ -5,7 +5,7 @@ ghost use Rattle.std.specs.Prelude.{[], ◌≡◌, ◌≢◌, ◌≤◌, length,
 ghost use Rattle.mv_io.specs.Fault.{Rose};
 ghost use Rattle.mv_ending.specs.Written.{IfUnwritten};
 ghost use Rattle.mv_program.specs.Command.{IsRunnable};
-ghost use Rattle.mv_program.specs.Program.{Asks, InputOf, IsRefused, IsUnread, Tells, Told, Writes, extent_of, has_journal, reads_input};
+ghost use Rattle.mv_program.specs.Program.{Asks, InputOf, IsRefused, IsUnread, TellsTexts, Told, Writes, extent_of, has_journal, reads_input};
 ghost use Rattle.mv_program.specs.Texts.{deck_limit};
 
 use crate::command::Command;
@@ -50,7 +50,7 @@ fn texts_told<X: Threads + Wait + Sync, G: Gate + Sync>(
     requires runs { has_journal command ≡ true }
     requires runnable { IsRunnable command }
     requires short { length text.now ≤ deck_limit }
-    ensures told { IfOk result (λ texts. Tells command text.now texts.report.items texts.journal.items) }
+    ensures told { IfOk result (λ texts. TellsTexts command text.now texts.report.items texts.journal.items) }
     ensures asked { IfOk result (λ _. Asks command text.now Status.Done) }
     ensures refused { IfErr result (λ status. IsRefused command text.now status) }
 {

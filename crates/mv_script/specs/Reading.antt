@@ -159,14 +159,14 @@ abbrev pub IsBehind : List Statement → Reading → Type 0
 IsBehind statements r = Stands statements (notes_of r)
 
 -- the kind that is told is the lowest
-abbrev pub Tells : LineRefusal Kind → List ℕ → Type 0
-Tells refusal kinds = lines.Tells kind_number refusal kinds
+abbrev pub TellsLowest : LineRefusal Kind → List ℕ → Type 0
+TellsLowest refusal kinds = lines.Tells kind_number refusal kinds
 
 -- the reader is behind some statements, and this one names what they state
-abbrev pub IsReady : Reading → Statement → Type 0
-IsReady r s = (earlier : List Statement) × (IsBehind earlier r × IsGoodStatement (sizes_behind earlier) s)
+abbrev pub IsToTake : Reading → Statement → Type 0
+IsToTake r s = (earlier : List Statement) × (IsBehind earlier r × IsGoodStatement (sizes_behind earlier) s)
 
 -- the statement has no fault and the reader is behind it, or the kind that is told is its lowest
 abbrev pub IsTaken : Result (Unit {0}) (LineRefusal Kind) → List Statement → Statement → Reading → Type 0
 IsTaken (Ok done) earlier s r = (kinds_behind earlier s ≡ []) × IsBehind (earlier ++ s ∷ []) r
-IsTaken (Err refusal) earlier s r = Tells refusal (kinds_behind earlier s)
+IsTaken (Err refusal) earlier s r = TellsLowest refusal (kinds_behind earlier s)

@@ -7,7 +7,7 @@ ghost use Rattle.mv_script.specs.declared.call.Call.{Call};
 ghost use Rattle.mv_script.specs.declared.statement.Statement.{Statement};
 ghost use Rattle.mv_script.specs.declared.statement.Statement.TheVariants as statement;
 ghost use Rattle.mv_script.specs.Fault.{first_fault, TellsFirst, line_rules, leads_down, is_no_obtain, obtain_meant};
-ghost use Rattle.mv_script.specs.Reading.{IsBehind, IsReady, IsTaken};
+ghost use Rattle.mv_script.specs.Reading.{IsBehind, IsToTake, IsTaken};
 ghost use Rattle.mv_script.specs.Script.{script_data, script_of, script_in, tasks_of, sizes_behind, is_obtain};
 ghost use Rattle.mv_script.specs.Sound.{IsSound, IsGoodStatement};
 
@@ -140,7 +140,7 @@ impl Reading {
 
     // Takes a statement.
     fn take(&mut self, statement: Statement) -> Result<(), LineRefusal<Kind>>
-        requires { IsReady self.now (statement) }
+        requires { IsToTake self.now (statement) }
         ensures { (earlier : List Statement) → IsBehind earlier self.old → IsGoodStatement (sizes_behind earlier) (statement)
             → IsTaken result earlier (statement) self.new }
     {
@@ -157,7 +157,7 @@ impl Reading {
 
     // Takes a SCRIPT of so many tasks.
     fn take_script(&mut self, tasks: u32) -> Result<(), LineRefusal<Kind>>
-        requires { IsReady self.now (statement.Script tasks) }
+        requires { IsToTake self.now (statement.Script tasks) }
         ensures { (earlier : List Statement) → IsBehind earlier self.old → IsGoodStatement (sizes_behind earlier) (statement.Script tasks)
             → IsTaken result earlier (statement.Script tasks) self.new }
     {
@@ -204,7 +204,7 @@ impl Reading {
 
     // Takes an ECB of this task.
     fn take_ecb(&mut self, owner: u32) -> Result<(), LineRefusal<Kind>>
-        requires { IsReady self.now (statement.Ecb owner) }
+        requires { IsToTake self.now (statement.Ecb owner) }
         ensures { (earlier : List Statement) → IsBehind earlier self.old → IsGoodStatement (sizes_behind earlier) (statement.Ecb owner)
             → IsTaken result earlier (statement.Ecb owner) self.new }
     {
@@ -220,7 +220,7 @@ impl Reading {
 
     // Takes an EXIT.
     fn take_exit(&mut self, source: u32, targets: Numbers) -> Result<(), LineRefusal<Kind>>
-        requires { IsReady self.now (statement.Exit source targets) }
+        requires { IsToTake self.now (statement.Exit source targets) }
         ensures { (earlier : List Statement) → IsBehind earlier self.old
             → IsGoodStatement (sizes_behind earlier) (statement.Exit source targets)
             → IsTaken result earlier (statement.Exit source targets) self.new }
@@ -241,7 +241,7 @@ impl Reading {
 
     // Takes a TABLE.
     fn take_table(&mut self, table: Table) -> Result<(), LineRefusal<Kind>>
-        requires { IsReady self.now (statement.Table table) }
+        requires { IsToTake self.now (statement.Table table) }
         ensures { (earlier : List Statement) → IsBehind earlier self.old → IsGoodStatement (sizes_behind earlier) (statement.Table table)
             → IsTaken result earlier (statement.Table table) self.new }
     {
@@ -273,7 +273,7 @@ impl Reading {
 
     // Takes a TASK.
     fn take_task(&mut self) -> Result<(), LineRefusal<Kind>>
-        requires { IsReady self.now (statement.Task) }
+        requires { IsToTake self.now (statement.Task) }
         ensures { (earlier : List Statement) → IsBehind earlier self.old → IsGoodStatement (sizes_behind earlier) (statement.Task)
             → IsTaken result earlier (statement.Task) self.new }
     {
@@ -307,7 +307,7 @@ impl Reading {
 
     // Takes a call of the last task.
     fn take_call(&mut self, call: Call) -> Result<(), LineRefusal<Kind>>
-        requires { IsReady self.now (statement.Call call) }
+        requires { IsToTake self.now (statement.Call call) }
         ensures { (earlier : List Statement) → IsBehind earlier self.old → IsGoodStatement (sizes_behind earlier) (statement.Call call)
             → IsTaken result earlier (statement.Call call) self.new }
     {
@@ -339,7 +339,7 @@ impl Reading {
 
     // Takes the END.
     fn take_end(&mut self) -> Result<(), LineRefusal<Kind>>
-        requires { IsReady self.now (statement.End) }
+        requires { IsToTake self.now (statement.End) }
         ensures { (earlier : List Statement) → IsBehind earlier self.old → IsGoodStatement (sizes_behind earlier) (statement.End)
             → IsTaken result earlier (statement.End) self.new }
     {

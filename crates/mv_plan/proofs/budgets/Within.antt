@@ -22,7 +22,7 @@ use Rattle.mv_plan.proofs.walks.Histories.{Stood, stood}
 use Rattle.mv_plan.proofs.walks.Walks.{Points, start_points, Move, reads, schedules, initiates, writes, walk_keeps}
 use Rattle.mv_plan.proofs.budgets.Rests.{reader_rest, reader_pays, entering_rest, scheduler_rest, scheduler_pays, stage_starts, jobs_rest}
 use Rattle.mv_plan.proofs.budgets.Rests.{jobs_rest_is, writer_rest, writer_pays, writing_rest}
-use Rattle.mv_plan.proofs.budgets.InitiatorRests.{initiator_rest, initiator_pays, all_rounds, rounds_to_come}
+use Rattle.mv_plan.proofs.budgets.InitiatorBudgets.{initiator_rest, initiator_pays, all_rounds, rounds_to_come}
 use Rattle.std.proofs.lemmas.Grind.{common_steps}
 
 -- ---- how a caller's part grows by an entry

@@ -13,7 +13,7 @@ use Rattle.mv_plan.proofs.points.ReaderAndWriter.{IsReaderAt}
 use Rattle.mv_plan.proofs.points.InitiatorSound.{IsInitiatorAt}
 use Rattle.mv_plan.proofs.places.Places.{Places, Run}
 use Rattle.mv_plan.proofs.ends.Blocks.{HasEnd, idle_none, done_has}
-use Rattle.mv_plan.proofs.walks.Stands.{Standing}
+use Rattle.mv_plan.proofs.walks.Stands.{TasksStand}
 use Rattle.mv_plan.proofs.ends.SchedulerMarks.{IsMarked}
 use Rattle.mv_plan.proofs.ends.Complete.{IsComplete, NotComplete}
 use Rattle.mv_plan.proofs.ends.Awaited.{initiator_ecb}
@@ -33,7 +33,7 @@ IsFreeToOffer n s i (At (Offering more before g)) = NotComplete s (idle n i)
 IsFreeToOffer n s i p = Unit {0}
 
 pub record EndMoment (deck : List JobData) (initiators : ℕ) (s : System) (t : Points) : Type 0 where
-  pub stands : Standing deck initiators t
+  pub stands : TasksStand deck initiators t
   pub places : Places deck initiators s t
   pub codes : Codes deck initiators s t
   pub posted : Posted deck initiators s t

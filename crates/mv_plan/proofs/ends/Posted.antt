@@ -22,7 +22,7 @@ use Rattle.mv_plan.proofs.points.SchedulerSound.{IsSchedulerAt, stage_extended, 
 use Rattle.mv_plan.proofs.points.InitiatorSound.{IsInitiatorAt, named_is}
 use Rattle.mv_plan.proofs.places.Places.{Places, Coming, Run}
 use Rattle.mv_plan.proofs.ends.Blocks.{HasEnd, done_has, scheduler_has, writer_has}
-use Rattle.mv_plan.proofs.walks.Stands.{Standing}
+use Rattle.mv_plan.proofs.walks.Stands.{TasksStand}
 use Rattle.mv_plan.proofs.ends.Complete.{IsComplete, NotComplete, BlockAfter, block_moved, moved_there, complete_moved, not_moved, is_moved}
 use Rattle.mv_plan.proofs.ends.Complete.{held_moved}
 use Rattle.mv_plan.proofs.points.Stages.{ByStage, stage_map, stage_goes, NotEnding}
@@ -92,7 +92,7 @@ pub record Posted (deck : List JobData) (initiators : ℕ) (s : System) (t : Poi
   pub blocks : DoneBlocks (length deck) s t.scheduler
 
 abbrev pub HasPlaces : List JobData → ℕ → System → Points → List Entry → Type 0
-HasPlaces deck initiators s t past = Standing deck initiators t × Places deck initiators s t
+HasPlaces deck initiators s t past = TasksStand deck initiators t × Places deck initiators s t
 
 abbrev pub HasPosted : List JobData → ℕ → System → Points → List Entry → Type 0
 HasPosted deck initiators s t past = Posted deck initiators s t
@@ -511,6 +511,6 @@ module _ (deck : List JobData) (initiators : ℕ) where
   -- ---- the Extend of a done block is answered Armed
 
   pub extend_is_armed : (c : Setup) (s : System) (t : Points) (j : ℕ) (job : JobData) (jobs : List JobData) (skipped : Bool) (k p : ℕ)
-      (r : Reply) → t.scheduler ≡ At (Extends j job jobs skipped) → Standing deck initiators t → Posted deck initiators s t
+      (r : Reply) → t.scheduler ≡ At (Extends j job jobs skipped) → TasksStand deck initiators t → Posted deck initiators s t
       → IsNext c s (entry_of k p (scheduler_asks (length deck) (Extends j job jobs skipped)) r) → r ≡ reply_of.Ecb ecb_reply.Armed
   extend_is_armed c s t j job jobs skipped k p r at stands h next = grind (arith, common_steps)

@@ -1,6 +1,6 @@
 -- The ledger: where each job is, with the account of the codes that name it, released and given so far; and its six steps.
 use Rattle.mv_plan.proofs.Words.{◌≡◌, ℕ, ◌+◌, ◌<◌, ◌≤◌, Bool, List, [], ◌∷◌, ◌++◌, length, Option, Some, None, ◌⊎◌, inl, inr, refl, sym, ap}
-use Rattle.mv_plan.proofs.Words.{◌∙◌, subst, arith, cases_eq, Entry, System, with_at, release_code, gift_code, naming, released_codes}
+use Rattle.mv_plan.proofs.Words.{◌∙◌, subst, arith, cases_eq, Entry, System, with_at, released_code, gift_code, naming, released_codes}
 use Rattle.mv_plan.proofs.Words.{given_codes, JobData, code_of, not_to_run, same_Some}
 use Rattle.mv_plan.proofs.deck.Codes.{naming_own, naming_other, naming_zero, released_none, released_some, given_none, given_some}
 use Rattle.mv_plan.proofs.deck.Codes.{code_parts, never_zero}
@@ -89,7 +89,7 @@ module _ (deck : List JobData) (initiators : ℕ) (few : length deck ≤ not_to_
     )
 
     -- an entry that says nothing of a job, which keeps its place
-    silent : (j : ℕ) → j < n → naming j (release_code e.op) ≡ None → naming j (gift_code e.reply) ≡ None
+    silent : (j : ℕ) → j < n → naming j (released_code e.op) ≡ None → naming j (gift_code e.reply) ≡ None
         → ((m : ℕ) → ledger.places.place j ≡ Handed m → element_code z m ≡ element_code s m) → TaleThen j (ledger.places.place j)
     silent j lt a b h = account_kept (element_code s) (element_code z) j _ _ _ _ (ledger.places.place j) (released_none j past e a)
         (given_none j past e b) h (ledger.accounts j lt)
@@ -100,7 +100,7 @@ module _ (deck : List JobData) (initiators : ℕ) (few : length deck ≤ not_to_
     -- neither a release nor a gift
     pub quiet : next_job n u.scheduler ≡ next_job n t.scheduler → ((m : ℕ) → m < initiators → element_code z m ≡ element_code s m)
         → ((m : ℕ) → m < initiators → runs_at u m ≡ runs_at t m)
-        → ((m : ℕ) → m < initiators → befores_at u m ≡ befores_at t m) → release_code e.op ≡ None → gift_code e.reply ≡ None
+        → ((m : ℕ) → m < initiators → befores_at u m ≡ befores_at t m) → released_code e.op ≡ None → gift_code e.reply ≡ None
         → LedgerNext z u e
     quiet a b d g rc gc = make ledger.places.place (placed_same n initiators few _ _ _ _ _ _ _ _ ledger.places.place a b d g was)
         (λ j lt. silent j lt (no_name j _ rc) (no_name j _ gc) (λ m at. b m (ledger.places.hands m j at).0))
@@ -117,7 +117,7 @@ module _ (deck : List JobData) (initiators : ℕ) (few : length deck ≤ not_to_
 
       pub releases : (skipped : Bool) → next_job n u.scheduler ≡ next_job n t.scheduler + 1 → next_job n t.scheduler < n
           → element_code s i ≡ None → element_code z i ≡ Some (code_of (next_job n t.scheduler) skipped)
-          → OtherHelds → u.initiators ≡ t.initiators → release_code e.op ≡ Some (code_of (next_job n t.scheduler) skipped)
+          → OtherHelds → u.initiators ≡ t.initiators → released_code e.op ≡ Some (code_of (next_job n t.scheduler) skipped)
           → gift_code e.reply ≡ None → LedgerNext z u e
       releases skipped a below none now others same rc gc =
           make (with_at at_once k (Handed i))
@@ -155,7 +155,7 @@ module _ (deck : List JobData) (initiators : ℕ) (few : length deck ≤ not_to_
 
       pub dismisses : next_job n u.scheduler ≡ next_job n t.scheduler → element_code s i ≡ None → element_code z i ≡ Some 0 → OtherHelds
           → u.initiators ≡ t.initiators
-          → release_code e.op ≡ Some 0 → gift_code e.reply ≡ None → LedgerNext z u e
+          → released_code e.op ≡ Some 0 → gift_code e.reply ≡ None → LedgerNext z u e
       dismisses a none now others same rc gc =
           make at_once
           (subst (λ f. Placed n initiators (next_job n u.scheduler) (element_code z) (λ m. run_of (f m))
@@ -169,7 +169,7 @@ module _ (deck : List JobData) (initiators : ℕ) (few : length deck ≤ not_to_
 
       pub leaves : u.scheduler ≡ t.scheduler → element_code s i ≡ Some 0 → element_code z i ≡ None → OtherHelds
           → ((m : ℕ) → runs_at u m ≡ runs_at t m) → befores_at u i ≡ [] → ((m : ℕ) → (i ≡ m → ⊥) → befores_at u m ≡ befores_at t m)
-          → release_code e.op ≡ None → gift_code e.reply ≡ Some 0 → LedgerNext z u e
+          → released_code e.op ≡ None → gift_code e.reply ≡ Some 0 → LedgerNext z u e
       leaves a had now others same empty same_befores rc gc =
           make at_once
           (placed_same n initiators few (next_job n t.scheduler) (next_job n u.scheduler) (element_code z) (element_code z) (runs_at t)
@@ -185,7 +185,7 @@ module _ (deck : List JobData) (initiators : ℕ) (few : length deck ≤ not_to_
           → element_code s i ≡ Some (code_of run.job run.skipped) → element_code z i ≡ None → OtherHelds
           → runs_at t i ≡ None → runs_at u i ≡ Some run → ((m : ℕ) → (i ≡ m → ⊥) → runs_at u m ≡ runs_at t m)
           → ((m : ℕ) → befores_at u m ≡ befores_at t m)
-          → release_code e.op ≡ None → gift_code e.reply ≡ Some (code_of run.job run.skipped) → LedgerNext z u e
+          → released_code e.op ≡ None → gift_code e.reply ≡ Some (code_of run.job run.skipped) → LedgerNext z u e
       starts run below bound a had now others none runs_it same_runs same rc gc =
           make (with_at at_once run.job (Run i))
           (subst (λ y. Placed n initiators (next_job n y) (element_code z) (runs_at u) (befores_at u) (with_at at_once run.job (Run i)))
@@ -221,7 +221,7 @@ module _ (deck : List JobData) (initiators : ℕ) (few : length deck ≤ not_to_
           → runs_at u i ≡ None → ((m : ℕ) → (i ≡ m → ⊥) → runs_at u m ≡ runs_at t m)
           → befores_at t i ≡ run.before → befores_at u i ≡ run.before ++ run.job ∷ []
           → ((m : ℕ) → (i ≡ m → ⊥) → befores_at u m ≡ befores_at t m)
-          → release_code e.op ≡ None → gift_code e.reply ≡ None → LedgerNext z u e
+          → released_code e.op ≡ None → gift_code e.reply ≡ None → LedgerNext z u e
       stops run a element_codes_same ran none same_runs had has same rc gc =
           make (with_at at_once run.job Over)
           (placed_same n initiators few (next_job n t.scheduler) (next_job n u.scheduler) (element_code s) (element_code z) (runs_at u)

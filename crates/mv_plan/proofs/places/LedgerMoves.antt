@@ -1,7 +1,7 @@
 -- The ledger is kept by each move at which no task is lost.
 use Rattle.mv_plan.proofs.Words.{◌≡◌, ℕ, ◌+◌, ◌-◌, ◌<◌, ◌≤◌, Bool, if◌then◌else◌, List, length, Option, Some, None, ◌⊎◌, inl, inr, refl}
 use Rattle.mv_plan.proofs.Words.{sym, ap, ◌∙◌, subst, arith, cases_eq, eq-eqb, ElementState, element_step, Entry, Element}
-use Rattle.mv_plan.proofs.Words.{Reply, IsNext, next, Setup, System, moved, reply_to, with_at, release_code, gift_code, JobData, Kept}
+use Rattle.mv_plan.proofs.Words.{Reply, IsNext, next, Setup, System, moved, reply_to, with_at, released_code, gift_code, JobData, Kept}
 use Rattle.mv_plan.proofs.Words.{reader, scheduler, initiator, writer, code_of, not_to_run}
 use Rattle.mv_element.specs.declared.operation.ElementOp.TheVariants as element_op
 use Rattle.mv_machine.specs.declared.entry.Op.TheVariants as op_on
@@ -51,7 +51,7 @@ pub record IsQuiet (s z : System) (ask_code : Option ℕ) (r : Reply) : Type 0 w
 
 pub scheduler_quiet : (n : ℕ) (s : System) (x : SchedulerAt) (r : Reply) → NoRelease x
     → Some r ≡ reply_to s scheduler (scheduler_asks n x).0 (scheduler_asks n x).1
-    → IsQuiet s (moved s scheduler (scheduler_asks n x).0 (scheduler_asks n x).1) (release_code (scheduler_asks n x).1) r
+    → IsQuiet s (moved s scheduler (scheduler_asks n x).0 (scheduler_asks n x).1) (released_code (scheduler_asks n x).1) r
 scheduler_quiet n s x r d q = grind (arith, common_steps)
 
 pub no_release_or : (x : SchedulerAt) → (NoRelease x) ⊎ ((i g code : ℕ) × (after : Stage) × (x ≡ Releases i g code after))
@@ -68,7 +68,7 @@ module _ (c : Setup) (deck : List JobData) (initiators : ℕ) (few : length deck
 
   -- the reader and the writer
   apart_task : (s : System) (t u : Points) (e : Entry) (r : Reply) → u.scheduler ≡ t.scheduler → u.initiators ≡ t.initiators
-      → Elsewhere n e.object → release_code e.op ≡ None → Some e.reply ≡ reply_to s e.caller e.object e.op
+      → Elsewhere n e.object → released_code e.op ≡ None → Some e.reply ≡ reply_to s e.caller e.object e.op
       → (ledger : Ledger deck initiators s t past) → LedgerNext deck initiators few s t past ledger (next s e) u e
   apart_task s t u e r a b low rc q ledger =
       let still : SameTalk n s (next s e) = same_talk n s e.caller e.object e.op low in
@@ -147,7 +147,7 @@ module _ (c : Setup) (deck : List JobData) (initiators : ℕ) (few : length deck
       quietly : NoRelease x → Then (entry_of scheduler p (scheduler_asks n x) r)
           (record t { scheduler = scheduler_goes n initiators x r })
       quietly d =
-          let h : IsQuiet s (moved s scheduler (scheduler_asks n x).0 (scheduler_asks n x).1) (release_code (scheduler_asks n x).1) r =
+          let h : IsQuiet s (moved s scheduler (scheduler_asks n x).0 (scheduler_asks n x).1) (released_code (scheduler_asks n x).1) r =
           scheduler_quiet n s x r d nx.reply in
           quiet deck initiators few s t past ledger _ _ _ (same_next n initiators x r d f ∙ sym (ap (λ z. next_job n z) at))
           (λ m lt. h.element_codes_same m) (λ m lt. refl) (λ m lt. refl) h.no_code h.no_gift

@@ -1,7 +1,7 @@
 -- Each release is of a job or closes an initiator and is accepted, and each initiator is closed once.
 use Rattle.mv_plan.proofs.Words.{◌≡◌, ℕ, ◌<◌, ◌≤◌, List, [], ◌∷◌, ◌++◌, length}
 use Rattle.mv_plan.proofs.Words.{None, refl, sym, ap, ◌∙◌, subst, arith, AllByRecursion}
-use Rattle.mv_plan.proofs.Words.{Entry, Element, Reply, IsNext, Setup, System, release_code, closings, IsRightRelease, JobData}
+use Rattle.mv_plan.proofs.Words.{Entry, Element, Reply, IsNext, Setup, System, released_code, closings, IsRightRelease, JobData}
 use Rattle.mv_plan.proofs.Words.{scheduler, initiator, Kept}
 use Rattle.mv_element.specs.declared.operation.ElementOp.TheVariants as element_op
 use Rattle.mv_machine.specs.declared.entry.Op.TheVariants as op_on
@@ -30,7 +30,7 @@ pub record Closes (n initiators : ℕ) (past : List Entry) (dismissed : ℕ) : T
   pub unclosed : (i : ℕ) → dismissed ≤ i → length (closings (initiator i) past) ≡ 0
 
 module _ (n initiators : ℕ) (past : List Entry) (d : ℕ) (w : Closes n initiators past d) (e : Entry) where
-  closes_quiet : (d' : ℕ) → d' ≡ d → release_code e.op ≡ None → Closes n initiators (past ++ e ∷ []) d'
+  closes_quiet : (d' : ℕ) → d' ≡ d → released_code e.op ≡ None → Closes n initiators (past ++ e ∷ []) d'
   closes_quiet d' q none = grind (arith, common_steps)
 
 module _ (c : Setup) (deck : List JobData) (initiators : ℕ) (kept : ℕ → Kept) (past : List Entry) where

@@ -23,7 +23,7 @@ use Rattle.mv_plan.proofs.walks.Histories.{Stood, stood, AreFinished, run_finish
 use Rattle.mv_plan.proofs.places.Moments.{Moment, walk_moments}
 use Rattle.mv_plan.proofs.walks.NoneLost.{NoneLost, none_lost_at_end}
 use Rattle.mv_plan.proofs.walks.Walks.{Points, start_points, Move}
-use Rattle.mv_plan.proofs.walks.Stands.{Standing, standing}
+use Rattle.mv_plan.proofs.walks.Stands.{TasksStand, standing}
 use Rattle.mv_plan.proofs.ends.WriterFinds.{WriterHas, HasFound, writer_has_keeps, writer_has_first}
 use Rattle.std.proofs.Common.{rules}
 
@@ -64,7 +64,7 @@ module _ (c : Setup) (deck : List JobData) (initiators : ℕ) (facts : Facts c (
       → Move deck initiators t e u
       → Ends c deck initiators s t past → Ends c deck initiators (next s e) u (past ++ e ∷ [])
   ends_next s t u past e now n m h =
-      let stands : Standing deck initiators t = standing deck initiators now.kept t now.stand in
+      let stands : TasksStand deck initiators t = standing deck initiators now.kept t now.stand in
       record {
         codes = codes_keep deck initiators sound c s t u past e n m stands h.codes;
         posted = posted_keeps deck initiators c (few_jobs deck initiators sound) s t u past e n m (stands, now.ledger.places) h.posted;

@@ -1,6 +1,6 @@
 -- Each run hands out each job once, with its code: specs/HandingOut.
 use Rattle.mv_plan.proofs.Words.{◌≡◌, ℕ, ◌<◌, ◌≤◌, ◌==◌, List, [], ◌∷◌, length, ap, ◌∙◌, Bool, true, Option}
-use Rattle.mv_plan.proofs.Words.{Some, None, refl, sym, subst, Entry, opening, System, admitted, AreHandedOut, release_code, naming}
+use Rattle.mv_plan.proofs.Words.{Some, None, refl, sym, subst, Entry, opening, System, admitted, AreHandedOut, released_code, naming}
 use Rattle.mv_plan.proofs.Words.{released_codes, JobData, end_of, not_run, IsRun, spool_setup, code_of, AllByRecursion, false≢true}
 use Rattle.mv_plan.proofs.Words.{ElementOp, Object, Element, Op, next, Setup}
 use Rattle.mv_plan.specs.HandingOut.{IsHandedOut}
@@ -22,9 +22,9 @@ on_element c s k (Element m) op a = (m, refl)
 on_element c s k y op a = absurd (false≢true a)
 
 released-step : (j : ℕ) (e : Entry) (es : List Entry)
-    → released_codes j (e ∷ es) ≡ with_code (naming j (release_code e.op)) (released_codes j es)
-released-step j e es = go (naming j (release_code e.op)) refl where
-  go : (slot : Option ℕ) → naming j (release_code e.op) ≡ slot → released_codes j (e ∷ es) ≡ with_code slot (released_codes j es)
+    → released_codes j (e ∷ es) ≡ with_code (naming j (released_code e.op)) (released_codes j es)
+released-step j e es = go (naming j (released_code e.op)) refl where
+  go : (slot : Option ℕ) → naming j (released_code e.op) ≡ slot → released_codes j (e ∷ es) ≡ with_code slot (released_codes j es)
   go None q = rw q refl
   go (Some code) q = rw q refl
 
@@ -32,7 +32,7 @@ naming_same : (j : ℕ) (slot : Option ℕ) (code : ℕ) → naming j slot ≡ S
 naming_same j None code e = absurd (cc e)
 naming_same j (Some d) code e = search rules
 
-release_is : (op : Op) (code : ℕ) → release_code op ≡ Some code → (g : ℕ) × (op ≡ op_on.Element (element_op.Release g code))
+release_is : (op : Op) (code : ℕ) → released_code op ≡ Some code → (g : ℕ) × (op ≡ op_on.Element (element_op.Release g code))
 release_is (op_on.Element (element_op.Release g d)) code e =
     (g, ap (λ z. op_on.Element (element_op.Release g z)) (let q : d ≡ code = cc e in q))
 release_is op code e = absurd (cc e)
@@ -43,15 +43,15 @@ pub release_marks : (c : Setup) (deck : List JobData) (s : System) (es : List En
     → released_codes j es ≡ code_of j skipped ∷ [] → skipped ≡ (end_of deck j == not_run)
 release_marks c deck s [] j skipped l a lt e = absurd (cc e)
 release_marks c deck s (x ∷ es) j skipped l a lt e =
-    go (naming j (release_code x.op)) refl (sym (released-step j x es) ∙ e)
+    go (naming j (released_code x.op)) refl (sym (released-step j x es) ∙ e)
     (release_marks c deck (next s x) es j skipped l.1 a.1 lt) where
-      go : (slot : Option ℕ) → naming j (release_code x.op) ≡ slot → with_code slot (released_codes j es) ≡ code_of j skipped ∷ []
+      go : (slot : Option ℕ) → naming j (released_code x.op) ≡ slot → with_code slot (released_codes j es) ≡ code_of j skipped ∷ []
           → (released_codes j es ≡ code_of j skipped ∷ [] → skipped ≡ (end_of deck j == not_run)) → skipped ≡ (end_of deck j == not_run)
       go None q f rest = rest f
       go (Some code) q f rest =
           let same : code ≡ code_of j skipped = cc f in
           let it : (g : ℕ) × (x.op ≡ op_on.Element (element_op.Release g code)) =
-          release_is x.op code (naming_same j (release_code x.op) code q) in
+          release_is x.op code (naming_same j (released_code x.op) code q) in
           let on : (m : ℕ) × (x.object ≡ Element m) =
           on_element c s x.caller x.object (element_op.Release it.0 code)
           (subst (λ op. admitted c s x.caller x.object op ≡ true) it.1 l.0.admits) in

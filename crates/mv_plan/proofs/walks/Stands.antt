@@ -24,19 +24,19 @@ abbrev pub AreSound : List JobData → ℕ → Points → Type 0
 AreSound deck initiators t = (i : ℕ) → i < initiators → IsInitiatorAt deck (t.initiators i)
 
 -- all points are sound, whatever their tasks keep
-pub record Standing (deck : List JobData) (initiators : ℕ) (t : Points) : Type 0 where
+pub record TasksStand (deck : List JobData) (initiators : ℕ) (t : Points) : Type 0 where
   pub reader : IsReaderAt (length deck) t.reader
   pub scheduler : IsSchedulerAt deck initiators t.scheduler
   pub each : AreSound deck initiators t
   pub writer : IsWriterAt (length deck) t.writer
 
 pub standing : (deck : List JobData) (initiators : ℕ) (kept : ℕ → Kept) (t : Points) → Stand deck initiators kept t
-    → Standing deck initiators t
+    → TasksStand deck initiators t
 standing deck initiators kept t s =
     record { reader = s.at_reader; scheduler = s.at_scheduler.0; each = λ i lt. (s.at_initiator i lt).0; writer = s.at_writer }
 
 abbrev pub HasStanding : List JobData → ℕ → System → Points → List Entry → Type 0
-HasStanding deck initiators s t past = Standing deck initiators t
+HasStanding deck initiators s t past = TasksStand deck initiators t
 
 -- what callers keep after an entry
 abbrev pub kept_next : (ℕ → Kept) → Entry → ℕ → Kept

@@ -5,7 +5,7 @@ use Rattle.mv_deck.specs.Deck.{jobs_of, fresh_job}
 use Rattle.mv_deck.specs.Fault.{kinds_of_statement, kinds_behind}
 use Rattle.mv_line.specs.Fault.{first_of_list}
 use Rattle.mv_deck.specs.Form.{part_data, listed}
-use Rattle.mv_deck.specs.Reading.{Tells, jobs_read}
+use Rattle.mv_deck.specs.Reading.{TellsLowest, jobs_read}
 use Rattle.mv_deck.specs.Statement.{JobOf, AfterPart}
 use Rattle.mv_deck.specs.Weight.{weight, heaviest}
 use Rattle.mv_deck.proofs.Behind.{behind_job, job_weight, new_name}
@@ -16,7 +16,7 @@ pub returns-in-Err : goal.returns-in-Err
 returns-in-Err c = λ n v earlier b.
     let e : map part_data c.deref.result.now ≡ listed v c.args.list = ap (map part_data) c.deref.ensures.value ∙ c.in_ok-parts.ensures
     ∙ ap (λ x. listed x c.args.list) b.version in
-    subst (λ (x : List AfterPart). Tells c.in-Err.refusal (kinds_of_statement n earlier (Some (JobOf c.args.name.now x)))) e
+    subst (λ (x : List AfterPart). TellsLowest c.in-Err.refusal (kinds_of_statement n earlier (Some (JobOf c.args.name.now x)))) e
     (c.in-Err.ensures.kinds n v earlier b)
 
 pub returns-then-weight-self : goal.returns-then-weight-self
