@@ -116,3 +116,15 @@ fn what_others_did_to_the_table_is_told(rt: HostRuntime) -> Result<(), Fail> {
     assert_eq!(rt; next, Err(NextRefusal::Strange(40)));
     Ok(())
 }
+
+// ---- texts
+
+#[test]
+fn a_refusal_has_a_text(rt: HostRuntime) -> Result<(), Fail> {
+    let text = format!(in rt.alloc(); "{}", NextRefusal::Strange(40))?;
+    assert_eq!(&rt;
+        text.as_str(),
+        "the slot was posted with 40, which is no event of the table"
+    );
+    Ok(())
+}
