@@ -143,6 +143,14 @@ impl ValidConfig {
         element / self.config.elements_per_caller
     }
 
+    /// The first of a caller's elements. Its others follow it.
+    pub fn first_element(&self, caller: u32) -> u32
+        requires caller { caller < self.now.callers }
+        ensures first { result ≡ caller * self.now.elements_per_caller }
+    {
+        caller * self.config.elements_per_caller
+    }
+
     /// Whether an element is this caller's.
     pub fn owns_element(&self, caller: u32, element: u32) -> bool
         ensures owned { result ≡ (element_owner self.now element == caller) }

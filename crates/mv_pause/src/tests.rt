@@ -280,7 +280,7 @@ fn release_paused(station: &Station, task: &mut Task, element: u32) -> bool
     match station.try_event(task, object, op, word) {
         Ok(_) => {
             // The exchange has woken nobody: whose pause it ends is for this call to wake.
-            station.wake(element / station.config().config().elements_per_caller);
+            station.wake(station.config().element_owner(element));
             true
         }
         Err(_) => false,
