@@ -16,7 +16,7 @@ use Rattle.mv_machine.specs.System.{opening}
 use Rattle.mv_machine.specs.Told.{told as told_to}
 use Rattle.mv_calls.specs.Keeping.{kept_of, nothing_kept}
 use Rattle.mv_calls.specs.Made.{told_by}
-use Rattle.mv_calls.specs.Program.{Program, Do, Done, Early, Wrong, Call, Says, left, entries, noted}
+use Rattle.mv_calls.specs.Program.{Program, Do, Done, Early, Wrong, Call, Says, left, entries, followed, noted}
 use Rattle.mv_calls.specs.Runs.{heard_in, left_in}
 use Rattle.mv_calls.proofs.Interleaved.{callers_exist}
 use Rattle.mv_calls.proofs.Making.{noted_again}
@@ -34,8 +34,8 @@ use Rattle.mv_work.specs.Ran.{Ran, RanOut, IsOver}
 use Rattle.mv_work.specs.Recording.{IsLeft}
 use Rattle.mv_work.specs.Records.{JobRecord}
 use Rattle.mv_work.specs.Works.{AreWorked, HasWorked, IsWorked, ends_found, records}
-use Rattle.mv_work.proofs.brought.Alike.{Alike, alike_done_back, alike_left, alike_says}
-use Rattle.mv_work.proofs.brought.Forgetting.{NothingKept, initiating_alike}
+use Rattle.mv_work.proofs.brought.Forgetting.{done_noted, forgotten, initiating_forgets}
+use Rattle.mv_work.proofs.Runs.{out_done, out_wrong, ran_astray, ran_last}
 use Rattle.mv_wait.proofs.Parts.{one_of}
 
 -- a new task heard just the events that it made
@@ -55,35 +55,16 @@ is_done a Early over right = absurd over
 
 -- ---- an initiator that notes is one of the plan
 
-forget_over : (records : List JobRecord) (p : Program (List JobRecord)) (q : Program (List ℕ)) → IsOver records p → Alike NothingKept p q
-    → IsOver [] q
-forget_over records (Done a) (Done b) over w = w
-forget_over records Wrong Wrong over w = tt
-forget_over records (Do o op next) q over w = absurd over
-forget_over records Early q over w = absurd over
-forget_over records p q over w = absurd w
-
-module _ (c : Setup) (deck : List JobData) (m : ℕ) (records : List JobRecord) {t u : CallerFace}
-    (r : RanOut (initiating_noted c deck m) records t u) where
-  left_alike : Alike NothingKept r.last (left (initiating c deck m (kept_of t.number t.log)) r.ran.events)
-  left_alike =
-      subst (λ p. Alike NothingKept p (left (initiating c deck m (kept_of t.number t.log)) r.ran.events)) r.ran.leaves
-      (alike_left NothingKept (initiating_noted c deck m (kept_of t.number t.log)) (initiating c deck m (kept_of t.number t.log))
-      r.ran.events (initiating_alike c deck m (kept_of t.number t.log)))
-
-  pub forgets : RanOut (initiating c deck m) [] t u
-  forgets = record {
-    last = left (initiating c deck m (kept_of t.number t.log)) r.ran.events;
-    over = forget_over records r.last (left (initiating c deck m (kept_of t.number t.log)) r.ran.events) r.over left_alike;
-    ran = record {
-      events = r.ran.events;
-      went = r.ran.went;
-      says = (alike_says NothingKept (initiating_noted c deck m (kept_of t.number t.log)) (initiating c deck m (kept_of t.number t.log))
-          r.ran.events (initiating_alike c deck m (kept_of t.number t.log))).0 r.ran.says;
-      leaves = refl;
-      quiet = r.ran.quiet;
-    };
-  }
+forgets : (c : Setup) (deck : List JobData) (m : ℕ) {records : List JobRecord} {t u : CallerFace}
+    → RanOut (initiating_noted c deck m) records t u → RanOut (initiating c deck m) [] t u
+forgets c deck m {records} {t} {u} r =
+    subst (λ call. RanOut call [] t u) (initiating_forgets c deck m) (go r.last r.over r.ran) where
+      go : (p : Program (List JobRecord)) → IsOver records p → Ran (initiating_noted c deck m) p t u
+          → RanOut (followed (initiating_noted c deck m) forgotten) [] t u
+      go (Done records) over x = out_done (ran_last x forgotten refl)
+      go Wrong over x = out_wrong [] (ran_astray x forgotten)
+      go (Do object op next) over x = absurd over
+      go Early over x = absurd over
 
 -- ---- what a task of each number has made
 
@@ -107,7 +88,7 @@ plan_made deck i w t u made = go (t.number == reader) (t.number == scheduler) (t
   go true y z made = made
   go false true z made = made
   go false false true made = made
-  go false false false made = forgets (spool_setup deck i) deck (t.number - 2) (records w) made
+  go false false false made = forgets (spool_setup deck i) deck (t.number - 2) made
 
 -- an initiator's records
 initiator_made : (deck : List JobData) (i m : ℕ) (w : Work) (t u : CallerFace) → t.number ≡ initiator m → m < i
@@ -228,9 +209,7 @@ module _ (deck : List JobData) (i : ℕ) (b : BoardFace) (works : List Work) (ta
       let r = initiator_made deck i m (work k) w.before (back k) w.fresh.number low (made k lt) in
       let comes = comes_to (initiating_noted c deck m) r.last k lt r.ran in
       let plan = subst (λ call. left (call kept) hs ≡ Done (answered i k (work k))) (initiator_is deck i m low) (done_at k lt) in
-      let noted = alike_done_back NothingKept (left (initiating_noted c deck m kept) hs) (left (initiating c deck m kept) hs)
-      (answered i k (work k)) (alike_left NothingKept (initiating_noted c deck m kept) (initiating c deck m kept) hs
-      (initiating_alike c deck m kept)) plan in
+      let noted = done_noted c deck m kept hs (answered i k (work k)) plan in
       noted.1 ∙ ap (λ rs. Done rs) (subst (IsOver (records (work k))) (sym comes ∙ noted.1) r.over)
 
   -- so the history is a run, and what the tasks brought back is what their parts of it say

@@ -1,7 +1,6 @@
 -- What the initiators of a run bring back: the laws of src/laws.rt, in the order in which to read them.
 
--- programs that say the same; initiators_note_what_they_do
-pub mod Alike
+-- whoever forgets the records has the plan's programs: initiators_note_what_they_do
 pub mod Forgetting
 -- calls that pause nowhere; what programs bring, by what their caller was told
 pub mod Quiet

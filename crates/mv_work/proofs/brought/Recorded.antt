@@ -28,11 +28,9 @@ use Rattle.mv_plan.proofs.volumes.GivenCodes.{codes_of}
 use Rattle.mv_plan.proofs.walks.Histories.{Stood, stood}
 use Rattle.mv_plan.proofs.walks.Walks.{start_points}
 use Rattle.mv_work.specs.Records.{JobRecord}
-use Rattle.mv_work.specs.Noting.{initiating_noted}
 use Rattle.mv_work.specs.Recording.{AreNotesOf, IsRecorded, AreRecorded, AreBrought, all_records}
 use Rattle.mv_work.proofs.Histories.{initiator_is}
-use Rattle.mv_work.proofs.brought.Alike.{alike_says}
-use Rattle.mv_work.proofs.brought.Forgetting.{NothingKept, initiating_alike}
+use Rattle.mv_work.proofs.brought.Forgetting.{forgets_says}
 use Rattle.mv_work.proofs.brought.Histories.{GivesInitiators, entries_heard, plain_from, all_given}
 use Rattle.mv_work.proofs.brought.OneRecord.{OneAbout, list_at, one_record}
 use Rattle.mv_work.proofs.brought.Brings.{ArePlain, nothing_told}
@@ -67,14 +65,13 @@ module _ (deck : List JobData) (initiators : ℕ) (some : 1 ≤ initiators) (pla
       let says : Says (initiating c deck i (nothing_kept (initiator i))) (heard_by i) =
       subst (λ call. Says (call (nothing_kept (initiator i))) (heard_by i)) (initiator_is deck initiators i lt)
       (run.follow.says (initiator i) (omega arith)) in
-      let noted : Says (initiating_noted c deck i (nothing_kept (initiator i))) (heard_by i) =
-      (alike_says NothingKept (initiating_noted c deck i (nothing_kept (initiator i)))
-      (initiating c deck i (nothing_kept (initiator i))) (heard_by i) (initiating_alike c deck i (nothing_kept (initiator i)))).1 says in
+      let noted = (forgets_says c deck i (nothing_kept (initiator i)) (heard_by i)).1 says in
       let own : entries (heard_by i) ≡ of (initiator i) es = entries_heard c (initiator i) es in
       subst (λ l. AreRounds deck (codes_of l) (list_at records i)) own
       (initiator_rounds c deck i (list_at records i) (nothing_kept (initiator i)) (heard_by i) planned.jobs noted (brought.each i lt)
       (subst (λ l. ArePlain nothing_told l) (sym own)
-      (plain_from c (initiator i) es (are_counted_alone deck initiators some planned es run).scans (opening c) [] es nothing_told refl run.follow.legal tt)))
+      (plain_from c (initiator i) es (are_counted_alone deck initiators some planned es run).scans (opening c) [] es nothing_told refl
+      run.follow.legal tt)))
 
   all_own : AllByRecursion (IsOwn deck) (all_records records)
   all_own = all_flat (IsOwn deck) records (λ i lt. (rounds_of i (let n = brought.count in omega arith)).1)
@@ -83,8 +80,8 @@ module _ (deck : List JobData) (initiators : ℕ) (some : 1 ≤ initiators) (pla
   is_recorded : (j : ℕ) → j < length deck → IsRecorded deck (all_records records) j
   is_recorded j lt =
       let one : OneAbout j (right_code deck j) (all_records records) =
-      one_record deck initiators es records j (right_code deck j) (few_jobs deck initiators planned) lt ((are_handed_out deck initiators some planned es run).jobs j lt).given givers
-      brought.count rounds_of in
+      one_record deck initiators es records j (right_code deck j) (few_jobs deck initiators planned) lt
+      ((are_handed_out deck initiators some planned es run).jobs j lt).given givers brought.count rounds_of in
       let found : AllByRecursion (IsOwn deck) (one.found ∷ []) =
       subst (λ rs. AllByRecursion (IsOwn deck) rs) one.alone
       (all_filter (IsOwn deck) (λ r. r.job == j) (all_records records) all_own) in
