@@ -1,7 +1,8 @@
-use Rattle.mv_work.proofs.Marks.{end_is}
+use Rattle.std.proofs.Common.{refl}
+use Rattle.mv_work.proofs.Marks.{marked}
 use Rattle.mv_work.proofs.records.InitiatorRecord.end.Goals as goal
 
 pub returns : goal.returns
 returns c = record {
-  ended = rw (← c.self.view_is) (end_is _ _ _ _ _ _ c.push_reserved.ensures.items c.push_reserved.ensures.capacity);
+  ended = rw (← c.self.view_is) (marked _ _ _ _ _ c.push_reserved.ensures.items c.push_reserved.ensures.capacity refl);
 }
