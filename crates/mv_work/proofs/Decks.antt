@@ -1,21 +1,24 @@
 -- Decks that are sound, job by job, and their configuration.
-use Rattle.std.proofs.Common.{◌≡◌, ℕ, zero, suc, ◌+◌, ◌*◌, ◌<◌, ◌≤◌, List, [], ◌∷◌, ◌++◌, length, get_or, replicate, refl, sym, ap, ◌∙◌}
+use Rattle.std.proofs.Common.{◌≡◌, ℕ, zero, suc, ◌+◌, ◌-◌, ◌*◌, ◌<◌, ◌≤◌, List, [], ◌∷◌, ◌++◌, length, get_or, replicate, sym, ap, ◌∙◌}
 use Rattle.std.proofs.Common.{arith}
 use Rattle.std.specs.List.{AllByRecursion}
-use Rattle.std.proofs.lemmas.List.{length-append, length-map, get_or-map}
+use Rattle.std.proofs.lemmas.List.{length-map, length-replicate, get_or-map, get_or-replicate, get_or_append_left}
+use Rattle.std.proofs.Math.Seq.{get_or-append_seam}
 use Rattle.mv_board.specs.Faces.{BoardFace}
 use Rattle.mv_deck.specs.declared.deck.After.{After}
 use Rattle.mv_deck.specs.declared.deck.Job.{Job}
 use Rattle.mv_deck.specs.declared.deck.Step.{Step}
 use Rattle.mv_deck.specs.Deck.{JobData, job_data}
 use Rattle.mv_deck.specs.Operand.{most_after}
-use Rattle.mv_deck.specs.Sound.{IsSound, IsSoundJob, IsSoundAfter, AreSoundJobs, AreSoundSteps, HasGoodNumbers}
+use Rattle.mv_deck.specs.Sound.{IsSound, AreSoundJobs, AreSoundSteps, HasGoodNumbers}
 use Rattle.mv_deck.specs.Weight.{all_events}
 use Rattle.mv_machine.specs.Reach.{reach, release_cost}
-use Rattle.mv_machine.specs.Setup.{Setup, element_owner}
+use Rattle.mv_machine.specs.Setup.{Setup}
 use Rattle.mv_plan.specs.Jobs.{job_at, no_job}
 use Rattle.mv_plan.specs.SpoolSetup.{task_budgets, entered, done}
-use Rattle.mv_plan.proofs.deck.Setup.{facts}
+use Rattle.mv_plan.proofs.deck.Ends.{sound_job}
+use Rattle.mv_plan.proofs.deck.Planned.{planned}
+use Rattle.mv_plan.proofs.deck.Plans.{IsPlannedJob}
 use Rattle.mv_plan.proofs.lists.Lists.{all_map}
 use Rattle.mv_work.specs.Parts.{HasInitiator, jobs_of}
 use Rattle.mv_work.specs.Waiting.{IsSpool}
@@ -30,47 +33,31 @@ job_count deck = length-map deck job_data
 pub job_read : (deck : List Job) (j : ℕ) (job : Job) → j < length deck → get_or deck j job ≡ job → job_at (jobs_of deck) j ≡ job_data job
 job_read deck j job lt is = get_or-map job_data deck j job no_job lt ∙ ap job_data is
 
--- each job is sound behind as many as its number
-sound_behind : (before jobs : List JobData) (j : ℕ) (d : JobData) → AreSoundJobs before jobs → j < length jobs
-    → (earlier : List JobData) × (length earlier ≡ length before + j) × IsSoundJob earlier (get_or jobs j d)
-sound_behind before [] j d sound lt = absurd (omega arith)
-sound_behind before (job ∷ jobs) zero d sound lt = (before, omega arith, sound.0)
-sound_behind before (job ∷ jobs) (suc j) d sound lt =
-    let rest = sound_behind (before ++ job ∷ []) jobs j d sound.1 (omega arith) in
-    let count = rest.1 in
-    let one = length-append before (job ∷ []) in (rest.0, omega arith, rest.2)
-
--- and so is the job of a number
-sound_job : (deck : List Job) (i j : ℕ) → IsSound (jobs_of deck) i → j < length deck
-    → (earlier : List JobData) × (length earlier ≡ j) × IsSoundJob earlier (job_at (jobs_of deck) j)
-sound_job deck i j sound lt =
-    let n = job_count deck in
-    let at = sound_behind [] (jobs_of deck) j no_job sound.jobs_stand (omega arith) in
-    let count : length at.0 ≡ 0 + j = at.1 in (at.0, omega arith, at.2)
-
 good_numbers : (done steps : List Step) → AreSoundSteps done steps → AllByRecursion HasGoodNumbers steps
 good_numbers done [] sound = tt
 good_numbers done (step ∷ steps) sound = (sound.0.numbers, good_numbers (done ++ step ∷ []) steps sound.1)
 
--- the numbers of its steps are in their ranges
-pub job_numbers : (deck : List Job) (i j : ℕ) → IsSound (jobs_of deck) i → j < length deck
-    → AllByRecursion HasGoodNumbers (job_at (jobs_of deck) j).steps
-job_numbers deck i j sound lt =
-    let own = sound_job deck i j sound lt in good_numbers [] (job_at (jobs_of deck) j).steps own.2.steps
+numbers_of : (before jobs : List JobData) (j : ℕ) → AreSoundJobs before jobs → AllByRecursion HasGoodNumbers (job_at jobs j).steps
+numbers_of before [] j sound = tt
+numbers_of before (job ∷ jobs) zero sound = good_numbers [] job.steps sound.0.steps
+numbers_of before (job ∷ jobs) (suc j) sound = numbers_of (before ++ job ∷ []) jobs j sound.1
 
--- it waits for few jobs
-pub after_few : (deck : List Job) (i j : ℕ) → IsSound (jobs_of deck) i → j < length deck
-    → length (job_at (jobs_of deck) j).after ≤ most_after
-after_few deck i j sound lt = let own = sound_job deck i j sound lt in own.2.few
+module _ (deck : List Job) (i j : ℕ) (sound : IsSound (jobs_of deck) i) where
+  -- the numbers of a job's steps are in their ranges
+  pub job_numbers : AllByRecursion HasGoodNumbers (job_at (jobs_of deck) j).steps
+  job_numbers = numbers_of [] (jobs_of deck) j sound.jobs_stand
 
--- of the deck
-pub after_earlier : (deck : List Job) (i j : ℕ) → IsSound (jobs_of deck) i → j < length deck
-    → AllByRecursion (λ (part : After). part.job < length deck) (job_at (jobs_of deck) j).after
-after_earlier deck i j sound lt =
-    let own = sound_job deck i j sound lt in
-    let count = own.1 in
-    all_map (λ (part : After) (is : IsSoundAfter (length own.0) part). let less = is.0 in let few = count in omega arith)
-    (job_at (jobs_of deck) j).after own.2.earlier
+  module _ (lt : j < length deck) where
+    job_is : IsPlannedJob (0 + j) (job_at (jobs_of deck) j)
+    job_is = let n = job_count deck in sound_job 0 (jobs_of deck) j (planned (jobs_of deck) i sound).jobs (omega arith)
+
+    -- it waits for few jobs
+    pub after_few : length (job_at (jobs_of deck) j).after ≤ most_after
+    after_few = job_is.few
+
+    -- of the deck
+    pub after_earlier : AllByRecursion (λ (part : After). part.job < length deck) (job_at (jobs_of deck) j).after
+    after_earlier = all_map (λ (part : After) (is : part.job < 0 + j). omega arith) (job_at (jobs_of deck) j).after job_is.earlier
 
 -- ---- the configuration
 
@@ -106,34 +93,21 @@ module _ {face : BoardFace} {deck : List Job} {i : ℕ} (spool : IsSpool face de
       let post : reach face.config b ≡ 3 = ap (reach face.config) e ∙ ap (λ m. reach face.config (m + j)) (sym n)
       ∙ ap (λ s. reach s (length (jobs_of deck) + j)) spool.config ∙ reach_done (jobs_of deck) i j (omega arith) in omega arith
 
-  -- an element has its owner's number
-  pub own_number : (e k : ℕ) → 0 < i → element_owner face.config e ≡ k → e ≡ k
-  own_number e k some own = sym ((facts (jobs_of deck) i (omega arith)).element e) ∙ sym (ap (λ s. element_owner s e) spool.config) ∙ own
-
 -- ---- budgets
-
-same_for_each : (x y i m : ℕ) → m < i → get_or (replicate i x ++ y ∷ []) m 0 ≡ x
-same_for_each x y zero m lt = absurd (omega arith)
-same_for_each x y (suc i) zero lt = refl
-same_for_each x y (suc i) (suc m) lt = same_for_each x y i m (omega arith)
-
-last_behind : (x y i m : ℕ) → m ≡ i → get_or (replicate i x ++ y ∷ []) m 0 ≡ y
-last_behind x y zero zero is = refl
-last_behind x y zero (suc m) is = absurd (omega arith)
-last_behind x y (suc i) zero is = absurd (omega arith)
-last_behind x y (suc i) (suc m) is = last_behind x y i m (omega arith)
 
 -- an initiator's
 pub initiator_budget : (deck : List JobData) (i k : ℕ) → 2 ≤ k → k < i + 2
     → get_or (task_budgets deck i) k 0 ≡ 5 + 7 * length deck + all_events deck
-initiator_budget deck i zero low high = absurd (omega arith)
-initiator_budget deck i (suc zero) low high = absurd (omega arith)
-initiator_budget deck i (suc (suc m)) low high =
-    same_for_each (5 + 7 * length deck + all_events deck) (2 * length deck) i m (omega arith)
+initiator_budget deck i k low high =
+    let most = 5 + 7 * length deck + all_events deck in
+    let count = length-replicate i most in
+    ap (λ n. get_or (task_budgets deck i) n 0) (let e : k ≡ suc (suc (k - 2)) = omega arith in e)
+    ∙ get_or_append_left (replicate i most) (2 * length deck ∷ []) 0 (k - 2) (omega arith) ∙ get_or-replicate i (k - 2) most 0 (omega arith)
 
 -- the writer's
 pub writer_budget : (deck : List JobData) (i k : ℕ) → k ≡ i + 2 → get_or (task_budgets deck i) k 0 ≡ 2 * length deck
-writer_budget deck i zero is = absurd (omega arith)
-writer_budget deck i (suc zero) is = absurd (omega arith)
-writer_budget deck i (suc (suc m)) is =
-    last_behind (5 + 7 * length deck + all_events deck) (2 * length deck) i m (omega arith)
+writer_budget deck i k is =
+    let most = 5 + 7 * length deck + all_events deck in
+    let count = length-replicate i most in
+    ap (λ n. get_or (task_budgets deck i) n 0) (let e : k ≡ suc (suc (length (replicate i most))) = omega arith in e)
+    ∙ get_or-append_seam (replicate i most) (2 * length deck) [] 0

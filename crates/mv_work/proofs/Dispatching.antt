@@ -8,7 +8,7 @@ use Rattle.std.proofs.lemmas.List.{drop_more, drop_all}
 use Rattle.std.proofs.lemmas.List.Sums.{sum_by-cons}
 use Rattle.mv_board.specs.Faces.{CallerFace}
 use Rattle.mv_machine.specs.Setup.{Setup}
-use Rattle.mv_calls.specs.Program.{Call, Done, Wrong, accepted, finished, followed, for_each, wrong}
+use Rattle.mv_calls.specs.Program.{Call, Done, Wrong, accepted, finished, followed, for_each}
 use Rattle.mv_calls.specs.Waits.{extend, wait}
 use Rattle.mv_deck.specs.declared.deck.After.{After}
 use Rattle.mv_deck.specs.Deck.{JobData}
@@ -24,7 +24,7 @@ use Rattle.mv_work.specs.Parts.{lowest_complete}
 use Rattle.mv_work.specs.Ran.{Ran, Leads}
 use Rattle.mv_work.specs.Scheduling.{scheduler_left, jobs_from, jobs_due, dismissals_from, first_idle, exit_set}
 use Rattle.mv_work.specs.Scheduling.{then_jobs}
-use Rattle.mv_work.proofs.Calls.{accepted-assoc, blocks_asked_in, found_in, none_in}
+use Rattle.mv_work.proofs.Calls.{accepted-assoc, blocks_asked_in, found_is}
 use Rattle.mv_work.proofs.Runs.{leads_astray, leads_on}
 use Rattle.mv_work.proofs.Waits.{leads_as}
 
@@ -57,22 +57,14 @@ exit_first c deck i j skipped = accepted-assoc (extend c (done (length deck) j) 
 
 -- ---- what was found
 
-module _ {A B : Type 0} (slots : List (Option ℕ)) (f : ℕ → ℕ → Call A) (rest : A → Call B) where
-  -- nothing was: what was to follow is foreseen nowhere
-  pub lost_is : lowest_complete 0 slots ≡ wrong → followed (lowest f 0 slots) rest ≡ wrong
-  lost_is is = ap (λ call. followed call rest) (none_in f slots is)
+-- the call of what was found was made, or went astray
+module _ {A B : Type 0} (slots : List (Option ℕ)) (f : ℕ → ℕ → Call A) (rest : A → Call B) {u v : CallerFace} (r : ℕ × ℕ)
+    (is : lowest_complete 0 slots ≡ finished r) where
+  pub found_done : {a : A} → Ran (f r.0 r.1) (Done a) u v → Leads (followed (lowest f 0 slots) rest) (rest a) u v
+  found_done x = leads_on rest (leads_as u (found_is slots f rest is)) x
 
-  -- this was
-  pub found_is : (r : ℕ × ℕ) → lowest_complete 0 slots ≡ finished r → followed (lowest f 0 slots) rest ≡ followed (f r.0 r.1) rest
-  found_is r is = ap (λ call. followed call rest) (found_in f slots r is)
-
-  module _ {u v : CallerFace} (r : ℕ × ℕ) (is : lowest_complete 0 slots ≡ finished r) where
-    -- its call was made, or went astray
-    pub found_done : {a : A} → Ran (f r.0 r.1) (Done a) u v → Leads (followed (lowest f 0 slots) rest) (rest a) u v
-    found_done x = leads_on rest (leads_as u (found_is r is)) x
-
-    pub found_astray : Ran (f r.0 r.1) Wrong u v → Ran (followed (lowest f 0 slots) rest) Wrong u v
-    found_astray x = leads_astray rest (leads_as u (found_is r is)) x
+  pub found_astray : Ran (f r.0 r.1) Wrong u v → Ran (followed (lowest f 0 slots) rest) Wrong u v
+  found_astray x = leads_astray rest (leads_as u (found_is slots f rest is)) x
 
 -- there is no job to wait for
 pub is_none : {A : Type 0} (xs : List A) → true ≡ (length xs == 0) → xs ≡ []

@@ -1,6 +1,6 @@
 -- Calls for each number of a range, blocks that exist, and the ends that an AFTER list accepts.
 use Rattle.std.proofs.Common.{◌≡◌, ℕ, zero, suc, ◌+◌, ◌-◌, ◌*◌, ◌<◌, ◌≤◌, ◌||◌, List, [], ◌∷◌, length, map, drop}
-use Rattle.std.proofs.Common.{get_or, refl, ap, ◌∙◌, subst, arith}
+use Rattle.std.proofs.Common.{Bool, get_or, refl, sym, ap, ◌∙◌, subst, arith}
 use Rattle.std.specs.List.{AllByRecursion, range_with_len}
 use Rattle.std.proofs.lemmas.List.{drop_more}
 use Rattle.mv_board.specs.Faces.{CallerFace}
@@ -15,12 +15,9 @@ use Rattle.mv_work.specs.Parts.{is_end_above}
 use Rattle.mv_work.specs.Ran.{Ran, Leads}
 use Rattle.mv_work.proofs.Runs.{leads_on}
 
-range_when : (a n m : ℕ) → n ≡ suc m → range_with_len a n ≡ a ∷ range_with_len (a + 1) m
-range_when a n m e = ap (λ k. range_with_len a k) e
-
 -- the numbers from a on, below n
 pub range_next : (a n : ℕ) → a < n → range_with_len a (n - a) ≡ a ∷ range_with_len (a + 1) (n - (a + 1))
-range_next a n lt = range_when a (n - a) (n - (a + 1)) (omega arith)
+range_next a n lt = ap (λ k. range_with_len a k) (let e : n - a ≡ suc (n - (a + 1)) = omega arith in e)
 
 pub range_over : (a n : ℕ) → n ≤ a → range_with_len a (n - a) ≡ []
 range_over a n le = ap (λ k. range_with_len a k) (let e : n - a ≡ 0 = omega arith in e)
@@ -61,10 +58,12 @@ one_above part parts (Complete end) slots = refl
 one_above part parts Open slots = refl
 
 -- the next of what is left
-pub next_above : (after : List After) (slots : List WaitSlot) (k : ℕ) (d : After) (e : WaitSlot) → k < length after → k < length slots
-    → some_end_above (drop k after) (slots_of (drop k slots)) ≡ (is_end_above (get_or after k d) (slot_of (get_or slots k e))
-    || some_end_above (drop (k + 1) after) (slots_of (drop (k + 1) slots)))
-next_above after slots k d e lt within =
+pub next_above : (after : List After) (slots : List WaitSlot) (k : ℕ) (d : After) (e : WaitSlot) {above : Bool} → k < length after
+    → k < length slots → above ≡ is_end_above (get_or after k d) (slot_of (get_or slots k e))
+    → some_end_above (drop k after) (slots_of (drop k slots))
+    ≡ (above || some_end_above (drop (k + 1) after) (slots_of (drop (k + 1) slots)))
+next_above after slots k d e lt within is =
     ap (λ ps. some_end_above ps (slots_of (drop k slots))) (drop_more after k d lt)
     ∙ ap (λ ss. some_end_above (get_or after k d ∷ drop (k + 1) after) (slots_of ss)) (drop_more slots k e within)
     ∙ one_above (get_or after k d) (drop (k + 1) after) (get_or slots k e) (drop (k + 1) slots)
+    ∙ ap (λ b. b || some_end_above (drop (k + 1) after) (slots_of (drop (k + 1) slots))) (sym is)

@@ -53,12 +53,6 @@ left_less f (true ∷ given) (job ∷ jobs) (suc j) d lt same is = left_less f g
 
 -- ---- which jobs were given
 
--- whether a job was, as it was read
-pub given_at : (given : List Bool) (j : ℕ) (d is : Bool) → j < length given → d ≡ get_or given j d → d ≡ is → get_or given j false ≡ is
-given_at [] j d is lt read so = absurd (omega arith)
-given_at (b ∷ given) zero d is lt read so = sym read ∙ so
-given_at (b ∷ given) (suc j) d is lt read so = given_at given j d is (omega arith) read so
-
 pub none_given : (given : List Bool) → AllByRecursion (λ b. b ≡ false) given → AreGiven [] given
 none_given given none = record { each = λ j lt. sym (all_get (λ b. b ≡ false) given j false none refl) }
 
@@ -153,11 +147,9 @@ module _ (c : Setup) (deck : List JobData) (me more job : ℕ) (records : List J
   -- it is not to be run
   pub job_skipped : (b : Bool) → b ≡ true → job_then c deck me more records next (record { job = job; skipped = b })
       ≡ steps_then c deck me more records next job (record_of job not_run [])
-  job_skipped true is = job_ends (finished (record_of job not_run []))
-  job_skipped false is = absurd (cc is)
+  job_skipped b is = rw is (job_ends (finished (record_of job not_run [])))
 
   -- its steps are to be done
   pub job_begun : (b : Bool) → b ≡ false → job_then c deck me more records next (record { job = job; skipped = b })
       ≡ followed (steps_noted c job (λ latch. None) 0 [] (job_at deck job).steps) (steps_then c deck me more records next job)
-  job_begun true is = absurd (cc is)
-  job_begun false is = job_ends (steps_noted c job (λ latch. None) 0 [] (job_at deck job).steps)
+  job_begun b is = rw is (job_ends (steps_noted c job (λ latch. None) 0 [] (job_at deck job).steps))

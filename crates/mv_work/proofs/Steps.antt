@@ -32,16 +32,12 @@ kept_with tokens latch token lt i k = by_case (k == latch) refl i where
       ap (λ o. option_map id_of o) (get_or-set_other tokens latch k (Some token) None (λ q. absurd (cc (sym is ∙ eq-eqb k latch q))))
       ∙ sym (ap (λ (b : Bool). if b then Some token.id else requests_of tokens k) is)
 
--- a job that has no request yet
-pub no_requests : (tokens : List (Option LatchToken)) → AllByRecursion (λ o. o ≡ None) tokens → requests_of tokens ≡ (λ (latch : ℕ). None)
-no_requests tokens all i latch = ap (λ o. option_map id_of o) (all_get (λ o. o ≡ None) tokens latch None all refl) i
-
--- the tokens of a job that begins
-abbrev pub no_tokens : List (Option LatchToken)
-no_tokens = None ∷ None ∷ None ∷ None ∷ None ∷ None ∷ None ∷ None ∷ []
-
-pub none_each : AllByRecursion (λ o. o ≡ None) no_tokens
-none_each = (refl, (refl, (refl, (refl, (refl, (refl, (refl, (refl, tt))))))))
+-- a job that begins has no request yet
+pub no_requests : requests_of (None ∷ None ∷ None ∷ None ∷ None ∷ None ∷ None ∷ None ∷ []) ≡ (λ (latch : ℕ). None)
+no_requests i latch =
+    let none : List (Option LatchToken) = None ∷ None ∷ None ∷ None ∷ None ∷ None ∷ None ∷ None ∷ [] in
+    ap (λ o. option_map id_of o) (all_get (λ o. o ≡ None) none latch None
+    (refl, (refl, (refl, (refl, (refl, (refl, (refl, (refl, tt)))))))) refl) i
 
 -- a job that still runs, with what is noted now
 pub still_at : {deck : List JobData} {old : Notes} {round job marks : ℕ} (noted : Recorded) (less : ℕ) → noted.jobs ≡ old.noted.jobs

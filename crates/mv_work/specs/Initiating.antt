@@ -63,15 +63,11 @@ steps_from c deck me notes r place requests =
     followed (steps_noted c r.job requests place notes.noted.notes (drop place (job_at deck r.job).steps))
     (steps_then c deck me (rounds_after deck r.round) notes.noted.jobs r.next r.job)
 
--- behind the grant of a latch
-abbrev pub latch_held : Setup → List JobData → ℕ → Notes → Running → ℕ → Call (List JobRecord)
-latch_held c deck me notes r id =
-    steps_from c deck me notes r r.step (with_at (requests_of r.requests) r.latch (Some id))
-
 -- what is left to do behind the answer
 abbrev pub initiator_left : Setup → List JobData → ℕ → Notes → InitiatorStage → Answer → Call (List JobRecord)
 initiator_left c deck me notes (Pause round) = on_gift (given_then c deck me (length deck - round) notes.noted.jobs)
-initiator_left c deck me notes (Latch r) = on_grant (latch_held c deck me notes r)
+initiator_left c deck me notes (Latch r) =
+    on_grant (λ id. steps_from c deck me notes r r.step (with_at (requests_of r.requests) r.latch (Some id)))
 
 -- ---- events and marks that may be made
 

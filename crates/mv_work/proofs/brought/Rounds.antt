@@ -22,6 +22,7 @@ use Rattle.mv_plan.proofs.deck.Plans.{ArePlannedJobs}
 use Rattle.mv_plan.proofs.points.InitiatorSound.{named_is}
 use Rattle.mv_plan.proofs.volumes.GivenCodes.{codes_of}
 use Rattle.mv_work.specs.declared.records.Noted.{Noted}
+use Rattle.mv_work.specs.Initiating.{job_then}
 use Rattle.mv_work.specs.Records.{JobRecord}
 use Rattle.mv_work.specs.Noting.{record_of, all_steps_noted, job_noted, rounds_noted, initiating_noted}
 use Rattle.mv_work.specs.Recording.{AreNotesOf}
@@ -96,15 +97,10 @@ module _ (c : Setup) (deck : List JobData) (planned : ArePlannedJobs 0 deck) (i 
   Takes codes records = (new : List JobRecord) (t : Past) → AllByRecursion (IsOwn deck) new
       → t.codes ≡ codes ++ (map code_named new ++ 0 ∷ []) → R t (records ++ new)
 
-  -- a job that was named, and the rounds behind it
-  abbrev then_noted : ℕ → List JobRecord → Gift → Named → Call (List JobRecord)
-  then_noted more records gift named =
-      followed (job_noted c deck named) (λ r. rounds_noted c deck i more (records ++ r ∷ []) gift.next)
-
   -- what follows a gift, by whether its code is 0
   abbrev given_call : Bool → ℕ → List JobRecord → Gift → Call (List JobRecord)
   given_call b more records gift = if b then accepted (deallocate c gift.next) (λ closed. finished records)
-      else named_by (job_named (length deck) gift.code) (map (λ r. r.job) records) more (then_noted more records gift)
+      else named_by (job_named (length deck) gift.code) (map (λ r. r.job) records) more (job_then c deck i more records gift.next)
 
   -- so it is where so many rounds are left
   abbrev AreSo : ℕ → Type 0
@@ -119,7 +115,7 @@ module _ (c : Setup) (deck : List JobData) (planned : ArePlannedJobs 0 deck) (i 
         subst (λ rs. R t rs) (append-nil records) (take [] t tt (e ∙ told ∙ ap (λ n. codes ++ n ∷ []) z)))
 
     named_to : (more : ℕ) → AreSo more → (named : Named) → named.job < length deck → gift.code ≡ code_of named.job named.skipped
-        → Brings R u (then_noted more records gift named k)
+        → Brings R u (job_then c deck i more records gift.next named k)
     named_to more so named lt is =
         brings_then (IsOneOf deck named u.codes) R u k (job_noted c deck named k) _ (job_brings c deck planned named lt u k) (λ r j t w.
         let same : gift.code ≡ code_named r =
@@ -130,14 +126,14 @@ module _ (c : Setup) (deck : List JobData) (planned : ArePlannedJobs 0 deck) (i 
         (q ∙ ap (λ cs. cs ++ rest) (w.1 ∙ told) ∙ append_assoc codes (gift.code ∷ []) rest ∙ ap (λ n. codes ++ (n ∷ rest)) same))))
 
     slot_to : (more : ℕ) → AreSo more → (slot : Option Named) (times : ℕ) → job_named (length deck) gift.code ≡ slot
-        → Brings R u (named_by slot (map (λ r. r.job) records) times (then_noted more records gift) k)
+        → Brings R u (named_by slot (map (λ r. r.job) records) times (job_then c deck i more records gift.next) k)
     slot_to more so None times q = tt
     slot_to more so (Some named) zero q = tt
     slot_to more so (Some named) (suc times) q = go (list_any (λ j. j == named.job) (map (λ r. r.job) records)) where
       is : (named.job < length deck) × (gift.code ≡ code_of named.job named.skipped)
       is = named_is (length deck) gift.code named q
 
-      go : (b : Bool) → Brings R u ((if b then wrong else then_noted more records gift named) k)
+      go : (b : Bool) → Brings R u ((if b then wrong else job_then c deck i more records gift.next named) k)
       go true = tt
       go false = named_to more so named is.0 is.1
 

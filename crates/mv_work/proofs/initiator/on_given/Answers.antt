@@ -1,5 +1,5 @@
 use Rattle.std.proofs.Common.{◌≡◌, ℕ, ◌-◌, ◌<◌, Bool, false, true, if◌then◌else◌, List, length, Option, Some, sym, ap, ◌∙◌, arith}
-use Rattle.std.proofs.lemmas.List.{length-set}
+use Rattle.std.proofs.lemmas.List.{get_or_default, length-set}
 use Rattle.mv_deck.specs.declared.deck.Job.{Job}
 use Rattle.mv_plan.specs.SpoolTasks.{Named, job_named}
 use Rattle.mv_pause.specs.Answers.{gift_of, deallocate_answer}
@@ -10,7 +10,7 @@ use Rattle.mv_work.specs.Initiating.{job_marks, steps_events}
 use Rattle.mv_work.specs.Parts.{jobs_of, named_of}
 use Rattle.mv_plan.proofs.points.InitiatorSound.{named_is}
 use Rattle.mv_work.proofs.Decks.{job_count}
-use Rattle.mv_work.proofs.Rounds.{given_at, left_less, one_given, ended, unnamed, last_named, named_now}
+use Rattle.mv_work.proofs.Rounds.{left_less, one_given, ended, unnamed, last_named, named_now}
 use Rattle.mv_work.proofs.Waits.{comes_as, comes_nowhere, rests_less}
 use Rattle.mv_work.proofs.initiator.on_given.Given as bound
 use Rattle.mv_work.proofs.initiator.on_given.Goals as goal
@@ -36,7 +36,8 @@ pub returns-in_err-named : goal.returns-in_err-named
 returns-in_err-named g c = rw c.from_residual.ensures (
     comes_nowhere c.args.task.now
     (unnamed c.args.station.now.config (jobs_of c.args.deck.now) c.args.index c.args.round c.args.notes.now.noted.jobs
-    (gift_of c.args.given) c.if-given-eq-NO_JOB.false (named_so c.args.deck.now c.args.given.code _ c.in_err-named.ensures)) c.requires.rests.quiet)
+    (gift_of c.args.given) c.if-given-eq-NO_JOB.false (named_so c.args.deck.now c.args.given.code _ c.in_err-named.ensures))
+    c.requires.rests.quiet)
 
 pub returns-then-round-jobs : goal.returns-then-round-jobs
 returns-then-round-jobs g c =
@@ -61,7 +62,7 @@ left_is g c b is =
     let place = named_place c.args.deck.now c.args.given.code c.in_ok-named.named c.in_ok-named.ensures in
     named_now c.args.station.now.config (jobs_of c.args.deck.now) c.args.index c.args.round c.args.notes.now.noted.jobs
     (gift_of c.args.given) c.if-given-eq-NO_JOB.false some (omega arith) between.given (omega arith) b
-    (given_at c.args.notes.now.given.items c.in_ok-named.named.job c.index.result.now b (omega arith) c.index.ensures is)
+    (get_or_default c.args.notes.now.given.items c.in_ok-named.named.job false c.index.result.now (omega arith) ∙ sym c.index.ensures ∙ is)
 
 pub returns-then-index : goal.returns-then-index
 returns-then-index g c =
@@ -77,7 +78,7 @@ start_job-requires-clause-at g c =
     let within = between.round in
     let size = between.size in
     let lt = named_place c.args.deck.now c.args.given.code c.in_ok-named.named c.in_ok-named.ensures in
-    let free = given_at given job c.index.result.now false (omega arith) c.index.ensures c.if-index.false in
+    let free = get_or_default given job false c.index.result.now (omega arith) ∙ sym c.index.ensures ∙ c.if-index.false in
     let less = left_less job_marks given deck job false (omega arith) size free in
     let room = between.room in record {
       round = omega arith;
@@ -97,7 +98,7 @@ start_job-requires-clause-rests g c =
     let within = between.round in
     let size = between.size in
     let lt = named_place c.args.deck.now c.args.given.code c.in_ok-named.named c.in_ok-named.ensures in
-    let free = given_at given job c.index.result.now false (omega arith) c.index.ensures c.if-index.false in
+    let free = get_or_default given job false c.index.result.now (omega arith) ∙ sym c.index.ensures ∙ c.if-index.false in
     let less = left_less (λ j. steps_events j.steps) given deck job false (omega arith) size free in
     rests_less c.requires.rests (omega arith)
 

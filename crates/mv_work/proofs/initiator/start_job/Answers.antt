@@ -1,7 +1,7 @@
 use Rattle.mv_work.specs.Initiating.{rounds_after}
 use Rattle.mv_work.specs.Parts.{jobs_of}
 use Rattle.mv_work.proofs.Rounds.{job_skipped, job_begun}
-use Rattle.mv_work.proofs.Steps.{no_requests, no_tokens, none_each}
+use Rattle.mv_work.proofs.Steps.{no_requests}
 use Rattle.mv_work.proofs.Waits.{comes_as}
 use Rattle.mv_work.proofs.initiator.start_job.Goals as goal
 
@@ -16,4 +16,4 @@ returns g c =
     let deck = jobs_of c.args.deck.now in
     comes_as (job_begun c.args.station.now.config deck c.args.index (rounds_after deck c.args.round) c.args.named.job
     c.args.notes.now.noted.jobs c.args.next c.args.named.skipped c.if-named.false)
-    (rw (c.requires.none, no_requests no_tokens none_each) at c.run_on.ensures)
+    (rw (c.requires.none, no_requests) at c.run_on.ensures)

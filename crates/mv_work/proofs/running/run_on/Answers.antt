@@ -1,4 +1,4 @@
-use Rattle.std.proofs.Common.{◌≡◌, ℕ, ◌+◌, ◌<◌, ◌∷◌, List, length, drop, get_or, sym, ap, ◌∙◌, subst, refl, arith}
+use Rattle.std.proofs.Common.{◌≡◌, ℕ, ◌+◌, ◌∷◌, List, length, drop, get_or, sym, ap, ◌∙◌, subst, refl, arith}
 use Rattle.std.proofs.lemmas.List.{drop_more, drop_all}
 use Rattle.std.proofs.lemmas.List.Sums.{sum_by-cons}
 use Rattle.mv_board.specs.Faces.{CallerFace}
@@ -16,7 +16,7 @@ use Rattle.mv_work.specs.Noting.{steps_noted}
 use Rattle.mv_work.specs.Parts.{jobs_of}
 use Rattle.mv_work.specs.Ran.{Leads}
 use Rattle.mv_work.specs.Steps.{IsGoodDid, requests_of}
-use Rattle.mv_work.proofs.Decks.{job_count, job_numbers}
+use Rattle.mv_work.proofs.Decks.{job_numbers}
 use Rattle.mv_work.proofs.Reaches.{release_cost_is}
 use Rattle.mv_work.proofs.Runs.{leads_astray, leads_on, leads_same, leads_then, leads_under}
 use Rattle.mv_work.proofs.Calls.{latch_asked}
@@ -24,7 +24,7 @@ use Rattle.mv_work.proofs.Steps.{still_at}
 use Rattle.mv_work.proofs.Waits.{comes_astray, comes_on}
 use Rattle.mv_work.proofs.running.run_on.Given as bound
 use Rattle.mv_work.proofs.running.run_on.Goals as goal
-use Rattle.mv_work.proofs.running.run_on.Goals.{After-do_step}
+use Rattle.mv_work.proofs.running.run_on.Goals.{After-index-steps-place}
 
 -- the steps that are left of a plan begin with this one, and so do their events and their marks
 record IsNext (plan : List Step) (place : ℕ) (next : Step) : Type 0 where
@@ -32,26 +32,19 @@ record IsNext (plan : List Step) (place : ℕ) (next : Step) : Type 0 where
   events : steps_events (drop place plan) ≡ step_events next + steps_events (drop (place + 1) plan)
   marks : steps_marks (drop place plan) ≡ step_marks next + steps_marks (drop (place + 1) plan)
 
-next_is : (steps plan : List Step) (place : ℕ) (next : Step) → place < length steps → steps ≡ plan → next ≡ get_or steps place next
-    → IsNext plan place next
-next_is steps plan place next lt is at =
-    let within : place < length plan = subst (λ (l : List Step). place < length l) is lt in
-    let begins : drop place plan ≡ next ∷ drop (place + 1) plan =
-    drop_more plan place next within
-    ∙ ap (λ s. s ∷ drop (place + 1) plan) (ap (λ (l : List Step). get_or l place next) (sym is) ∙ sym at) in
-    record {
+-- the steps of the job begin so with the one that was read
+is_next : (g : bound.Over) (c : After-index-steps-place g)
+    → IsNext (job_at (jobs_of c.args.deck.now) c.args.running.job).steps c.loop-place.place c.index-steps-place.result
+is_next g c =
+    let steps = c.steps_of-steps.result.now in
+    let place = c.loop-place.place in
+    let next = c.index-steps-place.result in
+    let begins = drop_more steps place next c.loop-place-test.true ∙ ap (λ s. s ∷ drop (place + 1) steps) (sym c.index-steps-place.is) in
+    rw (← c.steps_of-steps.ensures) (record {
       begins = begins;
-      events = ap steps_events begins ∙ sum_by-cons step_events next (drop (place + 1) plan);
-      marks = ap steps_marks begins ∙ sum_by-cons step_marks next (drop (place + 1) plan);
-    }
-
--- the steps of the job, in the plan
-abbrev plan : (g : bound.Over) (c : After-do_step g) → List Step
-plan g c = (job_at (jobs_of c.args.deck.now) c.args.running.job).steps
-
-is_next : (g : bound.Over) (c : After-do_step g) → IsNext (plan g c) c.loop-place.place c.index-steps-place.result
-is_next g c = next_is c.steps_of-steps.result.now (plan g c) c.loop-place.place c.index-steps-place.result c.loop-place-test.true
-    c.steps_of-steps.ensures c.index-steps-place.is
+      events = ap steps_events begins ∙ sum_by-cons step_events next (drop (place + 1) steps);
+      marks = ap steps_marks begins ∙ sum_by-cons step_marks next (drop (place + 1) steps);
+    })
 
 pub do_step-requires-clause-config : goal.do_step-requires-clause-config
 do_step-requires-clause-config g c =
@@ -63,31 +56,23 @@ do_step-requires-clause-config g c =
 
 pub do_step-requires-clause-numbers : goal.do_step-requires-clause-numbers
 do_step-requires-clause-numbers g c =
-    let count = job_count c.args.deck.now in
-    let steps = (job_at (jobs_of c.args.deck.now) c.args.running.job).steps in
-    let within : c.loop-place.place < length steps =
-    subst (λ (steps : List Step). c.loop-place.place < length steps) c.steps_of-steps.ensures c.loop-place-test.true in
-    subst HasGoodNumbers
-    (ap (λ (steps : List Step). get_or steps c.loop-place.place c.index-steps-place.result) (sym c.steps_of-steps.ensures)
-    ∙ sym c.index-steps-place.is)
-    (one_of HasGoodNumbers steps c.loop-place.place c.index-steps-place.result
-    (job_numbers c.args.deck.now c.args.initiators c.args.running.job c.requires.spool.sound (omega arith)) within)
+    let all = job_numbers c.args.deck.now c.args.initiators c.args.running.job c.requires.spool.sound in
+    subst HasGoodNumbers (sym c.index-steps-place.is) (one_of HasGoodNumbers c.steps_of-steps.result.now c.loop-place.place
+    c.index-steps-place.result (rw (← c.steps_of-steps.ensures) at all) c.loop-place-test.true)
 
 pub do_step-requires-clause-left : goal.do_step-requires-clause-left
 do_step-requires-clause-left g c =
-    let next = next_is c.steps_of-steps.result.now (job_at (jobs_of c.args.deck.now) c.args.running.job).steps c.loop-place.place
-    c.index-steps-place.result c.loop-place-test.true c.steps_of-steps.ensures c.index-steps-place.is in
+    let next = is_next g (goal.at.do_step-requires-clause-left g c).After-index-steps-place in
     let left = c.loop-place.invariant.rests.left in omega arith
 
 pub do_step-requires-clause-room : goal.do_step-requires-clause-room
 do_step-requires-clause-room g c =
-    let next = next_is c.steps_of-steps.result.now (job_at (jobs_of c.args.deck.now) c.args.running.job).steps c.loop-place.place
-    c.index-steps-place.result c.loop-place-test.true c.steps_of-steps.ensures c.index-steps-place.is in
+    let next = is_next g (goal.at.do_step-requires-clause-room g c).After-index-steps-place in
     let room = c.loop-place.invariant.at.room in omega arith
 
 pub loop-place-preserved : goal.loop-place-preserved
 loop-place-preserved g c =
-    let next = is_next g (goal.at.loop-place-preserved g c).After-do_step in
+    let next = is_next g (goal.at.loop-place-preserved g c).After-index-steps-place in
     let since = c.loop-place.invariant in
     let step = c.in-Ok-Went.ensures in
     let does = rw c.in-Ok-Went.field-0-is at step.does in record {
@@ -98,14 +83,14 @@ loop-place-preserved g c =
 
 pub returns-in-Ok-Ended : goal.returns-in-Ok-Ended
 returns-in-Ok-Ended g c =
-    let next = is_next g (goal.at.returns-in-Ok-Ended g c).After-do_step in
+    let next = is_next g (goal.at.returns-in-Ok-Ended g c).After-index-steps-place in
     let step = c.in-Ok-Ended.ensures in
     let does = rw c.in-Ok-Ended.field-0-is at step.does in
     comes_on (leads_on _ (rw next.begins at c.loop-place.invariant.leads) (does _)) (rw step.jobs at c.end_job.ensures)
 
 pub returns-in-Err : goal.returns-in-Err
 returns-in-Err g c =
-    let next = is_next g (goal.at.returns-in-Err g c).After-do_step in
+    let next = is_next g (goal.at.returns-in-Err g c).After-index-steps-place in
     comes_astray (leads_astray _ (rw next.begins at c.loop-place.invariant.leads) (c.in-Err.ensures.does _))
 
 pub returns-in-Ok-Asks : goal.returns-in-Ok-Asks
@@ -113,7 +98,7 @@ returns-in-Ok-Asks g c =
     let config = c.args.station.now.config in
     let deck = jobs_of c.args.deck.now in
     let r = c.args.running in
-    let next = is_next g (goal.at.returns-in-Ok-Asks g c).After-do_step in
+    let next = is_next g (goal.at.returns-in-Ok-Asks g c).After-index-steps-place in
     let since = c.loop-place.invariant in
     let step = c.in-Ok-Asks.ensures in
     let was = c.requires.running in
