@@ -46,7 +46,7 @@ pub enum Got {
     Granted(LatchToken),
 }
 
-/// One block.
+/// To wait for one block.
 pub(crate) fn one(block: u32) -> Blocks
     ensures { IsWaitFor 1 (block ∷ []) result }
 {

@@ -126,7 +126,8 @@ module _ {B : Type 0} (S : Past → B → Type 0) where
 
   -- ---- the calls of steps
 
-  pub granted_then : (t : Past) (f : ℕ → Call B) (o : Obtained) (k : Kept) → ((id : ℕ) → Brings S t (f id k)) → Brings S t (granted_as f o k)
+  pub granted_then : (t : Past) (f : ℕ → Call B) (o : Obtained) (k : Kept) → ((id : ℕ) → Brings S t (f id k))
+      → Brings S t (granted_as f o k)
   granted_then t f (GrantedAs id) k each = each id
   granted_then t f (PendingAs id) k each = tt
 

@@ -57,7 +57,8 @@ module _ (c : Setup) (k : ℕ) (all : List Entry) (steady : ScansAreSteady all) 
       (l.own ∙ sym own) (subst (λ n. of n l.between ≡ []) (sym own) l.none)
 
   -- another's entry is behind it
-  still_last : (seen : List Entry) (e : Entry) (last : Option Entry) → (e.caller ≡ k → ⊥) → LastIs k seen last → LastIs k (seen ++ e ∷ []) last
+  still_last : (seen : List Entry) (e : Entry) (last : Option Entry) → (e.caller ≡ k → ⊥) → LastIs k seen last
+      → LastIs k (seen ++ e ∷ []) last
   still_last seen e None other l = tt
   still_last seen e (Some once) other l = record {
     before = l.before;

@@ -74,7 +74,8 @@ module _ (deck : List JobData) where
   none_put j [] ls e = refl
   none_put j (r ∷ records) ls e = go (cases_eq r.job j) (none_put j records (with_record deck ls r)) where
     go : (r.job ≡ j) ⊎ (r.job ≡ j → ⊥)
-        → (about j records ≡ [] → get_or (fold (with_record deck) (with_record deck ls r) records) j [] ≡ get_or (with_record deck ls r) j [])
+        → (about j records ≡ []
+        → get_or (fold (with_record deck) (with_record deck ls r) records) j [] ≡ get_or (with_record deck ls r) j [])
         → get_or (fold (with_record deck) ls (r ∷ records)) j [] ≡ get_or ls j []
     go (inl own) later = absurd (cc (sym (about_own j r records own) ∙ e))
     go (inr other) later = later (sym (about_other j r records other) ∙ e)
@@ -125,12 +126,13 @@ right_lines deck records right = ext_get_or [] (lines_recorded deck records) (li
       each : (j : ℕ) → j < length deck → get_or (lines_recorded deck records) j [] ≡ get_or (lines deck) j []
       each j lt =
           let r : IsRecorded deck records j = right.each j lt in
-          one_put deck j r.found records empty (let l : length empty ≡ length deck = length-replicate (length deck) [] in omega arith) r.alone
+          one_put deck j r.found records empty
+          (let l : length empty ≡ length deck = length-replicate (length deck) [] in omega arith) r.alone
           ∙ steps_lines (end_of deck j) (job_at deck j).steps r.found.notes r.notes
           ∙ sym (lines_at (ends deck) deck j (one_end_per_job deck) lt)
 
 -- so those of a run
-pub run_lines : (deck : List JobData) (initiators : ℕ) → 1 ≤ initiators → IsPlanned deck initiators → (es : List Entry) → IsRun deck initiators es
-    → (records : List (List JobRecord)) → AreBrought deck initiators es records → lines_recorded deck (all_records records) ≡ lines deck
+pub run_lines : (deck : List JobData) (initiators : ℕ) → 1 ≤ initiators → IsPlanned deck initiators → (es : List Entry)
+    → IsRun deck initiators es → (records : List (List JobRecord)) → AreBrought deck initiators es records → lines_recorded deck (all_records records) ≡ lines deck
 run_lines deck initiators some planned es run records brought =
     right_lines deck (all_records records) (are_recorded deck initiators some planned es run records brought)

@@ -14,7 +14,8 @@ invariant-loop-place g l = record {
   at : IsAtJob (jobs_of l.deck) l.notes l.fn.running.round l.fn.running.job
       (steps_marks (drop l.place (job_at (jobs_of l.deck) l.fn.running.job).steps));
   leads : Leads
-      (steps_from l.station.config (jobs_of l.deck) l.fn.index l.fn.notes l.fn.running l.fn.running.step (requests_of l.fn.running.requests))
+      (steps_from l.station.config (jobs_of l.deck) l.fn.index l.fn.notes l.fn.running l.fn.running.step
+      (requests_of l.fn.running.requests))
       (steps_from l.station.config (jobs_of l.deck) l.fn.index l.notes l.fn.running l.place (requests_of l.fn.running.requests))
       l.fn.task l.task;
 }

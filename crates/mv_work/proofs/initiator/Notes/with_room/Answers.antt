@@ -17,7 +17,8 @@ loop-k-preserved c =
     let job = c.index-deck-k.result in
     let lt = c.loop-k-test.true in
     let count = job_count deck in
-    let next = ap (λ js. sum_by job_marks js) (drop_more jobs k no_job (omega arith)) ∙ sum_by-cons job_marks (job_at jobs k) (drop (k + 1) jobs) in
+    let next = ap (λ js. sum_by job_marks js) (drop_more jobs k no_job (omega arith))
+    ∙ sum_by-cons job_marks (job_at jobs k) (drop (k + 1) jobs) in
     let own = ap job_marks (job_read deck k job lt (sym c.index-deck-k.is)) in
     let steps = ap steps_marks c.deref.ensures.value in
     let same = ap (λ (j : Job). steps_marks j.steps.items) c.index-deck-k.is in

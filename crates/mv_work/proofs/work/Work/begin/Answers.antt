@@ -47,7 +47,8 @@ write_first : (g : bound.Over) (c : After-write g) (next : Option (ℕ × Need))
     (writer_stages c.args.station.now.config (length (jobs_of c.args.deck.now)) ends)
     (IsWriterNeed c.args.station.now.config (length (jobs_of c.args.deck.now)) room) ends
     (ends_from c.args.station.now.config (length (jobs_of c.args.deck.now)) ends 0) (2 * (length c.args.deck.now - 0)) next)
-    → WriterComes c.args.station.now (length (jobs_of c.args.deck.now)) (vec_capacity c.args.self.now.ends - length c.args.self.now.ends.items)
+    → WriterComes c.args.station.now (length (jobs_of c.args.deck.now))
+    (vec_capacity c.args.self.now.ends - length c.args.self.now.ends.items)
     c.args.self.now.ends.items (writing c.args.station.now.config (length (jobs_of c.args.deck.now))) c.args.task.now next c.args.task.now
 write_first g c next asks =
     let b = c.args.station.now in
