@@ -133,6 +133,7 @@ right_lines deck records right = ext_get_or [] (lines_recorded deck records) (li
 
 -- so those of a run
 pub run_lines : (deck : List JobData) (initiators : ℕ) → 1 ≤ initiators → IsPlanned deck initiators → (es : List Entry)
-    → IsRun deck initiators es → (records : List (List JobRecord)) → AreBrought deck initiators es records → lines_recorded deck (all_records records) ≡ lines deck
+    → IsRun deck initiators es → (records : List (List JobRecord)) → AreBrought deck initiators es records
+    → lines_recorded deck (all_records records) ≡ lines deck
 run_lines deck initiators some planned es run records brought =
     right_lines deck (all_records records) (are_recorded deck initiators some planned es run records brought)
