@@ -13,21 +13,18 @@ use Rattle.mv_machine.specs.declared.entry.Op.{Op}
 use Rattle.mv_machine.specs.declared.entry.Reply.{Reply}
 use Rattle.mv_machine.proofs.Budgets.{no_high_generation}
 use Rattle.mv_machine.proofs.OneHistory.{budgets_fit}
-use Rattle.mv_board.specs.Faces.{BoardFace, CallerFace, IsOf, Happened}
+use Rattle.mv_board.specs.Faces.{CallerFace, Happened}
 use Rattle.mv_machine.specs.Replies.{NamesUpTo}
 use Rattle.mv_calls.specs.Keeping.{kept_of}
-use Rattle.mv_calls.specs.Table.{has_exit}
 use Rattle.mv_calls.proofs.Elements.{element_agrees}
 use Rattle.mv_calls.proofs.Uses.{possible_names}
-use Rattle.mv_wait.specs.declared.record.Record.TheInside.{Inside}
-use Rattle.mv_wait.specs.Record.{Fits, IsRecorded}
+use Rattle.mv_wait.specs.declared.keep.Keep.{Keep}
+use Rattle.mv_wait.specs.Task.{Fits, IsRecorded}
 use Rattle.mv_wait.proofs.Runs.{entry_of}
 
--- a task's configuration is valid
-pub valid_of : (r : Inside) (t : CallerFace) (b : BoardFace) → r.caller ≡ t → IsRecorded r → IsOf b t → IsValid b.config
-valid_of r t b view inv of =
-    let about = ap (λ (d : CallerFace). d.about) view ∙ of.1 in
-    let fits = (subst (AllByRecursion (Fits r.caller r.keep)) about inv.fits).0 in fits.valid
+-- the tables fit the task's configuration
+pub fits_of : (s : Setup) (t : CallerFace) (k : Keep) → t.about ≡ s ∷ [] → IsRecorded t k → Fits t k s
+fits_of s t k about r = (subst (AllByRecursion (Fits t k)) about r.fits).0
 
 pub names_low : (c : Setup) (t u : CallerFace) (o : Object) (op : Op) (reply : Reply) → Happened t o op reply u
     → IsPossible c u.number u.log u.told → IsValid c → NamesUpTo highest_generation reply
@@ -44,10 +41,3 @@ kept_low c k n log shown v p own =
     let same : ((after c p.history).element n).state.generation ≡ (kept_of k log).generation n =
     agrees.0 ∙ ap (λ es. (kept_of k es).generation n) p.logged in
     omega arith
-
--- what a task holds extended is on an exit
-pub on_exit : (r : Inside) (t : CallerFace) (s : Setup) (e : ℕ) → r.caller ≡ t → IsRecorded r → t.about ≡ s ∷ []
-    → (kept_of t.number t.log).extended e ≡ true → has_exit s e ≡ true
-on_exit r t s e view inv about held =
-    let fits = (subst (AllByRecursion (Fits r.caller r.keep)) (ap (λ (d : CallerFace). d.about) view ∙ about) inv.fits).0 in
-    fits.exits e (ap (λ (d : CallerFace). (kept_of d.number d.log).extended e) view ∙ held)

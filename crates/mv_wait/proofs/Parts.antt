@@ -33,7 +33,7 @@ pub plain_still : (t u : CallerFace) (es : List ℕ) → u.number ≡ t.number �
 plain_still t u es n l all = subst (λ k. AllByRecursion (λ e. (kept_of k u.log).extended e ≡ false) es) (sym n)
     (subst (λ log. AllByRecursion (λ e. (kept_of t.number log).extended e ≡ false) es) (sym l) all)
 
--- a task and its record are the same caller
+-- a task is the same caller, seen from inside
 pub same_view : (t r : CallerFace) → r ≡ t → IsSame t r
 same_view t r e = record {
   table = ap (λ (d : CallerFace). d.table) e;

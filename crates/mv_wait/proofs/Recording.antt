@@ -1,8 +1,9 @@
 -- What a task keeps follows its events.
-use Rattle.std.proofs.Common.{◌≡◌, ℕ, ◌+◌, ◌*◌, ◌^◌, ◌<◌, ◌==◌, Bool, true, false, [], ◌∷◌, ◌++◌, length}
+use Rattle.std.proofs.Common.{◌≡◌, ℕ, ◌+◌, ◌*◌, ◌^◌, ◌<◌, ◌≤◌, ◌==◌, Bool, true, false, [], ◌∷◌, ◌++◌, length}
 use Rattle.std.proofs.Common.{cond, Some, refl, sym, ap, ◌∙◌, subst, arith, length-append}
 use Rattle.std.proofs.lemmas.Bool.{false≢true, eqb-true}
 use Rattle.std.specs.List.{AllByRecursion}
+use Rattle.slab.specs.Slab.{slab_len}
 use Rattle.mv_element.specs.declared.element.ElementState.{ElementState}
 use Rattle.mv_element.specs.declared.element.Phase.{Phase}
 use Rattle.mv_element.specs.declared.element.Phase.TheVariants.{Free, Reset, Prereleased, Paused, Released}
@@ -18,6 +19,7 @@ use Rattle.mv_machine.specs.declared.entry.Reply.TheVariants as reply_of
 use Rattle.mv_machine.specs.Check.{IsValid}
 use Rattle.mv_machine.specs.Kept.{standing, stands_with}
 use Rattle.mv_machine.specs.Legal.{after}
+use Rattle.mv_machine.specs.Limits.{highest_generation}
 use Rattle.mv_machine.specs.Parts.{IsPossible}
 use Rattle.mv_machine.specs.Setup.{Setup}
 use Rattle.mv_machine.specs.System.{System, admitted, reply_to, volume_step}
@@ -26,7 +28,7 @@ use Rattle.mv_latch.specs.LatchSet.{latch_step}
 use Rattle.mv_machine.proofs.Budgets.{no_high_generation}
 use Rattle.mv_machine.proofs.Longer.{legal_longer}
 use Rattle.mv_machine.proofs.OneHistory.{budgets_fit}
-use Rattle.mv_board.specs.Faces.{CallerFace, Happened}
+use Rattle.mv_board.specs.Faces.{BoardFace, CallerFace, IsOf, IsSame, Happened}
 use Rattle.mv_board.specs.Words.{HasWord, test_of}
 use Rattle.mv_board.proofs.Acting.{standing_more}
 use Rattle.mv_calls.specs.Keeping.{Kept, kept_of, kept_after, nothing_kept}
@@ -34,10 +36,12 @@ use Rattle.mv_calls.proofs.ExtendedBlocks.{extended_is_on_exit}
 use Rattle.mv_calls.proofs.Making.{kept_caller}
 use Rattle.mv_wait.specs.declared.keep.Keep.{Keep}
 use Rattle.mv_wait.specs.Keep.{Keeps, IsOfKind, ClosesBelow}
-use Rattle.mv_wait.specs.Record.{Fits}
+use Rattle.mv_wait.specs.Run.{Went}
+use Rattle.mv_wait.specs.Task.{Fits, IsRecorded, IsTask, blocks_in}
+use Rattle.mv_wait.specs.declared.task.Task.TheInside.{Inside}
 use Rattle.mv_wait.proofs.Answering.{made_behind}
-use Rattle.mv_wait.proofs.Low.{kept_low}
-use Rattle.mv_wait.proofs.Runs.{entry_of}
+use Rattle.mv_wait.proofs.Low.{fits_of, kept_low}
+use Rattle.mv_wait.proofs.Runs.{entry_of, went_log}
 use Rattle.mv_wait.proofs.Waits.{kept_one}
 
 of_kind : (c : Setup) (s : System) (k : ℕ) (o : Object) (op : Op) (reply : Reply) → admitted c s k o op ≡ true
@@ -156,14 +160,14 @@ fits_on t u o op reply k new s h first blocks elements p f =
       exits = extended_is_on_exit s u.number u.log u.told p;
     }
 
-pub keeps_on : (t u : CallerFace) (o : Object) (op : Op) (reply : Reply) (new : Keep) → Happened t o op reply u
+keeps_on : (t u : CallerFace) (o : Object) (op : Op) (reply : Reply) (new : Keep) → Happened t o op reply u
     → Keeps (kept_after (kept_of t.number t.log) o op reply) new → Keeps (kept_of u.number u.log) new
 keeps_on t u o op reply new h k =
     subst (λ (z : Kept). Keeps z new)
     (sym ((λ i. kept_of (h.1.same.number i) (h.1.logged i)) ∙ kept_one t.number t.log (entry_of t o h.0 op reply))) k
 
 -- the requests that are kept go on to be those that stand by the log: each entry is the caller's own
-pub stands_on : (t u : CallerFace) (o : Object) (op : Op) (reply : Reply) → Happened t o op reply u
+stands_on : (t u : CallerFace) (o : Object) (op : Op) (reply : Reply) → Happened t o op reply u
     → (kept_of t.number t.log).requests ≡ standing t.log → (kept_of u.number u.log).requests ≡ standing u.log
 stands_on t u o op reply h same =
     let e = entry_of t o h.0 op reply in
@@ -174,13 +178,75 @@ stands_on t u o op reply h same =
     ∙ sym (standing_more [] t.log e)
     ∙ ap standing (sym h.1.logged)
 
-pub all_fit : (t u : CallerFace) (o : Object) (op : Op) (reply : Reply) (k new : Keep) (s : Setup) → Happened t o op reply u
+all_fit : (t u : CallerFace) (o : Object) (op : Op) (reply : Reply) (k new : Keep) (s : Setup) → Happened t o op reply u
     → new.first ≡ k.first
     → length new.extended.items ≡ length k.extended.items → length new.elements.items ≡ length k.elements.items
     → t.about ≡ s ∷ [] → IsPossible s u.number u.log u.told → AllByRecursion (Fits t k) t.about → AllByRecursion (Fits u new) u.about
 all_fit t u o op reply k new s h a b e about p all =
     subst (AllByRecursion (Fits u new)) (sym (h.1.same.about ∙ about))
     (fits_on t u o op reply k new s h a b e p (subst (AllByRecursion (Fits t k)) about all).0, tt)
+
+-- what is kept of the log follows an event, where the tables do
+pub recorded_on : (c : Setup) (t u : CallerFace) (o : Object) (op : Op) (reply : Reply) (k new : Keep) → Happened t o op reply u
+    → IsPossible c u.number u.log u.told → t.about ≡ c ∷ []
+    → ((kept : Kept) → kept.caller ≡ k.caller → Keeps kept k → Keeps (kept_after kept o op reply) new)
+    → (new.caller ≡ k.caller) × (new.first ≡ k.first)
+    → (length new.extended.items ≡ length k.extended.items) × (length new.elements.items ≡ length k.elements.items)
+    → slab_len new.requests ≤ slab_len k.requests + 1 → new.requests.capacity ≡ k.requests.capacity → IsRecorded t k → IsRecorded u new
+recorded_on c t u o op reply k new h p about follows same sizes more room r =
+    let less = h.1.left in
+    let few = r.few in
+    let much = r.room in record {
+      kept = keeps_on t u o op reply new h
+          (follows (kept_of t.number t.log) (kept_caller (nothing_kept t.number) t.log ∙ sym r.caller) r.kept);
+      stands = stands_on t u o op reply h r.stands;
+      caller = same.0 ∙ (r.caller ∙ sym h.1.same.number);
+      fits = all_fit t u o op reply k new c h same.1 sizes.0 sizes.1 about p r.fits;
+      few = omega arith;
+      room = omega arith;
+    }
+
+-- looks change nothing of it
+pub recorded_looked : (c : Setup) (t u : CallerFace) (k : Keep) → t.about ≡ c ∷ [] → Went [] t u → IsRecorded t k → IsRecorded u k
+recorded_looked c t u k about w r =
+    let number = w.same.number in
+    let log = went_log t u w in
+    let same : kept_of u.number u.log ≡ kept_of t.number t.log = (λ i. kept_of (number i) (log i)) in
+    let left = w.left in
+    let few = r.few in
+    let room = r.room in
+    let f = fits_of c t k about r in
+    let one : Fits u k c = record {
+      valid = f.valid;
+      caller = subst (λ m. m < c.callers) (sym number) f.caller;
+      blocks = f.blocks;
+      elements = f.elements;
+      first = f.first ∙ ap (λ m. m * c.elements_per_caller) (sym number);
+      low = λ n own. subst (λ (q : Kept). q.generation n ≤ highest_generation) (sym same) (f.low n (own ∙ number));
+      exits = λ n held. f.exits n (subst (λ (q : Kept). q.extended n ≡ true) same held);
+    } in record {
+      kept = subst (λ (q : Kept). Keeps q k) (sym same) r.kept;
+      stands = ap (λ (q : Kept). q.requests) same ∙ (r.stands ∙ ap standing (sym log));
+      caller = r.caller ∙ sym number;
+      fits = subst (AllByRecursion (Fits u k)) (sym (w.same.about ∙ about)) (one, tt);
+      few = omega arith;
+      room = omega arith;
+    }
+
+-- a task of the same caller, which has no more events left, is one where it keeps what its log says
+pub still_task : (x : Inside) (u : CallerFace) (new : Keep) → IsTask x → IsSame x.caller u → u.left ≤ x.caller.left → IsRecorded u new
+    → IsTask (record x { caller = u; keep = new })
+still_task x u new is same left r =
+    let room = is.room in record {
+      recorded = r;
+      idle = is.idle;
+      room = omega arith;
+      places = is.places ∙ sym (ap blocks_in same.about);
+    }
+
+-- the configuration, as a task and a station are seen from inside
+pub about_inside : (b d : BoardFace) (t r : CallerFace) → r ≡ t → d ≡ b → IsOf b t → r.about ≡ d.config ∷ []
+about_inside b d t r same is of = (λ i. (same i).about) ∙ (of.1 ∙ sym (λ i. (is i).config ∷ []))
 
 -- ---- a read keeps all that is kept
 
@@ -200,13 +266,12 @@ same_generation f n m = go (m == n) refl where
 
 pub test_keeps : (c : Setup) (t u : CallerFace) (o : Object) (reply : Reply) (k : Keep) → HasWord c o → Happened t o (test_of o) reply u
     → IsPossible c u.number u.log u.told
-    → Keeps (kept_of t.number t.log) k → Keeps (kept_after (kept_of t.number t.log) o (test_of o) reply) k
-test_keeps c t u (Ecb n) reply k w h p all = all
-test_keeps c t u (Volume n) reply k w h p all = all
-test_keeps c t u Latches reply k w h p all = absurd w
-test_keeps c t u (Element n) reply k w h p all =
+    → (kept : Kept) → Keeps kept k → Keeps (kept_after kept o (test_of o) reply) k
+test_keeps c t u (Ecb n) reply k w h p kept all = all
+test_keeps c t u (Volume n) reply k w h p kept all = all
+test_keeps c t u Latches reply k w h p kept all = absurd w
+test_keeps c t u (Element n) reply k w h p kept all =
     let r = read_reply c t u n reply h p in
-    let kept = kept_of t.number t.log in
     subst (λ z. Keeps (kept_after kept (Element n) (op_on.Element element_op.Test) z) k) (sym r.1) (record {
       extended = all.extended;
       elements = λ i e at. let x = all.elements i e at in (x.0, x.1 ∙ sym (same_generation kept.generation n (k.first + i)));

@@ -1,6 +1,6 @@
 -- Calls of one event that may be refused, and one that goes by a word.
 use Rattle.std.proofs.Common.{◌≡◌, ℕ, ◌<◌, ◌^◌, ◌==◌, ◌&&◌, Bool, true, false, not, List, [], ◌∷◌, length}
-use Rattle.std.proofs.Common.{Some, None, Result, Ok, Err, cond, option_map, option_and_then, refl, sym, ap, ◌∙◌, subst}
+use Rattle.std.proofs.Common.{Option, Some, None, Result, Ok, Err, cond, option_map, option_and_then, refl, sym, ap, ◌∙◌, subst}
 use Rattle.std.proofs.Common.{arith}
 use Rattle.std.proofs.lemmas.Bool.{false≢true, eqb-true, eq-eqb, lt-ltb}
 use Rattle.mv_ecb.specs.declared.operation.EcbOp.TheVariants.{Clear, Extend, Post}
@@ -31,8 +31,10 @@ use Rattle.mv_wait.specs.Answers.{post_answer}
 use Rattle.mv_wait.specs.Posted.{reply_to_post}
 use Rattle.mv_wait.specs.Run.{IsServed}
 use Rattle.mv_wait.specs.Says.{SaysExtended}
+use Rattle.mv_wait.specs.Single.{extend_reply}
 use Rattle.mv_wait.proofs.Answering.{block_answers}
 use Rattle.mv_calls.specs.Known.{BlockAgrees}
+use Rattle.mv_wait.proofs.OneEvent.{event_served}
 use Rattle.mv_wait.proofs.Runs.{heard_of, went_word, serves}
 use Rattle.mv_wait.proofs.Steps.{still_at_rest}
 
@@ -148,3 +150,12 @@ extend_stops c e exit kept why is = ap (λ r. unless_refused r (Do (Ecb e) (op_o
 pub extend_goes : (c : Setup) (e exit : ℕ) (kept : Kept) → extend_refusal c e exit kept ≡ None
     → extend c e exit kept ≡ Do (Ecb e) (op_on.Ecb (Extend exit)) extend_next
 extend_goes c e exit kept is = ap (λ r. unless_refused r (Do (Ecb e) (op_on.Ecb (Extend exit)) extend_next)) is
+
+-- one that is not refused is answered by what its event found
+pub extended_served : (c : Setup) (t u : CallerFace) (e exit : ℕ) (reply : Reply) (found : Option ℕ) (a : Result (Unit {0}) Refusal)
+    → Happened t (Ecb e) (op_on.Ecb (Extend exit)) reply u → extend_refusal c e exit (kept_of t.number t.log) ≡ None → IsAtRest t.log
+    → reply ≡ reply_of.Ecb (extend_reply found) → extended (extend_reply found) ≡ Done a
+    → IsServed 1 (extend c e exit) (λ b. b ≡ a) t u
+extended_served c t u e exit reply found a h none rest is answers =
+    event_served (extend c e exit) (λ b. b ≡ a) t u (Ecb e) (op_on.Ecb (Extend exit)) extend_next reply a tt h
+    (extend_goes c e exit (kept_of t.number t.log) none) (λ x r. ap (λ z. on_ecb z extended) (r ∙ is) ∙ answers) (λ w. refl) rest refl

@@ -1,25 +1,25 @@
 //! Posts, each with the posts of its exit. Clauses cite the calls' `Posts.antt`, and `specs/Run.antt`,
-//! `specs/Answers.antt` and `specs/Posted.antt`.
+//! `specs/Answers.antt`, `specs/Posted.antt` and `specs/Task.antt`.
 
-ghost use Rattle.std.specs.Prelude.{◌≡◌, ◌<◌, ◌≤◌, ◌++◌, ◌+◌, ◌∷◌, [], length, reverse, vec_len, vec_capacity};
+ghost use Rattle.std.specs.Prelude.{◌≡◌, ◌<◌, ◌≤◌, ◌++◌, ◌+◌, ◌∷◌, length, reverse, vec_len, vec_capacity};
 ghost use Rattle.std.specs.List.{AllByRecursion};
 ghost use Rattle.mv_ecb.specs.Table.{code_limit};
-ghost use Rattle.mv_machine.specs.Check.{IsValid};
 ghost use Rattle.mv_machine.specs.Reach.{reach, total};
 ghost use Rattle.mv_board.specs.Faces.{IsOf};
-ghost use Rattle.mv_machine.specs.Setup.{targets_of};
 ghost use Rattle.mv_calls.specs.Posts.{post};
 ghost use Rattle.mv_calls.specs.Rest.{IsAtRest};
 ghost use Rattle.mv_wait.specs.Answers.{post_answer};
 ghost use Rattle.mv_wait.specs.Posted.{PostedOne};
 ghost use Rattle.mv_wait.specs.Run.{IsServed};
+ghost use Rattle.mv_wait.specs.Task.{IsRecorded};
 
-use crate::record::Record;
+use crate::keep::Keep;
 use crate::replies::posted;
 use crate::station::Station;
 use crate::task::Task;
+use mv_board::Caller;
 use mv_ecb::EcbOp;
-use mv_machine::{Object, Op, ValidConfig};
+use mv_machine::{Object, Op};
 use std::sync::Wait;
 
 /// What a post came to.
@@ -53,34 +53,23 @@ impl Station {
             (λ p. post_answer p ≡ result) task.old task.new }
         ensures told { task.new.told ≡ task.old.told }
     {
-        self.post_through(rt, &mut task.record, &mut task.pending, ecb, code)
-    }
-
-    // Posts a block, and what its exit posts, depth first, with room for what is pending.
-    fn post_through<R: Wait>(
-        &self,
-        rt: &R,
-        me: &mut Record,
-        pending: &mut Vec<u32>,
-        ecb: u32,
-        code: u32,
-    ) -> PostAnswer
-        requires task { IsOf self.now me.old }
-        requires rest { IsAtRest me.old.log }
-        requires block { ecb < length self.now.config.owners }
-        requires code { code < code_limit }
-        requires left { reach self.now.config ecb ≤ me.old.left }
-        requires idle { pending.old.items ≡ [] }
-        requires room { me.old.left ≤ vec_capacity pending.old }
-        ensures served { IsServed (reach self.now.config ecb) (post self.now.config ecb code)
-            (λ p. post_answer p ≡ result) me.old me.new }
-        ensures told { me.new.told ≡ me.old.told }
-        ensures idle { pending.new.items ≡ [] }
-        ensures capacity { vec_capacity pending.new ≡ vec_capacity pending.old }
-    {
-        let answer = self.post_one(rt, me, pending, ecb, code);
-        while let Some(next) = pending.pop() {
-            self.post_one(rt, me, pending, next, code);
+        let answer = self.post_one(
+            rt,
+            &mut task.caller,
+            &mut task.keep,
+            &mut task.pending,
+            ecb,
+            code,
+        );
+        while let Some(next) = task.pending.pop() {
+            self.post_one(
+                rt,
+                &mut task.caller,
+                &mut task.keep,
+                &mut task.pending,
+                next,
+                code,
+            );
         }
         answer
     }
@@ -89,32 +78,32 @@ impl Station {
     fn post_one<R: Wait>(
         &self,
         rt: &R,
-        me: &mut Record,
+        caller: &mut Caller,
+        keep: &mut Keep,
         pending: &mut Vec<u32>,
         ecb: u32,
         code: u32,
     ) -> PostAnswer
-        requires task { IsOf self.now me.old }
+        requires task { IsOf self.now caller.old }
+        requires recorded { IsRecorded caller.old keep.old }
         requires block { ecb < length self.now.config.owners }
         requires blocks { AllByRecursion (λ e. e < length self.now.config.owners) (reverse pending.old.items) }
         requires code { code < code_limit }
-        requires left { total (reach self.now.config) (ecb ∷ reverse pending.old.items) ≤ me.old.left }
-        requires room { me.old.left ≤ vec_capacity pending.old }
-        ensures posted { PostedOne self.now.config code ecb me.old pending.old.items result me.new pending.new.items }
+        requires left { total (reach self.now.config) (ecb ∷ reverse pending.old.items) ≤ caller.old.left }
+        requires room { caller.old.left ≤ vec_capacity pending.old }
+        ensures posted { PostedOne self.now.config code ecb caller.old pending.old.items result caller.new pending.new.items }
+        ensures recorded { IsRecorded caller.new keep.new }
         ensures capacity { vec_capacity pending.new ≡ vec_capacity pending.old }
     {
-        let reply = me.event(
-            rt,
-            &self.board,
-            Object::Ecb(ecb),
-            Op::Ecb(EcbOp::Post(code)),
-        );
+        let op = Op::Ecb(EcbOp::Post(code));
+        let reply = self.board.event(rt, caller, Object::Ecb(ecb), op);
+        keep.follow(Object::Ecb(ecb), op, reply);
         let came = posted(reply);
         let answer = came.answer();
         if answer == PostAnswer::Woke {
             self.wake_owner(ecb);
         }
-        note(pending, targets(self.board.config(), came.exit()));
+        note(pending, self.board.config().targets(came.exit()));
         answer
     }
 
@@ -122,25 +111,10 @@ impl Station {
     fn wake_owner(&self, ecb: u32)
         requires { ecb < length self.now.config.owners }
     {
-        let owner = self.board.config().config().owners[ecb as usize];
+        let owner = self.board.config().ecb_owner(ecb);
         if let Some(unparker) = self.unparkers.get(owner as usize) {
             unparker.unpark();
         }
-    }
-}
-
-// What an exit posts. Exits are counted from 1, and 0 is none.
-fn targets(config: &ValidConfig, exit: u32) -> &[u32]
-    ensures targets { result.now ≡ targets_of config.now exit }
-    ensures valid { IsValid config.now }
-{
-    let given = config.config();
-    if exit == 0 {
-        return &[];
-    }
-    match given.exits.get(exit as usize - 1) {
-        Some(exit) => &exit.targets,
-        None => &[],
     }
 }
 

@@ -15,7 +15,6 @@ ghost use Rattle.mv_wait.specs.Run.{IsServed};
 ghost use Rattle.mv_wait.specs.Single.{IsExtendCause, HasNoWaitBit};
 
 use crate::posting::PostAnswer;
-use crate::record::Record;
 use crate::replies::{posted, taken, value, word};
 use crate::station::Station;
 use crate::task::Task;
@@ -63,12 +62,10 @@ impl Station {
             (λ _. is_others_block self.now.config (kept_of task.old.number task.old.log) ecb ≡ false)
             (λ _. (is_others_block self.now.config (kept_of task.old.number task.old.log) ecb ≡ true) × (task.new ≡ task.old)) }
     {
-        if self.is_others_block(&task.record, ecb) {
+        if self.is_others_block(task, ecb) {
             return Err(NotOwner);
         }
-        let reply = task
-            .record
-            .event(rt, &self.board, Object::Ecb(ecb), Op::Ecb(EcbOp::Clear));
+        let reply = self.event(rt, task, Object::Ecb(ecb), Op::Ecb(EcbOp::Clear));
         Ok(word(reply))
     }
 
@@ -94,15 +91,10 @@ impl Station {
             (λ _. extend_refusal self.now.config ecb exit (kept_of task.old.number task.old.log) ≡ None)
             (λ why. IsExtendCause self.now.config ecb exit task.old why task.new) }
     {
-        if let Some(refusal) = self.refuses_extend(&task.record, ecb, exit) {
+        if let Some(refusal) = self.refuses_extend(task, ecb, exit) {
             return Err(refusal);
         }
-        let reply = task.record.event(
-            rt,
-            &self.board,
-            Object::Ecb(ecb),
-            Op::Ecb(EcbOp::Extend(exit)),
-        );
+        let reply = self.event(rt, task, Object::Ecb(ecb), Op::Ecb(EcbOp::Extend(exit)));
         match taken(reply) {
             None => Ok(()),
             Some(code) => Err(ExtendRefusal::Complete(code)),
@@ -110,30 +102,30 @@ impl Station {
     }
 
     // Why a block is not to be extended, if it is not.
-    fn refuses_extend(&self, me: &Record, ecb: u32, exit: u32) -> Option<ExtendRefusal>
-        requires task { IsOf self.now me.now }
+    fn refuses_extend(&self, task: &Task, ecb: u32, exit: u32) -> Option<ExtendRefusal>
+        requires task { IsOf self.now task.now }
         requires block { ecb < length self.now.config.owners }
-        ensures refusal { option_map extend_refused result ≡ extend_refusal self.now.config ecb exit (kept_of me.now.number me.now.log) }
+        ensures refusal { option_map extend_refused result ≡ extend_refusal self.now.config ecb exit (kept_of task.now.number task.now.log) }
         ensures few { result ≡ None → exit ≤ exits_limit }
     {
-        if self.is_others_block(me, ecb) {
+        if self.is_others_block(task, ecb) {
             return Some(ExtendRefusal::NotOwner);
         }
         if !self.board.config().is_exit_of(exit, ecb) {
             return Some(ExtendRefusal::BadExit);
         }
-        if me.extended(ecb) {
+        if task.extended(ecb) {
             return Some(ExtendRefusal::Extended);
         }
         None
     }
 
     // Whether a block is another caller's.
-    fn is_others_block(&self, me: &Record, ecb: u32) -> bool
+    fn is_others_block(&self, task: &Task, ecb: u32) -> bool
         requires { ecb < length self.now.config.owners }
-        ensures { result ≡ is_others_block self.now.config (kept_of me.now.number me.now.log) ecb }
+        ensures { result ≡ is_others_block self.now.config (kept_of task.now.number task.now.log) ecb }
     {
-        !self.board.config().owns_ecb(me.caller.number(), ecb)
+        !self.board.config().owns_ecb(task.number(), ecb)
     }
 
     /// Posts a block with a code of 30 bits by one exchange of its word, which runs no exit and wakes nobody: the word that is
@@ -161,12 +153,7 @@ impl Station {
             (λ moved. Missed task.old (object.Ecb ecb) expected moved task.new) }
         ensures rest { IsAtRest task.new.log }
     {
-        let reply = task.record.try_event(
-            &self.board,
-            Object::Ecb(ecb),
-            Op::Ecb(EcbOp::Post(code)),
-            expected,
-        )?;
+        let reply = self.try_event(task, Object::Ecb(ecb), Op::Ecb(EcbOp::Post(code)), expected)?;
         Ok(posted(reply).answer())
     }
 
@@ -179,7 +166,7 @@ impl Station {
         requires left { 0 < task.old.left }
         ensures served { IsServed 1 (test_ecb ecb) (λ a. a ≡ result) task.old task.new }
     {
-        let reply = task.record.test(&self.board, Object::Ecb(ecb));
+        let reply = self.test(task, Object::Ecb(ecb));
         word(reply)
     }
 
@@ -191,7 +178,7 @@ impl Station {
         requires left { 0 < task.old.left }
         ensures served { IsServed 1 (read_volume volume) (λ a. a ≡ result) task.old task.new }
     {
-        let reply = task.record.test(&self.board, Object::Volume(volume));
+        let reply = self.test(task, Object::Volume(volume));
         value(reply)
     }
 
@@ -204,9 +191,9 @@ impl Station {
         requires left { 0 < task.old.left }
         ensures served { IsServed 1 (write_volume volume number) (λ a. a ≡ tt) task.old task.new }
     {
-        task.record.event(
+        self.event(
             rt,
-            &self.board,
+            task,
             Object::Volume(volume),
             Op::Volume(VolumeOp::Write(number)),
         );

@@ -13,7 +13,6 @@ ghost use Rattle.mv_wait.specs.Run.{Went};
 
 use crate::keep::{Keep, OwnElement};
 use crate::pausing::Pauses;
-use crate::record::Record;
 use crate::task::Task;
 use crossbeam_utils::sync::{Parker, Unparker};
 use mv_board::{Board, Caller, Closed, Moved, Watch};
@@ -101,7 +100,9 @@ impl Station {
         ensures few { task.old.left ≤ events_limit }
         ensures low { NamesUpTo highest_generation result }
     {
-        task.record.event(rt, &self.board, object, op)
+        let reply = self.board.event(rt, &mut task.caller, object, op);
+        task.keep.follow(object, op, reply);
+        reply
     }
 
     /// One exchange of an object's word: a block's, an element's or a volume's. One event that must be left, which is taken only
@@ -131,7 +132,11 @@ impl Station {
         ensures listed { IfOk result (λ reply. IsAsListed task.old object op reply) }
         ensures low { IfOk result (λ reply. NamesUpTo highest_generation reply) }
     {
-        task.record.try_event(&self.board, object, op, expected)
+        let answer = self.board.try_event(&mut task.caller, object, op, expected);
+        if let Ok(reply) = answer {
+            task.keep.follow(object, op, reply);
+        }
+        answer
     }
 
     /// The event that reads an object that has a word: a block, an element or a volume. One event that must be left. It never
@@ -145,7 +150,7 @@ impl Station {
         ensures possible { IsPossible self.now.config task.new.number task.new.log task.new.told }
         ensures low { NamesUpTo highest_generation result }
     {
-        task.record.test(&self.board, object)
+        self.board.test(&mut task.caller, object)
     }
 
     /// One load of an object's word: its place and its state in 64 bits. No event, and it never waits.
@@ -155,7 +160,7 @@ impl Station {
         ensures found { Found task.old object result task.new }
         ensures ready { task.new.ready ≡ task.old.ready }
     {
-        task.record.look(&self.board, object)
+        self.board.look(&mut task.caller, object)
     }
 
     /// Whether what a task waits for is so: its own block complete, its own element released, a request that it made granted or
@@ -166,7 +171,7 @@ impl Station {
         ensures look { Peeks task.old watch result task.new }
         ensures stays { Contains task.old.ready watch → result ≡ true }
     {
-        task.record.peek(rt, &self.board, watch)
+        self.board.peek(rt, &mut task.caller, watch)
     }
 
     /// Parks until what the task waits for is so, as `peek` tells. No event. It may never return: nothing promises that another
@@ -177,22 +182,12 @@ impl Station {
         ensures went { Went [] task.old task.new }
         ensures ready { Contains task.new.ready watch }
     {
-        self.await_ready(rt, &mut task.record, &task.pauses, watch);
-    }
-
-    // Parks until the watch is on the ready list.
-    fn await_ready<R: Wait>(&self, rt: &R, me: &mut Record, pauses: &Pauses, watch: Watch)
-        requires task { IsOf self.now me.old }
-        requires own { MayWatch self.now.config me.old watch }
-        ensures went { Went [] me.old me.new }
-        ensures ready { Contains me.new.ready watch }
-    {
         let mut looks = 0;
         for _ in rt.forever() {
-            if me.peek(rt, &self.board, watch) {
+            if self.peek(rt, task, watch) {
                 return;
             }
-            looks = pauses.pause(rt, looks);
+            looks = task.pauses.pause(rt, looks);
         }
     }
 
@@ -279,11 +274,13 @@ fn task_of(
         elements: vec![in alloc; none; given.elements_per_caller as usize]?,
         requests: Slab::with_capacity(alloc, left)?,
     };
-    let record = Record { caller, keep };
+    let pending = Vec::with_capacity(alloc, left)?;
+    let places = vec![in alloc; 0; given.owners.len()]?;
     Ok(Task {
-        record,
+        caller,
+        keep,
         pauses: Pauses::new(parker),
-        pending: Vec::with_capacity(alloc, left)?,
-        places: vec![in alloc; 0; given.owners.len()]?,
+        pending,
+        places,
     })
 }

@@ -1,4 +1,4 @@
-//! A task: one caller's seat, and what it keeps of its entries. Clauses cite `specs/Task.antt`, the board's `Faces.antt` and
+//! A task: one caller's seat, and what it keeps of its entries. Clauses cite `specs/Keep.antt`, the board's `Faces.antt` and
 //! the calls' `Keeping.antt`.
 
 ghost use Rattle.std.specs.Prelude.{◌≡◌, ◌<◌, ◌≤◌};
@@ -7,8 +7,8 @@ ghost use Rattle.mv_machine.specs.Limits.{events_limit, highest_generation};
 ghost use Rattle.mv_machine.specs.Setup.{Setup};
 ghost use Rattle.mv_board.specs.Faces.{last_of};
 
+use crate::keep::{Keep, OwnElement, key_of, posting_count};
 use crate::pausing::Pauses;
-use crate::record::Record;
 use mv_board::Caller;
 use mv_latch::Wake;
 use mv_machine::Entry;
@@ -18,7 +18,8 @@ use std::marker::Model;
 /// its own methods makes an event or waits.
 #[derive(Drop)]
 pub struct Task {
-    pub(crate) record: Record,
+    pub(crate) caller: Caller,
+    pub(crate) keep: Keep,
     pub(crate) pauses: Pauses,
     // The blocks that a call is still to post, the next one last.
     pub(crate) pending: Vec<u32>,
@@ -32,7 +33,7 @@ impl Model for Task {
 
     ghost Value = { CallerFace };
 
-    ghost view = { λ t. t.record };
+    ghost view = { λ t. t.caller };
 
     ghost invariant = { IsTask };
 }
@@ -43,7 +44,7 @@ impl Task {
         ensures number { result ≡ self.now.number }
         ensures exists { AllByRecursion (λ (s : Setup). result < s.callers) self.now.about }
     {
-        self.record.caller.number()
+        self.caller.number()
     }
 
     /// How many events it may still make: its budget less its entries. All tasks have together no more than 524,287.
@@ -51,14 +52,14 @@ impl Task {
         ensures left { result ≡ self.now.left }
         ensures few { result ≤ events_limit }
     {
-        self.record.caller.left()
+        self.caller.left()
     }
 
     /// Its entries so far, in order.
     pub fn log(&self) -> &[Entry]
         ensures { result.now ≡ self.now.log }
     {
-        self.record.caller.log()
+        self.caller.log()
     }
 
     /// The wakes of its last event on the latch set, in order. Before one there are none.
@@ -66,15 +67,14 @@ impl Task {
         ensures wakes { result.now ≡ self.now.wakes }
         ensures last { result.now ≡ last_of self.now.told }
     {
-        self.record.caller.wakes()
+        self.caller.wakes()
     }
 
     // Its caller, which the board takes back at its end.
     pub(crate) fn into_caller(self) -> Caller
         ensures { result ≡ self }
     {
-        let Task { record, .. } = self;
-        let Record { caller, .. } = record;
+        let Task { caller, .. } = self;
         caller
     }
 }
@@ -92,7 +92,7 @@ impl Task {
         requires { (s : Setup) × (self.now.about ≡ s ∷ []) × (ecb < length s.owners) }
         ensures { result ≡ (kept_of self.now.number self.now.log).extended ecb }
     {
-        self.record.extended(ecb)
+        self.keep.extended[ecb as usize]
     }
 
     /// Whether an element of its own is in use: from its `allocate` until it is deallocated. The element must be its own.
@@ -100,7 +100,7 @@ impl Task {
         requires { (s : Setup) × (self.now.about ≡ s ∷ []) × (element_owner s element ≡ self.now.number) }
         ensures { result ≡ (kept_of self.now.number self.now.log).in_use element }
     {
-        self.record.element(element).in_use
+        self.element(element).in_use
     }
 
     /// The generation of an element of its own, in use or not: 18 bits. It is that of the token of its next pause. The element must
@@ -110,7 +110,7 @@ impl Task {
         ensures kept { result ≡ (kept_of self.now.number self.now.log).generation element }
         ensures low { result ≤ highest_generation }
     {
-        self.record.element(element).generation
+        self.element(element).generation
     }
 
     /// How many of its latch requests stand, granted or waiting, by its own log: at most the configuration's `quota`. One that
@@ -119,20 +119,53 @@ impl Task {
         ensures count { result ≡ length (kept_of self.now.number self.now.log).requests }
         ensures kept { (kept_of self.now.number self.now.log).requests ≡ standing self.now.log }
     {
-        self.record.standing()
+        self.keep.requests.len() as u32
     }
 
     /// How many of those are of the Posted form: at most the configuration's `posted_quota`.
     pub fn standing_posted(&self) -> u32
         ensures { result ≡ length (filter is_posting (kept_of self.now.number self.now.log).requests) }
     {
-        self.record.standing_posted()
+        posting_count(&self.keep.requests)
     }
 
     /// The key under which its request of this number stands, if one stands.
     pub fn key(&self, id: u32) -> Option<usize>
         ensures { is_some result ≡ list_any (λ t. t.request.id == id) (kept_of self.now.number self.now.log).requests }
     {
-        self.record.key(id)
+        key_of(&self.keep.requests, id)
+    }
+}
+
+impl Task {
+    ghost use Rattle.std.specs.Prelude.{◌^◌, ◌∷◌, [], true, length, option_map, slice_index, IfSome};
+    ghost use Rattle.mv_machine.specs.Setup.{Setup, element_owner};
+    ghost use Rattle.mv_calls.specs.Keeping.{kept_of};
+    ghost use Rattle.mv_calls.specs.Refusal.{ExtendedAt};
+    ghost use Rattle.mv_calls.specs.Waits.{refused_at};
+    ghost use Rattle.mv_wait.specs.Keep.{IsKeptAs};
+
+    // The first position whose block it holds extended.
+    pub(crate) fn first_extended(&self, ecbs: &[u32]) -> Option<u32>
+        requires few { length ecbs.now < 2 ^ 32 }
+        requires blocks { (s : Setup) × (self.now.about ≡ s ∷ []) × AllByRecursion (λ e. e < length s.owners) ecbs.now }
+        ensures first { option_map (λ p. ExtendedAt p) result ≡ refused_at ExtendedAt (kept_of self.now.number self.now.log).extended 0 ecbs.now }
+        ensures held { IfSome result (λ p. (kept_of self.now.number self.now.log).extended (slice_index ecbs.now p) ≡ true) }
+    {
+        for p in 0..ecbs.len() {
+            if self.extended(ecbs[p]) {
+                return Some(p as u32);
+            }
+        }
+        None
+    }
+
+    // What is kept of an element of its own.
+    fn element(&self, element: u32) -> OwnElement
+        requires { (s : Setup) × (self.now.about ≡ s ∷ []) × (element_owner s element ≡ self.now.number) }
+        ensures kept { IsKeptAs (kept_of self.now.number self.now.log) element result }
+        ensures low { result.generation ≤ highest_generation }
+    {
+        self.keep.elements[(element - self.keep.first) as usize]
     }
 }

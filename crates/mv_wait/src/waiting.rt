@@ -17,11 +17,10 @@ ghost use Rattle.mv_wait.specs.Waiting.{IsArmed, IsArmedFor, ArePlain, AreOwn, A
 ghost use Rattle.mv_wait.specs.Waiting.{NamesBlockOnExit};
 
 use crate::pausing::Pauses;
-use crate::record::Record;
 use crate::replies::slot;
 use crate::station::Station;
 use crate::task::Task;
-use mv_board::Watch;
+use mv_board::{Caller, Watch};
 use mv_ecb::EcbOp;
 use mv_machine::{Object, Op, ValidConfig};
 use std::sync::Wait;
@@ -99,7 +98,7 @@ impl Station {
         }
         self.await_complete(
             rt,
-            &mut task.record,
+            &mut task.caller,
             &mut task.places,
             &task.pauses,
             count,
@@ -132,10 +131,10 @@ impl Station {
             × (task.new ≡ task.old)) }
         ensures exit { IfErr result (NamesBlockOnExit self.now.config ecbs.now) }
     {
-        if let Some(refusal) = self.refuses_wait(&task.record, &mut task.places, count, ecbs) {
+        if let Some(refusal) = self.refuses_wait(task, count, ecbs) {
             return Err(refusal);
         }
-        self.arm_all(rt, &mut task.record, ecbs);
+        self.arm_all(rt, task, ecbs);
         Ok(())
     }
 
@@ -161,55 +160,51 @@ impl Station {
         ensures rest { IsAtRest task.new.log }
         ensures size { length out.new ≡ length out.old }
     {
-        self.settle_all(rt, &mut task.record, count, ecbs, out);
+        for i in 0..ecbs.len() {
+            out[i] = self.settle(rt, task, ecbs[i]);
+        }
     }
 
     // Why a wait is refused, if it is.
-    fn refuses_wait(
-        &self,
-        me: &Record,
-        places: &mut [u32],
-        count: u32,
-        ecbs: &[u32],
-    ) -> Option<WaitRefusal>
-        requires task { IsOf self.now me.now }
+    fn refuses_wait(&self, task: &mut Task, count: u32, ecbs: &[u32]) -> Option<WaitRefusal>
+        requires task { IsOf self.now task.old }
         requires blocks { AllByRecursion (λ e. e < length self.now.config.owners) ecbs.now }
-        requires few { 2 * length ecbs.now ≤ me.now.left }
-        requires places { length places.old ≡ length self.now.config.owners }
-        ensures refusal { option_map wait_refused result ≡ wait_refusal self.now.config count ecbs.now (kept_of me.now.number me.now.log) }
+        requires few { 2 * length ecbs.now ≤ task.old.left }
+        ensures refusal { option_map wait_refused result
+            ≡ wait_refusal self.now.config count ecbs.now (kept_of task.old.number task.old.log) }
         ensures exit { IfSome result (NamesBlockOnExit self.now.config ecbs.now) }
-        ensures places { length places.new ≡ length places.old }
+        ensures same { task.new ≡ task.old }
     {
-        let number = me.caller.number();
+        let number = task.number();
         if ecbs.len() < count as usize {
             return Some(WaitRefusal::TooMany);
         }
-        if let Some(p) = doubled(places, ecbs) {
+        if let Some(p) = doubled(&mut task.places, ecbs) {
             return Some(WaitRefusal::Doubled(p));
         }
         if let Some(p) = not_owned(self.board.config(), number, ecbs) {
             return Some(WaitRefusal::NotOwner(p));
         }
-        if let Some(p) = me.first_extended(ecbs) {
+        if let Some(p) = task.first_extended(ecbs) {
             return Some(WaitRefusal::Extended(p));
         }
         None
     }
 
     // Arms each block.
-    fn arm_all<R: Wait>(&self, rt: &R, me: &mut Record, ecbs: &[u32])
-        requires task { IsOf self.now me.old }
-        requires rest { IsAtRest me.old.log }
-        requires own { AreOwn self.now.config me.old.number ecbs.now }
-        requires plain { ArePlain me.old ecbs.now }
+    fn arm_all<R: Wait>(&self, rt: &R, task: &mut Task, ecbs: &[u32])
+        requires task { IsOf self.now task.old }
+        requires rest { IsAtRest task.old.log }
+        requires own { AreOwn self.now.config task.old.number ecbs.now }
+        requires plain { ArePlain task.old ecbs.now }
         requires distinct { AreDistinct ecbs.now }
-        requires left { length ecbs.now ≤ me.old.left }
-        ensures armed { ArmsAll ecbs.now me.old me.new }
-        ensures waits { IsArmedFor ecbs.now me.new.log }
-        ensures plain { ArePlain me.new ecbs.now }
+        requires left { length ecbs.now ≤ task.old.left }
+        ensures armed { ArmsAll ecbs.now task.old task.new }
+        ensures waits { IsArmedFor ecbs.now task.new.log }
+        ensures plain { ArePlain task.new ecbs.now }
     {
         for ecb in ecbs {
-            me.event(rt, &self.board, Object::Ecb(*ecb), Op::Ecb(EcbOp::Arm));
+            self.event(rt, task, Object::Ecb(*ecb), Op::Ecb(EcbOp::Arm));
         }
     }
 
@@ -218,19 +213,19 @@ impl Station {
     fn await_complete<R: Wait>(
         &self,
         rt: &R,
-        me: &mut Record,
+        caller: &mut Caller,
         places: &mut [u32],
         pauses: &Pauses,
         count: u32,
         ecbs: &[u32],
     )
-        requires task { IsOf self.now me.old }
-        requires own { AreOwn self.now.config me.old.number ecbs.now }
+        requires task { IsOf self.now caller.old }
+        requires own { AreOwn self.now.config caller.old.number ecbs.now }
         requires distinct { AreDistinct ecbs.now }
         requires count { count ≤ length ecbs.now }
         requires places { length places.old ≡ length self.now.config.owners }
-        ensures went { Went [] me.old me.new }
-        ensures listed { count ≤ listed_count me.new.ready ecbs.now }
+        ensures went { Went [] caller.old caller.new }
+        ensures listed { count ≤ listed_count caller.new.ready ecbs.now }
         ensures places { length places.new ≡ length places.old }
     {
         let spare = ecbs.len() - count as usize;
@@ -238,7 +233,7 @@ impl Station {
         put_first(places, ecbs);
         let mut looks = 0;
         for _ in rt.forever() {
-            unseen = self.look_at_unseen(rt, me, places, unseen, spare, ecbs);
+            unseen = self.look_at_unseen(rt, caller, places, unseen, spare, ecbs);
             if unseen <= spare {
                 return;
             }
@@ -251,25 +246,25 @@ impl Station {
     fn look_at_unseen<R: Wait>(
         &self,
         rt: &R,
-        me: &mut Record,
+        caller: &mut Caller,
         places: &mut [u32],
         mut unseen: usize,
         spare: usize,
         ecbs: &[u32],
     ) -> usize
-        requires task { IsOf self.now me.old }
+        requires task { IsOf self.now caller.old }
         requires size { unseen ≤ length places.old }
-        requires own { AreOwnUpTo self.now.config me.old.number places.old unseen }
-        requires seen { AreSeenBut places.old unseen me.old.ready ecbs.now }
-        ensures went { Went [] me.old me.new }
+        requires own { AreOwnUpTo self.now.config caller.old.number places.old unseen }
+        requires seen { AreSeenBut places.old unseen caller.old.ready ecbs.now }
+        ensures went { Went [] caller.old caller.new }
         ensures places { length places.new ≡ length places.old }
         ensures size { result ≤ unseen }
-        ensures own { AreOwnUpTo self.now.config me.new.number places.new result }
-        ensures seen { AreSeenBut places.new result me.new.ready ecbs.now }
+        ensures own { AreOwnUpTo self.now.config caller.new.number places.new result }
+        ensures seen { AreSeenBut places.new result caller.new.ready ecbs.now }
     {
         let mut open = 0;
         while open <= spare && spare < unseen {
-            if me.peek(rt, &self.board, Watch::Ecb(places[open])) {
+            if self.board.peek(rt, caller, Watch::Ecb(places[open])) {
                 unseen -= 1;
                 places[open] = places[unseen];
             } else {
@@ -279,41 +274,16 @@ impl Station {
         unseen
     }
 
-    // Settles each block, and puts down what is found. At least `count` are complete, since so many are listed.
-    fn settle_all<R: Wait>(
-        &self,
-        rt: &R,
-        me: &mut Record,
-        count: u32,
-        ecbs: &[u32],
-        out: &mut [WaitSlot],
-    )
-        requires task { IsOf self.now me.old }
-        requires waits { IsArmedFor ecbs.now me.old.log }
-        requires own { AreOwn self.now.config me.old.number ecbs.now }
-        requires plain { ArePlain me.old ecbs.now }
-        requires distinct { AreDistinct ecbs.now }
-        requires listed { count ≤ listed_count me.old.ready ecbs.now }
-        requires out { length out.old ≡ length ecbs.now }
-        requires left { length ecbs.now ≤ me.old.left }
-        ensures settled { SettlesEnough count ecbs.now (slots_of out.new) me.old me.new }
-        ensures rest { IsAtRest me.new.log }
-    {
-        for i in 0..ecbs.len() {
-            out[i] = self.settle(rt, me, ecbs[i]);
-        }
-    }
-
     // Settles one block.
-    fn settle<R: Wait>(&self, rt: &R, me: &mut Record, ecb: u32) -> WaitSlot
-        requires task { IsOf self.now me.old }
-        requires own { AreOwn self.now.config me.old.number (ecb ∷ []) }
-        requires plain { ArePlain me.old (ecb ∷ []) }
-        requires left { 0 < me.old.left }
-        ensures settled { IsSettled ecb me.old result me.new }
-        ensures complete { is_listed me.old.ready ecb ≡ true → IsComplete result }
+    fn settle<R: Wait>(&self, rt: &R, task: &mut Task, ecb: u32) -> WaitSlot
+        requires task { IsOf self.now task.old }
+        requires own { AreOwn self.now.config task.old.number (ecb ∷ []) }
+        requires plain { ArePlain task.old (ecb ∷ []) }
+        requires left { 0 < task.old.left }
+        ensures settled { IsSettled ecb task.old result task.new }
+        ensures complete { is_listed task.old.ready ecb ≡ true → IsComplete result }
     {
-        let reply = me.event(rt, &self.board, Object::Ecb(ecb), Op::Ecb(EcbOp::Settle));
+        let reply = self.event(rt, task, Object::Ecb(ecb), Op::Ecb(EcbOp::Settle));
         slot(reply)
     }
 }

@@ -11,7 +11,7 @@ use Rattle.mv_calls.specs.Keeping.{kept_of}
 use Rattle.mv_wait.specs.declared.keep.OwnElement.{OwnElement}
 use Rattle.mv_wait.specs.declared.keep.Keep.{Keep}
 use Rattle.mv_wait.specs.Keep.{Keeps, AreHeld}
-use Rattle.mv_wait.specs.Record.{Fits}
+use Rattle.mv_wait.specs.Task.{Fits, blocks_in}
 use Rattle.mv_wait.proofs.Fresh.{none_extended, none_used}
 use Rattle.mv_wait.proofs.station.task_of.Goals as goal
 
@@ -48,15 +48,22 @@ invariant_of-result c =
       exits = λ n held. absurd (false≢true
           (sym (ap (λ (log : List Entry). (kept_of c.args.caller.number log).extended n) c.requires.new) ∙ held));
     } in record {
-      kept = subst (λ (log : List Entry). Keeps (kept_of c.args.caller.number log) k) (sym c.requires.new) (record {
-        extended = λ n lt. subst (λ (xs : List Bool). slice_index_or xs n false ≡ false) (sym blocks) (none_extended _ n);
-        elements = λ i e at. (let z = none_used _ i none e (subst (λ (xs : List OwnElement). slice_get xs i ≡ Some e) elements at) in
-            (ap (λ (x : OwnElement). x.in_use) z, ap (λ (x : OwnElement). x.generation) z));
-        requests = subst (AreHeld []) (sym empty) (λ test. refl);
-      });
-      stands = subst (λ (log : List Entry). (kept_of c.args.caller.number log).requests ≡ standing log) (sym c.requires.new) refl;
-      caller = c.number.ensures.number;
-      fits = subst (AllByRecursion (Fits c.args.caller k)) (sym c.requires.about) (one, tt);
-      few = rw empty (omega arith);
-      room = rw empty (omega arith);
+      recorded = record {
+        kept = subst (λ (log : List Entry). Keeps (kept_of c.args.caller.number log) k) (sym c.requires.new) (record {
+          extended = λ n lt. subst (λ (xs : List Bool). slice_index_or xs n false ≡ false) (sym blocks) (none_extended _ n);
+          elements = λ i e at. (let z = none_used _ i none e (subst (λ (xs : List OwnElement). slice_get xs i ≡ Some e) elements at) in
+              (ap (λ (x : OwnElement). x.in_use) z, ap (λ (x : OwnElement). x.generation) z));
+          requests = subst (AreHeld []) (sym empty) (λ test. refl);
+        });
+        stands = subst (λ (log : List Entry). (kept_of c.args.caller.number log).requests ≡ standing log) (sym c.requires.new) refl;
+        caller = c.number.ensures.number;
+        fits = subst (AllByRecursion (Fits c.args.caller k)) (sym c.requires.about) (one, tt);
+        few = rw empty (omega arith);
+        room = rw empty (omega arith);
+      };
+      idle = c.in_ok-pending.ensures.items;
+      room = (let much = c.in_ok-pending.ensures.capacity in omega arith);
+      places = (let places = c.in_ok-places.ensures.len in
+          let blocks = c.len-2.ensures in
+          let about = ap blocks_in c.requires.about in omega (arith, c.config-given.result.now.owners.ok.0));
     }

@@ -1,6 +1,5 @@
-use Rattle.std.proofs.Common.{◌≡◌, false, ◌+◌, ◌≤◌, get_or, take, drop, length, ◌++◌, [], ◌∷◌, sym, ap, subst, arith}
+use Rattle.std.proofs.Common.{◌≡◌, false, ◌+◌, ◌≤◌, get_or, take, drop, length, ◌++◌, [], ◌∷◌, refl, sym, subst, arith}
 use Rattle.std.proofs.lemmas.List.{take_more, drop_more, drop_all, take_all}
-use Rattle.mv_board.specs.Faces.{BoardFace}
 use Rattle.mv_calls.specs.Keeping.{kept_of}
 use Rattle.mv_calls.specs.Waits.{arm_all, AreDistinct}
 use Rattle.mv_calls.specs.Program.{Wrong}
@@ -15,10 +14,10 @@ use Rattle.mv_wait.proofs.station.Station.arm_all.Goals as goal
 
 pub loop-ecb-init : goal.loop-ecb-init
 loop-ecb-init g c = record {
-  runs = λ p. runs_none (arm_all c.args.ecbs.now p) c.args.me.now;
-  waits = rest_is_none c.args.me.now.log c.requires.rest;
+  runs = λ p. runs_none (arm_all c.args.ecbs.now p) c.args.task.now;
+  waits = rest_is_none c.args.task.now.log c.requires.rest;
   plain = c.requires.plain;
-  idle = idle_at_rest c.args.me.now.log c.args.ecbs.now c.requires.rest;
+  idle = idle_at_rest c.args.task.now.log c.args.ecbs.now c.requires.rest;
 }
 
 pub event-requires : goal.event-requires
@@ -28,13 +27,13 @@ event-requires g c =
     let left = went.left in
     let below = c.loop-ecb-test.true in
     let much = c.requires.left in
-    let own = own_one c.args.self.now.config c.self.inside.board.config c.loop-ecb.me.number c.args.me.now.number c.args.ecbs.now
+    let own = own_one c.args.self.now.config c.args.self.now.config c.loop-ecb.task.number c.args.task.now.number c.args.ecbs.now
     c.loop-ecb.ecb-index
-    (ap (λ (b : BoardFace). b.config) c.self.view_is) went.same.number c.requires.own below in record {
-      board = still_of c.args.self.now c.self.inside.board c.args.me.now c.loop-ecb.me went.same c.requires.task c.self.view_is;
+    refl went.same.number c.requires.own below in record {
+      task = still_of c.args.self.now c.args.self.now c.args.task.now c.loop-ecb.task went.same c.requires.task refl;
       left = omega arith;
-      admitted = λ lt. may_arm c.self.inside.board.config c.loop-ecb.me.number (get_or c.args.ecbs.now c.loop-ecb.ecb-index 0)
-          c.loop-ecb.me.log lt own.0 own.1;
+      admitted = λ lt. may_arm c.args.self.now.config c.loop-ecb.task.number (get_or c.args.ecbs.now c.loop-ecb.ecb-index 0)
+          c.loop-ecb.task.log lt own.0 own.1;
     }
 
 pub loop-ecb-preserved : goal.loop-ecb-preserved
@@ -42,20 +41,20 @@ loop-ecb-preserved g c =
     let since = c.loop-ecb.invariant in
     let went = (since.runs Wrong).went in
     let below = c.loop-ecb-test.true in
-    let t = c.loop-ecb.me in
-    let u = c.event.new.self in
+    let t = c.loop-ecb.task in
+    let u = c.event.new.task in
     let i = c.loop-ecb.ecb-index in
     let es = c.args.ecbs.now in
     let e = get_or es i 0 in
-    let own = own_one c.args.self.now.config c.self.inside.board.config t.number c.args.me.now.number es i
-    (ap (λ (b : BoardFace). b.config) c.self.view_is) went.same.number c.requires.own below in
+    let own = own_one c.args.self.now.config c.args.self.now.config t.number c.args.task.now.number es i
+    refl went.same.number c.requires.own below in
     let rest : drop i es ≡ e ∷ drop (i + 1) es = drop_more es i 0 below in
     let distinct : AreDistinct (e ∷ drop (i + 1) es) = subst AreDistinct rest (distinct_rest i es c.requires.distinct) in
     let idle : AreIdle t.log (e ∷ drop (i + 1) es) = subst (AreIdle t.log) rest since.idle in
-    let reply = armed_reply c.self.inside.board.config t u e c.event.result c.event.ensures.event c.event.ensures.possible own.1 idle.0
+    let reply = armed_reply c.args.self.now.config t u e c.event.result c.event.ensures.event c.event.ensures.possible own.1 idle.0
     (one_of (λ n. (kept_of t.number t.log).extended n ≡ false) es i 0 since.plain below) in
     let h = c.event.ensures.event.1 in record {
-      runs = λ p. runs_then i 1 (arm_all es p) (arm_all (drop i es) p) (arm_all (drop (i + 1) es) p) c.args.me.now t u (since.runs p)
+      runs = λ p. runs_then i 1 (arm_all es p) (arm_all (drop i es) p) (arm_all (drop (i + 1) es) p) c.args.task.now t u (since.runs p)
           (subst (λ ns. Runs 1 (arm_all ns p) (arm_all (drop (i + 1) es) p) t u) (sym rest)
           (arm_step t u e c.event.result (drop (i + 1) es) p c.event.ensures.event reply));
       waits = subst (λ ns. IsArmedFor ns u.log) (sym (take_more es i 0 below))
@@ -69,10 +68,10 @@ pub returns : goal.returns
 returns g c =
     let since = c.loop-ecb.invariant in
     let over : length c.args.ecbs.now ≤ c.loop-ecb.ecb-index = omega arith in record {
-      armed = λ p. runs_within c.loop-ecb.ecb-index (length c.args.ecbs.now) (arm_all c.args.ecbs.now p) p c.args.me.now c.loop-ecb.me
+      armed = λ p. runs_within c.loop-ecb.ecb-index (length c.args.ecbs.now) (arm_all c.args.ecbs.now p) p c.args.task.now c.loop-ecb.task
           (omega arith)
-          (subst (λ es. Runs c.loop-ecb.ecb-index (arm_all c.args.ecbs.now p) (arm_all es p) c.args.me.now c.loop-ecb.me)
+          (subst (λ es. Runs c.loop-ecb.ecb-index (arm_all c.args.ecbs.now p) (arm_all es p) c.args.task.now c.loop-ecb.task)
           (drop_all c.loop-ecb.ecb-index c.args.ecbs.now over) (since.runs p));
-      waits = subst (λ es. IsArmedFor es c.loop-ecb.me.log) (take_all c.loop-ecb.ecb-index c.args.ecbs.now over) since.waits;
+      waits = subst (λ es. IsArmedFor es c.loop-ecb.task.log) (take_all c.loop-ecb.ecb-index c.args.ecbs.now over) since.waits;
       plain = since.plain;
     }

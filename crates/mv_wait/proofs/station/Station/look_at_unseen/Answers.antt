@@ -11,7 +11,7 @@ use Rattle.mv_wait.proofs.Unseen.{own_still, seen_more}
 use Rattle.mv_wait.proofs.station.Station.look_at_unseen.Goals as goal
 
 pub peek-requires-clause-board : goal.peek-requires-clause-board
-peek-requires-clause-board g c = still_of c.args.self.now c.self.inside.board c.args.me.now c.loop-open.me c.loop-open.invariant.went.same
+peek-requires-clause-board g c = still_of c.args.self.now c.self.inside.board c.args.caller.now c.loop-open.caller c.loop-open.invariant.went.same
     c.requires.task c.self.view_is
 
 pub peek-requires-clause-own : goal.peek-requires-clause-own
@@ -22,7 +22,7 @@ peek-requires-clause-own g c =
     let left = c.if-spare-unseen.true in
     let one = c.loop-open.invariant.own c.loop-open.open (omega arith) in (
       subst (λ (s : Setup). e < length s.owners) (sym config) one.0,
-      subst (λ (s : Setup). owner_of s e ≡ c.loop-open.me.number) (sym config) one.1,
+      subst (λ (s : Setup). owner_of s e ≡ c.loop-open.caller.number) (sym config) one.1,
     )
 
 pub loop-open-preserved-then-peek : goal.loop-open-preserved-then-peek
@@ -41,16 +41,16 @@ loop-open-preserved-then-peek g c =
     let room = c.requires.size in
     let lt : j < m = omega arith in
     let size : m ≤ length places = omega arith in
-    let ready : c.peek.new.self.ready ≡ c.loop-open.me.ready ++ watch.Ecb e ∷ [] =
-    look.ready ∙ ap (λ b. with_watch b (watch.Ecb e) c.loop-open.me.ready) c.if-peek.true in record {
-      went = went_then [] [] c.args.me.now c.loop-open.me c.peek.new.self since.went
-          (went_look c.loop-open.me (Ecb e) look.word c.peek.new.self look.found);
+    let ready : c.peek.new.caller.ready ≡ c.loop-open.caller.ready ++ watch.Ecb e ∷ [] =
+    look.ready ∙ ap (λ b. with_watch b (watch.Ecb e) c.loop-open.caller.ready) c.if-peek.true in record {
+      went = went_then [] [] c.args.caller.now c.loop-open.caller c.peek.new.caller since.went
+          (went_look c.loop-open.caller (Ecb e) look.word c.peek.new.caller look.found);
       places = length-set places j (get_or places (m - 1) 0) ∙ same;
       size = omega arith;
       own = subst (λ k. AreOwnUpTo c.args.self.now.config k after (m - 1)) (sym look.found.same.number)
-          (own_still places m j lt size c.args.self.now.config c.loop-open.me.number since.own);
+          (own_still places m j lt size c.args.self.now.config c.loop-open.caller.number since.own);
       seen = subst (λ ws. AreSeenBut after (m - 1) ws c.args.ecbs.now) (sym ready)
-          (seen_more places m j lt size c.loop-open.me.ready c.args.ecbs.now since.seen);
+          (seen_more places m j lt size c.loop-open.caller.ready c.args.ecbs.now since.seen);
     }
 
 pub loop-open-preserved : goal.loop-open-preserved
@@ -58,10 +58,10 @@ loop-open-preserved g c =
     let since = c.loop-open.invariant in
     let look = c.peek.ensures.look in
     let e = get_or c.loop-open.places c.loop-open.open 0 in
-    let ready : c.peek.new.self.ready ≡ c.loop-open.me.ready =
-    look.ready ∙ ap (λ b. with_watch b (watch.Ecb e) c.loop-open.me.ready) c.if-peek.false in record {
-      went = went_then [] [] c.args.me.now c.loop-open.me c.peek.new.self since.went
-          (went_look c.loop-open.me (Ecb e) look.word c.peek.new.self look.found);
+    let ready : c.peek.new.caller.ready ≡ c.loop-open.caller.ready =
+    look.ready ∙ ap (λ b. with_watch b (watch.Ecb e) c.loop-open.caller.ready) c.if-peek.false in record {
+      went = went_then [] [] c.args.caller.now c.loop-open.caller c.peek.new.caller since.went
+          (went_look c.loop-open.caller (Ecb e) look.word c.peek.new.caller look.found);
       places = since.places;
       size = since.size;
       own = subst (λ k. AreOwnUpTo c.args.self.now.config k c.loop-open.places c.loop-open.unseen) (sym look.found.same.number) since.own;

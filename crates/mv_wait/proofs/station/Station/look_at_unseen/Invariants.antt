@@ -6,11 +6,11 @@ use Rattle.mv_wait.proofs.station.Station.look_at_unseen.Given as goal
 
 abbrev pub invariant-loop-open : goal.invariant-loop-open
 invariant-loop-open g l = record {
-  went : Went [] l.fn.me l.me;
+  went : Went [] l.fn.caller l.caller;
   places : length l.places ≡ length l.fn.places;
   size : l.unseen ≤ l.fn.unseen;
-  own : AreOwnUpTo l.self.config l.me.number l.places l.unseen;
-  seen : AreSeenBut l.places l.unseen l.me.ready l.ecbs;
+  own : AreOwnUpTo l.self.config l.caller.number l.places l.unseen;
+  seen : AreSeenBut l.places l.unseen l.caller.ready l.ecbs;
 }
 
 abbrev pub decreases-loop-open : goal.decreases-loop-open

@@ -1,4 +1,4 @@
-use Rattle.std.proofs.Common.{◌≡◌, ◌+◌, ◌<◌, ◌≤◌, length, reverse, vec_capacity, ◌++◌, sym, ap, ◌∙◌}
+use Rattle.std.proofs.Common.{◌≡◌, ◌+◌, ◌<◌, ◌≤◌, length, reverse, vec_capacity, ◌++◌, ◌∷◌, [], sym, ap, ◌∙◌}
 use Rattle.std.proofs.Common.{subst, arith}
 use Rattle.std.specs.List.{AllByRecursion}
 use Rattle.std.proofs.lemmas.List.{length-reverse}
@@ -15,6 +15,8 @@ use Rattle.mv_calls.specs.Posts.{posted_next}
 use Rattle.mv_wait.specs.Posted.{PostedOne, reply_to_post, posting_of}
 use Rattle.mv_wait.proofs.Admits.{may_post}
 use Rattle.mv_wait.proofs.Answering.{says_posted}
+use Rattle.mv_wait.proofs.Low.{fits_of}
+use Rattle.mv_wait.proofs.Recording.{reply_kind, recorded_on}
 use Rattle.mv_wait.proofs.Exits.{came_leads, next_is, reach_some, room_for}
 use Rattle.mv_wait.proofs.station.Station.post_one.Goals as goal
 
@@ -24,21 +26,29 @@ event-reply-requires-clause-left g c =
     let one = reach_some c.args.self.now.config c.args.ecb c.requires.block in omega arith
 
 pub event-reply-requires-clause-admitted : goal.event-reply-requires-clause-admitted
-event-reply-requires-clause-admitted g c lt =
-    may_post c.self.inside.board.config c.args.me.now.number c.args.ecb c.args.code c.args.me.now.log lt
+event-reply-requires-clause-admitted g c =
+    let fits = fits_of c.args.self.now.config c.args.caller.now c.args.keep.now c.requires.task.1 c.requires.recorded in
+    may_post c.self.inside.board.config c.args.caller.now.number c.args.ecb c.args.code c.args.caller.now.log
+    (subst (λ (b : BoardFace). c.args.caller.now.number < b.config.callers) (sym c.self.view_is) fits.caller)
     (subst (λ (b : BoardFace). c.args.ecb < length b.config.owners) (sym c.self.view_is) c.requires.block) c.requires.code
 
+pub follow-requires-clause-kinds : goal.follow-requires-clause-kinds
+follow-requires-clause-kinds g c =
+    reply_kind c.self.inside.board.config c.args.caller.now c.event-reply.new.caller (Ecb c.args.ecb) (op_on.Ecb (Post c.args.code))
+    c.event-reply.result c.event-reply.ensures.event c.event-reply.ensures.possible
+
 pub posted-came-requires : goal.posted-came-requires
-posted-came-requires g c = says_posted c.self.inside.board.config c.args.me.now c.event-reply.new.self c.args.ecb c.args.code
+posted-came-requires g c = says_posted c.self.inside.board.config c.args.caller.now c.event-reply.new.caller c.args.ecb c.args.code
     c.event-reply.result c.event-reply.ensures.event c.event-reply.ensures.possible
 
 pub note-requires : goal.note-requires
 note-requires g c =
     let d = c.self.inside.board.config in
     let same : d ≡ c.args.self.now.config = ap (λ (b : BoardFace). b.config) c.self.view_is in
-    let valid : IsValid d = subst IsValid c.config.ensures c.targets.ensures.valid in
-    let t = c.args.me.now in
-    let u = c.event-reply.new.self in
+    let t = c.args.caller.now in
+    let valid : IsValid d = subst IsValid (sym same)
+    (fits_of c.args.self.now.config t c.args.keep.now c.requires.task.1 c.requires.recorded).valid in
+    let u = c.event-reply.new.caller in
     let p = posting_of c.posted-came.result in
     let h : Happened t (Ecb c.args.ecb) (op_on.Ecb (Post c.args.code)) (reply_of.Ecb (reply_to_post p)) u =
     subst (λ (r : Reply). Happened t (Ecb c.args.ecb) (op_on.Ecb (Post c.args.code)) r u) c.posted-came.ensures
@@ -50,7 +60,7 @@ note-requires g c =
     let cost = subst (λ (s : Setup). reach s c.args.ecb + total (reach s) (reverse c.args.pending.now.items) ≤ t.left)
     (sym same) c.requires.left in
     let room = room_for d c.args.ecb t.left (vec_capacity c.args.pending.now) (posted_next d p) (reverse c.args.pending.now.items) valid
-    leads blocks cost c.event-reply.ensures.few c.requires.room in
+    leads blocks cost (let kept = c.requires.recorded.few in omega arith) c.requires.room in
     let size = length-reverse c.args.pending.now.items in
     let targets : c.targets.result.now ≡ posted_next d p =
     c.targets.ensures.targets ∙ ((λ i. targets_of (c.config.ensures i) (c.exit.ensures i)) ∙ sym (next_is d p)) in
@@ -60,9 +70,10 @@ pub returns-clause-posted : goal.returns-clause-posted
 returns-clause-posted g c =
     let d = c.self.inside.board.config in
     let same : d ≡ c.args.self.now.config = ap (λ (b : BoardFace). b.config) c.self.view_is in
-    let valid : IsValid d = subst IsValid c.config.ensures c.targets.ensures.valid in
-    let t = c.args.me.now in
-    let u = c.event-reply.new.self in
+    let t = c.args.caller.now in
+    let valid : IsValid d = subst IsValid (sym same)
+    (fits_of c.args.self.now.config t c.args.keep.now c.requires.task.1 c.requires.recorded).valid in
+    let u = c.event-reply.new.caller in
     let p = posting_of c.posted-came.result in
     let h : Happened t (Ecb c.args.ecb) (op_on.Ecb (Post c.args.code)) (reply_of.Ecb (reply_to_post p)) u =
     subst (λ (r : Reply). Happened t (Ecb c.args.ecb) (op_on.Ecb (Post c.args.code)) r u) c.posted-came.ensures
@@ -77,6 +88,14 @@ returns-clause-posted g c =
       answer = sym c.answer-answer.ensures;
       event = h;
       leads = leads;
-      few = c.event-reply.ensures.few;
+      few = (let kept = c.requires.recorded.few in omega arith);
       pending = c.note.ensures.noted ∙ ap (λ ts. c.args.pending.now.items ++ reverse ts) targets;
     })
+
+pub returns-clause-recorded : goal.returns-clause-recorded
+returns-clause-recorded g c =
+    let f = c.follow.ensures in
+    recorded_on c.self.inside.board.config c.args.caller.now c.event-reply.new.caller (Ecb c.args.ecb) (op_on.Ecb (Post c.args.code))
+    c.event-reply.result c.args.keep.now c.follow.new.self c.event-reply.ensures.event c.event-reply.ensures.possible
+    (c.requires.task.1 ∙ sym (ap (λ (b : BoardFace). b.config ∷ []) c.self.view_is)) f.kept f.same f.sizes f.room f.capacity
+    c.requires.recorded

@@ -7,6 +7,7 @@ use Rattle.mv_wait.specs.Run.{Went, IsServed}
 use Rattle.mv_wait.specs.Task.{blocks_in}
 use Rattle.mv_wait.specs.Waiting.{ArePlain}
 use Rattle.mv_wait.proofs.Parts.{still_of, same_view, plain_still}
+use Rattle.mv_wait.proofs.Recording.{recorded_looked}
 use Rattle.mv_wait.proofs.Runs.{same_then, went_log}
 use Rattle.mv_wait.proofs.Unrefusing.{wait_served, wait_is_refused}
 use Rattle.mv_wait.proofs.station.Station.wait.Goals as goal
@@ -24,7 +25,7 @@ pub await_complete-requires-clause-task : goal.await_complete-requires-clause-ta
 await_complete-requires-clause-task g c =
     let t = c.args.task.now in
     let u = c.arm_wait.new.task in
-    let r = c.task.inside.record in
+    let r = c.task.inside.caller in
     let same = (c.in_default.ensures.armed.arms Wrong).went.same in
     still_of c.args.self.now c.args.self.now t r (same_then t u r same (same_view u r c.task.view_is)) c.requires.task refl
 
@@ -34,20 +35,35 @@ await_complete-requires-clause-places g c =
     c.deref_mut.ensures.len ∙ (c.task.invariant.places
     ∙ ap blocks_in (ap (λ (d : CallerFace). d.about) c.task.view_is ∙ (same.about ∙ c.requires.task.1)))
 
+pub invariant_of-task : goal.invariant_of-task
+invariant_of-task g c =
+    let r = c.task.inside.caller in
+    let v = c.await_complete.new.caller in
+    let same = (c.in_default.ensures.armed.arms Wrong).went.same in
+    let looks = c.await_complete.ensures.went in
+    let left = looks.left in
+    let room = c.task.invariant.room in record {
+      recorded = recorded_looked c.args.self.now.config r v c.task.inside.keep
+          (ap (λ (d : CallerFace). d.about) c.task.view_is ∙ (same.about ∙ c.requires.task.1)) looks c.task.invariant.recorded;
+      idle = c.task.invariant.idle;
+      room = omega arith;
+      places = c.task.invariant.places ∙ sym (ap blocks_in looks.same.about);
+    }
+
 pub settle_wait-requires-clause-task : goal.settle_wait-requires-clause-task
 settle_wait-requires-clause-task g c =
     let t = c.args.task.now in
     let u = c.arm_wait.new.task in
-    let r = c.task.inside.record in
-    let v = c.await_complete.new.me in
+    let r = c.task.inside.caller in
+    let v = c.await_complete.new.caller in
     let same = (c.in_default.ensures.armed.arms Wrong).went.same in
     still_of c.args.self.now c.args.self.now t v
     (same_then t r v (same_then t u r same (same_view u r c.task.view_is)) c.await_complete.ensures.went.same) c.requires.task refl
 
 pub settle_wait-requires-clause-plain : goal.settle_wait-requires-clause-plain
 settle_wait-requires-clause-plain g c =
-    let r = c.task.inside.record in
-    let v = c.await_complete.new.me in
+    let r = c.task.inside.caller in
+    let v = c.await_complete.new.caller in
     let looks = c.await_complete.ensures.went in
     plain_still r v c.args.ecbs.now looks.same.number (went_log r v looks)
     (subst (λ (d : CallerFace). ArePlain d c.args.ecbs.now) (sym c.task.view_is) c.in_default.ensures.armed.plain)
@@ -65,8 +81,8 @@ pub returns-clause-served : goal.returns-clause-served
 returns-clause-served g c =
     let t = c.args.task.now in
     let u = c.arm_wait.new.task in
-    let r = c.task.inside.record in
-    let v = c.await_complete.new.me in
+    let r = c.task.inside.caller in
+    let v = c.await_complete.new.caller in
     let w = c.settle_wait.new.task in
     let es = c.args.ecbs.now in
     let s = c.args.self.now.config in

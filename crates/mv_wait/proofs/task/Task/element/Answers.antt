@@ -1,6 +1,5 @@
 use Rattle.std.proofs.Common.{◌≡◌, ◌<◌, ◌≤◌, ◌+◌, ◌-◌, ◌*◌, ◌/◌, ◌%◌, length, Some, sym, ap, ◌∙◌}
 use Rattle.std.proofs.Common.{subst, arith}
-use Rattle.std.specs.List.{AllByRecursion}
 use Rattle.std.proofs.Math.Nat.{div-mul-le_self, mod-eq-sub-div-mul, mod-lt}
 use Rattle.std.proofs.lemmas.Option.{slice_get-get_or}
 use Rattle.mv_board.specs.Faces.{CallerFace}
@@ -8,13 +7,13 @@ use Rattle.mv_calls.specs.Keeping.{kept_of}
 use Rattle.mv_machine.proofs.Validity.{elements_kept}
 use Rattle.mv_machine.specs.Limits.{highest_generation}
 use Rattle.mv_wait.specs.Keep.{IsKeptAs}
-use Rattle.mv_wait.specs.Record.{Fits}
-use Rattle.mv_wait.proofs.record.Record.element.Goals as goal
+use Rattle.mv_wait.proofs.Low.{fits_of}
+use Rattle.mv_wait.proofs.task.Task.element.Goals as goal
 
 pub returns : goal.returns
 returns c =
     let about = ap (λ (d : CallerFace). d.about) c.self.view_is ∙ c.requires.1 in
-    let fits = (subst (AllByRecursion (Fits c.self.inside.caller c.self.inside.keep)) about c.self.invariant.fits).0 in
+    let fits = fits_of c.requires.0 c.self.inside.caller c.self.inside.keep about c.self.invariant.recorded in
     let k = c.self.inside.keep in
     let n = c.args.element in
     let size = c.requires.0.elements_per_caller in
@@ -26,7 +25,7 @@ returns c =
     let below : n % size < size = mod-lt n (omega arith) in
     let all = fits.elements in
     let lt : n - k.first < length k.elements.items = omega arith in
-    let x = c.self.invariant.kept.elements (n - k.first) c.index.result.now
+    let x = c.self.invariant.recorded.kept.elements (n - k.first) c.index.result.now
     (slice_get-get_or k.elements.items (n - k.first) c.index.result.now lt ∙ ap (λ y. Some y) (sym c.index.ensures)) in
     let here : k.first + (n - k.first) ≡ n = omega arith in
     let number = ap (λ (d : CallerFace). d.number) c.self.view_is in

@@ -5,14 +5,14 @@ use Rattle.mv_wait.specs.Answers.{slots_of}
 use Rattle.mv_wait.specs.Listed.{listed_count}
 use Rattle.mv_wait.specs.Run.{Runs}
 use Rattle.mv_wait.specs.Waiting.{IsArmedFor, ArePlain, Waited}
-use Rattle.mv_wait.proofs.station.Station.settle_all.Given as goal
+use Rattle.mv_wait.proofs.station.Station.settle_wait.Given as goal
 
 abbrev pub invariant-loop-i : goal.invariant-loop-i
 invariant-loop-i g l = record {
   runs : (found : List (Option ℕ)) (f : List (Option ℕ) → Program Waited)
-      → Runs l.i (settle_all l.ecbs found f) (settle_all (drop l.i l.ecbs) (found ++ slots_of (take l.i l.out)) f) l.fn.me l.me;
-  waits : IsArmedFor (drop l.i l.ecbs) l.me.log;
-  plain : ArePlain l.me l.ecbs;
-  enough : l.count ≤ complete_count (slots_of (take l.i l.out)) + listed_count l.me.ready (drop l.i l.ecbs);
+      → Runs l.i (settle_all l.ecbs found f) (settle_all (drop l.i l.ecbs) (found ++ slots_of (take l.i l.out)) f) l.fn.task l.task;
+  waits : IsArmedFor (drop l.i l.ecbs) l.task.log;
+  plain : ArePlain l.task l.ecbs;
+  enough : l.count ≤ complete_count (slots_of (take l.i l.out)) + listed_count l.task.ready (drop l.i l.ecbs);
   size : length l.out ≡ length l.ecbs;
 }

@@ -1,0 +1,37 @@
+use Rattle.std.proofs.Common.{arith}
+use Rattle.mv_wait.proofs.Recording.{reply_kind, closes_below, recorded_on, still_task, about_inside}
+use Rattle.mv_wait.proofs.Low.{fits_of, names_low}
+use Rattle.mv_wait.proofs.station.Station.event.Goals as goal
+
+pub follow-requires-clause-kinds : goal.follow-requires-clause-kinds
+follow-requires-clause-kinds g c =
+    reply_kind c.self.inside.board.config c.task.inside.caller c.event-reply.new.caller c.args.object c.args.op c.event-reply.result
+    c.event-reply.ensures.event c.event-reply.ensures.possible
+
+pub follow-requires-clause-closes : goal.follow-requires-clause-closes
+follow-requires-clause-closes g c =
+    let about = about_inside c.args.self.now c.self.inside.board c.args.task.now c.task.inside.caller c.task.view_is c.self.view_is
+    c.requires.task in
+    closes_below c.self.inside.board.config c.task.inside.caller c.event-reply.new.caller c.args.object c.args.op c.event-reply.result
+    c.event-reply.ensures.event c.event-reply.ensures.possible
+    (fits_of c.self.inside.board.config c.task.inside.caller c.task.inside.keep about c.task.invariant.recorded).valid
+
+pub invariant_of-task : goal.invariant_of-task
+invariant_of-task g c =
+    let about = about_inside c.args.self.now c.self.inside.board c.args.task.now c.task.inside.caller c.task.view_is c.self.view_is
+    c.requires.task in
+    let u = c.event-reply.new.caller in
+    let h = c.event-reply.ensures.event in
+    let f = c.follow.ensures in
+    let less = h.1.left in
+    still_task c.task.inside u c.follow.new.self c.task.invariant h.1.same (omega arith)
+    (recorded_on c.self.inside.board.config c.task.inside.caller u c.args.object c.args.op c.event-reply.result c.task.inside.keep
+    c.follow.new.self h c.event-reply.ensures.possible about f.kept f.same f.sizes f.room f.capacity c.task.invariant.recorded)
+
+pub returns-clause-low : goal.returns-clause-low
+returns-clause-low g c =
+    let about = about_inside c.args.self.now c.self.inside.board c.args.task.now c.task.inside.caller c.task.view_is c.self.view_is
+    c.requires.task in
+    names_low c.self.inside.board.config c.task.inside.caller c.event-reply.new.caller c.args.object c.args.op c.event-reply.result
+    c.event-reply.ensures.event c.event-reply.ensures.possible
+    (fits_of c.self.inside.board.config c.task.inside.caller c.task.inside.keep about c.task.invariant.recorded).valid

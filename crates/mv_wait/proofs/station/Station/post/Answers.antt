@@ -1,0 +1,104 @@
+use Rattle.std.proofs.Common.{◌≡◌, ℕ, ◌<◌, ◌≤◌, length, List, reverse, ◌++◌, ◌∷◌, [], refl, sym, ap, ◌∙◌, subst, arith}
+use Rattle.std.proofs.lemmas.List.{reverse-append, reverse-reverse}
+use Rattle.std.specs.List.{AllByRecursion}
+use Rattle.mv_calls.specs.Posts.{posted_next}
+use Rattle.mv_machine.specs.Reach.{reach}
+use Rattle.mv_board.specs.Faces.{CallerFace}
+use Rattle.mv_calls.specs.Rest.{IsAtRest}
+use Rattle.mv_wait.specs.Task.{blocks_in}
+use Rattle.mv_wait.proofs.Posts.{Underway, begun, going, ended, all_below}
+use Rattle.mv_wait.proofs.station.Station.post.Goals as goal
+
+pub loop-next-init : goal.loop-next-init
+loop-next-init g c =
+    let one = c.post_one-answer.ensures.posted in
+    let t = c.task.inside.caller in
+    let u = c.post_one-answer.new.caller in
+    let less = one.event.1.left in
+    let room = c.task.invariant.room in
+    let same = c.post_one-answer.ensures.capacity in
+    let config = c.args.self.now.config in
+    let view = c.task.view_is in
+    let work : reverse c.post_one-answer.new.pending.items ≡ posted_next config one.posted =
+    ap reverse (one.pending ∙ ap (λ xs. xs ++ reverse (posted_next config one.posted)) c.task.invariant.idle)
+    ∙ reverse-reverse (posted_next config one.posted) in record {
+      underway = (
+        one.posted,
+        one.answer,
+        subst (λ (d : CallerFace). Underway config c.args.code c.args.ecb d one.posted u (reverse c.post_one-answer.new.pending.items)) view
+            (subst (λ ns. Underway config c.args.code c.args.ecb t one.posted u ns) (sym work)
+            (begun config c.args.code t u c.args.ecb one.posted c.requires.block one.event one.leads
+            (subst (λ (d : CallerFace). reach config c.args.ecb ≤ d.left) (sym view) c.requires.left) one.few
+            (subst (λ (d : CallerFace). IsAtRest d.log) (sym view) c.requires.rest))),
+      );
+      told = one.event.1.shown.0 ∙ ap (λ (d : CallerFace). d.told) view;
+      recorded = c.post_one-answer.ensures.recorded;
+      room = omega arith;
+      places = c.task.invariant.places ∙ sym (ap blocks_in one.event.1.same.about);
+    }
+
+length_zero : (xs : List ℕ) → length xs ≡ 0 → xs ≡ []
+length_zero [] e = refl
+length_zero (x ∷ xs) e = absurd (omega arith)
+
+-- what was pending, the next block first
+next_first : (pending rest : List ℕ) (n : ℕ) → pending ≡ rest ++ n ∷ [] → reverse pending ≡ n ∷ reverse rest
+next_first pending rest n is = ap reverse is ∙ reverse-append rest (n ∷ [])
+
+pub post_one-requires-clause-block : goal.post_one-requires-clause-block
+post_one-requires-clause-block g c =
+    let w = c.loop-next.invariant.underway.2 in
+    let config = c.args.self.now.config in
+    let work = next_first c.loop-next.task-inside.pending.items c.pop.new.self.items c.in-Some.next c.in-Some.ensures.items in
+    (subst (AllByRecursion (λ e. e < length config.owners)) (w.flat_is ∙ work) (all_below config c.args.code w.frames w.deep)).0
+
+pub post_one-requires-clause-blocks : goal.post_one-requires-clause-blocks
+post_one-requires-clause-blocks g c =
+    let w = c.loop-next.invariant.underway.2 in
+    let config = c.args.self.now.config in
+    let work = next_first c.loop-next.task-inside.pending.items c.pop.new.self.items c.in-Some.next c.in-Some.ensures.items in
+    (subst (AllByRecursion (λ e. e < length config.owners)) (w.flat_is ∙ work) (all_below config c.args.code w.frames w.deep)).1
+
+pub loop-next-preserved : goal.loop-next-preserved
+loop-next-preserved g c =
+    let u = c.loop-next.invariant.underway in
+    let config = c.args.self.now.config in
+    let one = c.post_one.ensures.posted in
+    let less = one.event.1.left in
+    let room = c.loop-next.invariant.room in
+    let rest = c.pop.new.self.items in
+    let work = next_first c.loop-next.task-inside.pending.items rest c.in-Some.next c.in-Some.ensures.items in
+    let w = subst (Underway config c.args.code c.args.ecb c.args.task.now u.0 c.loop-next.task-inside.caller) work u.2 in
+    let more : posted_next config one.posted ++ reverse rest ≡ reverse c.post_one.new.pending.items =
+    sym (ap reverse one.pending
+    ∙ (reverse-append rest (reverse (posted_next config one.posted))
+    ∙ ap (λ xs. xs ++ reverse rest) (reverse-reverse (posted_next config one.posted)))) in record {
+      underway = (
+        u.0,
+        u.1,
+        subst (Underway config c.args.code c.args.ecb c.args.task.now u.0 c.post_one.new.caller) more
+            (going config c.args.code c.args.ecb c.args.task.now u.0 c.loop-next.task-inside.caller c.in-Some.next (reverse rest) c.post_one.new.caller
+            one.posted w one.event one.leads one.few),
+      );
+      told = one.event.1.shown.0 ∙ c.loop-next.invariant.told;
+      recorded = c.post_one.ensures.recorded;
+      room = (let same = c.post_one.ensures.capacity ∙ c.in-Some.ensures.capacity in omega arith);
+      places = c.loop-next.invariant.places ∙ sym (ap blocks_in one.event.1.same.about);
+    }
+
+pub returns-clause-served : goal.returns-clause-served
+returns-clause-served g c =
+    let u = c.loop-next.invariant.underway in
+    let config = c.args.self.now.config in
+    let none : c.loop-next.task-inside.pending.items ≡ [] =
+    length_zero c.loop-next.task-inside.pending.items (let n = c.in_default.ensures.cases.0 in omega arith) in
+    ended config c.args.code c.args.ecb c.args.task.now u.0 c.loop-next.task-inside.caller c.post_one-answer.result u.1 c.requires.rest
+    (subst (λ ns. Underway config c.args.code c.args.ecb c.args.task.now u.0 c.loop-next.task-inside.caller (reverse ns)) none u.2)
+
+pub invariant_of-task : goal.invariant_of-task
+invariant_of-task g c = record {
+  recorded = c.loop-next.invariant.recorded;
+  idle = length_zero c.pop.new.self.items (let n = c.in_default.ensures.cases.1 in omega arith);
+  room = subst (λ n. c.loop-next.task-inside.caller.left ≤ n) (sym c.in_default.ensures.capacity) c.loop-next.invariant.room;
+  places = c.loop-next.invariant.places;
+}
