@@ -33,7 +33,7 @@ use Rattle.mv_machine.proofs.Orderly.{history_is_orderly}
 use Rattle.mv_board.specs.Faces.{CallerFace}
 use Rattle.mv_calls.proofs.Hearing.{of_own, of_other}
 use Rattle.mv_calls.proofs.Interleaved.{callers_exist}
-use Rattle.mv_wait.proofs.OneBlock.{Waited}
+use Rattle.mv_wait.specs.OneBlock.{WaitedFor}
 use Rattle.mv_attach.specs.Entries.{Finds, IsAccepted, IsPosted}
 
 -- ---- what each caller's part keeps to
@@ -135,7 +135,7 @@ found_was_posted c es k n code legal f =
     (own_entry k es f.entry f.member) n code f.object f.found
 
 -- a wait for one block found it so
-pub waited_finds : (ecb code : ℕ) (t u : CallerFace) → Waited ecb code t u → Finds u.log ecb code
+pub waited_finds : (ecb code : ℕ) (t u : CallerFace) → WaitedFor ecb code t u → Finds u.log ecb code
 waited_finds ecb code t u w = record {
   entry = w.second;
   member = subst (λ es. Contains es w.second) (sym w.logged)

@@ -17,7 +17,7 @@ use Rattle.mv_calls.specs.Rest.{IsAtRest}
 use Rattle.mv_calls.specs.Waits.{is_others_block, clear, the_word, refused_if}
 use Rattle.mv_calls.proofs.Making.{kept_from-append, kept_caller}
 use Rattle.mv_wait.specs.Run.{IsServed}
-use Rattle.mv_wait.proofs.OneBlock.{Waited}
+use Rattle.mv_wait.specs.OneBlock.{WaitedFor}
 use Rattle.mv_attach.proofs.Once.{served_once}
 use Rattle.mv_handover.specs.Ready.{IsReady, Added, Put, Took}
 use Rattle.mv_handover.specs.Setup.{slots_setup}
@@ -63,7 +63,7 @@ put_ready b k n ecb code Is t u s r p =
 
 -- ---- a take is a wait and a clear
 
-pub took_made : (c : Setup) (ecb code : ℕ) (Is : Result ℕ Refusal → Type 0) (t u v : CallerFace) → Waited ecb code t u
+pub took_made : (c : Setup) (ecb code : ℕ) (Is : Result ℕ Refusal → Type 0) (t u v : CallerFace) → WaitedFor ecb code t u
     → IsServed 1 (clear c ecb) Is u v → is_others_block c (kept_of u.number u.log) ecb ≡ false → Took ecb code t v
 took_made c ecb code Is t u v w s own =
     let next : Heard → Program (Result ℕ Refusal) = λ h. on_ecb h.entry.reply (the_word (λ x. Done (Ok x))) in

@@ -1,24 +1,31 @@
 -- A wait for one block that is not refused arms it, settles it and finds it complete, and answers the code with which it was posted.
 -- For the programs above that take what a block was posted with.
-use Rattle.std.proofs.Common.{◌≡◌, ℕ, ◌+◌, ◌≤◌, false, List, [], ◌∷◌, ◌++◌, length, Option, Some, None, Result, Ok, get_or, refl, sym, ap}
-use Rattle.std.proofs.Common.{◌∙◌, arith}
+use Rattle.std.proofs.Common.{◌≡◌, ℕ, ◌+◌, ◌≤◌, ◌==◌, not, Bool, true, false, List, [], ◌∷◌, ◌++◌, length, Option, Some, None, Result, Ok}
+use Rattle.std.proofs.Common.{get_or, slice_index, refl, sym, ap, ◌∙◌, subst, arith}
+use Rattle.std.proofs.lemmas.Bool.{eq-eqb, false≢true}
 use Rattle.mv_ecb.specs.declared.operation.EcbOp.TheVariants.{Arm, Settle}
 use Rattle.mv_ecb.specs.declared.operation.EcbReply.TheVariants as ecb_reply
-use Rattle.mv_machine.specs.declared.entry.Entry.{Entry}
 use Rattle.mv_machine.specs.declared.entry.Object.{Object}
 use Rattle.mv_machine.specs.declared.entry.Object.TheVariants.{Ecb}
 use Rattle.mv_machine.specs.declared.entry.Op.{Op}
 use Rattle.mv_machine.specs.declared.entry.Op.TheVariants as op_on
 use Rattle.mv_machine.specs.declared.entry.Reply.{Reply}
 use Rattle.mv_machine.specs.declared.entry.Reply.TheVariants as reply_of
-use Rattle.mv_machine.specs.Setup.{Setup}
+use Rattle.mv_machine.specs.Setup.{Setup, owner_of}
 use Rattle.mv_board.specs.Faces.{CallerFace}
-use Rattle.mv_calls.specs.Keeping.{Kept, kept_of}
+use Rattle.mv_calls.specs.Keeping.{Kept, kept_of, nothing_kept}
 use Rattle.mv_calls.specs.Program.{Program, Done, Heard, Says, left, asks, heard, entries, on_ecb, unless_refused}
 use Rattle.mv_calls.specs.Refusal.{Refusal}
+use Rattle.mv_calls.specs.Refusal as refusal
+use Rattle.mv_calls.specs.Table.{has_exit}
 use Rattle.mv_calls.specs.Waits.{wait, wait_refusal, is_others_block, armed, settled, enough, arm_all, settle_all}
-use Rattle.mv_wait.specs.Answers.{slots_of}
+use Rattle.mv_calls.proofs.Making.{kept_caller}
+use Rattle.mv_wait.specs.Answers.{slots_of, wait_refused}
+use Rattle.mv_wait.specs.OneBlock.{WaitedFor}
 use Rattle.mv_wait.specs.Run.{IsServed}
+use Rattle.mv_wait.specs.Waiting.{NamesBlockOnExit}
+use Rattle.mv_wait.specs.declared.waiting.WaitRefusal.{WaitRefusal}
+use Rattle.mv_wait.specs.declared.waiting.WaitRefusal.TheVariants as wait_why
 use Rattle.mv_wait.specs.declared.waiting.WaitSlot.{WaitSlot}
 use Rattle.mv_wait.specs.declared.waiting.WaitSlot.TheVariants as slot
 
@@ -40,25 +47,36 @@ asked_is o p op oq q = (sym (ap (object_in o) q), sym (ap (op_in op) q))
 
 -- ---- the wait
 
--- what it adds to the log of its task
-pub record Waited (ecb code : ℕ) (t u : CallerFace) : Type 0 where
-  pub first : Entry
-  pub second : Entry
-  pub number : u.number ≡ t.number
-  pub logged : u.log ≡ t.log ++ first ∷ second ∷ []
-  pub left : u.left + 2 ≡ t.left
-  pub arm : (first.object ≡ Ecb ecb) × (first.op ≡ op_on.Ecb Arm)
-  pub settle : (second.object ≡ Ecb ecb) × (second.op ≡ op_on.Ecb Settle)
-  pub found : second.reply ≡ reply_of.Ecb (ecb_reply.Complete code)
-
--- that, and the answer that says it
+-- what it has done, and the answer that says it
 abbrev pub FoundIt : ℕ → Result (List (Option ℕ)) Refusal → CallerFace → CallerFace → Type 0
-FoundIt ecb a t u = (code : ℕ) × (a ≡ Ok (Some code ∷ [])) × Waited ecb code t u
+FoundIt ecb a t u = (code : ℕ) × (a ≡ Ok (Some code ∷ [])) × WaitedFor ecb code t u
 
 -- a block of the task's own that is not extended is not refused
 pub unrefused : (c : Setup) (ecb : ℕ) (kept : Kept) → is_others_block c kept ecb ≡ false → kept.extended ecb ≡ false
     → wait_refusal c 1 (ecb ∷ []) kept ≡ None
 unrefused c ecb kept own plain = rw (own, plain) refl
+
+-- nor is one that may be extended only where no exit starts from it
+pub not_refused : (c : Setup) (ecb : ℕ) (t : CallerFace) (why : WaitRefusal) → owner_of c ecb ≡ t.number
+    → (has_exit c ecb ≡ true → (kept_of t.number t.log).extended ecb ≡ false)
+    → wait_refusal c 1 (ecb ∷ []) (kept_of t.number t.log) ≡ Some (wait_refused why) → NamesBlockOnExit c (ecb ∷ []) why → ⊥
+not_refused c ecb t why own plain is names = go ((kept_of t.number t.log).extended ecb) refl where
+  mine : is_others_block c (kept_of t.number t.log) ecb ≡ false
+  mine = ap not (ap (λ k. owner_of c ecb == k) (kept_caller (nothing_kept t.number) t.log) ∙ eq-eqb (owner_of c ecb) t.number own)
+
+  named : (why : WaitRefusal) → Some (refusal.ExtendedAt 0) ≡ Some (wait_refused why) → NamesBlockOnExit c (ecb ∷ []) why
+      → has_exit c ecb ≡ true
+  named wait_why.TooMany q names = absurd (cc q)
+  named (wait_why.Doubled p) q names = absurd (cc q)
+  named (wait_why.NotOwner p) q names = absurd (cc q)
+  named (wait_why.Extended p) q names =
+      let first : p ≡ 0 = cc q in subst (λ (n : ℕ). has_exit c (slice_index (ecb ∷ []) n) ≡ true) first names
+
+  go : (held : Bool) → (kept_of t.number t.log).extended ecb ≡ held → ⊥
+  go false free = let none = unrefused c ecb (kept_of t.number t.log) mine free in cc (sym none ∙ is)
+  go true held =
+      let some : wait_refusal c 1 (ecb ∷ []) (kept_of t.number t.log) ≡ Some (refusal.ExtendedAt 0) = rw (mine, held) refl in
+      false≢true (sym (plain (named why (sym some ∙ is) names)) ∙ held)
 
 -- the program behind the arm
 abbrev settling : ℕ → Program (Result (List (Option ℕ)) Refusal)

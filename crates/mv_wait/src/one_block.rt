@@ -1,0 +1,48 @@
+//! A wait for one block. Clauses cite the calls' `Waits.antt` and `Table.antt`, `specs/Run.antt` and `specs/OneBlock.antt`.
+
+ghost use Rattle.std.specs.Prelude.{◌≡◌, ◌<◌, ◌≤◌, ◌∷◌, [], true, false, length, Some, Ok};
+ghost use Rattle.mv_machine.specs.Setup.{owner_of};
+ghost use Rattle.mv_board.specs.Faces.{IsOf};
+ghost use Rattle.mv_calls.specs.Keeping.{kept_of};
+ghost use Rattle.mv_calls.specs.Rest.{IsAtRest};
+ghost use Rattle.mv_calls.specs.Table.{has_exit};
+ghost use Rattle.mv_calls.specs.Waits.{wait};
+ghost use Rattle.mv_wait.specs.OneBlock.{WaitedFor};
+ghost use Rattle.mv_wait.specs.Run.{IsServed};
+
+use crate::station::Station;
+use crate::task::Task;
+use crate::waiting::WaitSlot;
+use std::sync::Wait;
+
+impl Station {
+    /// Waits until this block is complete, and answers the code of 30 bits that it is complete with: `wait` for one block. The block
+    /// must be the task's own, and where an exit starts from it, the task must not hold it extended: so it is never refused. Two
+    /// events, which must be left. It parks until the block is posted, not at all where it is complete when it comes, and for ever
+    /// where nobody posts it.
+    ///
+    /// # Example
+    ///
+    /// ```
+    /// let code = station.wait_one(rt, task, 3);
+    /// ```
+    pub fn wait_one<R: Wait>(&self, rt: &R, task: &mut Task, ecb: u32) -> u32
+        requires task { IsOf self.now task.old }
+        requires rest { IsAtRest task.old.log }
+        requires block { ecb < length self.now.config.owners }
+        requires own { owner_of self.now.config ecb ≡ task.old.number }
+        requires plain { has_exit self.now.config ecb ≡ true → (kept_of task.old.number task.old.log).extended ecb ≡ false }
+        requires left { 2 ≤ task.old.left }
+        ensures served { IsServed 2 (wait self.now.config 1 (ecb ∷ [])) (λ a. a ≡ Ok (Some result ∷ [])) task.old task.new }
+        ensures waited { WaitedFor ecb result task.old task.new }
+    {
+        let mut found = [WaitSlot::Open];
+        let Ok(()) = self.wait(rt, task, 1, &[ecb], &mut found) else {
+            unreachable!()
+        };
+        match found[0] {
+            WaitSlot::Complete(code) => code,
+            WaitSlot::Open => unreachable!(),
+        }
+    }
+}
