@@ -9,3 +9,5 @@ mod Seats
 pub mod Back
 -- what holds of the entries of all callers, what a block was found complete with, and what a pause was given
 pub mod Entries
+-- config_of_blocks
+mod Unrefused

@@ -1,2 +1,4 @@
 -- what a list of entries has of a block
 pub mod Entries
+-- a configuration of blocks
+pub mod Blocks

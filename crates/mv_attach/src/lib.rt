@@ -2,7 +2,9 @@
 //! for `close`.
 #![tactic(auto)]
 
+mod blocks;
 mod seat;
 mod work;
 
+pub use blocks::config_of_blocks;
 pub use work::{Work, run_tasks};
