@@ -9,27 +9,16 @@ use Rattle.mv_machine.specs.declared.entry.Op.{Op}
 use Rattle.mv_machine.specs.declared.entry.Op.TheVariants as op_on
 use Rattle.mv_machine.specs.Legal.{of}
 use Rattle.mv_machine.specs.Setup.{Setup}
+use Rattle.mv_attach.specs.Blocks.{blocks_setup}
 use Rattle.mv_attach.specs.Entries.{Finds, IsPosted}
-use Rattle.mv_wait.specs.declared.waiting.WaitSlot.{WaitSlot}
-use Rattle.mv_wait.specs.declared.waiting.WaitSlot.TheVariants.{Complete}
 
--- Caller 0 waits for block 0, which is its own, by two events, and caller 1 posts it by one.
+-- caller 0 may make two events, which wait for block 0, its own; and caller 1 one, which posts it
 abbrev pub completion_setup : Setup
-completion_setup = record {
-  callers = 2;
-  elements_per_caller = 1;
-  volumes = 1;
-  latches = 1;
-  quota = 1;
-  posted_quota = 0;
-  budgets = 2 ∷ 1 ∷ [];
-  owners = 0 ∷ [];
-  exits = [];
-}
+completion_setup = blocks_setup (2 ∷ 1 ∷ []) (0 ∷ [])
 
--- the slot has this code; caller 0's wait found the block complete with it, and a post completed the block with it
-pub record IsTold (code : ℕ) (slot : WaitSlot) (es : List Entry) : Type 0 where
-  pub is : slot ≡ Complete code
+-- this code was told; caller 0's wait found the block complete with it, and a post completed the block with it
+pub record IsTold (code told : ℕ) (es : List Entry) : Type 0 where
+  pub is : told ≡ code
   pub found : Finds (of 0 es) 0 code
   pub posted : IsPosted es 0 code
 
@@ -42,7 +31,7 @@ PostsIt code object op = Unit {0}
 abbrev pub PostIt : ℕ → List Entry → Type 0
 PostIt code es = AllByRecursion (λ e. PostsIt code e.object e.op) es
 
--- the task of number k is back: it posted no other code, and the waiter's slot has what its wait found
-pub record HasDone (code k : ℕ) (log : List Entry) (slot : WaitSlot) : Type 0 where
+-- the task of number k is back: it posted no other code, and the waiter was told what its wait found
+pub record HasDone (code k : ℕ) (log : List Entry) (told : ℕ) : Type 0 where
   pub posts : PostIt code log
-  pub told : k ≡ 0 → (found : ℕ) × (slot ≡ Complete found) × Finds log 0 found
+  pub finds : k ≡ 0 → Finds log 0 told

@@ -11,6 +11,6 @@ fn main(rt: HostRuntime) -> io::Result<()> {
     let Ok(completed) = complete(&rt, rt.alloc(), 12) else {
         return Err(io::Error::from(ErrorKind::OutOfMemory));
     };
-    println!(rt; "{:?}", completed.found)?;
+    println!(rt; "{}", completed.told)?;
     Ok(())
 }
