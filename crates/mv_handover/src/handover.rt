@@ -9,10 +9,10 @@ ghost use Rattle.mv_handover.specs.Ready.{IsReady, IsNew, IsOwn, Put, Took, HasP
 ghost use Rattle.mv_handover.specs.Setup.{slots, slots_setup};
 ghost use Rattle.mv_handover.specs.Slots.{posts, takes, part};
 
-use mv_attach::{Work, run_tasks};
+use mv_attach::{Work, config_of_blocks, run_tasks};
 use mv_io::NoMemory;
-use mv_machine::{CheckRefusal, Config, History, ValidConfig};
-use mv_wait::{Station, Task, WaitSlot};
+use mv_machine::{History, ValidConfig};
+use mv_wait::{Station, Task};
 use std::alloc::Global;
 use std::sync::Wait;
 use std::thread::Threads;
@@ -40,23 +40,9 @@ fn configuration(alloc: Global, items: u32) -> Result<ValidConfig, NoMemory>
     requires few { items ≤ 65535 }
     ensures { IfOk result (λ config. config ≡ slots_setup items) }
 {
-    let config = Config {
-        callers: 2,
-        elements_per_caller: 1,
-        volumes: 1,
-        latches: 1,
-        quota: 1,
-        posted_quota: 0,
-        // For each item a wait, which is two events, a clear and a post; the consumer begins with a post for each slot.
-        budgets: vec![in alloc; 4 * items, 4 * items + 4]?,
-        owners: vec![in alloc; 1, 1, 1, 1, 0, 0, 0, 0]?,
-        exits: Vec::new(alloc),
-    };
-    match config.check(alloc) {
-        Ok(config) => Ok(config),
-        Err(CheckRefusal::NoMemory) => Err(NoMemory),
-        Err(_) => unreachable!(),
-    }
+    // For each item a wait, which is two events, a clear and a post; the consumer begins with a post for each slot.
+    let budgets = [4 * items, 4 * items + 4];
+    config_of_blocks(alloc, &budgets, &[1, 1, 1, 1, 0, 0, 0, 0])
 }
 
 // Waits for a block of the task's own, zeroes it for its next use, and answers the code that it was posted with.
@@ -67,17 +53,11 @@ fn take<R: Wait>(rt: &R, station: &Station, task: &mut Task, ecb: u32) -> u32
     ensures took { Took ecb result task.old task.new }
     ensures ready { IsReady station.now task.old.number task.new }
 {
-    let mut found = [WaitSlot::Open];
-    let Ok(()) = station.wait(rt, task, 1, &[ecb], &mut found) else {
-        unreachable!()
-    };
+    let code = station.wait_one(rt, task, ecb);
     let Ok(_) = station.clear(rt, task, ecb) else {
         unreachable!()
     };
-    match found[0] {
-        WaitSlot::Complete(code) => code,
-        WaitSlot::Open => unreachable!(),
-    }
+    code
 }
 
 // Posts a block.
