@@ -19,7 +19,7 @@ use Rattle.mv_calls.proofs.Making.{kept_from-append, kept_caller}
 use Rattle.mv_wait.specs.Run.{IsServed}
 use Rattle.mv_wait.specs.OneBlock.{WaitedFor}
 use Rattle.mv_attach.proofs.Once.{served_once}
-use Rattle.mv_handover.specs.Ready.{IsReady, Added, Put, Took}
+use Rattle.mv_handover.specs.Ready.{CanHandOver, Added, Put, Took}
 use Rattle.mv_handover.specs.Setup.{slots_setup}
 
 -- ---- a task that is ready behind a call
@@ -34,8 +34,8 @@ still_plain t u es added keeps plain e =
     ∙ kept_from-append (nothing_kept t.number) t.log es)
     ∙ keeps (kept_of t.number t.log) e (plain e)
 
-still_ready : (b : BoardFace) (k : ℕ) (t u : CallerFace) (es : List Entry) → IsReady b k t → IsOf b u → IsAtRest u.log → Added es t u
-    → ((held : Kept) (e : ℕ) → held.extended e ≡ false → (kept_from held es).extended e ≡ false) → IsReady b k u
+still_ready : (b : BoardFace) (k : ℕ) (t u : CallerFace) (es : List Entry) → CanHandOver b k t → IsOf b u → IsAtRest u.log → Added es t u
+    → ((held : Kept) (e : ℕ) → held.extended e ≡ false → (kept_from held es).extended e ≡ false) → CanHandOver b k u
 still_ready b k t u es r task rest added keeps = record {
   config = r.config;
   task = task;
@@ -56,7 +56,7 @@ put_made n ecb code Is t u s =
     }
 
 pub put_ready : (b : BoardFace) (k n ecb code : ℕ) (Is : Posting → Type 0) (t u : CallerFace)
-    → IsServed 1 (post (slots_setup n) ecb code) Is t u → IsReady b k t → Put ecb code t u → IsReady b k u
+    → IsServed 1 (post (slots_setup n) ecb code) Is t u → CanHandOver b k t → Put ecb code t u → CanHandOver b k u
 put_ready b k n ecb code Is t u s r p =
     still_ready b k t u (p.entry ∷ []) r (s.same.table ∙ r.task.0, s.same.about ∙ r.task.1) s.made.rest p.added
     (λ held e plain. rw (p.post.object, p.post.makes) plain)
@@ -84,8 +84,8 @@ took_made c ecb code Is t u v w s own =
       clear = record { object = one.object; makes = one.makes };
     }
 
-pub took_ready : (b : BoardFace) (k ecb code : ℕ) (t u : CallerFace) → IsReady b k t → IsOf b u → IsAtRest u.log → Took ecb code t u
-    → IsReady b k u
+pub took_ready : (b : BoardFace) (k ecb code : ℕ) (t u : CallerFace) → CanHandOver b k t → IsOf b u → IsAtRest u.log → Took ecb code t u
+    → CanHandOver b k u
 took_ready b k ecb code t u r task rest w = still_ready b k t u (w.first ∷ w.second ∷ w.third ∷ []) r task rest w.added
     (λ held e plain. rw (w.arm.object, w.arm.makes, w.settle.object, w.settle.makes, w.clear.object, w.clear.makes)
     (unset (e == ecb) plain)) where

@@ -18,7 +18,7 @@ use Rattle.mv_handover.specs.Setup.{slots, slots_setup, HasSlots}
 use Rattle.mv_handover.specs.Slots.{posts, takes, part}
 
 -- it is task k of a hand-over on this board, is at rest, and holds no block extended
-pub record IsReady (b : BoardFace) (k : ℕ) (t : CallerFace) : Type 0 where
+pub record CanHandOver (b : BoardFace) (k : ℕ) (t : CallerFace) : Type 0 where
   pub config : HasSlots b.config
   pub task : IsOf b t
   pub number : t.number ≡ k
@@ -27,7 +27,7 @@ pub record IsReady (b : BoardFace) (k : ℕ) (t : CallerFace) : Type 0 where
 
 -- one that has made no event
 abbrev pub IsNew : BoardFace → ℕ → CallerFace → Type 0
-IsNew b k t = IsReady b k t × (t.log ≡ [])
+IsNew b k t = CanHandOver b k t × (t.log ≡ [])
 
 -- the block is there, and is the task's own
 abbrev pub IsOwn : BoardFace → ℕ → CallerFace → Type 0
@@ -67,12 +67,12 @@ pub record Took (ecb code : ℕ) (t u : CallerFace) : Type 0 where
 
 -- the producer put these items, each into its slot
 pub record HasPut (b : BoardFace) (items : List ℕ) (t : CallerFace) : Type 0 where
-  pub ready : IsReady b 0 t
+  pub ready : CanHandOver b 0 t
   pub posts : (s : ℕ) → s < slots → posts s t.log ≡ part s items
 
 -- the consumer took these items, each out of its slot, and put none
 pub record HasTaken (b : BoardFace) (items : List ℕ) (t : CallerFace) : Type 0 where
-  pub ready : IsReady b 1 t
+  pub ready : CanHandOver b 1 t
   pub takes : (s : ℕ) → s < slots → takes s t.log ≡ part s items
   pub posts : (s : ℕ) → s < slots → posts s t.log ≡ []
 

@@ -5,7 +5,7 @@ ghost use Rattle.std.specs.List.{AllByRecursion};
 ghost use Rattle.mv_ecb.specs.Table.{code_limit};
 ghost use Rattle.mv_machine.specs.Legal.{Legal, of};
 ghost use Rattle.mv_machine.specs.Limits.{highest_place};
-ghost use Rattle.mv_handover.specs.Ready.{IsReady, IsNew, IsOwn, Put, Took, HasPut, HasTaken, CanStart, HasDone, AreRooms};
+ghost use Rattle.mv_handover.specs.Ready.{CanHandOver, IsNew, IsOwn, Put, Took, HasPut, HasTaken, CanStart, HasDone, AreRooms};
 ghost use Rattle.mv_handover.specs.Setup.{slots, slots_setup};
 ghost use Rattle.mv_handover.specs.Slots.{posts, takes, part};
 
@@ -48,10 +48,10 @@ fn configuration(alloc: Global, items: u32) -> Result<ValidConfig, NoMemory>
 // Waits for a block of the task's own, zeroes it for its next use, and answers the code that it was posted with.
 fn take<R: Wait>(rt: &R, station: &Station, task: &mut Task, ecb: u32) -> u32
     requires block { IsOwn station.now ecb task.old }
-    requires ready { IsReady station.now task.old.number task.old }
+    requires ready { CanHandOver station.now task.old.number task.old }
     requires left { 3 ≤ task.old.left }
     ensures took { Took ecb result task.old task.new }
-    ensures ready { IsReady station.now task.old.number task.new }
+    ensures ready { CanHandOver station.now task.old.number task.new }
 {
     let code = station.wait_one(rt, task, ecb);
     let Ok(_) = station.clear(rt, task, ecb) else {
@@ -64,10 +64,10 @@ fn take<R: Wait>(rt: &R, station: &Station, task: &mut Task, ecb: u32) -> u32
 fn put<R: Wait>(rt: &R, station: &Station, task: &mut Task, ecb: u32, code: u32)
     requires block { ecb < 8 }
     requires code { code < code_limit }
-    requires ready { IsReady station.now task.old.number task.old }
+    requires ready { CanHandOver station.now task.old.number task.old }
     requires left { 1 ≤ task.old.left }
     ensures put { Put ecb code task.old task.new }
-    ensures ready { IsReady station.now task.old.number task.new }
+    ensures ready { CanHandOver station.now task.old.number task.new }
 {
     station.post(rt, task, ecb, code);
 }

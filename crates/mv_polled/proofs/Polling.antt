@@ -13,14 +13,14 @@ use Rattle.mv_wait.proofs.Runs.{same_caller}
 use Rattle.mv_work.specs.declared.need.Need.{Need}
 use Rattle.mv_work.specs.declared.work.Work.{Work}
 use Rattle.mv_work.specs.Works.{HasCome, IsNew}
-use Rattle.mv_work.proofs.Meeting.{IsReady, waits_ready}
+use Rattle.mv_work.proofs.Meeting.{CanMeet, waits_ready}
 
 -- a task that waits in a call which it began as it was then, and what holds of it
 pub record IsAtCall (b : BoardFace) (deck : List JobData) (i : ℕ) (t : CallerFace) (p : Polled) : Type 0 where
   pub need : Need
   pub began : CallerFace
   pub come : HasCome b deck i p.work t (Some need) began
-  pub ready : IsReady b deck i p.work t need began p.work.stage
+  pub ready : CanMeet b deck i p.work t need began p.work.stage
   pub same : IsSame began p.task
   pub meeting : IsMeeting b.config need p.meeting began p.task
 

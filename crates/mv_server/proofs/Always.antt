@@ -17,14 +17,14 @@ use Rattle.mv_wait.proofs.Compose.{served_left}
 use Rattle.mv_attach.proofs.Always.{Always, served_grown}
 use Rattle.mv_attach.proofs.Says.{always_clear, always_post, always_pause, always_release}
 use Rattle.mv_server.specs.Pool.{workers, answer_at}
-use Rattle.mv_server.specs.Right.{IsRight, AreRight, IsReady, StaysReady}
+use Rattle.mv_server.specs.Right.{IsRight, AreRight, CanServe, StaysReady}
 use Rattle.mv_server.proofs.Pool.{reach_one}
 
 -- ---- a call that says right events leaves its task ready
 
 ready_after : {A : Type 0} (b : BoardFace) (requests : List ℕ) (most : ℕ) (call : Call A) (Is : A → Type 0) (t u : CallerFace)
-    → IsServed most call Is t u → IsReady b requests t → Always (IsRight requests t.number) (call (kept_of t.number t.log))
-    → IsReady b requests u
+    → IsServed most call Is t u → CanServe b requests t → Always (IsRight requests t.number) (call (kept_of t.number t.log))
+    → CanServe b requests u
 ready_after b requests most call Is t u s r a =
     let grown = served_grown (IsRight requests t.number) most call Is t u s a in record {
       asked = r.asked;
@@ -37,7 +37,7 @@ ready_after b requests most call Is t u s r a =
 
 -- the same task, with fewer events left
 pub stays_after : {A : Type 0} (b : BoardFace) (requests : List ℕ) (most : ℕ) (call : Call A) (Is : A → Type 0) (t u : CallerFace)
-    → IsServed most call Is t u → IsReady b requests t → Always (IsRight requests t.number) (call (kept_of t.number t.log))
+    → IsServed most call Is t u → CanServe b requests t → Always (IsRight requests t.number) (call (kept_of t.number t.log))
     → StaysReady b requests most t u
 stays_after b requests most call Is t u s r a = record {
   ready = ready_after b requests most call Is t u s r a;
@@ -63,7 +63,7 @@ stays_more b requests m most t u k le = record { ready = k.ready; number = k.num
 
 -- a worker's post of an answer's block with the answer, or a post of another block
 pub told : (b : BoardFace) (requests : List ℕ) (e code : ℕ) (Is : Posting → Type 0) (t u : CallerFace)
-    → IsServed (reach b.config e) (post b.config e code) Is t u → IsReady b requests t
+    → IsServed (reach b.config e) (post b.config e code) Is t u → CanServe b requests t
     → (workers ≤ e → (t.number < workers) × (code ≡ answer_at requests e)) → StaysReady b requests 1 t u
 told b requests e code Is t u s r right =
     subst (λ k. StaysReady b requests k t u) (reach_one b.config (length requests) e r.asked.config)

@@ -35,7 +35,7 @@ pub record IsAsked (b : BoardFace) (requests : List ℕ) : Type 0 where
   pub small : AllByRecursion (λ weeks. weeks < weeks_limit) requests
 
 -- a task of this board is at rest, and has made right entries
-pub record IsReady (b : BoardFace) (requests : List ℕ) (t : CallerFace) : Type 0 where
+pub record CanServe (b : BoardFace) (requests : List ℕ) (t : CallerFace) : Type 0 where
   pub asked : IsAsked b requests
   pub task : IsOf b t
   pub rest : IsAtRest t.log
@@ -43,12 +43,12 @@ pub record IsReady (b : BoardFace) (requests : List ℕ) (t : CallerFace) : Type
 
 -- it is the task of this number
 pub record IsBack (b : BoardFace) (requests : List ℕ) (k : ℕ) (t : CallerFace) : Type 0 where
-  pub ready : IsReady b requests t
+  pub ready : CanServe b requests t
   pub number : t.number ≡ k
 
 -- the same task is ready again, after at most so many events
 pub record StaysReady (b : BoardFace) (requests : List ℕ) (most : ℕ) (t u : CallerFace) : Type 0 where
-  pub ready : IsReady b requests u
+  pub ready : CanServe b requests u
   pub number : u.number ≡ t.number
   pub left : t.left ≤ u.left + most
 

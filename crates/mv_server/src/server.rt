@@ -8,7 +8,7 @@ ghost use Rattle.mv_machine.specs.Legal.{Legal};
 ghost use Rattle.mv_machine.specs.Limits.{highest_place};
 ghost use Rattle.mv_server.specs.Pool.{workers, requests_limit, weeks_limit, worker_events, hand_out_events, server_events};
 ghost use Rattle.mv_server.specs.Pool.{pool_setup, days_in};
-ghost use Rattle.mv_server.specs.Right.{IsAsked, IsReady, IsBack, StaysReady, HasRoom, HasDone, Finds, IsPosted};
+ghost use Rattle.mv_server.specs.Right.{IsAsked, CanServe, IsBack, StaysReady, HasRoom, HasDone, Finds, IsPosted};
 
 use mv_attach::{Work, run_tasks};
 use mv_element::Token;
@@ -87,7 +87,7 @@ fn valid_config(alloc: Global, requests: u32) -> Result<ValidConfig, NoMemory>
 // A worker: tells that it is idle and with which generation it pauses, answers the request that it is handed, and so on until it is
 // told to stop.
 fn work<R: Wait>(rt: &R, station: &Station, task: &mut Task, requests: &[u32])
-    requires ready { IsReady station.now requests.now task.old }
+    requires ready { CanServe station.now requests.now task.old }
     requires new { task.old.log ≡ [] }
     requires number { task.old.number < workers }
     requires left { worker_events (length requests.now) ≤ task.old.left }

@@ -4,16 +4,16 @@ use Rattle.std.proofs.Common.{cond, count_by, get_or, Option, Some, None, is_som
 use Rattle.std.proofs.lemmas.List.Sums.{sum_by-cons}
 use Rattle.slab.specs.Slab.{Slab, Updates, get, CalledAt, RetainsFrom}
 use Rattle.mv_machine.specs.Kept.{StandingRequest}
-use Rattle.mv_wait.specs.declared.keep.Standing.{Standing}
+use Rattle.mv_wait.specs.declared.keep.HeldRequest.{HeldRequest}
 use Rattle.mv_wait.specs.Keep.{meets, request_of, AreHeld}
 
 module _ (test : StandingRequest → Bool) where
-  pub cons : (x : Option Standing) (xs : List (Option Standing))
+  pub cons : (x : Option HeldRequest) (xs : List (Option HeldRequest))
       → count_by (meets test) (x ∷ xs) ≡ cond (meets test x) 1 0 + count_by (meets test) xs
   cons x xs = sum_by-cons (λ o. cond (meets test o) 1 0) x xs
 
   -- the same under every key
-  same_count : (xs ys : List (Option Standing)) → ((o : ℕ) → get_or ys o None ≡ get_or xs o None)
+  same_count : (xs ys : List (Option HeldRequest)) → ((o : ℕ) → get_or ys o None ≡ get_or xs o None)
       → count_by (meets test) ys ≡ count_by (meets test) xs
   same_count [] [] e = refl
   same_count [] (y ∷ ys) e = let a = cons y ys in let rest = same_count [] ys (λ o. e (suc o)) in
@@ -28,7 +28,7 @@ module _ (test : StandingRequest → Bool) where
   apart o key d = λ q. d (let z : o ≡ key = omega arith in z)
 
   -- one more under a key that had none
-  one_more : (xs ys : List (Option Standing)) (key : ℕ) (v : Standing) → get_or xs key None ≡ None → get_or ys key None ≡ Some v
+  one_more : (xs ys : List (Option HeldRequest)) (key : ℕ) (v : HeldRequest) → get_or xs key None ≡ None → get_or ys key None ≡ Some v
       → ((o : ℕ) → o ≢ key → get_or ys o None ≡ get_or xs o None)
       → count_by (meets test) ys ≡ count_by (meets test) xs + cond (test (request_of v)) 1 0
   one_more xs [] key v was now e = absurd (cc now)
@@ -59,7 +59,7 @@ module _ (test : StandingRequest → Bool) where
     go false rest = rest
 
 -- an insert under a key that had none, and one request more that stands
-pub held_more : (ts : List StandingRequest) (old new : Slab Standing) (key : ℕ) (v : Standing) → get old key ≡ None
+pub held_more : (ts : List StandingRequest) (old new : Slab HeldRequest) (key : ℕ) (v : HeldRequest) → get old key ≡ None
     → Updates old new key (Some v)
     → AreHeld ts old.slots → AreHeld (ts ++ request_of v ∷ []) new.slots
 held_more ts old new key v vacant u held test =
@@ -69,12 +69,12 @@ held_more ts old new key v vacant u held test =
 
 -- ---- what is left after a test of each
 
-module _ {F : Type 0} (step : F → ℕ → MutBor Standing → Bool → MutBor Standing → F → Type 0) (P : F → Type 0)
+module _ {F : Type 0} (step : F → ℕ → MutBor HeldRequest → Bool → MutBor HeldRequest → F → Type 0) (P : F → Type 0)
     (test : StandingRequest → Bool)
-    (says : (f : F) (key : ℕ) (shown : MutBor Standing) (keep : Bool) (left : MutBor Standing) (next : F) → P f
+    (says : (f : F) (key : ℕ) (shown : MutBor HeldRequest) (keep : Bool) (left : MutBor HeldRequest) (next : F) → P f
     → step f key shown keep left next
     → (keep ≡ not (test (request_of shown.now))) × (left.now ≡ shown.now) × P next) where
-  at_value : (f : F) (key : ℕ) (old : Standing) (keep : Bool) (new : Standing) (next : F) → P f → CalledAt step f key old keep new next
+  at_value : (f : F) (key : ℕ) (old : HeldRequest) (keep : Bool) (new : HeldRequest) (next : F) → P f → CalledAt step f key old keep new next
       → (keep ≡ not (test (request_of old))) × (new ≡ old) × P next
   at_value f key old keep new next p w =
       let s = says f key w.shown keep w.left next p w.called in (
@@ -83,7 +83,7 @@ module _ {F : Type 0} (step : F → ℕ → MutBor Standing → Bool → MutBor 
         s.2,
       )
 
-  less_one : (g : StandingRequest → Bool) (b keep : Bool) (old new : Standing) (rest later : List (Option Standing)) → keep ≡ not b
+  less_one : (g : StandingRequest → Bool) (b keep : Bool) (old new : HeldRequest) (rest later : List (Option HeldRequest)) → keep ≡ not b
       → test (request_of old) ≡ b → new ≡ old
       → count_by (meets g) later ≡ count_by (meets (λ t. not (test t) && g t)) rest
       → count_by (meets g) (cond keep (Some new) None ∷ later) ≡ count_by (meets (λ t. not (test t) && g t)) (Some old ∷ rest)
@@ -97,7 +97,7 @@ module _ {F : Type 0} (step : F → ℕ → MutBor Standing → Bool → MutBor 
       go true = refl
       go false = refl
 
-  pub left_count : (g : StandingRequest → Bool) (f : F) (key : ℕ) (slots kept : List (Option Standing)) → P f
+  pub left_count : (g : StandingRequest → Bool) (f : F) (key : ℕ) (slots kept : List (Option HeldRequest)) → P f
       → RetainsFrom step f key slots kept
       → count_by (meets g) kept ≡ count_by (meets (λ t. not (test t) && g t)) slots
   left_count g f key [] kept p r = rw r refl
@@ -109,14 +109,14 @@ module _ {F : Type 0} (step : F → ℕ → MutBor Standing → Bool → MutBor 
       ap (count_by (meets g)) r.5
       ∙ less_one g (test (request_of old)) r.0 old r.1 rest r.4 s.0 refl s.1 (left_count g r.2 (key + 1) rest r.4 s.2 r.6)
 
-pub any_request : (slots : List (Option Standing)) → count_by is_some slots ≡ count_by (meets (λ t. true)) slots
+pub any_request : (slots : List (Option HeldRequest)) → count_by is_some slots ≡ count_by (meets (λ t. true)) slots
 any_request [] = refl
-any_request (None ∷ slots) = let a = sum_by-cons (λ o. cond (is_some {T = Standing} o) 1 0) None slots in
+any_request (None ∷ slots) = let a = sum_by-cons (λ o. cond (is_some {T = HeldRequest} o) 1 0) None slots in
     let b = cons (λ t. true) None slots in let r = any_request slots in omega arith
 any_request (Some v ∷ slots) = let a = sum_by-cons (λ o. cond (is_some o) 1 0) (Some v) slots in
     let b = cons (λ t. true) (Some v) slots in let r = any_request slots in omega arith
 
-pub some_requests : (f : StandingRequest → Bool) (slots : List (Option Standing))
+pub some_requests : (f : StandingRequest → Bool) (slots : List (Option HeldRequest))
     → count_by (meets f) slots ≤ count_by (meets (λ t. true)) slots
 some_requests f [] = omega arith
 some_requests f (o ∷ slots) =
@@ -126,12 +126,12 @@ some_requests f (o ∷ slots) =
     at_most true = omega arith
     at_most false = omega arith
 
-    one : (o : Option Standing) → cond {A = ℕ} (meets f o) 1 0 ≤ cond {A = ℕ} (meets (λ t. true) o) 1 0
+    one : (o : Option HeldRequest) → cond {A = ℕ} (meets f o) 1 0 ≤ cond {A = ℕ} (meets (λ t. true) o) 1 0
     one None = omega arith
     one (Some v) = at_most (f (request_of v))
 
 -- fewer are left
-pub fewer : (f : StandingRequest → Bool) (slots kept : List (Option Standing))
+pub fewer : (f : StandingRequest → Bool) (slots kept : List (Option HeldRequest))
     → count_by (meets (λ t. true)) kept ≡ count_by (meets f) slots → count_by is_some kept ≤ count_by is_some slots
 fewer f slots kept e = let a = any_request slots in let b = any_request kept in let c = some_requests f slots in omega arith
 

@@ -26,7 +26,7 @@ use Rattle.mv_wait.specs.Answers.{slot_of, slots_of}
 use Rattle.mv_wait.specs.Run.{Runs}
 use Rattle.mv_calls.proofs.Making.{kept_from-append, waits_from-append}
 use Rattle.mv_wait.specs.Listed.{is_block, is_listed, listed_count}
-use Rattle.mv_wait.specs.Waiting.{IsArmedFor, ArePlain, IsComplete, IsSettled, Waited, settle_reply}
+use Rattle.mv_wait.specs.Waiting.{IsArmedFor, ArePlain, IsComplete, IsBlockSettled, Waited, settle_reply}
 use Rattle.mv_wait.specs.declared.waiting.WaitSlot.{WaitSlot}
 use Rattle.mv_wait.specs.declared.waiting.WaitSlot.TheVariants as slot
 use Rattle.mv_wait.proofs.Runs.{entry_of, runs_word}
@@ -234,7 +234,7 @@ settled_next (slot.Complete code) f = refl
 settled_next slot.Open f = refl
 
 pub settle_step : (t u : CallerFace) (e : ℕ) (slot : WaitSlot) (es : List ℕ) (found : List (Option ℕ))
-    (f : List (Option ℕ) → Program Waited) → IsSettled e t slot u
+    (f : List (Option ℕ) → Program Waited) → IsBlockSettled e t slot u
     → Runs 1 (settle_all (e ∷ es) found f) (settle_all es (found ++ slot_of slot ∷ []) f) t u
 settle_step t u e slot es found f h =
     runs_word (settle_all (e ∷ es) found f) (settle_all es (found ++ slot_of slot ∷ []) f) t (Ecb e) (op_on.Ecb Settle)

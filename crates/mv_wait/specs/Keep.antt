@@ -16,7 +16,7 @@ use Rattle.mv_element.specs.declared.operation.ElementReply.TheVariants as eleme
 use Rattle.mv_calls.specs.Keeping.{Kept, generation_after}
 use Rattle.mv_wait.specs.declared.keep.Keep.{Keep}
 use Rattle.mv_wait.specs.declared.keep.OwnElement.{OwnElement}
-use Rattle.mv_wait.specs.declared.keep.Standing.{Standing}
+use Rattle.mv_wait.specs.declared.keep.HeldRequest.{HeldRequest}
 
 -- a block's number is one of the table's
 abbrev pub Reaches : Object → Keep → Type 0
@@ -24,20 +24,20 @@ Reaches (Ecb n) k = n < length k.extended.items
 Reaches o k = Unit {0}
 
 -- what a standing request is in the log
-abbrev pub request_of : Standing → StandingRequest
+abbrev pub request_of : HeldRequest → StandingRequest
 request_of s = record { latch = s.latch; request = s.request }
 
 -- whether a slot has a request that meets a test
-abbrev pub meets : (StandingRequest → Bool) → Option Standing → Bool
+abbrev pub meets : (StandingRequest → Bool) → Option HeldRequest → Bool
 meets test None = false
 meets test (Some s) = test (request_of s)
 
 -- whatever test is asked: as many slots have a request that meets it as there are such requests
-abbrev pub AreHeld : List StandingRequest → List (Option Standing) → Type 0
+abbrev pub AreHeld : List StandingRequest → List (Option HeldRequest) → Type 0
 AreHeld ts slots = (test : StandingRequest → Bool) → count_by (meets test) slots ≡ length (filter test ts)
 
 -- the slot under this key holds a request of this number
-abbrev pub HoldsRequest : Slab Standing → ℕ → ℕ → Type 0
+abbrev pub HoldsRequest : Slab HeldRequest → ℕ → ℕ → Type 0
 HoldsRequest requests id key = IsSomeAnd (get requests key) (λ s. s.request.id ≡ id)
 
 -- the table says which blocks are extended, as far as it goes

@@ -20,15 +20,15 @@ extend_reply None = ecb_reply.Armed
 extend_reply (Some code) = ecb_reply.Complete code
 
 -- nothing was done, for this reason
-abbrev pub IsRefusedBefore : Setup → ℕ → ℕ → CallerFace → ExtendRefusal → CallerFace → Type 0
-IsRefusedBefore c e exit t why u = (extend_refusal c e exit (kept_of t.number t.log) ≡ Some (extend_refused why)) × (u ≡ t)
+abbrev pub IsExtendRefused : Setup → ℕ → ℕ → CallerFace → ExtendRefusal → CallerFace → Type 0
+IsExtendRefused c e exit t why u = (extend_refusal c e exit (kept_of t.number t.log) ≡ Some (extend_refused why)) × (u ≡ t)
 
 -- why an extend was refused: it is the reply to its event, or no event was made
 abbrev pub IsExtendCause : Setup → ℕ → ℕ → CallerFace → ExtendRefusal → CallerFace → Type 0
 IsExtendCause c e exit t (extend_refusal_of.Complete code) u =
     (extend_refusal c e exit (kept_of t.number t.log) ≡ None)
     × Happened t (Ecb e) (op_on.Ecb (Extend exit)) (reply_of.Ecb (ecb_reply.Complete code)) u
-IsExtendCause c e exit t why u = IsRefusedBefore c e exit t why u
+IsExtendCause c e exit t why u = IsExtendRefused c e exit t why u
 
 -- the bit of a block's word that says that a task waits, or that an exit is to run
 abbrev pub HasNoWaitBit : ℕ → Type 0

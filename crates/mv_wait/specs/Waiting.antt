@@ -73,8 +73,8 @@ settle_reply (slot.Complete code) = ecb_reply.Complete code
 settle_reply slot.Open = ecb_reply.Open
 
 -- block e was settled, and found so
-abbrev pub IsSettled : ℕ → CallerFace → WaitSlot → CallerFace → Type 0
-IsSettled e t found u = Happened t (Ecb e) (op_on.Ecb Settle) (reply_of.Ecb (settle_reply found)) u
+abbrev pub IsBlockSettled : ℕ → CallerFace → WaitSlot → CallerFace → Type 0
+IsBlockSettled e t found u = Happened t (Ecb e) (op_on.Ecb Settle) (reply_of.Ecb (settle_reply found)) u
 
 -- a slot has a code
 abbrev pub IsComplete : WaitSlot → Type 0

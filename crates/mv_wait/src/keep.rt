@@ -26,7 +26,7 @@ pub(crate) struct OwnElement {
 
 /// A latch request that stands, and its latch.
 #[derive(Clone, Copy, Debug, PartialEq, Eq)]
-pub(crate) struct Standing {
+pub(crate) struct HeldRequest {
     pub latch: u32,
     pub request: Request,
 }
@@ -38,7 +38,7 @@ pub(crate) struct Keep {
     pub first: u32,
     pub extended: Vec<bool>,
     pub elements: Vec<OwnElement>,
-    pub requests: Slab<Standing>,
+    pub requests: Slab<HeldRequest>,
 }
 
 impl Keep {
@@ -172,7 +172,8 @@ impl Keep {
             mode,
             form,
         };
-        self.requests.insert_reserved(Standing { latch, request });
+        self.requests
+            .insert_reserved(HeldRequest { latch, request });
     }
 }
 
@@ -210,13 +211,13 @@ fn closed(kept: u32, op: ElementOp) -> u32
 }
 
 // Takes out the request of this number at this latch.
-fn retain_others(requests: &mut Slab<Standing>, latch: u32, id: u32)
+fn retain_others(requests: &mut Slab<HeldRequest>, latch: u32, id: u32)
     ensures kept { (ts : List StandingRequest) → AreHeld ts requests.old.slots → AreHeld (less (is_named latch id) ts) requests.new.slots }
     ensures len { slab_len requests.new ≤ slab_len requests.old }
     ensures capacity { requests.new.capacity ≡ requests.old.capacity }
 {
     requests.retain(
-        |_key: usize, s: &mut Standing| -> bool
+        |_key: usize, s: &mut HeldRequest| -> bool
             ensures keep { result ≡ not (is_named latch id (request_of s.old)) }
             ensures same { s.new ≡ s.old }
         { s.latch != latch || s.request.id != id },
@@ -224,13 +225,13 @@ fn retain_others(requests: &mut Slab<Standing>, latch: u32, id: u32)
 }
 
 // Takes out the requests of a requestor.
-fn retain_requestors(requests: &mut Slab<Standing>, requestor: u64)
+fn retain_requestors(requests: &mut Slab<HeldRequest>, requestor: u64)
     ensures kept { (ts : List StandingRequest) → AreHeld ts requests.old.slots → AreHeld (less (is_for requestor) ts) requests.new.slots }
     ensures len { slab_len requests.new ≤ slab_len requests.old }
     ensures capacity { requests.new.capacity ≡ requests.old.capacity }
 {
     requests.retain(
-        |_key: usize, s: &mut Standing| -> bool
+        |_key: usize, s: &mut HeldRequest| -> bool
             ensures keep { result ≡ not (is_for requestor (request_of s.old)) }
             ensures same { s.new ≡ s.old }
         { s.request.requestor != requestor },
@@ -238,7 +239,7 @@ fn retain_requestors(requests: &mut Slab<Standing>, requestor: u64)
 }
 
 /// How many requests are to post a block at their grant.
-pub(crate) fn posting_count(requests: &Slab<Standing>) -> u32
+pub(crate) fn posting_count(requests: &Slab<HeldRequest>) -> u32
     requires { slab_len requests.now ≤ events_limit }
     ensures { result ≡ count_by (meets is_posting) requests.now.slots }
 {
@@ -252,7 +253,7 @@ pub(crate) fn posting_count(requests: &Slab<Standing>) -> u32
 }
 
 /// The key of a request of this number, if there is one.
-pub(crate) fn key_of(requests: &Slab<Standing>, id: u32) -> Option<usize>
+pub(crate) fn key_of(requests: &Slab<HeldRequest>, id: u32) -> Option<usize>
     ensures stands { is_some result ≡ list_any (λ e. (request_of e.1).request.id == id) (entries requests.now) }
     ensures there { IfSome result (λ key. HoldsRequest requests.now id key) }
 {

@@ -13,7 +13,7 @@ ghost use Rattle.mv_calls.specs.Refusal.{Doubled, NotOwnerAt};
 ghost use Rattle.mv_wait.specs.Answers.{wait_answer, wait_refused, slots_of};
 ghost use Rattle.mv_wait.specs.Listed.{is_listed, listed_count, AreSeenBut};
 ghost use Rattle.mv_wait.specs.Run.{Went, IsServed};
-ghost use Rattle.mv_wait.specs.Waiting.{IsArmed, IsArmedFor, ArePlain, AreOwn, AreOwnUpTo, ArmsAll, SettlesEnough, IsSettled, IsComplete};
+ghost use Rattle.mv_wait.specs.Waiting.{IsArmed, IsArmedFor, ArePlain, AreOwn, AreOwnUpTo, ArmsAll, SettlesEnough, IsBlockSettled, IsComplete};
 ghost use Rattle.mv_wait.specs.Waiting.{NamesBlockOnExit};
 
 use crate::pausing::Pauses;
@@ -280,7 +280,7 @@ impl Station {
         requires own { AreOwn self.now.config task.old.number (ecb ∷ []) }
         requires plain { ArePlain task.old (ecb ∷ []) }
         requires left { 0 < task.old.left }
-        ensures settled { IsSettled ecb task.old result task.new }
+        ensures settled { IsBlockSettled ecb task.old result task.new }
         ensures complete { is_listed task.old.ready ecb ≡ true → IsComplete result }
     {
         let reply = self.event(rt, task, Object::Ecb(ecb), Op::Ecb(EcbOp::Settle));

@@ -81,7 +81,7 @@ own_there c deck i notes me (at.Latch r) (need.Latch latch requestor mode) is lt
 own_there c deck i notes me s n is lt fits = absurd fits
 
 -- the call of what the task waits for may be made; behind an answer the task was told that, and otherwise it has worked
-pub record IsReady (b : BoardFace) (deck : List JobData) (i : ℕ) (w : Work) (t : CallerFace) (n : Need) (u : CallerFace)
+pub record CanMeet (b : BoardFace) (deck : List JobData) (i : ℕ) (w : Work) (t : CallerFace) (n : Need) (u : CallerFace)
     (o : Option Stage) : Type 0 where
   pub same : IsSame t u
   pub rests : IsResting b (need_events n) u
@@ -95,7 +95,7 @@ module _ (b : BoardFace) (deck : List JobData) (i : ℕ) (w : Work) (t : CallerF
       (o : Option Stage) → Waits b stages Fits whole t s n u → (Fits s n → MayMeet b.config n)
       → ((g : Got) → IsAnswerTo n g → Fits s n → Answers s g)
       → ((g : Got) (v : CallerFace) → Told b stages Answers whole t s g v → ToldAt b deck i w o t g v)
-      → ((v : CallerFace) → RanOut whole a t v → HasWorked b.config deck i w t v) → IsReady b deck i w t n u o
+      → ((v : CallerFace) → RanOut whole a t v → HasWorked b.config deck i w t v) → CanMeet b deck i w t n u o
   ready {stages = stages} {s = s} a o x may answers told worked = record {
     same = x.same;
     rests = rests_less x.rests (omega arith);
@@ -104,7 +104,7 @@ module _ (b : BoardFace) (deck : List JobData) (i : ℕ) (w : Work) (t : CallerF
     lost = λ v r. (same_then t u v x.same r.went.same, worked v (out_wrong a (leads_astray (stages.then s) x.leads r)));
   }
 
-  ready_at : (o : Option Stage) → b.config ≡ spool_setup deck i → WaitsAt b deck i w o t n u → IsReady b deck i w t n u o
+  ready_at : (o : Option Stage) → b.config ≡ spool_setup deck i → WaitsAt b deck i w o t n u → CanMeet b deck i w t n u o
   ready_at None is at = absurd at
   ready_at (Some (stage.Scheduler s)) is at =
       ready [] (Some (stage.Scheduler s)) at.1 (λ fits. blocks_there b.config _ n fits.blocks)
@@ -119,7 +119,7 @@ module _ (b : BoardFace) (deck : List JobData) (i : ℕ) (w : Work) (t : CallerF
       (λ g to fits. record { number = fits.number; room = fits.room; slot = slots_are b.config 1 n g to fits.block }) (λ g v x. (at.0, x))
       (λ v x. writer_worked b.config deck i w at.0 x)
 
-  pub waits_ready : b.config ≡ spool_setup deck i → HasCome b deck i w t (Some n) u → IsReady b deck i w t n u w.stage
+  pub waits_ready : b.config ≡ spool_setup deck i → HasCome b deck i w t (Some n) u → CanMeet b deck i w t n u w.stage
   waits_ready is at = ready_at w.stage is at
 
 -- ---- how the calls of the services meet needs

@@ -1,6 +1,6 @@
 use Rattle.std.proofs.Common.{◌+◌, ◌%◌, ◌<◌, ◌==◌, ◌++◌, ◌∷◌, [], length, sym, ap, ◌∙◌, subst, arith, if◌then◌else◌}
 use Rattle.std.proofs.lemmas.List.{length-append}
-use Rattle.mv_handover.specs.Ready.{IsReady}
+use Rattle.mv_handover.specs.Ready.{CanHandOver}
 use Rattle.mv_handover.specs.Setup.{slots}
 use Rattle.mv_handover.specs.Slots.{part}
 use Rattle.mv_handover.proofs.Through.{full_owner, posts_put_other, posts_took, takes_put, takes_took, part_next}
@@ -15,7 +15,7 @@ loop-slot-preserved g c =
     let put = c.put.ensures.put in
     let spent = put.added.left in
     let left = since.left in record {
-      ready = subst (λ k. IsReady c.args.station.now k new) since.ready.number c.put.ensures.ready;
+      ready = subst (λ k. CanHandOver c.args.station.now k new) since.ready.number c.put.ensures.ready;
       left = omega arith;
       seen = λ s low. (takes_put (4 + slot) 0 s old new put (since.seen s low)).1;
       takes = λ s low. (takes_put (4 + slot) 0 s old new put (since.seen s low)).0 ∙ since.takes s low;
@@ -47,7 +47,7 @@ loop-i-preserved g c =
     let longer = length-append taken (code ∷ []) in
     let more = c.push_reserved.ensures.items in
     let same = ap length more in record {
-      ready = subst (λ k. IsReady c.args.station.now k new) (took.added.number ∙ since.ready.number)
+      ready = subst (λ k. CanHandOver c.args.station.now k new) (took.added.number ∙ since.ready.number)
           c.put-in-loop-i.ensures.ready;
       left = omega arith;
       within = omega arith;

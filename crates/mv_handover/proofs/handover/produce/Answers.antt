@@ -1,6 +1,6 @@
 use Rattle.std.proofs.Common.{◌%◌, ◌+◌, ◌≤◌, ◌==◌, ◌++◌, ◌∷◌, [], length, get_or, take, sym, ap, ◌∙◌, subst, arith, if◌then◌else◌}
 use Rattle.std.proofs.lemmas.List.{length-take-le, take_more, take_all}
-use Rattle.mv_handover.specs.Ready.{IsReady}
+use Rattle.mv_handover.specs.Ready.{CanHandOver}
 use Rattle.mv_handover.specs.Setup.{slots}
 use Rattle.mv_handover.specs.Slots.{part}
 use Rattle.mv_handover.proofs.Through.{free_owner, posts_put, posts_took, part_next}
@@ -26,7 +26,7 @@ loop-i-preserved g c =
     let waited = took.added.left in
     let posted = put.added.left in
     let left = since.left in record {
-      ready = subst (λ k. IsReady c.args.station.now k new) (took.added.number ∙ since.ready.number) c.put.ensures.ready;
+      ready = subst (λ k. CanHandOver c.args.station.now k new) (took.added.number ∙ since.ready.number) c.put.ensures.ready;
       left = omega arith;
       posts = λ s low.
           posts_put (i % 4) x s mid new put

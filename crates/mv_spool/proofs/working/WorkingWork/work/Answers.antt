@@ -5,14 +5,14 @@ use Rattle.mv_wait.proofs.Parts.{still_of}
 use Rattle.mv_work.specs.declared.work.Work.{Work}
 use Rattle.mv_work.specs.Parts.{jobs_of}
 use Rattle.mv_work.specs.Works.{HasCome, IsWorked}
-use Rattle.mv_work.proofs.Meeting.{IsReady, waits_ready}
+use Rattle.mv_work.proofs.Meeting.{CanMeet, waits_ready}
 use Rattle.mv_spool.proofs.working.WorkingWork.work.Given as bound
 use Rattle.mv_spool.proofs.working.WorkingWork.work.Goals as goal
 use Rattle.mv_spool.proofs.working.WorkingWork.work.Goals.{In-Some-needed}
 
 -- the task waits for what it needs
 waits : (g : bound.Over) (c : In-Some-needed g)
-    → IsReady c.args.station.now (jobs_of c.args.self.now.deck.now) c.args.self.now.initiators c.loop.room c.args.task.now
+    → CanMeet c.args.station.now (jobs_of c.args.self.now.deck.now) c.args.self.now.initiators c.loop.room c.args.task.now
     c.in-Some-needed.need c.loop.task c.loop.room.stage
 waits g c =
     let b = c.args.station.now in
