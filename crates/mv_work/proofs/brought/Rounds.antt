@@ -10,7 +10,7 @@ use Rattle.mv_calls.specs.Endings.{end_of_job}
 use Rattle.mv_calls.specs.Keeping.{Kept}
 use Rattle.mv_calls.specs.Pauses.{Gift, allocate, pause, deallocate}
 use Rattle.mv_calls.specs.Posts.{post}
-use Rattle.mv_calls.specs.Program.{Done, Heard, Call, Says, left, entries, followed, accepted, finished, wrong}
+use Rattle.mv_calls.specs.Program.{Done, Heard, Call, Says, left, entries, accepted, finished, wrong}
 use Rattle.mv_deck.specs.Deck.{JobData}
 use Rattle.mv_deck.specs.EndCode.{not_run}
 use Rattle.mv_report.specs.Outcome.{own_end, before_end, steps_with}
