@@ -22,8 +22,9 @@ use Rattle.mv_machine.proofs.EntryRuns.{entry_of}
 use Rattle.mv_machine.proofs.Lists.{all_at}
 use Rattle.mv_latch.proofs.Members.{first_is_in, rest_is_in}
 use Rattle.mv_attach.proofs.Entries.{all_entries, own_entry}
+use Rattle.mv_attach.specs.Entries.{Finds}
 use Rattle.mv_server.specs.Pool.{workers, answer_at}
-use Rattle.mv_server.specs.Right.{IsRight, AreRight, Finds, IsAccepted, IsPosted}
+use Rattle.mv_server.specs.Right.{IsRight, AreRight, IsAccepted, IsPosted}
 
 -- so each of these, whoever made it
 abbrev AllRight : List ℕ → List Entry → Type 0

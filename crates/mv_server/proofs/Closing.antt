@@ -11,8 +11,9 @@ use Rattle.mv_board.specs.Faces.{BoardFace, CallerFace, AreInOrder, IsIn}
 use Rattle.mv_machine.specs.declared.entry.Entry.{Entry}
 use Rattle.mv_machine.specs.Legal.{Legal, of}
 use Rattle.mv_machine.specs.Setup.{Setup}
+use Rattle.mv_attach.specs.Entries.{Finds}
 use Rattle.mv_server.specs.Pool.{workers, pool_setup, days_in, answer_at}
-use Rattle.mv_server.specs.Right.{AreRight, HasDone, Finds, IsPosted}
+use Rattle.mv_server.specs.Right.{AreRight, HasDone, IsPosted}
 use Rattle.mv_server.proofs.Answers.{found_is_answer}
 
 -- what stands in a list does not go by the default

@@ -4,7 +4,7 @@ use Rattle.std.specs.Prelude.{◌≡◌, ℕ, ◌+◌, ◌<◌, ◌≤◌, List,
 use Rattle.std.proofs.Common.{Global}
 use Rattle.std.specs.List.{AllByRecursion, Contains}
 use Rattle.mv_ecb.specs.declared.operation.EcbOp.TheVariants.{Extend, Post}
-use Rattle.mv_ecb.specs.declared.operation.EcbReply.TheVariants.{Complete, Posted, Woke}
+use Rattle.mv_ecb.specs.declared.operation.EcbReply.TheVariants.{Posted, Woke}
 use Rattle.mv_machine.specs.declared.entry.Entry.{Entry}
 use Rattle.mv_machine.specs.declared.entry.Object.{Object}
 use Rattle.mv_machine.specs.declared.entry.Object.TheVariants.{Ecb}
@@ -14,6 +14,7 @@ use Rattle.mv_machine.specs.declared.entry.Reply.{Reply}
 use Rattle.mv_machine.specs.declared.entry.Reply.TheVariants as reply_of
 use Rattle.mv_board.specs.Faces.{BoardFace, CallerFace, IsOf}
 use Rattle.mv_calls.specs.Rest.{IsAtRest}
+use Rattle.mv_attach.specs.Entries.{Finds}
 use Rattle.mv_server.specs.Pool.{workers, requests_limit, weeks_limit, pool_setup, answer_at}
 
 -- caller k may do so: a post of a block of an answer is a worker's and has that answer, and no block is extended
@@ -53,13 +54,6 @@ pub record StaysReady (b : BoardFace) (requests : List ℕ) (most : ℕ) (t u : 
   pub left : t.left ≤ u.left + most
 
 -- ---- answers
-
--- one of these entries found the block complete with this code
-pub record Finds (es : List Entry) (block code : ℕ) : Type 0 where
-  pub entry : Entry
-  pub member : Contains es entry
-  pub object : entry.object ≡ Ecb block
-  pub found : entry.reply ≡ reply_of.Ecb (Complete code)
 
 -- a post that is told this is accepted: it completed its block
 abbrev pub IsAccepted : Reply → Type 0

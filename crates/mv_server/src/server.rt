@@ -6,9 +6,10 @@ ghost use Rattle.mv_element.specs.Table.{release_limit};
 ghost use Rattle.mv_machine.specs.Config.{setup_of};
 ghost use Rattle.mv_machine.specs.Legal.{Legal};
 ghost use Rattle.mv_machine.specs.Limits.{highest_place};
+ghost use Rattle.mv_attach.specs.Entries.{Finds};
 ghost use Rattle.mv_server.specs.Pool.{workers, requests_limit, weeks_limit, worker_events, hand_out_events, server_events};
 ghost use Rattle.mv_server.specs.Pool.{pool_setup, days_in};
-ghost use Rattle.mv_server.specs.Right.{IsAsked, CanServe, IsBack, StaysReady, HasRoom, HasDone, Finds, IsPosted};
+ghost use Rattle.mv_server.specs.Right.{IsAsked, CanServe, IsBack, StaysReady, HasRoom, HasDone, IsPosted};
 
 use mv_attach::{Work, run_tasks};
 use mv_element::Token;
@@ -161,14 +162,7 @@ fn await_answer<R: Wait>(
     ensures found { (n code : ℕ) → Finds task.old.log n code → Finds task.new.log n code }
     ensures kept { StaysReady station.now requests.now 2 task.old task.new }
 {
-    let mut found = [WaitSlot::Open];
-    let Ok(()) = station.wait(rt, task, 1, &[block], &mut found) else {
-        unreachable!()
-    };
-    match found[0] {
-        WaitSlot::Complete(answer) => answer,
-        WaitSlot::Open => unreachable!(),
-    }
+    station.wait_one(rt, task, block)
 }
 
 // The server: hands out each request, stops each worker, and waits for each answer, in order.

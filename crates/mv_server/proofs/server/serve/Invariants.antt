@@ -1,7 +1,8 @@
 use Rattle.std.proofs.Common.{◌≡◌, ◌≤◌, ◌<◌, ◌+◌, ◌*◌, ℕ, length, vec_capacity}
 use Rattle.std.specs.Prelude.{slice_index}
+use Rattle.mv_attach.specs.Entries.{Finds}
 use Rattle.mv_server.specs.Pool.{workers, hand_out_events, server_events}
-use Rattle.mv_server.specs.Right.{IsBack, Finds}
+use Rattle.mv_server.specs.Right.{IsBack}
 use Rattle.mv_server.proofs.server.serve.Given as goal
 
 abbrev pub invariant-loop-request : goal.invariant-loop-request
