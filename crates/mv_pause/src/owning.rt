@@ -25,6 +25,6 @@ pub(crate) fn wake_owner(
     requires { element < element_count station.now.config }
 {
     if let Ok(ReleaseAnswer::Woke) = answer {
-        station.wake(element / station.config().config().elements_per_caller);
+        station.wake(station.config().element_owner(element));
     }
 }
