@@ -1,5 +1,5 @@
-//! A task: one caller's seat, and what it keeps of its entries. Clauses cite `specs/Keep.antt`, the board's `Faces.antt` and
-//! the calls' `Keeping.antt`.
+//! A task: one caller's seat, and what it keeps of its entries. Clauses cite `specs/Task.antt`, `specs/Keep.antt`, the board's
+//! `Faces.antt` and the calls' `Keeping.antt`.
 
 ghost use Rattle.std.specs.Prelude.{◌≡◌, ◌<◌, ◌≤◌};
 ghost use Rattle.std.specs.List.{AllByRecursion};
