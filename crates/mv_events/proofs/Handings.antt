@@ -1,26 +1,21 @@
 -- The next event, by what its parts did.
-use Rattle.std.proofs.Common.{◌≡◌, ℕ, ◌+◌, ◌<◌, ◌≤◌, ◌==◌, not, nat_lt, Bool, true, false, cond, List, [], ◌∷◌, Option, Some, None, Result, Ok, Err, slice_index}
+use Rattle.std.proofs.Common.{◌≡◌, ℕ, ◌+◌, ◌<◌, ◌≤◌, ◌==◌, not, nat_lt, Bool, true, false, cond, List, [], ◌∷◌, Option, Some, None, Result, Ok, Err}
 use Rattle.std.proofs.Common.{refl, sym, ap, ◌∙◌, subst, arith}
-use Rattle.std.proofs.lemmas.Bool.{eq-eqb, ne_eqb, false≢true}
+use Rattle.std.proofs.lemmas.Bool.{eq-eqb, ne_eqb}
 use Rattle.mv_machine.specs.Check.{or_else}
-use Rattle.mv_machine.specs.Setup.{Setup, owner_of}
+use Rattle.mv_machine.specs.Setup.{Setup}
 use Rattle.mv_board.specs.Faces.{CallerFace}
 use Rattle.mv_calls.specs.declared.table.Table.{Table}
 use Rattle.mv_calls.specs.Events.{Finding, next_event, next_event_refusal, slot_found, indexed, handed_out}
-use Rattle.mv_calls.specs.Keeping.{Kept, nothing_kept}
+use Rattle.mv_calls.specs.Keeping.{nothing_kept}
 use Rattle.mv_calls.specs.Program.{Program, Done, followed, finished, unless_refused}
 use Rattle.mv_calls.specs.Refusal.{Refusal}
 use Rattle.mv_calls.specs.Refusal as refusal
 use Rattle.mv_calls.specs.Rest.{IsAtRest}
-use Rattle.mv_calls.specs.Table.{IsSoundTable, event_block, slot_block, has_exit}
-use Rattle.mv_calls.specs.Waits.{wait, wait_refusal, is_others_block, test_ecb, refused_if}
+use Rattle.mv_calls.specs.Table.{event_block, slot_block}
+use Rattle.mv_calls.specs.Waits.{wait, test_ecb, refused_if}
 use Rattle.mv_calls.proofs.Making.{kept_caller}
-use Rattle.mv_wait.specs.declared.waiting.WaitRefusal.{WaitRefusal}
-use Rattle.mv_wait.specs.declared.waiting.WaitRefusal.TheVariants as wait_why
-use Rattle.mv_wait.specs.Answers.{wait_refused}
 use Rattle.mv_wait.specs.Run.{Runs, IsServed}
-use Rattle.mv_wait.specs.Waiting.{NamesBlockOnExit}
-use Rattle.mv_wait.proofs.OneBlock.{unrefused}
 use Rattle.mv_wait.proofs.Runs.{runs_none, runs_within, serves}
 use Rattle.mv_events.specs.Entering.{keeps}
 use Rattle.mv_events.proofs.Following.{served_first}
@@ -114,46 +109,3 @@ module _ (c : Setup) (t : Table) (position : ℕ) where
       (waited index (1 + 0) (Done answer) f g h own lt s
       (subst (λ (p : Program (Result Finding Refusal)). Runs (1 + 0) p (Done answer) g h) (sym here) second)))
       tested_.made.rest
-
--- ---- the wait for a slot is not refused
-
--- a block of the task's own that is on no exit
-pub not_refused : (c : Setup) (e : ℕ) (kept : Kept) (why : WaitRefusal) → is_others_block c kept e ≡ false → has_exit c e ≡ false
-    → wait_refusal c 1 (e ∷ []) kept ≡ Some (wait_refused why) → NamesBlockOnExit c (e ∷ []) why → ⊥
-not_refused c e kept why own alone is names = go (kept.extended e) refl where
-  named : (why : WaitRefusal) → Some (refusal.ExtendedAt 0) ≡ Some (wait_refused why) → NamesBlockOnExit c (e ∷ []) why → ⊥
-  named wait_why.TooMany q names = cc q
-  named (wait_why.Doubled p) q names = cc q
-  named (wait_why.NotOwner p) q names = cc q
-  named (wait_why.Extended p) q names =
-      let first : p ≡ 0 = cc q in
-      false≢true (sym alone ∙ subst (λ (n : ℕ). has_exit c (slice_index (e ∷ []) n) ≡ true) first names)
-
-  go : (held : Bool) → kept.extended e ≡ held → ⊥
-  go false plain = let none = unrefused c e kept own plain in cc (sym none ∙ is)
-  go true held =
-      let some : wait_refusal c 1 (e ∷ []) kept ≡ Some (refusal.ExtendedAt 0) = rw (own, held) refl in
-      named why (sym some ∙ is) names
-
--- the slot is the owner's
-pub slot_own : (c : Setup) (t : Table) (position : ℕ) (f : CallerFace) → IsSoundTable c t → t.owner ≡ f.number → position < t.size
-    → is_others_block c (keeps f) (slot_block t position) ≡ false
-slot_own c t position f checked own lt =
-    let owned = (checked.owned position lt).1 in
-    ap not (eq-eqb (owner_of c (slot_block t position)) (keeps f).caller (owned ∙ own ∙ sym (kept_caller (nothing_kept f.number) f.log)))
-
-pub slot_alone : (c : Setup) (t : Table) (position : ℕ) → IsSoundTable c t → position < t.size → has_exit c (slot_block t position) ≡ false
-slot_alone c t position checked lt = (checked.alone position lt).1
-
--- the wait has answered the slot's code
-pub slot_answer : (c : Setup) (e : ℕ) (Is : Result (List (Option ℕ)) Refusal → Type 0) (code index : ℕ) (f g : CallerFace)
-    → (s : IsServed 2 (wait c 1 (e ∷ [])) Is f g) → s.answer ≡ Ok (Some code ∷ []) → code ≡ index
-    → IsServed 2 (wait c 1 (e ∷ [])) (λ a. a ≡ Ok (Some index ∷ [])) f g
-slot_answer c e Is code index f g s is same = record {
-  answer = s.answer;
-  is = is ∙ ap (λ n. Ok (Some n ∷ [])) same;
-  made = s.made;
-  same = s.same;
-  left = s.left;
-  met = s.met;
-}
