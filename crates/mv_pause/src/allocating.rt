@@ -61,7 +61,7 @@ fn lowest(station: &Station, task: &Task) -> Option<u32>
     ensures own { IfSome result (λ n. (n < element_count station.now.config) × (element_owner station.now.config n ≡ task.now.number)) }
 {
     let count = station.config().config().elements_per_caller;
-    let first = station.config().first_element(task.number());
+    let first = task.number() * count;
     for i in 0..count {
         if !task.in_use(first + i) {
             return Some(first + i);

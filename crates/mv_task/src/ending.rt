@@ -81,7 +81,7 @@ fn give_back_all<R: Wait>(station: &Station, rt: &R, task: &mut Task)
     ensures rest { IsAtRest task.new.log }
 {
     let count = station.config().config().elements_per_caller;
-    let first = station.config().first_element(task.number());
+    let first = task.number() * count;
     for i in 0..count {
         give_back(station, rt, task, first + i);
     }
