@@ -10,9 +10,10 @@ pub mod Unrefused
 pub mod Replies
 -- calls_keep_to_their_events
 pub mod Needs
--- last_event_is_the_machines, generations_in_replies
+-- last_event_is_the_machines, generations_in_replies, codes_in_replies
 pub mod Behind
 pub mod Generations
+pub mod Codes
 -- keeping_agrees, own_blocks_answer, own_elements_answer
 pub mod Folds
 pub mod Blocks

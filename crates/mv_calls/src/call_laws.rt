@@ -20,7 +20,7 @@ ghost use Rattle.mv_machine.specs.Legal.{IsNext, Legal, after};
 ghost use Rattle.mv_machine.specs.Limits.{events_limit, highest_generation};
 ghost use Rattle.mv_machine.specs.Parts.{IsPossible};
 ghost use Rattle.mv_machine.specs.Reach.{reach, total};
-ghost use Rattle.mv_machine.specs.Replies.{IsOfKind, HasPlaceAsNumber, NamesUpTo};
+ghost use Rattle.mv_machine.specs.Replies.{IsOfKind, HasPlaceAsNumber, NamesUpTo, NamesLowCode};
 ghost use Rattle.mv_machine.specs.Setup.{Setup, is_exit_of, targets_of};
 ghost use Rattle.mv_machine.specs.System.{System, volume_step};
 ghost use Rattle.mv_machine.specs.Told.{told};
@@ -56,6 +56,13 @@ pub fn generations_in_replies()
         → NamesUpTo highest_generation e.reply }
     ensures possible { (c : Setup) (k : ℕ) (log : List Entry) (e : Entry) (shown : List (List Wake)) → IsValid c
         → IsPossible c k (log ++ e ∷ []) shown → NamesUpTo highest_generation e.reply }
+{}
+
+/// A code in a block's reply has its 30 bits.
+pub fn codes_in_replies()
+    ensures entries { (c : Setup) (xs ys : List Entry) (e : Entry) → Legal c (xs ++ e ∷ ys) → NamesLowCode e.reply }
+    ensures possible { (c : Setup) (k : ℕ) (log : List Entry) (e : Entry) (shown : List (List Wake))
+        → IsPossible c k (log ++ e ∷ []) shown → NamesLowCode e.reply }
 {}
 
 /// A block's reply names an exit of its own, if it names one. So a post, with the posts of its exits, makes at most as many

@@ -1,6 +1,7 @@
 -- The parts of a wait.
 use Rattle.std.specs.Prelude.{◌≡◌, ℕ, ◌<◌, ◌≤◌, ◌==◌, true, false, List, ◌++◌, length, get_or, slice_index, Option, None, Result}
 use Rattle.std.specs.List.{AllByRecursion, list_any}
+use Rattle.mv_ecb.specs.Table.{code_limit}
 use Rattle.mv_ecb.specs.declared.operation.EcbOp.TheVariants.{Settle}
 use Rattle.mv_ecb.specs.declared.operation.EcbReply.{EcbReply}
 use Rattle.mv_ecb.specs.declared.operation.EcbReply.TheVariants as ecb_reply
@@ -79,6 +80,11 @@ IsBlockSettled e t found u = Happened t (Ecb e) (op_on.Ecb Settle) (reply_of.Ecb
 -- a slot has a code
 abbrev pub IsComplete : WaitSlot → Type 0
 IsComplete found = (code : ℕ) × (found ≡ slot.Complete code)
+
+-- a slot's code, if it has one, has its 30 bits
+abbrev pub HasLowCode : WaitSlot → Type 0
+HasLowCode (slot.Complete code) = code < code_limit
+HasLowCode slot.Open = Unit {0}
 
 -- a wait that is refused since a block is extended names one that is on an exit
 abbrev pub NamesBlockOnExit : Setup → List ℕ → WaitRefusal → Type 0

@@ -1,6 +1,7 @@
 //! A wait for one block. Clauses cite the calls' `Waits.antt` and `Table.antt`, `specs/Run.antt` and `specs/OneBlock.antt`.
 
 ghost use Rattle.std.specs.Prelude.{◌≡◌, ◌<◌, ◌≤◌, ◌∷◌, [], true, false, length, Some, Ok};
+ghost use Rattle.mv_ecb.specs.Table.{code_limit};
 ghost use Rattle.mv_machine.specs.Setup.{owner_of};
 ghost use Rattle.mv_board.specs.Faces.{IsOf};
 ghost use Rattle.mv_calls.specs.Keeping.{kept_of};
@@ -35,6 +36,7 @@ impl Station {
         requires left { 2 ≤ task.old.left }
         ensures served { IsServed 2 (wait self.now.config 1 (ecb ∷ [])) (λ a. a ≡ Ok (Some result ∷ [])) task.old task.new }
         ensures waited { WaitedFor ecb result task.old task.new }
+        ensures code { result < code_limit }
     {
         let mut found = [WaitSlot::Open];
         let Ok(()) = self.wait(rt, task, 1, &[ecb], &mut found) else {

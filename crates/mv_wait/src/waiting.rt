@@ -14,7 +14,7 @@ ghost use Rattle.mv_wait.specs.Answers.{wait_answer, wait_refused, slots_of};
 ghost use Rattle.mv_wait.specs.Listed.{is_listed, listed_count, AreSeenBut};
 ghost use Rattle.mv_wait.specs.Run.{Went, IsServed};
 ghost use Rattle.mv_wait.specs.Waiting.{IsArmed, IsArmedFor, ArePlain, AreOwn, AreOwnUpTo, ArmsAll, SettlesEnough, IsBlockSettled, IsComplete};
-ghost use Rattle.mv_wait.specs.Waiting.{NamesBlockOnExit};
+ghost use Rattle.mv_wait.specs.Waiting.{NamesBlockOnExit, HasLowCode};
 
 use crate::pausing::Pauses;
 use crate::replies::slot;
@@ -92,6 +92,7 @@ impl Station {
             × (task.new ≡ task.old) × (out.new ≡ out.old)) }
         ensures exit { IfErr result (NamesBlockOnExit self.now.config ecbs.now) }
         ensures enough { IfOk result (λ _. count ≤ complete_count (slots_of out.new)) }
+        ensures codes { IfOk result (λ _. AllByRecursion HasLowCode out.new) }
     {
         if let Err(refusal) = self.arm_wait(rt, task, count, ecbs) {
             return Err(refusal);
@@ -157,6 +158,7 @@ impl Station {
         requires out { length out.old ≡ length ecbs.now }
         requires left { length ecbs.now ≤ task.old.left }
         ensures settled { SettlesEnough count ecbs.now (slots_of out.new) task.old task.new }
+        ensures codes { AllByRecursion HasLowCode out.new }
         ensures rest { IsAtRest task.new.log }
         ensures size { length out.new ≡ length out.old }
     {
@@ -281,6 +283,7 @@ impl Station {
         requires plain { ArePlain task.old (ecb ∷ []) }
         requires left { 0 < task.old.left }
         ensures settled { IsBlockSettled ecb task.old result task.new }
+        ensures code { HasLowCode result }
         ensures complete { is_listed task.old.ready ecb ≡ true → IsComplete result }
     {
         let reply = self.event(rt, task, Object::Ecb(ecb), Op::Ecb(EcbOp::Settle));

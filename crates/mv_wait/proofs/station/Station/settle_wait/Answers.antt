@@ -1,15 +1,17 @@
 use Rattle.std.proofs.Common.{◌≡◌, false, ◌+◌, ◌≤◌, get_or, set, take, drop, length, ◌++◌, [], ◌∷◌, refl, sym, ap, ◌∙◌}
 use Rattle.std.proofs.Common.{subst, arith, append_assoc, append-nil}
 use Rattle.std.proofs.Math.ListN.{length-set}
-use Rattle.std.proofs.lemmas.List.{drop_more, drop_all, take_all}
+use Rattle.std.specs.List.{AllByRecursion}
+use Rattle.std.proofs.lemmas.List.{drop_more, drop_all, take_all, take_more_set}
 use Rattle.mv_machine.specs.declared.entry.Reply.TheVariants as reply_of
+use Rattle.mv_machine.proofs.Lists.{all_push}
 use Rattle.mv_calls.specs.Keeping.{kept_of}
 use Rattle.mv_calls.specs.Program.{Wrong}
 use Rattle.mv_calls.specs.Waits.{settle_all, complete_count, AreDistinct}
 use Rattle.mv_wait.specs.Answers.{slot_of, slots_of}
 use Rattle.mv_wait.specs.Listed.{listed_count}
 use Rattle.mv_wait.specs.Run.{Runs}
-use Rattle.mv_wait.specs.Waiting.{IsArmedFor, settle_reply}
+use Rattle.mv_wait.specs.Waiting.{IsArmedFor, settle_reply, HasLowCode}
 use Rattle.mv_wait.proofs.Parts.{still_of, own_one, one_of}
 use Rattle.mv_wait.proofs.Runs.{runs_none, runs_then, runs_within}
 use Rattle.mv_wait.proofs.Waits.{settled_less, settle_keeps, settle_step, slots_more, enough_still, distinct_rest, none_is_rest}
@@ -24,6 +26,7 @@ loop-i-init g c = record {
   plain = c.requires.plain;
   enough = (let e = c.requires.listed in omega arith);
   size = c.requires.out;
+  codes = tt;
 }
 
 pub settle-requires : goal.settle-requires
@@ -83,6 +86,8 @@ loop-i-preserved g c =
           (sym h.ready)
           (enough_still c.args.count i e (drop (i + 1) es) t.ready (slots_of (take i out)) s distinct.0 c.settle.ensures.complete enough));
       size = length-set out i s ∙ size;
+      codes = subst (AllByRecursion HasLowCode) (sym (take_more_set out i s (omega arith)))
+          (all_push HasLowCode (take i out) s since.codes c.settle.ensures.code);
     }
 
 pub returns : goal.returns
@@ -108,4 +113,5 @@ returns g c =
       };
       rest = none_is_rest c.loop-i.task.log (subst (λ ns. IsArmedFor ns c.loop-i.task.log) none since.waits);
       size = size ∙ sym c.requires.out;
+      codes = subst (AllByRecursion HasLowCode) all since.codes;
     }

@@ -1,10 +1,11 @@
 use Rattle.std.proofs.Common.{◌≡◌, ◌≤◌, ◌+◌, ◌++◌, List, Option, ℕ, length, take, drop}
+use Rattle.std.specs.List.{AllByRecursion}
 use Rattle.mv_calls.specs.Program.{Program}
 use Rattle.mv_calls.specs.Waits.{settle_all, complete_count}
 use Rattle.mv_wait.specs.Answers.{slots_of}
 use Rattle.mv_wait.specs.Listed.{listed_count}
 use Rattle.mv_wait.specs.Run.{Runs}
-use Rattle.mv_wait.specs.Waiting.{IsArmedFor, ArePlain, Waited}
+use Rattle.mv_wait.specs.Waiting.{IsArmedFor, ArePlain, Waited, HasLowCode}
 use Rattle.mv_wait.proofs.station.Station.settle_wait.Given as goal
 
 abbrev pub invariant-loop-i : goal.invariant-loop-i
@@ -15,4 +16,5 @@ invariant-loop-i g l = record {
   plain : ArePlain l.task l.ecbs;
   enough : l.count ≤ complete_count (slots_of (take l.i l.out)) + listed_count l.task.ready (drop l.i l.ecbs);
   size : length l.out ≡ length l.ecbs;
+  codes : AllByRecursion HasLowCode (take l.i l.out);
 }

@@ -1,10 +1,12 @@
-use Rattle.std.proofs.Common.{◌≡◌, List, [], ◌∷◌, Ok, ap, ◌∙◌, subst}
+use Rattle.std.proofs.Common.{◌≡◌, ◌<◌, List, [], ◌∷◌, length, Ok, sym, ap, ◌∙◌, subst, arith}
 use Rattle.mv_calls.specs.Waits.{wait}
 use Rattle.mv_wait.specs.Answers.{slots_of}
 use Rattle.mv_wait.specs.OneBlock.{WaitedFor}
 use Rattle.mv_wait.specs.Run.{IsServed}
+use Rattle.mv_wait.specs.Waiting.{HasLowCode}
 use Rattle.mv_wait.specs.declared.waiting.WaitSlot.{WaitSlot}
 use Rattle.mv_wait.specs.declared.waiting.WaitSlot.TheVariants.{Complete}
+use Rattle.mv_wait.proofs.Parts.{one_of}
 use Rattle.mv_wait.proofs.OneBlock.{not_refused, waited_made, slot_is, found_open, found_code}
 use Rattle.mv_wait.proofs.station.Station.wait_one.Goals as goal
 
@@ -34,4 +36,6 @@ returns g c =
       served = subst (λ (found : List WaitSlot). IsServed 2 (wait config 1 (ecb ∷ [])) (λ a. a ≡ Ok (slots_of found)) t u)
           (slots ∙ ap (λ n. Complete n ∷ []) code) served;
       waited = subst (λ n. WaitedFor ecb n t u) code found.2;
+      code = subst HasLowCode c.in-Complete.is (one_of HasLowCode out 0 (Complete 0) c.in-Ok.ensures.codes
+          (subst (λ (xs : List WaitSlot). 0 < length xs) (sym slots) (omega arith)));
     }
