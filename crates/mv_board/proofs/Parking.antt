@@ -37,8 +37,8 @@ is_on Released = true
 is_on x = false
 
 -- what the last pause says of a state
-abbrev Tells : Option ℕ → ElementState → Type 0
-Tells last z = (g : ℕ) → last ≡ Some g → is_on z.phase ≡ true → z.generation ≡ g
+abbrev AgreesWith : Option ℕ → ElementState → Type 0
+AgreesWith last z = (g : ℕ) → last ≡ Some g → is_on z.phase ≡ true → z.generation ≡ g
 
 -- ---- one event
 
@@ -63,11 +63,12 @@ pause_tells n g last z m Parked is e = let last_now : Some g ≡ Some m = rw (eq
 pause_tells n g last z m r is e = let none : None ≡ Some m = rw (eq-eqb n n refl) at e in absurd (cc none)
 
 -- another operation
-others_tell : (last : Option ℕ) (x : ElementOp) (z : ElementState) → is_pause x ≡ false → Tells last z → Tells last (element_step x z).0
+others_tell : (last : Option ℕ) (x : ElementOp) (z : ElementState) → is_pause x ≡ false → AgreesWith last z
+    → AgreesWith last (element_step x z).0
 others_tell last x z other t = λ m e on. same_pause x z other on ∙ t m e (was_on x z other on)
 
-step_tells : (n : ℕ) (last : Option ℕ) (x : ElementOp) (z : ElementState) → Tells last z
-    → Tells (parked_by n last (Element n) (op_on.Element x) (reply_of.Element (element_step x z).1)) (element_step x z).0
+step_tells : (n : ℕ) (last : Option ℕ) (x : ElementOp) (z : ElementState) → AgreesWith last z
+    → AgreesWith (parked_by n last (Element n) (op_on.Element x) (reply_of.Element (element_step x z).1)) (element_step x z).0
 step_tells n last (Pause g) z t = λ m e on. pause_tells n g last z m (element_step (Pause g) z).1 refl e
 step_tells n last x z t = others_tell last x z refl t
 
@@ -79,7 +80,7 @@ passes n m last x r other = refl
 
 event_tells : (c : Setup) (s : System) (n : ℕ) (last : Option ℕ) (k : ℕ) (o : Object) (p : ℕ) (op : Op) (r : Reply)
     → IsNext c s (entry_of k o p op r)
-    → Tells last (s.element n).state → Tells (parked_by n last o op r) ((moved s k o op).element n).state
+    → AgreesWith last (s.element n).state → AgreesWith (parked_by n last o op r) ((moved s k o op).element n).state
 event_tells c s n last k (Element m) p (op_on.Element x) r h t = elim (cases_eq n m) [
   | inl same ↦
       let reply : reply_of.Element (element_step x (s.element n).state).1 ≡ r =
@@ -88,11 +89,11 @@ event_tells c s n last k (Element m) p (op_on.Element x) r h t = elim (cases_eq 
       ap (λ z. (element_step x (s.element z).state).0) same
       ∙ sym (ap (λ (y : Cell ElementState). y.state)
       (with_at-same s.element m (advanced (s.element m) (element_step x (s.element m).state).0) n same)) in
-      subst (λ (z : Object × Reply × ElementState). Tells (parked_by n last z.0 (op_on.Element x) z.1) z.2)
+      subst (λ (z : Object × Reply × ElementState). AgreesWith (parked_by n last z.0 (op_on.Element x) z.1) z.2)
       (λ i. (Element (same i), reply i, state i))
       (step_tells n last x (s.element n).state t)
   | inr other ↦
-      subst (λ (z : Option ℕ × Cell ElementState). Tells z.0 z.1.state)
+      subst (λ (z : Option ℕ × Cell ElementState). AgreesWith z.0 z.1.state)
       (λ i. (
         sym (passes n m last x r (λ z. other (sym z))) i,
         sym
@@ -120,16 +121,16 @@ others_pass c s n last k o p op r h not_owner = refl
 -- ---- a history
 
 along_tells : (c : Setup) (n k : ℕ) (s : System) (es : List Entry) (last : Option ℕ) → element_owner c n ≡ k → LegalFrom c s es
-    → Tells last (s.element n).state
-    → Tells (parked_from n last (of k es)) ((after_from s es).element n).state
+    → AgreesWith last (s.element n).state
+    → AgreesWith (parked_from n last (of k es)) ((after_from s es).element n).state
 along_tells c n k s [] last own l t = t
 along_tells c n k s (e ∷ es) last own l t =
     let then = event_tells c s n last e.caller e.object e.place e.op e.reply l.0 t in
     dite (ℕ_discrete e.caller k)
-    (λ mine. subst (λ log. Tells (parked_from n last log) ((after_from (next s e) es).element n).state) (sym (of_mine k e es mine))
+    (λ mine. subst (λ log. AgreesWith (parked_from n last log) ((after_from (next s e) es).element n).state) (sym (of_mine k e es mine))
     (along_tells c n k (next s e) es (parked_by n last e.object e.op e.reply) own l.1 then))
-    (λ other. subst (λ log. Tells (parked_from n last log) ((after_from (next s e) es).element n).state) (sym (of_other k e es other))
-    (along_tells c n k (next s e) es last own l.1 (subst (λ y. Tells y ((next s e).element n).state)
+    (λ other. subst (λ log. AgreesWith (parked_from n last log) ((after_from (next s e) es).element n).state) (sym (of_other k e es other))
+    (along_tells c n k (next s e) es last own l.1 (subst (λ y. AgreesWith y ((next s e).element n).state)
     (others_pass c s n last e.caller e.object e.place e.op e.reply l.0 (λ z. other (z ∙ own))) then)))
 
 released_on : (x : Phase) → is_released x ≡ true → is_on x ≡ true

@@ -6,7 +6,7 @@ pub mod Grants
 pub mod Purges
 -- the invariant of a latch set: the quotas, the numbers that stand once, the room of each list
 pub mod Quotas
-pub mod Ready
+pub mod InMemory
 -- the laws on who holds a latch: `exclusive_stands_alone`, `arrival_grants`, `purged_hold_nothing`
 pub mod Holders
 -- the law `granted_stay`, by what one operation does to each list

@@ -9,6 +9,6 @@ abbrev pub view_of : Inside → LatchLists
 view_of s = record { lists = items_of s.lists.items; callers = s.callers; quota = s.quota; posted = s.posted }
 
 -- what is true of every latch set: the quotas are kept, and each list has room for all requests that they allow
-pub record IsReady (s : Inside) : Type 0 where
+pub record IsLatchSet (s : Inside) : Type 0 where
   pub sound : IsSound (view_of s)
   pub room : HaveRoom (s.callers * s.quota) s.lists.items

@@ -33,11 +33,11 @@ impl Model for LatchSet {
 
     ghost Value = { LatchLists };
 
-    ghost use Rattle.mv_latch.specs.Inside.{view_of, IsReady};
+    ghost use Rattle.mv_latch.specs.Inside.{view_of, IsLatchSet};
 
     ghost view = { view_of };
 
-    ghost invariant = { IsReady };
+    ghost invariant = { IsLatchSet };
 }
 
 impl LatchSet {

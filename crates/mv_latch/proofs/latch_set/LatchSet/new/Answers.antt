@@ -1,5 +1,5 @@
 use Rattle.mv_latch.proofs.Quotas.{sound_new}
-use Rattle.mv_latch.proofs.Ready.{ready_new}
+use Rattle.mv_latch.proofs.InMemory.{ready_new}
 use Rattle.mv_latch.proofs.latch_set.LatchSet.new.Goals as goal
 
 pub invariant_of-result : goal.invariant_of-result

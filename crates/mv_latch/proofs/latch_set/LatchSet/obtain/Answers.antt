@@ -2,7 +2,7 @@
 use Rattle.std.proofs.Common.{◌∙◌, ap}
 use Rattle.mv_latch.specs.Latch.{obtain_step}
 use Rattle.mv_latch.proofs.Quotas.{sound_obtain}
-use Rattle.mv_latch.proofs.Ready.{IsRead, items_read, sound_value, read_free, view_with, ready_with}
+use Rattle.mv_latch.proofs.InMemory.{IsRead, items_read, sound_value, read_free, view_with, ready_with}
 use Rattle.mv_latch.proofs.latch_set.LatchSet.obtain.Goals as goal
 
 pub obtain-requires : goal.obtain-requires

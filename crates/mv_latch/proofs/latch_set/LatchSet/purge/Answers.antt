@@ -8,7 +8,7 @@ use Rattle.mv_latch.specs.LatchSet.{LatchLists, count_in, request_count}
 use Rattle.mv_latch.specs.Queues.{items_of, capacities}
 use Rattle.mv_latch.specs.Inside.{view_of}
 use Rattle.mv_latch.proofs.Quotas.{counts_fit, total_fit, purge_told, all_distinct, sound_purge}
-use Rattle.mv_latch.proofs.Ready.{ready_all}
+use Rattle.mv_latch.proofs.InMemory.{ready_all}
 use Rattle.mv_latch.proofs.latch_set.LatchSet.purge.Goals as goal
 
 pub count_in_all-removed-requires : goal.count_in_all-removed-requires

@@ -2,7 +2,7 @@
 use Rattle.std.proofs.Common.{◌∙◌, ap, arith}
 use Rattle.mv_latch.specs.Latch.{release_step}
 use Rattle.mv_latch.proofs.Quotas.{sound_release}
-use Rattle.mv_latch.proofs.Ready.{IsRead, items_read, sound_value, read_distinct, read_fits, view_with, ready_with}
+use Rattle.mv_latch.proofs.InMemory.{IsRead, items_read, sound_value, read_distinct, read_fits, view_with, ready_with}
 use Rattle.mv_latch.proofs.latch_set.LatchSet.release.Goals as goal
 
 pub release-requires-clause-distinct : goal.release-requires-clause-distinct

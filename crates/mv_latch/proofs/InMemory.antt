@@ -10,7 +10,7 @@ use Rattle.mv_latch.specs.Request.{of_caller}
 use Rattle.mv_latch.specs.Latch.{HasDistinctIds}
 use Rattle.mv_latch.specs.LatchSet.{LatchLists, list_of, count_in, IsSound}
 use Rattle.mv_latch.specs.Queues.{items_of, capacities, HaveRoom}
-use Rattle.mv_latch.specs.Inside.{view_of, IsReady}
+use Rattle.mv_latch.specs.Inside.{view_of, IsLatchSet}
 use Rattle.mv_latch.proofs.Purges.{items_at, total_at, capacities_kept}
 use Rattle.mv_latch.proofs.Quotas.{total_fit, total_free, list_distinct}
 
@@ -22,7 +22,7 @@ room_at room (v ∷ rest) (suc i) d lt h = room_at room rest i d (omega arith) h
 
 -- the list that was read at a latch
 pub record IsRead (s : Inside) (value : LatchLists) (i : ℕ) (v : Vec Request Global) : Type 0 where
-  pub ready : IsReady s
+  pub ready : IsLatchSet s
   pub seen : view_of s ≡ value
   pub within : i < length value.lists
   pub read : v ≡ get_or s.lists.items i v
@@ -35,7 +35,7 @@ items_read s value i v r =
     ap (λ (w : Vec Request Global). w.items) r.read ∙ items_at s.lists.items i v (in_memory s value i v r)
     ∙ ap (λ (z : LatchLists). list_of z.lists i) r.seen
 
-pub sound_value : (s : Inside) (value : LatchLists) → IsReady s → view_of s ≡ value → IsSound value
+pub sound_value : (s : Inside) (value : LatchLists) → IsLatchSet s → view_of s ≡ value → IsSound value
 sound_value s value r e = subst IsSound e r.sound
 
 pub read_distinct : (s : Inside) (value : LatchLists) (i : ℕ) (v : Vec Request Global) → IsRead s value i v → HasDistinctIds v.items
@@ -79,7 +79,7 @@ view_with s value i v qs e f =
 
 pub ready_with : (s : Inside) (value : LatchLists) (i : ℕ) (old v : Vec Request Global) (qs : List Request) → IsRead s value i old
     → vec_capacity v ≡ vec_capacity old → v.items ≡ qs
-    → IsSound (record value { lists = set value.lists i qs }) → IsReady (record s { lists = with_item s.lists i v })
+    → IsSound (record value { lists = set value.lists i qs }) → IsLatchSet (record s { lists = with_item s.lists i v })
 ready_with s value i old v qs r same f w = record {
   sound = subst IsSound (sym (view_with s value i v qs r.seen f)) w;
   room =
@@ -98,10 +98,10 @@ view_all s value queues lists e long f =
     ∙ ap (λ (z : List (List Request)). record (view_of s) { lists = z }) f
     ∙ ap (λ (z : LatchLists). record z { lists = lists }) e
 
-pub ready_all : (s : Inside) (value : LatchLists) (queues : List (Vec Request Global)) (lists : List (List Request)) → IsReady s
+pub ready_all : (s : Inside) (value : LatchLists) (queues : List (Vec Request Global)) (lists : List (List Request)) → IsLatchSet s
     → view_of s ≡ value → length queues ≡ length s.lists.items → items_of queues ≡ lists
     → capacities queues ≡ capacities s.lists.items → IsSound (record value { lists = lists })
-    → IsReady (record s { lists = with_items s.lists queues })
+    → IsLatchSet (record s { lists = with_items s.lists queues })
 ready_all s value queues lists r e long f same w = record {
   sound = subst IsSound (sym (view_all s value queues lists e long f)) w;
   room =
@@ -111,6 +111,6 @@ ready_all s value queues lists r e long f same w = record {
 
 -- a new set
 pub ready_new : (s : Inside) (latches : ℕ) → items_of s.lists.items ≡ replicate latches [] → HaveRoom (s.callers * s.quota) s.lists.items
-    → IsSound (record (view_of s) { lists = replicate latches [] }) → IsReady s
+    → IsSound (record (view_of s) { lists = replicate latches [] }) → IsLatchSet s
 ready_new s latches e room w =
     record { sound = subst (λ (z : List (List Request)). IsSound (record (view_of s) { lists = z })) (sym e) w; room = room }
