@@ -1,7 +1,7 @@
 -- What one event on a word makes of a history, of its words, and of what is ready.
 use Rattle.std.proofs.Common.{◌≡◌, ◌≢◌, ◌⊎◌, ℕ, ◌+◌, ◌<◌, ◌≤◌, ltb, Bool, true, false, ◌&&◌, cond, List, [], ◌∷◌, ◌++◌, length, get_or}
 use Rattle.std.proofs.Common.{Option, Some, None, option_map, option_and_then, IsSome, inl, inr, refl, sym, ap, ◌∙◌, subst, arith}
-use Rattle.std.proofs.Common.{append-nil, eq-eqb, ne_eqb, length-append}
+use Rattle.std.proofs.Common.{append-nil, eq-eqb, length-append}
 use Rattle.std.proofs.lemmas.Bool.{false≢true, true≢false, lt-ltb}
 use mathlib.Core.Logic.{dite}
 use native.Mathlib.Decide.{ℕ_discrete}
@@ -28,12 +28,12 @@ use Rattle.mv_machine.specs.Packing.{pack, unpack, state_at, word_at, state_step
 use Rattle.mv_machine.specs.Parts.{KeepsBudgets}
 use Rattle.mv_machine.specs.Setup.{Setup, owner_of, element_owner}
 use Rattle.mv_machine.specs.System.{System, admitted, opening, place_of, volume_step}
-use Rattle.mv_machine.specs.Told.{told, told_at, told_from}
-use Rattle.mv_machine.proofs.Longer.{legal_longer, told_from-append}
+use Rattle.mv_machine.specs.Told.{told, told_at}
+use Rattle.mv_machine.proofs.Longer.{legal_longer, told_from-append, told_other, told_nothing_from}
 use Rattle.mv_machine.proofs.Objects.{elsewhere, of-append, at-append}
 use Rattle.mv_machine.proofs.OneHistory.{budgets_fit}
 use Rattle.mv_machine.proofs.Owners.{complete_kept, released_kept}
-use Rattle.mv_machine.proofs.Places.{same_miss, of_mine, of_other, at_other}
+use Rattle.mv_machine.proofs.Places.{same_miss, of_mine, of_other, of_longer_mine, of_longer_other, at_other}
 use Rattle.mv_machine.proofs.SameParts.{same_told}
 use Rattle.mv_machine.proofs.WordSteps.{reply_by_state, state_by_state, place_rises}
 use Rattle.mv_board.specs.declared.watch.Watch.{Watch}
@@ -126,22 +126,12 @@ other_word m e q n = same_word q (next m e) m (elsewhere m e.caller e.object e.o
 pub latches_stay : (m : System) (e : Entry) → e.object ≢ Latches → (next m e).latches ≡ m.latches
 latches_stay m e away = elsewhere m e.caller e.object e.op Latches (same_miss e.object Latches away)
 
--- ---- the callers' parts
-
-pub of_longer_mine : (k : ℕ) (h : List Entry) (e : Entry) → e.caller ≡ k → of k (h ++ e ∷ []) ≡ of k h ++ e ∷ []
-of_longer_mine k h e mine = of-append k h (e ∷ []) ∙ ap (λ z. of k h ++ z) (of_mine k e [] mine)
-
-pub of_longer_other : (k : ℕ) (h : List Entry) (e : Entry) → e.caller ≢ k → of k (h ++ e ∷ []) ≡ of k h
-of_longer_other k h e other = of-append k h (e ∷ []) ∙ (ap (λ z. of k h ++ z) (of_other k e [] other) ∙ append-nil (of k h))
+-- ---- what is told
 
 -- an event on a word tells nothing
 pub told_away : (c : Setup) (k : ℕ) (h : List Entry) (e : Entry) → e.object ≢ Latches → told c k (h ++ e ∷ []) ≡ told c k h
 told_away c k h e away = same_told c (h ++ e ∷ []) h k
     (at-append Latches h (e ∷ []) ∙ (ap (λ z. «at» Latches h ++ z) (at_other Latches e [] away) ∙ append-nil («at» Latches h)))
-
-told_other : (m : System) (k j : ℕ) (o : Object) (op : Op) → j ≢ k → told_at m k j o op ≡ []
-told_other m k j Latches (op_on.Latch op) n = rw (ne_eqb j k n) refl
-told_other m k j o op n = refl
 
 -- an event of another caller tells nothing
 pub told_else : (c : Setup) (k : ℕ) (h : List Entry) (e : Entry) → e.caller ≢ k → told c k (h ++ e ∷ []) ≡ told c k h
@@ -157,13 +147,6 @@ told_latch c k h e op who there is =
     ∙ ap (λ ws. told c k h ++ (ws ++ []))
     ((λ i. told_at (after c h) k (who i) (there i) (is i)) ∙ ap (λ b. cond b (wakes k op (after c h).latches.state ∷ []) [])
     (eq-eqb k k refl))
-
-told_nothing_from : (m : System) (k : ℕ) (h : List Entry) → of k h ≡ [] → told_from m k h ≡ []
-told_nothing_from m k [] z = refl
-told_nothing_from m k (e ∷ es) z = dite (ℕ_discrete e.caller k)
-    (λ mine. absurd (cc (sym (of_mine k e es mine) ∙ z)))
-    (λ other. ap (λ ws. ws ++ told_from (next m e) k es) (told_other m k e.caller e.object e.op other)
-    ∙ told_nothing_from (next m e) k es (sym (of_other k e es other) ∙ z))
 
 -- who made no entry was told nothing
 pub told_nothing : (c : Setup) (k : ℕ) (h : List Entry) → of k h ≡ [] → told c k h ≡ []

@@ -8,16 +8,18 @@ use lib.ListN.{get_elem?}
 use Rattle.atomic_table.specs.Table.{Joins}
 use Rattle.atomic_table.proofs.Lists.{set_else}
 use Rattle.mv_latch.specs.declared.request.Request.{Request}
+use Rattle.mv_latch.proofs.Joined.{both_empty}
 use Rattle.mv_machine.specs.declared.entry.Entry.{Entry}
 use Rattle.mv_machine.specs.Legal.{after}
 use Rattle.mv_machine.specs.Setup.{Setup}
 use Rattle.mv_machine.specs.System.{Cell}
+use Rattle.mv_machine.proofs.Lists.{all_append}
 use Rattle.mv_board.specs.declared.view.Part.{Part}
 use Rattle.mv_board.specs.declared.view.View.{View}
 use Rattle.mv_board.specs.Rule.{holders, tally, made, history_of, IsPart, Knows, IsNamed, ReadyFor, AboutFor, Ruled}
 use Rattle.mv_board.specs.View.{either_about, joined, spent_view}
 use Rattle.mv_board.proofs.Standing.{remerge}
-use Rattle.mv_board.proofs.Views.{all_append, each_put, tally_set, tally_two, holders_append}
+use Rattle.mv_board.proofs.Views.{each_put, tally_set, tally_two, holders_append}
 
 ready_none : (c : Setup) (h : List Entry) (ps : List Part) → ReadyFor c h ps []
 ready_none c h [] = refl
@@ -28,10 +30,6 @@ both_about : (c : Setup) (ps qs : List Part) (cs ds : List Setup) → AboutFor c
 both_about c [] [] cs ds x y = ap (λ z. either_about z ds) x ∙ y
 both_about c [] (q ∷ qs) cs ds x y = ap (λ z. either_about z ds) x ∙ y
 both_about c (p ∷ ps) qs cs ds x y = ap (λ z. either_about z ds) x
-
-both_none : (ps qs : List Part) → ps ++ qs ≡ [] → (ps ≡ []) × (qs ≡ [])
-both_none [] qs e = (refl, e)
-both_none (p ∷ ps) qs e = absurd (cc e)
 
 -- what holds of each view then
 each_join : (vs : List View) (id other : ℕ) (both : View) (P : View → Type 0) → P spent_view → P both
@@ -92,5 +90,5 @@ joins c id v other w s r at apart there =
       about = each_join s.views id other both (λ u. AboutFor c u.parts u.about) refl
           (both_about c v.parts w.parts v.about w.about (r.about id v at) (r.about other w was)) r.about;
       idle = each_join s.views id other both (λ u. u.parts ≡ [] → u.turn ≡ []) (λ _. refl)
-          (λ z. let e = both_none v.parts w.parts z in λ i. r.idle id v at e.0 i ++ r.idle other w was e.1 i) r.idle;
+          (λ z. let e = both_empty v.parts w.parts z in λ i. r.idle id v at e.0 i ++ r.idle other w was e.1 i) r.idle;
     }

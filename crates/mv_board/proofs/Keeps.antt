@@ -32,7 +32,8 @@ use Rattle.mv_board.specs.Steps.{Looked, Tried, Tested, Made, Meets, entry_of}
 use Rattle.mv_board.specs.View.{fresh, part_logged, with_own, logged, met, cut_left, cut_right, fresh_in, first_view}
 use Rattle.mv_board.specs.Words.{HasWord, word_number, word_count, turn_word, object_of, changed, test_of}
 use Rattle.mv_board.proofs.Events.{changed_is, test_steps, test_admitted, told_nothing}
-use Rattle.mv_board.proofs.Machine.{object_again, state_there, word_by_state, zero_words, unpacked_place, fitting, place_within}
+use Rattle.mv_machine.proofs.MergeSteps.{place_low}
+use Rattle.mv_board.proofs.Machine.{object_again, state_there, word_by_state, zero_words, unpacked_place, fitting}
 use Rattle.mv_board.proofs.Moves.{event, look}
 use Rattle.mv_board.proofs.Standing.{Table, remerge, turn_put, mine, caller_made, has_room, stands_for, meets, possible}
 use Rattle.mv_board.proofs.Views.{each_put, each_push, put_there, tally_set, tally_push, tally_two, holders_mine, holders_other}
@@ -136,7 +137,7 @@ module _ (c : Setup) (slots id : ℕ) (me : Me Item View) (p : Part) (more : Lis
       let new : ℕ = pack (q + 1) there.0 in
       let unpacks : unpack o x ≡ Some (q, there.0) = stands_for c s h r id me.0 p more at is o there.0 has is_state in
       let free : q < events_limit =
-      (let a = has_room c s h r id me.0 p more at is left in let b : q ≤ length h = place_within c h o r.legal in omega arith) in
+      (let a = has_room c s h r id me.0 p more at is left in let b : q ≤ length h = place_low c h o r.legal in omega arith) in
       let sum : (x + 2 ^ 45) % 2 ^ 64 ≡ new =
       (let a : x ≡ pack q there.0 = r.words o has ∙ word_by_state m o there.0 is_state in
       let b : x / 2 ^ 45 ≡ q = unpacked_place o x q there.0 unpacks in omega arith) in

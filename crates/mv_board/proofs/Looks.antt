@@ -18,7 +18,7 @@ use Rattle.mv_board.specs.View.{own, first_of, with_own, part_met, met, logged}
 use Rattle.mv_board.specs.Words.{changed}
 use Rattle.mv_board.proofs.Changing.{read_parts}
 use Rattle.mv_board.proofs.Logging.{seeing}
-use Rattle.mv_board.proofs.Views.{all_append}
+use Rattle.mv_machine.proofs.Lists.{all_append}
 
 -- ---- looks of a seat that knows its own caller alone
 

@@ -1,5 +1,5 @@
 -- The few facts of the machine that the board's proofs cite.
-use Rattle.std.proofs.Common.{◌≡◌, ◌≢◌, ℕ, ◌+◌, ◌*◌, ◌/◌, ◌%◌, ◌^◌, ◌<◌, ◌≤◌, true, List, [], length, Option, Some, None, option_map}
+use Rattle.std.proofs.Common.{◌≡◌, ◌≢◌, ℕ, ◌+◌, ◌*◌, ◌/◌, ◌%◌, ◌^◌, ◌<◌, ◌≤◌, true, List, [], Option, Some, None, option_map}
 use Rattle.std.proofs.Common.{refl, sym, ap, ◌∙◌, subst, arith}
 use Rattle.std.proofs.lemmas.Bool.{le-leb}
 use Rattle.std.proofs.lemmas.Bool.Decides.{nat_tests}
@@ -13,9 +13,8 @@ use Rattle.mv_machine.specs.Elements.{FitsItsPlace}
 use Rattle.mv_machine.specs.Legal.{Legal, SameAt, after}
 use Rattle.mv_machine.specs.Packing.{pack, unpack, state_in, state_at, word_at}
 use Rattle.mv_machine.specs.Setup.{Setup, element_count}
-use Rattle.mv_machine.specs.System.{System, opening, place_of}
+use Rattle.mv_machine.specs.System.{System, place_of}
 use Rattle.mv_machine.proofs.ElementRuns.{generation_fits}
-use Rattle.mv_machine.proofs.Histories.{place_bounded}
 use Rattle.mv_machine.proofs.Validity.{no_bad_limit, callers_kept, elements_kept}
 use Rattle.mv_board.specs.Words.{HasWord, word_number, word_count, turn_word, object_of, fits}
 
@@ -103,15 +102,6 @@ zero_words c (Ecb n) = refl
 zero_words c (Element n) = refl
 zero_words c (Volume n) = refl
 zero_words c Latches = refl
-
-zero_places : (c : Setup) (o : Object) → place_of (opening c) o ≡ 0
-zero_places c (Ecb n) = refl
-zero_places c (Element n) = refl
-zero_places c (Volume n) = refl
-zero_places c Latches = refl
-
-pub place_within : (c : Setup) (es : List Entry) (o : Object) → Legal c es → place_of (after c es) o ≤ length es
-place_within c es o l = omega (arith, place_bounded c (opening c) es o l, zero_places c o)
 
 -- the place that a word stands for
 place_above : (w q : ℕ) (x : WordState) (found : Option WordState) → option_map {U = ℕ × WordState} (λ s. (w / 2 ^ 45, s)) found ≡ Some

@@ -21,7 +21,8 @@ use Rattle.mv_machine.specs.Setup.{Setup}
 use Rattle.mv_machine.specs.System.{System, Cell, admitted, place_of}
 use Rattle.mv_machine.specs.Told.{told}
 use Rattle.mv_machine.proofs.Longer.{legal_longer, after_longer, had_longer, had_now}
-use Rattle.mv_machine.proofs.Places.{object_discrete}
+use Rattle.mv_machine.proofs.Lists.{all_map, all_append}
+use Rattle.mv_machine.proofs.Places.{object_discrete, of_longer_mine, of_longer_other}
 use Rattle.mv_board.specs.declared.item.Item.{Item}
 use Rattle.mv_board.specs.declared.view.Part.{Part}
 use Rattle.mv_board.specs.declared.view.Sight.{Sight}
@@ -31,11 +32,11 @@ use Rattle.mv_board.specs.Rule.{holders_in, made, IsPart, Turns, IsReady, ReadyF
 use Rattle.mv_board.specs.Steps.{entry_of}
 use Rattle.mv_board.specs.View.{first_of, part_logged, part_met, with_own, takes_off, off, logged, met}
 use Rattle.mv_board.specs.Words.{HasWord, word_number, turn_word, changed}
-use Rattle.mv_board.proofs.Events.{changed_parts, event_is_next, event_word, other_word, latches_stay, of_longer_mine, of_longer_other}
+use Rattle.mv_board.proofs.Events.{changed_parts, event_is_next, event_word, other_word, latches_stay}
 use Rattle.mv_board.proofs.Events.{told_away, told_else, ready_next}
 use Rattle.mv_board.proofs.Machine.{one_number, not_turn, in_table, no_latches, state_there}
 use Rattle.mv_board.proofs.Standing.{Table, logs_put, turn_put, mine, mine_ready, mine_about, caller_made, alone, apart, short, stands_for}
-use Rattle.mv_board.proofs.Views.{all_map, all_append, all_without, each_put, holders_mine, parts_apart}
+use Rattle.mv_board.proofs.Views.{all_without, each_put, holders_mine, parts_apart}
 
 module _ (c : Setup) where
   module _ (s : Table) (h : List Entry) (r : Stands c s h) (id : ℕ) (v : View) (p : Part) (more : List Part)
@@ -57,8 +58,7 @@ module _ (c : Setup) where
         (tells : told c p.caller (h ++ e ∷ []) ≡ told c p.caller h ++ shown) (q : w.parts ≡ part_logged e shown p ∷ more) where
       sights_last : (k : ℕ) (ms : List Sight) → AllByRecursion (λ m. Had c h k m.after m.object m.word) ms
           → AllByRecursion (λ m. Had c (h ++ e ∷ []) k m.after m.object m.word) ms
-      sights_last k ms a = all_map (λ m. Had c h k m.after m.object m.word) (λ m. Had c (h ++ e ∷ []) k m.after m.object m.word) ms
-          (λ m y. had_longer c h e k m.after m.word m.object legal y) a
+      sights_last k ms a = all_map (λ m y. had_longer c h e k m.after m.word m.object legal y) ms a
 
       -- the parts of others stay
       part_over : (x : Part) → x.caller ≢ p.caller → IsPart c h x → IsPart c (h ++ e ∷ []) x
@@ -100,8 +100,7 @@ module _ (c : Setup) where
       ready_over [] ws z a = a
       ready_over (x ∷ xs) ws z a =
           let other : x.caller ≢ p.caller = (λ m. let q = holders_mine p.caller x xs m in absurd (omega arith)) in
-          all_map (IsReady c h x.caller) (IsReady c (h ++ e ∷ []) x.caller) ws
-          (λ w y. ready_next c h e x.caller w legal (λ z. absurd (other (sym z ∙ who))) y) a
+          all_map (λ w y. ready_next c h e x.caller w legal (λ z. absurd (other (sym z ∙ who))) y) ws a
 
       pub ready_event : w.ready ≡ off e.object e.op v.ready → (j : ℕ) (u : View) → get_elem? (set s.views id w) j ≡ some u
           → ReadyFor c (h ++ e ∷ []) u.parts u.ready

@@ -18,9 +18,10 @@ use Rattle.mv_machine.specs.Limits.{events_limit}
 use Rattle.mv_machine.specs.Legal.{Legal, after, of}
 use Rattle.mv_machine.specs.Merge.{merged}
 use Rattle.mv_machine.specs.Packing.{unpack, state_at, word_at}
-use Rattle.mv_machine.specs.Parts.{IsBelow, IsPossible, Had, parts}
+use Rattle.mv_machine.specs.Parts.{IsBelow, IsPossible, parts}
 use Rattle.mv_machine.specs.Setup.{Setup}
 use Rattle.mv_machine.specs.System.{System, Cell, place_of}
+use Rattle.mv_machine.proofs.Lists.{all_map, all_filter}
 use Rattle.mv_machine.proofs.Longer.{below_after}
 use Rattle.mv_machine.proofs.Merged.{merged_legal, merged_callers, merged_told, merged_had, merged_after}
 use Rattle.mv_machine.proofs.OneHistory.{budgets_fit}
@@ -37,9 +38,10 @@ use Rattle.mv_board.specs.Steps.{Meets, PossibleFor}
 use Rattle.mv_board.specs.View.{first_of}
 use Rattle.mv_board.specs.Words.{HasWord, word_number, turn_word}
 use Rattle.mv_board.proofs.Events.{room, ready_same, ready_state}
-use Rattle.mv_board.proofs.Machine.{state_there, fitting, place_within}
+use Rattle.mv_machine.proofs.MergeSteps.{place_low}
+use Rattle.mv_board.proofs.Machine.{state_there, fitting}
 use Rattle.mv_board.proofs.Parking.{released_pause}
-use Rattle.mv_board.proofs.Views.{all_map, all_filter, each_put, tally_set, tally_at, tally_two, holders_mine, keeps_budgets, logs_parts}
+use Rattle.mv_board.proofs.Views.{each_put, tally_set, tally_at, tally_two, holders_mine, keeps_budgets, logs_parts}
 
 abbrev pub Table : Type 0
 Table = State Item View
@@ -50,16 +52,14 @@ module _ (c : Setup) where
   ready_map : (h g : List Entry) (ps : List Part) (ws : List Watch) → ((k : ℕ) (w : Watch) → IsReady c h k w → IsReady c g k w)
       → ReadyFor c h ps ws → ReadyFor c g ps ws
   ready_map h g [] ws f a = a
-  ready_map h g (p ∷ ps) ws f a = all_map (IsReady c h p.caller) (IsReady c g p.caller) ws (f p.caller) a
+  ready_map h g (p ∷ ps) ws f a = all_map (f p.caller) ws a
 
   part_merged : (h : List Entry) → Legal c h → (p : Part) → IsPart c h p → IsPart c (merged (parts c.callers h)) p
   part_merged h l p q = record {
     logged = q.logged ∙ sym (merged_callers c h p.caller l);
     shown = q.shown ∙ sym (merged_told c h p.caller l);
     budget = q.budget;
-    had = all_map (λ m. Had c h p.caller m.after m.object m.word)
-        (λ m. Had c (merged (parts c.callers h)) p.caller m.after m.object m.word) p.sights
-        (λ m y. merged_had c h p.caller m.after m.word m.object l y) q.had;
+    had = all_map (λ m y. merged_had c h p.caller m.after m.word m.object l y) p.sights q.had;
   }
 
   logs_merged : (vs : List View) (h : List Entry) → Legal c h → Logs c vs h → Logs c vs (merged (parts c.callers h))
@@ -70,7 +70,7 @@ module _ (c : Setup) where
     unmade = λ k le. merged_callers c h k l ∙ r.unmade k le;
     known = λ j v e. let y = r.known j v e in record {
       counted = y.counted;
-      parts = all_map (IsPart c h) (IsPart c (merged (parts c.callers h))) v.parts (part_merged h l) y.parts;
+      parts = all_map (part_merged h l) v.parts y.parts;
     };
   }
 
@@ -190,7 +190,7 @@ module _ (c : Setup) where
       above = subst (λ (q : Part). IsBelow o (place_of (after c h) o) q.log) (sym (ap first_of is)) (above o);
       room = λ left.
           let a = has_room (subst (λ (q : Part). 0 < q.left) (ap first_of is) left) in
-          let b = place_within c h o r.legal in omega arith;
+          let b = place_low c h o r.legal in omega arith;
       ready = λ w watched there. ready_state c h p.caller o w x.0 x.1 watched (is_ready_here w there);
       pause = λ n g z on now there parks.
           let known : IsReady c h p.caller (watch.Element n) = is_ready_here (watch.Element n) there in

@@ -45,13 +45,15 @@ use Rattle.mv_board.specs.Turn.{MeetsLists, Took, Gave, Returned, latch_entry, n
 use Rattle.mv_board.specs.View.{first_of, own, part_logged, part_met, with_own, logged, met, listed, with_turn, with_returned}
 use Rattle.mv_board.specs.Words.{HasWord, word_number, turn_word, object_of}
 use Rattle.mv_board.proofs.Events.{state_ready}
-use Rattle.mv_board.proofs.Machine.{object_again, state_there, place_within}
+use Rattle.mv_machine.proofs.Lists.{all_append}
+use Rattle.mv_machine.proofs.MergeSteps.{place_low}
+use Rattle.mv_board.proofs.Machine.{object_again, state_there}
 use Rattle.mv_board.proofs.Moves.{find}
 use Rattle.mv_board.proofs.Requests.{latch_exists, says_settled, settled_as_said}
 use Rattle.mv_board.proofs.Standing.{Table, remerge, mine, mine_ready, mine_about, has_room, stands_for, above, is_ready_here, meets}
 use Rattle.mv_board.proofs.Standing.{possible}
 use Rattle.mv_board.proofs.Turns.{turn_is, named_here, take, give, give_back}
-use Rattle.mv_board.proofs.Views.{all_append, put_there}
+use Rattle.mv_board.proofs.Views.{put_there}
 
 -- a view with a watch listed where it was seen ready
 listed_keeps : (b : Bool) (x : Option Watch) (v : View)
@@ -92,7 +94,7 @@ module _ (c : Setup) (slots id : ℕ) (me : Me Item View) (p : Part) (more : Lis
               (above c s h r id me.0 p more at is Latches);
           room = λ left.
               let a = has_room c s h r id me.0 p more at is (subst (λ (q : Part). 0 < q.left) first left) in
-              let b = place_within c h Latches r.legal in let e = lists.0 in omega arith;
+              let b = place_low c h Latches r.legal in let e = lists.0 in omega arith;
           new = λ n le. subst (IsNewId n) (sym here) (numbers_ahead_are_new c h n r.legal (let e = lists.0 in omega arith));
           set = subst (AllByRecursion (λ d. l.latches ≡ latches_of d l.latches.lists)) (sym about)
               (lists.1 ∙ ap (latches_of c) (sym here), tt);

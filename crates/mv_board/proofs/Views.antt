@@ -11,39 +11,22 @@ use Rattle.mv_machine.specs.declared.entry.Entry.{Entry}
 use Rattle.mv_machine.specs.Legal.{of}
 use Rattle.mv_machine.specs.Parts.{parts_from, parts, KeepsBudgets}
 use Rattle.mv_machine.specs.Setup.{Setup}
+use Rattle.mv_machine.proofs.Lists.{all_append}
 use Rattle.mv_board.specs.declared.view.Part.{Part}
 use Rattle.mv_board.specs.declared.view.View.{View}
 use Rattle.mv_board.specs.Rule.{holders_in, holders, tally, made, log_in, all_parts, logs_from, IsPart, Logs}
 
--- ---- what holds of all items of a list
+-- ---- lists and views
 
-module _ {A : Type 0} where
-  pub all_map : (P Q : A → Type 0) (xs : List A) → ((x : A) → P x → Q x) → AllByRecursion P xs → AllByRecursion Q xs
-  all_map P Q [] f a = tt
-  all_map P Q (x ∷ xs) f a = (f x a.0, all_map P Q xs f a.1)
-
-  pub all_append : (P : A → Type 0) (xs ys : List A) → AllByRecursion P xs → AllByRecursion P ys → AllByRecursion P (xs ++ ys)
-  all_append P [] ys a b = b
-  all_append P (x ∷ xs) ys a b = (a.0, all_append P xs ys a.1 b)
-
-  -- of those that do not meet a test
-  pub all_without : (P Q : A → Type 0) (test : A → Bool) (xs : List A) → ((x : A) → test x ≡ false → P x → Q x) → AllByRecursion P xs
-      → AllByRecursion Q (filter (λ x. not (test x)) xs)
-  all_without P Q test [] f a = tt
-  all_without P Q test (x ∷ xs) f a = go (test x) refl (all_without P Q test xs f a.1)
-    where
-      go : (b : Bool) → test x ≡ b → AllByRecursion Q (filter (λ y. not (test y)) xs)
-          → AllByRecursion Q (cond (not b) (x ∷ filter (λ y. not (test y)) xs) (filter (λ y. not (test y)) xs))
-      go true is rest = rest
-      go false is rest = (f x is a.0, rest)
-
-  pub all_filter : (P : A → Type 0) (test : A → Bool) (xs : List A) → AllByRecursion P xs → AllByRecursion P (filter test xs)
-  all_filter P test [] a = tt
-  all_filter P test (x ∷ xs) a = go (test x) (all_filter P test xs a.1)
-    where
-      go : (b : Bool) → AllByRecursion P (filter test xs) → AllByRecursion P (cond b (x ∷ filter test xs) (filter test xs))
-      go true rest = (a.0, rest)
-      go false rest = rest
+-- what holds of all of a list holds so of those that do not meet a test
+pub all_without : {A : Type 0} (P Q : A → Type 0) (test : A → Bool) (xs : List A) → ((x : A) → test x ≡ false → P x → Q x)
+    → AllByRecursion P xs → AllByRecursion Q (filter (λ x. not (test x)) xs)
+all_without P Q test [] f a = tt
+all_without P Q test (x ∷ xs) f a = go (test x) refl (all_without P Q test xs f a.1) where
+  go : (b : Bool) → test x ≡ b → AllByRecursion Q (filter (λ y. not (test y)) xs)
+      → AllByRecursion Q (cond (not b) (x ∷ filter (λ y. not (test y)) xs) (filter (λ y. not (test y)) xs))
+  go true is rest = rest
+  go false is rest = (f x is a.0, rest)
 
 -- what holds of each view after one is put for another
 pub each_put : (vs : List View) (id : ℕ) (w : View) (P : View → Type 0) → P w

@@ -4,17 +4,13 @@ use Rattle.std.proofs.Common.{arith, append-nil, append_assoc, length-append}
 use Rattle.std.proofs.lemmas.Bool.{eqb-true}
 use Rattle.mv_latch.specs.declared.operation.Wake.{Wake}
 use Rattle.mv_machine.specs.declared.entry.Entry.{Entry}
-use Rattle.mv_machine.specs.declared.entry.Object.{Object}
-use Rattle.mv_machine.specs.declared.entry.Object.TheVariants.{Latches}
-use Rattle.mv_machine.specs.declared.entry.Op.{Op}
-use Rattle.mv_machine.specs.declared.entry.Op.TheVariants as op_on
 use Rattle.mv_machine.specs.Legal.{Legal, after, next, of}
 use Rattle.mv_machine.specs.Parts.{IsPossible, KeepsBudgets}
 use Rattle.mv_machine.specs.Setup.{Setup}
-use Rattle.mv_machine.specs.System.{System, opening}
-use Rattle.mv_machine.specs.Told.{told, told_from, told_at}
+use Rattle.mv_machine.specs.System.{opening}
+use Rattle.mv_machine.specs.Told.{told, told_at}
 use Rattle.mv_machine.proofs.Histories.{LegalFrom-front, LegalFrom-rest}
-use Rattle.mv_machine.proofs.Longer.{told_from-append}
+use Rattle.mv_machine.proofs.Longer.{told_from-append, told_nothing_from}
 use Rattle.mv_machine.proofs.Objects.{of-append}
 use Rattle.mv_calls.specs.Behind.{IsBehind}
 
@@ -67,20 +63,6 @@ module _ (k : ℕ) where
   parted [] (y ∷ log) e q = absurd (cc q)
   parted (x ∷ h) log e q = one_parted x h log e (x.caller == k) refl (λ more r. parted h more e r) q
 
--- entries of others tell nothing
-not_told : (m : System) (k j : ℕ) (o : Object) (op : Op) → (j == k) ≡ false → told_at m k j o op ≡ []
-not_told m k j Latches (op_on.Latch op) n = rw n refl
-not_told m k j o op n = refl
-
--- a list without entries of the caller tells it nothing
-untold : (m : System) (k : ℕ) (es : List Entry) → of k es ≡ [] → told_from m k es ≡ []
-untold m k [] is = refl
-untold m k (x ∷ es) is = go (x.caller == k) refl is (λ r. untold (next m x) k es r) where
-  go : (b : Bool) → (x.caller == k) ≡ b → cond b (x ∷ of k es) (of k es) ≡ [] → (of k es ≡ [] → told_from (next m x) k es ≡ [])
-      → told_from m k (x ∷ es) ≡ []
-  go true same q rest = absurd (cc q)
-  go false other q rest = ap (λ ws. ws ++ told_from (next m x) k es) (not_told m k x.caller x.object x.op other) ∙ rest q
-
 -- a front keeps the budgets that the whole keeps
 pub front_keeps : (c : Setup) (xs ys : List Entry) → KeepsBudgets c (xs ++ ys) → KeepsBudgets c xs
 front_keeps c xs ys b = λ j lt.
@@ -105,7 +87,7 @@ last_is_behind c k log e shown p =
       follows = (LegalFrom-rest c (opening c) s.before (e ∷ s.later) legal).0;
       told =
           sym (ap (λ ws. told c k s.before ++ ws) (ap (λ ws. told_at (after c s.before) k e.caller e.object e.op ++ ws)
-          (untold (next (after c s.before) e) k s.later s.no_more) ∙ append-nil _))
+          (told_nothing_from (next (after c s.before) e) k s.later s.no_more) ∙ append-nil _))
           ∙ (sym (told_from-append (opening c) k s.before (e ∷ s.later)) ∙ (ap (told c k) (sym s.whole) ∙ p.told));
     }
 

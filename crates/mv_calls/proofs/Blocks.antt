@@ -21,7 +21,7 @@ use Rattle.mv_machine.proofs.EntryRuns.{entry_of}
 use Rattle.mv_calls.specs.Keeping.{Kept, kept_after, kept_of, extended_with}
 use Rattle.mv_calls.specs.Known.{BlockAgrees}
 use Rattle.mv_calls.specs.Rest.{OpenWaits, waits_after, waits_from, no_waits, armed_with}
-use Rattle.mv_calls.proofs.Folds.{known}
+use Rattle.mv_calls.proofs.Folds.{either_same, known}
 
 -- whether a block is armed after an operation on it
 abbrev armed_by : EcbOp → Bool → Bool
@@ -72,10 +72,6 @@ module _ (c : Setup) (n : ℕ) where
   by_other j Test x a e m apart h = h
 
 -- ---- the tables of what is known, at one block
-either_same : {A : Type 0} (b : Bool) (a : A) → cond b a a ≡ a
-either_same true a = refl
-either_same false a = refl
-
 -- the mark of block n after an operation on block m
 armed_at : (armed : ℕ → Bool) (m n : ℕ) (op : EcbOp) → armed_with armed (Ecb m) (op_on.Ecb op) n ≡ cond (n == m) (armed_by op (armed n))
     (armed n)

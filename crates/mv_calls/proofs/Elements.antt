@@ -21,7 +21,7 @@ use Rattle.mv_machine.proofs.EntryRuns.{entry_of}
 use Rattle.mv_calls.specs.Keeping.{Kept, kept_after, kept_of, in_use_with, generation_after}
 use Rattle.mv_calls.specs.Known.{ElementAgrees}
 use Rattle.mv_calls.specs.Rest.{OpenWaits, waits_after, waits_from, no_waits, parked_with}
-use Rattle.mv_calls.proofs.Folds.{known}
+use Rattle.mv_calls.proofs.Folds.{either_same, known}
 
 -- whether an element is in use after a reply on it
 abbrev used_by : ElementReply → Bool → Bool
@@ -53,10 +53,6 @@ by_other : (c : Setup) (j n : ℕ) (op : ElementOp) (x : ElementState) (u p : Bo
 by_other c j n op x u p g m apart h = grind arith
 
 -- ---- the tables of what is known, at one element
-either_same : {A : Type 0} (b : Bool) (a : A) → cond b a a ≡ a
-either_same true a = refl
-either_same false a = refl
-
 -- the mark of element n after a reply on element m
 in_use_at : (used : ℕ → Bool) (m n : ℕ) (r : ElementReply) → in_use_with used (Element m) (reply_of.Element r) n ≡ cond (n == m)
     (used_by r (used n)) (used n)

@@ -1,5 +1,5 @@
 -- What a caller's entries say of it, along a legal list.
-use Rattle.std.proofs.Common.{◌≡◌, ℕ, List, [], ◌∷◌, inl, inr}
+use Rattle.std.proofs.Common.{◌≡◌, ℕ, Bool, true, false, cond, List, [], ◌∷◌, inl, inr, refl}
 use Rattle.std.proofs.lemmas.Bool.{cases_eq, eq-eqb, ne_eqb}
 use Rattle.mv_machine.specs.declared.entry.Entry.{Entry}
 use Rattle.mv_machine.specs.Legal.{IsNext, next, after_from, LegalFrom, Legal, after, of}
@@ -7,6 +7,11 @@ use Rattle.mv_machine.specs.Setup.{Setup}
 use Rattle.mv_machine.specs.System.{System, opening}
 use Rattle.mv_calls.specs.Keeping.{Kept, kept_after, kept_from, kept_of, nothing_kept}
 use Rattle.mv_calls.specs.Rest.{OpenWaits, no_waits, waits_after, waits_from}
+
+-- a choice of one value
+pub either_same : {A : Type 0} (b : Bool) (a : A) → cond b a a ≡ a
+either_same true a = refl
+either_same false a = refl
 
 -- what its own entries keep to step by step, and other callers' leave, holds after the list
 module _ (c : Setup) (k : ℕ) (P : System → OpenWaits → Kept → Type 0)

@@ -10,6 +10,7 @@ use Rattle.mv_latch.specs.declared.operation.LatchReply.TheVariants.{Granted, Wa
 use Rattle.mv_latch.specs.declared.request.Request.{Request}
 use Rattle.mv_latch.specs.Latch.{granted, confirm_reply, release_step, newly_granted, without, purged}
 use Rattle.mv_latch.specs.Request.{is_own, of_requestor}
+use Rattle.mv_latch.proofs.Members.{found, finds, passes, was_in}
 use Rattle.mv_machine.specs.declared.entry.Entry.{Entry}
 use Rattle.mv_machine.specs.declared.entry.Object.{Object}
 use Rattle.mv_machine.specs.declared.entry.Object.TheVariants.{Latches}
@@ -29,7 +30,7 @@ use Rattle.mv_machine.proofs.Standing.{stood}
 use Rattle.mv_machine.proofs.StandingRuns.{stands}
 use Rattle.mv_machine.specs.Leaving.{WasPurged}
 use Rattle.mv_machine.proofs.Grants.{in_granted}
-use Rattle.mv_calls.proofs.Purged.{found, finds, passes, was_in, place_up, risen, same_standing, stands_below, stands_or_purged}
+use Rattle.mv_calls.proofs.Purged.{place_up, risen, same_standing, stands_below, stands_or_purged}
 use Rattle.mv_machine.proofs.Replies.{latch_reply_is}
 
 -- the request of this number that is in the list is the one that stands

@@ -11,6 +11,8 @@ use Rattle.mv_machine.specs.declared.entry.Op.TheVariants as op_on
 use Rattle.mv_machine.specs.Legal.{next, of}
 use Rattle.mv_machine.specs.System.{System}
 use Rattle.mv_machine.specs.Told.{told_at, told_from}
+use Rattle.mv_machine.proofs.Longer.{told_other}
+use Rattle.mv_machine.proofs.Places.{of_mine, of_other}
 use Rattle.mv_calls.specs.Program.{Heard, noted, wakes_now, wakes_then}
 pub use Rattle.mv_calls.specs.Numbers.{wakes_at}
 
@@ -29,19 +31,6 @@ own_told : (s : System) (me k : ℕ) (o : Object) (op : Op) (told : List (List W
 own_told s me k Latches (op_on.Latch op) told own = rw (eq-eqb k me own) (refl, refl)
 own_told s me k o op told own = (refl, refl)
 
--- another caller's event tells nothing
-other_told : (s : System) (me k : ℕ) (o : Object) (op : Op) → (k ≡ me → ⊥) → told_at s me k o op ≡ []
-other_told s me k Latches (op_on.Latch op) other = rw (ne_eqb k me other) refl
-other_told s me k o op other = refl
-
--- a caller's part with an entry of its own in front
-pub of_own : (k : ℕ) (e : Entry) (es : List Entry) → e.caller ≡ k → of k (e ∷ es) ≡ e ∷ of k es
-of_own k e es own = rw (eq-eqb e.caller k own) refl
-
--- and with one of another
-pub of_other : (k : ℕ) (e : Entry) (es : List Entry) → (e.caller ≡ k → ⊥) → of k (e ∷ es) ≡ of k es
-of_other k e es other = rw (ne_eqb e.caller k other) refl
-
 -- what it hears with an entry of its own in front
 pub heard_own : (s : System) (k : ℕ) (e : Entry) (es : List Entry) → e.caller ≡ k
     → heard_from s k (e ∷ es) ≡ hearing s e ∷ heard_from (next s e) k es
@@ -57,14 +46,14 @@ pub noted_is : (s : System) (k : ℕ) (es : List Entry) → noted (of k es) (tol
 noted_is s k [] = refl
 noted_is s k (e ∷ es) =
     elim (cases_eq e.caller k) [
-      | inl own ↦ ap (λ xs. noted xs (told_from s k (e ∷ es))) (of_own k e es own)
+      | inl own ↦ ap (λ xs. noted xs (told_from s k (e ∷ es))) (of_mine k e es own)
           ∙ ap (λ ws. record { entry = e; wakes = ws } ∷ noted (of k es) (wakes_then e.object e.op (told_from s k (e ∷ es))))
           (own_told s k e.caller e.object e.op (told_from (next s e) k es) own).0
           ∙ ap (λ t. hearing s e ∷ noted (of k es) t) (own_told s k e.caller e.object e.op (told_from (next s e) k es) own).1
           ∙ ap (λ hs. hearing s e ∷ hs) (noted_is (next s e) k es)
           ∙ sym (heard_own s k e es own)
       | inr other ↦ ap (λ xs. noted xs (told_from s k (e ∷ es))) (of_other k e es other)
-          ∙ ap (λ t. noted (of k es) (t ++ told_from (next s e) k es)) (other_told s k e.caller e.object e.op other)
+          ∙ ap (λ t. noted (of k es) (t ++ told_from (next s e) k es)) (told_other s k e.caller e.object e.op other)
           ∙ noted_is (next s e) k es
           ∙ sym (heard_other s k e es other)
     ]

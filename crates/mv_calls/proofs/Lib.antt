@@ -4,6 +4,8 @@ pub mod Making
 -- what a caller hears in a history, and histories in which each follows its program
 pub mod Hearing
 pub mod Interleaved
+-- lists of different numbers
+pub mod Distinct
 -- the program that a call is where it is not refused
 pub mod Unrefused
 -- what a call is behind each reply, and the calls of one event: for calls_keep_to_their_events, posts_reach and number_calls

@@ -1,11 +1,11 @@
 -- A request that stands by its caller's entries is in its latch's list, or another caller's purge took it out.
-use Rattle.std.proofs.Common.{◌≡◌, ◌⊎◌, ℕ, ◌+◌, ◌<◌, ◌≤◌, Bool, true, false, not, ◌&&◌, ◌||◌, List, [], ◌∷◌, ◌++◌, length, filter}
+use Rattle.std.proofs.Common.{◌≡◌, ◌⊎◌, ℕ, ◌+◌, ◌<◌, ◌≤◌, Bool, true, false, not, ◌&&◌, List, [], ◌∷◌, ◌++◌, length, filter}
 use Rattle.std.proofs.Common.{map, set, cond, inl, inr, refl, sym, ap, ◌∙◌, subst, arith, append_assoc, append-nil}
 use Rattle.std.specs.List.{AllByRecursion, Contains, list_any}
-use Rattle.std.proofs.lemmas.Bool.{cases_eq, cases_Bool, false≢true, eqb-true, eq-eqb, ne_eqb, and_parts, or_left, or_right, not-true}
+use Rattle.std.proofs.lemmas.Bool.{cases_eq, cases_Bool, false≢true, eqb-true, eq-eqb, ne_eqb, and_parts, not-true}
 use Rattle.std.proofs.lemmas.List.{get_or-set_same, get_or-set_other}
 use Rattle.std.proofs.lemmas.List.Elements.{Contains-append_left, Contains-push, Contains-push_cases, All-contains}
-use Rattle.std.proofs.lemmas.List.Elements.{All-from_recursion, filter_passes, All-filter, All-contains_itself}
+use Rattle.std.proofs.lemmas.List.Elements.{All-from_recursion}
 use Rattle.std.proofs.Math.ListN.{get_or-map}
 use Rattle.mv_latch.specs.declared.operation.LatchOp.{LatchOp}
 use Rattle.mv_latch.specs.declared.operation.LatchOp.TheVariants.{Obtain, Confirm, Release, Purge}
@@ -17,7 +17,7 @@ use Rattle.mv_latch.specs.declared.request.Request.{Request}
 use Rattle.mv_latch.specs.Latch.{granted, grants, blocker, confirm_reply, newly_granted, without, purged}
 use Rattle.mv_latch.specs.LatchSet.{list_of, latch_step}
 use Rattle.mv_latch.specs.Request.{queues, is_own, of_requestor}
-use Rattle.mv_latch.proofs.Members.{not_in_empty, first_or_rest, first_is_in, rest_is_in}
+use Rattle.mv_latch.proofs.Members.{not_in_empty, first_or_rest, passes, was_in}
 use Rattle.mv_machine.specs.declared.entry.Entry.{Entry}
 use Rattle.mv_machine.specs.declared.entry.Object.{Object}
 use Rattle.mv_machine.specs.declared.entry.Object.TheVariants.{Ecb, Element, Volume, Latches}
@@ -42,36 +42,8 @@ use Rattle.mv_machine.specs.Leaving.{takes_out, WasPurged}
 use Rattle.mv_machine.proofs.Grants.{left_in, stays_next}
 use Rattle.mv_machine.proofs.Replies.{request_has_place}
 
--- ---- members of filtered lists
-pub passes : {A : Type 0} (p : A → Bool) (y : A) (xs : List A) → Contains (filter p xs) y → p y ≡ true
-passes p y xs i = All-contains (λ x. p x ≡ true) (filter p xs) y (filter_passes p xs) i
-
--- what a filter left was in the list
-pub was_in : {A : Type 0} (p : A → Bool) (y : A) (xs : List A) → Contains (filter p xs) y → Contains xs y
-was_in p y xs i = All-contains (Contains xs) (filter p xs) y (All-filter p (Contains xs) xs (All-contains_itself xs)) i
-
--- what a test finds
-abbrev pub Found : (Request → Bool) → List Request → Type 0
-Found t qs = (q : Request) × Contains qs q × (t q ≡ true)
-
--- where a test holds of any, there is one of which it holds
-pub found : (t : Request → Bool) (qs : List Request) → list_any t qs ≡ true → Found t qs
-found t [] e = absurd (false≢true e)
-found t (q ∷ qs) e = go (t q) refl e (found t qs) where
-  go : (b : Bool) → t q ≡ b → (b || list_any t qs) ≡ true → (list_any t qs ≡ true → Found t qs) → Found t (q ∷ qs)
-  go true is f rest = (q, first_is_in q qs q refl, is)
-  go false is f rest = let w = rest f in (w.0, rest_is_in q qs w.0 w.1, w.2)
-
--- and where it holds of one, it holds of any
-pub finds : (t : Request → Bool) (q : Request) (qs : List Request) → Contains qs q → t q ≡ true → list_any t qs ≡ true
-finds t q [] i is = absurd (not_in_empty q i)
-finds t q (x ∷ xs) i is = elim (first_or_rest x xs q i) [
-  | inl e ↦ or_left (t x) (list_any t xs) (ap t e ∙ is)
-  | inr j ↦ or_right (t x) (list_any t xs) (finds t q xs j is)
-]
-
 -- ---- the requests that stand, with one entry more
-standing_from-append : (ts : List StandingRequest) (xs ys : List Entry)
+pub standing_from-append : (ts : List StandingRequest) (xs ys : List Entry)
     → standing_from ts (xs ++ ys) ≡ standing_from (standing_from ts xs) ys
 standing_from-append ts [] ys = refl
 standing_from-append ts (x ∷ xs) ys = standing_from-append (stands_with x.caller ts x.object x.op x.reply) xs ys

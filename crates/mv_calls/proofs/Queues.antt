@@ -1,6 +1,6 @@
 -- A request of the Waiting form that stands and waits was queued and is not yet confirmed.
 use Rattle.std.proofs.Common.{◌≡◌, ◌⊎◌, ℕ, ◌<◌, ◌==◌, Bool, true, false, not, ◌&&◌, List, [], ◌∷◌, ◌++◌, length, set, cond, inl, inr}
-use Rattle.std.proofs.Common.{refl, sym, ap, ◌∙◌, subst, arith, append-nil}
+use Rattle.std.proofs.Common.{refl, sym, ap, ◌∙◌, subst, arith}
 use Rattle.std.specs.List.{Contains, list_any, list_all}
 use Rattle.std.proofs.lemmas.Bool.{cases_eq, cases_Bool, false≢true, true≢false, eqb-true, eq-eqb, ne_eqb, and_parts, not-true}
 use Rattle.std.proofs.lemmas.List.{get_or-set_same}
@@ -17,7 +17,7 @@ use Rattle.mv_latch.specs.Latch.{shared_front, granted, grants, blocker, obtain_
 use Rattle.mv_latch.specs.LatchSet.{list_of, latch_step}
 use Rattle.mv_latch.specs.Request.{shared_request, queues, is_own}
 use Rattle.mv_latch.proofs.Changes.{Changed, same, grew, shrank, latch_changes, stays_granted}
-use Rattle.mv_latch.proofs.Members.{not_in_empty, first_is_in}
+use Rattle.mv_latch.proofs.Members.{not_in_empty, first_is_in, found, finds, passes, was_in}
 use Rattle.mv_machine.specs.declared.entry.Entry.{Entry}
 use Rattle.mv_machine.specs.declared.entry.Object.{Object}
 use Rattle.mv_machine.specs.declared.entry.Object.TheVariants.{Ecb, Element, Volume, Latches}
@@ -36,14 +36,14 @@ use Rattle.mv_machine.proofs.EntryRuns.{entry_of}
 use Rattle.mv_machine.proofs.Histories.{by_last}
 use Rattle.mv_machine.proofs.LatchRuns.{list_at}
 use Rattle.mv_machine.proofs.Longer.{after_longer, last_is_next, front_is_legal}
-use Rattle.mv_machine.proofs.Objects.{of-append}
+use Rattle.mv_machine.proofs.Places.{of_longer_mine, of_longer_other}
 use Rattle.mv_machine.proofs.Standing.{stood}
 use Rattle.mv_machine.proofs.StandingRuns.{NamesLatch, names_of}
 use Rattle.mv_calls.specs.Rest.{OpenWaits, IsAtRest, no_waits, waits_after, waits_from, queued_after, queued_with}
 use Rattle.mv_machine.specs.Leaving.{WasPurged, is_early_confirm, HasNoEarlyConfirm}
 use Rattle.mv_machine.proofs.Grants.{in_granted}
 use Rattle.mv_calls.proofs.Gone.{one_request, its_own, confirm_finds_granted, confirm_gone}
-use Rattle.mv_calls.proofs.Purged.{found, finds, passes, was_in, standing_own, standing_other, stands_below, stands_or_purged}
+use Rattle.mv_calls.proofs.Purged.{standing_own, standing_other, stands_below, stands_or_purged}
 use Rattle.mv_calls.proofs.Purged.{stood_at_confirm, stood_at_release}
 
 -- ---- tables of two numbers
@@ -261,15 +261,6 @@ other_moved c s j (Volume m) p (op_on.Volume op) y queued t h early ih i = ih i
 other_moved c s j o p op y queued t h early ih i = absurd (false≢true h.admits)
 
 -- ---- along a legal list
--- one more entry of the caller's own is the last of its part
-of_own : (k : ℕ) (es : List Entry) (e : Entry) → e.caller ≡ k → of k (es ++ e ∷ []) ≡ of k es ++ e ∷ []
-of_own k es e own = of-append k es (e ∷ []) ∙ ap (λ b. of k es ++ cond b (e ∷ []) []) (eq-eqb e.caller k own)
-
--- one more of another caller is none of it
-of_others : (k : ℕ) (es : List Entry) (e : Entry) → (e.caller ≡ k → ⊥) → of k (es ++ e ∷ []) ≡ of k es
-of_others k es e other = of-append k es (e ∷ []) ∙ (ap (λ b. of k es ++ cond b (e ∷ []) []) (ne_eqb e.caller k other)
-    ∙ append-nil (of k es))
-
 -- the marks of a caller's part
 abbrev queued_of : ℕ → List Entry → Table
 queued_of k es = (waits_from no_waits (of k es)).queued
@@ -288,12 +279,12 @@ waits_in_queue c k t es waits = by_last (λ xs. Legal c xs → Contains (standin
     subst (λ (s : System). WaitsAt t (queued_of k (xs ++ e ∷ [])) s) (sym (after_longer c xs e))
     (elim (cases_eq e.caller k) [
       | inl own ↦
-          let both : HasNoEarlyConfirm t (of k xs ++ e ∷ []) = subst (HasNoEarlyConfirm t) (of_own k xs e own) n in
+          let both : HasNoEarlyConfirm t (of k xs ++ e ∷ []) = subst (HasNoEarlyConfirm t) (of_longer_mine k xs e own) n in
           let confirmed_late : HasNoEarlyConfirm t (of k xs) =
           all_front (λ x. is_early_confirm t x.object x.op x.reply ≡ false) (of k xs) (e ∷ []) both in
           let later = all_back (λ x. is_early_confirm t x.object x.op x.reply ≡ false) (of k xs) (e ∷ []) both in
           let log : waits_from no_waits (of k (xs ++ e ∷ [])) ≡ waits_after (waits_from no_waits (of k xs)) e.object e.op e.reply =
-          ap (waits_from no_waits) (of_own k xs e own) ∙ waits_from-append no_waits (of k xs) (e ∷ []) in
+          ap (waits_from no_waits) (of_longer_mine k xs e own) ∙ waits_from-append no_waits (of k xs) (e ∷ []) in
           subst (λ (w : OpenWaits). WaitsAt t w.queued (next (after c xs) e)) (sym log)
           (own_moved c (after c xs) e.caller e.object e.place e.op e.reply (standing (of k xs)) (queued_of k xs) t h waits
           (λ old. (stands_below c k xs t front old).0)
@@ -302,9 +293,9 @@ waits_in_queue c k t es waits = by_last (λ xs. Legal c xs → Contains (standin
           later.0 (subst (λ ts. Contains ts t) (standing_own k xs e own) i) now)
       | inr other ↦
           let old : Contains (standing (of k xs)) t = subst (λ ts. Contains ts t) (standing_other k xs e other) i in
-          subst (λ log. WaitsAt t (waits_from no_waits log).queued (next (after c xs) e)) (sym (of_others k xs e other))
+          subst (λ log. WaitsAt t (waits_from no_waits log).queued (next (after c xs) e)) (sym (of_longer_other k xs e other))
           (other_moved c (after c xs) e.caller e.object e.place e.op e.reply (queued_of k xs) t h (stands_below c k xs t front old).0
-          (λ there. ih front old (subst (HasNoEarlyConfirm t) (of_others k xs e other) n) there) now)
+          (λ there. ih front old (subst (HasNoEarlyConfirm t) (of_longer_other k xs e other) n) there) now)
     ])) es
 
 -- at rest it is granted, or was purged

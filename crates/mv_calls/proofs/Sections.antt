@@ -17,7 +17,7 @@ use Rattle.mv_latch.specs.declared.request.Request.{Request}
 use Rattle.mv_latch.specs.Latch.{shared_front, granted, grants, blocker}
 use Rattle.mv_latch.specs.LatchSet.{list_of}
 use Rattle.mv_latch.specs.Request.{is_own, queues, shared_request}
-use Rattle.mv_latch.proofs.Members.{not_in_empty, first_or_rest}
+use Rattle.mv_latch.proofs.Members.{not_in_empty, first_or_rest, found, finds}
 use Rattle.mv_latch.proofs.Splits.{front_shared}
 use Rattle.mv_machine.specs.declared.entry.Entry.{Entry}
 use Rattle.mv_machine.specs.declared.entry.Object.{Object}
@@ -43,7 +43,7 @@ use Rattle.mv_machine.proofs.Places.{of_mine, of_other}
 use Rattle.mv_machine.proofs.StandingRuns.{names_of}
 use Rattle.mv_calls.specs.Sections.{tells_grant, IsHolder, IsSection, HoldsAlone, IsGuarded, AreOwn, is_write}
 use Rattle.mv_calls.proofs.Gone.{granted_or_purged, its_own, one_request}
-use Rattle.mv_calls.proofs.Purged.{found, finds, stands_below}
+use Rattle.mv_calls.proofs.Purged.{stands_below}
 use Rattle.mv_calls.proofs.Queues.{granted_at_once}
 
 -- ---- who is told so holds the latch

@@ -18,7 +18,7 @@ use Rattle.mv_calls.specs.Table.{first_of_others, first_with_exit, table_refused
 
 -- ---- the list of refusals, one by one
 
-both_none : {A : Type 0} (a b : Option A) → or_else a b ≡ None → (a ≡ None) × (b ≡ None)
+pub both_none : {A : Type 0} (a b : Option A) → or_else a b ≡ None → (a ≡ None) × (b ≡ None)
 both_none None b e = (refl, e)
 both_none (Some a) b e = absurd (cc e)
 
@@ -26,7 +26,7 @@ not_refused : (b : Bool) (why : TableRefusal) → table_refused_if b why ≡ Non
 not_refused false why e = refl
 not_refused true why e = absurd (cc e)
 
-none_mapped : {A B : Type 0} (f : A → B) (x : Option A) → option_map f x ≡ None → x ≡ None
+pub none_mapped : {A B : Type 0} (f : A → B) (x : Option A) → option_map f x ≡ None → x ≡ None
 none_mapped f None e = refl
 none_mapped f (Some a) e = absurd (cc e)
 

@@ -1,9 +1,9 @@
 -- Calls that are not refused: when a wait and an extend are not, and the program that each call is then. Whoever follows a
 -- program call by call rewrites with these.
-use Rattle.std.proofs.Common.{◌≡◌, ℕ, ◌+◌, ◌≤◌, ◌==◌, nat_lt, true, false, Bool, List, [], ◌∷◌, ◌++◌, length, Option, None}
+use Rattle.std.proofs.Common.{◌≡◌, ℕ, ◌+◌, ◌≤◌, nat_lt, true, false, Bool, List, [], ◌∷◌, ◌++◌, length, Option, None}
 use Rattle.std.proofs.Common.{refl, sym, ap}
-use Rattle.std.specs.List.{AllByRecursion, list_any}
-use Rattle.std.proofs.lemmas.Bool.{eq-eqb, ne_eqb, le-ltb}
+use Rattle.std.specs.List.{AllByRecursion}
+use Rattle.std.proofs.lemmas.Bool.{eq-eqb, le-ltb}
 use Rattle.mv_machine.specs.Check.{or_else}
 use Rattle.mv_machine.specs.Setup.{Setup, owner_of, is_exit_of}
 use Rattle.mv_calls.specs.Keeping.{Kept}
@@ -11,7 +11,8 @@ use Rattle.mv_calls.specs.Program.{unless_refused}
 use Rattle.mv_calls.specs.Refusal.{Refusal, TooMany, NotOwnerAt, ExtendedAt}
 use Rattle.mv_calls.specs.Waits.{refused_if, refused_at, doubled_at, is_others_block, wait_refusal, extend_refusal, wait, arm_all}
 use Rattle.mv_calls.specs.Waits.{settle_all, enough, AreDistinct}
-use Rattle.mv_machine.proofs.Lists.{all_push}
+use Rattle.mv_machine.proofs.Lists.{all_map, all_push}
+use Rattle.mv_calls.proofs.Distinct.{none_found}
 
 -- none of four reasons holds
 no_reason : (a b c d : Option Refusal) → a ≡ None → b ≡ None → c ≡ None → d ≡ None → or_else a (or_else b (or_else c d)) ≡ None
@@ -32,22 +33,7 @@ pub record IsFree (c : Setup) (kept : Kept) (e : ℕ) : Type 0 where
 pub own_block : (c : Setup) (kept : Kept) (e : ℕ) → owner_of c e ≡ kept.caller → is_others_block c kept e ≡ false
 own_block c kept e own = rw (eq-eqb (owner_of c e) kept.caller own) refl
 
--- own blocks, of a list
-own_blocks : (c : Setup) (kept : Kept) (es : List ℕ) → AllByRecursion (IsFree c kept) es
-    → AllByRecursion (λ e. is_others_block c kept e ≡ false) es
-own_blocks c kept [] free = tt
-own_blocks c kept (e ∷ es) free = (own_block c kept e free.0.own, own_blocks c kept es free.1)
-
--- blocks that are not extended, of a list
-plain_blocks : (c : Setup) (kept : Kept) (es : List ℕ) → AllByRecursion (IsFree c kept) es
-    → AllByRecursion (λ e. kept.extended e ≡ false) es
-plain_blocks c kept [] free = tt
-plain_blocks c kept (e ∷ es) free = (free.0.plain, plain_blocks c kept es free.1)
-
--- blocks that are different, and different from those before them, are not doubled
-not_among : (e : ℕ) (before : List ℕ) → AllByRecursion (λ b. b ≡ e → ⊥) before → list_any (λ b. b == e) before ≡ false
-not_among e [] all = refl
-not_among e (b ∷ before) all = rw (ne_eqb b e all.0) (not_among e before all.1)
+-- ---- blocks that are different, and different from those before them, are not doubled
 
 -- each of these differs from all of those before
 abbrev Differ : List ℕ → List ℕ → Type 0
@@ -62,7 +48,7 @@ widen before e (x ∷ es) d n = (all_push (λ b. b ≡ x → ⊥) before e d.0 (
 none_doubled : (before : List ℕ) (p : ℕ) (es : List ℕ) → AreDistinct es → Differ before es → doubled_at before p es ≡ None
 none_doubled before p [] a d = refl
 none_doubled before p (e ∷ es) a d =
-    rw (not_among e before d.0) (none_doubled (before ++ e ∷ []) (p + 1) es a.1 (widen before e es d.1 a.0))
+    rw (none_found before e d.0) (none_doubled (before ++ e ∷ []) (p + 1) es a.1 (widen before e es d.1 a.0))
 
 -- there is nothing to differ from at first
 differ_from_none : (es : List ℕ) → Differ [] es
@@ -76,8 +62,8 @@ wait_unrefused c count es kept few distinct free =
     no_reason (refused_if (nat_lt (length es) count) TooMany) (doubled_at [] 0 es)
     (refused_at NotOwnerAt (is_others_block c kept) 0 es) (refused_at ExtendedAt kept.extended 0 es)
     (rw (le-ltb (length es) count few) refl) (none_doubled [] 0 es distinct (differ_from_none es))
-    (nowhere NotOwnerAt (is_others_block c kept) 0 es (own_blocks c kept es free))
-    (nowhere ExtendedAt kept.extended 0 es (plain_blocks c kept es free))
+    (nowhere NotOwnerAt (is_others_block c kept) 0 es (all_map (λ e f. own_block c kept e f.own) es free))
+    (nowhere ExtendedAt kept.extended 0 es (all_map (λ e f. f.plain) es free))
 
 -- an extend of a free block with an exit of its own
 pub extend_unrefused : (c : Setup) (e exit : ℕ) (kept : Kept) → IsFree c kept e → is_exit_of c exit e ≡ true

@@ -92,17 +92,13 @@ told_of_latch s k j o op x own is op_is =
     ∙ (ap (λ b. cond b (wakes j x s.latches.state ∷ []) []) (eq-eqb j k own) ∙ ap (λ i. wakes i x s.latches.state ∷ []) own))
 
 -- the wakes of an event after a legal list
-fair_wakes_of : (c : Setup) (es : List Entry) (k : ℕ) (op : LatchOp) → Legal c es → AreFairWakes c (wakes k op (after c es).latches.state)
-fair_wakes_of c es k op l = record {
+pub wakes_of_next : (c : Setup) (es : List Entry) (k : ℕ) (op : LatchOp) → Legal c es
+    → AreFairWakes c (wakes k op (after c es).latches.state)
+wakes_of_next c es k op l = record {
   each = All-from_recursion (IsFairWake c) (wakes k op (after c es).latches.state) (wakes_are_fair c es k op l);
   few = few_wakes_post c es k op l;
   cost = λ exact. wakes_cost c es k op l exact;
 }
-
--- the same, as the law says it
-pub wakes_of_next : (c : Setup) (es : List Entry) (k : ℕ) (op : LatchOp) → Legal c es
-    → AreFairWakes c (wakes k op (after c es).latches.state)
-wakes_of_next c es k op l = fair_wakes_of c es k op l
 
 -- the last wakes that a caller was told
 pub wakes_heard : (c : Setup) (k : ℕ) (log : List Entry) (e : Entry) (op : LatchOp) (shown : List (List Wake)) (ws : List Wake)
@@ -114,7 +110,7 @@ wakes_heard c k log e op shown ws p o is =
     let all : told c k b.before ++ wakes k op (after c b.before).latches.state ∷ [] ≡ shown ++ ws ∷ [] =
     ap (λ z. told c k b.before ++ z) (sym one) ∙ b.told in
     subst (AreFairWakes c) (last_same (told c k b.before) shown (wakes k op (after c b.before).latches.state) ws all)
-    (fair_wakes_of c b.before k op b.legal)
+    (wakes_of_next c b.before k op b.legal)
 
 -- ---- requests
 pub listed_is_fair : (c : Setup) (es : List Entry) (latch : ℕ) (q : Request) → Legal c es

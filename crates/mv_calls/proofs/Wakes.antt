@@ -14,6 +14,7 @@ use Rattle.mv_latch.specs.declared.request.Request.{Request}
 use Rattle.mv_latch.specs.Latch.{granted, waiting, release_step, newly_granted, purged, waiting_of, granted_by_purge}
 use Rattle.mv_latch.specs.LatchSet.{list_of, count_in, wakes}
 use Rattle.mv_latch.specs.Request.{is_posted, posted_ecb, posted_of, of_requestor, has_id, wake_of}
+use Rattle.mv_latch.proofs.Quotas.{count_released, one_if, length_kept, first_fit}
 use Rattle.mv_latch.proofs.Splits.{all_filter, all_granted, count_split, count_filter, granted_split}
 use Rattle.mv_machine.specs.declared.entry.Entry.{Entry}
 use Rattle.mv_machine.specs.Legal.{Legal, after}
@@ -21,17 +22,9 @@ use Rattle.mv_machine.specs.Reach.{greatest, total, reach, release_cost}
 use Rattle.mv_machine.specs.Setup.{Setup}
 use Rattle.mv_machine.specs.Waking.{IsBlockOf, IsFair, IsFairWake, blocks_of}
 use Rattle.mv_machine.proofs.Lists.{all_append, all_back}
-use Rattle.mv_machine.proofs.Requests.{AllFair, all_of_list, all_released, released, requests_kept}
+use Rattle.mv_machine.proofs.Requests.{AllFair, all_of_list, all_released, requests_kept}
 
--- ---- each wake is fair
-fair_wake : (c : Setup) (code : ℕ) (q : Request) → code ≤ 1 → IsFair c q → IsFairWake c (wake_of code q)
-fair_wake c code q low f = (f.0, low, f.1)
-
--- the wakes of fair requests are fair
-fair_wakes : (c : Setup) (code : ℕ) (qs : List Request) → code ≤ 1 → AllByRecursion (IsFair c) qs
-    → AllByRecursion (IsFairWake c) (map (wake_of code) qs)
-fair_wakes c code [] low a = tt
-fair_wakes c code (q ∷ qs) low a = (fair_wake c code q low a.0, fair_wakes c code qs low a.1)
+-- ---- what holds of each request holds of each wake
 
 -- what holds of each part holds of all of them together
 all_flat : {A B : Type 0} (P : A → Type 0) (Q : B → Type 0) (f : A → List B) → ((x : A) → P x → AllByRecursion Q (f x)) → (xs : List A)
@@ -47,28 +40,38 @@ all_waiting P qs a = all_back P (granted qs) (waiting qs) (subst (AllByRecursion
 all_newly : (P : Request → Type 0) (old new : List Request) → AllByRecursion P new → AllByRecursion P (newly_granted old new)
 all_newly P old new a = all_filter P (λ q. not (list_any (has_id q.id) (granted old))) (granted new) (all_granted P new a)
 
--- the wakes of an operation on lists of fair requests are fair
-wakes_fair : (c : Setup) (k : ℕ) (op : LatchOp) (lists : List (List Request)) → AllFair c lists
-    → AllByRecursion (IsFairWake c) (wakes k op lists)
-wakes_fair c k (Obtain latch requestor mode form) lists a = tt
-wakes_fair c k (Confirm latch id) lists a = tt
-wakes_fair c k (Release latch id conditional) lists a =
-    fair_wakes c 0 _ (omega arith) (all_newly (IsFair c) (list_of lists latch) (release_step k id conditional (list_of lists latch)).0
-    (all_released (IsFair c) k id conditional (list_of lists latch) (all_of_list (IsFair c) lists latch a)))
-wakes_fair c k (Purge requestor) lists a =
-    all_append (IsFairWake c) (map (wake_of 1) (flat_map (waiting_of requestor) lists))
-    (map (wake_of 0) (flat_map (granted_by_purge requestor) lists))
-    (fair_wakes c 1 (flat_map (waiting_of requestor) lists) (omega arith)
-    (all_flat (AllByRecursion (IsFair c)) (IsFair c) (waiting_of requestor)
-    (λ qs b. all_filter (IsFair c) (of_requestor requestor) (waiting qs) (all_waiting (IsFair c) qs b)) lists a))
-    (fair_wakes c 0 (flat_map (granted_by_purge requestor) lists) (omega arith)
-    (all_flat (AllByRecursion (IsFair c)) (IsFair c) (granted_by_purge requestor)
-    (λ qs b. all_newly (IsFair c) qs (purged requestor qs) (all_filter (IsFair c) (λ q. not (of_requestor requestor q)) qs b)) lists a))
+-- what follows of the wake of each such request
+module _ (P : Request → Type 0) (Q : Wake → Type 0) (each : (code : ℕ) (q : Request) → code ≤ 1 → P q → Q (wake_of code q)) where
+  -- is so of the wakes of a list
+  each_wakes : (code : ℕ) (qs : List Request) → code ≤ 1 → AllByRecursion P qs → AllByRecursion Q (map (wake_of code) qs)
+  each_wakes code [] low a = tt
+  each_wakes code (q ∷ qs) low a = (each code q low a.0, each_wakes code qs low a.1)
 
--- so they are after a legal list
+  -- and of those of an operation on lists of such requests
+  pub all_wakes : (k : ℕ) (op : LatchOp) (lists : List (List Request)) → AllByRecursion (λ qs. AllByRecursion P qs) lists
+      → AllByRecursion Q (wakes k op lists)
+  all_wakes k (Obtain latch requestor mode form) lists a = tt
+  all_wakes k (Confirm latch id) lists a = tt
+  all_wakes k (Release latch id conditional) lists a =
+      each_wakes 0 _ (omega arith) (all_newly P (list_of lists latch) (release_step k id conditional (list_of lists latch)).0
+      (all_released P k id conditional (list_of lists latch) (all_of_list P lists latch a)))
+  all_wakes k (Purge requestor) lists a =
+      all_append Q (map (wake_of 1) (flat_map (waiting_of requestor) lists)) (map (wake_of 0) (flat_map (granted_by_purge requestor) lists))
+      (each_wakes 1 (flat_map (waiting_of requestor) lists) (omega arith)
+      (all_flat (AllByRecursion P) P (waiting_of requestor)
+      (λ qs b. all_filter P (of_requestor requestor) (waiting qs) (all_waiting P qs b)) lists a))
+      (each_wakes 0 (flat_map (granted_by_purge requestor) lists) (omega arith)
+      (all_flat (AllByRecursion P) P (granted_by_purge requestor)
+      (λ qs b. all_newly P qs (purged requestor qs) (all_filter P (λ q. not (of_requestor requestor q)) qs b)) lists a))
+
+-- the wake of a fair request is fair
+fair_wake : (c : Setup) (code : ℕ) (q : Request) → code ≤ 1 → IsFair c q → IsFairWake c (wake_of code q)
+fair_wake c code q low f = (f.0, low, f.1)
+
+-- so the wakes of an operation are fair after a legal list
 pub wakes_are_fair : (c : Setup) (es : List Entry) (k : ℕ) (op : LatchOp) → Legal c es
     → AllByRecursion (IsFairWake c) (wakes k op (after c es).latches.state)
-wakes_are_fair c es k op l = wakes_fair c k op (after c es).latches.state (requests_kept c es l).fair
+wakes_are_fair c es k op l = all_wakes (IsFair c) (IsFairWake c) (fair_wake c) k op (after c es).latches.state (requests_kept c es l).fair
 
 -- ---- how many of them post
 abbrev posts : Request → Bool
@@ -185,7 +188,7 @@ wakes_post k (Release latch id conditional) lists =
       arith,
       blocks_count 0 (newly_granted old new),
       count_newly posts old new,
-      released posts k id conditional old,
+      count_released posts k id conditional old,
       count_list posts lists latch,
     )
 wakes_post k (Purge requestor) lists =
@@ -202,56 +205,15 @@ wakes_post k (Purge requestor) lists =
 abbrev first : ℕ → Request → Bool
 first n q = nat_lt q.caller n && posts q
 
--- 1 where a test holds
-abbrev one_if : Bool → ℕ
-one_if b = cond b 1 0
-
--- a list whose first element is kept where a test holds
-kept : (b : Bool) (q : Request) (qs : List Request) → length (cond b (q ∷ qs) qs) ≡ one_if b + length qs
-kept true q qs = omega arith
-kept false q qs = omega arith
+none_posts : (q : Request) → first 0 q ≡ false
+none_posts q = rw (le-ltb q.caller 0 (omega arith)) refl
 
 -- below n + 1 is below n or n itself
-first_one : (k n : ℕ) (b : Bool) → one_if (nat_lt k (suc n) && b) ≡ one_if (nat_lt k n && b) + one_if ((k == n) && b)
-first_one k n true = grind (arith, nat_tests)
-first_one k n false = grind (arith, nat_tests)
-
--- so a list's requests that post, by the callers below n + 1
-first_list : (n : ℕ) (qs : List Request) → length (filter (first (suc n)) qs) ≡ length (filter (first n) qs) + length
-    (filter (posted_of n) qs)
-first_list n [] = refl
-first_list n (q ∷ qs) =
-    omega (
-      arith,
-      first_list n qs,
-      first_one q.caller n (posts q),
-      kept (first (suc n) q) q (filter (first (suc n)) qs),
-      kept (first n q) q
-          (filter (first n) qs),
-      kept (posted_of n q) q (filter (posted_of n) qs),
-    )
-
--- and those of all lists
-first_more : (n : ℕ) (lists : List (List Request)) → count_in (first (suc n)) lists ≡ count_in (first n) lists + count_in
-    (posted_of n) lists
-first_more n [] = refl
-first_more n (qs ∷ lists) = omega (arith, first_list n qs, first_more n lists)
-
--- no caller is below 0, so a list has none of these
-none_first : (qs : List Request) → length (filter (first 0) qs) ≡ 0
-none_first [] = refl
-none_first (q ∷ qs) = rw (le-ltb q.caller 0 (omega arith)) (none_first qs)
-
--- nor have all lists
-first_none : (lists : List (List Request)) → count_in (first 0) lists ≡ 0
-first_none [] = refl
-first_none (qs ∷ lists) = omega (arith, none_first qs, first_none lists)
-
--- with a quota for each, n callers have n quotas
-first_fit : (most n : ℕ) (lists : List (List Request)) → ((k : ℕ) → count_in (posted_of k) lists ≤ most)
-    → count_in (first n) lists ≤ n * most
-first_fit most zero lists q = omega (arith, first_none lists)
-first_fit most (suc n) lists q = omega (arith, first_more n lists, first_fit most n lists q, q n)
+first_one : (n : ℕ) (q : Request) → one_if (first (suc n) q) ≡ one_if (first n q) + one_if (posted_of n q)
+first_one n q = go q.caller (posts q) where
+  go : (k : ℕ) (b : Bool) → one_if (nat_lt k (suc n) && b) ≡ one_if (nat_lt k n && b) + one_if ((k == n) && b)
+  go k true = grind (arith, nat_tests)
+  go k false = grind (arith, nat_tests)
 
 -- a fair list's requests are of the configuration's callers
 all_first_list : (c : Setup) (qs : List Request) → AllByRecursion (IsFair c) qs
@@ -261,10 +223,9 @@ all_first_list c (q ∷ qs) a =
     omega (
       arith,
       all_first_list c qs a.1,
-      kept (posts q) q (filter posts qs),
-      kept (first c.callers q) q (filter (first c.callers) qs),
-      ap
-          (λ b. one_if (b && posts q)) (lt-ltb q.caller c.callers a.0.0),
+      length_kept (posts q) q (filter posts qs),
+      length_kept (first c.callers q) q (filter (first c.callers) qs),
+      ap (λ b. one_if (b && posts q)) (lt-ltb q.caller c.callers a.0.0),
     )
 
 -- so are those of all lists
@@ -281,7 +242,7 @@ few_wakes_post c es k op l =
       arith,
       wakes_post k op (after c es).latches.state,
       all_first c (after c es).latches.state o.fair,
-      first_fit c.posted_quota c.callers (after c es).latches.state o.quotas.posted,
+      first_fit first posted_of none_posts first_one (after c es).latches.state c.posted_quota c.callers o.quotas.posted,
     )
 
 -- ---- what the posts of these blocks cost

@@ -14,7 +14,8 @@ mod section_laws;
 mod table;
 
 pub use call_laws::{
-    calls_keep_to_their_events, codes_in_replies, generations_in_replies, last_event_is_the_machines, posts_reach,
+    calls_keep_to_their_events, codes_in_replies, generations_in_replies,
+    last_event_is_the_machines, posts_reach,
 };
 pub use calls_replaying::{CallsRefusal, replay_calls};
 pub use counters::CallCounters;

@@ -5,7 +5,6 @@ use Rattle.std.specs.List.{Contains}
 use Rattle.std.proofs.lemmas.Bool.{cases_eq, cases_lt, true≢false}
 use Rattle.std.proofs.lemmas.List.{get_or-set_same, get_or-set_other, set_past}
 use Rattle.std.proofs.Math.ListN.{get_or-map}
-use Rattle.std.proofs.lemmas.List.Elements.{All-contains, filter_passes}
 use Rattle.mv_latch.specs.declared.request.Request.{Request}
 use Rattle.mv_latch.specs.declared.operation.LatchOp.{LatchOp}
 use Rattle.mv_latch.specs.declared.operation.LatchOp.TheVariants.{Obtain, Confirm, Release, Purge}
@@ -13,7 +12,7 @@ use Rattle.mv_latch.specs.declared.operation.LatchReply.{LatchReply}
 use Rattle.mv_latch.specs.Request.{shared_request, is_own, of_requestor}
 use Rattle.mv_latch.specs.Latch.{shared_front, granted, obtain_step, release_step, without, purged}
 use Rattle.mv_latch.specs.LatchSet.{list_of, latch_step}
-use Rattle.mv_latch.proofs.Members.{not_in_empty, first_or_rest, with_first}
+use Rattle.mv_latch.proofs.Members.{not_in_empty, first_or_rest, passes, with_first}
 
 -- a list after one operation, which has this number for a new request
 pub data Changed (id : ℕ) (old new : List Request) : Type 0 where
@@ -75,10 +74,6 @@ latch_changes caller id (Release latch old conditional) lists j =
 latch_changes caller id (Purge requestor) lists j = shrank (λ q. not (of_requestor requestor q)) (list_purged requestor lists j)
 
 -- ---- a granted request stays granted while it is there
--- who passed a filter meets its test
-in_filter : (p : Request → Bool) (q : Request) (qs : List Request) → Contains (filter p qs) q → p q ≡ true
-in_filter p q qs i = All-contains (λ x. p x ≡ true) (filter p qs) q (filter_passes p qs) i
-
 front_filter : (p : Request → Bool) (q : Request) (qs : List Request) → Contains (shared_front qs) q → p q ≡ true
     → Contains (shared_front (filter p qs)) q
 front_filter p q [] i t = absurd (not_in_empty q i)
@@ -135,4 +130,4 @@ pub stays_granted : (id : ℕ) (old new : List Request) (q : Request) → Change
     → Contains (granted new) q
 stays_granted id old new q (same e) g i = rw e g
 stays_granted id old new q (grew r is e) g i = rw e (granted_push q r old g)
-stays_granted id old new q (shrank p e) g i = rw e (granted_filter p q old g (in_filter p q old (rw e at i)))
+stays_granted id old new q (shrank p e) g i = rw e (granted_filter p q old g (passes p q old (rw e at i)))

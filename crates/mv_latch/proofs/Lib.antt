@@ -1,6 +1,7 @@
 -- lists of requests: what filters keep, what a list contains, who holds a latch
 pub mod Splits
 pub mod Members
+pub mod Joined
 -- what is newly granted, by a release and by a purge of one list (`remove`) and of all (`remove_from_all`)
 pub mod Grants
 pub mod Purges

@@ -1,5 +1,5 @@
 -- The quotas are kept, and bound how many requests there are.
-use Rattle.std.proofs.Common.{◌≡◌, ℕ, ◌+◌, ◌*◌, ◌^◌, ◌<◌, ◌≤◌, ◌==◌, inl, inr, zero, suc, nat_lt, nat_le, Bool, true, false, not}
+use Rattle.std.proofs.Common.{◌≡◌, ℕ, ◌+◌, ◌*◌, ◌^◌, ◌<◌, ◌≤◌, inl, inr, zero, suc, nat_lt, nat_le, Bool, true, false, not}
 use Rattle.std.proofs.Common.{List, [], ◌∷◌, ◌++◌, length, map, filter, set, replicate, cond, refl, ap, subst, arith, length-append}
 use Rattle.std.specs.List.{AllByRecursion, flat_map}
 use Rattle.std.proofs.lemmas.Bool.{cases_eq, ne_eqb, le-ltb, lt-leb}
@@ -31,6 +31,29 @@ pub count_purged : (t : Request → Bool) (requestor : ℕ) (lists : List (List 
 count_purged t requestor [] = omega arith
 count_purged t requestor (qs ∷ rest) = omega (arith, count_filter t (λ q. not (of_requestor requestor q)) qs, count_purged t requestor rest)
 
+-- a choice of two lists has no more than the larger
+count_either : (t : Request → Bool) (n : ℕ) (b : Bool) (x y : List Request × LatchReply) → length (filter t x.0) ≤ n
+    → length (filter t y.0) ≤ n → length (filter t (cond b x y).0) ≤ n
+count_either t n true x y a c = a
+count_either t n false x y a c = c
+
+-- an obtain adds its own request at most
+pub count_obtained : (t : Request → Bool) (r : Request) (qs : List Request)
+    → length (filter t (obtain_step r qs).0) ≤ length (filter t qs) + length (filter t (r ∷ []))
+count_obtained t r qs =
+    let more : length (filter t (qs ++ r ∷ [])) ≤ length (filter t qs) + length (filter t (r ∷ [])) =
+    omega (arith, count_split t qs (r ∷ [])) in
+    let same : length (filter t qs) ≤ length (filter t qs) + length (filter t (r ∷ [])) = omega arith in
+    search count_either
+
+-- and a release adds none
+pub count_released : (t : Request → Bool) (k id : ℕ) (conditional : Bool) (qs : List Request)
+    → length (filter t (release_step k id conditional qs).0) ≤ length (filter t qs)
+count_released t k id conditional qs =
+    let less : length (filter t (without k id qs)) ≤ length (filter t qs) = count_filter t (λ q. not (is_own k id q)) qs in
+    let same : length (filter t qs) ≤ length (filter t qs) = omega arith in
+    search count_either
+
 -- ---- how many requests there are
 same_all : (p q : Request → Bool) → ((x : Request) → q x ≡ not (p x)) → (lists : List (List Request))
     → count_in p lists + count_in q lists ≡ request_count lists
@@ -42,46 +65,59 @@ abbrev below : ℕ → Request → Bool
 below n q = nat_lt q.caller n
 
 -- what one request adds to a count
-abbrev one_if : Bool → ℕ
+abbrev pub one_if : Bool → ℕ
 one_if b = cond b 1 0
 
-length_kept : (b : Bool) (q : Request) (qs : List Request) → length (cond b (q ∷ qs) qs) ≡ one_if b + length qs
+pub length_kept : (b : Bool) (q : Request) (qs : List Request) → length (cond b (q ∷ qs) qs) ≡ one_if b + length qs
 length_kept true q qs = omega arith
 length_kept false q qs = omega arith
 
-below_one : (k n : ℕ) → one_if (nat_lt k (suc n)) ≡ one_if (nat_lt k n) + one_if (k == n)
-below_one k n = grind (arith, nat_tests)
+-- a test of the first callers that holds of one more where a test of that caller does
+module _ (first own : ℕ → Request → Bool) (none : (q : Request) → first 0 q ≡ false)
+    (more : (n : ℕ) (q : Request) → one_if (first (suc n) q) ≡ one_if (first n q) + one_if (own n q)) where
+  first_list : (n : ℕ) (qs : List Request) → length (filter (first (suc n)) qs) ≡ length (filter (first n) qs) + length (filter (own n) qs)
+  first_list n [] = refl
+  first_list n (q ∷ qs) =
+      omega (
+        arith,
+        first_list n qs,
+        more n q,
+        length_kept (first (suc n) q) q (filter (first (suc n)) qs),
+        length_kept (first n q) q (filter (first n) qs),
+        length_kept (own n q) q (filter (own n) qs),
+      )
 
-below_list : (n : ℕ) (qs : List Request)
-    → length (filter (below (suc n)) qs) ≡ length (filter (below n) qs) + length (filter (of_caller n) qs)
-below_list n [] = refl
-below_list n (q ∷ qs) =
-    omega (
-      arith,
-      below_list n qs,
-      below_one q.caller n,
-      length_kept (below (suc n) q) q (filter (below (suc n)) qs),
-      length_kept (below n q) q (filter (below n) qs),
-      length_kept (of_caller n q) q (filter (of_caller n) qs),
-    )
+  -- so the counts add up
+  pub first_more : (n : ℕ) (lists : List (List Request)) → count_in (first (suc n)) lists ≡ count_in (first n) lists + count_in (own n) lists
+  first_more n [] = refl
+  first_more n (qs ∷ rest) = omega (arith, first_list n qs, first_more n rest)
 
-below_more : (n : ℕ) (lists : List (List Request))
-    → count_in (below (suc n)) lists ≡ count_in (below n) lists + count_in (of_caller n) lists
-below_more n [] = refl
-below_more n (qs ∷ rest) = omega (arith, below_list n qs, below_more n rest)
+  none_first : (qs : List Request) → length (filter (first 0) qs) ≡ 0
+  none_first [] = refl
+  none_first (q ∷ qs) = rw (none q) (none_first qs)
 
-none_below : (qs : List Request) → length (filter (below 0) qs) ≡ 0
-none_below [] = refl
-none_below (q ∷ qs) = rw (le-ltb q.caller 0 (omega arith)) (none_below qs)
+  first_none : (lists : List (List Request)) → count_in (first 0) lists ≡ 0
+  first_none [] = refl
+  first_none (qs ∷ rest) = omega (arith, none_first qs, first_none rest)
 
-below_none : (lists : List (List Request)) → count_in (below 0) lists ≡ 0
-below_none [] = refl
-below_none (qs ∷ rest) = omega (arith, none_below qs, below_none rest)
+  -- and with a quota for each caller, n callers have n quotas
+  pub first_fit : (lists : List (List Request)) (quota n : ℕ) → ((k : ℕ) → count_in (own k) lists ≤ quota)
+      → count_in (first n) lists ≤ n * quota
+  first_fit lists quota zero q = omega (arith, first_none lists)
+  first_fit lists quota (suc n) q = omega (arith, first_more n lists, first_fit lists quota n q, q n)
 
-below_fit : (lists : List (List Request)) (quota n : ℕ) → ((caller : ℕ) → count_in (of_caller caller) lists ≤ quota)
+none_below : (q : Request) → below 0 q ≡ false
+none_below q = le-ltb q.caller 0 (omega arith)
+
+below_one : (n : ℕ) (q : Request) → one_if (below (suc n) q) ≡ one_if (below n q) + one_if (of_caller n q)
+below_one n q = grind (arith, nat_tests)
+
+below_more : (n : ℕ) (lists : List (List Request)) → count_in (below (suc n)) lists ≡ count_in (below n) lists + count_in (of_caller n) lists
+below_more = first_more below of_caller none_below below_one
+
+below_fit : (lists : List (List Request)) (quota n : ℕ) → ((k : ℕ) → count_in (of_caller k) lists ≤ quota)
     → count_in (below n) lists ≤ n * quota
-below_fit lists quota zero q = omega (arith, below_none lists)
-below_fit lists quota (suc n) q = omega (arith, below_more n lists, below_fit lists quota n q, q n)
+below_fit = first_fit below of_caller none_below below_one
 
 below_free : (lists : List (List Request)) (quota n k : ℕ) → ((caller : ℕ) → count_in (of_caller caller) lists ≤ quota) → k < n
     → count_in (of_caller k) lists < quota → count_in (below n) lists < n * quota
@@ -187,15 +223,9 @@ sound_obtain s i r lt w known free new =
 pub sound_release : (s : LatchLists) (i caller id : ℕ) (conditional : Bool) → i < length s.lists → IsSound s
     → IsSound (record s { lists = (at_latch s.lists i (release_step caller id conditional (list_of s.lists i))).0 })
 sound_release s i caller id conditional lt w =
-    let less : SoundWith s i (without caller id (list_of s.lists i)) =
-    sound_less s (set s.lists i (without caller id (list_of s.lists i)))
-    (λ t. omega (
-      arith,
-      count_set t s.lists i (without caller id (list_of s.lists i)) lt,
-      count_filter t (λ q. not (is_own caller id q)) (list_of s.lists i),
-    )) w in
-    let same : SoundWith s i (list_of s.lists i) = sound_same s i w in
-    search either
+    let left : List Request = (release_step caller id conditional (list_of s.lists i)).0 in
+    sound_less s (set s.lists i left)
+    (λ t. omega (arith, count_set t s.lists i left lt, count_released t caller id conditional (list_of s.lists i))) w
 
 pub sound_purge : (s : LatchLists) (requestor : ℕ) → IsSound s → IsSound (record s { lists = map (purged requestor) s.lists })
 sound_purge s requestor w = sound_less s (map (purged requestor) s.lists) (λ t. count_purged t requestor s.lists) w

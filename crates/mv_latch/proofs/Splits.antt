@@ -9,11 +9,12 @@ use Rattle.mv_latch.specs.declared.request.Request.{Request}
 use Rattle.mv_latch.specs.Request.{shared_request, has_id}
 use Rattle.mv_latch.specs.Latch.{shared_front, granted, waiting, HasDistinctIds}
 
-pub all_filter : (P : Request → Type 0) (p : Request → Bool) (qs : List Request) → AllByRecursion P qs → AllByRecursion P (filter p qs)
-all_filter P p [] a = tt
-all_filter P p (q ∷ qs) a =
-    elim (p q) as (λ t. AllByRecursion P (cond t (q ∷ filter p qs) (filter p qs)))
-    [ true ↦ (a.0, all_filter P p qs a.1) | false ↦ all_filter P p qs a.1 ]
+-- what holds of each element holds of each that a filter leaves
+pub all_filter : {A : Type 0} (P : A → Type 0) (t : A → Bool) (xs : List A) → AllByRecursion P xs → AllByRecursion P (filter t xs)
+all_filter P t [] a = tt
+all_filter P t (x ∷ xs) a =
+    elim (t x) as (λ b. AllByRecursion P (cond b (x ∷ filter t xs) (filter t xs)))
+    [ true ↦ (a.0, all_filter P t xs a.1) | false ↦ all_filter P t xs a.1 ]
 
 pub all_front : (P : Request → Type 0) (qs : List Request) → AllByRecursion P qs → AllByRecursion P (shared_front qs)
 all_front P [] a = tt
@@ -68,10 +69,10 @@ count_filter t p (q ∷ qs) = more (p q) (t q) (count_filter t p qs) where
       → length (filter t (cond b (q ∷ filter p qs) (filter p qs))) ≤ length (filter t (q ∷ qs))
   more b s ih = grind (arith, ih)
 
-pub length_filter : (p : Request → Bool) (qs : List Request) → length (filter p qs) ≤ length qs
-length_filter p [] = omega arith
-length_filter p (q ∷ qs) = more (p q) (length_filter p qs) where
-  more : (b : Bool) → length (filter p qs) ≤ length qs → length (cond b (q ∷ filter p qs) (filter p qs)) ≤ length (q ∷ qs)
+pub length_filter : {A : Type 0} (t : A → Bool) (xs : List A) → length (filter t xs) ≤ length xs
+length_filter t [] = omega arith
+length_filter t (x ∷ xs) = more (t x) (length_filter t xs) where
+  more : (b : Bool) → length (filter t xs) ≤ length xs → length (cond b (x ∷ filter t xs) (filter t xs)) ≤ length (x ∷ xs)
   more true ih = omega arith
   more false ih = omega arith
 

@@ -1,9 +1,15 @@
 -- Numbers in digits.
 use Rattle.std.proofs.Common.{◌≡◌, ℕ, ◌+◌, ◌-◌, ◌*◌, ◌<◌, ◌≤◌, ◌&&◌, Bool, true, false, cond, leb, List, [], ◌∷◌, length, drop}
 use Rattle.std.proofs.Common.{get_or, Some, None, refl, ap, arith}
-use Rattle.std.proofs.lemmas.Bool.{lt-leb}
+use Rattle.std.proofs.lemmas.Bool.{le-leb, lt-leb}
 use Rattle.std.proofs.lemmas.List.{drop_more}
+use Rattle.std.specs.Int.{IsInRange}
+use Rattle.mv_line.specs.Byte.{is_digit}
 use Rattle.mv_line.specs.Number.{value_behind, is_number, number_of, within}
+
+-- a byte in the range of the digits is one
+pub is_digit-true : (c : ℕ) → IsInRange 48 57 c → is_digit c ≡ true
+is_digit-true c h = rw (le-leb 48 c h.0, le-leb c 57 h.1) refl
 
 -- further digits never show less
 pub value_rises : (shown : ℕ) (digits : List ℕ) → shown ≤ value_behind shown digits

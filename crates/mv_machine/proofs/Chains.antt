@@ -16,12 +16,6 @@ use Rattle.mv_machine.specs.Reach.{exits_of, greatest}
 use Rattle.mv_machine.specs.Setup.{SetupExit, starts_from}
 use Rattle.mv_machine.proofs.Reaches.{greatest-push}
 
--- what holds of each element holds of the one that is read
-pub all_at : {A : Type 0} (P : A → Type 0) (xs : List A) (i : ℕ) (x : A) → slice_get xs i ≡ Some x → AllByRecursion P xs → P x
-all_at P [] i x e h = absurd (cc e)
-all_at P (y ∷ ys) zero x e h = let same : y ≡ x = cc e in subst P same h.0
-all_at P (y ∷ ys) (suc i) x e h = all_at P ys i x e h.1
-
 -- an exit that is there starts from one block alone
 one_source : (o : Option SetupExit) (d e : ℕ) → starts_from d o ≡ true → starts_from e o ≡ true → d ≡ e
 one_source None d e hd he = absurd (false≢true hd)

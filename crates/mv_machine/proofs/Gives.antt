@@ -19,8 +19,8 @@ use Rattle.mv_machine.specs.State.{Exists, IsOpenedWith, system_of, wakes_of}
 use Rattle.mv_machine.specs.System.{System, place_of, after_step, wakes_after}
 use Rattle.mv_machine.specs.Told.{last_wakes}
 use Rattle.mv_machine.proofs.Lefts.{gives_one, lefts_zero, pick_taken}
-use Rattle.mv_machine.proofs.Merged.{total_parts}
-use Rattle.mv_machine.proofs.MergeSteps.{there, starts, place_low, before, steps, shows, places_rise}
+use Rattle.mv_machine.proofs.Merged.{starts, total_parts}
+use Rattle.mv_machine.proofs.MergeSteps.{there, place_low, before, steps, shows, places_rise}
 use Rattle.mv_machine.proofs.OneHistory.{logs_count, logs_legal, logs_parts, logs_total, on_logs}
 
 -- what stands before the end of a list

@@ -2,14 +2,14 @@
 use Rattle.std.proofs.Common.{◌≡◌, ◌⊎◌, ℕ, ◌<◌, Bool, true, false, ◌||◌, List, [], ◌∷◌, ◌++◌, filter, cond, inl, inr, refl, sym, ap}
 use Rattle.std.proofs.Common.{◌∙◌, subst, arith}
 use Rattle.std.specs.List.{Contains, list_any}
-use Rattle.std.proofs.lemmas.Bool.{cases_Bool, false≢true, eqb-true, and_parts, and_left, or_left, or_right, ne_eqb}
-use Rattle.std.proofs.lemmas.List.Elements.{All-contains, All-contains_itself, All-filter, Contains-append_left, Contains-push_cases}
+use Rattle.std.proofs.lemmas.Bool.{cases_Bool, false≢true, eqb-true, and_parts, and_left, ne_eqb}
+use Rattle.std.proofs.lemmas.List.Elements.{Contains-append_left, Contains-push_cases}
 use Rattle.std.proofs.lemmas.List.Folds.{list_any-append}
 use Rattle.mv_latch.specs.declared.request.Request.{Request}
 use Rattle.mv_latch.specs.Latch.{granted, waiting}
 use Rattle.mv_latch.specs.Request.{is_own}
 use Rattle.mv_latch.proofs.Changes.{Changed, same, grew, shrank, stays_granted}
-use Rattle.mv_latch.proofs.Members.{not_in_empty, first_or_rest, first_is_in, rest_is_in}
+use Rattle.mv_latch.proofs.Members.{was_in, Found, found, finds}
 use Rattle.mv_latch.proofs.Splits.{granted_split}
 use Rattle.mv_machine.specs.declared.entry.Entry.{Entry}
 use Rattle.mv_machine.specs.declared.entry.Object.TheVariants.{Latches}
@@ -55,35 +55,12 @@ gone_stays c xs ys k latch id l lt gone =
     (rest_is_legal c xs ys l) (lt, gone)).1
 
 -- ---- one that is granted stays granted or is gone
--- the request that a test finds
-abbrev Found : (Request → Bool) → List Request → Type 0
-Found t qs = (q : Request) × Contains qs q × (t q ≡ true)
-
-found : (t : Request → Bool) (qs : List Request) → list_any t qs ≡ true → Found t qs
-found t [] e = absurd (false≢true e)
-found t (q ∷ qs) e = go (t q) refl e (found t qs) where
-  go : (b : Bool) → t q ≡ b → (b || list_any t qs) ≡ true → (list_any t qs ≡ true → Found t qs) → Found t (q ∷ qs)
-  go true is f rest = (q, first_is_in q qs q refl, is)
-  go false is f rest = let w : Found t qs = rest f in (w.0, rest_is_in q qs w.0 w.1, w.2)
-
--- where a list contains a request that meets a test, the test finds one
-finds : (t : Request → Bool) (q : Request) (qs : List Request) → Contains qs q → t q ≡ true → list_any t qs ≡ true
-finds t q [] i is = absurd (not_in_empty q i)
-finds t q (x ∷ xs) i is = elim (first_or_rest x xs q i) [
-  | inl e ↦ or_left (t x) (list_any t xs) (ap t e ∙ is)
-  | inr j ↦ or_right (t x) (list_any t xs) (finds t q xs j is)
-]
-
--- who is left was there before
-in_left : (p : Request → Bool) (q : Request) (xs : List Request) → Contains (filter p xs) q → Contains xs q
-in_left p q xs i = All-contains (Contains xs) (filter p xs) q (All-filter p (Contains xs) xs (All-contains_itself xs)) i
-
 -- whoever is in the new list was in the old one, or is the new request
 came_from : (place : ℕ) (old new : List Request) (q : Request) → Changed place old new → Contains new q → Contains old q ⊎ (q.id ≡ place)
 came_from place old new q (same e) i = inl (rw e at i)
 came_from place old new q (grew r is e) i =
     elim (Contains-push_cases old r q (rw e at i)) [ inl j ↦ inl j | inr f ↦ inr (ap (λ (y : Request). y.id) (sym f) ∙ is) ]
-came_from place old new q (shrank p e) i = inl (in_left p q old (rw e at i))
+came_from place old new q (shrank p e) i = inl (was_in p q old (rw e at i))
 
 own_number : (k id : ℕ) (q : Request) → is_own k id q ≡ true → q.id ≡ id
 own_number k id q own = eqb-true q.id id (and_parts _ _ own).0

@@ -10,7 +10,7 @@ use Rattle.mv_machine.specs.declared.entry.Op.TheVariants as op_on
 use Rattle.mv_machine.specs.declared.entry.Reply.{Reply}
 use Rattle.mv_machine.specs.declared.entry.Entry.{Entry}
 use Rattle.mv_machine.specs.Setup.{Setup}
-use Rattle.mv_machine.specs.System.{System, place_of, moved, with_at}
+use Rattle.mv_machine.specs.System.{System, opening, place_of, moved, with_at}
 use Rattle.mv_machine.specs.Legal.{IsNext, next, after_from, LegalFrom, same_object, «at»}
 
 pub after_from-append : (s : System) (xs ys : List Entry) → after_from s (xs ++ ys) ≡ after_from (after_from s xs) ys
@@ -84,3 +84,10 @@ place_bounded c s es o l =
       count_by-le-length
           (λ e. same_object e.object o) es,
     )
+
+-- at the opening each object has its first place
+pub zero_place : (c : Setup) (o : Object) → place_of (opening c) o ≡ 0
+zero_place c (Ecb n) = refl
+zero_place c (Element n) = refl
+zero_place c (Volume n) = refl
+zero_place c Latches = refl

@@ -1,16 +1,15 @@
 -- No two requests of the lists have one number.
-use Rattle.std.proofs.Common.{◌≡◌, ℕ, ◌+◌, ◌≤◌, Bool, true, false, not, List, [], ◌∷◌, ◌++◌, length, filter, set, cond, inl, inr}
+use Rattle.std.proofs.Common.{◌≡◌, ℕ, ◌+◌, ◌≤◌, Bool, true, false, List, [], ◌∷◌, length, filter, set, cond, inl, inr}
 use Rattle.std.proofs.Common.{subst, arith}
-use Rattle.std.proofs.lemmas.Bool.{cases_eq, false≢true, ne_eqb}
+use Rattle.std.proofs.lemmas.Bool.{cases_eq, false≢true}
 use Rattle.mv_latch.specs.declared.operation.LatchOp.{LatchOp}
 use Rattle.mv_latch.specs.declared.operation.LatchOp.TheVariants.{Obtain, Confirm, Release, Purge}
-use Rattle.mv_latch.specs.declared.operation.LatchReply.{LatchReply}
 use Rattle.mv_latch.specs.declared.request.Request.{Request}
-use Rattle.mv_latch.specs.Latch.{obtain_step, release_step, without}
+use Rattle.mv_latch.specs.Latch.{obtain_step, release_step}
 use Rattle.mv_latch.specs.LatchSet.{list_of, count_in, latch_step, IsNewId}
-use Rattle.mv_latch.specs.Request.{has_id, is_own}
-use Rattle.mv_latch.proofs.Splits.{count_split, count_filter}
-use Rattle.mv_latch.proofs.Quotas.{count_set, count_new, count_purged}
+use Rattle.mv_latch.specs.Request.{has_id}
+use Rattle.mv_latch.proofs.Numbers.{none_but}
+use Rattle.mv_latch.proofs.Quotas.{count_set, count_new, count_obtained, count_released, count_purged}
 use Rattle.mv_machine.specs.declared.entry.Entry.{Entry}
 use Rattle.mv_machine.specs.declared.entry.Object.{Object}
 use Rattle.mv_machine.specs.declared.entry.Object.TheVariants.{Ecb, Element, Volume, Latches}
@@ -24,32 +23,8 @@ use Rattle.mv_machine.proofs.EntryRuns.{entry_of, along_all}
 use Rattle.mv_machine.proofs.LatchIds.{new_from_next, none_in_new}
 use Rattle.mv_machine.proofs.StandingRuns.{NamesLatch, names_of}
 
--- a choice of two outcomes has no more than the larger
-either : (t : Request → Bool) (n : ℕ) (b : Bool) (x y : List Request × LatchReply) → length (filter t x.0) ≤ n → length (filter t y.0) ≤ n
-    → length (filter t (cond b x y).0) ≤ n
-either t n true x y a c = a
-either t n false x y a c = c
-
-obtained : (t : Request → Bool) (r : Request) (qs : List Request)
-    → length (filter t (obtain_step r qs).0) ≤ length (filter t qs) + length (filter t (r ∷ []))
-obtained t r qs =
-    let more : length (filter t (qs ++ r ∷ [])) ≤ length (filter t qs) + length (filter t (r ∷ [])) =
-    omega (arith, count_split t qs (r ∷ [])) in
-    let same : length (filter t qs) ≤ length (filter t qs) + length (filter t (r ∷ [])) = omega arith in
-    search either
-
-released : (t : Request → Bool) (k id : ℕ) (conditional : Bool) (qs : List Request)
-    → length (filter t (release_step k id conditional qs).0) ≤ length (filter t qs)
-released t k id conditional qs =
-    let less : length (filter t (without k id qs)) ≤ length (filter t qs) = count_filter t (λ q. not (is_own k id q)) qs in
-    let same : length (filter t qs) ≤ length (filter t qs) = omega arith in
-    search either
-
 one_at_most : (t : Request → Bool) (r : Request) → length (filter t (r ∷ [])) ≤ 1
 one_at_most t r = elim (t r) as (λ b. length (cond b (r ∷ []) []) ≤ 1) [ true ↦ omega arith | false ↦ omega arith ]
-
-none_but : (id : ℕ) (r : Request) → (r.id ≡ id → ⊥) → length (filter (has_id id) (r ∷ [])) ≡ 0
-none_but id r other = rw (ne_eqb r.id id other) (omega arith)
 
 -- each number is in the lists once at most
 abbrev pub Differ : List (List Request) → Type 0
@@ -62,7 +37,7 @@ differ_next k place (Obtain latch requestor mode form) lists lt new d =
     let t : Request → Bool = has_id id in
     let old : List Request = list_of lists latch in
     let counts : count_in t (set lists latch (obtain_step r old).0) ≤ count_in t lists + length (filter t (r ∷ [])) =
-    omega (arith, count_set t lists latch (obtain_step r old).0 lt, obtained t r old) in
+    omega (arith, count_set t lists latch (obtain_step r old).0 lt, count_obtained t r old) in
     elim (cases_eq place id) [
       | inl e ↦ omega (arith, counts, one_at_most t r, subst (λ i. count_in (has_id i) lists ≡ 0) e new)
       | inr other ↦ omega (arith, counts, none_but id r other, d id)
@@ -71,7 +46,7 @@ differ_next k place (Confirm latch id) lists lt new d = d
 differ_next k place (Release latch own conditional) lists lt new d =
     λ id. let old : List Request = list_of lists latch in
     let left : List Request = (release_step k own conditional old).0 in
-    omega (arith, count_set (has_id id) lists latch left lt, released (has_id id) k own conditional old, d id)
+    omega (arith, count_set (has_id id) lists latch left lt, count_released (has_id id) k own conditional old, d id)
 differ_next k place (Purge requestor) lists lt new d = λ id. omega (arith, count_purged (has_id id) requestor lists, d id)
 
 -- and none is there from the place on

@@ -1,14 +1,16 @@
 -- A history with one entry more, and what was had in it.
 use Rattle.std.proofs.Common.{◌≡◌, ℕ, ◌+◌, ◌<◌, ◌≤◌, ◌==◌, Bool, true, false, cond, List, [], ◌∷◌, ◌++◌, length, drop, Some, IsSome}
-use Rattle.std.proofs.Common.{refl, sym, ap, ◌∙◌, arith, le_refl, length-append, append_assoc}
+use Rattle.std.proofs.Common.{inl, inr, refl, sym, ap, ◌∙◌, arith, le_refl, length-append, append_assoc}
 use Rattle.std.proofs.lemmas.List.{take-append-le, drop-append-le, take_all, drop_all}
-use Rattle.std.proofs.lemmas.Bool.{false≢true}
+use Rattle.std.proofs.lemmas.Bool.{cases_eq, false≢true, ne_eqb}
 use Rattle.std.proofs.lemmas.List.Elements.{All-weaker, All-from_recursion}
 use Rattle.std.specs.List.{All, AllByRecursion}
 use Rattle.mv_machine.specs.Limits.{events_limit, highest_place}
 use Rattle.mv_machine.specs.declared.entry.Entry.{Entry}
 use Rattle.mv_machine.specs.declared.entry.Object.{Object}
 use Rattle.mv_machine.specs.declared.entry.Object.TheVariants.{Ecb, Element, Volume, Latches}
+use Rattle.mv_machine.specs.declared.entry.Op.{Op}
+use Rattle.mv_machine.specs.declared.entry.Op.TheVariants as op_on
 use Rattle.mv_machine.specs.declared.packing.WordState.{WordState}
 use Rattle.mv_machine.specs.Legal.{IsNext, LegalFrom, Legal, SameAt, after, after_from, next, same_object, of, «at»}
 use Rattle.mv_machine.specs.Packing.{state_at, word_at}
@@ -19,6 +21,7 @@ use Rattle.mv_machine.specs.Told.{told_at, told_from}
 use Rattle.mv_machine.proofs.Budgets.{place_is_count, places_fit}
 use Rattle.mv_machine.proofs.Histories.{after_from-append, LegalFrom-append, LegalFrom-front, LegalFrom-rest, place-after, place-moved}
 use Rattle.mv_machine.proofs.Objects.{of-append, at-append, same_self}
+use Rattle.mv_machine.proofs.Places.{of_mine, of_other}
 use Rattle.mv_machine.proofs.SameParts.{after_by_part}
 use Rattle.mv_machine.proofs.Words.{reached_unpack}
 
@@ -42,6 +45,20 @@ told_from-append s k [] fs = refl
 told_from-append s k (e ∷ es) fs =
     ap (λ ws. told_at s k e.caller e.object e.op ++ ws) (told_from-append (next s e) k es fs)
     ∙ rw append_assoc refl
+
+-- another caller's event tells nothing
+pub told_other : (s : System) (k j : ℕ) (o : Object) (op : Op) → (j ≡ k → ⊥) → told_at s k j o op ≡ []
+told_other s k j Latches (op_on.Latch op) other = rw (ne_eqb j k other) refl
+told_other s k j o op other = refl
+
+-- so a list without entries of a caller tells it nothing
+pub told_nothing_from : (s : System) (k : ℕ) (es : List Entry) → of k es ≡ [] → told_from s k es ≡ []
+told_nothing_from s k [] none = refl
+told_nothing_from s k (e ∷ es) none = elim (cases_eq e.caller k) [
+  | inl mine ↦ absurd (cc (sym (of_mine k e es mine) ∙ none))
+  | inr other ↦ ap (λ ws. ws ++ told_from (next s e) k es) (told_other s k e.caller e.object e.op other)
+      ∙ told_nothing_from (next s e) k es (sym (of_other k e es other) ∙ none)
+]
 
 -- ---- what was had stays had
 

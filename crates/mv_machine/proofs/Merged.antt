@@ -14,7 +14,7 @@ use Rattle.mv_machine.specs.Parts.{parts_from, parts, Had}
 use Rattle.mv_machine.specs.Setup.{Setup}
 use Rattle.mv_machine.specs.System.{System, opening, place_of, admitted}
 use Rattle.mv_machine.specs.Told.{told}
-use Rattle.mv_machine.proofs.Histories.{place-moved}
+use Rattle.mv_machine.proofs.Histories.{place-moved, zero_place}
 use Rattle.mv_machine.proofs.Places.{object_discrete, same_hit, same_miss, of_mine, of_other, Placed}
 use Rattle.mv_machine.proofs.Picks.{Within, Same, merges, picks_count}
 use Rattle.mv_machine.proofs.SameParts.{same_legal, same_after, same_told, same_had}
@@ -38,14 +38,8 @@ pub placed_from : (c : Setup) (s : System) (es : List Entry) → LegalFrom c s e
 placed_from c s [] l = tt
 placed_from c s (e ∷ es) l = (l.0.place, subst (λ p. Placed p es) (places_after c s e l.0) (placed_from c (next s e) es l.1))
 
-starts : (c : Setup) → place_of (opening c) ≡ start
-starts c = λ i o. zeros o i
-  where
-    zeros : (o : Object) → place_of (opening c) o ≡ 0
-    zeros (Ecb n) = refl
-    zeros (Element n) = refl
-    zeros (Volume n) = refl
-    zeros Latches = refl
+pub starts : (c : Setup) → place_of (opening c) ≡ start
+starts c = λ i o. zero_place c o i
 
 pub legal_placed : (c : Setup) (es : List Entry) → Legal c es → Placed start es
 legal_placed c es l = subst (λ p. Placed p es) (starts c) (placed_from c (opening c) es l)

@@ -1,6 +1,6 @@
 -- The places of a list's entries, and the list without a caller's first one.
-use Rattle.std.proofs.Common.{◌≡◌, ℕ, suc, ◌+◌, ◌≤◌, ◌≢◌, Bool, true, false, cond, eqb, List, [], ◌∷◌, length, inl, inr, sym, refl}
-use Rattle.std.proofs.Common.{ap, ◌∙◌, subst, arith, eq-eqb, ne_eqb, le_refl}
+use Rattle.std.proofs.Common.{◌≡◌, ℕ, suc, ◌+◌, ◌≤◌, ◌≢◌, Bool, true, false, cond, eqb, List, [], ◌∷◌, ◌++◌, length, inl, inr, sym, refl}
+use Rattle.std.proofs.Common.{ap, ◌∙◌, subst, arith, append-nil, eq-eqb, ne_eqb, le_refl}
 use Rattle.std.proofs.lemmas.Bool.{cases_Bool, true≢false}
 use mathlib.Core.Logic.{dite}
 use native.Mathlib.Decide.{ℕ_discrete}
@@ -8,7 +8,7 @@ use Rattle.mv_machine.specs.declared.entry.Entry.{Entry}
 use Rattle.mv_machine.specs.declared.entry.Object.{Object}
 use Rattle.mv_machine.specs.Legal.{same_object, of, «at»}
 use Rattle.mv_machine.specs.Merge.{Places, risen}
-use Rattle.mv_machine.proofs.Objects.{same_is, same_self}
+use Rattle.mv_machine.proofs.Objects.{of-append, same_is, same_self}
 
 -- ---- objects are one or not
 pub object_discrete : (a b : Object) → Dec (a ≡ b)
@@ -29,6 +29,13 @@ of_mine k e es h = rw (eq-eqb e.caller k h)
 
 pub of_other : (k : ℕ) (e : Entry) (es : List Entry) → e.caller ≢ k → of k (e ∷ es) ≡ of k es
 of_other k e es h = rw (ne_eqb e.caller k h)
+
+-- and by their last
+pub of_longer_mine : (k : ℕ) (es : List Entry) (e : Entry) → e.caller ≡ k → of k (es ++ e ∷ []) ≡ of k es ++ e ∷ []
+of_longer_mine k es e mine = of-append k es (e ∷ []) ∙ ap (λ z. of k es ++ z) (of_mine k e [] mine)
+
+pub of_longer_other : (k : ℕ) (es : List Entry) (e : Entry) → e.caller ≢ k → of k (es ++ e ∷ []) ≡ of k es
+of_longer_other k es e other = of-append k es (e ∷ []) ∙ (ap (λ z. of k es ++ z) (of_other k e [] other) ∙ append-nil (of k es))
 
 pub at_mine : (o : Object) (e : Entry) (es : List Entry) → e.object ≡ o → «at» o (e ∷ es) ≡ e ∷ «at» o es
 at_mine o e es h = rw (same_hit e.object o h)

@@ -9,6 +9,7 @@ use Rattle.std.proofs.lemmas.Bool.{false≢true, true≢false, eqb-true}
 use Rattle.mv_machine.specs.Limits.{highest_reach}
 use Rattle.mv_machine.specs.declared.config.ConfigLimit.TheVariants.{Targets, Posted, Quota}
 use Rattle.mv_machine.specs.Chains.{HasFewGoodTargets, AreReaches}
+use Rattle.mv_machine.proofs.Lists.{all_map}
 use Rattle.mv_machine.proofs.Validity.{no_bad_limit}
 use Rattle.mv_machine.specs.Check.{IsValid, keeps, is_within, first_limit, first_bad_exit, is_bad_exit}
 use Rattle.mv_machine.specs.Reach.{cut, exits_of, greatest, total, reach_within, reach}
@@ -62,11 +63,6 @@ same_greatest F G e (x ∷ xs) h = go (x.source == e) refl (same_greatest F G e 
   go true t ih = rw (h.0 (eqb-true x.source e t), ih) refl
   go false t ih = ih
 
--- what holds of each element follows for each
-along : {A : Type 0} (P Q : A → Type 0) (xs : List A) → ((x : A) → P x → Q x) → AllByRecursion P xs → AllByRecursion Q xs
-along P Q [] f h = tt
-along P Q (x ∷ xs) f h = (f x h.0, along P Q xs f h.1)
-
 -- ---- following exits deeper than the blocks above changes nothing
 module _ (c : Setup) (up : AllByRecursion (LeadsUp (length c.owners)) c.exits) where
   pub deep_enough : (k m e : ℕ) → e < length c.owners → length c.owners ≤ e + k → length c.owners ≤ e + m
@@ -76,12 +72,8 @@ module _ (c : Setup) (up : AllByRecursion (LeadsUp (length c.owners)) c.exits) w
   deep_enough (suc k) (suc m) e lt lk lm =
       ap (λ z. cut (1 + z))
       (same_greatest (λ x. total (reach_within k c) x.targets) (λ x. total (reach_within m c) x.targets) e c.exits
-      (along (LeadsUp (length c.owners)) (λ x. x.source ≡ e
-      → total (reach_within k c) x.targets ≡ total (reach_within m c) x.targets) c.exits
-      (λ x h is. same_total (reach_within k c) (reach_within m c) x.targets
-      (along (λ t. (x.source < t) × (t < length c.owners)) (λ t. reach_within k c t ≡ reach_within m c t) x.targets
-      (λ t w. deep_enough k m t w.1 (omega arith) (omega arith)) h))
-      up))
+      (all_map (λ x h is. same_total (reach_within k c) (reach_within m c) x.targets
+      (all_map (λ t w. deep_enough k m t w.1 (omega arith) (omega arith)) x.targets h)) c.exits up))
 
   pub reach_is : (e : ℕ) → e < length c.owners → reach c e ≡ cut (1 + greatest (map (λ x. total (reach c) x.targets) (exits_of e c.exits)))
   reach_is e lt =
@@ -118,7 +110,7 @@ joined : (n : ℕ) (xs : List SetupExit) → AllByRecursion (λ x. x.source < n)
     → AllByRecursion (LeadsUp n) xs → AllByRecursion (HasFewGoodTargets n) xs
 joined n [] s f u = tt
 joined n (x ∷ xs) s f u = (
-  record { source = s.0; few = f.0; good = along (λ t. (x.source < t) × (t < n)) (λ t. t < n) x.targets (λ t w. w.1) u.0 },
+  record { source = s.0; few = f.0; good = all_map (λ t w. w.1) x.targets u.0 },
   joined n xs s.1 f.1 u.1,
 )
 
@@ -134,9 +126,7 @@ pub next_reach : (c : Setup) → IsValid c → (f : ℕ → ℕ) (e : ℕ) → e
 next_reach c v f e lt right =
     ap (λ z. cut (1 + z))
     (same_greatest (λ x. total f x.targets) (λ x. total (reach c) x.targets) e c.exits
-    (along (LeadsUp (length c.owners)) (λ x. x.source ≡ e → total f x.targets ≡ total (reach c) x.targets) c.exits
-    (λ x h is. same_total f (reach c) x.targets
-    (along (λ t. (x.source < t) × (t < length c.owners)) (λ t. f t ≡ reach c t) x.targets (λ t w. right t (omega arith) w.1) h))
+    (all_map (λ x h is. same_total f (reach c) x.targets (all_map (λ t w. right t (omega arith) w.1) x.targets h)) c.exits
     (all_lead_up c v)))
     ∙ sym (reach_is c (all_lead_up c v) e lt)
 

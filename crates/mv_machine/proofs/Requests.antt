@@ -14,8 +14,8 @@ use Rattle.mv_latch.specs.declared.request.Request.{Request}
 use Rattle.mv_latch.specs.Latch.{obtain_step, release_step, without, purged}
 use Rattle.mv_latch.specs.LatchSet.{list_of, count_in, latch_step, latch_admitted}
 use Rattle.mv_latch.specs.Request.{is_posted, of_caller, posted_of, of_requestor, is_own}
-use Rattle.mv_latch.proofs.Quotas.{count_set, count_new, count_purged}
-use Rattle.mv_latch.proofs.Splits.{all_filter, count_split, count_filter}
+use Rattle.mv_latch.proofs.Quotas.{count_set, count_new, count_obtained, count_released, count_purged}
+use Rattle.mv_latch.proofs.Splits.{all_filter}
 use Rattle.mv_machine.specs.declared.entry.Entry.{Entry}
 use Rattle.mv_machine.specs.declared.entry.Object.{Object}
 use Rattle.mv_machine.specs.declared.entry.Object.TheVariants.{Ecb, Element, Volume, Latches}
@@ -72,6 +72,25 @@ all_released P k id conditional qs a =
     let fewer : AllByRecursion P (without k id qs) = all_filter P (λ q. not (is_own k id q)) qs a in
     search all_either
 
+-- what holds of the request that an operation puts in line, if it does
+abbrev pub IfNew : (Request → Type 0) → ℕ → ℕ → LatchOp → Type 0
+IfNew P k place (Obtain latch requestor mode form) =
+    P (record { id = place; caller = k; requestor = requestor; mode = mode; form = form })
+IfNew P k place op = Unit {0}
+
+-- and after each operation, where it holds of the request that is new
+pub all_stepped : (P : Request → Type 0) (k place : ℕ) (op : LatchOp) (lists : List (List Request)) → IfNew P k place op
+    → AllByRecursion (λ qs. AllByRecursion P qs) lists → AllByRecursion (λ qs. AllByRecursion P qs) (latch_step k place op lists).0
+all_stepped P k place (Obtain latch requestor mode form) lists new a =
+    all_set (λ qs. AllByRecursion P qs) lists latch _
+    (all_obtained P (record { id = place; caller = k; requestor = requestor; mode = mode; form = form }) (list_of lists latch)
+    (all_of_list P lists latch a) new) a
+all_stepped P k place (Confirm latch id) lists new a = a
+all_stepped P k place (Release latch id conditional) lists new a =
+    all_set (λ qs. AllByRecursion P qs) lists latch _
+    (all_released P k id conditional (list_of lists latch) (all_of_list P lists latch a)) a
+all_stepped P k place (Purge requestor) lists new a = all_purged P requestor lists a
+
 -- ---- each is fair
 fair_request : (c : Setup) (k latch requestor id : ℕ) (mode : Mode) (form : LatchForm) → k < c.callers
     → posts_own_ecb c k (Obtain latch requestor mode form) ≡ true
@@ -85,46 +104,19 @@ fair_request c k latch requestor id mode Waiting lt own = (lt, tt)
 -- each operation that is admitted leaves all requests fair
 fair_step : (c : Setup) (k place : ℕ) (op : LatchOp) (lists : List (List Request)) → k < c.callers → posts_own_ecb c k op ≡ true
     → AllFair c lists → AllFair c (latch_step k place op lists).0
-fair_step c k place (Obtain latch requestor mode form) lists lt own a =
-    all_set (λ qs. AllByRecursion (IsFair c) qs) lists latch _
-    (all_obtained (IsFair c) (record { id = place; caller = k; requestor = requestor; mode = mode; form = form }) (list_of lists latch)
-    (all_of_list (IsFair c) lists latch a) (fair_request c k latch requestor place mode form lt own)) a
-fair_step c k place (Confirm latch id) lists lt own a = a
-fair_step c k place (Release latch id conditional) lists lt own a =
-    all_set (λ qs. AllByRecursion (IsFair c) qs) lists latch _
-    (all_released (IsFair c) k id conditional (list_of lists latch) (all_of_list (IsFair c) lists latch a)) a
-fair_step c k place (Purge requestor) lists lt own a = all_purged (IsFair c) requestor lists a
+fair_step c k place op lists lt own a = all_stepped (IsFair c) k place op lists (fair_new op own) a where
+  fair_new : (op : LatchOp) → posts_own_ecb c k op ≡ true → IfNew (IsFair c) k place op
+  fair_new (Obtain latch requestor mode form) own = fair_request c k latch requestor place mode form lt own
+  fair_new op own = tt
 
 -- ---- the quotas
-either : (t : Request → Bool) (n : ℕ) (b : Bool) (x y : List Request × LatchReply) → length (filter t x.0) ≤ n → length (filter t y.0) ≤ n
-    → length (filter t (cond b x y).0) ≤ n
-either t n true x y a b = a
-either t n false x y a b = b
-
--- an obtain adds one request at most
-obtained : (t : Request → Bool) (r : Request) (qs : List Request) → length (filter t (obtain_step r qs).0) ≤ length (filter t qs) + length
-    (filter t (r ∷ []))
-obtained t r qs =
-    let more : length (filter t (qs ++ r ∷ [])) ≤ length (filter t qs) + length (filter t (r ∷ [])) =
-    omega (arith, count_split t qs (r ∷ [])) in
-    let same : length (filter t qs) ≤ length (filter t qs) + length (filter t (r ∷ [])) = omega arith in
-    search either
-
--- a release adds none
-pub released : (t : Request → Bool) (k id : ℕ) (conditional : Bool) (qs : List Request)
-    → length (filter t (release_step k id conditional qs).0) ≤ length (filter t qs)
-released t k id conditional qs =
-    let less : length (filter t (without k id qs)) ≤ length (filter t qs) = count_filter t (λ q. not (is_own k id q)) qs in
-    let same : length (filter t qs) ≤ length (filter t qs) = omega arith in
-    search either
-
 -- one more, where there is room for one that meets the test
 more_fits : (t : Request → Bool) (most latch : ℕ) (r : Request) (lists : List (List Request)) → latch < length lists
     → (t r ≡ true → count_in t lists < most) → count_in t lists ≤ most
     → count_in t (set lists latch (obtain_step r (list_of lists latch)).0) ≤ most
 more_fits t most latch r lists lt free fit =
     let counts : count_in t (set lists latch (obtain_step r (list_of lists latch)).0) ≤ count_in t lists + length (filter t (r ∷ [])) =
-    omega (arith, count_set t lists latch (obtain_step r (list_of lists latch)).0 lt, obtained t r (list_of lists latch)) in
+    omega (arith, count_set t lists latch (obtain_step r (list_of lists latch)).0 lt, count_obtained t r (list_of lists latch)) in
     go (t r) refl counts where
       go : (b : Bool) → t r ≡ b → count_in t (set lists latch (obtain_step r (list_of lists latch)).0) ≤ count_in t lists + length
           (cond b (r ∷ []) []) → count_in t (set lists latch (obtain_step r (list_of lists latch)).0) ≤ most
@@ -139,8 +131,7 @@ fewer_fit t most latch k id conditional lists lt fit =
     omega (
       arith,
       count_set t lists latch (release_step k id conditional (list_of lists latch)).0 lt,
-      released t k id conditional
-          (list_of lists latch),
+      count_released t k id conditional (list_of lists latch),
     )
 
 -- an obtain that is admitted has room in the quota

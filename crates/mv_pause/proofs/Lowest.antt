@@ -1,9 +1,8 @@
 -- The lowest own element that is not in use.
-use Rattle.std.proofs.Common.{◌≡◌, ℕ, zero, suc, ◌+◌, ◌-◌, ◌*◌, ◌/◌, ◌<◌, ◌≤◌, Bool, true, false, not, cond, List, ◌∷◌, Some, None}
+use Rattle.std.proofs.Common.{◌≡◌, ℕ, zero, suc, ◌+◌, ◌-◌, ◌*◌, ◌<◌, ◌≤◌, Bool, true, false, not, cond, List, ◌∷◌, Some, None}
 use Rattle.std.proofs.Common.{find, refl, sym, ap, ◌∙◌, subst, arith}
 use Rattle.std.specs.List.{range_with_len}
 use Rattle.std.proofs.Math.Nat.{mul-le-mul_right}
-use Rattle.std.proofs.lemmas.Nat.{div-mul-add}
 use Rattle.mv_machine.specs.declared.entry.Entry.{Entry}
 use Rattle.mv_machine.specs.Setup.{Setup}
 use Rattle.mv_calls.specs.Keeping.{kept_of, nothing_kept}
@@ -14,10 +13,6 @@ use Rattle.std.proofs.lemmas.Bool.{not-true}
 -- an element of caller k, by its place among the caller's
 pub own_place : (k m e i : ℕ) → k < m → i < e → k * e + i < m * e
 own_place k m e i lt few = let le : suc k * e ≤ m * e = mul-le-mul_right e lt in omega arith
-
--- and whose it is
-pub own_owner : (k e i : ℕ) → i < e → (k * e + i) / e ≡ k
-own_owner k e i few = div-mul-add k e i few
 
 -- an element and those behind it
 pub range_at : (a n i : ℕ) → i < n → range_with_len (a + i) (n - i) ≡ (a + i) ∷ range_with_len (a + (i + 1)) (n - (i + 1))

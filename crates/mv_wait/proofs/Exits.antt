@@ -1,6 +1,6 @@
 -- Exits: which a block can have, where they lead, and what they cost.
 use Rattle.std.proofs.Common.{◌≡◌, ℕ, zero, suc, ◌+◌, ◌-◌, ◌<◌, ◌≤◌, nat_lt, true, List, [], ◌∷◌}
-use Rattle.std.proofs.Common.{◌++◌, length, slice_get, refl, sym, ap, subst, arith}
+use Rattle.std.proofs.Common.{◌++◌, length, slice_get, refl, sym, subst, arith}
 use Rattle.std.proofs.lemmas.Bool.{eqb-true, and_parts}
 use Rattle.std.specs.List.{AllByRecursion}
 use Rattle.mv_ecb.specs.declared.operation.EcbOp.TheVariants.{Post}
@@ -13,7 +13,7 @@ use Rattle.mv_machine.specs.Limits.{events_limit}
 use Rattle.mv_machine.specs.Parts.{IsPossible}
 use Rattle.mv_machine.specs.Reach.{total, reach, reach_within}
 use Rattle.mv_machine.specs.Setup.{Setup, SetupExit, is_exit_of, starts_from, targets_of, targets_at}
-use Rattle.mv_machine.proofs.Chains.{all_at}
+use Rattle.mv_machine.proofs.Lists.{all_got, all_map}
 use Rattle.mv_calls.proofs.Posting.{exits_are_own, greatest_member, starts}
 use Rattle.mv_machine.proofs.Reaches.{all_lead_up, next_reach, LeadsUp}
 use Rattle.mv_board.specs.Faces.{CallerFace, Happened}
@@ -44,7 +44,7 @@ exit_leads c x e v there is =
     ((and_parts (nat_lt 0 (suc x)) (starts_from e (slice_get c.exits (suc x - 1))) is).1) in
     let s = starts e (slice_get c.exits x) from in
     let source : s.0.source ≡ e = eqb-true s.0.source e s.2 in
-    let up : LeadsUp (length c.owners) s.0 = all_at (LeadsUp (length c.owners)) c.exits x s.0 s.1 (all_lead_up c v) in
+    let up : LeadsUp (length c.owners) s.0 = all_got (LeadsUp (length c.owners)) c.exits x s.0 s.1 (all_lead_up c v) in
     let most = greatest_member (λ (y : SetupExit). total (reach c) y.targets) e c.exits x s.0 s.1 s.2 in
     let n = next_reach c v (reach c) e there (λ t higher below. refl) in
     subst (λ o. Leads c e (targets_at o)) (sym s.1) (record {
@@ -78,15 +78,6 @@ pub few_blocks : (c : Setup) (es : List ℕ) → IsValid c → AllByRecursion (�
 few_blocks c [] v all = omega arith
 few_blocks c (e ∷ es) v all = let r = few_blocks c es v all.1 in let one = one_at_least c e v all.0 in omega arith
 
-pub below_all : (c : Setup) (e : ℕ) (ts : List ℕ) → AllByRecursion (λ t. (e < t) × (t < length c.owners)) ts
-    → AllByRecursion (λ t. t < length c.owners) ts
-below_all c e [] all = tt
-below_all c e (t ∷ ts) all = (all.0.1, below_all c e ts all.1)
-
-pub targets_is : (c : Setup) (exit : ℕ) → (exit ≡ 0 → ⊥) → targets_of c exit ≡ targets_at (slice_get c.exits (exit - 1))
-targets_is c zero some = absurd (some refl)
-targets_is c (suc x) some = let minus : suc x - 1 ≡ x = omega arith in ap (λ i. targets_at (slice_get c.exits i)) (sym minus)
-
 within_some : (k : ℕ) (c : Setup) (e : ℕ) → 0 < k → 1 ≤ reach_within k c e
 within_some zero c e lt = absurd (omega arith)
 within_some (suc k) c e lt = omega arith
@@ -100,5 +91,5 @@ pub room_for : (c : Setup) (e left room : ℕ) (ts pending : List ℕ) → IsVal
     → reach c e + total (reach c) pending ≤ left → left ≤ events_limit → left ≤ room → length pending + length ts ≤ room
 room_for c e left room ts pending v leads there cost few fits =
     let a = leads.cost (omega arith) in
-    let b = few_blocks c ts v (below_all c e ts leads.up) in
+    let b = few_blocks c ts v (all_map (λ t up. up.1) ts leads.up) in
     let d = few_blocks c pending v there in omega arith

@@ -3,6 +3,7 @@
 use Rattle.std.proofs.Common.{◌≡◌, ℕ, ◌+◌, ◌≤◌, ◌==◌, not, Bool, true, false, List, [], ◌∷◌, ◌++◌, length, Option, Some, None, Result, Ok}
 use Rattle.std.proofs.Common.{get_or, slice_index, refl, sym, ap, ◌∙◌, subst, arith}
 use Rattle.std.proofs.lemmas.Bool.{eq-eqb, false≢true}
+use Rattle.std.proofs.lemmas.Option.{some_pair_parts}
 use Rattle.mv_ecb.specs.declared.operation.EcbOp.TheVariants.{Arm, Settle}
 use Rattle.mv_ecb.specs.declared.operation.EcbReply.TheVariants as ecb_reply
 use Rattle.mv_machine.specs.declared.entry.Object.{Object}
@@ -34,16 +35,8 @@ use Rattle.mv_wait.specs.declared.waiting.WaitSlot.TheVariants as slot
 abbrev pub event : Object → Op → Object × Op
 event o op = (o, op)
 
-abbrev object_in : Object → Option (Object × Op) → Object
-object_in o None = o
-object_in o (Some x) = x.0
-
-abbrev op_in : Op → Option (Object × Op) → Op
-op_in op None = op
-op_in op (Some x) = x.1
-
 pub asked_is : (o p : Object) (op oq : Op) → Some (event o op) ≡ Some (event p oq) → (p ≡ o) × (oq ≡ op)
-asked_is o p op oq q = (sym (ap (object_in o) q), sym (ap (op_in op) q))
+asked_is o p op oq q = let is : (o ≡ p) × (op ≡ oq) = some_pair_parts o p op oq q in (sym is.0, sym is.1)
 
 -- ---- the wait
 
@@ -52,7 +45,7 @@ abbrev pub FoundIt : ℕ → Result (List (Option ℕ)) Refusal → CallerFace �
 FoundIt ecb a t u = (code : ℕ) × (a ≡ Ok (Some code ∷ [])) × WaitedFor ecb code t u
 
 -- a block of the task's own that is not extended is not refused
-pub unrefused : (c : Setup) (ecb : ℕ) (kept : Kept) → is_others_block c kept ecb ≡ false → kept.extended ecb ≡ false
+unrefused : (c : Setup) (ecb : ℕ) (kept : Kept) → is_others_block c kept ecb ≡ false → kept.extended ecb ≡ false
     → wait_refusal c 1 (ecb ∷ []) kept ≡ None
 unrefused c ecb kept own plain = rw (own, plain) refl
 

@@ -3,6 +3,7 @@ use Rattle.std.proofs.Common.{◌≡◌, ℕ, zero, suc, ◌+◌, ◌-◌, ◌<�
 use Rattle.std.proofs.Common.{◌∙◌, subst, arith}
 use Rattle.std.specs.List.{AllByRecursion}
 use Rattle.mv_ecb.specs.declared.operation.EcbOp.TheVariants.{Post}
+use Rattle.mv_latch.proofs.Joined.{both_empty}
 use Rattle.mv_machine.specs.declared.entry.Object.{Object}
 use Rattle.mv_machine.specs.declared.entry.Object.TheVariants.{Ecb}
 use Rattle.mv_machine.specs.declared.entry.Op.{Op}
@@ -74,15 +75,11 @@ module _ (c : Setup) (code : ℕ) where
   ends_one a x f [] e none = ap (λ p. Done p) e
   ends_one a x f (n ∷ es) e none = absurd (cc none)
 
-  first_empty : (es more : List ℕ) → es ++ more ≡ [] → (es ≡ []) × (more ≡ [])
-  first_empty [] more e = (refl, e)
-  first_empty (n ∷ es) more e = absurd (cc e)
-
   pub ends : (a x : Posting) (fs : List Frame) → EndsIn a fs → flat fs ≡ [] → behind (Done x) fs ≡ Done a
   ends a x [] e none = absurd e
-  ends a x (f ∷ []) e none = ends_one a x f f.blocks e (first_empty f.blocks [] none).0
+  ends a x (f ∷ []) e none = ends_one a x f f.blocks e (both_empty f.blocks [] none).0
   ends a x (f ∷ g ∷ fs) e none =
-      let parts = first_empty f.blocks (flat (g ∷ fs)) none in
+      let parts = both_empty f.blocks (flat (g ∷ fs)) none in
       subst (λ (es : List ℕ). behind (and_then (Done x) (λ p. each_posted (post_within f.depth c code) es f.answer)) (g ∷ fs) ≡ Done a)
       (sym parts.0)
       (ends a f.answer (g ∷ fs) e parts.1)

@@ -1,10 +1,13 @@
 -- The parts of a wait.
-use Rattle.std.proofs.Common.{◌≡◌, ◌≢◌, ℕ, zero, suc, get_or, set, not, ◌+◌, ◌<◌, ◌≤◌, ◌==◌, Bool, true, false, ◌||◌, List, [], ◌∷◌, ◌++◌}
+use Rattle.std.proofs.Common.{◌≡◌, ◌≢◌, ℕ, zero, suc, set, not, ◌+◌, ◌<◌, ◌≤◌, ◌==◌, Bool, true, false, ◌||◌, List, [], ◌∷◌, ◌++◌}
 use Rattle.std.proofs.Common.{length, cond, take, drop, Some, Option, None, ◌⊎◌, inl, inr, refl, sym, ap, ◌∙◌, subst}
 use Rattle.std.proofs.Common.{arith}
 use Rattle.std.proofs.lemmas.List.{take_more_set}
 use Rattle.std.proofs.lemmas.Bool.{false≢true, eq-eqb, eqb-true, ne_eqb, or_left}
 use Rattle.std.specs.List.{AllByRecursion, list_any, Contains}
+use Rattle.std.proofs.lemmas.List.Elements.{Contains-push}
+use Rattle.std.proofs.lemmas.List.Folds.{list_any-append}
+use Rattle.mv_latch.proofs.Members.{Found, found, finds}
 use Rattle.mv_ecb.specs.declared.operation.EcbOp.TheVariants.{Arm, Settle}
 use Rattle.mv_ecb.specs.declared.operation.EcbReply.TheVariants as ecb_reply
 use Rattle.mv_machine.specs.declared.entry.Object.TheVariants.{Ecb}
@@ -33,25 +36,6 @@ use Rattle.mv_wait.proofs.Runs.{entry_of, runs_word}
 
 -- ---- lists
 
-contains_first : {A : Type 0} (x : A) (xs : List A) → Contains (x ∷ xs) x
-contains_first x xs = (0, omega arith, refl)
-
-contains_more : {A : Type 0} (x y : A) (xs : List A) → Contains xs x → Contains (y ∷ xs) x
-contains_more x y xs p = (suc p.0, omega (arith, p.1), p.2)
-
-any-append : {A : Type 0} (test : A → Bool) (xs ys : List A) → list_any test (xs ++ ys) ≡ (list_any test xs || list_any test ys)
-any-append test [] ys = refl
-any-append test (x ∷ xs) ys = or_more (test x) (list_any test (xs ++ ys)) (list_any test xs) (list_any test ys)
-    (any-append test xs ys) where
-      or_more : (a b c d : Bool) → b ≡ (c || d) → (a || b) ≡ ((a || c) || d)
-      or_more true b c d e = refl
-      or_more false b c d e = e
-
-pub all_at : {A : Type 0} (P : A → Type 0) (xs : List A) (i : ℕ) (x : A) → AllByRecursion P xs → i < length xs → get_or xs i x ≡ x → P x
-all_at P [] i x all lt e = absurd (omega arith)
-all_at P (y ∷ xs) zero x all lt e = subst P e all.0
-all_at P (y ∷ xs) (suc i) x all lt e = all_at P xs i x all.1 (omega arith) e
-
 pub distinct_rest : (i : ℕ) (es : List ℕ) → AreDistinct es → AreDistinct (drop i es)
 distinct_rest zero es d = d
 distinct_rest (suc i) [] d = tt
@@ -64,26 +48,16 @@ block_watch n (watch.Ecb m) e = ap (λ j. watch.Ecb j) (eqb-true m n e)
 block_watch n (watch.Element m) e = absurd (false≢true e)
 block_watch n (watch.Latch latch id) e = absurd (false≢true e)
 
-pick : (n : ℕ) (w : Watch) (ws : List Watch) (b : Bool) → is_block n w ≡ b → (b || is_listed ws n) ≡ true
-    → (is_listed ws n ≡ true → Contains ws (watch.Ecb n)) → Contains (w ∷ ws) (watch.Ecb n)
-pick n w ws true is e rest = subst (λ v. Contains (v ∷ ws) (watch.Ecb n)) (sym (block_watch n w is)) (contains_first (watch.Ecb n) ws)
-pick n w ws false is e rest = contains_more (watch.Ecb n) w ws (rest e)
-
 pub listed_contains : (ws : List Watch) (n : ℕ) → is_listed ws n ≡ true → Contains ws (watch.Ecb n)
-listed_contains [] n e = absurd (false≢true e)
-listed_contains (w ∷ ws) n e = pick n w ws (is_block n w) refl e (listed_contains ws n)
-
-or_second : (a : Bool) → (a || true) ≡ true
-or_second true = refl
-or_second false = refl
+listed_contains ws n e =
+    let is : Found (is_block n) ws = found (is_block n) ws e in subst (Contains ws) (block_watch n is.0 is.2) is.1
 
 -- a watch more keeps what is listed, and lists its own block
 pub listed_still : (ws : List Watch) (w : Watch) (n : ℕ) → is_listed ws n ≡ true → is_listed (ws ++ w ∷ []) n ≡ true
-listed_still ws w n e = any-append (is_block n) ws (w ∷ []) ∙ or_left (is_listed ws n) (is_listed (w ∷ []) n) e
+listed_still ws w n e = list_any-append (is_block n) ws (w ∷ []) ∙ or_left (is_listed ws n) (is_listed (w ∷ []) n) e
 
 pub listed_new : (ws : List Watch) (n : ℕ) → is_listed (ws ++ watch.Ecb n ∷ []) n ≡ true
-listed_new ws n = any-append (is_block n) ws (watch.Ecb n ∷ [])
-    ∙ (ap (λ b. is_listed ws n || (b || false)) (eq-eqb n n refl) ∙ or_second (is_listed ws n))
+listed_new ws n = finds (is_block n) (watch.Ecb n) (ws ++ watch.Ecb n ∷ []) (Contains-push ws (watch.Ecb n)) (eq-eqb n n refl)
 
 pub count_one : (ws : List Watch) (e : ℕ) (es : List ℕ) → listed_count ws (e ∷ es) ≡ cond (is_listed ws e) 1 0 + listed_count ws es
 count_one ws e es = go (is_listed ws e) refl where
@@ -136,7 +110,7 @@ armed_more es log k e place reply a =
     let x : Entry = record { caller = k; object = Ecb e; place = place; op = op_on.Ecb Arm; reply = reply } in record {
       armed = λ n. ap (λ w. w.armed n) (after_one log x)
           ∙ (armed_one (waits_from no_waits log).armed e n (list_any (λ m. n == m) es) (a.armed n)
-          ∙ sym (any-append (λ m. n == m) es (e ∷ [])));
+          ∙ sym (list_any-append (λ m. n == m) es (e ∷ [])));
       parked = λ n. ap (λ w. w.parked n) (after_one log x) ∙ a.parked n;
       queued = λ latch id. ap (λ w. w.queued latch id) (after_one log x) ∙ a.queued latch id;
     }

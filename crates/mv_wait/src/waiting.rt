@@ -327,9 +327,8 @@ fn not_owned(config: &ValidConfig, caller: u32, ecbs: &[u32]) -> Option<u32>
     requires blocks { AllByRecursion (λ e. e < length config.now.owners) ecbs.now }
     ensures { option_map (λ p. NotOwnerAt p) result ≡ refused_at NotOwnerAt (λ e. not (owner_of config.now e == caller)) 0 ecbs.now }
 {
-    let owners = &config.config().owners;
     for p in 0..ecbs.len() {
-        if owners[ecbs[p] as usize] != caller {
+        if !config.owns_ecb(caller, ecbs[p]) {
             return Some(p as u32);
         }
     }

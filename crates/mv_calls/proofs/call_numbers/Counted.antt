@@ -4,11 +4,12 @@ use Rattle.std.proofs.Common.{Result, Ok, Err, IfOk}
 use Rattle.std.proofs.lemmas.List.{length-set}
 use Rattle.mv_latch.specs.declared.operation.Wake.{Wake}
 use Rattle.mv_machine.specs.declared.entry.Entry.{Entry}
-use Rattle.mv_machine.specs.Legal.{IsNext, Legal, next, after_from, after}
+use Rattle.mv_machine.specs.Legal.{IsNext, next, after_from, after}
 use Rattle.mv_machine.specs.Setup.{Setup}
 use Rattle.mv_machine.specs.System.{System, opening, after_step, wakes_after, with_at}
 use Rattle.mv_machine.specs.Told.{last_wakes}
-use Rattle.mv_machine.proofs.Histories.{after_from-append, LegalFrom-rest}
+use Rattle.mv_machine.proofs.Histories.{after_from-append}
+use Rattle.mv_machine.proofs.Longer.{last_is_next}
 use Rattle.mv_machine.proofs.Merged.{caller_there}
 use Rattle.mv_machine.proofs.Replays.{last_wakes_from-append, shown_is}
 use Rattle.mv_calls.specs.declared.counters.CallCounters.{CallCounters}
@@ -18,10 +19,6 @@ use Rattle.mv_calls.specs.Numbers.{Numbering, unnumbered, numbered, numbered_at,
 use Rattle.mv_calls.proofs.call_numbers.Kept.{counted-read, one_counted, round_low}
 
 -- ---- the machine that takes a step with the entry
-
--- the last entry of a legal list is the next behind the others
-pub last_is_next : (c : Setup) (es : List Entry) (e : Entry) → Legal c (es ++ e ∷ []) → IsNext c (after c es) e
-last_is_next c es e l = (LegalFrom-rest c (opening c) es (e ∷ []) l).0
 
 -- the machine is then the one behind all
 pub stepped_after : (c : Setup) (es : List Entry) (e : Entry) (s t : System) → IsNext c (after c es) e → s ≡ after c es

@@ -6,13 +6,14 @@ use Rattle.mv_machine.specs.Legal.{IsNext, Legal, after}
 use Rattle.mv_machine.specs.Setup.{Setup}
 use Rattle.mv_machine.specs.State.{system_of, wakes_of, IsOpenedWith}
 use Rattle.mv_machine.specs.System.{System, opening, after_step, wakes_after}
+use Rattle.mv_machine.proofs.Longer.{last_is_next}
 use Rattle.mv_machine.proofs.Replays.{legal_push}
 use Rattle.mv_calls.specs.declared.judge.Judge.{Judge}
 use Rattle.mv_calls.specs.Counters.{IsCountable, IsCountedNext}
 use Rattle.mv_calls.specs.Judge.{HasJudged, IsJudgedNext}
 use Rattle.mv_calls.specs.Numbers.{calls}
 use Rattle.mv_calls.proofs.call_numbers.Prefixes.{legal_take, one_more}
-use Rattle.mv_calls.proofs.call_numbers.Counted.{last_is_next, stepped_after, stepped_wakes}
+use Rattle.mv_calls.proofs.call_numbers.Counted.{stepped_after, stepped_wakes}
 
 module _ (c : Setup) (es : List Entry) (j : Judge) (e : Entry) (h : HasJudged c es j) where
   next_there : IsNext c (system_of j.state) e → IsNext c (after c es) e

@@ -5,13 +5,14 @@ use Rattle.std.specs.List.{AllByRecursion}
 use Rattle.mv_machine.specs.Chains.{HasFewGoodTargets}
 use Rattle.mv_machine.specs.declared.config.Exit.{Exit}
 use Rattle.mv_machine.specs.Config.{exit_of}
-use Rattle.mv_machine.proofs.Chains.{all_at, chains_more, found}
+use Rattle.mv_machine.proofs.Chains.{chains_more, found}
+use Rattle.mv_machine.proofs.Lists.{all_got}
 use Rattle.mv_machine.proofs.reaching.chains_of.Goals as goal
 
 good_source : (n : ℕ) (exits : List Exit) (i : ℕ) (e : Exit) → i < length exits → e ≡ get_or exits i e
     → AllByRecursion (HasFewGoodTargets n) (map exit_of exits) → e.source < n
 good_source n exits i e lt is good =
-    let h : HasFewGoodTargets n (exit_of e) = all_at (HasFewGoodTargets n) (map exit_of exits) i (exit_of e) (found exits i e lt is) good in
+    let h : HasFewGoodTargets n (exit_of e) = all_got (HasFewGoodTargets n) (map exit_of exits) i (exit_of e) (found exits i e lt is) good in
     h.source
 
 pub index-requires : goal.index-requires

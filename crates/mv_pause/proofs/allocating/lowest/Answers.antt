@@ -1,8 +1,9 @@
 use Rattle.std.proofs.Common.{ℕ, Bool, ◌+◌, ◌*◌, ◌/◌, ◌<◌, not, sym, ap, ◌∙◌, subst}
 use Rattle.std.specs.List.{AllByRecursion}
+use Rattle.std.proofs.lemmas.Nat.{div-mul-add}
 use Rattle.mv_machine.specs.Setup.{Setup}
 use Rattle.mv_calls.specs.Keeping.{kept_of}
-use Rattle.mv_pause.proofs.Lowest.{own_place, own_owner, find_next, find_here, find_none, find_first, lowest_by}
+use Rattle.mv_pause.proofs.Lowest.{own_place, find_next, find_here, find_none, find_first, lowest_by}
 use Rattle.mv_pause.proofs.allocating.lowest.Goals as goal
 
 pub loop-i-init : goal.loop-i-init
@@ -17,7 +18,7 @@ in_use-requires c =
       c.args.station.now.config,
       c.requires.1,
       ap (λ d. (c.number.result * e + c.loop-i.i) / d) (sym few)
-          ∙ (own_owner c.number.result e c.loop-i.i c.loop-i-test.true ∙ c.number.ensures.number),
+          ∙ (div-mul-add c.number.result e c.loop-i.i c.loop-i-test.true ∙ c.number.ensures.number),
     )
 
 pub loop-i-preserved : goal.loop-i-preserved
@@ -41,7 +42,7 @@ returns-then-not-in_use c =
         subst (λ d. c.number.result * e + c.loop-i.i < s.callers * d) few
             (own_place c.number.result s.callers e c.loop-i.i exists c.loop-i-test.true),
         ap (λ d. (c.number.result * e + c.loop-i.i) / d) (sym few)
-            ∙ (own_owner c.number.result e c.loop-i.i c.loop-i-test.true ∙ c.number.ensures.number),
+            ∙ (div-mul-add c.number.result e c.loop-i.i c.loop-i-test.true ∙ c.number.ensures.number),
       );
     }
 

@@ -1,6 +1,6 @@
 use Rattle.std.proofs.Common.{◌≢◌, ◌<◌, sym, ◌∙◌, arith, length, length-set, slice_index_or}
 use Rattle.std.proofs.lemmas.Grind.{get_or_default_zero}
-use Rattle.mv_wait.proofs.Waits.{all_at}
+use Rattle.mv_machine.proofs.Lists.{all_at}
 use Rattle.mv_wait.proofs.Doubled.{stands_twice, stands_once, noted_next}
 use Rattle.mv_wait.proofs.waiting.doubled.Goals as goal
 use Rattle.mv_wait.proofs.waiting.doubled.Goals.{else-place-p-via-then-place-p+else-ecbs-place, else-place-p-via-else-place-p}
@@ -23,8 +23,8 @@ loop-p-preserved c =
     ] in
     let size = c.loop-p.invariant.size in
     let block : e < length places =
-    let within = all_at (λ x. x < length c.args.places.now) es p e c.requires.blocks c.loop-p-test.true
-    (get_or_default_zero es p e c.loop-p-test.true) in omega arith in record {
+    let within = all_at (λ x. x < length c.args.places.now) es e c.requires.blocks
+    (p, c.loop-p-test.true, get_or_default_zero es p e c.loop-p-test.true) in omega arith in record {
       distinct = c.loop-p.invariant.distinct ∙ stands_once places es p c.loop-p-test.true c.loop-p.invariant.noted differs;
       noted = noted_next places es p c.loop-p-test.true c.loop-p.invariant.noted differs block;
       size = length-set places e p ∙ size;
