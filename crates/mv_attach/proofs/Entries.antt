@@ -3,7 +3,7 @@
 use Rattle.std.proofs.Common.{◌≡◌, ℕ, ◌+◌, ◌<◌, ◌==◌, List, [], ◌∷◌, ◌++◌, ◌⊎◌, inl, inr, Some, refl, sym, ap, ◌∙◌, subst, arith}
 use Rattle.std.proofs.Common.{append_assoc}
 use Rattle.std.proofs.lemmas.Bool.{cases_eq, eq-eqb, ne_eqb, false≢true}
-use Rattle.std.proofs.lemmas.List.Elements.{Contains-append_right, filter_map-append}
+use Rattle.std.proofs.lemmas.List.Elements.{Contains-append_left, Contains-append_right, filter_map-append}
 use Rattle.std.specs.List.{AllByRecursion, Contains}
 use Rattle.mv_ecb.specs.declared.operation.EcbOp.{EcbOp}
 use Rattle.mv_ecb.specs.declared.operation.EcbOp.TheVariants.{Arm, Extend, Settle, Post, Test}
@@ -31,7 +31,7 @@ use Rattle.mv_machine.proofs.EntryRuns.{entry_of}
 use Rattle.mv_machine.proofs.Lists.{all_at, all_filter, all_front}
 use Rattle.mv_machine.proofs.Orderly.{history_is_orderly}
 use Rattle.mv_board.specs.Faces.{CallerFace}
-use Rattle.mv_calls.proofs.Hearing.{of_own, of_other}
+use Rattle.mv_machine.proofs.Places.{of_mine, of_other}
 use Rattle.mv_calls.proofs.Interleaved.{callers_exist}
 use Rattle.mv_wait.specs.OneBlock.{WaitedFor}
 use Rattle.mv_attach.specs.Entries.{Finds, IsAccepted, IsPosted}
@@ -42,11 +42,11 @@ parts_all : (P : ℕ → Entry → Type 0) (m : ℕ) (es : List Entry) → AllBy
     → ((k : ℕ) → k < m → AllByRecursion (P k) (of k es)) → AllByRecursion (λ e. P e.caller e) es
 parts_all P m [] callers parts = tt
 parts_all P m (e ∷ es) callers parts = (
-  (subst (AllByRecursion (P e.caller)) (of_own e.caller e es refl) (parts e.caller callers.0)).0,
+  (subst (AllByRecursion (P e.caller)) (of_mine e.caller e es refl) (parts e.caller callers.0)).0,
   parts_all P m es callers.1 (λ k lt. rest k lt (cases_eq e.caller k)),
 ) where
   rest : (k : ℕ) → k < m → (e.caller ≡ k) ⊎ (e.caller ≡ k → ⊥) → AllByRecursion (P k) (of k es)
-  rest k lt (inl own) = (subst (AllByRecursion (P k)) (of_own k e es own) (parts k lt)).1
+  rest k lt (inl own) = (subst (AllByRecursion (P k)) (of_mine k e es own) (parts k lt)).1
   rest k lt (inr other) = subst (AllByRecursion (P k)) (of_other k e es other) (parts k lt)
 
 pub all_entries : (P : ℕ → Entry → Type 0) (c : Setup) (es : List Entry) → Legal c es
@@ -133,6 +133,15 @@ pub found_was_posted : (c : Setup) (es : List Entry) (k n code : ℕ) → Legal 
 found_was_posted c es k n code legal f =
     all_at (IsTrueFind es) es f.entry (all_posted es c (opening c) es legal (λ e i. i) (λ m d is. absurd (cc is)))
     (own_entry k es f.entry f.member) n code f.object f.found
+
+-- what a log finds, a longer one finds
+pub finds_longer : (old new more : List Entry) (n code : ℕ) → new ≡ old ++ more → Finds old n code → Finds new n code
+finds_longer old new more n code logged f = record {
+  entry = f.entry;
+  member = subst (λ es. Contains es f.entry) (sym logged) (Contains-append_left old more f.entry f.member);
+  object = f.object;
+  found = f.found;
+}
 
 -- a wait for one block found it so
 pub waited_finds : (ecb code : ℕ) (t u : CallerFace) → WaitedFor ecb code t u → Finds u.log ecb code

@@ -1,9 +1,8 @@
 -- What the calls of the writer and of a reader leave of their task. Used by write_pair and read_pair.
-use Rattle.std.proofs.Common.{◌≡◌, ℕ, ◌≤◌, ◌<◌, false, List, [], ◌∷◌, ◌++◌, length, get_or, Result, inl, inr, refl, sym, ap, ◌∙◌}
+use Rattle.std.proofs.Common.{◌≡◌, ℕ, ◌≤◌, false, List, [], ◌∷◌, ◌++◌, Result, inl, inr, refl, sym, ap, ◌∙◌}
 use Rattle.std.proofs.Common.{subst, arith, append_assoc}
 use Rattle.std.proofs.lemmas.List.{append-nil}
 use Rattle.std.proofs.Common.{le_refl}
-use Rattle.std.proofs.lemmas.List.{get_or_default}
 use Rattle.std.specs.List.{AllByRecursion, Contains}
 use Rattle.mv_latch.specs.declared.operation.LatchOp.TheVariants.{Obtain, Confirm, Release}
 use Rattle.mv_latch.specs.declared.operation.LatchReply.TheVariants.{Granted, Queued}
@@ -241,6 +240,3 @@ all_read_later t u (pair ∷ pairs) l all = (read_later t u pair l all.0, all_re
 -- a release is one event
 pub cheap : (c : Setup) → (pairs reads : ℕ) × (c ≡ cache_setup pairs reads) → release_cost c ≤ 1
 cheap c has = subst (λ (s : Setup). release_cost s ≤ 1) (sym has.2) (le_refl 1)
-
-pub index_in : (pairs : List Pair) (n : ℕ) (d : Pair) → n < length pairs → Contains pairs (get_or pairs n d)
-index_in pairs n d lt = (n, lt, get_or_default pairs n (get_or pairs n d) d lt)

@@ -1,15 +1,15 @@
 -- What a log keeps to, with one entry more. Used by write_pair and read_pair.
-use Rattle.std.proofs.Common.{◌≡◌, ℕ, ◌||◌, Bool, true, List, [], ◌∷◌, ◌++◌, inr, refl, sym, ap, ◌∙◌, subst, append_assoc}
-use Rattle.std.proofs.lemmas.Bool.{eq-eqb, or_right}
+use Rattle.std.proofs.Common.{◌≡◌, ℕ, ◌||◌, Bool, List, [], ◌∷◌, ◌++◌, inr, refl, sym, ap, ◌∙◌, subst, append_assoc}
+use Rattle.std.proofs.lemmas.Bool.{eq-eqb}
 use Rattle.std.proofs.lemmas.List.{append-nil}
-use Rattle.std.proofs.lemmas.List.Elements.{Contains-append_right}
 use Rattle.std.proofs.lemmas.List.Folds.{list_any-append}
 use Rattle.std.specs.List.{AllByRecursion, Contains, list_any}
+use Rattle.std.proofs.lemmas.List.Elements.{Contains-push}
+use Rattle.mv_latch.proofs.Joined.{some_any}
 use Rattle.mv_latch.specs.declared.operation.LatchOp.TheVariants.{Obtain, Confirm, Purge}
 use Rattle.mv_latch.specs.declared.operation.LatchReply.TheVariants.{Granted, Queued}
 use Rattle.mv_latch.specs.declared.request.LatchForm.TheVariants.{Waiting}
 use Rattle.mv_latch.specs.declared.request.Mode.{Mode}
-use Rattle.mv_latch.proofs.Members.{first_is_in}
 use Rattle.mv_machine.specs.declared.entry.Entry.{Entry}
 use Rattle.mv_machine.specs.declared.entry.Object.{Object}
 use Rattle.mv_machine.specs.declared.entry.Object.TheVariants.{Volume, Latches}
@@ -18,9 +18,10 @@ use Rattle.mv_machine.specs.declared.entry.Op.TheVariants as op_on
 use Rattle.mv_machine.specs.declared.entry.Reply.{Reply}
 use Rattle.mv_machine.specs.declared.entry.Reply.TheVariants as reply_of
 use Rattle.mv_machine.specs.declared.entry.VolumeOp.TheVariants.{Write}
-use Rattle.mv_machine.specs.Kept.{StandingRequest, standing, standing_from, stands_with}
+use Rattle.mv_machine.specs.Kept.{StandingRequest, standing, stands_with}
 use Rattle.mv_machine.proofs.EntryRuns.{entry_of}
 use Rattle.mv_calls.specs.Sections.{tells_grant}
+use Rattle.mv_calls.proofs.Purged.{standing_from-append}
 use Rattle.mv_cache.specs.declared.cache.Pair.{Pair}
 use Rattle.mv_cache.specs.Whole.{HoldsLatch, value_with, value_from, pair_of, IsAllowed, AreAllowed, IsWhole, StaysWhole, first_pair}
 
@@ -111,14 +112,6 @@ calm_stays_whole pairs log (e ∷ es) all written calm =
 
 -- ---- who holds the latch by its log
 
-standing-append : (ts : List StandingRequest) (xs ys : List Entry) → standing_from ts (xs ++ ys) ≡ standing_from (standing_from ts xs) ys
-standing-append ts [] ys = refl
-standing-append ts (x ∷ xs) ys = standing-append (stands_with x.caller ts x.object x.op x.reply) xs ys
-
-told_last : (test : Entry → Bool) (log : List Entry) (e : Entry) → test e ≡ true → list_any test (log ++ e ∷ []) ≡ true
-told_last test [] e is = rw is refl
-told_last test (x ∷ log) e is = or_right (test x) (list_any test (log ++ e ∷ [])) (told_last test log e is)
-
 volume_keeps : (k n : ℕ) (ts : List StandingRequest) (o : Object) (op : Op) (r : Reply) → o ≡ Volume n → stands_with k ts o op r ≡ ts
 volume_keeps k n ts (Volume m) op r at = refl
 volume_keeps k n ts o op r at = absurd (cc at)
@@ -134,7 +127,7 @@ still_holds mode k n log e at h =
       mine = h.mine;
       granted = record {
         stands = subst (λ ts. Contains ts h.request)
-            (sym (standing-append [] log (e ∷ []) ∙ volume_keeps e.caller n (standing log) e.object e.op e.reply at)) h.granted.stands;
+            (sym (standing_from-append [] log (e ∷ []) ∙ volume_keeps e.caller n (standing log) e.object e.op e.reply at)) h.granted.stands;
         told = list_any-append test log (e ∷ []) ∙ ap (λ b. b || list_any test (e ∷ [])) h.granted.told;
       };
     }
@@ -149,9 +142,6 @@ request_of k id mode requestor = record {
 abbrev pub asked_entry : ℕ → ℕ → Mode → ℕ → Reply → Entry
 asked_entry k place mode requestor reply = entry_of k Latches place (op_on.Latch (Obtain 0 requestor mode Waiting)) reply
 
-stands_last : (ts : List StandingRequest) (t : StandingRequest) → Contains (ts ++ t ∷ []) t
-stands_last ts t = Contains-append_right ts (t ∷ []) t (first_is_in t [] t refl)
-
 -- one that is granted at once
 pub holds_at_once : (k place id : ℕ) (mode : Mode) (requestor : ℕ) (log : List Entry)
     → HoldsLatch mode k (log ++ asked_entry k place mode requestor (reply_of.Latch (Granted id)) ∷ [])
@@ -163,8 +153,8 @@ holds_at_once k place id mode requestor log =
       mode = refl;
       mine = refl;
       granted = record {
-        stands = subst (λ ts. Contains ts t) (sym (standing-append [] log (e ∷ []))) (stands_last (standing log) t);
-        told = told_last (λ x. tells_grant 0 id x.op x.reply) log e (rw (eq-eqb id id refl) refl);
+        stands = subst (λ ts. Contains ts t) (sym (standing_from-append [] log (e ∷ []))) (Contains-push (standing log) t);
+        told = some_any (λ x. tells_grant 0 id x.op x.reply) log e (rw (eq-eqb id id refl) refl);
       };
     }
 
@@ -184,8 +174,8 @@ holds_confirmed k place at id mode requestor log =
       mode = refl;
       mine = refl;
       granted = record {
-        stands = subst (λ ts. Contains ts t) (sym (standing-append [] (log ++ e ∷ []) (f ∷ []) ∙ standing-append [] log (e ∷ [])))
-            (stands_last (standing log) t);
-        told = told_last (λ x. tells_grant 0 id x.op x.reply) (log ++ e ∷ []) f (rw (eq-eqb id id refl) refl);
+        stands = subst (λ ts. Contains ts t) (sym (standing_from-append [] (log ++ e ∷ []) (f ∷ []) ∙ standing_from-append [] log (e ∷ [])))
+            (Contains-push (standing log) t);
+        told = some_any (λ x. tells_grant 0 id x.op x.reply) (log ++ e ∷ []) f (rw (eq-eqb id id refl) refl);
       };
     }

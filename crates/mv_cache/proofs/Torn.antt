@@ -26,7 +26,7 @@ use Rattle.mv_machine.proofs.Histories.{LegalFrom-front, with_at-same, with_at-o
 use Rattle.mv_machine.proofs.Lists.{all_back}
 use Rattle.mv_machine.proofs.Objects.{of-append}
 use Rattle.mv_calls.specs.Sections.{HasGrant, IsHolder, IsSection, IsGuarded, is_write}
-use Rattle.mv_calls.proofs.Hearing.{of_own, of_other}
+use Rattle.mv_machine.proofs.Places.{of_mine, of_other}
 use Rattle.mv_calls.proofs.Interleaved.{callers_exist}
 use Rattle.mv_calls.proofs.Sections.{one_holder, section_keeps_volume}
 use Rattle.mv_cache.specs.declared.cache.Pair.{Pair}
@@ -57,7 +57,7 @@ first_place k x es (y ∷ front) e rest own next is =
       before = x ∷ p.before;
       later = p.later;
       split = ap (λ ys. x ∷ ys) p.split;
-      own = of_own k x p.before own ∙ (λ i. same i ∷ p.own i);
+      own = of_mine k x p.before own ∙ (λ i. same i ∷ p.own i);
       others = p.others;
     }
 
@@ -70,7 +70,7 @@ place_next : (k : ℕ) (x : Entry) (es front : List Entry) (e : Entry) (rest : L
     → Place k (x ∷ es) front e rest
 place_next k x es front e rest next is = by_caller (cases_eq x.caller k) where
   by_caller : (x.caller ≡ k) ⊎ (x.caller ≡ k → ⊥) → Place k (x ∷ es) front e rest
-  by_caller (inl own) = first_place k x es front e rest own next (sym (of_own k x es own) ∙ is)
+  by_caller (inl own) = first_place k x es front e rest own next (sym (of_mine k x es own) ∙ is)
   by_caller (inr other) =
       let p = next front (sym (of_other k x es other) ∙ is) in record {
         before = x ∷ p.before;
@@ -91,7 +91,7 @@ Others k es = AllByRecursion (λ e. e.caller ≡ k → ⊥) es
 other_first : (k : ℕ) (x : Entry) (es : List Entry) → (of k es ≡ [] → Others k es) → of k (x ∷ es) ≡ [] → Others k (x ∷ es)
 other_first k x es next none = by_caller (cases_eq x.caller k) where
   by_caller : (x.caller ≡ k) ⊎ (x.caller ≡ k → ⊥) → Others k (x ∷ es)
-  by_caller (inl own) = absurd (let e : x ∷ of k es ≡ [] = sym (of_own k x es own) ∙ none in cc e)
+  by_caller (inl own) = absurd (let e : x ∷ of k es ≡ [] = sym (of_mine k x es own) ∙ none in cc e)
   by_caller (inr other) = (other, next (sym (of_other k x es other) ∙ none))
 
 none_own : (k : ℕ) (es : List Entry) → of k es ≡ [] → Others k es
@@ -148,7 +148,7 @@ value_after c s n (e ∷ es) l by = value_after c (next s e) n es l.1 by.1 ∙ b
   by_caller : (e.caller ≡ 0) ⊎ (e.caller ≡ 0 → ⊥)
       → value_from n ((next s e).volume n).state (of 0 es) ≡ value_from n (s.volume n).state (of 0 (e ∷ es))
   by_caller (inl own) =
-      ap (λ x. value_from n x (of 0 es)) step ∙ sym (ap (value_from n (s.volume n).state) (of_own 0 e es own))
+      ap (λ x. value_from n x (of 0 es)) step ∙ sym (ap (value_from n (s.volume n).state) (of_mine 0 e es own))
   by_caller (inr other) =
       ap (λ x. value_from n x (of 0 es)) (step ∙ unwritten n (s.volume n).state e.object e.op (λ at is. other (by.0 at is)))
       ∙ sym (ap (value_from n (s.volume n).state) (of_other 0 e es other))
@@ -195,7 +195,7 @@ module _ (c : Setup) (pairs : List Pair) (es : List Entry) (legal : Legal c es)
       let lt : k < c.callers = (all_back (λ (x : Entry). x.caller < c.callers) front (e ∷ rest)
       (subst (AllByRecursion (λ x. x.caller < c.callers)) is (callers_exist c (opening c) es legal))).0 in
       allowed_at k [] (of k front) e (of k rest)
-      (subst (AreAllowed k []) (ap (of k) is ∙ of-append k front (e ∷ rest) ∙ ap (λ xs. of k front ++ xs) (of_own k e rest refl))
+      (subst (AreAllowed k []) (ap (of k) is ∙ of-append k front (e ∷ rest) ∙ ap (λ xs. of k front ++ xs) (of_mine k e rest refl))
       (allowed k lt))
 
   unpurged : (front later : List Entry) → es ≡ front ++ later → (k : ℕ) (t : StandingRequest) → WasPurged k t front → ⊥

@@ -17,7 +17,7 @@ use Rattle.mv_machine.specs.Legal.{IsNext, LegalFrom, Legal, next, of}
 use Rattle.mv_machine.specs.Setup.{Setup, owner_of}
 use Rattle.mv_machine.specs.System.{System, Cell, opening, ecb_admitted}
 use Rattle.mv_machine.proofs.EntryRuns.{entry_of}
-use Rattle.mv_calls.proofs.Hearing.{of_own, of_other}
+use Rattle.mv_machine.proofs.Places.{of_mine, of_other}
 use Rattle.mv_handover.specs.Slots.{posts, seen_by, taken_by, takes_from, takes}
 use Rattle.mv_handover.proofs.Lists.{IsWithin, within_add, within_second}
 
@@ -149,7 +149,7 @@ module _ (c : Setup) (n : ℕ) where
 
     by_owner : (k ≡ owner_of c n) ⊎ (k ≡ owner_of c n → ⊥) → Goes s seen (entry_of k (Ecb n) p (op_on.Ecb op) r ∷ es)
     by_owner (inl mine) =
-        rw (of_own (owner_of c n) (entry_of k (Ecb n) p (op_on.Ecb op) r) es mine, takes_own) own
+        rw (of_mine (owner_of c n) (entry_of k (Ecb n) p (op_on.Ecb op) r) es mine, takes_own) own
     by_owner (inr other) =
         let same = same_seen op (and_parts _ _ h.admits).1 other r in
         rw (of_other (owner_of c n) (entry_of k (Ecb n) p (op_on.Ecb op) r) es other)
@@ -167,7 +167,7 @@ module _ (c : Setup) (n : ℕ) where
         (rest seen (subst (λ (cell : Cell EcbState). Sees seen cell.state) (sym state) sees)))
 
     by_owner : (e.caller ≡ owner_of c n) ⊎ (e.caller ≡ owner_of c n → ⊥) → Goes s seen (e ∷ es)
-    by_owner (inl mine) = rw (of_own (owner_of c n) e es mine, takes seen (of (owner_of c n) es)) after
+    by_owner (inl mine) = rw (of_mine (owner_of c n) e es mine, takes seen (of (owner_of c n) es)) after
     by_owner (inr other) = rw (of_other (owner_of c n) e es other) after
 
   step : (s : System) (es : List Entry) (k : ℕ) (o : Object) (p : ℕ) (op : Op) (r : Reply) → IsNext c s (entry_of k o p op r)

@@ -1,7 +1,6 @@
 -- What a take and a put add to a task's log, and that the task is ready behind them. Used by take and put.
-use Rattle.std.proofs.Common.{◌≡◌, ℕ, ◌==◌, Bool, true, false, not, List, [], ◌∷◌, ◌++◌, Result, Ok, refl, ap}
-use Rattle.std.proofs.Common.{◌∙◌, arith, append_assoc, if◌then◌else◌}
-use Rattle.std.proofs.lemmas.Bool.{eq-eqb}
+use Rattle.std.proofs.Common.{◌≡◌, ℕ, ◌==◌, Bool, true, false, List, [], ◌∷◌, ◌++◌, Result, Ok, refl, ap}
+use Rattle.std.proofs.Common.{sym, ◌∙◌, arith, append_assoc, if◌then◌else◌}
 use Rattle.mv_ecb.specs.declared.operation.EcbOp.TheVariants.{Clear, Post}
 use Rattle.mv_machine.specs.declared.entry.Entry.{Entry}
 use Rattle.mv_machine.specs.declared.entry.Object.TheVariants.{Ecb}
@@ -16,6 +15,7 @@ use Rattle.mv_calls.specs.Refusal as refusal
 use Rattle.mv_calls.specs.Rest.{IsAtRest}
 use Rattle.mv_calls.specs.Waits.{is_others_block, clear, the_word, refused_if}
 use Rattle.mv_calls.proofs.Making.{kept_from-append, kept_caller}
+use Rattle.mv_calls.proofs.Unrefused.{own_block as not_others}
 use Rattle.mv_wait.specs.Run.{IsServed}
 use Rattle.mv_wait.specs.OneBlock.{WaitedFor}
 use Rattle.mv_attach.proofs.Once.{served_once}
@@ -95,5 +95,4 @@ took_ready b k ecb code t u r task rest w = still_ready b k t u (w.first ∷ w.s
 
 -- whose the block is, as the calls ask it
 pub own_block : (c : Setup) (ecb : ℕ) (t : CallerFace) → owner_of c ecb ≡ t.number → is_others_block c (kept_of t.number t.log) ecb ≡ false
-own_block c ecb t own =
-    ap not (ap (λ k. owner_of c ecb == k) (kept_caller (nothing_kept t.number) t.log) ∙ eq-eqb (owner_of c ecb) t.number own)
+own_block c ecb t own = not_others c (kept_of t.number t.log) ecb (own ∙ sym (kept_caller (nothing_kept t.number) t.log))

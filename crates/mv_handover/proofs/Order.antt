@@ -2,13 +2,14 @@
 use Rattle.std.proofs.Common.{◌≡◌, ℕ, ◌<◌, ◌≤◌, List, [], ◌∷◌, ◌++◌, Vec, Global, length, get_or, ◌⊎◌, inl, inr, refl, sym, ap, ◌∙◌, subst, arith}
 use Rattle.std.proofs.lemmas.Bool.{cases_eq}
 use Rattle.std.specs.List.{AllByRecursion}
+use Rattle.mv_latch.proofs.Joined.{both_empty}
 use Rattle.mv_machine.specs.declared.entry.Entry.{Entry}
 use Rattle.mv_machine.specs.Legal.{Legal, of}
 use Rattle.mv_machine.specs.Setup.{Setup, owner_of}
 use Rattle.mv_machine.specs.System.{opening}
 use Rattle.mv_attach.proofs.Back.{log_in, last_room, no_task}
 use Rattle.mv_board.specs.Faces.{BoardFace, CallerFace, AreInOrder, IsIn}
-use Rattle.mv_calls.proofs.Hearing.{of_own, of_other}
+use Rattle.mv_machine.proofs.Places.{of_mine, of_other}
 use Rattle.mv_calls.proofs.Interleaved.{callers_exist}
 use Rattle.mv_handover.specs.Ready.{HasPut, HasTaken, HasDone}
 use Rattle.mv_handover.specs.Setup.{slots, HasSlots}
@@ -17,10 +18,6 @@ use Rattle.mv_handover.proofs.Blocks.{taken_were_posted}
 use Rattle.mv_handover.proofs.Lists.{within_same, same_parts, parts_length}
 use Rattle.mv_handover.proofs.Logs.{posts-append}
 use Rattle.mv_handover.proofs.Through.{full_owner}
-
-no_front : (xs ys : List ℕ) → xs ++ ys ≡ [] → (xs ≡ []) × (ys ≡ [])
-no_front [] ys e = (refl, e)
-no_front (x ∷ xs) ys e = absurd (cc e)
 
 -- where the second of two callers posts nothing, the first one makes all posts
 posts_of_first : (n : ℕ) (es : List Entry) → AllByRecursion (λ e. e.caller < 2) es → posts n (of 1 es) ≡ []
@@ -32,12 +29,12 @@ posts_of_first n (e ∷ es) two none = by_caller (λ rest. posts_of_first n es t
   by_caller on (inl first) =
       let rest = on (ap (posts n) (sym (of_other 1 e es (λ q. absurd (omega arith)))) ∙ none) in
       posts-append n (e ∷ []) es ∙ ap (λ xs. posts n (e ∷ []) ++ xs) rest ∙ sym (posts-append n (e ∷ []) (of 0 es))
-      ∙ ap (posts n) (sym (of_own 0 e es first))
+      ∙ ap (posts n) (sym (of_mine 0 e es first))
   by_caller on (inr other) =
       let lt = two.0 in
       let second : e.caller ≡ 1 = omega arith in
-      let both = no_front (posts n (e ∷ [])) (posts n (of 1 es))
-      (sym (posts-append n (e ∷ []) (of 1 es)) ∙ ap (posts n) (sym (of_own 1 e es second)) ∙ none) in
+      let both = both_empty (posts n (e ∷ [])) (posts n (of 1 es))
+      (sym (posts-append n (e ∷ []) (of 1 es)) ∙ ap (posts n) (sym (of_mine 1 e es second)) ∙ none) in
       posts-append n (e ∷ []) es ∙ ap (λ xs. xs ++ posts n es) both.0 ∙ on both.1 ∙ ap (posts n) (sym (of_other 0 e es other))
 
 -- every entry is one of the two callers'

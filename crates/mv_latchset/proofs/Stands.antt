@@ -1,17 +1,18 @@
 -- Which requests stand after an event on the latch set.
-use Rattle.std.proofs.Common.{◌≡◌, ℕ, ◌==◌, Bool, true, List, [], ◌∷◌, ◌++◌, refl, sym, ap, ◌∙◌, subst}
+use Rattle.std.proofs.Common.{◌≡◌, ℕ, ◌==◌, true, refl, sym, ap, ◌∙◌, subst}
 use Rattle.std.specs.List.{list_any}
-use Rattle.std.proofs.lemmas.Bool.{eq-eqb, or_left, or_right}
+use Rattle.std.proofs.lemmas.Bool.{eq-eqb}
 use Rattle.mv_latch.specs.declared.operation.LatchOp.{LatchOp}
 use Rattle.mv_latch.specs.declared.operation.LatchOp.TheVariants.{Obtain, Confirm}
 use Rattle.mv_latch.specs.declared.operation.LatchReply.{LatchReply}
 use Rattle.mv_latch.specs.declared.operation.LatchReply.TheVariants.{Granted, Queued}
 use Rattle.mv_latch.specs.declared.request.LatchForm.{LatchForm}
 use Rattle.mv_latch.specs.declared.request.Mode.{Mode}
+use Rattle.mv_latch.proofs.Joined.{some_any}
 use Rattle.mv_machine.specs.declared.entry.Object.TheVariants.{Latches}
 use Rattle.mv_machine.specs.declared.entry.Op.TheVariants as op_on
 use Rattle.mv_machine.specs.declared.entry.Reply.TheVariants as reply_of
-use Rattle.mv_machine.specs.Kept.{StandingRequest, stands_after, HasMade}
+use Rattle.mv_machine.specs.Kept.{stands_after, HasMade}
 use Rattle.mv_board.specs.Faces.{CallerFace}
 use Rattle.mv_board.proofs.Acting.{made_more}
 use Rattle.mv_calls.specs.Keeping.{Kept, kept_of}
@@ -27,24 +28,18 @@ requests_after t u op r h =
     (λ i. (kept_of (h.1.same.number i) (h.1.logged i)).requests)
     ∙ ap (λ (q : Kept). q.requests) (kept_one t.number t.log (entry_of t Latches h.0 (op_on.Latch op) (reply_of.Latch r)))
 
--- the last of some requests is among them
-last_stands : (test : StandingRequest → Bool) (ts : List StandingRequest) (x : StandingRequest) → test x ≡ true
-    → list_any test (ts ++ x ∷ []) ≡ true
-last_stands test [] x is = or_left (test x) (list_any test []) is
-last_stands test (t ∷ ts) x is = or_right (test t) (list_any test (ts ++ x ∷ [])) (last_stands test ts x is)
-
 -- one that was granted, or queued, stands
 pub granted_stands : (t u : CallerFace) (latch requestor : ℕ) (mode : Mode) (form : LatchForm) (id : ℕ)
     → IsAnswered (Obtain latch requestor mode form) (Granted id) t u → stands u id ≡ true
 granted_stands t u latch requestor mode form id h =
     ap (list_any (λ r. r.request.id == id)) (requests_after t u (Obtain latch requestor mode form) (Granted id) h)
-    ∙ last_stands (λ r. r.request.id == id) (kept_of t.number t.log).requests _ (eq-eqb id id refl)
+    ∙ some_any (λ r. r.request.id == id) (kept_of t.number t.log).requests _ (eq-eqb id id refl)
 
 pub queued_stands : (t u : CallerFace) (latch requestor : ℕ) (mode : Mode) (form : LatchForm) (id : ℕ)
     → IsAnswered (Obtain latch requestor mode form) (Queued id) t u → stands u id ≡ true
 queued_stands t u latch requestor mode form id h =
     ap (list_any (λ r. r.request.id == id)) (requests_after t u (Obtain latch requestor mode form) (Queued id) h)
-    ∙ last_stands (λ r. r.request.id == id) (kept_of t.number t.log).requests _ (eq-eqb id id refl)
+    ∙ some_any (λ r. r.request.id == id) (kept_of t.number t.log).requests _ (eq-eqb id id refl)
 
 -- and the task made it
 pub queued_is_made : (t u : CallerFace) (latch requestor : ℕ) (mode : Mode) (form : LatchForm) (id : ℕ)

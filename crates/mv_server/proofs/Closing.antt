@@ -13,7 +13,7 @@ use Rattle.mv_machine.specs.Legal.{Legal, of}
 use Rattle.mv_machine.specs.Setup.{Setup}
 use Rattle.mv_attach.specs.Entries.{Finds}
 use Rattle.mv_server.specs.Pool.{workers, pool_setup, days_in, answer_at}
-use Rattle.mv_server.specs.Right.{AreRight, HasDone, IsPosted}
+use Rattle.mv_server.specs.Right.{AreRight, HasDone, IsWorkersPost}
 use Rattle.mv_server.proofs.Answers.{found_is_answer}
 
 -- what stands in a list does not go by the default
@@ -26,13 +26,13 @@ get_or_any (x ∷ xs) (suc i) a b lt = get_or_any xs i a b (omega arith)
 pub answers_are : (c : Setup) (requests answers : List ℕ) (es : List Entry) (log : List Entry) → c ≡ pool_setup (length requests)
     → Legal c es → ((j : ℕ) → j < workers + 1 → AreRight requests j (of j es)) → of workers es ≡ log → length answers ≡ length requests
     → ((r : ℕ) → r < length requests → Finds log (workers + r) (get_or answers r 0))
-    → (answers ≡ map days_in requests) × ((r : ℕ) → r < length requests → IsPosted es (workers + r) (get_or answers r 0))
+    → (answers ≡ map days_in requests) × ((r : ℕ) → r < length requests → IsWorkersPost es (workers + r) (get_or answers r 0))
 answers_are c requests answers es log is legal each own count finds = (
   same_lists answers (map days_in requests) (count ∙ sym (length-map requests days_in)) (λ r d lt. one r d lt),
   λ r low. (found r low).1,
 ) where
   found : (r : ℕ) → r < length requests
-      → (get_or answers r 0 ≡ answer_at requests (workers + r)) × IsPosted es (workers + r) (get_or answers r 0)
+      → (get_or answers r 0 ≡ answer_at requests (workers + r)) × IsWorkersPost es (workers + r) (get_or answers r 0)
   found r low =
       found_is_answer requests c es workers (workers + r) (get_or answers r 0) legal
       (λ j lt. each j (subst (λ (s : Setup). j < s.callers) is lt))
@@ -51,7 +51,7 @@ pub closed_answers : (b : BoardFace) (requests : List ℕ) (es : List Entry) (ta
     → length tasks ≡ workers + 1 → AllByRecursion (IsIn b.config es) tasks → rooms ≡ rest ++ answers ∷ [] → length rooms ≡ workers + 1
     → ((k : ℕ) (s : Vec ℕ Global) (t : CallerFace) → k < workers + 1 → HasDone b requests k (get_or tasks k t) (get_or rooms k s).items)
     → (answers.items ≡ map days_in requests)
-    × ((r : ℕ) → r < length requests → IsPosted es (workers + r) (get_or answers.items r 0))
+    × ((r : ℕ) → r < length requests → IsWorkersPost es (workers + r) (get_or answers.items r 0))
 closed_answers b requests es tasks rooms rest answers config legal order all within is count done =
     let no = no_task b in
     let last : get_or rooms workers answers ≡ answers = last_room rooms rest answers workers is count in

@@ -26,7 +26,7 @@ use Rattle.mv_calls.specs.Refusal.{Refusal}
 use Rattle.mv_calls.specs.Refusal as refusal
 use Rattle.mv_calls.specs.Waits.{refused_if}
 use Rattle.mv_calls.proofs.Making.{kept_caller, kept_from-append}
-use Rattle.mv_pause.specs.Pausing.{IsCurrent}
+use Rattle.mv_pause.specs.Pausing.{IsCurrent, pause_own}
 use Rattle.mv_wait.specs.Run.{IsServed}
 use Rattle.mv_wait.proofs.OneBlock.{asked_is}
 use Rattle.mv_server.specs.Pool.{pool_setup}
@@ -139,11 +139,7 @@ given_current t a kept e op on given counts used =
       generation = rw (on.0, on.1, given.1, eq-eqb t.element t.element refl) (counts (kept.generation t.element) given.0);
     })
 
-abbrev pausing : Token → Program (Result Gift Refusal)
-pausing t = Do (Element t.element) (op_on.Element (element_op.Pause t.generation))
-    (λ h. on_element h.entry.reply (paused t.element t.generation))
-
-paused_current : (t : Token) (a : Gift) (kept : Kept) (hs : List Heard) → Says (pausing t) hs → left (pausing t) hs ≡ Done (Ok a)
+paused_current : (t : Token) (a : Gift) (kept : Kept) (hs : List Heard) → Says (pause_own t) hs → left (pause_own t) hs ≡ Done (Ok a)
     → length hs ≤ 2 → kept.in_use t.element ≡ true → IsCurrent (kept_from kept (entries hs)) a.next
 paused_current t a kept [] says done few used = absurd (cc done)
 paused_current t a kept (h ∷ []) says done few used =
@@ -162,7 +158,7 @@ paused_current t a kept (h ∷ g ∷ f ∷ hs) says done few used = absurd (omeg
 pub may_pause_next : (c : Setup) (token : Token) (a : Gift) (t u : CallerFace) → IsServed 2 (pause c token) (λ x. x ≡ Ok a) t u
     → a.next.element ≡ token.element → MayPause c t token → MayPause c u a.next
 may_pause_next c token a t u s same may =
-    let program = ap (λ x. unless_refused (refused_if x refusal.NotOwner) (pausing token)) (own_token c t token may) in record {
+    let program = ap (λ x. unless_refused (refused_if x refusal.NotOwner) (pause_own token)) (own_token c t token may) in record {
       own = ap (element_owner c) same ∙ may.own ∙ sym s.same.number;
       current = subst (λ kept. IsCurrent kept a.next) (sym (kept_then 2 (pause c token) (λ x. x ≡ Ok a) t u s))
           (paused_current token a (kept_of t.number t.log) s.made.events (subst (λ p. Says p s.made.events) program s.made.done.says)

@@ -1,6 +1,7 @@
 -- The configuration of a pool, and what its server is asked.
 use Rattle.std.specs.Prelude.{ℕ, ◌+◌, ◌*◌, ◌-◌, ◌^◌, List, [], ◌∷◌, ◌++◌, replicate, slice_index}
 use Rattle.mv_machine.specs.Setup.{Setup}
+use Rattle.mv_attach.specs.Blocks.{blocks_setup}
 
 -- how many workers there are: the callers from 0 on. The server is the caller behind them
 abbrev pub workers : ℕ
@@ -30,17 +31,7 @@ server_events n = hand_out_events * (n + workers) + 2 * n
 -- For so many requests. All blocks are the server's: block w says that worker w is idle, and behind these is one for the answer to
 -- each request.
 abbrev pub pool_setup : ℕ → Setup
-pool_setup n = record {
-  callers = workers + 1;
-  elements_per_caller = 1;
-  volumes = 1;
-  latches = 1;
-  quota = 1;
-  posted_quota = 0;
-  budgets = replicate workers (worker_events n) ++ server_events n ∷ [];
-  owners = replicate (workers + n) workers;
-  exits = [];
-}
+pool_setup n = blocks_setup (replicate workers (worker_events n) ++ server_events n ∷ []) (replicate (workers + n) workers)
 
 -- the answer to a request: how many days so many weeks have
 abbrev pub days_in : ℕ → ℕ

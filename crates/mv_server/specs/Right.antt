@@ -2,19 +2,17 @@
 -- answer.
 use Rattle.std.specs.Prelude.{◌≡◌, ℕ, ◌+◌, ◌<◌, ◌≤◌, List, [], length, slice_index, vec_capacity, Vec}
 use Rattle.std.proofs.Common.{Global}
-use Rattle.std.specs.List.{AllByRecursion, Contains}
+use Rattle.std.specs.List.{AllByRecursion}
 use Rattle.mv_ecb.specs.declared.operation.EcbOp.TheVariants.{Extend, Post}
-use Rattle.mv_ecb.specs.declared.operation.EcbReply.TheVariants.{Posted, Woke}
 use Rattle.mv_machine.specs.declared.entry.Entry.{Entry}
 use Rattle.mv_machine.specs.declared.entry.Object.{Object}
 use Rattle.mv_machine.specs.declared.entry.Object.TheVariants.{Ecb}
 use Rattle.mv_machine.specs.declared.entry.Op.{Op}
 use Rattle.mv_machine.specs.declared.entry.Op.TheVariants as op_on
-use Rattle.mv_machine.specs.declared.entry.Reply.{Reply}
 use Rattle.mv_machine.specs.declared.entry.Reply.TheVariants as reply_of
 use Rattle.mv_board.specs.Faces.{BoardFace, CallerFace, IsOf}
 use Rattle.mv_calls.specs.Rest.{IsAtRest}
-use Rattle.mv_attach.specs.Entries.{Finds}
+use Rattle.mv_attach.specs.Entries.{Finds, IsPosted}
 use Rattle.mv_server.specs.Pool.{workers, requests_limit, weeks_limit, pool_setup, answer_at}
 
 -- caller k may do so: a post of a block of an answer is a worker's and has that answer, and no block is extended
@@ -55,20 +53,10 @@ pub record StaysReady (b : BoardFace) (requests : List ℕ) (most : ℕ) (t u : 
 
 -- ---- answers
 
--- a post that is told this is accepted: it completed its block
-abbrev pub IsAccepted : Reply → Type 0
-IsAccepted (reply_of.Ecb Posted) = Unit {0}
-IsAccepted (reply_of.Ecb (Woke exit)) = Unit {0}
-IsAccepted reply = ⊥
-
 -- one of these entries is a worker's post that completed the block with this code
-pub record IsPosted (es : List Entry) (block code : ℕ) : Type 0 where
-  pub entry : Entry
-  pub member : Contains es entry
-  pub worker : entry.caller < workers
-  pub object : entry.object ≡ Ecb block
-  pub post : entry.op ≡ op_on.Ecb (Post code)
-  pub accepted : IsAccepted entry.reply
+pub record IsWorkersPost (es : List Entry) (block code : ℕ) : Type 0 where
+  pub posted : IsPosted es block code
+  pub worker : posted.entry.caller < workers
 
 -- ---- the work of all
 

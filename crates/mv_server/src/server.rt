@@ -3,18 +3,17 @@
 ghost use Rattle.std.specs.Prelude.{◌≡◌, ◌<◌, ◌≤◌, ◌+◌, ℕ, [], length, map, slice_index, IfOk, All};
 ghost use Rattle.std.specs.List.{AllByRecursion};
 ghost use Rattle.mv_element.specs.Table.{release_limit};
-ghost use Rattle.mv_machine.specs.Config.{setup_of};
 ghost use Rattle.mv_machine.specs.Legal.{Legal};
 ghost use Rattle.mv_machine.specs.Limits.{highest_place};
 ghost use Rattle.mv_attach.specs.Entries.{Finds};
 ghost use Rattle.mv_server.specs.Pool.{workers, requests_limit, weeks_limit, worker_events, hand_out_events, server_events};
 ghost use Rattle.mv_server.specs.Pool.{pool_setup, days_in};
-ghost use Rattle.mv_server.specs.Right.{IsAsked, CanServe, IsBack, StaysReady, HasRoom, HasDone, IsPosted};
+ghost use Rattle.mv_server.specs.Right.{IsAsked, CanServe, IsBack, StaysReady, HasRoom, HasDone, IsWorkersPost};
 
-use mv_attach::{Work, run_tasks};
+use mv_attach::{Work, config_of_blocks, run_tasks};
 use mv_element::Token;
 use mv_io::NoMemory;
-use mv_machine::{CheckRefusal, Config, History, ValidConfig};
+use mv_machine::{History, ValidConfig};
 use mv_pause::{allocate, pause, release};
 use mv_wait::{Station, Task, WaitSlot};
 use std::alloc::Global;
@@ -49,40 +48,17 @@ pub fn answer_to(weeks: u32) -> u32
 }
 
 // The workers are the callers from 0 on, and the server, which waits on all blocks, is the last.
-fn pool_config(alloc: Global, requests: u32) -> Result<Config, NoMemory>
+#[tactic(auto, using(crate::proofs::Pool::owners_exist, crate::proofs::Pool::budgets_fit))]
+fn pool_config(alloc: Global, requests: u32) -> Result<ValidConfig, NoMemory>
     requires few { requests ≤ requests_limit }
-    ensures { IfOk result (λ config. setup_of config ≡ pool_setup requests) }
+    ensures { IfOk result (λ config. config ≡ pool_setup requests) }
 {
     // A worker opens its element, and posts, pauses and posts, at most for each request and for the stop.
     let mut budgets = vec![in alloc; 4 * requests + 5; WORKERS as usize]?;
     // The server waits on the workers' blocks, and clears and releases, for each request and each worker, and waits for each answer.
     budgets.push(4 * WORKERS * (requests + WORKERS) + 2 * requests)?;
-    Ok(Config {
-        callers: WORKERS + 1,
-        elements_per_caller: 1,
-        volumes: 1,
-        latches: 1,
-        quota: 1,
-        posted_quota: 0,
-        budgets,
-        owners: vec![in alloc; WORKERS; (WORKERS + requests) as usize]?,
-        exits: Vec::new(alloc),
-    })
-}
-
-// The same, checked: nothing refuses it.
-fn valid_config(alloc: Global, requests: u32) -> Result<ValidConfig, NoMemory>
-    requires few { requests ≤ requests_limit }
-    ensures { IfOk result (λ config. config ≡ pool_setup requests) }
-{
-    let config = pool_config(alloc, requests)?;
-    match config.check(alloc) {
-        Ok(config) => Ok(config),
-        Err(refusal) => match refusal {
-            CheckRefusal::NoMemory => Err(NoMemory),
-            _ => unreachable!(),
-        },
-    }
+    let owners = vec![in alloc; WORKERS; (WORKERS + requests) as usize]?;
+    config_of_blocks(alloc, &budgets, &owners)
 }
 
 // A worker: tells that it is idle and with which generation it pauses, answers the request that it is handed, and so on until it is
@@ -239,14 +215,14 @@ pub fn serve_all<R: Threads + Wait + Sync>(
     requires small { AllByRecursion (λ weeks. weeks < weeks_limit) requests.now }
     ensures answers { IfOk result (λ served. served.answers.items ≡ map days_in requests.now) }
     ensures posted { IfOk result (λ served. (r : ℕ) → r < length requests.now
-        → IsPosted served.history.coming (workers + r) (slice_index served.answers.items r)) }
+        → IsWorkersPost served.history.coming (workers + r) (slice_index served.answers.items r)) }
     ensures config { IfOk result (λ served. served.history.config ≡ pool_setup (length requests.now)) }
     // None of them is given yet.
     ensures whole { IfOk result (λ served. served.history.past ≡ []) }
     ensures legal { IfOk result (λ served. Legal served.history.config served.history.coming) }
     ensures places { IfOk result (λ served. All (λ e. e.place ≤ highest_place) served.history.coming) }
 {
-    let config = valid_config(alloc, requests.len() as u32)?;
+    let config = pool_config(alloc, requests.len() as u32)?;
     let (station, tasks) = Station::open(alloc, config)?;
     let rooms = rooms_for(alloc, requests.len())?;
     let pool = Pool { requests };

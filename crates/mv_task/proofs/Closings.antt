@@ -1,9 +1,11 @@
 -- The closes of a task's own elements, one after the other.
-use Rattle.std.proofs.Common.{◌≡◌, ◌≢◌, ℕ, zero, suc, ◌+◌, ◌-◌, ◌*◌, ◌<◌, ◌≤◌, Bool, true, false, List, [], ◌∷◌, length, filter}
+use Rattle.std.proofs.Common.{◌≡◌, ◌≢◌, ℕ, ◌+◌, ◌-◌, ◌*◌, ◌<◌, ◌≤◌, Bool, true, false, List, [], ◌∷◌, length, filter}
 use Rattle.std.proofs.Common.{cond, not}
 use Rattle.std.proofs.Common.{refl, sym, ap, ◌∙◌, subst, arith}
 use Rattle.std.specs.List.{range_with_len}
 use Rattle.std.proofs.lemmas.Bool.{eq-eqb, ne_eqb}
+use Rattle.std.proofs.lemmas.List.FromFn.{length-range_with_len}
+use Rattle.mv_latch.proofs.Splits.{length_filter}
 use Rattle.mv_element.specs.declared.element.Token.{Token}
 use Rattle.mv_element.specs.declared.operation.ElementOp.TheVariants.{Close}
 use Rattle.mv_element.specs.declared.operation.ElementReply.TheVariants.{Closed}
@@ -167,19 +169,8 @@ all_closed c a n i t u over first count so_far = λ p.
 
 -- ---- no more elements are in use than the task has
 
-few_left : (test : ℕ → Bool) (xs : List ℕ) → length (filter test xs) ≤ length xs
-few_left test [] = omega arith
-few_left test (x ∷ xs) = go (test x) (few_left test xs) where
-  go : (b : Bool) → length (filter test xs) ≤ length xs → length (cond b (x ∷ filter test xs) (filter test xs)) ≤ length (x ∷ xs)
-  go true le = omega arith
-  go false le = omega arith
-
-how_many : (a n : ℕ) → length (range_with_len a n) ≡ n
-how_many a zero = refl
-how_many a (suc n) = let rest = how_many (a + 1) n in omega arith
-
 pub few_used : (c : Setup) (kept : Kept) → length (used_elements c kept) ≤ c.elements_per_caller
 few_used c kept =
-    let all = few_left kept.in_use (range_with_len (kept.caller * c.elements_per_caller) c.elements_per_caller) in
-    let count = how_many (kept.caller * c.elements_per_caller) c.elements_per_caller in
+    let all = length_filter kept.in_use (range_with_len (kept.caller * c.elements_per_caller) c.elements_per_caller) in
+    let count = length-range_with_len (kept.caller * c.elements_per_caller) c.elements_per_caller in
     omega (arith, all, count)

@@ -1,10 +1,11 @@
 use Rattle.std.proofs.Common.{subst}
+use Rattle.std.proofs.lemmas.List.Elements.{Contains-get_or}
 use Rattle.mv_latch.specs.declared.request.Mode.TheVariants.{Exclusive}
 use Rattle.mv_latch.specs.declared.operation.LatchOp.TheVariants.{Obtain}
 use Rattle.mv_latch.specs.declared.request.LatchForm.TheVariants.{Waiting}
 use Rattle.mv_latchset.specs.Obtaining.{IsObtainedBy}
 use Rattle.mv_cache.specs.Whole.{IsWriting}
-use Rattle.mv_cache.proofs.Calls.{obtain_grown, release_grown, still_writing, enters, writes, both_written, leaves, cheap, index_in}
+use Rattle.mv_cache.proofs.Calls.{obtain_grown, release_grown, still_writing, enters, writes, both_written, leaves, cheap}
 use Rattle.mv_cache.proofs.cache.write_pair.Goals as goal
 
 pub returns-in_default-clause-ready : goal.returns-in_default-clause-ready
@@ -35,4 +36,4 @@ returns-clause-ready g c =
     let inside = writes b pairs _ _ _ v w second (writes b pairs _ _ _ u v first (enters b pairs _ t u token c.requires.ready after by)) in
     leaves b pairs _ _ _ _ w x released
     (release_grown b.config _ _ _ _ w x released (cheap b.config c.requires.ready.careful.config)) inside
-    (both_written _ _ _ _ u v w first second) (index_in pairs c.args.number _ c.requires.number)
+    (both_written _ _ _ _ u v w first second) (Contains-get_or pairs c.args.number _ c.requires.number)

@@ -2,12 +2,12 @@ use Rattle.std.proofs.Common.{[], ◌∷◌, length}
 use Rattle.mv_calls.specs.Keeping.{kept_of}
 use Rattle.mv_calls.specs.Program.{entries}
 use Rattle.mv_calls.specs.Waits.{wait}
-use Rattle.mv_attach.proofs.Entries.{waited_finds}
+use Rattle.mv_attach.proofs.Entries.{finds_longer, waited_finds}
 use Rattle.mv_attach.proofs.Says.{always_wait}
 use Rattle.mv_server.specs.Right.{IsRight}
 use Rattle.mv_server.proofs.Always.{stays_after}
 use Rattle.mv_server.proofs.Pool.{block_exists}
-use Rattle.mv_server.proofs.Waits.{servers_block, plain_of, still_found}
+use Rattle.mv_server.proofs.Waits.{servers_block, plain_of}
 use Rattle.mv_server.proofs.server.await_answer.Goals as goal
 
 pub wait_one-requires-clause-block : goal.wait_one-requires-clause-block
@@ -32,7 +32,7 @@ returns g c =
     let u = c.wait_one.new.task in
     let served = c.wait_one.ensures.served in record {
       finds = waited_finds block c.wait_one.result t u c.wait_one.ensures.waited;
-      found = λ n code f. still_found t.log u.log (entries served.made.events) n code served.made.longer.logged f;
+      found = λ n code f. finds_longer t.log u.log (entries served.made.events) n code served.made.longer.logged f;
       kept = stays_after c.args.station.now requests 2 (wait config 1 (block ∷ [])) _ t u served c.requires.ready.ready
           (always_wait (IsRight requests t.number) config 1 (block ∷ []) (kept_of t.number t.log) (tt, tt) (tt, tt));
     }

@@ -1,7 +1,7 @@
 use Rattle.std.proofs.Common.{◌+◌, ◌*◌, ◌/◌, ◌≤◌, List, ℕ, length, sym, ap, ◌∙◌, subst}
 use Rattle.mv_machine.specs.Setup.{Setup}
 use Rattle.mv_calls.specs.Program.{Wrong}
-use Rattle.mv_pause.proofs.Lowest.{own_owner}
+use Rattle.std.proofs.lemmas.Nat.{div-mul-add}
 use Rattle.mv_task.proofs.Closings.{none_closed, own_are, close_fits, one_closed, all_closed}
 use Rattle.mv_task.proofs.ending.give_back_all.Goals as goal
 
@@ -18,7 +18,7 @@ give_back-requires-clause-own g c =
     let e = c.config-2.result.now.elements_per_caller in
     let few = ap (λ (x : Setup). x.elements_per_caller) (c.config-2.ensures.given ∙ c.config.ensures) in
     ap (λ d. (c.number.result * e + c.loop-i.i) / d) (sym few)
-    ∙ (own_owner c.number.result e c.loop-i.i c.loop-i-test.true
+    ∙ (div-mul-add c.number.result e c.loop-i.i c.loop-i-test.true
     ∙ (c.number.ensures.number ∙ sym (c.loop-i.invariant.closing.runs Wrong).went.same.number))
 
 pub give_back-requires-clause-left : goal.give_back-requires-clause-left
