@@ -1,10 +1,9 @@
 -- The reader behind one more statement.
-use Rattle.std.proofs.Common.{◌≡◌, ℕ, ◌+◌, ◌*◌, Bool, true, false, ◌||◌, List, [], ◌∷◌, ◌++◌, length, map, Option, Some, None, refl}
+use Rattle.std.proofs.Common.{◌≡◌, ℕ, ◌+◌, ◌*◌, Bool, true, false, List, [], ◌∷◌, ◌++◌, length, map, Option, Some, None, refl}
 use Rattle.std.proofs.Common.{sym, ap, subst, ◌∙◌, arith, rules, length-append, bytes_eq, if◌then◌else◌}
 use Rattle.std.specs.Prelude.{IsSome, is_some, unwrap_or, nat_lt}
 use Rattle.std.specs.List.{list_any}
 use Rattle.std.proofs.lemmas.List.{length-map}
-use Rattle.std.proofs.lemmas.List.Folds.{list_any-append}
 use Rattle.std.proofs.lemmas.List.Sums.{fold_push}
 use Rattle.mv_deck.specs.declared.deck.After.{After}
 use Rattle.mv_deck.specs.declared.deck.Step.{Step}
@@ -20,36 +19,17 @@ use Rattle.mv_deck.specs.Form.{part_data}
 use Rattle.mv_deck.specs.Names.{place_in, after_in}
 use Rattle.mv_deck.specs.Reading.{HasFewJobs, jobs_read, open_job, Keeps, IsBehind, IsGoodJob}
 use Rattle.mv_deck.specs.Weight.{weight, heaviest, step_events}
+use Rattle.mv_latch.proofs.Joined.{same_any, some_any}
 use Rattle.mv_deck.proofs.Jobs.{stepped, last_steps-push, with_step-push, place-push, place-step, ended-push, weight-push, weight-step}
 use Rattle.mv_deck.proofs.Steps.{is_step, is_outside}
 
-or_false : (b : Bool) → (b || false) ≡ b
-or_false true = refl
-or_false false = refl
-
-or_true : (b : Bool) → (b || true) ≡ true
-or_true true = refl
-or_true false = refl
-
--- the tests behind one more statement
-any-push : (p : Statement → Bool) (sts : List Statement) (s : Statement) → list_any p (sts ++ s ∷ []) ≡ (list_any p sts || (p s || false))
-any-push p sts s = list_any-append p sts (s ∷ [])
-
--- a statement that does not pass the test changes nothing
-pub same_any : (p : Statement → Bool) (sts : List Statement) (s : Statement) → p s ≡ false → list_any p (sts ++ s ∷ []) ≡ list_any p sts
-same_any p sts s e = any-push p sts s ∙ rw e (or_false (list_any p sts))
-
--- a statement that passes the test makes it true
-pub some_any : (p : Statement → Bool) (sts : List Statement) (s : Statement) → p s ≡ true → list_any p (sts ++ s ∷ []) ≡ true
-some_any p sts s e = any-push p sts s ∙ rw e (or_true (list_any p sts))
-
 -- behind one more statement there is one
-some_stated : (sts : List Statement) (s : Statement) → nat_lt 0 (length (sts ++ s ∷ [])) ≡ true
-some_stated [] s = refl
-some_stated (t ∷ sts) s = grind arith
+pub some_stated : {A : Type 0} (xs : List A) (x : A) → nat_lt 0 (length (xs ++ x ∷ [])) ≡ true
+some_stated [] x = refl
+some_stated (y ∷ xs) x = grind arith
 
 -- where a statement passes a test there is one
-stated_before : (p : Statement → Bool) (sts : List Statement) → list_any p sts ≡ true → nat_lt 0 (length sts) ≡ true
+pub stated_before : (p : Statement → Bool) (sts : List Statement) → list_any p sts ≡ true → nat_lt 0 (length sts) ≡ true
 stated_before p [] e = absurd cc
 stated_before p (t ∷ sts) e = grind arith
 

@@ -3,6 +3,7 @@ use Rattle.std.proofs.Common.{◌≡◌, ℕ, ◌<◌, ◌≤◌, Bool, true, fa
 use Rattle.std.proofs.Common.{is_none, ◌==◌, option_map, MatchResult, refl, sym, ap, subst, ◌∙◌, arith}
 use Rattle.std.specs.Prelude.{option_to_list, nat_lt}
 use Rattle.std.specs.List.{list_any}
+use Rattle.std.proofs.Math.Bool.{or-true}
 use Rattle.std.proofs.lemmas.List.{length-map}
 use Rattle.mv_deck.specs.declared.fault.Kind.{Kind}
 use Rattle.mv_deck.specs.declared.form.Part.{Part}
@@ -27,10 +28,6 @@ any_same : {A : Type 0} (p q : A → Bool) → ((x : A) → p x ≡ q x) → (xs
 any_same p q e [] = refl
 any_same p q e (x ∷ xs) = ap (λ (b : Bool). b || list_any p xs) (e x) ∙ ap (λ (b : Bool). q x || b) (any_same p q e xs)
 
-or_true : (b : Bool) → (b || true) ≡ true
-or_true true = refl
-or_true false = refl
-
 module _ (name : List ℕ) (parts : List Part) where
   -- a JOB with this name and these parts
   abbrev pub job : Statement
@@ -46,7 +43,7 @@ module _ (name : List ℕ) (parts : List Part) where
 
   -- a bad name in its list
   pub awaits_badly : list_any (λ (p : Part). not (is_name p.name.now)) parts ≡ true → has_bad_name job ≡ true
-  awaits_badly e = names_are ∙ rw e (or_true (not (is_name name)))
+  awaits_badly e = names_are ∙ rw e (or-true (not (is_name name)))
 
   -- good names alone
   pub named_well : is_name name ≡ true → list_any (λ (p : Part). not (is_name p.name.now)) parts ≡ false → has_bad_name job ≡ false
@@ -67,7 +64,7 @@ module _ (name : List ℕ) (parts : List Part) where
   -- more than eight names
   pub too_many : 8 < length parts → is_crowded job ≡ true
   too_many lt = let more : nat_lt 8 (length (map part_data parts)) ≡ true = rw (length-map parts part_data) (grind arith) in
-      rw more (or_true (has_double (map part_data parts)))
+      rw more (or-true (has_double (map part_data parts)))
 
   -- a name twice
   pub doubled : has_double (map part_data parts) ≡ true → is_crowded job ≡ true

@@ -1,7 +1,8 @@
 -- One more job, and one more step of the last job.
-use Rattle.std.proofs.Common.{◌≡◌, ℕ, ◌+◌, ◌*◌, Bool, true, false, cond, ◌||◌, List, [], ◌∷◌, ◌++◌, length, Option, Some, None, refl, sym}
+use Rattle.std.proofs.Common.{◌≡◌, ℕ, ◌+◌, ◌*◌, Bool, true, false, cond, List, [], ◌∷◌, ◌++◌, length, Option, Some, None, refl, sym}
 use Rattle.std.proofs.Common.{ap, ◌∙◌, arith, sum_by, bytes_eq, if◌then◌else◌, length-append}
 use Rattle.std.specs.List.{list_any, position_from}
+use Rattle.std.proofs.Math.Bool.{or-false}
 use Rattle.std.proofs.lemmas.List.Folds.{list_any-append}
 use Rattle.std.proofs.lemmas.List.Sums.{sum_by_push}
 use Rattle.std.proofs.lemmas.Slice.Eq.{bytes_eq-Decides}
@@ -86,10 +87,7 @@ place-step jobs j step name = stepped_place 0 jobs j step name
 
 -- whether the steps have an end, behind one more
 pub ended-push : (steps : List Step) (step : Step) → list_any is_end steps ≡ false → list_any is_end (steps ++ step ∷ []) ≡ is_end step
-ended-push steps step e = list_any-append is_end steps (step ∷ []) ∙ rw e (or_false (is_end step)) where
-  or_false : (b : Bool) → (b || false) ≡ b
-  or_false true = refl
-  or_false false = refl
+ended-push steps step e = list_any-append is_end steps (step ∷ []) ∙ rw e (or-false (is_end step))
 
 -- ---- weights
 

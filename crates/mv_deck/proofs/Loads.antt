@@ -28,7 +28,8 @@ use Rattle.mv_deck.specs.Load.{counted_by, scan_steps, last_step, first_lines, f
 use Rattle.mv_deck.proofs.Jobs.{stepped, last_steps-push, with_step-push, weight-step, weight-push}
 use Rattle.mv_deck.proofs.Steps.{is_step, is_outside}
 use Rattle.mv_deck.proofs.Told.{job_fine, job_placed, step_fine, null_fine}
-use Rattle.mv_deck.proofs.Behind.{jobs-push, same_any, some_any, inside}
+use Rattle.mv_latch.proofs.Joined.{same_any, some_any}
+use Rattle.mv_deck.proofs.Behind.{jobs-push, inside}
 use Rattle.mv_deck.proofs.Passes.{one_line}
 use Rattle.mv_deck.proofs.Sounds.{sound}
 use Rattle.mv_deck.proofs.LoadLines.{digit_is, name_is_good, latch_again, amount_again, user_code_again}

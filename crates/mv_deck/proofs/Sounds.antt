@@ -11,10 +11,6 @@ use Rattle.mv_latch.specs.declared.request.Mode.{Mode}
 use Rattle.mv_deck.specs.declared.deck.After.{After}
 use Rattle.mv_deck.specs.declared.deck.Step.{Step}
 use Rattle.mv_deck.specs.declared.deck.Step.TheVariants.{Print, Use, Free, Count, Scan, Abend, Return}
-use Rattle.mv_deck.specs.declared.fault.Kind.{Kind}
-use Rattle.mv_deck.specs.declared.fault.Kind.TheVariants.{ForeignByte, TooLong, NoForm, BadName, RepeatedName, UnknownAfter}
-use Rattle.mv_deck.specs.declared.fault.Kind.TheVariants.{CrowdedAfter, BadNumber, LatchOrder, LatchNotHeld, Misplaced, BehindEnd}
-use Rattle.mv_deck.specs.declared.fault.Kind.TheVariants.{TooHeavy}
 use Rattle.mv_deck.specs.declared.form.Version.{Version}
 use Rattle.mv_line.specs.Line.{lines_of}
 use Rattle.mv_line.specs.Byte.{is_within}
@@ -27,18 +23,19 @@ use Rattle.mv_deck.specs.Deck.{JobData, place_of, after_of, most_of, fresh_job, 
 use Rattle.mv_deck.specs.Deck.{last_steps}
 use Rattle.mv_deck.specs.Held.{is_out_of_order, lacks_latch, is_end}
 use Rattle.mv_line.specs.Line.{is_foreign, is_too_long}
-use Rattle.mv_deck.specs.Fault.{is_job, is_null, is_deck, when, has_no_form, kinds_of, kinds_of_statement}
+use Rattle.mv_deck.specs.Fault.{is_job, is_null, is_deck, has_no_form, kinds_of, kinds_of_statement}
 use Rattle.mv_deck.specs.Fault.{faults_from, first_fault, kinds_behind, has_bad_name, has_bad_number}
 use Rattle.mv_deck.specs.Fault.{line_rules}
 use Rattle.mv_line.specs.Fault.{first_of_list}
-use Rattle.mv_line.proofs.Faults.{no_kinds, no_fault_at_end}
+use Rattle.mv_line.proofs.Faults.{none_when, no_kinds, no_fault_at_end}
+use Rattle.mv_latch.proofs.Joined.{same_any}
 use Rattle.mv_deck.specs.Fault.{accepts_no_code, has_double, repeats_name, awaits_no_job, is_crowded, is_step_that, uses_out_of_order}
 use Rattle.mv_deck.specs.Fault.{needs_latch, is_misplaced, is_behind_end, is_too_heavy}
 use Rattle.mv_deck.specs.Sound.{HasGoodNumbers, IsSoundStep, AreSoundSteps, IsSoundAfter, AreDistinct, IsSoundJob, AreSoundJobs, IsSound}
 use Rattle.mv_deck.specs.Weight.{weight, heaviest}
 use Rattle.mv_deck.proofs.Jobs.{stepped, last_steps-push, with_step-push}
 use Rattle.mv_deck.proofs.Steps.{is_step}
-use Rattle.mv_deck.proofs.Behind.{jobs-push, same_any}
+use Rattle.mv_deck.proofs.Behind.{jobs-push, some_stated, stated_before}
 use Rattle.mv_deck.proofs.Passes.{version_in, one_line, earlier_more}
 use Rattle.std.proofs.lemmas.Bool.{or_parts, not-false}
 
@@ -159,11 +156,6 @@ one_name a b k (j ∷ jobs) i e f = go (bytes_eq j.name a) (bytes_eq j.name b) r
 
 -- ---- what a faultless statement is
 
--- a test that tells no kind does not hold
-when_none : (holds : Bool) (kind : Kind) (rest : List ℕ) → when holds kind ++ rest ≡ [] → (holds ≡ false) × (rest ≡ [])
-when_none true kind rest e = absurd cc
-when_none false kind rest e = (refl, e)
-
 -- where one part of a test holds, the other does not
 alone : (a b : Bool) → (a && b) ≡ false → b ≡ true → a ≡ false
 alone true true e f = absurd cc
@@ -187,16 +179,16 @@ pub record IsFaultless (n : ℕ) (earlier : List Statement) (jobs : List JobData
 is_faultless : (n : ℕ) (earlier : List Statement) (jobs : List JobData) (s : Statement) → kinds_behind n earlier jobs s ≡ []
     → IsFaultless n earlier jobs s
 is_faultless n earlier jobs s none =
-    let a = when_none (has_bad_name s) BadName _ none in
-    let b = when_none (repeats_name jobs s && not (is_misplaced earlier s)) RepeatedName _ a.1 in
-    let c = when_none (awaits_no_job jobs s && not (is_misplaced earlier s)) UnknownAfter _ b.1 in
-    let d = when_none (is_crowded s && not (is_misplaced earlier s)) CrowdedAfter _ c.1 in
-    let e = when_none (has_bad_number s) BadNumber _ d.1 in
-    let f = when_none (uses_out_of_order jobs s && (not (is_misplaced earlier s) && not (is_behind_end jobs s))) LatchOrder _ e.1 in
-    let g = when_none (needs_latch jobs s && (not (is_misplaced earlier s) && not (is_behind_end jobs s))) LatchNotHeld _ f.1 in
-    let h = when_none (is_misplaced earlier s) Misplaced _ g.1 in
-    let i = when_none (is_behind_end jobs s && not (is_misplaced earlier s)) BehindEnd _ h.1 in
-    let j = when_none (is_too_heavy n jobs s && (not (is_misplaced earlier s) && not (is_behind_end jobs s))) TooHeavy _ i.1 in
+    let a = none_when (has_bad_name s) _ _ none in
+    let b = none_when (repeats_name jobs s && not (is_misplaced earlier s)) _ _ a.1 in
+    let c = none_when (awaits_no_job jobs s && not (is_misplaced earlier s)) _ _ b.1 in
+    let d = none_when (is_crowded s && not (is_misplaced earlier s)) _ _ c.1 in
+    let e = none_when (has_bad_number s) _ _ d.1 in
+    let f = none_when (uses_out_of_order jobs s && (not (is_misplaced earlier s) && not (is_behind_end jobs s))) _ _ e.1 in
+    let g = none_when (needs_latch jobs s && (not (is_misplaced earlier s) && not (is_behind_end jobs s))) _ _ f.1 in
+    let h = none_when (is_misplaced earlier s) _ _ g.1 in
+    let i = none_when (is_behind_end jobs s && not (is_misplaced earlier s)) _ _ h.1 in
+    let j = none_when (is_too_heavy n jobs s && (not (is_misplaced earlier s) && not (is_behind_end jobs s))) _ _ i.1 in
     let placed : not (is_misplaced earlier s) ≡ true = ap not h.0 in
     let going : is_behind_end jobs s ≡ false = alone (is_behind_end jobs s) (not (is_misplaced earlier s)) i.0 placed in
     let asked : (not (is_misplaced earlier s) && not (is_behind_end jobs s)) ≡ true = ap
@@ -413,11 +405,6 @@ last_job (j ∷ k ∷ jobs) e = let rest = last_job (k ∷ jobs) (grind arith) i
 not_heavy : (w : ℕ) → nat_lt heaviest w ≡ false → w ≤ heaviest
 not_heavy w e = grind arith
 
--- a list with a job at its end
-some_jobs : (jobs : List JobData) (j : JobData) → nat_lt 0 (length (jobs ++ j ∷ [])) ≡ true
-some_jobs [] j = refl
-some_jobs (k ∷ jobs) j = grind arith
-
 -- a statement that leaves the jobs as they were
 fine_same : (n : ℕ) (sts : List Statement) (s : Statement) → IsFine n sts → jobs_behind (jobs_of sts) s ≡ jobs_of sts
     → is_job s ≡ false → IsFaultless n sts (jobs_of sts) s → IsFine n (sts ++ s ∷ [])
@@ -440,7 +427,7 @@ fine_job n sts name after fine f =
           (sound_job n sts (jobs_of sts) name after f));
       light = λ some. not_heavy (weight (jobs_of (sts ++ JobOf name after ∷ [])) n)
           (ap (λ (x : List JobData). nat_lt heaviest (weight x n)) jobs ∙ f.light);
-      begun = λ any. ap (λ (x : List JobData). nat_lt 0 (length x)) jobs ∙ some_jobs (jobs_of sts) (fresh_job (jobs_of sts) name after);
+      begun = λ any. ap (λ (x : List JobData). nat_lt 0 (length x)) jobs ∙ some_stated (jobs_of sts) (fresh_job (jobs_of sts) name after);
     }
 
 -- a step
@@ -461,7 +448,7 @@ fine_step n sts s step e fine f =
       jobs = subst (AreSoundJobs []) (sym behind) (step_push last.0 last.1 step (subst (AreSoundJobs []) before fine.jobs) stands);
       light = λ some. not_heavy (weight (jobs_of (sts ++ s ∷ [])) n)
           (ap (λ (x : List JobData). nat_lt heaviest (weight x n)) (jobs-push sts s) ∙ f.light);
-      begun = λ any. ap (λ (x : List JobData). nat_lt 0 (length x)) behind ∙ some_jobs last.0 (stepped last.1 step);
+      begun = λ any. ap (λ (x : List JobData). nat_lt 0 (length x)) behind ∙ some_stated last.0 (stepped last.1 step);
     }
   where
     has_job : (a b p q r : Bool) → p ≡ false → q ≡ false → r ≡ false → (a || (not b && not (p || q || r))) ≡ false → b ≡ true
@@ -502,14 +489,9 @@ fine_line n sts (Some s) fine e = fine_push n sts s fine (is_faultless n sts (jo
 stated_kinds : (n : ℕ) (v : Version) (sts : List Statement) (line : List ℕ) → kinds_of n v sts line ≡ []
     → kinds_of_statement n sts (statement_of v line) ≡ []
 stated_kinds n v sts line e =
-    let a = when_none (is_foreign line) ForeignByte _ e in
-    let b = when_none (is_too_long line) TooLong _ a.1 in
-    (when_none (has_no_form v line) NoForm _ b.1).1
-
--- where a statement passes a test there is one
-some_before : (p : Statement → Bool) (sts : List Statement) → list_any p sts ≡ true → nat_lt 0 (length sts) ≡ true
-some_before p [] e = absurd cc
-some_before p (t ∷ sts) e = grind arith
+    let a = none_when (is_foreign line) _ _ e in
+    let b = none_when (is_too_long line) _ _ a.1 in
+    (none_when (has_no_form v line) _ _ b.1).1
 
 -- from a line on
 sound_from : (n : ℕ) (v : Version) (number : ℕ) (sts : List Statement) (lines : List (List ℕ)) → IsFine n sts
@@ -519,7 +501,7 @@ sound_from n v number sts [] fine e =
     subst (λ (x : List Statement). IsSound (jobs_of x) n) (sym (append-nil sts))
     (record {
       jobs_stand = fine.jobs;
-      light = fine.light (some_before is_null sts (no_fault_at_end (line_rules n v) number sts e));
+      light = fine.light (stated_before is_null sts (no_fault_at_end (line_rules n v) number sts e));
     })
 sound_from n v number sts (line ∷ lines) fine e =
     let none = no_kinds (line_rules n v) number sts line lines e in

@@ -1,7 +1,8 @@
 -- The kinds of fault of a statement, by the answers to what is asked of it.
-use Rattle.std.proofs.Common.{◌≡◌, ℕ, ◌+◌, ◌<◌, Bool, true, false, not, ◌&&◌, List, [], Some, refl, arith}
+use Rattle.std.proofs.Common.{◌≡◌, ℕ, ◌+◌, ◌<◌, Bool, true, false, not, List, [], Some, refl, arith}
 use Rattle.std.specs.Prelude.{nat_lt}
 use Rattle.std.specs.List.{list_any}
+use Rattle.std.proofs.Math.Bool.{and-false}
 use Rattle.mv_deck.specs.declared.deck.Step.{Step}
 use Rattle.mv_deck.specs.Statement.{Statement, Null, JobOf, AfterPart}
 use Rattle.mv_deck.specs.Deck.{JobData, last_steps, with_step}
@@ -14,10 +15,6 @@ use Rattle.mv_deck.specs.Reading.{IsGoodJob}
 use Rattle.mv_deck.proofs.Steps.{kinds_of_step}
 
 -- what is asked of nothing
-pub and_false : (b : Bool) → (b && false) ≡ false
-and_false true = refl
-and_false false = refl
-
 -- what is light enough is not too heavy
 pub light : (room w : ℕ) → room + w ≡ heaviest → nat_lt heaviest w ≡ false
 light room w e = grind arith
@@ -31,7 +28,7 @@ heavy room w added e lt = grind arith
 -- the first one
 pub null_fine : (n : ℕ) (earlier : List Statement) (jobs : List JobData) → list_any is_null earlier ≡ false
     → nat_lt heaviest (weight jobs n) ≡ false → kinds_behind n earlier jobs Null ≡ []
-null_fine n earlier jobs e l = rw (e, l, and_false (not (list_any is_job earlier)), and_false (list_any is_end (last_steps jobs))) refl
+null_fine n earlier jobs e l = rw (e, l, and-false (not (list_any is_job earlier)), and-false (list_any is_end (last_steps jobs))) refl
 
 -- ---- a JOB
 
@@ -47,16 +44,16 @@ module _ (n : ℕ) (earlier : List Statement) (jobs : List JobData) (name : List
   -- kind 11
   pub job_misplaced : has_bad_name s ≡ false → has_bad_number s ≡ false → list_any is_null earlier ≡ true
       → first_of_list (kinds_behind n earlier jobs s) ≡ Some 11
-  job_misplaced a e m = rw (a, e, m, and_false (repeats_name jobs s), and_false (awaits_no_job jobs s), and_false (is_crowded s)) refl
+  job_misplaced a e m = rw (a, e, m, and-false (repeats_name jobs s), and-false (awaits_no_job jobs s), and-false (is_crowded s)) refl
 
   -- kind 8 behind the null statement
   pub job_misnumbered : has_bad_name s ≡ false → has_bad_number s ≡ true → list_any is_null earlier ≡ true
       → first_of_list (kinds_behind n earlier jobs s) ≡ Some 8
-  job_misnumbered a e m = rw (a, e, m, and_false (repeats_name jobs s), and_false (awaits_no_job jobs s), and_false (is_crowded s)) refl
+  job_misnumbered a e m = rw (a, e, m, and-false (repeats_name jobs s), and-false (awaits_no_job jobs s), and-false (is_crowded s)) refl
 
   -- before the null statement a JOB is not misplaced
   pub job_placed : list_any is_null earlier ≡ false → is_misplaced earlier s ≡ false
-  job_placed m = rw m (and_false (not (list_any is_job earlier)))
+  job_placed m = rw m (and-false (not (list_any is_job earlier)))
 
   -- kind 5
   pub job_repeats : has_bad_name s ≡ false → is_misplaced earlier s ≡ false → repeats_name jobs s ≡ true
@@ -81,11 +78,11 @@ module _ (n : ℕ) (earlier : List Statement) (jobs : List JobData) (name : List
 
   -- kind 14
   pub job_heavy : IsGoodJob earlier jobs s → is_too_heavy n jobs s ≡ true → first_of_list (kinds_behind n earlier jobs s) ≡ Some 14
-  job_heavy g h = rw (g.name, g.place, g.new, g.known, g.few, g.codes, and_false (list_any is_end (last_steps jobs)), h) refl
+  job_heavy g h = rw (g.name, g.place, g.new, g.known, g.few, g.codes, and-false (list_any is_end (last_steps jobs)), h) refl
 
   -- no kind
   pub job_fine : IsGoodJob earlier jobs s → is_too_heavy n jobs s ≡ false → kinds_behind n earlier jobs s ≡ []
-  job_fine g h = rw (g.name, g.place, g.new, g.known, g.few, g.codes, and_false (list_any is_end (last_steps jobs)), h) refl
+  job_fine g h = rw (g.name, g.place, g.new, g.known, g.few, g.codes, and-false (list_any is_end (last_steps jobs)), h) refl
 
 -- ---- a step
 

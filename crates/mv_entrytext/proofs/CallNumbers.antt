@@ -7,6 +7,7 @@ use Rattle.std.proofs.lemmas.List.Elements.{All-from_recursion, recursion_from_A
 use Rattle.std.proofs.lemmas.Bool.{eq-eqb}
 use Rattle.mv_machine.specs.declared.entry.Entry.{Entry}
 use Rattle.mv_machine.specs.Legal.{next}
+use Rattle.mv_machine.proofs.Lists.{all_push}
 use Rattle.mv_calls.specs.Numbers.{Numbering, unnumbered, numbered_at, calls_from, calls}
 use Rattle.mv_machine.specs.Setup.{Setup}
 use Rattle.mv_machine.specs.System.{System, opening, with_at}
@@ -51,11 +52,6 @@ no_numbers Two es ns e n = (
 
 -- ---- one entry more
 
-all_more : (ns : List ℕ) (n : ℕ) → AllByRecursion (λ n. n ≤ highest_u32) ns → n ≤ highest_u32
-    → AllByRecursion (λ n. n ≤ highest_u32) (ns ++ n ∷ [])
-all_more [] n h le = (le, tt)
-all_more (m ∷ ns) n h le = (h.0, all_more ns n h.1 le)
-
 -- its number, if its line has one, comes behind the others
 pub number_more : (v : Version) (es : List Entry) (ns : List ℕ) (call : Option ℕ) (e : Entry) → AreEach v es ns → IsCallIn v call
     → AreEach v (es ++ e ∷ []) (with_call call ns)
@@ -63,7 +59,7 @@ number_more One es ns None e h m = h
 number_more One es ns (Some n) e h m = absurd m
 number_more Two es ns None e h m = absurd m
 number_more Two es ns (Some n) e h m =
-    (length-append ns (n ∷ []) ∙ ap (λ (k : ℕ). k + 1) h.0 ∙ sym (length-append es (e ∷ [])), all_more ns n h.1 m)
+    (length-append ns (n ∷ []) ∙ ap (λ (k : ℕ). k + 1) h.0 ∙ sym (length-append es (e ∷ [])), all_push (λ k. k ≤ highest_u32) ns n h.1 m)
 
 -- without numbers
 pub plain_more : (es : List Entry) (e : Entry) → entry_lines (es ++ e ∷ []) [] ≡ entry_lines es [] ++ EntryOf None e ∷ []

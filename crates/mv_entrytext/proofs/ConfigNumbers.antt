@@ -1,12 +1,12 @@
 -- The numbers of a valid configuration.
-use Rattle.std.proofs.Common.{◌≡◌, ℕ, ◌+◌, ◌≤◌, Bool, true, false, cond, leb, ◌||◌, Some, None, Option, List, [], ◌∷◌, length, sum}
+use Rattle.std.proofs.Common.{◌≡◌, ℕ, ◌+◌, ◌≤◌, Bool, true, false, cond, leb, ◌||◌, Some, None, List, [], ◌∷◌, length, sum}
 use Rattle.std.proofs.Common.{refl, arith}
 use Rattle.std.specs.List.{AllByRecursion, position_from, list_all, list_any}
-use Rattle.std.specs.Option.{option_map}
 use Rattle.std.proofs.lemmas.Bool.{leb-false, leb-true, and_parts, or_parts}
 use Rattle.std.proofs.lemmas.List.Sums.{sum_by-cons}
 use Rattle.mv_machine.specs.Setup.{Setup, SetupExit}
-use Rattle.mv_machine.specs.Check.{IsValid, first_limit, first_bad_owner, first_bad_exit, bad_budget, is_bad_exit, is_within, or_else}
+use Rattle.mv_machine.specs.Check.{IsValid, first_limit, first_bad_owner, first_bad_exit, bad_budget, is_bad_exit, is_within}
+use Rattle.mv_calls.proofs.TableFacts.{both_none, none_mapped}
 use Rattle.mv_entrytext.specs.Ranges.{highest_u32}
 
 abbrev pub AreU32 : List ℕ → Type 0
@@ -29,14 +29,6 @@ pub record HasNumbers (c : Setup) : Type 0 where
   pub owners : AreU32 c.owners
   pub exits : AllByRecursion IsExit c.exits
 
-both_none : {A : Type 0} (a b : Option A) → or_else a b ≡ None → (a ≡ None) × (b ≡ None)
-both_none None b e = (refl, e)
-both_none (Some x) b e = absurd cc
-
-map_none : {A B : Type 0} (f : A → B) (o : Option A) → option_map f o ≡ None → o ≡ None
-map_none f None e = refl
-map_none f (Some x) e = absurd cc
-
 pub record Passes (c : Setup) : Type 0 where
   pub limit : first_limit c ≡ None
   pub owner : first_bad_owner c ≡ None
@@ -48,7 +40,7 @@ passes c v =
     let one = both_none _ _ v in
     let two = both_none _ _ one.1 in
     let three = both_none _ _ two.1 in
-    record { limit = map_none _ _ one.0; owner = map_none _ _ two.0; exit = map_none _ _ three.0; budget = map_none _ _ three.1 }
+    record { limit = none_mapped _ _ one.0; owner = none_mapped _ _ two.0; exit = none_mapped _ _ three.0; budget = none_mapped _ _ three.1 }
 
 all_pass : {A : Type 0} (t : A → Bool) (i : ℕ) (xs : List A) → position_from t i xs ≡ None → AllByRecursion (λ x. t x ≡ false) xs
 all_pass t i [] e = tt

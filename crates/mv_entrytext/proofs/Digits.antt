@@ -9,12 +9,10 @@ use Rattle.std.proofs.lemmas.Fmt.{decimal_is_IsNumeral, decimal_digit, first_dec
 use Rattle.std.proofs.lemmas.Str.Parse.{IsNumeralModel, tells_digits, digit_from_value, numerals_by_fold}
 use Rattle.mv_line.specs.Byte.{is_within, is_digit}
 use Rattle.mv_line.specs.Number.{is_number, number_of, value_behind, within}
+use Rattle.mv_line.proofs.Numbers.{is_digit-true}
 use Rattle.mv_entrytext.specs.Ranges.{highest_u64}
 
 -- ---- digits
-
-pub is_digit-true : (c : ℕ) → IsInRange 48 57 c → is_digit c ≡ true
-is_digit-true c h = rw (le-leb 48 c h.0, le-leb c 57 h.1) refl
 
 digit_range : (c : ℕ) → is_digit c ≡ true → IsInRange 48 57 c
 digit_range c e =

@@ -104,7 +104,7 @@ unfolding next_line count_line behind
 end_read v n le = rw (u32_alone n le) refl
 
 -- the fields of an exit
-abbrev targets_text : List ℕ → List ℕ
+abbrev pub targets_text : List ℕ → List ℕ
 targets_text ts = flat_map (λ t. codes " " ++ decimal t) ts
 
 fields_again : (n : ℕ) (ts : List ℕ) → parts_at 32 (decimal n ++ targets_text ts) ≡ decimal n ∷ map decimal ts

@@ -2,9 +2,10 @@
 use Rattle.std.proofs.Common.{◌≡◌, ℕ, ◌≤◌, true, List, [], ◌∷◌, ◌++◌, Option, Some, None, decimal, refl, sym, ap, subst, ◌∙◌}
 use Rattle.std.specs.Prelude.{codes}
 use Rattle.std.specs.Option.{option_map}
-use Rattle.std.specs.List.{flat_map, join_with_byte}
+use Rattle.std.specs.List.{join_with_byte}
 use Rattle.std.proofs.lemmas.List.{append-nil}
 use Rattle.std.proofs.lemmas.List.Concat.{flat_map-cons}
+use Rattle.std.proofs.lemmas.Option.{same_Some}
 use Rattle.mv_machine.specs.Setup.{SetupExit}
 use Rattle.mv_line.specs.Part.{parts_at}
 use Rattle.mv_entrytext.specs.declared.version.Version.TheVariants.{One, Two}
@@ -16,14 +17,12 @@ use Rattle.mv_entrytext.specs.Journal.{EntryOf, End, line_text}
 use Rattle.mv_entrytext.specs.Lines.{Stage, AtVersion, AtCallers, AtElements, AtVolumes, AtLatches, AtQuota, AtBudgets, AtOwners}
 use Rattle.mv_entrytext.specs.Lines.{AtExits, AtEntries, AtEnd, numbers, exit_from, exit_read, count_line, next_line, line_read}
 use Rattle.mv_entrytext.proofs.CallNumbers.{IsCallIn}
+use Rattle.mv_entrytext.proofs.LinesAgain.{targets_text}
 use Rattle.mv_entrytext.proofs.Parts.{joined_again}
-use Rattle.mv_entrytext.proofs.Taken.{Takes, bound, some_is, takes_nothing, word_or, part_or, u32_or, takes_made, takes_whole, takes_u32}
+use Rattle.mv_entrytext.proofs.Taken.{Takes, bound, takes_nothing, word_or, part_or, u32_or, takes_made, takes_whole, takes_u32}
 use Rattle.mv_entrytext.proofs.KindsTaken.{pair_text, takes_two, numbered_text, IsNumbered, takes_entry}
 
 -- ---- the fields of an exit
-
-abbrev targets_text : List ℕ → List ℕ
-targets_text ts = flat_map (λ t. codes " " ++ decimal t) ts
 
 -- numbers, parted by single spaces
 abbrev spaced : List ℕ → List ℕ
@@ -36,7 +35,7 @@ spaced_more n m ns = ap (λ (x : List ℕ). decimal n ++ x) (sym (flat_map-cons 
 mapped_cons : (n : ℕ) (o : Option (List ℕ)) (ns : List ℕ) → option_map (λ ms. n ∷ ms) o ≡ Some ns
     → (ms : List ℕ) × (o ≡ Some ms) × (n ∷ ms ≡ ns)
 mapped_cons n None ns e = absurd cc
-mapped_cons n (Some ms) ns e = (ms, refl, some_is (n ∷ ms) ns e)
+mapped_cons n (Some ms) ns e = (ms, refl, same_Some (n ∷ ms) ns e)
 
 one_number : (field : List ℕ) (n : ℕ) → whole (any_u32 true) field ≡ Some n → field ≡ decimal n
 one_number field n e = (takes_whole decimal (λ n. n ≤ highest_u32) (any_u32 true) takes_u32 field n e).0
@@ -54,10 +53,10 @@ one_more n ms m ks e = rw e (spaced_more n m ks)
 
 takes_numbers : (fields : List (List ℕ)) (ns : List ℕ) → numbers true fields ≡ Some ns → join_with_byte 32 fields ≡ spaced ns
 unfolding numbers
-takes_numbers [] ns e = ap spaced (some_is [] ns e)
+takes_numbers [] ns e = ap spaced (same_Some [] ns e)
 takes_numbers (f ∷ []) ns e =
     let b = bound (λ n. option_map (λ ms. n ∷ ms) (Some [])) (whole (any_u32 true) f) ns e in
-    one_number f b.0 b.1 ∙ sym (append-nil (decimal b.0)) ∙ ap spaced (some_is (b.0 ∷ []) ns b.2)
+    one_number f b.0 b.1 ∙ sym (append-nil (decimal b.0)) ∙ ap spaced (same_Some (b.0 ∷ []) ns b.2)
 takes_numbers (f ∷ g ∷ fs) ns e =
     let b = bound (λ n. option_map (λ ms. n ∷ ms) (numbers true (g ∷ fs))) (whole (any_u32 true) f) ns e in
     let m = mapped_cons b.0 (numbers true (g ∷ fs)) ns b.2 in
@@ -73,7 +72,7 @@ from_numbers [] x rest e = absurd cc
 from_numbers (s ∷ []) x rest e = absurd cc
 from_numbers (s ∷ t ∷ ts) x rest e =
     let made : SetupExit = record { source = s; targets = t ∷ ts } in
-    let same : (made, []) ≡ (x, rest) = some_is (made, []) (x, rest) e in
+    let same : (made, []) ≡ (x, rest) = same_Some (made, []) (x, rest) e in
     subst (λ y. spaced (s ∷ t ∷ ts) ≡ exit_text y.0 ++ y.1) same (sym (append-nil (exit_text made)))
 
 takes_exit : Takes exit_text (λ x. Unit {0}) (exit_read true)

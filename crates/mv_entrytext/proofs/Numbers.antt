@@ -10,7 +10,8 @@ use Rattle.mv_line.specs.Byte.{is_digit}
 use Rattle.mv_entrytext.specs.Ranges.{highest_u32, highest_u64}
 use Rattle.mv_entrytext.specs.Words.{◌<+>◌}
 use Rattle.mv_entrytext.specs.Reading.{digit_count, number, any_u32, any_u64, Reader, parted_at, parted_by}
-use Rattle.mv_entrytext.proofs.Digits.{is_digit-true, shown_again}
+use Rattle.mv_line.proofs.Numbers.{is_digit-true}
+use Rattle.mv_entrytext.proofs.Digits.{shown_again}
 
 -- no number goes on here
 abbrev pub Ends : List ℕ → Type 0

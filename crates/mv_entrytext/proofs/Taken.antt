@@ -7,6 +7,7 @@ use Rattle.std.proofs.lemmas.Bool.{eqb-true}
 use Rattle.std.proofs.lemmas.Bool.Decides.{Decides-eqb}
 use Rattle.std.proofs.lemmas.Slice.Eq.{starts_is}
 use Rattle.std.proofs.lemmas.List.{take-append-drop, append-nil, nil_from_length}
+use Rattle.std.proofs.lemmas.Option.{same_Some}
 use Rattle.mv_line.specs.Number.{number_of, within}
 use Rattle.mv_entrytext.specs.Ranges.{highest_u32, highest_u64}
 use Rattle.mv_entrytext.specs.Words.{◌<+>◌}
@@ -24,9 +25,6 @@ TakesBehind {A} word show Fine reader =
     (text rest : List ℕ) (a : A) → reader text ≡ Some (a, rest) → (word ++ text ≡ show a ++ rest) × Fine a
 
 -- ---- readers put together
-
-pub some_is : {A : Type 0} (x y : A) → Some x ≡ Some y → x ≡ y
-some_is x y e = cc
 
 pub takes_nothing : {A : Type 0} (show : A → List ℕ) (Fine : A → Type 0) → Takes show Fine nothing
 takes_nothing show Fine text rest a e = absurd cc
@@ -47,14 +45,14 @@ takes_behind word show Fine reader other here there text rest a e = go (starts_w
 pub behind_given : {A : Type 0} (word : List ℕ) (show : A → List ℕ) (Fine : A → Type 0) (a : A) → word ≡ show a → Fine a
     → TakesBehind word show Fine (given a)
 behind_given word show Fine a is fine text rest b e =
-    let same : (a, text) ≡ (b, rest) = some_is (a, text) (b, rest) e in
+    let same : (a, text) ≡ (b, rest) = same_Some (a, text) (b, rest) e in
     subst (λ x. (word ++ text ≡ show x.0 ++ x.1) × Fine x.0) same (ap (λ (w : List ℕ). w ++ text) is, fine)
 
 mapped : {A B : Type 0} (f : A → B) (o : Option (A × List ℕ)) (b : B) (rest : List ℕ)
     → option_map {U = B × List ℕ} (λ x. (f x.0, x.1)) o ≡ Some (b, rest) → (a : A) × (o ≡ Some (a, rest)) × (f a ≡ b)
 mapped f None b rest e = absurd cc
 mapped f (Some x) b rest e =
-    let same : (f x.0, x.1) ≡ (b, rest) = some_is (f x.0, x.1) (b, rest) e in
+    let same : (f x.0, x.1) ≡ (b, rest) = same_Some (f x.0, x.1) (b, rest) e in
     (x.0, ap (λ (r : List ℕ). Some (x.0, r)) (ap (λ y. y.1) same), ap (λ y. y.0) same)
 
 pub takes_made : {A B : Type 0} (show : B → List ℕ) (Fine : B → Type 0) (f : A → B) (part : A → List ℕ) (Good : A → Type 0)
@@ -82,7 +80,7 @@ bound f (Some a) b e = (a, refl, e)
 byte_first : (byte : ℕ) (text rest : List ℕ) → after (byte ∷ []) text ≡ Some rest → text ≡ byte ∷ rest
 byte_first byte text rest e = go (starts_with eqb text (byte ∷ [])) refl e where
   go : (b : Bool) → starts_with eqb text (byte ∷ []) ≡ b → cond b (Some (drop 1 text)) None ≡ Some rest → text ≡ byte ∷ rest
-  go true s h = word_first text (byte ∷ []) s ∙ ap (λ (x : List ℕ). byte ∷ x) (some_is (drop 1 text) rest h)
+  go true s h = word_first text (byte ∷ []) s ∙ ap (λ (x : List ℕ). byte ∷ x) (same_Some (drop 1 text) rest h)
   go false s h = absurd cc
 
 pub takes_parted_at : {A B : Type 0} (byte : ℕ) (first : Reader A) (second : A → Reader B) (show : A → List ℕ) (tell : B → List ℕ)
@@ -118,7 +116,7 @@ takes_whole {A = A} show Fine reader takes text a e =
       go x true s r h =
           let nil : x.1 ≡ [] = nil_from_length x.1 (eqb-true (length x.1) 0 s) in
           let t = takes text x.1 x.0 r in
-          subst (λ y. (text ≡ show y) × Fine y) (some_is x.0 a h)
+          subst (λ y. (text ≡ show y) × Fine y) (same_Some x.0 a h)
           (t.0 ∙ ap (λ (r : List ℕ). show x.0 ++ r) nil ∙ append-nil (show x.0), t.1)
       go x false s r h = absurd cc
 
@@ -139,7 +137,7 @@ takes_number low high wide text rest n e =
       go true o z h = absurd cc
       go false None z h = absurd cc
       go false (Some m) z h =
-          let same : (m, drop (digit_count text) text) ≡ (n, rest) = some_is (m, drop (digit_count text) text) (n, rest) h in
+          let same : (m, drop (digit_count text) text) ≡ (n, rest) = same_Some (m, drop (digit_count text) text) (n, rest) h in
           let s = shown_is low high m (take (digit_count text) text) wide z in
           subst (λ x. (text ≡ decimal x.0 ++ x.1) × ((low ≤ x.0) × (x.0 ≤ high))) same (front_is text _ m refl s.0, (s.1, s.2))
 

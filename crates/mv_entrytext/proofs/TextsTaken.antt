@@ -11,6 +11,7 @@ use Rattle.mv_machine.specs.declared.config.CheckRefusal.{CheckRefusal}
 use Rattle.mv_machine.specs.Check.{IsValid, refusal_of}
 use Rattle.mv_machine.specs.Setup.{Setup, SetupExit}
 use Rattle.mv_line.specs.Part.{parts_at}
+use Rattle.mv_machine.proofs.Lists.{all_push}
 use Rattle.mv_entrytext.specs.declared.fault.Kind.{Kind}
 use Rattle.mv_entrytext.specs.declared.fault.Kind.TheVariants.{NoForm, BadNumber, BadConfig, WrongCount, Cut}
 use Rattle.mv_line.specs.declared.fault.TextFault.{TextFault}
@@ -149,10 +150,6 @@ no_refusal : (o : Option CheckRefusal) → cond {A = Option Kind} (is_some o) (S
 no_refusal None e = refl
 no_refusal (Some r) e = absurd cc
 
-all_more : {A : Type 0} (P : A → Type 0) (xs : List A) (x : A) → AllByRecursion P xs → P x → AllByRecursion P (xs ++ x ∷ [])
-all_more P [] x h p = (p, tt)
-all_more P (y ∷ ys) x h p = (h.0, all_more P ys x h.1 p)
-
 right_count : (a b : ℕ) → cond {A = Option Kind} (not (eqb a b)) (Some WrongCount) None ≡ None → a ≡ b
 right_count a b e = go (eqb a b) refl e where
   go : (t : Bool) → eqb a b ≡ t → cond {A = Option Kind} (not t) (Some WrongCount) None ≡ None → a ≡ b
@@ -174,7 +171,7 @@ then_entry read v c es ns front call e h t m =
           ∙ flat_map_more line (up_to_exits v c ++ line Events) (entry_lines es ns) (EntryOf call e)
           ∙ ap (λ (ls : List Line). up_to_exits v c ++ line Events ++ flat_map line ls) (sym (lines_more v es ns call e h.calls mine));
       valid = h.valid;
-      each = all_more HasText es e h.each t;
+      each = all_push HasText es e h.each t;
       calls = number_more v es ns call e h.calls mine;
     }
 

@@ -3,13 +3,13 @@ use Rattle.std.proofs.Common.{◌≡◌, ℕ, ◌+◌, Bool, true, false, List, 
 use Rattle.std.proofs.Common.{Result, Ok, Err, subst, refl, sym, ap, ◌∙◌}
 use Rattle.std.specs.Prelude.{OnOk, IfOk, IfErr, MatchResult, option_map}
 use Rattle.std.specs.List.{flat_map}
+use Rattle.std.proofs.lemmas.Option.{same_Some}
 use Rattle.mv_machine.specs.declared.entry.Entry.{Entry}
 use Rattle.mv_machine.specs.Legal.{Legal}
 use Rattle.mv_machine.specs.Setup.{Setup}
 use Rattle.mv_calls.specs.declared.judge.Judge.{Judge}
 use Rattle.mv_calls.specs.Judge.{IsJudgedNext}
 use Rattle.mv_calls.specs.Numbers.{calls}
-use Rattle.mv_calls.proofs.call_numbers.Prefixes.{calls_length}
 use Rattle.mv_entrytext.specs.declared.version.Version.{Version}
 use Rattle.mv_entrytext.specs.declared.version.Version.TheVariants.{One, Two}
 use Rattle.mv_entrytext.specs.declared.writing.JournalWriter.{JournalWriter}
@@ -17,7 +17,7 @@ use Rattle.mv_entrytext.specs.Fault.{AreCallsIn, HasJournal, IsTextIn}
 use Rattle.mv_entrytext.specs.Journal.{Line, EntryOf, End, line, first_line, entry_lines, head_text, journal_text, number_of, text_of}
 use Rattle.mv_entrytext.specs.Lines.{with_call}
 use Rattle.mv_entrytext.specs.Writer.{IsWrittenTo}
-use Rattle.mv_entrytext.proofs.CallNumbers.{numbered_more}
+use Rattle.mv_entrytext.proofs.OnePass.{call_line_more}
 use Rattle.mv_replay.specs.Course.{is_copied, made_of, IsCopied, IsRightTo, IsWrongAt, IsCourse, IsMade, IsWhole}
 use Rattle.mv_replay.specs.declared.judging.Judged.{Judged}
 use Rattle.mv_replay.specs.declared.status.ReplayStatus.{ReplayStatus}
@@ -28,16 +28,6 @@ use Rattle.mv_replay.proofs.Wrong.{still_wrong, wrong_now, right_now, not_right}
 
 -- ---- what is copied
 
--- a writer is one
-one_writer : (x w : JournalWriter) → Some x ≡ Some w → x ≡ w
-one_writer x w e = cc
-
--- the line of one more entry, with its number
-pub lines_now : (c : Setup) (es : List Entry) (e : Entry) (n : ℕ) → calls c (es ++ e ∷ []) ≡ calls c es ++ n ∷ []
-    → entry_lines (es ++ e ∷ []) (calls c (es ++ e ∷ [])) ≡ entry_lines es (calls c es) ++ EntryOf (Some n) e ∷ []
-lines_now c es e n number =
-    ap (λ (ns : List ℕ). entry_lines (es ++ e ∷ []) ns) number ∙ numbered_more es (calls c es) e n (calls_length c es)
-
 -- where it was written, it is copied
 pub copied_now : {A B : Type 0} (copied : Bool) (c : Setup) (es : List Entry) (e : Entry) (n : ℕ) (old : Option JournalWriter)
     (w new : JournalWriter) (r : Result A B) → old ≡ Some w → IsCopied copied c es old → calls c (es ++ e ∷ []) ≡ calls c es ++ n ∷ []
@@ -45,9 +35,9 @@ pub copied_now : {A B : Type 0} (copied : Bool) (c : Setup) (es : List Entry) (e
     → OnOk r (IsCopied copied c (es ++ e ∷ []) (Some new))
 copied_now true c es e n None w new r is h number push = absurd h
 copied_now true c es e n (Some x) w new r is h number push =
-    subst (λ (ls : List Line). OnOk r (IsWrittenTo Two c ls new)) (sym (lines_now c es e n number))
+    subst (λ (ls : List Line). OnOk r (IsWrittenTo Two c ls new)) (sym (call_line_more c es e n number))
     (push (entry_lines es (calls c es))
-    (subst (λ (y : JournalWriter). IsWrittenTo Two c (entry_lines es (calls c es)) y) (one_writer x w is) h))
+    (subst (λ (y : JournalWriter). IsWrittenTo Two c (entry_lines es (calls c es)) y) (same_Some x w is) h))
 copied_now false c es e n (Some x) w new r is h number push = absurd h
 copied_now false c es e n None w new r is h number push = absurd cc
 
@@ -60,7 +50,7 @@ unfolding text_of
 made_now true c es count None w text is h number end = absurd h
 made_now true c es count (Some x) w text is h number end =
     end (entry_lines es (calls c es))
-    (subst (λ (y : JournalWriter). IsWrittenTo Two c (entry_lines es (calls c es)) y) (one_writer x w is) h)
+    (subst (λ (y : JournalWriter). IsWrittenTo Two c (entry_lines es (calls c es)) y) (same_Some x w is) h)
     ∙ ap (λ (n : ℕ). head_text Two c ++ flat_map line (entry_lines es (calls c es)) ++ line (End n)) number
 made_now false c es count (Some x) w text is h number end = absurd h
 made_now false c es count None w text is h number end = absurd cc

@@ -1,5 +1,6 @@
 -- A text asks for one ending at most, and a replay has that one where nothing fails.
 use Rattle.std.proofs.Common.{◌≡◌, ℕ, ◌+◌, List, length, Option, Some, None, refl, sym, ap, ◌∙◌, arith, inl, inr}
+use Rattle.std.proofs.lemmas.Option.{same_Some}
 use Rattle.mv_machine.specs.declared.entry.Entry.{Entry}
 use Rattle.mv_machine.specs.Setup.{Setup}
 use Rattle.mv_line.specs.declared.fault.TextFault.{TextFault}
@@ -62,10 +63,6 @@ one_line bytes m n i j =
     let at : i.index ≡ j.index = one_first j.version j.setup j.entries j.calls i.index j.index first j.first in
     i.place ∙ ap (λ (c : Setup). first_line c + i.index) same.1 ∙ ap (λ (k : ℕ). first_line j.setup + k) at ∙ sym j.place
 
--- and one first fault
-one_fault : (f g : TextFault) → Some f ≡ Some g → f ≡ g
-one_fault f g e = cc
-
 -- so it is found to be one thing
 pub one_finding : (bytes : List ℕ) (s t : ReplayStatus) → IsFound bytes s → IsFound bytes t → s ≡ t
 one_finding bytes TooLong t a b = absurd a
@@ -80,7 +77,7 @@ one_finding bytes (Illegal m) (Illegal n) a b = ap (λ (k : ℕ). Illegal k) (on
 one_finding bytes (Illegal m) (Text g) a b = absurd (not_faulty bytes g (illegal_is_sound bytes m a) b)
 one_finding bytes (Text f) Done a b = absurd (not_faulty bytes f (legal_is_sound bytes b.0 b.1) a)
 one_finding bytes (Text f) (Illegal n) a b = absurd (not_faulty bytes f (illegal_is_sound bytes n b) a)
-one_finding bytes (Text f) (Text g) a b = ap (λ (h : TextFault). Text h) (one_fault f g (sym a ∙ b))
+one_finding bytes (Text f) (Text g) a b = ap (λ (h : TextFault). Text h) (same_Some f g (sym a ∙ b))
 one_finding bytes s t a b = absurd b
 
 -- ---- the ending that an input asks for

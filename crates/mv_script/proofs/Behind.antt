@@ -21,7 +21,8 @@ use Rattle.mv_script.specs.Reading.{HasCosts, IsAsFar, Stands}
 use Rattle.mv_script.specs.Script.{task_count, owners_of, exits_of, tasks_of, with_call, last_task, budgets_of, sizes_behind, is_obtain}
 use Rattle.mv_script.specs.Sound.{IsGoodStatement}
 use Rattle.mv_script.specs.Table.{uses_any}
-use Rattle.mv_script.proofs.Progresses.{same_any, one_ecb, one_exit, one_table, one_task, one_call, the_end, sound_script, sound_ecb}
+use Rattle.mv_latch.proofs.Joined.{same_any}
+use Rattle.mv_script.proofs.Progresses.{one_ecb, one_exit, one_table, one_task, one_call, the_end, sound_script, sound_ecb}
 use Rattle.mv_script.proofs.Progresses.{sound_exit, sound_table}
 use Rattle.mv_script.proofs.Progresses.{sound_task, sound_call, sound_end, same_cost, call_cost, without_tasks, is_positive}
 use Rattle.mv_script.proofs.Told.{fine}
@@ -58,6 +59,11 @@ count_push calls c = sum_by-append (λ (d : Call). cond (is_obtain d) 1 0) calls
 pub none_of : {A : Type 0} (o : Option A) → is_some o ≡ false → o ≡ None
 none_of None e = refl
 none_of (Some a) e = absurd (cc e)
+
+-- SCRIPT stays the first
+pub stays_first : (earlier : List Statement) (s : Statement) → is_script s ≡ false → has_script earlier ≡ true
+    → has_script (earlier ++ s ∷ []) ≡ false → earlier ++ s ∷ [] ≡ []
+stays_first earlier s e h f = absurd (cc (same_any is_script earlier s e, h, f))
 
 -- where no task has begun nothing costs
 none_costs : (o : Option Setup) (c : Setup) → is_some o ≡ false → HasCosts o c
@@ -162,11 +168,6 @@ module _ (earlier : List Statement) (n : Notes) (b : Stands earlier n) where
       (one_table earlier t (none_of p.table (ap is_some (sym b.far.table) ∙ first)))
       ∙ cheap (sum (budgets_in p)) b.far.sound.light
 
-  -- SCRIPT stays the first
-  still_first : (s : Statement) → is_script s ≡ false → has_script earlier ≡ true → has_script (earlier ++ s ∷ []) ≡ false
-      → earlier ++ s ∷ [] ≡ []
-  still_first s e h f = absurd (cc (same_any is_script earlier s e, h, f))
-
   -- the statement has no fault, and the reader is behind it
   taken : (s : Statement) (q : Progress) (m : Notes) → progress_of (earlier ++ s ∷ []) ≡ q → IsAsFar q m → is_script s ≡ false
       → has_script earlier ≡ true → is_out_of_order earlier s ≡ false → is_miscounted earlier s ≡ false → leads_down s ≡ false
@@ -175,7 +176,7 @@ module _ (earlier : List Statement) (n : Notes) (b : Stands earlier n) where
   taken s q m is far other script order many up meant spares fits = (
     fine earlier s order many up meant (cheap (sum (budgets_of (earlier ++ s ∷ []))) (subst IsSoundSoFar (sym is) far.sound).light)
         spares fits,
-    record { far = subst (λ (y : Progress). IsAsFar y m) (sym is) far; first = still_first s other script },
+    record { far = subst (λ (y : Progress). IsAsFar y m) (sym is) far; first = stays_first earlier s other script },
   )
 
   -- no task is finished where none has begun

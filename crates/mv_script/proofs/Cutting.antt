@@ -1,8 +1,9 @@
 -- What was heard of calls that were set one after the other is cut where the first is done.
 use Rattle.std.proofs.Common.{◌≡◌, List, [], ◌∷◌, ◌++◌, refl, ap, subst}
+use Rattle.std.proofs.lemmas.Option.{some_pair_parts}
 use Rattle.mv_calls.specs.Keeping.{Kept, kept_after, kept_from}
 use Rattle.mv_calls.specs.Program.{Program, Do, Done, Early, Wrong, Call, Heard, IsDoneOn, going_on, followed, entries}
-use Rattle.mv_eventlaws.proofs.Programs.{pair_parts, early_never, wrong_never}
+use Rattle.mv_eventlaws.proofs.Programs.{early_never, wrong_never}
 
 -- a program that is done, and behind it the call that follows by its answer, begun with what is kept by then
 pub record IsCut {A B : Type 0} (kept : Kept) (p : Program A) (f : A → Call B) (hs : List Heard) (answer : B) : Type 0 where
@@ -29,7 +30,7 @@ cut kept (Do o op follow) f [] answer w = absurd (cc w.done)
 cut kept (Do o op follow) f (h ∷ hs) answer w =
     let r : IsCut (kept_after kept o op h.entry.reply) (follow h) f hs answer =
     cut (kept_after kept o op h.entry.reply) (follow h) f hs answer (record { says = w.says.1; done = w.done }) in
-    let q : (o ≡ h.entry.object) × (op ≡ h.entry.op) = pair_parts o h.entry.object op h.entry.op w.says.0 in
+    let q : (o ≡ h.entry.object) × (op ≡ h.entry.op) = some_pair_parts o h.entry.object op h.entry.op w.says.0 in
     record {
       piece = h ∷ r.piece;
       later = r.later;

@@ -1,11 +1,10 @@
 -- A number in front of a text is read again, where no further digit follows it.
-use Rattle.std.proofs.Common.{◌≡◌, ℕ, ◌<◌, true, cond, List, [], ◌∷◌, ◌++◌, length, decimal, refl, sym, ap, ◌∙◌, arith}
-use Rattle.std.specs.Int.{IsInRange}
+use Rattle.std.proofs.Common.{◌≡◌, ℕ, ◌<◌, cond, List, [], ◌∷◌, ◌++◌, length, decimal, refl, sym, ap, ◌∙◌, arith}
 use Rattle.std.specs.Str.Parse.{AllDigits, digits_value}
-use Rattle.std.proofs.lemmas.Bool.{le-leb}
 use Rattle.std.proofs.lemmas.Fmt.{decimal_is_IsNumeral, decimal_nonempty}
 use Rattle.std.proofs.lemmas.Str.Parse.{digit_from_value}
 use Rattle.mv_line.specs.Byte.{is_digit}
+use Rattle.mv_line.proofs.Numbers.{is_digit-true}
 use Rattle.mv_script.specs.AnswerText.{IsNumber}
 
 -- the digits in front of a text, the number that they show, and what stands behind them
@@ -23,9 +22,6 @@ behind_digits (b ∷ bs) = cond (is_digit b) (behind_digits bs) (b ∷ bs)
 -- no digit stands in front
 abbrev pub Ends : List ℕ → Type 0
 Ends text = (digits_in text ≡ []) × (behind_digits text ≡ text)
-
-pub is_digit-true : (c : ℕ) → IsInRange 48 57 c → is_digit c ≡ true
-is_digit-true c h = rw (le-leb 48 c h.0, le-leb c 57 h.1) refl
 
 digits_again : (ds rest : List ℕ) → AllDigits 10 ds → Ends rest
     → (digits_in (ds ++ rest) ≡ ds) × (behind_digits (ds ++ rest) ≡ rest)

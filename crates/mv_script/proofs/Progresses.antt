@@ -5,9 +5,9 @@ use Rattle.std.specs.Prelude.{nat_lt, nat_le, sum, count_by}
 use Rattle.std.specs.List.{AllByRecursion, list_any}
 use Rattle.std.proofs.lemmas.List.{append-nil, length-append, map-append}
 use Rattle.std.proofs.lemmas.List.Elements.{filter_map-append}
-use Rattle.std.proofs.lemmas.List.Folds.{list_any-append}
 use Rattle.std.proofs.lemmas.List.Sums.{fold_push, sum_by-append, sum_by-cons}
 use Rattle.mv_line.specs.Byte.{is_within}
+use Rattle.mv_latch.proofs.Joined.{same_any, some_any}
 use Rattle.mv_machine.proofs.Lists.{all_append}
 use Rattle.mv_machine.specs.Check.{or_else}
 use Rattle.mv_machine.specs.Limits.{events_limit}
@@ -28,23 +28,6 @@ use Rattle.mv_script.specs.Sound.{IsEcb, HasGoodNumbers, IsObtainOf, IfThere, Is
 use Rattle.mv_script.specs.Table.{uses_any}
 
 -- ---- what one more statement adds
-
-or_false : (b : Bool) → (b || false) ≡ b
-or_false true = refl
-or_false false = refl
-
-or_true : (b : Bool) → (b || true) ≡ true
-or_true true = refl
-or_true false = refl
-
--- a statement that does not pass a test changes nothing
-pub same_any : (p : Statement → Bool) (earlier : List Statement) (s : Statement) → p s ≡ false
-    → list_any p (earlier ++ s ∷ []) ≡ list_any p earlier
-same_any p earlier s e = list_any-append p earlier (s ∷ []) ∙ rw e (or_false (list_any p earlier))
-
--- one that passes it makes it true
-some_any : (p : Statement → Bool) (earlier : List Statement) (s : Statement) → p s ≡ true → list_any p (earlier ++ s ∷ []) ≡ true
-some_any p earlier s e = list_any-append p earlier (s ∷ []) ∙ rw e (or_true (list_any p earlier))
 
 -- the tasks that are stated are those of the first SCRIPT
 same_count : (earlier : List Statement) (s : Statement) → is_script s ≡ false → task_count (earlier ++ s ∷ []) ≡ task_count earlier

@@ -8,16 +8,16 @@ use Rattle.mv_machine.specs.Limits.{events_limit}
 use Rattle.mv_calls.specs.Table.{table_refusal}
 use Rattle.mv_line.specs.Line.{shown, is_ignored, is_foreign, is_too_long}
 use Rattle.mv_script.specs.declared.fault.Kind.{Kind}
-use Rattle.mv_script.specs.declared.fault.Kind.TheVariants.{ForeignByte, TooLong, NoForm, BadNumber, OutOfOrder, Miscounted, LeadsDown}
-use Rattle.mv_script.specs.declared.fault.Kind.TheVariants.{NoObtain, TooCostly, UsesTable, BadTable}
+use Rattle.mv_script.specs.declared.fault.Kind.TheVariants.{ForeignByte, TooLong, NoForm, BadNumber}
+use Rattle.mv_script.specs.declared.fault.Kind.TheVariants.{BadTable}
 use Rattle.mv_script.specs.declared.statement.Statement.{Statement}
 use Rattle.mv_script.specs.declared.statement.Statement.TheVariants as statement
 use Rattle.mv_script.specs.Costs.{costs_of}
-use Rattle.mv_script.specs.Fault.{has_script, has_task, has_end, is_script, is_out_of_order, is_miscounted, leads_down, lacks_obtain}
+use Rattle.mv_script.specs.Fault.{has_script, has_task, has_end, is_out_of_order, is_miscounted, leads_down, lacks_obtain}
 use Rattle.mv_script.specs.Fault.{uses_table, is_bad_table}
 use Rattle.mv_script.specs.Fault.{is_too_costly, kinds_of, kinds_of_statement, kinds_behind, faults_from, first_fault}
 use Rattle.mv_line.specs.Fault.{first_of_list}
-use Rattle.mv_line.proofs.Faults.{no_kinds, no_fault_at_end}
+use Rattle.mv_line.proofs.Faults.{none_when, no_kinds, no_fault_at_end}
 use Rattle.mv_script.specs.Fault.{line_rules, when, has_no_form, has_bad_number}
 use Rattle.mv_script.specs.Limits.{most_ecbs, most_exits, most_calls}
 use Rattle.mv_script.specs.Reading.{progress_of, budgets_in, IsSoundSoFar}
@@ -30,10 +30,10 @@ use Rattle.mv_script.specs.Words.{Read}
 use Rattle.mv_script.proofs.Costs.{costs_same, map_same}
 use Rattle.mv_script.proofs.Good.{read_well}
 use Rattle.mv_script.proofs.Passes.{one_line}
-use Rattle.mv_script.proofs.Progresses.{same_any, one_ecb, one_exit, one_table, one_task, one_call, the_end, sound_at_first, sound_script}
+use Rattle.mv_script.proofs.Progresses.{one_ecb, one_exit, one_table, one_task, one_call, the_end, sound_at_first, sound_script}
 use Rattle.mv_script.proofs.Progresses.{sound_table}
 use Rattle.mv_script.proofs.Progresses.{sound_ecb, sound_exit, sound_task, sound_call, sound_end, call_cost, is_positive}
-use Rattle.mv_script.proofs.Behind.{only_first, none_of}
+use Rattle.mv_script.proofs.Behind.{only_first, stays_first, none_of}
 use Rattle.std.proofs.lemmas.Bool.{or_parts}
 
 -- ---- what holds behind statements without fault
@@ -53,11 +53,6 @@ pub record IsFine (earlier : List Statement) (s : Statement) : Type 0 where
   pub spares : uses_table earlier s ≡ false
   pub fits : is_bad_table earlier s ≡ false
 
--- no kind in front, and none behind
-none_when : (b : Bool) (k : Kind) (kinds : List ℕ) → when b k ++ kinds ≡ [] → (b ≡ false) × (kinds ≡ [])
-none_when false k kinds e = (refl, e)
-none_when true k kinds e = absurd cc
-
 -- the last one
 none_last : (b : Bool) (k : Kind) → when b k ≡ [] → b ≡ false
 none_last false k e = refl
@@ -70,14 +65,14 @@ and_true false = refl
 
 is_fine : (earlier : List Statement) (s : Statement) → kinds_behind earlier s ≡ [] → IsFine earlier s
 is_fine earlier s e =
-    let a = none_when (is_out_of_order earlier s) OutOfOrder _ e in
+    let a = none_when (is_out_of_order earlier s) _ _ e in
     let keeps : (b : Bool) → (b && not (is_out_of_order earlier s)) ≡ false → b ≡ false =
     λ b h. sym (and_true b) ∙ ap (λ (o : Bool). b && not o) (sym a.0) ∙ h in
-    let m = none_when (is_miscounted earlier s && not (is_out_of_order earlier s)) Miscounted _ a.1 in
-    let d = none_when (leads_down s && not (is_out_of_order earlier s)) LeadsDown _ m.1 in
-    let o = none_when (lacks_obtain earlier s && not (is_out_of_order earlier s)) NoObtain _ d.1 in
-    let c = none_when (is_too_costly earlier s && not (is_out_of_order earlier s)) TooCostly _ o.1 in
-    let u = none_when (uses_table earlier s && not (is_out_of_order earlier s)) UsesTable _ c.1 in
+    let m = none_when (is_miscounted earlier s && not (is_out_of_order earlier s)) _ _ a.1 in
+    let d = none_when (leads_down s && not (is_out_of_order earlier s)) _ _ m.1 in
+    let o = none_when (lacks_obtain earlier s && not (is_out_of_order earlier s)) _ _ d.1 in
+    let c = none_when (is_too_costly earlier s && not (is_out_of_order earlier s)) _ _ o.1 in
+    let u = none_when (uses_table earlier s && not (is_out_of_order earlier s)) _ _ c.1 in
     record {
       order = a.0;
       count = keeps (is_miscounted earlier s) m.0;
@@ -98,11 +93,6 @@ light m e = grind arith
 
 enough : (k m : ℕ) → nat_lt m k ≡ false → k ≤ m
 enough k m e = grind arith
-
--- SCRIPT stays the first
-stays_first : (earlier : List Statement) (s : Statement) → is_script s ≡ false → has_script earlier ≡ true
-    → has_script (earlier ++ s ∷ []) ≡ false → earlier ++ s ∷ [] ≡ []
-stays_first earlier s e h f = absurd (cc (same_any is_script earlier s e, h, f))
 
 holds_more : (earlier : List Statement) (s : Statement) → Holds earlier → IsGoodStatement (sizes_behind earlier) s → IsFine earlier s
     → Holds (earlier ++ s ∷ [])
@@ -177,10 +167,10 @@ states_fine : (earlier : List Statement) (line : List ℕ) (states : Option (Rea
     ++ (when (has_bad_number states) BadNumber ++ kinds_of_statement earlier states))) ≡ []
     → kinds_of_statement earlier states ≡ []
 states_fine earlier line states e =
-    let a = none_when (is_foreign line) ForeignByte _ e in
-    let b = none_when (is_too_long line) TooLong _ a.1 in
-    let c = none_when (has_no_form states) NoForm _ b.1 in
-    (none_when (has_bad_number states) BadNumber _ c.1).1
+    let a = none_when (is_foreign line) _ _ e in
+    let b = none_when (is_too_long line) _ _ a.1 in
+    let c = none_when (has_no_form states) _ _ b.1 in
+    (none_when (has_bad_number states) _ _ c.1).1
 
 -- what a line states is good
 line_well : (earlier : List Statement) (line : List ℕ) (s : Statement) → line_states (sizes_behind earlier) line ≡ Some (Ok s)

@@ -1,15 +1,16 @@
 -- No rule of configurations refuses that of a script which can be run.
-use Rattle.std.proofs.Common.{◌≡◌, ℕ, suc, ◌+◌, ◌<◌, ◌≤◌, true, false, ◌||◌, List, [], ◌∷◌, length, sum, None, refl}
+use Rattle.std.proofs.Common.{◌≡◌, ℕ, ◌+◌, ◌<◌, ◌≤◌, true, false, ◌||◌, List, [], ◌∷◌, length, sum, None, refl}
 use Rattle.std.proofs.Common.{arith, ◌*◌}
 use Rattle.std.specs.Prelude.{nat_le, replicate}
 use Rattle.std.specs.List.{AllByRecursion, position_from, list_all, list_any}
 use Rattle.std.proofs.lemmas.List.{length-replicate}
 use Rattle.std.proofs.lemmas.List.Folds.{sum_by-replicate}
 use Rattle.std.proofs.lemmas.Bool.{le-leb, lt-leb, eq-eqb}
-use Rattle.mv_machine.specs.declared.config.ConfigLimit.TheVariants.{Callers, Budgets, Ecbs, Exits, Targets}
-use Rattle.mv_machine.specs.Check.{IsValid, first_limit, first_bad_owner, first_bad_exit, bad_budget, is_bad_exit, is_within, keeps}
+use Rattle.mv_machine.specs.declared.config.ConfigLimit.TheVariants.{Budgets, Ecbs, Exits, Targets}
+use Rattle.mv_machine.specs.Check.{IsValid, is_bad_exit, is_within, keeps}
 use Rattle.mv_machine.specs.Limits.{events_limit}
-use Rattle.mv_machine.specs.Setup.{Setup, SetupExit}
+use Rattle.mv_machine.specs.Setup.{SetupExit}
+use Rattle.mv_machine.proofs.Validity.{nothing_refuses}
 use Rattle.mv_script.specs.declared.operand.Sizes.{Sizes}
 use Rattle.mv_script.specs.Reading.{Progress, setup_in, sizes_in, IsSoundSoFar}
 use Rattle.mv_script.specs.Sound.{IsEcb, IsSoundExit}
@@ -17,17 +18,6 @@ use Rattle.mv_script.specs.Sound.{IsEcb, IsSoundExit}
 -- a number within its limits
 within : (low high n : ℕ) → low ≤ n → n ≤ high → is_within low high n ≡ true
 within low high n a b = rw (le-leb low n a, le-leb n high b) refl
-
--- no limit is passed
-limits_kept : (c : Setup) → keeps Callers c ≡ true → c.elements_per_caller ≡ 4 → c.volumes ≡ 8 → c.latches ≡ 8 → c.quota ≡ 8
-    → c.posted_quota ≡ 4 → keeps Budgets c ≡ true → keeps Ecbs c ≡ true → keeps Exits c ≡ true → keeps Targets c ≡ true
-    → first_limit c ≡ None
-limits_kept c a e v l q p b o x t = rw (a, e, v, l, q, p, b, o, x, t) refl
-
--- each owner is a caller
-all_owned : (m : ℕ) (owners : List ℕ) (i : ℕ) → AllByRecursion (λ o. o < m) owners → position_from (λ o. nat_le m o) i owners ≡ None
-all_owned m [] i a = refl
-all_owned m (o ∷ owners) i a = rw (lt-leb m o a.0) (all_owned m owners (i + 1) a.1)
 
 -- each exit has few targets
 few_targets : (z : Sizes) (exits : List SetupExit) → AllByRecursion (IsSoundExit z) exits
@@ -49,24 +39,20 @@ good_exits z [] i a = refl
 good_exits z (x ∷ exits) i a =
     rw (lt-leb z.ecbs x.source a.0.source, good_targets z x.source x.targets a.0.up) (good_exits z exits (i + 1) a.1)
 
--- nothing refuses a configuration that passes each test
-none_refuses : (c : Setup) → first_limit c ≡ None → first_bad_owner c ≡ None → first_bad_exit c ≡ None → bad_budget c ≡ None → IsValid c
-none_refuses c l o x b = rw (l, o, x, b) refl
-
--- the budgets are few enough
-good_budgets : (c : Setup) → sum c.budgets ≤ events_limit → bad_budget c ≡ None
-good_budgets c le = rw (lt-leb (suc events_limit) (sum c.budgets) (omega (arith, le))) refl
-
 -- nothing refuses that of a script
 pub valid : (p : Progress) (budgets : List ℕ) → IsSoundSoFar p → 1 ≤ p.stated → length budgets ≡ p.stated → sum budgets ≤ events_limit
     → IsValid (setup_in p budgets)
 valid p budgets sound some each light =
-    none_refuses (setup_in p budgets)
-    (limits_kept (setup_in p budgets) (within 1 16 p.stated some (omega (arith, sound.few))) refl refl refl refl refl
-    (eq-eqb (length budgets) p.stated each) (le-leb (length p.owners) 131072 (omega (arith, sound.few_ecbs)))
-    (le-leb (length p.exits) 32768 (omega (arith, sound.few_exits))) (few_targets (sizes_in p) p.exits sound.exits))
-    (all_owned p.stated p.owners 0 sound.owners) (good_exits (sizes_in p) p.exits 1 sound.exits)
-    (good_budgets (setup_in p budgets) light)
+    let c = setup_in p budgets in
+    let listed : AllByRecursion (λ l. keeps l c ≡ true) (Budgets ∷ Ecbs ∷ Exits ∷ Targets ∷ []) = (
+      eq-eqb (length budgets) p.stated each,
+      (
+        le-leb (length p.owners) 131072 (omega (arith, sound.few_ecbs)),
+        (le-leb (length p.exits) 32768 (omega (arith, sound.few_exits)), (few_targets (sizes_in p) p.exits sound.exits, tt)),
+      ),
+    ) in
+    nothing_refuses c (within 1 16 p.stated some (omega (arith, sound.few)), (refl, (refl, (refl, (refl, (refl, listed)))))) sound.owners
+    (good_exits (sizes_in p) p.exits 1 sound.exits) light
 
 -- nor one with budgets of nothing
 pub valid_unbudgeted : (p : Progress) → IsSoundSoFar p → 1 ≤ p.stated → IsValid (setup_in p (replicate p.stated 0))

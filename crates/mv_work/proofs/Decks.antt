@@ -19,7 +19,7 @@ use Rattle.mv_plan.specs.SpoolSetup.{task_budgets, entered, done}
 use Rattle.mv_plan.proofs.deck.Ends.{sound_job}
 use Rattle.mv_plan.proofs.deck.Planned.{planned}
 use Rattle.mv_plan.proofs.deck.Plans.{IsPlannedJob}
-use Rattle.mv_plan.proofs.lists.Lists.{all_map}
+use Rattle.mv_machine.proofs.Lists.{all_map}
 use Rattle.mv_work.specs.Parts.{HasInitiator, jobs_of}
 use Rattle.mv_work.specs.Waiting.{IsSpool}
 use Rattle.mv_work.proofs.Reaches.{block_count, reach_alone, reach_done, release_cost_is}

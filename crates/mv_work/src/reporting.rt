@@ -16,14 +16,8 @@ use std::alloc::Global;
 fn push_printed(alloc: Global, texts: &mut Vec<Text>, step: &Step) -> Result<(), NoMemory>
     ensures { IfOk result (λ _. texts.new.items ≡ texts.old.items ++ lines_printed (Some step.now)) }
 {
-    match step {
-        Step::Print(text) => texts.push(print_line(alloc, text)?)?,
-        Step::Use(_, _)
-        | Step::Free(_)
-        | Step::Count(_, _)
-        | Step::Scan(_)
-        | Step::Abend(_)
-        | Step::Return(_) => {}
+    if let Step::Print(text) = step {
+        texts.push(print_line(alloc, text)?)?;
     }
     Ok(())
 }
@@ -37,14 +31,8 @@ fn push_scanned(
 ) -> Result<(), NoMemory>
     ensures { IfOk result (λ _. texts.new.items ≡ texts.old.items ++ lines_scanned steady (Some step.now)) }
 {
-    match step {
-        Step::Scan(volume) => texts.push(scan_line(alloc, *volume, steady)?)?,
-        Step::Print(_)
-        | Step::Use(_, _)
-        | Step::Free(_)
-        | Step::Count(_, _)
-        | Step::Abend(_)
-        | Step::Return(_) => {}
+    if let Step::Scan(volume) = step {
+        texts.push(scan_line(alloc, *volume, steady)?)?;
     }
     Ok(())
 }

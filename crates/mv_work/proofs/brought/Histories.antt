@@ -14,7 +14,7 @@ use Rattle.mv_machine.specs.System.{System}
 use Rattle.mv_machine.specs.Told.{told}
 use Rattle.mv_calls.specs.Program.{noted, entries, wakes_then}
 use Rattle.mv_calls.specs.Runs.{heard_in}
-use Rattle.mv_calls.proofs.Hearing.{of_own, of_other}
+use Rattle.mv_machine.proofs.Places.{of_mine, of_other}
 use Rattle.mv_deck.specs.Deck.{JobData}
 use Rattle.mv_plan.specs.CountingAlone.{ScansAreSteady}
 use Rattle.mv_plan.specs.HandingOut.{gift_code}
@@ -75,7 +75,7 @@ module _ (c : Setup) (k : ℕ) (all : List Entry) (steady : ScansAreSteady all) 
       (split ∙ sym (append_assoc seen (e ∷ []) es)) legal.1 behind) where
         go : (e.caller ≡ k) ⊎ (e.caller ≡ k → ⊥) → ((q : Past) → LastIs k (seen ++ e ∷ []) q.last → ArePlain q (of k es))
             → ArePlain p (of k (e ∷ es))
-        go (inl own) later = subst (λ l. ArePlain p l) (sym (of_own k e es own)) (
+        go (inl own) later = subst (λ l. ArePlain p l) (sym (of_mine k e es own)) (
           (λ free. no_gift s e.caller e.object e.op e.reply legal.0.reply free, tells_the_same seen es e p.last split own l),
           later (then_told p e) (record { before = seen; between = []; all = refl; none = refl; own = own }),
         )

@@ -6,7 +6,7 @@ use Rattle.std.proofs.lemmas.Bool.{cases_eq, eq-eqb, ne_eqb}
 use Rattle.std.proofs.lemmas.List.Elements.{filter-append}
 use Rattle.mv_machine.specs.declared.entry.Entry.{Entry}
 use Rattle.mv_machine.specs.Legal.{of}
-use Rattle.mv_calls.proofs.Hearing.{of_own, of_other}
+use Rattle.mv_machine.proofs.Places.{of_mine, of_other}
 use Rattle.mv_deck.specs.Deck.{JobData}
 use Rattle.mv_deck.specs.EndCode.{not_run}
 use Rattle.mv_plan.specs.HandingOut.{gift_code, naming, given_codes}
@@ -73,7 +73,7 @@ silent : (j k : ℕ) (x : Entry) (es : List Entry) → naming j (gift_code x.rep
     → given_codes j (of k (x ∷ es)) ≡ given_codes j (of k es)
 silent j k x es q = go (cases_eq x.caller k) where
   go : (x.caller ≡ k) ⊎ (x.caller ≡ k → ⊥) → given_codes j (of k (x ∷ es)) ≡ given_codes j (of k es)
-  go (inl own) = ap (given_codes j) (of_own k x es own) ∙ given-step j x (of k es) ∙ ap (λ s. with_code s (given_codes j (of k es))) q
+  go (inl own) = ap (given_codes j) (of_mine k x es own) ∙ given-step j x (of k es) ∙ ap (λ s. with_code s (given_codes j (of k es))) q
   go (inr other) = ap (given_codes j) (of_other k x es other)
 
 -- a caller is given no code where nobody is
@@ -119,7 +119,7 @@ one_given initiators j code (x ∷ es) e all = go (naming j (gift_code x.reply))
       record {
         who = i.0;
         low = i.1;
-        here = ap (given_codes j) (of_own (initiator i.0) x es i.2) ∙ given-step j x (of (initiator i.0) es)
+        here = ap (given_codes j) (of_mine (initiator i.0) x es i.2) ∙ given-step j x (of (initiator i.0) es)
             ∙ ap (λ s. with_code s (given_codes j (of (initiator i.0) es))) q ∙ ap (λ z. n ∷ z) (none_given j (initiator i.0) es none)
             ∙ ap (λ z. z ∷ []) same;
         others = λ m other. ap (given_codes j) (of_other (initiator m) x es (λ q. other (two_less (sym i.2 ∙ q))))
