@@ -7,8 +7,7 @@
 --          known then (places/Moments)
 -- lost     a task whose wait ended too soon, or that met a reply that nothing foresees (Astray); it makes no further move
 -- row      how one initiator, its idle block, its element and the scheduler fit together (standing/Row)
--- place    where a job is: coming, handed to an initiator's element, run by an initiator, or over (places/Places)
--- account  the codes that name a job, released and given so far; place and account of each job are the ledger (places/Ledger)
+-- ledger   the codes that were released, given and are in elements, and the jobs that initiators were named (places/Ledger)
 -- code     what the scheduler releases: 0 closes an initiator, another names a job; its mark says that the job is not to be run
 -- end      the code that a job ends with, posted to its own block, and by that block's exit to the scheduler's and the writer's
 -- done     a job's done block is its own: posted first, extended before the job is released, so that its exit posts the other two
@@ -16,6 +15,8 @@
 -- due      what a running job has still to add to a volume (volumes/Dues)
 -- landing  the points that may follow an initiator's event (points/Lands)
 -- sound    so as it may be, by the task's own steps alone; foreseen: not Astray, by what the others do
+--
+-- Each layer is a folder; its file beside the folder passes on the words of all its modules, and later layers take them from there.
 
 -- the words of other crates, passed on
 pub mod Words

@@ -6,3 +6,10 @@ pub mod Codes
 pub mod Ends
 pub mod Setup
 pub mod Valid
+pub use Plans.*
+pub use Planned.*
+pub use Events.*
+pub use Codes.*
+pub use Ends.*
+pub use Setup.*
+pub use Valid.*

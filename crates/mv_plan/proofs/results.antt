@@ -1,11 +1,9 @@
 -- The laws.
 pub mod Closings
 pub mod Exact
-pub mod Dispatched
 pub mod EndsPosted
 pub mod HandedOut
 pub mod CountsAlone
-pub mod Exclusive
 pub mod FewRounds
 pub mod Foreseen
 pub mod SafeWalks

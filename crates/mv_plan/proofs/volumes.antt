@@ -1,5 +1,4 @@
 -- Numbers of volumes.
-pub mod Sums
 pub mod Added
 pub mod Values
 pub mod Alone
@@ -8,3 +7,11 @@ pub mod GivenCodes
 pub mod Dues
 pub mod Balance
 pub mod Totals
+pub use Added.*
+pub use Values.*
+pub use Alone.*
+pub use CountsAndScans.*
+pub use GivenCodes.*
+pub use Dues.*
+pub use Balance.*
+pub use Totals.*

@@ -1,20 +1,13 @@
 -- How many events an initiator may still make, by its point: the events of each job that it was not named before, and those of
 -- the round in which it is; and that each event takes one of them. Used by Within.
-use Rattle.mv_plan.proofs.Words.{◌≡◌, ℕ, suc, ◌+◌, ◌*◌, ◌<◌, ◌≤◌, ◌==◌, ◌||◌, Bool, true, false, if◌then◌else◌, List}
-use Rattle.mv_plan.proofs.Words.{[], ◌∷◌, ◌++◌, length, Some, refl, ap, arith, list_any, eq-eqb, ne_eqb}
-use Rattle.mv_plan.proofs.Words.{Reply, Step, JobData, job_at, Named, job_named}
-use Rattle.mv_element.specs.declared.operation.ElementReply.TheVariants as element_reply
-use Rattle.mv_latch.specs.declared.operation.LatchReply.TheVariants as latch_reply
-use Rattle.mv_machine.specs.declared.entry.Reply.TheVariants as reply_of
-use Rattle.mv_machine.specs.declared.entry.VolumeReply.TheVariants as volume_reply
-use Rattle.mv_plan.proofs.deck.Events.{steps_events, all_events}
-use Rattle.mv_plan.proofs.points.Points.{Point, At, Running, Hand, empty_hand, hand_with, hand_without, InitiatorAt, Opening, Offering}
-use Rattle.mv_plan.proofs.points.Points.{Pausing, Resuming, Obtaining, Confirming, Freeing, Reading, Writing, Scanning, Rescanning, Purging}
-use Rattle.mv_plan.proofs.points.Points.{EndingJob, EndingForScheduler, EndingForWriter, Closing, initiator_goes, rounds_from}
-use Rattle.mv_plan.proofs.points.Points.{steps_at, running, job_start, given_at, InJob}
-use Rattle.mv_plan.proofs.volumes.Sums.{sum_to, sum_front, sum_change}
-use Rattle.mv_plan.proofs.points.Lands.{given_lands}
-use Rattle.std.proofs.lemmas.Grind.{common_steps}
+use Rattle.mv_plan.proofs.Words.{◌≡◌, ℕ, suc, ◌+◌, ◌*◌, ◌<◌, ◌≤◌, ◌==◌, Bool, true, false, if◌then◌else◌, List, [], ◌∷◌, ◌++◌, length, refl}
+use Rattle.mv_plan.proofs.Words.{ap, arith, list_any, eq-eqb, ne_eqb, Reply, Step, JobData, job_at, common_steps}
+use Rattle.mv_plan.proofs.deck.{steps_events, all_events}
+use Rattle.mv_plan.proofs.points.{Point, At, Running, Hand, empty_hand, InitiatorAt, Opening, Offering, Pausing, Resuming, Obtaining}
+use Rattle.mv_plan.proofs.points.{Confirming, Freeing, Reading, Writing, Scanning, Rescanning, Purging, EndingJob, EndingForScheduler}
+use Rattle.mv_plan.proofs.points.{EndingForWriter, Closing, initiator_goes, rounds_from, steps_at, running, job_start, given_at, InJob}
+use Rattle.mv_plan.proofs.points.{given_lands, named_is}
+use Rattle.mv_plan.proofs.lists.{sum_to, sum_front, sum_change}
 
 -- ---- jobs that were not named before
 
@@ -38,17 +31,12 @@ rounds_to_come deck before = sum_to (length deck) (round_to_come deck before)
 pub round_taken : (deck : List JobData) (before : List ℕ) (j : ℕ) → j < length deck → is_among j before ≡ false
     → rounds_to_come deck (before ++ j ∷ []) + round_events deck j ≡ rounds_to_come deck before
 round_taken deck before j lt new =
-    let change : rounds_to_come deck (before ++ j ∷ []) + round_to_come deck before j ≡ rounds_to_come deck before
-    + round_to_come deck (before ++ j ∷ []) j =
-    sum_change (length deck) j (round_to_come deck before) (round_to_come deck (before ++ j ∷ [])) lt others in
+    let change = sum_change (length deck) j (round_to_come deck before) (round_to_come deck (before ++ j ∷ [])) lt others in
     let was : round_to_come deck before j ≡ round_events deck j = ap (λ b. if b then 0 else round_events deck j) new in
-    let is : round_to_come deck (before ++ j ∷ []) j ≡ 0 = ap (λ b. if b then 0 else round_events deck j) (own before) in
-    omega arith where
+    let is : round_to_come deck (before ++ j ∷ []) j ≡ 0 = ap (λ b. if b then 0 else round_events deck j) (own before) in omega arith where
       own : (before : List ℕ) → is_among j (before ++ j ∷ []) ≡ true
       own [] = rw (eq-eqb j j refl) refl
-      own (b ∷ before) = rw (own before) (either (b == j)) where
-        either : (c : Bool) → (c || true) ≡ true
-        either x = grind (arith, common_steps)
+      own (b ∷ before) = grind (arith, common_steps, own before)
 
       same : (before : List ℕ) (m : ℕ) → (j ≡ m → ⊥) → is_among m (before ++ j ∷ []) ≡ is_among m before
       same [] m d = rw (ne_eqb j m d) refl
@@ -61,13 +49,8 @@ round_taken deck before j lt new =
 pub all_rounds : (deck : List JobData) → rounds_to_come deck [] ≡ 7 * length deck + all_events deck
 all_rounds [] = refl
 all_rounds (job ∷ jobs) =
-    let front : rounds_to_come (job ∷ jobs) [] ≡ (7 + steps_events job.steps) + rounds_to_come jobs [] =
-    sum_front (length jobs) (round_to_come (job ∷ jobs) []) in
-    let rest : rounds_to_come jobs [] ≡ 7 * length jobs + all_events jobs = all_rounds jobs in omega arith
-
--- a code names one of the jobs
-pub named_below : (n code : ℕ) (named : Named) → job_named n code ≡ Some named → named.job < n
-named_below n code named e = grind (arith, common_steps)
+    let front = sum_front (length jobs) (round_to_come (job ∷ jobs) []) in
+    let rest = all_rounds jobs in omega arith
 
 -- ---- what an initiator may still do
 
@@ -118,33 +101,9 @@ module _ (deck : List JobData) where
   given_rest more before code g =
       given_lands (λ p. initiator_rest p ≤ 1 + rounds_to_come deck before) (omega arith) deck more before code g (λ z. omega arith)
       (λ named left e t m.
-      let le : initiator_rest (job_start named.skipped (running named before (suc left) g) (job_at deck named.job))
-      ≤ 4 + (steps_events (job_at deck named.job).steps + behind_job (running named before (suc left) g)) =
-      start_rest named.skipped (running named before (suc left) g) (job_at deck named.job) in
-      let taken : rounds_to_come deck (before ++ named.job ∷ []) + round_events deck named.job ≡ rounds_to_come deck before =
-      round_taken deck before named.job (named_below (length deck) code named e) t in omega arith)
-
-  -- one less than enough
-  paying : {a b : ℕ} (d : ℕ) → a ≤ b → suc b ≤ d → suc a ≤ d
-  paying d le enough = omega arith
+      let le = start_rest named.skipped (running named before (suc left) g) (job_at deck named.job) in
+      let taken = round_taken deck before named.job (named_is (length deck) code named e).0 t in omega arith)
 
   -- each event takes one
   pub initiator_pays : (x : InitiatorAt) (r : Reply) → suc (initiator_rest (initiator_goes deck x r)) ≤ initiator_rest (At x)
-  initiator_pays Opening (reply_of.Element (element_reply.Opened g)) = paying _ (rounds_rest (length deck + 1) [] g) (omega arith)
-  initiator_pays (Pausing more before g) (reply_of.Element (element_reply.Given code now)) =
-      let le : initiator_rest (given_at deck more before code now) ≤ 1 + rounds_to_come deck before = given_rest more before code now in
-      omega arith
-  initiator_pays (Resuming more before g) (reply_of.Element (element_reply.Given code now)) =
-      paying _ (given_rest more before code now) (omega arith)
-  initiator_pays (InJob run (Obtaining hand latch mode steps)) (reply_of.Latch (latch_reply.Granted id)) =
-      let le : initiator_rest (steps_at run (hand_with hand latch mode id) steps) ≤ 4 + (steps_events steps + behind_job run) =
-      steps_rest run (hand_with hand latch mode id) steps in omega arith
-  initiator_pays (InJob run (Confirming hand latch mode id steps)) (reply_of.Latch (latch_reply.Granted same)) =
-      paying _ (steps_rest run (hand_with hand latch mode id) steps) (omega arith)
-  initiator_pays (InJob run (Freeing hand latch id steps)) (reply_of.Latch (latch_reply.Released granted)) =
-      paying _ (steps_rest run (hand_without hand latch) steps) (omega arith)
-  initiator_pays (InJob run (Writing hand volume amount number steps)) (reply_of.Volume volume_reply.Stored) =
-      paying _ (steps_rest run hand steps) (omega arith)
-  initiator_pays (InJob run (Rescanning hand volume number steps)) (reply_of.Volume (volume_reply.Value again)) =
-      paying _ (steps_rest run hand steps) (omega arith)
-  initiator_pays x r = grind (arith, common_steps)
+  initiator_pays x r = grind (arith, common_steps, rounds_rest, given_rest, steps_rest)

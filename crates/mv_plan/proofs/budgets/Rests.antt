@@ -1,20 +1,14 @@
 -- How many events the reader, the scheduler and the writer may still make, by their points; and that each event takes one of
 -- them. Used by Within.
-use Rattle.mv_plan.proofs.Words.{◌≡◌, ℕ, suc, ◌+◌, ◌*◌, ◌≤◌, nat_le, true, false, cond, List, [], ◌∷◌, ◌++◌, length, Option, refl}
-use Rattle.mv_plan.proofs.Words.{arith, length-map, length-map-range_with_len, Reply, After, Step, JobData, complete_count}
-use Rattle.mv_plan.proofs.Words.{end_for_scheduler, idle}
-use Rattle.mv_ecb.specs.declared.operation.EcbReply.TheVariants as ecb_reply
-use Rattle.mv_machine.specs.declared.entry.Reply.TheVariants as reply_of
-use Rattle.mv_plan.proofs.deck.Events.{after_parts}
-use Rattle.mv_plan.proofs.points.Points.{Point, At, TooSoon, ReaderAt, Entering, entering_from, reader_goes, Arming, Settling, Stage}
-use Rattle.mv_plan.proofs.points.Points.{Dispatching, Dismissing, Awaited, ForEntry, ForEnds, ForIdle, ToDismiss, SchedulerAt, Waits}
-use Rattle.mv_plan.proofs.points.Points.{Extends, Clears, Releases, awaited_blocks, arming_first, ends_at}
-use Rattle.mv_plan.proofs.points.Points.{stage_at, found_at, settling_from, arming_from, scheduler_goes, WriterAt, Keeping, writing_from}
-use Rattle.mv_plan.proofs.points.Points.{end_found, lowest_at, writer_goes}
-use Rattle.mv_plan.proofs.points.PostsAndWaits.{on_armed_keeps, on_settled_keeps, lowest_keeps}
-use Rattle.std.proofs.lemmas.Grind.{common_steps}
-use Rattle.std.proofs.Common.{rules}
-use Rattle.std.proofs.Common.{rules}
+use Rattle.mv_plan.proofs.Words.{◌≡◌, ℕ, suc, ◌+◌, ◌*◌, ◌≤◌, nat_le, true, false, cond, List, [], ◌∷◌, ◌++◌, length, Option, arith}
+use Rattle.mv_plan.proofs.Words.{length-map, length-map-range_with_len, Reply, After, Step, JobData, complete_count, EcbReply, common_steps}
+use Rattle.mv_plan.proofs.Words.{rules}
+use Rattle.mv_plan.proofs.deck.{after_parts}
+use Rattle.mv_plan.proofs.points.{Point, At, TooSoon, ReaderAt, Entering, entering_from, reader_goes, Arming, Settling, Stage, Dispatching}
+use Rattle.mv_plan.proofs.points.{Dismissing, Awaited, ForEntry, ForEnds, ForIdle, ToDismiss, SchedulerAt, Waits, Extends, Clears, Releases}
+use Rattle.mv_plan.proofs.points.{awaited_blocks, arming_first, ends_at, stage_at, found_at, settling_from, arming_from, scheduler_goes}
+use Rattle.mv_plan.proofs.points.{WriterAt, Keeping, writing_from, end_found, lowest_at, writer_goes, on_armed_keeps, on_settled_keeps}
+use Rattle.mv_plan.proofs.points.{lowest_keeps}
 
 -- ---- the reader: one event for each job
 
@@ -95,10 +89,7 @@ module _ (n initiators : ℕ) where
 
   -- so many blocks are waited for
   blocks : (a : Awaited) → length (awaited_blocks n initiators a) ≡ block_count a
-  blocks (ForEntry j job jobs) = refl
-  blocks (ForEnds j job jobs) = length-map job.after (λ part. end_for_scheduler n part.job)
-  blocks (ForIdle j job jobs skipped) = length-map-range_with_len (idle n) 0 initiators
-  blocks (ToDismiss i more) = refl
+  blocks a = grind (arith, common_steps, length-map, length-map-range_with_len)
 
   -- where it begins a stage
   pub stage_starts : (after : Stage) → scheduler_rest (stage_at n initiators after) ≤ stage_rest after
@@ -141,7 +132,7 @@ module _ (n initiators : ℕ) where
   pub scheduler_pays : (x : SchedulerAt) (r : Reply) → suc (scheduler_rest (scheduler_goes n initiators x r)) ≤ scheduler_rest (At x)
   scheduler_pays (Waits a (Arming e todo)) r = grind (arith, common_steps, on_armed_keeps, initiators, arming_rest)
   scheduler_pays (Waits a (Settling e todo found)) r = grind (arith, common_steps, on_settled_keeps, settling_rest)
-  scheduler_pays (Extends j job jobs skipped) (reply_of.Ecb ecb_reply.Armed) = search (rules, ForIdle, initiators, first_rest, blocks)
+  scheduler_pays (Extends j job jobs skipped) (Reply.Ecb EcbReply.Armed) = search (rules, ForIdle, initiators, first_rest, blocks)
   scheduler_pays x r = grind (arith, common_steps)
 
   -- all jobs together

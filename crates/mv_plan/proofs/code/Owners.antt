@@ -1,14 +1,11 @@
 -- Owners and exits in the order in which they are listed. Used by owners_of and exits_of.
 use Rattle.mv_plan.proofs.Words.{◌≡◌, ℕ, zero, suc, ◌+◌, ◌-◌, ◌*◌, List, [], ◌∷◌, ◌++◌, length, map, replicate, refl, sym, ap, ◌∙◌}
 use Rattle.mv_plan.proofs.Words.{append_assoc, arith, range_with_len, length-append, length-replicate, exit_of, end_owners, block_owners}
-use Rattle.mv_plan.proofs.Words.{end_exit, scheduler, writer, end_for_scheduler, end_for_writer}
-use Rattle.std.proofs.Common.{take}
+use Rattle.mv_plan.proofs.Words.{end_exit, scheduler, writer, end_for_scheduler, end_for_writer, take, done, common_steps}
 use Rattle.std.proofs.lemmas.List.{take_all, map-append}
-use Rattle.mv_plan.specs.SpoolSetup.{done}
 use Rattle.std.proofs.lemmas.List.FromFn.{map-range_with_len_more}
 use Rattle.mv_machine.specs.declared.config.Exit.{Exit}
-use Rattle.mv_plan.proofs.deck.Setup.{length_ends}
-use Rattle.std.proofs.lemmas.Grind.{common_steps}
+use Rattle.mv_plan.proofs.deck.{length_ends}
 
 -- one more job's two ends
 ends_more : (w n : ℕ) → end_owners w n ++ scheduler ∷ w ∷ [] ≡ end_owners w (suc n)

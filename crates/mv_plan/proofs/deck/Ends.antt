@@ -1,26 +1,23 @@
 -- Sound decks: each job's end by the ends of the whole deck, which jobs are not to be run, and that jobs are few enough for
 -- codes to name them; the budgets of all tasks are the weight. Used by the layer of ends, by totals, and by all results.
-use Rattle.mv_plan.proofs.Words.{◌≡◌, ℕ, zero, suc, ◌+◌, ◌<◌, ◌≤◌, List, [], ◌∷◌, ◌++◌, length, get_or, sum, if◌then◌else◌}
-use Rattle.mv_plan.proofs.Words.{refl, sym, ap, ◌∙◌, subst, arith, zero-add, ◌==◌, Bool, true, false, cond, JobData, Step}
-use Rattle.mv_plan.proofs.Words.{no_job, job_at, end_of, weight, not_run, some_unaccepted, own_end}
-use Rattle.mv_plan.proofs.Words.{ends, not_to_run, task_budgets, eq-eqb, ne_eqb}
+use Rattle.mv_plan.proofs.Words.{◌≡◌, ℕ, suc, ◌+◌, ◌<◌, ◌≤◌, List, [], ◌∷◌, ◌++◌, length, get_or, sum, if◌then◌else◌, refl, sym, ap, ◌∙◌}
+use Rattle.mv_plan.proofs.Words.{subst, arith, zero-add, ◌==◌, Bool, true, false, cond, JobData, Step, no_job, job_at, end_of, weight}
+use Rattle.mv_plan.proofs.Words.{not_run, some_unaccepted, own_end, ends, not_to_run, task_budgets, eq-eqb, ne_eqb, common_steps}
 use Rattle.std.proofs.Common.{add-zero}
 use Rattle.mv_report.specs.Outcome.{end_behind}
 use Rattle.std.specs.Prelude.{All, take, drop}
 use Rattle.std.proofs.lemmas.List.{length-take-le, set-get_or, set_split}
 use Rattle.std.proofs.lemmas.List.Elements.{All-from_recursion}
-use Rattle.mv_plan.proofs.deck.Plans.{IsPlannedJob, ArePlannedJobs, IsPlanned, Held, ArePlannedSteps}
 use Rattle.mv_report.proofs.Ends.{ends_by_accepted_codes}
-use Rattle.std.proofs.lemmas.Grind.{common_steps}
+use Rattle.mv_plan.proofs.deck.Plans.{IsPlannedJob, ArePlannedJobs, IsPlanned, Held, ArePlannedSteps}
 
 -- the job of each number in a sound deck is sound
 pub sound_job : (from : ℕ) (jobs : List JobData) (j : ℕ) → ArePlannedJobs from jobs → j < length jobs
     → IsPlannedJob (from + j) (job_at jobs j)
-sound_job from [] j sound lt = absurd (omega arith)
-sound_job from (job ∷ jobs) zero sound lt = subst (λ k. IsPlannedJob k job) (sym (add-zero from)) sound.0
 sound_job from (job ∷ jobs) (suc j) sound lt =
     subst (λ k. IsPlannedJob k (job_at jobs j)) (let e : from + 1 + j ≡ from + suc j = omega arith in e)
     (sound_job (from + 1) jobs j sound.1 (omega arith))
+sound_job from jobs j sound lt = grind (arith, common_steps, add-zero)
 
 -- a deck is the jobs before one of its jobs, that job, and those behind it
 around : (deck : List JobData) (j : ℕ) → j < length deck → deck ≡ take j deck ++ job_at deck j ∷ drop (suc j) deck
@@ -31,8 +28,8 @@ around deck j lt = sym (set-get_or deck j no_job) ∙ set_split deck j (job_at d
 pub end_is : (deck : List JobData) (j : ℕ) → ArePlannedJobs 0 deck → j < length deck
     → end_of deck j ≡ end_behind (ends deck) (job_at deck j)
 end_is deck j sound lt =
-    let job : JobData = job_at deck j in
-    let count : length (take j deck) ≡ j = length-take-le j deck (omega arith) in
+    let job = job_at deck j in
+    let count = length-take-le j deck (omega arith) in
     let earlier : All (λ part. part.job < length (take j deck)) job.after =
     subst (λ n. All (λ part. part.job < n) job.after) (zero-add j ∙ sym count)
     (All-from_recursion (λ part. part.job < 0 + j) job.after (sound_job 0 deck j sound lt).earlier) in
@@ -42,7 +39,7 @@ end_is deck j sound lt =
 
 -- a deck that is sound has few jobs, so that codes can name them
 pub few_jobs : (deck : List JobData) (initiators : ℕ) → IsPlanned deck initiators → length deck ≤ not_to_run
-few_jobs deck initiators sound = let w : weight deck initiators ≤ 524287 = sound.light in omega arith
+few_jobs deck initiators sound = let w = sound.light in omega arith
 
 -- the budgets of all tasks sum to the weight
 pub budgets_sum : (deck : List JobData) (i : ℕ) → sum (task_budgets deck i) ≡ weight deck i
@@ -71,11 +68,9 @@ skipped_ends deck j sound lt = go (is_skipped deck j) refl where
   go : (b : Bool) → is_skipped deck j ≡ b → is_skipped deck j ≡ (end_of deck j == not_run)
   go true e = e ∙ sym (eq-eqb (end_of deck j) not_run (end true e))
   go false e = e ∙ sym (ne_eqb (end_of deck j) not_run
-      (λ q. let f : end_of deck j ≡ own_end (job_at deck j).steps = end false e in let lt : own_end
-      (job_at deck j).steps < not_run = below in absurd (omega arith)))
+      (λ q. let f = end false e in let lt = below in absurd (omega arith)))
 
 -- what an initiator ends a job with, by whether it was told to run it, is the job's end
 pub end_by_mark : (deck : List JobData) (j : ℕ) (skipped : Bool) → ArePlannedJobs 0 deck → j < length deck → skipped ≡ is_skipped deck j
     → (if skipped then not_run else own_end (job_at deck j).steps) ≡ end_of deck j
-end_by_mark deck j skipped sound lt e =
-    sym (end_is deck j sound lt ∙ ap (λ b. if b then not_run else own_end (job_at deck j).steps) (sym e))
+end_by_mark deck j skipped sound lt e = grind (arith, common_steps, end_is)

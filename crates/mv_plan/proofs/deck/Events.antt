@@ -1,7 +1,6 @@
 -- The events of the steps of jobs, job by job and step by step: the sums of the weight as recursions. Used by the budgets and by
 -- the sums of volumes.
-use Rattle.mv_plan.proofs.Words.{◌≡◌, ℕ, ◌+◌, List, [], ◌∷◌, length, refl, ap, ◌∙◌, sum_by-cons, Step, JobData, step_events}
-use Rattle.std.proofs.Common.{sum_by}
+use Rattle.mv_plan.proofs.Words.{◌≡◌, ℕ, ◌+◌, List, [], ◌∷◌, length, refl, ap, ◌∙◌, sum_by-cons, Step, JobData, step_events, sum_by}
 use Rattle.mv_deck.specs.Weight as heavy
 
 -- the events of some steps

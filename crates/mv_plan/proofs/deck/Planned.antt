@@ -1,17 +1,16 @@
 -- A deck that is sound is so in the form in which running jobs meet it: what is held behind the steps done is held in a list.
-use Rattle.mv_plan.proofs.Words.{◌≡◌, ℕ, ◌+◌, ◌-◌, ◌<◌, ◌≤◌, ◌==◌, Bool, true, false, not, IsTrue, List, [], ◌∷◌, ◌++◌}
-use Rattle.mv_plan.proofs.Words.{length, map, filter, get_or, Option, Some, None, if◌then◌else◌, refl, sym, ap, ◌∙◌, subst, arith, inl, inr}
-use Rattle.mv_plan.proofs.Words.{AllByRecursion, list_any, eq-eqb, false≢true, cases_lt, length-append, Mode}
-use Rattle.mv_plan.proofs.Words.{AreDistinct, After, Step, Print, Use, Count, Scan, Abend, Return, JobData, is_end}
-use Rattle.std.proofs.Common.{drop, is_some, is_none}
+use Rattle.mv_plan.proofs.Words.{◌≡◌, ℕ, ◌+◌, ◌-◌, ◌<◌, ◌≤◌, ◌==◌, Bool, true, false, not, IsTrue, List, [], ◌∷◌, ◌++◌, length, map, filter}
+use Rattle.mv_plan.proofs.Words.{get_or, Option, Some, None, if◌then◌else◌, refl, sym, ap, ◌∙◌, subst, arith, inl, inr, AllByRecursion}
+use Rattle.mv_plan.proofs.Words.{list_any, eq-eqb, false≢true, cases_lt, length-append, Mode, AreDistinct, After, Step, Print, Use, Count}
+use Rattle.mv_plan.proofs.Words.{Scan, Abend, Return, JobData, is_end, drop, Free, common_steps, all_push, all_filter}
+use Rattle.std.proofs.Common.{is_some, is_none}
 use Rattle.std.proofs.lemmas.List.{get_or-drop}
-use Rattle.mv_deck.specs.declared.deck.Step.TheVariants.{Free}
 use Rattle.mv_deck.specs.Held.{held, held_behind, holds_from, latches, is_exclusive}
 use Rattle.std.proofs.lemmas.List.FromFn.{get_or-range_with_len}
 use Rattle.std.proofs.lemmas.List.Sums.{fold-append}
 use Rattle.mv_deck.specs.Sound as deck
 use Rattle.mv_plan.proofs.deck.Plans.{Held, is_held, is_held_alone, ArePlannedSteps, IsPlannedJob, ArePlannedJobs, IsPlanned}
-use Rattle.std.proofs.lemmas.Grind.{common_steps}
+use Rattle.mv_plan.proofs.lists.{all_map}
 
 -- how a list says that a latch is held
 abbrev mode_in : List Held → ℕ → Option Mode
@@ -53,11 +52,10 @@ below_used : (done : List Step) (latch l : ℕ) (mode : Mode) → holds_from don
 below_used done latch l mode order is le = elim (cases_lt l latch) [
   | inl low ↦ low
   | inr high ↦
-      let at : get_or (drop latch latches) (l - latch) 0 ≡ l = get_or-drop latch latches (l - latch) 0
-      ∙ ap (λ i. get_or latches i 0) (let e : latch + (l - latch) ≡ l = omega arith in e) ∙ low_latch l le in
-      let none : is_some (held done (get_or (drop latch latches) (l - latch) 0)) ≡ false =
-      none_in (λ l. is_some (held done l)) (drop latch latches) (l - latch) order
-      (length_left latches latch l (omega arith) high) in
+      let at = get_or-drop latch latches (l - latch) 0 ∙ ap (λ i. get_or latches i 0) (let e : latch + (l - latch) ≡ l = omega arith in
+      e) ∙ low_latch l le in
+      let none = none_in (λ l. is_some (held done l)) (drop latch latches) (l - latch) order (length_left latches latch l (omega arith)
+      high) in
       absurd (false≢true (sym none ∙ ap (λ l. is_some (held done l)) at ∙ ap is_some is))
 ]
 
@@ -79,7 +77,7 @@ all_below : (done : List Step) (latch : ℕ) → holds_from done latch ≡ false
     → AllByRecursion (λ h. h.latch < latch) hs
 all_below done latch order [] low is = tt
 all_below done latch order (h ∷ hs) low is =
-    let first : (m : Mode) × (held done h.latch ≡ Some m) = is h.latch (first_mode hs h) in (
+    let first = is h.latch (first_mode hs h) in (
       below_used done latch h.latch first.0 order first.1 low.0,
       all_below done latch order hs low.1 (λ l w. is l (some_mode hs h l w)),
     )
@@ -95,21 +93,11 @@ pushed : (hs : List Held) (latch : ℕ) (mode : Mode) (l : ℕ) → mode_in hs l
 pushed [] latch mode l none = grind (arith, common_steps)
 pushed (h ∷ hs) latch mode l none = grind (arith, common_steps, pushed hs)
 
--- all are low with one more
-all_pushed : (hs : List Held) (latch : ℕ) (mode : Mode) → latch ≤ 7 → AllByRecursion (λ h. h.latch ≤ 7) hs
-    → AllByRecursion (λ h. h.latch ≤ 7) (hs ++ record { latch = latch; mode = mode } ∷ [])
-all_pushed [] latch mode le low = (le, tt)
-all_pushed (h ∷ hs) latch mode le low = (low.0, all_pushed hs latch mode le low.1)
-
 -- the list behind a USE
 used_lists : (hs : List Held) (done : List Step) (latch : ℕ) (mode : Mode) → latch ≤ 7
     → AllByRecursion (λ h. h.latch < latch) hs → Lists hs done
     → Lists (hs ++ record { latch = latch; mode = mode } ∷ []) (done ++ Use latch mode ∷ [])
-used_lists hs done latch mode le below x = record {
-  known = λ l. held_next done (Use latch mode) l ∙ ap (λ m. if latch == l then Some mode else m) (x.known l)
-      ∙ pushed hs latch mode l (none_below hs latch below);
-  low = all_pushed hs latch mode le x.low;
-}
+used_lists hs done latch mode le below x = grind (arith, common_steps, held_next, pushed, none_below, all_push)
 
 -- ---- FREE
 
@@ -119,18 +107,10 @@ freed : (hs : List Held) (latch l : ℕ)
 freed [] latch l = grind (arith, common_steps)
 freed (h ∷ hs) latch l = grind (arith, common_steps, freed hs latch l)
 
--- all that are left are low
-all_left : (hs : List Held) (p : Held → Bool) → AllByRecursion (λ h. h.latch ≤ 7) hs → AllByRecursion (λ h. h.latch ≤ 7) (filter p hs)
-all_left [] p low = grind (arith, common_steps)
-all_left (h ∷ hs) p low = grind (arith, common_steps, all_left hs)
-
 -- the list behind a FREE
 freed_lists : (hs : List Held) (done : List Step) (latch : ℕ) → Lists hs done
     → Lists (filter (λ h. not (is_held latch h)) hs) (done ++ Free latch ∷ [])
-freed_lists hs done latch x = record {
-  known = λ l. held_next done (Free latch) l ∙ ap (λ m. if latch == l then None else m) (x.known l) ∙ freed hs latch l;
-  low = all_left hs (λ h. not (is_held latch h)) x.low;
-}
+freed_lists hs done latch x = grind (arith, common_steps, held_next, freed, all_filter, not, is_held)
 
 -- ---- latches that are to be held
 
@@ -197,16 +177,6 @@ distinct_jobs : (parts : List After) → deck.AreDistinct parts → AreDistinct 
 distinct_jobs [] d = tt
 distinct_jobs (part ∷ parts) d = (all_others part.job parts d.0, distinct_jobs parts d.1)
 
--- the awaited jobs are earlier
-all_earlier : (j : ℕ) (parts : List After) → AllByRecursion (deck.IsSoundAfter j) parts → AllByRecursion (λ part. part.job < j) parts
-all_earlier j [] a = tt
-all_earlier j (part ∷ parts) a = (a.0.0, all_earlier j parts a.1)
-
--- and what is accepted is a return code
-all_accepted : (j : ℕ) (parts : List After) → AllByRecursion (deck.IsSoundAfter j) parts → AllByRecursion (λ part. part.most ≤ 4095) parts
-all_accepted j [] a = tt
-all_accepted j (part ∷ parts) a = (a.0.1, all_accepted j parts a.1)
-
 -- the jobs
 planned_jobs : (before jobs : List JobData) (j : ℕ) → length before ≡ j → deck.AreSoundJobs before jobs → ArePlannedJobs j jobs
 planned_jobs before [] j e s = tt
@@ -214,8 +184,8 @@ planned_jobs before (job ∷ jobs) j e s = (
   subst (λ k. IsPlannedJob k job) e (record {
     few = s.0.few;
     distinct = distinct_jobs job.after s.0.distinct;
-    earlier = all_earlier (length before) job.after s.0.earlier;
-    accepts = all_accepted (length before) job.after s.0.earlier;
+    earlier = all_map (λ (part : After) (is : deck.IsSoundAfter (length before) part). is.0) job.after s.0.earlier;
+    accepts = all_map (λ (part : After) (is : deck.IsSoundAfter (length before) part). is.1) job.after s.0.earlier;
     steps = planned_steps [] [] job.steps (record { known = λ l. refl; low = tt }) s.0.steps;
   }),
   planned_jobs (before ++ job ∷ []) jobs (j + 1)

@@ -2,8 +2,7 @@
 -- (Planned).
 use Rattle.mv_plan.proofs.Words.{◌≡◌, ℕ, ◌+◌, ◌^◌, ◌<◌, ◌≤◌, ◌==◌, Bool, IsTrue, not, ◌&&◌, List, [], ◌∷◌, ◌++◌, length, map, filter}
 use Rattle.mv_plan.proofs.Words.{AllByRecursion, list_any, Mode, is_shared, AreDistinct, Step, Print, Use, Count, Scan, Abend, Return}
-use Rattle.mv_plan.proofs.Words.{JobData, weight}
-use Rattle.mv_deck.specs.declared.deck.Step.TheVariants.{Free}
+use Rattle.mv_plan.proofs.Words.{JobData, weight, Free}
 
 -- a latch that a job holds, and how
 pub record Held : Type 0 where

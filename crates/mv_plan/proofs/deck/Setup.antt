@@ -1,17 +1,15 @@
 -- The configuration's facts in one record, Facts: who owns which block and element, which exits start where, and the quotas.
 -- All layers take these facts and do not look into the configuration again.
 use Rattle.mv_plan.proofs.Words.{◌≡◌, ℕ, zero, suc, ◌+◌, ◌-◌, ◌*◌, ◌<◌, ◌≤◌, nat_lt, ◌&&◌, true, List, [], ◌∷◌, ◌++◌, length, map}
-use Rattle.mv_plan.proofs.Words.{replicate, get_or, Some, refl, sym, ap, ◌∙◌, arith, range_with_len, eqb-true}
-use Rattle.mv_plan.proofs.Words.{false≢true, and_parts, get_or-replicate, length-append, length-replicate}
-use Rattle.mv_plan.proofs.Words.{Setup, SetupExit, owner_of, is_exit_of, element_owner, JobData, spool_setup, end_owners, block_owners}
-use Rattle.mv_plan.proofs.Words.{end_exit, entered, end_for_scheduler, end_for_writer, idle, scheduler, writer}
+use Rattle.mv_plan.proofs.Words.{replicate, get_or, Some, refl, sym, ap, ◌∙◌, arith, range_with_len, eqb-true, false≢true, and_parts}
+use Rattle.mv_plan.proofs.Words.{get_or-replicate, length-append, length-replicate, Setup, SetupExit, owner_of, is_exit_of, element_owner}
+use Rattle.mv_plan.proofs.Words.{JobData, spool_setup, end_owners, block_owners, end_exit, entered, end_for_scheduler, end_for_writer, idle}
+use Rattle.mv_plan.proofs.Words.{scheduler, writer, done, common_steps}
 use Rattle.std.proofs.Common.{◌/◌}
 use Rattle.std.proofs.lemmas.Bool.{ltb-true}
 use Rattle.std.proofs.lemmas.List.{get_or-append-add}
 use Rattle.mv_machine.specs.Setup.{starts_from, targets_of, targets_at}
-use Rattle.mv_plan.specs.SpoolSetup.{done}
 use Rattle.std.specs.Prelude.{slice_get}
-use Rattle.std.proofs.lemmas.Grind.{common_steps}
 
 -- a configuration of the spool for n jobs
 pub record Facts (c : Setup) (n initiators : ℕ) : Type 0 where
@@ -34,17 +32,15 @@ pub record Facts (c : Setup) (n initiators : ℕ) : Type 0 where
 
 pub length_ends : (w n : ℕ) → length (end_owners w n) ≡ 2 * n
 length_ends w zero = refl
-length_ends w (suc n) = let ih : length (end_owners w n) ≡ 2 * n = length_ends w n in omega arith
+length_ends w (suc n) = let ih = length_ends w n in omega arith
 
 scheduler_end : (w n j : ℕ) (rest : List ℕ) → j < n → get_or (end_owners w n ++ rest) (2 * j) 0 ≡ 1
-scheduler_end w zero j rest lt = elim lt [ ]
-scheduler_end w (suc n) zero rest lt = refl
 scheduler_end w (suc n) (suc j) rest lt = grind (arith, common_steps, scheduler_end w n j rest)
+scheduler_end w n j rest lt = grind (arith, common_steps)
 
 writer_end : (w n j : ℕ) (rest : List ℕ) → j < n → get_or (end_owners w n ++ rest) (2 * j + 1) 0 ≡ w
-writer_end w zero j rest lt = elim lt [ ]
-writer_end w (suc n) zero rest lt = refl
 writer_end w (suc n) (suc j) rest lt = grind (arith, common_steps, writer_end w n j rest)
+writer_end w n j rest lt = grind (arith, common_steps)
 
 -- behind a list of this length
 behind : (xs ys : List ℕ) (m k i : ℕ) → length xs ≡ m → i ≡ m + k → get_or (xs ++ ys) i 0 ≡ get_or ys k 0
@@ -86,29 +82,12 @@ module _ (n initiators : ℕ) where
   idle_part i lt = grind (arith, common_steps, third_part, behind, writer, initiators, scheduler, length_ends, get_or-replicate)
 
   whole : length (block_owners n initiators) ≡ 4 * n + initiators
-  whole =
-      let a : length (replicate n scheduler) ≡ n = length-replicate n scheduler in
-      let b : length (end_owners (writer initiators) n) ≡ 2 * n = length_ends (writer initiators) n in
-      let d : length (replicate initiators scheduler) ≡ initiators = length-replicate initiators scheduler in
-      let e : length (replicate n scheduler ++ (replicate n scheduler ++ ends_on n initiators)) ≡ length
-      (replicate n scheduler) + length (replicate n scheduler ++ ends_on n initiators) =
-      length-append (replicate n scheduler) (replicate n scheduler ++ ends_on n initiators) in
-      let f : length (replicate n scheduler ++ ends_on n initiators) ≡ length (replicate n scheduler) + length (ends_on n initiators) =
-      length-append (replicate n scheduler) (ends_on n initiators) in
-      let g : length (ends_on n initiators) ≡ length (end_owners (writer initiators) n) + length (replicate initiators scheduler) =
-      length-append (end_owners (writer initiators) n) (replicate initiators scheduler) in
-      ap (λ os. length os) (by_parts n initiators)
-      ∙ sum (length (replicate n scheduler)) (length (end_owners (writer initiators) n)) (length (replicate initiators scheduler))
-      (length (replicate n scheduler ++ (replicate n scheduler ++ ends_on n initiators)))
-      (length (replicate n scheduler ++ ends_on n initiators)) (length (ends_on n initiators)) a b d e f g where
-        sum : (a b d e f g : ℕ) → a ≡ n → b ≡ 2 * n → d ≡ initiators → e ≡ a + f → f ≡ a + g → g ≡ b + d → e ≡ 4 * n + initiators
-        sum a b d e f g p q r s t u = omega arith
+  whole = simp (length-append, length-replicate, length_ends) (omega arith)
 
 -- the exit at a position
 exit_at : (n from count j : ℕ) → j < count → slice_get (map (end_exit n) (range_with_len from count)) j ≡ Some (end_exit n (from + j))
-exit_at n from zero j lt = elim lt [ ]
-exit_at n from (suc count) zero lt = ap (λ k. Some (end_exit n k)) (omega arith)
 exit_at n from (suc count) (suc j) lt = exit_at n (from + 1) count j (omega arith) ∙ ap (λ k. Some (end_exit n k)) (omega arith)
+exit_at n from count j lt = grind (arith, common_steps)
 
 exit_there : (n j : ℕ) (xs : List SetupExit) → slice_get xs j ≡ Some (end_exit n j)
     → (nat_lt 0 (j + 1) && starts_from (done n j) (slice_get xs (j + 1 - 1))) ≡ true
@@ -127,9 +106,8 @@ next_number j = omega arith
 -- an exit that is there is one of these
 source_at : (n m from count j : ℕ) → starts_from m (slice_get (map (end_exit n) (range_with_len from count)) j) ≡ true
     → (j < count) × (m ≡ done n (from + j))
-source_at n m from zero j e = absurd (false≢true e)
-source_at n m from (suc count) zero e = (omega arith, let q : done n from ≡ m = eqb-true (done n from) m e in omega arith)
 source_at n m from (suc count) (suc j) e = grind (arith, common_steps, source_at n m (from + 1) count j e)
+source_at n m from count j e = grind (arith, common_steps, false≢true, eqb-true)
 
 exit_source : (n m x : ℕ) → (nat_lt 0 x && starts_from m (slice_get (map (end_exit n) (range_with_len 0 n)) (x - 1))) ≡ true
     → (j : ℕ) × (j < n) × (x ≡ j + 1) × (m ≡ done n j)
@@ -138,23 +116,8 @@ exit_source n m x e = grind (arith, common_steps, and_parts, ltb-true, source_at
 by_one : (m : ℕ) → m / 1 ≡ m
 by_one m = omega arith
 
+ruleset owned_parts = (first_part, second_part, scheduler_part, writer_part, idle_part)
+
 pub facts : (deck : List JobData) (initiators : ℕ) → 1 ≤ initiators → Facts (spool_setup deck initiators) (length deck) initiators
-facts deck initiators some = record {
-  size = whole (length deck) initiators;
-  some = some;
-  entered_owner = first_part (length deck) initiators;
-  done_owner = second_part (length deck) initiators;
-  scheduler_owner = scheduler_part (length deck) initiators;
-  writer_owner = writer_part (length deck) initiators;
-  idle_owner = idle_part (length deck) initiators;
-  exit = λ j lt. exit_there (length deck) j (spool_setup deck initiators).exits (exit_from_zero (length deck) (length deck) j lt);
-  sources = λ x m e. exit_source (length deck) m x e;
-  targets = λ j lt. ap (λ x. targets_of (spool_setup deck initiators) x) (next_number j)
-      ∙ exit_targets (spool_setup deck initiators) (length deck) j (exit_from_zero (length deck) (length deck) j lt);
-  element = by_one;
-  each = refl;
-  latches = refl;
-  quota = refl;
-  posted = refl;
-  callers = refl;
-}
+facts deck initiators some = grind
+    (arith, common_steps, whole, owned_parts, exit_there, exit_from_zero, exit_source, next_number, exit_targets, by_one)

@@ -1,16 +1,14 @@
 -- Nothing refuses the configuration of a sound deck.
-use Rattle.mv_plan.proofs.Words.{◌≡◌, ℕ, zero, suc, ◌+◌, ◌*◌, ◌<◌, ◌≤◌, nat_le, true, List, [], ◌∷◌, ◌++◌, length, map, sum}
-use Rattle.mv_plan.proofs.Words.{replicate, None, Some, refl, ap, ◌∙◌, arith, if◌then◌else◌, AllByRecursion, range_with_len, le-leb, lt-leb}
-use Rattle.mv_plan.proofs.Words.{eq-eqb, length-map-range_with_len, Setup, SetupExit, JobData, weight}
-use Rattle.mv_plan.proofs.Words.{spool_setup, task_budgets, block_owners, end_owners, end_exit, scheduler, writer}
-use Rattle.mv_plan.proofs.Words.{all_append}
+use Rattle.mv_plan.proofs.Words.{◌≡◌, ℕ, zero, suc, ◌+◌, ◌*◌, ◌<◌, ◌≤◌, nat_le, true, List, [], ◌∷◌, ◌++◌, length, map, sum, replicate}
+use Rattle.mv_plan.proofs.Words.{None, Some, refl, ap, ◌∙◌, arith, if◌then◌else◌, AllByRecursion, range_with_len, le-leb, lt-leb, eq-eqb}
+use Rattle.mv_plan.proofs.Words.{length-map-range_with_len, Setup, SetupExit, JobData, weight, spool_setup, task_budgets, block_owners}
+use Rattle.mv_plan.proofs.Words.{end_owners, end_exit, scheduler, writer, all_append, common_steps}
 use Rattle.std.specs.List.{position_from, list_all}
 use Rattle.mv_machine.specs.Check.{IsValid, first_limit, first_bad_owner, first_bad_exit, bad_budget, is_bad_exit, is_within, keeps}
 use Rattle.mv_machine.specs.declared.config.ConfigLimit.TheVariants.{Callers, Budgets, Ecbs, Exits, Targets}
 use Rattle.mv_machine.proofs.Chains.{all_copies}
 use Rattle.mv_plan.proofs.deck.Ends.{budgets_sum}
 use Rattle.mv_plan.proofs.deck.Setup.{facts}
-use Rattle.std.proofs.lemmas.Grind.{common_steps}
 
 -- a number within its limits
 within : (low high n : ℕ) → low ≤ n → n ≤ high → is_within low high n ≡ true
@@ -82,21 +80,15 @@ module _ (deck : List JobData) (initiators : ℕ) (some : 1 ≤ initiators) (few
   spool_setup_is_valid = none_refuses (spool_setup deck initiators)
       (limits_kept (spool_setup deck initiators) (within 1 16 (initiators + 3) (omega arith) (omega arith)) refl refl refl refl refl
       (eq-eqb (length (task_budgets deck initiators)) (initiators + 3) (length_budgets deck initiators))
-      (le-leb (length (block_owners (length deck) initiators)) 131072
-      (let size : length (block_owners (length deck) initiators) ≡ 4 * length deck + initiators = (facts deck initiators some).size in
-      let small : 17 * length deck ≤ 524287 = jobs_few in omega arith))
+      (le-leb (length (block_owners (length deck) initiators)) 131072 (omega (arith, (facts deck initiators some).size, jobs_few)))
       (le-leb (length (spool_setup deck initiators).exits) 32768
-      (let exits : length (spool_setup deck initiators).exits ≡ length deck = length-map-range_with_len (end_exit (length deck)) 0
-      (length deck) in
-      let small : 17 * length deck ≤ 524287 = jobs_few in omega arith))
+      (omega (arith, length-map-range_with_len (end_exit (length deck)) 0 (length deck), jobs_few)))
       (few_targets (length deck) 0 (length deck)))
       (all_owned (initiators + 3) (block_owners (length deck) initiators) 0 (owners_below (length deck) initiators))
       (good_exits (length deck) (length (block_owners (length deck) initiators)) 0 (length deck) 1 (omega arith)
-      (let size : length (block_owners (length deck) initiators) ≡ 4 * length deck + initiators = (facts deck initiators some).size in
-      omega arith))
+      (omega (arith, (facts deck initiators some).size)))
       (ap (λ b. if b then Some (sum (task_budgets deck initiators)) else None)
-      (lt-leb (suc 524287) (sum (task_budgets deck initiators))
-      (let total : sum (task_budgets deck initiators) ≡ weight deck initiators = budgets_sum deck initiators in omega arith)))
+      (lt-leb (suc 524287) (sum (task_budgets deck initiators)) (omega (arith, budgets_sum deck initiators))))
 
   -- a configuration with these parts
   of_parts : (k e v l q p : ℕ) (b o : List ℕ) (x : List SetupExit) → k ≡ initiators + 3 → e ≡ 1 → v ≡ 8 → l ≡ 8 → q ≡ 8 → p ≡ 0

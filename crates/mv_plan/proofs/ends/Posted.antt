@@ -1,43 +1,26 @@
 -- Which blocks were posted, in which order: a job's own block is extended from before its job is released until it is posted,
 -- and nothing is posted twice. Uses places only before the event.
-use Rattle.mv_plan.proofs.Words.{◌≡◌, ℕ, ◌+◌, ◌<◌, ◌≤◌, Bool, List, length, Some, ◌⊎◌, inl, inr, refl, sym, ap, ◌∙◌}
-use Rattle.mv_plan.proofs.Words.{subst, arith, ecb_step, EcbState, Zero, Extended, Complete, Entry, Object, Ecb, Element, Op}
-use Rattle.mv_plan.proofs.Words.{Reply, IsNext, Setup, System, moved, opening, with_at, JobData, entered, end_for_scheduler, end_for_writer}
-use Rattle.mv_plan.proofs.Words.{idle, initiator, code_of, not_to_run}
-use Rattle.mv_plan.specs.SpoolSetup.{done}
-use Rattle.mv_ecb.specs.declared.operation.EcbOp.TheVariants as ecb_op
-use Rattle.mv_ecb.specs.declared.operation.EcbReply.TheVariants as ecb_reply
-use Rattle.mv_element.specs.declared.operation.ElementOp.TheVariants as element_op
-use Rattle.mv_machine.specs.declared.entry.Op.TheVariants as op_on
-use Rattle.mv_machine.specs.declared.entry.Reply.TheVariants as reply_of
-use Rattle.mv_plan.proofs.points.Points.{Point, At, Finished, TooSoon, Astray, ReaderAt, Entering, reader_asks, reader_goes, rounds_after}
-use Rattle.mv_plan.proofs.points.Points.{Arming, Settling}
-use Rattle.mv_plan.proofs.points.Points.{SchedulerAt, Waits, Extends, Clears, Releases, awaited_blocks, scheduler_asks}
-use Rattle.mv_plan.proofs.points.Points.{scheduler_goes, WriterAt, writer_asks, Running, InitiatorAt}
-use Rattle.mv_plan.proofs.points.Points.{EndingJob, EndingForScheduler, EndingForWriter, initiator_asks, initiator_goes, InJob}
-use Rattle.mv_plan.proofs.points.PostsAndWaits.{on_posted_keeps}
-use Rattle.mv_plan.proofs.walks.Walks.{Points, start_points}
-use Rattle.mv_plan.proofs.points.ReaderAndWriter.{IsReaderAt, IsWriterAt}
-use Rattle.mv_plan.proofs.points.SchedulerSound.{IsSchedulerAt, stage_extended, awaited_extended}
-use Rattle.mv_plan.proofs.points.InitiatorSound.{IsInitiatorAt, named_is}
-use Rattle.mv_plan.proofs.places.Places.{Places, Coming, Run}
+use Rattle.mv_plan.proofs.Words.{◌≡◌, ℕ, ◌+◌, ◌<◌, ◌≤◌, Bool, List, length, Some, ◌⊎◌, inl, inr, refl, sym, ap, ◌∙◌, subst, arith, ecb_step}
+use Rattle.mv_plan.proofs.Words.{EcbState, Zero, Extended, Complete, Entry, Object, Ecb, Element, Op, Reply, IsNext, Setup, System, moved}
+use Rattle.mv_plan.proofs.Words.{opening, with_at, JobData, entered, end_for_scheduler, end_for_writer, idle, initiator, code_of}
+use Rattle.mv_plan.proofs.Words.{not_to_run, done, EcbOp, EcbReply, ElementOp, common_steps, rules}
+use Rattle.mv_plan.proofs.points.{Point, At, Finished, TooSoon, Astray, ReaderAt, Entering, reader_asks, reader_goes, rounds_after}
+use Rattle.mv_plan.proofs.points.{SchedulerAt, Waits, Extends, Clears, Releases, scheduler_asks, scheduler_goes, WriterAt, writer_asks}
+use Rattle.mv_plan.proofs.points.{Running, InitiatorAt, EndingJob, EndingForScheduler, EndingForWriter, initiator_asks, initiator_goes}
+use Rattle.mv_plan.proofs.points.{InJob, on_posted_keeps, IsReaderAt, IsWriterAt, IsSchedulerAt, stage_extended, awaited_extended}
+use Rattle.mv_plan.proofs.points.{IsInitiatorAt, named_is, ByStage, stage_map, stage_goes, NotEnding, AllNext, goes_next, next_grows}
+use Rattle.mv_plan.proofs.points.{code_held, run_of, next_job, rounds_land, ended_lands}
+use Rattle.mv_plan.proofs.walks.{Points, start_points, TasksStand, KeepsUnder, by_moves, entry_of, block, element}
+use Rattle.mv_plan.proofs.places.Ledger.{Ledger}
+use Rattle.mv_plan.proofs.places.{RunBy, run_alone, run_released, run_unheld}
 use Rattle.mv_plan.proofs.ends.Blocks.{HasEnd, done_has, scheduler_has, writer_has}
-use Rattle.mv_plan.proofs.walks.Stands.{TasksStand}
 use Rattle.mv_plan.proofs.ends.Complete.{IsComplete, NotComplete, BlockAfter, block_moved, moved_there, complete_moved, not_moved, is_moved}
 use Rattle.mv_plan.proofs.ends.Complete.{held_moved}
-use Rattle.mv_plan.proofs.points.Stages.{ByStage, stage_map, stage_goes, NotEnding}
-use Rattle.mv_plan.proofs.ends.Awaited.{IsIn, in_seam, awaited_plain, initiator_ecb}
-use Rattle.mv_plan.proofs.points.SchedulerNext.{AllNext, goes_next, next_grows}
 use Rattle.mv_plan.proofs.ends.WhoPosts.{offers, ends_job, ends_scheduler, ends_writer, post_by, initiator_no_release, run_below, posts_run}
-use Rattle.mv_plan.proofs.ends.WhoPosts.{posts_no_entered}
-use Rattle.mv_plan.proofs.walks.Moves.{KeepsUnder, by_moves, entry_of, block, element}
-use Rattle.mv_plan.proofs.points.Views.{code_held, run_of, next_job}
-use Rattle.mv_plan.proofs.lists.Tables.{all_but}
-use Rattle.mv_plan.proofs.points.Lands.{rounds_land, ended_lands}
+use Rattle.mv_plan.proofs.ends.WhoPosts.{posts_no_entered, initiator_ecb}
+use Rattle.mv_plan.proofs.lists.{all_but}
 use Rattle.mv_plan.proofs.ends.RightCodes.{starts_held}
-use Rattle.std.proofs.lemmas.Grind.{common_steps}
-use Rattle.std.proofs.Common.{rules}
-use Rattle.std.proofs.Common.{rules}
+use Rattle.mv_plan.proofs.standing.{wait_no_done}
 
 -- how many of the done blocks the scheduler has extended at a point
 abbrev pub extended_at : ℕ → SchedulerAt → ℕ
@@ -92,38 +75,38 @@ pub record Posted (deck : List JobData) (initiators : ℕ) (s : System) (t : Poi
   pub blocks : DoneBlocks (length deck) s t.scheduler
 
 abbrev pub HasPlaces : List JobData → ℕ → System → Points → List Entry → Type 0
-HasPlaces deck initiators s t past = TasksStand deck initiators t × Places deck initiators s t
+HasPlaces deck initiators s t past = TasksStand deck initiators t × Ledger deck initiators s t past
 
 abbrev pub HasPosted : List JobData → ℕ → System → Points → List Entry → Type 0
 HasPosted deck initiators s t past = Posted deck initiators s t
 
 -- ---- what each caller's events leave
 
-pub scheduler_no_post : (n : ℕ) (x : SchedulerAt) (d : ℕ) → (scheduler_asks n x).1 ≡ op_on.Ecb (ecb_op.Post d) → ⊥
+pub scheduler_no_post : (n : ℕ) (x : SchedulerAt) (d : ℕ) → (scheduler_asks n x).1 ≡ Op.Ecb (EcbOp.Post d) → ⊥
 scheduler_no_post n x d q = grind (arith, common_steps)
 
 -- the scheduler clears idle blocks alone
 pub scheduler_clears : (n : ℕ) (x : SchedulerAt) (b : ℕ) → (scheduler_asks n x).0 ≡ Ecb b
-    → (scheduler_asks n x).1 ≡ op_on.Ecb ecb_op.Clear → (i : ℕ) × (b ≡ idle n i)
+    → (scheduler_asks n x).1 ≡ Op.Ecb EcbOp.Clear → (i : ℕ) × (b ≡ idle n i)
 scheduler_clears n x b o q = grind (arith, common_steps)
 
-pub writer_no_post : (x : WriterAt) (d : ℕ) → (writer_asks x).1 ≡ op_on.Ecb (ecb_op.Post d) → ⊥
+pub writer_no_post : (x : WriterAt) (d : ℕ) → (writer_asks x).1 ≡ Op.Ecb (EcbOp.Post d) → ⊥
 writer_no_post x d q = grind (arith, common_steps)
 
-pub writer_clears_none : (x : WriterAt) → (writer_asks x).1 ≡ op_on.Ecb ecb_op.Clear → ⊥
+pub writer_clears_none : (x : WriterAt) → (writer_asks x).1 ≡ Op.Ecb EcbOp.Clear → ⊥
 writer_clears_none x q = grind (arith, common_steps)
 
-pub clear_is_no_post : {d : ℕ} → ecb_op.Clear ≡ ecb_op.Post d → ⊥
+pub clear_is_no_post : {d : ℕ} → EcbOp.Clear ≡ EcbOp.Post d → ⊥
 clear_is_no_post e = cc e
 
-posted_step : (d : ℕ) (v : EcbState) → (code : ℕ) × ((ecb_step (ecb_op.Post d) v).0 ≡ Complete code)
+posted_step : (d : ℕ) (v : EcbState) → (code : ℕ) × ((ecb_step (EcbOp.Post d) v).0 ≡ Complete code)
 posted_step d (Complete c) = (c, refl)
 posted_step d y = (d, refl)
 
-posted_is : (s : System) (k : ℕ) (o : Object) (op : Op) (b d : ℕ) → o ≡ Ecb b → op ≡ op_on.Ecb (ecb_op.Post d)
+posted_is : (s : System) (k : ℕ) (o : Object) (op : Op) (b d : ℕ) → o ≡ Ecb b → op ≡ Op.Ecb (EcbOp.Post d)
     → IsComplete (moved s k o op) b
-posted_is s k o op b d e f = let c : (code : ℕ) × ((ecb_step (ecb_op.Post d) (block s b)).0 ≡ Complete code) = posted_step d (block s b) in
-    (c.0, moved_there s k b o op (ecb_op.Post d) e f ∙ c.1)
+posted_is s k o op b d e f = let c = posted_step d (block s b) in
+    (c.0, moved_there s k b o op (EcbOp.Post d) e f ∙ c.1)
 
 -- the job that is handed out next is not above those whose a job's done block is extended
 pub next_extended : (n : ℕ) (y : SchedulerAt) → next_job n (At y) ≤ extended_at n y
@@ -166,13 +149,12 @@ module _ (deck : List JobData) (initiators : ℕ) where
 
     -- it posts the end of the job that it runs alone
     own_end_posted : (j b code : ℕ) → j < length deck → HasEnd (length deck) j b → asks.0 ≡ Ecb b
-        → asks.1 ≡ op_on.Ecb (ecb_op.Post code) → q.1.place j ≡ Run i
+        → asks.1 ≡ Op.Ecb (EcbOp.Post code) → RunBy t i j
     own_end_posted j b code below has o op =
-        let w : (run : Running) × (run_of (At x) ≡ Some run) × (run.job ≡ j) =
-        posts_run deck i x j b stands below has (post_by (length deck) i x b (ecb_op.Post code) o op) in
-        ap q.1.place (sym w.2) ∙ q.1.running i w.0 lt (ap (λ z. run_of z) at ∙ w.1)
+        let w = posts_run deck i x j b stands below has (post_by (length deck) i x b (EcbOp.Post code) o op) in
+        (w.0, ap run_of at ∙ w.1, w.2)
 
-    others_end : (j b : ℕ) → j < length deck → HasEnd (length deck) j b → (q.1.place j ≡ Run i → ⊥) → NotComplete s b
+    others_end : (j b : ℕ) → j < length deck → HasEnd (length deck) j b → (RunBy t i j → ⊥) → NotComplete s b
         → NotComplete i_after b
     others_end j b below has other free = search (rules, not_moved, own_end_posted)
 
@@ -182,8 +164,9 @@ module _ (deck : List JobData) (initiators : ℕ) where
     -- the others' jobs
     others_stage : (m : ℕ) → m < initiators → (m ≡ i → ⊥) → EndStage (length deck) i_after (t.initiators m)
     others_stage m below other = stage_stays (length deck) s i_after (t.initiators m)
-        (λ run e b has. let job : run.job < length deck = run_below deck (t.initiators m) run (q.0.each m below) e in
-        let apart : q.1.place run.job ≡ Run i → ⊥ = λ z. other (let y : Run m ≡ Run i = sym (q.1.running m run below e) ∙ z in cc y) in
+        (λ run e b has. let job = run_below deck (t.initiators m) run (q.0.each m below) e in
+        let apart : RunBy t i run.job → ⊥ =
+        λ z. other (run_alone deck initiators s t past q.1 run.job job m i below lt (run, e, refl) z) in
         (λ f. others_end run.job b job has apart f, still b))
         (h.stages m below)
 
@@ -201,10 +184,10 @@ module _ (deck : List JobData) (initiators : ℕ) where
     job_below y run is e = run_below deck (At x) run stands (ap (λ z. run_of (At z)) is ∙ e)
 
     -- it posts this block: it is complete then, and another that was not is not
-    posts : (b code : ℕ) → asks ≡ (Ecb b, op_on.Ecb (ecb_op.Post code)) → IsComplete i_after b
+    posts : (b code : ℕ) → asks ≡ (Ecb b, Op.Ecb (EcbOp.Post code)) → IsComplete i_after b
     posts b code e = posted_is s (initiator i) asks.0 asks.1 b code (ap (λ z. z.0) e) (ap (λ z. z.1) e)
 
-    posts_alone : (m b code : ℕ) → asks ≡ (Ecb m, op_on.Ecb (ecb_op.Post code)) → (m ≡ b → ⊥) → NotComplete s b → NotComplete i_after b
+    posts_alone : (m b code : ℕ) → asks ≡ (Ecb m, Op.Ecb (EcbOp.Post code)) → (m ≡ b → ⊥) → NotComplete s b → NotComplete i_after b
     posts_alone m b code e apart free = grind (arith, common_steps)
 
     -- then where it posts no end
@@ -224,44 +207,42 @@ module _ (deck : List JobData) (initiators : ℕ) where
     -- and at each point
     own_stage : (y : InitiatorAt) → x ≡ y → EndStage (length deck) i_after (initiator_goes deck y r)
     own_stage (InJob run (EndingJob code counts)) is =
-        let free : NotDone (length deck) s run.job = its_stage (InJob run (EndingJob code counts)) is in
-        let asked : asks ≡ (Ecb (done (length deck) run.job), op_on.Ecb (ecb_op.Post code)) =
+        let free = its_stage (InJob run (EndingJob code counts)) is in
+        let asked : asks ≡ (Ecb (done (length deck) run.job), Op.Ecb (EcbOp.Post code)) =
         ap (λ z. initiator_asks (length deck) i z) is in
-        let job : run.job < length deck = job_below (InJob run (EndingJob code counts)) run is refl in
-        let order = (h.order run.job job).0 in
-        ended_lands (EndStage (length deck) i_after) tt run code counts r (
+        let job = job_below (InJob run (EndingJob code counts)) run is refl in
+        let order = (h.order run.job job).0 in ended_lands (EndStage (length deck) i_after) tt run code counts r (
           posts_alone _ (end_for_scheduler (length deck) run.job) code asked (λ z. omega arith)
-              (λ d e. let w : IsComplete s (done (length deck) run.job) = order (d, e) in free w.0 w.1),
+              (λ d e. let w = order (d, e) in free w.0 w.1),
           posts _ code asked,
         ) (after_job run)
     own_stage (InJob run (EndingForScheduler code counts)) is =
-        let free : NotToScheduler (length deck) s run.job = its_stage (InJob run (EndingForScheduler code counts)) is in
-        let asked : asks ≡ (Ecb (end_for_scheduler (length deck) run.job), op_on.Ecb (ecb_op.Post code)) =
+        let free = its_stage (InJob run (EndingForScheduler code counts)) is in
+        let asked : asks ≡ (Ecb (end_for_scheduler (length deck) run.job), Op.Ecb (EcbOp.Post code)) =
         ap (λ z. initiator_asks (length deck) i z) is in
-        let job : run.job < length deck = job_below (InJob run (EndingForScheduler code counts)) run is refl in
+        let job = job_below (InJob run (EndingForScheduler code counts)) run is refl in
         let order = (h.order run.job job).1 in
         on_posted_keeps (EndStage (length deck) i_after) (At (InJob run (EndingForWriter code counts))) r (
           posts_alone _ (end_for_writer (length deck) run.job) code asked (λ z. omega arith)
-              (λ d e. let w : IsComplete s (end_for_scheduler (length deck) run.job) = order (d, e) in free.0 w.0 w.1),
+              (λ d e. let w = order (d, e) in free.0 w.0 w.1),
           posts _ code asked,
         ) tt
-    own_stage (InJob run (EndingForWriter code counts)) is = grind (arith, common_steps)
-    own_stage y is = subst (λ z. EndStage (length deck) i_after (initiator_goes deck z r)) is (own_plain (subst NotEnding (sym is) tt))
+    own_stage y is = grind (arith, common_steps, own_plain)
 
     -- the order of its posts
     for_scheduler : (j code : ℕ) → j < length deck → asks.0 ≡ Ecb (end_for_scheduler (length deck) j)
-        → asks.1 ≡ op_on.Ecb (ecb_op.Post code) → IsComplete s (done (length deck) j)
+        → asks.1 ≡ Op.Ecb (EcbOp.Post code) → IsComplete s (done (length deck) j)
     for_scheduler j code below o op = grind (arith, common_steps)
 
     for_writer : (j code : ℕ) → j < length deck → asks.0 ≡ Ecb (end_for_writer (length deck) j)
-        → asks.1 ≡ op_on.Ecb (ecb_op.Post code) → IsComplete s (end_for_scheduler (length deck) j)
-    for_writer j code below o op = elim (post_by (length deck) i x (end_for_writer (length deck) j) (ecb_op.Post code) o op) [
+        → asks.1 ≡ Op.Ecb (EcbOp.Post code) → IsComplete s (end_for_scheduler (length deck) j)
+    for_writer j code below o op = elim (post_by (length deck) i x (end_for_writer (length deck) j) (EcbOp.Post code) o op) [
       | offers more before g is e ↦ absurd (omega arith)
-      | ends_job run d counts is e ↦ let job : run.job < length deck = job_below (InJob run (EndingJob d counts)) run is refl in
+      | ends_job run d counts is e ↦ let job = job_below (InJob run (EndingJob d counts)) run is refl in
           absurd (omega arith)
       | ends_scheduler run d counts is e ↦ absurd (omega arith)
       | ends_writer run d counts is e ↦
-          let free : NotToWriter (length deck) s run.job = its_stage (InJob run (EndingForWriter d counts)) is in
+          let free = its_stage (InJob run (EndingForWriter d counts)) is in
           let same : run.job ≡ j = omega arith in subst (λ z. IsComplete s (end_for_scheduler (length deck) z)) same free.1
     ]
 
@@ -296,22 +277,23 @@ module _ (deck : List JobData) (initiators : ℕ) where
 
       zero_after : Moved j → m ≤ j → block i_after (done (length deck) j) ≡ Zero
       zero_after (inl same) le = same ∙ (sp j below).1 le
-      zero_after (inr w) le = let post : (d : ℕ) × (w.0 ≡ ecb_op.Post d) = initiator_ecb deck initiators i x w.0 w.2 in
-          let run : q.1.place j ≡ Run i =
-          own_end_posted j (done (length deck) j) post.0 below (done_has refl) w.1 (w.2 ∙ ap (λ z. op_on.Ecb z) post.1) in
-          let come : q.1.place j ≡ Coming = q.1.coming j (omega arith) in absurd (cc (run, come))
+      zero_after (inr w) le = let post = initiator_ecb (length deck) i x w.0 w.2 in
+          let behind = run_released deck initiators s t past q.1 j below i lt
+          (own_end_posted j (done (length deck) j) post.0 below (done_has refl) w.1 (w.2 ∙ ap (λ z. Op.Ecb z) post.1)) in
+          absurd (omega arith)
 
     pub initiator_posted : Posted deck initiators i_after (record t { initiators = with_at t.initiators i (initiator_goes deck x r) })
     initiator_posted = record {
       entering = λ j below from. not_moved s (initiator i) asks.0 asks.1
           (entered j) (h.entering j below from)
-          (λ code o op. posts_no_entered (length deck) i x j below (post_by (length deck) i x (entered j) (ecb_op.Post code) o op));
-      coming = λ j below from. others_end j _ below (done_has refl) (λ z. cc (q.1.coming j from, z)) (h.coming j below from);
+          (λ code o op. posts_no_entered (length deck) i x j below (post_by (length deck) i x (entered j) (EcbOp.Post code) o op));
+      coming = λ j below from. others_end j _ below (done_has refl) (λ z.
+          let behind = run_released deck initiators s t past q.1 j below i lt z in omega arith) (h.coming j below from);
       handed = λ m j skipped lm below e. elim
           (held_moved s (initiator i) asks.0 asks.1 (initiator m)
           (code_of j skipped) e) [
-            | inl before ↦ others_end j _ below (done_has refl) (λ z. cc (q.1.handed m j skipped lm below before, z))
-                (h.handed m j skipped lm below before)
+            | inl before ↦ others_end j _ below (done_has refl) (λ z.
+                run_unheld deck initiators s t past q.1 j below i m skipped lt lm z before) (h.handed m j skipped lm below before)
             | inr w ↦ absurd (initiator_no_release (length deck) i x w.0 (code_of j skipped) w.2)
           ];
       stages = λ m lm. all_but (λ m p. EndStage (length deck) i_after p) t.initiators i (initiator_goes deck x r) m (own_stage x refl)
@@ -323,8 +305,8 @@ module _ (deck : List JobData) (initiators : ℕ) where
   -- ---- an event that posts and clears no block with a job's end, and touches no done block
 
   module _ (s : System) (t : Points) (k : ℕ) (o : Object) (op : Op) (h : Posted deck initiators s t)
-      (no_post : (j b code : ℕ) → j < length deck → HasEnd (length deck) j b → o ≡ Ecb b → op ≡ op_on.Ecb (ecb_op.Post code) → ⊥)
-      (no_clear : (j b : ℕ) → j < length deck → HasEnd (length deck) j b → o ≡ Ecb b → op ≡ op_on.Ecb ecb_op.Clear → ⊥) where
+      (no_post : (j b code : ℕ) → j < length deck → HasEnd (length deck) j b → o ≡ Ecb b → op ≡ Op.Ecb (EcbOp.Post code) → ⊥)
+      (no_clear : (j b : ℕ) → j < length deck → HasEnd (length deck) j b → o ≡ Ecb b → op ≡ Op.Ecb EcbOp.Clear → ⊥) where
     quiet_free : (j b : ℕ) → j < length deck → HasEnd (length deck) j b → NotComplete s b → NotComplete (moved s k o op) b
     quiet_free j b below has free = not_moved s k o op b free (λ code e f. no_post j b code below has e f)
 
@@ -411,9 +393,8 @@ module _ (deck : List JobData) (initiators : ℕ) where
       (λ j b below has o op. writer_clears_none x op) t.reader v q.0.each
       (λ j below from. not_moved s k (writer_asks x).0 (writer_asks x).1 (entered j) (h.entering j below from)
       (λ code o op. writer_no_post x code op)) (λ m o. writer_element x m o)
-      (λ j below o. let w : (i : ℕ) × (done (length deck) j ≡ end_for_writer (length deck) i) = writer_is x
-      (done (length deck) j) o (subst (IsWriterAt (length deck)) at q.0.writer) in
-      let e : done (length deck) j ≡ end_for_writer (length deck) w.0 = w.1 in omega arith)
+      (λ j below o. let w = writer_is x (done (length deck) j) o (subst (IsWriterAt (length deck)) at q.0.writer) in
+      let e = w.1 in omega arith)
 
   -- ---- the scheduler
 
@@ -421,19 +402,12 @@ module _ (deck : List JobData) (initiators : ℕ) where
   scheduler_untouched : (x : SchedulerAt) (j : ℕ) → IsSchedulerAt deck initiators (At x) → j < length deck
       → (scheduler_asks (length deck) x).0 ≡ Ecb (done (length deck) j)
       → (job : JobData) × (jobs : List JobData) × (skipped : Bool) × (x ≡ Extends j job jobs skipped)
-  scheduler_untouched (Waits a (Arming e todo)) j s below o =
-      absurd (awaited_plain deck initiators a (done (length deck) j) j s.0 below
-      (subst (λ z. IsIn z (awaited_blocks (length deck) initiators a)) (cc o) (subst (IsIn e) s.1.1 (in_seam e s.1.0 todo))) refl)
-  scheduler_untouched (Waits a (Settling e todo found)) j s below o =
-      absurd (awaited_plain deck initiators a (done (length deck) j) j s.0 below
-      (subst (λ z. IsIn z (awaited_blocks (length deck) initiators a)) (cc o) (subst (IsIn e) s.1.1 (in_seam e s.1.0 todo))) refl)
   scheduler_untouched (Extends k job jobs skipped) j s below o = let e : done (length deck) k ≡ done (length deck) j = cc o in
       let same : k ≡ j = omega arith in (job, jobs, skipped, ap (λ z. Extends z job jobs skipped) same)
-  scheduler_untouched (Clears i g code after) j s below o = grind (arith, common_steps)
-  scheduler_untouched (Releases i g code after) j s below o = absurd (cc o)
+  scheduler_untouched x j s below o = grind (arith, common_steps, wait_no_done)
 
   released_next : (x : SchedulerAt) (g j : ℕ) (skipped : Bool) → length deck ≤ not_to_run → IsSchedulerAt deck initiators (At x)
-      → j < length deck → (scheduler_asks (length deck) x).1 ≡ op_on.Element (element_op.Release g (code_of j skipped))
+      → j < length deck → (scheduler_asks (length deck) x).1 ≡ Op.Element (ElementOp.Release g (code_of j skipped))
       → next_job (length deck) (At x) ≤ j
   released_next x g j skipped few s below op = grind (arith, common_steps)
 
@@ -456,11 +430,11 @@ module _ (deck : List JobData) (initiators : ℕ) where
     s_after = moved s 1 s_asks.0 s_asks.1
 
     s_no_post : (j b code : ℕ) → j < length deck → HasEnd (length deck) j b → s_asks.0 ≡ Ecb b
-        → s_asks.1 ≡ op_on.Ecb (ecb_op.Post code) → ⊥
+        → s_asks.1 ≡ Op.Ecb (EcbOp.Post code) → ⊥
     s_no_post j b code below has o op = scheduler_no_post (length deck) x code op
 
     s_no_clear : (j b : ℕ) → j < length deck → HasEnd (length deck) j b → s_asks.0 ≡ Ecb b
-        → s_asks.1 ≡ op_on.Ecb ecb_op.Clear → ⊥
+        → s_asks.1 ≡ Op.Ecb EcbOp.Clear → ⊥
     s_no_clear j b below has o op = grind (arith, common_steps)
 
     free_still : (j : ℕ) → j < length deck → NotDone (length deck) s j → NotDone (length deck) s_after j
@@ -473,8 +447,7 @@ module _ (deck : List JobData) (initiators : ℕ) where
     plain_after y is ne sp = goes_next (length deck) initiators (λ p. DoneBlocks (length deck) s_after p) x r tt tt
         (nexts_done s_after x s_stands (λ j job jobs skipped e. ne j job jobs skipped (sym is ∙ e))
         (quiet_split s t 1 s_asks.0 s_asks.1 h s_no_post s_no_clear
-        (λ j below o. let w : (job : JobData) × (jobs : List JobData) × (skipped : Bool)
-        × (x ≡ Extends j job jobs skipped) = scheduler_untouched x j s_stands below o in ne j w.0 w.1 w.2 (sym is ∙ w.3))
+        (λ j below o. let w = scheduler_untouched x j s_stands below o in ne j w.0 w.1 w.2 (sym is ∙ w.3))
         (extended_at (length deck) x) (subst (λ z. IsSplit (length deck) s (extended_at (length deck) z)) (sym is) sp)))
 
     blocks_after : (y : SchedulerAt) → x ≡ y → IsSplit (length deck) s (extended_at (length deck) y)
@@ -486,8 +459,7 @@ module _ (deck : List JobData) (initiators : ℕ) where
     scheduler_posted = record {
       entering = λ j below from. not_moved s 1 s_asks.0 s_asks.1 (entered j)
           (h.entering j below from) (λ code o op. scheduler_no_post (length deck) x code op);
-      coming = λ j below from. let grows : next_job (length deck) (At x) ≤ next_job (length deck)
-          (scheduler_goes (length deck) initiators x r) = next_grows deck initiators x r s_stands in
+      coming = λ j below from. let grows = next_grows deck initiators x r s_stands in
           free_still j below (h.coming j below (subst (λ z. next_job (length deck) z ≤ j) (sym at) (omega arith)));
       handed = λ m j skipped lm below e. elim
           (held_moved s 1 s_asks.0 s_asks.1 (initiator m) (code_of j skipped) e) [
@@ -512,5 +484,5 @@ module _ (deck : List JobData) (initiators : ℕ) where
 
   pub extend_is_armed : (c : Setup) (s : System) (t : Points) (j : ℕ) (job : JobData) (jobs : List JobData) (skipped : Bool) (k p : ℕ)
       (r : Reply) → t.scheduler ≡ At (Extends j job jobs skipped) → TasksStand deck initiators t → Posted deck initiators s t
-      → IsNext c s (entry_of k p (scheduler_asks (length deck) (Extends j job jobs skipped)) r) → r ≡ reply_of.Ecb ecb_reply.Armed
+      → IsNext c s (entry_of k p (scheduler_asks (length deck) (Extends j job jobs skipped)) r) → r ≡ Reply.Ecb EcbReply.Armed
   extend_is_armed c s t j job jobs skipped k p r at stands h next = grind (arith, common_steps)

@@ -1,34 +1,20 @@
 -- The codes that pass between the tasks are the deck's: a block with a job's end holds that end, an element holds 0 or a job's
 -- code with the deck's mark, and the writer keeps the deck's ends. No induction over jobs: all blocks at once.
-use Rattle.mv_plan.proofs.Words.{◌≡◌, ℕ, suc, ◌+◌, ◌<◌, List, [], ◌∷◌, ◌++◌, length, get_or, Option, Some, ◌⊎◌, inl, inr, refl}
-use Rattle.mv_plan.proofs.Words.{sym, ap, ◌∙◌, subst, append-nil, append_assoc, arith, length-append, get_or-append_seam, Complete, Entry}
-use Rattle.mv_plan.proofs.Words.{Object, Ecb, Element, Op, Reply, IsNext, Setup, System, moved, opening, JobData, end_of, ends}
-use Rattle.mv_plan.proofs.Words.{initiator, Named, job_named, code_of, one_end_per_job}
-use Rattle.mv_ecb.specs.declared.operation.EcbOp.TheVariants as ecb_op
-use Rattle.mv_ecb.specs.declared.operation.EcbReply.TheVariants as ecb_reply
-use Rattle.mv_element.specs.declared.operation.ElementOp.TheVariants as element_op
-use Rattle.mv_machine.specs.declared.entry.Op.TheVariants as op_on
-use Rattle.mv_machine.specs.declared.entry.Reply.TheVariants as reply_of
-use Rattle.mv_plan.proofs.deck.Plans.{IsPlanned}
-use Rattle.mv_plan.proofs.points.Points.{Point, At, Finished, ReaderAt, Entering, reader_asks, Arming, Settling}
-use Rattle.mv_plan.proofs.points.Points.{running, SchedulerAt, Waits, scheduler_asks, WriterAt, Keeping, writing_from, end_found}
-use Rattle.mv_plan.proofs.points.Points.{writer_asks, writer_goes, Running, InitiatorAt, Offering}
-use Rattle.mv_plan.proofs.points.Points.{EndingJob, EndingForScheduler, EndingForWriter, initiator_asks, initiator_goes, InJob}
-use Rattle.mv_plan.proofs.walks.Walks.{Points, start_points}
-use Rattle.mv_plan.proofs.points.ReaderAndWriter.{IsReaderAt, IsWriterAt}
-use Rattle.mv_plan.proofs.points.SchedulerSound.{IsSchedulerAt}
-use Rattle.mv_plan.proofs.points.InitiatorSound.{IsInitiatorAt, IsEnding}
-use Rattle.mv_plan.proofs.deck.Ends.{is_skipped, end_by_mark}
+use Rattle.mv_plan.proofs.Words.{◌≡◌, ℕ, suc, ◌+◌, ◌<◌, List, [], ◌∷◌, ◌++◌, length, get_or, Option, Some, ◌⊎◌, inl, inr, sym, ap, ◌∙◌}
+use Rattle.mv_plan.proofs.Words.{subst, append-nil, append_assoc, arith, length-append, get_or-append_seam, Complete, Entry, Object, Ecb}
+use Rattle.mv_plan.proofs.Words.{Element, Op, Reply, IsNext, Setup, System, moved, opening, JobData, end_of, ends, initiator, Named}
+use Rattle.mv_plan.proofs.Words.{job_named, code_of, one_end_per_job, EcbOp, EcbReply, ElementOp, common_steps}
+use Rattle.mv_plan.proofs.deck.{IsPlanned, is_skipped, end_by_mark}
+use Rattle.mv_plan.proofs.points.{Point, At, Finished, ReaderAt, Entering, reader_asks, Settling, running, SchedulerAt, Waits}
+use Rattle.mv_plan.proofs.points.{scheduler_asks, WriterAt, Keeping, writing_from, end_found, writer_asks, writer_goes, Running}
+use Rattle.mv_plan.proofs.points.{InitiatorAt, initiator_asks, initiator_goes, IsReaderAt, IsWriterAt, IsSchedulerAt, IsInitiatorAt}
+use Rattle.mv_plan.proofs.points.{IsEnding, OfRun, Starts, runs_goes, code_held}
+use Rattle.mv_plan.proofs.walks.{Points, start_points, HasStanding, KeepsUnder, by_moves, entry_of, block, element, block_reply}
 use Rattle.mv_plan.proofs.ends.Complete.{complete_moved, held_moved}
 use Rattle.mv_plan.proofs.ends.Blocks.{settled_code, HasEnd, scheduler_has, writer_has}
-use Rattle.mv_plan.proofs.ends.Blocks.{done_one, scheduler_one, writer_one}
 use Rattle.mv_plan.proofs.ends.SchedulerMarks.{IsMarked, FindsEnds, scheduler_marks}
-use Rattle.mv_plan.proofs.points.RunningJob.{OfRun, Starts, runs_goes}
-use Rattle.mv_plan.proofs.walks.Stands.{HasStanding}
-use Rattle.mv_plan.proofs.walks.Moves.{KeepsUnder, by_moves, entry_of, block, element, block_reply}
-use Rattle.mv_plan.proofs.lists.Tables.{all_with}
-use Rattle.mv_plan.proofs.points.Views.{code_held}
-use Rattle.std.proofs.lemmas.Grind.{common_steps}
+use Rattle.mv_plan.proofs.lists.{all_with}
+use Rattle.mv_plan.proofs.ends.WhoPosts.{post_by, posts_run, posts_ending}
 
 -- ---- the codes of jobs
 
@@ -43,7 +29,7 @@ abbrev pub HoldEnds : List JobData → System → Type 0
 HoldEnds deck s = (j b code : ℕ) → j < length deck → HasEnd (length deck) j b → block s b ≡ Complete code → code ≡ end_of deck j
 
 abbrev pub PostsEnds : List JobData → Object → Op → Type 0
-PostsEnds deck o op = (m d : ℕ) → o ≡ Ecb m → op ≡ op_on.Ecb (ecb_op.Post d) → (j : ℕ) → j < length deck → HasEnd (length deck) j m
+PostsEnds deck o op = (m d : ℕ) → o ≡ Ecb m → op ≡ Op.Ecb (EcbOp.Post d) → (j : ℕ) → j < length deck → HasEnd (length deck) j m
     → d ≡ end_of deck j
 
 ends_moved : (deck : List JobData) (s : System) (k : ℕ) (o : Object) (op : Op) → PostsEnds deck o op → HoldEnds deck s
@@ -57,7 +43,7 @@ abbrev pub HoldCodes : List JobData → System → Type 0
 HoldCodes deck s = (m code : ℕ) → code_held (element s m) ≡ Some code → IsCode deck code
 
 abbrev pub ReleasesCodes : List JobData → Object → Op → Type 0
-ReleasesCodes deck o op = (m g d : ℕ) → o ≡ Element m → op ≡ op_on.Element (element_op.Release g d) → IsCode deck d
+ReleasesCodes deck o op = (m g d : ℕ) → o ≡ Element m → op ≡ Op.Element (ElementOp.Release g d) → IsCode deck d
 
 codes_moved : (deck : List JobData) (s : System) (k : ℕ) (o : Object) (op : Op) → ReleasesCodes deck o op → HoldCodes deck s
     → HoldCodes deck (moved s k o op)
@@ -94,7 +80,7 @@ one_kept deck j more kept (r ∷ rest) code e l n c =
     (length-append kept (code ∷ []) ∙ ap (λ k. k + 1) l) (omega arith)
 
 abbrev pub WriterFindsEnd : List JobData → WriterAt → Reply → Type 0
-WriterFindsEnd deck (Keeping j more kept (Settling e todo found)) (reply_of.Ecb (ecb_reply.Complete code)) = code ≡ end_of deck j
+WriterFindsEnd deck (Keeping j more kept (Settling e todo found)) (Reply.Ecb (EcbReply.Complete code)) = code ≡ end_of deck j
 WriterFindsEnd deck x r = Unit {0}
 
 -- the rest of a wait for one block
@@ -106,11 +92,7 @@ settled_keeps deck j more kept rest code (f ∷ found) e l n none c = absurd (cc
 
 pub writer_kept : (deck : List JobData) (x : WriterAt) (r : Reply) → IsWriterAt (length deck) (At x) → KeepsEnds deck (At x)
     → WriterFindsEnd deck x r → KeepsEnds deck (writer_goes (length deck) x r)
-writer_kept deck (Keeping j more kept (Arming e (f ∷ todo))) r at k finds = absurd (cc at.2)
-writer_kept deck (Keeping j more kept (Settling e [] found)) (reply_of.Ecb (ecb_reply.Complete code)) at k finds =
-    settled_keeps deck j more kept k.0 code found k.1 k.2 at.0 at.3 finds
-writer_kept deck (Keeping j more kept (Settling e (f ∷ todo) found)) r at k finds = absurd (cc at.2)
-writer_kept deck x r at k finds = grind (arith, common_steps)
+writer_kept deck x r at k finds = grind (arith, common_steps, settled_keeps)
 
 -- ---- the invariant
 
@@ -156,20 +138,9 @@ starts_held x deck c s i y p r n h = grind (arith, common_steps)
 module _ (deck : List JobData) (initiators : ℕ) (sound : IsPlanned deck initiators) where
   initiator_posts : (i : ℕ) (x : InitiatorAt) → IsInitiatorAt deck (At x) → OfRun (IsMarkedRun deck) (At x)
       → PostsEnds deck (initiator_asks (length deck) i x).0 (initiator_asks (length deck) i x).1
-  initiator_posts i (Offering more before g) at f m d p q j lt has = grind (arith, common_steps)
-  initiator_posts i (InJob run (EndingJob code counts)) at f m d p q j lt has =
-      sym (cc q) ∙ ending_is deck initiators run code sound at (f run refl)
-      ∙ ap (λ k. end_of deck k) (sym (done_one (length deck) j run.job lt at.round.job
-      (subst (HasEnd (length deck) j) (sym (cc p)) has)))
-  initiator_posts i (InJob run (EndingForScheduler code counts)) at f m d p q j lt has =
-      sym (cc q) ∙ ending_is deck initiators run code sound at (f run refl)
-      ∙ ap (λ k. end_of deck k) (sym (scheduler_one (length deck) j run.job lt at.round.job
-      (subst (HasEnd (length deck) j) (sym (cc p)) has)))
-  initiator_posts i (InJob run (EndingForWriter code counts)) at f m d p q j lt has =
-      sym (cc q) ∙ ending_is deck initiators run code sound at (f run refl)
-      ∙ ap (λ k. end_of deck k) (sym (writer_one (length deck) j run.job lt at.round.job
-      (subst (HasEnd (length deck) j) (sym (cc p)) has)))
-  initiator_posts i x at f m d p q j lt has = absurd (cc p)
+  initiator_posts i x at f m d p q j lt has =
+      let w = posts_run deck i x j m at lt has (post_by (length deck) i x m (EcbOp.Post d) p q) in
+      ending_is deck initiators w.0 d sound (posts_ending deck i x w.0 d at w.1 q) (f w.0 w.1) ∙ ap (λ k. end_of deck k) w.2
 
   pub initiator_releases : (i : ℕ) (x : InitiatorAt)
       → ReleasesCodes deck (initiator_asks (length deck) i x).0 (initiator_asks (length deck) i x).1
@@ -192,16 +163,16 @@ module _ (deck : List JobData) (initiators : ℕ) (sound : IsPlanned deck initia
 
   finds_ends : (c : Setup) (s : System) (x : SchedulerAt) (k p : ℕ) (r : Reply)
       → IsNext c s (entry_of k p (scheduler_asks (length deck) x) r) → HoldEnds deck s → FindsEnds deck initiators x r
-  finds_ends c s (Waits a (Settling e todo found)) k p (reply_of.Ecb (ecb_reply.Complete code)) n h = λ j lt at.
+  finds_ends c s (Waits a (Settling e todo found)) k p (Reply.Ecb (EcbReply.Complete code)) n h = λ j lt at.
       h j e code lt (scheduler_has at)
-      (settled_code (block s e) code (cc (sym (block_reply c s k e ecb_op.Settle p (reply_of.Ecb (ecb_reply.Complete code)) n))))
+      (settled_code (block s e) code (cc (sym (block_reply c s k e EcbOp.Settle p (Reply.Ecb (EcbReply.Complete code)) n))))
   finds_ends c s x k p r n h = tt
 
   finds_end : (c : Setup) (s : System) (x : WriterAt) (k p : ℕ) (r : Reply) → IsNext c s (entry_of k p (writer_asks x) r)
       → IsWriterAt (length deck) (At x) → HoldEnds deck s → WriterFindsEnd deck x r
-  finds_end c s (Keeping j more kept (Settling e todo found)) k p (reply_of.Ecb (ecb_reply.Complete code)) n at h =
-      h j e code (let t : j + suc more ≡ length deck = at.0 in omega arith) (writer_has at.1)
-      (settled_code (block s e) code (cc (sym (block_reply c s k e ecb_op.Settle p (reply_of.Ecb (ecb_reply.Complete code)) n))))
+  finds_end c s (Keeping j more kept (Settling e todo found)) k p (Reply.Ecb (EcbReply.Complete code)) n at h =
+      h j e code (let t = at.0 in omega arith) (writer_has at.1)
+      (settled_code (block s e) code (cc (sym (block_reply c s k e EcbOp.Settle p (Reply.Ecb (EcbReply.Complete code)) n))))
   finds_end c s x k p r n at h = tt
 
   pub reader_releases : (x : ReaderAt) → ReleasesCodes deck (reader_asks x).0 (reader_asks x).1

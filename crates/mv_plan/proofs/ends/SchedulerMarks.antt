@@ -1,20 +1,13 @@
 -- The scheduler marks each job as the deck says, where the ends that it reads are the deck's.
-use Rattle.mv_plan.proofs.Words.{◌≡◌, ℕ, ◌+◌, ◌<◌, ◌≤◌, nat_lt, ◌||◌, List, [], ◌∷◌, ◌++◌}
-use Rattle.mv_plan.proofs.Words.{length, Option, Some, None, refl, sym, ap, ◌∙◌, arith, AllByRecursion, leb-true}
-use Rattle.mv_plan.proofs.Words.{Reply, JobData, After, Step, some_unaccepted, ends, job_at, end_of}
-use Rattle.mv_plan.proofs.Words.{end_for_scheduler, code_of, some_end_above, ends_of, complete_count}
-use Rattle.mv_ecb.specs.declared.operation.EcbReply.TheVariants as ecb_reply
-use Rattle.mv_element.specs.declared.operation.ElementReply.TheVariants as element_reply
-use Rattle.mv_machine.specs.declared.entry.Reply.TheVariants as reply_of
-use Rattle.mv_plan.proofs.deck.Plans.{ArePlannedJobs}
-use Rattle.mv_plan.proofs.points.Points.{Point, At, TooSoon, WaitAt, Arming, Settling, Stage, Dispatching, Dismissing, Awaited, ForEntry}
-use Rattle.mv_plan.proofs.points.Points.{ForEnds, ForIdle, ToDismiss, SchedulerAt, Waits, Extends, Clears, Releases, awaited_blocks}
-use Rattle.mv_plan.proofs.points.Points.{awaited_count, scheduler_goes, settling_from, found_at, ends_at}
-use Rattle.mv_plan.proofs.points.Points.{stage_at}
-use Rattle.mv_plan.proofs.points.PostsAndWaits.{lowest_keeps}
-use Rattle.mv_plan.proofs.points.SchedulerSound.{IsRest, rest_below, rest_sound, IsAwaited, IsWaitAt, IsSchedulerAt}
-use Rattle.mv_plan.proofs.deck.Ends.{is_skipped}
-use Rattle.std.proofs.lemmas.Grind.{common_steps}
+use Rattle.mv_plan.proofs.Words.{◌≡◌, ℕ, ◌+◌, ◌<◌, ◌≤◌, nat_lt, ◌||◌, List, [], ◌∷◌, ◌++◌, length, Option, Some, None, refl, sym, ap, ◌∙◌}
+use Rattle.mv_plan.proofs.Words.{arith, AllByRecursion, leb-true, Reply, JobData, After, Step, some_unaccepted, ends, job_at, end_of}
+use Rattle.mv_plan.proofs.Words.{end_for_scheduler, code_of, some_end_above, ends_of, complete_count, EcbReply, common_steps}
+use Rattle.mv_plan.proofs.deck.{ArePlannedJobs, is_skipped}
+use Rattle.mv_plan.proofs.points.{Point, At, TooSoon, WaitAt, Arming, Settling, Stage, Dispatching, Dismissing, Awaited, ForEntry, ForEnds}
+use Rattle.mv_plan.proofs.points.{ForIdle, ToDismiss, SchedulerAt, Waits, Extends, Clears, Releases, awaited_blocks, awaited_count}
+use Rattle.mv_plan.proofs.points.{scheduler_goes, settling_from, found_at, ends_at, stage_at, lowest_keeps, IsRest, rest_below, rest_sound}
+use Rattle.mv_plan.proofs.points.{IsAwaited, IsWaitAt, IsSchedulerAt}
+use Rattle.mv_plan.proofs.lists.{all_map}
 
 -- what was found at the blocks of these parts are the ends of their jobs
 abbrev pub AreFound : List JobData → List After → List (Option ℕ) → Type 0
@@ -50,7 +43,7 @@ IsMarked deck p = Unit {0}
 none_more : (deck : List JobData) (parts : List After) (found : List (Option ℕ)) → AreFound deck parts found
     → complete_count found ≤ length parts
 none_more deck parts [] f = omega arith
-none_more deck (part ∷ parts) (Some code ∷ found) f = let le : complete_count found ≤ length parts = none_more deck parts found f.1 in
+none_more deck (part ∷ parts) (Some code ∷ found) f = let le = none_more deck parts found f.1 in
     omega arith
 none_more deck (part ∷ parts) (None ∷ found) f = grind (arith, common_steps, none_more deck parts found f)
 none_more deck [] (slot ∷ found) f = absurd f
@@ -58,14 +51,12 @@ none_more deck [] (slot ∷ found) f = absurd f
 -- where all ends were found, one is above what is accepted exactly where the deck says so
 pub found_mark : (deck : List JobData) (parts : List After) (found : List (Option ℕ)) → AreFound deck parts found
     → length parts ≤ complete_count found → some_end_above parts found ≡ some_unaccepted (ends deck) parts
-found_mark deck [] [] f le = refl
-found_mark deck (part ∷ parts) [] f le = absurd (omega arith)
 found_mark deck (part ∷ parts) (Some code ∷ found) f le =
     ap (λ c. nat_lt part.most c || some_end_above parts found) f.0
     ∙ ap (λ b. nat_lt part.most (end_of deck part.job) || b) (found_mark deck parts found f.1 (omega arith))
-found_mark deck (part ∷ parts) (None ∷ found) f le = let few : complete_count found ≤ length parts = none_more deck parts found f in
+found_mark deck (part ∷ parts) (None ∷ found) f le = let few = none_more deck parts found f in
     absurd (omega arith)
-found_mark deck [] (slot ∷ found) f le = absurd f
+found_mark deck parts found f le = grind (arith, common_steps)
 
 abbrev pub IsRight : Option ℕ → ℕ → Type 0
 IsRight (Some code) end = code ≡ end
@@ -96,16 +87,11 @@ rest_skipped : (deck : List JobData) (j : ℕ) (job : JobData) (jobs : List JobD
     → some_unaccepted (ends deck) job.after ≡ is_skipped deck j
 rest_skipped deck j job jobs r = ap (λ o. some_unaccepted (ends deck) o.after) (sym (rest_job deck j job jobs r))
 
-below_more : (j n : ℕ) (parts : List After) → j ≤ n → AllByRecursion (λ part. part.job < j) parts
-    → AllByRecursion (λ part. part.job < n) parts
-below_more j n [] le a = tt
-below_more j n (part ∷ parts) le a = (let lt : part.job < j = a.0 in omega arith, below_more j n parts le a.1)
-
 pub rest_parts : (deck : List JobData) (j : ℕ) (job : JobData) (jobs : List JobData) → ArePlannedJobs 0 deck → IsRest deck j (job ∷ jobs)
     → AllByRecursion (λ part. part.job < length deck) job.after
 rest_parts deck j job jobs sound r =
-    below_more j (length deck) job.after (let lt : j < length deck = rest_below deck j job jobs r in omega arith)
-    (rest_sound deck j job jobs sound r).earlier
+    let lt = rest_below deck j job jobs r in
+    all_map (λ (part : After) (less : part.job < j). omega arith) job.after (rest_sound deck j job jobs sound r).earlier
 
 -- ---- each next point
 
@@ -139,25 +125,18 @@ module _ (deck : List JobData) (initiators : ℕ) where
       → IsAwaited deck initiators a → IsWaitAt (awaited_blocks (length deck) initiators a) (Settling e todo found)
       → MarkedWait deck a found → ((k : ℕ) → k < length deck → e ≡ end_for_scheduler (length deck) k → IsRight slot (end_of deck k))
       → MarkedWait deck a (found ++ slot ∷ [])
-  one_settled (ForEntry j job jobs) e todo found slot sound s w f right = tt
-  one_settled (ForEnds j job jobs) e todo found slot sound s w f right =
-      found_push deck (length deck) job.after w.0 e todo found slot w.1 w.2 (rest_parts deck j job jobs sound s) f right
-  one_settled (ForIdle j job jobs skipped) e todo found slot sound s w f right = f
-  one_settled (ToDismiss i more) e todo found slot sound s w f right = tt
+  one_settled a e todo found slot sound s w f right = grind (arith, common_steps, found_push, rest_parts)
 
   -- what a settle of a block with a job's end finds
   abbrev pub FindsEnds : SchedulerAt → Reply → Type 0
-  FindsEnds (Waits a (Settling e todo found)) (reply_of.Ecb (ecb_reply.Complete code)) =
+  FindsEnds (Waits a (Settling e todo found)) (Reply.Ecb (EcbReply.Complete code)) =
       (k : ℕ) → k < length deck → e ≡ end_for_scheduler (length deck) k → code ≡ end_of deck k
   FindsEnds x r = Unit {0}
 
   pub scheduler_marks : (x : SchedulerAt) (r : Reply) → ArePlannedJobs 0 deck → IsSchedulerAt deck initiators (At x)
       → IsMarked deck (At x) → FindsEnds x r → IsMarked deck (scheduler_goes (length deck) initiators x r)
-  scheduler_marks (Waits a (Settling e todo found)) (reply_of.Ecb (ecb_reply.Complete code)) sound s f finds =
+  scheduler_marks (Waits a (Settling e todo found)) (Reply.Ecb (EcbReply.Complete code)) sound s f finds =
       settling_marked a todo (found ++ Some code ∷ []) s.0 (one_settled a e todo found (Some code) sound s.0 s.1 f finds)
-  scheduler_marks (Waits a (Settling e todo found)) (reply_of.Ecb ecb_reply.Open) sound s f finds =
+  scheduler_marks (Waits a (Settling e todo found)) (Reply.Ecb EcbReply.Open) sound s f finds =
       settling_marked a todo (found ++ None ∷ []) s.0 (one_settled a e todo found None sound s.0 s.1 f (λ k lt at. tt))
-  scheduler_marks (Clears i g code after) (reply_of.Ecb (ecb_reply.Word w)) sound s f finds = f
-  scheduler_marks (Releases i g code after) (reply_of.Element element_reply.Early) sound s f finds = stage_marked after
-  scheduler_marks (Releases i g code after) (reply_of.Element element_reply.Woke) sound s f finds = stage_marked after
-  scheduler_marks x r sound s f finds = grind (arith, common_steps)
+  scheduler_marks x r sound s f finds = grind (arith, common_steps, stage_marked)

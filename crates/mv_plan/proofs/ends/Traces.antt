@@ -1,24 +1,16 @@
 -- What the entries so far say of the blocks with the jobs' ends: the codes that were posted are those that the blocks hold.
-use Rattle.mv_plan.proofs.Words.{◌≡◌, ℕ, ◌+◌, ◌<◌, ◌==◌, Bool, List, [], ◌∷◌, ◌++◌, length, map, Some, None, ◌⊎◌, inl, inr}
-use Rattle.mv_plan.proofs.Words.{refl, sym, ap, ◌∙◌, subst, append-nil, arith, AllByRecursion, filter_map-append}
-use Rattle.mv_plan.proofs.Words.{EcbOp, ecb_step, EcbState, Extended, Complete, Entry, Object, Ecb, Element, Op, Reply, IsNext, Setup}
-use Rattle.mv_plan.proofs.Words.{System, moved, opening, posts, post_codes, JobData, not_run, end_of, end_for_scheduler, end_for_writer}
-use Rattle.mv_plan.proofs.Words.{code_of, all_push}
+use Rattle.mv_plan.proofs.Words.{◌≡◌, ℕ, ◌+◌, ◌<◌, ◌==◌, Bool, List, [], ◌∷◌, ◌++◌, length, map, Some, None, ◌⊎◌, inl, inr, refl, sym, ap}
+use Rattle.mv_plan.proofs.Words.{◌∙◌, subst, append-nil, arith, AllByRecursion, filter_map-append, EcbOp, ecb_step, EcbState, Extended}
+use Rattle.mv_plan.proofs.Words.{Complete, Entry, Object, Ecb, Element, Op, Reply, IsNext, Setup, System, moved, opening, posts, post_codes}
+use Rattle.mv_plan.proofs.Words.{JobData, not_run, end_of, end_for_scheduler, end_for_writer, code_of, all_push, done, EcbReply, ElementOp}
+use Rattle.mv_plan.proofs.Words.{common_steps}
+use Rattle.std.proofs.lemmas.List.{map-append}
 use Rattle.mv_plan.specs.PostingEnds.{post_in, FindsEnd}
-use Rattle.mv_plan.specs.SpoolSetup.{done}
-use Rattle.mv_ecb.specs.declared.operation.EcbOp.TheVariants as ecb_op
-use Rattle.mv_ecb.specs.declared.operation.EcbReply.TheVariants as ecb_reply
-use Rattle.mv_element.specs.declared.operation.ElementOp.TheVariants as element_op
-use Rattle.mv_machine.specs.declared.entry.Op.TheVariants as op_on
-use Rattle.mv_machine.specs.declared.entry.Reply.TheVariants as reply_of
-use Rattle.mv_plan.proofs.deck.Plans.{IsPlanned}
+use Rattle.mv_plan.proofs.deck.{IsPlanned, is_skipped, skipped_ends, few_jobs, code_parts, never_zero}
 use Rattle.mv_plan.proofs.ends.Blocks.{HasEnd, scheduler_has, writer_has}
-use Rattle.mv_plan.proofs.deck.Ends.{is_skipped, skipped_ends, few_jobs}
 use Rattle.mv_plan.proofs.ends.RightCodes.{HoldEnds, ReleasesCodes}
-use Rattle.mv_plan.proofs.deck.Codes.{code_parts, never_zero}
 use Rattle.mv_plan.proofs.ends.Complete.{NotComplete, BlockAfter, block_moved, moved_there}
-use Rattle.mv_plan.proofs.walks.Moves.{entry_of, block}
-use Rattle.std.proofs.lemmas.Grind.{common_steps}
+use Rattle.mv_plan.proofs.walks.{entry_of, block}
 
 -- the codes that a block is complete with
 abbrev pub code_list : EcbState → List ℕ
@@ -28,19 +20,19 @@ code_list v = []
 -- a release of a job's code says that the job is not to be run exactly where its end is the not-run end
 abbrev pub HasRightMark : List JobData → Entry → Type 0
 HasRightMark deck e = (m g j : ℕ) (skipped : Bool) → j < length deck → e.object ≡ Element m
-    → e.op ≡ op_on.Element (element_op.Release g (code_of j skipped)) → skipped ≡ (end_of deck j == not_run)
+    → e.op ≡ Op.Element (ElementOp.Release g (code_of j skipped)) → skipped ≡ (end_of deck j == not_run)
 
 -- no post finds its block complete
 abbrev pub PostsFirst : Entry → Type 0
-PostsFirst e = (b d code : ℕ) → e.object ≡ Ecb b → e.op ≡ op_on.Ecb (ecb_op.Post d)
-    → e.reply ≡ reply_of.Ecb (ecb_reply.Already code) → ⊥
+PostsFirst e = (b d code : ℕ) → e.object ≡ Ecb b → e.op ≡ Op.Ecb (EcbOp.Post d)
+    → e.reply ≡ Reply.Ecb (EcbReply.Already code) → ⊥
 
 pub record Traces (deck : List JobData) (s : System) (past : List Entry) : Type 0 where
   -- each block with a job's end was posted exactly where it is complete, and with that code
   pub codes : (j b : ℕ) → j < length deck → HasEnd (length deck) j b → post_codes b past ≡ code_list (block s b)
   -- the post of a done block started its exit
   pub woke : (j : ℕ) → j < length deck
-      → AllByRecursion (λ p. p.1 ≡ reply_of.Ecb (ecb_reply.Woke (j + 1))) (posts (done (length deck) j) past)
+      → AllByRecursion (λ p. p.1 ≡ Reply.Ecb (EcbReply.Woke (j + 1))) (posts (done (length deck) j) past)
   pub found : AllByRecursion (FindsEnd deck) past
   pub marked : AllByRecursion (HasRightMark deck) past
   pub first : AllByRecursion PostsFirst past
@@ -49,50 +41,44 @@ pub record Traces (deck : List JobData) (s : System) (past : List Entry) : Type 
 
 -- an event posts this block, or it does not
 abbrev PostCase : ℕ → Object → Op → Reply → Type 0
-PostCase b o op r = ((d : ℕ) × (o ≡ Ecb b) × (op ≡ op_on.Ecb (ecb_op.Post d)) × (post_in b o op r ≡ Some (d, r)))
-    ⊎ ((post_in b o op r ≡ None) × ((d : ℕ) → o ≡ Ecb b → op ≡ op_on.Ecb (ecb_op.Post d) → ⊥))
+PostCase b o op r = ((d : ℕ) × (o ≡ Ecb b) × (op ≡ Op.Ecb (EcbOp.Post d)) × (post_in b o op r ≡ Some (d, r)))
+    ⊎ ((post_in b o op r ≡ None) × ((d : ℕ) → o ≡ Ecb b → op ≡ Op.Ecb (EcbOp.Post d) → ⊥))
 
 post_case : (b : ℕ) (o : Object) (op : Op) (r : Reply) → PostCase b o op r
 post_case b y op r = grind (arith, common_steps)
 
 posts_none : (b k p : ℕ) (o : Object) (op : Op) (r : Reply) (past : List Entry) → post_in b o op r ≡ None
     → posts b (past ++ entry_of k p (o, op) r ∷ []) ≡ posts b past
-posts_none b k p o op r past e = filter_map-append (λ e. post_in b e.object e.op e.reply) past (entry_of k p (o, op) r ∷ [])
-    ∙ rw e (append-nil (posts b past))
+posts_none b k p o op r past e = grind (arith, common_steps, filter_map-append, append-nil)
 
 posts_some : (b k p : ℕ) (o : Object) (op : Op) (r : Reply) (past : List Entry) (d : ℕ) → post_in b o op r ≡ Some (d, r)
     → posts b (past ++ entry_of k p (o, op) r ∷ []) ≡ posts b past ++ (d, r) ∷ []
-posts_some b k p o op r past d e = filter_map-append (λ e. post_in b e.object e.op e.reply) past (entry_of k p (o, op) r ∷ [])
-    ∙ rw e refl
-
-map_push : (ps : List (ℕ × Reply)) (p : ℕ × Reply) → map (λ p. p.0) (ps ++ p ∷ []) ≡ map (λ p. p.0) ps ++ p.0 ∷ []
-map_push [] p = refl
-map_push (q ∷ ps) p = ap (λ z. q.0 ∷ z) (map_push ps p)
+posts_some b k p o op r past d e = grind (arith, common_steps, filter_map-append)
 
 -- ---- tables
 
 no_code : (v : EcbState) → ((code : ℕ) → v ≡ Complete code → ⊥) → code_list v ≡ []
 no_code y f = grind (arith, common_steps)
 
-posted_code : (d : ℕ) (v : EcbState) → ((code : ℕ) → v ≡ Complete code → ⊥) → code_list (ecb_step (ecb_op.Post d) v).0 ≡ d ∷ []
+posted_code : (d : ℕ) (v : EcbState) → ((code : ℕ) → v ≡ Complete code → ⊥) → code_list (ecb_step (EcbOp.Post d) v).0 ≡ d ∷ []
 posted_code d y f = grind (arith, common_steps)
 
-kept_code : (op : EcbOp) (v : EcbState) → ((d : ℕ) → op ≡ ecb_op.Post d → ⊥) → (op ≡ ecb_op.Clear → ⊥)
+kept_code : (op : EcbOp) (v : EcbState) → ((d : ℕ) → op ≡ EcbOp.Post d → ⊥) → (op ≡ EcbOp.Clear → ⊥)
     → code_list (ecb_step op v).0 ≡ code_list v
 kept_code y v f g = grind (arith, common_steps)
 
 -- an answer Complete is of a complete block, and so is an answer Already
-complete_reply : (op : EcbOp) (v : EcbState) (code : ℕ) → (ecb_step op v).1 ≡ ecb_reply.Complete code → v ≡ Complete code
+complete_reply : (op : EcbOp) (v : EcbState) (code : ℕ) → (ecb_step op v).1 ≡ EcbReply.Complete code → v ≡ Complete code
 complete_reply op v code e = grind arith
 
 -- the reply at a block
 replied : (c : Setup) (s : System) (k b p : ℕ) (o : Object) (op : Op) (r : Reply) (e : EcbOp) → IsNext c s (entry_of k p (o, op) r)
-    → o ≡ Ecb b → op ≡ op_on.Ecb e → r ≡ reply_of.Ecb (ecb_step e (block s b)).1
+    → o ≡ Ecb b → op ≡ Op.Ecb e → r ≡ Reply.Ecb (ecb_step e (block s b)).1
 replied c s k b p o op r e n f g = grind (arith, common_steps)
 
 -- an event on a block is of a block's kind
 ecb_kind : (c : Setup) (s : System) (k b p : ℕ) (o : Object) (op : Op) (r : Reply) → IsNext c s (entry_of k p (o, op) r) → o ≡ Ecb b
-    → (e : EcbOp) × (op ≡ op_on.Ecb e)
+    → (e : EcbOp) × (op ≡ Op.Ecb e)
 ecb_kind c s k b p o op r n f = grind (arith, common_steps)
 
 -- ---- the step, for any event
@@ -100,40 +86,40 @@ ecb_kind c s k b p o op r n f = grind (arith, common_steps)
 module _ (deck : List JobData) (initiators : ℕ) (sound : IsPlanned deck initiators) (c : Setup) (s : System) (k p : ℕ)
     (o : Object) (op : Op) (r : Reply) (past : List Entry)
     (next : IsNext c s (entry_of k p (o, op) r)) (h : Traces deck s past) (ends : HoldEnds deck s) (releases : ReleasesCodes deck o op)
-    (free : (b d : ℕ) → o ≡ Ecb b → op ≡ op_on.Ecb (ecb_op.Post d) → NotComplete s b)
-    (extended : (j d : ℕ) → j < length deck → o ≡ Ecb (done (length deck) j) → op ≡ op_on.Ecb (ecb_op.Post d)
+    (free : (b d : ℕ) → o ≡ Ecb b → op ≡ Op.Ecb (EcbOp.Post d) → NotComplete s b)
+    (extended : (j d : ℕ) → j < length deck → o ≡ Ecb (done (length deck) j) → op ≡ Op.Ecb (EcbOp.Post d)
     → block s (done (length deck) j) ≡ Extended (j + 1))
-    (no_clear : (j b : ℕ) → j < length deck → HasEnd (length deck) j b → o ≡ Ecb b → op ≡ op_on.Ecb ecb_op.Clear → ⊥) where
+    (no_clear : (j b : ℕ) → j < length deck → HasEnd (length deck) j b → o ≡ Ecb b → op ≡ Op.Ecb EcbOp.Clear → ⊥) where
   abbrev e : Entry
   e = entry_of k p (o, op) r
 
   codes_next : (j b : ℕ) → j < length deck → HasEnd (length deck) j b → PostCase b o op r
       → post_codes b (past ++ e ∷ []) ≡ code_list (block (moved s k o op) b)
-  codes_next j b lt has (inl w) = ap (λ ps. map (λ p. p.0) ps) (posts_some b k p o op r past w.0 w.3) ∙ map_push (posts b past) (w.0, r)
+  codes_next j b lt has (inl w) = ap (λ ps. map (λ p. p.0) ps) (posts_some b k p o op r past w.0 w.3)
+      ∙ map-append (λ p. p.0) (posts b past) ((w.0, r) ∷ [])
       ∙ ap (λ z. z ++ w.0 ∷ []) (h.codes j b lt has ∙ no_code (block s b) (free b w.0 w.1 w.2))
-      ∙ sym (ap (λ v. code_list v) (moved_there s k b o op (ecb_op.Post w.0) w.1 w.2)
+      ∙ sym (ap (λ v. code_list v) (moved_there s k b o op (EcbOp.Post w.0) w.1 w.2)
       ∙ posted_code w.0 (block s b) (free b w.0 w.1 w.2))
   codes_next j b lt has (inr w) = ap (λ ps. map (λ p. p.0) ps) (posts_none b k p o op r past w.0) ∙ h.codes j b lt has
       ∙ sym (after (block_moved s k o op b)) where
         after : BlockAfter s k o op b → code_list (block (moved s k o op) b) ≡ code_list (block s b)
         after (inl same) = ap (λ v. code_list v) same
         after (inr m) = ap (λ v. code_list v) m.3
-            ∙ kept_code m.0 (block s b) (λ d q. w.1 d m.1 (m.2 ∙ ap (λ z. op_on.Ecb z) q))
-            (λ q. no_clear j b lt has m.1 (m.2 ∙ ap (λ z. op_on.Ecb z) q))
+            ∙ kept_code m.0 (block s b) (λ d q. w.1 d m.1 (m.2 ∙ ap (λ z. Op.Ecb z) q))
+            (λ q. no_clear j b lt has m.1 (m.2 ∙ ap (λ z. Op.Ecb z) q))
 
   woke_next : (j : ℕ) → j < length deck → PostCase (done (length deck) j) o op r
-      → AllByRecursion (λ p. p.1 ≡ reply_of.Ecb (ecb_reply.Woke (j + 1))) (posts (done (length deck) j) (past ++ e ∷ []))
-  woke_next j lt (inl w) = subst (λ ps. AllByRecursion (λ p. p.1 ≡ reply_of.Ecb (ecb_reply.Woke (j + 1))) ps)
+      → AllByRecursion (λ p. p.1 ≡ Reply.Ecb (EcbReply.Woke (j + 1))) (posts (done (length deck) j) (past ++ e ∷ []))
+  woke_next j lt (inl w) = subst (λ ps. AllByRecursion (λ p. p.1 ≡ Reply.Ecb (EcbReply.Woke (j + 1))) ps)
       (sym (posts_some (done (length deck) j) k p o op r past w.0 w.3))
-      (all_push (λ p. p.1 ≡ reply_of.Ecb (ecb_reply.Woke (j + 1))) (posts (done (length deck) j) past) (w.0, r) (h.woke j lt)
-      (replied c s k (done (length deck) j) p o op r (ecb_op.Post w.0) next w.1 w.2
-      ∙ ap (λ v. reply_of.Ecb (ecb_step (ecb_op.Post w.0) v).1) (extended j w.0 lt w.1 w.2)))
-  woke_next j lt (inr w) = subst (λ ps. AllByRecursion (λ p. p.1 ≡ reply_of.Ecb (ecb_reply.Woke (j + 1))) ps)
-      (sym (posts_none (done (length deck) j) k p o op r past w.0)) (h.woke j lt)
+      (all_push (λ p. p.1 ≡ Reply.Ecb (EcbReply.Woke (j + 1))) (posts (done (length deck) j) past) (w.0, r) (h.woke j lt)
+      (replied c s k (done (length deck) j) p o op r (EcbOp.Post w.0) next w.1 w.2
+      ∙ ap (λ v. Reply.Ecb (ecb_step (EcbOp.Post w.0) v).1) (extended j w.0 lt w.1 w.2)))
+  woke_next j lt (inr w) = grind (arith, common_steps, posts_none)
 
-  finds_at : (b j code : ℕ) → j < length deck → HasEnd (length deck) j b → o ≡ Ecb b → r ≡ reply_of.Ecb (ecb_reply.Complete code)
+  finds_at : (b j code : ℕ) → j < length deck → HasEnd (length deck) j b → o ≡ Ecb b → r ≡ Reply.Ecb (EcbReply.Complete code)
       → code ≡ end_of deck j
-  finds_at b j code lt has f e = let w : (x : EcbOp) × (op ≡ op_on.Ecb x) = ecb_kind c s k b p o op r next f in
+  finds_at b j code lt has f e = let w = ecb_kind c s k b p o op r next f in
       ends j b code lt has (complete_reply w.0 (block s b) code (cc (sym (replied c s k b p o op r w.0 next f w.1) ∙ e)))
 
   finds_next : FindsEnd deck e
@@ -144,8 +130,7 @@ module _ (deck : List JobData) (initiators : ℕ) (sound : IsPlanned deck initia
   mark_next m g j skipped lt f q = elim (releases m g (code_of j skipped) f q) [
     | inl none ↦ absurd (never_zero j skipped none)
     | inr w ↦
-        let same : (j ≡ w.0) × (skipped ≡ is_skipped deck w.0) =
-        code_parts (length deck) j w.0 skipped (is_skipped deck w.0) (few_jobs deck initiators sound) lt w.1 w.2 in
+        let same = code_parts (length deck) j w.0 skipped (is_skipped deck w.0) (few_jobs deck initiators sound) lt w.1 w.2 in
         same.1 ∙ ap (λ z. is_skipped deck z) (sym same.0) ∙ skipped_ends deck j sound.jobs lt
   ]
 

@@ -1,21 +1,13 @@
 -- The writer has found the end of each job before the one that it waits for; so at its end all are posted.
-use Rattle.mv_plan.proofs.Words.{◌≡◌, ℕ, suc, ◌+◌, ◌<◌, List, [], ◌∷◌, ◌++◌, length, Option, Some, inl, inr, subst, arith}
-use Rattle.mv_plan.proofs.Words.{cases_lt, Entry, Reply, IsNext, Setup, System, moved, opening, JobData, end_for_writer, idle, reader}
-use Rattle.mv_plan.proofs.Words.{scheduler, initiator, writer}
-use Rattle.mv_ecb.specs.declared.operation.EcbOp.TheVariants as ecb_op
-use Rattle.mv_ecb.specs.declared.operation.EcbReply.TheVariants as ecb_reply
-use Rattle.mv_machine.specs.declared.entry.Reply.TheVariants as reply_of
-use Rattle.mv_plan.proofs.points.Points.{Point, At, Finished, TooSoon, Astray, Arming, Settling, WriterAt, Keeping, writing_from, end_found}
-use Rattle.mv_plan.proofs.points.Points.{writer_asks, writer_goes, reader_asks, scheduler_asks, initiator_asks}
-use Rattle.mv_plan.proofs.points.PostsAndWaits.{on_armed_keeps}
-use Rattle.mv_plan.proofs.walks.Walks.{Points, start_points}
-use Rattle.mv_plan.proofs.points.ReaderAndWriter.{IsWriterAt}
-use Rattle.mv_plan.proofs.walks.Stands.{HasStanding}
+use Rattle.mv_plan.proofs.Words.{◌≡◌, ℕ, suc, ◌+◌, ◌<◌, List, [], ◌∷◌, ◌++◌, length, Option, Some, inl, inr, subst, arith, cases_lt, Entry}
+use Rattle.mv_plan.proofs.Words.{Reply, IsNext, Setup, System, moved, opening, JobData, end_for_writer, idle, reader, scheduler, initiator}
+use Rattle.mv_plan.proofs.Words.{writer, EcbOp, EcbReply, common_steps, Object, Op, Ecb}
+use Rattle.mv_plan.proofs.points.{Point, At, Finished, Arming, Settling, WriterAt, Keeping, writing_from, end_found, writer_asks}
+use Rattle.mv_plan.proofs.points.{writer_goes, reader_asks, scheduler_asks, initiator_asks, on_armed_keeps, IsWriterAt}
+use Rattle.mv_plan.proofs.walks.{Points, start_points, HasStanding, KeepsUnder, by_moves, entry_of}
 use Rattle.mv_plan.proofs.ends.Complete.{IsComplete, is_moved}
-use Rattle.mv_plan.proofs.ends.Awaited.{reader_ecb, initiator_ecb}
 use Rattle.mv_plan.proofs.ends.Posted.{scheduler_clears, writer_clears_none, clear_is_no_post}
-use Rattle.mv_plan.proofs.walks.Moves.{KeepsUnder, by_moves, entry_of}
-use Rattle.std.proofs.lemmas.Grind.{common_steps}
+use Rattle.mv_plan.proofs.ends.WhoPosts.{reader_ecb, initiator_ecb}
 
 -- the ends of all jobs below are posted to the writer
 abbrev pub HasFound : ℕ → System → Point WriterAt → Type 0
@@ -51,7 +43,7 @@ idle_elsewhere n i k lt e = omega arith
 
 module _ (deck : List JobData) (initiators : ℕ) where
   abbrev FindsIt : System → WriterAt → Reply → Type 0
-  FindsIt s (Keeping j more kept (Settling e todo found)) (reply_of.Ecb (ecb_reply.Complete code)) = IsComplete s e
+  FindsIt s (Keeping j more kept (Settling e todo found)) (Reply.Ecb (EcbReply.Complete code)) = IsComplete s e
   FindsIt s x r = Unit {0}
 
   finds_it : (c : Setup) (s : System) (x : WriterAt) (k p : ℕ) (r : Reply) → IsNext c s (entry_of k p (writer_asks x) r) → FindsIt s x r
@@ -63,39 +55,34 @@ module _ (deck : List JobData) (initiators : ℕ) where
   own_found s s' (Keeping j more kept (Arming e [])) r at f it h =
       on_armed_keeps (HasFound (length deck) s') (At (Keeping j more kept (Settling (end_for_writer (length deck) j) [] []))) r
       (λ k lt. f _ (h k lt)) tt
-  own_found s s' (Keeping j more kept (Arming e (b ∷ todo))) r at f it h = absurd (cc at.2)
-  own_found s s' (Keeping j more kept (Settling e [] found)) (reply_of.Ecb (ecb_reply.Complete code)) at f it h =
+  own_found s s' (Keeping j more kept (Settling e [] found)) (Reply.Ecb (EcbReply.Complete code)) at f it h =
       settled_found (length deck) j more s' kept code found at.3 at.0 (f _ (subst (IsComplete s) at.1 it)) (λ k lt. f _ (h k lt))
-  own_found s s' (Keeping j more kept (Settling e [] found)) (reply_of.Ecb ecb_reply.Open) at f it h = grind (arith, common_steps)
-  own_found s s' (Keeping j more kept (Settling e [] found)) r at f it h = tt
-  own_found s s' (Keeping j more kept (Settling e (b ∷ todo) found)) r at f it h = absurd (cc at.2)
+  own_found s s' x r at f it h = grind (arith, common_steps)
 
-  below_kept : (s s' : System) (t : Points) → IsWriterAt (length deck) t.writer
-      → ((k : ℕ) → k < length deck → IsComplete s (end_for_writer (length deck) k) → IsComplete s' (end_for_writer (length deck) k))
-      → HasFound (length deck) s t.writer → HasFound (length deck) s' t.writer
-  below_kept s s' t at f h = go t.writer at h where
-    go : (p : Point WriterAt) → IsWriterAt (length deck) p → HasFound (length deck) s p → HasFound (length deck) s' p
-    go (At (Keeping j more kept (Arming e todo))) a g = λ k lt. f k (let q : j + suc more ≡ length deck = a.0 in omega arith) (g k lt)
-    go (At (Keeping j more kept (Settling e todo found))) a g = grind (arith, common_steps)
-    go (Finished kept) a g = λ k lt. f k lt (g k lt)
-    go TooSoon a g = tt
-    go Astray a g = tt
+  -- an event that clears no end for the writer
+  still_found : (s : System) (p : Point WriterAt) (k : ℕ) (o : Object) (op : Op) → IsWriterAt (length deck) p
+      → ((j : ℕ) → j < length deck → o ≡ Ecb (end_for_writer (length deck) j) → op ≡ Op.Ecb EcbOp.Clear → ⊥)
+      → HasFound (length deck) s p → HasFound (length deck) (moved s k o op) p
+  still_found s p k o op at clear h = kept s (moved s k o op) p at (λ j lt w. is_moved s k o op _ w (clear j lt)) h where
+    kept : (s z : System) (p : Point WriterAt) → IsWriterAt (length deck) p → ((j : ℕ) → j < length deck
+        → IsComplete s (end_for_writer (length deck) j) → IsComplete z (end_for_writer (length deck) j))
+        → HasFound (length deck) s p → HasFound (length deck) z p
+    kept s z (At (Keeping j more ends (Arming e todo))) at f h = λ k lt. f k (let q = at.0 in omega arith) (h k lt)
+    kept s z (At (Keeping j more ends (Settling e todo found))) at f h = grind (arith, common_steps)
+    kept s z (Finished ends) at f h = λ k lt. f k lt (h k lt)
+    kept s z p at f h = tt
 
   pub writer_has_keeps : (c : Setup) → KeepsUnder (HasStanding deck initiators) (WriterHas deck) c deck initiators
   writer_has_keeps c = by_moves (HasStanding deck initiators) (WriterHas deck) c deck initiators
-      (λ s t past x p r at n q h. below_kept s (moved s reader (reader_asks x).0 (reader_asks x).1) t q.writer
-      (λ k lt w. is_moved s reader (reader_asks x).0 (reader_asks x).1 (end_for_writer (length deck) k) w
-      (λ o op. clear_is_no_post (reader_ecb deck initiators x ecb_op.Clear op).1)) h)
-      (λ s t past x p r at n q h. below_kept s
-      (moved s scheduler (scheduler_asks (length deck) x).0 (scheduler_asks (length deck) x).1) t q.writer
-      (λ k lt w. is_moved s scheduler (scheduler_asks (length deck) x).0 (scheduler_asks (length deck) x).1
-      (end_for_writer (length deck) k) w
-      (λ o op. let i : (i : ℕ) × (end_for_writer (length deck) k ≡ idle (length deck) i) = scheduler_clears (length deck) x
-      (end_for_writer (length deck) k) o op in idle_elsewhere (length deck) i.0 k lt i.1)) h)
-      (λ s t past i x p r lt at n q h. below_kept s
-      (moved s (initiator i) (initiator_asks (length deck) i x).0 (initiator_asks (length deck) i x).1) t q.writer
-      (λ k less w. is_moved s (initiator i) (initiator_asks (length deck) i x).0 (initiator_asks (length deck) i x).1
-      (end_for_writer (length deck) k) w (λ o op. clear_is_no_post (initiator_ecb deck initiators i x ecb_op.Clear op).1)) h)
+      (λ s t past x p r at n q h. still_found s t.writer reader (reader_asks x).0 (reader_asks x).1 q.writer
+      (λ j lt o op. clear_is_no_post (reader_ecb x EcbOp.Clear op).1) h)
+      (λ s t past x p r at n q h.
+      still_found s t.writer scheduler (scheduler_asks (length deck) x).0 (scheduler_asks (length deck) x).1 q.writer
+      (λ j lt o op. let i = scheduler_clears (length deck) x (end_for_writer (length deck) j) o op in
+      idle_elsewhere (length deck) i.0 j lt i.1) h)
+      (λ s t past i x p r lt at n q h.
+      still_found s t.writer (initiator i) (initiator_asks (length deck) i x).0 (initiator_asks (length deck) i x).1 q.writer
+      (λ j lt o op. clear_is_no_post (initiator_ecb (length deck) i x EcbOp.Clear op).1) h)
       (λ s t past x p r at n q h. own_found s (moved s (writer initiators) (writer_asks x).0 (writer_asks x).1) x r
       (subst (IsWriterAt (length deck)) at q.writer)
       (λ b w. is_moved s (writer initiators) (writer_asks x).0 (writer_asks x).1 b w (λ o op. writer_clears_none x op))

@@ -1,23 +1,19 @@
 -- What the law of ends says of two runs, by computing it; and the law applied to one of them.
 use Rattle.mv_plan.proofs.Words.{◌≡◌, List, true, false, [], ◌∷◌, map, refl, arith, posts, post_codes, EndsArePosted, list_any, Step}
-use Rattle.mv_plan.proofs.Words.{is_end, end_for_scheduler, end_for_writer}
+use Rattle.mv_plan.proofs.Words.{is_end, end_for_scheduler, end_for_writer, done, EcbReply, Reply}
 use Rattle.mv_deck.specs.Held.{is_out_of_order, lacks_latch}
-use Rattle.mv_plan.specs.SpoolSetup.{done}
-use Rattle.mv_ecb.specs.declared.operation.EcbReply.TheVariants as ecb_reply
-use Rattle.mv_machine.specs.declared.entry.Reply.TheVariants as reply_of
 use Rattle.mv_deck.specs.Sound.{IsSound, IsSoundStep, HasGoodNumbers}
-use Rattle.mv_plan.proofs.deck.Planned.{planned}
-use Rattle.mv_plan.proofs.deck.Ends.{is_skipped}
+use Rattle.mv_plan.proofs.deck.{planned, is_skipped}
 use Rattle.mv_plan.proofs.results.EndsPosted.{ends_are_posted}
 use Rattle.mv_plan.proofs.examples.Returns.{returning_deck, returning_journal, returning_is_run}
 use Rattle.mv_plan.proofs.examples.TwoInitiators.{pay_journal}
 
 -- a deck with ends 4, 0 and not run
-done_posts : posts (done 3 0) returning_journal ≡ (4, reply_of.Ecb (ecb_reply.Woke 1)) ∷ []
+done_posts : posts (done 3 0) returning_journal ≡ (4, Reply.Ecb (EcbReply.Woke 1)) ∷ []
 unfolding returning_journal
 done_posts = refl
 
-last_posts : posts (done 3 2) returning_journal ≡ (33554432, reply_of.Ecb (ecb_reply.Woke 3)) ∷ []
+last_posts : posts (done 3 2) returning_journal ≡ (33554432, Reply.Ecb (EcbReply.Woke 3)) ∷ []
 unfolding returning_journal
 last_posts = refl
 
@@ -37,8 +33,8 @@ marks = refl
 
 -- a run of two initiators
 two_posts : map (λ j. posts (done 3 j) pay_journal) (0 ∷ 1 ∷ 2 ∷ [])
-    ≡ ((0, reply_of.Ecb (ecb_reply.Woke 1)) ∷ []) ∷ ((16777228, reply_of.Ecb (ecb_reply.Woke 2)) ∷ []) ∷
-    ((33554432, reply_of.Ecb (ecb_reply.Woke 3)) ∷ []) ∷ []
+    ≡ ((0, Reply.Ecb (EcbReply.Woke 1)) ∷ []) ∷ ((16777228, Reply.Ecb (EcbReply.Woke 2)) ∷ []) ∷
+    ((33554432, Reply.Ecb (EcbReply.Woke 3)) ∷ []) ∷ []
 unfolding pay_journal
 two_posts = refl
 

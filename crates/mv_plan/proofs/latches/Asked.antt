@@ -1,13 +1,10 @@
 -- The requests of a running job at one latch, as a list computed from the latches that it holds or waits for.
 use Rattle.mv_plan.proofs.Words.{◌≡◌, ℕ, ◌+◌, ◌<◌, ◌==◌, Bool, true, false, not, ◌||◌, if◌then◌else◌, List, [], ◌∷◌, ◌++◌, filter, Option}
-use Rattle.mv_plan.proofs.Words.{Some, inl, inr, refl, ap, arith, AllByRecursion, Contains, list_any, eq-eqb, ne_eqb}
-use Rattle.mv_plan.proofs.Words.{false≢true, or_left, or_right, Request, is_own, not_in_empty, first_or_rest, first_is_in}
+use Rattle.mv_plan.proofs.Words.{Some, inl, inr, refl, ap, arith, AllByRecursion, Contains, list_any, eq-eqb, ne_eqb, false≢true, or_left}
+use Rattle.mv_plan.proofs.Words.{or_right, Request, is_own, not_in_empty, first_or_rest, first_is_in, LatchForm, common_steps}
 use Rattle.mv_latch.proofs.Members.{rest_is_in}
-use Rattle.mv_latch.specs.declared.request.LatchForm.TheVariants as form_of
-use Rattle.mv_plan.proofs.points.InitiatorSound.{held_of}
-use Rattle.mv_plan.proofs.points.Points.{Grant, without_latch}
-use Rattle.mv_plan.proofs.lists.Lists.{all_map}
-use Rattle.std.proofs.lemmas.Grind.{common_steps}
+use Rattle.mv_plan.proofs.points.{held_of, Grant, without_latch}
+use Rattle.mv_plan.proofs.lists.{all_map}
 
 -- ---- lists and tests
 
@@ -55,7 +52,7 @@ found {X} t (q ∷ qs) e = go (t q) refl e (found t qs) where
 
 -- a request of a job of caller k
 abbrev pub request_of : ℕ → ℕ → Grant → Request
-request_of k job g = record { id = g.id; caller = k; requestor = job + 1; mode = g.mode; form = form_of.Waiting }
+request_of k job g = record { id = g.id; caller = k; requestor = job + 1; mode = g.mode; form = LatchForm.Waiting }
 
 -- those at one latch
 abbrev pub asked : ℕ → ℕ → ℕ → List Grant → List Request

@@ -1,18 +1,13 @@
 -- Who touches a volume holds its latch, and who counts on it holds it alone; so no two initiators stand so at one volume.
-use Rattle.mv_plan.proofs.Words.{◌≡◌, ℕ, ◌<◌, ◌==◌, Bool, true, false, not, ◌&&◌, ◌||◌, List, [], ◌∷◌, length, Option, Some, None}
-use Rattle.mv_plan.proofs.Words.{refl, sym, ap, ◌∙◌, subst, arith, Contains, list_any, eqb-true, Request, granted, list_of}
-use Rattle.mv_plan.proofs.Words.{is_shared, shared_request, System, JobData, initiator, all_at}
+use Rattle.mv_plan.proofs.Words.{◌≡◌, ℕ, ◌<◌, ◌==◌, Bool, true, false, not, ◌&&◌, ◌||◌, List, [], ◌∷◌, length, Option, Some, None, refl}
+use Rattle.mv_plan.proofs.Words.{sym, ap, ◌∙◌, subst, arith, Contains, list_any, eqb-true, Request, granted, list_of, is_shared}
+use Rattle.mv_plan.proofs.Words.{shared_request, JobData, initiator, all_at, common_steps}
 use Rattle.mv_latch.proofs.Holders.{alone}
-use Rattle.mv_plan.proofs.deck.Plans.{is_held, is_held_alone}
+use Rattle.mv_plan.proofs.deck.{is_held, is_held_alone}
 use Rattle.mv_plan.proofs.latches.Asked.{finds, found, request_of}
-use Rattle.mv_plan.proofs.latches.HandMoves.{has_latch, works, Apart}
+use Rattle.mv_plan.proofs.latches.HandMoves.{has_latch}
 use Rattle.mv_plan.proofs.latches.Hands.{grip, OwnsBy, Hands, Holds}
-use Rattle.mv_plan.proofs.points.InitiatorSound.{held_of, IsInitiatorAt}
-use Rattle.mv_plan.proofs.places.Places.{Places, Run}
-use Rattle.mv_plan.proofs.points.Points.{Point, At, Grant, Running, InitiatorAt, Reading, Writing, Scanning, Rescanning, InJob}
-use Rattle.mv_plan.proofs.walks.Walks.{Points}
-use Rattle.mv_plan.proofs.points.Views.{run_of}
-use Rattle.std.proofs.lemmas.Grind.{common_steps}
+use Rattle.mv_plan.proofs.points.{held_of, IsInitiatorAt, Point, At, Grant, InitiatorAt, Reading, Writing, Scanning, Rescanning, InJob}
 
 -- the volume of a COUNT
 abbrev pub counted_on : Point InitiatorAt → Option ℕ
@@ -48,10 +43,8 @@ alone_parts x b e = grind (arith, common_steps)
 held_alone : (lists : List (List Request)) (k job latch : ℕ) (gs : List Grant) → Holds lists k job gs
     → list_any (is_held_alone latch) (held_of gs) ≡ true → HoldsAlone lists k latch
 held_alone lists k job latch gs h e =
-    let it : (g : Grant) × Contains gs g × (((g.latch == latch) && not (is_shared g.mode)) ≡ true) =
-    found (λ g. (g.latch == latch) && not (is_shared g.mode)) gs (sym (has_alone latch gs) ∙ e) in
-    let parts : (((it.0).latch == latch) ≡ true) × (is_shared (it.0).mode ≡ false) =
-    alone_parts ((it.0).latch == latch) (is_shared (it.0).mode) it.2 in (
+    let it = found (λ g. (g.latch == latch) && not (is_shared g.mode)) gs (sym (has_alone latch gs) ∙ e) in
+    let parts = alone_parts ((it.0).latch == latch) (is_shared (it.0).mode) it.2 in (
       request_of k job it.0,
       subst (λ l. Contains (granted (list_of lists l)) (request_of k job it.0)) (eqb-true (it.0).latch latch parts.0)
           (all_at (λ g. Contains (granted (list_of lists g.latch)) (request_of k job g)) gs it.0 h it.1),
@@ -65,18 +58,14 @@ some_none v e = absurd (cc e)
 
 pub count_holds : (deck : List JobData) (lists : List (List Request)) (k v : ℕ) (p : Point InitiatorAt) → counted_on p ≡ Some v
     → IsInitiatorAt deck p → OwnsBy lists k (grip p) → HoldsAlone lists k v
-count_holds deck lists k v (At (InJob run (Reading hand volume amount steps))) e a w =
-    subst (HoldsAlone lists k) (let q : volume ≡ v = cc e in q) (held_alone lists k run.job volume hand.holding w.holds a.sound.3)
-count_holds deck lists k v (At (InJob run (Writing hand volume amount number steps))) e a w =
-    subst (HoldsAlone lists k) (let q : volume ≡ v = cc e in q) (held_alone lists k run.job volume hand.holding w.holds a.sound.3)
+count_holds deck lists k v (At (InJob run (Reading hand volume amount steps))) e a w = grind (arith, common_steps, held_alone)
+count_holds deck lists k v (At (InJob run (Writing hand volume amount number steps))) e a w = grind (arith, common_steps, held_alone)
 count_holds deck lists k v p e a w = absurd (some_none v e)
 
 pub touch_holds : (deck : List JobData) (lists : List (List Request)) (k v : ℕ) (p : Point InitiatorAt) → touched p ≡ Some v
     → IsInitiatorAt deck p → OwnsBy lists k (grip p) → HoldsLatch lists k v
-touch_holds deck lists k v (At (InJob run (Scanning hand volume steps))) e a w =
-    subst (HoldsLatch lists k) (let q : volume ≡ v = cc e in q) (held_latch lists k run.job volume hand.holding w.holds a.sound.1)
-touch_holds deck lists k v (At (InJob run (Rescanning hand volume number steps))) e a w =
-    subst (HoldsLatch lists k) (let q : volume ≡ v = cc e in q) (held_latch lists k run.job volume hand.holding w.holds a.sound.1)
+touch_holds deck lists k v (At (InJob run (Scanning hand volume steps))) e a w = grind (arith, common_steps, held_latch)
+touch_holds deck lists k v (At (InJob run (Rescanning hand volume number steps))) e a w = grind (arith, common_steps, held_latch)
 touch_holds deck lists k v p e a w =
     let it : HoldsAlone lists k v = count_holds deck lists k v p e a w in (it.0, it.1, it.2)
 
@@ -89,24 +78,9 @@ pub excludes : (deck : List JobData) (initiators : ℕ) (lists : List (List Requ
     → Hands initiators lists points → ((j : ℕ) → j < initiators → IsInitiatorAt deck (points j)) → counted_on (points i) ≡ Some v
     → touched (points m) ≡ Some v → i ≡ m
 excludes deck initiators lists points i m v lt less w stand one two =
-    let a : HoldsAlone lists (initiator i) v = count_holds deck lists (initiator i) v (points i) one (stand i lt) (w.owns i lt) in
-    let b : HoldsLatch lists (initiator m) v = touch_holds deck lists (initiator m) v (points m) two (stand m less) (w.owns m less) in
-    let single : length (granted (list_of lists v)) ≡ 1 =
-    alone (list_of lists v) (finds (λ q. not (shared_request q)) (granted (list_of lists v)) a.0 a.1 (ap not a.3)) in
-    let same : a.0 ≡ b.0 = one_only (granted (list_of lists v)) a.0 b.0 single a.1 b.1 in
-    let callers : initiator i ≡ initiator m = sym a.2 ∙ ap (λ q. q.caller) same ∙ b.2 in
+    let a = count_holds deck lists (initiator i) v (points i) one (stand i lt) (w.owns i lt) in
+    let b = touch_holds deck lists (initiator m) v (points m) two (stand m less) (w.owns m less) in
+    let single = alone (list_of lists v) (finds (λ q. not (shared_request q)) (granted (list_of lists v)) a.0 a.1 (ap not a.3)) in
+    let same = one_only (granted (list_of lists v)) a.0 b.0 single a.1 b.1 in
+    let callers = sym a.2 ∙ ap (λ q. q.caller) same ∙ b.2 in
     omega arith
-
--- ---- jobs in one place each are run by one initiator each
-
-pub works_run : (p : Point InitiatorAt) (job : ℕ) → works p ≡ Some job → (run : Running) × (run_of p ≡ Some run) × (run.job ≡ job)
-works_run p job e = grind (arith, common_steps)
-
-pub places_apart : (deck : List JobData) (initiators : ℕ) (s : System) (t : Points) → Places deck initiators s t
-    → Apart initiators t.initiators
-places_apart deck initiators s t w i m job lt less a b =
-    let x : (run : Running) × (run_of (t.initiators i) ≡ Some run) × (run.job ≡ job) = works_run (t.initiators i) job a in
-    let y : (run : Running) × (run_of (t.initiators m) ≡ Some run) × (run.job ≡ job) = works_run (t.initiators m) job b in
-    let p : w.place job ≡ Run i = subst (λ j. w.place j ≡ Run i) x.2 (w.running i x.0 lt x.1) in
-    let q : w.place job ≡ Run m = subst (λ j. w.place j ≡ Run m) y.2 (w.running m y.0 less y.1) in
-    let both : Run i ≡ Run m = sym p ∙ q in cc both

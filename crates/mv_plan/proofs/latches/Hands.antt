@@ -1,28 +1,21 @@
 -- The hands: at each latch an initiator's requests are exactly those of the job that it runs, and a latch that the job holds is
 -- granted to it. On lists and points alone; no machine stands here.
-use Rattle.mv_plan.proofs.Words.{◌≡◌, ℕ, suc, ◌+◌, ◌<◌, ◌==◌, Bool, true, false, not, ◌&&◌, List, [], ◌∷◌, ◌++◌, length, filter}
-use Rattle.mv_plan.proofs.Words.{Option, Some, inl, inr, refl, sym, ap, ◌∙◌, subst, append-nil, AllByRecursion, Contains, list_any, eq-eqb}
-use Rattle.mv_plan.proofs.Words.{ne_eqb, eqb-true, cases_eq, false≢true, LatchOp, Mode, Request, granted, grants, list_of, latch_step}
-use Rattle.mv_plan.proofs.Words.{is_own, of_caller, of_requestor, not_in_empty, first_or_rest, mine, NamesLatch, JobData, Step, Print}
-use Rattle.mv_plan.proofs.Words.{job_at, initiator, all_append, all_filter, all_at}
+use Rattle.mv_plan.proofs.Words.{◌≡◌, ℕ, suc, ◌+◌, ◌<◌, ◌==◌, Bool, true, false, not, List, [], ◌∷◌, ◌++◌, length, filter, Option, Some}
+use Rattle.mv_plan.proofs.Words.{inl, inr, refl, sym, ap, ◌∙◌, subst, append-nil, AllByRecursion, Contains, list_any, eq-eqb, ne_eqb}
+use Rattle.mv_plan.proofs.Words.{eqb-true, cases_eq, LatchOp, Mode, Request, granted, grants, list_of, latch_step, is_own, of_caller}
+use Rattle.mv_plan.proofs.Words.{not_in_empty, first_or_rest, mine, NamesLatch, JobData, Step, Print, job_at, initiator, all_append}
+use Rattle.mv_plan.proofs.Words.{all_filter, all_at, Free, LatchForm, rules}
 use Rattle.mv_machine.proofs.Standing.{is_mine}
-use Rattle.mv_deck.specs.declared.deck.Step.TheVariants.{Free}
 use Rattle.mv_machine.proofs.Lists.{all_front, all_back}
-use Rattle.mv_latch.specs.declared.operation.LatchOp.TheVariants as latch_op
-use Rattle.mv_latch.specs.declared.request.LatchForm.TheVariants as form_of
 use Rattle.mv_latch.proofs.Changes.{Changed, stays_granted, latch_changes}
 use Rattle.mv_plan.proofs.latches.Asked.{filter_none, in_filter, finds, found, request_of, asked, asked_push, asked_here, asked_there}
 use Rattle.mv_plan.proofs.latches.Asked.{asked_below, asked_freed, asked_kept, asked_named, asked_of, asked_all}
-use Rattle.mv_plan.proofs.points.InitiatorSound.{held_of}
+use Rattle.mv_plan.proofs.points.{held_of, Point, At, Finished, Grant, Running, Hand, empty_hand, without_latch, InitiatorAt, hand_at}
+use Rattle.mv_plan.proofs.points.{EndingJob, EndingForScheduler, EndingForWriter, Confirming, steps_at, running, job_start, given_at}
+use Rattle.mv_plan.proofs.points.{counting_at, InJob, freeing_lands, given_lands, counting_lands}
 use Rattle.mv_plan.proofs.latches.Lists.{obtained_list, obtained_elsewhere, granted_new, released_list, released_elsewhere, purged_list}
 use Rattle.mv_plan.proofs.latches.Lists.{granted_in, mine_pushed, mine_without, mine_purged, Spares, mine_kept, AllAsked}
-use Rattle.mv_plan.proofs.points.Points.{Point, At, Finished, Grant, Running, Hand, empty_hand, without_latch, InitiatorAt, hand_at}
-use Rattle.mv_plan.proofs.points.Points.{EndingJob, EndingForScheduler, EndingForWriter, Confirming, steps_at, running}
-use Rattle.mv_plan.proofs.points.Points.{job_start, given_at, counting_at, InJob}
-use Rattle.mv_plan.proofs.lists.Lists.{all_map, all_join}
-use Rattle.mv_plan.proofs.points.Lands.{freeing_lands, given_lands, counting_lands}
-use Rattle.std.proofs.Common.{rules}
-use Rattle.std.proofs.Common.{rules}
+use Rattle.mv_plan.proofs.lists.{all_map, all_join}
 
 -- What an initiator's point says of its requests: nothing, where its program has ended too soon or gone astray; that there are
 -- none; or that its job holds these latches and asks for these as well.
@@ -96,7 +89,7 @@ listed_plain lists k job held w = subst (Listed lists k job) (append-nil held) w
 
 -- it is no purge of this job
 abbrev pub SparesJob : LatchOp → Grip → Type 0
-SparesJob (latch_op.Purge requestor) (Works job held more) = requestor ≡ job + 1 → ⊥
+SparesJob (LatchOp.Purge requestor) (Works job held more) = requestor ≡ job + 1 → ⊥
 SparesJob op st = Unit {0}
 
 spares_idle : (k : ℕ) (lists : List (List Request)) (op : LatchOp) → HasNone lists k → Spares k lists op
@@ -104,10 +97,7 @@ spares_idle k lists op w = search rules
 
 spares_works : (k job : ℕ) (held more : List Grant) (lists : List (List Request)) (op : LatchOp) → SparesJob op (Works job held more)
     → Owns lists k job held more → Spares k lists op
-spares_works k job held more lists (latch_op.Purge requestor) n w = λ latch.
-    subst (AllByRecursion (λ q. not (of_requestor requestor q) ≡ true)) (sym (w.listed latch))
-    (all_map (λ q e. ap not (ne_eqb q.requestor requestor (λ same. n (sym same ∙ e.1)))) (asked k job latch (held ++ more))
-    (asked_of k job latch (held ++ more)))
+spares_works k job held more lists (LatchOp.Purge requestor) n w = search (rules, all_map, ne_eqb, asked_of)
 spares_works k job held more lists op n w = tt
 
 pub other_owns : (k j place : ℕ) (op : LatchOp) (lists : List (List Request)) (st : Grip) → (k ≡ j → ⊥) → NamesLatch op lists
@@ -135,7 +125,7 @@ module _ (k place job latch : ℕ) (mode : Mode) (lists : List (List Request)) (
   new_grant = record { latch = latch; mode = mode; id = place }
 
   abbrev after_obtain : List (List Request)
-  after_obtain = (latch_step k place (latch_op.Obtain latch (job + 1) mode form_of.Waiting) lists).0
+  after_obtain = (latch_step k place (LatchOp.Obtain latch (job + 1) mode LatchForm.Waiting) lists).0
 
   pub obtain_listed : latch < length lists → Listed lists k job held → Listed after_obtain k job (held ++ new_grant ∷ [])
   obtain_listed lt w = everywhere (λ x. mine k (list_of after_obtain x) ≡ asked k job x (held ++ new_grant ∷ [])) latch
@@ -153,7 +143,7 @@ module _ (k place job latch : ℕ) (mode : Mode) (lists : List (List Request)) (
   obtain_owns lt w = record {
     listed = obtain_listed lt (listed_plain lists k job held w);
     holds = holds_still lists after_obtain place k job held (new_grant ∷ [])
-        (latch_changes k place (latch_op.Obtain latch (job + 1) mode form_of.Waiting) lists)
+        (latch_changes k place (LatchOp.Obtain latch (job + 1) mode LatchForm.Waiting) lists)
         (obtain_listed lt (listed_plain lists k job held w)) w.holds;
   }
 
@@ -171,11 +161,7 @@ module _ (k place job latch : ℕ) (mode : Mode) (lists : List (List Request)) (
 
 -- a request that is confirmed is granted
 own_caller : (k id : ℕ) (q : Request) → is_own k id q ≡ true → q.caller ≡ k
-own_caller k id q e = go (q.id == id) (q.caller == k) refl e where
-  go : (b d : Bool) → (q.caller == k) ≡ d → (b && d) ≡ true → q.caller ≡ k
-  go true true f g = eqb-true q.caller k f
-  go true false f g = absurd (false≢true g)
-  go false d f g = absurd (false≢true g)
+own_caller k id q e = search (rules, eqb-true)
 
 -- the one request of the caller at a latch above all that it holds
 asked_last : (k job : ℕ) (held : List Grant) (g : Grant) → AllByRecursion (λ h. h.latch < g.latch) (held_of held)
@@ -242,14 +228,14 @@ free_stands lists k job latch id requests held w last e has =
 
 module _ (k place job latch id : ℕ) (lists : List (List Request)) (held : List Grant) where
   abbrev after_free : List (List Request)
-  after_free = (latch_step k place (latch_op.Release latch id false) lists).0
+  after_free = (latch_step k place (LatchOp.Release latch id false) lists).0
 
   pub free_owns : (requests : ℕ → Option ℕ) → latch < length lists → list_any (is_own k id) (list_of lists latch) ≡ true
       → AllByRecursion (λ g. requests g.latch ≡ Some g.id) held → requests latch ≡ Some id → Owns lists k job held []
       → Owns after_free k job (without_latch latch held) []
   free_owns requests lt there last e w = owns_plain after_free k job (without_latch latch held) now
       (holds_still lists after_free place k job (without_latch latch held) []
-      (latch_changes k place (latch_op.Release latch id false) lists)
+      (latch_changes k place (LatchOp.Release latch id false) lists)
       (subst (Listed after_free k job) (sym (append-nil (without_latch latch held))) now)
       (all_filter (λ g. Contains (granted (list_of lists g.latch)) (request_of k job g))
       (λ g. not (g.latch == latch)) held w.holds)) where
@@ -267,7 +253,7 @@ module _ (k place job latch id : ℕ) (lists : List (List Request)) (held : List
 
 -- a purge takes out all of the job's
 pub purge_owns : (k place job : ℕ) (lists : List (List Request)) (held : List Grant) → Owns lists k job held []
-    → HasNone (latch_step k place (latch_op.Purge (job + 1)) lists).0 k
+    → HasNone (latch_step k place (LatchOp.Purge (job + 1)) lists).0 k
 purge_owns k place job lists held w = search (rules, mine, purged_list, mine_purged, listed_plain, filter_none, all_map, eq-eqb, asked_of)
 
 -- ---- the initiator's next point

@@ -1,6 +1,5 @@
 -- What holds of each element of a list, and of lists that are made of it: beside the machine's lemmas on lists.
-use Rattle.mv_plan.proofs.Words.{ℕ, zero, suc, List, [], ◌∷◌, set, get_or, AllByRecursion}
-use Rattle.std.proofs.Common.{drop}
+use Rattle.mv_plan.proofs.Words.{ℕ, zero, suc, List, [], ◌∷◌, set, get_or, AllByRecursion, drop}
 
 -- what holds of each by another that does
 pub all_map : {X : Type 0} {P Q : X → Type 0} → ((x : X) → P x → Q x) → (xs : List X) → AllByRecursion P xs → AllByRecursion Q xs

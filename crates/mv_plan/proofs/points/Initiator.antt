@@ -1,44 +1,30 @@
 -- An initiator's program goes from point to point. Used by Following.
-use Rattle.mv_plan.proofs.Words.{◌≡◌, ℕ, zero, suc, ◌+◌, ◌-◌, ◌*◌, ◌<◌, ◌≤◌, ◌==◌, nat_lt, Bool, true, false, not, ◌&&◌, if◌then◌else◌}
-use Rattle.mv_plan.proofs.Words.{List, [], ◌∷◌, ◌++◌, length, Option, Some, None, Ok, refl, ap, ◌∙◌, arith, AllByRecursion, list_any}
-use Rattle.mv_plan.proofs.Words.{lt-ltb, Wake, Mode, Latches, Reply, Setup, JobData, Step}
-use Rattle.mv_plan.proofs.Words.{Print, Use, Count, Scan, job_at, Kept, nothing_kept, obtained, token_of, deallocate, Woke}
-use Rattle.mv_plan.proofs.Words.{each_posted, posted_next, post_within, wake_posted, Program, Do, Done, Heard, asks, heard, and_then}
-use Rattle.mv_plan.proofs.Words.{going_on, unrefused, accepted, followed, finished, unless_refused, on_latch, end_for_scheduler}
-use Rattle.mv_plan.proofs.Words.{end_for_writer, initiator, Named, job_named, named_by, run_job, granted_as, rounds, refused_if}
-use Rattle.mv_deck.specs.declared.deck.Step.TheVariants.{Free}
+use Rattle.mv_plan.proofs.Words.{◌≡◌, ℕ, zero, suc, ◌+◌, ◌-◌, ◌<◌, ◌≤◌, ◌==◌, nat_lt, Bool, true, false, not, ◌&&◌, if◌then◌else◌, List, []}
+use Rattle.mv_plan.proofs.Words.{◌∷◌, ◌++◌, length, Option, Some, None, Ok, refl, ap, ◌∙◌, arith, AllByRecursion, list_any, lt-ltb, Wake}
+use Rattle.mv_plan.proofs.Words.{Mode, Latches, Reply, Setup, JobData, Step, Print, Use, Count, Scan, job_at, Kept, nothing_kept, obtained}
+use Rattle.mv_plan.proofs.Words.{token_of, deallocate, Woke, each_posted, posted_next, post_within, wake_posted, Program, Do, Done, Heard}
+use Rattle.mv_plan.proofs.Words.{asks, heard, and_then, going_on, unrefused, accepted, followed, finished, unless_refused, on_latch}
+use Rattle.mv_plan.proofs.Words.{end_for_scheduler, end_for_writer, initiator, Named, job_named, named_by, run_job, granted_as, rounds}
+use Rattle.mv_plan.proofs.Words.{refused_if, done, EcbReply, ElementReply, LatchOp, LatchReply, LatchForm, Op, VolumeReply, common_steps}
+use Rattle.mv_plan.proofs.Words.{rules, Counts}
 use Rattle.mv_calls.specs.LatchCalls.{obtain_refusal}
 use Rattle.mv_calls.specs.Pauses.{gift_of, allocate}
 use Rattle.mv_calls.specs.Posts.{wakes_posted}
 use Rattle.mv_calls.specs.Program.{wrong}
-use Rattle.mv_plan.specs.SpoolSetup.{done}
-use Rattle.mv_plan.specs.SpoolTasks.{job_done}
-use Rattle.mv_ecb.specs.declared.operation.EcbReply.TheVariants as ecb_reply
-use Rattle.mv_element.specs.declared.operation.ElementReply.TheVariants as element_reply
-use Rattle.mv_latch.specs.declared.operation.LatchOp.TheVariants as latch_op
-use Rattle.mv_latch.specs.declared.operation.LatchReply.TheVariants as latch_reply
-use Rattle.mv_latch.specs.declared.request.LatchForm.TheVariants as form_of
-use Rattle.mv_machine.specs.declared.entry.Op.TheVariants as op_on
-use Rattle.mv_machine.specs.declared.entry.Reply.TheVariants as reply_of
-use Rattle.mv_machine.specs.declared.entry.VolumeReply.TheVariants as volume_reply
 use Rattle.mv_machine.specs.Check.{or_else}
-use Rattle.mv_plan.proofs.deck.Plans.{ArePlannedJobs}
 use Rattle.mv_calls.specs.Refusal as refusal
+use Rattle.mv_plan.specs.SpoolTasks.{job_done}
+use Rattle.mv_plan.proofs.deck.{ArePlannedJobs, Facts}
 use Rattle.mv_plan.proofs.points.Points.{At, Astray, Grant, Running, Hand, empty_hand, hand_with, hand_without, InitiatorAt, Opening}
 use Rattle.mv_plan.proofs.points.Points.{Offering, Pausing, Resuming, Obtaining, Confirming, Freeing, Reading, Writing, Scanning}
 use Rattle.mv_plan.proofs.points.Points.{Rescanning, Purging, EndingJob, EndingForScheduler, EndingForWriter, Closing, initiator_asks}
-use Rattle.mv_plan.proofs.points.Points.{initiator_goes, rounds_from, rounds_after, steps_at, running, job_start, named_at}
-use Rattle.mv_plan.proofs.points.Points.{given_at, InJob}
+use Rattle.mv_plan.proofs.points.Points.{initiator_goes, rounds_from, rounds_after, steps_at, running, job_start, named_at, given_at, InJob}
 use Rattle.mv_plan.proofs.points.Programs.{program_at, posting_next, rounds_rest, given_rest, ending, stepping, steps_rest, obtained_rest}
 use Rattle.mv_plan.proofs.points.Programs.{initiator_program}
 use Rattle.mv_plan.proofs.points.PostsAndWaits.{post_is_now, IsPlainPost, posted_goes}
 use Rattle.mv_plan.proofs.points.ReaderAndWriter.{keeps}
 use Rattle.mv_plan.proofs.points.InitiatorSound.{IsRound, IsStepping, InitiatorKept, InitiatorStands, standing_of, rises_few, named_is}
-use Rattle.mv_plan.proofs.points.InitiatorSound.{left_next, job_sound, obtained_stand, pushed_kept, freed_stand, freed_kept}
-use Rattle.mv_plan.proofs.deck.Setup.{Facts}
-use Rattle.std.proofs.lemmas.Grind.{common_steps}
-use Rattle.std.proofs.Common.{rules}
-use Rattle.std.proofs.Common.{rules}
+use Rattle.mv_plan.proofs.points.InitiatorSound.{job_sound, obtained_stand, pushed_kept, freed_stand, freed_kept, step_done}
 
 pub initiator_says : (c : Setup) (deck : List JobData) (i : ℕ) (kept : Kept) (x : InitiatorAt)
     → asks (initiator_program c deck i kept x) ≡ Some (initiator_asks (length deck) i x)
@@ -57,7 +43,7 @@ nothing_posted c (w ∷ ws) kept last p = ap (λ e. wake_posted c e w.code kept 
 
 -- an exit starts from a done block alone, with number j + 1
 abbrev pub WokeAs : ℕ → Reply → Type 0
-WokeAs j (reply_of.Ecb (ecb_reply.Woke (suc x))) = suc x ≡ j + 1
+WokeAs j (Reply.Ecb (EcbReply.Woke (suc x))) = suc x ≡ j + 1
 WokeAs j r = Unit {0}
 
 abbrev pub IsPlainReply : InitiatorAt → Reply → List Wake → Type 0
@@ -90,7 +76,7 @@ module _ (c : Setup) (deck : List JobData) (initiators i : ℕ) (facts : Facts c
 
   -- an exit's posts are one deeper than its source's
   deeper : (run : Running) → run.job < length deck → length c.owners - 1 ≡ suc (length c.owners - 2)
-  deeper run lt = let e : length c.owners ≡ 4 * length deck + initiators = facts.size in omega arith
+  deeper run lt = let e = facts.size in omega arith
 
   close_enters : (g : ℕ) (kept : Kept) → kept.caller ≡ initiator i
       → accepted (deallocate c (token_of (initiator i) g)) (λ closed. finished []) kept ≡ initiator_program c deck i kept (Closing g)
@@ -98,15 +84,14 @@ module _ (c : Setup) (deck : List JobData) (initiators i : ℕ) (facts : Facts c
 
   obtain_is_free : (kept : Kept) (run : Running) (hand : Hand) (latch : ℕ) (mode : Mode) (steps : List Step)
       → IsStepping deck run hand (Use latch mode ∷ steps) → InitiatorKept i (standing_of (initiator i) run.job hand.holding) kept
-      → obtain_refusal c latch (run.job + 1) mode form_of.Waiting kept ≡ None
+      → obtain_refusal c latch (run.job + 1) mode LatchForm.Waiting kept ≡ None
   obtain_is_free kept run hand latch mode steps s k =
-      let le : latch ≤ 7 = s.sound.0 in
-      let few : 0 + length hand.holding ≤ latch = rises_few 0 latch hand.holding s.holds.rises (omega arith) s.sound.1 in
+      let le = s.sound.0 in
+      let few = rises_few 0 latch hand.holding s.holds.rises (omega arith) s.sound.1 in
       let count : length kept.requests ≡ length hand.holding =
       ap (λ ts. length ts) k.stand ∙ length_standing (initiator i) run.job hand.holding in
-      let a : nat_lt latch c.latches ≡ true = lt-ltb latch c.latches (let e : c.latches ≡ 8 = facts.latches in omega arith) in
-      let b : nat_lt (length kept.requests) c.quota ≡ true =
-      lt-ltb (length kept.requests) c.quota (let e : c.quota ≡ 8 = facts.quota in omega arith) in
+      let a = lt-ltb latch c.latches (let e = facts.latches in omega arith) in
+      let b = lt-ltb (length kept.requests) c.quota (let e = facts.quota in omega arith) in
       ap (λ b. or_else (refused_if (not b) refusal.BadLatch)
       (refused_if (not (nat_lt (length kept.requests) c.quota && true)) refusal.Quota)) a
       ∙ ap (λ b. refused_if (not (b && true)) refusal.Quota) b where
@@ -120,16 +105,14 @@ module _ (c : Setup) (deck : List JobData) (initiators i : ℕ) (facts : Facts c
       → stepping c deck i run kept (steps_rest c run hand steps kept) ≡ program_at (initiator_program c deck i kept)
       (steps_at run hand steps)
   steps_enter run hand (Print text ∷ steps) kept s k =
-      steps_enter run hand steps kept
-      (record { round = s.round; holds = s.holds; left = left_next deck run (Print text) steps tt s.left; sound = s.sound }) k
+      steps_enter run hand steps kept (step_done deck run hand (Print text) steps tt s.sound s) k
   steps_enter run hand (Use latch mode ∷ steps) kept s k =
       ap (λ r. stepping c deck i run kept
       (going_on kept (unless_refused r
-      (Do Latches (op_on.Latch (latch_op.Obtain latch (run.job + 1) mode form_of.Waiting))
-      (λ h. on_latch h.entry.reply (obtained latch form_of.Waiting))))
+      (Do Latches (Op.Latch (LatchOp.Obtain latch (run.job + 1) mode LatchForm.Waiting))
+      (λ h. on_latch h.entry.reply (obtained latch LatchForm.Waiting))))
       (unrefused (granted_as (obtained_rest c run hand latch steps))))) (obtain_is_free kept run hand latch mode steps s k)
-  steps_enter run hand (Free latch ∷ steps) kept s k = grind (arith, common_steps)
-  steps_enter run hand steps kept s k = refl
+  steps_enter run hand steps kept s k = grind (arith, common_steps)
 
   start_enters : (named : Named) (skipped : Bool) (before : List ℕ) (more g : ℕ) (kept : Kept) → named.skipped ≡ skipped
       → named.job < length deck → list_any (λ j. j == named.job) before ≡ false
@@ -150,8 +133,6 @@ module _ (c : Setup) (deck : List JobData) (initiators i : ℕ) (facts : Facts c
       → named_by slot before more (λ named. followed (run_job c deck named)
       (λ counts. rounds c deck i more (before ++ named.job ∷ []) (token_of (initiator i) g))) kept
       ≡ program_at (initiator_program c deck i kept) (named_at deck slot before more g)
-  named_enters code more before g None kept e round k = refl
-  named_enters code zero before g (Some named) kept e round k = refl
   named_enters code (suc more) before g (Some named) kept e round k = go (list_any (λ j. j == named.job) before) refl where
     go : (b : Bool) → list_any (λ j. j == named.job) before ≡ b
         → (if b then wrong else followed (run_job c deck named)
@@ -160,6 +141,7 @@ module _ (c : Setup) (deck : List JobData) (initiators i : ℕ) (facts : Facts c
         (if b then Astray else job_start named.skipped (running named before (suc more) g) (job_at deck named.job))
     go true t = refl
     go false t = start_enters named named.skipped before (suc more) g kept refl (named_is (length deck) code named e).0 t round k
+  named_enters code more before g slot kept e round k = grind (arith, common_steps)
 
   given_enters : (more : ℕ) (before : List ℕ) (code g : ℕ) (kept : Kept) → IsRound (length deck) more before → InitiatorKept i [] kept
       → given_rest c deck i more before (gift_of (initiator i) code g) kept ≡ program_at (initiator_program c deck i kept)
@@ -186,81 +168,65 @@ module _ (c : Setup) (deck : List JobData) (initiators i : ℕ) (facts : Facts c
       (initiator_program c deck i (kept_by kept x h.entry.reply))
       (initiator_goes deck x h.entry.reply)
   initiator_hears kept x h s f = goes x h.entry.reply s f where
-    ws : List Wake
-    ws = h.wakes
-
     told : Reply → Heard
     told r = record { entry = record h.entry { reply = r }; wakes = h.wakes }
 
     goes : (x : InitiatorAt) (r : Reply) → InitiatorStands deck i kept (At x) → IsPlainReply x r h.wakes
         → heard (initiator_program c deck i kept x) (told r) ≡ program_at
         (initiator_program c deck i (kept_by kept x r)) (initiator_goes deck x r)
-    goes Opening (reply_of.Element (element_reply.Opened g)) s f =
-        rounds_enter (length deck + 1) [] g (kept_by kept Opening (reply_of.Element (element_reply.Opened g)))
+    goes Opening (Reply.Element (ElementReply.Opened g)) s f = rounds_enter (length deck + 1) [] g _
     goes (Offering more before g) r s f = grind (arith, common_steps)
-    goes (Pausing more before g) (reply_of.Element (element_reply.Given code now)) s f =
-        given_enters more before code now (kept_by kept (Pausing more before g) (reply_of.Element (element_reply.Given code now))) s.0
+    goes (Pausing more before g) (Reply.Element (ElementReply.Given code now)) s f =
+        given_enters more before code now _ s.0 (record { caller = s.1.caller; stand = s.1.stand })
+    goes (Resuming more before g) (Reply.Element (ElementReply.Given code now)) s f =
+        given_enters more before code now _ s.0 (record { caller = s.1.caller; stand = s.1.stand })
+    goes (InJob run (Obtaining hand latch mode steps)) (Reply.Latch (LatchReply.Granted id)) s f =
+        steps_enter run (hand_with hand latch mode id) steps _ (obtained_stand deck run hand latch mode id steps s.0)
+        (pushed_kept i kept run hand latch mode id s.1 refl refl)
+    goes (InJob run (Confirming hand latch mode id steps)) (Reply.Latch (LatchReply.Granted same)) s f =
+        steps_enter run (hand_with hand latch mode id) steps _ (obtained_stand deck run hand latch mode id steps s.0)
         (record { caller = s.1.caller; stand = s.1.stand })
-    goes (Resuming more before g) (reply_of.Element (element_reply.Given code now)) s f =
-        given_enters more before code now (kept_by kept (Resuming more before g) (reply_of.Element (element_reply.Given code now))) s.0
+    goes (InJob run (Freeing hand latch id steps)) (Reply.Latch (LatchReply.Released granted)) s f =
+        ap (λ p. stepping c deck i run now (going_on now p (unrefused (λ granted. steps_rest c run hand steps))))
+        (nothing_posted c h.wakes kept (Done (Ok granted)) f) ∙ steps_enter run (hand_without hand latch) steps now
+        (freed_stand deck run hand latch steps s.0.0) (freed_kept i kept run hand latch id s.0.0.holds s.0.1 s.1 refl refl) where
+          now : Kept
+          now = kept_by kept (InJob run (Freeing hand latch id steps)) (Reply.Latch (LatchReply.Released granted))
+    goes (InJob run (Reading hand volume amount steps)) (Reply.Volume (VolumeReply.Value number)) s f = grind (arith, common_steps)
+    goes (InJob run (Writing hand volume amount number steps)) (Reply.Volume VolumeReply.Stored) s f =
+        steps_enter run hand steps _ (step_done deck run hand (Count volume amount) steps tt s.0.sound.4 s.0)
         (record { caller = s.1.caller; stand = s.1.stand })
-    goes (InJob run (Obtaining hand latch mode steps)) (reply_of.Latch (latch_reply.Granted id)) s f =
-        steps_enter run (hand_with hand latch mode id) steps (kept_by kept (InJob run (Obtaining hand latch mode steps))
-        (reply_of.Latch (latch_reply.Granted id)))
-        (obtained_stand deck run hand latch mode id steps s.0) (pushed_kept i kept run hand latch mode id s.1 refl refl)
-    goes (InJob run (Confirming hand latch mode id steps)) (reply_of.Latch (latch_reply.Granted same)) s f =
-        steps_enter run (hand_with hand latch mode id) steps (kept_by kept (InJob run (Confirming hand latch mode id steps))
-        (reply_of.Latch (latch_reply.Granted same)))
-        (obtained_stand deck run hand latch mode id steps s.0) (record { caller = s.1.caller; stand = s.1.stand })
-    goes (InJob run (Freeing hand latch id steps)) (reply_of.Latch (latch_reply.Released granted)) s f =
-        ap (λ p. stepping c deck i run (kept_by kept (InJob run (Freeing hand latch id steps))
-        (reply_of.Latch (latch_reply.Released granted))) (going_on (kept_by kept (InJob run (Freeing hand latch id steps))
-        (reply_of.Latch (latch_reply.Released granted))) p (unrefused (λ granted. steps_rest c run hand steps))))
-        (nothing_posted c h.wakes kept (Done (Ok granted)) f) ∙ steps_enter run (hand_without hand latch) steps
-        (kept_by kept (InJob run (Freeing hand latch id steps)) (reply_of.Latch (latch_reply.Released granted)))
-        (freed_stand deck run hand latch steps s.0.0) (freed_kept i kept run hand latch id s.0.0.holds s.0.1 s.1 refl refl)
-    goes (InJob run (Reading hand volume amount steps)) (reply_of.Volume (volume_reply.Value number)) s f = grind (arith, common_steps)
-    goes (InJob run (Writing hand volume amount number steps)) (reply_of.Volume volume_reply.Stored) s f =
-        steps_enter run hand steps (kept_by kept (InJob run (Writing hand volume amount number steps))
-        (reply_of.Volume volume_reply.Stored)) (record {
-          round = s.0.round;
-          holds = s.0.holds;
-          left = left_next deck run (Count volume amount) steps tt s.0.left;
-          sound = s.0.sound.4;
-        }) (record { caller = s.1.caller; stand = s.1.stand })
-    goes (InJob run (Scanning hand volume steps)) (reply_of.Volume (volume_reply.Value number)) s f = refl
-    goes (InJob run (Rescanning hand volume number steps)) (reply_of.Volume (volume_reply.Value again)) s f =
-        steps_enter run hand steps (kept_by kept (InJob run (Rescanning hand volume number steps))
-        (reply_of.Volume (volume_reply.Value again)))
-        (record { round = s.0.round; holds = s.0.holds; left = left_next deck run (Scan volume) steps tt s.0.left; sound = s.0.sound.2 })
+    goes (InJob run (Scanning hand volume steps)) (Reply.Volume (VolumeReply.Value number)) s f = refl
+    goes (InJob run (Rescanning hand volume number steps)) (Reply.Volume (VolumeReply.Value again)) s f =
+        steps_enter run hand steps _ (step_done deck run hand (Scan volume) steps tt s.0.sound.2 s.0)
         (record { caller = s.1.caller; stand = s.1.stand })
-    goes (InJob run (Purging hand code)) (reply_of.Latch (latch_reply.Purged removed granted)) s f =
-        ap (λ p. ending c deck i run (kept_by kept (InJob run (Purging hand code)) (reply_of.Latch (latch_reply.Purged removed granted)))
-        (and_then p (λ counts. wake_posted c (Some (done (length deck) run.job)) code kept (Done counts))))
-        (nothing_posted c h.wakes kept (Done (record { removed = removed; granted = granted })) f)
-        ∙ ap (λ p. ending c deck i run (kept_by kept (InJob run (Purging hand code)) (reply_of.Latch (latch_reply.Purged removed granted)))
-        (and_then p (λ p. Done (record { removed = removed; granted = granted }))))
-        (post_is_now c (done (length deck) run.job) code kept some_blocks)
-    goes (InJob run (EndingJob code counts)) (reply_of.Ecb (ecb_reply.Woke (suc x))) s f =
-        ap (λ m. ending c deck i run (kept_by kept (InJob run (EndingJob code counts)) (reply_of.Ecb (ecb_reply.Woke (suc x))))
-        (and_then (each_posted (post_within (length c.owners - 1) c code) (posted_next c (Woke m)) (Woke m)) (λ p. Done counts))) f
-        ∙ ap (λ es. ending c deck i run (kept_by kept (InJob run (EndingJob code counts)) (reply_of.Ecb (ecb_reply.Woke (suc x))))
-        (and_then (each_posted (post_within (length c.owners - 1) c code) es (Woke (run.job + 1))) (λ p. Done counts)))
-        (facts.targets run.job s.0.round.job) ∙ ap (λ d. ending c deck i run (kept_by kept (InJob run (EndingJob code counts))
-        (reply_of.Ecb (ecb_reply.Woke (suc x)))) (and_then (each_posted (post_within d c code)
-        (end_for_scheduler (length deck) run.job ∷ end_for_writer (length deck) run.job ∷ []) (Woke (run.job + 1)))
-        (λ p. Done counts))) (deeper run s.0.round.job)
-    goes (InJob run (EndingJob code counts)) (reply_of.Ecb (ecb_reply.Woke zero)) s f =
-        rounds_after_enter run (kept_by kept (InJob run (EndingJob code counts)) (reply_of.Ecb (ecb_reply.Woke zero)))
-    goes (InJob run (EndingJob code counts)) (reply_of.Ecb ecb_reply.Posted) s f =
-        rounds_after_enter run (kept_by kept (InJob run (EndingJob code counts)) (reply_of.Ecb ecb_reply.Posted))
-    goes (InJob run (EndingJob code counts)) (reply_of.Ecb (ecb_reply.Already old)) s f =
-        rounds_after_enter run (kept_by kept (InJob run (EndingJob code counts)) (reply_of.Ecb (ecb_reply.Already old)))
+    goes (InJob run (Purging hand code)) (Reply.Latch (LatchReply.Purged removed granted)) s f =
+        ap (λ p. ending c deck i run now (and_then p (λ counts. wake_posted c (Some (done (length deck) run.job)) code kept (Done counts))))
+        (nothing_posted c h.wakes kept (Done counts) f)
+        ∙ ap (λ p. ending c deck i run now (and_then p (λ p. Done counts)))
+        (post_is_now c (done (length deck) run.job) code kept some_blocks) where
+          now : Kept
+          now = kept_by kept (InJob run (Purging hand code)) (Reply.Latch (LatchReply.Purged removed granted))
+
+          counts : Counts
+          counts = record { removed = removed; granted = granted }
+    goes (InJob run (EndingJob code counts)) (Reply.Ecb (EcbReply.Woke (suc x))) s f =
+        ap (λ m. after (length c.owners - 1) (posted_next c (Woke m)) m) f
+        ∙ ap (λ es. after (length c.owners - 1) es (run.job + 1)) (facts.targets run.job s.0.round.job)
+        ∙ ap (λ d. after d (end_for_scheduler (length deck) run.job ∷ end_for_writer (length deck) run.job ∷ []) (run.job + 1))
+        (deeper run s.0.round.job) where
+          after : ℕ → List ℕ → ℕ → Program (List ℕ)
+          after depth es m = ending c deck i run (kept_by kept (InJob run (EndingJob code counts)) (Reply.Ecb (EcbReply.Woke (suc x))))
+              (and_then (each_posted (post_within depth c code) es (Woke m)) (λ p. Done counts))
+    goes (InJob run (EndingJob code counts)) (Reply.Ecb (EcbReply.Woke zero)) s f = rounds_after_enter run _
+    goes (InJob run (EndingJob code counts)) (Reply.Ecb EcbReply.Posted) s f = rounds_after_enter run _
+    goes (InJob run (EndingJob code counts)) (Reply.Ecb (EcbReply.Already old)) s f = rounds_after_enter run _
     goes (InJob run (EndingForScheduler code counts)) r s f = grind (arith, common_steps)
     goes (InJob run (EndingForWriter code counts)) r s f =
-        posted_goes c _ (λ p. ending c deck i run (kept_by kept (InJob run (EndingForWriter code counts)) r)
+        posted_goes c _ (λ p. ending c deck i run now
         (and_then (and_then p (λ p. each_posted (posting_next c code) [] (Woke (run.job + 1)))) (λ p. Done counts)))
-        (initiator_program c deck i (kept_by kept (InJob run (EndingForWriter code counts)) r)) (rounds_after run) r
-        (λ p. rounds_after_enter run (kept_by kept (InJob run (EndingForWriter code counts)) r)) refl f
-    goes (Closing g) (reply_of.Element element_reply.Closed) s f = refl
+        (initiator_program c deck i now) (rounds_after run) r (λ p. rounds_after_enter run now) refl f where
+          now : Kept
+          now = kept_by kept (InJob run (EndingForWriter code counts)) r
+    goes (Closing g) (Reply.Element ElementReply.Closed) s f = refl
     goes x r s f = refl

@@ -1,28 +1,19 @@
 -- Where an initiator may stand: its rounds, the steps that are left of its job, the latches in its hand, the code that it ends
 -- with; and what it keeps there. Kept by each of its steps, whatever the reply.
-use Rattle.mv_plan.proofs.Words.{◌≡◌, ℕ, zero, suc, ◌+◌, ◌<◌, ◌≤◌, ◌==◌, Bool, true, false, not, if◌then◌else◌, List, []}
-use Rattle.mv_plan.proofs.Words.{◌∷◌, ◌++◌, length, map, filter, Option, Some, refl, sym, ap, ◌∙◌, subst, append_assoc, arith}
-use Rattle.mv_plan.proofs.Words.{AllByRecursion, list_any, eqb-true, false≢true, length-append, Mode}
-use Rattle.mv_plan.proofs.Words.{Reply, with_at, JobData, Step, Print, Use, Count, Scan, Abend, Return, job_at, not_run, own_end}
-use Rattle.mv_plan.proofs.Words.{AreDistinct, Kept, nothing_kept, initiator, Named, job_named, code_of, all_push}
-use Rattle.mv_deck.specs.declared.deck.Step.TheVariants.{Free}
-use Rattle.mv_element.specs.declared.operation.ElementReply.TheVariants as element_reply
-use Rattle.mv_latch.specs.declared.operation.LatchReply.TheVariants as latch_reply
-use Rattle.mv_latch.specs.declared.request.LatchForm.TheVariants as form_of
-use Rattle.mv_machine.specs.declared.entry.Reply.TheVariants as reply_of
-use Rattle.mv_machine.specs.declared.entry.VolumeReply.TheVariants as volume_reply
+use Rattle.mv_plan.proofs.Words.{◌≡◌, ℕ, suc, ◌+◌, ◌<◌, ◌≤◌, ◌==◌, Bool, true, false, not, if◌then◌else◌, List, [], ◌∷◌, ◌++◌, length, map}
+use Rattle.mv_plan.proofs.Words.{filter, Option, Some, refl, sym, ap, ◌∙◌, subst, append_assoc, arith, AllByRecursion, list_any, eqb-true}
+use Rattle.mv_plan.proofs.Words.{false≢true, length-append, Mode, Reply, with_at, JobData, Step, Print, Use, Count, Scan, Abend, Return}
+use Rattle.mv_plan.proofs.Words.{job_at, not_run, own_end, AreDistinct, Kept, nothing_kept, initiator, Named, job_named, code_of, all_push}
+use Rattle.mv_plan.proofs.Words.{Free, ElementReply, LatchReply, LatchForm, common_steps, rules, VolumeReply}
 use Rattle.mv_machine.specs.Kept.{StandingRequest, is_named, is_for, less}
-use Rattle.mv_plan.proofs.deck.Plans.{Held, is_held, ArePlannedSteps, ArePlannedJobs}
-use Rattle.mv_plan.proofs.points.Points.{Point, At, Grant, Running, Hand, empty_hand, hand_with, without_latch, hand_without, hand_at}
-use Rattle.mv_plan.proofs.points.Points.{InitiatorAt, Opening, Offering, Pausing, Resuming, Obtaining, Confirming, Freeing, Reading}
-use Rattle.mv_plan.proofs.points.Points.{Writing, Scanning, Rescanning, Purging, EndingJob, EndingForScheduler, EndingForWriter}
-use Rattle.mv_plan.proofs.points.Points.{initiator_asks, initiator_goes, rounds_after, steps_at, running, job_start, given_at, InJob}
+use Rattle.mv_plan.proofs.deck.{Held, is_held, ArePlannedSteps, ArePlannedJobs, sound_job}
+use Rattle.mv_plan.proofs.points.Points.{Point, At, Grant, Running, Hand, hand_with, without_latch, hand_without, hand_at, InitiatorAt}
+use Rattle.mv_plan.proofs.points.Points.{Opening, Offering, Pausing, Resuming, Obtaining, Confirming, Freeing, Reading, Writing, Scanning}
+use Rattle.mv_plan.proofs.points.Points.{Rescanning, Purging, EndingJob, EndingForScheduler, EndingForWriter, initiator_asks}
+use Rattle.mv_plan.proofs.points.Points.{initiator_goes, rounds_after, steps_at, running, job_start, given_at, InJob}
 use Rattle.mv_plan.proofs.points.PostsAndWaits.{on_posted_keeps}
 use Rattle.mv_plan.proofs.points.ReaderAndWriter.{keeps}
 use Rattle.mv_plan.proofs.points.Lands.{rounds_land, given_lands, ended_lands}
-use Rattle.std.proofs.lemmas.Grind.{common_steps}
-use Rattle.std.proofs.Common.{rules}
-use Rattle.std.proofs.Common.{rules}
 
 -- ---- rounds
 
@@ -102,13 +93,12 @@ IsInitiatorAt deck p = Unit {0}
 -- ---- what it keeps
 
 -- the requests of the running job that stand
+abbrev pub standing_one : ℕ → ℕ → Grant → StandingRequest
+standing_one k job g =
+    record { latch = g.latch; request = record { id = g.id; caller = k; requestor = job + 1; mode = g.mode; form = LatchForm.Waiting } }
+
 abbrev pub standing_of : ℕ → ℕ → List Grant → List StandingRequest
-standing_of k job gs = map (λ g.
-    record {
-      latch = g.latch;
-      request =
-          record { id = g.id; caller = k; requestor = job + 1; mode = g.mode; form = form_of.Waiting };
-    }) gs
+standing_of k job gs = map (standing_one k job) gs
 
 pub record InitiatorKept (i : ℕ) (requests : List StandingRequest) (kept : Kept) : Type 0 where
   pub caller : kept.caller ≡ initiator i
@@ -148,11 +138,13 @@ left_next deck run step steps s l =
       runs = l.runs;
     }
 
+pub step_done : (deck : List JobData) (run : Running) (hand : Hand) (step : Step) (steps : List Step) → IsNoEnd step
+    → ArePlannedSteps (held_of hand.holding) steps → IsStepping deck run hand (step ∷ steps) → IsStepping deck run hand steps
+step_done deck run hand step steps goes sound s = grind (arith, common_steps, left_next)
+
 -- the code of the job's end, at the step that ends it
 pub left_end : (deck : List JobData) (run : Running) (steps : List Step) → AreLeft deck run steps → IsEnd deck run (own_end steps)
-left_end deck run steps l = sym
-    (ap (λ b. if b then not_run else own_end (job_at deck run.job).steps) l.runs ∙ ap (λ ss. own_end ss) (sym l.whole)
-    ∙ own_end_left l.past steps l.going)
+left_end deck run steps l = grind (arith, common_steps, own_end_left)
 
 -- ---- hands
 
@@ -164,13 +156,13 @@ rises_push : (low latch : ℕ) (mode : Mode) (id : ℕ) (gs : List Grant) → Ri
     → AllByRecursion (λ h. h.latch < latch) (held_of gs) → Rises low (gs ++ record { latch = latch; mode = mode; id = id } ∷ [])
 rises_push low latch mode id [] r le b = (le, tt)
 rises_push low latch mode id (g ∷ gs) r le b =
-    (r.0, rises_push (g.latch + 1) latch mode id gs r.1 (let lt : g.latch < latch = b.0 in omega arith) b.1)
+    (r.0, rises_push (g.latch + 1) latch mode id gs r.1 (let lt = b.0 in omega arith) b.1)
 
 rises_without : (low latch : ℕ) (gs : List Grant) → Rises low gs → Rises low (without_latch latch gs)
 rises_without low latch [] r = tt
 rises_without low latch (g ∷ gs) r =
     elim (g.latch == latch) as (λ b. Rises low (if not b then g ∷ without_latch latch gs else without_latch latch gs)) [
-      | true ↦ rises_less low (g.latch + 1) (without_latch latch gs) (let le : low ≤ g.latch = r.0 in omega arith)
+      | true ↦ rises_less low (g.latch + 1) (without_latch latch gs) (let le = r.0 in omega arith)
           (rises_without (g.latch + 1) latch gs r.1)
       | false ↦ (r.0, rises_without (g.latch + 1) latch gs r.1)
     ]
@@ -180,8 +172,8 @@ pub rises_few : (low latch : ℕ) (gs : List Grant) → Rises low gs → low ≤
     → low + length gs ≤ latch
 rises_few low latch [] r le b = omega arith
 rises_few low latch (g ∷ gs) r le b =
-    let lt : g.latch < latch = b.0 in let at : low ≤ g.latch = r.0 in
-    let few : (g.latch + 1) + length gs ≤ latch = rises_few (g.latch + 1) latch gs r.1 (omega arith) b.1 in omega arith
+    let lt = b.0 in let at = r.0 in
+    let few = rises_few (g.latch + 1) latch gs r.1 (omega arith) b.1 in omega arith
 
 last_push : (requests : ℕ → Option ℕ) (latch : ℕ) (mode : Mode) (id : ℕ) (gs : List Grant)
     → AllByRecursion (λ g. requests g.latch ≡ Some g.id) gs → AllByRecursion (λ h. h.latch < latch) (held_of gs)
@@ -197,17 +189,10 @@ last_without requests latch (g ∷ gs) l = grind (arith, common_steps, last_with
 
 pub hand_push : (hand : Hand) (latch : ℕ) (mode : Mode) (id : ℕ) → IsHand hand
     → AllByRecursion (λ h. h.latch < latch) (held_of hand.holding) → IsHand (hand_with hand latch mode id)
-hand_push hand latch mode id h b =
-    record {
-      rises = rises_push 0 latch mode id hand.holding h.rises (omega arith) b;
-      last = last_push hand.requests latch mode id hand.holding h.last b;
-    }
+hand_push hand latch mode id h b = grind (arith, common_steps, rises_push, last_push)
 
 pub hand_less : (hand : Hand) (latch : ℕ) → IsHand hand → IsHand (hand_without hand latch)
-hand_less hand latch h = record {
-  rises = rises_without 0 latch hand.holding h.rises;
-  last = last_without hand.requests latch hand.holding h.last;
-}
+hand_less hand latch h = grind (arith, common_steps, rises_without, last_without)
 
 pub held_push : (gs : List Grant) (latch : ℕ) (mode : Mode) (id : ℕ)
     → held_of (gs ++ record { latch = latch; mode = mode; id = id } ∷ []) ≡ held_of gs ++ record { latch = latch; mode = mode } ∷ []
@@ -241,26 +226,14 @@ held_request requests latch (g ∷ gs) l h = go (g.latch == latch) refl (λ t. h
 -- ---- each point's next stands
 
 pub job_sound : (j k : ℕ) (jobs : List JobData) → ArePlannedJobs k jobs → j < length jobs → ArePlannedSteps [] (job_at jobs j).steps
-job_sound j k [] s lt = absurd (omega arith)
-job_sound zero k (job ∷ jobs) s lt = s.0.steps
-job_sound (suc j) k (job ∷ jobs) s lt = job_sound j (k + 1) jobs s.1 (omega arith)
-
-before_below : (n : ℕ) (before : List ℕ) (job : ℕ) → AllByRecursion (λ j. j < n) before → job < n
-    → AllByRecursion (λ j. j < n) (before ++ job ∷ [])
-before_below n [] job b lt = (lt, tt)
-before_below n (k ∷ before) job b lt = (b.0, before_below n before job b.1 lt)
+job_sound j k jobs s lt = (sound_job k jobs j s lt).steps
 
 distinct_push : (ks : List ℕ) (job : ℕ) → AreDistinct ks → list_any (λ j. j == job) ks ≡ false → AreDistinct (ks ++ job ∷ [])
 distinct_push [] job d n = grind (arith, common_steps)
 distinct_push (k ∷ ks) job d n = grind (arith, common_steps, distinct_push ks)
 
 pub round_next : (n more : ℕ) (run : Running) → run.more ≡ suc more → IsRunning n run → IsRound n more (run.before ++ run.job ∷ [])
-round_next n more run e r = record {
-  count = let l : length (run.before ++ run.job ∷ []) ≡ length run.before + 1 = length-append run.before (run.job ∷ []) in
-      let t : length run.before + run.more ≡ n = r.round.count in omega arith;
-  below = before_below n run.before run.job r.round.below r.job;
-  distinct = distinct_push run.before run.job r.round.distinct r.new;
-}
+round_next n more run e r = grind (arith, common_steps, length-append, all_push, distinct_push)
 
 module _ (deck : List JobData) (i : ℕ) (sound : ArePlannedJobs 0 deck) (kept : Kept) where
   rounds_stand : (run : Running) → IsRunning (length deck) run → InitiatorKept i [] kept → InitiatorStands deck i kept (rounds_after run)
@@ -272,12 +245,7 @@ module _ (deck : List JobData) (i : ℕ) (sound : ArePlannedJobs 0 deck) (kept :
       → InitiatorStands deck i kept (steps_at run hand steps)
   steps_stand run hand [] s k = (record { round = s.round; end = left_end deck run [] s.left }, k)
   steps_stand run hand (Print text ∷ steps) s k =
-      steps_stand run hand steps (record {
-        round = s.round;
-        holds = s.holds;
-        left = left_next deck run (Print text) steps tt s.left;
-        sound = s.sound;
-      }) k
+      steps_stand run hand steps (step_done deck run hand (Print text) steps tt s.sound s) k
   steps_stand run hand (Free latch ∷ steps) s k = grind (arith, common_steps)
   steps_stand run hand (Abend code ∷ steps) s k = (record { round = s.round; end = left_end deck run (Abend code ∷ steps) s.left }, k)
   steps_stand run hand (Return code ∷ steps) s k = (record { round = s.round; end = left_end deck run (Return code ∷ steps) s.left }, k)
@@ -287,13 +255,7 @@ module _ (deck : List JobData) (i : ℕ) (sound : ArePlannedJobs 0 deck) (kept :
       → list_any (λ j. j == named.job) before ≡ false → IsRound (length deck) more before
       → InitiatorKept i [] kept → InitiatorStands deck i kept (job_start skipped (running named before more g) (job_at deck named.job))
   start_stands named true before more g e lt new round k = grind (arith, common_steps)
-  start_stands named false before more g e lt new round k =
-      steps_stand (running named before more g) empty_hand (job_at deck named.job).steps (record {
-        round = record { round = round; job = lt; new = new };
-        holds = record { rises = tt; last = tt };
-        left = record { past = []; whole = refl; going = tt; runs = e };
-        sound = job_sound named.job 0 deck sound lt;
-      }) k
+  start_stands named false before more g e lt new round k = grind (arith, common_steps, steps_stand, job_sound)
 
   given_stands : (more : ℕ) (before : List ℕ) (code g : ℕ) → IsRound (length deck) more before → InitiatorKept i [] kept
       → InitiatorStands deck i kept (given_at deck more before code g)
@@ -314,12 +276,7 @@ obtained_stand deck run hand latch mode id steps s = record {
 
 pub pushed_kept : (i : ℕ) (kept : Kept) (run : Running) (hand : Hand) (latch : ℕ) (mode : Mode) (id : ℕ)
     → InitiatorKept i (standing_of (initiator i) run.job hand.holding) kept → {o : Kept} → o.caller ≡ kept.caller
-    → o.requests ≡ kept.requests ++
-    record {
-      latch = latch;
-      request =
-          record { id = id; caller = kept.caller; requestor = run.job + 1; mode = mode; form = form_of.Waiting };
-    } ∷ []
+    → o.requests ≡ kept.requests ++ standing_one kept.caller run.job (record { latch = latch; mode = mode; id = id }) ∷ []
     → InitiatorKept i (standing_of (initiator i) run.job (hand_with hand latch mode id).holding) o
 pushed_kept i kept run hand latch mode id k same more = grind (arith, common_steps)
 
@@ -345,42 +302,26 @@ freed_kept i kept run hand latch id h e k same fewer = record {
 pub initiator_stands : (deck : List JobData) (i : ℕ) (kept : Kept) (x : InitiatorAt) (r : Reply) → ArePlannedJobs 0 deck
     → InitiatorStands deck i kept (At x)
     → InitiatorStands deck i (keeps kept (initiator_asks (length deck) i x) r) (initiator_goes deck x r)
-initiator_stands deck i kept (Pausing more before g) (reply_of.Element (element_reply.Given code now)) sound s =
+initiator_stands deck i kept (Pausing more before g) (Reply.Element (ElementReply.Given code now)) sound s =
     given_stands deck i sound _ more before code now s.0 (record { caller = s.1.caller; stand = s.1.stand })
-initiator_stands deck i kept (Resuming more before g) (reply_of.Element (element_reply.Given code now)) sound s =
+initiator_stands deck i kept (Resuming more before g) (Reply.Element (ElementReply.Given code now)) sound s =
     given_stands deck i sound _ more before code now s.0 (record { caller = s.1.caller; stand = s.1.stand })
-initiator_stands deck i kept (InJob run (Obtaining hand latch mode steps)) (reply_of.Latch (latch_reply.Granted id)) sound s =
+initiator_stands deck i kept (InJob run (Obtaining hand latch mode steps)) (Reply.Latch (LatchReply.Granted id)) sound s =
     search (rules, steps_stand, obtained_stand, pushed_kept)
-initiator_stands deck i kept (InJob run (Obtaining hand latch mode steps)) (reply_of.Latch (latch_reply.Queued id)) sound s =
-    (s.0, pushed_kept i kept run hand latch mode id s.1 refl refl)
-initiator_stands deck i kept (InJob run (Confirming hand latch mode id steps)) (reply_of.Latch (latch_reply.Granted same)) sound s =
+initiator_stands deck i kept (InJob run (Confirming hand latch mode id steps)) (Reply.Latch (LatchReply.Granted same)) sound s =
     steps_stand deck i sound _ run (hand_with hand latch mode id) steps (obtained_stand deck run hand latch mode id steps s.0)
     (record { caller = s.1.caller; stand = s.1.stand })
-initiator_stands deck i kept (InJob run (Freeing hand latch id steps)) (reply_of.Latch (latch_reply.Released granted)) sound s =
+initiator_stands deck i kept (InJob run (Freeing hand latch id steps)) (Reply.Latch (LatchReply.Released granted)) sound s =
     steps_stand deck i sound _ run (hand_without hand latch) steps (freed_stand deck run hand latch steps s.0.0)
     (freed_kept i kept run hand latch id s.0.0.holds s.0.1 s.1 refl refl)
-initiator_stands deck i kept (InJob run (Writing hand volume amount number steps)) (reply_of.Volume volume_reply.Stored) sound s =
-    steps_stand deck i sound _ run hand steps
-    (record {
-      round = s.0.round;
-      holds = s.0.holds;
-      left = left_next deck run (Count volume amount) steps tt s.0.left;
-      sound = s.0.sound.4;
-    }) (record { caller = s.1.caller; stand = s.1.stand })
-initiator_stands deck i kept (InJob run (Scanning hand volume steps)) (reply_of.Volume (volume_reply.Value number)) sound s =
-    (s.0, record { caller = s.1.caller; stand = s.1.stand })
-initiator_stands deck i kept (InJob run (Rescanning hand volume number steps)) (reply_of.Volume (volume_reply.Value again)) sound s =
-    steps_stand deck i sound _ run hand steps
-    (record { round = s.0.round; holds = s.0.holds; left = left_next deck run (Scan volume) steps tt s.0.left; sound = s.0.sound.2 })
+initiator_stands deck i kept (InJob run (Obtaining hand latch mode steps)) (Reply.Latch (LatchReply.Queued id)) sound s =
+    grind (arith, common_steps, pushed_kept)
+initiator_stands deck i kept (InJob run (Writing hand volume amount number steps)) (Reply.Volume VolumeReply.Stored) sound s =
+    steps_stand deck i sound _ run hand steps (step_done deck run hand (Count volume amount) steps tt s.0.sound.4 s.0)
     (record { caller = s.1.caller; stand = s.1.stand })
-initiator_stands deck i kept (InJob run (Purging hand code)) (reply_of.Latch (latch_reply.Purged removed granted)) sound s = (
-  s.0,
-  record {
-    caller = s.1.caller;
-    stand = ap (λ ts. less (is_for (run.job + 1)) ts) s.1.stand
-        ∙ standing_purged (initiator i) run.job hand.holding;
-  },
-)
+initiator_stands deck i kept (InJob run (Rescanning hand volume number steps)) (Reply.Volume (VolumeReply.Value again)) sound s =
+    steps_stand deck i sound _ run hand steps (step_done deck run hand (Scan volume) steps tt s.0.sound.2 s.0)
+    (record { caller = s.1.caller; stand = s.1.stand })
 initiator_stands deck i kept (InJob run (EndingJob code counts)) r sound s =
     ended_lands (InitiatorStands deck i (keeps kept (initiator_asks (length deck) i (InJob run (EndingJob code counts))) r)) (tt, tt)
     run code counts r (s.0, record { caller = s.1.caller; stand = s.1.stand })
@@ -388,4 +329,4 @@ initiator_stands deck i kept (InJob run (EndingJob code counts)) r sound s =
 initiator_stands deck i kept (InJob run (EndingForWriter code counts)) r sound s =
     on_posted_keeps (InitiatorStands deck i (keeps kept (initiator_asks (length deck) i (InJob run (EndingForWriter code counts))) r))
     (rounds_after run) r (rounds_stand deck i sound _ run s.0.round (record { caller = s.1.caller; stand = s.1.stand })) (tt, tt)
-initiator_stands deck i kept x r sound s = grind (arith, common_steps)
+initiator_stands deck i kept x r sound s = grind (arith, common_steps, standing_purged)

@@ -1,10 +1,9 @@
 -- Where an initiator may land: what holds where it is astray, and at each point that may follow, holds of the one that does.
-use Rattle.mv_plan.proofs.Words.{◌≡◌, ℕ, zero, suc, ◌+◌, ◌^◌, ◌==◌, nat_lt, Bool, true, false, if◌then◌else◌, List, length, Option, Some}
-use Rattle.mv_plan.proofs.Words.{None, refl, eqb-true, Reply, Counts, list_any, JobData, Step, job_at, Named, job_named}
+use Rattle.mv_plan.proofs.Words.{◌≡◌, ℕ, zero, suc, ◌==◌, Bool, true, false, if◌then◌else◌, List, length, Option, Some, None, refl}
+use Rattle.mv_plan.proofs.Words.{eqb-true, Reply, Counts, list_any, JobData, Step, job_at, Named, job_named, rules, arith, common_steps}
 use Rattle.mv_plan.proofs.points.Points.{Point, At, Astray, Running, Hand, InitiatorAt, InJob, Offering, Freeing, Writing, Closing}
 use Rattle.mv_plan.proofs.points.Points.{EndingForScheduler, on_ended, rounds_after, rounds_from, freeing_at, counting_at, running}
 use Rattle.mv_plan.proofs.points.Points.{job_start, named_at, given_at}
-use Rattle.std.proofs.Common.{rules}
 
 module _ (P : Point InitiatorAt → Type 0) (lost : P Astray) where
   -- a next round
@@ -22,8 +21,7 @@ module _ (P : Point InitiatorAt → Type 0) (lost : P Astray) where
   -- a COUNT's write
   pub counting_lands : (run : Running) (hand : Hand) (volume amount : ℕ) (steps : List Step) (number : ℕ)
       → P (At (InJob run (Writing hand volume amount number steps))) → P (counting_at run hand volume amount steps number)
-  counting_lands run hand volume amount steps number next = elim (nat_lt (number + amount) (2 ^ 32)) as
-      (λ b. P (if b then At (InJob run (Writing hand volume amount number steps)) else Astray)) [ true ↦ next | false ↦ lost ]
+  counting_lands run hand volume amount steps number next = grind (arith, common_steps)
 
   -- behind the post of a done block, which starts its exit or not
   pub ended_lands : (run : Running) (code : ℕ) (counts : Counts) (r : Reply) → P (At (InJob run (EndingForScheduler code counts)))
@@ -40,13 +38,7 @@ module _ (P : Point InitiatorAt → Type 0) (lost : P Astray) where
         → ((named : Named) (left : ℕ) → slot ≡ Some named → list_any (λ j. j == named.job) before ≡ false
         → more ≡ suc left → P (job_start named.skipped (running named before (suc left) g) (job_at deck named.job)))
         → P (named_at deck slot before more g)
-    named_lands None more starts = lost
-    named_lands (Some named) zero starts = lost
-    named_lands (Some named) (suc left) starts = go (list_any (λ j. j == named.job) before) refl where
-      go : (b : Bool) → list_any (λ j. j == named.job) before ≡ b
-          → P (if b then Astray else job_start named.skipped (running named before (suc left) g) (job_at deck named.job))
-      go true e = lost
-      go false e = starts named left refl e refl
+    named_lands slot more starts = grind (arith, common_steps)
 
     given : (b : Bool) → (code == 0) ≡ b
         → P (if b then At (Closing g) else named_at deck (job_named (length deck) code) before more g)

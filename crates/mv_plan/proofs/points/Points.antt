@@ -4,20 +4,8 @@ use Rattle.mv_plan.proofs.Words.{ℕ, zero, suc, ◌+◌, ◌==◌, nat_le, nat_
 use Rattle.mv_plan.proofs.Words.{Option, Some, None, if◌then◌else◌, ◌^◌, list_any, range_with_len, Mode, Object, Ecb, Element, Volume}
 use Rattle.mv_plan.proofs.Words.{Latches, Op, Reply, with_at, JobData, Step, Print, Use, Count, Scan, Abend, Return, job_at, not_run}
 use Rattle.mv_plan.proofs.Words.{Counts, entered, end_for_scheduler, end_for_writer, idle, initiator, Named, job_named, code_of}
-use Rattle.mv_plan.proofs.Words.{some_end_above, ends_of, complete_count}
-use Rattle.mv_deck.specs.declared.deck.Step.TheVariants.{Free}
-use Rattle.mv_plan.specs.SpoolSetup.{done}
-use Rattle.mv_ecb.specs.declared.operation.EcbOp.TheVariants as ecb_op
-use Rattle.mv_ecb.specs.declared.operation.EcbReply.TheVariants as ecb_reply
-use Rattle.mv_element.specs.declared.operation.ElementOp.TheVariants as element_op
-use Rattle.mv_element.specs.declared.operation.ElementReply.TheVariants as element_reply
-use Rattle.mv_latch.specs.declared.operation.LatchOp.TheVariants as latch_op
-use Rattle.mv_latch.specs.declared.operation.LatchReply.TheVariants as latch_reply
-use Rattle.mv_latch.specs.declared.request.LatchForm.TheVariants as form_of
-use Rattle.mv_machine.specs.declared.entry.Op.TheVariants as op_on
-use Rattle.mv_machine.specs.declared.entry.Reply.TheVariants as reply_of
-use Rattle.mv_machine.specs.declared.entry.VolumeOp.TheVariants as volume_op
-use Rattle.mv_machine.specs.declared.entry.VolumeReply.TheVariants as volume_reply
+use Rattle.mv_plan.proofs.Words.{some_end_above, ends_of, complete_count, Free, done, EcbOp, EcbReply, ElementOp, ElementReply, LatchOp}
+use Rattle.mv_plan.proofs.Words.{LatchReply, LatchForm, VolumeOp, VolumeReply}
 
 -- a task is at a point of its program, or that has ended: with its answer, too soon, or by a reply that nothing foresees
 pub data Point (X : Type 0) : Type 0 where
@@ -30,19 +18,19 @@ pub data Point (X : Type 0) : Type 0 where
 
 -- after a post that starts no exit
 abbrev pub on_posted : {X : Type 0} → Point X → Reply → Point X
-on_posted p (reply_of.Ecb ecb_reply.Posted) = p
-on_posted p (reply_of.Ecb (ecb_reply.Woke x)) = p
-on_posted p (reply_of.Ecb (ecb_reply.Already code)) = p
+on_posted p (Reply.Ecb EcbReply.Posted) = p
+on_posted p (Reply.Ecb (EcbReply.Woke x)) = p
+on_posted p (Reply.Ecb (EcbReply.Already code)) = p
 on_posted p r = Astray
 
 abbrev pub on_armed : {X : Type 0} → Point X → Reply → Point X
-on_armed p (reply_of.Ecb ecb_reply.Armed) = p
-on_armed p (reply_of.Ecb (ecb_reply.Complete code)) = p
+on_armed p (Reply.Ecb EcbReply.Armed) = p
+on_armed p (Reply.Ecb (EcbReply.Complete code)) = p
 on_armed p r = Astray
 
 abbrev pub on_settled : {X : Type 0} → (Option ℕ → Point X) → Reply → Point X
-on_settled f (reply_of.Ecb (ecb_reply.Complete code)) = f (Some code)
-on_settled f (reply_of.Ecb ecb_reply.Open) = f None
+on_settled f (Reply.Ecb (EcbReply.Complete code)) = f (Some code)
+on_settled f (Reply.Ecb EcbReply.Open) = f None
 on_settled f r = Astray
 
 -- ---- the reader: job j is entered, and as many later ones are still to be entered
@@ -54,7 +42,7 @@ entering_from j zero = Finished []
 entering_from j (suc more) = At (Entering j more)
 
 abbrev pub reader_asks : ReaderAt → Object × Op
-reader_asks (Entering j more) = (Ecb (entered j), op_on.Ecb (ecb_op.Post 0))
+reader_asks (Entering j more) = (Ecb (entered j), Op.Ecb (EcbOp.Post 0))
 
 abbrev pub reader_goes : ReaderAt → Reply → Point ReaderAt
 reader_goes (Entering j more) r = on_posted (entering_from (j + 1) more) r
@@ -65,8 +53,8 @@ pub data WaitAt : Type 0 where
   Settling : (e : ℕ) (todo : List ℕ) (found : List (Option ℕ)) → WaitAt
 
 abbrev pub wait_asks : WaitAt → Object × Op
-wait_asks (Arming e todo) = (Ecb e, op_on.Ecb ecb_op.Arm)
-wait_asks (Settling e todo found) = (Ecb e, op_on.Ecb ecb_op.Settle)
+wait_asks (Arming e todo) = (Ecb e, Op.Ecb EcbOp.Arm)
+wait_asks (Settling e todo found) = (Ecb e, Op.Ecb EcbOp.Settle)
 
 abbrev pub lowest_at : {X : Type 0} → (ℕ → ℕ → Point X) → ℕ → List (Option ℕ) → Point X
 lowest_at f p [] = Astray
@@ -115,9 +103,9 @@ awaited_count (ToDismiss i more) = 1
 
 abbrev pub scheduler_asks : ℕ → SchedulerAt → Object × Op
 scheduler_asks n (Waits a w) = wait_asks w
-scheduler_asks n (Extends j job jobs skipped) = (Ecb (done n j), op_on.Ecb (ecb_op.Extend (j + 1)))
-scheduler_asks n (Clears i g code after) = (Ecb (idle n i), op_on.Ecb ecb_op.Clear)
-scheduler_asks n (Releases i g code after) = (Element (initiator i), op_on.Element (element_op.Release g code))
+scheduler_asks n (Extends j job jobs skipped) = (Ecb (done n j), Op.Ecb (EcbOp.Extend (j + 1)))
+scheduler_asks n (Clears i g code after) = (Ecb (idle n i), Op.Ecb EcbOp.Clear)
+scheduler_asks n (Releases i g code after) = (Element (initiator i), Op.Element (ElementOp.Release g code))
 
 -- the first point of a wait for these blocks
 abbrev pub arming_first : Awaited → List ℕ → Point SchedulerAt
@@ -157,16 +145,16 @@ arming_from n initiators a (e ∷ es) = At (Waits a (Arming e es))
 
 -- the jobs' extends, clears and releases by their replies
 abbrev pub on_extended : Point SchedulerAt → Reply → Point SchedulerAt
-on_extended p (reply_of.Ecb ecb_reply.Armed) = p
+on_extended p (Reply.Ecb EcbReply.Armed) = p
 on_extended p r = Astray
 
 abbrev pub on_cleared : Point SchedulerAt → Reply → Point SchedulerAt
-on_cleared p (reply_of.Ecb (ecb_reply.Word w)) = p
+on_cleared p (Reply.Ecb (EcbReply.Word w)) = p
 on_cleared p r = Astray
 
 abbrev pub on_released : Point SchedulerAt → Reply → Point SchedulerAt
-on_released p (reply_of.Element element_reply.Early) = p
-on_released p (reply_of.Element element_reply.Woke) = p
+on_released p (Reply.Element ElementReply.Early) = p
+on_released p (Reply.Element ElementReply.Woke) = p
 on_released p r = Astray
 
 abbrev pub scheduler_goes : ℕ → ℕ → SchedulerAt → Reply → Point SchedulerAt
@@ -281,23 +269,23 @@ pub data InitiatorAt : Type 0 where
 
 -- initiator i, where there are n jobs
 abbrev pub initiator_asks : ℕ → ℕ → InitiatorAt → Object × Op
-initiator_asks n i Opening = (Element (initiator i), op_on.Element element_op.Open)
-initiator_asks n i (Offering more before g) = (Ecb (idle n i), op_on.Ecb (ecb_op.Post g))
-initiator_asks n i (Pausing more before g) = (Element (initiator i), op_on.Element (element_op.Pause g))
-initiator_asks n i (Resuming more before g) = (Element (initiator i), op_on.Element (element_op.Resume g))
+initiator_asks n i Opening = (Element (initiator i), Op.Element ElementOp.Open)
+initiator_asks n i (Offering more before g) = (Ecb (idle n i), Op.Ecb (EcbOp.Post g))
+initiator_asks n i (Pausing more before g) = (Element (initiator i), Op.Element (ElementOp.Pause g))
+initiator_asks n i (Resuming more before g) = (Element (initiator i), Op.Element (ElementOp.Resume g))
 initiator_asks n i (InJob run (Obtaining hand latch mode steps)) =
-    (Latches, op_on.Latch (latch_op.Obtain latch (run.job + 1) mode form_of.Waiting))
-initiator_asks n i (InJob run (Confirming hand latch mode id steps)) = (Latches, op_on.Latch (latch_op.Confirm latch id))
-initiator_asks n i (InJob run (Freeing hand latch id steps)) = (Latches, op_on.Latch (latch_op.Release latch id false))
-initiator_asks n i (InJob run (Reading hand volume amount steps)) = (Volume volume, op_on.Volume volume_op.Read)
-initiator_asks n i (InJob run (Writing hand volume amount number steps)) = (Volume volume, op_on.Volume (volume_op.Write (number + amount)))
-initiator_asks n i (InJob run (Scanning hand volume steps)) = (Volume volume, op_on.Volume volume_op.Read)
-initiator_asks n i (InJob run (Rescanning hand volume number steps)) = (Volume volume, op_on.Volume volume_op.Read)
-initiator_asks n i (InJob run (Purging hand code)) = (Latches, op_on.Latch (latch_op.Purge (run.job + 1)))
-initiator_asks n i (InJob run (EndingJob code counts)) = (Ecb (done n run.job), op_on.Ecb (ecb_op.Post code))
-initiator_asks n i (InJob run (EndingForScheduler code counts)) = (Ecb (end_for_scheduler n run.job), op_on.Ecb (ecb_op.Post code))
-initiator_asks n i (InJob run (EndingForWriter code counts)) = (Ecb (end_for_writer n run.job), op_on.Ecb (ecb_op.Post code))
-initiator_asks n i (Closing g) = (Element (initiator i), op_on.Element (element_op.Close g))
+    (Latches, Op.Latch (LatchOp.Obtain latch (run.job + 1) mode LatchForm.Waiting))
+initiator_asks n i (InJob run (Confirming hand latch mode id steps)) = (Latches, Op.Latch (LatchOp.Confirm latch id))
+initiator_asks n i (InJob run (Freeing hand latch id steps)) = (Latches, Op.Latch (LatchOp.Release latch id false))
+initiator_asks n i (InJob run (Reading hand volume amount steps)) = (Volume volume, Op.Volume VolumeOp.Read)
+initiator_asks n i (InJob run (Writing hand volume amount number steps)) = (Volume volume, Op.Volume (VolumeOp.Write (number + amount)))
+initiator_asks n i (InJob run (Scanning hand volume steps)) = (Volume volume, Op.Volume VolumeOp.Read)
+initiator_asks n i (InJob run (Rescanning hand volume number steps)) = (Volume volume, Op.Volume VolumeOp.Read)
+initiator_asks n i (InJob run (Purging hand code)) = (Latches, Op.Latch (LatchOp.Purge (run.job + 1)))
+initiator_asks n i (InJob run (EndingJob code counts)) = (Ecb (done n run.job), Op.Ecb (EcbOp.Post code))
+initiator_asks n i (InJob run (EndingForScheduler code counts)) = (Ecb (end_for_scheduler n run.job), Op.Ecb (EcbOp.Post code))
+initiator_asks n i (InJob run (EndingForWriter code counts)) = (Ecb (end_for_writer n run.job), Op.Ecb (EcbOp.Post code))
+initiator_asks n i (Closing g) = (Element (initiator i), Op.Element (ElementOp.Close g))
 
 -- so many rounds are left
 abbrev pub rounds_from : ℕ → List ℕ → ℕ → Point InitiatorAt
@@ -341,36 +329,36 @@ abbrev pub given_at : List JobData → ℕ → List ℕ → ℕ → ℕ → Poin
 given_at deck more before code g = if code == 0 then At (Closing g) else named_at deck (job_named (length deck) code) before more g
 
 abbrev pub on_opened : Reply → ℕ → Point InitiatorAt
-on_opened (reply_of.Element (element_reply.Opened g)) n = rounds_from (n + 1) [] g
+on_opened (Reply.Element (ElementReply.Opened g)) n = rounds_from (n + 1) [] g
 on_opened r n = Astray
 
 abbrev pub on_paused : List JobData → ℕ → List ℕ → ℕ → Reply → Point InitiatorAt
-on_paused deck more before g (reply_of.Element (element_reply.Given code now)) = given_at deck more before code now
-on_paused deck more before g (reply_of.Element element_reply.Parked) = At (Resuming more before g)
+on_paused deck more before g (Reply.Element (ElementReply.Given code now)) = given_at deck more before code now
+on_paused deck more before g (Reply.Element ElementReply.Parked) = At (Resuming more before g)
 on_paused deck more before g r = Astray
 
 abbrev pub on_resumed : List JobData → ℕ → List ℕ → Reply → Point InitiatorAt
-on_resumed deck more before (reply_of.Element (element_reply.Given code now)) = given_at deck more before code now
-on_resumed deck more before (reply_of.Element element_reply.NotYet) = TooSoon
+on_resumed deck more before (Reply.Element (ElementReply.Given code now)) = given_at deck more before code now
+on_resumed deck more before (Reply.Element ElementReply.NotYet) = TooSoon
 on_resumed deck more before r = Astray
 
 abbrev pub on_obtained : Running → Hand → ℕ → Mode → List Step → Reply → Point InitiatorAt
-on_obtained run hand latch mode steps (reply_of.Latch (latch_reply.Granted id)) = steps_at run (hand_with hand latch mode id) steps
-on_obtained run hand latch mode steps (reply_of.Latch (latch_reply.Queued id)) = At (InJob run (Confirming hand latch mode id steps))
+on_obtained run hand latch mode steps (Reply.Latch (LatchReply.Granted id)) = steps_at run (hand_with hand latch mode id) steps
+on_obtained run hand latch mode steps (Reply.Latch (LatchReply.Queued id)) = At (InJob run (Confirming hand latch mode id steps))
 on_obtained run hand latch mode steps r = Astray
 
 abbrev pub on_confirmed : Running → Hand → ℕ → Mode → ℕ → List Step → Reply → Point InitiatorAt
-on_confirmed run hand latch mode id steps (reply_of.Latch (latch_reply.Granted same)) =
+on_confirmed run hand latch mode id steps (Reply.Latch (LatchReply.Granted same)) =
     steps_at run (hand_with hand latch mode id) steps
-on_confirmed run hand latch mode id steps (reply_of.Latch latch_reply.Waiting) = TooSoon
+on_confirmed run hand latch mode id steps (Reply.Latch LatchReply.Waiting) = TooSoon
 on_confirmed run hand latch mode id steps r = Astray
 
 abbrev pub on_freed : Running → Hand → ℕ → List Step → Reply → Point InitiatorAt
-on_freed run hand latch steps (reply_of.Latch (latch_reply.Released granted)) = steps_at run (hand_without hand latch) steps
+on_freed run hand latch steps (Reply.Latch (LatchReply.Released granted)) = steps_at run (hand_without hand latch) steps
 on_freed run hand latch steps r = Astray
 
 abbrev pub on_value : (ℕ → Point InitiatorAt) → Reply → Point InitiatorAt
-on_value f (reply_of.Volume (volume_reply.Value number)) = f number
+on_value f (Reply.Volume (VolumeReply.Value number)) = f number
 on_value f r = Astray
 
 abbrev pub counting_at : Running → Hand → ℕ → ℕ → List Step → ℕ → Point InitiatorAt
@@ -378,21 +366,21 @@ counting_at run hand volume amount steps number =
     if nat_lt (number + amount) (2 ^ 32) then At (InJob run (Writing hand volume amount number steps)) else Astray
 
 abbrev pub on_stored : Point InitiatorAt → Reply → Point InitiatorAt
-on_stored p (reply_of.Volume volume_reply.Stored) = p
+on_stored p (Reply.Volume VolumeReply.Stored) = p
 on_stored p r = Astray
 
 abbrev pub on_purged : Running → ℕ → Reply → Point InitiatorAt
-on_purged run code (reply_of.Latch (latch_reply.Purged removed granted)) =
+on_purged run code (Reply.Latch (LatchReply.Purged removed granted)) =
     At (InJob run (EndingJob code (record { removed = removed; granted = granted })))
 on_purged run code r = Astray
 
 -- the post of a done block that starts its exit is followed by those of the exit
 abbrev pub on_ended : Running → ℕ → Counts → Reply → Point InitiatorAt
-on_ended run code counts (reply_of.Ecb (ecb_reply.Woke (suc x))) = At (InJob run (EndingForScheduler code counts))
+on_ended run code counts (Reply.Ecb (EcbReply.Woke (suc x))) = At (InJob run (EndingForScheduler code counts))
 on_ended run code counts r = on_posted (rounds_after run) r
 
 abbrev pub on_closed : Reply → Point InitiatorAt
-on_closed (reply_of.Element element_reply.Closed) = Finished []
+on_closed (Reply.Element ElementReply.Closed) = Finished []
 on_closed r = Astray
 
 abbrev pub initiator_goes : List JobData → InitiatorAt → Reply → Point InitiatorAt

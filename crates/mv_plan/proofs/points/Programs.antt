@@ -6,20 +6,14 @@ use Rattle.mv_plan.proofs.Words.{token_of, closed, release, deallocate, pause, P
 use Rattle.mv_plan.proofs.Words.{Program, Do, Done, Early, Wrong, Call, and_then, going_on, unrefused, finished, on_ecb, on_element}
 use Rattle.mv_plan.proofs.Words.{on_latch, followed, accepted, Refusal, entered, end_for_scheduler, end_for_writer, idle, initiator, lowest}
 use Rattle.mv_plan.proofs.Words.{some_end_above, ends_awaited, hand_over, code_of, granted_as, named_by, run_job, rounds, job_named}
-use Rattle.mv_plan.proofs.Words.{first_of, arm_all, settle_all, enough, the_word, extended, extend}
+use Rattle.mv_plan.proofs.Words.{first_of, arm_all, settle_all, enough, the_word, extended, extend, done, EcbOp, ElementOp, LatchOp}
+use Rattle.mv_plan.proofs.Words.{LatchForm, Op, VolumeOp, Bool}
 use Rattle.mv_calls.specs.LatchCalls.{confirmed, let_go, purged}
 use Rattle.mv_calls.specs.Pauses.{Gift, opened, paused, resumed}
 use Rattle.mv_calls.specs.Program.{for_each, on_volume}
-use Rattle.mv_plan.specs.SpoolSetup.{done}
-use Rattle.mv_plan.specs.SpoolTasks.{dispatch_all, dismiss, counted, run_steps, ends_kept}
 use Rattle.mv_calls.specs.Waits.{the_value, stored, read_volume}
-use Rattle.mv_ecb.specs.declared.operation.EcbOp.TheVariants as ecb_op
-use Rattle.mv_element.specs.declared.operation.ElementOp.TheVariants as element_op
-use Rattle.mv_latch.specs.declared.operation.LatchOp.TheVariants as latch_op
-use Rattle.mv_latch.specs.declared.request.LatchForm.TheVariants as form_of
-use Rattle.mv_machine.specs.declared.entry.Op.TheVariants as op_on
-use Rattle.mv_machine.specs.declared.entry.VolumeOp.TheVariants as volume_op
 use Rattle.mv_calls.specs.Endings.{end_of_job}
+use Rattle.mv_plan.specs.SpoolTasks.{dispatch_all, dismiss, counted, run_steps, ends_kept}
 use Rattle.mv_plan.proofs.points.Points.{Point, At, Finished, TooSoon, Astray, ReaderAt, Entering, WaitAt, Arming, Settling, Stage}
 use Rattle.mv_plan.proofs.points.Points.{Dispatching, Dismissing, Awaited, ForEntry, ForEnds, ForIdle, ToDismiss, SchedulerAt, Waits}
 use Rattle.mv_plan.proofs.points.Points.{Extends, Clears, Releases, awaited_blocks, awaited_count, WriterAt, Keeping, Running, Hand}
@@ -69,15 +63,18 @@ stage_call c n initiators (Dismissing i more) = dismissals c n i more
 abbrev pub staged : Setup → ℕ → ℕ → Stage → Kept → Program (Unit {0}) → Program (List ℕ)
 staged c n initiators after kept p = going_on kept p (λ handed. stage_call c n initiators after)
 
+-- a job's wait for an initiator, and the extend in front of it
+abbrev pub handing : Setup → ℕ → ℕ → ℕ → Bool → Call (Unit {0})
+handing c n initiators j skipped = first_of c (map (idle n) (range_with_len 0 initiators)) (hand_over c n (code_of j skipped))
+
+abbrev pub extending : Setup → ℕ → ℕ → ℕ → Bool → Call (Unit {0})
+extending c n initiators j skipped = accepted (extend c (done n j) (j + 1)) (λ linked. handing c n initiators j skipped)
+
 -- what follows the job's or the initiator's wait within it
 abbrev pub awaited_then : Setup → ℕ → ℕ → Awaited → List (Option ℕ) → Call (Unit {0})
-awaited_then c n initiators (ForEntry j job jobs) = lowest (λ position zero_code.
-    ends_awaited c n job.after (λ skipped.
-    accepted (extend c (done n j) (j + 1)) (λ linked.
-    first_of c (map (idle n) (range_with_len 0 initiators)) (hand_over c n (code_of j skipped))))) 0
-awaited_then c n initiators (ForEnds j job jobs) = (λ slots.
-    accepted (extend c (done n j) (j + 1)) (λ linked.
-    first_of c (map (idle n) (range_with_len 0 initiators)) (hand_over c n (code_of j (some_end_above job.after slots)))))
+awaited_then c n initiators (ForEntry j job jobs) =
+    lowest (λ position zero_code. ends_awaited c n job.after (extending c n initiators j)) 0
+awaited_then c n initiators (ForEnds j job jobs) = λ slots. extending c n initiators j (some_end_above job.after slots)
 awaited_then c n initiators (ForIdle j job jobs skipped) = lowest (hand_over c n (code_of j skipped)) 0
 awaited_then c n initiators (ToDismiss i more) = lowest (λ position generation. hand_over c n 0 i generation) 0
 
@@ -91,10 +88,10 @@ abbrev pub scheduler_program : Setup → ℕ → ℕ → Kept → SchedulerAt �
 scheduler_program c n initiators kept (Waits a w) = staged c n initiators (awaited_stage a) kept
     (going_on kept (wait_program (awaited_count a) (awaited_blocks n initiators a) w) (unrefused (awaited_then c n initiators a)))
 scheduler_program c n initiators kept (Extends j job jobs skipped) = staged c n initiators (Dispatching (j + 1) jobs) kept
-    (going_on kept (Do (Ecb (done n j)) (op_on.Ecb (ecb_op.Extend (j + 1))) (λ h. on_ecb h.entry.reply extended)) (unrefused (λ linked.
-    first_of c (map (idle n) (range_with_len 0 initiators)) (hand_over c n (code_of j skipped)))))
+    (going_on kept (Do (Ecb (done n j)) (Op.Ecb (EcbOp.Extend (j + 1))) (λ h. on_ecb h.entry.reply extended))
+    (unrefused (λ linked. handing c n initiators j skipped)))
 scheduler_program c n initiators kept (Clears i g code after) = staged c n initiators after kept
-    (going_on kept (Do (Ecb (idle n i)) (op_on.Ecb ecb_op.Clear) (λ h. on_ecb h.entry.reply (the_word (λ w. Done (Ok w)))))
+    (going_on kept (Do (Ecb (idle n i)) (Op.Ecb EcbOp.Clear) (λ h. on_ecb h.entry.reply (the_word (λ w. Done (Ok w)))))
     (unrefused (λ word.
     accepted (release (token_of (initiator i) g) code) (λ reached. finished tt))))
 scheduler_program c n initiators kept (Releases i g code after) = staged c n initiators after kept
@@ -139,41 +136,41 @@ obtained_rest c run hand latch steps id = run_steps c (run.job + 1) (with_at han
 
 abbrev pub initiator_program : Setup → List JobData → ℕ → Kept → InitiatorAt → Program (List ℕ)
 initiator_program c deck i kept Opening =
-    going_on kept (Do (Element (initiator i)) (op_on.Element element_op.Open) (λ h. on_element h.entry.reply (opened (initiator i))))
+    going_on kept (Do (Element (initiator i)) (Op.Element ElementOp.Open) (λ h. on_element h.entry.reply (opened (initiator i))))
     (unrefused (rounds c deck i (length deck + 1) []))
 initiator_program c deck i kept (Offering more before g) =
     going_on kept (posting_now c (idle (length deck) i) g)
     (λ posted. accepted (pause c (token_of (initiator i) g)) (given_rest c deck i more before))
 initiator_program c deck i kept (Pausing more before g) =
-    going_on kept (Do (Element (initiator i)) (op_on.Element (element_op.Pause g))
+    going_on kept (Do (Element (initiator i)) (Op.Element (ElementOp.Pause g))
     (λ h. on_element h.entry.reply (paused (initiator i) g))) (unrefused (given_rest c deck i more before))
 initiator_program c deck i kept (Resuming more before g) =
-    going_on kept (Do (Element (initiator i)) (op_on.Element (element_op.Resume g))
+    going_on kept (Do (Element (initiator i)) (Op.Element (ElementOp.Resume g))
     (λ h. on_element h.entry.reply (resumed (initiator i)))) (unrefused (given_rest c deck i more before))
 initiator_program c deck i kept (InJob run (Obtaining hand latch mode steps)) = stepping c deck i run kept (going_on kept
-    (Do Latches (op_on.Latch (latch_op.Obtain latch (run.job + 1) mode form_of.Waiting))
-    (λ h. on_latch h.entry.reply (obtained latch form_of.Waiting)))
+    (Do Latches (Op.Latch (LatchOp.Obtain latch (run.job + 1) mode LatchForm.Waiting))
+    (λ h. on_latch h.entry.reply (obtained latch LatchForm.Waiting)))
     (unrefused (granted_as (obtained_rest c run hand latch steps))))
 initiator_program c deck i kept (InJob run (Confirming hand latch mode id steps)) = stepping c deck i run kept (going_on kept
-    (Do Latches (op_on.Latch (latch_op.Confirm latch id)) (λ h. on_latch h.entry.reply (confirmed id)))
+    (Do Latches (Op.Latch (LatchOp.Confirm latch id)) (λ h. on_latch h.entry.reply (confirmed id)))
     (unrefused (granted_as (obtained_rest c run hand latch steps))))
 initiator_program c deck i kept (InJob run (Freeing hand latch id steps)) = stepping c deck i run kept (going_on kept
-    (Do Latches (op_on.Latch (latch_op.Release latch id false)) (λ h. on_latch h.entry.reply (let_go c false h.wakes kept)))
+    (Do Latches (Op.Latch (LatchOp.Release latch id false)) (λ h. on_latch h.entry.reply (let_go c false h.wakes kept)))
     (unrefused (λ granted. steps_rest c run hand steps)))
 initiator_program c deck i kept (InJob run (Reading hand volume amount steps)) = stepping c deck i run kept (going_on kept
-    (Do (Volume volume) (op_on.Volume volume_op.Read) (λ h. on_volume h.entry.reply the_value))
+    (Do (Volume volume) (Op.Volume VolumeOp.Read) (λ h. on_volume h.entry.reply the_value))
     (counted volume amount (steps_rest c run hand steps)))
 initiator_program c deck i kept (InJob run (Writing hand volume amount number steps)) = stepping c deck i run kept (going_on kept
-    (Do (Volume volume) (op_on.Volume (volume_op.Write (number + amount))) (λ h. on_volume h.entry.reply stored))
+    (Do (Volume volume) (Op.Volume (VolumeOp.Write (number + amount))) (λ h. on_volume h.entry.reply stored))
     (λ stored. steps_rest c run hand steps))
 initiator_program c deck i kept (InJob run (Scanning hand volume steps)) = stepping c deck i run kept (going_on kept
-    (Do (Volume volume) (op_on.Volume volume_op.Read) (λ h. on_volume h.entry.reply the_value))
+    (Do (Volume volume) (Op.Volume VolumeOp.Read) (λ h. on_volume h.entry.reply the_value))
     (λ once. followed (read_volume volume) (λ again. steps_rest c run hand steps)))
 initiator_program c deck i kept (InJob run (Rescanning hand volume number steps)) = stepping c deck i run kept (going_on kept
-    (Do (Volume volume) (op_on.Volume volume_op.Read) (λ h. on_volume h.entry.reply the_value))
+    (Do (Volume volume) (Op.Volume VolumeOp.Read) (λ h. on_volume h.entry.reply the_value))
     (λ again. steps_rest c run hand steps))
 initiator_program c deck i kept (InJob run (Purging hand code)) = ending c deck i run kept (and_then
-    (Do Latches (op_on.Latch (latch_op.Purge (run.job + 1))) (λ h. on_latch h.entry.reply (purged c h.wakes kept)))
+    (Do Latches (Op.Latch (LatchOp.Purge (run.job + 1))) (λ h. on_latch h.entry.reply (purged c h.wakes kept)))
     (λ counts. wake_posted c (Some (done (length deck) run.job)) code kept (Done counts)))
 initiator_program c deck i kept (InJob run (EndingJob code counts)) =
     ending c deck i run kept (and_then (posting_now c (done (length deck) run.job) code) (λ p. Done counts))
@@ -186,5 +183,5 @@ initiator_program c deck i kept (InJob run (EndingForWriter code counts)) = endi
     (λ p. each_posted (posting_next c code) [] (Woke (run.job + 1))))
     (λ p. Done counts))
 initiator_program c deck i kept (Closing g) = going_on kept
-    (Do (Element (initiator i)) (op_on.Element (element_op.Close g)) (λ h. on_element h.entry.reply closed))
+    (Do (Element (initiator i)) (Op.Element (ElementOp.Close g)) (λ h. on_element h.entry.reply closed))
     (unrefused (λ closed. finished []))

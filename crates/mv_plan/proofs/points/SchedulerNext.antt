@@ -1,19 +1,13 @@
 -- Which points of the scheduler may follow one, as one lemma for any fact of points; and what follows: its errand stays but for
 -- a release, and the job that is next does not fall. Used by the ledger, the closings and the posts.
-use Rattle.mv_plan.proofs.Words.{◌≡◌, ℕ, zero, suc, ◌+◌, ◌≤◌, nat_le, Bool, true, false, cond, List, [], ◌∷◌, ◌++◌, length, Option}
-use Rattle.mv_plan.proofs.Words.{arith, ap, ◌∙◌, Reply, JobData, After, Step, code_of, some_end_above}
-use Rattle.mv_plan.proofs.Words.{complete_count}
-use Rattle.mv_ecb.specs.declared.operation.EcbReply.TheVariants as ecb_reply
-use Rattle.mv_element.specs.declared.operation.ElementReply.TheVariants as element_reply
-use Rattle.mv_machine.specs.declared.entry.Reply.TheVariants as reply_of
-use Rattle.mv_plan.proofs.points.Points.{Point, At, TooSoon, Astray, WaitAt, Settling, Stage, Dispatching, Dismissing, Awaited}
-use Rattle.mv_plan.proofs.points.Points.{ForEntry, ForEnds, ForIdle, ToDismiss, SchedulerAt, Waits, Extends, Clears, Releases}
-use Rattle.mv_plan.proofs.points.Points.{awaited_count, scheduler_goes, settling_from, found_at}
-use Rattle.mv_plan.proofs.points.Points.{ends_at, stage_at, on_released}
+use Rattle.mv_plan.proofs.Words.{◌≡◌, ℕ, zero, suc, ◌+◌, ◌≤◌, nat_le, Bool, true, false, cond, List, [], ◌∷◌, ◌++◌, length, Option, arith}
+use Rattle.mv_plan.proofs.Words.{ap, ◌∙◌, Reply, JobData, After, Step, code_of, some_end_above, complete_count, common_steps}
+use Rattle.mv_plan.proofs.points.Points.{Point, At, TooSoon, Astray, WaitAt, Settling, Stage, Dispatching, Dismissing, Awaited, ForEntry}
+use Rattle.mv_plan.proofs.points.Points.{ForEnds, ForIdle, ToDismiss, SchedulerAt, Waits, Extends, Clears, Releases, awaited_count}
+use Rattle.mv_plan.proofs.points.Points.{scheduler_goes, settling_from, found_at, ends_at, stage_at, on_released}
 use Rattle.mv_plan.proofs.points.PostsAndWaits.{on_settled_keeps, lowest_keeps}
 use Rattle.mv_plan.proofs.points.SchedulerSound.{IsSchedulerAt}
 use Rattle.mv_plan.proofs.points.Views.{next_job, Errand, Dispatches, Dismisses, Rests, errand, next_of, IsNotLost}
-use Rattle.std.proofs.lemmas.Grind.{common_steps}
 
 module _ (n initiators : ℕ) (P : Point SchedulerAt → Type 0) where
   -- all that may follow is so
@@ -63,9 +57,6 @@ module _ (n initiators : ℕ) (P : Point SchedulerAt → Type 0) where
   goes_next (Waits a (Settling e todo found)) r lost early all =
       on_settled_keeps P (λ slot. settling_from n a todo (found ++ slot ∷ [])) r
       (λ slot. settling_next a (Settling e todo found) todo (found ++ slot ∷ []) lost early all) lost
-  goes_next (Clears i g code after) (reply_of.Ecb (ecb_reply.Word w)) lost early all = all
-  goes_next (Releases i g code after) (reply_of.Element element_reply.Early) lost early all = all
-  goes_next (Releases i g code after) (reply_of.Element element_reply.Woke) lost early all = all
   goes_next x r lost early all = grind (arith, common_steps)
 
 -- ---- the errand stays but for a release
@@ -132,8 +123,3 @@ nexts_grow deck initiators x s = grind (arith, common_steps)
 pub next_grows : (deck : List JobData) (initiators : ℕ) (x : SchedulerAt) (r : Reply) → IsSchedulerAt deck initiators (At x)
     → next_job (length deck) (At x) ≤ next_job (length deck) (scheduler_goes (length deck) initiators x r)
 next_grows deck initiators x r s = grind (arith, common_steps, goes_next, At, next_below, nexts_grow)
-
--- and is never above the number of jobs
-pub next_bound : (deck : List JobData) (initiators : ℕ) (p : Point SchedulerAt) → IsSchedulerAt deck initiators p
-    → next_job (length deck) p ≤ length deck
-next_bound deck initiators p s = grind (arith, common_steps)

@@ -1,21 +1,14 @@
 -- Where the scheduler may stand: which jobs are left, which code it hands over; and what it keeps there. Kept by each of its
 -- steps, whatever the reply.
-use Rattle.mv_plan.proofs.Words.{◌≡◌, ℕ, suc, ◌+◌, ◌<◌, ◌≤◌, Bool, true, List, [], ◌∷◌}
-use Rattle.mv_plan.proofs.Words.{◌++◌, length, Option, Some, None, refl, sym, ap, ◌∙◌, subst, append-nil, append_assoc}
-use Rattle.mv_plan.proofs.Words.{zero-add, arith, length-append, length-map-range_with_len, Reply}
-use Rattle.mv_plan.proofs.Words.{JobData, After, Step, Kept, code_of}
-use Rattle.mv_ecb.specs.declared.operation.EcbReply.TheVariants as ecb_reply
-use Rattle.mv_machine.specs.declared.entry.Reply.TheVariants as reply_of
-use Rattle.mv_plan.proofs.deck.Plans.{IsPlannedJob, ArePlannedJobs}
+use Rattle.mv_plan.proofs.Words.{◌≡◌, ℕ, suc, ◌+◌, ◌<◌, ◌≤◌, Bool, true, List, [], ◌∷◌, ◌++◌, length, Option, None, refl, sym, ap, ◌∙◌}
+use Rattle.mv_plan.proofs.Words.{subst, append-nil, append_assoc, zero-add, arith, length-append, length-map-range_with_len, Reply, JobData}
+use Rattle.mv_plan.proofs.Words.{After, Step, Kept, code_of, EcbReply, common_steps}
+use Rattle.mv_plan.proofs.deck.{IsPlannedJob, ArePlannedJobs}
 use Rattle.mv_plan.proofs.points.Points.{Point, At, TooSoon, WaitAt, Arming, Settling, Stage, Dispatching, Dismissing, Awaited, ForEntry}
 use Rattle.mv_plan.proofs.points.Points.{ForEnds, ForIdle, ToDismiss, SchedulerAt, Waits, Extends, Clears, Releases, awaited_blocks}
-use Rattle.mv_plan.proofs.points.Points.{scheduler_asks, scheduler_goes, arming_from, settling_from, found_at}
-use Rattle.mv_plan.proofs.points.Points.{ends_at, lowest_at}
+use Rattle.mv_plan.proofs.points.Points.{scheduler_asks, scheduler_goes, arming_from, settling_from, found_at, ends_at, lowest_at}
 use Rattle.mv_plan.proofs.points.PostsAndWaits.{on_armed_keeps, on_settled_keeps}
 use Rattle.mv_plan.proofs.points.ReaderAndWriter.{keeps}
-use Rattle.std.proofs.lemmas.Grind.{common_steps}
-use Rattle.std.proofs.Common.{rules}
-use Rattle.std.proofs.Common.{rules}
 
 -- the deck's jobs from number j on
 pub record IsRest (deck : List JobData) (j : ℕ) (jobs : List JobData) : Type 0 where
@@ -37,7 +30,7 @@ pub rest_count : (deck : List JobData) (j : ℕ) (jobs : List JobData) → IsRes
 rest_count deck j jobs r = ap (λ k. k + length jobs) (sym r.count) ∙ sym (length-append r.front jobs) ∙ ap (λ l. length l) r.whole
 
 pub rest_below : (deck : List JobData) (j : ℕ) (job : JobData) (jobs : List JobData) → IsRest deck j (job ∷ jobs) → j < length deck
-rest_below deck j job jobs r = let e : j + length (job ∷ jobs) ≡ length deck = rest_count deck j (job ∷ jobs) r in omega arith
+rest_below deck j job jobs r = let e = rest_count deck j (job ∷ jobs) r in omega arith
 
 sound_from : (j : ℕ) (front jobs : List JobData) → ArePlannedJobs j (front ++ jobs) → ArePlannedJobs (j + length front) jobs
 sound_from j [] jobs s = subst (λ k. ArePlannedJobs k jobs) (omega arith) s
@@ -47,9 +40,7 @@ sound_from j (f ∷ front) jobs s = subst (λ k. ArePlannedJobs k jobs) (one_mor
 
 pub rest_sound : (deck : List JobData) (j : ℕ) (job : JobData) (jobs : List JobData) → ArePlannedJobs 0 deck → IsRest deck j (job ∷ jobs)
     → IsPlannedJob j job
-rest_sound deck j job jobs s r =
-    subst (λ k. IsPlannedJob k job) (zero-add (length r.front) ∙ r.count)
-    (sound_from 0 r.front (job ∷ jobs) (subst (λ d. ArePlannedJobs 0 d) (sym r.whole) s)).0
+rest_sound deck j job jobs s r = grind (arith, common_steps, zero-add, sound_from)
 
 -- how far a wait for these blocks is
 abbrev pub IsWaitAt : List ℕ → WaitAt → Type 0
@@ -111,9 +102,8 @@ module _ (deck : List JobData) (initiators : ℕ) (kept : Kept) where
   lowest_stands : (f : ℕ → ℕ → Point SchedulerAt) (p bound : ℕ) (found : List (Option ℕ)) → p + length found ≤ bound
       → ((i code : ℕ) → i < bound → SchedulerStands deck initiators kept (f i code))
       → SchedulerStands deck initiators kept (lowest_at f p found)
-  lowest_stands f p bound [] le each = (tt, tt)
-  lowest_stands f p bound (Some code ∷ found) le each = each p code (omega arith)
   lowest_stands f p bound (None ∷ found) le each = lowest_stands f (p + 1) bound found (omega arith) each
+  lowest_stands f p bound found le each = grind (arith, common_steps)
 
   ends_stands : (j : ℕ) (name : List ℕ) (after : List After) (steps : List Step) (jobs : List JobData)
       → IsRest deck j (record { name = name; after = after; steps = steps } ∷ jobs) → SchedulerKept (length deck) j kept
@@ -124,12 +114,7 @@ module _ (deck : List JobData) (initiators : ℕ) (kept : Kept) where
       → SchedulerKept (length deck) (awaited_extended (length deck) a) kept
       → length found ≤ length (awaited_blocks (length deck) initiators a)
       → SchedulerStands deck initiators kept (found_at (length deck) a found)
-  found_stands (ForEntry j job jobs) found r k le =
-      lowest_stands _ 0 (length found) found (omega arith) (λ i code lt. ends_stands j job.name job.after job.steps jobs r k)
-  found_stands (ForEnds j job jobs) found r k le = (r, k)
-  found_stands (ForIdle j job jobs skipped) found r k le = search (rules, lowest_stands, initiators, length-map-range_with_len, rest_next)
-  found_stands (ToDismiss i more) found e k le =
-      lowest_stands _ 0 (length found) found (omega arith) (λ p g lt. ((omega arith, omega arith, (refl, refl)), k))
+  found_stands a found r k le = grind (arith, common_steps, lowest_stands, ends_stands, length-map-range_with_len, rest_next)
 
   settling_stands : (a : Awaited) (past es : List ℕ) (found : List (Option ℕ)) → IsAwaited deck initiators a
       → SchedulerKept (length deck) (awaited_extended (length deck) a) kept
@@ -150,7 +135,7 @@ one_pushed xs ys x = append_assoc xs (x ∷ []) ys
 -- after an extend that is answered Armed
 pub extended_kept : (deck : List JobData) (initiators : ℕ) (kept : Kept) (j : ℕ) (job : JobData) (jobs : List JobData) (skipped : Bool)
     → SchedulerKept (length deck) j kept → SchedulerKept (length deck) (j + 1)
-    (keeps kept (scheduler_asks (length deck) (Extends j job jobs skipped)) (reply_of.Ecb ecb_reply.Armed))
+    (keeps kept (scheduler_asks (length deck) (Extends j job jobs skipped)) (Reply.Ecb EcbReply.Armed))
 extended_kept deck initiators kept j job jobs skipped s = grind (arith, common_steps)
 
 pub scheduler_stands : (deck : List JobData) (initiators : ℕ) (kept : Kept) (x : SchedulerAt) (r : Reply)

@@ -1,21 +1,12 @@
 -- Each release is of a job or closes an initiator and is accepted, and each initiator is closed once.
-use Rattle.mv_plan.proofs.Words.{◌≡◌, ℕ, ◌<◌, ◌≤◌, List, [], ◌∷◌, ◌++◌, length}
-use Rattle.mv_plan.proofs.Words.{None, refl, sym, ap, ◌∙◌, subst, arith, AllByRecursion}
-use Rattle.mv_plan.proofs.Words.{Entry, Element, Reply, IsNext, Setup, System, released_code, closings, IsRightRelease, JobData}
-use Rattle.mv_plan.proofs.Words.{scheduler, initiator, Kept}
-use Rattle.mv_element.specs.declared.operation.ElementOp.TheVariants as element_op
-use Rattle.mv_machine.specs.declared.entry.Op.TheVariants as op_on
-use Rattle.mv_plan.proofs.points.SchedulerNext.{same_errand}
-use Rattle.mv_plan.proofs.points.Points.{Point, At, Stage, Dispatching, SchedulerAt, Waits, Extends, Clears, Releases}
-use Rattle.mv_plan.proofs.points.Points.{scheduler_asks, scheduler_goes, stage_at}
-use Rattle.mv_plan.proofs.points.SchedulerSound.{IsSchedulerAt}
-use Rattle.mv_plan.proofs.walks.Stands.{Stand}
+use Rattle.mv_plan.proofs.Words.{◌≡◌, ℕ, ◌<◌, ◌≤◌, List, [], ◌∷◌, ◌++◌, length, None, refl, sym, ap, ◌∙◌, subst, arith, AllByRecursion}
+use Rattle.mv_plan.proofs.Words.{Entry, Element, Reply, IsNext, Setup, System, released_code, closings, IsRightRelease, JobData, scheduler}
+use Rattle.mv_plan.proofs.Words.{initiator, Kept, ElementOp, Op, common_steps}
+use Rattle.mv_plan.proofs.points.{same_errand, Point, At, Stage, Dispatching, SchedulerAt, Waits, Extends, Clears, Releases, scheduler_asks}
+use Rattle.mv_plan.proofs.points.{scheduler_goes, stage_at, IsSchedulerAt, reader_plain, writer_plain, no_release, wait_no_release, Errand}
+use Rattle.mv_plan.proofs.points.{Dispatches, Dismisses, Rests, errand, IsNotLost}
+use Rattle.mv_plan.proofs.walks.{Stand, Points, Move, entry_of, Each, of_move}
 use Rattle.mv_plan.proofs.walks.NoneLost.{NoneLost}
-use Rattle.mv_plan.proofs.walks.Walks.{Points, Move}
-use Rattle.mv_plan.proofs.points.Asks.{reader_plain, writer_plain, no_release, wait_no_release}
-use Rattle.mv_plan.proofs.walks.Moves.{entry_of, Each, of_move}
-use Rattle.mv_plan.proofs.points.Views.{Errand, Dispatches, Dismisses, Rests, errand, IsNotLost}
-use Rattle.std.proofs.lemmas.Grind.{common_steps}
 
 -- how many initiators were dismissed by then
 abbrev pub dismissed_by : ℕ → Errand → ℕ
@@ -50,7 +41,7 @@ module _ (c : Setup) (deck : List JobData) (initiators : ℕ) (kept : ℕ → Ke
       caller = scheduler;
       object = Element (initiator i);
       place = p;
-      op = op_on.Element (element_op.Release g code);
+      op = Op.Element (ElementOp.Release g code);
       reply = r;
     }
 

@@ -1,31 +1,21 @@
 -- Behind a run each job's end was posted once to each of its three blocks: specs/PostingEnds. The marks that were released are
 -- the deck's, no post came second, and the writer has kept the deck's ends.
-use Rattle.mv_plan.proofs.Words.{◌≡◌, ℕ, ◌+◌, ◌<◌, ◌≤◌, List, [], ◌∷◌, ◌++◌, length, map, refl, ap, ◌∙◌, subst, AllByRecursion}
-use Rattle.mv_plan.proofs.Words.{EcbState, Complete, Entry, Reply, IsNext, next, after, Setup, System, opening, posts, post_codes}
-use Rattle.mv_plan.proofs.Words.{EndsArePosted, JobData, end_of, ends, Done, left_in, IsRun, spool_setup, end_for_scheduler, end_for_writer}
-use Rattle.mv_plan.proofs.Words.{writer, task_program}
-use Rattle.mv_plan.specs.SpoolSetup.{done}
-use Rattle.mv_ecb.specs.declared.operation.EcbReply.TheVariants as ecb_reply
-use Rattle.mv_machine.specs.declared.entry.Reply.TheVariants as reply_of
-use Rattle.mv_plan.proofs.deck.Plans.{IsPlanned}
-use Rattle.mv_plan.proofs.ends.Blocks.{HasEnd, done_has, scheduler_has, writer_has}
-use Rattle.mv_plan.proofs.deck.Ends.{few_jobs}
-use Rattle.mv_plan.proofs.ends.RightCodes.{Codes, KeepsEnds, codes_keep, codes_first}
-use Rattle.mv_plan.proofs.ends.EndMoments.{EndMoment, IsFreeToOffer, traces_keep}
-use Rattle.mv_plan.proofs.standing.Row.{RowAt}
-use Rattle.mv_plan.proofs.ends.Complete.{IsComplete}
-use Rattle.mv_plan.proofs.deck.Setup.{Facts, facts}
-use Rattle.mv_plan.proofs.points.Programs.{program_at, writer_program}
-use Rattle.mv_plan.proofs.points.Points.{Point, Finished, SchedulerAt, InitiatorAt}
-use Rattle.mv_plan.proofs.ends.Posted.{Posted, posted_keeps, posted_first}
-use Rattle.mv_plan.proofs.ends.Traces.{HasRightMark, Traces, code_list, traces_first}
-use Rattle.mv_plan.proofs.walks.Histories.{Stood, stood, AreFinished, run_finished}
-use Rattle.mv_plan.proofs.places.Moments.{Moment, walk_moments}
-use Rattle.mv_plan.proofs.walks.NoneLost.{NoneLost, none_lost_at_end}
-use Rattle.mv_plan.proofs.walks.Walks.{Points, start_points, Move}
-use Rattle.mv_plan.proofs.walks.Stands.{TasksStand, standing}
-use Rattle.mv_plan.proofs.ends.WriterFinds.{WriterHas, HasFound, writer_has_keeps, writer_has_first}
-use Rattle.std.proofs.Common.{rules}
+use Rattle.mv_plan.proofs.Words.{◌≡◌, ℕ, ◌+◌, ◌<◌, ◌≤◌, List, [], ◌∷◌, ◌++◌, length, map, refl, ap, ◌∙◌, subst, AllByRecursion, EcbState}
+use Rattle.mv_plan.proofs.Words.{Complete, Entry, Reply, IsNext, next, after, Setup, System, opening, posts, post_codes, EndsArePosted}
+use Rattle.mv_plan.proofs.Words.{JobData, end_of, ends, Done, left_in, IsRun, spool_setup, end_for_scheduler, end_for_writer, writer}
+use Rattle.mv_plan.proofs.Words.{task_program, done, EcbReply, rules}
+use Rattle.mv_plan.proofs.deck.{IsPlanned, few_jobs, Facts, facts}
+use Rattle.mv_plan.proofs.ends.{HasEnd, done_has, scheduler_has, writer_has, Codes, KeepsEnds, codes_keep, codes_first, EndMoment}
+use Rattle.mv_plan.proofs.ends.{IsFreeToOffer, traces_keep, IsComplete, posted_keeps, posted_first, HasRightMark, code_list, traces_first}
+use Rattle.mv_plan.proofs.ends.{WriterHas, HasFound, writer_has_keeps, writer_has_first}
+use Rattle.mv_plan.proofs.standing.{RowAt}
+use Rattle.mv_plan.proofs.points.{program_at, writer_program, Point, Finished, SchedulerAt, InitiatorAt}
+use Rattle.mv_plan.proofs.ends.Posted.{Posted}
+use Rattle.mv_plan.proofs.ends.Traces.{Traces}
+use Rattle.mv_plan.proofs.walks.{Stood, stood, AreFinished, run_finished, none_lost_at_end, Points, start_points, Move, TasksStand}
+use Rattle.mv_plan.proofs.walks.{standing}
+use Rattle.mv_plan.proofs.places.{run_released, Moment, walk_moments}
+use Rattle.mv_plan.proofs.walks.NoneLost.{NoneLost}
 
 -- what is kept about ends and blocks from moment to moment
 pub record Ends (c : Setup) (deck : List JobData) (initiators : ℕ) (s : System) (t : Points) (past : List Entry) : Type 0 where
@@ -36,12 +26,7 @@ pub record Ends (c : Setup) (deck : List JobData) (initiators : ℕ) (s : System
 
 pub ends_first : (c : Setup) (deck : List JobData) (initiators : ℕ) → IsPlanned deck initiators
     → Ends c deck initiators (opening c) (start_points deck initiators) []
-ends_first c deck initiators sound = record {
-  codes = codes_first deck initiators sound c;
-  posted = posted_first deck initiators c;
-  found = writer_has_first deck initiators c;
-  traces = traces_first deck c;
-}
+ends_first c deck initiators sound = search (rules, codes_first, posted_first, writer_has_first, traces_first)
 
 -- an initiator that offers itself finds its block free
 row_offers : (n : ℕ) (s : System) (q : Point SchedulerAt) (i : ℕ) (p : Point InitiatorAt) → RowAt n s q i p → IsFreeToOffer n s i p
@@ -51,7 +36,7 @@ pub end_moment : (c : Setup) (deck : List JobData) (initiators : ℕ) (s : Syste
     → Moment c deck initiators s t past → Ends c deck initiators s t past → EndMoment deck initiators s t
 end_moment c deck initiators s t past now h = record {
   stands = standing deck initiators now.kept t now.stand;
-  places = now.ledger.places;
+  released = λ i j lt below run. run_released deck initiators s t past now.ledger j below i lt run;
   codes = h.codes;
   posted = h.posted;
   offering = λ i lt. row_offers (length deck) s t.scheduler i (t.initiators i) (now.rows.rows i lt);
@@ -67,7 +52,7 @@ module _ (c : Setup) (deck : List JobData) (initiators : ℕ) (facts : Facts c (
       let stands : TasksStand deck initiators t = standing deck initiators now.kept t now.stand in
       record {
         codes = codes_keep deck initiators sound c s t u past e n m stands h.codes;
-        posted = posted_keeps deck initiators c (few_jobs deck initiators sound) s t u past e n m (stands, now.ledger.places) h.posted;
+        posted = posted_keeps deck initiators c (few_jobs deck initiators sound) s t u past e n m (stands, now.ledger) h.posted;
         found = writer_has_keeps deck initiators c s t u past e n m stands h.found;
         traces = traces_keep deck initiators sound c s t u past e n m (end_moment c deck initiators s t past now h) h.traces;
       }
@@ -91,7 +76,7 @@ module _ (deck : List JobData) (initiators : ℕ) (some : 1 ≤ initiators) (sou
   pub ends_found : (st : Stood deck initiators some sound es) → NoneLost initiators st.points
       → Ends c deck initiators (after c es) st.points es
   ends_found st f = (walk_moments c deck initiators (facts deck initiators some) sound.jobs (few_jobs deck initiators sound)
-      (λ s t past place. Ends c deck initiators s t past)
+      (λ s t past. Ends c deck initiators s t past)
       (λ s t u past e now on n m h. ends_next c deck initiators (facts deck initiators some) sound s t u past e now n m h)
       (ends_first c deck initiators sound) es st.points st.walk f).1
 
@@ -125,7 +110,7 @@ module _ (deck : List JobData) (initiators : ℕ) (some : 1 ≤ initiators) (sou
       let f : AreFinished initiators st.points = run_finished deck initiators some sound es run st in
       let h : Ends c deck initiators (after c es) st.points es = ends_at run st f in
       record {
-        done = λ j lt. pairs_one (posts (done (length deck) j) es) (end_of deck j) (reply_of.Ecb (ecb_reply.Woke (j + 1)))
+        done = λ j lt. pairs_one (posts (done (length deck) j) es) (end_of deck j) (Reply.Ecb (EcbReply.Woke (j + 1)))
             (block_ends (after c es) st.points h f j lt).0 (h.traces.woke j lt);
         scheduler = λ j lt. (block_ends (after c es) st.points h f j lt).1;
         writer = λ j lt. (block_ends (after c es) st.points h f j lt).2;

@@ -1,42 +1,29 @@
 -- No reply leads the reader, the scheduler or the writer astray, nor an initiator in its rounds.
-use Rattle.mv_plan.proofs.Words.{◌≡◌, ℕ, zero, suc, ◌+◌, ◌<◌, ◌≤◌, Bool, true, false, IsTrue, if◌then◌else◌, List, []}
-use Rattle.mv_plan.proofs.Words.{◌∷◌, ◌++◌, length, Option, Some, None, ◌⊎◌, inl, inr, refl, sym, ap, ◌∙◌, subst, arith, AllByRecursion}
-use Rattle.mv_plan.proofs.Words.{eq-eqb, leb-true, ecb_step, EcbState, Extended, ElementState}
-use Rattle.mv_plan.proofs.Words.{element_step, Reply, Setup, owner_of, System, admitted, reply_to, JobData, After, Step, Print}
-use Rattle.mv_plan.proofs.Words.{job_at, Counts, reader, scheduler, initiator, writer, end_for_writer}
-use Rattle.mv_plan.proofs.Words.{code_of, not_to_run, complete_count}
+use Rattle.mv_plan.proofs.Words.{◌≡◌, ℕ, zero, suc, ◌+◌, ◌<◌, ◌≤◌, Bool, true, false, IsTrue, if◌then◌else◌, List, [], ◌∷◌, ◌++◌, length}
+use Rattle.mv_plan.proofs.Words.{Option, Some, None, ◌⊎◌, inl, inr, refl, sym, ap, ◌∙◌, subst, arith, AllByRecursion, eq-eqb, leb-true}
+use Rattle.mv_plan.proofs.Words.{ecb_step, EcbState, Extended, ElementState, element_step, Reply, Setup, owner_of, System, admitted}
+use Rattle.mv_plan.proofs.Words.{reply_to, JobData, After, Step, Print, job_at, Counts, reader, scheduler, initiator, writer}
+use Rattle.mv_plan.proofs.Words.{end_for_writer, code_of, not_to_run, complete_count, Free, done, EcbOp, EcbReply, ElementOp, common_steps}
 use Rattle.mv_ecb.specs.Word.{Waiting}
-use Rattle.mv_deck.specs.declared.deck.Step.TheVariants.{Free}
-use Rattle.mv_plan.specs.SpoolSetup.{done}
-use Rattle.mv_ecb.specs.declared.operation.EcbOp.TheVariants as ecb_op
-use Rattle.mv_ecb.specs.declared.operation.EcbReply.TheVariants as ecb_reply
-use Rattle.mv_element.specs.declared.operation.ElementOp.TheVariants as element_op
-use Rattle.mv_machine.specs.declared.entry.Reply.TheVariants as reply_of
-use Rattle.mv_plan.proofs.deck.Plans.{ArePlannedSteps, ArePlannedJobs}
-use Rattle.mv_plan.proofs.standing.Arms.{In, in_middle, in_all, IsNoDone, awaited_no_done, SchedulerArms, WriterArms}
-use Rattle.mv_plan.proofs.points.ReaderAndWriter.{IsWriterAt}
-use Rattle.mv_plan.proofs.results.FewRounds.{fewer, none_found, not_found, code_named}
+use Rattle.mv_calls.proofs.Distinct.{none_found}
+use Rattle.mv_plan.proofs.deck.{ArePlannedSteps, ArePlannedJobs, Facts}
+use Rattle.mv_plan.proofs.walks.{Points}
+use Rattle.mv_plan.proofs.standing.{Armed, In, in_middle, in_all, IsNoDone, awaited_no_done, SchedulerArms, WriterArms, Starts, Works}
+use Rattle.mv_plan.proofs.standing.{Offers, Parks, RowAt, element_of}
+use Rattle.mv_plan.proofs.points.{IsWriterAt, IsInitiatorAt, IsRound, IsRunning, held_of, held_request, job_sound, Point, At, TooSoon}
+use Rattle.mv_plan.proofs.points.{Astray, Awaited, ForEntry, ForEnds, ForIdle, ToDismiss, Arming, Settling, ReaderAt, Entering, reader_asks}
+use Rattle.mv_plan.proofs.points.{reader_goes, SchedulerAt, Waits, Extends, awaited_blocks, awaited_count, scheduler_asks, scheduler_goes}
+use Rattle.mv_plan.proofs.points.{arming_first, arming_from, settling_from, found_at, ends_at, lowest_at, on_posted, on_armed, on_settled}
+use Rattle.mv_plan.proofs.points.{WriterAt, Keeping, writer_asks, writer_goes, writing_from, writer_arming, end_found, Hand, Running}
+use Rattle.mv_plan.proofs.points.{running, InitiatorAt, Opening, Pausing, Resuming, EndingJob, EndingForWriter, Closing, initiator_asks}
+use Rattle.mv_plan.proofs.points.{initiator_goes, rounds_from, rounds_after, freeing_at, steps_at, job_start, named_at, given_at, on_opened}
+use Rattle.mv_plan.proofs.points.{on_paused, on_resumed, on_closed, on_ended, InJob, IsSchedulerAt, code_held, jobs_of, IsNotLost}
+use Rattle.mv_plan.proofs.points.{IsOfRounds}
+use Rattle.mv_plan.proofs.results.FewRounds.{fewer, not_found, code_named}
 use Rattle.mv_plan.proofs.walks.Fits.{Fits}
-use Rattle.mv_plan.proofs.standing.Row.{Starts, Works, Offers, Parks, Row, RowAt}
-use Rattle.mv_plan.proofs.standing.Row.{element_of}
-use Rattle.mv_plan.proofs.points.InitiatorSound.{IsInitiatorAt, IsRound, IsRunning, held_of, held_request, job_sound}
-use Rattle.mv_plan.proofs.places.Places.{Place, Handed, Over}
-use Rattle.mv_plan.proofs.places.Ledger.{element_code}
-use Rattle.mv_plan.proofs.deck.Setup.{Facts}
-use Rattle.mv_plan.proofs.points.Points.{Point, At, TooSoon, Astray, Dispatching, Dismissing, Awaited, ForEntry, ForEnds, ForIdle}
-use Rattle.mv_plan.proofs.points.Points.{ToDismiss, Arming, Settling, ReaderAt, Entering, reader_asks, reader_goes}
-use Rattle.mv_plan.proofs.points.Points.{SchedulerAt, Waits, Extends, Clears, awaited_blocks, awaited_count, scheduler_asks}
-use Rattle.mv_plan.proofs.points.Points.{scheduler_goes, arming_first, arming_from, settling_from, found_at, ends_at}
-use Rattle.mv_plan.proofs.points.Points.{lowest_at, on_posted, on_armed, on_settled, WriterAt, Keeping, writer_asks}
-use Rattle.mv_plan.proofs.points.Points.{writer_goes, writing_from, writer_arming, end_found, Hand, empty_hand, Running, running}
-use Rattle.mv_plan.proofs.points.Points.{InitiatorAt, Opening, Pausing, Resuming, EndingJob}
-use Rattle.mv_plan.proofs.points.Points.{EndingForWriter, Closing, initiator_asks, initiator_goes, rounds_from, rounds_after, freeing_at}
-use Rattle.mv_plan.proofs.points.Points.{steps_at, job_start, named_at, given_at, on_opened, on_paused, on_resumed, on_closed, on_ended}
-use Rattle.mv_plan.proofs.points.Points.{InJob}
-use Rattle.mv_plan.proofs.points.SchedulerSound.{IsSchedulerAt}
-use Rattle.mv_plan.proofs.ends.RightCodes.{IsCode}
-use Rattle.mv_plan.proofs.points.Views.{code_held, named_before, IsNotLost, IsOfRounds}
-use Rattle.std.proofs.lemmas.Grind.{common_steps}
+use Rattle.mv_plan.proofs.standing.Row.{Row}
+use Rattle.mv_plan.proofs.places.{element_code}
+use Rattle.mv_plan.proofs.ends.{IsCode}
 
 -- a task is not astray
 abbrev pub IsForeseen : {X : Type 0} → Point X → Type 0
@@ -45,15 +32,15 @@ IsForeseen p = Unit {0}
 
 -- ---- replies of blocks
 
-post_foreseen : {X : Type 0} (p : Point X) (code : ℕ) (v : EcbState) (r : Reply) → r ≡ reply_of.Ecb (ecb_step (ecb_op.Post code) v).1
+post_foreseen : {X : Type 0} (p : Point X) (code : ℕ) (v : EcbState) (r : Reply) → r ≡ Reply.Ecb (ecb_step (EcbOp.Post code) v).1
     → IsForeseen p → IsForeseen (on_posted p r)
 post_foreseen p code y r e w = grind (arith, common_steps)
 
-arm_foreseen : {X : Type 0} (p : Point X) (v : EcbState) (r : Reply) → r ≡ reply_of.Ecb (ecb_step ecb_op.Arm v).1 → (v ≡ Waiting → ⊥)
+arm_foreseen : {X : Type 0} (p : Point X) (v : EcbState) (r : Reply) → r ≡ Reply.Ecb (ecb_step EcbOp.Arm v).1 → (v ≡ Waiting → ⊥)
     → ((y : ℕ) → v ≡ Extended y → ⊥) → IsForeseen p → IsForeseen (on_armed p r)
 arm_foreseen p x r e a b w = grind (arith, common_steps)
 
-settle_foreseen : {X : Type 0} (f : Option ℕ → Point X) (v : EcbState) (r : Reply) → r ≡ reply_of.Ecb (ecb_step ecb_op.Settle v).1
+settle_foreseen : {X : Type 0} (f : Option ℕ → Point X) (v : EcbState) (r : Reply) → r ≡ Reply.Ecb (ecb_step EcbOp.Settle v).1
     → ((y : ℕ) → v ≡ Extended y → ⊥) → ((slot : Option ℕ) → IsForeseen (f slot)) → IsForeseen (on_settled f r)
 settle_foreseen f x r e b w = grind (arith, common_steps)
 
@@ -77,13 +64,10 @@ module _ (n initiators : ℕ) where
   ends_foreseen j name x steps jobs = grind (arith, common_steps)
 
   found_foreseen : (a : Awaited) (found : List (Option ℕ)) → awaited_count a ≤ complete_count found → IsForeseen (found_at n a found)
-  found_foreseen (ForEntry j job jobs) found le =
-      lowest_foreseen (λ p code. ends_at n j job jobs) (λ p code. ends_foreseen j job.name job.after job.steps jobs) 0 found le
+  found_foreseen (ForEntry j job jobs) found le = grind (arith, common_steps, lowest_foreseen, ends_foreseen)
   found_foreseen (ForEnds j job jobs) found le = tt
-  found_foreseen (ForIdle j job jobs skipped) found le =
-      lowest_foreseen (λ i g. At (Clears i g (code_of j skipped) (Dispatching (j + 1) jobs))) (λ p code. tt) 0 found le
-  found_foreseen (ToDismiss i more) found le =
-      lowest_foreseen (λ p g. At (Clears i g 0 (Dismissing (i + 1) more))) (λ p code. tt) 0 found le
+  found_foreseen (ForIdle j job jobs skipped) found le = grind (arith, common_steps, lowest_foreseen)
+  found_foreseen (ToDismiss i more) found le = grind (arith, common_steps, lowest_foreseen)
 
   settling_foreseen : (a : Awaited) (es : List ℕ) (found : List (Option ℕ)) → IsForeseen (settling_from n a es found)
   settling_foreseen a [] found = grind (arith, common_steps, TooSoon, found_foreseen, leb-true)
@@ -98,7 +82,7 @@ first_foreseen n x j job jobs skipped some = grind (arith, common_steps)
 
 -- an extend that is answered Armed
 pub extend_foreseen : (n initiators j : ℕ) (job : JobData) (jobs : List JobData) (skipped : Bool) → 1 ≤ initiators
-    → IsForeseen (scheduler_goes n initiators (Extends j job jobs skipped) (reply_of.Ecb ecb_reply.Armed))
+    → IsForeseen (scheduler_goes n initiators (Extends j job jobs skipped) (Reply.Ecb EcbReply.Armed))
 extend_foreseen n initiators j job jobs skipped some = first_foreseen n initiators j job jobs skipped some
 
 -- whether a point is no extend
@@ -114,35 +98,33 @@ plain_block c n initiators s e facts fits (inl low) y q = let z : (j : ℕ) × (
 plain_block c n initiators s e facts fits (inr high) y q = let z : (j : ℕ) × (j < n) × (y ≡ j + 1) × (e ≡ done n j) =
     facts.sources y e (fits.exits e y q) in let lt : z.0 < n = z.1 in let is : e ≡ n + z.0 = z.3 in omega arith
 
-module _ (c : Setup) (deck : List JobData) (initiators : ℕ) (facts : Facts c (length deck) initiators) (s : System) (fits : Fits c s) where
+module _ (c : Setup) (deck : List JobData) (initiators : ℕ) (facts : Facts c (length deck) initiators) (s : System) (fits : Fits c s)
+    (t : Points) (arms : Armed c (length deck) initiators s t) where
   abbrev n : ℕ
   n = length deck
 
-  pub scheduler_foreseen : (t_scheduler : Point SchedulerAt) (t_writer : Point WriterAt) (initiator_at : ℕ → Point InitiatorAt)
-      (x : SchedulerAt) (r : Reply) → t_scheduler ≡ At x → NoExtend x
-      → ((b : ℕ) → (s.ecb b).state ≡ Waiting → ((owner_of c b ≡ scheduler) × SchedulerArms n initiators t_scheduler b)
-      ⊎ ((owner_of c b ≡ writer initiators) × WriterArms n t_writer b))
-      → ((i : ℕ) → i < initiators → RowAt n s t_scheduler i (initiator_at i)) → ((i : ℕ) → i < initiators → IsNotLost (initiator_at i))
+  pub scheduler_foreseen : (x : SchedulerAt) (r : Reply) → t.scheduler ≡ At x → NoExtend x
+      → ((i : ℕ) → i < initiators → RowAt n s t.scheduler i (t.initiators i)) → ((i : ℕ) → i < initiators → IsNotLost (t.initiators i))
       → IsSchedulerAt deck initiators (At x) → IsTrue (admitted c s scheduler (scheduler_asks n x).0 (scheduler_asks n x).1)
       → Some r ≡ reply_to s scheduler (scheduler_asks n x).0 (scheduler_asks n x).1
       → IsForeseen (scheduler_goes n initiators x r)
-  scheduler_foreseen q w p (Waits a (Arming e todo)) r at d armed rows found sound adm ans =
-      arm_foreseen (arming_from n initiators a todo) (s.ecb e).state r (cc ans) (λ z. no_wait (armed e z))
+  scheduler_foreseen (Waits a (Arming e todo)) r at d rows found sound adm ans =
+      arm_foreseen (arming_from n initiators a todo) (s.ecb e).state r (cc ans) (λ z. no_wait (arms.armed e z))
       (plain_block c n initiators s e facts fits
       (in_all (IsNoDone n) (awaited_blocks n initiators a) e (awaited_no_done deck initiators a sound.0)
       (subst (λ l. In l e) sound.1.1 (in_middle sound.1.0 e todo))))
       (arming_foreseen n initiators a todo) where
-        no_wait : ((owner_of c e ≡ scheduler) × SchedulerArms n initiators q e)
-            ⊎ ((owner_of c e ≡ writer initiators) × WriterArms n w e) → ⊥
+        no_wait : ((owner_of c e ≡ scheduler) × SchedulerArms n initiators t.scheduler e)
+            ⊎ ((owner_of c e ≡ writer initiators) × WriterArms n t.writer e) → ⊥
         no_wait (inl u) = (subst (λ z. SchedulerArms n initiators z e) at u.1).1 (inl refl)
         no_wait (inr u) = grind (arith, common_steps)
-  scheduler_foreseen q w p (Waits a (Settling e todo found)) r at d armed rows fnd sound adm ans =
+  scheduler_foreseen (Waits a (Settling e todo found)) r at d rows fnd sound adm ans =
       settle_foreseen (λ slot. settling_from n a todo (found ++ slot ∷ [])) (s.ecb e).state r (cc ans)
       (plain_block c n initiators s e facts fits
       (in_all (IsNoDone n) (awaited_blocks n initiators a) e (awaited_no_done deck initiators a sound.0)
       (subst (λ l. In l e) sound.1.1 (in_middle sound.1.0 e todo))))
       (λ slot. settling_foreseen n initiators a todo (found ++ slot ∷ []))
-  scheduler_foreseen q w p x r at d armed rows found sound adm ans = grind (arith, common_steps)
+  scheduler_foreseen x r at d rows found sound adm ans = grind (arith, common_steps)
 
   -- ---- the writer
   writing_foreseen : (j more : ℕ) (ends : List ℕ) → IsForeseen (writing_from n j more ends)
@@ -154,23 +136,21 @@ module _ (c : Setup) (deck : List JobData) (initiators : ℕ) (facts : Facts c (
   writer_block : (j e : ℕ) → e ≡ end_for_writer n j → (y : ℕ) → (s.ecb e).state ≡ Extended y → ⊥
   writer_block j e is = plain_block c n initiators s e facts fits (inr (omega arith))
 
-  pub writer_foreseen : (t_scheduler : Point SchedulerAt) (t_writer : Point WriterAt) (x : WriterAt) (r : Reply) → t_writer ≡ At x
-      → ((b : ℕ) → (s.ecb b).state ≡ Waiting → ((owner_of c b ≡ scheduler) × SchedulerArms n initiators t_scheduler b)
-      ⊎ ((owner_of c b ≡ writer initiators) × WriterArms n t_writer b))
+  pub writer_foreseen : (x : WriterAt) (r : Reply) → t.writer ≡ At x
       → IsWriterAt n (At x) → IsTrue (admitted c s (writer initiators) (writer_asks x).0 (writer_asks x).1)
       → Some r ≡ reply_to s (writer initiators) (writer_asks x).0 (writer_asks x).1 → IsForeseen (writer_goes n x r)
-  writer_foreseen q w (Keeping j more ends (Arming e [])) r at armed sound adm ans =
-      arm_foreseen (writer_arming n j more ends []) (s.ecb e).state r (cc ans) (λ z. no_wait (armed e z))
+  writer_foreseen (Keeping j more ends (Arming e [])) r at sound adm ans =
+      arm_foreseen (writer_arming n j more ends []) (s.ecb e).state r (cc ans) (λ z. no_wait (arms.armed e z))
       (writer_block j e sound.1) tt where
-        no_wait : ((owner_of c e ≡ scheduler) × SchedulerArms n initiators q e)
-            ⊎ ((owner_of c e ≡ writer initiators) × WriterArms n w e) → ⊥
+        no_wait : ((owner_of c e ≡ scheduler) × SchedulerArms n initiators t.scheduler e)
+            ⊎ ((owner_of c e ≡ writer initiators) × WriterArms n t.writer e) → ⊥
         no_wait (inl u) = grind (arith, common_steps)
         no_wait (inr u) = (subst (λ z. WriterArms n z e) at u.1).1 (inl refl)
-  writer_foreseen q w (Keeping j more ends (Arming e (d ∷ todo))) r at armed sound adm ans = absurd (cc sound.2)
-  writer_foreseen q w (Keeping j more ends (Settling e [] found)) r at armed sound adm ans =
+  writer_foreseen (Keeping j more ends (Arming e (d ∷ todo))) r at sound adm ans = absurd (cc sound.2)
+  writer_foreseen (Keeping j more ends (Settling e [] found)) r at sound adm ans =
       settle_foreseen (λ slot. end_found n j more ends (found ++ slot ∷ [])) (s.ecb e).state r (cc ans) (writer_block j e sound.1)
       (λ slot. end_foreseen j more ends (found ++ slot ∷ []))
-  writer_foreseen q w (Keeping j more ends (Settling e (d ∷ todo) found)) r at armed sound adm ans = absurd (cc sound.2)
+  writer_foreseen (Keeping j more ends (Settling e (d ∷ todo) found)) r at sound adm ans = absurd (cc sound.2)
 
 -- ---- an initiator
 
@@ -190,8 +170,7 @@ foreseen_of p f = grind (arith, common_steps)
 start_found : (deck : List JobData) (skipped : Bool) (run : Running) (j : ℕ) → ArePlannedJobs 0 deck → j < length deck
     → IsForeseen (job_start skipped run (job_at deck j))
 start_found deck true run j sound lt = tt
-start_found deck false run j sound lt =
-    foreseen_of _ (steps_found run empty_hand (job_at deck j).steps tt (job_sound j 0 deck sound lt))
+start_found deck false run j sound lt = grind (arith, common_steps, foreseen_of, steps_found, job_sound)
 
 rounds_foreseen : (m : ℕ) (before : List ℕ) (g : ℕ) → 1 ≤ m → IsForeseen (rounds_from m before g)
 rounds_foreseen x before g le = grind (arith, common_steps)
@@ -199,15 +178,14 @@ rounds_foreseen x before g le = grind (arith, common_steps)
 -- a running job leaves a round for what follows
 pub round_left : (n : ℕ) (run : Running) → IsRunning n run → 1 ≤ run.more
 round_left n run r =
-    let lt : length run.before < n =
-    fewer n run.before run.job r.round.below r.round.distinct r.job (not_found run.before run.job r.new) in
-    let whole : length run.before + run.more ≡ n = r.round.count in omega arith
+    let lt = fewer n run.before run.job r.round.below r.round.distinct r.job (not_found run.before run.job r.new) in
+    let whole = r.round.count in omega arith
 
 after_foreseen : (n : ℕ) (run : Running) → IsRunning n run → IsForeseen (rounds_after run)
 after_foreseen n run r = rounds_foreseen run.more (run.before ++ run.job ∷ []) run.generation (round_left n run r)
 
 ended_foreseen : (run : Running) (code : ℕ) (counts : Counts) (v : EcbState) (r : Reply)
-    → r ≡ reply_of.Ecb (ecb_step (ecb_op.Post code) v).1 → IsForeseen (rounds_after run) → IsForeseen (on_ended run code counts r)
+    → r ≡ Reply.Ecb (ecb_step (EcbOp.Post code) v).1 → IsForeseen (rounds_after run) → IsForeseen (on_ended run code counts r)
 ended_foreseen run code counts y r e w = grind (arith, common_steps)
 
 -- where a given code is right, and names no job that was named before
@@ -233,52 +211,49 @@ module _ (deck : List JobData) (sound : ArePlannedJobs 0 deck) (small : length d
   given_foreseen code g (inr (j, lt, e)) new = grind (arith, common_steps, At, more, code_named, named_foreseen, left_for)
 
 module _ (deck : List JobData) (o h : Option ℕ) where
-  opened_foreseen : (y : ElementState) (r : Reply) → r ≡ reply_of.Element (element_step element_op.Open y).1 → Row Starts o h y
+  opened_foreseen : (y : ElementState) (r : Reply) → r ≡ Reply.Element (element_step ElementOp.Open y).1 → Row Starts o h y
       → IsForeseen (on_opened r (length deck))
   opened_foreseen y r e w = rw (e, w.2) (rounds_foreseen (length deck + 1) [] 0 (omega arith))
 
   paused_foreseen : (more : ℕ) (before : List ℕ) (g : ℕ) (y : ElementState) (r : Reply)
-      → r ≡ reply_of.Element (element_step (element_op.Pause g) y).1 → Row (Offers g) o h y
+      → r ≡ Reply.Element (element_step (ElementOp.Pause g) y).1 → Row (Offers g) o h y
       → ((code : ℕ) → code_held y ≡ Some code → IsForeseen (given_at deck more before code (g + 1)))
       → IsForeseen (on_paused deck more before g r)
   paused_foreseen more before g y r e x given = grind (arith, common_steps)
 
   resumed_foreseen : (more : ℕ) (before : List ℕ) (g : ℕ) (y : ElementState) (r : Reply)
-      → r ≡ reply_of.Element (element_step (element_op.Resume g) y).1 → Row (Parks g) o h y
+      → r ≡ Reply.Element (element_step (ElementOp.Resume g) y).1 → Row (Parks g) o h y
       → ((code : ℕ) → code_held y ≡ Some code → IsForeseen (given_at deck more before code (g + 1)))
       → IsForeseen (on_resumed deck more before r)
   resumed_foreseen more before g y r e x given = grind (arith, common_steps)
 
-  closed_foreseen : (g : ℕ) (y : ElementState) (r : Reply) → r ≡ reply_of.Element (element_step (element_op.Close g) y).1
+  closed_foreseen : (g : ℕ) (y : ElementState) (r : Reply) → r ≡ Reply.Element (element_step (ElementOp.Close g) y).1
       → Row (Works g) o h y → IsForeseen (on_closed r)
   closed_foreseen g y r e w = rw (e, w.2, eq-eqb g g refl) tt
 
-over_new : (place : ℕ → Place) (i j : ℕ) (before : List ℕ) → place j ≡ Handed i → AllByRecursion (λ k. place k ≡ Over) before
-    → AllByRecursion (λ k. k ≡ j → ⊥) before
-over_new place i j [] at w = tt
-over_new place i j (k ∷ before) at w = ((λ q. cc (at, sym (ap (λ z. place z) q) ∙ w.0)), over_new place i j before at w.1)
-
 module _ (deck : List JobData) (initiators : ℕ) (sound : ArePlannedJobs 0 deck) (small : length deck ≤ not_to_run) (s : System)
     (q : Point SchedulerAt) (i : ℕ) (lt : i < initiators)
-    (held : (i code : ℕ) → i < initiators → element_code s i ≡ Some code → IsCode deck code) (place : ℕ → Place)
-    (handed_there : (j : ℕ) (skipped : Bool) → j < length deck → element_code s i ≡ Some (code_of j skipped) → place j ≡ Handed i) where
+    (held : (i code : ℕ) → i < initiators → element_code s i ≡ Some code → IsCode deck code) where
   abbrev size : ℕ
   size = length deck
 
-  gift_foreseen : (more : ℕ) (before : List ℕ) (g : ℕ) → IsRound size more before → AllByRecursion (λ k. place k ≡ Over) before
+  -- the job that is named is another than these
+  abbrev IsNewTo : List ℕ → Type 0
+  IsNewTo before = (j : ℕ) (skipped : Bool) → j < size → element_code s i ≡ Some (code_of j skipped)
+      → AllByRecursion (λ k. k ≡ j → ⊥) before
+
+  gift_foreseen : (more : ℕ) (before : List ℕ) (g : ℕ) → IsRound size more before → IsNewTo before
       → (code : ℕ) → element_code s i ≡ Some code → IsForeseen (given_at deck more before code (g + 1))
-  gift_foreseen more before g round over code e =
+  gift_foreseen more before g round new code e =
       given_foreseen deck sound small before more round code (g + 1) (held i code lt e)
-      (λ j skipped less is. over_new place i j before (handed_there j skipped less (e ∙ ap (λ z. Some z) is)) over)
+      (λ j skipped less is. new j skipped less (e ∙ ap (λ z. Some z) is))
 
   pub initiator_foreseen : (x : InitiatorAt) (r : Reply) → IsOfRounds x → IsInitiatorAt deck (At x)
-      → AllByRecursion (λ k. place k ≡ Over) (named_before (At x)) → RowAt size s q i (At x)
+      → IsNewTo (jobs_of (At x)) → RowAt size s q i (At x)
       → Some r ≡ reply_to s (initiator i) (initiator_asks size i x).0 (initiator_asks size i x).1 → IsForeseen (initiator_goes deck x r)
   initiator_foreseen Opening r d st over w a = opened_foreseen deck _ _ (element_of s i) r (cc a) w
-  initiator_foreseen (Pausing more before g) r d st over w a =
-      paused_foreseen deck _ _ more before g (element_of s i) r (cc a) w (gift_foreseen more before g st over)
-  initiator_foreseen (Resuming more before g) r d st over w a =
-      resumed_foreseen deck _ _ more before g (element_of s i) r (cc a) w (gift_foreseen more before g st over)
+  initiator_foreseen (Pausing more before g) r d st over w a = grind (arith, common_steps, paused_foreseen, gift_foreseen)
+  initiator_foreseen (Resuming more before g) r d st over w a = grind (arith, common_steps, resumed_foreseen, gift_foreseen)
   initiator_foreseen (InJob run (EndingJob code counts)) r d st over w a =
       ended_foreseen run code counts (s.ecb (done size run.job)).state r (cc a) (after_foreseen size run st.round)
   initiator_foreseen (InJob run (EndingForWriter code counts)) r d st over w a =

@@ -1,30 +1,17 @@
 -- A block is waiting only while its owner has it armed in the wait that it is in; so an arm finds it plain or complete. Used
 -- where no reply is to lead astray.
-use Rattle.mv_plan.proofs.Words.{◌≡◌, ℕ, zero, suc, ◌+◌, ◌*◌, ◌<◌, ◌≤◌, ◌==◌, IsTrue, List, [], ◌∷◌, ◌++◌, length, map}
-use Rattle.mv_plan.proofs.Words.{◌⊎◌, inl, inr, refl, sym, ap, ◌∙◌, subst, arith, AllByRecursion, range_with_len}
-use Rattle.mv_plan.proofs.Words.{cases_eq, EcbOp, Entry, Object, Ecb, Op}
-use Rattle.mv_plan.proofs.Words.{Reply, IsNext, next, Setup, owner_of, System, opening, admitted, ecb_admitted, moved}
-use Rattle.mv_plan.proofs.Words.{JobData, After, AreDistinct, Kept, reader, scheduler, initiator, writer, end_for_writer, idle, ends_of}
+use Rattle.mv_plan.proofs.Words.{◌≡◌, ℕ, zero, suc, ◌+◌, ◌*◌, ◌<◌, ◌≤◌, ◌==◌, IsTrue, List, [], ◌∷◌, ◌++◌, length, map, ◌⊎◌, inl, inr, refl}
+use Rattle.mv_plan.proofs.Words.{subst, arith, AllByRecursion, range_with_len, cases_eq, EcbOp, Entry, Object, Ecb, Op, Reply, IsNext, next}
+use Rattle.mv_plan.proofs.Words.{Setup, owner_of, System, opening, admitted, ecb_admitted, moved, JobData, After, AreDistinct, Kept}
+use Rattle.mv_plan.proofs.Words.{scheduler, writer, end_for_writer, idle, ends_of, common_steps}
 use Rattle.mv_ecb.specs.Word.{Waiting}
-use Rattle.mv_ecb.specs.declared.operation.EcbOp.TheVariants as ecb_op
-use Rattle.mv_machine.specs.declared.entry.Op.TheVariants as op_on
-use Rattle.mv_plan.proofs.deck.Plans.{ArePlannedJobs}
-use Rattle.mv_plan.proofs.points.ReaderAndWriter.{IsWriterAt}
-use Rattle.mv_plan.proofs.points.PostsAndWaits.{on_armed_keeps}
-use Rattle.mv_plan.proofs.deck.Setup.{Facts}
-use Rattle.mv_plan.proofs.points.Points.{Point, At, Awaited, ForEntry, ForEnds, ForIdle, ToDismiss, WaitAt, Arming, Settling, ReaderAt}
-use Rattle.mv_plan.proofs.points.Points.{Entering, reader_asks, SchedulerAt, Waits, awaited_blocks, scheduler_asks, scheduler_goes}
-use Rattle.mv_plan.proofs.points.Points.{arming_from, on_armed, WriterAt, Keeping, writer_asks, writer_goes}
-use Rattle.mv_plan.proofs.points.Points.{initiator_asks}
-use Rattle.mv_plan.proofs.points.SchedulerSound.{IsAwaited, IsSchedulerAt, rest_below, rest_sound}
-use Rattle.mv_plan.proofs.walks.Stands.{Stand}
+use Rattle.mv_plan.proofs.deck.{ArePlannedJobs, Facts}
+use Rattle.mv_plan.proofs.points.{IsWriterAt, on_armed_keeps, Point, At, Awaited, WaitAt, Arming, Settling, SchedulerAt, Waits}
+use Rattle.mv_plan.proofs.points.{awaited_blocks, scheduler_asks, scheduler_goes, arming_from, on_armed, WriterAt, Keeping, writer_asks}
+use Rattle.mv_plan.proofs.points.{writer_goes, IsAwaited, IsSchedulerAt, rest_below, rest_sound, ends_distinct, idles_distinct, NoArm}
+use Rattle.mv_plan.proofs.points.{no_arm, IsNotLost}
 use Rattle.mv_plan.proofs.walks.NoneLost.{NoneLost}
-use Rattle.mv_plan.proofs.walks.Walks.{Points, Move}
-use Rattle.mv_plan.proofs.points.Scheduler.{ends_distinct, idles_distinct}
-use Rattle.mv_plan.proofs.walks.Moves.{Each, of_move}
-use Rattle.mv_plan.proofs.points.Asks.{NoArm, no_arm}
-use Rattle.mv_plan.proofs.points.Views.{IsNotLost}
-use Rattle.std.proofs.lemmas.Grind.{common_steps}
+use Rattle.mv_plan.proofs.walks.{Stand, Points, Move, Each, of_move}
 
 -- ---- blocks in lists
 
@@ -52,11 +39,7 @@ in_all x (first ∷ bs) b w i = grind (arith, common_steps, in_all x bs)
 
 pub awaited_distinct : (deck : List JobData) (initiators : ℕ) (a : Awaited) → ArePlannedJobs 0 deck → IsAwaited deck initiators a
     → AreDistinct (awaited_blocks (length deck) initiators a)
-awaited_distinct deck initiators (ForEntry j job jobs) sound s = (tt, tt)
-awaited_distinct deck initiators (ForEnds j job jobs) sound s =
-    ends_distinct (length deck) job.after (rest_sound deck j job jobs sound s).distinct
-awaited_distinct deck initiators (ForIdle j job jobs skipped) sound s = idles_distinct (length deck) 0 initiators
-awaited_distinct deck initiators (ToDismiss i more) sound s = (tt, tt)
+awaited_distinct deck initiators a sound s = grind (arith, common_steps, ends_distinct, rest_sound, idles_distinct)
 
 -- a block that is no done block
 abbrev pub IsNoDone : ℕ → ℕ → Type 0
@@ -72,10 +55,13 @@ idles_no_done n from (suc count) = (inr (omega arith), idles_no_done n (from + 1
 
 pub awaited_no_done : (deck : List JobData) (initiators : ℕ) (a : Awaited) → IsAwaited deck initiators a
     → AllByRecursion (IsNoDone (length deck)) (awaited_blocks (length deck) initiators a)
-awaited_no_done deck initiators (ForEntry j job jobs) s = (inl (rest_below deck j job jobs s), tt)
-awaited_no_done deck initiators (ForEnds j job jobs) s = ends_no_done (length deck) job.after
-awaited_no_done deck initiators (ForIdle j job jobs skipped) s = idles_no_done (length deck) 0 initiators
-awaited_no_done deck initiators (ToDismiss i more) s = (inr (omega arith), tt)
+awaited_no_done deck initiators a s = grind (arith, common_steps, rest_below, ends_no_done, idles_no_done)
+
+-- so not that which a wait arms or settles
+pub wait_no_done : (deck : List JobData) (initiators : ℕ) (a : Awaited) (past : List ℕ) (e : ℕ) (todo : List ℕ)
+    → IsAwaited deck initiators a → past ++ e ∷ todo ≡ awaited_blocks (length deck) initiators a → IsNoDone (length deck) e
+wait_no_done deck initiators a past e todo s is = in_all (IsNoDone (length deck)) (awaited_blocks (length deck) initiators a) e
+    (awaited_no_done deck initiators a s) (subst (λ l. In l e) is (in_middle past e todo))
 
 -- ---- what a wait has armed and not settled yet
 
@@ -115,7 +101,7 @@ found_armed p r f = on_armed_keeps (λ z. IsNotLost z → z ≡ p) p r (λ g. re
 
 -- an arm is made by the owner
 pub arm_owner : (c : Setup) (s : System) (k e : ℕ) (op : EcbOp) → (ecb_admitted c k e op ≡ (owner_of c e == k))
-    → IsTrue (admitted c s k (Ecb e) (op_on.Ecb op)) → owner_of c e ≡ k
+    → IsTrue (admitted c s k (Ecb e) (Op.Ecb op)) → owner_of c e ≡ k
 arm_owner c s k e op q adm = grind (arith, common_steps)
 
 module _ (c : Setup) (deck : List JobData) (initiators : ℕ) (facts : Facts c (length deck) initiators) (sound : ArePlannedJobs 0 deck)
@@ -135,23 +121,8 @@ module _ (c : Setup) (deck : List JobData) (initiators : ℕ) (facts : Facts c (
       → IsTrue (admitted c s scheduler (scheduler_asks n x).0 (scheduler_asks n x).1) → IsNotLost (scheduler_goes n initiators x r)
       → ArmedThen s (At x) w → ArmedThen (moved s scheduler (scheduler_asks n x).0 (scheduler_asks n x).1)
       (scheduler_goes n initiators x r) w
-  scheduled s (Waits a (Arming e todo)) r w st adm f armed b q =
-      subst (λ z. Arms z w b) (sym (found_armed (arming_from n initiators a todo) r f)) (go (cases_eq e b)) where
-        blocks : List ℕ
-        blocks = awaited_blocks n initiators a
-
-        rest : AreDistinct (e ∷ todo)
-        rest = distinct_rest st.1.0 (e ∷ todo) (subst (λ l. AreDistinct l) (sym st.1.1) (awaited_distinct deck initiators a sound st.0))
-
-        go : (e ≡ b) ⊎ (e ≡ b → ⊥) → Arms (arming_from n initiators a todo) w b
-        go (inl same) = inl (
-          ap (λ z. owner_of c z) (sym same) ∙ arm_owner c s scheduler e ecb_op.Arm refl adm,
-          arming_arms n initiators a todo b
-              (subst (λ l. In l b) st.1.1 (subst (λ z. In (st.1.0 ++ e ∷ todo) z) same (in_middle st.1.0 e todo)))
-              (λ i. not_in e todo rest.0 (subst (λ z. In todo z) (sym same) i)),
-        )
-        go (inr other) = grind (arith, common_steps)
-  scheduled s x r w st adm f armed b q = grind (arith, common_steps)
+  scheduled s x r w st adm f armed b q =
+      grind (arith, common_steps, found_armed, cases_eq, distinct_rest, awaited_distinct, arm_owner, arming_arms, in_middle, not_in)
 
   -- the writer
   written : (s : System) (x : WriterAt) (r : Reply) (y : Point SchedulerAt) → IsWriterAt n (At x)
@@ -163,28 +134,7 @@ module _ (c : Setup) (deck : List JobData) (initiators : ℕ) (facts : Facts c (
   ArmedBy s t e u = Stand deck initiators kept t → NoneLost initiators u → Armed c n initiators s t → Armed c n initiators (next s e) u
 
   each_armed : Each c deck initiators ArmedBy
-  each_armed = record {
-    of_reader = λ s t x p r at nx st f w.
-        record { armed = λ b q. w.armed b (still_waiting s reader (reader_asks x).0 (reader_asks x).1 b (reader_plain x) q) };
-    of_scheduler = λ s t x p r at nx st f w.
-        record {
-          armed = scheduled s x r t.writer
-              (subst (λ z. IsSchedulerAt deck initiators z) at st.at_scheduler.0) nx.admits f.at_scheduler
-              (subst (λ z. ArmedThen s z t.writer) at w.armed);
-        };
-    of_initiator = λ s t i x p r lt at nx st f w.
-        record {
-          armed = λ b q. w.armed b
-              (still_waiting s (initiator i) (initiator_asks n i x).0 (initiator_asks n i x).1 b (no_arm n i x) q);
-        };
-    of_writer = λ s t x p r at nx st f w.
-        record {
-          armed = written s x r t.scheduler (subst (λ z. IsWriterAt n z) at st.at_writer) nx.admits f.at_writer
-              (subst (λ z. ArmedThen s t.scheduler z) at w.armed);
-        };
-  } where
-    reader_plain : (x : ReaderAt) → NoArm (reader_asks x).1
-    reader_plain (Entering j more) = tt
+  each_armed = grind (arith, common_steps, still_waiting, scheduled, no_arm, written)
 
   pub armed_next : (s : System) (t u : Points) (e : Entry) → IsNext c s e → Move deck initiators t e u → Stand deck initiators kept t
       → NoneLost initiators u → Armed c n initiators s t → Armed c n initiators (next s e) u

@@ -1,19 +1,11 @@
 -- What the scheduler has found at blocks stands in them until it clears them; so the block of an initiator that it chose still
 -- has the generation that was found. Used by the rows.
-use Rattle.mv_plan.proofs.Words.{◌≡◌, ℕ, zero, suc, ◌+◌, List, [], ◌∷◌, ◌++◌, length, map, Option, Some, None}
-use Rattle.mv_plan.proofs.Words.{refl, sym, subst, arith, range_with_len, ecb_step, EcbState, Complete}
-use Rattle.mv_plan.proofs.Words.{Object, Ecb, Op, Reply, System, Cell, moved, reply_to, with_at, advanced}
-use Rattle.mv_plan.proofs.Words.{JobData, After, Step, scheduler, idle, code_of}
-use Rattle.mv_ecb.specs.declared.operation.EcbOp.TheVariants as ecb_op
-use Rattle.mv_machine.specs.declared.entry.Op.TheVariants as op_on
-use Rattle.mv_machine.specs.declared.entry.Reply.TheVariants as reply_of
-use Rattle.mv_plan.proofs.points.Points.{Point, At, TooSoon, Astray, Stage, Dispatching, Dismissing, Awaited, ForEntry, ForEnds, ForIdle}
-use Rattle.mv_plan.proofs.points.Points.{ToDismiss, WaitAt, Settling, SchedulerAt, Waits, Clears, awaited_blocks}
-use Rattle.mv_plan.proofs.points.Points.{scheduler_asks, scheduler_goes, on_settled}
-use Rattle.mv_plan.proofs.points.Points.{settling_from, found_at, ends_at, lowest_at}
-use Rattle.mv_plan.proofs.points.SchedulerSound.{IsWaitAt}
-use Rattle.mv_plan.proofs.points.Asks.{NoClear}
-use Rattle.std.proofs.lemmas.Grind.{common_steps}
+use Rattle.mv_plan.proofs.Words.{◌≡◌, ℕ, zero, suc, ◌+◌, List, [], ◌∷◌, ◌++◌, length, map, Option, Some, None, refl, sym, subst, arith}
+use Rattle.mv_plan.proofs.Words.{range_with_len, ecb_step, EcbState, Complete, Object, Ecb, Op, Reply, System, Cell, moved, reply_to}
+use Rattle.mv_plan.proofs.Words.{with_at, advanced, JobData, After, Step, scheduler, idle, code_of, EcbOp, common_steps}
+use Rattle.mv_plan.proofs.points.{Point, At, TooSoon, Astray, Stage, Dispatching, Dismissing, Awaited, ForEntry, ForEnds, ForIdle}
+use Rattle.mv_plan.proofs.points.{ToDismiss, WaitAt, Settling, SchedulerAt, Waits, Clears, awaited_blocks, scheduler_asks, scheduler_goes}
+use Rattle.mv_plan.proofs.points.{on_settled, settling_from, found_at, ends_at, lowest_at, IsWaitAt, NoClear, lowest_keeps}
 
 abbrev pub Blocks : Type 0
 Blocks = ℕ → Cell EcbState
@@ -53,29 +45,20 @@ slots_kept f g [] (slot ∷ found) stay w = w
 slots_kept f g (b ∷ bs) (slot ∷ found) stay w = (slot_kept f g b slot stay w.0, slots_kept f g bs found stay w.1)
 
 pub finds_kept : (n initiators : ℕ) (f g : Blocks) (p : Point SchedulerAt) → Stay f g → Finds n initiators f p → Finds n initiators g p
-finds_kept n initiators f g (At (Waits a (Settling e todo found))) stay w = slots_kept f g (awaited_blocks n initiators a) found stay w
-finds_kept n initiators f g (At (Clears i gen code after)) stay w = stay (idle n i) gen w
-finds_kept n initiators f g p stay w = tt
+finds_kept n initiators f g p stay w = grind (arith, common_steps, slots_kept)
 
 -- ---- one block more was settled
 
 slots_push : (f : Blocks) (past todo : List ℕ) (e : ℕ) (found : List (Option ℕ)) (slot : Option ℕ) → length past ≡ length found
     → Slots f (past ++ e ∷ todo) found → SlotIs (f e).state slot → Slots f (past ++ e ∷ todo) (found ++ slot ∷ [])
-slots_push f [] todo e [] slot l w x = (x, tt)
-slots_push f [] todo e (y ∷ found) slot l w x = absurd (cc l)
-slots_push f (b ∷ past) todo e [] slot l w x = absurd (cc l)
 slots_push f (b ∷ past) todo e (y ∷ found) slot l w x = (w.0, slots_push f past todo e found slot (omega arith) w.1 x)
+slots_push f past todo e found slot l w x = grind (arith, common_steps)
 
 -- ---- the points that follow a wait
 
 module _ (n initiators : ℕ) (f : Blocks) where
   abbrev Here : Point SchedulerAt → Type 0
   Here p = Finds n initiators f p
-
-  lowest_plain : (p : Point SchedulerAt) (k : ℕ) (found : List (Option ℕ)) → Here p → Here (lowest_at (λ i code. p) k found)
-  lowest_plain p k [] w = tt
-  lowest_plain p k (Some code ∷ found) w = w
-  lowest_plain p k (None ∷ found) w = lowest_plain p (k + 1) found w
 
   lowest_idle : (code : ℕ) (after : Stage) (k m : ℕ) (found : List (Option ℕ)) → Slots f (map (idle n) (range_with_len k m)) found
       → Here (lowest_at (λ i g. At (Clears i g code after)) k found)
@@ -96,7 +79,8 @@ module _ (n initiators : ℕ) (f : Blocks) where
   ends_here j name x steps jobs = grind (arith, common_steps)
 
   found_here : (a : Awaited) (found : List (Option ℕ)) → Slots f (awaited_blocks n initiators a) found → Here (found_at n a found)
-  found_here (ForEntry j job jobs) found w = lowest_plain (ends_at n j job jobs) 0 found (ends_here j job.name job.after job.steps jobs)
+  found_here (ForEntry j job jobs) found w =
+      lowest_keeps Here (λ i code. ends_at n j job jobs) 0 found (λ i code. ends_here j job.name job.after job.steps jobs) tt
   found_here (ForEnds j job jobs) found w = tt
   found_here (ForIdle j job jobs skipped) found w = lowest_idle (code_of j skipped) (Dispatching (j + 1) jobs) 0 initiators found w
   found_here (ToDismiss i more) found w = lowest_one 0 (Dismissing (i + 1) more) i 0 found w
@@ -112,8 +96,8 @@ module _ (n initiators : ℕ) (s : System) where
   then_s x = moved s scheduler (scheduler_asks n x).0 (scheduler_asks n x).1
 
   settled_slot : (e : ℕ) (r : Reply) (f : Option ℕ → Point SchedulerAt) (P : Point SchedulerAt → Type 0)
-      → r ≡ reply_of.Ecb (ecb_step ecb_op.Settle (s.ecb e).state).1
-      → ((slot : Option ℕ) → SlotIs (with_at s.ecb e (advanced (s.ecb e) (ecb_step ecb_op.Settle (s.ecb e).state).0) e).state slot
+      → r ≡ Reply.Ecb (ecb_step EcbOp.Settle (s.ecb e).state).1
+      → ((slot : Option ℕ) → SlotIs (with_at s.ecb e (advanced (s.ecb e) (ecb_step EcbOp.Settle (s.ecb e).state).0) e).state slot
       → P (f slot)) → P Astray → P (on_settled f r)
   settled_slot e r f x q each a = grind (arith, common_steps)
 
@@ -122,13 +106,12 @@ module _ (n initiators : ℕ) (s : System) where
       → Some r ≡ reply_to s scheduler (scheduler_asks n x).0 (scheduler_asks n x).1
       → Finds n initiators s.ecb (At x) → Finds n initiators (then_s x).ecb (scheduler_goes n initiators x r)
   finds_next (Waits a (Settling e todo found)) r sound q w =
-      let l : IsWaitAt (awaited_blocks n initiators a) (Settling e todo found) = sound a (Settling e todo found) refl in
-      settled_slot e r (λ slot. settling_from n a todo (found ++ slot ∷ []))
+      let l = sound a (Settling e todo found) refl in settled_slot e r (λ slot. settling_from n a todo (found ++ slot ∷ []))
       (λ p. Finds n initiators (then_s (Waits a (Settling e todo found))).ecb p) (cc q)
       (λ slot is. settling_here n initiators (then_s (Waits a (Settling e todo found))).ecb a todo (found ++ slot ∷ [])
       (subst (λ bs. Slots (then_s (Waits a (Settling e todo found))).ecb bs (found ++ slot ∷ [])) l.1
       (slots_push (then_s (Waits a (Settling e todo found))).ecb l.0 todo e found slot l.2
       (subst (λ bs. Slots (then_s (Waits a (Settling e todo found))).ecb bs found) (sym l.1)
       (slots_kept s.ecb (then_s (Waits a (Settling e todo found))).ecb (awaited_blocks n initiators a) found
-      (stay_moved s scheduler (Ecb e) (op_on.Ecb ecb_op.Settle) tt) w)) is))) tt
+      (stay_moved s scheduler (Ecb e) (Op.Ecb EcbOp.Settle) tt) w)) is))) tt
   finds_next x r sound q w = grind (arith, common_steps)

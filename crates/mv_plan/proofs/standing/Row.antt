@@ -1,22 +1,15 @@
 -- How an initiator, its block, its element and what the scheduler has of it fit together. An idle block's code is the
 -- generation with which its initiator goes on to pause; the scheduler releases only what it has cleared; and the element's
 -- generation is the point's. Used by all that looks at elements.
-use Rattle.mv_plan.proofs.Words.{◌≡◌, ℕ, suc, ◌+◌, ◌==◌, if◌then◌else◌, List, [], length, Option, Some, None}
-use Rattle.mv_plan.proofs.Words.{refl, sym, ap, arith, eq-eqb, EcbState, Complete, ElementState, free, reset, prereleased}
-use Rattle.mv_plan.proofs.Words.{element_step, Reply, System, moved, reply_to, with_at, advanced, JobData, job_at, initiator, idle}
+use Rattle.mv_plan.proofs.Words.{◌≡◌, ℕ, suc, ◌+◌, ◌==◌, if◌then◌else◌, List, [], length, Option, Some, None, refl, sym, ap, arith, eq-eqb}
+use Rattle.mv_plan.proofs.Words.{EcbState, Complete, ElementState, free, reset, prereleased, element_step, Reply, System, moved, reply_to}
+use Rattle.mv_plan.proofs.Words.{with_at, advanced, JobData, job_at, initiator, idle, ElementOp, Phase, common_steps}
 use Rattle.mv_element.specs.Element.{paused, released}
-use Rattle.mv_element.specs.declared.operation.ElementOp.TheVariants as element_op
-use Rattle.mv_element.specs.declared.element.Phase.TheVariants as phase
-use Rattle.mv_machine.specs.declared.entry.Reply.TheVariants as reply_of
-use Rattle.mv_plan.proofs.points.InitiatorSound.{IsInitiatorAt}
-use Rattle.mv_plan.proofs.points.Points.{Point, At, Finished, SchedulerAt, Releases, Running, InitiatorAt, Opening}
-use Rattle.mv_plan.proofs.points.Points.{Offering, Pausing, Resuming, Closing, initiator_asks, initiator_goes, rounds_from, given_at}
-use Rattle.mv_plan.proofs.points.Points.{running, on_opened, on_paused, on_resumed, on_closed, InJob}
-use Rattle.mv_plan.proofs.points.RunningJob.{RunsOn, start_run, GoesOn, run_goes, run_asks, run_sound}
-use Rattle.mv_plan.proofs.walks.NoneLost.{SameTalk, same_talk}
-use Rattle.mv_plan.proofs.points.Views.{run_of}
-use Rattle.mv_plan.proofs.points.Lands.{given_lands}
-use Rattle.std.proofs.lemmas.Grind.{common_steps}
+use Rattle.mv_plan.proofs.points.{IsInitiatorAt, Point, At, Finished, SchedulerAt, Releases, Running, InitiatorAt, Opening, Offering}
+use Rattle.mv_plan.proofs.points.{Pausing, Resuming, Closing, initiator_asks, initiator_goes, rounds_from, given_at, running, on_opened}
+use Rattle.mv_plan.proofs.points.{on_paused, on_resumed, on_closed, InJob, RunsOn, start_run, GoesOn, run_goes, run_asks, run_sound, run_of}
+use Rattle.mv_plan.proofs.points.{given_lands}
+use Rattle.mv_plan.proofs.walks.{same_talk}
 
 -- where an initiator stands, as far as its block and its element go
 pub data Stance : Type 0 where
@@ -59,7 +52,7 @@ Row Starts offer hold x = (offer ≡ None) × (hold ≡ None) × (x ≡ free 0)
 Row (Works g) offer hold x = (offer ≡ None) × (hold ≡ None) × (x ≡ reset g)
 Row (Offers g) offer hold x = Offer g (reset g) (λ code. prereleased g code) offer hold x
 Row (Parks g) offer hold x = Offer g (paused g) (λ code. released g code) offer hold x
-Row Ends offer hold x = (offer ≡ None) × (hold ≡ None) × (x.phase ≡ phase.Free)
+Row Ends offer hold x = (offer ≡ None) × (hold ≡ None) × (x.phase ≡ Phase.Free)
 Row Loses offer hold x = Unit {0}
 
 -- the generation that the scheduler holds of initiator i: it has cleared its block and is to release it
@@ -104,23 +97,23 @@ module _ (o h : Option ℕ) where
       (start_run named.skipped (running named before (suc left) g) (job_at deck named.job)) r)
 
   -- the element's events, by its state
-  opened_row : (n : ℕ) (y : ElementState) (r : Reply) → r ≡ reply_of.Element (element_step element_op.Open y).1 → Row Starts o h y
-      → Row (stance (on_opened r n)) o h (element_step element_op.Open y).0
+  opened_row : (n : ℕ) (y : ElementState) (r : Reply) → r ≡ Reply.Element (element_step ElementOp.Open y).1 → Row Starts o h y
+      → Row (stance (on_opened r n)) o h (element_step ElementOp.Open y).0
   opened_row n y r e w = rw (e, w.2) (rounds_row (n + 1) [] 0 (reset 0) (w.0, w.1, refl))
 
   paused_row : (deck : List JobData) (more : ℕ) (before : List ℕ) (g : ℕ) (y : ElementState) (r : Reply)
-      → r ≡ reply_of.Element (element_step (element_op.Pause g) y).1 → Row (Offers g) o h y
-      → Row (stance (on_paused deck more before g r)) o h (element_step (element_op.Pause g) y).0
+      → r ≡ Reply.Element (element_step (ElementOp.Pause g) y).1 → Row (Offers g) o h y
+      → Row (stance (on_paused deck more before g r)) o h (element_step (ElementOp.Pause g) y).0
   paused_row deck more before g y r e x = grind (arith, common_steps, eq-eqb, offered, taken, given_row)
 
   resumed_row : (deck : List JobData) (more : ℕ) (before : List ℕ) (g : ℕ) (y : ElementState) (r : Reply)
-      → r ≡ reply_of.Element (element_step (element_op.Resume g) y).1 → Row (Parks g) o h y
-      → Row (stance (on_resumed deck more before r)) o h (element_step (element_op.Resume g) y).0
+      → r ≡ Reply.Element (element_step (ElementOp.Resume g) y).1 → Row (Parks g) o h y
+      → Row (stance (on_resumed deck more before r)) o h (element_step (ElementOp.Resume g) y).0
   resumed_row deck more before g y r e x = grind (arith, common_steps, eq-eqb, given_row)
 
-  closed_row : (g : ℕ) (y : ElementState) (r : Reply) → r ≡ reply_of.Element (element_step (element_op.Close g) y).1
+  closed_row : (g : ℕ) (y : ElementState) (r : Reply) → r ≡ Reply.Element (element_step (ElementOp.Close g) y).1
       → Row (Works g) o h y
-      → Row (stance (on_closed r)) o h (element_step (element_op.Close g) y).0
+      → Row (stance (on_closed r)) o h (element_step (ElementOp.Close g) y).0
   closed_row g y r e w = rw (e, w.2, eq-eqb g g refl) (w.0, w.1, refl)
 
 module _ (deck : List JobData) (s : System) (q : Point SchedulerAt) (i : ℕ) where
@@ -141,9 +134,8 @@ module _ (deck : List JobData) (s : System) (q : Point SchedulerAt) (i : ℕ) wh
   runs_row : (x : InitiatorAt) (r : Reply) (run : Running) → run_of (At x) ≡ Some run → IsInitiatorAt deck (At x) → RowAt n s q i (At x)
       → RowAt n (then_s x) q i (initiator_goes deck x r)
   runs_row x r run e sound w =
-      let same : SameTalk n s (then_s x) =
-      same_talk n s (initiator i) (initiator_asks n i x).0 (initiator_asks n i x).1
-      (run_asks n i x run e (run_sound deck x run e sound).job) in
+      let same = same_talk n s (initiator i) (initiator_asks n i x).0 (initiator_asks n i x).1 (run_asks n i x run e (run_sound deck x run e
+      sound).job) in
       row_at _ _ (offer_of n s i) _ (hold_for i q) _ (element_of s i) _ refl (ap (λ z. code_in z.state) (same.idles i)) refl
       (ap (λ z. z.state) (same.elements (initiator i)))
       (goes_row _ _ (initiator_goes deck x r) run (element_of s i) (run_goes deck x r run e)

@@ -1,46 +1,34 @@
 -- All initiators' rows, with what the scheduler has found, are kept by each move.
-use Rattle.mv_plan.proofs.Words.{◌≡◌, ℕ, ◌<◌, List, length, Option, Some, None, ◌⊎◌, inl, inr}
-use Rattle.mv_plan.proofs.Words.{refl, sym, ap, ◌∙◌, subst, arith, cases_eq, eq-eqb}
-use Rattle.mv_plan.proofs.Words.{ElementState, free, reset, prereleased, element_step, Entry, Reply, IsNext, next, Setup}
-use Rattle.mv_plan.proofs.Words.{System, opening, moved, reply_to, with_at, JobData, Kept, reader, scheduler, initiator, writer}
-use Rattle.mv_plan.proofs.Words.{idle}
+use Rattle.mv_plan.proofs.Words.{◌≡◌, ℕ, ◌<◌, List, length, Option, Some, None, ◌⊎◌, inl, inr, refl, sym, ap, ◌∙◌, subst, arith, cases_eq}
+use Rattle.mv_plan.proofs.Words.{eq-eqb, ElementState, free, reset, prereleased, element_step, Entry, Reply, IsNext, next, Setup, System}
+use Rattle.mv_plan.proofs.Words.{opening, moved, reply_to, with_at, JobData, Kept, reader, scheduler, initiator, writer, idle, ElementOp}
+use Rattle.mv_plan.proofs.Words.{ElementReply, common_steps}
 use Rattle.mv_element.specs.Element.{paused, released}
-use Rattle.mv_element.specs.declared.operation.ElementOp.TheVariants as element_op
-use Rattle.mv_element.specs.declared.operation.ElementReply.TheVariants as element_reply
-use Rattle.mv_plan.proofs.points.ReaderAndWriter.{IsReaderAt, IsWriterAt}
-use Rattle.mv_plan.proofs.standing.Row.{Stance, Offers, Parks, Loses, stance, code_in, offered, taken, handed, Row, RowAt, hold_for}
-use Rattle.mv_plan.proofs.standing.Row.{offer_of, element_of, row_at, own_row, Apart, apart}
-use Rattle.mv_plan.proofs.points.InitiatorSound.{IsInitiatorAt}
-use Rattle.mv_plan.proofs.points.Points.{Point, At, Stage, Awaited, WaitAt}
-use Rattle.mv_plan.proofs.points.Points.{wait_asks, ReaderAt, Entering, reader_asks, reader_goes, SchedulerAt, Waits}
-use Rattle.mv_plan.proofs.points.Points.{Extends, Clears, Releases, awaited_blocks, scheduler_asks, scheduler_goes}
-use Rattle.mv_plan.proofs.points.Points.{WriterAt, writer_asks, writer_goes, InitiatorAt, initiator_asks, initiator_goes}
+use Rattle.mv_plan.proofs.points.{IsReaderAt, IsWriterAt, IsInitiatorAt, Point, At, Stage, Awaited, WaitAt, wait_asks, ReaderAt, Entering}
+use Rattle.mv_plan.proofs.points.{reader_asks, reader_goes, SchedulerAt, Waits, Clears, Releases, awaited_blocks, scheduler_asks}
+use Rattle.mv_plan.proofs.points.{scheduler_goes, WriterAt, writer_asks, writer_goes, InitiatorAt, initiator_asks, initiator_goes}
+use Rattle.mv_plan.proofs.points.{IsSchedulerAt, IsWaitAt, no_clear, writer_no_clear, NoClear, Elsewhere, AllNext, goes_next}
+use Rattle.mv_plan.proofs.standing.Row.{Stance, Offers, Parks, Loses, code_in, offered, taken, handed, Row, RowAt, hold_for, offer_of}
+use Rattle.mv_plan.proofs.standing.Row.{element_of, row_at, own_row, Apart, apart}
 use Rattle.mv_plan.proofs.standing.Finds.{Finds, stay_moved, finds_kept, finds_next}
-use Rattle.mv_plan.proofs.points.SchedulerSound.{IsSchedulerAt, IsWaitAt}
-use Rattle.mv_plan.proofs.walks.Stands.{Stand}
-use Rattle.mv_plan.proofs.walks.NoneLost.{SameTalk, same_talk}
-use Rattle.mv_plan.proofs.walks.Walks.{Points, start_points, Move}
-use Rattle.mv_plan.proofs.walks.Moves.{entry_of, Each, of_move}
-use Rattle.mv_plan.proofs.lists.Tables.{with_at-same, with_at-other, all_but}
-use Rattle.mv_plan.proofs.points.Asks.{no_clear, writer_no_clear, NoClear, Elsewhere}
-use Rattle.mv_plan.proofs.points.SchedulerNext.{AllNext, goes_next}
-use Rattle.std.proofs.lemmas.Grind.{common_steps}
+use Rattle.mv_plan.proofs.walks.{Stand, same_talk, Points, start_points, Move, entry_of, Each, of_move}
+use Rattle.mv_plan.proofs.lists.{with_at-same, with_at-other, all_but}
 
 -- ---- what the scheduler does to a row
 
 bare_early : (g m code : ℕ) (x : ElementState) → g ≡ m → x ≡ reset m
-    → ((element_step (element_op.Release g code) x).0 ≡ prereleased m code)
-    × ((element_step (element_op.Release g code) x).1 ≡ element_reply.Early)
+    → ((element_step (ElementOp.Release g code) x).0 ≡ prereleased m code)
+    × ((element_step (ElementOp.Release g code) x).1 ≡ ElementReply.Early)
 bare_early g m code x e q = rw (q, e, eq-eqb m m refl) (refl, refl)
 
 bare_woke : (g m code : ℕ) (x : ElementState) → g ≡ m → x ≡ paused m
-    → ((element_step (element_op.Release g code) x).0 ≡ released m code)
-    × ((element_step (element_op.Release g code) x).1 ≡ element_reply.Woke)
+    → ((element_step (ElementOp.Release g code) x).0 ≡ released m code)
+    × ((element_step (ElementOp.Release g code) x).1 ≡ ElementReply.Woke)
 bare_woke g m code x e q = rw (q, e, eq-eqb m m refl) (refl, refl)
 
 -- the release of what it holds: its code is in the element
 pub row_released : (st : Stance) (g code : ℕ) (o : Option ℕ) (x : ElementState) → Row st o (Some g) x
-    → Row st o None (element_step (element_op.Release g code) x).0
+    → Row st o None (element_step (ElementOp.Release g code) x).0
 row_released (Offers m) g code o x (offered a b q) = absurd (cc b)
 row_released (Offers m) g code o x (taken a b q) = let e : g ≡ m = cc b in handed code a refl (bare_early g m code x e q).0
 row_released (Offers m) g code o x (handed c a b q) = absurd (cc b)
@@ -103,10 +91,9 @@ module _ (deck : List JobData) (initiators : ℕ) (s : System) (m : ℕ) (st : S
   scheduled_row (Waits a v) r sound e f w =
       row_at _ _ _ _ None _ _ _ refl (wait_codes s scheduler (idle n m) v) (goes_no_hold n initiators (Waits a v) r tt m)
       (ap (λ z. z.state) (wait_elements s scheduler (initiator m) v)) w
-  scheduled_row (Extends j job jobs skipped) r sound e f w = grind (arith, common_steps)
-  scheduled_row (Clears i g code after) r sound e f w = grind (arith, common_steps)
   scheduled_row (Releases i g code after) r sound e f w =
       released_row i g code after _ (goes_no_hold n initiators (Releases i g code after) r tt) (cases_eq i m) w
+  scheduled_row x r sound e f w = grind (arith, common_steps)
 
 -- ---- all together
 
@@ -133,41 +120,34 @@ wait_sound deck initiators x sound a w e = (subst (λ y. IsSchedulerAt deck init
 scheduled_others : (n initiators : ℕ) (deck : List JobData) (s : System) (x : SchedulerAt) (m : ℕ) → n ≡ length deck
     → IsSchedulerAt deck initiators (At x) → ((i : ℕ) → i < initiators → m ≡ initiator i → ⊥)
     → (moved s scheduler (scheduler_asks n x).0 (scheduler_asks n x).1).element m ≡ s.element m
-scheduled_others n initiators deck s (Waits a w) m e sound d = wait_elements s scheduler m w
-scheduled_others n initiators deck s (Extends j job jobs skipped) m e sound d = refl
-scheduled_others n initiators deck s (Clears i g code after) m e sound d = refl
 scheduled_others n initiators deck s (Releases i g code after) m e sound d =
     with_at-other s.element (initiator i) m _ (λ z. d i sound.0 (sym z))
+scheduled_others n initiators deck s x m e sound d = grind (arith, common_steps, wait_elements)
 
 module _ (c : Setup) (deck : List JobData) (initiators : ℕ) (kept : ℕ → Kept) where
   abbrev Kept_by : System → Points → Entry → Points → Type 0
   Kept_by s t e u = Stand deck initiators kept t → Rows deck initiators s t → Rows deck initiators (next s e) u
 
   -- a task that touches no element and no initiator's block
-  quiet : (s : System) (t u : Points) (e : Entry) → u.scheduler ≡ t.scheduler → u.initiators ≡ t.initiators
-      → Elsewhere (length deck) e.object → NoClear e.op → Rows deck initiators s t → Rows deck initiators (next s e) u
-  quiet s t u e a b low clear w =
-      let same : SameTalk (length deck) s (next s e) = same_talk (length deck) s e.caller e.object e.op low in
-      record {
-        rows = λ i lt. subst (λ p. RowAt (length deck) (next s e) u.scheduler i (p i)) (sym b)
-            (subst (λ q. RowAt (length deck) (next s e) q i (t.initiators i)) (sym a)
-            (row_moved (length deck) s (next s e) t.scheduler i (t.initiators i) (same.idles i) (same.elements (initiator i))
-            (w.rows i lt)));
+  quiet : (s : System) (t : Points) (e : Entry) (p : Point ReaderAt) (q : Point WriterAt) → Elsewhere (length deck) e.object → NoClear e.op
+      → Rows deck initiators s t → Rows deck initiators (next s e) (record t { reader = p; writer = q })
+  quiet s t e p q low clear w =
+      let same = same_talk (length deck) s e.caller e.object e.op low in record {
+        rows = λ i lt. row_moved (length deck) s (next s e) t.scheduler i (t.initiators i) (same.idles i) (same.elements (initiator i))
+            (w.rows i lt);
         others = λ m d. ap (λ y. y.state) (same.elements m) ∙ w.others m d;
-        finds = subst (λ q. Finds (length deck) initiators (next s e).ecb q) (sym a)
-            (finds_kept (length deck) initiators s.ecb (next s e).ecb t.scheduler (stay_moved s e.caller e.object e.op clear) w.finds);
+        finds = finds_kept (length deck) initiators s.ecb (next s e).ecb t.scheduler (stay_moved s e.caller e.object e.op clear) w.finds;
       }
 
   each_kept : Each c deck initiators Kept_by
   each_kept = record {
-    of_reader = λ s t x p r at n st w. quiet s t (record t { reader = reader_goes x r }) (entry_of reader p (reader_asks x) r) refl refl
+    of_reader = λ s t x p r at n st w. quiet s t (entry_of reader p (reader_asks x) r) (reader_goes x r) t.writer
         (reader_low (length deck) x (subst (λ q. IsReaderAt (length deck) q) at st.at_reader)) (reader_clear x) w;
     of_scheduler = λ s t x p r at n st w. scheduled s t x p r at n
         (subst (λ q. IsSchedulerAt deck initiators q) at st.at_scheduler.0) w;
     of_initiator = λ s t i x p r lt at n st w. initiated s t i x p r lt at n
         (subst (λ q. IsInitiatorAt deck q) at (st.at_initiator i lt).0) w;
-    of_writer = λ s t x p r at n st w. quiet s t (record t { writer = writer_goes (length deck) x r })
-        (entry_of (writer initiators) p (writer_asks x) r) refl refl
+    of_writer = λ s t x p r at n st w. quiet s t (entry_of (writer initiators) p (writer_asks x) r) t.reader (writer_goes (length deck) x r)
         (writer_low (length deck) x (subst (λ q. IsWriterAt (length deck) q) at st.at_writer)) (writer_no_clear x) w;
   } where
     reader_clear : (x : ReaderAt) → NoClear (reader_asks x).1
@@ -177,14 +157,7 @@ module _ (c : Setup) (deck : List JobData) (initiators : ℕ) (kept : ℕ → Ke
         → IsNext c s (entry_of scheduler p (scheduler_asks (length deck) x) r) → IsSchedulerAt deck initiators (At x)
         → Rows deck initiators s t → Rows deck initiators (next s (entry_of scheduler p (scheduler_asks (length deck) x) r))
         (record t { scheduler = scheduler_goes (length deck) initiators x r })
-    scheduled s t x p r at n sound w = record {
-      rows = λ i lt. scheduled_row deck initiators s i (stance (t.initiators i)) x r sound n.reply
-          (subst (λ q. Finds (length deck) initiators s.ecb q) at w.finds)
-          (subst (λ q. RowAt (length deck) s q i (t.initiators i)) at (w.rows i lt));
-      others = λ m d. ap (λ y. y.state) (scheduled_others (length deck) initiators deck s x m refl sound d) ∙ w.others m d;
-      finds = finds_next (length deck) initiators s x r (wait_sound deck initiators x sound) n.reply
-          (subst (λ q. Finds (length deck) initiators s.ecb q) at w.finds);
-    }
+    scheduled s t x p r at n sound w = grind (arith, common_steps, scheduled_row, scheduled_others, finds_next, wait_sound)
 
     initiated : (s : System) (t : Points) (i : ℕ) (x : InitiatorAt) (p : ℕ) (r : Reply) → i < initiators → t.initiators i ≡ At x
         → IsNext c s (entry_of (initiator i) p (initiator_asks (length deck) i x) r) → IsInitiatorAt deck (At x)

@@ -1,22 +1,14 @@
 -- What the jobs that are run have still to add to a volume, and how an initiator's event pays it.
-use Rattle.mv_plan.proofs.Words.{◌≡◌, ℕ, suc, ◌+◌, Bool, true, false, List, [], ◌∷◌, length, refl, sym, ap}
-use Rattle.mv_plan.proofs.Words.{◌∙◌, arith, Reply, Setup, System, with_at, advanced, gift_code, JobData}
-use Rattle.mv_plan.proofs.Words.{Step, Count, job_at, before_end, added, IsNext, initiator}
-use Rattle.mv_element.specs.declared.operation.ElementReply.TheVariants as element_reply
-use Rattle.mv_latch.specs.declared.operation.LatchReply.TheVariants as latch_reply
-use Rattle.mv_machine.specs.declared.entry.Reply.TheVariants as reply_of
-use Rattle.mv_machine.specs.declared.entry.VolumeReply.TheVariants as volume_reply
+use Rattle.mv_plan.proofs.Words.{◌≡◌, ℕ, suc, ◌+◌, Bool, true, false, List, [], ◌∷◌, length, refl, sym, ap, ◌∙◌, arith, Reply, Setup}
+use Rattle.mv_plan.proofs.Words.{System, with_at, advanced, gift_code, JobData, Step, Count, job_at, before_end, added, IsNext, initiator}
+use Rattle.mv_plan.proofs.Words.{ElementReply, LatchReply, VolumeReply, common_steps}
+use Rattle.mv_machine.proofs.EntryRuns.{entry_of}
 use Rattle.mv_plan.proofs.volumes.Added.{added_by}
 use Rattle.mv_plan.proofs.volumes.GivenCodes.{with_code, adds_if, adds_named, adds, adds_all, adds_high}
-use Rattle.mv_plan.proofs.points.Points.{Point, At, Running, Hand, empty_hand, InitiatorAt, Pausing, Resuming}
-use Rattle.mv_plan.proofs.points.Points.{Obtaining, Confirming, Freeing, Reading, Writing, Scanning, Rescanning, Purging}
-use Rattle.mv_plan.proofs.points.Points.{Closing, initiator_goes, steps_at}
-use Rattle.mv_plan.proofs.points.Points.{running, job_start, given_at, initiator_asks, InJob}
+use Rattle.mv_plan.proofs.points.{Point, At, Running, Hand, empty_hand, InitiatorAt, Pausing, Resuming, Obtaining, Confirming, Freeing}
+use Rattle.mv_plan.proofs.points.{Reading, Writing, Scanning, Rescanning, initiator_goes, steps_at, running, job_start, given_at}
+use Rattle.mv_plan.proofs.points.{initiator_asks, InJob, IsNotLost, given_lands}
 use Rattle.mv_plan.proofs.volumes.Values.{ValueAt, read_keeps, volumes_asked}
-use Rattle.mv_plan.proofs.points.Views.{IsNotLost}
-use Rattle.mv_machine.proofs.EntryRuns.{entry_of}
-use Rattle.mv_plan.proofs.points.Lands.{given_lands}
-use Rattle.std.proofs.lemmas.Grind.{common_steps}
 
 -- ---- what is still to be added
 
@@ -65,18 +57,6 @@ module _ (c : Setup) (s : System) (deck : List JobData) (i v : ℕ) where
   DueNext x r = (volumes_asked c s deck i x v).state + due v (initiator_goes deck x r) ≡ (s.volume v).state + due v
       (At x) + gift_adds deck v r
 
-  plain_due : (N d : ℕ) → N + d ≡ N + d + 0
-  plain_due N d = omega arith
-
-  gift_due : (N d a : ℕ) → d ≡ a → N + d ≡ N + 0 + (a + 0)
-  gift_due N d a e = omega arith
-
-  same_due : (N d a : ℕ) → d ≡ a → N + d ≡ N + a + 0
-  same_due N d a e = omega arith
-
-  read_due : (M N d a : ℕ) → M ≡ N → d ≡ a → M + d ≡ N + a + 0
-  read_due M N d a e f = omega arith
-
   write_due : (volume amount number d a : ℕ) → (s.volume volume).state ≡ number → d ≡ a
       → (with_at s.volume volume (advanced (s.volume volume) (number + amount)) v).state + d ≡ (s.volume v).state +
       (added v (Count volume amount) + a) + 0
@@ -84,21 +64,18 @@ module _ (c : Setup) (s : System) (deck : List JobData) (i v : ℕ) where
 
   pub own_due : (x : InitiatorAt) (p : ℕ) (r : Reply) → NextAt c s deck i x p r → ValueAt s.volume (At x)
       → IsNotLost (initiator_goes deck x r) → DueNext x r
-  own_due (Pausing more before g) p (reply_of.Element (element_reply.Given code now)) h a n =
-      gift_due (s.volume v).state _ (adds deck v code) (due_given v deck more before code now n)
-  own_due (Pausing more before g) p (reply_of.Element element_reply.Parked) h a n = plain_due (s.volume v).state 0
-  own_due (Resuming more before g) p (reply_of.Element (element_reply.Given code now)) h a n =
-      gift_due (s.volume v).state _ (adds deck v code) (due_given v deck more before code now n)
-  own_due (InJob run (Obtaining hand latch mode steps)) p (reply_of.Latch (latch_reply.Granted id)) h a n =
-      same_due (s.volume v).state _ (added_by v (before_end steps)) (due_steps v run _ steps n)
-  own_due (InJob run (Confirming hand latch mode id steps)) p (reply_of.Latch (latch_reply.Granted same)) h a n =
-      same_due (s.volume v).state _ (added_by v (before_end steps)) (due_steps v run _ steps n)
-  own_due (InJob run (Freeing hand latch id steps)) p (reply_of.Latch (latch_reply.Released count)) h a n =
-      same_due (s.volume v).state _ (added_by v (before_end steps)) (due_steps v run _ steps n)
-  own_due (InJob run (Writing hand volume amount number steps)) p (reply_of.Volume volume_reply.Stored) h a n =
+  own_due (Pausing more before g) p (Reply.Element (ElementReply.Given code now)) h a n =
+      let f = due_given v deck more before code now n in omega arith
+  own_due (Resuming more before g) p (Reply.Element (ElementReply.Given code now)) h a n =
+      let f = due_given v deck more before code now n in omega arith
+  own_due (InJob run (Obtaining hand latch mode steps)) p (Reply.Latch (LatchReply.Granted id)) h a n =
+      let f = due_steps v run _ steps n in omega arith
+  own_due (InJob run (Confirming hand latch mode id steps)) p (Reply.Latch (LatchReply.Granted same)) h a n =
+      let f = due_steps v run _ steps n in omega arith
+  own_due (InJob run (Freeing hand latch id steps)) p (Reply.Latch (LatchReply.Released count)) h a n =
+      let f = due_steps v run _ steps n in omega arith
+  own_due (InJob run (Writing hand volume amount number steps)) p (Reply.Volume VolumeReply.Stored) h a n =
       write_due volume amount number _ (added_by v (before_end steps)) a (due_steps v run hand steps n)
-  own_due (InJob run (Rescanning hand volume number steps)) p (reply_of.Volume (volume_reply.Value again)) h a n =
-      read_due _ (s.volume v).state _ (added_by v (before_end steps)) (read_keeps s.volume volume v) (due_steps v run hand steps n)
-  own_due (InJob run (Purging hand code)) p (reply_of.Latch (latch_reply.Purged removed count)) h a n = plain_due (s.volume v).state 0
-  own_due (Closing g) p (reply_of.Element element_reply.Closed) h a n = plain_due (s.volume v).state 0
+  own_due (InJob run (Rescanning hand volume number steps)) p (Reply.Volume (VolumeReply.Value again)) h a n =
+      let e = read_keeps s.volume volume v in let f = due_steps v run hand steps n in omega arith
   own_due x p r h a n = grind (arith, common_steps)

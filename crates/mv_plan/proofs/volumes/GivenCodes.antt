@@ -1,10 +1,9 @@
 -- The codes that pauses are given in a history, and what the jobs that they name add to a volume.
-use Rattle.mv_plan.proofs.Words.{◌≡◌, ℕ, suc, ◌+◌, ◌-◌, ◌<◌, ◌≤◌, ◌==◌, nat_le, Bool, true, false, ◌&&◌, if◌then◌else◌, List, [], ◌∷◌, ◌++◌}
-use Rattle.mv_plan.proofs.Words.{length, Option, Some, None, refl, sym, ap, ◌∙◌, arith, eq-eqb, leb-true}
-use Rattle.mv_plan.proofs.Words.{and_parts, Entry, gift_code, JobData, job_at, before_end, Named, job_named}
+use Rattle.mv_plan.proofs.Words.{◌≡◌, ℕ, suc, ◌+◌, ◌-◌, ◌<◌, ◌≤◌, nat_le, Bool, true, false, ◌&&◌, if◌then◌else◌, List, [], ◌∷◌, ◌++◌}
+use Rattle.mv_plan.proofs.Words.{length, Option, Some, None, refl, sym, ap, ◌∙◌, arith, eq-eqb, leb-true, and_parts, Entry, gift_code}
+use Rattle.mv_plan.proofs.Words.{JobData, job_at, before_end, Named, job_named, common_steps}
 use Rattle.mv_plan.proofs.volumes.Added.{added_by}
-use Rattle.mv_plan.proofs.volumes.Sums.{sum_to, sum_zero, sum_change, times}
-use Rattle.std.proofs.lemmas.Grind.{common_steps}
+use Rattle.mv_plan.proofs.lists.{sum_to, sum_zero, sum_change, times, count_of}
 
 -- ---- codes
 
@@ -20,11 +19,6 @@ codes_of (e ∷ es) = with_code (gift_code e.reply) (codes_of es)
 pub codes-push : (xs : List Entry) (e : Entry) → codes_of (xs ++ e ∷ []) ≡ codes_of xs ++ with_code (gift_code e.reply) []
 codes-push [] e = refl
 codes-push (x ∷ xs) e = grind (arith, common_steps, codes-push xs e)
-
--- how often a number is in a list
-abbrev pub count_of : ℕ → List ℕ → ℕ
-count_of n [] = 0
-count_of n (m ∷ ms) = if m == n then suc (count_of n ms) else count_of n ms
 
 -- ---- what is added
 
@@ -74,21 +68,18 @@ adds_by_jobs deck v (code ∷ codes) = go (nat_le 1 code && nat_le code (length 
 
   here : (j : ℕ) → code ≡ j + 1 → j < length deck → sum_to (length deck) g ≡ full deck v j + sum_to (length deck) f
   here j e lt =
-      let a : sum_to (length deck) g + f j ≡ sum_to (length deck) f + g j =
-      sum_change (length deck) j f g lt (λ m d. other m (λ q. d (let z : j + 1 ≡ m + 1 = sym e ∙ q in omega arith))) in
-      let b : g j ≡ full deck v j + f j =
-      ap (λ b. times (if b then suc (count_of (j + 1) codes) else count_of (j + 1) codes) (full deck v j))
+      let a = sum_change (length deck) j f g lt (λ m d. other m (λ q. d (let z = sym e ∙ q in omega arith))) in
+      let b = ap (λ b. times (if b then suc (count_of (j + 1) codes) else count_of (j + 1) codes) (full deck v j))
       (eq-eqb code (j + 1) e) in
       omega arith
 
   go : (b : Bool) → (nat_le 1 code && nat_le code (length deck)) ≡ b → adds_all deck v codes ≡ sum_to (length deck) f
       → adds deck v code + adds_all deck v codes ≡ sum_to (length deck) g
   go true e rest =
-      let parts : (nat_le 1 code ≡ true) × (nat_le code (length deck) ≡ true) =
-      and_parts (nat_le 1 code) (nat_le code (length deck)) e in
-      let low : 1 ≤ code = leb-true 1 code parts.0 in
-      let high : code ≤ length deck = leb-true code (length deck) parts.1 in
-      let is : sum_to (length deck) g ≡ full deck v (code - 1) + sum_to (length deck) f = here (code - 1) (omega arith) (omega arith) in
-      let added_now : adds deck v code ≡ full deck v (code - 1) = adds_low deck v code low high in
+      let parts = and_parts (nat_le 1 code) (nat_le code (length deck)) e in
+      let low = leb-true 1 code parts.0 in
+      let high = leb-true code (length deck) parts.1 in
+      let is = here (code - 1) (omega arith) (omega arith) in
+      let added_now = adds_low deck v code low high in
       omega arith
   go false e rest = grind (arith, common_steps)

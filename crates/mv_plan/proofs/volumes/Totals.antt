@@ -1,16 +1,12 @@
 -- The sum of what the named jobs add is the deck's total, where each job was named once and as its end says.
-use Rattle.mv_plan.proofs.Words.{◌≡◌, ℕ, suc, ◌+◌, ◌<◌, ◌≤◌, ◌==◌, Bool, true, false, if◌then◌else◌, List, [], ◌∷◌, length}
-use Rattle.mv_plan.proofs.Words.{slice_index, refl, sym, ap, ◌∙◌, arith, eq-eqb, ne_eqb}
-use Rattle.mv_plan.proofs.Words.{Entry, given_codes, JobData, sum_by-cons, Step, job_at, end_of, not_run}
-use Rattle.mv_plan.proofs.Words.{before_end, ends, total, code_of, one_end_per_job}
-use Rattle.std.proofs.Common.{sum_by}
+use Rattle.mv_plan.proofs.Words.{◌≡◌, ℕ, suc, ◌+◌, ◌<◌, ◌≤◌, ◌==◌, Bool, true, false, if◌then◌else◌, List, [], ◌∷◌, length, slice_index}
+use Rattle.mv_plan.proofs.Words.{refl, sym, ap, ◌∙◌, arith, eq-eqb, ne_eqb, Entry, given_codes, JobData, sum_by-cons, Step, job_at, end_of}
+use Rattle.mv_plan.proofs.Words.{not_run, before_end, ends, total, code_of, one_end_per_job, sum_by, rules, common_steps}
 use Rattle.mv_report.specs.Outcome.{steps_with, all_steps_with}
-use Rattle.mv_plan.proofs.volumes.Added.{added_by, added_by_is}
 use Rattle.mv_report.specs.Outcome as outcome
-use Rattle.mv_plan.proofs.volumes.GivenCodes.{codes_of, count_of, full, adds_all, adds_by_jobs}
-use Rattle.mv_plan.proofs.volumes.Sums.{sum_to, sum_ext, sum_front, times}
-use Rattle.std.proofs.lemmas.Grind.{common_steps}
-use Rattle.std.proofs.Common.{rules}
+use Rattle.mv_plan.proofs.volumes.Added.{added_by, added_by_is}
+use Rattle.mv_plan.proofs.volumes.GivenCodes.{codes_of, full, adds_all, adds_by_jobs}
+use Rattle.mv_plan.proofs.lists.{sum_to, sum_ext, sum_front, times, count_of}
 
 -- ---- all codes, and those that name one job
 

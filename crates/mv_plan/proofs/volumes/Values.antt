@@ -1,31 +1,18 @@
 -- What volumes hold between the two events of a COUNT or SCAN: the number that was read.
-use Rattle.mv_plan.proofs.Words.{◌≡◌, ℕ, zero, suc, ◌+◌, ◌<◌, Bool, true, false, List, [], ◌∷◌, length, Option, Some, refl, sym}
-use Rattle.mv_plan.proofs.Words.{ap, ◌∙◌, subst, cases_eq, Entry, Object, Volume, Op, Reply, IsNext, next, Setup}
-use Rattle.mv_plan.proofs.Words.{Cell, System, moved, with_at, advanced, JobData, Step, Print, job_at, initiator}
-use Rattle.mv_deck.specs.declared.deck.Step.TheVariants.{Free}
-use Rattle.mv_element.specs.declared.operation.ElementReply.TheVariants as element_reply
-use Rattle.mv_latch.specs.declared.operation.LatchReply.TheVariants as latch_reply
-use Rattle.mv_machine.specs.declared.entry.Op.TheVariants as op_on
-use Rattle.mv_machine.specs.declared.entry.Reply.TheVariants as reply_of
-use Rattle.mv_machine.specs.declared.entry.VolumeOp.TheVariants as volume_op
-use Rattle.mv_machine.specs.declared.entry.VolumeReply.TheVariants as volume_reply
+use Rattle.mv_plan.proofs.Words.{inl, inr, ◌≡◌, ℕ, zero, suc, ◌+◌, ◌<◌, Bool, true, false, List, [], ◌∷◌, length, Some, refl, sym, ap, ◌∙◌}
+use Rattle.mv_plan.proofs.Words.{subst, cases_eq, Entry, Object, Volume, Op, Reply, IsNext, next, Setup, Cell, System, moved, with_at}
+use Rattle.mv_plan.proofs.Words.{advanced, JobData, Step, Print, job_at, initiator, Free, ElementReply, LatchReply, VolumeOp, VolumeReply}
+use Rattle.mv_plan.proofs.Words.{rules}
 use Rattle.mv_machine.proofs.EntryRuns.{entry_of}
-use Rattle.mv_plan.proofs.latches.Exclusion.{touched, counted_on, excludes}
-use Rattle.mv_plan.proofs.latches.HandMoves.{at_entry}
+use Rattle.mv_plan.proofs.latches.{touched, counted_on, excludes}
 use Rattle.mv_plan.proofs.latches.Hands.{Hands}
-use Rattle.mv_plan.proofs.points.InitiatorSound.{IsInitiatorAt}
-use Rattle.mv_plan.proofs.points.PostsAndWaits.{on_posted_keeps}
-use Rattle.mv_plan.proofs.points.Points.{Point, At, Running, Hand, empty_hand, InitiatorAt, Opening, Offering, Pausing, Resuming, Obtaining}
-use Rattle.mv_plan.proofs.points.Points.{Confirming, Freeing, Reading, Writing, Scanning, Rescanning, Purging, EndingJob}
-use Rattle.mv_plan.proofs.points.Points.{EndingForScheduler, EndingForWriter, Closing, initiator_asks, initiator_goes, rounds_from}
-use Rattle.mv_plan.proofs.points.Points.{rounds_after, steps_at, running, job_start, given_at, reader_asks, scheduler_asks, writer_asks}
-use Rattle.mv_plan.proofs.points.Points.{InJob}
-use Rattle.mv_plan.proofs.walks.Walks.{Points, Move, reads, schedules, initiates, writes}
-use Rattle.mv_plan.proofs.lists.Tables.{with_at-same, with_at-other, all_but}
-use Rattle.mv_plan.proofs.points.Asks.{IsSignal, reader_signals, scheduler_signals, writer_signals}
-use Rattle.mv_plan.proofs.points.Lands.{freeing_lands, given_lands, counting_lands, ended_lands}
-use Rattle.std.proofs.Common.{rules}
-use Rattle.std.proofs.Common.{rules}
+use Rattle.mv_plan.proofs.points.{IsInitiatorAt, on_posted_keeps, Point, At, Running, Hand, empty_hand, InitiatorAt, Opening, Offering}
+use Rattle.mv_plan.proofs.points.{Pausing, Resuming, Obtaining, Confirming, Freeing, Reading, Writing, Scanning, Rescanning, Purging}
+use Rattle.mv_plan.proofs.points.{EndingJob, EndingForScheduler, EndingForWriter, Closing, initiator_asks, initiator_goes, rounds_from}
+use Rattle.mv_plan.proofs.points.{rounds_after, steps_at, running, job_start, given_at, InJob, IsSignal, freeing_lands, given_lands}
+use Rattle.mv_plan.proofs.points.{counting_lands, ended_lands}
+use Rattle.mv_plan.proofs.walks.{who_moved, mover_asked, Points, Move}
+use Rattle.mv_plan.proofs.lists.{with_at-same, with_at-other, all_but}
 
 -- ---- events elsewhere
 
@@ -46,11 +33,10 @@ write_other f v w number n = ap (λ z. z.state) (with_at-other f v w (advanced (
 
 -- the reply to a read is the number
 pub value_is : (c : Setup) (s : System) (k v p number : ℕ)
-    → IsNext c s (entry_of k (Volume v) p (op_on.Volume volume_op.Read) (reply_of.Volume (volume_reply.Value number)))
+    → IsNext c s (entry_of k (Volume v) p (Op.Volume VolumeOp.Read) (Reply.Volume (VolumeReply.Value number)))
     → (s.volume v).state ≡ number
 value_is c s k v p number h =
-    let e : ◌≡◌ {A = Option Reply} (Some (reply_of.Volume (volume_reply.Value number)))
-    (Some (reply_of.Volume (volume_reply.Value (s.volume v).state))) = h.reply in sym (cc e)
+    let e = h.reply in sym (cc e)
 
 -- ---- the number that was read is still there
 
@@ -77,66 +63,54 @@ value_write f v new p n w = tt
 
 -- ---- who leads to such a point
 
-abbrev pub IsPlain : Point InitiatorAt → Type 0
-IsPlain (At (InJob run (Writing hand volume amount number steps))) = ⊥
-IsPlain (At (InJob run (Rescanning hand volume number steps))) = ⊥
-IsPlain p = Unit {0}
-
-plain_rounds : (m : ℕ) (before : List ℕ) (g : ℕ) → IsPlain (rounds_from m before g)
-plain_rounds zero before g = tt
-plain_rounds (suc m) before g = tt
-
-plain_steps : (run : Running) (hand : Hand) (steps : List Step) → IsPlain (steps_at run hand steps)
-plain_steps run hand (Print text ∷ steps) = plain_steps run hand steps
-plain_steps run hand (Free latch ∷ steps) = freeing_lands IsPlain tt run hand latch (hand.requests latch) steps (λ id e. tt)
-plain_steps run hand steps = tt
-
-plain_start : (run : Running) (job : JobData) (skipped : Bool) → IsPlain (job_start skipped run job)
-plain_start run job true = tt
-plain_start run job false = plain_steps run empty_hand job.steps
-
-plain_given : (deck : List JobData) (more : ℕ) (before : List ℕ) (code g : ℕ) → IsPlain (given_at deck more before code g)
-plain_given deck more before code g = given_lands IsPlain tt deck more before code g (λ z. tt)
-    (λ named left e t m. plain_start (running named before (suc left) g) (job_at deck named.job) named.skipped)
-
 -- the write of a COUNT stands behind its read, and the second read of a SCAN behind its first
 abbrev pub LeadsTo : InitiatorAt → Reply → Point InitiatorAt → Type 0
 LeadsTo x r (At (InJob run (Writing hand volume amount number steps))) =
-    (x ≡ InJob run (Reading hand volume amount steps)) × (r ≡ reply_of.Volume (volume_reply.Value number))
+    (x ≡ InJob run (Reading hand volume amount steps)) × (r ≡ Reply.Volume (VolumeReply.Value number))
 LeadsTo x r (At (InJob run (Rescanning hand volume number steps))) =
-    (x ≡ InJob run (Scanning hand volume steps)) × (r ≡ reply_of.Volume (volume_reply.Value number))
+    (x ≡ InJob run (Scanning hand volume steps)) × (r ≡ Reply.Volume (VolumeReply.Value number))
 LeadsTo x r p = Unit {0}
 
-plain : (x : InitiatorAt) (r : Reply) (p : Point InitiatorAt) → IsPlain p → LeadsTo x r p
-plain x r p w = search rules
+-- no other point leads there
+module _ (x : InitiatorAt) (r : Reply) where
+  rounds_lead : (m : ℕ) (before : List ℕ) (g : ℕ) → LeadsTo x r (rounds_from m before g)
+  rounds_lead zero before g = tt
+  rounds_lead (suc m) before g = tt
+
+  steps_lead : (run : Running) (hand : Hand) (steps : List Step) → LeadsTo x r (steps_at run hand steps)
+  steps_lead run hand (Print text ∷ steps) = steps_lead run hand steps
+  steps_lead run hand (Free latch ∷ steps) = freeing_lands (LeadsTo x r) tt run hand latch (hand.requests latch) steps (λ id e. tt)
+  steps_lead run hand steps = tt
+
+  start_lead : (run : Running) (job : JobData) (skipped : Bool) → LeadsTo x r (job_start skipped run job)
+  start_lead run job true = tt
+  start_lead run job false = steps_lead run empty_hand job.steps
+
+  given_lead : (deck : List JobData) (more : ℕ) (before : List ℕ) (code g : ℕ) → LeadsTo x r (given_at deck more before code g)
+  given_lead deck more before code g = given_lands (LeadsTo x r) tt deck more before code g (λ z. tt)
+      (λ named left e t m. start_lead (running named before (suc left) g) (job_at deck named.job) named.skipped)
 
 pub leads : (deck : List JobData) (x : InitiatorAt) (r : Reply) → LeadsTo x r (initiator_goes deck x r)
-leads deck Opening (reply_of.Element (element_reply.Opened g)) = plain _ _ _ (plain_rounds (length deck + 1) [] g)
+leads deck Opening (Reply.Element (ElementReply.Opened g)) = rounds_lead _ _ (length deck + 1) [] g
 leads deck (Offering more before g) r = on_posted_keeps (LeadsTo (Offering more before g) r) (At (Pausing more before g)) r tt tt
-leads deck (Pausing more before g) (reply_of.Element (element_reply.Given code now)) =
-    plain _ _ _ (plain_given deck more before code now)
-leads deck (Resuming more before g) (reply_of.Element (element_reply.Given code now)) =
-    plain _ _ _ (plain_given deck more before code now)
-leads deck (InJob run (Obtaining hand latch mode steps)) (reply_of.Latch (latch_reply.Granted id)) = plain _ _ _ (plain_steps run _ steps)
-leads deck (InJob run (Confirming hand latch mode id steps)) (reply_of.Latch (latch_reply.Granted same)) =
-    plain _ _ _ (plain_steps run _ steps)
-leads deck (InJob run (Freeing hand latch id steps)) (reply_of.Latch (latch_reply.Released count)) = plain _ _ _ (plain_steps run _ steps)
-leads deck (InJob run (Reading hand volume amount steps)) (reply_of.Volume (volume_reply.Value number)) = search (rules, counting_lands)
-leads deck (InJob run (Writing hand volume amount number steps)) (reply_of.Volume volume_reply.Stored) =
-    plain _ _ _ (plain_steps run hand steps)
-leads deck (InJob run (Scanning hand volume steps)) (reply_of.Volume (volume_reply.Value number)) = (refl, refl)
-leads deck (InJob run (Rescanning hand volume number steps)) (reply_of.Volume (volume_reply.Value again)) =
-    plain _ _ _ (plain_steps run hand steps)
-leads deck (InJob run (Purging hand code)) (reply_of.Latch (latch_reply.Purged removed count)) = tt
+leads deck (Pausing more before g) (Reply.Element (ElementReply.Given code now)) = given_lead _ _ deck more before code now
+leads deck (Resuming more before g) (Reply.Element (ElementReply.Given code now)) = given_lead _ _ deck more before code now
+leads deck (InJob run (Obtaining hand latch mode steps)) (Reply.Latch (LatchReply.Granted id)) = steps_lead _ _ run _ steps
+leads deck (InJob run (Confirming hand latch mode id steps)) (Reply.Latch (LatchReply.Granted same)) = steps_lead _ _ run _ steps
+leads deck (InJob run (Freeing hand latch id steps)) (Reply.Latch (LatchReply.Released count)) = steps_lead _ _ run _ steps
+leads deck (InJob run (Reading hand volume amount steps)) (Reply.Volume (VolumeReply.Value number)) = search (rules, counting_lands)
+leads deck (InJob run (Writing hand volume amount number steps)) (Reply.Volume VolumeReply.Stored) = steps_lead _ _ run hand steps
+leads deck (InJob run (Scanning hand volume steps)) (Reply.Volume (VolumeReply.Value number)) = (refl, refl)
+leads deck (InJob run (Rescanning hand volume number steps)) (Reply.Volume (VolumeReply.Value again)) = steps_lead _ _ run hand steps
+leads deck (InJob run (Purging hand code)) (Reply.Latch (LatchReply.Purged removed count)) = tt
 leads deck (InJob run (EndingJob code counts)) r =
-    ended_lands (LeadsTo (InJob run (EndingJob code counts)) r) tt run code counts r tt
-    (plain _ _ _ (plain_rounds run.more _ run.generation))
+    ended_lands (LeadsTo (InJob run (EndingJob code counts)) r) tt run code counts r tt (rounds_lead _ _ run.more _ run.generation)
 leads deck (InJob run (EndingForScheduler code counts)) r =
     on_posted_keeps (LeadsTo (InJob run (EndingForScheduler code counts)) r) (At (InJob run (EndingForWriter code counts))) r tt tt
 leads deck (InJob run (EndingForWriter code counts)) r =
     on_posted_keeps (LeadsTo (InJob run (EndingForWriter code counts)) r) (rounds_after run) r
-    (plain _ _ _ (plain_rounds run.more _ run.generation)) tt
-leads deck (Closing g) (reply_of.Element element_reply.Closed) = tt
+    (rounds_lead _ _ run.more _ run.generation) tt
+leads deck (Closing g) (Reply.Element ElementReply.Closed) = tt
 leads deck x r = tt
 
 module _ (c : Setup) (s : System) (deck : List JobData) (i : ℕ) where
@@ -164,36 +138,21 @@ module _ (c : Setup) (s : System) (deck : List JobData) (i : ℕ) where
   other_value (InJob run (Rescanning hand volume number steps)) p n w = value_read s.volume volume p w
   other_value x p n w = w
 
-module _ (c : Setup) (deck : List JobData) (initiators : ℕ) where
-  values_same : (s : System) (e : Entry) (points : ℕ → Point InitiatorAt) (o : Object) → e.object ≡ o → IsSignal o
-      → Values initiators s.volume points → Values initiators (next s e).volume points
-  values_same s e points o same free w =
-      subst (λ f. Values initiators f points) (sym (volumes_same s e.caller e.object e.op (subst IsSignal (sym same) free))) w
-
-  pub values_next : (s : System) (t u : Points) (e : Entry) → IsNext c s e → Move deck initiators t e u
-      → ((i : ℕ) → i < initiators → IsInitiatorAt deck (t.initiators i)) → Hands initiators s.latches.state t.initiators
-      → Values initiators s.volume t.initiators → Values initiators (next s e).volume u.initiators
-  values_next s t u e h (reads x k at o op moved_to) stand hands w =
-      subst (λ v. Values initiators (next s e).volume v.initiators) (sym moved_to)
-      (values_same s e t.initiators (reader_asks x).0 o (reader_signals x) w)
-  values_next s t u e h (schedules x k at o op moved_to) stand hands w =
-      subst (λ v. Values initiators (next s e).volume v.initiators) (sym moved_to)
-      (values_same s e t.initiators (scheduler_asks (length deck) x).0 o (scheduler_signals (length deck) x) w)
-  values_next s t u e h (writes x k at o op moved_to) stand hands w =
-      subst (λ v. Values initiators (next s e).volume v.initiators) (sym moved_to)
-      (values_same s e t.initiators (writer_asks x).0 o (writer_signals x) w)
-  values_next s t u e h (initiates i x lt k at o op moved_to) stand hands w =
-      subst (λ v. Values initiators (next s e).volume v.initiators) (sym moved_to) (λ m less.
-      all_but (λ m p. ValueAt (next s e).volume p) t.initiators i (initiator_goes deck x e.reply) m there (elsewhere m less)) where
-        there : ValueAt (next s e).volume (initiator_goes deck x e.reply)
-        there = at_entry (λ j o op. IsNext c s (entry_of j o e.place op e.reply)
-            → ValueAt (moved s j o op).volume (initiator_goes deck x e.reply))
-            e (initiator i) (initiator_asks (length deck) i x).0 (initiator_asks (length deck) i x).1 k o op
-            (λ h. own_value c s deck i x e.place e.reply h) h
-
-        elsewhere : (m : ℕ) → m < initiators → (i ≡ m → ⊥) → ValueAt (next s e).volume (t.initiators m)
-        elsewhere m less other = at_entry (λ j o op. ValueAt (moved s j o op).volume (t.initiators m))
-            e (initiator i) (initiator_asks (length deck) i x).0 (initiator_asks (length deck) i x).1 k o op
-            (other_value c s deck i x (t.initiators m)
-            (λ v a b. other (excludes deck initiators s.latches.state t.initiators i m v lt less hands stand (ap counted_on at ∙ a) b))
-            (w m less))
+pub values_next : (c : Setup) (deck : List JobData) (initiators : ℕ) (s : System) (t u : Points) (e : Entry) → IsNext c s e
+    → Move deck initiators t e u → ((i : ℕ) → i < initiators → IsInitiatorAt deck (t.initiators i))
+    → Hands initiators s.latches.state t.initiators
+    → Values initiators s.volume t.initiators → Values initiators (next s e).volume u.initiators
+values_next c deck initiators s t u e h moves stand hands w = elim (who_moved deck initiators t u e moves) [
+  | inl a ↦ subst (λ f. Values initiators f u.initiators) (sym (volumes_same s e.caller e.object e.op a.signal))
+      (subst (Values initiators s.volume) (sym a.same) w)
+  | inr m ↦ subst (Values initiators (next s e).volume) (sym m.moved) (λ k less.
+      all_but (λ k p. ValueAt (next s e).volume p) t.initiators m.number (initiator_goes deck m.point e.reply) k
+      (mover_asked deck initiators t u e m (λ j o op. IsNext c s (entry_of j o e.place op e.reply)
+      → ValueAt (moved s j o op).volume (initiator_goes deck m.point e.reply))
+      (λ h. own_value c s deck m.number m.point e.place e.reply h) h)
+      (λ other. mover_asked deck initiators t u e m (λ j o op. ValueAt (moved s j o op).volume (t.initiators k))
+      (other_value c s deck m.number m.point (t.initiators k)
+      (λ v a b. other (excludes deck initiators s.latches.state t.initiators m.number k v m.below less hands stand
+      (ap counted_on m.stands ∙ a) b))
+      (w k less))))
+]

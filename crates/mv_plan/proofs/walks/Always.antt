@@ -1,9 +1,26 @@
--- What holds at each moment of a walk, as a fact of the walk: for results that look at two entries and what stands between.
--- Used by the layers of volumes and requestors.
+-- Along a walk: from one state and one list of entries there is one walk, so what is known of its end is known along it; and what
+-- holds at each of its moments, for results that look at two entries and what stands between.
 use Rattle.mv_plan.proofs.Words.{◌≡◌, ℕ, List, [], ◌∷◌, ◌++◌, refl, ap, ◌∙◌, sym, subst, append-nil, append_assoc, Entry, IsNext, next}
-use Rattle.mv_plan.proofs.Words.{after_from, Setup, System, JobData}
+use Rattle.mv_plan.proofs.Words.{after_from, Setup, System, JobData, arith, common_steps}
 use Rattle.mv_machine.proofs.Histories.{after_from-append}
-use Rattle.mv_plan.proofs.walks.Walks.{Points, Move, WalkTo, walk-append}
+use Rattle.mv_plan.proofs.walks.Walks.{Points, Move, WalkTo, walk-append, walk-parts}
+
+pub move_same : (deck : List JobData) (initiators : ℕ) (t u v : Points) (e : Entry) → Move deck initiators t e u
+    → Move deck initiators t e v → u ≡ v
+move_same deck initiators t u v e x y = grind (arith, common_steps)
+
+pub walk_same : (c : Setup) (deck : List JobData) (initiators : ℕ) (s : System) (t u v : Points) (es : List Entry)
+    → WalkTo c deck initiators s t es u → WalkTo c deck initiators s t es v → u ≡ v
+walk_same c deck initiators s t u v [] w z = sym w ∙ z
+walk_same c deck initiators s t u v (e ∷ es) w z =
+    walk_same c deck initiators (next s e) w.0 u v es w.3
+    (subst (λ p. WalkTo c deck initiators (next s e) p es v) (move_same deck initiators t z.0 w.0 e z.2 w.2) z.3)
+
+-- wherever a front of a walk's entries leads, the rest of the walk leads on from there
+pub walk_rest : (c : Setup) (deck : List JobData) (initiators : ℕ) (s : System) (t v u : Points) (xs ys : List Entry)
+    → WalkTo c deck initiators s t (xs ++ ys) u → WalkTo c deck initiators s t xs v
+    → WalkTo c deck initiators (after_from s xs) v ys u
+walk_rest c deck initiators s t v u xs ys w z = grind (arith, common_steps, walk-parts, walk_same)
 
 module _ (c : Setup) (deck : List JobData) (initiators : ℕ) where
   -- after each front of the entries, wherever the walk along it leads
@@ -32,26 +49,3 @@ module _ (c : Setup) (deck : List JobData) (initiators : ℕ) where
   pub always_front : (Q : System → Points → List Entry → Type 0) (s : System) (t : Points) (past xs ys : List Entry)
       → Always Q s t past (xs ++ ys) → Always Q s t past xs
   always_front Q s t past xs ys a = λ zs rest z q w. a zs (rest ++ ys) z (ap (λ l. l ++ ys) q ∙ append_assoc zs rest ys) w
-
-  -- What each move keeps, where another thing holds at each moment, holds at each moment.
-  pub always_keeps : (Q P : System → Points → List Entry → Type 0)
-      → ((s : System) (t u : Points) (past : List Entry) (e : Entry) → Q s t past → IsNext c s e → Move deck initiators t e u
-      → P s t past → P (next s e) u (past ++ e ∷ []))
-      → (s : System) (t : Points) (past es : List Entry) → Always Q s t past es → P s t past → Always P s t past es
-  always_keeps Q P keeps s t past es a p = λ xs ys v q w. go s t v past xs ys w (subst (Always Q s t past) q a) p where
-    go : (s : System) (t v : Points) (past xs ys : List Entry) → WalkTo c deck initiators s t xs v → Always Q s t past (xs ++ ys)
-        → P s t past → P (after_from s xs) v (past ++ xs)
-    go s t v past [] ys w a p = subst (λ z. P s z (past ++ [])) w (subst (P s t) (sym (append-nil past)) p)
-    go s t v past (e ∷ xs) ys w a p = subst (P (after_from (next s e) xs) v) (append_assoc past (e ∷ []) xs)
-        (go (next s e) w.0 v (past ++ e ∷ []) xs ys w.3 (always_next Q s t w.0 past e (xs ++ ys) w.1 w.2 a)
-        (keeps s t w.0 past e (always_now Q s t past (e ∷ (xs ++ ys)) a) w.1 w.2 p))
-
-  pub always_both : (Q P : System → Points → List Entry → Type 0) (s : System) (t : Points) (past es : List Entry)
-      → Always Q s t past es → Always P s t past es
-      → Always (λ z v l. Q z v l × P z v l) s t past es
-  always_both Q P s t past es a b = λ xs ys v q w. (a xs ys v q w, b xs ys v q w)
-
-  pub always_map : (Q P : System → Points → List Entry → Type 0)
-      → ((s : System) (t : Points) (past : List Entry) → Q s t past → P s t past)
-      → (s : System) (t : Points) (past es : List Entry) → Always Q s t past es → Always P s t past es
-  always_map Q P f s t past es a = λ xs ys v q w. f (after_from s xs) v (past ++ xs) (a xs ys v q w)

@@ -1,24 +1,17 @@
 -- What holds of the machine after every legal list: a block is extended with an exit of its own; and where no request of the
 -- Posted form is allowed none stands, so that no wake posts a block.
-use Rattle.mv_plan.proofs.Words.{◌≡◌, ℕ, zero, suc, Bool, true, List, [], ◌∷◌}
-use Rattle.mv_plan.proofs.Words.{map, replicate, None, arith, AllByRecursion}
-use Rattle.mv_plan.proofs.Words.{false≢true, and_parts, ecb_step, Extended, LatchOp, Request}
-use Rattle.mv_plan.proofs.Words.{granted, release_step, list_of, latch_step}
-use Rattle.mv_plan.proofs.Words.{Entry, Object, Ecb, Element, Volume, Latches, Op, IsNext, next, Setup, is_exit_of, System}
-use Rattle.mv_plan.proofs.Words.{opening, admitted, moved, all_append, all_filter}
+use Rattle.mv_plan.proofs.Words.{◌≡◌, ℕ, zero, suc, Bool, true, List, [], ◌∷◌, map, replicate, None, arith, AllByRecursion, false≢true}
+use Rattle.mv_plan.proofs.Words.{and_parts, ecb_step, Extended, LatchOp, Request, granted, release_step, list_of, latch_step, Entry, Object}
+use Rattle.mv_plan.proofs.Words.{Ecb, Element, Volume, Latches, Op, IsNext, next, Setup, is_exit_of, System, opening, admitted, moved}
+use Rattle.mv_plan.proofs.Words.{all_append, all_filter, EcbOp, EcbReply, common_steps}
 use Rattle.std.specs.List.{flat_map}
 use Rattle.mv_latch.specs.Latch.{shared_front, purged}
 use Rattle.mv_latch.specs.LatchSet.{latch_admitted, wakes}
 use Rattle.mv_latch.specs.Request.{posted_ecb, wake_of}
 use Rattle.mv_machine.specs.System.{latches_of}
-use Rattle.mv_ecb.specs.declared.operation.EcbOp.TheVariants as ecb_op
-use Rattle.mv_ecb.specs.declared.operation.EcbReply.TheVariants as ecb_reply
-use Rattle.mv_latch.specs.declared.operation.LatchOp.TheVariants as latch_op
-use Rattle.mv_machine.specs.declared.entry.Op.TheVariants as op_on
 use Rattle.mv_calls.proofs.Hearing.{wakes_at}
-use Rattle.mv_plan.proofs.points.Initiator.{PostNothing}
-use Rattle.mv_plan.proofs.lists.Lists.{all_drop, all_set, all_get}
-use Rattle.std.proofs.lemmas.Grind.{common_steps}
+use Rattle.mv_plan.proofs.points.{PostNothing}
+use Rattle.mv_plan.proofs.lists.{all_drop, all_set, all_get}
 
 -- ---- requests that post nothing
 
@@ -61,11 +54,11 @@ released_unposted caller id conditional qs a = grind (arith, common_steps, all_f
 
 step_unposted : (c : Setup) (k place : ℕ) (op : LatchOp) (lists : List (List Request)) → c.posted_quota ≡ 0
     → latch_admitted k op (latches_of c lists) ≡ true → AllUnposted lists → AllUnposted (latch_step k place op lists).0
-step_unposted c k place (latch_op.Obtain latch requestor mode form) lists e adm a = grind (arith, common_steps)
-step_unposted c k place (latch_op.Confirm latch id) lists e adm a = a
-step_unposted c k place (latch_op.Release latch id conditional) lists e adm a =
+step_unposted c k place (LatchOp.Obtain latch requestor mode form) lists e adm a = grind (arith, common_steps)
+step_unposted c k place (LatchOp.Confirm latch id) lists e adm a = a
+step_unposted c k place (LatchOp.Release latch id conditional) lists e adm a =
     all_set AreUnposted lists latch _ a (released_unposted k id conditional (list_of lists latch) (list_unposted lists latch a))
-step_unposted c k place (latch_op.Purge requestor) lists e adm a = purged_unposted requestor lists a
+step_unposted c k place (LatchOp.Purge requestor) lists e adm a = purged_unposted requestor lists a
 
 wakes_unposted : (k : ℕ) (op : LatchOp) (lists : List (List Request)) → AllUnposted lists → PostNothing (wakes k op lists)
 wakes_unposted k x lists a =
@@ -99,11 +92,10 @@ fits_opening c = record { exits = λ n x e. absurd (cc e); plain = none_yet c.la
 
 fits_moved : (c : Setup) (s : System) (k : ℕ) (o : Object) (op : Op) → c.posted_quota ≡ 0 → admitted c s k o op ≡ true → Fits c s
     → Fits c (moved s k o op)
-fits_moved c s k (Ecb m) (op_on.Ecb op) z adm f = grind (arith, common_steps)
-fits_moved c s k (Element m) (op_on.Element op) z adm f = record { exits = f.exits; plain = f.plain }
-fits_moved c s k (Volume m) (op_on.Volume op) z adm f = record { exits = f.exits; plain = f.plain }
-fits_moved c s k Latches (op_on.Latch op) z adm f =
-    record { exits = f.exits; plain = step_unposted c k s.latches.place op s.latches.state z (and_parts _ _ adm).1 f.plain }
+fits_moved c s k (Ecb m) (Op.Ecb op) z adm f = grind (arith, common_steps)
+fits_moved c s k (Element m) (Op.Element op) z adm f = record { exits = f.exits; plain = f.plain }
+fits_moved c s k (Volume m) (Op.Volume op) z adm f = record { exits = f.exits; plain = f.plain }
+fits_moved c s k Latches (Op.Latch op) z adm f = grind (arith, common_steps, step_unposted, and_parts)
 fits_moved c s k o op z adm f = absurd (false≢true adm)
 
 pub fits_next : (c : Setup) (s : System) (e : Entry) → c.posted_quota ≡ 0 → IsNext c s e → Fits c s → Fits c (next s e)
@@ -111,10 +103,10 @@ fits_next c s e z n f = fits_moved c s e.caller e.object e.op z n.admits f
 
 -- no wake posts a block
 pub fits_wakes : (c : Setup) (s : System) (k : ℕ) (o : Object) (op : Op) → Fits c s → PostNothing (wakes_at s k o op)
-fits_wakes c s k Latches (op_on.Latch op) f = wakes_unposted k op s.latches.state f.plain
+fits_wakes c s k Latches (Op.Latch op) f = wakes_unposted k op s.latches.state f.plain
 fits_wakes c s k o op f = tt
 
 -- a post that finds an exit finds one of its block
 pub fits_woke : (c : Setup) (s : System) (n code x : ℕ) → Fits c s
-    → (ecb_step (ecb_op.Post code) (s.ecb n).state).1 ≡ ecb_reply.Woke (suc x) → is_exit_of c (suc x) n ≡ true
+    → (ecb_step (EcbOp.Post code) (s.ecb n).state).1 ≡ EcbReply.Woke (suc x) → is_exit_of c (suc x) n ≡ true
 fits_woke c s n code x f e = grind (arith, common_steps)

@@ -1,33 +1,23 @@
 -- A history that follows is a walk: the tasks' programs are what is left of them at the points. The bridge from the definition
 -- of a history, caller by caller, to walks.
-use Rattle.mv_plan.proofs.Words.{◌≡◌, ℕ, zero, suc, ◌+◌, ◌*◌, ◌<◌, ◌≤◌, true, List, [], ◌∷◌, length, Some, inl, inr, refl, ap, ◌∙◌}
-use Rattle.mv_plan.proofs.Words.{subst, arith, AllByRecursion, cases_eq, ecb_step, Wake, Entry, Object, Ecb, Op, Reply}
-use Rattle.mv_plan.proofs.Words.{IsNext, next, Setup, is_exit_of, System, reply_to, with_at, JobData, Kept, Program, asks, heard, entered}
-use Rattle.mv_plan.proofs.Words.{end_for_scheduler, end_for_writer, idle, reader, scheduler, initiator, writer, programs_after}
-use Rattle.mv_plan.specs.SpoolSetup.{done}
+use Rattle.mv_plan.proofs.Words.{◌≡◌, ℕ, zero, suc, ◌+◌, ◌*◌, ◌<◌, ◌≤◌, true, List, [], ◌∷◌, length, Some, inl, inr, refl, ap, ◌∙◌, subst}
+use Rattle.mv_plan.proofs.Words.{arith, AllByRecursion, cases_eq, ecb_step, Wake, Entry, Object, Ecb, Op, Reply, IsNext, next, Setup}
+use Rattle.mv_plan.proofs.Words.{is_exit_of, System, reply_to, with_at, JobData, Kept, Program, asks, heard, entered, end_for_scheduler}
+use Rattle.mv_plan.proofs.Words.{end_for_writer, idle, reader, scheduler, initiator, writer, programs_after, done, EcbOp, EcbReply}
+use Rattle.mv_plan.proofs.Words.{common_steps}
 use Rattle.mv_calls.proofs.Interleaved.{FollowFrom}
-use Rattle.mv_ecb.specs.declared.operation.EcbOp.TheVariants as ecb_op
-use Rattle.mv_ecb.specs.declared.operation.EcbReply.TheVariants as ecb_reply
-use Rattle.mv_machine.specs.declared.entry.Op.TheVariants as op_on
-use Rattle.mv_machine.specs.declared.entry.Reply.TheVariants as reply_of
-use Rattle.mv_plan.proofs.deck.Plans.{ArePlannedJobs}
-use Rattle.mv_plan.proofs.points.Points.{Point, At, ReaderAt, Entering, reader_asks, reader_goes, SchedulerAt, scheduler_asks}
-use Rattle.mv_plan.proofs.points.Points.{scheduler_goes, WriterAt, writer_asks, writer_goes, InitiatorAt, Offering, Freeing, Purging}
-use Rattle.mv_plan.proofs.points.Points.{EndingJob, EndingForScheduler, EndingForWriter, initiator_asks, initiator_goes, InJob}
-use Rattle.mv_plan.proofs.points.Programs.{program_at, reader_program, scheduler_program, writer_program, initiator_program}
-use Rattle.mv_plan.proofs.points.PostsAndWaits.{IsPlainPost}
-use Rattle.mv_plan.proofs.points.ReaderAndWriter.{keeps, IsReaderAt, IsWriterAt, reader_says, reader_hears, writer_says, writer_hears}
-use Rattle.mv_plan.proofs.walks.Fits.{Fits, fits_next, fits_wakes, fits_woke}
 use Rattle.mv_calls.proofs.Hearing.{hearing}
-use Rattle.mv_plan.proofs.points.Initiator.{IsPlainReply, WokeAs, PostNothing, initiator_says, initiator_hears}
-use Rattle.mv_plan.proofs.points.InitiatorSound.{InitiatorStands}
-use Rattle.mv_plan.proofs.points.Scheduler.{scheduler_says, scheduler_hears}
-use Rattle.mv_plan.proofs.points.SchedulerSound.{SchedulerStands}
-use Rattle.mv_plan.proofs.deck.Setup.{Facts}
+use Rattle.mv_plan.proofs.deck.{ArePlannedJobs, Facts}
+use Rattle.mv_plan.proofs.points.{Point, At, ReaderAt, Entering, reader_asks, reader_goes, SchedulerAt, scheduler_asks, scheduler_goes}
+use Rattle.mv_plan.proofs.points.{WriterAt, writer_asks, writer_goes, InitiatorAt, Offering, Freeing, Purging, EndingJob}
+use Rattle.mv_plan.proofs.points.{EndingForScheduler, EndingForWriter, initiator_asks, initiator_goes, InJob, program_at, reader_program}
+use Rattle.mv_plan.proofs.points.{scheduler_program, writer_program, initiator_program, IsPlainPost, keeps, IsReaderAt, IsWriterAt}
+use Rattle.mv_plan.proofs.points.{reader_says, reader_hears, writer_says, writer_hears, IsPlainReply, WokeAs, PostNothing, initiator_says}
+use Rattle.mv_plan.proofs.points.{initiator_hears, InitiatorStands, scheduler_says, scheduler_hears, SchedulerStands}
+use Rattle.mv_plan.proofs.walks.Fits.{Fits, fits_next, fits_wakes, fits_woke}
 use Rattle.mv_plan.proofs.walks.Stands.{Stand, stand_next, kept_next}
 use Rattle.mv_plan.proofs.walks.Walks.{Points, Move, reads, schedules, initiates, writes, WalkTo}
-use Rattle.mv_plan.proofs.lists.Tables.{all_but}
-use Rattle.std.proofs.lemmas.Grind.{common_steps}
+use Rattle.mv_plan.proofs.lists.{all_but}
 
 -- what is left of each task's program is the program of its point
 pub record TasksAt (c : Setup) (deck : List JobData) (initiators : ℕ) (kept : ℕ → Kept) (t : Points)
@@ -51,20 +41,20 @@ reply_is c s e ask n o op = n.reply ∙ ap (λ x. reply_to s e.caller x e.op) o 
 
 -- a post of a block that starts no exit is plain
 plain_post : (c : Setup) (s : System) (k m code : ℕ) (r : Reply) → Fits c s → ((x : ℕ) → is_exit_of c x m ≡ true → ⊥)
-    → Some r ≡ reply_to s k (Ecb m) (op_on.Ecb (ecb_op.Post code)) → IsPlainPost r
-plain_post c s k m code (reply_of.Ecb (ecb_reply.Woke (suc x))) f none e =
+    → Some r ≡ reply_to s k (Ecb m) (Op.Ecb (EcbOp.Post code)) → IsPlainPost r
+plain_post c s k m code (Reply.Ecb (EcbReply.Woke (suc x))) f none e =
     absurd (none (suc x) (fits_woke c s m code x f
-    (let q : ◌≡◌ {A = Reply} (reply_of.Ecb (ecb_reply.Woke (suc x)))
-    (reply_of.Ecb (ecb_step (ecb_op.Post code) (s.ecb m).state).1) = cc e in cc q)))
+    (let q : ◌≡◌ {A = Reply} (Reply.Ecb (EcbReply.Woke (suc x)))
+    (Reply.Ecb (ecb_step (EcbOp.Post code) (s.ecb m).state).1) = cc e in cc q)))
 plain_post c s k m code r f none e = tt
 
 -- one of a done block has the exit of its number
 woke_as : (c : Setup) (s : System) (k m j code : ℕ) (r : Reply) → Fits c s → ((x : ℕ) → is_exit_of c x m ≡ true → x ≡ j + 1)
-    → Some r ≡ reply_to s k (Ecb m) (op_on.Ecb (ecb_op.Post code)) → WokeAs j r
-woke_as c s k m j code (reply_of.Ecb (ecb_reply.Woke (suc x))) f only e =
+    → Some r ≡ reply_to s k (Ecb m) (Op.Ecb (EcbOp.Post code)) → WokeAs j r
+woke_as c s k m j code (Reply.Ecb (EcbReply.Woke (suc x))) f only e =
     only (suc x) (fits_woke c s m code x f
-    (let q : ◌≡◌ {A = Reply} (reply_of.Ecb (ecb_reply.Woke (suc x)))
-    (reply_of.Ecb (ecb_step (ecb_op.Post code) (s.ecb m).state).1) = cc e in cc q))
+    (let q : ◌≡◌ {A = Reply} (Reply.Ecb (EcbReply.Woke (suc x)))
+    (Reply.Ecb (ecb_step (EcbOp.Post code) (s.ecb m).state).1) = cc e in cc q))
 woke_as c s k m j code r f only e = tt
 
 -- who made an entry

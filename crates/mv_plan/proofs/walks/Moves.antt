@@ -1,14 +1,11 @@
 -- Moves with their entry written out, so that object, operation and reply compute by cases of the point: of_move for any
 -- relation, by_moves for invariants; and the cells of blocks and elements after a move. Each invariant of the later layers is
 -- proved by one of the two.
-use Rattle.mv_plan.proofs.Words.{refl, ◌≡◌, ℕ, ◌<◌, List, [], ◌∷◌, ◌++◌, length, sym, subst}
-use Rattle.mv_plan.proofs.Words.{EcbOp, ecb_step, EcbState, ElementState, Entry, Object}
-use Rattle.mv_plan.proofs.Words.{Ecb, Op, Reply, IsNext, next, Setup, System, moved, with_at, JobData, reader}
-use Rattle.mv_plan.proofs.Words.{scheduler, initiator, writer}
-use Rattle.mv_machine.specs.declared.entry.Op.TheVariants as op_on
-use Rattle.mv_machine.specs.declared.entry.Reply.TheVariants as reply_of
-use Rattle.mv_plan.proofs.points.Points.{At, ReaderAt, reader_asks, reader_goes, SchedulerAt, scheduler_asks, scheduler_goes, WriterAt}
-use Rattle.mv_plan.proofs.points.Points.{writer_asks, writer_goes, InitiatorAt, initiator_asks, initiator_goes}
+use Rattle.mv_plan.proofs.Words.{refl, ◌≡◌, ℕ, ◌<◌, List, [], ◌∷◌, ◌++◌, length, sym, subst, EcbOp, ecb_step, EcbState, ElementState, Entry}
+use Rattle.mv_plan.proofs.Words.{Object, Ecb, Op, Reply, IsNext, next, Setup, System, moved, with_at, JobData, reader, scheduler, initiator}
+use Rattle.mv_plan.proofs.Words.{writer, rules}
+use Rattle.mv_plan.proofs.points.{At, ReaderAt, reader_asks, reader_goes, SchedulerAt, scheduler_asks, scheduler_goes, WriterAt}
+use Rattle.mv_plan.proofs.points.{writer_asks, writer_goes, InitiatorAt, initiator_asks, initiator_goes}
 use Rattle.mv_plan.proofs.walks.Walks.{Points, Move, reads, schedules, initiates, writes}
 
 -- ---- a move with its entry written out
@@ -18,10 +15,7 @@ entry_of k p ask r = record { caller = k; object = ask.0; place = p; op = ask.1;
 
 renamed : (R : Entry → Type 0) (e : Entry) (k : ℕ) (ask : Object × Op) → e.caller ≡ k → e.object ≡ ask.0 → e.op ≡ ask.1
     → R (entry_of k e.place ask e.reply) → R e
-renamed R e k ask a b d x =
-    subst (λ z. R (record { caller = z; object = e.object; place = e.place; op = e.op; reply = e.reply })) (sym a)
-    (subst (λ z. R (record { caller = k; object = z; place = e.place; op = e.op; reply = e.reply })) (sym b)
-    (subst (λ z. R (record { caller = k; object = ask.0; place = e.place; op = z; reply = e.reply })) (sym d) x))
+renamed R e k ask a b d x = search rules
 
 -- what holds of each task's entry, written out, holds of each move
 pub record Each (c : Setup) (deck : List JobData) (initiators : ℕ) (Q : System → Points → Entry → Points → Type 0) : Type 0 where
@@ -71,32 +65,28 @@ entry_next c s e k ask n a b d = subst (λ z. IsNext c s z) (sym (entry_is e k a
 
 -- What is to be shown of each caller's moves, so that all moves keep P where Q holds before them
 module _ (Q P : System → Points → List Entry → Type 0) (c : Setup) (deck : List JobData) (initiators : ℕ) where
+  -- an entry that is said leads on to these points
+  abbrev pub Leads : System → Points → List Entry → ℕ → Object × Op → ℕ → Reply → Points → Type 0
+  Leads s t past k ask p r u = IsNext c s (entry_of k p ask r) → Q s t past → P s t past
+      → P (moved s k ask.0 ask.1) u (past ++ entry_of k p ask r ∷ [])
+
   abbrev pub Reads : Type 0
   Reads = (s : System) (t : Points) (past : List Entry) (x : ReaderAt) (p : ℕ) (r : Reply) → t.reader ≡ At x
-      → IsNext c s (entry_of reader p (reader_asks x) r) → Q s t past → P s t past
-      → P (moved s reader (reader_asks x).0 (reader_asks x).1) (record t { reader = reader_goes x r })
-      (past ++ entry_of reader p (reader_asks x) r ∷ [])
+      → Leads s t past reader (reader_asks x) p r (record t { reader = reader_goes x r })
 
   abbrev pub Schedules : Type 0
   Schedules = (s : System) (t : Points) (past : List Entry) (x : SchedulerAt) (p : ℕ) (r : Reply) → t.scheduler ≡ At x
-      → IsNext c s (entry_of scheduler p (scheduler_asks (length deck) x) r) → Q s t past → P s t past
-      → P (moved s scheduler (scheduler_asks (length deck) x).0 (scheduler_asks (length deck) x).1)
+      → Leads s t past scheduler (scheduler_asks (length deck) x) p r
       (record t { scheduler = scheduler_goes (length deck) initiators x r })
-      (past ++ entry_of scheduler p (scheduler_asks (length deck) x) r ∷ [])
 
   abbrev pub Initiates : Type 0
   Initiates = (s : System) (t : Points) (past : List Entry) (i : ℕ) (x : InitiatorAt) (p : ℕ) (r : Reply) → i < initiators
-      → t.initiators i ≡ At x
-      → IsNext c s (entry_of (initiator i) p (initiator_asks (length deck) i x) r) → Q s t past → P s t past
-      → P (moved s (initiator i) (initiator_asks (length deck) i x).0 (initiator_asks (length deck) i x).1)
+      → t.initiators i ≡ At x → Leads s t past (initiator i) (initiator_asks (length deck) i x) p r
       (record t { initiators = with_at t.initiators i (initiator_goes deck x r) })
-      (past ++ entry_of (initiator i) p (initiator_asks (length deck) i x) r ∷ [])
 
   abbrev pub Writes : Type 0
   Writes = (s : System) (t : Points) (past : List Entry) (x : WriterAt) (p : ℕ) (r : Reply) → t.writer ≡ At x
-      → IsNext c s (entry_of (writer initiators) p (writer_asks x) r) → Q s t past → P s t past
-      → P (moved s (writer initiators) (writer_asks x).0 (writer_asks x).1) (record t { writer = writer_goes (length deck) x r })
-      (past ++ entry_of (writer initiators) p (writer_asks x) r ∷ [])
+      → Leads s t past (writer initiators) (writer_asks x) p r (record t { writer = writer_goes (length deck) x r })
 
   abbrev pub KeepsUnder : Type 0
   KeepsUnder = (s : System) (t u : Points) (past : List Entry) (e : Entry) → IsNext c s e → Move deck initiators t e u → Q s t past
@@ -121,5 +111,5 @@ abbrev pub element : System → ℕ → ElementState
 element s m = (s.element m).state
 
 pub block_reply : (c : Setup) (s : System) (k m : ℕ) (op : EcbOp) (p : ℕ) (r : Reply)
-    → IsNext c s (entry_of k p (Ecb m, op_on.Ecb op) r) → r ≡ reply_of.Ecb (ecb_step op (block s m)).1
+    → IsNext c s (entry_of k p (Ecb m, Op.Ecb op) r) → r ≡ Reply.Ecb (ecb_step op (block s m)).1
 block_reply c s k m op p r n = cc n.reply

@@ -1,13 +1,10 @@
 -- A task is lost where it waited too soon or met a reply that nothing foresees. Whoever is lost stays lost; so where none is
 -- lost in the end, none was. And events that touch neither elements nor idle blocks.
-use Rattle.mv_plan.proofs.Words.{◌≡◌, ℕ, List, [], ◌∷◌, sym, subst, arith, Entry, Object, Op, next}
-use Rattle.mv_plan.proofs.Words.{Setup, System, moved, JobData, idle}
-use Rattle.mv_plan.proofs.points.Points.{Point, At, Finished}
+use Rattle.mv_plan.proofs.Words.{◌≡◌, ℕ, List, [], ◌∷◌, sym, subst, arith, Entry, Object, Op, next, Setup, System, moved, JobData, idle}
+use Rattle.mv_plan.proofs.Words.{common_steps}
+use Rattle.mv_plan.proofs.points.{Point, At, Finished, IsNotLost, Elsewhere}
 use Rattle.mv_plan.proofs.walks.Histories.{AreFinished}
 use Rattle.mv_plan.proofs.walks.Walks.{Points, Move, WalkTo, AllTasks, all_before}
-use Rattle.mv_plan.proofs.points.Views.{IsNotLost}
-use Rattle.mv_plan.proofs.points.Asks.{Elsewhere}
-use Rattle.std.proofs.lemmas.Grind.{common_steps}
 
 -- no task is lost
 abbrev pub NoneLost : ℕ → Points → Type 0

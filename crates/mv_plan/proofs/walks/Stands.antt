@@ -1,15 +1,11 @@
 -- All points are sound, with what their tasks keep, at each moment of a walk. The first invariant; all others stand on it.
-use Rattle.mv_plan.proofs.Words.{◌≡◌, ℕ, ◌<◌, List, length, sym, ◌∙◌, subst, arith, Entry, Object, Op, Setup, System, with_at}
-use Rattle.mv_plan.proofs.Words.{JobData, Kept, kept_after, nothing_kept, scheduler, initiator, writer}
-use Rattle.mv_plan.proofs.deck.Plans.{ArePlannedJobs}
-use Rattle.mv_plan.proofs.points.Points.{scheduler_asks, scheduler_goes, initiator_asks, initiator_goes}
-use Rattle.mv_plan.proofs.points.ReaderAndWriter.{keeps, IsReaderAt, WriterKept, IsWriterAt}
-use Rattle.mv_plan.proofs.points.InitiatorSound.{InitiatorStands, initiator_stands, IsInitiatorAt}
-use Rattle.mv_plan.proofs.points.SchedulerSound.{SchedulerStands, scheduler_stands, IsSchedulerAt}
-use Rattle.mv_plan.proofs.deck.Setup.{Facts}
+use Rattle.mv_plan.proofs.Words.{◌≡◌, ℕ, ◌<◌, List, length, sym, ◌∙◌, subst, arith, Entry, Object, Op, Setup, System, with_at, JobData}
+use Rattle.mv_plan.proofs.Words.{Kept, kept_after, nothing_kept, scheduler, initiator, writer, common_steps}
+use Rattle.mv_plan.proofs.deck.{ArePlannedJobs, Facts}
+use Rattle.mv_plan.proofs.points.{initiator_asks, initiator_goes, keeps, IsReaderAt, WriterKept, IsWriterAt, InitiatorStands}
+use Rattle.mv_plan.proofs.points.{initiator_stands, IsInitiatorAt, SchedulerStands, scheduler_stands, IsSchedulerAt}
 use Rattle.mv_plan.proofs.walks.Walks.{Points, start_points, Move, reads, schedules, initiates, writes}
-use Rattle.mv_plan.proofs.lists.Tables.{with_at-other, all_but}
-use Rattle.std.proofs.lemmas.Grind.{common_steps}
+use Rattle.mv_plan.proofs.lists.{with_at-other, all_but}
 
 -- all points are sound, where the callers keep this
 pub record Stand (deck : List JobData) (initiators : ℕ) (kept : ℕ → Kept) (t : Points) : Type 0 where
@@ -32,8 +28,7 @@ pub record TasksStand (deck : List JobData) (initiators : ℕ) (t : Points) : Ty
 
 pub standing : (deck : List JobData) (initiators : ℕ) (kept : ℕ → Kept) (t : Points) → Stand deck initiators kept t
     → TasksStand deck initiators t
-standing deck initiators kept t s =
-    record { reader = s.at_reader; scheduler = s.at_scheduler.0; each = λ i lt. (s.at_initiator i lt).0; writer = s.at_writer }
+standing deck initiators kept t s = grind (arith, common_steps)
 
 abbrev pub HasStanding : List JobData → ℕ → System → Points → List Entry → Type 0
 HasStanding deck initiators s t past = TasksStand deck initiators t
@@ -58,18 +53,7 @@ module _ (c : Setup) (deck : List JobData) (initiators : ℕ) (facts : Facts c (
   pub stand_next : (kept : ℕ → Kept) (t u : Points) (e : Entry) → Move deck initiators t e u → Stand deck initiators kept t
       → Stand deck initiators (kept_next kept e) u
   stand_next kept t u e (reads x k at o op moved) s = grind (arith, common_steps)
-  stand_next kept t u e (schedules x k at o op moved) s = subst (λ v. Stand deck initiators (kept_next kept e) v) (sym moved) (record {
-    at_reader = s.at_reader;
-    at_scheduler = subst (λ z. SchedulerStands deck initiators z (scheduler_goes (length deck) initiators x e.reply))
-        (sym (kept_own kept e scheduler (scheduler_asks (length deck) x) k o op))
-        (scheduler_stands deck initiators (kept scheduler) x e.reply
-        (subst (λ p. SchedulerStands deck initiators (kept scheduler) p) at s.at_scheduler));
-    at_initiator = λ i lt. subst (λ z. InitiatorStands deck i z (t.initiators i))
-        (sym (kept_other kept e scheduler (initiator i) k (λ q. absurd (omega arith)))) (s.at_initiator i lt);
-    at_writer = s.at_writer;
-    writer_kept = subst (λ z. WriterKept initiators z)
-        (sym (kept_other kept e scheduler (writer initiators) k (λ q. absurd (omega arith)))) s.writer_kept;
-  })
+  stand_next kept t u e (schedules x k at o op moved) s = grind (arith, common_steps, kept_own, scheduler_stands, kept_other)
   stand_next kept t u e (initiates i x lt k at o op moved) s =
       subst (λ v. Stand deck initiators (kept_next kept e) v) (sym moved) (record {
         at_reader = s.at_reader;

@@ -3,10 +3,10 @@
 use Rattle.mv_plan.proofs.Words.{◌≡◌, ℕ, ◌<◌, List, [], ◌∷◌, ◌++◌, length, refl, sym, subst, append-nil, append_assoc, ◌⊎◌, inl, inr, ap}
 use Rattle.mv_plan.proofs.Words.{◌∙◌, Entry, IsNext, next, after_from, Setup, System, with_at, JobData, reader, scheduler, initiator}
 use Rattle.mv_plan.proofs.Words.{writer, cases_eq}
-use Rattle.mv_plan.proofs.points.Points.{Point, At, ReaderAt, entering_from, reader_asks, reader_goes, Dispatching, SchedulerAt, stage_at}
-use Rattle.mv_plan.proofs.points.Points.{scheduler_asks, scheduler_goes, WriterAt, writing_from, writer_asks, writer_goes, InitiatorAt}
-use Rattle.mv_plan.proofs.points.Points.{Opening, initiator_asks, initiator_goes}
-use Rattle.mv_plan.proofs.lists.Tables.{with_at-other}
+use Rattle.mv_plan.proofs.points.{Point, At, ReaderAt, entering_from, reader_asks, reader_goes, Dispatching, SchedulerAt, stage_at}
+use Rattle.mv_plan.proofs.points.{scheduler_asks, scheduler_goes, WriterAt, writing_from, writer_asks, writer_goes, InitiatorAt, Opening}
+use Rattle.mv_plan.proofs.points.{initiator_asks, initiator_goes}
+use Rattle.mv_plan.proofs.lists.{with_at-other}
 
 -- where all tasks stand
 pub record Points : Type 0 where
@@ -46,51 +46,33 @@ pub record AllTasks (initiators : ℕ) (P : (X : Type 0) → Point X → Type 0)
   pub at_initiator : (i : ℕ) → i < initiators → P InitiatorAt (t.initiators i)
   pub at_writer : P WriterAt t.writer
 
+pub all_tasks : (initiators : ℕ) (P : (X : Type 0) → Point X → Type 0) (t : Points) → P ReaderAt t.reader → P SchedulerAt t.scheduler
+    → ((i : ℕ) → i < initiators → P InitiatorAt (t.initiators i)) → P WriterAt t.writer → AllTasks initiators P t
+all_tasks initiators P t a b d e = record { at_reader = a; at_scheduler = b; at_initiator = d; at_writer = e }
+
 -- What is so of every point at which a task still stands was so before a move, if it is so after it: who moved stood at one, and
 -- the others stand where they stood.
 pub all_before : (P : (X : Type 0) → Point X → Type 0) → ((X : Type 0) (x : X) (p : Point X) → p ≡ At x → P X p)
     → (deck : List JobData) (initiators : ℕ) (t u : Points) (e : Entry) → Move deck initiators t e u → AllTasks initiators P u
     → AllTasks initiators P t
 all_before P stands deck initiators t u e (reads x k at o op moved) f =
-    let g : AllTasks initiators P (record t { reader = reader_goes x e.reply }) = subst (λ v. AllTasks initiators P v) moved f in
-    record {
-      at_reader = stands ReaderAt x t.reader at;
-      at_scheduler = g.at_scheduler;
-      at_initiator = g.at_initiator;
-      at_writer = g.at_writer;
-    }
+    let g : AllTasks initiators P (record t { reader = reader_goes x e.reply }) = subst (AllTasks initiators P) moved f in
+    all_tasks initiators P t (stands ReaderAt x t.reader at) g.at_scheduler g.at_initiator g.at_writer
 all_before P stands deck initiators t u e (schedules x k at o op moved) f =
-    let g : AllTasks initiators P (record t { scheduler = scheduler_goes (length deck) initiators x e.reply }) =
-    subst (λ v. AllTasks initiators P v) moved f in
-    record {
-      at_reader = g.at_reader;
-      at_scheduler = stands SchedulerAt x t.scheduler at;
-      at_initiator = g.at_initiator;
-      at_writer = g.at_writer;
-    }
+    let g = subst (AllTasks initiators P) moved f in
+    all_tasks initiators P t g.at_reader (stands SchedulerAt x t.scheduler at) g.at_initiator g.at_writer
 all_before P stands deck initiators t u e (initiates i x lt k at o op moved) f =
-    record {
-      at_reader = g.at_reader;
-      at_scheduler = g.at_scheduler;
-      at_initiator = λ m less. each m less (cases_eq i m);
-      at_writer = g.at_writer;
-    } where
+    all_tasks initiators P t g.at_reader g.at_scheduler (λ m less. each m less (cases_eq i m)) g.at_writer where
       g : AllTasks initiators P (record t { initiators = with_at t.initiators i (initiator_goes deck x e.reply) })
-      g = subst (λ v. AllTasks initiators P v) moved f
+      g = subst (AllTasks initiators P) moved f
 
       each : (m : ℕ) → m < initiators → (i ≡ m) ⊎ (i ≡ m → ⊥) → P InitiatorAt (t.initiators m)
       each m less (inl same) = stands InitiatorAt x (t.initiators m) (ap (λ j. t.initiators j) (sym same) ∙ at)
       each m less (inr other) =
           subst (λ p. P InitiatorAt p) (with_at-other t.initiators i m (initiator_goes deck x e.reply) other) (g.at_initiator m less)
 all_before P stands deck initiators t u e (writes x k at o op moved) f =
-    let g : AllTasks initiators P (record t { writer = writer_goes (length deck) x e.reply }) =
-    subst (λ v. AllTasks initiators P v) moved f in
-    record {
-      at_reader = g.at_reader;
-      at_scheduler = g.at_scheduler;
-      at_initiator = g.at_initiator;
-      at_writer = stands WriterAt x t.writer at;
-    }
+    let g : AllTasks initiators P (record t { writer = writer_goes (length deck) x e.reply }) = subst (AllTasks initiators P) moved f in
+    all_tasks initiators P t g.at_reader g.at_scheduler g.at_initiator (stands WriterAt x t.writer at)
 
 -- These entries lead from a machine and points to points: each is the machine's next, and the move of its caller.
 abbrev pub WalkTo : Setup → List JobData → ℕ → System → Points → List Entry → Points → Type 0
@@ -110,8 +92,7 @@ pub walk-parts : (c : Setup) (deck : List JobData) (initiators : ℕ) (s : Syste
     → (u : Points) × WalkTo c deck initiators s t xs u × WalkTo c deck initiators (after_from s xs) u ys v
 walk-parts c deck initiators s t v [] ys w = (t, refl, w)
 walk-parts c deck initiators s t v (x ∷ xs) ys w =
-    let r : (u : Points) × WalkTo c deck initiators (next s x) w.0 xs u × WalkTo c deck initiators (after_from (next s x) xs) u ys v =
-    walk-parts c deck initiators (next s x) w.0 v xs ys w.3 in
+    let r = walk-parts c deck initiators (next s x) w.0 v xs ys w.3 in
     (r.0, (w.0, w.1, w.2, r.1), r.2)
 
 -- What holds of the machine, the points and the entries so far, and is kept by each move, holds in the end.

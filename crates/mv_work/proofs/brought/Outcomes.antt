@@ -16,7 +16,7 @@ use Rattle.mv_plan.specs.SpoolSetup.{spool_setup, writer}
 use Rattle.mv_plan.specs.SpoolTasks.{task_program}
 use Rattle.mv_plan.proofs.deck.Planned.{planned}
 use Rattle.mv_plan.proofs.results.EndsPosted.{writer_keeps}
-use Rattle.mv_plan.proofs.results.Exclusive.{are_counted_alone}
+use Rattle.mv_plan.proofs.results.CountsAlone.{are_counted_alone}
 use Rattle.mv_work.specs.Records.{JobRecord}
 use Rattle.mv_work.specs.Recording.{AreBrought, all_records, lines_recorded}
 use Rattle.mv_work.proofs.brought.Lines.{run_lines}

@@ -2,7 +2,7 @@
 use Rattle.std.proofs.Common.{◌≡◌, ℕ, suc, ◌<◌, ◌≤◌, ◌==◌, List, [], ◌∷◌, length}
 use Rattle.std.proofs.Common.{if◌then◌else◌, refl, sym, ap, ◌∙◌, subst, arith}
 use Rattle.std.specs.List.{AllByRecursion}
-use Rattle.mv_machine.proofs.Lists.{all_append, all_filter}
+use Rattle.mv_machine.proofs.Lists.{all_map, all_append, all_filter}
 use Rattle.mv_machine.specs.declared.entry.Entry.{Entry}
 use Rattle.mv_machine.specs.Legal.{of}
 use Rattle.mv_machine.specs.Setup.{Setup}
@@ -21,8 +21,7 @@ use Rattle.mv_plan.specs.SpoolTasks.{initiating}
 use Rattle.mv_plan.proofs.deck.Codes.{code_parts}
 use Rattle.mv_plan.proofs.deck.Ends.{few_jobs, skipped_ends, end_by_mark}
 use Rattle.mv_plan.proofs.deck.Plans.{IsPlanned}
-use Rattle.mv_plan.proofs.lists.Lists.{all_map}
-use Rattle.mv_plan.proofs.results.Exclusive.{are_counted_alone}
+use Rattle.mv_plan.proofs.results.CountsAlone.{are_counted_alone}
 use Rattle.mv_plan.proofs.results.HandedOut.{are_handed_out}
 use Rattle.mv_plan.proofs.volumes.GivenCodes.{codes_of}
 use Rattle.mv_plan.proofs.walks.Histories.{Stood, stood}

@@ -1,6 +1,6 @@
--- The law is are_counted_alone of results/Exclusive.
+-- The law is are_counted_alone of results.CountsAlone.
 use Rattle.mv_plan.proofs.deck.Planned.{planned}
-use Rattle.mv_plan.proofs.results.Exclusive.{are_counted_alone}
+use Rattle.mv_plan.proofs.results.CountsAlone.{are_counted_alone}
 use Rattle.mv_plan.proofs.laws.runs_count_alone.Goals as goal
 
 pub returns : goal.returns

@@ -1,6 +1,6 @@
--- The law is are_purged_once of results/Exclusive.
+-- The law is are_purged_once of results.CountsAlone.
 use Rattle.mv_plan.proofs.deck.Planned.{planned}
-use Rattle.mv_plan.proofs.results.Exclusive.{are_purged_once}
+use Rattle.mv_plan.proofs.results.CountsAlone.{are_purged_once}
 use Rattle.mv_plan.proofs.laws.runs_purge_each_job.Goals as goal
 
 pub returns : goal.returns
