@@ -131,7 +131,7 @@ module _ (c d : Inside) (op : LatchOp) (l : Lists) (r : LatchReply) (h : IsSeate
   seated = logging.seated c d Latches (op_on.Latch op) l.place (reply_of.Latch r) (shown ∷ []) h left behind appended
       (showed ∙ sym (last_pushed (own c.seat.me.0).told shown))
 
-  pub possible : (b : Setup) → c.seat.me.0.about ≡ b ∷ [] → IsPossible b d.events.caller d.events.log.items (own d.seat.me.0).told
+  pub possible : (b : Setup) → c.seat.me.0.about ≡ b ∷ [] → IsPossible b d.events.caller d.events.log.entries (own d.seat.me.0).told
   possible = logging.possible c d Latches (op_on.Latch op) l.place (reply_of.Latch r) (shown ∷ []) h left behind appended
 
   pub as_listed : IsAsListed (face_of c) Latches (op_on.Latch op) (reply_of.Latch r)

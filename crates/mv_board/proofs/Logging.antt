@@ -1,12 +1,12 @@
 -- What a look and an event make of a caller.
-use Rattle.std.proofs.Common.{◌≡◌, ◌≤◌, ◌<◌, ℕ, ◌+◌, ◌-◌, ◌*◌, List, [], ◌∷◌, ◌++◌, length, vec_capacity, sym, ap, ◌∙◌, subst, arith}
-use Rattle.std.proofs.lemmas.List.{length-append}
+use Rattle.std.proofs.Common.{◌≡◌, ◌≤◌, ◌<◌, ℕ, ◌-◌, ◌*◌, List, [], ◌∷◌, ◌++◌, vec_capacity, sym, ap, ◌∙◌, subst, arith}
 use Rattle.std.specs.List.{AllByRecursion}
 use Rattle.mv_latch.specs.declared.operation.Wake.{Wake}
 use Rattle.mv_machine.specs.declared.entry.Entry.{Entry}
 use Rattle.mv_machine.specs.declared.entry.Object.{Object}
 use Rattle.mv_machine.specs.declared.entry.Op.{Op}
 use Rattle.mv_machine.specs.declared.entry.Reply.{Reply}
+use Rattle.mv_machine.specs.Log.{OpenLogFace, with_entry}
 use Rattle.mv_machine.specs.Parts.{IsBelow, IsPossible}
 use Rattle.mv_machine.specs.Setup.{Setup}
 use Rattle.mv_board.specs.declared.caller.Caller.TheInside.{Inside}
@@ -44,9 +44,9 @@ found_with c d o w ready h kept table m view = record {
   unpacks = m.unpacks;
   above = subst (λ (ps : List Part). IsBelow o m.place (first_of ps).log) h.parts m.above;
   met = ap (λ (u : View). (own u).sights) view ∙ ap (λ ps. (first_of (with_own (part_met o w) ps)).sights) h.parts;
-  log = ap (λ (x : Inside). x.events.log.items) kept;
+  log = ap (λ (x : Inside). x.events.log.entries) kept;
   left = ap (λ (x : Inside). x.events.left) kept;
-  room = ap (λ (x : Inside). vec_capacity x.events.log - length x.events.log.items) kept;
+  room = ap (λ (x : Inside). x.events.log.room) kept;
   told = ap (λ (u : View). (own u).told) view ∙ ap (λ ps. (first_of (with_own (part_met o w) ps)).told) h.parts;
   wakes = ap (λ (x : Inside). x.events.wakes.items) kept;
   returned = ap (λ (u : View). u.returned) view;
@@ -74,8 +74,7 @@ entry c o op place reply = record { caller = c.events.caller; object = o; place 
 pub record HasAppended (c d : Inside) (e : Entry) : Type 0 where
   pub caller : d.events.caller ≡ c.events.caller
   pub left : d.events.left ≡ c.events.left - 1
-  pub log : d.events.log.items ≡ c.events.log.items ++ e ∷ []
-  pub capacity : vec_capacity d.events.log ≡ vec_capacity c.events.log
+  pub log : d.events.log ≡ with_entry c.events.log e
   pub room : vec_capacity d.events.wakes ≡ vec_capacity c.events.wakes
   pub table : d.seat.table_id ≡ c.seat.table_id
   pub slots : d.seat.me.1 ≡ []
@@ -98,7 +97,7 @@ module _ (c d : Inside) (o : Object) (op : Op) (place : ℕ) (reply : Reply) (sh
   parts_after : d.seat.me.0.parts ≡ record {
     caller = c.events.caller;
     left = c.events.left - 1;
-    log = c.events.log.items ++ entry c o op place reply ∷ [];
+    log = c.events.log.entries ++ entry c o op place reply ∷ [];
     told = (own c.seat.me.0).told ++ shown;
     sights = (own c.seat.me.0).sights ++ grew.more;
   } ∷ []
@@ -111,8 +110,11 @@ module _ (c d : Inside) (o : Object) (op : Op) (place : ℕ) (reply : Reply) (sh
   pub told_after : (own d.seat.me.0).told ≡ (own c.seat.me.0).told ++ shown
   told_after = ap (λ ps. (first_of ps).told) parts_after
 
-  one_longer : length d.events.log.items ≡ length c.events.log.items + 1
-  one_longer = ap length more.log ∙ length-append c.events.log.items (entry c o op place reply ∷ [])
+  entries_after : d.events.log.entries ≡ c.events.log.entries ++ entry c o op place reply ∷ []
+  entries_after = ap (λ (l : OpenLogFace). l.entries) more.log
+
+  room_after : d.events.log.room ≡ c.events.log.room - 1
+  room_after = ap (λ (l : OpenLogFace). l.room) more.log
 
   pub met_after : (own d.seat.me.0).sights ≡ (own c.seat.me.0).sights ++ grew.more
   met_after = ap (λ ps. (first_of ps).sights) parts_after
@@ -121,9 +123,9 @@ module _ (c d : Inside) (o : Object) (op : Op) (place : ℕ) (reply : Reply) (sh
   happened shows looks = record {
     same = record { table = more.table; about = grew.about; number = more.caller };
     above = subst (λ (ps : List Part). IsBelow o place (first_of ps).log) h.parts grew.above;
-    logged = more.log;
+    logged = entries_after;
     left = (let less = more.left in omega arith);
-    room = (let n = one_longer in let cap = more.capacity in let r = h.room in omega arith);
+    room = (let r = h.room in omega (arith, room_after, left));
     shown = shows;
     met = looks;
     returned = grew.returned;
@@ -134,14 +136,14 @@ module _ (c d : Inside) (o : Object) (op : Op) (place : ℕ) (reply : Reply) (sh
   parts_again : d.seat.me.0.parts ≡ record {
     caller = d.events.caller;
     left = d.events.left;
-    log = d.events.log.items;
+    log = d.events.log.entries;
     told = (own d.seat.me.0).told;
     sights = (own d.seat.me.0).sights;
   } ∷ []
   parts_again = parts_after ∙ (λ i. record {
     caller = sym more.caller i;
     left = sym more.left i;
-    log = sym more.log i;
+    log = sym entries_after i;
     told = sym told_after i;
     sights = sym met_after i;
   } ∷ [])
@@ -151,7 +153,8 @@ module _ (c d : Inside) (o : Object) (op : Op) (place : ℕ) (reply : Reply) (sh
     empty = more.slots;
     parts = parts_again;
     turn = grew.turn;
-    room = (let n = one_longer in let cap = more.capacity in let r = h.room in let less = more.left in omega arith);
+    whose = ap (λ (l : OpenLogFace). l.caller) more.log ∙ (h.whose ∙ sym more.caller);
+    room = (let r = h.room in let less = more.left in omega (arith, room_after));
     wakes = subst (λ (z : List Setup × ℕ). AllByRecursion (λ (s : Setup). s.callers * s.quota ≤ z.1) z.0)
         (λ i. (sym grew.about i, sym more.room i)) h.wakes;
     shown = wakes ∙ ap last_of (sym told_after);
@@ -160,7 +163,7 @@ module _ (c d : Inside) (o : Object) (op : Op) (place : ℕ) (reply : Reply) (sh
     few = (let less = more.left in let f = h.few in omega arith);
   }
 
-  pub possible : (b : Setup) → c.seat.me.0.about ≡ b ∷ [] → IsPossible b d.events.caller d.events.log.items (own d.seat.me.0).told
+  pub possible : (b : Setup) → c.seat.me.0.about ≡ b ∷ [] → IsPossible b d.events.caller d.events.log.entries (own d.seat.me.0).told
   possible b about =
       let mine : Part = own d.seat.me.0 in
       let all = subst (AllByRecursion (λ (s : Setup). IsPossible s mine.caller mine.log mine.told)) (grew.about ∙ about) grew.possible in

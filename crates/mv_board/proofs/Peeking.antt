@@ -1,5 +1,5 @@
 -- What a look for what is ready makes of a caller.
-use Rattle.std.proofs.Common.{◌<◌, ◌≡◌, ◌≤◌, ℕ, ◌*◌, ◌-◌, Bool, true, false, Some, List, [], ◌∷◌, ◌++◌, length, vec_capacity, refl, sym}
+use Rattle.std.proofs.Common.{◌<◌, ◌≡◌, ◌≤◌, ℕ, ◌*◌, Bool, true, false, Some, List, [], ◌∷◌, ◌++◌, vec_capacity, refl, sym}
 use Rattle.std.proofs.Common.{ap, ◌∙◌, subst}
 use Rattle.std.specs.List.{AllByRecursion}
 use Rattle.mv_latch.specs.Latch.{confirm_reply, is_settled}
@@ -74,9 +74,9 @@ module _ (c d : Inside) (latch id : ℕ) (l : Lists) (is : Bool) (h : IsSeated c
     returned = ap (λ (u : View). u.returned) after;
     ready = ap (λ (u : View). u.ready) after;
     same = record { table = table; about = ap (λ (u : View). u.about) after; number = ap (λ (x : Inside). x.events.caller) kept };
-    log = ap (λ (x : Inside). x.events.log.items) kept;
+    log = ap (λ (x : Inside). x.events.log.entries) kept;
     left = ap (λ (x : Inside). x.events.left) kept;
-    room = ap (λ (x : Inside). vec_capacity x.events.log - length x.events.log.items) kept;
+    room = ap (λ (x : Inside). x.events.log.room) kept;
     told = ap (λ (u : View). (own u).told) after;
     wakes = ap (λ (x : Inside). x.events.wakes.items) kept;
     met = ap (λ (u : View). (own u).sights) after;
@@ -89,11 +89,12 @@ module _ (c d : Inside) (latch id : ℕ) (l : Lists) (is : Bool) (h : IsSeated c
         parts = ap (λ (u : View). u.parts) after ∙ (h.parts ∙ (λ i. record {
           caller = c.events.caller;
           left = c.events.left;
-          log = c.events.log.items;
+          log = c.events.log.entries;
           told = (own (sym after i)).told;
           sights = (own (sym after i)).sights;
         } ∷ []));
         turn = ap (λ (u : View). u.turn) after;
+        whose = h.whose;
         room = h.room;
         wakes = subst (AllByRecursion (λ (s : Setup). s.callers * s.quota ≤ vec_capacity c.events.wakes))
             (sym (ap (λ (u : View). u.about) after)) h.wakes;

@@ -6,6 +6,7 @@ use Rattle.mv_machine.specs.declared.entry.Object.{Object}
 use Rattle.mv_machine.specs.declared.entry.Object.TheVariants.{Ecb, Element, Volume, Latches}
 use Rattle.mv_machine.specs.declared.entry.Op.{Op}
 use Rattle.mv_machine.specs.declared.entry.Reply.{Reply}
+use Rattle.mv_machine.specs.Log.{with_entry}
 use Rattle.mv_machine.specs.Parts.{IsPossible}
 use Rattle.mv_machine.specs.Setup.{Setup}
 use Rattle.mv_board.specs.declared.caller.Caller.TheInside.{Inside}
@@ -55,8 +56,7 @@ looks_at k Latches c d more has met there = absurd has
 -- a caller with the event appended, and its wakes as they were
 pub record HasLogged (c d : Inside) (e : Entry) : Type 0 where
   pub same : d.events ≡ record c.events { left = c.events.left - 1; log = d.events.log }
-  pub log : d.events.log.items ≡ c.events.log.items ++ e ∷ []
-  pub capacity : vec_capacity d.events.log ≡ vec_capacity c.events.log
+  pub log : d.events.log ≡ with_entry c.events.log e
   pub table : d.seat.table_id ≡ c.seat.table_id
   pub slots : d.seat.me.1 ≡ c.seat.me.1
 
@@ -70,7 +70,6 @@ module _ (c d : Inside) (o : Object) (op : Op) (place : ℕ) (reply : Reply) (h 
     caller = ap (λ (x : Events). x.caller) log.same;
     left = ap (λ (x : Events). x.left) log.same;
     log = log.log;
-    capacity = log.capacity;
     room = ap (λ (x : Events). vec_capacity x.wakes) log.same;
     table = log.table;
     slots = log.slots ∙ h.empty;
@@ -100,5 +99,5 @@ module _ (c d : Inside) (o : Object) (op : Op) (place : ℕ) (reply : Reply) (h 
   seated = logging.seated c d o op place reply [] h left behind appended
       (wakes_kept ∙ (h.shown ∙ ap last_of (sym (append-nil (own c.seat.me.0).told))))
 
-  pub possible : (b : Setup) → c.seat.me.0.about ≡ b ∷ [] → IsPossible b d.events.caller d.events.log.items (own d.seat.me.0).told
+  pub possible : (b : Setup) → c.seat.me.0.about ≡ b ∷ [] → IsPossible b d.events.caller d.events.log.entries (own d.seat.me.0).told
   possible = logging.possible c d o op place reply [] h left behind appended

@@ -1,5 +1,5 @@
 -- How contracts see a caller.
-use Rattle.std.specs.Prelude.{◌≡◌, ◌-◌, ◌+◌, ◌*◌, ◌<◌, ◌≤◌, [], ◌∷◌, length, vec_capacity}
+use Rattle.std.specs.Prelude.{◌≡◌, ◌*◌, ◌<◌, ◌≤◌, [], ◌∷◌, vec_capacity}
 use Rattle.std.specs.List.{AllByRecursion}
 use Rattle.mv_machine.specs.Limits.{events_limit}
 use Rattle.mv_machine.specs.Setup.{Setup}
@@ -14,8 +14,8 @@ face_of i = record {
   about = i.seat.me.0.about;
   number = i.events.caller;
   left = i.events.left;
-  room = vec_capacity i.events.log - length i.events.log.items;
-  log = i.events.log.items;
+  room = i.events.log.room;
+  log = i.events.log.entries;
   told = (own i.seat.me.0).told;
   wakes = i.events.wakes.items;
   met = (own i.seat.me.0).sights;
@@ -23,19 +23,20 @@ face_of i = record {
   ready = i.seat.me.0.ready;
 }
 
--- the seat holds nothing, and knows the caller alone, with its log. There is room for all its events, and for all wakes. There is
--- such a caller, and no caller has more events left than all have together
+-- the seat holds nothing, and knows the caller alone, with its log, which has room for all its events. There is room for all wakes.
+-- There is such a caller, and no caller has more events left than all have together
 pub record IsSeated (i : Inside) : Type 0 where
   pub empty : i.seat.me.1 ≡ []
   pub parts : i.seat.me.0.parts ≡ record {
     caller = i.events.caller;
     left = i.events.left;
-    log = i.events.log.items;
+    log = i.events.log.entries;
     told = (own i.seat.me.0).told;
     sights = (own i.seat.me.0).sights;
   } ∷ []
   pub turn : i.seat.me.0.turn ≡ []
-  pub room : length i.events.log.items + i.events.left ≤ vec_capacity i.events.log
+  pub whose : i.events.log.caller ≡ i.events.caller
+  pub room : i.events.left ≤ i.events.log.room
   pub wakes : AllByRecursion (λ (c : Setup). c.callers * c.quota ≤ vec_capacity i.events.wakes) i.seat.me.0.about
   pub shown : i.events.wakes.items ≡ last_of (own i.seat.me.0).told
   pub exists : AllByRecursion (λ (c : Setup). i.events.caller < c.callers) i.seat.me.0.about

@@ -23,7 +23,7 @@ use crate::words::{BEFORE_ECBS, PLACE, change, is_ready, test_of, word_number};
 use atomic_table::{Seat, Table};
 use crossbeam_utils::Backoff;
 use mv_io::NoMemory;
-use mv_machine::{Log, MergeRoom, Object, Op, Reply, ValidConfig};
+use mv_machine::{Log, MergeRoom, Object, Op, OpenLog, Reply, ValidConfig};
 use std::alloc::Global;
 use std::marker::Model;
 use std::sync::Wait;
@@ -330,7 +330,7 @@ fn seated(
     let events = Events {
         caller: number,
         left,
-        log: Vec::with_capacity(alloc, left as usize)?,
+        log: OpenLog::with_room(alloc, number, left as usize)?,
         wakes: Vec::with_capacity(alloc, config.most_wakes())?,
     };
     Ok(Caller { events, seat })

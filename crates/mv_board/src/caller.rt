@@ -1,8 +1,9 @@
 //! A caller: the events that it made, and its seat at the table (`specs/Caller.antt`). Clauses cite `specs/Faces.antt`.
 
-ghost use Rattle.std.specs.Prelude.{◌≡◌, ◌<◌, ◌≤◌, ◌-◌, ◌++◌, ◌∷◌, [], vec_len, vec_capacity};
+ghost use Rattle.std.specs.Prelude.{◌≡◌, ◌<◌, ◌≤◌, ◌-◌};
 ghost use Rattle.std.specs.List.{AllByRecursion};
 ghost use Rattle.mv_machine.specs.Limits.{events_limit};
+ghost use Rattle.mv_machine.specs.Log.{with_entry};
 ghost use Rattle.mv_machine.specs.Setup.{Setup};
 ghost use Rattle.mv_board.specs.Faces.{last_of};
 
@@ -10,7 +11,7 @@ use crate::item::Item;
 use crate::view::View;
 use atomic_table::Seat;
 use mv_latch::Wake;
-use mv_machine::{Entry, Object, Op, Reply};
+use mv_machine::{Object, Op, OpenLog, Reply};
 use std::marker::Model;
 
 /// The word that an exchange found in place of the one expected: a place times 2^45, and a state in the 45 bits below.
@@ -22,7 +23,7 @@ pub struct Moved(pub u64);
 pub(crate) struct Events {
     pub caller: u32,
     pub left: u32,
-    pub log: Vec<Entry>,
+    pub log: OpenLog,
     /// Those of the last event on the latch set.
     pub wakes: Vec<Wake>,
 }
@@ -31,20 +32,14 @@ impl Events {
     /// One event more, and one less that is left.
     pub(crate) fn append(&mut self, object: Object, place: u32, op: Op, reply: Reply)
         requires left { 0 < self.old.left }
-        requires room { vec_len self.old.log < vec_capacity self.old.log }
+        requires room { 0 < self.old.log.room }
+        requires whose { self.old.log.caller ≡ self.old.caller }
         ensures same { self.new ≡ record self.old { left = self.old.left - 1; log = self.new.log } }
-        ensures logged { self.new.log.items ≡ self.old.log.items
-            ++ record { caller = self.old.caller; object = object; place = place; op = op; reply = reply } ∷ [] }
-        ensures capacity { vec_capacity self.new.log ≡ vec_capacity self.old.log }
+        ensures logged { self.new.log ≡ with_entry self.old.log
+            record { caller = self.old.caller; object = object; place = place; op = op; reply = reply } }
     {
         self.left -= 1;
-        self.log.push_reserved(Entry {
-            caller: self.caller,
-            object,
-            place,
-            op,
-            reply,
-        });
+        self.log.push(object, place, op, reply);
     }
 }
 
@@ -86,8 +81,8 @@ impl Caller {
     }
 
     /// Its entries so far, in order: its part of the history, whatever the others do.
-    pub fn log(&self) -> &[Entry]
-        ensures { result.now ≡ self.now.log }
+    pub fn log(&self) -> &OpenLog
+        ensures { result.now.entries ≡ self.now.log }
     {
         &self.events.log
     }

@@ -117,9 +117,7 @@ impl Closing {
             }
         };
         self.seat = Some(seat);
-        self.logs.push_reserved(Log {
-            entries: events.log,
-        });
+        self.logs.push_reserved(events.log.close());
     }
 
     /// Makes one history of the logs of all callers: what `Board::close` says. It needs no memory, and never refuses.

@@ -74,62 +74,62 @@ module _ (x : Inside) (known : IsHistory x) where
     rest = lefts (set x.merged.items p.caller p.merged) x.logs.items
 
     later : List Entry
-    later = merge_from (entry_count rest) (risen (place_of (system_of x.state)) p.entry.now.object) rest
+    later = merge_from (entry_count rest) (risen (place_of (system_of x.state)) p.entry.object) rest
 
     legal : Legal x.config (merged x.logs.items)
     legal = logs_legal x.config x.logs.items known.one
 
-    cut : (past_of x ++ p.entry.now ∷ []) ++ later ≡ merged x.logs.items
+    cut : (past_of x ++ p.entry ∷ []) ++ later ≡ merged x.logs.items
     unfolding rest later
     cut =
-        pick_taken (place_of (system_of x.state)) _ (lefts x.merged.items x.logs.items) _ p.entry.now (past_of x)
+        pick_taken (place_of (system_of x.state)) _ (lefts x.merged.items x.logs.items) _ p.entry (past_of x)
         (merged x.logs.items) is.picks refl known.whole
 
-    pub place_fits : place_of (system_of x.state) p.entry.now.object ≤ highest_place
+    pub place_fits : place_of (system_of x.state) p.entry.object ≤ highest_place
     place_fits =
-        let so_far = before x.config (merged x.logs.items) (past_of x) later p.entry.now legal cut in
-        let low : place_of (system_of x.state) p.entry.now.object ≤ length (past_of x) =
-        subst (λ (z : System). place_of z p.entry.now.object ≤ length (past_of x)) (sym known.after)
-        (place_low x.config (past_of x) p.entry.now.object so_far) in
+        let so_far = before x.config (merged x.logs.items) (past_of x) later p.entry legal cut in
+        let low : place_of (system_of x.state) p.entry.object ≤ length (past_of x) =
+        subst (λ (z : System). place_of z p.entry.object ≤ length (past_of x)) (sym known.after)
+        (place_low x.config (past_of x) p.entry.object so_far) in
         omega (
           arith,
           low,
           ap length cut,
-          length-append (past_of x ++ p.entry.now ∷ []) later,
-          length-append (past_of x) (p.entry.now ∷ []),
+          length-append (past_of x ++ p.entry ∷ []) later,
+          length-append (past_of x) (p.entry ∷ []),
           known.few,
         )
 
     -- the machine makes it
     module _ (s : State) (opened : IsOpenedWith x.config s)
         (steps_to : system_of s
-        ≡ after_step x.config (system_of x.state) p.entry.now.caller p.entry.now.object p.entry.now.op)
+        ≡ after_step x.config (system_of x.state) p.entry.caller p.entry.object p.entry.op)
         (shows_then : wakes_of s
-        ≡ wakes_after x.config (system_of x.state) (wakes_of x.state) p.entry.now.caller p.entry.now.object p.entry.now.op) where
+        ≡ wakes_after x.config (system_of x.state) (wakes_of x.state) p.entry.caller p.entry.object p.entry.op) where
       abbrev pub then : Inside
       then = record { config = x.config; logs = x.logs; state = s; merged = with_item x.merged p.caller p.merged }
 
-      made : system_of s ≡ after x.config (past_of x ++ p.entry.now ∷ [])
+      made : system_of s ≡ after x.config (past_of x ++ p.entry ∷ [])
       made =
           steps_to
-          ∙ (ap (λ z. after_step x.config z p.entry.now.caller p.entry.now.object p.entry.now.op) known.after
-          ∙ steps x.config (merged x.logs.items) (past_of x) later p.entry.now legal cut)
+          ∙ (ap (λ z. after_step x.config z p.entry.caller p.entry.object p.entry.op) known.after
+          ∙ steps x.config (merged x.logs.items) (past_of x) later p.entry legal cut)
 
-      places : place_of (system_of s) ≡ risen (place_of (system_of x.state)) p.entry.now.object
+      places : place_of (system_of s) ≡ risen (place_of (system_of x.state)) p.entry.object
       places =
           ap place_of made
-          ∙ (places_rise x.config (merged x.logs.items) (past_of x) later p.entry.now legal cut
-          ∙ ap (λ z. risen (place_of z) p.entry.now.object) (sym known.after))
+          ∙ (places_rise x.config (merged x.logs.items) (past_of x) later p.entry legal cut
+          ∙ ap (λ z. risen (place_of z) p.entry.object) (sym known.after))
 
       coming_later : coming_of then ≡ later
       unfolding later rest
       coming_later = λ i. merge_from (entry_count rest) (places i) rest
 
-      whole_then : (past_of x ++ p.entry.now ∷ []) ++ coming_of then ≡ merged x.logs.items
-      whole_then = ap (λ l. (past_of x ++ p.entry.now ∷ []) ++ l) coming_later ∙ cut
+      whole_then : (past_of x ++ p.entry ∷ []) ++ coming_of then ≡ merged x.logs.items
+      whole_then = ap (λ l. (past_of x ++ p.entry ∷ []) ++ l) coming_later ∙ cut
 
-      past_then : past_of then ≡ past_of x ++ p.entry.now ∷ []
-      past_then = front_is (past_of x ++ p.entry.now ∷ []) (coming_of then) (merged x.logs.items) whole_then
+      past_then : past_of then ≡ past_of x ++ p.entry ∷ []
+      past_then = front_is (past_of x ++ p.entry ∷ []) (coming_of then) (merged x.logs.items) whole_then
 
       pub goes_on : IsHistory then
       goes_on = record {
@@ -140,17 +140,17 @@ module _ (x : Inside) (known : IsHistory x) where
         opened = opened;
         after = made ∙ ap (after x.config) (sym past_then);
         wakes = shows_then
-            ∙ ((λ i. wakes_after x.config (known.after i) (known.wakes i) p.entry.now.caller p.entry.now.object p.entry.now.op)
-            ∙ (shows x.config (merged x.logs.items) (past_of x) later p.entry.now legal cut
+            ∙ ((λ i. wakes_after x.config (known.after i) (known.wakes i) p.entry.caller p.entry.object p.entry.op)
+            ∙ (shows x.config (merged x.logs.items) (past_of x) later p.entry legal cut
             ∙ ap (last_wakes x.config) (sym past_then)));
       }
 
-      pub given : IsGiven (history_of x) p.entry.now (history_of then)
+      pub given : IsGiven (history_of x) p.entry (history_of then)
       unfolding later rest
       given = record {
         config = refl;
         past = past_then;
         coming =
-            gives_one (place_of (system_of x.state)) (lefts x.merged.items x.logs.items) p.entry.now rest is.picks
-            ∙ ap (λ l. p.entry.now ∷ l) (sym coming_later);
+            gives_one (place_of (system_of x.state)) (lefts x.merged.items x.logs.items) p.entry rest is.picks
+            ∙ ap (λ l. p.entry ∷ l) (sym coming_later);
       }

@@ -14,6 +14,8 @@ pub mod Valid
 pub mod Replay
 pub mod Packing
 pub mod Parts
+pub mod Packed
+pub mod Log
 pub mod Merge
 pub mod History
 pub mod Room

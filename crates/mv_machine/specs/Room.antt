@@ -30,7 +30,7 @@ lefts (n ∷ ns) (log ∷ logs) = drop n log ∷ lefts ns logs
 -- the entry is picked, and as many of its caller's as it says are merged then
 pub record IsPicked (places : Places) (merged : List ℕ) (logs : List (List Entry)) (p : Picked) : Type 0 where
   pub caller : p.caller < length merged
-  pub picks : pick places (lefts merged logs) ≡ Some (p.entry.now, lefts (slice_set merged p.caller p.merged) logs)
+  pub picks : pick places (lefts merged logs) ≡ Some (p.entry, lefts (slice_set merged p.caller p.merged) logs)
 
 -- the merge of what is left of all logs
 abbrev pub coming_of : Inside → List Entry

@@ -8,7 +8,9 @@ mod config;
 mod entry;
 mod laws;
 mod limits;
+mod log;
 mod merging;
+mod packed;
 mod packing;
 mod reaching;
 mod replaying;
@@ -24,7 +26,8 @@ pub use laws::{
     words_go_by_the_machine, words_stay_had,
 };
 pub use limits::{HIGHEST_GENERATION, HIGHEST_PLACE};
-pub use merging::{History, Listed, Log, MergeRoom};
+pub use log::{Log, OpenLog};
+pub use merging::{History, Listed, MergeRoom};
 pub use packing::{WordState, pack, state_apply, unpack};
 pub use replaying::{Illegal, ReplayRefusal, replay};
 pub use state::State;

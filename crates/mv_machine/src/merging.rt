@@ -12,26 +12,12 @@ ghost use Rattle.mv_machine.specs.System.{place_of};
 ghost use Rattle.mv_machine.specs.Told.{last_wakes};
 
 use crate::entry::Entry;
+use crate::log::Log;
 use crate::state::State;
 use crate::valid::ValidConfig;
 use mv_io::NoMemory;
 use std::alloc::Global;
 use std::marker::Model;
-
-/// The entries of one caller, in the order in which it made them. Contracts see them as a list.
-#[derive(Drop)]
-pub struct Log {
-    pub entries: Vec<Entry>,
-}
-
-impl Model for Log {
-    ghost use Rattle.std.specs.Prelude.{List};
-    ghost use Rattle.mv_machine.specs.declared.entry.Entry.{Entry};
-
-    ghost Value = { List Entry };
-
-    ghost view = { λ l. l.entries.items };
-}
 
 /// The memory of a history: with it `History::new` takes none. It serves one history.
 #[derive(Drop)]
@@ -57,16 +43,16 @@ impl MergeRoom {
     }
 }
 
-// What a merge takes next: an entry, where its log has it, its caller, and how many of the caller's entries are merged then.
+// What a merge takes next: an entry, its caller, and how many of the caller's entries are merged then.
 #[derive(Clone, Copy)]
-struct Picked<'a> {
+struct Picked {
     caller: usize,
     merged: usize,
-    entry: &'a Entry,
+    entry: Entry,
 }
 
 // The lowest caller whose next entry has its object's next place gives that entry.
-fn ready<'a>(logs: &'a [Log], merged: &[usize], state: &State) -> Option<Picked<'a>>
+fn ready(logs: &[Log], merged: &[usize], state: &State) -> Option<Picked>
     requires merged { length merged.now ≡ length logs.now }
     requires objects { AllByRecursion (λ log. AllByRecursion (λ e. Exists state.now e.object) log) logs.now }
     ensures { MatchOption result (pick (place_of (system_of state.now)) (lefts merged.now logs.now) ≡ None)
@@ -74,8 +60,11 @@ fn ready<'a>(logs: &'a [Log], merged: &[usize], state: &State) -> Option<Picked<
 {
     for (caller, log) in logs.iter().enumerate() {
         let from = merged[caller];
-        if let Some(entry) = log.entries.get(from) {
-            if state.place(entry.object) == entry.place {
+        if let Some((object, place)) = log.subject(from) {
+            if state.place(object) == place {
+                let Some(entry) = log.get(from) else {
+                    unreachable!()
+                };
                 return Some(Picked {
                     caller,
                     merged: from + 1,
@@ -162,7 +151,7 @@ impl History {
         ensures { MatchOption result ((self.old.coming ≡ []) × (self.new ≡ self.old)) (λ e. IsGiven self.old e self.new) }
     {
         let picked = ready(&self.logs, &self.merged, &self.state)?;
-        let entry = *picked.entry;
+        let entry = picked.entry;
         self.merged[picked.caller] = picked.merged;
         self.state
             .step(&self.config, entry.caller, entry.object, entry.op);

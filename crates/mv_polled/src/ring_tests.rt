@@ -12,7 +12,7 @@ ghost use Rattle.mv_polled.specs.Waiting.{IsWaitAt};
 
 use super::*;
 use crate::tests::{a_wait, given, is_over, open, post, release_to, token};
-use mv_machine::{Entry, replay};
+use mv_machine::{OpenLog, replay};
 use mv_pause::allocate;
 use mv_wait::{Station, Task};
 use std::alloc::Global;
@@ -226,11 +226,13 @@ fn begin_all<R: Abort + Wait>(
     Ok(runners)
 }
 
-// Marks the task of each key that these entries ring. Task e has block e and element e, whose keys end in e.
-fn hear(woken: &mut [bool; 8], entries: &[Entry], from: usize) {
-    for entry in entries.iter().skip(from) {
-        if let Some(key) = rung(entry) {
-            woken[(key & 7) as usize] = true;
+// Marks the task of each key that the entries of a log from this one on ring. Task e has block e and element e, whose keys end in e.
+fn hear(woken: &mut [bool; 8], log: &OpenLog, from: usize) {
+    for at in from..log.len() {
+        if let Some(entry) = log.get(at) {
+            if let Some(key) = rung(&entry) {
+                woken[(key & 7) as usize] = true;
+            }
         }
     }
 }

@@ -56,8 +56,9 @@ pub(crate) fn open(alloc: Global, owners: Vec<u32>) -> Result<(Station, Vec<Task
 fn assert_made<R: Abort>(rt: &R, task: &Task, made: &[(Op, Option<u64>)]) {
     let log = task.log();
     assert_eq!(rt; log.len(), made.len());
-    for (entry, made) in log.iter().zip(made) {
-        assert_eq!(rt; (entry.op, rung(entry)), *made);
+    for at in 0..made.len() {
+        let entry = log.get(at).expect(rt, "an entry");
+        assert_eq!(rt; (entry.op, rung(&entry)), made[at]);
     }
 }
 

@@ -11,7 +11,7 @@ use crate::keep::{Keep, OwnElement, key_of, posting_count};
 use crate::pausing::Pauses;
 use mv_board::Caller;
 use mv_latch::Wake;
-use mv_machine::Entry;
+use mv_machine::OpenLog;
 use std::marker::Model;
 
 /// One task of a station: a caller's seat, which one thread has at a time. No other task's call changes anything of it. None of
@@ -56,8 +56,8 @@ impl Task {
     }
 
     /// Its entries so far, in order.
-    pub fn log(&self) -> &[Entry]
-        ensures { result.now ≡ self.now.log }
+    pub fn log(&self) -> &OpenLog
+        ensures { result.now.entries ≡ self.now.log }
     {
         self.caller.log()
     }

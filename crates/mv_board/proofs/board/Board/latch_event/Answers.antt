@@ -41,7 +41,7 @@ compare_exchange_with-requires g c =
     let left : 0 < c.caller.inside.events.left = rw (ap (λ (d : CallerFace). d.left) c.caller.view_is) c.requires.left in
     let config = ap (λ (b : BoardFace). b.config) c.self.view_is in
     let about = ap (λ (d : CallerFace). d.about) c.caller.view_is ∙ (c.requires.board.1 ∙ ap (λ s. s ∷ []) (sym config)) in
-    let may : allowed c.self.inside.config c.caller.inside.events.caller c.caller.inside.events.log.items Latches (op_on.Latch c.args.op)
+    let may : allowed c.self.inside.config c.caller.inside.events.caller c.caller.inside.events.log.entries Latches (op_on.Latch c.args.op)
     ≡ true =
     (λ i. allowed (config i) (c.caller.view_is i).number (c.caller.view_is i).log Latches (op_on.Latch c.args.op))
     ∙ c.requires.admitted in (
@@ -83,7 +83,6 @@ appended g c = record {
   caller = ap (λ (x : Events). x.caller) c.append.ensures.same;
   left = ap (λ (x : Events). x.left) c.append.ensures.same;
   log = c.append.ensures.logged;
-  capacity = c.append.ensures.capacity;
   room = ap (λ (x : Events). vec_capacity x.wakes) c.append.ensures.same ∙ c.apply.ensures.capacity;
   table = c.compare_exchange_with.ensures.0 ∙ (c.exchange.ensures.0 ∙ c.take-place.ensures.same);
   slots = c.compare_exchange_with.ensures.2.slots ∙ ap (λ (m : Me Item View). rest m.1) (now g c);

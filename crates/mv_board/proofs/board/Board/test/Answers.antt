@@ -1,5 +1,6 @@
-use Rattle.std.proofs.Common.{◌≡◌, ◌<◌, ◌++◌, ◌∷◌, [], Some, None, refl, sym, ap, ◌∙◌, subst}
+use Rattle.std.proofs.Common.{◌≡◌, ◌<◌, [], Some, None, refl, sym, ap, ◌∙◌, subst}
 use Rattle.mv_machine.specs.declared.entry.Op.{Op}
+use Rattle.mv_machine.specs.Log.{with_entry}
 use Rattle.mv_board.specs.declared.caller.Caller.TheInside.{Inside}
 use Rattle.mv_board.specs.Caller.{face_of}
 use Rattle.mv_board.specs.Faces.{CallerFace, HappenedAt}
@@ -60,9 +61,8 @@ logged : (c : goal.After-append)
 unfolding later
 logged c = record {
   same = c.append.ensures.same;
-  log = c.append.ensures.logged ∙ ap (λ (op : Op). c.caller.inside.events.log.items ++ entry c.caller.inside c.args.object op
-      c.in-Some.place c.in-Some.reply ∷ []) c.test_of-op.ensures;
-  capacity = c.append.ensures.capacity;
+  log = c.append.ensures.logged ∙ ap (λ (op : Op). with_entry c.caller.inside.events.log (entry c.caller.inside c.args.object op
+      c.in-Some.place c.in-Some.reply)) c.test_of-op.ensures;
   table = c.fetch_add-word.ensures.0;
   slots = c.fetch_add-word.ensures.2.slots;
 }

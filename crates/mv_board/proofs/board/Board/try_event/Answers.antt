@@ -50,7 +50,7 @@ pub compare_exchange_with-found-requires : goal.compare_exchange_with-found-requ
 compare_exchange_with-found-requires c =
     let has : HasWord c.self.inside.config c.args.object = has_word c.self.inside _ _ c.self.view_is c.requires.word in
     let left : 0 < c.caller.inside.events.left = rw (ap (λ (d : CallerFace). d.left) c.caller.view_is) c.requires.left in
-    let may : allowed c.self.inside.config c.caller.inside.events.caller c.caller.inside.events.log.items c.args.object c.args.op ≡ true =
+    let may : allowed c.self.inside.config c.caller.inside.events.caller c.caller.inside.events.log.entries c.args.object c.args.op ≡ true =
     (λ i. allowed (c.self.view_is i).config (c.caller.view_is i).number (c.caller.view_is i).log c.args.object c.args.op)
     ∙ c.requires.admitted in (
       same_table c.self.inside c.caller.inside _ _ c.self.view_is c.caller.view_is c.requires.board,
@@ -99,7 +99,6 @@ unfolding later
 logged c = record {
   same = c.append.ensures.same;
   log = c.append.ensures.logged;
-  capacity = c.append.ensures.capacity;
   table = c.compare_exchange_with-found.ensures.0;
   slots = c.compare_exchange_with-found.ensures.2.slots;
 }

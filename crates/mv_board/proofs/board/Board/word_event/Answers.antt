@@ -18,7 +18,6 @@ returns-clause-event g c =
     let logged : HasLogged c.caller.inside later (entry c.caller.inside c.args.object c.args.op place reply) = record {
       same = c.append.ensures.same;
       log = c.append.ensures.logged;
-      capacity = c.append.ensures.capacity;
       table = c.exchange-place.ensures.same.0;
       slots = c.exchange-place.ensures.same.1;
     } in (

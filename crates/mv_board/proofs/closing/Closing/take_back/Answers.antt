@@ -56,7 +56,8 @@ invariant_of-self c =
       numbered = subst (AreNumbered 0) (sym both.1) (numbered_more 0 (held s.seat) (part_of x) i.numbered (omega arith));
       logs =
           c.push_reserved.ensures.items
-          ∙ (ap (λ (y : CallerFace). s.logs.items ++ y.log ∷ []) c.caller.view_is
+          ∙ (ap (λ (log : List Entry). s.logs.items ++ log ∷ []) c.close.ensures
+          ∙ ap (λ (y : CallerFace). s.logs.items ++ y.log ∷ []) c.caller.view_is
           ∙ (ap (λ (ls : List (List Entry)). ls ++ x.log ∷ []) i.logs
           ∙ (logs_more (held s.seat) (part_of x) ∙ ap (map log_of) (sym both.1))));
       space = (let cap = c.push_reserved.ensures.capacity in let r = i.space in omega arith);

@@ -31,7 +31,7 @@ invariant_of-self c =
 
 pub returns : goal.returns
 returns c =
-    subst (λ (old : HistoryFace). IsGiven old c.in_ok-picked.picked.entry.now
+    subst (λ (old : HistoryFace). IsGiven old c.in_ok-picked.picked.entry
     (history_of (then c.self.inside c.self.invariant c.in_ok-picked.picked (picked_is c) c.step.new.self c.step.ensures.opened
     c.step.ensures.after c.step.ensures.wakes))) c.self.view_is
     (given c.self.inside c.self.invariant c.in_ok-picked.picked (picked_is c) c.step.new.self c.step.ensures.opened

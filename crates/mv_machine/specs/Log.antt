@@ -1,0 +1,32 @@
+-- How contracts see a log: as the list of its entries, and one that may get more with the room that it has for them.
+use Rattle.std.specs.Prelude.{ℕ, ◌-◌, List, [], ◌∷◌, ◌++◌, length, map, vec_capacity}
+use Rattle.mv_machine.specs.declared.entry.Entry.{Entry}
+use Rattle.mv_machine.specs.declared.entry.Object.{Object}
+use Rattle.mv_machine.specs.declared.log.Log.TheInside.{Inside as LogInside}
+use Rattle.mv_machine.specs.declared.log.OpenLog.TheInside.{Inside as OpenInside}
+use Rattle.mv_machine.specs.Packed.{entry_of}
+
+-- the entries of a log
+abbrev pub entries_of : LogInside → List Entry
+entries_of l = map (entry_of l.caller) l.packed.items
+
+-- the object and the place of an entry
+abbrev pub subject_of : Entry → Object × ℕ
+subject_of e = (e.object, e.place)
+
+-- a log that may get more: whose it is, its entries, and for how many more it has room
+pub record OpenLogFace : Type 0 where
+  pub caller : ℕ
+  pub entries : List Entry
+  pub room : ℕ
+
+-- one more entry
+abbrev pub with_entry : OpenLogFace → Entry → OpenLogFace
+with_entry l e = record l { entries = l.entries ++ e ∷ []; room = l.room - 1 }
+
+abbrev pub open_log_of : OpenInside → OpenLogFace
+open_log_of l = record {
+  caller = l.caller;
+  entries = map (entry_of l.caller) l.packed.items;
+  room = vec_capacity l.packed - length l.packed.items;
+}

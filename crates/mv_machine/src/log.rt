@@ -1,0 +1,116 @@
+//! The log of a caller: its entries, in 40 bytes each. Clauses cite `specs/Log.antt`.
+
+ghost use Rattle.std.specs.Prelude.{◌≡◌, ◌<◌, ◌≤◌, ◌+◌, ◌-◌, ◌^◌, ◌++◌, ◌∷◌, [], length, slice_get, option_map, IfOk, IfSome};
+ghost use Rattle.mv_machine.specs.Log.{subject_of, with_entry};
+
+use crate::entry::{Entry, Object, Op, Reply};
+use crate::packed::PackedEntry;
+use mv_io::NoMemory;
+use std::alloc::Global;
+use std::marker::Model;
+
+/// The entries of one caller, in the order in which it made them. Contracts see them as a list.
+#[derive(Drop)]
+pub struct Log {
+    caller: u32,
+    packed: Vec<PackedEntry>,
+}
+
+impl Model for Log {
+    ghost use Rattle.std.specs.Prelude.{List};
+    ghost use Rattle.mv_machine.specs.declared.entry.Entry.{Entry};
+    ghost use Rattle.mv_machine.specs.Log.{entries_of};
+
+    ghost Value = { List Entry };
+
+    ghost view = { entries_of };
+}
+
+impl Log {
+    /// The object and the place of the entry at this position, from 0, where there is one.
+    #[inline]
+    pub fn subject(&self, at: usize) -> Option<(Object, u32)>
+        ensures subject { result ≡ option_map subject_of (slice_get self.now at) }
+        ensures next { IfSome result (λ _. at + 1 < 2 ^ 64) }
+    {
+        let packed = self.packed.get(at)?;
+        Some((packed.object, packed.place))
+    }
+
+    /// The entry at this position, from 0, where there is one.
+    #[inline]
+    pub fn get(&self, at: usize) -> Option<Entry>
+        ensures { result ≡ slice_get self.now at }
+    {
+        let packed = self.packed.get(at)?;
+        Some(packed.entry(self.caller))
+    }
+}
+
+/// The log of a caller that may make more entries, for which there is room.
+#[derive(Drop)]
+pub struct OpenLog {
+    caller: u32,
+    packed: Vec<PackedEntry>,
+}
+
+impl Model for OpenLog {
+    ghost use Rattle.mv_machine.specs.Log.{OpenLogFace, open_log_of};
+
+    ghost Value = { OpenLogFace };
+
+    ghost view = { open_log_of };
+}
+
+impl OpenLog {
+    /// An empty log of this caller, with room for so many entries.
+    ///
+    /// # Errors
+    ///
+    /// `NoMemory` where there is not so much.
+    pub fn with_room(alloc: Global, caller: u32, room: usize) -> Result<OpenLog, NoMemory>
+        ensures empty { IfOk result (λ l. (l.caller ≡ caller) × (l.entries ≡ [])) }
+        ensures room { IfOk result (λ l. l.room ≡ room) }
+    {
+        Ok(OpenLog {
+            caller,
+            packed: Vec::with_capacity(alloc, room)?,
+        })
+    }
+
+    /// One more entry of the caller, for which there is room.
+    #[inline]
+    pub fn push(&mut self, object: Object, place: u32, op: Op, reply: Reply)
+        requires room { 0 < self.old.room }
+        ensures { self.new ≡ with_entry self.old
+            record { caller = self.old.caller; object = object; place = place; op = op; reply = reply } }
+    {
+        self.packed
+            .push_reserved(PackedEntry::of(object, place, op, reply));
+    }
+
+    /// How many entries it has.
+    pub fn len(&self) -> usize
+        ensures { result ≡ length self.now.entries }
+    {
+        self.packed.len()
+    }
+
+    /// The entry at this position, from 0, where there is one.
+    pub fn get(&self, at: usize) -> Option<Entry>
+        ensures { result ≡ slice_get self.now.entries at }
+    {
+        let packed = self.packed.get(at)?;
+        Some(packed.entry(self.caller))
+    }
+
+    /// The log, which gets no more entries.
+    pub fn close(self) -> Log
+        ensures { result ≡ self.entries }
+    {
+        Log {
+            caller: self.caller,
+            packed: self.packed,
+        }
+    }
+}
