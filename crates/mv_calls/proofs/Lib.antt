@@ -50,5 +50,5 @@ pub mod EventRows
 -- Table::check
 pub mod Tables
 pub mod TableFacts
--- what a task holds extended is on an exit: for waits for a table's slots
+-- an exit starts from what a task holds extended: for waits
 pub mod ExtendedBlocks

@@ -9,7 +9,7 @@ ghost use Rattle.mv_board.specs.Faces.{AreFresh, AreInOrder, IsOf};
 use super::*;
 use mv_latch::Mode;
 use mv_machine::{Config, replay};
-use mv_wait::{Station, Task, WaitSlot};
+use mv_wait::{Station, Task};
 use std::alloc::Global;
 use std::process::Abort;
 use std::sync::Wait;
@@ -51,10 +51,12 @@ fn await_post<R: Abort + Wait>(rt: &R, station: &Station, task: &mut Task)
     ensures rest { IsAtRest task.new.log }
     ensures number { task.new.number ≡ task.old.number }
 {
+    assert!(rt; station.config().ecb_owner(0) == task.number());
+    assert!(rt; !task.extended(0));
     assert!(rt; task.left() >= 3);
-    let waited = station.wait(rt, task, 1, &[0], &mut [WaitSlot::Open]);
+    let code = station.wait_one(rt, task, 0);
     let cleared = station.clear(rt, task, 0);
-    assert!(rt; waited.is_ok() && cleared == Ok(1_073_741_824));
+    assert!(rt; code == 0 && cleared == Ok(1_073_741_824));
 }
 
 // Takes a latch alone for this requestor. Where the request is to be posted, its post is waited for.

@@ -27,7 +27,7 @@ pub record IsAtCall (b : BoardFace) (deck : List JobData) (i : ℕ) (t : CallerF
 module _ (b : BoardFace) (deck : List JobData) (i : ℕ) (config : b.config ≡ spool_setup deck i) where
   -- what a task has come to fits a meeting
   pub fits : (w : Work) (need : Option Need) (t u : CallerFace) → HasCome b deck i w t need u → IfSome need IsNeed
-  fits w (Some n) t u come = need_fits b.config n (waits_ready b deck i w t n u config come).may
+  fits w (Some n) t u come = need_fits b.config u.number n (waits_ready b deck i w t n u config come).may
   fits w None t u come = tt
 
   -- and stands so once it is taken up

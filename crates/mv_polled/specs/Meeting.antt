@@ -1,5 +1,5 @@
 -- The call of what a task waits for, polled. The task was u before the first poll, and is v.
-use Rattle.std.specs.Prelude.{◌≡◌, ℕ, ◌≤◌, length, take}
+use Rattle.std.specs.Prelude.{◌≡◌, ℕ, ◌≤◌, [], ◌∷◌, length, take}
 use Rattle.mv_board.specs.Faces.{CallerFace}
 use Rattle.mv_element.specs.declared.element.Token.{Token}
 use Rattle.mv_latch.specs.declared.request.Mode.{Mode}
@@ -21,12 +21,14 @@ HasRoom m = m.wait.room ≡ 8
 -- at most eight blocks are needed
 abbrev pub IsNeed : Need → Type 0
 IsNeed (need.Blocks b) = (b.len ≤ 8) × (length b.of ≡ 8)
+IsNeed (need.Block e) = Unit {0}
 IsNeed (need.Pause token) = Unit {0}
 IsNeed (need.Latch latch requestor mode) = Unit {0}
 
 -- the call of the need was taken up, and not polled yet
 abbrev pub IsTaken : Need → Call → WaitFace → Type 0
 IsTaken (need.Blocks b) call.Wait w = w ≡ new_wait 8 b.count (take b.len b.of)
+IsTaken (need.Block e) call.Block w = w ≡ new_wait 8 1 (e ∷ [])
 IsTaken (need.Pause token) (call.Pause p) w = p ≡ new_pause token
 IsTaken (need.Latch latch requestor mode) (call.Obtain q) w = q ≡ new_obtain latch requestor mode
 IsTaken n c w = ⊥
@@ -40,6 +42,10 @@ abbrev pub IsWaitFor : Setup → Blocks → WaitFace → CallerFace → CallerFa
 IsWaitFor c b w u v =
     (w.count ≡ b.count) × (w.ecbs ≡ take b.len b.of) × (b.len ≤ 8) × (length b.of ≡ 8) × IsWaitAt c w u v
 
+-- and one for this block
+abbrev pub IsBlockFor : Setup → ℕ → WaitFace → CallerFace → CallerFace → Type 0
+IsBlockFor c e w u v = (w.count ≡ 1) × (w.ecbs ≡ e ∷ []) × IsWaitAt c w u v
+
 -- a pause with this token
 abbrev pub IsPauseFor : Setup → Token → PauseFace → CallerFace → CallerFace → Type 0
 IsPauseFor c token p u v = (p.token ≡ token) × IsPauseAt c p u v
@@ -52,6 +58,7 @@ IsObtainFor c latch requestor mode q u v =
 -- the call of the need may be polled
 abbrev pub IsCallOf : Setup → Need → Call → WaitFace → CallerFace → CallerFace → Type 0
 IsCallOf c (need.Blocks b) call.Wait w u v = IsWaitFor c b w u v
+IsCallOf c (need.Block e) call.Block w u v = IsBlockFor c e w u v
 IsCallOf c (need.Pause token) (call.Pause p) w u v = IsPauseFor c token p u v
 IsCallOf c (need.Latch latch requestor mode) (call.Obtain q) w u v = IsObtainFor c latch requestor mode q u v
 IsCallOf c n k w u v = ⊥

@@ -8,7 +8,7 @@ ghost use Rattle.mv_polled.specs.Obtaining.{IsObtainAt};
 ghost use Rattle.mv_polled.specs.Pausing.{IsPauseAt};
 ghost use Rattle.mv_polled.specs.Turn.{MatchTurn};
 ghost use Rattle.mv_polled.specs.Waiting.{IsWaitAt};
-ghost use Rattle.mv_polled.specs.Meeting.{HasRoom, IsMeeting, IsNeed, IsTakenUp, IsWaitFor, IsPauseFor, IsObtainFor};
+ghost use Rattle.mv_polled.specs.Meeting.{HasRoom, IsMeeting, IsNeed, IsTakenUp, IsWaitFor, IsBlockFor, IsPauseFor, IsObtainFor};
 ghost use Rattle.mv_work.specs.Meeting.{IsMet};
 ghost use Rattle.mv_work.specs.declared.need.Blocks.{Blocks as BlocksValue};
 ghost use Rattle.mv_work.specs.declared.need.Need.{Need as NeedValue};
@@ -17,7 +17,7 @@ ghost use Rattle.mv_work.specs.declared.need.Need.TheVariants as need;
 use crate::{ObtainCall, PauseCall, Turn, WaitCall};
 use mv_io::NoMemory;
 use mv_latchset::Obtained;
-use mv_wait::{Station, Task};
+use mv_wait::{Station, Task, WaitSlot};
 use mv_work::{Got, Lost, MOST_BLOCKS, Need, slots_in};
 use std::alloc::Global;
 use std::sync::Wait;
@@ -28,6 +28,8 @@ pub(crate) enum Call {
     Nothing,
     /// The wait that the meeting has room for.
     Wait,
+    /// The same for one block.
+    Block,
     Pause(PauseCall),
     Obtain(ObtainCall),
 }
@@ -62,6 +64,10 @@ impl Meeting {
                 self.wait.renew(blocks.count, &blocks.of[..blocks.len]);
                 self.call = Call::Wait;
             }
+            Need::Block(ecb) => {
+                self.wait.renew(1, &[ecb]);
+                self.call = Call::Block;
+            }
             Need::Pause(token) => self.call = Call::Pause(PauseCall::new(token)),
             Need::Latch(latch, requestor, mode) => {
                 self.call = Call::Obtain(ObtainCall::new(latch, requestor, mode));
@@ -86,6 +92,7 @@ impl Meeting {
     {
         match &mut self.call {
             Call::Wait => await_blocks(rt, station, task, &mut self.wait),
+            Call::Block => await_block(rt, station, task, &mut self.wait),
             Call::Pause(call) => await_release(rt, station, task, call),
             Call::Obtain(call) => await_grant(rt, station, task, call),
             Call::Nothing => unreachable!(),
@@ -111,6 +118,30 @@ fn await_blocks<R: Wait>(
     match call.poll(station, rt, task) {
         Turn::Pending => Turn::Pending,
         Turn::Ready(Ok(())) => Turn::Ready(Ok(Got::Slots(slots_in(call.slots())))),
+        Turn::Ready(Err(_)) => Turn::Ready(Err(Lost)),
+    }
+}
+
+// Polls a wait for one block.
+fn await_block<R: Wait>(
+    rt: &R,
+    station: &Station,
+    task: &mut Task,
+    call: &mut WaitCall,
+) -> Turn<Result<Got, Lost>>
+    requires task { IsOf station.now task.old }
+    requires stage { (e : ℕ) × (t : CallerFace) × IsBlockFor station.now.config e call.old t task.old }
+    ensures room { call.new.room ≡ call.old.room }
+    ensures same { IsSame task.old task.new }
+    ensures turn { (e : ℕ) (t : CallerFace) → IsBlockFor station.now.config e call.old t task.old → MatchTurn result
+        (λ r. IsMet station.now.config (need.Block e) t r task.new) (IsBlockFor station.now.config e call.new t task.new) }
+{
+    match call.poll(station, rt, task) {
+        Turn::Pending => Turn::Pending,
+        Turn::Ready(Ok(())) => match call.slots()[0] {
+            WaitSlot::Complete(code) => Turn::Ready(Ok(Got::Code(code))),
+            WaitSlot::Open => unreachable!(),
+        },
         Turn::Ready(Err(_)) => Turn::Ready(Err(Lost)),
     }
 }

@@ -18,7 +18,7 @@ pub(crate) fn meet<R: Wait>(
     need: Need,
 ) -> Result<Got, Lost>
     requires rests { IsResting station.now (need_events need) task.old }
-    requires need { MayMeet station.now.config need }
+    requires need { MayMeet station.now.config task.old.number need }
     ensures met { IsMet station.now.config need task.old result task.new }
 {
     match need {
@@ -30,6 +30,7 @@ pub(crate) fn meet<R: Wait>(
                 Err(_) => Err(Lost),
             }
         }
+        Need::Block(ecb) => Ok(Got::Code(station.wait_one(rt, task, ecb))),
         Need::Pause(token) => match pause(station, rt, task, token) {
             Ok(given) => Ok(Got::Given(given)),
             Err(_) => Err(Lost),

@@ -18,13 +18,13 @@ use Rattle.mv_calls.specs.Keeping.{Kept, kept_of, nothing_kept}
 use Rattle.mv_calls.specs.Program.{Program, Done, Heard, Says, left, asks, heard, entries, on_ecb, unless_refused}
 use Rattle.mv_calls.specs.Refusal.{Refusal}
 use Rattle.mv_calls.specs.Refusal as refusal
-use Rattle.mv_calls.specs.Table.{has_exit}
+use Rattle.mv_calls.specs.Table.{StartsExit}
 use Rattle.mv_calls.specs.Waits.{wait, wait_refusal, is_others_block, armed, settled, enough, arm_all, settle_all}
 use Rattle.mv_calls.proofs.Making.{kept_caller}
 use Rattle.mv_wait.specs.Answers.{slots_of, wait_refused}
 use Rattle.mv_wait.specs.OneBlock.{WaitedFor}
 use Rattle.mv_wait.specs.Run.{IsServed}
-use Rattle.mv_wait.specs.Waiting.{NamesBlockOnExit}
+use Rattle.mv_wait.specs.Waiting.{NamesSource}
 use Rattle.mv_wait.specs.declared.waiting.WaitRefusal.{WaitRefusal}
 use Rattle.mv_wait.specs.declared.waiting.WaitRefusal.TheVariants as wait_why
 use Rattle.mv_wait.specs.declared.waiting.WaitSlot.{WaitSlot}
@@ -51,19 +51,19 @@ unrefused c ecb kept own plain = rw (own, plain) refl
 
 -- nor is one that may be extended only where no exit starts from it
 pub not_refused : (c : Setup) (ecb : ℕ) (t : CallerFace) (why : WaitRefusal) → owner_of c ecb ≡ t.number
-    → (has_exit c ecb ≡ true → (kept_of t.number t.log).extended ecb ≡ false)
-    → wait_refusal c 1 (ecb ∷ []) (kept_of t.number t.log) ≡ Some (wait_refused why) → NamesBlockOnExit c (ecb ∷ []) why → ⊥
+    → (StartsExit c ecb → (kept_of t.number t.log).extended ecb ≡ false)
+    → wait_refusal c 1 (ecb ∷ []) (kept_of t.number t.log) ≡ Some (wait_refused why) → NamesSource c (ecb ∷ []) why → ⊥
 not_refused c ecb t why own plain is names = go ((kept_of t.number t.log).extended ecb) refl where
   mine : is_others_block c (kept_of t.number t.log) ecb ≡ false
   mine = ap not (ap (λ k. owner_of c ecb == k) (kept_caller (nothing_kept t.number) t.log) ∙ eq-eqb (owner_of c ecb) t.number own)
 
-  named : (why : WaitRefusal) → Some (refusal.ExtendedAt 0) ≡ Some (wait_refused why) → NamesBlockOnExit c (ecb ∷ []) why
-      → has_exit c ecb ≡ true
+  named : (why : WaitRefusal) → Some (refusal.ExtendedAt 0) ≡ Some (wait_refused why) → NamesSource c (ecb ∷ []) why
+      → StartsExit c ecb
   named wait_why.TooMany q names = absurd (cc q)
   named (wait_why.Doubled p) q names = absurd (cc q)
   named (wait_why.NotOwner p) q names = absurd (cc q)
   named (wait_why.Extended p) q names =
-      let first : p ≡ 0 = cc q in subst (λ (n : ℕ). has_exit c (slice_index (ecb ∷ []) n) ≡ true) first names
+      let first : p ≡ 0 = cc q in subst (λ (n : ℕ). StartsExit c (slice_index (ecb ∷ []) n)) first names
 
   go : (held : Bool) → (kept_of t.number t.log).extended ecb ≡ held → ⊥
   go false free = let none = unrefused c ecb (kept_of t.number t.log) mine free in cc (sym none ∙ is)

@@ -32,7 +32,7 @@ use Rattle.mv_board.specs.Faces.{BoardFace, CallerFace, IsOf, IsSame, Happened}
 use Rattle.mv_board.specs.Words.{HasWord, test_of}
 use Rattle.mv_board.proofs.Acting.{standing_more}
 use Rattle.mv_calls.specs.Keeping.{Kept, kept_of, kept_after, nothing_kept}
-use Rattle.mv_calls.proofs.ExtendedBlocks.{extended_is_on_exit}
+use Rattle.mv_calls.proofs.ExtendedBlocks.{extended_starts_exit}
 use Rattle.mv_calls.proofs.Making.{kept_caller}
 use Rattle.mv_wait.specs.declared.keep.Keep.{Keep}
 use Rattle.mv_wait.specs.Keep.{Keeps, IsOfKind, ClosesBelow}
@@ -157,7 +157,7 @@ fits_on t u o op reply k new s h first blocks elements p f =
       elements = elements ∙ f.elements;
       first = first ∙ (f.first ∙ ap (λ m. m * s.elements_per_caller) (sym n));
       low = λ element own. kept_low s u.number element u.log u.told f.valid p own;
-      exits = extended_is_on_exit s u.number u.log u.told p;
+      exits = extended_starts_exit s u.number u.log u.told p;
     }
 
 keeps_on : (t u : CallerFace) (o : Object) (op : Op) (reply : Reply) (new : Keep) → Happened t o op reply u

@@ -1,5 +1,5 @@
 -- The parts of a wait.
-use Rattle.std.specs.Prelude.{◌≡◌, ℕ, ◌<◌, ◌≤◌, ◌==◌, true, false, List, ◌++◌, length, get_or, slice_index, Option, None, Result}
+use Rattle.std.specs.Prelude.{◌≡◌, ℕ, ◌<◌, ◌≤◌, ◌==◌, false, List, ◌++◌, length, get_or, slice_index, Option, None, Result}
 use Rattle.std.specs.List.{AllByRecursion, list_any}
 use Rattle.mv_ecb.specs.Table.{code_limit}
 use Rattle.mv_ecb.specs.declared.operation.EcbOp.TheVariants.{Settle}
@@ -16,7 +16,7 @@ use Rattle.mv_calls.specs.Program.{Program}
 use Rattle.mv_calls.specs.Refusal.{Refusal}
 use Rattle.mv_calls.specs.Rest.{no_waits, waits_from}
 use Rattle.mv_calls.specs.Waits.{arm_all, settle_all, complete_count, wait_refusal, AreDistinct}
-use Rattle.mv_calls.specs.Table.{has_exit}
+use Rattle.mv_calls.specs.Table.{StartsExit}
 use Rattle.mv_wait.specs.declared.waiting.WaitRefusal.{WaitRefusal}
 use Rattle.mv_wait.specs.declared.waiting.WaitRefusal.TheVariants as refusal
 use Rattle.mv_wait.specs.declared.waiting.WaitSlot.{WaitSlot}
@@ -86,9 +86,9 @@ abbrev pub HasLowCode : WaitSlot → Type 0
 HasLowCode (slot.Complete code) = code < code_limit
 HasLowCode slot.Open = Unit {0}
 
--- a wait that is refused since a block is extended names one that is on an exit
-abbrev pub NamesBlockOnExit : Setup → List ℕ → WaitRefusal → Type 0
-NamesBlockOnExit c es (refusal.Extended p) = has_exit c (slice_index es p) ≡ true
-NamesBlockOnExit c es refusal.TooMany = Unit {0}
-NamesBlockOnExit c es (refusal.Doubled p) = Unit {0}
-NamesBlockOnExit c es (refusal.NotOwner p) = Unit {0}
+-- a wait that is refused since a block is extended names one that an exit starts from
+abbrev pub NamesSource : Setup → List ℕ → WaitRefusal → Type 0
+NamesSource c es (refusal.Extended p) = StartsExit c (slice_index es p)
+NamesSource c es refusal.TooMany = Unit {0}
+NamesSource c es (refusal.Doubled p) = Unit {0}
+NamesSource c es (refusal.NotOwner p) = Unit {0}

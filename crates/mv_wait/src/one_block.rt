@@ -1,12 +1,12 @@
 //! A wait for one block. Clauses cite the calls' `Waits.antt` and `Table.antt`, `specs/Run.antt` and `specs/OneBlock.antt`.
 
-ghost use Rattle.std.specs.Prelude.{◌≡◌, ◌<◌, ◌≤◌, ◌∷◌, [], true, false, length, Some, Ok};
+ghost use Rattle.std.specs.Prelude.{◌≡◌, ◌<◌, ◌≤◌, ◌∷◌, [], false, length, Some, Ok};
 ghost use Rattle.mv_ecb.specs.Table.{code_limit};
 ghost use Rattle.mv_machine.specs.Setup.{owner_of};
 ghost use Rattle.mv_board.specs.Faces.{IsOf};
 ghost use Rattle.mv_calls.specs.Keeping.{kept_of};
 ghost use Rattle.mv_calls.specs.Rest.{IsAtRest};
-ghost use Rattle.mv_calls.specs.Table.{has_exit};
+ghost use Rattle.mv_calls.specs.Table.{StartsExit};
 ghost use Rattle.mv_calls.specs.Waits.{wait};
 ghost use Rattle.mv_wait.specs.OneBlock.{WaitedFor};
 ghost use Rattle.mv_wait.specs.Run.{IsServed};
@@ -32,7 +32,7 @@ impl Station {
         requires rest { IsAtRest task.old.log }
         requires block { ecb < length self.now.config.owners }
         requires own { owner_of self.now.config ecb ≡ task.old.number }
-        requires plain { has_exit self.now.config ecb ≡ true → (kept_of task.old.number task.old.log).extended ecb ≡ false }
+        requires plain { StartsExit self.now.config ecb → (kept_of task.old.number task.old.log).extended ecb ≡ false }
         requires left { 2 ≤ task.old.left }
         ensures served { IsServed 2 (wait self.now.config 1 (ecb ∷ [])) (λ a. a ≡ Ok (Some result ∷ [])) task.old task.new }
         ensures waited { WaitedFor ecb result task.old task.new }

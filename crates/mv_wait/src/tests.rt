@@ -130,12 +130,12 @@ fn take<R: Abort + Wait>(rt: &R, station: &Station, task: &mut Task, own: u32)
     ensures number { task.new.number ≡ task.old.number }
 {
     assert_is_block(rt, station, own);
+    assert!(rt; station.config().ecb_owner(own) == task.number());
+    assert!(rt; !task.extended(own));
     assert!(rt; task.left() >= 3);
-    let mut out = [WaitSlot::Open];
-    let waited = station.wait(rt, task, 1, &[own], &mut out);
+    let code = station.wait_one(rt, task, own);
     let cleared = station.clear(rt, task, own);
-    assert!(rt; waited == Ok(()) && out == [WaitSlot::Complete(5)]);
-    assert!(rt; cleared == Ok(1_073_741_829));
+    assert!(rt; code == 5 && cleared == Ok(1_073_741_829));
 }
 
 // Posts the other's block and waits for the own one, so many times.

@@ -14,7 +14,7 @@ ghost use Rattle.mv_wait.specs.Answers.{wait_answer, wait_refused, slots_of};
 ghost use Rattle.mv_wait.specs.Listed.{is_listed, listed_count, AreSeenBut};
 ghost use Rattle.mv_wait.specs.Run.{Went, IsServed};
 ghost use Rattle.mv_wait.specs.Waiting.{IsArmed, IsArmedFor, ArePlain, AreOwn, AreOwnUpTo, ArmsAll, SettlesEnough, IsBlockSettled, IsComplete};
-ghost use Rattle.mv_wait.specs.Waiting.{NamesBlockOnExit, HasLowCode};
+ghost use Rattle.mv_wait.specs.Waiting.{NamesSource, HasLowCode};
 
 use crate::pausing::Pauses;
 use crate::replies::slot;
@@ -90,7 +90,7 @@ impl Station {
             (λ _. wait_refusal self.now.config count ecbs.now (kept_of task.old.number task.old.log) ≡ None)
             (λ why. (wait_refusal self.now.config count ecbs.now (kept_of task.old.number task.old.log) ≡ Some (wait_refused why))
             × (task.new ≡ task.old) × (out.new ≡ out.old)) }
-        ensures exit { IfErr result (NamesBlockOnExit self.now.config ecbs.now) }
+        ensures exit { IfErr result (NamesSource self.now.config ecbs.now) }
         ensures enough { IfOk result (λ _. count ≤ complete_count (slots_of out.new)) }
         ensures codes { IfOk result (λ _. AllByRecursion HasLowCode out.new) }
     {
@@ -130,7 +130,7 @@ impl Station {
             (λ _. IsArmed self.now.config count ecbs.now task.old task.new)
             (λ why. (wait_refusal self.now.config count ecbs.now (kept_of task.old.number task.old.log) ≡ Some (wait_refused why))
             × (task.new ≡ task.old)) }
-        ensures exit { IfErr result (NamesBlockOnExit self.now.config ecbs.now) }
+        ensures exit { IfErr result (NamesSource self.now.config ecbs.now) }
     {
         if let Some(refusal) = self.refuses_wait(task, count, ecbs) {
             return Err(refusal);
@@ -174,7 +174,7 @@ impl Station {
         requires few { 2 * length ecbs.now ≤ task.old.left }
         ensures refusal { option_map wait_refused result
             ≡ wait_refusal self.now.config count ecbs.now (kept_of task.old.number task.old.log) }
-        ensures exit { IfSome result (NamesBlockOnExit self.now.config ecbs.now) }
+        ensures exit { IfSome result (NamesSource self.now.config ecbs.now) }
         ensures same { task.new ≡ task.old }
     {
         let number = task.number();

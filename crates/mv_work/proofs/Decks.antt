@@ -1,6 +1,6 @@
 -- Decks that are sound, job by job, and their configuration.
 use Rattle.std.proofs.Common.{◌≡◌, ℕ, zero, suc, ◌+◌, ◌-◌, ◌*◌, ◌<◌, ◌≤◌, List, [], ◌∷◌, ◌++◌, length, get_or, replicate, sym, ap, ◌∙◌}
-use Rattle.std.proofs.Common.{arith}
+use Rattle.std.proofs.Common.{true, subst, arith}
 use Rattle.std.specs.List.{AllByRecursion}
 use Rattle.std.proofs.lemmas.List.{length-map, length-replicate, get_or-map, get_or-replicate, get_or_append_left}
 use Rattle.std.proofs.Math.Seq.{get_or-append_seam}
@@ -13,13 +13,16 @@ use Rattle.mv_deck.specs.Operand.{most_after}
 use Rattle.mv_deck.specs.Sound.{IsSound, AreSoundJobs, AreSoundSteps, HasGoodNumbers}
 use Rattle.mv_deck.specs.Weight.{all_events}
 use Rattle.mv_machine.specs.Reach.{reach, release_cost}
-use Rattle.mv_machine.specs.Setup.{Setup}
+use Rattle.mv_machine.specs.Setup.{Setup, is_exit_of, owner_of}
 use Rattle.mv_plan.specs.Jobs.{job_at, no_job}
-use Rattle.mv_plan.specs.SpoolSetup.{task_budgets, entered, done}
+use Rattle.mv_plan.specs.SpoolSetup.{task_budgets, block_owners, entered, done}
 use Rattle.mv_plan.proofs.deck.Ends.{sound_job}
 use Rattle.mv_plan.proofs.deck.Planned.{planned}
 use Rattle.mv_plan.proofs.deck.Plans.{IsPlannedJob}
+use Rattle.mv_plan.proofs.deck.Setup.{exit_source}
 use Rattle.mv_machine.proofs.Lists.{all_map}
+use Rattle.mv_work.specs.declared.need.Need.TheVariants as need
+use Rattle.mv_work.specs.Meeting.{MayMeet}
 use Rattle.mv_work.specs.Parts.{HasInitiator, jobs_of}
 use Rattle.mv_work.specs.Waiting.{IsSpool}
 use Rattle.mv_work.proofs.Reaches.{block_count, reach_alone, reach_done, release_cost_is}
@@ -67,6 +70,17 @@ module _ {face : BoardFace} {deck : List Job} {i : ℕ} (spool : IsSpool face de
       let count : length face.config.owners ≡ 4 * length (jobs_of deck) + i = ap (λ (s : Setup). length s.owners) spool.config
       ∙ block_count (length (jobs_of deck)) i in
       let n = job_count deck in omega arith
+
+  -- a block of this task, which is not one that a job is done by
+  pub own_block : (k e : ℕ) → e < 4 * length deck + i → get_or (block_owners (length (jobs_of deck)) i) e 0 ≡ k
+      → ((j : ℕ) → j < length (jobs_of deck) → e ≡ done (length (jobs_of deck)) j → ⊥) → MayMeet face.config k (need.Block e)
+  own_block k e lt own apart = (
+    block_exists e lt,
+    ap (λ (s : Setup). owner_of s e) spool.config ∙ own,
+    λ starts.
+        let at = exit_source (length (jobs_of deck)) e starts.0
+        (subst (λ (s : Setup). is_exit_of s starts.0 e ≡ true) spool.config starts.1) in apart at.0 at.1 at.3,
+  )
 
   -- there is each initiator
   pub has_initiator : (k : ℕ) → k < i → HasInitiator face.config (length deck) k

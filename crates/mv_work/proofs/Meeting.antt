@@ -7,7 +7,7 @@ use Rattle.mv_calls.specs.Keeping.{kept_of}
 use Rattle.mv_calls.specs.Program.{Call, Program, Done, Wrong, accepted, unrefused}
 use Rattle.mv_calls.specs.Refusal.{Refusal}
 use Rattle.mv_deck.specs.Deck.{JobData}
-use Rattle.mv_plan.specs.SpoolSetup.{spool_setup}
+use Rattle.mv_plan.specs.SpoolSetup.{initiator, scheduler, spool_setup, writer}
 use Rattle.mv_plan.specs.SpoolTasks.{reading, scheduling, writing}
 use Rattle.mv_wait.proofs.Runs.{same_then}
 use Rattle.mv_wait.specs.Run.{IsServed}
@@ -52,11 +52,14 @@ module _ (c : Setup) (deck : List JobData) (i : ℕ) (w : Work) {t u : CallerFac
 
 -- ---- a need was met
 
-slots_are : (c : Setup) (count : ℕ) (n : Need) (g : Got) → IsAnswerTo n g → AreBlocks c count n → AreSlots count g
-slots_are c count (need.Blocks b) (got.Slots s) is fits =
-    (is ∙ fits.0, (let e : s.len ≡ b.len = is in let few = fits.1 in omega arith))
-slots_are c count (need.Blocks b) g is fits = absurd is
-slots_are c count n g is fits = absurd fits
+slots_are : (c : Setup) (k : ℕ) (count : Option ℕ) (n : Need) (g : Got) → IsAnswerTo n g → AreBlocks count n → MayMeet c k n
+    → AreSlots count g
+slots_are c k None (need.Block e) (got.Code code) is fits may = tt
+slots_are c k None (need.Block e) g is fits may = absurd is
+slots_are c k (Some count) (need.Blocks b) (got.Slots s) is fits may =
+    (is ∙ fits, (let e : s.len ≡ b.len = is in let few = may.0 in omega arith))
+slots_are c k (Some count) (need.Blocks b) g is fits may = absurd is
+slots_are c k count n g is fits may = absurd fits
 
 initiator_is : (deck : List JobData) (me : ℕ) (notes : Notes) (s : InitiatorStage) (n : Need) (g : Got) → IsAnswerTo n g
     → IsInitiatorNeed deck me notes s n → IsInitiatorAnswer deck me notes s g
@@ -68,12 +71,8 @@ initiator_is deck me notes s n g is fits = absurd fits
 
 -- what is needed is there
 
-blocks_there : (c : Setup) (count : ℕ) (n : Need) → AreBlocks c count n → MayMeet c n
-blocks_there c count (need.Blocks bs) fits = (fits.1, fits.2, fits.3)
-blocks_there c count n fits = absurd fits
-
 own_there : (c : Setup) (deck : List JobData) (i : ℕ) (notes : Notes) (me : ℕ) (s : InitiatorStage) (n : Need) → c ≡ spool_setup deck i
-    → me < i → IsInitiatorNeed deck me notes s n → MayMeet c n
+    → me < i → IsInitiatorNeed deck me notes s n → MayMeet c (initiator me) n
 own_there c deck i notes me (at.Pause round) (need.Pause token) is lt fits =
     subst (λ c. token.element < element_count c) (sym is)
     (let own = fits.1.0 in let one : (i + 3) * 1 ≡ i + 3 = omega arith in omega arith)
@@ -85,21 +84,21 @@ pub record CanMeet (b : BoardFace) (deck : List JobData) (i : ℕ) (w : Work) (t
     (o : Option Stage) : Type 0 where
   pub same : IsSame t u
   pub rests : IsResting b (need_events n) u
-  pub may : MayMeet b.config n
+  pub may : MayMeet b.config u.number n
   pub told : (g : Got) (v : CallerFace) → IsAnswerTo n g → Ran (need_call b.config n) (Done (answer_of g)) u v
       → u.left ≤ v.left + need_events n → ToldAt b deck i w o t g v
   pub lost : (v : CallerFace) → Ran (need_call b.config n) Wrong u v → HasCome b deck i w t None v
 
 module _ (b : BoardFace) (deck : List JobData) (i : ℕ) (w : Work) (t : CallerFace) (n : Need) (u : CallerFace) where
   ready : {S A : Type 0} {stages : Stages S A} {Fits : S → Need → Type 0} {Answers : S → Got → Type 0} {whole : Call A} {s : S} (a : A)
-      (o : Option Stage) → Waits b stages Fits whole t s n u → (Fits s n → MayMeet b.config n)
+      (o : Option Stage) (k : ℕ) → t.number ≡ k → Waits b stages Fits whole t s n u → (Fits s n → MayMeet b.config k n)
       → ((g : Got) → IsAnswerTo n g → Fits s n → Answers s g)
       → ((g : Got) (v : CallerFace) → Told b stages Answers whole t s g v → ToldAt b deck i w o t g v)
       → ((v : CallerFace) → RanOut whole a t v → HasWorked b.config deck i w t v) → CanMeet b deck i w t n u o
-  ready {stages = stages} {s = s} a o x may answers told worked = record {
+  ready {stages = stages} {s = s} a o k is x may answers told worked = record {
     same = x.same;
     rests = rests_less x.rests (omega arith);
-    may = may x.fits;
+    may = subst (λ k. MayMeet b.config k n) (sym (x.same.number ∙ is)) (may x.fits);
     told = λ g v is r few. told g v (told_answer g (answers g is) x r few);
     lost = λ v r. (same_then t u v x.same r.went.same, worked v (out_wrong a (leads_astray (stages.then s) x.leads r)));
   }
@@ -107,16 +106,17 @@ module _ (b : BoardFace) (deck : List JobData) (i : ℕ) (w : Work) (t : CallerF
   ready_at : (o : Option Stage) → b.config ≡ spool_setup deck i → WaitsAt b deck i w o t n u → CanMeet b deck i w t n u o
   ready_at None is at = absurd at
   ready_at (Some (stage.Scheduler s)) is at =
-      ready [] (Some (stage.Scheduler s)) at.1 (λ fits. blocks_there b.config _ n fits.blocks)
-      (λ g to fits. record { numbers = fits.numbers; slots = slots_are b.config _ n g to fits.blocks }) (λ g v x. (at.0, x))
+      ready [] (Some (stage.Scheduler s)) scheduler at.0 at.1 (λ fits. fits.may)
+      (λ g to fits. record { numbers = fits.numbers; slots = slots_are b.config scheduler _ n g to fits.blocks fits.may })
+      (λ g v x. (at.0, x))
       (λ v x. scheduler_worked b.config deck i w at.0 x)
   ready_at (Some (stage.Initiator s)) is at =
-      ready (records w) (Some (stage.Initiator s)) at.3 (own_there b.config deck i w.notes at.0 s n is at.1)
+      ready (records w) (Some (stage.Initiator s)) (initiator at.0) at.2 at.3 (own_there b.config deck i w.notes at.0 s n is at.1)
       (initiator_is deck at.0 w.notes s n) (λ g v x. (at.0, at.1, at.2, x))
       (λ v x. initiator_worked b.config deck i w at.0 at.1 at.2 x)
   ready_at (Some (stage.Writer j)) is at =
-      ready (ends_found w) (Some (stage.Writer j)) at.1 (λ fits. blocks_there b.config 1 n fits.block)
-      (λ g to fits. record { number = fits.number; room = fits.room; slot = slots_are b.config 1 n g to fits.block }) (λ g v x. (at.0, x))
+      ready (ends_found w) (Some (stage.Writer j)) (writer i) at.0 at.1 (λ fits. fits.may)
+      (λ g to fits. record { number = fits.number; room = fits.room; slot = slots_are b.config (writer i) None n g to fits.block fits.may }) (λ g v x. (at.0, x))
       (λ v x. writer_worked b.config deck i w at.0 x)
 
   pub waits_ready : b.config ≡ spool_setup deck i → HasCome b deck i w t (Some n) u → CanMeet b deck i w t n u w.stage

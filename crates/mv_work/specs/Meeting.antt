@@ -1,10 +1,11 @@
 -- What meets a need: whoever runs a task shows that its waits are so.
-use Rattle.std.specs.Prelude.{◌≡◌, ◌<◌, ◌≤◌, ◌+◌, length, take, Result, MatchResult}
+use Rattle.std.specs.Prelude.{◌≡◌, ℕ, ◌<◌, ◌≤◌, ◌+◌, length, take, Result, MatchResult}
 use Rattle.std.specs.List.{AllByRecursion}
 use Rattle.mv_board.specs.Faces.{CallerFace}
 use Rattle.mv_machine.specs.Limits.{highest_generation}
-use Rattle.mv_machine.specs.Setup.{Setup, element_count}
+use Rattle.mv_machine.specs.Setup.{Setup, element_count, owner_of}
 use Rattle.mv_calls.specs.Program.{Done, Wrong}
+use Rattle.mv_calls.specs.Table.{StartsExit}
 use Rattle.mv_work.specs.declared.lost.Lost.{Lost}
 use Rattle.mv_work.specs.declared.need.Got.{Got}
 use Rattle.mv_work.specs.declared.need.Got.TheVariants as got
@@ -13,9 +14,10 @@ use Rattle.mv_work.specs.declared.need.Need.TheVariants as need
 use Rattle.mv_work.specs.Needs.{answer_of, need_call, need_events}
 use Rattle.mv_work.specs.Ran.{Ran}
 
--- an answer to this need: as many slots as blocks, the next token of the same element, a request for the latch
+-- an answer to this need: as many slots as blocks, a code for one block, the next token of the same element, a request for the latch
 abbrev pub IsAnswerTo : Need → Got → Type 0
 IsAnswerTo (need.Blocks b) (got.Slots s) = s.len ≡ b.len
+IsAnswerTo (need.Block e) (got.Code code) = Unit {0}
 IsAnswerTo (need.Pause token) (got.Given given) =
     (given.next.element ≡ token.element) × (given.next.generation ≤ highest_generation)
 IsAnswerTo (need.Latch latch requestor mode) (got.Granted token) = token.latch ≡ latch
@@ -27,8 +29,9 @@ IsMet c n t r u = MatchResult r
     (λ g. IsAnswerTo n g × Ran (need_call c n) (Done (answer_of g)) t u × (t.left ≤ u.left + need_events n))
     (λ lost. Ran (need_call c n) Wrong t u)
 
--- what a need asks of the configuration
-abbrev pub MayMeet : Setup → Need → Type 0
-MayMeet c (need.Blocks b) = (b.len ≤ 8) × (length b.of ≡ 8) × AllByRecursion (λ e. e < length c.owners) (take b.len b.of)
-MayMeet c (need.Pause token) = token.element < element_count c
-MayMeet c (need.Latch latch requestor mode) = Unit {0}
+-- what a need of task k asks of the configuration
+abbrev pub MayMeet : Setup → ℕ → Need → Type 0
+MayMeet c k (need.Blocks b) = (b.len ≤ 8) × (length b.of ≡ 8) × AllByRecursion (λ e. e < length c.owners) (take b.len b.of)
+MayMeet c k (need.Block e) = (e < length c.owners) × (owner_of c e ≡ k) × (StartsExit c e → ⊥)
+MayMeet c k (need.Pause token) = token.element < element_count c
+MayMeet c k (need.Latch latch requestor mode) = Unit {0}

@@ -1,5 +1,5 @@
 -- What a task waits for, as a call; and what it is told then.
-use Rattle.std.specs.Prelude.{◌≡◌, ℕ, ◌*◌, List, Option, length, take}
+use Rattle.std.specs.Prelude.{◌≡◌, ℕ, ◌*◌, List, [], ◌∷◌, Option, Some, length, take}
 use Rattle.mv_latch.specs.declared.request.LatchForm.TheVariants.{Waiting}
 use Rattle.mv_machine.specs.Setup.{Setup}
 use Rattle.mv_calls.specs.LatchCalls.{obtain}
@@ -31,6 +31,7 @@ pub record IsWaitFor (n : ℕ) (es : List ℕ) (b : Blocks) : Type 0 where
 -- the call that a need is. It is not to be refused
 abbrev pub need_call : Setup → Need → Call Answer
 need_call c (need.Blocks b) = accepted (wait c b.count (take b.len b.of)) (λ slots. finished (Slots slots))
+need_call c (need.Block e) = accepted (wait c 1 (e ∷ [])) (λ slots. finished (Slots slots))
 need_call c (need.Pause token) = accepted (pause c token) (λ gift. finished (Gave gift))
 need_call c (need.Latch latch requestor mode) =
     accepted (obtain c latch requestor mode Waiting) (granted_as (λ id. finished (Holds id)))
@@ -38,12 +39,14 @@ need_call c (need.Latch latch requestor mode) =
 -- the events that it may need
 abbrev pub need_events : Need → ℕ
 need_events (need.Blocks b) = 2 * b.len
+need_events (need.Block e) = 2
 need_events (need.Pause token) = 2
 need_events (need.Latch latch requestor mode) = 2
 
 -- what was told
 abbrev pub answer_of : Got → Answer
 answer_of (got.Slots s) = Slots (slots_of (take s.len s.of))
+answer_of (got.Code code) = Slots (Some code ∷ [])
 answer_of (got.Given given) = Gave (gift_of given)
 answer_of (got.Granted token) = Holds token.id
 

@@ -1,6 +1,6 @@
 -- The scheduler, wait by wait.
-use Rattle.std.specs.Prelude.{◌≡◌, ℕ, ◌+◌, ◌-◌, ◌*◌, ◌<◌, ◌≤◌, Bool, List, [], length, drop, map, Option, take}
-use Rattle.std.specs.List.{AllByRecursion, range_with_len}
+use Rattle.std.specs.Prelude.{◌≡◌, ℕ, ◌+◌, ◌-◌, ◌*◌, ◌<◌, ◌≤◌, Bool, List, [], length, drop, map, Option, Some, None}
+use Rattle.std.specs.List.{range_with_len}
 use Rattle.mv_board.specs.Faces.{BoardFace, CallerFace}
 use Rattle.mv_machine.specs.Setup.{Setup}
 use Rattle.mv_calls.specs.Program.{Call, accepted, finished, followed, for_each}
@@ -8,7 +8,7 @@ use Rattle.mv_calls.specs.Waits.{extend}
 use Rattle.mv_deck.specs.Deck.{JobData}
 use Rattle.mv_deck.specs.Weight.{after_parts}
 use Rattle.mv_plan.specs.Jobs.{job_at}
-use Rattle.mv_plan.specs.SpoolSetup.{idle, done}
+use Rattle.mv_plan.specs.SpoolSetup.{idle, done, scheduler}
 use Rattle.mv_plan.specs.SpoolTasks.{dispatch_all, dismiss, ends_awaited, first_of, lowest, hand_over, code_of, some_end_above}
 use Rattle.mv_work.specs.declared.need.Got.{Got}
 use Rattle.mv_work.specs.declared.need.Got.TheVariants as got
@@ -16,6 +16,7 @@ use Rattle.mv_work.specs.declared.need.Need.{Need}
 use Rattle.mv_work.specs.declared.need.Need.TheVariants as need
 use Rattle.mv_work.specs.declared.stage.SchedulerStage.{SchedulerStage}
 use Rattle.mv_work.specs.declared.stage.SchedulerStage.TheVariants.{Entry, Ends, Idle, Dismissal}
+use Rattle.mv_work.specs.Meeting.{MayMeet}
 use Rattle.mv_work.specs.Needs.{Answer, on_slots}
 use Rattle.mv_work.specs.Waiting.{Asks, Comes, Stages}
 
@@ -84,28 +85,30 @@ IsScheduled deck i (Ends j) = j < length deck
 IsScheduled deck i (Idle j skipped) = j < length deck
 IsScheduled deck i (Dismissal m) = m < i
 
--- how many blocks a stage waits for
-abbrev pub block_count : List JobData → ℕ → SchedulerStage → ℕ
-block_count deck i (Entry j) = 1
-block_count deck i (Ends j) = length (job_at deck j).after
-block_count deck i (Idle j skipped) = i
-block_count deck i (Dismissal m) = 1
+-- how many blocks a stage waits for, or none where it is told the code of one
+abbrev pub block_count : List JobData → ℕ → SchedulerStage → Option ℕ
+block_count deck i (Entry j) = None
+block_count deck i (Ends j) = Some (length (job_at deck j).after)
+block_count deck i (Idle j skipped) = Some i
+block_count deck i (Dismissal m) = None
 
--- so many blocks of the configuration
-abbrev pub AreBlocks : Setup → ℕ → Need → Type 0
-AreBlocks c count (need.Blocks b) =
-    (b.len ≡ count) × (b.len ≤ 8) × (length b.of ≡ 8) × AllByRecursion (λ e. e < length c.owners) (take b.len b.of)
-AreBlocks c count n = ⊥
+-- so many blocks are needed
+abbrev pub AreBlocks : Option ℕ → Need → Type 0
+AreBlocks None (need.Block e) = Unit {0}
+AreBlocks (Some count) (need.Blocks b) = b.len ≡ count
+AreBlocks count n = ⊥
 
--- so many slots
-abbrev pub AreSlots : ℕ → Got → Type 0
-AreSlots count (got.Slots s) = (s.len ≡ count) × (s.len ≤ 8)
+-- and told of
+abbrev pub AreSlots : Option ℕ → Got → Type 0
+AreSlots None (got.Code code) = Unit {0}
+AreSlots (Some count) (got.Slots s) = (s.len ≡ count) × (s.len ≤ 8)
 AreSlots count g = ⊥
 
 -- the scheduler waits for what its stage says
 pub record IsSchedulerNeed (c : Setup) (deck : List JobData) (i : ℕ) (s : SchedulerStage) (n : Need) : Type 0 where
   pub numbers : IsScheduled deck i s
-  pub blocks : AreBlocks c (block_count deck i s) n
+  pub blocks : AreBlocks (block_count deck i s) n
+  pub may : MayMeet c scheduler n
 
 -- and is told that
 pub record IsSchedulerAnswer (deck : List JobData) (i : ℕ) (s : SchedulerStage) (g : Got) : Type 0 where

@@ -53,7 +53,7 @@ WaitsAt b deck i w (Some (Initiator s)) t n u = (me : ℕ) × (me < i) × (t.num
     × Waits b (initiator_stages b.config deck me w.notes) (IsInitiatorNeed deck me w.notes) (initiating_noted b.config deck me) t s n u
 WaitsAt b deck i w (Some (Writer j)) t n u = (t.number ≡ writer i)
     × Waits b (writer_stages b.config (length deck) (ends_found w))
-    (IsWriterNeed b.config (length deck) (vec_capacity w.ends - length w.ends.items)) (writing b.config (length deck)) t j n u
+    (IsWriterNeed b.config i (length deck) (vec_capacity w.ends - length w.ends.items)) (writing b.config (length deck)) t j n u
 
 -- It was told this.
 abbrev pub ToldAt : BoardFace → List JobData → ℕ → Work → Option Stage → CallerFace → Got → CallerFace → Type 0

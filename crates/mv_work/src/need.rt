@@ -1,7 +1,6 @@
-//! What a task waits for, and what it is told. Clauses cite `specs/Needs.antt`.
+//! What a task waits for, and what it is told.
 
-ghost use Rattle.std.specs.Prelude.{◌≡◌, ◌≤◌, [], ◌∷◌, take, length};
-ghost use Rattle.mv_work.specs.Needs.{IsWaitFor};
+ghost use Rattle.std.specs.Prelude.{◌≡◌, ◌≤◌, take, length};
 
 use mv_element::Token;
 use mv_latch::Mode;
@@ -25,6 +24,8 @@ pub struct Blocks {
 pub enum Need {
     /// Some of these blocks are complete.
     Blocks(Blocks),
+    /// This block of the task's own is complete. No exit starts from it.
+    Block(u32),
     /// A release of this token, whose pause begins.
     Pause(Token),
     /// This latch for this requestor, in this mode.
@@ -42,19 +43,10 @@ pub struct Slots {
 #[derive(Clone, Copy, Debug)]
 pub enum Got {
     Slots(Slots),
+    /// The code of the block.
+    Code(u32),
     Given(Given),
     Granted(LatchToken),
-}
-
-/// To wait for one block.
-pub(crate) fn one(block: u32) -> Blocks
-    ensures { IsWaitFor 1 (block ∷ []) result }
-{
-    Blocks {
-        count: 1,
-        len: 1,
-        of: [block, 0, 0, 0, 0, 0, 0, 0],
-    }
 }
 
 /// These slots, eight at most, to be told to a task.

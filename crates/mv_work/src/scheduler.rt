@@ -1,6 +1,6 @@
 //! The scheduler. Clauses cite the plan's `SpoolTasks.antt`, and `specs/Waiting.antt` and `specs/Scheduling.antt`.
 
-ghost use Rattle.std.specs.Prelude.{◌≡◌, ◌<◌, ◌≤◌, ◌+◌, ◌*◌, ◌-◌, length, MatchResult};
+ghost use Rattle.std.specs.Prelude.{◌≡◌, ◌<◌, ◌≤◌, ◌+◌, ◌*◌, ◌-◌, [], ◌∷◌, length, MatchResult, Some};
 ghost use Rattle.mv_board.specs.Faces.{IsOf};
 ghost use Rattle.mv_element.specs.Table.{release_limit};
 ghost use Rattle.mv_calls.specs.Program.{Done, Wrong, followed};
@@ -8,12 +8,12 @@ ghost use Rattle.mv_calls.specs.Rest.{IsAtRest};
 ghost use Rattle.mv_deck.specs.Weight.{most_initiators};
 ghost use Rattle.mv_plan.specs.Jobs.{job_at};
 ghost use Rattle.mv_plan.specs.SpoolSetup.{jobs_limit};
-ghost use Rattle.mv_plan.specs.SpoolTasks.{hand_over as handed};
+ghost use Rattle.mv_plan.specs.SpoolTasks.{ends_awaited, hand_over as handed};
 ghost use Rattle.mv_wait.specs.Answers.{slots_of};
-ghost use Rattle.mv_work.specs.Needs.{Slots};
+ghost use Rattle.mv_work.specs.Needs.{Slots, answer_of};
 ghost use Rattle.mv_work.specs.Parts.{HasInitiator, jobs_of};
 ghost use Rattle.mv_work.specs.Ran.{Ran};
-ghost use Rattle.mv_work.specs.Scheduling.{IsScheduled, SchedulerAsks, SchedulerComes, block_count, scheduler_due, scheduler_left};
+ghost use Rattle.mv_work.specs.Scheduling.{IsSchedulerAnswer, SchedulerAsks, SchedulerComes, scheduler_due, scheduler_left};
 ghost use Rattle.mv_work.specs.Scheduling.{dismissals_from, exit_set, first_idle, jobs_due, jobs_from, then_jobs};
 ghost use Rattle.mv_work.specs.Waiting.{IsResting, IsSpool};
 ghost use Rattle.mv_work.specs.declared.stage.SchedulerStage.TheVariants as stage;
@@ -22,7 +22,7 @@ use crate::deciding::{end_blocks, idle_blocks, job_code, some_above};
 use crate::finding::first_in;
 use crate::initiator::NO_JOB;
 use crate::lost::Lost;
-use crate::need::{Blocks, Need, one};
+use crate::need::{Blocks, Got, Need};
 use crate::parts::after_of;
 use crate::stage::SchedulerStage;
 use mv_deck::Job;
@@ -47,10 +47,10 @@ pub(crate) fn schedule(
     if job as usize >= deck.len() {
         return dismiss(station, deck, initiators, 0);
     }
-    Some((SchedulerStage::Entry(job), Need::Blocks(one(entered(job)))))
+    Some((SchedulerStage::Entry(job), Need::Block(entered(job))))
 }
 
-/// Goes on from where it waited, by how the blocks were found.
+/// Goes on from where it waited, by what it was told.
 pub(crate) fn go_on<R: Wait, G: Gate>(
     rt: &R,
     station: &Station,
@@ -59,27 +59,33 @@ pub(crate) fn go_on<R: Wait, G: Gate>(
     initiators: u32,
     gate: &G,
     stage: SchedulerStage,
-    slots: &[WaitSlot],
+    got: Got,
 ) -> Option<(SchedulerStage, Need)>
     requires spool { IsSpool station.now deck.now initiators }
-    requires numbers { IsScheduled (jobs_of deck.now) initiators stage }
-    requires slots { length slots.now ≡ block_count (jobs_of deck.now) initiators stage }
+    requires answer { IsSchedulerAnswer (jobs_of deck.now) initiators stage got }
     requires rests { IsResting station.now (scheduler_due (jobs_of deck.now) initiators stage) task.old }
     ensures { SchedulerComes station.now (jobs_of deck.now) initiators
-        (scheduler_left station.now.config (jobs_of deck.now) initiators stage (Slots (slots_of slots.now)))
+        (scheduler_left station.now.config (jobs_of deck.now) initiators stage (answer_of got))
         task.old result task.new }
 {
-    match stage {
-        SchedulerStage::Entry(job) => on_entry(rt, station, task, deck, initiators, job, slots),
-        SchedulerStage::Ends(job) => on_ends(rt, station, task, deck, initiators, job, slots),
-        SchedulerStage::Idle(job, skipped) => {
+    match (stage, got) {
+        (SchedulerStage::Entry(job), Got::Code(_)) => {
+            on_entry(rt, station, task, deck, initiators, job)
+        }
+        (SchedulerStage::Ends(job), Got::Slots(slots)) => {
+            let found = &slots.of[..slots.len];
+            on_ends(rt, station, task, deck, initiators, job, found)
+        }
+        (SchedulerStage::Idle(job, skipped), Got::Slots(slots)) => {
+            let found = &slots.of[..slots.len];
             on_idle(
-                rt, station, task, deck, initiators, gate, job, skipped, slots,
+                rt, station, task, deck, initiators, gate, job, skipped, found,
             )
         }
-        SchedulerStage::Dismissal(index) => {
-            on_dismissal(rt, station, task, deck, initiators, index, slots)
+        (SchedulerStage::Dismissal(index), Got::Code(generation)) => {
+            on_dismissal(rt, station, task, deck, initiators, index, generation)
         }
+        _ => unreachable!(),
     }
 }
 
@@ -91,16 +97,15 @@ fn on_entry<R: Wait>(
     deck: &[Job],
     initiators: u32,
     job: u32,
-    slots: &[WaitSlot],
 ) -> Option<(SchedulerStage, Need)>
     requires spool { IsSpool station.now deck.now initiators }
     requires job { job < length deck.now }
     requires rests { IsResting station.now (scheduler_due (jobs_of deck.now) initiators (stage.Entry job)) task.old }
     ensures { SchedulerComes station.now (jobs_of deck.now) initiators
-        (scheduler_left station.now.config (jobs_of deck.now) initiators (stage.Entry job) (Slots (slots_of slots.now)))
+        (then_jobs station.now.config (jobs_of deck.now) initiators job (ends_awaited station.now.config (length (jobs_of deck.now))
+        (job_at (jobs_of deck.now) job).after (exit_set station.now.config (jobs_of deck.now) initiators job)))
         task.old result task.new }
 {
-    first_in(slots)?;
     let after = after_of(deck, job);
     if after.is_empty() {
         return set_exit(rt, station, task, deck, initiators, job, false);
@@ -247,7 +252,7 @@ fn dismiss(
     }
     Some((
         SchedulerStage::Dismissal(index),
-        Need::Blocks(one(idle(deck.len() as u32, index))),
+        Need::Block(idle(deck.len() as u32, index)),
     ))
 }
 
@@ -259,17 +264,16 @@ fn on_dismissal<R: Wait>(
     deck: &[Job],
     initiators: u32,
     index: u32,
-    slots: &[WaitSlot],
+    generation: u32,
 ) -> Option<(SchedulerStage, Need)>
     requires spool { IsSpool station.now deck.now initiators }
     requires index { index < initiators }
     requires rests { IsResting station.now (scheduler_due (jobs_of deck.now) initiators (stage.Dismissal index)) task.old }
     ensures { SchedulerComes station.now (jobs_of deck.now) initiators
-        (scheduler_left station.now.config (jobs_of deck.now) initiators (stage.Dismissal index) (Slots (slots_of slots.now)))
+        (scheduler_left station.now.config (jobs_of deck.now) initiators (stage.Dismissal index) (Slots (Some generation ∷ [])))
         task.old result task.new }
 {
-    let found = first_in(slots)?;
-    let Ok(()) = hand_over(rt, station, task, deck, NO_JOB, index, found.code) else {
+    let Ok(()) = hand_over(rt, station, task, deck, NO_JOB, index, generation) else {
         return None;
     };
     dismiss(station, deck, initiators, index + 1)

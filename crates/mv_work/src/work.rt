@@ -115,12 +115,8 @@ impl Work {
         };
         match waits {
             Stage::Scheduler(stage) => {
-                let Got::Slots(slots) = got else {
-                    unreachable!()
-                };
-                let found = &slots.of[..slots.len];
                 let (stage, need) = scheduler::go_on(
-                    rt, station, task, deck, initiators, gate, stage, found,
+                    rt, station, task, deck, initiators, gate, stage, got,
                 )?;
                 self.stage = Some(Stage::Scheduler(stage));
                 Some(need)
@@ -135,13 +131,10 @@ impl Work {
                 Some(need)
             }
             Stage::Writer(job) => {
-                let Got::Slots(slots) = got else {
-                    unreachable!()
-                };
-                let found = &slots.of[..slots.len];
+                let Got::Code(end) = got else { unreachable!() };
                 let ends = &mut self.ends;
                 let (job, need) = on_end(
-                    rt, station, task, deck, initiators, gate, ends, job, found,
+                    rt, station, task, deck, initiators, gate, ends, job, end,
                 )?;
                 self.stage = Some(Stage::Writer(job));
                 Some(need)

@@ -1,19 +1,16 @@
 //! The writer. Clauses cite the plan's `SpoolTasks.antt`, and `specs/Waiting.antt` and `specs/Writing.antt`.
 
-ghost use Rattle.std.specs.Prelude.{◌≡◌, ◌<◌, ◌≤◌, ◌+◌, ◌-◌, ◌*◌, ℕ, List, length, vec_capacity};
-ghost use Rattle.mv_plan.specs.SpoolSetup.{jobs_limit};
-ghost use Rattle.mv_wait.specs.Answers.{slots_of};
+ghost use Rattle.std.specs.Prelude.{◌≡◌, ◌<◌, ◌≤◌, ◌+◌, ◌-◌, ◌*◌, ℕ, List, [], ◌∷◌, length, vec_capacity, Some};
 ghost use Rattle.mv_work.specs.Needs.{Slots};
 ghost use Rattle.mv_work.specs.Parts.{jobs_of};
 ghost use Rattle.mv_work.specs.Waiting.{Asks, IsResting, IsSpool};
 ghost use Rattle.mv_work.specs.Writing.{IsWriterNeed, WriterComes, ends_from, writer_left, writer_stages};
 
-use crate::finding::first_in;
-use crate::need::{Need, one};
+use crate::need::Need;
 use mv_deck::Job;
 use mv_plan::end_for_writer;
 use mv_task::{Gate, Point};
-use mv_wait::{Station, Task, WaitSlot};
+use mv_wait::{Station, Task};
 use std::sync::Wait;
 
 /// Waits for the end of each job, in order, from this one on.
@@ -26,17 +23,17 @@ pub(crate) fn write(
     requires spool { IsSpool station.now deck.now initiators }
     ensures { (room : ℕ) (ends : List ℕ) → length deck.now - job ≤ room
         → Asks station.now.config (writer_stages station.now.config (length (jobs_of deck.now)) ends)
-        (IsWriterNeed station.now.config (length (jobs_of deck.now)) room) ends
+        (IsWriterNeed station.now.config initiators (length (jobs_of deck.now)) room) ends
         (ends_from station.now.config (length (jobs_of deck.now)) ends job) (2 * (length deck.now - job)) result }
 {
     let jobs = deck.len() as u32;
     if job >= jobs {
         return None;
     }
-    Some((job, Need::Blocks(one(end_for_writer(jobs, job)))))
+    Some((job, Need::Block(end_for_writer(jobs, job))))
 }
 
-/// The end of this job was found: it is kept, and the next job follows.
+/// The end of this job was told: it is kept, and the next job follows.
 pub(crate) fn on_end<R: Wait, G: Gate>(
     rt: &R,
     station: &Station,
@@ -46,18 +43,17 @@ pub(crate) fn on_end<R: Wait, G: Gate>(
     gate: &G,
     ends: &mut Vec<u32>,
     job: u32,
-    slots: &[WaitSlot],
+    end: u32,
 ) -> Option<(u32, Need)>
     requires spool { IsSpool station.now deck.now initiators }
     requires job { job < length deck.now }
     requires room { length deck.now - job ≤ vec_capacity ends.old - length ends.old.items }
     requires rests { IsResting station.now (2 * (length deck.now - (job + 1))) task.old }
-    ensures { WriterComes station.now (length (jobs_of deck.now)) (vec_capacity ends.new - length ends.new.items)
-        ends.new.items (writer_left station.now.config (length (jobs_of deck.now)) ends.old.items job (Slots (slots_of slots.now)))
+    ensures { WriterComes station.now initiators (length (jobs_of deck.now)) (vec_capacity ends.new - length ends.new.items)
+        ends.new.items (writer_left station.now.config (length (jobs_of deck.now)) ends.old.items job (Slots (Some end ∷ [])))
         task.old result task.new }
 {
-    let found = first_in(slots)?;
     gate.pass(rt, task.number(), Point::Written(job));
-    ends.push_reserved(found.code);
+    ends.push_reserved(end);
     write(station, deck, initiators, job + 1)
 }

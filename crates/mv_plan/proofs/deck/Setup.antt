@@ -61,7 +61,7 @@ ones : (n j : ℕ) (rest : List ℕ) → j < n → get_or (replicate n scheduler
 ones n j rest lt = grind (arith, common_steps)
 
 module _ (n initiators : ℕ) where
-  first_part : (j : ℕ) → j < n → get_or (block_owners n initiators) j 0 ≡ 1
+  pub first_part : (j : ℕ) → j < n → get_or (block_owners n initiators) j 0 ≡ 1
   first_part j lt = owned_by n initiators j 1 (ones n j (replicate n scheduler ++ ends_on n initiators) lt)
 
   second_part : (j : ℕ) → j < n → get_or (block_owners n initiators) (n + j) 0 ≡ 1
@@ -74,11 +74,11 @@ module _ (n initiators : ℕ) where
   scheduler_part j lt = third_part (end_for_scheduler n j) (2 * j) 1 refl
       (scheduler_end (writer initiators) n j (replicate initiators scheduler) lt)
 
-  writer_part : (j : ℕ) → j < n → get_or (block_owners n initiators) (end_for_writer n j) 0 ≡ writer initiators
+  pub writer_part : (j : ℕ) → j < n → get_or (block_owners n initiators) (end_for_writer n j) 0 ≡ writer initiators
   writer_part j lt = third_part (end_for_writer n j) (2 * j + 1) (writer initiators) (omega arith)
       (writer_end (writer initiators) n j (replicate initiators scheduler) lt)
 
-  idle_part : (i : ℕ) → i < initiators → get_or (block_owners n initiators) (idle n i) 0 ≡ 1
+  pub idle_part : (i : ℕ) → i < initiators → get_or (block_owners n initiators) (idle n i) 0 ≡ 1
   idle_part i lt = grind (arith, common_steps, third_part, behind, writer, initiators, scheduler, length_ends, get_or-replicate)
 
   whole : length (block_owners n initiators) ≡ 4 * n + initiators
@@ -109,7 +109,7 @@ source_at : (n m from count j : ℕ) → starts_from m (slice_get (map (end_exit
 source_at n m from (suc count) (suc j) e = grind (arith, common_steps, source_at n m (from + 1) count j e)
 source_at n m from count j e = grind (arith, common_steps, false≢true, eqb-true)
 
-exit_source : (n m x : ℕ) → (nat_lt 0 x && starts_from m (slice_get (map (end_exit n) (range_with_len 0 n)) (x - 1))) ≡ true
+pub exit_source : (n m x : ℕ) → (nat_lt 0 x && starts_from m (slice_get (map (end_exit n) (range_with_len 0 n)) (x - 1))) ≡ true
     → (j : ℕ) × (j < n) × (x ≡ j + 1) × (m ≡ done n j)
 exit_source n m x e = grind (arith, common_steps, and_parts, ltb-true, source_at)
 

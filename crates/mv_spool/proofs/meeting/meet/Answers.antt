@@ -31,6 +31,15 @@ returns-in-Ok g c =
       );
     })
 
+pub wait_one-requires-clause-plain : goal.wait_one-requires-clause-plain
+wait_one-requires-clause-plain g c = λ starts.
+    let may = rw c.in-Block.is at c.requires.need in absurd (may.2 starts)
+
+pub returns-in-Block : goal.returns-in-Block
+returns-in-Block g c =
+    let s = c.wait_one.ensures.served in
+    rw c.in-Block.is (record { met = (tt, met _ s refl, served_few s) })
+
 pub returns-in-Ok-pause : goal.returns-in-Ok-pause
 returns-in-Ok-pause g c =
     let s = c.in-Ok-pause.ensures.served in

@@ -1,9 +1,9 @@
-use Rattle.std.proofs.Common.{◌+◌, ◌*◌, [], ◌∷◌, length, ap, ◌∙◌, subst, refl, sym, arith}
-use Rattle.mv_plan.specs.SpoolSetup.{idle}
-use Rattle.mv_work.specs.Needs.{IsWaitFor}
+use Rattle.std.proofs.Common.{[], ◌∷◌, length, ap, ◌∙◌, refl, sym, arith}
+use Rattle.mv_plan.specs.SpoolSetup.{idle, scheduler}
+use Rattle.mv_plan.proofs.deck.Setup.{idle_part}
 use Rattle.mv_work.specs.Parts.{jobs_of}
-use Rattle.mv_work.proofs.Calls.{blocks_asked_in, blocks_fit}
-use Rattle.mv_work.proofs.Decks.{job_count, block_exists}
+use Rattle.mv_work.proofs.Calls.{wait_asked_in}
+use Rattle.mv_work.proofs.Decks.{job_count, own_block}
 use Rattle.mv_work.proofs.Ranges.{range_next, range_over}
 use Rattle.mv_work.proofs.scheduler.dismiss.Goals as goal
 
@@ -14,15 +14,18 @@ returns-then-index-initiators c =
 pub returns : goal.returns
 returns c =
     let config = c.args.station.now.config in
-    let deck = jobs_of c.args.deck.now in
     let i = c.args.initiators in
     let m = c.args.index in
-    let n = job_count c.args.deck.now in
-    let exists = block_exists c.requires.spool (4 * length c.args.deck.now + m) (omega arith) in
-    let is = subst (λ e. IsWaitFor 1 (e ∷ []) c.one.result) (c.idle.ensures ∙ ap (λ k. idle k m) (sym n)) c.one.ensures in record {
+    let n = length (jobs_of c.args.deck.now) in
+    let count = job_count c.args.deck.now in
+    rw (c.idle.ensures ∙ ap (λ k. idle k m) (sym count)) (record {
       asks = (
-        rw (range_next m i (omega arith)) (blocks_asked_in config is _ _),
-        record { numbers = omega arith; blocks = blocks_fit config is is.len (let len = is.len in omega arith) (omega arith, tt) },
-        (let len = is.len in omega arith),
+        rw (range_next m i (omega arith)) (wait_asked_in config 1 (idle n m ∷ []) _ _),
+        record {
+          numbers = omega arith;
+          blocks = tt;
+          may = own_block c.requires.spool scheduler (idle n m) (omega arith) (idle_part n i m (omega arith)) (λ j lt q. omega arith);
+        },
+        omega arith,
       );
-    }
+    })

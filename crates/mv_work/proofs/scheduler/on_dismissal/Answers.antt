@@ -1,18 +1,8 @@
-use Rattle.std.proofs.Common.{length, arith}
-use Rattle.mv_wait.specs.Answers.{slots_of}
-use Rattle.mv_work.specs.Parts.{jobs_of}
-use Rattle.mv_work.specs.Scheduling.{dismissal_found}
-use Rattle.mv_work.proofs.Calls.{found_is}
+use Rattle.std.proofs.Common.{arith}
 use Rattle.mv_work.proofs.Decks.{has_initiator}
-use Rattle.mv_work.proofs.Dispatching.{found_astray, found_done}
-use Rattle.mv_work.proofs.Waits.{asks_come, comes_astray, comes_nowhere, rests_ran}
+use Rattle.mv_work.proofs.Runs.{leads_all, leads_on, ran_astray}
+use Rattle.mv_work.proofs.Waits.{asks_come, comes_astray, rests_ran}
 use Rattle.mv_work.proofs.scheduler.on_dismissal.Goals as goal
-
-pub returns-in_err-found : goal.returns-in_err-found
-returns-in_err-found g c =
-    let handed = dismissal_found c.args.station.now.config (length (jobs_of c.args.deck.now)) c.args.index in
-    rw c.from_residual.ensures
-    (comes_nowhere _ (found_is (slots_of c.args.slots.now) handed _ c.in_err-found.ensures.found) c.requires.rests.quiet)
 
 pub hand_over-requires-clause-station : goal.hand_over-requires-clause-station
 hand_over-requires-clause-station g c =
@@ -20,12 +10,10 @@ hand_over-requires-clause-station g c =
 
 pub returns-in_default : goal.returns-in_default
 returns-in_default g c =
-    let handed = dismissal_found c.args.station.now.config (length (jobs_of c.args.deck.now)) c.args.index in
-    comes_astray (found_astray (slots_of c.args.slots.now) handed _ _ c.in_ok-found.ensures.found c.in_default.ensures.ran)
+    comes_astray (ran_astray c.in_default.ensures.ran _)
 
 pub returns : goal.returns
 returns g c =
-    let handed = dismissal_found c.args.station.now.config (length (jobs_of c.args.deck.now)) c.args.index in
     let ran = c.in-Ok.ensures.ran in
-    asks_come c.dismiss.ensures (found_done (slots_of c.args.slots.now) handed _ _ c.in_ok-found.ensures.found ran)
+    asks_come c.dismiss.ensures (leads_on _ (leads_all _ c.args.task.now) ran)
     (rests_ran 2 ran c.in-Ok.ensures.few c.requires.rests (omega arith))

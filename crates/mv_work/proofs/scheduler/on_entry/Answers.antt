@@ -4,35 +4,27 @@ use Rattle.std.proofs.lemmas.List.{length-map}
 use Rattle.mv_deck.specs.declared.deck.After.{After}
 use Rattle.mv_deck.specs.Operand.{most_after}
 use Rattle.mv_plan.specs.Jobs.{job_at}
-use Rattle.mv_plan.specs.SpoolSetup.{end_for_scheduler}
+use Rattle.mv_plan.specs.SpoolSetup.{end_for_scheduler, scheduler}
 use Rattle.mv_plan.specs.SpoolTasks.{ends_awaited, ends_of}
-use Rattle.mv_wait.specs.Answers.{slots_of}
 use Rattle.mv_work.specs.declared.need.Blocks.{Blocks}
 use Rattle.mv_work.specs.declared.need.Need.TheVariants as need
 use Rattle.mv_work.specs.declared.stage.SchedulerStage.TheVariants as stage
 use Rattle.mv_work.specs.Needs.{IsWaitFor}
 use Rattle.mv_work.specs.Parts.{jobs_of}
-use Rattle.mv_work.specs.Scheduling.{SchedulerAsks, entry_found, exit_set, scheduler_due, then_jobs}
-use Rattle.mv_work.proofs.Calls.{blocks_fit, found_is}
+use Rattle.mv_work.specs.Scheduling.{SchedulerAsks, exit_set, scheduler_due, then_jobs}
+use Rattle.mv_work.proofs.Calls.{blocks_fit}
 use Rattle.mv_work.proofs.Decks.{after_earlier, after_few, block_exists, job_count}
 use Rattle.mv_work.proofs.Dispatching.{ends_asked, is_none, is_some}
 use Rattle.mv_work.proofs.Ranges.{ends_exist}
-use Rattle.mv_work.proofs.Waits.{asks_first, comes_as, comes_nowhere, rests_less}
+use Rattle.mv_work.proofs.Waits.{asks_first, comes_as, rests_less}
 use Rattle.mv_work.proofs.scheduler.on_entry.Goals as goal
-
-pub returns-in_err-first_in : goal.returns-in_err-first_in
-returns-in_err-first_in g c =
-    let found = entry_found c.args.station.now.config (jobs_of c.args.deck.now) c.args.initiators c.args.job in
-    rw c.from_residual.ensures
-    (comes_nowhere _ (found_is (slots_of c.args.slots.now) found _ c.in_err-first_in.ensures.found) c.requires.rests.quiet)
 
 pub returns-then-is_empty : goal.returns-then-is_empty
 returns-then-is_empty g c =
     let config = c.args.station.now.config in
     let deck = jobs_of c.args.deck.now in
     let i = c.args.initiators in
-    comes_as (found_is (slots_of c.args.slots.now) (entry_found config deck i c.args.job) _ c.in_ok-first_in.ensures.found
-    ∙ ap (λ (parts : List After). then_jobs config deck i c.args.job (ends_awaited config (length deck) parts
+    comes_as (ap (λ (parts : List After). then_jobs config deck i c.args.job (ends_awaited config (length deck) parts
     (exit_set config deck i c.args.job))) (sym c.after_of-after.ensures ∙ is_none c.after_of-after.result.now c.if-is_empty.ensures))
     c.set_exit.ensures
 
@@ -77,12 +69,12 @@ returns g c =
         ends_asked config deck i j some is,
         record {
           numbers = omega arith;
-          blocks = blocks_fit config is size (omega arith)
+          blocks = size;
+          may = blocks_fit config is scheduler (omega arith)
               (subst (λ m. AllByRecursion (λ e. e < length config.owners) (ends_of m after)) (sym count)
               (ends_exist n (length config.owners) after (omega arith) (after_earlier c.args.deck.now i j sound c.requires.job)));
         },
         omega arith,
       );
     } in
-    comes_as (found_is (slots_of c.args.slots.now) (entry_found config deck i j) _ c.in_ok-first_in.ensures.found)
-    (asks_first asks (rests_less c.requires.rests (omega arith)))
+    asks_first asks (rests_less c.requires.rests (omega arith))

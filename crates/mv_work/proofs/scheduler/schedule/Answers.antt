@@ -1,10 +1,11 @@
-use Rattle.std.proofs.Common.{[], ◌∷◌, subst, arith}
+use Rattle.std.proofs.Common.{[], ◌∷◌, length, arith}
 use Rattle.std.proofs.lemmas.List.{drop_more}
 use Rattle.mv_plan.specs.Jobs.{no_job}
-use Rattle.mv_work.specs.Needs.{IsWaitFor}
+use Rattle.mv_plan.specs.SpoolSetup.{scheduler}
+use Rattle.mv_plan.proofs.deck.Setup.{first_part}
 use Rattle.mv_work.specs.Parts.{jobs_of}
-use Rattle.mv_work.proofs.Calls.{blocks_asked_in, blocks_fit}
-use Rattle.mv_work.proofs.Decks.{job_count, block_exists}
+use Rattle.mv_work.proofs.Calls.{wait_asked_in}
+use Rattle.mv_work.proofs.Decks.{job_count, own_block}
 use Rattle.mv_work.proofs.Dispatching.{due_next, due_over, jobs_over}
 use Rattle.mv_work.proofs.Waits.{asks_as}
 use Rattle.mv_work.proofs.scheduler.schedule.Goals as goal
@@ -25,11 +26,15 @@ returns c =
     let job = c.args.job in
     let count = job_count c.args.deck.now in
     let events = due_next deck i job (omega arith) in
-    let exists = block_exists c.requires.spool job (omega arith) in
-    let is = subst (λ e. IsWaitFor 1 (e ∷ []) c.one.result) c.entered.ensures c.one.ensures in record {
+    rw c.entered.ensures (record {
       asks = (
-        rw (drop_more deck job no_job (omega arith)) (blocks_asked_in config is _ _),
-        record { numbers = omega arith; blocks = blocks_fit config is is.len (let len = is.len in omega arith) (exists, tt) },
-        (let len = is.len in omega arith),
+        rw (drop_more deck job no_job (omega arith)) (wait_asked_in config 1 (job ∷ []) _ _),
+        record {
+          numbers = omega arith;
+          blocks = tt;
+          may = own_block c.requires.spool scheduler job (omega arith) (first_part (length deck) i job (omega arith))
+              (λ j lt q. omega arith);
+        },
+        omega arith,
       );
-    }
+    })

@@ -1,7 +1,7 @@
 use Rattle.std.proofs.Common.{◌+◌, ◌*◌, ◌-◌, ◌<◌, length, map, Some, refl, sym, ap, ◌∙◌, subst, arith}
 use Rattle.std.specs.List.{AllByRecursion, range_with_len}
 use Rattle.std.proofs.lemmas.List.FromFn.{length-map-range_with_len}
-use Rattle.mv_plan.specs.SpoolSetup.{done, idle}
+use Rattle.mv_plan.specs.SpoolSetup.{done, idle, scheduler}
 use Rattle.mv_work.specs.declared.need.Need.TheVariants as need
 use Rattle.mv_work.specs.declared.stage.SchedulerStage.TheVariants as stage
 use Rattle.mv_work.specs.Needs.{IsWaitFor}
@@ -45,7 +45,8 @@ returns g c =
         blocks_asked_in config is _ _,
         record {
           numbers = omega arith;
-          blocks = blocks_fit config is refl (let few = c.requires.spool.initiators in omega arith)
+          blocks = refl;
+          may = blocks_fit config is scheduler (let few = c.requires.spool.initiators in omega arith)
               (subst (λ n. AllByRecursion (λ e. e < length config.owners) (map (idle n) (range_with_len 0 i))) (sym count)
               (idle_exist n (length config.owners) 0 i (omega arith)));
         },

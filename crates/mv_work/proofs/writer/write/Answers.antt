@@ -1,9 +1,9 @@
-use Rattle.std.proofs.Common.{◌+◌, ◌*◌, [], ◌∷◌, length, ap, ◌∙◌, subst, refl, sym, arith}
-use Rattle.mv_plan.specs.SpoolSetup.{end_for_writer}
-use Rattle.mv_work.specs.Needs.{IsWaitFor}
+use Rattle.std.proofs.Common.{[], ◌∷◌, length, ap, ◌∙◌, refl, sym, arith}
+use Rattle.mv_plan.specs.SpoolSetup.{end_for_writer, writer}
+use Rattle.mv_plan.proofs.deck.Setup.{writer_part}
 use Rattle.mv_work.specs.Parts.{jobs_of}
-use Rattle.mv_work.proofs.Calls.{blocks_asked, blocks_fit}
-use Rattle.mv_work.proofs.Decks.{job_count, block_exists}
+use Rattle.mv_work.proofs.Calls.{wait_asked}
+use Rattle.mv_work.proofs.Decks.{job_count, own_block}
 use Rattle.mv_work.proofs.Ranges.{range_next, range_over}
 use Rattle.mv_work.proofs.writer.write.Goals as goal
 
@@ -15,19 +15,21 @@ returns-then-job-jobs c room ends fits =
 pub returns : goal.returns
 returns c room ends fits =
     let config = c.args.station.now.config in
+    let i = c.args.initiators in
     let m = length (jobs_of c.args.deck.now) in
     let job = c.args.job in
     let n = job_count c.args.deck.now in
-    let exists = block_exists c.requires.spool (2 * length c.args.deck.now + 2 * job + 1) (omega arith) in
     let block = c.end_for_writer.ensures ∙ ap (λ k. end_for_writer k job) (sym n) in
-    let is = subst (λ e. IsWaitFor 1 (e ∷ []) c.one.result) block c.one.ensures in record {
+    rw block (record {
       asks = (
-        rw (range_next job m (omega arith)) (blocks_asked config is _),
+        rw (range_next job m (omega arith)) (wait_asked config 1 (end_for_writer m job ∷ []) _),
         record {
           number = omega arith;
           room = omega arith;
-          block = blocks_fit config is is.len (let len = is.len in omega arith) (omega arith, tt);
+          block = tt;
+          may = own_block c.requires.spool (writer i) (end_for_writer m job) (omega arith) (writer_part m i job (omega arith))
+              (λ j lt q. omega arith);
         },
-        (let len = is.len in omega arith),
+        omega arith,
       );
-    }
+    })

@@ -45,9 +45,9 @@ ends_first c n = ap (λ m. ends_kept c n [] (range_with_len 0 m)) (let e : n - 0
 write_first : (g : bound.Over) (c : After-write g) (next : Option (ℕ × Need))
     → ((room : ℕ) (ends : List ℕ) → length c.args.deck.now - 0 ≤ room → Asks c.args.station.now.config
     (writer_stages c.args.station.now.config (length (jobs_of c.args.deck.now)) ends)
-    (IsWriterNeed c.args.station.now.config (length (jobs_of c.args.deck.now)) room) ends
+    (IsWriterNeed c.args.station.now.config c.args.initiators (length (jobs_of c.args.deck.now)) room) ends
     (ends_from c.args.station.now.config (length (jobs_of c.args.deck.now)) ends 0) (2 * (length c.args.deck.now - 0)) next)
-    → WriterComes c.args.station.now (length (jobs_of c.args.deck.now))
+    → WriterComes c.args.station.now c.args.initiators (length (jobs_of c.args.deck.now))
     (vec_capacity c.args.self.now.ends - length c.args.self.now.ends.items)
     c.args.self.now.ends.items (writing c.args.station.now.config (length (jobs_of c.args.deck.now))) c.args.task.now next c.args.task.now
 write_first g c next asks =

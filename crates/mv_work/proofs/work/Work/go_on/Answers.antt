@@ -12,10 +12,9 @@ returns-in_err-stage-in-Scheduler g c t told =
     let deck = jobs_of c.args.deck.now in
     let i = c.args.initiators in
     let w = c.args.self.now in
-    let slots = got.Slots c.in-Slots.slots in
     let place = c.in-Scheduler.stage in
-    let at = rw (c.in-Some.is, c.in-Scheduler.is, c.in-Slots.is) at told in
-    rw c.from_residual.ensures (scheduler_over b deck i w w c.go_on.new.task slots place at c.in_err-stage-in-Scheduler.ensures.come)
+    let at = rw (c.in-Some.is, c.in-Scheduler.is) at told in
+    rw c.from_residual.ensures (scheduler_over b deck i w w c.go_on.new.task c.args.got place at c.in_err-stage-in-Scheduler.ensures.come)
 
 pub returns-in_err-job-in-Writer : goal.returns-in_err-job-in-Writer
 returns-in_err-job-in-Writer g c t told =
@@ -24,11 +23,11 @@ returns-in_err-job-in-Writer g c t told =
     let i = c.args.initiators in
     let w = c.args.self.now in
     let new : Work = record { stage = w.stage; notes = w.notes; ends = c.on_end.new.ends } in
-    let slots = got.Slots c.in-Slots-got.slots in
+    let code = got.Code c.in-Code.end in
     let job = c.in-Writer.job in
-    let at = rw (c.in-Some.is, c.in-Writer.is, c.in-Slots-got.is) at told in
+    let at = rw (c.in-Some.is, c.in-Writer.is, c.in-Code.is) at told in
     rw c.from_residual-in_err-job-in-Writer.ensures
-    (writer_over b deck i w new c.on_end.new.task slots job at c.in_err-job-in-Writer.ensures.come)
+    (writer_over b deck i w new c.on_end.new.task code job at c.in_err-job-in-Writer.ensures.come)
 
 pub returns-in_err-stage-in-Initiator : goal.returns-in_err-stage-in-Initiator
 returns-in_err-stage-in-Initiator g c t told =
