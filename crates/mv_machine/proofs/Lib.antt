@@ -32,6 +32,7 @@ pub mod Merged
 pub mod OneHistory
 pub mod MergeSteps
 pub mod Gives
+pub mod InLogs
 -- what an entry is to one object, and the object's own run
 pub mod OneObject
 pub mod Subjects

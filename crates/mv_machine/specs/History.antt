@@ -1,5 +1,5 @@
 -- How contracts see the one history of some callers, which is kept as their logs and gives its entries one by one.
-use Rattle.std.specs.Prelude.{◌≡◌, List, [], ◌∷◌, ◌++◌}
+use Rattle.std.specs.Prelude.{◌≡◌, List, [], ◌∷◌, ◌++◌, Contains}
 use Rattle.mv_machine.specs.declared.entry.Entry.{Entry}
 use Rattle.mv_machine.specs.Setup.{Setup}
 
@@ -8,6 +8,10 @@ pub record HistoryFace : Type 0 where
   pub config : Setup
   pub past : List Entry
   pub coming : List Entry
+
+-- an entry stands in one of some logs
+abbrev pub StandsIn : List (List Entry) → Entry → Type 0
+StandsIn logs e = (log : List Entry) × Contains logs log × Contains log e
 
 -- the next entry was given
 pub record IsGiven (old : HistoryFace) (e : Entry) (new : HistoryFace) : Type 0 where

@@ -27,6 +27,14 @@ impl Model for Log {
 }
 
 impl Log {
+    /// How many entries it has.
+    #[inline]
+    pub fn len(&self) -> usize
+        ensures { result ≡ length self.now }
+    {
+        self.packed.len()
+    }
+
     /// The object and the place of the entry at this position, from 0, where there is one.
     #[inline]
     pub fn subject(&self, at: usize) -> Option<(Object, u32)>

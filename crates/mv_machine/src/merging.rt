@@ -1,8 +1,8 @@
 //! The callers' logs as the one history that they are parts of, by specs/Merge.antt, specs/History.antt and specs/Room.antt.
 
-ghost use Rattle.std.specs.Prelude.{◌≡◌, [], ◌++◌, length, IfOk, MatchOption, None};
+ghost use Rattle.std.specs.Prelude.{◌≡◌, [], ◌++◌, All, length, IfOk, MatchOption, None};
 ghost use Rattle.std.specs.List.{AllByRecursion};
-ghost use Rattle.mv_machine.specs.History.{IsGiven};
+ghost use Rattle.mv_machine.specs.History.{IsGiven, StandsIn};
 ghost use Rattle.mv_machine.specs.Legal.{Legal, after};
 ghost use Rattle.mv_machine.specs.Merge.{pick, merged as merged_logs, AreOneHistory};
 ghost use Rattle.mv_machine.specs.Parts.{parts};
@@ -135,6 +135,13 @@ impl History {
         ensures { result.now ≡ self.now.config }
     {
         &self.config
+    }
+
+    /// The callers' logs, in which what is still to come stands.
+    pub fn logs(&self) -> &[Log]
+        ensures { All (StandsIn result.now) self.now.coming }
+    {
+        &self.logs
     }
 
     /// The machine behind the last entry that was given, with the wakes of the last event on the latch set.
