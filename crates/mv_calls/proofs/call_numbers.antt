@@ -7,6 +7,8 @@ pub mod OneCalls
 pub mod Kept
 -- the first numbers of a history
 pub mod Prefixes
+-- the posts that may still follow
+pub mod Pending
 -- an entry counted, and judged, behind others
 pub mod Counted
 pub mod Judged

@@ -1,7 +1,8 @@
 -- What has been counted of a list of entries, and what is counted of the next one.
-use Rattle.std.specs.Prelude.{◌≡◌, ℕ, List, [], ◌∷◌, ◌++◌, length, map, reverse, slice_index_or}
+use Rattle.std.specs.Prelude.{◌≡◌, ℕ, ◌+◌, ◌*◌, ◌≤◌, List, [], ◌∷◌, ◌++◌, length, map, reverse, slice_index_or, All, vec_capacity}
 use Rattle.mv_latch.specs.declared.operation.Wake.{Wake}
 use Rattle.mv_machine.specs.declared.entry.Entry.{Entry}
+use Rattle.mv_machine.specs.Check.{IsValid}
 use Rattle.mv_machine.specs.Legal.{Legal}
 use Rattle.mv_machine.specs.Setup.{Setup}
 use Rattle.mv_machine.specs.Told.{last_wakes}
@@ -17,10 +18,21 @@ numbering_of x = record { group = x.group; pending = reverse x.pending.items; la
 abbrev pub counted : List Counter → ℕ → Numbering
 counted xs k = slice_index_or (map numbering_of xs) k unnumbered
 
--- the counters stand behind these entries: of each caller is kept what its numbering keeps
+-- No more blocks are ever pending of a caller: those of the wakes of one event, and for each exit the seven by which its targets may be
+-- more than its source
+abbrev pub pending_room : Setup → ℕ
+pending_room c = 1 + c.callers * c.posted_quota + 7 * length c.exits
+
+-- a counter has room for them
+abbrev pub HasRoom : Setup → Counter → Type 0
+HasRoom c x = pending_room c ≤ vec_capacity x.pending
+
+-- the counters stand behind these entries: of each caller is kept what its numbering keeps, with room for what may be pending
 pub record HasCounted (c : Setup) (es : List Entry) (x : CallCounters) : Type 0 where
+  pub valid : IsValid c
   pub kept : counted x.counters.items ≡ kept_after c es
   pub callers : length x.counters.items ≡ c.callers
+  pub room : All (HasRoom c) x.counters.items
 
 -- an entry may be counted next, with these wakes: it is legal behind the others, and the machine shows the wakes behind it
 pub record IsCountable (c : Setup) (es : List Entry) (e : Entry) (ws : List Wake) (x : CallCounters) : Type 0 where

@@ -5,8 +5,6 @@ use Rattle.mv_machine.specs.Legal.{Legal, after}
 use Rattle.mv_machine.specs.Setup.{Setup}
 use Rattle.mv_machine.specs.State.{system_of, wakes_of, IsOpenedWith}
 use Rattle.mv_machine.specs.Told.{last_wakes}
-use Rattle.mv_calls.specs.declared.judge.EntryRefusal.{EntryRefusal}
-use Rattle.mv_calls.specs.declared.judge.EntryRefusal.TheVariants as refusal
 use Rattle.mv_calls.specs.declared.judge.Judge.{Judge}
 use Rattle.mv_calls.specs.Counters.{HasCounted}
 use Rattle.mv_calls.specs.Numbers.{calls}
@@ -24,7 +22,6 @@ pub record IsJudgedNext (c : Setup) (es : List Entry) (e : Entry) (n : ℕ) (j :
   pub judged : HasJudged c (es ++ e ∷ []) j
   pub number : calls c (es ++ e ∷ []) ≡ calls c es ++ n ∷ []
 
--- or it is refused
-abbrev pub IsUnfitNext : Setup → List Entry → Entry → EntryRefusal → Type 0
-IsUnfitNext c es e refusal.Illegal = Legal c (es ++ e ∷ []) → ⊥
-IsUnfitNext c es e refusal.NoMemory = Unit {0}
+-- or it is not
+abbrev pub IsUnfitNext : Setup → List Entry → Entry → Type 0
+IsUnfitNext c es e = Legal c (es ++ e ∷ []) → ⊥

@@ -11,7 +11,7 @@ ghost use Rattle.mv_calls.specs.CallsReplay.{IsReplayed, IsIllegalRefused, IsCal
 ghost use Rattle.mv_calls.specs.Judge.{HasJudged};
 ghost use Rattle.mv_calls.specs.Numbers.{calls as calls_of};
 
-use crate::judge::{EntryRefusal, Judge};
+use crate::judge::Judge;
 use mv_io::NoMemory;
 use mv_machine::{Entry, Illegal, ReplayRefusal, State, ValidConfig, replay};
 use std::alloc::Global;
@@ -78,7 +78,7 @@ fn first_refusal(
 {
     for (index, entry) in entries.iter().enumerate() {
         match judge.next(config, entry) {
-            Ok(machine) => {
+            Some(machine) => {
                 if machine != calls[index] {
                     return Some(CallsRefusal::Number {
                         index,
@@ -87,8 +87,7 @@ fn first_refusal(
                     });
                 }
             }
-            Err(EntryRefusal::Illegal) => return Some(refuse(alloc, config, &entries[..=index])),
-            Err(EntryRefusal::NoMemory) => return Some(CallsRefusal::NoMemory),
+            None => return Some(refuse(alloc, config, &entries[..=index])),
         }
     }
     None

@@ -1,12 +1,12 @@
 //! What is counted of the callers of a legal list, entry by entry as it comes: `specs/Counters.antt` says what has been counted
 //! so far.
 
-ghost use Rattle.std.specs.Prelude.{◌≡◌, ◌<◌, ◌-◌, ◌^◌, [], List, length, IfOk};
+ghost use Rattle.std.specs.Prelude.{◌≡◌, ◌<◌, ◌≤◌, ◌-◌, ◌^◌, [], List, All, length, vec_capacity, IfOk};
 ghost use Rattle.mv_machine.specs.declared.entry.Entry.{Entry as AnyEntry};
 ghost use Rattle.mv_calls.specs.Counters.{counted, HasCounted, IsCountable, IsCountedNext};
 ghost use Rattle.mv_calls.specs.Numbers.{unnumbered};
 
-use crate::counting::Counter;
+use crate::counting::{Counter, pending_room};
 use mv_io::NoMemory;
 use mv_latch::Wake;
 use mv_machine::{Entry, ValidConfig};
@@ -19,19 +19,20 @@ pub struct CallCounters {
 }
 
 // What is kept of each caller before its first entry.
-fn new_counters(alloc: Global, callers: u32) -> Result<Vec<Counter>, NoMemory>
+fn new_counters(alloc: Global, callers: u32, room: usize) -> Result<Vec<Counter>, NoMemory>
     ensures callers { IfOk result (λ xs. length xs.items ≡ callers) }
     ensures start { IfOk result (λ xs. counted xs.items ≡ (λ _. unnumbered)) }
+    ensures room { IfOk result (λ xs. All (λ x. room ≤ vec_capacity x.pending) xs.items) }
 {
     let mut counters = Vec::new(alloc);
     for _ in 0..callers {
-        counters.push(Counter::new(alloc))?;
+        counters.push(Counter::open(alloc, room)?)?;
     }
     Ok(counters)
 }
 
 impl CallCounters {
-    /// Before the first entry.
+    /// Before the first entry. All memory is taken here.
     ///
     /// # Errors
     ///
@@ -39,16 +40,12 @@ impl CallCounters {
     pub fn open(alloc: Global, config: &ValidConfig) -> Result<CallCounters, NoMemory>
         ensures { IfOk result (λ x. HasCounted config.now [] x) }
     {
-        let counters = new_counters(alloc, config.config().callers)?;
+        let counters = new_counters(alloc, config.config().callers, pending_room(config))?;
         Ok(CallCounters { counters })
     }
 
     /// One more entry of a legal list of fewer than 2^32 entries: the number of its caller's call that it belongs to. The wakes are
     /// those that the machine shows behind it.
-    ///
-    /// # Errors
-    ///
-    /// `NoMemory` where there is no room for the posts that may follow. What is said of any further entry is not said then.
     ///
     /// # Example
     ///
@@ -56,19 +53,14 @@ impl CallCounters {
     /// let mut counters = CallCounters::open(alloc, &config)?;
     /// for entry in &journal {
     ///     state.step(&config, entry.caller, entry.object, entry.op);
-    ///     let call = counters.count(&config, entry, state.wakes())?;
+    ///     let call = counters.count(&config, entry, state.wakes());
     ///     ..
     /// }
     /// ```
-    pub fn count(
-        &mut self,
-        config: &ValidConfig,
-        entry: &Entry,
-        wakes: &[Wake],
-    ) -> Result<u32, NoMemory>
+    pub fn count(&mut self, config: &ValidConfig, entry: &Entry, wakes: &[Wake]) -> u32
         requires countable { (es : List AnyEntry) × IsCountable config.now es entry.now wakes.now self.old × (length es < 2 ^ 32 - 1) }
         ensures { (es : List AnyEntry) → IsCountable config.now es entry.now wakes.now self.old
-            → IfOk result (λ n. IsCountedNext config.now es entry.now n self.new) }
+            → IsCountedNext config.now es entry.now result self.new }
     {
         self.counters[entry.caller as usize].count(config, entry, wakes)
     }

@@ -1,8 +1,8 @@
 //! What is counted of each caller while its entries are numbered. `specs/Numbers.antt` says what a number is, and
 //! `specs/Counters.antt` how contracts see a counter.
 
-ghost use Rattle.std.specs.Prelude.{◌≡◌, ◌++◌, ◌<◌, ◌-◌, ◌^◌, reverse, IfOk};
-ghost use Rattle.mv_calls.specs.Counters.{numbering_of};
+ghost use Rattle.std.specs.Prelude.{◌≡◌, ◌++◌, ◌<◌, ◌≤◌, ◌+◌, ◌-◌, ◌^◌, length, reverse, vec_len, vec_capacity, IfOk};
+ghost use Rattle.mv_calls.specs.Counters.{numbering_of, pending_room};
 ghost use Rattle.mv_machine.specs.Waking.{blocks_of};
 ghost use Rattle.mv_calls.specs.Numbers.{unnumbered, asked, kept_pending, numbered};
 ghost use Rattle.mv_calls.specs.Numbers.{last_of, continues as continues_of};
@@ -56,41 +56,52 @@ fn last_of(entry: &Entry) -> Last
 }
 
 // Puts blocks on top, the first of them topmost.
-fn push_blocks(stack: &mut Vec<u32>, blocks: &[u32]) -> Result<(), NoMemory>
-    ensures { IfOk result (λ _. reverse stack.new.items ≡ blocks.now ++ reverse stack.old.items) }
+fn push_blocks(stack: &mut Vec<u32>, blocks: &[u32])
+    requires room { vec_len stack.old + length blocks.now ≤ vec_capacity stack.old }
+    ensures blocks { reverse stack.new.items ≡ blocks.now ++ reverse stack.old.items }
+    ensures capacity { vec_capacity stack.new ≡ vec_capacity stack.old }
 {
     let mut at = blocks.len();
     while at > 0 {
         at -= 1;
-        stack.push(blocks[at])?;
+        stack.push_reserved(blocks[at]);
     }
-    Ok(())
 }
 
 // The same of the blocks of wakes.
-fn push_wakes(stack: &mut Vec<u32>, wakes: &[Wake]) -> Result<(), NoMemory>
-    ensures { IfOk result (λ _. reverse stack.new.items ≡ blocks_of wakes.now ++ reverse stack.old.items) }
+fn push_wakes(stack: &mut Vec<u32>, wakes: &[Wake])
+    requires room { vec_len stack.old + length (blocks_of wakes.now) ≤ vec_capacity stack.old }
+    ensures blocks { reverse stack.new.items ≡ blocks_of wakes.now ++ reverse stack.old.items }
+    ensures capacity { vec_capacity stack.new ≡ vec_capacity stack.old }
 {
     let mut at = wakes.len();
     while at > 0 {
         at -= 1;
         if let Some(ecb) = wakes[at].ecb {
-            stack.push(ecb)?;
+            stack.push_reserved(ecb);
         }
     }
-    Ok(())
+}
+
+// How many blocks may be pending of a caller: an exit has at most eight targets, all above its source.
+pub(crate) fn pending_room(config: &ValidConfig) -> usize
+    ensures { result ≡ pending_room config.now }
+{
+    let given = config.config();
+    1 + given.callers as usize * given.posted_quota as usize + 7 * given.exits.len()
 }
 
 impl Counter {
-    // Before the first entry.
-    pub(crate) fn new(alloc: Global) -> Counter
-        ensures { numbering_of result ≡ unnumbered }
+    // Before the first entry, with room for so many pending blocks.
+    pub(crate) fn open(alloc: Global, room: usize) -> Result<Counter, NoMemory>
+        ensures start { IfOk result (λ x. numbering_of x ≡ unnumbered) }
+        ensures room { IfOk result (λ x. room ≤ vec_capacity x.pending) }
     {
-        Counter {
+        Ok(Counter {
             group: 0,
-            pending: Vec::new(alloc),
+            pending: Vec::with_capacity(alloc, room)?,
             last: None,
-        }
+        })
     }
 
     // Whether an entry continues the group.
@@ -123,6 +134,7 @@ impl Counter {
     // Takes the first pending block off, where the entry is its post, and otherwise all.
     fn keep(&mut self, object: Object, op: Op)
         ensures pending { reverse self.new.pending.items ≡ kept_pending (reverse self.old.pending.items) object op }
+        ensures capacity { vec_capacity self.new.pending ≡ vec_capacity self.old.pending }
         ensures group { self.new.group ≡ self.old.group }
         ensures last { self.new.last ≡ self.old.last }
     {
@@ -137,9 +149,12 @@ impl Counter {
     }
 
     // Puts the blocks that an entry asks for on top.
-    fn ask(&mut self, config: &ValidConfig, entry: &Entry, wakes: &[Wake]) -> Result<(), NoMemory>
-        ensures pending { IfOk result (λ _. reverse self.new.pending.items
-            ≡ asked config.now entry.now.object entry.now.op entry.now.reply wakes.now ++ reverse self.old.pending.items) }
+    fn ask(&mut self, config: &ValidConfig, entry: &Entry, wakes: &[Wake])
+        requires room { vec_len self.old.pending + length (asked config.now entry.now.object entry.now.op entry.now.reply wakes.now)
+            ≤ vec_capacity self.old.pending }
+        ensures pending { reverse self.new.pending.items
+            ≡ asked config.now entry.now.object entry.now.op entry.now.reply wakes.now ++ reverse self.old.pending.items }
+        ensures capacity { vec_capacity self.new.pending ≡ vec_capacity self.old.pending }
         ensures group { self.new.group ≡ self.old.group }
         ensures last { self.new.last ≡ self.old.last }
     {
@@ -149,38 +164,36 @@ impl Counter {
                     &mut self.pending,
                     config.targets(exit),
                 ),
-                _ => Ok(()),
+                _ => {}
             },
             (Object::Latches, Op::Latch(LatchOp::Release { .. })) => match entry.reply {
                 Reply::Latch(LatchReply::Released { .. }) => push_wakes(&mut self.pending, wakes),
-                _ => Ok(()),
+                _ => {}
             },
             (Object::Latches, Op::Latch(LatchOp::Purge { .. })) => push_wakes(
                 &mut self.pending,
                 wakes,
             ),
-            _ => Ok(()),
+            _ => {}
         }
     }
 
     // One more entry of the caller, with its wakes: its number.
-    pub(crate) fn count(
-        &mut self,
-        config: &ValidConfig,
-        entry: &Entry,
-        wakes: &[Wake],
-    ) -> Result<u32, NoMemory>
-        requires { self.old.group < 2 ^ 32 - 1 }
-        ensures number { IfOk result (λ n. n ≡ (numbered config.now (numbering_of self.old) entry.now wakes.now).group) }
-        ensures after { IfOk result (λ _. numbering_of self.new ≡ numbered config.now (numbering_of self.old) entry.now wakes.now) }
+    pub(crate) fn count(&mut self, config: &ValidConfig, entry: &Entry, wakes: &[Wake]) -> u32
+        requires low { self.old.group < 2 ^ 32 - 1 }
+        requires room { length (numbered config.now (numbering_of self.old) entry.now wakes.now).pending
+            ≤ vec_capacity self.old.pending }
+        ensures number { result ≡ (numbered config.now (numbering_of self.old) entry.now wakes.now).group }
+        ensures after { numbering_of self.new ≡ numbered config.now (numbering_of self.old) entry.now wakes.now }
+        ensures capacity { vec_capacity self.new.pending ≡ vec_capacity self.old.pending }
     {
         let continued = self.continues(entry.object, entry.op);
         if self.last.is_some() && !continued {
             self.group += 1;
         }
         self.keep(entry.object, entry.op);
-        self.ask(config, entry, wakes)?;
+        self.ask(config, entry, wakes);
         self.last = Some(last_of(entry));
-        Ok(self.group)
+        self.group
     }
 }

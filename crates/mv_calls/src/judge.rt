@@ -1,7 +1,7 @@
 //! A list of entries, judged and numbered as it comes, entry by entry: `specs/Judge.antt` says what has been judged so far.
 
 ghost use Rattle.std.specs.Prelude.{◌≡◌, ◌<◌, ◌≤◌, ◌-◌, ◌^◌, ◌↔◌, List, [], Some, length, IfOk, IsTrue};
-ghost use Rattle.std.specs.Prelude.{MatchBool, MatchResult};
+ghost use Rattle.std.specs.Prelude.{MatchBool, MatchOption};
 ghost use Rattle.mv_machine.specs.declared.entry.Entry.{Entry as AnyEntry};
 ghost use Rattle.mv_machine.specs.Limits.{highest_place};
 ghost use Rattle.mv_machine.specs.Setup.{Setup as AnySetup};
@@ -15,15 +15,6 @@ use crate::counters::CallCounters;
 use mv_io::NoMemory;
 use mv_machine::{Entry, HIGHEST_PLACE, Object, Reply, State, ValidConfig};
 use std::alloc::Global;
-
-/// Why an entry was not judged to be the next of a legal list.
-#[derive(Clone, Copy, Debug, PartialEq, Eq)]
-pub enum EntryRefusal {
-    /// It is not the machine's next one.
-    Illegal,
-    /// There was no memory; it was not judged.
-    NoMemory,
-}
 
 /// A legal list of entries so far: the machine behind it, and what is counted of each caller. It keeps none of the entries.
 #[derive(Drop)]
@@ -51,7 +42,7 @@ fn is_answer(machine: Option<(u32, Reply)>, entry: &Entry) -> bool
 }
 
 impl Judge {
-    /// Before the first entry.
+    /// Before the first entry. All memory is taken here.
     ///
     /// # Errors
     ///
@@ -65,11 +56,8 @@ impl Judge {
     }
 
     /// One more entry behind a legal list, of fewer than 2^32 - 1 entries: the number of its caller's call that it belongs to,
-    /// where it is the machine's next one. The budgets are not asked. It takes the time of a step of the machine.
-    ///
-    /// # Errors
-    ///
-    /// Those of `EntryRefusal`. What the judge says of any further entry is not said then.
+    /// where it is the machine's next one, and nothing where it is not. The budgets are not asked. It takes the time of a step of the
+    /// machine. What the judge says of any entry behind one that is not the next is not said.
     ///
     /// # Example
     ///
@@ -77,33 +65,30 @@ impl Judge {
     /// let mut judge = Judge::open(alloc, &config)?;
     /// for entry in &journal {
     ///     match judge.next(&config, entry) {
-    ///         Ok(call) => { .. }
-    ///         Err(EntryRefusal::Illegal) => { .. }
-    ///         Err(EntryRefusal::NoMemory) => { .. }
+    ///         Some(call) => { .. }
+    ///         None => { .. }
     ///     }
     /// }
     /// ```
-    pub fn next(&mut self, config: &ValidConfig, entry: &Entry) -> Result<u32, EntryRefusal>
+    pub fn next(&mut self, config: &ValidConfig, entry: &Entry) -> Option<u32>
         requires judged { (es : List AnyEntry) × HasJudged config.now es self.old × (length es < 2 ^ 32 - 1) }
         requires place { entry.now.place ≤ highest_place }
-        ensures { (es : List AnyEntry) → HasJudged config.now es self.old → MatchResult result
-            (λ n. IsJudgedNext config.now es entry.now n self.new)
-            (λ r. IsUnfitNext config.now es entry.now r) }
+        ensures { (es : List AnyEntry) → HasJudged config.now es self.old → MatchOption result
+            (IsUnfitNext config.now es entry.now)
+            (λ n. IsJudgedNext config.now es entry.now n self.new) }
     {
         // The machine is not asked behind the last place of an object. No entry has a place there.
         if is_full(&self.state, entry.object) {
-            return Err(EntryRefusal::Illegal);
+            return None;
         }
         let machine = self
             .state
             .step(config, entry.caller, entry.object, entry.op);
         if !is_answer(machine, entry) {
-            return Err(EntryRefusal::Illegal);
+            return None;
         }
-        match self.counters.count(config, entry, self.state.wakes()) {
-            Ok(number) => Ok(number),
-            Err(NoMemory) => Err(EntryRefusal::NoMemory),
-        }
+        let number = self.counters.count(config, entry, self.state.wakes());
+        Some(number)
     }
 
     /// The machine behind the list.

@@ -19,7 +19,7 @@ pub use call_laws::{
 };
 pub use calls_replaying::{CallsRefusal, replay_calls};
 pub use counters::CallCounters;
-pub use judge::{EntryRefusal, Judge};
+pub use judge::Judge;
 pub use keeping_laws::{keeping_agrees, own_blocks_answer, own_elements_answer};
 pub use latch_laws::{
     latches_answer, quotas_hold, requests_at_rest, requests_leave_by_purges, requests_stay,

@@ -8,7 +8,7 @@ ghost use Rattle.mv_machine.specs.Limits.{highest_place};
 ghost use Rattle.mv_calls.specs.Numbers.{calls};
 ghost use Rattle.mv_calls.specs.OneCall.{IsOneCall, HasOneNumber};
 
-use crate::judge::{EntryRefusal, Judge};
+use crate::judge::Judge;
 use mv_io::NoMemory;
 use mv_machine::{Entry, ValidConfig};
 use std::alloc::Global;
@@ -37,9 +37,8 @@ pub fn number_calls(
     let mut numbers = Vec::new(alloc);
     for entry in entries {
         match judge.next(config, entry) {
-            Ok(number) => numbers.push(number)?,
-            Err(EntryRefusal::Illegal) => unreachable!(),
-            Err(EntryRefusal::NoMemory) => return Err(NoMemory),
+            Some(number) => numbers.push(number)?,
+            None => unreachable!(),
         }
     }
     Ok(numbers)

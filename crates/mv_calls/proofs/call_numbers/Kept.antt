@@ -43,20 +43,27 @@ asked_same c s shown k (Ecb e) (op_on.Latch op) reply a = refl
 asked_same c s shown k (Element e) op reply a = refl
 asked_same c s shown k (Volume e) op reply a = refl
 
--- one more entry
+-- what is kept of the caller with one more entry
+pub numbered_so : (c : Setup) (s : System) (shown ws : List Wake) (xs : List Counter) (e : Entry) (old : Counter) → IsNext c s e
+    → e.caller < length xs → old ≡ get_or xs e.caller old → ws ≡ wakes_after c s shown e.caller e.object e.op
+    → numbered c (numbering_of old) e ws ≡ numbered_at c s (counted xs) e
+numbered_so c s shown ws xs e old n lt at told =
+    ap (λ t. numbered c t e ws) (sym (counted-read xs e.caller old lt at))
+    ∙ (ap (λ x. numbered c (counted xs e.caller) e x) told
+    ∙ ap (λ ps. record (numbered c (counted xs e.caller) e []) {
+      pending = ps ++ kept_pending
+          (counted xs e.caller).pending e.object e.op;
+    }) (asked_same c s shown e.caller e.object e.op e.reply n.admits))
+
+-- and of all
 pub one_counted : (c : Setup) (s : System) (shown ws : List Wake) (xs : List Counter) (e : Entry) (old new : Counter) → IsNext c s e
     → e.caller < length xs
     → old ≡ get_or xs e.caller old → ws ≡ wakes_after c s shown e.caller e.object e.op
     → numbering_of new ≡ numbered c (numbering_of old) e ws
     → counted (set xs e.caller new) ≡ with_at (counted xs) e.caller (numbered_at c s (counted xs) e)
 one_counted c s shown ws xs e old new n lt at told is =
-    counted-set xs e.caller new lt ∙ ap (λ t. with_at (counted xs) e.caller t) (is
-    ∙ (ap (λ t. numbered c t e ws) (sym (counted-read xs e.caller old lt at))
-    ∙ (ap (λ x. numbered c (counted xs e.caller) e x) told
-    ∙ ap (λ ps. record (numbered c (counted xs e.caller) e []) {
-      pending = ps ++ kept_pending
-          (counted xs e.caller).pending e.object e.op;
-    }) (asked_same c s shown e.caller e.object e.op e.reply n.admits))))
+    counted-set xs e.caller new lt
+    ∙ ap (λ t. with_at (counted xs) e.caller t) (is ∙ numbered_so c s shown ws xs e old n lt at told)
 
 -- ---- how high the numbers are
 

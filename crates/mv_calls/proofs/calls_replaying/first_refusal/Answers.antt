@@ -1,8 +1,6 @@
 -- Entry after entry is judged.
-use Rattle.std.proofs.Common.{◌≡◌, ◌<◌, ◌≤◌, length, take, get_or, subst, arith}
+use Rattle.std.proofs.Common.{◌≡◌, ◌<◌, ◌≤◌, length, take, get_or, arith}
 use Rattle.std.proofs.lemmas.List.{get_or_read, length-take-le}
-use Rattle.mv_calls.specs.declared.judge.EntryRefusal.{EntryRefusal}
-use Rattle.mv_calls.specs.Judge.{IsUnfitNext}
 use Rattle.mv_calls.proofs.call_numbers.Judged.{judged_there}
 use Rattle.mv_calls.proofs.call_numbers.Refused.{number_there, other_there, unfit_there, refused_by_front}
 use Rattle.mv_calls.proofs.calls_replaying.first_refusal.Goals as goal
@@ -23,10 +21,10 @@ loop-index-preserved c =
     let e = c.index-entries-index.result in
     let lt : i < length entries = omega arith in
     let read : e ≡ get_or entries i e = get_or_read entries i e lt c.index-entries-index.is e in
-    let next = c.in-Ok.ensures (take i entries) c.loop-index.invariant.judged in
+    let next = c.in-Some.ensures (take i entries) c.loop-index.invariant.judged in
     record {
       judged = judged_there config entries i e c.next.new.self lt read next.judged;
-      numbers = number_there config entries kept i c.in-Ok.machine e lt c.requires.numbers read c.loop-index.invariant.numbers next.number
+      numbers = number_there config entries kept i c.in-Some.machine e lt c.requires.numbers read c.loop-index.invariant.numbers next.number
           c.if-machine-calls.false;
     }
 
@@ -38,8 +36,8 @@ returns-then-machine-calls c =
     let e = c.index-entries-index.result in
     let lt : i < length entries = omega arith in
     let read : e ≡ get_or entries i e = get_or_read entries i e lt c.index-entries-index.is e in
-    other_there config entries c.args.calls.now i c.in-Ok.machine e c.next.new.self lt c.requires.numbers read
-    c.loop-index.invariant.numbers (c.in-Ok.ensures (take i entries) c.loop-index.invariant.judged) c.if-machine-calls.true
+    other_there config entries c.args.calls.now i c.in-Some.machine e c.next.new.self lt c.requires.numbers read
+    c.loop-index.invariant.numbers (c.in-Some.ensures (take i entries) c.loop-index.invariant.judged) c.if-machine-calls.true
 
 pub refuse-requires-clause-illegal : goal.refuse-requires-clause-illegal
 refuse-requires-clause-illegal c =
@@ -48,10 +46,9 @@ refuse-requires-clause-illegal c =
     let e = c.index-entries-index.result in
     let lt : i < length entries = omega arith in
     unfit_there c.args.config.now entries i e lt (get_or_read entries i e lt c.index-entries-index.is e)
-    (subst (λ (r : EntryRefusal). IsUnfitNext c.args.config.now (take i entries) e r) c.in-Err-Illegal.field-0-is
-    (c.in-Err-Illegal.ensures (take i entries) c.loop-index.invariant.judged))
+    (c.in-None.ensures (take i entries) c.loop-index.invariant.judged)
 
-pub returns-in-Err-Illegal : goal.returns-in-Err-Illegal
-returns-in-Err-Illegal c =
+pub returns-in-None : goal.returns-in-None
+returns-in-None c =
     refused_by_front c.args.config.now c.args.entries.now c.args.calls.now c.loop-index.index c.refuse.result (omega arith)
     c.loop-index.invariant.numbers c.refuse.ensures

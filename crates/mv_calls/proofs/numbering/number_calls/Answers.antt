@@ -1,8 +1,6 @@
 -- Entry after entry is judged, and each is legal.
 use Rattle.std.proofs.Common.{◌≡◌, ◌<◌, length, take, get_or, subst, sym, ap, ◌∙◌, arith}
 use Rattle.std.proofs.lemmas.List.{get_or_read, take_all}
-use Rattle.mv_calls.specs.declared.judge.EntryRefusal.{EntryRefusal}
-use Rattle.mv_calls.specs.Judge.{IsUnfitNext}
 use Rattle.mv_calls.specs.Numbers.{calls}
 use Rattle.mv_calls.specs.OneCall.{HasOneNumber}
 use Rattle.mv_calls.proofs.call_numbers.Judged.{judged_there, legal_there, numbers_there}
@@ -16,8 +14,7 @@ unreachable-requires c =
     let i = c.loop-entry.entry-index in
     let e = c.entry-item.result in
     let lt : i < length entries = omega arith in
-    subst (λ (r : EntryRefusal). IsUnfitNext config (take i entries) e r) c.in-Err-Illegal.field-0-is
-    (c.in-Err-Illegal.ensures (take i entries) c.loop-entry.invariant.judged)
+    c.in-None.ensures (take i entries) c.loop-entry.invariant.judged
     (legal_there config entries i e lt (get_or_read entries i e lt c.entry-item.is e) c.requires.legal)
 
 pub loop-entry-preserved : goal.loop-entry-preserved
@@ -28,11 +25,11 @@ loop-entry-preserved c =
     let e = c.entry-item.result in
     let lt : i < length entries = omega arith in
     let read : e ≡ get_or entries i e = get_or_read entries i e lt c.entry-item.is e in
-    let next = c.in-Ok.ensures (take i entries) c.loop-entry.invariant.judged in
+    let next = c.in-Some.ensures (take i entries) c.loop-entry.invariant.judged in
     record {
       judged = judged_there config entries i e c.next.new.self lt read next.judged;
-      numbers = numbers_there config entries c.loop-entry.numbers.items i c.in-Ok.number e lt read c.loop-entry.invariant.numbers next.number
-          ∙ sym c.in_ok-push-in-Ok.ensures.items;
+      numbers = numbers_there config entries c.loop-entry.numbers.items i c.in-Some.number e lt read c.loop-entry.invariant.numbers next.number
+          ∙ sym c.in_ok-push-in-Some.ensures.items;
     }
 
 pub returns-clause-one_number : goal.returns-clause-one_number

@@ -18,8 +18,8 @@ returns-then-not-is_answer c = λ es h. unfit_more c.args.config.now es c.args.s
     false≢true (sym c.if-not-is_answer.true ∙ c.is_answer.ensures.1
     (c.step-machine.ensures.answer ∙ answer_is c.args.config.now (system_of c.args.self.now.state) c.args.entry.now n)))
 
-pub count-requires : goal.count-requires
-count-requires c =
+pub count-number-requires : goal.count-number-requires
+count-number-requires c =
     let j = c.requires.judged in
     let e = c.args.entry.now in
     let next : IsNext c.args.config.now (system_of c.args.self.now.state) e = is_next c.args.config.now
@@ -33,13 +33,13 @@ count-requires c =
       );
     }
 
-pub returns-in-Ok : goal.returns-in-Ok
-returns-in-Ok c = λ es h.
+pub returns : goal.returns
+returns c = λ es h.
     let config = c.args.config.now in
     let old = c.args.self.now in
     let e = c.args.entry.now in
     let next : IsNext config (system_of old.state) e =
     is_next config (system_of old.state) e (sym c.step-machine.ensures.answer ∙ c.is_answer.ensures.0 c.if-not-is_answer.false) in
-    judged_more config es old e h _ c.in-Ok.number next c.step-machine.ensures.after c.step-machine.ensures.wakes
+    judged_more config es old e h _ c.count-number.result next c.step-machine.ensures.after c.step-machine.ensures.wakes
     c.step-machine.ensures.opened
-    (c.in-Ok.ensures es (judged_countable config es old e h c.wakes.result.now next (c.wakes.ensures ∙ c.step-machine.ensures.wakes)))
+    (c.count-number.ensures es (judged_countable config es old e h c.wakes.result.now next (c.wakes.ensures ∙ c.step-machine.ensures.wakes)))
