@@ -14,3 +14,4 @@ pub mod Said
 pub mod Draft
 pub mod Reader
 pub mod Writer
+pub mod HistoryText

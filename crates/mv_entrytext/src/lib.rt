@@ -7,6 +7,7 @@ mod element;
 mod entry;
 mod fault;
 mod head;
+mod history_text;
 mod latch;
 mod laws;
 mod line;
@@ -14,17 +15,19 @@ mod number;
 mod reader;
 mod reading;
 mod reserved;
+mod typed;
 mod version;
 mod volume;
 mod writing;
 
 pub use fault::Kind;
+pub use history_text::HistoryText;
 pub use laws::{legal_lists_have_texts, text_determines_journal, texts_without_fault_are_journals};
 pub use mv_line::{TextFault, TextRefusal};
 pub use reader::{EntryReader, OpenJournal, open_journal};
 pub use reading::{Journal, read_journal};
 pub use version::Version;
-pub use writing::{JournalWriter, write_history, write_old_journal};
+pub use writing::{JournalWriter, write_old_journal};
 
 #[cfg(test)]
 mod faulty_texts;

@@ -1,39 +1,35 @@
-//! The journal, written from its first line to its last: `specs/Journal.antt`.
+//! The lines of a journal, and its text made in memory: `specs/Journal.antt`.
 
-ghost use Rattle.std.specs.Prelude.{◌≡◌, ◌≤◌, ◌<◌, ◌+◌, ◌^◌, ◌++◌, ◌∷◌, [], List, length, All, map, OnOk, IfOk};
+ghost use Rattle.std.specs.Prelude.{◌≡◌, ◌≤◌, ◌<◌, ◌+◌, ◌++◌, ◌∷◌, [], List, length, All, map, OnOk, IfOk};
 ghost use Rattle.std.specs.Prelude.{codes, decimal, vec_len, vec_capacity};
 ghost use Rattle.std.specs.List.{flat_map};
 ghost use Rattle.mv_machine.specs.Config.{setup_of, exit_of};
-ghost use Rattle.mv_machine.specs.Legal.{Legal};
 ghost use Rattle.mv_machine.specs.Setup.{Setup};
 ghost use Rattle.mv_entrytext.specs.declared.version.Version.{Version as AnyVersion};
 ghost use Rattle.mv_entrytext.specs.EntryText.{IsInRange, IsTyped};
 ghost use Rattle.mv_entrytext.specs.Journal.{JournalOf, Callers, Elements, Volumes, Latches, Quota, Budget, Owner, ExitTo};
 ghost use Rattle.mv_entrytext.specs.Journal.{Line, EntryOf, End, line, counts_text, lists_text, head_text, text1};
-ghost use Rattle.mv_entrytext.specs.Journal.{journal_text};
 ghost use Rattle.mv_entrytext.specs.Widths.{line_width, number_width};
 ghost use Rattle.mv_entrytext.specs.Writer.{IsWrittenTo};
 
 use crate::entry::put_entry;
-use crate::number::{push_number, push_pair, push_wide, push_word};
-use crate::reserved::{LINE_WIDTH, put_number, put_word};
+use crate::number::{push_number, push_pair, push_word};
+use crate::reserved::{LINE_WIDTH, put_number, put_wide, put_word};
 use crate::version::Version;
-use mv_calls::CallCounters;
 use mv_io::NoMemory;
-use mv_machine::{Config, Entry, Exit, History, ValidConfig};
+use mv_machine::{Config, Entry, Exit, ValidConfig};
 use std::alloc::Global;
 use std::mem::replace;
 
-// The text so far, with room for a line. It is taken out until the line is whole, so that its length stays in a register, and is
-// not stored for each byte.
+// The text so far. It is taken out until a line is whole, so that its length stays in a register, and is not stored for each byte.
 #[inline(always)]
-fn open_line(out: &mut Vec<u8>) -> Result<Vec<u8>, NoMemory>
-    ensures text { IfOk result (λ text. text.items ≡ out.old.items) }
-    ensures room { IfOk result (λ text. vec_len text + line_width ≤ vec_capacity text) }
+fn take_out(out: &mut Vec<u8>) -> Vec<u8>
+    ensures text { result.items ≡ out.old.items }
+    ensures len { vec_len result ≡ vec_len out.old }
+    ensures capacity { vec_capacity result ≡ vec_capacity out.old }
 {
-    out.reserve(LINE_WIDTH)?;
     let alloc = *out.allocator();
-    Ok(replace(out, Vec::new(alloc)))
+    replace(out, Vec::new(alloc))
 }
 
 // A word and a number on a line.
@@ -42,7 +38,8 @@ fn push_line(out: &mut Vec<u8>, word: &[u8], number: u32) -> Result<(), NoMemory
     requires short { length word.now + number_width < line_width }
     ensures { OnOk result (out.new.items ≡ out.old.items ++ ((word.now ++ decimal number) ++ codes "\n")) }
 {
-    let mut text = open_line(out)?;
+    out.reserve(LINE_WIDTH)?;
+    let mut text = take_out(out);
     put_number(&mut text, word, number);
     put_word(&mut text, b"\n");
     *out = text;
@@ -164,8 +161,13 @@ fn push_lists(out: &mut Vec<u8>, config: &Config) -> Result<(), NoMemory>
     push_exits(out, &config.exits)
 }
 
+/// The head of a text.
 #[tactic(auto, unfolding(crate::specs::Journal::head_text, crate::specs::Journal::line))]
-fn push_head(out: &mut Vec<u8>, version: Version, config: &Config) -> Result<(), NoMemory>
+pub(crate) fn push_head(
+    out: &mut Vec<u8>,
+    version: Version,
+    config: &Config,
+) -> Result<(), NoMemory>
     ensures { OnOk result (out.new.items ≡ out.old.items ++ head_text version (setup_of config.now)) }
 {
     push_counts(out, version, config)?;
@@ -173,15 +175,28 @@ fn push_head(out: &mut Vec<u8>, version: Version, config: &Config) -> Result<(),
     push_word(out, b"EVENTS\n")
 }
 
-// The line of an entry, where there is room for it.
+/// The line of an entry, where there is room for it.
 #[inline(always)]
 #[tactic(auto, unfolding(crate::specs::Journal::line))]
-fn put_entry_line(out: &mut Vec<u8>, call: Option<u32>, entry: &Entry)
+pub(crate) fn put_entry_line(out: &mut Vec<u8>, call: Option<u32>, entry: &Entry)
     requires room { vec_len out.old + line_width ≤ vec_capacity out.old }
     ensures text { out.new.items ≡ out.old.items ++ line (EntryOf call entry.now) }
     ensures typed { IsTyped entry.now }
+    ensures capacity { vec_capacity out.new ≡ vec_capacity out.old }
 {
-    put_entry(out, call, entry);
+    let mut text = take_out(out);
+    put_entry(&mut text, call, entry);
+    put_word(&mut text, b"\n");
+    *out = text;
+}
+
+/// The line that ends a text, where there is room for it.
+#[tactic(auto, unfolding(crate::specs::Journal::line))]
+pub(crate) fn put_end_line(out: &mut Vec<u8>, count: u64)
+    requires room { vec_len out.old + line_width ≤ vec_capacity out.old }
+    ensures text { out.new.items ≡ out.old.items ++ line (End count) }
+{
+    put_wide(out, b"END ", count);
     put_word(out, b"\n");
 }
 
@@ -189,9 +204,8 @@ fn push_entry_line(out: &mut Vec<u8>, call: Option<u32>, entry: &Entry) -> Resul
     ensures text { OnOk result (out.new.items ≡ out.old.items ++ line (EntryOf call entry.now)) }
     ensures typed { OnOk result (IsTyped entry.now) }
 {
-    let mut text = open_line(out)?;
-    put_entry_line(&mut text, call, entry);
-    *out = text;
+    out.reserve(LINE_WIDTH)?;
+    put_entry_line(out, call, entry);
     Ok(())
 }
 
@@ -230,43 +244,15 @@ impl JournalWriter {
     }
 
     /// The text, with the line that ends it behind the others and this number on it.
-    #[tactic(auto, unfolding(crate::specs::Journal::line))]
     pub fn end(self, count: u64) -> Result<Vec<u8>, NoMemory>
         ensures { (v : AnyVersion) (c : Setup) (lines : List Line) → IsWrittenTo v c lines self
             → IfOk result (λ text. text.items ≡ head_text v c ++ flat_map line lines ++ line (End count)) }
     {
         let mut out = self.out;
-        push_wide(&mut out, b"END ", count)?;
-        push_word(&mut out, b"\n")?;
+        out.reserve(LINE_WIDTH)?;
+        put_end_line(&mut out, count);
         Ok(out)
     }
-}
-
-/// The journal of a run: its configuration and its history, in version 2 of the text, with the call numbers that the machine's
-/// rules give. One pass: each entry is numbered and written as the history gives it, and no list is made of them.
-///
-/// The history is legal, so each operation and reply is of its object's kind, with numbers in the ranges of `docs/FORMATS.md`; what
-/// a number's type says already needs no condition, and is told. The only error is want of memory. The text is made in one buffer
-/// that grows by doubling, in time linear in its length.
-pub fn write_history(alloc: Global, history: History) -> Result<Vec<u8>, NoMemory>
-    requires whole { history.past ≡ [] }
-    requires legal { Legal history.config history.coming }
-    requires few { length history.coming < 2 ^ 32 }
-    ensures text { IfOk result (λ text. text.items ≡ journal_text history.config history.coming) }
-    // So these entries have a text that reads back.
-    ensures typed { OnOk result (All IsTyped history.coming) }
-{
-    let mut history = history;
-    let mut writer = JournalWriter::open(alloc, Version::Two, history.config())?;
-    let mut counters = CallCounters::open(alloc, history.config())?;
-    let mut count = 0u64;
-    while let Some(entry) = history.next() {
-        let call = counters.count(history.config(), &entry, history.state().wakes())?;
-        writer.push(Some(call), &entry)?;
-        count += 1;
-    }
-    let text = writer.end(count)?;
-    Ok(text)
 }
 
 /// The journal of a configuration and entries in version 1 of the text, without call numbers; of any entries whose operations and

@@ -1,0 +1,44 @@
+-- The text of a history that is made as it is written, piece by piece.
+use Rattle.std.specs.Prelude.{◌≡◌, ℕ, ◌<◌, ◌≤◌, ◌^◌, List, [], ◌++◌, length, take, vec_capacity}
+use Rattle.std.specs.List.{flat_map}
+use Rattle.std.specs.declared.option.Option.{Option}
+use Rattle.mv_io.specs.Sink.{Appends}
+use Rattle.mv_machine.specs.declared.entry.Entry.{Entry}
+use Rattle.mv_machine.specs.Legal.{Legal}
+use Rattle.mv_machine.specs.Setup.{Setup}
+use Rattle.mv_calls.specs.Counters.{HasCounted}
+use Rattle.mv_calls.specs.Numbers.{calls}
+use Rattle.mv_entrytext.specs.declared.history_text.HistoryText.TheInside.{Inside}
+use Rattle.mv_entrytext.specs.declared.version.Version.TheVariants.{Two}
+use Rattle.mv_entrytext.specs.Journal.{entry_lines, head_text, journal_text, line}
+
+-- the bytes of a piece at most, but for the head
+abbrev pub piece_size : ℕ
+piece_size = 65536
+
+-- the text up to the lines of these entries
+abbrev pub text_up_to : Setup → List Entry → List ℕ
+text_up_to c es = head_text Two c ++ flat_map line (entry_lines es (calls c es))
+
+-- the text that will be written
+abbrev pub text_of_history : Inside → List ℕ
+text_of_history x = journal_text x.history.config x.history.coming
+
+-- nothing is written yet: the piece is the head, in room for any other
+pub record IsUnwritten (x : Inside) : Type 0 where
+  pub whole : x.history.past ≡ []
+  pub legal : Legal x.history.config x.history.coming
+  pub few : length x.history.coming < 2 ^ 32
+  pub counted : HasCounted x.history.config [] x.counters
+  pub head : x.piece.items ≡ head_text Two x.history.config
+  pub room : piece_size ≤ vec_capacity x.piece
+
+-- what a sink took of a text since then, with the piece behind it, is the text
+pub record IsPoured (old new : Option (List ℕ)) (piece text : List ℕ) : Type 0 where
+  pub taken : List ℕ
+  pub appended : Appends old new taken
+  pub whole : taken ++ piece ≡ text
+
+-- a sink took a front of a text, and not all
+abbrev pub IsCut : (old new : Option (List ℕ)) → (text : List ℕ) → Type 0
+IsCut old new text = (n : ℕ) × (n < length text) × Appends old new (take n text)
